@@ -77,7 +77,7 @@ machine_line fields = do
   sixty_four ← number_at 1 1024 sixteen.1
   most ← number_at 1 1024 sixty_four.1
   _ ← only_if (nat_le (four.0 + sixteen.0 + sixty_four.0 + most.0) 1024) most.0
-  at_end most.1 (record { frames = frames.0; pools = four.0 ∷ sixteen.0 ∷ sixty_four.0 ∷ most.0 ∷ [] })
+  at_end most.1 (record { processors = p.0; frames = frames.0; pools = four.0 ∷ sixteen.0 ∷ sixty_four.0 ∷ most.0 ∷ [] })
 
 -- `quota Q`
 unfoldable pub quota_line : List (List ℕ) → Option ℕ
@@ -112,16 +112,17 @@ segment_line volume fields = do
   name ← branch_name path.0
   pages ← number_at 1 256 path.1
   on ← after_word volume pages.1
-  at_end on (name, pages.0)
+  kept ← at_end on pages.0
+  Some (name, kept)
 
 -- `initiate >NAME`, of that name
-unfoldable pub initiate_line : List ℕ → List (List ℕ) → Option (List ℕ)
+unfoldable pub initiate_line : List ℕ → List (List ℕ) → Option (Unit {0})
 initiate_line name fields = do
   f ← after_word (codes "initiate") fields
   path ← field_at f
   again ← branch_name path.0
   _ ← only_if (bytes_eq again name) again
-  at_end path.1 again
+  at_end path.1 tt
 
 -- the number and the offset of a reference, and the fields after them
 unfoldable pub place_at : List (List ℕ) → Option (ℕ × ℕ × List (List ℕ))
@@ -174,18 +175,22 @@ references_of room (line ∷ lines) = if room == 0 then None else if bytes_eq li
 unfoldable pub references_in : ℕ → List ℕ → Option (List Command)
 references_in room bytes = lines_of bytes >>= references_of room
 
--- the script of a machine, a quota, a volume and a process that makes a segment and refers to it
-abbrev pub plan_of : MachineLine → ℕ → VolumeLine → List ℕ → List ℕ → ℕ → List Command → Plan
-plan_of machine quota volume who name pages references = record {
-  processors = 1;
+-- the commands of the process: it makes the segment, initiates it, and refers to it; at most 100,000
+unfoldable pub commands_of : List ℕ → ℕ → List ℕ → Option (List Command)
+commands_of name pages bytes = do
+  kept ← only_if (is_name name) name
+  references ← references_in 99998 bytes
+  Some (command.MkSeg (kept ∷ []) pages 0 ∷ command.Initiate (kept ∷ []) ∷ references)
+
+-- the script of a machine, a quota, a volume and a process
+abbrev pub plan_of : MachineLine → ℕ → VolumeLine → List ℕ → List Command → Plan
+plan_of machine quota volume who commands = record {
+  processors = machine.processors;
   frames = machine.frames;
   pools = machine.pools;
   quota = quota;
   volumes = volume ∷ [];
-  processes = record {
-    who = who;
-    commands = command.MkSeg (name ∷ []) pages 0 ∷ command.Initiate (name ∷ []) ∷ references;
-  } ∷ [];
+  processes = record { who = who; commands = commands } ∷ [];
 }
 
 -- the quota and the volume have room for the segment
@@ -205,8 +210,13 @@ script_of bytes = do
   who ← process_line (fields_of p.0)
   s ← tight_line_at p.1
   segment ← segment_line volume.name (fields_of s.0)
-  name ← only_if (is_name segment.0) segment.0
+  _ ← only_if (has_room quota volume segment.1) segment.1
   i ← tight_line_at s.1
   _ ← initiate_line segment.0 (fields_of i.0)
-  references ← references_in 99998 i.1
-  only_if (has_room quota volume segment.1) (plan_of machine quota volume who name segment.1 references)
+  commands ← commands_of segment.0 segment.1 i.1
+  Some (plan_of machine quota volume who commands)
+
+-- commands before others
+abbrev pub with_front : List Command → Option (List Command) → Option (List Command)
+with_front front None = None
+with_front front (Some cs) = Some (front ++ cs)

@@ -11,6 +11,7 @@ mod heads;
 mod lines;
 mod plan;
 mod reader;
+mod references;
 
 pub use commands::{Command, Process};
 pub use plan::{Script, VolumeLine};
