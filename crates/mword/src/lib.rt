@@ -5,6 +5,8 @@
 #![tactic(auto)]
 
 mod page;
+#[cfg(test)]
+mod tests;
 mod text;
 mod word;
 
