@@ -12,7 +12,9 @@ mod lines;
 mod plan;
 mod reader;
 mod references;
+mod refusals;
 
 pub use commands::{Command, Process};
 pub use plan::{Script, VolumeLine};
+pub use refusals::{Cause, Refusal};
 pub use reader::{ScriptFault, read_script};

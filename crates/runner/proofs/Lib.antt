@@ -1,0 +1,5 @@
+pub mod Answered
+pub mod Booked
+pub mod Ends
+pub mod Starts
+pub mod Written

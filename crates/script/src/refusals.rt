@@ -1,0 +1,31 @@
+/// Why a line of a script is refused. The causes come in this order where several hold.
+#[derive(Clone, Copy, Debug, PartialEq, Eq)]
+pub enum Cause {
+    /// A byte of the line is no printable ASCII character.
+    BadChar,
+    /// Its first field is no word that may stand here.
+    Order,
+    /// It has another number of fields.
+    Fields,
+    /// A numeric field isn't a number, or is out of its range.
+    Number,
+    /// A name, a principal or a mode isn't one.
+    Name,
+    /// A path isn't one.
+    Path,
+    /// A volume's name was given before.
+    Twice,
+    /// A volume wasn't given.
+    Unknown,
+    /// A limit on how many there may be is passed.
+    Many,
+    /// The script ends where a line must still come.
+    Missing,
+}
+
+/// The first line of a script that is refused, counted from 1, and why.
+#[derive(Clone, Copy, Debug, PartialEq, Eq)]
+pub struct Refusal {
+    pub line: u32,
+    pub cause: Cause,
+}
