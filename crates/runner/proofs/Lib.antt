@@ -2,4 +2,5 @@ pub mod Answered
 pub mod Booked
 pub mod Ends
 pub mod Starts
+pub mod Texts
 pub mod Written

@@ -5,3 +5,6 @@
 mod machine;
 mod pages;
 mod steps;
+mod top;
+
+pub use top::{Finished, SCRIPT_BYTES, Status, Words, multics};
