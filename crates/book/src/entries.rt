@@ -14,5 +14,8 @@ pub enum Entry {
         reply: Reply,
     },
     /// A page that was all zeros is stored no more: its record was given back.
-    Release { uid: u32, page: u32 },
+    Release {
+        uid: u32,
+        page: u32,
+    },
 }

@@ -3,14 +3,13 @@
 
 use runner::{Finished, Status, Words, multics};
 use site_io::{NoGate, StdSink, StdSource};
-use std::alloc::{AllocError, Global};
-use std::env;
-use std::io;
+use std::alloc::Global;
 use std::process::ExitCode;
 use std::rt::Env;
+use std::{env, io};
 
 /// The program's arguments without its name.
-fn words(rt: &impl Env, alloc: Global) -> io::Result<Words> {
+fn words(rt: &(impl Env + AllocGlobal), alloc: Global) -> io::Result<Words> {
     let mut texts = Vec::new(alloc);
     for word in env::args(rt)?.skip(1) {
         texts.push(word)?;

@@ -68,8 +68,8 @@ holds_first p es n pages marks f e size ps ms = record {
   form = f;
   legal = subst (IsLegal p) (sym e) (legal_first p f);
   picture = subst (λ (x : List (List ℕ)). IsPicture p (store_after p es) x marks) (sym ps)
-  (subst (λ (x : List Bool). IsPicture p (store_after p es) (replicate n (replicate 1024 0)) x) (sym ms)
-  (picture_first p (store_after p es) n (ap (store_after p) e ∙ store_first p f) size));
+      (subst (λ (x : List Bool). IsPicture p (store_after p es) (replicate n (replicate 1024 0)) x) (sym ms)
+      (picture_first p (store_after p es) n (ap (store_after p) e ∙ store_first p f) size));
 }
 
 pub at_first : (p : Plan) (es : List Entry) → IsFirstForm p → es ≡ first_entries → IsAt p es 2
@@ -163,7 +163,7 @@ unfolding read_reply
 read_is p s pages marks number offset w h r is =
     let some : segment_of s 0 0 ≡ Some (segment_in p) = segment_known p s pages marks h in
     ap (λ (x : ℕ). reply.Word x) is
-        ∙ sym (ap (λ (n : ℕ). read_of s offset (segment_of s 0 n)) r.zero_is ∙ ap (read_of s offset) some ∙ rw (not_past p offset r.within) refl)
+    ∙ sym (ap (λ (n : ℕ). read_of s offset (segment_of s 0 n)) r.zero_is ∙ ap (read_of s offset) some ∙ rw (not_past p offset r.within) refl)
 
 pub write_is : (p : Plan) (s : Store) (pages : List (List ℕ)) (marks : List Bool) (number offset : ℕ) → IsPicture p s pages marks → IsReached p number offset → reply.Done ≡ write_reply s 0 number offset
 unfolding write_reply
@@ -216,6 +216,6 @@ word_read p s pages marks o w page h within at is =
     let there : o / 1024 < length pages = omega (arith, h.count) in
     let split : 1024 * (o / 1024) + o % 1024 ≡ o = omega arith in
     is
-        ∙ ap (λ (x : List ℕ). get_or x (o % 1024) 0) (page_there pages (o / 1024) page there at)
-        ∙ h.words (o / 1024) (o % 1024) there (omega arith)
-        ∙ ap (word_at s.words 2) split
+    ∙ ap (λ (x : List ℕ). get_or x (o % 1024) 0) (page_there pages (o / 1024) page there at)
+    ∙ h.words (o / 1024) (o % 1024) there (omega arith)
+    ∙ ap (word_at s.words 2) split

@@ -49,9 +49,10 @@ carried Q old now e b q = subst (λ (p : Plan). Q p now.entries) (sym b.script) 
 
 -- the book of the start
 pub started : (now third second first : Ledger) (script : Plan) (a b : Entry) → first.script ≡ script → first.entries ≡ [] → second.script ≡ first.script → second.entries ≡ first.entries → third.script ≡ second.script → third.entries ≡ second.entries ++ a ∷ [] → now.script ≡ third.script → now.entries ≡ third.entries ++ b ∷ [] → a ≡ done_at 0 (reply.Made 2) → b ≡ done_at 1 (reply.Known 0) → (now.script ≡ script) × (now.entries ≡ first_entries)
-started now third second first script a b s0 e0 s1 e1 s2 e2 s3 e3 made known =
-    (s3 ∙ s2 ∙ s1 ∙ s0,
-    e3
-        ∙ ap (λ (t : List Entry). t ++ b ∷ []) (e2 ∙ ap (λ (t : List Entry). t ++ a ∷ []) (e1 ∙ e0))
-        ∙ ap (λ (x : Entry). a ∷ x ∷ []) known
-        ∙ ap (λ (x : Entry). x ∷ done_at 1 (reply.Known 0) ∷ []) made)
+started now third second first script a b s0 e0 s1 e1 s2 e2 s3 e3 made known = (
+  s3 ∙ s2 ∙ s1 ∙ s0,
+  e3
+      ∙ ap (λ (t : List Entry). t ++ b ∷ []) (e2 ∙ ap (λ (t : List Entry). t ++ a ∷ []) (e1 ∙ e0))
+      ∙ ap (λ (x : Entry). a ∷ x ∷ []) known
+      ∙ ap (λ (x : Entry). x ∷ done_at 1 (reply.Known 0) ∷ []) made,
+)

@@ -93,7 +93,6 @@ tail_next (d ∷ e ∷ cs) zero c tail at =
 tail_next (d ∷ e ∷ cs) (suc i) c tail at =
     elim (tail_next (e ∷ cs) i c tail.1 at).kind [ inl r ↦ record { kind = inl (r.0, omega (arith, r.1)) } | inr r ↦ record { kind = inr (r.0, omega (arith, r.1)) } ]
 
-
 pub run_next : (cs : List Command) (place : ℕ) (c : Command) → IsTail (drop 2 cs) → 2 ≤ place → slice_get cs place ≡ Some c → IsNext cs place c
 run_next [] place c tail low at = absurd tail
 run_next (a ∷ []) place c tail low at = absurd tail
@@ -170,7 +169,7 @@ holds_released p es pages marks newer q h there may ms = record {
   form = h.form;
   legal = legal_push p es (release_entry q) h.legal (lawful_release p es q may);
   picture = subst (λ (x : List Bool). IsPicture p (store_after p (es ++ release_entry q ∷ [])) pages x) (sym ms)
-  (subst (λ (s : Store). IsPicture p s pages (set marks q false)) (sym (store_released p es q)) (picture_released p (store_after p es) pages marks q h.picture there (h.picture.stored q ∙ may.there)));
+      (subst (λ (s : Store). IsPicture p s pages (set marks q false)) (sym (store_released p es q)) (picture_released p (store_after p es) pages marks q h.picture there (h.picture.stored q ∙ may.there)));
 }
 
 -- a page that is marked may be given up exactly where its words are zeros, and no other page may
@@ -178,9 +177,10 @@ pub may_marked : (p : Plan) (s : Store) (pages : List (List ℕ)) (marks : List 
 may_marked p s pages marks q page mark z h there at size mark_at on zeros =
     let is : page ≡ get_or pages q [] = page_there pages q page there at in
     let sized : length (get_or pages q []) ≡ 1024 = sym (ap length is) ∙ size in
-    let marked : get_or marks q false ≡ true = mark_there marks q mark (omega (arith, h.marked)) mark_at ∙ on in
-    (λ t. record { there = sym (h.stored q) ∙ marked; zeros = zero_page p s pages marks q h there sized (subst AreZero is (zeros.0 t)) },
-    λ may. zeros.1 (subst AreZero (sym is) (zero_words p s pages marks q h there sized may.zeros)))
+    let marked : get_or marks q false ≡ true = mark_there marks q mark (omega (arith, h.marked)) mark_at ∙ on in (
+      λ t. record { there = sym (h.stored q) ∙ marked; zeros = zero_page p s pages marks q h there sized (subst AreZero is (zeros.0 t)) },
+      λ may. zeros.1 (subst AreZero (sym is) (zero_words p s pages marks q h there sized may.zeros)),
+    )
 
 pub may_unmarked : (p : Plan) (s : Store) (pages : List (List ℕ)) (marks : List Bool) (q : ℕ) (mark : Bool) → IsPicture p s pages marks → q < length pages → mark ≡ get_or marks q mark → mark ≡ false → IsTrue false ↔ MayRelease s 2 q
 may_unmarked p s pages marks q mark h there mark_at off =
@@ -203,6 +203,7 @@ clean_released p es q h = subst (λ (s : Store). (page : ℕ) → page < q + 1 �
     gone page on =
         let kept : (not (eqb page q) && is_stored (store_after p es).stored 2 page) ≡ true = sym (is_stored-without (store_after p es).stored 2 q 2 page) ∙ on in
         (grind (arith, nat_tests), grind (arith, nat_tests))
+
     below : (page : ℕ) → page < q + 1 → is_stored (without_stored (store_after p es).stored 2 q) 2 page ≡ true → IsZeroPage (released (store_after p es) q) 2 page → ⊥
     below page lt on zeros = let kept = gone page on in h page (omega (arith, kept.0)) kept.1 zeros
 
@@ -219,6 +220,7 @@ all_root p u = both (eqb 2 u) (eqb 1 u)
   where
     quota : ℕ → ℕ
     quota = quota_in (segment_in p ∷ root_of p ∷ [])
+
     both : (a b : Bool) → account quota (cond a (1 ∷ []) (cond b [] [])) ≡ 1
     both true b = alone (eqb (quota 1) 0)
       where
@@ -255,8 +257,8 @@ accounts_first : (p : Plan) (s : Store) → s.nodes ≡ segment_in p ∷ root_of
 unfolding account_lines
 accounts_first p s nodes =
     ap (λ (ns : List Node). flat_map (account_line (record s { nodes = ns })) (reverse ns)) nodes
-        ∙ nil_after (account_text [] p.quota (used_by (segment_in p ∷ root_of p ∷ []) s.stored 1))
-        ∙ ap (account_text [] p.quota) (used_all p s.stored)
+    ∙ nil_after (account_text [] p.quota (used_by (segment_in p ∷ root_of p ∷ []) s.stored 1))
+    ∙ ap (account_text [] p.quota) (used_all p s.stored)
   where
     nil_after : (x : List ℕ) → x ++ [] ≡ x
     nil_after [] = refl
@@ -266,9 +268,9 @@ volumes_first : (p : Plan) (s : Store) (vs : List VolumeLine) → s.nodes ≡ se
 volumes_first p s [] nodes one = absurd (omega arith)
 volumes_first p s (v ∷ []) nodes one =
     nil_after (volume_text v (taken_on s.nodes s.stored 0) (entries_on s.nodes 0))
-        ∙ ap (λ (ns : List Node). volume_text v (taken_on ns s.stored 0) (entries_on ns 0)) nodes
-        ∙ ap (λ (n : ℕ). volume_text v n (entries_on (segment_in p ∷ root_of p ∷ []) 0)) (taken_all p s.stored)
-        ∙ ap (volume_text v (length s.stored)) (entries_two p)
+    ∙ ap (λ (ns : List Node). volume_text v (taken_on ns s.stored 0) (entries_on ns 0)) nodes
+    ∙ ap (λ (n : ℕ). volume_text v n (entries_on (segment_in p ∷ root_of p ∷ []) 0)) (taken_all p s.stored)
+    ∙ ap (volume_text v (length s.stored)) (entries_two p)
   where
     nil_after : (x : List ℕ) → x ++ [] ≡ x
     nil_after [] = refl
@@ -281,14 +283,14 @@ summary_is p es pages marks n h size =
     let s : Store = store_after p es in
     let same : length s.stored ≡ n = sym h.picture.counted ∙ sym size in
     ap (λ (t : List ℕ). t ++ volume_lines s 0 p.volumes) (accounts_first p s h.picture.nodes)
-        ∙ ap (λ (t : List ℕ). account_text [] p.quota (length s.stored) ++ t) (volumes_first p s p.volumes h.picture.nodes h.form.volumes)
-        ∙ ap (first_summary p) same
+    ∙ ap (λ (t : List ℕ). account_text [] p.quota (length s.stored) ++ t) (volumes_first p s p.volumes h.picture.nodes h.form.volumes)
+    ∙ ap (first_summary p) same
 
 pub settled : (p : Plan) (es : List Entry) (pages : List (List ℕ)) (marks : List Bool) → Holds p es pages marks → IsCleanBelow p es (length pages) → IsSettled p (store_after p es)
 settled p es pages marks h clean = record {
   quotas = ap quotas_of h.picture.nodes ∙ omega arith;
   within = subst (λ (ns : List Node). AreWithin (used_by ns (store_after p es).stored) ns) (sym h.picture.nodes)
-  (tt, (omega (arith, used_all p (store_after p es).stored, h.picture.counted, h.picture.marked, h.picture.count, h.form.quota, count_by-le-length (λ (b : Bool). b) marks), tt));
+      (tt, (omega (arith, used_all p (store_after p es).stored, h.picture.counted, h.picture.marked, h.picture.count, h.form.quota, count_by-le-length (λ (b : Bool). b) marks), tt));
   words = λ u page on zeros. at u page on zeros (cases_eq u 2);
 }
   where
@@ -300,6 +302,7 @@ settled p es pages marks h clean = record {
         apart : true ≡ false → ⊥
         apart e = cc
     inside page on false past = let lt : page < length marks = grind (arith, nat_tests) in omega (arith, h.picture.marked)
+
     at : (u page : ℕ) → is_stored (store_after p es).stored u page ≡ true → IsZeroPage (store_after p es) u page → (u ≡ 2) ⊎ (u ≢ 2) → ⊥
     at u page on zeros (inl e) =
         let mine : is_stored (store_after p es).stored 2 page ≡ true = sym (ap (λ (x : ℕ). is_stored (store_after p es).stored x page) e) ∙ on in
@@ -349,6 +352,7 @@ step_there p place c f low at is = by_kind c is (run_next (commands_of p 0) plac
   where
     some_step : (st : Step) → Some st ≡ None → ⊥
     some_step st e = cc
+
     by_kind : (d : Command) → step_of d ≡ None → (IsReference d × (place + 1 < length (commands_of p 0))) ⊎ ((d ≡ command.End) × (place + 1 ≡ length (commands_of p 0))) → ⊥
     by_kind (command.Read number offset) e k = some_step (step.Read number offset) e
     by_kind (command.Write number offset word) e k = some_step (step.Write number offset word) e

@@ -55,8 +55,8 @@ unfolding after_entry after_command
 made_is p f =
     let made : List (List ℕ) → Store = λ path. moved_on (made_in p (booted p) 0 (pages_of (commands_of p 0)) 0 (place_in (root_of p ∷ []) 1 path)) 0 0 in
     ap (λ (s : Store). after_do p s 0 0 (command_at p 0 0) (reply.Made 2)) (boot_is p f)
-        ∙ ap (λ (c : Option Command). after_do p (booted p) 0 0 c (reply.Made 2)) f.run.makes
-        ∙ ap made (one_name (path_of (commands_of p 0)) f.run.branch)
+    ∙ ap (λ (c : Option Command). after_do p (booted p) 0 0 c (reply.Made 2)) f.run.makes
+    ∙ ap made (one_name (path_of (commands_of p 0)) f.run.branch)
 
 walk_found : (p : Plan) → walk (segment_in p ∷ root_of p ∷ []) 1 (first_name (path_of (commands_of p 0)) ∷ []) ≡ Some 2
 walk_found p = rw (bytes_same (first_name (path_of (commands_of p 0)))) refl
@@ -76,8 +76,8 @@ known_is : (p : Plan) → IsFirstForm p → after_entry p (made_store p) (done_a
 unfolding after_entry after_command
 known_is p f =
     ap (λ (c : Option Command). after_do p (made_store p) 0 1 c (reply.Known 0)) f.run.initiates
-        ∙ ap (λ (u : Option ℕ). moved_on (known_as (made_store p) 0 u) 0 1) (path_found p f)
-        ∙ ap (λ (n : ℕ). moved_on (record (made_store p) { known = record { process = 0; number = n; uid = 2 } ∷ [] }) 0 1) number_first
+    ∙ ap (λ (u : Option ℕ). moved_on (known_as (made_store p) 0 u) 0 1) (path_found p f)
+    ∙ ap (λ (n : ℕ). moved_on (record (made_store p) { known = record { process = 0; number = n; uid = 2 } ∷ [] }) 0 1) number_first
 
 abbrev pub first_entries : List Entry
 first_entries = done_at 0 (reply.Made 2) ∷ done_at 1 (reply.Known 0) ∷ []
@@ -88,8 +88,8 @@ store_made p f = store_after-push p [] (done_at 0 (reply.Made 2)) ∙ ap (λ (s 
 pub store_first : (p : Plan) → IsFirstForm p → store_after p first_entries ≡ first_store p
 store_first p f =
     store_after-push p (done_at 0 (reply.Made 2) ∷ []) (done_at 1 (reply.Known 0))
-        ∙ ap (λ (s : Store). after_entry p s (done_at 1 (reply.Known 0))) (store_made p f)
-        ∙ known_is p f
+    ∙ ap (λ (s : Store). after_entry p s (done_at 1 (reply.Known 0))) (store_made p f)
+    ∙ known_is p f
 
 answer_at : (s : Store) (c : Option Command) (d : Command) (r : Reply) → c ≡ Some d → r ≡ reply_to_command s 0 d → IsAnswer s 0 c r
 answer_at s c d r e a = subst (λ (x : Option Command). IsAnswer s 0 x r) (sym e) a

@@ -56,18 +56,20 @@ written_word pages o w q i there size below within = by_page (eqb (o / 1024) q) 
   where
     page : List ℕ
     page = get_or pages (o / 1024) []
+
     by_place : (b : Bool) → eqb (o % 1024) i ≡ b → get_or (set page (o % 1024) w) i 0 ≡ cond b w (get_or page i 0)
     by_place true e =
         let same : o % 1024 ≡ i = grind (arith, nat_tests) in
         ap (λ (k : ℕ). get_or (set page (o % 1024) w) k 0) (sym same) ∙ get_or-set_same page (o % 1024) w 0 (omega (arith, size))
     by_place false e = get_or-set_other page (o % 1024) i w 0 (grind (arith, nat_tests))
+
     by_page : (a : Bool) → eqb (o / 1024) q ≡ a → get_or (get_or (pages_with pages (o / 1024) (o % 1024) w) q []) i 0 ≡ cond (a && eqb (o % 1024) i) w (get_or (get_or pages q []) i 0)
     by_page true e =
         let same : o / 1024 ≡ q = grind (arith, nat_tests) in
         ap (λ (k : ℕ). get_or (get_or (set pages (o / 1024) (set page (o % 1024) w)) k []) i 0) (sym same)
-            ∙ ap (λ (x : List ℕ). get_or x i 0) (get_or-set_same pages (o / 1024) (set page (o % 1024) w) [] there)
-            ∙ by_place (eqb (o % 1024) i) refl
-            ∙ ap (λ (k : ℕ). cond (eqb (o % 1024) i) w (get_or (get_or pages k []) i 0)) same
+        ∙ ap (λ (x : List ℕ). get_or x i 0) (get_or-set_same pages (o / 1024) (set page (o % 1024) w) [] there)
+        ∙ by_place (eqb (o % 1024) i) refl
+        ∙ ap (λ (k : ℕ). cond (eqb (o % 1024) i) w (get_or (get_or pages k []) i 0)) same
     by_page false e = ap (λ (x : List ℕ). get_or x i 0) (get_or-set_other pages (o / 1024) q (set page (o % 1024) w) [] (grind (arith, nat_tests)))
 
 stored_again : (xs : List (ℕ × ℕ)) (o w q : ℕ) → is_stored (stored_by xs 2 o w) 2 q ≡ cond (eqb w 0) (is_stored xs 2 q) (eqb (o / 1024) q || is_stored xs 2 q)
@@ -85,6 +87,7 @@ marks_again marks page w q there = chosen (eqb w 0)
         let same : page ≡ q = grind (arith, nat_tests) in
         ap (λ (k : ℕ). get_or (set marks page true) k false) (sym same) ∙ get_or-set_same marks page true false there
     at false e = get_or-set_other marks page q true false (grind (arith, nat_tests))
+
     chosen : (z : Bool) → get_or (cond z marks (set marks page true)) q false ≡ cond z (get_or marks q false) (eqb page q || get_or marks q false)
     chosen true = refl
     chosen false = at (eqb page q) refl
@@ -121,6 +124,7 @@ counted_again xs marks o w there mark h = chosen (eqb w 0)
         let was : get_or marks (o / 1024) false ≡ false = mark ∙ e in
         let counts : count_by (λ x. x) (set marks (o / 1024) true) + 0 ≡ count_by (λ x. x) marks + 1 = rw was at (count_set marks (o / 1024) true there) in
         let size : length (with_stored xs 2 (o / 1024)) ≡ length xs + 1 = length-with_new xs 2 (o / 1024) e in omega arith
+
     chosen : (z : Bool) → count_by (λ x. x) (cond z marks (set marks (o / 1024) true)) ≡ length (cond z xs (with_stored xs 2 (o / 1024)))
     chosen true = h
     chosen false = by_mark (is_stored xs 2 (o / 1024)) refl
@@ -149,9 +153,9 @@ picture_written p s pages marks o w f h within size =
       words = λ q i below inside.
           let below_old : q < length pages = omega (arith, length-set pages (o / 1024) (set (get_or pages (o / 1024) []) (o % 1024) w)) in
           written_word pages o w q i there size below_old inside
-              ∙ ap (λ (x : ℕ). cond (eqb (o / 1024) q && eqb (o % 1024) i) w x) (h.words q i below_old inside)
-              ∙ ap (λ (z : Bool). cond z w (word_at s.words 2 (place_of q i))) (sym (same_place o q i inside))
-              ∙ sym (word_at-with s.words 2 o w 2 (place_of q i) (omega arith) (omega arith));
+          ∙ ap (λ (x : ℕ). cond (eqb (o / 1024) q && eqb (o % 1024) i) w x) (h.words q i below_old inside)
+          ∙ ap (λ (z : Bool). cond z w (word_at s.words 2 (place_of q i))) (sym (same_place o q i inside))
+          ∙ sym (word_at-with s.words 2 o w 2 (place_of q i) (omega arith) (omega arith));
       stored = λ q. marks_again marks (o / 1024) w q marked ∙ ap (λ (x : Bool). cond (eqb w 0) x (eqb (o / 1024) q || x)) (h.stored q) ∙ sym (stored_again s.stored o w q);
       alone = λ u q other. stored_alone s.stored o w u q other (h.alone u q other);
       once = once_again s.stored o w h.once;
@@ -168,8 +172,8 @@ after_write p s pages marks place number o w h is =
 store_written : (p : Plan) (es : List Entry) (pages : List (List ℕ)) (marks : List Bool) (place number o w : ℕ) → Holds p es pages marks → command_at p 0 place ≡ Some (command.Write number o w) → number ≡ 0 → store_after p (es ++ done_at place reply.Done ∷ []) ≡ moved_on (written (store_after p es) o w) 0 place
 store_written p es pages marks place number o w h c is =
     store_done p es place reply.Done
-        ∙ ap (λ (x : Option Command). after_do p (store_after p es) 0 place x reply.Done) c
-        ∙ after_write p (store_after p es) pages marks place number o w h.picture is
+    ∙ ap (λ (x : Option Command). after_do p (store_after p es) 0 place x reply.Done) c
+    ∙ after_write p (store_after p es) pages marks place number o w h.picture is
 
 write_answer : (p : Plan) (es : List Entry) (pages : List (List ℕ)) (marks : List Bool) (place number o w : ℕ) → Holds p es pages marks → command_at p 0 place ≡ Some (command.Write number o w) → IsReached p number o → IsAnswer (store_after p es) 0 (command_at p 0 place) reply.Done
 write_answer p es pages marks place number o w h c r =
@@ -180,10 +184,10 @@ holds_written p es pages new marks newer place number o w h at c r size ps ms = 
   form = h.form;
   legal = legal_push p es (done_at place reply.Done) h.legal (lawful_at p es place reply.Done at (write_answer p es pages marks place number o w h c r));
   picture = subst (λ (x : List (List ℕ)). IsPicture p (store_after p (es ++ done_at place reply.Done ∷ [])) x newer) (sym ps)
-  (subst (λ (x : List Bool). IsPicture p (store_after p (es ++ done_at place reply.Done ∷ [])) (pages_with pages (o / 1024) (o % 1024) w) x) (sym ms)
-  (subst (λ (s : Store). IsPicture p s (pages_with pages (o / 1024) (o % 1024) w) (marked_by marks (o / 1024) w)) (sym (store_written p es pages marks place number o w h c r.zero_is))
-  (picture_moved p (written (store_after p es) o w) (pages_with pages (o / 1024) (o % 1024) w) (marked_by marks (o / 1024) w) place
-  (picture_written p (store_after p es) pages marks o w h.form h.picture r.within size))));
+      (subst (λ (x : List Bool). IsPicture p (store_after p (es ++ done_at place reply.Done ∷ [])) (pages_with pages (o / 1024) (o % 1024) w) x) (sym ms)
+      (subst (λ (s : Store). IsPicture p s (pages_with pages (o / 1024) (o % 1024) w) (marked_by marks (o / 1024) w)) (sym (store_written p es pages marks place number o w h c r.zero_is))
+      (picture_moved p (written (store_after p es) o w) (pages_with pages (o / 1024) (o % 1024) w) (marked_by marks (o / 1024) w) place
+      (picture_written p (store_after p es) pages marks o w h.form h.picture r.within size))));
 }
 
 pub at_written : (p : Plan) (es : List Entry) (pages : List (List ℕ)) (marks : List Bool) (place number o w : ℕ) → Holds p es pages marks → IsAt p es place → command_at p 0 place ≡ Some (command.Write number o w) → IsReached p number o → IsAt p (es ++ done_at place reply.Done ∷ []) (place + 1)

@@ -140,13 +140,7 @@ impl Machine {
     }
 
     /// Writes a word and books the answer.
-    fn write(
-        &mut self,
-        place: u32,
-        number: u32,
-        offset: u32,
-        word: Word,
-    ) -> Result<(), NoMemory>
+    fn write(&mut self, place: u32, number: u32, offset: u32, word: Word) -> Result<(), NoMemory>
         requires at { IsAt self.old.script self.old.entries place }
         requires command { command_at self.old.script 0 place ≡ Some (command.Write number offset word) }
         requires reached { IsReached self.old.script number offset }

@@ -7,7 +7,10 @@ use script::Command;
 /// What the process does next, once its segment is known.
 #[derive(Clone, Copy)]
 pub(crate) enum Step {
-    Read { number: u32, offset: u32 },
+    Read {
+        number: u32,
+        offset: u32,
+    },
     Write {
         number: u32,
         offset: u32,

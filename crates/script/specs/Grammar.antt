@@ -13,7 +13,6 @@ use Rattle.script.specs.declared.reader.ScriptFault.{ScriptFault}
 use Rattle.script.specs.declared.reader.ScriptFault.TheVariants as fault
 
 infixl 10 ◌>>=◌
-
 -- the rest of a reading, where its start could be read
 abbrev pub ◌>>=◌ : {A B : Type 0} → Option A → (A → Option B) → Option B
 None >>= f = None

@@ -18,9 +18,14 @@ pub enum Command {
         volume: u32,
     },
     /// Makes the segment known to the process by a number.
-    Initiate { path: Path },
+    Initiate {
+        path: Path,
+    },
     /// Reads a word.
-    Read { number: u32, offset: u32 },
+    Read {
+        number: u32,
+        offset: u32,
+    },
     /// Writes a word.
     Write {
         number: u32,

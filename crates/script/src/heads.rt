@@ -100,7 +100,10 @@ pub(crate) fn process_line(line: &[u8]) -> Result<Who, ScriptFault>
 
 /// `mkseg >NAME PAGES VOLUME`, with the script's volume: the name and the pages.
 #[tactic(auto, unfolding(crate::specs::Grammar::segment_line))]
-pub(crate) fn segment_line<'a>(line: &'a [u8], volume: &[u8]) -> Result<(&'a [u8], u32), ScriptFault>
+pub(crate) fn segment_line<'a>(
+    line: &'a [u8],
+    volume: &[u8],
+) -> Result<(&'a [u8], u32), ScriptFault>
     ensures segment { Gives (λ s. (s.0.now, s.1)) result (segment_line volume.now (fields_of line.now)) }
     ensures low { IfOk result (λ s. 1 ≤ s.1) }
     ensures high { IfOk result (λ s. s.1 ≤ 256) }

@@ -16,5 +16,5 @@ mod refusals;
 
 pub use commands::{Command, Process};
 pub use plan::{Script, VolumeLine};
-pub use refusals::{Cause, Refusal};
 pub use reader::{ScriptFault, read_script};
+pub use refusals::{Cause, Refusal};

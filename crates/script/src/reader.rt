@@ -4,7 +4,9 @@ ghost use Rattle.script.specs.Forms.{IsRun, pages_of};
 ghost use Rattle.script.specs.Grammar.{Gives, script_of, commands_of, has_room};
 
 use crate::commands::{Command, Process};
-use crate::heads::{name_of, initiate_line, machine_line, process_line, quota_line, segment_line, volume_line};
+use crate::heads::{
+    initiate_line, machine_line, name_of, process_line, quota_line, segment_line, volume_line,
+};
 use crate::lines::next_tight_line;
 use crate::plan::{Script, VolumeLine};
 use crate::references::{push, push_references};
