@@ -5,6 +5,8 @@
 mod machine;
 mod pages;
 mod steps;
+#[cfg(test)]
+mod tests;
 mod top;
 
 pub use top::{Finished, SCRIPT_BYTES, Status, Words, multics};
