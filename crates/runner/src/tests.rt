@@ -3,6 +3,7 @@ ghost use Rattle.std.specs.Prelude.{◌≤◌};
 
 use crate::{Status, Words, multics};
 use site_io::{MemorySink, MemorySource, NoGate};
+use std::alloc::{AllocError, Global};
 use std::sync::Wait;
 use std::test::Fail;
 use std::thread::Threads;
@@ -14,11 +15,16 @@ struct Answer {
     text: Vec<u8>,
 }
 
-/// Calls the program with one word, on bytes that come in pieces, where the reads and the writes with
+/// So many bytes of `#`.
+fn hashes(alloc: Global, count: usize) -> Result<Vec<u8>, AllocError> {
+    vec![in alloc; b'#'; count]
+}
+
+/// Calls the program with some words, on bytes that come in pieces, where the reads and the writes with
 /// these numbers fail.
 fn ask<R: Threads + Wait + Sync + AllocGlobal>(
     rt: &R,
-    word: &str,
+    words: &[&str],
     bytes: &[u8],
     piece: usize,
     failing: (&[u64], &[u64]),
@@ -28,10 +34,19 @@ fn ask<R: Threads + Wait + Sync + AllocGlobal>(
 {
     let alloc = rt.alloc();
     let mut texts = Vec::new(alloc);
-    texts.push(String::from_str(alloc, word)?)?;
+    for word in words {
+        texts.push(String::from_str(alloc, word)?)?;
+    }
     let mut source = MemorySource::new(bytes.to_vec(alloc)?, piece, failing.0.to_vec(alloc)?);
     let mut sink = MemorySink::new(alloc, room, failing.1.to_vec(alloc)?)?;
-    let finished = multics(rt, alloc, Words::new(texts), &mut source, &mut sink, &NoGate);
+    let finished = multics(
+        rt,
+        alloc,
+        Words::new(texts),
+        &mut source,
+        &mut sink,
+        &NoGate,
+    );
     let text = sink.bytes().to_vec(alloc)?;
     Ok(Answer {
         status: finished.status,
@@ -47,7 +62,7 @@ fn run<R: Threads + Wait + Sync + AllocGlobal>(
 ) -> Result<Answer, Fail>
     requires { 1 ≤ piece }
 {
-    ask(rt, "run", bytes, piece, (&[], &[]), 65536)
+    ask(rt, &["run"], bytes, piece, (&[], &[]), 65536)
 }
 
 const FIRST: &str = "machine 1 4 12 1 1 1
@@ -105,6 +120,14 @@ fn scripts_give_their_listings(rt: HostRuntime) -> Result<(), Fail> {
             "machine 1 4 12 1 1 1\nquota 4\nvolume alpha 8 4\nprocess Smith\nmkseg >s 1 alpha\ninitiate >s\nwrite 0 5 0\nread 0 5\nwrite 0 5 12\nwrite 0 5 34\nread 0 5\nend\n",
             "process 0 Smith\nmkseg >s 1 alpha = made 2\ninitiate >s = known 0\nwrite 0 5 000000000000 = done\nread 0 5 = word 000000000000\nwrite 0 5 000000000012 = done\nwrite 0 5 000000000034 = done\nread 0 5 = word 000000000034\nend = done\n> quota 4 used 1\nvolume alpha records 8 taken 1 entries 4 taken 2\n",
         ),
+        (
+            "machine 1 4 12 1 1 1\nquota 2\nvolume alpha 2 2\nprocess a\nmkseg >0 2 alpha\ninitiate >0\nwrite 0 1023 1\nwrite 0 1024 2\nread 0 1023\nread 0 1024\nread 0 1022\nread 0 1025\nend\n",
+            "process 0 a\nmkseg >0 2 alpha = made 2\ninitiate >0 = known 0\nwrite 0 1023 000000000001 = done\nwrite 0 1024 000000000002 = done\nread 0 1023 = word 000000000001\nread 0 1024 = word 000000000002\nread 0 1022 = word 000000000000\nread 0 1025 = word 000000000000\nend = done\n> quota 2 used 2\nvolume alpha records 2 taken 2 entries 2 taken 2\n",
+        ),
+        (
+            "machine 1 4 12 1 1 1\nquota 4\nvolume alpha 8 4\nprocess Smith\nmkseg >s 2 alpha\ninitiate >s\nwrite 0 0 0\nwrite 0 1024 0\nwrite 1 0 5\nread 2 0\nend\n",
+            "process 0 Smith\nmkseg >s 2 alpha = made 2\ninitiate >s = known 0\nwrite 0 0 000000000000 = done\nwrite 0 1024 000000000000 = done\nwrite 1 0 000000000005 = unknown\nread 2 0 = unknown\nend = done\n> quota 4 used 0\nvolume alpha records 8 taken 0 entries 4 taken 2\n",
+        ),
     ] {
         for piece in [1, 7, 65536] {
             let answer = run(&rt, script.as_bytes(), piece)?;
@@ -158,11 +181,11 @@ fn a_cut_script_is_later(rt: HostRuntime) -> Result<(), Fail> {
 fn a_failing_read_is_a_read_fault(rt: HostRuntime) -> Result<(), Fail> {
     // 114 bytes in pieces of 13 are nine reads, and one more finds the end.
     for number in 1..11 {
-        let answer = ask(&rt, "run", FIRST.as_bytes(), 13, (&[number], &[]), 65536)?;
+        let answer = ask(&rt, &["run"], FIRST.as_bytes(), 13, (&[number], &[]), 65536)?;
         assert_eq!(rt; answer.status, Status::ReadFault, "{number}");
         assert!(rt; answer.text.is_empty(), "{number}");
     }
-    let answer = ask(&rt, "run", FIRST.as_bytes(), 13, (&[11], &[]), 65536)?;
+    let answer = ask(&rt, &["run"], FIRST.as_bytes(), 13, (&[11], &[]), 65536)?;
     assert_eq!(rt; answer.status, Status::Done);
     Ok(())
 }
@@ -170,11 +193,11 @@ fn a_failing_read_is_a_read_fault(rt: HostRuntime) -> Result<(), Fail> {
 #[test]
 fn a_failing_write_is_a_write_fault(rt: HostRuntime) -> Result<(), Fail> {
     let listing = FIRST_LISTING.as_bytes();
-    let answer = ask(&rt, "run", FIRST.as_bytes(), 65536, (&[], &[1]), 65536)?;
+    let answer = ask(&rt, &["run"], FIRST.as_bytes(), 65536, (&[], &[1]), 65536)?;
     assert_eq!(rt; answer.status, Status::WriteFault);
     assert!(rt; answer.text.is_empty());
     for room in 0..listing.len() {
-        let answer = ask(&rt, "run", FIRST.as_bytes(), 65536, (&[], &[]), room)?;
+        let answer = ask(&rt, &["run"], FIRST.as_bytes(), 65536, (&[], &[]), room)?;
         assert_eq!(rt; answer.status, Status::WriteFault, "{room}");
         assert_eq!(rt; answer.text.as_slice(), &listing[..room], "{room}");
     }
@@ -184,14 +207,24 @@ fn a_failing_write_is_a_write_fault(rt: HostRuntime) -> Result<(), Fail> {
 #[test]
 fn other_statuses_have_their_texts(rt: HostRuntime) -> Result<(), Fail> {
     let usage = "usage: multics run | check | make N | drill P F N SEED\n";
-    for word in ["", "x", "Run", "run ", "make", "make 4294967296", "check"] {
+    let words: [&[&str]; 8] = [
+        &[],
+        &[""],
+        &["x"],
+        &["Run"],
+        &["run", "x"],
+        &["make"],
+        &["make", "4294967296"],
+        &["check"],
+    ];
+    for words in words {
         for (failing, room, text) in [(0, 65536, usage), (1, 65536, ""), (0, 5, "usage")] {
-            let answer = ask(&rt, word, FIRST.as_bytes(), 7, (&[], &[failing]), room)?;
-            assert_eq!(rt; answer.status, Status::Usage, "{word}");
-            assert_eq!(rt; answer.text.as_slice(), text.as_bytes(), "{word}");
+            let answer = ask(&rt, words, FIRST.as_bytes(), 7, (&[], &[failing]), room)?;
+            assert_eq!(rt; answer.status, Status::Usage);
+            assert_eq!(rt; answer.text.as_slice(), text.as_bytes());
         }
     }
-    let hashes = vec![in rt.alloc(); b'#'; 4_194_305]?;
+    let hashes = hashes(rt.alloc(), 4_194_305)?;
     let answer = run(&rt, &hashes, 65536)?;
     assert_eq!(rt; answer.status, Status::TooLong);
     assert_eq!(rt; answer.text.as_slice(), b"script too long\n".as_slice());
