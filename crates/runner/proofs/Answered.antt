@@ -1,31 +1,23 @@
 -- A step that changes no page: the book gets one more answer.
-use Rattle.std.proofs.Common.{◌≡◌, ◌≢◌, ℕ, suc, zero, ◌+◌, ◌-◌, ◌*◌, ◌/◌, ◌%◌, ◌<◌, ◌≤◌, Bool, true, false, not, cond, eqb, leb, ◌&&◌, ◌||◌, ◌==◌, nat_le, List, [], ◌∷◌, ◌++◌, length, take, drop, get_or, set, replicate, Option, Some, None, refl, sym, ap, subst, ◌∙◌, arith, inl, inr}
-use Rattle.std.specs.Prelude.{count_by, IfSome, IfNone, codes}
-use Rattle.std.specs.Str.{bytes_eq}
-use Rattle.std.specs.FinMap as finite
-use Rattle.std.proofs.lemmas.Bool.{cases_eq, le-leb, lt-leb}
-use Rattle.std.proofs.lemmas.Bool.Decides.{nat_tests, eqb_tells}
+use Rattle.std.proofs.Common.{◌≡◌, ◌≢◌, ℕ, suc, zero, ◌+◌, ◌*◌, ◌/◌, ◌%◌, ◌<◌, ◌≤◌, Bool, true, false, cond, eqb, leb, nat_le, List, [], ◌∷◌, ◌++◌, length, get_or, replicate, Option, Some, None, refl, sym, ap, subst, ◌∙◌, arith}
+use Rattle.std.specs.Prelude.{count_by}
+use Rattle.std.proofs.lemmas.Bool.{le-leb}
+use Rattle.std.proofs.lemmas.Bool.Decides.{nat_tests}
 use Rattle.std.proofs.lemmas.Grind.{common_steps}
-use Rattle.std.proofs.lemmas.List.{get_or-replicate, get_or-set_same, get_or-set_other, length-set}
-use Rattle.std.proofs.lemmas.List.Sums.{sum_by-set, count_by-le-length}
-use Rattle.script.specs.Plans.{Plan, ProcessPlan, commands_of, command_at, who_of}
-use Rattle.script.specs.Forms.{IsFirstForm, IsRun, IsTail, IsReference, pages_of, path_of}
+use Rattle.std.proofs.lemmas.List.{get_or-replicate, get_or-set_same, length-set}
+use Rattle.script.specs.Plans.{Plan, commands_of, command_at}
+use Rattle.script.specs.Forms.{IsFirstForm, pages_of}
 use Rattle.script.specs.declared.commands.Command.{Command}
 use Rattle.script.specs.declared.commands.Command.TheVariants as command
-use Rattle.script.specs.declared.plan.VolumeLine.{VolumeLine}
 use Rattle.book.specs.declared.entries.Entry.{Entry}
-use Rattle.book.specs.declared.entries.Entry.TheVariants as entry
 use Rattle.book.specs.declared.replies.Reply.{Reply}
 use Rattle.book.specs.declared.replies.Reply.TheVariants as reply
-use Rattle.storage_terms.specs.Tree.{Node, node_in, branch_in, is_branch, above, account, account_of, quota_in, volume_in, used_by, taken_on, entries_on, is_account}
-use Rattle.flat_store.specs.Words.{Words, word_at, with_word}
-use Rattle.flat_store.specs.Pages.{is_page, is_stored, with_stored, without_stored}
-use Rattle.flat_store.specs.Flat.{Store, Knows, boot, root_of, owner_row, moved_on, known_uid, segment_of, number_for, first_passing, walk, place_in, is_past, read_of, write_of, read_reply, write_reply, reply_to_command, made_in, known_as, stored_by, written_in, effect_of, takes_effect, after_command}
-use Rattle.flat_store.specs.Legal.{IsZeroPage, IsAnswer, IsLawfulDo, MayRelease, IsLawful, IsLegal, after_do, after_entry, store_after, part, is_part, last_of, IsEnd, IsComplete, IsSettled, quotas_of, AreWithin}
-use Rattle.flat_store.proofs.BookLaws.{store_after-push, legal_push, legal_nil, store_after-nil, part-push, part-skip, last_of-push}
-use Rattle.flat_store.proofs.PageLaws.{IsOnce, is_stored-with, once_with, length-with_new, length-with_old, is_stored-without}
-use Rattle.flat_store.proofs.WordLaws.{word_at-with, word_at-empty}
-use Rattle.runner.specs.Machines.{first_name, segment_in, first_known, IsPicture, Holds, IsAt, IsUnderway, IsQuiet, done_at, IsCleanBelow, marked_by, pages_with, IsRefused, IsReached}
+use Rattle.flat_store.specs.Words.{word_at}
+use Rattle.flat_store.specs.Flat.{Store, moved_on, segment_of, is_past, read_of, write_of, read_reply, write_reply, takes_effect, after_command}
+use Rattle.flat_store.specs.Legal.{IsAnswer, IsLawful, IsLegal, after_do, after_entry, store_after}
+use Rattle.flat_store.proofs.BookLaws.{store_after-push, legal_push}
+use Rattle.flat_store.proofs.WordLaws.{word_at-empty}
+use Rattle.runner.specs.Machines.{segment_in, IsPicture, Holds, IsAt, IsQuiet, done_at, IsRefused, IsReached}
 use Rattle.runner.proofs.Starts.{first_store, first_entries, store_first, legal_first}
 
 pub past_end : {A : Type 0} (xs : List A) (q : ℕ) (d : A) → length xs ≤ q → get_or xs q d ≡ d

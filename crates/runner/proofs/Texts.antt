@@ -1,5 +1,5 @@
 -- The text of a status, whole or cut.
-use Rattle.std.proofs.Common.{ℕ, List, [], Option, inl, inr, ◌⊎◌, arith}
+use Rattle.std.proofs.Common.{ℕ, List, [], Option, inl, inr, arith}
 use Rattle.std.specs.Io.KnownBytes.{Appends, Keeps}
 use Rattle.std.proofs.KnownBytes.{Keeps-refl, Consumes-nil}
 use Rattle.site_io.specs.Faults.{Rose}

@@ -1,12 +1,10 @@
 -- The private machine: a list of pages with marks, beside the book that it keeps (own).
-use Rattle.std.specs.Prelude.{◌≡◌, ◌≢◌, ◌<◌, ◌≤◌, ℕ, ◌+◌, ◌*◌, Bool, false, true, count_by, slice_index, slice_index_or, List, [], ◌∷◌, length, Option, Some, None, if◌then◌else◌, ◌==◌, nat_le, slice_set}
+use Rattle.std.specs.Prelude.{◌≡◌, ◌≢◌, ◌<◌, ℕ, ◌+◌, ◌*◌, Bool, false, true, count_by, slice_index, slice_index_or, List, [], ◌∷◌, length, Some, None, if◌then◌else◌, ◌==◌, slice_set}
 use Rattle.script.specs.Plans.{Plan, commands_of, command_at, who_of}
 use Rattle.script.specs.Forms.{IsFirstForm, pages_of, path_of}
-use Rattle.script.specs.declared.commands.Command.{Command}
 use Rattle.book.specs.declared.entries.Entry.{Entry}
 use Rattle.book.specs.declared.entries.Entry.TheVariants as entry
 use Rattle.book.specs.declared.replies.Reply.{Reply}
-use Rattle.book.specs.declared.replies.Reply.TheVariants as reply
 use Rattle.storage_terms.specs.Tree.{Node}
 use Rattle.flat_store.specs.Words.{word_at}
 use Rattle.flat_store.specs.Pages.{is_stored}

@@ -1,4 +1,4 @@
-use Rattle.std.proofs.Common.{subst, sym, ap, ◌≡◌, ◌∙◌, ℕ, Bool, length}
+use Rattle.std.proofs.Common.{subst, sym, ap, ◌∙◌, Bool}
 use Rattle.std.specs.Prelude.{count_by}
 use Rattle.script.specs.Plans.{commands_of}
 use Rattle.script.specs.Forms.{pages_of}

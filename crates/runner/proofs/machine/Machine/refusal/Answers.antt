@@ -1,4 +1,4 @@
-use Rattle.std.proofs.Common.{subst, arith, ap, ◌≡◌, ◌≢◌, ◌≤◌, length, ◌/◌}
+use Rattle.std.proofs.Common.{subst, arith}
 use Rattle.book.specs.Books.{Ledger}
 use Rattle.book.specs.declared.replies.Reply.TheVariants as reply
 use Rattle.flat_store.specs.Legal.{store_after}

@@ -1,4 +1,4 @@
-use Rattle.std.proofs.Common.{subst, sym, refl, arith, ◌≡◌, ◌<◌, length, false, set, List}
+use Rattle.std.proofs.Common.{subst, sym, refl, arith, ◌<◌, length, false, set, List}
 use Rattle.script.specs.Plans.{Plan, commands_of}
 use Rattle.script.specs.Forms.{pages_of}
 use Rattle.book.specs.Books.{Ledger}

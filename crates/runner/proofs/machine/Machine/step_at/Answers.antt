@@ -1,5 +1,4 @@
 use Rattle.std.proofs.Common.{ap, ◌≡◌, ◌∙◌}
-use Rattle.script.specs.Plans.{Plan}
 use Rattle.book.specs.Books.{Ledger}
 use Rattle.runner.proofs.Ends.{step_here, step_missing}
 use Rattle.runner.proofs.machine.Machine.step_at.Goals as goal

@@ -1,4 +1,4 @@
-use Rattle.std.proofs.Common.{subst, sym, arith, ◌≡◌, ◌∙◌}
+use Rattle.std.proofs.Common.{subst, sym, ◌≡◌}
 use Rattle.book.specs.Books.{Ledger}
 use Rattle.book.specs.declared.replies.Reply.TheVariants as reply
 use Rattle.flat_store.specs.Flat.{read_reply}

@@ -1,6 +1,5 @@
-use Rattle.std.proofs.Common.{subst, sym, ap, length, ◌∙◌, ◌≡◌, ◌+◌, ◌/◌, ◌%◌, List, [], Option, Some, get_or, set, refl, arith, ◌<◌, ℕ}
+use Rattle.std.proofs.Common.{subst, sym, ap, length, ◌∙◌, ◌≡◌, ◌+◌, ◌/◌, ◌%◌, List, [], Some, get_or, set, arith, ◌<◌, ℕ}
 use Rattle.script.specs.Plans.{Plan, command_at}
-use Rattle.script.specs.declared.commands.Command.{Command}
 use Rattle.script.specs.declared.commands.Command.TheVariants as command
 use Rattle.book.specs.Books.{Ledger}
 use Rattle.book.specs.declared.entries.Entry.{Entry}
