@@ -1,0 +1,41 @@
+use Rattle.std.proofs.Common.{rules, ◌≡◌, ℕ, ◌+◌, ◌*◌, ◌%◌, ◌^◌, ◌<◌, ◌≤◌, All, max, length, replicate, slice_index, OnOk, OnErr, IfOk, IfErr, ◌-◌, ◌/◌, Bool, true, false, nat_eq, nat_lt, List, [], ◌∷◌, ◌++◌, slice_index_or, slice_set, set, get_or, Some, None, sym, ap, refl, ◌∙◌, subst, arith}
+use Rattle.std.proofs.lemmas.List.{length-set, length-replicate}
+use Rattle.live_doors.specs.Doors.{IsPassOf, IsKeeperOf, IsAdmitted, OnlyNoted, HasNoted, having_read, holding, forgotten, acknowledged, shut, raised, having_noted, opening_watch, first_passes}
+use Rattle.live_doors.specs.declared.views.View.TheVariants.{Walking, Keeping, Spent}
+use Rattle.live_doors.specs.Steps.{walk_of, watch_of}
+use Rattle.live_doors.proofs.Keeps.{fills_at, forgets_at, acknowledges_at, closes_at, raises_at, looks_at}
+use Rattle.live_doors.proofs.Calls.{filled_odd, filled_even, pass_fits, pass_stays_of, noted_still, keeper_fits, keeper_stays_of}
+use Rattle.live_doors.proofs.doors.LiveDoors.fill.Goals as goal
+
+pub load-word-requires : goal.load-word-requires
+load-word-requires c = (search rules, search rules, fills_at c.self.inside.table.shared.key _ _ c.args.f c.pass.inside.seat.me c.pass.invariant.0 (search rules))
+
+pub invariant_of-pass : goal.invariant_of-pass
+invariant_of-pass c =
+    pass_fits c.load-word.new.seat.me _ _ _ _ (c.load-word.ensures.2 c.args.f refl ∙ ap (λ q. (Walking q, [])) (filled_odd c.args.f c.load-word.result (walk_of c.pass.inside.seat.me.0) (search rules))) c.pass.invariant.1 c.pass.invariant.2 c.pass.invariant.3
+
+pub returns-then-word-eq1-clause-pass : goal.returns-then-word-eq1-clause-pass
+returns-then-word-eq1-clause-pass c =
+    pass_stays_of c.args.self.now c.args.pass.now _ c.load-word.new.seat.table_id c.pass.inside.seat.me c.load-word.new.seat.me _ c.pass.view_is c.requires.pass c.load-word.ensures.0
+        (c.load-word.ensures.2 c.args.f refl ∙ ap (λ q. (Walking q, [])) (filled_odd c.args.f c.load-word.result (walk_of c.pass.inside.seat.me.0) (search rules))) refl refl
+
+pub returns-then-word-eq1-clause-closed : goal.returns-then-word-eq1-clause-closed
+returns-then-word-eq1-clause-closed c = (
+  search rules,
+  ap (λ x. walk_of x.0) (c.load-word.ensures.2 c.args.f refl) ∙ filled_odd c.args.f c.load-word.result (walk_of c.pass.inside.seat.me.0) (search rules) ∙ ap (λ v. having_read c.load-word.result v.walk) c.pass.view_is,
+)
+
+pub invariant_of-pass-2 : goal.invariant_of-pass-2
+invariant_of-pass-2 c =
+    pass_fits c.load-word.new.seat.me _ _ _ _ (c.load-word.ensures.2 c.args.f refl ∙ ap (λ q. (Walking q, [])) (filled_even c.args.f c.load-word.result (walk_of c.pass.inside.seat.me.0) (search rules))) c.pass.invariant.1
+        (ap (λ h. set h c.args.f (Some (c.load-word.result / 2))) c.pass.invariant.2) c.pass.invariant.3
+
+pub returns-clause-pass : goal.returns-clause-pass
+returns-clause-pass c =
+    pass_stays_of c.args.self.now c.args.pass.now _ c.load-word.new.seat.table_id c.pass.inside.seat.me c.load-word.new.seat.me _ c.pass.view_is c.requires.pass c.load-word.ensures.0
+        (c.load-word.ensures.2 c.args.f refl ∙ ap (λ q. (Walking q, [])) (filled_even c.args.f c.load-word.result (walk_of c.pass.inside.seat.me.0) (search rules))) (length-set _ _ _) refl
+
+pub returns-clause-admitted : goal.returns-clause-admitted
+returns-clause-admitted c =
+    ap (λ x. walk_of x.0) (c.load-word.ensures.2 c.args.f refl) ∙ filled_even c.args.f c.load-word.result (walk_of c.pass.inside.seat.me.0) (search rules)
+        ∙ ap (λ v. holding c.args.f (c.load-word.result / 2) (having_read (2 * (c.load-word.result / 2)) v.walk)) c.pass.view_is
