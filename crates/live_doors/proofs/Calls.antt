@@ -68,9 +68,13 @@ keeper_stays_of doors now t t' cleared cleared' m m' w view ok same is a b c = r
     cpus = ap (λ x. length (watch_of x.0).noted) is ∙ c ∙ ap (λ v. length v.watch.noted) view ∙ ok.cpus;
   }
 
+-- a word that was read from a row
+pub word_of : (xs ys : List ℕ) (i x : ℕ) → x ≡ get_or xs i x → xs ≡ ys → i < length xs → x ≡ get_or ys i 0
+word_of xs ys i x is same inside = is ∙ get_or_default_zero xs i x inside ∙ ap (λ l. get_or l i 0) same
+
 -- a door's next word
 pub next_word : (xs ys : List ℕ) (i x : ℕ) → x ≡ get_or xs i x → xs ≡ ys → i < length xs → x + 1 ≡ get_or ys i 0 + 1
-next_word xs ys i x is same inside = let e : get_or xs i x ≡ get_or xs i 0 = get_or_default_zero xs i x inside in ap (λ k. k + 1) (is ∙ e ∙ ap (λ l. get_or l i 0) same)
+next_word xs ys i x is same inside = ap (λ k. k + 1) (word_of xs ys i x is same inside)
 
 -- what the keeper has noted once it has read the acknowledgements of the first few processors, each at least the stamp
 pub record ClearSoFar (doors : DoorsModel) (old now : KeeperModel) (stamp cpu : ℕ) : Type 0 where

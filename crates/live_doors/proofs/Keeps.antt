@@ -15,7 +15,7 @@ use Rattle.live_doors.specs.declared.views.View.{View}
 use Rattle.live_doors.specs.declared.views.View.TheVariants.{Walking, Keeping, Spent}
 use Rattle.live_doors.specs.Doors.{HasNoted, IsShut, MayBind, blank, first_watch, having_read, holding, forgotten, acknowledged, shut, raised, having_noted}
 use Rattle.live_doors.specs.Steps.{door_at, ack_at, first_words, filled_if, filled, walk_of, watch_of, Fills, Forgets, Acknowledges, Closes, Raises, Looks, keeper_with_pass, pass_of_keeper}
-use Rattle.live_doors.specs.Kept.{PlanOk, PassOk, SeatOk, Kept, NoHolder, AllClearLeavesNoHolder, NeverBoundHasNoHolder, MayBindLeavesNoHolder}
+use Rattle.live_doors.specs.Kept.{PlanOk, PassOk, SeatOk, Kept, NoHolder, NotedIsClear, NeverBoundHasNoHolder, MayBindHasNoHolder}
 use Rattle.live_doors.proofs.Plain.{filled_ok, forgotten_ok, plan_acknowledged, acknowledged_ok, pass_stays, plan_shut, pass_shut, plan_raised, pass_raised, plan_noted, pass_noted, plan_admits, pass_admits, blank_ok, entry_gone, entry_never}
 
 -- after a change of one seat's view, each seat is in order, if that one is and the others were
@@ -51,9 +51,11 @@ module _ (z : Size) where
         keeps,
         tt,
         pass_looked s.words s.views id (door_at f) p (filled f n p) h at (cpu_stays f n) (filled_ok z.frames z.cpus s.words h.plan p f n inside refl h.plan_ok),
-        λ g e. ap (λ k. (Walking (filled k n p), [])) (omega arith),
+        λ g e. (least s.words h.plan h.plan_ok, ap (λ k. (Walking (filled k n p), [])) (omega arith)),
       )
     where
+      least : (words : List ℕ) (plan : Watch) → PlanOk z.frames z.cpus words plan → 1 ≤ get_or words (door_at f) 0
+      least words plan k = subst (λ i. 1 ≤ i) (sym (k.doors f inside)) (k.least f inside)
       cpu_stays : (f n : ℕ) → (filled f n p).cpu ≡ p.cpu
       cpu_stays f n = cases (eqb (n % 2) 0)
         where
@@ -292,8 +294,8 @@ none_if : (o : Option ℕ) → ((b : ℕ) → o ≡ Some b → ⊥) → o ≡ No
 none_if None never = refl
 none_if (Some b) never = absurd (never b refl)
 
-pub all_clear_leaves : AllClearLeavesNoHolder
-all_clear_leaves z words views seat w stamp f h at noted inside odd since id p there =
+pub noted_is_clear : NotedIsClear
+noted_is_clear w stamp noted f odd since z words views seat h at id p there =
     let is = known z words views seat w h at in
     let k : PlanOk z.frames z.cpus words w = subst (PlanOk z.frames z.cpus words) (sym is) h.plan_ok in
     let ok : PassOk z.frames z.cpus words w p = subst (λ q. PassOk z.frames z.cpus words q p) (sym is) (h.seats_ok id (Walking p) there).1 in
@@ -301,14 +303,13 @@ all_clear_leaves z words views seat w stamp f h at noted inside odd since id p t
     none_if (get_or p.held f None) (λ b e. entry_gone z.frames z.cpus words w p f b stamp k ok (noted p.cpu (omega arith)) odd since e)
 
 pub never_bound : NeverBoundHasNoHolder
-never_bound z words views seat w f h at inside one id p there =
+never_bound w f one z words views seat h at id p there =
     let is = known z words views seat w h at in
     let ok : PassOk z.frames z.cpus words w p = subst (λ q. PassOk z.frames z.cpus words q p) (sym is) (h.seats_ok id (Walking p) there).1 in
     none_if (get_or p.held f None) (λ b e. entry_never z.frames z.cpus words w p f b ok one e)
 
-pub may_bind_leaves : MayBindLeavesNoHolder
-may_bind_leaves z words views seat w cleared f h at noted inside may =
-    ⊎_elim (λ one. never_bound z words views seat w f h at inside one) (λ (t : IsShut w f × (get_or w.since f 0 < cleared)). all_clear_leaves z words views seat w cleared f h at noted inside t.0 t.1) may
+pub may_bind_is_free : MayBindHasNoHolder
+may_bind_is_free w cleared f noted may = ⊎_elim (λ one. never_bound w f one) (λ (t : IsShut w f × (get_or w.since f 0 < cleared)). noted_is_clear w cleared noted f t.0 t.1) may
 
 -- at the end the words are those that the keeper knows
 elem_get_or : (l : List ℕ) (i a : ℕ) → get_elem? l i ≡ some a → get_or l i 0 ≡ a

@@ -58,18 +58,23 @@ pub record Kept (z : Size) (words : List ℕ) (views : List View) : Type 0 where
 abbrev pub NoHolder : List View → ℕ → Type 0
 NoHolder views f = (seat : ℕ) (p : Walk) → get_elem? views seat ≡ some (Walking p) → slice_index_or p.held f None ≡ None
 
+-- wherever the rule holds and this is what the keeper knows, no pass holds an entry of frame f
+abbrev pub HasNoHolder : Watch → ℕ → Type 0
+HasNoHolder w f = (z : Size) (words : List ℕ) (views : List View) (seat : ℕ) → Kept z words views → get_elem? views seat ≡ some (Keeping w) → NoHolder views f
+
+-- no pass holds an entry of a frame that was closed before this stamp was raised, and is closed still
+abbrev pub IsClearOf : Watch → ℕ → Type 0
+IsClearOf w stamp = (f : ℕ) → IsShut w f → slice_index w.since f < stamp → HasNoHolder w f
+
 -- Where the keeper has noted from each processor an acknowledgement of at least a stamp, no pass holds an entry of a frame
--- that was closed before that stamp was raised and is closed still.
-abbrev pub AllClearLeavesNoHolder : Type 0
-AllClearLeavesNoHolder = (z : Size) (words : List ℕ) (views : List View) (seat : ℕ) (w : Watch) (stamp f : ℕ)
-    → Kept z words views → get_elem? views seat ≡ some (Keeping w) → HasNoted w stamp → f < z.frames → IsShut w f → slice_index w.since f < stamp → NoHolder views f
+-- that was closed before that stamp was raised.
+abbrev pub NotedIsClear : Type 0
+NotedIsClear = (w : Watch) (stamp : ℕ) → HasNoted w stamp → IsClearOf w stamp
 
 -- no pass holds an entry of a frame that was never bound
 abbrev pub NeverBoundHasNoHolder : Type 0
-NeverBoundHasNoHolder = (z : Size) (words : List ℕ) (views : List View) (seat : ℕ) (w : Watch) (f : ℕ)
-    → Kept z words views → get_elem? views seat ≡ some (Keeping w) → f < z.frames → slice_index w.doors f ≡ 1 → NoHolder views f
+NeverBoundHasNoHolder = (w : Watch) (f : ℕ) → slice_index w.doors f ≡ 1 → HasNoHolder w f
 
 -- no pass holds an entry of a frame that may be bound
-abbrev pub MayBindLeavesNoHolder : Type 0
-MayBindLeavesNoHolder = (z : Size) (words : List ℕ) (views : List View) (seat : ℕ) (w : Watch) (cleared f : ℕ)
-    → Kept z words views → get_elem? views seat ≡ some (Keeping w) → HasNoted w cleared → f < z.frames → MayBind w cleared f → NoHolder views f
+abbrev pub MayBindHasNoHolder : Type 0
+MayBindHasNoHolder = (w : Watch) (cleared f : ℕ) → HasNoted w cleared → MayBind w cleared f → HasNoHolder w f

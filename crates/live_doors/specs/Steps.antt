@@ -51,8 +51,9 @@ NowKeeps m w = m ≡ (Keeping w, [])
 abbrev pub Told : Type 1
 Told = Step (Unit {0}) → Me (Unit {0}) View → ℕ → Me (Unit {0}) View → Type 0
 
+-- a door's word is at least 1
 abbrev pub Fills : Told
-Fills s old word new = (f : ℕ) → s.word ≡ door_at f → NowWalks new (filled f word (walk_of old.0))
+Fills s old word new = (f : ℕ) → s.word ≡ door_at f → (1 ≤ word) × NowWalks new (filled f word (walk_of old.0))
 
 abbrev pub Forgets : Told
 Forgets s old word new = NowWalks new (forgotten word (walk_of old.0))

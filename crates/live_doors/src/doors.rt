@@ -3,6 +3,7 @@ ghost use Rattle.std.specs.Prelude.{◌≡◌, ℕ, ◌+◌, ◌*◌, ◌%◌, �
 ghost use Rattle.std.specs.Mem.Slots.{slots_items, slots_len, IsFull};
 ghost use mathlib.Core.Option.{some};
 ghost use lib.ListN.{get_elem?};
+ghost use Rattle.live_doors.specs.Kept.{IsClearOf};
 ghost use Rattle.live_doors.specs.Doors.{IsPassOf, IsKeeperOf, IsAdmitted, OnlyNoted, HasNoted, having_read, holding, forgotten, acknowledged, shut, raised, having_noted, opening_watch, first_passes};
 
 use crate::errors::{Behind, Closed, NoMemory};
@@ -90,6 +91,7 @@ impl LiveDoors {
         requires pass { IsPassOf self.now pass.old }
         requires frame { f < self.now.frames }
         ensures pass { IsPassOf self.now pass.new }
+        ensures bound { IfOk result (λ b. 1 ≤ b) }
         ensures admitted { IfOk result (λ b. pass.new.walk ≡ holding f b (having_read (2 * b) pass.old.walk)) }
         ensures closed { IfErr result (λ e. (e.word % 2 ≡ 1) × (pass.new.walk ≡ having_read e.word pass.old.walk)) }
     {
@@ -183,7 +185,7 @@ impl LiveDoors {
     }
 
     /// Whether every processor has acknowledged the stamp. At Ok no pass holds an entry of a frame that was closed
-    /// before the stamp was raised and not bound since ([`all_clear_leaves_no_holder`](crate::all_clear_leaves_no_holder)).
+    /// before the stamp was raised and not bound since (`clear`, by the law [`noted_is_clear`](crate::noted_is_clear)).
     ///
     /// `Behind` comes exactly where a processor's word, which this call read, was below the stamp; it names the first
     /// such one. At most one load a processor; takes no memory and never waits. Source: own.
@@ -191,7 +193,8 @@ impl LiveDoors {
         requires { IsKeeperOf self.now keeper.old }
         ensures keeper { IsKeeperOf self.now keeper.new }
         ensures only_noted { OnlyNoted keeper.old.watch keeper.new.watch }
-        ensures clear { OnOk result (HasNoted keeper.new.watch stamp) }
+        ensures noted { OnOk result (HasNoted keeper.new.watch stamp) }
+        ensures clear { OnOk result (IsClearOf keeper.new.watch stamp) }
         ensures looked { OnOk result (keeper.new.watch.looks ≡ keeper.old.watch.looks + self.now.cpus) }
         ensures cleared { OnOk result (keeper.new.cleared ≡ max keeper.old.cleared stamp) }
         ensures behind { IfErr result (λ b. (b.cpu < self.now.cpus) × (b.seen < stamp)) }

@@ -1,6 +1,7 @@
 //! The keeper of the doors.
 ghost use Rattle.std.specs.Prelude.{◌≡◌, ◌<◌, ◌↔◌, length, max, IsTrue};
 ghost use Rattle.live_doors.specs.Doors.{HasNoted, MayBind};
+ghost use Rattle.live_doors.specs.Kept.{HasNoHolder};
 
 use crate::rule::Place;
 use std::marker::Model;
@@ -35,7 +36,8 @@ impl Keeper {
     /// stamp that was raised since. No pass then holds an entry of it. Takes no memory and constant time. Source: own.
     pub fn may_bind(&self, f: u32) -> bool
         requires { f < length self.now.watch.doors }
-        ensures { IsTrue result ↔ MayBind self.now.watch self.now.cleared f }
+        ensures may_bind { IsTrue result ↔ MayBind self.now.watch self.now.cleared f }
+        ensures no_holder { IsTrue result → HasNoHolder self.now.watch f }
     {
         let door = self.doors[f as usize];
         door == 1 || (door % 2 == 1 && self.since[f as usize] < self.cleared)

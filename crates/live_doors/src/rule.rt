@@ -12,10 +12,11 @@ pub struct Size {
     pub door: u64,
 }
 
-/// The rule.
-pub struct Order;
+/// The rule over words and views, by which an entry that a pass holds is one that its door admits, or that no stamp
+/// which its processor has acknowledged was raised to revoke.
+pub struct Revocation;
 
-impl TableRule<(), View, Size> for Order {
+impl TableRule<(), View, Size> for Revocation {
     ghost use Rattle.live_doors.specs.Kept.{Kept};
     ghost use Rattle.live_doors.specs.Doors.{first_watch};
     ghost use Rattle.live_doors.specs.declared.views.View.TheVariants.{Keeping};
@@ -25,7 +26,7 @@ impl TableRule<(), View, Size> for Order {
     ghost first = { λ z. Keeping (first_watch z.frames z.cpus z.door) };
 }
 
-pub(crate) type Board = Table<(), View, Size, Order, Global>;
+pub(crate) type Board = Table<(), View, Size, Revocation, Global>;
 
 pub(crate) type Place = Seat<(), View>;
 
