@@ -36,10 +36,10 @@ pass_fits m q cpu held stamp is a b c = subst (λ x. PassFits x cpu held stamp) 
 pub pass_stays_of : (doors : DoorsModel) (now : PassModel) (t t' : TableId) (m m' : Me (Unit {0}) View) (q : Walk) → record { table = t; walk = walk_of m.0 } ≡ now → IsPassOf doors now → t' ≡ t → m' ≡ (Walking q, [])
     → length q.held ≡ length (walk_of m.0).held → q.cpu ≡ (walk_of m.0).cpu → IsPassOf doors record { table = t'; walk = walk_of m'.0 }
 pass_stays_of doors now t t' m m' q view ok same is row cpu = record {
-    table = same ∙ ap (λ v. v.table) view ∙ ok.table;
-    frames = ap (λ x. length (walk_of x.0).held) is ∙ row ∙ ap (λ v. length v.walk.held) view ∙ ok.frames;
-    cpu = subst (λ k. k < doors.cpus) (sym (ap (λ x. (walk_of x.0).cpu) is ∙ cpu ∙ ap (λ v. v.walk.cpu) view)) ok.cpu;
-  }
+  table = same ∙ ap (λ v. v.table) view ∙ ok.table;
+  frames = ap (λ x. length (walk_of x.0).held) is ∙ row ∙ ap (λ v. length v.walk.held) view ∙ ok.frames;
+  cpu = subst (λ k. k < doors.cpus) (sym (ap (λ x. (walk_of x.0).cpu) is ∙ cpu ∙ ap (λ v. v.walk.cpu) view)) ok.cpu;
+}
 
 -- each acknowledgement that was noted is still at least the stamp
 pub noted_still : (w : Watch) (c n stamp : ℕ) → HasNoted w stamp → get_or w.noted c 0 ≤ n → HasNoted (having_noted c n w) stamp
@@ -62,11 +62,11 @@ pub keeper_stays_of : (doors : DoorsModel) (now : KeeperModel) (t t' : TableId) 
     → m' ≡ (Keeping w, []) → length w.doors ≡ length (watch_of m.0).doors → length w.since ≡ length (watch_of m.0).since → length w.noted ≡ length (watch_of m.0).noted
     → IsKeeperOf doors record { table = t'; watch = watch_of m'.0; cleared = cleared' }
 keeper_stays_of doors now t t' cleared cleared' m m' w view ok same is a b c = record {
-    table = same ∙ ap (λ v. v.table) view ∙ ok.table;
-    frames = ap (λ x. length (watch_of x.0).doors) is ∙ a ∙ ap (λ v. length v.watch.doors) view ∙ ok.frames;
-    since = ap (λ x. length (watch_of x.0).since) is ∙ b ∙ ap (λ v. length v.watch.since) view ∙ ok.since;
-    cpus = ap (λ x. length (watch_of x.0).noted) is ∙ c ∙ ap (λ v. length v.watch.noted) view ∙ ok.cpus;
-  }
+  table = same ∙ ap (λ v. v.table) view ∙ ok.table;
+  frames = ap (λ x. length (watch_of x.0).doors) is ∙ a ∙ ap (λ v. length v.watch.doors) view ∙ ok.frames;
+  since = ap (λ x. length (watch_of x.0).since) is ∙ b ∙ ap (λ v. length v.watch.since) view ∙ ok.since;
+  cpus = ap (λ x. length (watch_of x.0).noted) is ∙ c ∙ ap (λ v. length v.watch.noted) view ∙ ok.cpus;
+}
 
 -- a word that was read from a row
 pub word_of : (xs ys : List ℕ) (i x : ℕ) → x ≡ get_or xs i x → xs ≡ ys → i < length xs → x ≡ get_or ys i 0
@@ -86,21 +86,21 @@ pub record ClearSoFar (doors : DoorsModel) (old now : KeeperModel) (stamp cpu : 
 
 pub clear_starts : (doors : DoorsModel) (old : KeeperModel) (stamp : ℕ) → IsKeeperOf doors old → ClearSoFar doors old old stamp 0
 clear_starts doors old stamp ok = record {
-    keeper = ok;
-    only = record { made = refl; request = refl; doors = refl; since = refl };
-    looks = omega arith;
-    noted = λ c none. absurd (omega arith);
-    cleared = refl;
-  }
+  keeper = ok;
+  only = record { made = refl; request = refl; doors = refl; since = refl };
+  looks = omega arith;
+  noted = λ c none. absurd (omega arith);
+  cleared = refl;
+}
 
 module _ (doors : DoorsModel) (old now next : KeeperModel) (stamp cpu seen : ℕ) where
   pub only_noted : ClearSoFar doors old now stamp cpu → next.watch ≡ having_noted cpu seen now.watch → OnlyNoted old.watch next.watch
   only_noted so is = record {
-      made = ap (λ w. w.made) is ∙ so.only.made;
-      request = ap (λ w. w.request) is ∙ so.only.request;
-      doors = ap (λ w. w.doors) is ∙ so.only.doors;
-      since = ap (λ w. w.since) is ∙ so.only.since;
-    }
+    made = ap (λ w. w.made) is ∙ so.only.made;
+    request = ap (λ w. w.request) is ∙ so.only.request;
+    doors = ap (λ w. w.doors) is ∙ so.only.doors;
+    since = ap (λ w. w.since) is ∙ so.only.since;
+  }
 
   pub noted_here : ClearSoFar doors old now stamp cpu → next.watch ≡ having_noted cpu seen now.watch → cpu < doors.cpus → get_or next.watch.noted cpu 0 ≡ seen
   noted_here so is inside = ap (λ w. get_or w.noted cpu 0) is ∙ get_or-set_same now.watch.noted cpu seen 0 (let r = so.keeper.cpus in omega arith)
@@ -113,12 +113,12 @@ module _ (doors : DoorsModel) (old now next : KeeperModel) (stamp cpu seen : ℕ
 
   pub clear_goes_on : ClearSoFar doors old now stamp cpu → IsKeeperOf doors next → next.watch ≡ having_noted cpu seen now.watch → next.cleared ≡ now.cleared → cpu < doors.cpus → stamp ≤ seen → ClearSoFar doors old next stamp (cpu + 1)
   clear_goes_on so ok is same inside enough = record {
-      keeper = ok;
-      only = only_noted so is;
-      looks = (let l = looked_once_more so is in omega arith);
-      noted = λ c below. dite (ℕ_discrete c cpu) (λ (e : c ≡ cpu). subst (λ k. stamp ≤ get_or next.watch.noted k 0) (sym e) (subst (λ k. stamp ≤ k) (sym (noted_here so is inside)) enough)) (λ (other : c ≢ cpu). noted_before so is c (omega arith));
-      cleared = same ∙ so.cleared;
-    }
+    keeper = ok;
+    only = only_noted so is;
+    looks = (let l = looked_once_more so is in omega arith);
+    noted = λ c below. dite (ℕ_discrete c cpu) (λ (e : c ≡ cpu). subst (λ k. stamp ≤ get_or next.watch.noted k 0) (sym e) (subst (λ k. stamp ≤ k) (sym (noted_here so is inside)) enough)) (λ (other : c ≢ cpu). noted_before so is c (omega arith));
+    cleared = same ∙ so.cleared;
+  }
 
 -- with every processor read, all is clear
 pub all_noted : (doors : DoorsModel) (old now : KeeperModel) (stamp cpu : ℕ) → ClearSoFar doors old now stamp cpu → cpu ≡ doors.cpus → HasNoted now.watch stamp

@@ -36,13 +36,13 @@ module _ (z : Size) where
   pass_looked words views id i p p' h at same ok =
       let mine = h.seats_ok id (Walking p) at in
       subst (λ ws. Kept z ws (set views id (Walking p'))) (sym (set-get_or words i 0))
-          record {
-            plan = h.plan;
-            keeper = h.keeper;
-            seat_of = h.seat_of;
-            plan_ok = h.plan_ok;
-            seats_ok = seats_stay (SeatOk z.frames z.cpus words h.plan h.keeper h.seat_of) views id (Walking p') (ap h.seat_of same ∙ mine.0, ok mine.1) (λ j v _ e. h.seats_ok j v e);
-          }
+      record {
+        plan = h.plan;
+        keeper = h.keeper;
+        seat_of = h.seat_of;
+        plan_ok = h.plan_ok;
+        seats_ok = seats_stay (SeatOk z.frames z.cpus words h.plan h.keeper h.seat_of) views id (Walking p') (ap h.seat_of same ∙ mine.0, ok mine.1) (λ j v _ e. h.seats_ok j v e);
+      }
 
   pub fills : (slots id f : ℕ) (p : Walk) → f < z.frames → Allows (InOrder z) slots id (Walking p, []) (door_at f) (λ n. n) (Fills (step slots (door_at f) 0 0 none) (Walking p, []))
   fills slots id f p inside s h homes at fits =
@@ -56,6 +56,7 @@ module _ (z : Size) where
     where
       least : (words : List ℕ) (plan : Watch) → PlanOk z.frames z.cpus words plan → 1 ≤ get_or words (door_at f) 0
       least words plan k = subst (λ i. 1 ≤ i) (sym (k.doors f inside)) (k.least f inside)
+
       cpu_stays : (f n : ℕ) → (filled f n p).cpu ≡ p.cpu
       cpu_stays f n = cases (eqb (n % 2) 0)
         where
@@ -160,25 +161,25 @@ module _ (z : Size) where
       → Allows (InOrder z) slots id m i (λ _. n) (λ _. Acknowledges (step slots i n 0 none) m n)
   acknowledges_at slots id i n m is word stamp =
       subst (λ (x : ℕ × ℕ). Allows (InOrder z) slots id m x.0 (λ _. x.1) (λ _. Acknowledges (step slots x.0 x.1 0 none) m x.1)) (λ k. (sym word k, sym stamp k))
-          (subst (λ x. Allows (InOrder z) slots id x (ack_at z.frames (walk_of m.0).cpu) (λ _. (walk_of m.0).stamp) (λ _. Acknowledges (step slots (ack_at z.frames (walk_of m.0).cpu) (walk_of m.0).stamp 0 none) x (walk_of m.0).stamp)) (sym is)
-              (acknowledges slots id (walk_of m.0)))
+      (subst (λ x. Allows (InOrder z) slots id x (ack_at z.frames (walk_of m.0).cpu) (λ _. (walk_of m.0).stamp) (λ _. Acknowledges (step slots (ack_at z.frames (walk_of m.0).cpu) (walk_of m.0).stamp 0 none) x (walk_of m.0).stamp)) (sym is)
+      (acknowledges slots id (walk_of m.0)))
 
   pub closes_at : (slots id f n : ℕ) (m : Me (Unit {0}) View) → m ≡ (Keeping (watch_of m.0), []) → f < z.frames → get_or (watch_of m.0).doors f 0 % 2 ≡ 0 → n ≡ get_or (watch_of m.0).doors f 0 + 1
       → Allows (InOrder z) slots id m (1 + f) (λ _. n) (λ _. Closes (step slots (1 + f) n 0 none) m n)
   closes_at slots id f n m is inside even word =
       subst (λ k. Allows (InOrder z) slots id m (1 + f) (λ _. k) (λ _. Closes (step slots (1 + f) k 0 none) m k)) (sym word)
-          (subst (λ x. Allows (InOrder z) slots id x (1 + f) (λ _. get_or (watch_of m.0).doors f 0 + 1) (λ _. Closes (step slots (1 + f) (get_or (watch_of m.0).doors f 0 + 1) 0 none) x (get_or (watch_of m.0).doors f 0 + 1))) (sym is)
-              (closes slots id f (watch_of m.0) inside even))
+      (subst (λ x. Allows (InOrder z) slots id x (1 + f) (λ _. get_or (watch_of m.0).doors f 0 + 1) (λ _. Closes (step slots (1 + f) (get_or (watch_of m.0).doors f 0 + 1) 0 none) x (get_or (watch_of m.0).doors f 0 + 1))) (sym is)
+      (closes slots id f (watch_of m.0) inside even))
 
   pub raises_at : (slots id n : ℕ) (m : Me (Unit {0}) View) → m ≡ (Keeping (watch_of m.0), []) → n ≡ (watch_of m.0).request + 1 → Allows (InOrder z) slots id m 0 (λ _. n) (λ _. Raises (step slots 0 n 0 none) m n)
   raises_at slots id n m is word =
       subst (λ k. Allows (InOrder z) slots id m 0 (λ _. k) (λ _. Raises (step slots 0 k 0 none) m k)) (sym word)
-          (subst (λ x. Allows (InOrder z) slots id x 0 (λ _. (watch_of m.0).request + 1) (λ _. Raises (step slots 0 ((watch_of m.0).request + 1) 0 none) x ((watch_of m.0).request + 1))) (sym is) (raises slots id (watch_of m.0)))
+      (subst (λ x. Allows (InOrder z) slots id x 0 (λ _. (watch_of m.0).request + 1) (λ _. Raises (step slots 0 ((watch_of m.0).request + 1) 0 none) x ((watch_of m.0).request + 1))) (sym is) (raises slots id (watch_of m.0)))
 
   pub looks_at : (slots id i c : ℕ) (m : Me (Unit {0}) View) → m ≡ (Keeping (watch_of m.0), []) → i ≡ ack_at z.frames c → c < z.cpus → length (watch_of m.0).doors ≡ z.frames → Allows (InOrder z) slots id m i (λ n. n) (Looks (step slots i 0 0 none) m)
   looks_at slots id i c m is word inside row =
       subst (λ k. Allows (InOrder z) slots id m k (λ n. n) (Looks (step slots k 0 0 none) m)) (sym word)
-          (subst (λ x. Allows (InOrder z) slots id x (ack_at z.frames c) (λ n. n) (Looks (step slots (ack_at z.frames c) 0 0 none) x)) (sym is) (looks slots id c (watch_of m.0) inside row))
+      (subst (λ x. Allows (InOrder z) slots id x (ack_at z.frames c) (λ n. n) (Looks (step slots (ack_at z.frames c) 0 0 none) x)) (sym is) (looks slots id c (watch_of m.0) inside row))
 
 -- one number more has a value of its own
 abbrev put : ℕ → ℕ → (ℕ → ℕ) → ℕ → ℕ
@@ -212,12 +213,12 @@ module _ (z : Size) where
         plan_ok = plan_admits z.frames z.cpus s.words w room was;
         seats_ok = λ j v e. ⊎_elim
             (λ (old : get_elem? longer j ≡ some v).
-                seats_stay (SeatOk z.frames z.cpus s.words (record w { made = w.made + 1 }) h.keeper seat_of) s.views id (keeper_with_pass (Keeping w)) (mine.0, refl)
-                    (λ i u other there. stays s.words h.keeper h.seat_of (length longer) mine.0 i u other (subst (λ k. SeatOk z.frames z.cpus s.words k h.keeper h.seat_of i u) (sym mine.1) (h.seats_ok i u there)))
-                    j v old)
+            seats_stay (SeatOk z.frames z.cpus s.words (record w { made = w.made + 1 }) h.keeper seat_of) s.views id (keeper_with_pass (Keeping w)) (mine.0, refl)
+            (λ i u other there. stays s.words h.keeper h.seat_of (length longer) mine.0 i u other (subst (λ k. SeatOk z.frames z.cpus s.words k h.keeper h.seat_of i u) (sym mine.1) (h.seats_ok i u there)))
+            j v old)
             (λ (new : (j ≡ length longer) × (pass_of_keeper (Keeping w) ≡ v)).
-                subst (λ (x : ℕ × View). SeatOk z.frames z.cpus s.words (record w { made = w.made + 1 }) h.keeper seat_of x.0 x.1) (λ i. (sym new.0 i, new.1 i))
-                    (put_here w.made (length longer) h.seat_of, subst (λ n. PassOk z.frames z.cpus s.words (record w { made = w.made + 1 }) (blank n w.made)) (sym row) (blank_ok z.frames z.cpus s.words w room was)))
+            subst (λ (x : ℕ × View). SeatOk z.frames z.cpus s.words (record w { made = w.made + 1 }) h.keeper seat_of x.0 x.1) (λ i. (sym new.0 i, new.1 i))
+            (put_here w.made (length longer) h.seat_of, subst (λ n. PassOk z.frames z.cpus s.words (record w { made = w.made + 1 }) (blank n w.made)) (sym row) (blank_ok z.frames z.cpus s.words w room was)))
             (snoc_place longer (pass_of_keeper (Keeping w)) v j e);
       }
     where
@@ -233,13 +234,13 @@ module _ (z : Size) where
   -- a seat takes in another, which knows nothing any more
   pub takes_in : (id other : ℕ) (v u : View) → Joins (InOrder z) id v other u v Spent
   takes_in id other v u s h at apart there = record {
-      plan = h.plan;
-      keeper = h.keeper;
-      seat_of = h.seat_of;
-      plan_ok = h.plan_ok;
-      seats_ok = seats_stay (SeatOk z.frames z.cpus s.words h.plan h.keeper h.seat_of) (set s.views id v) other Spent tt
-          (λ j w _ e. seats_stay (SeatOk z.frames z.cpus s.words h.plan h.keeper h.seat_of) s.views id v (h.seats_ok id v at) (λ i y _ e'. h.seats_ok i y e') j w e);
-    }
+    plan = h.plan;
+    keeper = h.keeper;
+    seat_of = h.seat_of;
+    plan_ok = h.plan_ok;
+    seats_ok = seats_stay (SeatOk z.frames z.cpus s.words h.plan h.keeper h.seat_of) (set s.views id v) other Spent tt
+        (λ j w _ e. seats_stay (SeatOk z.frames z.cpus s.words h.plan h.keeper h.seat_of) s.views id v (h.seats_ok id v at) (λ i y _ e'. h.seats_ok i y e') j w e);
+  }
 
   door_word : (door f : ℕ) → f < z.frames → get_or (first_words z.frames z.cpus door) (door_at f) 0 ≡ get_or (replicate z.frames door) f 0
   door_word door f inside =
@@ -260,24 +261,24 @@ module _ (z : Size) where
   -- the rule holds at the start
   pub opens : 1 ≤ z.door → Kept z (first_words z.frames z.cpus z.door) (Keeping (first_watch z.frames z.cpus z.door) ∷ [])
   opens least = record {
-      plan = first_watch z.frames z.cpus z.door;
-      keeper = 0;
-      seat_of = λ c. 0;
-      plan_ok = record {
-        room = (let row : List ℕ = replicate z.frames z.door in let acks : List ℕ = replicate z.cpus 0 in let a : length row ≡ z.frames = length-replicate z.frames z.door in let b : length acks ≡ z.cpus = length-replicate z.cpus 0 in
-            let c = length-append row acks in omega arith);
-        doors_row = length-replicate z.frames z.door;
-        since_row = length-replicate z.frames 0;
-        noted_row = length-replicate z.cpus 0;
-        made = omega arith;
-        request = refl;
-        doors = λ f inside. door_word z.door f inside;
-        least = λ f inside. subst (λ k. 1 ≤ k) (sym (get_or-replicate z.frames f z.door 0 inside)) least;
-        noted = λ c inside. subst (λ k. k ≤ get_or (first_words z.frames z.cpus z.door) (ack_at z.frames c) 0) (sym (get_or-replicate z.cpus c 0 0 inside)) (omega arith);
-        unmade = λ c above inside. ack_word z.door c inside;
-      };
-      seats_ok = one;
-    }
+    plan = first_watch z.frames z.cpus z.door;
+    keeper = 0;
+    seat_of = λ c. 0;
+    plan_ok = record {
+      room = (let row : List ℕ = replicate z.frames z.door in let acks : List ℕ = replicate z.cpus 0 in let a : length row ≡ z.frames = length-replicate z.frames z.door in let b : length acks ≡ z.cpus = length-replicate z.cpus 0 in
+          let c = length-append row acks in omega arith);
+      doors_row = length-replicate z.frames z.door;
+      since_row = length-replicate z.frames 0;
+      noted_row = length-replicate z.cpus 0;
+      made = omega arith;
+      request = refl;
+      doors = λ f inside. door_word z.door f inside;
+      least = λ f inside. subst (λ k. 1 ≤ k) (sym (get_or-replicate z.frames f z.door 0 inside)) least;
+      noted = λ c inside. subst (λ k. k ≤ get_or (first_words z.frames z.cpus z.door) (ack_at z.frames c) 0) (sym (get_or-replicate z.cpus c 0 0 inside)) (omega arith);
+      unmade = λ c above inside. ack_word z.door c inside;
+    };
+    seats_ok = one;
+  }
     where
       one : (j : ℕ) (v : View) → get_elem? (Keeping (first_watch z.frames z.cpus z.door) ∷ []) j ≡ some v → SeatOk z.frames z.cpus (first_words z.frames z.cpus z.door) (first_watch z.frames z.cpus z.door) 0 (λ c. 0) j v
       one zero v e = subst (SeatOk z.frames z.cpus (first_words z.frames z.cpus z.door) (first_watch z.frames z.cpus z.door) 0 (λ c. 0) 0) (some-injective _ _ e) (refl, refl)
@@ -333,5 +334,5 @@ pub ended_doors : (z : Size) (id : ℕ) (m : Me (Unit {0}) View) (words doors : 
 ended_doors z id m words doors slots is end same read =
     let k = ended_plan z id m words slots is end in
     ext_get_or 0 doors (watch_of m.0).doors same (λ f inside.
-        let r = k.doors_row in let at : door_at f ≡ f + 1 = omega arith in
-        sym (elem_get_or words (f + 1) (get_or doors f 0) (read f inside)) ∙ sym (ap (λ i. get_or words i 0) at) ∙ k.doors f (omega arith))
+    let r = k.doors_row in let at : door_at f ≡ f + 1 = omega arith in
+    sym (elem_get_or words (f + 1) (get_or doors f 0) (read f inside)) ∙ sym (ap (λ i. get_or words i 0) at) ∙ k.doors f (omega arith))

@@ -95,10 +95,8 @@ impl LiveDoors {
         ensures admitted { IfOk result (λ b. pass.new.walk ≡ holding f b (having_read (2 * b) pass.old.walk)) }
         ensures closed { IfErr result (λ e. (e.word % 2 ≡ 1) × (pass.new.walk ≡ having_read e.word pass.old.walk)) }
     {
-        let word = self
-            .table
-            .shared
-            .load::<Fill>(&mut pass.seat, 1 + f as usize);
+        let words = &self.table.shared;
+        let word = words.load::<Fill>(&mut pass.seat, 1 + f as usize);
         if word % 2 == 1 {
             return Err(Closed { word });
         }
@@ -115,7 +113,8 @@ impl LiveDoors {
         ensures pass { IsPassOf self.now pass.new }
         ensures forgotten { pass.new.walk ≡ forgotten result pass.old.walk }
     {
-        let stamp = self.table.shared.load::<Forget>(&mut pass.seat, 0);
+        let words = &self.table.shared;
+        let stamp = words.load::<Forget>(&mut pass.seat, 0);
         pass.stamp = stamp;
         pass.held.fill(None);
         stamp
@@ -130,11 +129,10 @@ impl LiveDoors {
         ensures pass { IsPassOf self.now pass.new }
         ensures acknowledged { pass.new.walk ≡ acknowledged pass.old.walk }
     {
+        let words = &self.table.shared;
         let word = 1 + self.frames as usize + pass.cpu as usize;
         let stamp = pass.stamp;
-        self.table
-            .shared
-            .store::<Acknowledge>(&mut pass.seat, word, stamp);
+        words.store::<Acknowledge>(&mut pass.seat, word, stamp);
     }
 
     /// Closes the door of frame `f`: from then on nobody can enter the frame, and those who hold an entry keep it until
@@ -147,10 +145,9 @@ impl LiveDoors {
         ensures shut { keeper.new.watch ≡ shut f keeper.old.watch }
         ensures cleared { keeper.new.cleared ≡ keeper.old.cleared }
     {
+        let words = &self.table.shared;
         let door = keeper.doors[f as usize] + 1;
-        self.table
-            .shared
-            .store::<CloseDoor>(&mut keeper.seat, 1 + f as usize, door);
+        words.store::<CloseDoor>(&mut keeper.seat, 1 + f as usize, door);
         keeper.doors[f as usize] = door;
         keeper.since[f as usize] = keeper.request;
     }
@@ -164,10 +161,9 @@ impl LiveDoors {
         ensures raised { keeper.new.watch ≡ raised keeper.old.watch }
         ensures cleared { keeper.new.cleared ≡ keeper.old.cleared }
     {
+        let words = &self.table.shared;
         let stamp = keeper.request + 1;
-        self.table
-            .shared
-            .store::<Raise>(&mut keeper.seat, 0, stamp);
+        words.store::<Raise>(&mut keeper.seat, 0, stamp);
         keeper.request = stamp;
         stamp
     }
@@ -206,10 +202,7 @@ impl LiveDoors {
         for cpu in 0..self.cpus {
             let seen = self.look(keeper, cpu);
             if seen < stamp {
-                return Err(Behind {
-                    cpu,
-                    seen,
-                });
+                return Err(Behind { cpu, seen });
             }
         }
         keeper.clear(stamp);
@@ -250,15 +243,16 @@ impl LiveDoors {
     {
         self.take_all_in(&mut keeper, passes);
         let LiveDoors { table, .. } = self;
-        let Keeper { seat, mut doors, .. } = keeper;
+        let Keeper {
+            seat,
+            mut doors,
+            ..
+        } = keeper;
         let closed = table.close_with(seat);
         let request = closed.word(0);
         read_doors(&closed, doors.as_mut_slice());
         closed.free();
-        Ended {
-            doors,
-            request,
-        }
+        Ended { doors, request }
     }
 }
 

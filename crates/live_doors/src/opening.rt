@@ -37,11 +37,7 @@ fn first_keeper(
     let words = first_words(alloc, frames, cpus, door)?;
     let doors = vec![in alloc; door; frames as usize]?;
     let since = vec![in alloc; 0; frames as usize]?;
-    let size = Size {
-        frames,
-        cpus,
-        door,
-    };
+    let size = Size { frames, cpus, door };
     let (table, seat) = Board::of_words(alloc, words.as_slice(), &size)?;
     let keeper = Keeper {
         seat,
@@ -83,11 +79,7 @@ fn admit(
 }
 
 // The passes of all processors.
-fn admit_all(
-    alloc: Global,
-    doors: &LiveDoors,
-    keeper: &mut Keeper,
-) -> Result<Vec<Pass>, AllocError>
+fn admit_all(alloc: Global, doors: &LiveDoors, keeper: &mut Keeper) -> Result<Vec<Pass>, AllocError>
     requires keeper { IsKeeperOf doors.now keeper.old }
     requires first { keeper.old.watch.made ≡ 0 }
     ensures passes { IfOk result (λ passes. passes.items ≡ first_passes doors.now doors.now.cpus) }

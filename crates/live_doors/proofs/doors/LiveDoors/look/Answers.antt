@@ -18,4 +18,4 @@ invariant_of-keeper c =
 pub returns-clause-keeper : goal.returns-clause-keeper
 returns-clause-keeper c =
     keeper_stays_of c.args.self.now c.args.keeper.now _ c.load.new.seat.table_id _ _ c.keeper.inside.seat.me c.load.new.seat.me _ c.keeper.view_is c.requires.keeper c.load.ensures.0
-        (c.load.ensures.2 c.args.cpu (search rules)).1 refl refl (length-set _ _ _)
+    (c.load.ensures.2 c.args.cpu (search rules)).1 refl refl (length-set _ _ _)

@@ -16,4 +16,4 @@ returns-then-door-eq1-2-clause-no_holder c = λ less.
     let since = word_of c.self.inside.since.items c.args.self.now.watch.since c.args.f c.index.result.now c.index.ensures (c.self.invariant.3 ∙ ap (λ v. v.watch.since) c.self.view_is) (search rules) in
     let below : c.index.result.now < c.self.inside.cleared = grind (arith, nat_tests, less) in
     may_bind_is_free c.args.self.now.watch c.args.self.now.cleared c.args.f (subst (λ v. HasNoted v.watch v.cleared) c.self.view_is c.self.invariant.5)
-        (inr (ap (λ k. k % 2) (sym door) ∙ c.if-door-eq1-2.true, subst (λ k. k < c.args.self.now.cleared) since (subst (λ v. c.index.result.now < v.cleared) c.self.view_is below)))
+    (inr (ap (λ k. k % 2) (sym door) ∙ c.if-door-eq1-2.true, subst (λ k. k < c.args.self.now.cleared) since (subst (λ v. c.index.result.now < v.cleared) c.self.view_is below)))
