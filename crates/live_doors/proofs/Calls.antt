@@ -1,5 +1,5 @@
 -- What a call leaves, from what its step told.
-use Rattle.std.proofs.Common.{◌≡◌, ◌≢◌, ℕ, suc, zero, ◌+◌, ◌-◌, ◌*◌, ◌/◌, ◌%◌, ◌<◌, ◌≤◌, ◌⊎◌, Bool, true, false, cond, eqb, List, [], ◌∷◌, ◌++◌, length, replicate, Option, Some, None, refl, sym, ap, subst, ◌∙◌, arith, get_or, take, drop, set, inl, inr, ⊎_elim, All, IsTrue, is_some, ◌↔◌}
+use Rattle.std.proofs.Common.{◌≡◌, ◌≢◌, ℕ, suc, zero, ◌+◌, ◌*◌, ◌/◌, ◌%◌, ◌<◌, ◌≤◌, List, [], ◌∷◌, ◌++◌, length, Option, Some, None, refl, sym, ap, subst, ◌∙◌, arith, get_or, take, drop, set, All, IsTrue, is_some, ◌↔◌}
 use mathlib.Core.Logic.{dite}
 use native.Mathlib.Decide.{ℕ_discrete}
 use Rattle.std.proofs.lemmas.Option.{none-some}
@@ -12,7 +12,7 @@ use Rattle.atomic_table.specs.Seated.{TableId}
 use Rattle.live_doors.specs.declared.views.Walk.{Walk}
 use Rattle.live_doors.specs.declared.views.Watch.{Watch}
 use Rattle.live_doors.specs.declared.views.View.{View}
-use Rattle.live_doors.specs.declared.views.View.TheVariants.{Walking, Keeping, Spent}
+use Rattle.live_doors.specs.declared.views.View.TheVariants.{Walking, Keeping}
 use Rattle.live_doors.specs.Doors.{blank, first_passes, DoorsModel, PassModel, KeeperModel, IsPassOf, IsKeeperOf, OnlyNoted, HasNoted, having_read, holding, having_noted}
 use Rattle.live_doors.specs.Steps.{filled_if, filled, walk_of, watch_of}
 

@@ -1,21 +1,19 @@
 -- Each kind of step keeps the rule, and the laws that rest on it.
-use Rattle.std.proofs.Common.{◌≡◌, ◌≢◌, ℕ, suc, zero, ◌+◌, ◌-◌, ◌*◌, ◌/◌, ◌%◌, ◌<◌, ◌≤◌, ◌⊎◌, Bool, true, false, cond, eqb, List, [], ◌∷◌, ◌++◌, length, replicate, Option, Some, None, refl, sym, ap, subst, ◌∙◌, arith, get_or, set, inl, inr, ⊎_elim}
-use mathlib.Core.Logic.{dite}
+use Rattle.std.proofs.Common.{◌≡◌, ◌≢◌, ℕ, suc, zero, ◌+◌, ◌%◌, ◌<◌, ◌≤◌, ◌⊎◌, Bool, true, false, cond, eqb, List, [], ◌∷◌, ◌++◌, length, replicate, Option, Some, None, refl, sym, ap, subst, ◌∙◌, arith, get_or, set, inl, inr, ⊎_elim}
 use mathlib.Core.Option.{some, none, some-injective, some-ne-none}
-use native.Mathlib.Decide.{ℕ_discrete, dec_lt}
 use lib.ListN.{get_elem?}
 use Rattle.std.proofs.lemmas.List.{set-get_or, length-replicate, length-append, get_or-replicate, get_or_append_left, get_or-append-add, ext_get_or}
-use Rattle.std.proofs.lemmas.Bool.{eqb-true, eq-eqb, ne_eqb}
-use Rattle.atomic_table.specs.Table.{State, Me, step, keeps, stepped, opening, Allows, Splits, Joins, Final, Seen}
-use Rattle.atomic_table.proofs.Lists.{at_set, set_here, set_else}
+use Rattle.std.proofs.lemmas.Bool.{eq-eqb, ne_eqb}
+use Rattle.atomic_table.specs.Table.{State, Me, step, keeps, Allows, Splits, Joins, Final, Seen}
+use Rattle.atomic_table.proofs.Lists.{at_set}
 use Rattle.live_doors.specs.declared.rule.Size.{Size}
 use Rattle.live_doors.specs.declared.views.Walk.{Walk}
 use Rattle.live_doors.specs.declared.views.Watch.{Watch}
 use Rattle.live_doors.specs.declared.views.View.{View}
 use Rattle.live_doors.specs.declared.views.View.TheVariants.{Walking, Keeping, Spent}
-use Rattle.live_doors.specs.Doors.{HasNoted, IsShut, MayBind, blank, first_watch, having_read, holding, forgotten, acknowledged, shut, raised, having_noted}
+use Rattle.live_doors.specs.Doors.{IsShut, blank, first_watch, forgotten, acknowledged, shut, raised, having_noted}
 use Rattle.live_doors.specs.Steps.{door_at, ack_at, first_words, filled_if, filled, walk_of, watch_of, Fills, Forgets, Acknowledges, Closes, Raises, Looks, keeper_with_pass, pass_of_keeper}
-use Rattle.live_doors.specs.Kept.{PlanOk, PassOk, SeatOk, Kept, NoHolder, NotedIsClear, NeverBoundHasNoHolder, MayBindHasNoHolder}
+use Rattle.live_doors.specs.Kept.{PlanOk, PassOk, SeatOk, Kept, NotedIsClear, NeverBoundHasNoHolder, MayBindHasNoHolder}
 use Rattle.live_doors.proofs.Plain.{filled_ok, forgotten_ok, plan_acknowledged, acknowledged_ok, pass_stays, plan_shut, pass_shut, plan_raised, pass_raised, plan_noted, pass_noted, plan_admits, pass_admits, blank_ok, entry_gone, entry_never}
 
 -- after a change of one seat's view, each seat is in order, if that one is and the others were

@@ -1,4 +1,4 @@
-use Rattle.std.proofs.Common.{◌≡◌, ℕ, ◌+◌, ◌<◌, ◌≤◌, length, slice_index}
+use Rattle.std.proofs.Common.{◌≡◌, ℕ, ◌+◌, ◌<◌, length, slice_index}
 use Rattle.std.specs.Mem.Slots.{slots_items}
 use mathlib.Core.Option.{some}
 use lib.ListN.{get_elem?}

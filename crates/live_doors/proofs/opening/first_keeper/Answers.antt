@@ -1,5 +1,4 @@
-use Rattle.std.proofs.Common.{rules, ◌≡◌, ℕ, ◌+◌, ◌<◌, ◌≤◌, All, length, List, [], ◌∷◌, ◌++◌, sym, ap, refl, ◌∙◌, subst, arith}
-use Rattle.live_doors.specs.Doors.{IsPassOf, IsKeeperOf, first_passes}
+use Rattle.std.proofs.Common.{rules}
 use Rattle.live_doors.proofs.Keeps.{opens_at}
 use Rattle.live_doors.proofs.opening.first_keeper.Goals as goal
 

@@ -1,4 +1,4 @@
-use Rattle.std.proofs.Common.{◌≡◌, ℕ, ◌+◌}
+use Rattle.std.proofs.Common.{◌≡◌}
 use Rattle.live_doors.specs.Doors.{IsPassOf, IsKeeperOf}
 use Rattle.live_doors.proofs.tests.frames_that_were_never_bound_are_closed.Given as goal
 

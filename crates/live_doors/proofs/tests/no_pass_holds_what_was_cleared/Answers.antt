@@ -1,4 +1,4 @@
-use Rattle.std.proofs.Common.{rules, ◌≡◌, ℕ, ◌<◌, ◌%◌, replicate, subst, sym, ap}
+use Rattle.std.proofs.Common.{◌%◌, subst, sym, ap}
 use Rattle.std.proofs.lemmas.List.{get_or-replicate}
 use Rattle.live_doors.specs.Doors.{IsAdmitted}
 use Rattle.live_doors.proofs.tests.no_pass_holds_what_was_cleared.Goals as goal

@@ -1,5 +1,4 @@
-use Rattle.std.proofs.Common.{rules, ◌≡◌, ℕ, ◌+◌, ◌<◌, ◌≤◌, All, length, List, [], ◌∷◌, ◌++◌, sym, ap, refl, ◌∙◌, subst, arith}
-use Rattle.live_doors.specs.Doors.{IsPassOf, IsKeeperOf, first_passes}
+use Rattle.std.proofs.Common.{rules, ap, ◌∙◌}
 use Rattle.live_doors.proofs.Keeps.{ended_request, ended_doors}
 use Rattle.live_doors.proofs.Calls.{written_whole}
 use Rattle.live_doors.proofs.doors.LiveDoors.close.Goals as goal

@@ -1,4 +1,4 @@
-use Rattle.std.proofs.Common.{◌≡◌, ℕ, All, vec_len}
+use Rattle.std.proofs.Common.{◌≡◌, All, vec_len}
 use Rattle.live_doors.specs.Doors.{IsPassOf}
 use Rattle.live_doors.proofs.doors.LiveDoors.take_all_in.Given as goal
 

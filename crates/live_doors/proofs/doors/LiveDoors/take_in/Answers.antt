@@ -1,4 +1,4 @@
-use Rattle.std.proofs.Common.{rules, ◌≡◌, ℕ, List, [], sym, ap, refl, ◌∙◌, subst, arith}
+use Rattle.std.proofs.Common.{rules, ap}
 use Rattle.live_doors.proofs.Keeps.{takes_in}
 use Rattle.live_doors.proofs.doors.LiveDoors.take_in.Goals as goal
 

@@ -1,4 +1,4 @@
-use Rattle.std.proofs.Common.{rules, ◌≡◌, ℕ, subst, sym, ap, ◌∙◌, refl, arith, IsTrue, ◌↔◌}
+use Rattle.std.proofs.Common.{subst, sym, ap, ◌∙◌, IsTrue, ◌↔◌}
 use Rattle.live_doors.specs.Doors.{HoldsEntry}
 use Rattle.live_doors.proofs.Calls.{holds_entry}
 use Rattle.live_doors.proofs.pass.Pass.holds.Goals as goal
