@@ -1,0 +1,6 @@
+use Rattle.std.proofs.Common.{rules}
+use Rattle.live_doors.proofs.Keeps.{acknowledges_at}
+use Rattle.live_doors.proofs.doors.LiveDoors.acknowledge.Goals as goal
+
+pub store-requires : goal.store-requires
+store-requires c = (search rules, search rules, acknowledges_at c.self.inside.table.shared.key _ _ _ _ c.pass.inside.seat.me c.pass.invariant.0 (search rules) c.pass.invariant.3)

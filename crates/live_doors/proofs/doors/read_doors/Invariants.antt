@@ -1,0 +1,8 @@
+use Rattle.std.proofs.Common.{◌≡◌, ℕ, ◌+◌, ◌<◌, length, slice_index}
+use Rattle.std.specs.Mem.Slots.{slots_items}
+use mathlib.Core.Option.{some}
+use lib.ListN.{get_elem?}
+use Rattle.live_doors.proofs.doors.read_doors.Given as goal
+
+abbrev pub invariant-loop-f : goal.invariant-loop-f
+invariant-loop-f l = (length l.doors ≡ length l.fn.doors) × ((g : ℕ) → g < l.f → get_elem? (slots_items l.closed.words) (g + 1) ≡ some (slice_index l.doors g))

@@ -1,0 +1,25 @@
+//! Revocation on atomic words, without a lock.
+//!
+//! Processors on threads of their own hold entries of frames, each by its [`Pass`]. A [`Keeper`] closes the doors of
+//! frames, raises a stamp, and asks whether every processor has forgotten its entries since. What TLB shootdown does
+//! by an interrupt and a wait is done here by words that each side only reads and stores, so no call waits.
+#![tactic(auto)]
+
+mod doors;
+mod errors;
+mod keeper;
+mod laws;
+mod opening;
+mod pass;
+mod rule;
+#[cfg(test)]
+mod tests;
+mod views;
+
+pub use doors::{Ended, LiveDoors};
+pub use errors::{Behind, Closed, NoMemory};
+pub use keeper::Keeper;
+pub use laws::{may_bind_has_no_holder, never_bound_has_no_holder, noted_is_clear};
+pub use pass::Pass;
+pub use rule::{Revocation, Size};
+pub use views::{View, Walk, Watch};
