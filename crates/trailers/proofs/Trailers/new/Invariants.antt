@@ -1,0 +1,8 @@
+use Rattle.std.proofs.Common.{◌≡◌, ◌≤◌, [], replicate}
+use Rattle.trailers.proofs.Trailers.new.Given as goal
+
+abbrev pub invariant-loop-entry : goal.invariant-loop-entry
+invariant-loop-entry l = record {
+  filled : l.places.items ≡ replicate l._entry [];
+  within : l._entry ≤ l.fn.entries;
+}
