@@ -1,0 +1,14 @@
+-- The text of a reply (own).
+use Rattle.std.specs.Prelude.{ℕ, List, ◌++◌, codes}
+use Rattle.std.specs.Fmt.{decimal}
+use Rattle.mword.specs.Octal.{octal_digits}
+use Rattle.book.specs.declared.replies.Reply.{Reply}
+use Rattle.book.specs.declared.replies.Reply.TheVariants as reply
+
+unfoldable pub reply_text : Reply → List ℕ
+reply_text reply.Unknown = codes "unknown"
+reply_text reply.Length = codes "length"
+reply_text (reply.Word w) = codes "word " ++ octal_digits 12 w
+reply_text reply.Done = codes "done"
+reply_text (reply.Made u) = codes "made " ++ decimal u
+reply_text (reply.Known n) = codes "known " ++ decimal n

@@ -1,0 +1,18 @@
+use crate::replies::Reply;
+
+/// An event of a run.
+#[derive(Clone, Copy, Debug, PartialEq, Eq)]
+pub enum Entry {
+    /// A command of a process was answered: the process, the command's place among its commands, the
+    /// processor, the frame through which a word was reached (none where it was reached without
+    /// one), and the reply.
+    Do {
+        process: u32,
+        place: u32,
+        cpu: u32,
+        frame: Option<u32>,
+        reply: Reply,
+    },
+    /// A page that was all zeros is stored no more: its record was given back.
+    Release { uid: u32, page: u32 },
+}

@@ -1,0 +1,103 @@
+ghost use Rattle.std.specs.Prelude.{◌≡◌, ◌+◌, ◌<◌, ◌≤◌, [], ◌∷◌, ◌++◌, length, IfOk, OnOk, ◌==◌, slice_get, Some};
+
+use crate::entries::Entry;
+use script::Script;
+use std::alloc::Global;
+use std::marker::Model;
+
+/// There wasn't enough memory.
+#[derive(Clone, Copy, Debug, PartialEq, Eq)]
+pub struct NoMemory;
+
+/// All that happened in the run of a script, in order. A contract sees the script, the list of
+/// entries, and how many more there is room for without more memory.
+#[derive(Drop)]
+pub struct Book {
+    script: Script,
+    entries: Vec<Entry>,
+}
+
+impl Model for Book {
+    ghost use Rattle.std.specs.Prelude.{◌-◌, vec_len, vec_capacity};
+    ghost use Rattle.book.specs.Books.{Ledger};
+
+    ghost Value = { Ledger };
+
+    ghost view = { λ b. record {
+      script = b.script;
+      entries = b.entries.items;
+      spare = vec_capacity b.entries - vec_len b.entries;
+    } };
+}
+
+impl Book {
+    /// The empty book of a script.
+    pub fn new(alloc: Global, script: Script) -> Result<Book, NoMemory>
+        ensures script { IfOk result (λ b. b.script ≡ script) }
+        ensures empty { IfOk result (λ b. b.entries ≡ []) }
+    {
+        Ok(Book {
+            script,
+            entries: Vec::new(alloc),
+        })
+    }
+
+    /// Makes room for `n` more entries. A refusal changes nothing but that there may be more room.
+    pub fn reserve(&mut self, n: u32) -> Result<(), NoMemory>
+        ensures room { OnOk result (n ≤ self.new.spare) }
+        ensures script { self.new.script ≡ self.old.script }
+        ensures entries { self.new.entries ≡ self.old.entries }
+    {
+        match self.entries.reserve(n as usize) {
+            Ok(()) => Ok(()),
+            Err(_) => Err(NoMemory),
+        }
+    }
+
+    /// Appends an entry, for which there must be room. It takes no memory.
+    pub fn push(&mut self, e: Entry)
+        requires { 0 < self.old.spare }
+        ensures entries { self.new.entries ≡ self.old.entries ++ e ∷ [] }
+        ensures room { self.new.spare + 1 ≡ self.old.spare }
+        ensures script { self.new.script ≡ self.old.script }
+    {
+        let _named: Option<crate::replies::Reply> = None;
+        self.entries.push_reserved(e);
+    }
+
+    /// How many entries there are.
+    pub fn len(&self) -> usize
+        ensures { result ≡ length self.now.entries }
+    {
+        self.entries.len()
+    }
+
+    /// Whether there is none.
+    pub fn is_empty(&self) -> bool
+        ensures { result ≡ (length self.now.entries == 0) }
+    {
+        self.entries.is_empty()
+    }
+
+    /// The entry at place `i`, counted from 0.
+    pub fn at(&self, i: usize) -> Entry
+        requires { i < length self.now.entries }
+        ensures { slice_get self.now.entries i ≡ Some result }
+    {
+        self.entries[i]
+    }
+
+    /// The entries, in order.
+    pub fn entries(&self) -> &[Entry]
+        ensures { result.now ≡ self.now.entries }
+    {
+        &self.entries
+    }
+
+    /// The script of the run.
+    pub fn script(&self) -> &Script
+        ensures { result.now ≡ self.now.script }
+    {
+        &self.script
+    }
+}

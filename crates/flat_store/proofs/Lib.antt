@@ -1,0 +1,3 @@
+pub mod BookLaws
+pub mod PageLaws
+pub mod WordLaws

@@ -1,0 +1,4 @@
+pub mod Flat
+pub mod Legal
+pub mod Pages
+pub mod Words

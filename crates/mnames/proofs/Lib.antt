@@ -1,0 +1,2 @@
+mod NamesText
+mod ShortTexts

@@ -1,0 +1,11 @@
+use Rattle.mnames.specs.Names.{is_name, IsName}
+use Rattle.std.proofs.Common.{refl, subst, sym, ℕ, List, ap, ◌≡◌, true}
+use Rattle.std.specs.Prelude.{codes}
+use Rattle.mnames.proofs.names.NameDefault.default.Goals as goal
+
+root_is_name : is_name (codes "root") ≡ true
+unfolding is_name
+root_is_name = refl
+
+pub invariant_of-result : goal.invariant_of-result
+invariant_of-result c = rw (c.short_text.ensures) root_is_name

@@ -1,0 +1,109 @@
+ghost use Rattle.std.specs.Prelude.{◌≡◌, Some, None, if◌then◌else◌, nat_eq, codes};
+ghost use Rattle.std.specs.List.{list_all};
+ghost use Rattle.std.specs.Cmp.Lexicographic.{pointwise, nat_list_eq_equiv};
+ghost use Rattle.std.specs.Cmp.{partial_equiv_from_equiv};
+ghost use Rattle.mnames.specs.Names.{is_name, is_name_byte, IsName};
+
+use crate::texts::{NAME_BYTES, short_text};
+use arrayvec::ArrayString;
+use std::fmt;
+use std::marker::Model;
+
+/// An entry name of the directory tree: 1 to 32 ASCII letters, digits, `_`, `.` and `-`, where case
+/// counts. A contract sees its bytes.
+#[derive(Drop)]
+pub struct Name {
+    text: ArrayString<NAME_BYTES>,
+}
+
+impl Model for Name {
+    ghost use Rattle.std.specs.Prelude.{List, ℕ};
+    ghost use Rattle.mnames.specs.Names.{IsName};
+
+    ghost Value = { List ℕ };
+
+    ghost view = { λ n. n.text.bytes };
+
+    ghost invariant = { λ n. IsName n.text.bytes };
+}
+
+/// Whether a byte may stand in a name.
+fn may_stand(byte: u8) -> bool
+    ensures { result ≡ is_name_byte byte }
+{
+    byte.is_ascii_alphanumeric() || byte == b'_' || byte == b'.' || byte == b'-'
+}
+
+/// Whether each byte may.
+fn all_may_stand(text: &[u8]) -> bool
+    ensures { result ≡ list_all is_name_byte text.now }
+{
+    text.iter().all(|byte| may_stand(*byte))
+}
+
+/// Whether the text is a name.
+#[tactic(auto, using(crate::proofs::ShortTexts::name_tested, crate::proofs::ShortTexts::name_wrong_length, std::proofs::lemmas::Grind::common_steps))]
+fn is_name(text: &[u8]) -> bool
+    ensures { result ≡ is_name text.now }
+{
+    match text.len() {
+        1..=NAME_BYTES => all_may_stand(text),
+        _ => false,
+    }
+}
+
+/// The name that the text is. None exactly where it isn't one.
+#[tactic(auto, using(crate::proofs::ShortTexts::name_is_ascii, crate::proofs::ShortTexts::name_is_short, std::proofs::lemmas::Grind::common_steps))]
+pub fn read_name(text: &[u8]) -> Option<Name>
+    ensures { result ≡ (if is_name text.now then Some text.now else None) }
+{
+    if !is_name(text) {
+        return None;
+    }
+    Some(Name {
+        text: short_text(text),
+    })
+}
+
+impl Name {
+    /// The text of the name.
+    pub fn as_str(&self) -> &str
+        ensures text { result.now ≡ self.now }
+        ensures name { IsName self.now }
+    {
+        self.text.as_str()
+    }
+}
+
+impl PartialEq for Name {
+    ghost eq = { pointwise nat_eq };
+
+    ghost laws = { partial_equiv_from_equiv nat_list_eq_equiv };
+
+    fn eq(&self, other: &Self) -> bool {
+        self.text == other.text
+    }
+}
+
+impl Eq for Name {
+    ghost laws = { nat_list_eq_equiv };
+}
+
+/// The name that the root bears, `root`.
+impl Default for Name {
+    ghost is_default = { λ n. n ≡ codes "root" };
+
+    fn default() -> Self {
+        Name {
+            text: short_text(b"root"),
+        }
+    }
+}
+
+impl fmt::Display for Name {
+    ghost output = { λ n. Some n };
+
+    fn fmt<W: fmt::Write>(&self, f: &mut fmt::Formatter<W>) -> fmt::Result {
+        write!(f, "{}", self.text)
+    }
+}

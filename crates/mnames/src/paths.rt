@@ -1,0 +1,60 @@
+ghost use Rattle.std.specs.Prelude.{◌≡◌, ◌≤◌, [], ◌∷◌, length, Some};
+ghost use Rattle.mnames.specs.Names.{path_text};
+
+use crate::names::Name;
+use arrayvec::ArrayVec;
+use std::fmt;
+use std::marker::Model;
+
+/// The most names of a path: eight directories and a segment (own).
+pub const PATH_NAMES: usize = 9;
+
+/// A path from the root of the directory tree down: 0 to 9 entry names, none for the root itself. A
+/// contract sees the list of its names.
+#[derive(Drop)]
+pub struct Path {
+    names: ArrayVec<Name, PATH_NAMES>,
+}
+
+impl Model for Path {
+    ghost use Rattle.std.specs.Prelude.{List, ℕ};
+
+    ghost Value = { List (List ℕ) };
+
+    ghost view = { λ p. p.names.items };
+}
+
+impl Path {
+    /// The path of a branch of the root.
+    pub fn below_root(name: Name) -> Path
+        ensures { result ≡ name ∷ [] }
+    {
+        let mut names = ArrayVec::new();
+        names.push(name);
+        Path { names }
+    }
+
+    /// The names, from the root down.
+    pub fn names(&self) -> &[Name]
+        ensures names { result.now ≡ self.now }
+        ensures most { length self.now ≤ PATH_NAMES }
+    {
+        self.names.as_slice()
+    }
+}
+
+/// Each name with `>` before it; the root is `>` alone.
+impl fmt::Display for Path {
+    ghost output = { λ p. Some (path_text p) };
+
+    fn fmt<W: fmt::Write>(&self, f: &mut fmt::Formatter<W>) -> fmt::Result {
+        let names = self.names.as_slice();
+        if names.is_empty() {
+            return write!(f, ">");
+        }
+        for name in names {
+            write!(f, ">{name}")?;
+        }
+        Ok(())
+    }
+}

@@ -1,0 +1,2 @@
+pub mod OctalLaws
+mod ZeroLanes

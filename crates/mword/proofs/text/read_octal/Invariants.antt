@@ -1,0 +1,11 @@
+use Rattle.std.proofs.Common.{◌≡◌, ◌<◌, ◌^◌, true, take}
+use Rattle.std.specs.List.{list_all}
+use Rattle.mword.specs.Octal.{octal_number, is_octal_digit}
+use Rattle.mword.proofs.text.read_octal.Given as goal
+
+abbrev pub invariant-loop-byte : goal.invariant-loop-byte
+invariant-loop-byte l = record {
+  digits : list_all is_octal_digit (take l.byte-index l.text) ≡ true;
+  number : l.value ≡ octal_number (take l.byte-index l.text);
+  bound : l.value < 8 ^ l.byte-index;
+}

@@ -1,0 +1,19 @@
+//! Words of 36 bits and pages of 1024 of them, and the octal text of a word.
+//!
+//! Multics ran on a machine with words of 36 bits and pages of 1024 words (Bensoussan, Clingen and
+//! Daley 1972). Arithmetic on words is modulo 2^36.
+#![tactic(auto)]
+
+mod page;
+#[cfg(test)]
+mod tests;
+mod text;
+mod word;
+
+pub use page::Page;
+pub use text::{octal, read_octal};
+pub use word::Word;
+
+/// There was not enough memory for a call that takes some.
+#[derive(Clone, Copy, Debug, PartialEq, Eq)]
+pub struct NoMemory;

@@ -1,0 +1,4 @@
+mod LineLaws
+mod NumberLaws
+mod ReferenceLaws
+mod TailLaws

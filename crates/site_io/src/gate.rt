@@ -1,0 +1,26 @@
+use std::sync::Wait;
+use std::thread::Threads;
+
+/// Where a processor stands when a gate is called.
+#[derive(Clone, Copy, Debug, PartialEq, Eq)]
+pub enum Point {
+    /// Between two steps of which nothing else is told.
+    Other,
+}
+
+/// A place that each processor passes between two steps, with no lock held.
+///
+/// A test holds processors there to bring about a certain order. It promises nothing, not even to
+/// return.
+pub trait Gate {
+    /// Called by processor `cpu` at this point.
+    fn hold<R: Threads + Wait + Sync>(&self, rt: &R, cpu: u32, point: Point);
+}
+
+/// A gate that lets each processor pass at once.
+#[derive(Clone, Copy, Debug, PartialEq, Eq)]
+pub struct NoGate;
+
+impl Gate for NoGate {
+    fn hold<R: Threads + Wait + Sync>(&self, _rt: &R, _cpu: u32, _point: Point) {}
+}

@@ -1,0 +1,23 @@
+//! Sources of bytes and sinks for them: over memory, and over standard input and output; and the
+//! gate that a program calls between two steps.
+//!
+//! Each source and sink has a count of its faults, and a call fails only where that count rose.
+#![tactic(auto)]
+
+mod gate;
+mod memory;
+mod standard;
+mod stream;
+#[cfg(test)]
+mod tests;
+mod whole;
+
+pub use gate::{Gate, NoGate, Point};
+pub use memory::{MemorySink, MemorySource};
+pub use standard::{StdSink, StdSource};
+pub use stream::{Failed, Sink, Source};
+pub use whole::{Unread, read_all, write_all};
+
+/// There was not enough memory for a call that takes some.
+#[derive(Clone, Copy, Debug, PartialEq, Eq)]
+pub struct NoMemory;
