@@ -5,7 +5,7 @@
 ghost use Rattle.std.specs.Prelude.{◌≡◌, ◌<◌, ◌≤◌, ◌↔◌, ℕ, Some, None, length, replicate, IsTrue, IsNone, IsSome, IfOk, IfSome, IfNone};
 ghost use Rattle.known_segs.specs.Known.{uid_of, number_of, least_free, number_for, with_number, without_number, known_count, IsUnknown, HasOneNumberEach};
 
-use std::alloc::Global;
+use std::alloc::{AllocError, Global};
 use std::marker::Model;
 
 /// The number of segment numbers that a process has.
@@ -15,12 +15,18 @@ pub const NUMBERS: usize = 256;
 #[derive(Clone, Copy, Debug, PartialEq, Eq)]
 pub struct NoMemory;
 
+impl From<AllocError> for NoMemory {
+    fn from(_: AllocError) -> Self {
+        NoMemory
+    }
+}
+
 /// The segments that are known to a process, each under one segment number from 0 to 255 (Bensoussan, Clingen and
 /// Daley 1972).
 ///
 /// Contracts see it as the list of what the 256 numbers stand for: a finite map from numbers to uids. No uid has two
 /// numbers.
-#[derive(Drop)]
+#[derive(Debug, Drop)]
 pub struct Kst {
     places: Vec<Option<u32>>,
 }
@@ -57,13 +63,9 @@ impl Kst {
     pub fn new(alloc: Global) -> Result<Kst, NoMemory>
         ensures { IfOk result (λ kst. kst ≡ replicate 256 None) }
     {
-        let Ok(mut places) = Vec::with_capacity(alloc, NUMBERS) else {
-            return Err(NoMemory);
-        };
+        let mut places = Vec::with_capacity(alloc, NUMBERS)?;
         for _number in 0..NUMBERS {
-            if places.push(None).is_err() {
-                return Err(NoMemory);
-            }
+            places.push_reserved(None);
         }
         Ok(Kst { places })
     }

@@ -16,7 +16,7 @@ pub struct NoMemory;
 ///
 /// Contracts see it as the list of process numbers, the front first, and the number of processes for which there is
 /// room. The room is taken once, so no later call takes memory.
-#[derive(Drop)]
+#[derive(Debug, Drop)]
 pub struct Ready {
     queue: HeapCircularBuffer<u32>,
 }

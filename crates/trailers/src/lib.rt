@@ -6,7 +6,7 @@ ghost use Rattle.std.specs.Prelude.{◌≡◌, ◌<◌, ◌≤◌, ◌++◌, ◌
 ghost use Rattle.trailers.specs.Trailer.{trailers_of, place_in, without_trailer, connected, cut_off};
 
 use arrayvec::ArrayVec;
-use std::alloc::Global;
+use std::alloc::{AllocError, Global};
 use std::marker::Model;
 
 /// The most descriptors that one segment has at a time: one for each process.
@@ -16,8 +16,14 @@ pub const MOST: usize = 32;
 #[derive(Clone, Copy, Debug, PartialEq, Eq)]
 pub struct NoMemory;
 
+impl From<AllocError> for NoMemory {
+    fn from(_: AllocError) -> Self {
+        NoMemory
+    }
+}
+
 /// The descriptors that use one page table, in the order in which they were connected.
-#[derive(Drop)]
+#[derive(Debug, Drop)]
 struct Connections {
     trailers: ArrayVec<(u32, u32), 32>,
 }
@@ -86,7 +92,7 @@ fn place_of(trailers: &[(u32, u32)], process: u32, number: u32) -> Option<usize>
 ///
 /// Contracts see, for each place of the active segment table, the list of the descriptors that use its page table,
 /// each as a process and a segment number, in the order in which they were connected.
-#[derive(Drop)]
+#[derive(Debug, Drop)]
 pub struct Trailers {
     places: Vec<Connections>,
 }
@@ -106,13 +112,9 @@ impl Trailers {
     pub fn new(alloc: Global, entries: u32) -> Result<Trailers, NoMemory>
         ensures { IfOk result (λ trailers. trailers ≡ replicate entries []) }
     {
-        let Ok(mut places) = Vec::with_capacity(alloc, entries as usize) else {
-            return Err(NoMemory);
-        };
+        let mut places = Vec::with_capacity(alloc, entries as usize)?;
         for _entry in 0..entries {
-            if places.push(Connections::new()).is_err() {
-                return Err(NoMemory);
-            }
+            places.push_reserved(Connections::new());
         }
         Ok(Trailers { places })
     }
