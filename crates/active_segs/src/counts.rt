@@ -1,6 +1,6 @@
 //! The counts of active inferiors.
 
-ghost use Rattle.std.specs.Prelude.{◌≡◌, ◌≢◌, ◌<◌, ◌≤◌, ℕ, None, Some, length, position, IfSome, IfNone, slice_index};
+ghost use Rattle.std.specs.Prelude.{◌≡◌, ◌<◌, ◌≤◌, length, position, IfSome, IfNone, slice_index};
 ghost use Rattle.active_segs.specs.Active.{HasNoInferior};
 ghost use Rattle.active_segs.specs.Kept.{counted_up, counted_down, is_inferior_of, place_of_superior, IsCounted};
 ghost use Rattle.active_segs.specs.Victim.{IsLeastInferior};

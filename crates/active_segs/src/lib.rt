@@ -12,7 +12,7 @@
 //! one count, and only where it isn't 0 do they go over the table for the least inferior. All others cost one look.
 #![tactic(auto)]
 
-ghost use Rattle.std.specs.Prelude.{◌≡◌, ◌≢◌, ◌<◌, ◌≤◌, ◌↔◌, ℕ, List, [], Some, None, length, sum, All, IsNone, IfOk, IfSome};
+ghost use Rattle.std.specs.Prelude.{◌≡◌, ◌≢◌, ◌<◌, ◌≤◌, ◌↔◌, ℕ, Some, None, length, sum, All, IsNone, IfOk, IfSome};
 ghost use Rattle.std.specs.Option.{ForSome};
 ghost use Rattle.std.specs.Borrow.{sem};
 ghost use Rattle.active_segs.specs.Active.{entry_at, uid_at, table_at, no_segments, activated, deactivated, HasShape, IsActive, HasNoInferior, IsAway, IsTree, IsLeastFree, IsFull};

@@ -1,11 +1,11 @@
 //! The places of the four pools, and the maps of which are used.
 
-ghost use Rattle.std.specs.Prelude.{◌≡◌, ◌<◌, ◌≤◌, ◌+◌, List, Bool, true, false, length, sum, slice_get, slice_index, slice_set, vec_len, vec_capacity, map, replicate, None, IfOk, OnOk, ◌++◌, []};
+ghost use Rattle.std.specs.Prelude.{◌≡◌, ◌<◌, ◌≤◌, ◌+◌, true, false, length, sum, vec_len, vec_capacity, map, replicate, None, IfOk, OnOk, ◌++◌};
 ghost use Rattle.page_table.specs.declared.Ptw.TheVariants.{Null};
 ghost use Rattle.active_segs.specs.Active.{null_tables};
 ghost use Rattle.bitmap.specs.Bitmap.{in_use};
 ghost use Rattle.active_segs.specs.Kept.{map_of, map_set};
-ghost use Rattle.active_segs.specs.Pool.{first_of, size_of, IsPlaced};
+ghost use Rattle.active_segs.specs.Pool.{first_of, IsPlaced};
 
 use crate::{Entry, NoMemory};
 use bitmap::Bitmap;

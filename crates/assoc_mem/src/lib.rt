@@ -5,7 +5,7 @@
 //! of one kind until one fits. A fill into a full kind moves its entries down by one. `clear` copies what stays.
 #![tactic(auto)]
 
-ghost use Rattle.std.specs.Prelude.{◌≡◌, ◌≢◌, ◌<◌, ◌≤◌, ◌↔◌, None, Some, All, IsNone, IfSome, filter, not, length};
+ghost use Rattle.std.specs.Prelude.{◌≡◌, ◌≢◌, ◌↔◌, None, All, IsNone, filter, not};
 ghost use Rattle.std.specs.List.{find};
 ghost use Rattle.std.specs.Option.{option_map};
 ghost use Rattle.assoc_mem.specs.Held.{nothing_held, is_number, is_page, seg_of, page_of, frame_of, filled, cleared, names_seg, names_page};

@@ -2,7 +2,7 @@
 //! stand for.
 #![tactic(auto)]
 
-ghost use Rattle.std.specs.Prelude.{◌≡◌, ◌<◌, ◌≤◌, ◌↔◌, ℕ, Some, None, length, replicate, IsTrue, IsNone, IsSome, IfOk, IfSome, IfNone};
+ghost use Rattle.std.specs.Prelude.{◌≡◌, ◌<◌, ◌↔◌, ℕ, Some, None, length, replicate, IsTrue, IsNone, IsSome, IfOk, IfSome};
 ghost use Rattle.known_segs.specs.Known.{uid_of, number_of, least_free, number_for, with_number, without_number, known_count, IsUnknown, HasOneNumberEach};
 
 use std::alloc::{AllocError, Global};

@@ -1,7 +1,7 @@
 //! The traffic controller's ready list: the processes that want a processor, first come, first served.
 #![tactic(auto)]
 
-ghost use Rattle.std.specs.Prelude.{◌≡◌, ◌<◌, ◌↔◌, [], ◌∷◌, length, IsTrue, IsNone, IfOk, IfSome, IfNone};
+ghost use Rattle.std.specs.Prelude.{◌≡◌, ◌<◌, ◌↔◌, [], ◌∷◌, length, IsTrue, IsNone, IfOk, IfSome};
 ghost use Rattle.traffic.specs.Queue.{empty_queue, with_last, without_front};
 
 use circular_buffer::HeapCircularBuffer;
@@ -23,7 +23,6 @@ pub struct Ready {
 
 impl Model for Ready {
     ghost use Rattle.traffic.specs.Queue.{Queue};
-    ghost use Rattle.std.specs.Prelude.{length, ◌≤◌};
 
     ghost Value = { Queue };
 
