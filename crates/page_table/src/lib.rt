@@ -78,6 +78,15 @@ impl PageTable {
     {
         self.words[p as usize] = w;
     }
+
+    /// Makes each word `Null`. It costs a write for each word. (Source: own.)
+    pub fn clear(&mut self)
+        ensures { self.new ≡ replicate (length self.old) Null }
+    {
+        for word in self.words.iter_mut() {
+            *word = Ptw::Null;
+        }
+    }
 }
 
 #[cfg(test)]
@@ -95,6 +104,8 @@ mod tests {
         assert_eq!(rt; table.get(0), Ptw::Out(7));
         assert_eq!(rt; table.get(1), Ptw::Leaving(5));
         assert_eq!(rt; table.get(2), Ptw::Here(4));
+        table.clear();
+        assert_eq!(rt; table.get(1), Ptw::Null);
         Ok(())
     }
 }
