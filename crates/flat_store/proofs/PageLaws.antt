@@ -1,12 +1,7 @@
 -- Laws of the stored pages.
 use Rattle.std.proofs.Common.{◌≡◌, ℕ, ◌+◌, Bool, true, false, not, cond, eqb, ◌&&◌, ◌||◌, List, [], ◌∷◌, length, refl, sym, ap, ◌∙◌, arith, filter}
 use Rattle.std.proofs.lemmas.Bool.Decides.{nat_tests}
-use Rattle.flat_store.specs.Pages.{is_page, is_stored, with_stored, without_stored}
-
--- each page is listed once
-abbrev pub IsOnce : List (ℕ × ℕ) → Type 0
-IsOnce [] = Unit {0}
-IsOnce (x ∷ xs) = (is_stored xs x.0 x.1 ≡ false) × IsOnce xs
+use Rattle.flat_store.specs.Pages.{is_page, is_stored, with_stored, without_stored, IsOnce}
 
 pub is_stored-with : (xs : List (ℕ × ℕ)) (u p v q : ℕ) → is_stored (with_stored xs u p) v q ≡ (is_page v q (u, p) || is_stored xs v q)
 unfolding with_stored

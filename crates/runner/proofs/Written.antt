@@ -12,11 +12,11 @@ use Rattle.book.specs.declared.entries.Entry.{Entry}
 use Rattle.book.specs.declared.replies.Reply.TheVariants as reply
 use Rattle.storage_terms.specs.Tree.{Node}
 use Rattle.flat_store.specs.Words.{word_at, with_word}
-use Rattle.flat_store.specs.Pages.{is_stored, with_stored}
+use Rattle.flat_store.specs.Pages.{is_stored, with_stored, IsOnce}
 use Rattle.flat_store.specs.Flat.{Store, moved_on, segment_of, stored_by, written_in, after_command}
 use Rattle.flat_store.specs.Legal.{IsAnswer, after_do, store_after}
 use Rattle.flat_store.proofs.BookLaws.{legal_push}
-use Rattle.flat_store.proofs.PageLaws.{IsOnce, is_stored-with, once_with, length-with_new, length-with_old}
+use Rattle.flat_store.proofs.PageLaws.{is_stored-with, once_with, length-with_new, length-with_old}
 use Rattle.flat_store.proofs.WordLaws.{word_at-with}
 use Rattle.runner.specs.Machines.{IsPicture, Holds, IsAt, done_at, marked_by, pages_with, IsReached}
 use Rattle.runner.proofs.Answered.{lawful_at, store_done, at_moved, picture_moved, segment_known, write_is}

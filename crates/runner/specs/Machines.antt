@@ -7,10 +7,9 @@ use Rattle.book.specs.declared.entries.Entry.TheVariants as entry
 use Rattle.book.specs.declared.replies.Reply.{Reply}
 use Rattle.storage_terms.specs.Tree.{Node}
 use Rattle.flat_store.specs.Words.{word_at}
-use Rattle.flat_store.specs.Pages.{is_stored}
+use Rattle.flat_store.specs.Pages.{is_stored, IsOnce}
 use Rattle.flat_store.specs.Flat.{Store, Knows, root_of, owner_row, moved_on, read_reply, write_reply, takes_effect}
 use Rattle.flat_store.specs.Legal.{IsLegal, IsComplete, IsZeroPage, IsAnswer, store_after, after_do}
-use Rattle.flat_store.proofs.PageLaws.{IsOnce}
 
 abbrev pub first_name : List (List ℕ) → List ℕ
 first_name [] = []
