@@ -1,4 +1,4 @@
-/// Why a line of a script is refused. The causes come in this order where several hold.
+/// Why a line of a script is refused (own). The causes come in this order where several hold.
 #[derive(Clone, Copy, Debug, PartialEq, Eq)]
 pub enum Cause {
     /// A byte of the line is no printable ASCII character.
@@ -23,9 +23,11 @@ pub enum Cause {
     Missing,
 }
 
-/// The first line of a script that is refused, counted from 1, and why.
+/// The first line of a script that is refused.
 #[derive(Clone, Copy, Debug, PartialEq, Eq)]
 pub struct Refusal {
+    /// The line's number, counted from 1.
     pub line: u32,
+    /// Why.
     pub cause: Cause,
 }
