@@ -1,5 +1,4 @@
-use Rattle.std.proofs.Common.{◌≡◌, ◌+◌, length, map, replicate, false, None, vec_len}
-use Rattle.volumes.specs.declared.Part.{Part}
+use Rattle.std.proofs.Common.{◌≡◌, ◌+◌, length, map, replicate, false, None}
 use Rattle.volumes.proofs.volumes.Volumes.new.Given as goal
 
 abbrev pub invariant-loop-part : goal.invariant-loop-part

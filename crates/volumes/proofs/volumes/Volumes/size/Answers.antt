@@ -1,5 +1,5 @@
-use Rattle.std.proofs.Common.{◌∙◌, ◌<◌, ap, arith, length, get_or, []}
-use Rattle.volumes.specs.Volumes.{Vols, records_at}
+use Rattle.std.proofs.Common.{◌∙◌, ◌<◌, ap, arith, length}
+use Rattle.volumes.specs.Volumes.{Vols}
 use Rattle.volumes.proofs.Parts.{size_of_records}
 use Rattle.volumes.proofs.volumes.Volumes.size.Goals as goal
 
