@@ -1,0 +1,23 @@
+//! Pages behind doors, without a lock.
+//!
+//! The doors of [`live_doors`], and behind each the page of a frame. A touch reads or writes a word of the page of an
+//! entry that its pass holds, and a bind gives a frame a new page once no pass holds an entry of it. Each page is in
+//! its slot or with whoever has the frame's turn, which is taken by one compare and exchange and never waited for.
+#![tactic(auto)]
+
+mod errors;
+mod laws;
+//mod keeper;
+//mod pages;
+//mod pass;
+mod rule;
+mod touch;
+mod views;
+
+pub use errors::{Behind, Busy, Closed, NoMemory};
+//pub use keeper::Keeper;
+//pub use pages::LivePages;
+//pub use pass::Pass;
+pub use rule::{Frames, Held, Size};
+pub use touch::{Bound, Made, Touch, Touched};
+pub use views::{Hand, Holder, Part, View, Walker};

@@ -1,0 +1,39 @@
+//! Touches of pages.
+use mword::Word;
+
+/// What a touch does with the word at a place of a page.
+#[derive(Clone, Copy, Debug, PartialEq, Eq)]
+pub enum Touch {
+    /// Answers the word.
+    Get(u32),
+    /// Sets the word, and answers it.
+    Put(u32, Word),
+    /// Sets the sum modulo 2^36, and answers it.
+    Add(u32, Word),
+}
+
+/// What a touch was answered.
+#[derive(Clone, Copy, Debug, PartialEq, Eq)]
+pub struct Touched {
+    /// The number of the touch among all touches.
+    pub ticket: u64,
+    pub word: Word,
+}
+
+/// A touch that was made. No value of it is made: it stands in contracts and proofs alone.
+pub struct Made {
+    pub ticket: u64,
+    pub cpu: u32,
+    pub frame: u32,
+    pub binding: u64,
+    pub touch: Touch,
+    pub word: u64,
+}
+
+/// A binding that has ended. No value of it is made.
+pub struct Bound {
+    pub frame: u32,
+    pub binding: u64,
+    /// The page that was handed out at its end.
+    pub left: [u64; 0],
+}
