@@ -130,6 +130,13 @@ module _ (frames cpus : ℕ) (words : List ℕ) where
         let away : holder g ≢ id = λ here. apart old.1 (sym (ap hand_of (M.some-injective _ _ (sym old.2 ∙ ap (get_elem? views) here ∙ at))) ∙ old.3) in
         (old.0, old.1, ap (get_elem? (set views id v')) (same other) ∙ set_else views id (holder g) v' away ∙ old.2, old.3)
 
+abbrev with_hand : Hand → Holder → Holder
+with_hand hand k = record k { hand = hand }
+
+abbrev pub tail_of : List (ℕ × Option Held) → List (ℕ × Option Held)
+tail_of [] = []
+tail_of (y ∷ ys) = ys
+
 -- with one word stored: the tuple that a step owes
 abbrev Owed : Size → State (Option Held) View → ℕ → List (ℕ × Option Held) → ℕ → ℕ → (ℕ → Me (Option Held) View → Type 0) → Type 0
 Owed z s id cs i x then =
@@ -212,3 +219,124 @@ module _ (z : Size) where
                 (pass_stepped z s.words s.words s.homes s.views id w (having_read n) h at free refl (refl, λ i _. refl) (λ _. h.book_ok.plan_ok) (λ ok. read_ok z.frames z.cpus s.words h.plan.watch w.walk n ok) (λ q _ ok. ok)),
             λ g e. ((λ zero. absurd (miss zero)), λ _. refl),
           ))
+
+  -- The turn of a seat is given back, and the page with it.
+  given_back_kept : (s : State (Option Held) View) (h : Kept z s.words s.homes s.views) (id f : ℕ) (hd : Held) (v v' : View) (plan : Holder) → get_elem? s.views id ≡ M.some v → hand_of v ≡ Has f hd.page → f < z.frames → f < length s.homes
+      → hd.page ≡ after h.given f (current h.plan.watch f) h.log → (hand : Hand) → plan ≡ record h.plan { hand = hand }
+      → SeatOk z.frames z.cpus (set s.words (turn_at z.frames z.cpus f) 0) plan h.keeper h.seat_of h.holder h.given h.log id v'
+      → ((j : ℕ) (u : View) → j ≢ id → SeatOk z.frames z.cpus s.words h.plan h.keeper h.seat_of h.holder h.given h.log j u
+          → SeatOk z.frames z.cpus (set s.words (turn_at z.frames z.cpus f) 0) plan h.keeper h.seat_of h.holder h.given h.log j u)
+      → Kept z (set s.words (turn_at z.frames z.cpus f) 0) (set s.homes f (M.some (Some hd))) (set s.views id v')
+  given_back_kept s h id f hd v v' plan at has inside slot page hand plan_is own others = record {
+      plan = plan;
+      keeper = h.keeper;
+      seat_of = h.seat_of;
+      holder = h.holder;
+      given = h.given;
+      log = h.log;
+      book_ok = subst (λ p. BookOk z.frames z.cpus (set s.words (turn_at z.frames z.cpus f) 0) p h.given h.log) (sym plan_is) (book_turned z.frames z.cpus s.words f 0 inside h.plan h.given h.log hand h.book_ok);
+      slots_ok = λ g within free. dite (ℕ_discrete g f)
+          (λ (same : g ≡ f).
+              (hd, ap (get_elem? (set s.homes f (M.some (Some hd)))) same ∙ set_here s.homes f (M.some (Some hd)) slot, page ∙ ap (λ p. after h.given f (current p.watch f) h.log) (sym plan_is) ∙ ap (λ k. after h.given k (current plan.watch k) h.log) (sym same)))
+          (λ (other : g ≢ f).
+              let old = h.slots_ok g within (sym (turn_else z.frames z.cpus s.words f 0 inside g other) ∙ free) in
+              (old.0, set_else s.homes f g (M.some (Some hd)) other ∙ old.1, old.2 ∙ ap (λ p. after h.given g (current p.watch g) h.log) (sym plan_is)));
+      turns_ok = λ g within busy. dite (ℕ_discrete g f)
+          (λ (same : g ≡ f). absurd (busy (ap (λ k. get_or (set s.words (turn_at z.frames z.cpus f) 0) (turn_at z.frames z.cpus k) 0) same ∙ turn_here z.frames z.cpus s.words f 0 inside h.book_ok.room)))
+          (λ (other : g ≢ f). turns_else z.frames z.cpus s.words f 0 inside s.views h.holder h.holder id v v' g at other (λ p e. other (has_frame g f p hd.page (sym e ∙ has))) (λ _. refl) h.turns_ok within busy);
+      seats_ok = seats_stay (SeatOk z.frames z.cpus (set s.words (turn_at z.frames z.cpus f) 0) plan h.keeper h.seat_of h.holder h.given h.log) s.views id v' own (λ j u other e. others j u other (h.seats_ok j u e));
+    }
+
+  -- no other seat has the turn that a seat has
+  not_of_holder : (words : List ℕ) (plan : Watch) (holder : ℕ → ℕ) (given : Given) (log : List Made) (seat id f : ℕ) (hand : Hand) → holder f ≡ id → seat ≢ id → HandOk z.frames z.cpus words plan holder given log seat hand → (page : List ℕ) → hand ≡ Has f page → ⊥
+  not_of_holder words plan holder given log seat id f hand here other ok page e = other (sym (subst (HandOk z.frames z.cpus words plan holder given log seat) e ok).1 ∙ here)
+
+  others_given : (words : List ℕ) (plan : Holder) (hand : Hand) (keeper : ℕ) (seat_of holder : ℕ → ℕ) (given : Given) (log : List Made) (id f : ℕ) → f < z.frames → holder f ≡ id → BookOk z.frames z.cpus words plan given log
+      → ((j : ℕ) → j ≢ id → keeper ≡ j → record plan { hand = hand } ≡ plan) → (j : ℕ) (u : View) → j ≢ id → SeatOk z.frames z.cpus words plan keeper seat_of holder given log j u
+      → SeatOk z.frames z.cpus (set words (turn_at z.frames z.cpus f) 0) (record plan { hand = hand }) keeper seat_of holder given log j u
+  others_given words plan hand keeper seat_of holder given log id f inside here book keeps_plan j (Passing q) other k =
+      (k.0, walker_turned z.frames z.cpus words f 0 inside plan hand holder holder given log j q (λ _ _. refl) (not_of_holder words plan.watch holder given log j id f q.hand here other k.1.hand_ok) book.plan_ok k.1)
+  others_given words plan hand keeper seat_of holder given log id f inside here book keeps_plan j (Keeping u) other k =
+      (k.0, k.1 ∙ sym (keeps_plan j other k.0), hand_turned z.frames z.cpus words f 0 inside plan.watch holder holder given log j u.hand (λ _ _. refl) (not_of_holder words plan.watch holder given log j id f u.hand here other k.2) k.2)
+  others_given words plan hand keeper seat_of holder given log id f inside here book keeps_plan j Spent other k = tt
+
+  pub gives_turn : (id f : ℕ) (w : Walker) (hd : Held) → w.hand ≡ Has f hd.page
+      → Allows (InOrder z) z.frames id (Passing w, (f, Some hd) ∷ []) (turn_at z.frames z.cpus f) (λ _. 0) (λ _. Gives (step z.frames (turn_at z.frames z.cpus f) 0 0 M.none) (Passing w, (f, Some hd) ∷ []) 0)
+  gives_turn id f w hd has s h homes at fits =
+      let mine = h.seats_ok id (Passing w) at in
+      let hand = subst (HandOk z.frames z.cpus s.words h.plan.watch h.holder h.given h.log id) has mine.1.hand_ok in (
+        Passing (record w { hand = Free }),
+        gives,
+        tt,
+        given_back_kept s h id f hd (Passing w) (Passing (record w { hand = Free })) h.plan at has hand.0 (let i = hand.0 in omega arith) hand.3 h.plan.hand refl
+            (
+              mine.0,
+              record {
+                all = mine.1.all;
+                pass_ok = pass_above z.frames z.cpus s.words h.plan.watch w.walk (turn_at z.frames z.cpus f) 0 (omega arith) h.book_ok.plan_ok mine.1.pass_ok;
+                made = mine.1.made;
+                hand_ok = tt;
+                holds = tt;
+                out = mine.1.out;
+              },
+            )
+            (others_given s.words h.plan h.plan.hand h.keeper h.seat_of h.holder h.given h.log id f hand.0 hand.1 h.book_ok (λ _ _ _. refl)),
+        λ x rest e i. (Passing (record w { hand = Free }), tail_of (e i)),
+      )
+
+  -- the keeper's turn
+
+  pub keeper_gives : (id f : ℕ) (k : Holder) (hd : Held) → k.hand ≡ Has f hd.page
+      → Allows (InOrder z) z.frames id (Keeping k, (f, Some hd) ∷ []) (turn_at z.frames z.cpus f) (λ _. 0) (λ _. KeeperGives (step z.frames (turn_at z.frames z.cpus f) 0 0 M.none) (Keeping k, (f, Some hd) ∷ []) 0)
+  keeper_gives id f k hd has s h homes at fits =
+      let mine = h.seats_ok id (Keeping k) at in
+      let hand = subst (HandOk z.frames z.cpus s.words h.plan.watch h.holder h.given h.log id) has mine.2 in (
+        Keeping (record k { hand = Free }),
+        gives,
+        tt,
+        given_back_kept s h id f hd (Keeping k) (Keeping (record k { hand = Free })) (record h.plan { hand = Free }) at has hand.0 (let i = hand.0 in omega arith) hand.3 Free refl
+            (mine.0, ap (with_hand Free) mine.1, tt)
+            (others_given s.words h.plan Free h.keeper h.seat_of h.holder h.given h.log id f hand.0 hand.1 h.book_ok (λ j other is. absurd (other (sym is ∙ mine.0)))),
+        λ x rest e i. (Keeping (record k { hand = Free }), tail_of (e i)),
+      )
+
+  -- a pass that holds an entry of a frame keeps it from being bound
+  holder_stands : (words : List ℕ) (plan : Watch) (q : Walk) (cleared f b : ℕ) → PlanOk z.frames z.cpus words plan → PassOk z.frames z.cpus words plan q → HasNoted plan cleared → MayBind plan cleared f → get_or q.held f None ≡ Some b → ⊥
+  holder_stands words plan q cleared f b k ok noted may e =
+      let inside : q.cpu < length plan.noted = (let m = ok.made in let n = k.made in let r = k.noted_row in omega arith) in
+      ⊎_elim (λ one. entry_never z.frames z.cpus words plan q f b ok one e) (λ (t : IsShut plan f × (get_or plan.since f 0 < cleared)). entry_gone z.frames z.cpus words plan q f b cleared k ok (noted q.cpu inside) t.0 t.1 e) may
+
+  -- so its turn is free, where the keeper has none
+  turn_is_free : (s : State (Option Held) View) (h : Kept z s.words s.homes s.views) (id f cleared : ℕ) (k : Holder) → get_elem? s.views id ≡ M.some (Keeping k) → k.hand ≡ Free → HasNoted k.watch cleared → MayBind k.watch cleared f → f < z.frames
+      → get_or s.words (turn_at z.frames z.cpus f) 0 ≢ 0 → ⊥
+  turn_is_free s h id f cleared k at free noted may inside busy =
+      let t = h.turns_ok f inside busy in
+      let mine = h.seats_ok id (Keeping k) at in
+      of_view t.0 t.2 t.3 mine.0 mine.1 (h.seats_ok (h.holder f) t.0 t.2)
+    where
+      of_view : (v : View) {page : List ℕ} → get_elem? s.views (h.holder f) ≡ M.some v → hand_of v ≡ Has f page → h.keeper ≡ id → k ≡ h.plan → SeatOk z.frames z.cpus s.words h.plan h.keeper h.seat_of h.holder h.given h.log (h.holder f) v → ⊥
+      of_view (Passing q) {page} there has here is ok =
+          let e = subst (λ x. HoldsHand x q.walk) has ok.1.holds in
+          holder_stands s.words h.plan.watch q.walk cleared f e.0 h.book_ok.plan_ok ok.1.pass_ok (subst (λ p. HasNoted p.watch cleared) is noted) (subst (λ p. MayBind p.watch cleared f) is may) e.1
+      of_view (Keeping u) {page} there has here is ok = free_has f page (sym free ∙ ap (λ p. p.hand) (is ∙ sym ok.1) ∙ has)
+      of_view Spent {page} there has here is ok = free_has f page has
+
+  pub keeper_takes : (slots id f cleared : ℕ) (k : Holder) → k.hand ≡ Free → HasNoted k.watch cleared → MayBind k.watch cleared f → f < z.frames
+      → Allows (InOrder z) slots id (Keeping k, []) (turn_at z.frames z.cpus f) (λ n. either (eqb n 0) 1 n) (KeeperTakes (step slots (turn_at z.frames z.cpus f) 0 1 M.none) (Keeping k, []))
+  keeper_takes slots id f cleared k free noted may inside s h homes at fits =
+      let mine = h.seats_ok id (Keeping k) at in
+      let n : ℕ = get_or s.words (turn_at z.frames z.cpus f) 0 in
+      let frame : (g : ℕ) → turn_at z.frames z.cpus f ≡ turn_at (length k.watch.doors) (length k.parts) g → f ≡ g = λ g e.
+          (let r : length k.watch.doors ≡ z.frames = ap (λ p. length p.watch.doors) mine.1 ∙ h.book_ok.plan_ok.doors_row in let c : length k.parts ≡ z.cpus = ap (λ p. length p.parts) mine.1 ∙ h.book_ok.parts in omega arith) in
+      exchanged n 0 1 (λ x. Owed z s id [] (turn_at z.frames z.cpus f) x (KeeperTakes (step slots (turn_at z.frames z.cpus f) 0 1 M.none) (Keeping k, [])))
+          (λ (hit : n ≡ 0).
+              let slot = h.slots_ok f inside hit in (
+                Keeping (record k { hand = Has f slot.0.page }),
+                takes f (Some slot.0),
+                slot.1,
+                taken_kept s h id f slot.0 (Keeping k) (Keeping (record k { hand = Has f slot.0.page })) (record h.plan { hand = Has f slot.0.page }) at free refl inside hit (Has f slot.0.page) refl
+                    (mine.0, ap (with_hand (Has f slot.0.page)) mine.1, (inside, put_here f id h.holder, (λ e. one_zero _ 0 (turn_here z.frames z.cpus s.words f 1 inside h.book_ok.room) refl e), slot.2))
+                    (others_taken s.words h.plan (Has f slot.0.page) h.keeper h.seat_of h.holder h.given h.log id f inside hit h.book_ok (λ j other is. absurd (other (sym is ∙ mine.0)))),
+                λ g e. (hit, (slot.0, λ i. (Keeping (record k { hand = Has (frame g e i) slot.0.page }), (frame g e i, Some slot.0) ∷ []))),
+              ))
+          (λ (miss : n ≢ 0). absurd (turn_is_free s h id f cleared k at free noted may inside miss))
