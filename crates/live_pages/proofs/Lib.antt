@@ -1,3 +1,4 @@
 pub mod Replay
 pub mod Quiet
 pub mod Turning
+pub mod Changing

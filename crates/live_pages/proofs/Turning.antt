@@ -130,7 +130,7 @@ module _ (frames cpus : ℕ) (words : List ℕ) where
         let away : holder g ≢ id = λ here. apart old.1 (sym (ap hand_of (M.some-injective _ _ (sym old.2 ∙ ap (get_elem? views) here ∙ at))) ∙ old.3) in
         (old.0, old.1, ap (get_elem? (set views id v')) (same other) ∙ set_else views id (holder g) v' away ∙ old.2, old.3)
 
-abbrev with_hand : Hand → Holder → Holder
+abbrev pub with_hand : Hand → Holder → Holder
 with_hand hand k = record k { hand = hand }
 
 abbrev pub tail_of : List (ℕ × Option Held) → List (ℕ × Option Held)

@@ -1,0 +1,185 @@
+-- The steps that change a page: a touch draws its ticket, and a frame is bound anew.
+use Rattle.std.proofs.Common.{◌≡◌, ◌≢◌, ℕ, suc, zero, ◌+◌, ◌-◌, ◌*◌, ◌/◌, ◌%◌, ◌^◌, ◌<◌, ◌≤◌, ◌⊎◌, Bool, true, false, cond, eqb, List, [], ◌∷◌, ◌++◌, length, replicate, Option, Some, None, refl, sym, ap, subst, ◌∙◌, arith, get_or, set, inl, inr, ⊎_elim}
+use mathlib.Core.Logic.{dite}
+use mathlib.Core.Option as M
+use native.Mathlib.Decide.{ℕ_discrete, dec_lt}
+use prog.Atomic.{either}
+use lib.ListN.{get_elem?}
+use Rattle.std.proofs.lemmas.List.{set-get_or, get_or-set_same, get_or-set_other, length-set}
+use Rattle.std.proofs.lemmas.Bool.{eqb-true, eq-eqb, ne_eqb}
+use Rattle.std.proofs.lemmas.Option.{none-some}
+use Rattle.atomic_table.specs.Table.{State, Me, Act, Valid, step, keeps, takes, gives, homes_after, carried_after, Allows}
+use Rattle.atomic_table.proofs.Lists.{at_set, set_here, set_else, exchanged}
+use Rattle.live_doors.specs.declared.views.Walk.{Walk}
+use Rattle.live_doors.specs.declared.views.Watch.{Watch}
+use Rattle.live_doors.specs.Doors.{having_read, HasNoted, IsShut, MayBind}
+use Rattle.live_doors.specs.Steps.{door_at, ack_at}
+use Rattle.live_doors.specs.Kept.{EntryOk, PlanOk, PassOk}
+use Rattle.live_doors.proofs.Plain.{pass_stays, read_ok, entry_gone, entry_never}
+use Rattle.live_doors.proofs.Keeps.{seats_stay}
+use Rattle.live_pages.specs.declared.rule.Held.{Held}
+use Rattle.live_pages.specs.declared.rule.Size.{Size}
+use Rattle.live_pages.specs.declared.touch.Touch.{Touch}
+use Rattle.live_pages.specs.declared.touch.Made.{Made}
+use Rattle.live_pages.specs.declared.touch.Bound.{Bound}
+use Rattle.live_pages.specs.declared.views.Hand.{Hand}
+use Rattle.live_pages.specs.declared.views.Hand.TheVariants.{Free, Has}
+use Rattle.live_pages.specs.declared.views.Part.TheVariants.{Out, In}
+use Rattle.live_pages.specs.declared.views.Walker.{Walker}
+use Rattle.live_pages.specs.declared.views.Holder.{Holder}
+use Rattle.live_pages.specs.declared.views.View.{View}
+use Rattle.live_pages.specs.declared.views.View.TheVariants.{Passing, Keeping, Spent}
+use Rattle.live_pages.specs.Touches.{touched, answer, Given, after, IsLegal, mine}
+use Rattle.live_pages.specs.Turns.{turn_at, ticket_at, current, hand_of, walking, watching, walker_of, holder_of, binding_in, binding_at, taken, having_made, page_of, admitted, bound_anew, Takes, Draws, Gives, KeeperTakes, Binds, KeeperGives}
+use Rattle.live_pages.specs.Kept.{AreOfBindings, HaveLeft, BookOk, SlotsOk, TurnsOk, HandOk, HoldsHand, WalkerOk, SeatOk, Kept}
+use Rattle.live_pages.proofs.Replay.{after_here, after_frame, after_else, after_next, regiven, regiven_binding, legal_next, left_next, bindings_stay, left_stays, left_touched, mine_here, mine_else, tickets_fit}
+use Rattle.live_pages.proofs.Quiet.{set_at, InOrder, pass_stepped}
+use Rattle.live_pages.proofs.Turning.{with_hand, has_frame, has_page, free_has, plan_above, pass_above}
+
+module _ (frames cpus : ℕ) (words : List ℕ) where
+  -- the touch of the pass in hand goes behind all others
+  module _ (plan : Holder) (holder : ℕ → ℕ) (given : Given) (log : List Made) (e : Made) where
+    pub hand_else : (seat : ℕ) (hand : Hand) (n : ℕ) → ((page : List ℕ) → hand ≡ Has e.frame page → ⊥) → HandOk frames cpus words plan.watch holder given log seat hand
+        → HandOk frames cpus (set words (ticket_at frames cpus) n) plan.watch holder given (e ∷ log) seat hand
+    hand_else seat Free n apart ok = tt
+    hand_else seat (Has g page) n apart ok =
+        let other : e.frame ≢ g = λ is. apart page (ap (λ k. Has k page) (sym is)) in
+        let inside = ok.0 in
+        (ok.0, ok.1, (λ z. ok.2 (sym (get_or-set_other words (ticket_at frames cpus) (turn_at frames cpus g) n 0 (λ is. omega arith)) ∙ z)), ok.3 ∙ sym (after_frame given g (current plan.watch g) e log other))
+
+    pub book_touched : (n : ℕ) → cpus ≤ 8 → n ≡ get_or words (ticket_at frames cpus) 0 → e.ticket ≡ n → e.cpu < cpus → e.binding ≡ current plan.watch e.frame → e.word ≡ answer e.touch (after given e.frame e.binding log)
+        → length (mine e.cpu log) < 2 ^ 32 → get_or plan.parts e.cpu Out ≡ Out → (page : List ℕ) (hand : Hand) → BookOk frames cpus words plan given log
+        → BookOk frames cpus (set words (ticket_at frames cpus) ((n + 1) % 2 ^ 64)) plan given (e ∷ log)
+    book_touched n low is ticket cpu binding word few out page hand b =
+        let count : n ≡ length log = is ∙ b.ticket in
+        let fit = tickets_fit cpus plan.watch log low b.bindings b.few in
+        let m : ℕ = (n + 1) % 2 ^ 64 in
+        let wrap : m ≡ suc (length log) = omega arith in record {
+          plan_ok = plan_above frames cpus words plan.watch (ticket_at frames cpus) m (omega arith) b.plan_ok;
+          room = (let l = length-set words (ticket_at frames cpus) m in let r = b.room in omega arith);
+          parts = b.parts;
+          ticket = get_or-set_same words (ticket_at frames cpus) m 0 b.room ∙ wrap;
+          legal = (b.legal, word, ticket ∙ count);
+          bindings = (b.bindings, cpu, same_le binding);
+          few = λ c. dite (ℕ_discrete e.cpu c)
+              (λ (same : e.cpu ≡ c). let l = ap (λ xs. length xs) (mine_here c e log same) in let f' : length (mine c log) < 2 ^ 32 = subst (λ k. length (mine k log) < 2 ^ 32) same few in omega arith)
+              (λ (other : e.cpu ≢ c). let l = ap (λ xs. length xs) (mine_else c e log other) in let f' = b.few c in omega arith);
+          left = left_touched given plan.watch log plan.ended e binding b.left;
+          zeros = b.zeros;
+          taken_in = λ c made part. dite (ℕ_discrete e.cpu c)
+              (λ (same : e.cpu ≡ c). absurd (out_in made (sym (ap (λ k. get_or plan.parts k Out) same) ∙ out) part))
+              (λ (other : e.cpu ≢ c). b.taken_in c made part ∙ sym (mine_else c e log other));
+        }
+      where
+        same_le : {x y : ℕ} → x ≡ y → x ≤ y
+        same_le q = omega arith
+        out_in : {p : Rattle.live_pages.specs.declared.views.Part.Part} (made : List Made) → p ≡ Out → p ≡ In made → ⊥
+        out_in made a i = absurd (cc)
+
+module _ (z : Size) where
+  -- the binding that a pass's entry names is the frame's at that moment
+  pub entry_is_current : (words : List ℕ) (plan : Watch) (p : Walk) (f b : ℕ) → PassOk z.frames z.cpus words plan p → get_or p.held f None ≡ Some b → binding_at p f ≡ current plan f
+  entry_is_current words plan p f b ok e = ap binding_in e ∙ ⊎_elim (λ (t : get_or plan.doors f 0 ≡ 2 * b). even t) (λ (t : (get_or plan.doors f 0 ≡ 2 * b + 1) × (p.stamp ≤ get_or plan.since f 0)). odd t.0) (ok.entries f b e)
+    where
+      even : get_or plan.doors f 0 ≡ 2 * b → b ≡ current plan f
+      even t = omega arith
+      odd : get_or plan.doors f 0 ≡ 2 * b + 1 → b ≡ current plan f
+      odd t = omega arith
+
+  pub draws : (id f : ℕ) (w : Walker) (hd : Held) (page : List ℕ) → z.cpus ≤ 8 → w.hand ≡ Has f page → hd.page ≡ touched hd.touch page → hd.word ≡ answer hd.touch page → length w.made < 2 ^ 32
+      → Allows (InOrder z) z.frames id (Passing w, (f, Some hd) ∷ []) (ticket_at z.frames z.cpus) (λ n. (n + 1) % 2 ^ 64) (Draws (step z.frames (ticket_at z.frames z.cpus) 1 0 M.none) (Passing w, (f, Some hd) ∷ []))
+  draws id f w hd page low has after_touch word few s h homes at fits =
+      let own = h.seats_ok id (Passing w) at in
+      let n : ℕ = get_or s.words (ticket_at z.frames z.cpus) 0 in
+      let w' : Walker = having_made n f hd.touch hd.word hd.page w in
+      let e : Made = record { ticket = n; cpu = w.walk.cpu; frame = f; binding = binding_at w.walk f; touch = hd.touch; word = hd.word } in
+      let hand = subst (HandOk z.frames z.cpus s.words h.plan.watch h.holder h.given h.log id) has own.1.hand_ok in
+      let entry = subst (λ x. HoldsHand x w.walk) has own.1.holds in
+      let binding : binding_at w.walk f ≡ current h.plan.watch f = entry_is_current s.words h.plan.watch w.walk f entry.0 own.1.pass_ok entry.1 in
+      let page_is : page ≡ after h.given f (binding_at w.walk f) h.log = hand.3 ∙ ap (λ b. after h.given f b h.log) (sym binding) in
+      let inside = hand.0 in
+      let cpu : w.walk.cpu < z.cpus = (let m = own.1.pass_ok.made in let k = h.book_ok.plan_ok.made in omega arith) in
+      let mine_few : length (mine w.walk.cpu h.log) < 2 ^ 32 = subst (λ (l : List Made). length l < 2 ^ 32) own.1.made few in
+      let m : ℕ = (n + 1) % 2 ^ 64 in
+      let stays : (g : ℕ) → g < z.frames → get_or (set s.words (ticket_at z.frames z.cpus) m) (turn_at z.frames z.cpus g) 0 ≡ get_or s.words (turn_at z.frames z.cpus g) 0 = λ g within. get_or-set_other s.words (ticket_at z.frames z.cpus) (turn_at z.frames z.cpus g) m 0 (λ is. omega arith) in (
+        Passing w',
+        keeps,
+        tt,
+        record {
+          plan = h.plan;
+          keeper = h.keeper;
+          seat_of = h.seat_of;
+          holder = h.holder;
+          given = h.given;
+          log = e ∷ h.log;
+          book_ok = book_touched z.frames z.cpus s.words h.plan h.holder h.given h.log e n low refl refl cpu binding (word ∙ ap (answer hd.touch) page_is) mine_few own.1.out page h.plan.hand h.book_ok;
+          slots_ok = λ g within free.
+              let old = h.slots_ok g within (sym (stays g within) ∙ free) in
+              let other : f ≢ g = λ is. hand.2 (ap (λ k. get_or s.words (turn_at z.frames z.cpus k) 0) is ∙ sym (stays g within) ∙ free) in
+              (old.0, old.1, old.2 ∙ sym (after_frame h.given g (current h.plan.watch g) e h.log other));
+          turns_ok = λ g within busy.
+              let old = h.turns_ok g within (λ is. busy (stays g within ∙ is)) in
+              dite (ℕ_discrete (h.holder g) id)
+              (λ (here : h.holder g ≡ id).
+                  let is : old.0 ≡ Passing w = M.some-injective _ _ (sym old.2 ∙ ap (get_elem? s.views) here ∙ at) in
+                  let frame : f ≡ g = has_frame f g page old.1 (sym has ∙ sym (ap hand_of is) ∙ old.3) in
+                  (Passing w', hd.page, ap (get_elem? (set s.views id (Passing w'))) here ∙ set_at s.views id (Passing w) (Passing w') at, ap (λ k. Has k hd.page) frame))
+              (λ (other : h.holder g ≢ id). (old.0, old.1, set_else s.views id (h.holder g) (Passing w') other ∙ old.2, old.3));
+          seats_ok = seats_stay (SeatOk z.frames z.cpus (set s.words (ticket_at z.frames z.cpus) m) h.plan h.keeper h.seat_of h.holder h.given (e ∷ h.log)) s.views id (Passing w')
+              (
+                own.0,
+                record {
+                  all = own.1.all;
+                  pass_ok = pass_above z.frames z.cpus s.words h.plan.watch w.walk (ticket_at z.frames z.cpus) m (omega arith) h.book_ok.plan_ok own.1.pass_ok;
+                  made = ap (λ (l : List Made). e ∷ l) own.1.made ∙ sym (mine_here w.walk.cpu e h.log refl);
+                  hand_ok = (
+                    hand.0,
+                    hand.1,
+                    (λ is. hand.2 (sym (stays f hand.0) ∙ is)),
+                    after_touch ∙ ap (touched hd.touch) hand.3 ∙ sym (after_here h.given f (current h.plan.watch f) e h.log refl binding),
+                  );
+                  holds = entry;
+                  out = own.1.out;
+                },
+              )
+              (λ j v other there. others s.words h.plan h.keeper h.seat_of h.holder h.given h.log e m own.0 hand.1 refl refl h.book_ok.plan_ok j v other (h.seats_ok j v there));
+        },
+        λ g k rest is. told n g k rest is,
+      )
+    where
+      told : (n : ℕ) (g : ℕ) (k : Held) (rest : List (ℕ × Option Held)) → (f, Some hd) ∷ [] ≡ (g, Some k) ∷ rest
+          → ◌≡◌ {A = Me (Option Held) View} (Passing (having_made n f hd.touch hd.word hd.page w), (f, Some hd) ∷ []) (Passing (having_made n g k.touch k.word k.page w), (f, Some hd) ∷ [])
+      told n g k rest is i = (Passing (having_made n (first_of (is i)) (held_of (is i)).touch (held_of (is i)).word (held_of (is i)).page w), (f, Some hd) ∷ [])
+        where
+          first_of : List (ℕ × Option Held) → ℕ
+          first_of [] = 0
+          first_of (x ∷ xs) = x.0
+          held_in : Option Held → Held
+          held_in None = hd
+          held_in (Some y) = y
+          held_of : List (ℕ × Option Held) → Held
+          held_of [] = hd
+          held_of (x ∷ xs) = held_in x.1
+      others : (words : List ℕ) (plan : Holder) (keeper : ℕ) (seat_of holder : ℕ → ℕ) (given : Given) (log : List Made) (e : Made) (m : ℕ) → seat_of w.walk.cpu ≡ id → holder f ≡ id → e.frame ≡ f → e.cpu ≡ w.walk.cpu
+          → PlanOk z.frames z.cpus words plan.watch → (j : ℕ) (v : View) → j ≢ id → SeatOk z.frames z.cpus words plan keeper seat_of holder given log j v
+          → SeatOk z.frames z.cpus (set words (ticket_at z.frames z.cpus) m) plan keeper seat_of holder given (e ∷ log) j v
+      others words plan keeper seat_of holder given log e m here holds frame cpu k j (Passing q) other ok = (
+        ok.0,
+        record {
+          all = ok.1.all;
+          pass_ok = pass_above z.frames z.cpus words plan.watch q.walk (ticket_at z.frames z.cpus) m (omega arith) k ok.1.pass_ok;
+          made = ok.1.made ∙ sym (mine_else q.walk.cpu e log (λ is. other (sym ok.0 ∙ ap seat_of (sym is ∙ cpu) ∙ here)));
+          hand_ok = hand_else z.frames z.cpus words plan holder given log e j q.hand m (apart words plan holder given log e holds frame j q.hand other ok.1.hand_ok) ok.1.hand_ok;
+          holds = ok.1.holds;
+          out = ok.1.out;
+        },
+      )
+        where
+          apart : (words : List ℕ) (plan : Holder) (holder : ℕ → ℕ) (given : Given) (log : List Made) (e : Made) → holder f ≡ id → e.frame ≡ f → (j : ℕ) (hand : Hand) → j ≢ id → HandOk z.frames z.cpus words plan.watch holder given log j hand → (page : List ℕ) → hand ≡ Has e.frame page → ⊥
+          apart words plan holder given log e holds frame j hand other ok page is = other (sym (subst (HandOk z.frames z.cpus words plan.watch holder given log j) is ok).1 ∙ ap holder frame ∙ holds)
+      others words plan keeper seat_of holder given log e m here holds frame cpu k j (Keeping u) other ok = (
+        ok.0,
+        ok.1,
+        hand_else z.frames z.cpus words plan holder given log e j u.hand m (λ page is. other (sym (subst (HandOk z.frames z.cpus words plan.watch holder given log j) is ok.2).1 ∙ ap holder frame ∙ holds)) ok.2,
+      )
+      others words plan keeper seat_of holder given log e m here holds frame cpu k j Spent other ok = tt
