@@ -301,7 +301,7 @@ module _ (z : Size) where
       )
 
   -- a pass that holds an entry of a frame keeps it from being bound
-  holder_stands : (words : List ℕ) (plan : Watch) (q : Walk) (cleared f b : ℕ) → PlanOk z.frames z.cpus words plan → PassOk z.frames z.cpus words plan q → HasNoted plan cleared → MayBind plan cleared f → get_or q.held f None ≡ Some b → ⊥
+  pub holder_stands : (words : List ℕ) (plan : Watch) (q : Walk) (cleared f b : ℕ) → PlanOk z.frames z.cpus words plan → PassOk z.frames z.cpus words plan q → HasNoted plan cleared → MayBind plan cleared f → get_or q.held f None ≡ Some b → ⊥
   holder_stands words plan q cleared f b k ok noted may e =
       let inside : q.cpu < length plan.noted = (let m = ok.made in let n = k.made in let r = k.noted_row in omega arith) in
       ⊎_elim (λ one. entry_never z.frames z.cpus words plan q f b ok one e) (λ (t : IsShut plan f × (get_or plan.since f 0 < cleared)). entry_gone z.frames z.cpus words plan q f b cleared k ok (noted q.cpu inside) t.0 t.1 e) may
