@@ -47,7 +47,7 @@ module _ (frames cpus : ℕ) (words : List ℕ) where
         let inside = ok.0 in
         (ok.0, ok.1, (λ z. ok.2 (sym (get_or-set_other words (ticket_at frames cpus) (turn_at frames cpus g) n 0 (λ is. omega arith)) ∙ z)), ok.3 ∙ sym (after_frame given g (current plan.watch g) e log other))
 
-    pub book_touched : (n : ℕ) → cpus ≤ 8 → n ≡ get_or words (ticket_at frames cpus) 0 → e.ticket ≡ n → e.cpu < cpus → e.binding ≡ current plan.watch e.frame → e.word ≡ answer e.touch (after given e.frame e.binding log)
+    pub book_touched : (n : ℕ) → cpus ≤ 8 → n ≡ get_or words (ticket_at frames cpus) 0 → e.ticket ≡ n → e.cpu < plan.watch.made → e.binding ≡ current plan.watch e.frame → e.word ≡ answer e.touch (after given e.frame e.binding log)
         → length (mine e.cpu log) < 2 ^ 32 → get_or plan.parts e.cpu Out ≡ Out → (page : List ℕ) (hand : Hand) → BookOk frames cpus words plan given log
         → BookOk frames cpus (set words (ticket_at frames cpus) ((n + 1) % 2 ^ 64)) plan given (e ∷ log)
     book_touched n low is ticket cpu binding word few out page hand b =
@@ -60,12 +60,13 @@ module _ (frames cpus : ℕ) (words : List ℕ) where
           parts = b.parts;
           ticket = get_or-set_same words (ticket_at frames cpus) m 0 b.room ∙ wrap;
           legal = (b.legal, word, ticket ∙ count);
-          bindings = (b.bindings, cpu, same_le binding);
+          bindings = (b.bindings, (let k = b.plan_ok.made in omega arith), same_le binding);
           few = λ c. dite (ℕ_discrete e.cpu c)
               (λ (same : e.cpu ≡ c). let l = ap (λ xs. length xs) (mine_here c e log same) in let f' : length (mine c log) < 2 ^ 32 = subst (λ k. length (mine k log) < 2 ^ 32) same few in omega arith)
               (λ (other : e.cpu ≢ c). let l = ap (λ xs. length xs) (mine_else c e log other) in let f' = b.few c in omega arith);
           left = left_touched given plan.watch log plan.ended e binding b.left;
           zeros = b.zeros;
+          unmade = λ c above. (mine_else c e log (λ is. omega arith) ∙ (b.unmade c above).0, (b.unmade c above).1);
           taken_in = λ c made part. dite (ℕ_discrete e.cpu c)
               (λ (same : e.cpu ≡ c). absurd (out_in made (sym (ap (λ k. get_or plan.parts k Out) same) ∙ out) part))
               (λ (other : e.cpu ≢ c). b.taken_in c made part ∙ sym (mine_else c e log other));
@@ -98,7 +99,7 @@ module _ (z : Size) where
       let binding : binding_at w.walk f ≡ current h.plan.watch f = entry_is_current s.words h.plan.watch w.walk f entry.0 own.1.pass_ok entry.1 in
       let page_is : page ≡ after h.given f (binding_at w.walk f) h.log = hand.3 ∙ ap (λ b. after h.given f b h.log) (sym binding) in
       let inside = hand.0 in
-      let cpu : w.walk.cpu < z.cpus = (let m = own.1.pass_ok.made in let k = h.book_ok.plan_ok.made in omega arith) in
+      let cpu : w.walk.cpu < h.plan.watch.made = own.1.pass_ok.made in
       let mine_few : length (mine w.walk.cpu h.log) < 2 ^ 32 = subst (λ (l : List Made). length l < 2 ^ 32) own.1.made few in
       let m : ℕ = (n + 1) % 2 ^ 64 in
       let stays : (g : ℕ) → g < z.frames → get_or (set s.words (ticket_at z.frames z.cpus) m) (turn_at z.frames z.cpus g) 0 ≡ get_or s.words (turn_at z.frames z.cpus g) 0 = λ g within. get_or-set_other s.words (ticket_at z.frames z.cpus) (turn_at z.frames z.cpus g) m 0 (λ is. omega arith) in (
@@ -276,6 +277,7 @@ module _ (z : Size) where
               ap page_of has ∙ hand.3 ∙ sym (after_else f (current k.watch f + 1) hd.page h.given f (current k.watch f) h.log (inr (λ e. omega arith))),
             );
             zeros = λ g. regiven_binding f (current k.watch f + 1) hd.page h.given g 0 (λ e. omega arith) ∙ book.zeros g;
+            unmade = book.unmade;
             taken_in = book.taken_in;
           };
           slots_ok = λ g within free.

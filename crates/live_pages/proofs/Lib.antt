@@ -2,3 +2,4 @@ pub mod Replay
 pub mod Quiet
 pub mod Turning
 pub mod Changing
+pub mod Ends

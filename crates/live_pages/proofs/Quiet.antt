@@ -45,8 +45,8 @@ le_of_same : {x y : ℕ} → x ≡ y → y ≤ x
 le_of_same e = omega arith
 
 module _ (frames cpus : ℕ) (words words' : List ℕ) (given : Given) (log : List Made) (quiet : Quiet frames cpus words words') where
-  pub book_quiet : (plan : Holder) (w : Watch) → PlanOk frames cpus words' w → ((f : ℕ) → current w f ≡ current plan.watch f) → BookOk frames cpus words plan given log → BookOk frames cpus words' (record plan { watch = w }) given log
-  book_quiet plan w ok same b = record {
+  pub book_quiet : (plan : Holder) (w : Watch) → PlanOk frames cpus words' w → ((f : ℕ) → current w f ≡ current plan.watch f) → w.made ≡ plan.watch.made → BookOk frames cpus words plan given log → BookOk frames cpus words' (record plan { watch = w }) given log
+  book_quiet plan w ok same made b = record {
       plan_ok = ok;
       room = (let l = quiet.0 in let r = b.room in omega arith);
       parts = b.parts;
@@ -56,6 +56,7 @@ module _ (frames cpus : ℕ) (words words' : List ℕ) (given : Given) (log : Li
       few = b.few;
       left = left_stays given plan.watch w log plan.ended (λ f. le_of_same (same f)) b.left;
       zeros = b.zeros;
+      unmade = λ c above. b.unmade c (subst (λ m. m ≤ c) made above);
       taken_in = b.taken_in;
     }
 
@@ -112,7 +113,7 @@ module _ (z : Size) where
         holder = h.holder;
         given = h.given;
         log = h.log;
-        book_ok = book_quiet z.frames z.cpus words words' h.given h.log quiet h.plan h.plan.watch (plan mine.1.pass_ok) (λ f. refl) h.book_ok;
+        book_ok = book_quiet z.frames z.cpus words words' h.given h.log quiet h.plan h.plan.watch (plan mine.1.pass_ok) (λ f. refl) refl h.book_ok;
         slots_ok = slots_quiet z.frames z.cpus words words' h.given h.log quiet homes h.plan.watch h.plan.watch (λ f. refl) h.slots_ok;
         turns_ok = turns_quiet z.frames z.cpus words words' h.given h.log quiet views h.holder id (Passing w) (Passing (walking change w)) at refl h.turns_ok;
         seats_ok = seats_stay (SeatOk z.frames z.cpus words' h.plan h.keeper h.seat_of h.holder h.given h.log) views id (Passing (walking change w))
@@ -140,9 +141,9 @@ module _ (z : Size) where
 
   -- the keeper has read or stored a word, and no frame's current binding is another
   pub keeper_stepped : (words words' : List ℕ) (homes : List (M.Option (Option Held))) (views : List View) (id : ℕ) (k : Holder) (change : Watch → Watch) → (h : Kept z words homes views) → get_elem? views id ≡ M.some (Keeping k)
-      → Quiet z.frames z.cpus words words' → ((f : ℕ) → current (change k.watch) f ≡ current k.watch f) → (PlanOk z.frames z.cpus words k.watch → PlanOk z.frames z.cpus words' (change k.watch))
+      → Quiet z.frames z.cpus words words' → ((f : ℕ) → current (change k.watch) f ≡ current k.watch f) → (change k.watch).made ≡ k.watch.made → (PlanOk z.frames z.cpus words k.watch → PlanOk z.frames z.cpus words' (change k.watch))
       → (PlanOk z.frames z.cpus words k.watch → (q : Walk) → PassOk z.frames z.cpus words k.watch q → PassOk z.frames z.cpus words' (change k.watch) q) → Kept z words' homes (set views id (Keeping (watching change k)))
-  keeper_stepped words words' homes views id k change h at quiet same plan pass =
+  keeper_stepped words words' homes views id k change h at quiet same made plan pass =
       let mine = h.seats_ok id (Keeping k) at in
       let book : BookOk z.frames z.cpus words k h.given h.log = subst (λ p. BookOk z.frames z.cpus words p h.given h.log) (sym mine.1) h.book_ok in
       let slots : SlotsOk z.frames z.cpus words homes k.watch h.given h.log = subst (λ p. SlotsOk z.frames z.cpus words homes p.watch h.given h.log) (sym mine.1) h.slots_ok in
@@ -154,7 +155,7 @@ module _ (z : Size) where
         holder = h.holder;
         given = h.given;
         log = h.log;
-        book_ok = book_quiet z.frames z.cpus words words' h.given h.log quiet k (change k.watch) (plan book.plan_ok) same book;
+        book_ok = book_quiet z.frames z.cpus words words' h.given h.log quiet k (change k.watch) (plan book.plan_ok) same made book;
         slots_ok = slots_quiet z.frames z.cpus words words' h.given h.log quiet homes k.watch (change k.watch) same slots;
         turns_ok = turns_quiet z.frames z.cpus words words' h.given h.log quiet views h.holder id (Keeping k) (Keeping (watching change k)) at refl h.turns_ok;
         seats_ok = seats_stay (SeatOk z.frames z.cpus words' (watching change k) h.keeper h.seat_of h.holder h.given h.log) views id (Keeping (watching change k))
@@ -215,7 +216,7 @@ module _ (z : Size) where
     Keeping (watching (shut f) k),
     keeps,
     tt,
-    keeper_stepped s.words (set s.words (door_at f) (get_or k.watch.doors f 0 + 1)) s.homes s.views id k (shut f) h at (quiet_set z.frames z.cpus s.words (door_at f) (get_or k.watch.doors f 0 + 1) (omega arith)) same (plan_shut z.frames z.cpus s.words k.watch f inside)
+    keeper_stepped s.words (set s.words (door_at f) (get_or k.watch.doors f 0 + 1)) s.homes s.views id k (shut f) h at (quiet_set z.frames z.cpus s.words (door_at f) (get_or k.watch.doors f 0 + 1) (omega arith)) same refl (plan_shut z.frames z.cpus s.words k.watch f inside)
         (λ p q ok. pass_shut z.frames z.cpus s.words k.watch f q inside even p ok),
     λ g e. ap (λ j. (Keeping (watching (shut j) k), [])) (omega arith),
   )
@@ -232,7 +233,7 @@ module _ (z : Size) where
     Keeping (watching raised k),
     keeps,
     tt,
-    keeper_stepped s.words (set s.words 0 (k.watch.request + 1)) s.homes s.views id k raised h at (quiet_set z.frames z.cpus s.words 0 (k.watch.request + 1) (omega arith)) (λ f. refl) (plan_raised z.frames z.cpus s.words k.watch)
+    keeper_stepped s.words (set s.words 0 (k.watch.request + 1)) s.homes s.views id k raised h at (quiet_set z.frames z.cpus s.words 0 (k.watch.request + 1) (omega arith)) (λ f. refl) refl (plan_raised z.frames z.cpus s.words k.watch)
         (λ _ q ok. pass_raised z.frames z.cpus s.words k.watch q ok),
     refl,
   )
@@ -247,6 +248,6 @@ module _ (z : Size) where
         keeps,
         tt,
         subst (λ ws. Kept z ws s.homes (set s.views id (Keeping (watching (having_noted c n) k)))) (sym (set-get_or s.words (ack_at z.frames c) 0))
-            (keeper_stepped s.words s.words s.homes s.views id k (having_noted c n) h at (refl, λ i _. refl) (λ f. refl) (λ p. plan_noted z.frames z.cpus s.words k.watch c n inside refl p) (λ _ q ok. pass_noted z.frames z.cpus s.words k.watch c n q ok)),
+            (keeper_stepped s.words s.words s.homes s.views id k (having_noted c n) h at (refl, λ i _. refl) (λ f. refl) refl (λ p. plan_noted z.frames z.cpus s.words k.watch c n inside refl p) (λ _ q ok. pass_noted z.frames z.cpus s.words k.watch c n q ok)),
         λ d e. let same : c ≡ d = omega arith in (subst (λ j. get_or k.watch.noted j 0 ≤ n) same low, ap (λ j. (Keeping (watching (having_noted j n) k), [])) same),
       )

@@ -99,6 +99,7 @@ module _ (frames cpus : ℕ) (words : List ℕ) where
         few = b.few;
         left = b.left;
         zeros = b.zeros;
+        unmade = b.unmade;
         taken_in = b.taken_in;
       }
 

@@ -43,6 +43,7 @@ pub record BookOk (frames cpus : ℕ) (words : List ℕ) (plan : Holder) (given 
   pub few : (cpu : ℕ) → length (mine cpu log) ≤ 2 ^ 32
   pub left : HaveLeft given plan.watch log plan.ended
   pub zeros : (f : ℕ) → given f 0 ≡ replicate 1024 0
+  pub unmade : (cpu : ℕ) → plan.watch.made ≤ cpu → (mine cpu log ≡ []) × (slice_index_or plan.parts cpu Out ≡ Out)
   pub taken_in : (cpu : ℕ) (made : List Made) → slice_index_or plan.parts cpu Out ≡ In made → made ≡ mine cpu log
 
 -- a frame whose turn is free has its page in its slot

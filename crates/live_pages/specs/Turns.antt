@@ -4,7 +4,7 @@ use Rattle.atomic_table.specs.Table.{Step, Me}
 use Rattle.live_doors.specs.declared.views.Walk.{Walk}
 use Rattle.live_doors.specs.declared.views.Watch.{Watch}
 use Rattle.live_doors.specs.Doors.{blank, first_watch, having_read, having_noted, forgotten, acknowledged, shut, raised}
-use Rattle.live_doors.specs.Steps.{door_at, ack_at, filled}
+use Rattle.live_doors.specs.Steps.{door_at, ack_at, filled, first_words}
 use Rattle.live_pages.specs.declared.rule.Held.{Held}
 use Rattle.live_pages.specs.declared.touch.Touch.{Touch}
 use Rattle.live_pages.specs.declared.touch.Made.{Made}
@@ -37,6 +37,10 @@ first_walker frames cpus cpu = record { cpus = cpus; walk = blank frames cpu; ma
 -- the keeper at the start
 abbrev pub first_holder : ℕ → ℕ → Holder
 first_holder frames cpus = record { watch = first_watch frames cpus 1; hand = Free; ended = []; parts = replicate cpus Out }
+
+-- the words at the start: those of the doors, then every turn free and no ticket drawn
+abbrev pub opening_words : ℕ → ℕ → List ℕ
+opening_words frames cpus = first_words frames cpus 1 ++ replicate (frames + 1) 0
 
 -- what a pass's seat knows; of another seat that of a new pass
 abbrev pub walker_of : View → Walker

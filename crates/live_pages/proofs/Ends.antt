@@ -1,0 +1,197 @@
+-- The start, the making of passes, and the end.
+use Rattle.std.proofs.Common.{◌≡◌, ◌≢◌, ℕ, suc, zero, ◌+◌, ◌-◌, ◌*◌, ◌/◌, ◌%◌, ◌^◌, ◌<◌, ◌≤◌, ◌⊎◌, Bool, true, false, cond, eqb, List, [], ◌∷◌, ◌++◌, length, replicate, Option, Some, None, refl, sym, ap, subst, ◌∙◌, arith, get_or, set, inl, inr, ⊎_elim, map}
+use mathlib.Core.Logic.{dite}
+use mathlib.Core.Option as M
+use native.Mathlib.Decide.{ℕ_discrete, dec_lt}
+use prog.Atomic.{either}
+use lib.ListN.{get_elem?}
+use Rattle.std.proofs.lemmas.List.{length-replicate, length-append, get_or-replicate, get_or_append_left, get_or-append-add, set-get_or, get_or-set_same, get_or-set_other, length-set}
+use Rattle.std.proofs.lemmas.Bool.{eqb-true, eq-eqb, ne_eqb}
+use Rattle.std.proofs.lemmas.Option.{none-some}
+use Rattle.atomic_table.specs.Table.{State, Me, Act, Valid, step, keeps, takes, gives, homes_after, carried_after, Allows, Splits, Joins, Final, Seen, opening}
+use Rattle.atomic_table.proofs.Lists.{at_set, set_here, set_else, exchanged, at_map}
+use Rattle.live_doors.specs.declared.views.Walk.{Walk}
+use Rattle.live_doors.specs.declared.views.Watch.{Watch}
+use Rattle.live_doors.specs.Doors.{blank, first_watch, having_read, HasNoted, IsShut, MayBind}
+use Rattle.live_doors.specs.Steps.{door_at, ack_at, first_words}
+use Rattle.live_doors.specs.Kept.{EntryOk, PlanOk, PassOk}
+use Rattle.live_doors.proofs.Plain.{plan_admits, pass_admits, blank_ok, pass_stays, read_ok, entry_gone, entry_never}
+use Rattle.live_doors.proofs.Keeps.{seats_stay}
+use Rattle.live_pages.specs.declared.rule.Held.{Held}
+use Rattle.live_pages.specs.declared.rule.Size.{Size}
+use Rattle.live_pages.specs.declared.touch.Touch.{Touch}
+use Rattle.live_pages.specs.declared.touch.Made.{Made}
+use Rattle.live_pages.specs.declared.touch.Bound.{Bound}
+use Rattle.live_pages.specs.declared.views.Hand.{Hand}
+use Rattle.live_pages.specs.declared.views.Hand.TheVariants.{Free, Has}
+use Rattle.live_pages.specs.declared.views.Part.TheVariants.{Out, In}
+use Rattle.live_pages.specs.declared.views.Walker.{Walker}
+use Rattle.live_pages.specs.declared.views.Holder.{Holder}
+use Rattle.live_pages.specs.declared.views.View.{View}
+use Rattle.live_pages.specs.declared.views.View.TheVariants.{Passing, Keeping, Spent}
+use Rattle.live_pages.specs.Touches.{touched, answer, Given, after, IsLegal, mine}
+use Rattle.live_pages.specs.Turns.{first_walker, first_holder, opening_words, keeper_with_pass, pass_of_keeper, taken_in, turn_at, ticket_at, current, hand_of, walking, watching, walker_of, holder_of, binding_in, binding_at, taken, having_made, page_of, admitted, bound_anew, Takes, Draws, Gives, KeeperTakes, Binds, KeeperGives}
+use Rattle.live_pages.specs.Kept.{AreOfBindings, HaveLeft, BookOk, SlotsOk, TurnsOk, HandOk, HoldsHand, WalkerOk, SeatOk, Kept}
+use Rattle.live_pages.proofs.Replay.{after_here, after_frame, after_else, after_next, regiven, regiven_binding, legal_next, left_next, bindings_stay, left_stays, left_touched, mine_here, mine_else, tickets_fit}
+use Rattle.live_pages.proofs.Quiet.{set_at, InOrder, pass_stepped}
+use Rattle.live_pages.proofs.Turning.{put, put_here, put_else, has_frame, has_page, free_has, plan_above, pass_above}
+
+-- where the last of a longer list stands
+snoc_place : {V : Type 0} (l : List V) (a b : V) (j : ℕ) → get_elem? (l ++ a ∷ []) j ≡ M.some b → (get_elem? l j ≡ M.some b) ⊎ ((j ≡ length l) × (a ≡ b))
+snoc_place [] a b zero e = inr (refl, M.some-injective a b e)
+snoc_place [] a b (suc j) e = absurd (M.some-ne-none b (sym e))
+snoc_place (x ∷ xs) a b zero e = inl e
+snoc_place (x ∷ xs) a b (suc j) e = ⊎_elim (λ t. inl t) (λ (t : (j ≡ length xs) × (a ≡ b)). inr (ap suc t.0, t.1)) (snoc_place xs a b j e)
+
+at_longer : {V : Type 0} (l m : List V) (j : ℕ) (a : V) → get_elem? l j ≡ M.some a → get_elem? (l ++ m) j ≡ M.some a
+at_longer [] m j a e = absurd (M.some-ne-none a (sym e))
+at_longer (x ∷ xs) m zero a e = e
+at_longer (x ∷ xs) m (suc j) a e = at_longer xs m j a e
+
+module _ (z : Size) where
+  -- the keeper makes the pass of the next processor
+  pub admits : (id : ℕ) (k : Holder) → k.watch.made < z.cpus → length k.watch.doors ≡ z.frames → length k.parts ≡ z.cpus → Splits (InOrder z) id (Keeping k) (keeper_with_pass (Keeping k)) (pass_of_keeper (Keeping k))
+  admits id k room row count s h at =
+      let own = h.seats_ok id (Keeping k) at in
+      let book : BookOk z.frames z.cpus s.words k h.given h.log = subst (λ p. BookOk z.frames z.cpus s.words p h.given h.log) (sym own.1) h.book_ok in
+      let k' : Holder = watching (λ w. record w { made = w.made + 1 }) k in
+      let longer : List View = set s.views id (Keeping k') in
+      let seat_of : ℕ → ℕ = put k.watch.made (length longer) h.seat_of in
+      record {
+        plan = k';
+        keeper = h.keeper;
+        seat_of = seat_of;
+        holder = h.holder;
+        given = h.given;
+        log = h.log;
+        book_ok = record {
+          plan_ok = plan_admits z.frames z.cpus s.words k.watch room book.plan_ok;
+          room = book.room;
+          parts = book.parts;
+          ticket = book.ticket;
+          legal = book.legal;
+          bindings = bindings_stay z.cpus k.watch k'.watch h.log (λ f. omega arith) book.bindings;
+          few = book.few;
+          left = left_stays h.given k.watch k'.watch h.log k.ended (λ f. omega arith) book.left;
+          zeros = book.zeros;
+          unmade = λ c above. book.unmade c (omega arith);
+          taken_in = book.taken_in;
+        };
+        slots_ok = subst (λ p. SlotsOk z.frames z.cpus s.words s.homes p.watch h.given h.log) (sym own.1) h.slots_ok;
+        turns_ok = λ f inside busy.
+            let old = h.turns_ok f inside busy in
+            dite (ℕ_discrete (h.holder f) id)
+            (λ (here : h.holder f ≡ id).
+                let is : old.0 ≡ Keeping k = M.some-injective _ _ (sym old.2 ∙ ap (get_elem? s.views) here ∙ at) in
+                (Keeping k', old.1, at_longer longer (pass_of_keeper (Keeping k) ∷ []) (h.holder f) (Keeping k') (ap (get_elem? longer) here ∙ set_at s.views id (Keeping k) (Keeping k') at), sym (ap hand_of is) ∙ old.3))
+            (λ (other : h.holder f ≢ id). (old.0, old.1, at_longer longer (pass_of_keeper (Keeping k) ∷ []) (h.holder f) old.0 (set_else s.views id (h.holder f) (Keeping k') other ∙ old.2), old.3));
+        seats_ok = λ j v e. ⊎_elim
+            (λ (old : get_elem? longer j ≡ M.some v).
+                seats_stay (SeatOk z.frames z.cpus s.words k' h.keeper seat_of h.holder h.given h.log) s.views id (Keeping k')
+                    (own.0, refl, subst (λ p. HandOk z.frames z.cpus s.words p.watch h.holder h.given h.log id k.hand) (sym own.1) own.2)
+                    (λ i u other there. stays s.words h.keeper h.seat_of h.holder h.given h.log (length longer) own.0 i u other (subst (λ p. SeatOk z.frames z.cpus s.words p h.keeper h.seat_of h.holder h.given h.log i u) (sym own.1) (h.seats_ok i u there)))
+                    j v old)
+            (λ (new : (j ≡ length longer) × (pass_of_keeper (Keeping k) ≡ v)).
+                subst (λ (x : ℕ × View). SeatOk z.frames z.cpus s.words k' h.keeper seat_of h.holder h.given h.log x.0 x.1) (λ i. (sym new.0 i, new.1 i))
+                    (
+                      put_here k.watch.made (length longer) h.seat_of,
+                      record {
+                        all = count;
+                        pass_ok = subst (λ n. PassOk z.frames z.cpus s.words k'.watch (blank n k.watch.made)) (sym row) (blank_ok z.frames z.cpus s.words k.watch room book.plan_ok);
+                        made = sym (book.unmade k.watch.made (omega arith)).0;
+                        hand_ok = tt;
+                        holds = tt;
+                        out = (book.unmade k.watch.made (omega arith)).1;
+                      },
+                    ))
+            (snoc_place longer (pass_of_keeper (Keeping k)) v j e);
+      }
+    where
+      stays : (words : List ℕ) (keeper : ℕ) (seat_of holder : ℕ → ℕ) (given : Given) (log : List Made) (new : ℕ) → keeper ≡ id → (j : ℕ) (v : View) → j ≢ id → SeatOk z.frames z.cpus words k keeper seat_of holder given log j v
+          → SeatOk z.frames z.cpus words (watching (λ w. record w { made = w.made + 1 }) k) keeper (put k.watch.made new seat_of) holder given log j v
+      stays words keeper seat_of holder given log new here j (Passing q) other ok = (
+        put_else k.watch.made q.walk.cpu new seat_of (λ e. let m = ok.1.pass_ok.made in omega arith) ∙ ok.0,
+        record { all = ok.1.all; pass_ok = pass_admits z.frames z.cpus words k.watch q.walk ok.1.pass_ok; made = ok.1.made; hand_ok = same_hand words holder given log j q.hand ok.1.hand_ok; holds = ok.1.holds; out = ok.1.out },
+      )
+        where
+          same_hand : (words : List ℕ) (holder : ℕ → ℕ) (given : Given) (log : List Made) (j : ℕ) (hand : Hand) → HandOk z.frames z.cpus words k.watch holder given log j hand → HandOk z.frames z.cpus words (record k.watch { made = k.watch.made + 1 }) holder given log j hand
+          same_hand words holder given log j Free ok = tt
+          same_hand words holder given log j (Has g page) ok = ok
+      stays words keeper seat_of holder given log new here j (Keeping u) other ok = absurd (other (sym ok.0 ∙ here))
+      stays words keeper seat_of holder given log new here j Spent other ok = tt
+
+  -- the keeper takes a pass in, with its touches
+  pub takes_in : (id other : ℕ) (k : Holder) (q : Walker) → q.hand ≡ Free → Joins (InOrder z) id (Keeping k) other (Passing q) (taken_in (Keeping k) (Passing q)) Spent
+  takes_in id other k q free s h at apart there =
+      let own = h.seats_ok id (Keeping k) at in
+      let book : BookOk z.frames z.cpus s.words k h.given h.log = subst (λ p. BookOk z.frames z.cpus s.words p h.given h.log) (sym own.1) h.book_ok in
+      let there' : get_elem? s.views other ≡ M.some (Passing q) = sym (set_else s.views id other (taken_in (Keeping k) (Passing q)) apart) ∙ there in
+      let his = h.seats_ok other (Passing q) there' in
+      let k' : Holder = record k { parts = set k.parts q.walk.cpu (In q.made) } in
+      let made : q.walk.cpu < k.watch.made = subst (λ p. q.walk.cpu < p.watch.made) (sym own.1) his.1.pass_ok.made in
+      let inside : q.walk.cpu < length k.parts = (let m = book.plan_ok.made in let c = book.parts in omega arith) in
+      record {
+        plan = k';
+        keeper = h.keeper;
+        seat_of = h.seat_of;
+        holder = h.holder;
+        given = h.given;
+        log = h.log;
+        book_ok = record {
+          plan_ok = book.plan_ok;
+          room = book.room;
+          parts = length-set k.parts q.walk.cpu (In q.made) ∙ book.parts;
+          ticket = book.ticket;
+          legal = book.legal;
+          bindings = book.bindings;
+          few = book.few;
+          left = book.left;
+          zeros = book.zeros;
+          unmade = λ c above. ((book.unmade c above).0, get_or-set_other k.parts q.walk.cpu c (In q.made) Out (λ e. omega arith) ∙ (book.unmade c above).1);
+          taken_in = λ c list part. dite (ℕ_discrete c q.walk.cpu)
+              (λ (same : c ≡ q.walk.cpu).
+                  let is : In q.made ≡ In list = sym (get_or-set_same k.parts q.walk.cpu (In q.made) Out inside) ∙ subst (λ j. get_or (set k.parts q.walk.cpu (In q.made)) j Out ≡ In list) same part in
+                  sym (ap list_of is) ∙ his.1.made ∙ ap (λ j. mine j h.log) (sym same))
+              (λ (else : c ≢ q.walk.cpu). book.taken_in c list (sym (get_or-set_other k.parts q.walk.cpu c (In q.made) Out else) ∙ part));
+        };
+        slots_ok = subst (λ p. SlotsOk z.frames z.cpus s.words s.homes p.watch h.given h.log) (sym own.1) h.slots_ok;
+        turns_ok = λ f within busy.
+            let old = h.turns_ok f within busy in
+            let away : h.holder f ≢ other = λ here. free_has f old.1 (sym free ∙ sym (ap hand_of (M.some-injective _ _ (sym old.2 ∙ ap (get_elem? s.views) here ∙ there'))) ∙ old.3) in
+            dite (ℕ_discrete (h.holder f) id)
+            (λ (here : h.holder f ≡ id).
+                let is : old.0 ≡ Keeping k = M.some-injective _ _ (sym old.2 ∙ ap (get_elem? s.views) here ∙ at) in
+                (Keeping k', old.1, set_else (set s.views id (Keeping k')) other (h.holder f) Spent away ∙ ap (get_elem? (set s.views id (Keeping k'))) here ∙ set_at s.views id (Keeping k) (Keeping k') at, sym (ap hand_of is) ∙ old.3))
+            (λ (else : h.holder f ≢ id). (old.0, old.1, set_else (set s.views id (Keeping k')) other (h.holder f) Spent away ∙ set_else s.views id (h.holder f) (Keeping k') else ∙ old.2, old.3));
+        seats_ok = seats_spent s.words s.views id other k' h.keeper h.seat_of h.holder h.given h.log
+            (own.0, refl, subst (λ p. HandOk z.frames z.cpus s.words p.watch h.holder h.given h.log id k.hand) (sym own.1) own.2)
+            (λ j v not_id not_other e. stays s.words h.keeper h.seat_of h.holder h.given h.log own.0 his.0 j v not_id not_other (subst (λ p. SeatOk z.frames z.cpus s.words p h.keeper h.seat_of h.holder h.given h.log j v) (sym own.1) (h.seats_ok j v e)));
+      }
+    where
+      list_of : Rattle.live_pages.specs.declared.views.Part.Part → List Made
+      list_of Out = []
+      list_of (In l) = l
+      seats_spent : (words : List ℕ) (views : List View) (id other : ℕ) (k' : Holder) (keeper : ℕ) (seat_of holder : ℕ → ℕ) (given : Given) (log : List Made) → SeatOk z.frames z.cpus words k' keeper seat_of holder given log id (Keeping k')
+          → ((j : ℕ) (v : View) → j ≢ id → j ≢ other → get_elem? views j ≡ M.some v → SeatOk z.frames z.cpus words k' keeper seat_of holder given log j v) → (j : ℕ) (v : View) → get_elem? (set (set views id (Keeping k')) other Spent) j ≡ M.some v
+          → SeatOk z.frames z.cpus words k' keeper seat_of holder given log j v
+      seats_spent words views id other k' keeper seat_of holder given log own others =
+          seats_stay (SeatOk z.frames z.cpus words k' keeper seat_of holder given log) (set views id (Keeping k')) other Spent tt
+              (λ j v not_other e. ⊎_elim
+                  (λ (t : (j ≡ id) × (Keeping k' ≡ v)). subst (λ (x : ℕ × View). SeatOk z.frames z.cpus words k' keeper seat_of holder given log x.0 x.1) (λ i. (sym t.0 i, t.1 i)) own)
+                  (λ (t : (j ≢ id) × (get_elem? views j ≡ M.some v)). others j v t.0 not_other t.1)
+                  (at_set views id j (Keeping k') v e))
+      stays : (words : List ℕ) (keeper : ℕ) (seat_of holder : ℕ → ℕ) (given : Given) (log : List Made) → keeper ≡ id → seat_of q.walk.cpu ≡ other → (j : ℕ) (v : View) → j ≢ id → j ≢ other
+          → SeatOk z.frames z.cpus words k keeper seat_of holder given log j v → SeatOk z.frames z.cpus words (record k { parts = set k.parts q.walk.cpu (In q.made) }) keeper seat_of holder given log j v
+      stays words keeper seat_of holder given log here theirs j (Passing u) not_id not_other ok = (
+        ok.0,
+        record {
+          all = ok.1.all;
+          pass_ok = ok.1.pass_ok;
+          made = ok.1.made;
+          hand_ok = ok.1.hand_ok;
+          holds = ok.1.holds;
+          out = get_or-set_other k.parts q.walk.cpu u.walk.cpu (In q.made) Out (λ e. not_other (sym ok.0 ∙ ap seat_of e ∙ theirs)) ∙ ok.1.out;
+        },
+      )
+      stays words keeper seat_of holder given log here theirs j (Keeping u) not_id not_other ok = absurd (not_id (sym ok.0 ∙ here))
+      stays words keeper seat_of holder given log here theirs j Spent not_id not_other ok = tt
