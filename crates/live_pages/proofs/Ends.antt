@@ -195,3 +195,92 @@ module _ (z : Size) where
       )
       stays words keeper seat_of holder given log here theirs j (Keeping u) not_id not_other ok = absurd (not_id (sym ok.0 ∙ here))
       stays words keeper seat_of holder given log here theirs j Spent not_id not_other ok = tt
+
+  first_length : length (first_words z.frames z.cpus 1) ≡ 1 + z.frames + z.cpus
+  first_length =
+      let row : List ℕ = replicate z.frames 1 in
+      let acks : List ℕ = replicate z.cpus 0 in
+      let a : length row ≡ z.frames = length-replicate z.frames 1 in
+      let b : length acks ≡ z.cpus = length-replicate z.cpus 0 in
+      let c = length-append row acks in omega arith
+
+  door_word : (f : ℕ) → f < z.frames → get_or (opening_words z.frames z.cpus) (door_at f) 0 ≡ get_or (replicate z.frames 1) f 0
+  door_word f inside =
+      let row : List ℕ = replicate z.frames 1 in
+      let acks : List ℕ = replicate z.cpus 0 in
+      let l : length row ≡ z.frames = length-replicate z.frames 1 in
+      let n = first_length in
+      let one : door_at f ≡ suc f = omega arith in
+      get_or_append_left (first_words z.frames z.cpus 1) (replicate (z.frames + 1) 0) 0 (door_at f) (omega arith) ∙ ap (λ i. get_or (0 ∷ (row ++ acks)) i 0) one ∙ get_or_append_left row acks 0 f (omega arith)
+
+  ack_word : (c : ℕ) → c < z.cpus → get_or (opening_words z.frames z.cpus) (ack_at z.frames c) 0 ≡ 0
+  ack_word c inside =
+      let row : List ℕ = replicate z.frames 1 in
+      let acks : List ℕ = replicate z.cpus 0 in
+      let l : length row ≡ z.frames = length-replicate z.frames 1 in
+      let n = first_length in
+      let one : ack_at z.frames c ≡ suc (length row + c) = omega arith in
+      get_or_append_left (first_words z.frames z.cpus 1) (replicate (z.frames + 1) 0) 0 (ack_at z.frames c) (omega arith) ∙ ap (λ i. get_or (0 ∷ (row ++ acks)) i 0) one ∙ get_or-append-add row acks c 0
+          ∙ get_or-replicate z.cpus c 0 0 inside
+
+  turn_word : (f : ℕ) → f < z.frames + 1 → get_or (opening_words z.frames z.cpus) (turn_at z.frames z.cpus f) 0 ≡ 0
+  turn_word f inside =
+      let n = first_length in
+      let one : turn_at z.frames z.cpus f ≡ length (first_words z.frames z.cpus 1) + f = omega arith in
+      ap (λ i. get_or (opening_words z.frames z.cpus) i 0) one ∙ get_or-append-add (first_words z.frames z.cpus 1) (replicate (z.frames + 1) 0) f 0 ∙ get_or-replicate (z.frames + 1) f 0 0 inside
+
+  opening_length : length (opening_words z.frames z.cpus) ≡ 1 + z.frames + z.cpus + (z.frames + 1)
+  opening_length =
+      let tail : List ℕ = replicate (z.frames + 1) 0 in
+      let a : length tail ≡ z.frames + 1 = length-replicate (z.frames + 1) 0 in
+      let n = first_length in
+      let c = length-append (first_words z.frames z.cpus 1) tail in omega arith
+
+  -- the rule holds at the start, with a page of zeros in each slot
+  pub opens : (words : List ℕ) (slots : List (Option Held)) → words ≡ opening_words z.frames z.cpus → ((f : ℕ) → f < z.frames → (h : Held) × (get_elem? slots f ≡ M.some (Some h)) × (h.page ≡ replicate 1024 0))
+      → Kept z words (map M.some slots) (Keeping (first_holder z.frames z.cpus) ∷ [])
+  opens words slots is zeros = subst (λ ws. Kept z ws (map M.some slots) (Keeping (first_holder z.frames z.cpus) ∷ [])) (sym is) record {
+      plan = first_holder z.frames z.cpus;
+      keeper = 0;
+      seat_of = λ c. 0;
+      holder = λ f. 0;
+      given = λ f b. replicate 1024 0;
+      log = [];
+      book_ok = record {
+        plan_ok = record {
+          room = (let n = opening_length in omega arith);
+          doors_row = length-replicate z.frames 1;
+          since_row = length-replicate z.frames 0;
+          noted_row = length-replicate z.cpus 0;
+          made = omega arith;
+          request = refl;
+          doors = λ f inside. door_word f inside;
+          least = λ f inside. subst (λ k. 1 ≤ k) (sym (get_or-replicate z.frames f 1 0 inside)) (omega arith);
+          noted = λ c inside. subst (λ k. k ≤ get_or (opening_words z.frames z.cpus) (ack_at z.frames c) 0) (sym (get_or-replicate z.cpus c 0 0 inside)) (omega arith);
+          unmade = λ c above inside. ack_word c inside;
+        };
+        room = (let n = opening_length in omega arith);
+        parts = length-replicate z.cpus Out;
+        ticket = turn_word z.frames (omega arith);
+        legal = tt;
+        bindings = tt;
+        few = λ c. omega arith;
+        left = tt;
+        zeros = λ f. refl;
+        unmade = λ c above. (refl, all_out z.cpus c);
+        taken_in = λ c list part. absurd (out_in list (all_out z.cpus c) part);
+      };
+      slots_ok = λ f inside free. let zero_page = zeros f inside in (zero_page.0, at_map M.some slots f (Some zero_page.0) zero_page.1, zero_page.2);
+      turns_ok = λ f inside busy. absurd (busy (turn_word f (omega arith)));
+      seats_ok = one;
+    }
+    where
+      all_out : (n c : ℕ) → get_or (replicate n Out) c Out ≡ Out
+      all_out zero c = refl
+      all_out (suc n) zero = refl
+      all_out (suc n) (suc c) = all_out n c
+      out_in : {p : Rattle.live_pages.specs.declared.views.Part.Part} (made : List Made) → p ≡ Out → p ≡ In made → ⊥
+      out_in made a i = absurd (cc)
+      one : (j : ℕ) (v : View) → get_elem? (Keeping (first_holder z.frames z.cpus) ∷ []) j ≡ M.some v → SeatOk z.frames z.cpus (opening_words z.frames z.cpus) (first_holder z.frames z.cpus) 0 (λ c. 0) (λ f. 0) (λ f b. replicate 1024 0) [] j v
+      one zero v e = subst (SeatOk z.frames z.cpus (opening_words z.frames z.cpus) (first_holder z.frames z.cpus) 0 (λ c. 0) (λ f. 0) (λ f b. replicate 1024 0) [] 0) (M.some-injective _ _ e) (refl, refl, tt)
+      one (suc j) v e = absurd (M.some-ne-none v (sym e))
