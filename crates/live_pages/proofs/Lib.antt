@@ -3,3 +3,4 @@ pub mod Quiet
 pub mod Turning
 pub mod Changing
 pub mod Ends
+pub mod Calls

@@ -7,17 +7,17 @@
 
 mod errors;
 mod laws;
-//mod keeper;
-//mod pages;
-//mod pass;
+mod keeper;
+mod pages;
+mod pass;
 mod rule;
 mod touch;
 mod views;
 
 pub use errors::{Behind, Busy, Closed, NoMemory};
-//pub use keeper::Keeper;
-//pub use pages::LivePages;
-//pub use pass::Pass;
+pub use keeper::Keeper;
+pub use pages::LivePages;
+pub use pass::Pass;
 pub use rule::{Frames, Held, Size};
 pub use touch::{Bound, Made, Touch, Touched};
 pub use views::{Hand, Holder, Part, View, Walker};

@@ -1,5 +1,8 @@
 //! Touches of pages.
-use mword::Word;
+ghost use Rattle.std.specs.Prelude.{◌≡◌, ◌<◌};
+ghost use Rattle.live_pages.specs.Touches.{touched, answer, place_of};
+
+use mword::{Page, Word};
 
 /// What a touch does with the word at a place of a page.
 #[derive(Clone, Copy, Debug, PartialEq, Eq)]
@@ -10,6 +13,28 @@ pub enum Touch {
     Put(u32, Word),
     /// Sets the sum modulo 2^36, and answers it.
     Add(u32, Word),
+}
+
+impl Touch {
+    // Touches a page, and answers the word.
+    pub(crate) fn apply(self, page: &mut Page) -> Word
+        requires { place_of self < 1024 }
+        ensures page { page.new ≡ touched self page.old }
+        ensures word { result ≡ answer self page.old }
+    {
+        match self {
+            Touch::Get(i) => page.get(i),
+            Touch::Put(i, word) => {
+                page.set(i, word);
+                word
+            }
+            Touch::Add(i, word) => {
+                let sum = page.get(i).plus(word);
+                page.set(i, sum);
+                sum
+            }
+        }
+    }
 }
 
 /// What a touch was answered.

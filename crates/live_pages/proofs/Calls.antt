@@ -1,0 +1,130 @@
+-- The steps at seats that are known to be a pass's or the keeper's, and what a call leaves.
+use Rattle.std.proofs.Common.{◌≡◌, ◌≢◌, ℕ, suc, zero, ◌+◌, ◌-◌, ◌*◌, ◌/◌, ◌%◌, ◌^◌, ◌<◌, ◌≤◌, ◌⊎◌, Bool, true, false, cond, eqb, List, [], ◌∷◌, ◌++◌, length, replicate, Option, Some, None, refl, sym, ap, subst, ◌∙◌, arith, get_or, set, inl, inr, ⊎_elim, IsTrue, is_some, ◌↔◌}
+use mathlib.Core.Option as M
+use prog.Atomic.{either}
+use Rattle.atomic_table.specs.Table.{State, Me, step, Allows}
+use Rattle.atomic_table.specs.Seated.{TableId}
+use Rattle.live_doors.specs.declared.views.Walk.{Walk}
+use Rattle.live_doors.specs.declared.views.Watch.{Watch}
+use Rattle.live_doors.specs.Doors.{HasNoted, MayBind, having_read, holding, having_noted, OnlyNoted}
+use Rattle.live_doors.specs.Steps.{door_at, ack_at, filled}
+use Rattle.live_doors.proofs.Calls.{filled_odd, filled_even, noted_still}
+use Rattle.live_pages.specs.declared.rule.Held.{Held}
+use Rattle.live_pages.specs.declared.rule.Size.{Size}
+use Rattle.live_pages.specs.declared.touch.Touch.{Touch}
+use Rattle.live_pages.specs.declared.views.Hand.{Hand}
+use Rattle.live_pages.specs.declared.views.Hand.TheVariants.{Free, Has}
+use Rattle.live_pages.specs.declared.views.Walker.{Walker}
+use Rattle.live_pages.specs.declared.views.Holder.{Holder}
+use Rattle.live_pages.specs.declared.views.View.{View}
+use Rattle.live_pages.specs.declared.views.View.TheVariants.{Passing, Keeping, Spent}
+use Rattle.live_pages.specs.Touches.{touched, answer}
+use Rattle.live_pages.specs.Turns.{Seat, turn_at, ticket_at, current, walking, watching, walker_of, holder_of, Fills, Forgets, Acknowledges, Closes, Raises, Looks, Takes, Draws, Gives, KeeperTakes, Binds, KeeperGives}
+use Rattle.live_pages.specs.Models.{PagesModel, PassModel, KeeperModel, IsPassOf, IsKeeperOf, SameButWatch, HasInHand, having_touched, touched_in_hand}
+use Rattle.live_pages.proofs.Quiet.{InOrder, fills, forgets, acknowledges, closes, raises, looks}
+use Rattle.live_pages.proofs.Turning.{takes_turn, gives_turn, keeper_takes, keeper_gives}
+use Rattle.live_pages.proofs.Changing.{draws, binds}
+
+module _ (z : Size) (slots id : ℕ) (m : Seat) where
+  pub fills_at : (f : ℕ) → m ≡ (Passing (walker_of m.0), []) → (walker_of m.0).hand ≡ Free → f < z.frames → Allows (InOrder z) slots id m (1 + f) (λ n. n) (Fills (step slots (1 + f) 0 0 M.none) m)
+  fills_at f is free inside = subst (λ x. Allows (InOrder z) slots id x (1 + f) (λ n. n) (Fills (step slots (1 + f) 0 0 M.none) x)) (sym is) (fills z slots id f (walker_of m.0) free inside)
+
+  pub forgets_at : m ≡ (Passing (walker_of m.0), []) → (walker_of m.0).hand ≡ Free → Allows (InOrder z) slots id m 0 (λ n. n) (Forgets (step slots 0 0 0 M.none) m)
+  forgets_at is free = subst (λ x. Allows (InOrder z) slots id x 0 (λ n. n) (Forgets (step slots 0 0 0 M.none) x)) (sym is) (forgets z slots id (walker_of m.0) free)
+
+  pub acknowledges_at : (i n : ℕ) → m ≡ (Passing (walker_of m.0), []) → (walker_of m.0).hand ≡ Free → (walker_of m.0).walk.cpu < z.cpus → i ≡ ack_at z.frames (walker_of m.0).walk.cpu → n ≡ (walker_of m.0).walk.stamp
+      → Allows (InOrder z) slots id m i (λ _. n) (λ _. Acknowledges (step slots i n 0 M.none) m n)
+  acknowledges_at i n is free inside word stamp =
+      subst (λ (x : ℕ × ℕ). Allows (InOrder z) slots id m x.0 (λ _. x.1) (λ _. Acknowledges (step slots x.0 x.1 0 M.none) m x.1)) (λ k. (sym word k, sym stamp k))
+          (subst (λ x. Allows (InOrder z) slots id x (ack_at z.frames (walker_of m.0).walk.cpu) (λ _. (walker_of m.0).walk.stamp) (λ _. Acknowledges (step slots (ack_at z.frames (walker_of m.0).walk.cpu) (walker_of m.0).walk.stamp 0 M.none) x (walker_of m.0).walk.stamp)) (sym is)
+              (acknowledges z slots id (walker_of m.0) free inside))
+
+  pub closes_at : (f n : ℕ) → m ≡ (Keeping (holder_of m.0), []) → f < z.frames → get_or (holder_of m.0).watch.doors f 0 % 2 ≡ 0 → f < length (holder_of m.0).watch.doors → n ≡ get_or (holder_of m.0).watch.doors f 0 + 1
+      → Allows (InOrder z) slots id m (1 + f) (λ _. n) (λ _. Closes (step slots (1 + f) n 0 M.none) m n)
+  closes_at f n is inside even row word =
+      subst (λ k. Allows (InOrder z) slots id m (1 + f) (λ _. k) (λ _. Closes (step slots (1 + f) k 0 M.none) m k)) (sym word)
+          (subst (λ x. Allows (InOrder z) slots id x (1 + f) (λ _. get_or (holder_of m.0).watch.doors f 0 + 1) (λ _. Closes (step slots (1 + f) (get_or (holder_of m.0).watch.doors f 0 + 1) 0 M.none) x (get_or (holder_of m.0).watch.doors f 0 + 1))) (sym is)
+              (closes z slots id f (holder_of m.0) inside even row))
+
+  pub raises_at : (n : ℕ) → m ≡ (Keeping (holder_of m.0), []) → n ≡ (holder_of m.0).watch.request + 1 → Allows (InOrder z) slots id m 0 (λ _. n) (λ _. Raises (step slots 0 n 0 M.none) m n)
+  raises_at n is word =
+      subst (λ k. Allows (InOrder z) slots id m 0 (λ _. k) (λ _. Raises (step slots 0 k 0 M.none) m k)) (sym word)
+          (subst (λ x. Allows (InOrder z) slots id x 0 (λ _. (holder_of m.0).watch.request + 1) (λ _. Raises (step slots 0 ((holder_of m.0).watch.request + 1) 0 M.none) x ((holder_of m.0).watch.request + 1))) (sym is) (raises z slots id (holder_of m.0)))
+
+  pub looks_at : (i c : ℕ) → m ≡ (Keeping (holder_of m.0), []) → i ≡ ack_at z.frames c → c < z.cpus → length (holder_of m.0).watch.doors ≡ z.frames → Allows (InOrder z) slots id m i (λ n. n) (Looks (step slots i 0 0 M.none) m)
+  looks_at i c is word inside row =
+      subst (λ k. Allows (InOrder z) slots id m k (λ n. n) (Looks (step slots k 0 0 M.none) m)) (sym word)
+          (subst (λ x. Allows (InOrder z) slots id x (ack_at z.frames c) (λ n. n) (Looks (step slots (ack_at z.frames c) 0 0 M.none) x)) (sym is) (looks z slots id c (holder_of m.0) inside row))
+
+  pub takes_turn_at : (i f b : ℕ) → m ≡ (Passing (walker_of m.0), []) → (walker_of m.0).hand ≡ Free → f < z.frames → get_or (walker_of m.0).walk.held f None ≡ Some b → i ≡ turn_at z.frames z.cpus f
+      → Allows (InOrder z) slots id m i (λ n. either (eqb n 0) 1 n) (Takes (step slots i 0 1 M.none) m)
+  takes_turn_at i f b is free inside holds word =
+      subst (λ k. Allows (InOrder z) slots id m k (λ n. either (eqb n 0) 1 n) (Takes (step slots k 0 1 M.none) m)) (sym word)
+          (subst (λ x. Allows (InOrder z) slots id x (turn_at z.frames z.cpus f) (λ n. either (eqb n 0) 1 n) (Takes (step slots (turn_at z.frames z.cpus f) 0 1 M.none) x)) (sym is) (takes_turn z slots id f b (walker_of m.0) free inside holds))
+
+  pub keeper_takes_at : (i f cleared : ℕ) → m ≡ (Keeping (holder_of m.0), []) → (holder_of m.0).hand ≡ Free → HasNoted (holder_of m.0).watch cleared → MayBind (holder_of m.0).watch cleared f → f < z.frames → i ≡ turn_at z.frames z.cpus f
+      → Allows (InOrder z) slots id m i (λ n. either (eqb n 0) 1 n) (KeeperTakes (step slots i 0 1 M.none) m)
+  keeper_takes_at i f cleared is free noted may inside word =
+      subst (λ k. Allows (InOrder z) slots id m k (λ n. either (eqb n 0) 1 n) (KeeperTakes (step slots k 0 1 M.none) m)) (sym word)
+          (subst (λ x. Allows (InOrder z) slots id x (turn_at z.frames z.cpus f) (λ n. either (eqb n 0) 1 n) (KeeperTakes (step slots (turn_at z.frames z.cpus f) 0 1 M.none) x)) (sym is) (keeper_takes z slots id f cleared (holder_of m.0) free noted may inside))
+
+module _ (z : Size) (slots id : ℕ) (m : Seat) (all : slots ≡ z.frames) where
+  pub draws_at : (i f : ℕ) (hd : Held) (page : List ℕ) → m ≡ (Passing (walker_of m.0), (f, Some hd) ∷ []) → z.cpus ≤ 8 → (walker_of m.0).hand ≡ Has f page → hd.page ≡ touched hd.touch page → hd.word ≡ answer hd.touch page → length (walker_of m.0).made < 2 ^ 32
+      → i ≡ ticket_at z.frames z.cpus → Allows (InOrder z) slots id m i (λ n. (n + 1) % 2 ^ 64) (Draws (step slots i 1 0 M.none) m)
+  draws_at i f hd page is low has after_touch word few place =
+      subst (λ (k : ℕ × ℕ). Allows (InOrder z) k.0 id m k.1 (λ n. (n + 1) % 2 ^ 64) (Draws (step k.0 k.1 1 0 M.none) m)) (λ j. (sym all j, sym place j))
+          (subst (λ x. Allows (InOrder z) z.frames id x (ticket_at z.frames z.cpus) (λ n. (n + 1) % 2 ^ 64) (Draws (step z.frames (ticket_at z.frames z.cpus) 1 0 M.none) x)) (sym is) (draws z id f (walker_of m.0) hd page low has after_touch word few))
+
+  pub gives_turn_at : (i f : ℕ) (hd : Held) → m ≡ (Passing (walker_of m.0), (f, Some hd) ∷ []) → (walker_of m.0).hand ≡ Has f hd.page → i ≡ turn_at z.frames z.cpus f → Allows (InOrder z) slots id m i (λ _. 0) (λ _. Gives (step slots i 0 0 M.none) m 0)
+  gives_turn_at i f hd is has place =
+      subst (λ (k : ℕ × ℕ). Allows (InOrder z) k.0 id m k.1 (λ _. 0) (λ _. Gives (step k.0 k.1 0 0 M.none) m 0)) (λ j. (sym all j, sym place j))
+          (subst (λ x. Allows (InOrder z) z.frames id x (turn_at z.frames z.cpus f) (λ _. 0) (λ _. Gives (step z.frames (turn_at z.frames z.cpus f) 0 0 M.none) x 0)) (sym is) (gives_turn z id f (walker_of m.0) hd has))
+
+  pub binds_at : (f n cleared : ℕ) (hd : Held) (page : List ℕ) → m ≡ (Keeping (holder_of m.0), (f, Some hd) ∷ []) → (holder_of m.0).hand ≡ Has f page → HasNoted (holder_of m.0).watch cleared → MayBind (holder_of m.0).watch cleared f → n ≡ 2 * (current (holder_of m.0).watch f + 1)
+      → Allows (InOrder z) slots id m (1 + f) (λ _. n) (λ _. Binds (step slots (1 + f) n 0 M.none) m n)
+  binds_at f n cleared hd page is has noted may word =
+      subst (λ (k : ℕ × ℕ). Allows (InOrder z) k.0 id m (1 + f) (λ _. k.1) (λ _. Binds (step k.0 (1 + f) k.1 0 M.none) m k.1)) (λ j. (sym all j, sym word j))
+          (subst (λ x. Allows (InOrder z) z.frames id x (1 + f) (λ _. 2 * (current (holder_of m.0).watch f + 1)) (λ _. Binds (step z.frames (1 + f) (2 * (current (holder_of m.0).watch f + 1)) 0 M.none) x (2 * (current (holder_of m.0).watch f + 1)))) (sym is)
+              (binds z id f cleared (holder_of m.0) hd page has noted may))
+
+  pub keeper_gives_at : (i f : ℕ) (hd : Held) → m ≡ (Keeping (holder_of m.0), (f, Some hd) ∷ []) → (holder_of m.0).hand ≡ Has f hd.page → i ≡ turn_at z.frames z.cpus f → Allows (InOrder z) slots id m i (λ _. 0) (λ _. KeeperGives (step slots i 0 0 M.none) m 0)
+  keeper_gives_at i f hd is has place =
+      subst (λ (k : ℕ × ℕ). Allows (InOrder z) k.0 id m k.1 (λ _. 0) (λ _. KeeperGives (step k.0 k.1 0 0 M.none) m 0)) (λ j. (sym all j, sym place j))
+          (subst (λ x. Allows (InOrder z) z.frames id x (turn_at z.frames z.cpus f) (λ _. 0) (λ _. KeeperGives (step z.frames (turn_at z.frames z.cpus f) 0 0 M.none) x 0)) (sym is) (keeper_gives z id f (holder_of m.0) hd has))
+
+-- a pass whose fields are those of its view
+abbrev pub PassFits : Seat → ℕ → List (Option ℕ) → ℕ → Type 0
+PassFits m cpu held stamp = (m ≡ (Passing (walker_of m.0), [])) × ((walker_of m.0).hand ≡ Free) × (cpu ≡ (walker_of m.0).walk.cpu) × (held ≡ (walker_of m.0).walk.held) × (stamp ≡ (walker_of m.0).walk.stamp)
+
+pub pass_fits : (m : Seat) (q : Walker) (cpu : ℕ) (held : List (Option ℕ)) (stamp : ℕ) → m ≡ (Passing q, []) → q.hand ≡ Free → cpu ≡ q.walk.cpu → held ≡ q.walk.held → stamp ≡ q.walk.stamp → PassFits m cpu held stamp
+pass_fits m q cpu held stamp is free a b c = subst (λ x. PassFits x cpu held stamp) (sym is) (refl, free, a, b, c)
+
+-- it came with the same pages as before
+pub pass_stays_of : (pages : PagesModel) (now : PassModel) (t t' : TableId) (m m' : Seat) (q : Walker) → record { table = t; walker = walker_of m.0 } ≡ now → IsPassOf pages now → t' ≡ t → m' ≡ (Passing q, [])
+    → length q.walk.held ≡ length (walker_of m.0).walk.held → q.walk.cpu ≡ (walker_of m.0).walk.cpu → q.cpus ≡ (walker_of m.0).cpus → IsPassOf pages record { table = t'; walker = walker_of m'.0 }
+pass_stays_of pages now t t' m m' q view ok same is row cpu all = record {
+    table = same ∙ ap (λ v. v.table) view ∙ ok.table;
+    frames = ap (λ x. length (walker_of x.0).walk.held) is ∙ row ∙ ap (λ v. length v.walker.walk.held) view ∙ ok.frames;
+    cpu = subst (λ k. k < pages.cpus) (sym (ap (λ x. (walker_of x.0).walk.cpu) is ∙ cpu ∙ ap (λ v. v.walker.walk.cpu) view)) ok.cpu;
+    cpus = ap (λ x. (walker_of x.0).cpus) is ∙ all ∙ ap (λ v. v.walker.cpus) view ∙ ok.cpus;
+  }
+
+-- a keeper whose fields are those of its view
+abbrev pub KeeperFits : Seat → ℕ → List ℕ → List ℕ → ℕ → Type 0
+KeeperFits m request doors since cleared =
+    (m ≡ (Keeping (holder_of m.0), [])) × ((holder_of m.0).hand ≡ Free) × (request ≡ (holder_of m.0).watch.request) × (doors ≡ (holder_of m.0).watch.doors) × (since ≡ (holder_of m.0).watch.since) × HasNoted (holder_of m.0).watch cleared
+
+pub keeper_fits : (m : Seat) (k : Holder) (request : ℕ) (doors since : List ℕ) (cleared : ℕ) → m ≡ (Keeping k, []) → k.hand ≡ Free → request ≡ k.watch.request → doors ≡ k.watch.doors → since ≡ k.watch.since → HasNoted k.watch cleared → KeeperFits m request doors since cleared
+keeper_fits m k request doors since cleared is free a b c d = subst (λ x. KeeperFits x request doors since cleared) (sym is) (refl, free, a, b, c, d)
+
+-- it came with the same pages as before
+pub keeper_stays_of : (pages : PagesModel) (now : KeeperModel) (t t' : TableId) (cleared cleared' : ℕ) (m m' : Seat) (k : Holder) → record { table = t; holder = holder_of m.0; cleared = cleared } ≡ now → IsKeeperOf pages now → t' ≡ t → m' ≡ (Keeping k, [])
+    → length k.watch.doors ≡ length (holder_of m.0).watch.doors → length k.watch.since ≡ length (holder_of m.0).watch.since → length k.watch.noted ≡ length (holder_of m.0).watch.noted → length k.parts ≡ length (holder_of m.0).parts
+    → IsKeeperOf pages record { table = t'; holder = holder_of m'.0; cleared = cleared' }
+keeper_stays_of pages now t t' cleared cleared' m m' k view ok same is a b c d = record {
+    table = same ∙ ap (λ v. v.table) view ∙ ok.table;
+    frames = ap (λ x. length (holder_of x.0).watch.doors) is ∙ a ∙ ap (λ v. length v.holder.watch.doors) view ∙ ok.frames;
+    since = ap (λ x. length (holder_of x.0).watch.since) is ∙ b ∙ ap (λ v. length v.holder.watch.since) view ∙ ok.since;
+    cpus = ap (λ x. length (holder_of x.0).watch.noted) is ∙ c ∙ ap (λ v. length v.holder.watch.noted) view ∙ ok.cpus;
+    parts = ap (λ x. length (holder_of x.0).parts) is ∙ d ∙ ap (λ v. length v.holder.parts) view ∙ ok.parts;
+  }

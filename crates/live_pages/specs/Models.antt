@@ -1,0 +1,67 @@
+-- What callers see of pages, passes and the keeper.
+use Rattle.std.specs.Prelude.{◌≡◌, ℕ, ◌+◌, ◌*◌, ◌<◌, ◌≤◌, List, [], ◌∷◌, length, slice_index, Some}
+use Rattle.atomic_table.specs.Seated.{TableId}
+use Rattle.live_doors.specs.declared.views.Watch.{Watch}
+use Rattle.live_doors.specs.Doors.{having_read}
+use Rattle.live_pages.specs.declared.touch.Touch.{Touch}
+use Rattle.live_pages.specs.declared.views.Hand.{Hand}
+use Rattle.live_pages.specs.declared.views.Hand.TheVariants.{Free, Has}
+use Rattle.live_pages.specs.declared.views.View.TheVariants.{Passing}
+use Rattle.live_pages.specs.declared.rule.Held.{Held}
+use Rattle.live_pages.specs.declared.views.Walker.{Walker}
+use Rattle.live_pages.specs.declared.views.Holder.{Holder}
+use Rattle.live_pages.specs.Turns.{Seat, walker_of, taken, having_made, bound_anew, admitted, current}
+
+-- which table it is, and how many frames and processors it has
+pub record PagesModel : Type 0 where
+  pub table : TableId
+  pub frames : ℕ
+  pub cpus : ℕ
+
+-- the table that the pass came with, and what the pass knows
+pub record PassModel : Type 0 where
+  pub table : TableId
+  pub walker : Walker
+
+-- the table that the keeper came with, what the keeper knows, and the greatest stamp for which all was clear
+pub record KeeperModel : Type 0 where
+  pub table : TableId
+  pub holder : Holder
+  pub cleared : ℕ
+
+-- the pass came with these pages
+pub record IsPassOf (pages : PagesModel) (pass : PassModel) : Type 0 where
+  pub table : pass.table ≡ pages.table
+  pub frames : length pass.walker.walk.held ≡ pages.frames
+  pub cpu : pass.walker.walk.cpu < pages.cpus
+  pub cpus : pass.walker.cpus ≡ pages.cpus
+
+-- the keeper came with these pages
+pub record IsKeeperOf (pages : PagesModel) (keeper : KeeperModel) : Type 0 where
+  pub table : keeper.table ≡ pages.table
+  pub frames : length keeper.holder.watch.doors ≡ pages.frames
+  pub since : length keeper.holder.watch.since ≡ pages.frames
+  pub cpus : length keeper.holder.watch.noted ≡ pages.cpus
+  pub parts : length keeper.holder.parts ≡ pages.cpus
+
+-- the seat is a pass's that has the turn of frame f, with the page of the slot in hand
+abbrev pub HasInHand : Seat → ℕ → Type 0
+HasInHand m f = (h : Held) × (m ≡ (Passing (walker_of m.0), (f, Some h) ∷ [])) × ((walker_of m.0).hand ≡ Has f h.page)
+
+-- the pass has made this touch of the page in hand, and has no turn any more
+abbrev pub touched_in_hand : ℕ → ℕ → Touch → ℕ → Walker → Walker
+touched_in_hand ticket f t word w = record (having_made ticket f t word [] w) { hand = Free }
+
+-- the pass has made this touch of frame f by this ticket, and has no turn
+abbrev pub having_touched : ℕ → ℕ → Touch → ℕ → Walker → Walker
+having_touched ticket f t word w = record (having_made ticket f t word [] (taken f [] w)) { hand = Free }
+
+-- Frame f's binding has ended and left this page, and its door admits the next one.
+abbrev pub rebound : ℕ → List ℕ → Holder → Holder
+rebound f left k = record k { watch = admitted f k.watch; ended = record { frame = f; binding = current k.watch f; left = left } ∷ k.ended }
+
+-- only doors, stamps and acknowledgements differ
+pub record SameButWatch (old new : Holder) : Type 0 where
+  pub hand : new.hand ≡ old.hand
+  pub ended : new.ended ≡ old.ended
+  pub parts : new.parts ≡ old.parts
