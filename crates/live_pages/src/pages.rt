@@ -185,9 +185,7 @@ impl LivePages {
         let Some(mut held) = words.exchange(seat, f as usize, None) else {
             unreachable!()
         };
-        let word = t.apply(&mut held.page);
-        held.touch = t;
-        held.word = word;
+        let word = held.touch(t);
         words.exchange(seat, f as usize, Some(held));
         let tickets = self.turn_word(f) + (self.frames - f) as usize;
         let ticket = words.fetch_add::<Draw>(seat, tickets, 1);
@@ -219,5 +217,41 @@ impl LivePages {
             return Err(Busy { word });
         }
         Ok(self.touch_in_hand(&mut pass.seat, f, t))
+    }
+
+    /// Gives frame `f` a new page, and hands out the old one, which no touch can reach any more. The door admits the next
+    /// binding. No pass holds an entry of the frame, so nobody has its turn.
+    ///
+    /// A few steps on words; takes no memory and never waits. Source: own.
+    pub fn bind(&self, keeper: &mut Keeper, f: u32, page: Page) -> Page
+        requires keeper { IsKeeperOf self.now keeper.old }
+        requires frame { f < self.now.frames }
+        requires may_bind { MayBind keeper.old.holder.watch keeper.old.cleared f }
+        requires room { current keeper.old.holder.watch f < 2 ^ 62 }
+        ensures keeper { IsKeeperOf self.now keeper.new }
+        ensures bound { keeper.new.holder ≡ rebound f result keeper.old.holder }
+        ensures cleared { keeper.new.cleared ≡ keeper.old.cleared }
+    {
+        let words = &self.table.shared;
+        let door = 2 * (keeper.doors[f as usize] / 2 + 1);
+        words.compare_exchange::<KeeperTake>(&mut keeper.seat, self.turn_word(f), 0, 1);
+        let Some(held) = words.exchange(&mut keeper.seat, f as usize, None) else {
+            unreachable!()
+        };
+        let Held {
+            page: old,
+            touch,
+            word,
+        } = held;
+        let new = Held {
+            page,
+            touch,
+            word,
+        };
+        words.exchange(&mut keeper.seat, f as usize, Some(new));
+        words.store::<Bind>(&mut keeper.seat, 1 + f as usize, door);
+        words.store::<KeeperGive>(&mut keeper.seat, self.turn_word(f), 0);
+        keeper.doors[f as usize] = door;
+        old
     }
 }

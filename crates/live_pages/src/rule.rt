@@ -1,6 +1,9 @@
 //! The rule of the table, and what each kind of step tells the seat that makes it.
 //! The words are those of the doors (the request, a door for each frame, an acknowledgement for each processor), then a
 //! turn for each frame and the number of tickets that were drawn. Slot f has the page of frame f.
+ghost use Rattle.std.specs.Prelude.{◌≡◌, ◌<◌};
+ghost use Rattle.live_pages.specs.Touches.{touched, answer, place_of};
+
 use crate::touch::Touch;
 use crate::views::View;
 use atomic_table::{Join, Play, Seat, Split, Table, TableRule};
@@ -20,6 +23,21 @@ pub struct Held {
     pub page: Page,
     pub touch: Touch,
     pub word: Word,
+}
+
+impl Held {
+    // Touches the page, and keeps the touch and its word beside it.
+    pub(crate) fn touch(&mut self, t: Touch) -> Word
+        requires { place_of t < 1024 }
+        ensures word { result ≡ answer t self.old.page }
+        ensures page { self.new.page ≡ touched t self.old.page }
+        ensures kept { (self.new.touch ≡ t) × (self.new.word ≡ result) }
+    {
+        let word = t.apply(&mut self.page);
+        self.touch = t;
+        self.word = word;
+        word
+    }
 }
 
 /// The rule over words, slots and views, by which each page is that of its frame's binding after its touches.
