@@ -22,7 +22,7 @@ use Rattle.live_pages.specs.declared.views.Holder.{Holder}
 use Rattle.live_pages.specs.declared.views.View.{View}
 use Rattle.live_pages.specs.declared.views.View.TheVariants.{Passing, Keeping, Spent}
 use Rattle.live_pages.specs.Touches.{touched, answer}
-use Rattle.live_pages.specs.Turns.{Seat, turn_at, ticket_at, current, walking, watching, walker_of, holder_of, Fills, Forgets, Acknowledges, Closes, Raises, Looks, Takes, Draws, Gives, KeeperTakes, Binds, KeeperGives}
+use Rattle.live_pages.specs.Turns.{Seat, having_made, taken, turn_at, ticket_at, current, walking, watching, walker_of, holder_of, Fills, Forgets, Acknowledges, Closes, Raises, Looks, Takes, Draws, Gives, KeeperTakes, Binds, KeeperGives}
 use Rattle.live_pages.specs.Models.{PagesModel, PassModel, KeeperModel, IsPassOf, IsKeeperOf, SameButWatch, HasInHand, having_touched, touched_in_hand}
 use Rattle.live_pages.proofs.Quiet.{InOrder, fills, forgets, acknowledges, closes, raises, looks}
 use Rattle.live_pages.proofs.Turning.{takes_turn, gives_turn, keeper_takes, keeper_gives}
@@ -182,3 +182,50 @@ module _ (pages : PagesModel) (old now next : KeeperModel) (stamp cpu seen : ℕ
 -- what a touch needs of the slot in hand
 pub slot_there : (m : Seat) (f : ℕ) → HasInHand m f → (old : Option Held) × (m.1 ≡ (f, old) ∷ rest m.1)
 slot_there m f (h, is, has) = (Some h, ap (λ x. x.1) is ∙ ap (λ x. (f, Some h) ∷ rest x.1) (sym is))
+
+-- a seat's view, from what it is
+pub self_form : (m : Seat) (w : Walker) (cs : List (ℕ × Option Held)) → m ≡ (Passing w, cs) → m ≡ (Passing (walker_of m.0), cs)
+self_form m w cs is = is ∙ ap (λ x. (Passing (walker_of x.0), cs)) (sym is)
+
+pub keeper_form : (m : Seat) (k : Holder) (cs : List (ℕ × Option Held)) → m ≡ (Keeping k, cs) → m ≡ (Keeping (holder_of m.0), cs)
+keeper_form m k cs is = is ∙ ap (λ x. (Keeping (holder_of x.0), cs)) (sym is)
+
+-- what lies in the slot in hand after two exchanges
+pub exchanged_twice : (m m1 m2 : Seat) (v : View) (f : ℕ) (h new : Option Held) → m ≡ (v, (f, h) ∷ []) → m1 ≡ (m.0, (f, None) ∷ rest m.1) → m2 ≡ (m1.0, (f, new) ∷ rest m1.1) → m2 ≡ (v, (f, new) ∷ [])
+exchanged_twice m m1 m2 v f h new is one two = two ∙ ap (λ x. (x.0, (f, new) ∷ rest x.1)) one ∙ ap (λ x. (x.0, (f, new) ∷ rest x.1)) is
+
+abbrev slot_of : List (ℕ × Option Held) → Option Held
+slot_of [] = None
+slot_of (x ∷ xs) = x.1
+
+-- what was found in the slot is what lay there
+pub found_in_slot : (m : Seat) (v : View) (f : ℕ) (h found : Option Held) → m ≡ (v, (f, h) ∷ []) → m.1 ≡ (f, found) ∷ rest m.1 → found ≡ h
+found_in_slot m v f h found is there = ap slot_of (sym there ∙ ap (λ x. x.1) is)
+
+abbrev held_in : Held → Option Held → Held
+held_in d None = d
+held_in d (Some h) = h
+
+pub same_held : (a b : Held) → Some a ≡ Some b → a ≡ b
+same_held a b e = ap (held_in a) e
+
+module _ (z : Size) (slots id : ℕ) (m : Seat) (all : slots ≡ z.frames) where
+  pub draws_in_hand : (i f : ℕ) (w : Walker) (hd : Held) (page : List ℕ) → m ≡ (Passing w, (f, Some hd) ∷ []) → z.cpus ≤ 8 → w.hand ≡ Has f page → hd.page ≡ touched hd.touch page → hd.word ≡ answer hd.touch page → length w.made < 2 ^ 32
+      → i ≡ ticket_at z.frames z.cpus → Allows (InOrder z) slots id m i (λ n. (n + 1) % 2 ^ 64) (Draws (step slots i 1 0 M.none) m)
+  draws_in_hand i f w hd page is low has after_touch word few place =
+      draws_at z slots id m all i f hd page (self_form m w ((f, Some hd) ∷ []) is) low (ap (λ x. (walker_of x.0).hand) is ∙ has) after_touch word (subst (λ x. length (walker_of x.0).made < 2 ^ 32) (sym is) few) place
+
+  pub gives_in_hand : (i f : ℕ) (w : Walker) (hd : Held) → m ≡ (Passing w, (f, Some hd) ∷ []) → w.hand ≡ Has f hd.page → i ≡ turn_at z.frames z.cpus f → Allows (InOrder z) slots id m i (λ _. 0) (λ _. Gives (step slots i 0 0 M.none) m 0)
+  gives_in_hand i f w hd is has place = gives_turn_at z slots id m all i f hd (self_form m w ((f, Some hd) ∷ []) is) (ap (λ x. (walker_of x.0).hand) is ∙ has) place
+
+-- the pass after its touch has drawn the ticket
+pub drawn : (m m' : Seat) (w : Walker) (f ticket : ℕ) (hd : Held) → m ≡ (Passing w, (f, Some hd) ∷ []) → m' ≡ (Passing (having_made ticket f hd.touch hd.word hd.page (walker_of m.0)), m.1) → m' ≡ (Passing (having_made ticket f hd.touch hd.word hd.page w), (f, Some hd) ∷ [])
+drawn m m' w f ticket hd is told = told ∙ ap (λ x. (Passing (having_made ticket f hd.touch hd.word hd.page (walker_of x.0)), x.1)) is
+
+-- and after it has given the turn back
+pub given_back : (m m' : Seat) (w : Walker) (f ticket word : ℕ) (t : Touch) (hd : Held) → m ≡ (Passing (having_made ticket f hd.touch hd.word hd.page w), (f, Some hd) ∷ []) → m' ≡ (Passing (record (walker_of m.0) { hand = Free }), []) → hd.touch ≡ t → hd.word ≡ word
+    → m' ≡ (Passing (touched_in_hand ticket f t word w), [])
+given_back m m' w f ticket word t hd is told touch_is word_is = told ∙ ap (λ x. (Passing (freed (walker_of x.0)), [])) is ∙ (λ i. (Passing (touched_in_hand ticket f (touch_is i) (word_is i) w), []))
+  where
+    freed : Walker → Walker
+    freed u = record u { hand = Free }

@@ -17,12 +17,12 @@ pub enum Touch {
 
 impl Touch {
     // Touches a page, and answers the word.
-    pub(crate) fn apply(self, page: &mut Page) -> Word
-        requires { place_of self < 1024 }
-        ensures page { page.new ≡ touched self page.old }
-        ensures word { result ≡ answer self page.old }
+    pub(crate) fn apply(&self, page: &mut Page) -> Word
+        requires { place_of self.now < 1024 }
+        ensures page { page.new ≡ touched self.now page.old }
+        ensures word { result ≡ answer self.now page.old }
     {
-        match self {
+        match *self {
             Touch::Get(i) => page.get(i),
             Touch::Put(i, word) => {
                 page.set(i, word);
