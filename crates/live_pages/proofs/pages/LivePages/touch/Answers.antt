@@ -1,43 +1,63 @@
-use Rattle.std.proofs.Common.{rules, ◌≡◌, ◌≢◌, [], ℕ, ◌+◌, ◌*◌, ◌%◌, ◌^◌, ◌<◌, ◌≤◌, All, max, length, slice_index, OnOk, OnErr, IfOk, IfErr, ◌-◌, ◌/◌, Bool, true, false, nat_eq, nat_lt, List, ◌∷◌, ◌++◌, slice_index_or, slice_set, bit_and, bit_or, Fits, w8, w32, w64, Bor, MutBor}
-use Rattle.live_doors.specs.Doors.{HoldsEntry, IsAdmitted, OnlyNoted, HasNoted, MayBind, having_read, holding, forgotten, acknowledged, shut, raised, having_noted}
-use Rattle.live_pages.specs.Touches.{place_of}
-use Rattle.live_pages.specs.Turns.{walking, watching, walker_of, current}
-use Rattle.live_pages.specs.declared.views.View.TheVariants.{Passing}
-use Rattle.live_pages.specs.Models.{HasInHand, touched_in_hand, IsPassOf, IsKeeperOf, SameButWatch, having_touched, rebound}
+use Rattle.std.proofs.Common.{rules, ◌≡◌, ℕ, ◌+◌, ◌*◌, ◌%◌, ◌^◌, ◌<◌, ◌≤◌, length, List, [], ◌∷◌, Some, None, sym, ap, refl, ◌∙◌, subst, arith, get_or}
+use Rattle.live_doors.specs.Doors.{having_read}
+use Rattle.live_pages.specs.declared.rule.Held.{Held}
+use Rattle.live_pages.specs.declared.views.View.TheVariants.{Passing, Keeping, Spent}
+use Rattle.live_pages.specs.Turns.{Seat, taken, walking, walker_of}
+use Rattle.live_pages.specs.Models.{having_touched, touched_in_hand}
+use Rattle.live_pages.proofs.Calls.{self_form, takes_turn_at, pass_fits, pass_stays_of}
 use Rattle.live_pages.proofs.pages.LivePages.touch.Goals as goal
 
--- src/pages.rt:215:13
 pub compare_exchange-word-requires : goal.compare_exchange-word-requires
-compare_exchange-word-requires c = ?
+compare_exchange-word-requires c = (
+  search rules,
+  search rules,
+  takes_turn_at c.self.inside.table.shared.key _ _ c.pass.inside.seat.me _ c.args.f c.requires.holds.0 c.pass.invariant.0 c.pass.invariant.1 (search rules) (ap (λ v. get_or v.walker.walk.held c.args.f None) c.pass.view_is ∙ c.requires.holds.1) (search rules),
+)
 
--- src/pages.rt:217:13
 pub invariant_of-pass : goal.invariant_of-pass
-invariant_of-pass c = ?
+invariant_of-pass c = pass_fits c.compare_exchange-word.new.seat.me _ _ _ _ ((c.compare_exchange-word.ensures.2 c.args.f (search rules)).1 c.if-word-ne0.true ∙ ap (λ cs. (Passing (walking (having_read c.compare_exchange-word.result) (walker_of c.pass.inside.seat.me.0)), cs)) (ap (λ m. m.1) c.pass.invariant.0)) c.pass.invariant.1 c.pass.invariant.2 c.pass.invariant.3 c.pass.invariant.4
 
--- src/pages.rt:217:13
 pub returns-then-word-ne0-clause-pass : goal.returns-then-word-ne0-clause-pass
-returns-then-word-ne0-clause-pass c = ?
+returns-then-word-ne0-clause-pass c =
+    pass_stays_of c.args.self.now c.args.pass.now _ c.compare_exchange-word.new.seat.table_id c.pass.inside.seat.me c.compare_exchange-word.new.seat.me _ c.pass.view_is c.requires.pass c.compare_exchange-word.ensures.0 ((c.compare_exchange-word.ensures.2 c.args.f (search rules)).1 c.if-word-ne0.true ∙ ap (λ cs. (Passing (walking (having_read c.compare_exchange-word.result) (walker_of c.pass.inside.seat.me.0)), cs)) (ap (λ m. m.1) c.pass.invariant.0)) refl refl refl
 
--- src/pages.rt:217:13
 pub returns-then-word-ne0-clause-busy : goal.returns-then-word-ne0-clause-busy
-returns-then-word-ne0-clause-busy c = ?
+returns-then-word-ne0-clause-busy c = (c.if-word-ne0.true, ap (λ x. walker_of x.0) ((c.compare_exchange-word.ensures.2 c.args.f (search rules)).1 c.if-word-ne0.true ∙ ap (λ cs. (Passing (walking (having_read c.compare_exchange-word.result) (walker_of c.pass.inside.seat.me.0)), cs)) (ap (λ m. m.1) c.pass.invariant.0)) ∙ ap (λ v. walking (having_read c.compare_exchange-word.result) v.walker) c.pass.view_is)
 
--- src/pages.rt:219:12
 pub touch_in_hand-requires-clause-hand : goal.touch_in_hand-requires-clause-hand
-touch_in_hand-requires-clause-hand c = ?
+touch_in_hand-requires-clause-hand c =
+    let w = walker_of c.pass.inside.seat.me.0 in
+    let got = (c.compare_exchange-word.ensures.2 c.args.f (search rules)).0 (search rules) in
+    let there = got.1 ∙ ap (λ cs. (Passing (taken c.args.f got.0.page w), (c.args.f, Some got.0) ∷ cs)) (ap (λ m. m.1) c.pass.invariant.0) in
+    (got.0, self_form c.compare_exchange-word.new.seat.me (taken c.args.f got.0.page w) ((c.args.f, Some got.0) ∷ []) there, ap (λ x. (walker_of x.0).hand) there)
 
--- src/pages.rt:219:12
 pub touch_in_hand-requires-clause-few : goal.touch_in_hand-requires-clause-few
-touch_in_hand-requires-clause-few c = ?
+touch_in_hand-requires-clause-few c =
+    let w = walker_of c.pass.inside.seat.me.0 in
+    let got = (c.compare_exchange-word.ensures.2 c.args.f (search rules)).0 (search rules) in
+    let there = got.1 ∙ ap (λ cs. (Passing (taken c.args.f got.0.page w), (c.args.f, Some got.0) ∷ cs)) (ap (λ m. m.1) c.pass.invariant.0) in
+    subst (λ x. length (walker_of x.0).made < 2 ^ 32) (sym there) (subst (λ v. length v.walker.made < 2 ^ 32) (sym c.pass.view_is) c.requires.few)
 
--- src/pages.rt:203:5
 pub invariant_of-pass-2 : goal.invariant_of-pass-2
-invariant_of-pass-2 c = ?
+invariant_of-pass-2 c =
+    let w = walker_of c.pass.inside.seat.me.0 in
+    let got = (c.compare_exchange-word.ensures.2 c.args.f (search rules)).0 (search rules) in
+    let there = got.1 ∙ ap (λ cs. (Passing (taken c.args.f got.0.page w), (c.args.f, Some got.0) ∷ cs)) (ap (λ m. m.1) c.pass.invariant.0) in
+    let done = c.touch_in_hand.ensures.touched ∙ ap (λ x. (Passing (touched_in_hand c.touch_in_hand.result.ticket c.args.f c.args.t c.touch_in_hand.result.word (walker_of x.0)), [])) there in
+    pass_fits c.touch_in_hand.new.seat.me _ _ _ _ done refl c.pass.invariant.2 c.pass.invariant.3 c.pass.invariant.4
 
--- src/pages.rt:203:5
 pub returns-clause-pass : goal.returns-clause-pass
-returns-clause-pass c = ?
+returns-clause-pass c =
+    let w = walker_of c.pass.inside.seat.me.0 in
+    let got = (c.compare_exchange-word.ensures.2 c.args.f (search rules)).0 (search rules) in
+    let there = got.1 ∙ ap (λ cs. (Passing (taken c.args.f got.0.page w), (c.args.f, Some got.0) ∷ cs)) (ap (λ m. m.1) c.pass.invariant.0) in
+    let done = c.touch_in_hand.ensures.touched ∙ ap (λ x. (Passing (touched_in_hand c.touch_in_hand.result.ticket c.args.f c.args.t c.touch_in_hand.result.word (walker_of x.0)), [])) there in
+    pass_stays_of c.args.self.now c.args.pass.now _ c.touch_in_hand.new.seat.table_id c.pass.inside.seat.me c.touch_in_hand.new.seat.me _ c.pass.view_is c.requires.pass (c.touch_in_hand.ensures.seat.0 ∙ c.compare_exchange-word.ensures.0) done refl refl refl
 
--- src/pages.rt:203:5
 pub returns-clause-touched : goal.returns-clause-touched
-returns-clause-touched c = ?
+returns-clause-touched c =
+    let w = walker_of c.pass.inside.seat.me.0 in
+    let got = (c.compare_exchange-word.ensures.2 c.args.f (search rules)).0 (search rules) in
+    let there = got.1 ∙ ap (λ cs. (Passing (taken c.args.f got.0.page w), (c.args.f, Some got.0) ∷ cs)) (ap (λ m. m.1) c.pass.invariant.0) in
+    let done = c.touch_in_hand.ensures.touched ∙ ap (λ x. (Passing (touched_in_hand c.touch_in_hand.result.ticket c.args.f c.args.t c.touch_in_hand.result.word (walker_of x.0)), [])) there in
+    ap (λ x. walker_of x.0) done ∙ ap (λ v. having_touched c.touch_in_hand.result.ticket c.args.f c.args.t c.touch_in_hand.result.word v.walker) c.pass.view_is
