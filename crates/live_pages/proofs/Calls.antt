@@ -3,6 +3,7 @@ use Rattle.std.proofs.Common.{◌≡◌, ◌≢◌, ℕ, suc, zero, ◌+◌, ◌
 use mathlib.Core.Option as M
 use mathlib.Core.Logic.{dite}
 use native.Mathlib.Decide.{ℕ_discrete}
+use Rattle.std.proofs.lemmas.Option.{none-some}
 use Rattle.std.proofs.lemmas.List.{get_or-set_same, get_or-set_other}
 use prog.Atomic.{either}
 use Rattle.atomic_table.specs.Table.{State, Me, step, rest, Allows}
@@ -22,10 +23,10 @@ use Rattle.live_pages.specs.declared.views.Holder.{Holder}
 use Rattle.live_pages.specs.declared.views.View.{View}
 use Rattle.live_pages.specs.declared.views.View.TheVariants.{Passing, Keeping, Spent}
 use Rattle.live_pages.specs.Touches.{touched, answer}
-use Rattle.live_pages.specs.Turns.{Seat, having_made, taken, turn_at, ticket_at, current, walking, watching, walker_of, holder_of, Fills, Forgets, Acknowledges, Closes, Raises, Looks, Takes, Draws, Gives, KeeperTakes, Binds, KeeperGives}
-use Rattle.live_pages.specs.Models.{PagesModel, PassModel, KeeperModel, IsPassOf, IsKeeperOf, SameButWatch, HasInHand, having_touched, touched_in_hand}
+use Rattle.live_pages.specs.Turns.{Seat, bound_anew, having_made, taken, turn_at, ticket_at, current, walking, watching, walker_of, holder_of, Fills, Forgets, Acknowledges, Closes, Raises, Looks, Takes, Draws, Gives, KeeperTakes, Binds, KeeperGives}
+use Rattle.live_pages.specs.Models.{PagesModel, PassModel, KeeperModel, IsPassOf, IsKeeperOf, SameButWatch, HasInHand, having_touched, touched_in_hand, rebound}
 use Rattle.live_pages.proofs.Quiet.{InOrder, fills, forgets, acknowledges, closes, raises, looks}
-use Rattle.live_pages.proofs.Turning.{takes_turn, gives_turn, keeper_takes, keeper_gives}
+use Rattle.live_pages.proofs.Turning.{with_hand, takes_turn, gives_turn, keeper_takes, keeper_gives}
 use Rattle.live_pages.proofs.Changing.{draws, binds}
 
 module _ (z : Size) (slots id : ℕ) (m : Seat) where
@@ -229,3 +230,29 @@ given_back m m' w f ticket word t hd is told touch_is word_is = told ∙ ap (λ 
   where
     freed : Walker → Walker
     freed u = record u { hand = Free }
+
+-- what lies in the slot in hand
+pub slot_in_hand : (m : Seat) (v : View) (f : ℕ) (h : Option Held) → m ≡ (v, (f, h) ∷ []) → (old : Option Held) × (m.1 ≡ (f, old) ∷ rest m.1)
+slot_in_hand m v f h is = (h, ap (λ x. x.1) is ∙ ap (λ x. (f, h) ∷ rest x.1) (sym is))
+
+pub none_is : (h : Held) → None ≡ Some h → ⊥
+none_is h e = none-some h e
+
+module _ (z : Size) (slots id : ℕ) (m : Seat) (all : slots ≡ z.frames) where
+  pub binds_in_hand : (f n cleared : ℕ) (k : Holder) (hd : Held) (page : List ℕ) → m ≡ (Keeping k, (f, Some hd) ∷ []) → k.hand ≡ Has f page → HasNoted k.watch cleared → MayBind k.watch cleared f → n ≡ 2 * (current k.watch f + 1)
+      → Allows (InOrder z) slots id m (1 + f) (λ _. n) (λ _. Binds (step slots (1 + f) n 0 M.none) m n)
+  binds_in_hand f n cleared k hd page is has noted may word =
+      binds_at z slots id m all f n cleared hd page (keeper_form m k ((f, Some hd) ∷ []) is) (ap (λ x. (holder_of x.0).hand) is ∙ has) (subst (λ x. HasNoted (holder_of x.0).watch cleared) (sym is) noted) (subst (λ x. MayBind (holder_of x.0).watch cleared f) (sym is) may)
+          (word ∙ ap (λ x. 2 * (current (holder_of x.0).watch f + 1)) (sym is))
+
+  pub keeper_gives_in_hand : (i f : ℕ) (k : Holder) (hd : Held) → m ≡ (Keeping k, (f, Some hd) ∷ []) → k.hand ≡ Has f hd.page → i ≡ turn_at z.frames z.cpus f → Allows (InOrder z) slots id m i (λ _. 0) (λ _. KeeperGives (step slots i 0 0 M.none) m 0)
+  keeper_gives_in_hand i f k hd is has place = keeper_gives_at z slots id m all i f hd (keeper_form m k ((f, Some hd) ∷ []) is) (ap (λ x. (holder_of x.0).hand) is ∙ has) place
+
+-- the keeper's seat after the door has admitted the next binding
+pub bound_now : (m m' : Seat) (k : Holder) (f : ℕ) (hd : Held) → m ≡ (Keeping k, (f, Some hd) ∷ []) → m' ≡ (Keeping (bound_anew f hd.page (holder_of m.0)), m.1) → m' ≡ (Keeping (bound_anew f hd.page k), (f, Some hd) ∷ [])
+bound_now m m' k f hd is told = told ∙ ap (λ x. (Keeping (bound_anew f hd.page (holder_of x.0)), x.1)) is
+
+-- and after the turn was given back
+pub rebound_now : (m m' : Seat) (k : Holder) (f : ℕ) (page left : List ℕ) (hd : Held) → m ≡ (Keeping (bound_anew f page (record k { hand = Has f left })), (f, Some hd) ∷ []) → m' ≡ (Keeping (record (holder_of m.0) { hand = Free }), []) → k.hand ≡ Free
+    → m' ≡ (Keeping (rebound f left k), [])
+rebound_now m m' k f page left hd is told free = told ∙ ap (λ x. (Keeping (with_hand Free (holder_of x.0)), [])) is ∙ (λ i. (Keeping (with_hand (sym free i) (rebound f left k)), []))
