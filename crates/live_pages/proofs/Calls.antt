@@ -1,12 +1,15 @@
 -- The steps at seats that are known to be a pass's or the keeper's, and what a call leaves.
-use Rattle.std.proofs.Common.{◌≡◌, ◌≢◌, ℕ, suc, zero, ◌+◌, ◌-◌, ◌*◌, ◌/◌, ◌%◌, ◌^◌, ◌<◌, ◌≤◌, ◌⊎◌, Bool, true, false, cond, eqb, List, [], ◌∷◌, ◌++◌, length, replicate, Option, Some, None, refl, sym, ap, subst, ◌∙◌, arith, get_or, set, inl, inr, ⊎_elim, IsTrue, is_some, ◌↔◌}
+use Rattle.std.proofs.Common.{◌≡◌, ◌≢◌, ℕ, suc, zero, ◌+◌, ◌-◌, ◌*◌, ◌/◌, ◌%◌, ◌^◌, ◌<◌, ◌≤◌, ◌⊎◌, Bool, true, false, cond, eqb, List, [], ◌∷◌, ◌++◌, length, replicate, Option, Some, None, refl, sym, ap, subst, ◌∙◌, arith, get_or, set, inl, inr, ⊎_elim, IsTrue, is_some, ◌↔◌, All, map}
 use mathlib.Core.Option as M
 use mathlib.Core.Logic.{dite}
 use native.Mathlib.Decide.{ℕ_discrete}
 use Rattle.std.proofs.lemmas.Option.{none-some}
-use Rattle.std.proofs.lemmas.List.{get_or-set_same, get_or-set_other}
+use Rattle.std.proofs.lemmas.List.{length-append, length-replicate, get_or-set_same, get_or-set_other}
 use prog.Atomic.{either}
-use Rattle.atomic_table.specs.Table.{State, Me, step, rest, Allows}
+use Rattle.atomic_table.specs.Table.{State, Me, step, rest, Allows, Splits}
+use Rattle.atomic_table.proofs.Lists.{at_last, at_longer}
+use lib.ListN.{get_elem?}
+use Rattle.std.proofs.lemmas.List.Elements.{All-append}
 use Rattle.atomic_table.specs.Seated.{TableId}
 use Rattle.live_doors.specs.declared.views.Walk.{Walk}
 use Rattle.live_doors.specs.declared.views.Watch.{Watch}
@@ -23,11 +26,13 @@ use Rattle.live_pages.specs.declared.views.Holder.{Holder}
 use Rattle.live_pages.specs.declared.views.View.{View}
 use Rattle.live_pages.specs.declared.views.View.TheVariants.{Passing, Keeping, Spent}
 use Rattle.live_pages.specs.Touches.{touched, answer}
-use Rattle.live_pages.specs.Turns.{Seat, bound_anew, having_made, taken, turn_at, ticket_at, current, walking, watching, walker_of, holder_of, Fills, Forgets, Acknowledges, Closes, Raises, Looks, Takes, Draws, Gives, KeeperTakes, Binds, KeeperGives}
-use Rattle.live_pages.specs.Models.{PagesModel, PassModel, KeeperModel, IsPassOf, IsKeeperOf, SameButWatch, HasInHand, having_touched, touched_in_hand, rebound}
+use Rattle.live_pages.specs.Turns.{Seat, opening_words, first_holder, first_walker, keeper_with_pass, pass_of_keeper, bound_anew, having_made, taken, turn_at, ticket_at, current, walking, watching, walker_of, holder_of, Fills, Forgets, Acknowledges, Closes, Raises, Looks, Takes, Draws, Gives, KeeperTakes, Binds, KeeperGives}
+use Rattle.live_pages.specs.Models.{PagesModel, PassModel, KeeperModel, IsPassOf, IsKeeperOf, SameButWatch, HasInHand, having_touched, touched_in_hand, rebound, HaveZeroPages, first_passes}
 use Rattle.live_pages.proofs.Quiet.{InOrder, fills, forgets, acknowledges, closes, raises, looks}
 use Rattle.live_pages.proofs.Turning.{with_hand, takes_turn, gives_turn, keeper_takes, keeper_gives}
 use Rattle.live_pages.proofs.Changing.{draws, binds}
+use Rattle.live_pages.proofs.Ends.{admits, opens}
+use Rattle.live_pages.specs.Kept.{Kept}
 
 module _ (z : Size) (slots id : ℕ) (m : Seat) where
   pub fills_at : (f : ℕ) → m ≡ (Passing (walker_of m.0), []) → (walker_of m.0).hand ≡ Free → f < z.frames → Allows (InOrder z) slots id m (1 + f) (λ n. n) (Fills (step slots (1 + f) 0 0 M.none) m)
@@ -256,3 +261,31 @@ bound_now m m' k f hd is told = told ∙ ap (λ x. (Keeping (bound_anew f hd.pag
 pub rebound_now : (m m' : Seat) (k : Holder) (f : ℕ) (page left : List ℕ) (hd : Held) → m ≡ (Keeping (bound_anew f page (record k { hand = Has f left })), (f, Some hd) ∷ []) → m' ≡ (Keeping (record (holder_of m.0) { hand = Free }), []) → k.hand ≡ Free
     → m' ≡ (Keeping (rebound f left k), [])
 rebound_now m m' k f page left hd is told free = told ∙ ap (λ x. (Keeping (with_hand Free (holder_of x.0)), [])) is ∙ (λ i. (Keeping (with_hand (sym free i) (rebound f left k)), []))
+
+module _ (z : Size) where
+  pub admits_at : (id : ℕ) (m : Seat) → m ≡ (Keeping (holder_of m.0), []) → (holder_of m.0).watch.made < z.cpus → length (holder_of m.0).watch.doors ≡ z.frames → length (holder_of m.0).parts ≡ z.cpus → Splits (InOrder z) id m.0 (keeper_with_pass m.0) (pass_of_keeper m.0)
+  admits_at id m is room row count = subst (λ x. Splits (InOrder z) id x (keeper_with_pass x) (pass_of_keeper x)) (sym (ap (λ y. y.0) is)) (admits z id (holder_of m.0) room row count)
+
+  pub opens_at : (words : List ℕ) (slots : List (Option Held)) → words ≡ opening_words z.frames z.cpus → length slots ≡ z.frames → HaveZeroPages slots → Kept z words (map M.some slots) (Keeping (first_holder z.frames z.cpus) ∷ [])
+  opens_at words slots is count zeros = opens z words slots is (λ f inside. zeros f (subst (λ k. f < k) (sym count) inside))
+
+-- one more slot with a page of zeros
+pub zero_pages_push : (slots : List (Option Held)) (h : Held) → HaveZeroPages slots → h.page ≡ replicate 1024 0 → HaveZeroPages (slots ++ Some h ∷ [])
+zero_pages_push slots h zeros page f inside = dite (ℕ_discrete f (length slots))
+    (λ (same : f ≡ length slots). (h, ap (get_elem? (slots ++ Some h ∷ [])) same ∙ at_last slots (Some h) (length slots) refl, page))
+    (λ (other : f ≢ length slots).
+        let old = zeros f (let l = length-append slots (Some h ∷ []) in omega arith) in
+        (old.0, at_longer slots (Some h ∷ []) f (Some old.0) old.1, old.2))
+
+pub zero_pages_none : HaveZeroPages []
+zero_pages_none f inside = absurd (omega arith)
+
+-- every new pass came with its pages
+pub all_first : (pages : PagesModel) (n : ℕ) → n ≤ pages.cpus → All (IsPassOf pages) (first_passes pages n)
+all_first pages zero few = λ k d inside. absurd (omega arith)
+all_first pages (suc n) few = All-append (IsPassOf pages) (first_passes pages n) _ (all_first pages n (omega arith))
+    (λ k d inside. let at : k ≡ 0 = omega arith in
+        subst (λ j. IsPassOf pages (get_or (record { table = pages.table; walker = first_walker pages.frames pages.cpus n } ∷ []) j d)) (sym at) record { table = refl; frames = length-replicate pages.frames None; cpu = omega arith; cpus = refl })
+
+pub all_first_at : (pages : PagesModel) (passes : List PassModel) (n : ℕ) → passes ≡ first_passes pages n → n ≡ pages.cpus → All (IsPassOf pages) passes
+all_first_at pages passes n is all = subst (All (IsPassOf pages)) (sym is) (all_first pages n (omega arith))

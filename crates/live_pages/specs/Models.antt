@@ -1,5 +1,7 @@
 -- What callers see of pages, passes and the keeper.
-use Rattle.std.specs.Prelude.{◌≡◌, ℕ, ◌+◌, ◌*◌, ◌<◌, ◌≤◌, List, [], ◌∷◌, length, slice_index, Some}
+use Rattle.std.specs.Prelude.{◌≡◌, ℕ, zero, suc, ◌++◌, replicate, Option, ◌+◌, ◌*◌, ◌<◌, ◌≤◌, List, [], ◌∷◌, length, slice_index, Some}
+use mathlib.Core.Option as M
+use lib.ListN.{get_elem?}
 use Rattle.atomic_table.specs.Seated.{TableId}
 use Rattle.live_doors.specs.declared.views.Watch.{Watch}
 use Rattle.live_doors.specs.Doors.{having_read}
@@ -10,7 +12,7 @@ use Rattle.live_pages.specs.declared.views.View.TheVariants.{Passing}
 use Rattle.live_pages.specs.declared.rule.Held.{Held}
 use Rattle.live_pages.specs.declared.views.Walker.{Walker}
 use Rattle.live_pages.specs.declared.views.Holder.{Holder}
-use Rattle.live_pages.specs.Turns.{Seat, walker_of, taken, having_made, bound_anew, admitted, current}
+use Rattle.live_pages.specs.Turns.{Seat, watching, first_holder, first_walker, walker_of, taken, having_made, bound_anew, admitted, current}
 
 -- which table it is, and how many frames and processors it has
 pub record PagesModel : Type 0 where
@@ -65,3 +67,16 @@ pub record SameButWatch (old new : Holder) : Type 0 where
   pub hand : new.hand ≡ old.hand
   pub ended : new.ended ≡ old.ended
   pub parts : new.parts ≡ old.parts
+
+-- each slot has a page of zeros
+abbrev pub HaveZeroPages : List (Option Held) → Type 0
+HaveZeroPages slots = (f : ℕ) → f < length slots → (h : Held) × (get_elem? slots f ≡ M.some (Some h)) × (h.page ≡ replicate 1024 0)
+
+-- the keeper once every pass is made
+abbrev pub opening_holder : ℕ → ℕ → Holder
+opening_holder frames cpus = watching (λ w. record w { made = cpus }) (first_holder frames cpus)
+
+-- the first n passes of these pages, each new, in order of processor
+abbrev pub first_passes : PagesModel → ℕ → List PassModel
+first_passes pages zero = []
+first_passes pages (suc n) = first_passes pages n ++ record { table = pages.table; walker = first_walker pages.frames pages.cpus n } ∷ []

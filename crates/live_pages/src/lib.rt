@@ -6,8 +6,8 @@
 #![tactic(auto)]
 
 mod errors;
-mod laws;
 mod keeper;
+mod opening;
 mod pages;
 mod pass;
 mod rule;

@@ -4,16 +4,18 @@ ghost use Rattle.live_doors.specs.Doors.{HoldsEntry, IsAdmitted, OnlyNoted, HasN
 ghost use Rattle.live_pages.specs.Touches.{place_of};
 ghost use Rattle.live_pages.specs.Turns.{walking, watching, walker_of, current};
 ghost use Rattle.live_pages.specs.declared.views.View.TheVariants.{Passing};
-ghost use Rattle.live_pages.specs.Models.{HasInHand, touched_in_hand, IsPassOf, IsKeeperOf, SameButWatch, having_touched, rebound};
+ghost use Rattle.live_pages.specs.Models.{HasInHand, touched_in_hand, IsPassOf, IsKeeperOf, SameButWatch, having_touched, rebound, opening_holder, first_passes};
 
-use crate::errors::{Behind, Busy, Closed};
+use crate::errors::{Behind, Busy, Closed, NoMemory};
 use crate::keeper::Keeper;
+use crate::opening::begin;
 use crate::pass::Pass;
 use crate::rule::{
     Acknowledge, Bind, Board, CloseDoor, Draw, Fill, Forget, Give, Held, KeeperGive, KeeperTake, Look, Place, Raise, Take,
 };
 use crate::touch::{Touch, Touched};
 use mword::Page;
+use std::alloc::Global;
 use std::marker::Model;
 
 /// A door, a turn and a page for each frame, the stamp that was raised last, an acknowledgement for each processor, and
@@ -37,6 +39,27 @@ impl Model for LivePages {
 }
 
 impl LivePages {
+    /// Pages of zeros for `frames` frames, their keeper, and a pass for each of `cpus` processors, in order. No frame is
+    /// bound: every door has the word 1. No stamp is raised and no ticket drawn.
+    ///
+    /// Takes memory for the pages, for two words a frame and one a processor, and for the rows of keeper and passes.
+    /// `NoMemory` comes only from the allocator. Source: own.
+    pub fn new(
+        alloc: Global,
+        frames: u32,
+        cpus: u32,
+    ) -> Result<(LivePages, Keeper, Vec<Pass>), NoMemory>
+        requires frames { (1 ≤ frames) × (frames ≤ 1024) }
+        requires cpus { (1 ≤ cpus) × (cpus ≤ 8) }
+        ensures size { IfOk result (λ made. (made.0.frames ≡ frames) × (made.0.cpus ≡ cpus)) }
+        ensures keeper { IfOk result (λ made. IsKeeperOf made.0 made.1) }
+        ensures holder { IfOk result (λ made. (made.1.holder ≡ opening_holder frames cpus) × (made.1.cleared ≡ 0)) }
+        ensures passes { IfOk result (λ made. made.2.items ≡ first_passes made.0 cpus) }
+        ensures passes_of { IfOk result (λ made. All (IsPassOf made.0) made.2.items) }
+    {
+        begin(alloc, frames, cpus)
+    }
+
     /// Enters frame `f` into the pass, which holds the entry from then on, and answers the binding.
     ///
     /// `Closed` comes exactly where the door's word, which this call read, was odd; the pass's entries stay as they
