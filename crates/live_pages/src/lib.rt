@@ -11,6 +11,8 @@ mod opening;
 mod pages;
 mod pass;
 mod rule;
+#[cfg(test)]
+mod tests;
 mod touch;
 mod views;
 
