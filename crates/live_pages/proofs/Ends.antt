@@ -31,10 +31,11 @@ use Rattle.live_pages.specs.declared.views.View.{View}
 use Rattle.live_pages.specs.declared.views.View.TheVariants.{Passing, Keeping, Spent}
 use Rattle.live_pages.specs.Touches.{touched, answer, Given, after, IsLegal, mine}
 use Rattle.live_pages.specs.Turns.{first_walker, first_holder, opening_words, keeper_with_pass, pass_of_keeper, taken_in, turn_at, ticket_at, current, hand_of, walking, watching, walker_of, holder_of, binding_in, binding_at, taken, having_made, page_of, admitted, bound_anew, Takes, Draws, Gives, KeeperTakes, Binds, KeeperGives}
-use Rattle.live_pages.specs.Kept.{AreOfBindings, HaveLeft, BookOk, SlotsOk, TurnsOk, HandOk, HoldsHand, WalkerOk, SeatOk, Kept}
+use Rattle.live_pages.specs.Kept.{AreOfBindings, HaveLeft, BookOk, SlotsOk, TurnsOk, HandOk, HoldsHand, WalkerOk, SeatOk, Kept, AllIn, EndIsLegal, AllInIsLegal, EntryIsCurrent, MayBindHasNoHolder}
 use Rattle.live_pages.proofs.Replay.{after_here, after_frame, after_else, after_next, regiven, regiven_binding, legal_next, left_next, bindings_stay, left_stays, left_touched, mine_here, mine_else, tickets_fit}
+use Rattle.live_pages.proofs.Changing.{entry_is_current}
 use Rattle.live_pages.proofs.Quiet.{set_at, InOrder, pass_stepped}
-use Rattle.live_pages.proofs.Turning.{put, put_here, put_else, has_frame, has_page, free_has, plan_above, pass_above}
+use Rattle.live_pages.proofs.Turning.{put, put_here, put_else, has_frame, has_page, free_has, plan_above, pass_above, holder_stands}
 
 -- where the last of a longer list stands
 snoc_place : {V : Type 0} (l : List V) (a b : V) (j : ℕ) → get_elem? (l ++ a ∷ []) j ≡ M.some b → (get_elem? l j ≡ M.some b) ⊎ ((j ≡ length l) × (a ≡ b))
@@ -284,3 +285,53 @@ module _ (z : Size) where
       one : (j : ℕ) (v : View) → get_elem? (Keeping (first_holder z.frames z.cpus) ∷ []) j ≡ M.some v → SeatOk z.frames z.cpus (opening_words z.frames z.cpus) (first_holder z.frames z.cpus) 0 (λ c. 0) (λ f. 0) (λ f b. replicate 1024 0) [] j v
       one zero v e = subst (SeatOk z.frames z.cpus (opening_words z.frames z.cpus) (first_holder z.frames z.cpus) 0 (λ c. 0) (λ f. 0) (λ f b. replicate 1024 0) [] 0) (M.some-injective _ _ e) (refl, refl, tt)
       one (suc j) v e = absurd (M.some-ne-none v (sym e))
+
+-- once every pass was taken in no turn is taken
+no_turn_left : (z : Size) (words : List ℕ) (homes : List (M.Option (Option Held))) (views : List View) (seat : ℕ) (k : Holder) → (h : Kept z words homes views) → get_elem? views seat ≡ M.some (Keeping k) → k.hand ≡ Free → AllIn z.cpus k → (f : ℕ) → f < z.frames
+    → get_or words (turn_at z.frames z.cpus f) 0 ≢ 0 → ⊥
+no_turn_left z words homes views seat k h at free all f inside busy =
+    let t = h.turns_ok f inside busy in
+    let own = h.seats_ok seat (Keeping k) at in
+    of_view t.0 t.1 t.3 own.1 (h.seats_ok (h.holder f) t.0 t.2)
+  where
+    out_in : {p : Rattle.live_pages.specs.declared.views.Part.Part} (made : List Made) → p ≡ Out → p ≡ In made → ⊥
+    out_in made a i = absurd (cc)
+    of_view : (v : View) (page : List ℕ) → hand_of v ≡ Has f page → k ≡ h.plan → SeatOk z.frames z.cpus words h.plan h.keeper h.seat_of h.holder h.given h.log (h.holder f) v → ⊥
+    of_view (Passing q) page has is ok =
+        let cpu : q.walk.cpu < z.cpus = (let m = ok.1.pass_ok.made in let n = h.book_ok.plan_ok.made in omega arith) in
+        let there = all q.walk.cpu cpu in
+        out_in there.0 ok.1.out (subst (λ p. get_or p.parts q.walk.cpu Out ≡ In there.0) is there.1)
+    of_view (Keeping u) page has is ok = free_has f page (sym free ∙ ap (λ p. p.hand) (is ∙ sym ok.1) ∙ has)
+    of_view Spent page has is ok = free_has f page has
+
+pub all_in_is_legal : AllInIsLegal
+all_in_is_legal z words homes views seat k h at free all =
+    let own = h.seats_ok seat (Keeping k) at in
+    let book : BookOk z.frames z.cpus words k h.given h.log = subst (λ p. BookOk z.frames z.cpus words p h.given h.log) (sym own.1) h.book_ok in
+    record {
+      given = h.given;
+      log = h.log;
+      legal = book.legal;
+      own = λ cpu made part. book.taken_in cpu made part;
+      left = book.left;
+      pages = λ f inside. dite (ℕ_discrete (get_or words (turn_at z.frames z.cpus f) 0) 0)
+          (λ (zero_word : get_or words (turn_at z.frames z.cpus f) 0 ≡ 0). let slot = h.slots_ok f inside zero_word in (slot.0, slot.1, slot.2 ∙ ap (λ p. after h.given f (current p.watch f) h.log) (sym own.1)))
+          (λ (busy : get_or words (turn_at z.frames z.cpus f) 0 ≢ 0). absurd (no_turn_left z words homes views seat k h at free all f inside busy));
+      zeros = book.zeros;
+    }
+
+pub entry_names_current : EntryIsCurrent
+entry_names_current z words homes views seat w f b h at inside holds =
+    let own = h.seats_ok seat (Passing w) at in
+    ap (λ x. x / 2) (h.book_ok.plan_ok.doors f inside) ∙ sym (entry_is_current z words h.plan.watch w.walk f b own.1.pass_ok holds) ∙ ap binding_in holds
+
+pub may_bind_is_free : MayBindHasNoHolder
+may_bind_is_free z words homes views seat cleared k f h at noted may seat' w there =
+    let own = h.seats_ok seat (Keeping k) at in
+    let his = h.seats_ok seat' (Passing w) there in
+    none_if (get_or w.walk.held f None)
+        (λ b e. holder_stands z words h.plan.watch w.walk cleared f b h.book_ok.plan_ok his.1.pass_ok (subst (λ p. HasNoted p.watch cleared) own.1 noted) (subst (λ p. MayBind p.watch cleared f) own.1 may) e)
+  where
+    none_if : (o : Option ℕ) → ((b : ℕ) → o ≡ Some b → ⊥) → o ≡ None
+    none_if None never = refl
+    none_if (Some b) never = absurd (never b refl)

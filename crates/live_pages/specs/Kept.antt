@@ -4,6 +4,8 @@ use mathlib.Core.Option as M
 use lib.ListN.{get_elem?}
 use Rattle.live_doors.specs.declared.views.Walk.{Walk}
 use Rattle.live_doors.specs.declared.views.Watch.{Watch}
+use Rattle.live_doors.specs.Doors.{HasNoted, MayBind}
+use Rattle.live_doors.specs.Steps.{door_at}
 use Rattle.live_doors.specs.Kept.{PlanOk, PassOk}
 use Rattle.live_pages.specs.declared.rule.Held.{Held}
 use Rattle.live_pages.specs.declared.rule.Size.{Size}
@@ -93,3 +95,42 @@ pub record Kept (z : Size) (words : List ℕ) (homes : List (M.Option (Option He
   pub slots_ok : SlotsOk z.frames z.cpus words homes plan.watch given log
   pub turns_ok : TurnsOk z.frames z.cpus words views holder
   pub seats_ok : (seat : ℕ) (v : View) → get_elem? views seat ≡ M.some v → SeatOk z.frames z.cpus words plan keeper seat_of holder given log seat v
+
+-- the touches of every processor were taken in
+abbrev pub AllIn : ℕ → Holder → Type 0
+AllIn cpus k = (cpu : ℕ) → cpu < cpus → (made : List Made) × (slice_index_or k.parts cpu Out ≡ In made)
+
+-- What the end shows: there is one list of touches, the last one first, by which all is as one thread would have it.
+pub record EndIsLegal (frames : ℕ) (homes : List (M.Option (Option Held))) (k : Holder) : Type 0 where
+  pub given : Given
+  pub log : List Made
+
+  -- the tickets are the numbers below the count of touches, each once, and each word is that of its binding's page
+  pub legal : IsLegal given log
+
+  -- each processor's touches are exactly its own, in order
+  pub own : (cpu : ℕ) (made : List Made) → slice_index_or k.parts cpu Out ≡ In made → made ≡ mine cpu log
+
+  -- each page that was handed out is its binding's page after that binding's touches
+  pub left : HaveLeft given k.watch log k.ended
+
+  -- and so is each page that is left
+  pub pages : (f : ℕ) → f < frames → (h : Held) × (get_elem? homes f ≡ M.some (M.some (Some h))) × (h.page ≡ after given f (current k.watch f) log)
+
+  -- binding 0 of each frame has the page of zeros
+  pub zeros : (f : ℕ) → given f 0 ≡ replicate 1024 0
+
+-- Once the keeper has taken every pass in, the end is legal.
+abbrev pub AllInIsLegal : Type 0
+AllInIsLegal = (z : Size) (words : List ℕ) (homes : List (M.Option (Option Held))) (views : List View) (seat : ℕ) (k : Holder) → Kept z words homes views → get_elem? views seat ≡ M.some (Keeping k) → k.hand ≡ Free → AllIn z.cpus k
+    → EndIsLegal z.frames homes k
+
+-- The binding that a pass's entry names is the frame's at that moment.
+abbrev pub EntryIsCurrent : Type 0
+EntryIsCurrent = (z : Size) (words : List ℕ) (homes : List (M.Option (Option Held))) (views : List View) (seat : ℕ) (w : Walker) (f b : ℕ) → Kept z words homes views → get_elem? views seat ≡ M.some (Passing w) → f < z.frames
+    → slice_index_or w.walk.held f None ≡ Some b → slice_index words (door_at f) / 2 ≡ b
+
+-- A frame that may be bound has no holder: no pass holds an entry of it, and its turn is free.
+abbrev pub MayBindHasNoHolder : Type 0
+MayBindHasNoHolder = (z : Size) (words : List ℕ) (homes : List (M.Option (Option Held))) (views : List View) (seat cleared : ℕ) (k : Holder) (f : ℕ) → Kept z words homes views → get_elem? views seat ≡ M.some (Keeping k) → HasNoted k.watch cleared → MayBind k.watch cleared f
+    → (seat : ℕ) (w : Walker) → get_elem? views seat ≡ M.some (Passing w) → slice_index_or w.walk.held f None ≡ None

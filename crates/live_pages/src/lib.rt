@@ -7,6 +7,7 @@
 
 mod errors;
 mod keeper;
+mod laws;
 mod opening;
 mod pages;
 mod pass;
@@ -18,6 +19,7 @@ mod views;
 
 pub use errors::{Behind, Busy, Closed, NoMemory};
 pub use keeper::Keeper;
+pub use laws::{all_in_is_legal, entry_is_current, may_bind_has_no_holder};
 pub use pages::LivePages;
 pub use pass::Pass;
 pub use rule::{Frames, Held, Size};
