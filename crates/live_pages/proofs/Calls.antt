@@ -45,61 +45,61 @@ module _ (z : Size) (slots id : ℕ) (m : Seat) where
       → Allows (InOrder z) slots id m i (λ _. n) (λ _. Acknowledges (step slots i n 0 M.none) m n)
   acknowledges_at i n is free inside word stamp =
       subst (λ (x : ℕ × ℕ). Allows (InOrder z) slots id m x.0 (λ _. x.1) (λ _. Acknowledges (step slots x.0 x.1 0 M.none) m x.1)) (λ k. (sym word k, sym stamp k))
-          (subst (λ x. Allows (InOrder z) slots id x (ack_at z.frames (walker_of m.0).walk.cpu) (λ _. (walker_of m.0).walk.stamp) (λ _. Acknowledges (step slots (ack_at z.frames (walker_of m.0).walk.cpu) (walker_of m.0).walk.stamp 0 M.none) x (walker_of m.0).walk.stamp)) (sym is)
-              (acknowledges z slots id (walker_of m.0) free inside))
+      (subst (λ x. Allows (InOrder z) slots id x (ack_at z.frames (walker_of m.0).walk.cpu) (λ _. (walker_of m.0).walk.stamp) (λ _. Acknowledges (step slots (ack_at z.frames (walker_of m.0).walk.cpu) (walker_of m.0).walk.stamp 0 M.none) x (walker_of m.0).walk.stamp)) (sym is)
+      (acknowledges z slots id (walker_of m.0) free inside))
 
   pub closes_at : (f n : ℕ) → m ≡ (Keeping (holder_of m.0), []) → f < z.frames → get_or (holder_of m.0).watch.doors f 0 % 2 ≡ 0 → f < length (holder_of m.0).watch.doors → n ≡ get_or (holder_of m.0).watch.doors f 0 + 1
       → Allows (InOrder z) slots id m (1 + f) (λ _. n) (λ _. Closes (step slots (1 + f) n 0 M.none) m n)
   closes_at f n is inside even row word =
       subst (λ k. Allows (InOrder z) slots id m (1 + f) (λ _. k) (λ _. Closes (step slots (1 + f) k 0 M.none) m k)) (sym word)
-          (subst (λ x. Allows (InOrder z) slots id x (1 + f) (λ _. get_or (holder_of m.0).watch.doors f 0 + 1) (λ _. Closes (step slots (1 + f) (get_or (holder_of m.0).watch.doors f 0 + 1) 0 M.none) x (get_or (holder_of m.0).watch.doors f 0 + 1))) (sym is)
-              (closes z slots id f (holder_of m.0) inside even row))
+      (subst (λ x. Allows (InOrder z) slots id x (1 + f) (λ _. get_or (holder_of m.0).watch.doors f 0 + 1) (λ _. Closes (step slots (1 + f) (get_or (holder_of m.0).watch.doors f 0 + 1) 0 M.none) x (get_or (holder_of m.0).watch.doors f 0 + 1))) (sym is)
+      (closes z slots id f (holder_of m.0) inside even row))
 
   pub raises_at : (n : ℕ) → m ≡ (Keeping (holder_of m.0), []) → n ≡ (holder_of m.0).watch.request + 1 → Allows (InOrder z) slots id m 0 (λ _. n) (λ _. Raises (step slots 0 n 0 M.none) m n)
   raises_at n is word =
       subst (λ k. Allows (InOrder z) slots id m 0 (λ _. k) (λ _. Raises (step slots 0 k 0 M.none) m k)) (sym word)
-          (subst (λ x. Allows (InOrder z) slots id x 0 (λ _. (holder_of m.0).watch.request + 1) (λ _. Raises (step slots 0 ((holder_of m.0).watch.request + 1) 0 M.none) x ((holder_of m.0).watch.request + 1))) (sym is) (raises z slots id (holder_of m.0)))
+      (subst (λ x. Allows (InOrder z) slots id x 0 (λ _. (holder_of m.0).watch.request + 1) (λ _. Raises (step slots 0 ((holder_of m.0).watch.request + 1) 0 M.none) x ((holder_of m.0).watch.request + 1))) (sym is) (raises z slots id (holder_of m.0)))
 
   pub looks_at : (i c : ℕ) → m ≡ (Keeping (holder_of m.0), []) → i ≡ ack_at z.frames c → c < z.cpus → length (holder_of m.0).watch.doors ≡ z.frames → Allows (InOrder z) slots id m i (λ n. n) (Looks (step slots i 0 0 M.none) m)
   looks_at i c is word inside row =
       subst (λ k. Allows (InOrder z) slots id m k (λ n. n) (Looks (step slots k 0 0 M.none) m)) (sym word)
-          (subst (λ x. Allows (InOrder z) slots id x (ack_at z.frames c) (λ n. n) (Looks (step slots (ack_at z.frames c) 0 0 M.none) x)) (sym is) (looks z slots id c (holder_of m.0) inside row))
+      (subst (λ x. Allows (InOrder z) slots id x (ack_at z.frames c) (λ n. n) (Looks (step slots (ack_at z.frames c) 0 0 M.none) x)) (sym is) (looks z slots id c (holder_of m.0) inside row))
 
   pub takes_turn_at : (i f b : ℕ) → m ≡ (Passing (walker_of m.0), []) → (walker_of m.0).hand ≡ Free → f < z.frames → get_or (walker_of m.0).walk.held f None ≡ Some b → i ≡ turn_at z.frames z.cpus f
       → Allows (InOrder z) slots id m i (λ n. either (eqb n 0) 1 n) (Takes (step slots i 0 1 M.none) m)
   takes_turn_at i f b is free inside holds word =
       subst (λ k. Allows (InOrder z) slots id m k (λ n. either (eqb n 0) 1 n) (Takes (step slots k 0 1 M.none) m)) (sym word)
-          (subst (λ x. Allows (InOrder z) slots id x (turn_at z.frames z.cpus f) (λ n. either (eqb n 0) 1 n) (Takes (step slots (turn_at z.frames z.cpus f) 0 1 M.none) x)) (sym is) (takes_turn z slots id f b (walker_of m.0) free inside holds))
+      (subst (λ x. Allows (InOrder z) slots id x (turn_at z.frames z.cpus f) (λ n. either (eqb n 0) 1 n) (Takes (step slots (turn_at z.frames z.cpus f) 0 1 M.none) x)) (sym is) (takes_turn z slots id f b (walker_of m.0) free inside holds))
 
   pub keeper_takes_at : (i f cleared : ℕ) → m ≡ (Keeping (holder_of m.0), []) → (holder_of m.0).hand ≡ Free → HasNoted (holder_of m.0).watch cleared → MayBind (holder_of m.0).watch cleared f → f < z.frames → i ≡ turn_at z.frames z.cpus f
       → Allows (InOrder z) slots id m i (λ n. either (eqb n 0) 1 n) (KeeperTakes (step slots i 0 1 M.none) m)
   keeper_takes_at i f cleared is free noted may inside word =
       subst (λ k. Allows (InOrder z) slots id m k (λ n. either (eqb n 0) 1 n) (KeeperTakes (step slots k 0 1 M.none) m)) (sym word)
-          (subst (λ x. Allows (InOrder z) slots id x (turn_at z.frames z.cpus f) (λ n. either (eqb n 0) 1 n) (KeeperTakes (step slots (turn_at z.frames z.cpus f) 0 1 M.none) x)) (sym is) (keeper_takes z slots id f cleared (holder_of m.0) free noted may inside))
+      (subst (λ x. Allows (InOrder z) slots id x (turn_at z.frames z.cpus f) (λ n. either (eqb n 0) 1 n) (KeeperTakes (step slots (turn_at z.frames z.cpus f) 0 1 M.none) x)) (sym is) (keeper_takes z slots id f cleared (holder_of m.0) free noted may inside))
 
 module _ (z : Size) (slots id : ℕ) (m : Seat) (all : slots ≡ z.frames) where
   pub draws_at : (i f : ℕ) (hd : Held) (page : List ℕ) → m ≡ (Passing (walker_of m.0), (f, Some hd) ∷ []) → z.cpus ≤ 8 → (walker_of m.0).hand ≡ Has f page → hd.page ≡ touched hd.touch page → hd.word ≡ answer hd.touch page → length (walker_of m.0).made < 2 ^ 32
       → i ≡ ticket_at z.frames z.cpus → Allows (InOrder z) slots id m i (λ n. (n + 1) % 2 ^ 64) (Draws (step slots i 1 0 M.none) m)
   draws_at i f hd page is low has after_touch word few place =
       subst (λ (k : ℕ × ℕ). Allows (InOrder z) k.0 id m k.1 (λ n. (n + 1) % 2 ^ 64) (Draws (step k.0 k.1 1 0 M.none) m)) (λ j. (sym all j, sym place j))
-          (subst (λ x. Allows (InOrder z) z.frames id x (ticket_at z.frames z.cpus) (λ n. (n + 1) % 2 ^ 64) (Draws (step z.frames (ticket_at z.frames z.cpus) 1 0 M.none) x)) (sym is) (draws z id f (walker_of m.0) hd page low has after_touch word few))
+      (subst (λ x. Allows (InOrder z) z.frames id x (ticket_at z.frames z.cpus) (λ n. (n + 1) % 2 ^ 64) (Draws (step z.frames (ticket_at z.frames z.cpus) 1 0 M.none) x)) (sym is) (draws z id f (walker_of m.0) hd page low has after_touch word few))
 
   pub gives_turn_at : (i f : ℕ) (hd : Held) → m ≡ (Passing (walker_of m.0), (f, Some hd) ∷ []) → (walker_of m.0).hand ≡ Has f hd.page → i ≡ turn_at z.frames z.cpus f → Allows (InOrder z) slots id m i (λ _. 0) (λ _. Gives (step slots i 0 0 M.none) m 0)
   gives_turn_at i f hd is has place =
       subst (λ (k : ℕ × ℕ). Allows (InOrder z) k.0 id m k.1 (λ _. 0) (λ _. Gives (step k.0 k.1 0 0 M.none) m 0)) (λ j. (sym all j, sym place j))
-          (subst (λ x. Allows (InOrder z) z.frames id x (turn_at z.frames z.cpus f) (λ _. 0) (λ _. Gives (step z.frames (turn_at z.frames z.cpus f) 0 0 M.none) x 0)) (sym is) (gives_turn z id f (walker_of m.0) hd has))
+      (subst (λ x. Allows (InOrder z) z.frames id x (turn_at z.frames z.cpus f) (λ _. 0) (λ _. Gives (step z.frames (turn_at z.frames z.cpus f) 0 0 M.none) x 0)) (sym is) (gives_turn z id f (walker_of m.0) hd has))
 
   pub binds_at : (f n cleared : ℕ) (hd : Held) (page : List ℕ) → m ≡ (Keeping (holder_of m.0), (f, Some hd) ∷ []) → (holder_of m.0).hand ≡ Has f page → HasNoted (holder_of m.0).watch cleared → MayBind (holder_of m.0).watch cleared f → n ≡ 2 * (current (holder_of m.0).watch f + 1)
       → Allows (InOrder z) slots id m (1 + f) (λ _. n) (λ _. Binds (step slots (1 + f) n 0 M.none) m n)
   binds_at f n cleared hd page is has noted may word =
       subst (λ (k : ℕ × ℕ). Allows (InOrder z) k.0 id m (1 + f) (λ _. k.1) (λ _. Binds (step k.0 (1 + f) k.1 0 M.none) m k.1)) (λ j. (sym all j, sym word j))
-          (subst (λ x. Allows (InOrder z) z.frames id x (1 + f) (λ _. 2 * (current (holder_of m.0).watch f + 1)) (λ _. Binds (step z.frames (1 + f) (2 * (current (holder_of m.0).watch f + 1)) 0 M.none) x (2 * (current (holder_of m.0).watch f + 1)))) (sym is)
-              (binds z id f cleared (holder_of m.0) hd page has noted may))
+      (subst (λ x. Allows (InOrder z) z.frames id x (1 + f) (λ _. 2 * (current (holder_of m.0).watch f + 1)) (λ _. Binds (step z.frames (1 + f) (2 * (current (holder_of m.0).watch f + 1)) 0 M.none) x (2 * (current (holder_of m.0).watch f + 1)))) (sym is)
+      (binds z id f cleared (holder_of m.0) hd page has noted may))
 
   pub keeper_gives_at : (i f : ℕ) (hd : Held) → m ≡ (Keeping (holder_of m.0), (f, Some hd) ∷ []) → (holder_of m.0).hand ≡ Has f hd.page → i ≡ turn_at z.frames z.cpus f → Allows (InOrder z) slots id m i (λ _. 0) (λ _. KeeperGives (step slots i 0 0 M.none) m 0)
   keeper_gives_at i f hd is has place =
       subst (λ (k : ℕ × ℕ). Allows (InOrder z) k.0 id m k.1 (λ _. 0) (λ _. KeeperGives (step k.0 k.1 0 0 M.none) m 0)) (λ j. (sym all j, sym place j))
-          (subst (λ x. Allows (InOrder z) z.frames id x (turn_at z.frames z.cpus f) (λ _. 0) (λ _. KeeperGives (step z.frames (turn_at z.frames z.cpus f) 0 0 M.none) x 0)) (sym is) (keeper_gives z id f (holder_of m.0) hd has))
+      (subst (λ x. Allows (InOrder z) z.frames id x (turn_at z.frames z.cpus f) (λ _. 0) (λ _. KeeperGives (step z.frames (turn_at z.frames z.cpus f) 0 0 M.none) x 0)) (sym is) (keeper_gives z id f (holder_of m.0) hd has))
 
 -- a pass whose fields are those of its view
 abbrev pub PassFits : Seat → ℕ → List (Option ℕ) → ℕ → Type 0
@@ -112,11 +112,11 @@ pass_fits m q cpu held stamp is free a b c = subst (λ x. PassFits x cpu held st
 pub pass_stays_of : (pages : PagesModel) (now : PassModel) (t t' : TableId) (m m' : Seat) (q : Walker) → record { table = t; walker = walker_of m.0 } ≡ now → IsPassOf pages now → t' ≡ t → m' ≡ (Passing q, [])
     → length q.walk.held ≡ length (walker_of m.0).walk.held → q.walk.cpu ≡ (walker_of m.0).walk.cpu → q.cpus ≡ (walker_of m.0).cpus → IsPassOf pages record { table = t'; walker = walker_of m'.0 }
 pass_stays_of pages now t t' m m' q view ok same is row cpu all = record {
-    table = same ∙ ap (λ v. v.table) view ∙ ok.table;
-    frames = ap (λ x. length (walker_of x.0).walk.held) is ∙ row ∙ ap (λ v. length v.walker.walk.held) view ∙ ok.frames;
-    cpu = subst (λ k. k < pages.cpus) (sym (ap (λ x. (walker_of x.0).walk.cpu) is ∙ cpu ∙ ap (λ v. v.walker.walk.cpu) view)) ok.cpu;
-    cpus = ap (λ x. (walker_of x.0).cpus) is ∙ all ∙ ap (λ v. v.walker.cpus) view ∙ ok.cpus;
-  }
+  table = same ∙ ap (λ v. v.table) view ∙ ok.table;
+  frames = ap (λ x. length (walker_of x.0).walk.held) is ∙ row ∙ ap (λ v. length v.walker.walk.held) view ∙ ok.frames;
+  cpu = subst (λ k. k < pages.cpus) (sym (ap (λ x. (walker_of x.0).walk.cpu) is ∙ cpu ∙ ap (λ v. v.walker.walk.cpu) view)) ok.cpu;
+  cpus = ap (λ x. (walker_of x.0).cpus) is ∙ all ∙ ap (λ v. v.walker.cpus) view ∙ ok.cpus;
+}
 
 -- a keeper whose fields are those of its view
 abbrev pub KeeperFits : Seat → ℕ → List ℕ → List ℕ → ℕ → Type 0
@@ -131,12 +131,12 @@ pub keeper_stays_of : (pages : PagesModel) (now : KeeperModel) (t t' : TableId) 
     → length k.watch.doors ≡ length (holder_of m.0).watch.doors → length k.watch.since ≡ length (holder_of m.0).watch.since → length k.watch.noted ≡ length (holder_of m.0).watch.noted → length k.parts ≡ length (holder_of m.0).parts
     → IsKeeperOf pages record { table = t'; holder = holder_of m'.0; cleared = cleared' }
 keeper_stays_of pages now t t' cleared cleared' m m' k view ok same is a b c d = record {
-    table = same ∙ ap (λ v. v.table) view ∙ ok.table;
-    frames = ap (λ x. length (holder_of x.0).watch.doors) is ∙ a ∙ ap (λ v. length v.holder.watch.doors) view ∙ ok.frames;
-    since = ap (λ x. length (holder_of x.0).watch.since) is ∙ b ∙ ap (λ v. length v.holder.watch.since) view ∙ ok.since;
-    cpus = ap (λ x. length (holder_of x.0).watch.noted) is ∙ c ∙ ap (λ v. length v.holder.watch.noted) view ∙ ok.cpus;
-    parts = ap (λ x. length (holder_of x.0).parts) is ∙ d ∙ ap (λ v. length v.holder.parts) view ∙ ok.parts;
-  }
+  table = same ∙ ap (λ v. v.table) view ∙ ok.table;
+  frames = ap (λ x. length (holder_of x.0).watch.doors) is ∙ a ∙ ap (λ v. length v.holder.watch.doors) view ∙ ok.frames;
+  since = ap (λ x. length (holder_of x.0).watch.since) is ∙ b ∙ ap (λ v. length v.holder.watch.since) view ∙ ok.since;
+  cpus = ap (λ x. length (holder_of x.0).watch.noted) is ∙ c ∙ ap (λ v. length v.holder.watch.noted) view ∙ ok.cpus;
+  parts = ap (λ x. length (holder_of x.0).parts) is ∙ d ∙ ap (λ v. length v.holder.parts) view ∙ ok.parts;
+}
 
 -- what the keeper has noted once it has read the acknowledgements of the first few processors, each at least the stamp
 pub record ClearSoFar (pages : PagesModel) (old now : KeeperModel) (stamp cpu : ℕ) : Type 0 where
@@ -149,22 +149,22 @@ pub record ClearSoFar (pages : PagesModel) (old now : KeeperModel) (stamp cpu : 
 
 pub clear_starts : (pages : PagesModel) (old : KeeperModel) (stamp : ℕ) → IsKeeperOf pages old → ClearSoFar pages old old stamp 0
 clear_starts pages old stamp ok = record {
-    keeper = ok;
-    only = record { made = refl; request = refl; doors = refl; since = refl };
-    same = record { hand = refl; ended = refl; parts = refl };
-    looks = omega arith;
-    noted = λ c none. absurd (omega arith);
-    cleared = refl;
-  }
+  keeper = ok;
+  only = record { made = refl; request = refl; doors = refl; since = refl };
+  same = record { hand = refl; ended = refl; parts = refl };
+  looks = omega arith;
+  noted = λ c none. absurd (omega arith);
+  cleared = refl;
+}
 
 module _ (pages : PagesModel) (old now next : KeeperModel) (stamp cpu seen : ℕ) where
   pub only_noted : ClearSoFar pages old now stamp cpu → next.holder ≡ watching (having_noted cpu seen) now.holder → OnlyNoted old.holder.watch next.holder.watch
   only_noted so is = record {
-      made = ap (λ w. w.watch.made) is ∙ so.only.made;
-      request = ap (λ w. w.watch.request) is ∙ so.only.request;
-      doors = ap (λ w. w.watch.doors) is ∙ so.only.doors;
-      since = ap (λ w. w.watch.since) is ∙ so.only.since;
-    }
+    made = ap (λ w. w.watch.made) is ∙ so.only.made;
+    request = ap (λ w. w.watch.request) is ∙ so.only.request;
+    doors = ap (λ w. w.watch.doors) is ∙ so.only.doors;
+    since = ap (λ w. w.watch.since) is ∙ so.only.since;
+  }
 
   pub same_but_watch : ClearSoFar pages old now stamp cpu → next.holder ≡ watching (having_noted cpu seen) now.holder → SameButWatch old.holder next.holder
   same_but_watch so is = record { hand = ap (λ w. w.hand) is ∙ so.same.hand; ended = ap (λ w. w.ended) is ∙ so.same.ended; parts = ap (λ w. w.parts) is ∙ so.same.parts }
@@ -177,13 +177,13 @@ module _ (pages : PagesModel) (old now next : KeeperModel) (stamp cpu seen : ℕ
 
   pub clear_goes_on : ClearSoFar pages old now stamp cpu → IsKeeperOf pages next → next.holder ≡ watching (having_noted cpu seen) now.holder → next.cleared ≡ now.cleared → cpu < pages.cpus → stamp ≤ seen → ClearSoFar pages old next stamp (cpu + 1)
   clear_goes_on so ok is same inside enough = record {
-      keeper = ok;
-      only = only_noted so is;
-      same = same_but_watch so is;
-      looks = (let a = ap (λ w. w.watch.looks) is in let b = so.looks in omega arith);
-      noted = λ c below. dite (ℕ_discrete c cpu) (λ (e : c ≡ cpu). subst (λ k. stamp ≤ get_or next.holder.watch.noted k 0) (sym e) (subst (λ k. stamp ≤ k) (sym (noted_here so is inside)) enough)) (λ (other : c ≢ cpu). noted_before so is c (omega arith));
-      cleared = same ∙ so.cleared;
-    }
+    keeper = ok;
+    only = only_noted so is;
+    same = same_but_watch so is;
+    looks = (let a = ap (λ w. w.watch.looks) is in let b = so.looks in omega arith);
+    noted = λ c below. dite (ℕ_discrete c cpu) (λ (e : c ≡ cpu). subst (λ k. stamp ≤ get_or next.holder.watch.noted k 0) (sym e) (subst (λ k. stamp ≤ k) (sym (noted_here so is inside)) enough)) (λ (other : c ≢ cpu). noted_before so is c (omega arith));
+    cleared = same ∙ so.cleared;
+  }
 
 -- what a touch needs of the slot in hand
 pub slot_there : (m : Seat) (f : ℕ) → HasInHand m f → (old : Option Held) × (m.1 ≡ (f, old) ∷ rest m.1)
@@ -248,7 +248,7 @@ module _ (z : Size) (slots id : ℕ) (m : Seat) (all : slots ≡ z.frames) where
       → Allows (InOrder z) slots id m (1 + f) (λ _. n) (λ _. Binds (step slots (1 + f) n 0 M.none) m n)
   binds_in_hand f n cleared k hd page is has noted may word =
       binds_at z slots id m all f n cleared hd page (keeper_form m k ((f, Some hd) ∷ []) is) (ap (λ x. (holder_of x.0).hand) is ∙ has) (subst (λ x. HasNoted (holder_of x.0).watch cleared) (sym is) noted) (subst (λ x. MayBind (holder_of x.0).watch cleared f) (sym is) may)
-          (word ∙ ap (λ x. 2 * (current (holder_of x.0).watch f + 1)) (sym is))
+      (word ∙ ap (λ x. 2 * (current (holder_of x.0).watch f + 1)) (sym is))
 
   pub keeper_gives_in_hand : (i f : ℕ) (k : Holder) (hd : Held) → m ≡ (Keeping k, (f, Some hd) ∷ []) → k.hand ≡ Has f hd.page → i ≡ turn_at z.frames z.cpus f → Allows (InOrder z) slots id m i (λ _. 0) (λ _. KeeperGives (step slots i 0 0 M.none) m 0)
   keeper_gives_in_hand i f k hd is has place = keeper_gives_at z slots id m all i f hd (keeper_form m k ((f, Some hd) ∷ []) is) (ap (λ x. (holder_of x.0).hand) is ∙ has) place
@@ -274,8 +274,8 @@ pub zero_pages_push : (slots : List (Option Held)) (h : Held) → HaveZeroPages 
 zero_pages_push slots h zeros page f inside = dite (ℕ_discrete f (length slots))
     (λ (same : f ≡ length slots). (h, ap (get_elem? (slots ++ Some h ∷ [])) same ∙ at_last slots (Some h) (length slots) refl, page))
     (λ (other : f ≢ length slots).
-        let old = zeros f (let l = length-append slots (Some h ∷ []) in omega arith) in
-        (old.0, at_longer slots (Some h ∷ []) f (Some old.0) old.1, old.2))
+    let old = zeros f (let l = length-append slots (Some h ∷ []) in omega arith) in
+    (old.0, at_longer slots (Some h ∷ []) f (Some old.0) old.1, old.2))
 
 pub zero_pages_none : HaveZeroPages []
 zero_pages_none f inside = absurd (omega arith)
@@ -285,7 +285,7 @@ pub all_first : (pages : PagesModel) (n : ℕ) → n ≤ pages.cpus → All (IsP
 all_first pages zero few = λ k d inside. absurd (omega arith)
 all_first pages (suc n) few = All-append (IsPassOf pages) (first_passes pages n) _ (all_first pages n (omega arith))
     (λ k d inside. let at : k ≡ 0 = omega arith in
-        subst (λ j. IsPassOf pages (get_or (record { table = pages.table; walker = first_walker pages.frames pages.cpus n } ∷ []) j d)) (sym at) record { table = refl; frames = length-replicate pages.frames None; cpu = omega arith; cpus = refl })
+    subst (λ j. IsPassOf pages (get_or (record { table = pages.table; walker = first_walker pages.frames pages.cpus n } ∷ []) j d)) (sym at) record { table = refl; frames = length-replicate pages.frames None; cpu = omega arith; cpus = refl })
 
 pub all_first_at : (pages : PagesModel) (passes : List PassModel) (n : ℕ) → passes ≡ first_passes pages n → n ≡ pages.cpus → All (IsPassOf pages) passes
 all_first_at pages passes n is all = subst (All (IsPassOf pages)) (sym is) (all_first pages n (omega arith))

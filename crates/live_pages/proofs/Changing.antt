@@ -74,6 +74,7 @@ module _ (frames cpus : ℕ) (words : List ℕ) where
       where
         same_le : {x y : ℕ} → x ≡ y → x ≤ y
         same_le q = omega arith
+
         out_in : {p : Rattle.live_pages.specs.declared.views.Part.Part} (made : List Made) → p ≡ Out → p ≡ In made → ⊥
         out_in made a i = absurd (cc)
 
@@ -84,6 +85,7 @@ module _ (z : Size) where
     where
       even : get_or plan.doors f 0 ≡ 2 * b → b ≡ current plan f
       even t = omega arith
+
       odd : get_or plan.doors f 0 ≡ 2 * b + 1 → b ≡ current plan f
       odd t = omega arith
 
@@ -122,27 +124,26 @@ module _ (z : Size) where
               let old = h.turns_ok g within (λ is. busy (stays g within ∙ is)) in
               dite (ℕ_discrete (h.holder g) id)
               (λ (here : h.holder g ≡ id).
-                  let is : old.0 ≡ Passing w = M.some-injective _ _ (sym old.2 ∙ ap (get_elem? s.views) here ∙ at) in
-                  let frame : f ≡ g = has_frame f g page old.1 (sym has ∙ sym (ap hand_of is) ∙ old.3) in
-                  (Passing w', hd.page, ap (get_elem? (set s.views id (Passing w'))) here ∙ set_at s.views id (Passing w) (Passing w') at, ap (λ k. Has k hd.page) frame))
+              let is : old.0 ≡ Passing w = M.some-injective _ _ (sym old.2 ∙ ap (get_elem? s.views) here ∙ at) in
+              let frame : f ≡ g = has_frame f g page old.1 (sym has ∙ sym (ap hand_of is) ∙ old.3) in
+              (Passing w', hd.page, ap (get_elem? (set s.views id (Passing w'))) here ∙ set_at s.views id (Passing w) (Passing w') at, ap (λ k. Has k hd.page) frame))
               (λ (other : h.holder g ≢ id). (old.0, old.1, set_else s.views id (h.holder g) (Passing w') other ∙ old.2, old.3));
-          seats_ok = seats_stay (SeatOk z.frames z.cpus (set s.words (ticket_at z.frames z.cpus) m) h.plan h.keeper h.seat_of h.holder h.given (e ∷ h.log)) s.views id (Passing w')
-              (
-                own.0,
-                record {
-                  all = own.1.all;
-                  pass_ok = pass_above z.frames z.cpus s.words h.plan.watch w.walk (ticket_at z.frames z.cpus) m (omega arith) h.book_ok.plan_ok own.1.pass_ok;
-                  made = ap (λ (l : List Made). e ∷ l) own.1.made ∙ sym (mine_here w.walk.cpu e h.log refl);
-                  hand_ok = (
-                    hand.0,
-                    hand.1,
-                    (λ is. hand.2 (sym (stays f hand.0) ∙ is)),
-                    after_touch ∙ ap (touched hd.touch) hand.3 ∙ sym (after_here h.given f (current h.plan.watch f) e h.log refl binding),
-                  );
-                  holds = entry;
-                  out = own.1.out;
-                },
-              )
+          seats_ok = seats_stay (SeatOk z.frames z.cpus (set s.words (ticket_at z.frames z.cpus) m) h.plan h.keeper h.seat_of h.holder h.given (e ∷ h.log)) s.views id (Passing w') (
+            own.0,
+            record {
+              all = own.1.all;
+              pass_ok = pass_above z.frames z.cpus s.words h.plan.watch w.walk (ticket_at z.frames z.cpus) m (omega arith) h.book_ok.plan_ok own.1.pass_ok;
+              made = ap (λ (l : List Made). e ∷ l) own.1.made ∙ sym (mine_here w.walk.cpu e h.log refl);
+              hand_ok = (
+                hand.0,
+                hand.1,
+                (λ is. hand.2 (sym (stays f hand.0) ∙ is)),
+                after_touch ∙ ap (touched hd.touch) hand.3 ∙ sym (after_here h.given f (current h.plan.watch f) e h.log refl binding),
+              );
+              holds = entry;
+              out = own.1.out;
+            },
+          )
               (λ j v other there. others s.words h.plan h.keeper h.seat_of h.holder h.given h.log e m own.0 hand.1 refl refl h.book_ok.plan_ok j v other (h.seats_ok j v there));
         },
         λ g k rest is. told n g k rest is,
@@ -155,12 +156,15 @@ module _ (z : Size) where
           first_of : List (ℕ × Option Held) → ℕ
           first_of [] = 0
           first_of (x ∷ xs) = x.0
+
           held_in : Option Held → Held
           held_in None = hd
           held_in (Some y) = y
+
           held_of : List (ℕ × Option Held) → Held
           held_of [] = hd
           held_of (x ∷ xs) = held_in x.1
+
       others : (words : List ℕ) (plan : Holder) (keeper : ℕ) (seat_of holder : ℕ → ℕ) (given : Given) (log : List Made) (e : Made) (m : ℕ) → seat_of w.walk.cpu ≡ id → holder f ≡ id → e.frame ≡ f → e.cpu ≡ w.walk.cpu
           → PlanOk z.frames z.cpus words plan.watch → (j : ℕ) (v : View) → j ≢ id → SeatOk z.frames z.cpus words plan keeper seat_of holder given log j v
           → SeatOk z.frames z.cpus (set words (ticket_at z.frames z.cpus) m) plan keeper seat_of holder given (e ∷ log) j v
@@ -210,34 +214,34 @@ module _ (frames cpus : ℕ) (words : List ℕ) (w : Watch) (f : ℕ) (inside : 
 
   pub plan_admitted : PlanOk frames cpus (set words (door_at f) (2 * (get_or w.doors f 0 / 2 + 1))) (admitted f w)
   plan_admitted = let n : ℕ = 2 * (get_or w.doors f 0 / 2 + 1) in record {
-      room = (let l = length-set words (door_at f) n in let r = k.room in omega arith);
-      doors_row = length-set w.doors f n ∙ k.doors_row;
-      since_row = k.since_row;
-      noted_row = k.noted_row;
-      made = k.made;
-      request = get_or-set_other words (door_at f) 0 n 0 (λ e. omega arith) ∙ k.request;
-      doors = λ g within. dite (ℕ_discrete g f)
-          (λ (same : g ≡ f). subst (λ j. get_or (set words (door_at f) n) (door_at j) 0 ≡ get_or (set w.doors f n) j 0) (sym same) (get_or-set_same words (door_at f) n 0 (let r = k.room in omega arith) ∙ sym door_here))
-          (λ (other : g ≢ f). get_or-set_other words (door_at f) (door_at g) n 0 (λ e. other (omega arith)) ∙ k.doors g within ∙ sym (door_else g other));
-      least = λ g within. dite (ℕ_discrete g f)
-          (λ (same : g ≡ f). subst (λ j. 1 ≤ get_or (set w.doors f n) j 0) (sym same) (subst (λ j. 1 ≤ j) (sym door_here) (omega arith)))
-          (λ (other : g ≢ f). subst (λ j. 1 ≤ j) (sym (door_else g other)) (k.least g within));
-      noted = λ c within. subst (λ j. get_or w.noted c 0 ≤ j) (sym (get_or-set_other words (door_at f) (ack_at frames c) n 0 (λ e. omega arith))) (k.noted c within);
-      unmade = λ c above within. get_or-set_other words (door_at f) (ack_at frames c) n 0 (λ e. omega arith) ∙ k.unmade c above within;
-    }
+    room = (let l = length-set words (door_at f) n in let r = k.room in omega arith);
+    doors_row = length-set w.doors f n ∙ k.doors_row;
+    since_row = k.since_row;
+    noted_row = k.noted_row;
+    made = k.made;
+    request = get_or-set_other words (door_at f) 0 n 0 (λ e. omega arith) ∙ k.request;
+    doors = λ g within. dite (ℕ_discrete g f)
+        (λ (same : g ≡ f). subst (λ j. get_or (set words (door_at f) n) (door_at j) 0 ≡ get_or (set w.doors f n) j 0) (sym same) (get_or-set_same words (door_at f) n 0 (let r = k.room in omega arith) ∙ sym door_here))
+        (λ (other : g ≢ f). get_or-set_other words (door_at f) (door_at g) n 0 (λ e. other (omega arith)) ∙ k.doors g within ∙ sym (door_else g other));
+    least = λ g within. dite (ℕ_discrete g f)
+        (λ (same : g ≡ f). subst (λ j. 1 ≤ get_or (set w.doors f n) j 0) (sym same) (subst (λ j. 1 ≤ j) (sym door_here) (omega arith)))
+        (λ (other : g ≢ f). subst (λ j. 1 ≤ j) (sym (door_else g other)) (k.least g within));
+    noted = λ c within. subst (λ j. get_or w.noted c 0 ≤ j) (sym (get_or-set_other words (door_at f) (ack_at frames c) n 0 (λ e. omega arith))) (k.noted c within);
+    unmade = λ c above within. get_or-set_other words (door_at f) (ack_at frames c) n 0 (λ e. omega arith) ∙ k.unmade c above within;
+  }
 
   pub pass_admitted : (q : Walk) → ((b : ℕ) → get_or q.held f None ≡ Some b → ⊥) → PassOk frames cpus words w q → PassOk frames cpus (set words (door_at f) (2 * (get_or w.doors f 0 / 2 + 1))) (admitted f w) q
   pass_admitted q none ok = let n : ℕ = 2 * (get_or w.doors f 0 / 2 + 1) in record {
-      made = ok.made;
-      row = ok.row;
-      stamp = ok.stamp;
-      word = get_or-set_other words (door_at f) (ack_at frames q.cpu) n 0 (λ e. omega arith) ∙ ok.word;
-      acked = ok.acked;
-      bound = ok.bound;
-      entries = λ g b e. dite (ℕ_discrete g f)
-          (λ (same : g ≡ f). absurd (none b (subst (λ j. get_or q.held j None ≡ Some b) same e)))
-          (λ (other : g ≢ f). subst (λ j. EntryOk j (get_or w.since g 0) q.stamp b) (sym (door_else g other)) (ok.entries g b e));
-    }
+    made = ok.made;
+    row = ok.row;
+    stamp = ok.stamp;
+    word = get_or-set_other words (door_at f) (ack_at frames q.cpu) n 0 (λ e. omega arith) ∙ ok.word;
+    acked = ok.acked;
+    bound = ok.bound;
+    entries = λ g b e. dite (ℕ_discrete g f)
+        (λ (same : g ≡ f). absurd (none b (subst (λ j. get_or q.held j None ≡ Some b) same e)))
+        (λ (other : g ≢ f). subst (λ j. EntryOk j (get_or w.since g 0) q.stamp b) (sym (door_else g other)) (ok.entries g b e));
+  }
 
 module _ (z : Size) where
   pub binds : (id f cleared : ℕ) (k : Holder) (hd : Held) (page : List ℕ) → k.hand ≡ Has f page → HasNoted k.watch cleared → MayBind k.watch cleared f
@@ -250,7 +254,7 @@ module _ (z : Size) where
       let given' : Given = regiven f (current k.watch f + 1) hd.page h.given in
       let book : BookOk z.frames z.cpus s.words k h.given h.log = subst (λ p. BookOk z.frames z.cpus s.words p h.given h.log) (sym own.1) h.book_ok in
       let hand : HandOk z.frames z.cpus s.words k.watch h.holder h.given h.log id (Has f page) =
-          subst (HandOk z.frames z.cpus s.words k.watch h.holder h.given h.log id) has (subst (λ p. HandOk z.frames z.cpus s.words p.watch h.holder h.given h.log id k.hand) (sym own.1) own.2) in
+      subst (HandOk z.frames z.cpus s.words k.watch h.holder h.given h.log id) has (subst (λ p. HandOk z.frames z.cpus s.words p.watch h.holder h.given h.log id k.hand) (sym own.1) own.2) in
       let inside = hand.0 in
       let stays : (i : ℕ) → 1 + z.frames + z.cpus ≤ i → get_or words' i 0 ≡ get_or s.words i 0 = λ i above. get_or-set_other s.words (door_at f) i n 0 (λ e. omega arith) in (
         Keeping k',
@@ -289,21 +293,20 @@ module _ (z : Size) where
               let old = h.turns_ok g within (λ e. busy (stays (turn_at z.frames z.cpus g) (omega arith) ∙ e)) in
               dite (ℕ_discrete (h.holder g) id)
               (λ (here : h.holder g ≡ id).
-                  let is : old.0 ≡ Keeping k = M.some-injective _ _ (sym old.2 ∙ ap (get_elem? s.views) here ∙ at) in
-                  let frame : f ≡ g = has_frame f g page old.1 (sym has ∙ sym (ap hand_of is) ∙ old.3) in
-                  (Keeping k', hd.page, ap (get_elem? (set s.views id (Keeping k'))) here ∙ set_at s.views id (Keeping k) (Keeping k') at, ap (λ j. Has j hd.page) frame))
+              let is : old.0 ≡ Keeping k = M.some-injective _ _ (sym old.2 ∙ ap (get_elem? s.views) here ∙ at) in
+              let frame : f ≡ g = has_frame f g page old.1 (sym has ∙ sym (ap hand_of is) ∙ old.3) in
+              (Keeping k', hd.page, ap (get_elem? (set s.views id (Keeping k'))) here ∙ set_at s.views id (Keeping k) (Keeping k') at, ap (λ j. Has j hd.page) frame))
               (λ (other : h.holder g ≢ id). (old.0, old.1, set_else s.views id (h.holder g) (Keeping k') other ∙ old.2, old.3));
-          seats_ok = seats_stay (SeatOk z.frames z.cpus words' k' h.keeper h.seat_of h.holder given' h.log) s.views id (Keeping k')
-              (
-                own.0,
-                refl,
-                (
-                  inside,
-                  hand.1,
-                  (λ e. hand.2 (sym (stays (turn_at z.frames z.cpus f) (omega arith)) ∙ e)),
-                  sym (after_next z.cpus k.watch f hd.page h.given h.log book.bindings) ∙ ap (λ b. after given' f b h.log) (sym (current_next z.frames z.cpus s.words k.watch f inside book.plan_ok)),
-                ),
-              )
+          seats_ok = seats_stay (SeatOk z.frames z.cpus words' k' h.keeper h.seat_of h.holder given' h.log) s.views id (Keeping k') (
+            own.0,
+            refl,
+            (
+              inside,
+              hand.1,
+              (λ e. hand.2 (sym (stays (turn_at z.frames z.cpus f) (omega arith)) ∙ e)),
+              sym (after_next z.cpus k.watch f hd.page h.given h.log book.bindings) ∙ ap (λ b. after given' f b h.log) (sym (current_next z.frames z.cpus s.words k.watch f inside book.plan_ok)),
+            ),
+          )
               (λ j v other there. others s.words h.keeper h.seat_of h.holder h.given h.log inside own.0 hand.1 book.plan_ok stays j v other (subst (λ p. SeatOk z.frames z.cpus s.words p h.keeper h.seat_of h.holder h.given h.log j v) (sym own.1) (h.seats_ok j v there)));
         },
         λ g x rest is. told g x rest is,
@@ -315,14 +318,18 @@ module _ (z : Size) where
           first_of : List (ℕ × Option Held) → ℕ
           first_of [] = 0
           first_of (y ∷ ys) = y.0
+
           held_in : Option Held → Held
           held_in None = hd
           held_in (Some y) = y
+
           held_of : List (ℕ × Option Held) → Held
           held_of [] = hd
           held_of (y ∷ ys) = held_in y.1
+
       moved : (plan : Watch) (given : Given) (log : List Made) (g : ℕ) → g ≢ f → current (admitted f plan) g ≡ current plan g → after given g (current plan g) log ≡ after (regiven f (current plan f + 1) hd.page given) g (current (admitted f plan) g) log
       moved plan given log g other same = sym (after_else f (current plan f + 1) hd.page given g (current plan g) log (inl other)) ∙ ap (λ b. after (regiven f (current plan f + 1) hd.page given) g b log) (sym same)
+
       hand_moved : (words : List ℕ) (holder : ℕ → ℕ) (given : Given) (log : List Made) → f < z.frames → holder f ≡ id → PlanOk z.frames z.cpus words k.watch → ((i : ℕ) → 1 + z.frames + z.cpus ≤ i → get_or (set words (door_at f) (2 * (current k.watch f + 1))) i 0 ≡ get_or words i 0)
           → (j : ℕ) (hand : Hand) → j ≢ id → HandOk z.frames z.cpus words k.watch holder given log j hand
           → HandOk z.frames z.cpus (set words (door_at f) (2 * (current k.watch f + 1))) (admitted f k.watch) holder (regiven f (current k.watch f + 1) hd.page given) log j hand
@@ -330,6 +337,7 @@ module _ (z : Size) where
       hand_moved words holder given log inside here p stays j (Has g q) other ok =
           let apart : g ≢ f = λ e. other (sym ok.1 ∙ ap holder e ∙ here) in
           (ok.0, ok.1, (λ e. ok.2 (sym (stays (turn_at z.frames z.cpus g) (omega arith)) ∙ e)), ok.3 ∙ moved k.watch given log g apart (current_else z.frames z.cpus words k.watch f inside p g apart))
+
       others : (words : List ℕ) (keeper : ℕ) (seat_of holder : ℕ → ℕ) (given : Given) (log : List Made) → f < z.frames → keeper ≡ id → holder f ≡ id → PlanOk z.frames z.cpus words k.watch
           → ((i : ℕ) → 1 + z.frames + z.cpus ≤ i → get_or (set words (door_at f) (2 * (current k.watch f + 1))) i 0 ≡ get_or words i 0) → (j : ℕ) (v : View) → j ≢ id
           → SeatOk z.frames z.cpus words k keeper seat_of holder given log j v

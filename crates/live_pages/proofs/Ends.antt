@@ -83,28 +83,27 @@ module _ (z : Size) where
             let old = h.turns_ok f inside busy in
             dite (ℕ_discrete (h.holder f) id)
             (λ (here : h.holder f ≡ id).
-                let is : old.0 ≡ Keeping k = M.some-injective _ _ (sym old.2 ∙ ap (get_elem? s.views) here ∙ at) in
-                (Keeping k', old.1, at_longer longer (pass_of_keeper (Keeping k) ∷ []) (h.holder f) (Keeping k') (ap (get_elem? longer) here ∙ set_at s.views id (Keeping k) (Keeping k') at), sym (ap hand_of is) ∙ old.3))
+            let is : old.0 ≡ Keeping k = M.some-injective _ _ (sym old.2 ∙ ap (get_elem? s.views) here ∙ at) in
+            (Keeping k', old.1, at_longer longer (pass_of_keeper (Keeping k) ∷ []) (h.holder f) (Keeping k') (ap (get_elem? longer) here ∙ set_at s.views id (Keeping k) (Keeping k') at), sym (ap hand_of is) ∙ old.3))
             (λ (other : h.holder f ≢ id). (old.0, old.1, at_longer longer (pass_of_keeper (Keeping k) ∷ []) (h.holder f) old.0 (set_else s.views id (h.holder f) (Keeping k') other ∙ old.2), old.3));
         seats_ok = λ j v e. ⊎_elim
             (λ (old : get_elem? longer j ≡ M.some v).
-                seats_stay (SeatOk z.frames z.cpus s.words k' h.keeper seat_of h.holder h.given h.log) s.views id (Keeping k')
-                    (own.0, refl, subst (λ p. HandOk z.frames z.cpus s.words p.watch h.holder h.given h.log id k.hand) (sym own.1) own.2)
-                    (λ i u other there. stays s.words h.keeper h.seat_of h.holder h.given h.log (length longer) own.0 i u other (subst (λ p. SeatOk z.frames z.cpus s.words p h.keeper h.seat_of h.holder h.given h.log i u) (sym own.1) (h.seats_ok i u there)))
-                    j v old)
+            seats_stay (SeatOk z.frames z.cpus s.words k' h.keeper seat_of h.holder h.given h.log) s.views id (Keeping k')
+            (own.0, refl, subst (λ p. HandOk z.frames z.cpus s.words p.watch h.holder h.given h.log id k.hand) (sym own.1) own.2)
+            (λ i u other there. stays s.words h.keeper h.seat_of h.holder h.given h.log (length longer) own.0 i u other (subst (λ p. SeatOk z.frames z.cpus s.words p h.keeper h.seat_of h.holder h.given h.log i u) (sym own.1) (h.seats_ok i u there)))
+            j v old)
             (λ (new : (j ≡ length longer) × (pass_of_keeper (Keeping k) ≡ v)).
-                subst (λ (x : ℕ × View). SeatOk z.frames z.cpus s.words k' h.keeper seat_of h.holder h.given h.log x.0 x.1) (λ i. (sym new.0 i, new.1 i))
-                    (
-                      put_here k.watch.made (length longer) h.seat_of,
-                      record {
-                        all = count;
-                        pass_ok = subst (λ n. PassOk z.frames z.cpus s.words k'.watch (blank n k.watch.made)) (sym row) (blank_ok z.frames z.cpus s.words k.watch room book.plan_ok);
-                        made = sym (book.unmade k.watch.made (omega arith)).0;
-                        hand_ok = tt;
-                        holds = tt;
-                        out = (book.unmade k.watch.made (omega arith)).1;
-                      },
-                    ))
+            subst (λ (x : ℕ × View). SeatOk z.frames z.cpus s.words k' h.keeper seat_of h.holder h.given h.log x.0 x.1) (λ i. (sym new.0 i, new.1 i)) (
+              put_here k.watch.made (length longer) h.seat_of,
+              record {
+                all = count;
+                pass_ok = subst (λ n. PassOk z.frames z.cpus s.words k'.watch (blank n k.watch.made)) (sym row) (blank_ok z.frames z.cpus s.words k.watch room book.plan_ok);
+                made = sym (book.unmade k.watch.made (omega arith)).0;
+                hand_ok = tt;
+                holds = tt;
+                out = (book.unmade k.watch.made (omega arith)).1;
+              },
+            ))
             (snoc_place longer (pass_of_keeper (Keeping k)) v j e);
       }
     where
@@ -151,8 +150,8 @@ module _ (z : Size) where
           unmade = λ c above. ((book.unmade c above).0, get_or-set_other k.parts q.walk.cpu c (In q.made) Out (λ e. omega arith) ∙ (book.unmade c above).1);
           taken_in = λ c list part. dite (ℕ_discrete c q.walk.cpu)
               (λ (same : c ≡ q.walk.cpu).
-                  let is : In q.made ≡ In list = sym (get_or-set_same k.parts q.walk.cpu (In q.made) Out inside) ∙ subst (λ j. get_or (set k.parts q.walk.cpu (In q.made)) j Out ≡ In list) same part in
-                  sym (ap list_of is) ∙ his.1.made ∙ ap (λ j. mine j h.log) (sym same))
+              let is : In q.made ≡ In list = sym (get_or-set_same k.parts q.walk.cpu (In q.made) Out inside) ∙ subst (λ j. get_or (set k.parts q.walk.cpu (In q.made)) j Out ≡ In list) same part in
+              sym (ap list_of is) ∙ his.1.made ∙ ap (λ j. mine j h.log) (sym same))
               (λ (else : c ≢ q.walk.cpu). book.taken_in c list (sym (get_or-set_other k.parts q.walk.cpu c (In q.made) Out else) ∙ part));
         };
         slots_ok = subst (λ p. SlotsOk z.frames z.cpus s.words s.homes p.watch h.given h.log) (sym own.1) h.slots_ok;
@@ -161,8 +160,8 @@ module _ (z : Size) where
             let away : h.holder f ≢ other = λ here. free_has f old.1 (sym free ∙ sym (ap hand_of (M.some-injective _ _ (sym old.2 ∙ ap (get_elem? s.views) here ∙ there'))) ∙ old.3) in
             dite (ℕ_discrete (h.holder f) id)
             (λ (here : h.holder f ≡ id).
-                let is : old.0 ≡ Keeping k = M.some-injective _ _ (sym old.2 ∙ ap (get_elem? s.views) here ∙ at) in
-                (Keeping k', old.1, set_else (set s.views id (Keeping k')) other (h.holder f) Spent away ∙ ap (get_elem? (set s.views id (Keeping k'))) here ∙ set_at s.views id (Keeping k) (Keeping k') at, sym (ap hand_of is) ∙ old.3))
+            let is : old.0 ≡ Keeping k = M.some-injective _ _ (sym old.2 ∙ ap (get_elem? s.views) here ∙ at) in
+            (Keeping k', old.1, set_else (set s.views id (Keeping k')) other (h.holder f) Spent away ∙ ap (get_elem? (set s.views id (Keeping k'))) here ∙ set_at s.views id (Keeping k) (Keeping k') at, sym (ap hand_of is) ∙ old.3))
             (λ (else : h.holder f ≢ id). (old.0, old.1, set_else (set s.views id (Keeping k')) other (h.holder f) Spent away ∙ set_else s.views id (h.holder f) (Keeping k') else ∙ old.2, old.3));
         seats_ok = seats_spent s.words s.views id other k' h.keeper h.seat_of h.holder h.given h.log
             (own.0, refl, subst (λ p. HandOk z.frames z.cpus s.words p.watch h.holder h.given h.log id k.hand) (sym own.1) own.2)
@@ -172,15 +171,17 @@ module _ (z : Size) where
       list_of : Rattle.live_pages.specs.declared.views.Part.Part → List Made
       list_of Out = []
       list_of (In l) = l
+
       seats_spent : (words : List ℕ) (views : List View) (id other : ℕ) (k' : Holder) (keeper : ℕ) (seat_of holder : ℕ → ℕ) (given : Given) (log : List Made) → SeatOk z.frames z.cpus words k' keeper seat_of holder given log id (Keeping k')
           → ((j : ℕ) (v : View) → j ≢ id → j ≢ other → get_elem? views j ≡ M.some v → SeatOk z.frames z.cpus words k' keeper seat_of holder given log j v) → (j : ℕ) (v : View) → get_elem? (set (set views id (Keeping k')) other Spent) j ≡ M.some v
           → SeatOk z.frames z.cpus words k' keeper seat_of holder given log j v
       seats_spent words views id other k' keeper seat_of holder given log own others =
           seats_stay (SeatOk z.frames z.cpus words k' keeper seat_of holder given log) (set views id (Keeping k')) other Spent tt
-              (λ j v not_other e. ⊎_elim
-                  (λ (t : (j ≡ id) × (Keeping k' ≡ v)). subst (λ (x : ℕ × View). SeatOk z.frames z.cpus words k' keeper seat_of holder given log x.0 x.1) (λ i. (sym t.0 i, t.1 i)) own)
-                  (λ (t : (j ≢ id) × (get_elem? views j ≡ M.some v)). others j v t.0 not_other t.1)
-                  (at_set views id j (Keeping k') v e))
+          (λ j v not_other e. ⊎_elim
+          (λ (t : (j ≡ id) × (Keeping k' ≡ v)). subst (λ (x : ℕ × View). SeatOk z.frames z.cpus words k' keeper seat_of holder given log x.0 x.1) (λ i. (sym t.0 i, t.1 i)) own)
+          (λ (t : (j ≢ id) × (get_elem? views j ≡ M.some v)). others j v t.0 not_other t.1)
+          (at_set views id j (Keeping k') v e))
+
       stays : (words : List ℕ) (keeper : ℕ) (seat_of holder : ℕ → ℕ) (given : Given) (log : List Made) → keeper ≡ id → seat_of q.walk.cpu ≡ other → (j : ℕ) (v : View) → j ≢ id → j ≢ other
           → SeatOk z.frames z.cpus words k keeper seat_of holder given log j v → SeatOk z.frames z.cpus words (record k { parts = set k.parts q.walk.cpu (In q.made) }) keeper seat_of holder given log j v
       stays words keeper seat_of holder given log here theirs j (Passing u) not_id not_other ok = (
@@ -222,7 +223,7 @@ module _ (z : Size) where
       let n = first_length in
       let one : ack_at z.frames c ≡ suc (length row + c) = omega arith in
       get_or_append_left (first_words z.frames z.cpus 1) (replicate (z.frames + 1) 0) 0 (ack_at z.frames c) (omega arith) ∙ ap (λ i. get_or (0 ∷ (row ++ acks)) i 0) one ∙ get_or-append-add row acks c 0
-          ∙ get_or-replicate z.cpus c 0 0 inside
+      ∙ get_or-replicate z.cpus c 0 0 inside
 
   turn_word : (f : ℕ) → f < z.frames + 1 → get_or (opening_words z.frames z.cpus) (turn_at z.frames z.cpus f) 0 ≡ 0
   turn_word f inside =
@@ -241,47 +242,49 @@ module _ (z : Size) where
   pub opens : (words : List ℕ) (slots : List (Option Held)) → words ≡ opening_words z.frames z.cpus → ((f : ℕ) → f < z.frames → (h : Held) × (get_elem? slots f ≡ M.some (Some h)) × (h.page ≡ replicate 1024 0))
       → Kept z words (map M.some slots) (Keeping (first_holder z.frames z.cpus) ∷ [])
   opens words slots is zeros = subst (λ ws. Kept z ws (map M.some slots) (Keeping (first_holder z.frames z.cpus) ∷ [])) (sym is) record {
-      plan = first_holder z.frames z.cpus;
-      keeper = 0;
-      seat_of = λ c. 0;
-      holder = λ f. 0;
-      given = λ f b. replicate 1024 0;
-      log = [];
-      book_ok = record {
-        plan_ok = record {
-          room = (let n = opening_length in omega arith);
-          doors_row = length-replicate z.frames 1;
-          since_row = length-replicate z.frames 0;
-          noted_row = length-replicate z.cpus 0;
-          made = omega arith;
-          request = refl;
-          doors = λ f inside. door_word f inside;
-          least = λ f inside. subst (λ k. 1 ≤ k) (sym (get_or-replicate z.frames f 1 0 inside)) (omega arith);
-          noted = λ c inside. subst (λ k. k ≤ get_or (opening_words z.frames z.cpus) (ack_at z.frames c) 0) (sym (get_or-replicate z.cpus c 0 0 inside)) (omega arith);
-          unmade = λ c above inside. ack_word c inside;
-        };
+    plan = first_holder z.frames z.cpus;
+    keeper = 0;
+    seat_of = λ c. 0;
+    holder = λ f. 0;
+    given = λ f b. replicate 1024 0;
+    log = [];
+    book_ok = record {
+      plan_ok = record {
         room = (let n = opening_length in omega arith);
-        parts = length-replicate z.cpus Out;
-        ticket = turn_word z.frames (omega arith);
-        legal = tt;
-        bindings = tt;
-        few = λ c. omega arith;
-        left = tt;
-        zeros = λ f. refl;
-        unmade = λ c above. (refl, all_out z.cpus c);
-        taken_in = λ c list part. absurd (out_in list (all_out z.cpus c) part);
+        doors_row = length-replicate z.frames 1;
+        since_row = length-replicate z.frames 0;
+        noted_row = length-replicate z.cpus 0;
+        made = omega arith;
+        request = refl;
+        doors = λ f inside. door_word f inside;
+        least = λ f inside. subst (λ k. 1 ≤ k) (sym (get_or-replicate z.frames f 1 0 inside)) (omega arith);
+        noted = λ c inside. subst (λ k. k ≤ get_or (opening_words z.frames z.cpus) (ack_at z.frames c) 0) (sym (get_or-replicate z.cpus c 0 0 inside)) (omega arith);
+        unmade = λ c above inside. ack_word c inside;
       };
-      slots_ok = λ f inside free. let zero_page = zeros f inside in (zero_page.0, at_map M.some slots f (Some zero_page.0) zero_page.1, zero_page.2);
-      turns_ok = λ f inside busy. absurd (busy (turn_word f (omega arith)));
-      seats_ok = one;
-    }
+      room = (let n = opening_length in omega arith);
+      parts = length-replicate z.cpus Out;
+      ticket = turn_word z.frames (omega arith);
+      legal = tt;
+      bindings = tt;
+      few = λ c. omega arith;
+      left = tt;
+      zeros = λ f. refl;
+      unmade = λ c above. (refl, all_out z.cpus c);
+      taken_in = λ c list part. absurd (out_in list (all_out z.cpus c) part);
+    };
+    slots_ok = λ f inside free. let zero_page = zeros f inside in (zero_page.0, at_map M.some slots f (Some zero_page.0) zero_page.1, zero_page.2);
+    turns_ok = λ f inside busy. absurd (busy (turn_word f (omega arith)));
+    seats_ok = one;
+  }
     where
       all_out : (n c : ℕ) → get_or (replicate n Out) c Out ≡ Out
       all_out zero c = refl
       all_out (suc n) zero = refl
       all_out (suc n) (suc c) = all_out n c
+
       out_in : {p : Rattle.live_pages.specs.declared.views.Part.Part} (made : List Made) → p ≡ Out → p ≡ In made → ⊥
       out_in made a i = absurd (cc)
+
       one : (j : ℕ) (v : View) → get_elem? (Keeping (first_holder z.frames z.cpus) ∷ []) j ≡ M.some v → SeatOk z.frames z.cpus (opening_words z.frames z.cpus) (first_holder z.frames z.cpus) 0 (λ c. 0) (λ f. 0) (λ f b. replicate 1024 0) [] j v
       one zero v e = subst (SeatOk z.frames z.cpus (opening_words z.frames z.cpus) (first_holder z.frames z.cpus) 0 (λ c. 0) (λ f. 0) (λ f b. replicate 1024 0) [] 0) (M.some-injective _ _ e) (refl, refl, tt)
       one (suc j) v e = absurd (M.some-ne-none v (sym e))
@@ -296,6 +299,7 @@ no_turn_left z words homes views seat k h at free all f inside busy =
   where
     out_in : {p : Rattle.live_pages.specs.declared.views.Part.Part} (made : List Made) → p ≡ Out → p ≡ In made → ⊥
     out_in made a i = absurd (cc)
+
     of_view : (v : View) (page : List ℕ) → hand_of v ≡ Has f page → k ≡ h.plan → SeatOk z.frames z.cpus words h.plan h.keeper h.seat_of h.holder h.given h.log (h.holder f) v → ⊥
     of_view (Passing q) page has is ok =
         let cpu : q.walk.cpu < z.cpus = (let m = ok.1.pass_ok.made in let n = h.book_ok.plan_ok.made in omega arith) in
@@ -330,7 +334,7 @@ may_bind_is_free z words homes views seat cleared k f h at noted may seat' w the
     let own = h.seats_ok seat (Keeping k) at in
     let his = h.seats_ok seat' (Passing w) there in
     none_if (get_or w.walk.held f None)
-        (λ b e. holder_stands z words h.plan.watch w.walk cleared f b h.book_ok.plan_ok his.1.pass_ok (subst (λ p. HasNoted p.watch cleared) own.1 noted) (subst (λ p. MayBind p.watch cleared f) own.1 may) e)
+    (λ b e. holder_stands z words h.plan.watch w.walk cleared f b h.book_ok.plan_ok his.1.pass_ok (subst (λ p. HasNoted p.watch cleared) own.1 noted) (subst (λ p. MayBind p.watch cleared f) own.1 may) e)
   where
     none_if : (o : Option ℕ) → ((b : ℕ) → o ≡ Some b → ⊥) → o ≡ None
     none_if None never = refl

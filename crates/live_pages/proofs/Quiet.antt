@@ -47,18 +47,18 @@ le_of_same e = omega arith
 module _ (frames cpus : ℕ) (words words' : List ℕ) (given : Given) (log : List Made) (quiet : Quiet frames cpus words words') where
   pub book_quiet : (plan : Holder) (w : Watch) → PlanOk frames cpus words' w → ((f : ℕ) → current w f ≡ current plan.watch f) → w.made ≡ plan.watch.made → BookOk frames cpus words plan given log → BookOk frames cpus words' (record plan { watch = w }) given log
   book_quiet plan w ok same made b = record {
-      plan_ok = ok;
-      room = (let l = quiet.0 in let r = b.room in omega arith);
-      parts = b.parts;
-      ticket = quiet.1 (ticket_at frames cpus) (omega arith) ∙ b.ticket;
-      legal = b.legal;
-      bindings = bindings_stay cpus plan.watch w log (λ f. le_of_same (same f)) b.bindings;
-      few = b.few;
-      left = left_stays given plan.watch w log plan.ended (λ f. le_of_same (same f)) b.left;
-      zeros = b.zeros;
-      unmade = λ c above. b.unmade c (subst (λ m. m ≤ c) made above);
-      taken_in = b.taken_in;
-    }
+    plan_ok = ok;
+    room = (let l = quiet.0 in let r = b.room in omega arith);
+    parts = b.parts;
+    ticket = quiet.1 (ticket_at frames cpus) (omega arith) ∙ b.ticket;
+    legal = b.legal;
+    bindings = bindings_stay cpus plan.watch w log (λ f. le_of_same (same f)) b.bindings;
+    few = b.few;
+    left = left_stays given plan.watch w log plan.ended (λ f. le_of_same (same f)) b.left;
+    zeros = b.zeros;
+    unmade = λ c above. b.unmade c (subst (λ m. m ≤ c) made above);
+    taken_in = b.taken_in;
+  }
 
   turn_stays : (f : ℕ) → get_or words' (turn_at frames cpus f) 0 ≡ get_or words (turn_at frames cpus f) 0
   turn_stays f = quiet.1 (turn_at frames cpus f) (omega arith)
@@ -77,20 +77,20 @@ module _ (frames cpus : ℕ) (words words' : List ℕ) (given : Given) (log : Li
       let old = ok f inside (λ e. taken (turn_stays f ∙ e)) in
       dite (ℕ_discrete (holder f) id)
       (λ (here : holder f ≡ id).
-          let is : old.0 ≡ v = M.some-injective _ _ (sym old.2 ∙ ap (get_elem? views) here ∙ at) in
-          (v', old.1, ap (get_elem? (set views id v')) here ∙ set_at views id v v' at, same ∙ sym (ap hand_of is) ∙ old.3))
+      let is : old.0 ≡ v = M.some-injective _ _ (sym old.2 ∙ ap (get_elem? views) here ∙ at) in
+      (v', old.1, ap (get_elem? (set views id v')) here ∙ set_at views id v v' at, same ∙ sym (ap hand_of is) ∙ old.3))
       (λ (other : holder f ≢ id). (old.0, old.1, set_else views id (holder f) v' other ∙ old.2, old.3))
 
   pub walker_quiet : (plan : Holder) (w : Watch) (holder : ℕ → ℕ) (seat : ℕ) (q : Walker) → ((f : ℕ) → current w f ≡ current plan.watch f) → PassOk frames cpus words' w q.walk → WalkerOk frames cpus words plan holder given log seat q
       → WalkerOk frames cpus words' (record plan { watch = w }) holder given log seat q
   walker_quiet plan w holder seat q same pass ok = record {
-      all = ok.all;
-      pass_ok = pass;
-      made = ok.made;
-      hand_ok = hand_quiet holder plan.watch w seat q.hand same ok.hand_ok;
-      holds = ok.holds;
-      out = ok.out;
-    }
+    all = ok.all;
+    pass_ok = pass;
+    made = ok.made;
+    hand_ok = hand_quiet holder plan.watch w seat q.hand same ok.hand_ok;
+    holds = ok.holds;
+    out = ok.out;
+  }
 
 abbrev pub Board : Type 0
 Board = State (Option Held) View
@@ -116,18 +116,17 @@ module _ (z : Size) where
         book_ok = book_quiet z.frames z.cpus words words' h.given h.log quiet h.plan h.plan.watch (plan mine.1.pass_ok) (λ f. refl) refl h.book_ok;
         slots_ok = slots_quiet z.frames z.cpus words words' h.given h.log quiet homes h.plan.watch h.plan.watch (λ f. refl) h.slots_ok;
         turns_ok = turns_quiet z.frames z.cpus words words' h.given h.log quiet views h.holder id (Passing w) (Passing (walking change w)) at refl h.turns_ok;
-        seats_ok = seats_stay (SeatOk z.frames z.cpus words' h.plan h.keeper h.seat_of h.holder h.given h.log) views id (Passing (walking change w))
-            (
-              ap h.seat_of cpu ∙ mine.0,
-              record {
-                all = mine.1.all;
-                pass_ok = own mine.1.pass_ok;
-                made = mine.1.made ∙ ap (λ c. Rattle.live_pages.specs.Touches.mine c h.log) (sym cpu);
-                hand_ok = subst (HandOk z.frames z.cpus words' h.plan.watch h.holder h.given h.log id) (sym free) tt;
-                holds = subst (λ k. HoldsHand k (change w.walk)) (sym free) tt;
-                out = ap (λ c. get_or h.plan.parts c Rattle.live_pages.specs.declared.views.Part.TheVariants.Out) cpu ∙ mine.1.out;
-              },
-            )
+        seats_ok = seats_stay (SeatOk z.frames z.cpus words' h.plan h.keeper h.seat_of h.holder h.given h.log) views id (Passing (walking change w)) (
+          ap h.seat_of cpu ∙ mine.0,
+          record {
+            all = mine.1.all;
+            pass_ok = own mine.1.pass_ok;
+            made = mine.1.made ∙ ap (λ c. Rattle.live_pages.specs.Touches.mine c h.log) (sym cpu);
+            hand_ok = subst (HandOk z.frames z.cpus words' h.plan.watch h.holder h.given h.log id) (sym free) tt;
+            holds = subst (λ k. HoldsHand k (change w.walk)) (sym free) tt;
+            out = ap (λ c. get_or h.plan.parts c Rattle.live_pages.specs.declared.views.Part.TheVariants.Out) cpu ∙ mine.1.out;
+          },
+        )
             (λ j v other e. stays h.plan h.keeper h.seat_of h.holder h.given h.log mine.0 others j v other (h.seats_ok j v e));
       }
     where
@@ -177,13 +176,14 @@ module _ (z : Size) where
         tt,
         subst (λ ws. Kept z ws s.homes (set s.views id (Passing (walking (filled f n) w)))) (sym (set-get_or s.words (door_at f) 0))
             (pass_stepped s.words s.words s.homes s.views id w (filled f n) h at free (cpu_stays (eqb (n % 2) 0) n) (refl, λ i _. refl) (λ _. h.book_ok.plan_ok)
-                (λ ok. filled_ok z.frames z.cpus s.words h.plan.watch w.walk f n inside refl h.book_ok.plan_ok ok) (λ q _ ok. ok)),
+            (λ ok. filled_ok z.frames z.cpus s.words h.plan.watch w.walk f n inside refl h.book_ok.plan_ok ok) (λ q _ ok. ok)),
         λ g e. (least s.words h.plan.watch h.book_ok.plan_ok, ap (λ j. (Passing (walking (filled j n) w), [])) (omega arith)),
       )
     where
       cpu_stays : (even : Bool) (n : ℕ) → (filled_if even f n w.walk).cpu ≡ w.walk.cpu
       cpu_stays true n = refl
       cpu_stays false n = refl
+
       least : (words : List ℕ) (plan : Watch) → PlanOk z.frames z.cpus words plan → 1 ≤ get_or words (door_at f) 0
       least words plan k = subst (λ i. 1 ≤ i) (sym (k.doors f inside)) (k.least f inside)
 
@@ -223,6 +223,7 @@ module _ (z : Size) where
     where
       half : (x y : ℕ) → y ≡ x + 1 → x % 2 ≡ 0 → y / 2 ≡ x / 2
       half x y e even = omega arith
+
       same : (g : ℕ) → current (shut f k.watch) g ≡ current k.watch g
       same g = dite (ℕ_discrete g f)
           (λ (is : g ≡ f). subst (λ j. current (shut f k.watch) j ≡ current k.watch j) (sym is) (half (get_or k.watch.doors f 0) (get_or (set k.watch.doors f (get_or k.watch.doors f 0 + 1)) f 0) (get_or-set_same k.watch.doors f (get_or k.watch.doors f 0 + 1) 0 row) even))

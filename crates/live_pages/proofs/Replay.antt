@@ -58,7 +58,7 @@ after_next cpus plan f page given [] ok = regiven_here f (current plan f + 1) pa
 after_next cpus plan f page given (e ∷ es) ok =
     dite (ℕ_discrete e.frame f)
     (λ (same : e.frame ≡ f). let low = subst (λ g. e.binding ≤ current plan g) same ok.2 in
-        after_binding (regiven f (current plan f + 1) page given) f (current plan f + 1) e es (not_after e.binding (current plan f) low) ∙ after_next cpus plan f page given es ok.0)
+    after_binding (regiven f (current plan f + 1) page given) f (current plan f + 1) e es (not_after e.binding (current plan f) low) ∙ after_next cpus plan f page given es ok.0)
     (λ (other : e.frame ≢ f). after_frame (regiven f (current plan f + 1) page given) f (current plan f + 1) e es other ∙ after_next cpus plan f page given es ok.0)
 
 -- a binding that was had is not the next one of frame f
@@ -110,8 +110,8 @@ left_touched given plan log (b ∷ bs) e is ok = (
   ok.1,
   ok.2
       ∙ dite (ℕ_discrete e.frame b.frame)
-          (λ (same : e.frame ≡ b.frame). sym (after_binding given b.frame b.binding e log (λ hit. not_below (current plan b.frame) b.binding ok.1 (sym hit ∙ is ∙ ap (current plan) same))))
-          (λ (other : e.frame ≢ b.frame). sym (after_frame given b.frame b.binding e log other)),
+      (λ (same : e.frame ≡ b.frame). sym (after_binding given b.frame b.binding e log (λ hit. not_below (current plan b.frame) b.binding ok.1 (sym hit ∙ is ∙ ap (current plan) same))))
+      (λ (other : e.frame ≢ b.frame). sym (after_frame given b.frame b.binding e log other)),
 )
 
 -- the touches of one processor, with one more

@@ -65,17 +65,17 @@ module _ (frames cpus : ℕ) (words : List ℕ) where
   -- a word of turns or tickets is none of the doors' words
   pub plan_above : (plan : Watch) (i n : ℕ) → 1 + frames + cpus ≤ i → PlanOk frames cpus words plan → PlanOk frames cpus (set words i n) plan
   plan_above plan i n above k = record {
-      room = (let l = length-set words i n in let r = k.room in omega arith);
-      doors_row = k.doors_row;
-      since_row = k.since_row;
-      noted_row = k.noted_row;
-      made = k.made;
-      request = get_or-set_other words i 0 n 0 (λ e. omega arith) ∙ k.request;
-      doors = λ f inside. get_or-set_other words i (door_at f) n 0 (λ e. omega arith) ∙ k.doors f inside;
-      least = k.least;
-      noted = λ c inside. subst (λ j. get_or plan.noted c 0 ≤ j) (sym (get_or-set_other words i (ack_at frames c) n 0 (λ e. omega arith))) (k.noted c inside);
-      unmade = λ c over inside. get_or-set_other words i (ack_at frames c) n 0 (λ e. omega arith) ∙ k.unmade c over inside;
-    }
+    room = (let l = length-set words i n in let r = k.room in omega arith);
+    doors_row = k.doors_row;
+    since_row = k.since_row;
+    noted_row = k.noted_row;
+    made = k.made;
+    request = get_or-set_other words i 0 n 0 (λ e. omega arith) ∙ k.request;
+    doors = λ f inside. get_or-set_other words i (door_at f) n 0 (λ e. omega arith) ∙ k.doors f inside;
+    least = k.least;
+    noted = λ c inside. subst (λ j. get_or plan.noted c 0 ≤ j) (sym (get_or-set_other words i (ack_at frames c) n 0 (λ e. omega arith))) (k.noted c inside);
+    unmade = λ c over inside. get_or-set_other words i (ack_at frames c) n 0 (λ e. omega arith) ∙ k.unmade c over inside;
+  }
 
   pub pass_above : (plan : Watch) (q : Walk) (i n : ℕ) → 1 + frames + cpus ≤ i → PlanOk frames cpus words plan → PassOk frames cpus words plan q → PassOk frames cpus (set words i n) plan q
   pass_above plan q i n above k ok = pass_stays frames cpus words plan q i n (λ e. let m = ok.made in let l = k.made in omega arith) ok
@@ -90,18 +90,18 @@ module _ (frames cpus : ℕ) (words : List ℕ) where
 
     pub book_turned : (plan : Holder) (given : Given) (log : List Made) (hand : Hand) → BookOk frames cpus words plan given log → BookOk frames cpus (set words (turn_at frames cpus f) n) (record plan { hand = hand }) given log
     book_turned plan given log hand b = record {
-        plan_ok = plan_above plan.watch (turn_at frames cpus f) n (omega arith) b.plan_ok;
-        room = (let l = length-set words (turn_at frames cpus f) n in let r = b.room in omega arith);
-        parts = b.parts;
-        ticket = get_or-set_other words (turn_at frames cpus f) (ticket_at frames cpus) n 0 (λ e. omega arith) ∙ b.ticket;
-        legal = b.legal;
-        bindings = b.bindings;
-        few = b.few;
-        left = b.left;
-        zeros = b.zeros;
-        unmade = b.unmade;
-        taken_in = b.taken_in;
-      }
+      plan_ok = plan_above plan.watch (turn_at frames cpus f) n (omega arith) b.plan_ok;
+      room = (let l = length-set words (turn_at frames cpus f) n in let r = b.room in omega arith);
+      parts = b.parts;
+      ticket = get_or-set_other words (turn_at frames cpus f) (ticket_at frames cpus) n 0 (λ e. omega arith) ∙ b.ticket;
+      legal = b.legal;
+      bindings = b.bindings;
+      few = b.few;
+      left = b.left;
+      zeros = b.zeros;
+      unmade = b.unmade;
+      taken_in = b.taken_in;
+    }
 
     -- the hand of another frame is as it was
     pub hand_turned : (plan : Watch) (holder holder' : ℕ → ℕ) (given : Given) (log : List Made) (seat : ℕ) (hand : Hand) → ((g : ℕ) → g ≢ f → holder' g ≡ holder g) → ((page : List ℕ) → hand ≡ Has f page → ⊥)
@@ -114,13 +114,13 @@ module _ (frames cpus : ℕ) (words : List ℕ) where
     pub walker_turned : (plan : Holder) (hand : Hand) (holder holder' : ℕ → ℕ) (given : Given) (log : List Made) (seat : ℕ) (q : Walker) → ((g : ℕ) → g ≢ f → holder' g ≡ holder g) → ((page : List ℕ) → q.hand ≡ Has f page → ⊥)
         → PlanOk frames cpus words plan.watch → WalkerOk frames cpus words plan holder given log seat q → WalkerOk frames cpus (set words (turn_at frames cpus f) n) (record plan { hand = hand }) holder' given log seat q
     walker_turned plan hand holder holder' given log seat q same apart k ok = record {
-        all = ok.all;
-        pass_ok = pass_above plan.watch q.walk (turn_at frames cpus f) n (omega arith) k ok.pass_ok;
-        made = ok.made;
-        hand_ok = hand_turned plan.watch holder holder' given log seat q.hand same apart ok.hand_ok;
-        holds = ok.holds;
-        out = ok.out;
-      }
+      all = ok.all;
+      pass_ok = pass_above plan.watch q.walk (turn_at frames cpus f) n (omega arith) k ok.pass_ok;
+      made = ok.made;
+      hand_ok = hand_turned plan.watch holder holder' given log seat q.hand same apart ok.hand_ok;
+      holds = ok.holds;
+      out = ok.out;
+    }
 
     -- the turns of other frames are as they were
     pub turns_else : (views : List View) (holder holder' : ℕ → ℕ) (id : ℕ) (v v' : View) (g : ℕ) → get_elem? views id ≡ M.some v → g ≢ f → ((page : List ℕ) → hand_of v ≡ Has g page → ⊥) → (g ≢ f → holder' g ≡ holder g)
@@ -149,28 +149,28 @@ module _ (z : Size) where
       → get_or s.words (turn_at z.frames z.cpus f) 0 ≡ 0 → (hand : Hand) → plan ≡ record h.plan { hand = hand }
       → SeatOk z.frames z.cpus (set s.words (turn_at z.frames z.cpus f) 1) plan h.keeper h.seat_of (put f id h.holder) h.given h.log id v'
       → ((j : ℕ) (u : View) → j ≢ id → SeatOk z.frames z.cpus s.words h.plan h.keeper h.seat_of h.holder h.given h.log j u
-          → SeatOk z.frames z.cpus (set s.words (turn_at z.frames z.cpus f) 1) plan h.keeper h.seat_of (put f id h.holder) h.given h.log j u)
+      → SeatOk z.frames z.cpus (set s.words (turn_at z.frames z.cpus f) 1) plan h.keeper h.seat_of (put f id h.holder) h.given h.log j u)
       → Kept z (set s.words (turn_at z.frames z.cpus f) 1) (set s.homes f M.none) (set s.views id v')
   taken_kept s h id f hd v v' plan at free has inside zero_word hand plan_is mine others = record {
-      plan = plan;
-      keeper = h.keeper;
-      seat_of = h.seat_of;
-      holder = put f id h.holder;
-      given = h.given;
-      log = h.log;
-      book_ok = subst (λ p. BookOk z.frames z.cpus (set s.words (turn_at z.frames z.cpus f) 1) p h.given h.log) (sym plan_is) (book_turned z.frames z.cpus s.words f 1 inside h.plan h.given h.log hand h.book_ok);
-      slots_ok = λ g within zero. dite (ℕ_discrete g f)
-          (λ (same : g ≡ f). let one = turn_here z.frames z.cpus s.words f 1 inside h.book_ok.room in
-              let e : get_or (set s.words (turn_at z.frames z.cpus f) 1) (turn_at z.frames z.cpus f) 0 ≡ 0 = subst (λ k. get_or (set s.words (turn_at z.frames z.cpus f) 1) (turn_at z.frames z.cpus k) 0 ≡ 0) same zero in absurd (one_zero _ 0 one refl e))
-          (λ (other : g ≢ f).
-              let old = h.slots_ok g within (sym (turn_else z.frames z.cpus s.words f 1 inside g other) ∙ zero) in
-              (old.0, set_else s.homes f g M.none other ∙ old.1, old.2 ∙ ap (λ p. after h.given g (current p.watch g) h.log) (sym plan_is)));
-      turns_ok = λ g within busy. dite (ℕ_discrete g f)
-          (λ (same : g ≡ f). (v', hd.page, ap (get_elem? (set s.views id v')) (ap (put f id h.holder) same ∙ put_here f id h.holder) ∙ set_at s.views id v v' at, has ∙ ap (λ k. Has k hd.page) (sym same)))
-          (λ (other : g ≢ f).
-              turns_else z.frames z.cpus s.words f 1 inside s.views h.holder (put f id h.holder) id v v' g at other (λ page e. free_has g page (sym free ∙ e)) (λ o. put_else f g id h.holder o) h.turns_ok within busy);
-      seats_ok = seats_stay (SeatOk z.frames z.cpus (set s.words (turn_at z.frames z.cpus f) 1) plan h.keeper h.seat_of (put f id h.holder) h.given h.log) s.views id v' mine (λ j u other e. others j u other (h.seats_ok j u e));
-    }
+    plan = plan;
+    keeper = h.keeper;
+    seat_of = h.seat_of;
+    holder = put f id h.holder;
+    given = h.given;
+    log = h.log;
+    book_ok = subst (λ p. BookOk z.frames z.cpus (set s.words (turn_at z.frames z.cpus f) 1) p h.given h.log) (sym plan_is) (book_turned z.frames z.cpus s.words f 1 inside h.plan h.given h.log hand h.book_ok);
+    slots_ok = λ g within zero. dite (ℕ_discrete g f)
+        (λ (same : g ≡ f). let one = turn_here z.frames z.cpus s.words f 1 inside h.book_ok.room in
+        let e : get_or (set s.words (turn_at z.frames z.cpus f) 1) (turn_at z.frames z.cpus f) 0 ≡ 0 = subst (λ k. get_or (set s.words (turn_at z.frames z.cpus f) 1) (turn_at z.frames z.cpus k) 0 ≡ 0) same zero in absurd (one_zero _ 0 one refl e))
+        (λ (other : g ≢ f).
+        let old = h.slots_ok g within (sym (turn_else z.frames z.cpus s.words f 1 inside g other) ∙ zero) in
+        (old.0, set_else s.homes f g M.none other ∙ old.1, old.2 ∙ ap (λ p. after h.given g (current p.watch g) h.log) (sym plan_is)));
+    turns_ok = λ g within busy. dite (ℕ_discrete g f)
+        (λ (same : g ≡ f). (v', hd.page, ap (get_elem? (set s.views id v')) (ap (put f id h.holder) same ∙ put_here f id h.holder) ∙ set_at s.views id v v' at, has ∙ ap (λ k. Has k hd.page) (sym same)))
+        (λ (other : g ≢ f).
+        turns_else z.frames z.cpus s.words f 1 inside s.views h.holder (put f id h.holder) id v v' g at other (λ page e. free_has g page (sym free ∙ e)) (λ o. put_else f g id h.holder o) h.turns_ok within busy);
+    seats_ok = seats_stay (SeatOk z.frames z.cpus (set s.words (turn_at z.frames z.cpus f) 1) plan h.keeper h.seat_of (put f id h.holder) h.given h.log) s.views id v' mine (λ j u other e. others j u other (h.seats_ok j u e));
+  }
 
   -- no other seat has the turn that is free
   not_of_free : (words : List ℕ) (plan : Watch) (holder : ℕ → ℕ) (given : Given) (log : List Made) (seat f : ℕ) (hand : Hand) → HandOk z.frames z.cpus words plan holder given log seat hand → get_or words (turn_at z.frames z.cpus f) 0 ≡ 0 → (page : List ℕ) → hand ≡ Has f page → ⊥
@@ -192,61 +192,60 @@ module _ (z : Size) where
       let n : ℕ = get_or s.words (turn_at z.frames z.cpus f) 0 in
       let frame : (g : ℕ) → turn_at z.frames z.cpus f ≡ turn_at (length w.walk.held) w.cpus g → f ≡ g = λ g e. (let r = mine.1.pass_ok.row in let c = mine.1.all in omega arith) in
       exchanged n 0 1 (λ x. Owed z s id [] (turn_at z.frames z.cpus f) x (Takes (step slots (turn_at z.frames z.cpus f) 0 1 M.none) (Passing w, [])))
-          (λ (hit : n ≡ 0).
-              let slot = h.slots_ok f inside hit in (
-                Passing (taken f slot.0.page w),
-                takes f (Some slot.0),
-                slot.1,
-                taken_kept s h id f slot.0 (Passing w) (Passing (taken f slot.0.page w)) h.plan at free refl inside hit h.plan.hand refl
-                    (
-                      mine.0,
-                      record {
-                        all = mine.1.all;
-                        pass_ok = pass_above z.frames z.cpus s.words h.plan.watch (having_read 0 w.walk) (turn_at z.frames z.cpus f) 1 (omega arith) h.book_ok.plan_ok (read_ok z.frames z.cpus s.words h.plan.watch w.walk 0 mine.1.pass_ok);
-                        made = mine.1.made;
-                        hand_ok = (inside, put_here f id h.holder, (λ e. one_zero _ 0 (turn_here z.frames z.cpus s.words f 1 inside h.book_ok.room) refl e), slot.2);
-                        holds = (b, holds);
-                        out = mine.1.out;
-                      },
-                    )
-                    (others_taken s.words h.plan h.plan.hand h.keeper h.seat_of h.holder h.given h.log id f inside hit h.book_ok (λ _ _ _. refl)),
-                λ g e. let same = frame g e in ((λ _. (slot.0, ap (λ k. (Passing (taken k slot.0.page w), (k, Some slot.0) ∷ [])) same)), λ busy. absurd (busy hit)),
-              ))
-          (λ (miss : n ≢ 0). (
-            Passing (walking (having_read n) w),
-            keeps,
-            tt,
-            subst (λ ws. Kept z ws s.homes (set s.views id (Passing (walking (having_read n) w)))) (sym (set-get_or s.words (turn_at z.frames z.cpus f) 0))
-                (pass_stepped z s.words s.words s.homes s.views id w (having_read n) h at free refl (refl, λ i _. refl) (λ _. h.book_ok.plan_ok) (λ ok. read_ok z.frames z.cpus s.words h.plan.watch w.walk n ok) (λ q _ ok. ok)),
-            λ g e. ((λ zero. absurd (miss zero)), λ _. refl),
-          ))
+      (λ (hit : n ≡ 0).
+      let slot = h.slots_ok f inside hit in (
+        Passing (taken f slot.0.page w),
+        takes f (Some slot.0),
+        slot.1,
+        taken_kept s h id f slot.0 (Passing w) (Passing (taken f slot.0.page w)) h.plan at free refl inside hit h.plan.hand refl (
+          mine.0,
+          record {
+            all = mine.1.all;
+            pass_ok = pass_above z.frames z.cpus s.words h.plan.watch (having_read 0 w.walk) (turn_at z.frames z.cpus f) 1 (omega arith) h.book_ok.plan_ok (read_ok z.frames z.cpus s.words h.plan.watch w.walk 0 mine.1.pass_ok);
+            made = mine.1.made;
+            hand_ok = (inside, put_here f id h.holder, (λ e. one_zero _ 0 (turn_here z.frames z.cpus s.words f 1 inside h.book_ok.room) refl e), slot.2);
+            holds = (b, holds);
+            out = mine.1.out;
+          },
+        )
+            (others_taken s.words h.plan h.plan.hand h.keeper h.seat_of h.holder h.given h.log id f inside hit h.book_ok (λ _ _ _. refl)),
+        λ g e. let same = frame g e in ((λ _. (slot.0, ap (λ k. (Passing (taken k slot.0.page w), (k, Some slot.0) ∷ [])) same)), λ busy. absurd (busy hit)),
+      ))
+      (λ (miss : n ≢ 0). (
+        Passing (walking (having_read n) w),
+        keeps,
+        tt,
+        subst (λ ws. Kept z ws s.homes (set s.views id (Passing (walking (having_read n) w)))) (sym (set-get_or s.words (turn_at z.frames z.cpus f) 0))
+            (pass_stepped z s.words s.words s.homes s.views id w (having_read n) h at free refl (refl, λ i _. refl) (λ _. h.book_ok.plan_ok) (λ ok. read_ok z.frames z.cpus s.words h.plan.watch w.walk n ok) (λ q _ ok. ok)),
+        λ g e. ((λ zero. absurd (miss zero)), λ _. refl),
+      ))
 
   -- The turn of a seat is given back, and the page with it.
   given_back_kept : (s : State (Option Held) View) (h : Kept z s.words s.homes s.views) (id f : ℕ) (hd : Held) (v v' : View) (plan : Holder) → get_elem? s.views id ≡ M.some v → hand_of v ≡ Has f hd.page → f < z.frames → f < length s.homes
       → hd.page ≡ after h.given f (current h.plan.watch f) h.log → (hand : Hand) → plan ≡ record h.plan { hand = hand }
       → SeatOk z.frames z.cpus (set s.words (turn_at z.frames z.cpus f) 0) plan h.keeper h.seat_of h.holder h.given h.log id v'
       → ((j : ℕ) (u : View) → j ≢ id → SeatOk z.frames z.cpus s.words h.plan h.keeper h.seat_of h.holder h.given h.log j u
-          → SeatOk z.frames z.cpus (set s.words (turn_at z.frames z.cpus f) 0) plan h.keeper h.seat_of h.holder h.given h.log j u)
+      → SeatOk z.frames z.cpus (set s.words (turn_at z.frames z.cpus f) 0) plan h.keeper h.seat_of h.holder h.given h.log j u)
       → Kept z (set s.words (turn_at z.frames z.cpus f) 0) (set s.homes f (M.some (Some hd))) (set s.views id v')
   given_back_kept s h id f hd v v' plan at has inside slot page hand plan_is own others = record {
-      plan = plan;
-      keeper = h.keeper;
-      seat_of = h.seat_of;
-      holder = h.holder;
-      given = h.given;
-      log = h.log;
-      book_ok = subst (λ p. BookOk z.frames z.cpus (set s.words (turn_at z.frames z.cpus f) 0) p h.given h.log) (sym plan_is) (book_turned z.frames z.cpus s.words f 0 inside h.plan h.given h.log hand h.book_ok);
-      slots_ok = λ g within free. dite (ℕ_discrete g f)
-          (λ (same : g ≡ f).
-              (hd, ap (get_elem? (set s.homes f (M.some (Some hd)))) same ∙ set_here s.homes f (M.some (Some hd)) slot, page ∙ ap (λ p. after h.given f (current p.watch f) h.log) (sym plan_is) ∙ ap (λ k. after h.given k (current plan.watch k) h.log) (sym same)))
-          (λ (other : g ≢ f).
-              let old = h.slots_ok g within (sym (turn_else z.frames z.cpus s.words f 0 inside g other) ∙ free) in
-              (old.0, set_else s.homes f g (M.some (Some hd)) other ∙ old.1, old.2 ∙ ap (λ p. after h.given g (current p.watch g) h.log) (sym plan_is)));
-      turns_ok = λ g within busy. dite (ℕ_discrete g f)
-          (λ (same : g ≡ f). absurd (busy (ap (λ k. get_or (set s.words (turn_at z.frames z.cpus f) 0) (turn_at z.frames z.cpus k) 0) same ∙ turn_here z.frames z.cpus s.words f 0 inside h.book_ok.room)))
-          (λ (other : g ≢ f). turns_else z.frames z.cpus s.words f 0 inside s.views h.holder h.holder id v v' g at other (λ p e. other (has_frame g f p hd.page (sym e ∙ has))) (λ _. refl) h.turns_ok within busy);
-      seats_ok = seats_stay (SeatOk z.frames z.cpus (set s.words (turn_at z.frames z.cpus f) 0) plan h.keeper h.seat_of h.holder h.given h.log) s.views id v' own (λ j u other e. others j u other (h.seats_ok j u e));
-    }
+    plan = plan;
+    keeper = h.keeper;
+    seat_of = h.seat_of;
+    holder = h.holder;
+    given = h.given;
+    log = h.log;
+    book_ok = subst (λ p. BookOk z.frames z.cpus (set s.words (turn_at z.frames z.cpus f) 0) p h.given h.log) (sym plan_is) (book_turned z.frames z.cpus s.words f 0 inside h.plan h.given h.log hand h.book_ok);
+    slots_ok = λ g within free. dite (ℕ_discrete g f)
+        (λ (same : g ≡ f).
+        (hd, ap (get_elem? (set s.homes f (M.some (Some hd)))) same ∙ set_here s.homes f (M.some (Some hd)) slot, page ∙ ap (λ p. after h.given f (current p.watch f) h.log) (sym plan_is) ∙ ap (λ k. after h.given k (current plan.watch k) h.log) (sym same)))
+        (λ (other : g ≢ f).
+        let old = h.slots_ok g within (sym (turn_else z.frames z.cpus s.words f 0 inside g other) ∙ free) in
+        (old.0, set_else s.homes f g (M.some (Some hd)) other ∙ old.1, old.2 ∙ ap (λ p. after h.given g (current p.watch g) h.log) (sym plan_is)));
+    turns_ok = λ g within busy. dite (ℕ_discrete g f)
+        (λ (same : g ≡ f). absurd (busy (ap (λ k. get_or (set s.words (turn_at z.frames z.cpus f) 0) (turn_at z.frames z.cpus k) 0) same ∙ turn_here z.frames z.cpus s.words f 0 inside h.book_ok.room)))
+        (λ (other : g ≢ f). turns_else z.frames z.cpus s.words f 0 inside s.views h.holder h.holder id v v' g at other (λ p e. other (has_frame g f p hd.page (sym e ∙ has))) (λ _. refl) h.turns_ok within busy);
+    seats_ok = seats_stay (SeatOk z.frames z.cpus (set s.words (turn_at z.frames z.cpus f) 0) plan h.keeper h.seat_of h.holder h.given h.log) s.views id v' own (λ j u other e. others j u other (h.seats_ok j u e));
+  }
 
   -- no other seat has the turn that a seat has
   not_of_holder : (words : List ℕ) (plan : Watch) (holder : ℕ → ℕ) (given : Given) (log : List Made) (seat id f : ℕ) (hand : Hand) → holder f ≡ id → seat ≢ id → HandOk z.frames z.cpus words plan holder given log seat hand → (page : List ℕ) → hand ≡ Has f page → ⊥
@@ -269,18 +268,17 @@ module _ (z : Size) where
         Passing (record w { hand = Free }),
         gives,
         tt,
-        given_back_kept s h id f hd (Passing w) (Passing (record w { hand = Free })) h.plan at has hand.0 (let i = hand.0 in omega arith) hand.3 h.plan.hand refl
-            (
-              mine.0,
-              record {
-                all = mine.1.all;
-                pass_ok = pass_above z.frames z.cpus s.words h.plan.watch w.walk (turn_at z.frames z.cpus f) 0 (omega arith) h.book_ok.plan_ok mine.1.pass_ok;
-                made = mine.1.made;
-                hand_ok = tt;
-                holds = tt;
-                out = mine.1.out;
-              },
-            )
+        given_back_kept s h id f hd (Passing w) (Passing (record w { hand = Free })) h.plan at has hand.0 (let i = hand.0 in omega arith) hand.3 h.plan.hand refl (
+          mine.0,
+          record {
+            all = mine.1.all;
+            pass_ok = pass_above z.frames z.cpus s.words h.plan.watch w.walk (turn_at z.frames z.cpus f) 0 (omega arith) h.book_ok.plan_ok mine.1.pass_ok;
+            made = mine.1.made;
+            hand_ok = tt;
+            holds = tt;
+            out = mine.1.out;
+          },
+        )
             (others_given s.words h.plan h.plan.hand h.keeper h.seat_of h.holder h.given h.log id f hand.0 hand.1 h.book_ok (λ _ _ _. refl)),
         λ x rest e i. (Passing (record w { hand = Free }), tail_of (e i)),
       )
@@ -328,16 +326,16 @@ module _ (z : Size) where
       let mine = h.seats_ok id (Keeping k) at in
       let n : ℕ = get_or s.words (turn_at z.frames z.cpus f) 0 in
       let frame : (g : ℕ) → turn_at z.frames z.cpus f ≡ turn_at (length k.watch.doors) (length k.parts) g → f ≡ g = λ g e.
-          (let r : length k.watch.doors ≡ z.frames = ap (λ p. length p.watch.doors) mine.1 ∙ h.book_ok.plan_ok.doors_row in let c : length k.parts ≡ z.cpus = ap (λ p. length p.parts) mine.1 ∙ h.book_ok.parts in omega arith) in
+      (let r : length k.watch.doors ≡ z.frames = ap (λ p. length p.watch.doors) mine.1 ∙ h.book_ok.plan_ok.doors_row in let c : length k.parts ≡ z.cpus = ap (λ p. length p.parts) mine.1 ∙ h.book_ok.parts in omega arith) in
       exchanged n 0 1 (λ x. Owed z s id [] (turn_at z.frames z.cpus f) x (KeeperTakes (step slots (turn_at z.frames z.cpus f) 0 1 M.none) (Keeping k, [])))
-          (λ (hit : n ≡ 0).
-              let slot = h.slots_ok f inside hit in (
-                Keeping (record k { hand = Has f slot.0.page }),
-                takes f (Some slot.0),
-                slot.1,
-                taken_kept s h id f slot.0 (Keeping k) (Keeping (record k { hand = Has f slot.0.page })) (record h.plan { hand = Has f slot.0.page }) at free refl inside hit (Has f slot.0.page) refl
-                    (mine.0, ap (with_hand (Has f slot.0.page)) mine.1, (inside, put_here f id h.holder, (λ e. one_zero _ 0 (turn_here z.frames z.cpus s.words f 1 inside h.book_ok.room) refl e), slot.2))
-                    (others_taken s.words h.plan (Has f slot.0.page) h.keeper h.seat_of h.holder h.given h.log id f inside hit h.book_ok (λ j other is. absurd (other (sym is ∙ mine.0)))),
-                λ g e. (hit, (slot.0, λ i. (Keeping (record k { hand = Has (frame g e i) slot.0.page }), (frame g e i, Some slot.0) ∷ []))),
-              ))
-          (λ (miss : n ≢ 0). absurd (turn_is_free s h id f cleared k at free noted may inside miss))
+      (λ (hit : n ≡ 0).
+      let slot = h.slots_ok f inside hit in (
+        Keeping (record k { hand = Has f slot.0.page }),
+        takes f (Some slot.0),
+        slot.1,
+        taken_kept s h id f slot.0 (Keeping k) (Keeping (record k { hand = Has f slot.0.page })) (record h.plan { hand = Has f slot.0.page }) at free refl inside hit (Has f slot.0.page) refl
+            (mine.0, ap (with_hand (Has f slot.0.page)) mine.1, (inside, put_here f id h.holder, (λ e. one_zero _ 0 (turn_here z.frames z.cpus s.words f 1 inside h.book_ok.room) refl e), slot.2))
+            (others_taken s.words h.plan (Has f slot.0.page) h.keeper h.seat_of h.holder h.given h.log id f inside hit h.book_ok (λ j other is. absurd (other (sym is ∙ mine.0)))),
+        λ g e. (hit, (slot.0, λ i. (Keeping (record k { hand = Has (frame g e i) slot.0.page }), (frame g e i, Some slot.0) ∷ []))),
+      ))
+      (λ (miss : n ≢ 0). absurd (turn_is_free s h id f cleared k at free noted may inside miss))

@@ -104,19 +104,14 @@ AllIn cpus k = (cpu : ℕ) → cpu < cpus → (made : List Made) × (slice_index
 pub record EndIsLegal (frames : ℕ) (homes : List (M.Option (Option Held))) (k : Holder) : Type 0 where
   pub given : Given
   pub log : List Made
-
   -- the tickets are the numbers below the count of touches, each once, and each word is that of its binding's page
   pub legal : IsLegal given log
-
   -- each processor's touches are exactly its own, in order
   pub own : (cpu : ℕ) (made : List Made) → slice_index_or k.parts cpu Out ≡ In made → made ≡ mine cpu log
-
   -- each page that was handed out is its binding's page after that binding's touches
   pub left : HaveLeft given k.watch log k.ended
-
   -- and so is each page that is left
   pub pages : (f : ℕ) → f < frames → (h : Held) × (get_elem? homes f ≡ M.some (M.some (Some h))) × (h.page ≡ after given f (current k.watch f) log)
-
   -- binding 0 of each frame has the page of zeros
   pub zeros : (f : ℕ) → given f 0 ≡ replicate 1024 0
 

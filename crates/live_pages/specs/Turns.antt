@@ -118,9 +118,9 @@ Takes s old word new = (f : ℕ) → s.word ≡ turn_at (length (walker_of old.0
 -- the pass has made this touch of frame f by this ticket, and has this page after it
 abbrev pub having_made : ℕ → ℕ → Touch → ℕ → List ℕ → Walker → Walker
 having_made ticket f t word page w = record w {
-    made = record { ticket = ticket; cpu = w.walk.cpu; frame = f; binding = binding_at w.walk f; touch = t; word = word } ∷ w.made;
-    hand = Has f page;
-  }
+  made = record { ticket = ticket; cpu = w.walk.cpu; frame = f; binding = binding_at w.walk f; touch = t; word = word } ∷ w.made;
+  hand = Has f page;
+}
 
 -- the pass makes the touch that lies with the page in hand
 abbrev pub Draws : Told

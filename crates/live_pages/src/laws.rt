@@ -7,17 +7,14 @@ ghost use Rattle.live_pages.specs.Kept.{AllInIsLegal, EntryIsCurrent, MayBindHas
 /// left is its binding's page after that binding's touches. Source: own.
 pub fn all_in_is_legal()
     ensures { AllInIsLegal }
-{
-}
+{}
 
 /// Wherever the rule holds, the binding that a pass's entry names is the frame's. Source: own.
 pub fn entry_is_current()
     ensures { EntryIsCurrent }
-{
-}
+{}
 
 /// Wherever the rule holds, no pass holds an entry of a frame of which `Keeper::may_bind` is true. Source: own.
 pub fn may_bind_has_no_holder()
     ensures { MayBindHasNoHolder }
-{
-}
+{}

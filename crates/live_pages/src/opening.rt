@@ -63,10 +63,7 @@ fn first_keeper(alloc: Global, frames: u32, cpus: u32) -> Result<(LivePages, Kee
     let slots = first_slots(alloc, frames)?;
     let doors = vec![in alloc; 1; frames as usize]?;
     let since = vec![in alloc; 0; frames as usize]?;
-    let size = Size {
-        frames,
-        cpus,
-    };
+    let size = Size { frames, cpus };
     let Ok((table, seat)) = Board::new(alloc, words.as_slice(), slots, &size) else {
         return Err(AllocError);
     };
@@ -110,11 +107,7 @@ fn admit(
 }
 
 // The passes of all processors.
-fn admit_all(
-    alloc: Global,
-    pages: &LivePages,
-    keeper: &mut Keeper,
-) -> Result<Vec<Pass>, AllocError>
+fn admit_all(alloc: Global, pages: &LivePages, keeper: &mut Keeper) -> Result<Vec<Pass>, AllocError>
     requires keeper { IsKeeperOf pages.now keeper.old }
     requires first { keeper.old.holder.watch.made ≡ 0 }
     ensures passes { IfOk result (λ passes. passes.items ≡ first_passes pages.now pages.now.cpus) }

@@ -11,7 +11,8 @@ use crate::keeper::Keeper;
 use crate::opening::begin;
 use crate::pass::Pass;
 use crate::rule::{
-    Acknowledge, Bind, Board, CloseDoor, Draw, Fill, Forget, Give, Held, KeeperGive, KeeperTake, Look, Place, Raise, Take,
+    Acknowledge, Bind, Board, CloseDoor, Draw, Fill, Forget, Give, Held, KeeperGive, KeeperTake,
+    Look, Place, Raise, Take,
 };
 use crate::touch::{Touch, Touched};
 use mword::Page;
@@ -213,10 +214,7 @@ impl LivePages {
         let tickets = self.turn_word(f) + (self.frames - f) as usize;
         let ticket = words.fetch_add::<Draw>(seat, tickets, 1);
         words.store::<Give>(seat, self.turn_word(f), 0);
-        Touched {
-            ticket,
-            word,
-        }
+        Touched { ticket, word }
     }
 
     /// Touches a word of frame `f`'s page, by a ticket above all that were drawn before, and answers it.
@@ -266,11 +264,7 @@ impl LivePages {
             touch,
             word,
         } = held;
-        let new = Held {
-            page,
-            touch,
-            word,
-        };
+        let new = Held { page, touch, word };
         words.exchange(&mut keeper.seat, f as usize, Some(new));
         words.store::<Bind>(&mut keeper.seat, 1 + f as usize, door);
         words.store::<KeeperGive>(&mut keeper.seat, self.turn_word(f), 0);

@@ -19,11 +19,29 @@ fn binds_touches_and_binds_anew(rt: HostRuntime) -> Result<(), NoMemory> {
     assert_eq!(&rt; pages.fill(&mut zero, 0), Ok(1));
     assert_eq!(&rt; pages.fill(&mut one, 0), Ok(1));
     assert!(&rt; zero.holds(0) && one.holds(0));
-    assert_eq!(&rt; pages.touch(&mut zero, 0, Touch::Add(3, five)), Ok(Touched { ticket: 0, word: five }));
-    assert_eq!(&rt; pages.touch(&mut one, 0, Touch::Get(3)), Ok(Touched { ticket: 1, word: five }));
+    assert_eq!(&rt;
+        pages.touch(&mut zero, 0, Touch::Add(3, five)),
+        Ok(Touched {
+            ticket: 0,
+            word: five
+        })
+    );
+    assert_eq!(&rt;
+        pages.touch(&mut one, 0, Touch::Get(3)),
+        Ok(Touched {
+            ticket: 1,
+            word: five
+        })
+    );
     pages.close_door(&mut keeper, 0);
     assert!(&rt; zero.holds(0));
-    assert_eq!(&rt; pages.touch(&mut zero, 0, Touch::Put(3, seven)), Ok(Touched { ticket: 2, word: seven }));
+    assert_eq!(&rt;
+        pages.touch(&mut zero, 0, Touch::Put(3, seven)),
+        Ok(Touched {
+            ticket: 2,
+            word: seven
+        })
+    );
     assert_eq!(&rt; pages.raise(&mut keeper), 1);
     assert!(&rt; !keeper.may_bind(0));
     pages.forget(&mut zero);

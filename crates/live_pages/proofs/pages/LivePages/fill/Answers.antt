@@ -17,7 +17,7 @@ invariant_of-pass c = pass_fits c.load-word.new.seat.me _ _ _ _ (((c.load-word.e
 pub returns-then-word-eq1-clause-pass : goal.returns-then-word-eq1-clause-pass
 returns-then-word-eq1-clause-pass c =
     pass_stays_of c.args.self.now c.args.pass.now _ c.load-word.new.seat.table_id c.pass.inside.seat.me c.load-word.new.seat.me _ c.pass.view_is c.requires.pass c.load-word.ensures.0
-        (((c.load-word.ensures.2 c.args.f refl).1 ∙ ap (λ cs. (Passing (walking (filled c.args.f c.load-word.result) (walker_of c.pass.inside.seat.me.0)), cs)) (ap (λ m. m.1) c.pass.invariant.0)) ∙ ap (λ q. (Passing (record (walker_of c.pass.inside.seat.me.0) { walk = q }), [])) (filled_odd c.args.f c.load-word.result (walker_of c.pass.inside.seat.me.0).walk (search rules))) refl refl refl
+    (((c.load-word.ensures.2 c.args.f refl).1 ∙ ap (λ cs. (Passing (walking (filled c.args.f c.load-word.result) (walker_of c.pass.inside.seat.me.0)), cs)) (ap (λ m. m.1) c.pass.invariant.0)) ∙ ap (λ q. (Passing (record (walker_of c.pass.inside.seat.me.0) { walk = q }), [])) (filled_odd c.args.f c.load-word.result (walker_of c.pass.inside.seat.me.0).walk (search rules))) refl refl refl
 
 pub returns-then-word-eq1-clause-closed : goal.returns-then-word-eq1-clause-closed
 returns-then-word-eq1-clause-closed c = (search rules, ap (λ x. walker_of x.0) (((c.load-word.ensures.2 c.args.f refl).1 ∙ ap (λ cs. (Passing (walking (filled c.args.f c.load-word.result) (walker_of c.pass.inside.seat.me.0)), cs)) (ap (λ m. m.1) c.pass.invariant.0)) ∙ ap (λ q. (Passing (record (walker_of c.pass.inside.seat.me.0) { walk = q }), [])) (filled_odd c.args.f c.load-word.result (walker_of c.pass.inside.seat.me.0).walk (search rules))) ∙ ap (λ v. walking (having_read c.load-word.result) v.walker) c.pass.view_is)
@@ -28,7 +28,7 @@ invariant_of-pass-2 c = pass_fits c.load-word.new.seat.me _ _ _ _ (((c.load-word
 pub returns-clause-pass : goal.returns-clause-pass
 returns-clause-pass c =
     pass_stays_of c.args.self.now c.args.pass.now _ c.load-word.new.seat.table_id c.pass.inside.seat.me c.load-word.new.seat.me _ c.pass.view_is c.requires.pass c.load-word.ensures.0
-        (((c.load-word.ensures.2 c.args.f refl).1 ∙ ap (λ cs. (Passing (walking (filled c.args.f c.load-word.result) (walker_of c.pass.inside.seat.me.0)), cs)) (ap (λ m. m.1) c.pass.invariant.0)) ∙ ap (λ q. (Passing (record (walker_of c.pass.inside.seat.me.0) { walk = q }), [])) (filled_even c.args.f c.load-word.result (walker_of c.pass.inside.seat.me.0).walk (search rules))) (length-set _ _ _) refl refl
+    (((c.load-word.ensures.2 c.args.f refl).1 ∙ ap (λ cs. (Passing (walking (filled c.args.f c.load-word.result) (walker_of c.pass.inside.seat.me.0)), cs)) (ap (λ m. m.1) c.pass.invariant.0)) ∙ ap (λ q. (Passing (record (walker_of c.pass.inside.seat.me.0) { walk = q }), [])) (filled_even c.args.f c.load-word.result (walker_of c.pass.inside.seat.me.0).walk (search rules))) (length-set _ _ _) refl refl
 
 pub returns-clause-admitted : goal.returns-clause-admitted
 returns-clause-admitted c = ap (λ x. walker_of x.0) (((c.load-word.ensures.2 c.args.f refl).1 ∙ ap (λ cs. (Passing (walking (filled c.args.f c.load-word.result) (walker_of c.pass.inside.seat.me.0)), cs)) (ap (λ m. m.1) c.pass.invariant.0)) ∙ ap (λ q. (Passing (record (walker_of c.pass.inside.seat.me.0) { walk = q }), [])) (filled_even c.args.f c.load-word.result (walker_of c.pass.inside.seat.me.0).walk (search rules))) ∙ ap (λ v. walking (λ p. holding c.args.f (c.load-word.result / 2) (having_read (2 * (c.load-word.result / 2)) p)) v.walker) c.pass.view_is

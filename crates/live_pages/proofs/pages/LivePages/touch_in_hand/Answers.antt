@@ -15,8 +15,7 @@ fetch_add-ticket-requires c =
     let w = walker_of c.args.seat.now.me.0 in
     let new = c.touch-word.new.self in
     let same = same_held c.in-Some.held h (sym c.in-Some.is ∙ found_in_slot c.args.seat.now.me (Passing w) c.args.f (Some h) c.exchange.result c.requires.hand.1 c.exchange.ensures.2) in
-    let there = exchanged_twice c.args.seat.now.me c.exchange.new.seat.me c.exchange-2.new.seat.me (Passing w) c.args.f (Some h) (Some new) c.requires.hand.1 c.exchange.ensures.3 c.exchange-2.ensures.3 in
-    (
+    let there = exchanged_twice c.args.seat.now.me c.exchange.new.seat.me c.exchange-2.new.seat.me (Passing w) c.args.f (Some h) (Some new) c.requires.hand.1 c.exchange.ensures.3 c.exchange-2.ensures.3 in (
       search rules,
       search rules,
       draws_in_hand c.self.inside.table.shared.key _ _ c.exchange-2.new.seat.me (search rules) _ c.args.f w new h.page there (search rules) c.requires.hand.2
