@@ -259,8 +259,8 @@ bound_now m m' k f hd is told = told ∙ ap (λ x. (Keeping (bound_anew f hd.pag
 
 -- and after the turn was given back
 pub rebound_now : (m m' : Seat) (k : Holder) (f : ℕ) (page left : List ℕ) (hd : Held) → m ≡ (Keeping (bound_anew f page (record k { hand = Has f left })), (f, Some hd) ∷ []) → m' ≡ (Keeping (record (holder_of m.0) { hand = Free }), []) → k.hand ≡ Free
-    → m' ≡ (Keeping (rebound f left k), [])
-rebound_now m m' k f page left hd is told free = told ∙ ap (λ x. (Keeping (with_hand Free (holder_of x.0)), [])) is ∙ (λ i. (Keeping (with_hand (sym free i) (rebound f left k)), []))
+    → m' ≡ (Keeping (rebound f page left k), [])
+rebound_now m m' k f page left hd is told free = told ∙ ap (λ x. (Keeping (with_hand Free (holder_of x.0)), [])) is ∙ (λ i. (Keeping (with_hand (sym free i) (rebound f page left k)), []))
 
 module _ (z : Size) where
   pub admits_at : (id : ℕ) (m : Seat) → m ≡ (Keeping (holder_of m.0), []) → (holder_of m.0).watch.made < z.cpus → length (holder_of m.0).watch.doors ≡ z.frames → length (holder_of m.0).parts ≡ z.cpus → Splits (InOrder z) id m.0 (keeper_with_pass m.0) (pass_of_keeper m.0)

@@ -32,7 +32,7 @@ use Rattle.live_pages.specs.declared.views.View.TheVariants.{Passing, Keeping, S
 use Rattle.live_pages.specs.Touches.{touched, answer, Given, after, IsLegal, mine}
 use Rattle.live_pages.specs.Turns.{turn_at, ticket_at, current, hand_of, walking, watching, walker_of, holder_of, binding_in, binding_at, taken, having_made, page_of, admitted, bound_anew, Takes, Draws, Gives, KeeperTakes, Binds, KeeperGives}
 use Rattle.live_pages.specs.Kept.{AreOfBindings, HaveLeft, BookOk, SlotsOk, TurnsOk, HandOk, HoldsHand, WalkerOk, SeatOk, Kept}
-use Rattle.live_pages.proofs.Replay.{after_here, after_frame, after_else, after_next, regiven, regiven_binding, legal_next, left_next, bindings_stay, left_stays, left_touched, mine_here, mine_else, tickets_fit}
+use Rattle.live_pages.proofs.Replay.{regiven_here, after_here, after_frame, after_else, after_next, regiven, regiven_binding, legal_next, left_next, bindings_stay, left_stays, left_touched, mine_here, mine_else, tickets_fit}
 use Rattle.live_pages.proofs.Quiet.{set_at, InOrder, pass_stepped}
 use Rattle.live_pages.proofs.Turning.{with_hand, has_frame, has_page, free_has, plan_above, pass_above, holder_stands}
 
@@ -187,7 +187,7 @@ module _ (z : Size) where
         ok.1,
         hand_else z.frames z.cpus words plan holder given log e j u.hand m (λ page is. other (sym (subst (HandOk z.frames z.cpus words plan.watch holder given log j) is ok.2).1 ∙ ap holder frame ∙ holds)) ok.2,
       )
-      others words plan keeper seat_of holder given log e m here holds frame cpu k j Spent other ok = tt
+      others words plan keeper seat_of holder given log e m here holds frame cpu k j (Spent u) other ok = tt
 
 module _ (frames cpus : ℕ) (words : List ℕ) (w : Watch) (f : ℕ) (inside : f < frames) (k : PlanOk frames cpus words w) where
   next : ℕ
@@ -279,6 +279,7 @@ module _ (z : Size) where
               left_stays given' k.watch (admitted f k.watch) h.log k.ended (current_up z.frames z.cpus s.words k.watch f inside book.plan_ok) (left_next k.watch f hd.page h.given h.log k.ended book.left),
               subst (λ j. current k.watch f < j) (sym (current_next z.frames z.cpus s.words k.watch f inside book.plan_ok)) (omega arith),
               ap page_of has ∙ hand.3 ∙ sym (after_else f (current k.watch f + 1) hd.page h.given f (current k.watch f) h.log (inr (λ e. omega arith))),
+              sym (regiven_here f (current k.watch f + 1) hd.page h.given),
             );
             zeros = λ g. regiven_binding f (current k.watch f + 1) hd.page h.given g 0 (λ e. omega arith) ∙ book.zeros g;
             unmade = book.unmade;
@@ -354,4 +355,4 @@ module _ (z : Size) where
         },
       )
       others words keeper seat_of holder given log inside here holds p stays j (Keeping u) other ok = absurd (other (sym ok.0 ∙ here))
-      others words keeper seat_of holder given log inside here holds p stays j Spent other ok = tt
+      others words keeper seat_of holder given log inside here holds p stays j (Spent u) other ok = tt

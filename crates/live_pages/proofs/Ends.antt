@@ -9,7 +9,7 @@ use Rattle.std.proofs.lemmas.List.{length-replicate, length-append, get_or-repli
 use Rattle.std.proofs.lemmas.Bool.{eqb-true, eq-eqb, ne_eqb}
 use Rattle.std.proofs.lemmas.Option.{none-some}
 use Rattle.atomic_table.specs.Table.{State, Me, Act, Valid, step, keeps, takes, gives, homes_after, carried_after, Allows, Splits, Joins, Final, Seen, opening}
-use Rattle.atomic_table.proofs.Lists.{at_set, set_here, set_else, exchanged, at_map}
+use Rattle.atomic_table.proofs.Lists.{set_again, at_set, set_here, set_else, exchanged, at_map}
 use Rattle.live_doors.specs.declared.views.Walk.{Walk}
 use Rattle.live_doors.specs.declared.views.Watch.{Watch}
 use Rattle.live_doors.specs.Doors.{blank, first_watch, having_read, HasNoted, IsShut, MayBind}
@@ -31,7 +31,7 @@ use Rattle.live_pages.specs.declared.views.View.{View}
 use Rattle.live_pages.specs.declared.views.View.TheVariants.{Passing, Keeping, Spent}
 use Rattle.live_pages.specs.Touches.{touched, answer, Given, after, IsLegal, mine}
 use Rattle.live_pages.specs.Turns.{first_walker, first_holder, opening_words, keeper_with_pass, pass_of_keeper, taken_in, turn_at, ticket_at, current, hand_of, walking, watching, walker_of, holder_of, binding_in, binding_at, taken, having_made, page_of, admitted, bound_anew, Takes, Draws, Gives, KeeperTakes, Binds, KeeperGives}
-use Rattle.live_pages.specs.Kept.{AreOfBindings, HaveLeft, BookOk, SlotsOk, TurnsOk, HandOk, HoldsHand, WalkerOk, SeatOk, Kept, AllIn, EndIsLegal, AllInIsLegal, EntryIsCurrent, MayBindHasNoHolder}
+use Rattle.live_pages.specs.Kept.{IsHistoryOf, AreOfBindings, HaveLeft, BookOk, SlotsOk, TurnsOk, HandOk, HoldsHand, WalkerOk, SeatOk, Kept, AllIn, EndIsLegal, AllInIsLegal, EntryIsCurrent, MayBindHasNoHolder}
 use Rattle.live_pages.proofs.Replay.{after_here, after_frame, after_else, after_next, regiven, regiven_binding, legal_next, left_next, bindings_stay, left_stays, left_touched, mine_here, mine_else, tickets_fit}
 use Rattle.live_pages.proofs.Changing.{entry_is_current}
 use Rattle.live_pages.proofs.Quiet.{set_at, InOrder, pass_stepped}
@@ -118,10 +118,10 @@ module _ (z : Size) where
           same_hand words holder given log j Free ok = tt
           same_hand words holder given log j (Has g page) ok = ok
       stays words keeper seat_of holder given log new here j (Keeping u) other ok = absurd (other (sym ok.0 ∙ here))
-      stays words keeper seat_of holder given log new here j Spent other ok = tt
+      stays words keeper seat_of holder given log new here j (Spent u) other ok = tt
 
   -- the keeper takes a pass in, with its touches
-  pub takes_in : (id other : ℕ) (k : Holder) (q : Walker) → q.hand ≡ Free → Joins (InOrder z) id (Keeping k) other (Passing q) (taken_in (Keeping k) (Passing q)) Spent
+  pub takes_in : (id other : ℕ) (k : Holder) (q : Walker) → q.hand ≡ Free → Joins (InOrder z) id (Keeping k) other (Passing q) (taken_in (Keeping k) (Passing q)) (Spent (first_holder 0 0))
   takes_in id other k q free s h at apart there =
       let own = h.seats_ok id (Keeping k) at in
       let book : BookOk z.frames z.cpus s.words k h.given h.log = subst (λ p. BookOk z.frames z.cpus s.words p h.given h.log) (sym own.1) h.book_ok in
@@ -161,8 +161,8 @@ module _ (z : Size) where
             dite (ℕ_discrete (h.holder f) id)
             (λ (here : h.holder f ≡ id).
             let is : old.0 ≡ Keeping k = M.some-injective _ _ (sym old.2 ∙ ap (get_elem? s.views) here ∙ at) in
-            (Keeping k', old.1, set_else (set s.views id (Keeping k')) other (h.holder f) Spent away ∙ ap (get_elem? (set s.views id (Keeping k'))) here ∙ set_at s.views id (Keeping k) (Keeping k') at, sym (ap hand_of is) ∙ old.3))
-            (λ (else : h.holder f ≢ id). (old.0, old.1, set_else (set s.views id (Keeping k')) other (h.holder f) Spent away ∙ set_else s.views id (h.holder f) (Keeping k') else ∙ old.2, old.3));
+            (Keeping k', old.1, set_else (set s.views id (Keeping k')) other (h.holder f) (Spent (first_holder 0 0)) away ∙ ap (get_elem? (set s.views id (Keeping k'))) here ∙ set_at s.views id (Keeping k) (Keeping k') at, sym (ap hand_of is) ∙ old.3))
+            (λ (else : h.holder f ≢ id). (old.0, old.1, set_else (set s.views id (Keeping k')) other (h.holder f) (Spent (first_holder 0 0)) away ∙ set_else s.views id (h.holder f) (Keeping k') else ∙ old.2, old.3));
         seats_ok = seats_spent s.words s.views id other k' h.keeper h.seat_of h.holder h.given h.log
             (own.0, refl, subst (λ p. HandOk z.frames z.cpus s.words p.watch h.holder h.given h.log id k.hand) (sym own.1) own.2)
             (λ j v not_id not_other e. stays s.words h.keeper h.seat_of h.holder h.given h.log own.0 his.0 j v not_id not_other (subst (λ p. SeatOk z.frames z.cpus s.words p h.keeper h.seat_of h.holder h.given h.log j v) (sym own.1) (h.seats_ok j v e)));
@@ -173,10 +173,10 @@ module _ (z : Size) where
       list_of (In l) = l
 
       seats_spent : (words : List ℕ) (views : List View) (id other : ℕ) (k' : Holder) (keeper : ℕ) (seat_of holder : ℕ → ℕ) (given : Given) (log : List Made) → SeatOk z.frames z.cpus words k' keeper seat_of holder given log id (Keeping k')
-          → ((j : ℕ) (v : View) → j ≢ id → j ≢ other → get_elem? views j ≡ M.some v → SeatOk z.frames z.cpus words k' keeper seat_of holder given log j v) → (j : ℕ) (v : View) → get_elem? (set (set views id (Keeping k')) other Spent) j ≡ M.some v
+          → ((j : ℕ) (v : View) → j ≢ id → j ≢ other → get_elem? views j ≡ M.some v → SeatOk z.frames z.cpus words k' keeper seat_of holder given log j v) → (j : ℕ) (v : View) → get_elem? (set (set views id (Keeping k')) other (Spent (first_holder 0 0))) j ≡ M.some v
           → SeatOk z.frames z.cpus words k' keeper seat_of holder given log j v
       seats_spent words views id other k' keeper seat_of holder given log own others =
-          seats_stay (SeatOk z.frames z.cpus words k' keeper seat_of holder given log) (set views id (Keeping k')) other Spent tt
+          seats_stay (SeatOk z.frames z.cpus words k' keeper seat_of holder given log) (set views id (Keeping k')) other (Spent (first_holder 0 0)) tt
           (λ j v not_other e. ⊎_elim
           (λ (t : (j ≡ id) × (Keeping k' ≡ v)). subst (λ (x : ℕ × View). SeatOk z.frames z.cpus words k' keeper seat_of holder given log x.0 x.1) (λ i. (sym t.0 i, t.1 i)) own)
           (λ (t : (j ≢ id) × (get_elem? views j ≡ M.some v)). others j v t.0 not_other t.1)
@@ -196,7 +196,26 @@ module _ (z : Size) where
         },
       )
       stays words keeper seat_of holder given log here theirs j (Keeping u) not_id not_other ok = absurd (not_id (sym ok.0 ∙ here))
-      stays words keeper seat_of holder given log here theirs j Spent not_id not_other ok = tt
+      stays words keeper seat_of holder given log here theirs j (Spent u) not_id not_other ok = tt
+
+  -- the keeper leaves a seat that shows what it knows
+  pub shows : (id : ℕ) (k : Holder) → Splits (InOrder z) id (Keeping k) (Keeping k) (Spent k)
+  shows id k s h at =
+      subst (λ vs. Kept z s.words s.homes (vs ++ Spent k ∷ [])) (sym (set_again s.views id (Keeping k) at)) record {
+        plan = h.plan;
+        keeper = h.keeper;
+        seat_of = h.seat_of;
+        holder = h.holder;
+        given = h.given;
+        log = h.log;
+        book_ok = h.book_ok;
+        slots_ok = h.slots_ok;
+        turns_ok = λ f inside busy. let old = h.turns_ok f inside busy in (old.0, old.1, at_longer s.views (Spent k ∷ []) (h.holder f) old.0 old.2, old.3);
+        seats_ok = λ j v e. ⊎_elim
+            (λ (old : get_elem? s.views j ≡ M.some v). h.seats_ok j v old)
+            (λ (new : (j ≡ length s.views) × (Spent k ≡ v)). subst (SeatOk z.frames z.cpus s.words h.plan h.keeper h.seat_of h.holder h.given h.log j) new.1 tt)
+            (snoc_place s.views (Spent k) v j e);
+      }
 
   first_length : length (first_words z.frames z.cpus 1) ≡ 1 + z.frames + z.cpus
   first_length =
@@ -306,23 +325,20 @@ no_turn_left z words homes views seat k h at free all f inside busy =
         let there = all q.walk.cpu cpu in
         out_in there.0 ok.1.out (subst (λ p. get_or p.parts q.walk.cpu Out ≡ In there.0) is there.1)
     of_view (Keeping u) page has is ok = free_has f page (sym free ∙ ap (λ p. p.hand) (is ∙ sym ok.1) ∙ has)
-    of_view Spent page has is ok = free_has f page has
+    of_view (Spent u) page has is ok = free_has f page has
 
 pub all_in_is_legal : AllInIsLegal
 all_in_is_legal z words homes views seat k h at free all =
     let own = h.seats_ok seat (Keeping k) at in
     let book : BookOk z.frames z.cpus words k h.given h.log = subst (λ p. BookOk z.frames z.cpus words p h.given h.log) (sym own.1) h.book_ok in
-    record {
-      given = h.given;
-      log = h.log;
-      legal = book.legal;
-      own = λ cpu made part. book.taken_in cpu made part;
-      left = book.left;
-      pages = λ f inside. dite (ℕ_discrete (get_or words (turn_at z.frames z.cpus f) 0) 0)
+    (
+      h.given,
+      h.log,
+      record { legal = book.legal; bindings = book.bindings; own = λ cpu made part. book.taken_in cpu made part; left = book.left; zeros = book.zeros },
+      λ f inside. dite (ℕ_discrete (get_or words (turn_at z.frames z.cpus f) 0) 0)
           (λ (zero_word : get_or words (turn_at z.frames z.cpus f) 0 ≡ 0). let slot = h.slots_ok f inside zero_word in (slot.0, slot.1, slot.2 ∙ ap (λ p. after h.given f (current p.watch f) h.log) (sym own.1)))
-          (λ (busy : get_or words (turn_at z.frames z.cpus f) 0 ≢ 0). absurd (no_turn_left z words homes views seat k h at free all f inside busy));
-      zeros = book.zeros;
-    }
+          (λ (busy : get_or words (turn_at z.frames z.cpus f) 0 ≢ 0). absurd (no_turn_left z words homes views seat k h at free all f inside busy)),
+    )
 
 pub entry_names_current : EntryIsCurrent
 entry_names_current z words homes views seat w f b h at inside holds =

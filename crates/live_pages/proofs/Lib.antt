@@ -3,4 +3,5 @@ pub mod Quiet
 pub mod Turning
 pub mod Changing
 pub mod Ends
+pub mod AllIn
 pub mod Calls

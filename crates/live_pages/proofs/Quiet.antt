@@ -136,7 +136,7 @@ module _ (z : Size) where
       stays plan keeper seat_of holder given log here others j (Passing q) other k =
           (k.0, walker_quiet z.frames z.cpus words words' given log quiet plan plan.watch holder j q (λ f. refl) (others q.walk (λ e. other (sym k.0 ∙ ap seat_of e ∙ here)) k.1.pass_ok) k.1)
       stays plan keeper seat_of holder given log here others j (Keeping u) other k = (k.0, k.1, hand_quiet z.frames z.cpus words words' given log quiet holder plan.watch plan.watch j u.hand (λ f. refl) k.2)
-      stays plan keeper seat_of holder given log here others j Spent other k = tt
+      stays plan keeper seat_of holder given log here others j (Spent u) other k = tt
 
   -- the keeper has read or stored a word, and no frame's current binding is another
   pub keeper_stepped : (words words' : List ℕ) (homes : List (M.Option (Option Held))) (views : List View) (id : ℕ) (k : Holder) (change : Watch → Watch) → (h : Kept z words homes views) → get_elem? views id ≡ M.some (Keeping k)
@@ -166,7 +166,7 @@ module _ (z : Size) where
           → SeatOk z.frames z.cpus words k keeper seat_of holder given log j v → SeatOk z.frames z.cpus words' (watching change k) keeper seat_of holder given log j v
       stays keeper seat_of holder given log here pass j (Passing q) other s = (s.0, walker_quiet z.frames z.cpus words words' given log quiet k (change k.watch) holder j q same (pass q.walk s.1.pass_ok) s.1)
       stays keeper seat_of holder given log here pass j (Keeping u) other s = absurd (other (sym s.0 ∙ here))
-      stays keeper seat_of holder given log here pass j Spent other s = tt
+      stays keeper seat_of holder given log here pass j (Spent u) other s = tt
 
   pub fills : (slots id f : ℕ) (w : Walker) → w.hand ≡ Free → f < z.frames → Allows (InOrder z) slots id (Passing w, []) (door_at f) (λ n. n) (Fills (step slots (door_at f) 0 0 M.none) (Passing w, []))
   fills slots id f w free inside s h homes at fits =

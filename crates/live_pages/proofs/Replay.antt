@@ -76,6 +76,9 @@ legal_next cpus plan f page given (e ∷ es) ok legal = (
 lt_le : {x y : ℕ} → x < y → x ≤ y
 lt_le l = omega arith
 
+lt_next : {x y : ℕ} → x < y → x + 1 ≤ y
+lt_next l = omega arith
+
 le_both : {x y n : ℕ} → x ≤ y → n ≤ x → n ≤ y
 le_both a b = omega arith
 
@@ -88,6 +91,7 @@ left_next plan f page given log (b ∷ bs) ok = (
   left_next plan f page given log bs ok.0,
   ok.1,
   ok.2 ∙ sym (after_else f (current plan f + 1) page given b.frame b.binding log (not_next plan f b.frame b.binding (lt_le ok.1))),
+  ok.3 ∙ sym (after_else f (current plan f + 1) page given b.frame (b.binding + 1) [] (not_next plan f b.frame (b.binding + 1) (lt_next ok.1))),
 )
 
 -- where no frame's current binding is lower, touches and ended bindings stay in order
@@ -97,7 +101,7 @@ bindings_stay cpus plan plan' (e ∷ es) up ok = (bindings_stay cpus plan plan' 
 
 pub left_stays : (given : Given) (plan plan' : Watch) (log : List Made) (bs : List Bound) → ((f : ℕ) → current plan f ≤ current plan' f) → HaveLeft given plan log bs → HaveLeft given plan' log bs
 left_stays given plan plan' log [] up ok = tt
-left_stays given plan plan' log (b ∷ bs) up ok = (left_stays given plan plan' log bs up ok.0, lt_both (up b.frame) ok.1, ok.2)
+left_stays given plan plan' log (b ∷ bs) up ok = (left_stays given plan plan' log bs up ok.0, lt_both (up b.frame) ok.1, ok.2, ok.3)
 
 not_below : (x y : ℕ) → y < x → y ≡ x → ⊥
 not_below x y l e = omega arith
@@ -112,6 +116,7 @@ left_touched given plan log (b ∷ bs) e is ok = (
       ∙ dite (ℕ_discrete e.frame b.frame)
       (λ (same : e.frame ≡ b.frame). sym (after_binding given b.frame b.binding e log (λ hit. not_below (current plan b.frame) b.binding ok.1 (sym hit ∙ is ∙ ap (current plan) same))))
       (λ (other : e.frame ≢ b.frame). sym (after_frame given b.frame b.binding e log other)),
+  ok.3,
 )
 
 -- the touches of one processor, with one more

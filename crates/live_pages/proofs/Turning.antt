@@ -183,7 +183,7 @@ module _ (z : Size) where
       (k.0, walker_turned z.frames z.cpus words f 1 inside plan hand holder (put f id holder) given log j q (λ g o. put_else f g id holder o) (not_of_free words plan.watch holder given log j f q.hand k.1.hand_ok zero_word) book.plan_ok k.1)
   others_taken words plan hand keeper seat_of holder given log id f inside zero_word book keeps_plan j (Keeping u) other k =
       (k.0, k.1 ∙ sym (keeps_plan j other k.0), hand_turned z.frames z.cpus words f 1 inside plan.watch holder (put f id holder) given log j u.hand (λ g o. put_else f g id holder o) (not_of_free words plan.watch holder given log j f u.hand k.2 zero_word) k.2)
-  others_taken words plan hand keeper seat_of holder given log id f inside zero_word book keeps_plan j Spent other k = tt
+  others_taken words plan hand keeper seat_of holder given log id f inside zero_word book keeps_plan j (Spent u) other k = tt
 
   pub takes_turn : (slots id f b : ℕ) (w : Walker) → w.hand ≡ Free → f < z.frames → get_or w.walk.held f None ≡ Some b
       → Allows (InOrder z) slots id (Passing w, []) (turn_at z.frames z.cpus f) (λ n. either (eqb n 0) 1 n) (Takes (step slots (turn_at z.frames z.cpus f) 0 1 M.none) (Passing w, []))
@@ -258,7 +258,7 @@ module _ (z : Size) where
       (k.0, walker_turned z.frames z.cpus words f 0 inside plan hand holder holder given log j q (λ _ _. refl) (not_of_holder words plan.watch holder given log j id f q.hand here other k.1.hand_ok) book.plan_ok k.1)
   others_given words plan hand keeper seat_of holder given log id f inside here book keeps_plan j (Keeping u) other k =
       (k.0, k.1 ∙ sym (keeps_plan j other k.0), hand_turned z.frames z.cpus words f 0 inside plan.watch holder holder given log j u.hand (λ _ _. refl) (not_of_holder words plan.watch holder given log j id f u.hand here other k.2) k.2)
-  others_given words plan hand keeper seat_of holder given log id f inside here book keeps_plan j Spent other k = tt
+  others_given words plan hand keeper seat_of holder given log id f inside here book keeps_plan j (Spent u) other k = tt
 
   pub gives_turn : (id f : ℕ) (w : Walker) (hd : Held) → w.hand ≡ Has f hd.page
       → Allows (InOrder z) z.frames id (Passing w, (f, Some hd) ∷ []) (turn_at z.frames z.cpus f) (λ _. 0) (λ _. Gives (step z.frames (turn_at z.frames z.cpus f) 0 0 M.none) (Passing w, (f, Some hd) ∷ []) 0)
@@ -318,7 +318,7 @@ module _ (z : Size) where
           let e = subst (λ x. HoldsHand x q.walk) has ok.1.holds in
           holder_stands s.words h.plan.watch q.walk cleared f e.0 h.book_ok.plan_ok ok.1.pass_ok (subst (λ p. HasNoted p.watch cleared) is noted) (subst (λ p. MayBind p.watch cleared f) is may) e.1
       of_view (Keeping u) {page} there has here is ok = free_has f page (sym free ∙ ap (λ p. p.hand) (is ∙ sym ok.1) ∙ has)
-      of_view Spent {page} there has here is ok = free_has f page has
+      of_view (Spent u) {page} there has here is ok = free_has f page has
 
   pub keeper_takes : (slots id f cleared : ℕ) (k : Holder) → k.hand ≡ Free → HasNoted k.watch cleared → MayBind k.watch cleared f → f < z.frames
       → Allows (InOrder z) slots id (Keeping k, []) (turn_at z.frames z.cpus f) (λ n. either (eqb n 0) 1 n) (KeeperTakes (step slots (turn_at z.frames z.cpus f) 0 1 M.none) (Keeping k, []))

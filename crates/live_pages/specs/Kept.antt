@@ -28,10 +28,10 @@ abbrev pub AreOfBindings : ℕ → Watch → List Made → Type 0
 AreOfBindings cpus plan [] = Unit {0}
 AreOfBindings cpus plan (e ∷ es) = AreOfBindings cpus plan es × (e.cpu < cpus) × (e.binding ≤ current plan e.frame)
 
--- each binding that has ended left the page that its touches made
+-- Each binding that has ended left the page that its touches made, and the next one was given the page that is named.
 abbrev pub HaveLeft : Given → Watch → List Made → List Bound → Type 0
 HaveLeft given plan log [] = Unit {0}
-HaveLeft given plan log (b ∷ bs) = HaveLeft given plan log bs × (b.binding < current plan b.frame) × (b.left ≡ after given b.frame b.binding log)
+HaveLeft given plan log (b ∷ bs) = HaveLeft given plan log bs × (b.binding < current plan b.frame) × (b.left ≡ after given b.frame b.binding log) × (b.next ≡ given b.frame (b.binding + 1))
 
 -- What the words say besides doors, stamps and acknowledgements: the tickets count the touches, which are those of one thread.
 -- No processor makes more than 2^32, so the tickets never wrap.
@@ -80,7 +80,7 @@ pub record WalkerOk (frames cpus : ℕ) (words : List ℕ) (plan : Holder) (hold
 abbrev pub SeatOk : ℕ → ℕ → List ℕ → Holder → ℕ → (ℕ → ℕ) → (ℕ → ℕ) → Given → List Made → ℕ → View → Type 0
 SeatOk frames cpus words plan keeper seat_of holder given log seat (Passing w) = (seat_of w.walk.cpu ≡ seat) × WalkerOk frames cpus words plan holder given log seat w
 SeatOk frames cpus words plan keeper seat_of holder given log seat (Keeping k) = (keeper ≡ seat) × (k ≡ plan) × HandOk frames cpus words plan.watch holder given log seat k.hand
-SeatOk frames cpus words plan keeper seat_of holder given log seat Spent = Unit {0}
+SeatOk frames cpus words plan keeper seat_of holder given log seat (Spent k) = Unit {0}
 
 -- The rule: there are a plan, the keeper's seat, a seat for each processor, a holder for each turn, a page that each binding
 -- was given, and the touches, beside which words, slots and all views are in order.
@@ -100,25 +100,34 @@ pub record Kept (z : Size) (words : List ℕ) (homes : List (M.Option (Option He
 abbrev pub AllIn : ℕ → Holder → Type 0
 AllIn cpus k = (cpu : ℕ) → cpu < cpus → (made : List Made) × (slice_index_or k.parts cpu Out ≡ In made)
 
--- What the end shows: there is one list of touches, the last one first, by which all is as one thread would have it.
-pub record EndIsLegal (frames : ℕ) (homes : List (M.Option (Option Held))) (k : Holder) : Type 0 where
-  pub given : Given
-  pub log : List Made
+-- These touches, the last one first, are all that were made, and are as one thread would have made them, each binding having
+-- been given this page.
+pub record IsHistoryOf (cpus : ℕ) (k : Holder) (given : Given) (log : List Made) : Type 0 where
   -- the tickets are the numbers below the count of touches, each once, and each word is that of its binding's page
   pub legal : IsLegal given log
+  -- each touch is by a processor that there is, of a binding that its frame has had
+  pub bindings : AreOfBindings cpus k.watch log
   -- each processor's touches are exactly its own, in order
   pub own : (cpu : ℕ) (made : List Made) → slice_index_or k.parts cpu Out ≡ In made → made ≡ mine cpu log
-  -- each page that was handed out is its binding's page after that binding's touches
+  -- each page that was handed out is its binding's page after that binding's touches, and each binding was given its page
   pub left : HaveLeft given k.watch log k.ended
-  -- and so is each page that is left
-  pub pages : (f : ℕ) → f < frames → (h : Held) × (get_elem? homes f ≡ M.some (M.some (Some h))) × (h.page ≡ after given f (current k.watch f) log)
   -- binding 0 of each frame has the page of zeros
   pub zeros : (f : ℕ) → given f 0 ≡ replicate 1024 0
+
+-- there is such a list of touches, and the page in each slot is that of its frame's binding after that binding's touches
+abbrev pub EndIsLegal : ℕ → ℕ → List (M.Option (Option Held)) → Holder → Type 0
+EndIsLegal frames cpus homes k = (given : Given) × (log : List Made) × IsHistoryOf cpus k given log
+    × ((f : ℕ) → f < frames → (h : Held) × (get_elem? homes f ≡ M.some (M.some (Some h))) × (h.page ≡ after given f (current k.watch f) log))
+
+-- there is such a list of touches, and each page left is that of its frame's binding after that binding's touches
+abbrev pub EndsAsOneThread : ℕ → ℕ → List (List ℕ) → Holder → Type 0
+EndsAsOneThread frames cpus pages k = (given : Given) × (log : List Made) × IsHistoryOf cpus k given log
+    × ((f : ℕ) → f < frames → slice_index_or pages f [] ≡ after given f (current k.watch f) log)
 
 -- Once the keeper has taken every pass in, the end is legal.
 abbrev pub AllInIsLegal : Type 0
 AllInIsLegal = (z : Size) (words : List ℕ) (homes : List (M.Option (Option Held))) (views : List View) (seat : ℕ) (k : Holder) → Kept z words homes views → get_elem? views seat ≡ M.some (Keeping k) → k.hand ≡ Free → AllIn z.cpus k
-    → EndIsLegal z.frames homes k
+    → EndIsLegal z.frames z.cpus homes k
 
 -- The binding that a pass's entry names is the frame's at that moment.
 abbrev pub EntryIsCurrent : Type 0

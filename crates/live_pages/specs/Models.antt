@@ -1,5 +1,5 @@
 -- What callers see of pages, passes and the keeper.
-use Rattle.std.specs.Prelude.{◌≡◌, ℕ, zero, suc, ◌++◌, replicate, Option, ◌+◌, ◌*◌, ◌<◌, ◌≤◌, List, [], ◌∷◌, length, slice_index, Some}
+use Rattle.std.specs.Prelude.{◌≡◌, ℕ, zero, suc, ◌++◌, replicate, Option, ◌+◌, ◌*◌, ◌<◌, ◌≤◌, List, [], ◌∷◌, length, slice_index, slice_index_or, slice_set, Some}
 use mathlib.Core.Option as M
 use lib.ListN.{get_elem?}
 use Rattle.atomic_table.specs.Seated.{TableId}
@@ -8,6 +8,7 @@ use Rattle.live_doors.specs.Doors.{having_read}
 use Rattle.live_pages.specs.declared.touch.Touch.{Touch}
 use Rattle.live_pages.specs.declared.views.Hand.{Hand}
 use Rattle.live_pages.specs.declared.views.Hand.TheVariants.{Free, Has}
+use Rattle.live_pages.specs.declared.views.Part.TheVariants.{In}
 use Rattle.live_pages.specs.declared.views.View.TheVariants.{Passing}
 use Rattle.live_pages.specs.declared.rule.Held.{Held}
 use Rattle.live_pages.specs.declared.views.Walker.{Walker}
@@ -58,9 +59,9 @@ touched_in_hand ticket f t word w = record (having_made ticket f t word [] w) { 
 abbrev pub having_touched : ℕ → ℕ → Touch → ℕ → Walker → Walker
 having_touched ticket f t word w = record (having_made ticket f t word [] (taken f [] w)) { hand = Free }
 
--- Frame f's binding has ended and left this page, and its door admits the next one.
-abbrev pub rebound : ℕ → List ℕ → Holder → Holder
-rebound f left k = record k { watch = admitted f k.watch; ended = record { frame = f; binding = current k.watch f; left = left } ∷ k.ended }
+-- Frame f's binding has ended and left a page, and its door admits the next one, which was given this page.
+abbrev pub rebound : ℕ → List ℕ → List ℕ → Holder → Holder
+rebound f page left k = record k { watch = admitted f k.watch; ended = record { frame = f; binding = current k.watch f; left = left; next = page } ∷ k.ended }
 
 -- only doors, stamps and acknowledgements differ
 pub record SameButWatch (old new : Holder) : Type 0 where
@@ -80,3 +81,20 @@ opening_holder frames cpus = watching (λ w. record w { made = cpus }) (first_ho
 abbrev pub first_passes : PagesModel → ℕ → List PassModel
 first_passes pages zero = []
 first_passes pages (suc n) = first_passes pages n ++ record { table = pages.table; walker = first_walker pages.frames pages.cpus n } ∷ []
+
+-- the pass of each processor is among these
+abbrev pub AreAll : PagesModel → List PassModel → Type 0
+AreAll pages passes = (cpu : ℕ) → cpu < pages.cpus → (i : ℕ) × (i < length passes) × ((d : PassModel) → (slice_index_or passes i d).walker.walk.cpu ≡ cpu)
+
+-- the keeper with the touches of a pass
+abbrev pub taking_in : PassModel → Holder → Holder
+taking_in p k = record k { parts = slice_set k.parts p.walker.walk.cpu (In p.walker.made) }
+
+-- the keeper with the touches of all these passes
+abbrev pub taking_all_in : List PassModel → Holder → Holder
+taking_all_in [] k = k
+taking_all_in (p ∷ ps) k = taking_in p (taking_all_in ps k)
+
+-- these are the pages of the slots, in order
+abbrev pub HavePages : List (Option Held) → List (List ℕ) → Type 0
+HavePages slots pages = (f : ℕ) → f < length pages → (h : Held) × (get_elem? slots f ≡ M.some (Some h)) × (slice_index_or pages f [] ≡ h.page)

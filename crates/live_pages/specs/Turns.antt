@@ -46,18 +46,18 @@ opening_words frames cpus = first_words frames cpus 1 ++ replicate (frames + 1) 
 abbrev pub walker_of : View → Walker
 walker_of (Passing w) = w
 walker_of (Keeping k) = first_walker 0 0 0
-walker_of Spent = first_walker 0 0 0
+walker_of (Spent k) = first_walker 0 0 0
 
 -- what the keeper's seat knows; of another seat that of a new keeper
 abbrev pub holder_of : View → Holder
 holder_of (Passing w) = first_holder 0 0
 holder_of (Keeping k) = k
-holder_of Spent = first_holder 0 0
+holder_of (Spent k) = k
 
 abbrev pub hand_of : View → Hand
 hand_of (Passing w) = w.hand
 hand_of (Keeping k) = k.hand
-hand_of Spent = Free
+hand_of (Spent k) = Free
 
 -- the pass with other entries or stamps
 abbrev pub walking : (Walk → Walk) → Walker → Walker
@@ -147,7 +147,7 @@ admitted f w = record w { doors = slice_set w.doors f (2 * (current w f + 1)) }
 -- The frame's binding ends with the page that the keeper took out, and the next one begins with this page. `given` is what
 -- each binding of the frame was given.
 abbrev pub bound_anew : ℕ → List ℕ → Holder → Holder
-bound_anew f page k = record k { watch = admitted f k.watch; hand = Has f page; ended = record { frame = f; binding = current k.watch f; left = page_of k.hand } ∷ k.ended }
+bound_anew f page k = record k { watch = admitted f k.watch; hand = Has f page; ended = record { frame = f; binding = current k.watch f; left = page_of k.hand; next = page } ∷ k.ended }
 
 -- the keeper binds the frame to the page that lies in the slot in hand
 abbrev pub Binds : Told
@@ -167,3 +167,7 @@ pass_of_keeper v = Passing (first_walker (length (holder_of v).watch.doors) (len
 -- the keeper with the touches of a pass
 abbrev pub taken_in : View → View → View
 taken_in v w = Keeping (record (holder_of v) { parts = slice_set (holder_of v).parts (walker_of w).walk.cpu (In (walker_of w).made) })
+
+-- a seat that shows what the keeper knows, and steps no more
+abbrev pub shown : View → View
+shown v = Spent (holder_of v)

@@ -5,6 +5,7 @@
 //! its slot or with whoever has the frame's turn, which is taken by one compare and exchange and never waited for.
 #![tactic(auto)]
 
+mod closing;
 mod errors;
 mod keeper;
 mod laws;
@@ -17,6 +18,7 @@ mod tests;
 mod touch;
 mod views;
 
+pub use closing::{Ended, Shown};
 pub use errors::{Behind, Busy, Closed, NoMemory};
 pub use keeper::Keeper;
 pub use laws::{all_in_is_legal, entry_is_current, may_bind_has_no_holder};

@@ -63,6 +63,7 @@ fn first_keeper(alloc: Global, frames: u32, cpus: u32) -> Result<(LivePages, Kee
     let slots = first_slots(alloc, frames)?;
     let doors = vec![in alloc; 1; frames as usize]?;
     let since = vec![in alloc; 0; frames as usize]?;
+    let room = Vec::with_capacity(alloc, frames as usize)?;
     let size = Size { frames, cpus };
     let Ok((table, seat)) = Board::new(alloc, words.as_slice(), slots, &size) else {
         return Err(AllocError);
@@ -79,6 +80,7 @@ fn first_keeper(alloc: Global, frames: u32, cpus: u32) -> Result<(LivePages, Kee
             table,
             frames,
             cpus,
+            room,
         },
         keeper,
     ))

@@ -26,17 +26,19 @@ pub struct LivePages {
     pub(crate) table: Board,
     pub(crate) frames: u32,
     pub(crate) cpus: u32,
+    // Empty, with room for the pages that are left at the end.
+    pub(crate) room: Vec<Page>,
 }
 
 impl Model for LivePages {
-    ghost use Rattle.std.specs.Prelude.{◌≡◌, ◌+◌, ◌≤◌};
+    ghost use Rattle.std.specs.Prelude.{◌≡◌, [], ◌+◌, ◌≤◌, vec_capacity};
     ghost use Rattle.live_pages.specs.Models.{PagesModel};
 
     ghost Value = { PagesModel };
 
     ghost view = { λ d. record { table = d.table.shared.table_id; frames = d.frames; cpus = d.cpus } };
 
-    ghost invariant = { λ d. (d.table.shared.key.frames ≡ d.frames) × (d.table.shared.key.cpus ≡ d.cpus) × (d.table.shared.table_id.words ≡ 1 + d.frames + d.cpus + (d.frames + 1)) × (d.table.shared.table_id.slots ≡ d.frames) × (d.cpus ≤ 8) };
+    ghost invariant = { λ d. (d.table.shared.key.frames ≡ d.frames) × (d.table.shared.key.cpus ≡ d.cpus) × (d.table.shared.table_id.words ≡ 1 + d.frames + d.cpus + (d.frames + 1)) × (d.table.shared.table_id.slots ≡ d.frames) × (d.cpus ≤ 8) × (d.room.items ≡ []) × (d.frames ≤ vec_capacity d.room) };
 }
 
 impl LivePages {
@@ -250,7 +252,7 @@ impl LivePages {
         requires may_bind { MayBind keeper.old.holder.watch keeper.old.cleared f }
         requires room { current keeper.old.holder.watch f < 2 ^ 62 }
         ensures keeper { IsKeeperOf self.now keeper.new }
-        ensures bound { keeper.new.holder ≡ rebound f result keeper.old.holder }
+        ensures bound { keeper.new.holder ≡ rebound f page result keeper.old.holder }
         ensures cleared { keeper.new.cleared ≡ keeper.old.cleared }
     {
         let words = &self.table.shared;

@@ -181,9 +181,21 @@ pub(crate) struct TakeIn;
 
 impl Join<View> for TakeIn {
     ghost use Rattle.live_pages.specs.Turns.{taken_in};
+    ghost use Rattle.live_pages.specs.Turns.{first_holder};
     ghost use Rattle.live_pages.specs.declared.views.View.TheVariants.{Spent};
 
     ghost both = { taken_in };
 
-    ghost spent = { Spent };
+    ghost spent = { Spent (first_holder 0 0) };
+}
+
+/// The keeper leaves a seat that shows what it knows.
+pub(crate) struct Show;
+
+impl Split<View> for Show {
+    ghost use Rattle.live_pages.specs.Turns.{shown};
+
+    ghost left = { λ v. v };
+
+    ghost right = { shown };
 }

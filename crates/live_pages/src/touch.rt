@@ -61,4 +61,6 @@ pub struct Bound {
     pub binding: u64,
     /// The page that was handed out at its end.
     pub left: [u64; 0],
+    /// The page that the frame's next binding was given.
+    pub next: [u64; 0],
 }

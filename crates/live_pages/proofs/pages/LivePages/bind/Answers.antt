@@ -70,7 +70,7 @@ invariant_of-keeper c =
     let door : 2 * (c.index.result.now / 2 + 1) ≡ 2 * (current k.watch c.args.f + 1) = ap (λ x. 2 * (x / 2 + 1)) read in
     let bound = bound_now c.exchange-2.new.seat.me c.store.new.seat.me k1 c.args.f new in_hand (c.store.ensures.2 c.args.f new [] (ap (λ x. x.1) in_hand)) in
     let done = rebound_now c.store.new.seat.me c.store-2.new.seat.me k c.args.f c.args.page got.0.page new bound (c.store-2.ensures.2 (c.args.f, Some new) [] (ap (λ x. x.1) bound)) c.keeper.invariant.1 in
-    let fits = keeper_fits c.store-2.new.seat.me (rebound c.args.f got.0.page k) _ _ _ c.keeper.inside.cleared done c.keeper.invariant.1 c.keeper.invariant.2
+    let fits = keeper_fits c.store-2.new.seat.me (rebound c.args.f c.args.page got.0.page k) _ _ _ c.keeper.inside.cleared done c.keeper.invariant.1 c.keeper.invariant.2
     (ap (λ l. set l c.args.f (2 * (c.index.result.now / 2 + 1))) c.keeper.invariant.3 ∙ ap (λ d. set k.watch.doors c.args.f d) door) c.keeper.invariant.4 c.keeper.invariant.6 in
     (fits.0, fits.1, fits.2, fits.3, fits.4, c.keeper.invariant.5, fits.5)
 
@@ -87,7 +87,7 @@ returns-clause-keeper c =
     let door : 2 * (c.index.result.now / 2 + 1) ≡ 2 * (current k.watch c.args.f + 1) = ap (λ x. 2 * (x / 2 + 1)) read in
     let bound = bound_now c.exchange-2.new.seat.me c.store.new.seat.me k1 c.args.f new in_hand (c.store.ensures.2 c.args.f new [] (ap (λ x. x.1) in_hand)) in
     let done = rebound_now c.store.new.seat.me c.store-2.new.seat.me k c.args.f c.args.page got.0.page new bound (c.store-2.ensures.2 (c.args.f, Some new) [] (ap (λ x. x.1) bound)) c.keeper.invariant.1 in
-    keeper_stays_of c.args.self.now c.args.keeper.now _ c.store-2.new.seat.table_id _ _ c.keeper.inside.seat.me c.store-2.new.seat.me (rebound c.args.f got.0.page k) c.keeper.view_is c.requires.keeper
+    keeper_stays_of c.args.self.now c.args.keeper.now _ c.store-2.new.seat.table_id _ _ c.keeper.inside.seat.me c.store-2.new.seat.me (rebound c.args.f c.args.page got.0.page k) c.keeper.view_is c.requires.keeper
     (c.store-2.ensures.0 ∙ c.store.ensures.0 ∙ c.exchange-2.ensures.0 ∙ c.exchange.ensures.0 ∙ c.compare_exchange.ensures.0) done (length-set _ _ _) refl refl refl
 
 pub returns-clause-bound : goal.returns-clause-bound
@@ -103,4 +103,4 @@ returns-clause-bound c =
     let door : 2 * (c.index.result.now / 2 + 1) ≡ 2 * (current k.watch c.args.f + 1) = ap (λ x. 2 * (x / 2 + 1)) read in
     let bound = bound_now c.exchange-2.new.seat.me c.store.new.seat.me k1 c.args.f new in_hand (c.store.ensures.2 c.args.f new [] (ap (λ x. x.1) in_hand)) in
     let done = rebound_now c.store.new.seat.me c.store-2.new.seat.me k c.args.f c.args.page got.0.page new bound (c.store-2.ensures.2 (c.args.f, Some new) [] (ap (λ x. x.1) bound)) c.keeper.invariant.1 in
-    ap (λ x. holder_of x.0) done ∙ ap (λ (x : Held). rebound c.args.f x.page k) (sym same) ∙ ap (λ v. rebound c.args.f c.in-Some.held.page v.holder) c.keeper.view_is
+    ap (λ x. holder_of x.0) done ∙ ap (λ (x : Held). rebound c.args.f c.args.page x.page k) (sym same) ∙ ap (λ v. rebound c.args.f c.args.page c.in-Some.held.page v.holder) c.keeper.view_is
