@@ -4,7 +4,7 @@ use mathlib.Core.Option as M
 use mathlib.Core.Logic.{dite}
 use native.Mathlib.Decide.{ℕ_discrete}
 use Rattle.std.proofs.lemmas.Option.{none-some}
-use Rattle.std.proofs.lemmas.List.{length-append, length-replicate, get_or-set_same, get_or-set_other}
+use Rattle.std.proofs.lemmas.List.{length-append, length-replicate, get_or-set_same, get_or-set_other, get_or-append-add, get_or_append_left}
 use prog.Atomic.{either}
 use Rattle.atomic_table.specs.Table.{State, Me, step, rest, Allows, Splits}
 use Rattle.atomic_table.proofs.Lists.{at_last, at_longer}
@@ -27,7 +27,7 @@ use Rattle.live_pages.specs.declared.views.View.{View}
 use Rattle.live_pages.specs.declared.views.View.TheVariants.{Passing, Keeping, Spent}
 use Rattle.live_pages.specs.Touches.{touched, answer}
 use Rattle.live_pages.specs.Turns.{Seat, opening_words, first_holder, first_walker, keeper_with_pass, pass_of_keeper, bound_anew, having_made, taken, turn_at, ticket_at, current, walking, watching, walker_of, holder_of, Fills, Forgets, Acknowledges, Closes, Raises, Looks, Takes, Draws, Gives, KeeperTakes, Binds, KeeperGives}
-use Rattle.live_pages.specs.Models.{PagesModel, PassModel, KeeperModel, IsPassOf, IsKeeperOf, SameButWatch, HasInHand, having_touched, touched_in_hand, rebound, HaveZeroPages, first_passes}
+use Rattle.live_pages.specs.Models.{PagesModel, PassModel, KeeperModel, IsPassOf, IsKeeperOf, SameButWatch, HasInHand, having_touched, touched_in_hand, rebound, HaveZeroPages, first_passes, AreAll}
 use Rattle.live_pages.proofs.Quiet.{InOrder, fills, forgets, acknowledges, closes, raises, looks}
 use Rattle.live_pages.proofs.Turning.{with_hand, takes_turn, gives_turn, keeper_takes, keeper_gives}
 use Rattle.live_pages.proofs.Changing.{draws, binds}
@@ -289,3 +289,21 @@ all_first pages (suc n) few = All-append (IsPassOf pages) (first_passes pages n)
 
 pub all_first_at : (pages : PagesModel) (passes : List PassModel) (n : ℕ) → passes ≡ first_passes pages n → n ≡ pages.cpus → All (IsPassOf pages) passes
 all_first_at pages passes n is all = subst (All (IsPassOf pages)) (sym is) (all_first pages n (omega arith))
+
+first_count : (pages : PagesModel) (n : ℕ) → length (first_passes pages n) ≡ n
+first_count pages zero = refl
+first_count pages (suc n) = let l = length-append (first_passes pages n) (record { table = pages.table; walker = first_walker pages.frames pages.cpus n } ∷ []) in let e = first_count pages n in omega arith
+
+-- and they are the passes of all processors, in order
+first_place : (pages : PagesModel) (n cpu : ℕ) (d : PassModel) → cpu < n → (get_or (first_passes pages n) cpu d).walker.walk.cpu ≡ cpu
+first_place pages zero cpu d inside = absurd (omega arith)
+first_place pages (suc n) cpu d inside =
+    let last : PassModel = record { table = pages.table; walker = first_walker pages.frames pages.cpus n } in
+    let l = first_count pages n in
+    dite (ℕ_discrete cpu n)
+    (λ (here : cpu ≡ n). let at : cpu ≡ length (first_passes pages n) + 0 = omega arith in
+    ap (λ j. (get_or (first_passes pages n ++ last ∷ []) j d).walker.walk.cpu) at ∙ ap (λ (p : PassModel). p.walker.walk.cpu) (get_or-append-add (first_passes pages n) (last ∷ []) 0 d) ∙ sym here)
+    (λ (other : cpu ≢ n). ap (λ (p : PassModel). p.walker.walk.cpu) (get_or_append_left (first_passes pages n) (last ∷ []) d cpu (omega arith)) ∙ first_place pages n cpu d (omega arith))
+
+pub all_at_first : (pages : PagesModel) (passes : List PassModel) → passes ≡ first_passes pages pages.cpus → AreAll pages passes
+all_at_first pages passes is = subst (AreAll pages) (sym is) (λ cpu inside. (cpu, (let l = first_count pages pages.cpus in omega arith), λ d. first_place pages pages.cpus cpu d inside))

@@ -32,7 +32,7 @@ use Rattle.live_pages.specs.declared.views.View.TheVariants.{Passing, Keeping, S
 use Rattle.live_pages.specs.Touches.{touched, answer, Given, after, IsLegal, mine}
 use Rattle.live_pages.specs.Turns.{turn_at, ticket_at, current, hand_of, walking, watching, walker_of, holder_of, binding_in, binding_at, taken, having_made, page_of, admitted, bound_anew, Takes, Draws, Gives, KeeperTakes, Binds, KeeperGives}
 use Rattle.live_pages.specs.Kept.{AreOfBindings, HaveLeft, BookOk, SlotsOk, TurnsOk, HandOk, HoldsHand, WalkerOk, SeatOk, Kept}
-use Rattle.live_pages.proofs.Replay.{regiven_here, after_here, after_frame, after_else, after_next, regiven, regiven_binding, legal_next, left_next, bindings_stay, left_stays, left_touched, mine_here, mine_else, tickets_fit}
+use Rattle.live_pages.proofs.Replay.{own_below, regiven_here, after_here, after_frame, after_else, after_next, regiven, regiven_binding, legal_next, left_next, bindings_stay, left_stays, left_touched, mine_here, mine_else, tickets_fit}
 use Rattle.live_pages.proofs.Quiet.{set_at, InOrder, pass_stepped}
 use Rattle.live_pages.proofs.Turning.{with_hand, has_frame, has_page, free_has, plan_above, pass_above, holder_stands}
 
@@ -146,7 +146,7 @@ module _ (z : Size) where
           )
               (λ j v other there. others s.words h.plan h.keeper h.seat_of h.holder h.given h.log e m own.0 hand.1 refl refl h.book_ok.plan_ok j v other (h.seats_ok j v there));
         },
-        λ g k rest is. told n g k rest is,
+        λ g k rest is. (own_below h.given h.log w.made n w.walk.cpu h.book_ok.legal own.1.made h.book_ok.ticket, told n g k rest is),
       )
     where
       told : (n : ℕ) (g : ℕ) (k : Held) (rest : List (ℕ × Option Held)) → (f, Some hd) ∷ [] ≡ (g, Some k) ∷ rest

@@ -31,7 +31,7 @@ use Rattle.live_pages.specs.declared.views.View.{View}
 use Rattle.live_pages.specs.declared.views.View.TheVariants.{Passing, Keeping, Spent}
 use Rattle.live_pages.specs.Touches.{touched, answer, Given, after, IsLegal, mine}
 use Rattle.live_pages.specs.Turns.{first_walker, first_holder, opening_words, keeper_with_pass, pass_of_keeper, taken_in, turn_at, ticket_at, current, hand_of, walking, watching, walker_of, holder_of, binding_in, binding_at, taken, having_made, page_of, admitted, bound_anew, Takes, Draws, Gives, KeeperTakes, Binds, KeeperGives}
-use Rattle.live_pages.specs.Kept.{IsHistoryOf, AreOfBindings, HaveLeft, BookOk, SlotsOk, TurnsOk, HandOk, HoldsHand, WalkerOk, SeatOk, Kept, AllIn, EndIsLegal, AllInIsLegal, EntryIsCurrent, MayBindHasNoHolder}
+use Rattle.live_pages.specs.Kept.{IsClearOf, IsHistoryOf, AreOfBindings, HaveLeft, BookOk, SlotsOk, TurnsOk, HandOk, HoldsHand, WalkerOk, SeatOk, Kept, AllIn, EndIsLegal, AllInIsLegal, EntryIsCurrent, MayBindHasNoHolder}
 use Rattle.live_pages.proofs.Replay.{after_here, after_frame, after_else, after_next, regiven, regiven_binding, legal_next, left_next, bindings_stay, left_stays, left_touched, mine_here, mine_else, tickets_fit}
 use Rattle.live_pages.proofs.Changing.{entry_is_current}
 use Rattle.live_pages.proofs.Quiet.{set_at, InOrder, pass_stepped}
@@ -346,7 +346,7 @@ entry_names_current z words homes views seat w f b h at inside holds =
     ap (λ x. x / 2) (h.book_ok.plan_ok.doors f inside) ∙ sym (entry_is_current z words h.plan.watch w.walk f b own.1.pass_ok holds) ∙ ap binding_in holds
 
 pub may_bind_is_free : MayBindHasNoHolder
-may_bind_is_free z words homes views seat cleared k f h at noted may seat' w there =
+may_bind_is_free k cleared f noted may z words homes views seat h at seat' w there =
     let own = h.seats_ok seat (Keeping k) at in
     let his = h.seats_ok seat' (Passing w) there in
     none_if (get_or w.walk.held f None)
@@ -355,3 +355,6 @@ may_bind_is_free z words homes views seat cleared k f h at noted may seat' w the
     none_if : (o : Option ℕ) → ((b : ℕ) → o ≡ Some b → ⊥) → o ≡ None
     none_if None never = refl
     none_if (Some b) never = absurd (never b refl)
+
+pub noted_is_clear : (k : Holder) (stamp : ℕ) → HasNoted k.watch stamp → IsClearOf k stamp
+noted_is_clear k stamp noted f odd since = may_bind_is_free k stamp f noted (inr (odd, since))

@@ -7,7 +7,7 @@ use Rattle.live_doors.specs.declared.views.Watch.{Watch}
 use Rattle.live_pages.specs.declared.touch.Touch.{Touch}
 use Rattle.live_pages.specs.declared.touch.Made.{Made}
 use Rattle.live_pages.specs.declared.touch.Bound.{Bound}
-use Rattle.live_pages.specs.Touches.{touched, answer, Given, is_of, touched_if, after, IsLegal, mine, mine_if}
+use Rattle.live_pages.specs.Touches.{touched, answer, Given, is_of, touched_if, after, IsLegal, AreBelow, mine, mine_if}
 use Rattle.live_pages.specs.Turns.{current}
 use Rattle.live_pages.specs.Kept.{AreOfBindings, HaveLeft}
 
@@ -125,6 +125,26 @@ mine_here cpu e es same = ap (λ t. mine_if t e (mine cpu es)) (eq-eqb e.cpu cpu
 
 pub mine_else : (cpu : ℕ) (e : Made) (es : List Made) → e.cpu ≢ cpu → mine cpu (e ∷ es) ≡ mine cpu es
 mine_else cpu e es other = ap (λ t. mine_if t e (mine cpu es)) (ne_eqb e.cpu cpu other)
+
+-- the tickets of the touches are below their count, and so are those of one processor
+below_more : (n m : ℕ) (es : List Made) → n ≤ m → AreBelow n es → AreBelow m es
+below_more n m [] up ok = tt
+below_more n m (e ∷ es) up ok = (below_more n m es up ok.0, lt_both up ok.1)
+
+all_below : (given : Given) (log : List Made) → IsLegal given log → AreBelow (length log) log
+all_below given [] legal = tt
+all_below given (e ∷ es) legal = (below_more (length es) (suc (length es)) es (omega arith) (all_below given es legal.0), (let t = legal.2 in omega arith))
+
+below_if : (t : Bool) (n : ℕ) (e : Made) (es : List Made) → AreBelow n es → e.ticket < n → AreBelow n (mine_if t e es)
+below_if true n e es ok low = (ok, low)
+below_if false n e es ok low = ok
+
+mine_below : (n cpu : ℕ) (es : List Made) → AreBelow n es → AreBelow n (mine cpu es)
+mine_below n cpu [] ok = tt
+mine_below n cpu (e ∷ es) ok = below_if (eqb e.cpu cpu) n e (mine cpu es) (mine_below n cpu es ok.0) ok.1
+
+pub own_below : (given : Given) (log made : List Made) (n cpu : ℕ) → IsLegal given log → made ≡ mine cpu log → n ≡ length log → AreBelow n made
+own_below given log made n cpu legal own count = subst (λ (x : ℕ × List Made). AreBelow x.0 x.1) (λ i. (sym count i, sym own i)) (mine_below (length log) cpu log (all_below given log legal))
 
 -- how many touches are of the first n processors
 abbrev count_below : ℕ → List Made → ℕ

@@ -4,7 +4,7 @@ use mathlib.Core.Option as M
 use lib.ListN.{get_elem?}
 use Rattle.live_doors.specs.declared.views.Walk.{Walk}
 use Rattle.live_doors.specs.declared.views.Watch.{Watch}
-use Rattle.live_doors.specs.Doors.{HasNoted, MayBind}
+use Rattle.live_doors.specs.Doors.{HasNoted, MayBind, IsShut}
 use Rattle.live_doors.specs.Steps.{door_at}
 use Rattle.live_doors.specs.Kept.{PlanOk, PassOk}
 use Rattle.live_pages.specs.declared.rule.Held.{Held}
@@ -134,7 +134,18 @@ abbrev pub EntryIsCurrent : Type 0
 EntryIsCurrent = (z : Size) (words : List ℕ) (homes : List (M.Option (Option Held))) (views : List View) (seat : ℕ) (w : Walker) (f b : ℕ) → Kept z words homes views → get_elem? views seat ≡ M.some (Passing w) → f < z.frames
     → slice_index_or w.walk.held f None ≡ Some b → slice_index words (door_at f) / 2 ≡ b
 
--- A frame that may be bound has no holder: no pass holds an entry of it, and its turn is free.
+-- no pass holds an entry of frame f
+abbrev pub NoHolder : List View → ℕ → Type 0
+NoHolder views f = (seat : ℕ) (w : Walker) → get_elem? views seat ≡ M.some (Passing w) → slice_index_or w.walk.held f None ≡ None
+
+-- wherever the rule holds and this is what the keeper knows, no pass holds an entry of frame f
+abbrev pub HasNoHolder : Holder → ℕ → Type 0
+HasNoHolder k f = (z : Size) (words : List ℕ) (homes : List (M.Option (Option Held))) (views : List View) (seat : ℕ) → Kept z words homes views → get_elem? views seat ≡ M.some (Keeping k) → NoHolder views f
+
+-- no pass holds an entry of a frame that was closed before this stamp was raised, and is closed still
+abbrev pub IsClearOf : Holder → ℕ → Type 0
+IsClearOf k stamp = (f : ℕ) → IsShut k.watch f → slice_index k.watch.since f < stamp → HasNoHolder k f
+
+-- no pass holds an entry of a frame that may be bound
 abbrev pub MayBindHasNoHolder : Type 0
-MayBindHasNoHolder = (z : Size) (words : List ℕ) (homes : List (M.Option (Option Held))) (views : List View) (seat cleared : ℕ) (k : Holder) (f : ℕ) → Kept z words homes views → get_elem? views seat ≡ M.some (Keeping k) → HasNoted k.watch cleared → MayBind k.watch cleared f
-    → (seat : ℕ) (w : Walker) → get_elem? views seat ≡ M.some (Passing w) → slice_index_or w.walk.held f None ≡ None
+MayBindHasNoHolder = (k : Holder) (cleared f : ℕ) → HasNoted k.watch cleared → MayBind k.watch cleared f → HasNoHolder k f

@@ -44,6 +44,11 @@ abbrev pub IsLegal : Given → List Made → Type 0
 IsLegal given [] = Unit {0}
 IsLegal given (e ∷ es) = IsLegal given es × (e.word ≡ answer e.touch (after given e.frame e.binding es)) × (e.ticket ≡ length es)
 
+-- these touches have tickets below this number
+abbrev pub AreBelow : ℕ → List Made → Type 0
+AreBelow n [] = Unit {0}
+AreBelow n (e ∷ es) = AreBelow n es × (e.ticket < n)
+
 abbrev pub mine_if : Bool → Made → List Made → List Made
 mine_if true e es = e ∷ es
 mine_if false e es = es

@@ -16,6 +16,7 @@ use Rattle.live_pages.specs.declared.views.Part.TheVariants.{Out, In}
 use Rattle.live_pages.specs.declared.views.Walker.{Walker}
 use Rattle.live_pages.specs.declared.views.Holder.{Holder}
 use Rattle.live_pages.specs.declared.views.View.{View}
+use Rattle.live_pages.specs.Touches.{AreBelow}
 use Rattle.live_pages.specs.declared.views.View.TheVariants.{Passing, Keeping, Spent}
 
 -- the word of frame f's turn: 0 exactly where the turn is free
@@ -122,9 +123,9 @@ having_made ticket f t word page w = record w {
   hand = Has f page;
 }
 
--- the pass makes the touch that lies with the page in hand
+-- the pass makes the touch that lies with the page in hand, by a ticket above all that it had
 abbrev pub Draws : Told
-Draws s old word new = (f : ℕ) (h : Held) (rest : List (ℕ × Option Held)) → old.1 ≡ (f, Some h) ∷ rest → new ≡ (Passing (having_made word f h.touch h.word h.page (walker_of old.0)), old.1)
+Draws s old word new = (f : ℕ) (h : Held) (rest : List (ℕ × Option Held)) → old.1 ≡ (f, Some h) ∷ rest → AreBelow word (walker_of old.0).made × (new ≡ (Passing (having_made word f h.touch h.word h.page (walker_of old.0)), old.1))
 
 -- the pass has no turn any more, and the slot in hand is back in its place
 abbrev pub Gives : Told

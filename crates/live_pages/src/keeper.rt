@@ -1,6 +1,7 @@
 //! The keeper of the pages.
 ghost use Rattle.std.specs.Prelude.{◌≡◌, ◌<◌, ◌↔◌, length, max, IsTrue};
 ghost use Rattle.live_doors.specs.Doors.{HasNoted, MayBind};
+ghost use Rattle.live_pages.specs.Kept.{HasNoHolder};
 
 use crate::rule::Place;
 use std::marker::Model;
@@ -32,10 +33,11 @@ impl Model for Keeper {
 
 impl Keeper {
     /// Whether frame `f` may be bound anew: it was never bound, or it is closed and `all_clear` answered Ok for a
-    /// stamp that was raised since. Takes no memory and constant time. Source: own.
+    /// stamp that was raised since. No pass then holds an entry of it. Takes no memory and constant time. Source: own.
     pub fn may_bind(&self, f: u32) -> bool
         requires { f < length self.now.holder.watch.doors }
-        ensures { IsTrue result ↔ MayBind self.now.holder.watch self.now.cleared f }
+        ensures may_bind { IsTrue result ↔ MayBind self.now.holder.watch self.now.cleared f }
+        ensures no_holder { IsTrue result → HasNoHolder self.now.holder f }
     {
         let door = self.doors[f as usize];
         door == 1 || (door % 2 == 1 && self.since[f as usize] < self.cleared)

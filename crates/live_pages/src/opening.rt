@@ -1,7 +1,7 @@
 //! The making of pages, keeper and passes.
 ghost use Rattle.std.specs.Prelude.{◌≡◌, All, ◌+◌, ◌<◌, ◌≤◌, length, replicate, IfOk, OnOk};
 ghost use Rattle.live_pages.specs.Turns.{opening_words, first_holder, first_walker, watching};
-ghost use Rattle.live_pages.specs.Models.{HaveZeroPages, IsPassOf, IsKeeperOf, opening_holder, first_passes};
+ghost use Rattle.live_pages.specs.Models.{HaveZeroPages, IsPassOf, IsKeeperOf, opening_holder, first_passes, AreAll};
 
 use crate::errors::NoMemory;
 use crate::keeper::Keeper;
@@ -134,6 +134,7 @@ pub(crate) fn begin(
     ensures holder { IfOk result (λ made. (made.1.holder ≡ opening_holder frames cpus) × (made.1.cleared ≡ 0)) }
     ensures passes { IfOk result (λ made. made.2.items ≡ first_passes made.0 cpus) }
     ensures passes_of { IfOk result (λ made. All (IsPassOf made.0) made.2.items) }
+    ensures all { IfOk result (λ made. AreAll made.0 made.2.items) }
 {
     let (pages, mut keeper) = first_keeper(alloc, frames, cpus)?;
     let passes = admit_all(alloc, &pages, &mut keeper)?;

@@ -1,10 +1,11 @@
 //! The pages behind doors, which passes and the keeper step on.
 ghost use Rattle.std.specs.Prelude.{◌≡◌, ◌≢◌, [], ℕ, ◌+◌, ◌*◌, ◌%◌, ◌^◌, ◌<◌, ◌≤◌, All, max, length, slice_index, OnOk, OnErr, IfOk, IfErr};
 ghost use Rattle.live_doors.specs.Doors.{HoldsEntry, IsAdmitted, OnlyNoted, HasNoted, MayBind, having_read, holding, forgotten, acknowledged, shut, raised, having_noted};
-ghost use Rattle.live_pages.specs.Touches.{place_of};
+ghost use Rattle.live_pages.specs.Kept.{IsClearOf, HasNoHolder};
+ghost use Rattle.live_pages.specs.Touches.{place_of, AreBelow};
 ghost use Rattle.live_pages.specs.Turns.{walking, watching, walker_of, current};
 ghost use Rattle.live_pages.specs.declared.views.View.TheVariants.{Passing};
-ghost use Rattle.live_pages.specs.Models.{HasInHand, touched_in_hand, IsPassOf, IsKeeperOf, SameButWatch, having_touched, rebound, opening_holder, first_passes};
+ghost use Rattle.live_pages.specs.Models.{HasInHand, touched_in_hand, IsPassOf, IsKeeperOf, SameButWatch, having_touched, rebound, opening_holder, first_passes, AreAll};
 
 use crate::errors::{Behind, Busy, Closed, NoMemory};
 use crate::keeper::Keeper;
@@ -59,6 +60,7 @@ impl LivePages {
         ensures holder { IfOk result (λ made. (made.1.holder ≡ opening_holder frames cpus) × (made.1.cleared ≡ 0)) }
         ensures passes { IfOk result (λ made. made.2.items ≡ first_passes made.0 cpus) }
         ensures passes_of { IfOk result (λ made. All (IsPassOf made.0) made.2.items) }
+        ensures all { IfOk result (λ made. AreAll made.0 made.2.items) }
     {
         begin(alloc, frames, cpus)
     }
@@ -161,7 +163,7 @@ impl LivePages {
     }
 
     /// Whether every processor has acknowledged the stamp. At Ok no pass holds an entry of a frame that was closed
-    /// before the stamp was raised and not bound since (by the law of `live_doors`).
+    /// before the stamp was raised and not bound since.
     ///
     /// `Behind` comes exactly where a processor's word, which this call read, was below the stamp; it names the first
     /// such one. At most one load a processor; takes no memory and never waits. Source: own.
@@ -170,6 +172,7 @@ impl LivePages {
         ensures keeper { IsKeeperOf self.now keeper.new }
         ensures only_noted { OnlyNoted keeper.old.holder.watch keeper.new.holder.watch }
         ensures same { SameButWatch keeper.old.holder keeper.new.holder }
+        ensures clear { OnOk result (IsClearOf keeper.new.holder stamp) }
         ensures noted { OnOk result (HasNoted keeper.new.holder.watch stamp) }
         ensures looked { OnOk result (keeper.new.holder.watch.looks ≡ keeper.old.holder.watch.looks + self.now.cpus) }
         ensures cleared { OnOk result (keeper.new.cleared ≡ max keeper.old.cleared stamp) }
@@ -205,6 +208,7 @@ impl LivePages {
         requires hand { HasInHand seat.old.me f }
         requires few { length (walker_of seat.old.me.0).made < 2 ^ 32 }
         ensures seat { (seat.new.table_id ≡ seat.old.table_id) × (seat.new.id ≡ seat.old.id) }
+        ensures above { AreBelow result.ticket (walker_of seat.old.me.0).made }
         ensures touched { seat.new.me ≡ (Passing (touched_in_hand result.ticket f t result.word (walker_of seat.old.me.0)), []) }
     {
         let words = &self.table.shared;
@@ -230,6 +234,7 @@ impl LivePages {
         requires place { place_of t < 1024 }
         requires few { length pass.old.walker.made < 2 ^ 32 }
         ensures pass { IsPassOf self.now pass.new }
+        ensures above { IfOk result (λ done. AreBelow done.ticket pass.old.walker.made) }
         ensures touched { IfOk result (λ done. pass.new.walker ≡ having_touched done.ticket f t done.word pass.old.walker) }
         ensures busy { IfErr result (λ e. (e.word ≢ 0) × (pass.new.walker ≡ walking (having_read e.word) pass.old.walker)) }
     {
@@ -252,6 +257,7 @@ impl LivePages {
         requires may_bind { MayBind keeper.old.holder.watch keeper.old.cleared f }
         requires room { current keeper.old.holder.watch f < 2 ^ 62 }
         ensures keeper { IsKeeperOf self.now keeper.new }
+        ensures no_holder { HasNoHolder keeper.old.holder f }
         ensures bound { keeper.new.holder ≡ rebound f page result keeper.old.holder }
         ensures cleared { keeper.new.cleared ≡ keeper.old.cleared }
     {

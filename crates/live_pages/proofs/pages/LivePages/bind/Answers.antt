@@ -8,6 +8,7 @@ use Rattle.live_pages.specs.declared.views.View.TheVariants.{Passing, Keeping, S
 use Rattle.live_pages.specs.Turns.{Seat, bound_anew, current, holder_of}
 use Rattle.live_pages.specs.Models.{rebound}
 use Rattle.live_pages.proofs.Turning.{with_hand}
+use Rattle.live_pages.proofs.Ends.{may_bind_is_free}
 use Rattle.live_pages.proofs.Calls.{keeper_takes_at, slot_in_hand, none_is, exchanged_twice, found_in_slot, same_held, binds_in_hand, keeper_gives_in_hand, bound_now, rebound_now, keeper_fits, keeper_stays_of}
 use Rattle.live_pages.proofs.pages.LivePages.bind.Goals as goal
 
@@ -104,3 +105,6 @@ returns-clause-bound c =
     let bound = bound_now c.exchange-2.new.seat.me c.store.new.seat.me k1 c.args.f new in_hand (c.store.ensures.2 c.args.f new [] (ap (λ x. x.1) in_hand)) in
     let done = rebound_now c.store.new.seat.me c.store-2.new.seat.me k c.args.f c.args.page got.0.page new bound (c.store-2.ensures.2 (c.args.f, Some new) [] (ap (λ x. x.1) bound)) c.keeper.invariant.1 in
     ap (λ x. holder_of x.0) done ∙ ap (λ (x : Held). rebound c.args.f c.args.page x.page k) (sym same) ∙ ap (λ v. rebound c.args.f c.args.page c.in-Some.held.page v.holder) c.keeper.view_is
+
+pub returns-clause-no_holder : goal.returns-clause-no_holder
+returns-clause-no_holder c = may_bind_is_free c.args.keeper.now.holder c.args.keeper.now.cleared c.args.f (subst (λ v. HasNoted v.holder.watch v.cleared) c.keeper.view_is c.keeper.invariant.6) c.requires.may_bind

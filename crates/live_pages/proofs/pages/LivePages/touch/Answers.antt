@@ -3,6 +3,7 @@ use Rattle.live_doors.specs.Doors.{having_read}
 use Rattle.live_pages.specs.declared.rule.Held.{Held}
 use Rattle.live_pages.specs.declared.views.View.TheVariants.{Passing, Keeping, Spent}
 use Rattle.live_pages.specs.Turns.{Seat, taken, walking, walker_of}
+use Rattle.live_pages.specs.Touches.{AreBelow}
 use Rattle.live_pages.specs.Models.{having_touched, touched_in_hand}
 use Rattle.live_pages.proofs.Calls.{self_form, takes_turn_at, pass_fits, pass_stays_of}
 use Rattle.live_pages.proofs.pages.LivePages.touch.Goals as goal
@@ -61,3 +62,10 @@ returns-clause-touched c =
     let there = got.1 ∙ ap (λ cs. (Passing (taken c.args.f got.0.page w), (c.args.f, Some got.0) ∷ cs)) (ap (λ m. m.1) c.pass.invariant.0) in
     let done = c.touch_in_hand.ensures.touched ∙ ap (λ x. (Passing (touched_in_hand c.touch_in_hand.result.ticket c.args.f c.args.t c.touch_in_hand.result.word (walker_of x.0)), [])) there in
     ap (λ x. walker_of x.0) done ∙ ap (λ v. having_touched c.touch_in_hand.result.ticket c.args.f c.args.t c.touch_in_hand.result.word v.walker) c.pass.view_is
+
+pub returns-clause-above : goal.returns-clause-above
+returns-clause-above c =
+    let w = walker_of c.pass.inside.seat.me.0 in
+    let got = (c.compare_exchange-word.ensures.2 c.args.f (search rules)).0 (search rules) in
+    let there = got.1 ∙ ap (λ cs. (Passing (taken c.args.f got.0.page w), (c.args.f, Some got.0) ∷ cs)) (ap (λ m. m.1) c.pass.invariant.0) in
+    subst (λ v. AreBelow c.touch_in_hand.result.ticket v.walker.made) c.pass.view_is (subst (λ x. AreBelow c.touch_in_hand.result.ticket (walker_of x.0).made) there c.touch_in_hand.ensures.above)
