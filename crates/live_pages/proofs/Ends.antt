@@ -330,8 +330,7 @@ no_turn_left z words homes views seat k h at free all f inside busy =
 pub all_in_is_legal : AllInIsLegal
 all_in_is_legal z words homes views seat k h at free all =
     let own = h.seats_ok seat (Keeping k) at in
-    let book : BookOk z.frames z.cpus words k h.given h.log = subst (λ p. BookOk z.frames z.cpus words p h.given h.log) (sym own.1) h.book_ok in
-    (
+    let book : BookOk z.frames z.cpus words k h.given h.log = subst (λ p. BookOk z.frames z.cpus words p h.given h.log) (sym own.1) h.book_ok in (
       h.given,
       h.log,
       record { legal = book.legal; bindings = book.bindings; own = λ cpu made part. book.taken_in cpu made part; left = book.left; zeros = book.zeros },

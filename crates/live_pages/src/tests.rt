@@ -70,7 +70,9 @@ fn binds_touches_and_binds_anew(rt: HostRuntime) -> Result<(), NoMemory> {
 }
 
 const FRAMES: u32 = 3;
+
 const TURNS: u32 = 20_000;
+
 const ROUNDS: u32 = 60;
 
 // Adds one to word 0 of a frame's page, if its door and its turn let it.
