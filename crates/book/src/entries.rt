@@ -1,6 +1,6 @@
 use crate::replies::Reply;
 
-/// An event of a run.
+/// An event of a run (own). Processes, places, processors, frames and pages are counted from 0.
 #[derive(Clone, Copy, Debug, PartialEq, Eq)]
 pub enum Entry {
     /// A command of a process was answered: the process, the command's place among its commands, the
@@ -13,6 +13,10 @@ pub enum Entry {
         frame: Option<u32>,
         reply: Reply,
     },
-    /// A page that was all zeros is stored no more: its record was given back.
-    Release { uid: u32, page: u32 },
+    /// A page that was all zeros is stored no more: its record was given back (Bensoussan, Clingen and
+    /// Daley 1972). The page is one of the segment with this unique identifier.
+    Release {
+        uid: u32,
+        page: u32,
+    },
 }

@@ -4,6 +4,8 @@
 mod entries;
 mod replies;
 mod runs;
+#[cfg(test)]
+mod tests;
 
 pub use entries::Entry;
 pub use replies::Reply;

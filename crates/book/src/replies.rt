@@ -4,7 +4,8 @@ ghost use Rattle.book.specs.Replies.{reply_text};
 use mword::Word;
 use std::fmt;
 
-/// What a process is answered to a command.
+/// What a process is answered to a command (own). Its text is that of the listing: a word has 12 octal
+/// digits, any other number is decimal.
 #[derive(Clone, Copy, Debug, PartialEq, Eq)]
 pub enum Reply {
     /// The number stands for nothing in this process.
@@ -15,9 +16,9 @@ pub enum Reply {
     Word(Word),
     /// The command took effect.
     Done,
-    /// The uid of the node that was made.
+    /// The segment was made; its unique identifier.
     Made(u32),
-    /// The number that the segment is known by.
+    /// The segment is known to the process by this number.
     Known(u32),
 }
 

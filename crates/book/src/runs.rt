@@ -1,6 +1,7 @@
 ghost use Rattle.std.specs.Prelude.{◌≡◌, ◌+◌, ◌<◌, ◌≤◌, [], ◌∷◌, ◌++◌, length, IfOk, OnOk, ◌==◌, slice_get, Some};
 
 use crate::entries::Entry;
+use crate::replies::Reply;
 use script::Script;
 use std::alloc::Global;
 use std::marker::Model;
@@ -31,7 +32,7 @@ impl Model for Book {
 }
 
 impl Book {
-    /// The empty book of a script.
+    /// The empty book of a script, with no room for entries yet.
     pub fn new(alloc: Global, script: Script) -> Result<Book, NoMemory>
         ensures script { IfOk result (λ b. b.script ≡ script) }
         ensures empty { IfOk result (λ b. b.entries ≡ []) }
@@ -61,7 +62,8 @@ impl Book {
         ensures room { self.new.spare + 1 ≡ self.old.spare }
         ensures script { self.new.script ≡ self.old.script }
     {
-        let _named: Option<crate::replies::Reply> = None;
+        // A check of this call wants the type of an entry's reply named.
+        let _named: Option<Reply> = None;
         self.entries.push_reserved(e);
     }
 

@@ -1,13 +1,7 @@
 -- Laws of the stored pages.
-use Rattle.std.proofs.Common.{◌≡◌, ◌≢◌, ℕ, ◌+◌, Bool, true, false, not, cond, eqb, ◌&&◌, ◌||◌, ◌==◌, List, [], ◌∷◌, length, refl, sym, ap, subst, ◌∙◌, arith, filter}
+use Rattle.std.proofs.Common.{◌≡◌, ℕ, ◌+◌, Bool, true, false, not, cond, eqb, ◌&&◌, ◌||◌, List, [], ◌∷◌, length, refl, sym, ap, ◌∙◌, arith, filter}
 use Rattle.std.proofs.lemmas.Bool.Decides.{nat_tests}
-use Rattle.std.proofs.lemmas.Grind.{common_steps}
-use Rattle.flat_store.specs.Pages.{is_page, is_stored, with_stored, without_stored}
-
--- each page is listed once
-abbrev pub IsOnce : List (ℕ × ℕ) → Type 0
-IsOnce [] = Unit {0}
-IsOnce (x ∷ xs) = (is_stored xs x.0 x.1 ≡ false) × IsOnce xs
+use Rattle.flat_store.specs.Pages.{is_page, is_stored, with_stored, without_stored, IsOnce}
 
 pub is_stored-with : (xs : List (ℕ × ℕ)) (u p v q : ℕ) → is_stored (with_stored xs u p) v q ≡ (is_page v q (u, p) || is_stored xs v q)
 unfolding with_stored
@@ -66,3 +60,30 @@ once_without (x ∷ xs) u p once = kept (is_page u p x) (is_stored-without xs u 
         none : (z : Bool) → (z && false) ≡ false
         none true = refl
         none false = refl
+
+-- nothing is taken out where nothing is there
+without_absent : (xs : List (ℕ × ℕ)) (u p : ℕ) → is_stored xs u p ≡ false → without_stored xs u p ≡ xs
+unfolding without_stored
+without_absent [] u p h = refl
+without_absent (x ∷ xs) u p h =
+    let here : is_page u p x ≡ false = grind (arith, nat_tests) in
+    let rest : is_stored xs u p ≡ false = grind (arith, nat_tests) in
+    rw here (ap (λ (t : List (ℕ × ℕ)). x ∷ t) (without_absent xs u p rest))
+
+pub once_kept : (xs : List (ℕ × ℕ)) (u p : ℕ) → IsOnce xs → IsOnce (without_stored xs u p)
+once_kept xs u p once = once_without xs u p once
+
+pub length-without : (xs : List (ℕ × ℕ)) (u p : ℕ) → IsOnce xs → is_stored xs u p ≡ true → length (without_stored xs u p) + 1 ≡ length xs
+unfolding without_stored
+length-without [] u p once h = absurd cc
+length-without (x ∷ xs) u p once h = found (is_page u p x) refl (λ rest. length-without xs u p once.1 rest)
+  where
+    found : (z : Bool) → is_page u p x ≡ z → (is_stored xs u p ≡ true → length (filter (λ y. not (is_page u p y)) xs) + 1 ≡ length xs) → length (cond (not z) (x ∷ filter (λ y. not (is_page u p y)) xs) (filter (λ y. not (is_page u p y)) xs)) + 1 ≡ length (x ∷ xs)
+    found true e ih =
+        let first : x.0 ≡ u = grind (arith, nat_tests) in
+        let second : x.1 ≡ p = grind (arith, nat_tests) in
+        let gone : is_stored xs u p ≡ false = sym (ap (λ a. is_stored xs a x.1) first ∙ ap (λ b. is_stored xs u b) second) ∙ once.0 in
+        rw (without_absent xs u p gone) (omega arith)
+    found false e ih =
+        let rest : is_stored xs u p ≡ true = grind (arith, nat_tests) in
+        let less : length (filter (λ y. not (is_page u p y)) xs) + 1 ≡ length xs = ih rest in omega arith

@@ -1,7 +1,7 @@
 -- The flat store: the tree, the words, the stored pages, what numbers stand for, and how far each
 -- process has come. It restates the view that a user has of segments in Bensoussan, Clingen and Daley
 -- 1972: words under a segment number and an offset, and pages that cost nothing while they are zeros.
-use Rattle.std.specs.Prelude.{ℕ, zero, suc, ◌+◌, ◌*◌, ◌/◌, Bool, true, false, ◌&&◌, ◌==◌, nat_le, if◌then◌else◌, unwrap_or, replicate, map, slice_set, List, [], ◌∷◌, length, Option, Some, None, codes}
+use Rattle.std.specs.Prelude.{ℕ, zero, suc, ◌+◌, ◌*◌, ◌/◌, Bool, true, false, ◌&&◌, ◌==◌, nat_le, if◌then◌else◌, unwrap_or, replicate, slice_set, List, [], ◌∷◌, length, Option, Some, None, codes}
 use Rattle.std.specs.Option.{option_and_then}
 use Rattle.mnames.specs.declared.modes.Mode.TheVariants as mode
 use Rattle.script.specs.Plans.{Plan, who_of}

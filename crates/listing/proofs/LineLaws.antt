@@ -1,5 +1,5 @@
 -- Laws of the lines of a listing.
-use Rattle.std.proofs.Common.{◌≡◌, ℕ, ◌+◌, ◌<◌, ◌≤◌, Bool, true, false, cond, eqb, List, [], ◌∷◌, ◌++◌, length, take, get_or, refl, sym, ap, subst, ◌∙◌, arith, append_assoc, filter}
+use Rattle.std.proofs.Common.{◌≡◌, ℕ, ◌+◌, ◌<◌, ◌≤◌, Bool, true, false, cond, eqb, List, [], ◌∷◌, ◌++◌, length, take, get_or, refl, sym, ap, subst, ◌∙◌, arith, filter}
 use Rattle.std.specs.List.{flat_map}
 use Rattle.std.proofs.lemmas.Bool.Decides.{nat_tests}
 use Rattle.std.proofs.lemmas.Grind.{common_steps}
@@ -21,7 +21,7 @@ own_lines p k (entry.Do process place cpu frame r ∷ es) = chosen (eqb process 
     chosen true h ih =
         let same : process ≡ k = grind (arith, nat_tests) in
         ap (λ (x : ℕ). answer_line p (command_at p x place) r ++ flat_map (own_line p k) es) (sym same)
-            ∙ ap (λ (t : List ℕ). answer_line p (command_at p process place) r ++ t) ih
+        ∙ ap (λ (t : List ℕ). answer_line p (command_at p process place) r ++ t) ih
     chosen false h ih = ih
 
 -- the text before, and the lines of the entries so far
@@ -39,9 +39,9 @@ pub lines_more : (before : List ℕ) (p : Plan) (es : List Entry) (i : ℕ) (e :
 lines_more before p es i e now new lt at h add =
     let more : take (i + 1) es ≡ take i es ++ e ∷ [] = take_more es i e lt ∙ ap (λ (x : Entry). take i es ++ x ∷ []) (sym at) in
     add
-        ∙ ap (λ (t : List ℕ). t ++ own_line p 0 e) h
-        ∙ flat_map_more (own_line p 0) before (take i es) e
-        ∙ ap (λ (t : List Entry). before ++ flat_map (own_line p 0) t) (sym more)
+    ∙ ap (λ (t : List ℕ). t ++ own_line p 0 e) h
+    ∙ flat_map_more (own_line p 0) before (take i es) e
+    ∙ ap (λ (t : List Entry). before ++ flat_map (own_line p 0) t) (sym more)
 
 pub lines_end : (before : List ℕ) (p : Plan) (es : List Entry) (i : ℕ) (now : List ℕ) → length es ≤ i → HasLines before p (take i es) now → now ≡ before ++ flat_map (entry_line p) (part 0 es)
 lines_end before p es i now le h =
@@ -61,9 +61,9 @@ listing_whole p q es stored none a b c w same form summary empty who first secon
     whole : IsFirstForm p → w ≡ who_of p 0 → c ≡ b ++ first_summary p stored → c ≡ listing_of p es
     whole f v t =
         t
-            ∙ ap (λ (x : List ℕ). x ++ first_summary p stored)
-            (second
-            ∙ ap (λ (x : List ℕ). x ++ flat_map (entry_line p) (part 0 es))
-            (first ∙ ap (λ (x : List ℕ). x ++ process_line 0 w) empty ∙ ap (process_line 0) v)
-            ∙ sym (one_process p es p.processes f.processes))
-            ∙ ap (λ (x : List ℕ). processes_lines p es 0 p.processes ++ x) (sym summary)
+        ∙ ap (λ (x : List ℕ). x ++ first_summary p stored)
+        (second
+        ∙ ap (λ (x : List ℕ). x ++ flat_map (entry_line p) (part 0 es))
+        (first ∙ ap (λ (x : List ℕ). x ++ process_line 0 w) empty ∙ ap (process_line 0) v)
+        ∙ sym (one_process p es p.processes f.processes))
+        ∙ ap (λ (x : List ℕ). processes_lines p es 0 p.processes ++ x) (sym summary)

@@ -45,7 +45,8 @@ fn push_entries(out: &mut String, book: &Book) -> Result<(), AllocError>
     Ok(())
 }
 
-/// Appends the line of the root's account and that of the volume, of which so many pages are stored.
+/// Appends the lines of the root's account and of the volume, on which so many pages are stored and
+/// which has the VTOC entries of the root and the segment.
 #[tactic(auto, unfolding(crate::specs::Listings::account_text, crate::specs::Listings::volume_text))]
 fn push_summary(out: &mut String, script: &Script, stored: u32) -> Result<(), AllocError>
     ensures { OnOk result (string_bytes out.new ≡ string_bytes out.old ++ first_summary script.now stored) }
@@ -67,7 +68,8 @@ fn push_summary(out: &mut String, script: &Script, stored: u32) -> Result<(), Al
     }
 }
 
-/// The listing of the book of a finished run, in which so many pages are stored.
+/// The listing of the book of a run, at whose end so many pages are stored: what each process was
+/// answered, then the root's account and the volume (own). It takes memory for the text alone.
 pub fn listing_text(alloc: Global, book: &Book, stored: u32) -> Result<Vec<u8>, NoMemory>
     requires { summary_of book.now.script (store_after book.now.script book.now.entries) ≡ first_summary book.now.script stored }
     ensures { IfOk result (λ text. text.items ≡ listing_of book.now.script book.now.entries) }
@@ -78,7 +80,7 @@ pub fn listing_text(alloc: Global, book: &Book, stored: u32) -> Result<Vec<u8>, 
     }
 }
 
-/// The same as a string.
+/// The listing as a string.
 #[tactic(auto, using(crate::proofs::LineLaws::listing_whole, std::proofs::lemmas::Grind::common_steps))]
 fn listing_string(alloc: Global, book: &Book, stored: u32) -> Result<String, AllocError>
     requires { summary_of book.now.script (store_after book.now.script book.now.entries) ≡ first_summary book.now.script stored }

@@ -2,8 +2,12 @@
 /// read, to write, or both.
 #[derive(Clone, Copy, Debug, PartialEq, Eq)]
 pub enum Mode {
+    /// Neither.
     Null,
+    /// To read words alone.
     Read,
+    /// To write words alone.
     Write,
+    /// To read and to write words.
     Both,
 }

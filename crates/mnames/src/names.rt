@@ -9,8 +9,8 @@ use arrayvec::ArrayString;
 use std::fmt;
 use std::marker::Model;
 
-/// An entry name of the directory tree: 1 to 32 ASCII letters, digits, `_`, `.` and `-`, where case
-/// counts. A contract sees its bytes.
+/// An entry name of the directory tree: 1 to 32 characters (Bensoussan, Clingen and Daley 1972), which
+/// are ASCII letters, digits, `_`, `.` and `-` (own). Case counts. A contract sees the bytes.
 #[derive(Drop)]
 pub struct Name {
     text: ArrayString<NAME_BYTES>,
@@ -27,21 +27,21 @@ impl Model for Name {
     ghost invariant = { λ n. IsName n.text.bytes };
 }
 
-/// Whether a byte may stand in a name.
+/// Whether a byte may stand in an entry name.
 fn may_stand(byte: u8) -> bool
     ensures { result ≡ is_name_byte byte }
 {
     byte.is_ascii_alphanumeric() || byte == b'_' || byte == b'.' || byte == b'-'
 }
 
-/// Whether each byte may.
+/// Whether each byte of the text may.
 fn all_may_stand(text: &[u8]) -> bool
     ensures { result ≡ list_all is_name_byte text.now }
 {
     text.iter().all(|byte| may_stand(*byte))
 }
 
-/// Whether the text is a name.
+/// Whether the text is an entry name.
 #[tactic(auto, using(crate::proofs::ShortTexts::name_tested, crate::proofs::ShortTexts::name_wrong_length, std::proofs::lemmas::Grind::common_steps))]
 fn is_name(text: &[u8]) -> bool
     ensures { result ≡ is_name text.now }
@@ -52,7 +52,7 @@ fn is_name(text: &[u8]) -> bool
     }
 }
 
-/// The name that the text is. None exactly where it isn't one.
+/// The entry name that the text is. `None` exactly where it isn't one.
 #[tactic(auto, using(crate::proofs::ShortTexts::name_is_ascii, crate::proofs::ShortTexts::name_is_short, std::proofs::lemmas::Grind::common_steps))]
 pub fn read_name(text: &[u8]) -> Option<Name>
     ensures { result ≡ (if is_name text.now then Some text.now else None) }
@@ -89,7 +89,7 @@ impl Eq for Name {
     ghost laws = { nat_list_eq_equiv };
 }
 
-/// The name that the root bears, `root`.
+/// The name that the root of the tree bears, `root` (own).
 impl Default for Name {
     ghost is_default = { λ n. n ≡ codes "root" };
 

@@ -9,8 +9,8 @@ use std::marker::Model;
 /// The most names of a path: eight directories and a segment (own).
 pub const PATH_NAMES: usize = 9;
 
-/// A path from the root of the directory tree down: 0 to 9 entry names, none for the root itself. A
-/// contract sees the list of its names.
+/// A pathname, from the root of the directory tree down (Bensoussan, Clingen and Daley 1972): 0 to 9
+/// entry names, none for the root itself. A contract sees the list of its names.
 #[derive(Drop)]
 pub struct Path {
     names: ArrayVec<Name, PATH_NAMES>,
@@ -25,7 +25,7 @@ impl Model for Path {
 }
 
 impl Path {
-    /// The path of a branch of the root.
+    /// The path of a branch of the root: that one name.
     pub fn below_root(name: Name) -> Path
         ensures { result ≡ name ∷ [] }
     {

@@ -9,8 +9,8 @@ use arrayvec::ArrayString;
 use std::fmt;
 use std::marker::Model;
 
-/// The principal for whom a process runs: 1 to 32 ASCII letters, digits and `_`, where case counts
-/// (own). A contract sees its bytes.
+/// The principal for whom a process runs (Organick 1972): 1 to 32 ASCII letters, digits and `_` (own).
+/// Case counts. A contract sees the bytes.
 #[derive(Drop)]
 pub struct Who {
     text: ArrayString<NAME_BYTES>,
@@ -34,7 +34,7 @@ fn may_stand(byte: u8) -> bool
     byte.is_ascii_alphanumeric() || byte == b'_'
 }
 
-/// Whether each byte may.
+/// Whether each byte of the text may.
 fn all_may_stand(text: &[u8]) -> bool
     ensures { result ≡ list_all is_who_byte text.now }
 {
@@ -52,7 +52,7 @@ fn is_who(text: &[u8]) -> bool
     }
 }
 
-/// The principal that the text is. None exactly where it isn't one.
+/// The principal that the text is. `None` exactly where it isn't one.
 #[tactic(auto, using(crate::proofs::ShortTexts::who_is_ascii, crate::proofs::ShortTexts::who_is_short, std::proofs::lemmas::Grind::common_steps))]
 pub fn read_who(text: &[u8]) -> Option<Who>
     ensures { result ≡ (if is_who text.now then Some text.now else None) }

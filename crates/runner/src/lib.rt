@@ -1,13 +1,12 @@
-// A library with one function.
+//! The run of a script: the private machine that answers its commands, and the top call of the
+//! program, from the bytes of a script to the bytes of its listing.
 #![tactic(auto)]
 
-ghost use Rattle.std.specs.Prelude.{◌≡◌};
-ghost use Rattle.runner.specs.Echo.{echo_of};
+mod machine;
+mod pages;
+mod steps;
+#[cfg(test)]
+mod tests;
+mod top;
 
-// The `ensures` clause is the contract: what `echo` returns is `echo_of` of its argument, a definition
-// in `specs/Echo.antt`, which a caller's clause can cite too.
-pub fn echo(x: usize) -> usize
-    ensures { result ≡ echo_of x }
-{
-    x
-}
+pub use top::{Finished, SCRIPT_BYTES, Status, Words, multics};

@@ -1,9 +1,9 @@
 -- Laws of lines, fields and numbers.
-use Rattle.std.proofs.Common.{◌≡◌, ◌≢◌, ℕ, suc, zero, ◌+◌, ◌-◌, ◌*◌, ◌^◌, ◌<◌, ◌≤◌, Bool, true, false, not, ◌&&◌, ◌==◌, cond, eqb, leb, List, [], ◌∷◌, ◌++◌, length, Option, Some, None, refl, sym, ap, subst, ◌∙◌, arith, get_or, take, drop, drop-cons, add-one, inl, inr, append_assoc}
+use Rattle.std.proofs.Common.{◌≡◌, ◌≢◌, ℕ, suc, zero, ◌+◌, ◌-◌, ◌<◌, ◌≤◌, Bool, true, false, not, ◌&&◌, eqb, List, [], ◌∷◌, ◌++◌, length, Option, Some, None, refl, sym, ap, ◌∙◌, arith, get_or, take, drop, drop-cons, add-one, append_assoc}
 use Rattle.std.proofs.lemmas.Bool.Decides.{nat_tests}
 use Rattle.std.proofs.lemmas.Grind.{common_steps}
 use Rattle.std.proofs.lemmas.List.{take_more}
-use Rattle.script.specs.Fields.{line_at, onto_line, is_tight, is_tight_after, fields_of, onto_field, decimal_value, decimal_value_from}
+use Rattle.script.specs.Fields.{line_at, onto_line, is_tight_after, fields_of, onto_field}
 
 pub drop_at : (xs : List ℕ) (i : ℕ) → i < length xs → drop i xs ≡ get_or xs i 0 ∷ drop (i + 1) xs
 drop_at xs i h = rw (add-one, drop-cons xs i 0) refl
@@ -49,23 +49,23 @@ line_none_yet bs = kept (line_at bs)
 pub line_next : (bs : List ℕ) (i : ℕ) → i < length bs → get_or bs i 0 ≢ 10 → line_at bs ≡ with_start (take i bs) (line_at (drop i bs)) → line_at bs ≡ with_start (take (i + 1) bs) (line_at (drop (i + 1) bs))
 line_next bs i lt ne h =
     h
-        ∙ ap (λ (t : List ℕ). with_start (take i bs) (line_at t)) (drop_at bs i lt)
-        ∙ ap (λ (t : Option (List ℕ × List ℕ)). with_start (take i bs) t) (line_byte (drop (i + 1) bs) (get_or bs i 0) ne)
-        ∙ start_more (take i bs) (get_or bs i 0) (line_at (drop (i + 1) bs))
-        ∙ ap (λ (t : List ℕ). with_start t (line_at (drop (i + 1) bs))) (sym (take_more bs i 0 lt))
+    ∙ ap (λ (t : List ℕ). with_start (take i bs) (line_at t)) (drop_at bs i lt)
+    ∙ ap (λ (t : Option (List ℕ × List ℕ)). with_start (take i bs) t) (line_byte (drop (i + 1) bs) (get_or bs i 0) ne)
+    ∙ start_more (take i bs) (get_or bs i 0) (line_at (drop (i + 1) bs))
+    ∙ ap (λ (t : List ℕ). with_start t (line_at (drop (i + 1) bs))) (sym (take_more bs i 0 lt))
 
 pub line_found : (bs : List ℕ) (i : ℕ) → i < length bs → get_or bs i 0 ≡ 10 → line_at bs ≡ with_start (take i bs) (line_at (drop i bs)) → line_at bs ≡ Some (take i bs, take (length bs - (i + 1)) (drop (i + 1) bs))
 line_found bs i lt e h =
     h
-        ∙ ap (λ (t : List ℕ). with_start (take i bs) (line_at t)) (drop_at bs i lt)
-        ∙ ap (λ (t : Option (List ℕ × List ℕ)). with_start (take i bs) t) (line_feed (drop (i + 1) bs) (get_or bs i 0) e)
-        ∙ rw (nil_after (take i bs), all_left bs (i + 1)) refl
+    ∙ ap (λ (t : List ℕ). with_start (take i bs) (line_at t)) (drop_at bs i lt)
+    ∙ ap (λ (t : Option (List ℕ × List ℕ)). with_start (take i bs) t) (line_feed (drop (i + 1) bs) (get_or bs i 0) e)
+    ∙ rw (nil_after (take i bs), all_left bs (i + 1)) refl
 
 pub line_missing : (bs : List ℕ) (i : ℕ) → length bs ≤ i → line_at bs ≡ with_start (take i bs) (line_at (drop i bs)) → line_at bs ≡ None
 line_missing bs i le h =
     h
-        ∙ ap (λ (t : List ℕ). with_start (take i bs) (line_at t)) (none_left bs i le)
-        ∙ ap (λ (t : Option (List ℕ × List ℕ)). with_start (take i bs) t) line_nil
+    ∙ ap (λ (t : List ℕ). with_start (take i bs) (line_at t)) (none_left bs i le)
+    ∙ ap (λ (t : Option (List ℕ × List ℕ)). with_start (take i bs) t) line_nil
 
 -- one byte of a tight line
 tight_space : (gap : Bool) (b : ℕ) (bs : List ℕ) → b ≡ 32 → is_tight_after gap (b ∷ bs) ≡ (not gap && is_tight_after true bs)
@@ -143,8 +143,8 @@ split_at (b ∷ c ∷ cs) zero clear stop =
 split_at (b ∷ []) (suc i) clear stop = absurd (omega (arith, stop.1))
 split_at (b ∷ c ∷ cs) (suc i) clear stop =
     fields_byte b (c ∷ cs) (clear 0 (omega arith))
-        ∙ ap (onto_field b (c ∷ cs)) (split_at (c ∷ cs) i (λ k h. clear (suc k) (omega arith)) (λ h. stop.0 (omega arith), omega (arith, stop.1)))
-        ∙ onto_byte b c cs (take (suc i) (c ∷ cs)) (fields_of (drop (suc i) (c ∷ cs))) (clear 1 (omega arith))
+    ∙ ap (onto_field b (c ∷ cs)) (split_at (c ∷ cs) i (λ k h. clear (suc k) (omega arith)) (λ h. stop.0 (omega arith), omega (arith, stop.1)))
+    ∙ onto_byte b c cs (take (suc i) (c ∷ cs)) (fields_of (drop (suc i) (c ∷ cs))) (clear 1 (omega arith))
 
 pub field_split : (bs : List ℕ) (i : ℕ) → 0 < i → NoSpaceBefore i bs → i < length bs → get_or bs i 0 ≡ 32 → fields_of bs ≡ take i bs ∷ fields_of (take (length bs - i) (drop i bs))
 field_split bs zero pos clear lt e = absurd (omega arith)
@@ -157,6 +157,7 @@ field_last (b ∷ bs) pos clear =
   where
     whole : take (suc (length bs)) (b ∷ bs) ≡ b ∷ bs
     whole = grind (arith, common_steps)
+
     rest : drop (suc (length bs)) (b ∷ bs) ≡ []
     rest = grind (arith, common_steps)
 

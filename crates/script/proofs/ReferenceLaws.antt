@@ -1,5 +1,5 @@
 -- Laws of the lines of references.
-use Rattle.std.proofs.Common.{◌≡◌, ◌≢◌, ℕ, suc, zero, ◌+◌, ◌-◌, ◌<◌, ◌≤◌, Bool, true, false, cond, eqb, List, [], ◌∷◌, ◌++◌, length, Option, Some, None, refl, sym, ap, subst, ◌∙◌, arith, append_assoc}
+use Rattle.std.proofs.Common.{◌≡◌, ℕ, ◌+◌, ◌-◌, ◌<◌, Bool, true, false, cond, eqb, List, [], ◌∷◌, ◌++◌, length, Option, Some, None, refl, sym, ap, subst, ◌∙◌, arith, append_assoc}
 use Rattle.std.specs.Prelude.{codes}
 use Rattle.std.specs.Str.{bytes_eq}
 use Rattle.std.proofs.lemmas.Bool.Decides.{nat_tests}
@@ -67,6 +67,7 @@ some_lines (b ∷ bs) h = rw (lines_first b bs) (seen (line_at (b ∷ bs)))
     kept : (line : List ℕ) (x : Option (List (List ℕ))) → (before_lines line x >>= last_command) ≡ None
     kept line None = refl
     kept line (Some x) = refl
+
     seen : (l : Option (List ℕ × List ℕ)) → (with_first l >>= last_command) ≡ None
     seen None = refl
     seen (Some l) = kept l.0 (lines_of l.1)
@@ -104,8 +105,8 @@ references_step : (now : List Command) (left : ℕ) (rest : List ℕ) (start : L
 unfolding references_in
 references_step now left rest start room bytes line after c h pos l e r =
     sym (front_more now c (lines_of after >>= references_of (left - 1)))
-        ∙ ap (with_front now) (sym (ap (λ (x : Option (List (List ℕ))). x >>= references_of left) (one_line rest line after l) ∙ with_reference left line (lines_of after) c pos e r))
-        ∙ h
+    ∙ ap (with_front now) (sym (ap (λ (x : Option (List (List ℕ))). x >>= references_of left) (one_line rest line after l) ∙ with_reference left line (lines_of after) c pos e r))
+    ∙ h
 
 pub references_next : (now new : List Command) (i : ℕ) (rest : List ℕ) (start : List Command) (room : ℕ) (bytes line after : List ℕ) (c : Command) → Reads now (room - i) rest start room bytes → i < room → line_at rest ≡ Some (line, after) → bytes_eq line (codes "end") ≡ false → reference_of line ≡ Some c → Some (now ++ c ∷ []) ≡ Some new → Reads new (room - (i + 1)) after start room bytes
 references_next now new i rest start room bytes line after c h lt l e r pushed =
@@ -138,7 +139,7 @@ pub references_more : (now : List Command) (left : ℕ) (rest : List ℕ) (start
 unfolding references_in
 references_more now left rest start room bytes line after h pos l e z =
     sym h
-        ∙ ap (with_front now) (ap (λ (x : Option (List (List ℕ))). x >>= references_of left) (one_line rest line after l) ∙ with_end left line (lines_of after) pos e ∙ some_lines after z)
+    ∙ ap (with_front now) (ap (λ (x : Option (List (List ℕ))). x >>= references_of left) (one_line rest line after l) ∙ with_end left line (lines_of after) pos e ∙ some_lines after z)
 
 pub commands_after : (a b : Command) (x : Option (List Command)) → with_front (a ∷ b ∷ []) x ≡ (x >>= λ cs. Some (a ∷ b ∷ cs))
 commands_after a b None = refl

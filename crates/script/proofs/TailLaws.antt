@@ -1,7 +1,7 @@
 -- Laws of the references of a process.
-use Rattle.std.proofs.Common.{◌≡◌, ℕ, suc, zero, ◌+◌, ◌≤◌, List, [], ◌∷◌, ◌++◌, length, drop, Option, Some, None, refl, sym, ap, subst, ◌∙◌, arith}
+use Rattle.std.proofs.Common.{◌≡◌, ℕ, ◌+◌, ◌≤◌, List, [], ◌∷◌, ◌++◌, length, drop, Option, Some, None, refl, sym, ap, subst, ◌∙◌, arith}
 use Rattle.std.proofs.lemmas.Grind.{common_steps}
-use Rattle.script.specs.Forms.{IsReference, IsTail, IsTailAfter, IsRun, pages_of, path_of}
+use Rattle.script.specs.Forms.{IsReference, IsTail, IsTailAfter, IsRun, pages_of}
 use Rattle.script.specs.Grammar.{with_front}
 use Rattle.script.specs.declared.commands.Command.{Command}
 use Rattle.script.specs.declared.commands.Command.TheVariants as command

@@ -1,10 +1,10 @@
 -- The script of some bytes, as a function of whole lines and fields (own).
-use Rattle.std.specs.Prelude.{◌≡◌, ℕ, zero, suc, ◌+◌, ◌-◌, ◌≤◌, Bool, ◌&&◌, ◌==◌, nat_le, if◌then◌else◌, List, [], ◌∷◌, ◌++◌, length, Option, Some, None, Result, Ok, Err, codes}
+use Rattle.std.specs.Prelude.{◌≡◌, ℕ, ◌+◌, ◌-◌, Bool, ◌&&◌, ◌==◌, nat_le, if◌then◌else◌, List, [], ◌∷◌, ◌++◌, Option, Some, None, Result, Ok, Err, codes}
 use Rattle.std.specs.Str.{bytes_eq}
 use Rattle.mnames.specs.Names.{is_name, is_who}
 use Rattle.mword.specs.Octal.{octal_value}
 use Rattle.script.specs.Fields.{line_at, lines_of, fields_of, is_tight, decimal_value}
-use Rattle.script.specs.Plans.{Plan, ProcessPlan}
+use Rattle.script.specs.Plans.{Plan}
 use Rattle.script.specs.declared.commands.Command.{Command}
 use Rattle.script.specs.declared.commands.Command.TheVariants as command
 use Rattle.script.specs.declared.heads.MachineLine.{MachineLine}
@@ -13,7 +13,6 @@ use Rattle.script.specs.declared.reader.ScriptFault.{ScriptFault}
 use Rattle.script.specs.declared.reader.ScriptFault.TheVariants as fault
 
 infixl 10 ◌>>=◌
-
 -- the rest of a reading, where its start could be read
 abbrev pub ◌>>=◌ : {A B : Type 0} → Option A → (A → Option B) → Option B
 None >>= f = None

@@ -8,8 +8,8 @@ use crate::plan::VolumeLine;
 use crate::reader::ScriptFault;
 use mnames::{Name, Who, read_name, read_who};
 
-/// What the first line of a script says: processors, frames of core, and places in the four pools of the active
-/// segment table, by the pages of their page tables: 4, 16, 64 and 256.
+/// What the first line of a script says: processors, frames of core of a page each, and places in the
+/// four pools of the active segment table, whose page tables have 4, 16, 64 and 256 pages (own).
 #[derive(Clone, Copy, Debug)]
 pub struct MachineLine {
     pub processors: u32,
@@ -17,7 +17,7 @@ pub struct MachineLine {
     pub pools: [u32; 4],
 }
 
-/// `machine 1 F N4 N16 N64 N256`.
+/// `machine 1 F N4 N16 N64 N256`: the pools together have at most 1024 places.
 #[tactic(auto, unfolding(crate::specs::Grammar::machine_line))]
 pub(crate) fn machine_line(line: &[u8]) -> Result<MachineLine, ScriptFault>
     ensures { Gives (λ m. m) result (machine_line (fields_of line.now)) }
@@ -53,7 +53,7 @@ pub(crate) fn quota_line(line: &[u8]) -> Result<u32, ScriptFault>
     at_end(rest, quota)
 }
 
-/// A name that must be one.
+/// The entry name that a text must be.
 pub(crate) fn name_of(text: &[u8]) -> Result<Name, ScriptFault>
     ensures { Gives (λ n. n) result (only_if (is_name text.now) text.now) }
 {
@@ -80,7 +80,7 @@ pub(crate) fn volume_line(line: &[u8]) -> Result<VolumeLine, ScriptFault>
     )
 }
 
-/// A principal that must be one.
+/// The principal that a text must be.
 fn who_of(text: &[u8]) -> Result<Who, ScriptFault>
     ensures { Gives (λ w. w) result (only_if (is_who text.now) text.now) }
 {
@@ -98,9 +98,12 @@ pub(crate) fn process_line(line: &[u8]) -> Result<Who, ScriptFault>
     at_end(rest, who)
 }
 
-/// `mkseg >NAME PAGES VOLUME`, with the script's volume: the name and the pages.
+/// `mkseg >NAME PAGES VOLUME`, where the volume is the one given: the name and the pages.
 #[tactic(auto, unfolding(crate::specs::Grammar::segment_line))]
-pub(crate) fn segment_line<'a>(line: &'a [u8], volume: &[u8]) -> Result<(&'a [u8], u32), ScriptFault>
+pub(crate) fn segment_line<'a>(
+    line: &'a [u8],
+    volume: &[u8],
+) -> Result<(&'a [u8], u32), ScriptFault>
     ensures segment { Gives (λ s. (s.0.now, s.1)) result (segment_line volume.now (fields_of line.now)) }
     ensures low { IfOk result (λ s. 1 ≤ s.1) }
     ensures high { IfOk result (λ s. s.1 ≤ 256) }

@@ -5,17 +5,20 @@ use crate::heads::MachineLine;
 use mnames::{Name, Who};
 use std::marker::Model;
 
-/// A volume of the machine: its name, its size in records of a page each, and how many entries its
-/// VTOC (volume table of contents) has.
+/// A volume of the machine, which keeps segments on a disk (Bensoussan, Clingen and Daley 1972; the
+/// names are those of the later Multics storage system).
 #[derive(Drop)]
 pub struct VolumeLine {
+    /// Its name.
     pub name: Name,
+    /// Its size, in records of a page each.
     pub records: u32,
+    /// How many entries its VTOC (volume table of contents) has, one for each segment or directory.
     pub entries: u32,
 }
 
-/// A script that was read. A contract sees it as its plan: the machine's numbers, the root's quota,
-/// the volumes and the processes.
+/// A script that was read. A contract sees its plan: the machine's numbers, the root's quota, the
+/// volumes and the processes.
 #[derive(Drop)]
 pub struct Script {
     pub(crate) machine: MachineLine,
@@ -62,15 +65,15 @@ impl Script {
         self.machine.processors
     }
 
-    /// How many frames of core it has.
+    /// How many frames of core the machine has, of a page each.
     pub fn frames(&self) -> u32
         ensures { result ≡ self.now.frames }
     {
         self.machine.frames
     }
 
-    /// How many places the pools of the active segment table have, by the pages of their page
-    /// tables: 4, 16, 64 and 256.
+    /// How many places the four pools of the active segment table have: those of page tables of 4, 16,
+    /// 64 and 256 pages, in this order.
     pub fn pools(&self) -> [u32; 4]
         ensures { result ≡ self.now.pools }
     {
@@ -91,16 +94,15 @@ impl Script {
         &self.volumes
     }
 
-    /// How many processes it has.
+    /// How many processes the script has.
     pub fn processes(&self) -> u32
         ensures count { result ≡ length self.now.processes }
         ensures form { IsFirstForm self.now }
     {
-        let _ = &self.processes;
-        1
+        self.processes.len() as u32
     }
 
-    /// For whom process `k` runs.
+    /// For whom process `k` runs, counted from 0.
     pub fn who(&self, k: u32) -> &Who
         requires { k < length self.now.processes }
         ensures { result.now ≡ who_of self.now k }
@@ -108,7 +110,7 @@ impl Script {
         self.processes[k as usize].who()
     }
 
-    /// The commands of process `k`, in order.
+    /// The commands of process `k`, counted from 0, in order; the last is `End`.
     pub fn commands(&self, k: u32) -> &[Command]
         requires { k < length self.now.processes }
         ensures { result.now ≡ commands_of self.now k }

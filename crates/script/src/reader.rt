@@ -4,7 +4,9 @@ ghost use Rattle.script.specs.Forms.{IsRun, pages_of};
 ghost use Rattle.script.specs.Grammar.{Gives, script_of, commands_of, has_room};
 
 use crate::commands::{Command, Process};
-use crate::heads::{name_of, initiate_line, machine_line, process_line, quota_line, segment_line, volume_line};
+use crate::heads::{
+    initiate_line, machine_line, name_of, process_line, quota_line, segment_line, volume_line,
+};
 use crate::lines::next_tight_line;
 use crate::plan::{Script, VolumeLine};
 use crate::references::{push, push_references};
@@ -14,7 +16,7 @@ use std::alloc::Global;
 /// The most commands that may follow the first two of the process: a script has at most 100,000.
 const REFERENCES: u32 = 99_998;
 
-/// Why bytes gave no script.
+/// Why bytes gave no script (own).
 #[derive(Clone, Copy, Debug, PartialEq, Eq)]
 pub enum ScriptFault {
     /// The bytes aren't of the form that runs so far.
@@ -41,7 +43,7 @@ fn has_room(quota: u32, volume: &VolumeLine, pages: u32) -> bool
     pages <= quota && pages <= volume.records && 2 <= volume.entries
 }
 
-/// The commands of the process: those that make the segment and initiate it, and its references.
+/// The commands of the process: it makes the segment, initiates it, and refers to it.
 #[tactic(auto, using(crate::proofs::ReferenceLaws::commands_after, crate::proofs::TailLaws::run_whole, std::proofs::lemmas::Grind::common_steps), unfolding(crate::specs::Grammar::commands_of))]
 fn commands_of(
     alloc: Global,
@@ -70,8 +72,9 @@ fn commands_of(
     Ok(commands)
 }
 
-/// The script that the bytes are, if they are of the form that runs so far. The bytes are read once,
-/// from left to right.
+/// The script that the bytes are. `Later` comes exactly where they aren't of the form that runs so
+/// far, unless memory runs out. Each line is gone through a few times, none is kept: the time and the
+/// memory grow with the number of bytes.
 #[tactic(auto, unfolding(crate::specs::Grammar::script_of))]
 pub fn read_script(alloc: Global, bytes: &[u8]) -> Result<Script, ScriptFault>
     ensures { Gives (λ s. s) result (script_of bytes.now) }

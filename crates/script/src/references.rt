@@ -10,7 +10,7 @@ use crate::lines::{is_tight, next_line};
 use crate::reader::ScriptFault;
 use mword::{Word, read_octal};
 
-/// What follows `read`.
+/// What follows `read` on its line: `N OFF`.
 #[tactic(auto, unfolding(crate::specs::Grammar::read_line))]
 fn read_line(line: &[u8]) -> Result<Command, ScriptFault>
     ensures line { Gives (λ c. c) result (read_line (fields_of line.now)) }
@@ -20,14 +20,14 @@ fn read_line(line: &[u8]) -> Result<Command, ScriptFault>
     at_end(rest, Command::Read { number, offset })
 }
 
-/// A word that must be one.
+/// The word that a text must be.
 fn word_of(text: &[u8]) -> Result<Word, ScriptFault>
     ensures { Gives (λ w. w) result (octal_value text.now) }
 {
     read_octal(text).ok_or(ScriptFault::Later)
 }
 
-/// What follows `write`.
+/// What follows `write` on its line: `N OFF W`.
 #[tactic(auto, unfolding(crate::specs::Grammar::write_line))]
 fn write_line(line: &[u8]) -> Result<Command, ScriptFault>
     ensures line { Gives (λ c. c) result (write_line (fields_of line.now)) }
@@ -72,9 +72,9 @@ fn reference_of(line: &[u8]) -> Result<Command, ScriptFault>
     }
 }
 
-#[tactic(auto, using(crate::proofs::ReferenceLaws::references_next, crate::proofs::ReferenceLaws::references_bad, crate::proofs::ReferenceLaws::references_end, crate::proofs::ReferenceLaws::references_more, crate::proofs::ReferenceLaws::references_cut, crate::proofs::ReferenceLaws::references_full, crate::proofs::TailLaws::tail_starts, crate::proofs::TailLaws::tail_more, crate::proofs::TailLaws::tail_ends, std::proofs::lemmas::Grind::common_steps))]
 /// Appends the references that the lines are, up to `end`, which must be the last line. At most
 /// `room` commands are appended.
+#[tactic(auto, using(crate::proofs::ReferenceLaws::references_next, crate::proofs::ReferenceLaws::references_bad, crate::proofs::ReferenceLaws::references_end, crate::proofs::ReferenceLaws::references_more, crate::proofs::ReferenceLaws::references_cut, crate::proofs::ReferenceLaws::references_full, crate::proofs::TailLaws::tail_starts, crate::proofs::TailLaws::tail_more, crate::proofs::TailLaws::tail_ends, std::proofs::lemmas::Grind::common_steps))]
 pub(crate) fn push_references(
     commands: &mut Vec<Command>,
     bytes: &[u8],

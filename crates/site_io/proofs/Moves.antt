@@ -1,5 +1,5 @@
 -- What reads and writes in a row do to a source's and a sink's bytes.
-use Rattle.std.proofs.Common.{◌≡◌, ℕ, ◌+◌, ◌≤◌, List, [], ◌++◌, length, Option, sym, ap, ◌∙◌, arith, take, drop}
+use Rattle.std.proofs.Common.{◌≡◌, ℕ, ◌+◌, ◌≤◌, List, [], ◌++◌, length, IfSome, Option, Some, None, ◌<◌, sym, ap, ◌∙◌, arith, take, drop}
 use Rattle.std.specs.Io.KnownBytes.{Appends, Consumes, Keeps}
 use Rattle.std.proofs.KnownBytes.{Appends-trans, Consumes-nil, Consumes-trans, Consumes-kept}
 use Rattle.std.proofs.Math.Seq.{take-add}
@@ -45,3 +45,9 @@ pub consumes_on : (a b c : Option (List ℕ)) (all : List ℕ) (more most : ℕ)
 unfolding ConsumesFront
 consumes_on a b c all more most before now within =
     consumes_front a c (all ++ now.0) most (Consumes-trans a b c all now.0 before now.2) (omega (arith, length-append all now.0, now.1))
+
+-- who lost more bytes than the limit had more
+pub consumes_longer : (a b : Option (List ℕ)) (bs : List ℕ) (limit : ℕ) → Consumes a b bs → length bs ≡ limit + 1 → IfSome a (λ all. limit < length all)
+consumes_longer None b bs limit h n = tt
+consumes_longer (Some xs) None bs limit h n = absurd h
+consumes_longer (Some xs) (Some ys) bs limit h n = omega (arith, ap length h, length-append bs ys)

@@ -1,5 +1,6 @@
 -- What a source and a sink over memory hold, and what a call makes of it. (own)
-use Rattle.std.specs.Prelude.{ℕ, ◌+◌, ◌-◌, ◌^◌, min, List, ◌++◌, take, drop, Result, Ok, Err}
+use Rattle.std.specs.Prelude.{ℕ, List, ◌++◌, take, drop, Result, Ok, Err}
+use Rattle.site_io.specs.Faults.{counted}
 
 -- bytes that wait to be read, at most `piece` in a call, where the calls with these numbers fail
 pub record SourceState : Type 0 where
@@ -16,10 +17,6 @@ pub record SinkState : Type 0 where
   pub fails : List ℕ
   pub calls : ℕ
   pub faults : ℕ
-
--- a counter of 64 bits after one more: it stops at its greatest number
-abbrev pub counted : ℕ → ℕ
-counted count = min (count + 1) (2 ^ 64 - 1)
 
 -- a source after a call
 abbrev pub after_read : {E : Type 0} → SourceState → Result ℕ E → SourceState

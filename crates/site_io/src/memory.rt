@@ -1,7 +1,7 @@
 ghost use Rattle.std.specs.Prelude.{◌≡◌, ℕ, ◌-◌, ◌<◌, ◌≤◌, ◌↔◌, ◌⊎◌, Some, [], length, min, IfOk, IsErr, Contains, is_some};
 ghost use Rattle.std.specs.Io.KnownBytes.{ReadConsumes, WriteAppends};
-ghost use Rattle.site_io.specs.Faults.{HasCause};
-ghost use Rattle.site_io.specs.Memory.{after_read, after_write, counted};
+ghost use Rattle.site_io.specs.Faults.{HasCause, counted};
+ghost use Rattle.site_io.specs.Memory.{after_read, after_write};
 
 use crate::NoMemory;
 use crate::stream::{Failed, Sink, Source};

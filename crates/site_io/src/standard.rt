@@ -1,33 +1,26 @@
-ghost use Rattle.std.specs.Prelude.{◌≡◌, ℕ, ◌+◌, ◌-◌, ◌<◌, ◌≤◌, ◌^◌, None, length, min, IfOk, OnOk, OnErr, is_some};
+ghost use Rattle.std.specs.Prelude.{◌≡◌, ◌<◌, ◌≤◌, None, length, IfOk, OnOk, OnErr};
 ghost use Rattle.std.specs.Io.KnownBytes.{ReadConsumes, WriteAppends};
-ghost use Rattle.site_io.specs.Faults.{HasCause};
+ghost use Rattle.site_io.specs.Faults.{HasCause, counted};
+ghost use Rattle.site_io.specs.Standard.{read_faults, reader_of, write_faults, writer_of};
 
 use crate::stream::{Failed, Sink, Source};
 use std::io::{Read, Write};
-use std::marker::Model;
 
 /// A source over a reader, as standard input: `StdSource::new(rt.stdin())`.
 ///
-/// It tells nothing of the bytes. Contracts see its count of faults, which each error raises, up
-/// to 2^64 - 1.
+/// As a source it tells nothing of the bytes. It has a count of its faults, which each error of
+/// the reader raises, up to 2^64 - 1.
 #[derive(Debug, Drop)]
 pub struct StdSource<R> {
     reader: R,
     faults: u64,
 }
 
-impl<R> Model for StdSource<R> {
-    ghost use Rattle.std.specs.Prelude.{ℕ};
-
-    ghost Value = { ℕ };
-
-    ghost view = { λ s. s.faults };
-}
-
 impl<R: Read> StdSource<R> {
     /// A source of what the reader gives. No fault is counted yet.
     pub fn new(reader: R) -> StdSource<R>
-        ensures { result ≡ 0 }
+        ensures reader { reader_of result ≡ reader }
+        ensures faults { read_faults result ≡ 0 }
     {
         StdSource { reader, faults: 0 }
     }
@@ -36,13 +29,17 @@ impl<R: Read> StdSource<R> {
 impl<R: Read> Source for StdSource<R> {
     ghost left = { λ _. None };
 
-    ghost faults = { λ count. count };
+    ghost faults = { λ source. source.faults };
 
     fn read(&mut self, buf: &mut [u8]) -> Result<usize, Failed>
         ensures bound { IfOk result (λ count. count ≤ length buf.new) }
-        ensures cause { HasCause self.old self.new result }
-        ensures ok { OnOk result (self.new ≡ self.old) }
-        ensures err { OnErr result (self.new ≡ min (self.old + 1) (2 ^ 64 - 1)) }
+        ensures cause { HasCause (read_faults self.old) (read_faults self.new) result }
+
+        // What the reader itself tells of its bytes holds of this read.
+        ensures reader { ReadConsumes (R.remaining (reader_of self.old)) (R.remaining (reader_of self.new))
+            result buf.new }
+        ensures ok { OnOk result (read_faults self.new ≡ read_faults self.old) }
+        ensures err { OnErr result (read_faults self.new ≡ counted (read_faults self.old)) }
     {
         match self.reader.read(buf) {
             Ok(count) => Ok(count),
@@ -56,26 +53,20 @@ impl<R: Read> Source for StdSource<R> {
 
 /// A sink over a writer, as standard output: `StdSink::new(rt.stdout())`.
 ///
-/// It tells nothing of the bytes. Contracts see its count of faults, which each error raises, up
-/// to 2^64 - 1, and so does a write that takes nothing of a piece that isn't empty.
+/// As a sink it tells nothing of the bytes. It has a count of its faults, which each error of the
+/// writer raises, up to 2^64 - 1, and so does a write that takes nothing of a piece that isn't
+/// empty.
 #[derive(Debug, Drop)]
 pub struct StdSink<W> {
     writer: W,
     faults: u64,
 }
 
-impl<W> Model for StdSink<W> {
-    ghost use Rattle.std.specs.Prelude.{ℕ};
-
-    ghost Value = { ℕ };
-
-    ghost view = { λ s. s.faults };
-}
-
 impl<W: Write> StdSink<W> {
     /// A sink that hands its bytes to the writer. No fault is counted yet.
     pub fn new(writer: W) -> StdSink<W>
-        ensures { result ≡ 0 }
+        ensures writer { writer_of result ≡ writer }
+        ensures faults { write_faults result ≡ 0 }
     {
         StdSink { writer, faults: 0 }
     }
@@ -84,14 +75,18 @@ impl<W: Write> StdSink<W> {
 impl<W: Write> Sink for StdSink<W> {
     ghost held = { λ _. None };
 
-    ghost faults = { λ count. count };
+    ghost faults = { λ sink. sink.faults };
 
     fn write(&mut self, piece: &[u8]) -> Result<usize, Failed>
         ensures bound { IfOk result (λ count. count ≤ length piece.now) }
         ensures some { IfOk result (λ count. 0 < length piece.now → 0 < count) }
-        ensures cause { HasCause self.old self.new result }
-        ensures ok { OnOk result (self.new ≡ self.old) }
-        ensures err { OnErr result (self.new ≡ min (self.old + 1) (2 ^ 64 - 1)) }
+        ensures cause { HasCause (write_faults self.old) (write_faults self.new) result }
+
+        // What the writer itself tells of its bytes holds of this write.
+        ensures writer { WriteAppends (W.contents (writer_of self.old)) (W.contents (writer_of self.new))
+            result piece.now }
+        ensures ok { OnOk result (write_faults self.new ≡ write_faults self.old) }
+        ensures err { OnErr result (write_faults self.new ≡ counted (write_faults self.old)) }
     {
         match self.writer.write(piece) {
             Ok(count) if 0 < count || piece.is_empty() => Ok(count),

@@ -65,13 +65,15 @@ fn read_more<S: Source>(
 ///
 /// It takes a block of 64 KiB to read into, and the bytes themselves as they come. After an error
 /// a front of the bytes that were left is gone, of at most `limit + 1` bytes.
-#[tactic(auto, using(crate::proofs::Moves::consumes_none, crate::proofs::Moves::consumes_front, crate::proofs::Moves::consumes_past, std::proofs::lemmas::Grind::common_steps))]
+#[tactic(auto, using(crate::proofs::Moves::consumes_none, crate::proofs::Moves::consumes_front, crate::proofs::Moves::consumes_past, crate::proofs::Moves::consumes_longer, std::proofs::lemmas::Grind::common_steps))]
 pub fn read_all<S: Source>(alloc: Global, source: &mut S, limit: usize) -> Result<Vec<u8>, Unread>
     ensures whole { IfOk result (λ bytes. IfSome (S.left source.old) (λ all. bytes.items ≡ all)) }
     ensures end { OnOk result (IsAtEnd (S.left source.new)) }
     ensures within { IfOk result (λ bytes. vec_len bytes ≤ limit) }
 
-    ensures too_long { result ≡ Err Unread.TooLong →
+    ensures longer { result ≡ Err Unread.TooLong →
+        IfSome (S.left source.old) (λ all. limit < length all) }
+    ensures past { result ≡ Err Unread.TooLong →
         ConsumesPast (S.left source.old) (S.left source.new) limit }
     ensures fault { result ≡ Err Unread.ReadFault → Rose (S.faults source.old) (S.faults source.new) }
     ensures front { ConsumesFront (S.left source.old) (S.left source.new) (limit + 1) }

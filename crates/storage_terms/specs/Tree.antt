@@ -1,6 +1,6 @@
 -- The directory tree, the accounts in it, and their counts from scratch (Bensoussan, Clingen and
 -- Daley 1972; Organick 1972).
-use Rattle.std.specs.Prelude.{ℕ, Bool, true, false, ◌&&◌, ◌||◌, not, ◌==◌, if◌then◌else◌, count_by, List, [], ◌∷◌, Option, Some, None}
+use Rattle.std.specs.Prelude.{ℕ, Bool, false, ◌&&◌, ◌||◌, not, ◌==◌, if◌then◌else◌, count_by, List, [], ◌∷◌, Option, Some, None}
 use Rattle.std.specs.Str.{bytes_eq}
 use Rattle.storage_terms.specs.Access.{Row}
 

@@ -1,4 +1,3 @@
-use Rattle.std.proofs.Common.{string_bytes}
 use Rattle.listing.proofs.LineLaws.{listing_whole}
 use Rattle.listing.proofs.summary.listing_string.Goals as goal
 

@@ -1,5 +1,5 @@
 use Rattle.std.proofs.Common.{arith, ap, length}
-use Rattle.listing.proofs.LineLaws.{lines_end, lines_more}
+use Rattle.listing.proofs.LineLaws.{lines_end}
 use Rattle.listing.proofs.summary.push_entries.Goals as goal
 
 pub returns : goal.returns

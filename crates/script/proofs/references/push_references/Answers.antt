@@ -1,4 +1,4 @@
-use Rattle.std.proofs.Common.{arith, OnOk, Ok, Err, Result, refl}
+use Rattle.std.proofs.Common.{arith, OnOk, Ok, Err, Result}
 use Rattle.std.proofs.lemmas.Grind.{common_steps}
 use Rattle.script.proofs.ReferenceLaws.{references_next}
 use Rattle.script.proofs.TailLaws.{tail_more, tail_ends, pushed_length}

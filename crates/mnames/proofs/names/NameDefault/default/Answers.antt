@@ -1,5 +1,5 @@
-use Rattle.mnames.specs.Names.{is_name, IsName}
-use Rattle.std.proofs.Common.{refl, subst, sym, ℕ, List, ap, ◌≡◌, true}
+use Rattle.mnames.specs.Names.{is_name}
+use Rattle.std.proofs.Common.{refl, ◌≡◌, true}
 use Rattle.std.specs.Prelude.{codes}
 use Rattle.mnames.proofs.names.NameDefault.default.Goals as goal
 

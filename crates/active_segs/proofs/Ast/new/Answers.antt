@@ -1,0 +1,10 @@
+use Rattle.std.proofs.Common.{◌≡◌, ◌∙◌, ℕ, sum, replicate, None, ap, arith}
+use Rattle.active_segs.proofs.NewLemmas.{kept_new}
+use Rattle.active_segs.proofs.Ast.new.Goals as goal
+
+pub invariant_of-result : goal.invariant_of-result
+invariant_of-result c =
+    let total : c.total-total.result ≡ sum c.args.pools = c.total-total.ensures in
+    kept_new c.args.pools c.in_ok-used.used.items c.in_ok-entries.entries.items c.in_ok-tables.tables.items c.in_ok-inferiors.inferiors.items c.in_ok-index.index
+    (omega arith) c.requires c.in_ok-used.ensures (c.in_ok-entries.ensures ∙ ap (λ (n : ℕ). replicate n None) total) c.in_ok-tables.ensures
+    (c.in_ok-inferiors.ensures.items_if_clones_equal (λ y e. e) ∙ ap (λ (n : ℕ). replicate n 0) total) c.in_ok-index.ensures.empty (c.in_ok-index.ensures.room ∙ total)

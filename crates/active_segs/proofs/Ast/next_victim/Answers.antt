@@ -1,0 +1,37 @@
+use Rattle.std.proofs.Common.{◌≡◌, List, Option, sym, ap, subst, ◌∙◌}
+use Rattle.active_segs.specs.declared.Entry.{Entry}
+use Rattle.active_segs.specs.Active.{ActiveSegs}
+use Rattle.active_segs.specs.Kept.{IsActiveAt}
+use Rattle.active_segs.specs.Victim.{StandsFor}
+use Rattle.active_segs.proofs.AstLemmas.{is_victim}
+use Rattle.active_segs.proofs.DescentLemmas.{victim_once, victim_is_leaf, victim_off, off_within}
+use Rattle.active_segs.proofs.Ast.next_victim.Goals as goal
+
+pub leaf_below-requires-clause-active : goal.leaf_below-requires-clause-active
+leaf_below-requires-clause-active c =
+    let same : c.args.self.now.entries ≡ c.deref.result.now = ap (λ (v : ActiveSegs). v.entries) (sym c.self.view_is) ∙ sym c.deref.ensures.value in
+    subst (λ (xs : List (Option Entry)). IsActiveAt xs c.found-found.result) same c.found-found.ensures.active
+
+pub returns-clause-only : goal.returns-clause-only
+returns-clause-only c place other =
+    let same : c.deref.result.now ≡ c.args.self.now.entries = c.deref.ensures.value ∙ ap (λ (v : ActiveSegs). v.entries) c.self.view_is in
+    let stands : StandsFor c.args.self.now.entries c.found-found.result c.leaf_below.result = subst (λ (xs : List (Option Entry)). StandsFor xs c.found-found.result c.leaf_below.result) same c.leaf_below.ensures in
+    victim_once c.args.self.now c.args.pool c.args.chain.now place c.leaf_below.result other (is_victim c.args.self.now c.args.pool c.args.chain.now c.found-found.result c.leaf_below.result c.found-found.ensures.first stands)
+
+pub returns-clause-leaf : goal.returns-clause-leaf
+returns-clause-leaf c =
+    let same : c.deref.result.now ≡ c.args.self.now.entries = c.deref.ensures.value ∙ ap (λ (v : ActiveSegs). v.entries) c.self.view_is in
+    let stands : StandsFor c.args.self.now.entries c.found-found.result c.leaf_below.result = subst (λ (xs : List (Option Entry)). StandsFor xs c.found-found.result c.leaf_below.result) same c.leaf_below.ensures in
+    victim_is_leaf c.args.self.now c.args.pool c.args.chain.now c.leaf_below.result (is_victim c.args.self.now c.args.pool c.args.chain.now c.found-found.result c.leaf_below.result c.found-found.ensures.first stands)
+
+pub returns-clause-off : goal.returns-clause-off
+returns-clause-off c =
+    let same : c.deref.result.now ≡ c.args.self.now.entries = c.deref.ensures.value ∙ ap (λ (v : ActiveSegs). v.entries) c.self.view_is in
+    let stands : StandsFor c.args.self.now.entries c.found-found.result c.leaf_below.result = subst (λ (xs : List (Option Entry)). StandsFor xs c.found-found.result c.leaf_below.result) same c.leaf_below.ensures in
+    victim_off c.args.self.now c.args.pool c.args.chain.now c.leaf_below.result c.requires.superiors (is_victim c.args.self.now c.args.pool c.args.chain.now c.found-found.result c.leaf_below.result c.found-found.ensures.first stands)
+
+pub returns-clause-within : goal.returns-clause-within
+returns-clause-within c =
+    let same : c.deref.result.now ≡ c.args.self.now.entries = c.deref.ensures.value ∙ ap (λ (v : ActiveSegs). v.entries) c.self.view_is in
+    let stands : StandsFor c.args.self.now.entries c.found-found.result c.leaf_below.result = subst (λ (xs : List (Option Entry)). StandsFor xs c.found-found.result c.leaf_below.result) same c.leaf_below.ensures in
+    off_within c.args.self.now.entries c.args.chain.now c.leaf_below.result (victim_off c.args.self.now c.args.pool c.args.chain.now c.leaf_below.result c.requires.superiors (is_victim c.args.self.now c.args.pool c.args.chain.now c.found-found.result c.leaf_below.result c.found-found.ensures.first stands))

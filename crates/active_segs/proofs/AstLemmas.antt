@@ -1,0 +1,183 @@
+-- What each call keeps, over plain fields.
+use Rattle.std.proofs.Common.{◌≡◌, ◌≢◌, ℕ, ◌+◌, ◌-◌, ◌<◌, ◌≤◌, Bool, true, false, List, length, Option, Some, None, IsSome, IfSome, All, is_some, refl, sym, ap, subst, ◌∙◌, arith, get_or, set, sum}
+use Rattle.std.proofs.lemmas.Bool.{both_ways}
+use Rattle.std.proofs.lemmas.List.{length-set, set-get_or}
+use Rattle.std.proofs.lemmas.List.Sums.{count_by-le-length}
+use Rattle.bitmap.specs.Bitmap.{in_use, IsLeastFree as IsFirstFree}
+use Rattle.page_table.specs.declared.Ptw.{Ptw}
+use Rattle.active_segs.specs.declared.Entry.{Entry}
+use Rattle.active_segs.specs.Active.{ActiveSegs, entry_at, superior_in, uid_at, IsActive, HasNoInferior, IsTree, IsLeastFree, IsFull}
+use Rattle.active_segs.specs.Kept.{IsKept, IsMarked, IsCounted, IsIndexed, map_of, map_set, counted_up, counted_down, place_of_superior, is_inferior_of, inferiors_of, IsActiveAt}
+use Rattle.active_segs.specs.Pairs.{Pairs, place_of, SetsPlace}
+use Rattle.active_segs.specs.Pool.{HasPools, first_of, size_of, IsInPool, IsPlaced}
+use Rattle.active_segs.proofs.CountLemmas.{IsSuperiorPlace, superior_placed, counted_activated, counted_deactivated, some_count}
+use Rattle.active_segs.specs.Victim.{off_chain, hand_of, round_pool, first_off_chain, StandsFor, IsVictim, HasOneOffChain}
+use Rattle.active_segs.proofs.DescentLemmas.{round_reaches, round_found, off_is_used, find_passes}
+use Rattle.active_segs.proofs.EntryLemmas.{tree_activated, tree_deactivated, used_within}
+use Rattle.active_segs.proofs.PlaceLemmas.{marked_set, indexed_activated, indexed_deactivated}
+
+-- ---- search
+
+pub searched_within : (xs : List (Option Entry)) (index : Pairs) (uid : ℕ) (r : Option ℕ) → IsIndexed xs index → r ≡ place_of index.pairs uid → IfSome r (λ p. p < length xs)
+searched_within xs index uid None indexed is = tt
+searched_within xs index uid (Some p) indexed is = used_within xs p uid ((indexed.places p uid).0 (sym is))
+
+-- ---- the counts may go up and down
+
+pub may_count_up : (xs : List (Option Entry)) (counts : List ℕ) (superior place : Option ℕ) → IsCounted xs counts → length counts ≡ length xs → length xs ≤ 1024 → IsSuperiorPlace xs superior place → IfSome place (λ p. (p < length counts) × (get_or counts p 0 ≤ 1024))
+may_count_up xs counts None place counted size few placed = subst (λ (o : Option ℕ). IfSome o (λ p. (p < length counts) × (get_or counts p 0 ≤ 1024))) (sym placed) tt
+may_count_up xs counts (Some s) place counted size few (r, is, active) =
+    let within : r < length xs = used_within xs r s active in
+    let count : get_or counts r 0 ≡ inferiors_of xs s = counted.counted r s active in
+    let most : inferiors_of xs s ≤ length xs = count_by-le-length (is_inferior_of s) xs in
+    let both : (r < length counts) × (get_or counts r 0 ≤ 1024) = (omega arith, omega arith) in
+    subst (λ (o : Option ℕ). IfSome o (λ p. (p < length counts) × (get_or counts p 0 ≤ 1024))) (sym is) both
+
+pub may_count_down : (xs : List (Option Entry)) (counts : List ℕ) (p : ℕ) (e : Entry) (superior place : Option ℕ) → IsCounted xs counts → length counts ≡ length xs → entry_at xs p ≡ Some e → e.superior ≡ superior → IsSuperiorPlace xs superior place → IfSome place (λ q. (q < length counts) × (0 < get_or counts q 0))
+may_count_down xs counts p e None place counted size is is_superior placed = subst (λ (o : Option ℕ). IfSome o (λ q. (q < length counts) × (0 < get_or counts q 0))) (sym placed) tt
+may_count_down xs counts p e (Some s) place counted size is is_superior (r, at, active) =
+    let within : r < length xs = used_within xs r s active in
+    let count : get_or counts r 0 ≡ inferiors_of xs s = counted.counted r s active in
+    let some : 0 < inferiors_of xs s = some_count xs s p (ap superior_in is ∙ is_superior) in
+    let both : (r < length counts) × (0 < get_or counts r 0) = (omega arith, omega arith) in
+    subst (λ (o : Option ℕ). IfSome o (λ q. (q < length counts) × (0 < get_or counts q 0))) (sym at) both
+
+-- the superior of an active segment has a place
+pub superior_of_active : (xs : List (Option Entry)) (index : Pairs) (p : ℕ) (e : Entry) → IsIndexed xs index → IsTree xs → entry_at xs p ≡ Some e → IsSuperiorPlace xs e.superior (place_of_superior index.pairs e.superior)
+superior_of_active xs index p e indexed tree is = superior_placed xs index indexed e.superior (λ s h. tree.superiors p s (ap superior_in is ∙ h))
+
+-- ---- the calls
+
+module _ (sizes hands : List ℕ) (used : List (List Bool)) (xs : List (Option Entry)) (tables : List (List Ptw)) (counts : List ℕ) (index : Pairs) (kept : IsKept sizes hands used xs tables counts index) where
+  pub kept_activated : (place uid : ℕ) (superior : Option ℕ) (pool offset : ℕ) (used' : List (List Bool)) (counts' : List ℕ) (index' : Pairs) (above : Option ℕ)
+      → place < length xs → entry_at xs place ≡ None → ((q : ℕ) → uid_at xs q ≢ Some uid) → ((s : ℕ) → superior ≡ Some s → IsActive xs s)
+      → IsPlaced sizes place pool offset → above ≡ place_of_superior index.pairs superior → used' ≡ map_set used pool offset true → counts' ≡ counted_up counts above
+      → SetsPlace index.pairs index'.pairs uid (Some place) → length index'.pairs ≡ length index.pairs + 1 → index'.room ≡ index.room
+      → IsKept sizes hands used' (set xs place (Some (record { uid = uid; superior = superior }))) tables counts' index'
+  kept_activated place uid superior pool offset used' counts' index' above lt free inactive active placed is_above is_used is_counts sets count room =
+      let e : Entry = record { uid = uid; superior = superior } in
+      let pools : HasPools sizes hands = kept.pools in
+      let entry_count : length xs ≡ sum sizes = kept.entry_count in
+      let inferior_count : length counts ≡ sum sizes = kept.inferior_count in
+      let at : IsSuperiorPlace xs superior above = subst (IsSuperiorPlace xs superior) (sym is_above) (superior_placed xs index kept.indexed superior active) in
+      record {
+        pools = pools;
+        entry_count = length-set xs place (Some e) ∙ entry_count;
+        table_count = kept.table_count;
+        inferior_count = ap length is_counts ∙ length_up counts above ∙ inferior_count;
+        marked = subst (λ (u : List (List Bool)). IsMarked sizes u (set xs place (Some e))) (sym is_used) (marked_set sizes used xs place pool offset true (Some e) pools.four entry_count kept.marked placed refl);
+        counted = subst (IsCounted (set xs place (Some e))) (sym is_counts) (counted_activated xs counts (inferior_count ∙ sym entry_count) kept.counted kept.tree place uid lt free inactive superior above at);
+        indexed = indexed_activated xs index index' place lt kept.indexed room e free inactive sets count;
+        tree = tree_activated xs place uid superior lt free inactive active kept.tree;
+      }
+    where
+      length_up : (counts : List ℕ) (above : Option ℕ) → length (counted_up counts above) ≡ length counts
+      length_up counts None = refl
+      length_up counts (Some r) = length-set counts r (get_or counts r 0 + 1)
+
+  pub kept_cleared : (place : ℕ) (table : List Ptw) → IsKept sizes hands used xs (set tables place table) counts index
+  kept_cleared place table = record {
+    pools = kept.pools;
+    entry_count = kept.entry_count;
+    table_count = length-set tables place table ∙ kept.table_count;
+    inferior_count = kept.inferior_count;
+    marked = kept.marked;
+    counted = kept.counted;
+    indexed = kept.indexed;
+    tree = kept.tree;
+  }
+
+  pub kept_deactivated : (place : ℕ) (e : Entry) (pool offset : ℕ) (used' : List (List Bool)) (counts' : List ℕ) (index' : Pairs) (above : Option ℕ) (table : List Ptw)
+      → place < length xs → entry_at xs place ≡ Some e → HasNoInferior xs place
+      → IsPlaced sizes place pool offset → above ≡ place_of_superior index.pairs e.superior → used' ≡ map_set used pool offset false → counts' ≡ counted_down counts above
+      → SetsPlace index.pairs index'.pairs e.uid None → length index'.pairs + 1 ≡ length index.pairs → index'.room ≡ index.room
+      → IsKept sizes hands used' (set xs place None) (set tables place table) counts' index'
+  kept_deactivated place e pool offset used' counts' index' above table lt is leaf placed is_above is_used is_counts sets count room =
+      let pools : HasPools sizes hands = kept.pools in
+      let entry_count : length xs ≡ sum sizes = kept.entry_count in
+      let inferior_count : length counts ≡ sum sizes = kept.inferior_count in
+      let at : IsSuperiorPlace xs e.superior above = subst (IsSuperiorPlace xs e.superior) (sym is_above) (superior_of_active xs index place e kept.indexed kept.tree is) in
+      record {
+        pools = pools;
+        entry_count = length-set xs place None ∙ entry_count;
+        table_count = length-set tables place table ∙ kept.table_count;
+        inferior_count = ap length is_counts ∙ length_down counts above ∙ inferior_count;
+        marked = subst (λ (u : List (List Bool)). IsMarked sizes u (set xs place None)) (sym is_used) (marked_set sizes used xs place pool offset false None pools.four entry_count kept.marked placed refl);
+        counted = subst (IsCounted (set xs place None)) (sym is_counts) (counted_deactivated xs counts (inferior_count ∙ sym entry_count) kept.counted kept.tree place e lt is leaf e.superior above refl at);
+        indexed = indexed_deactivated xs index index' place lt kept.indexed room e is kept.tree.once sets count;
+        tree = tree_deactivated xs place lt leaf kept.tree;
+      }
+    where
+      length_down : (counts : List ℕ) (above : Option ℕ) → length (counted_down counts above) ≡ length counts
+      length_down counts None = refl
+      length_down counts (Some r) = length-set counts r (get_or counts r 0 - 1)
+
+-- nothing changes where nothing is active
+pub none_stays : (xs : List (Option Entry)) (p : ℕ) → entry_at xs p ≡ None → xs ≡ set xs p None
+none_stays xs p free = sym (ap (set xs p) (sym free) ∙ set-get_or xs p None)
+
+-- ---- the free places of a pool
+
+pub full_since_marked : (s : ActiveSegs) (used : List (List Bool)) (pool : ℕ) → pool < 4 → IsMarked s.sizes used s.entries → All (λ flag. flag ≡ true) (map_of used pool) → IsFull s pool
+full_since_marked s used pool lt marked all q in_pool =
+    let i : ℕ = q - first_of s.sizes pool in
+    let from : first_of s.sizes pool ≤ q = in_pool.from in
+    let to : q < first_of s.sizes pool + size_of s.sizes pool = in_pool.to in
+    let within : i < size_of s.sizes pool = omega arith in
+    let long : length (map_of used pool) ≡ size_of s.sizes pool = marked.as_long pool lt in
+    let at : first_of s.sizes pool + i ≡ q = omega arith in
+    let on : in_use (map_of used pool) i ≡ true = all i false (omega arith) in
+    subst (λ (k : ℕ). is_some (entry_at s.entries k) ≡ true) at (sym (marked.flags pool i lt within) ∙ on)
+
+-- the least free flag of a pool's map is its least free place
+pub least_since_marked : (s : ActiveSegs) (used : List (List Bool)) (pool offset : ℕ) → pool < 4 → IsMarked s.sizes used s.entries → IsFirstFree (map_of used pool) offset → IsLeastFree s pool (first_of s.sizes pool + offset)
+least_since_marked s used pool offset lt marked first =
+    let long : length (map_of used pool) ≡ size_of s.sizes pool = marked.as_long pool lt in
+    let lt_offset : offset < length (map_of used pool) = first.within in
+    let within : offset < size_of s.sizes pool = omega arith in
+    let free : is_some (entry_at s.entries (first_of s.sizes pool + offset)) ≡ false = sym (marked.flags pool offset lt within) ∙ first.free in
+    record {
+      in_pool = record { from = omega arith; to = omega arith };
+      free = none_since (entry_at s.entries (first_of s.sizes pool + offset)) free;
+      least = λ q in_pool before.
+          (let i : ℕ = q - first_of s.sizes pool in
+          let from : first_of s.sizes pool ≤ q = in_pool.from in
+          let to : q < first_of s.sizes pool + size_of s.sizes pool = in_pool.to in
+          let within_i : i < size_of s.sizes pool = omega arith in
+          let before_i : i < offset = omega arith in
+          let at : first_of s.sizes pool + i ≡ q = omega arith in
+          subst (λ (k : ℕ). is_some (entry_at s.entries k) ≡ true) at (sym (marked.flags pool i lt within_i) ∙ first.before i before_i));
+    }
+  where
+    none_since : (o : Option Entry) → is_some o ≡ false → o ≡ None
+    none_since None h = refl
+    none_since (Some e) h = cc
+
+pub not_full : (s : ActiveSegs) (pool place : ℕ) → IsLeastFree s pool place → IsFull s pool → ⊥
+not_full s pool place least full = both_ways _ (ap is_some least.free) (full place least.in_pool)
+
+-- ---- the victim
+
+pub hand_inside : (sizes hands : List ℕ) (pool place : ℕ) → HasPools sizes hands → pool < 4 → IsInPool sizes pool place → get_or hands pool 0 < size_of sizes pool
+hand_inside sizes hands pool place pools lt in_pool =
+    let from : first_of sizes pool ≤ place = in_pool.from in
+    let to : place < first_of sizes pool + size_of sizes pool = in_pool.to in
+    pools.inside pool lt (omega arith)
+
+pub place_found : (s : ActiveSegs) (pool : ℕ) (chain : List ℕ) → HasPools s.sizes s.hands → pool < 4 → HasOneOffChain s pool chain → IsSome (first_off_chain s pool chain)
+place_found s pool chain pools lt some =
+    let inside : get_or s.hands pool 0 < size_of s.sizes pool = hand_inside s.sizes s.hands pool some.place pools lt some.in_pool in
+    round_reaches (λ place. off_chain chain (entry_at s.entries place)) (first_of s.sizes pool) (hand_of s pool) (first_of s.sizes pool + size_of s.sizes pool) some.place (omega arith) (omega arith) some.in_pool.from some.in_pool.to some.off
+
+pub found_in_pool : (s : ActiveSegs) (pool : ℕ) (chain : List ℕ) (found : ℕ) → HasPools s.sizes s.hands → pool < 4 → HasOneOffChain s pool chain → first_off_chain s pool chain ≡ Some found → IsInPool s.sizes pool found
+found_in_pool s pool chain found pools lt some is =
+    let inside : get_or s.hands pool 0 < size_of s.sizes pool = hand_inside s.sizes s.hands pool some.place pools lt some.in_pool in
+    let h = round_found (λ place. off_chain chain (entry_at s.entries place)) (first_of s.sizes pool) (hand_of s pool) (first_of s.sizes pool + size_of s.sizes pool) found (omega arith) (omega arith) is in
+    record { from = h.0; to = h.1 }
+
+pub found_active : (s : ActiveSegs) (pool : ℕ) (chain : List ℕ) (found : ℕ) → first_off_chain s pool chain ≡ Some found → IsActiveAt s.entries found
+found_active s pool chain found is =
+    off_is_used chain (entry_at s.entries found) (find_passes (λ place. off_chain chain (entry_at s.entries place)) (round_pool s pool) found is)
+
+pub is_victim : (s : ActiveSegs) (pool : ℕ) (chain : List ℕ) (found leaf : ℕ) → first_off_chain s pool chain ≡ Some found → StandsFor s.entries found leaf → IsVictim s pool chain leaf
+is_victim s pool chain found leaf first stands = record { found = found; first = first; leaf = stands }

@@ -1,0 +1,7 @@
+pub mod AstLemmas
+pub mod CountLemmas
+pub mod DescentLemmas
+pub mod EntryLemmas
+pub mod NewLemmas
+pub mod PairLemmas
+pub mod PlaceLemmas

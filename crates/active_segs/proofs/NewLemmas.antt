@@ -1,0 +1,79 @@
+-- A new table keeps what every table keeps.
+use Rattle.std.proofs.Common.{◌≡◌, ℕ, zero, suc, ◌+◌, ◌<◌, ◌≤◌, Bool, false, cond, List, [], ◌∷◌, length, Option, None, is_some, refl, sym, ap, ◌∙◌, arith, get_or, map, replicate, sum, count_by, inl, inr}
+use Rattle.std.proofs.lemmas.Bool.{cases_lt}
+use Rattle.std.proofs.lemmas.List.{length-replicate, length-append, length-map, get_or-replicate, get_or_past, get_or-map, take_all}
+use Rattle.std.proofs.lemmas.List.Sums.{sum_by-cons}
+use Rattle.std.proofs.lemmas.Option.{none-some}
+use Rattle.bitmap.specs.Bitmap.{in_use}
+use Rattle.page_table.specs.declared.Ptw.{Ptw}
+use Rattle.active_segs.specs.declared.Entry.{Entry}
+use Rattle.active_segs.specs.Active.{entry_at, uid_in, superior_in, uid_at, superior_at, null_tables}
+use Rattle.active_segs.specs.Kept.{IsKept, map_of}
+use Rattle.active_segs.specs.Pairs.{Pairs, place_of}
+use Rattle.active_segs.specs.Pool.{first_of, size_of}
+use Rattle.active_segs.proofs.PlaceLemmas.{first_more}
+
+-- every place of a new table is free
+vacant_at : (n q : ℕ) → entry_at (replicate n None) q ≡ None
+vacant_at n q = elim (cases_lt q n) [ inl lt ↦ get_or-replicate n q None None lt | inr past ↦ get_or_past (replicate n None) q None (let size : length (replicate n (let none : Option Entry = None in none)) ≡ n = length-replicate n None in omega arith) ]
+
+none_used : (n : ℕ) → count_by is_some (replicate n (let none : Option Entry = None in none)) ≡ 0
+none_used zero = refl
+none_used (suc n) =
+    let ih : count_by is_some (replicate n (let none : Option Entry = None in none)) ≡ 0 = none_used n in
+    let none : Option Entry = None in
+    let all : count_by is_some (none ∷ replicate n none) ≡ 0 + count_by is_some (replicate n none) = sum_by-cons (λ (x : Option Entry). cond {A = ℕ} (is_some x) 1 0) none (replicate n none) in
+    omega arith
+
+zero_at : (n q : ℕ) → get_or (replicate {A = ℕ} n 0) q 0 ≡ 0
+zero_at n q = elim (cases_lt q n) [ inl lt ↦ get_or-replicate n q 0 0 lt | inr past ↦ get_or_past (replicate {A = ℕ} n 0) q 0 (let size : length (replicate {A = ℕ} n 0) ≡ n = length-replicate n 0 in omega arith) ]
+
+four_sizes : (sizes : List ℕ) → length sizes ≡ 4 → sum sizes ≡ size_of sizes 0 + size_of sizes 1 + size_of sizes 2 + size_of sizes 3
+four_sizes sizes four =
+    let a : first_of sizes 1 ≡ first_of sizes 0 + size_of sizes 0 = first_more sizes 0 (omega arith) in
+    let b : first_of sizes 2 ≡ first_of sizes 1 + size_of sizes 1 = first_more sizes 1 (omega arith) in
+    let c : first_of sizes 3 ≡ first_of sizes 2 + size_of sizes 2 = first_more sizes 2 (omega arith) in
+    let d : first_of sizes 4 ≡ first_of sizes 3 + size_of sizes 3 = first_more sizes 3 (omega arith) in
+    let all : first_of sizes 4 ≡ sum sizes = ap sum (take_all 4 sizes (omega arith)) in
+    let none : first_of sizes 0 ≡ 0 = refl in omega arith
+
+as_many_tables : (sizes : List ℕ) → length sizes ≡ 4 → length (null_tables sizes) ≡ sum sizes
+as_many_tables sizes four = let all = four_sizes sizes four in simp (length-append, length-replicate) (omega arith)
+
+new_map : (sizes : List ℕ) (pool : ℕ) → pool < length sizes → map_of (map (λ size. replicate size false) sizes) pool ≡ replicate (size_of sizes pool) false
+new_map sizes pool lt = get_or-map (λ size. replicate size false) sizes pool 0 [] lt
+
+pub kept_new : (sizes : List ℕ) (used : List (List Bool)) (xs : List (Option Entry)) (tables : List (List Ptw)) (counts : List ℕ) (index : Pairs)
+    → length sizes ≡ 4 → sum sizes ≤ 1024 → used ≡ map (λ size. replicate size false) sizes → xs ≡ replicate (sum sizes) None → tables ≡ null_tables sizes
+    → counts ≡ replicate (sum sizes) 0 → index.pairs ≡ [] → index.room ≡ sum sizes
+    → IsKept sizes (0 ∷ 0 ∷ 0 ∷ 0 ∷ []) used xs tables counts index
+kept_new sizes used xs tables counts index four few is_used is_xs is_tables is_counts empty room =
+    let free : (q : ℕ) → entry_at xs q ≡ None = λ q. ap (λ (l : List (Option Entry)). entry_at l q) is_xs ∙ vacant_at (sum sizes) q in
+    let no_uid : (q : ℕ) → uid_at xs q ≡ None = λ q. ap uid_in (free q) in
+    let no_superior : (q : ℕ) → superior_at xs q ≡ None = λ q. ap superior_in (free q) in
+    let maps : (pool : ℕ) → pool < 4 → map_of used pool ≡ replicate (size_of sizes pool) false = λ pool lt. ap (λ (l : List (List Bool)). map_of l pool) is_used ∙ new_map sizes pool (omega arith) in
+    record {
+      pools = record { four = four; few = few; hand_count = refl; inside = λ pool lt some. (let at : get_or {A = ℕ} (0 ∷ 0 ∷ 0 ∷ 0 ∷ []) pool 0 ≡ 0 = zero_at 4 pool in omega arith) };
+      entry_count = ap length is_xs ∙ length-replicate (sum sizes) None;
+      table_count = ap length is_tables ∙ as_many_tables sizes four;
+      inferior_count = ap length is_counts ∙ length-replicate (sum sizes) 0;
+      marked = record {
+        maps = ap length is_used ∙ length-map sizes (λ size. replicate size false) ∙ four;
+        as_long = λ pool lt. ap length (maps pool lt) ∙ length-replicate (size_of sizes pool) false;
+        flags = λ pool offset lt within. ap (λ (m : List Bool). in_use m offset) (maps pool lt) ∙ get_or-replicate (size_of sizes pool) offset false false within ∙ sym (ap is_some (free (first_of sizes pool + offset)));
+      };
+      counted = record {
+        counted = λ q uid h. absurd (none-some uid (sym (no_uid q) ∙ h));
+        none = λ q h. ap (λ (l : List ℕ). get_or l q 0) is_counts ∙ zero_at (sum sizes) q;
+      };
+      indexed = record {
+        places = λ q uid. (λ h. absurd (none-some q (sym (ap (λ (l : List (ℕ × ℕ)). place_of l uid) empty) ∙ h)), λ h. absurd (none-some uid (sym (no_uid q) ∙ h)));
+        count = ap length empty ∙ sym (ap (count_by is_some) is_xs ∙ none_used (sum sizes));
+        room = room ∙ sym (ap length is_xs ∙ length-replicate (sum sizes) None);
+      };
+      tree = record {
+        once = λ p q uid h k. absurd (none-some uid (sym (no_uid p) ∙ h));
+        superiors = λ q s h. absurd (none-some s (sym (no_superior q) ∙ h));
+        grounded = ((λ u. 0), λ q u s h k. absurd (none-some u (sym (no_uid q) ∙ h)));
+      };
+    }

@@ -1,0 +1,9 @@
+use Rattle.std.proofs.Common.{◌≡◌, false, length, map, replicate, take, vec_len, vec_capacity}
+use Rattle.active_segs.proofs.pools.no_marks.Given as goal
+
+abbrev pub invariant-loop-size : goal.invariant-loop-size
+invariant-loop-size l = record {
+  made : l.used.items ≡ map (λ size. replicate size false) (take l.size-index l.sizes);
+  count : vec_len l.used ≡ l.size-index;
+  room : vec_capacity l.used ≡ length l.sizes;
+}

@@ -1,0 +1,5 @@
+use Rattle.std.proofs.Common.{◌≡◌, ◌+◌, take, sum}
+use Rattle.active_segs.proofs.pools.pool_of.Given as goal
+
+abbrev pub invariant-loop-pool : goal.invariant-loop-pool
+invariant-loop-pool l = l.fn.place ≡ sum (take l.pool l.sizes) + l.offset

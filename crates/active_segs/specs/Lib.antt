@@ -1,0 +1,6 @@
+pub mod Active
+pub mod Kept
+pub mod Lending
+pub mod Pairs
+pub mod Pool
+pub mod Victim

@@ -1,0 +1,90 @@
+//! The index of the active segments: their uids in ascending order, each with its place.
+
+ghost use Rattle.std.specs.Prelude.{◌≡◌, ◌+◌, ◌<◌, [], None, Some, IsSome, IfOk, IfErr, length};
+ghost use Rattle.active_segs.specs.Pairs.{place_of, IsAscending, IsFoundAt, BelongsAt, SetsPlace};
+
+use crate::NoMemory;
+use std::alloc::Global;
+use std::marker::Model;
+
+/// The places of the active segments by uid. It has room for a fixed number of them.
+#[derive(Debug, Drop)]
+pub(crate) struct Index {
+    pairs: Vec<(u32, u32)>,
+    room: usize,
+}
+
+impl Model for Index {
+    ghost use Rattle.std.specs.Prelude.{◌≤◌, vec_len, vec_capacity};
+    ghost use Rattle.active_segs.specs.Pairs.{Pairs, IsAscending};
+
+    ghost Value = { Pairs };
+
+    ghost view = { λ i. record { pairs = i.pairs.items; room = i.room } };
+
+    ghost invariant = { λ i. IsAscending i.pairs.items × (vec_len i.pairs ≤ i.room) × (i.room ≤ vec_capacity i.pairs) };
+}
+
+impl Index {
+    /// An empty index with room for `room` segments.
+    pub(crate) fn new(alloc: Global, room: usize) -> Result<Index, NoMemory>
+        ensures empty { IfOk result (λ index. index.pairs ≡ []) }
+        ensures room { IfOk result (λ index. index.room ≡ room) }
+    {
+        match Vec::with_capacity(alloc, room) {
+            Ok(pairs) => Ok(Index { pairs, room }),
+            Err(_) => Err(NoMemory),
+        }
+    }
+
+    /// The place of `uid`, found by halving the list.
+    pub(crate) fn find(&self, uid: u32) -> Option<u32>
+        ensures { result ≡ place_of self.now.pairs uid }
+    {
+        match search(&self.pairs, uid) {
+            Ok(at) => Some(self.pairs[at].1),
+            Err(_) => None,
+        }
+    }
+
+    /// Notes the place of `uid`. The pairs after it move up.
+    pub(crate) fn insert(&mut self, uid: u32, place: u32)
+        requires room { length self.old.pairs < self.old.room }
+        requires absent { place_of self.old.pairs uid ≡ None }
+        ensures sets { SetsPlace self.old.pairs self.new.pairs uid (Some place) }
+        ensures count { length self.new.pairs ≡ length self.old.pairs + 1 }
+        ensures room { self.new.room ≡ self.old.room }
+    {
+        match search(&self.pairs, uid) {
+            Ok(_) => unreachable!(),
+            Err(at) => match self.pairs.insert(at, (uid, place)) {
+                Ok(()) => {}
+                Err(_) => unreachable!(),
+            },
+        }
+    }
+
+    /// Forgets the place of `uid`. The pairs after it move down.
+    pub(crate) fn remove(&mut self, uid: u32)
+        requires there { IsSome (place_of self.old.pairs uid) }
+        ensures sets { SetsPlace self.old.pairs self.new.pairs uid None }
+        ensures count { length self.new.pairs + 1 ≡ length self.old.pairs }
+        ensures room { self.new.room ≡ self.old.room }
+    {
+        match search(&self.pairs, uid) {
+            Ok(at) => {
+                self.pairs.remove(at);
+            }
+            Err(_) => unreachable!(),
+        }
+    }
+}
+
+/// Where `uid` stands, or where it would.
+fn search(pairs: &[(u32, u32)], uid: u32) -> Result<usize, usize>
+    requires { IsAscending pairs.now }
+    ensures found { IfOk result (IsFoundAt pairs.now uid) }
+    ensures absent { IfErr result (BelongsAt pairs.now uid) }
+{
+    pairs.binary_search_by_key(&uid, |&(key, _)| key)
+}

@@ -1,0 +1,235 @@
+//! The associative memories of a processor: the segment descriptor words and page table words that it used lately, so
+//! that most references need no look at a table.
+//!
+//! Costs: nothing takes memory. `find_sdw` and `find_ptw`, which every reference pays, look at the at most 16 entries
+//! of one kind until one fits. A fill into a full kind moves its entries down by one. `clear` copies what stays.
+#![tactic(auto)]
+
+ghost use Rattle.std.specs.Prelude.{◌≡◌, ◌≢◌, ◌↔◌, None, All, IsNone, filter, not};
+ghost use Rattle.std.specs.List.{find};
+ghost use Rattle.std.specs.Option.{option_map};
+ghost use Rattle.assoc_mem.specs.Held.{nothing_held, is_number, is_page, seg_of, page_of, frame_of, filled, cleared, names_seg, names_page};
+
+use arrayvec::ArrayVec;
+use mnames::Mode;
+use std::marker::Model;
+
+/// A segment descriptor word that a processor holds.
+#[derive(Clone, Copy, Debug, PartialEq, Eq)]
+pub struct HeldSeg {
+    /// The segment number of the processor's process.
+    pub number: u32,
+    /// The segment.
+    pub uid: u32,
+    /// What the process may do to it.
+    pub mode: Mode,
+    /// Its length in pages.
+    pub pages: u32,
+}
+
+impl Default for HeldSeg {
+    fn default() -> Self {
+        HeldSeg {
+            number: 0,
+            uid: 0,
+            mode: Mode::Null,
+            pages: 0,
+        }
+    }
+}
+
+/// A page table word that a processor holds.
+#[derive(Clone, Copy, Debug, Default, PartialEq, Eq)]
+pub struct HeldPage {
+    /// The segment.
+    pub uid: u32,
+    /// Its page.
+    pub page: u32,
+    /// The frame of the page.
+    pub frame: u32,
+}
+
+/// What is to be dropped from associative memories.
+#[derive(Clone, Copy, Debug, PartialEq, Eq)]
+pub enum What {
+    /// Everything.
+    All,
+    /// The page table word of this frame.
+    Page(u32),
+    /// All descriptors and page table words of this segment.
+    Seg(u32),
+}
+
+/// The associative memories of one processor, of 16 places for each kind of word.
+///
+/// Contracts see what each kind holds as a list, the oldest fill first.
+#[derive(Debug, Drop)]
+pub struct Assoc {
+    segs: ArrayVec<HeldSeg, 16>,
+    pages: ArrayVec<HeldPage, 16>,
+}
+
+impl Model for Assoc {
+    ghost use Rattle.assoc_mem.specs.Held.{Held};
+
+    ghost Value = { Held };
+
+    ghost view = { λ a. record { segs = a.segs.items; pages = a.pages.items } };
+}
+
+impl Assoc {
+    /// Memories that hold nothing.
+    pub fn new() -> Assoc
+        ensures { result ≡ nothing_held }
+    {
+        Assoc {
+            segs: ArrayVec::new(),
+            pages: ArrayVec::new(),
+        }
+    }
+
+    /// What is held for segment number `number`. `None` exactly where nothing is.
+    pub fn find_sdw(&self, number: u32) -> Option<HeldSeg>
+        ensures entry { result ≡ seg_of self.now number }
+        ensures none { IsNone result ↔ All (λ entry. entry.number ≢ number) self.now.segs }
+    {
+        find_seg(&self.segs, number)
+    }
+
+    /// The frame that is held for a page. `None` exactly where nothing is held for it.
+    pub fn find_ptw(&self, uid: u32, page: u32) -> Option<u32>
+        ensures frame { result ≡ frame_of self.now uid page }
+        ensures none { IsNone result ↔ All (λ entry. (entry.uid ≡ uid → entry.page ≢ page)) self.now.pages }
+    {
+        find_page(&self.pages, uid, page)
+    }
+
+    /// Fills in a descriptor. Where 16 are held, the one that was filled in longest ago is dropped.
+    pub fn fill_sdw(&mut self, e: HeldSeg)
+        requires { seg_of self.old e.number ≡ None }
+        ensures { self.new ≡ record self.old { segs = filled self.old.segs e } }
+    {
+        if self.segs.is_full() {
+            self.segs.remove(0);
+        }
+        self.segs.push(e);
+    }
+
+    /// Fills in a page table word. Where 16 are held, the one that was filled in longest ago is dropped.
+    pub fn fill_ptw(&mut self, e: HeldPage)
+        requires { page_of self.old e.uid e.page ≡ None }
+        ensures { self.new ≡ record self.old { pages = filled self.old.pages e } }
+    {
+        if self.pages.is_full() {
+            self.pages.remove(0);
+        }
+        self.pages.push(e);
+    }
+
+    /// Drops exactly what `w` names. The rest keeps its order.
+    pub fn clear(&mut self, w: What)
+        ensures { self.new ≡ cleared self.old w }
+    {
+        self.segs = segs_left(&self.segs, w);
+        self.pages = pages_left(&self.pages, w);
+    }
+}
+
+/// What is held for a segment number.
+fn find_seg(held: &[HeldSeg], number: u32) -> Option<HeldSeg>
+    ensures { result ≡ find (is_number number) held.now }
+{
+    for entry in held {
+        if entry.number == number {
+            return Some(*entry);
+        }
+    }
+    None
+}
+
+/// The frame of a page by what is held.
+fn find_page(held: &[HeldPage], uid: u32, page: u32) -> Option<u32>
+    ensures { result ≡ option_map (λ entry. entry.frame) (find (is_page uid page) held.now) }
+{
+    for entry in held {
+        if entry.uid == uid && entry.page == page {
+            return Some(entry.frame);
+        }
+    }
+    None
+}
+
+/// Whether a descriptor is to be dropped.
+fn names_seg(what: What, entry: &HeldSeg) -> bool
+    ensures { result ≡ names_seg what entry.now }
+{
+    match what {
+        What::All => true,
+        What::Page(_) => false,
+        What::Seg(uid) => entry.uid == uid,
+    }
+}
+
+/// Whether a page table word is to be dropped.
+fn names_page(what: What, entry: &HeldPage) -> bool
+    ensures { result ≡ names_page what entry.now }
+{
+    match what {
+        What::All => true,
+        What::Page(frame) => entry.frame == frame,
+        What::Seg(uid) => entry.uid == uid,
+    }
+}
+
+/// The descriptors that stay.
+fn segs_left(held: &ArrayVec<HeldSeg, 16>, what: What) -> ArrayVec<HeldSeg, 16>
+    ensures { result.items ≡ filter (λ entry. not (names_seg what entry)) held.now.items }
+{
+    let mut left = ArrayVec::new();
+    for entry in held.iter() {
+        if !names_seg(what, entry) {
+            left.push(*entry);
+        }
+    }
+    left
+}
+
+/// The page table words that stay.
+fn pages_left(held: &ArrayVec<HeldPage, 16>, what: What) -> ArrayVec<HeldPage, 16>
+    ensures { result.items ≡ filter (λ entry. not (names_page what entry)) held.now.items }
+{
+    let mut left = ArrayVec::new();
+    for entry in held.iter() {
+        if !names_page(what, entry) {
+            left.push(*entry);
+        }
+    }
+    left
+}
+
+#[cfg(test)]
+mod tests {
+    use super::*;
+
+    #[test]
+    fn drops_what_is_named_and_the_oldest(rt: HostRuntime) {
+        let mut held = Assoc::new();
+        for page in 0..17 {
+            if held.find_ptw(3, page).is_none() {
+                let frame = 100 + page;
+                held.fill_ptw(HeldPage {
+                    uid: 3,
+                    page,
+                    frame,
+                });
+            }
+        }
+        assert_eq!(rt; held.find_ptw(3, 0), None);
+        assert_eq!(rt; held.find_ptw(3, 1), Some(101));
+        held.clear(What::Page(101));
+        assert_eq!(rt; held.find_ptw(3, 1), None);
+        assert_eq!(rt; held.find_ptw(3, 16), Some(116));
+        held.clear(What::Seg(3));
+        assert_eq!(rt; held.find_ptw(3, 16), None);
+    }
+}

@@ -1,0 +1,117 @@
+use Rattle.std.proofs.Common.{◌≡◌, ◌≢◌, ℕ, suc, zero, ◌+◌, ◌/◌, ◌%◌, ◌<◌, Bool, true, false, cond, List, [], ◌∷◌, length, refl, sym, ◌∙◌, arith, get_or, set, add-one, inl, inr, slice_index, count_by}
+use Rattle.std.specs.Int.{w64}
+use Rattle.std.proofs.lemmas.Bool.{cases_eq}
+use Rattle.std.proofs.lemmas.List.{get_or-set_same, get_or-set_other, length-set, ext_get_or, length_push, get_or_append_left, get_or_push}
+use Rattle.std.proofs.lemmas.List.Sums.{sum_by-set}
+use Rattle.std.proofs.lemmas.Nat.Bits.{bit_at_ones, bit_at_set_same, bit_at_set_other, bit_at_clear_same, bit_at_clear_other}
+use Rattle.bitmap.specs.Bitmap.{in_use}
+use Rattle.bitmap.specs.Bits.{bit_on, with_bit, without_bit, flags_of}
+
+-- a word other than that of r is as before
+pub word_with_other : (ws : List ℕ) (r w : ℕ) → w ≢ r / 64 → slice_index (with_bit ws r) w ≡ slice_index ws w
+unfolding with_bit
+word_with_other ws r w ne = get_or-set_other ws (r / 64) w _ 0 ne
+
+pub word_without_other : (ws : List ℕ) (r w : ℕ) → w ≢ r / 64 → slice_index (without_bit ws r) w ≡ slice_index ws w
+unfolding without_bit
+word_without_other ws r w ne = get_or-set_other ws (r / 64) w _ 0 ne
+
+pub length_with_bit : (ws : List ℕ) (r : ℕ) → length (with_bit ws r) ≡ length ws
+unfolding with_bit
+length_with_bit ws r = length-set ws _ _
+
+pub length_without_bit : (ws : List ℕ) (r : ℕ) → length (without_bit ws r) ≡ length ws
+unfolding without_bit
+length_without_bit ws r = length-set ws _ _
+
+-- bit r is on after it is turned on, and off after it is turned off
+pub on_with_bit : (ws : List ℕ) (r : ℕ) → r / 64 < length ws → bit_on (with_bit ws r) r ≡ true
+unfolding bit_on with_bit
+on_with_bit ws r lt = rw (get_or-set_same ws (r / 64) _ 0 lt, bit_at_set_same w64 (slice_index ws (r / 64)) (r % 64) (omega arith)) refl
+
+pub off_without_bit : (ws : List ℕ) (r : ℕ) → r / 64 < length ws → bit_on (without_bit ws r) r ≡ false
+unfolding bit_on without_bit
+off_without_bit ws r lt = rw (get_or-set_same ws (r / 64) _ 0 lt, bit_at_clear_same w64 (slice_index ws (r / 64)) (r % 64) (omega arith)) refl
+
+-- every other bit is as before
+pub on_with_other : (ws : List ℕ) (r k : ℕ) → r / 64 < length ws → k ≢ r → bit_on (with_bit ws r) k ≡ bit_on ws k
+unfolding bit_on with_bit
+on_with_other ws r k lt ne = elim (cases_eq (k / 64) (r / 64)) [
+  | inl e ↦ (let other : k % 64 ≢ r % 64 = omega arith in
+      rw (e, get_or-set_same ws (r / 64) _ 0 lt, bit_at_set_other w64 (slice_index ws (r / 64)) (r % 64) (omega arith) (k % 64) other) refl)
+  | inr n ↦ rw (get_or-set_other ws (r / 64) (k / 64) _ 0 n) refl
+]
+
+pub on_without_other : (ws : List ℕ) (r k : ℕ) → r / 64 < length ws → k ≢ r → bit_on (without_bit ws r) k ≡ bit_on ws k
+unfolding bit_on without_bit
+on_without_other ws r k lt ne = elim (cases_eq (k / 64) (r / 64)) [
+  | inl e ↦ (let other : k % 64 ≢ r % 64 = omega arith in
+      rw (e, get_or-set_same ws (r / 64) _ 0 lt, bit_at_clear_other w64 (slice_index ws (r / 64)) (r % 64) (omega arith) (k % 64) (omega arith) other) refl)
+  | inr n ↦ rw (get_or-set_other ws (r / 64) (k / 64) _ 0 n) refl
+]
+
+-- a word of ones has every bit on
+pub on_in_full_word : (ws : List ℕ) (r : ℕ) → slice_index ws (r / 64) ≡ 18446744073709551615 → bit_on ws r ≡ true
+unfolding bit_on
+on_in_full_word ws r e = rw (e, bit_at_ones 64 (r % 64) (omega arith)) refl
+
+-- so a word with a bit off is no word of ones
+pub off_word_has_room : (ws : List ℕ) (r : ℕ) → bit_on ws r ≡ false → slice_index ws (r / 64) ≢ 18446744073709551615
+off_word_has_room ws r off e = let on : bit_on ws r ≡ true = on_in_full_word ws r e in cc
+
+-- the flags
+pub length_flags : (ws : List ℕ) (n : ℕ) → length (flags_of ws n) ≡ n
+unfolding flags_of
+length_flags ws zero = refl
+length_flags ws (suc n) = length_push (flags_of ws n) _ ∙ (rw (length_flags ws n, add-one) refl)
+
+pub flag_at : (ws : List ℕ) (n r : ℕ) (d : Bool) → r < n → get_or (flags_of ws n) r d ≡ bit_on ws r
+unfolding flags_of
+flag_at ws zero r d lt = absurd (omega arith)
+flag_at ws (suc n) r d lt = elim (cases_eq r n) [
+  | inl e ↦ rw e (get_or_push (flags_of ws n) (bit_on ws n) d n (length_flags ws n))
+  | inr ne ↦ (let short : r < length (flags_of ws n) = rw length_flags (omega arith) in
+      get_or_append_left (flags_of ws n) _ d r short ∙ flag_at ws n r d (omega arith))
+]
+
+-- after one bit is set, the flags are as before but for that one
+pub flags_after_set : (ws vs : List ℕ) (n r : ℕ) (b : Bool) → r < n → bit_on vs r ≡ b → ((k : ℕ) → k ≢ r → bit_on vs k ≡ bit_on ws k)
+    → flags_of vs n ≡ set (flags_of ws n) r b
+flags_after_set ws vs n r b lt here others =
+    ext_get_or false _ _ (length_flags vs n ∙ sym (length-set (flags_of ws n) r b ∙ length_flags ws n))
+    (λ k h. let below : k < n = rw (← length_flags vs n) h in
+    let inside : r < length (flags_of ws n) = rw length_flags lt in
+    flag_at vs n k false below ∙ elim (cases_eq k r) [
+      | inl e ↦ rw e (here ∙ sym (get_or-set_same (flags_of ws n) r b false inside))
+      | inr ne ↦ others k ne ∙ sym (get_or-set_other (flags_of ws n) r k b false ne ∙ flag_at ws n k false below)
+    ])
+
+-- the flags after a bit is turned on or off
+pub flags_with_bit : (ws : List ℕ) (n r : ℕ) → r < n → r / 64 < length ws → flags_of (with_bit ws r) n ≡ set (flags_of ws n) r true
+flags_with_bit ws n r lt within =
+    flags_after_set ws (with_bit ws r) n r true lt (on_with_bit ws r within) (λ k ne. on_with_other ws r k within ne)
+
+pub flags_without_bit : (ws : List ℕ) (n r : ℕ) → r < n → r / 64 < length ws → flags_of (without_bit ws r) n ≡ set (flags_of ws n) r false
+flags_without_bit ws n r lt within =
+    flags_after_set ws (without_bit ws r) n r false lt (off_without_bit ws r within) (λ k ne. on_without_other ws r k within ne)
+
+-- a flag turned on counts for one more, and one turned off for one less
+pub count_with : (flags : List Bool) (r : ℕ) → r < length flags → in_use flags r ≡ false
+    → count_by (λ flag. flag) (set flags r true) ≡ count_by (λ flag. flag) flags + 1
+count_with flags r lt free =
+    let e = sum_by-set (λ flag. cond {A = ℕ} flag 1 0) flags r true false lt in
+    let z : cond {A = ℕ} (in_use flags r) 1 0 ≡ 0 = rw free refl in
+    omega (arith, e, z)
+
+pub count_without : (flags : List Bool) (r : ℕ) → r < length flags → in_use flags r ≡ true
+    → count_by (λ flag. flag) (set flags r false) + 1 ≡ count_by (λ flag. flag) flags
+count_without flags r lt used =
+    let e = sum_by-set (λ flag. cond {A = ℕ} flag 1 0) flags r false false lt in
+    let z : cond {A = ℕ} (in_use flags r) 1 0 ≡ 1 = rw used refl in
+    omega (arith, e, z)
+
+-- a number that is in use is below the size
+pub used_within : (flags : List Bool) (r : ℕ) → in_use flags r ≡ true → r < length flags
+used_within [] r e = cc
+used_within (flag ∷ flags) zero e = omega arith
+used_within (flag ∷ flags) (suc r) e = let lt = used_within flags r e in omega (arith, lt)

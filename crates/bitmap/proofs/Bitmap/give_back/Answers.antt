@@ -1,0 +1,23 @@
+use Rattle.std.proofs.Common.{◌∙◌, arith}
+use Rattle.bitmap.proofs.BitLemmas.{flags_without_bit, used_within}
+use Rattle.bitmap.proofs.Levels.{placed, levels_after_give}
+use Rattle.bitmap.proofs.Bitmap.give_back.Goals as goal
+
+pub clear_bit-requires : goal.clear_bit-requires
+clear_bit-requires c =
+    let place = placed _ _ _ _ _ c.args.r c.self.invariant c.self.view_is (used_within _ _ c.requires) in omega (arith, place.word)
+
+pub clear_bit-requires-2 : goal.clear_bit-requires-2
+clear_bit-requires-2 c =
+    let place = placed _ _ _ _ _ c.args.r c.self.invariant c.self.view_is (used_within _ _ c.requires) in omega (arith, place.mark)
+
+pub invariant_of-self : goal.invariant_of-self
+invariant_of-self c =
+    let place = placed _ _ _ _ _ c.args.r c.self.invariant c.self.view_is (used_within _ _ c.requires) in
+    rw (c.clear_bit.ensures.items, c.clear_bit-2.ensures.items)
+    (levels_after_give _ _ _ _ c.args.r c.self.invariant place.below (place.is ∙ c.requires))
+
+pub returns : goal.returns
+returns c =
+    let place = placed _ _ _ _ _ c.args.r c.self.invariant c.self.view_is (used_within _ _ c.requires) in
+    rw (c.clear_bit.ensures.items, ← c.self.view_is) (flags_without_bit _ _ c.args.r place.below place.word)

@@ -1,0 +1,6 @@
+use Rattle.std.proofs.Common.{sym, ◌∙◌, ap, length}
+use Rattle.bitmap.proofs.BitLemmas.{length_flags}
+use Rattle.bitmap.proofs.Bitmap.size.Goals as goal
+
+pub returns : goal.returns
+returns c = sym (length_flags c.self.inside.words.items c.self.inside.size) ∙ ap length c.self.view_is

@@ -1,0 +1,28 @@
+use Rattle.std.proofs.Common.{◌∙◌, arith}
+use Rattle.bitmap.proofs.BitLemmas.{flags_with_bit}
+use Rattle.bitmap.proofs.Levels.{placed, room_for_one, levels_after_take}
+use Rattle.bitmap.proofs.Bitmap.take.Goals as goal
+
+pub turn_on-requires-clause-lower : goal.turn_on-requires-clause-lower
+turn_on-requires-clause-lower c =
+    let place = placed _ _ _ _ _ c.args.r c.self.invariant c.self.view_is c.requires.within in omega (arith, place.word)
+
+pub turn_on-requires-clause-upper : goal.turn_on-requires-clause-upper
+turn_on-requires-clause-upper c =
+    let place = placed _ _ _ _ _ c.args.r c.self.invariant c.self.view_is c.requires.within in omega (arith, place.mark)
+
+pub overflow_add-self : goal.overflow_add-self
+overflow_add-self c =
+    let room = room_for_one _ _ _ _ _ c.args.r c.self.invariant c.self.view_is c.requires.within c.requires.free in
+    omega (arith, room)
+
+pub invariant_of-self : goal.invariant_of-self
+invariant_of-self c =
+    let place = placed _ _ _ _ _ c.args.r c.self.invariant c.self.view_is c.requires.within in
+    rw (c.turn_on.ensures.lower, c.turn_on.ensures.upper)
+    (levels_after_take _ _ _ _ c.args.r c.self.invariant place.below (place.is ∙ c.requires.free))
+
+pub returns : goal.returns
+returns c =
+    let place = placed _ _ _ _ _ c.args.r c.self.invariant c.self.view_is c.requires.within in
+    rw (c.turn_on.ensures.lower, ← c.self.view_is) (flags_with_bit _ _ c.args.r place.below place.word)

@@ -1,0 +1,193 @@
+use Rattle.std.proofs.Common.{◌≡◌, ℕ, zero, suc, ◌+◌, ◌<◌, ◌≤◌, ◌^◌, Bool, true, false, not, cond, List, [], ◌∷◌, length, Option, None, Some, refl, sym, ap, ◌∙◌, arith, get_or, set, replicate, map, inl, inr, ◌⊎◌, All, IfSome, IfNone}
+use Rattle.std.specs.List.{prefix_len, list_any}
+use Rattle.std.proofs.lemmas.Bool.{cases_eq}
+use Rattle.std.proofs.lemmas.Bool.Decides.{leb_tells}
+use Rattle.std.proofs.lemmas.List.{map-set, get_or-map, get_or_past, length-map, length-set, length-replicate, get_or-set_same, get_or-set_other, set-get_or, get_or_read, set_past}
+use Rattle.std.proofs.lemmas.List.Elements.{All-get_or, All-from_get_or}
+use Rattle.bitmap.specs.Bitmap.{in_use, least_free, IsLeastFree}
+use Rattle.core_map.specs.declared.Frame.{Frame}
+use Rattle.core_map.specs.declared.Frame.TheVariants.{Free, Started, Bound}
+use Rattle.core_map.specs.CoreMap.{Core, frame_at, is_free, is_taken, is_started, is_bound, after_reference, with_modified, least_free_frame, IsLeastFreeFrame}
+use Rattle.core_map.specs.Clock.{frame_in, is_idle, unmarked}
+use Rattle.core_map.specs.Turns.{IsUnmarked}
+use Rattle.core_map.specs.Taken.{IsTied}
+
+below_or_past : (a b : ℕ) → (a < b) ⊎ (b ≤ a)
+below_or_past a b = elim (leb_tells b a) [ inl h ↦ inr h.1 | inr h ↦ inl h.1 ]
+
+-- what a change of marks leaves as it is
+pub taken_unmarked : (x : Frame) → is_taken (unmarked x) ≡ is_taken x
+taken_unmarked Free = refl
+taken_unmarked (Started uid page) = refl
+taken_unmarked (Bound uid page used modified) = refl
+
+pub taken_referred : (x : Frame) (wrote : Bool) → is_taken (after_reference x wrote) ≡ is_taken x
+taken_referred Free wrote = refl
+taken_referred (Started uid page) wrote = refl
+taken_referred (Bound uid page used modified) wrote = refl
+
+pub taken_modified : (x : Frame) (now : Bool) → is_taken (with_modified x now) ≡ is_taken x
+taken_modified Free now = refl
+taken_modified (Started uid page) now = refl
+taken_modified (Bound uid page used modified) now = refl
+
+pub idle_unmarked : (x : Frame) → is_idle (unmarked x) ≡ is_bound x
+idle_unmarked Free = refl
+idle_unmarked (Started uid page) = refl
+idle_unmarked (Bound uid page used modified) = refl
+
+taken_from_bound : (x : Frame) → is_bound x ≡ true → is_taken x ≡ true
+taken_from_bound Free h = cc
+taken_from_bound (Started uid page) h = cc
+taken_from_bound (Bound uid page used modified) h = refl
+
+taken_from_started : (x : Frame) → is_started x ≡ true → is_taken x ≡ true
+taken_from_started Free h = cc
+taken_from_started (Started uid page) h = refl
+taken_from_started (Bound uid page used modified) h = cc
+
+free_from_taken : (x : Frame) → is_taken x ≡ false → x ≡ Free
+free_from_taken Free h = refl
+free_from_taken (Started uid page) h = cc
+free_from_taken (Bound uid page used modified) h = cc
+
+not_free_from_taken : (x : Frame) → is_taken x ≡ true → is_free x ≡ false
+not_free_from_taken Free h = cc
+not_free_from_taken (Started uid page) h = refl
+not_free_from_taken (Bound uid page used modified) h = refl
+
+-- whether a frame is taken, in the list of all
+pub taken_at : (frames : List Frame) (f : ℕ) → get_or (map is_taken frames) f false ≡ is_taken (frame_in frames f)
+taken_at frames f = elim (below_or_past f (length frames)) [
+  | inl lt ↦ get_or-map is_taken frames f Free false lt
+  | inr past ↦ (let long : length (map is_taken frames) ≤ f = omega (arith, length-map frames is_taken) in
+      get_or_past (map is_taken frames) f false long ∙ sym (ap is_taken (get_or_past frames f Free past)))
+]
+
+-- a write of a frame that leaves it as taken, or free, as it was
+pub taken_same : (frames : List Frame) (f : ℕ) (x : Frame) → is_taken x ≡ is_taken (frame_in frames f) → map is_taken (set frames f x) ≡ map is_taken frames
+taken_same frames f x same =
+    map-set is_taken frames f x ∙ ap (set (map is_taken frames) f) (same ∙ sym (taken_at frames f)) ∙ set-get_or (map is_taken frames) f false
+
+-- the bits of taken frames
+pub bit_is : (taken : List Bool) (frames : List Frame) (hand f : ℕ) → IsTied taken frames hand → in_use taken f ≡ is_taken (frame_in frames f)
+bit_is taken frames hand f h = ap (λ (ts : List Bool). in_use ts f) h.bits ∙ taken_at frames f
+
+pub bit_of_bound : (taken : List Bool) (frames : List Frame) (hand f : ℕ) (core : Core) → IsTied taken frames hand
+    → record { frames = frames; hand = hand } ≡ core → is_bound (frame_at core f) ≡ true → in_use taken f ≡ true
+bit_of_bound taken frames hand f core h view bound =
+    bit_is taken frames hand f h ∙ taken_from_bound (frame_in frames f) (ap (λ (k : Core). is_bound (frame_at k f)) view ∙ bound)
+
+pub bit_of_started : (taken : List Bool) (frames : List Frame) (hand f : ℕ) (core : Core) → IsTied taken frames hand
+    → record { frames = frames; hand = hand } ≡ core → is_started (frame_at core f) ≡ true → in_use taken f ≡ true
+bit_of_started taken frames hand f core h view started =
+    bit_is taken frames hand f h ∙ taken_from_started (frame_in frames f) (ap (λ (k : Core). is_started (frame_at k f)) view ∙ started)
+
+-- a frame is written, and its bit with it
+pub tied_with : (taken ts : List Bool) (frames : List Frame) (hand f : ℕ) (x : Frame) → IsTied taken frames hand → ts ≡ set taken f (is_taken x)
+    → IsTied ts (set frames f x) hand
+tied_with taken ts frames hand f x h is = record {
+  bits = is ∙ ap (λ (bs : List Bool). set bs f (is_taken x)) h.bits ∙ sym (map-set is_taken frames f x);
+  short = rw (length-set frames f x) h.short;
+  hand_within = rw (length-set frames f x) h.hand_within;
+}
+
+-- the marks of a frame are written
+pub taken_kept : (frames : List Frame) (f : ℕ) (x y : Frame) → x ≡ get_or frames f x → is_taken y ≡ is_taken x → map is_taken (set frames f y) ≡ map is_taken frames
+taken_kept frames f x y read same = elim (below_or_past f (length frames)) [
+  | inl lt ↦ taken_same frames f y (same ∙ ap is_taken (get_or_read frames f x lt read Free))
+  | inr past ↦ ap (map is_taken) (set_past frames f y past)
+]
+
+pub tied_same : (taken : List Bool) (frames : List Frame) (hand f : ℕ) (x y : Frame) → IsTied taken frames hand → x ≡ get_or frames f x
+    → is_taken y ≡ is_taken x → IsTied taken (set frames f y) hand
+tied_same taken frames hand f x y h read same = record {
+  bits = h.bits ∙ sym (taken_kept frames f x y read same);
+  short = rw (length-set frames f y) h.short;
+  hand_within = rw (length-set frames f y) h.hand_within;
+}
+
+-- one more mark is turned off
+pub unmarked_more : (old now : List Frame) (low i : ℕ) (x y : Frame) → IsUnmarked old now low i → low ≤ i → i < length now → x ≡ get_or now i x
+    → y ≡ unmarked x → IsUnmarked old (set now i y) low (i + 1)
+unmarked_more old now low i x y h above lt read is = record {
+  inside = λ k over under. elim (cases_eq k i) [
+    | inl e ↦ (let read_here : x ≡ frame_in now i = get_or_read now i x lt read Free in
+        rw e (get_or-set_same now i y Free lt ∙ is ∙ ap unmarked (read_here ∙ h.after i (omega arith))))
+    | inr ne ↦ get_or-set_other now i k y Free ne ∙ h.inside k over (omega arith)
+  ];
+  before = λ k under. get_or-set_other now i k y Free (omega arith) ∙ h.before k under;
+  after = λ k over. get_or-set_other now i k y Free (omega arith) ∙ h.after k (omega arith);
+}
+
+-- some frame is bound, so not every frame isn't
+pub none_bound : (frames : List Frame) → ((i : ℕ) → i < length frames → is_bound (frame_in frames i) ≡ false) → list_any is_bound frames ≡ false
+none_bound [] h = refl
+none_bound (x ∷ frames) h = let first : is_bound x ≡ false = h 0 (omega arith) in rw first (none_bound frames (λ i lt. h (suc i) (omega arith)))
+
+-- so after a turn that unmarked all frames an idle one is there
+pub no_turn : (old now a b : List Frame) (hand n : ℕ) → n ≡ length old → list_any is_bound old ≡ true → IsUnmarked old now 0 n → a ≡ now → b ≡ now
+    → ((i : ℕ) → hand ≤ i → i < n → is_idle (frame_in a i) ≡ false) → ((i : ℕ) → 0 ≤ i → i < hand → is_idle (frame_in b i) ≡ false) → ⊥
+no_turn old now a b hand n long some h first second above below =
+    let none = none_bound old (λ i lt. let inside : i < n = omega (arith, long) in
+    sym (ap is_idle (h.inside i (omega arith) inside) ∙ idle_unmarked (frame_in old i))
+    ∙ elim (below_or_past i hand) [
+      | inl under ↦ ap (λ (xs : List Frame). is_idle (frame_in xs i)) (sym second) ∙ below i (omega arith) under
+      | inr over ↦ ap (λ (xs : List Frame). is_idle (frame_in xs i)) (sym first) ∙ above i over inside
+    ]) in
+    cc
+
+-- the least free frame by the bits
+first_step : (x : Frame) (a b : ℕ) → a ≡ b → cond (not (not (is_taken x))) (1 + a) 0 ≡ cond (not (is_free x)) (1 + b) 0
+first_step Free a b e = refl
+first_step (Started uid page) a b e = ap (λ n. 1 + n) e
+first_step (Bound uid page used modified) a b e = ap (λ n. 1 + n) e
+
+first_same : (frames : List Frame) → prefix_len (λ flag. not (not flag)) (map is_taken frames) ≡ prefix_len (λ x. not (is_free x)) frames
+first_same [] = refl
+first_same (x ∷ frames) = first_step x _ _ (first_same frames)
+
+pub least_same : (taken : List Bool) (frames : List Frame) (hand : ℕ) (core : Core) → IsTied taken frames hand → record { frames = frames; hand = hand } ≡ core
+    → least_free taken ≡ least_free_frame core
+least_same taken frames hand core h view =
+    let first = ap (prefix_len (λ flag. not (not flag))) h.bits ∙ first_same frames in
+    let long = ap length h.bits ∙ length-map frames is_taken in
+    rw (← view, first, long) refl
+
+pub least_frame : (taken : List Bool) (frames : List Frame) (hand f : ℕ) (core : Core) → IsTied taken frames hand → record { frames = frames; hand = hand } ≡ core
+    → IsLeastFree taken f → IsLeastFreeFrame core f
+least_frame taken frames hand f core h view least = rw (← view) (record {
+  within = omega (arith, least.within, ap length h.bits, length-map frames is_taken);
+  free = free_from_taken (frame_in frames f) (sym (bit_is taken frames hand f h) ∙ least.free);
+  before = λ k lt. not_free_from_taken (frame_in frames k) (sym (bit_is taken frames hand k h) ∙ least.before k lt);
+})
+
+pub none_free : (taken : List Bool) (frames : List Frame) (hand : ℕ) (core : Core) → IsTied taken frames hand → record { frames = frames; hand = hand } ≡ core
+    → All (λ flag. flag ≡ true) taken → All (λ x. is_free x ≡ false) core.frames
+none_free taken frames hand core h view all = rw (← view)
+    (All-from_get_or (λ x. is_free x ≡ false) frames Free
+    (λ k lt. let inside : k < length taken = omega (arith, ap length h.bits, length-map frames is_taken) in
+    not_free_from_taken (frame_in frames k) (sym (bit_is taken frames hand k h) ∙ All-get_or (λ flag. flag ≡ true) taken k false inside all)))
+
+-- all frames are free at first
+free_bits : (n : ℕ) → replicate n false ≡ map is_taken (replicate n Free)
+free_bits zero = refl
+free_bits (suc n) = ap (λ (bs : List Bool). false ∷ bs) (free_bits n)
+
+pub tied_new : (taken : List Bool) (frames : List Frame) (n : ℕ) → n < 2 ^ 32 → taken ≡ replicate n false → frames ≡ replicate n Free → IsTied taken frames 0
+tied_new taken frames n fits bits is = record {
+  bits = bits ∙ free_bits n ∙ ap (map is_taken) (sym is);
+  short = omega (arith, ap length is, length-replicate {A = Frame} n Free);
+  hand_within = omega arith;
+}
+
+-- the same of what the bits answer
+pub least_if : (answer : Option ℕ) (taken : List Bool) (frames : List Frame) (hand : ℕ) (core : Core) → IsTied taken frames hand
+    → record { frames = frames; hand = hand } ≡ core → IfSome answer (λ f. IsLeastFree taken f) → IfSome answer (λ f. IsLeastFreeFrame core f)
+least_if None taken frames hand core h view least = tt
+least_if (Some f) taken frames hand core h view least = least_frame taken frames hand f core h view least
+
+pub none_if : (answer : Option ℕ) (taken : List Bool) (frames : List Frame) (hand : ℕ) (core : Core) → IsTied taken frames hand
+    → record { frames = frames; hand = hand } ≡ core → IfNone answer (All (λ flag. flag ≡ true) taken) → IfNone answer (All (λ x. is_free x ≡ false) core.frames)
+none_if None taken frames hand core h view all = none_free taken frames hand core h view all
+none_if (Some f) taken frames hand core h view all = tt

@@ -1,0 +1,4 @@
+pub mod CoreMap
+pub mod Clock
+pub mod Taken
+pub mod Turns

@@ -1,0 +1,154 @@
+ghost use Rattle.std.specs.Prelude.{◌≡◌, ℕ, ◌+◌, ◌<◌, ◌≤◌, ◌==◌, if◌then◌else◌, Bool, true, false, is_some, List, length, vec_len, IfSome, IfNone, map};
+ghost use Rattle.std.specs.List.{list_any};
+ghost use Rattle.core_map.specs.declared.Frame.{Frame};
+ghost use Rattle.core_map.specs.CoreMap.{is_taken, is_bound};
+ghost use Rattle.core_map.specs.Clock.{frame_in, is_idle, unmarked, IsTurn};
+ghost use Rattle.core_map.specs.Turns.{IsFirstIdle, IsUnmarked};
+
+use crate::Frame;
+
+/// The frame that the clock chooses. The marks of the frames that it passed over are off then.
+pub fn turn(frames: &mut Vec<Frame>, hand: usize) -> usize
+    requires within { hand ≤ vec_len frames.old }
+    requires bound { list_any is_bound frames.old.items ≡ true }
+    ensures len { vec_len frames.new ≡ vec_len frames.old }
+    ensures free { map is_taken frames.new.items ≡ map is_taken frames.old.items }
+    ensures within { result < vec_len frames.old }
+    ensures turn { IsTurn (record { frames = frames.old.items; hand = hand }) frames.new.items result }
+{
+    let end = frames.len();
+    if let Some(f) = first_idle(frames, hand, end) {
+        unmark(frames, hand, f);
+        return f;
+    }
+    if let Some(f) = first_idle(frames, 0, hand) {
+        unmark(frames, hand, end);
+        unmark(frames, 0, f);
+        return f;
+    }
+    unmark(frames, 0, end);
+    if let Some(f) = first_idle(frames, hand, end) {
+        return f;
+    }
+    match first_idle(frames, 0, hand) {
+        Some(f) => f,
+        None => unreachable!(),
+    }
+}
+
+/// The number of the frame after `f`, round `count` frames.
+pub fn next(f: usize, count: usize) -> usize
+    requires { f < count }
+    ensures next { result ≡ (if f + 1 == count then 0 else f + 1) }
+    ensures within { result < count }
+{
+    if f + 1 == count { 0 } else { f + 1 }
+}
+
+/// The first frame from `from` on and below `to` that is bound with its used mark off.
+fn first_idle(frames: &[Frame], from: usize, to: usize) -> Option<usize>
+    requires order { from ≤ to }
+    requires within { to ≤ length frames.now }
+    ensures some { IfSome result (λ f. IsFirstIdle frames.now from to f) }
+    ensures none { IfNone result ((i : ℕ) → from ≤ i → i < to → is_idle (frame_in frames.now i) ≡ false) }
+{
+    for i in from..to {
+        if let Frame::Bound { used: false, .. } = frames[i] {
+            return Some(i);
+        }
+    }
+    None
+}
+
+/// Turns off the used marks of the frames from `from` on and below `to`.
+fn unmark(frames: &mut Vec<Frame>, from: usize, to: usize)
+    requires order { from ≤ to }
+    requires within { to ≤ vec_len frames.old }
+    ensures len { vec_len frames.new ≡ vec_len frames.old }
+    ensures free { map is_taken frames.new.items ≡ map is_taken frames.old.items }
+    ensures marks { IsUnmarked frames.old.items frames.new.items from to }
+{
+    for i in from..to {
+        frames[i] = without_mark(frames[i]);
+    }
+}
+
+/// The frame with its used mark off.
+fn without_mark(frame: Frame) -> Frame
+    ensures { result ≡ unmarked frame }
+{
+    match frame {
+        Frame::Bound {
+            uid,
+            page,
+            modified,
+            ..
+        } => Frame::Bound {
+            uid,
+            page,
+            used: false,
+            modified,
+        },
+        Frame::Free | Frame::Started { .. } => frame,
+    }
+}
+
+#[cfg(test)]
+mod tests {
+    use super::*;
+    use std::test::Fail;
+
+    /// A frame that isn't bound, or one that is, with its used mark.
+    fn frame_of(mark: Option<bool>) -> Frame
+        ensures { is_bound result ≡ is_some mark }
+    {
+        match mark {
+            None => Frame::Free,
+            Some(used) => Frame::Bound {
+                uid: 1,
+                page: 0,
+                used,
+                modified: false,
+            },
+        }
+    }
+
+    #[test]
+    fn chooses_by_the_marks_of_two_frames_and_the_hand(rt: HostRuntime) -> Result<(), Fail> {
+        let none = None;
+        let off = Some(false);
+        let on = Some(true);
+        // The two frames and the hand; then the choice, the two frames and the hand after it.
+        let cases = [
+            (none, off, 0usize, 1usize, none, off, 0usize),
+            (none, on, 0, 1, none, off, 0),
+            (off, none, 0, 0, off, none, 1),
+            (on, none, 0, 0, off, none, 1),
+            (off, off, 0, 0, off, off, 1),
+            (off, on, 0, 0, off, on, 1),
+            (on, off, 0, 1, off, off, 0),
+            (on, on, 0, 0, off, off, 1),
+            (none, off, 1, 1, none, off, 0),
+            (none, on, 1, 1, none, off, 0),
+            (off, none, 1, 0, off, none, 1),
+            (on, none, 1, 0, off, none, 1),
+            (off, off, 1, 1, off, off, 0),
+            (off, on, 1, 0, off, off, 1),
+            (on, off, 1, 1, on, off, 0),
+            (on, on, 1, 1, off, off, 0),
+        ];
+        for (first, second, hand, choice, first_after, second_after, hand_after) in cases {
+            let mut frames = vec![in rt.alloc(); frame_of(first), frame_of(second)]?;
+            assert!(rt; hand < 2);
+            assert!(rt; first.is_some() || second.is_some());
+            let f = turn(&mut frames, hand);
+            assert_eq!(rt; f, choice, "{first:?} {second:?} {hand}");
+            assert_eq!(rt;
+                frames.as_slice(),
+                [frame_of(first_after), frame_of(second_after)].as_slice()
+            );
+            assert_eq!(rt; next(f, 2), hand_after);
+        }
+        Ok(())
+    }
+}

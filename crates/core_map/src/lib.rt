@@ -1,0 +1,327 @@
+//! The core map, which says what each frame of core is used for, and the clock that chooses the frame to be emptied.
+//!
+//! A frame is free, or started, which is that a page is being read into it, or bound to a page. A bound frame has a
+//! used mark, which a reference through it turns on, and a modified mark, which a reference that writes turns on.
+//! The clock gives a frame a second chance where its used mark is on (Corbató 1968, "A paging experiment with the
+//! Multics system").
+//!
+//! Costs: `new` takes memory twice, for the frames and for a bit map of those that are taken. `take_free` reads one
+//! upper word of the bit map for 4096 frames, and one lower word if a frame is free. `bind`, `start`, `lose` and `release` write one frame and at most two
+//! words, and the other calls read or write one frame. `choose` reads the frames from the hand to its choice, and
+//! writes those of them whose mark it turns off; at most it goes round twice. None but `new` takes memory.
+#![tactic(auto)]
+
+mod clock;
+
+ghost use Rattle.std.specs.Prelude.{◌≡◌, ◌<◌, ◌≢◌, ℕ, Bool, true, false, List, Option, length, replicate, slice_set, All, IfOk, IfSome, IfNone};
+ghost use Rattle.std.specs.List.{list_any};
+ghost use Rattle.core_map.specs.declared.Frame.{Frame};
+ghost use Rattle.core_map.specs.declared.Frame.TheVariants.{Free, Started, Bound};
+ghost use Rattle.core_map.specs.CoreMap.{Core, frame_at, with_frame, is_free, is_started, is_bound, bound_page, started_page, is_modified, after_reference, with_modified, CanBind, least_free_frame, IsLeastFreeFrame};
+ghost use Rattle.core_map.specs.Clock.{IsClockChoice};
+
+use bitmap::Bitmap;
+use std::alloc::{AllocError, Global};
+use std::marker::Model;
+
+/// There is no memory for a core map. (Source: own.)
+#[derive(Clone, Copy, Debug, PartialEq, Eq)]
+pub struct NoMemory;
+
+impl From<AllocError> for NoMemory {
+    fn from(_: AllocError) -> Self {
+        NoMemory
+    }
+}
+
+impl From<bitmap::NoMemory> for NoMemory {
+    fn from(_: bitmap::NoMemory) -> Self {
+        NoMemory
+    }
+}
+
+/// What a frame of core is used for (Bensoussan, Clingen and Daley 1972; that a page is being read in is own).
+#[derive(Clone, Copy, Debug, PartialEq, Eq)]
+pub enum Frame {
+    /// Nothing.
+    Free,
+    /// Page `page` of segment `uid` is being read into it.
+    Started {
+        uid: u32,
+        page: u32,
+    },
+    /// It has page `page` of segment `uid`.
+    Bound {
+        uid: u32,
+        page: u32,
+        /// Whether the page was referred to since the clock passed.
+        used: bool,
+        /// Whether the page was written since it was last the same as its record.
+        modified: bool,
+    },
+}
+
+/// The core map, seen as the list of its frames and the hand of the clock, which is a frame's number.
+#[derive(Debug, Drop)]
+pub struct CoreMap {
+    taken: Bitmap,
+    frames: Vec<Frame>,
+    hand: usize,
+}
+
+impl Model for CoreMap {
+    ghost use Rattle.core_map.specs.CoreMap.{Core};
+
+    ghost Value = { Core };
+
+    ghost use Rattle.core_map.specs.Taken.{IsTied};
+
+    ghost view = { λ core. record { frames = core.frames.items; hand = core.hand } };
+
+    ghost invariant = { λ core. IsTied core.taken core.frames.items core.hand };
+}
+
+impl CoreMap {
+    /// A core of `frames` frames, all free, with the hand at frame 0. `NoMemory` is want of memory. (Source:
+    /// Corbató 1968.)
+    pub fn new(alloc: Global, frames: u32) -> Result<CoreMap, NoMemory>
+        ensures { IfOk result (λ core. core ≡ record { frames = replicate frames Free; hand = 0 }) }
+    {
+        let taken = Bitmap::new(alloc, frames)?;
+        let frames = vec![in alloc; Frame::Free; frames as usize]?;
+        Ok(CoreMap {
+            taken,
+            frames,
+            hand: 0,
+        })
+    }
+
+    /// The least free frame, None exactly where none is free. It reads a few words. (Source: own.)
+    pub fn take_free(&self) -> Option<u32>
+        ensures least { result ≡ least_free_frame self.now }
+        ensures some { IfSome result (λ f. IsLeastFreeFrame self.now f) }
+        ensures none { IfNone result (All (λ frame. is_free frame ≡ false) self.now.frames) }
+    {
+        self.taken.first_free()
+    }
+
+    /// The frame that the clock chooses among the bound ones, of which there is one. Marks of the frames that it
+    /// passed over are off then, and the hand stands after the choice.
+    ///
+    /// It reads the frames from the hand to the choice, and goes round once more where every bound frame has its
+    /// mark on. (Source: Corbató 1968.)
+    pub fn choose(&mut self) -> u32
+        requires { list_any is_bound self.old.frames ≡ true }
+        ensures { IsClockChoice self.old self.new result }
+    {
+        let f = clock::turn(&mut self.frames, self.hand);
+        self.hand = clock::next(f, self.frames.len());
+        f as u32
+    }
+
+    /// Binds frame `f`, which is free or started for that very page, to page `page` of segment `uid`, with both
+    /// marks off. It writes one frame. (Source: Bensoussan, Clingen and Daley 1972.)
+    pub fn bind(&mut self, f: u32, uid: u32, page: u32)
+        requires within { f < length self.old.frames }
+        requires can { CanBind (frame_at self.old f) uid page }
+        ensures { self.new ≡ with_frame self.old f (Bound uid page false false) }
+    {
+        occupy(&mut self.taken, f);
+        self.frames[f as usize] = filled(self.frames[f as usize], uid, page);
+    }
+
+    /// Notes that a page is being read into the free frame `f`: page `page` of segment `uid`. It writes one frame.
+    /// (Source: own.)
+    pub fn start(&mut self, f: u32, uid: u32, page: u32)
+        requires within { f < length self.old.frames }
+        requires free { frame_at self.old f ≡ Free }
+        ensures { self.new ≡ with_frame self.old f (Started uid page) }
+    {
+        self.taken.take(f);
+        self.frames[f as usize] = Frame::Started { uid, page };
+    }
+
+    /// Frees the started frame `f`. It writes one frame. (Source: own.)
+    pub fn lose(&mut self, f: u32)
+        requires { is_started (frame_at self.old f) ≡ true }
+        ensures { self.new ≡ with_frame self.old f Free }
+    {
+        self.taken.give_back(f);
+        self.frames[f as usize] = Frame::Free;
+    }
+
+    /// Frees the bound frame `f`. It writes one frame. (Source: Bensoussan, Clingen and Daley 1972.)
+    pub fn release(&mut self, f: u32)
+        requires { is_bound (frame_at self.old f) ≡ true }
+        ensures { self.new ≡ with_frame self.old f Free }
+    {
+        self.taken.give_back(f);
+        self.frames[f as usize] = Frame::Free;
+    }
+
+    /// Turns the used mark of the bound frame `f` on, and where `wrote` its modified mark too. It writes one frame.
+    /// (Source: Corbató 1968.)
+    pub fn mark(&mut self, f: u32, wrote: bool)
+        requires { is_bound (frame_at self.old f) ≡ true }
+        ensures { self.new ≡ with_frame self.old f (after_reference (frame_at self.old f) wrote) }
+    {
+        self.frames[f as usize] = referred(self.frames[f as usize], wrote);
+    }
+
+    /// Turns the modified mark of the bound frame `f` off, and no other. It writes one frame. (Source: Corbató
+    /// 1968.)
+    pub fn cleaned(&mut self, f: u32)
+        requires { is_bound (frame_at self.old f) ≡ true }
+        ensures { self.new ≡ with_frame self.old f (with_modified (frame_at self.old f) false) }
+    {
+        self.frames[f as usize] = modified_as(self.frames[f as usize], false);
+    }
+
+    /// Turns the modified mark of the bound frame `f` on, and no other. It writes one frame. (Source: own.)
+    pub fn changed(&mut self, f: u32)
+        requires { is_bound (frame_at self.old f) ≡ true }
+        ensures { self.new ≡ with_frame self.old f (with_modified (frame_at self.old f) true) }
+    {
+        self.frames[f as usize] = modified_as(self.frames[f as usize], true);
+    }
+
+    /// The modified mark of the bound frame `f`. It reads one frame. (Source: Corbató 1968.)
+    pub fn modified(&self, f: u32) -> bool
+        requires { is_bound (frame_at self.now f) ≡ true }
+        ensures { result ≡ is_modified (frame_at self.now f) }
+    {
+        matches!(self.frames[f as usize], Frame::Bound { modified: true, .. })
+    }
+
+    /// The uid and the page that frame `f` is bound to, None exactly where it isn't bound. It reads one frame.
+    /// (Source: Bensoussan, Clingen and Daley 1972.)
+    pub fn page_of(&self, f: u32) -> Option<(u32, u32)>
+        requires { f < length self.now.frames }
+        ensures { result ≡ bound_page (frame_at self.now f) }
+    {
+        match self.frames[f as usize] {
+            Frame::Bound { uid, page, .. } => Some((uid, page)),
+            Frame::Free | Frame::Started { .. } => None,
+        }
+    }
+
+    /// The uid and the page that is being read into frame `f`, None exactly where it isn't started. It reads one
+    /// frame. (Source: own.)
+    pub fn started(&self, f: u32) -> Option<(u32, u32)>
+        requires { f < length self.now.frames }
+        ensures { result ≡ started_page (frame_at self.now f) }
+    {
+        match self.frames[f as usize] {
+            Frame::Started { uid, page } => Some((uid, page)),
+            Frame::Free | Frame::Bound { .. } => None,
+        }
+    }
+}
+
+/// Notes that frame `f` is taken, as it may be already.
+fn occupy(taken: &mut Bitmap, f: u32)
+    requires { f < length taken.old }
+    ensures { taken.new ≡ slice_set taken.old f true }
+{
+    if !taken.is_used(f) {
+        taken.take(f);
+    }
+}
+
+/// A frame that may be bound to the page, after it is.
+fn filled(frame: Frame, uid: u32, page: u32) -> Frame
+    requires { CanBind frame uid page }
+    ensures { result ≡ Bound uid page false false }
+{
+    match frame {
+        Frame::Free | Frame::Started { .. } => Frame::Bound {
+            uid,
+            page,
+            used: false,
+            modified: false,
+        },
+        Frame::Bound { .. } => unreachable!(),
+    }
+}
+
+/// The frame after a reference through it.
+fn referred(frame: Frame, wrote: bool) -> Frame
+    ensures { result ≡ after_reference frame wrote }
+{
+    match frame {
+        Frame::Bound {
+            uid,
+            page,
+            modified,
+            ..
+        } => Frame::Bound {
+            uid,
+            page,
+            used: true,
+            modified: modified || wrote,
+        },
+        Frame::Free | Frame::Started { .. } => frame,
+    }
+}
+
+/// The frame with this modified mark.
+fn modified_as(frame: Frame, modified: bool) -> Frame
+    ensures { result ≡ with_modified frame modified }
+{
+    match frame {
+        Frame::Bound {
+            uid,
+            page,
+            used,
+            ..
+        } => Frame::Bound {
+            uid,
+            page,
+            used,
+            modified,
+        },
+        Frame::Free | Frame::Started { .. } => frame,
+    }
+}
+
+#[cfg(test)]
+mod tests {
+    use super::*;
+    use std::test::Fail;
+
+    #[test]
+    fn takes_binds_and_gives_back_frames(rt: HostRuntime) -> Result<(), Fail> {
+        let mut core = CoreMap::new(rt.alloc(), 4)?;
+        assert_eq!(rt; core.take_free(), Some(0));
+        core.bind(0, 7, 3);
+        assert_eq!(rt; (core.page_of(0), core.started(0)), (Some((7, 3)), None));
+        core.start(1, 8, 0);
+        assert_eq!(rt; (core.page_of(1), core.started(1)), (None, Some((8, 0))));
+        assert_eq!(rt; core.take_free(), Some(2));
+        core.bind(1, 8, 0);
+        assert_eq!(rt; core.page_of(1), Some((8, 0)));
+        core.start(2, 9, 5);
+        core.lose(2);
+        assert_eq!(rt; core.take_free(), Some(2));
+        core.release(0);
+        assert_eq!(rt; core.take_free(), Some(0));
+        assert_eq!(rt; core.choose(), 1);
+        Ok(())
+    }
+
+    #[test]
+    fn keeps_the_marks_of_a_frame(rt: HostRuntime) -> Result<(), Fail> {
+        let mut core = CoreMap::new(rt.alloc(), 4)?;
+        core.bind(3, 7, 0);
+        assert!(rt; !core.modified(3));
+        core.mark(3, false);
+        assert!(rt; !core.modified(3));
+        core.mark(3, true);
+        assert!(rt; core.modified(3));
+        core.cleaned(3);
+        assert!(rt; !core.modified(3));
+        core.changed(3);
+        assert!(rt; core.modified(3));
+        Ok(())
+    }
+}

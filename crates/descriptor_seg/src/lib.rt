@@ -1,0 +1,118 @@
+//! The descriptor segment of a process: one segment descriptor word for each segment number, which leads a processor
+//! to the page table of the segment, or makes it fault.
+//!
+//! Costs: `new` takes memory once, for all 256 words. `get` reads one word, and `connect` and `cut` write one.
+#![tactic(auto)]
+
+ghost use Rattle.std.specs.Prelude.{◌≡◌, ◌<◌, IfOk};
+ghost use Rattle.descriptor_seg.specs.Descriptors.{sdw_at, all_faults, connected, cut_off};
+
+use mnames::Mode;
+use std::alloc::{AllocError, Global};
+use std::marker::Model;
+
+/// How many segment numbers a process has.
+const NUMBERS: usize = 256;
+
+/// No memory was left for a descriptor segment.
+#[derive(Clone, Copy, Debug, PartialEq, Eq)]
+pub struct NoMemory;
+
+impl From<AllocError> for NoMemory {
+    fn from(_: AllocError) -> Self {
+        NoMemory
+    }
+}
+
+/// A segment descriptor word (Bensoussan, Clingen and Daley 1972).
+#[derive(Clone, Copy, Debug, PartialEq, Eq)]
+pub enum Sdw {
+    /// A reference by this number takes a missing-segment fault.
+    Fault,
+    /// The segment's page table is that of a place of the active segment table.
+    Present {
+        /// The place.
+        aste: u32,
+        /// What the process may do to the segment.
+        mode: Mode,
+        /// The segment's length in pages.
+        pages: u32,
+    },
+}
+
+/// The descriptor segment of a process, seen as the list of its 256 words by segment number (Bensoussan, Clingen and
+/// Daley 1972).
+#[derive(Debug, Drop)]
+pub struct DescSeg {
+    words: Vec<Sdw>,
+}
+
+impl Model for DescSeg {
+    ghost use Rattle.std.specs.Prelude.{◌≡◌, List, length};
+    ghost use Rattle.descriptor_seg.specs.declared.Sdw.{Sdw};
+
+    ghost Value = { List Sdw };
+
+    ghost view = { λ d. d.words.items };
+
+    ghost invariant = { λ d. length d.words.items ≡ 256 };
+}
+
+impl DescSeg {
+    /// A descriptor segment in which every number faults. Answers `NoMemory` where its words can't be had.
+    pub fn new(alloc: Global) -> Result<DescSeg, NoMemory>
+        ensures { IfOk result (λ d. d ≡ all_faults) }
+    {
+        let words = vec![in alloc; Sdw::Fault; NUMBERS]?;
+        Ok(DescSeg { words })
+    }
+
+    /// The word of segment number `n`.
+    pub fn get(&self, n: u32) -> Sdw
+        requires { n < 256 }
+        ensures { result ≡ sdw_at self.now n }
+    {
+        self.words[n as usize]
+    }
+
+    /// Segment number `n` leads to the page table of place `aste` from now on, with access `mode` and a length of
+    /// `pages` pages.
+    pub fn connect(&mut self, n: u32, aste: u32, mode: Mode, pages: u32)
+        requires { n < 256 }
+        ensures { self.new ≡ connected self.old n aste mode pages }
+    {
+        self.words[n as usize] = Sdw::Present { aste, mode, pages };
+    }
+
+    /// Segment number `n` faults from now on.
+    pub fn cut(&mut self, n: u32)
+        requires { n < 256 }
+        ensures { self.new ≡ cut_off self.old n }
+    {
+        self.words[n as usize] = Sdw::Fault;
+    }
+}
+
+#[cfg(test)]
+mod tests {
+    use super::*;
+    use std::test::Fail;
+
+    #[test]
+    fn a_cut_number_faults(rt: HostRuntime) -> Result<(), Fail> {
+        let Ok(mut descriptors) = DescSeg::new(rt.alloc()) else {
+            return Err("no memory")?;
+        };
+        let word = Sdw::Present {
+            aste: 7,
+            mode: Mode::Read,
+            pages: 3,
+        };
+        descriptors.connect(255, 7, Mode::Read, 3);
+        assert_eq!(rt; descriptors.get(255), word);
+        assert_eq!(rt; descriptors.get(0), Sdw::Fault);
+        descriptors.cut(255);
+        assert_eq!(rt; descriptors.get(255), Sdw::Fault);
+        Ok(())
+    }
+}

@@ -1,0 +1,151 @@
+-- What the number of a uid and the least free number are, place by place.
+use Rattle.std.proofs.Common.{◌≡◌, ℕ, suc, zero, ◌+◌, ◌<◌, ◌≤◌, Bool, true, false, cond, ltb, not, List, [], ◌∷◌, length, Option, Some, None, refl, sym, ap, subst, ◌∙◌, arith, get_or, set, inl, inr, replicate, is_some, is_none, position, IsSome, IsNone, IsTrue}
+use Rattle.std.specs.Prelude.{◌↔◌}
+use Rattle.std.specs.List.{position_or_len}
+use Rattle.std.proofs.lemmas.Bool.{eqb-true, eq-eqb, ltb-false, not-true, both_ways, cases_eq, cases_lt}
+use Rattle.std.proofs.lemmas.List.{get_or_past, get_or-set_same, get_or-set_other, set-get_or, get_or-replicate, length-replicate}
+use Rattle.std.proofs.lemmas.List.Sums.{prefix_len_passes, count_by-le-length}
+use Rattle.std.proofs.lemmas.List.Quantifiers.{position-Some}
+use Rattle.std.proofs.lemmas.Option.{none-some}
+use Rattle.std.proofs.lemmas.Grind.{common_steps}
+use Rattle.known_segs.specs.Known.{uid_of, stands_for, number_of, least_free, with_number, known_count, IsUnknown, HasOneNumberEach}
+
+pub position_none : {X : Type 0} (p : X → Bool) (xs : List X) → position p xs ≡ None → (k : ℕ) (d : X) → k < length xs → p (get_or xs k d) ≡ false
+position_none {X} p xs e k d within = none_at (ltb (position_or_len p xs) (length xs)) refl e
+  where
+    none_at : (b : Bool) → ltb (position_or_len p xs) (length xs) ≡ b → cond b (Some (position_or_len p xs)) None ≡ None → p (get_or xs k d) ≡ false
+    none_at true is e' = cc
+    none_at false is e' =
+        let past : length xs ≤ position_or_len p xs = ltb-false _ _ is in
+        not-true _ (prefix_len_passes (λ x. not (p x)) xs k d (omega arith))
+
+stands_for_is : (uid : ℕ) (o : Option ℕ) → stands_for uid o ≡ true → o ≡ Some uid
+stands_for_is uid None e = cc
+stands_for_is uid (Some u) e = ap (λ (n : ℕ). Some n) (eqb-true u uid e)
+
+is_stands_for : (uid : ℕ) (o : Option ℕ) → o ≡ Some uid → stands_for uid o ≡ true
+is_stands_for uid None e = cc
+is_stands_for uid (Some u) e = let same : u ≡ uid = cc in eq-eqb u uid same
+
+pub within_since_known : (kst : List (Option ℕ)) (n uid : ℕ) → uid_of kst n ≡ Some uid → n < length kst
+within_since_known kst n uid e = elim (cases_lt n (length kst)) [ inl lt ↦ lt | inr past ↦ (let none : uid_of kst n ≡ None = get_or_past kst n None past in cc) ]
+
+pub within_since_some : (kst : List (Option ℕ)) (n : ℕ) → IsSome (uid_of kst n) → n < length kst
+within_since_some kst n h = elim (cases_lt n (length kst)) [ inl lt ↦ lt | inr past ↦ (let none : uid_of kst n ≡ None = get_or_past kst n None past in let yet : is_some (uid_of kst n) ≡ false = ap is_some none in absurd (both_ways _ yet h)) ]
+
+pub number_some : (kst : List (Option ℕ)) (uid n : ℕ) → number_of kst uid ≡ Some n → (n < length kst) × (uid_of kst n ≡ Some uid)
+number_some kst uid n e =
+    let h : (n < length kst) × (stands_for uid (get_or kst n None) ≡ true) × ((k : ℕ) → k < n → stands_for uid (get_or kst k None) ≡ false) = position-Some (stands_for uid) kst n None e in
+    (h.0, stands_for_is uid _ h.1)
+
+pub number_none : (kst : List (Option ℕ)) (uid : ℕ) → number_of kst uid ≡ None → IsUnknown kst uid
+number_none kst uid e n known =
+    both_ways _ (position_none (stands_for uid) kst e n None (within_since_known kst n uid known)) (is_stands_for uid _ known)
+
+-- a number stands for the uid exactly where it is the uid's number
+pub numbered : (kst : List (Option ℕ)) (uid : ℕ) (r : Option ℕ) → HasOneNumberEach kst → r ≡ number_of kst uid → (n : ℕ) → (r ≡ Some n) ↔ (uid_of kst n ≡ Some uid)
+numbered kst uid None once e n = (λ h. absurd (none-some n h), λ h. absurd (number_none kst uid (sym e) n h))
+numbered kst uid (Some m) once e n =
+    let h : (m < length kst) × (uid_of kst m ≡ Some uid) = number_some kst uid m (sym e) in
+    ((λ s. let same : m ≡ n = cc in subst (λ (k : ℕ). uid_of kst k ≡ Some uid) same h.1), λ known. ap (λ (k : ℕ). Some k) (once m n uid h.1 known))
+
+pub unknown_is : (kst : List (Option ℕ)) (uid : ℕ) (r : Option ℕ) → r ≡ number_of kst uid → IsNone r ↔ IsUnknown kst uid
+unknown_is kst uid None e = (λ _. number_none kst uid (sym e), λ _. refl)
+unknown_is kst uid (Some m) e = (λ h. cc, λ unknown. absurd (unknown m (number_some kst uid m (sym e)).1))
+
+-- each place of the empty table stands for nothing
+pub once_new : (kst : List (Option ℕ)) (size : ℕ) → kst ≡ replicate size None → HasOneNumberEach kst
+once_new kst size is n m uid e f =
+    let lt : n < length kst = within_since_known kst n uid e in
+    let below : n < size = (let l : length kst ≡ size = rw (is, length-replicate) refl in omega arith) in
+    let none : uid_of (replicate size None) n ≡ None = get_or-replicate size n None None below in
+    let none' : uid_of kst n ≡ None = rw is none in cc
+
+free_is : (o : Option ℕ) → is_none o ≡ true → o ≡ None
+free_is None e = refl
+free_is (Some u) e = cc
+
+pub free_some : (kst : List (Option ℕ)) (n : ℕ) → least_free kst ≡ Some n → (n < length kst) × (uid_of kst n ≡ None)
+free_some kst n e =
+    let h : (n < length kst) × (is_none (get_or kst n None) ≡ true) × ((k : ℕ) → k < n → is_none (get_or kst k None) ≡ false) = position-Some is_none kst n None e in
+    (h.0, free_is _ h.1)
+
+all_known : (xs : List (Option ℕ)) → ((k : ℕ) → k < length xs → is_none (get_or xs k None) ≡ false) → known_count xs ≡ length xs
+all_known [] h = refl
+all_known (None ∷ xs) h = let no_place : true ≡ false = h 0 (omega arith) in cc
+all_known (Some u ∷ xs) h =
+    let ih : known_count xs ≡ length xs = all_known xs (λ k lt. h (suc k) (omega arith)) in
+    let more : known_count (Some u ∷ xs) ≡ 1 + known_count xs = grind (arith, common_steps) in omega arith
+
+some_free : (xs : List (Option ℕ)) (n : ℕ) → n < length xs → uid_of xs n ≡ None → known_count xs < length xs
+some_free [] n lt e = omega arith
+some_free (None ∷ xs) n lt e = let most : known_count xs ≤ length xs = count_by-le-length is_some xs in omega arith
+some_free (Some u ∷ xs) zero lt e = cc
+some_free (Some u ∷ xs) (suc n) lt e =
+    let ih : known_count xs < length xs = some_free xs n (omega arith) e in
+    let more : known_count (Some u ∷ xs) ≡ 1 + known_count xs = grind (arith, common_steps) in omega arith
+
+pub count_full : (kst : List (Option ℕ)) → least_free kst ≡ None → known_count kst ≡ length kst
+count_full kst e = all_known kst (λ k lt. position_none is_none kst e k None lt)
+
+-- there is a free number exactly where fewer than all are known
+pub room_is : (kst : List (Option ℕ)) (r : Option ℕ) (b : Bool) → length kst ≡ 256 → r ≡ least_free kst → b ≡ is_some r → IsTrue b ↔ (known_count kst < 256)
+room_is kst None b size e is =
+    let full : known_count kst ≡ length kst = count_full kst (sym e) in (λ h. cc, λ lt. absurd (omega arith))
+room_is kst (Some n) b size e is =
+    let free : (n < length kst) × (uid_of kst n ≡ None) = free_some kst n (sym e) in
+    let less : known_count kst < length kst = some_free kst n free.0 free.1 in (λ _. omega arith, λ _. is)
+
+-- a uid that is known keeps its number
+pub known_stays : (kst : List (Option ℕ)) (uid n : ℕ) → Some n ≡ number_of kst uid → kst ≡ with_number kst uid (Some n)
+known_stays kst uid n e =
+    let h : uid_of kst n ≡ Some uid = (number_some kst uid n (sym e)).1 in
+    let same : set kst n (get_or kst n None) ≡ kst = set-get_or kst n None in subst (λ (o : Option ℕ). kst ≡ set kst n o) h (sym same)
+
+pub known_is_some : (kst : List (Option ℕ)) (uid n size : ℕ) → Some n ≡ number_of kst uid → IsNone (Some n) ↔ ((known_count kst ≡ size) × IsUnknown kst uid)
+known_is_some kst uid n size e = (λ h. cc, λ h. absurd (h.1 n (number_some kst uid n (sym e)).1))
+
+pub given_is_some : (kst : List (Option ℕ)) (uid n : ℕ) → length kst ≡ 256 → Some n ≡ least_free kst → IsNone (Some n) ↔ ((known_count kst ≡ 256) × IsUnknown kst uid)
+given_is_some kst uid n size e =
+    let free : (n < length kst) × (uid_of kst n ≡ None) = free_some kst n (sym e) in
+    let less : known_count kst < length kst = some_free kst n free.0 free.1 in (λ h. cc, λ h. absurd (let full : known_count kst ≡ 256 = h.0 in omega arith))
+
+pub none_is_full : (kst : List (Option ℕ)) (uid : ℕ) (r : Option ℕ) → r ≡ None → length kst ≡ 256 → None ≡ number_of kst uid → None ≡ least_free kst → IsNone r ↔ ((known_count kst ≡ 256) × IsUnknown kst uid)
+none_is_full kst uid r none size unknown full = (λ h. (count_full kst (sym full) ∙ size, number_none kst uid (sym unknown)), λ h. ap is_some none)
+
+-- a new number for a uid that has none
+pub once_given : (kst : List (Option ℕ)) (uid n : ℕ) → HasOneNumberEach kst → n < length kst → IsUnknown kst uid → HasOneNumberEach (set kst n (Some uid))
+once_given kst uid n once lt unknown a b u e f =
+    elim (cases_eq a n) [
+      | inl at_a ↦ elim (cases_eq b n) [
+        | inl at_b ↦ at_a ∙ sym at_b
+        | inr off_b ↦
+            (let there : get_or (set kst n (Some uid)) n None ≡ Some uid = get_or-set_same kst n (Some uid) None lt in
+            let old : get_or (set kst n (Some uid)) b None ≡ get_or kst b None = get_or-set_other kst n b (Some uid) None off_b in
+            let here : get_or (set kst n (Some uid)) n None ≡ Some u = subst (λ (k : ℕ). get_or (set kst n (Some uid)) k None ≡ Some u) at_a e in
+            let known : uid_of kst b ≡ Some uid = cc in absurd (unknown b known))
+      ]
+      | inr off_a ↦
+          (let old_a : get_or (set kst n (Some uid)) a None ≡ get_or kst a None = get_or-set_other kst n a (Some uid) None off_a in
+          elim (cases_eq b n) [
+            | inl at_b ↦
+                (let there : get_or (set kst n (Some uid)) n None ≡ Some uid = get_or-set_same kst n (Some uid) None lt in
+                let here : get_or (set kst n (Some uid)) n None ≡ Some u = subst (λ (k : ℕ). get_or (set kst n (Some uid)) k None ≡ Some u) at_b f in
+                let known : uid_of kst a ≡ Some uid = cc in absurd (unknown a known))
+            | inr off_b ↦
+                (let old_b : get_or (set kst n (Some uid)) b None ≡ get_or kst b None = get_or-set_other kst n b (Some uid) None off_b in
+                once a b u (sym old_a ∙ e) (sym old_b ∙ f))
+          ])
+    ]
+
+-- a number given up
+pub once_forgotten : (kst : List (Option ℕ)) (n : ℕ) → HasOneNumberEach kst → n < length kst → HasOneNumberEach (set kst n None)
+once_forgotten kst n once lt a b u e f =
+    once a b u (still kst n a u lt e) (still kst n b u lt f)
+  where
+    still : (kst : List (Option ℕ)) (n a u : ℕ) → n < length kst → get_or (set kst n None) a None ≡ Some u → get_or kst a None ≡ Some u
+    still kst n a u lt e = elim (cases_eq a n) [
+      | inl at_a ↦ (let gone : uid_of (set kst n None) n ≡ None = get_or-set_same kst n None None lt in
+          let here : get_or (set kst n None) n None ≡ Some u = subst (λ (k : ℕ). get_or (set kst n None) k None ≡ Some u) at_a e in cc)
+      | inr off_a ↦ sym (get_or-set_other kst n a None None off_a) ∙ e
+    ]

@@ -1,0 +1,150 @@
+//! The known segment table of a process: its segment numbers, and the segments of the directory tree that they
+//! stand for.
+#![tactic(auto)]
+
+ghost use Rattle.std.specs.Prelude.{◌≡◌, ◌<◌, ◌↔◌, ℕ, Some, None, length, replicate, IsTrue, IsNone, IsSome, IfOk, IfSome};
+ghost use Rattle.known_segs.specs.Known.{uid_of, number_of, least_free, number_for, with_number, without_number, known_count, IsUnknown, HasOneNumberEach};
+
+use std::alloc::{AllocError, Global};
+use std::marker::Model;
+
+/// The number of segment numbers that a process has.
+pub const NUMBERS: usize = 256;
+
+/// No memory was left for a known segment table.
+#[derive(Clone, Copy, Debug, PartialEq, Eq)]
+pub struct NoMemory;
+
+impl From<AllocError> for NoMemory {
+    fn from(_: AllocError) -> Self {
+        NoMemory
+    }
+}
+
+/// The segments that are known to a process, each under one segment number from 0 to 255 (Bensoussan, Clingen and
+/// Daley 1972).
+///
+/// Contracts see it as the list of what the 256 numbers stand for: a finite map from numbers to uids. No uid has two
+/// numbers.
+#[derive(Debug, Drop)]
+pub struct Kst {
+    places: Vec<Option<u32>>,
+}
+
+impl Model for Kst {
+    ghost use Rattle.std.specs.Prelude.{◌≡◌, ℕ, List, Option, length};
+    ghost use Rattle.known_segs.specs.Known.{HasOneNumberEach};
+
+    ghost Value = { List (Option ℕ) };
+
+    ghost view = { λ k. k.places.items };
+
+    ghost invariant = { λ k. (length k.places.items ≡ 256) × HasOneNumberEach k.places.items };
+}
+
+/// The number whose place stands for `uid`.
+fn place_of(places: &[Option<u32>], uid: u32) -> Option<usize>
+    ensures number { result ≡ number_of places.now uid }
+    ensures within { IfSome result (λ n. n < length places.now) }
+{
+    places.iter().position(|place| *place == Some(uid))
+}
+
+/// The least number whose place is empty.
+fn least_free(places: &[Option<u32>]) -> Option<usize>
+    ensures number { result ≡ least_free places.now }
+    ensures within { IfSome result (λ n. n < length places.now) }
+{
+    places.iter().position(|place| place.is_none())
+}
+
+impl Kst {
+    /// A table in which nothing is known. Answers `NoMemory` where its 256 places can't be had.
+    pub fn new(alloc: Global) -> Result<Kst, NoMemory>
+        ensures { IfOk result (λ kst. kst ≡ replicate 256 None) }
+    {
+        let mut places = Vec::with_capacity(alloc, NUMBERS)?;
+        for _number in 0..NUMBERS {
+            places.push_reserved(None);
+        }
+        Ok(Kst { places })
+    }
+
+    /// Makes the segment `uid` known and gives its number: the one that it has, else the least free one. `None`
+    /// exactly where it isn't known and all 256 numbers are, and then nothing changes.
+    ///
+    /// Costs two passes over at most 256 places.
+    pub fn make_known(&mut self, uid: u32) -> Option<u32>
+        ensures number { result ≡ number_for self.old uid }
+        ensures places { self.new ≡ with_number self.old uid result }
+        ensures full { IsNone result ↔ ((known_count self.old ≡ 256) × IsUnknown self.old uid) }
+        ensures within { IfSome result (λ n. n < 256) }
+        ensures once { HasOneNumberEach self.new }
+    {
+        if let Some(number) = place_of(&self.places, uid) {
+            return Some(number as u32);
+        }
+        let number = least_free(&self.places)?;
+        self.places[number] = Some(uid);
+        Some(number as u32)
+    }
+
+    /// The uid of the segment that number `n` stands for. `None` exactly where it stands for none, as from 256 on.
+    ///
+    /// Costs one look, since every reference of the process makes it.
+    pub fn uid_of(&self, n: u32) -> Option<u32>
+        ensures uid { result ≡ uid_of self.now n }
+        ensures within { IsSome result → n < 256 }
+    {
+        *self.places.get(n as usize)?
+    }
+
+    /// Number `n` stands for nothing from now on. Costs one write.
+    pub fn forget(&mut self, n: u32)
+        requires known { IsSome (uid_of self.old n) }
+        ensures places { self.new ≡ without_number self.old n }
+    {
+        self.places[n as usize] = None;
+    }
+
+    /// The number of `uid`; `None` exactly where it isn't known. Costs a pass over at most 256 places.
+    pub fn number_of(&self, uid: u32) -> Option<u32>
+        ensures number { result ≡ number_of self.now uid }
+        ensures only { (n : ℕ) → (result ≡ Some n) ↔ (uid_of self.now n ≡ Some uid) }
+        ensures unknown { IsNone result ↔ IsUnknown self.now uid }
+        ensures once { HasOneNumberEach self.now }
+    {
+        let number = place_of(&self.places, uid)?;
+        Some(number as u32)
+    }
+
+    /// Whether fewer than 256 numbers are known. Costs a pass over at most 256 places.
+    pub fn has_room(&self) -> bool
+        ensures { IsTrue result ↔ (known_count self.now < 256) }
+    {
+        least_free(&self.places).is_some()
+    }
+}
+
+#[cfg(test)]
+mod tests {
+    use super::*;
+
+    #[test]
+    fn numbers_are_the_least_free_ones(rt: HostRuntime) {
+        let Ok(mut kst) = Kst::new(rt.alloc()) else {
+            assert!(rt; false, "no memory");
+            return;
+        };
+        for number in 0..256 {
+            assert_eq!(rt; kst.make_known(number + 2), Some(number));
+        }
+        assert_eq!(rt; kst.make_known(9), Some(7));
+        assert_eq!(rt; kst.make_known(1), None);
+        assert!(rt; !kst.has_room());
+        assert_eq!(rt; kst.uid_of(255), Some(257));
+        assert_eq!(rt; kst.uid_of(256), None);
+        assert_eq!(rt; kst.number_of(11), Some(9));
+        assert_eq!(rt; kst.uid_of(9), Some(11));
+    }
+}

@@ -1,0 +1,111 @@
+//! The page table of an active segment, one page table word for each page.
+//!
+//! The descriptor of a segment leads a processor to this table, and the word of a page leads it to the frame
+//! that the page is in, or makes it fault (Bensoussan, Clingen and Daley 1972; Organick 1972).
+//!
+//! Costs: `new` takes memory once, for all words. `get` reads one word and `set` writes one; neither takes
+//! memory or looks at another word.
+#![tactic(auto)]
+
+ghost use Rattle.std.specs.Prelude.{◌≡◌, ◌<◌, List, length, replicate, slice_set, IfOk};
+ghost use Rattle.page_table.specs.declared.Ptw.{Ptw};
+ghost use Rattle.page_table.specs.declared.Ptw.TheVariants.{Null};
+ghost use Rattle.page_table.specs.PageTable.{ptw_at};
+
+use std::alloc::{AllocError, Global};
+use std::marker::Model;
+
+/// There is no memory for a table. (Source: own.)
+#[derive(Clone, Copy, Debug, PartialEq, Eq)]
+pub struct NoMemory;
+
+impl From<AllocError> for NoMemory {
+    fn from(_: AllocError) -> Self {
+        NoMemory
+    }
+}
+
+/// A page table word, which says where a page is (Bensoussan, Clingen and Daley 1972).
+#[derive(Clone, Copy, Debug, PartialEq, Eq)]
+pub enum Ptw {
+    /// The page has no record: all its words are 0.
+    Null,
+    /// The page is on this record of the segment's volume, and in no frame.
+    Out(u32),
+    /// The page is in this frame.
+    Here(u32),
+    /// The page is in this frame and on its way out, so no reference goes through it.
+    Leaving(u32),
+}
+
+/// The page table of one segment, seen as the list of its words in order of page number.
+#[derive(Debug, Drop)]
+pub struct PageTable {
+    words: Vec<Ptw>,
+}
+
+impl Model for PageTable {
+    ghost Value = { List Ptw };
+
+    ghost view = { λ table. table.words.items };
+}
+
+impl PageTable {
+    /// A table of `size` words, each `Null`.
+    ///
+    /// `NoMemory` is want of memory. It costs one allocation and `size` writes. (Source: Bensoussan, Clingen and
+    /// Daley 1972.)
+    pub fn new(alloc: Global, size: u32) -> Result<PageTable, NoMemory>
+        ensures { IfOk result (λ table. table ≡ replicate size Null) }
+    {
+        let words = vec![in alloc; Ptw::Null; size as usize]?;
+        Ok(PageTable { words })
+    }
+
+    /// The word of page `p`. It costs one read. (Source: Bensoussan, Clingen and Daley 1972.)
+    pub fn get(&self, p: u32) -> Ptw
+        requires { p < length self.now }
+        ensures { result ≡ ptw_at self.now p }
+    {
+        self.words[p as usize]
+    }
+
+    /// Puts the word `w` at page `p`, and leaves every other word. It costs one write. (Source: Bensoussan,
+    /// Clingen and Daley 1972.)
+    pub fn set(&mut self, p: u32, w: Ptw)
+        requires { p < length self.old }
+        ensures { self.new ≡ slice_set self.old p w }
+    {
+        self.words[p as usize] = w;
+    }
+
+    /// Makes each word `Null`. It costs a write for each word. (Source: own.)
+    pub fn clear(&mut self)
+        ensures { self.new ≡ replicate (length self.old) Null }
+    {
+        for word in self.words.iter_mut() {
+            *word = Ptw::Null;
+        }
+    }
+}
+
+#[cfg(test)]
+mod tests {
+    use super::*;
+    use std::test::Fail;
+
+    #[test]
+    fn keeps_a_word_for_each_page(rt: HostRuntime) -> Result<(), Fail> {
+        let mut table = PageTable::new(rt.alloc(), 3)?;
+        assert_eq!(rt; table.get(2), Ptw::Null);
+        table.set(0, Ptw::Out(7));
+        table.set(2, Ptw::Here(4));
+        table.set(1, Ptw::Leaving(5));
+        assert_eq!(rt; table.get(0), Ptw::Out(7));
+        assert_eq!(rt; table.get(1), Ptw::Leaving(5));
+        assert_eq!(rt; table.get(2), Ptw::Here(4));
+        table.clear();
+        assert_eq!(rt; table.get(1), Ptw::Null);
+        Ok(())
+    }
+}

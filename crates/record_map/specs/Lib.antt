@@ -1,0 +1,1 @@
+pub use Rattle.bitmap.specs.Bitmap

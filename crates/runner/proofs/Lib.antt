@@ -1,0 +1,6 @@
+pub mod Answered
+pub mod Booked
+pub mod Ends
+pub mod Starts
+pub mod Texts
+pub mod Written

@@ -1,0 +1,85 @@
+use Rattle.std.proofs.Common.{◌≡◌, ◌≢◌, ℕ, zero, suc, ◌<◌, ◌^◌, Bool, true, false, List, [], ◌∷◌, length, Option, None, Some, Result, Ok, Err, refl, sym, ap, ◌∙◌, arith, get_or, set, replicate, map, slice_get, IfSome, IfNone, OnOk, OnErr}
+use Rattle.std.proofs.lemmas.List.{map-set, get_or-map, length-map, length-set, length-replicate, set-get_or}
+use Rattle.site_io.specs.declared.stream.Failed.{Failed}
+use Rattle.vtoc.specs.Vtoc.{Entry}
+use Rattle.volumes.specs.declared.Part.{Part}
+use Rattle.volumes.specs.Volumes.{HasParts, KeepsOthers}
+
+-- a write of what is there already
+set_same : {X : Type 0} (xs : List X) (v : ℕ) (x : X) → x ≡ get_or xs v x → set xs v x ≡ xs
+set_same xs v x read = ap (set xs v) read ∙ set-get_or xs v x
+
+-- the lengths are as before where the new element has the length of the old one
+lengths_with : {X : Type 0} (xs : List (List X)) (v : ℕ) (x y : List X) → x ≡ get_or xs v x → length y ≡ length x → map length (set xs v y) ≡ map length xs
+lengths_with xs v x y read long =
+    map-set length xs v y ∙ ap (set (map length xs) v) long ∙ sym (map-set length xs v x) ∙ ap (map length) (set_same xs v x read)
+
+pub parts_with_records : (disks : List (List (List ℕ))) (records : List (List Bool)) (vtocs : List (List (Option Entry))) (v : ℕ) (x y : List Bool)
+    → HasParts disks records vtocs → x ≡ get_or records v x → length y ≡ length x → HasParts disks (set records v y) vtocs
+parts_with_records disks records vtocs v x y h read long = record {
+  few = h.few;
+  sizes = lengths_with records v x y read long ∙ h.sizes;
+  tables = h.tables;
+}
+
+pub parts_with_drive : {D : Type 0} (pages : D → List (List ℕ)) (drives : List D) (records : List (List Bool)) (vtocs : List (List (Option Entry))) (v : ℕ) (x y : D)
+    → HasParts (map pages drives) records vtocs → x ≡ get_or drives v x → length (pages y) ≡ length (pages x) → HasParts (map pages (set drives v y)) records vtocs
+parts_with_drive pages drives records vtocs v x y h read long =
+    let count : length (map pages (set drives v y)) ≡ length (map pages drives) =
+    length-map (set drives v y) pages ∙ length-set drives v y ∙ sym (length-map drives pages) in
+    let old : set (map pages drives) v (pages x) ≡ map pages drives = sym (map-set pages drives v x) ∙ ap (map pages) (set_same drives v x read) in
+    record {
+      few = rw count h.few;
+      sizes = h.sizes ∙ sym (ap (map length) (map-set pages drives v y) ∙ map-set length (map pages drives) v (pages y)
+          ∙ ap (set (map length (map pages drives)) v) long ∙ sym (map-set length (map pages drives) v (pages x)) ∙ ap (map length) old);
+      tables = h.tables ∙ sym count;
+    }
+
+-- the length of what a call changed
+pub length_after_withdraw : (result : Option ℕ) (x y : List Bool) → IfSome result (λ r. y ≡ set x r true) → IfNone result (y ≡ x) → length y ≡ length x
+length_after_withdraw None x y some none = ap length none
+length_after_withdraw (Some r) x y some none = ap length some ∙ length-set x r true
+
+pub length_after_write : (result : Result (Unit {0}) Failed) (x y : List (List ℕ)) (r : ℕ) (words : List ℕ) → OnOk result (y ≡ set x r words) → OnErr result (y ≡ x)
+    → length y ≡ length x
+length_after_write (Ok u) x y r words ok err = ap length ok ∙ length-set x r words
+length_after_write (Err e) x y r words ok err = ap length err
+
+-- the drives but one are as before
+get_other : {D : Type 0} (drives : List D) (v w : ℕ) (y : D) → w ≢ v → slice_get (set drives v y) w ≡ slice_get drives w
+get_other [] v w y ne = refl
+get_other (x ∷ drives) zero zero y ne = absurd (ne refl)
+get_other (x ∷ drives) zero (suc w) y ne = refl
+get_other (x ∷ drives) (suc v) zero y ne = refl
+get_other (x ∷ drives) (suc v) (suc w) y ne = get_other drives v w y (λ e. ne (ap suc e))
+
+pub keeps_others : {D : Type 0} (drives : List D) (v : ℕ) (y : D) → KeepsOthers drives (set drives v y) v
+keeps_others drives v y = record { same = λ w ne. get_other drives v w y ne }
+
+-- a volume has as many flags as its drive has pages
+pub size_of_records : {D : Type 0} (pages : D → List (List ℕ)) (drives : List D) (records : List (List Bool)) (vtocs : List (List (Option Entry))) (v : ℕ) (x : D)
+    → HasParts (map pages drives) records vtocs → v < length drives → x ≡ get_or drives v x → length (pages x) ≡ length (get_or records v [])
+size_of_records pages drives records vtocs v x h lt read =
+    let many : length records ≡ length drives = sym (length-map records length) ∙ ap length h.sizes ∙ length-map (map pages drives) length ∙ length-map drives pages in
+    let there : v < length records = omega (arith, many) in
+    let disk : v < length (map pages drives) = omega (arith, length-map drives pages) in
+    ap (λ (d : _). length (pages d)) read ∙ sym (ap length (get_or-map pages drives v x [] lt))
+    ∙ sym (get_or-map length (map pages drives) v [] 0 disk) ∙ ap (λ (ns : List ℕ). get_or ns v 0) (sym h.sizes) ∙ get_or-map length records v [] 0 there
+
+-- volumes that were just made
+sizes_made : {D : Type 0} (pages : D → List (List ℕ)) (parts : List (Part D))
+    → map length (map (λ (part : Part D). replicate (length (pages part.drive)) false) parts) ≡ map length (map pages (map (λ (part : Part D). part.drive) parts))
+sizes_made pages [] = refl
+sizes_made pages (part ∷ parts) = rw (length-replicate (length (pages part.drive)) false, sizes_made pages parts) refl
+
+pub parts_made : {D : Type 0} (pages : D → List (List ℕ)) (parts : List (Part D)) (drives : List D) (records : List (List Bool)) (vtocs : List (List (Option Entry)))
+    → length parts < 2 ^ 32 → drives ≡ map (λ (part : Part D). part.drive) parts
+    → records ≡ map (λ (part : Part D). replicate (length (pages part.drive)) false) parts
+    → vtocs ≡ map (λ (part : Part D). replicate part.entries None) parts → HasParts (map pages drives) records vtocs
+parts_made pages parts drives records vtocs few ds rs vs =
+    let count : length (map pages drives) ≡ length parts = length-map drives pages ∙ ap length ds ∙ length-map parts (λ (part : Part _). part.drive) in
+    record {
+      few = rw count few;
+      sizes = rw (ds, rs) (sizes_made pages parts);
+      tables = ap length vs ∙ length-map parts (λ (part : Part _). replicate part.entries None) ∙ sym count;
+    }

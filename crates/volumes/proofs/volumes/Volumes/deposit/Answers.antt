@@ -1,0 +1,9 @@
+use Rattle.std.proofs.Common.{◌∙◌, ap, length, false}
+use Rattle.std.proofs.lemmas.List.{length-set}
+use Rattle.volumes.proofs.Parts.{parts_with_records}
+use Rattle.volumes.proofs.volumes.Volumes.deposit.Goals as goal
+
+pub invariant_of-self : goal.invariant_of-self
+invariant_of-self g c =
+    parts_with_records _ _ _ c.args.v c.index_mut.result.now _ c.self.invariant c.index_mut.ensures.value
+    (ap length c.deposit.ensures ∙ length-set c.index_mut.result.now c.args.r false)

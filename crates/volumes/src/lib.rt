@@ -1,0 +1,43 @@
+//! The volumes of the machine, each with a drive, a map of its records and a VTOC.
+//!
+//! A drive is a list of pages. `CoreDrive` keeps them in core, and fails at the calls that it is told.
+//!
+//! Costs: a drive's read or write in core copies one page, and looks at the lines that name failing calls, of which a
+//! script has at most 100. A call on a volume finds its parts by one index, and costs what the same call of its drive,
+//! record map or VTOC costs. Only the `new`s take memory.
+#![tactic(auto)]
+
+mod core_drive;
+mod drive;
+#[cfg(test)]
+mod tests;
+mod volumes;
+
+pub use core_drive::CoreDrive;
+pub use drive::{Drive, FailLine};
+pub use volumes::Volumes;
+
+/// There is no memory for a drive or for volumes. (Source: own.)
+#[derive(Clone, Copy, Debug, PartialEq, Eq)]
+pub struct NoMemory;
+
+impl From<record_map::NoMemory> for NoMemory {
+    fn from(_: record_map::NoMemory) -> Self {
+        NoMemory
+    }
+}
+
+impl From<vtoc::NoMemory> for NoMemory {
+    fn from(_: vtoc::NoMemory) -> Self {
+        NoMemory
+    }
+}
+
+/// What a volume is made of: its drive, and how many entries its VTOC has. (Source: own.)
+#[derive(Debug, Drop)]
+pub struct Part<D> {
+    /// The drive, which may hold pages already.
+    pub drive: D,
+    /// The entries of the VTOC.
+    pub entries: u32,
+}

@@ -1,0 +1,11 @@
+use Rattle.std.proofs.Common.{◌∙◌, ap, arith, length}
+use Rattle.vtoc.proofs.Table.{length_table, kept}
+use Rattle.vtoc.proofs.Vtoc.size.Goals as goal
+
+pub returns-clause-entries : goal.returns-clause-entries
+returns-clause-entries c = omega (arith, c.len.ensures, length_table c.self.inside.slots.items, ap length c.self.view_is)
+
+pub returns-clause-places : goal.returns-clause-places
+returns-clause-places c = record {
+  places = λ e. ap length (kept _ _ _ e c.self.invariant c.self.view_is).records ∙ c.self.invariant.places e;
+}

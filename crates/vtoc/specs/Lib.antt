@@ -1,0 +1,3 @@
+pub mod FileMap
+pub mod Vtoc
+pub mod Slots
