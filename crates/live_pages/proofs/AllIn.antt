@@ -1,24 +1,22 @@
 -- What the end hands out.
-use Rattle.std.proofs.Common.{◌≡◌, ◌≢◌, ℕ, suc, zero, ◌+◌, ◌<◌, ◌≤◌, List, [], ◌∷◌, ◌++◌, length, Option, Some, None, refl, sym, ap, subst, ◌∙◌, arith, get_or, set, Bool, true, false, IsTrue, option_to_list}
+use Rattle.std.proofs.Common.{◌≡◌, ◌≢◌, ℕ, suc, zero, ◌+◌, ◌<◌, ◌≤◌, List, [], ◌∷◌, ◌++◌, length, Option, Some, None, refl, sym, ap, subst, ◌∙◌, arith, get_or, set, Bool, false, IsTrue, option_to_list}
 use mathlib.Core.Logic.{dite}
 use mathlib.Core.Option as M
 use native.Mathlib.Decide.{ℕ_discrete}
 use lib.ListN.{get_elem?}
 use Rattle.std.proofs.lemmas.List.{get_or-set_same, get_or-set_other, length-set, length-append, get_or-append-add, get_or_append_left}
 use Rattle.std.proofs.lemmas.Option.{none-some}
-use Rattle.atomic_table.specs.Table.{State, Me, Final, Seen, Splits, Joins}
+use Rattle.atomic_table.specs.Table.{Final, Seen, Splits, Joins}
 use Rattle.live_pages.specs.declared.rule.Held.{Held}
 use Rattle.live_pages.specs.declared.rule.Size.{Size}
 use Rattle.live_pages.specs.declared.touch.Made.{Made}
 use Rattle.live_pages.specs.declared.views.Hand.TheVariants.{Free}
 use Rattle.live_pages.specs.declared.views.Part.TheVariants.{Out, In}
-use Rattle.live_pages.specs.declared.views.Walker.{Walker}
 use Rattle.live_pages.specs.declared.views.Holder.{Holder}
 use Rattle.live_pages.specs.declared.views.View.{View}
 use Rattle.live_pages.specs.declared.views.View.TheVariants.{Passing, Keeping, Spent}
-use Rattle.live_pages.specs.Touches.{Given, after}
-use Rattle.live_pages.specs.Turns.{Seat, current, first_holder, holder_of, walker_of, shown, taken_in}
-use Rattle.live_pages.specs.Kept.{Kept, AllIn, EndIsLegal, EndsAsOneThread}
+use Rattle.live_pages.specs.Turns.{Seat, first_holder, holder_of, walker_of, shown, taken_in}
+use Rattle.live_pages.specs.Kept.{AllIn, EndIsLegal, EndsAsOneThread}
 use Rattle.live_pages.specs.Models.{PagesModel, PassModel, KeeperModel, AreAll, HavePages, taking_in, taking_all_in}
 use Rattle.live_pages.proofs.Quiet.{InOrder}
 use Rattle.live_pages.proofs.Ends.{takes_in, shows, all_in_is_legal}

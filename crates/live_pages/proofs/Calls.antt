@@ -1,33 +1,29 @@
 -- The steps at seats that are known to be a pass's or the keeper's, and what a call leaves.
-use Rattle.std.proofs.Common.{◌≡◌, ◌≢◌, ℕ, suc, zero, ◌+◌, ◌-◌, ◌*◌, ◌/◌, ◌%◌, ◌^◌, ◌<◌, ◌≤◌, ◌⊎◌, Bool, true, false, cond, eqb, List, [], ◌∷◌, ◌++◌, length, replicate, Option, Some, None, refl, sym, ap, subst, ◌∙◌, arith, get_or, set, inl, inr, ⊎_elim, IsTrue, is_some, ◌↔◌, All, map}
+use Rattle.std.proofs.Common.{◌≡◌, ◌≢◌, ℕ, suc, zero, ◌+◌, ◌*◌, ◌%◌, ◌^◌, ◌<◌, ◌≤◌, eqb, List, [], ◌∷◌, ◌++◌, length, replicate, Option, Some, None, refl, sym, ap, subst, ◌∙◌, arith, get_or, All, map}
 use mathlib.Core.Option as M
 use mathlib.Core.Logic.{dite}
 use native.Mathlib.Decide.{ℕ_discrete}
 use Rattle.std.proofs.lemmas.Option.{none-some}
 use Rattle.std.proofs.lemmas.List.{length-append, length-replicate, get_or-set_same, get_or-set_other, get_or-append-add, get_or_append_left}
 use prog.Atomic.{either}
-use Rattle.atomic_table.specs.Table.{State, Me, step, rest, Allows, Splits}
+use Rattle.atomic_table.specs.Table.{step, rest, Allows, Splits}
 use Rattle.atomic_table.proofs.Lists.{at_last, at_longer}
 use lib.ListN.{get_elem?}
 use Rattle.std.proofs.lemmas.List.Elements.{All-append}
 use Rattle.atomic_table.specs.Seated.{TableId}
-use Rattle.live_doors.specs.declared.views.Walk.{Walk}
-use Rattle.live_doors.specs.declared.views.Watch.{Watch}
-use Rattle.live_doors.specs.Doors.{HasNoted, MayBind, having_read, holding, having_noted, OnlyNoted}
-use Rattle.live_doors.specs.Steps.{door_at, ack_at, filled}
-use Rattle.live_doors.proofs.Calls.{filled_odd, filled_even, noted_still}
+use Rattle.live_doors.specs.Doors.{HasNoted, MayBind, having_noted, OnlyNoted}
+use Rattle.live_doors.specs.Steps.{ack_at}
 use Rattle.live_pages.specs.declared.rule.Held.{Held}
 use Rattle.live_pages.specs.declared.rule.Size.{Size}
 use Rattle.live_pages.specs.declared.touch.Touch.{Touch}
-use Rattle.live_pages.specs.declared.views.Hand.{Hand}
 use Rattle.live_pages.specs.declared.views.Hand.TheVariants.{Free, Has}
 use Rattle.live_pages.specs.declared.views.Walker.{Walker}
 use Rattle.live_pages.specs.declared.views.Holder.{Holder}
 use Rattle.live_pages.specs.declared.views.View.{View}
-use Rattle.live_pages.specs.declared.views.View.TheVariants.{Passing, Keeping, Spent}
+use Rattle.live_pages.specs.declared.views.View.TheVariants.{Passing, Keeping}
 use Rattle.live_pages.specs.Touches.{touched, answer}
-use Rattle.live_pages.specs.Turns.{Seat, opening_words, first_holder, first_walker, keeper_with_pass, pass_of_keeper, bound_anew, having_made, taken, turn_at, ticket_at, current, walking, watching, walker_of, holder_of, Fills, Forgets, Acknowledges, Closes, Raises, Looks, Takes, Draws, Gives, KeeperTakes, Binds, KeeperGives}
-use Rattle.live_pages.specs.Models.{PagesModel, PassModel, KeeperModel, IsPassOf, IsKeeperOf, SameButWatch, HasInHand, having_touched, touched_in_hand, rebound, HaveZeroPages, first_passes, AreAll}
+use Rattle.live_pages.specs.Turns.{Seat, opening_words, first_holder, first_walker, keeper_with_pass, pass_of_keeper, bound_anew, having_made, turn_at, ticket_at, current, watching, walker_of, holder_of, Fills, Forgets, Acknowledges, Closes, Raises, Looks, Takes, Draws, Gives, KeeperTakes, Binds, KeeperGives}
+use Rattle.live_pages.specs.Models.{PagesModel, PassModel, KeeperModel, IsPassOf, IsKeeperOf, SameButWatch, HasInHand, touched_in_hand, rebound, HaveZeroPages, first_passes, AreAll}
 use Rattle.live_pages.proofs.Quiet.{InOrder, fills, forgets, acknowledges, closes, raises, looks}
 use Rattle.live_pages.proofs.Turning.{with_hand, takes_turn, gives_turn, keeper_takes, keeper_gives}
 use Rattle.live_pages.proofs.Changing.{draws, binds}

@@ -1,27 +1,20 @@
 -- The start, the making of passes, and the end.
-use Rattle.std.proofs.Common.{◌≡◌, ◌≢◌, ℕ, suc, zero, ◌+◌, ◌-◌, ◌*◌, ◌/◌, ◌%◌, ◌^◌, ◌<◌, ◌≤◌, ◌⊎◌, Bool, true, false, cond, eqb, List, [], ◌∷◌, ◌++◌, length, replicate, Option, Some, None, refl, sym, ap, subst, ◌∙◌, arith, get_or, set, inl, inr, ⊎_elim, map}
+use Rattle.std.proofs.Common.{◌≡◌, ◌≢◌, ℕ, suc, zero, ◌+◌, ◌/◌, ◌<◌, ◌≤◌, ◌⊎◌, List, [], ◌∷◌, ◌++◌, length, replicate, Option, Some, None, refl, sym, ap, subst, ◌∙◌, arith, get_or, set, inl, inr, ⊎_elim, map}
 use mathlib.Core.Logic.{dite}
 use mathlib.Core.Option as M
-use native.Mathlib.Decide.{ℕ_discrete, dec_lt}
-use prog.Atomic.{either}
+use native.Mathlib.Decide.{ℕ_discrete}
 use lib.ListN.{get_elem?}
-use Rattle.std.proofs.lemmas.List.{length-replicate, length-append, get_or-replicate, get_or_append_left, get_or-append-add, set-get_or, get_or-set_same, get_or-set_other, length-set}
-use Rattle.std.proofs.lemmas.Bool.{eqb-true, eq-eqb, ne_eqb}
-use Rattle.std.proofs.lemmas.Option.{none-some}
-use Rattle.atomic_table.specs.Table.{State, Me, Act, Valid, step, keeps, takes, gives, homes_after, carried_after, Allows, Splits, Joins, Final, Seen, opening}
-use Rattle.atomic_table.proofs.Lists.{set_again, at_set, set_here, set_else, exchanged, at_map}
-use Rattle.live_doors.specs.declared.views.Walk.{Walk}
-use Rattle.live_doors.specs.declared.views.Watch.{Watch}
-use Rattle.live_doors.specs.Doors.{blank, first_watch, having_read, HasNoted, IsShut, MayBind}
+use Rattle.std.proofs.lemmas.List.{length-replicate, length-append, get_or-replicate, get_or_append_left, get_or-append-add, get_or-set_same, get_or-set_other, length-set}
+use Rattle.atomic_table.specs.Table.{Splits, Joins}
+use Rattle.atomic_table.proofs.Lists.{set_again, at_set, set_else, at_map}
+use Rattle.live_doors.specs.Doors.{blank, HasNoted, MayBind}
 use Rattle.live_doors.specs.Steps.{door_at, ack_at, first_words}
-use Rattle.live_doors.specs.Kept.{EntryOk, PlanOk, PassOk}
-use Rattle.live_doors.proofs.Plain.{plan_admits, pass_admits, blank_ok, pass_stays, read_ok, entry_gone, entry_never}
+use Rattle.live_doors.specs.Kept.{PassOk}
+use Rattle.live_doors.proofs.Plain.{plan_admits, pass_admits, blank_ok}
 use Rattle.live_doors.proofs.Keeps.{seats_stay}
 use Rattle.live_pages.specs.declared.rule.Held.{Held}
 use Rattle.live_pages.specs.declared.rule.Size.{Size}
-use Rattle.live_pages.specs.declared.touch.Touch.{Touch}
 use Rattle.live_pages.specs.declared.touch.Made.{Made}
-use Rattle.live_pages.specs.declared.touch.Bound.{Bound}
 use Rattle.live_pages.specs.declared.views.Hand.{Hand}
 use Rattle.live_pages.specs.declared.views.Hand.TheVariants.{Free, Has}
 use Rattle.live_pages.specs.declared.views.Part.TheVariants.{Out, In}
@@ -29,13 +22,13 @@ use Rattle.live_pages.specs.declared.views.Walker.{Walker}
 use Rattle.live_pages.specs.declared.views.Holder.{Holder}
 use Rattle.live_pages.specs.declared.views.View.{View}
 use Rattle.live_pages.specs.declared.views.View.TheVariants.{Passing, Keeping, Spent}
-use Rattle.live_pages.specs.Touches.{touched, answer, Given, after, IsLegal, mine}
-use Rattle.live_pages.specs.Turns.{first_walker, first_holder, opening_words, keeper_with_pass, pass_of_keeper, taken_in, turn_at, ticket_at, current, hand_of, walking, watching, walker_of, holder_of, binding_in, binding_at, taken, having_made, page_of, admitted, bound_anew, Takes, Draws, Gives, KeeperTakes, Binds, KeeperGives}
-use Rattle.live_pages.specs.Kept.{IsClearOf, IsHistoryOf, AreOfBindings, HaveLeft, BookOk, SlotsOk, TurnsOk, HandOk, HoldsHand, WalkerOk, SeatOk, Kept, AllIn, EndIsLegal, AllInIsLegal, EntryIsCurrent, MayBindHasNoHolder}
-use Rattle.live_pages.proofs.Replay.{after_here, after_frame, after_else, after_next, regiven, regiven_binding, legal_next, left_next, bindings_stay, left_stays, left_touched, mine_here, mine_else, tickets_fit}
+use Rattle.live_pages.specs.Touches.{Given, after, mine}
+use Rattle.live_pages.specs.Turns.{first_holder, opening_words, keeper_with_pass, pass_of_keeper, taken_in, turn_at, current, hand_of, watching, binding_in}
+use Rattle.live_pages.specs.Kept.{IsClearOf, BookOk, SlotsOk, HandOk, SeatOk, Kept, AllIn, AllInIsLegal, EntryIsCurrent, MayBindHasNoHolder}
+use Rattle.live_pages.proofs.Replay.{bindings_stay, left_stays}
 use Rattle.live_pages.proofs.Changing.{entry_is_current}
-use Rattle.live_pages.proofs.Quiet.{set_at, InOrder, pass_stepped}
-use Rattle.live_pages.proofs.Turning.{put, put_here, put_else, has_frame, has_page, free_has, plan_above, pass_above, holder_stands}
+use Rattle.live_pages.proofs.Quiet.{set_at, InOrder}
+use Rattle.live_pages.proofs.Turning.{put, put_here, put_else, free_has, holder_stands}
 
 -- where the last of a longer list stands
 snoc_place : {V : Type 0} (l : List V) (a b : V) (j : ℕ) → get_elem? (l ++ a ∷ []) j ≡ M.some b → (get_elem? l j ≡ M.some b) ⊎ ((j ≡ length l) × (a ≡ b))

@@ -1,19 +1,18 @@
 -- The steps that leave turns, tickets and pages alone: they keep the rule as they keep that of the doors.
-use Rattle.std.proofs.Common.{◌≡◌, ◌≢◌, ℕ, suc, zero, ◌+◌, ◌-◌, ◌*◌, ◌/◌, ◌%◌, ◌^◌, ◌<◌, ◌≤◌, ◌⊎◌, Bool, true, false, cond, eqb, List, [], ◌∷◌, ◌++◌, length, replicate, Option, Some, None, refl, sym, ap, subst, ◌∙◌, arith, get_or, set, inl, inr, ⊎_elim}
+use Rattle.std.proofs.Common.{◌≡◌, ◌≢◌, ℕ, suc, zero, ◌+◌, ◌/◌, ◌%◌, ◌<◌, ◌≤◌, Bool, true, false, eqb, List, [], ◌∷◌, length, Option, refl, sym, ap, subst, ◌∙◌, arith, get_or, set}
 use mathlib.Core.Logic.{dite}
 use mathlib.Core.Option as M
-use native.Mathlib.Decide.{ℕ_discrete, dec_lt}
+use native.Mathlib.Decide.{ℕ_discrete}
 use lib.ListN.{get_elem?}
 use Rattle.std.proofs.lemmas.List.{set-get_or, get_or-set_same, get_or-set_other, length-set}
-use Rattle.std.proofs.lemmas.Bool.{eqb-true, eq-eqb, ne_eqb}
-use Rattle.atomic_table.specs.Table.{State, Me, step, keeps, Allows}
-use Rattle.atomic_table.proofs.Lists.{at_set, set_here, set_else}
+use Rattle.atomic_table.specs.Table.{State, step, keeps, Allows}
+use Rattle.atomic_table.proofs.Lists.{set_else}
 use Rattle.live_doors.specs.declared.views.Walk.{Walk}
 use Rattle.live_doors.specs.declared.views.Watch.{Watch}
-use Rattle.live_doors.specs.Doors.{blank, first_watch, having_read, having_noted, forgotten, acknowledged, shut, raised, holding}
+use Rattle.live_doors.specs.Doors.{having_noted, forgotten, acknowledged, shut, raised}
 use Rattle.live_doors.specs.Steps.{door_at, ack_at, filled_if, filled}
 use Rattle.live_doors.specs.Kept.{PlanOk, PassOk}
-use Rattle.live_doors.proofs.Plain.{filled_ok, forgotten_ok, plan_acknowledged, acknowledged_ok, pass_stays, plan_shut, pass_shut, plan_raised, pass_raised, plan_noted, pass_noted, read_ok}
+use Rattle.live_doors.proofs.Plain.{filled_ok, forgotten_ok, plan_acknowledged, acknowledged_ok, pass_stays, plan_shut, pass_shut, plan_raised, pass_raised, plan_noted, pass_noted}
 use Rattle.live_doors.proofs.Keeps.{seats_stay}
 use Rattle.live_pages.specs.declared.rule.Held.{Held}
 use Rattle.live_pages.specs.declared.rule.Size.{Size}
@@ -25,7 +24,7 @@ use Rattle.live_pages.specs.declared.views.Holder.{Holder}
 use Rattle.live_pages.specs.declared.views.View.{View}
 use Rattle.live_pages.specs.declared.views.View.TheVariants.{Passing, Keeping, Spent}
 use Rattle.live_pages.specs.Touches.{Given, after, mine}
-use Rattle.live_pages.specs.Turns.{turn_at, ticket_at, current, hand_of, walking, watching, walker_of, holder_of, Fills, Forgets, Acknowledges, Closes, Raises, Looks}
+use Rattle.live_pages.specs.Turns.{turn_at, ticket_at, current, hand_of, walking, watching, Fills, Forgets, Acknowledges, Closes, Raises, Looks}
 use Rattle.live_pages.specs.Kept.{BookOk, SlotsOk, TurnsOk, HandOk, HoldsHand, WalkerOk, SeatOk, Kept}
 use Rattle.live_pages.proofs.Replay.{bindings_stay, left_stays}
 

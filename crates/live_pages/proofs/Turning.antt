@@ -1,38 +1,33 @@
 -- The steps that take a turn, touch the page in hand, and give the turn back.
-use Rattle.std.proofs.Common.{◌≡◌, ◌≢◌, ℕ, suc, zero, ◌+◌, ◌-◌, ◌*◌, ◌/◌, ◌%◌, ◌^◌, ◌<◌, ◌≤◌, ◌⊎◌, Bool, true, false, cond, eqb, List, [], ◌∷◌, ◌++◌, length, replicate, Option, Some, None, refl, sym, ap, subst, ◌∙◌, arith, get_or, set, inl, inr, ⊎_elim}
+use Rattle.std.proofs.Common.{◌≡◌, ◌≢◌, ℕ, ◌+◌, ◌<◌, ◌≤◌, cond, eqb, List, [], ◌∷◌, length, Option, Some, None, refl, sym, ap, subst, ◌∙◌, arith, get_or, set, ⊎_elim}
 use mathlib.Core.Logic.{dite}
 use mathlib.Core.Option as M
-use native.Mathlib.Decide.{ℕ_discrete, dec_lt}
+use native.Mathlib.Decide.{ℕ_discrete}
 use prog.Atomic.{either}
 use lib.ListN.{get_elem?}
 use Rattle.std.proofs.lemmas.List.{set-get_or, get_or-set_same, get_or-set_other, length-set}
-use Rattle.std.proofs.lemmas.Bool.{eqb-true, eq-eqb, ne_eqb}
-use Rattle.std.proofs.lemmas.Option.{none-some}
+use Rattle.std.proofs.lemmas.Bool.{eq-eqb, ne_eqb}
 use Rattle.atomic_table.specs.Table.{State, Me, Act, Valid, step, keeps, takes, gives, homes_after, carried_after, Allows}
-use Rattle.atomic_table.proofs.Lists.{at_set, set_here, set_else, exchanged}
+use Rattle.atomic_table.proofs.Lists.{set_here, set_else, exchanged}
 use Rattle.live_doors.specs.declared.views.Walk.{Walk}
 use Rattle.live_doors.specs.declared.views.Watch.{Watch}
 use Rattle.live_doors.specs.Doors.{having_read, HasNoted, IsShut, MayBind}
 use Rattle.live_doors.specs.Steps.{door_at, ack_at}
-use Rattle.live_doors.specs.Kept.{EntryOk, PlanOk, PassOk}
+use Rattle.live_doors.specs.Kept.{PlanOk, PassOk}
 use Rattle.live_doors.proofs.Plain.{pass_stays, read_ok, entry_gone, entry_never}
 use Rattle.live_doors.proofs.Keeps.{seats_stay}
 use Rattle.live_pages.specs.declared.rule.Held.{Held}
 use Rattle.live_pages.specs.declared.rule.Size.{Size}
-use Rattle.live_pages.specs.declared.touch.Touch.{Touch}
 use Rattle.live_pages.specs.declared.touch.Made.{Made}
-use Rattle.live_pages.specs.declared.touch.Bound.{Bound}
 use Rattle.live_pages.specs.declared.views.Hand.{Hand}
 use Rattle.live_pages.specs.declared.views.Hand.TheVariants.{Free, Has}
-use Rattle.live_pages.specs.declared.views.Part.TheVariants.{Out, In}
 use Rattle.live_pages.specs.declared.views.Walker.{Walker}
 use Rattle.live_pages.specs.declared.views.Holder.{Holder}
 use Rattle.live_pages.specs.declared.views.View.{View}
 use Rattle.live_pages.specs.declared.views.View.TheVariants.{Passing, Keeping, Spent}
-use Rattle.live_pages.specs.Touches.{touched, answer, Given, after, IsLegal, mine}
-use Rattle.live_pages.specs.Turns.{turn_at, ticket_at, current, hand_of, walking, watching, walker_of, holder_of, binding_in, binding_at, taken, having_made, page_of, admitted, bound_anew, Takes, Draws, Gives, KeeperTakes, Binds, KeeperGives}
-use Rattle.live_pages.specs.Kept.{AreOfBindings, HaveLeft, BookOk, SlotsOk, TurnsOk, HandOk, HoldsHand, WalkerOk, SeatOk, Kept}
-use Rattle.live_pages.proofs.Replay.{after_here, after_frame, after_else, after_next, regiven, regiven_binding, legal_next, left_next, bindings_stay, left_stays, left_touched, mine_here, mine_else, tickets_fit}
+use Rattle.live_pages.specs.Touches.{Given, after, mine}
+use Rattle.live_pages.specs.Turns.{turn_at, ticket_at, current, hand_of, walking, taken, page_of, Takes, Gives, KeeperTakes, KeeperGives}
+use Rattle.live_pages.specs.Kept.{BookOk, TurnsOk, HandOk, HoldsHand, WalkerOk, SeatOk, Kept}
 use Rattle.live_pages.proofs.Quiet.{set_at, InOrder, pass_stepped}
 
 -- one number more has a value of its own

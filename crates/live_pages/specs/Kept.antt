@@ -1,5 +1,5 @@
 -- The rule over the words of the table, the pages in their slots and the views of its seats.
-use Rattle.std.specs.Prelude.{◌≡◌, ◌≢◌, ℕ, ◌+◌, ◌*◌, ◌/◌, ◌%◌, ◌^◌, ◌<◌, ◌≤◌, ◌⊎◌, List, [], ◌∷◌, length, replicate, slice_index, slice_index_or, Option, None, Some}
+use Rattle.std.specs.Prelude.{◌≡◌, ◌≢◌, ℕ, ◌+◌, ◌/◌, ◌^◌, ◌<◌, ◌≤◌, List, [], ◌∷◌, length, replicate, slice_index, slice_index_or, Option, None, Some}
 use mathlib.Core.Option as M
 use lib.ListN.{get_elem?}
 use Rattle.live_doors.specs.declared.views.Walk.{Walk}
@@ -9,12 +9,10 @@ use Rattle.live_doors.specs.Steps.{door_at}
 use Rattle.live_doors.specs.Kept.{PlanOk, PassOk}
 use Rattle.live_pages.specs.declared.rule.Held.{Held}
 use Rattle.live_pages.specs.declared.rule.Size.{Size}
-use Rattle.live_pages.specs.declared.touch.Touch.{Touch}
 use Rattle.live_pages.specs.declared.touch.Made.{Made}
 use Rattle.live_pages.specs.declared.touch.Bound.{Bound}
 use Rattle.live_pages.specs.declared.views.Hand.{Hand}
 use Rattle.live_pages.specs.declared.views.Hand.TheVariants.{Free, Has}
-use Rattle.live_pages.specs.declared.views.Part.{Part}
 use Rattle.live_pages.specs.declared.views.Part.TheVariants.{Out, In}
 use Rattle.live_pages.specs.declared.views.Walker.{Walker}
 use Rattle.live_pages.specs.declared.views.Holder.{Holder}

@@ -1,19 +1,16 @@
 -- What callers see of pages, passes and the keeper.
-use Rattle.std.specs.Prelude.{◌≡◌, ℕ, zero, suc, ◌++◌, replicate, Option, ◌+◌, ◌*◌, ◌<◌, ◌≤◌, List, [], ◌∷◌, length, slice_index, slice_index_or, slice_set, Some}
+use Rattle.std.specs.Prelude.{◌≡◌, ℕ, zero, suc, ◌++◌, replicate, Option, ◌<◌, List, [], ◌∷◌, length, slice_index_or, slice_set, Some}
 use mathlib.Core.Option as M
 use lib.ListN.{get_elem?}
 use Rattle.atomic_table.specs.Seated.{TableId}
-use Rattle.live_doors.specs.declared.views.Watch.{Watch}
-use Rattle.live_doors.specs.Doors.{having_read}
 use Rattle.live_pages.specs.declared.touch.Touch.{Touch}
-use Rattle.live_pages.specs.declared.views.Hand.{Hand}
 use Rattle.live_pages.specs.declared.views.Hand.TheVariants.{Free, Has}
 use Rattle.live_pages.specs.declared.views.Part.TheVariants.{In}
 use Rattle.live_pages.specs.declared.views.View.TheVariants.{Passing}
 use Rattle.live_pages.specs.declared.rule.Held.{Held}
 use Rattle.live_pages.specs.declared.views.Walker.{Walker}
 use Rattle.live_pages.specs.declared.views.Holder.{Holder}
-use Rattle.live_pages.specs.Turns.{Seat, watching, first_holder, first_walker, walker_of, taken, having_made, bound_anew, admitted, current}
+use Rattle.live_pages.specs.Turns.{Seat, watching, first_holder, first_walker, walker_of, taken, having_made, admitted, current}
 
 -- which table it is, and how many frames and processors it has
 pub record PagesModel : Type 0 where

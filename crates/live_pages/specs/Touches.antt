@@ -1,5 +1,5 @@
 -- Touches of the pages of bindings, as one thread makes them. Source: own.
-use Rattle.std.specs.Prelude.{◌≡◌, ℕ, ◌+◌, ◌%◌, ◌^◌, ◌<◌, ◌≤◌, Bool, true, false, ◌&&◌, ◌==◌, List, [], ◌∷◌, length, slice_index, slice_set}
+use Rattle.std.specs.Prelude.{◌≡◌, ℕ, ◌+◌, ◌%◌, ◌^◌, ◌<◌, Bool, true, false, ◌&&◌, ◌==◌, List, [], ◌∷◌, length, slice_index, slice_set}
 use Rattle.live_pages.specs.declared.touch.Touch.{Touch}
 use Rattle.live_pages.specs.declared.touch.Touch.TheVariants.{Get, Put, Add}
 use Rattle.live_pages.specs.declared.touch.Made.{Made}

@@ -1,4 +1,4 @@
-use Rattle.std.proofs.Common.{rules, ◌≡◌, ℕ, ◌+◌, ◌<◌, ◌≤◌, All, length, List, [], ◌∷◌, ◌++◌, sym, ap, refl, ◌∙◌, subst, arith}
+use Rattle.std.proofs.Common.{rules}
 use Rattle.live_pages.proofs.Calls.{admits_at}
 use Rattle.live_pages.proofs.opening.admit.Goals as goal
 

@@ -1,4 +1,4 @@
-use Rattle.std.proofs.Common.{rules, ◌≡◌, ℕ, ◌+◌, ◌<◌, ◌≤◌, All, length, List, [], ◌∷◌, ◌++◌, sym, ap, refl, ◌∙◌, subst, arith}
+use Rattle.std.proofs.Common.{rules, refl}
 use Rattle.live_pages.proofs.Calls.{all_first_at, all_at_first}
 use Rattle.live_pages.proofs.opening.begin.Goals as goal
 

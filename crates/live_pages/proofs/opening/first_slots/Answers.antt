@@ -1,4 +1,4 @@
-use Rattle.std.proofs.Common.{rules, ◌≡◌, ℕ, ◌+◌, ◌<◌, ◌≤◌, length, List, [], ◌∷◌, ◌++◌, Some, sym, ap, refl, ◌∙◌, subst, arith}
+use Rattle.std.proofs.Common.{rules, ◌≡◌, [], ◌∷◌, ◌++◌, Some, sym, subst}
 use Rattle.live_pages.specs.Models.{HaveZeroPages}
 use Rattle.live_pages.proofs.Calls.{zero_pages_push}
 use Rattle.live_pages.proofs.opening.first_slots.Goals as goal

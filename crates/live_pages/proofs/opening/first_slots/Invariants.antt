@@ -1,4 +1,4 @@
-use Rattle.std.proofs.Common.{◌≡◌, ℕ, length}
+use Rattle.std.proofs.Common.{◌≡◌, length}
 use Rattle.live_pages.specs.Models.{HaveZeroPages}
 use Rattle.live_pages.proofs.opening.first_slots.Given as goal
 

@@ -1,11 +1,11 @@
-use Rattle.std.proofs.Common.{rules, ◌≡◌, ℕ, ◌+◌, ◌*◌, ◌/◌, ◌%◌, ◌^◌, ◌<◌, ◌≤◌, length, List, [], ◌∷◌, Some, None, sym, ap, refl, ◌∙◌, subst, arith, get_or, set}
+use Rattle.std.proofs.Common.{rules, ◌≡◌, ◌+◌, ◌*◌, ◌/◌, [], ◌∷◌, Some, sym, ap, refl, ◌∙◌, subst, set}
 use Rattle.std.proofs.lemmas.List.{length-set}
 use Rattle.live_doors.specs.Doors.{HasNoted, MayBind}
 use Rattle.live_doors.proofs.Calls.{word_of}
 use Rattle.live_pages.specs.declared.rule.Held.{Held}
-use Rattle.live_pages.specs.declared.views.Hand.TheVariants.{Free, Has}
-use Rattle.live_pages.specs.declared.views.View.TheVariants.{Passing, Keeping, Spent}
-use Rattle.live_pages.specs.Turns.{Seat, bound_anew, current, holder_of}
+use Rattle.live_pages.specs.declared.views.Hand.TheVariants.{Has}
+use Rattle.live_pages.specs.declared.views.View.TheVariants.{Keeping}
+use Rattle.live_pages.specs.Turns.{bound_anew, current, holder_of}
 use Rattle.live_pages.specs.Models.{rebound}
 use Rattle.live_pages.proofs.Turning.{with_hand}
 use Rattle.live_pages.proofs.Ends.{may_bind_is_free}

@@ -1,4 +1,4 @@
-use Rattle.std.proofs.Common.{rules, ap, sym, subst, ◌∙◌}
+use Rattle.std.proofs.Common.{ap, sym, subst, ◌∙◌}
 use Rattle.std.specs.Mem.Slots.{slots_items}
 use Rattle.live_pages.specs.Kept.{AllIn}
 use Rattle.live_pages.proofs.AllIn.{all_are_in, ended, slots_held, ends_as_one}

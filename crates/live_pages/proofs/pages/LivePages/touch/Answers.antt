@@ -1,8 +1,7 @@
-use Rattle.std.proofs.Common.{rules, ◌≡◌, ℕ, ◌+◌, ◌*◌, ◌%◌, ◌^◌, ◌<◌, ◌≤◌, length, List, [], ◌∷◌, Some, None, sym, ap, refl, ◌∙◌, subst, arith, get_or}
+use Rattle.std.proofs.Common.{rules, ◌^◌, ◌<◌, length, [], ◌∷◌, Some, None, sym, ap, refl, ◌∙◌, subst, get_or}
 use Rattle.live_doors.specs.Doors.{having_read}
-use Rattle.live_pages.specs.declared.rule.Held.{Held}
-use Rattle.live_pages.specs.declared.views.View.TheVariants.{Passing, Keeping, Spent}
-use Rattle.live_pages.specs.Turns.{Seat, taken, walking, walker_of}
+use Rattle.live_pages.specs.declared.views.View.TheVariants.{Passing}
+use Rattle.live_pages.specs.Turns.{taken, walking, walker_of}
 use Rattle.live_pages.specs.Touches.{AreBelow}
 use Rattle.live_pages.specs.Models.{having_touched, touched_in_hand}
 use Rattle.live_pages.proofs.Calls.{self_form, takes_turn_at, pass_fits, pass_stays_of}

@@ -1,9 +1,9 @@
-use Rattle.std.proofs.Common.{rules, ◌≡◌, ℕ, ◌+◌, ◌*◌, ◌%◌, ◌^◌, ◌<◌, ◌≤◌, length, List, [], ◌∷◌, Some, None, sym, ap, refl, ◌∙◌, subst, arith}
+use Rattle.std.proofs.Common.{rules, [], Some, sym, ap, refl, ◌∙◌, subst}
 use Rattle.live_pages.specs.declared.rule.Held.{Held}
-use Rattle.live_pages.specs.declared.views.View.TheVariants.{Passing, Keeping, Spent}
+use Rattle.live_pages.specs.declared.views.View.TheVariants.{Passing}
 use Rattle.live_pages.specs.Touches.{touched, answer, AreBelow}
-use Rattle.live_pages.specs.Turns.{Seat, having_made, walker_of}
-use Rattle.live_pages.proofs.Calls.{slot_there, self_form, exchanged_twice, found_in_slot, same_held, draws_in_hand, gives_in_hand, drawn, given_back}
+use Rattle.live_pages.specs.Turns.{having_made, walker_of}
+use Rattle.live_pages.proofs.Calls.{slot_there, exchanged_twice, found_in_slot, same_held, draws_in_hand, gives_in_hand, drawn, given_back}
 use Rattle.live_pages.proofs.pages.LivePages.touch_in_hand.Goals as goal
 
 pub exchange-requires : goal.exchange-requires
