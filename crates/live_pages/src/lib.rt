@@ -3,6 +3,10 @@
 //! The doors of [`live_doors`], and behind each the page of a frame. A touch reads or writes a word of the page of an
 //! entry that its pass holds, and a bind gives a frame a new page once no pass holds an entry of it. Each page is in
 //! its slot or with whoever has the frame's turn, which is taken by one compare and exchange and never waited for.
+//!
+//! Each touch draws a ticket. At the close all is as one thread would have it that made the touches in order of their
+//! tickets: each was answered the word of its binding's page, and each page that was handed out or is left is its
+//! binding's page after that binding's touches.
 #![tactic(auto)]
 
 mod closing;

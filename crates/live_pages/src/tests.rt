@@ -7,6 +7,7 @@ ghost use Rattle.live_pages.specs.Models.{PassModel, IsPassOf, IsKeeperOf, AreAl
 use crate::{Keeper, LivePages, NoMemory, Pass, Touch, Touched};
 use mword::{Page, Word};
 use std::alloc::Global;
+use std::sync::atomic::{AtomicBool, AtomicU64, Ordering};
 use std::thread;
 use std::thread::{Threads, join};
 
@@ -62,9 +63,16 @@ fn binds_touches_and_binds_anew(rt: HostRuntime) -> Result<(), NoMemory> {
     Ok(())
 }
 
-const TURNS: u32 = 20_000;
-
 const ROUNDS: u32 = 40;
+
+// What the threads tell one another.
+#[derive(Drop)]
+struct Signals {
+    // How many passes have added.
+    started: AtomicU64,
+    // The keeper has made its rounds.
+    ended: AtomicBool,
+}
 
 // Adds to the frame's first word, if its door and its turn let it.
 fn add(pages: &LivePages, pass: &mut Pass, unit: Word) -> bool
@@ -90,19 +98,25 @@ fn rest(pages: &LivePages, pass: &mut Pass)
     pages.acknowledge(pass);
 }
 
-// Adds at most so many times, and answers how often.
-fn work(pages: &LivePages, mut pass: Pass, unit: Word) -> (Pass, u64)
+// Adds until the keeper has made its rounds, and answers how often.
+fn work(pages: &LivePages, mut pass: Pass, unit: Word, signals: &Signals) -> (Pass, u64)
     requires pass { IsPassOf pages.now pass }
     requires frame { pages.now.frames ≡ 1 }
     requires fresh { pass.walker.made ≡ [] }
     ensures pass { IsPassOf pages.now result.0 }
     ensures cpu { result.0.walker.walk.cpu ≡ pass.walker.walk.cpu }
-    ensures few { result.1 ≤ 20000 }
+    ensures few { result.1 ≤ 4294967295 }
 {
     let mut adds = 0;
-    for turn in 0..TURNS {
+    for turn in 0..u32::MAX {
+        if adds > 0 && signals.ended.load(Ordering::SeqCst) {
+            break;
+        }
         if add(pages, &mut pass, unit) {
             adds += 1;
+            if adds == 1 {
+                signals.started.fetch_add(1, Ordering::SeqCst);
+            }
         }
         if turn % 8 == 7 {
             rest(pages, &mut pass);
@@ -110,6 +124,17 @@ fn work(pages: &LivePages, mut pass: Pass, unit: Word) -> (Pass, u64)
     }
     rest(pages, &mut pass);
     (pass, adds)
+}
+
+// Waits until both passes have added, for at most so many turns.
+fn have_started(signals: &Signals) -> bool {
+    for _ in 0..10_000_000 {
+        if signals.started.load(Ordering::SeqCst) == 2 {
+            return true;
+        }
+        thread::yield_now();
+    }
+    false
 }
 
 // Asks until all is clear, for at most so many times.
@@ -147,8 +172,8 @@ fn renew(pages: &LivePages, keeper: &mut Keeper, page: Page) -> Result<Page, Pag
     Ok(pages.bind(keeper, 0, page))
 }
 
-// Binds the frame anew for as long as all goes clear, and answers the sum of the pages that were handed out.
-fn keep(pages: &LivePages, mut keeper: Keeper, mut spare: Page) -> (Keeper, Word)
+// Binds the frame anew for as long as all goes clear, once both passes have added, and answers the sum of the pages that were handed out.
+fn keep(pages: &LivePages, mut keeper: Keeper, mut spare: Page, signals: &Signals) -> (Keeper, Word)
     requires keeper { IsKeeperOf pages.now keeper }
     requires frame { pages.now.frames ≡ 1 }
     requires fresh { keeper.holder.watch.request ≡ 0 }
@@ -156,6 +181,9 @@ fn keep(pages: &LivePages, mut keeper: Keeper, mut spare: Page) -> (Keeper, Word
     ensures { IsKeeperOf pages.now result.0 }
 {
     let mut sum = Word::ZERO;
+    if !have_started(signals) {
+        return (keeper, sum);
+    }
     for _ in 0..ROUNDS {
         match renew(pages, &mut keeper, spare) {
             Ok(old) => spare = old,
@@ -167,6 +195,19 @@ fn keep(pages: &LivePages, mut keeper: Keeper, mut spare: Page) -> (Keeper, Word
     (keeper, sum)
 }
 
+// Keeps the frame, and then says that it has.
+fn keep_and_end(pages: &LivePages, keeper: Keeper, spare: Page, signals: &Signals) -> (Keeper, Word)
+    requires keeper { IsKeeperOf pages.now keeper }
+    requires frame { pages.now.frames ≡ 1 }
+    requires fresh { keeper.holder.watch.request ≡ 0 }
+    requires admitted { IsAdmitted keeper.holder.watch 0 × (current keeper.holder.watch 0 ≤ 1) }
+    ensures { IsKeeperOf pages.now result.0 }
+{
+    let kept = keep(pages, keeper, spare, signals);
+    signals.ended.store(true, Ordering::SeqCst);
+    kept
+}
+
 // A pass and the keeper, each on a thread of its own.
 fn work_and_keep<R: Threads + Sync>(
     rt: &R,
@@ -175,24 +216,25 @@ fn work_and_keep<R: Threads + Sync>(
     keeper: Keeper,
     spare: Page,
     unit: Word,
+    signals: &Signals,
 ) -> ((Pass, u64), (Keeper, Word))
     requires pass { IsPassOf pages.now pass × (pass.walker.made ≡ []) }
     requires keeper { IsKeeperOf pages.now keeper × (keeper.holder.watch.request ≡ 0) }
     requires frame { pages.now.frames ≡ 1 }
     requires admitted { IsAdmitted keeper.holder.watch 0 × (current keeper.holder.watch 0 ≤ 1) }
-    ensures pass { IsPassOf pages.now result.0.0 × (result.0.0.walker.walk.cpu ≡ pass.walker.walk.cpu) × (result.0.1 ≤ 20000) }
+    ensures pass { IsPassOf pages.now result.0.0 × (result.0.0.walker.walk.cpu ≡ pass.walker.walk.cpu) × (result.0.1 ≤ 4294967295) }
     ensures keeper { IsKeeperOf pages.now result.1.0 }
 {
     join(
         rt,
         || -> (Pass, u64)
             requires { IsPassOf pages.now pass × (pages.now.frames ≡ 1) × (pass.walker.made ≡ []) }
-            ensures { IsPassOf pages.entry.now result.0 × (result.0.walker.walk.cpu ≡ pass.walker.walk.cpu) × (result.1 ≤ 20000) }
-        { work(pages, pass, unit) },
+            ensures { IsPassOf pages.entry.now result.0 × (result.0.walker.walk.cpu ≡ pass.walker.walk.cpu) × (result.1 ≤ 4294967295) }
+        { work(pages, pass, unit, signals) },
         || -> (Keeper, Word)
             requires { IsKeeperOf pages.now keeper × (pages.now.frames ≡ 1) × (keeper.holder.watch.request ≡ 0) × IsAdmitted keeper.holder.watch 0 × (current keeper.holder.watch 0 ≤ 1) }
             ensures { IsKeeperOf pages.entry.now result.0 }
-        { keep(pages, keeper, spare) },
+        { keep_and_end(pages, keeper, spare, signals) },
     )
 }
 
@@ -205,26 +247,27 @@ fn run<R: Threads + Sync>(
     keeper: Keeper,
     spare: Page,
     unit: Word,
+    signals: &Signals,
 ) -> ((Pass, u64), ((Pass, u64), (Keeper, Word)))
     requires zero { IsPassOf pages.now zero × (zero.walker.made ≡ []) }
     requires one { IsPassOf pages.now one × (one.walker.made ≡ []) }
     requires keeper { IsKeeperOf pages.now keeper × (keeper.holder.watch.request ≡ 0) }
     requires frame { pages.now.frames ≡ 1 }
     requires admitted { IsAdmitted keeper.holder.watch 0 × (current keeper.holder.watch 0 ≤ 1) }
-    ensures zero { IsPassOf pages.now result.0.0 × (result.0.0.walker.walk.cpu ≡ zero.walker.walk.cpu) × (result.0.1 ≤ 20000) }
-    ensures one { IsPassOf pages.now result.1.0.0 × (result.1.0.0.walker.walk.cpu ≡ one.walker.walk.cpu) × (result.1.0.1 ≤ 20000) }
+    ensures zero { IsPassOf pages.now result.0.0 × (result.0.0.walker.walk.cpu ≡ zero.walker.walk.cpu) × (result.0.1 ≤ 4294967295) }
+    ensures one { IsPassOf pages.now result.1.0.0 × (result.1.0.0.walker.walk.cpu ≡ one.walker.walk.cpu) × (result.1.0.1 ≤ 4294967295) }
     ensures keeper { IsKeeperOf pages.now result.1.1.0 }
 {
     join(
         rt,
         || -> (Pass, u64)
             requires { IsPassOf pages.now zero × (pages.now.frames ≡ 1) × (zero.walker.made ≡ []) }
-            ensures { IsPassOf pages.entry.now result.0 × (result.0.walker.walk.cpu ≡ zero.walker.walk.cpu) × (result.1 ≤ 20000) }
-        { work(pages, zero, unit) },
+            ensures { IsPassOf pages.entry.now result.0 × (result.0.walker.walk.cpu ≡ zero.walker.walk.cpu) × (result.1 ≤ 4294967295) }
+        { work(pages, zero, unit, signals) },
         || -> ((Pass, u64), (Keeper, Word))
             requires { IsPassOf pages.now one × (one.walker.made ≡ []) × IsKeeperOf pages.now keeper × (pages.now.frames ≡ 1) × (keeper.holder.watch.request ≡ 0) × IsAdmitted keeper.holder.watch 0 × (current keeper.holder.watch 0 ≤ 1) }
-            ensures { IsPassOf pages.entry.now result.0.0 × (result.0.0.walker.walk.cpu ≡ one.walker.walk.cpu) × (result.0.1 ≤ 20000) × IsKeeperOf pages.entry.now result.1.0 }
-        { work_and_keep(rt, pages, one, keeper, spare, unit) },
+            ensures { IsPassOf pages.entry.now result.0.0 × (result.0.0.walker.walk.cpu ≡ one.walker.walk.cpu) × (result.0.1 ≤ 4294967295) × IsKeeperOf pages.entry.now result.1.0 }
+        { work_and_keep(rt, pages, one, keeper, spare, unit, signals) },
     )
 }
 
@@ -275,9 +318,13 @@ fn adds_on_two_threads_are_all_there(rt: HostRuntime) -> Result<(), NoMemory> {
     let spare = Page::zero(rt.alloc()).ok().expect(&rt, "a page");
     let unit = Word::new(1).expect(&rt, "a word");
     pages.bind(&mut keeper, 0, first);
+    let signals = Signals {
+        started: AtomicU64::new(0),
+        ended: AtomicBool::new(false),
+    };
     let (zero, one) = first_two(&pages, passes).expect(&rt, "two passes");
     let ((zero, adds), ((one, more), (keeper, handed_out))) = run(
-        &rt, &pages, zero, one, keeper, spare, unit,
+        &rt, &pages, zero, one, keeper, spare, unit, &signals,
     );
     let passes = gather(rt.alloc(), &pages, zero, one).expect(&rt, "a row of two");
     let ended = pages.close(keeper, passes);
