@@ -1,0 +1,7 @@
+pub mod Replay
+pub mod Quiet
+pub mod Turning
+pub mod Changing
+pub mod Ends
+pub mod AllIn
+pub mod Calls

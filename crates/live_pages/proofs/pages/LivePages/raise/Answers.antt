@@ -1,0 +1,6 @@
+use Rattle.std.proofs.Common.{rules}
+use Rattle.live_pages.proofs.Calls.{raises_at}
+use Rattle.live_pages.proofs.pages.LivePages.raise.Goals as goal
+
+pub store-requires : goal.store-requires
+store-requires c = (search rules, search rules, raises_at c.self.inside.table.shared.key _ _ c.keeper.inside.seat.me _ c.keeper.invariant.0 (search rules))

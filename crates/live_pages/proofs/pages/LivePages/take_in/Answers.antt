@@ -1,0 +1,12 @@
+use Rattle.std.proofs.Common.{rules, ap}
+use Rattle.live_pages.proofs.AllIn.{takes_in_at}
+use Rattle.live_pages.proofs.pages.LivePages.take_in.Goals as goal
+
+pub join_seat-requires : goal.join_seat-requires
+join_seat-requires c = (
+  search rules,
+  search rules,
+  ap (λ m. m.1) c.pass.invariant.0,
+  search rules,
+  takes_in_at c.self.inside.table.shared.key c.keeper.inside.seat.id c.keeper.inside.seat.me c.pass.inside.seat.id c.pass.inside.seat.me c.keeper.invariant.0 c.pass.invariant.0 c.pass.invariant.1,
+)

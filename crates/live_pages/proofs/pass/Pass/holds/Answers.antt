@@ -1,0 +1,9 @@
+use Rattle.std.proofs.Common.{sym, ap, ◌∙◌, subst, IsTrue, ◌↔◌}
+use Rattle.live_doors.specs.Doors.{HoldsEntry}
+use Rattle.live_doors.proofs.Calls.{holds_entry}
+use Rattle.live_pages.proofs.pass.Pass.holds.Goals as goal
+
+pub returns : goal.returns
+returns c =
+    subst (λ b. IsTrue b ↔ HoldsEntry c.args.self.now.walker.walk c.args.f) (sym c.is_some.ensures)
+    (holds_entry c.self.inside.held.items c.args.self.now.walker.walk.held c.args.f c.index.result.now c.index.ensures (c.self.invariant.3 ∙ ap (λ v. v.walker.walk.held) c.self.view_is) c.requires)

@@ -1,0 +1,4 @@
+pub mod Touches
+pub mod Turns
+pub mod Kept
+pub mod Models

@@ -1,0 +1,59 @@
+-- Touches of the pages of bindings, as one thread makes them. Source: own.
+use Rattle.std.specs.Prelude.{◌≡◌, ℕ, ◌+◌, ◌%◌, ◌^◌, ◌<◌, Bool, true, false, ◌&&◌, ◌==◌, List, [], ◌∷◌, length, slice_index, slice_set}
+use Rattle.live_pages.specs.declared.touch.Touch.{Touch}
+use Rattle.live_pages.specs.declared.touch.Touch.TheVariants.{Get, Put, Add}
+use Rattle.live_pages.specs.declared.touch.Made.{Made}
+
+-- the page after a touch
+abbrev pub touched : Touch → List ℕ → List ℕ
+touched (Get i) page = page
+touched (Put i word) page = slice_set page i word
+touched (Add i word) page = slice_set page i ((slice_index page i + word) % 2 ^ 36)
+
+-- the word that a touch of a page is answered
+abbrev pub answer : Touch → List ℕ → ℕ
+answer (Get i) page = slice_index page i
+answer (Put i word) page = word
+answer (Add i word) page = (slice_index page i + word) % 2 ^ 36
+
+-- the place of a touch
+abbrev pub place_of : Touch → ℕ
+place_of (Get i) = i
+place_of (Put i word) = i
+place_of (Add i word) = i
+
+-- the page that each binding of each frame was given
+abbrev pub Given : Type 0
+Given = ℕ → ℕ → List ℕ
+
+-- the touch is one of this binding of this frame
+abbrev pub is_of : ℕ → ℕ → Made → Bool
+is_of frame binding e = e.frame == frame && e.binding == binding
+
+abbrev pub touched_if : Bool → Touch → List ℕ → List ℕ
+touched_if true t page = touched t page
+touched_if false t page = page
+
+-- The page of a binding after these touches, the last one first. A touch of another binding changes nothing.
+abbrev pub after : Given → ℕ → ℕ → List Made → List ℕ
+after given frame binding [] = given frame binding
+after given frame binding (e ∷ es) = touched_if (is_of frame binding e) e.touch (after given frame binding es)
+
+-- The touches, the last one first, are those of one thread: each has the next ticket, and its word is that of its binding's page.
+abbrev pub IsLegal : Given → List Made → Type 0
+IsLegal given [] = Unit {0}
+IsLegal given (e ∷ es) = IsLegal given es × (e.word ≡ answer e.touch (after given e.frame e.binding es)) × (e.ticket ≡ length es)
+
+-- these touches have tickets below this number
+abbrev pub AreBelow : ℕ → List Made → Type 0
+AreBelow n [] = Unit {0}
+AreBelow n (e ∷ es) = AreBelow n es × (e.ticket < n)
+
+abbrev pub mine_if : Bool → Made → List Made → List Made
+mine_if true e es = e ∷ es
+mine_if false e es = es
+
+-- the touches of one processor
+abbrev pub mine : ℕ → List Made → List Made
+mine cpu [] = []
+mine cpu (e ∷ es) = mine_if (e.cpu == cpu) e (mine cpu es)

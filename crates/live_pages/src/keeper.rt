@@ -1,0 +1,53 @@
+//! The keeper of the pages.
+ghost use Rattle.std.specs.Prelude.{◌≡◌, ◌<◌, ◌↔◌, length, max, IsTrue};
+ghost use Rattle.live_doors.specs.Doors.{HasNoted, MayBind};
+ghost use Rattle.live_pages.specs.Kept.{HasNoHolder};
+
+use crate::rule::Place;
+use std::marker::Model;
+
+/// Who closes doors, raises stamps, asks for acknowledgements and binds frames.
+#[derive(Drop)]
+pub struct Keeper {
+    pub(crate) seat: Place,
+    pub(crate) request: u64,
+    pub(crate) doors: Vec<u64>,
+    pub(crate) since: Vec<u64>,
+    pub(crate) cleared: u64,
+}
+
+impl Model for Keeper {
+    ghost use Rattle.std.specs.Prelude.{◌≡◌, [], vec_len};
+    ghost use Rattle.live_doors.specs.Doors.{HasNoted};
+    ghost use Rattle.live_pages.specs.Models.{KeeperModel};
+    ghost use Rattle.live_pages.specs.Turns.{holder_of};
+    ghost use Rattle.live_pages.specs.declared.views.Hand.TheVariants.{Free};
+    ghost use Rattle.live_pages.specs.declared.views.View.TheVariants.{Keeping};
+
+    ghost Value = { KeeperModel };
+
+    ghost view = { λ k. record { table = k.seat.table_id; holder = holder_of k.seat.me.0; cleared = k.cleared } };
+
+    ghost invariant = { λ k. (k.seat.me ≡ (Keeping (holder_of k.seat.me.0), [])) × ((holder_of k.seat.me.0).hand ≡ Free) × (k.request ≡ (holder_of k.seat.me.0).watch.request) × (k.doors.items ≡ (holder_of k.seat.me.0).watch.doors) × (k.since.items ≡ (holder_of k.seat.me.0).watch.since) × (vec_len k.since ≡ vec_len k.doors) × HasNoted (holder_of k.seat.me.0).watch k.cleared };
+}
+
+impl Keeper {
+    /// Whether frame `f` may be bound anew: it was never bound, or it is closed and `all_clear` answered Ok for a
+    /// stamp that was raised since. No pass then holds an entry of it. Takes no memory and constant time. Source: own.
+    pub fn may_bind(&self, f: u32) -> bool
+        requires { f < length self.now.holder.watch.doors }
+        ensures may_bind { IsTrue result ↔ MayBind self.now.holder.watch self.now.cleared f }
+        ensures no_holder { IsTrue result → HasNoHolder self.now.holder f }
+    {
+        let door = self.doors[f as usize];
+        door == 1 || (door % 2 == 1 && self.since[f as usize] < self.cleared)
+    }
+
+    // Every processor has acknowledged the stamp.
+    pub(crate) fn clear(&mut self, stamp: u64)
+        requires { HasNoted self.old.holder.watch stamp }
+        ensures { self.new ≡ record self.old { cleared = max self.old.cleared stamp } }
+    {
+        self.cleared = self.cleared.max(stamp);
+    }
+}

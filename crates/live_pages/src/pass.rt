@@ -1,0 +1,40 @@
+//! The pass of a processor.
+ghost use Rattle.std.specs.Prelude.{◌≡◌, ◌<◌, ◌↔◌, length, IsTrue};
+ghost use Rattle.live_doors.specs.Doors.{HoldsEntry};
+
+use crate::rule::Place;
+use std::marker::Model;
+
+/// What one processor steps with. It holds entries of frames, each of the binding that its door admitted, and knows the
+/// touches that it made.
+#[derive(Drop)]
+pub struct Pass {
+    pub(crate) seat: Place,
+    pub(crate) cpu: u32,
+    pub(crate) held: Vec<Option<u64>>,
+    pub(crate) stamp: u64,
+}
+
+impl Model for Pass {
+    ghost use Rattle.std.specs.Prelude.{◌≡◌, []};
+    ghost use Rattle.live_pages.specs.Models.{PassModel};
+    ghost use Rattle.live_pages.specs.Turns.{walker_of};
+    ghost use Rattle.live_pages.specs.declared.views.Hand.TheVariants.{Free};
+    ghost use Rattle.live_pages.specs.declared.views.View.TheVariants.{Passing};
+
+    ghost Value = { PassModel };
+
+    ghost view = { λ p. record { table = p.seat.table_id; walker = walker_of p.seat.me.0 } };
+
+    ghost invariant = { λ p. (p.seat.me ≡ (Passing (walker_of p.seat.me.0), [])) × ((walker_of p.seat.me.0).hand ≡ Free) × (p.cpu ≡ (walker_of p.seat.me.0).walk.cpu) × (p.held.items ≡ (walker_of p.seat.me.0).walk.held) × (p.stamp ≡ (walker_of p.seat.me.0).walk.stamp) };
+}
+
+impl Pass {
+    /// Whether the pass holds an entry of frame `f`. Takes no memory and constant time. Source: own.
+    pub fn holds(&self, f: u32) -> bool
+        requires { f < length self.now.walker.walk.held }
+        ensures { IsTrue result ↔ HoldsEntry self.now.walker.walk f }
+    {
+        self.held[f as usize].is_some()
+    }
+}
