@@ -44,7 +44,7 @@ out_within table p r h = within_from table p Null (λ e. cc)
 pub used_within : (flags : List Bool) (r : ℕ) → in_use flags r ≡ true → r < length flags
 used_within flags r h = within_from flags r false (λ e. cc)
 
-some_number : (r : Option ℕ) → is_some r ≡ true → r ≡ Some (number_or_zero r)
+pub some_number : (r : Option ℕ) → is_some r ≡ true → r ≡ Some (number_or_zero r)
 some_number None h = cc
 some_number (Some r) h = refl
 

@@ -1,3 +1,4 @@
 pub mod Facts
 pub mod Ties
+pub mod Firsts
 pub mod Pictures

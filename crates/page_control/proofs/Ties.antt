@@ -22,7 +22,7 @@ page_same x uid p q h i = sym (ap number_of h) ∙ ap number_of i
 frame_same : (x : Option ℕ) (f g : ℕ) → x ≡ Some f → x ≡ Some g → f ≡ g
 frame_same x f g h i = cc
 
-not_none : {A : Type 0} (x : Option A) (a : A) → x ≡ None → x ≡ Some a → ⊥
+pub not_none : {A : Type 0} (x : Option A) (a : A) → x ≡ None → x ≡ Some a → ⊥
 not_none x a h i = cc
 
 -- frame f, which was bound to no page, is bound to page p, whose word named no frame
@@ -128,7 +128,7 @@ pub table_back : (bound : List (Option (ℕ × ℕ))) (uid : ℕ) (t u : List Pt
     → IsTableOf bound uid u
 table_back bound uid t u p f h word ws = table_word bound uid t u p (Here f) h ws (sym (ap frame_of word)) (leaving_within t p f word)
 
-frame_within : (core : Core) (f : ℕ) → (frame_at core f ≡ Free → ⊥) → f < length (bindings core)
+pub frame_within : (core : Core) (f : ℕ) → (frame_at core f ≡ Free → ⊥) → f < length (bindings core)
 frame_within core f other = rw (length-map core.frames bound_page) (within_from core.frames f Free other)
 
 bound_within : (bound : List (Option (ℕ × ℕ))) (f uid p : ℕ) → binding_at bound f ≡ Some (uid, p) → f < length bound

@@ -1,7 +1,7 @@
 -- What the frames, the records and the VTOCs stand for: the words of each page of each segment, and which pages are
 -- stored (Bensoussan, Clingen and Daley 1972; that a page of zeros has no record is Organick 1972).
 use Rattle.std.specs.Prelude.{ℕ, ◌==◌, ◌&&◌, Bool, false, List, [], Option, None, Some, is_some, replicate, position, slice_index_or}
-use Rattle.std.specs.List.{list_any, position_or_len}
+use Rattle.std.specs.List.{position_or_len}
 use Rattle.vtoc.specs.Vtoc.{Entry, record_at}
 use Rattle.page_control.specs.Plain.{Plain, bindings}
 use Rattle.page_control.specs.Tied.{vtoc_in}
@@ -17,7 +17,7 @@ is_entry_of uid None = false
 is_entry_of uid (Some entry) = entry.uid == uid
 
 abbrev pub has_entry_of : ℕ → List (Option Entry) → Bool
-has_entry_of uid table = list_any (is_entry_of uid) table
+has_entry_of uid table = is_some (position (is_entry_of uid) table)
 
 -- the volume that has the used entry of segment uid, and the place of that entry
 abbrev pub volume_of : List (List (Option Entry)) → ℕ → ℕ

@@ -218,7 +218,7 @@ impl<D: Drive> Pages<D> {
         ensures word { OnOk result (t.new ≡ slice_set t.old p (Here f)) }
         ensures table { IsTableOf (bindings self.new.core) uid t.new }
         ensures err { OnErr result (plain D.pages self.new ≡ framed (plain D.pages self.old) f Free) }
-        ensures err_picture { OnErr result (picture (plain D.pages self.new) ≡ picture (plain D.pages self.old)) }
+        ensures picture { picture (plain D.pages self.new) ≡ picture (plain D.pages self.old) }
         ensures stored { is_stored (plain D.pages self.new) ≡ is_stored (plain D.pages self.old) }
         ensures map { IsMapOf (file_map_of (plain D.pages self.new) home) t.new }
         ensures homes { self.new.volumes.vtocs ≡ self.old.volumes.vtocs }
