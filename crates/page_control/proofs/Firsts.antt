@@ -1,13 +1,11 @@
 -- The first place at which a test passes.
-use Rattle.std.proofs.Common.{◌≡◌, ◌≢◌, ℕ, zero, suc, ◌+◌, ◌-◌, ◌<◌, ◌≤◌, Bool, true, false, not, cond, eqb, ltb, ◌&&◌, List, [], ◌∷◌, length, Option, None, Some, refl, sym, ap, ◌∙◌, arith, get_or, set, is_some, inl, inr, ◌⊎◌}
+use Rattle.std.proofs.Common.{◌≡◌, ℕ, zero, suc, ◌+◌, ◌<◌, Bool, true, false, ltb, List, [], ◌∷◌, length, None, Some, refl, ap, ◌∙◌, arith, get_or, set, inl, inr}
 use Rattle.std.specs.List.{position, position_or_len}
-use Rattle.std.proofs.lemmas.Bool.{cases_eq}
-use Rattle.std.proofs.lemmas.Bool.Decides.{eqb_tells, leb_tells}
+use Rattle.std.proofs.lemmas.Bool.Decides.{leb_tells}
 use Rattle.std.proofs.lemmas.List.{length-set}
 use Rattle.std.proofs.lemmas.List.Folds.{position_or_len-set}
-use Rattle.std.proofs.lemmas.List.Quantifiers.{position-Some}
 
-below : (a b : ℕ) → a < b → ltb a b ≡ true
+pub below : (a b : ℕ) → a < b → ltb a b ≡ true
 below a b h = elim (leb_tells (suc a) b) [ inl i ↦ i.0 | inr i ↦ absurd (omega (arith, h, i.1)) ]
 
 not_below : (a : ℕ) → ltb a a ≡ false

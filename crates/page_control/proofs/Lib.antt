@@ -2,3 +2,4 @@ pub mod Facts
 pub mod Ties
 pub mod Firsts
 pub mod Pictures
+pub mod Leaving

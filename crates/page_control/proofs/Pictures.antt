@@ -20,11 +20,11 @@ pub picture_by : (bound old_bound : List (Option (ℕ × ℕ))) (frames old_fram
     → words_of_page bound frames disks vtocs ≡ words_of_page old_bound old_frames old_disks old_vtocs
 picture_by bound old_bound frames old_frames disks old_disks vtocs old_vtocs b f d v = rw (b, f, d, v) refl
 
-off_and_on : (b : Bool) → b ≡ false → b ≡ true → ⊥
+pub off_and_on : (b : Bool) → b ≡ false → b ≡ true → ⊥
 off_and_on b h i = cc
 
 -- an entry that is used for a segment
-entry_tells : (entry : Option Entry) (uid : ℕ) → is_entry_of uid entry ≡ true → uid_of entry ≡ Some uid
+pub entry_tells : (entry : Option Entry) (uid : ℕ) → is_entry_of uid entry ≡ true → uid_of entry ≡ Some uid
 entry_tells None uid h = cc
 entry_tells (Some entry) uid h = elim (eqb_tells entry.uid uid) [ inl i ↦ ap Some i.1 | inr i ↦ absurd (off_and_on _ i.0 h) ]
 
@@ -48,7 +48,7 @@ has_entry vtocs uid home h =
     ap is_some (position_at_one (is_entry_of uid) (vtoc_in vtocs home.volume) home.entry None (home_within vtocs uid home h) (entry_is _ uid h.used)
     (λ k lt passes. (h.only home.volume k (entry_tells _ uid passes)).1))
 
-volume_found : (vtocs : List (List (Option Entry))) (uid : ℕ) (home : Home) → IsHomeOf vtocs uid home → volume_of vtocs uid ≡ home.volume
+pub volume_found : (vtocs : List (List (Option Entry))) (uid : ℕ) (home : Home) → IsHomeOf vtocs uid home → volume_of vtocs uid ≡ home.volume
 volume_found vtocs uid home h =
     at_one (has_entry_of uid) vtocs home.volume []
     (within_from vtocs home.volume [] (λ none. off_and_on _ (ap (has_entry_of uid) none) (has_entry vtocs uid home h))) (has_entry vtocs uid home h)
@@ -71,7 +71,7 @@ abbrev pub uid_part : Option (ℕ × ℕ) → ℕ
 uid_part None = 0
 uid_part (Some x) = x.0
 
-binding_tells : (x : Option (ℕ × ℕ)) (uid p : ℕ) → is_binding uid p x ≡ true → x ≡ page uid p
+pub binding_tells : (x : Option (ℕ × ℕ)) (uid p : ℕ) → is_binding uid p x ≡ true → x ≡ page uid p
 binding_tells None uid p h = cc
 binding_tells (Some (a, b)) uid p h = elim (eqb_tells a uid) [
   | inl i ↦ elim (eqb_tells b p) [
@@ -81,7 +81,7 @@ binding_tells (Some (a, b)) uid p h = elim (eqb_tells a uid) [
   | inr i ↦ absurd (let off : is_binding uid p (page a b) ≡ false = rw i.0 refl in off_and_on _ off h)
 ]
 
-binding_is_one : (uid p : ℕ) → is_binding uid p (page uid p) ≡ true
+pub binding_is_one : (uid p : ℕ) → is_binding uid p (page uid p) ≡ true
 binding_is_one uid p = rw (eq-eqb uid uid refl, eq-eqb p p refl) refl
 
 held_same : (frames disk : List (List ℕ)) (place : Option ℕ) (f : ℕ) (words : List ℕ) (x : Option ℕ) → ((g : ℕ) → x ≡ Some g → g ≢ f)
@@ -89,7 +89,7 @@ held_same : (frames disk : List (List ℕ)) (place : Option ℕ) (f : ℕ) (word
 held_same frames disk place f words None other = refl
 held_same frames disk place f words (Some g) other = get_or-set_other frames f g words [] (other g refl)
 
-off_from : (x : Option (ℕ × ℕ)) (uid p : ℕ) (b : Bool) → is_binding uid p x ≡ b → (x ≡ page uid p → ⊥) → is_binding uid p x ≡ false
+pub off_from : (x : Option (ℕ × ℕ)) (uid p : ℕ) (b : Bool) → is_binding uid p x ≡ b → (x ≡ page uid p → ⊥) → is_binding uid p x ≡ false
 off_from x uid p true is other = absurd (other (binding_tells x uid p is))
 off_from x uid p false is other = is
 

@@ -19,7 +19,7 @@ number_of (Some x) = x.1
 page_same : (x : Option (ℕ × ℕ)) (uid p q : ℕ) → x ≡ Some (uid, p) → x ≡ Some (uid, q) → p ≡ q
 page_same x uid p q h i = sym (ap number_of h) ∙ ap number_of i
 
-frame_same : (x : Option ℕ) (f g : ℕ) → x ≡ Some f → x ≡ Some g → f ≡ g
+pub frame_same : (x : Option ℕ) (f g : ℕ) → x ≡ Some f → x ≡ Some g → f ≡ g
 frame_same x f g h i = cc
 
 pub not_none : {A : Type 0} (x : Option A) (a : A) → x ≡ None → x ≡ Some a → ⊥

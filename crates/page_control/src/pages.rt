@@ -327,6 +327,8 @@ impl<D: Drive> Pages<D> {
         ensures ok { IfOk result (λ left. plain D.pages self.new ≡ evicted (plain D.pages self.old) home (number_in (frame_at self.old.core f)) f left) }
         ensures word { IfOk result (λ left. t.new ≡ slice_set t.old (number_in (frame_at self.old.core f)) (word_of_left left (record_of (plain D.pages self.old) home (number_in (frame_at self.old.core f))))) }
         ensures table { IsTableOf (bindings self.new.core) (uid_in (frame_at self.old.core f)) t.new }
+        ensures kept_picture { result ≡ Ok Left.Kept → picture (plain D.pages self.new) ≡ picture (plain D.pages self.old) }
+        ensures kept_stored { result ≡ Ok Left.Kept → is_stored (plain D.pages self.new) ≡ is_stored (plain D.pages self.old) }
         ensures no_call { AreZero (words_in (plain D.pages self.old) f) → self.new.volumes.drives ≡ self.old.volumes.drives }
         ensures err { OnErr result (plain D.pages self.new ≡ plain D.pages self.old) }
         ensures word_kept { OnErr result (t.new ≡ t.old) }

@@ -1,6 +1,6 @@
 use Rattle.std.proofs.Common.{rules, ◌≡◌, ℕ, false, ap, ◌∙◌, arith, ◌<◌, length}
 use Rattle.std.proofs.lemmas.Grind.{common_steps}
-use Rattle.core_map.specs.CoreMap.{with_frame, frame_at, bound_page}
+use Rattle.core_map.specs.CoreMap.{with_frame, bound_page}
 use Rattle.core_map.specs.declared.Frame.TheVariants.{Free, Started, Bound}
 use Rattle.core_map.specs.declared.Frame.{Frame}
 use Rattle.page_control.specs.Tied.{frame_of}
