@@ -1,0 +1,120 @@
+use Rattle.std.proofs.Common.{◌≡◌, ℕ, ◌<◌, Bool, true, false, List, [], ◌∷◌, ◌++◌, length, Option, None, Some, refl, sym, ap, ◌∙◌, get_or, set, replicate, take, inl, inr, All, IsSome, is_some}
+use Rattle.std.proofs.lemmas.Bool.Decides.{leb_tells}
+use Rattle.std.proofs.lemmas.List.{get_or_past, get_or-set_same, set-set, map-set}
+use Rattle.std.proofs.Math.ListN.{get_or-map}
+use Rattle.std.proofs.Math.Seq.{map-set_same}
+use Rattle.std.proofs.lemmas.List.Elements.{All-get_or}
+use Rattle.bitmap.specs.Bitmap.{in_use, IsLeastFree}
+use Rattle.core_map.specs.declared.Frame.{Frame}
+use Rattle.core_map.specs.declared.Frame.TheVariants.{Free, Started, Bound}
+use Rattle.core_map.specs.CoreMap.{Core, frame_at, with_frame, is_bound, bound_page, after_reference}
+use Rattle.page_table.specs.declared.Ptw.{Ptw}
+use Rattle.page_table.specs.declared.Ptw.TheVariants.{Null, Out, Here, Leaving}
+use Rattle.page_table.specs.PageTable.{ptw_at}
+use Rattle.vtoc.specs.Vtoc.{Entry, uid_of}
+use Rattle.page_control.specs.declared.Home.{Home}
+use Rattle.page_control.specs.Plain.{Plain, bindings, binding_at, flags_of, file_map_of, filed, entry_of, record_of, number_in, number_or_zero}
+use Rattle.page_control.specs.Tied.{frame_of, has_record, uid_in, IsTableOf, IsHomeOf, IsMapOf, AreFiled}
+
+-- a used entry is there
+pub some_entry : (entry : Option Entry) (uid : ℕ) → uid_of entry ≡ Some uid → IsSome entry
+some_entry None uid h = cc
+some_entry (Some entry) uid h = refl
+
+pub home_used : (s : Plain) (uid : ℕ) (home : Home) → IsHomeOf s.vtocs uid home → IsSome (entry_of s home)
+home_used s uid home h = some_entry (entry_of s home) uid h.used
+
+-- a place of a list whose element isn't the default is within the list
+pub within_from : {X : Type 0} (xs : List X) (i : ℕ) (d : X) → (get_or xs i d ≡ d → ⊥) → i < length xs
+within_from xs i d other = elim (leb_tells (length xs) i) [
+  | inl h ↦ absurd (other (get_or_past xs i d h.1))
+  | inr h ↦ h.1
+]
+
+pub here_within : (table : List Ptw) (p f : ℕ) → ptw_at table p ≡ Here f → p < length table
+here_within table p f h = within_from table p Null (λ e. cc)
+
+pub leaving_within : (table : List Ptw) (p f : ℕ) → ptw_at table p ≡ Leaving f → p < length table
+leaving_within table p f h = within_from table p Null (λ e. cc)
+
+pub out_within : (table : List Ptw) (p r : ℕ) → ptw_at table p ≡ Out r → p < length table
+out_within table p r h = within_from table p Null (λ e. cc)
+
+-- a record that is in use is within its volume
+pub used_within : (flags : List Bool) (r : ℕ) → in_use flags r ≡ true → r < length flags
+used_within flags r h = within_from flags r false (λ e. cc)
+
+pub some_number : (r : Option ℕ) → is_some r ≡ true → r ≡ Some (number_or_zero r)
+some_number None h = cc
+some_number (Some r) h = refl
+
+-- a page whose word isn't `Null` is on a record
+pub filed_from_word : (s : Plain) (home : Home) (table : List Ptw) (p : ℕ) → IsMapOf (file_map_of s home) table → has_record (ptw_at table p) ≡ true
+    → filed s home p ≡ Some (record_of s home p)
+filed_from_word s home table p h word = some_number (filed s home p) (h.stored p ∙ word)
+
+-- which is in use
+pub filed_in_use : (s : Plain) (home : Home) (p r : ℕ) → AreFiled s.records s.vtocs → filed s home p ≡ Some r → in_use (flags_of s home.volume) r ≡ true
+filed_in_use s home p r h is = h.used home.volume home.entry p r is
+
+-- where all records are in use, none is free
+pub none_free : (flags : List Bool) (r : ℕ) → All (λ flag. flag ≡ true) flags → IsLeastFree flags r → ⊥
+none_free flags r all least = (let on : get_or flags r false ≡ true = All-get_or (λ (flag : Bool). flag ≡ true) flags r false least.within all in (let off : get_or flags r false ≡ false = least.free in cc))
+
+-- a page that is cleared from its start
+pub all_cleared : (words : List ℕ) → take 0 words ++ replicate 1024 0 ≡ replicate 1024 0
+all_cleared [] = refl
+all_cleared (w ∷ words) = refl
+
+-- what one frame is bound to
+pub binding_is : (core : Core) (f : ℕ) → binding_at (bindings core) f ≡ bound_page (frame_at core f)
+binding_is core f = get_or-map bound_page core.frames f Free
+
+-- a frame that is bound to a page is bound
+bound_from_page : (frame : Frame) (uid p : ℕ) → bound_page frame ≡ Some (uid, p) → is_bound frame ≡ true
+bound_from_page Free uid p h = cc
+bound_from_page (Started u q) uid p h = cc
+bound_from_page (Bound u q used modified) uid p h = refl
+
+-- and so is the frame that a word names
+pub leaving_bound : (core : Core) (uid : ℕ) (table : List Ptw) (p f : ℕ) → IsTableOf (bindings core) uid table → ptw_at table p ≡ Leaving f
+    → is_bound (frame_at core f) ≡ true
+leaving_bound core uid table p f h word =
+    bound_from_page (frame_at core f) uid p (sym (binding_is core f) ∙ h.back f p (ap frame_of word))
+
+-- what a change of one frame does to the bindings
+pub bindings_with : (core : Core) (f : ℕ) (frame : Frame) → bindings (with_frame core f frame) ≡ set (bindings core) f (bound_page frame)
+bindings_with core f frame = map-set bound_page core.frames f frame
+
+-- a frame that stays bound to the same page, or to none
+pub bindings_same : (core : Core) (f : ℕ) (frame : Frame) → bound_page frame ≡ bound_page (frame_at core f) → bindings (with_frame core f frame) ≡ bindings core
+bindings_same core f frame same = map-set_same bound_page core.frames f frame Free same
+
+page_referred : (frame : Frame) (wrote : Bool) → bound_page (after_reference frame wrote) ≡ bound_page frame
+page_referred Free wrote = refl
+page_referred (Started u q) wrote = refl
+page_referred (Bound u q used modified) wrote = refl
+
+pub bindings_referred : (core : Core) (f : ℕ) (wrote : Bool) → bindings (with_frame core f (after_reference (frame_at core f) wrote)) ≡ bindings core
+bindings_referred core f wrote = bindings_same core f _ (page_referred (frame_at core f) wrote)
+
+pub bindings_started : (core : Core) (f uid p : ℕ) → frame_at core f ≡ Free → bindings (with_frame core f (Started uid p)) ≡ bindings core
+bindings_started core f uid p free = bindings_same core f (Started uid p) (sym (ap bound_page free))
+
+pub bindings_lost : (core : Core) (f uid p : ℕ) → frame_at core f ≡ Started uid p → bindings (with_frame core f Free) ≡ bindings core
+bindings_lost core f uid p started = bindings_same core f Free (sym (ap bound_page started))
+
+-- the page that a bound frame has
+pub bound_to : (frame : Frame) → is_bound frame ≡ true → bound_page frame ≡ Some (uid_in frame, number_in frame)
+bound_to Free h = cc
+bound_to (Started u q) h = cc
+bound_to (Bound u q used modified) h = refl
+
+-- a frame that is bound and then written through
+pub bound_and_marked : (core : Core) (f uid p : ℕ) → f < length core.frames
+    → with_frame (with_frame core f (Bound uid p false false)) f (after_reference (frame_at (with_frame core f (Bound uid p false false)) f) true)
+    ≡ with_frame core f (Bound uid p true true)
+bound_and_marked core f uid p lt =
+    let read : get_or (set core.frames f (Bound uid p false false)) f Free ≡ Bound uid p false false = get_or-set_same core.frames f (Bound uid p false false) Free lt in
+    ap (λ (frame : Frame). with_frame (with_frame core f (Bound uid p false false)) f (after_reference frame true)) read
+    ∙ ap (λ (frames : List Frame). record core { frames = frames }) (set-set core.frames f (Bound uid p false false) (Bound uid p true true))

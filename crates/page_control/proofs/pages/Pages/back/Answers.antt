@@ -1,0 +1,9 @@
+use Rattle.std.proofs.Common.{rules}
+use Rattle.page_control.proofs.Ties.{table_back, map_back}
+use Rattle.page_control.proofs.pages.Pages.back.Goals as goal
+
+pub returns-clause-table : goal.returns-clause-table
+returns-clause-table g c = table_back _ _ _ _ _ _ c.requires.table c.requires.leaving (search rules)
+
+pub returns-clause-maps : goal.returns-clause-maps
+returns-clause-maps g c = λ places h. map_back places _ _ _ _ h c.requires.leaving (search rules)

@@ -1,0 +1,52 @@
+use Rattle.std.proofs.Common.{◌≡◌, ◌<◌, rules, refl, ap, ◌∙◌, false, cond, map, length, get_or, ℕ, List, [], true}
+use Rattle.std.proofs.lemmas.List.{length-map}
+use Rattle.core_map.specs.declared.Frame.{Frame}
+use Rattle.core_map.specs.declared.Frame.TheVariants.{Free}
+use Rattle.core_map.specs.CoreMap.{with_frame, is_modified, is_bound}
+use Rattle.volumes.specs.Volumes.{with_page}
+use Rattle.page_control.specs.Plain.{Paging, bindings}
+use Rattle.page_control.specs.Tied.{has_record}
+use Rattle.page_control.proofs.Facts.{bindings_with, filed_from_word}
+use Rattle.page_control.proofs.Ties.{frame_within}
+use Rattle.page_control.proofs.Leaving.{picture_left, saved_here, saved_others}
+use Rattle.std.proofs.Common.{rules, refl}
+use Rattle.core_map.specs.CoreMap.{frame_at}
+use Rattle.page_table.specs.declared.Ptw.TheVariants.{Null, Out}
+use Rattle.page_control.specs.Plain.{plain, record_of, number_in}
+use Rattle.page_control.specs.Tied.{uid_in}
+use Rattle.page_control.proofs.Ties.{table_left}
+use Rattle.page_control.proofs.pages.Pages.evict.Goals as goal
+
+pub returns-then-is_zero-clause-table : goal.returns-then-is_zero-clause-table
+returns-then-is_zero-clause-table g c =
+    table_left c.args.self.now.core c.release.new.self (uid_in (frame_at c.args.self.now.core c.args.f)) c.args.t.now c.set.new.self
+    (number_in (frame_at c.args.self.now.core c.args.f)) c.args.f Null c.requires.table c.requires.leaving refl (search rules) (search rules)
+
+pub returns-clause-table : goal.returns-clause-table
+returns-clause-table g c =
+    table_left c.args.self.now.core c.release-2.new.self (uid_in (frame_at c.args.self.now.core c.args.f)) c.args.t.now c.set-2.new.self
+    (number_in (frame_at c.args.self.now.core c.args.f)) c.args.f
+    (Out (record_of (plain g.D.Drive.pages c.args.self.now) c.args.home (number_in (frame_at c.args.self.now.core c.args.f)))) c.requires.table
+    c.requires.leaving refl (search rules) (search rules)
+
+not_free : (frame : Frame) → frame ≡ Free → is_bound frame ≡ true → ⊥
+not_free frame e h = (let off : is_bound frame ≡ false = ap is_bound e in cc)
+
+pub returns-clause-kept_picture : goal.returns-clause-kept_picture
+returns-clause-kept_picture g c = λ _.
+    let core : c.release-2.new.self ≡ with_frame c.args.self.now.core c.args.f Free = search rules in
+    let r : ℕ = record_of (plain g.D.Drive.pages c.args.self.now) c.args.home (number_in (frame_at c.args.self.now.core c.args.f)) in
+    let old : List (List (List ℕ)) = map g.D.Drive.pages c.args.self.now.volumes.drives in
+    let written : map g.D.Drive.pages c.save.new.self.volumes.drives
+    ≡ cond (is_modified (frame_at c.args.self.now.core c.args.f)) (with_page old c.args.home.volume r (get_or c.args.self.now.frames c.args.f [])) old = search rules in
+    let disks : map g.D.Drive.pages c.self-2.inside.volumes.drives
+    ≡ cond (is_modified (frame_at c.args.self.now.core c.args.f)) (with_page old c.args.home.volume r (get_or c.args.self.now.frames c.args.f [])) old =
+    ap (λ (s : Paging _). map g.D.Drive.pages s.volumes.drives) c.self-2.view_is ∙ written in
+    let volume : c.args.home.volume < length old = rw (length-map c.args.self.now.volumes.drives g.D.Drive.pages) c.requires.volume in
+    let within : r < length (get_or old c.args.home.volume []) = search rules in
+    picture_left _ _ _ _ _ _ c.args.self.now.volumes.records _ _ _ _ c.args.f r c.args.home _
+    (ap bindings core ∙ bindings_with c.args.self.now.core c.args.f Free) (search rules) (search rules) c.requires.home c.requires.records
+    (filed_from_word (plain g.D.Drive.pages c.args.self.now) c.args.home c.args.t.now _ c.requires.map (ap has_record c.requires.leaving)) c.requires.table
+    c.requires.leaving (frame_within c.args.self.now.core c.args.f (λ e. not_free _ e c.requires.bound))
+    (saved_here old _ (is_modified (frame_at c.args.self.now.core c.args.f)) c.args.home.volume r _ disks volume within c.requires.clean)
+    (saved_others old _ (is_modified (frame_at c.args.self.now.core c.args.f)) c.args.home.volume r _ disks volume)

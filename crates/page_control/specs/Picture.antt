@@ -1,0 +1,57 @@
+-- What the frames, the records and the VTOCs stand for: the words of each page of each segment, and which pages are
+-- stored (Bensoussan, Clingen and Daley 1972; that a page of zeros has no record is Organick 1972).
+use Rattle.std.specs.Prelude.{ℕ, ◌==◌, ◌&&◌, Bool, false, List, [], Option, None, Some, is_some, replicate, position, slice_index_or}
+use Rattle.std.specs.List.{position_or_len}
+use Rattle.vtoc.specs.Vtoc.{Entry, record_at}
+use Rattle.page_control.specs.Plain.{Plain, bindings}
+use Rattle.page_control.specs.Tied.{vtoc_in}
+
+-- whether a frame is bound to page p of segment uid
+abbrev pub is_binding : ℕ → ℕ → Option (ℕ × ℕ) → Bool
+is_binding uid p None = false
+is_binding uid p (Some page) = page.0 == uid && page.1 == p
+
+-- whether an entry is used for segment uid, and whether a VTOC has such an entry
+abbrev pub is_entry_of : ℕ → Option Entry → Bool
+is_entry_of uid None = false
+is_entry_of uid (Some entry) = entry.uid == uid
+
+abbrev pub has_entry_of : ℕ → List (Option Entry) → Bool
+has_entry_of uid table = is_some (position (is_entry_of uid) table)
+
+-- the volume that has the used entry of segment uid, and the place of that entry
+abbrev pub volume_of : List (List (Option Entry)) → ℕ → ℕ
+volume_of vtocs uid = position_or_len (has_entry_of uid) vtocs
+
+abbrev pub place_of : List (List (Option Entry)) → ℕ → ℕ
+place_of vtocs uid = position_or_len (is_entry_of uid) (vtoc_in vtocs (volume_of vtocs uid))
+
+-- the record that the file map of segment uid names for page p
+abbrev pub record_named : List (List (Option Entry)) → ℕ → ℕ → Option ℕ
+record_named vtocs uid p = record_at (vtoc_in vtocs (volume_of vtocs uid)) (place_of vtocs uid) p
+
+-- the words of a page that is in no frame: those of its record, and zeros where it has none
+abbrev pub words_filed : List (List ℕ) → Option ℕ → List ℕ
+words_filed disk None = replicate 1024 0
+words_filed disk (Some r) = slice_index_or disk r []
+
+-- the words of a page: those of its frame, if it is in one
+abbrev pub words_held : List (List ℕ) → List (List ℕ) → Option ℕ → Option ℕ → List ℕ
+words_held frames disk place None = words_filed disk place
+words_held frames disk place (Some f) = slice_index_or frames f []
+
+-- the words of page p of segment uid, by what the frames are bound to, their words, the pages of the drives and the VTOCs
+unfoldable pub words_of_page : List (Option (ℕ × ℕ)) → List (List ℕ) → List (List (List ℕ)) → List (List (Option Entry)) → ℕ → ℕ → List ℕ
+words_of_page bound frames disks vtocs uid p =
+    words_held frames (slice_index_or disks (volume_of vtocs uid) []) (record_named vtocs uid p) (position (is_binding uid p) bound)
+
+-- the picture: the words of each page
+abbrev pub picture : Plain → ℕ → ℕ → List ℕ
+picture s = words_of_page (bindings s.core) s.frames s.disks s.vtocs
+
+-- a page is stored where the file map of its segment names a record for it
+unfoldable pub is_filed_in : List (List (Option Entry)) → ℕ → ℕ → Bool
+is_filed_in vtocs uid p = is_some (record_named vtocs uid p)
+
+abbrev pub is_stored : Plain → ℕ → ℕ → Bool
+is_stored s = is_filed_in s.vtocs

@@ -1,0 +1,468 @@
+ghost use Rattle.std.specs.Prelude.{◌≡◌, ◌≤◌, ◌<◌, ◌↔◌, ℕ, Bool, true, false, List, Option, Some, None, Result, Ok, length, replicate, sum_by, map, slice_index, slice_set, IsTrue, IsSome, IsErr, IfOk, IfSome, IfNone, OnOk, OnErr, All};
+ghost use Rattle.std.specs.List.{list_any};
+ghost use Rattle.site_io.specs.Faults.{Rose};
+ghost use Rattle.bitmap.specs.Bitmap.{in_use, least_free};
+ghost use Rattle.core_map.specs.declared.Frame.TheVariants.{Free, Started, Bound};
+ghost use Rattle.core_map.specs.CoreMap.{frame_at, with_frame, is_bound, is_modified};
+ghost use Rattle.core_map.specs.Clock.{IsClockChoice};
+ghost use Rattle.mword.specs.Words.{AreZero};
+ghost use Rattle.page_table.specs.declared.Ptw.{Ptw};
+ghost use Rattle.page_table.specs.declared.Ptw.TheVariants.{Null, Out, Here, Leaving};
+ghost use Rattle.page_table.specs.PageTable.{ptw_at};
+ghost use Rattle.vtoc.specs.Vtoc.{least_free_entry};
+ghost use Rattle.page_control.specs.Plain.{Paging, plain, words_in, words_on, number_in, flags_of, vtoc_of, file_map_of, bindings, disk_of, entry_of, filed, record_of, uid_of_home, number_or_zero};
+ghost use Rattle.page_control.specs.Effects.{framed, word_put, referred, cut, unstored, brought_in, created, dropped, evicted, word_of_left, allocated, saved, filled};
+ghost use Rattle.page_control.specs.Picture.{picture, is_stored};
+ghost use Rattle.page_control.specs.Tied.{IsTableOf, IsHomeOf, IsMapOf, AreFiled, IsNotStarted, uid_in, is_away, is_out};
+
+use crate::{Home, Left, NoMemory, NoRecord};
+use core_map::CoreMap;
+use mword::{Page, Word};
+use page_table::{PageTable, Ptw};
+use site_io::Failed;
+use std::alloc::Global;
+use std::marker::Model;
+use volumes::{Drive, Volumes};
+
+/// The frames of core with their pages, and the volumes, seen as the core map, the words of each frame and the volumes.
+#[derive(Drop)]
+pub struct Pages<D: Drive> {
+    core: CoreMap,
+    frames: Vec<Page>,
+    volumes: Volumes<D>,
+}
+
+impl<D: Drive> Model for Pages<D> {
+    ghost use Rattle.std.specs.Prelude.{◌≡◌, length};
+    ghost use Rattle.page_control.specs.Plain.{Paging};
+
+    ghost Value = { Paging D };
+
+    ghost view = { λ s. record { core = s.core; frames = s.frames.items; volumes = s.volumes } };
+
+    ghost invariant = { λ s. length s.frames.items ≡ length s.core.frames };
+}
+
+impl<D: Drive> Pages<D> {
+    /// As many free frames, over these volumes. `NoMemory` is want of memory. It takes 8 KiB for each frame. (Source:
+    /// Bensoussan, Clingen and Daley 1972.)
+    pub fn new(alloc: Global, frames: u32, volumes: Volumes<D>) -> Result<Pages<D>, NoMemory>
+        ensures { IfOk result (λ s. s ≡ record { core = record { frames = replicate frames Free; hand = 0 }; frames = replicate frames (replicate 1024 0); volumes = volumes }) }
+    {
+        let core = CoreMap::new(alloc, frames)?;
+        let frames = zero_pages(alloc, frames)?;
+        Ok(Pages {
+            core,
+            frames,
+            volumes,
+        })
+    }
+
+    /// The core map. (Source: own.)
+    pub fn frames(&self) -> &CoreMap
+        ensures { result.now ≡ self.now.core }
+    {
+        &self.core
+    }
+
+    /// The volumes. (Source: own.)
+    pub fn volumes(&self) -> &Volumes<D>
+        ensures { result.now ≡ self.now.volumes }
+    {
+        &self.volumes
+    }
+
+    /// Whether all words of frame `f` are 0. It reads words up to the first that isn't. (Source: own.)
+    pub fn is_zero(&self, f: u32) -> bool
+        requires { f < length self.now.core.frames }
+        ensures { IsTrue result ↔ AreZero (words_in (plain D.pages self.now) f) }
+    {
+        self.frames[f as usize].is_zero()
+    }
+
+    /// The frame that the clock chooses among the bound ones, of which there is one. It costs what the core map's
+    /// does. (Source: Corbató 1968.)
+    pub fn choose(&mut self) -> u32
+        requires { list_any is_bound self.old.core.frames ≡ true }
+        ensures choice { IsClockChoice self.old.core self.new.core result }
+        ensures rest { self.new ≡ record self.old { core = self.new.core } }
+    {
+        self.core.choose()
+    }
+
+    /// Reads word `at` through the bound frame `f`, whose used mark is on then. It reads one word. (Source:
+    /// Bensoussan, Clingen and Daley 1972.)
+    #[tactic(auto, using(crate::proofs::Facts::bindings_referred, std::proofs::lemmas::Grind::common_steps))]
+    pub fn word(&mut self, f: u32, at: u32) -> Word
+        requires bound { is_bound (frame_at self.old.core f) ≡ true }
+        requires at { at < 1024 }
+        ensures word { result ≡ slice_index (words_in (plain D.pages self.old) f) at }
+        ensures marks { plain D.pages self.new ≡ referred (plain D.pages self.old) f false }
+        ensures picture { picture (plain D.pages self.new) ≡ picture (plain D.pages self.old) }
+        ensures stored { is_stored (plain D.pages self.new) ≡ is_stored (plain D.pages self.old) }
+        ensures bindings { bindings self.new.core ≡ bindings self.old.core }
+        ensures volumes { self.new.volumes ≡ self.old.volumes }
+    {
+        self.core.mark(f, false);
+        self.frames[f as usize].get(at)
+    }
+
+    /// Writes `w` at word `at` through the bound frame `f`, whose marks are both on then. It writes one word. (Source:
+    /// Bensoussan, Clingen and Daley 1972.)
+    #[tactic(auto, using(crate::proofs::Facts::bindings_referred, std::proofs::lemmas::Grind::common_steps))]
+    pub fn put_word(&mut self, f: u32, at: u32, w: Word)
+        requires bound { is_bound (frame_at self.old.core f) ≡ true }
+        requires at { at < 1024 }
+        ensures word { plain D.pages self.new ≡ word_put (plain D.pages self.old) f at w }
+        ensures bindings { bindings self.new.core ≡ bindings self.old.core }
+        ensures volumes { self.new.volumes ≡ self.old.volumes }
+    {
+        self.core.mark(f, true);
+        self.frames[f as usize].set(at, w);
+    }
+
+    /// Makes the words of the bound frame `f` from `at` on 0, turns both its marks on, and tells whether the whole page
+    /// is zeros then. (Source: own.)
+    #[tactic(auto, using(crate::proofs::Facts::bindings_referred, std::proofs::lemmas::Grind::common_steps))]
+    pub fn cut_from(&mut self, f: u32, at: u32) -> bool
+        requires bound { is_bound (frame_at self.old.core f) ≡ true }
+        requires at { at ≤ 1024 }
+        ensures zero { IsTrue result ↔ AreZero (words_in (plain D.pages self.new) f) }
+        ensures words { plain D.pages self.new ≡ cut (plain D.pages self.old) f at }
+        ensures bindings { bindings self.new.core ≡ bindings self.old.core }
+        ensures volumes { self.new.volumes ≡ self.old.volumes }
+    {
+        self.core.mark(f, true);
+        self.frames[f as usize].clear_from(at);
+        self.is_zero(f)
+    }
+
+    /// Takes page `p` of a segment out of storage: its record is given back, its word is `Null`, and its frame, if it
+    /// has one, is free. (Source: Organick 1972.)
+    #[tactic(auto, using(crate::proofs::Facts::home_used, crate::proofs::Facts::filed_from_word, crate::proofs::Facts::leaving_bound, std::proofs::lemmas::Grind::common_steps))]
+    pub fn drop_page(&mut self, t: &mut PageTable, p: u32, home: Home)
+        requires page { p < length t.old }
+        requires pages { length t.old ≤ 256 }
+        requires away { is_away (ptw_at t.old p) ≡ true }
+        requires volume { home.volume < length self.old.volumes.drives }
+        requires home { IsHomeOf self.old.volumes.vtocs (uid_of_home (plain D.pages self.old) home) home }
+        requires table { IsTableOf (bindings self.old.core) (uid_of_home (plain D.pages self.old) home) t.old }
+        requires map { IsMapOf (file_map_of (plain D.pages self.old) home) t.old }
+        requires records { AreFiled self.old.volumes.records self.old.volumes.vtocs }
+        ensures dropped { plain D.pages self.new ≡ dropped (plain D.pages self.old) home p (ptw_at t.old p) }
+        ensures word { t.new ≡ slice_set t.old p Null }
+        ensures drives { self.new.volumes.drives ≡ self.old.volumes.drives }
+    {
+        let word = t.get(p);
+        self.unstore(home, p);
+        t.set(p, Ptw::Null);
+        match word {
+            Ptw::Leaving(f) => self.core.release(f),
+            Ptw::Null | Ptw::Out(_) | Ptw::Here(_) => {}
+        }
+    }
+
+    /// Takes the least free VTOC entry of a volume for segment `uid`, with an empty file map. None exactly where all of
+    /// its entries are used; nothing has changed then. (Source: Organick 1972.)
+    pub fn new_home(&mut self, volume: u32, uid: u32) -> Option<u32>
+        requires { volume < length self.old.volumes.drives }
+        ensures least { result ≡ least_free_entry (vtoc_of (plain D.pages self.old) volume) }
+        ensures none { IfNone result (All (λ entry. IsSome entry) (vtoc_of (plain D.pages self.old) volume)) }
+        ensures some { IfSome result (λ e. plain D.pages self.new ≡ allocated (plain D.pages self.old) volume e uid) }
+        ensures same { IfNone result (plain D.pages self.new ≡ plain D.pages self.old) }
+        ensures drives { self.new.volumes.drives ≡ self.old.volumes.drives }
+    {
+        self.volumes.vtoc_mut(volume).allocate(uid)
+    }
+
+    /// Notes that page `p` of segment `uid`, which is on a record, is being read into the free frame `f`. (Source: own.)
+    #[tactic(auto, using(crate::proofs::Facts::bindings_started, std::proofs::lemmas::Grind::common_steps))]
+    pub fn start_in(&mut self, t: &PageTable, uid: u32, p: u32, f: u32)
+        requires page { p < length t.now }
+        requires out { is_out (ptw_at t.now p) ≡ true }
+        requires table { IsTableOf (bindings self.old.core) uid t.now }
+        requires frame { f < length self.old.core.frames }
+        requires free { frame_at self.old.core f ≡ Free }
+        requires first { IsNotStarted self.old.core uid p }
+        ensures started { plain D.pages self.new ≡ framed (plain D.pages self.old) f (Started uid p) }
+        ensures picture { picture (plain D.pages self.new) ≡ picture (plain D.pages self.old) }
+        ensures stored { is_stored (plain D.pages self.new) ≡ is_stored (plain D.pages self.old) }
+        ensures bindings { bindings self.new.core ≡ bindings self.old.core }
+        ensures volumes { self.new.volumes ≡ self.old.volumes }
+    {
+        self.core.start(f, uid, p);
+    }
+
+    /// Reads page `p` of segment `uid` into the frame `f` that was started for it, and binds the frame to it. `Failed`
+    /// comes only where the faults of the drives rose; `f` is free then, and the rest as before. It costs one read of
+    /// the drive. (Source: Bensoussan, Clingen and Daley 1972.)
+    #[tactic(auto, using(crate::proofs::Facts::home_used, crate::proofs::Facts::bindings_lost, std::proofs::lemmas::Grind::common_steps))]
+    pub fn end_in(
+        &mut self,
+        t: &mut PageTable,
+        uid: u32,
+        p: u32,
+        home: Home,
+        f: u32,
+    ) -> Result<(), Failed>
+        requires page { p < length t.old }
+        requires pages { length t.old ≤ 256 }
+        requires out { ptw_at t.old p ≡ Out (record_of (plain D.pages self.old) home p) }
+        requires started { frame_at self.old.core f ≡ Started uid p }
+        requires volume { home.volume < length self.old.volumes.drives }
+        requires home { IsHomeOf self.old.volumes.vtocs uid home }
+        requires table { IsTableOf (bindings self.old.core) uid t.old }
+        requires map { IsMapOf (file_map_of (plain D.pages self.old) home) t.old }
+        requires records { AreFiled self.old.volumes.records self.old.volumes.vtocs }
+        ensures ok { OnOk result (plain D.pages self.new ≡ brought_in (plain D.pages self.old) uid p home.volume (record_of (plain D.pages self.old) home p) f) }
+        ensures word { OnOk result (t.new ≡ slice_set t.old p (Here f)) }
+        ensures table { IsTableOf (bindings self.new.core) uid t.new }
+        ensures err { OnErr result (plain D.pages self.new ≡ framed (plain D.pages self.old) f Free) }
+        ensures picture { picture (plain D.pages self.new) ≡ picture (plain D.pages self.old) }
+        ensures stored { is_stored (plain D.pages self.new) ≡ is_stored (plain D.pages self.old) }
+        ensures map { IsMapOf (file_map_of (plain D.pages self.new) home) t.new }
+        ensures homes { self.new.volumes.vtocs ≡ self.old.volumes.vtocs }
+        ensures records { self.new.volumes.records ≡ self.old.volumes.records }
+        ensures word_kept { OnErr result (t.new ≡ t.old) }
+        ensures rose { OnErr result (Rose (sum_by D.faults self.old.volumes.drives) (sum_by D.faults self.new.volumes.drives)) }
+        ensures grows { sum_by D.faults self.old.volumes.drives ≤ sum_by D.faults self.new.volumes.drives }
+    {
+        let r = self.record_in(home, p);
+        match self
+            .volumes
+            .read_page(home.volume, r, &mut self.frames[f as usize])
+        {
+            Ok(()) => {
+                self.core.bind(f, uid, p);
+                t.set(p, Ptw::Here(f));
+                Ok(())
+            }
+            Err(failed) => {
+                self.core.lose(f);
+                Err(failed)
+            }
+        }
+    }
+
+    /// Gives page `p` of segment `uid`, which had no record, the least free record of its volume and the free frame
+    /// `f`, all zeros but word `at`, which becomes `w`; both marks are on then. `NoRecord` exactly where all records of
+    /// the volume are in use; nothing has changed then. A file map names records below 65,535. (Source: Organick 1972.)
+    #[tactic(auto, using(crate::proofs::Facts::home_used, crate::proofs::Facts::none_free, crate::proofs::Ties::table_created, std::proofs::lemmas::Grind::common_steps))]
+    pub fn create_page(
+        &mut self,
+        t: &mut PageTable,
+        uid: u32,
+        p: u32,
+        home: Home,
+        f: u32,
+        at: u32,
+        w: Word,
+    ) -> Result<(), NoRecord>
+        requires page { p < length t.old }
+        requires pages { length t.old ≤ 256 }
+        requires null { ptw_at t.old p ≡ Null }
+        requires frame { f < length self.old.core.frames }
+        requires free { frame_at self.old.core f ≡ Free }
+        requires at { at < 1024 }
+        requires volume { home.volume < length self.old.volumes.drives }
+        requires short { length (flags_of (plain D.pages self.old) home.volume) < 65536 }
+        requires home { IsHomeOf self.old.volumes.vtocs uid home }
+        requires table { IsTableOf (bindings self.old.core) uid t.old }
+        requires map { IsMapOf (file_map_of (plain D.pages self.old) home) t.old }
+        requires records { AreFiled self.old.volumes.records self.old.volumes.vtocs }
+        ensures ok { OnOk result (plain D.pages self.new ≡ created (plain D.pages self.old) uid p home (number_or_zero (least_free (flags_of (plain D.pages self.old) home.volume))) f at w) }
+        ensures word { OnOk result (t.new ≡ slice_set t.old p (Here f)) }
+        ensures table { IsTableOf (bindings self.new.core) uid t.new }
+        ensures full { IsErr result ↔ All (λ flag. flag ≡ true) (flags_of (plain D.pages self.old) home.volume) }
+        ensures err { OnErr result (self.new ≡ self.old) }
+        ensures word_kept { OnErr result (t.new ≡ t.old) }
+        ensures drives { self.new.volumes.drives ≡ self.old.volumes.drives }
+    {
+        match self.volumes.withdraw(home.volume) {
+            Some(r) => {
+                self.volumes
+                    .vtoc_mut(home.volume)
+                    .put_file_map(home.entry, p, Some(r));
+                self.fill(uid, p, f, at, w);
+                t.set(p, Ptw::Here(f));
+                Ok(())
+            }
+            None => Err(NoRecord),
+        }
+    }
+
+    /// Lets no more references go through the word of the page in frame `f`, which is on its way out from now on.
+    /// (Source: own.)
+    #[tactic(auto, using(crate::proofs::Facts::here_within, std::proofs::lemmas::Grind::common_steps))]
+    pub fn take(&mut self, t: &mut PageTable, f: u32)
+        requires bound { is_bound (frame_at self.old.core f) ≡ true }
+        requires here { ptw_at t.old (number_in (frame_at self.old.core f)) ≡ Here f }
+        requires table { IsTableOf (bindings self.old.core) (uid_in (frame_at self.old.core f)) t.old }
+        ensures word { t.new ≡ slice_set t.old (number_in (frame_at self.old.core f)) (Leaving f) }
+        ensures table { IsTableOf (bindings self.new.core) (uid_in (frame_at self.old.core f)) t.new }
+        ensures maps { (places : List (Option ℕ)) → IsMapOf places t.old → IsMapOf places t.new }
+        ensures same { self.new ≡ self.old }
+        ensures picture { picture (plain D.pages self.new) ≡ picture (plain D.pages self.old) }
+        ensures stored { is_stored (plain D.pages self.new) ≡ is_stored (plain D.pages self.old) }
+    {
+        let p = self.page_in(f);
+        t.set(p, Ptw::Leaving(f));
+    }
+
+    /// Empties frame `f`, whose page is on its way out. A page that is all zeros gives its record back, with no call of
+    /// a drive; one whose modified mark is on is written to its record. `Failed` comes only where the faults of the
+    /// drives rose; the page is still leaving then. (Source: Organick 1972.)
+    #[tactic(auto, using(crate::proofs::Facts::home_used, crate::proofs::Facts::leaving_within, crate::proofs::Facts::filed_from_word, crate::proofs::Facts::filed_in_use, std::proofs::lemmas::Grind::common_steps))]
+    pub fn evict(&mut self, t: &mut PageTable, home: Home, f: u32) -> Result<Left, Failed>
+        requires pages { length t.old ≤ 256 }
+        requires bound { is_bound (frame_at self.old.core f) ≡ true }
+        requires leaving { ptw_at t.old (number_in (frame_at self.old.core f)) ≡ Leaving f }
+        requires volume { home.volume < length self.old.volumes.drives }
+        requires home { IsHomeOf self.old.volumes.vtocs (uid_in (frame_at self.old.core f)) home }
+        requires table { IsTableOf (bindings self.old.core) (uid_in (frame_at self.old.core f)) t.old }
+        requires map { IsMapOf (file_map_of (plain D.pages self.old) home) t.old }
+        requires records { AreFiled self.old.volumes.records self.old.volumes.vtocs }
+        requires clean { is_modified (frame_at self.old.core f) ≡ false → words_in (plain D.pages self.old) f ≡ words_on (plain D.pages self.old) home.volume (record_of (plain D.pages self.old) home (number_in (frame_at self.old.core f))) }
+        ensures zeros { IfOk result (λ left. left ≡ Left.Released ↔ AreZero (words_in (plain D.pages self.old) f)) }
+        ensures ok { IfOk result (λ left. plain D.pages self.new ≡ evicted (plain D.pages self.old) home (number_in (frame_at self.old.core f)) f left) }
+        ensures word { IfOk result (λ left. t.new ≡ slice_set t.old (number_in (frame_at self.old.core f)) (word_of_left left (record_of (plain D.pages self.old) home (number_in (frame_at self.old.core f))))) }
+        ensures table { IsTableOf (bindings self.new.core) (uid_in (frame_at self.old.core f)) t.new }
+        ensures kept_picture { result ≡ Ok Left.Kept → picture (plain D.pages self.new) ≡ picture (plain D.pages self.old) }
+        ensures kept_stored { result ≡ Ok Left.Kept → is_stored (plain D.pages self.new) ≡ is_stored (plain D.pages self.old) }
+        ensures no_call { AreZero (words_in (plain D.pages self.old) f) → self.new.volumes.drives ≡ self.old.volumes.drives }
+        ensures err { OnErr result (plain D.pages self.new ≡ plain D.pages self.old) }
+        ensures word_kept { OnErr result (t.new ≡ t.old) }
+        ensures rose { OnErr result (Rose (sum_by D.faults self.old.volumes.drives) (sum_by D.faults self.new.volumes.drives)) }
+        ensures grows { sum_by D.faults self.old.volumes.drives ≤ sum_by D.faults self.new.volumes.drives }
+    {
+        let p = self.page_in(f);
+        let r = self.record_in(home, p);
+        if self.frames[f as usize].is_zero() {
+            self.unstore(home, p);
+            self.core.release(f);
+            t.set(p, Ptw::Null);
+            return Ok(Left::Released);
+        }
+        self.save(f, home.volume, r)?;
+        self.core.release(f);
+        t.set(p, Ptw::Out(r));
+        Ok(Left::Kept)
+    }
+
+    /// Lets references go through the word of the page in frame `f` again, which was on its way out. (Source: own.)
+    #[tactic(auto, using(crate::proofs::Facts::leaving_within, std::proofs::lemmas::Grind::common_steps))]
+    pub fn back(&mut self, t: &mut PageTable, f: u32)
+        requires bound { is_bound (frame_at self.old.core f) ≡ true }
+        requires leaving { ptw_at t.old (number_in (frame_at self.old.core f)) ≡ Leaving f }
+        requires table { IsTableOf (bindings self.old.core) (uid_in (frame_at self.old.core f)) t.old }
+        ensures word { t.new ≡ slice_set t.old (number_in (frame_at self.old.core f)) (Here f) }
+        ensures table { IsTableOf (bindings self.new.core) (uid_in (frame_at self.old.core f)) t.new }
+        ensures maps { (places : List (Option ℕ)) → IsMapOf places t.old → IsMapOf places t.new }
+        ensures same { self.new ≡ self.old }
+        ensures picture { picture (plain D.pages self.new) ≡ picture (plain D.pages self.old) }
+        ensures stored { is_stored (plain D.pages self.new) ≡ is_stored (plain D.pages self.old) }
+    {
+        let p = self.page_in(f);
+        t.set(p, Ptw::Here(f));
+    }
+
+    /// Binds the free frame `f` to page `p` of segment `uid`, all zeros but word `at`, which becomes `w`. Both marks are
+    /// on then.
+    #[tactic(auto, using(crate::proofs::Facts::bound_and_marked, crate::proofs::Facts::all_cleared, std::proofs::lemmas::Grind::common_steps))]
+    fn fill(&mut self, uid: u32, p: u32, f: u32, at: u32, w: Word)
+        requires frame { f < length self.old.core.frames }
+        requires free { frame_at self.old.core f ≡ Free }
+        requires at { at < 1024 }
+        ensures filled { plain D.pages self.new ≡ filled (plain D.pages self.old) uid p f at w }
+        ensures core { self.new.core ≡ with_frame self.old.core f (Bound uid p true true) }
+        ensures volumes { self.new.volumes ≡ self.old.volumes }
+    {
+        self.core.bind(f, uid, p);
+        self.core.mark(f, true);
+        let page = &mut self.frames[f as usize];
+        page.clear_from(0);
+        page.set(at, w);
+    }
+
+    /// The number of the page that the bound frame `f` has.
+    fn page_in(&self, f: u32) -> u32
+        requires { is_bound (frame_at self.now.core f) ≡ true }
+        ensures { result ≡ number_in (frame_at self.now.core f) }
+    {
+        match self.core.page_of(f) {
+            Some((_, p)) => p,
+            None => unreachable!(),
+        }
+    }
+
+    /// The record of page `p` at a home.
+    #[tactic(auto, using(crate::proofs::Facts::filed_in_use, crate::proofs::Facts::used_within, std::proofs::lemmas::Grind::common_steps))]
+    fn record_in(&self, home: Home, p: u32) -> u32
+        requires page { p < 256 }
+        requires volume { home.volume < length self.now.volumes.drives }
+        requires used { IsSome (entry_of (plain D.pages self.now) home) }
+        requires filed { filed (plain D.pages self.now) home p ≡ Some (record_of (plain D.pages self.now) home p) }
+        requires records { AreFiled self.now.volumes.records self.now.volumes.vtocs }
+        ensures record { result ≡ record_of (plain D.pages self.now) home p }
+        ensures within { result < length (disk_of (plain D.pages self.now) home.volume) }
+    {
+        match self.volumes.vtoc(home.volume).file_map(home.entry, p) {
+            Some(r) => {
+                prove!(r < self.volumes.size(home.volume));
+                r
+            }
+            None => unreachable!(),
+        }
+    }
+
+    /// Gives the record of page `p` at a home back.
+    #[tactic(auto, using(crate::proofs::Facts::filed_in_use, std::proofs::lemmas::Grind::common_steps))]
+    fn unstore(&mut self, home: Home, p: u32)
+        requires page { p < 256 }
+        requires volume { home.volume < length self.old.volumes.drives }
+        requires used { IsSome (entry_of (plain D.pages self.old) home) }
+        requires filed { filed (plain D.pages self.old) home p ≡ Some (record_of (plain D.pages self.old) home p) }
+        requires records { AreFiled self.old.volumes.records self.old.volumes.vtocs }
+        ensures unstored { plain D.pages self.new ≡ unstored (plain D.pages self.old) home p }
+        ensures core { self.new.core ≡ self.old.core }
+        ensures frames { self.new.frames ≡ self.old.frames }
+        ensures drives { self.new.volumes.drives ≡ self.old.volumes.drives }
+    {
+        if let Some(r) = self.volumes.vtoc(home.volume).file_map(home.entry, p) {
+            self.volumes.deposit(home.volume, r);
+            self.volumes
+                .vtoc_mut(home.volume)
+                .put_file_map(home.entry, p, None);
+        }
+    }
+
+    /// Writes the page in the bound frame `f` to record `r` of a volume where its modified mark is on.
+    fn save(&mut self, f: u32, volume: u32, r: u32) -> Result<(), Failed>
+        requires bound { is_bound (frame_at self.old.core f) ≡ true }
+        requires volume { volume < length self.old.volumes.drives }
+        requires record { r < length (disk_of (plain D.pages self.old) volume) }
+        ensures ok { OnOk result (plain D.pages self.new ≡ saved (plain D.pages self.old) f volume r) }
+        ensures err { OnErr result (plain D.pages self.new ≡ plain D.pages self.old) }
+        ensures core { self.new.core ≡ self.old.core }
+        ensures frames { self.new.frames ≡ self.old.frames }
+        ensures rose { OnErr result (Rose (sum_by D.faults self.old.volumes.drives) (sum_by D.faults self.new.volumes.drives)) }
+        ensures grows { sum_by D.faults self.old.volumes.drives ≤ sum_by D.faults self.new.volumes.drives }
+    {
+        if self.core.modified(f) {
+            self.volumes
+                .write_page(volume, r, &self.frames[f as usize])?;
+        }
+        Ok(())
+    }
+}
+
+/// As many pages of zeros.
+fn zero_pages(alloc: Global, count: u32) -> Result<Vec<Page>, NoMemory>
+    ensures { IfOk result (λ pages. pages.items ≡ replicate count (replicate 1024 0)) }
+{
+    let mut pages = Vec::with_capacity(alloc, count as usize).map_err(|_| NoMemory)?;
+    for _ in 0..count {
+        pages.push_reserved(Page::zero(alloc)?);
+    }
+    Ok(pages)
+}
