@@ -1,17 +1,17 @@
 -- A segment that was just given its home, where no page is stored and none is in a frame.
-use Rattle.std.proofs.Common.{◌≡◌, ℕ, zero, suc, ◌<◌, Bool, true, false, List, [], ◌∷◌, length, Option, None, Some, refl, sym, ap, ◌∙◌, arith, get_or, replicate, is_some}
+use Rattle.std.proofs.Common.{◌≡◌, ℕ, zero, suc, Bool, List, [], ◌∷◌, Option, None, Some, refl, sym, ap, ◌∙◌, get_or, replicate, is_some}
 use Rattle.std.specs.Prelude.{Result, Ok, Err, slice_set}
 use Rattle.std.specs.Result.{OnOk, result_ok}
 use Rattle.core_map.specs.declared.Frame.{Frame}
 use Rattle.core_map.specs.declared.Frame.TheVariants.{Free, Started, Bound}
 use Rattle.core_map.specs.CoreMap.{Core, frame_at, bound_page}
 use Rattle.page_table.specs.declared.Ptw.{Ptw}
-use Rattle.page_table.specs.declared.Ptw.TheVariants.{Null, Out, Here}
+use Rattle.page_table.specs.declared.Ptw.TheVariants.{Null, Here}
 use Rattle.page_table.specs.PageTable.{ptw_at}
 use Rattle.vtoc.specs.FileMap.{no_records}
-use Rattle.vtoc.specs.Vtoc.{Entry, entry_at, record_at, records_in, uid_of, fresh_entry}
+use Rattle.vtoc.specs.Vtoc.{Entry, entry_at, record_at, uid_of, fresh_entry}
 use Rattle.page_control.specs.declared.Home.{Home}
-use Rattle.page_control.specs.Plain.{Plain, bindings, binding_at, file_map_of}
+use Rattle.page_control.specs.Plain.{bindings, binding_at}
 use Rattle.page_control.specs.Tied.{vtoc_in, frame_of, has_record, uid_in, IsTableOf, IsHomeOf, IsMapOf, AreFiled}
 use Rattle.page_control.proofs.Facts.{binding_is}
 use Rattle.page_control.proofs.Ties.{not_none}

@@ -1,10 +1,7 @@
-ghost use Rattle.std.specs.Prelude.{◌≡◌, ◌<◌, ℕ, [], ◌∷◌, None, false, length, replicate, IfOk};
-ghost use Rattle.core_map.specs.CoreMap.{frame_at};
+ghost use Rattle.std.specs.Prelude.{◌≡◌, [], ◌∷◌, None, false, length, replicate, IfOk};
 ghost use Rattle.core_map.specs.declared.Frame.TheVariants.{Free};
 ghost use Rattle.page_table.specs.declared.Ptw.TheVariants.{Null};
 ghost use Rattle.vtoc.specs.Vtoc.{fresh_entry};
-ghost use Rattle.page_control.specs.Plain.{plain, bindings, file_map_of, flags_of};
-ghost use Rattle.page_control.specs.Tied.{IsTableOf, IsHomeOf, IsMapOf, AreFiled};
 
 use super::*;
 use mword::Word;

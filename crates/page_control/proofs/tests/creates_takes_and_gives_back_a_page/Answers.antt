@@ -1,4 +1,4 @@
-use Rattle.std.proofs.Common.{ℕ, List, Option, ap, ◌∙◌}
+use Rattle.std.proofs.Common.{List, Option, ap, ◌∙◌}
 use Rattle.vtoc.specs.Vtoc.{Entry, entry_at, records_in}
 use Rattle.page_control.specs.Tied.{vtoc_in}
 use Rattle.page_control.proofs.Fresh.{filed_fresh, map_fresh, own_table, word_created}
