@@ -1,14 +1,48 @@
+ghost use Rattle.std.specs.Prelude.{◌≡◌, [], ◌∷◌, None, false, length, replicate, IfOk};
+ghost use Rattle.core_map.specs.declared.Frame.TheVariants.{Free};
+ghost use Rattle.page_table.specs.declared.Ptw.TheVariants.{Null};
+ghost use Rattle.vtoc.specs.Vtoc.{fresh_entry};
+
 use super::*;
+use mword::Word;
+use page_table::{PageTable, Ptw};
 use std::alloc::Global;
 use std::test::Fail;
 use volumes::{CoreDrive, Part, Volumes};
 
+impl From<page_table::NoMemory> for NoMemory {
+    fn from(_: page_table::NoMemory) -> NoMemory {
+        NoMemory
+    }
+}
+
 /// Two frames over one volume of 3 records and 2 entries.
-fn two_frames(alloc: Global) -> Result<Pages<CoreDrive>, NoMemory> {
+fn two_frames(alloc: Global) -> Result<Pages<CoreDrive>, NoMemory>
+    ensures frames { IfOk result (λ s. s.core.frames ≡ replicate 2 Free) }
+    ensures words { IfOk result (λ s. s.frames ≡ replicate 2 (replicate 1024 0)) }
+    ensures drives { IfOk result (λ s. length s.volumes.drives ≡ 1) }
+    ensures records { IfOk result (λ s. s.volumes.records ≡ replicate 3 false ∷ []) }
+    ensures vtocs { IfOk result (λ s. s.volumes.vtocs ≡ (None ∷ None ∷ []) ∷ []) }
+{
     let drive = CoreDrive::new(alloc, 3, Vec::new(alloc)).map_err(|_| NoMemory)?;
     let parts = vec![in alloc; Part { drive, entries: 2 }].map_err(|_| NoMemory)?;
     let volumes = Volumes::new(alloc, parts).map_err(|_| NoMemory)?;
     Pages::new(alloc, 2, volumes)
+}
+
+/// The same, where segment 7 has the first entry, with its page table of 3 words.
+fn one_segment(alloc: Global) -> Result<(Pages<CoreDrive>, PageTable), NoMemory>
+    ensures frames { IfOk result (λ made. made.0.core.frames ≡ replicate 2 Free) }
+    ensures words { IfOk result (λ made. made.0.frames ≡ replicate 2 (replicate 1024 0)) }
+    ensures drives { IfOk result (λ made. length made.0.volumes.drives ≡ 1) }
+    ensures records { IfOk result (λ made. made.0.volumes.records ≡ replicate 3 false ∷ []) }
+    ensures vtocs { IfOk result (λ made. made.0.volumes.vtocs ≡ (fresh_entry 7 ∷ None ∷ []) ∷ []) }
+    ensures null { IfOk result (λ made. made.1 ≡ replicate 3 Null) }
+{
+    let mut pages = two_frames(alloc)?;
+    let table = PageTable::new(alloc, 3)?;
+    pages.new_home(0, 7);
+    Ok((pages, table))
 }
 
 #[test]
@@ -22,5 +56,35 @@ fn begins_with_free_frames_and_gives_out_homes(rt: HostRuntime) -> Result<(), Fa
     assert_eq!(rt; pages.new_home(0, 8), Some(1));
     assert!(rt; pages.volumes().count() == 1);
     assert_eq!(rt; pages.new_home(0, 9), None);
+    Ok(())
+}
+
+#[test]
+#[tactic(auto, using(crate::proofs::Fresh::home_fresh, crate::proofs::Fresh::table_fresh, std::proofs::lemmas::Grind::common_steps))]
+fn creates_takes_and_gives_back_a_page(rt: HostRuntime) -> Result<(), Fail> {
+    let seven = Word::new(7).expect(&rt, "a word");
+    let (mut pages, mut table) = one_segment(rt.alloc())?;
+    let home = Home {
+        volume: 0,
+        entry: 0,
+    };
+    pages
+        .create_page(&mut table, 7, 1, home, 0, 5, seven)
+        .ok()
+        .expect(&rt, "a record");
+    assert!(rt; table.get(1) == Ptw::Here(0));
+    assert!(rt; pages.word(0, 5) == seven);
+    assert!(rt; pages.word(0, 6) == Word::ZERO);
+    pages.put_word(0, 6, seven);
+    assert!(rt; pages.word(0, 6) == seven);
+    pages.take(&mut table, 0);
+    assert!(rt; table.get(1) == Ptw::Leaving(0));
+    pages.back(&mut table, 0);
+    assert!(rt; table.get(1) == Ptw::Here(0));
+    assert!(rt; !pages.cut_from(0, 6));
+    assert!(rt; pages.word(0, 6) == Word::ZERO);
+    assert!(rt; !pages.is_zero(0));
+    assert!(rt; pages.cut_from(0, 5));
+    assert!(rt; pages.is_zero(0));
     Ok(())
 }
