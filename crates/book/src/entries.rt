@@ -19,4 +19,19 @@ pub enum Entry {
         uid: u32,
         page: u32,
     },
+    /// A page of a segment is in this frame of core from now on (Bensoussan, Clingen and Daley 1972).
+    Here {
+        frame: u32,
+        uid: u32,
+        page: u32,
+    },
+    /// The page in this frame is on its way out: no more references go through its page table word
+    /// (Bensoussan, Clingen and Daley 1972).
+    Take {
+        frame: u32,
+    },
+    /// The page in this frame has left it (Bensoussan, Clingen and Daley 1972).
+    GonePage {
+        frame: u32,
+    },
 }

@@ -4,9 +4,11 @@
 mod entries;
 mod replies;
 mod runs;
+mod texts;
 #[cfg(test)]
 mod tests;
 
 pub use entries::Entry;
 pub use replies::Reply;
 pub use runs::{Book, NoMemory};
+pub use texts::entry_text;

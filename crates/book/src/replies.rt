@@ -12,6 +12,10 @@ pub enum Reply {
     Unknown,
     /// The offset is past the segment's last page.
     Length,
+    /// The account that the segment is charged to has used up its quota (Organick 1972).
+    Quota,
+    /// All records of the segment's volume are in use (Organick 1972).
+    NoRecord,
     /// The word that was read.
     Word(Word),
     /// The command took effect.
@@ -20,6 +24,16 @@ pub enum Reply {
     Made(u32),
     /// The segment is known to the process by this number.
     Known(u32),
+    /// The path leads to nothing.
+    NoPath,
+    /// The directory has a branch of that name (Organick 1972).
+    Exists,
+    /// The tree has as many branches as it may have.
+    Room,
+    /// All VTOC entries of the volume are in use (Organick 1972).
+    NoEntry,
+    /// The process knows as many segments as it may know.
+    Full,
 }
 
 impl fmt::Display for Reply {
@@ -30,10 +44,17 @@ impl fmt::Display for Reply {
         match self {
             Reply::Unknown => write!(f, "unknown"),
             Reply::Length => write!(f, "length"),
+            Reply::Quota => write!(f, "quota"),
+            Reply::NoRecord => write!(f, "norecord"),
             Reply::Word(word) => write!(f, "word {word}"),
             Reply::Done => write!(f, "done"),
             Reply::Made(uid) => write!(f, "made {uid}"),
             Reply::Known(number) => write!(f, "known {number}"),
+            Reply::NoPath => write!(f, "nopath"),
+            Reply::Exists => write!(f, "exists"),
+            Reply::Room => write!(f, "room"),
+            Reply::NoEntry => write!(f, "noentry"),
+            Reply::Full => write!(f, "full"),
         }
     }
 }

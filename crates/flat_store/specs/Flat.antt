@@ -1,18 +1,19 @@
 -- The flat store: the tree, the words, the stored pages, what numbers stand for, and how far each
 -- process has come. It restates the view that a user has of segments in Bensoussan, Clingen and Daley
 -- 1972: words under a segment number and an offset, and pages that cost nothing while they are zeros.
-use Rattle.std.specs.Prelude.{ℕ, zero, suc, ◌+◌, ◌*◌, ◌/◌, Bool, true, false, ◌&&◌, ◌==◌, nat_le, if◌then◌else◌, unwrap_or, replicate, slice_set, List, [], ◌∷◌, length, Option, Some, None, codes}
+use Rattle.std.specs.Prelude.{ℕ, zero, suc, ◌+◌, ◌*◌, ◌/◌, Bool, true, false, ◌&&◌, ◌==◌, ◌||◌, nat_le, if◌then◌else◌, replicate, is_some, slice_get, slice_set, List, [], ◌∷◌, length, Option, Some, None, codes}
 use Rattle.std.specs.Option.{option_and_then}
 use Rattle.mnames.specs.declared.modes.Mode.TheVariants as mode
 use Rattle.script.specs.Plans.{Plan, who_of}
+use Rattle.script.specs.declared.plan.VolumeLine.{VolumeLine}
 use Rattle.script.specs.declared.commands.Command.{Command}
 use Rattle.script.specs.declared.commands.Command.TheVariants as command
 use Rattle.storage_terms.specs.Access.{Row}
-use Rattle.storage_terms.specs.Tree.{Node, node_in, branch_in}
+use Rattle.storage_terms.specs.Tree.{Node, node_in, branch_in, quota_in, account_of, used_by, taken_on, entries_on}
 use Rattle.book.specs.declared.replies.Reply.{Reply}
 use Rattle.book.specs.declared.replies.Reply.TheVariants as reply
 use Rattle.flat_store.specs.Words.{Words, word_at, with_word}
-use Rattle.flat_store.specs.Pages.{with_stored}
+use Rattle.flat_store.specs.Pages.{is_stored, with_stored}
 use Rattle.std.specs.FinMap as finite
 
 -- a number of a process stands for a segment
@@ -31,6 +32,21 @@ pub record Store : Type 0 where
   pub known : List Knows
   pub places : List ℕ
   pub ended : List Bool
+
+-- the records and the VTOC entries of a volume of the script, 0 where it isn't there
+abbrev pub records_in : Option VolumeLine → ℕ
+records_in None = 0
+records_in (Some v) = v.records
+
+abbrev pub records_of : Plan → ℕ → ℕ
+records_of p volume = records_in (slice_get p.volumes volume)
+
+abbrev pub entries_in : Option VolumeLine → ℕ
+entries_in None = 0
+entries_in (Some v) = v.entries
+
+abbrev pub entries_of : Plan → ℕ → ℕ
+entries_of p volume = entries_in (slice_get p.volumes volume)
 
 -- the root, on the first volume, with the script's quota and no row of access
 abbrev pub root_of : Plan → Node
@@ -70,9 +86,13 @@ abbrev pub is_free : Option ℕ → Bool
 is_free None = true
 is_free (Some u) = false
 
--- the number, from 0 to 255, that a process knows a segment by: the one it has, else the least free one
-unfoldable pub number_for : List Knows → ℕ → ℕ → ℕ
-number_for ks process uid = unwrap_or (first_passing (λ n. is_for uid (known_uid ks process n)) 256 0) (unwrap_or (first_passing (λ n. is_free (known_uid ks process n)) 256 0) 0)
+abbrev pub first_there : {A : Type 0} → Option A → Option A → Option A
+first_there None other = other
+first_there (Some x) other = Some x
+
+-- the number, from 0 to 255, that a process knows a segment by: the one it has, else the least free one, if there is one
+unfoldable pub number_for : List Knows → ℕ → ℕ → Option ℕ
+number_for ks process uid = first_there (first_passing (λ n. is_for uid (known_uid ks process n)) 256 0) (first_passing (λ n. is_free (known_uid ks process n)) 256 0)
 
 -- the node at the end of a path that starts below a node
 abbrev pub walk : List Node → ℕ → List (List ℕ) → Option ℕ
@@ -95,28 +115,65 @@ abbrev pub read_of : Store → ℕ → Option Node → Reply
 read_of s offset None = reply.Unknown
 read_of s offset (Some n) = if is_past n offset then reply.Length else reply.Word (word_at s.words n.uid offset)
 
--- A write, likewise; else it is done.
-abbrev pub write_of : ℕ → Option Node → Reply
-write_of offset None = reply.Unknown
-write_of offset (Some n) = if is_past n offset then reply.Length else reply.Done
+-- the account that a segment is charged to has used up its quota
+abbrev pub is_used_up : Store → Node → Bool
+is_used_up s n = used_by s.nodes s.stored (account_of s.nodes n.uid) == quota_in s.nodes (account_of s.nodes n.uid)
+
+-- all records of a segment's volume are taken
+abbrev pub is_volume_full : Plan → Store → Node → Bool
+is_volume_full p s n = taken_on s.nodes s.stored n.volume == records_of p n.volume
+
+-- A write, likewise. A word other than 0 in a page that isn't stored has it stored: quota where the account has
+-- used up its quota, norecord where the volume has no record left. Else it is done.
+abbrev pub write_of : Plan → Store → ℕ → ℕ → Option Node → Reply
+write_of p s offset w None = reply.Unknown
+write_of p s offset w (Some n) =
+  if is_past n offset then reply.Length
+  else if w == 0 || is_stored s.stored n.uid (offset / 1024) then reply.Done
+  else if is_used_up s n then reply.Quota
+  else if is_volume_full p s n then reply.NoRecord
+  else reply.Done
 
 unfoldable pub read_reply : Store → ℕ → ℕ → ℕ → Reply
 read_reply s process number offset = read_of s offset (segment_of s process number)
 
-unfoldable pub write_reply : Store → ℕ → ℕ → ℕ → Reply
-write_reply s process number offset = write_of offset (segment_of s process number)
+unfoldable pub write_reply : Plan → Store → ℕ → ℕ → ℕ → ℕ → Reply
+write_reply p s process number offset w = write_of p s offset w (segment_of s process number)
 
+-- A segment is made in a directory under a name: exists where the directory has a branch of that name, room where the
+-- tree has 4096 branches beside the root, noentry where all VTOC entries of the volume are used; else it is made.
+abbrev pub make_of : Plan → Store → ℕ → Option (ℕ × List ℕ) → Reply
+make_of p s volume None = reply.NoPath
+make_of p s volume (Some place) =
+  if is_some (branch_in s.nodes place.0 place.1) then reply.Exists
+  else if nat_le 4097 (length s.nodes) then reply.Room
+  else if nat_le (entries_of p volume) (entries_on s.nodes volume) then reply.NoEntry
+  else reply.Made s.next
+
+-- the root is there already
+unfoldable pub make_reply : Plan → Store → List (List ℕ) → ℕ → Reply
+make_reply p s [] volume = reply.Exists
+make_reply p s (name ∷ names) volume = make_of p s volume (place_in s.nodes 1 (name ∷ names))
+
+abbrev pub known_or_full : Option ℕ → Reply
+known_or_full None = reply.Full
+known_or_full (Some number) = reply.Known number
+
+-- A segment is initiated: full where the process doesn't know it and knows 256 others.
 abbrev pub initiate_of : Store → ℕ → Option ℕ → Reply
-initiate_of s process None = reply.Unknown
-initiate_of s process (Some uid) = reply.Known (number_for s.known process uid)
+initiate_of s process None = reply.NoPath
+initiate_of s process (Some uid) = known_or_full (number_for s.known process uid)
+
+unfoldable pub initiate_reply : Store → ℕ → List (List ℕ) → Reply
+initiate_reply s process path = initiate_of s process (walk s.nodes 1 path)
 
 -- what a process is answered to a command
-abbrev pub reply_to_command : Store → ℕ → Command → Reply
-reply_to_command s k (command.MkSeg path pages volume) = reply.Made s.next
-reply_to_command s k (command.Initiate path) = initiate_of s k (walk s.nodes 1 path)
-reply_to_command s k (command.Read number offset) = read_reply s k number offset
-reply_to_command s k (command.Write number offset word) = write_reply s k number offset
-reply_to_command s k command.End = reply.Done
+abbrev pub reply_to_command : Plan → Store → ℕ → Command → Reply
+reply_to_command p s k (command.MkSeg path pages volume) = make_reply p s path volume
+reply_to_command p s k (command.Initiate path) = initiate_reply s k path
+reply_to_command p s k (command.Read number offset) = read_reply s k number offset
+reply_to_command p s k (command.Write number offset word) = write_reply p s k number offset word
+reply_to_command p s k command.End = reply.Done
 
 -- the row of access of a new segment: the process's own principal may read and write
 abbrev pub owner_row : List ℕ → Row
@@ -139,10 +196,14 @@ made_in p s k pages volume (Some place) = record s {
   next = s.next + 1;
 }
 
--- a segment is known to a process
+-- a segment is known to a process by a number
+abbrev pub known_by : Store → ℕ → ℕ → Option ℕ → Store
+known_by s k uid None = s
+known_by s k uid (Some number) = record s { known = record { process = k; number = number; uid = uid } ∷ s.known }
+
 abbrev pub known_as : Store → ℕ → Option ℕ → Store
 known_as s k None = s
-known_as s k (Some uid) = record s { known = record { process = k; number = number_for s.known k uid; uid = uid } ∷ s.known }
+known_as s k (Some uid) = known_by s k uid (number_for s.known k uid)
 
 -- a page that gets a word other than 0 is stored from then on
 abbrev pub stored_by : List (ℕ × ℕ) → ℕ → ℕ → ℕ → List (ℕ × ℕ)
@@ -162,9 +223,11 @@ effect_of p s k command.End = record s { ended = slice_set s.ended k true }
 
 -- a refused command changes nothing
 abbrev pub takes_effect : Reply → Bool
-takes_effect reply.Unknown = false
-takes_effect reply.Length = false
-takes_effect _ = true
+takes_effect (reply.Word w) = true
+takes_effect reply.Done = true
+takes_effect (reply.Made uid) = true
+takes_effect (reply.Known number) = true
+takes_effect _ = false
 
 -- the process goes on to its next command
 abbrev pub moved_on : Store → ℕ → ℕ → Store

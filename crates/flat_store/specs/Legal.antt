@@ -16,25 +16,27 @@ abbrev pub IsZeroPage : Store → ℕ → ℕ → Type 0
 IsZeroPage s uid page = (i : ℕ) → i < 1024 → word_at s.words uid (1024 * page + i) ≡ 0
 
 -- the answer of a command that is there
-abbrev pub IsAnswer : Store → ℕ → Option Command → Reply → Type 0
-IsAnswer s k None r = ⊥
-IsAnswer s k (Some c) r = r ≡ reply_to_command s k c
+abbrev pub IsAnswer : Plan → Store → ℕ → Option Command → Reply → Type 0
+IsAnswer p s k None r = ⊥
+IsAnswer p s k (Some c) r = r ≡ reply_to_command p s k c
 
 -- a command may be answered so: its process hasn't ended, it is the process's next one, and the reply
 -- is the flat store's
 pub record IsLawfulDo (p : Plan) (s : Store) (k place : ℕ) (r : Reply) : Type 0 where
   pub going : slice_index_or s.ended k true ≡ false
   pub next : slice_index s.places k ≡ place
-  pub answer : IsAnswer s k (command_at p k place) r
+  pub answer : IsAnswer p s k (command_at p k place) r
 
 -- a page may be given up: it is stored, and all zeros
 pub record MayRelease (s : Store) (uid page : ℕ) : Type 0 where
   pub there : is_stored s.stored uid page ≡ true
   pub zeros : IsZeroPage s uid page
 
+-- an entry is lawful; those that tell where a page is leave the flat store alone
 unfoldable pub IsLawful : Plan → Store → Entry → Type 0
 IsLawful p s (entry.Do k place cpu frame r) = IsLawfulDo p s k place r
 IsLawful p s (entry.Release uid page) = MayRelease s uid page
+IsLawful p s _ = Unit {0}
 
 abbrev pub after_do : Plan → Store → ℕ → ℕ → Option Command → Reply → Store
 after_do p s k place None r = s
@@ -44,6 +46,7 @@ after_do p s k place (Some c) r = after_command p s k place c r
 unfoldable pub after_entry : Plan → Store → Entry → Store
 after_entry p s (entry.Do k place cpu frame r) = after_do p s k place (command_at p k place) r
 after_entry p s (entry.Release uid page) = record s { stored = without_stored s.stored uid page }
+after_entry p s _ = s
 
 -- the store after some entries
 unfoldable pub store_from : Plan → Store → List Entry → Store
@@ -64,7 +67,7 @@ store_after p entries = store_from p (boot p) entries
 -- an entry answers a command of a process
 abbrev pub is_part : ℕ → Entry → Bool
 is_part k (entry.Do process place cpu frame r) = process == k
-is_part k (entry.Release uid page) = false
+is_part k _ = false
 
 -- the command entries of a process, in order
 unfoldable pub part : ℕ → List Entry → List Entry
@@ -78,7 +81,7 @@ last_of (e ∷ f ∷ es) = last_of (f ∷ es)
 abbrev pub IsEnd : Plan → ℕ → Option Entry → Type 0
 IsEnd p k None = ⊥
 IsEnd p k (Some (entry.Do process place cpu frame r)) = command_at p k place ≡ Some command.End
-IsEnd p k (Some (entry.Release uid page)) = ⊥
+IsEnd p k (Some _) = ⊥
 
 -- A book is complete: the last command entry of each process is that of its end. In a legal book each
 -- command then has exactly one entry, in the order of the script.
