@@ -15,6 +15,9 @@ own_lines : (p : Plan) (k : ℕ) (es : List Entry) → flat_map (own_line p k) e
 unfolding part
 own_lines p k [] = refl
 own_lines p k (entry.Release uid page ∷ es) = own_lines p k es
+own_lines p k (entry.Here frame uid page ∷ es) = own_lines p k es
+own_lines p k (entry.Take frame ∷ es) = own_lines p k es
+own_lines p k (entry.GonePage frame ∷ es) = own_lines p k es
 own_lines p k (entry.Do process place cpu frame r ∷ es) = chosen (eqb process k) refl (own_lines p k es)
   where
     chosen : (z : Bool) → eqb process k ≡ z → flat_map (own_line p k) es ≡ flat_map (entry_line p) (filter (is_part k) es) → cond z (answer_line p (command_at p k place) r) [] ++ flat_map (own_line p k) es ≡ flat_map (entry_line p) (cond z (entry.Do process place cpu frame r ∷ filter (is_part k) es) (filter (is_part k) es))

@@ -22,7 +22,7 @@ answer_line p (Some c) r = command_text p c ++ (codes " = " ++ (reply_text r ++ 
 
 abbrev pub entry_line : Plan → Entry → List ℕ
 entry_line p (entry.Do process place cpu frame r) = answer_line p (command_at p process place) r
-entry_line p (entry.Release uid page) = []
+entry_line p _ = []
 
 -- `process K WHO`
 unfoldable pub process_line : ℕ → List ℕ → List ℕ
@@ -77,7 +77,7 @@ listing_of p entries = processes_lines p entries 0 p.processes ++ summary_of p (
 -- the line of an entry, where it answers a command of this process
 abbrev pub own_line : Plan → ℕ → Entry → List ℕ
 own_line p k (entry.Do process place cpu frame r) = if eqb process k then answer_line p (command_at p k place) r else []
-own_line p k (entry.Release uid page) = []
+own_line p k _ = []
 
 -- the summary of a run whose only account is the root and whose only volume has the root and a segment,
 -- of which so many pages are stored

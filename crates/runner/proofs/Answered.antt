@@ -1,5 +1,5 @@
 -- A step that changes no page: the book gets one more answer.
-use Rattle.std.proofs.Common.{◌≡◌, ◌≢◌, ℕ, suc, zero, ◌+◌, ◌*◌, ◌/◌, ◌%◌, ◌<◌, ◌≤◌, Bool, true, false, cond, eqb, leb, nat_le, List, [], ◌∷◌, ◌++◌, length, get_or, replicate, Option, Some, None, refl, sym, ap, subst, ◌∙◌, arith}
+use Rattle.std.proofs.Common.{◌≡◌, ◌≢◌, ℕ, suc, zero, ◌+◌, ◌*◌, ◌/◌, ◌%◌, ◌<◌, ◌≤◌, Bool, true, false, cond, eqb, leb, nat_le, ◌||◌, List, [], ◌∷◌, ◌++◌, length, get_or, replicate, Option, Some, None, refl, sym, ap, subst, ◌∙◌, arith}
 use Rattle.std.specs.Prelude.{count_by}
 use Rattle.std.proofs.lemmas.Bool.{le-leb}
 use Rattle.std.proofs.lemmas.Bool.Decides.{nat_tests}
@@ -13,11 +13,13 @@ use Rattle.book.specs.declared.entries.Entry.{Entry}
 use Rattle.book.specs.declared.replies.Reply.{Reply}
 use Rattle.book.specs.declared.replies.Reply.TheVariants as reply
 use Rattle.flat_store.specs.Words.{word_at}
-use Rattle.flat_store.specs.Flat.{Store, moved_on, segment_of, is_past, read_of, write_of, read_reply, write_reply, takes_effect, after_command}
+use Rattle.flat_store.specs.Pages.{is_stored}
+use Rattle.flat_store.specs.Flat.{Store, moved_on, segment_of, is_past, is_used_up, is_volume_full, read_of, write_of, read_reply, write_reply, takes_effect, after_command}
 use Rattle.flat_store.specs.Legal.{IsAnswer, IsLawful, IsLegal, after_do, after_entry, store_after}
 use Rattle.flat_store.proofs.BookLaws.{store_after-push, legal_push}
 use Rattle.flat_store.proofs.WordLaws.{word_at-empty}
 use Rattle.runner.specs.Machines.{segment_in, IsPicture, Holds, IsAt, IsQuiet, done_at, IsRefused, IsReached}
+use Rattle.runner.proofs.Counts.{not_used_up, not_full}
 use Rattle.runner.proofs.Starts.{first_store, first_entries, store_first, legal_first}
 
 pub past_end : {A : Type 0} (xs : List A) (q : ℕ) (d : A) → length xs ≤ q → get_or xs q d ≡ d
@@ -88,7 +90,7 @@ picture_moved p s pages marks place h = record {
   ended = h.ended;
 }
 
-pub lawful_at : (p : Plan) (es : List Entry) (place : ℕ) (r : Reply) → IsAt p es place → IsAnswer (store_after p es) 0 (command_at p 0 place) r → IsLawful p (store_after p es) (done_at place r)
+pub lawful_at : (p : Plan) (es : List Entry) (place : ℕ) (r : Reply) → IsAt p es place → IsAnswer p (store_after p es) 0 (command_at p 0 place) r → IsLawful p (store_after p es) (done_at place r)
 unfolding IsLawful
 lawful_at p es place r at answer = record { going = at.going; next = at.next; answer = answer }
 
@@ -130,20 +132,20 @@ refused_unknown p s pages marks number offset h ne =
     let none : segment_of s 0 number ≡ None = segment_none p s pages marks number h ne in
     record {
       read = sym (ap (read_of s offset) none);
-      write = sym (ap (write_of offset) none);
+      write = λ w. sym (ap (write_of p s offset w) none);
       nothing = refl;
     }
 
-past_is : (p : Plan) (offset : ℕ) → nat_le (1024 * pages_of (commands_of p 0)) offset ≡ true → (s : Store) → (read_of s offset (Some (segment_in p)) ≡ reply.Length) × (write_of offset (Some (segment_in p)) ≡ reply.Length)
-past_is p offset h s = (rw h refl, rw h refl)
+past_is : (p : Plan) (offset : ℕ) → nat_le (1024 * pages_of (commands_of p 0)) offset ≡ true → (s : Store) (w : ℕ) → (read_of s offset (Some (segment_in p)) ≡ reply.Length) × (write_of p s offset w (Some (segment_in p)) ≡ reply.Length)
+past_is p offset h s w = (rw h refl, rw h refl)
 
 refused_length : (p : Plan) (s : Store) (pages : List (List ℕ)) (marks : List Bool) (offset : ℕ) → IsPicture p s pages marks → nat_le (1024 * pages_of (commands_of p 0)) offset ≡ true → IsRefused p s 0 offset reply.Length
 unfolding read_reply write_reply
 refused_length p s pages marks offset h past =
     let some : segment_of s 0 0 ≡ Some (segment_in p) = segment_known p s pages marks h in
     record {
-      read = sym (ap (read_of s offset) some ∙ (past_is p offset past s).0);
-      write = sym (ap (write_of offset) some ∙ (past_is p offset past s).1);
+      read = sym (ap (read_of s offset) some ∙ (past_is p offset past s 0).0);
+      write = λ w. sym (ap (write_of p s offset w) some ∙ (past_is p offset past s w).1);
       nothing = refl;
     }
 
@@ -157,11 +159,18 @@ read_is p s pages marks number offset w h r is =
     ap (λ (x : ℕ). reply.Word x) is
     ∙ sym (ap (λ (n : ℕ). read_of s offset (segment_of s 0 n)) r.zero_is ∙ ap (read_of s offset) some ∙ rw (not_past p offset r.within) refl)
 
-pub write_is : (p : Plan) (s : Store) (pages : List (List ℕ)) (marks : List Bool) (number offset : ℕ) → IsPicture p s pages marks → IsReached p number offset → reply.Done ≡ write_reply s 0 number offset
+pub write_is : (p : Plan) (s : Store) (pages : List (List ℕ)) (marks : List Bool) (number offset w : ℕ) → IsFirstForm p → IsPicture p s pages marks → IsReached p number offset → reply.Done ≡ write_reply p s 0 number offset w
 unfolding write_reply
-write_is p s pages marks number offset h r =
+write_is p s pages marks number offset w f h r =
     let some : segment_of s 0 0 ≡ Some (segment_in p) = segment_known p s pages marks h in
-    sym (ap (λ (n : ℕ). write_of offset (segment_of s 0 n)) r.zero_is ∙ ap (write_of offset) some ∙ rw (not_past p offset r.within) refl)
+    sym (ap (λ (n : ℕ). write_of p s offset w (segment_of s 0 n)) r.zero_is ∙ ap (write_of p s offset w) some ∙ rw (not_past p offset r.within) (written (eqb w 0 || is_stored s.stored 2 (offset / 1024)) refl))
+  where
+    written : (z : Bool) → (eqb w 0 || is_stored s.stored 2 (offset / 1024)) ≡ z → cond z reply.Done (cond (is_used_up s (segment_in p)) reply.Quota (cond (is_volume_full p s (segment_in p)) reply.NoRecord reply.Done)) ≡ reply.Done
+    written true e = refl
+    written false e = rw (not_used_up p s pages marks (offset / 1024) f h (omega (arith, r.within)) (not_stored e), not_full p s pages marks (offset / 1024) f h (omega (arith, r.within)) (not_stored e)) refl
+      where
+        not_stored : (eqb w 0 || is_stored s.stored 2 (offset / 1024)) ≡ false → is_stored s.stored 2 (offset / 1024) ≡ false
+        not_stored e = grind (arith, nat_tests)
 
 -- a read changes nothing, and neither does a refused write
 after_read : (p : Plan) (s : Store) (place number offset : ℕ) (r : Reply) → after_command p s 0 place (command.Read number offset) r ≡ moved_on s 0 place
@@ -178,13 +187,13 @@ after_refused p s place c r h = rw h refl
 
 pub quiet_read : (p : Plan) (es : List Entry) (place number offset : ℕ) (r : Reply) → command_at p 0 place ≡ Some (command.Read number offset) → r ≡ read_reply (store_after p es) 0 number offset → IsQuiet p es place r
 quiet_read p es place number offset r c is = record {
-  answer = subst (λ (x : Option Command). IsAnswer (store_after p es) 0 x r) (sym c) is;
+  answer = subst (λ (x : Option Command). IsAnswer p (store_after p es) 0 x r) (sym c) is;
   same = ap (λ (x : Option Command). after_do p (store_after p es) 0 place x r) c ∙ after_read p (store_after p es) place number offset r;
 }
 
 pub quiet_refused : (p : Plan) (es : List Entry) (place number offset w : ℕ) (r : Reply) → command_at p 0 place ≡ Some (command.Write number offset w) → IsRefused p (store_after p es) number offset r → IsQuiet p es place r
 quiet_refused p es place number offset w r c is = record {
-  answer = subst (λ (x : Option Command). IsAnswer (store_after p es) 0 x r) (sym c) is.write;
+  answer = subst (λ (x : Option Command). IsAnswer p (store_after p es) 0 x r) (sym c) (is.write w);
   same = ap (λ (x : Option Command). after_do p (store_after p es) 0 place x r) c ∙ after_refused p (store_after p es) place (command.Write number offset w) r is.nothing;
 }
 

@@ -27,6 +27,7 @@ use Rattle.runner.specs.declared.steps.Step.TheVariants as step
 use Rattle.runner.specs.Steps.{step_of, command_of, Follows}
 use Rattle.mword.specs.Words.{AreZero}
 use Rattle.std.proofs.lemmas.Grind.{get_or_default_zero}
+use Rattle.runner.proofs.Counts.{used_all, taken_all}
 use Rattle.runner.proofs.Answered.{lawful_at, store_done, picture_moved, past_end, page_there}
 
 -- the store once the process has ended
@@ -57,7 +58,7 @@ holds_ended p es pages marks place h at c =
     let is : store_after p (es ++ done_at place reply.Done ∷ []) ≡ moved_on (ended_store (store_after p es)) 0 place = store_done p es place reply.Done ∙ ap (λ (x : Option Command). after_do p (store_after p es) 0 place x reply.Done) c ∙ after_end p (store_after p es) place in
     record {
       form = h.form;
-      legal = legal_push p es (done_at place reply.Done) h.legal (lawful_at p es place reply.Done at (subst (λ (x : Option Command). IsAnswer (store_after p es) 0 x reply.Done) (sym c) refl));
+      legal = legal_push p es (done_at place reply.Done) h.legal (lawful_at p es place reply.Done at (subst (λ (x : Option Command). IsAnswer p (store_after p es) 0 x reply.Done) (sym c) refl));
       picture = subst (λ (s : Store). IsPicture p s pages marks) (sym is) (picture_moved p (ended_store (store_after p es)) pages marks place (picture_ended p (store_after p es) pages marks h.picture));
     }
 
@@ -206,41 +207,6 @@ clean_kept p es q h never = λ page lt. at page lt (cases_eq page q)
     at : (page : ℕ) → page < q + 1 → (page ≡ q) ⊎ (page ≢ q) → is_stored (store_after p es).stored 2 page ≡ true → IsZeroPage (store_after p es) 2 page → ⊥
     at page lt (inl e) = subst (λ (x : ℕ). is_stored (store_after p es).stored 2 x ≡ true → IsZeroPage (store_after p es) 2 x → ⊥) (sym e) (λ on zeros. never (record { there = on; zeros = zeros }))
     at page lt (inr ne) = h page (omega arith)
-
--- each page is charged to the root, and lies on the first volume
-all_root : (p : Plan) (u : ℕ) → account_of (segment_in p ∷ root_of p ∷ []) u ≡ 1
-all_root p u = both (eqb 2 u) (eqb 1 u)
-  where
-    quota : ℕ → ℕ
-    quota = quota_in (segment_in p ∷ root_of p ∷ [])
-
-    both : (a b : Bool) → account quota (cond a (1 ∷ []) (cond b [] [])) ≡ 1
-    both true b = alone (eqb (quota 1) 0)
-      where
-        alone : (z : Bool) → cond {A = ℕ} z 1 1 ≡ 1
-        alone true = refl
-        alone false = refl
-    both false true = refl
-    both false false = refl
-
-count_all : (test : ℕ × ℕ → Bool) → ((x : ℕ × ℕ) → test x ≡ true) → (xs : List (ℕ × ℕ)) → count_by test xs ≡ length xs
-count_all test h [] = refl
-count_all test h (x ∷ xs) =
-    let one : cond {A = ℕ} (test x) 1 0 ≡ 1 = rw (h x) refl in
-    sum_by-cons (λ (y : ℕ × ℕ). cond (test y) 1 0) x xs ∙ omega (arith, one, count_all test h xs)
-
-pub used_all : (p : Plan) (xs : List (ℕ × ℕ)) → used_by (segment_in p ∷ root_of p ∷ []) xs 1 ≡ length xs
-unfolding used_by
-used_all p xs = count_all (λ x. eqb (account_of (segment_in p ∷ root_of p ∷ []) x.0) 1) (λ x. rw (all_root p x.0) refl) xs
-
-taken_all : (p : Plan) (xs : List (ℕ × ℕ)) → taken_on (segment_in p ∷ root_of p ∷ []) xs 0 ≡ length xs
-unfolding taken_on
-taken_all p xs = count_all (λ x. eqb (volume_in (segment_in p ∷ root_of p ∷ []) x.0) 0) (λ x. first (eqb 2 x.0) (eqb 1 x.0)) xs
-  where
-    first : (a b : Bool) → eqb (cond {A = ℕ} a 0 (cond b 0 0)) 0 ≡ true
-    first true b = refl
-    first false true = refl
-    first false false = refl
 
 entries_two : (p : Plan) → entries_on (segment_in p ∷ root_of p ∷ []) 0 ≡ 2
 unfolding entries_on

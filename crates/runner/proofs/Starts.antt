@@ -1,16 +1,19 @@
 -- How a run starts: the segment is made and known, and no page of it is stored.
-use Rattle.std.proofs.Common.{◌≡◌, ℕ, suc, zero, ◌+◌, Bool, true, false, eqb, List, [], ◌∷◌, length, Option, Some, None, refl, sym, ap, subst, ◌∙◌, arith}
+use Rattle.std.specs.Prelude.{slice_get}
+use Rattle.std.proofs.Common.{nat_le, ◌≡◌, ℕ, suc, zero, ◌+◌, Bool, true, false, eqb, List, [], ◌∷◌, length, Option, Some, None, refl, sym, ap, subst, ◌∙◌, arith}
 use Rattle.std.specs.Str.{bytes_eq}
 use Rattle.std.specs.FinMap as finite
 use Rattle.std.proofs.lemmas.Bool.Decides.{nat_tests}
 use Rattle.script.specs.Plans.{Plan, commands_of, command_at}
-use Rattle.script.specs.Forms.{IsFirstForm, pages_of, path_of}
+use Rattle.script.specs.Forms.{IsFirstForm, pages_of, path_of, fits_in}
+use Rattle.script.specs.declared.plan.VolumeLine.{VolumeLine}
+use Rattle.storage_terms.specs.Tree.{entries_on}
 use Rattle.script.specs.declared.commands.Command.{Command}
 use Rattle.script.specs.declared.commands.Command.TheVariants as command
 use Rattle.book.specs.declared.entries.Entry.{Entry}
 use Rattle.book.specs.declared.replies.Reply.{Reply}
 use Rattle.book.specs.declared.replies.Reply.TheVariants as reply
-use Rattle.flat_store.specs.Flat.{Store, boot, root_of, moved_on, number_for, first_passing, walk, place_in, reply_to_command, made_in, known_as, after_command}
+use Rattle.flat_store.specs.Flat.{Store, boot, root_of, moved_on, number_for, first_passing, walk, place_in, entries_in, entries_of, make_reply, initiate_of, initiate_reply, known_or_full, reply_to_command, made_in, known_by, known_as, after_command}
 use Rattle.flat_store.specs.Legal.{IsAnswer, IsLawful, IsLegal, after_do, after_entry, store_after}
 use Rattle.flat_store.proofs.BookLaws.{store_after-push, legal_push, legal_nil, store_after-nil}
 use Rattle.runner.specs.Machines.{first_name, segment_in, first_known, done_at}
@@ -56,7 +59,7 @@ none_pass : (test : ℕ → Bool) → ((n : ℕ) → test n ≡ false) → (coun
 none_pass test h zero from = refl
 none_pass test h (suc count) from = rw (h from) (none_pass test h count (from + 1))
 
-number_first : number_for [] 0 2 ≡ 0
+number_first : number_for [] 0 2 ≡ Some 0
 unfolding number_for
 number_first = refl
 
@@ -65,7 +68,7 @@ unfolding after_entry after_command
 known_is p f =
     ap (λ (c : Option Command). after_do p (made_store p) 0 1 c (reply.Known 0)) f.run.initiates
     ∙ ap (λ (u : Option ℕ). moved_on (known_as (made_store p) 0 u) 0 1) (path_found p f)
-    ∙ ap (λ (n : ℕ). moved_on (record (made_store p) { known = record { process = 0; number = n; uid = 2 } ∷ [] }) 0 1) number_first
+    ∙ ap (λ (n : Option ℕ). moved_on (known_by (made_store p) 0 2 n) 0 1) number_first
 
 abbrev pub first_entries : List Entry
 first_entries = done_at 0 (reply.Made 2) ∷ done_at 1 (reply.Known 0) ∷ []
@@ -79,24 +82,37 @@ store_first p f =
     ∙ ap (λ (s : Store). after_entry p s (done_at 1 (reply.Known 0))) (store_made p f)
     ∙ known_is p f
 
-answer_at : (s : Store) (c : Option Command) (d : Command) (r : Reply) → c ≡ Some d → r ≡ reply_to_command s 0 d → IsAnswer s 0 c r
-answer_at s c d r e a = subst (λ (x : Option Command). IsAnswer s 0 x r) (sym e) a
+answer_at : (p : Plan) (s : Store) (c : Option Command) (d : Command) (r : Reply) → c ≡ Some d → r ≡ reply_to_command p s 0 d → IsAnswer p s 0 c r
+answer_at p s c d r e a = subst (λ (x : Option Command). IsAnswer p s 0 x r) (sym e) a
+
+-- the volume has an entry beside the root's
+entries_left : (p : Plan) → IsFirstForm p → nat_le (entries_of p 0) (entries_on (root_of p ∷ []) 0) ≡ false
+unfolding entries_on
+entries_left p f = by_volumes p.volumes f.fits
+  where
+    by_volumes : (vs : List VolumeLine) → fits_in vs (pages_of (commands_of p 0)) ≡ true → nat_le (entries_in (slice_get vs 0)) 1 ≡ false
+    by_volumes [] h = absurd cc
+    by_volumes (v ∷ vs) h = grind (arith, nat_tests)
+
+made_one : (p : Plan) (name : List ℕ) → IsFirstForm p → make_reply p (booted p) (name ∷ []) 0 ≡ reply.Made 2
+unfolding make_reply
+made_one p name f = rw (entries_left p f) refl
+
+made_answer : (p : Plan) → IsFirstForm p → reply.Made 2 ≡ make_reply p (booted p) (path_of (commands_of p 0)) 0
+made_answer p f = sym (ap (λ (path : List (List ℕ)). make_reply p (booted p) path 0) (one_name (path_of (commands_of p 0)) f.run.branch) ∙ made_one p (first_name (path_of (commands_of p 0))) f)
 
 lawful_made : (p : Plan) → IsFirstForm p → IsLawful p (booted p) (done_at 0 (reply.Made 2))
 unfolding IsLawful
-lawful_made p f = record { going = refl; next = refl; answer = answer_at (booted p) _ _ (reply.Made 2) f.run.makes refl }
+lawful_made p f = record { going = refl; next = refl; answer = answer_at p (booted p) _ _ (reply.Made 2) f.run.makes (made_answer p f) }
 
-known_answer : (p : Plan) → IsFirstForm p → reply.Known 0 ≡ reply_to_command (made_store p) 0 (command.Initiate (path_of (commands_of p 0)))
+known_answer : (p : Plan) → IsFirstForm p → reply.Known 0 ≡ initiate_reply (made_store p) 0 (path_of (commands_of p 0))
+unfolding initiate_reply
 known_answer p f =
-    sym (ap (λ (u : Option ℕ). initiate_answer (made_store p) u) (path_found p f) ∙ ap (λ (n : ℕ). reply.Known n) number_first)
-  where
-    initiate_answer : Store → Option ℕ → Reply
-    initiate_answer s None = reply.Unknown
-    initiate_answer s (Some uid) = reply.Known (number_for s.known 0 uid)
+    sym (ap (λ (u : Option ℕ). initiate_of (made_store p) 0 u) (path_found p f) ∙ ap (λ (n : Option ℕ). known_or_full n) number_first)
 
 lawful_known : (p : Plan) → IsFirstForm p → IsLawful p (made_store p) (done_at 1 (reply.Known 0))
 unfolding IsLawful
-lawful_known p f = record { going = refl; next = refl; answer = answer_at (made_store p) _ _ (reply.Known 0) f.run.initiates (known_answer p f) }
+lawful_known p f = record { going = refl; next = refl; answer = answer_at p (made_store p) _ _ (reply.Known 0) f.run.initiates (known_answer p f) }
 
 pub legal_first : (p : Plan) → IsFirstForm p → IsLegal p first_entries
 legal_first p f =

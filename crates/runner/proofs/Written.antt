@@ -168,9 +168,9 @@ store_written p es pages marks place number o w h c is =
     ∙ ap (λ (x : Option Command). after_do p (store_after p es) 0 place x reply.Done) c
     ∙ after_write p (store_after p es) pages marks place number o w h.picture is
 
-write_answer : (p : Plan) (es : List Entry) (pages : List (List ℕ)) (marks : List Bool) (place number o w : ℕ) → Holds p es pages marks → command_at p 0 place ≡ Some (command.Write number o w) → IsReached p number o → IsAnswer (store_after p es) 0 (command_at p 0 place) reply.Done
+write_answer : (p : Plan) (es : List Entry) (pages : List (List ℕ)) (marks : List Bool) (place number o w : ℕ) → Holds p es pages marks → command_at p 0 place ≡ Some (command.Write number o w) → IsReached p number o → IsAnswer p (store_after p es) 0 (command_at p 0 place) reply.Done
 write_answer p es pages marks place number o w h c r =
-    subst (λ (x : Option Command). IsAnswer (store_after p es) 0 x reply.Done) (sym c) (write_is p (store_after p es) pages marks number o h.picture r)
+    subst (λ (x : Option Command). IsAnswer p (store_after p es) 0 x reply.Done) (sym c) (write_is p (store_after p es) pages marks number o w h.form h.picture r)
 
 pub holds_written : (p : Plan) (es : List Entry) (pages new : List (List ℕ)) (marks newer : List Bool) (place number o w : ℕ) → Holds p es pages marks → IsAt p es place → command_at p 0 place ≡ Some (command.Write number o w) → IsReached p number o → length (get_or pages (o / 1024) []) ≡ 1024 → new ≡ pages_with pages (o / 1024) (o % 1024) w → newer ≡ marked_by marks (o / 1024) w → Holds p (es ++ done_at place reply.Done ∷ []) new newer
 holds_written p es pages new marks newer place number o w h at c r size ps ms = record {

@@ -65,7 +65,7 @@ pub record IsUnderway (p : Plan) (entries : List Entry) (place : ℕ) : Type 0 w
 
 -- a reply of the command at a place is the flat store's, and changes nothing else
 pub record IsQuiet (p : Plan) (entries : List Entry) (place : ℕ) (r : Reply) : Type 0 where
-  pub answer : IsAnswer (store_after p entries) 0 (command_at p 0 place) r
+  pub answer : IsAnswer p (store_after p entries) 0 (command_at p 0 place) r
   pub same : after_do p (store_after p entries) 0 place (command_at p 0 place) r ≡ moved_on (store_after p entries) 0 place
 
 -- the entry of the command at a place
@@ -87,7 +87,7 @@ pages_with pages q i w = slice_set pages q (slice_set (slice_index_or pages q []
 -- a reference that is refused
 pub record IsRefused (p : Plan) (s : Store) (number offset : ℕ) (r : Reply) : Type 0 where
   pub read : r ≡ read_reply s 0 number offset
-  pub write : r ≡ write_reply s 0 number offset
+  pub write : (w : ℕ) → r ≡ write_reply p s 0 number offset w
   pub nothing : takes_effect r ≡ false
 
 -- a reference that isn't refused

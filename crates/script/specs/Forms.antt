@@ -1,6 +1,7 @@
 -- The shape of the scripts that run so far (own).
-use Rattle.std.specs.Prelude.{◌≡◌, ℕ, ◌≤◌, List, [], ◌∷◌, length, drop, Some, slice_get}
+use Rattle.std.specs.Prelude.{◌≡◌, ℕ, ◌≤◌, Bool, true, false, ◌&&◌, nat_le, List, [], ◌∷◌, length, drop, Some, slice_get}
 use Rattle.script.specs.Plans.{Plan, commands_of}
+use Rattle.script.specs.declared.plan.VolumeLine.{VolumeLine}
 use Rattle.script.specs.declared.commands.Command.{Command}
 use Rattle.script.specs.declared.commands.Command.TheVariants as command
 
@@ -40,9 +41,15 @@ pub record IsRun (commands : List Command) : Type 0 where
   pub high : pages_of commands ≤ 256
   pub most : length commands ≤ 100000
 
+-- the first volume has records for so many pages, and two VTOC entries
+abbrev pub fits_in : List VolumeLine → ℕ → Bool
+fits_in [] pages = false
+fits_in (v ∷ vs) pages = nat_le pages v.records && nat_le 2 v.entries
+
 -- one volume and one process, with quota and records for each page of the segment, and two VTOC entries
 pub record IsFirstForm (p : Plan) : Type 0 where
   pub volumes : length p.volumes ≡ 1
   pub processes : length p.processes ≡ 1
   pub run : IsRun (commands_of p 0)
   pub quota : pages_of (commands_of p 0) ≤ p.quota
+  pub fits : fits_in p.volumes (pages_of (commands_of p 0)) ≡ true
