@@ -1,4 +1,5 @@
 pub mod Flat
 pub mod Legal
 pub mod Pages
+pub mod Shown
 pub mod Words
