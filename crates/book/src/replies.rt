@@ -26,6 +26,10 @@ pub enum Reply {
     Known(u32),
     /// The path leads to nothing.
     NoPath,
+    /// A name of the path would be looked up in a segment.
+    NotDir,
+    /// It is a directory, and a segment is asked for.
+    IsDir,
     /// The directory has a branch of that name (Organick 1972).
     Exists,
     /// The tree has as many branches as it may have.
@@ -51,6 +55,8 @@ impl fmt::Display for Reply {
             Reply::Made(uid) => write!(f, "made {uid}"),
             Reply::Known(number) => write!(f, "known {number}"),
             Reply::NoPath => write!(f, "nopath"),
+            Reply::NotDir => write!(f, "notdir"),
+            Reply::IsDir => write!(f, "isdir"),
             Reply::Exists => write!(f, "exists"),
             Reply::Room => write!(f, "room"),
             Reply::NoEntry => write!(f, "noentry"),

@@ -52,8 +52,51 @@ fn replies_have_their_texts(rt: HostRuntime) -> Result<(), Fail> {
         (Reply::Done, "done"),
         (Reply::Made(2), "made 2"),
         (Reply::Known(0), "known 0"),
+        (Reply::Quota, "quota"),
+        (Reply::NoRecord, "norecord"),
+        (Reply::NoPath, "nopath"),
+        (Reply::NotDir, "notdir"),
+        (Reply::IsDir, "isdir"),
+        (Reply::Exists, "exists"),
+        (Reply::Room, "room"),
+        (Reply::NoEntry, "noentry"),
+        (Reply::Full, "full"),
     ] {
         assert_eq!(rt; format!(in rt.alloc(); "{reply}")?.as_str(), text);
+    }
+    Ok(())
+}
+
+#[test]
+fn entries_have_their_texts(rt: HostRuntime) -> Result<(), Fail> {
+    let read = Entry::Do {
+        process: 0,
+        place: 8,
+        cpu: 0,
+        frame: Some(2),
+        reply: Reply::Word(Word::new(1).expect(&rt, "a word of 36 bits")),
+    };
+    let written = Entry::Do {
+        process: 0,
+        place: 7,
+        cpu: 0,
+        frame: None,
+        reply: Reply::Done,
+    };
+    let here = Entry::Here {
+        frame: 0,
+        uid: 2,
+        page: 4,
+    };
+    for (entry, text) in [
+        (read, "do 0.8 0 2 word 000000000001"),
+        (written, "do 0.7 0 - done"),
+        (Entry::Release { uid: 2, page: 0 }, "release 2 0"),
+        (here, "in 0 2 4"),
+        (Entry::Take { frame: 1 }, "take 1"),
+        (Entry::GonePage { frame: 0 }, "gone page 0"),
+    ] {
+        assert_eq!(rt; entry_text(rt.alloc(), entry)?.as_str(), text);
     }
     Ok(())
 }

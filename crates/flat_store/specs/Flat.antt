@@ -9,7 +9,7 @@ use Rattle.script.specs.declared.plan.VolumeLine.{VolumeLine}
 use Rattle.script.specs.declared.commands.Command.{Command}
 use Rattle.script.specs.declared.commands.Command.TheVariants as command
 use Rattle.storage_terms.specs.Access.{Row}
-use Rattle.storage_terms.specs.Tree.{Node, node_in, branch_in, quota_in, account_of, used_by, taken_on, entries_on}
+use Rattle.storage_terms.specs.Tree.{Node, Walk, LeadsTo, Missing, InSegment, node_in, branch_in, has_directory, walk_in, quota_in, account_of, used_by, taken_on, entries_on}
 use Rattle.book.specs.declared.replies.Reply.{Reply}
 use Rattle.book.specs.declared.replies.Reply.TheVariants as reply
 use Rattle.flat_store.specs.Words.{Words, word_at, with_word}
@@ -94,16 +94,14 @@ first_there (Some x) other = Some x
 unfoldable pub number_for : List Knows → ℕ → ℕ → Option ℕ
 number_for ks process uid = first_there (first_passing (λ n. is_for uid (known_uid ks process n)) 256 0) (first_passing (λ n. is_free (known_uid ks process n)) 256 0)
 
--- the node at the end of a path that starts below a node
-abbrev pub walk : List Node → ℕ → List (List ℕ) → Option ℕ
-walk nodes at [] = Some at
-walk nodes at (name ∷ names) = option_and_then (λ n. walk nodes n.uid names) (branch_in nodes at name)
+-- the names of a path before the last one, and the last one; the root's path has none
+abbrev pub before_parts : List ℕ → Option (List (List ℕ) × List ℕ) → Option (List (List ℕ) × List ℕ)
+before_parts name None = Some ([], name)
+before_parts name (Some parts) = Some (name ∷ parts.0, parts.1)
 
--- the directory and the name in it that a path stands for
-abbrev pub place_in : List Node → ℕ → List (List ℕ) → Option (ℕ × List ℕ)
-place_in nodes at [] = None
-place_in nodes at (name ∷ []) = Some (at, name)
-place_in nodes at (name ∷ next ∷ names) = option_and_then (λ n. place_in nodes n.uid (next ∷ names)) (branch_in nodes at name)
+abbrev pub parts_of : List (List ℕ) → Option (List (List ℕ) × List ℕ)
+parts_of [] = None
+parts_of (name ∷ names) = before_parts name (parts_of names)
 
 -- the words at or past the end of a segment can't be reached
 abbrev pub is_past : Node → ℕ → Bool
@@ -142,30 +140,39 @@ write_reply p s process number offset w = write_of p s offset w (segment_of s pr
 
 -- A segment is made in a directory under a name: exists where the directory has a branch of that name, room where the
 -- tree has 4096 branches beside the root, noentry where all VTOC entries of the volume are used; else it is made.
-abbrev pub make_of : Plan → Store → ℕ → Option (ℕ × List ℕ) → Reply
-make_of p s volume None = reply.NoPath
-make_of p s volume (Some place) =
-  if is_some (branch_in s.nodes place.0 place.1) then reply.Exists
+abbrev pub make_in : Plan → Store → ℕ → ℕ → List ℕ → Reply
+make_in p s volume directory name =
+  if is_some (branch_in s.nodes directory name) then reply.Exists
   else if nat_le 4097 (length s.nodes) then reply.Room
   else if nat_le (entries_of p volume) (entries_on s.nodes volume) then reply.NoEntry
   else reply.Made s.next
 
+-- where a path leads nowhere, or to a segment where a directory is asked for
+abbrev pub make_at : Plan → Store → ℕ → Walk → List ℕ → Reply
+make_at p s volume (LeadsTo u) name = if has_directory s.nodes u then make_in p s volume u name else reply.NotDir
+make_at p s volume Missing name = reply.NoPath
+make_at p s volume InSegment name = reply.NotDir
+
 -- the root is there already
+abbrev pub make_of : Plan → Store → ℕ → Option (List (List ℕ) × List ℕ) → Reply
+make_of p s volume None = reply.Exists
+make_of p s volume (Some parts) = make_at p s volume (walk_in s.nodes parts.0) parts.1
+
 unfoldable pub make_reply : Plan → Store → List (List ℕ) → ℕ → Reply
-make_reply p s [] volume = reply.Exists
-make_reply p s (name ∷ names) volume = make_of p s volume (place_in s.nodes 1 (name ∷ names))
+make_reply p s path volume = make_of p s volume (parts_of path)
 
 abbrev pub known_or_full : Option ℕ → Reply
 known_or_full None = reply.Full
 known_or_full (Some number) = reply.Known number
 
 -- A segment is initiated: full where the process doesn't know it and knows 256 others.
-abbrev pub initiate_of : Store → ℕ → Option ℕ → Reply
-initiate_of s process None = reply.NoPath
-initiate_of s process (Some uid) = known_or_full (number_for s.known process uid)
+abbrev pub initiate_at : Store → ℕ → Walk → Reply
+initiate_at s process (LeadsTo u) = if has_directory s.nodes u then reply.IsDir else known_or_full (number_for s.known process u)
+initiate_at s process Missing = reply.NoPath
+initiate_at s process InSegment = reply.NotDir
 
 unfoldable pub initiate_reply : Store → ℕ → List (List ℕ) → Reply
-initiate_reply s process path = initiate_of s process (walk s.nodes 1 path)
+initiate_reply s process path = initiate_at s process (walk_in s.nodes path)
 
 -- what a process is answered to a command
 abbrev pub reply_to_command : Plan → Store → ℕ → Command → Reply
@@ -179,14 +186,13 @@ reply_to_command p s k command.End = reply.Done
 abbrev pub owner_row : List ℕ → Row
 owner_row who = record { person = Some who; project = Some (codes "Default"); mode = mode.Both }
 
--- a new segment, of which no page is stored
-abbrev pub made_in : Plan → Store → ℕ → ℕ → ℕ → Option (ℕ × List ℕ) → Store
-made_in p s k pages volume None = s
-made_in p s k pages volume (Some place) = record s {
+-- a new segment in a directory, of which no page is stored
+abbrev pub made_in : Plan → Store → ℕ → ℕ → ℕ → ℕ → List ℕ → Store
+made_in p s k pages volume directory name = record s {
   nodes = record {
     uid = s.next;
-    superior = Some place.0;
-    name = place.1;
+    superior = Some directory;
+    name = name;
     directory = false;
     volume = volume;
     pages = pages;
@@ -196,14 +202,24 @@ made_in p s k pages volume (Some place) = record s {
   next = s.next + 1;
 }
 
+abbrev pub made_at : Plan → Store → ℕ → ℕ → ℕ → Walk → List ℕ → Store
+made_at p s k pages volume (LeadsTo u) name = made_in p s k pages volume u name
+made_at p s k pages volume Missing name = s
+made_at p s k pages volume InSegment name = s
+
+abbrev pub made_by : Plan → Store → ℕ → ℕ → ℕ → Option (List (List ℕ) × List ℕ) → Store
+made_by p s k pages volume None = s
+made_by p s k pages volume (Some parts) = made_at p s k pages volume (walk_in s.nodes parts.0) parts.1
+
 -- a segment is known to a process by a number
 abbrev pub known_by : Store → ℕ → ℕ → Option ℕ → Store
 known_by s k uid None = s
 known_by s k uid (Some number) = record s { known = record { process = k; number = number; uid = uid } ∷ s.known }
 
-abbrev pub known_as : Store → ℕ → Option ℕ → Store
-known_as s k None = s
-known_as s k (Some uid) = known_by s k uid (number_for s.known k uid)
+abbrev pub known_at : Store → ℕ → Walk → Store
+known_at s k (LeadsTo uid) = known_by s k uid (number_for s.known k uid)
+known_at s k Missing = s
+known_at s k InSegment = s
 
 -- a page that gets a word other than 0 is stored from then on
 abbrev pub stored_by : List (ℕ × ℕ) → ℕ → ℕ → ℕ → List (ℕ × ℕ)
@@ -215,8 +231,8 @@ written_in s offset w (Some n) = record s { words = with_word s.words n.uid offs
 
 -- the store once a command took effect
 abbrev pub effect_of : Plan → Store → ℕ → Command → Store
-effect_of p s k (command.MkSeg path pages volume) = made_in p s k pages volume (place_in s.nodes 1 path)
-effect_of p s k (command.Initiate path) = known_as s k (walk s.nodes 1 path)
+effect_of p s k (command.MkSeg path pages volume) = made_by p s k pages volume (parts_of path)
+effect_of p s k (command.Initiate path) = known_at s k (walk_in s.nodes path)
 effect_of p s k (command.Read number offset) = s
 effect_of p s k (command.Write number offset word) = written_in s offset word (segment_of s k number)
 effect_of p s k command.End = record s { ended = slice_set s.ended k true }

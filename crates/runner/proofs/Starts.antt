@@ -7,13 +7,13 @@ use Rattle.std.proofs.lemmas.Bool.Decides.{nat_tests}
 use Rattle.script.specs.Plans.{Plan, commands_of, command_at}
 use Rattle.script.specs.Forms.{IsFirstForm, pages_of, path_of, fits_in}
 use Rattle.script.specs.declared.plan.VolumeLine.{VolumeLine}
-use Rattle.storage_terms.specs.Tree.{entries_on}
+use Rattle.storage_terms.specs.Tree.{Walk, LeadsTo, walk_in, entries_on}
 use Rattle.script.specs.declared.commands.Command.{Command}
 use Rattle.script.specs.declared.commands.Command.TheVariants as command
 use Rattle.book.specs.declared.entries.Entry.{Entry}
 use Rattle.book.specs.declared.replies.Reply.{Reply}
 use Rattle.book.specs.declared.replies.Reply.TheVariants as reply
-use Rattle.flat_store.specs.Flat.{Store, boot, root_of, moved_on, number_for, first_passing, walk, place_in, entries_in, entries_of, make_reply, initiate_of, initiate_reply, known_or_full, reply_to_command, made_in, known_by, known_as, after_command}
+use Rattle.flat_store.specs.Flat.{Store, boot, root_of, moved_on, number_for, first_passing, parts_of, entries_in, entries_of, make_reply, initiate_at, initiate_reply, known_or_full, reply_to_command, made_by, known_by, known_at, after_command}
 use Rattle.flat_store.specs.Legal.{IsAnswer, IsLawful, IsLegal, after_do, after_entry, store_after}
 use Rattle.flat_store.proofs.BookLaws.{store_after-push, legal_push, legal_nil, store_after-nil}
 use Rattle.runner.specs.Machines.{first_name, segment_in, first_known, done_at}
@@ -44,16 +44,16 @@ boot_is p f = rw f.processes refl
 made_is : (p : Plan) → IsFirstForm p → after_entry p (boot p) (done_at 0 (reply.Made 2)) ≡ made_store p
 unfolding after_entry after_command
 made_is p f =
-    let made : List (List ℕ) → Store = λ path. moved_on (made_in p (booted p) 0 (pages_of (commands_of p 0)) 0 (place_in (root_of p ∷ []) 1 path)) 0 0 in
+    let made : List (List ℕ) → Store = λ path. moved_on (made_by p (booted p) 0 (pages_of (commands_of p 0)) 0 (parts_of path)) 0 0 in
     ap (λ (s : Store). after_do p s 0 0 (command_at p 0 0) (reply.Made 2)) (boot_is p f)
     ∙ ap (λ (c : Option Command). after_do p (booted p) 0 0 c (reply.Made 2)) f.run.makes
     ∙ ap made (one_name (path_of (commands_of p 0)) f.run.branch)
 
-walk_found : (p : Plan) → walk (segment_in p ∷ root_of p ∷ []) 1 (first_name (path_of (commands_of p 0)) ∷ []) ≡ Some 2
+walk_found : (p : Plan) → walk_in (segment_in p ∷ root_of p ∷ []) (first_name (path_of (commands_of p 0)) ∷ []) ≡ LeadsTo 2
 walk_found p = rw (bytes_same (first_name (path_of (commands_of p 0)))) refl
 
-path_found : (p : Plan) → IsFirstForm p → walk (segment_in p ∷ root_of p ∷ []) 1 (path_of (commands_of p 0)) ≡ Some 2
-path_found p f = ap (walk (segment_in p ∷ root_of p ∷ []) 1) (one_name (path_of (commands_of p 0)) f.run.branch) ∙ walk_found p
+path_found : (p : Plan) → IsFirstForm p → walk_in (segment_in p ∷ root_of p ∷ []) (path_of (commands_of p 0)) ≡ LeadsTo 2
+path_found p f = ap (walk_in (segment_in p ∷ root_of p ∷ [])) (one_name (path_of (commands_of p 0)) f.run.branch) ∙ walk_found p
 
 none_pass : (test : ℕ → Bool) → ((n : ℕ) → test n ≡ false) → (count from : ℕ) → first_passing test count from ≡ None
 none_pass test h zero from = refl
@@ -67,7 +67,7 @@ known_is : (p : Plan) → IsFirstForm p → after_entry p (made_store p) (done_a
 unfolding after_entry after_command
 known_is p f =
     ap (λ (c : Option Command). after_do p (made_store p) 0 1 c (reply.Known 0)) f.run.initiates
-    ∙ ap (λ (u : Option ℕ). moved_on (known_as (made_store p) 0 u) 0 1) (path_found p f)
+    ∙ ap (λ (w : Walk). moved_on (known_at (made_store p) 0 w) 0 1) (path_found p f)
     ∙ ap (λ (n : Option ℕ). moved_on (known_by (made_store p) 0 2 n) 0 1) number_first
 
 abbrev pub first_entries : List Entry
@@ -108,7 +108,7 @@ lawful_made p f = record { going = refl; next = refl; answer = answer_at p (boot
 known_answer : (p : Plan) → IsFirstForm p → reply.Known 0 ≡ initiate_reply (made_store p) 0 (path_of (commands_of p 0))
 unfolding initiate_reply
 known_answer p f =
-    sym (ap (λ (u : Option ℕ). initiate_of (made_store p) 0 u) (path_found p f) ∙ ap (λ (n : Option ℕ). known_or_full n) number_first)
+    sym (ap (λ (w : Walk). initiate_at (made_store p) 0 w) (path_found p f) ∙ ap (λ (n : Option ℕ). known_or_full n) number_first)
 
 lawful_known : (p : Plan) → IsFirstForm p → IsLawful p (made_store p) (done_at 1 (reply.Known 0))
 unfolding IsLawful
