@@ -1,5 +1,6 @@
 pub mod Flat
 pub mod Legal
+pub mod Kept
 pub mod Pages
 pub mod Shown
 pub mod Words
