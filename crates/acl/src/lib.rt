@@ -54,7 +54,7 @@ impl Default for Grant {
 impl Grant {
     /// Whether the row names just these parts, where `None` is any.
     fn names_just(&self, person: Option<&Label>, project: Option<&Label>) -> bool
-        ensures { result ≡ names_just (option_map (λ l. l.now) person) (option_map (λ l. l.now) project) self.now }
+        ensures { result ≡ names_just (option_map (λ l. l.now) person.entry) (option_map (λ l. l.now) project.entry) self.now }
     {
         is_part(person, &self.row.person) && is_part(project, &self.row.project)
     }
@@ -62,7 +62,7 @@ impl Grant {
 
 /// Whether a part of a row is this one, where `None` is any.
 fn is_part(wanted: Option<&Label>, part: &Option<Label>) -> bool
-    ensures { result ≡ is_part (option_map (λ l. l.now) wanted) part.now }
+    ensures { result ≡ is_part (option_map (λ l. l.now) wanted.entry) part.now }
 {
     match (wanted, part) {
         (None, None) => true,
@@ -110,6 +110,7 @@ impl Acl {
     }
 
     /// Whether `set` of this row would answer Ok: the row is in the list, or fewer than 16 are.
+    #[tactic(auto, using(crate::proofs::RowLaws::place_tells, std::proofs::lemmas::Grind::common_steps))]
     pub fn takes(&self, row: &Row) -> bool
         ensures { result ≡ takes_row row.now.person row.now.project self.now }
     {
@@ -121,6 +122,7 @@ impl Acl {
     ///
     /// # Errors
     /// `AclFull` exactly where the row isn't in the list and 16 rows are; then nothing is changed.
+    #[tactic(auto, using(crate::proofs::RowLaws::row_taken, crate::proofs::RowLaws::row_replaced, crate::proofs::RowLaws::row_appended, std::proofs::lemmas::Grind::common_steps))]
     pub fn set(&mut self, row: Row, mode: Mode) -> Result<(), AclFull>
         ensures ok { OnOk result (self.new ≡ with_row (record { person = row.person; project = row.project; mode = mode }) self.old) }
         ensures err { OnErr result (self.new ≡ self.old) }
@@ -131,16 +133,14 @@ impl Acl {
                 self.rows[place] = Grant { row, mode };
                 Ok(())
             }
-            None => self
-                .rows
-                .try_push(Grant { row, mode })
-                .map_err(|_| AclFull),
+            None => self.rows.try_push(Grant { row, mode }).map_err(|_| AclFull),
         }
     }
 
     /// What a principal may do: by the row of the person on the project, else that of the person on any
     /// project, else that of anyone on the project, else that of anyone at all, else nothing. It goes
     /// through the rows at most four times, and takes no memory.
+    #[tactic(auto, unfolding(storage_terms::specs::Access::access_of))]
     pub fn access_of(&self, who: &Who) -> Mode
         ensures { result ≡ access_of who.now self.now }
     {
@@ -162,15 +162,16 @@ impl Acl {
     fn place(&self, row: &Row) -> Option<usize>
         ensures { result ≡ position (names_just row.now.person row.now.project) self.now }
     {
-        self.rows
-            .as_slice()
-            .iter()
-            .position(|grant| grant.names_just(row.person.as_ref(), row.project.as_ref()))
+        self.rows.as_slice().iter().position(|grant| grant.names_just(
+            row.person.as_ref(),
+            row.project.as_ref(),
+        ))
     }
 
     /// What the row with just these parts allows, where `None` is any.
+    #[tactic(auto, using(crate::proofs::RowLaws::row_passed, crate::proofs::RowLaws::row_found, crate::proofs::RowLaws::no_row_left, std::proofs::lemmas::Grind::common_steps))]
     fn mode_at(&self, person: Option<&Label>, project: Option<&Label>) -> Option<Mode>
-        ensures { result ≡ mode_at (option_map (λ l. l.now) person) (option_map (λ l. l.now) project) self.now }
+        ensures { result ≡ mode_at (option_map (λ l. l.now) person.entry) (option_map (λ l. l.now) project.entry) self.now }
     {
         for grant in self.rows.as_slice() {
             if grant.names_just(person, project) {

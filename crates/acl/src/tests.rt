@@ -23,7 +23,15 @@ fn list(rt: &impl Abort, rows: &[(&str, Mode)]) -> Acl {
 
 #[test]
 fn the_nearest_row_decides(rt: HostRuntime) {
-    let list = list(&rt, &[("Smith.Dev", Mode::Both), ("Jones.*", Mode::Read), ("*.Dev", Mode::Both), ("*.*", Mode::Null)]);
+    let list = list(
+        &rt,
+        &[
+            ("Smith.Dev", Mode::Both),
+            ("Jones.*", Mode::Read),
+            ("*.Dev", Mode::Both),
+            ("*.*", Mode::Null),
+        ],
+    );
     let answers = [
         ("Smith.Dev", Mode::Both),
         ("Jones.Dev", Mode::Read),
@@ -38,7 +46,15 @@ fn the_nearest_row_decides(rt: HostRuntime) {
 
 #[test]
 fn the_order_of_rows_does_not_matter(rt: HostRuntime) {
-    let list = list(&rt, &[("*", Mode::Both), ("*.Dev", Mode::Write), ("Smith.*", Mode::Null), ("Smith.Dev", Mode::Read)]);
+    let list = list(
+        &rt,
+        &[
+            ("*", Mode::Both),
+            ("*.Dev", Mode::Write),
+            ("Smith.*", Mode::Null),
+            ("Smith.Dev", Mode::Read),
+        ],
+    );
     let answers = [
         ("Smith.Dev", Mode::Read),
         ("Smith.Ops", Mode::Null),
