@@ -20,7 +20,7 @@ use Rattle.page_control.proofs.Firsts.{below, nowhere, position_at_one, position
 use Rattle.page_control.proofs.Pictures.{page, uid_part, off_and_on, entry_tells, binding_tells, binding_is_one, off_from, volume_found, record_found}
 
 -- a free entry names no record
-no_record : (q : ℕ) → get_or no_records q None ≡ None
+pub no_record : (q : ℕ) → get_or no_records q None ≡ None
 unfolding no_records
 no_record q =
     let none : Option ℕ = None in
@@ -68,7 +68,7 @@ held_kept frames disk now place None same = same
 held_kept frames disk now place (Some g) same = refl
 
 -- page p is in frame f and in no other
-found_at : (bound : List (Option (ℕ × ℕ))) (uid p f : ℕ) → binding_at bound f ≡ page uid p → f < length bound → ((g : ℕ) → binding_at bound g ≡ page uid p → g ≡ f)
+pub found_at : (bound : List (Option (ℕ × ℕ))) (uid p f : ℕ) → binding_at bound f ≡ page uid p → f < length bound → ((g : ℕ) → binding_at bound g ≡ page uid p → g ≡ f)
     → position (is_binding uid p) bound ≡ Some f
 found_at bound uid p f here within only =
     position_at_one (is_binding uid p) bound f None within (ap (is_binding uid p) here ∙ binding_is_one uid p)

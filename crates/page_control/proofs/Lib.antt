@@ -4,3 +4,10 @@ pub mod Firsts
 pub mod Fresh
 pub mod Pictures
 pub mod Leaving
+pub mod Places
+pub mod Filing
+pub mod Others
+pub mod Kept
+pub mod Changes
+pub mod Homes
+pub mod Shown

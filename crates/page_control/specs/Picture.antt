@@ -1,6 +1,6 @@
 -- What the frames, the records and the VTOCs stand for: the words of each page of each segment, and which pages are
 -- stored (Bensoussan, Clingen and Daley 1972; that a page of zeros has no record is Organick 1972).
-use Rattle.std.specs.Prelude.{ℕ, ◌==◌, ◌&&◌, Bool, false, List, [], Option, None, Some, is_some, replicate, position, slice_index_or}
+use Rattle.std.specs.Prelude.{ℕ, ◌==◌, ◌&&◌, if◌then◌else◌, Bool, false, List, [], Option, None, Some, is_some, replicate, position, slice_index_or}
 use Rattle.std.specs.List.{position_or_len}
 use Rattle.vtoc.specs.Vtoc.{Entry, record_at}
 use Rattle.page_control.specs.Plain.{Plain, bindings}
@@ -55,3 +55,11 @@ is_filed_in vtocs uid p = is_some (record_named vtocs uid p)
 
 abbrev pub is_stored : Plain → ℕ → ℕ → Bool
 is_stored s = is_filed_in s.vtocs
+
+-- the same but at page p of segment uid, where it is x
+unfoldable pub changed_at : {X : Type 0} → (ℕ → ℕ → X) → ℕ → ℕ → X → ℕ → ℕ → X
+changed_at old uid p x u q = if uid == u && p == q then x else old u q
+
+-- the same but at the pages of segment uid, where it is x
+unfoldable pub changed_for : {X : Type 0} → (ℕ → ℕ → X) → ℕ → X → ℕ → ℕ → X
+changed_for old uid x u q = if uid == u then x else old u q

@@ -1,4 +1,4 @@
-ghost use Rattle.std.specs.Prelude.{◌≡◌, ◌≤◌, ◌<◌, ◌↔◌, ℕ, Bool, true, false, List, Option, Some, None, Result, Ok, length, replicate, sum_by, map, slice_index, slice_set, IsTrue, IsSome, IsErr, IfOk, IfSome, IfNone, OnOk, OnErr, All};
+ghost use Rattle.std.specs.Prelude.{◌≡◌, ◌≢◌, ◌≤◌, ◌-◌, ◌++◌, take, ◌<◌, ◌↔◌, ℕ, Bool, true, false, List, Option, Some, None, Result, Ok, length, replicate, sum_by, map, slice_index, slice_set, IsTrue, IsSome, IsErr, IfOk, IfSome, IfNone, OnOk, OnErr, All};
 ghost use Rattle.std.specs.List.{list_any};
 ghost use Rattle.site_io.specs.Faults.{Rose};
 ghost use Rattle.bitmap.specs.Bitmap.{in_use, least_free};
@@ -12,8 +12,9 @@ ghost use Rattle.page_table.specs.PageTable.{ptw_at};
 ghost use Rattle.vtoc.specs.Vtoc.{least_free_entry};
 ghost use Rattle.page_control.specs.Plain.{Paging, plain, words_in, words_on, number_in, flags_of, vtoc_of, file_map_of, bindings, disk_of, entry_of, filed, record_of, uid_of_home, number_or_zero};
 ghost use Rattle.page_control.specs.Effects.{framed, word_put, referred, cut, unstored, brought_in, created, dropped, evicted, word_of_left, allocated, saved, filled};
-ghost use Rattle.page_control.specs.Picture.{picture, is_stored};
-ghost use Rattle.page_control.specs.Tied.{IsTableOf, IsHomeOf, IsMapOf, AreFiled, IsNotStarted, uid_in, is_away, is_out};
+ghost use Rattle.page_control.specs.Picture.{picture, is_stored, changed_at};
+ghost use Rattle.page_control.specs.Tied.{IsTableOf, IsHomeOf, HasNoHome, IsMapOf, AreFiled, IsNotStarted, IsBoundOnce, KeepsOthers, map_at, uid_in, is_away, is_out};
+ghost use Rattle.page_control.specs.declared.Home.{Home};
 
 use crate::{Home, Left, NoMemory, NoRecord};
 use core_map::CoreMap;
@@ -151,6 +152,10 @@ impl<D: Drive> Pages<D> {
         requires records { AreFiled self.old.volumes.records self.old.volumes.vtocs }
         ensures dropped { plain D.pages self.new ≡ dropped (plain D.pages self.old) home p (ptw_at t.old p) }
         ensures word { t.new ≡ slice_set t.old p Null }
+        ensures table { IsTableOf (bindings self.new.core) (uid_of_home (plain D.pages self.old) home) t.new }
+        ensures map { IsMapOf (file_map_of (plain D.pages self.new) home) t.new }
+        ensures records { AreFiled self.new.volumes.records self.new.volumes.vtocs }
+        ensures others { KeepsOthers (plain D.pages self.old) (plain D.pages self.new) (uid_of_home (plain D.pages self.old) home) home }
         ensures drives { self.new.volumes.drives ≡ self.old.volumes.drives }
     {
         let word = t.get(p);
@@ -170,7 +175,19 @@ impl<D: Drive> Pages<D> {
         ensures none { IfNone result (All (λ entry. IsSome entry) (vtoc_of (plain D.pages self.old) volume)) }
         ensures some { IfSome result (λ e. plain D.pages self.new ≡ allocated (plain D.pages self.old) volume e uid) }
         ensures same { IfNone result (plain D.pages self.new ≡ plain D.pages self.old) }
+        ensures core { self.new.core ≡ self.old.core }
         ensures drives { self.new.volumes.drives ≡ self.old.volumes.drives }
+
+        // What becomes of homes, where no entry had that uid.
+        ensures home { HasNoHome self.old.volumes.vtocs uid → IfSome result (λ e. IsHomeOf self.new.volumes.vtocs uid (record { volume = volume; entry = e })) }
+        ensures homes { HasNoHome self.old.volumes.vtocs uid → (segment : ℕ) (other : Home) → IsHomeOf self.old.volumes.vtocs segment other → IsHomeOf self.new.volumes.vtocs segment other }
+        ensures strangers { (segment : ℕ) → segment ≢ uid → HasNoHome self.old.volumes.vtocs segment → HasNoHome self.new.volumes.vtocs segment }
+
+        // What becomes of the rest.
+        ensures maps { (other : Home) → map_at self.new.volumes.vtocs other ≡ map_at self.old.volumes.vtocs other }
+        ensures records { AreFiled self.old.volumes.records self.old.volumes.vtocs → AreFiled self.new.volumes.records self.new.volumes.vtocs }
+        ensures picture { HasNoHome self.old.volumes.vtocs uid → picture (plain D.pages self.new) ≡ picture (plain D.pages self.old) }
+        ensures stored { HasNoHome self.old.volumes.vtocs uid → is_stored (plain D.pages self.new) ≡ is_stored (plain D.pages self.old) }
     {
         self.volumes.vtoc_mut(volume).allocate(uid)
     }
@@ -223,6 +240,7 @@ impl<D: Drive> Pages<D> {
         ensures map { IsMapOf (file_map_of (plain D.pages self.new) home) t.new }
         ensures homes { self.new.volumes.vtocs ≡ self.old.volumes.vtocs }
         ensures records { self.new.volumes.records ≡ self.old.volumes.records }
+        ensures others { KeepsOthers (plain D.pages self.old) (plain D.pages self.new) uid home }
         ensures word_kept { OnErr result (t.new ≡ t.old) }
         ensures rose { OnErr result (Rose (sum_by D.faults self.old.volumes.drives) (sum_by D.faults self.new.volumes.drives)) }
         ensures grows { sum_by D.faults self.old.volumes.drives ≤ sum_by D.faults self.new.volumes.drives }
@@ -273,6 +291,9 @@ impl<D: Drive> Pages<D> {
         ensures ok { OnOk result (plain D.pages self.new ≡ created (plain D.pages self.old) uid p home (number_or_zero (least_free (flags_of (plain D.pages self.old) home.volume))) f at w) }
         ensures word { OnOk result (t.new ≡ slice_set t.old p (Here f)) }
         ensures table { IsTableOf (bindings self.new.core) uid t.new }
+        ensures map { IsMapOf (file_map_of (plain D.pages self.new) home) t.new }
+        ensures records { AreFiled self.new.volumes.records self.new.volumes.vtocs }
+        ensures others { KeepsOthers (plain D.pages self.old) (plain D.pages self.new) uid home }
         ensures full { IsErr result ↔ All (λ flag. flag ≡ true) (flags_of (plain D.pages self.old) home.volume) }
         ensures err { OnErr result (self.new ≡ self.old) }
         ensures word_kept { OnErr result (t.new ≡ t.old) }
@@ -312,7 +333,7 @@ impl<D: Drive> Pages<D> {
     /// Empties frame `f`, whose page is on its way out. A page that is all zeros gives its record back, with no call of
     /// a drive; one whose modified mark is on is written to its record. `Failed` comes only where the faults of the
     /// drives rose; the page is still leaving then. (Source: Organick 1972.)
-    #[tactic(auto, using(crate::proofs::Facts::home_used, crate::proofs::Facts::leaving_within, crate::proofs::Facts::filed_from_word, crate::proofs::Facts::filed_in_use, std::proofs::lemmas::Grind::common_steps))]
+    #[tactic(auto, using(crate::proofs::Facts::home_used, crate::proofs::Facts::leaving_within, crate::proofs::Facts::filed_from_word, crate::proofs::Facts::filed_in_use, crate::proofs::Others::others_same, std::proofs::lemmas::Grind::common_steps))]
     pub fn evict(&mut self, t: &mut PageTable, home: Home, f: u32) -> Result<Left, Failed>
         requires pages { length t.old ≤ 256 }
         requires bound { is_bound (frame_at self.old.core f) ≡ true }
@@ -327,6 +348,9 @@ impl<D: Drive> Pages<D> {
         ensures ok { IfOk result (λ left. plain D.pages self.new ≡ evicted (plain D.pages self.old) home (number_in (frame_at self.old.core f)) f left) }
         ensures word { IfOk result (λ left. t.new ≡ slice_set t.old (number_in (frame_at self.old.core f)) (word_of_left left (record_of (plain D.pages self.old) home (number_in (frame_at self.old.core f))))) }
         ensures table { IsTableOf (bindings self.new.core) (uid_in (frame_at self.old.core f)) t.new }
+        ensures map { IsMapOf (file_map_of (plain D.pages self.new) home) t.new }
+        ensures records { AreFiled self.new.volumes.records self.new.volumes.vtocs }
+        ensures others { KeepsOthers (plain D.pages self.old) (plain D.pages self.new) (uid_in (frame_at self.old.core f)) home }
         ensures kept_picture { result ≡ Ok Left.Kept → picture (plain D.pages self.new) ≡ picture (plain D.pages self.old) }
         ensures kept_stored { result ≡ Ok Left.Kept → is_stored (plain D.pages self.new) ≡ is_stored (plain D.pages self.old) }
         ensures no_call { AreZero (words_in (plain D.pages self.old) f) → self.new.volumes.drives ≡ self.old.volumes.drives }

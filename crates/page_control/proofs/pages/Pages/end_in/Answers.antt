@@ -8,6 +8,7 @@ use Rattle.page_control.proofs.Facts.{bindings_lost, bindings_with, binding_is, 
 use Rattle.page_control.proofs.Pictures.{picture_by, picture_in}
 use Rattle.page_control.specs.Plain.{plain, file_map_of, bindings, record_of}
 use Rattle.page_control.proofs.Ties.{table_read, table_lost, map_read, frame_within, not_none}
+use Rattle.page_control.proofs.Kept.{others_read, others_lost}
 use Rattle.page_control.proofs.pages.Pages.end_in.Goals as goal
 
 not_started : (frame : Frame) (uid p : ℕ) → frame ≡ Free → frame ≡ Started uid p → ⊥
@@ -44,3 +45,11 @@ returns-in-Ok-clause-picture g c =
     (binding_is c.args.self.now.core c.args.f ∙ ap bound_page c.requires.started)
     (frame_within c.args.self.now.core c.args.f (λ e. not_started _ c.args.uid c.args.p e c.requires.started)) (omega (arith, inside, count))
     (λ h is. not_none (frame_of _) h (ap frame_of c.requires.out) (c.requires.table.named h c.args.p is))
+
+pub returns-in-Ok-clause-others : goal.returns-in-Ok-clause-others
+returns-in-Ok-clause-others g c =
+    others_read (plain g.D.Drive.pages c.args.self.now) _ c.args.uid c.args.p c.args.f c.args.home (search rules) (search rules) c.requires.started
+
+pub returns-in-Err-clause-others : goal.returns-in-Err-clause-others
+returns-in-Err-clause-others g c =
+    others_lost (plain g.D.Drive.pages c.args.self.now) _ c.args.uid c.args.p c.args.f c.args.home (search rules) (search rules) c.requires.started

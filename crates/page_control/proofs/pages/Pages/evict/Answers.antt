@@ -15,6 +15,8 @@ use Rattle.page_table.specs.declared.Ptw.TheVariants.{Null, Out}
 use Rattle.page_control.specs.Plain.{plain, record_of, number_in}
 use Rattle.page_control.specs.Tied.{uid_in}
 use Rattle.page_control.proofs.Ties.{table_left}
+use Rattle.page_control.specs.declared.Left.TheVariants.{Released, Kept}
+use Rattle.page_control.proofs.Kept.{map_evicted, filed_evicted, others_evicted}
 use Rattle.page_control.proofs.pages.Pages.evict.Goals as goal
 
 pub returns-then-is_zero-clause-table : goal.returns-then-is_zero-clause-table
@@ -50,3 +52,33 @@ returns-clause-kept_picture g c = λ _.
     c.requires.leaving (frame_within c.args.self.now.core c.args.f (λ e. not_free _ e c.requires.bound))
     (saved_here old _ (is_modified (frame_at c.args.self.now.core c.args.f)) c.args.home.volume r _ disks volume within c.requires.clean)
     (saved_others old _ (is_modified (frame_at c.args.self.now.core c.args.f)) c.args.home.volume r _ disks volume)
+
+pub returns-then-is_zero-clause-map : goal.returns-then-is_zero-clause-map
+returns-then-is_zero-clause-map g c =
+    map_evicted (plain g.D.Drive.pages c.args.self.now) _ (uid_in (frame_at c.args.self.now.core c.args.f)) c.args.home (number_in (frame_at c.args.self.now.core c.args.f)) c.args.f Released c.args.t.now c.set.new.self
+    (search rules) c.requires.home c.requires.map c.requires.leaving (search rules)
+
+pub returns-then-is_zero-clause-records : goal.returns-then-is_zero-clause-records
+returns-then-is_zero-clause-records g c =
+    filed_evicted (plain g.D.Drive.pages c.args.self.now) _ _ (uid_in (frame_at c.args.self.now.core c.args.f)) c.args.home (number_in (frame_at c.args.self.now.core c.args.f)) c.args.f Released c.args.t.now
+    (search rules) (search rules) c.requires.home c.requires.map c.requires.leaving c.requires.records
+
+pub returns-then-is_zero-clause-others : goal.returns-then-is_zero-clause-others
+returns-then-is_zero-clause-others g c =
+    others_evicted (plain g.D.Drive.pages c.args.self.now) _ (uid_in (frame_at c.args.self.now.core c.args.f)) c.args.home (number_in (frame_at c.args.self.now.core c.args.f)) c.args.f Released c.args.t.now
+    (search rules) c.requires.home c.requires.table c.requires.leaving
+
+pub returns-clause-map : goal.returns-clause-map
+returns-clause-map g c =
+    map_evicted (plain g.D.Drive.pages c.args.self.now) _ (uid_in (frame_at c.args.self.now.core c.args.f)) c.args.home (number_in (frame_at c.args.self.now.core c.args.f)) c.args.f Kept c.args.t.now c.set-2.new.self
+    (search rules) c.requires.home c.requires.map c.requires.leaving (search rules)
+
+pub returns-clause-records : goal.returns-clause-records
+returns-clause-records g c =
+    filed_evicted (plain g.D.Drive.pages c.args.self.now) _ _ (uid_in (frame_at c.args.self.now.core c.args.f)) c.args.home (number_in (frame_at c.args.self.now.core c.args.f)) c.args.f Kept c.args.t.now
+    (search rules) (search rules) c.requires.home c.requires.map c.requires.leaving c.requires.records
+
+pub returns-clause-others : goal.returns-clause-others
+returns-clause-others g c =
+    others_evicted (plain g.D.Drive.pages c.args.self.now) _ (uid_in (frame_at c.args.self.now.core c.args.f)) c.args.home (number_in (frame_at c.args.self.now.core c.args.f)) c.args.f Kept c.args.t.now
+    (search rules) c.requires.home c.requires.table c.requires.leaving
