@@ -147,9 +147,3 @@ pub picture_at : (bound : List (Option (ℕ × ℕ))) (frames : List (List ℕ))
 unfolding words_of_page
 picture_at bound frames disks vtocs uid p f at fl once =
     ap (words_held frames (get_or disks (volume_of vtocs uid) []) (record_named vtocs uid p)) (found_at bound uid p f at fl (λ g is. once.only g (is ∙ sym at)))
-
--- a page of the segment of a table is in one frame
-pub bound_once : (bound : List (Option (ℕ × ℕ))) (uid p f : ℕ) (t : List Ptw) → IsTableOf bound uid t → frame_of (ptw_at t p) ≡ Some f → IsBoundOnce bound f
-bound_once bound uid p f t table word = record {
-  only = λ g same. frame_same (frame_of (ptw_at t p)) g f (table.named g p (same ∙ table.back f p word)) word;
-}

@@ -19,17 +19,17 @@ use Rattle.page_control.proofs.Places.{put, list_within, put_here, put_other, vo
 use Rattle.page_control.proofs.Filing.{filed_fewer}
 
 -- each home is that of entry e, or another
-at_or_other : (v e : ℕ) (other : Home) → ((other.volume ≡ v) × (other.entry ≡ e)) ⊎ (other.volume ≡ v → other.entry ≡ e → ⊥)
+pub at_or_other : (v e : ℕ) (other : Home) → ((other.volume ≡ v) × (other.entry ≡ e)) ⊎ (other.volume ≡ v → other.entry ≡ e → ⊥)
 at_or_other v e other = elim (cases_eq other.volume v) [
   | inl i ↦ elim (cases_eq other.entry e) [ inl j ↦ inl (i, j) | inr n ↦ inr (λ _ k. n k) ]
   | inr n ↦ inr (λ k _. n k)
 ]
 
-uid_here : (vtocs : List (List (Option Entry))) (v e : ℕ) (x : Option Entry) (other : Home) → v < length vtocs → e < length (vtoc_in vtocs v)
+pub uid_here : (vtocs : List (List (Option Entry))) (v e : ℕ) (x : Option Entry) (other : Home) → v < length vtocs → e < length (vtoc_in vtocs v)
     → (other.volume ≡ v) × (other.entry ≡ e) → uid_at (put vtocs v e x) other ≡ uid_of x
 uid_here vtocs v e x other vl el (i, j) = rw (i, j) (ap uid_of (put_here vtocs v e x None vl el))
 
-uid_other : (vtocs : List (List (Option Entry))) (v e : ℕ) (x : Option Entry) (other : Home) → v < length vtocs → (other.volume ≡ v → other.entry ≡ e → ⊥)
+pub uid_other : (vtocs : List (List (Option Entry))) (v e : ℕ) (x : Option Entry) (other : Home) → v < length vtocs → (other.volume ≡ v → other.entry ≡ e → ⊥)
     → uid_at (put vtocs v e x) other ≡ uid_at vtocs other
 uid_other vtocs v e x other vl n = ap uid_of (put_other vtocs v e x None other.volume other.entry vl n)
 

@@ -58,7 +58,7 @@ others_evicted s now uid home p f Kept t is h table word =
     (own_page _ uid p at) (own_none (bound_page Free) uid refl)
 
 -- a page that was created: that its file map has room is told by what it names then
-placed_full : (table : List (Option Entry)) (e p r uid : ℕ) → uid_of (entry_at table e) ≡ Some uid → e < length table
+pub placed_full : (table : List (Option Entry)) (e p r uid : ℕ) → uid_of (entry_at table e) ≡ Some uid → e < length table
     → record_at (set table e (with_record (entry_at table e) p (Some r))) e p ≡ Some r → get_or (set (records_in (entry_at table e)) p (Some r)) p None ≡ Some r
 placed_full table e p r uid used el placed =
     ap (λ (places : List (Option ℕ)). get_or places p None) (sym (used_map (entry_at table e) uid p (Some r) used))

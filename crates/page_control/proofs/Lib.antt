@@ -11,3 +11,5 @@ pub mod Kept
 pub mod Changes
 pub mod Homes
 pub mod Shown
+pub mod Erasing
+pub mod Callers

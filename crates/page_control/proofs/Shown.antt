@@ -21,12 +21,16 @@ use Rattle.page_control.specs.Picture.{picture, changed_at}
 use Rattle.page_control.proofs.Facts.{binding_is, bindings_with, within_from}
 use Rattle.page_control.proofs.Ties.{bound_within}
 use Rattle.page_control.proofs.Places.{none_put}
-use Rattle.page_control.proofs.Changes.{picture_out, picture_gone, picture_at, changed_same, bound_once}
+use Rattle.page_control.proofs.Changes.{picture_out, picture_gone, picture_at, changed_same}
+use Rattle.page_control.proofs.Callers.{bound_once}
 
 pub zeros_are : (n : ℕ) (words : List ℕ) → All (λ word. word ≡ 0) words → length words ≡ n → words ≡ replicate n 0
 zeros_are n words all long =
     same_number_lists words (replicate n 0) (long ∙ sym (length-replicate n 0))
     (λ k lt. All-get_or (λ (word : ℕ). word ≡ 0) words k 0 lt all ∙ sym (get_or-replicate n k 0 0 (omega (arith, lt, long))))
+
+pub zeros_same : (words those : List ℕ) → words ≡ those → All (λ word. word ≡ 0) those → All (λ word. word ≡ 0) words
+zeros_same words those same all = rw same all
 
 -- a bound frame is within the core
 bound_not_free : (frame : Frame) → frame ≡ Free → is_bound frame ≡ true → ⊥

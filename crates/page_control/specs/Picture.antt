@@ -3,6 +3,8 @@
 use Rattle.std.specs.Prelude.{ℕ, ◌==◌, ◌&&◌, if◌then◌else◌, Bool, false, List, [], Option, None, Some, is_some, replicate, position, slice_index_or}
 use Rattle.std.specs.List.{position_or_len}
 use Rattle.vtoc.specs.Vtoc.{Entry, record_at}
+use Rattle.page_control.specs.declared.Left.{Left}
+use Rattle.page_control.specs.declared.Left.TheVariants.{Released, Kept}
 use Rattle.page_control.specs.Plain.{Plain, bindings}
 use Rattle.page_control.specs.Tied.{vtoc_in}
 
@@ -63,3 +65,8 @@ changed_at old uid p x u q = if uid == u && p == q then x else old u q
 -- the same but at the pages of segment uid, where it is x
 unfoldable pub changed_for : {X : Type 0} → (ℕ → ℕ → X) → ℕ → X → ℕ → ℕ → X
 changed_for old uid x u q = if uid == u then x else old u q
+
+-- which pages are stored after page p of segment uid has left its frame: a page of zeros is stored no more
+abbrev pub stored_after : (ℕ → ℕ → Bool) → ℕ → ℕ → Left → ℕ → ℕ → Bool
+stored_after stored uid p Released = changed_at stored uid p false
+stored_after stored uid p Kept = stored

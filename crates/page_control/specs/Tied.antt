@@ -92,6 +92,10 @@ map_at vtocs home = records_in (entry_at (vtoc_in vtocs home.volume) home.entry)
 pub record HasNoHome (vtocs : List (List (Option Entry))) (uid : ℕ) : Type 0 where
   pub none : (home : Home) → uid_at vtocs home ≢ Some uid
 
+-- no frame is bound to a page of segment uid
+pub record HasNoFrame (bound : List (Option (ℕ × ℕ))) (uid : ℕ) : Type 0 where
+  pub none : (f p : ℕ) → binding_at bound f ≢ Some (uid, p)
+
 -- What a call that concerns segment uid keeps: every entry is used for the segment that it was used for, so that homes
 -- stay homes; every other file map is as before; and the page table of every other segment is still its table.
 pub record KeepsOthers (old new : Plain) (uid : ℕ) (home : Home) : Type 0 where

@@ -1,8 +1,11 @@
-use Rattle.std.proofs.Common.{◌≡◌, rules, refl, ap}
+use Rattle.std.proofs.Common.{◌≡◌, None, rules, refl, ap}
 use Rattle.page_table.specs.PageTable.{ptw_at}
 use Rattle.page_control.specs.Plain.{Plain, plain, bindings, uid_of_home}
 use Rattle.page_control.specs.Effects.{dropped}
 use Rattle.page_control.proofs.Kept.{map_dropped, filed_dropped, others_dropped, table_dropped}
+use Rattle.page_control.proofs.Shown.{picture_dropped}
+use Rattle.page_control.proofs.Changes.{stored_refiled}
+use Rattle.page_control.proofs.Places.{none_put}
 use Rattle.page_control.proofs.pages.Pages.drop_page.Goals as goal
 
 pub returns-in-Leaving-clause-table : goal.returns-in-Leaving-clause-table
@@ -39,5 +42,17 @@ returns-in-Null g c =
           (search rules) (search rules) c.requires.away c.requires.home c.requires.map c.requires.records;
       others = others_dropped (plain g.D.Drive.pages c.args.self.now) _ (uid_of_home (plain g.D.Drive.pages c.args.self.now) c.args.home) c.args.home c.args.p (ptw_at c.args.t.now c.args.p)
           c.args.t.now effect refl c.requires.away c.requires.home c.requires.table;
+      picture = picture_dropped (plain g.D.Drive.pages c.args.self.now) (plain g.D.Drive.pages c.unstore.new.self) (uid_of_home (plain g.D.Drive.pages c.args.self.now) c.args.home) c.args.home c.args.p (ptw_at c.args.t.now c.args.p)
+          c.args.t.now effect refl c.requires.away c.requires.home c.requires.table;
+      stored = stored_refiled c.args.self.now.volumes.vtocs _ (uid_of_home (plain g.D.Drive.pages c.args.self.now) c.args.home) c.args.p None c.args.home (search rules) c.requires.home (none_put _ c.args.p);
       drives = search rules;
     }
+
+pub returns-in-Leaving-clause-picture : goal.returns-in-Leaving-clause-picture
+returns-in-Leaving-clause-picture g c =
+    let now : Plain = plain g.D.Drive.pages (record { core = c.release.new.self; frames = c.self.inside.frames.items; volumes = c.self.inside.volumes }) in
+    picture_dropped (plain g.D.Drive.pages c.args.self.now) now (uid_of_home (plain g.D.Drive.pages c.args.self.now) c.args.home) c.args.home c.args.p (ptw_at c.args.t.now c.args.p) c.args.t.now (search rules) refl c.requires.away c.requires.home c.requires.table
+
+pub returns-in-Leaving-clause-stored : goal.returns-in-Leaving-clause-stored
+returns-in-Leaving-clause-stored g c =
+    stored_refiled c.args.self.now.volumes.vtocs _ (uid_of_home (plain g.D.Drive.pages c.args.self.now) c.args.home) c.args.p None c.args.home (search rules) c.requires.home (none_put _ c.args.p)

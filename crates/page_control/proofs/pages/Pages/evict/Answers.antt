@@ -1,4 +1,4 @@
-use Rattle.std.proofs.Common.{◌≡◌, ◌<◌, rules, refl, ap, ◌∙◌, false, cond, map, length, get_or, ℕ, List, [], true}
+use Rattle.std.proofs.Common.{◌≡◌, ◌<◌, arith, None, rules, refl, ap, ◌∙◌, false, cond, map, length, get_or, ℕ, List, [], true}
 use Rattle.std.proofs.lemmas.List.{length-map}
 use Rattle.core_map.specs.declared.Frame.{Frame}
 use Rattle.core_map.specs.declared.Frame.TheVariants.{Free}
@@ -17,6 +17,11 @@ use Rattle.page_control.specs.Tied.{uid_in}
 use Rattle.page_control.proofs.Ties.{table_left}
 use Rattle.page_control.specs.declared.Left.TheVariants.{Released, Kept}
 use Rattle.page_control.proofs.Kept.{map_evicted, filed_evicted, others_evicted}
+use Rattle.page_control.specs.Plain.{Plain, words_in}
+use Rattle.std.proofs.lemmas.Grind.{common_steps}
+use Rattle.page_control.proofs.Shown.{picture_released, zeros_same}
+use Rattle.page_control.proofs.Changes.{stored_refiled}
+use Rattle.page_control.proofs.Places.{none_put}
 use Rattle.page_control.proofs.pages.Pages.evict.Goals as goal
 
 pub returns-then-is_zero-clause-table : goal.returns-then-is_zero-clause-table
@@ -34,8 +39,8 @@ returns-clause-table g c =
 not_free : (frame : Frame) → frame ≡ Free → is_bound frame ≡ true → ⊥
 not_free frame e h = (let off : is_bound frame ≡ false = ap is_bound e in cc)
 
-pub returns-clause-kept_picture : goal.returns-clause-kept_picture
-returns-clause-kept_picture g c = λ _.
+pub returns-clause-picture : goal.returns-clause-picture
+returns-clause-picture g c =
     let core : c.release-2.new.self ≡ with_frame c.args.self.now.core c.args.f Free = search rules in
     let r : ℕ = record_of (plain g.D.Drive.pages c.args.self.now) c.args.home (number_in (frame_at c.args.self.now.core c.args.f)) in
     let old : List (List (List ℕ)) = map g.D.Drive.pages c.args.self.now.volumes.drives in
@@ -82,3 +87,14 @@ pub returns-clause-others : goal.returns-clause-others
 returns-clause-others g c =
     others_evicted (plain g.D.Drive.pages c.args.self.now) _ (uid_in (frame_at c.args.self.now.core c.args.f)) c.args.home (number_in (frame_at c.args.self.now.core c.args.f)) c.args.f Kept c.args.t.now
     (search rules) c.requires.home c.requires.table c.requires.leaving
+
+pub returns-then-is_zero-clause-picture : goal.returns-then-is_zero-clause-picture
+returns-then-is_zero-clause-picture g c =
+    let now : Plain = plain g.D.Drive.pages (record { core = c.release.new.self; frames = c.self-then-is_zero.inside.frames.items; volumes = c.self-then-is_zero.inside.volumes }) in
+    let here : words_in (plain g.D.Drive.pages c.args.self.now) c.args.f ≡ c.index.result.now = grind (arith, common_steps) in
+    picture_released (plain g.D.Drive.pages c.args.self.now) now (uid_in (frame_at c.args.self.now.core c.args.f)) c.args.home (number_in (frame_at c.args.self.now.core c.args.f)) c.args.f c.args.t.now (search rules) c.requires.home c.requires.table
+    c.requires.leaving (zeros_same _ c.index.result.now here (c.is_zero.ensures.zero.0 c.if-is_zero.true)) (ap (λ (words : List ℕ). length words) here ∙ c.is_zero.ensures.size)
+
+pub returns-then-is_zero-clause-stored : goal.returns-then-is_zero-clause-stored
+returns-then-is_zero-clause-stored g c =
+    stored_refiled c.args.self.now.volumes.vtocs _ (uid_in (frame_at c.args.self.now.core c.args.f)) (number_in (frame_at c.args.self.now.core c.args.f)) None c.args.home (search rules) c.requires.home (none_put _ (number_in (frame_at c.args.self.now.core c.args.f)))
