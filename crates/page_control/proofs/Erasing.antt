@@ -178,14 +178,14 @@ filed_erased records now_records vtocs now uid home r is h filed =
     ]))
 
 -- the pages of the other segments
-test_off : (entry : Option Entry) (u uid : ℕ) → u ≢ uid → uid_of entry ≡ Some uid → is_entry_of u None ≡ is_entry_of u entry
+pub test_off : (entry : Option Entry) (u uid : ℕ) → u ≢ uid → uid_of entry ≡ Some uid → is_entry_of u None ≡ is_entry_of u entry
 test_off None u uid n is = cc
 test_off (Some entry) u uid n is = elim (eqb_tells entry.uid u) [
   | inl i ↦ absurd (n (sym i.1 ∙ (let its : entry.uid ≡ uid = cc in its)))
   | inr i ↦ sym i.0
 ]
 
-named_erased : (vtocs : List (List (Option Entry))) (uid : ℕ) (home : Home) (u q : ℕ) → IsHomeOf vtocs uid home → u ≢ uid
+pub named_erased : (vtocs : List (List (Option Entry))) (uid : ℕ) (home : Home) (u q : ℕ) → IsHomeOf vtocs uid home → u ≢ uid
     → record_named (put vtocs home.volume home.entry None) u q ≡ record_named vtocs u q
 named_erased vtocs uid home u q h n =
     named_put vtocs home.volume home.entry None u q (volume_within vtocs uid home h) (home_within vtocs uid home h)

@@ -107,7 +107,7 @@ held_nowhere : (frames disk now : List (List ℕ)) (x : Option ℕ) → words_he
 held_nowhere frames disk now None = refl
 held_nowhere frames disk now (Some f) = refl
 
-held_allocated : (bound : List (Option (ℕ × ℕ))) (frames : List (List ℕ)) (disks : List (List (List ℕ))) (vtocs : List (List (Option Entry))) (v e uid : ℕ) (u q : ℕ)
+pub held_allocated : (bound : List (Option (ℕ × ℕ))) (frames : List (List ℕ)) (disks : List (List (List ℕ))) (vtocs : List (List (Option Entry))) (v e uid : ℕ) (u q : ℕ)
     → v < length vtocs → e < length (vtoc_in vtocs v) → entry_at (vtoc_in vtocs v) e ≡ None → HasNoHome vtocs uid
     → words_held frames (get_or disks (volume_of (put vtocs v e (fresh_entry uid)) u) []) (record_named (put vtocs v e (fresh_entry uid)) u q) (position (is_binding u q) bound)
     ≡ words_held frames (get_or disks (volume_of vtocs u) []) (record_named vtocs u q) (position (is_binding u q) bound)

@@ -43,7 +43,7 @@ named_home vtocs u q s is =
     ]
 
 -- the records of two pages are not the same
-other_record : (records : List (List Bool)) (vtocs : List (List (Option Entry))) (uid p r u q s : ℕ) (home : Home) → AreFiled records vtocs → IsHomeOf vtocs uid home
+pub other_record : (records : List (List Bool)) (vtocs : List (List (Option Entry))) (uid p r u q s : ℕ) (home : Home) → AreFiled records vtocs → IsHomeOf vtocs uid home
     → record_at (vtoc_in vtocs home.volume) home.entry p ≡ Some r → is_binding u q (page uid p) ≡ false → record_named vtocs u q ≡ Some s → volume_of vtocs u ≡ home.volume
     → s ≡ r → ⊥
 other_record records vtocs uid p r u q s home filed h is other named volume same =
@@ -58,7 +58,7 @@ other_record records vtocs uid p r u q s home filed h is other named volume same
     (ap (λ (n : ℕ). is_binding u q (page n p)) same_uid ∙ ap (λ (n : ℕ). is_binding u q (page u n)) (sym one.1) ∙ binding_is_one u q)
 
 -- the words of pages that are in no frame
-filed_same : (disks now : List (List (List ℕ))) (w : ℕ) (place : Option ℕ) → ((s : ℕ) → place ≡ Some s → get_or (get_or now w []) s [] ≡ get_or (get_or disks w []) s [])
+pub filed_same : (disks now : List (List (List ℕ))) (w : ℕ) (place : Option ℕ) → ((s : ℕ) → place ≡ Some s → get_or (get_or now w []) s [] ≡ get_or (get_or disks w []) s [])
     → words_filed (get_or now w []) place ≡ words_filed (get_or disks w []) place
 filed_same disks now w None same = refl
 filed_same disks now w (Some s) same = same s refl

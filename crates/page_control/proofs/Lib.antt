@@ -13,3 +13,4 @@ pub mod Homes
 pub mod Shown
 pub mod Erasing
 pub mod Callers
+pub mod Clean

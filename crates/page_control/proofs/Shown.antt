@@ -70,16 +70,18 @@ page_unmarked Free = refl
 page_unmarked (Started u q) = refl
 page_unmarked (Bound u q used modified) = refl
 
-page_turned : (old : Core) (frames : List Frame) (f i : ℕ) → PassesOver old frames f → i < length old.frames → bound_page (frame_in frames i) ≡ bound_page (frame_at old i)
-page_turned old frames f i over lt = elim (leb_tells (way (length old.frames) old.hand f) (way (length old.frames) old.hand i)) [
-  | inl far ↦ ap bound_page (over.others i lt far.1)
-  | inr near ↦ ap bound_page (over.passed i lt near.1) ∙ page_unmarked (frame_at old i)
+pub kept_turned : {X : Type 0} (t : Frame → X) (old : Core) (frames : List Frame) (f i : ℕ) → ((frame : Frame) → t (unmarked frame) ≡ t frame) → PassesOver old frames f
+    → i < length old.frames → t (frame_in frames i) ≡ t (frame_at old i)
+kept_turned t old frames f i same over lt = elim (leb_tells (way (length old.frames) old.hand f) (way (length old.frames) old.hand i)) [
+  | inl far ↦ ap t (over.others i lt far.1)
+  | inr near ↦ ap t (over.passed i lt near.1) ∙ same (frame_at old i)
 ]
 
-page_chosen : (old new : Core) (f i : ℕ) → IsClockChoice old new f → i < length old.frames → bound_page (frame_at new i) ≡ bound_page (frame_at old i)
-page_chosen old new f i choice lt = elim choice.turn [
-  | inl over ↦ page_turned old new.frames f i over lt
-  | inr round ↦ ap bound_page (round.passed i lt) ∙ page_unmarked (frame_at old i)
+pub kept_chosen : {X : Type 0} (t : Frame → X) (old new : Core) (f i : ℕ) → ((frame : Frame) → t (unmarked frame) ≡ t frame) → IsClockChoice old new f → i < length old.frames
+    → t (frame_at new i) ≡ t (frame_at old i)
+kept_chosen t old new f i same choice lt = elim choice.turn [
+  | inl over ↦ kept_turned t old new.frames f i same over lt
+  | inr round ↦ ap t (round.passed i lt) ∙ same (frame_at old i)
 ]
 
 pub bindings_chosen : (old new : Core) (f : ℕ) → IsClockChoice old new f → bindings new ≡ bindings old
@@ -89,4 +91,4 @@ bindings_chosen old new f choice =
     ext_get_or none (bindings new) (bindings old) count
     (λ i lt. (let long : length (bindings new) ≡ length new.frames = length-map new.frames bound_page in
     let inside : i < length old.frames = omega (arith, lt, long, choice.count) in
-    binding_is new i ∙ page_chosen old new f i choice inside ∙ sym (binding_is old i)))
+    binding_is new i ∙ kept_chosen bound_page old new f i page_unmarked choice inside ∙ sym (binding_is old i)))

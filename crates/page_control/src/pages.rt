@@ -13,7 +13,7 @@ ghost use Rattle.vtoc.specs.Vtoc.{least_free_entry};
 ghost use Rattle.page_control.specs.Plain.{Paging, Plain, plain, words_in, words_on, number_in, flags_of, vtoc_of, file_map_of, bindings, disk_of, entry_of, filed, record_of, uid_of_home, number_or_zero};
 ghost use Rattle.page_control.specs.Effects.{framed, erased, word_put, referred, cut, unstored, brought_in, created, dropped, evicted, word_of_left, allocated, saved, filled};
 ghost use Rattle.page_control.specs.Erasing.{IsPartErased};
-ghost use Rattle.page_control.specs.Picture.{picture, is_stored, changed_at, changed_for, stored_after};
+ghost use Rattle.page_control.specs.Picture.{picture, is_stored, changed_at, changed_for, stored_after, AreClean};
 ghost use Rattle.page_control.specs.Tied.{IsTableOf, IsHomeOf, HasNoHome, HasNoFrame, IsMapOf, AreFiled, IsNotStarted, IsBoundOnce, KeepsOthers, map_at, uid_in, is_away, is_out};
 ghost use Rattle.page_control.specs.declared.Home.{Home};
 
@@ -91,6 +91,7 @@ impl<D: Drive> Pages<D> {
         ensures rest { self.new ≡ record self.old { core = self.new.core } }
         ensures picture { picture (plain D.pages self.new) ≡ picture (plain D.pages self.old) }
         ensures stored { is_stored (plain D.pages self.new) ≡ is_stored (plain D.pages self.old) }
+        ensures clean { AreClean (plain D.pages self.old) → AreClean (plain D.pages self.new) }
         ensures bindings { bindings self.new.core ≡ bindings self.old.core }
         ensures volumes { self.new.volumes ≡ self.old.volumes }
     {
@@ -107,6 +108,7 @@ impl<D: Drive> Pages<D> {
         ensures marks { plain D.pages self.new ≡ referred (plain D.pages self.old) f false }
         ensures picture { picture (plain D.pages self.new) ≡ picture (plain D.pages self.old) }
         ensures stored { is_stored (plain D.pages self.new) ≡ is_stored (plain D.pages self.old) }
+        ensures clean { AreClean (plain D.pages self.old) → AreClean (plain D.pages self.new) }
         ensures bindings { bindings self.new.core ≡ bindings self.old.core }
         ensures volumes { self.new.volumes ≡ self.old.volumes }
     {
@@ -123,6 +125,7 @@ impl<D: Drive> Pages<D> {
         ensures word { plain D.pages self.new ≡ word_put (plain D.pages self.old) f at w }
         ensures picture { IsBoundOnce (bindings self.old.core) f → picture (plain D.pages self.new) ≡ changed_at (picture (plain D.pages self.old)) (uid_in (frame_at self.old.core f)) (number_in (frame_at self.old.core f)) (slice_set (words_in (plain D.pages self.old) f) at w) }
         ensures stored { is_stored (plain D.pages self.new) ≡ is_stored (plain D.pages self.old) }
+        ensures clean { AreClean (plain D.pages self.old) → AreClean (plain D.pages self.new) }
         ensures bindings { bindings self.new.core ≡ bindings self.old.core }
         ensures volumes { self.new.volumes ≡ self.old.volumes }
     {
@@ -140,6 +143,7 @@ impl<D: Drive> Pages<D> {
         ensures words { plain D.pages self.new ≡ cut (plain D.pages self.old) f at }
         ensures picture { IsBoundOnce (bindings self.old.core) f → picture (plain D.pages self.new) ≡ changed_at (picture (plain D.pages self.old)) (uid_in (frame_at self.old.core f)) (number_in (frame_at self.old.core f)) (take at (words_in (plain D.pages self.old) f) ++ replicate (1024 - at) 0) }
         ensures stored { is_stored (plain D.pages self.new) ≡ is_stored (plain D.pages self.old) }
+        ensures clean { AreClean (plain D.pages self.old) → AreClean (plain D.pages self.new) }
         ensures bindings { bindings self.new.core ≡ bindings self.old.core }
         ensures volumes { self.new.volumes ≡ self.old.volumes }
     {
@@ -168,6 +172,7 @@ impl<D: Drive> Pages<D> {
         ensures others { KeepsOthers (plain D.pages self.old) (plain D.pages self.new) (uid_of_home (plain D.pages self.old) home) home }
         ensures picture { picture (plain D.pages self.new) ≡ changed_at (picture (plain D.pages self.old)) (uid_of_home (plain D.pages self.old) home) p (replicate 1024 0) }
         ensures stored { is_stored (plain D.pages self.new) ≡ changed_at (is_stored (plain D.pages self.old)) (uid_of_home (plain D.pages self.old) home) p false }
+        ensures clean { AreClean (plain D.pages self.old) → AreClean (plain D.pages self.new) }
         ensures drives { self.new.volumes.drives ≡ self.old.volumes.drives }
     {
         let word = t.get(p);
@@ -200,6 +205,7 @@ impl<D: Drive> Pages<D> {
         ensures records { AreFiled self.old.volumes.records self.old.volumes.vtocs → AreFiled self.new.volumes.records self.new.volumes.vtocs }
         ensures picture { HasNoHome self.old.volumes.vtocs uid → picture (plain D.pages self.new) ≡ picture (plain D.pages self.old) }
         ensures stored { HasNoHome self.old.volumes.vtocs uid → is_stored (plain D.pages self.new) ≡ is_stored (plain D.pages self.old) }
+        ensures clean { HasNoHome self.old.volumes.vtocs uid → AreClean (plain D.pages self.old) → AreClean (plain D.pages self.new) }
     {
         self.volumes.vtoc_mut(volume).allocate(uid)
     }
@@ -226,6 +232,7 @@ impl<D: Drive> Pages<D> {
         // What becomes of the picture.
         ensures picture { picture (plain D.pages self.new) ≡ changed_for (picture (plain D.pages self.old)) (uid_of_home (plain D.pages self.old) home) (replicate 1024 0) }
         ensures stored { is_stored (plain D.pages self.new) ≡ changed_for (is_stored (plain D.pages self.old)) (uid_of_home (plain D.pages self.old) home) false }
+        ensures clean { AreClean (plain D.pages self.old) → AreClean (plain D.pages self.new) }
     {
         for p in 0..256 {
             self.give_back(home, p);
@@ -246,6 +253,7 @@ impl<D: Drive> Pages<D> {
         ensures started { plain D.pages self.new ≡ framed (plain D.pages self.old) f (Started uid p) }
         ensures picture { picture (plain D.pages self.new) ≡ picture (plain D.pages self.old) }
         ensures stored { is_stored (plain D.pages self.new) ≡ is_stored (plain D.pages self.old) }
+        ensures clean { AreClean (plain D.pages self.old) → AreClean (plain D.pages self.new) }
         ensures bindings { bindings self.new.core ≡ bindings self.old.core }
         ensures volumes { self.new.volumes ≡ self.old.volumes }
     {
@@ -283,7 +291,9 @@ impl<D: Drive> Pages<D> {
         ensures homes { self.new.volumes.vtocs ≡ self.old.volumes.vtocs }
         ensures records { self.new.volumes.records ≡ self.old.volumes.records }
         ensures others { KeepsOthers (plain D.pages self.old) (plain D.pages self.new) uid home }
+        ensures clean { AreClean (plain D.pages self.old) → AreClean (plain D.pages self.new) }
         ensures word_kept { OnErr result (t.new ≡ t.old) }
+        ensures count { length self.new.volumes.drives ≡ length self.old.volumes.drives }
         ensures rose { OnErr result (Rose (sum_by D.faults self.old.volumes.drives) (sum_by D.faults self.new.volumes.drives)) }
         ensures grows { sum_by D.faults self.old.volumes.drives ≤ sum_by D.faults self.new.volumes.drives }
     {
@@ -336,6 +346,7 @@ impl<D: Drive> Pages<D> {
         ensures map { IsMapOf (file_map_of (plain D.pages self.new) home) t.new }
         ensures records { AreFiled self.new.volumes.records self.new.volumes.vtocs }
         ensures others { KeepsOthers (plain D.pages self.old) (plain D.pages self.new) uid home }
+        ensures clean { AreClean (plain D.pages self.old) → AreClean (plain D.pages self.new) }
         ensures picture { OnOk result (picture (plain D.pages self.new) ≡ changed_at (picture (plain D.pages self.old)) uid p (slice_set (replicate 1024 0) at w)) }
         ensures stored { OnOk result (is_stored (plain D.pages self.new) ≡ changed_at (is_stored (plain D.pages self.old)) uid p true) }
         ensures full { IsErr result ↔ All (λ flag. flag ≡ true) (flags_of (plain D.pages self.old) home.volume) }
@@ -377,7 +388,7 @@ impl<D: Drive> Pages<D> {
     /// Empties frame `f`, whose page is on its way out. A page that is all zeros gives its record back, with no call of
     /// a drive; one whose modified mark is on is written to its record. `Failed` comes only where the faults of the
     /// drives rose; the page is still leaving then. (Source: Organick 1972.)
-    #[tactic(auto, using(crate::proofs::Facts::home_used, crate::proofs::Facts::leaving_within, crate::proofs::Facts::filed_from_word, crate::proofs::Facts::filed_in_use, crate::proofs::Others::others_same, std::proofs::lemmas::Grind::common_steps))]
+    #[tactic(auto, using(crate::proofs::Facts::home_used, crate::proofs::Facts::leaving_within, crate::proofs::Facts::filed_from_word, crate::proofs::Facts::filed_in_use, crate::proofs::Others::others_same, crate::proofs::Clean::clean_same, std::proofs::lemmas::Grind::common_steps))]
     pub fn evict(&mut self, t: &mut PageTable, home: Home, f: u32) -> Result<Left, Failed>
         requires pages { length t.old ≤ 256 }
         requires bound { is_bound (frame_at self.old.core f) ≡ true }
@@ -395,11 +406,13 @@ impl<D: Drive> Pages<D> {
         ensures map { IsMapOf (file_map_of (plain D.pages self.new) home) t.new }
         ensures records { AreFiled self.new.volumes.records self.new.volumes.vtocs }
         ensures others { KeepsOthers (plain D.pages self.old) (plain D.pages self.new) (uid_in (frame_at self.old.core f)) home }
+        ensures clean { AreClean (plain D.pages self.old) → AreClean (plain D.pages self.new) }
         ensures picture { picture (plain D.pages self.new) ≡ picture (plain D.pages self.old) }
         ensures stored { IfOk result (λ left. is_stored (plain D.pages self.new) ≡ stored_after (is_stored (plain D.pages self.old)) (uid_in (frame_at self.old.core f)) (number_in (frame_at self.old.core f)) left) }
         ensures no_call { AreZero (words_in (plain D.pages self.old) f) → self.new.volumes.drives ≡ self.old.volumes.drives }
         ensures err { OnErr result (plain D.pages self.new ≡ plain D.pages self.old) }
         ensures word_kept { OnErr result (t.new ≡ t.old) }
+        ensures count { length self.new.volumes.drives ≡ length self.old.volumes.drives }
         ensures rose { OnErr result (Rose (sum_by D.faults self.old.volumes.drives) (sum_by D.faults self.new.volumes.drives)) }
         ensures grows { sum_by D.faults self.old.volumes.drives ≤ sum_by D.faults self.new.volumes.drives }
     {
@@ -534,6 +547,7 @@ impl<D: Drive> Pages<D> {
         ensures err { OnErr result (plain D.pages self.new ≡ plain D.pages self.old) }
         ensures core { self.new.core ≡ self.old.core }
         ensures frames { self.new.frames ≡ self.old.frames }
+        ensures count { length self.new.volumes.drives ≡ length self.old.volumes.drives }
         ensures rose { OnErr result (Rose (sum_by D.faults self.old.volumes.drives) (sum_by D.faults self.new.volumes.drives)) }
         ensures grows { sum_by D.faults self.old.volumes.drives ≤ sum_by D.faults self.new.volumes.drives }
     {

@@ -1,4 +1,4 @@
-use Rattle.std.proofs.Common.{◌≡◌, ◌<◌, ◌∙◌, ap, true, arith, rules, length, Option, Some, set}
+use Rattle.std.proofs.Common.{◌≡◌, ◌<◌, ◌∙◌, ap, true, arith, rules, length, replicate, Option, Some, set}
 use Rattle.std.proofs.lemmas.List.{length-map}
 use Rattle.core_map.specs.declared.Frame.TheVariants.{Bound}
 use Rattle.core_map.specs.CoreMap.{with_frame, bound_page}
@@ -12,6 +12,7 @@ use Rattle.bitmap.specs.Bitmap.{IsLeastFree, least_free}
 use Rattle.vtoc.specs.Vtoc.{entry_at, record_at, with_record}
 use Rattle.page_control.specs.Plain.{plain, flags_of, vtoc_of, number_or_zero}
 use Rattle.page_control.proofs.Kept.{map_created, filed_created, others_created}
+use Rattle.page_control.proofs.Clean.{clean_created}
 use Rattle.page_control.proofs.pages.Pages.create_page.Goals as goal
 
 pub returns-in-Some-clause-map : goal.returns-in-Some-clause-map
@@ -41,3 +42,7 @@ returns-in-Some-clause-stored g c =
     stored_refiled c.args.self.now.volumes.vtocs _ c.args.uid c.args.p (Some c.in-Some.r) c.args.home (search rules) c.requires.home
     (placed_full (vtoc_of (plain g.D.Drive.pages c.args.self.now) c.args.home.volume) c.args.home.entry c.args.p c.in-Some.r c.args.uid c.requires.home.used
     (home_within c.args.self.now.volumes.vtocs c.args.uid c.args.home c.requires.home) (search rules))
+
+pub returns-in-Some-clause-clean : goal.returns-in-Some-clause-clean
+returns-in-Some-clause-clean g c =
+    clean_created (plain g.D.Drive.pages c.args.self.now) _ c.args.uid c.args.p c.args.f c.in-Some.r c.args.home (set (replicate 1024 0) c.args.at c.args.w) c.args.t.now (search rules) (search rules) (search rules) (search rules) c.requires.home c.requires.table (ap frame_of c.requires.null) c.requires.frame

@@ -7,6 +7,8 @@ use Rattle.page_control.proofs.Facts.{binding_is, bound_to, bindings_referred}
 use Rattle.page_control.proofs.Ties.{bound_within}
 use Rattle.page_control.proofs.Changes.{picture_worded}
 use Rattle.page_control.proofs.Shown.{bound_inside}
+use Rattle.page_control.specs.Plain.{plain}
+use Rattle.page_control.proofs.Clean.{clean_written}
 use Rattle.page_control.proofs.pages.Pages.cut_from.Goals as goal
 
 pub returns-clause-picture : goal.returns-clause-picture
@@ -17,3 +19,7 @@ returns-clause-picture g c = λ once.
     (binding_is c.args.self.now.core c.args.f ∙ bound_to (frame_at c.args.self.now.core c.args.f) c.requires.bound)
     (bound_within _ c.args.f (uid_in (frame_at c.args.self.now.core c.args.f)) (number_in (frame_at c.args.self.now.core c.args.f)) (binding_is c.args.self.now.core c.args.f ∙ bound_to (frame_at c.args.self.now.core c.args.f) c.requires.bound))
     (omega (arith, inside, count)) once
+
+pub returns-clause-clean : goal.returns-clause-clean
+returns-clause-clean g c =
+    clean_written (plain g.D.Drive.pages c.args.self.now) _ c.args.f c.clear_from.new.self (search rules) (grind (arith, common_steps)) (search rules) (search rules) (bound_inside c.args.self.now.core c.args.f c.requires.bound)

@@ -6,6 +6,7 @@ use Rattle.page_control.proofs.Kept.{map_dropped, filed_dropped, others_dropped,
 use Rattle.page_control.proofs.Shown.{picture_dropped}
 use Rattle.page_control.proofs.Changes.{stored_refiled}
 use Rattle.page_control.proofs.Places.{none_put}
+use Rattle.page_control.proofs.Clean.{clean_dropped}
 use Rattle.page_control.proofs.pages.Pages.drop_page.Goals as goal
 
 pub returns-in-Leaving-clause-table : goal.returns-in-Leaving-clause-table
@@ -45,6 +46,8 @@ returns-in-Null g c =
       picture = picture_dropped (plain g.D.Drive.pages c.args.self.now) (plain g.D.Drive.pages c.unstore.new.self) (uid_of_home (plain g.D.Drive.pages c.args.self.now) c.args.home) c.args.home c.args.p (ptw_at c.args.t.now c.args.p)
           c.args.t.now effect refl c.requires.away c.requires.home c.requires.table;
       stored = stored_refiled c.args.self.now.volumes.vtocs _ (uid_of_home (plain g.D.Drive.pages c.args.self.now) c.args.home) c.args.p None c.args.home (search rules) c.requires.home (none_put _ c.args.p);
+      clean = clean_dropped (plain g.D.Drive.pages c.args.self.now) (plain g.D.Drive.pages c.unstore.new.self) (uid_of_home (plain g.D.Drive.pages c.args.self.now) c.args.home) c.args.home c.args.p (ptw_at c.args.t.now c.args.p)
+          c.args.t.now effect refl c.requires.away c.requires.home c.requires.table;
       drives = search rules;
     }
 
@@ -56,3 +59,7 @@ returns-in-Leaving-clause-picture g c =
 pub returns-in-Leaving-clause-stored : goal.returns-in-Leaving-clause-stored
 returns-in-Leaving-clause-stored g c =
     stored_refiled c.args.self.now.volumes.vtocs _ (uid_of_home (plain g.D.Drive.pages c.args.self.now) c.args.home) c.args.p None c.args.home (search rules) c.requires.home (none_put _ c.args.p)
+
+pub returns-in-Leaving-clause-clean : goal.returns-in-Leaving-clause-clean
+returns-in-Leaving-clause-clean g c =
+    clean_dropped (plain g.D.Drive.pages c.args.self.now) _ (uid_of_home (plain g.D.Drive.pages c.args.self.now) c.args.home) c.args.home c.args.p (ptw_at c.args.t.now c.args.p) c.args.t.now (search rules) refl c.requires.away c.requires.home c.requires.table

@@ -6,6 +6,7 @@ use Rattle.page_control.specs.Plain.{Plain, plain, bindings, vtoc_of, uid_of_hom
 use Rattle.page_control.specs.Effects.{erased}
 use Rattle.page_control.specs.Erasing.{IsPartErased}
 use Rattle.page_control.proofs.Erasing.{part_at, full_same, names_same, names_none, all_erased, home_erased, homes_erased, strangers_erased, maps_erased, filed_erased, picture_erased, stored_erased}
+use Rattle.page_control.proofs.Clean.{clean_erased}
 use Rattle.page_control.proofs.pages.Pages.erase.Goals as goal
 
 pub loop-p-preserved : goal.loop-p-preserved
@@ -86,3 +87,13 @@ returns-clause-stored g c =
     let effect : now ≡ erased (plain g.D.Drive.pages c.args.self.now) c.args.home =
     all_erased (plain g.D.Drive.pages c.args.self.now) (plain g.D.Drive.pages c.loop-p.self) now (uid_of_home (plain g.D.Drive.pages c.args.self.now) c.args.home) c.args.home part (full.places c.args.home.entry) (search rules) in
     stored_erased c.args.self.now.volumes.vtocs now.vtocs (uid_of_home (plain g.D.Drive.pages c.args.self.now) c.args.home) c.args.home (ap (λ (s : Plain). s.vtocs) effect) c.requires.home
+
+pub returns-clause-clean : goal.returns-clause-clean
+returns-clause-clean g c =
+    let part : IsPartErased (plain g.D.Drive.pages c.args.self.now) (plain g.D.Drive.pages c.loop-p.self) (uid_of_home (plain g.D.Drive.pages c.args.self.now) c.args.home) c.args.home 256 = part_at (plain g.D.Drive.pages c.args.self.now) (plain g.D.Drive.pages c.loop-p.self) (uid_of_home (plain g.D.Drive.pages c.args.self.now) c.args.home) c.args.home c.loop-p.p 256 (search rules) c.loop-p.invariant.0 in
+    let full : HasFullMaps (vtoc_of (plain g.D.Drive.pages c.loop-p.self) c.args.home.volume) = full_same (vtoc_of (plain g.D.Drive.pages c.loop-p.self) c.args.home.volume) c.vtoc.result.now (search rules) c.size.ensures.places in
+    let now : Plain = plain g.D.Drive.pages (record { core = c.self.inside.core; frames = c.self.inside.frames.items; volumes = with_vtoc c.self.inside.volumes c.args.home.volume c.free.new.self }) in
+    let effect : now ≡ erased (plain g.D.Drive.pages c.args.self.now) c.args.home =
+    all_erased (plain g.D.Drive.pages c.args.self.now) (plain g.D.Drive.pages c.loop-p.self) now (uid_of_home (plain g.D.Drive.pages c.args.self.now) c.args.home) c.args.home part (full.places c.args.home.entry) (search rules) in
+    clean_erased (plain g.D.Drive.pages c.args.self.now) now (uid_of_home (plain g.D.Drive.pages c.args.self.now) c.args.home) c.args.home (ap (λ (s : Plain). s.core) effect) (ap (λ (s : Plain). s.frames) effect) (ap (λ (s : Plain). s.disks) effect)
+    (ap (λ (s : Plain). s.vtocs) effect) c.requires.home c.requires.away

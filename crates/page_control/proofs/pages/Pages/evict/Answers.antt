@@ -22,6 +22,9 @@ use Rattle.std.proofs.lemmas.Grind.{common_steps}
 use Rattle.page_control.proofs.Shown.{picture_released, zeros_same}
 use Rattle.page_control.proofs.Changes.{stored_refiled}
 use Rattle.page_control.proofs.Places.{none_put}
+use Rattle.page_control.specs.Tied.{frame_of}
+use Rattle.page_control.proofs.Clean.{clean_gone, clean_saved}
+use Rattle.page_control.proofs.Shown.{bound_inside}
 use Rattle.page_control.proofs.pages.Pages.evict.Goals as goal
 
 pub returns-then-is_zero-clause-table : goal.returns-then-is_zero-clause-table
@@ -98,3 +101,25 @@ returns-then-is_zero-clause-picture g c =
 pub returns-then-is_zero-clause-stored : goal.returns-then-is_zero-clause-stored
 returns-then-is_zero-clause-stored g c =
     stored_refiled c.args.self.now.volumes.vtocs _ (uid_in (frame_at c.args.self.now.core c.args.f)) (number_in (frame_at c.args.self.now.core c.args.f)) None c.args.home (search rules) c.requires.home (none_put _ (number_in (frame_at c.args.self.now.core c.args.f)))
+
+pub returns-then-is_zero-clause-clean : goal.returns-then-is_zero-clause-clean
+returns-then-is_zero-clause-clean g c =
+    clean_gone (plain g.D.Drive.pages c.args.self.now) _ (uid_in (frame_at c.args.self.now.core c.args.f)) (number_in (frame_at c.args.self.now.core c.args.f)) c.args.f c.args.home c.args.t.now (search rules) (search rules) (search rules) (search rules) c.requires.home c.requires.table (ap frame_of c.requires.leaving)
+    (bound_inside c.args.self.now.core c.args.f c.requires.bound)
+
+pub returns-clause-clean : goal.returns-clause-clean
+returns-clause-clean g c =
+    let core : c.release-2.new.self ≡ with_frame c.args.self.now.core c.args.f Free = search rules in
+    let r : ℕ = record_of (plain g.D.Drive.pages c.args.self.now) c.args.home (number_in (frame_at c.args.self.now.core c.args.f)) in
+    let old : List (List (List ℕ)) = map g.D.Drive.pages c.args.self.now.volumes.drives in
+    let written : map g.D.Drive.pages c.save.new.self.volumes.drives
+    ≡ cond (is_modified (frame_at c.args.self.now.core c.args.f)) (with_page old c.args.home.volume r (get_or c.args.self.now.frames c.args.f [])) old = search rules in
+    let disks : map g.D.Drive.pages c.self-2.inside.volumes.drives
+    ≡ cond (is_modified (frame_at c.args.self.now.core c.args.f)) (with_page old c.args.home.volume r (get_or c.args.self.now.frames c.args.f [])) old =
+    ap (λ (s : Paging _). map g.D.Drive.pages s.volumes.drives) c.self-2.view_is ∙ written in
+    let volume : c.args.home.volume < length old = rw (length-map c.args.self.now.volumes.drives g.D.Drive.pages) c.requires.volume in
+    let within : r < length (get_or old c.args.home.volume []) = search rules in
+    clean_saved (plain g.D.Drive.pages c.args.self.now) _ (uid_in (frame_at c.args.self.now.core c.args.f)) (number_in (frame_at c.args.self.now.core c.args.f)) c.args.f r c.args.home c.args.t.now core (search rules) (search rules) c.requires.home c.requires.table (ap frame_of c.requires.leaving) c.requires.records
+    (filed_from_word (plain g.D.Drive.pages c.args.self.now) c.args.home c.args.t.now _ c.requires.map (ap has_record c.requires.leaving))
+    (saved_others old _ (is_modified (frame_at c.args.self.now.core c.args.f)) c.args.home.volume r _ disks volume)
+    (bound_inside c.args.self.now.core c.args.f c.requires.bound)
