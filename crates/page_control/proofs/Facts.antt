@@ -71,7 +71,7 @@ pub binding_is : (core : Core) (f : ℕ) → binding_at (bindings core) f ≡ bo
 binding_is core f = get_or-map bound_page core.frames f Free
 
 -- a frame that is bound to a page is bound
-bound_from_page : (frame : Frame) (uid p : ℕ) → bound_page frame ≡ Some (uid, p) → is_bound frame ≡ true
+pub bound_from_page : (frame : Frame) (uid p : ℕ) → bound_page frame ≡ Some (uid, p) → is_bound frame ≡ true
 bound_from_page Free uid p h = cc
 bound_from_page (Started u q) uid p h = cc
 bound_from_page (Bound u q used modified) uid p h = refl

@@ -1,7 +1,8 @@
 -- A segment that was just given its home, where no page is stored and none is in a frame.
-use Rattle.std.proofs.Common.{◌≡◌, ℕ, zero, suc, Bool, List, [], ◌∷◌, Option, None, Some, refl, sym, ap, ◌∙◌, get_or, replicate, is_some}
+use Rattle.std.proofs.Common.{◌≡◌, ℕ, zero, suc, arith, Bool, true, false, All, List, [], ◌∷◌, Option, None, Some, refl, sym, ap, ◌∙◌, get_or, replicate, is_some}
 use Rattle.std.specs.Prelude.{Result, Ok, Err, slice_set}
 use Rattle.std.specs.Result.{OnOk, result_ok}
+use Rattle.std.proofs.lemmas.List.Elements.{All-get_or}
 use Rattle.core_map.specs.declared.Frame.{Frame}
 use Rattle.core_map.specs.declared.Frame.TheVariants.{Free, Started, Bound}
 use Rattle.core_map.specs.CoreMap.{Core, frame_at, bound_page}
@@ -12,7 +13,7 @@ use Rattle.vtoc.specs.FileMap.{no_records}
 use Rattle.vtoc.specs.Vtoc.{Entry, entry_at, record_at, uid_of, fresh_entry}
 use Rattle.page_control.specs.declared.Home.{Home}
 use Rattle.page_control.specs.Plain.{bindings, binding_at}
-use Rattle.page_control.specs.Tied.{vtoc_in, frame_of, has_record, uid_in, IsTableOf, IsHomeOf, IsMapOf, AreFiled}
+use Rattle.page_control.specs.Tied.{vtoc_in, flags_in, frame_of, has_record, uid_in, IsTableOf, IsHomeOf, IsMapOf, AreFiled}
 use Rattle.page_control.proofs.Facts.{binding_is}
 use Rattle.page_control.proofs.Ties.{not_none}
 
@@ -95,3 +96,13 @@ pub word_created : {A E : Type 0} (result : Result A E) (ok : Option A) (x : A) 
     → t ≡ replicate 3 Null → ptw_at u 1 ≡ Here 0
 word_created (Ok a) ok x t u h is some null = ap (λ (words : List Ptw). ptw_at words 1) h ∙ ap (λ (words : List Ptw). ptw_at (slice_set words 1 (Here 0)) 1) null
 word_created (Err e) ok x t u h is some null = absurd (not_none ok x is some)
+
+all_same : (flags those : List Bool) → flags ≡ those → All (λ flag. flag ≡ true) flags → All (λ flag. flag ≡ true) those
+all_same flags those same all = rw (sym same) all
+
+-- a volume with three free records isn't full
+pub not_full : (records : List (List Bool)) → records ≡ replicate 3 false ∷ [] → All (λ flag. flag ≡ true) (flags_in records 0) → ⊥
+not_full records is all =
+    let on : get_or (replicate 3 false) 0 false ≡ true = All-get_or (λ (flag : Bool). flag ≡ true) (replicate 3 false) 0 false (omega arith)
+    (all_same (flags_in records 0) (replicate 3 false) (ap (λ (those : List (List Bool)). flags_in those 0) is) all) in
+    cc

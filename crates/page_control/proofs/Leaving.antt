@@ -20,7 +20,7 @@ use Rattle.page_control.proofs.Firsts.{below, nowhere, position_at_one, position
 use Rattle.page_control.proofs.Pictures.{page, uid_part, off_and_on, entry_tells, binding_tells, binding_is_one, off_from, volume_found, record_found}
 
 -- a free entry names no record
-no_record : (q : ℕ) → get_or no_records q None ≡ None
+pub no_record : (q : ℕ) → get_or no_records q None ≡ None
 unfolding no_records
 no_record q =
     let none : Option ℕ = None in
@@ -43,7 +43,7 @@ named_home vtocs u q s is =
     ]
 
 -- the records of two pages are not the same
-other_record : (records : List (List Bool)) (vtocs : List (List (Option Entry))) (uid p r u q s : ℕ) (home : Home) → AreFiled records vtocs → IsHomeOf vtocs uid home
+pub other_record : (records : List (List Bool)) (vtocs : List (List (Option Entry))) (uid p r u q s : ℕ) (home : Home) → AreFiled records vtocs → IsHomeOf vtocs uid home
     → record_at (vtoc_in vtocs home.volume) home.entry p ≡ Some r → is_binding u q (page uid p) ≡ false → record_named vtocs u q ≡ Some s → volume_of vtocs u ≡ home.volume
     → s ≡ r → ⊥
 other_record records vtocs uid p r u q s home filed h is other named volume same =
@@ -58,7 +58,7 @@ other_record records vtocs uid p r u q s home filed h is other named volume same
     (ap (λ (n : ℕ). is_binding u q (page n p)) same_uid ∙ ap (λ (n : ℕ). is_binding u q (page u n)) (sym one.1) ∙ binding_is_one u q)
 
 -- the words of pages that are in no frame
-filed_same : (disks now : List (List (List ℕ))) (w : ℕ) (place : Option ℕ) → ((s : ℕ) → place ≡ Some s → get_or (get_or now w []) s [] ≡ get_or (get_or disks w []) s [])
+pub filed_same : (disks now : List (List (List ℕ))) (w : ℕ) (place : Option ℕ) → ((s : ℕ) → place ≡ Some s → get_or (get_or now w []) s [] ≡ get_or (get_or disks w []) s [])
     → words_filed (get_or now w []) place ≡ words_filed (get_or disks w []) place
 filed_same disks now w None same = refl
 filed_same disks now w (Some s) same = same s refl
@@ -68,7 +68,7 @@ held_kept frames disk now place None same = same
 held_kept frames disk now place (Some g) same = refl
 
 -- page p is in frame f and in no other
-found_at : (bound : List (Option (ℕ × ℕ))) (uid p f : ℕ) → binding_at bound f ≡ page uid p → f < length bound → ((g : ℕ) → binding_at bound g ≡ page uid p → g ≡ f)
+pub found_at : (bound : List (Option (ℕ × ℕ))) (uid p f : ℕ) → binding_at bound f ≡ page uid p → f < length bound → ((g : ℕ) → binding_at bound g ≡ page uid p → g ≡ f)
     → position (is_binding uid p) bound ≡ Some f
 found_at bound uid p f here within only =
     position_at_one (is_binding uid p) bound f None within (ap (is_binding uid p) here ∙ binding_is_one uid p)

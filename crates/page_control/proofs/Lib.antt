@@ -4,3 +4,13 @@ pub mod Firsts
 pub mod Fresh
 pub mod Pictures
 pub mod Leaving
+pub mod Places
+pub mod Filing
+pub mod Others
+pub mod Kept
+pub mod Changes
+pub mod Homes
+pub mod Shown
+pub mod Erasing
+pub mod Callers
+pub mod Clean

@@ -33,7 +33,7 @@ entry_is None uid h = cc
 entry_is (Some entry) uid h = (let same : entry.uid ≡ uid = cc in eq-eqb entry.uid uid same)
 
 -- the home of a segment is where the picture looks for its entry
-home_within : (vtocs : List (List (Option Entry))) (uid : ℕ) (home : Home) → IsHomeOf vtocs uid home → home.entry < length (vtoc_in vtocs home.volume)
+pub home_within : (vtocs : List (List (Option Entry))) (uid : ℕ) (home : Home) → IsHomeOf vtocs uid home → home.entry < length (vtoc_in vtocs home.volume)
 home_within vtocs uid home h =
     within_from (vtoc_in vtocs home.volume) home.entry None (λ none. not_none (uid_of (entry_at (vtoc_in vtocs home.volume) home.entry)) uid (ap uid_of none) h.used)
 
@@ -84,7 +84,7 @@ binding_tells (Some (a, b)) uid p h = elim (eqb_tells a uid) [
 pub binding_is_one : (uid p : ℕ) → is_binding uid p (page uid p) ≡ true
 binding_is_one uid p = rw (eq-eqb uid uid refl, eq-eqb p p refl) refl
 
-held_same : (frames disk : List (List ℕ)) (place : Option ℕ) (f : ℕ) (words : List ℕ) (x : Option ℕ) → ((g : ℕ) → x ≡ Some g → g ≢ f)
+pub held_same : (frames disk : List (List ℕ)) (place : Option ℕ) (f : ℕ) (words : List ℕ) (x : Option ℕ) → ((g : ℕ) → x ≡ Some g → g ≢ f)
     → words_held (set frames f words) disk place x ≡ words_held frames disk place x
 held_same frames disk place f words None other = refl
 held_same frames disk place f words (Some g) other = get_or-set_other frames f g words [] (other g refl)
@@ -94,11 +94,11 @@ off_from x uid p true is other = absurd (other (binding_tells x uid p is))
 off_from x uid p false is other = is
 
 -- a page that no frame is bound to
-found_nowhere : (bound : List (Option (ℕ × ℕ))) (uid p : ℕ) → ((g : ℕ) → binding_at bound g ≡ page uid p → ⊥) → position (is_binding uid p) bound ≡ None
+pub found_nowhere : (bound : List (Option (ℕ × ℕ))) (uid p : ℕ) → ((g : ℕ) → binding_at bound g ≡ page uid p → ⊥) → position (is_binding uid p) bound ≡ None
 found_nowhere bound uid p none = nowhere (is_binding uid p) bound None (λ g. off_from (binding_at bound g) uid p _ refl (none g))
 
 -- and then one frame is
-found_in : (bound : List (Option (ℕ × ℕ))) (uid p f : ℕ) → f < length bound → ((g : ℕ) → binding_at bound g ≡ page uid p → ⊥)
+pub found_in : (bound : List (Option (ℕ × ℕ))) (uid p f : ℕ) → f < length bound → ((g : ℕ) → binding_at bound g ≡ page uid p → ⊥)
     → position (is_binding uid p) (set bound f (page uid p)) ≡ Some f
 found_in bound uid p f within none =
     position_at_one (is_binding uid p) (set bound f (page uid p)) f None (rw (length-set bound f (page uid p)) within)
@@ -109,7 +109,7 @@ found_in bound uid p f within none =
     ])
 
 -- the pages of other frames are found where they were
-found_other : (bound : List (Option (ℕ × ℕ))) (u q f g : ℕ) → binding_at bound f ≡ None → position (is_binding u q) bound ≡ Some g → g ≢ f
+pub found_other : (bound : List (Option (ℕ × ℕ))) (u q f g : ℕ) → binding_at bound f ≡ None → position (is_binding u q) bound ≡ Some g → g ≢ f
 found_other bound u q f g free found = λ e. off_and_on (is_binding u q (binding_at bound g)) (ap (λ (k : ℕ). is_binding u q (binding_at bound k)) e ∙ ap (is_binding u q) free)
     (position-Some (is_binding u q) bound g None found).1
 

@@ -103,10 +103,9 @@ map_word places t u p w h ws same out pl =
 
 -- page p gets a record, or loses it, and its word says so
 pub map_place : (places now : List (Option ℕ)) (t u : List Ptw) (p : ℕ) (w : Ptw) (place : Option ℕ) → IsMapOf places t → now ≡ set places p place → u ≡ set t p w
-    → is_some place ≡ has_record w → ((r : ℕ) → w ≢ Out r) → p < length t → p < length places → IsMapOf now u
-map_place places now t u p w place h ps ws same out pl ml =
+    → is_some place ≡ has_record w → ((r : ℕ) → w ≢ Out r) → p < length t → get_or (set places p place) p None ≡ place → IsMapOf now u
+map_place places now t u p w place h ps ws same out pl on =
     let at : ptw_at (set t p w) p ≡ w = get_or-set_same t p w Null pl in
-    let on : get_or (set places p place) p None ≡ place = get_or-set_same places p place None ml in
     rw (ps, ws) (record {
       stored = λ q. elim (cases_eq q p) [
         | inl e ↦ rw e (ap is_some on ∙ same ∙ ap has_record (sym at))
@@ -131,7 +130,7 @@ table_back bound uid t u p f h word ws = table_word bound uid t u p (Here f) h w
 pub frame_within : (core : Core) (f : ℕ) → (frame_at core f ≡ Free → ⊥) → f < length (bindings core)
 frame_within core f other = rw (length-map core.frames bound_page) (within_from core.frames f Free other)
 
-bound_within : (bound : List (Option (ℕ × ℕ))) (f uid p : ℕ) → binding_at bound f ≡ Some (uid, p) → f < length bound
+pub bound_within : (bound : List (Option (ℕ × ℕ))) (f uid p : ℕ) → binding_at bound f ≡ Some (uid, p) → f < length bound
 bound_within bound f uid p is = within_from bound f None (λ none. not_none (binding_at bound f) (uid, p) none is)
 
 pub table_read : (core new : Core) (uid : ℕ) (t u : List Ptw) (p f r : ℕ) → IsTableOf (bindings core) uid t → frame_at core f ≡ Started uid p → ptw_at t p ≡ Out r

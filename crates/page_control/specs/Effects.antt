@@ -1,5 +1,5 @@
 -- What each call of page control does (Bensoussan, Clingen and Daley 1972).
-use Rattle.std.specs.Prelude.{ℕ, ◌-◌, List, ◌++◌, Bool, true, false, if◌then◌else◌, Option, None, Some, replicate, take, slice_set}
+use Rattle.std.specs.Prelude.{ℕ, ◌-◌, List, [], ◌∷◌, ◌++◌, drop, Bool, true, false, if◌then◌else◌, Option, None, Some, replicate, take, slice_set}
 use Rattle.core_map.specs.declared.Frame.{Frame}
 use Rattle.core_map.specs.declared.Frame.TheVariants.{Free, Bound}
 use Rattle.core_map.specs.CoreMap.{with_frame, after_reference, is_modified}
@@ -10,7 +10,7 @@ use Rattle.volumes.specs.Volumes.{with_page}
 use Rattle.page_control.specs.declared.Home.{Home}
 use Rattle.page_control.specs.declared.Left.{Left}
 use Rattle.page_control.specs.declared.Left.TheVariants.{Released, Kept}
-use Rattle.page_control.specs.Plain.{Plain, frame_in, words_in, flags_of, vtoc_of, words_on, entry_of, record_of}
+use Rattle.page_control.specs.Plain.{Plain, frame_in, words_in, flags_of, vtoc_of, words_on, entry_of, file_map_of, record_of}
 
 -- frame f becomes what is given
 abbrev pub framed : Plain → ℕ → Frame → Plain
@@ -83,3 +83,23 @@ word_of_left Kept r = Out r
 -- entry e of volume v is taken for uid, with an empty file map
 abbrev pub allocated : Plain → ℕ → ℕ → ℕ → Plain
 allocated s v e uid = record s { vtocs = slice_set s.vtocs v (slice_set (vtoc_of s v) e (fresh_entry uid)) }
+
+-- the flags of a volume after the records that a file map names are given back
+abbrev pub freed : List Bool → List (Option ℕ) → List Bool
+freed flags [] = flags
+freed flags (None ∷ places) = freed flags places
+freed flags (Some r ∷ places) = freed (slice_set flags r false) places
+
+-- each record that the file map at a home names is given back, and the entry is free
+abbrev pub erased : Plain → Home → Plain
+erased s home = record s {
+  records = slice_set s.records home.volume (freed (flags_of s home.volume) (file_map_of s home));
+  vtocs = slice_set s.vtocs home.volume (slice_set (vtoc_of s home.volume) home.entry None);
+}
+
+-- the same where only the pages from n on are looked at
+abbrev pub erased_from : Plain → Home → ℕ → Plain
+erased_from s home n = record s {
+  records = slice_set s.records home.volume (freed (flags_of s home.volume) (drop n (file_map_of s home)));
+  vtocs = slice_set s.vtocs home.volume (slice_set (vtoc_of s home.volume) home.entry None);
+}

@@ -9,3 +9,4 @@ pub mod Plain
 pub mod Effects
 pub mod Tied
 pub mod Picture
+pub mod Erasing

@@ -1,9 +1,12 @@
 -- What the frames, the records and the VTOCs stand for: the words of each page of each segment, and which pages are
 -- stored (Bensoussan, Clingen and Daley 1972; that a page of zeros has no record is Organick 1972).
-use Rattle.std.specs.Prelude.{ℕ, ◌==◌, ◌&&◌, Bool, false, List, [], Option, None, Some, is_some, replicate, position, slice_index_or}
+use Rattle.std.specs.Prelude.{◌≡◌, ℕ, ◌==◌, ◌&&◌, if◌then◌else◌, Bool, false, List, [], Option, None, Some, is_some, replicate, position, slice_index_or}
 use Rattle.std.specs.List.{position_or_len}
 use Rattle.vtoc.specs.Vtoc.{Entry, record_at}
-use Rattle.page_control.specs.Plain.{Plain, bindings}
+use Rattle.page_control.specs.declared.Left.{Left}
+use Rattle.page_control.specs.declared.Left.TheVariants.{Released, Kept}
+use Rattle.core_map.specs.CoreMap.{is_modified}
+use Rattle.page_control.specs.Plain.{Plain, bindings, binding_at, frame_in, words_in, disk_of}
 use Rattle.page_control.specs.Tied.{vtoc_in}
 
 -- whether a frame is bound to page p of segment uid
@@ -55,3 +58,21 @@ is_filed_in vtocs uid p = is_some (record_named vtocs uid p)
 
 abbrev pub is_stored : Plain → ℕ → ℕ → Bool
 is_stored s = is_filed_in s.vtocs
+
+-- the same but at page p of segment uid, where it is x
+unfoldable pub changed_at : {X : Type 0} → (ℕ → ℕ → X) → ℕ → ℕ → X → ℕ → ℕ → X
+changed_at old uid p x u q = if uid == u && p == q then x else old u q
+
+-- the same but at the pages of segment uid, where it is x
+unfoldable pub changed_for : {X : Type 0} → (ℕ → ℕ → X) → ℕ → X → ℕ → ℕ → X
+changed_for old uid x u q = if uid == u then x else old u q
+
+-- which pages are stored after page p of segment uid has left its frame: a page of zeros is stored no more
+abbrev pub stored_after : (ℕ → ℕ → Bool) → ℕ → ℕ → Left → ℕ → ℕ → Bool
+stored_after stored uid p Released = changed_at stored uid p false
+stored_after stored uid p Kept = stored
+
+-- A bound frame whose modified mark is off has the words of its page's record.
+pub record AreClean (s : Plain) : Type 0 where
+  pub clean : (f uid p : ℕ) → is_modified (frame_in s f) ≡ false → binding_at (bindings s.core) f ≡ Some (uid, p)
+      → words_in s f ≡ words_filed (disk_of s (volume_of s.vtocs uid)) (record_named s.vtocs uid p)

@@ -6,10 +6,10 @@ use Rattle.core_map.specs.declared.Frame.TheVariants.{Free, Started, Bound}
 use Rattle.page_table.specs.declared.Ptw.{Ptw}
 use Rattle.page_table.specs.declared.Ptw.TheVariants.{Null, Out, Here, Leaving}
 use Rattle.page_table.specs.PageTable.{ptw_at}
-use Rattle.vtoc.specs.Vtoc.{Entry, record_at, uid_of, entry_at}
+use Rattle.vtoc.specs.Vtoc.{Entry, record_at, records_in, uid_of, entry_at}
 use Rattle.record_map.specs.Bitmap.{in_use}
 use Rattle.page_control.specs.declared.Home.{Home}
-use Rattle.page_control.specs.Plain.{binding_at}
+use Rattle.page_control.specs.Plain.{Plain, bindings, binding_at}
 
 -- the VTOC of volume v, and its flags of records in use
 abbrev pub vtoc_in : List (List (Option Entry)) → ℕ → List (Option Entry)
@@ -76,3 +76,30 @@ pub record AreFiled (records : List (List Bool)) (vtocs : List (List (Option Ent
 -- no frame is started for page p of segment uid
 pub record IsNotStarted (core : Core) (uid p : ℕ) : Type 0 where
   pub none : (f : ℕ) → frame_at core f ≢ Started uid p
+
+-- a frame is bound to a page that no other frame is bound to
+pub record IsBoundOnce (bound : List (Option (ℕ × ℕ))) (f : ℕ) : Type 0 where
+  pub only : (g : ℕ) → binding_at bound g ≡ binding_at bound f → g ≡ f
+
+-- the uid of the segment that a home is used for, and the file map there
+abbrev pub uid_at : List (List (Option Entry)) → Home → Option ℕ
+uid_at vtocs home = uid_of (entry_at (vtoc_in vtocs home.volume) home.entry)
+
+abbrev pub map_at : List (List (Option Entry)) → Home → List (Option ℕ)
+map_at vtocs home = records_in (entry_at (vtoc_in vtocs home.volume) home.entry)
+
+-- no entry is used for segment uid
+pub record HasNoHome (vtocs : List (List (Option Entry))) (uid : ℕ) : Type 0 where
+  pub none : (home : Home) → uid_at vtocs home ≢ Some uid
+
+-- no frame is bound to a page of segment uid
+pub record HasNoFrame (bound : List (Option (ℕ × ℕ))) (uid : ℕ) : Type 0 where
+  pub none : (f p : ℕ) → binding_at bound f ≢ Some (uid, p)
+
+-- What a call that concerns segment uid keeps: every entry is used for the segment that it was used for, so that homes
+-- stay homes; every other file map is as before; and the page table of every other segment is still its table.
+pub record KeepsOthers (old new : Plain) (uid : ℕ) (home : Home) : Type 0 where
+  pub uids : (other : Home) → uid_at new.vtocs other ≡ uid_at old.vtocs other
+  pub homes : (segment : ℕ) (other : Home) → IsHomeOf old.vtocs segment other → IsHomeOf new.vtocs segment other
+  pub maps : (other : Home) → other ≢ home → map_at new.vtocs other ≡ map_at old.vtocs other
+  pub tables : (segment : ℕ) (table : List Ptw) → segment ≢ uid → IsTableOf (bindings old.core) segment table → IsTableOf (bindings new.core) segment table

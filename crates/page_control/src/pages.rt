@@ -1,4 +1,4 @@
-ghost use Rattle.std.specs.Prelude.{◌≡◌, ◌≤◌, ◌<◌, ◌↔◌, ℕ, Bool, true, false, List, Option, Some, None, Result, Ok, length, replicate, sum_by, map, slice_index, slice_set, IsTrue, IsSome, IsErr, IfOk, IfSome, IfNone, OnOk, OnErr, All};
+ghost use Rattle.std.specs.Prelude.{◌≡◌, ◌≢◌, ◌+◌, ◌≤◌, ◌-◌, ◌++◌, take, ◌<◌, ◌↔◌, ℕ, Bool, true, false, List, Option, Some, None, Result, Ok, length, replicate, sum_by, map, slice_index, slice_set, IsTrue, IsSome, IsErr, IfOk, IfSome, IfNone, OnOk, OnErr, All};
 ghost use Rattle.std.specs.List.{list_any};
 ghost use Rattle.site_io.specs.Faults.{Rose};
 ghost use Rattle.bitmap.specs.Bitmap.{in_use, least_free};
@@ -10,10 +10,12 @@ ghost use Rattle.page_table.specs.declared.Ptw.{Ptw};
 ghost use Rattle.page_table.specs.declared.Ptw.TheVariants.{Null, Out, Here, Leaving};
 ghost use Rattle.page_table.specs.PageTable.{ptw_at};
 ghost use Rattle.vtoc.specs.Vtoc.{least_free_entry};
-ghost use Rattle.page_control.specs.Plain.{Paging, plain, words_in, words_on, number_in, flags_of, vtoc_of, file_map_of, bindings, disk_of, entry_of, filed, record_of, uid_of_home, number_or_zero};
-ghost use Rattle.page_control.specs.Effects.{framed, word_put, referred, cut, unstored, brought_in, created, dropped, evicted, word_of_left, allocated, saved, filled};
-ghost use Rattle.page_control.specs.Picture.{picture, is_stored};
-ghost use Rattle.page_control.specs.Tied.{IsTableOf, IsHomeOf, IsMapOf, AreFiled, IsNotStarted, uid_in, is_away, is_out};
+ghost use Rattle.page_control.specs.Plain.{Paging, Plain, plain, words_in, words_on, number_in, flags_of, vtoc_of, file_map_of, bindings, disk_of, entry_of, filed, record_of, uid_of_home, number_or_zero};
+ghost use Rattle.page_control.specs.Effects.{framed, erased, word_put, referred, cut, unstored, brought_in, created, dropped, evicted, word_of_left, allocated, saved, filled};
+ghost use Rattle.page_control.specs.Erasing.{IsPartErased};
+ghost use Rattle.page_control.specs.Picture.{picture, is_stored, changed_at, changed_for, stored_after, AreClean};
+ghost use Rattle.page_control.specs.Tied.{IsTableOf, IsHomeOf, HasNoHome, HasNoFrame, IsMapOf, AreFiled, IsNotStarted, IsBoundOnce, KeepsOthers, map_at, uid_in, is_away, is_out};
+ghost use Rattle.page_control.specs.declared.Home.{Home};
 
 use crate::{Home, Left, NoMemory, NoRecord};
 use core_map::CoreMap;
@@ -82,10 +84,16 @@ impl<D: Drive> Pages<D> {
 
     /// The frame that the clock chooses among the bound ones, of which there is one. It costs what the core map's
     /// does. (Source: Corbató 1968.)
+    #[tactic(auto, using(crate::proofs::Shown::bindings_chosen, std::proofs::lemmas::Grind::common_steps))]
     pub fn choose(&mut self) -> u32
         requires { list_any is_bound self.old.core.frames ≡ true }
         ensures choice { IsClockChoice self.old.core self.new.core result }
         ensures rest { self.new ≡ record self.old { core = self.new.core } }
+        ensures picture { picture (plain D.pages self.new) ≡ picture (plain D.pages self.old) }
+        ensures stored { is_stored (plain D.pages self.new) ≡ is_stored (plain D.pages self.old) }
+        ensures clean { AreClean (plain D.pages self.old) → AreClean (plain D.pages self.new) }
+        ensures bindings { bindings self.new.core ≡ bindings self.old.core }
+        ensures volumes { self.new.volumes ≡ self.old.volumes }
     {
         self.core.choose()
     }
@@ -100,6 +108,7 @@ impl<D: Drive> Pages<D> {
         ensures marks { plain D.pages self.new ≡ referred (plain D.pages self.old) f false }
         ensures picture { picture (plain D.pages self.new) ≡ picture (plain D.pages self.old) }
         ensures stored { is_stored (plain D.pages self.new) ≡ is_stored (plain D.pages self.old) }
+        ensures clean { AreClean (plain D.pages self.old) → AreClean (plain D.pages self.new) }
         ensures bindings { bindings self.new.core ≡ bindings self.old.core }
         ensures volumes { self.new.volumes ≡ self.old.volumes }
     {
@@ -114,6 +123,9 @@ impl<D: Drive> Pages<D> {
         requires bound { is_bound (frame_at self.old.core f) ≡ true }
         requires at { at < 1024 }
         ensures word { plain D.pages self.new ≡ word_put (plain D.pages self.old) f at w }
+        ensures picture { IsBoundOnce (bindings self.old.core) f → picture (plain D.pages self.new) ≡ changed_at (picture (plain D.pages self.old)) (uid_in (frame_at self.old.core f)) (number_in (frame_at self.old.core f)) (slice_set (words_in (plain D.pages self.old) f) at w) }
+        ensures stored { is_stored (plain D.pages self.new) ≡ is_stored (plain D.pages self.old) }
+        ensures clean { AreClean (plain D.pages self.old) → AreClean (plain D.pages self.new) }
         ensures bindings { bindings self.new.core ≡ bindings self.old.core }
         ensures volumes { self.new.volumes ≡ self.old.volumes }
     {
@@ -129,6 +141,9 @@ impl<D: Drive> Pages<D> {
         requires at { at ≤ 1024 }
         ensures zero { IsTrue result ↔ AreZero (words_in (plain D.pages self.new) f) }
         ensures words { plain D.pages self.new ≡ cut (plain D.pages self.old) f at }
+        ensures picture { IsBoundOnce (bindings self.old.core) f → picture (plain D.pages self.new) ≡ changed_at (picture (plain D.pages self.old)) (uid_in (frame_at self.old.core f)) (number_in (frame_at self.old.core f)) (take at (words_in (plain D.pages self.old) f) ++ replicate (1024 - at) 0) }
+        ensures stored { is_stored (plain D.pages self.new) ≡ is_stored (plain D.pages self.old) }
+        ensures clean { AreClean (plain D.pages self.old) → AreClean (plain D.pages self.new) }
         ensures bindings { bindings self.new.core ≡ bindings self.old.core }
         ensures volumes { self.new.volumes ≡ self.old.volumes }
     {
@@ -151,6 +166,13 @@ impl<D: Drive> Pages<D> {
         requires records { AreFiled self.old.volumes.records self.old.volumes.vtocs }
         ensures dropped { plain D.pages self.new ≡ dropped (plain D.pages self.old) home p (ptw_at t.old p) }
         ensures word { t.new ≡ slice_set t.old p Null }
+        ensures table { IsTableOf (bindings self.new.core) (uid_of_home (plain D.pages self.old) home) t.new }
+        ensures map { IsMapOf (file_map_of (plain D.pages self.new) home) t.new }
+        ensures records { AreFiled self.new.volumes.records self.new.volumes.vtocs }
+        ensures others { KeepsOthers (plain D.pages self.old) (plain D.pages self.new) (uid_of_home (plain D.pages self.old) home) home }
+        ensures picture { picture (plain D.pages self.new) ≡ changed_at (picture (plain D.pages self.old)) (uid_of_home (plain D.pages self.old) home) p (replicate 1024 0) }
+        ensures stored { is_stored (plain D.pages self.new) ≡ changed_at (is_stored (plain D.pages self.old)) (uid_of_home (plain D.pages self.old) home) p false }
+        ensures clean { AreClean (plain D.pages self.old) → AreClean (plain D.pages self.new) }
         ensures drives { self.new.volumes.drives ≡ self.old.volumes.drives }
     {
         let word = t.get(p);
@@ -170,9 +192,53 @@ impl<D: Drive> Pages<D> {
         ensures none { IfNone result (All (λ entry. IsSome entry) (vtoc_of (plain D.pages self.old) volume)) }
         ensures some { IfSome result (λ e. plain D.pages self.new ≡ allocated (plain D.pages self.old) volume e uid) }
         ensures same { IfNone result (plain D.pages self.new ≡ plain D.pages self.old) }
+        ensures core { self.new.core ≡ self.old.core }
         ensures drives { self.new.volumes.drives ≡ self.old.volumes.drives }
+
+        // What becomes of homes, where no entry had that uid.
+        ensures home { HasNoHome self.old.volumes.vtocs uid → IfSome result (λ e. IsHomeOf self.new.volumes.vtocs uid (record { volume = volume; entry = e })) }
+        ensures homes { HasNoHome self.old.volumes.vtocs uid → (segment : ℕ) (other : Home) → IsHomeOf self.old.volumes.vtocs segment other → IsHomeOf self.new.volumes.vtocs segment other }
+        ensures strangers { (segment : ℕ) → segment ≢ uid → HasNoHome self.old.volumes.vtocs segment → HasNoHome self.new.volumes.vtocs segment }
+
+        // What becomes of the rest.
+        ensures maps { (other : Home) → map_at self.new.volumes.vtocs other ≡ map_at self.old.volumes.vtocs other }
+        ensures records { AreFiled self.old.volumes.records self.old.volumes.vtocs → AreFiled self.new.volumes.records self.new.volumes.vtocs }
+        ensures picture { HasNoHome self.old.volumes.vtocs uid → picture (plain D.pages self.new) ≡ picture (plain D.pages self.old) }
+        ensures stored { HasNoHome self.old.volumes.vtocs uid → is_stored (plain D.pages self.new) ≡ is_stored (plain D.pages self.old) }
+        ensures clean { HasNoHome self.old.volumes.vtocs uid → AreClean (plain D.pages self.old) → AreClean (plain D.pages self.new) }
     {
         self.volumes.vtoc_mut(volume).allocate(uid)
+    }
+
+    /// Gives back each record that the file map at a home names, and frees the entry. None of the segment's pages is in
+    /// a frame. It reads each of the 256 places of the file map. (Source: Organick 1972.)
+    #[tactic(auto, using(crate::proofs::Facts::home_used, std::proofs::lemmas::Grind::common_steps))]
+    pub fn erase(&mut self, home: Home)
+        requires volume { home.volume < length self.old.volumes.drives }
+        requires home { IsHomeOf self.old.volumes.vtocs (uid_of_home (plain D.pages self.old) home) home }
+        requires away { HasNoFrame (bindings self.old.core) (uid_of_home (plain D.pages self.old) home) }
+        requires records { AreFiled self.old.volumes.records self.old.volumes.vtocs }
+        ensures erased { plain D.pages self.new ≡ erased (plain D.pages self.old) home }
+        ensures core { self.new.core ≡ self.old.core }
+        ensures drives { self.new.volumes.drives ≡ self.old.volumes.drives }
+
+        // What becomes of homes, file maps and records.
+        ensures home { HasNoHome self.new.volumes.vtocs (uid_of_home (plain D.pages self.old) home) }
+        ensures homes { (segment : ℕ) (other : Home) → segment ≢ uid_of_home (plain D.pages self.old) home → IsHomeOf self.old.volumes.vtocs segment other → IsHomeOf self.new.volumes.vtocs segment other }
+        ensures strangers { (segment : ℕ) → HasNoHome self.old.volumes.vtocs segment → HasNoHome self.new.volumes.vtocs segment }
+        ensures maps { (other : Home) → other ≢ home → map_at self.new.volumes.vtocs other ≡ map_at self.old.volumes.vtocs other }
+        ensures records { AreFiled self.new.volumes.records self.new.volumes.vtocs }
+
+        // What becomes of the picture.
+        ensures picture { picture (plain D.pages self.new) ≡ changed_for (picture (plain D.pages self.old)) (uid_of_home (plain D.pages self.old) home) (replicate 1024 0) }
+        ensures stored { is_stored (plain D.pages self.new) ≡ changed_for (is_stored (plain D.pages self.old)) (uid_of_home (plain D.pages self.old) home) false }
+        ensures clean { AreClean (plain D.pages self.old) → AreClean (plain D.pages self.new) }
+    {
+        for p in 0..256 {
+            self.give_back(home, p);
+        }
+        prove!(home.entry < self.volumes.vtoc(home.volume).size());
+        self.volumes.vtoc_mut(home.volume).free(home.entry);
     }
 
     /// Notes that page `p` of segment `uid`, which is on a record, is being read into the free frame `f`. (Source: own.)
@@ -187,6 +253,7 @@ impl<D: Drive> Pages<D> {
         ensures started { plain D.pages self.new ≡ framed (plain D.pages self.old) f (Started uid p) }
         ensures picture { picture (plain D.pages self.new) ≡ picture (plain D.pages self.old) }
         ensures stored { is_stored (plain D.pages self.new) ≡ is_stored (plain D.pages self.old) }
+        ensures clean { AreClean (plain D.pages self.old) → AreClean (plain D.pages self.new) }
         ensures bindings { bindings self.new.core ≡ bindings self.old.core }
         ensures volumes { self.new.volumes ≡ self.old.volumes }
     {
@@ -223,7 +290,10 @@ impl<D: Drive> Pages<D> {
         ensures map { IsMapOf (file_map_of (plain D.pages self.new) home) t.new }
         ensures homes { self.new.volumes.vtocs ≡ self.old.volumes.vtocs }
         ensures records { self.new.volumes.records ≡ self.old.volumes.records }
+        ensures others { KeepsOthers (plain D.pages self.old) (plain D.pages self.new) uid home }
+        ensures clean { AreClean (plain D.pages self.old) → AreClean (plain D.pages self.new) }
         ensures word_kept { OnErr result (t.new ≡ t.old) }
+        ensures count { length self.new.volumes.drives ≡ length self.old.volumes.drives }
         ensures rose { OnErr result (Rose (sum_by D.faults self.old.volumes.drives) (sum_by D.faults self.new.volumes.drives)) }
         ensures grows { sum_by D.faults self.old.volumes.drives ≤ sum_by D.faults self.new.volumes.drives }
     {
@@ -273,6 +343,12 @@ impl<D: Drive> Pages<D> {
         ensures ok { OnOk result (plain D.pages self.new ≡ created (plain D.pages self.old) uid p home (number_or_zero (least_free (flags_of (plain D.pages self.old) home.volume))) f at w) }
         ensures word { OnOk result (t.new ≡ slice_set t.old p (Here f)) }
         ensures table { IsTableOf (bindings self.new.core) uid t.new }
+        ensures map { IsMapOf (file_map_of (plain D.pages self.new) home) t.new }
+        ensures records { AreFiled self.new.volumes.records self.new.volumes.vtocs }
+        ensures others { KeepsOthers (plain D.pages self.old) (plain D.pages self.new) uid home }
+        ensures clean { AreClean (plain D.pages self.old) → AreClean (plain D.pages self.new) }
+        ensures picture { OnOk result (picture (plain D.pages self.new) ≡ changed_at (picture (plain D.pages self.old)) uid p (slice_set (replicate 1024 0) at w)) }
+        ensures stored { OnOk result (is_stored (plain D.pages self.new) ≡ changed_at (is_stored (plain D.pages self.old)) uid p true) }
         ensures full { IsErr result ↔ All (λ flag. flag ≡ true) (flags_of (plain D.pages self.old) home.volume) }
         ensures err { OnErr result (self.new ≡ self.old) }
         ensures word_kept { OnErr result (t.new ≡ t.old) }
@@ -312,7 +388,7 @@ impl<D: Drive> Pages<D> {
     /// Empties frame `f`, whose page is on its way out. A page that is all zeros gives its record back, with no call of
     /// a drive; one whose modified mark is on is written to its record. `Failed` comes only where the faults of the
     /// drives rose; the page is still leaving then. (Source: Organick 1972.)
-    #[tactic(auto, using(crate::proofs::Facts::home_used, crate::proofs::Facts::leaving_within, crate::proofs::Facts::filed_from_word, crate::proofs::Facts::filed_in_use, std::proofs::lemmas::Grind::common_steps))]
+    #[tactic(auto, using(crate::proofs::Facts::home_used, crate::proofs::Facts::leaving_within, crate::proofs::Facts::filed_from_word, crate::proofs::Facts::filed_in_use, crate::proofs::Others::others_same, crate::proofs::Clean::clean_same, std::proofs::lemmas::Grind::common_steps))]
     pub fn evict(&mut self, t: &mut PageTable, home: Home, f: u32) -> Result<Left, Failed>
         requires pages { length t.old ≤ 256 }
         requires bound { is_bound (frame_at self.old.core f) ≡ true }
@@ -327,11 +403,16 @@ impl<D: Drive> Pages<D> {
         ensures ok { IfOk result (λ left. plain D.pages self.new ≡ evicted (plain D.pages self.old) home (number_in (frame_at self.old.core f)) f left) }
         ensures word { IfOk result (λ left. t.new ≡ slice_set t.old (number_in (frame_at self.old.core f)) (word_of_left left (record_of (plain D.pages self.old) home (number_in (frame_at self.old.core f))))) }
         ensures table { IsTableOf (bindings self.new.core) (uid_in (frame_at self.old.core f)) t.new }
-        ensures kept_picture { result ≡ Ok Left.Kept → picture (plain D.pages self.new) ≡ picture (plain D.pages self.old) }
-        ensures kept_stored { result ≡ Ok Left.Kept → is_stored (plain D.pages self.new) ≡ is_stored (plain D.pages self.old) }
+        ensures map { IsMapOf (file_map_of (plain D.pages self.new) home) t.new }
+        ensures records { AreFiled self.new.volumes.records self.new.volumes.vtocs }
+        ensures others { KeepsOthers (plain D.pages self.old) (plain D.pages self.new) (uid_in (frame_at self.old.core f)) home }
+        ensures clean { AreClean (plain D.pages self.old) → AreClean (plain D.pages self.new) }
+        ensures picture { picture (plain D.pages self.new) ≡ picture (plain D.pages self.old) }
+        ensures stored { IfOk result (λ left. is_stored (plain D.pages self.new) ≡ stored_after (is_stored (plain D.pages self.old)) (uid_in (frame_at self.old.core f)) (number_in (frame_at self.old.core f)) left) }
         ensures no_call { AreZero (words_in (plain D.pages self.old) f) → self.new.volumes.drives ≡ self.old.volumes.drives }
         ensures err { OnErr result (plain D.pages self.new ≡ plain D.pages self.old) }
         ensures word_kept { OnErr result (t.new ≡ t.old) }
+        ensures count { length self.new.volumes.drives ≡ length self.old.volumes.drives }
         ensures rose { OnErr result (Rose (sum_by D.faults self.old.volumes.drives) (sum_by D.faults self.new.volumes.drives)) }
         ensures grows { sum_by D.faults self.old.volumes.drives ≤ sum_by D.faults self.new.volumes.drives }
     {
@@ -415,6 +496,27 @@ impl<D: Drive> Pages<D> {
         }
     }
 
+    /// Gives back the record of page `p` at a home, if it has one.
+    #[tactic(auto, using(crate::proofs::Facts::some_number, std::proofs::lemmas::Grind::common_steps))]
+    fn give_back(&mut self, home: Home, p: u32)
+        requires page { p < 256 }
+        requires volume { home.volume < length self.old.volumes.drives }
+        requires used { IsSome (entry_of (plain D.pages self.old) home) }
+        requires records { AreFiled self.old.volumes.records self.old.volumes.vtocs }
+        ensures part { (old : Plain) (uid : ℕ) → IsPartErased old (plain D.pages self.old) uid home p → IsPartErased old (plain D.pages self.new) uid home (p + 1) }
+        ensures core { self.new.core ≡ self.old.core }
+        ensures drives { self.new.volumes.drives ≡ self.old.volumes.drives }
+    {
+        if self
+            .volumes
+            .vtoc(home.volume)
+            .file_map(home.entry, p)
+            .is_some()
+        {
+            self.unstore(home, p);
+        }
+    }
+
     /// Gives the record of page `p` at a home back.
     #[tactic(auto, using(crate::proofs::Facts::filed_in_use, std::proofs::lemmas::Grind::common_steps))]
     fn unstore(&mut self, home: Home, p: u32)
@@ -445,6 +547,7 @@ impl<D: Drive> Pages<D> {
         ensures err { OnErr result (plain D.pages self.new ≡ plain D.pages self.old) }
         ensures core { self.new.core ≡ self.old.core }
         ensures frames { self.new.frames ≡ self.old.frames }
+        ensures count { length self.new.volumes.drives ≡ length self.old.volumes.drives }
         ensures rose { OnErr result (Rose (sum_by D.faults self.old.volumes.drives) (sum_by D.faults self.new.volumes.drives)) }
         ensures grows { sum_by D.faults self.old.volumes.drives ≤ sum_by D.faults self.new.volumes.drives }
     {

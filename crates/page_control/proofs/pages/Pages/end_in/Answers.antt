@@ -8,6 +8,9 @@ use Rattle.page_control.proofs.Facts.{bindings_lost, bindings_with, binding_is, 
 use Rattle.page_control.proofs.Pictures.{picture_by, picture_in}
 use Rattle.page_control.specs.Plain.{plain, file_map_of, bindings, record_of}
 use Rattle.page_control.proofs.Ties.{table_read, table_lost, map_read, frame_within, not_none}
+use Rattle.page_control.proofs.Kept.{others_read, others_lost}
+use Rattle.std.proofs.Common.{refl}
+use Rattle.page_control.proofs.Clean.{clean_brought, clean_moved}
 use Rattle.page_control.proofs.pages.Pages.end_in.Goals as goal
 
 not_started : (frame : Frame) (uid p : ℕ) → frame ≡ Free → frame ≡ Started uid p → ⊥
@@ -44,3 +47,23 @@ returns-in-Ok-clause-picture g c =
     (binding_is c.args.self.now.core c.args.f ∙ ap bound_page c.requires.started)
     (frame_within c.args.self.now.core c.args.f (λ e. not_started _ c.args.uid c.args.p e c.requires.started)) (omega (arith, inside, count))
     (λ h is. not_none (frame_of _) h (ap frame_of c.requires.out) (c.requires.table.named h c.args.p is))
+
+pub returns-in-Ok-clause-others : goal.returns-in-Ok-clause-others
+returns-in-Ok-clause-others g c =
+    others_read (plain g.D.Drive.pages c.args.self.now) _ c.args.uid c.args.p c.args.f c.args.home (search rules) (search rules) c.requires.started
+
+pub returns-in-Err-clause-others : goal.returns-in-Err-clause-others
+returns-in-Err-clause-others g c =
+    others_lost (plain g.D.Drive.pages c.args.self.now) _ c.args.uid c.args.p c.args.f c.args.home (search rules) (search rules) c.requires.started
+
+pub returns-in-Ok-clause-clean : goal.returns-in-Ok-clause-clean
+returns-in-Ok-clause-clean g c =
+    let inside : c.args.f < length c.args.self.now.core.frames = within_from c.args.self.now.core.frames c.args.f Free (λ e. not_started _ c.args.uid c.args.p e c.requires.started) in
+    let count : length c.args.self.now.frames ≡ length c.args.self.now.core.frames = rw (← c.self.view_is) c.self.invariant in
+    clean_brought (plain g.D.Drive.pages c.args.self.now) _ c.args.uid c.args.p c.args.f (record_of (plain g.D.Drive.pages c.args.self.now) c.args.home c.args.p) c.args.home (search rules) (grind (arith, common_steps)) (search rules) (search rules) c.requires.home
+    (c.requires.map.out c.args.p _ c.requires.out) inside (omega (arith, inside, count))
+
+pub returns-in-Err-clause-clean : goal.returns-in-Err-clause-clean
+returns-in-Err-clause-clean g c =
+    let inside : c.args.f < length c.args.self.now.core.frames = within_from c.args.self.now.core.frames c.args.f Free (λ e. not_started _ c.args.uid c.args.p e c.requires.started) in
+    clean_moved (plain g.D.Drive.pages c.args.self.now) _ c.args.f Free (search rules) refl (grind (arith, common_steps)) (search rules) (search rules) inside

@@ -1,0 +1,63 @@
+-- For callers: what the ties between tables, homes and frames give.
+use Rattle.std.proofs.Common.{◌≡◌, ◌≢◌, ℕ, true, false, List, [], refl, Option, None, Some, sym, ap, ◌∙◌}
+use Rattle.std.proofs.lemmas.Option.{same_Some}
+use Rattle.page_table.specs.declared.Ptw.{Ptw}
+use Rattle.page_table.specs.declared.Ptw.TheVariants.{Leaving}
+use Rattle.page_table.specs.PageTable.{ptw_at}
+use Rattle.page_control.specs.Plain.{Plain, bindings, binding_at, number_in, entry_of, uid_of_home, uid_or_zero, frame_in, words_in, words_on, disk_of, file_map_of, record_of}
+use Rattle.core_map.specs.CoreMap.{Core, frame_at, is_bound, is_modified}
+use Rattle.vtoc.specs.Vtoc.{Entry, uid_of}
+use Rattle.page_control.specs.declared.Home.{Home}
+use Rattle.page_control.specs.Picture.{AreClean, volume_of, record_named, words_filed}
+use Rattle.page_control.proofs.Facts.{filed_from_word, binding_is, bound_from_page, bound_to}
+use Rattle.page_control.proofs.Pictures.{volume_found, record_found}
+use Rattle.page_control.specs.Tied.{frame_of, has_record, uid_in, IsTableOf, IsHomeOf, IsMapOf, IsBoundOnce, HasNoHome, HasNoFrame, KeepsOthers}
+use Rattle.page_control.proofs.Ties.{not_none, frame_same}
+
+-- a page of the segment of a table is in one frame
+pub bound_once : (bound : List (Option (ℕ × ℕ))) (uid p f : ℕ) (t : List Ptw) → IsTableOf bound uid t → frame_of (ptw_at t p) ≡ Some f → IsBoundOnce bound f
+bound_once bound uid p f t table word = record {
+  only = λ g same. frame_same (frame_of (ptw_at t p)) g f (table.named g p (same ∙ table.back f p word)) word;
+}
+
+-- a segment whose words name no frame has none, and the other way round
+pub no_frame : (bound : List (Option (ℕ × ℕ))) (uid : ℕ) (t : List Ptw) → IsTableOf bound uid t → ((p : ℕ) → frame_of (ptw_at t p) ≡ None) → HasNoFrame bound uid
+no_frame bound uid t table away = record { none = λ f p is. not_none (frame_of (ptw_at t p)) f (away p) (table.named f p is) }
+
+pub table_of_no_frame : (bound : List (Option (ℕ × ℕ))) (uid : ℕ) (t : List Ptw) → HasNoFrame bound uid → ((p : ℕ) → frame_of (ptw_at t p) ≡ None) → IsTableOf bound uid t
+table_of_no_frame bound uid t none away = record {
+  named = λ f p is. absurd (none.none f p is);
+  back = λ f p is. absurd (not_none (frame_of (ptw_at t p)) f (away p) is);
+}
+
+-- a frame that `evict` may be called with
+pub clean_at : (s : Plain) (uid p f : ℕ) (home : Home) (t : List Ptw) → AreClean s → IsHomeOf s.vtocs uid home → IsTableOf (bindings s.core) uid t
+    → IsMapOf (file_map_of s home) t → ptw_at t p ≡ Leaving f → is_modified (frame_in s f) ≡ false → words_in s f ≡ words_on s home.volume (record_of s home p)
+clean_at s uid p f home t clean h table map word off =
+    clean.clean f uid p off (table.back f p (ap frame_of word))
+    ∙ ap (λ (v : ℕ). words_filed (disk_of s v) (record_named s.vtocs uid p)) (volume_found s.vtocs uid home h)
+    ∙ ap (words_filed (disk_of s home.volume)) (record_found s.vtocs uid p home h ∙ filed_from_word s home t p map (ap has_record word))
+
+-- a home is used for its segment
+used_uid : (entry : Option Entry) (uid : ℕ) → uid_of entry ≡ Some uid → uid_or_zero entry ≡ uid
+used_uid None uid used = cc
+used_uid (Some entry) uid used = same_Some entry.uid uid used
+
+pub home_uid : (s : Plain) (uid : ℕ) (home : Home) → IsHomeOf s.vtocs uid home → uid_of_home s home ≡ uid
+home_uid s uid home h = used_uid (entry_of s home) uid h.used
+
+-- a frame that was bound still is, where bindings are as before
+pub still_bound : (old new : Core) (f : ℕ) → bindings new ≡ bindings old → is_bound (frame_at old f) ≡ true → is_bound (frame_at new f) ≡ true
+still_bound old new f same bound =
+    bound_from_page (frame_at new f) (uid_in (frame_at old f)) (number_in (frame_at old f))
+    (sym (binding_is new f) ∙ ap (λ (b : List (Option (ℕ × ℕ))). binding_at b f) same ∙ binding_is old f ∙ bound_to (frame_at old f) bound)
+
+-- the home of a segment stays one, and no entry is used for a stranger
+pub no_home_kept : (old new : Plain) (uid : ℕ) (home : Home) (segment : ℕ) → KeepsOthers old new uid home → HasNoHome old.vtocs segment → HasNoHome new.vtocs segment
+no_home_kept old new uid home segment kept none = record { none = λ other at. none.none other (sym (kept.uids other) ∙ at) }
+
+-- a segment that has no frame has none after a call for another
+pub no_frame_kept : (old new : Plain) (uid : ℕ) (home : Home) (segment : ℕ) → KeepsOthers old new uid home → segment ≢ uid → HasNoFrame (bindings old.core) segment
+    → HasNoFrame (bindings new.core) segment
+no_frame_kept old new uid home segment kept other none =
+    no_frame (bindings new.core) segment [] (kept.tables segment [] other (table_of_no_frame (bindings old.core) segment [] none (λ p. refl))) (λ p. refl)

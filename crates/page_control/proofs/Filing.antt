@@ -1,0 +1,109 @@
+-- The records that file maps name stay in use and named once, whatever a call does to them.
+use Rattle.std.proofs.Common.{◌≡◌, ◌≢◌, ◌⊎◌, ℕ, ◌<◌, Bool, true, false, List, [], length, Option, None, Some, refl, sym, ap, ◌∙◌, get_or, inl, inr}
+use Rattle.std.proofs.lemmas.Bool.{cases_eq}
+use Rattle.record_map.specs.Bitmap.{in_use}
+use Rattle.vtoc.specs.Vtoc.{Entry, entry_at, record_at, records_in, with_record, fresh_entry}
+use Rattle.page_control.specs.declared.Home.{Home}
+use Rattle.page_control.specs.Tied.{vtoc_in, flags_in, map_at, IsHomeOf, AreFiled}
+use Rattle.page_control.proofs.Facts.{used_within, within_from}
+use Rattle.page_control.proofs.Ties.{not_none}
+use Rattle.page_control.proofs.Leaving.{no_record}
+use Rattle.page_control.proofs.Places.{put, put_here, put_other, none_put, some_put, refile, map_refiled, volume_within, same_record}
+use Rattle.page_control.proofs.Pictures.{home_within, off_and_on}
+
+-- the record of any page after a file map names another for page p at a home: that one, or the record as before
+refiled_cases : (vtocs : List (List (Option Entry))) (uid p : ℕ) (place : Option ℕ) (home : Home) → IsHomeOf vtocs uid home → (v e q : ℕ)
+    → ((v ≡ home.volume) × (e ≡ home.entry) × (q ≡ p)) ⊎ (record_at (vtoc_in (refile vtocs home p place) v) e q ≡ record_at (vtoc_in vtocs v) e q)
+refiled_cases vtocs uid p place home h v e q =
+    let entry : Option Entry = entry_at (vtoc_in vtocs home.volume) home.entry in
+    let otherwise : (v ≡ home.volume → e ≡ home.entry → ⊥) → record_at (vtoc_in (refile vtocs home p place) v) e q ≡ record_at (vtoc_in vtocs v) e q =
+    λ n. ap (λ (x : Option Entry). get_or (records_in x) q None) (put_other vtocs home.volume home.entry (with_record entry p place) None v e (volume_within vtocs uid home h) n) in
+    elim (cases_eq v home.volume) [
+      | inl i ↦ elim (cases_eq e home.entry) [
+        | inl j ↦ elim (cases_eq q p) [
+          | inl k ↦ inl (i, j, k)
+          | inr n ↦ inr (rw (i, j) (ap (λ (x : Option Entry). get_or (records_in x) q None)
+              (put_here vtocs home.volume home.entry (with_record entry p place) None (volume_within vtocs uid home h) (home_within vtocs uid home h))
+              ∙ same_record entry p place q n))
+        ]
+        | inr n ↦ inr (otherwise (λ _ k. n k))
+      ]
+      | inr n ↦ inr (otherwise (λ k _. n k))
+    ]
+
+-- the record of page p there
+refiled_at : (vtocs : List (List (Option Entry))) (uid p : ℕ) (place : Option ℕ) (home : Home) (v e q : ℕ) → IsHomeOf vtocs uid home
+    → (v ≡ home.volume) × (e ≡ home.entry) × (q ≡ p) → record_at (vtoc_in (refile vtocs home p place) v) e q ≡ record_at (vtoc_in (refile vtocs home p place) home.volume) home.entry p
+refiled_at vtocs uid p place home v e q h (i, j, k) = rw (i, j, k) refl
+
+-- page p at a home is stored no more, and its record r is given back
+pub filed_unstored : (records : List (List Bool)) (vtocs : List (List (Option Entry))) (uid p r : ℕ) (home : Home) → AreFiled records vtocs → IsHomeOf vtocs uid home
+    → record_at (vtoc_in vtocs home.volume) home.entry p ≡ Some r → AreFiled (put records home.volume r false) (refile vtocs home p None)
+filed_unstored records vtocs uid p r home filed h there =
+    let gone : record_at (vtoc_in (refile vtocs home p None) home.volume) home.entry p ≡ None =
+    ap (λ (places : List (Option ℕ)). get_or places p None) (map_refiled vtocs uid p None home h) ∙ none_put (map_at vtocs home) p in
+    let none : Option ℕ = None in
+    let was : (v e q s : ℕ) → record_at (vtoc_in (refile vtocs home p None) v) e q ≡ Some s
+    → (record_at (vtoc_in vtocs v) e q ≡ Some s) × ((v ≡ home.volume) × (e ≡ home.entry) × (q ≡ p) → ⊥) =
+    λ v e q s is.
+    let off : (v ≡ home.volume) × (e ≡ home.entry) × (q ≡ p) → ⊥ =
+    λ at. not_none (record_at (vtoc_in (refile vtocs home p None) v) e q) s (refiled_at vtocs uid p None home v e q h at ∙ gone) is in
+    elim (refiled_cases vtocs uid p None home h v e q) [
+      | inl at ↦ absurd (off at)
+      | inr same ↦ (sym same ∙ is, off)
+    ] in
+    let on : in_use (flags_in records home.volume) r ≡ true = filed.used home.volume home.entry p r there in
+    let vl : home.volume < length records = within_from records home.volume [] (λ e. off_and_on _ (ap (λ (flags : List Bool). in_use flags r) e) on) in
+    record {
+      used = λ v e q s is.
+          let old : record_at (vtoc_in vtocs v) e q ≡ Some s = (was v e q s is).0 in
+          let other : v ≡ home.volume → s ≡ r → ⊥ =
+          λ i j. (let here : record_at (vtoc_in vtocs home.volume) e q ≡ Some r = ap (λ (w : ℕ). record_at (vtoc_in vtocs w) e q) (sym i) ∙ old ∙ ap Some j in
+          let one : (e ≡ home.entry) × (q ≡ p) = filed.once home.volume e q home.entry p r here there in
+          (was v e q s is).1 (i, one.0, one.1)) in
+          put_other records home.volume r false false v s vl other ∙ filed.used v e q s old;
+      once = λ v e q g o s is those. filed.once v e q g o s (was v e q s is).0 (was v g o s those).0;
+    }
+
+-- page p at a home gets the free record r
+pub filed_stored : (records : List (List Bool)) (vtocs : List (List (Option Entry))) (uid p r : ℕ) (home : Home) → AreFiled records vtocs → IsHomeOf vtocs uid home
+    → in_use (flags_in records home.volume) r ≡ false → home.volume < length records → r < length (flags_in records home.volume)
+    → AreFiled (put records home.volume r true) (refile vtocs home p (Some r))
+filed_stored records vtocs uid p r home filed h free vl rl =
+    let now : List (List (Option Entry)) = refile vtocs home p (Some r) in
+    let its : (s : ℕ) → record_at (vtoc_in now home.volume) home.entry p ≡ Some s → s ≡ r =
+    λ s is. some_put (map_at vtocs home) p r s (sym (ap (λ (places : List (Option ℕ)). get_or places p None) (map_refiled vtocs uid p (Some r) home h)) ∙ is) in
+    let was : (v e q s : ℕ) → record_at (vtoc_in now v) e q ≡ Some s
+    → (((v ≡ home.volume) × (e ≡ home.entry) × (q ≡ p)) × (s ≡ r)) ⊎ (record_at (vtoc_in vtocs v) e q ≡ Some s) =
+    λ v e q s is. elim (refiled_cases vtocs uid p (Some r) home h v e q) [
+      | inl at ↦ inl (at, its s (sym (refiled_at vtocs uid p (Some r) home v e q h at) ∙ is))
+      | inr same ↦ inr (sym same ∙ is)
+    ] in
+    let fresh : (v e q s : ℕ) → v ≡ home.volume → s ≡ r → record_at (vtoc_in vtocs v) e q ≡ Some s → ⊥ =
+    λ v e q s i j is. off_and_on _ free (filed.used home.volume e q r (ap (λ (w : ℕ). record_at (vtoc_in vtocs w) e q) (sym i) ∙ is ∙ ap Some j)) in
+    record {
+      used = λ v e q s is. elim (was v e q s is) [
+        | inl new ↦ ap (λ (w : ℕ). in_use (flags_in (put records home.volume r true) w) s) new.0.0
+            ∙ ap (λ (k : ℕ). in_use (flags_in (put records home.volume r true) home.volume) k) new.1
+            ∙ put_here records home.volume r true false vl rl
+        | inr old ↦ put_other records home.volume r true false v s vl (λ i j. fresh v e q s i j old) ∙ filed.used v e q s old
+      ];
+      once = λ v e q g o s is those. elim (was v e q s is) [
+        | inl new ↦ elim (was v g o s those) [
+          | inl too ↦ (new.0.1 ∙ sym too.0.1, new.0.2 ∙ sym too.0.2)
+          | inr old ↦ absurd (fresh v g o s new.0.0 new.1 old)
+        ]
+        | inr old ↦ elim (was v g o s those) [
+          | inl too ↦ absurd (fresh v e q s too.0.0 too.1 old)
+          | inr older ↦ filed.once v e q g o s old older
+        ]
+      ];
+    }
+
+-- where each record that a file map names was named there before
+pub filed_fewer : (records : List (List Bool)) (vtocs now : List (List (Option Entry))) → AreFiled records vtocs
+    → ((v e q s : ℕ) → record_at (vtoc_in now v) e q ≡ Some s → record_at (vtoc_in vtocs v) e q ≡ Some s) → AreFiled records now
+filed_fewer records vtocs now filed was = record {
+  used = λ v e q s is. filed.used v e q s (was v e q s is);
+  once = λ v e q g o s is those. filed.once v e q g o s (was v e q s is) (was v g o s those);
+}
