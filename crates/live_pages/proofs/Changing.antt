@@ -1,5 +1,5 @@
 -- The steps that change a page: a touch draws its ticket, and a frame is bound anew.
-use Rattle.std.proofs.Common.{◌≡◌, ◌≢◌, ℕ, suc, ◌+◌, ◌*◌, ◌/◌, ◌%◌, ◌^◌, ◌<◌, ◌≤◌, List, [], ◌∷◌, length, Option, Some, None, refl, sym, ap, subst, ◌∙◌, arith, get_or, set, inl, inr, ⊎_elim}
+use Rattle.std.proofs.Common.{◌≡◌, ◌≢◌, ℕ, suc, ◌+◌, ◌*◌, ◌/◌, ◌%◌, ◌^◌, ◌<◌, ◌≤◌, cond, eqb, ◌&&◌, List, [], ◌∷◌, length, Option, Some, None, refl, sym, ap, subst, ◌∙◌, arith, get_or, set, inl, inr, ⊎_elim}
 use mathlib.Core.Logic.{dite}
 use mathlib.Core.Option as M
 use native.Mathlib.Decide.{ℕ_discrete}
@@ -60,6 +60,7 @@ module _ (frames cpus : ℕ) (words : List ℕ) where
               (λ (other : e.cpu ≢ c). let l = ap (λ xs. length xs) (mine_else c e log other) in let f' = b.few c in omega arith);
           left = left_touched given plan.watch log plan.ended e binding b.left;
           zeros = b.zeros;
+          given_is = b.given_is;
           unmade = λ c above. (mine_else c e log (λ is. omega arith) ∙ (b.unmade c above).0, (b.unmade c above).1);
           taken_in = λ c made part. dite (ℕ_discrete e.cpu c)
               (λ (same : e.cpu ≡ c). absurd (out_in made (sym (ap (λ k. get_or plan.parts k Out) same) ∙ out) part))
@@ -276,6 +277,7 @@ module _ (z : Size) where
               sym (regiven_here f (current k.watch f + 1) hd.page h.given),
             );
             zeros = λ g. regiven_binding f (current k.watch f + 1) hd.page h.given g 0 (λ e. omega arith) ∙ book.zeros g;
+            given_is = λ g b. ap (cond (eqb g f && eqb b (current k.watch f + 1)) hd.page) (book.given_is g b);
             unmade = book.unmade;
             taken_in = book.taken_in;
           };

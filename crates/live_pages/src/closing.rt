@@ -5,7 +5,7 @@ ghost use mathlib.Core.Option.{some};
 ghost use lib.ListN.{get_elem?};
 ghost use Rattle.live_pages.specs.declared.rule.Held.{Held};
 ghost use Rattle.live_pages.specs.Models.{IsPassOf, IsKeeperOf, AreAll, HavePages, taking_in, taking_all_in};
-ghost use Rattle.live_pages.specs.Kept.{EndsAsOneThread};
+ghost use Rattle.live_pages.specs.Ending.{IsOfOneThread, IsLeftAfterAll, all_bindings};
 
 use crate::keeper::Keeper;
 use crate::pages::LivePages;
@@ -90,7 +90,8 @@ impl LivePages {
         requires all { AreAll self passes.items }
         ensures shown { result.shown ≡ taking_all_in passes.items keeper.holder }
         ensures count { length result.pages.items ≡ self.frames }
-        ensures as_one_thread { EndsAsOneThread self.frames self.cpus result.pages.items result.shown }
+        ensures one_thread { IsOfOneThread self.cpus result.shown }
+        ensures left { All (IsLeftAfterAll result.shown) (all_bindings result.pages.items result.shown) }
     {
         self.take_all_in(&mut keeper, passes);
         let shown = self.show(&mut keeper);

@@ -1,5 +1,6 @@
 //! The laws of pages behind doors. Each function is its contract, and has no code.
-ghost use Rattle.live_pages.specs.Kept.{AllInIsLegal, EntryIsCurrent, MayBindHasNoHolder};
+ghost use Rattle.live_pages.specs.Ending.{AllInIsLegal};
+ghost use Rattle.live_pages.specs.Kept.{EntryIsCurrent, MayBindHasNoHolder};
 
 /// Wherever the rule holds, and the keeper has taken every pass in, there is one list of touches by which all is as one
 /// thread would have it: the tickets are the numbers below its length, each once; in their order each touch's word is
