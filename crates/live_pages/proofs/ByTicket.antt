@@ -198,6 +198,8 @@ module _ (frames cpus : ℕ) (words : List ℕ) (k : Holder) (log : List Made) (
     bindings = subst (AreOfBindings cpus k.watch) (sym in_order_now) (bindings_in_order cpus k.watch log book.bindings);
     given = have_next k log k.ended book.left;
     zeros = book.zeros;
+    in_turn = book.in_turn;
+    last = book.last;
   }
 
   pub all_ended_left : All (IsLeftAfterAll k) (ended_bindings (page_given k.ended) k.ended)

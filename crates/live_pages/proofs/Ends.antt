@@ -7,7 +7,7 @@ use lib.ListN.{get_elem?}
 use Rattle.std.proofs.lemmas.List.{length-replicate, length-append, get_or-replicate, get_or_append_left, get_or-append-add, get_or-set_same, get_or-set_other, length-set}
 use Rattle.atomic_table.specs.Table.{Splits, Joins}
 use Rattle.atomic_table.proofs.Lists.{set_again, at_set, set_else, at_map}
-use Rattle.live_doors.specs.Doors.{blank, HasNoted, MayBind}
+use Rattle.live_doors.specs.Doors.{blank, first_watch, HasNoted, MayBind}
 use Rattle.live_doors.specs.Steps.{door_at, ack_at, first_words}
 use Rattle.live_doors.specs.Kept.{PassOk}
 use Rattle.live_doors.proofs.Plain.{plan_admits, pass_admits, blank_ok}
@@ -44,6 +44,11 @@ at_longer [] m j a e = absurd (M.some-ne-none a (sym e))
 at_longer (x ∷ xs) m zero a e = e
 at_longer (x ∷ xs) m (suc j) a e = at_longer xs m j a e
 
+none_ended : (frames cpus f : ℕ) → current (first_watch frames cpus 1) f ≡ 0
+none_ended zero cpus f = refl
+none_ended (suc frames) cpus zero = refl
+none_ended (suc frames) cpus (suc f) = none_ended frames cpus f
+
 module _ (z : Size) where
   -- the keeper makes the pass of the next processor
   pub admits : (id : ℕ) (k : Holder) → k.watch.made < z.cpus → length k.watch.doors ≡ z.frames → length k.parts ≡ z.cpus → Splits (InOrder z) id (Keeping k) (keeper_with_pass (Keeping k)) (pass_of_keeper (Keeping k))
@@ -71,6 +76,8 @@ module _ (z : Size) where
           left = left_stays h.given k.watch k'.watch h.log k.ended (λ f. omega arith) book.left;
           zeros = book.zeros;
           given_is = book.given_is;
+          in_turn = book.in_turn;
+          last = book.last;
           unmade = λ c above. book.unmade c (omega arith);
           taken_in = book.taken_in;
         };
@@ -144,6 +151,8 @@ module _ (z : Size) where
           left = book.left;
           zeros = book.zeros;
           given_is = book.given_is;
+          in_turn = book.in_turn;
+          last = book.last;
           unmade = λ c above. ((book.unmade c above).0, get_or-set_other k.parts q.walk.cpu c (In q.made) Out (λ e. omega arith) ∙ (book.unmade c above).1);
           taken_in = λ c list part. dite (ℕ_discrete c q.walk.cpu)
               (λ (same : c ≡ q.walk.cpu).
@@ -286,6 +295,8 @@ module _ (z : Size) where
       left = tt;
       zeros = λ f. refl;
       given_is = λ f b. refl;
+      in_turn = tt;
+      last = none_ended z.frames z.cpus;
       unmade = λ c above. (refl, all_out z.cpus c);
       taken_in = λ c list part. absurd (out_in list (all_out z.cpus c) part);
     };

@@ -6,3 +6,4 @@ pub mod ByTicket
 pub mod Ends
 pub mod AllIn
 pub mod Calls
+pub mod WorkedRow

@@ -33,7 +33,7 @@ first_of_row : made_by 0 row_end ≡ adds ∷ puts ∷ []
 first_of_row = refl
 
 words_of_row : AreOfOneThread 0 (page_given row_end.ended) (in_order row_end)
-words_of_row = (refl, refl, refl, refl, refl, refl, tt)
+words_of_row = (refl, refl, (refl, refl, (refl, refl, tt)))
 
 page_of_row : pages_after row_end 0 1 ≡ set (replicate 1024 0) 3 7
 page_of_row = refl

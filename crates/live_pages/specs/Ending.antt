@@ -12,7 +12,7 @@ use Rattle.live_pages.specs.declared.views.Part.TheVariants.{Out, In}
 use Rattle.live_pages.specs.declared.views.Holder.{Holder}
 use Rattle.live_pages.specs.declared.views.View.{View}
 use Rattle.live_pages.specs.declared.views.View.TheVariants.{Keeping}
-use Rattle.live_pages.specs.Touches.{Given, page_given, mine, by_ticket, after_all, AreOfOneThread}
+use Rattle.live_pages.specs.Touches.{Given, page_given, ended_of, AreInTurn, mine, by_ticket, after_all, AreOfOneThread}
 use Rattle.live_pages.specs.Turns.{current}
 use Rattle.live_pages.specs.Kept.{AreOfBindings, AllIn, Kept}
 
@@ -83,6 +83,9 @@ pub record IsOfOneThread (cpus : ℕ) (k : Holder) : Type 0 where
   pub given : All (HasNext k) k.ended
   -- binding 0 of each frame had the page of zeros
   pub zeros : (f : ℕ) → page_given k.ended f 0 ≡ replicate 1024 0
+  -- the bindings of each frame ended in turn, from 0 up to the last one
+  pub in_turn : AreInTurn k.ended
+  pub last : (f : ℕ) → current k.watch f ≡ ended_of f k.ended
 
 -- all is as one thread would have it, and each page that was handed out and the page in each slot is its binding's after its touches
 abbrev pub EndIsLegal : ℕ → ℕ → List (M.Option (Option Held)) → Holder → Type 0

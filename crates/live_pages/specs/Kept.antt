@@ -18,7 +18,7 @@ use Rattle.live_pages.specs.declared.views.Walker.{Walker}
 use Rattle.live_pages.specs.declared.views.Holder.{Holder}
 use Rattle.live_pages.specs.declared.views.View.{View}
 use Rattle.live_pages.specs.declared.views.View.TheVariants.{Passing, Keeping, Spent}
-use Rattle.live_pages.specs.Touches.{Given, page_given, after, IsLegal, mine}
+use Rattle.live_pages.specs.Touches.{Given, page_given, ended_of, AreInTurn, after, IsLegal, mine}
 use Rattle.live_pages.specs.Turns.{turn_at, ticket_at, current, hand_of}
 
 -- each touch is by a processor that there is, of a binding that its frame has had
@@ -44,6 +44,8 @@ pub record BookOk (frames cpus : ℕ) (words : List ℕ) (plan : Holder) (given 
   pub left : HaveLeft given plan.watch log plan.ended
   pub zeros : (f : ℕ) → given f 0 ≡ replicate 1024 0
   pub given_is : (f b : ℕ) → given f b ≡ page_given plan.ended f b
+  pub in_turn : AreInTurn plan.ended
+  pub last : (f : ℕ) → current plan.watch f ≡ ended_of f plan.ended
   pub unmade : (cpu : ℕ) → plan.watch.made ≤ cpu → (mine cpu log ≡ []) × (slice_index_or plan.parts cpu Out ≡ Out)
   pub taken_in : (cpu : ℕ) (made : List Made) → slice_index_or plan.parts cpu Out ≡ In made → made ≡ mine cpu log
 

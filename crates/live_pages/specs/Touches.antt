@@ -33,6 +33,16 @@ abbrev pub page_given : List Bound → Given
 page_given [] frame binding = replicate 1024 0
 page_given (b ∷ bs) frame binding = cond (frame == b.frame && binding == b.binding + 1) b.next (page_given bs frame binding)
 
+-- how many bindings of a frame have ended
+abbrev pub ended_of : ℕ → List Bound → ℕ
+ended_of frame [] = 0
+ended_of frame (b ∷ bs) = cond (b.frame == frame) (ended_of frame bs + 1) (ended_of frame bs)
+
+-- The bindings, the last one first, ended in turn: the number of each is how many of its frame had ended before it.
+abbrev pub AreInTurn : List Bound → Type 0
+AreInTurn [] = Unit {0}
+AreInTurn (b ∷ bs) = AreInTurn bs × (b.binding ≡ ended_of b.frame bs)
+
 -- the touch is one of this binding of this frame
 abbrev pub is_of : ℕ → ℕ → Made → Bool
 is_of frame binding e = e.frame == frame && e.binding == binding

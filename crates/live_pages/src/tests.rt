@@ -1,67 +1,15 @@
 //! Tests over the public calls.
 ghost use Rattle.std.specs.Prelude.{◌≡◌, [], ◌∷◌, ℕ, ◌+◌, ◌^◌, ◌<◌, ◌≤◌, All, length, slice_index_or, OnOk, IfSome};
-ghost use Rattle.live_doors.specs.Doors.{IsAdmitted, OnlyNoted};
-ghost use Rattle.live_pages.specs.Turns.{current};
+ghost use Rattle.live_doors.specs.Doors.{HoldsEntry, IsAdmitted, OnlyNoted, shut};
+ghost use Rattle.live_pages.specs.Turns.{current, watching};
 ghost use Rattle.live_pages.specs.Models.{PassModel, IsPassOf, IsKeeperOf, AreAll, first_passes};
 
-use crate::{Keeper, LivePages, NoMemory, Pass, Touch, Touched};
+use crate::{Busy, Keeper, LivePages, NoMemory, Pass, Touch, Touched};
 use mword::{Page, Word};
 use std::alloc::Global;
 use std::sync::atomic::{AtomicBool, AtomicU64, Ordering};
 use std::thread;
 use std::thread::{Threads, join};
-
-#[test]
-fn binds_touches_and_binds_anew(rt: HostRuntime) -> Result<(), NoMemory> {
-    let five = Word::new(5).expect(&rt, "a word");
-    let seven = Word::new(7).expect(&rt, "a word");
-    let (pages, mut keeper, mut passes) = LivePages::new(rt.alloc(), 1, 2)?;
-    let mut one = passes.pop().expect(&rt, "a pass for processor 1");
-    let mut zero = passes.pop().expect(&rt, "a pass for processor 0");
-    let blank = Page::zero(rt.alloc()).ok().expect(&rt, "a page");
-    let other = Page::zero(rt.alloc()).ok().expect(&rt, "a page");
-    assert!(&rt; keeper.may_bind(0));
-    let first = pages.bind(&mut keeper, 0, blank);
-    assert!(&rt; first.is_zero());
-    assert_eq!(&rt; pages.fill(&mut zero, 0), Ok(1));
-    assert_eq!(&rt; pages.fill(&mut one, 0), Ok(1));
-    assert!(&rt; zero.holds(0) && one.holds(0));
-    assert_eq!(&rt;
-        pages.touch(&mut zero, 0, Touch::Add(3, five)),
-        Ok(Touched {
-            ticket: 0,
-            word: five
-        })
-    );
-    assert_eq!(&rt;
-        pages.touch(&mut one, 0, Touch::Get(3)),
-        Ok(Touched {
-            ticket: 1,
-            word: five
-        })
-    );
-    pages.close_door(&mut keeper, 0);
-    assert!(&rt; zero.holds(0));
-    assert_eq!(&rt;
-        pages.touch(&mut zero, 0, Touch::Put(3, seven)),
-        Ok(Touched {
-            ticket: 2,
-            word: seven
-        })
-    );
-    assert_eq!(&rt; pages.raise(&mut keeper), 1);
-    assert!(&rt; !keeper.may_bind(0));
-    pages.forget(&mut zero);
-    pages.acknowledge(&mut zero);
-    pages.forget(&mut one);
-    pages.acknowledge(&mut one);
-    assert_eq!(&rt; pages.all_clear(&mut keeper, 1), Ok(()));
-    assert!(&rt; keeper.may_bind(0));
-    let used = pages.bind(&mut keeper, 0, other);
-    assert_eq!(&rt; used.get(3), seven);
-    assert_eq!(&rt; pages.fill(&mut zero, 0), Ok(2));
-    Ok(())
-}
 
 const ROUNDS: u32 = 40;
 
@@ -309,6 +257,69 @@ fn gather(alloc: Global, pages: &LivePages, zero: Pass, one: Pass) -> Option<Vec
     ensures all { IfSome result (λ passes. AreAll pages.now passes.items) }
 {
     row(alloc, zero, one)
+}
+
+// The touches of the row, the last one of a frame that was closed meanwhile.
+fn touch_in_turn(
+    pages: &LivePages,
+    keeper: &mut Keeper,
+    zero: &mut Pass,
+    one: &mut Pass,
+    five: Word,
+    seven: Word,
+) -> Result<[Touched; 3], Busy>
+    requires keeper { IsKeeperOf pages.now keeper.old × IsAdmitted keeper.old.holder.watch 0 }
+    requires zero { IsPassOf pages.now zero.old × HoldsEntry zero.old.walker.walk 0 × (zero.old.walker.made ≡ []) }
+    requires one { IsPassOf pages.now one.old × HoldsEntry one.old.walker.walk 0 × (one.old.walker.made ≡ []) }
+    requires frame { pages.now.frames ≡ 1 }
+    ensures keeper { OnOk result (IsKeeperOf pages.now keeper.new) }
+    ensures shut { OnOk result (keeper.new.holder ≡ watching (shut 0) keeper.old.holder) }
+    ensures zero { OnOk result (IsPassOf pages.now zero.new × (zero.new.walker.walk.cpu ≡ zero.old.walker.walk.cpu)) }
+    ensures one { OnOk result (IsPassOf pages.now one.new × (one.new.walker.walk.cpu ≡ one.old.walker.walk.cpu)) }
+{
+    let first = pages.touch(zero, 0, Touch::Add(3, five))?;
+    let second = pages.touch(one, 0, Touch::Get(3))?;
+    pages.close_door(keeper, 0);
+    let third = pages.touch(zero, 0, Touch::Put(3, seven))?;
+    Ok([first, second, third])
+}
+
+fn touched(ticket: u64, word: Word) -> Touched {
+    Touched { ticket, word }
+}
+
+#[test]
+fn binds_touches_and_binds_anew(rt: HostRuntime) -> Result<(), NoMemory> {
+    let five = Word::new(5).expect(&rt, "a word");
+    let seven = Word::new(7).expect(&rt, "a word");
+    let (pages, mut keeper, passes) = LivePages::new(rt.alloc(), 1, 2)?;
+    let (mut zero, mut one) = first_two(&pages, passes).expect(&rt, "two passes");
+    let page = Page::zero(rt.alloc()).ok().expect(&rt, "a page");
+    let next = Page::zero(rt.alloc()).ok().expect(&rt, "a page");
+    assert!(&rt; keeper.may_bind(0));
+    assert!(&rt; pages.bind(&mut keeper, 0, page).is_zero());
+    assert_eq!(&rt; pages.fill(&mut zero, 0), Ok(1));
+    assert_eq!(&rt; pages.fill(&mut one, 0), Ok(1));
+    assert!(&rt; zero.holds(0) && one.holds(0));
+    let answers = touch_in_turn(&pages, &mut keeper, &mut zero, &mut one, five, seven);
+    let in_order = [touched(0, five), touched(1, five), touched(2, seven)];
+    assert_eq!(&rt; answers, Ok(in_order));
+    assert_eq!(&rt; pages.raise(&mut keeper), 1);
+    assert!(&rt; !keeper.may_bind(0));
+    rest(&pages, &mut zero);
+    rest(&pages, &mut one);
+    assert_eq!(&rt; pages.all_clear(&mut keeper, 1), Ok(()));
+    assert!(&rt; keeper.may_bind(0));
+    let mut used = pages.bind(&mut keeper, 0, next);
+    assert_eq!(&rt; used.get(3), seven);
+    used.set(3, Word::ZERO);
+    assert!(&rt; used.is_zero());
+    assert_eq!(&rt; pages.fill(&mut zero, 0), Ok(2));
+    let passes = gather(rt.alloc(), &pages, zero, one).expect(&rt, "a row of two");
+    let ended = pages.close(keeper, passes);
+    assert_eq!(&rt; ended.pages.len(), 1);
+    assert!(&rt; ended.pages[0].is_zero());
+    Ok(())
 }
 
 #[test]
