@@ -10,13 +10,13 @@ use Rattle.live_pages.specs.Touches.{AreOfOneThread, page_given}
 use Rattle.live_pages.specs.Turns.{first_holder}
 use Rattle.live_pages.specs.Ending.{in_order, made_by, all_bindings, pages_after}
 
-abbrev adds : Made
+abbrev pub adds : Made
 adds = record { ticket = 0; cpu = 0; frame = 0; binding = 1; touch = Add 3 5; word = 5 }
 
-abbrev reads : Made
+abbrev pub reads : Made
 reads = record { ticket = 1; cpu = 1; frame = 0; binding = 1; touch = Get 3; word = 5 }
 
-abbrev puts : Made
+abbrev pub puts : Made
 puts = record { ticket = 2; cpu = 0; frame = 0; binding = 1; touch = Put 3 7; word = 7 }
 
 abbrev row_end : Holder

@@ -1,10 +1,13 @@
 //! Tests over the public calls.
-ghost use Rattle.std.specs.Prelude.{◌≡◌, [], ◌∷◌, ℕ, ◌+◌, ◌^◌, ◌<◌, ◌≤◌, All, length, slice_index_or, OnOk, IfSome};
-ghost use Rattle.live_doors.specs.Doors.{HoldsEntry, IsAdmitted, OnlyNoted, shut};
-ghost use Rattle.live_pages.specs.Turns.{current, watching};
+ghost use Rattle.std.specs.Prelude.{◌≡◌, [], ◌∷◌, ℕ, ◌+◌, ◌^◌, ◌<◌, ◌≤◌, All, length, slice_index_or, None, Some, IsTrue, OnOk, IfSome};
+ghost use Rattle.live_doors.specs.Doors.{IsAdmitted, OnlyNoted};
+ghost use Rattle.live_pages.specs.Turns.{current};
+ghost use Rattle.live_pages.specs.Touches.{place_of};
+ghost use Rattle.live_pages.specs.Ending.{in_order};
+ghost use Rattle.live_pages.specs.declared.touch.Touch.TheVariants.{Get, Put, Add};
 ghost use Rattle.live_pages.specs.Models.{PassModel, IsPassOf, IsKeeperOf, AreAll, first_passes};
 
-use crate::{Busy, Keeper, LivePages, NoMemory, Pass, Touch, Touched};
+use crate::{Ended, Keeper, LivePages, NoMemory, Pass, Touch, Touched};
 use mword::{Page, Word};
 use std::alloc::Global;
 use std::sync::atomic::{AtomicBool, AtomicU64, Ordering};
@@ -259,33 +262,58 @@ fn gather(alloc: Global, pages: &LivePages, zero: Pass, one: Pass) -> Option<Vec
     row(alloc, zero, one)
 }
 
-// The touches of the row, the last one of a frame that was closed meanwhile.
-fn touch_in_turn(
-    pages: &LivePages,
-    keeper: &mut Keeper,
-    zero: &mut Pass,
-    one: &mut Pass,
-    five: Word,
-    seven: Word,
-) -> Result<[Touched; 3], Busy>
-    requires keeper { IsKeeperOf pages.now keeper.old × IsAdmitted keeper.old.holder.watch 0 }
-    requires zero { IsPassOf pages.now zero.old × HoldsEntry zero.old.walker.walk 0 × (zero.old.walker.made ≡ []) }
-    requires one { IsPassOf pages.now one.old × HoldsEntry one.old.walker.walk 0 × (one.old.walker.made ≡ []) }
+// Enters frame 0, and says whether its first binding was admitted.
+fn enters_first_binding(pages: &LivePages, pass: &mut Pass) -> bool
+    requires pass { IsPassOf pages.now pass.old }
     requires frame { pages.now.frames ≡ 1 }
-    ensures keeper { OnOk result (IsKeeperOf pages.now keeper.new) }
-    ensures shut { OnOk result (keeper.new.holder ≡ watching (shut 0) keeper.old.holder) }
-    ensures zero { OnOk result (IsPassOf pages.now zero.new × (zero.new.walker.walk.cpu ≡ zero.old.walker.walk.cpu)) }
-    ensures one { OnOk result (IsPassOf pages.now one.new × (one.new.walker.walk.cpu ≡ one.old.walker.walk.cpu)) }
+    ensures pass { IsPassOf pages.now pass.new }
+    ensures cpu { pass.new.walker.walk.cpu ≡ pass.old.walker.walk.cpu }
+    ensures made { pass.new.walker.made ≡ pass.old.walker.made }
+    ensures entry { IsTrue result → slice_index_or pass.new.walker.walk.held 0 None ≡ Some 1 }
 {
-    let first = pages.touch(zero, 0, Touch::Add(3, five))?;
-    let second = pages.touch(one, 0, Touch::Get(3))?;
-    pages.close_door(keeper, 0);
-    let third = pages.touch(zero, 0, Touch::Put(3, seven))?;
-    Ok([first, second, third])
+    let Ok(binding) = pages.fill(pass, 0) else {
+        return false;
+    };
+    binding == 1
 }
 
-fn touched(ticket: u64, word: Word) -> Touched {
-    Touched { ticket, word }
+// Touches the first binding of frame 0, and says whether the answer is the one expected.
+fn touches_as_expected(pages: &LivePages, pass: &mut Pass, t: Touch, expected: Touched) -> bool
+    requires pass { IsPassOf pages.now pass.old }
+    requires frame { pages.now.frames ≡ 1 }
+    requires entry { slice_index_or pass.old.walker.walk.held 0 None ≡ Some 1 }
+    requires place { place_of t < 1024 }
+    requires few { length pass.old.walker.made < 2 ^ 32 }
+    ensures pass { IsPassOf pages.now pass.new }
+    ensures cpu { pass.new.walker.walk.cpu ≡ pass.old.walker.walk.cpu }
+    ensures held { pass.new.walker.walk.held ≡ pass.old.walker.walk.held }
+    ensures made { IsTrue result → pass.new.walker.made ≡ record { ticket = expected.ticket; cpu = pass.old.walker.walk.cpu; frame = 0; binding = 1; touch = t; word = expected.word } ∷ pass.old.walker.made }
+{
+    let Ok(done) = pages.touch(pass, 0, t) else {
+        return false;
+    };
+    done == expected
+}
+
+// Closes the pages of the row, whose touches are then seen in order of ticket.
+fn close_row(
+    alloc: Global,
+    pages: LivePages,
+    keeper: Keeper,
+    zero: Pass,
+    one: Pass,
+) -> Option<Ended>
+    requires keeper { IsKeeperOf pages keeper }
+    requires passes { IsPassOf pages zero × IsPassOf pages one }
+    requires count { pages.cpus ≡ 2 }
+    requires cpus { (zero.walker.walk.cpu ≡ 0) × (one.walker.walk.cpu ≡ 1) }
+    requires zero { zero.walker.made ≡ record { ticket = 2; cpu = 0; frame = 0; binding = 1; touch = Put 3 7; word = 7 } ∷ record { ticket = 0; cpu = 0; frame = 0; binding = 1; touch = Add 3 5; word = 5 } ∷ [] }
+    requires one { one.walker.made ≡ record { ticket = 1; cpu = 1; frame = 0; binding = 1; touch = Get 3; word = 5 } ∷ [] }
+    ensures count { IfSome result (λ ended. length ended.pages.items ≡ pages.frames) }
+    ensures touches { IfSome result (λ ended. in_order ended.shown ≡ record { ticket = 0; cpu = 0; frame = 0; binding = 1; touch = Add 3 5; word = 5 } ∷ record { ticket = 1; cpu = 1; frame = 0; binding = 1; touch = Get 3; word = 5 } ∷ record { ticket = 2; cpu = 0; frame = 0; binding = 1; touch = Put 3 7; word = 7 } ∷ []) }
+{
+    let passes = gather(alloc, &pages, zero, one)?;
+    Some(pages.close(keeper, passes))
 }
 
 #[test]
@@ -298,12 +326,24 @@ fn binds_touches_and_binds_anew(rt: HostRuntime) -> Result<(), NoMemory> {
     let next = Page::zero(rt.alloc()).ok().expect(&rt, "a page");
     assert!(&rt; keeper.may_bind(0));
     assert!(&rt; pages.bind(&mut keeper, 0, page).is_zero());
-    assert_eq!(&rt; pages.fill(&mut zero, 0), Ok(1));
-    assert_eq!(&rt; pages.fill(&mut one, 0), Ok(1));
-    assert!(&rt; zero.holds(0) && one.holds(0));
-    let answers = touch_in_turn(&pages, &mut keeper, &mut zero, &mut one, five, seven);
-    let in_order = [touched(0, five), touched(1, five), touched(2, seven)];
-    assert_eq!(&rt; answers, Ok(in_order));
+    assert!(&rt; enters_first_binding(&pages, &mut zero));
+    assert!(&rt; enters_first_binding(&pages, &mut one));
+    let sum = Touched {
+        ticket: 0,
+        word: five,
+    };
+    assert!(&rt; touches_as_expected(&pages, &mut zero, Touch::Add(3, five), sum));
+    let read = Touched {
+        ticket: 1,
+        word: five,
+    };
+    assert!(&rt; touches_as_expected(&pages, &mut one, Touch::Get(3), read));
+    pages.close_door(&mut keeper, 0);
+    let put = Touched {
+        ticket: 2,
+        word: seven,
+    };
+    assert!(&rt; touches_as_expected(&pages, &mut zero, Touch::Put(3, seven), put));
     assert_eq!(&rt; pages.raise(&mut keeper), 1);
     assert!(&rt; !keeper.may_bind(0));
     rest(&pages, &mut zero);
@@ -315,8 +355,7 @@ fn binds_touches_and_binds_anew(rt: HostRuntime) -> Result<(), NoMemory> {
     used.set(3, Word::ZERO);
     assert!(&rt; used.is_zero());
     assert_eq!(&rt; pages.fill(&mut zero, 0), Ok(2));
-    let passes = gather(rt.alloc(), &pages, zero, one).expect(&rt, "a row of two");
-    let ended = pages.close(keeper, passes);
+    let ended = close_row(rt.alloc(), pages, keeper, zero, one).expect(&rt, "a row of two");
     assert_eq!(&rt; ended.pages.len(), 1);
     assert!(&rt; ended.pages[0].is_zero());
     Ok(())
