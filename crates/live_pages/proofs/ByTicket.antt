@@ -9,7 +9,7 @@ use Rattle.live_doors.specs.declared.views.Watch.{Watch}
 use Rattle.live_pages.specs.declared.touch.Made.{Made}
 use Rattle.live_pages.specs.declared.touch.Bound.{Bound}
 use Rattle.live_pages.specs.declared.views.Part.{Part}
-use Rattle.live_pages.specs.declared.views.Part.TheVariants.{Out, In}
+use Rattle.live_pages.specs.declared.views.Part.TheVariants.{Out}
 use Rattle.live_pages.specs.declared.views.Holder.{Holder}
 use Rattle.live_pages.specs.Touches.{answer, Given, page_given, is_of, touched_if, after, IsLegal, AreBelow, mine, mine_if, with_ticket, by_ticket, touching, after_all, AreOfOneThread}
 use Rattle.live_pages.specs.Turns.{current}
