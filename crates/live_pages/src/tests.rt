@@ -295,6 +295,13 @@ fn touches_as_expected(pages: &LivePages, pass: &mut Pass, t: Touch, expected: T
     done == expected
 }
 
+// What a touch is answered.
+fn answered(ticket: u64, word: Word) -> Touched
+    ensures { result ≡ record { ticket = ticket; word = word } }
+{
+    Touched { ticket, word }
+}
+
 // Closes the pages of the row, whose touches are then seen in order of ticket.
 fn close_row(
     alloc: Global,
@@ -328,21 +335,12 @@ fn binds_touches_and_binds_anew(rt: HostRuntime) -> Result<(), NoMemory> {
     assert!(&rt; pages.bind(&mut keeper, 0, page).is_zero());
     assert!(&rt; enters_first_binding(&pages, &mut zero));
     assert!(&rt; enters_first_binding(&pages, &mut one));
-    let sum = Touched {
-        ticket: 0,
-        word: five,
-    };
+    let sum = answered(0, five);
     assert!(&rt; touches_as_expected(&pages, &mut zero, Touch::Add(3, five), sum));
-    let read = Touched {
-        ticket: 1,
-        word: five,
-    };
+    let read = answered(1, five);
     assert!(&rt; touches_as_expected(&pages, &mut one, Touch::Get(3), read));
     pages.close_door(&mut keeper, 0);
-    let put = Touched {
-        ticket: 2,
-        word: seven,
-    };
+    let put = answered(2, seven);
     assert!(&rt; touches_as_expected(&pages, &mut zero, Touch::Put(3, seven), put));
     assert_eq!(&rt; pages.raise(&mut keeper), 1);
     assert!(&rt; !keeper.may_bind(0));
