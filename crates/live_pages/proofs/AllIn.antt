@@ -1,10 +1,11 @@
 -- What the end hands out.
-use Rattle.std.proofs.Common.{◌≡◌, ◌≢◌, ℕ, suc, zero, ◌+◌, ◌<◌, ◌≤◌, List, [], ◌∷◌, ◌++◌, length, Option, Some, None, refl, sym, ap, subst, ◌∙◌, arith, get_or, set, Bool, false, IsTrue, option_to_list}
+use Rattle.std.proofs.Common.{◌≡◌, ◌≢◌, ℕ, suc, zero, ◌+◌, ◌<◌, ◌≤◌, List, [], ◌∷◌, ◌++◌, length, Option, Some, None, refl, sym, ap, subst, ◌∙◌, arith, get_or, set, Bool, false, IsTrue, option_to_list, All}
 use mathlib.Core.Logic.{dite}
 use mathlib.Core.Option as M
 use native.Mathlib.Decide.{ℕ_discrete}
 use lib.ListN.{get_elem?}
 use Rattle.std.proofs.lemmas.List.{get_or-set_same, get_or-set_other, length-set, length-append, get_or-append-add, get_or_append_left}
+use Rattle.std.proofs.lemmas.List.Elements.{All-append}
 use Rattle.std.proofs.lemmas.Option.{none-some}
 use Rattle.atomic_table.specs.Table.{Final, Seen, Splits, Joins}
 use Rattle.live_pages.specs.declared.rule.Held.{Held}
@@ -16,8 +17,11 @@ use Rattle.live_pages.specs.declared.views.Holder.{Holder}
 use Rattle.live_pages.specs.declared.views.View.{View}
 use Rattle.live_pages.specs.declared.views.View.TheVariants.{Passing, Keeping, Spent}
 use Rattle.live_pages.specs.Turns.{Seat, first_holder, holder_of, walker_of, shown, taken_in}
-use Rattle.live_pages.specs.Kept.{AllIn, EndIsLegal, EndsAsOneThread}
+use Rattle.live_pages.specs.Touches.{page_given}
+use Rattle.live_pages.specs.Kept.{AllIn}
+use Rattle.live_pages.specs.Ending.{ended_bindings, last_bindings, all_bindings, IsLeftAfterAll, IsOfOneThread, EndIsLegal}
 use Rattle.live_pages.specs.Models.{PagesModel, PassModel, KeeperModel, AreAll, HavePages, taking_in, taking_all_in}
+use Rattle.live_pages.proofs.ByTicket.{last_are_left}
 use Rattle.live_pages.proofs.Quiet.{InOrder}
 use Rattle.live_pages.proofs.Ends.{takes_in, shows, all_in_is_legal}
 
@@ -76,26 +80,25 @@ module _ (z : Size) (id : ℕ) (m : Seat) where
 -- each slot has a page
 pub slots_held : (frames cpus : ℕ) (k : Holder) (slots : List (Option Held)) → AtEnd frames cpus k slots
     → (f : ℕ) → f < frames → (h : Held) × (get_elem? slots f ≡ M.some (Some h))
-slots_held frames cpus k slots (homes, legal, home) f inside = let there = legal.3 f inside in (there.0, home f (Some there.0) there.1)
+slots_held frames cpus k slots (homes, legal, home) f inside = let there = legal.2 f inside in (there.0, home f (Some there.0) there.1)
 
 held_of : Held → M.Option (Option Held) → Held
 held_of d M.none = d
 held_of d (M.some None) = d
 held_of d (M.some (Some h)) = h
 
--- and the pages handed out are as one thread would have them
-pub ends_as_one : (frames cpus : ℕ) (k : Holder) (slots : List (Option Held)) (pages : List (List ℕ)) → AtEnd frames cpus k slots
-    → length pages ≡ frames → HavePages slots pages → EndsAsOneThread frames cpus pages k
+-- and the pages handed out are those of their bindings
+pub pages_left : (frames cpus : ℕ) (k : Holder) (slots : List (Option Held)) (pages : List (List ℕ)) → AtEnd frames cpus k slots → length pages ≡ frames → HavePages slots pages → All (IsLeftAfterAll k) (all_bindings pages k)
 unfolding held_of
-ends_as_one frames cpus k slots pages (homes, legal, home) count have = (
-  legal.0,
-  legal.1,
-  legal.2,
-  λ f inside.
-      let there = legal.3 f inside in
-      let got = have f (omega arith) in
-      got.2 ∙ ap (λ h. h.page) (ap (held_of got.0) (sym got.1 ∙ home f (Some there.0) there.1)) ∙ there.2,
-)
+pages_left frames cpus k slots pages (homes, legal, home) count have =
+    All-append (IsLeftAfterAll k) (ended_bindings (page_given k.ended) k.ended) (last_bindings (length pages) pages k) legal.1
+    (last_are_left (length pages) pages k (λ f inside.
+    let there = legal.2 f (omega arith) in
+    let got = have f inside in
+    got.2 ∙ ap (λ h. h.page) (ap (held_of got.0) (sym got.1 ∙ home f (Some there.0) there.1)) ∙ there.2))
+
+pub told_at_end : (frames cpus : ℕ) (k : Holder) (slots : List (Option Held)) → AtEnd frames cpus k slots → IsOfOneThread cpus k
+told_at_end frames cpus k slots (homes, legal, home) = legal.0
 
 -- one pass was taken in
 pub taking_goes_on : (all now next : KeeperModel) (items left : List PassModel) (o : Option PassModel) (p : PassModel) → items ≡ left ++ option_to_list o → o ≡ Some p → next ≡ record now { holder = taking_in p now.holder }

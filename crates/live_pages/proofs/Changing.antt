@@ -1,9 +1,10 @@
 -- The steps that change a page: a touch draws its ticket, and a frame is bound anew.
-use Rattle.std.proofs.Common.{◌≡◌, ◌≢◌, ℕ, suc, ◌+◌, ◌*◌, ◌/◌, ◌%◌, ◌^◌, ◌<◌, ◌≤◌, List, [], ◌∷◌, length, Option, Some, None, refl, sym, ap, subst, ◌∙◌, arith, get_or, set, inl, inr, ⊎_elim}
+use Rattle.std.proofs.Common.{◌≡◌, ◌≢◌, ℕ, suc, ◌+◌, ◌*◌, ◌/◌, ◌%◌, ◌^◌, ◌<◌, ◌≤◌, cond, eqb, ◌&&◌, List, [], ◌∷◌, length, Option, Some, None, refl, sym, ap, subst, ◌∙◌, arith, get_or, set, inl, inr, ⊎_elim}
 use mathlib.Core.Logic.{dite}
 use mathlib.Core.Option as M
 use native.Mathlib.Decide.{ℕ_discrete}
 use lib.ListN.{get_elem?}
+use Rattle.std.proofs.lemmas.Bool.{eq-eqb, ne_eqb}
 use Rattle.std.proofs.lemmas.List.{get_or-set_same, get_or-set_other, length-set}
 use Rattle.atomic_table.specs.Table.{Me, step, keeps, Allows}
 use Rattle.atomic_table.proofs.Lists.{set_else}
@@ -16,6 +17,7 @@ use Rattle.live_doors.proofs.Keeps.{seats_stay}
 use Rattle.live_pages.specs.declared.rule.Held.{Held}
 use Rattle.live_pages.specs.declared.rule.Size.{Size}
 use Rattle.live_pages.specs.declared.touch.Made.{Made}
+use Rattle.live_pages.specs.declared.touch.Bound.{Bound}
 use Rattle.live_pages.specs.declared.views.Hand.{Hand}
 use Rattle.live_pages.specs.declared.views.Hand.TheVariants.{Free, Has}
 use Rattle.live_pages.specs.declared.views.Part.TheVariants.{Out, In}
@@ -23,7 +25,7 @@ use Rattle.live_pages.specs.declared.views.Walker.{Walker}
 use Rattle.live_pages.specs.declared.views.Holder.{Holder}
 use Rattle.live_pages.specs.declared.views.View.{View}
 use Rattle.live_pages.specs.declared.views.View.TheVariants.{Passing, Keeping, Spent}
-use Rattle.live_pages.specs.Touches.{touched, answer, Given, after, mine}
+use Rattle.live_pages.specs.Touches.{touched, answer, Given, ended_of, after, mine}
 use Rattle.live_pages.specs.Turns.{turn_at, ticket_at, current, hand_of, binding_in, binding_at, having_made, page_of, admitted, bound_anew, Draws, Binds}
 use Rattle.live_pages.specs.Kept.{BookOk, HandOk, HoldsHand, SeatOk}
 use Rattle.live_pages.proofs.Replay.{own_below, regiven_here, after_here, after_frame, after_else, after_next, regiven, regiven_binding, legal_next, left_next, bindings_stay, left_stays, left_touched, mine_here, mine_else, tickets_fit}
@@ -60,6 +62,9 @@ module _ (frames cpus : ℕ) (words : List ℕ) where
               (λ (other : e.cpu ≢ c). let l = ap (λ xs. length xs) (mine_else c e log other) in let f' = b.few c in omega arith);
           left = left_touched given plan.watch log plan.ended e binding b.left;
           zeros = b.zeros;
+          given_is = b.given_is;
+          in_turn = b.in_turn;
+          last = b.last;
           unmade = λ c above. (mine_else c e log (λ is. omega arith) ∙ (b.unmade c above).0, (b.unmade c above).1);
           taken_in = λ c made part. dite (ℕ_discrete e.cpu c)
               (λ (same : e.cpu ≡ c). absurd (out_in made (sym (ap (λ k. get_or plan.parts k Out) same) ∙ out) part))
@@ -206,6 +211,12 @@ module _ (frames cpus : ℕ) (words : List ℕ) (w : Watch) (f : ℕ) (inside : 
   pub current_up : (g : ℕ) → current w g ≤ current (admitted f w) g
   current_up g = dite (ℕ_discrete g f) (λ (same : g ≡ f). subst (λ j. current w j ≤ current (admitted f w) j) (sym same) (subst (λ j. current w f ≤ j) (sym current_next) (omega arith))) (λ (other : g ≢ f). subst (λ j. current w g ≤ j) (sym (current_else g other)) (omega arith))
 
+  pub last_next : (b : Bound) (bs : List Bound) → b.frame ≡ f → ((g : ℕ) → current w g ≡ ended_of g bs) → (g : ℕ) → current (admitted f w) g ≡ ended_of g (b ∷ bs)
+  last_next b bs here last g =
+      dite (ℕ_discrete g f)
+      (λ (same : g ≡ f). subst (λ j. current (admitted f w) j ≡ ended_of j (b ∷ bs)) (sym same) (current_next ∙ ap (λ x. x + 1) (last f) ∙ ap (λ t. cond t (ended_of f bs + 1) (ended_of f bs)) (sym (eq-eqb b.frame f here))))
+      (λ (other : g ≢ f). current_else g other ∙ last g ∙ ap (λ t. cond t (ended_of g bs + 1) (ended_of g bs)) (sym (ne_eqb b.frame g (λ e. other (sym e ∙ here)))))
+
   pub plan_admitted : PlanOk frames cpus (set words (door_at f) (2 * (get_or w.doors f 0 / 2 + 1))) (admitted f w)
   plan_admitted = let n : ℕ = 2 * (get_or w.doors f 0 / 2 + 1) in record {
     room = (let l = length-set words (door_at f) n in let r = k.room in omega arith);
@@ -276,6 +287,9 @@ module _ (z : Size) where
               sym (regiven_here f (current k.watch f + 1) hd.page h.given),
             );
             zeros = λ g. regiven_binding f (current k.watch f + 1) hd.page h.given g 0 (λ e. omega arith) ∙ book.zeros g;
+            given_is = λ g b. ap (cond (eqb g f && eqb b (current k.watch f + 1)) hd.page) (book.given_is g b);
+            in_turn = (book.in_turn, book.last f);
+            last = last_next z.frames z.cpus s.words k.watch f inside book.plan_ok record { frame = f; binding = current k.watch f; left = page_of k.hand; next = hd.page } k.ended refl book.last;
             unmade = book.unmade;
             taken_in = book.taken_in;
           };

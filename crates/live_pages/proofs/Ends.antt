@@ -7,7 +7,7 @@ use lib.ListN.{get_elem?}
 use Rattle.std.proofs.lemmas.List.{length-replicate, length-append, get_or-replicate, get_or_append_left, get_or-append-add, get_or-set_same, get_or-set_other, length-set}
 use Rattle.atomic_table.specs.Table.{Splits, Joins}
 use Rattle.atomic_table.proofs.Lists.{set_again, at_set, set_else, at_map}
-use Rattle.live_doors.specs.Doors.{blank, HasNoted, MayBind}
+use Rattle.live_doors.specs.Doors.{blank, first_watch, HasNoted, MayBind}
 use Rattle.live_doors.specs.Steps.{door_at, ack_at, first_words}
 use Rattle.live_doors.specs.Kept.{PassOk}
 use Rattle.live_doors.proofs.Plain.{plan_admits, pass_admits, blank_ok}
@@ -22,11 +22,13 @@ use Rattle.live_pages.specs.declared.views.Walker.{Walker}
 use Rattle.live_pages.specs.declared.views.Holder.{Holder}
 use Rattle.live_pages.specs.declared.views.View.{View}
 use Rattle.live_pages.specs.declared.views.View.TheVariants.{Passing, Keeping, Spent}
-use Rattle.live_pages.specs.Touches.{Given, after, mine}
+use Rattle.live_pages.specs.Touches.{Given, page_given, after, mine}
 use Rattle.live_pages.specs.Turns.{first_holder, opening_words, keeper_with_pass, pass_of_keeper, taken_in, turn_at, current, hand_of, watching, binding_in}
-use Rattle.live_pages.specs.Kept.{IsClearOf, BookOk, SlotsOk, HandOk, SeatOk, Kept, AllIn, AllInIsLegal, EntryIsCurrent, MayBindHasNoHolder}
+use Rattle.live_pages.specs.Kept.{IsClearOf, BookOk, SlotsOk, HandOk, SeatOk, Kept, AllIn, EntryIsCurrent, MayBindHasNoHolder}
+use Rattle.live_pages.specs.Ending.{AllInIsLegal}
 use Rattle.live_pages.proofs.Replay.{bindings_stay, left_stays}
 use Rattle.live_pages.proofs.Changing.{entry_is_current}
+use Rattle.live_pages.proofs.ByTicket.{pages_are, all_of_one_thread, all_ended_left}
 use Rattle.live_pages.proofs.Quiet.{set_at, InOrder}
 use Rattle.live_pages.proofs.Turning.{put, put_here, put_else, free_has, holder_stands}
 
@@ -41,6 +43,11 @@ at_longer : {V : Type 0} (l m : List V) (j : ℕ) (a : V) → get_elem? l j ≡ 
 at_longer [] m j a e = absurd (M.some-ne-none a (sym e))
 at_longer (x ∷ xs) m zero a e = e
 at_longer (x ∷ xs) m (suc j) a e = at_longer xs m j a e
+
+none_ended : (frames cpus f : ℕ) → current (first_watch frames cpus 1) f ≡ 0
+none_ended zero cpus f = refl
+none_ended (suc frames) cpus zero = refl
+none_ended (suc frames) cpus (suc f) = none_ended frames cpus f
 
 module _ (z : Size) where
   -- the keeper makes the pass of the next processor
@@ -68,6 +75,9 @@ module _ (z : Size) where
           few = book.few;
           left = left_stays h.given k.watch k'.watch h.log k.ended (λ f. omega arith) book.left;
           zeros = book.zeros;
+          given_is = book.given_is;
+          in_turn = book.in_turn;
+          last = book.last;
           unmade = λ c above. book.unmade c (omega arith);
           taken_in = book.taken_in;
         };
@@ -140,6 +150,9 @@ module _ (z : Size) where
           few = book.few;
           left = book.left;
           zeros = book.zeros;
+          given_is = book.given_is;
+          in_turn = book.in_turn;
+          last = book.last;
           unmade = λ c above. ((book.unmade c above).0, get_or-set_other k.parts q.walk.cpu c (In q.made) Out (λ e. omega arith) ∙ (book.unmade c above).1);
           taken_in = λ c list part. dite (ℕ_discrete c q.walk.cpu)
               (λ (same : c ≡ q.walk.cpu).
@@ -281,6 +294,9 @@ module _ (z : Size) where
       few = λ c. omega arith;
       left = tt;
       zeros = λ f. refl;
+      given_is = λ f b. refl;
+      in_turn = tt;
+      last = none_ended z.frames z.cpus;
       unmade = λ c above. (refl, all_out z.cpus c);
       taken_in = λ c list part. absurd (out_in list (all_out z.cpus c) part);
     };
@@ -323,12 +339,15 @@ no_turn_left z words homes views seat k h at free all f inside busy =
 pub all_in_is_legal : AllInIsLegal
 all_in_is_legal z words homes views seat k h at free all =
     let own = h.seats_ok seat (Keeping k) at in
-    let book : BookOk z.frames z.cpus words k h.given h.log = subst (λ p. BookOk z.frames z.cpus words p h.given h.log) (sym own.1) h.book_ok in (
-      h.given,
-      h.log,
-      record { legal = book.legal; bindings = book.bindings; own = λ cpu made part. book.taken_in cpu made part; left = book.left; zeros = book.zeros },
+    let as_known : BookOk z.frames z.cpus words k h.given h.log = subst (λ p. BookOk z.frames z.cpus words p h.given h.log) (sym own.1) h.book_ok in
+    let given : h.given ≡ page_given k.ended = λ i f b. as_known.given_is f b i in
+    let book : BookOk z.frames z.cpus words k (page_given k.ended) h.log = subst (λ g. BookOk z.frames z.cpus words k g h.log) given as_known in (
+      all_of_one_thread z.frames z.cpus words k h.log book all,
+      all_ended_left z.frames z.cpus words k h.log book all,
       λ f inside. dite (ℕ_discrete (get_or words (turn_at z.frames z.cpus f) 0) 0)
-          (λ (zero_word : get_or words (turn_at z.frames z.cpus f) 0 ≡ 0). let slot = h.slots_ok f inside zero_word in (slot.0, slot.1, slot.2 ∙ ap (λ p. after h.given f (current p.watch f) h.log) (sym own.1)))
+          (λ (zero_word : get_or words (turn_at z.frames z.cpus f) 0 ≡ 0).
+          let slot = h.slots_ok f inside zero_word in
+          (slot.0, slot.1, slot.2 ∙ ap (λ p. after h.given f (current p.watch f) h.log) (sym own.1) ∙ ap (λ (g : Given). after g f (current k.watch f) h.log) given ∙ sym (pages_are z.frames z.cpus words k h.log book all f (current k.watch f))))
           (λ (busy : get_or words (turn_at z.frames z.cpus f) 0 ≢ 0). absurd (no_turn_left z words homes views seat k h at free all f inside busy)),
     )
 

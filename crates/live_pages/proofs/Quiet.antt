@@ -55,6 +55,9 @@ module _ (frames cpus : ℕ) (words words' : List ℕ) (given : Given) (log : Li
     few = b.few;
     left = left_stays given plan.watch w log plan.ended (λ f. le_of_same (same f)) b.left;
     zeros = b.zeros;
+    given_is = b.given_is;
+    in_turn = b.in_turn;
+    last = λ f. same f ∙ b.last f;
     unmade = λ c above. b.unmade c (subst (λ m. m ≤ c) made above);
     taken_in = b.taken_in;
   }

@@ -130,7 +130,7 @@ below_more : (n m : ℕ) (es : List Made) → n ≤ m → AreBelow n es → AreB
 below_more n m [] up ok = tt
 below_more n m (e ∷ es) up ok = (below_more n m es up ok.0, lt_both up ok.1)
 
-all_below : (given : Given) (log : List Made) → IsLegal given log → AreBelow (length log) log
+pub all_below : (given : Given) (log : List Made) → IsLegal given log → AreBelow (length log) log
 all_below given [] legal = tt
 all_below given (e ∷ es) legal = (below_more (length es) (suc (length es)) es (omega arith) (all_below given es legal.0), (let t = legal.2 in omega arith))
 
@@ -146,7 +146,7 @@ pub own_below : (given : Given) (log made : List Made) (n cpu : ℕ) → IsLegal
 own_below given log made n cpu legal own count = subst (λ (x : ℕ × List Made). AreBelow x.0 x.1) (λ i. (sym count i, sym own i)) (mine_below (length log) cpu log (all_below given log legal))
 
 -- how many touches are of the first n processors
-abbrev count_below : ℕ → List Made → ℕ
+abbrev pub count_below : ℕ → List Made → ℕ
 count_below zero es = 0
 count_below (suc n) es = count_below n es + length (mine n es)
 
@@ -164,7 +164,7 @@ count_more (suc n) e es =
       λ l. let a = before.1 (omega arith) in let b = ap (λ xs. length xs) (mine_else n e es (λ same. omega arith)) in omega arith,
     )
 
-count_all : (cpus : ℕ) (plan : Watch) (es : List Made) → AreOfBindings cpus plan es → count_below cpus es ≡ length es
+pub count_all : (cpus : ℕ) (plan : Watch) (es : List Made) → AreOfBindings cpus plan es → count_below cpus es ≡ length es
 count_all cpus plan [] ok = count_none cpus
 count_all cpus plan (e ∷ es) ok = let a = (count_more cpus e es).0 ok.1 in let b = count_all cpus plan es ok.0 in omega arith
 

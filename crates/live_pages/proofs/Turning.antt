@@ -94,6 +94,9 @@ module _ (frames cpus : ℕ) (words : List ℕ) where
       few = b.few;
       left = b.left;
       zeros = b.zeros;
+      given_is = b.given_is;
+      in_turn = b.in_turn;
+      last = b.last;
       unmade = b.unmade;
       taken_in = b.taken_in;
     }

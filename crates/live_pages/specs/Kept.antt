@@ -18,7 +18,7 @@ use Rattle.live_pages.specs.declared.views.Walker.{Walker}
 use Rattle.live_pages.specs.declared.views.Holder.{Holder}
 use Rattle.live_pages.specs.declared.views.View.{View}
 use Rattle.live_pages.specs.declared.views.View.TheVariants.{Passing, Keeping, Spent}
-use Rattle.live_pages.specs.Touches.{Given, after, IsLegal, mine}
+use Rattle.live_pages.specs.Touches.{Given, page_given, ended_of, AreInTurn, after, IsLegal, mine}
 use Rattle.live_pages.specs.Turns.{turn_at, ticket_at, current, hand_of}
 
 -- each touch is by a processor that there is, of a binding that its frame has had
@@ -43,6 +43,9 @@ pub record BookOk (frames cpus : ℕ) (words : List ℕ) (plan : Holder) (given 
   pub few : (cpu : ℕ) → length (mine cpu log) ≤ 2 ^ 32
   pub left : HaveLeft given plan.watch log plan.ended
   pub zeros : (f : ℕ) → given f 0 ≡ replicate 1024 0
+  pub given_is : (f b : ℕ) → given f b ≡ page_given plan.ended f b
+  pub in_turn : AreInTurn plan.ended
+  pub last : (f : ℕ) → current plan.watch f ≡ ended_of f plan.ended
   pub unmade : (cpu : ℕ) → plan.watch.made ≤ cpu → (mine cpu log ≡ []) × (slice_index_or plan.parts cpu Out ≡ Out)
   pub taken_in : (cpu : ℕ) (made : List Made) → slice_index_or plan.parts cpu Out ≡ In made → made ≡ mine cpu log
 
@@ -97,35 +100,6 @@ pub record Kept (z : Size) (words : List ℕ) (homes : List (M.Option (Option He
 -- the touches of every processor were taken in
 abbrev pub AllIn : ℕ → Holder → Type 0
 AllIn cpus k = (cpu : ℕ) → cpu < cpus → (made : List Made) × (slice_index_or k.parts cpu Out ≡ In made)
-
--- These touches, the last one first, are all that were made, and are as one thread would have made them, each binding having
--- been given this page.
-pub record IsHistoryOf (cpus : ℕ) (k : Holder) (given : Given) (log : List Made) : Type 0 where
-  -- the tickets are the numbers below the count of touches, each once, and each word is that of its binding's page
-  pub legal : IsLegal given log
-  -- each touch is by a processor that there is, of a binding that its frame has had
-  pub bindings : AreOfBindings cpus k.watch log
-  -- each processor's touches are exactly its own, in order
-  pub own : (cpu : ℕ) (made : List Made) → slice_index_or k.parts cpu Out ≡ In made → made ≡ mine cpu log
-  -- each page that was handed out is its binding's page after that binding's touches, and each binding was given its page
-  pub left : HaveLeft given k.watch log k.ended
-  -- binding 0 of each frame has the page of zeros
-  pub zeros : (f : ℕ) → given f 0 ≡ replicate 1024 0
-
--- there is such a list of touches, and the page in each slot is that of its frame's binding after that binding's touches
-abbrev pub EndIsLegal : ℕ → ℕ → List (M.Option (Option Held)) → Holder → Type 0
-EndIsLegal frames cpus homes k = (given : Given) × (log : List Made) × IsHistoryOf cpus k given log
-    × ((f : ℕ) → f < frames → (h : Held) × (get_elem? homes f ≡ M.some (M.some (Some h))) × (h.page ≡ after given f (current k.watch f) log))
-
--- there is such a list of touches, and each page left is that of its frame's binding after that binding's touches
-abbrev pub EndsAsOneThread : ℕ → ℕ → List (List ℕ) → Holder → Type 0
-EndsAsOneThread frames cpus pages k = (given : Given) × (log : List Made) × IsHistoryOf cpus k given log
-    × ((f : ℕ) → f < frames → slice_index_or pages f [] ≡ after given f (current k.watch f) log)
-
--- Once the keeper has taken every pass in, the end is legal.
-abbrev pub AllInIsLegal : Type 0
-AllInIsLegal = (z : Size) (words : List ℕ) (homes : List (M.Option (Option Held))) (views : List View) (seat : ℕ) (k : Holder) → Kept z words homes views → get_elem? views seat ≡ M.some (Keeping k) → k.hand ≡ Free → AllIn z.cpus k
-    → EndIsLegal z.frames z.cpus homes k
 
 -- The binding that a pass's entry names is the frame's at that moment.
 abbrev pub EntryIsCurrent : Type 0

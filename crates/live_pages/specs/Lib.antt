@@ -1,4 +1,5 @@
 pub mod Touches
 pub mod Turns
 pub mod Kept
+pub mod Ending
 pub mod Models

@@ -5,7 +5,7 @@ ghost use mathlib.Core.Option.{some};
 ghost use lib.ListN.{get_elem?};
 ghost use Rattle.live_pages.specs.declared.rule.Held.{Held};
 ghost use Rattle.live_pages.specs.Models.{IsPassOf, IsKeeperOf, AreAll, HavePages, taking_in, taking_all_in};
-ghost use Rattle.live_pages.specs.Kept.{EndsAsOneThread};
+ghost use Rattle.live_pages.specs.Ending.{IsOfOneThread, IsLeftAfterAll, all_bindings};
 
 use crate::keeper::Keeper;
 use crate::pages::LivePages;
@@ -25,9 +25,9 @@ pub struct Ended {
     pub shown: Shown,
 }
 
-/// The last seat of the table, into which all passes were taken. It is seen as what its keeper knew: the touches of each
-/// processor, each with its ticket, and each binding that ended, with the page that it left and the page that the next
-/// one was given.
+/// The last seat of the table, into which all passes were taken. It is seen as what its keeper knew. From that `in_order`
+/// has all touches in order of ticket, and `all_bindings` each binding with the page that it was given and the page that
+/// was handed out at its end or is left.
 #[derive(Drop)]
 pub struct Shown {
     seat: Place,
@@ -79,9 +79,9 @@ impl LivePages {
     }
 
     /// Takes keeper and passes in, and ends the pages: each frame's page is handed out, and all is as one thread would
-    /// have it. There is one list of touches, in which the tickets are the numbers below its length, each once. In
-    /// their order each touch's word is that of its binding's page. Each pass's touches are exactly its own, in order.
-    /// Each page that a bind handed out, and each page left, is its binding's page after that binding's touches.
+    /// have it that made all touches in order of ticket. The tickets are the numbers from 0 on, each once. Each touch's
+    /// word is that of its binding's page at that moment. Each pass's touches are exactly its own, in order. Each page
+    /// that a bind handed out, and each page left, is the one that its binding was given after that binding's touches.
     ///
     /// Walks over the passes and the frames; takes no memory. Source: own.
     pub fn close(self, mut keeper: Keeper, passes: Vec<Pass>) -> Ended
@@ -90,7 +90,8 @@ impl LivePages {
         requires all { AreAll self passes.items }
         ensures shown { result.shown ≡ taking_all_in passes.items keeper.holder }
         ensures count { length result.pages.items ≡ self.frames }
-        ensures as_one_thread { EndsAsOneThread self.frames self.cpus result.pages.items result.shown }
+        ensures one_thread { IsOfOneThread self.cpus result.shown }
+        ensures left { All (IsLeftAfterAll result.shown) (all_bindings result.pages.items result.shown) }
     {
         self.take_all_in(&mut keeper, passes);
         let shown = self.show(&mut keeper);

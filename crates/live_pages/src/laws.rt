@@ -1,10 +1,11 @@
 //! The laws of pages behind doors. Each function is its contract, and has no code.
-ghost use Rattle.live_pages.specs.Kept.{AllInIsLegal, EntryIsCurrent, MayBindHasNoHolder};
+ghost use Rattle.live_pages.specs.Ending.{AllInIsLegal};
+ghost use Rattle.live_pages.specs.Kept.{EntryIsCurrent, MayBindHasNoHolder};
 
-/// Wherever the rule holds, and the keeper has taken every pass in, there is one list of touches by which all is as one
-/// thread would have it: the tickets are the numbers below its length, each once; in their order each touch's word is
-/// that of its binding's page; each processor's touches are its own, in order; and each page that was handed out or is
-/// left is its binding's page after that binding's touches. Source: own.
+/// Wherever the rule holds, and the keeper has taken every pass in, all is as one thread would have it that made all
+/// touches in order of ticket: the tickets are the numbers from 0 on, each once; each touch's word is that of its
+/// binding's page at that moment; each processor's touches are its own, in order; and each page that was handed out or
+/// is in its slot is the one that its binding was given after that binding's touches. Source: own.
 pub fn all_in_is_legal()
     ensures { AllInIsLegal }
 {}

@@ -1,67 +1,18 @@
 //! Tests over the public calls.
-ghost use Rattle.std.specs.Prelude.{◌≡◌, [], ◌∷◌, ℕ, ◌+◌, ◌^◌, ◌<◌, ◌≤◌, All, length, slice_index_or, OnOk, IfSome};
+ghost use Rattle.std.specs.Prelude.{◌≡◌, [], ◌∷◌, ℕ, ◌+◌, ◌^◌, ◌<◌, ◌≤◌, All, length, slice_index_or, None, Some, IsTrue, OnOk, IfSome};
 ghost use Rattle.live_doors.specs.Doors.{IsAdmitted, OnlyNoted};
 ghost use Rattle.live_pages.specs.Turns.{current};
+ghost use Rattle.live_pages.specs.Touches.{place_of};
+ghost use Rattle.live_pages.specs.Ending.{in_order};
+ghost use Rattle.live_pages.specs.declared.touch.Touch.TheVariants.{Get, Put, Add};
 ghost use Rattle.live_pages.specs.Models.{PassModel, IsPassOf, IsKeeperOf, AreAll, first_passes};
 
-use crate::{Keeper, LivePages, NoMemory, Pass, Touch, Touched};
+use crate::{Ended, Keeper, LivePages, NoMemory, Pass, Touch, Touched};
 use mword::{Page, Word};
 use std::alloc::Global;
 use std::sync::atomic::{AtomicBool, AtomicU64, Ordering};
 use std::thread;
 use std::thread::{Threads, join};
-
-#[test]
-fn binds_touches_and_binds_anew(rt: HostRuntime) -> Result<(), NoMemory> {
-    let five = Word::new(5).expect(&rt, "a word");
-    let seven = Word::new(7).expect(&rt, "a word");
-    let (pages, mut keeper, mut passes) = LivePages::new(rt.alloc(), 1, 2)?;
-    let mut one = passes.pop().expect(&rt, "a pass for processor 1");
-    let mut zero = passes.pop().expect(&rt, "a pass for processor 0");
-    let blank = Page::zero(rt.alloc()).ok().expect(&rt, "a page");
-    let other = Page::zero(rt.alloc()).ok().expect(&rt, "a page");
-    assert!(&rt; keeper.may_bind(0));
-    let first = pages.bind(&mut keeper, 0, blank);
-    assert!(&rt; first.is_zero());
-    assert_eq!(&rt; pages.fill(&mut zero, 0), Ok(1));
-    assert_eq!(&rt; pages.fill(&mut one, 0), Ok(1));
-    assert!(&rt; zero.holds(0) && one.holds(0));
-    assert_eq!(&rt;
-        pages.touch(&mut zero, 0, Touch::Add(3, five)),
-        Ok(Touched {
-            ticket: 0,
-            word: five
-        })
-    );
-    assert_eq!(&rt;
-        pages.touch(&mut one, 0, Touch::Get(3)),
-        Ok(Touched {
-            ticket: 1,
-            word: five
-        })
-    );
-    pages.close_door(&mut keeper, 0);
-    assert!(&rt; zero.holds(0));
-    assert_eq!(&rt;
-        pages.touch(&mut zero, 0, Touch::Put(3, seven)),
-        Ok(Touched {
-            ticket: 2,
-            word: seven
-        })
-    );
-    assert_eq!(&rt; pages.raise(&mut keeper), 1);
-    assert!(&rt; !keeper.may_bind(0));
-    pages.forget(&mut zero);
-    pages.acknowledge(&mut zero);
-    pages.forget(&mut one);
-    pages.acknowledge(&mut one);
-    assert_eq!(&rt; pages.all_clear(&mut keeper, 1), Ok(()));
-    assert!(&rt; keeper.may_bind(0));
-    let used = pages.bind(&mut keeper, 0, other);
-    assert_eq!(&rt; used.get(3), seven);
-    assert_eq!(&rt; pages.fill(&mut zero, 0), Ok(2));
-    Ok(())
-}
 
 const ROUNDS: u32 = 40;
 
@@ -309,6 +260,103 @@ fn gather(alloc: Global, pages: &LivePages, zero: Pass, one: Pass) -> Option<Vec
     ensures all { IfSome result (λ passes. AreAll pages.now passes.items) }
 {
     row(alloc, zero, one)
+}
+
+// Enters frame 0, and says whether its first binding was admitted.
+fn enters_first_binding(pages: &LivePages, pass: &mut Pass) -> bool
+    requires pass { IsPassOf pages.now pass.old }
+    requires frame { pages.now.frames ≡ 1 }
+    ensures pass { IsPassOf pages.now pass.new }
+    ensures cpu { pass.new.walker.walk.cpu ≡ pass.old.walker.walk.cpu }
+    ensures made { pass.new.walker.made ≡ pass.old.walker.made }
+    ensures entry { IsTrue result → slice_index_or pass.new.walker.walk.held 0 None ≡ Some 1 }
+{
+    let Ok(binding) = pages.fill(pass, 0) else {
+        return false;
+    };
+    binding == 1
+}
+
+// Touches the first binding of frame 0, and says whether the answer is the one expected.
+fn touches_as_expected(pages: &LivePages, pass: &mut Pass, t: Touch, expected: Touched) -> bool
+    requires pass { IsPassOf pages.now pass.old }
+    requires frame { pages.now.frames ≡ 1 }
+    requires entry { slice_index_or pass.old.walker.walk.held 0 None ≡ Some 1 }
+    requires place { place_of t < 1024 }
+    requires few { length pass.old.walker.made < 2 ^ 32 }
+    ensures pass { IsPassOf pages.now pass.new }
+    ensures cpu { pass.new.walker.walk.cpu ≡ pass.old.walker.walk.cpu }
+    ensures held { pass.new.walker.walk.held ≡ pass.old.walker.walk.held }
+    ensures made { IsTrue result → pass.new.walker.made ≡ record { ticket = expected.ticket; cpu = pass.old.walker.walk.cpu; frame = 0; binding = 1; touch = t; word = expected.word } ∷ pass.old.walker.made }
+{
+    let Ok(done) = pages.touch(pass, 0, t) else {
+        return false;
+    };
+    done == expected
+}
+
+// What a touch is answered.
+fn answered(ticket: u64, word: Word) -> Touched
+    ensures { result ≡ record { ticket = ticket; word = word } }
+{
+    Touched { ticket, word }
+}
+
+// Closes the pages of the row, whose touches are then seen in order of ticket.
+fn close_row(
+    alloc: Global,
+    pages: LivePages,
+    keeper: Keeper,
+    zero: Pass,
+    one: Pass,
+) -> Option<Ended>
+    requires keeper { IsKeeperOf pages keeper }
+    requires passes { IsPassOf pages zero × IsPassOf pages one }
+    requires count { pages.cpus ≡ 2 }
+    requires cpus { (zero.walker.walk.cpu ≡ 0) × (one.walker.walk.cpu ≡ 1) }
+    requires zero { zero.walker.made ≡ record { ticket = 2; cpu = 0; frame = 0; binding = 1; touch = Put 3 7; word = 7 } ∷ record { ticket = 0; cpu = 0; frame = 0; binding = 1; touch = Add 3 5; word = 5 } ∷ [] }
+    requires one { one.walker.made ≡ record { ticket = 1; cpu = 1; frame = 0; binding = 1; touch = Get 3; word = 5 } ∷ [] }
+    ensures count { IfSome result (λ ended. length ended.pages.items ≡ pages.frames) }
+    ensures touches { IfSome result (λ ended. in_order ended.shown ≡ record { ticket = 0; cpu = 0; frame = 0; binding = 1; touch = Add 3 5; word = 5 } ∷ record { ticket = 1; cpu = 1; frame = 0; binding = 1; touch = Get 3; word = 5 } ∷ record { ticket = 2; cpu = 0; frame = 0; binding = 1; touch = Put 3 7; word = 7 } ∷ []) }
+{
+    let passes = gather(alloc, &pages, zero, one)?;
+    Some(pages.close(keeper, passes))
+}
+
+#[test]
+fn binds_touches_and_binds_anew(rt: HostRuntime) -> Result<(), NoMemory> {
+    let five = Word::new(5).expect(&rt, "a word");
+    let seven = Word::new(7).expect(&rt, "a word");
+    let (pages, mut keeper, passes) = LivePages::new(rt.alloc(), 1, 2)?;
+    let (mut zero, mut one) = first_two(&pages, passes).expect(&rt, "two passes");
+    let page = Page::zero(rt.alloc()).ok().expect(&rt, "a page");
+    let next = Page::zero(rt.alloc()).ok().expect(&rt, "a page");
+    assert!(&rt; keeper.may_bind(0));
+    assert!(&rt; pages.bind(&mut keeper, 0, page).is_zero());
+    assert!(&rt; enters_first_binding(&pages, &mut zero));
+    assert!(&rt; enters_first_binding(&pages, &mut one));
+    let sum = answered(0, five);
+    assert!(&rt; touches_as_expected(&pages, &mut zero, Touch::Add(3, five), sum));
+    let read = answered(1, five);
+    assert!(&rt; touches_as_expected(&pages, &mut one, Touch::Get(3), read));
+    pages.close_door(&mut keeper, 0);
+    let put = answered(2, seven);
+    assert!(&rt; touches_as_expected(&pages, &mut zero, Touch::Put(3, seven), put));
+    assert_eq!(&rt; pages.raise(&mut keeper), 1);
+    assert!(&rt; !keeper.may_bind(0));
+    rest(&pages, &mut zero);
+    rest(&pages, &mut one);
+    assert_eq!(&rt; pages.all_clear(&mut keeper, 1), Ok(()));
+    assert!(&rt; keeper.may_bind(0));
+    let mut used = pages.bind(&mut keeper, 0, next);
+    assert_eq!(&rt; used.get(3), seven);
+    used.set(3, Word::ZERO);
+    assert!(&rt; used.is_zero());
+    assert_eq!(&rt; pages.fill(&mut zero, 0), Ok(2));
+    let ended = close_row(rt.alloc(), pages, keeper, zero, one).expect(&rt, "a row of two");
+    assert_eq!(&rt; ended.pages.len(), 1);
+    assert!(&rt; ended.pages[0].is_zero());
+    Ok(())
 }
 
 #[test]

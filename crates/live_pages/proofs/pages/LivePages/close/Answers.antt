@@ -1,7 +1,7 @@
 use Rattle.std.proofs.Common.{ap, sym, subst, ◌∙◌}
 use Rattle.std.specs.Mem.Slots.{slots_items}
 use Rattle.live_pages.specs.Kept.{AllIn}
-use Rattle.live_pages.proofs.AllIn.{all_are_in, ended, slots_held, ends_as_one}
+use Rattle.live_pages.proofs.AllIn.{all_are_in, ended, slots_held, told_at_end, pages_left}
 use Rattle.live_pages.proofs.pages.LivePages.close.Goals as goal
 
 pub take_pages-requires-clause-held : goal.take_pages-requires-clause-held
@@ -11,11 +11,21 @@ take_pages-requires-clause-held c =
     (ended c.self.inside.table.shared.key c.keeper.inside.seat.id c.keeper.inside.seat.me c.self.inside.frames c.args.self.cpus _ _ (slots_items c.close_with-closed.result.slots) c.self.invariant.0 (c.self.invariant.1 ∙ ap (λ v. v.cpus) c.self.view_is) (ap (λ v. v.holder) seen)
     c.keeper.invariant.0 c.keeper.invariant.1 (all_are_in c.args.self c.args.passes.items c.args.keeper.holder c.requires.keeper.parts c.requires.all) c.close_with-closed.ensures.values.2)
 
-pub returns-clause-as_one_thread : goal.returns-clause-as_one_thread
-returns-clause-as_one_thread c =
+pub returns-clause-one_thread : goal.returns-clause-one_thread
+returns-clause-one_thread c =
     let seen = c.keeper.view_is ∙ c.show-shown.ensures.keeper in
     let same = c.show-shown.ensures.shown ∙ ap (λ v. v.holder) c.take_all_in.ensures.taken in
-    ends_as_one c.args.self.frames c.args.self.cpus c.show-shown.result (slots_items c.close_with-closed.result.slots) c.take_pages.new.pages.items
+    told_at_end c.args.self.frames c.args.self.cpus c.show-shown.result (slots_items c.close_with-closed.result.slots)
     (ended c.self.inside.table.shared.key c.keeper.inside.seat.id c.keeper.inside.seat.me c.args.self.frames c.args.self.cpus c.show-shown.result _ (slots_items c.close_with-closed.result.slots) (c.self.invariant.0 ∙ ap (λ v. v.frames) c.self.view_is) (c.self.invariant.1 ∙ ap (λ v. v.cpus) c.self.view_is)
     (ap (λ v. v.holder) seen ∙ sym c.show-shown.ensures.shown) c.keeper.invariant.0 c.keeper.invariant.1
-    (subst (AllIn c.args.self.cpus) (sym same) (all_are_in c.args.self c.args.passes.items c.args.keeper.holder c.requires.keeper.parts c.requires.all)) c.close_with-closed.ensures.values.2) (c.take_pages.ensures.count ∙ ap (λ v. v.frames) c.self.view_is) c.take_pages.ensures.pages
+    (subst (AllIn c.args.self.cpus) (sym same) (all_are_in c.args.self c.args.passes.items c.args.keeper.holder c.requires.keeper.parts c.requires.all)) c.close_with-closed.ensures.values.2)
+
+pub returns-clause-left : goal.returns-clause-left
+returns-clause-left c =
+    let seen = c.keeper.view_is ∙ c.show-shown.ensures.keeper in
+    let same = c.show-shown.ensures.shown ∙ ap (λ v. v.holder) c.take_all_in.ensures.taken in
+    pages_left c.args.self.frames c.args.self.cpus c.show-shown.result (slots_items c.close_with-closed.result.slots) c.take_pages.new.pages.items
+    (ended c.self.inside.table.shared.key c.keeper.inside.seat.id c.keeper.inside.seat.me c.args.self.frames c.args.self.cpus c.show-shown.result _ (slots_items c.close_with-closed.result.slots) (c.self.invariant.0 ∙ ap (λ v. v.frames) c.self.view_is) (c.self.invariant.1 ∙ ap (λ v. v.cpus) c.self.view_is)
+    (ap (λ v. v.holder) seen ∙ sym c.show-shown.ensures.shown) c.keeper.invariant.0 c.keeper.invariant.1
+    (subst (AllIn c.args.self.cpus) (sym same) (all_are_in c.args.self c.args.passes.items c.args.keeper.holder c.requires.keeper.parts c.requires.all)) c.close_with-closed.ensures.values.2)
+    (c.take_pages.ensures.count ∙ ap (λ v. v.frames) c.self.view_is) c.take_pages.ensures.pages
