@@ -40,6 +40,7 @@ pub record Shows (p : Plan) (k : Kept) (s : Store) : Type 0 where
   pub quota : k.quota ≡ record { used = length s.stored; most = p.quota }
   pub records : (v : ℕ) → gauge_at k.records v ≡ record { used = taken_on s.nodes s.stored v; most = records_of p v }
   pub entries : (v : ℕ) → gauge_at k.entries v ≡ record { used = entries_on s.nodes v; most = entries_of p v }
+  pub within : (v : ℕ) → entries_on s.nodes v ≤ entries_of p v
   pub volumes : (length k.records ≡ length p.volumes) × (length k.entries ≡ length p.volumes)
   pub processes : (length k.known ≡ length p.processes) × (length k.places ≡ length p.processes) × (length k.ended ≡ length p.processes)
   pub numbers : (process number : ℕ) → known_uid s.known process number ≡ uid_of_place (known_at k process number)

@@ -1,4 +1,4 @@
-ghost use Rattle.std.specs.Prelude.{◌≡◌, ◌<◌, ◌+◌, length, is_some, slice_get, slice_set, slice_index_or, OnOk, OnErr, option_map, true, Some, None, ◌∷◌, [], ◌++◌};
+ghost use Rattle.std.specs.Prelude.{true, ◌≡◌, ◌<◌, ◌+◌, length, is_some, slice_get, slice_set, slice_index_or, OnOk, OnErr, IfSome, IfNone, Some, None, ◌∷◌, [], ◌++◌};
 ghost use Rattle.script.specs.Plans.{command_at};
 ghost use Rattle.flat_store.specs.Kept.{Kept, seg_at, slot_at, gauge_at, filled, drained, known_at, charged, credited, put_at, put_word, give_up, make_named, with_known, know, know_named, made_of, follow_do, follow_release, kept_after, found_in};
 
@@ -193,16 +193,14 @@ impl Tables {
         &mut self,
         process: u32,
         place: u32,
-        command: Option<&Command>,
+        command: &Command,
         reply: &Reply,
     ) -> Result<(), NoMemory>
-        ensures ok { OnOk result (self.new ≡ follow_do self.old process place (option_map (λ c. c.now) command) reply.now) }
+        ensures ok { OnOk result (self.new ≡ follow_do self.old process place (Some command.now) reply.now) }
         ensures err { OnErr result (self.new ≡ self.old) }
     {
-        if let Some(command) = command {
-            self.take_effect(process, command, reply)?;
-            self.move_on(process, place);
-        }
+        self.take_effect(process, command, reply)?;
+        self.move_on(process, place);
         Ok(())
     }
 
@@ -227,10 +225,10 @@ impl Tables {
                 place,
                 reply,
                 ..
-            } => {
-                let command = command_at(script, *process, *place);
-                self.follow_do(*process, *place, command, reply)
-            }
+            } => match command_at(script, *process, *place) {
+                Some(command) => self.follow_do(*process, *place, command, reply),
+                None => Ok(()),
+            },
             Entry::Release { uid, page } => {
                 self.follow_release(*uid, *page);
                 Ok(())
@@ -242,7 +240,8 @@ impl Tables {
 
 /// The command at a place of a process, if there is one.
 pub(crate) fn command_at(script: &Script, process: u32, place: u32) -> Option<&Command>
-    ensures { option_map (λ c. c.now) result ≡ command_at script.now process place }
+    ensures some { IfSome result (λ c. command_at script.now process place ≡ Some c.now) }
+    ensures none { IfNone result (command_at script.now process place ≡ None) }
 {
     if process >= script.processes() {
         return None;
