@@ -3,4 +3,8 @@ pub mod PageLaws
 pub mod Numbers
 pub mod Replies
 pub mod Shallow
+pub mod Stored
+pub mod Changes
+pub mod Known
+pub mod Made
 pub mod WordLaws

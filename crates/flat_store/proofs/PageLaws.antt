@@ -48,7 +48,7 @@ is_stored-without (x ∷ xs) u p v q = kept (is_page u p x) refl (is_stored-with
     kept true h ih = grind (arith, nat_tests)
     kept false h ih = grind (arith, nat_tests)
 
-once_without : (xs : List (ℕ × ℕ)) (u p : ℕ) → IsOnce xs → IsOnce (without_stored xs u p)
+pub once_without : (xs : List (ℕ × ℕ)) (u p : ℕ) → IsOnce xs → IsOnce (without_stored xs u p)
 unfolding without_stored
 once_without [] u p once = tt
 once_without (x ∷ xs) u p once = kept (is_page u p x) (is_stored-without xs u p x.0 x.1) (once_without xs u p once.1)
