@@ -76,6 +76,7 @@ known_shown p k s process number i h there inside n = record {
   next = h.next;
   most = h.most;
   words = h.words;
+  sizes = h.sizes;
   stored = h.stored;
   none = h.none;
   once = h.once;

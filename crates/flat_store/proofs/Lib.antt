@@ -5,6 +5,7 @@ pub mod Replies
 pub mod Shallow
 pub mod Stored
 pub mod Changes
+pub mod Charged
 pub mod Known
 pub mod Made
 pub mod WordLaws

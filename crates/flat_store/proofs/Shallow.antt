@@ -6,7 +6,7 @@ use Rattle.std.proofs.lemmas.Bool.{cases_eq}
 use Rattle.std.proofs.lemmas.Bool.Decides.{nat_tests}
 use Rattle.std.proofs.lemmas.List.Sums.{sum_by-cons}
 use Rattle.script.specs.Plans.{Plan}
-use Rattle.storage_terms.specs.Tree.{Node, Walk, LeadsTo, Missing, InSegment, node_in, is_branch, branch_in, has_directory, onward, walk_from, walk_in, step_up, above, quota_in, account, account_of, used_by}
+use Rattle.storage_terms.specs.Tree.{Node, Walk, LeadsTo, Missing, InSegment, node_in, is_branch, branch_in, has_directory, onward, walk_from, walk_in, step_up, above, volume_in, quota_in, account, account_of, used_by}
 use Rattle.flat_store.specs.Flat.{root_of}
 use Rattle.flat_store.specs.Kept.{Seg, seg_at, newest_named, found_in}
 use Rattle.flat_store.specs.Shown.{IsSegment, AreNodes}
@@ -38,6 +38,20 @@ has_node p segments (n ∷ m ∷ ns) i h lt = by_place (cases_eq i (length ns)) 
           at = rw other rest.at;
           is = rest.is;
         }
+
+-- the volume of a segment
+pub volume_node : (p : Plan) (segments : List Seg) (nodes : List Node) (i : ℕ) → AreNodes p segments nodes → i + 1 < length nodes → volume_in nodes (i + 2) ≡ (seg_at segments i).volume
+volume_node p segments [] i h lt = absurd (omega arith)
+volume_node p segments (n ∷ []) i h lt = absurd (omega arith)
+volume_node p segments (n ∷ m ∷ ns) i h lt = by_place (cases_eq i (length ns)) (λ less. volume_node p segments (m ∷ ns) i h.1 less)
+  where
+    by_place : (i ≡ length ns) ⊎ (i ≢ length ns) → (i + 1 < length (m ∷ ns) → volume_in (m ∷ ns) (i + 2) ≡ (seg_at segments i).volume) → volume_in (n ∷ m ∷ ns) (i + 2) ≡ (seg_at segments i).volume
+    by_place (inl e) ih =
+        let first : eqb n.uid (i + 2) ≡ true = let is : n.uid ≡ length ns + 2 = h.0.named in grind (arith, nat_tests) in
+        rw first (h.0.place ∙ ap (λ (x : ℕ). (seg_at segments x).volume) (sym e))
+    by_place (inr ne) ih =
+        let other : eqb n.uid (i + 2) ≡ false = let is : n.uid ≡ length ns + 2 = h.0.named in grind (arith, nat_tests) in
+        rw other (ih (omega arith))
 
 -- the root has no directory above it, and each segment has the root alone
 pub above_root : (p : Plan) (segments : List Seg) (nodes : List Node) → AreNodes p segments nodes → above nodes 1 ≡ []

@@ -37,15 +37,16 @@ pub record HasPages (s : Store) (stored : List (ℕ × ℕ)) (i page : ℕ) (o :
   pub once : IsOnce stored
 
 -- the tables with that page changed, and these gauges
-pub slot_shown : (p : Plan) (k : Kept) (s : Store) (i page : ℕ) (o : Option (List ℕ)) (words : Words) (stored : List (ℕ × ℕ)) (quota : Gauge) (records : List Gauge) → Shows p k s → i < length k.segments → page < length (seg_at k.segments i).slots → HasWords s words i page o → HasPages s stored i page o
+pub slot_shown : (p : Plan) (k : Kept) (s : Store) (i page : ℕ) (o : Option (List ℕ)) (words : Words) (stored : List (ℕ × ℕ)) (quota : Gauge) (records : List Gauge) → Shows p k s → i < length k.segments → page < length (seg_at k.segments i).slots → HasWords s words i page o → ((ws : List ℕ) → o ≡ Some ws → length ws ≡ 1024) → HasPages s stored i page o
     → quota ≡ record { used = length stored; most = p.quota } → length records ≡ length p.volumes → ((v : ℕ) → gauge_at records v ≡ record { used = taken_on s.nodes stored v; most = records_of p v })
     → Shows p (record k { segments = with_slot k.segments i page o; quota = quota; records = records }) (record s { words = words; stored = stored })
-slot_shown p k s i page o words stored quota records h there inside w g charge size charges = record {
+slot_shown p k s i page o words stored quota records h there inside w long g charge size charges = record {
   nodes = nodes_alike p k.segments (with_slot k.segments i page o) s.nodes (alike_with k.segments i page o there) h.nodes;
   count = h.count ∙ ap (λ (n : ℕ). n + 1) (sym alike.count);
   next = h.next ∙ ap (λ (n : ℕ). n + 2) (sym alike.count);
   most = λ j. (let few : length (seg_at k.segments j).slots ≤ 256 = h.most j in omega (arith, alike.size j));
   words = λ j q x below low. at_words j q x below low (at_place i page j q);
+  sizes = λ j q ws some. at_sizes j q ws some (at_place i page j q);
   stored = λ j q. at_pages j q (at_place i page j q);
   none = g.none;
   once = g.once;
@@ -77,6 +78,13 @@ slot_shown p k s i page o words stored quota records h there inside w g charge s
         w.rest j q x below low differs
         ∙ h.words j q x below low
         ∙ sym (ap (λ (y : Option (List ℕ)). word_of_slot y x) (slot_other k.segments i page j q o there differs))
+
+    at_sizes : (j q : ℕ) (ws : List ℕ) → slot_at (with_slot k.segments i page o) j q ≡ Some ws → ((j ≡ i) × (q ≡ page)) ⊎ ((j ≢ i) ⊎ (q ≢ page)) → length ws ≡ 1024
+    at_sizes j q ws some (inl e) =
+        long ws (sym (ap (λ (u : ℕ). slot_at (with_slot k.segments i page o) u q) e.0
+        ∙ ap (λ (u : ℕ). slot_at (with_slot k.segments i page o) i u) e.1
+        ∙ slot_same k.segments i page o there inside) ∙ some)
+    at_sizes j q ws some (inr differs) = h.sizes j q ws (sym (slot_other k.segments i page j q o there differs) ∙ some)
 
     at_pages : (j q : ℕ) → ((j ≡ i) × (q ≡ page)) ⊎ ((j ≢ i) ⊎ (q ≢ page)) → is_stored stored (j + 2) q ≡ is_some (slot_at (with_slot k.segments i page o) j q)
     at_pages j q (inl e) =
@@ -176,3 +184,37 @@ pages_without p k s i page h = record {
     turned : (j q : ℕ) → (j ≢ i) ⊎ (q ≢ page) → is_page (i + 2) page (j + 2, q) ≡ false
     turned j q (inl ne) = let other : eqb (j + 2) (i + 2) ≡ false = grind (arith, nat_tests) in rw other refl
     turned j q (inr ne) = let other : eqb q page ≡ false = grind (arith, nat_tests) in rw other (none (eqb (j + 2) (i + 2)))
+
+-- the words alone have changed, and still show what is kept
+pub words_shown : (p : Plan) (k : Kept) (s : Store) (i page : ℕ) (words : Words) → Shows p k s → HasWords s words i page (slot_at k.segments i page) → Shows p k (record s { words = words })
+words_shown p k s i page words h w = record {
+  nodes = h.nodes;
+  count = h.count;
+  next = h.next;
+  most = h.most;
+  words = λ j q x below low. at_words j q x below low (at_place i page j q);
+  sizes = h.sizes;
+  stored = h.stored;
+  none = h.none;
+  once = h.once;
+  quota = h.quota;
+  records = h.records;
+  entries = h.entries;
+  within = h.within;
+  volumes = h.volumes;
+  processes = h.processes;
+  numbers = h.numbers;
+  few = h.few;
+  there = h.there;
+  places = h.places;
+  ended = h.ended;
+}
+  where
+    at_words : (j q x : ℕ) → q < 256 → x < 1024 → ((j ≡ i) × (q ≡ page)) ⊎ ((j ≢ i) ⊎ (q ≢ page)) → word_at words (j + 2) (1024 * q + x) ≡ word_of_slot (slot_at k.segments j q) x
+    at_words j q x below low (inl e) =
+        ap (λ (u : ℕ). word_at words (u + 2) (1024 * q + x)) e.0
+        ∙ ap (λ (u : ℕ). word_at words (i + 2) (1024 * u + x)) e.1
+        ∙ w.here x low
+        ∙ sym (ap (λ (u : ℕ). word_of_slot (slot_at k.segments u q) x) e.0
+        ∙ ap (λ (u : ℕ). word_of_slot (slot_at k.segments i u) x) e.1)
+    at_words j q x below low (inr differs) = w.rest j q x below low differs ∙ h.words j q x below low

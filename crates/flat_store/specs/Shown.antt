@@ -34,6 +34,7 @@ pub record Shows (p : Plan) (k : Kept) (s : Store) : Type 0 where
   pub next : s.next ≡ length k.segments + 2
   pub most : (i : ℕ) → length (seg_at k.segments i).slots ≤ 256
   pub words : (i page o : ℕ) → page < 256 → o < 1024 → word_at s.words (i + 2) (1024 * page + o) ≡ word_of_slot (slot_at k.segments i page) o
+  pub sizes : (i page : ℕ) (words : List ℕ) → slot_at k.segments i page ≡ Some words → length words ≡ 1024
   pub stored : (i page : ℕ) → is_stored s.stored (i + 2) page ≡ is_some (slot_at k.segments i page)
   pub none : (page : ℕ) → (is_stored s.stored 0 page ≡ false) × (is_stored s.stored 1 page ≡ false)
   pub once : IsOnce s.stored
