@@ -1,10 +1,12 @@
 pub mod BookLaws
+pub mod Booted
 pub mod PageLaws
 pub mod Numbers
 pub mod Replies
 pub mod Shallow
 pub mod Stored
 pub mod Changes
+pub mod Followed
 pub mod Charged
 pub mod Known
 pub mod Made

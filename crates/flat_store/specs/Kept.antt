@@ -1,7 +1,8 @@
 -- What the program of the flat store keeps, what it answers by that, and what it makes of it (own).
-use Rattle.std.specs.Prelude.{◌≡◌, ℕ, ◌+◌, ◌-◌, ◌*◌, ◌/◌, ◌%◌, zero, suc, Bool, true, false, ◌&&◌, not, ◌==◌, nat_le, if◌then◌else◌, List, [], ◌∷◌, ◌++◌, length, Option, Some, None, is_some, slice_get, slice_index, slice_index_or, slice_set, replicate, position}
+use Rattle.std.specs.Prelude.{◌≡◌, ℕ, ◌+◌, ◌-◌, ◌*◌, ◌/◌, ◌%◌, zero, suc, Bool, true, false, ◌&&◌, not, ◌==◌, nat_le, if◌then◌else◌, List, [], ◌∷◌, ◌++◌, length, Option, Some, None, is_some, slice_get, slice_index, slice_index_or, slice_set, replicate, map, position}
 use Rattle.std.specs.Str.{bytes_eq}
 use Rattle.script.specs.Plans.{Plan, command_at}
+use Rattle.script.specs.declared.plan.VolumeLine.{VolumeLine}
 use Rattle.script.specs.declared.commands.Command.{Command}
 use Rattle.script.specs.declared.commands.Command.TheVariants as command
 use Rattle.book.specs.declared.entries.Entry.{Entry}
@@ -210,3 +211,24 @@ unfoldable pub kept_after : Plan → Kept → Entry → Kept
 kept_after p k (entry.Do process place cpu frame r) = follow_do k process place (command_at p process place) r
 kept_after p k (entry.Release uid page) = follow_release k uid page
 kept_after p k _ = k
+
+-- what is kept at the boot of a script: no segment, and the root's VTOC entry
+abbrev pub records_gauge : VolumeLine → Gauge
+records_gauge v = record { used = 0; most = v.records }
+
+abbrev pub entries_gauge : VolumeLine → Gauge
+entries_gauge v = record { used = 0; most = v.entries }
+
+abbrev pub with_root : List Gauge → List Gauge
+with_root gauges = slice_set gauges 0 (filled (gauge_at gauges 0))
+
+unfoldable pub booted : Plan → Kept
+booted p = record {
+  segments = [];
+  quota = record { used = 0; most = p.quota };
+  records = map records_gauge p.volumes;
+  entries = with_root (map entries_gauge p.volumes);
+  known = replicate (length p.processes) [];
+  places = replicate (length p.processes) 0;
+  ended = replicate (length p.processes) false;
+}

@@ -1,6 +1,7 @@
 -- Which flat store the program's tables show (own).
 use Rattle.std.specs.Prelude.{◌≡◌, ◌<◌, ◌≤◌, ℕ, ◌+◌, ◌*◌, Bool, false, List, [], ◌∷◌, length, Option, Some, None, is_some, slice_index_or}
-use Rattle.script.specs.Plans.{Plan}
+use Rattle.script.specs.Plans.{Plan, command_at}
+use Rattle.script.specs.declared.commands.Command.TheVariants as command
 use Rattle.storage_terms.specs.Tree.{Node, taken_on, entries_on}
 use Rattle.flat_store.specs.Words.{word_at}
 use Rattle.flat_store.specs.Pages.{is_stored, IsOnce}
@@ -49,3 +50,7 @@ pub record Shows (p : Plan) (k : Kept) (s : Store) : Type 0 where
   pub there : (process number i : ℕ) → known_at k process number ≡ Some i → i < length k.segments
   pub places : k.places ≡ s.places
   pub ended : k.ended ≡ s.ended
+
+-- each segment that a script makes has at most 256 pages
+abbrev pub AreSmall : Plan → Type 0
+AreSmall p = (process place : ℕ) (path : List (List ℕ)) (pages volume : ℕ) → command_at p process place ≡ Some (command.MkSeg path pages volume) → pages ≤ 256

@@ -12,7 +12,7 @@ use mword::Word;
 use script::{Command, Script};
 
 /// One more of the gauge of that number is used.
-fn fill(gauges: &mut Vec<Gauge>, i: u32)
+pub(crate) fn fill(gauges: &mut Vec<Gauge>, i: u32)
     ensures { gauges.new.items ≡ slice_set gauges.old.items i (filled (gauge_at gauges.old.items i)) }
 {
     if let Some(gauge) = gauges.get_mut(i as usize) {

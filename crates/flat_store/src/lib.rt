@@ -6,6 +6,7 @@
 mod follows;
 mod gauges;
 mod segments;
+mod store;
 mod tables;
 
 /// There wasn't enough memory.
