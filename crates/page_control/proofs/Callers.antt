@@ -45,7 +45,7 @@ clean_at s uid p f home t clean h table map word off =
     ∙ ap (words_filed (disk_of s home.volume)) (record_found s.vtocs uid p home h ∙ filed_from_word s home t p map (ap has_record word))
 
 -- a home is used for its segment
-used_uid : (entry : Option Entry) (uid : ℕ) → uid_of entry ≡ Some uid → uid_or_zero entry ≡ uid
+pub used_uid : (entry : Option Entry) (uid : ℕ) → uid_of entry ≡ Some uid → uid_or_zero entry ≡ uid
 used_uid None uid used = cc
 used_uid (Some entry) uid used = same_Some entry.uid uid used
 

@@ -15,11 +15,11 @@ use Rattle.page_control.specs.declared.Home.{Home}
 use Rattle.page_control.specs.declared.Left.{Left}
 use Rattle.page_control.specs.declared.Left.TheVariants.{Released, Kept}
 use Rattle.page_control.specs.Effects.{word_of_left}
-use Rattle.page_control.specs.Plain.{Plain, bindings, binding_at, uid_of_home}
+use Rattle.page_control.specs.Plain.{bindings, binding_at, uid_or_zero}
 use Rattle.page_control.specs.Tied.{vtoc_in, flags_in, frame_of, has_record, uid_in, IsTableOf, IsHomeOf, IsMapOf, HasNoFrame, AreFiled}
 use Rattle.page_control.proofs.Facts.{binding_is}
 use Rattle.page_control.proofs.Ties.{not_none}
-use Rattle.page_control.proofs.Callers.{home_uid, no_frame}
+use Rattle.page_control.proofs.Callers.{used_uid, no_frame}
 
 alike : {X : Type 0} (n q : ℕ) (x : X) → get_or (replicate n x) q x ≡ x
 alike zero q x = refl
@@ -125,6 +125,7 @@ words_left (Ok Released) t u n r is word one was p = rw (word, one, was) (left_a
 words_left (Ok Kept) t u n r is word one was p = rw (word, one, was) (left_at (Out r) refl p)
 
 -- a segment whose only page is on its record has no frame
-pub away_erased : (s : Plain) (uid segment : ℕ) (home : Home) (u : List Ptw) → IsHomeOf s.vtocs uid home → segment ≡ uid → IsTableOf (bindings s.core) segment u
-    → ((p : ℕ) → frame_of (ptw_at u p) ≡ None) → HasNoFrame (bindings s.core) (uid_of_home s home)
-away_erased s uid segment home u h same table away = rw (home_uid s uid home h, sym same) (no_frame (bindings s.core) segment u table away)
+pub away_erased : (bound : List (Option (ℕ × ℕ))) (vtocs : List (List (Option Entry))) (uid segment : ℕ) (home : Home) (u : List Ptw) → IsHomeOf vtocs uid home → segment ≡ uid
+    → IsTableOf bound segment u → ((p : ℕ) → frame_of (ptw_at u p) ≡ None) → HasNoFrame bound (uid_or_zero (entry_at (vtoc_in vtocs home.volume) home.entry))
+away_erased bound vtocs uid segment home u h same table away =
+    rw (used_uid (entry_at (vtoc_in vtocs home.volume) home.entry) uid h.used, sym same) (no_frame bound segment u table away)
