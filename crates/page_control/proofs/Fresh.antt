@@ -21,7 +21,7 @@ use Rattle.page_control.proofs.Facts.{binding_is}
 use Rattle.page_control.proofs.Ties.{not_none}
 use Rattle.page_control.proofs.Callers.{used_uid, no_frame}
 
-alike : {X : Type 0} (n q : ℕ) (x : X) → get_or (replicate n x) q x ≡ x
+pub alike : {X : Type 0} (n q : ℕ) (x : X) → get_or (replicate n x) q x ≡ x
 alike zero q x = refl
 alike (suc n) zero x = refl
 alike (suc n) (suc q) x = alike n q x

@@ -1,8 +1,6 @@
-use Rattle.std.proofs.Common.{◌≡◌, rules, refl}
+use Rattle.std.proofs.Common.{rules}
 use Rattle.core_map.specs.CoreMap.{frame_at}
-use Rattle.page_table.specs.declared.Ptw.TheVariants.{Out}
-use Rattle.page_control.specs.Plain.{plain}
-use Rattle.page_control.specs.Tied.{uid_in, IsHomeOf}
+use Rattle.page_control.specs.Tied.{uid_in}
 use Rattle.page_control.proofs.Fresh.{away_erased, words_left}
 use Rattle.page_control.proofs.tests.erases_a_segment_whose_page_is_on_its_record.Goals as goal
 
