@@ -1,18 +1,24 @@
 -- For callers: what the ties between tables, homes and frames give.
-use Rattle.std.proofs.Common.{◌≡◌, ◌≢◌, ℕ, true, false, List, [], refl, Option, None, Some, sym, ap, ◌∙◌}
+use Rattle.std.proofs.Common.{◌≡◌, ◌≢◌, ℕ, true, false, List, [], length, get_or, is_some, inl, inr, refl, Option, None, Some, sym, ap, ◌∙◌}
+use Rattle.std.proofs.lemmas.Bool.{cases_eq}
+use Rattle.std.proofs.lemmas.Bool.Decides.{leb_tells}
+use Rattle.std.proofs.lemmas.List.{get_or-set_same, get_or-set_other, set_past}
 use Rattle.std.proofs.lemmas.Option.{same_Some}
 use Rattle.page_table.specs.declared.Ptw.{Ptw}
 use Rattle.page_table.specs.declared.Ptw.TheVariants.{Leaving}
 use Rattle.page_table.specs.PageTable.{ptw_at}
-use Rattle.page_control.specs.Plain.{Plain, bindings, binding_at, number_in, entry_of, uid_of_home, uid_or_zero, frame_in, words_in, words_on, disk_of, file_map_of, record_of}
-use Rattle.core_map.specs.CoreMap.{Core, frame_at, is_bound, is_modified}
+use Rattle.page_control.specs.Plain.{Plain, bindings, binding_at, number_in, entry_of, uid_of_home, uid_or_zero, frame_in, words_in, words_on, disk_of, file_map_of, filed, record_of}
+use Rattle.core_map.specs.CoreMap.{Core, frame_at, with_frame, is_bound, is_modified}
+use Rattle.core_map.specs.declared.Frame.{Frame}
+use Rattle.core_map.specs.declared.Frame.TheVariants.{Free, Started}
 use Rattle.vtoc.specs.Vtoc.{Entry, uid_of}
 use Rattle.page_control.specs.declared.Home.{Home}
-use Rattle.page_control.specs.Picture.{AreClean, volume_of, record_named, words_filed}
+use Rattle.page_control.specs.Picture.{AreClean, volume_of, record_named, words_filed, words_held, words_of_page, is_filed_in, picture, is_stored}
 use Rattle.page_control.proofs.Facts.{filed_from_word, binding_is, bound_from_page, bound_to}
-use Rattle.page_control.proofs.Pictures.{volume_found, record_found}
-use Rattle.page_control.specs.Tied.{frame_of, has_record, uid_in, IsTableOf, IsHomeOf, IsMapOf, IsBoundOnce, HasNoHome, HasNoFrame, KeepsOthers}
-use Rattle.page_control.proofs.Ties.{not_none, frame_same}
+use Rattle.page_control.proofs.Pictures.{volume_found, record_found, found_nowhere}
+use Rattle.page_control.proofs.Changes.{picture_at}
+use Rattle.page_control.specs.Tied.{frame_of, has_record, uid_in, IsTableOf, IsHomeOf, IsMapOf, IsBoundOnce, HasNoHome, HasNoFrame, IsNotStarted, KeepsOthers}
+use Rattle.page_control.proofs.Ties.{not_none, frame_same, bound_within}
 
 -- a page of the segment of a table is in one frame
 pub bound_once : (bound : List (Option (ℕ × ℕ))) (uid p f : ℕ) (t : List Ptw) → IsTableOf bound uid t → frame_of (ptw_at t p) ≡ Some f → IsBoundOnce bound f
@@ -39,7 +45,7 @@ clean_at s uid p f home t clean h table map word off =
     ∙ ap (words_filed (disk_of s home.volume)) (record_found s.vtocs uid p home h ∙ filed_from_word s home t p map (ap has_record word))
 
 -- a home is used for its segment
-used_uid : (entry : Option Entry) (uid : ℕ) → uid_of entry ≡ Some uid → uid_or_zero entry ≡ uid
+pub used_uid : (entry : Option Entry) (uid : ℕ) → uid_of entry ≡ Some uid → uid_or_zero entry ≡ uid
 used_uid None uid used = cc
 used_uid (Some entry) uid used = same_Some entry.uid uid used
 
@@ -61,3 +67,35 @@ pub no_frame_kept : (old new : Plain) (uid : ℕ) (home : Home) (segment : ℕ) 
     → HasNoFrame (bindings new.core) segment
 no_frame_kept old new uid home segment kept other none =
     no_frame (bindings new.core) segment [] (kept.tables segment [] other (table_of_no_frame (bindings old.core) segment [] none (λ p. refl))) (λ p. refl)
+
+-- the words of a page that is in a frame, and of one that is in none
+pub words_shown : (s : Plain) (uid p f : ℕ) (t : List Ptw) → IsTableOf (bindings s.core) uid t → frame_of (ptw_at t p) ≡ Some f → picture s uid p ≡ words_in s f
+words_shown s uid p f t table word =
+    let at : binding_at (bindings s.core) f ≡ Some (uid, p) = table.back f p word in
+    picture_at (bindings s.core) s.frames s.disks s.vtocs uid p f at (bound_within (bindings s.core) f uid p at) (bound_once (bindings s.core) uid p f t table word)
+
+pub record_shown : (s : Plain) (uid p : ℕ) (home : Home) (t : List Ptw) → IsHomeOf s.vtocs uid home → IsTableOf (bindings s.core) uid t → frame_of (ptw_at t p) ≡ None
+    → picture s uid p ≡ words_filed (disk_of s home.volume) (filed s home p)
+unfolding words_of_page
+record_shown s uid p home t h table word =
+    ap (words_held s.frames (disk_of s (volume_of s.vtocs uid)) (record_named s.vtocs uid p))
+    (found_nowhere (bindings s.core) uid p (λ g is. not_none (frame_of (ptw_at t p)) g word (table.named g p is)))
+    ∙ ap (λ (v : ℕ). words_filed (disk_of s v) (record_named s.vtocs uid p)) (volume_found s.vtocs uid home h)
+    ∙ ap (words_filed (disk_of s home.volume)) (record_found s.vtocs uid p home h)
+
+-- a page is stored where its word says so
+pub stored_shown : (s : Plain) (uid p : ℕ) (home : Home) (t : List Ptw) → IsHomeOf s.vtocs uid home → IsMapOf (file_map_of s home) t → is_stored s uid p ≡ has_record (ptw_at t p)
+unfolding is_filed_in
+stored_shown s uid p home t h map = ap is_some (record_found s.vtocs uid p home h) ∙ map.stored p
+
+-- no frame is started for a page where the one frame that changes isn't
+pub not_started_with : (core : Core) (f : ℕ) (frame : Frame) (uid p : ℕ) → frame ≢ Started uid p → IsNotStarted core uid p → IsNotStarted (with_frame core f frame) uid p
+not_started_with core f frame uid p other none = record {
+  none = λ g started. elim (leb_tells (length core.frames) f) [
+    | inl past ↦ none.none g (ap (λ (frames : List Frame). get_or frames g Free) (sym (set_past core.frames f frame past.1)) ∙ started)
+    | inr lt ↦ elim (cases_eq g f) [
+      | inl same ↦ other (sym (get_or-set_same core.frames f frame Free lt.1) ∙ ap (frame_at (with_frame core f frame)) (sym same) ∙ started)
+      | inr n ↦ none.none g (sym (get_or-set_other core.frames f g frame Free n) ∙ started)
+    ]
+  ];
+}

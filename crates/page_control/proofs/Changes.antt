@@ -1,15 +1,14 @@
 -- What changes the picture at one page.
-use Rattle.std.proofs.Common.{◌≡◌, ◌≢◌, ℕ, ◌<◌, Bool, true, false, cond, List, [], length, Option, None, Some, refl, sym, ap, ◌∙◌, get_or, set, is_some, replicate}
+use Rattle.std.proofs.Common.{◌≡◌, ℕ, ◌<◌, Bool, true, false, cond, List, [], length, Option, None, Some, refl, sym, ap, ◌∙◌, get_or, set, is_some, replicate}
 use Rattle.std.specs.List.{position}
 use Rattle.std.proofs.lemmas.List.{get_or-set_same}
 use Rattle.std.proofs.lemmas.List.Quantifiers.{position-Some}
 use Rattle.page_table.specs.declared.Ptw.{Ptw}
-use Rattle.page_table.specs.declared.Ptw.TheVariants.{Leaving, Out}
 use Rattle.page_table.specs.PageTable.{ptw_at}
-use Rattle.vtoc.specs.Vtoc.{Entry, record_at}
+use Rattle.vtoc.specs.Vtoc.{Entry}
 use Rattle.page_control.specs.declared.Home.{Home}
 use Rattle.page_control.specs.Plain.{binding_at}
-use Rattle.page_control.specs.Tied.{vtoc_in, map_at, frame_of, IsTableOf, IsHomeOf, IsBoundOnce}
+use Rattle.page_control.specs.Tied.{map_at, frame_of, IsTableOf, IsHomeOf, IsBoundOnce}
 use Rattle.page_control.specs.Picture.{is_binding, volume_of, record_named, words_held, words_of_page, is_filed_in, changed_at}
 use Rattle.page_control.proofs.Ties.{not_none, number_of, frame_same}
 use Rattle.page_control.proofs.Firsts.{position_kept}

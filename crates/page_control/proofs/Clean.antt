@@ -1,22 +1,22 @@
 -- A frame whose modified mark is off has the words of its page's record, whatever a call does.
-use Rattle.std.proofs.Common.{◌≡◌, ◌≢◌, ℕ, ◌<◌, Bool, true, false, cond, ◌||◌, List, [], length, Option, None, Some, refl, sym, ap, ◌∙◌, get_or, set, inl, inr}
+use Rattle.std.proofs.Common.{◌≡◌, ◌≢◌, ℕ, ◌<◌, Bool, true, false, List, [], length, Option, None, Some, refl, sym, ap, ◌∙◌, get_or, set, inl, inr}
 use Rattle.std.proofs.lemmas.Bool.{cases_eq}
 use Rattle.std.proofs.lemmas.List.{get_or-set_same, get_or-set_other}
 use Rattle.core_map.specs.declared.Frame.{Frame}
 use Rattle.core_map.specs.declared.Frame.TheVariants.{Free, Started, Bound}
-use Rattle.core_map.specs.CoreMap.{Core, frame_at, with_frame, is_bound, is_modified, bound_page, after_reference}
+use Rattle.core_map.specs.CoreMap.{Core, frame_at, with_frame, is_modified, bound_page, after_reference}
 use Rattle.core_map.specs.Clock.{IsClockChoice, unmarked}
 use Rattle.page_table.specs.declared.Ptw.{Ptw}
 use Rattle.page_table.specs.declared.Ptw.TheVariants.{Null, Out, Here, Leaving}
 use Rattle.page_table.specs.PageTable.{ptw_at}
-use Rattle.vtoc.specs.Vtoc.{Entry, entry_at, record_at, fresh_entry, IsLeastFreeEntry}
+use Rattle.vtoc.specs.Vtoc.{Entry, entry_at, IsLeastFreeEntry}
 use Rattle.page_control.specs.declared.Home.{Home}
 use Rattle.page_control.specs.Plain.{Plain, bindings, binding_at, frame_in, words_in, words_on, disk_of, filed}
 use Rattle.page_control.specs.Tied.{vtoc_in, frame_of, is_away, IsTableOf, IsHomeOf, HasNoHome, HasNoFrame, AreFiled}
 use Rattle.page_control.specs.Picture.{is_binding, volume_of, record_named, words_filed, AreClean}
 use Rattle.page_control.proofs.Facts.{binding_is, bound_from_page}
 use Rattle.page_control.proofs.Ties.{not_none, number_of, frame_same}
-use Rattle.page_control.proofs.Pictures.{page, uid_part, off_and_on, binding_tells, off_from, volume_found, record_found}
+use Rattle.page_control.proofs.Pictures.{page, uid_part, off_from, volume_found, record_found}
 use Rattle.page_control.proofs.Leaving.{other_record, filed_same}
 use Rattle.page_control.proofs.Places.{put, list_within, volume_put, refile}
 use Rattle.page_control.proofs.Changes.{held_refiled}

@@ -1,5 +1,5 @@
 -- A segment that is erased.
-use Rattle.std.proofs.Common.{◌≡◌, ◌≢◌, ◌⊎◌, ℕ, suc, zero, ◌+◌, ◌<◌, ◌≤◌, Bool, true, false, cond, eqb, List, [], ◌∷◌, length, Option, None, Some, refl, sym, ap, ◌∙◌, arith, get_or, set, drop, is_some, replicate, inl, inr}
+use Rattle.std.proofs.Common.{◌≡◌, ◌≢◌, ℕ, ◌+◌, ◌<◌, Bool, true, false, cond, List, [], ◌∷◌, length, Option, None, Some, refl, sym, ap, ◌∙◌, arith, get_or, set, drop, is_some, replicate, inl, inr}
 use Rattle.std.specs.List.{position}
 use Rattle.std.proofs.lemmas.Bool.{cases_eq}
 use Rattle.std.proofs.lemmas.Bool.Decides.{eqb_tells, leb_tells}
@@ -7,14 +7,14 @@ use Rattle.std.proofs.lemmas.List.{get_or-set_same, get_or-set_other, get_or_pas
 use Rattle.vtoc.specs.Vtoc.{Entry, entry_at, record_at, records_in, uid_of, with_record, HasFullMaps, NamesNoRecord}
 use Rattle.bitmap.specs.Bitmap.{in_use}
 use Rattle.page_control.specs.declared.Home.{Home}
-use Rattle.page_control.specs.Plain.{Plain, bindings, binding_at, flags_of, vtoc_of, file_map_of, filed, record_of}
-use Rattle.page_control.specs.Effects.{freed, erased, erased_from, unstored}
+use Rattle.page_control.specs.Plain.{Plain, flags_of, file_map_of, filed, record_of}
+use Rattle.page_control.specs.Effects.{freed, erased, unstored}
 use Rattle.page_control.specs.Erasing.{IsPartErased}
 use Rattle.page_control.specs.Tied.{vtoc_in, flags_in, uid_at, map_at, IsHomeOf, HasNoHome, HasNoFrame, AreFiled}
-use Rattle.page_control.specs.Picture.{is_binding, is_entry_of, volume_of, place_of, record_named, words_held, words_of_page, is_filed_in, changed_for}
+use Rattle.page_control.specs.Picture.{is_binding, is_entry_of, volume_of, record_named, words_held, words_of_page, is_filed_in, changed_for}
 use Rattle.page_control.proofs.Facts.{within_from}
 use Rattle.page_control.proofs.Ties.{not_none, frame_same}
-use Rattle.page_control.proofs.Pictures.{entry_tells, off_and_on, home_within, found_nowhere}
+use Rattle.page_control.proofs.Pictures.{off_and_on, home_within, found_nowhere}
 use Rattle.page_control.proofs.Places.{put, put_other, put_here, volume_within, volume_put, named_put, placed_own, refile, map_refiled, uids_refiled, none_put, other_home}
 use Rattle.page_control.proofs.Others.{homes_kept}
 use Rattle.page_control.proofs.Filing.{filed_fewer, filed_unstored}

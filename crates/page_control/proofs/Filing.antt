@@ -1,13 +1,12 @@
 -- The records that file maps name stay in use and named once, whatever a call does to them.
-use Rattle.std.proofs.Common.{◌≡◌, ◌≢◌, ◌⊎◌, ℕ, ◌<◌, Bool, true, false, List, [], length, Option, None, Some, refl, sym, ap, ◌∙◌, get_or, inl, inr}
+use Rattle.std.proofs.Common.{◌≡◌, ◌⊎◌, ℕ, ◌<◌, Bool, true, false, List, [], length, Option, None, Some, refl, sym, ap, ◌∙◌, get_or, inl, inr}
 use Rattle.std.proofs.lemmas.Bool.{cases_eq}
 use Rattle.record_map.specs.Bitmap.{in_use}
-use Rattle.vtoc.specs.Vtoc.{Entry, entry_at, record_at, records_in, with_record, fresh_entry}
+use Rattle.vtoc.specs.Vtoc.{Entry, entry_at, record_at, records_in, with_record}
 use Rattle.page_control.specs.declared.Home.{Home}
 use Rattle.page_control.specs.Tied.{vtoc_in, flags_in, map_at, IsHomeOf, AreFiled}
-use Rattle.page_control.proofs.Facts.{used_within, within_from}
+use Rattle.page_control.proofs.Facts.{within_from}
 use Rattle.page_control.proofs.Ties.{not_none}
-use Rattle.page_control.proofs.Leaving.{no_record}
 use Rattle.page_control.proofs.Places.{put, put_here, put_other, none_put, some_put, refile, map_refiled, volume_within, same_record}
 use Rattle.page_control.proofs.Pictures.{home_within, off_and_on}
 

@@ -1,23 +1,27 @@
 -- A segment that was just given its home, where no page is stored and none is in a frame.
 use Rattle.std.proofs.Common.{◌≡◌, ℕ, zero, suc, arith, Bool, true, false, All, List, [], ◌∷◌, Option, None, Some, refl, sym, ap, ◌∙◌, get_or, replicate, is_some}
-use Rattle.std.specs.Prelude.{Result, Ok, Err, slice_set}
+use Rattle.std.specs.Prelude.{Result, Ok, Err, IfOk, slice_set}
 use Rattle.std.specs.Result.{OnOk, result_ok}
 use Rattle.std.proofs.lemmas.List.Elements.{All-get_or}
 use Rattle.core_map.specs.declared.Frame.{Frame}
 use Rattle.core_map.specs.declared.Frame.TheVariants.{Free, Started, Bound}
 use Rattle.core_map.specs.CoreMap.{Core, frame_at, bound_page}
 use Rattle.page_table.specs.declared.Ptw.{Ptw}
-use Rattle.page_table.specs.declared.Ptw.TheVariants.{Null, Here}
+use Rattle.page_table.specs.declared.Ptw.TheVariants.{Null, Out, Here, Leaving}
 use Rattle.page_table.specs.PageTable.{ptw_at}
 use Rattle.vtoc.specs.FileMap.{no_records}
 use Rattle.vtoc.specs.Vtoc.{Entry, entry_at, record_at, uid_of, fresh_entry}
 use Rattle.page_control.specs.declared.Home.{Home}
-use Rattle.page_control.specs.Plain.{bindings, binding_at}
-use Rattle.page_control.specs.Tied.{vtoc_in, flags_in, frame_of, has_record, uid_in, IsTableOf, IsHomeOf, IsMapOf, AreFiled}
+use Rattle.page_control.specs.declared.Left.{Left}
+use Rattle.page_control.specs.declared.Left.TheVariants.{Released, Kept}
+use Rattle.page_control.specs.Effects.{word_of_left}
+use Rattle.page_control.specs.Plain.{bindings, binding_at, uid_or_zero}
+use Rattle.page_control.specs.Tied.{vtoc_in, flags_in, frame_of, has_record, uid_in, IsTableOf, IsHomeOf, IsMapOf, HasNoFrame, AreFiled}
 use Rattle.page_control.proofs.Facts.{binding_is}
 use Rattle.page_control.proofs.Ties.{not_none}
+use Rattle.page_control.proofs.Callers.{used_uid, no_frame}
 
-alike : {X : Type 0} (n q : ℕ) (x : X) → get_or (replicate n x) q x ≡ x
+pub alike : {X : Type 0} (n q : ℕ) (x : X) → get_or (replicate n x) q x ≡ x
 alike zero q x = refl
 alike (suc n) zero x = refl
 alike (suc n) (suc q) x = alike n q x
@@ -106,3 +110,22 @@ not_full records is all =
     let on : get_or (replicate 3 false) 0 false ≡ true = All-get_or (λ (flag : Bool). flag ≡ true) (replicate 3 false) 0 false (omega arith)
     (all_same (flags_in records 0) (replicate 3 false) (ap (λ (those : List (List Bool)). flags_in those 0) is) all) in
     cc
+
+left_at : (w : Ptw) → frame_of w ≡ None → (p : ℕ) → frame_of (ptw_at (Null ∷ w ∷ Null ∷ []) p) ≡ None
+left_at w none zero = refl
+left_at w none (suc zero) = none
+left_at w none (suc (suc zero)) = refl
+left_at w none (suc (suc (suc p))) = refl
+
+-- the words of three pages, of which one was in a frame and has left it
+pub words_left : {E : Type 0} (result : Result Left E) (t u : List Ptw) (n r : ℕ) → result ≡ Ok Kept → IfOk result (λ left. u ≡ slice_set t n (word_of_left left r)) → n ≡ 1
+    → t ≡ Null ∷ Leaving 0 ∷ Null ∷ [] → (p : ℕ) → frame_of (ptw_at u p) ≡ None
+words_left (Err e) t u n r is word one was p = cc
+words_left (Ok Released) t u n r is word one was p = rw (word, one, was) (left_at Null refl p)
+words_left (Ok Kept) t u n r is word one was p = rw (word, one, was) (left_at (Out r) refl p)
+
+-- a segment whose only page is on its record has no frame
+pub away_erased : (bound : List (Option (ℕ × ℕ))) (vtocs : List (List (Option Entry))) (uid segment : ℕ) (home : Home) (u : List Ptw) → IsHomeOf vtocs uid home → segment ≡ uid
+    → IsTableOf bound segment u → ((p : ℕ) → frame_of (ptw_at u p) ≡ None) → HasNoFrame bound (uid_or_zero (entry_at (vtoc_in vtocs home.volume) home.entry))
+away_erased bound vtocs uid segment home u h same table away =
+    rw (used_uid (entry_at (vtoc_in vtocs home.volume) home.entry) uid h.used, sym same) (no_frame bound segment u table away)

@@ -1,21 +1,19 @@
 -- A segment that gets a home, and one that loses it.
-use Rattle.std.proofs.Common.{◌≡◌, ◌≢◌, ◌⊎◌, ℕ, ◌<◌, Bool, true, false, cond, eqb, List, [], length, Option, None, Some, refl, sym, ap, ◌∙◌, get_or, set, is_some, replicate, inl, inr}
+use Rattle.std.proofs.Common.{◌≡◌, ◌≢◌, ◌⊎◌, ℕ, ◌<◌, Bool, false, List, [], length, Option, None, Some, refl, sym, ap, ◌∙◌, get_or, set, is_some, inl, inr}
 use Rattle.std.specs.List.{position}
 use Rattle.std.specs.Prelude.{IfSome, IfNone}
 use Rattle.std.proofs.lemmas.Bool.{cases_eq}
 use Rattle.std.proofs.lemmas.Option.{same_Some}
 use Rattle.std.proofs.lemmas.List.{set-get_or}
 use Rattle.std.proofs.lemmas.Bool.Decides.{eqb_tells}
-use Rattle.vtoc.specs.FileMap.{no_records}
-use Rattle.vtoc.specs.Vtoc.{Entry, entry_at, record_at, records_in, uid_of, fresh_entry, IsLeastFreeEntry}
+use Rattle.vtoc.specs.Vtoc.{Entry, entry_at, records_in, uid_of, fresh_entry, IsLeastFreeEntry}
 use Rattle.page_control.specs.declared.Home.{Home}
 use Rattle.page_control.specs.Tied.{vtoc_in, uid_at, map_at, IsHomeOf, HasNoHome, AreFiled}
 use Rattle.page_control.specs.Picture.{is_binding, is_entry_of, volume_of, place_of, record_named, words_held, words_of_page, is_filed_in}
-use Rattle.page_control.proofs.Facts.{within_from}
 use Rattle.page_control.proofs.Ties.{not_none, frame_same}
-use Rattle.page_control.proofs.Pictures.{record_found, entry_tells, off_and_on}
+use Rattle.page_control.proofs.Pictures.{record_found}
 use Rattle.page_control.proofs.Leaving.{no_record, named_home}
-use Rattle.page_control.proofs.Places.{put, list_within, put_here, put_other, volume_put, named_put, placed_own}
+use Rattle.page_control.proofs.Places.{put, list_within, put_here, put_other, volume_put, named_put}
 use Rattle.page_control.proofs.Filing.{filed_fewer}
 
 -- each home is that of entry e, or another

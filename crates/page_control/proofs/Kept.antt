@@ -1,9 +1,9 @@
 -- What each call keeps, by its effect: tables, file maps, records and other segments.
-use Rattle.std.proofs.Common.{◌≡◌, ◌≢◌, ℕ, ◌<◌, Bool, true, false, List, length, Option, None, Some, refl, sym, ap, ◌∙◌, get_or, set}
+use Rattle.std.proofs.Common.{◌≡◌, ℕ, ◌<◌, Bool, true, false, List, length, Option, None, Some, refl, sym, ap, ◌∙◌, get_or, set}
 use Rattle.std.proofs.lemmas.List.{get_or-set_same, length-map}
-use Rattle.bitmap.specs.Bitmap.{in_use, IsLeastFree}
+use Rattle.bitmap.specs.Bitmap.{IsLeastFree}
 use Rattle.core_map.specs.declared.Frame.TheVariants.{Free, Started, Bound}
-use Rattle.core_map.specs.CoreMap.{Core, frame_at, with_frame, bound_page}
+use Rattle.core_map.specs.CoreMap.{frame_at, with_frame, bound_page}
 use Rattle.page_table.specs.declared.Ptw.{Ptw}
 use Rattle.page_table.specs.declared.Ptw.TheVariants.{Null, Out, Here, Leaving}
 use Rattle.page_table.specs.PageTable.{ptw_at}
@@ -12,12 +12,12 @@ use Rattle.page_control.specs.declared.Home.{Home}
 use Rattle.page_control.specs.declared.Left.{Left}
 use Rattle.page_control.specs.declared.Left.TheVariants.{Released, Kept}
 use Rattle.page_control.specs.Plain.{Plain, bindings, binding_at, file_map_of, flags_of, vtoc_of, filed, record_of}
-use Rattle.page_control.specs.Effects.{evicted, word_of_left, created, dropped, brought_in, framed}
-use Rattle.page_control.specs.Tied.{vtoc_in, map_at, frame_of, has_record, is_away, IsTableOf, IsHomeOf, IsMapOf, AreFiled, KeepsOthers}
-use Rattle.page_control.proofs.Facts.{binding_is, bindings_with, filed_from_word, leaving_within, within_from, used_within}
+use Rattle.page_control.specs.Effects.{evicted, word_of_left, created, dropped}
+use Rattle.page_control.specs.Tied.{map_at, frame_of, has_record, is_away, IsTableOf, IsHomeOf, IsMapOf, AreFiled, KeepsOthers}
+use Rattle.page_control.proofs.Facts.{binding_is, filed_from_word, leaving_within}
 use Rattle.page_control.proofs.Ties.{map_place, map_word, table_word, table_left, bound_within, frame_within}
 use Rattle.page_control.proofs.Pictures.{home_within}
-use Rattle.page_control.proofs.Places.{put, list_within, refile, map_refiled, none_put, used_map, volume_within}
+use Rattle.page_control.proofs.Places.{put, list_within, refile, map_refiled, none_put, used_map}
 use Rattle.page_control.proofs.Filing.{filed_unstored, filed_stored}
 use Rattle.page_control.proofs.Others.{own_none, own_page, others_kept, others_unstored, others_moved}
 

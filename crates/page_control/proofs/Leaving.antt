@@ -27,7 +27,7 @@ no_record q =
     let long : length no_records ≡ 256 = length-replicate 256 none in
     elim (leb_tells 256 q) [ inl h ↦ get_or_past no_records q None (omega (arith, h.1, long)) | inr h ↦ get_or-replicate 256 q None None h.1 ]
 
-named_by : (entry : Option Entry) (q s : ℕ) → entry ≡ None → get_or (records_in entry) q None ≡ Some s → ⊥
+pub named_by : (entry : Option Entry) (q s : ℕ) → entry ≡ None → get_or (records_in entry) q None ≡ Some s → ⊥
 named_by None q s h is = not_none (get_or no_records q None) s (no_record q) is
 named_by (Some entry) q s h is = cc
 

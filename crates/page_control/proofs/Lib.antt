@@ -14,3 +14,4 @@ pub mod Shown
 pub mod Erasing
 pub mod Callers
 pub mod Clean
+pub mod Made

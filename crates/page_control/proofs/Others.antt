@@ -1,16 +1,15 @@
 -- What a call keeps of the segments that it doesn't concern.
-use Rattle.std.proofs.Common.{◌≡◌, ◌≢◌, ℕ, ◌<◌, List, length, Option, None, Some, refl, sym, ap, ◌∙◌, get_or, set, inl, inr}
+use Rattle.std.proofs.Common.{◌≡◌, ◌≢◌, ℕ, ◌<◌, List, length, Option, None, Some, refl, sym, ap, ◌∙◌, set, inl, inr}
 use Rattle.std.proofs.lemmas.Bool.{cases_eq}
 use Rattle.std.proofs.lemmas.List.{get_or-set_same, get_or-set_other}
-use Rattle.core_map.specs.CoreMap.{Core, frame_at, with_frame, bound_page}
+use Rattle.core_map.specs.CoreMap.{with_frame, bound_page}
 use Rattle.core_map.specs.declared.Frame.{Frame}
-use Rattle.core_map.specs.declared.Frame.TheVariants.{Free, Started, Bound}
 use Rattle.page_table.specs.declared.Ptw.{Ptw}
 use Rattle.vtoc.specs.Vtoc.{Entry}
 use Rattle.page_control.specs.declared.Home.{Home}
 use Rattle.page_control.specs.Plain.{Plain, bindings, binding_at}
 use Rattle.page_control.specs.Tied.{uid_at, map_at, IsTableOf, IsHomeOf, KeepsOthers}
-use Rattle.page_control.proofs.Facts.{binding_is, bindings_with}
+use Rattle.page_control.proofs.Facts.{bindings_with}
 use Rattle.page_control.proofs.Ties.{not_none}
 use Rattle.page_control.proofs.Places.{refile, maps_refiled, uids_refiled}
 

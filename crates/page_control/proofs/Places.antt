@@ -1,20 +1,19 @@
 -- A change of one place of a list of lists, and of one entry of the VTOCs.
-use Rattle.std.proofs.Common.{◌≡◌, ◌≢◌, ℕ, ◌<◌, Bool, true, false, List, [], length, Option, None, Some, refl, sym, ap, ◌∙◌, arith, get_or, set, is_some, inl, inr}
+use Rattle.std.proofs.Common.{◌≡◌, ◌≢◌, ℕ, ◌<◌, Bool, List, [], length, Option, None, Some, refl, sym, ap, ◌∙◌, arith, get_or, set, is_some, inl, inr}
 use Rattle.std.specs.List.{position, position_or_len}
 use Rattle.std.proofs.lemmas.Bool.{cases_eq}
 use Rattle.std.proofs.lemmas.Bool.Decides.{leb_tells}
-use Rattle.std.proofs.lemmas.List.{get_or-set_same, get_or-set_other, get_or_past, length-set, set_past}
+use Rattle.std.proofs.lemmas.List.{get_or-set_same, get_or-set_other, get_or_past, set_past}
 use Rattle.std.proofs.lemmas.List.Folds.{position_or_len-set}
 use Rattle.std.proofs.lemmas.List.Quantifiers.{position-Some}
-use Rattle.vtoc.specs.FileMap.{no_records}
-use Rattle.vtoc.specs.Vtoc.{Entry, entry_at, record_at, records_in, uid_of, with_record, fresh_entry}
+use Rattle.vtoc.specs.Vtoc.{Entry, entry_at, record_at, records_in, uid_of, with_record}
 use Rattle.page_control.specs.declared.Home.{Home}
-use Rattle.page_control.specs.Tied.{vtoc_in, uid_at, map_at, IsHomeOf, HasNoHome}
+use Rattle.page_control.specs.Tied.{vtoc_in, uid_at, map_at, IsHomeOf}
 use Rattle.page_control.specs.Picture.{is_entry_of, has_entry_of, volume_of, place_of, record_named}
 use Rattle.page_control.proofs.Facts.{within_from}
 use Rattle.page_control.proofs.Ties.{not_none, frame_same}
 use Rattle.page_control.proofs.Firsts.{below, position_kept}
-use Rattle.page_control.proofs.Pictures.{entry_tells, home_within, off_and_on}
+use Rattle.page_control.proofs.Pictures.{entry_tells, home_within}
 
 -- place e of list v becomes x
 abbrev pub put : {X : Type 0} → List (List X) → ℕ → ℕ → X → List (List X)

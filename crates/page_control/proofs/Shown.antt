@@ -1,9 +1,9 @@
 -- What each call that changes the picture makes of it, by its effect.
-use Rattle.std.proofs.Common.{◌≡◌, ℕ, zero, suc, ◌<◌, Bool, true, false, List, [], ◌∷◌, length, Option, None, Some, refl, sym, ap, ◌∙◌, arith, get_or, set, replicate, All}
+use Rattle.std.proofs.Common.{◌≡◌, ℕ, ◌<◌, true, false, List, length, Option, None, Some, refl, sym, ap, ◌∙◌, arith, replicate, All}
 use Rattle.core_map.specs.declared.Frame.{Frame}
 use Rattle.core_map.specs.declared.Frame.TheVariants.{Free, Started, Bound}
-use Rattle.core_map.specs.CoreMap.{Core, frame_at, with_frame, is_bound, bound_page}
-use Rattle.core_map.specs.Clock.{IsClockChoice, PassesOver, GoesRound, frame_in, unmarked, way}
+use Rattle.core_map.specs.CoreMap.{Core, frame_at, is_bound, bound_page}
+use Rattle.core_map.specs.Clock.{IsClockChoice, PassesOver, frame_in, unmarked, way}
 use Rattle.std.proofs.Common.{inl, inr}
 use Rattle.std.proofs.lemmas.Bool.Decides.{leb_tells}
 use Rattle.std.proofs.lemmas.List.{ext_get_or, length-map, length-replicate, get_or-replicate}

@@ -6,7 +6,11 @@
 //! file map.
 //!
 //! Costs: a call finds frames, words, records and places of file maps by their numbers, and walks over none of them but
-//! in `choose`. `end_in` costs one read of a drive, `evict` one write at most. None but `new` takes memory.
+//! in `choose`, and in `erase`, which reads the 256 places of one file map. `end_in` costs one read of a drive, `evict`
+//! one write at most. None but `new` takes memory.
+//!
+//! `proofs/Callers.antt` has laws for callers: that a page is in one frame, what the picture shows of a page by its word,
+//! and which frames `evict` may be called with.
 #![tactic(auto)]
 
 mod pages;

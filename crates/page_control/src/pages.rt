@@ -293,6 +293,8 @@ impl<D: Drive> Pages<D> {
         ensures others { KeepsOthers (plain D.pages self.old) (plain D.pages self.new) uid home }
         ensures clean { AreClean (plain D.pages self.old) → AreClean (plain D.pages self.new) }
         ensures word_kept { OnErr result (t.new ≡ t.old) }
+        ensures plans { map D.plan self.new.volumes.drives ≡ map D.plan self.old.volumes.drives }
+        ensures places { map D.places self.new.volumes.drives ≡ map D.places self.old.volumes.drives }
         ensures count { length self.new.volumes.drives ≡ length self.old.volumes.drives }
         ensures rose { OnErr result (Rose (sum_by D.faults self.old.volumes.drives) (sum_by D.faults self.new.volumes.drives)) }
         ensures grows { sum_by D.faults self.old.volumes.drives ≤ sum_by D.faults self.new.volumes.drives }
@@ -412,6 +414,8 @@ impl<D: Drive> Pages<D> {
         ensures no_call { AreZero (words_in (plain D.pages self.old) f) → self.new.volumes.drives ≡ self.old.volumes.drives }
         ensures err { OnErr result (plain D.pages self.new ≡ plain D.pages self.old) }
         ensures word_kept { OnErr result (t.new ≡ t.old) }
+        ensures plans { map D.plan self.new.volumes.drives ≡ map D.plan self.old.volumes.drives }
+        ensures places { map D.places self.new.volumes.drives ≡ map D.places self.old.volumes.drives }
         ensures count { length self.new.volumes.drives ≡ length self.old.volumes.drives }
         ensures rose { OnErr result (Rose (sum_by D.faults self.old.volumes.drives) (sum_by D.faults self.new.volumes.drives)) }
         ensures grows { sum_by D.faults self.old.volumes.drives ≤ sum_by D.faults self.new.volumes.drives }
@@ -547,6 +551,8 @@ impl<D: Drive> Pages<D> {
         ensures err { OnErr result (plain D.pages self.new ≡ plain D.pages self.old) }
         ensures core { self.new.core ≡ self.old.core }
         ensures frames { self.new.frames ≡ self.old.frames }
+        ensures plans { map D.plan self.new.volumes.drives ≡ map D.plan self.old.volumes.drives }
+        ensures places { map D.places self.new.volumes.drives ≡ map D.places self.old.volumes.drives }
         ensures count { length self.new.volumes.drives ≡ length self.old.volumes.drives }
         ensures rose { OnErr result (Rose (sum_by D.faults self.old.volumes.drives) (sum_by D.faults self.new.volumes.drives)) }
         ensures grows { sum_by D.faults self.old.volumes.drives ≤ sum_by D.faults self.new.volumes.drives }

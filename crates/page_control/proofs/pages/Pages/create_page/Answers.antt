@@ -1,4 +1,4 @@
-use Rattle.std.proofs.Common.{◌≡◌, ◌<◌, ◌∙◌, ap, true, arith, rules, length, replicate, Option, Some, set}
+use Rattle.std.proofs.Common.{◌≡◌, ◌∙◌, ap, true, arith, rules, length, replicate, Some, set}
 use Rattle.std.proofs.lemmas.List.{length-map}
 use Rattle.core_map.specs.declared.Frame.TheVariants.{Bound}
 use Rattle.core_map.specs.CoreMap.{with_frame, bound_page}
@@ -8,9 +8,7 @@ use Rattle.page_control.proofs.Facts.{binding_is, bindings_with}
 use Rattle.page_control.proofs.Changes.{picture_created, stored_refiled}
 use Rattle.page_control.proofs.Pictures.{home_within}
 use Rattle.page_control.proofs.Kept.{placed_full}
-use Rattle.bitmap.specs.Bitmap.{IsLeastFree, least_free}
-use Rattle.vtoc.specs.Vtoc.{entry_at, record_at, with_record}
-use Rattle.page_control.specs.Plain.{plain, flags_of, vtoc_of, number_or_zero}
+use Rattle.page_control.specs.Plain.{plain, vtoc_of}
 use Rattle.page_control.proofs.Kept.{map_created, filed_created, others_created}
 use Rattle.page_control.proofs.Clean.{clean_created}
 use Rattle.page_control.proofs.pages.Pages.create_page.Goals as goal

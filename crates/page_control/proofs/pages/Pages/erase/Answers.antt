@@ -1,5 +1,4 @@
-use Rattle.std.proofs.Common.{◌≡◌, rules, ap, sym, refl}
-use Rattle.core_map.specs.CoreMap.{Core}
+use Rattle.std.proofs.Common.{◌≡◌, rules, ap}
 use Rattle.vtoc.specs.Vtoc.{HasFullMaps}
 use Rattle.volumes.specs.Volumes.{with_vtoc}
 use Rattle.page_control.specs.Plain.{Plain, plain, bindings, vtoc_of, uid_of_home}
