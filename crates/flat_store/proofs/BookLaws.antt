@@ -1,5 +1,6 @@
 -- One more entry: what it does to a legal book, to the store after it, and to a process's part.
-use Rattle.std.proofs.Common.{◌≡◌, ℕ, true, false, List, [], ◌∷◌, ◌++◌, Some, refl, ap, ◌∙◌, filter}
+use Rattle.std.proofs.Common.{◌≡◌, ℕ, suc, zero, ◌+◌, true, false, List, [], ◌∷◌, ◌++◌, take, length, get_or, ◌<◌, Some, refl, sym, ap, subst, ◌∙◌, arith, filter}
+use Rattle.std.specs.Prelude.{slice_get}
 use Rattle.std.proofs.lemmas.List.Elements.{filter-append}
 use Rattle.script.specs.Plans.{Plan}
 use Rattle.book.specs.declared.entries.Entry.{Entry}
@@ -48,3 +49,31 @@ pub last_of-push : (es : List Entry) (e : Entry) → last_of (es ++ e ∷ []) �
 last_of-push [] e = refl
 last_of-push (d ∷ []) e = refl
 last_of-push (d ∷ f ∷ es) e = last_of-push (f ∷ es) e
+
+-- one entry of a legal book
+legal_from_at : (p : Plan) (s : Store) (es : List Entry) (i : ℕ) (e : Entry) → IsLegalFrom p s es → slice_get es i ≡ Some e → IsLawful p (store_from p s (take i es)) e
+unfolding IsLegalFrom store_from
+legal_from_at p s [] i e legal at = absurd cc
+legal_from_at p s (d ∷ es) zero e legal at = let same : d ≡ e = cc in subst (IsLawful p s) same legal.0
+legal_from_at p s (d ∷ es) (suc i) e legal at = legal_from_at p (after_entry p s d) es i e legal.1 at
+
+pub legal_at : (p : Plan) (es : List Entry) (i : ℕ) (e : Entry) → IsLegal p es → slice_get es i ≡ Some e → IsLawful p (store_after p (take i es)) e
+unfolding IsLegal store_after
+legal_at p es i e legal at = legal_from_at p (boot p) es i e legal at
+
+take_step : (es : List Entry) (i : ℕ) (e : Entry) → slice_get es i ≡ Some e → take (suc i) es ≡ take i es ++ e ∷ []
+take_step [] i e at = absurd cc
+take_step (d ∷ es) zero e at = let same : d ≡ e = cc in ap (λ (x : Entry). x ∷ []) same
+take_step (d ∷ es) (suc i) e at = ap (λ (t : List Entry). d ∷ t) (take_step es i e at)
+
+take_next : (es : List Entry) (i : ℕ) (e : Entry) → slice_get es i ≡ Some e → take (i + 1) es ≡ take i es ++ e ∷ []
+take_next es i e at = let next : i + 1 ≡ suc i = omega arith in ap (λ (n : ℕ). take n es) next ∙ take_step es i e at
+
+pub store_next : (p : Plan) (es : List Entry) (i : ℕ) (e : Entry) → slice_get es i ≡ Some e → store_after p (take (i + 1) es) ≡ after_entry p (store_after p (take i es)) e
+store_next p es i e at = ap (store_after p) (take_next es i e at) ∙ store_after-push p (take i es) e
+
+-- the entry at a place within
+pub entry_there : (es : List Entry) (i : ℕ) (e : Entry) → i < length es → e ≡ get_or es i e → slice_get es i ≡ Some e
+entry_there [] i e lt is = absurd (omega arith)
+entry_there (d ∷ es) zero e lt is = ap (λ (x : Entry). Some x) (sym is)
+entry_there (d ∷ es) (suc i) e lt is = entry_there es i e (omega arith) is

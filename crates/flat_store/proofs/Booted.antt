@@ -1,18 +1,17 @@
 -- What is kept at the boot shows the flat store at the boot.
-use Rattle.std.proofs.Common.{◌≡◌, ◌≢◌, ℕ, suc, zero, ◌+◌, ◌*◌, ◌<◌, ◌≤◌, Bool, true, false, cond, eqb, List, [], ◌∷◌, length, map, get_or, set, replicate, Option, Some, None, refl, sym, ap, subst, ◌∙◌, arith, inl, inr, ◌⊎◌}
-use Rattle.std.specs.Prelude.{slice_get, slice_set}
-use Rattle.std.specs.FinMap as finite
+use Rattle.std.proofs.Common.{◌≡◌, ◌≢◌, ℕ, suc, zero, ◌+◌, ◌*◌, ◌<◌, ◌≤◌, Bool, true, false, cond, eqb, List, [], ◌∷◌, length, map, get_or, replicate, Some, refl, sym, ap, ◌∙◌, arith, inl, inr, ◌⊎◌}
+use Rattle.std.specs.Prelude.{slice_get}
 use Rattle.std.proofs.lemmas.Bool.{cases_eq}
 use Rattle.std.proofs.lemmas.Bool.Decides.{nat_tests}
 use Rattle.std.proofs.lemmas.List.{length-set, length-map, length-replicate}
 use Rattle.script.specs.Plans.{Plan}
 use Rattle.script.specs.declared.plan.VolumeLine.{VolumeLine}
 use Rattle.storage_terms.specs.Tree.{entries_on, taken_on}
-use Rattle.flat_store.specs.Flat.{Store, boot, root_of, records_in, entries_in, records_of, entries_of}
-use Rattle.flat_store.specs.Kept.{Kept, Gauge, is_full, filled, gauge_at, records_gauge, entries_gauge, with_root, booted}
+use Rattle.flat_store.specs.Flat.{boot, root_of, records_in, entries_in, records_of, entries_of}
+use Rattle.flat_store.specs.Kept.{Gauge, filled, gauge_at, records_gauge, entries_gauge, booted}
 use Rattle.flat_store.specs.Shown.{Shows, uid_of_place}
 use Rattle.flat_store.proofs.WordLaws.{word_at-empty}
-use Rattle.flat_store.proofs.Changes.{past_end, gauge_set}
+use Rattle.flat_store.proofs.Changes.{gauge_set}
 
 records_here : (vs : List VolumeLine) (v : ℕ) → gauge_at (map records_gauge vs) v ≡ record { used = 0; most = records_in (slice_get vs v) }
 records_here [] v = refl

@@ -1,6 +1,6 @@
 -- Look-ups in what the program keeps, after a change.
-use Rattle.std.proofs.Common.{◌≡◌, ◌≢◌, ℕ, suc, zero, ◌+◌, ◌<◌, ◌≤◌, Bool, true, false, cond, eqb, ◌&&◌, ◌||◌, List, [], ◌∷◌, ◌++◌, length, get_or, set, replicate, Option, Some, None, refl, sym, ap, subst, ◌∙◌, arith, inl, inr, ◌⊎◌}
-use Rattle.std.specs.Prelude.{count_by, is_some, slice_index_or, slice_set}
+use Rattle.std.proofs.Common.{◌≡◌, ◌≢◌, ℕ, suc, zero, ◌+◌, ◌<◌, ◌≤◌, Bool, true, false, cond, eqb, ◌||◌, List, [], ◌∷◌, ◌++◌, length, get_or, set, replicate, Option, None, refl, sym, ap, subst, ◌∙◌, arith, inl, inr, ◌⊎◌}
+use Rattle.std.specs.Prelude.{count_by}
 use Rattle.std.proofs.lemmas.Bool.{cases_eq}
 use Rattle.std.proofs.lemmas.Bool.Decides.{nat_tests}
 use Rattle.std.proofs.lemmas.List.{get_or_append_left, get_or-set_same, get_or-set_other, length-set, length-append}
@@ -53,15 +53,18 @@ pub record AreAlike (segments others : List Seg) : Type 0 where
 pub nodes_alike : (p : Plan) (segments others : List Seg) (nodes : List Node) → AreAlike segments others → AreNodes p segments nodes → AreNodes p others nodes
 nodes_alike p segments others [] a h = h
 nodes_alike p segments others (n ∷ []) a h = h
-nodes_alike p segments others (n ∷ m ∷ ns) a h = (record {
-  named = h.0.named;
-  above = h.0.above;
-  name = h.0.name ∙ sym (a.name (length ns));
-  kind = h.0.kind;
-  place = h.0.place ∙ sym (a.volume (length ns));
-  size = h.0.size ∙ sym (a.size (length ns));
-  quota = h.0.quota;
-}, nodes_alike p segments others (m ∷ ns) a h.1)
+nodes_alike p segments others (n ∷ m ∷ ns) a h = (
+  record {
+    named = h.0.named;
+    above = h.0.above;
+    name = h.0.name ∙ sym (a.name (length ns));
+    kind = h.0.kind;
+    place = h.0.place ∙ sym (a.volume (length ns));
+    size = h.0.size ∙ sym (a.size (length ns));
+    quota = h.0.quota;
+  },
+  nodes_alike p segments others (m ∷ ns) a h.1,
+)
 
 -- a page of a segment is changed
 seg_with : (segments : List Seg) (i page j : ℕ) (o : Option (List ℕ)) → i < length segments → seg_at (with_slot segments i page o) j ≡ cond (eqb j i) (record (seg_at segments i) { slots = set (seg_at segments i).slots page o }) (seg_at segments j)

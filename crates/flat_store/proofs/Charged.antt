@@ -1,14 +1,13 @@
 -- The gauges after one more page of a segment is stored, and after one less.
-use Rattle.std.proofs.Common.{◌≡◌, ◌≢◌, ℕ, suc, zero, ◌+◌, ◌-◌, ◌<◌, ◌≤◌, Bool, true, false, cond, eqb, List, [], ◌∷◌, length, Option, Some, None, refl, sym, ap, ◌∙◌, arith, inl, inr, ◌⊎◌}
+use Rattle.std.proofs.Common.{◌≡◌, ◌≢◌, ℕ, suc, zero, ◌+◌, ◌<◌, Bool, true, false, cond, eqb, List, [], ◌∷◌, length, refl, sym, ap, ◌∙◌, arith, inl, inr, ◌⊎◌}
 use Rattle.std.specs.Prelude.{slice_set}
 use Rattle.std.proofs.lemmas.Bool.{cases_eq}
 use Rattle.std.proofs.lemmas.Bool.Decides.{nat_tests}
-use Rattle.std.proofs.lemmas.List.{length-set}
 use Rattle.script.specs.Plans.{Plan}
 use Rattle.storage_terms.specs.Tree.{Node, volume_in, taken_on}
 use Rattle.flat_store.specs.Pages.{is_stored, with_stored, without_stored, IsOnce}
 use Rattle.flat_store.specs.Flat.{Store, records_of}
-use Rattle.flat_store.specs.Kept.{Seg, Kept, Gauge, is_full, filled, drained, gauge_at, seg_at}
+use Rattle.flat_store.specs.Kept.{Kept, Gauge, is_full, filled, drained, gauge_at, seg_at}
 use Rattle.flat_store.specs.Shown.{Shows}
 use Rattle.flat_store.proofs.PageLaws.{length-with_new, length-without}
 use Rattle.flat_store.proofs.Shallow.{volume_node}

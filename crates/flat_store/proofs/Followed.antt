@@ -1,6 +1,6 @@
 -- What the program keeps after a lawful entry shows the flat store after it.
-use Rattle.std.proofs.Common.{◌≡◌, ◌≢◌, ℕ, suc, zero, ◌+◌, ◌*◌, ◌/◌, ◌%◌, ◌<◌, ◌≤◌, Bool, true, false, cond, eqb, nat_le, ◌&&◌, ◌||◌, List, [], ◌∷◌, length, get_or, set, replicate, Option, Some, None, refl, sym, ap, subst, ◌∙◌, arith}
-use Rattle.std.specs.Prelude.{is_some, slice_get, slice_index_or, position}
+use Rattle.std.proofs.Common.{◌≡◌, ℕ, suc, zero, ◌+◌, ◌*◌, ◌/◌, ◌%◌, ◌<◌, ◌≤◌, Bool, true, false, cond, eqb, nat_le, List, [], ◌∷◌, length, get_or, set, replicate, Option, Some, None, refl, sym, ap, subst, ◌∙◌, arith}
+use Rattle.std.specs.Prelude.{is_some, slice_index_or, position}
 use Rattle.std.proofs.lemmas.Bool.Decides.{nat_tests}
 use Rattle.std.proofs.lemmas.List.{length-set, length-replicate, get_or-replicate}
 use Rattle.script.specs.Plans.{Plan, command_at}
@@ -10,12 +10,12 @@ use Rattle.book.specs.declared.entries.Entry.{Entry}
 use Rattle.book.specs.declared.entries.Entry.TheVariants as entry
 use Rattle.book.specs.declared.replies.Reply.{Reply}
 use Rattle.book.specs.declared.replies.Reply.TheVariants as reply
-use Rattle.storage_terms.specs.Tree.{Node, Walk, LeadsTo, walk_in}
+use Rattle.storage_terms.specs.Tree.{Node}
 use Rattle.flat_store.specs.Words.{word_at, with_word}
 use Rattle.flat_store.specs.Pages.{is_stored, with_stored, without_stored}
 use Rattle.flat_store.specs.Flat.{Store, segment_of, stored_by, written_in, takes_effect, effect_of, made_by, made_at, known_by, known_or_full, number_for, reply_to_command, after_command}
 use Rattle.flat_store.specs.Flat as flat
-use Rattle.flat_store.specs.Legal.{IsZeroPage, MayRelease, IsLawful, IsLawfulDo, IsAnswer, after_do, after_entry}
+use Rattle.flat_store.specs.Legal.{IsZeroPage, MayRelease, IsLawful, IsAnswer, after_do, after_entry}
 use Rattle.flat_store.specs.Kept.{Seg, Kept, is_full, gauge_at, seg_at, slot_at, word_of_slot, found_in, known_at, make_new, make_answer, past_segment, number_in, initiate_new, initiate_answer, store_in, put_in, with_slot, charged, credited, put_at, put_word, give_up, make_named, know, know_named, made_of, follow_do, follow_release, kept_after, answer_to}
 use Rattle.flat_store.specs.Kept as kept
 use Rattle.flat_store.specs.Shown.{Shows, AreSmall}
@@ -286,7 +286,7 @@ do_shown p k s process place (Some c) r h going small answer =
     moved_shown p (made_of k process c r) (cond (takes_effect r) (effect_of p s process c) s) process place
     (command_effect p k s process c r h (omega arith) (λ path pages volume is. small path pages volume (ap (λ (x : Command). Some x) is)) (answer ∙ sym (answer_shown p k s process c h)))
 
-slot_there : (slots : List (Option (List ℕ))) (page : ℕ) (words : List ℕ) → get_or slots page None ≡ Some words → page < length slots
+pub slot_there : (slots : List (Option (List ℕ))) (page : ℕ) (words : List ℕ) → get_or slots page None ≡ Some words → page < length slots
 slot_there [] page words some = absurd cc
 slot_there (o ∷ os) zero words some = omega arith
 slot_there (o ∷ os) (suc page) words some = let lt : page < length os = slot_there os page words some in omega arith

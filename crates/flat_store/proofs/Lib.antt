@@ -1,8 +1,10 @@
+pub mod Allowed
 pub mod BookLaws
 pub mod Booted
 pub mod PageLaws
 pub mod Numbers
 pub mod Replies
+pub mod Scripts
 pub mod Shallow
 pub mod Stored
 pub mod Changes

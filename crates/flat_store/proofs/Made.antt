@@ -1,19 +1,19 @@
 -- The program's tables after a segment is made, and after a process has moved on or ended.
-use Rattle.std.proofs.Common.{◌≡◌, ◌≢◌, ℕ, suc, zero, ◌+◌, ◌*◌, ◌<◌, ◌≤◌, Bool, true, false, cond, eqb, nat_le, ◌&&◌, ◌||◌, List, [], ◌∷◌, ◌++◌, length, get_or, set, replicate, Option, Some, None, refl, sym, ap, subst, ◌∙◌, arith, inl, inr, ◌⊎◌}
-use Rattle.std.specs.Prelude.{count_by, is_some}
+use Rattle.std.proofs.Common.{◌≡◌, ◌≢◌, ℕ, suc, zero, ◌+◌, ◌<◌, ◌≤◌, Bool, true, false, cond, eqb, List, [], ◌∷◌, ◌++◌, length, get_or, set, replicate, Option, Some, None, refl, sym, ap, subst, ◌∙◌, arith, inl, inr, ◌⊎◌}
+use Rattle.std.specs.Prelude.{is_some}
 use Rattle.std.proofs.lemmas.Bool.{cases_eq}
 use Rattle.std.proofs.lemmas.Bool.Decides.{nat_tests}
 use Rattle.std.proofs.lemmas.List.{length-set, length-append, length-replicate}
 use Rattle.std.proofs.lemmas.List.Sums.{sum_by-cons}
 use Rattle.script.specs.Plans.{Plan, who_of}
-use Rattle.storage_terms.specs.Tree.{Node, taken_on, entries_on}
+use Rattle.storage_terms.specs.Tree.{Node, entries_on}
 use Rattle.flat_store.specs.Pages.{is_stored}
 use Rattle.flat_store.specs.Flat.{Store, made_in, entries_of}
 use Rattle.flat_store.specs.Flat as flat
 use Rattle.flat_store.specs.Kept.{Seg, Kept, Gauge, is_full, filled, gauge_at, no_seg, seg_at, slot_at, make_named}
 use Rattle.flat_store.specs.Kept as kept
 use Rattle.flat_store.specs.Shown.{IsSegment, AreNodes, Shows}
-use Rattle.flat_store.proofs.Changes.{past_end, seg_appended, seg_last, seg_past, nodes_appended, slot_appended, gauge_set, taken_new}
+use Rattle.flat_store.proofs.Changes.{past_end, seg_last, nodes_appended, slot_appended, gauge_set, taken_new}
 
 -- the process goes on to its next command
 pub moved_shown : (p : Plan) (k : Kept) (s : Store) (process place : ℕ) → Shows p k s → Shows p (kept.moved_on k process place) (flat.moved_on s process place)
@@ -68,9 +68,10 @@ ended_shown p k s process h = record {
 nodes_more : (p : Plan) (segments : List Seg) (seg : Seg) (n : Node) (nodes : List Node) → AreNodes p segments nodes → length nodes ≡ length segments + 1 → IsSegment seg (length segments + 2) n → AreNodes p (segments ++ seg ∷ []) (n ∷ nodes)
 nodes_more p segments seg n [] h count is = absurd h
 nodes_more p segments seg n (m ∷ ns) h count is =
-    let size : length ns ≡ length segments = omega arith in
-    (subst (λ (x : ℕ). IsSegment (seg_at (segments ++ seg ∷ []) x) (x + 2) n) (sym size) (subst (λ (x : Seg). IsSegment x (length segments + 2) n) (sym (seg_last segments seg)) is),
-     nodes_appended p segments seg (m ∷ ns) (omega arith) h)
+    let size : length ns ≡ length segments = omega arith in (
+      subst (λ (x : ℕ). IsSegment (seg_at (segments ++ seg ∷ []) x) (x + 2) n) (sym size) (subst (λ (x : Seg). IsSegment x (length segments + 2) n) (sym (seg_last segments seg)) is),
+      nodes_appended p segments seg (m ∷ ns) (omega arith) h,
+    )
 
 volume_there : (gauges : List Gauge) (v : ℕ) → is_full (gauge_at gauges v) ≡ false → v < length gauges
 volume_there [] v h = absurd cc

@@ -1,6 +1,6 @@
 -- What the program answers is what the flat store that it shows answers.
-use Rattle.std.proofs.Common.{◌≡◌, ◌≢◌, ℕ, suc, zero, ◌+◌, ◌*◌, ◌/◌, ◌%◌, ◌<◌, ◌≤◌, Bool, true, false, cond, eqb, leb, nat_le, ◌&&◌, ◌||◌, List, [], ◌∷◌, length, Option, Some, None, refl, sym, ap, subst, ◌∙◌, arith}
-use Rattle.std.specs.Prelude.{slice_get, slice_index_or, is_some}
+use Rattle.std.proofs.Common.{◌≡◌, ℕ, ◌+◌, ◌*◌, ◌/◌, ◌%◌, ◌<◌, ◌≤◌, Bool, true, false, cond, eqb, nat_le, ◌||◌, List, [], ◌∷◌, length, Option, Some, None, refl, sym, ap, ◌∙◌, arith}
+use Rattle.std.specs.Prelude.{slice_index_or, is_some}
 use Rattle.std.specs.Option.{option_and_then}
 use Rattle.std.proofs.lemmas.Bool.Decides.{nat_tests}
 use Rattle.script.specs.Plans.{Plan}
@@ -8,13 +8,13 @@ use Rattle.script.specs.declared.commands.Command.{Command}
 use Rattle.script.specs.declared.commands.Command.TheVariants as command
 use Rattle.book.specs.declared.replies.Reply.{Reply}
 use Rattle.book.specs.declared.replies.Reply.TheVariants as reply
-use Rattle.storage_terms.specs.Tree.{Node, Walk, LeadsTo, Missing, InSegment, node_in, branch_in, has_directory, walk_in, quota_in, account_of, used_by, taken_on, entries_on}
+use Rattle.storage_terms.specs.Tree.{Node, Walk, LeadsTo, node_in, branch_in, walk_in, quota_in, used_by, taken_on, entries_on}
 use Rattle.flat_store.specs.Words.{word_at}
 use Rattle.flat_store.specs.Pages.{is_stored}
-use Rattle.flat_store.specs.Flat.{Store, known_uid, segment_of, is_past, read_of, write_of, is_used_up, is_volume_full, records_of, entries_of, read_reply, write_reply, parts_of, before_parts, make_in, make_at, make_of, make_reply, initiate_at, initiate_reply, known_or_full, number_for, reply_to_command}
+use Rattle.flat_store.specs.Flat.{Store, segment_of, is_past, read_of, write_of, is_used_up, is_volume_full, records_of, entries_of, read_reply, write_reply, parts_of, before_parts, make_in, make_at, make_of, make_reply, initiate_at, initiate_reply, reply_to_command}
 use Rattle.flat_store.specs.Kept.{Seg, Kept, Gauge, is_full, gauge_at, seg_at, slot_at, word_of_slot, found_in, newest_named, known_at, make_new, make_answer, past_segment, number_in, initiate_new, initiate_answer, store_in, put_in, answer_to}
 use Rattle.flat_store.specs.Kept as kept
-use Rattle.flat_store.specs.Shown.{IsSegment, AreNodes, uid_of_place, Shows}
+use Rattle.flat_store.specs.Shown.{uid_of_place, Shows}
 use Rattle.flat_store.proofs.Shallow.{HasNode, has_node, HasBranch, branch_none, branch_some, account_root, used_root, quota_root, root_directory, no_directory, walk_none, walk_one, walk_past}
 use Rattle.flat_store.proofs.Numbers.{number_shown}
 

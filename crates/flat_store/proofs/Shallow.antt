@@ -1,14 +1,14 @@
 -- A tree of the root and segments right below it: its look-ups, its accounts and its counts.
-use Rattle.std.proofs.Common.{◌≡◌, ◌≢◌, ℕ, suc, zero, ◌+◌, ◌<◌, ◌≤◌, Bool, true, false, cond, eqb, ◌&&◌, List, [], ◌∷◌, length, Option, Some, None, refl, sym, ap, subst, ◌∙◌, arith, inl, inr, ◌⊎◌}
+use Rattle.std.proofs.Common.{◌≡◌, ◌≢◌, ℕ, suc, zero, ◌+◌, ◌<◌, Bool, true, false, cond, eqb, List, [], ◌∷◌, length, Some, None, refl, sym, ap, subst, ◌∙◌, arith, inl, inr, ◌⊎◌}
 use Rattle.std.specs.Prelude.{count_by}
 use Rattle.std.specs.Str.{bytes_eq}
 use Rattle.std.proofs.lemmas.Bool.{cases_eq}
 use Rattle.std.proofs.lemmas.Bool.Decides.{nat_tests}
 use Rattle.std.proofs.lemmas.List.Sums.{sum_by-cons}
 use Rattle.script.specs.Plans.{Plan}
-use Rattle.storage_terms.specs.Tree.{Node, Walk, LeadsTo, Missing, InSegment, node_in, is_branch, branch_in, has_directory, onward, walk_from, walk_in, step_up, above, volume_in, quota_in, account, account_of, used_by}
+use Rattle.storage_terms.specs.Tree.{Node, LeadsTo, Missing, InSegment, node_in, is_branch, branch_in, has_directory, walk_in, step_up, above, volume_in, quota_in, account, account_of, used_by}
 use Rattle.flat_store.specs.Flat.{root_of}
-use Rattle.flat_store.specs.Kept.{Seg, seg_at, newest_named, found_in}
+use Rattle.flat_store.specs.Kept.{Seg, seg_at, newest_named}
 use Rattle.flat_store.specs.Shown.{IsSegment, AreNodes}
 
 -- the node of a segment is there

@@ -1,19 +1,19 @@
 -- The program's tables after a word is written, and after a page is given up.
-use Rattle.std.proofs.Common.{◌≡◌, ◌≢◌, ℕ, suc, zero, ◌+◌, ◌-◌, ◌*◌, ◌/◌, ◌%◌, ◌<◌, ◌≤◌, Bool, true, false, cond, eqb, nat_le, not, ◌&&◌, ◌||◌, List, [], ◌∷◌, length, get_or, set, replicate, Option, Some, None, refl, sym, ap, subst, ◌∙◌, arith, inl, inr, ◌⊎◌}
-use Rattle.std.specs.Prelude.{count_by, is_some}
+use Rattle.std.proofs.Common.{◌≡◌, ◌≢◌, ℕ, ◌+◌, ◌*◌, ◌<◌, ◌≤◌, Bool, true, false, cond, eqb, not, ◌&&◌, List, length, get_or, set, Option, Some, None, refl, sym, ap, ◌∙◌, arith, inl, inr, ◌⊎◌}
+use Rattle.std.specs.Prelude.{is_some}
 use Rattle.std.proofs.lemmas.Bool.{cases_eq}
 use Rattle.std.proofs.lemmas.Bool.Decides.{nat_tests}
-use Rattle.std.proofs.lemmas.List.{length-set, get_or-set_same, get_or-set_other, get_or-replicate, length-replicate}
+use Rattle.std.proofs.lemmas.List.{get_or-set_same, get_or-set_other}
 use Rattle.script.specs.Plans.{Plan}
-use Rattle.storage_terms.specs.Tree.{Node, volume_in, taken_on}
+use Rattle.storage_terms.specs.Tree.{taken_on}
 use Rattle.flat_store.specs.Words.{Words, word_at, with_word}
 use Rattle.flat_store.specs.Pages.{is_page, is_stored, with_stored, without_stored, IsOnce}
-use Rattle.flat_store.specs.Flat.{Store, stored_by, records_of}
-use Rattle.flat_store.specs.Kept.{Seg, Kept, Gauge, is_full, filled, drained, gauge_at, seg_at, slot_at, word_of_slot, with_slot, charged, credited}
-use Rattle.flat_store.specs.Shown.{AreNodes, Shows}
+use Rattle.flat_store.specs.Flat.{Store, records_of}
+use Rattle.flat_store.specs.Kept.{Kept, Gauge, gauge_at, seg_at, slot_at, word_of_slot, with_slot}
+use Rattle.flat_store.specs.Shown.{Shows}
 use Rattle.flat_store.proofs.WordLaws.{word_at-with}
-use Rattle.flat_store.proofs.PageLaws.{is_stored-with, is_stored-without, once_with, once_without, length-with_new, length-with_old, length-without}
-use Rattle.flat_store.proofs.Changes.{AreAlike, nodes_alike, alike_with, slot_same, slot_other, gauge_set, count_with, count_without}
+use Rattle.flat_store.proofs.PageLaws.{is_stored-with, is_stored-without, once_with, once_without}
+use Rattle.flat_store.proofs.Changes.{AreAlike, nodes_alike, alike_with, slot_same, slot_other}
 
 -- a place that is changed, or another
 pub at_place : (i page j q : ℕ) → ((j ≡ i) × (q ≡ page)) ⊎ ((j ≢ i) ⊎ (q ≢ page))

@@ -127,11 +127,11 @@ is_volume_full p s n = taken_on s.nodes s.stored n.volume == records_of p n.volu
 abbrev pub write_of : Plan → Store → ℕ → ℕ → Option Node → Reply
 write_of p s offset w None = reply.Unknown
 write_of p s offset w (Some n) =
-  if is_past n offset then reply.Length
-  else if w == 0 || is_stored s.stored n.uid (offset / 1024) then reply.Done
-  else if is_used_up s n then reply.Quota
-  else if is_volume_full p s n then reply.NoRecord
-  else reply.Done
+    if is_past n offset then reply.Length
+    else if w == 0 || is_stored s.stored n.uid (offset / 1024) then reply.Done
+    else if is_used_up s n then reply.Quota
+    else if is_volume_full p s n then reply.NoRecord
+    else reply.Done
 
 unfoldable pub read_reply : Store → ℕ → ℕ → ℕ → Reply
 read_reply s process number offset = read_of s offset (segment_of s process number)
@@ -143,10 +143,10 @@ write_reply p s process number offset w = write_of p s offset w (segment_of s pr
 -- tree has 4096 branches beside the root, noentry where all VTOC entries of the volume are used; else it is made.
 abbrev pub make_in : Plan → Store → ℕ → ℕ → List ℕ → Reply
 make_in p s volume directory name =
-  if is_some (branch_in s.nodes directory name) then reply.Exists
-  else if nat_le 4097 (length s.nodes) then reply.Room
-  else if nat_le (entries_of p volume) (entries_on s.nodes volume) then reply.NoEntry
-  else reply.Made s.next
+    if is_some (branch_in s.nodes directory name) then reply.Exists
+    else if nat_le 4097 (length s.nodes) then reply.Room
+    else if nat_le (entries_of p volume) (entries_on s.nodes volume) then reply.NoEntry
+    else reply.Made s.next
 
 -- where a path leads nowhere, or to a segment where a directory is asked for
 abbrev pub make_at : Plan → Store → ℕ → Walk → List ℕ → Reply

@@ -1,7 +1,8 @@
 -- What the program of the flat store keeps, what it answers by that, and what it makes of it (own).
-use Rattle.std.specs.Prelude.{◌≡◌, ℕ, ◌+◌, ◌-◌, ◌*◌, ◌/◌, ◌%◌, zero, suc, Bool, true, false, ◌&&◌, not, ◌==◌, nat_le, if◌then◌else◌, List, [], ◌∷◌, ◌++◌, length, Option, Some, None, is_some, slice_get, slice_index, slice_index_or, slice_set, replicate, map, position}
+use Rattle.std.specs.Prelude.{◌≡◌, ℕ, ◌+◌, ◌-◌, ◌*◌, ◌/◌, ◌%◌, zero, suc, Bool, true, false, ◌&&◌, not, ◌==◌, nat_le, if◌then◌else◌, List, [], ◌∷◌, ◌++◌, length, Option, Some, None, slice_get, slice_index, slice_index_or, slice_set, replicate, map, position}
 use Rattle.std.specs.Str.{bytes_eq}
 use Rattle.script.specs.Plans.{Plan, command_at}
+use Rattle.mword.specs.Words.{AreZero}
 use Rattle.script.specs.declared.plan.VolumeLine.{VolumeLine}
 use Rattle.script.specs.declared.commands.Command.{Command}
 use Rattle.script.specs.declared.commands.Command.TheVariants as command
@@ -81,15 +82,15 @@ known_at k process number = slice_get (slice_index_or k.known process []) number
 abbrev pub read_of : Kept → ℕ → Option ℕ → Reply
 read_of k offset None = reply.Unknown
 read_of k offset (Some i) =
-  if nat_le (1024 * length (seg_at k.segments i).slots) offset then reply.Length
-  else reply.Word (word_of_slot (slot_at k.segments i (offset / 1024)) (offset % 1024))
+    if nat_le (1024 * length (seg_at k.segments i).slots) offset then reply.Length
+    else reply.Word (word_of_slot (slot_at k.segments i (offset / 1024)) (offset % 1024))
 
 -- a page that isn't stored gets its first word other than 0
 abbrev pub store_in : Kept → ℕ → Reply
 store_in k volume =
-  if is_full k.quota then reply.Quota
-  else if is_full (gauge_at k.records volume) then reply.NoRecord
-  else reply.Done
+    if is_full k.quota then reply.Quota
+    else if is_full (gauge_at k.records volume) then reply.NoRecord
+    else reply.Done
 
 abbrev pub put_in : Kept → ℕ → ℕ → Option (List ℕ) → Reply
 put_in k volume w None = if w == 0 then reply.Done else store_in k volume
@@ -98,16 +99,16 @@ put_in k volume w (Some words) = reply.Done
 abbrev pub write_of : Kept → ℕ → ℕ → Option ℕ → Reply
 write_of k offset w None = reply.Unknown
 write_of k offset w (Some i) =
-  if nat_le (1024 * length (seg_at k.segments i).slots) offset then reply.Length
-  else put_in k (seg_at k.segments i).volume w (slot_at k.segments i (offset / 1024))
+    if nat_le (1024 * length (seg_at k.segments i).slots) offset then reply.Length
+    else put_in k (seg_at k.segments i).volume w (slot_at k.segments i (offset / 1024))
 
 -- a segment is made below the root
 abbrev pub make_new : Kept → ℕ → Option ℕ → Reply
 make_new k volume (Some i) = reply.Exists
 make_new k volume None =
-  if nat_le 4096 (length k.segments) then reply.Room
-  else if is_full (gauge_at k.entries volume) then reply.NoEntry
-  else reply.Made (length k.segments + 2)
+    if nat_le 4096 (length k.segments) then reply.Room
+    else if is_full (gauge_at k.entries volume) then reply.NoEntry
+    else reply.Made (length k.segments + 2)
 
 -- a path goes on from a name: what the name stands for is no directory
 abbrev pub past_segment : Option ℕ → Reply
@@ -232,3 +233,27 @@ booted p = record {
   places = replicate (length p.processes) 0;
   ended = replicate (length p.processes) false;
 }
+
+-- a process hasn't ended, and has come to this place
+pub record IsNext (k : Kept) (process place : ℕ) : Type 0 where
+  pub going : slice_index_or k.ended process true ≡ false
+  pub next : slice_index k.places process ≡ place
+
+abbrev pub IsDue : Kept → ℕ → Option Command → Reply → Type 0
+IsDue k process None r = ⊥
+IsDue k process (Some c) r = r ≡ answer_to k process c
+
+-- a command may be answered so
+pub record MayAnswer (p : Plan) (k : Kept) (process place : ℕ) (r : Reply) : Type 0 where
+  pub next : IsNext k process place
+  pub due : IsDue k process (command_at p process place) r
+
+-- a page is stored, and all zeros
+abbrev pub IsZeroSlot : Option (List ℕ) → Type 0
+IsZeroSlot None = ⊥
+IsZeroSlot (Some words) = AreZero words
+
+abbrev pub MayGiveUp : Kept → ℕ → ℕ → Type 0
+MayGiveUp k zero page = ⊥
+MayGiveUp k (suc zero) page = ⊥
+MayGiveUp k (suc (suc i)) page = IsZeroSlot (slot_at k.segments i page)

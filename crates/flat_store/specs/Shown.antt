@@ -1,5 +1,5 @@
 -- Which flat store the program's tables show (own).
-use Rattle.std.specs.Prelude.{◌≡◌, ◌<◌, ◌≤◌, ℕ, ◌+◌, ◌*◌, Bool, false, List, [], ◌∷◌, length, Option, Some, None, is_some, slice_index_or}
+use Rattle.std.specs.Prelude.{◌≡◌, ◌<◌, ◌≤◌, ℕ, ◌+◌, ◌*◌, false, List, [], ◌∷◌, length, Option, Some, None, is_some, slice_index_or}
 use Rattle.script.specs.Plans.{Plan, command_at}
 use Rattle.script.specs.declared.commands.Command.TheVariants as command
 use Rattle.storage_terms.specs.Tree.{Node, taken_on, entries_on}

@@ -8,6 +8,10 @@ mod gauges;
 mod segments;
 mod store;
 mod tables;
+#[cfg(test)]
+mod tests;
+
+pub use store::FlatStore;
 
 /// There wasn't enough memory.
 #[derive(Clone, Copy, Debug, PartialEq, Eq)]
