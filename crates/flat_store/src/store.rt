@@ -1,11 +1,11 @@
 ghost use Rattle.std.specs.Prelude.{◌≡◌, ◌≤◌, ◌+◌, ◌<◌, ◌↔◌, true, false, length, map, replicate, IsTrue, IfOk, OnOk, OnErr, [], ◌∷◌, slice_index_or, slice_index};
 ghost use Rattle.script.specs.Plans.{Plan};
 ghost use Rattle.script.specs.Forms.{IsFirstForm};
-ghost use Rattle.storage_terms.specs.Tree.{used_by, taken_on};
+ghost use Rattle.storage_terms.specs.Tree.{used_by, taken_on, entries_on};
 ghost use Rattle.flat_store.specs.Words.{word_at};
 ghost use Rattle.flat_store.specs.Flat.{Store, boot};
 ghost use Rattle.flat_store.specs.Legal.{IsLawful, IsLegal, store_after, after_entry};
-ghost use Rattle.flat_store.specs.Kept.{booted, records_gauge, entries_gauge, with_root, slot_at, word_of_slot, IsNext, MayAnswer, MayGiveUp};
+ghost use Rattle.flat_store.specs.Kept.{booted, records_gauge, entries_gauge, with_root, gauge_at, slot_at, word_of_slot, IsNext, MayAnswer, MayGiveUp};
 ghost use Rattle.flat_store.specs.Shown.{Shows};
 
 use crate::NoMemory;
@@ -114,6 +114,16 @@ impl Model for FlatStore {
     ghost Value = { Kept };
 
     ghost view = { λ f. f.tables };
+}
+
+/// How much of the gauge of that number is used.
+fn used_of(gauges: &[Gauge], v: u32) -> u32
+    ensures { result ≡ (gauge_at gauges.now v).used }
+{
+    match gauges.get(v as usize) {
+        Some(gauge) => gauge.used(),
+        None => 0,
+    }
 }
 
 /// Whether a reply is the one that is due.
@@ -252,18 +262,25 @@ impl FlatStore {
     /// How many stored pages are charged to an account, that of the directory with this uid, in pages; 0 where it has no
     /// account.
     pub fn used(&self, a: u32) -> u32
-        ensures { (p : Plan) (store : Store) → Shows p self.now store → result ≡ used_by store.nodes store.stored a }
+        ensures shown { (p : Plan) (store : Store) → Shows p self.now store → result ≡ used_by store.nodes store.stored a }
+        ensures root { a ≡ 1 → result ≡ self.now.quota.used }
     {
         if a == 1 { self.tables.quota.used() } else { 0 }
     }
 
     /// How many records of a volume are taken, one for each stored page.
     pub fn taken(&self, v: u32) -> u32
-        ensures { (p : Plan) (store : Store) → Shows p self.now store → result ≡ taken_on store.nodes store.stored v }
+        ensures shown { (p : Plan) (store : Store) → Shows p self.now store → result ≡ taken_on store.nodes store.stored v }
+        ensures kept { result ≡ (gauge_at self.now.records v).used }
     {
-        match self.tables.records.get(v as usize) {
-            Some(gauge) => gauge.used(),
-            None => 0,
-        }
+        used_of(&self.tables.records, v)
+    }
+
+    /// How many VTOC entries of a volume are used, one for each node on it.
+    pub fn entries(&self, v: u32) -> u32
+        ensures shown { (p : Plan) (store : Store) → Shows p self.now store → result ≡ entries_on store.nodes v }
+        ensures kept { result ≡ (gauge_at self.now.entries v).used }
+    {
+        used_of(&self.tables.entries, v)
     }
 }

@@ -1,1 +1,2 @@
-mod LineLaws
+pub mod LineLaws
+pub mod SummaryLaws

@@ -10,7 +10,10 @@ use Rattle.script.specs.Forms.{IsFirstForm}
 use Rattle.book.specs.declared.entries.Entry.{Entry}
 use Rattle.book.specs.declared.entries.Entry.TheVariants as entry
 use Rattle.flat_store.specs.Legal.{part, is_part, store_after}
-use Rattle.listing.specs.Listings.{answer_line, entry_line, own_line, process_line, process_lines, processes_lines, summary_of, first_summary, listing_of}
+use Rattle.listing.specs.Listings.{answer_line, entry_line, own_line, process_line, process_lines, processes_lines, kept_summary, listing_of}
+use Rattle.flat_store.specs.Kept.{Kept}
+use Rattle.flat_store.specs.Shown.{Shows}
+use Rattle.listing.proofs.SummaryLaws.{summary_shown}
 
 own_lines : (p : Plan) (k : ℕ) (es : List Entry) → flat_map (own_line p k) es ≡ flat_map (entry_line p) (part k es)
 unfolding part
@@ -57,17 +60,17 @@ one_process p es [] h = absurd (omega arith)
 one_process p es (x ∷ []) h = nil_after (process_lines p es 0 x.who)
 one_process p es (x ∷ y ∷ xs) h = absurd (omega arith)
 
-pub listing_whole : (p q : Plan) (es : List Entry) (stored : ℕ) (none a b c : List ℕ) (w : Who) → q ≡ p → IsFirstForm q → summary_of p (store_after p es) ≡ first_summary p stored → none ≡ [] → w ≡ who_of q 0 → a ≡ none ++ process_line 0 w → b ≡ a ++ flat_map (entry_line p) (part 0 es) → c ≡ b ++ first_summary q stored → c ≡ listing_of p es
+pub listing_whole : (p q : Plan) (es : List Entry) (k : Kept) (none a b c : List ℕ) (w : Who) → q ≡ p → IsFirstForm q → Shows p k (store_after p es) → none ≡ [] → w ≡ who_of q 0 → a ≡ none ++ process_line 0 w → b ≡ a ++ flat_map (entry_line p) (part 0 es) → c ≡ b ++ kept_summary q k → c ≡ listing_of p es
 unfolding listing_of process_lines
-listing_whole p q es stored none a b c w same form summary empty who first second third =
-    whole (subst IsFirstForm same form) (who ∙ ap (λ (x : Plan). who_of x 0) same) (third ∙ ap (λ (x : Plan). b ++ first_summary x stored) same)
+listing_whole p q es k none a b c w same form shows empty who first second third =
+    whole (subst IsFirstForm same form) (who ∙ ap (λ (x : Plan). who_of x 0) same) (third ∙ ap (λ (x : Plan). b ++ kept_summary x k) same)
   where
-    whole : IsFirstForm p → w ≡ who_of p 0 → c ≡ b ++ first_summary p stored → c ≡ listing_of p es
+    whole : IsFirstForm p → w ≡ who_of p 0 → c ≡ b ++ kept_summary p k → c ≡ listing_of p es
     whole f v t =
         t
-        ∙ ap (λ (x : List ℕ). x ++ first_summary p stored)
+        ∙ ap (λ (x : List ℕ). x ++ kept_summary p k)
         (second
         ∙ ap (λ (x : List ℕ). x ++ flat_map (entry_line p) (part 0 es))
         (first ∙ ap (λ (x : List ℕ). x ++ process_line 0 w) empty ∙ ap (process_line 0) v)
         ∙ sym (one_process p es p.processes f.processes))
-        ∙ ap (λ (x : List ℕ). processes_lines p es 0 p.processes ++ x) (sym summary)
+        ∙ ap (λ (x : List ℕ). processes_lines p es 0 p.processes ++ x) (summary_shown p k (store_after p es) shows)

@@ -14,6 +14,7 @@ use Rattle.book.specs.declared.replies.Reply.{Reply}
 use Rattle.book.specs.Replies.{reply_text}
 use Rattle.storage_terms.specs.Tree.{Node, is_account, used_by, taken_on, entries_on}
 use Rattle.flat_store.specs.Flat.{Store}
+use Rattle.flat_store.specs.Kept.{Kept, gauge_at}
 use Rattle.flat_store.specs.Legal.{store_after, part}
 use Rattle.listing.specs.Commands.{command_text}
 
@@ -81,11 +82,13 @@ abbrev pub own_line : Plan → ℕ → Entry → List ℕ
 own_line p k (entry.Do process place cpu frame r) = if eqb process k then answer_line p (command_at p k place) r else []
 own_line p k _ = []
 
--- the summary of a run whose only account is the root and whose only volume has the root and a segment,
--- of which so many pages are stored
-abbrev pub first_volume : List VolumeLine → ℕ → List ℕ
-first_volume [] stored = []
-first_volume (v ∷ vs) stored = volume_text v stored 2
+-- the summary by what the program of the flat store keeps: the root is the only account
+abbrev pub kept_line : Kept → ℕ → VolumeLine → List ℕ
+kept_line k v x = volume_text x (gauge_at k.records v).used (gauge_at k.entries v).used
 
-abbrev pub first_summary : Plan → ℕ → List ℕ
-first_summary p stored = account_text [] p.quota stored ++ first_volume p.volumes stored
+abbrev pub kept_lines : Kept → ℕ → List VolumeLine → List ℕ
+kept_lines k v [] = []
+kept_lines k v (x ∷ xs) = kept_line k v x ++ kept_lines k (v + 1) xs
+
+abbrev pub kept_summary : Plan → Kept → List ℕ
+kept_summary p k = account_text [] p.quota k.quota.used ++ kept_lines k 0 p.volumes

@@ -21,13 +21,12 @@ use Rattle.flat_store.proofs.PageLaws.{is_stored-without, length-without, once_k
 use Rattle.runner.specs.Machines.{segment_in, IsPicture, Holds, IsAt, done_at, IsCleanBelow, release_entry}
 use Rattle.std.specs.List.{flat_map}
 use Rattle.std.specs.Prelude.{reverse, slice_get}
-use Rattle.listing.specs.Listings.{account_line, account_lines, account_text, volume_text, volume_lines, summary_of, first_summary, first_volume}
 use Rattle.runner.specs.declared.steps.Step.{Step}
 use Rattle.runner.specs.declared.steps.Step.TheVariants as step
 use Rattle.runner.specs.Steps.{step_of, command_of, Follows}
 use Rattle.mword.specs.Words.{AreZero}
 use Rattle.std.proofs.lemmas.Grind.{get_or_default_zero}
-use Rattle.runner.proofs.Counts.{used_all, taken_all}
+use Rattle.runner.proofs.Counts.{used_all}
 use Rattle.runner.proofs.Answered.{lawful_at, store_done, picture_moved, past_end, page_there}
 
 -- the store once the process has ended
@@ -207,43 +206,6 @@ clean_kept p es q h never = λ page lt. at page lt (cases_eq page q)
     at : (page : ℕ) → page < q + 1 → (page ≡ q) ⊎ (page ≢ q) → is_stored (store_after p es).stored 2 page ≡ true → IsZeroPage (store_after p es) 2 page → ⊥
     at page lt (inl e) = subst (λ (x : ℕ). is_stored (store_after p es).stored 2 x ≡ true → IsZeroPage (store_after p es) 2 x → ⊥) (sym e) (λ on zeros. never (record { there = on; zeros = zeros }))
     at page lt (inr ne) = h page (omega arith)
-
-entries_two : (p : Plan) → entries_on (segment_in p ∷ root_of p ∷ []) 0 ≡ 2
-unfolding entries_on
-entries_two p = refl
-
-accounts_first : (p : Plan) (s : Store) → s.nodes ≡ segment_in p ∷ root_of p ∷ [] → account_lines s ≡ account_text [] p.quota (length s.stored)
-unfolding account_lines
-accounts_first p s nodes =
-    ap (λ (ns : List Node). flat_map (account_line (record s { nodes = ns })) (reverse ns)) nodes
-    ∙ nil_after (account_text [] p.quota (used_by (segment_in p ∷ root_of p ∷ []) s.stored 1))
-    ∙ ap (account_text [] p.quota) (used_all p s.stored)
-  where
-    nil_after : (x : List ℕ) → x ++ [] ≡ x
-    nil_after [] = refl
-    nil_after (b ∷ bs) = ap (λ t. b ∷ t) (nil_after bs)
-
-volumes_first : (p : Plan) (s : Store) (vs : List VolumeLine) → s.nodes ≡ segment_in p ∷ root_of p ∷ [] → length vs ≡ 1 → volume_lines s 0 vs ≡ first_volume vs (length s.stored)
-volumes_first p s [] nodes one = absurd (omega arith)
-volumes_first p s (v ∷ []) nodes one =
-    nil_after (volume_text v (taken_on s.nodes s.stored 0) (entries_on s.nodes 0))
-    ∙ ap (λ (ns : List Node). volume_text v (taken_on ns s.stored 0) (entries_on ns 0)) nodes
-    ∙ ap (λ (n : ℕ). volume_text v n (entries_on (segment_in p ∷ root_of p ∷ []) 0)) (taken_all p s.stored)
-    ∙ ap (volume_text v (length s.stored)) (entries_two p)
-  where
-    nil_after : (x : List ℕ) → x ++ [] ≡ x
-    nil_after [] = refl
-    nil_after (b ∷ bs) = ap (λ t. b ∷ t) (nil_after bs)
-volumes_first p s (v ∷ w ∷ vs) nodes one = absurd (omega arith)
-
-pub summary_is : (p : Plan) (es : List Entry) (pages : List (List ℕ)) (marks : List Bool) (n : ℕ) → Holds p es pages marks → n ≡ count_by (λ b. b) marks → summary_of p (store_after p es) ≡ first_summary p n
-unfolding summary_of
-summary_is p es pages marks n h size =
-    let s : Store = store_after p es in
-    let same : length s.stored ≡ n = sym h.picture.counted ∙ sym size in
-    ap (λ (t : List ℕ). t ++ volume_lines s 0 p.volumes) (accounts_first p s h.picture.nodes)
-    ∙ ap (λ (t : List ℕ). account_text [] p.quota (length s.stored) ++ t) (volumes_first p s p.volumes h.picture.nodes h.form.volumes)
-    ∙ ap (first_summary p) same
 
 pub settled : (p : Plan) (es : List Entry) (pages : List (List ℕ)) (marks : List Bool) → Holds p es pages marks → IsCleanBelow p es (length pages) → IsSettled p (store_after p es)
 settled p es pages marks h clean = record {

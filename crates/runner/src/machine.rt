@@ -5,11 +5,10 @@ ghost use Rattle.script.specs.Plans.{commands_of, command_at};
 ghost use Rattle.script.specs.Forms.{pages_of};
 ghost use Rattle.flat_store.specs.Flat.{read_reply};
 ghost use Rattle.flat_store.specs.Legal.{store_after, IsComplete, IsLegal, IsSettled, MayRelease};
-ghost use Rattle.listing.specs.Listings.{summary_of, first_summary};
 ghost use Rattle.runner.specs.Steps.{command_of, Follows};
 ghost use Rattle.runner.specs.Machines.{IsAt, IsUnderway, IsQuiet, IsCleanBelow, IsRefused, IsReached, done_at, release_entry};
 
-use crate::pages::{NoMemory, mark_stored, marks_off, marks_on, zero_pages};
+use crate::pages::{NoMemory, mark_stored, marks_off, zero_pages};
 use crate::steps::{Step, step_of};
 use book::{Book, Entry, Reply};
 use mword::{Page, Word};
@@ -296,28 +295,25 @@ impl Machine {
         Ok(())
     }
 
-    /// The book, and how many pages are stored.
-    fn finish(self) -> (Book, u32)
+    /// The book.
+    fn finish(self) -> Book
         requires complete { IsComplete self.script self.entries }
         requires clean { IsCleanBelow self.script self.entries (pages_of (commands_of self.script 0)) }
-        ensures script { result.0.script ≡ self.script }
-        ensures legal { IsLegal result.0.script result.0.entries }
-        ensures complete { IsComplete result.0.script result.0.entries }
-        ensures settled { IsSettled result.0.script (store_after result.0.script result.0.entries) }
-        ensures summary { summary_of result.0.script (store_after result.0.script result.0.entries) ≡ first_summary result.0.script result.1 }
+        ensures script { result.script ≡ self.script }
+        ensures legal { IsLegal result.script result.entries }
+        ensures complete { IsComplete result.script result.entries }
+        ensures settled { IsSettled result.script (store_after result.script result.entries) }
     {
-        let stored = marks_on(&self.stored);
-        (self.book, stored as u32)
+        self.book
     }
 }
 
-/// Runs the process of a script to its end: the book of the run, and how many pages are stored.
-pub(crate) fn run(alloc: Global, script: Script) -> Result<(Book, u32), NoMemory>
-    ensures script { IfOk result (λ r. r.0.script ≡ script) }
-    ensures legal { IfOk result (λ r. IsLegal r.0.script r.0.entries) }
-    ensures complete { IfOk result (λ r. IsComplete r.0.script r.0.entries) }
-    ensures settled { IfOk result (λ r. IsSettled r.0.script (store_after r.0.script r.0.entries)) }
-    ensures summary { IfOk result (λ r. summary_of r.0.script (store_after r.0.script r.0.entries) ≡ first_summary r.0.script r.1) }
+/// Runs the process of a script to its end: the book of the run.
+pub(crate) fn run(alloc: Global, script: Script) -> Result<Book, NoMemory>
+    ensures script { IfOk result (λ b. b.script ≡ script) }
+    ensures legal { IfOk result (λ b. IsLegal b.script b.entries) }
+    ensures complete { IfOk result (λ b. IsComplete b.script b.entries) }
+    ensures settled { IfOk result (λ b. IsSettled b.script (store_after b.script b.entries)) }
 {
     let mut machine = Machine::start(alloc, script)?;
     machine.advance_all()?;

@@ -46,11 +46,3 @@ pub(crate) fn mark_stored(marks: &mut Vec<bool>, page: usize, word: Word)
         marks[page] = true;
     }
 }
-
-/// How many marks are on.
-pub(crate) fn marks_on(marks: &[bool]) -> usize
-    ensures count { result ≡ count_by (λ mark. mark) marks.now }
-    ensures most { result ≤ length marks.now }
-{
-    marks.iter().filter(|mark| **mark).count()
-}

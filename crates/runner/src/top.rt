@@ -127,10 +127,10 @@ fn run_script<K: Sink>(alloc: Global, script: Script, out: &mut K) -> Finished
     ensures write_fault { result.status ≡ Status.WriteFault → Rose (K.faults out.old) (K.faults out.new) }
     ensures memory { result.status ≡ Status.Memory → Keeps (K.held out.old) (K.held out.new) }
 {
-    let Ok((book, stored)) = run(alloc, script) else {
+    let Ok(book) = run(alloc, script) else {
         return without_book(Status::Memory);
     };
-    let Ok(text) = listing_text(alloc, &book, stored) else {
+    let Ok(text) = listing_text(alloc, &book) else {
         return without_book(Status::Memory);
     };
     let status = match write_all(out, &text) {
