@@ -4,9 +4,9 @@
 mod entries;
 mod replies;
 mod runs;
-mod texts;
 #[cfg(test)]
 mod tests;
+mod texts;
 
 pub use entries::Entry;
 pub use replies::Reply;

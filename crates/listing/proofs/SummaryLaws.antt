@@ -1,5 +1,5 @@
 -- The summary by what the flat store's program keeps is that of the flat store which it shows.
-use Rattle.std.proofs.Common.{◌≡◌, ◌≢◌, ℕ, suc, zero, ◌+◌, ◌<◌, ◌≤◌, Bool, true, false, cond, eqb, List, [], ◌∷◌, ◌++◌, length, reverse, take, drop, get_or, Option, Some, None, refl, sym, ap, subst, ◌∙◌, arith}
+use Rattle.std.proofs.Common.{◌≡◌, ℕ, ◌+◌, ◌<◌, ◌≤◌, false, eqb, List, [], ◌∷◌, ◌++◌, length, reverse, take, get_or, refl, sym, ap, ◌∙◌, arith}
 use Rattle.std.specs.List.{flat_map}
 use Rattle.std.proofs.lemmas.Bool.Decides.{nat_tests}
 use Rattle.std.proofs.lemmas.Grind.{common_steps}
@@ -8,8 +8,8 @@ use Rattle.std.proofs.lemmas.List.Concat.{flat_map-append}
 use mathlib.Core.List.{reverse-cons}
 use Rattle.script.specs.Plans.{Plan}
 use Rattle.script.specs.declared.plan.VolumeLine.{VolumeLine}
-use Rattle.storage_terms.specs.Tree.{Node, is_account, used_by, taken_on, entries_on}
-use Rattle.flat_store.specs.Flat.{Store, root_of}
+use Rattle.storage_terms.specs.Tree.{Node, used_by, taken_on, entries_on}
+use Rattle.flat_store.specs.Flat.{Store}
 use Rattle.flat_store.specs.Kept.{Seg, Kept, Gauge, gauge_at}
 use Rattle.flat_store.specs.Shown.{AreNodes, Shows}
 use Rattle.flat_store.proofs.Shallow.{used_root}
