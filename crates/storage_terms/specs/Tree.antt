@@ -1,6 +1,6 @@
 -- The directory tree, the accounts in it, and their counts from scratch (Bensoussan, Clingen and
 -- Daley 1972; Organick 1972).
-use Rattle.std.specs.Prelude.{ℕ, Bool, false, ◌&&◌, ◌||◌, not, ◌==◌, if◌then◌else◌, count_by, List, [], ◌∷◌, Option, Some, None}
+use Rattle.std.specs.Prelude.{ℕ, Bool, true, false, ◌&&◌, ◌||◌, not, ◌==◌, if◌then◌else◌, count_by, List, [], ◌∷◌, Option, Some, None}
 use Rattle.std.specs.Str.{bytes_eq}
 use Rattle.storage_terms.specs.Access.{Row}
 
@@ -37,6 +37,41 @@ is_branch directory name n = is_below directory n.superior && bytes_eq n.name na
 abbrev pub branch_in : List Node → ℕ → List ℕ → Option Node
 branch_in [] directory name = None
 branch_in (n ∷ ns) directory name = if is_branch directory name n then Some n else branch_in ns directory name
+
+-- whether a uid is that of a directory
+abbrev pub has_directory : List Node → ℕ → Bool
+has_directory [] u = false
+has_directory (n ∷ ns) u = if n.uid == u then n.directory else has_directory ns u
+
+-- whether a node lies in a directory
+abbrev pub is_inferior : ℕ → Node → Bool
+is_inferior directory n = lies_in directory n.superior
+  where
+    lies_in : ℕ → Option ℕ → Bool
+    lies_in d None = false
+    lies_in d (Some s) = s == d
+
+-- Where a path leads: to a node; or it can't be followed, since a directory on it lacks the next name, or since the
+-- next name would be looked up in a segment.
+pub data Walk : Type 0 where
+  LeadsTo : (uid : ℕ) → Walk
+  Missing : Walk
+  InSegment : Walk
+
+-- from a node on, where the next name was looked up
+abbrev pub onward : (Node → Walk) → Bool → Option Node → Walk
+onward go false found = InSegment
+onward go true None = Missing
+onward go true (Some n) = go n
+
+-- where names lead from a node, which is a directory or a segment
+abbrev pub walk_from : List Node → ℕ → Bool → List (List ℕ) → Walk
+walk_from nodes u directory [] = LeadsTo u
+walk_from nodes u directory (name ∷ names) = onward (λ n. walk_from nodes n.uid n.directory names) directory (branch_in nodes u name)
+
+-- where a path leads, from the root on
+abbrev pub walk_in : List Node → List (List ℕ) → Walk
+walk_in nodes path = walk_from nodes 1 true path
 
 abbrev pub step_up : (ℕ → List ℕ) → Option ℕ → List ℕ
 step_up f None = []

@@ -1,0 +1,4 @@
+pub mod Nodes
+pub mod Shape
+pub mod Index
+pub mod Kept

@@ -1,0 +1,302 @@
+//! The directory tree: directories and segments, each a branch of one directory, down from one root.
+#![tactic(auto)]
+
+ghost use Rattle.std.specs.Prelude.{◌≡◌, ◌≢◌, ◌<◌, ◌≤◌, ◌^◌, ℕ, Bool, nat_le, true, false, ◌↔◌, Some, None, IsErr, length, IfOk, IfSome, IfNone, OnOk, OnErr};
+ghost use Rattle.storage_terms.specs.Tree.{above, branch_in, walk_in, step_up};
+ghost use Rattle.dir_tree.specs.Nodes.{with_quotas, node_of, is_in, is_directory, is_segment, root_alone, path_answer, add_fault_of, unless, added, removed, has_inferior, with_length, with_home, chain_of};
+ghost use Rattle.dir_tree.specs.Shape.{shape, shapes, IsTree};
+
+mod entries;
+mod index;
+mod node;
+
+pub use node::{AddFault, NewNode, NoMemory, Node, NotEmpty, PathFault};
+
+use arrayvec::ArrayVec;
+use entries::Entry;
+use index::{Index, key_hash};
+use mnames::{Name, Path};
+use std::alloc::{AllocError, Global};
+use std::marker::Model;
+
+/// The uid of the root.
+pub const ROOT: u32 = 1;
+
+/// The most branches of a tree, and its root (own).
+pub const NODES: usize = 4097;
+
+/// The depth of the deepest directories (own).
+pub const DEPTH: usize = 8;
+
+/// The directory tree (Bensoussan, Clingen and Daley 1972; Organick 1972).
+#[derive(Drop)]
+pub struct Tree {
+    nodes: Vec<Node>,
+    entries: Vec<Entry>,
+    free: Vec<u32>,
+    index: Index,
+    next: u32,
+}
+
+impl Model for Tree {
+    ghost use Rattle.std.specs.Prelude.{◌≤◌, vec_capacity};
+    ghost use Rattle.dir_tree.specs.Nodes.{Branches};
+    ghost use Rattle.dir_tree.specs.Kept.{newest, IsKept};
+
+    ghost Value = { Branches };
+
+    ghost view = { λ t. record { nodes = newest t.nodes.items t.entries.items; next = t.next } };
+
+    ghost invariant = { λ t. IsKept t.nodes.items t.entries.items t.free.items t.index t.next × (4097 ≤ vec_capacity t.nodes) × (4097 ≤ vec_capacity t.entries) × (4097 ≤ vec_capacity t.free) };
+}
+
+impl From<AllocError> for NoMemory {
+    fn from(_: AllocError) -> Self {
+        NoMemory
+    }
+}
+
+impl Tree {
+    /// A tree of the root alone, which has this VTOC entry on this volume. It takes all the memory that the tree
+    /// ever has; `NoMemory` is want of it.
+    pub fn new(alloc: Global, volume: u32, entry: u32) -> Result<Tree, NoMemory>
+        ensures { IfOk result (λ tree. tree ≡ root_alone volume entry) }
+    {
+        let mut nodes = Vec::with_capacity(alloc, NODES)?;
+        let mut entries = Vec::with_capacity(alloc, NODES)?;
+        let free = Vec::with_capacity(alloc, NODES)?;
+        let index = Index::new(alloc, NODES - 1)?;
+        nodes.push_reserved(Node {
+            uid: ROOT,
+            superior: None,
+            name: Name::default(),
+            dir: true,
+            volume,
+            entry,
+            length: 0,
+        });
+        entries.push_reserved(Entry {
+            uid: ROOT,
+            superior: None,
+            place: 0,
+        });
+        Ok(Tree {
+            nodes,
+            entries,
+            free,
+            index,
+            next: ROOT + 1,
+        })
+    }
+
+    /// The node of `uid`. `None` exactly where it isn't in the tree.
+    pub fn node(&self, uid: u32) -> Option<&Node>
+        ensures some { IfSome result (λ n. node_of self.now.nodes uid ≡ Some n.now) }
+        ensures none { IfNone result (node_of self.now.nodes uid ≡ None) }
+    {
+        let entry = entries::entry_of(&self.entries, uid)?;
+        Some(&self.nodes[entry.place as usize])
+    }
+
+    /// The branch of this name in a directory. `None` exactly where there is none.
+    fn branch(&self, directory: u32, name: &Name) -> Option<&Node>
+        ensures some { IfSome result (λ n. branch_in (shapes self.now.nodes) directory name.now ≡ Some (shape n.now)) }
+        ensures none { IfNone result (branch_in (shapes self.now.nodes) directory name.now ≡ None) }
+    {
+        let place = self.index.find(&self.nodes, directory, name)?;
+        Some(&self.nodes[place as usize])
+    }
+
+    /// The uid of the node that a path leads to.
+    pub fn walk(&self, p: &Path) -> Result<u32, PathFault>
+        ensures { (quota : ℕ → ℕ) → result ≡ path_answer (walk_in (with_quotas quota self.now.nodes) p.now) }
+    {
+        let mut at = ROOT;
+        let mut dir = true;
+        for name in p.names() {
+            if !dir {
+                return Err(PathFault::NotDir);
+            }
+            match self.branch(at, name) {
+                Some(node) => {
+                    at = node.uid;
+                    dir = node.dir;
+                }
+                None => return Err(PathFault::NoPath),
+            }
+        }
+        Ok(at)
+    }
+
+    /// The superior of a node; none for the root.
+    fn superior(&self, uid: u32) -> Option<u32>
+        requires { is_in self.now.nodes uid ≡ true }
+        ensures above { above (shapes self.now.nodes) uid ≡ step_up (above (shapes self.now.nodes)) result }
+        ensures falls { IfSome result (λ s. (s < uid) × (is_in self.now.nodes s ≡ true)) }
+        ensures tree { IsTree (shapes self.now.nodes) }
+    {
+        match entries::entry_of(&self.entries, uid) {
+            Some(entry) => entry.superior,
+            None => unreachable!(),
+        }
+    }
+
+    /// The directories above a node, the nearest first.
+    pub fn superiors(&self, uid: u32) -> ArrayVec<u32, 9>
+        requires { is_in self.now.nodes uid ≡ true }
+        ensures above { (quota : ℕ → ℕ) → result.items ≡ above (with_quotas quota self.now.nodes) uid }
+        ensures tree { IsTree (shapes self.now.nodes) }
+    {
+        let mut up = ArrayVec::new();
+        let mut at = uid;
+        while let Some(superior) = self.superior(at) {
+            up.push(superior);
+            at = superior;
+        }
+        up
+    }
+
+    /// The directories from the root down to a node, and the node.
+    pub fn chain(&self, uid: u32) -> ArrayVec<u32, 10>
+        requires { is_in self.now.nodes uid ≡ true }
+        ensures chain { (quota : ℕ → ℕ) → result.items ≡ chain_of (with_quotas quota self.now.nodes) uid }
+        ensures tree { IsTree (shapes self.now.nodes) }
+    {
+        let mut chain = ArrayVec::new();
+        for directory in self.superiors(uid).as_slice().iter().rev() {
+            chain.push(*directory);
+        }
+        chain.push(uid);
+        chain
+    }
+
+    /// What `add_branch` would refuse.
+    pub fn may_add(&self, superior: u32, name: &Name, dir: bool) -> Result<(), AddFault>
+        requires { is_directory self.now.nodes superior ≡ true }
+        ensures { (quota : ℕ → ℕ) → result ≡ unless (add_fault_of (with_quotas quota self.now.nodes) superior name.now dir) tt }
+    {
+        if self.branch(superior, name).is_some() {
+            return Err(AddFault::Exists);
+        }
+        if dir && self.superiors(superior).len() >= DEPTH {
+            return Err(AddFault::Deep);
+        }
+        if self.is_full() {
+            return Err(AddFault::Room);
+        }
+        Ok(())
+    }
+
+    /// Whether there are 4096 branches.
+    fn is_full(&self) -> bool
+        ensures { result ≡ nat_le 4097 (length self.now.nodes) }
+    {
+        self.entries.len() >= NODES
+    }
+
+    /// Adds a branch to a directory, and gives its uid.
+    pub fn add_branch(&mut self, superior: u32, new: NewNode) -> Result<u32, AddFault>
+        requires directory { is_directory self.old.nodes superior ≡ true }
+        requires uids { self.old.next < 2 ^ 31 }
+        ensures answer { (quota : ℕ → ℕ) → result ≡ unless (add_fault_of (with_quotas quota self.old.nodes) superior new.name new.dir) self.old.next }
+        ensures ok { OnOk result (self.new ≡ added self.old superior new) }
+        ensures err { OnErr result (self.new ≡ self.old) }
+    {
+        self.may_add(superior, &new.name, new.dir)?;
+        let uid = self.next;
+        self.attach(superior, new);
+        Ok(uid)
+    }
+
+    /// Adds a branch that may be added.
+    fn attach(&mut self, superior: u32, new: NewNode)
+        requires directory { is_directory self.old.nodes superior ≡ true }
+        requires may { add_fault_of (shapes self.old.nodes) superior new.name new.dir ≡ None }
+        requires uids { self.old.next < 2 ^ 31 }
+        ensures { self.new ≡ added self.old superior new }
+    {
+        let uid = self.next;
+        let hash = key_hash(superior, &new.name);
+        let node = Node {
+            uid,
+            superior: Some(superior),
+            name: new.name,
+            dir: new.dir,
+            volume: new.volume,
+            entry: new.entry,
+            length: new.length,
+        };
+        let place = entries::store(&mut self.nodes, &mut self.free, node);
+        self.index.insert(hash, place);
+        self.entries.push_reserved(Entry {
+            uid,
+            superior: Some(superior),
+            place,
+        });
+        self.next = uid + 1;
+    }
+
+    /// What `remove` would refuse.
+    pub fn may_remove(&self, uid: u32) -> Result<(), NotEmpty>
+        requires there { is_in self.now.nodes uid ≡ true }
+        requires branch { uid ≢ 1 }
+        ensures { (quota : ℕ → ℕ) → IsErr result ↔ (has_inferior (with_quotas quota self.now.nodes) uid ≡ true) }
+    {
+        if entries::has_inferior(&self.entries, uid) {
+            return Err(NotEmpty);
+        }
+        Ok(())
+    }
+
+    /// Takes a branch out of the tree.
+    pub fn remove(&mut self, uid: u32) -> Result<(), NotEmpty>
+        requires there { is_in self.old.nodes uid ≡ true }
+        requires branch { uid ≢ 1 }
+        ensures answer { (quota : ℕ → ℕ) → IsErr result ↔ (has_inferior (with_quotas quota self.old.nodes) uid ≡ true) }
+        ensures ok { OnOk result (self.new ≡ removed self.old uid) }
+        ensures err { OnErr result (self.new ≡ self.old) }
+    {
+        self.may_remove(uid)?;
+        self.detach(uid);
+        Ok(())
+    }
+
+    /// Takes out a branch that has no inferior.
+    fn detach(&mut self, uid: u32)
+        requires there { is_in self.old.nodes uid ≡ true }
+        requires branch { uid ≢ 1 }
+        requires leaf { has_inferior (shapes self.old.nodes) uid ≡ false }
+        ensures { self.new ≡ removed self.old uid }
+    {
+        let at = entries::position_of(&self.entries, uid);
+        let Entry {
+            superior, place, ..
+        } = self.entries.remove(at);
+        let Some(superior) = superior else {
+            unreachable!();
+        };
+        let hash = key_hash(superior, &self.nodes[place as usize].name);
+        self.index.remove(hash, place);
+        self.free.push_reserved(place);
+    }
+
+    /// Sets the length of a segment, in pages.
+    pub fn set_length(&mut self, uid: u32, pages: u32)
+        requires { is_segment self.old.nodes uid ≡ true }
+        ensures { self.new ≡ with_length self.old uid pages }
+    {
+        let place = entries::place_of(&self.entries, uid);
+        self.nodes[place as usize].length = pages;
+    }
+
+    /// Sets the home of a segment: its volume, and its entry in the VTOC of that volume.
+    pub fn set_home(&mut self, uid: u32, volume: u32, entry: u32)
+        requires { is_segment self.old.nodes uid ≡ true }
+        ensures { self.new ≡ with_home self.old uid volume entry }
+    {
+        let place = entries::place_of(&self.entries, uid);
+        let node = &mut self.nodes[place as usize];
+        node.volume = volume;
+        node.entry = entry;
+    }
+}
