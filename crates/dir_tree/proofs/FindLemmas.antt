@@ -2,7 +2,7 @@
 use Rattle.std.proofs.Common.{◌≡◌, ◌≢◌, ℕ, suc, zero, ◌+◌, ◌<◌, ◌≤◌, Bool, true, false, cond, eqb, not, List, [], ◌∷◌, ◌++◌, length, map, Option, Some, None, refl, sym, ap, subst, ◌∙◌, arith, get_or, set, ◌⊎◌, inl, inr, is_some}
 use Rattle.std.specs.List.{find, filter, list_any}
 use Rattle.std.specs.Option.{option_map}
-use Rattle.std.proofs.lemmas.Bool.{cases_Bool, cases_eq, both_ways, eqb-true}
+use Rattle.std.proofs.lemmas.Bool.{cases_Bool, cases_eq, both_ways, eqb-true, true_from_ne_false}
 use Rattle.storage_terms.specs.Tree.{Node as Term, branch_in, is_branch}
 
 pub find_map : {X Y : Type 0} (p : Y → Bool) (f : X → Y) (xs : List X) → find p (map f xs) ≡ option_map f (find (λ x. p (f x)) xs)
@@ -43,6 +43,11 @@ member_left x [] ys m = absurd m
 member_left x (y ∷ xs) ys (inl e) = inl e
 member_left x (y ∷ xs) ys (inr m) = inr (member_left x xs ys m)
 
+pub member_parts : {X : Type 0} (x : X) (xs ys : List X) → IsMember x (xs ++ ys) → IsMember x xs ⊎ IsMember x ys
+member_parts x [] ys m = inr m
+member_parts x (y ∷ xs) ys (inl e) = inl (inl e)
+member_parts x (y ∷ xs) ys (inr m) = elim (member_parts x xs ys m) [ inl a ↦ inl (inr a) | inr b ↦ inr b ]
+
 pub member_map : {X Y : Type 0} (f : X → Y) (x : X) (xs : List X) → IsMember x xs → IsMember (f x) (map f xs)
 member_map f x [] m = absurd m
 member_map f x (y ∷ xs) (inl e) = inl (ap f e)
@@ -66,3 +71,15 @@ member_found p (y ∷ xs) x (inr m) is none = elim (cases_Bool (p y)) [
 pub filter_map_same : {X Y : Type 0} (p : Y → Bool) (f : X → Y) (xs : List X) → map f (filter (λ x. p (f x)) xs) ≡ filter p (map f xs)
 filter_map_same p f [] = refl
 filter_map_same p f (x ∷ xs) = elim (cases_Bool (p (f x))) [ inl is ↦ rw is (ap (λ ys. f x ∷ ys) (filter_map_same p f xs)) | inr isnt ↦ rw isnt (filter_map_same p f xs) ]
+
+-- some element passes where one is found
+pub any_found : {X : Type 0} (p : X → Bool) (xs : List X) → list_any p xs ≡ is_some (find p xs)
+any_found p [] = refl
+any_found p (x ∷ xs) = elim (cases_Bool (p x)) [ inl is ↦ rw is refl | inr isnt ↦ rw isnt (any_found p xs) ]
+
+pub any_member : {X : Type 0} (p : X → Bool) (xs : List X) (x : X) → IsMember x xs → p x ≡ true → list_any p xs ≡ true
+any_member p xs x m is = any_found p xs ∙ true_from_ne_false (is_some (find p xs)) (λ e. member_found p xs x m is (none_since (find p xs) e))
+  where
+    none_since : {X : Type 0} (o : Option X) → is_some o ≡ false → o ≡ None
+    none_since None e = refl
+    none_since (Some x) e = cc

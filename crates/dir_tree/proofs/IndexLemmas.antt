@@ -5,6 +5,7 @@ use Rattle.std.specs.List.{insert, remove}
 use Rattle.std.proofs.lemmas.Bool.{cases_lt, cases_eq, cases_order, le-leb, lt-leb}
 use Rattle.std.proofs.lemmas.List.Edits.{length-insert, get_or-insert_below, get_or-insert_at, get_or-insert_above, length-remove, get_or-remove_below, get_or-remove_above}
 use Rattle.storage_terms.specs.Tree.{is_branch}
+use Rattle.dir_tree.proofs.EditLemmas.{was, was_other, was_up, at_was, fewer, was_within}
 use Rattle.dir_tree.specs.declared.node.Node.{Node}
 use Rattle.dir_tree.specs.Shape.{shape}
 use Rattle.dir_tree.specs.Index.{hash_at, place_of, node_at, HasPair, IsRising, AreApart}
@@ -105,45 +106,17 @@ module _ (ps : List (ℕ × ℕ)) (i : ℕ) (within : i < length ps) where
   abbrev shorter : List (ℕ × ℕ)
   shorter = remove ps i
 
-  -- the place in the longer list of what now stands k-th
-  abbrev was : ℕ → ℕ
-  was k = if leb i k then k + 1 else k
-
-  at_was : (k : ℕ) → get_or shorter k (0, 0) ≡ get_or ps (was k) (0, 0)
-  at_was k = elim (cases_lt k i) [
-    | inl before ↦ rw (lt-leb i k before) (get_or-remove_below ps i (0, 0) k before within)
-    | inr after ↦ rw (le-leb i k after) (get_or-remove_above ps i (0, 0) k after within)
-  ]
-
-  fewer : length shorter + 1 ≡ length ps
-  fewer = length-remove ps i within
-
-  was_other : (k : ℕ) → was k ≢ i
-  was_other k e = elim (cases_lt k i) [
-    | inl before ↦ (let z : k ≡ i = rw (lt-leb i k before) at e in omega arith)
-    | inr after ↦ (let z : k + 1 ≡ i = rw (le-leb i k after) at e in omega arith)
-  ]
-
-  was_up : (a b : ℕ) → a < b → was a < was b
-  was_up a b lt = elim (cases_lt a i) [
-    | inl x ↦ elim (cases_lt b i) [ inl y ↦ rw (lt-leb i a x, lt-leb i b y) lt | inr y ↦ rw (lt-leb i a x, le-leb i b y) (omega arith) ]
-    | inr x ↦ rw (le-leb i a x, le-leb i b (omega arith)) (omega arith)
-  ]
-
-  was_within : (k : ℕ) → k < length shorter → was k < length ps
-  was_within k lt = (let n = fewer in elim (cases_lt k i) [ inl x ↦ rw (lt-leb i k x) (omega arith) | inr x ↦ rw (le-leb i k x) (omega arith) ])
-
   pub removed_rises : IsRising ps → IsRising (remove ps i)
   removed_rises up a b le lt =
-      (let ordered : was a ≤ was b = elim (cases_eq a b) [ inl same ↦ rw same (omega arith) | inr other ↦ (let less : was a < was b = was_up a b (omega arith) in omega arith) ] in
-      rw (hash_at, at_was a, at_was b) (up (was a) (was b) ordered (was_within b lt)))
+      (let ordered : was i a ≤ was i b = elim (cases_eq a b) [ inl same ↦ rw same (omega arith) | inr other ↦ (let less : was i a < was i b = was_up i a b (omega arith) in omega arith) ] in
+      rw (hash_at, at_was ps i within a (0, 0), at_was ps i within b (0, 0)) (up (was i a) (was i b) ordered (was_within ps i within b lt)))
 
   pub removed_apart : AreApart ps → AreApart (remove ps i)
-  removed_apart apart a b lt w e = apart (was a) (was b) (was_up a b lt) (was_within b w) (rw (place_of, at_was a, at_was b) at e)
+  removed_apart apart a b lt w e = apart (was i a) (was i b) (was_up i a b lt) (was_within ps i within b w) (rw (place_of, at_was ps i within a (0, 0), at_was ps i within b (0, 0)) at e)
 
   still_left : (h p : ℕ) → HasPair ps h p → p ≢ place_of ps i → HasPair shorter h p
   still_left h p x ne =
-      let n = fewer in
+      let n = fewer ps i within in
       let other : x.at ≢ i = λ e. ne (sym x.place_is ∙ ap (place_of ps) e) in
       elim (cases_lt x.at i) [
         | inl before ↦
@@ -157,16 +130,16 @@ module _ (ps : List (ℕ × ℕ)) (i : ℕ) (within : i < length ps) where
 
   no_longer : AreApart ps → (k : ℕ) → k < length shorter → place_of shorter k ≢ place_of ps i
   no_longer apart k lt e =
-      let same : place_of ps (was k) ≡ place_of ps i = rw (place_of, at_was k) at e in
-      elim (cases_order (was k) i) [
-        | inl z ↦ was_other k z
-        | inr differ ↦ elim differ [ inl below ↦ apart (was k) i below within same | inr above ↦ apart i (was k) above (was_within k lt) (sym same) ]
+      let same : place_of ps (was i k) ≡ place_of ps i = rw (place_of, at_was ps i within k (0, 0)) at e in
+      elim (cases_order (was i k) i) [
+        | inl z ↦ was_other i k z
+        | inr differ ↦ elim differ [ inl below ↦ apart (was i k) i below within same | inr above ↦ apart i (was i k) above (was_within ps i within k lt) (sym same) ]
       ]
 
   pub pair_removed : AreApart ps → (place h p : ℕ) → place_of ps i ≡ place → HasPair (remove ps i) h p ↔ (HasPair ps h p × (p ≢ place))
   pair_removed apart place h p is = (
     λ x. (
-      record { at = was x.at; within = was_within x.at x.within; hash_is = ap (λ y. y.0) (sym (at_was x.at)) ∙ x.hash_is; place_is = ap (λ y. y.1) (sym (at_was x.at)) ∙ x.place_is },
+      record { at = was i x.at; within = was_within ps i within x.at x.within; hash_is = ap (λ y. y.0) (sym (at_was ps i within x.at (0, 0))) ∙ x.hash_is; place_is = ap (λ y. y.1) (sym (at_was ps i within x.at (0, 0))) ∙ x.place_is },
       λ e. no_longer apart x.at x.within (x.place_is ∙ e ∙ sym is),
     ),
     λ y. still_left h p y.0 (λ e. y.1 (e ∙ is)),

@@ -71,8 +71,3 @@ newest_remove p ns (e ∷ es) (suc i) lt isnt others =
     let here : p (node_at ns e.place) ≡ true = others 0 (omega arith) (λ q. omega arith) in
     let ih : newest ns (remove es i) ≡ filter p (newest ns es) = newest_remove p ns es i (omega arith) isnt (λ j lt_j ne. others (suc j) (omega arith) (λ q. ne (omega arith))) in
     rw (filter-append p (newest ns es) (node_at ns e.place ∷ []), here) (ap (λ xs. xs ++ node_at ns e.place ∷ []) ih)
-
--- some element passes where one is found
-pub any_found : {X : Type 0} (p : X → Bool) (xs : List X) → list_any p xs ≡ is_some (find p xs)
-any_found p [] = refl
-any_found p (x ∷ xs) = elim (cases_Bool (p x)) [ inl is ↦ rw is refl | inr isnt ↦ rw isnt (any_found p xs) ]

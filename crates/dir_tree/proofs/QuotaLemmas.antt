@@ -1,10 +1,10 @@
 -- Where a path leads, what is above a node and what keeps a branch from being added don't depend on quotas, nor on
 -- anything but uids, superiors, names and kinds.
-use Rattle.std.proofs.Common.{◌≡◌, ℕ, ◌+◌, Bool, true, false, cond, eqb, leb, ◌&&◌, List, [], ◌∷◌, length, map, reverse, ◌||◌, Option, Some, None, refl, sym, ap, ◌∙◌, is_some}
+use Rattle.std.proofs.Common.{◌≡◌, ℕ, ◌+◌, Bool, true, false, cond, eqb, leb, ◌&&◌, List, [], ◌∷◌, length, map, reverse, ◌||◌, Option, Some, None, refl, sym, ap, ◌∙◌, is_some, get_or, drop, ◌<◌, ◌≤◌}
 use Rattle.std.specs.List.{find, list_any}
 use Rattle.std.specs.Option.{option_map}
-use Rattle.std.proofs.lemmas.List.{length-map}
-use Rattle.storage_terms.specs.Tree.{Node as Term, Walk, above, branch_in, is_branch, is_inferior, onward, step_up, walk_from, walk_in, has_directory}
+use Rattle.std.proofs.lemmas.List.{length-map, at_drop_more, at_drop_all}
+use Rattle.storage_terms.specs.Tree.{Node as Term, Walk, LeadsTo, above, branch_in, is_branch, is_inferior, onward, step_up, walk_from, walk_in, has_directory}
 use Rattle.dir_tree.specs.declared.node.Node.{Node}
 use Rattle.dir_tree.specs.Nodes.{as_term, with_quotas, add_fault_of, has_inferior, chain_of}
 use Rattle.dir_tree.specs.Shape.{shape, shapes}
@@ -52,3 +52,11 @@ inferior_any q (n ∷ ns) u = ap (λ b. is_inferior u (shape n) || b) (inferior_
 
 pub chain_any : (q : ℕ → ℕ) (ns : List Node) (u : ℕ) → chain_of (with_quotas q ns) u ≡ chain_of (shapes ns) u
 chain_any q ns u = ap (λ up. reverse (u ∷ up)) (above_any q ns u)
+
+-- one more name of a path
+pub walk_next : (ns : List Term) (u : ℕ) (b : Bool) (names : List (List ℕ)) (i : ℕ) (name : List ℕ) → i < length names → name ≡ get_or names i name
+    → walk_from ns u b (drop i names) ≡ onward (λ n. walk_from ns n.uid n.directory (drop (i + 1) names)) b (branch_in ns u name)
+walk_next ns u b names i name lt read = at_drop_more (λ (path : List (List ℕ)). walk_from ns u b path) names i name lt ∙ ap (λ (x : List ℕ). onward (λ n. walk_from ns n.uid n.directory (drop (i + 1) names)) b (branch_in ns u x)) (sym read)
+
+pub walk_ends : (ns : List Term) (u : ℕ) (b : Bool) (names : List (List ℕ)) (i : ℕ) → length names ≤ i → walk_from ns u b (drop i names) ≡ LeadsTo u
+walk_ends ns u b names i le = at_drop_all (λ (path : List (List ℕ)). walk_from ns u b path) names i le

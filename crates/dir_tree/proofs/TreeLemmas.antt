@@ -104,9 +104,23 @@ root_only (m ∷ ns) t u n e none = elim (cases_eq m.uid u) [
 
 -- ---- one branch of a name
 
-lies : (d : ℕ) (name : List ℕ) (n : Term) → is_branch d name n ≡ true → (n.superior ≡ Some d) × (n.name ≡ name)
+pub is_below : (u : ℕ) (n : Term) → n.superior ≡ Some u → is_inferior u n ≡ true
+is_below u n e = up n.superior e
+  where
+    up : (o : Option ℕ) → o ≡ Some u → is_inferior u (record n { superior = o }) ≡ true
+    up None e = cc
+    up (Some s) e = eq-eqb s u (same_Some s u e)
+
+pub not_below : (u : ℕ) (n : Term) → n.superior ≢ Some u → is_inferior u n ≡ false
+not_below u n ne = up n.superior ne
+  where
+    up : (o : Option ℕ) → o ≢ Some u → is_inferior u (record n { superior = o }) ≡ false
+    up None ne = refl
+    up (Some s) ne = ne_eqb s u (λ e. ne (ap (λ (x : ℕ). Some x) e))
+
+pub lies : (d : ℕ) (name : List ℕ) (n : Term) → is_branch d name n ≡ true → (n.superior ≡ Some d) × (n.name ≡ name)
 lies d name n e =
-    let h = and_parts _ _ e in
+    let h : (is_inferior d n ≡ true) × (bytes_eq n.name name ≡ true) = and_parts _ _ e in
     let same : n.name ≡ name = grind (arith, bytes_eq-Decides) in (up n.superior h.0, same)
   where
     up : (o : Option ℕ) → is_inferior d (record n { superior = o }) ≡ true → o ≡ Some d

@@ -55,7 +55,7 @@ pub record IsKept (nodes : List Node) (entries : List Entry) (free : List ℕ) (
   pub free_apart : (i j : ℕ) → i < j → j < length free → slice_index free i ≢ slice_index free j
   pub unused : (i j : ℕ) → i < length free → j < length entries → slice_index free i ≢ (entry_at entries j).place
   pub count : length nodes ≡ length entries + length free
-  pub few : length entries ≤ 4097
+  pub few : length nodes ≤ 4097
 
   -- the index
   pub named : (i : ℕ) → i < length entries → IsNamed index.pairs (entry_at entries i).superior (node_at nodes (entry_at entries i).place).name (entry_at entries i).place
