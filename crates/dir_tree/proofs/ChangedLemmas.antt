@@ -57,7 +57,7 @@ module _ (nodes : List Node) (es : List Entry) (free : List ℕ) (index : Pairs)
     free_apart = k.free_apart;
     unused = k.unused;
     count = length-set nodes (entry_at es i).place m ∙ k.count;
-    few = k.few;
+    few = rw (length-set nodes (entry_at es i).place m) k.few;
     named = λ j lt. subst (λ (t : Term). IsNamed index.pairs (entry_at es j).superior t.name (entry_at es j).place) (sym (same_shape j lt)) (k.named j lt);
     places = k.places;
     pairs = k.pairs;

@@ -38,7 +38,7 @@ key_hash superior name = fold mixed superior name
 
 -- what is in no place
 abbrev pub no_node : Node
-no_node = record { uid = 0; superior = None; name = []; dir = false; volume = 0; entry = 0; length = 0 }
+no_node = record { uid = 0; superior = None; name = []; dir = false; volume = 0; entry = 0; length = 0; acl = [] }
 
 abbrev pub node_at : List Node → ℕ → Node
 node_at nodes place = slice_index_or nodes place no_node

@@ -1,4 +1,5 @@
-pub mod Nodes
-pub mod Shape
 pub mod Index
 pub mod Kept
+pub mod Lending
+pub mod Nodes
+pub mod Shape

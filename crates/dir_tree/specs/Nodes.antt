@@ -1,6 +1,7 @@
 -- What a contract sees of a directory tree: its nodes, the newest first, and the next uid.
 use Rattle.std.specs.Prelude.{ℕ, ◌+◌, ◌==◌, Bool, true, false, ◌&&◌, not, if◌then◌else◌, nat_le, List, [], ◌∷◌, ◌++◌, length, map, reverse, Option, Some, None, Result, Ok, Err, is_some, codes}
 use Rattle.std.specs.List.{find, filter, list_any}
+use Rattle.storage_terms.specs.Access.{Row}
 use Rattle.storage_terms.specs.Tree.{Node as Term, Walk, LeadsTo, Missing, InSegment, above, branch_in, walk_in, is_inferior}
 use Rattle.dir_tree.specs.declared.node.Node.{Node}
 use Rattle.dir_tree.specs.declared.node.NewNode.{NewNode}
@@ -16,7 +17,7 @@ pub record Branches : Type 0 where
 -- the node as all of storage speaks of it, where each directory has the quota that this function says: the tree
 -- keeps none
 abbrev pub as_term : (ℕ → ℕ) → Node → Term
-as_term quota n = record { uid = n.uid; superior = n.superior; name = n.name; directory = n.dir; volume = n.volume; pages = n.length; quota = quota n.uid; rows = [] }
+as_term quota n = record { uid = n.uid; superior = n.superior; name = n.name; directory = n.dir; volume = n.volume; pages = n.length; quota = quota n.uid; rows = n.acl }
 
 abbrev pub with_quotas : (ℕ → ℕ) → List Node → List Term
 with_quotas quota nodes = map (as_term quota) nodes
@@ -44,7 +45,7 @@ is_segment nodes u = a_segment (node_of nodes u)
 
 -- the root alone
 abbrev pub root_node : ℕ → ℕ → Node
-root_node volume entry = record { uid = 1; superior = None; name = codes "root"; dir = true; volume = volume; entry = entry; length = 0 }
+root_node volume entry = record { uid = 1; superior = None; name = codes "root"; dir = true; volume = volume; entry = entry; length = 0; acl = [] }
 
 abbrev pub root_alone : ℕ → ℕ → Branches
 root_alone volume entry = record { nodes = root_node volume entry ∷ []; next = 2 }
@@ -72,7 +73,7 @@ unless (Some e) x = Err e
 -- the tree with a new branch, which gets the next uid
 abbrev pub added : Branches → ℕ → NewNode → Branches
 added t superior new = record {
-    nodes = record { uid = t.next; superior = Some superior; name = new.name; dir = new.dir; volume = new.volume; entry = new.entry; length = new.length } ∷ t.nodes;
+    nodes = record { uid = t.next; superior = Some superior; name = new.name; dir = new.dir; volume = new.volume; entry = new.entry; length = new.length; acl = new.acl } ∷ t.nodes;
     next = t.next + 1;
   }
 
@@ -96,6 +97,17 @@ with_length t u pages = record { nodes = with_changed u (λ n. record n { length
 
 abbrev pub with_home : Branches → ℕ → ℕ → ℕ → Branches
 with_home t u volume entry = record { nodes = with_changed u (λ n. record n { volume = volume; entry = entry }) t.nodes; next = t.next }
+
+-- the access control list of a segment
+abbrev pub acl_of : List Node → ℕ → List Row
+acl_of nodes u = the_acl (node_of nodes u)
+  where
+    the_acl : Option Node → List Row
+    the_acl None = []
+    the_acl (Some n) = n.acl
+
+abbrev pub with_acl : Branches → ℕ → List Row → Branches
+with_acl t u acl = record { nodes = with_changed u (λ n. record n { acl = acl }) t.nodes; next = t.next }
 
 -- the directories from the root down to a node, and the node
 abbrev pub chain_of : List Term → ℕ → List ℕ

@@ -1,9 +1,10 @@
 //! The directory tree: directories and segments, each a branch of one directory, down from one root.
 #![tactic(auto)]
 
-ghost use Rattle.std.specs.Prelude.{◌≡◌, ◌≢◌, ◌<◌, ◌≤◌, ◌^◌, ℕ, Bool, nat_le, true, false, ◌↔◌, Some, None, IsErr, length, IfOk, IfSome, IfNone, OnOk, OnErr};
+ghost use Rattle.std.specs.Prelude.{◌≡◌, ◌≢◌, ◌<◌, ◌≤◌, ◌^◌, ℕ, Bool, nat_le, is_some, true, false, ◌↔◌, Some, None, IsErr, length, IfOk, IfSome, IfNone, OnOk, OnErr};
 ghost use Rattle.storage_terms.specs.Tree.{above, branch_in, walk_in, step_up};
-ghost use Rattle.dir_tree.specs.Nodes.{with_quotas, node_of, is_in, is_directory, is_segment, root_alone, path_answer, add_fault_of, unless, added, removed, has_inferior, with_length, with_home, chain_of};
+ghost use Rattle.std.specs.Borrow.{sem};
+ghost use Rattle.dir_tree.specs.Nodes.{acl_of, with_quotas, node_of, is_in, is_directory, is_segment, root_alone, path_answer, add_fault_of, unless, added, removed, has_inferior, with_length, with_home, chain_of};
 ghost use Rattle.dir_tree.specs.Shape.{shape, shapes, IsTree};
 
 mod entries;
@@ -12,6 +13,7 @@ mod node;
 
 pub use node::{AddFault, NewNode, NoMemory, Node, NotEmpty, PathFault};
 
+use acl::Acl;
 use arrayvec::ArrayVec;
 use entries::Entry;
 use index::{Index, key_hash};
@@ -57,6 +59,8 @@ impl From<AllocError> for NoMemory {
 }
 
 impl Tree {
+    ghost use Rattle.dir_tree.specs.Lending.{LendsAcl};
+
     /// A tree of the root alone, which has this VTOC entry on this volume. It takes all the memory that the tree
     /// ever has; `NoMemory` is want of it.
     pub fn new(alloc: Global, volume: u32, entry: u32) -> Result<Tree, NoMemory>
@@ -74,6 +78,7 @@ impl Tree {
             volume,
             entry,
             length: 0,
+            acl: Acl::none(),
         });
         entries.push_reserved(Entry {
             uid: ROOT,
@@ -163,10 +168,11 @@ impl Tree {
         ensures tree { IsTree (shapes self.now.nodes) }
     {
         let mut chain = ArrayVec::new();
-        for directory in self.superiors(uid).as_slice().iter().rev() {
+        chain.push(uid);
+        for directory in self.superiors(uid).as_slice() {
             chain.push(*directory);
         }
-        chain.push(uid);
+        chain.as_mut_slice().reverse();
         chain
     }
 
@@ -175,16 +181,31 @@ impl Tree {
         requires { is_directory self.now.nodes superior ≡ true }
         ensures { (quota : ℕ → ℕ) → result ≡ unless (add_fault_of (with_quotas quota self.now.nodes) superior name.now dir) tt }
     {
-        if self.branch(superior, name).is_some() {
+        if self.has_branch(superior, name) {
             return Err(AddFault::Exists);
         }
-        if dir && self.superiors(superior).len() >= DEPTH {
+        if dir && self.is_deepest(superior) {
             return Err(AddFault::Deep);
         }
         if self.is_full() {
             return Err(AddFault::Room);
         }
         Ok(())
+    }
+
+    /// Whether a directory has a branch of this name.
+    fn has_branch(&self, directory: u32, name: &Name) -> bool
+        ensures { result ≡ is_some (branch_in (shapes self.now.nodes) directory name.now) }
+    {
+        self.branch(directory, name).is_some()
+    }
+
+    /// Whether a directory lies at depth 8.
+    fn is_deepest(&self, directory: u32) -> bool
+        requires { is_directory self.now.nodes directory ≡ true }
+        ensures { result ≡ nat_le 8 (length (above (shapes self.now.nodes) directory)) }
+    {
+        self.superiors(directory).len() >= DEPTH
     }
 
     /// Whether there are 4096 branches.
@@ -225,6 +246,7 @@ impl Tree {
             volume: new.volume,
             entry: new.entry,
             length: new.length,
+            acl: new.acl,
         };
         let place = entries::store(&mut self.nodes, &mut self.free, node);
         self.index.insert(hash, place);
@@ -287,6 +309,17 @@ impl Tree {
     {
         let place = entries::place_of(&self.entries, uid);
         self.nodes[place as usize].length = pages;
+    }
+
+    /// The access control list of a segment, to be changed. Nothing else changes by it.
+    pub fn acl_mut(&mut self, uid: u32) -> &mut Acl
+        requires { is_segment self.old.nodes uid ≡ true }
+        ensures* writes_back { sem 𝓛 (LendsAcl self.entry uid result) }
+        ensures value { result.now ≡ acl_of self.old.nodes uid }
+    {
+        let place = entries::place_of(&self.entries, uid);
+        let node = &mut self.nodes[place as usize];
+        &mut node.acl
     }
 
     /// Sets the home of a segment: its volume, and its entry in the VTOC of that volume.

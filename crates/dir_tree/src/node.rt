@@ -1,3 +1,4 @@
+use acl::Acl;
 use mnames::Name;
 
 /// A branch of the tree: a directory, or a segment (Bensoussan, Clingen and Daley 1972).
@@ -17,6 +18,8 @@ pub struct Node {
     pub entry: u32,
     /// The length of a segment, in pages; 0 for a directory.
     pub length: u32,
+    /// What a segment allows whom; a directory's list has no row.
+    pub acl: Acl,
 }
 
 /// What a new branch is to be, but for its place in the tree and its uid.
@@ -32,6 +35,8 @@ pub struct NewNode {
     pub entry: u32,
     /// The length of a segment, in pages; 0 for a directory.
     pub length: u32,
+    /// What a segment allows whom; a directory's list has no row.
+    pub acl: Acl,
 }
 
 /// Why a path can't be followed: what is wrong with the first name from the left that can't.

@@ -1,2 +1,3 @@
 mod NamesText
+mod PrincipalTexts
 mod ShortTexts

@@ -1,11 +1,11 @@
--- What the texts of names and principals keep.
+-- What the texts of names and labels keep.
 use Rattle.std.proofs.Common.{◌≡◌, ℕ, ◌<◌, ◌≤◌, Bool, true, false, List, [], ◌∷◌, length, arith, le-leb}
 use Rattle.std.proofs.lemmas.Bool.Decides.{nat_tests}
 use Rattle.std.proofs.lemmas.Str.Ascii.{IsAscii-nil, IsAscii-cons}
 use Rattle.std.specs.Str.{IsAscii, IsUtf8}
 use Rattle.std.proofs.lemmas.Str.{IsUtf8-from_ascii}
 use Rattle.std.specs.List.{list_all}
-use Rattle.mnames.specs.Names.{is_name, is_name_byte, is_who, is_who_byte}
+use Rattle.mnames.specs.Names.{is_name, is_name_byte, is_label, is_label_byte}
 
 -- a test that only ASCII bytes pass
 all_ascii : (p : ℕ → Bool) → ((b : ℕ) → p b ≡ true → b < 128) → (bs : List ℕ) → list_all p bs ≡ true → IsAscii bs
@@ -15,8 +15,8 @@ all_ascii p below (b ∷ bs) h = IsAscii-cons b bs (below b (grind (arith, nat_t
 name_byte_below : (b : ℕ) → is_name_byte b ≡ true → b < 128
 name_byte_below b h = grind (arith, nat_tests)
 
-who_byte_below : (b : ℕ) → is_who_byte b ≡ true → b < 128
-who_byte_below b h = grind (arith, nat_tests)
+label_byte_below : (b : ℕ) → is_label_byte b ≡ true → b < 128
+label_byte_below b h = grind (arith, nat_tests)
 
 pub name_is_ascii : (text : List ℕ) → is_name text ≡ true → IsAscii text
 unfolding is_name
@@ -26,13 +26,13 @@ pub name_is_short : (text : List ℕ) → is_name text ≡ true → length text 
 unfolding is_name
 name_is_short text h = grind (arith, nat_tests)
 
-pub who_is_ascii : (text : List ℕ) → is_who text ≡ true → IsAscii text
-unfolding is_who
-who_is_ascii text h = all_ascii is_who_byte who_byte_below text (grind (arith, nat_tests))
+pub label_is_ascii : (text : List ℕ) → is_label text ≡ true → IsAscii text
+unfolding is_label
+label_is_ascii text h = all_ascii is_label_byte label_byte_below text (grind (arith, nat_tests))
 
-pub who_is_short : (text : List ℕ) → is_who text ≡ true → length text ≤ 32
-unfolding is_who
-who_is_short text h = grind (arith, nat_tests)
+pub label_is_short : (text : List ℕ) → is_label text ≡ true → length text ≤ 32
+unfolding is_label
+label_is_short text h = grind (arith, nat_tests)
 
 pub ascii_is_utf8 : (bs : List ℕ) → IsAscii bs → IsUtf8 bs
 ascii_is_utf8 bs h = IsUtf8-from_ascii bs h
@@ -45,10 +45,10 @@ pub name_wrong_length : (text : List ℕ) → (1 ≤ length text → length text
 unfolding is_name
 name_wrong_length text h = grind (arith, nat_tests)
 
-pub who_tested : (text : List ℕ) (a : Bool) → 1 ≤ length text → length text ≤ 32 → a ≡ list_all is_who_byte text → a ≡ is_who text
-unfolding is_who
-who_tested text a low high h = rw (le-leb 1 (length text) low, le-leb (length text) 32 high) h
+pub label_tested : (text : List ℕ) (a : Bool) → 1 ≤ length text → length text ≤ 32 → a ≡ list_all is_label_byte text → a ≡ is_label text
+unfolding is_label
+label_tested text a low high h = rw (le-leb 1 (length text) low, le-leb (length text) 32 high) h
 
-pub who_wrong_length : (text : List ℕ) → (1 ≤ length text → length text ≤ 32 → ⊥) → false ≡ is_who text
-unfolding is_who
-who_wrong_length text h = grind (arith, nat_tests)
+pub label_wrong_length : (text : List ℕ) → (1 ≤ length text → length text ≤ 32 → ⊥) → false ≡ is_label text
+unfolding is_label
+label_wrong_length text h = grind (arith, nat_tests)

@@ -1,17 +1,26 @@
-//! What people write in a Multics command: entry names, principals, paths and modes of access.
+//! What people write in a Multics command: entry names, principals, rows of an access control list,
+//! paths and modes of access.
 //!
-//! Each is kept in the value itself, so no call here takes memory.
+//! Each is kept in the value itself, so no call here but `path_text` takes memory.
 #![tactic(auto)]
 
+mod labels;
 mod modes;
 mod names;
 mod paths;
 mod principals;
+mod rows;
 #[cfg(test)]
 mod tests;
 mod texts;
 
+pub use labels::{Label, read_label};
 pub use modes::Mode;
 pub use names::{Name, read_name};
-pub use paths::Path;
+pub use paths::{Path, path_text};
 pub use principals::{Who, read_who};
+pub use rows::{Row, read_row};
+
+/// There was not enough memory for the text of a path.
+#[derive(Clone, Copy, Debug, PartialEq, Eq)]
+pub struct NoMemory;

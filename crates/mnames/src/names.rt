@@ -10,8 +10,9 @@ use std::fmt;
 use std::marker::Model;
 
 /// An entry name of the directory tree: 1 to 32 characters (Bensoussan, Clingen and Daley 1972), which
-/// are ASCII letters, digits, `_`, `.` and `-` (own). Case counts. A contract sees the bytes.
-#[derive(Drop)]
+/// are ASCII letters, digits, `_`, `.` and `-` (own). Case counts. It is kept in the value itself, and a
+/// contract sees the bytes.
+#[derive(Debug, Drop)]
 pub struct Name {
     text: ArrayString<NAME_BYTES>,
 }
@@ -66,6 +67,13 @@ pub fn read_name(text: &[u8]) -> Option<Name>
 }
 
 impl Name {
+    /// The same name. It takes no memory: 40 bytes are copied.
+    pub fn copied(&self) -> Name
+        ensures { result ≡ self.now }
+    {
+        Name { text: self.text }
+    }
+
     /// The text of the name.
     pub fn as_str(&self) -> &str
         ensures text { result.now ≡ self.now }

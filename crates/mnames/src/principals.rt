@@ -1,98 +1,97 @@
-ghost use Rattle.std.specs.Prelude.{◌≡◌, Some, None, if◌then◌else◌, nat_eq};
-ghost use Rattle.std.specs.List.{list_all};
-ghost use Rattle.std.specs.Cmp.Lexicographic.{pointwise, nat_list_eq_equiv};
-ghost use Rattle.std.specs.Cmp.{partial_equiv_from_equiv};
-ghost use Rattle.mnames.specs.Names.{is_who, is_who_byte, IsWho};
+ghost use Rattle.std.specs.Prelude.{◌≡◌, [], Some, IfSome, IfNone};
+ghost use Rattle.std.specs.List.{position};
+ghost use Rattle.std.specs.Fmt.{WritesOnOk};
+ghost use Rattle.mnames.specs.Principals.{IsWho, who_of, who_text, parts_text, is_dot, before_dot, after_dot};
 
-use crate::texts::{NAME_BYTES, short_text};
-use arrayvec::ArrayString;
+use crate::labels::{Label, read_label};
 use std::fmt;
-use std::marker::Model;
 
-/// The principal for whom a process runs (Organick 1972): 1 to 32 ASCII letters, digits and `_` (own).
-/// Case counts. A contract sees the bytes.
-#[derive(Drop)]
+/// The principal for whom a process runs: a person, and the project that the person works on (Organick
+/// 1972).
+#[derive(Debug, Drop, PartialEq, Eq)]
 pub struct Who {
-    text: ArrayString<NAME_BYTES>,
-}
-
-impl Model for Who {
-    ghost use Rattle.std.specs.Prelude.{List, ℕ};
-    ghost use Rattle.mnames.specs.Names.{IsWho};
-
-    ghost Value = { List ℕ };
-
-    ghost view = { λ w. w.text.bytes };
-
-    ghost invariant = { λ w. IsWho w.text.bytes };
-}
-
-/// Whether a byte may stand in a principal.
-fn may_stand(byte: u8) -> bool
-    ensures { result ≡ is_who_byte byte }
-{
-    byte.is_ascii_alphanumeric() || byte == b'_'
-}
-
-/// Whether each byte of the text may.
-fn all_may_stand(text: &[u8]) -> bool
-    ensures { result ≡ list_all is_who_byte text.now }
-{
-    text.iter().all(|byte| may_stand(*byte))
-}
-
-/// Whether the text is a principal.
-#[tactic(auto, using(crate::proofs::ShortTexts::who_tested, crate::proofs::ShortTexts::who_wrong_length, std::proofs::lemmas::Grind::common_steps))]
-fn is_who(text: &[u8]) -> bool
-    ensures { result ≡ is_who text.now }
-{
-    match text.len() {
-        1..=NAME_BYTES => all_may_stand(text),
-        _ => false,
-    }
-}
-
-/// The principal that the text is. `None` exactly where it isn't one.
-#[tactic(auto, using(crate::proofs::ShortTexts::who_is_ascii, crate::proofs::ShortTexts::who_is_short, std::proofs::lemmas::Grind::common_steps))]
-pub fn read_who(text: &[u8]) -> Option<Who>
-    ensures { result ≡ (if is_who text.now then Some text.now else None) }
-{
-    if !is_who(text) {
-        return None;
-    }
-    Some(Who {
-        text: short_text(text),
-    })
+    pub person: Label,
+    pub project: Label,
 }
 
 impl Who {
-    /// The text of the principal.
-    pub fn as_str(&self) -> &str
-        ensures text { result.now ≡ self.now }
-        ensures principal { IsWho self.now }
+    /// The same principal. It takes no memory.
+    pub fn copied(&self) -> Who
+        ensures { result ≡ self.now }
     {
-        self.text.as_str()
+        Who {
+            person: self.person.copied(),
+            project: self.project.copied(),
+        }
     }
 }
 
-impl PartialEq for Who {
-    ghost eq = { pointwise nat_eq };
+/// Where the first dot stands.
+fn dot_in(text: &[u8]) -> Option<usize>
+    ensures { result ≡ position is_dot text.now }
+{
+    text.iter().position(|byte| *byte == b'.')
+}
 
-    ghost laws = { partial_equiv_from_equiv nat_list_eq_equiv };
+/// The text before the first dot and the text behind it. `None` exactly where there is no dot.
+#[tactic(auto, using(crate::proofs::PrincipalTexts::dot_found, crate::proofs::PrincipalTexts::dot_missing, std::proofs::lemmas::Grind::common_steps))]
+pub(crate) fn around_dot(text: &[u8]) -> Option<(&[u8], &[u8])>
+    ensures before { IfSome result (λ t. t.0.now ≡ before_dot text.now) }
+    ensures after { IfSome result (λ t. t.1.now ≡ after_dot text.now) }
+    ensures none { IfNone result (after_dot text.now ≡ []) }
+{
+    let dot = dot_in(text)?;
+    Some((&text[..dot], &text[dot + 1..]))
+}
 
-    fn eq(&self, other: &Self) -> bool {
-        self.text == other.text
+/// The principal of a text.
+#[tactic(auto, using(crate::proofs::PrincipalTexts::nothing_is_no_label, std::proofs::lemmas::Grind::common_steps), unfolding(crate::specs::Principals::who_of))]
+fn who_of(text: &[u8]) -> Option<Who>
+    ensures { result ≡ who_of text.now }
+{
+    if let Some(person) = read_label(text) {
+        let project = Label::default_project();
+        return Some(Who { person, project });
     }
+    let (person, project) = around_dot(text)?;
+    Some(Who {
+        person: read_label(person)?,
+        project: read_label(project)?,
+    })
 }
 
-impl Eq for Who {
-    ghost laws = { nat_list_eq_equiv };
+/// The principal that the text is: `Person.Project`, or a person alone, whose project is `Default`
+/// (own). `None` exactly where it is neither. It takes no memory, and looks at no byte past the 66th
+/// more than once.
+#[tactic(auto, using(crate::proofs::PrincipalTexts::who_again))]
+pub fn read_who(text: &[u8]) -> Option<Who>
+    ensures who { result ≡ who_of text.now }
+    // the canonical text of a principal is read as that principal
+    ensures again { (who : Who) → IsWho who → text.now ≡ who_text who → result ≡ Some who }
+{
+    who_of(text)
 }
 
+/// Writes both parts with a dot between them, or the first alone where the second is `Default`.
+pub(crate) fn write_parts<W: fmt::Write>(
+    f: &mut fmt::Formatter<W>,
+    person: &Label,
+    project: &Label,
+) -> fmt::Result
+    ensures { WritesOnOk W.write_str_gives f.old result (parts_text person.now project.now) f.new }
+{
+    if project.as_str() == "Default" {
+        return write!(f, "{person}");
+    }
+    write!(f, "{person}.{project}")
+}
+
+/// The canonical text: the person alone where the project is `Default`, else `Person.Project`.
 impl fmt::Display for Who {
-    ghost output = { λ w. Some w };
+    ghost output = { λ who. Some (who_text who) };
 
+    #[tactic(auto, unfolding(crate::specs::Principals::who_text))]
     fn fmt<W: fmt::Write>(&self, f: &mut fmt::Formatter<W>) -> fmt::Result {
-        write!(f, "{}", self.text)
+        write_parts(f, &self.person, &self.project)
     }
 }

@@ -2,7 +2,7 @@ use super::*;
 use std::process::Abort;
 use std::test::Fail;
 
-// The most bytes that a name or a principal has, and one more.
+// The most bytes that a name or a part of a principal has, and one more.
 const LONGEST: &str = "abcdefghijklmnopqrstuvwxyz012345";
 
 const TOO_LONG: &str = "abcdefghijklmnopqrstuvwxyz0123456";
@@ -16,6 +16,7 @@ fn a_name_has_1_to_32_bytes_of_its_kinds(rt: HostRuntime) -> Result<(), Fail> {
     for text in ["a", "Z", "0", "9", "_", ".", "-", "x.y-z_9", LONGEST] {
         let name = name(&rt, text);
         assert_eq!(rt; name.as_str(), text);
+        assert!(rt; name.copied() == name);
         assert_eq!(rt; format!(in rt.alloc(); "{name}")?.as_str(), text);
     }
     for text in [
@@ -27,18 +28,106 @@ fn a_name_has_1_to_32_bytes_of_its_kinds(rt: HostRuntime) -> Result<(), Fail> {
 }
 
 #[test]
-fn a_principal_has_1_to_32_bytes_of_its_kinds(rt: HostRuntime) -> Result<(), Fail> {
+fn a_label_has_1_to_32_bytes_of_its_kinds(rt: HostRuntime) -> Result<(), Fail> {
     for text in ["a", "Z", "0", "9", "_", "Smith_2", LONGEST] {
-        let who = read_who(text.as_bytes()).expect(&rt, "a principal");
-        assert_eq!(rt; who.as_str(), text);
-        assert_eq!(rt; format!(in rt.alloc(); "{who}")?.as_str(), text);
+        let label = read_label(text.as_bytes()).expect(&rt, "a label");
+        assert_eq!(rt; label.as_str(), text);
+        assert!(rt; label.copied() == label);
+        assert_eq!(rt; format!(in rt.alloc(); "{label}")?.as_str(), text);
     }
     for text in [
         "", ">", "*", "a.b", "a-b", "a b", "a\n", "/", ":", "@", "[", "`", "{", "\u{e9}", TOO_LONG,
     ] {
+        assert!(rt; read_label(text.as_bytes()).is_none(), "at {text}");
+    }
+    Ok(())
+}
+
+// A text, the person, the project, and the canonical text.
+const WHOS: [(&str, &str, &str, &str); 6] = [
+    ("Smith", "Smith", "Default", "Smith"),
+    ("Smith.Default", "Smith", "Default", "Smith"),
+    ("Smith.Dev", "Smith", "Dev", "Smith.Dev"),
+    ("Default", "Default", "Default", "Default"),
+    ("Default.Smith", "Default", "Smith", "Default.Smith"),
+    ("_1.default", "_1", "default", "_1.default"),
+];
+
+#[test]
+fn a_principal_is_a_person_and_a_project(rt: HostRuntime) -> Result<(), Fail> {
+    for (text, person, project, canonical) in WHOS {
+        let who = read_who(text.as_bytes()).expect(&rt, "a principal");
+        assert_eq!(rt; who.person.as_str(), person);
+        assert_eq!(rt; who.project.as_str(), project);
+        assert!(rt; who.copied() == who);
+        let shown = format!(in rt.alloc(); "{who}")?;
+        assert_eq!(rt; shown.as_str(), canonical);
+        assert!(rt; read_who(shown.as_bytes()) == Some(who));
+    }
+    for text in [
+        "", ".", "*", "*.*", "Smith.", ".Dev", "Smith.*", "*.Dev", "Smith.Dev.a", "Smith..Dev", "a b", "a-b",
+        TOO_LONG,
+    ] {
         assert!(rt; read_who(text.as_bytes()).is_none(), "at {text}");
     }
     Ok(())
+}
+
+#[test]
+fn each_part_of_a_principal_may_have_32_bytes(rt: HostRuntime) -> Result<(), Fail> {
+    let text = format!(in rt.alloc(); "{LONGEST}.{LONGEST}")?;
+    let who = read_who(text.as_bytes()).expect(&rt, "a principal");
+    assert_eq!(rt; format!(in rt.alloc(); "{who}")?.as_str(), text.as_str());
+    let text = format!(in rt.alloc(); "{LONGEST}.{TOO_LONG}")?;
+    assert!(rt; read_who(text.as_bytes()).is_none());
+    let text = format!(in rt.alloc(); "{TOO_LONG}.{LONGEST}")?;
+    assert!(rt; read_who(text.as_bytes()).is_none());
+    Ok(())
+}
+
+fn text_of(part: &Option<Label>) -> &str {
+    match part {
+        Some(label) => label.as_str(),
+        None => "any",
+    }
+}
+
+// A text, the person and the project, and the canonical text.
+const ROWS: [(&str, &str, &str, &str); 9] = [
+    ("*", "any", "any", "*"),
+    ("*.*", "any", "any", "*"),
+    ("Smith", "Smith", "Default", "Smith"),
+    ("Smith.Default", "Smith", "Default", "Smith"),
+    ("Smith.Dev", "Smith", "Dev", "Smith.Dev"),
+    ("Jones.*", "Jones", "any", "Jones.*"),
+    ("*.Dev", "any", "Dev", "*.Dev"),
+    ("*.Default", "any", "Default", "*.Default"),
+    ("Default.*", "Default", "any", "Default.*"),
+];
+
+#[test]
+fn a_row_may_have_any_in_either_part(rt: HostRuntime) -> Result<(), Fail> {
+    for (text, person, project, canonical) in ROWS {
+        let row = read_row(text.as_bytes()).expect(&rt, "a row");
+        assert_eq!(rt; text_of(&row.person), person);
+        assert_eq!(rt; text_of(&row.project), project);
+        assert!(rt; row.copied() == row);
+        let shown = format!(in rt.alloc(); "{row}")?;
+        assert_eq!(rt; shown.as_str(), canonical);
+        assert!(rt; read_row(shown.as_bytes()) == Some(row));
+    }
+    for text in [
+        "", ".", "**", "*.", ".*", "*.*.*", "Smith.", ".Dev", "Smith.Dev.*", "*Smith", "Smith*", "a b", TOO_LONG,
+    ] {
+        assert!(rt; read_row(text.as_bytes()).is_none(), "at {text}");
+    }
+    Ok(())
+}
+
+#[test]
+fn the_row_of_a_principal_has_both_parts(rt: HostRuntime) {
+    let who = read_who(b"Smith.Dev").expect(&rt, "a principal");
+    assert!(rt; Some(Row::of(who)) == read_row(b"Smith.Dev"));
 }
 
 #[test]
@@ -47,6 +136,7 @@ fn case_counts(rt: HostRuntime) {
     assert!(rt; name(&rt, "s") != name(&rt, "S"));
     assert!(rt; read_who(b"Smith") == read_who(b"Smith"));
     assert!(rt; read_who(b"Smith") != read_who(b"smith"));
+    assert!(rt; read_who(b"Smith.Dev") != read_who(b"Smith.dev"));
 }
 
 #[test]
@@ -56,5 +146,7 @@ fn a_path_is_written_with_its_sign(rt: HostRuntime) -> Result<(), Fail> {
     assert_eq!(rt; format!(in rt.alloc(); "{path}")?.as_str(), ">x.y-z");
     let path = Path::below_root(Name::default());
     assert_eq!(rt; format!(in rt.alloc(); "{path}")?.as_str(), ">root");
+    let text = path_text(rt.alloc(), &path).expect(&rt, "memory");
+    assert_eq!(rt; text.as_str(), ">root");
     Ok(())
 }

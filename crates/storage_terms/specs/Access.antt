@@ -1,13 +1,9 @@
 -- Access control lists: who may do what with a segment (Bensoussan, Clingen and Daley 1972).
-use Rattle.std.specs.Prelude.{ℕ, Bool, true, false, ◌&&◌, if◌then◌else◌, List, [], ◌∷◌, Option, Some, None}
+use Rattle.std.specs.Prelude.{ℕ, Bool, true, false, ◌&&◌, ◌||◌, nat_lt, if◌then◌else◌, unwrap_or, List, [], ◌∷◌, length, Option, Some, None}
 use Rattle.std.specs.Str.{bytes_eq}
+use Rattle.mnames.specs.declared.principals.Who.{Who}
 use Rattle.mnames.specs.declared.modes.Mode.{Mode}
 use Rattle.mnames.specs.declared.modes.Mode.TheVariants as mode
-
--- for whom a process runs: a person, on a project
-pub record Principal : Type 0 where
-  pub person : List ℕ
-  pub project : List ℕ
 
 -- a row of a list: the person and the project that it names, none for any, and what it allows them
 pub record Row : Type 0 where
@@ -21,12 +17,35 @@ is_part None None = true
 is_part (Some a) (Some b) = bytes_eq a b
 is_part _ _ = false
 
--- the mode of the first row with just these parts, else another
-abbrev pub mode_or : Mode → Option (List ℕ) → Option (List ℕ) → List Row → Mode
-mode_or other person project [] = other
-mode_or other person project (row ∷ rows) = if is_part person row.person && is_part project row.project then row.mode else mode_or other person project rows
+-- a row names just these parts
+abbrev pub names_just : Option (List ℕ) → Option (List ℕ) → Row → Bool
+names_just person project row = is_part person row.person && is_part project row.project
+
+-- the mode of the first row that names just these parts, if there is one
+abbrev pub mode_at : Option (List ℕ) → Option (List ℕ) → List Row → Option Mode
+mode_at person project [] = None
+mode_at person project (row ∷ rows) = if names_just person project row then Some row.mode else mode_at person project rows
 
 -- what a list allows: by the row of the person and the project, else that of the person on any
 -- project, else that of anyone on the project, else that of anyone, else nothing
-unfoldable pub access_of : Principal → List Row → Mode
-access_of who rows = mode_or (mode_or (mode_or (mode_or mode.Null None None rows) None (Some who.project) rows) (Some who.person) None rows) (Some who.person) (Some who.project) rows
+unfoldable pub access_of : Who → List Row → Mode
+access_of who rows =
+    unwrap_or (mode_at (Some who.person) (Some who.project) rows)
+    (unwrap_or (mode_at (Some who.person) None rows)
+    (unwrap_or (mode_at None (Some who.project) rows)
+    (unwrap_or (mode_at None None rows)
+    mode.Null)))
+
+-- a list with a row set: in the place of the first row that names the same, else at the end
+abbrev pub with_row : Row → List Row → List Row
+with_row new [] = new ∷ []
+with_row new (row ∷ rows) = if names_just new.person new.project row then new ∷ rows else row ∷ with_row new rows
+
+-- some row names just these parts
+abbrev pub has_row : Option (List ℕ) → Option (List ℕ) → List Row → Bool
+has_row person project [] = false
+has_row person project (row ∷ rows) = names_just person project row || has_row person project rows
+
+-- a list takes a row that it has, and others while it has fewer than 16 (own)
+abbrev pub takes_row : Option (List ℕ) → Option (List ℕ) → List Row → Bool
+takes_row person project rows = has_row person project rows || nat_lt (length rows) 16

@@ -12,7 +12,7 @@ use Rattle.dir_tree.proofs.NewestLemmas.{length_newest}
 use Rattle.dir_tree.proofs.Tree.attach.Goals as goal
 
 abbrev new_node : ℕ → ℕ → NewNode → Node
-new_node next superior new = record { uid = next; superior = Some superior; name = new.name; dir = new.dir; volume = new.volume; entry = new.entry; length = new.length }
+new_node next superior new = record { uid = next; superior = Some superior; name = new.name; dir = new.dir; volume = new.volume; entry = new.entry; length = new.length; acl = new.acl }
 
 directory_at : (u : ℕ) {s t : Branches} → s ≡ t → is_directory t.nodes u ≡ true → is_directory s.nodes u ≡ true
 directory_at u {s} {t} e h = subst (λ (x : Branches). is_directory x.nodes u ≡ true) (sym e) h
