@@ -6,11 +6,11 @@ use Rattle.storage_terms.specs.Tree.{Node as Term}
 use Rattle.dir_tree.specs.declared.node.Node.{Node}
 use Rattle.dir_tree.specs.declared.entries.Entry.{Entry}
 use Rattle.dir_tree.specs.Index.{Pairs, node_at, no_node}
-use Rattle.dir_tree.specs.Nodes.{with_changed}
+use Rattle.dir_tree.specs.Nodes.{with_changed, node_of, acl_of}
 use Rattle.dir_tree.specs.Shape.{shape, shapes, IsTree}
-use Rattle.dir_tree.specs.Kept.{entry_at, newest, IsNamed, IsKept}
+use Rattle.dir_tree.specs.Kept.{entry_at, newest, IsNamed, IsKept, HasEntry}
 use Rattle.dir_tree.proofs.NewestLemmas.{node_of_entry, newest_changed}
-use Rattle.dir_tree.proofs.KeptLemmas.{apart_places, not_of}
+use Rattle.dir_tree.proofs.KeptLemmas.{apart_places, not_of, node_read}
 
 shapes_newest : (ms ns : List Node) (es : List Entry) → ((j : ℕ) → j < length es → shape (node_of_entry ms es j) ≡ shape (node_of_entry ns es j)) → shapes (newest ms es) ≡ shapes (newest ns es)
 shapes_newest ms ns [] same = refl
@@ -74,3 +74,10 @@ set_kept nodes es free index next k uid place at h keeps x read =
     let same : shape (h x) ≡ shape (node_of_entry nodes es at.0) = keeps x ∙ ap shape node in
     subst (λ q. IsKept (set nodes q (h x)) es free index next × (newest (set nodes q (h x)) es ≡ with_changed uid h (newest nodes es))) at.3
         (kept_changed nodes es free index next k uid at.0 at.1 at.2 h (h x) (ap h node) same, view_changed nodes es free index next k uid at.0 at.1 at.2 h (h x) (ap h node) same)
+
+pub acl_read : (nodes : List Node) (es : List Entry) (free : List ℕ) (index : Pairs) (next : ℕ) → IsKept nodes es free index next → (uid place : ℕ) → (i : ℕ) × (i < length es) × ((entry_at es i).uid ≡ uid) × ((entry_at es i).place ≡ place)
+    → (x : Node) → x ≡ get_or nodes place x → x.acl ≡ acl_of (newest nodes es) uid
+acl_read nodes es free index next k uid place at x read =
+    let entry : HasEntry es uid (entry_at es at.0) = record { i = at.0; within = at.1; entry_is = refl; uid_is = at.2 } in
+    let found : node_of (newest nodes es) uid ≡ Some x = node_read nodes es free index next k uid (entry_at es at.0) entry x (subst (λ q. x ≡ get_or nodes q x) (sym at.3) read) in
+    rw found refl

@@ -1,12 +1,12 @@
 -- Where a path leads, what is above a node and what keeps a branch from being added don't depend on quotas, nor on
 -- anything but uids, superiors, names and kinds.
-use Rattle.std.proofs.Common.{◌≡◌, ℕ, ◌+◌, Bool, true, false, cond, eqb, leb, ◌&&◌, List, [], ◌∷◌, length, map, reverse, ◌||◌, Option, Some, None, refl, sym, ap, ◌∙◌, is_some, get_or, drop, ◌<◌, ◌≤◌}
+use Rattle.std.proofs.Common.{◌≡◌, ℕ, ◌+◌, Bool, true, false, cond, eqb, leb, ◌&&◌, List, [], ◌∷◌, length, map, reverse, ◌||◌, Option, Some, None, Ok, refl, sym, ap, ◌∙◌, is_some, get_or, drop, ◌<◌, ◌≤◌}
 use Rattle.std.specs.List.{find, list_any}
 use Rattle.std.specs.Option.{option_map}
 use Rattle.std.proofs.lemmas.List.{length-map, at_drop_more, at_drop_all}
 use Rattle.storage_terms.specs.Tree.{Node as Term, Walk, LeadsTo, above, branch_in, is_branch, is_inferior, onward, step_up, walk_from, walk_in, has_directory}
 use Rattle.dir_tree.specs.declared.node.Node.{Node}
-use Rattle.dir_tree.specs.Nodes.{as_term, with_quotas, add_fault_of, has_inferior, chain_of}
+use Rattle.dir_tree.specs.Nodes.{as_term, with_quotas, add_fault_of, has_inferior, chain_of, unless}
 use Rattle.dir_tree.specs.Shape.{shape, shapes}
 use Rattle.dir_tree.proofs.FindLemmas.{find_map, branch_found}
 
@@ -60,3 +60,7 @@ walk_next ns u b names i name lt read = at_drop_more (λ (path : List (List ℕ)
 
 pub walk_ends : (ns : List Term) (u : ℕ) (b : Bool) (names : List (List ℕ)) (i : ℕ) → length names ≤ i → walk_from ns u b (drop i names) ≡ LeadsTo u
 walk_ends ns u b names i le = at_drop_all (λ (path : List (List ℕ)). walk_from ns u b path) names i le
+
+pub unless_none : {E A : Type 0} (o : Option E) (x y : A) → unless o x ≡ Ok y → o ≡ None
+unless_none None x y e = refl
+unless_none (Some f) x y e = cc

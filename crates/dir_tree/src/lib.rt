@@ -1,7 +1,7 @@
 //! The directory tree: directories and segments, each a branch of one directory, down from one root.
 #![tactic(auto)]
 
-ghost use Rattle.std.specs.Prelude.{◌≡◌, ◌≢◌, ◌<◌, ◌≤◌, ◌^◌, ℕ, Bool, nat_le, is_some, true, false, ◌↔◌, Some, None, IsErr, length, IfOk, IfSome, IfNone, OnOk, OnErr};
+ghost use Rattle.std.specs.Prelude.{◌≡◌, ◌≢◌, ◌<◌, ◌≤◌, ◌^◌, ℕ, Bool, ◌&&◌, nat_le, is_some, true, false, ◌↔◌, Some, None, IsErr, length, IfOk, IfSome, IfNone, OnOk, OnErr};
 ghost use Rattle.storage_terms.specs.Tree.{above, branch_in, walk_in, step_up};
 ghost use Rattle.std.specs.Borrow.{sem};
 ghost use Rattle.dir_tree.specs.Nodes.{acl_of, with_quotas, node_of, is_in, is_directory, is_segment, root_alone, path_answer, add_fault_of, unless, added, removed, has_inferior, with_length, with_home, chain_of};
@@ -184,7 +184,7 @@ impl Tree {
         if self.has_branch(superior, name) {
             return Err(AddFault::Exists);
         }
-        if dir && self.is_deepest(superior) {
+        if self.is_too_deep(superior, dir) {
             return Err(AddFault::Deep);
         }
         if self.is_full() {
@@ -200,12 +200,12 @@ impl Tree {
         self.branch(directory, name).is_some()
     }
 
-    /// Whether a directory lies at depth 8.
-    fn is_deepest(&self, directory: u32) -> bool
-        requires { is_directory self.now.nodes directory ≡ true }
-        ensures { result ≡ nat_le 8 (length (above (shapes self.now.nodes) directory)) }
+    /// Whether a branch would be a directory below depth 8.
+    fn is_too_deep(&self, superior: u32, dir: bool) -> bool
+        requires { is_directory self.now.nodes superior ≡ true }
+        ensures { result ≡ (dir && nat_le 8 (length (above (shapes self.now.nodes) superior))) }
     {
-        self.superiors(directory).len() >= DEPTH
+        dir && self.superiors(superior).len() >= DEPTH
     }
 
     /// Whether there are 4096 branches.
