@@ -1,5 +1,6 @@
 pub mod AddedLemmas
 pub mod ChangedLemmas
+pub mod ChainLemmas
 pub mod EditLemmas
 pub mod EntryLemmas
 pub mod FindLemmas

@@ -1,7 +1,7 @@
 -- What holds of every tree. It speaks of uids, superiors, names and kinds alone, so no change of a length, a home or
 -- an access control list touches it.
-use Rattle.std.specs.Prelude.{◌≡◌, ℕ, ◌<◌, Bool, true, List, [], ◌∷◌, length, map, Option, Some, None}
-use Rattle.storage_terms.specs.Tree.{Node as Term, above, branch_in, has_directory}
+use Rattle.std.specs.Prelude.{◌≡◌, ◌≢◌, ℕ, ◌<◌, ◌≤◌, Bool, true, is_some, List, [], ◌∷◌, length, map, Option, Some, None}
+use Rattle.storage_terms.specs.Tree.{Node as Term, above, branch_in, has_directory, node_in}
 use Rattle.dir_tree.specs.declared.node.Node.{Node}
 
 -- a node without what may change
@@ -37,3 +37,34 @@ Joins ns (Some s) n = IsBranch ns s n
 abbrev pub IsTree : List Term → Type 0
 IsTree [] = Unit {0}
 IsTree (n ∷ ns) = Joins ns n.superior n × IsTree ns
+
+-- ---- chains of superiors
+
+-- each is below this uid
+abbrev pub AreUnder : ℕ → List ℕ → Type 0
+AreUnder u [] = Unit {0}
+AreUnder u (x ∷ xs) = (x < u) × AreUnder u xs
+
+-- what stands after each is what is above it, and uids fall
+abbrev pub IsChain : (ℕ → List ℕ) → List ℕ → Type 0
+IsChain up [] = Unit {0}
+IsChain up (x ∷ xs) = (xs ≡ up x) × AreUnder x xs × IsChain up xs
+
+abbrev pub AreDirectories : List Term → List ℕ → Type 0
+AreDirectories ns [] = Unit {0}
+AreDirectories ns (x ∷ xs) = (has_directory ns x ≡ true) × AreDirectories ns xs
+
+-- the root comes last, and nowhere else
+abbrev pub EndsAtRoot : List ℕ → Type 0
+EndsAtRoot [] = ⊥
+EndsAtRoot (x ∷ []) = x ≡ 1
+EndsAtRoot (x ∷ y ∷ ys) = (1 < x) × EndsAtRoot (y ∷ ys)
+
+-- what is above the nodes of a tree
+pub record HasChains (ns : List Term) : Type 0 where
+  pub chain : (u : ℕ) → IsChain (above ns) (above ns u)
+  pub under : (u : ℕ) → AreUnder u (above ns u)
+  pub directories : (u : ℕ) → AreDirectories ns (above ns u)
+  pub rooted : (u : ℕ) → is_some (node_in ns u) ≡ true → u ≢ 1 → EndsAtRoot (above ns u)
+  pub root : above ns 1 ≡ []
+  pub first : (u : ℕ) → is_some (node_in ns u) ≡ true → 1 ≤ u

@@ -5,7 +5,7 @@ ghost use Rattle.std.specs.Prelude.{◌≡◌, ◌≢◌, ◌<◌, ◌≤◌, �
 ghost use Rattle.storage_terms.specs.Tree.{above, branch_in, walk_in, step_up};
 ghost use Rattle.std.specs.Borrow.{sem};
 ghost use Rattle.dir_tree.specs.Nodes.{acl_of, with_quotas, node_of, is_in, is_directory, is_segment, root_alone, path_answer, add_fault_of, unless, added, removed, has_inferior, with_length, with_home, chain_of};
-ghost use Rattle.dir_tree.specs.Shape.{shape, shapes, IsTree};
+ghost use Rattle.dir_tree.specs.Shape.{shape, shapes, IsTree, HasChains};
 
 mod entries;
 mod index;
@@ -98,6 +98,7 @@ impl Tree {
     pub fn node(&self, uid: u32) -> Option<&Node>
         ensures some { IfSome result (λ n. node_of self.now.nodes uid ≡ Some n.now) }
         ensures none { IfNone result (node_of self.now.nodes uid ≡ None) }
+        ensures chains { HasChains (shapes self.now.nodes) }
     {
         let entry = entries::entry_of(&self.entries, uid)?;
         Some(&self.nodes[entry.place as usize])
@@ -150,7 +151,9 @@ impl Tree {
     pub fn superiors(&self, uid: u32) -> ArrayVec<u32, 9>
         requires { is_in self.now.nodes uid ≡ true }
         ensures above { (quota : ℕ → ℕ) → result.items ≡ above (with_quotas quota self.now.nodes) uid }
-        ensures tree { IsTree (shapes self.now.nodes) }
+        ensures plain { result.items ≡ above (shapes self.now.nodes) uid }
+        ensures most { length result.items ≤ 9 }
+        ensures chains { HasChains (shapes self.now.nodes) }
     {
         let mut up = ArrayVec::new();
         let mut at = uid;
@@ -165,7 +168,7 @@ impl Tree {
     pub fn chain(&self, uid: u32) -> ArrayVec<u32, 10>
         requires { is_in self.now.nodes uid ≡ true }
         ensures chain { (quota : ℕ → ℕ) → result.items ≡ chain_of (with_quotas quota self.now.nodes) uid }
-        ensures tree { IsTree (shapes self.now.nodes) }
+        ensures chains { HasChains (shapes self.now.nodes) }
     {
         let mut chain = ArrayVec::new();
         chain.push(uid);
@@ -221,6 +224,7 @@ impl Tree {
         requires uids { self.old.next < 2 ^ 31 }
         ensures answer { (quota : ℕ → ℕ) → result ≡ unless (add_fault_of (with_quotas quota self.old.nodes) superior new.name new.dir) self.old.next }
         ensures ok { OnOk result (self.new ≡ added self.old superior new) }
+        ensures fresh { is_in self.old.nodes self.old.next ≡ false }
         ensures err { OnErr result (self.new ≡ self.old) }
     {
         self.may_add(superior, &new.name, new.dir)?;
@@ -276,6 +280,7 @@ impl Tree {
         requires branch { uid ≢ 1 }
         ensures answer { (quota : ℕ → ℕ) → IsErr result ↔ (has_inferior (with_quotas quota self.old.nodes) uid ≡ true) }
         ensures ok { OnOk result (self.new ≡ removed self.old uid) }
+        ensures rest { OnOk result ((u : ℕ) → u ≢ uid → above (shapes self.new.nodes) u ≡ above (shapes self.old.nodes) u) }
         ensures err { OnErr result (self.new ≡ self.old) }
     {
         self.may_remove(uid)?;

@@ -2,6 +2,7 @@ use Rattle.std.proofs.Common.{◌≡◌, ◌++◌, ◌+◌, ◌≤◌, ◌<◌, 
 use Rattle.std.proofs.lemmas.List.{length-append, append-nil}
 use Rattle.storage_terms.specs.Tree.{above}
 use Rattle.dir_tree.specs.Shape.{shapes}
+use Rattle.dir_tree.proofs.ChainLemmas.{has_chains}
 use Rattle.dir_tree.proofs.QuotaLemmas.{above_any}
 use Rattle.dir_tree.proofs.TreeLemmas.{depth}
 use Rattle.dir_tree.proofs.Tree.superiors.Goals as goal
@@ -21,3 +22,14 @@ returns-clause-above c quota =
     let ns = shapes c.args.self.now.nodes in
     let none : above ns c.loop-superior.at ≡ [] = rw c.in_default.is at c.superior.ensures.above in
     sym (append-nil c.loop-superior.up.items) ∙ ap (λ (xs : List ℕ). c.loop-superior.up.items ++ xs) (sym none) ∙ c.loop-superior.invariant.so_far ∙ sym (above_any quota c.args.self.now.nodes c.args.uid)
+
+pub returns-clause-most : goal.returns-clause-most
+returns-clause-most c =
+    let ns = shapes c.args.self.now.nodes in
+    let deep : length (above ns c.args.uid) ≤ 9 = depth ns c.superior.ensures.tree c.args.uid in
+    let none : above ns c.loop-superior.at ≡ [] = rw c.in_default.is at c.superior.ensures.above in
+    let is : c.loop-superior.up.items ≡ above ns c.args.uid = sym (append-nil c.loop-superior.up.items) ∙ ap (λ (xs : List ℕ). c.loop-superior.up.items ++ xs) (sym none) ∙ c.loop-superior.invariant.so_far in
+    rw is deep
+
+pub returns-clause-chains : goal.returns-clause-chains
+returns-clause-chains c = has_chains (shapes c.args.self.now.nodes) c.superior.ensures.tree
