@@ -27,7 +27,7 @@ look_with (k ∷ ks) (x ∷ vs) u v w len e = elim (cases_eq k u) [
 pub length_with : (ks vs : List ℕ) (u v : ℕ) → length (with_value ks vs u v) ≡ length vs
 length_with [] vs u v = refl
 length_with (k ∷ ks) [] u v = refl
-length_with (k ∷ ks) (x ∷ vs) u v = elim (cases_Bool (eqb k u)) [ inl is ↦ rw is refl | inr isnt ↦ rw isnt (ap (λ n. n + 1) (length_with ks vs u v)) ]
+length_with (k ∷ ks) (x ∷ vs) u v = elim (cases_Bool (eqb k u)) [ inl is ↦ rw is refl | inr isnt ↦ rw isnt (ap suc (length_with ks vs u v)) ]
 
 pub sum_with : (ks vs : List ℕ) (u v : ℕ) → length vs ≡ length ks → has ks u ≡ true → sum (with_value ks vs u v) + look ks vs u ≡ sum vs + v
 sum_with [] vs u v len e = cc
@@ -71,7 +71,7 @@ look_changed g t (k ∷ ks) (w ∷ ws) u len e = elim (cases_eq k u) [
 pub length_changed : (g : ℕ → ℕ) (t : ℕ → Bool) (ks ws : List ℕ) → length ws ≡ length ks → length (changed_where g t ks ws) ≡ length ws
 length_changed g t [] ws len = refl
 length_changed g t (k ∷ ks) [] len = refl
-length_changed g t (k ∷ ks) (w ∷ ws) len = ap (λ n. n + 1) (length_changed g t ks ws (omega arith))
+length_changed g t (k ∷ ks) (w ∷ ws) len = ap suc (length_changed g t ks ws (omega arith))
 
 pub get_changed : (g : ℕ → ℕ) (t : ℕ → Bool) (ks ws : List ℕ) (i : ℕ) → length ws ≡ length ks → i < length ks → get_or (changed_where g t ks ws) i 0 ≡ (if t (get_or ks i 0) then g (get_or ws i 0) else get_or ws i 0)
 get_changed g t [] ws i len lt = absurd (omega arith)

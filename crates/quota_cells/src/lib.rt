@@ -1,7 +1,7 @@
 //! Quota cells.
 #![tactic(auto)]
 
-ghost use Rattle.std.specs.Prelude.{◌≡◌};
+mod columns;
 
 /// No memory was left for the cells.
 #[derive(Clone, Copy, Debug, PartialEq, Eq)]

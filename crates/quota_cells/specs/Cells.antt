@@ -1,0 +1,76 @@
+-- What a contract sees of quota cells: a finite map from directory to quota, one from segment to stored pages, and
+-- for each directory the stored pages below it that no lower account takes (Organick 1972). A map is a list of uids
+-- with a list of values beside them.
+use Rattle.std.specs.Prelude.{◌≡◌, ◌≢◌, ℕ, ◌+◌, ◌-◌, ◌<◌, ◌≤◌, ◌==◌, ◌^◌, Bool, true, false, ◌&&◌, not, if◌then◌else◌, List, [], ◌∷◌, length, Option, Some, None, slice_index, sum, nat_lt}
+use Rattle.storage_terms.specs.Tree.{above, account}
+use Rattle.dir_tree.specs.declared.node.Node.{Node}
+use Rattle.dir_tree.specs.Nodes.{is_directory, is_segment}
+use Rattle.dir_tree.specs.Shape.{shapes}
+use Rattle.quota_cells.specs.Accounts.{look, has, with_value, covers, load, charged_to, is_an_account, changed_where}
+
+pub record CellMaps : Type 0 where
+  pub directories : List ℕ
+  pub quotas : List ℕ
+  pub loads : List ℕ
+  pub segments : List ℕ
+  pub stored : List ℕ
+
+abbrev pub quota_in : CellMaps → ℕ → ℕ
+quota_in c d = look c.directories c.quotas d
+
+abbrev pub load_in : CellMaps → ℕ → ℕ
+load_in c d = look c.directories c.loads d
+
+abbrev pub stored_in : CellMaps → ℕ → ℕ
+stored_in c s = look c.segments c.stored s
+
+-- the pages that an account is charged for, 0 where it is none
+abbrev pub used_in : CellMaps → ℕ → ℕ
+used_in c a = if is_an_account (quota_in c) a then load_in c a else 0
+
+-- The cells fit a tree: its directories and segments are exactly the uids with a cell, and each directory's load is
+-- the count from scratch in that tree, with the quotas and stored pages that the cells hold.
+pub record Fits (nodes : List Node) (c : CellMaps) : Type 0 where
+  pub directories : (u : ℕ) → has c.directories u ≡ is_directory nodes u
+  pub segments : (u : ℕ) → has c.segments u ≡ is_segment nodes u
+  pub loads : (e : ℕ) → has c.directories e ≡ true → load_in c e ≡ load (above (shapes nodes)) (quota_in c) c.segments c.stored e
+
+abbrev pub IsRising : List ℕ → Type 0
+IsRising ks = (i j : ℕ) → i < j → j < length ks → slice_index ks i < slice_index ks j
+
+-- each account is within its quota
+abbrev pub AreWithin : CellMaps → Type 0
+AreWithin c = (a : ℕ) → has c.directories a ≡ true → is_an_account (quota_in c) a ≡ true → load_in c a ≤ quota_in c a
+
+-- what holds of all cells
+pub record IsTable (c : CellMaps) : Type 0 where
+  pub rising : IsRising c.directories
+  pub segments_rise : IsRising c.segments
+  pub quota_count : length c.quotas ≡ length c.directories
+  pub load_count : length c.loads ≡ length c.directories
+  pub stored_count : length c.stored ≡ length c.segments
+  pub within : AreWithin c
+  pub total : sum c.quotas < 2 ^ 32
+
+-- the root's cell alone
+abbrev pub root_cell : ℕ → CellMaps
+root_cell quota = record { directories = 1 ∷ []; quotas = quota ∷ []; loads = 0 ∷ []; segments = []; stored = [] }
+
+-- a page more, or less, of a segment below these directories
+abbrev pub charged : CellMaps → List ℕ → ℕ → CellMaps
+charged c up s = record c { loads = changed_where (λ w. w + 1) (covers (quota_in c) up) c.directories c.loads; stored = with_value c.segments c.stored s (stored_in c s + 1) }
+
+abbrev pub credited : CellMaps → List ℕ → ℕ → CellMaps
+credited c up s = record c { loads = changed_where (λ w. w - 1) (covers (quota_in c) up) c.directories c.loads; stored = with_value c.segments c.stored s (stored_in c s - 1) }
+
+-- the loads once a directory below these has another quota: where it becomes an account its load is taken from what
+-- covers it, and where it is one no more its load is added there
+abbrev pub loads_then : List ℕ → List ℕ → List ℕ → List ℕ → ℕ → Bool → Bool → List ℕ
+loads_then directories quotas loads up d true false = changed_where (λ w. w - look directories loads d) (covers (look directories quotas) up) directories loads
+loads_then directories quotas loads up d false true = changed_where (λ w. w + look directories loads d) (covers (look directories quotas) up) directories loads
+loads_then directories quotas loads up d true true = loads
+loads_then directories quotas loads up d false false = loads
+
+-- the cells once a directory below these has another quota
+abbrev pub with_quota : CellMaps → List ℕ → ℕ → ℕ → CellMaps
+with_quota c up d v = record c { quotas = with_value c.directories c.quotas d v; loads = loads_then c.directories c.quotas c.loads up d (quota_in c d == 0) (v == 0) }
