@@ -2,10 +2,10 @@
 use Rattle.std.proofs.Common.{◌≡◌, ◌≢◌, ℕ, suc, zero, ◌+◌, ◌<◌, ◌≤◌, Bool, true, false, cond, eqb, List, [], ◌∷◌, Option, Some, None, refl, sym, ap, subst, ◌∙◌, arith, inl, inr, ◌⊎◌, is_some}
 use Rattle.std.specs.List.{find}
 use Rattle.std.specs.Option.{option_and_then}
-use Rattle.std.proofs.lemmas.Bool.{cases_Bool, cases_eq}
+use Rattle.std.proofs.lemmas.Bool.{cases_Bool, cases_eq, both_ways}
 use Rattle.storage_terms.specs.Tree.{Node as Term, above, has_directory, node_in, step_up}
 use Rattle.dir_tree.specs.Shape.{IsTree, AreUnder, IsChain, AreDirectories, EndsAtRoot, HasChains}
-use Rattle.dir_tree.proofs.TreeLemmas.{superior_in, IsUp, superior_up, above_once, root_only}
+use Rattle.dir_tree.proofs.TreeLemmas.{superior_in, IsUp, superior_up, above_once, root_only, root_directory}
 
 node_found : (ns : List Term) (u : ℕ) → node_in ns u ≡ find (λ n. eqb n.uid u) ns
 node_found [] u = refl
@@ -81,12 +81,36 @@ module _ (ns : List Term) (t : IsTree ns) where
   first_at u (inl root) = (let one : u ≡ 1 = root.0 in omega arith)
   first_at u (inr below) = (let lt : 1 < u = below.0 in omega arith)
 
+  of_directory : (ms : List Term) (u : ℕ) (n : Term) → find (λ n. eqb n.uid u) ms ≡ Some n → has_directory ms u ≡ n.directory
+  of_directory [] u n e = cc
+  of_directory (m ∷ ms) u n e = elim (cases_Bool (eqb m.uid u)) [
+    | inl is ↦ (let z : Some m ≡ Some n = rw is at e in let same : m ≡ n = cc in rw is (ap (λ (x : Term). x.directory) same))
+    | inr isnt ↦ rw isnt (of_directory ms u n (rw isnt at e))
+  ]
+
+  root_superior : (o : Option ℕ) → superior_in ns 1 ≡ o → IsUp ns 1 o → superior_in ns 1 ≡ None
+  unfolding Ends
+  root_superior None is up = is
+  root_superior (Some s) is up = elim (ends (suc s) s (omega arith) (directory_there ns s up.1)) [
+    | inl root ↦ absurd (let one : s ≡ 1 = root.0 in let lt : s < 1 = up.0 in omega arith)
+    | inr below ↦ absurd (let lt : s < 1 = up.0 in let more : 1 < s = below.0 in omega arith)
+  ]
+
+  root_is_directory : (o : Option Term) → find (λ n. eqb n.uid 1) ns ≡ o → is_some o ≡ true → has_directory ns 1 ≡ true
+  root_is_directory None is some = cc
+  root_is_directory (Some n) is some =
+      of_directory ns 1 n is ∙ root_directory ns t 1 n is (sym (ap (option_and_then (λ n. n.superior)) is) ∙ root_superior (superior_in ns 1) refl (superior_up ns t 1))
+
+  not_root : (u : ℕ) → is_some (node_in ns u) ≡ true → has_directory ns u ≡ false → u ≢ 1
+  not_root u there isnt one = both_ways (has_directory ns u) isnt (rw one (root_is_directory (find (λ n. eqb n.uid 1) ns) refl (ap is_some (sym (node_found ns 1)) ∙ rw one at there)))
+
   pub has_chains : HasChains ns
   has_chains = record {
     chain = λ u. (facts (suc u) u (omega arith)).chain;
     under = λ u. (facts (suc u) u (omega arith)).under;
     directories = λ u. (facts (suc u) u (omega arith)).directories;
     rooted = λ u there ne. rooted_at u (ends (suc u) u (omega arith) there) ne;
+    segments = λ u there isnt. rooted_at u (ends (suc u) u (omega arith) there) (not_root u there isnt);
     root = root_at (superior_in ns 1) refl (above_once ns t 1) (superior_up ns t 1);
     first = λ u there. first_at u (ends (suc u) u (omega arith) there);
   }

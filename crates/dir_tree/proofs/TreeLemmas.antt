@@ -102,6 +102,19 @@ root_only (m ∷ ns) t u n e none = elim (cases_eq m.uid u) [
   | inr other ↦ root_only ns t.1 u n (rw (ne_eqb m.uid u other) at e) none
 ]
 
+-- and it's a directory
+pub root_directory : (ns : List Term) → IsTree ns → (u : ℕ) (n : Term) → find (λ n. eqb n.uid u) ns ≡ Some n → n.superior ≡ None → n.directory ≡ true
+root_directory [] t u n e none = cc
+root_directory (m ∷ ns) t u n e none = elim (cases_eq m.uid u) [
+  | inl same ↦
+      (let z : Some m ≡ Some n = rw (eq-eqb m.uid u same) at e in
+      let is : m ≡ n = cc in
+      let up : m.superior ≡ None = rw is none in
+      let root : Joins ns None m = subst (λ o. Joins ns o m) up t.0 in
+      ap (λ (x : Term). x.directory) (sym is) ∙ root.directory)
+  | inr other ↦ root_directory ns t.1 u n (rw (ne_eqb m.uid u other) at e) none
+]
+
 -- ---- one branch of a name
 
 pub is_below : (u : ℕ) (n : Term) → n.superior ≡ Some u → is_inferior u n ≡ true

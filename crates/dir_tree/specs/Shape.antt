@@ -1,6 +1,6 @@
 -- What holds of every tree. It speaks of uids, superiors, names and kinds alone, so no change of a length, a home or
 -- an access control list touches it.
-use Rattle.std.specs.Prelude.{◌≡◌, ◌≢◌, ℕ, ◌<◌, ◌≤◌, Bool, true, is_some, List, [], ◌∷◌, length, map, Option, Some, None}
+use Rattle.std.specs.Prelude.{◌≡◌, ◌≢◌, ℕ, ◌<◌, ◌≤◌, Bool, true, false, is_some, List, [], ◌∷◌, length, map, Option, Some, None}
 use Rattle.storage_terms.specs.Tree.{Node as Term, above, branch_in, has_directory, node_in}
 use Rattle.dir_tree.specs.declared.node.Node.{Node}
 
@@ -66,5 +66,6 @@ pub record HasChains (ns : List Term) : Type 0 where
   pub under : (u : ℕ) → AreUnder u (above ns u)
   pub directories : (u : ℕ) → AreDirectories ns (above ns u)
   pub rooted : (u : ℕ) → is_some (node_in ns u) ≡ true → u ≢ 1 → EndsAtRoot (above ns u)
+  pub segments : (u : ℕ) → is_some (node_in ns u) ≡ true → has_directory ns u ≡ false → EndsAtRoot (above ns u)
   pub root : above ns 1 ≡ []
   pub first : (u : ℕ) → is_some (node_in ns u) ≡ true → 1 ≤ u

@@ -113,3 +113,11 @@ look_le_weigh t (k ∷ ks) (w ∷ ws) u is = elim (cases_eq k u) [
   | inl same ↦ (let here : t k ≡ true = rw same is in rw (eq-eqb k u same, here) (omega arith))
   | inr other ↦ rw (ne_eqb k u other) (let ih : look ks ws u ≤ weigh t ks ws = look_le_weigh t ks ws u is in omega arith)
 ]
+
+pub weigh_le_on : (s t : ℕ → Bool) (ks ws : List ℕ) → ((k : ℕ) → has ks k ≡ true → s k ≡ true → t k ≡ true) → weigh s ks ws ≤ weigh t ks ws
+weigh_le_on s t [] ws le = omega arith
+weigh_le_on s t (k ∷ ks) [] le = omega arith
+weigh_le_on s t (k ∷ ks) (w ∷ ws) le = (let ih : weigh s ks ws ≤ weigh t ks ws = weigh_le_on s t ks ws (λ j h. le j (or_right (eqb k j) (has ks j) h)) in elim (cases_Bool (s k)) [
+  | inl is ↦ (let also : t k ≡ true = le k (or_left (eqb k k) (has ks k) (eq-eqb k k refl)) is in rw (is, also) (omega arith))
+  | inr isnt ↦ rw isnt (omega arith)
+])

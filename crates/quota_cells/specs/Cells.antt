@@ -1,12 +1,13 @@
 -- What a contract sees of quota cells: a finite map from directory to quota, one from segment to stored pages, and
 -- for each directory the stored pages below it that no lower account takes (Organick 1972). A map is a list of uids
 -- with a list of values beside them.
-use Rattle.std.specs.Prelude.{◌≡◌, ◌≢◌, ℕ, ◌+◌, ◌-◌, ◌<◌, ◌≤◌, ◌==◌, ◌^◌, Bool, true, false, ◌&&◌, not, if◌then◌else◌, List, [], ◌∷◌, length, Option, Some, None, slice_index, sum, nat_lt}
+use Rattle.std.specs.Prelude.{◌≡◌, ◌≢◌, ℕ, ◌+◌, ◌-◌, ◌<◌, ◌≤◌, ◌==◌, ◌^◌, Bool, true, false, ◌&&◌, ◌||◌, not, if◌then◌else◌, List, [], ◌∷◌, length, Option, Some, None, slice_index, sum, nat_lt, Result, Ok, Err}
 use Rattle.storage_terms.specs.Tree.{above, account}
 use Rattle.dir_tree.specs.declared.node.Node.{Node}
 use Rattle.dir_tree.specs.Nodes.{is_directory, is_segment}
 use Rattle.dir_tree.specs.Shape.{shapes}
-use Rattle.quota_cells.specs.Accounts.{look, has, with_value, covers, load, charged_to, is_an_account, changed_where}
+use Rattle.quota_cells.specs.declared.Full.{Full}
+use Rattle.quota_cells.specs.Accounts.{look, has, with_value, covers, weigh, load, charged_to, is_an_account, changed_where}
 
 pub record CellMaps : Type 0 where
   pub directories : List ℕ
@@ -74,3 +75,29 @@ loads_then directories quotas loads up d false false = loads
 -- the cells once a directory below these has another quota
 abbrev pub with_quota : CellMaps → List ℕ → ℕ → ℕ → CellMaps
 with_quota c up d v = record c { quotas = with_value c.directories c.quotas d v; loads = loads_then c.directories c.quotas c.loads up d (quota_in c d == 0) (v == 0) }
+
+-- whether a page of a segment below these can be charged, or the account that is full
+abbrev pub charge_fault : CellMaps → List ℕ → Result (Unit {0}) Full
+charge_fault c up = if load_in c (account (quota_in c) up) == quota_in c (account (quota_in c) up) then Err (record { account = account (quota_in c) up }) else Ok tt
+
+-- a directory or a segment gets an empty cell
+pub record Enters (old new : CellMaps) (uid : ℕ) (dir : Bool) : Type 0 where
+  pub directories : (u : ℕ) → has new.directories u ≡ ((dir && uid == u) || has old.directories u)
+  pub segments : (u : ℕ) → has new.segments u ≡ ((not dir && uid == u) || has old.segments u)
+  pub quotas : (d : ℕ) → quota_in new d ≡ quota_in old d
+  pub loads : (d : ℕ) → load_in new d ≡ load_in old d
+  pub stored : (s : ℕ) → stored_in new s ≡ stored_in old s
+  pub counts : (test : ℕ → Bool) → weigh test new.segments new.stored ≡ weigh test old.segments old.stored
+
+-- a uid has no cell any more
+pub record Leaves (old new : CellMaps) (uid : ℕ) : Type 0 where
+  pub directories : (u : ℕ) → has new.directories u ≡ (has old.directories u && not (uid == u))
+  pub segments : (u : ℕ) → has new.segments u ≡ (has old.segments u && not (uid == u))
+  pub quotas : (d : ℕ) → quota_in new d ≡ quota_in old d
+  pub loads : (d : ℕ) → d ≢ uid → load_in new d ≡ load_in old d
+  pub stored : (s : ℕ) → stored_in new s ≡ stored_in old s
+  pub counts : (test : ℕ → Bool) → weigh test new.segments new.stored ≡ weigh test old.segments old.stored
+
+-- a uid has a cell
+abbrev pub has_cell : CellMaps → ℕ → Bool
+has_cell c u = has c.directories u || has c.segments u

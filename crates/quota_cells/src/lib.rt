@@ -1,8 +1,229 @@
 //! Quota cells.
 #![tactic(auto)]
 
+ghost use Rattle.std.specs.Prelude.{◌≡◌, ◌≢◌, ◌<◌, ◌≤◌, ◌+◌, ◌-◌, ◌^◌, ◌==◌, ◌&&◌, ◌||◌, not, ℕ, Bool, true, false, Some, None, List, length, IfOk, IfErr, IfSome, IfNone, OnOk, OnErr, IsErr, sum, if◌then◌else◌, [], ◌∷◌, vec_capacity};
+ghost use Rattle.storage_terms.specs.Tree.{above, account};
+ghost use Rattle.dir_tree.specs.declared.node.Node.{Node};
+ghost use Rattle.dir_tree.specs.Nodes.{is_in, is_directory, is_segment, without};
+ghost use Rattle.dir_tree.specs.Shape.{shapes, HasChains};
+ghost use Rattle.quota_cells.specs.Accounts.{has, is_an_account};
+ghost use Rattle.quota_cells.specs.Cells.{quota_in, load_in, stored_in, used_in, Fits, AreWithin, root_cell, charged, credited, charge_fault, has_cell, Enters, Leaves};
+
 mod columns;
+
+use dir_tree::{ROOT, Tree};
+use std::alloc::{AllocError, Global};
+use std::marker::Model;
 
 /// No memory was left for the cells.
 #[derive(Clone, Copy, Debug, PartialEq, Eq)]
 pub struct NoMemory;
+
+impl From<AllocError> for NoMemory {
+    fn from(_: AllocError) -> Self {
+        NoMemory
+    }
+}
+
+/// The account has as many stored pages as its quota.
+#[derive(Clone, Copy, Debug, PartialEq, Eq)]
+pub struct Full {
+    /// The directory that would be charged.
+    pub account: u32,
+}
+
+/// The most cells.
+pub const CELLS: usize = 4097;
+
+/// Quota cells.
+#[derive(Debug, Drop)]
+pub struct Cells {
+    directories: Vec<u32>,
+    quotas: Vec<u32>,
+    loads: Vec<u32>,
+    segments: Vec<u32>,
+    stored: Vec<u32>,
+}
+
+impl Model for Cells {
+    ghost use Rattle.std.specs.Prelude.{◌≤◌, vec_capacity};
+    ghost use Rattle.quota_cells.specs.Cells.{CellMaps, IsTable};
+
+    ghost Value = { CellMaps };
+
+    ghost view = { λ c. record { directories = c.directories.items; quotas = c.quotas.items; loads = c.loads.items; segments = c.segments.items; stored = c.stored.items } };
+
+    ghost invariant = { λ c. IsTable (record { directories = c.directories.items; quotas = c.quotas.items; loads = c.loads.items; segments = c.segments.items; stored = c.stored.items }) × (4097 ≤ vec_capacity c.directories) × (4097 ≤ vec_capacity c.quotas) × (4097 ≤ vec_capacity c.loads) × (4097 ≤ vec_capacity c.segments) × (4097 ≤ vec_capacity c.stored) };
+}
+
+/// An empty column with room for all cells.
+fn column(alloc: Global) -> Result<Vec<u32>, AllocError>
+    ensures items { IfOk result (λ v. v.items ≡ []) }
+    ensures capacity { IfOk result (λ v. vec_capacity v ≡ 4097) }
+{
+    Vec::with_capacity(alloc, CELLS)
+}
+
+impl Cells {
+    /// The root's cell alone, with this quota.
+    pub fn new(alloc: Global, root_quota: u32) -> Result<Cells, NoMemory>
+        ensures { IfOk result (λ cells. cells ≡ root_cell root_quota) }
+    {
+        let mut directories = column(alloc)?;
+        let mut quotas = column(alloc)?;
+        let mut loads = column(alloc)?;
+        let segments = column(alloc)?;
+        let stored = column(alloc)?;
+        directories.push_reserved(ROOT);
+        quotas.push_reserved(root_quota);
+        loads.push_reserved(0);
+        Ok(Cells {
+            directories,
+            quotas,
+            loads,
+            segments,
+            stored,
+        })
+    }
+
+    /// Adds an empty cell.
+    pub fn enter(&mut self, uid: u32, dir: bool)
+        requires room { length self.old.directories + length self.old.segments < 4097 }
+        requires absent { has_cell self.old uid ≡ false }
+        ensures enters { Enters self.old self.new uid dir }
+        ensures fits { (nodes : List Node) (n : Node) → n.uid ≡ uid → n.dir ≡ dir → is_in nodes uid ≡ false → HasChains (shapes nodes) → Fits nodes self.old → Fits (n ∷ nodes) self.new }
+    {
+        if dir {
+            self.enter_directory(uid);
+        } else {
+            self.enter_segment(uid);
+        }
+    }
+
+    /// Adds an empty cell of a directory.
+    fn enter_directory(&mut self, uid: u32)
+        requires room { length self.old.directories + length self.old.segments < 4097 }
+        requires absent { has_cell self.old uid ≡ false }
+        ensures { Enters self.old self.new uid true }
+    {
+        match columns::search(&self.directories, uid) {
+            Ok(_) => unreachable!(),
+            Err(at) => {
+                columns::insert_at(&mut self.directories, at, uid);
+                columns::insert_at(&mut self.quotas, at, 0);
+                columns::insert_at(&mut self.loads, at, 0);
+            }
+        }
+    }
+
+    /// Adds an empty cell of a segment.
+    fn enter_segment(&mut self, uid: u32)
+        requires room { length self.old.directories + length self.old.segments < 4097 }
+        requires absent { has_cell self.old uid ≡ false }
+        ensures { Enters self.old self.new uid false }
+    {
+        match columns::search(&self.segments, uid) {
+            Ok(_) => unreachable!(),
+            Err(at) => {
+                columns::insert_at(&mut self.segments, at, uid);
+                columns::insert_at(&mut self.stored, at, 0);
+            }
+        }
+    }
+
+    /// Drops an empty cell.
+    pub fn leave(&mut self, uid: u32)
+        requires cell { has_cell self.old uid ≡ true }
+        requires quota { quota_in self.old uid ≡ 0 }
+        requires stored { stored_in self.old uid ≡ 0 }
+        requires once { has self.old.directories uid ≡ true → has self.old.segments uid ≡ false }
+        ensures leaves { Leaves self.old self.new uid }
+        ensures fits { (nodes : List Node) → ((u : ℕ) → u ≢ uid → above (shapes (without uid nodes)) u ≡ above (shapes nodes) u) → Fits nodes self.old → Fits (without uid nodes) self.new }
+    {
+        match columns::search(&self.directories, uid) {
+            Ok(at) => {
+                self.directories.remove(at);
+                self.quotas.remove(at);
+                self.loads.remove(at);
+            }
+            Err(_) => {
+                let at = columns::place(&self.segments, uid);
+                self.segments.remove(at);
+                self.stored.remove(at);
+            }
+        }
+    }
+
+    /// The quota of a directory.
+    pub fn quota(&self, d: u32) -> u32
+        requires { has self.now.directories d ≡ true }
+        ensures { result ≡ quota_in self.now d }
+    {
+        columns::value(&self.directories, &self.quotas, d)
+    }
+
+    /// The stored pages of a segment.
+    pub fn stored(&self, seg: u32) -> u32
+        requires { has self.now.segments seg ≡ true }
+        ensures { result ≡ stored_in self.now seg }
+    {
+        columns::value(&self.segments, &self.stored, seg)
+    }
+
+    /// The stored pages that an account is charged for; 0 where it is no account.
+    pub fn used(&self, a: u32) -> u32
+        ensures used { result ≡ used_in self.now a }
+        ensures within { AreWithin self.now }
+    {
+        if a == ROOT || columns::value(&self.directories, &self.quotas, a) > 0 {
+            return columns::value(&self.directories, &self.loads, a);
+        }
+        0
+    }
+
+    /// What `charge` would refuse.
+    pub fn may_charge(&self, t: &Tree, seg: u32) -> Result<(), Full>
+        requires segment { is_segment t.now.nodes seg ≡ true }
+        requires fits { Fits t.now.nodes self.now }
+        ensures { result ≡ charge_fault self.now (above (shapes t.now.nodes) seg) }
+    {
+        let up = t.superiors(seg);
+        let account = columns::account(&self.directories, &self.quotas, up.as_slice());
+        let quota = columns::value(&self.directories, &self.quotas, account);
+        if columns::value(&self.directories, &self.loads, account) == quota {
+            return Err(Full { account });
+        }
+        Ok(())
+    }
+
+    /// Counts one more stored page of a segment.
+    pub fn charge(&mut self, t: &Tree, seg: u32) -> Result<(), Full>
+        requires segment { is_segment t.now.nodes seg ≡ true }
+        requires fits { Fits t.now.nodes self.old }
+        ensures answer { result ≡ charge_fault self.old (above (shapes t.now.nodes) seg) }
+        ensures ok { OnOk result (self.new ≡ charged self.old (above (shapes t.now.nodes) seg) seg) }
+        ensures err { OnErr result (self.new ≡ self.old) }
+        ensures fits { Fits t.now.nodes self.new }
+    {
+        self.may_charge(t, seg)?;
+        let up = t.superiors(seg);
+        let at = columns::place(&self.segments, seg);
+        self.stored[at] += 1;
+        columns::lift(&mut self.loads, &self.directories, &self.quotas, up.as_slice(), 1);
+        Ok(())
+    }
+
+    /// Counts one stored page of a segment less.
+    pub fn credit(&mut self, t: &Tree, seg: u32)
+        requires segment { is_segment t.now.nodes seg ≡ true }
+        requires stored { 0 < stored_in self.old seg }
+        requires fits { Fits t.now.nodes self.old }
+        ensures ok { self.new ≡ credited self.old (above (shapes t.now.nodes) seg) seg }
+        ensures fits { Fits t.now.nodes self.new }
+    {
+        let up = t.superiors(seg);
+        let at = columns::place(&self.segments, seg);
+        self.stored[at] -= 1;
+        columns::lower(&mut self.loads, &self.directories, &self.quotas, up.as_slice(), 1);
+    }
+}
