@@ -14,15 +14,15 @@ use Rattle.quota_cells.proofs.ColumnLaws.{look_with, look_changed, length_with, 
 use Rattle.quota_cells.proofs.PlaceLaws.{covers_under, covers_not, look_at, set_at}
 use Rattle.quota_cells.proofs.AccountLaws.{account_covers, account_through, account_is, account_from, appears, appears_own, covers_above, load_same, account_of_chain}
 
-directory_shape : (ns : List Node) (u : ℕ) → has_directory (shapes ns) u ≡ is_directory ns u
+pub directory_shape : (ns : List Node) (u : ℕ) → has_directory (shapes ns) u ≡ is_directory ns u
 directory_shape [] u = refl
 directory_shape (n ∷ ns) u = elim (cases_Bool (eqb n.uid u)) [ inl is ↦ rw is refl | inr isnt ↦ rw isnt (directory_shape ns u) ]
 
-segment_there : (ns : List Node) (u : ℕ) → is_segment ns u ≡ true → is_some (node_in (shapes ns) u) ≡ true
+pub segment_there : (ns : List Node) (u : ℕ) → is_segment ns u ≡ true → is_some (node_in (shapes ns) u) ≡ true
 segment_there [] u e = cc
 segment_there (n ∷ ns) u e = elim (cases_Bool (eqb n.uid u)) [ inl is ↦ rw is refl | inr isnt ↦ rw isnt (segment_there ns u (rw isnt at e)) ]
 
-segment_not : (ns : List Node) (u : ℕ) → is_segment ns u ≡ true → has_directory (shapes ns) u ≡ false
+pub segment_not : (ns : List Node) (u : ℕ) → is_segment ns u ≡ true → has_directory (shapes ns) u ≡ false
 segment_not [] u e = cc
 segment_not (n ∷ ns) u e = elim (cases_Bool (eqb n.uid u)) [ inl is ↦ (let h : not n.dir ≡ true = rw is at e in rw is (not-true n.dir h)) | inr isnt ↦ rw isnt (segment_not ns u (rw isnt at e)) ]
 
@@ -34,12 +34,12 @@ pub all_there : (nodes : List Node) (c : CellMaps) → Fits nodes c → (xs : Li
 all_there nodes c fits [] a = tt
 all_there nodes c fits (x ∷ xs) a = (fits.directories x ∙ sym (directory_shape nodes x) ∙ a.0, all_there nodes c fits xs a.1)
 
-account_there : (q : ℕ → ℕ) (ks xs : List ℕ) → AreThere ks xs → EndsAtRoot xs → has ks (account q xs) ≡ true
+pub account_there : (q : ℕ → ℕ) (ks xs : List ℕ) → AreThere ks xs → EndsAtRoot xs → has ks (account q xs) ≡ true
 account_there q ks [] a e = absurd e
 account_there q ks (x ∷ []) a e = elim (cases_Bool (eqb (q x) 0)) [ inl none ↦ rw none (subst (λ u. has ks u ≡ true) e a.0) | inr some ↦ rw some a.0 ]
 account_there q ks (x ∷ y ∷ ys) a e = elim (cases_Bool (eqb (q x) 0)) [ inl none ↦ rw none (account_there q ks (y ∷ ys) a.1 e.1) | inr some ↦ rw some a.0 ]
 
-covered_there : (q : ℕ → ℕ) (ks xs : List ℕ) (e : ℕ) → AreThere ks xs → covers q xs e ≡ true → has ks e ≡ true
+pub covered_there : (q : ℕ → ℕ) (ks xs : List ℕ) (e : ℕ) → AreThere ks xs → covers q xs e ≡ true → has ks e ≡ true
 covered_there q ks [] e a is = cc
 covered_there q ks (x ∷ xs) e a is = elim (cases_eq x e) [
   | inl same ↦ subst (λ u. has ks u ≡ true) same a.0
@@ -138,6 +138,7 @@ module _ (nodes : List Node) (c : CellMaps) (table : IsTable c) (fits : Fits nod
     quota_count = table.quota_count;
     load_count = length_changed (λ w. w + 1) (covers (quota_in c) (f s)) c.directories c.loads table.load_count ∙ table.load_count;
     stored_count = length_with c.segments c.stored s (stored_in c s + 1) ∙ table.stored_count;
+    apart = table.apart;
     within = λ b b_there b_is.
         (let q = quota_in c in
         let l = look_changed (λ w. w + 1) (covers q (f s)) c.directories c.loads b table.load_count b_there in
@@ -159,6 +160,7 @@ module _ (nodes : List Node) (c : CellMaps) (table : IsTable c) (fits : Fits nod
     quota_count = table.quota_count;
     load_count = length_changed (λ w. w - 1) (covers (quota_in c) (f s)) c.directories c.loads table.load_count ∙ table.load_count;
     stored_count = length_with c.segments c.stored s (stored_in c s - 1) ∙ table.stored_count;
+    apart = table.apart;
     within = λ b b_there b_is.
         (let q = quota_in c in
         let l = look_changed (λ w. w - 1) (covers q (f s)) c.directories c.loads b table.load_count b_there in

@@ -50,6 +50,7 @@ pub record IsTable (c : CellMaps) : Type 0 where
   pub quota_count : length c.quotas ≡ length c.directories
   pub load_count : length c.loads ≡ length c.directories
   pub stored_count : length c.stored ≡ length c.segments
+  pub apart : (u : ℕ) → has c.directories u ≡ true → has c.segments u ≡ false
   pub within : AreWithin c
   pub total : sum c.quotas < 2 ^ 32
 

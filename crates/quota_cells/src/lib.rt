@@ -136,22 +136,37 @@ impl Cells {
         requires cell { has_cell self.old uid ≡ true }
         requires quota { quota_in self.old uid ≡ 0 }
         requires stored { stored_in self.old uid ≡ 0 }
-        requires once { has self.old.directories uid ≡ true → has self.old.segments uid ≡ false }
         ensures leaves { Leaves self.old self.new uid }
         ensures fits { (nodes : List Node) → ((u : ℕ) → u ≢ uid → above (shapes (without uid nodes)) u ≡ above (shapes nodes) u) → Fits nodes self.old → Fits (without uid nodes) self.new }
     {
         match columns::search(&self.directories, uid) {
-            Ok(at) => {
-                self.directories.remove(at);
-                self.quotas.remove(at);
-                self.loads.remove(at);
-            }
-            Err(_) => {
-                let at = columns::place(&self.segments, uid);
-                self.segments.remove(at);
-                self.stored.remove(at);
-            }
+            Ok(_) => self.drop_directory(uid),
+            Err(_) => self.drop_segment(uid),
         }
+    }
+
+    /// Drops the empty cell of a directory.
+    fn drop_directory(&mut self, uid: u32)
+        requires cell { has self.old.directories uid ≡ true }
+        requires quota { quota_in self.old uid ≡ 0 }
+        ensures { Leaves self.old self.new uid }
+    {
+        let at = columns::place(&self.directories, uid);
+        self.directories.remove(at);
+        self.quotas.remove(at);
+        self.loads.remove(at);
+    }
+
+    /// Drops the empty cell of a segment.
+    fn drop_segment(&mut self, uid: u32)
+        requires cell { has self.old.segments uid ≡ true }
+        requires stored { stored_in self.old uid ≡ 0 }
+        requires apart { has self.old.directories uid ≡ false }
+        ensures { Leaves self.old self.new uid }
+    {
+        let at = columns::place(&self.segments, uid);
+        self.segments.remove(at);
+        self.stored.remove(at);
     }
 
     /// The quota of a directory.
