@@ -4,6 +4,7 @@
 use Rattle.std.specs.Prelude.{ℕ, zero, suc, ◌+◌, ◌*◌, ◌/◌, Bool, true, false, ◌&&◌, ◌==◌, nat_le, if◌then◌else◌, unwrap_or, replicate, slice_set, List, [], ◌∷◌, length, Option, Some, None, codes}
 use Rattle.std.specs.Option.{option_and_then}
 use Rattle.mnames.specs.declared.modes.Mode.TheVariants as mode
+use Rattle.mnames.specs.declared.principals.Who.{Who}
 use Rattle.script.specs.Plans.{Plan, who_of}
 use Rattle.script.specs.declared.commands.Command.{Command}
 use Rattle.script.specs.declared.commands.Command.TheVariants as command
@@ -119,8 +120,8 @@ reply_to_command s k (command.Write number offset word) = write_reply s k number
 reply_to_command s k command.End = reply.Done
 
 -- the row of access of a new segment: the process's own principal may read and write
-abbrev pub owner_row : List ℕ → Row
-owner_row who = record { person = Some who; project = Some (codes "Default"); mode = mode.Both }
+abbrev pub owner_row : Who → Row
+owner_row who = record { person = Some who.person; project = Some who.project; mode = mode.Both }
 
 -- a new segment, of which no page is stored
 abbrev pub made_in : Plan → Store → ℕ → ℕ → ℕ → Option (ℕ × List ℕ) → Store

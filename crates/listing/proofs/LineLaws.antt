@@ -4,7 +4,8 @@ use Rattle.std.specs.List.{flat_map}
 use Rattle.std.proofs.lemmas.Bool.Decides.{nat_tests}
 use Rattle.std.proofs.lemmas.Grind.{common_steps}
 use Rattle.std.proofs.lemmas.List.{take_more, flat_map_more}
-use Rattle.script.specs.Plans.{Plan, ProcessPlan, who_of, command_at}
+use Rattle.mnames.specs.declared.principals.Who.{Who}
+use Rattle.script.specs.Plans.{Plan, ProcessPlan, nobody, who_of, command_at}
 use Rattle.script.specs.Forms.{IsFirstForm}
 use Rattle.book.specs.declared.entries.Entry.{Entry}
 use Rattle.book.specs.declared.entries.Entry.TheVariants as entry
@@ -48,12 +49,12 @@ lines_end before p es i now le h =
     let whole : take i es ≡ es = grind (arith, common_steps) in
     h ∙ ap (λ (t : List Entry). before ++ flat_map (own_line p 0) t) whole ∙ ap (λ (t : List ℕ). before ++ t) (own_lines p 0 es)
 
-one_process : (p : Plan) (es : List Entry) (xs : List ProcessPlan) → length xs ≡ 1 → processes_lines p es 0 xs ≡ process_lines p es 0 (get_or xs 0 (record { who = []; commands = [] })).who
+one_process : (p : Plan) (es : List Entry) (xs : List ProcessPlan) → length xs ≡ 1 → processes_lines p es 0 xs ≡ process_lines p es 0 (get_or xs 0 (record { who = nobody; commands = [] })).who
 one_process p es [] h = absurd (omega arith)
 one_process p es (x ∷ []) h = nil_after (process_lines p es 0 x.who)
 one_process p es (x ∷ y ∷ xs) h = absurd (omega arith)
 
-pub listing_whole : (p q : Plan) (es : List Entry) (stored : ℕ) (none a b c w : List ℕ) → q ≡ p → IsFirstForm q → summary_of p (store_after p es) ≡ first_summary p stored → none ≡ [] → w ≡ who_of q 0 → a ≡ none ++ process_line 0 w → b ≡ a ++ flat_map (entry_line p) (part 0 es) → c ≡ b ++ first_summary q stored → c ≡ listing_of p es
+pub listing_whole : (p q : Plan) (es : List Entry) (stored : ℕ) (none a b c : List ℕ) (w : Who) → q ≡ p → IsFirstForm q → summary_of p (store_after p es) ≡ first_summary p stored → none ≡ [] → w ≡ who_of q 0 → a ≡ none ++ process_line 0 w → b ≡ a ++ flat_map (entry_line p) (part 0 es) → c ≡ b ++ first_summary q stored → c ≡ listing_of p es
 unfolding listing_of process_lines
 listing_whole p q es stored none a b c w same form summary empty who first second third =
     whole (subst IsFirstForm same form) (who ∙ ap (λ (x : Plan). who_of x 0) same) (third ∙ ap (λ (x : Plan). b ++ first_summary x stored) same)

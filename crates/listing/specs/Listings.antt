@@ -3,6 +3,8 @@ use Rattle.std.specs.Prelude.{ℕ, ◌+◌, List, [], ◌∷◌, ◌++◌, rever
 use Rattle.std.specs.List.{flat_map}
 use Rattle.std.specs.Fmt.{decimal}
 use Rattle.mnames.specs.Names.{path_text}
+use Rattle.mnames.specs.Principals.{who_text}
+use Rattle.mnames.specs.declared.principals.Who.{Who}
 use Rattle.script.specs.Plans.{Plan, ProcessPlan, command_at}
 use Rattle.script.specs.declared.commands.Command.{Command}
 use Rattle.script.specs.declared.plan.VolumeLine.{VolumeLine}
@@ -25,11 +27,11 @@ entry_line p (entry.Do process place cpu frame r) = answer_line p (command_at p 
 entry_line p (entry.Release uid page) = []
 
 -- `process K WHO`
-unfoldable pub process_line : ℕ → List ℕ → List ℕ
-process_line k who = codes "process " ++ (decimal k ++ (codes " " ++ (who ++ codes "\n")))
+unfoldable pub process_line : ℕ → Who → List ℕ
+process_line k who = codes "process " ++ (decimal k ++ (codes " " ++ (who_text who ++ codes "\n")))
 
 -- a process's line, and a line for each of its command entries
-unfoldable pub process_lines : Plan → List Entry → ℕ → List ℕ → List ℕ
+unfoldable pub process_lines : Plan → List Entry → ℕ → Who → List ℕ
 process_lines p entries k who = process_line k who ++ flat_map (entry_line p) (part k entries)
 
 -- the same of each process from number k on

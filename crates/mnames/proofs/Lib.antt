@@ -1,3 +1,4 @@
 mod NamesText
+mod PathGrammar
 mod PrincipalTexts
 mod ShortTexts

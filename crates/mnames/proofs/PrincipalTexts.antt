@@ -10,7 +10,7 @@ use Rattle.std.proofs.Math.Seq.{drop-append-add}
 use Rattle.std.proofs.lemmas.List.Folds.{list_all-append}
 use Rattle.std.proofs.lemmas.Slice.Eq.{bytes_eq-Decides}
 use Rattle.mnames.specs.Names.{is_label, is_label_byte}
-use Rattle.mnames.specs.Principals.{default_project, is_dot, before_dot, after_dot, IsWho, who_with, who_of, who_text, parts_text, IsRow, any_text, part_of, row_with, row_of, row_text, row_parts_text}
+use Rattle.mnames.specs.Principals.{default_project, is_dot, before_dot, after_dot, IsWho, who_of, who_text, parts_text, IsRow, any_text, part_of, row_with, row_of, row_text, row_parts_text}
 use Rattle.mnames.specs.declared.principals.Who.{Who}
 use Rattle.mnames.specs.declared.rows.Row.{Row}
 

@@ -17,7 +17,7 @@ mod texts;
 pub use labels::{Label, read_label};
 pub use modes::Mode;
 pub use names::{Name, read_name};
-pub use paths::{Path, path_text};
+pub use paths::{BadPath, Path, path_text, read_path};
 pub use principals::{Who, read_who};
 pub use rows::{Row, read_row};
 

@@ -1,8 +1,9 @@
-ghost use Rattle.std.specs.Prelude.{◌≡◌, Some, None, if◌then◌else◌, nat_eq, codes};
+ghost use Rattle.std.specs.Prelude.{◌≡◌, ◌++◌, Some, None, IfOk, IfErr, if◌then◌else◌, nat_eq, codes};
 ghost use Rattle.std.specs.List.{list_all};
 ghost use Rattle.std.specs.Cmp.Lexicographic.{pointwise, nat_list_eq_equiv};
 ghost use Rattle.std.specs.Cmp.{partial_equiv_from_equiv};
 ghost use Rattle.mnames.specs.Names.{is_name, is_name_byte, IsName};
+ghost use Rattle.mnames.specs.Reading.{IsAtSign, IsRun, IsStuck};
 
 use crate::texts::{NAME_BYTES, short_text};
 use arrayvec::ArrayString;
@@ -64,6 +65,40 @@ pub fn read_name(text: &[u8]) -> Option<Name>
     Some(Name {
         text: short_text(text),
     })
+}
+
+/// How long the front of a text is that an entry name may have: up to the first byte that may not stand
+/// in one, and at most 32 bytes.
+#[tactic(auto, using(crate::proofs::PathGrammar::run_more, crate::proofs::PathGrammar::run_whole, std::proofs::lemmas::Grind::common_steps))]
+fn run_length(text: &[u8]) -> usize
+    ensures { IsRun text.now result }
+{
+    for (i, byte) in text.iter().enumerate() {
+        if i == NAME_BYTES || !may_stand(*byte) {
+            return i;
+        }
+    }
+    text.len()
+}
+
+/// The entry name at the front of a text, up to its first `>` or its end, and what follows it. The error
+/// is the length of the longest front with which such a name begins.
+#[tactic(auto, using(crate::proofs::PathGrammar::stuck_at_byte, crate::proofs::PathGrammar::stuck_at_start, std::proofs::lemmas::Grind::common_steps))]
+pub(crate) fn next_name(text: &[u8]) -> Result<(Name, &[u8]), usize>
+    ensures name { IfOk result (λ n. IsName n.0) }
+    ensures parts { IfOk result (λ n. text.now ≡ n.0 ++ n.1.now) }
+    ensures sign { IfOk result (λ n. IsAtSign n.1.now) }
+    ensures stuck { IfErr result (λ length. IsStuck text.now length) }
+{
+    let length = run_length(text);
+    let (front, rest) = text.split_at(length);
+    if !rest.is_empty() && rest[0] != b'>' {
+        return Err(length);
+    }
+    match read_name(front) {
+        Some(name) => Ok((name, rest)),
+        None => Err(length),
+    }
 }
 
 impl Name {

@@ -1,8 +1,9 @@
-ghost use Rattle.std.specs.Prelude.{◌≡◌, ◌≤◌, [], ◌∷◌, length, Some, IfOk, string_bytes};
-ghost use Rattle.mnames.specs.Names.{path_text, IsPath};
+ghost use Rattle.std.specs.Prelude.{◌≡◌, ◌<◌, ◌≤◌, ℕ, List, [], ◌∷◌, ◌++◌, length, slice_index, Some, Ok, IfSome, IfNone, IfOk, IfErr, string_bytes};
+ghost use Rattle.mnames.specs.Names.{path_text, IsPath, IsLongestStart};
+ghost use Rattle.mnames.specs.Reading.{IsNoPath};
 
 use crate::NoMemory;
-use crate::names::Name;
+use crate::names::{Name, next_name};
 use arrayvec::ArrayVec;
 use std::alloc::Global;
 use std::fmt;
@@ -49,6 +50,30 @@ impl Path {
     {
         self.names.as_slice()
     }
+
+    /// The path of the directory above, and the name in it. `None` exactly where the path is the root's.
+    /// It takes no memory: at most eight names are copied.
+    #[tactic(auto, using(crate::proofs::PathGrammar::front_is_path, std::proofs::lemmas::Grind::common_steps))]
+    pub fn split_last(&self) -> Option<(Path, &Name)>
+        ensures parts { IfSome result (λ p. self.now ≡ p.0 ++ p.1.now ∷ []) }
+        ensures root { IfNone result (self.now ≡ []) }
+    {
+        let (name, above) = self.names.as_slice().split_last()?;
+        Some((path_of_names(above), name))
+    }
+}
+
+/// The path of these names.
+#[tactic(auto, using(std::proofs::lemmas::List::take_more, std::proofs::lemmas::Grind::common_steps))]
+fn path_of_names(names: &[Name]) -> Path
+    requires { IsPath names.now }
+    ensures { result ≡ names.now }
+{
+    let mut kept = ArrayVec::new();
+    for name in names {
+        kept.push(name.copied());
+    }
+    Path { names: kept }
 }
 
 /// The path of the root.
@@ -76,6 +101,78 @@ impl fmt::Display for Path {
         }
         Ok(())
     }
+}
+
+/// A text that is no path.
+#[derive(Clone, Copy, Debug, PartialEq, Eq)]
+pub struct BadPath {
+    /// The length in bytes of the longest front of the text with which some path begins.
+    pub place: u32,
+}
+
+/// The path of a text that begins with `>` and has more bytes. The error is the length of the longest
+/// front with which some path begins.
+#[tactic(auto, using(crate::proofs::PathGrammar::read_start, crate::proofs::PathGrammar::read_more, crate::proofs::PathGrammar::read_length, crate::proofs::PathGrammar::read_whole, crate::proofs::PathGrammar::read_full, crate::proofs::PathGrammar::read_stuck, std::proofs::lemmas::Grind::common_steps))]
+fn path_below_root(text: &[u8]) -> Result<Path, BadPath>
+    requires sign { slice_index text.now 0 ≡ 62 }
+    requires more { 1 < length text.now }
+    ensures ok { IfOk result (λ p. (text.now ≡ path_text p) × IsPath p) }
+    ensures err { IfErr result (λ e. IsNoPath text.now e.place) }
+{
+    let mut names: ArrayVec<Name, PATH_NAMES> = ArrayVec::new();
+    let mut rest = text;
+    while let Some((_, after)) = rest.split_first() {
+        if names.is_full() {
+            return Err(bad_path(text.len() - rest.len()));
+        }
+        match next_name(after) {
+            Ok((name, behind)) => {
+                names.push(name);
+                rest = behind;
+            }
+            Err(length) => return Err(bad_path(text.len() - after.len() + length)),
+        }
+    }
+    Ok(Path { names })
+}
+
+/// The fault at a place.
+fn bad_path(place: usize) -> BadPath
+    requires { place ≤ 330 }
+    ensures { result.place ≡ place }
+{
+    BadPath {
+        place: place as u32,
+    }
+}
+
+/// The path of a text.
+#[tactic(auto, using(crate::proofs::PathGrammar::unsigned_is_no_path, std::proofs::lemmas::Grind::common_steps))]
+fn path_of(text: &[u8]) -> Result<Path, BadPath>
+    ensures ok { IfOk result (λ p. (text.now ≡ path_text p) × IsPath p) }
+    ensures err { IfErr result (λ e. IsNoPath text.now e.place) }
+{
+    if text.is_empty() || text[0] != b'>' {
+        return Err(BadPath { place: 0 });
+    }
+    if text.len() == 1 {
+        return Ok(Path::default());
+    }
+    path_below_root(text)
+}
+
+/// The path that the text is: `>` for the root, else each name with `>` before it. It goes through the
+/// text once or twice, and takes no memory.
+///
+/// # Errors
+/// `BadPath` exactly where the text is no path.
+pub fn read_path(text: &[u8]) -> Result<Path, BadPath>
+    ensures path { IfOk result (λ p. text.now ≡ path_text p) }
+    // each path is read from its text
+    ensures again { (p : List (List ℕ)) → IsPath p → text.now ≡ path_text p → result ≡ Ok p }
+    ensures place { IfErr result (λ e. IsLongestStart text.now e.place) }
+{
+    path_of(text)
 }
 
 /// The text of a path, of at most 297 bytes, in one block of memory.

@@ -65,7 +65,18 @@ fn a_principal_is_a_person_and_a_project(rt: HostRuntime) -> Result<(), Fail> {
         assert!(rt; read_who(shown.as_bytes()) == Some(who));
     }
     for text in [
-        "", ".", "*", "*.*", "Smith.", ".Dev", "Smith.*", "*.Dev", "Smith.Dev.a", "Smith..Dev", "a b", "a-b",
+        "",
+        ".",
+        "*",
+        "*.*",
+        "Smith.",
+        ".Dev",
+        "Smith.*",
+        "*.Dev",
+        "Smith.Dev.a",
+        "Smith..Dev",
+        "a b",
+        "a-b",
         TOO_LONG,
     ] {
         assert!(rt; read_who(text.as_bytes()).is_none(), "at {text}");
@@ -117,7 +128,19 @@ fn a_row_may_have_any_in_either_part(rt: HostRuntime) -> Result<(), Fail> {
         assert!(rt; read_row(shown.as_bytes()) == Some(row));
     }
     for text in [
-        "", ".", "**", "*.", ".*", "*.*.*", "Smith.", ".Dev", "Smith.Dev.*", "*Smith", "Smith*", "a b", TOO_LONG,
+        "",
+        ".",
+        "**",
+        "*.",
+        ".*",
+        "*.*.*",
+        "Smith.",
+        ".Dev",
+        "Smith.Dev.*",
+        "*Smith",
+        "Smith*",
+        "a b",
+        TOO_LONG,
     ] {
         assert!(rt; read_row(text.as_bytes()).is_none(), "at {text}");
     }
@@ -149,4 +172,77 @@ fn a_path_is_written_with_its_sign(rt: HostRuntime) -> Result<(), Fail> {
     let text = path_text(rt.alloc(), &path).expect(&rt, "memory");
     assert_eq!(rt; text.as_str(), ">root");
     Ok(())
+}
+
+// A text, and how many names its path has.
+const PATHS: [(&str, usize); 6] = [
+    (">", 0),
+    (">a", 1),
+    (">root", 1),
+    (">a>b", 2),
+    (">a.b>-_", 2),
+    (">1>2>3>4>5>6>7>8>9", 9),
+];
+
+#[test]
+fn a_path_is_read_from_its_text(rt: HostRuntime) -> Result<(), Fail> {
+    for (text, names) in PATHS {
+        let path = read_path(text.as_bytes()).expect(&rt, "a path");
+        assert_eq!(rt; path.names().len(), names);
+        let written = path_text(rt.alloc(), &path).expect(&rt, "memory");
+        assert_eq!(rt; written.as_str(), text);
+    }
+    let text = format!(in rt.alloc(); ">{LONGEST}>{LONGEST}")?;
+    let path = read_path(text.as_bytes()).expect(&rt, "a path");
+    assert_eq!(rt; path.names().len(), 2);
+    assert_eq!(rt; path.names()[1].as_str(), LONGEST);
+    Ok(())
+}
+
+// A text that is no path, and the length of its longest front with which a path begins.
+const BAD_PATHS: [(&str, u32); 14] = [
+    ("", 0),
+    ("a", 0),
+    (" >a", 0),
+    (">>", 1),
+    (">a>>b", 3),
+    (">a>", 3),
+    (">a b", 2),
+    (">a>b*", 4),
+    (">/", 1),
+    (">a>b>", 5),
+    (">abcdefghijklmnopqrstuvwxyz0123456", 33),
+    (">a>abcdefghijklmnopqrstuvwxyz0123456>b", 35),
+    (">1>2>3>4>5>6>7>8>9>", 18),
+    (">1>2>3>4>5>6>7>8>9>a", 18),
+];
+
+#[test]
+fn a_bad_path_is_good_up_to_its_place(rt: HostRuntime) {
+    for (text, place) in BAD_PATHS {
+        assert!(rt; read_path(text.as_bytes()).is_err(), "at {text}");
+        if let Err(fault) = read_path(text.as_bytes()) {
+            assert_eq!(rt; fault.place, place, "at {text}");
+        }
+    }
+}
+
+#[test]
+fn a_path_is_a_name_in_the_directory_above(rt: HostRuntime) {
+    for (text, above, last) in [
+        (">a", ">", "a"),
+        (">a>b", ">a", "b"),
+        (">a>b>c", ">a>b", "c"),
+    ] {
+        let path = read_path(text.as_bytes()).expect(&rt, "a path");
+        let (superior, name) = path.split_last().expect(&rt, "a name");
+        assert_eq!(rt;
+            path_text(rt.alloc(), &superior)
+                .expect(&rt, "memory")
+                .as_str(),
+            above
+        );
+        assert_eq!(rt; name.as_str(), last);
+    }
+    assert!(rt; Path::default().split_last().is_none());
 }

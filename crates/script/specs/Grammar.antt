@@ -1,7 +1,9 @@
 -- The script of some bytes, as a function of whole lines and fields (own).
 use Rattle.std.specs.Prelude.{◌≡◌, ℕ, ◌+◌, ◌-◌, Bool, ◌&&◌, ◌==◌, nat_le, if◌then◌else◌, List, [], ◌∷◌, ◌++◌, Option, Some, None, Result, Ok, Err, codes}
 use Rattle.std.specs.Str.{bytes_eq}
-use Rattle.mnames.specs.Names.{is_name, is_who}
+use Rattle.mnames.specs.Names.{is_name}
+use Rattle.mnames.specs.Principals.{who_of}
+use Rattle.mnames.specs.declared.principals.Who.{Who}
 use Rattle.mword.specs.Octal.{octal_value}
 use Rattle.script.specs.Fields.{line_at, lines_of, fields_of, is_tight, decimal_value}
 use Rattle.script.specs.Plans.{Plan}
@@ -96,11 +98,11 @@ volume_line fields = do
   at_end entries.1 (record { name = kept; records = records.0; entries = entries.0 })
 
 -- `process WHO`
-unfoldable pub process_line : List (List ℕ) → Option (List ℕ)
+unfoldable pub process_line : List (List ℕ) → Option Who
 process_line fields = do
   f ← after_word (codes "process") fields
   who ← field_at f
-  kept ← only_if (is_who who.0) who.0
+  kept ← who_of who.0
   at_end who.1 kept
 
 -- `mkseg >NAME PAGES VOLUME`: the name and the pages
@@ -182,7 +184,7 @@ commands_of name pages bytes = do
   Some (command.MkSeg (kept ∷ []) pages 0 ∷ command.Initiate (kept ∷ []) ∷ references)
 
 -- the script of a machine, a quota, a volume and a process
-abbrev pub plan_of : MachineLine → ℕ → VolumeLine → List ℕ → List Command → Plan
+abbrev pub plan_of : MachineLine → ℕ → VolumeLine → Who → List Command → Plan
 plan_of machine quota volume who commands = record {
   processors = machine.processors;
   frames = machine.frames;

@@ -1,11 +1,12 @@
 -- What a script says: the machine, its volumes, and the processes (own).
 use Rattle.std.specs.Prelude.{ℕ, List, [], Option, slice_get, slice_index_or}
+use Rattle.mnames.specs.declared.principals.Who.{Who}
 use Rattle.script.specs.declared.commands.Command.{Command}
 use Rattle.script.specs.declared.plan.VolumeLine.{VolumeLine}
 
 -- a process: for whom it runs, and its commands
 pub record ProcessPlan : Type 0 where
-  pub who : List ℕ
+  pub who : Who
   pub commands : List Command
 
 -- processors; frames of core; places in the pools of the active segment table; quota of the root in
@@ -18,11 +19,15 @@ pub record Plan : Type 0 where
   pub volumes : List VolumeLine
   pub processes : List ProcessPlan
 
+-- a principal that no process runs for
+abbrev pub nobody : Who
+nobody = record { person = []; project = [] }
+
 -- the process of that number, counted from 0; past the last, one that does nothing
 abbrev pub process_of : Plan → ℕ → ProcessPlan
-process_of p k = slice_index_or p.processes k (record { who = []; commands = [] })
+process_of p k = slice_index_or p.processes k (record { who = nobody; commands = [] })
 
-abbrev pub who_of : Plan → ℕ → List ℕ
+abbrev pub who_of : Plan → ℕ → Who
 who_of p k = (process_of p k).who
 
 abbrev pub commands_of : Plan → ℕ → List Command

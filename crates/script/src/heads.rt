@@ -1,6 +1,7 @@
 ghost use Rattle.std.specs.Prelude.{◌≡◌, ◌≤◌, IfOk};
 ghost use Rattle.script.specs.Fields.{fields_of};
-ghost use Rattle.mnames.specs.Names.{is_name, is_who};
+ghost use Rattle.mnames.specs.Names.{is_name};
+ghost use Rattle.mnames.specs.Principals.{who_of};
 ghost use Rattle.script.specs.Grammar.{Gives, only_if, machine_line, quota_line, volume_line, process_line, segment_line, initiate_line};
 
 use crate::fields::{at_end, branch_name, expect_word, next_field, next_number};
@@ -82,7 +83,7 @@ pub(crate) fn volume_line(line: &[u8]) -> Result<VolumeLine, ScriptFault>
 
 /// The principal that a text must be.
 fn who_of(text: &[u8]) -> Result<Who, ScriptFault>
-    ensures { Gives (λ w. w) result (only_if (is_who text.now) text.now) }
+    ensures { Gives (λ w. w) result (who_of text.now) }
 {
     read_who(text).ok_or(ScriptFault::Later)
 }

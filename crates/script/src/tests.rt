@@ -27,7 +27,8 @@ fn the_first_script_is_read(rt: HostRuntime) -> Result<(), Fail> {
     assert_eq!(rt; volume.records, 8);
     assert_eq!(rt; volume.entries, 4);
     assert_eq!(rt; script.processes(), 1);
-    assert_eq!(rt; script.who(0).as_str(), "Smith");
+    assert_eq!(rt; script.who(0).person.as_str(), "Smith");
+    assert_eq!(rt; script.who(0).project.as_str(), "Default");
     assert_eq!(rt; script.commands(0).len(), 5);
     for (place, text) in [
         "mkseg >s 1 0",
@@ -111,6 +112,8 @@ fn numbers_at_the_edges_of_their_ranges_are_read(rt: HostRuntime) -> Result<(), 
         (1, "quota 1"),
         (2, "volume alpha 1 2"),
         (2, "volume alpha 1 4097"),
+        (3, "process Smith.Dev"),
+        (3, "process Smith.Default"),
         (4, "mkseg >s 256 alpha"),
         (6, "write 255 999999 777777777777"),
         (7, "read 0000000255 0000999999"),
@@ -142,7 +145,11 @@ fn other_lines_are_refused(rt: HostRuntime) -> Result<(), Fail> {
         (2, "volume alpha 16385 4"),
         (2, "volume alpha 8 4098"),
         (2, "volume al>pha 8 4"),
-        (3, "process Smith.Default"),
+        (3, "process Smith."),
+        (3, "process .Dev"),
+        (3, "process Smith.Dev.a"),
+        (3, "process *"),
+        (3, "process Smith.*"),
         (3, "process"),
         (4, "mkseg >s 0 alpha"),
         (4, "mkseg >s 257 alpha"),
