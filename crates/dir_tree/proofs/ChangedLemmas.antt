@@ -73,7 +73,7 @@ set_kept nodes es free index next k uid place at h keeps x read =
     let node : x ≡ node_of_entry nodes es at.0 = get_or_read nodes place x within read no_node ∙ ap (node_at nodes) (sym at.3) in
     let same : shape (h x) ≡ shape (node_of_entry nodes es at.0) = keeps x ∙ ap shape node in
     subst (λ q. IsKept (set nodes q (h x)) es free index next × (newest (set nodes q (h x)) es ≡ with_changed uid h (newest nodes es))) at.3
-        (kept_changed nodes es free index next k uid at.0 at.1 at.2 h (h x) (ap h node) same, view_changed nodes es free index next k uid at.0 at.1 at.2 h (h x) (ap h node) same)
+    (kept_changed nodes es free index next k uid at.0 at.1 at.2 h (h x) (ap h node) same, view_changed nodes es free index next k uid at.0 at.1 at.2 h (h x) (ap h node) same)
 
 pub acl_read : (nodes : List Node) (es : List Entry) (free : List ℕ) (index : Pairs) (next : ℕ) → IsKept nodes es free index next → (uid place : ℕ) → (i : ℕ) × (i < length es) × ((entry_at es i).uid ≡ uid) × ((entry_at es i).place ≡ place)
     → (x : Node) → x ≡ get_or nodes place x → x.acl ≡ acl_of (newest nodes es) uid

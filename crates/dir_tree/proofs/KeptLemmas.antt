@@ -42,7 +42,7 @@ pub below_newest : (v : ℕ) (ns : List Node) (es : List Entry) → ((i : ℕ) �
 below_newest v ns [] all = tt
 below_newest v ns (e ∷ es) all =
     rw (map-append shape (newest ns es) (node_at ns e.place ∷ []))
-        (below_append v (shapes (newest ns es)) (shape (node_at ns e.place) ∷ []) (below_newest v ns es (λ i lt. all (suc i) (omega arith))) (all 0 (omega arith), tt))
+    (below_append v (shapes (newest ns es)) (shape (node_at ns e.place) ∷ []) (below_newest v ns es (λ i lt. all (suc i) (omega arith))) (all 0 (omega arith), tt))
 
 -- what keeps no branch from being added
 pub record MayAdd (ns : List Term) (s : ℕ) (name : List ℕ) (dir : Bool) : Type 0 where
@@ -137,6 +137,7 @@ branch_read nodes es free index next k d name place pair is = branch_at (branch_
   where
     member : IsMember (shape (node_at nodes place)) (shapes (newest nodes es))
     member = (let p = k.places (key_hash d name) place pair in subst (λ q. IsMember (shape (node_at nodes q)) (shapes (newest nodes es))) p.place_is (member_map shape _ (newest nodes es) (member_newest nodes es p.i p.within)))
+
     branch_at : (o : Option Term) → branch_in (shapes (newest nodes es)) d name ≡ o → branch_in (shapes (newest nodes es)) d name ≡ Some (shape (node_at nodes place))
     branch_at None e = absurd (member_found (is_branch d name) (shapes (newest nodes es)) _ member is (sym (branch_found d name (shapes (newest nodes es))) ∙ e))
     branch_at (Some x) e = e ∙ ap (λ (n : Term). Some n) (only_branch (shapes (newest nodes es)) k.tree d name x _ e member is)
@@ -155,7 +156,7 @@ pub branch_missing : (nodes : List Node) (es : List Entry) (free : List ℕ) (in
 branch_missing nodes es free index next k d name none =
     branch_found d name (shapes (newest nodes es)) ∙ find_map (is_branch d name) shape (newest nodes es)
     ∙ ap (option_map shape) (none_newest (λ n. is_branch d name (shape n)) nodes es (λ j lt.
-        no_branch (node_of_entry nodes es j) d name index.pairs (entry_at es j).place (subst (λ o. IsNamed index.pairs o (node_of_entry nodes es j).name (entry_at es j).place) (sym (k.superiors j lt)) (k.named j lt)) (none (entry_at es j).place)))
+    no_branch (node_of_entry nodes es j) d name index.pairs (entry_at es j).place (subst (λ o. IsNamed index.pairs o (node_of_entry nodes es j).name (entry_at es j).place) (sym (k.superiors j lt)) (k.named j lt)) (none (entry_at es j).place)))
 
 pub places_within : (nodes : List Node) (es : List Entry) (free : List ℕ) (index : Pairs) (next : ℕ) → IsKept nodes es free index next → (hash place : ℕ) → HasPair index.pairs hash place → place < length nodes
 places_within nodes es free index next k hash place pair = (let p = k.places hash place pair in subst (λ q. q < length nodes) p.place_is (k.within p.i p.within))
@@ -169,4 +170,4 @@ inferior_since nodes es free index next k u i lt is =
 pub no_inferior : (nodes : List Node) (es : List Entry) (free : List ℕ) (index : Pairs) (next : ℕ) → IsKept nodes es free index next → (u : ℕ) → ((i : ℕ) → i < length es → (entry_at es i).superior ≢ Some u) → list_any (is_inferior u) (shapes (newest nodes es)) ≡ false
 no_inferior nodes es free index next k u none =
     any_found (is_inferior u) (shapes (newest nodes es)) ∙ ap is_some (find_map (is_inferior u) shape (newest nodes es) ∙ ap (option_map shape) (none_newest (λ n. is_inferior u (shape n)) nodes es (λ j lt.
-        not_below u (shape (node_of_entry nodes es j)) (λ e. none j lt (sym (k.superiors j lt) ∙ e)))))
+    not_below u (shape (node_of_entry nodes es j)) (λ e. none j lt (sym (k.superiors j lt) ∙ e)))))

@@ -29,7 +29,7 @@ walk_any_from : (q : ℕ → ℕ) (ns : List Node) (u : ℕ) (b : Bool) (path : 
 walk_any_from q ns u b [] = refl
 walk_any_from q ns u b (name ∷ names) =
     rw (branch_any q ns u name, branch_shape ns u name)
-        (onward_any q (λ n. walk_from (with_quotas q ns) n.uid n.directory names) (λ n. walk_from (shapes ns) n.uid n.directory names) (λ n. walk_any_from q ns n.uid n.dir names) b (find (λ n. is_branch u name (shape n)) ns))
+    (onward_any q (λ n. walk_from (with_quotas q ns) n.uid n.directory names) (λ n. walk_from (shapes ns) n.uid n.directory names) (λ n. walk_any_from q ns n.uid n.dir names) b (find (λ n. is_branch u name (shape n)) ns))
 
 pub walk_any : (q : ℕ → ℕ) (ns : List Node) (path : List (List ℕ)) → walk_in (with_quotas q ns) path ≡ walk_in (shapes ns) path
 walk_any q ns path = walk_any_from q ns 1 true path

@@ -108,8 +108,7 @@ pub removed_at : (nodes : List Node) (es : List Entry) (free : List ℕ) (index 
 removed_at nodes es free index next k uid i e within read is_uid leaf index' pairs count room =
     let same : e ≡ entry_at es i = get_or_read es i e within read no_entry in
     let leaf' : list_any (is_inferior (entry_at es i).uid) (shapes (newest nodes es)) ≡ false = rw is_uid leaf in
-    let pairs' : (h p : ℕ) → HasPair index'.pairs h p ↔ (HasPair index.pairs h p × (p ≢ (entry_at es i).place)) = subst (λ (d : Entry). (h p : ℕ) → HasPair index'.pairs h p ↔ (HasPair index.pairs h p × (p ≢ d.place))) same pairs in
-    (
+    let pairs' : (h p : ℕ) → HasPair index'.pairs h p ↔ (HasPair index.pairs h p × (p ≢ (entry_at es i).place)) = subst (λ (d : Entry). (h p : ℕ) → HasPair index'.pairs h p ↔ (HasPair index.pairs h p × (p ≢ d.place))) same pairs in (
       subst (λ (d : Entry). IsKept nodes (remove es i) (free ++ d.place ∷ []) index' next) (sym same) (kept_removed nodes es free index next k i within index' leaf' pairs' count room),
       subst (λ u. newest nodes (remove es i) ≡ without u (newest nodes es)) is_uid (view_removed nodes es free index next k i within index' leaf' pairs' count room),
     )

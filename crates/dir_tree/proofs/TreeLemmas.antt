@@ -178,9 +178,9 @@ branch_left u [] d name e = refl
 branch_left u (n ∷ ns) d name e = elim (cases_Bool (is_branch d name n)) [
   | inl here ↦ (let z : Some n ≡ None = rw here at e in cc)
   | inr there ↦ (let ih : branch_in (left u ns) d name ≡ None = branch_left u ns d name (rw there at e) in elim (cases_eq n.uid u) [
-      | inl same ↦ rw (eq-eqb n.uid u same) ih
-      | inr other ↦ rw (ne_eqb n.uid u other, there) ih
-    ])
+    | inl same ↦ rw (eq-eqb n.uid u same) ih
+    | inr other ↦ rw (ne_eqb n.uid u other, there) ih
+  ])
 ]
 
 -- a node that isn't an inferior of u lies elsewhere

@@ -49,18 +49,15 @@ pub record IsKept (nodes : List Node) (entries : List Entry) (free : List ℕ) (
   pub within : (i : ℕ) → i < length entries → (entry_at entries i).place < length nodes
   pub rising : IsAscending entries
   pub below : (i : ℕ) → i < length entries → (entry_at entries i).uid < next
-
   -- the other places
   pub free_within : (i : ℕ) → i < length free → slice_index free i < length nodes
   pub free_apart : (i j : ℕ) → i < j → j < length free → slice_index free i ≢ slice_index free j
   pub unused : (i j : ℕ) → i < length free → j < length entries → slice_index free i ≢ (entry_at entries j).place
   pub count : length nodes ≡ length entries + length free
   pub few : length nodes ≤ 4097
-
   -- the index
   pub named : (i : ℕ) → i < length entries → IsNamed index.pairs (entry_at entries i).superior (node_at nodes (entry_at entries i).place).name (entry_at entries i).place
   pub places : (hash place : ℕ) → HasPair index.pairs hash place → IsPlace entries place
   pub pairs : length index.pairs + 1 ≡ length entries
   pub room : index.room ≡ 4096
-
   pub tree : IsTree (shapes (newest nodes entries))

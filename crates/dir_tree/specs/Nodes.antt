@@ -73,9 +73,9 @@ unless (Some e) x = Err e
 -- the tree with a new branch, which gets the next uid
 abbrev pub added : Branches → ℕ → NewNode → Branches
 added t superior new = record {
-    nodes = record { uid = t.next; superior = Some superior; name = new.name; dir = new.dir; volume = new.volume; entry = new.entry; length = new.length; acl = new.acl } ∷ t.nodes;
-    next = t.next + 1;
-  }
+  nodes = record { uid = t.next; superior = Some superior; name = new.name; dir = new.dir; volume = new.volume; entry = new.entry; length = new.length; acl = new.acl } ∷ t.nodes;
+  next = t.next + 1;
+}
 
 -- whether a node has an inferior
 abbrev pub has_inferior : List Term → ℕ → Bool

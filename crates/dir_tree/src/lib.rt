@@ -1,4 +1,13 @@
-//! The directory tree: directories and segments, each a branch of one directory, down from one root.
+//! The directory tree: directories and segments, each a branch of one directory, down from one root (Bensoussan,
+//! Clingen and Daley 1972; Organick 1972). The limits of 4096 branches and eight directories below the root are own.
+//!
+//! Costs: `new` takes all memory, once: room for 4097 nodes, an entry of 16 bytes for each by uid, and one for each
+//! by superior and name. A look-up by uid halves the list of uids: at most 13 looks. A look-up by superior and name
+//! halves the list of hashes, and then compares the names whose hashes are alike. `walk` makes one such look-up for
+//! each name. `superiors`, `chain` and the test of depth look one uid up for each directory above, of which there are
+//! at most 9. `add_branch` writes one node and one entry, and moves up a part of the list of hashes. `remove` and
+//! `may_remove` go once through the entries, which are compact, for an inferior; `remove` moves down a part of both
+//! lists, and no node: the place of the node is free from then on. None but `new` takes memory.
 #![tactic(auto)]
 
 ghost use Rattle.std.specs.Prelude.{◌≡◌, ◌≢◌, ◌<◌, ◌≤◌, ◌^◌, ℕ, Bool, ◌&&◌, nat_le, is_some, true, false, ◌↔◌, Some, None, IsErr, length, IfOk, IfSome, IfNone, OnOk, OnErr};
@@ -10,14 +19,15 @@ ghost use Rattle.dir_tree.specs.Shape.{shape, shapes, IsTree, HasChains};
 mod entries;
 mod index;
 mod node;
-
-pub use node::{AddFault, NewNode, NoMemory, Node, NotEmpty, PathFault};
+#[cfg(test)]
+mod tests;
 
 use acl::Acl;
 use arrayvec::ArrayVec;
 use entries::Entry;
 use index::{Index, key_hash};
 use mnames::{Name, Path};
+pub use node::{AddFault, NewNode, NoMemory, Node, NotEmpty, PathFault};
 use std::alloc::{AllocError, Global};
 use std::marker::Model;
 
@@ -31,6 +41,10 @@ pub const NODES: usize = 4097;
 pub const DEPTH: usize = 8;
 
 /// The directory tree (Bensoussan, Clingen and Daley 1972; Organick 1972).
+///
+/// Contracts see the list of its nodes, the newest first, and the next uid, and they speak of it by the words of all
+/// of storage: `with_quotas quota nodes` are these nodes where each directory has the quota that the function says,
+/// which the tree doesn't keep. A clause that says something for each such function holds whatever the quotas are.
 #[derive(Drop)]
 pub struct Tree {
     nodes: Vec<Node>,
@@ -95,6 +109,8 @@ impl Tree {
     }
 
     /// The node of `uid`. `None` exactly where it isn't in the tree.
+    ///
+    /// It halves the list of uids.
     pub fn node(&self, uid: u32) -> Option<&Node>
         ensures some { IfSome result (λ n. node_of self.now.nodes uid ≡ Some n.now) }
         ensures none { IfNone result (node_of self.now.nodes uid ≡ None) }
@@ -102,6 +118,13 @@ impl Tree {
     {
         let entry = entries::entry_of(&self.entries, uid)?;
         Some(&self.nodes[entry.place as usize])
+    }
+
+    /// The uid that the next new branch gets.
+    pub fn next_uid(&self) -> u32
+        ensures { result ≡ self.now.next }
+    {
+        self.next
     }
 
     /// The branch of this name in a directory. `None` exactly where there is none.
@@ -114,6 +137,10 @@ impl Tree {
     }
 
     /// The uid of the node that a path leads to.
+    ///
+    /// # Errors
+    /// By the first name from the left that can't be followed: `NoPath` exactly where it's missing in its directory,
+    /// `NotDir` exactly where it would be looked up in a segment.
     pub fn walk(&self, p: &Path) -> Result<u32, PathFault>
         ensures { (quota : ℕ → ℕ) → result ≡ path_answer (walk_in (with_quotas quota self.now.nodes) p.now) }
     {
@@ -147,7 +174,7 @@ impl Tree {
         }
     }
 
-    /// The directories above a node, the nearest first.
+    /// The directories above a node, the nearest first and the root last: at most 9.
     pub fn superiors(&self, uid: u32) -> ArrayVec<u32, 9>
         requires { is_in self.now.nodes uid ≡ true }
         ensures above { (quota : ℕ → ℕ) → result.items ≡ above (with_quotas quota self.now.nodes) uid }
@@ -180,6 +207,11 @@ impl Tree {
     }
 
     /// What `add_branch` would refuse.
+    ///
+    /// # Errors
+    /// `Exists` exactly where the directory has a branch of this name; else `Deep` exactly where the branch is to be a
+    /// directory and `superior` lies below eight directories, the root among them; else `Room` exactly where there
+    /// are 4096 branches.
     pub fn may_add(&self, superior: u32, name: &Name, dir: bool) -> Result<(), AddFault>
         requires { is_directory self.now.nodes superior ≡ true }
         ensures { (quota : ℕ → ℕ) → result ≡ unless (add_fault_of (with_quotas quota self.now.nodes) superior name.now dir) tt }
@@ -218,7 +250,10 @@ impl Tree {
         self.entries.len() >= NODES
     }
 
-    /// Adds a branch to a directory, and gives its uid.
+    /// Adds a branch to a directory, and gives its uid, which is the next one: no node has or had it.
+    ///
+    /// # Errors
+    /// The first of `Exists`, `Deep` and `Room` that holds, each exactly there; then nothing is changed.
     pub fn add_branch(&mut self, superior: u32, new: NewNode) -> Result<u32, AddFault>
         requires directory { is_directory self.old.nodes superior ≡ true }
         requires uids { self.old.next < 2 ^ 31 }
@@ -263,6 +298,9 @@ impl Tree {
     }
 
     /// What `remove` would refuse.
+    ///
+    /// # Errors
+    /// `NotEmpty` exactly where the node has an inferior.
     pub fn may_remove(&self, uid: u32) -> Result<(), NotEmpty>
         requires there { is_in self.now.nodes uid ≡ true }
         requires branch { uid ≢ 1 }
@@ -274,7 +312,10 @@ impl Tree {
         Ok(())
     }
 
-    /// Takes a branch out of the tree.
+    /// Takes a branch out of the tree. No other node is moved, and what is above them is as before.
+    ///
+    /// # Errors
+    /// `NotEmpty` exactly where the node has an inferior; then nothing is changed.
     pub fn remove(&mut self, uid: u32) -> Result<(), NotEmpty>
         requires there { is_in self.old.nodes uid ≡ true }
         requires branch { uid ≢ 1 }
@@ -297,7 +338,9 @@ impl Tree {
     {
         let at = entries::position_of(&self.entries, uid);
         let Entry {
-            superior, place, ..
+            superior,
+            place,
+            ..
         } = self.entries.remove(at);
         let Some(superior) = superior else {
             unreachable!();

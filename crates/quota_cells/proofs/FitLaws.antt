@@ -96,18 +96,30 @@ module _ (nodes : List Node) (c : CellMaps) (table : IsTable c) (fits : Fits nod
   pub falls : (u : ℕ) → IsFalling (f u)
   falls u = falling f (f u) (chains.chain u)
 
-  -- what covers a segment has no more pages than its account
-  pub load_up : (s e : ℕ) → is_segment nodes s ≡ true → covers (quota_in c) (f s) e ≡ true → load_in c e ≤ load_in c (account (quota_in c) (f s))
-  load_up s e is covered =
+  -- what covers a node has no more pages than its account
+  pub load_up_from : (s e : ℕ) → EndsAtRoot (f s) → covers (quota_in c) (f s) e ≡ true → load_in c e ≤ load_in c (account (quota_in c) (f s))
+  load_up_from s e ends_s covered =
       let q = quota_in c in
       let a : ℕ = account q (f s) in
       let e_there : has c.directories e ≡ true = covered_there q c.directories (f s) e (there s) covered in
-      let a_there : has c.directories a ≡ true = account_there q c.directories (f s) (there s) (ends s is) in
+      let a_there : has c.directories a ≡ true = account_there q c.directories (f s) (there s) ends_s in
       let through : a ≡ account_from f q e = account_through f q (f s) e (chains.chain s) covered in
       rw (fits.loads e e_there, fits.loads a a_there) (weigh_le_on (λ k. covers q (f k) e) (λ k. covers q (f k) a) c.segments c.stored (λ k h k_covered.
           (let seg : is_segment nodes k ≡ true = sym (fits.segments k) ∙ h in
           let same : account q (f k) ≡ a = account_through f q (f k) e (chains.chain k) k_covered ∙ sym through in
           subst (λ b. covers q (f k) b ≡ true) same (account_covers q (f k) (ends k seg)))))
+
+  pub load_up : (s e : ℕ) → is_segment nodes s ≡ true → covers (quota_in c) (f s) e ≡ true → load_in c e ≤ load_in c (account (quota_in c) (f s))
+  load_up s e is covered = load_up_from s e (ends s is) covered
+
+  -- so it has no more than there is quota
+  pub load_bound : (s e : ℕ) → EndsAtRoot (f s) → covers (quota_in c) (f s) e ≡ true → load_in c e < 2 ^ 32
+  load_bound s e ends_s covered =
+      let a : ℕ = account (quota_in c) (f s) in
+      let up : load_in c e ≤ load_in c a = load_up_from s e ends_s covered in
+      let le : load_in c a ≤ quota_in c a = table.within a (account_there (quota_in c) c.directories (f s) (there s) ends_s) (account_of_chain (quota_in c) (f s)) in
+      let most : quota_in c a ≤ sum c.quotas = look_le_sum c.directories c.quotas a in
+      let total : sum c.quotas < 2 ^ 32 = table.total in omega arith
 
   -- where the account isn't full there is room for a page
   pub below_quota : (s : ℕ) → is_segment nodes s ≡ true → load_in c (account (quota_in c) (f s)) ≢ quota_in c (account (quota_in c) (f s)) → load_in c (account (quota_in c) (f s)) < quota_in c (account (quota_in c) (f s))

@@ -3,4 +3,7 @@ pub mod ColumnLaws
 pub mod EditLaws
 pub mod EnterLaws
 pub mod FitLaws
+pub mod MoveLaws
+pub mod OverLaws
 pub mod PlaceLaws
+pub mod TransferLaws

@@ -6,7 +6,10 @@ use Rattle.storage_terms.specs.Tree.{above, account}
 use Rattle.dir_tree.specs.declared.node.Node.{Node}
 use Rattle.dir_tree.specs.Nodes.{is_directory, is_segment}
 use Rattle.dir_tree.specs.Shape.{shapes}
+use Rattle.std.specs.List.{find}
 use Rattle.quota_cells.specs.declared.Full.{Full}
+use Rattle.quota_cells.specs.declared.MoveFault.{MoveFault}
+use Rattle.quota_cells.specs.declared.MoveFault.TheVariants as fault
 use Rattle.quota_cells.specs.Accounts.{look, has, with_value, covers, weigh, load, charged_to, is_an_account, changed_where}
 
 pub record CellMaps : Type 0 where
@@ -102,3 +105,38 @@ pub record Leaves (old new : CellMaps) (uid : ℕ) : Type 0 where
 -- a uid has a cell
 abbrev pub has_cell : CellMaps → ℕ → Bool
 has_cell c u = has c.directories u || has c.segments u
+
+-- ---- quota that moves
+
+-- Between a directory and its superior: down to the directory, or up from it. One gets the quota, the other gives it.
+abbrev pub superior_of : (ℕ → List ℕ) → ℕ → ℕ
+superior_of above d = slice_index (above d) 0
+
+abbrev pub getter_of : (ℕ → List ℕ) → ℕ → Bool → ℕ
+getter_of above d down = if down then d else superior_of above d
+
+abbrev pub giver_of : (ℕ → List ℕ) → ℕ → Bool → ℕ
+giver_of above d down = if down then superior_of above d else d
+
+-- the cells once so many pages of quota have moved
+abbrev pub moved : CellMaps → (ℕ → List ℕ) → ℕ → Bool → ℕ → CellMaps
+moved c above d down n =
+    let getter = getter_of above d down in
+    let giver = giver_of above d down in
+    with_quota (with_quota c (above getter) getter (quota_in c getter + n)) (above giver) giver (quota_in c giver - n)
+
+-- an account above its quota
+abbrev pub is_over : CellMaps → ℕ → Bool
+is_over c a = is_an_account (quota_in c) a && nat_lt (quota_in c a) (load_in c a)
+
+-- the least of them
+abbrev pub first_over : CellMaps → Option ℕ
+first_over c = find (is_over c) c.directories
+
+abbrev pub over_answer : Option ℕ → Result (Unit {0}) MoveFault
+over_answer None = Ok tt
+over_answer (Some a) = Err (fault.Over a)
+
+-- whether so much quota may move: the giver must have it, and no account may be above its quota then
+abbrev pub move_answer : CellMaps → (ℕ → List ℕ) → ℕ → Bool → ℕ → Result (Unit {0}) MoveFault
+move_answer c above d down n = if nat_lt (quota_in c (giver_of above d down)) n then Err fault.TooLittle else over_answer (first_over (moved c above d down n))

@@ -4,7 +4,7 @@ ghost use Rattle.std.specs.Prelude.{◌≡◌, ◌≢◌, ℕ, ◌<◌, ◌≤�
 ghost use Rattle.std.specs.List.{insert, remove};
 ghost use Rattle.storage_terms.specs.Tree.{account};
 ghost use Rattle.dir_tree.specs.Shape.{AreUnder};
-ghost use Rattle.quota_cells.specs.Accounts.{look, has, covers, changed_where};
+ghost use Rattle.quota_cells.specs.Accounts.{look, has, with_value, covers, changed_where};
 ghost use Rattle.quota_cells.specs.Cells.{IsRising, loads_then};
 ghost use Rattle.quota_cells.specs.Columns.{IsGap, AreThere, IsFalling};
 
@@ -117,6 +117,47 @@ pub(crate) fn shift(loads: &mut [u32], directories: &[u32], quotas: &[u32], up: 
     if before > 0 && pages == 0 {
         lift(loads, directories, quotas, up, load);
     }
+}
+
+/// Gives a directory below these another quota, with what becomes of the loads.
+pub(crate) fn change(quotas: &mut [u32], loads: &mut [u32], directories: &[u32], up: &[u32], directory: u32, pages: u32)
+    requires rising { IsRising directories.now }
+    requires quotas { length quotas.old ≡ length directories.now }
+    requires loads { length loads.old ≡ length directories.now }
+    requires here { has directories.now directory ≡ true }
+    requires there { AreThere directories.now up.now }
+    requires falls { IsFalling up.now }
+    requires appears { look directories.now quotas.old directory ≡ 0 → 0 < pages → (e : ℕ) → covers (look directories.now quotas.old) up.now e ≡ true → look directories.now loads.old directory ≤ look directories.now loads.old e }
+    requires vanishes { pages ≡ 0 → (e : ℕ) → covers (look directories.now quotas.old) up.now e ≡ true → look directories.now loads.old e + look directories.now loads.old directory < 2 ^ 32 }
+    ensures quotas { quotas.new ≡ with_value directories.now quotas.old directory pages }
+    ensures loads { loads.new ≡ loads_then directories.now quotas.old loads.old up.now directory (look directories.now quotas.old directory == 0) (pages == 0) }
+{
+    shift(loads, directories, quotas, up, directory, pages);
+    let at = place(directories, directory);
+    quotas[at] = pages;
+}
+
+/// Gives one directory more quota, and then another less, with what becomes of the loads.
+pub(crate) fn transfer(quotas: &mut [u32], loads: &mut [u32], directories: &[u32], above_getter: &[u32], getter: u32, more: u32, above_giver: &[u32], giver: u32, less: u32)
+    requires rising { IsRising directories.now }
+    requires quotas { length quotas.old ≡ length directories.now }
+    requires loads { length loads.old ≡ length directories.now }
+    requires getter { has directories.now getter ≡ true }
+    requires giver { has directories.now giver ≡ true }
+    requires getter_there { AreThere directories.now above_getter.now }
+    requires getter_falls { IsFalling above_getter.now }
+    requires giver_there { AreThere directories.now above_giver.now }
+    requires giver_falls { IsFalling above_giver.now }
+    requires some { 0 < more }
+    requires gives { 0 < look directories.now quotas.old giver }
+    requires other { getter ≢ giver }
+    requires appears { look directories.now quotas.old getter ≡ 0 → (e : ℕ) → covers (look directories.now quotas.old) above_getter.now e ≡ true → look directories.now loads.old getter ≤ look directories.now loads.old e }
+    requires vanishes { less ≡ 0 → (e : ℕ) → covers (look directories.now (with_value directories.now quotas.old getter more)) above_giver.now e ≡ true → look directories.now (loads_then directories.now quotas.old loads.old above_getter.now getter (look directories.now quotas.old getter == 0) (more == 0)) e + look directories.now (loads_then directories.now quotas.old loads.old above_getter.now getter (look directories.now quotas.old getter == 0) (more == 0)) giver < 2 ^ 32 }
+    ensures quotas { quotas.new ≡ with_value directories.now (with_value directories.now quotas.old getter more) giver less }
+    ensures loads { loads.new ≡ loads_then directories.now (with_value directories.now quotas.old getter more) (loads_then directories.now quotas.old loads.old above_getter.now getter (look directories.now quotas.old getter == 0) (more == 0)) above_giver.now giver (look directories.now (with_value directories.now quotas.old getter more) giver == 0) (less == 0) }
+{
+    change(quotas, loads, directories, above_getter, getter, more);
+    change(quotas, loads, directories, above_giver, giver, less);
 }
 
 /// Puts a value into a column, which has room.

@@ -7,9 +7,12 @@ ghost use Rattle.dir_tree.specs.declared.node.Node.{Node};
 ghost use Rattle.dir_tree.specs.Nodes.{is_in, is_directory, is_segment, without};
 ghost use Rattle.dir_tree.specs.Shape.{shapes, HasChains};
 ghost use Rattle.quota_cells.specs.Accounts.{has, is_an_account};
-ghost use Rattle.quota_cells.specs.Cells.{quota_in, load_in, stored_in, used_in, Fits, AreWithin, root_cell, charged, credited, charge_fault, has_cell, Enters, Leaves};
+ghost use Rattle.quota_cells.specs.Cells.{quota_in, load_in, stored_in, used_in, Fits, AreWithin, root_cell, charged, credited, charge_fault, has_cell, Enters, Leaves, moved, move_answer, first_over, with_quota};
+ghost use Rattle.std.specs.Int.RustNames.{unsigned_abs};
+ghost use Rattle.std.specs.Int.{is_positive};
 
 mod columns;
+mod moves;
 
 use dir_tree::{ROOT, Tree};
 use std::alloc::{AllocError, Global};
@@ -30,6 +33,18 @@ impl From<AllocError> for NoMemory {
 pub struct Full {
     /// The directory that would be charged.
     pub account: u32,
+}
+
+/// Why quota can't move: the first of these that holds.
+#[derive(Clone, Copy, Debug, PartialEq, Eq)]
+pub enum MoveFault {
+    /// The giver's quota is below the amount.
+    TooLittle,
+    /// This account, the one with the least uid, would have more stored pages than its quota.
+    Over {
+        /// The account.
+        account: u32,
+    },
 }
 
 /// The most cells.
@@ -240,5 +255,81 @@ impl Cells {
         let at = columns::place(&self.segments, seg);
         self.stored[at] -= 1;
         columns::lower(&mut self.loads, &self.directories, &self.quotas, up.as_slice(), 1);
+    }
+
+    /// What `move_quota` would refuse.
+    pub fn may_move(&self, t: &Tree, dir: u32, amount: i32) -> Result<(), MoveFault>
+        requires directory { is_directory t.now.nodes dir ≡ true }
+        requires branch { dir ≢ 1 }
+        requires amount { 0 < unsigned_abs amount }
+        requires fits { Fits t.now.nodes self.now }
+        ensures { result ≡ move_answer self.now (above (shapes t.now.nodes)) dir (is_positive amount) (unsigned_abs amount) }
+    {
+        if amount.is_positive() {
+            self.may_move_down(t, dir, amount.unsigned_abs())
+        } else {
+            self.may_move_up(t, dir, amount.unsigned_abs())
+        }
+    }
+
+    /// What a move of so many pages of quota from its superior to a directory would be refused for.
+    fn may_move_down(&self, t: &Tree, dir: u32, pages: u32) -> Result<(), MoveFault>
+        requires directory { is_directory t.now.nodes dir ≡ true }
+        requires branch { dir ≢ 1 }
+        requires pages { 0 < pages }
+        requires fits { Fits t.now.nodes self.now }
+        ensures { result ≡ move_answer self.now (above (shapes t.now.nodes)) dir true pages }
+    {
+        let up = t.superiors(dir);
+        let superior = up.as_slice()[0];
+        let given = columns::value(&self.directories, &self.quotas, superior);
+        if given < pages {
+            return Err(MoveFault::TooLittle);
+        }
+        let rest = given - pages;
+        let quota = columns::value(&self.directories, &self.quotas, dir);
+        let load = columns::value(&self.directories, &self.loads, dir);
+        let before = columns::value(&self.directories, &self.loads, superior);
+        let left = moves::load_left(before, load, quota);
+        let account = columns::account(&self.directories, &self.quotas, &up.as_slice()[1..]);
+        let account_load = columns::value(&self.directories, &self.loads, account);
+        let account_quota = columns::value(&self.directories, &self.quotas, account);
+        if moves::is_above_over(superior, rest, left, account_load, account_quota) {
+            return Err(MoveFault::Over { account });
+        }
+        if moves::is_giver_over(superior, rest, left) {
+            return Err(MoveFault::Over { account: superior });
+        }
+        if moves::is_getter_over(load, quota, pages) {
+            return Err(MoveFault::Over { account: dir });
+        }
+        Ok(())
+    }
+
+    /// What a move of so many pages of quota from a directory to its superior would be refused for.
+    fn may_move_up(&self, t: &Tree, dir: u32, pages: u32) -> Result<(), MoveFault>
+        requires directory { is_directory t.now.nodes dir ≡ true }
+        requires branch { dir ≢ 1 }
+        requires pages { 0 < pages }
+        requires fits { Fits t.now.nodes self.now }
+        ensures { result ≡ move_answer self.now (above (shapes t.now.nodes)) dir false pages }
+    {
+        let up = t.superiors(dir);
+        let superior = up.as_slice()[0];
+        let given = columns::value(&self.directories, &self.quotas, dir);
+        if given < pages {
+            return Err(MoveFault::TooLittle);
+        }
+        let rest = given - pages;
+        let load = columns::value(&self.directories, &self.loads, dir);
+        let above = columns::value(&self.directories, &self.loads, superior);
+        let quota = columns::value(&self.directories, &self.quotas, superior);
+        if moves::is_superior_over(above, load, rest, quota, pages) {
+            return Err(MoveFault::Over { account: superior });
+        }
+        if moves::is_inferior_over(load, rest) {
+            return Err(MoveFault::Over { account: dir });
+        }
+        Ok(())
     }
 }

@@ -47,7 +47,7 @@ push_reserved-requires c =
 pub invariant_of-self : goal.invariant_of-self
 invariant_of-self c = (
   rw c.push_reserved.ensures.items (kept_added c.self.inside.nodes.items c.self.inside.entries.items c.self.inside.free.items c.self.inside.index c.self.inside.next c.self.invariant.0 c.args.superior (new_node c.self.inside.next c.args.superior c.args.new) c.store-place.new.nodes.items c.store-place.new.free.items c.insert.new.self c.store-place.result c.key_hash-hash.result
-    refl refl (directory_at c.args.superior c.self.view_is c.requires.directory) (may_at c.args.superior c.args.new.name c.args.new.dir c.self.view_is c.requires.may) c.store-place.ensures.place c.store-place.ensures.here c.store-place.ensures.others c.store-place.ensures.rest c.store-place.ensures.count c.key_hash-hash.ensures c.insert.ensures.pairs c.insert.ensures.count c.insert.ensures.room),
+      refl refl (directory_at c.args.superior c.self.view_is c.requires.directory) (may_at c.args.superior c.args.new.name c.args.new.dir c.self.view_is c.requires.may) c.store-place.ensures.place c.store-place.ensures.here c.store-place.ensures.others c.store-place.ensures.rest c.store-place.ensures.count c.key_hash-hash.ensures c.insert.ensures.pairs c.insert.ensures.count c.insert.ensures.room),
   omega (arith, c.self.invariant.1, c.store-place.ensures.nodes_room),
   omega (arith, c.self.invariant.2, c.push_reserved.ensures.capacity),
   omega (arith, c.self.invariant.3, c.store-place.ensures.free_room),

@@ -29,8 +29,7 @@ pub invariant_of-self : goal.invariant_of-self
 invariant_of-self c =
     let at = rw c.deref.ensures.value at c.position_of-at.ensures in
     let left = removed_at c.self.inside.nodes.items c.self.inside.entries.items c.self.inside.free.items c.self.inside.index c.self.inside.next c.self.invariant.0 c.args.uid c.position_of-at.result c.remove-superior.result at.within c.remove-superior.ensures.value at.uid
-        (subst (λ (t : Branches). list_any (is_inferior c.args.uid) (shapes t.nodes) ≡ false) (sym c.self.view_is) c.requires.leaf) c.remove.new.self c.remove.ensures.pairs c.remove.ensures.count c.remove.ensures.room in
-    (
+    (subst (λ (t : Branches). list_any (is_inferior c.args.uid) (shapes t.nodes) ≡ false) (sym c.self.view_is) c.requires.leaf) c.remove.new.self c.remove.ensures.pairs c.remove.ensures.count c.remove.ensures.room in (
       rw (c.remove-superior.ensures.items, c.push_reserved.ensures.items) left.0,
       c.self.invariant.1,
       omega (arith, c.self.invariant.2, c.remove-superior.ensures.capacity),
@@ -41,7 +40,7 @@ pub returns : goal.returns
 returns c =
     let at = rw c.deref.ensures.value at c.position_of-at.ensures in
     let left = removed_at c.self.inside.nodes.items c.self.inside.entries.items c.self.inside.free.items c.self.inside.index c.self.inside.next c.self.invariant.0 c.args.uid c.position_of-at.result c.remove-superior.result at.within c.remove-superior.ensures.value at.uid
-        (subst (λ (t : Branches). list_any (is_inferior c.args.uid) (shapes t.nodes) ≡ false) (sym c.self.view_is) c.requires.leaf) c.remove.new.self c.remove.ensures.pairs c.remove.ensures.count c.remove.ensures.room in
+    (subst (λ (t : Branches). list_any (is_inferior c.args.uid) (shapes t.nodes) ≡ false) (sym c.self.view_is) c.requires.leaf) c.remove.new.self c.remove.ensures.pairs c.remove.ensures.count c.remove.ensures.room in
     rw (← c.self.view_is) (ap (λ (ns : List Node). record { nodes = ns; next = c.self.inside.next }) (rw c.remove-superior.ensures.items left.1))
 
 pub remove-requires : goal.remove-requires

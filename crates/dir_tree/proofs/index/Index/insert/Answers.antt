@@ -11,8 +11,7 @@ invariant_of-self c =
     let below : (k : ℕ) → k < c.first_at-at.result → hash_at ps k < c.args.hash = rw c.deref.ensures.value at c.first_at-at.ensures.below in
     let from : (k : ℕ) → c.first_at-at.result ≤ k → k < length ps → c.args.hash ≤ hash_at ps k = rw c.deref.ensures.value at c.first_at-at.ensures.from in
     let absent : (other : ℕ) → HasPair ps other c.args.place → ⊥ = subst (λ (v : Pairs). (other : ℕ) → HasPair v.pairs other c.args.place → ⊥) (sym c.self.view_is) c.requires.absent in
-    let room : length ps < c.self.inside.room = subst (λ (v : Pairs). length v.pairs < v.room) (sym c.self.view_is) c.requires.room in
-    (
+    let room : length ps < c.self.inside.room = subst (λ (v : Pairs). length v.pairs < v.room) (sym c.self.view_is) c.requires.room in (
       subst IsRising (sym c.in-Ok.ensures.items) (inserted_rises ps c.first_at-at.result c.args.hash c.args.place within c.self.invariant.0 below from),
       subst AreApart (sym c.in-Ok.ensures.items) (inserted_apart ps c.first_at-at.result c.args.hash c.args.place within c.self.invariant.1 absent),
       omega (arith, c.in-Ok.ensures.len, room),

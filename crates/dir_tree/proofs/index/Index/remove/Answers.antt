@@ -7,8 +7,7 @@ use Rattle.dir_tree.proofs.index.Index.remove.Goals as goal
 pub invariant_of-self : goal.invariant_of-self
 invariant_of-self c =
     let ps : List (ℕ × ℕ) = c.self.inside.pairs.items in
-    let within : c.place_at-at.result < length ps = rw c.deref.ensures.value at c.place_at-at.ensures.within in
-    (
+    let within : c.place_at-at.result < length ps = rw c.deref.ensures.value at c.place_at-at.ensures.within in (
       subst IsRising (sym c.remove.ensures.items) (removed_rises ps c.place_at-at.result within c.self.invariant.0),
       subst AreApart (sym c.remove.ensures.items) (removed_apart ps c.place_at-at.result within c.self.invariant.1),
       omega (arith, c.remove.ensures.len),
