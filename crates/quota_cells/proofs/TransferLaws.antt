@@ -1,13 +1,13 @@
 -- The first account above its quota once quota has moved down to a directory, or up from it.
-use Rattle.std.proofs.Common.{◌≡◌, ◌≢◌, ℕ, suc, zero, ◌+◌, ◌-◌, ◌<◌, ◌≤◌, Bool, true, false, cond, eqb, ltb, not, ◌&&◌, ◌||◌, if◌then◌else◌, List, [], ◌∷◌, length, Option, Some, None, refl, sym, ap, subst, ◌∙◌, arith, inl, inr, ◌⊎◌, is_some}
+use Rattle.std.proofs.Common.{◌≡◌, ◌≢◌, ℕ, suc, zero, ◌+◌, ◌-◌, ◌<◌, ◌≤◌, Bool, true, false, cond, eqb, ltb, not, ◌&&◌, ◌||◌, if◌then◌else◌, List, [], ◌∷◌, length, Option, Some, None, refl, sym, ap, subst, ◌∙◌, arith, get_or, inl, inr, ◌⊎◌, is_some}
 use Rattle.std.specs.List.{find}
-use Rattle.std.proofs.lemmas.Bool.{cases_Bool, cases_eq, cases_lt, both_ways, eqb-true, eqb-false, eq-eqb, ne_eqb, or_cases, and_parts, or_right, or_left, false_from_ne_true}
+use Rattle.std.proofs.lemmas.Bool.{cases_Bool, cases_eq, cases_lt, both_ways, eqb-true, eqb-false, eq-eqb, ne_eqb, or_cases, and_parts, or_right, or_left, false_from_ne_true, le-ltb}
 use Rattle.storage_terms.specs.Tree.{above, account, node_in, has_directory}
 use Rattle.dir_tree.specs.declared.node.Node.{Node}
-use Rattle.dir_tree.specs.Nodes.{is_directory}
-use Rattle.dir_tree.specs.Shape.{shapes, HasChains, AreUnder, IsChain, EndsAtRoot}
+use Rattle.dir_tree.specs.Nodes.{is_directory, is_in}
+use Rattle.dir_tree.specs.Shape.{shapes, HasChains, AreUnder, IsChain, EndsAtRoot, AreDirectories}
 use Rattle.quota_cells.specs.Accounts.{look, has, covers, is_an_account}
-use Rattle.quota_cells.specs.Cells.{CellMaps, quota_in, load_in, Fits, IsTable, is_over, first_over}
+use Rattle.quota_cells.specs.Cells.{CellMaps, quota_in, load_in, Fits, IsTable, is_over, first_over, superior_of, move_answer, over_answer}
 use Rattle.quota_cells.proofs.PlaceLaws.{covers_under, covers_not}
 use Rattle.quota_cells.proofs.AccountLaws.{account_is, account_covers, account_of_chain, covers_above}
 use Rattle.quota_cells.proofs.FitLaws.{all_there, account_there, directory_shape}
@@ -25,6 +25,35 @@ under_weaker : (u v : ℕ) (xs : List ℕ) → v < u → AreUnder v xs → AreUn
 under_weaker u v [] lt a = tt
 under_weaker u v (x ∷ xs) lt a = ((let l : x < v = a.0 in omega arith), under_weaker u v xs lt a.1)
 
+pub directory_in : (ns : List Node) (u : ℕ) → is_directory ns u ≡ true → is_in ns u ≡ true
+directory_in [] u e = cc
+directory_in (n ∷ ns) u e = elim (cases_Bool (eqb n.uid u)) [ inl is ↦ rw is refl | inr isnt ↦ rw isnt (directory_in ns u (rw isnt at e)) ]
+
+-- what stands above a directory that isn't the root
+pub record IsBelow (nodes : List Node) (d s : ℕ) : Type 0 where
+  pub chain : above (shapes nodes) d ≡ s ∷ above (shapes nodes) s
+  pub below : s < d
+  pub directory : is_directory nodes s ≡ true
+
+top_of : (nodes : List Node) (d : ℕ) (xs : List ℕ) → above (shapes nodes) d ≡ xs → EndsAtRoot xs → IsChain (above (shapes nodes)) xs → AreUnder d xs → AreDirectories (shapes nodes) xs → IsBelow nodes d (get_or (above (shapes nodes) d) 0 0)
+top_of nodes d [] e ends chain under dirs = absurd ends
+top_of nodes d (x ∷ xs) e ends chain under dirs =
+    let is : get_or (above (shapes nodes) d) 0 0 ≡ x = ap (λ (ys : List ℕ). get_or ys 0 0) e in
+    rw is (record { chain = e ∙ ap (λ ys. x ∷ ys) chain.0; below = under.0; directory = sym (directory_shape nodes x) ∙ dirs.0 })
+
+pub top : (nodes : List Node) → HasChains (shapes nodes) → (d : ℕ) → is_directory nodes d ≡ true → d ≢ 1 → IsBelow nodes d (get_or (above (shapes nodes) d) 0 0)
+top nodes chains d is ne = top_of nodes d (above (shapes nodes) d) refl (chains.rooted d (directory_there nodes d is) ne) (chains.chain d) (chains.under d) (chains.directories d)
+
+pub not_empty : (nodes : List Node) → HasChains (shapes nodes) → (d : ℕ) → is_directory nodes d ≡ true → d ≢ 1 → 0 < length (above (shapes nodes) d)
+not_empty nodes chains d is ne = long (above (shapes nodes) d) (chains.rooted d (directory_there nodes d is) ne)
+  where
+    long : (xs : List ℕ) → EndsAtRoot xs → 0 < length xs
+    long [] e = absurd e
+    long (x ∷ xs) e = omega arith
+
+pub top_covers : (nodes : List Node) (r : ℕ → ℕ) (d s : ℕ) → above (shapes nodes) d ≡ s ∷ above (shapes nodes) s → covers r (above (shapes nodes) d) s ≡ true
+top_covers nodes r d s up = rw up (or_left (eqb s s) (eqb (r s) 0 && covers r (above (shapes nodes) s) s) (eq-eqb s s refl))
+
 module _ (nodes : List Node) (c : CellMaps) (table : IsTable c) (fits : Fits nodes c) (chains : HasChains (shapes nodes)) (d s n : ℕ) (up : above (shapes nodes) d ≡ s ∷ above (shapes nodes) s) (here_d : has c.directories d ≡ true) (here_s : has c.directories s ≡ true) (below : s < d) (some : 0 < n) where
   abbrev f : ℕ → List ℕ
   f = above (shapes nodes)
@@ -32,10 +61,10 @@ module _ (nodes : List Node) (c : CellMaps) (table : IsTable c) (fits : Fits nod
   abbrev q : ℕ → ℕ
   q = quota_in c
 
-  d_not_s : d ≢ s
+  pub d_not_s : d ≢ s
   d_not_s e = omega arith
 
-  s_not_d : s ≢ d
+  pub s_not_d : s ≢ d
   s_not_d e = omega arith
 
   under_d : AreUnder d (f s)
@@ -44,22 +73,25 @@ module _ (nodes : List Node) (c : CellMaps) (table : IsTable c) (fits : Fits nod
   -- ---- down to the directory
 
   module _ (enough : n ≤ q s) where
-    abbrev m1 : CellMaps
+    abbrev pub m1 : CellMaps
     m1 = c1 nodes c table fits chains d s n d_not_s here_d here_s some enough
 
-    abbrev m2 : CellMaps
+    abbrev pub m2 : CellMaps
     m2 = c2 nodes c table fits chains d s n d_not_s here_d here_s some enough
 
     abbrev pub left : ℕ
     left = if eqb (q d) 0 then load_in c s - load_in c d else load_in c s
+
+    pub down_is : superior_of f d ≡ s → move_answer c f d true n ≡ over_answer (first_over m2)
+    down_is is = rw is (rw (le-ltb (q s) n enough) refl)
 
     first_s : covers q (f d) s ≡ true
     first_s = rw up (or_left (eqb s s) (eqb (q s) 0 && covers q (f s) s) (eq-eqb s s refl))
 
     load1_s : load_in m1 s ≡ left
     load1_s = elim (cases_eq (q d) 0) [
-      | inl none ↦ rw (eq-eqb (q d) 0 none) (load1_falls nodes c table fits chains d s n d_not_s here_d here_s some enough none s here_s ∙ rw first_s refl)
-      | inr is ↦ rw (ne_eqb (q d) 0 is) (load1_stays nodes c table fits chains d s n d_not_s here_d here_s some enough is s here_s)
+      | inl none ↦ load1_falls nodes c table fits chains d s n d_not_s here_d here_s some enough none s here_s ∙ ap (λ (t : Bool). cond t (load_in c s - load_in c d) (load_in c s)) first_s ∙ sym (ap (λ (t : Bool). cond t (load_in c s - load_in c d) (load_in c s)) (eq-eqb (q d) 0 none))
+      | inr is ↦ load1_stays nodes c table fits chains d s n d_not_s here_d here_s some enough is s here_s ∙ sym (ap (λ (t : Bool). cond t (load_in c s - load_in c d) (load_in c s)) (ne_eqb (q d) 0 is))
     ]
 
     load1_d : load_in m1 d ≡ load_in c d
@@ -166,14 +198,33 @@ module _ (nodes : List Node) (c : CellMaps) (table : IsTable c) (fits : Fits nod
         | inr rest ↦ elim rest [ inl at_s ↦ both_ways (is_over m2 s) not_s (subst (λ y. is_over m2 y ≡ true) at_s o) | inr w ↦ both_ways (is_over m2 x) (not_x w.0 w.1) (subst (λ y. is_over m2 y ≡ true) w.2 o) ]
       ]))
 
+    -- the test that the code makes
+    abbrev pub above_test : Bool
+    above_test = eqb (q s - n) 0 && (not (eqb s 1) && ltb (q x) (load_in c x + left))
+
+    pub above_yes : above_test ≡ true → first_over m2 ≡ Some x
+    above_yes e =
+        (let a = and_parts (eqb (q s - n) 0) (not (eqb s 1) && ltb (q x) (load_in c x + left)) e in
+        let b = and_parts (not (eqb s 1)) (ltb (q x) (load_in c x + left)) a.1 in
+        let none : q s - n ≡ 0 = eqb-true (q s - n) 0 a.0 in
+        let all : q s ≡ n = omega arith in
+        let ne : s ≢ 1 = λ z. both_ways (not (eqb s 1)) (rw (eq-eqb s 1 z) refl) b.0 in
+        first_is_x all ne (over_x all ne ∙ b.1))
+
+    pub above_no : above_test ≡ false → q s ≡ n → s ≢ 1 → is_over m2 x ≡ false
+    above_no e all ne = over_x all ne ∙ (rw (eq-eqb (q s - n) 0 (omega arith), ne_eqb s 1 ne) at e)
+
   -- ---- up from the directory
 
   module _ (enough : n ≤ q d) where
-    abbrev u1 : CellMaps
+    abbrev pub u1 : CellMaps
     u1 = c1 nodes c table fits chains s d n s_not_d here_s here_d some enough
 
-    abbrev u2 : CellMaps
+    abbrev pub u2 : CellMaps
     u2 = c2 nodes c table fits chains s d n s_not_d here_s here_d some enough
+
+    pub up_is : superior_of f d ≡ s → move_answer c f d false n ≡ over_answer (first_over u2)
+    up_is is = rw is (rw (le-ltb (q d) n enough) refl)
 
     d_off : (r : ℕ → ℕ) → covers r (f s) d ≡ false
     d_off r = false_from_ne_true _ (λ is. (let lt : d < s = covers_under r s (f s) d (chains.under s) is in omega arith))
@@ -196,10 +247,13 @@ module _ (nodes : List Node) (c : CellMaps) (table : IsTable c) (fits : Fits nod
     abbrev pub more : ℕ
     more = if eqb (q d - n) 0 then load_in c s + load_in c d else load_in c s
 
+    two : (if covers (quota_in u1) (f d) s then load_in u1 s + load_in u1 d else load_in u1 s) ≡ load_in c s + load_in c d
+    two = ap (λ (t : Bool). cond t (load_in u1 s + load_in u1 d) (load_in u1 s)) covers_s ∙ (let a : load_in u1 s ≡ load_in c s = up1_s in let b : load_in u1 d ≡ load_in c d = up1_d in omega arith)
+
     pub up_load_s : load_in u2 s ≡ more
     up_load_s = elim (cases_eq (q d) n) [
-      | inl all ↦ rw (eq-eqb (q d - n) 0 (omega arith)) (load2_rises nodes c table fits chains s d n s_not_d here_s here_d some enough all s here_s ∙ rw covers_s (let a : load_in u1 s ≡ load_in c s = up1_s in let b : load_in u1 d ≡ load_in c d = up1_d in omega arith))
-      | inr part ↦ rw (ne_eqb (q d - n) 0 (λ e. part (omega arith))) (load2_stays nodes c table fits chains s d n s_not_d here_s here_d some enough part s here_s ∙ up1_s)
+      | inl all ↦ load2_rises nodes c table fits chains s d n s_not_d here_s here_d some enough all s here_s ∙ two ∙ sym (ap (λ (t : Bool). cond t (load_in c s + load_in c d) (load_in c s)) (eq-eqb (q d - n) 0 (omega arith)))
+      | inr part ↦ load2_stays nodes c table fits chains s d n s_not_d here_s here_d some enough part s here_s ∙ up1_s ∙ sym (ap (λ (t : Bool). cond t (load_in c s + load_in c d) (load_in c s)) (ne_eqb (q d - n) 0 (λ e. part (omega arith))))
     ]
 
     pub up_load_d : load_in u2 d ≡ load_in c d

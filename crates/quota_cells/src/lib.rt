@@ -7,7 +7,7 @@ ghost use Rattle.dir_tree.specs.declared.node.Node.{Node};
 ghost use Rattle.dir_tree.specs.Nodes.{is_in, is_directory, is_segment, without};
 ghost use Rattle.dir_tree.specs.Shape.{shapes, HasChains};
 ghost use Rattle.quota_cells.specs.Accounts.{has, is_an_account};
-ghost use Rattle.quota_cells.specs.Cells.{quota_in, load_in, stored_in, used_in, Fits, AreWithin, root_cell, charged, credited, charge_fault, has_cell, Enters, Leaves, moved, move_answer, first_over, with_quota};
+ghost use Rattle.quota_cells.specs.Cells.{quota_in, load_in, stored_in, used_in, Fits, AreWithin, root_cell, charged, credited, charge_fault, has_cell, Enters, Leaves, moved, move_answer, first_over, with_quota, superior_of};
 ghost use Rattle.std.specs.Int.RustNames.{unsigned_abs};
 ghost use Rattle.std.specs.Int.{is_positive};
 
@@ -77,6 +77,21 @@ fn column(alloc: Global) -> Result<Vec<u32>, AllocError>
     ensures capacity { IfOk result (λ v. vec_capacity v ≡ 4097) }
 {
     Vec::with_capacity(alloc, CELLS)
+}
+
+/// The superior of a directory that isn't the root.
+fn superior_of(t: &Tree, dir: u32) -> u32
+    requires directory { is_directory t.now.nodes dir ≡ true }
+    requires branch { dir ≢ 1 }
+    ensures is { superior_of (above (shapes t.now.nodes)) dir ≡ result }
+    ensures above { above (shapes t.now.nodes) dir ≡ result ∷ above (shapes t.now.nodes) result }
+    ensures below { result < dir }
+    ensures directory { is_directory t.now.nodes result ≡ true }
+    ensures there { is_in t.now.nodes result ≡ true }
+    ensures chains { HasChains (shapes t.now.nodes) }
+{
+    let up = t.superiors(dir);
+    up.as_slice()[0]
 }
 
 impl Cells {
@@ -280,8 +295,7 @@ impl Cells {
         requires fits { Fits t.now.nodes self.now }
         ensures { result ≡ move_answer self.now (above (shapes t.now.nodes)) dir true pages }
     {
-        let up = t.superiors(dir);
-        let superior = up.as_slice()[0];
+        let superior = superior_of(t, dir);
         let given = columns::value(&self.directories, &self.quotas, superior);
         if given < pages {
             return Err(MoveFault::TooLittle);
@@ -291,7 +305,8 @@ impl Cells {
         let load = columns::value(&self.directories, &self.loads, dir);
         let before = columns::value(&self.directories, &self.loads, superior);
         let left = moves::load_left(before, load, quota);
-        let account = columns::account(&self.directories, &self.quotas, &up.as_slice()[1..]);
+        let up = t.superiors(superior);
+        let account = columns::account(&self.directories, &self.quotas, up.as_slice());
         let account_load = columns::value(&self.directories, &self.loads, account);
         let account_quota = columns::value(&self.directories, &self.quotas, account);
         if moves::is_above_over(superior, rest, left, account_load, account_quota) {
@@ -314,8 +329,7 @@ impl Cells {
         requires fits { Fits t.now.nodes self.now }
         ensures { result ≡ move_answer self.now (above (shapes t.now.nodes)) dir false pages }
     {
-        let up = t.superiors(dir);
-        let superior = up.as_slice()[0];
+        let superior = superior_of(t, dir);
         let given = columns::value(&self.directories, &self.quotas, dir);
         if given < pages {
             return Err(MoveFault::TooLittle);
@@ -331,5 +345,57 @@ impl Cells {
             return Err(MoveFault::Over { account: dir });
         }
         Ok(())
+    }
+
+    /// Moves quota between a directory and its superior.
+    pub fn move_quota(&mut self, t: &Tree, dir: u32, amount: i32) -> Result<(), MoveFault>
+        requires directory { is_directory t.now.nodes dir ≡ true }
+        requires branch { dir ≢ 1 }
+        requires amount { 0 < unsigned_abs amount }
+        requires fits { Fits t.now.nodes self.old }
+        ensures answer { result ≡ move_answer self.old (above (shapes t.now.nodes)) dir (is_positive amount) (unsigned_abs amount) }
+        ensures ok { OnOk result (self.new ≡ moved self.old (above (shapes t.now.nodes)) dir (is_positive amount) (unsigned_abs amount)) }
+        ensures err { OnErr result (self.new ≡ self.old) }
+        ensures fits { Fits t.now.nodes self.new }
+        ensures total { sum self.new.quotas ≡ sum self.old.quotas }
+    {
+        self.may_move(t, dir, amount)?;
+        let superior = superior_of(t, dir);
+        if amount.is_positive() {
+            self.transfer(t, dir, superior, amount.unsigned_abs());
+        } else {
+            self.transfer(t, superior, dir, amount.unsigned_abs());
+        }
+        Ok(())
+    }
+
+    /// Moves quota that may move.
+    fn transfer(&mut self, t: &Tree, getter: u32, giver: u32, pages: u32)
+        requires getter { is_directory t.now.nodes getter ≡ true }
+        requires giver { is_directory t.now.nodes giver ≡ true }
+        requires other { getter ≢ giver }
+        requires pages { 0 < pages }
+        requires enough { pages ≤ quota_in self.old giver }
+        requires fits { Fits t.now.nodes self.old }
+        requires none { first_over (with_quota (with_quota self.old (above (shapes t.now.nodes) getter) getter (quota_in self.old getter + pages)) (above (shapes t.now.nodes) giver) giver (quota_in self.old giver - pages)) ≡ None }
+        ensures cells { self.new ≡ with_quota (with_quota self.old (above (shapes t.now.nodes) getter) getter (quota_in self.old getter + pages)) (above (shapes t.now.nodes) giver) giver (quota_in self.old giver - pages) }
+        ensures fits { Fits t.now.nodes self.new }
+        ensures total { sum self.new.quotas ≡ sum self.old.quotas }
+    {
+        let above_getter = t.superiors(getter);
+        let above_giver = t.superiors(giver);
+        let more = columns::value(&self.directories, &self.quotas, getter) + pages;
+        let less = columns::value(&self.directories, &self.quotas, giver) - pages;
+        columns::transfer(
+            &mut self.quotas,
+            &mut self.loads,
+            &self.directories,
+            above_getter.as_slice(),
+            getter,
+            more,
+            above_giver.as_slice(),
+            giver,
+            less,
+        );
     }
 }
