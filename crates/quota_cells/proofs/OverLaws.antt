@@ -2,13 +2,16 @@
 use Rattle.std.proofs.Common.{◌≡◌, ◌≢◌, ℕ, suc, zero, ◌+◌, ◌-◌, ◌<◌, ◌≤◌, ◌^◌, Bool, true, false, cond, eqb, ltb, not, ◌&&◌, ◌||◌, if◌then◌else◌, List, [], ◌∷◌, length, Option, Some, None, refl, sym, ap, subst, ◌∙◌, arith, get_or, inl, inr, ◌⊎◌, is_some}
 use Rattle.std.specs.List.{sum, find}
 use Rattle.std.proofs.lemmas.Bool.{cases_Bool, cases_eq, cases_lt, both_ways, eqb-true, eqb-false, eq-eqb, ne_eqb, or_cases, and_parts, or_right, or_left, and_from, and_left, and_right, lt-ltb, le-ltb, ltb-true, true_from_ne_false, false_from_ne_true}
-use Rattle.storage_terms.specs.Tree.{above, account}
+use Rattle.storage_terms.specs.Tree.{above, account, node_in}
 use Rattle.dir_tree.specs.declared.node.Node.{Node}
+use Rattle.dir_tree.specs.Nodes.{is_directory}
 use Rattle.dir_tree.specs.Shape.{shapes, HasChains, AreUnder, IsChain, EndsAtRoot}
 use Rattle.quota_cells.specs.Accounts.{look, has, with_value, covers, is_an_account}
 use Rattle.quota_cells.specs.Cells.{CellMaps, quota_in, load_in, Fits, AreWithin, IsTable, with_quota, IsRising, is_over, first_over}
 use Rattle.quota_cells.proofs.PlaceLaws.{covers_under, covers_not}
-use Rattle.quota_cells.proofs.AccountLaws.{account_is}
+use Rattle.quota_cells.proofs.AccountLaws.{account_is, covers_above}
+use Rattle.quota_cells.proofs.ColumnLaws.{two_le_sum}
+use Rattle.quota_cells.proofs.FitLaws.{load_bound, all_there, covered_there}
 use Rattle.quota_cells.proofs.MoveLaws.{AreEven, fits_quota, even_quota, quota_own, quota_other, load_falls, load_rises, load_stays, total_quota}
 
 -- ---- the least that passes
@@ -37,6 +40,10 @@ first_passes p (k ∷ ks) a up h is none = elim (cases_eq k a) [
       let isnt : p k ≡ false = none k (or_left (eqb k k) (has ks k) (eq-eqb k k refl)) before in
       rw isnt (first_passes p ks a (λ i j lt w. up (suc i) (suc j) (omega arith) (omega arith)) rest is (λ b hb lt. none b (or_right (eqb k b) (has ks b) hb) lt)))
 ]
+
+directory_there : (ns : List Node) (u : ℕ) → is_directory ns u ≡ true → is_some (node_in (shapes ns) u) ≡ true
+directory_there [] u e = cc
+directory_there (n ∷ ns) u e = elim (cases_Bool (eqb n.uid u)) [ inl is ↦ rw is refl | inr isnt ↦ rw isnt (directory_there ns u (rw isnt at e)) ]
 
 pub passes : (p : ℕ → Bool) (ks : List ℕ) (b : ℕ) → has ks b ≡ true → p b ≡ true → find p ks ≢ None
 passes p [] b h is none = cc
@@ -167,3 +174,17 @@ module _ (nodes : List Node) (c : CellMaps) (table : IsTable c) (fits : Fits nod
       ];
     total = rw total2 table.total;
   }
+
+  -- where the giver is an account no more, its load fits above
+  pub room2 : first_over c2 ≡ None → q v ≡ n → (e : ℕ) → covers (quota_in c1) (f v) e ≡ true → load_in c1 e + load_in c1 v < 2 ^ 32
+  room2 none all e is =
+      let root_no : v ≢ 1 = λ z. both_ways (covers (quota_in c1) (f v) e) (rw (z, chains.root) refl) is in
+      let ends : EndsAtRoot (f v) = chains.rooted v (directory_there nodes v (sym (fits.directories v) ∙ here_v)) root_no in
+      let there_e : has c.directories e ≡ true = covered_there (quota_in c1) c.directories (f v) e (all_there nodes c fits (f v) (chains.directories v)) is in
+      let same : covers (quota_in c2) (f v) e ≡ covers (quota_in c1) (f v) e = covers_above (quota_in c1) (quota_in c2) v (f v) e (quota_other nodes c1 even1 fits1 chains v (q v - n) here_v) (chains.under v) in
+      let bound : load_in c2 e < 2 ^ 32 = load_bound nodes c2 (table2 none) fits2 chains v e ends (same ∙ is) in
+      let rises : load_in c2 e ≡ load_in c1 e + load_in c1 v = load2_rises all e there_e ∙ ap (λ (t : Bool). cond t (load_in c1 e + load_in c1 v) (load_in c1 e)) is in
+      omega arith
+
+  pub room1 : q g + n < 2 ^ 32
+  room1 = (let a : q g + q v ≤ sum c.quotas = two_le_sum c.directories c.quotas g v other in let t : sum c.quotas < 2 ^ 32 = table.total in omega arith)

@@ -1,13 +1,14 @@
 -- The first account above its quota once quota has moved down to a directory, or up from it.
-use Rattle.std.proofs.Common.{◌≡◌, ◌≢◌, ℕ, suc, zero, ◌+◌, ◌-◌, ◌<◌, ◌≤◌, Bool, true, false, cond, eqb, ltb, not, ◌&&◌, ◌||◌, if◌then◌else◌, List, [], ◌∷◌, length, Option, Some, None, refl, sym, ap, subst, ◌∙◌, arith, get_or, inl, inr, ◌⊎◌, is_some}
+use Rattle.std.proofs.Common.{◌≡◌, ◌≢◌, ℕ, suc, zero, ◌+◌, ◌-◌, ◌<◌, ◌≤◌, Bool, true, false, cond, eqb, ltb, not, ◌&&◌, ◌||◌, if◌then◌else◌, List, [], ◌∷◌, length, Option, Some, None, Ok, Err, refl, sym, ap, subst, ◌∙◌, arith, get_or, inl, inr, ◌⊎◌, is_some}
 use Rattle.std.specs.List.{find}
-use Rattle.std.proofs.lemmas.Bool.{cases_Bool, cases_eq, cases_lt, both_ways, eqb-true, eqb-false, eq-eqb, ne_eqb, or_cases, and_parts, or_right, or_left, false_from_ne_true, le-ltb}
+use Rattle.std.proofs.lemmas.Bool.{cases_Bool, cases_eq, cases_lt, both_ways, eqb-true, eqb-false, eq-eqb, ne_eqb, or_cases, and_parts, or_right, or_left, false_from_ne_true, le-ltb, lt-ltb}
 use Rattle.storage_terms.specs.Tree.{above, account, node_in, has_directory}
 use Rattle.dir_tree.specs.declared.node.Node.{Node}
 use Rattle.dir_tree.specs.Nodes.{is_directory, is_in}
 use Rattle.dir_tree.specs.Shape.{shapes, HasChains, AreUnder, IsChain, EndsAtRoot, AreDirectories}
 use Rattle.quota_cells.specs.Accounts.{look, has, covers, is_an_account}
-use Rattle.quota_cells.specs.Cells.{CellMaps, quota_in, load_in, Fits, IsTable, is_over, first_over, superior_of, move_answer, over_answer}
+use Rattle.quota_cells.specs.Cells.{CellMaps, quota_in, load_in, Fits, IsTable, is_over, first_over, superior_of, move_answer, over_answer, giver_of, moved}
+use Rattle.quota_cells.specs.declared.MoveFault.TheVariants as fault
 use Rattle.quota_cells.proofs.PlaceLaws.{covers_under, covers_not}
 use Rattle.quota_cells.proofs.AccountLaws.{account_is, account_covers, account_of_chain, covers_above}
 use Rattle.quota_cells.proofs.FitLaws.{all_there, account_there, directory_shape}
@@ -288,3 +289,15 @@ module _ (nodes : List Node) (c : CellMaps) (table : IsTable c) (fits : Fits nod
 
     pub up_none : is_over u2 s ≡ false → is_over u2 d ≡ false → first_over u2 ≡ None
     up_none not_s not_d = none_passes (is_over u2) c.directories (λ b h. false_from_ne_true _ (λ o. elim (up_who b h o) [ inl at_s ↦ both_ways (is_over u2 s) not_s (subst (λ y. is_over u2 y ≡ true) at_s o) | inr at_d ↦ both_ways (is_over u2 d) not_d (subst (λ y. is_over u2 y ≡ true) at_d o) ]))
+
+-- ---- what an answer says
+
+pub none_over : (o : Option ℕ) → over_answer o ≡ Ok tt → o ≡ None
+none_over None e = refl
+none_over (Some a) e = cc
+
+pub answer_ok : (c : CellMaps) (up : ℕ → List ℕ) (d : ℕ) (b : Bool) (n : ℕ) → move_answer c up d b n ≡ Ok tt → (n ≤ quota_in c (giver_of up d b)) × (first_over (moved c up d b n) ≡ None)
+answer_ok c up d b n e = elim (cases_lt (quota_in c (giver_of up d b)) n) [
+  | inl lt ↦ (let z : Err fault.TooLittle ≡ Ok tt = rw (lt-ltb (quota_in c (giver_of up d b)) n lt) at e in cc)
+  | inr le ↦ (le, none_over (first_over (moved c up d b n)) (rw (le-ltb (quota_in c (giver_of up d b)) n le) at e))
+]
