@@ -10,7 +10,7 @@
 //! lists, and no node: the place of the node is free from then on. None but `new` takes memory.
 #![tactic(auto)]
 
-ghost use Rattle.std.specs.Prelude.{◌≡◌, ◌≢◌, ◌<◌, ◌≤◌, ◌^◌, ℕ, Bool, ◌&&◌, nat_le, is_some, true, false, ◌↔◌, Some, None, IsErr, length, IfOk, IfSome, IfNone, OnOk, OnErr};
+ghost use Rattle.std.specs.Prelude.{◌≡◌, ◌≢◌, ◌<◌, ◌≤◌, ◌^◌, ◌+◌, ℕ, Bool, ◌&&◌, nat_le, is_some, true, false, ◌↔◌, Some, None, IsErr, length, IfOk, IfSome, IfNone, OnOk, OnErr};
 ghost use Rattle.storage_terms.specs.Tree.{above, branch_in, walk_in, step_up};
 ghost use Rattle.std.specs.Borrow.{sem};
 ghost use Rattle.dir_tree.specs.Nodes.{acl_of, with_quotas, node_of, is_in, is_directory, is_segment, root_alone, path_answer, add_fault_of, unless, added, removed, has_inferior, with_length, with_home, chain_of};
@@ -260,6 +260,7 @@ impl Tree {
         ensures answer { (quota : ℕ → ℕ) → result ≡ unless (add_fault_of (with_quotas quota self.old.nodes) superior new.name new.dir) self.old.next }
         ensures ok { OnOk result (self.new ≡ added self.old superior new) }
         ensures fresh { is_in self.old.nodes self.old.next ≡ false }
+        ensures room { OnOk result (length self.old.nodes < 4097) }
         ensures err { OnErr result (self.new ≡ self.old) }
     {
         self.may_add(superior, &new.name, new.dir)?;
@@ -321,6 +322,7 @@ impl Tree {
         requires branch { uid ≢ 1 }
         ensures answer { (quota : ℕ → ℕ) → IsErr result ↔ (has_inferior (with_quotas quota self.old.nodes) uid ≡ true) }
         ensures ok { OnOk result (self.new ≡ removed self.old uid) }
+        ensures count { OnOk result (length self.new.nodes + 1 ≡ length self.old.nodes) }
         ensures rest { OnOk result ((u : ℕ) → u ≢ uid → above (shapes self.new.nodes) u ≡ above (shapes self.old.nodes) u) }
         ensures err { OnErr result (self.new ≡ self.old) }
     {
@@ -334,7 +336,8 @@ impl Tree {
         requires there { is_in self.old.nodes uid ≡ true }
         requires branch { uid ≢ 1 }
         requires leaf { has_inferior (shapes self.old.nodes) uid ≡ false }
-        ensures { self.new ≡ removed self.old uid }
+        ensures tree { self.new ≡ removed self.old uid }
+        ensures count { length self.new.nodes + 1 ≡ length self.old.nodes }
     {
         let at = entries::position_of(&self.entries, uid);
         let Entry {

@@ -57,6 +57,7 @@ module _ (nodes : List Node) (n : Node) (old new : CellMaps) (fits : Fits nodes 
 
   pub fits_entered : Fits (n ∷ nodes) new
   fits_entered = record {
+    count = (let a = enters.size in let b : length old.directories + length old.segments ≡ length nodes = fits.count in omega (arith, a));
     directories = λ u. enters.directories u ∙ elim (cases_Bool (eqb n.uid u)) [
         | inl is ↦
             (let off : has old.directories u ≡ false = fits.directories u ∙ not_in_directory nodes u (subst (λ v. is_in nodes v ≡ false) (eqb-true n.uid u is) absent) in
@@ -105,7 +106,7 @@ segment_without (n ∷ ns) u v = elim (cases_eq n.uid u) [
   ])
 ]
 
-module _ (nodes : List Node) (uid : ℕ) (old new : CellMaps) (fits : Fits nodes old) (leaves : Leaves old new uid) (same_above : (u : ℕ) → u ≢ uid → above (shapes (without uid nodes)) u ≡ above (shapes nodes) u) where
+module _ (nodes : List Node) (uid : ℕ) (old new : CellMaps) (fits : Fits nodes old) (leaves : Leaves old new uid) (same_above : (u : ℕ) → u ≢ uid → above (shapes (without uid nodes)) u ≡ above (shapes nodes) u) (one_less : length (without uid nodes) + 1 ≡ length nodes) where
   quotas_left : quota_in new ≡ quota_in old
   quotas_left = λ i d. leaves.quotas d i
 
@@ -120,6 +121,7 @@ module _ (nodes : List Node) (uid : ℕ) (old new : CellMaps) (fits : Fits nodes
 
   pub fits_left : Fits (without uid nodes) new
   fits_left = record {
+    count = (let a = leaves.size in let b : length old.directories + length old.segments ≡ length nodes = fits.count in omega (arith, a));
     directories = λ u. leaves.directories u ∙ ap (λ b. b && not (eqb uid u)) (fits.directories u) ∙ sym (directory_without nodes uid u);
     segments = λ u. leaves.segments u ∙ ap (λ b. b && not (eqb uid u)) (fits.segments u) ∙ sym (segment_without nodes uid u);
     loads = λ e there.
@@ -139,8 +141,9 @@ module _ (c : CellMaps) (table : IsTable c) (uid i : ℕ) (absent : has_cell c u
   abbrev pub with_directory : CellMaps
   with_directory = record { directories = insert c.directories i uid; quotas = insert c.quotas i 0; loads = insert c.loads i 0; segments = c.segments; stored = c.stored }
 
-  pub enters_directory : Enters c with_directory uid true
-  enters_directory = record {
+  pub enters_directory : i ≤ length c.directories → Enters c with_directory uid true
+  enters_directory within = record {
+    size = (let a = length-insert c.directories i uid within in omega (arith, a));
     directories = has_insert c.directories i uid;
     segments = λ u. refl;
     quotas = λ d. look_insert c.directories c.quotas i uid d table.quota_count no_directory;
@@ -150,7 +153,7 @@ module _ (c : CellMaps) (table : IsTable c) (uid i : ℕ) (absent : has_cell c u
   }
 
   same_quotas : quota_in with_directory ≡ quota_in c
-  same_quotas = λ j d. enters_directory.quotas d j
+  same_quotas = λ j d. look_insert c.directories c.quotas i uid d table.quota_count no_directory j
 
   pub table_directory : IsGap c.directories uid i → IsTable with_directory
   table_directory gap = record {
@@ -161,11 +164,11 @@ module _ (c : CellMaps) (table : IsTable c) (uid i : ℕ) (absent : has_cell c u
     stored_count = table.stored_count;
     apart = λ u h. elim (cases_Bool (eqb uid u)) [
         | inl is ↦ subst (λ v. has c.segments v ≡ false) (eqb-true uid u is) no_segment
-        | inr isnt ↦ table.apart u (sym (enters_directory.directories u ∙ rw isnt refl) ∙ h)
+        | inr isnt ↦ table.apart u (sym ((enters_directory gap.within).directories u ∙ rw isnt refl) ∙ h)
       ];
-    within = λ a h is. rw (enters_directory.loads a, enters_directory.quotas a) (elim (cases_Bool (eqb uid a)) [
+    within = λ a h is. rw ((enters_directory gap.within).loads a, (enters_directory gap.within).quotas a) (elim (cases_Bool (eqb uid a)) [
         | inl at ↦ (let none : load_in c a ≡ 0 = look_absent c.directories c.loads a (subst (λ v. has c.directories v ≡ false) (eqb-true uid a at) no_directory) in omega arith)
-        | inr off ↦ table.within a (sym (enters_directory.directories a ∙ rw off refl) ∙ h) (subst (λ (q : ℕ → ℕ). is_an_account q a ≡ true) same_quotas is)
+        | inr off ↦ table.within a (sym ((enters_directory gap.within).directories a ∙ rw off refl) ∙ h) (subst (λ (q : ℕ → ℕ). is_an_account q a ≡ true) same_quotas is)
       ]);
     total = (let s = sum_by-insert (λ (x : ℕ). x) c.quotas i 0 in let t : sum c.quotas < 2 ^ 32 = table.total in omega arith);
   }
@@ -173,8 +176,9 @@ module _ (c : CellMaps) (table : IsTable c) (uid i : ℕ) (absent : has_cell c u
   abbrev pub with_segment : CellMaps
   with_segment = record { directories = c.directories; quotas = c.quotas; loads = c.loads; segments = insert c.segments i uid; stored = insert c.stored i 0 }
 
-  pub enters_segment : Enters c with_segment uid false
-  enters_segment = record {
+  pub enters_segment : i ≤ length c.segments → Enters c with_segment uid false
+  enters_segment within = record {
+    size = (let a = length-insert c.segments i uid within in omega (arith, a));
     directories = λ u. refl;
     segments = has_insert c.segments i uid;
     quotas = λ d. refl;
@@ -190,7 +194,7 @@ module _ (c : CellMaps) (table : IsTable c) (uid i : ℕ) (absent : has_cell c u
     quota_count = table.quota_count;
     load_count = table.load_count;
     stored_count = (let a = length-insert c.segments i uid gap.within in let n : length c.stored ≡ length c.segments = table.stored_count in let w : i ≤ length c.segments = gap.within in let b = length-insert c.stored i 0 (omega arith) in omega arith);
-    apart = λ u h. enters_segment.segments u ∙ elim (cases_Bool (eqb uid u)) [
+    apart = λ u h. (enters_segment gap.within).segments u ∙ elim (cases_Bool (eqb uid u)) [
         | inl is ↦ absurd (both_ways (has c.directories u) (subst (λ v. has c.directories v ≡ false) (eqb-true uid u is) no_directory) h)
         | inr isnt ↦ rw isnt (table.apart u h)
       ];
@@ -204,6 +208,7 @@ module _ (c : CellMaps) (table : IsTable c) (uid i : ℕ) where
 
   pub leaves_directory : has c.directories uid ≡ true → quota_in c uid ≡ 0 → i < length c.directories → get_or c.directories i 0 ≡ uid → Leaves c less_directory uid
   leaves_directory there none lt is = record {
+    size = (let a = length-remove c.directories i lt in omega (arith, a));
     directories = λ u. has_remove c.directories i u table.rising lt ∙ ap (λ x. has c.directories u && not (eqb x u)) is;
     segments = λ u. elim (cases_eq uid u) [
         | inl same ↦ (let off : has c.segments u ≡ false = table.apart u (subst (λ v. has c.directories v ≡ true) same there) in rw off refl)
@@ -241,6 +246,7 @@ module _ (c : CellMaps) (table : IsTable c) (uid i : ℕ) where
 
   pub leaves_segment : has c.directories uid ≡ false → stored_in c uid ≡ 0 → i < length c.segments → get_or c.segments i 0 ≡ uid → Leaves c less_segment uid
   leaves_segment off none lt is = record {
+    size = (let a = length-remove c.segments i lt in omega (arith, a));
     directories = λ u. elim (cases_eq uid u) [
         | inl same ↦ (let gone : has c.directories u ≡ false = subst (λ v. has c.directories v ≡ false) same off in rw gone refl)
         | inr other ↦ rw (ne_eqb uid u other) (elim (cases_Bool (has c.directories u)) [ inl t ↦ rw t refl | inr f ↦ rw f refl ])

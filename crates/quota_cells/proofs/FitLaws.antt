@@ -8,9 +8,9 @@ use Rattle.dir_tree.specs.declared.node.Node.{Node}
 use Rattle.dir_tree.specs.Nodes.{is_directory, is_segment}
 use Rattle.dir_tree.specs.Shape.{shapes, HasChains, AreUnder, IsChain, AreDirectories, EndsAtRoot}
 use Rattle.quota_cells.specs.Accounts.{look, has, with_value, covers, weigh, load, charged_to, is_an_account, changed_where}
-use Rattle.quota_cells.specs.Cells.{CellMaps, quota_in, load_in, stored_in, used_in, Fits, AreWithin, IsTable, charged, credited, loads_then, with_quota, charge_fault, IsRising}
+use Rattle.quota_cells.specs.Cells.{CellMaps, quota_in, load_in, stored_in, used_in, Fits, AreWithin, IsTable, charged, credited, loads_then, with_quota, charge_fault, IsRising, CountsUsed}
 use Rattle.quota_cells.specs.Columns.{AreThere, IsFalling}
-use Rattle.quota_cells.proofs.ColumnLaws.{look_with, look_changed, length_with, length_changed, weigh_with, weigh_le_on, look_le_weigh, look_le_sum}
+use Rattle.quota_cells.proofs.ColumnLaws.{look_with, look_changed, length_with, length_changed, weigh_with, weigh_same, weigh_le_on, look_le_weigh, look_le_sum}
 use Rattle.quota_cells.proofs.PlaceLaws.{covers_under, covers_not, look_at, set_at}
 use Rattle.quota_cells.proofs.AccountLaws.{account_covers, account_through, account_is, account_from, appears, appears_own, covers_above, load_same, account_of_chain}
 
@@ -55,6 +55,7 @@ module _ (nodes : List Node) (c : CellMaps) (table : IsTable c) (fits : Fits nod
   fits_charged s is = record {
     directories = fits.directories;
     segments = fits.segments;
+    count = fits.count;
     loads = λ e there.
         (let q = quota_in c in
         let old : load_in c e ≡ load f q c.segments c.stored e = fits.loads e there in
@@ -71,6 +72,7 @@ module _ (nodes : List Node) (c : CellMaps) (table : IsTable c) (fits : Fits nod
   fits_credited s is some = record {
     directories = fits.directories;
     segments = fits.segments;
+    count = fits.count;
     loads = λ e there.
         (let q = quota_in c in
         let old : load_in c e ≡ load f q c.segments c.stored e = fits.loads e there in
@@ -186,6 +188,14 @@ module _ (nodes : List Node) (c : CellMaps) (table : IsTable c) (fits : Fits nod
 
   pub room_credited : (s : ℕ) → is_segment nodes s ≡ true → 0 < stored_in c s → (e : ℕ) → covers (quota_in c) (f s) e ≡ true → 1 ≤ load_in c e
   room_credited s is some e covered = (let le : stored_in c s ≤ load_in c e = stored_below s e (covered_there (quota_in c) c.directories (f s) e (there s) covered) covered in omega arith)
+
+pub counts_used : (nodes : List Node) (c : CellMaps) → Fits nodes c → HasChains (shapes nodes) → CountsUsed nodes c
+counts_used nodes c fits chains a a_there = elim (cases_Bool (is_an_account (quota_in c) a)) [
+  | inr isnt ↦ rw isnt refl
+  | inl is ↦
+      rw is (fits.loads a a_there ∙ weigh_same (λ k. covers (quota_in c) (above (shapes nodes) k) a) (λ k. eqb (account (quota_in c) (above (shapes nodes) k)) a) c.segments c.stored
+          (λ k h. (let seg : is_segment nodes k ≡ true = sym (fits.segments k) ∙ h in account_is (quota_in c) (above (shapes nodes) k) a (chains.segments k (segment_there nodes k seg) (segment_not nodes k seg)) is)))
+]
 
 -- ---- what the code leaves
 

@@ -79,7 +79,7 @@ module _ (nodes : List Node) (c : CellMaps) (even : AreEven c) (fits : Fits node
       ]
 
   pub fits_quota : Fits nodes c'
-  fits_quota = record { directories = fits.directories; segments = fits.segments; loads = λ e there. fits_at e there (eqb (q d) 0) (eqb v 0) refl refl }
+  fits_quota = record { directories = fits.directories; segments = fits.segments; count = fits.count; loads = λ e there. fits_at e there (eqb (q d) 0) (eqb v 0) refl refl }
 
   loads_length : (b w : Bool) → length (loads_then c.directories c.quotas c.loads (f d) d b w) ≡ length c.loads
   loads_length true true = refl

@@ -38,6 +38,7 @@ pub record Fits (nodes : List Node) (c : CellMaps) : Type 0 where
   pub directories : (u : ℕ) → has c.directories u ≡ is_directory nodes u
   pub segments : (u : ℕ) → has c.segments u ≡ is_segment nodes u
   pub loads : (e : ℕ) → has c.directories e ≡ true → load_in c e ≡ load (above (shapes nodes)) (quota_in c) c.segments c.stored e
+  pub count : length c.directories + length c.segments ≡ length nodes
 
 abbrev pub IsRising : List ℕ → Type 0
 IsRising ks = (i j : ℕ) → i < j → j < length ks → slice_index ks i < slice_index ks j
@@ -84,6 +85,10 @@ with_quota c up d v = record c { quotas = with_value c.directories c.quotas d v;
 abbrev pub charge_fault : CellMaps → List ℕ → Result (Unit {0}) Full
 charge_fault c up = if load_in c (account (quota_in c) up) == quota_in c (account (quota_in c) up) then Err (record { account = account (quota_in c) up }) else Ok tt
 
+-- So each used count is, in this tree, the number of stored pages of the segments whose account this is.
+abbrev pub CountsUsed : List Node → CellMaps → Type 0
+CountsUsed nodes c = (a : ℕ) → has c.directories a ≡ true → used_in c a ≡ (if is_an_account (quota_in c) a then charged_to (above (shapes nodes)) (quota_in c) c.segments c.stored a else 0)
+
 -- a directory or a segment gets an empty cell
 pub record Enters (old new : CellMaps) (uid : ℕ) (dir : Bool) : Type 0 where
   pub directories : (u : ℕ) → has new.directories u ≡ ((dir && uid == u) || has old.directories u)
@@ -92,6 +97,7 @@ pub record Enters (old new : CellMaps) (uid : ℕ) (dir : Bool) : Type 0 where
   pub loads : (d : ℕ) → load_in new d ≡ load_in old d
   pub stored : (s : ℕ) → stored_in new s ≡ stored_in old s
   pub counts : (test : ℕ → Bool) → weigh test new.segments new.stored ≡ weigh test old.segments old.stored
+  pub size : length new.directories + length new.segments ≡ length old.directories + length old.segments + 1
 
 -- a uid has no cell any more
 pub record Leaves (old new : CellMaps) (uid : ℕ) : Type 0 where
@@ -101,6 +107,7 @@ pub record Leaves (old new : CellMaps) (uid : ℕ) : Type 0 where
   pub loads : (d : ℕ) → d ≢ uid → load_in new d ≡ load_in old d
   pub stored : (s : ℕ) → stored_in new s ≡ stored_in old s
   pub counts : (test : ℕ → Bool) → weigh test new.segments new.stored ≡ weigh test old.segments old.stored
+  pub size : length new.directories + length new.segments + 1 ≡ length old.directories + length old.segments
 
 -- a uid has a cell
 abbrev pub has_cell : CellMaps → ℕ → Bool

@@ -4,10 +4,10 @@
 ghost use Rattle.std.specs.Prelude.{◌≡◌, ◌≢◌, ◌<◌, ◌≤◌, ◌+◌, ◌-◌, ◌^◌, ◌==◌, ◌&&◌, ◌||◌, not, ℕ, Bool, true, false, Some, None, List, length, IfOk, IfErr, IfSome, IfNone, OnOk, OnErr, IsErr, sum, if◌then◌else◌, [], ◌∷◌, vec_capacity};
 ghost use Rattle.storage_terms.specs.Tree.{above, account};
 ghost use Rattle.dir_tree.specs.declared.node.Node.{Node};
-ghost use Rattle.dir_tree.specs.Nodes.{is_in, is_directory, is_segment, without};
+ghost use Rattle.dir_tree.specs.Nodes.{root_alone, is_in, is_directory, is_segment, without};
 ghost use Rattle.dir_tree.specs.Shape.{shapes, HasChains};
 ghost use Rattle.quota_cells.specs.Accounts.{has, is_an_account};
-ghost use Rattle.quota_cells.specs.Cells.{quota_in, load_in, stored_in, used_in, Fits, AreWithin, root_cell, charged, credited, charge_fault, has_cell, Enters, Leaves, moved, move_answer, first_over, with_quota, superior_of};
+ghost use Rattle.quota_cells.specs.Cells.{quota_in, load_in, stored_in, used_in, Fits, AreWithin, root_cell, charged, credited, charge_fault, has_cell, Enters, Leaves, moved, move_answer, first_over, with_quota, superior_of, CountsUsed};
 ghost use Rattle.std.specs.Int.RustNames.{unsigned_abs};
 ghost use Rattle.std.specs.Int.{is_positive};
 
@@ -97,7 +97,8 @@ fn superior_of(t: &Tree, dir: u32) -> u32
 impl Cells {
     /// The root's cell alone, with this quota.
     pub fn new(alloc: Global, root_quota: u32) -> Result<Cells, NoMemory>
-        ensures { IfOk result (λ cells. cells ≡ root_cell root_quota) }
+        ensures cells { IfOk result (λ cells. cells ≡ root_cell root_quota) }
+        ensures fits { IfOk result (λ cells. (volume entry : ℕ) → Fits (root_alone volume entry).nodes cells) }
     {
         let mut directories = column(alloc)?;
         let mut quotas = column(alloc)?;
@@ -167,7 +168,7 @@ impl Cells {
         requires quota { quota_in self.old uid ≡ 0 }
         requires stored { stored_in self.old uid ≡ 0 }
         ensures leaves { Leaves self.old self.new uid }
-        ensures fits { (nodes : List Node) → ((u : ℕ) → u ≢ uid → above (shapes (without uid nodes)) u ≡ above (shapes nodes) u) → Fits nodes self.old → Fits (without uid nodes) self.new }
+        ensures fits { (nodes : List Node) → ((u : ℕ) → u ≢ uid → above (shapes (without uid nodes)) u ≡ above (shapes nodes) u) → length (without uid nodes) + 1 ≡ length nodes → Fits nodes self.old → Fits (without uid nodes) self.new }
     {
         match columns::search(&self.directories, uid) {
             Ok(_) => self.drop_directory(uid),
@@ -249,6 +250,7 @@ impl Cells {
         ensures ok { OnOk result (self.new ≡ charged self.old (above (shapes t.now.nodes) seg) seg) }
         ensures err { OnErr result (self.new ≡ self.old) }
         ensures fits { Fits t.now.nodes self.new }
+        ensures used { OnOk result (CountsUsed t.now.nodes self.new) }
     {
         self.may_charge(t, seg)?;
         let up = t.superiors(seg);
@@ -263,8 +265,9 @@ impl Cells {
         requires segment { is_segment t.now.nodes seg ≡ true }
         requires stored { 0 < stored_in self.old seg }
         requires fits { Fits t.now.nodes self.old }
-        ensures ok { self.new ≡ credited self.old (above (shapes t.now.nodes) seg) seg }
+        ensures cells { self.new ≡ credited self.old (above (shapes t.now.nodes) seg) seg }
         ensures fits { Fits t.now.nodes self.new }
+        ensures used { CountsUsed t.now.nodes self.new }
     {
         let up = t.superiors(seg);
         let at = columns::place(&self.segments, seg);
@@ -357,6 +360,7 @@ impl Cells {
         ensures ok { OnOk result (self.new ≡ moved self.old (above (shapes t.now.nodes)) dir (is_positive amount) (unsigned_abs amount)) }
         ensures err { OnErr result (self.new ≡ self.old) }
         ensures fits { Fits t.now.nodes self.new }
+        ensures used { OnOk result (CountsUsed t.now.nodes self.new) }
         ensures total { sum self.new.quotas ≡ sum self.old.quotas }
     {
         self.may_move(t, dir, amount)?;

@@ -5,6 +5,8 @@ use Rattle.storage_terms.specs.Tree.{is_inferior}
 use Rattle.dir_tree.specs.Nodes.{Branches, is_in}
 use Rattle.dir_tree.specs.Shape.{shapes}
 use Rattle.dir_tree.proofs.KeptLemmas.{entry_present}
+use Rattle.std.proofs.lemmas.List.Edits.{length-remove}
+use Rattle.dir_tree.proofs.NewestLemmas.{length_newest}
 use Rattle.dir_tree.proofs.RemovedLemmas.{removed_at, not_root, named_at}
 use Rattle.dir_tree.proofs.Tree.detach.Goals as goal
 
@@ -36,8 +38,8 @@ invariant_of-self c =
       omega (arith, c.self.invariant.3, c.push_reserved.ensures.capacity),
     )
 
-pub returns : goal.returns
-returns c =
+pub returns-clause-tree : goal.returns-clause-tree
+returns-clause-tree c =
     let at = rw c.deref.ensures.value at c.position_of-at.ensures in
     let left = removed_at c.self.inside.nodes.items c.self.inside.entries.items c.self.inside.free.items c.self.inside.index c.self.inside.next c.self.invariant.0 c.args.uid c.position_of-at.result c.remove-superior.result at.within c.remove-superior.ensures.value at.uid
     (subst (λ (t : Branches). list_any (is_inferior c.args.uid) (shapes t.nodes) ≡ false) (sym c.self.view_is) c.requires.leaf) c.remove.new.self c.remove.ensures.pairs c.remove.ensures.count c.remove.ensures.room in
@@ -47,3 +49,12 @@ pub remove-requires : goal.remove-requires
 remove-requires c =
     let at = rw c.deref.ensures.value at c.position_of-at.ensures in
     record { there = rw c.key_hash-hash.ensures (named_at c.self.inside.nodes.items c.self.inside.entries.items c.self.inside.free.items c.self.inside.index c.self.inside.next c.self.invariant.0 c.position_of-at.result c.remove-superior.result at.within c.remove-superior.ensures.value c.in-Some.superior c.in-Some.is c.index.result.now c.index.ensures) }
+
+pub returns-clause-count : goal.returns-clause-count
+returns-clause-count c =
+    let at = rw c.deref.ensures.value at c.position_of-at.ensures in
+    let within : c.position_of-at.result < length c.self.inside.entries.items = at.within in
+    let fewer : length c.remove-superior.new.self.items + 1 ≡ length c.self.inside.entries.items = ap (λ xs. length xs + 1) c.remove-superior.ensures.items ∙ length-remove c.self.inside.entries.items c.position_of-at.result within in
+    let new = length_newest c.self.inside.nodes.items c.remove-superior.new.self.items in
+    let old = length_newest c.self.inside.nodes.items c.self.inside.entries.items in
+    rw (← c.self.view_is) (omega (arith, fewer, new, old))

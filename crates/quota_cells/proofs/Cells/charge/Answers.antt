@@ -5,7 +5,7 @@ use Rattle.quota_cells.specs.Accounts.{look, covers, with_value, changed_where}
 use Rattle.quota_cells.specs.Cells.{CellMaps, quota_in, load_in, stored_in, Fits, IsTable, charged, charge_fault}
 use Rattle.quota_cells.specs.Columns.{AreThere, IsFalling}
 use Rattle.quota_cells.proofs.ColumnLaws.{length_changed}
-use Rattle.quota_cells.proofs.FitLaws.{there, falls, room_charged, stored_room, room_credited, fits_charged, fits_credited, table_charged, table_credited, not_full, read_stored, stored_at, seamed}
+use Rattle.quota_cells.proofs.FitLaws.{there, falls, room_charged, stored_room, room_credited, fits_charged, fits_credited, table_charged, table_credited, not_full, counts_used, read_stored, stored_at, seamed}
 use Rattle.quota_cells.proofs.Cells.charge.Goals as goal
 
 pub overflow_add-index_mut : goal.overflow_add-index_mut
@@ -76,3 +76,6 @@ returns-clause-fits c =
     let stored : set s.stored c.place-at.result (c.index_mut.result.now + 1) ≡ with_value s.segments s.stored c.args.seg (stored_in s c.args.seg + 1) = stored_at s.segments s.stored c.args.seg c.place-at.result c.index_mut.result.now (λ w. w + 1) c.self.invariant.0.segments_rise c.self.invariant.0.stored_count (rw c.deref.ensures.value at c.place-at.ensures.within) (rw c.deref.ensures.value at c.place-at.ensures.is) c.index_mut.ensures.value in
     let whole : (record { directories = s.directories; quotas = s.quotas; loads = take c.self.inside.loads.len (c.lift.new.loads ++ drop (length c.lift.new.loads) s.loads); segments = s.segments; stored = set s.stored c.place-at.result (c.index_mut.result.now + 1) }) ≡ charged s (above (shapes c.args.t.now.nodes) c.args.seg) c.args.seg = λ i. record { directories = s.directories; quotas = s.quotas; loads = seam i; segments = s.segments; stored = stored i } in
     subst (Fits c.args.t.now.nodes) (sym whole) (fits_charged c.args.t.now.nodes s c.self.invariant.0 fits c.superiors-up.ensures.chains c.args.seg c.requires.segment)
+
+pub returns-clause-used : goal.returns-clause-used
+returns-clause-used c = counts_used c.args.t.now.nodes _ (returns-clause-fits c) c.superiors-up.ensures.chains

@@ -25,4 +25,5 @@ pub returns : goal.returns
 returns c =
     let s : CellMaps = (record { directories = c.self.inside.directories.items; quotas = c.self.inside.quotas.items; loads = c.self.inside.loads.items; segments = c.self.inside.segments.items; stored = c.self.inside.stored.items }) in
     let absent : has_cell s c.args.uid ≡ false = subst (λ (x : CellMaps). has_cell x c.args.uid ≡ false) (sym c.self.view_is) c.requires.absent in
-    rw (← c.self.view_is) (rw (c.insert_at.ensures.items, c.insert_at-in-Err.ensures.items) (enters_segment s c.self.invariant.0 c.args.uid c.in-Err.at absent))
+    let gap = rw c.deref.ensures.value at c.in-Err.ensures.gap in
+    rw (← c.self.view_is) (rw (c.insert_at.ensures.items, c.insert_at-in-Err.ensures.items) (enters_segment s c.self.invariant.0 c.args.uid c.in-Err.at absent gap.within))

@@ -27,7 +27,7 @@ drop_segment-requires-clause-cell c =
     ]
 
 pub returns-in-Ok-clause-fits : goal.returns-in-Ok-clause-fits
-returns-in-Ok-clause-fits c nodes same fits = fits_left nodes c.args.uid c.args.self.now c.drop_directory.new.self fits c.drop_directory.ensures same
+returns-in-Ok-clause-fits c nodes same fewer fits = fits_left nodes c.args.uid c.args.self.now c.drop_directory.new.self fits c.drop_directory.ensures same fewer
 
 pub returns-in-Err-clause-fits : goal.returns-in-Err-clause-fits
-returns-in-Err-clause-fits c nodes same fits = fits_left nodes c.args.uid c.args.self.now c.drop_segment.new.self fits c.drop_segment.ensures same
+returns-in-Err-clause-fits c nodes same fewer fits = fits_left nodes c.args.uid c.args.self.now c.drop_segment.new.self fits c.drop_segment.ensures same fewer

@@ -6,6 +6,7 @@ use Rattle.std.proofs.lemmas.Grind.{common_steps}
 use Rattle.storage_terms.specs.Tree.{above}
 use Rattle.dir_tree.specs.Shape.{shapes}
 use Rattle.quota_cells.specs.Cells.{CellMaps, quota_in, first_over, with_quota, moved, move_answer, giver_of, superior_of}
+use Rattle.quota_cells.proofs.FitLaws.{counts_used}
 use Rattle.quota_cells.proofs.TransferLaws.{answer_ok}
 use Rattle.quota_cells.proofs.Cells.move_quota.Goals as goal
 
@@ -70,3 +71,9 @@ returns-else-is_positive-clause-answer c =
     let answer : c.may_move.result ≡ move_answer c.args.self.now (above (shapes c.args.t.now.nodes)) c.args.dir (is_positive c.args.amount) (unsigned_abs c.args.amount) = rw back at c.may_move.ensures in
     let ok : move_answer c.args.self.now (above (shapes c.args.t.now.nodes)) c.args.dir (is_positive c.args.amount) (unsigned_abs c.args.amount) ≡ Ok tt = sym answer ∙ c.in_ok-may_move.was in
     sym ok
+
+pub returns-then-is_positive-clause-used : goal.returns-then-is_positive-clause-used
+returns-then-is_positive-clause-used c = counts_used c.args.t.now.nodes c.transfer.new.self c.transfer.ensures.fits c.superior_of-superior.ensures.chains
+
+pub returns-else-is_positive-clause-used : goal.returns-else-is_positive-clause-used
+returns-else-is_positive-clause-used c = counts_used c.args.t.now.nodes c.transfer-else-is_positive.new.self c.transfer-else-is_positive.ensures.fits c.superior_of-superior.ensures.chains
