@@ -44,13 +44,13 @@ module _ (nodes : List Node) (n : Node) (old new : CellMaps) (fits : Fits nodes 
   loads_same e =
       enters.counts (λ k. covers (quota_in new) (above (shapes (n ∷ nodes)) k) e)
       ∙ weigh_same (λ k. covers (quota_in new) (above (shapes (n ∷ nodes)) k) e) (λ k. covers (quota_in old) (above (shapes nodes) k) e) old.segments old.stored
-          (λ k h. ap (λ (q : ℕ → ℕ). covers q (above (shapes (n ∷ nodes)) k) e) quotas ∙ ap (λ xs. covers (quota_in old) xs e) (same_up k h))
+      (λ k h. ap (λ (q : ℕ → ℕ). covers q (above (shapes (n ∷ nodes)) k) e) quotas ∙ ap (λ xs. covers (quota_in old) xs e) (same_up k h))
 
   -- nothing lies below the new node
   none_below : load (above (shapes nodes)) (quota_in old) old.segments old.stored n.uid ≡ 0
   none_below = no_weight (λ k. covers (quota_in old) (above (shapes nodes) k) n.uid) old.segments old.stored (λ k h. false_from_ne_true _ (λ is.
       both_ways (has old.directories n.uid) (fits.directories n.uid ∙ not_in_directory nodes n.uid absent)
-          (covered_there (quota_in old) old.directories (above (shapes nodes) k) n.uid (all_there nodes old fits (above (shapes nodes) k) (chains.directories k)) is)))
+      (covered_there (quota_in old) old.directories (above (shapes nodes) k) n.uid (all_there nodes old fits (above (shapes nodes) k) (chains.directories k)) is)))
 
   absent_load : load_in old n.uid ≡ 0
   absent_load = look_absent old.directories old.loads n.uid (fits.directories n.uid ∙ not_in_directory nodes n.uid absent)
@@ -59,23 +59,23 @@ module _ (nodes : List Node) (n : Node) (old new : CellMaps) (fits : Fits nodes 
   fits_entered = record {
     count = (let a = enters.size in let b : length old.directories + length old.segments ≡ length nodes = fits.count in omega (arith, a));
     directories = λ u. enters.directories u ∙ elim (cases_Bool (eqb n.uid u)) [
-        | inl is ↦
-            (let off : has old.directories u ≡ false = fits.directories u ∙ not_in_directory nodes u (subst (λ v. is_in nodes v ≡ false) (eqb-true n.uid u is) absent) in
-            rw (is, off) (elim (cases_Bool n.dir) [ inl t ↦ rw t refl | inr f ↦ rw f refl ]))
-        | inr isnt ↦ rw isnt (elim (cases_Bool n.dir) [ inl t ↦ rw t (fits.directories u) | inr f ↦ rw f (fits.directories u) ])
-      ];
+      | inl is ↦
+          (let off : has old.directories u ≡ false = fits.directories u ∙ not_in_directory nodes u (subst (λ v. is_in nodes v ≡ false) (eqb-true n.uid u is) absent) in
+          rw (is, off) (elim (cases_Bool n.dir) [ inl t ↦ rw t refl | inr f ↦ rw f refl ]))
+      | inr isnt ↦ rw isnt (elim (cases_Bool n.dir) [ inl t ↦ rw t (fits.directories u) | inr f ↦ rw f (fits.directories u) ])
+    ];
     segments = λ u. enters.segments u ∙ elim (cases_Bool (eqb n.uid u)) [
-        | inl is ↦
-            (let off : has old.segments u ≡ false = fits.segments u ∙ not_in_segment nodes u (subst (λ v. is_in nodes v ≡ false) (eqb-true n.uid u is) absent) in
-            rw (is, off) (elim (cases_Bool n.dir) [ inl t ↦ rw t refl | inr f ↦ rw f refl ]))
-        | inr isnt ↦ rw isnt (elim (cases_Bool n.dir) [ inl t ↦ rw t (fits.segments u) | inr f ↦ rw f (fits.segments u) ])
-      ];
+      | inl is ↦
+          (let off : has old.segments u ≡ false = fits.segments u ∙ not_in_segment nodes u (subst (λ v. is_in nodes v ≡ false) (eqb-true n.uid u is) absent) in
+          rw (is, off) (elim (cases_Bool n.dir) [ inl t ↦ rw t refl | inr f ↦ rw f refl ]))
+      | inr isnt ↦ rw isnt (elim (cases_Bool n.dir) [ inl t ↦ rw t (fits.segments u) | inr f ↦ rw f (fits.segments u) ])
+    ];
     loads = λ e there. enters.loads e ∙ elim (cases_eq n.uid e) [
-        | inl same ↦ subst (λ x. load_in old x ≡ load (above (shapes (n ∷ nodes))) (quota_in new) new.segments new.stored x) same (absent_load ∙ sym (loads_same n.uid ∙ none_below))
-        | inr other ↦
-            (let was : has old.directories e ≡ true = sym (enters.directories e ∙ rw (ne_eqb n.uid e other) (elim (cases_Bool n.dir) [ inl t ↦ rw t refl | inr f ↦ rw f refl ])) ∙ there in
-            fits.loads e was ∙ sym (loads_same e))
-      ];
+      | inl same ↦ subst (λ x. load_in old x ≡ load (above (shapes (n ∷ nodes))) (quota_in new) new.segments new.stored x) same (absent_load ∙ sym (loads_same n.uid ∙ none_below))
+      | inr other ↦
+          (let was : has old.directories e ≡ true = sym (enters.directories e ∙ rw (ne_eqb n.uid e other) (elim (cases_Bool n.dir) [ inl t ↦ rw t refl | inr f ↦ rw f refl ])) ∙ there in
+          fits.loads e was ∙ sym (loads_same e))
+    ];
   }
 
 -- ---- a cell less
@@ -116,7 +116,7 @@ module _ (nodes : List Node) (uid : ℕ) (old new : CellMaps) (fits : Fits nodes
   loads_left : (e : ℕ) → load (above (shapes (without uid nodes))) (quota_in new) new.segments new.stored e ≡ load (above (shapes nodes)) (quota_in old) old.segments old.stored e
   loads_left e =
       weigh_same (λ k. covers (quota_in new) (above (shapes (without uid nodes)) k) e) (λ k. covers (quota_in old) (above (shapes nodes) k) e) new.segments new.stored
-          (λ k h. ap (λ (q : ℕ → ℕ). covers q (above (shapes (without uid nodes)) k) e) quotas_left ∙ ap (λ xs. covers (quota_in old) xs e) (same_above k (not_gone k (has old.segments k) (sym (leaves.segments k) ∙ h))))
+      (λ k h. ap (λ (q : ℕ → ℕ). covers q (above (shapes (without uid nodes)) k) e) quotas_left ∙ ap (λ xs. covers (quota_in old) xs e) (same_above k (not_gone k (has old.segments k) (sym (leaves.segments k) ∙ h))))
       ∙ leaves.counts (λ k. covers (quota_in old) (above (shapes nodes) k) e)
 
   pub fits_left : Fits (without uid nodes) new
@@ -163,13 +163,13 @@ module _ (c : CellMaps) (table : IsTable c) (uid i : ℕ) (absent : has_cell c u
     load_count = (let a = length-insert c.directories i uid gap.within in let n : length c.loads ≡ length c.directories = table.load_count in let w : i ≤ length c.directories = gap.within in let b = length-insert c.loads i 0 (omega arith) in omega arith);
     stored_count = table.stored_count;
     apart = λ u h. elim (cases_Bool (eqb uid u)) [
-        | inl is ↦ subst (λ v. has c.segments v ≡ false) (eqb-true uid u is) no_segment
-        | inr isnt ↦ table.apart u (sym ((enters_directory gap.within).directories u ∙ rw isnt refl) ∙ h)
-      ];
+      | inl is ↦ subst (λ v. has c.segments v ≡ false) (eqb-true uid u is) no_segment
+      | inr isnt ↦ table.apart u (sym ((enters_directory gap.within).directories u ∙ rw isnt refl) ∙ h)
+    ];
     within = λ a h is. rw ((enters_directory gap.within).loads a, (enters_directory gap.within).quotas a) (elim (cases_Bool (eqb uid a)) [
-        | inl at ↦ (let none : load_in c a ≡ 0 = look_absent c.directories c.loads a (subst (λ v. has c.directories v ≡ false) (eqb-true uid a at) no_directory) in omega arith)
-        | inr off ↦ table.within a (sym ((enters_directory gap.within).directories a ∙ rw off refl) ∙ h) (subst (λ (q : ℕ → ℕ). is_an_account q a ≡ true) same_quotas is)
-      ]);
+      | inl at ↦ (let none : load_in c a ≡ 0 = look_absent c.directories c.loads a (subst (λ v. has c.directories v ≡ false) (eqb-true uid a at) no_directory) in omega arith)
+      | inr off ↦ table.within a (sym ((enters_directory gap.within).directories a ∙ rw off refl) ∙ h) (subst (λ (q : ℕ → ℕ). is_an_account q a ≡ true) same_quotas is)
+    ]);
     total = (let s = sum_by-insert (λ (x : ℕ). x) c.quotas i 0 in let t : sum c.quotas < 2 ^ 32 = table.total in omega arith);
   }
 
@@ -195,9 +195,9 @@ module _ (c : CellMaps) (table : IsTable c) (uid i : ℕ) (absent : has_cell c u
     load_count = table.load_count;
     stored_count = (let a = length-insert c.segments i uid gap.within in let n : length c.stored ≡ length c.segments = table.stored_count in let w : i ≤ length c.segments = gap.within in let b = length-insert c.stored i 0 (omega arith) in omega arith);
     apart = λ u h. (enters_segment gap.within).segments u ∙ elim (cases_Bool (eqb uid u)) [
-        | inl is ↦ absurd (both_ways (has c.directories u) (subst (λ v. has c.directories v ≡ false) (eqb-true uid u is) no_directory) h)
-        | inr isnt ↦ rw isnt (table.apart u h)
-      ];
+      | inl is ↦ absurd (both_ways (has c.directories u) (subst (λ v. has c.directories v ≡ false) (eqb-true uid u is) no_directory) h)
+      | inr isnt ↦ rw isnt (table.apart u h)
+    ];
     within = table.within;
     total = table.total;
   }
@@ -211,13 +211,13 @@ module _ (c : CellMaps) (table : IsTable c) (uid i : ℕ) where
     size = (let a = length-remove c.directories i lt in omega (arith, a));
     directories = λ u. has_remove c.directories i u table.rising lt ∙ ap (λ x. has c.directories u && not (eqb x u)) is;
     segments = λ u. elim (cases_eq uid u) [
-        | inl same ↦ (let off : has c.segments u ≡ false = table.apart u (subst (λ v. has c.directories v ≡ true) same there) in rw off refl)
-        | inr other ↦ rw (ne_eqb uid u other) (elim (cases_Bool (has c.segments u)) [ inl t ↦ rw t refl | inr f ↦ rw f refl ])
-      ];
+      | inl same ↦ (let off : has c.segments u ≡ false = table.apart u (subst (λ v. has c.directories v ≡ true) same there) in rw off refl)
+      | inr other ↦ rw (ne_eqb uid u other) (elim (cases_Bool (has c.segments u)) [ inl t ↦ rw t refl | inr f ↦ rw f refl ])
+    ];
     quotas = λ d. elim (cases_eq d uid) [
-        | inl same ↦ subst (λ v. look (remove c.directories i) (remove c.quotas i) v ≡ look c.directories c.quotas v) (is ∙ sym same) (look_gone c.directories c.quotas i table.rising lt ∙ sym (ap (look c.directories c.quotas) is ∙ none))
-        | inr other ↦ look_remove c.directories c.quotas i d table.quota_count table.rising lt (λ e. other (e ∙ is))
-      ];
+      | inl same ↦ subst (λ v. look (remove c.directories i) (remove c.quotas i) v ≡ look c.directories c.quotas v) (is ∙ sym same) (look_gone c.directories c.quotas i table.rising lt ∙ sym (ap (look c.directories c.quotas) is ∙ none))
+      | inr other ↦ look_remove c.directories c.quotas i d table.quota_count table.rising lt (λ e. other (e ∙ is))
+    ];
     loads = λ d other. look_remove c.directories c.loads i d table.load_count table.rising lt (λ e. other (e ∙ is));
     stored = λ s. refl;
     counts = λ t. refl;
@@ -248,16 +248,16 @@ module _ (c : CellMaps) (table : IsTable c) (uid i : ℕ) where
   leaves_segment off none lt is = record {
     size = (let a = length-remove c.segments i lt in omega (arith, a));
     directories = λ u. elim (cases_eq uid u) [
-        | inl same ↦ (let gone : has c.directories u ≡ false = subst (λ v. has c.directories v ≡ false) same off in rw gone refl)
-        | inr other ↦ rw (ne_eqb uid u other) (elim (cases_Bool (has c.directories u)) [ inl t ↦ rw t refl | inr f ↦ rw f refl ])
-      ];
+      | inl same ↦ (let gone : has c.directories u ≡ false = subst (λ v. has c.directories v ≡ false) same off in rw gone refl)
+      | inr other ↦ rw (ne_eqb uid u other) (elim (cases_Bool (has c.directories u)) [ inl t ↦ rw t refl | inr f ↦ rw f refl ])
+    ];
     segments = λ u. has_remove c.segments i u table.segments_rise lt ∙ ap (λ x. has c.segments u && not (eqb x u)) is;
     quotas = λ d. refl;
     loads = λ d other. refl;
     stored = λ s. elim (cases_eq s uid) [
-        | inl same ↦ subst (λ v. look (remove c.segments i) (remove c.stored i) v ≡ look c.segments c.stored v) (is ∙ sym same) (look_gone c.segments c.stored i table.segments_rise lt ∙ sym (ap (look c.segments c.stored) is ∙ none))
-        | inr other ↦ look_remove c.segments c.stored i s table.stored_count table.segments_rise lt (λ e. other (e ∙ is))
-      ];
+      | inl same ↦ subst (λ v. look (remove c.segments i) (remove c.stored i) v ≡ look c.segments c.stored v) (is ∙ sym same) (look_gone c.segments c.stored i table.segments_rise lt ∙ sym (ap (look c.segments c.stored) is ∙ none))
+      | inr other ↦ look_remove c.segments c.stored i s table.stored_count table.segments_rise lt (λ e. other (e ∙ is))
+    ];
     counts = λ t. weigh_remove t c.segments c.stored i table.stored_count lt (sym (look_at c.segments c.stored i table.segments_rise lt) ∙ ap (look c.segments c.stored) is ∙ none);
   }
 

@@ -107,9 +107,9 @@ module _ (nodes : List Node) (c : CellMaps) (table : IsTable c) (fits : Fits nod
       let a_there : has c.directories a ≡ true = account_there q c.directories (f s) (there s) ends_s in
       let through : a ≡ account_from f q e = account_through f q (f s) e (chains.chain s) covered in
       rw (fits.loads e e_there, fits.loads a a_there) (weigh_le_on (λ k. covers q (f k) e) (λ k. covers q (f k) a) c.segments c.stored (λ k h k_covered.
-          (let seg : is_segment nodes k ≡ true = sym (fits.segments k) ∙ h in
-          let same : account q (f k) ≡ a = account_through f q (f k) e (chains.chain k) k_covered ∙ sym through in
-          subst (λ b. covers q (f k) b ≡ true) same (account_covers q (f k) (ends k seg)))))
+      (let seg : is_segment nodes k ≡ true = sym (fits.segments k) ∙ h in
+      let same : account q (f k) ≡ a = account_through f q (f k) e (chains.chain k) k_covered ∙ sym through in
+      subst (λ b. covers q (f k) b ≡ true) same (account_covers q (f k) (ends k seg)))))
 
   pub load_up : (s e : ℕ) → is_segment nodes s ≡ true → covers (quota_in c) (f s) e ≡ true → load_in c e ≤ load_in c (account (quota_in c) (f s))
   load_up s e is covered = load_up_from s e (ends s is) covered
@@ -194,7 +194,7 @@ counts_used nodes c fits chains a a_there = elim (cases_Bool (is_an_account (quo
   | inr isnt ↦ rw isnt refl
   | inl is ↦
       rw is (fits.loads a a_there ∙ weigh_same (λ k. covers (quota_in c) (above (shapes nodes) k) a) (λ k. eqb (account (quota_in c) (above (shapes nodes) k)) a) c.segments c.stored
-          (λ k h. (let seg : is_segment nodes k ≡ true = sym (fits.segments k) ∙ h in account_is (quota_in c) (above (shapes nodes) k) a (chains.segments k (segment_there nodes k seg) (segment_not nodes k seg)) is)))
+      (λ k h. (let seg : is_segment nodes k ≡ true = sym (fits.segments k) ∙ h in account_is (quota_in c) (above (shapes nodes) k) a (chains.segments k (segment_there nodes k seg) (segment_not nodes k seg)) is)))
 ]
 
 -- ---- what the code leaves

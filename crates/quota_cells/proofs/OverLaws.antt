@@ -169,9 +169,9 @@ module _ (nodes : List Node) (c : CellMaps) (table : IsTable c) (fits : Fits nod
     stored_count = table.stored_count;
     apart = table.apart;
     within = λ b h is. elim (cases_lt (quota_in c2 b) (load_in c2 b)) [
-        | inr le ↦ le
-        | inl over ↦ absurd (passes (is_over c2) c.directories b h (and_from (is_an_account (quota_in c2) b) (ltb (quota_in c2 b) (load_in c2 b)) is (lt-ltb _ _ over)) none)
-      ];
+      | inr le ↦ le
+      | inl over ↦ absurd (passes (is_over c2) c.directories b h (and_from (is_an_account (quota_in c2) b) (ltb (quota_in c2 b) (load_in c2 b)) is (lt-ltb _ _ over)) none)
+    ];
     total = rw total2 table.total;
   }
 

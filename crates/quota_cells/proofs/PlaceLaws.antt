@@ -49,9 +49,9 @@ look_absent (k ∷ ks) (v ∷ vs) u e = elim (cases_Bool (eqb k u)) [
 
 pub gap_absent : (ks : List ℕ) (u i : ℕ) → IsGap ks u i → has ks u ≡ false
 gap_absent ks u i gap = absent ks u (λ j lt e. elim (cases_lt j i) [
-    | inl before ↦ (let less : get_or ks j 0 < u = gap.below j before in omega arith)
-    | inr after ↦ (let more : u < get_or ks j 0 = gap.above j after lt in omega arith)
-  ])
+  | inl before ↦ (let less : get_or ks j 0 < u = gap.below j before in omega arith)
+  | inr after ↦ (let more : u < get_or ks j 0 = gap.above j after lt in omega arith)
+])
 
 not_falling : (ks : List ℕ) → IsRising ks → (i j : ℕ) → i ≤ j → j < length ks → get_or ks i 0 ≤ get_or ks j 0
 not_falling ks up i j le lt = elim (cases_eq i j) [ inl same ↦ rw same (omega arith) | inr other ↦ (let less : get_or ks i 0 < get_or ks j 0 = up i j (omega arith) lt in omega arith) ]
@@ -153,5 +153,5 @@ module _ (g : ℕ → ℕ) (P : ℕ → Type 0) (ks : List ℕ) (up : IsRising k
     room = still_room zero_q;
     so_far = ext_get_or 0 (changed_where g (covers q xs) ks changed) (changed_where g (covers q (x ∷ xs)) ks ws) (length_changed g (covers q xs) ks changed (sizes ∙ going.loads) ∙ sizes ∙ sym (length_changed g (covers q (x ∷ xs)) ks ws going.loads))
         (λ i lt. same_next zero_q i (let m = length_changed g (covers q xs) ks changed (sizes ∙ going.loads) in let n : length ws ≡ length ks = going.loads in let k = sizes in omega arith))
-    ∙ going.so_far;
+        ∙ going.so_far;
   }

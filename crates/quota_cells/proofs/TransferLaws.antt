@@ -177,27 +177,27 @@ module _ (nodes : List Node) (c : CellMaps) (table : IsTable c) (fits : Fits nod
 
     pub first_is_x : q s ≡ n → s ≢ 1 → is_over m2 x ≡ true → first_over m2 ≡ Some x
     first_is_x all ne over = first_passes (is_over m2) c.directories x table.rising (x_there ne) over (λ b h lt. false_from_ne_true _ (λ o. elim (who b h o) [
-        | inl at_d ↦ (let l : x < s = x_below ne in omega arith)
-        | inr rest ↦ elim rest [ inl at_s ↦ (let l : x < s = x_below ne in omega arith) | inr w ↦ (let e : b ≡ x = w.2 in omega arith) ]
-      ]))
+      | inl at_d ↦ (let l : x < s = x_below ne in omega arith)
+      | inr rest ↦ elim rest [ inl at_s ↦ (let l : x < s = x_below ne in omega arith) | inr w ↦ (let e : b ≡ x = w.2 in omega arith) ]
+    ]))
 
     pub first_is_s : (q s ≡ n → s ≢ 1 → is_over m2 x ≡ false) → is_over m2 s ≡ true → first_over m2 ≡ Some s
     first_is_s not_x over = first_passes (is_over m2) c.directories s table.rising here_s over (λ b h lt. false_from_ne_true _ (λ o. elim (who b h o) [
-        | inl at_d ↦ omega arith
-        | inr rest ↦ elim rest [ inl at_s ↦ omega arith | inr w ↦ both_ways (is_over m2 x) (not_x w.0 w.1) (subst (λ y. is_over m2 y ≡ true) w.2 o) ]
-      ]))
+      | inl at_d ↦ omega arith
+      | inr rest ↦ elim rest [ inl at_s ↦ omega arith | inr w ↦ both_ways (is_over m2 x) (not_x w.0 w.1) (subst (λ y. is_over m2 y ≡ true) w.2 o) ]
+    ]))
 
     pub first_is_d : (q s ≡ n → s ≢ 1 → is_over m2 x ≡ false) → is_over m2 s ≡ false → is_over m2 d ≡ true → first_over m2 ≡ Some d
     first_is_d not_x not_s over = first_passes (is_over m2) c.directories d table.rising here_d over (λ b h lt. false_from_ne_true _ (λ o. elim (who b h o) [
-        | inl at_d ↦ omega arith
-        | inr rest ↦ elim rest [ inl at_s ↦ both_ways (is_over m2 s) not_s (subst (λ y. is_over m2 y ≡ true) at_s o) | inr w ↦ both_ways (is_over m2 x) (not_x w.0 w.1) (subst (λ y. is_over m2 y ≡ true) w.2 o) ]
-      ]))
+      | inl at_d ↦ omega arith
+      | inr rest ↦ elim rest [ inl at_s ↦ both_ways (is_over m2 s) not_s (subst (λ y. is_over m2 y ≡ true) at_s o) | inr w ↦ both_ways (is_over m2 x) (not_x w.0 w.1) (subst (λ y. is_over m2 y ≡ true) w.2 o) ]
+    ]))
 
     pub none_down : (q s ≡ n → s ≢ 1 → is_over m2 x ≡ false) → is_over m2 s ≡ false → is_over m2 d ≡ false → first_over m2 ≡ None
     none_down not_x not_s not_d = none_passes (is_over m2) c.directories (λ b h. false_from_ne_true _ (λ o. elim (who b h o) [
-        | inl at_d ↦ both_ways (is_over m2 d) not_d (subst (λ y. is_over m2 y ≡ true) at_d o)
-        | inr rest ↦ elim rest [ inl at_s ↦ both_ways (is_over m2 s) not_s (subst (λ y. is_over m2 y ≡ true) at_s o) | inr w ↦ both_ways (is_over m2 x) (not_x w.0 w.1) (subst (λ y. is_over m2 y ≡ true) w.2 o) ]
-      ]))
+      | inl at_d ↦ both_ways (is_over m2 d) not_d (subst (λ y. is_over m2 y ≡ true) at_d o)
+      | inr rest ↦ elim rest [ inl at_s ↦ both_ways (is_over m2 s) not_s (subst (λ y. is_over m2 y ≡ true) at_s o) | inr w ↦ both_ways (is_over m2 x) (not_x w.0 w.1) (subst (λ y. is_over m2 y ≡ true) w.2 o) ]
+    ]))
 
     -- the test that the code makes
     abbrev pub above_test : Bool

@@ -98,7 +98,14 @@ pub(crate) fn lower(loads: &mut [u32], directories: &[u32], quotas: &[u32], up: 
 }
 
 /// What becomes of the loads where a directory below these is an account from now on, or isn't one any more.
-pub(crate) fn shift(loads: &mut [u32], directories: &[u32], quotas: &[u32], up: &[u32], directory: u32, pages: u32)
+pub(crate) fn shift(
+    loads: &mut [u32],
+    directories: &[u32],
+    quotas: &[u32],
+    up: &[u32],
+    directory: u32,
+    pages: u32,
+)
     requires rising { IsRising directories.now }
     requires quotas { length quotas.now ≡ length directories.now }
     requires loads { length loads.old ≡ length directories.now }
@@ -120,7 +127,14 @@ pub(crate) fn shift(loads: &mut [u32], directories: &[u32], quotas: &[u32], up: 
 }
 
 /// Gives a directory below these another quota, with what becomes of the loads.
-pub(crate) fn change(quotas: &mut [u32], loads: &mut [u32], directories: &[u32], up: &[u32], directory: u32, pages: u32)
+pub(crate) fn change(
+    quotas: &mut [u32],
+    loads: &mut [u32],
+    directories: &[u32],
+    up: &[u32],
+    directory: u32,
+    pages: u32,
+)
     requires rising { IsRising directories.now }
     requires quotas { length quotas.old ≡ length directories.now }
     requires loads { length loads.old ≡ length directories.now }
@@ -138,7 +152,17 @@ pub(crate) fn change(quotas: &mut [u32], loads: &mut [u32], directories: &[u32],
 }
 
 /// Gives one directory more quota, and then another less, with what becomes of the loads.
-pub(crate) fn transfer(quotas: &mut [u32], loads: &mut [u32], directories: &[u32], above_getter: &[u32], getter: u32, more: u32, above_giver: &[u32], giver: u32, less: u32)
+pub(crate) fn transfer(
+    quotas: &mut [u32],
+    loads: &mut [u32],
+    directories: &[u32],
+    above_getter: &[u32],
+    getter: u32,
+    more: u32,
+    above_giver: &[u32],
+    giver: u32,
+    less: u32,
+)
     requires rising { IsRising directories.now }
     requires quotas { length quotas.old ≡ length directories.now }
     requires loads { length loads.old ≡ length directories.now }

@@ -1,4 +1,15 @@
-//! Quota cells.
+//! Quota cells: the quota of each directory, and the stored pages of each segment (Organick 1972).
+//!
+//! A page is charged to the nearest superior directory with a quota, which is an account, else to the root, which
+//! always is one. For each directory a load is kept besides, the stored pages below it that no lower account takes:
+//! an account's used count is its load, and any other directory uses nothing. So where quota moves, and a directory
+//! becomes an account or is one no more, its load is taken from the directories above it up to the nearest account,
+//! or added there, and no page is counted again.
+//!
+//! Costs: `new` takes all memory, once: five numbers of 4 bytes for each of 4097 cells. A look-up halves a list of
+//! uids: at most 13 looks. `charge` and `credit` go up from the segment to its account, at most 9 directories, with
+//! one look-up each. `move_quota` goes up twice so, and looks at no more than three accounts to find one that would
+//! be above its quota. `enter` and `leave` move a part of the lists by one place. None but `new` takes memory.
 #![tactic(auto)]
 
 ghost use Rattle.std.specs.Prelude.{◌≡◌, ◌≢◌, ◌<◌, ◌≤◌, ◌+◌, ◌-◌, ◌^◌, ◌==◌, ◌&&◌, ◌||◌, not, ℕ, Bool, true, false, Some, None, List, length, IfOk, IfErr, IfSome, IfNone, OnOk, OnErr, IsErr, sum, if◌then◌else◌, [], ◌∷◌, vec_capacity};
@@ -13,6 +24,8 @@ ghost use Rattle.std.specs.Int.{is_positive};
 
 mod columns;
 mod moves;
+#[cfg(test)]
+mod tests;
 
 use dir_tree::{ROOT, Tree};
 use std::alloc::{AllocError, Global};
@@ -50,7 +63,12 @@ pub enum MoveFault {
 /// The most cells.
 pub const CELLS: usize = 4097;
 
-/// Quota cells.
+/// Quota cells (Organick 1972).
+///
+/// Contracts see a finite map from directory to quota, one from segment to stored pages, and one from directory to
+/// load. The cells fit a tree (`Fits`) where its directories and segments are exactly the uids with a cell, and each
+/// load is the count from scratch in that tree, with the quotas and stored pages that the cells hold. Each account is
+/// within its quota at all times, and the sum of quotas is what the root had at first.
 #[derive(Debug, Drop)]
 pub struct Cells {
     directories: Vec<u32>,
@@ -95,7 +113,10 @@ fn superior_of(t: &Tree, dir: u32) -> u32
 }
 
 impl Cells {
-    /// The root's cell alone, with this quota.
+    /// The root's cell alone, with this quota, in pages. They fit the tree of the root alone.
+    ///
+    /// # Errors
+    /// `NoMemory` is want of memory.
     pub fn new(alloc: Global, root_quota: u32) -> Result<Cells, NoMemory>
         ensures cells { IfOk result (λ cells. cells ≡ root_cell root_quota) }
         ensures fits { IfOk result (λ cells. (volume entry : ℕ) → Fits (root_alone volume entry).nodes cells) }
@@ -117,7 +138,8 @@ impl Cells {
         })
     }
 
-    /// Adds an empty cell.
+    /// Adds an empty cell for a new directory or segment. Where the cells fitted the tree before it was added, they
+    /// fit the tree with it.
     pub fn enter(&mut self, uid: u32, dir: bool)
         requires room { length self.old.directories + length self.old.segments < 4097 }
         requires absent { has_cell self.old uid ≡ false }
@@ -162,7 +184,8 @@ impl Cells {
         }
     }
 
-    /// Drops an empty cell.
+    /// Drops the cell of a directory without quota, or of a segment without stored pages. Where the cells fitted the
+    /// tree before the node was taken out, they fit the tree without it.
     pub fn leave(&mut self, uid: u32)
         requires cell { has_cell self.old uid ≡ true }
         requires quota { quota_in self.old uid ≡ 0 }
@@ -200,7 +223,7 @@ impl Cells {
         self.stored.remove(at);
     }
 
-    /// The quota of a directory.
+    /// The quota of a directory, in pages; 0 where it is no account of its own.
     pub fn quota(&self, d: u32) -> u32
         requires { has self.now.directories d ≡ true }
         ensures { result ≡ quota_in self.now d }
@@ -228,6 +251,9 @@ impl Cells {
     }
 
     /// What `charge` would refuse.
+    ///
+    /// # Errors
+    /// `Full` exactly where the account of the segment has used all of its quota.
     pub fn may_charge(&self, t: &Tree, seg: u32) -> Result<(), Full>
         requires segment { is_segment t.now.nodes seg ≡ true }
         requires fits { Fits t.now.nodes self.now }
@@ -242,7 +268,10 @@ impl Cells {
         Ok(())
     }
 
-    /// Counts one more stored page of a segment.
+    /// Counts one more stored page of a segment, and charges its account for it.
+    ///
+    /// # Errors
+    /// `Full` exactly where the account of the segment has used all of its quota; then nothing is changed.
     pub fn charge(&mut self, t: &Tree, seg: u32) -> Result<(), Full>
         requires segment { is_segment t.now.nodes seg ≡ true }
         requires fits { Fits t.now.nodes self.old }
@@ -256,11 +285,17 @@ impl Cells {
         let up = t.superiors(seg);
         let at = columns::place(&self.segments, seg);
         self.stored[at] += 1;
-        columns::lift(&mut self.loads, &self.directories, &self.quotas, up.as_slice(), 1);
+        columns::lift(
+            &mut self.loads,
+            &self.directories,
+            &self.quotas,
+            up.as_slice(),
+            1,
+        );
         Ok(())
     }
 
-    /// Counts one stored page of a segment less.
+    /// Counts one stored page of a segment less, to the credit of the account that it has now.
     pub fn credit(&mut self, t: &Tree, seg: u32)
         requires segment { is_segment t.now.nodes seg ≡ true }
         requires stored { 0 < stored_in self.old seg }
@@ -272,10 +307,20 @@ impl Cells {
         let up = t.superiors(seg);
         let at = columns::place(&self.segments, seg);
         self.stored[at] -= 1;
-        columns::lower(&mut self.loads, &self.directories, &self.quotas, up.as_slice(), 1);
+        columns::lower(
+            &mut self.loads,
+            &self.directories,
+            &self.quotas,
+            up.as_slice(),
+            1,
+        );
     }
 
     /// What `move_quota` would refuse.
+    ///
+    /// # Errors
+    /// `TooLittle` exactly where the giver's quota is below the amount; else `Over` exactly where an account would
+    /// have more stored pages than its quota, with the least uid of such.
     pub fn may_move(&self, t: &Tree, dir: u32, amount: i32) -> Result<(), MoveFault>
         requires directory { is_directory t.now.nodes dir ≡ true }
         requires branch { dir ≢ 1 }
@@ -350,7 +395,12 @@ impl Cells {
         Ok(())
     }
 
-    /// Moves quota between a directory and its superior.
+    /// Moves quota between a directory and its immediate superior: a positive amount down to the directory, a
+    /// negative one up from it. Used counts are those of the new accounts from then on.
+    ///
+    /// # Errors
+    /// `TooLittle` exactly where the giver's quota is below the amount; else `Over` exactly where an account would
+    /// have more stored pages than its quota, with the least uid of such. Then nothing is changed.
     pub fn move_quota(&mut self, t: &Tree, dir: u32, amount: i32) -> Result<(), MoveFault>
         requires directory { is_directory t.now.nodes dir ≡ true }
         requires branch { dir ≢ 1 }

@@ -49,7 +49,7 @@ invariant_of-self c =
     let seam : take c.self.inside.loads.len (c.lower.new.loads ++ drop (length c.lower.new.loads) s.loads) ≡ changed_where (λ w. w - 1) (covers (quota_in s) (above (shapes c.args.t.now.nodes) c.args.seg)) s.directories s.loads = seamed c.lower.new.loads s.loads _ c.self.inside.loads.len loads (length_changed (λ w. w - 1) (covers (quota_in s) (above (shapes c.args.t.now.nodes) c.args.seg)) s.directories s.loads size) (omega (arith, c.self.inside.loads.ok.0)) in
     let stored : set s.stored c.place-at.result (c.index_mut.result.now - 1) ≡ with_value s.segments s.stored c.args.seg (stored_in s c.args.seg - 1) = stored_at s.segments s.stored c.args.seg c.place-at.result c.index_mut.result.now (λ w. w - 1) c.self.invariant.0.segments_rise c.self.invariant.0.stored_count (rw c.deref.ensures.value at c.place-at.ensures.within) (rw c.deref.ensures.value at c.place-at.ensures.is) c.index_mut.ensures.value in
     let whole : (record { directories = s.directories; quotas = s.quotas; loads = take c.self.inside.loads.len (c.lower.new.loads ++ drop (length c.lower.new.loads) s.loads); segments = s.segments; stored = set s.stored c.place-at.result (c.index_mut.result.now - 1) }) ≡ credited s (above (shapes c.args.t.now.nodes) c.args.seg) c.args.seg = λ i. record { directories = s.directories; quotas = s.quotas; loads = seam i; segments = s.segments; stored = stored i } in
-    (subst IsTable (sym whole) (table_credited c.args.t.now.nodes s c.self.invariant.0 fits c.superiors-up.ensures.chains c.args.seg c.requires.segment ), c.self.invariant.1, c.self.invariant.2, c.self.invariant.3, c.self.invariant.4, c.self.invariant.5)
+    (subst IsTable (sym whole) (table_credited c.args.t.now.nodes s c.self.invariant.0 fits c.superiors-up.ensures.chains c.args.seg c.requires.segment), c.self.invariant.1, c.self.invariant.2, c.self.invariant.3, c.self.invariant.4, c.self.invariant.5)
 
 pub returns-clause-cells : goal.returns-clause-cells
 returns-clause-cells c =
