@@ -1,8 +1,8 @@
 -- What is above the nodes of a tree is a chain that ends at the root.
-use Rattle.std.proofs.Common.{◌≡◌, ◌≢◌, ℕ, suc, zero, ◌+◌, ◌<◌, ◌≤◌, Bool, true, false, cond, eqb, List, [], ◌∷◌, Option, Some, None, refl, sym, ap, subst, ◌∙◌, arith, inl, inr, ◌⊎◌, is_some}
+use Rattle.std.proofs.Common.{◌≡◌, ◌≢◌, ℕ, suc, zero, ◌<◌, ◌≤◌, true, false, cond, eqb, List, [], ◌∷◌, Option, Some, None, refl, sym, ap, subst, ◌∙◌, arith, inl, inr, ◌⊎◌, is_some}
 use Rattle.std.specs.List.{find}
 use Rattle.std.specs.Option.{option_and_then}
-use Rattle.std.proofs.lemmas.Bool.{cases_Bool, cases_eq, both_ways}
+use Rattle.std.proofs.lemmas.Bool.{cases_Bool, both_ways}
 use Rattle.storage_terms.specs.Tree.{Node as Term, above, has_directory, node_in, step_up}
 use Rattle.dir_tree.specs.Shape.{IsTree, AreUnder, IsChain, AreDirectories, EndsAtRoot, HasChains}
 use Rattle.dir_tree.proofs.TreeLemmas.{superior_in, IsUp, superior_up, above_once, root_only, root_directory}

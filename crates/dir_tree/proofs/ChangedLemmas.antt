@@ -1,5 +1,5 @@
 -- What a change of a node, which keeps its shape, leaves of the tables behind a tree.
-use Rattle.std.proofs.Common.{◌≡◌, ◌≢◌, ℕ, suc, ◌<◌, [], ◌∷◌, ◌++◌, arith, Bool, true, false, eqb, if◌then◌else◌, List, length, map, Option, Some, None, refl, sym, ap, subst, ◌∙◌, get_or, set, inl, inr}
+use Rattle.std.proofs.Common.{◌≡◌, ◌≢◌, ℕ, suc, ◌<◌, [], ◌∷◌, ◌++◌, arith, eqb, if◌then◌else◌, List, length, Some, refl, sym, ap, subst, ◌∙◌, get_or, set, inl, inr}
 use Rattle.std.proofs.lemmas.Bool.{cases_eq, eq-eqb}
 use Rattle.std.proofs.lemmas.List.{get_or-set_same, get_or-set_other, length-set, map-append, get_or_read}
 use Rattle.storage_terms.specs.Tree.{Node as Term}

@@ -1,8 +1,8 @@
 -- The first node that passes a test, in a list that is mapped or joined.
-use Rattle.std.proofs.Common.{◌≡◌, ◌≢◌, ℕ, suc, zero, ◌+◌, ◌<◌, ◌≤◌, Bool, true, false, cond, eqb, not, List, [], ◌∷◌, ◌++◌, length, map, Option, Some, None, refl, sym, ap, subst, ◌∙◌, arith, get_or, set, ◌⊎◌, inl, inr, is_some}
+use Rattle.std.proofs.Common.{◌≡◌, ◌≢◌, ℕ, Bool, true, false, cond, List, [], ◌∷◌, ◌++◌, map, Option, Some, None, refl, ap, ◌∙◌, ◌⊎◌, inl, inr, is_some}
 use Rattle.std.specs.List.{find, filter, list_any}
 use Rattle.std.specs.Option.{option_map}
-use Rattle.std.proofs.lemmas.Bool.{cases_Bool, cases_eq, both_ways, eqb-true, true_from_ne_false}
+use Rattle.std.proofs.lemmas.Bool.{cases_Bool, true_from_ne_false}
 use Rattle.storage_terms.specs.Tree.{Node as Term, branch_in, is_branch}
 
 pub find_map : {X Y : Type 0} (p : Y → Bool) (f : X → Y) (xs : List X) → find p (map f xs) ≡ option_map f (find (λ x. p (f x)) xs)

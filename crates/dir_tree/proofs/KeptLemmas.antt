@@ -1,24 +1,20 @@
 -- What a new branch, a branch less, and a change of a node leave of the tables behind a tree.
-use Rattle.std.proofs.Common.{◌≡◌, ◌≢◌, ℕ, suc, zero, ◌+◌, ◌-◌, ◌<◌, ◌≤◌, Bool, true, false, cond, eqb, leb, not, ◌&&◌, if◌then◌else◌, List, [], ◌∷◌, ◌++◌, length, map, take, Option, Some, None, refl, sym, ap, subst, ◌∙◌, arith, get_or, set, inl, inr, ◌⊎◌, is_some, IfSome}
-use Rattle.std.specs.Prelude.{◌↔◌}
-use Rattle.std.specs.List.{find, filter, remove, list_any}
+use Rattle.std.proofs.Common.{◌≡◌, ◌≢◌, ℕ, suc, ◌<◌, Bool, true, false, eqb, leb, ◌&&◌, List, [], ◌∷◌, ◌++◌, length, Option, Some, None, refl, sym, ap, subst, ◌∙◌, arith, get_or, inl, inr, is_some, IfSome}
+use Rattle.std.specs.List.{find, list_any}
 use Rattle.std.specs.Option.{option_map, option_and_then}
-use Rattle.std.proofs.lemmas.Bool.{cases_Bool, cases_eq, cases_lt, cases_order, both_ways, le-leb, eq-eqb, ne_eqb, eqb-true, leb-false, and_from}
-use Rattle.std.proofs.lemmas.Bool.Decides.{nat_tests}
-use Rattle.std.proofs.lemmas.List.{length-map, length_push, get_or_append_left, get_or_push, get_or-take, length-take, get_or-set_same, get_or-set_other, length-set, map-append, get_or_read}
-use Rattle.storage_terms.specs.Tree.{Node as Term, above, branch_in, is_branch, is_inferior, step_up, has_directory}
+use Rattle.std.proofs.lemmas.Bool.{cases_Bool, cases_lt, cases_order, both_ways, le-leb, eq-eqb, ne_eqb, eqb-true, leb-false, and_from}
+use Rattle.std.proofs.lemmas.List.{map-append, get_or_read}
+use Rattle.storage_terms.specs.Tree.{Node as Term, above, branch_in, is_branch, is_inferior, has_directory}
 use Rattle.dir_tree.specs.declared.node.Node.{Node}
-use Rattle.dir_tree.specs.declared.node.AddFault.{AddFault}
 use Rattle.dir_tree.specs.declared.node.AddFault.TheVariants as add_fault
 use Rattle.dir_tree.specs.declared.entries.Entry.{Entry}
 use Rattle.dir_tree.specs.Index.{Pairs, HasPair, key_hash, node_at, no_node}
-use Rattle.dir_tree.specs.Nodes.{node_of, is_in, is_directory, is_segment, without, with_changed, add_fault_of}
-use Rattle.dir_tree.specs.Shape.{shape, shapes, AreBelow, IsBranch, IsTree}
-use Rattle.dir_tree.specs.Kept.{no_entry, entry_at, newest, place_for, IsNamed, IsPlace, IsKept, HasEntry, IsAscending}
-use Rattle.dir_tree.proofs.EditLemmas.{each_pushed, was, was_other, was_up, now, was_now, at_was, fewer, was_within, now_within, each_left}
-use Rattle.dir_tree.proofs.FindLemmas.{IsMember, member_parts, member_map, member_found, branch_found, any_member, any_found, find_map, found_member, found_passes, filter_map_same}
-use Rattle.dir_tree.proofs.NewestLemmas.{node_of_entry, none_newest, find_newest, member_newest, newest_same, newest_push, length_newest, newest_changed, newest_remove}
-use Rattle.dir_tree.proofs.TreeLemmas.{left, tree_left, superior_in, lies, only_branch, is_below, not_below, IsUp}
+use Rattle.dir_tree.specs.Nodes.{node_of, is_in, is_directory, is_segment, add_fault_of}
+use Rattle.dir_tree.specs.Shape.{shape, shapes, AreBelow}
+use Rattle.dir_tree.specs.Kept.{entry_at, newest, IsNamed, IsKept, HasEntry}
+use Rattle.dir_tree.proofs.FindLemmas.{IsMember, member_parts, member_map, member_found, branch_found, any_member, any_found, find_map, found_member, found_passes}
+use Rattle.dir_tree.proofs.NewestLemmas.{node_of_entry, none_newest, find_newest, member_newest}
+use Rattle.dir_tree.proofs.TreeLemmas.{superior_in, lies, only_branch, is_below, not_below, IsUp}
 
 -- ---- nodes and their shapes
 

@@ -1,9 +1,9 @@
 -- What a branch less leaves of the tables behind a tree.
-use Rattle.std.proofs.Common.{◌≡◌, ◌≢◌, ℕ, ◌+◌, ◌-◌, ◌<◌, ◌≤◌, Bool, true, false, eqb, not, List, [], ◌∷◌, ◌++◌, length, map, Option, Some, None, refl, sym, ap, subst, ◌∙◌, arith, get_or, inl, inr}
+use Rattle.std.proofs.Common.{◌≡◌, ◌≢◌, ℕ, ◌+◌, ◌<◌, ◌≤◌, false, eqb, not, List, [], ◌∷◌, ◌++◌, length, Option, Some, None, refl, sym, ap, subst, ◌∙◌, arith, get_or, inl, inr}
 use Rattle.std.specs.Prelude.{◌↔◌}
-use Rattle.std.specs.List.{find, filter, remove, list_any}
+use Rattle.std.specs.List.{find, remove, list_any}
 use Rattle.std.specs.Option.{option_map}
-use Rattle.std.proofs.lemmas.Bool.{cases_eq, cases_lt, eq-eqb, ne_eqb, not_from_true, not_from_false}
+use Rattle.std.proofs.lemmas.Bool.{cases_lt, eq-eqb, not_from_true, not_from_false}
 use Rattle.std.proofs.lemmas.List.{get_or_read, length_push, get_or_append_left, get_or_push}
 use Rattle.storage_terms.specs.Tree.{is_inferior}
 use Rattle.dir_tree.specs.declared.node.Node.{Node}
@@ -15,7 +15,7 @@ use Rattle.dir_tree.specs.Kept.{no_entry, entry_at, newest, IsNamed, IsPlace, Is
 use Rattle.dir_tree.proofs.EditLemmas.{each_pushed, each_left, was, was_up, was_other, now, was_now, at_was, fewer, was_within, now_within}
 use Rattle.dir_tree.proofs.FindLemmas.{filter_map_same, find_map}
 use Rattle.dir_tree.proofs.NewestLemmas.{node_of_entry, newest_remove}
-use Rattle.dir_tree.proofs.TreeLemmas.{left, tree_left, root_only}
+use Rattle.dir_tree.proofs.TreeLemmas.{tree_left, root_only}
 use Rattle.dir_tree.proofs.KeptLemmas.{apart_places, not_of, node_found}
 
 module _ (nodes : List Node) (es : List Entry) (free : List ℕ) (index : Pairs) (next : ℕ) (k : IsKept nodes es free index next) (i : ℕ) (within : i < length es) (index' : Pairs)

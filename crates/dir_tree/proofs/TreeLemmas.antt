@@ -1,14 +1,14 @@
 -- The laws of a tree: what is above a node, how deep it lies, and what a branch more or less leaves.
-use Rattle.std.proofs.Common.{◌≡◌, ◌≢◌, ℕ, suc, zero, ◌+◌, ◌<◌, ◌≤◌, Bool, true, false, cond, eqb, not, ◌&&◌, ◌||◌, List, [], ◌∷◌, ◌++◌, length, map, Option, Some, None, refl, sym, ap, subst, ◌∙◌, arith, inl, inr, is_some}
+use Rattle.std.proofs.Common.{◌≡◌, ◌≢◌, ℕ, ◌<◌, ◌≤◌, true, false, cond, eqb, not, List, [], ◌∷◌, length, Option, Some, None, refl, sym, ap, subst, ◌∙◌, arith, inl, inr}
 use Rattle.std.specs.List.{find, filter, list_any}
 use Rattle.std.specs.Str.{bytes_eq}
-use Rattle.std.specs.Option.{option_map, option_and_then}
-use Rattle.std.proofs.lemmas.Bool.{cases_Bool, cases_eq, both_ways, eqb-true, eq-eqb, ne_eqb, eqb-false, and_parts, or_parts}
-use Rattle.std.proofs.lemmas.Option.{none-some, same_Some}
+use Rattle.std.specs.Option.{option_and_then}
+use Rattle.std.proofs.lemmas.Bool.{cases_Bool, cases_eq, both_ways, eqb-true, eq-eqb, ne_eqb, and_parts, or_parts}
+use Rattle.std.proofs.lemmas.Option.{same_Some}
 use Rattle.std.proofs.lemmas.Slice.Eq.{bytes_eq-Decides}
 use Rattle.storage_terms.specs.Tree.{Node as Term, above, branch_in, is_branch, is_inferior, step_up, has_directory}
-use Rattle.dir_tree.specs.Shape.{AreBelow, IsBranch, IsRoot, Joins, IsTree}
-use Rattle.dir_tree.proofs.FindLemmas.{IsMember, branch_found, found_passes, found_member, member_found}
+use Rattle.dir_tree.specs.Shape.{AreBelow, IsBranch, Joins, IsTree}
+use Rattle.dir_tree.proofs.FindLemmas.{IsMember, branch_found, member_found}
 
 -- the superior of a node
 abbrev pub superior_in : List Term → ℕ → Option ℕ

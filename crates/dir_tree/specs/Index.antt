@@ -1,5 +1,5 @@
 -- The index of branches by superior and name.
-use Rattle.std.specs.Prelude.{false, ◌≡◌, ◌≢◌, ℕ, ◌+◌, ◌*◌, ◌%◌, ◌^◌, ◌<◌, ◌≤◌, List, [], length, Option, Some, None, slice_index_or}
+use Rattle.std.specs.Prelude.{false, ◌≡◌, ◌≢◌, ℕ, ◌+◌, ◌*◌, ◌%◌, ◌^◌, ◌<◌, ◌≤◌, List, [], length, None, slice_index_or}
 use Rattle.std.specs.List.{fold}
 use Rattle.dir_tree.specs.declared.node.Node.{Node}
 

@@ -1,6 +1,6 @@
 -- What holds of every tree. It speaks of uids, superiors, names and kinds alone, so no change of a length, a home or
 -- an access control list touches it.
-use Rattle.std.specs.Prelude.{◌≡◌, ◌≢◌, ℕ, ◌<◌, ◌≤◌, Bool, true, false, is_some, List, [], ◌∷◌, length, map, Option, Some, None}
+use Rattle.std.specs.Prelude.{◌≡◌, ◌≢◌, ℕ, ◌<◌, ◌≤◌, true, false, is_some, List, [], ◌∷◌, length, map, Option, Some, None}
 use Rattle.storage_terms.specs.Tree.{Node as Term, above, branch_in, has_directory, node_in}
 use Rattle.dir_tree.specs.declared.node.Node.{Node}
 

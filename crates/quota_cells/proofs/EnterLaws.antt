@@ -1,18 +1,18 @@
 -- What a new cell, and a cell less, leave.
-use Rattle.std.proofs.Common.{◌≡◌, ◌≢◌, ℕ, ◌+◌, ◌<◌, ◌≤◌, ◌^◌, Bool, true, false, cond, eqb, not, ◌&&◌, ◌||◌, if◌then◌else◌, List, [], ◌∷◌, length, map, Option, Some, None, refl, sym, ap, subst, ◌∙◌, arith, get_or, inl, inr, is_some}
-use Rattle.std.specs.List.{insert, remove, filter, find, sum}
-use Rattle.std.proofs.lemmas.Bool.{cases_Bool, cases_eq, both_ways, eqb-true, eq-eqb, ne_eqb, or_cases, or_parts, and_parts, or_right, or_left, false_from_ne_true}
+use Rattle.std.proofs.Common.{◌≡◌, ◌≢◌, ℕ, ◌+◌, ◌<◌, ◌≤◌, ◌^◌, Bool, true, false, eqb, not, ◌&&◌, List, [], ◌∷◌, length, refl, sym, ap, subst, ◌∙◌, arith, get_or, inl, inr}
+use Rattle.std.specs.List.{insert, remove, sum}
+use Rattle.std.proofs.lemmas.Bool.{cases_Bool, cases_eq, both_ways, eqb-true, eq-eqb, ne_eqb, or_parts, and_parts, or_right, or_left, false_from_ne_true}
 use Rattle.std.proofs.lemmas.List.Edits.{length-insert, length-remove}
 use Rattle.std.proofs.lemmas.List.Sums.{sum_by-insert, sum_by-remove}
-use Rattle.storage_terms.specs.Tree.{Node as Term, above, has_directory}
+use Rattle.storage_terms.specs.Tree.{above}
 use Rattle.dir_tree.specs.declared.node.Node.{Node}
 use Rattle.dir_tree.specs.Nodes.{is_directory, is_segment, is_in, without}
-use Rattle.dir_tree.specs.Shape.{shape, shapes, HasChains, AreUnder, AreDirectories}
+use Rattle.dir_tree.specs.Shape.{shapes, HasChains}
 use Rattle.quota_cells.specs.Accounts.{look, has, covers, weigh, load, is_an_account}
-use Rattle.quota_cells.specs.Cells.{CellMaps, quota_in, load_in, stored_in, Fits, AreWithin, IsTable, Enters, Leaves, IsRising, has_cell}
-use Rattle.quota_cells.specs.Columns.{IsGap, AreThere}
+use Rattle.quota_cells.specs.Cells.{CellMaps, quota_in, load_in, stored_in, Fits, IsTable, Enters, Leaves, has_cell}
+use Rattle.quota_cells.specs.Columns.{IsGap}
 use Rattle.quota_cells.proofs.ColumnLaws.{weigh_same}
-use Rattle.quota_cells.proofs.PlaceLaws.{gap_absent, look_at, look_absent}
+use Rattle.quota_cells.proofs.PlaceLaws.{look_at, look_absent}
 use Rattle.quota_cells.proofs.FitLaws.{all_there, covered_there}
 use Rattle.quota_cells.proofs.EditLaws.{has_insert, look_insert, weigh_insert, has_remove, look_remove, look_gone, weigh_remove, rising_insert, rising_remove}
 

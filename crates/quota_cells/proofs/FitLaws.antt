@@ -1,18 +1,18 @@
 -- What keeps the cells fit for a tree.
-use Rattle.std.proofs.Common.{◌≡◌, ◌≢◌, ℕ, suc, zero, ◌+◌, ◌-◌, ◌<◌, ◌≤◌, ◌^◌, Bool, true, false, cond, eqb, not, ◌&&◌, ◌||◌, if◌then◌else◌, List, [], ◌∷◌, length, refl, sym, ap, subst, ◌∙◌, arith, inl, inr, is_some, ◌++◌, take, drop, set, get_or, Ok}
+use Rattle.std.proofs.Common.{◌≡◌, ◌≢◌, ℕ, ◌+◌, ◌-◌, ◌<◌, ◌≤◌, ◌^◌, true, false, eqb, not, List, [], ◌∷◌, length, refl, sym, ap, subst, ◌∙◌, arith, inl, inr, is_some, ◌++◌, take, drop, set, get_or, Ok}
 use Rattle.std.specs.List.{sum}
-use Rattle.std.proofs.lemmas.Bool.{cases_Bool, cases_eq, both_ways, eqb-true, eq-eqb, ne_eqb, or_cases, and_parts, or_right, or_left, false_from_ne_true, not-true}
+use Rattle.std.proofs.lemmas.Bool.{cases_Bool, cases_eq, eqb-true, eq-eqb, ne_eqb, and_parts, not-true}
 use Rattle.std.proofs.lemmas.List.{get_or_read, drop_all, take_all, append-nil}
-use Rattle.storage_terms.specs.Tree.{Node as Term, above, account, node_in, has_directory}
+use Rattle.storage_terms.specs.Tree.{above, account, node_in, has_directory}
 use Rattle.dir_tree.specs.declared.node.Node.{Node}
 use Rattle.dir_tree.specs.Nodes.{is_directory, is_segment}
-use Rattle.dir_tree.specs.Shape.{shapes, HasChains, AreUnder, IsChain, AreDirectories, EndsAtRoot}
-use Rattle.quota_cells.specs.Accounts.{look, has, with_value, covers, weigh, load, charged_to, is_an_account, changed_where}
-use Rattle.quota_cells.specs.Cells.{CellMaps, quota_in, load_in, stored_in, used_in, Fits, AreWithin, IsTable, charged, credited, loads_then, with_quota, charge_fault, IsRising, CountsUsed}
+use Rattle.dir_tree.specs.Shape.{shapes, HasChains, IsChain, AreDirectories, EndsAtRoot}
+use Rattle.quota_cells.specs.Accounts.{look, has, with_value, covers, load, is_an_account, changed_where}
+use Rattle.quota_cells.specs.Cells.{CellMaps, quota_in, load_in, stored_in, Fits, IsTable, charged, credited, charge_fault, IsRising, CountsUsed}
 use Rattle.quota_cells.specs.Columns.{AreThere, IsFalling}
-use Rattle.quota_cells.proofs.ColumnLaws.{look_with, look_changed, length_with, length_changed, weigh_with, weigh_same, weigh_le_on, look_le_weigh, look_le_sum}
-use Rattle.quota_cells.proofs.PlaceLaws.{covers_under, covers_not, look_at, set_at}
-use Rattle.quota_cells.proofs.AccountLaws.{account_covers, account_through, account_is, account_from, appears, appears_own, covers_above, load_same, account_of_chain}
+use Rattle.quota_cells.proofs.ColumnLaws.{look_changed, length_with, length_changed, weigh_with, weigh_same, weigh_le_on, look_le_weigh, look_le_sum}
+use Rattle.quota_cells.proofs.PlaceLaws.{look_at, set_at}
+use Rattle.quota_cells.proofs.AccountLaws.{account_covers, account_through, account_is, account_from, account_of_chain}
 
 pub directory_shape : (ns : List Node) (u : ℕ) → has_directory (shapes ns) u ≡ is_directory ns u
 directory_shape [] u = refl

@@ -1,15 +1,13 @@
 -- What another quota of a directory, and quota that moves, do to the loads and to the accounts.
-use Rattle.std.proofs.Common.{◌≡◌, ◌≢◌, ℕ, suc, zero, ◌+◌, ◌-◌, ◌<◌, ◌≤◌, ◌^◌, Bool, true, false, cond, eqb, ltb, not, ◌&&◌, ◌||◌, if◌then◌else◌, List, [], ◌∷◌, length, Option, Some, None, refl, sym, ap, subst, ◌∙◌, arith, get_or, inl, inr, is_some}
-use Rattle.std.specs.List.{sum, find}
-use Rattle.std.proofs.lemmas.Bool.{cases_Bool, cases_eq, cases_lt, both_ways, eqb-true, eqb-false, eq-eqb, ne_eqb, or_cases, and_parts, or_right, or_left, and_from, and_left, and_right, lt-ltb, le-ltb, ltb-false, true_from_ne_false, false_from_ne_true}
-use Rattle.storage_terms.specs.Tree.{above, account}
+use Rattle.std.proofs.Common.{◌≡◌, ◌≢◌, ℕ, ◌+◌, ◌-◌, ◌≤◌, Bool, true, false, eqb, if◌then◌else◌, List, length, refl, sym, ap, subst, ◌∙◌, arith, inl, inr}
+use Rattle.std.specs.List.{sum}
+use Rattle.std.proofs.lemmas.Bool.{cases_Bool, cases_eq, eqb-true, eqb-false, eq-eqb, ne_eqb}
+use Rattle.storage_terms.specs.Tree.{above}
 use Rattle.dir_tree.specs.declared.node.Node.{Node}
-use Rattle.dir_tree.specs.Nodes.{is_directory, is_segment}
-use Rattle.dir_tree.specs.Shape.{shapes, HasChains, AreUnder, IsChain}
-use Rattle.quota_cells.specs.Accounts.{look, has, with_value, covers, load, is_an_account, changed_where}
-use Rattle.quota_cells.specs.Cells.{CellMaps, quota_in, load_in, stored_in, Fits, AreWithin, IsTable, loads_then, with_quota, IsRising}
+use Rattle.dir_tree.specs.Shape.{shapes, HasChains}
+use Rattle.quota_cells.specs.Accounts.{look, has, covers, load}
+use Rattle.quota_cells.specs.Cells.{CellMaps, quota_in, load_in, Fits, loads_then, with_quota}
 use Rattle.quota_cells.proofs.ColumnLaws.{look_with, look_changed, length_with, length_changed, sum_with}
-use Rattle.quota_cells.proofs.PlaceLaws.{covers_under, covers_not}
 use Rattle.quota_cells.proofs.AccountLaws.{appears, appears_own, covers_above, load_same}
 
 -- the columns have the same lengths

@@ -1,15 +1,14 @@
 -- Which accounts can be above their quotas once quota has moved.
-use Rattle.std.proofs.Common.{◌≡◌, ◌≢◌, ℕ, suc, zero, ◌+◌, ◌-◌, ◌<◌, ◌≤◌, ◌^◌, Bool, true, false, cond, eqb, ltb, not, ◌&&◌, ◌||◌, if◌then◌else◌, List, [], ◌∷◌, length, Option, Some, None, refl, sym, ap, subst, ◌∙◌, arith, get_or, inl, inr, ◌⊎◌, is_some}
+use Rattle.std.proofs.Common.{◌≡◌, ◌≢◌, ℕ, suc, ◌+◌, ◌-◌, ◌<◌, ◌≤◌, ◌^◌, Bool, true, false, cond, eqb, ltb, not, ◌||◌, if◌then◌else◌, List, [], ◌∷◌, length, Some, None, refl, sym, ap, subst, ◌∙◌, arith, get_or, inl, inr, ◌⊎◌, is_some}
 use Rattle.std.specs.List.{sum, find}
-use Rattle.std.proofs.lemmas.Bool.{cases_Bool, cases_eq, cases_lt, both_ways, eqb-true, eqb-false, eq-eqb, ne_eqb, or_cases, and_parts, or_right, or_left, and_from, and_left, and_right, lt-ltb, le-ltb, ltb-true, true_from_ne_false, false_from_ne_true}
-use Rattle.storage_terms.specs.Tree.{above, account, node_in}
+use Rattle.std.proofs.lemmas.Bool.{cases_Bool, cases_eq, cases_lt, both_ways, eqb-true, eq-eqb, ne_eqb, or_cases, and_parts, or_right, or_left, and_from, lt-ltb, ltb-true, false_from_ne_true}
+use Rattle.storage_terms.specs.Tree.{above, node_in}
 use Rattle.dir_tree.specs.declared.node.Node.{Node}
 use Rattle.dir_tree.specs.Nodes.{is_directory}
-use Rattle.dir_tree.specs.Shape.{shapes, HasChains, AreUnder, IsChain, EndsAtRoot}
-use Rattle.quota_cells.specs.Accounts.{look, has, with_value, covers, is_an_account}
-use Rattle.quota_cells.specs.Cells.{CellMaps, quota_in, load_in, Fits, AreWithin, IsTable, with_quota, IsRising, is_over, first_over}
-use Rattle.quota_cells.proofs.PlaceLaws.{covers_under, covers_not}
-use Rattle.quota_cells.proofs.AccountLaws.{account_is, covers_above}
+use Rattle.dir_tree.specs.Shape.{shapes, HasChains, EndsAtRoot}
+use Rattle.quota_cells.specs.Accounts.{has, covers, is_an_account}
+use Rattle.quota_cells.specs.Cells.{CellMaps, quota_in, load_in, Fits, IsTable, with_quota, IsRising, is_over, first_over}
+use Rattle.quota_cells.proofs.AccountLaws.{covers_above}
 use Rattle.quota_cells.proofs.ColumnLaws.{two_le_sum}
 use Rattle.quota_cells.proofs.FitLaws.{load_bound, all_there, covered_there}
 use Rattle.quota_cells.proofs.MoveLaws.{AreEven, fits_quota, even_quota, quota_own, quota_other, load_falls, load_rises, load_stays, total_quota}

@@ -1,4 +1,4 @@
-use Rattle.std.proofs.Common.{◌≡◌, ◌<◌, ℕ, length, sym, ap, ◌∙◌, arith, is_some}
+use Rattle.std.proofs.Common.{◌<◌, length, sym, ap, ◌∙◌, arith, is_some}
 use Rattle.dir_tree.specs.Kept.{entry_at}
 use Rattle.dir_tree.proofs.KeptLemmas.{node_missing, MayAdd, no_fault}
 use Rattle.dir_tree.specs.Shape.{shape, shapes}

@@ -1,13 +1,13 @@
-use Rattle.std.proofs.Common.{◌≡◌, ◌+◌, ◌<◌, ◌≤◌, ℕ, List, Bool, length, true, None, Some, refl, sym, ap, subst, ◌∙◌, arith}
+use Rattle.std.proofs.Common.{◌≡◌, ◌+◌, ◌<◌, ℕ, List, Bool, length, true, None, Some, refl, sym, ap, subst, arith}
 use Rattle.std.proofs.lemmas.List.{length-map}
 use Rattle.dir_tree.specs.declared.node.Node.{Node}
 use Rattle.dir_tree.specs.declared.node.NewNode.{NewNode}
 use Rattle.dir_tree.specs.declared.entries.Entry.{Entry}
 use Rattle.dir_tree.specs.Nodes.{Branches, is_directory, add_fault_of}
 use Rattle.dir_tree.specs.Shape.{shape, shapes}
-use Rattle.dir_tree.specs.Kept.{newest, IsKept}
+use Rattle.dir_tree.specs.Kept.{newest}
 use Rattle.dir_tree.proofs.AddedLemmas.{no_pair, kept_added, view_added}
-use Rattle.dir_tree.proofs.KeptLemmas.{MayAdd, no_fault}
+use Rattle.dir_tree.proofs.KeptLemmas.{no_fault}
 use Rattle.dir_tree.proofs.NewestLemmas.{length_newest}
 use Rattle.dir_tree.proofs.Tree.attach.Goals as goal
 

@@ -1,4 +1,4 @@
-use Rattle.std.proofs.Common.{◌≡◌, ◌+◌, ◌<◌, ◌≤◌, ℕ, List, Bool, length, true, false, None, Some, refl, sym, ap, subst, ◌∙◌, arith}
+use Rattle.std.proofs.Common.{◌≡◌, ◌+◌, ◌<◌, ◌≤◌, List, length, true, false, sym, ap, subst, ◌∙◌, arith}
 use Rattle.dir_tree.specs.declared.node.Node.{Node}
 use Rattle.std.specs.List.{list_any}
 use Rattle.storage_terms.specs.Tree.{is_inferior}

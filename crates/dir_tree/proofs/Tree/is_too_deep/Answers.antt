@@ -1,4 +1,4 @@
-use Rattle.std.proofs.Common.{◌≡◌, ℕ, length, nat_le, ap, ◌∙◌}
+use Rattle.std.proofs.Common.{◌≡◌, length, nat_le, ap, ◌∙◌}
 use Rattle.storage_terms.specs.Tree.{above}
 use Rattle.dir_tree.specs.Shape.{shapes}
 use Rattle.dir_tree.proofs.QuotaLemmas.{above_any}

@@ -1,4 +1,3 @@
-use Rattle.std.proofs.Common.{◌≡◌, length}
 use Rattle.dir_tree.specs.Shape.{shapes}
 use Rattle.dir_tree.specs.Kept.{newest}
 use Rattle.dir_tree.proofs.ChainLemmas.{has_chains}

@@ -1,9 +1,8 @@
-use Rattle.std.proofs.Common.{◌≡◌, ◌<◌, ℕ, List, true, false, None, sym, ap, subst, ◌∙◌, is_some}
+use Rattle.std.proofs.Common.{◌≡◌, true, None, sym, ap, subst, ◌∙◌, is_some}
 use Rattle.std.proofs.lemmas.Bool.{both_ways}
 use Rattle.storage_terms.specs.Tree.{above, step_up}
-use Rattle.dir_tree.specs.declared.node.Node.{Node}
 use Rattle.dir_tree.specs.Nodes.{Branches, is_in, node_of}
-use Rattle.dir_tree.specs.Kept.{newest, HasEntry}
+use Rattle.dir_tree.specs.Kept.{newest}
 use Rattle.dir_tree.specs.Shape.{shapes}
 use Rattle.dir_tree.proofs.KeptLemmas.{superior_read, node_missing, up_in}
 use Rattle.dir_tree.proofs.TreeLemmas.{superior_in, above_once, superior_up, IsUp}

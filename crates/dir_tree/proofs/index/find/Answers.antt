@@ -1,11 +1,10 @@
-use Rattle.std.proofs.Common.{◌≡◌, ◌<◌, ◌≤◌, ◌+◌, ℕ, length, get_or, true, false, refl, sym, ap, subst, ◌∙◌, arith, inl, inr}
-use Rattle.std.proofs.lemmas.Bool.{cases_lt, cases_eq}
+use Rattle.std.proofs.Common.{◌≡◌, ◌<◌, ℕ, length, true, false, refl, sym, subst, ◌∙◌, arith, inl, inr}
+use Rattle.std.proofs.lemmas.Bool.{cases_eq}
 use Rattle.std.proofs.lemmas.List.{get_or_read}
 use Rattle.storage_terms.specs.Tree.{is_branch}
 use Rattle.dir_tree.specs.declared.node.Node.{Node}
 use Rattle.dir_tree.specs.Shape.{shape}
-use Rattle.dir_tree.specs.Index.{hash_at, place_of, node_at, no_node, key_hash, HasPair}
-use Rattle.dir_tree.proofs.IndexLemmas.{passed_all}
+use Rattle.dir_tree.specs.Index.{place_of, node_at, no_node, HasPair}
 use Rattle.dir_tree.proofs.index.find.Goals as goal
 
 pub bounds-nodes-place : goal.bounds-nodes-place

@@ -1,5 +1,5 @@
 use Rattle.std.proofs.Common.{◌≡◌, ℕ, ◌<◌, ◌≤◌, ◌-◌, length}
-use Rattle.dir_tree.specs.Index.{hash_at, place_of, HasPair}
+use Rattle.dir_tree.specs.Index.{place_of}
 use Rattle.dir_tree.proofs.index.place_at.Given as goal
 
 abbrev pub invariant-loop-at : goal.invariant-loop-at

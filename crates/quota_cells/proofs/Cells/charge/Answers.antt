@@ -1,11 +1,10 @@
-use Rattle.std.proofs.Common.{◌≡◌, ◌≢◌, ◌+◌, ◌-◌, ◌<◌, ◌≤◌, ◌^◌, ℕ, List, [], ◌∷◌, ◌++◌, length, take, drop, set, get_or, true, Ok, refl, sym, ap, subst, ◌∙◌, arith}
+use Rattle.std.proofs.Common.{◌≡◌, ◌≢◌, ◌+◌, ◌++◌, length, take, drop, set, Ok, sym, ap, subst, ◌∙◌, arith}
 use Rattle.storage_terms.specs.Tree.{above, account}
 use Rattle.dir_tree.specs.Shape.{shapes}
-use Rattle.quota_cells.specs.Accounts.{look, covers, with_value, changed_where}
+use Rattle.quota_cells.specs.Accounts.{covers, with_value, changed_where}
 use Rattle.quota_cells.specs.Cells.{CellMaps, quota_in, load_in, stored_in, Fits, IsTable, charged, charge_fault}
-use Rattle.quota_cells.specs.Columns.{AreThere, IsFalling}
 use Rattle.quota_cells.proofs.ColumnLaws.{length_changed}
-use Rattle.quota_cells.proofs.FitLaws.{there, falls, room_charged, stored_room, room_credited, fits_charged, fits_credited, table_charged, table_credited, not_full, counts_used, read_stored, stored_at, seamed}
+use Rattle.quota_cells.proofs.FitLaws.{there, falls, room_charged, stored_room, fits_charged, table_charged, not_full, counts_used, read_stored, stored_at, seamed}
 use Rattle.quota_cells.proofs.Cells.charge.Goals as goal
 
 pub overflow_add-index_mut : goal.overflow_add-index_mut

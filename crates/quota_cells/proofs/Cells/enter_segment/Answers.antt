@@ -1,10 +1,9 @@
-use Rattle.std.proofs.Common.{◌≡◌, ◌≢◌, ◌+◌, ◌<◌, ◌≤◌, ℕ, List, length, true, false, refl, sym, ap, subst, ◌∙◌, arith, get_or}
-use Rattle.std.proofs.lemmas.Bool.{both_ways, or_parts, or_cases, or_right, or_left}
+use Rattle.std.proofs.Common.{◌≡◌, ◌<◌, length, true, false, sym, subst, arith, get_or}
+use Rattle.std.proofs.lemmas.Bool.{both_ways, or_parts}
 use Rattle.quota_cells.specs.Accounts.{has}
-use Rattle.quota_cells.specs.Cells.{CellMaps, IsTable, Enters, Leaves, has_cell, quota_in, stored_in}
-use Rattle.quota_cells.specs.Columns.{IsGap}
-use Rattle.quota_cells.proofs.PlaceLaws.{has_at, gap_absent}
-use Rattle.quota_cells.proofs.EnterLaws.{enters_directory, table_directory, enters_segment, table_segment, leaves_directory, table_less_directory, leaves_segment, table_less_segment}
+use Rattle.quota_cells.specs.Cells.{CellMaps, has_cell}
+use Rattle.quota_cells.proofs.PlaceLaws.{has_at}
+use Rattle.quota_cells.proofs.EnterLaws.{enters_segment, table_segment}
 use Rattle.quota_cells.proofs.Cells.enter_segment.Goals as goal
 
 pub unreachable-requires : goal.unreachable-requires

@@ -1,7 +1,6 @@
-use Rattle.std.proofs.Common.{◌≡◌, ℕ, List, length, true, false, sym, subst, ◌∙◌, get_or, inl, inr}
+use Rattle.std.proofs.Common.{◌≡◌, true, false, subst, inl, inr}
 use Rattle.std.proofs.lemmas.Bool.{both_ways, or_cases}
 use Rattle.quota_cells.specs.Accounts.{has}
-use Rattle.quota_cells.specs.Cells.{CellMaps}
 use Rattle.quota_cells.proofs.PlaceLaws.{has_at, gap_absent}
 use Rattle.quota_cells.proofs.EnterLaws.{fits_left}
 use Rattle.quota_cells.proofs.Cells.leave.Goals as goal

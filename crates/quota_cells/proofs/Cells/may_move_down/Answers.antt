@@ -1,11 +1,8 @@
-use Rattle.std.proofs.Common.{◌≡◌, ◌≢◌, ◌+◌, ◌-◌, ◌<◌, ◌≤◌, ℕ, List, Bool, true, false, eqb, ltb, not, ◌&&◌, ◌||◌, if◌then◌else◌, ◌∷◌, length, Some, None, refl, sym, ap, subst, ◌∙◌, arith, inl, inr}
-use Rattle.std.proofs.lemmas.Bool.{cases_Bool, cases_eq, eq-eqb, ne_eqb, eqb-true, and_parts}
-use Rattle.storage_terms.specs.Tree.{above, account}
-use Rattle.dir_tree.specs.Shape.{shapes}
-use Rattle.quota_cells.specs.Accounts.{look, has, covers}
-use Rattle.quota_cells.specs.Cells.{CellMaps, quota_in, load_in, Fits, IsTable, is_over, first_over, over_answer, move_answer}
+use Rattle.std.proofs.Common.{◌≡◌, ◌≤◌, ℕ, true, false, Some, refl, sym, ap, subst, ◌∙◌, arith}
+use Rattle.quota_cells.specs.Accounts.{has}
+use Rattle.quota_cells.specs.Cells.{CellMaps, quota_in, load_in, Fits, is_over, over_answer}
 use Rattle.quota_cells.proofs.MoveLaws.{covers_more}
-use Rattle.quota_cells.proofs.TransferLaws.{top_covers, left, x, m2, down_is, over_x, over_s, over_d, first_is_x, first_is_s, first_is_d, none_down, above_test, above_yes, above_no}
+use Rattle.quota_cells.proofs.TransferLaws.{top_covers, left, x, m2, down_is, over_s, over_d, first_is_s, first_is_d, none_down, above_test, above_yes, above_no}
 use Rattle.quota_cells.proofs.Cells.may_move_down.Goals as goal
 
 pub load_left-left-requires : goal.load_left-left-requires

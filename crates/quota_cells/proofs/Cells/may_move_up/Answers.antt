@@ -1,10 +1,6 @@
-use Rattle.std.proofs.Common.{◌≡◌, ◌≢◌, ◌+◌, ◌-◌, ◌<◌, ◌≤◌, ℕ, List, Bool, true, false, eqb, ltb, not, ◌&&◌, ◌||◌, if◌then◌else◌, ◌∷◌, length, Some, None, refl, sym, ap, subst, ◌∙◌, arith, inl, inr}
-use Rattle.std.proofs.lemmas.Bool.{cases_Bool, cases_eq, eq-eqb, ne_eqb, eqb-true, and_parts}
-use Rattle.storage_terms.specs.Tree.{above, account}
-use Rattle.dir_tree.specs.Shape.{shapes}
-use Rattle.quota_cells.specs.Accounts.{look, has, covers}
-use Rattle.quota_cells.specs.Cells.{CellMaps, quota_in, load_in, Fits, IsTable, is_over, first_over, over_answer, move_answer}
-use Rattle.quota_cells.proofs.MoveLaws.{covers_more}
+use Rattle.std.proofs.Common.{◌≡◌, ◌≤◌, ℕ, true, false, sym, ap, subst, ◌∙◌, arith}
+use Rattle.quota_cells.specs.Accounts.{has}
+use Rattle.quota_cells.specs.Cells.{CellMaps, quota_in, load_in, Fits, is_over, over_answer}
 use Rattle.quota_cells.proofs.TransferLaws.{u2, up_is, up_over_s, up_over_d, up_first_s, up_first_d, up_none}
 use Rattle.quota_cells.proofs.Cells.may_move_up.Goals as goal
 

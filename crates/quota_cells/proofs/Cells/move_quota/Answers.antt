@@ -1,11 +1,11 @@
-use Rattle.std.proofs.Common.{◌≡◌, ◌≢◌, ◌+◌, ◌-◌, ◌≤◌, ◌<◌, ℕ, List, Bool, true, false, None, Ok, refl, sym, ap, subst, ◌∙◌, w32, arith}
+use Rattle.std.proofs.Common.{◌≡◌, true, false, Ok, sym, ◌∙◌, w32, arith}
 use Rattle.std.proofs.lemmas.Int.{to_z-of_z}
 use Rattle.std.specs.Int.{is_positive}
 use Rattle.std.specs.Int.RustNames.{unsigned_abs}
 use Rattle.std.proofs.lemmas.Grind.{common_steps}
 use Rattle.storage_terms.specs.Tree.{above}
 use Rattle.dir_tree.specs.Shape.{shapes}
-use Rattle.quota_cells.specs.Cells.{CellMaps, quota_in, first_over, with_quota, moved, move_answer, giver_of, superior_of}
+use Rattle.quota_cells.specs.Cells.{move_answer}
 use Rattle.quota_cells.proofs.FitLaws.{counts_used}
 use Rattle.quota_cells.proofs.TransferLaws.{answer_ok}
 use Rattle.quota_cells.proofs.Cells.move_quota.Goals as goal

@@ -1,12 +1,12 @@
-use Rattle.std.proofs.Common.{◌≡◌, ◌≢◌, ◌+◌, ◌-◌, ◌<◌, ◌≤◌, ◌^◌, ◌++◌, ℕ, List, length, take, drop, true, None, refl, sym, ap, subst, ◌∙◌, arith}
+use Rattle.std.proofs.Common.{◌≡◌, ◌+◌, ◌-◌, ◌≤◌, ◌++◌, ℕ, List, length, take, drop, true, None, sym, ap, subst, ◌∙◌, arith}
 use Rattle.std.specs.List.{sum}
 use Rattle.storage_terms.specs.Tree.{above}
 use Rattle.dir_tree.specs.Shape.{shapes}
-use Rattle.quota_cells.specs.Accounts.{look, has, covers}
-use Rattle.quota_cells.specs.Cells.{CellMaps, quota_in, load_in, Fits, IsTable, first_over, with_quota}
+use Rattle.quota_cells.specs.Accounts.{has}
+use Rattle.quota_cells.specs.Cells.{CellMaps, quota_in, Fits, IsTable, first_over, with_quota}
 use Rattle.quota_cells.proofs.FitLaws.{all_there, falling, covered_there, seamed}
 use Rattle.quota_cells.proofs.MoveLaws.{covers_more}
-use Rattle.quota_cells.proofs.OverLaws.{c1, c2, even2, fits2, table2, conserved, room1, room2}
+use Rattle.quota_cells.proofs.OverLaws.{c2, even2, fits2, table2, conserved, room1, room2}
 use Rattle.quota_cells.proofs.TransferLaws.{directory_in}
 use Rattle.quota_cells.proofs.Cells.transfer.Goals as goal
 

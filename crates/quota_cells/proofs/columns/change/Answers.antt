@@ -1,4 +1,4 @@
-use Rattle.std.proofs.Common.{◌≡◌, List, ℕ, ap, ◌∙◌}
+use Rattle.std.proofs.Common.{ℕ, ap, ◌∙◌}
 use Rattle.quota_cells.specs.Accounts.{with_value}
 use Rattle.quota_cells.proofs.PlaceLaws.{set_at}
 use Rattle.quota_cells.proofs.columns.change.Goals as goal

@@ -1,4 +1,4 @@
-use Rattle.std.proofs.Common.{◌≡◌, ◌+◌, ◌-◌, ◌<◌, ◌≤◌, ◌^◌, drop}
+use Rattle.std.proofs.Common.{◌+◌, ◌<◌, ◌^◌, drop}
 use Rattle.quota_cells.specs.Accounts.{look, covers, changed_where}
 use Rattle.quota_cells.proofs.PlaceLaws.{Going}
 use Rattle.quota_cells.proofs.columns.lift.Given as goal

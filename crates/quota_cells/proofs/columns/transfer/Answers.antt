@@ -1,6 +1,6 @@
-use Rattle.std.proofs.Common.{◌≡◌, ◌<◌, ◌≤◌, ℕ, arith, refl, ap, ◌∙◌}
+use Rattle.std.proofs.Common.{◌≡◌, arith, refl, ap, ◌∙◌}
 use Rattle.std.proofs.lemmas.Bool.{ne_eqb}
-use Rattle.quota_cells.specs.Accounts.{look, with_value}
+use Rattle.quota_cells.specs.Accounts.{look}
 use Rattle.quota_cells.proofs.ColumnLaws.{look_with}
 use Rattle.quota_cells.proofs.columns.transfer.Goals as goal
 

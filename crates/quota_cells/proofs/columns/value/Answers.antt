@@ -1,4 +1,4 @@
-use Rattle.std.proofs.Common.{◌≡◌, ℕ, sym, ap, ◌∙◌}
+use Rattle.std.proofs.Common.{sym, ap, ◌∙◌}
 use Rattle.quota_cells.specs.Accounts.{look}
 use Rattle.quota_cells.proofs.PlaceLaws.{gap_absent, look_at, look_absent}
 use Rattle.quota_cells.proofs.columns.value.Goals as goal

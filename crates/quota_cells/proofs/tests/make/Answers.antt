@@ -1,4 +1,4 @@
-use Rattle.std.proofs.Common.{◌≡◌, ℕ, Bool, false, List, ◌∷◌, refl, sym, ap, subst, ◌∙◌}
+use Rattle.std.proofs.Common.{◌≡◌, ℕ, false, List, ◌∷◌, refl, sym, subst}
 use Rattle.dir_tree.specs.declared.node.Node.{Node}
 use Rattle.dir_tree.specs.declared.node.NewNode.{NewNode}
 use Rattle.dir_tree.specs.Nodes.{Branches, added, is_in}
@@ -10,7 +10,6 @@ entered : (old new : Branches) (s : ℕ) (n : NewNode) (uid : ℕ) (cells before
     → ((nodes : List Node) (m : Node) → m.uid ≡ uid → m.dir ≡ n.dir → is_in nodes uid ≡ false → HasChains (shapes nodes) → Fits nodes before → Fits (m ∷ nodes) cells) → Fits new.nodes cells
 entered old new s n uid cells before is next fresh chains fits enters =
     subst (λ (t : Branches). Fits t.nodes cells) (sym is) (enters old.nodes _ (sym next) refl (subst (λ u. is_in old.nodes u ≡ false) (sym next) fresh) chains fits)
-
 
 pub returns-in-Ok : goal.returns-in-Ok
 returns-in-Ok g c =

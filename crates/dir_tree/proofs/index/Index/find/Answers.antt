@@ -1,4 +1,4 @@
-use Rattle.std.proofs.Common.{◌≡◌, ◌<◌, ℕ, length, sym, subst}
+use Rattle.std.proofs.Common.{◌<◌, ℕ, length, sym, subst}
 use Rattle.dir_tree.specs.Index.{Pairs, HasPair}
 use Rattle.dir_tree.proofs.index.Index.find.Goals as goal
 

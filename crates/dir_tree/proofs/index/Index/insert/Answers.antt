@@ -1,4 +1,4 @@
-use Rattle.std.proofs.Common.{◌≡◌, ◌<◌, ◌≤◌, ℕ, List, length, sym, subst, arith, ⊎_elim}
+use Rattle.std.proofs.Common.{◌≡◌, ◌<◌, ◌≤◌, ℕ, List, length, sym, subst, arith}
 use Rattle.std.specs.Prelude.{◌↔◌, ◌⊎◌}
 use Rattle.dir_tree.specs.Index.{Pairs, HasPair, IsRising, AreApart, hash_at}
 use Rattle.dir_tree.proofs.IndexLemmas.{inserted_rises, inserted_apart, pair_inserted}

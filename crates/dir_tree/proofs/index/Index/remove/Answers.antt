@@ -1,4 +1,4 @@
-use Rattle.std.proofs.Common.{◌≡◌, ◌≢◌, ◌<◌, ◌≤◌, ℕ, List, length, sym, subst, ◌∙◌, arith}
+use Rattle.std.proofs.Common.{◌≡◌, ◌≢◌, ◌<◌, ℕ, List, length, sym, subst, arith}
 use Rattle.std.specs.Prelude.{◌↔◌}
 use Rattle.dir_tree.specs.Index.{Pairs, HasPair, IsRising, AreApart, place_of}
 use Rattle.dir_tree.proofs.IndexLemmas.{removed_rises, removed_apart, pair_removed}
