@@ -1,0 +1,169 @@
+-- What a new branch leaves of the tables behind a tree.
+use Rattle.std.proofs.Common.{◌≡◌, ◌≢◌, ℕ, ◌+◌, ◌-◌, ◌<◌, ◌≤◌, true, eqb, if◌then◌else◌, List, [], ◌∷◌, ◌++◌, length, take, Option, Some, None, refl, sym, ap, subst, ◌∙◌, arith, get_or, inl, inr, ◌⊎◌}
+use Rattle.std.specs.Prelude.{◌↔◌}
+use Rattle.std.proofs.lemmas.Bool.{cases_eq, cases_lt, eq-eqb, ne_eqb}
+use Rattle.std.proofs.lemmas.List.{length-map, length_push, get_or_append_left, get_or_push, get_or-take, length-take-le}
+use Rattle.dir_tree.specs.declared.node.Node.{Node}
+use Rattle.dir_tree.specs.declared.entries.Entry.{Entry}
+use Rattle.dir_tree.specs.Index.{Pairs, HasPair, key_hash, node_at}
+use Rattle.dir_tree.specs.Nodes.{is_directory, add_fault_of}
+use Rattle.dir_tree.specs.Shape.{shape, shapes, IsBranch, IsTree, Joins}
+use Rattle.dir_tree.specs.Kept.{no_entry, entry_at, newest, place_for, IsNamed, IsPlace, IsKept}
+use Rattle.dir_tree.proofs.EditLemmas.{each_pushed}
+use Rattle.dir_tree.proofs.NewestLemmas.{node_of_entry, newest_same, newest_push, length_newest}
+use Rattle.dir_tree.proofs.KeptLemmas.{MayAdd, no_fault, directory_shape, below_newest}
+
+module _ (nodes : List Node) (es : List Entry) (free : List ℕ) (index : Pairs) (next : ℕ) (k : IsKept nodes es free index next) (place : ℕ) (is_place : place ≡ place_for nodes free) where
+  -- the place of a new node is no entry's
+  pub place_unused : (j : ℕ) → j < length es → (entry_at es j).place ≢ place
+  place_unused j lt e = elim (cases_eq (length free) 0) [
+    | inl none ↦
+        (let at_end : place ≡ length nodes = rw (eq-eqb (length free) 0 none) at is_place in
+        let within : (entry_at es j).place < length nodes = k.within j lt in
+        omega arith)
+    | inr some ↦
+        (let last : place ≡ get_or free (length free - 1) 0 = rw (ne_eqb (length free) 0 some) at is_place in
+        k.unused (length free - 1) j (omega arith) lt (sym (e ∙ last)))
+  ]
+
+  pub no_pair : (hash : ℕ) → HasPair index.pairs hash place → ⊥
+  no_pair hash pair = (let p = k.places hash place pair in place_unused p.i p.within p.place_is)
+
+module _ (nodes : List Node) (es : List Entry) (free : List ℕ) (index : Pairs) (next : ℕ) (k : IsKept nodes es free index next) (s : ℕ) (n : Node) (nodes' : List Node) (free' : List ℕ) (index' : Pairs) (place hash : ℕ)
+    (n_uid : n.uid ≡ next) (n_superior : n.superior ≡ Some s)
+    (directory : is_directory (newest nodes es) s ≡ true) (may : add_fault_of (shapes (newest nodes es)) s n.name n.dir ≡ None)
+    (is_place : place ≡ place_for nodes free) (here : node_at nodes' place ≡ n) (others : (p : ℕ) → p ≢ place → node_at nodes' p ≡ node_at nodes p)
+    (rest : free' ≡ take (length free - 1) free) (grown : length nodes' ≡ (if eqb (length free) 0 then length nodes + 1 else length nodes))
+    (is_hash : hash ≡ key_hash s n.name) (pairs : (h p : ℕ) → HasPair index'.pairs h p ↔ (HasPair index.pairs h p ⊎ ((h ≡ hash) × (p ≡ place))))
+    (count : length index'.pairs ≡ length index.pairs + 1) (room : index'.room ≡ index.room) where
+  abbrev entry : Entry
+  entry = record { uid = next; superior = Some s; place = place }
+
+  abbrev es' : List Entry
+  es' = es ++ entry ∷ []
+
+  may_add : MayAdd (shapes (newest nodes es)) s n.name n.dir
+  may_add = no_fault (shapes (newest nodes es)) s n.name n.dir may
+
+  unused : (j : ℕ) → j < length es → (entry_at es j).place ≢ place
+  unused = place_unused nodes es free index next k place is_place
+
+  old_node : (j : ℕ) → j < length es → node_of_entry nodes' es j ≡ node_of_entry nodes es j
+  old_node j lt = others (entry_at es j).place (unused j lt)
+
+  old_nodes : newest nodes' es ≡ newest nodes es
+  old_nodes = newest_same nodes' nodes es old_node
+
+  pub view_added : newest nodes' es' ≡ n ∷ newest nodes es
+  view_added = newest_push nodes' es entry ∙ ap (λ x. x ∷ newest nodes' es) here ∙ ap (λ xs. n ∷ xs) old_nodes
+
+  few_es : length es < 4097
+  few_es = (let a : length (shapes (newest nodes es)) < 4097 = may_add.room in let b = length-map (newest nodes es) shape in let c = length_newest nodes es in omega arith)
+
+  branch : IsBranch (shapes (newest nodes es)) s (shape n)
+  branch = record {
+    later = rw n_uid (below_newest next nodes es (λ i lt. subst (λ u. u < next) (sym (k.uids i lt)) (k.below i lt)));
+    below = directory_shape (newest nodes es) s ∙ directory;
+    new = may_add.new;
+    shallow = may_add.shallow;
+  }
+
+  size : length es' ≡ length es + 1
+  size = length_push es entry
+
+  size_free : length free' ≡ length free - 1
+  size_free = rw rest (length-take-le (length free - 1) free (omega arith))
+
+  old_free : (i : ℕ) → i < length free' → get_or free' i 0 ≡ get_or free i 0
+  old_free i lt = (let m = size_free in rw rest (get_or-take (length free - 1) free i 0 (omega arith)))
+
+  within_more : (p : ℕ) → p < length nodes → p < length nodes'
+  within_more p lt = elim (cases_eq (length free) 0) [
+    | inl none ↦ (let g : length nodes' ≡ length nodes + 1 = rw (eq-eqb (length free) 0 none) at grown in omega arith)
+    | inr some ↦ (let g : length nodes' ≡ length nodes = rw (ne_eqb (length free) 0 some) at grown in omega arith)
+  ]
+
+  place_within : place < length nodes'
+  place_within = elim (cases_eq (length free) 0) [
+    | inl none ↦
+        (let g : length nodes' ≡ length nodes + 1 = rw (eq-eqb (length free) 0 none) at grown in
+        let at_end : place ≡ length nodes = rw (eq-eqb (length free) 0 none) at is_place in omega arith)
+    | inr some ↦
+        (let last : place ≡ get_or free (length free - 1) 0 = rw (ne_eqb (length free) 0 some) at is_place in
+        within_more place (rw last (k.free_within (length free - 1) (omega arith))))
+  ]
+
+  old_entry : (i : ℕ) → i < length es → entry_at es' i ≡ entry_at es i
+  old_entry i lt = get_or_append_left es (entry ∷ []) no_entry i lt
+
+  new_entry : (i : ℕ) → length es ≤ i → i < length es' → entry_at es' i ≡ entry
+  new_entry i le lt = (let m = size in get_or_push es entry no_entry i (omega arith))
+
+  rising' : (i j : ℕ) → i < j → j < length es' → (entry_at es' i).uid < (entry_at es' j).uid
+  rising' i j lt within = (let m = size in elim (cases_lt j (length es)) [
+    | inl old ↦ rw (old_entry i (omega arith), old_entry j old) (k.rising i j lt old)
+    | inr new ↦ rw (old_entry i (omega arith), new_entry j new within) (k.below i (omega arith))
+  ])
+
+  free_apart' : (i j : ℕ) → i < j → j < length free' → get_or free' i 0 ≢ get_or free' j 0
+  free_apart' i j lt within e = (let m = size_free in k.free_apart i j lt (omega arith) (sym (old_free i (omega arith)) ∙ e ∙ old_free j within))
+
+  place_not_free : (i : ℕ) → i < length free' → get_or free' i 0 ≢ place
+  place_not_free i lt e = (let m = size_free in elim (cases_eq (length free) 0) [
+    | inl none ↦ omega arith
+    | inr some ↦
+        (let last : place ≡ get_or free (length free - 1) 0 = rw (ne_eqb (length free) 0 some) at is_place in
+        k.free_apart i (length free - 1) (omega arith) (omega arith) (sym (old_free i lt) ∙ e ∙ last))
+  ])
+
+  unused' : (i j : ℕ) → i < length free' → j < length es' → get_or free' i 0 ≢ (entry_at es' j).place
+  unused' i j lt within e = elim (cases_lt j (length es)) [
+    | inl old ↦ (let m = size_free in k.unused i j (omega arith) old (sym (old_free i lt) ∙ e ∙ ap (λ (d : Entry). d.place) (old_entry j old)))
+    | inr new ↦ place_not_free i lt (e ∙ ap (λ (d : Entry). d.place) (new_entry j new within))
+  ]
+
+  count' : length nodes' ≡ length es' + length free'
+  count' = (let m = size in let f = size_free in let c : length nodes ≡ length es + length free = k.count in elim (cases_eq (length free) 0) [
+    | inl none ↦ (let g : length nodes' ≡ length nodes + 1 = rw (eq-eqb (length free) 0 none) at grown in omega arith)
+    | inr some ↦ (let g : length nodes' ≡ length nodes = rw (ne_eqb (length free) 0 some) at grown in omega arith)
+  ])
+
+  few' : length nodes' ≤ 4097
+  few' = (let f = few_es in let n : length nodes ≤ 4097 = k.few in let c : length nodes ≡ length es + length free = k.count in elim (cases_eq (length free) 0) [
+    | inl none ↦ (let g : length nodes' ≡ length nodes + 1 = rw (eq-eqb (length free) 0 none) at grown in omega arith)
+    | inr some ↦ (let g : length nodes' ≡ length nodes = rw (ne_eqb (length free) 0 some) at grown in omega arith)
+  ])
+
+  still_named : (o : Option ℕ) (name : List ℕ) (p : ℕ) → p ≢ place → IsNamed index.pairs o name p → IsNamed index'.pairs o name p
+  still_named None name p ne none = λ h pair. elim ((pairs h p).0 pair) [ inl old ↦ none h old | inr new ↦ ne new.1 ]
+  still_named (Some d) name p ne pair = (pairs (key_hash d name) p).1 (inl pair)
+
+  named' : (i : ℕ) → i < length es' → IsNamed index'.pairs (entry_at es' i).superior (node_at nodes' (entry_at es' i).place).name (entry_at es' i).place
+  named' = each_pushed es entry no_entry (λ e. IsNamed index'.pairs e.superior (node_at nodes' e.place).name e.place)
+      (λ i lt. still_named (entry_at es i).superior (node_of_entry nodes' es i).name (entry_at es i).place (unused i lt) (subst (λ (x : Node). IsNamed index.pairs (entry_at es i).superior x.name (entry_at es i).place) (sym (old_node i lt)) (k.named i lt)))
+      ((pairs (key_hash s (node_at nodes' place).name) place).1 (inr (ap (λ (x : Node). key_hash s x.name) here ∙ sym is_hash, refl)))
+
+  places' : (h p : ℕ) → HasPair index'.pairs h p → IsPlace es' p
+  places' h p pair = (let m = size in elim ((pairs h p).0 pair) [
+    | inl old ↦ (let q = k.places h p old in record { i = q.i; within = omega (arith, q.within); place_is = ap (λ (d : Entry). d.place) (old_entry q.i q.within) ∙ q.place_is })
+    | inr new ↦ record { i = length es; within = omega arith; place_is = ap (λ (d : Entry). d.place) (new_entry (length es) (omega arith) (omega arith)) ∙ sym new.1 }
+  ])
+
+  pub kept_added : IsKept nodes' es' free' index' (next + 1)
+  kept_added = record {
+    uids = each_pushed es entry no_entry (λ e. (node_at nodes' e.place).uid ≡ e.uid) (λ i lt. ap (λ (x : Node). x.uid) (old_node i lt) ∙ k.uids i lt) (ap (λ (x : Node). x.uid) here ∙ n_uid);
+    superiors = each_pushed es entry no_entry (λ e. (node_at nodes' e.place).superior ≡ e.superior) (λ i lt. ap (λ (x : Node). x.superior) (old_node i lt) ∙ k.superiors i lt) (ap (λ (x : Node). x.superior) here ∙ n_superior);
+    within = each_pushed es entry no_entry (λ e. e.place < length nodes') (λ i lt. within_more _ (k.within i lt)) place_within;
+    rising = rising';
+    below = each_pushed es entry no_entry (λ e. e.uid < next + 1) (λ i lt. omega (arith, k.below i lt)) (omega arith);
+    free_within = λ i lt. subst (λ p. p < length nodes') (sym (old_free i lt)) (within_more _ (k.free_within i (let m = size_free in omega arith)));
+    free_apart = free_apart';
+    unused = unused';
+    count = count';
+    few = few';
+    named = named';
+    places = places';
+    pairs = (let m = size in let p : length index.pairs + 1 ≡ length es = k.pairs in omega arith);
+    room = room ∙ k.room;
+    tree = subst (λ ns. IsTree (shapes ns)) (sym view_added) (subst (λ o. Joins (shapes (newest nodes es)) o (shape n)) (sym n_superior) branch, k.tree);
+  }

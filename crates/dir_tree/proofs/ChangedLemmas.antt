@@ -1,0 +1,83 @@
+-- What a change of a node, which keeps its shape, leaves of the tables behind a tree.
+use Rattle.std.proofs.Common.{◌≡◌, ◌≢◌, ℕ, suc, ◌<◌, [], ◌∷◌, ◌++◌, arith, eqb, if◌then◌else◌, List, length, Some, refl, sym, ap, subst, ◌∙◌, get_or, set, inl, inr}
+use Rattle.std.proofs.lemmas.Bool.{cases_eq, eq-eqb}
+use Rattle.std.proofs.lemmas.List.{get_or-set_same, get_or-set_other, length-set, map-append, get_or_read}
+use Rattle.storage_terms.specs.Tree.{Node as Term}
+use Rattle.dir_tree.specs.declared.node.Node.{Node}
+use Rattle.dir_tree.specs.declared.entries.Entry.{Entry}
+use Rattle.dir_tree.specs.Index.{Pairs, node_at, no_node}
+use Rattle.dir_tree.specs.Nodes.{with_changed, node_of, acl_of}
+use Rattle.dir_tree.specs.Shape.{shape, shapes, IsTree}
+use Rattle.dir_tree.specs.Kept.{entry_at, newest, IsNamed, IsKept, HasEntry}
+use Rattle.dir_tree.proofs.NewestLemmas.{node_of_entry, newest_changed}
+use Rattle.dir_tree.proofs.KeptLemmas.{apart_places, not_of, node_read}
+
+shapes_newest : (ms ns : List Node) (es : List Entry) → ((j : ℕ) → j < length es → shape (node_of_entry ms es j) ≡ shape (node_of_entry ns es j)) → shapes (newest ms es) ≡ shapes (newest ns es)
+shapes_newest ms ns [] same = refl
+shapes_newest ms ns (e ∷ es) same =
+    map-append shape (newest ms es) (node_at ms e.place ∷ [])
+    ∙ ap (λ xs. xs ++ shape (node_at ms e.place) ∷ []) (shapes_newest ms ns es (λ j lt. same (suc j) (omega arith)))
+    ∙ ap (λ x. shapes (newest ns es) ++ x ∷ []) (same 0 (omega arith))
+    ∙ sym (map-append shape (newest ns es) (node_at ns e.place ∷ []))
+
+module _ (nodes : List Node) (es : List Entry) (free : List ℕ) (index : Pairs) (next : ℕ) (k : IsKept nodes es free index next) (uid i : ℕ) (within : i < length es) (is_uid : (entry_at es i).uid ≡ uid) (h : Node → Node) (m : Node)
+    (is : m ≡ h (node_of_entry nodes es i)) (keeps : shape m ≡ shape (node_of_entry nodes es i)) where
+  abbrev nodes' : List Node
+  nodes' = set nodes (entry_at es i).place m
+
+  here : node_of_entry nodes' es i ≡ m
+  here = get_or-set_same nodes (entry_at es i).place m no_node (k.within i within)
+
+  there : (j : ℕ) → j < length es → j ≢ i → node_of_entry nodes' es j ≡ node_of_entry nodes es j
+  there j lt ne = get_or-set_other nodes (entry_at es i).place (entry_at es j).place m no_node (apart_places nodes es free index next k i j within lt ne)
+
+  same_shape : (j : ℕ) → j < length es → shape (node_of_entry nodes' es j) ≡ shape (node_of_entry nodes es j)
+  same_shape j lt = elim (cases_eq j i) [
+    | inl same ↦ rw same (ap shape here ∙ keeps)
+    | inr other ↦ ap shape (there j lt other)
+  ]
+
+  changed : (j : ℕ) → j < length es → node_of_entry nodes' es j ≡ (if eqb (node_of_entry nodes es j).uid uid then h (node_of_entry nodes es j) else node_of_entry nodes es j)
+  changed j lt = elim (cases_eq j i) [
+    | inl same ↦ rw (same, eq-eqb (node_of_entry nodes es i).uid uid (k.uids i within ∙ is_uid)) (here ∙ is)
+    | inr other ↦ rw (not_of nodes es free index next k uid i j within is_uid lt other) (there j lt other)
+  ]
+
+  pub view_changed : newest nodes' es ≡ with_changed uid h (newest nodes es)
+  view_changed = newest_changed nodes' nodes es (λ n. if eqb n.uid uid then h n else n) changed
+
+  pub kept_changed : IsKept nodes' es free index next
+  kept_changed = record {
+    uids = λ j lt. ap (λ (t : Term). t.uid) (same_shape j lt) ∙ k.uids j lt;
+    superiors = λ j lt. ap (λ (t : Term). t.superior) (same_shape j lt) ∙ k.superiors j lt;
+    within = λ j lt. rw (length-set nodes (entry_at es i).place m) (k.within j lt);
+    rising = k.rising;
+    below = k.below;
+    free_within = λ j lt. rw (length-set nodes (entry_at es i).place m) (k.free_within j lt);
+    free_apart = k.free_apart;
+    unused = k.unused;
+    count = length-set nodes (entry_at es i).place m ∙ k.count;
+    few = rw (length-set nodes (entry_at es i).place m) k.few;
+    named = λ j lt. subst (λ (t : Term). IsNamed index.pairs (entry_at es j).superior t.name (entry_at es j).place) (sym (same_shape j lt)) (k.named j lt);
+    places = k.places;
+    pairs = k.pairs;
+    room = k.room;
+    tree = subst IsTree (sym (shapes_newest nodes' nodes es same_shape)) k.tree;
+  }
+
+pub set_kept : (nodes : List Node) (es : List Entry) (free : List ℕ) (index : Pairs) (next : ℕ) → IsKept nodes es free index next → (uid place : ℕ) → (i : ℕ) × (i < length es) × ((entry_at es i).uid ≡ uid) × ((entry_at es i).place ≡ place)
+    → (h : Node → Node) → ((n : Node) → shape (h n) ≡ shape n) → (x : Node) → x ≡ get_or nodes place x
+    → IsKept (set nodes place (h x)) es free index next × (newest (set nodes place (h x)) es ≡ with_changed uid h (newest nodes es))
+set_kept nodes es free index next k uid place at h keeps x read =
+    let within : place < length nodes = subst (λ q. q < length nodes) at.3 (k.within at.0 at.1) in
+    let node : x ≡ node_of_entry nodes es at.0 = get_or_read nodes place x within read no_node ∙ ap (node_at nodes) (sym at.3) in
+    let same : shape (h x) ≡ shape (node_of_entry nodes es at.0) = keeps x ∙ ap shape node in
+    subst (λ q. IsKept (set nodes q (h x)) es free index next × (newest (set nodes q (h x)) es ≡ with_changed uid h (newest nodes es))) at.3
+    (kept_changed nodes es free index next k uid at.0 at.1 at.2 h (h x) (ap h node) same, view_changed nodes es free index next k uid at.0 at.1 at.2 h (h x) (ap h node) same)
+
+pub acl_read : (nodes : List Node) (es : List Entry) (free : List ℕ) (index : Pairs) (next : ℕ) → IsKept nodes es free index next → (uid place : ℕ) → (i : ℕ) × (i < length es) × ((entry_at es i).uid ≡ uid) × ((entry_at es i).place ≡ place)
+    → (x : Node) → x ≡ get_or nodes place x → x.acl ≡ acl_of (newest nodes es) uid
+acl_read nodes es free index next k uid place at x read =
+    let entry : HasEntry es uid (entry_at es at.0) = record { i = at.0; within = at.1; entry_is = refl; uid_is = at.2 } in
+    let found : node_of (newest nodes es) uid ≡ Some x = node_read nodes es free index next k uid (entry_at es at.0) entry x (subst (λ q. x ≡ get_or nodes q x) (sym at.3) read) in
+    rw found refl

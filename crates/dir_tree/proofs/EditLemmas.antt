@@ -1,0 +1,59 @@
+-- What holds of each element of a list after one more at its end, or one less.
+use Rattle.std.proofs.Common.{◌≡◌, ◌≢◌, ℕ, ◌+◌, ◌-◌, ◌<◌, List, [], ◌∷◌, ◌++◌, length, refl, sym, subst, arith, get_or, inl, inr, leb, if◌then◌else◌}
+use Rattle.std.specs.List.{remove}
+use Rattle.std.proofs.lemmas.Bool.{cases_lt, le-leb, lt-leb}
+use Rattle.std.proofs.lemmas.List.{get_or_append_left, get_or_push, length_push}
+use Rattle.std.proofs.lemmas.List.Edits.{length-remove, get_or-remove_below, get_or-remove_above}
+
+pub each_pushed : {X : Type 0} (xs : List X) (y d : X) (P : X → Type 0) → ((i : ℕ) → i < length xs → P (get_or xs i d)) → P y → (i : ℕ) → i < length (xs ++ y ∷ []) → P (get_or (xs ++ y ∷ []) i d)
+each_pushed xs y d P old new i lt =
+    let n : length (xs ++ y ∷ []) ≡ length xs + 1 = length_push xs y in
+    elim (cases_lt i (length xs)) [
+      | inl before ↦ subst P (sym (get_or_append_left xs (y ∷ []) d i before)) (old i before)
+      | inr last ↦ subst P (sym (get_or_push xs y d i (omega arith))) new
+    ]
+
+-- the place in the longer list of what stands k-th once the i-th is out
+abbrev pub was : ℕ → ℕ → ℕ
+was i k = if leb i k then k + 1 else k
+
+pub was_other : (i k : ℕ) → was i k ≢ i
+was_other i k e = elim (cases_lt k i) [
+  | inl before ↦ (let z : k ≡ i = rw (lt-leb i k before) at e in omega arith)
+  | inr after ↦ (let z : k + 1 ≡ i = rw (le-leb i k after) at e in omega arith)
+]
+
+pub was_up : (i a b : ℕ) → a < b → was i a < was i b
+was_up i a b lt = elim (cases_lt a i) [
+  | inl x ↦ elim (cases_lt b i) [ inl y ↦ rw (lt-leb i a x, lt-leb i b y) lt | inr y ↦ rw (lt-leb i a x, le-leb i b y) (omega arith) ]
+  | inr x ↦ rw (le-leb i a x, le-leb i b (omega arith)) (omega arith)
+]
+
+-- and where it stands then
+abbrev pub now : ℕ → ℕ → ℕ
+now i j = if leb i j then j - 1 else j
+
+pub was_now : (i j : ℕ) → j ≢ i → was i (now i j) ≡ j
+was_now i j ne = elim (cases_lt j i) [
+  | inl x ↦ rw (lt-leb i j x, lt-leb i j x) refl
+  | inr x ↦ rw (le-leb i j x, le-leb i (j - 1) (omega arith)) (omega arith)
+]
+
+module _ {X : Type 0} (xs : List X) (i : ℕ) (within : i < length xs) where
+  pub at_was : (k : ℕ) (d : X) → get_or (remove xs i) k d ≡ get_or xs (was i k) d
+  at_was k d = elim (cases_lt k i) [
+    | inl before ↦ rw (lt-leb i k before) (get_or-remove_below xs i d k before within)
+    | inr after ↦ rw (le-leb i k after) (get_or-remove_above xs i d k after within)
+  ]
+
+  pub fewer : length (remove xs i) + 1 ≡ length xs
+  fewer = length-remove xs i within
+
+  pub was_within : (k : ℕ) → k < length (remove xs i) → was i k < length xs
+  was_within k lt = (let n = fewer in elim (cases_lt k i) [ inl x ↦ rw (lt-leb i k x) (omega arith) | inr x ↦ rw (le-leb i k x) (omega arith) ])
+
+  pub now_within : (j : ℕ) → j < length xs → j ≢ i → now i j < length (remove xs i)
+  now_within j lt ne = (let n = fewer in elim (cases_lt j i) [ inl x ↦ rw (lt-leb i j x) (omega arith) | inr x ↦ rw (le-leb i j x) (omega arith) ])
+
+  pub each_left : (d : X) (P : X → Type 0) → ((j : ℕ) → j < length xs → j ≢ i → P (get_or xs j d)) → (k : ℕ) → k < length (remove xs i) → P (get_or (remove xs i) k d)
+  each_left d P all k lt = subst P (sym (at_was k d)) (all (was i k) (was_within k lt) (was_other i k))

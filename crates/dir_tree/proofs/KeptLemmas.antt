@@ -1,0 +1,169 @@
+-- What a new branch, a branch less, and a change of a node leave of the tables behind a tree.
+use Rattle.std.proofs.Common.{◌≡◌, ◌≢◌, ℕ, suc, ◌<◌, Bool, true, false, eqb, leb, ◌&&◌, List, [], ◌∷◌, ◌++◌, length, Option, Some, None, refl, sym, ap, subst, ◌∙◌, arith, get_or, inl, inr, is_some, IfSome}
+use Rattle.std.specs.List.{find, list_any}
+use Rattle.std.specs.Option.{option_map, option_and_then}
+use Rattle.std.proofs.lemmas.Bool.{cases_Bool, cases_lt, cases_order, both_ways, le-leb, eq-eqb, ne_eqb, eqb-true, leb-false, and_from}
+use Rattle.std.proofs.lemmas.List.{map-append, get_or_read}
+use Rattle.storage_terms.specs.Tree.{Node as Term, above, branch_in, is_branch, is_inferior, has_directory}
+use Rattle.dir_tree.specs.declared.node.Node.{Node}
+use Rattle.dir_tree.specs.declared.node.AddFault.TheVariants as add_fault
+use Rattle.dir_tree.specs.declared.entries.Entry.{Entry}
+use Rattle.dir_tree.specs.Index.{Pairs, HasPair, key_hash, node_at, no_node}
+use Rattle.dir_tree.specs.Nodes.{node_of, is_in, is_directory, is_segment, add_fault_of}
+use Rattle.dir_tree.specs.Shape.{shape, shapes, AreBelow}
+use Rattle.dir_tree.specs.Kept.{entry_at, newest, IsNamed, IsKept, HasEntry}
+use Rattle.dir_tree.proofs.FindLemmas.{IsMember, member_parts, member_map, member_found, branch_found, any_member, any_found, find_map, found_member, found_passes}
+use Rattle.dir_tree.proofs.NewestLemmas.{node_of_entry, none_newest, find_newest, member_newest}
+use Rattle.dir_tree.proofs.TreeLemmas.{superior_in, lies, only_branch, is_below, not_below, IsUp}
+
+-- ---- nodes and their shapes
+
+pub directory_shape : (ns : List Node) (u : ℕ) → has_directory (shapes ns) u ≡ is_directory ns u
+directory_shape [] u = refl
+directory_shape (n ∷ ns) u = elim (cases_Bool (eqb n.uid u)) [ inl is ↦ rw is refl | inr isnt ↦ rw isnt (directory_shape ns u) ]
+
+pub directory_in : (ns : List Node) (u : ℕ) → is_directory ns u ≡ true → is_in ns u ≡ true
+directory_in [] u e = cc
+directory_in (n ∷ ns) u e = elim (cases_Bool (eqb n.uid u)) [ inl is ↦ rw is refl | inr isnt ↦ rw isnt (directory_in ns u (rw isnt at e)) ]
+
+pub segment_in : (ns : List Node) (u : ℕ) → is_segment ns u ≡ true → is_in ns u ≡ true
+segment_in [] u e = cc
+segment_in (n ∷ ns) u e = elim (cases_Bool (eqb n.uid u)) [ inl is ↦ rw is refl | inr isnt ↦ rw isnt (segment_in ns u (rw isnt at e)) ]
+
+below_append : (v : ℕ) (xs ys : List Term) → AreBelow v xs → AreBelow v ys → AreBelow v (xs ++ ys)
+below_append v [] ys a b = b
+below_append v (x ∷ xs) ys a b = (a.0, below_append v xs ys a.1 b)
+
+pub below_newest : (v : ℕ) (ns : List Node) (es : List Entry) → ((i : ℕ) → i < length es → (node_of_entry ns es i).uid < v) → AreBelow v (shapes (newest ns es))
+below_newest v ns [] all = tt
+below_newest v ns (e ∷ es) all =
+    rw (map-append shape (newest ns es) (node_at ns e.place ∷ []))
+    (below_append v (shapes (newest ns es)) (shape (node_at ns e.place) ∷ []) (below_newest v ns es (λ i lt. all (suc i) (omega arith))) (all 0 (omega arith), tt))
+
+-- what keeps no branch from being added
+pub record MayAdd (ns : List Term) (s : ℕ) (name : List ℕ) (dir : Bool) : Type 0 where
+  pub new : branch_in ns s name ≡ None
+  pub shallow : dir ≡ true → length (above ns s) < 8
+  pub room : length ns < 4097
+
+no_fault_at : (ns : List Term) (s : ℕ) (name : List ℕ) (dir : Bool) → add_fault_of ns s name dir ≡ None → (o : Option Term) → branch_in ns s name ≡ o → MayAdd ns s name dir
+no_fault_at ns s name dir e (Some n) is = (let z : is_some (branch_in ns s name) ≡ true = ap is_some is in let y : Some add_fault.Exists ≡ None = rw z at e in cc)
+no_fault_at ns s name dir e None is =
+    let z : is_some (branch_in ns s name) ≡ false = ap is_some is in
+    elim (cases_Bool (dir && leb 8 (length (above ns s)))) [
+      | inl deep ↦ (let y : Some add_fault.Deep ≡ None = rw (z, deep) at e in cc)
+      | inr isnt ↦ elim (cases_Bool (leb 4097 (length ns))) [
+        | inl full ↦ (let y : Some add_fault.Room ≡ None = rw (z, isnt, full) at e in cc)
+        | inr room ↦ record {
+          new = is;
+          shallow = λ d. elim (cases_lt (length (above ns s)) 8) [ inl lt ↦ lt | inr le ↦ absurd (both_ways _ isnt (and_from dir (leb 8 (length (above ns s))) d (le-leb 8 (length (above ns s)) le))) ];
+          room = leb-false 4097 (length ns) room;
+        }
+      ]
+    ]
+
+pub no_fault : (ns : List Term) (s : ℕ) (name : List ℕ) (dir : Bool) → add_fault_of ns s name dir ≡ None → MayAdd ns s name dir
+no_fault ns s name dir e = no_fault_at ns s name dir e (branch_in ns s name) refl
+
+-- ---- an entry and its node
+
+module _ (nodes : List Node) (es : List Entry) (free : List ℕ) (index : Pairs) (next : ℕ) (k : IsKept nodes es free index next) where
+  -- two entries are of different uids, and so in different places
+  apart_uids : (i j : ℕ) → i < length es → j < length es → j ≢ i → (entry_at es j).uid ≢ (entry_at es i).uid
+  apart_uids i j lt_i lt_j ne e = elim (cases_order j i) [
+    | inl same ↦ ne same
+    | inr differ ↦ elim differ [ inl less ↦ (let x : (entry_at es j).uid < (entry_at es i).uid = k.rising j i less lt_i in omega arith) | inr more ↦ (let x : (entry_at es i).uid < (entry_at es j).uid = k.rising i j more lt_j in omega arith) ]
+  ]
+
+  pub apart_places : (i j : ℕ) → i < length es → j < length es → j ≢ i → (entry_at es j).place ≢ (entry_at es i).place
+  apart_places i j lt_i lt_j ne e = apart_uids i j lt_i lt_j ne (sym (k.uids j lt_j) ∙ ap (λ p. (node_at nodes p).uid) e ∙ k.uids i lt_i)
+
+  pub not_of : (uid i j : ℕ) → i < length es → (entry_at es i).uid ≡ uid → j < length es → j ≢ i → eqb (node_of_entry nodes es j).uid uid ≡ false
+  not_of uid i j lt_i is lt_j ne = ne_eqb _ _ (λ e. apart_uids i j lt_i lt_j ne (sym (k.uids j lt_j) ∙ e ∙ sym is))
+
+  pub node_found : (uid i : ℕ) → i < length es → (entry_at es i).uid ≡ uid → node_of (newest nodes es) uid ≡ Some (node_of_entry nodes es i)
+  node_found uid i lt is = find_newest (λ n. eqb n.uid uid) nodes es i lt (eq-eqb _ _ (k.uids i lt ∙ is)) (λ j lt_j ne. not_of uid i j lt is lt_j ne)
+
+  pub node_missing : (uid : ℕ) → ((i : ℕ) → i < length es → (entry_at es i).uid ≢ uid) → node_of (newest nodes es) uid ≡ None
+  node_missing uid none = none_newest (λ n. eqb n.uid uid) nodes es (λ j lt. ne_eqb _ _ (λ e. none j lt (sym (k.uids j lt) ∙ e)))
+
+-- an entry is that of a node that is there
+pub member_entry : (ns : List Node) (es : List Entry) (x : Node) → IsMember x (newest ns es) → (i : ℕ) × (i < length es) × (node_of_entry ns es i ≡ x)
+member_entry ns [] x m = absurd m
+member_entry ns (e ∷ es) x m = elim (member_parts x (newest ns es) (node_at ns e.place ∷ []) m) [
+  | inl old ↦ (let h = member_entry ns es x old in (suc h.0, omega (arith, h.1), h.2))
+  | inr last ↦ elim last [ inl same ↦ (0, omega arith, sym same) | inr none ↦ absurd none ]
+]
+
+some_of : {X : Type 0} (o : Option X) → is_some o ≡ true → (x : X) × (o ≡ Some x)
+some_of None e = cc
+some_of (Some x) e = (x, refl)
+
+pub entry_present : (nodes : List Node) (es : List Entry) (free : List ℕ) (index : Pairs) (next : ℕ) → IsKept nodes es free index next → (uid : ℕ) → is_in (newest nodes es) uid ≡ true → (i : ℕ) × (i < length es) × ((entry_at es i).uid ≡ uid)
+entry_present nodes es free index next k uid e =
+    let n : (n : Node) × (node_of (newest nodes es) uid ≡ Some n) = some_of (node_of (newest nodes es) uid) e in
+    let m : (i : ℕ) × (i < length es) × (node_of_entry nodes es i ≡ n.0) = member_entry nodes es n.0 (found_member (λ n. eqb n.uid uid) (newest nodes es) n.0 n.1) in
+    let is : eqb n.0.uid uid ≡ true = found_passes (λ n. eqb n.uid uid) (newest nodes es) n.0 n.1 in
+    (m.0, m.1, sym (k.uids m.0 m.1) ∙ ap (λ (n : Node). n.uid) m.2 ∙ eqb-true n.0.uid uid is)
+
+pub up_in : (ns : List Node) (u : ℕ) (o : Option ℕ) → IsUp (shapes ns) u o → IfSome o (λ s. (s < u) × (is_in ns s ≡ true))
+up_in ns u None up = tt
+up_in ns u (Some s) up = (up.0, directory_in ns s (sym (directory_shape ns s) ∙ up.1))
+
+-- ---- what a look-up reads
+
+pub node_read : (nodes : List Node) (es : List Entry) (free : List ℕ) (index : Pairs) (next : ℕ) → IsKept nodes es free index next → (uid : ℕ) (e : Entry) → HasEntry es uid e → (x : Node) → x ≡ get_or nodes e.place x → node_of (newest nodes es) uid ≡ Some x
+node_read nodes es free index next k uid e h x read =
+    let within : e.place < length nodes = subst (λ (d : Entry). d.place < length nodes) h.entry_is (k.within h.i h.within) in
+    let node : x ≡ node_at nodes e.place = get_or_read nodes e.place x within read no_node in
+    node_found nodes es free index next k uid h.i h.within (ap (λ (d : Entry). d.uid) h.entry_is ∙ h.uid_is)
+    ∙ ap (λ (d : Entry). Some (node_at nodes d.place)) h.entry_is ∙ ap (λ (n : Node). Some n) (sym node)
+
+-- the superior of a node is its entry's
+pub superior_read : (nodes : List Node) (es : List Entry) (free : List ℕ) (index : Pairs) (next : ℕ) → IsKept nodes es free index next → (uid : ℕ) (e : Entry) → HasEntry es uid e → superior_in (shapes (newest nodes es)) uid ≡ e.superior
+superior_read nodes es free index next k uid e h =
+    let found : node_of (newest nodes es) uid ≡ Some (node_of_entry nodes es h.i) = node_found nodes es free index next k uid h.i h.within (ap (λ (d : Entry). d.uid) h.entry_is ∙ h.uid_is) in
+    let shaped : find (λ n. eqb n.uid uid) (shapes (newest nodes es)) ≡ Some (shape (node_of_entry nodes es h.i)) = find_map (λ n. eqb n.uid uid) shape (newest nodes es) ∙ ap (option_map shape) found in
+    ap (option_and_then (λ n. n.superior)) shaped ∙ k.superiors h.i h.within ∙ ap (λ (d : Entry). d.superior) h.entry_is
+
+-- the branch of a name is the node that the index finds
+pub branch_read : (nodes : List Node) (es : List Entry) (free : List ℕ) (index : Pairs) (next : ℕ) → IsKept nodes es free index next → (d : ℕ) (name : List ℕ) (place : ℕ) → HasPair index.pairs (key_hash d name) place → is_branch d name (shape (node_at nodes place)) ≡ true
+    → branch_in (shapes (newest nodes es)) d name ≡ Some (shape (node_at nodes place))
+branch_read nodes es free index next k d name place pair is = branch_at (branch_in (shapes (newest nodes es)) d name) refl
+  where
+    member : IsMember (shape (node_at nodes place)) (shapes (newest nodes es))
+    member = (let p = k.places (key_hash d name) place pair in subst (λ q. IsMember (shape (node_at nodes q)) (shapes (newest nodes es))) p.place_is (member_map shape _ (newest nodes es) (member_newest nodes es p.i p.within)))
+
+    branch_at : (o : Option Term) → branch_in (shapes (newest nodes es)) d name ≡ o → branch_in (shapes (newest nodes es)) d name ≡ Some (shape (node_at nodes place))
+    branch_at None e = absurd (member_found (is_branch d name) (shapes (newest nodes es)) _ member is (sym (branch_found d name (shapes (newest nodes es))) ∙ e))
+    branch_at (Some x) e = e ∙ ap (λ (n : Term). Some n) (only_branch (shapes (newest nodes es)) k.tree d name x _ e member is)
+
+no_branch : (n : Node) (d : ℕ) (name : List ℕ) (pairs : List (ℕ × ℕ)) (place : ℕ) → IsNamed pairs n.superior n.name place → (HasPair pairs (key_hash d name) place → is_branch d name (shape n) ≡ false) → is_branch d name (shape n) ≡ false
+no_branch n d name pairs place named none = elim (cases_Bool (is_branch d name (shape n))) [
+  | inr isnt ↦ isnt
+  | inl is ↦
+      (let h : (n.superior ≡ Some d) × (n.name ≡ name) = lies d name (shape n) is in
+      let pair : HasPair pairs (key_hash d n.name) place = subst (λ o. IsNamed pairs o n.name place) h.0 named in
+      none (subst (λ (m : List ℕ). HasPair pairs (key_hash d m) place) h.1 pair))
+]
+
+pub branch_missing : (nodes : List Node) (es : List Entry) (free : List ℕ) (index : Pairs) (next : ℕ) → IsKept nodes es free index next → (d : ℕ) (name : List ℕ) → ((place : ℕ) → HasPair index.pairs (key_hash d name) place → is_branch d name (shape (node_at nodes place)) ≡ false)
+    → branch_in (shapes (newest nodes es)) d name ≡ None
+branch_missing nodes es free index next k d name none =
+    branch_found d name (shapes (newest nodes es)) ∙ find_map (is_branch d name) shape (newest nodes es)
+    ∙ ap (option_map shape) (none_newest (λ n. is_branch d name (shape n)) nodes es (λ j lt.
+    no_branch (node_of_entry nodes es j) d name index.pairs (entry_at es j).place (subst (λ o. IsNamed index.pairs o (node_of_entry nodes es j).name (entry_at es j).place) (sym (k.superiors j lt)) (k.named j lt)) (none (entry_at es j).place)))
+
+pub places_within : (nodes : List Node) (es : List Entry) (free : List ℕ) (index : Pairs) (next : ℕ) → IsKept nodes es free index next → (hash place : ℕ) → HasPair index.pairs hash place → place < length nodes
+places_within nodes es free index next k hash place pair = (let p = k.places hash place pair in subst (λ q. q < length nodes) p.place_is (k.within p.i p.within))
+
+-- a node has an inferior where an entry has it as superior
+pub inferior_since : (nodes : List Node) (es : List Entry) (free : List ℕ) (index : Pairs) (next : ℕ) → IsKept nodes es free index next → (u i : ℕ) → i < length es → (entry_at es i).superior ≡ Some u → list_any (is_inferior u) (shapes (newest nodes es)) ≡ true
+inferior_since nodes es free index next k u i lt is =
+    let up : (node_of_entry nodes es i).superior ≡ Some u = k.superiors i lt ∙ is in
+    any_member (is_inferior u) (shapes (newest nodes es)) (shape (node_of_entry nodes es i)) (member_map shape _ (newest nodes es) (member_newest nodes es i lt)) (is_below u (shape (node_of_entry nodes es i)) up)
+
+pub no_inferior : (nodes : List Node) (es : List Entry) (free : List ℕ) (index : Pairs) (next : ℕ) → IsKept nodes es free index next → (u : ℕ) → ((i : ℕ) → i < length es → (entry_at es i).superior ≢ Some u) → list_any (is_inferior u) (shapes (newest nodes es)) ≡ false
+no_inferior nodes es free index next k u none =
+    any_found (is_inferior u) (shapes (newest nodes es)) ∙ ap is_some (find_map (is_inferior u) shape (newest nodes es) ∙ ap (option_map shape) (none_newest (λ n. is_inferior u (shape n)) nodes es (λ j lt.
+    not_below u (shape (node_of_entry nodes es j)) (λ e. none j lt (sym (k.superiors j lt) ∙ e)))))

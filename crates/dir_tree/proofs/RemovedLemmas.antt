@@ -1,0 +1,130 @@
+-- What a branch less leaves of the tables behind a tree.
+use Rattle.std.proofs.Common.{◌≡◌, ◌≢◌, ℕ, ◌+◌, ◌<◌, ◌≤◌, false, eqb, not, List, [], ◌∷◌, ◌++◌, length, Option, Some, None, refl, sym, ap, subst, ◌∙◌, arith, get_or, inl, inr}
+use Rattle.std.specs.Prelude.{◌↔◌}
+use Rattle.std.specs.List.{find, remove, list_any}
+use Rattle.std.specs.Option.{option_map}
+use Rattle.std.proofs.lemmas.Bool.{cases_lt, eq-eqb, not_from_true, not_from_false}
+use Rattle.std.proofs.lemmas.List.{get_or_read, length_push, get_or_append_left, get_or_push}
+use Rattle.storage_terms.specs.Tree.{is_inferior}
+use Rattle.dir_tree.specs.declared.node.Node.{Node}
+use Rattle.dir_tree.specs.declared.entries.Entry.{Entry}
+use Rattle.dir_tree.specs.Index.{Pairs, HasPair, key_hash, node_at, no_node}
+use Rattle.dir_tree.specs.Nodes.{without, node_of}
+use Rattle.dir_tree.specs.Shape.{shape, shapes, IsTree}
+use Rattle.dir_tree.specs.Kept.{no_entry, entry_at, newest, IsNamed, IsPlace, IsKept}
+use Rattle.dir_tree.proofs.EditLemmas.{each_pushed, each_left, was, was_up, was_other, now, was_now, at_was, fewer, was_within, now_within}
+use Rattle.dir_tree.proofs.FindLemmas.{filter_map_same, find_map}
+use Rattle.dir_tree.proofs.NewestLemmas.{node_of_entry, newest_remove}
+use Rattle.dir_tree.proofs.TreeLemmas.{tree_left, root_only}
+use Rattle.dir_tree.proofs.KeptLemmas.{apart_places, not_of, node_found}
+
+module _ (nodes : List Node) (es : List Entry) (free : List ℕ) (index : Pairs) (next : ℕ) (k : IsKept nodes es free index next) (i : ℕ) (within : i < length es) (index' : Pairs)
+    (leaf : list_any (is_inferior (entry_at es i).uid) (shapes (newest nodes es)) ≡ false)
+    (pairs : (h p : ℕ) → HasPair index'.pairs h p ↔ (HasPair index.pairs h p × (p ≢ (entry_at es i).place)))
+    (count : length index'.pairs + 1 ≡ length index.pairs) (room : index'.room ≡ index.room) where
+  abbrev uid : ℕ
+  uid = (entry_at es i).uid
+
+  abbrev place : ℕ
+  place = (entry_at es i).place
+
+  abbrev es' : List Entry
+  es' = remove es i
+
+  abbrev free' : List ℕ
+  free' = free ++ place ∷ []
+
+  pub view_removed : newest nodes es' ≡ without uid (newest nodes es)
+  view_removed = newest_remove (λ n. not (eqb n.uid uid)) nodes es i within (not_from_true _ (eq-eqb _ _ (k.uids i within))) (λ j lt ne. not_from_false _ (not_of nodes es free index next k uid i j within refl lt ne))
+
+  size : length es' + 1 ≡ length es
+  size = fewer es i within
+
+  size_free : length free' ≡ length free + 1
+  size_free = length_push free place
+
+  old : (a : ℕ) → entry_at es' a ≡ entry_at es (was i a)
+  old a = at_was es i within a no_entry
+
+  old_within : (a : ℕ) → a < length es' → was i a < length es
+  old_within a lt = was_within es i within a lt
+
+  old_free : (a : ℕ) → a < length free → get_or free' a 0 ≡ get_or free a 0
+  old_free a lt = get_or_append_left free (place ∷ []) 0 a lt
+
+  new_free : (a : ℕ) → length free ≤ a → a < length free' → get_or free' a 0 ≡ place
+  new_free a le lt = (let m = size_free in get_or_push free place 0 a (omega arith))
+
+  rising' : (a b : ℕ) → a < b → b < length es' → (entry_at es' a).uid < (entry_at es' b).uid
+  rising' a b lt in_b = rw (old a, old b) (k.rising (was i a) (was i b) (was_up i a b lt) (old_within b in_b))
+
+  free_apart' : (a b : ℕ) → a < b → b < length free' → get_or free' a 0 ≢ get_or free' b 0
+  free_apart' a b lt in_b e = (let m = size_free in elim (cases_lt b (length free)) [
+    | inl before ↦ k.free_apart a b lt before (sym (old_free a (omega arith)) ∙ e ∙ old_free b before)
+    | inr last ↦ k.unused a i (omega arith) within (sym (old_free a (omega arith)) ∙ e ∙ new_free b last in_b)
+  ])
+
+  unused' : (a b : ℕ) → a < length free' → b < length es' → get_or free' a 0 ≢ (entry_at es' b).place
+  unused' a b in_a in_b e =
+      (let at : get_or free' a 0 ≡ (entry_at es (was i b)).place = e ∙ ap (λ (d : Entry). d.place) (old b) in
+      elim (cases_lt a (length free)) [
+        | inl before ↦ k.unused a (was i b) before (old_within b in_b) (sym (old_free a before) ∙ at)
+        | inr last ↦ apart_places nodes es free index next k i (was i b) within (old_within b in_b) (was_other i b) (sym at ∙ new_free a last in_a)
+      ])
+
+  still_named : (o : Option ℕ) (name : List ℕ) (p : ℕ) → p ≢ place → IsNamed index.pairs o name p → IsNamed index'.pairs o name p
+  still_named None name p ne none = λ h pair. none h ((pairs h p).0 pair).0
+  still_named (Some d) name p ne pair = (pairs (key_hash d name) p).1 (pair, ne)
+
+  places' : (h p : ℕ) → HasPair index'.pairs h p → IsPlace es' p
+  places' h p pair =
+      (let both : HasPair index.pairs h p × (p ≢ place) = (pairs h p).0 pair in
+      let q = k.places h p both.0 in
+      let other : q.i ≢ i = λ e. both.1 (sym q.place_is ∙ ap (λ j. (entry_at es j).place) e) in
+      record { i = now i q.i; within = now_within es i within q.i q.within other; place_is = ap (λ (d : Entry). d.place) (old (now i q.i)) ∙ ap (λ j. (entry_at es j).place) (was_now i q.i other) ∙ q.place_is })
+
+  pub kept_removed : IsKept nodes es' free' index' next
+  kept_removed = record {
+    uids = each_left es i within no_entry (λ e. (node_at nodes e.place).uid ≡ e.uid) (λ j lt ne. k.uids j lt);
+    superiors = each_left es i within no_entry (λ e. (node_at nodes e.place).superior ≡ e.superior) (λ j lt ne. k.superiors j lt);
+    within = each_left es i within no_entry (λ e. e.place < length nodes) (λ j lt ne. k.within j lt);
+    rising = rising';
+    below = each_left es i within no_entry (λ e. e.uid < next) (λ j lt ne. k.below j lt);
+    free_within = each_pushed free place 0 (λ p. p < length nodes) k.free_within (k.within i within);
+    free_apart = free_apart';
+    unused = unused';
+    count = (let m = size in let f = size_free in let c : length nodes ≡ length es + length free = k.count in omega arith);
+    few = k.few;
+    named = each_left es i within no_entry (λ e. IsNamed index'.pairs e.superior (node_at nodes e.place).name e.place) (λ j lt ne. still_named (entry_at es j).superior (node_of_entry nodes es j).name (entry_at es j).place (apart_places nodes es free index next k i j within lt ne) (k.named j lt));
+    places = places';
+    pairs = (let m = size in let p : length index.pairs + 1 ≡ length es = k.pairs in omega arith);
+    room = room ∙ k.room;
+    tree = subst (λ ns. IsTree (shapes ns)) (sym view_removed) (subst IsTree (sym (filter_map_same (λ n. not (eqb n.uid uid)) shape (newest nodes es))) (tree_left uid (shapes (newest nodes es)) leaf k.tree));
+  }
+
+pub removed_at : (nodes : List Node) (es : List Entry) (free : List ℕ) (index : Pairs) (next : ℕ) → IsKept nodes es free index next → (uid i : ℕ) (e : Entry) → i < length es → e ≡ get_or es i e → (entry_at es i).uid ≡ uid
+    → list_any (is_inferior uid) (shapes (newest nodes es)) ≡ false → (index' : Pairs) → ((h p : ℕ) → HasPair index'.pairs h p ↔ (HasPair index.pairs h p × (p ≢ e.place))) → length index'.pairs + 1 ≡ length index.pairs → index'.room ≡ index.room
+    → IsKept nodes (remove es i) (free ++ e.place ∷ []) index' next × (newest nodes (remove es i) ≡ without uid (newest nodes es))
+removed_at nodes es free index next k uid i e within read is_uid leaf index' pairs count room =
+    let same : e ≡ entry_at es i = get_or_read es i e within read no_entry in
+    let leaf' : list_any (is_inferior (entry_at es i).uid) (shapes (newest nodes es)) ≡ false = rw is_uid leaf in
+    let pairs' : (h p : ℕ) → HasPair index'.pairs h p ↔ (HasPair index.pairs h p × (p ≢ (entry_at es i).place)) = subst (λ (d : Entry). (h p : ℕ) → HasPair index'.pairs h p ↔ (HasPair index.pairs h p × (p ≢ d.place))) same pairs in (
+      subst (λ (d : Entry). IsKept nodes (remove es i) (free ++ d.place ∷ []) index' next) (sym same) (kept_removed nodes es free index next k i within index' leaf' pairs' count room),
+      subst (λ u. newest nodes (remove es i) ≡ without u (newest nodes es)) is_uid (view_removed nodes es free index next k i within index' leaf' pairs' count room),
+    )
+
+-- the root is the only node without a superior
+pub not_root : (nodes : List Node) (es : List Entry) (free : List ℕ) (index : Pairs) (next : ℕ) → IsKept nodes es free index next → (uid i : ℕ) (e : Entry) → i < length es → e ≡ get_or es i e → (entry_at es i).uid ≡ uid → e.superior ≡ None → uid ≡ 1
+not_root nodes es free index next k uid i e within read is_uid none =
+    let same : e ≡ entry_at es i = get_or_read es i e within read no_entry in
+    let found : node_of (newest nodes es) uid ≡ Some (node_of_entry nodes es i) = node_found nodes es free index next k uid i within is_uid in
+    let shaped : find (λ n. eqb n.uid uid) (shapes (newest nodes es)) ≡ Some (shape (node_of_entry nodes es i)) = find_map (λ n. eqb n.uid uid) shape (newest nodes es) ∙ ap (option_map shape) found in
+    root_only (shapes (newest nodes es)) k.tree uid (shape (node_of_entry nodes es i)) shaped (k.superiors i within ∙ ap (λ (d : Entry). d.superior) (sym same) ∙ none)
+
+pub named_at : (nodes : List Node) (es : List Entry) (free : List ℕ) (index : Pairs) (next : ℕ) → IsKept nodes es free index next → (i : ℕ) (e : Entry) → i < length es → e ≡ get_or es i e → (s : ℕ) → e.superior ≡ Some s → (x : Node) → x ≡ get_or nodes e.place x → HasPair index.pairs (key_hash s x.name) e.place
+named_at nodes es free index next k i e within read s up x read_x =
+    let same : e ≡ entry_at es i = get_or_read es i e within read no_entry in
+    let in_nodes : e.place < length nodes = subst (λ (d : Entry). d.place < length nodes) (sym same) (k.within i within) in
+    let node : x ≡ node_at nodes e.place = get_or_read nodes e.place x in_nodes read_x no_node in
+    let named : IsNamed index.pairs e.superior (node_at nodes e.place).name e.place = subst (λ (d : Entry). IsNamed index.pairs d.superior (node_at nodes d.place).name d.place) (sym same) (k.named i within) in
+    subst (λ (n : Node). HasPair index.pairs (key_hash s n.name) e.place) (sym node) (subst (λ o. IsNamed index.pairs o (node_at nodes e.place).name e.place) up named)

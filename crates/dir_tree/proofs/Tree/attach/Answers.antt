@@ -1,0 +1,59 @@
+use Rattle.std.proofs.Common.{◌≡◌, ◌+◌, ◌<◌, ℕ, List, Bool, length, true, None, Some, refl, sym, ap, subst, arith}
+use Rattle.std.proofs.lemmas.List.{length-map}
+use Rattle.dir_tree.specs.declared.node.Node.{Node}
+use Rattle.dir_tree.specs.declared.node.NewNode.{NewNode}
+use Rattle.dir_tree.specs.declared.entries.Entry.{Entry}
+use Rattle.dir_tree.specs.Nodes.{Branches, is_directory, add_fault_of}
+use Rattle.dir_tree.specs.Shape.{shape, shapes}
+use Rattle.dir_tree.specs.Kept.{newest}
+use Rattle.dir_tree.proofs.AddedLemmas.{no_pair, kept_added, view_added}
+use Rattle.dir_tree.proofs.KeptLemmas.{no_fault}
+use Rattle.dir_tree.proofs.NewestLemmas.{length_newest}
+use Rattle.dir_tree.proofs.Tree.attach.Goals as goal
+
+abbrev new_node : ℕ → ℕ → NewNode → Node
+new_node next superior new = record { uid = next; superior = Some superior; name = new.name; dir = new.dir; volume = new.volume; entry = new.entry; length = new.length; acl = new.acl }
+
+directory_at : (u : ℕ) {s t : Branches} → s ≡ t → is_directory t.nodes u ≡ true → is_directory s.nodes u ≡ true
+directory_at u {s} {t} e h = subst (λ (x : Branches). is_directory x.nodes u ≡ true) (sym e) h
+
+may_at : (u : ℕ) (name : List ℕ) (dir : Bool) {s t : Branches} → s ≡ t → add_fault_of (shapes t.nodes) u name dir ≡ None → add_fault_of (shapes s.nodes) u name dir ≡ None
+may_at u name dir {s} {t} e h = subst (λ (x : Branches). add_fault_of (shapes x.nodes) u name dir ≡ None) (sym e) h
+
+few : (nodes : List Node) (es : List Entry) (s : ℕ) (name : List ℕ) (dir : Bool) → add_fault_of (shapes (newest nodes es)) s name dir ≡ None → length es < 4097
+few nodes es s name dir e = (let m = no_fault (shapes (newest nodes es)) s name dir e in let r : length (shapes (newest nodes es)) < 4097 = m.room in let a = length-map (newest nodes es) shape in let b = length_newest nodes es in omega arith)
+
+pub store-place-requires-clause-room : goal.store-place-requires-clause-room
+store-place-requires-clause-room c none =
+    let lt = few c.self.inside.nodes.items c.self.inside.entries.items c.args.superior c.args.new.name c.args.new.dir (may_at c.args.superior c.args.new.name c.args.new.dir c.self.view_is c.requires.may) in
+    omega (arith, c.self.invariant.0.count, c.self.invariant.1, c.self.inside.nodes.ok.0)
+
+pub store-place-requires-clause-count : goal.store-place-requires-clause-count
+store-place-requires-clause-count c = omega (arith, c.self.invariant.0.few)
+
+pub insert-requires-clause-room : goal.insert-requires-clause-room
+insert-requires-clause-room c =
+    let lt = few c.self.inside.nodes.items c.self.inside.entries.items c.args.superior c.args.new.name c.args.new.dir (may_at c.args.superior c.args.new.name c.args.new.dir c.self.view_is c.requires.may) in
+    omega (arith, c.self.invariant.0.pairs, c.self.invariant.0.room)
+
+pub insert-requires-clause-absent : goal.insert-requires-clause-absent
+insert-requires-clause-absent c = no_pair c.self.inside.nodes.items c.self.inside.entries.items c.self.inside.free.items c.self.inside.index c.self.inside.next c.self.invariant.0 c.store-place.result c.store-place.ensures.place
+
+pub push_reserved-requires : goal.push_reserved-requires
+push_reserved-requires c =
+    let lt = few c.self.inside.nodes.items c.self.inside.entries.items c.args.superior c.args.new.name c.args.new.dir (may_at c.args.superior c.args.new.name c.args.new.dir c.self.view_is c.requires.may) in
+    omega (arith, c.self.invariant.2, c.self.inside.entries.ok.0)
+
+pub invariant_of-self : goal.invariant_of-self
+invariant_of-self c = (
+  rw c.push_reserved.ensures.items (kept_added c.self.inside.nodes.items c.self.inside.entries.items c.self.inside.free.items c.self.inside.index c.self.inside.next c.self.invariant.0 c.args.superior (new_node c.self.inside.next c.args.superior c.args.new) c.store-place.new.nodes.items c.store-place.new.free.items c.insert.new.self c.store-place.result c.key_hash-hash.result
+      refl refl (directory_at c.args.superior c.self.view_is c.requires.directory) (may_at c.args.superior c.args.new.name c.args.new.dir c.self.view_is c.requires.may) c.store-place.ensures.place c.store-place.ensures.here c.store-place.ensures.others c.store-place.ensures.rest c.store-place.ensures.count c.key_hash-hash.ensures c.insert.ensures.pairs c.insert.ensures.count c.insert.ensures.room),
+  omega (arith, c.self.invariant.1, c.store-place.ensures.nodes_room),
+  omega (arith, c.self.invariant.2, c.push_reserved.ensures.capacity),
+  omega (arith, c.self.invariant.3, c.store-place.ensures.free_room),
+)
+
+pub returns : goal.returns
+returns c =
+    rw (← c.self.view_is) (ap (λ (ns : List Node). record { nodes = ns; next = c.self.inside.next + 1 }) (rw c.push_reserved.ensures.items (view_added c.self.inside.nodes.items c.self.inside.entries.items c.self.inside.free.items c.self.inside.index c.self.inside.next c.self.invariant.0 c.args.superior (new_node c.self.inside.next c.args.superior c.args.new) c.store-place.new.nodes.items c.store-place.new.free.items c.insert.new.self c.store-place.result c.key_hash-hash.result
+    refl refl (directory_at c.args.superior c.self.view_is c.requires.directory) (may_at c.args.superior c.args.new.name c.args.new.dir c.self.view_is c.requires.may) c.store-place.ensures.place c.store-place.ensures.here c.store-place.ensures.others c.store-place.ensures.rest c.store-place.ensures.count c.key_hash-hash.ensures c.insert.ensures.pairs c.insert.ensures.count c.insert.ensures.room)))

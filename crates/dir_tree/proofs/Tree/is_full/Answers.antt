@@ -1,0 +1,8 @@
+use Rattle.std.proofs.Common.{◌≡◌, length, ap, nat_le, arith}
+use Rattle.dir_tree.proofs.NewestLemmas.{length_newest}
+use Rattle.dir_tree.proofs.Tree.is_full.Goals as goal
+
+pub returns : goal.returns
+returns c =
+    let count : c.len.result ≡ length c.args.self.now.nodes = rw (← c.self.view_is) (let a = length_newest c.self.inside.nodes.items c.self.inside.entries.items in omega (arith, c.len.ensures, c.self.inside.entries.ok.0)) in
+    ap (nat_le 4097) count

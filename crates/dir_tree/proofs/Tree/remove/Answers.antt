@@ -1,0 +1,20 @@
+use Rattle.std.proofs.Common.{◌≡◌, List, false, eqb, not, refl, sym, ap, ◌∙◌}
+use Rattle.std.proofs.lemmas.Bool.{false_from_ne_true, both_ways}
+use Rattle.storage_terms.specs.Tree.{Node as Term, above}
+use Rattle.dir_tree.specs.Nodes.{Branches, has_inferior}
+use Rattle.dir_tree.specs.Shape.{shape, shapes}
+use Rattle.dir_tree.proofs.FindLemmas.{filter_map_same}
+use Rattle.dir_tree.proofs.QuotaLemmas.{inferior_any}
+use Rattle.dir_tree.proofs.TreeLemmas.{above_left}
+use Rattle.dir_tree.proofs.Tree.remove.Goals as goal
+
+pub detach-requires-clause-leaf : goal.detach-requires-clause-leaf
+detach-requires-clause-leaf c =
+    sym (inferior_any (λ _. 0) c.args.self.now.nodes c.args.uid) ∙ false_from_ne_true _ (λ is. both_ways false refl ((c.in_ok-may_remove.ensures (λ _. 0)).1 is))
+
+pub returns-clause-rest : goal.returns-clause-rest
+returns-clause-rest c u ne =
+    let leaf : has_inferior (shapes c.args.self.now.nodes) c.args.uid ≡ false = sym (inferior_any (λ _. 0) c.args.self.now.nodes c.args.uid) ∙ false_from_ne_true _ (λ is. both_ways false refl ((c.in_ok-may_remove.ensures (λ _. 0)).1 is)) in
+    ap (λ (t : Branches). above (shapes t.nodes) u) c.detach.ensures.tree
+    ∙ ap (λ (ns : List Term). above ns u) (filter_map_same (λ n. not (eqb n.uid c.args.uid)) shape c.args.self.now.nodes)
+    ∙ above_left c.args.uid (shapes c.args.self.now.nodes) leaf u ne

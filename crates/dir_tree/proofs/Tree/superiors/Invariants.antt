@@ -1,0 +1,14 @@
+use Rattle.std.proofs.Common.{◌≡◌, ◌++◌, true}
+use Rattle.storage_terms.specs.Tree.{above}
+use Rattle.dir_tree.specs.Nodes.{is_in}
+use Rattle.dir_tree.specs.Shape.{shapes}
+use Rattle.dir_tree.proofs.Tree.superiors.Given as goal
+
+abbrev pub invariant-loop-superior : goal.invariant-loop-superior
+invariant-loop-superior l = record {
+  so_far : l.up.items ++ above (shapes l.self.nodes) l.at ≡ above (shapes l.self.nodes) l.uid;
+  there : is_in l.self.nodes l.at ≡ true;
+}
+
+abbrev pub decreases-loop-superior : goal.decreases-loop-superior
+decreases-loop-superior l = l.at

@@ -1,0 +1,63 @@
+-- What always holds of the tables behind a tree.
+use Rattle.std.specs.Prelude.{◌≡◌, ◌≢◌, ℕ, ◌+◌, ◌<◌, ◌≤◌, List, [], ◌∷◌, ◌++◌, length, Option, Some, None, slice_index, slice_index_or, ◌-◌, ◌==◌, if◌then◌else◌}
+use Rattle.dir_tree.specs.declared.node.Node.{Node}
+use Rattle.dir_tree.specs.declared.entries.Entry.{Entry}
+use Rattle.dir_tree.specs.Index.{Pairs, HasPair, key_hash, node_at}
+use Rattle.dir_tree.specs.Shape.{shapes, IsTree}
+
+abbrev pub no_entry : Entry
+no_entry = record { uid = 0; superior = None; place = 0 }
+
+abbrev pub entry_at : List Entry → ℕ → Entry
+entry_at entries i = slice_index_or entries i no_entry
+
+-- in the order of uids
+abbrev pub IsAscending : List Entry → Type 0
+IsAscending entries = (i j : ℕ) → i < j → j < length entries → (entry_at entries i).uid < (entry_at entries j).uid
+
+-- an entry of the list has this uid
+pub record HasEntry (entries : List Entry) (uid : ℕ) (e : Entry) : Type 0 where
+  pub i : ℕ
+  pub within : i < length entries
+  pub entry_is : entry_at entries i ≡ e
+  pub uid_is : e.uid ≡ uid
+
+-- the place that the next node gets: the last free one, else behind all others
+abbrev pub place_for : List Node → List ℕ → ℕ
+place_for nodes free = if length free == 0 then length nodes else slice_index free (length free - 1)
+
+-- the nodes of these entries, the newest first
+abbrev pub newest : List Node → List Entry → List Node
+newest nodes [] = []
+newest nodes (e ∷ es) = newest nodes es ++ node_at nodes e.place ∷ []
+
+-- a node stands in the index under its superior and name
+abbrev pub IsNamed : List (ℕ × ℕ) → Option ℕ → List ℕ → ℕ → Type 0
+IsNamed pairs None name place = (hash : ℕ) → HasPair pairs hash place → ⊥
+IsNamed pairs (Some s) name place = HasPair pairs (key_hash s name) place
+
+-- a place of the index is that of a node
+pub record IsPlace (entries : List Entry) (place : ℕ) : Type 0 where
+  pub i : ℕ
+  pub within : i < length entries
+  pub place_is : (entry_at entries i).place ≡ place
+
+pub record IsKept (nodes : List Node) (entries : List Entry) (free : List ℕ) (index : Pairs) (next : ℕ) : Type 0 where
+  -- each entry is that of the node in its place
+  pub uids : (i : ℕ) → i < length entries → (node_at nodes (entry_at entries i).place).uid ≡ (entry_at entries i).uid
+  pub superiors : (i : ℕ) → i < length entries → (node_at nodes (entry_at entries i).place).superior ≡ (entry_at entries i).superior
+  pub within : (i : ℕ) → i < length entries → (entry_at entries i).place < length nodes
+  pub rising : IsAscending entries
+  pub below : (i : ℕ) → i < length entries → (entry_at entries i).uid < next
+  -- the other places
+  pub free_within : (i : ℕ) → i < length free → slice_index free i < length nodes
+  pub free_apart : (i j : ℕ) → i < j → j < length free → slice_index free i ≢ slice_index free j
+  pub unused : (i j : ℕ) → i < length free → j < length entries → slice_index free i ≢ (entry_at entries j).place
+  pub count : length nodes ≡ length entries + length free
+  pub few : length nodes ≤ 4097
+  -- the index
+  pub named : (i : ℕ) → i < length entries → IsNamed index.pairs (entry_at entries i).superior (node_at nodes (entry_at entries i).place).name (entry_at entries i).place
+  pub places : (hash place : ℕ) → HasPair index.pairs hash place → IsPlace entries place
+  pub pairs : length index.pairs + 1 ≡ length entries
+  pub room : index.room ≡ 4096
+  pub tree : IsTree (shapes (newest nodes entries))

@@ -1,0 +1,5 @@
+pub mod Index
+pub mod Kept
+pub mod Lending
+pub mod Nodes
+pub mod Shape

@@ -1,0 +1,68 @@
+use acl::Acl;
+use mnames::Name;
+
+/// A branch of the tree: a directory, or a segment (Bensoussan, Clingen and Daley 1972).
+#[derive(Drop)]
+pub struct Node {
+    /// Its unique identifier, which no other node has or had. The root has 1.
+    pub uid: u32,
+    /// The directory that it lies in; none for the root.
+    pub superior: Option<u32>,
+    /// Its name there.
+    pub name: Name,
+    /// Whether it's a directory.
+    pub dir: bool,
+    /// Its volume, counted from 0.
+    pub volume: u32,
+    /// Its entry in the VTOC of that volume.
+    pub entry: u32,
+    /// The length of a segment, in pages; 0 for a directory.
+    pub length: u32,
+    /// What a segment allows whom; a directory's list has no row.
+    pub acl: Acl,
+}
+
+/// What a new branch is to be, but for its place in the tree and its uid.
+#[derive(Drop)]
+pub struct NewNode {
+    /// Its name in the directory.
+    pub name: Name,
+    /// Whether it's a directory.
+    pub dir: bool,
+    /// Its volume, counted from 0.
+    pub volume: u32,
+    /// Its entry in the VTOC of that volume.
+    pub entry: u32,
+    /// The length of a segment, in pages; 0 for a directory.
+    pub length: u32,
+    /// What a segment allows whom; a directory's list has no row.
+    pub acl: Acl,
+}
+
+/// Why a path can't be followed: what is wrong with the first name from the left that can't.
+#[derive(Clone, Copy, Debug, PartialEq, Eq)]
+pub enum PathFault {
+    /// It's missing in its directory.
+    NoPath,
+    /// It would be looked up in a segment.
+    NotDir,
+}
+
+/// Why a branch can't be added: the first of these that holds.
+#[derive(Clone, Copy, Debug, PartialEq, Eq)]
+pub enum AddFault {
+    /// The directory has a branch of this name.
+    Exists,
+    /// A directory would lie in one of depth 8.
+    Deep,
+    /// The tree has 4096 branches.
+    Room,
+}
+
+/// The node has an inferior, so it can't be removed.
+#[derive(Clone, Copy, Debug, PartialEq, Eq)]
+pub struct NotEmpty;
+
+/// No memory was left for a tree.
+#[derive(Clone, Copy, Debug, PartialEq, Eq)]
+pub struct NoMemory;

@@ -1,0 +1,274 @@
+-- What a new cell, and a cell less, leave.
+use Rattle.std.proofs.Common.{◌≡◌, ◌≢◌, ℕ, ◌+◌, ◌<◌, ◌≤◌, ◌^◌, Bool, true, false, eqb, not, ◌&&◌, List, [], ◌∷◌, length, refl, sym, ap, subst, ◌∙◌, arith, get_or, inl, inr}
+use Rattle.std.specs.List.{insert, remove, sum}
+use Rattle.std.proofs.lemmas.Bool.{cases_Bool, cases_eq, both_ways, eqb-true, eq-eqb, ne_eqb, or_parts, and_parts, or_right, or_left, false_from_ne_true}
+use Rattle.std.proofs.lemmas.List.Edits.{length-insert, length-remove}
+use Rattle.std.proofs.lemmas.List.Sums.{sum_by-insert, sum_by-remove}
+use Rattle.storage_terms.specs.Tree.{above}
+use Rattle.dir_tree.specs.declared.node.Node.{Node}
+use Rattle.dir_tree.specs.Nodes.{is_directory, is_segment, is_in, without}
+use Rattle.dir_tree.specs.Shape.{shapes, HasChains}
+use Rattle.quota_cells.specs.Accounts.{look, has, covers, weigh, load, is_an_account}
+use Rattle.quota_cells.specs.Cells.{CellMaps, quota_in, load_in, stored_in, Fits, IsTable, Enters, Leaves, has_cell}
+use Rattle.quota_cells.specs.Columns.{IsGap}
+use Rattle.quota_cells.proofs.ColumnLaws.{weigh_same}
+use Rattle.quota_cells.proofs.PlaceLaws.{look_at, look_absent}
+use Rattle.quota_cells.proofs.FitLaws.{all_there, covered_there}
+use Rattle.quota_cells.proofs.EditLaws.{has_insert, look_insert, weigh_insert, has_remove, look_remove, look_gone, weigh_remove, rising_insert, rising_remove}
+
+no_weight : (t : ℕ → Bool) (ks ws : List ℕ) → ((k : ℕ) → has ks k ≡ true → t k ≡ false) → weigh t ks ws ≡ 0
+no_weight t [] ws none = refl
+no_weight t (k ∷ ks) [] none = refl
+no_weight t (k ∷ ks) (w ∷ ws) none = rw (none k (or_left (eqb k k) (has ks k) (eq-eqb k k refl)), no_weight t ks ws (λ j h. none j (or_right (eqb k j) (has ks j) h))) refl
+
+not_in_directory : (ns : List Node) (u : ℕ) → is_in ns u ≡ false → is_directory ns u ≡ false
+not_in_directory [] u e = refl
+not_in_directory (n ∷ ns) u e = elim (cases_Bool (eqb n.uid u)) [ inl is ↦ (let z : true ≡ false = rw is at e in cc) | inr isnt ↦ rw isnt (not_in_directory ns u (rw isnt at e)) ]
+
+not_in_segment : (ns : List Node) (u : ℕ) → is_in ns u ≡ false → is_segment ns u ≡ false
+not_in_segment [] u e = refl
+not_in_segment (n ∷ ns) u e = elim (cases_Bool (eqb n.uid u)) [ inl is ↦ (let z : true ≡ false = rw is at e in cc) | inr isnt ↦ rw isnt (not_in_segment ns u (rw isnt at e)) ]
+
+module _ (nodes : List Node) (n : Node) (old new : CellMaps) (fits : Fits nodes old) (chains : HasChains (shapes nodes)) (absent : is_in nodes n.uid ≡ false) (enters : Enters old new n.uid n.dir) where
+  -- segments of the tree are as they were
+  apart : (k : ℕ) → has old.segments k ≡ true → eqb n.uid k ≡ false
+  apart k h = ne_eqb n.uid k (λ e. both_ways (is_segment nodes n.uid) (not_in_segment nodes n.uid absent) (rw e (sym (fits.segments k) ∙ h)))
+
+  same_up : (k : ℕ) → has old.segments k ≡ true → above (shapes (n ∷ nodes)) k ≡ above (shapes nodes) k
+  same_up k h = rw (apart k h) refl
+
+  quotas : quota_in new ≡ quota_in old
+  quotas = λ i d. enters.quotas d i
+
+  loads_same : (e : ℕ) → load (above (shapes (n ∷ nodes))) (quota_in new) new.segments new.stored e ≡ load (above (shapes nodes)) (quota_in old) old.segments old.stored e
+  loads_same e =
+      enters.counts (λ k. covers (quota_in new) (above (shapes (n ∷ nodes)) k) e)
+      ∙ weigh_same (λ k. covers (quota_in new) (above (shapes (n ∷ nodes)) k) e) (λ k. covers (quota_in old) (above (shapes nodes) k) e) old.segments old.stored
+      (λ k h. ap (λ (q : ℕ → ℕ). covers q (above (shapes (n ∷ nodes)) k) e) quotas ∙ ap (λ xs. covers (quota_in old) xs e) (same_up k h))
+
+  -- nothing lies below the new node
+  none_below : load (above (shapes nodes)) (quota_in old) old.segments old.stored n.uid ≡ 0
+  none_below = no_weight (λ k. covers (quota_in old) (above (shapes nodes) k) n.uid) old.segments old.stored (λ k h. false_from_ne_true _ (λ is.
+      both_ways (has old.directories n.uid) (fits.directories n.uid ∙ not_in_directory nodes n.uid absent)
+      (covered_there (quota_in old) old.directories (above (shapes nodes) k) n.uid (all_there nodes old fits (above (shapes nodes) k) (chains.directories k)) is)))
+
+  absent_load : load_in old n.uid ≡ 0
+  absent_load = look_absent old.directories old.loads n.uid (fits.directories n.uid ∙ not_in_directory nodes n.uid absent)
+
+  pub fits_entered : Fits (n ∷ nodes) new
+  fits_entered = record {
+    count = (let a = enters.size in let b : length old.directories + length old.segments ≡ length nodes = fits.count in omega (arith, a));
+    directories = λ u. enters.directories u ∙ elim (cases_Bool (eqb n.uid u)) [
+      | inl is ↦
+          (let off : has old.directories u ≡ false = fits.directories u ∙ not_in_directory nodes u (subst (λ v. is_in nodes v ≡ false) (eqb-true n.uid u is) absent) in
+          rw (is, off) (elim (cases_Bool n.dir) [ inl t ↦ rw t refl | inr f ↦ rw f refl ]))
+      | inr isnt ↦ rw isnt (elim (cases_Bool n.dir) [ inl t ↦ rw t (fits.directories u) | inr f ↦ rw f (fits.directories u) ])
+    ];
+    segments = λ u. enters.segments u ∙ elim (cases_Bool (eqb n.uid u)) [
+      | inl is ↦
+          (let off : has old.segments u ≡ false = fits.segments u ∙ not_in_segment nodes u (subst (λ v. is_in nodes v ≡ false) (eqb-true n.uid u is) absent) in
+          rw (is, off) (elim (cases_Bool n.dir) [ inl t ↦ rw t refl | inr f ↦ rw f refl ]))
+      | inr isnt ↦ rw isnt (elim (cases_Bool n.dir) [ inl t ↦ rw t (fits.segments u) | inr f ↦ rw f (fits.segments u) ])
+    ];
+    loads = λ e there. enters.loads e ∙ elim (cases_eq n.uid e) [
+      | inl same ↦ subst (λ x. load_in old x ≡ load (above (shapes (n ∷ nodes))) (quota_in new) new.segments new.stored x) same (absent_load ∙ sym (loads_same n.uid ∙ none_below))
+      | inr other ↦
+          (let was : has old.directories e ≡ true = sym (enters.directories e ∙ rw (ne_eqb n.uid e other) (elim (cases_Bool n.dir) [ inl t ↦ rw t refl | inr f ↦ rw f refl ])) ∙ there in
+          fits.loads e was ∙ sym (loads_same e))
+    ];
+  }
+
+-- ---- a cell less
+
+directory_without : (ns : List Node) (u v : ℕ) → is_directory (without u ns) v ≡ (is_directory ns v && not (eqb u v))
+directory_without [] u v = refl
+directory_without (n ∷ ns) u v = elim (cases_eq n.uid u) [
+  | inl same ↦ rw (eq-eqb n.uid u same) (directory_without ns u v ∙ elim (cases_eq u v) [
+    | inl at ↦ rw (eq-eqb u v at) (elim (cases_Bool (is_directory ns v)) [ inl t ↦ rw t (elim (cases_Bool (is_directory (n ∷ ns) v)) [ inl s ↦ rw s refl | inr s ↦ rw s refl ]) | inr f ↦ rw f (elim (cases_Bool (is_directory (n ∷ ns) v)) [ inl s ↦ rw s refl | inr s ↦ rw s refl ]) ])
+    | inr off ↦ rw (ne_eqb n.uid v (λ q. off (omega arith))) refl
+  ])
+  | inr other ↦ rw (ne_eqb n.uid u other) (elim (cases_eq n.uid v) [
+    | inl at ↦ rw (eq-eqb n.uid v at, ne_eqb u v (λ q. other (omega arith))) (elim (cases_Bool n.dir) [ inl t ↦ rw t refl | inr f ↦ rw f refl ])
+    | inr off ↦ rw (ne_eqb n.uid v off) (directory_without ns u v)
+  ])
+]
+
+segment_without : (ns : List Node) (u v : ℕ) → is_segment (without u ns) v ≡ (is_segment ns v && not (eqb u v))
+segment_without [] u v = refl
+segment_without (n ∷ ns) u v = elim (cases_eq n.uid u) [
+  | inl same ↦ rw (eq-eqb n.uid u same) (segment_without ns u v ∙ elim (cases_eq u v) [
+    | inl at ↦ rw (eq-eqb u v at) (elim (cases_Bool (is_segment ns v)) [ inl t ↦ rw t (elim (cases_Bool (is_segment (n ∷ ns) v)) [ inl s ↦ rw s refl | inr s ↦ rw s refl ]) | inr f ↦ rw f (elim (cases_Bool (is_segment (n ∷ ns) v)) [ inl s ↦ rw s refl | inr s ↦ rw s refl ]) ])
+    | inr off ↦ rw (ne_eqb n.uid v (λ q. off (omega arith))) refl
+  ])
+  | inr other ↦ rw (ne_eqb n.uid u other) (elim (cases_eq n.uid v) [
+    | inl at ↦ rw (eq-eqb n.uid v at, ne_eqb u v (λ q. other (omega arith))) (elim (cases_Bool n.dir) [ inl t ↦ rw t refl | inr f ↦ rw f refl ])
+    | inr off ↦ rw (ne_eqb n.uid v off) (segment_without ns u v)
+  ])
+]
+
+module _ (nodes : List Node) (uid : ℕ) (old new : CellMaps) (fits : Fits nodes old) (leaves : Leaves old new uid) (same_above : (u : ℕ) → u ≢ uid → above (shapes (without uid nodes)) u ≡ above (shapes nodes) u) (one_less : length (without uid nodes) + 1 ≡ length nodes) where
+  quotas_left : quota_in new ≡ quota_in old
+  quotas_left = λ i d. leaves.quotas d i
+
+  not_gone : (u : ℕ) (b : Bool) → (b && not (eqb uid u)) ≡ true → u ≢ uid
+  not_gone u b e same = (let h = and_parts b (not (eqb uid u)) e in both_ways (not (eqb uid u)) (rw (eq-eqb uid u (sym same)) refl) h.1)
+
+  loads_left : (e : ℕ) → load (above (shapes (without uid nodes))) (quota_in new) new.segments new.stored e ≡ load (above (shapes nodes)) (quota_in old) old.segments old.stored e
+  loads_left e =
+      weigh_same (λ k. covers (quota_in new) (above (shapes (without uid nodes)) k) e) (λ k. covers (quota_in old) (above (shapes nodes) k) e) new.segments new.stored
+      (λ k h. ap (λ (q : ℕ → ℕ). covers q (above (shapes (without uid nodes)) k) e) quotas_left ∙ ap (λ xs. covers (quota_in old) xs e) (same_above k (not_gone k (has old.segments k) (sym (leaves.segments k) ∙ h))))
+      ∙ leaves.counts (λ k. covers (quota_in old) (above (shapes nodes) k) e)
+
+  pub fits_left : Fits (without uid nodes) new
+  fits_left = record {
+    count = (let a = leaves.size in let b : length old.directories + length old.segments ≡ length nodes = fits.count in omega (arith, a));
+    directories = λ u. leaves.directories u ∙ ap (λ b. b && not (eqb uid u)) (fits.directories u) ∙ sym (directory_without nodes uid u);
+    segments = λ u. leaves.segments u ∙ ap (λ b. b && not (eqb uid u)) (fits.segments u) ∙ sym (segment_without nodes uid u);
+    loads = λ e there.
+        (let kept : (has old.directories e && not (eqb uid e)) ≡ true = sym (leaves.directories e) ∙ there in
+        leaves.loads e (not_gone e (has old.directories e) kept) ∙ fits.loads e (and_parts (has old.directories e) (not (eqb uid e)) kept).0 ∙ sym (loads_left e));
+  }
+
+-- ---- the columns
+
+module _ (c : CellMaps) (table : IsTable c) (uid i : ℕ) (absent : has_cell c uid ≡ false) where
+  no_directory : has c.directories uid ≡ false
+  no_directory = (or_parts (has c.directories uid) (has c.segments uid) absent).0
+
+  no_segment : has c.segments uid ≡ false
+  no_segment = (or_parts (has c.directories uid) (has c.segments uid) absent).1
+
+  abbrev pub with_directory : CellMaps
+  with_directory = record { directories = insert c.directories i uid; quotas = insert c.quotas i 0; loads = insert c.loads i 0; segments = c.segments; stored = c.stored }
+
+  pub enters_directory : i ≤ length c.directories → Enters c with_directory uid true
+  enters_directory within = record {
+    size = (let a = length-insert c.directories i uid within in omega (arith, a));
+    directories = has_insert c.directories i uid;
+    segments = λ u. refl;
+    quotas = λ d. look_insert c.directories c.quotas i uid d table.quota_count no_directory;
+    loads = λ d. look_insert c.directories c.loads i uid d table.load_count no_directory;
+    stored = λ s. refl;
+    counts = λ t. refl;
+  }
+
+  same_quotas : quota_in with_directory ≡ quota_in c
+  same_quotas = λ j d. look_insert c.directories c.quotas i uid d table.quota_count no_directory j
+
+  pub table_directory : IsGap c.directories uid i → IsTable with_directory
+  table_directory gap = record {
+    rising = rising_insert c.directories uid i table.rising gap;
+    segments_rise = table.segments_rise;
+    quota_count = (let a = length-insert c.directories i uid gap.within in let n : length c.quotas ≡ length c.directories = table.quota_count in let w : i ≤ length c.directories = gap.within in let b = length-insert c.quotas i 0 (omega arith) in omega arith);
+    load_count = (let a = length-insert c.directories i uid gap.within in let n : length c.loads ≡ length c.directories = table.load_count in let w : i ≤ length c.directories = gap.within in let b = length-insert c.loads i 0 (omega arith) in omega arith);
+    stored_count = table.stored_count;
+    apart = λ u h. elim (cases_Bool (eqb uid u)) [
+      | inl is ↦ subst (λ v. has c.segments v ≡ false) (eqb-true uid u is) no_segment
+      | inr isnt ↦ table.apart u (sym ((enters_directory gap.within).directories u ∙ rw isnt refl) ∙ h)
+    ];
+    within = λ a h is. rw ((enters_directory gap.within).loads a, (enters_directory gap.within).quotas a) (elim (cases_Bool (eqb uid a)) [
+      | inl at ↦ (let none : load_in c a ≡ 0 = look_absent c.directories c.loads a (subst (λ v. has c.directories v ≡ false) (eqb-true uid a at) no_directory) in omega arith)
+      | inr off ↦ table.within a (sym ((enters_directory gap.within).directories a ∙ rw off refl) ∙ h) (subst (λ (q : ℕ → ℕ). is_an_account q a ≡ true) same_quotas is)
+    ]);
+    total = (let s = sum_by-insert (λ (x : ℕ). x) c.quotas i 0 in let t : sum c.quotas < 2 ^ 32 = table.total in omega arith);
+  }
+
+  abbrev pub with_segment : CellMaps
+  with_segment = record { directories = c.directories; quotas = c.quotas; loads = c.loads; segments = insert c.segments i uid; stored = insert c.stored i 0 }
+
+  pub enters_segment : i ≤ length c.segments → Enters c with_segment uid false
+  enters_segment within = record {
+    size = (let a = length-insert c.segments i uid within in omega (arith, a));
+    directories = λ u. refl;
+    segments = has_insert c.segments i uid;
+    quotas = λ d. refl;
+    loads = λ d. refl;
+    stored = λ s. look_insert c.segments c.stored i uid s table.stored_count no_segment;
+    counts = λ t. weigh_insert t c.segments c.stored i uid table.stored_count;
+  }
+
+  pub table_segment : IsGap c.segments uid i → IsTable with_segment
+  table_segment gap = record {
+    rising = table.rising;
+    segments_rise = rising_insert c.segments uid i table.segments_rise gap;
+    quota_count = table.quota_count;
+    load_count = table.load_count;
+    stored_count = (let a = length-insert c.segments i uid gap.within in let n : length c.stored ≡ length c.segments = table.stored_count in let w : i ≤ length c.segments = gap.within in let b = length-insert c.stored i 0 (omega arith) in omega arith);
+    apart = λ u h. (enters_segment gap.within).segments u ∙ elim (cases_Bool (eqb uid u)) [
+      | inl is ↦ absurd (both_ways (has c.directories u) (subst (λ v. has c.directories v ≡ false) (eqb-true uid u is) no_directory) h)
+      | inr isnt ↦ rw isnt (table.apart u h)
+    ];
+    within = table.within;
+    total = table.total;
+  }
+
+module _ (c : CellMaps) (table : IsTable c) (uid i : ℕ) where
+  abbrev pub less_directory : CellMaps
+  less_directory = record { directories = remove c.directories i; quotas = remove c.quotas i; loads = remove c.loads i; segments = c.segments; stored = c.stored }
+
+  pub leaves_directory : has c.directories uid ≡ true → quota_in c uid ≡ 0 → i < length c.directories → get_or c.directories i 0 ≡ uid → Leaves c less_directory uid
+  leaves_directory there none lt is = record {
+    size = (let a = length-remove c.directories i lt in omega (arith, a));
+    directories = λ u. has_remove c.directories i u table.rising lt ∙ ap (λ x. has c.directories u && not (eqb x u)) is;
+    segments = λ u. elim (cases_eq uid u) [
+      | inl same ↦ (let off : has c.segments u ≡ false = table.apart u (subst (λ v. has c.directories v ≡ true) same there) in rw off refl)
+      | inr other ↦ rw (ne_eqb uid u other) (elim (cases_Bool (has c.segments u)) [ inl t ↦ rw t refl | inr f ↦ rw f refl ])
+    ];
+    quotas = λ d. elim (cases_eq d uid) [
+      | inl same ↦ subst (λ v. look (remove c.directories i) (remove c.quotas i) v ≡ look c.directories c.quotas v) (is ∙ sym same) (look_gone c.directories c.quotas i table.rising lt ∙ sym (ap (look c.directories c.quotas) is ∙ none))
+      | inr other ↦ look_remove c.directories c.quotas i d table.quota_count table.rising lt (λ e. other (e ∙ is))
+    ];
+    loads = λ d other. look_remove c.directories c.loads i d table.load_count table.rising lt (λ e. other (e ∙ is));
+    stored = λ s. refl;
+    counts = λ t. refl;
+  }
+
+  pub table_less_directory : has c.directories uid ≡ true → quota_in c uid ≡ 0 → i < length c.directories → get_or c.directories i 0 ≡ uid → IsTable less_directory
+  table_less_directory there none lt is =
+      let leaves : Leaves c less_directory uid = leaves_directory there none lt is in
+      let same_q : quota_in less_directory ≡ quota_in c = λ j d. leaves.quotas d j in
+      record {
+        rising = rising_remove c.directories i table.rising lt;
+        segments_rise = table.segments_rise;
+        quota_count = (let a = length-remove c.directories i lt in let n : length c.quotas ≡ length c.directories = table.quota_count in let b = length-remove c.quotas i (omega arith) in omega arith);
+        load_count = (let a = length-remove c.directories i lt in let n : length c.loads ≡ length c.directories = table.load_count in let b = length-remove c.loads i (omega arith) in omega arith);
+        stored_count = table.stored_count;
+        apart = λ u h. table.apart u (and_parts (has c.directories u) (not (eqb uid u)) (sym (leaves.directories u) ∙ h)).0;
+        within = λ a h is_a.
+            (let kept = and_parts (has c.directories a) (not (eqb uid a)) (sym (leaves.directories a) ∙ h) in
+            let other : a ≢ uid = λ e. both_ways (not (eqb uid a)) (rw (eq-eqb uid a (sym e)) refl) kept.1 in
+            rw (leaves.loads a other, leaves.quotas a) (table.within a kept.0 (subst (λ (q : ℕ → ℕ). is_an_account q a ≡ true) same_q is_a)));
+        total = (let s = sum_by-remove (λ (x : ℕ). x) c.quotas i 0 (let n : length c.quotas ≡ length c.directories = table.quota_count in omega arith) in let t : sum c.quotas < 2 ^ 32 = table.total in omega arith);
+      }
+
+  abbrev pub less_segment : CellMaps
+  less_segment = record { directories = c.directories; quotas = c.quotas; loads = c.loads; segments = remove c.segments i; stored = remove c.stored i }
+
+  pub leaves_segment : has c.directories uid ≡ false → stored_in c uid ≡ 0 → i < length c.segments → get_or c.segments i 0 ≡ uid → Leaves c less_segment uid
+  leaves_segment off none lt is = record {
+    size = (let a = length-remove c.segments i lt in omega (arith, a));
+    directories = λ u. elim (cases_eq uid u) [
+      | inl same ↦ (let gone : has c.directories u ≡ false = subst (λ v. has c.directories v ≡ false) same off in rw gone refl)
+      | inr other ↦ rw (ne_eqb uid u other) (elim (cases_Bool (has c.directories u)) [ inl t ↦ rw t refl | inr f ↦ rw f refl ])
+    ];
+    segments = λ u. has_remove c.segments i u table.segments_rise lt ∙ ap (λ x. has c.segments u && not (eqb x u)) is;
+    quotas = λ d. refl;
+    loads = λ d other. refl;
+    stored = λ s. elim (cases_eq s uid) [
+      | inl same ↦ subst (λ v. look (remove c.segments i) (remove c.stored i) v ≡ look c.segments c.stored v) (is ∙ sym same) (look_gone c.segments c.stored i table.segments_rise lt ∙ sym (ap (look c.segments c.stored) is ∙ none))
+      | inr other ↦ look_remove c.segments c.stored i s table.stored_count table.segments_rise lt (λ e. other (e ∙ is))
+    ];
+    counts = λ t. weigh_remove t c.segments c.stored i table.stored_count lt (sym (look_at c.segments c.stored i table.segments_rise lt) ∙ ap (look c.segments c.stored) is ∙ none);
+  }
+
+  pub table_less_segment : i < length c.segments → IsTable less_segment
+  table_less_segment lt = record {
+    rising = table.rising;
+    segments_rise = rising_remove c.segments i table.segments_rise lt;
+    quota_count = table.quota_count;
+    load_count = table.load_count;
+    stored_count = (let a = length-remove c.segments i lt in let n : length c.stored ≡ length c.segments = table.stored_count in let b = length-remove c.stored i (omega arith) in omega arith);
+    apart = λ u h. has_remove c.segments i u table.segments_rise lt ∙ rw (table.apart u h) refl;
+    within = table.within;
+    total = table.total;
+  }

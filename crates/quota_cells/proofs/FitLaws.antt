@@ -1,0 +1,216 @@
+-- What keeps the cells fit for a tree.
+use Rattle.std.proofs.Common.{◌≡◌, ◌≢◌, ℕ, ◌+◌, ◌-◌, ◌<◌, ◌≤◌, ◌^◌, true, false, eqb, not, List, [], ◌∷◌, length, refl, sym, ap, subst, ◌∙◌, arith, inl, inr, is_some, ◌++◌, take, drop, set, get_or, Ok}
+use Rattle.std.specs.List.{sum}
+use Rattle.std.proofs.lemmas.Bool.{cases_Bool, cases_eq, eqb-true, eq-eqb, ne_eqb, and_parts, not-true}
+use Rattle.std.proofs.lemmas.List.{get_or_read, drop_all, take_all, append-nil}
+use Rattle.storage_terms.specs.Tree.{above, account, node_in, has_directory}
+use Rattle.dir_tree.specs.declared.node.Node.{Node}
+use Rattle.dir_tree.specs.Nodes.{is_directory, is_segment}
+use Rattle.dir_tree.specs.Shape.{shapes, HasChains, IsChain, AreDirectories, EndsAtRoot}
+use Rattle.quota_cells.specs.Accounts.{look, has, with_value, covers, load, is_an_account, changed_where}
+use Rattle.quota_cells.specs.Cells.{CellMaps, quota_in, load_in, stored_in, Fits, IsTable, charged, credited, charge_fault, IsRising, CountsUsed}
+use Rattle.quota_cells.specs.Columns.{AreThere, IsFalling}
+use Rattle.quota_cells.proofs.ColumnLaws.{look_changed, length_with, length_changed, weigh_with, weigh_same, weigh_le_on, look_le_weigh, look_le_sum}
+use Rattle.quota_cells.proofs.PlaceLaws.{look_at, set_at}
+use Rattle.quota_cells.proofs.AccountLaws.{account_covers, account_through, account_is, account_from, account_of_chain}
+
+pub directory_shape : (ns : List Node) (u : ℕ) → has_directory (shapes ns) u ≡ is_directory ns u
+directory_shape [] u = refl
+directory_shape (n ∷ ns) u = elim (cases_Bool (eqb n.uid u)) [ inl is ↦ rw is refl | inr isnt ↦ rw isnt (directory_shape ns u) ]
+
+pub segment_there : (ns : List Node) (u : ℕ) → is_segment ns u ≡ true → is_some (node_in (shapes ns) u) ≡ true
+segment_there [] u e = cc
+segment_there (n ∷ ns) u e = elim (cases_Bool (eqb n.uid u)) [ inl is ↦ rw is refl | inr isnt ↦ rw isnt (segment_there ns u (rw isnt at e)) ]
+
+pub segment_not : (ns : List Node) (u : ℕ) → is_segment ns u ≡ true → has_directory (shapes ns) u ≡ false
+segment_not [] u e = cc
+segment_not (n ∷ ns) u e = elim (cases_Bool (eqb n.uid u)) [ inl is ↦ (let h : not n.dir ≡ true = rw is at e in rw is (not-true n.dir h)) | inr isnt ↦ rw isnt (segment_not ns u (rw isnt at e)) ]
+
+pub falling : (f : ℕ → List ℕ) (xs : List ℕ) → IsChain f xs → IsFalling xs
+falling f [] c = tt
+falling f (x ∷ xs) c = (c.1, falling f xs c.2)
+
+pub all_there : (nodes : List Node) (c : CellMaps) → Fits nodes c → (xs : List ℕ) → AreDirectories (shapes nodes) xs → AreThere c.directories xs
+all_there nodes c fits [] a = tt
+all_there nodes c fits (x ∷ xs) a = (fits.directories x ∙ sym (directory_shape nodes x) ∙ a.0, all_there nodes c fits xs a.1)
+
+pub account_there : (q : ℕ → ℕ) (ks xs : List ℕ) → AreThere ks xs → EndsAtRoot xs → has ks (account q xs) ≡ true
+account_there q ks [] a e = absurd e
+account_there q ks (x ∷ []) a e = elim (cases_Bool (eqb (q x) 0)) [ inl none ↦ rw none (subst (λ u. has ks u ≡ true) e a.0) | inr some ↦ rw some a.0 ]
+account_there q ks (x ∷ y ∷ ys) a e = elim (cases_Bool (eqb (q x) 0)) [ inl none ↦ rw none (account_there q ks (y ∷ ys) a.1 e.1) | inr some ↦ rw some a.0 ]
+
+pub covered_there : (q : ℕ → ℕ) (ks xs : List ℕ) (e : ℕ) → AreThere ks xs → covers q xs e ≡ true → has ks e ≡ true
+covered_there q ks [] e a is = cc
+covered_there q ks (x ∷ xs) e a is = elim (cases_eq x e) [
+  | inl same ↦ subst (λ u. has ks u ≡ true) same a.0
+  | inr other ↦ covered_there q ks xs e a.1 (and_parts (eqb (q x) 0) (covers q xs e) (rw (ne_eqb x e other) at is)).1
+]
+
+module _ (nodes : List Node) (c : CellMaps) (table : IsTable c) (fits : Fits nodes c) (chains : HasChains (shapes nodes)) where
+  abbrev f : ℕ → List ℕ
+  f = above (shapes nodes)
+
+  -- a page more of a segment
+  pub fits_charged : (s : ℕ) → is_segment nodes s ≡ true → Fits nodes (charged c (f s) s)
+  fits_charged s is = record {
+    directories = fits.directories;
+    segments = fits.segments;
+    count = fits.count;
+    loads = λ e there.
+        (let q = quota_in c in
+        let old : load_in c e ≡ load f q c.segments c.stored e = fits.loads e there in
+        let seg : has c.segments s ≡ true = fits.segments s ∙ is in
+        let w = weigh_with (λ k. covers q (f k) e) c.segments c.stored s (stored_in c s + 1) table.stored_count seg in
+        let l = look_changed (λ w. w + 1) (covers q (f s)) c.directories c.loads e table.load_count there in
+        l ∙ elim (cases_Bool (covers q (f s) e)) [
+          | inl t ↦ (let w' = rw t at w in rw t (omega (arith, old, w')))
+          | inr u ↦ (let w' = rw u at w in rw u (omega (arith, old, w')))
+        ]);
+  }
+
+  pub fits_credited : (s : ℕ) → is_segment nodes s ≡ true → 0 < stored_in c s → Fits nodes (credited c (f s) s)
+  fits_credited s is some = record {
+    directories = fits.directories;
+    segments = fits.segments;
+    count = fits.count;
+    loads = λ e there.
+        (let q = quota_in c in
+        let old : load_in c e ≡ load f q c.segments c.stored e = fits.loads e there in
+        let seg : has c.segments s ≡ true = fits.segments s ∙ is in
+        let w = weigh_with (λ k. covers q (f k) e) c.segments c.stored s (stored_in c s - 1) table.stored_count seg in
+        let l = look_changed (λ w. w - 1) (covers q (f s)) c.directories c.loads e table.load_count there in
+        l ∙ elim (cases_Bool (covers q (f s) e)) [
+          | inl t ↦ (let w' = rw t at w in rw t (omega (arith, old, w')))
+          | inr u ↦ (let w' = rw u at w in rw u (omega (arith, old, w')))
+        ]);
+  }
+
+  -- what a stored page of a segment adds to the loads that cover it
+  pub stored_below : (s e : ℕ) → has c.directories e ≡ true → covers (quota_in c) (f s) e ≡ true → stored_in c s ≤ load_in c e
+  stored_below s e there is = rw (fits.loads e there) (look_le_weigh (λ k. covers (quota_in c) (f k) e) c.segments c.stored s is)
+
+  pub ends : (s : ℕ) → is_segment nodes s ≡ true → EndsAtRoot (f s)
+  ends s is = chains.segments s (segment_there nodes s is) (segment_not nodes s is)
+
+  pub there : (u : ℕ) → AreThere c.directories (f u)
+  there u = all_there nodes c fits (f u) (chains.directories u)
+
+  pub falls : (u : ℕ) → IsFalling (f u)
+  falls u = falling f (f u) (chains.chain u)
+
+  -- what covers a node has no more pages than its account
+  pub load_up_from : (s e : ℕ) → EndsAtRoot (f s) → covers (quota_in c) (f s) e ≡ true → load_in c e ≤ load_in c (account (quota_in c) (f s))
+  load_up_from s e ends_s covered =
+      let q = quota_in c in
+      let a : ℕ = account q (f s) in
+      let e_there : has c.directories e ≡ true = covered_there q c.directories (f s) e (there s) covered in
+      let a_there : has c.directories a ≡ true = account_there q c.directories (f s) (there s) ends_s in
+      let through : a ≡ account_from f q e = account_through f q (f s) e (chains.chain s) covered in
+      rw (fits.loads e e_there, fits.loads a a_there) (weigh_le_on (λ k. covers q (f k) e) (λ k. covers q (f k) a) c.segments c.stored (λ k h k_covered.
+      (let seg : is_segment nodes k ≡ true = sym (fits.segments k) ∙ h in
+      let same : account q (f k) ≡ a = account_through f q (f k) e (chains.chain k) k_covered ∙ sym through in
+      subst (λ b. covers q (f k) b ≡ true) same (account_covers q (f k) (ends k seg)))))
+
+  pub load_up : (s e : ℕ) → is_segment nodes s ≡ true → covers (quota_in c) (f s) e ≡ true → load_in c e ≤ load_in c (account (quota_in c) (f s))
+  load_up s e is covered = load_up_from s e (ends s is) covered
+
+  -- so it has no more than there is quota
+  pub load_bound : (s e : ℕ) → EndsAtRoot (f s) → covers (quota_in c) (f s) e ≡ true → load_in c e < 2 ^ 32
+  load_bound s e ends_s covered =
+      let a : ℕ = account (quota_in c) (f s) in
+      let up : load_in c e ≤ load_in c a = load_up_from s e ends_s covered in
+      let le : load_in c a ≤ quota_in c a = table.within a (account_there (quota_in c) c.directories (f s) (there s) ends_s) (account_of_chain (quota_in c) (f s)) in
+      let most : quota_in c a ≤ sum c.quotas = look_le_sum c.directories c.quotas a in
+      let total : sum c.quotas < 2 ^ 32 = table.total in omega arith
+
+  -- where the account isn't full there is room for a page
+  pub below_quota : (s : ℕ) → is_segment nodes s ≡ true → load_in c (account (quota_in c) (f s)) ≢ quota_in c (account (quota_in c) (f s)) → load_in c (account (quota_in c) (f s)) < quota_in c (account (quota_in c) (f s))
+  below_quota s is ne =
+      let a : ℕ = account (quota_in c) (f s) in
+      let le : load_in c a ≤ quota_in c a = table.within a (account_there (quota_in c) c.directories (f s) (there s) (ends s is)) (account_of_chain (quota_in c) (f s)) in
+      omega (arith, ne)
+
+  pub room_charged : (s : ℕ) → is_segment nodes s ≡ true → load_in c (account (quota_in c) (f s)) ≢ quota_in c (account (quota_in c) (f s)) → (e : ℕ) → covers (quota_in c) (f s) e ≡ true → load_in c e + 1 < 2 ^ 32
+  room_charged s is ne e covered =
+      let a : ℕ = account (quota_in c) (f s) in
+      let up : load_in c e ≤ load_in c a = load_up s e is covered in
+      let less : load_in c a < quota_in c a = below_quota s is ne in
+      let most : quota_in c a ≤ sum c.quotas = look_le_sum c.directories c.quotas a in
+      let total : sum c.quotas < 2 ^ 32 = table.total in omega arith
+
+  pub stored_room : (s : ℕ) → is_segment nodes s ≡ true → load_in c (account (quota_in c) (f s)) ≢ quota_in c (account (quota_in c) (f s)) → stored_in c s + 1 < 2 ^ 32
+  stored_room s is ne =
+      let a : ℕ = account (quota_in c) (f s) in
+      let covered : covers (quota_in c) (f s) a ≡ true = account_covers (quota_in c) (f s) (ends s is) in
+      let le : stored_in c s ≤ load_in c a = stored_below s a (account_there (quota_in c) c.directories (f s) (there s) (ends s is)) covered in
+      let room : load_in c a + 1 < 2 ^ 32 = room_charged s is ne a covered in omega arith
+
+  pub table_charged : (s : ℕ) → is_segment nodes s ≡ true → load_in c (account (quota_in c) (f s)) ≢ quota_in c (account (quota_in c) (f s)) → IsTable (charged c (f s) s)
+  table_charged s is ne = record {
+    rising = table.rising;
+    segments_rise = table.segments_rise;
+    quota_count = table.quota_count;
+    load_count = length_changed (λ w. w + 1) (covers (quota_in c) (f s)) c.directories c.loads table.load_count ∙ table.load_count;
+    stored_count = length_with c.segments c.stored s (stored_in c s + 1) ∙ table.stored_count;
+    apart = table.apart;
+    within = λ b b_there b_is.
+        (let q = quota_in c in
+        let l = look_changed (λ w. w + 1) (covers q (f s)) c.directories c.loads b table.load_count b_there in
+        let old : load_in c b ≤ q b = table.within b b_there b_is in
+        let new : look c.directories (changed_where (λ w. w + 1) (covers q (f s)) c.directories c.loads) b ≤ q b = elim (cases_Bool (covers q (f s) b)) [
+          | inl t ↦
+              (let own : account q (f s) ≡ b = eqb-true (account q (f s)) b (sym (account_is q (f s) b (ends s is) b_is) ∙ t) in
+              let less : load_in c b < q b = subst (λ x. load_in c x < q x) own (below_quota s is ne) in
+              let l' = rw t at l in omega (arith, l'))
+          | inr u ↦ (let l' = rw u at l in omega (arith, l'))
+        ] in new);
+    total = table.total;
+  }
+
+  pub table_credited : (s : ℕ) → is_segment nodes s ≡ true → IsTable (credited c (f s) s)
+  table_credited s is = record {
+    rising = table.rising;
+    segments_rise = table.segments_rise;
+    quota_count = table.quota_count;
+    load_count = length_changed (λ w. w - 1) (covers (quota_in c) (f s)) c.directories c.loads table.load_count ∙ table.load_count;
+    stored_count = length_with c.segments c.stored s (stored_in c s - 1) ∙ table.stored_count;
+    apart = table.apart;
+    within = λ b b_there b_is.
+        (let q = quota_in c in
+        let l = look_changed (λ w. w - 1) (covers q (f s)) c.directories c.loads b table.load_count b_there in
+        let old : load_in c b ≤ q b = table.within b b_there b_is in
+        let new : look c.directories (changed_where (λ w. w - 1) (covers q (f s)) c.directories c.loads) b ≤ q b = elim (cases_Bool (covers q (f s) b)) [
+          | inl t ↦ (let l' = rw t at l in omega (arith, l'))
+          | inr u ↦ (let l' = rw u at l in omega (arith, l'))
+        ] in new);
+    total = table.total;
+  }
+
+  pub room_credited : (s : ℕ) → is_segment nodes s ≡ true → 0 < stored_in c s → (e : ℕ) → covers (quota_in c) (f s) e ≡ true → 1 ≤ load_in c e
+  room_credited s is some e covered = (let le : stored_in c s ≤ load_in c e = stored_below s e (covered_there (quota_in c) c.directories (f s) e (there s) covered) covered in omega arith)
+
+pub counts_used : (nodes : List Node) (c : CellMaps) → Fits nodes c → HasChains (shapes nodes) → CountsUsed nodes c
+counts_used nodes c fits chains a a_there = elim (cases_Bool (is_an_account (quota_in c) a)) [
+  | inr isnt ↦ rw isnt refl
+  | inl is ↦
+      rw is (fits.loads a a_there ∙ weigh_same (λ k. covers (quota_in c) (above (shapes nodes) k) a) (λ k. eqb (account (quota_in c) (above (shapes nodes) k)) a) c.segments c.stored
+      (λ k h. (let seg : is_segment nodes k ≡ true = sym (fits.segments k) ∙ h in account_is (quota_in c) (above (shapes nodes) k) a (chains.segments k (segment_there nodes k seg) (segment_not nodes k seg)) is)))
+]
+
+-- ---- what the code leaves
+
+pub read_stored : (ks vs : List ℕ) (u i w : ℕ) → IsRising ks → i < length ks → get_or ks i 0 ≡ u → length vs ≡ length ks → w ≡ get_or vs i w → w ≡ look ks vs u
+read_stored ks vs u i w up lt is len read = (let at : w ≡ get_or vs i 0 = get_or_read vs i w (omega arith) read 0 in at ∙ sym (look_at ks vs i up lt) ∙ ap (look ks vs) is)
+
+pub stored_at : (ks vs : List ℕ) (u i w : ℕ) (g : ℕ → ℕ) → IsRising ks → length vs ≡ length ks → i < length ks → get_or ks i 0 ≡ u → w ≡ get_or vs i w → set vs i (g w) ≡ with_value ks vs u (g (look ks vs u))
+stored_at ks vs u i w g up len lt is read =
+    set_at ks vs i (g w) up lt ∙ ap (λ x. with_value ks vs x (g w)) is ∙ ap (λ x. with_value ks vs u (g x)) (read_stored ks vs u i w up lt is len read)
+
+-- a slice that was lent whole comes back whole
+pub seamed : (new old target : List ℕ) (n : ℕ) → new ≡ target → length target ≡ length old → n ≡ length old → take n (new ++ drop (length new) old) ≡ target
+seamed new old target n is size len =
+    let whole : drop (length new) old ≡ [] = drop_all (length new) old (let a : length new ≡ length target = ap length is in omega arith) in
+    rw (whole, append-nil new) (take_all n new (let a : length new ≡ length target = ap length is in omega arith) ∙ is)
+
+pub not_full : (c : CellMaps) (up : List ℕ) → charge_fault c up ≡ Ok tt → load_in c (account (quota_in c) up) ≢ quota_in c (account (quota_in c) up)
+not_full c up e same = (let full : eqb (load_in c (account (quota_in c) up)) (quota_in c (account (quota_in c) up)) ≡ true = eq-eqb _ _ same in let z = rw full at e in cc)

@@ -1,0 +1,9 @@
+pub mod AccountLaws
+pub mod ColumnLaws
+pub mod EditLaws
+pub mod EnterLaws
+pub mod FitLaws
+pub mod MoveLaws
+pub mod OverLaws
+pub mod PlaceLaws
+pub mod TransferLaws

@@ -1,0 +1,157 @@
+-- Rising uids: what stands beside a uid stands at its place; and a walk up a chain that changes the loads that cover.
+use Rattle.std.proofs.Common.{◌≡◌, ◌≢◌, ℕ, suc, zero, ◌<◌, ◌≤◌, true, false, cond, eqb, ◌&&◌, List, [], ◌∷◌, length, Result, Ok, Err, IfErr, refl, sym, ap, subst, ◌∙◌, arith, get_or, set, inl, inr}
+use Rattle.std.specs.List.Sorted.{IsBinarySearchResult}
+use Rattle.std.specs.Ordering.{nat_cmp}
+use Rattle.std.proofs.lemmas.Bool.{cases_Bool, cases_eq, cases_lt, cases_order, eqb-true, eq-eqb, ne_eqb, or_cases, and_parts, or_right, or_left}
+use Rattle.std.proofs.lemmas.List.{get_or-set_same, get_or-set_other, length-set, ext_get_or}
+use Rattle.std.proofs.lemmas.List.Sorted.{searched}
+use Rattle.dir_tree.specs.Shape.{AreUnder}
+use Rattle.quota_cells.specs.Accounts.{look, has, with_value, covers, changed_where}
+use Rattle.quota_cells.specs.Cells.{IsRising}
+use Rattle.quota_cells.specs.Columns.{IsGap, AreThere, IsFalling}
+use Rattle.quota_cells.proofs.ColumnLaws.{look_with, length_changed, get_changed}
+
+rising_tail : (k : ℕ) (ks : List ℕ) → IsRising (k ∷ ks) → IsRising ks
+rising_tail k ks up i j lt within = up (suc i) (suc j) (omega arith) (omega arith)
+
+pub look_at : (ks vs : List ℕ) (i : ℕ) → IsRising ks → i < length ks → look ks vs (get_or ks i 0) ≡ get_or vs i 0
+look_at [] vs i up lt = absurd (omega arith)
+look_at (k ∷ ks) [] i up lt = refl
+look_at (k ∷ ks) (v ∷ vs) zero up lt = rw (eq-eqb k k refl) refl
+look_at (k ∷ ks) (v ∷ vs) (suc i) up lt =
+    let less : k < get_or ks i 0 = up 0 (suc i) (omega arith) lt in
+    rw (ne_eqb k (get_or ks i 0) (λ q. omega arith)) (look_at ks vs i (rising_tail k ks up) (omega arith))
+
+pub set_at : (ks vs : List ℕ) (i v : ℕ) → IsRising ks → i < length ks → set vs i v ≡ with_value ks vs (get_or ks i 0) v
+set_at [] vs i v up lt = absurd (omega arith)
+set_at (k ∷ ks) [] i v up lt = refl
+set_at (k ∷ ks) (w ∷ vs) zero v up lt = rw (eq-eqb k k refl) refl
+set_at (k ∷ ks) (w ∷ vs) (suc i) v up lt =
+    let less : k < get_or ks i 0 = up 0 (suc i) (omega arith) lt in
+    rw (ne_eqb k (get_or ks i 0) (λ q. omega arith)) (ap (λ xs. w ∷ xs) (set_at ks vs i v (rising_tail k ks up) (omega arith)))
+
+pub has_at : (ks : List ℕ) (i : ℕ) → i < length ks → has ks (get_or ks i 0) ≡ true
+has_at [] i lt = absurd (omega arith)
+has_at (k ∷ ks) zero lt = or_left (eqb k k) (has ks k) (eq-eqb k k refl)
+has_at (k ∷ ks) (suc i) lt = or_right (eqb k (get_or ks i 0)) (has ks (get_or ks i 0)) (has_at ks i (omega arith))
+
+pub absent : (ks : List ℕ) (u : ℕ) → ((i : ℕ) → i < length ks → get_or ks i 0 ≢ u) → has ks u ≡ false
+absent [] u none = refl
+absent (k ∷ ks) u none = rw (ne_eqb k u (none 0 (omega arith))) (absent ks u (λ i lt. none (suc i) (omega arith)))
+
+pub look_absent : (ks vs : List ℕ) (u : ℕ) → has ks u ≡ false → look ks vs u ≡ 0
+look_absent [] vs u e = refl
+look_absent (k ∷ ks) [] u e = refl
+look_absent (k ∷ ks) (v ∷ vs) u e = elim (cases_Bool (eqb k u)) [
+  | inl is ↦ (let z : true ≡ false = rw is at e in cc)
+  | inr isnt ↦ rw isnt (look_absent ks vs u (rw isnt at e))
+]
+
+pub gap_absent : (ks : List ℕ) (u i : ℕ) → IsGap ks u i → has ks u ≡ false
+gap_absent ks u i gap = absent ks u (λ j lt e. elim (cases_lt j i) [
+  | inl before ↦ (let less : get_or ks j 0 < u = gap.below j before in omega arith)
+  | inr after ↦ (let more : u < get_or ks j 0 = gap.above j after lt in omega arith)
+])
+
+not_falling : (ks : List ℕ) → IsRising ks → (i j : ℕ) → i ≤ j → j < length ks → get_or ks i 0 ≤ get_or ks j 0
+not_falling ks up i j le lt = elim (cases_eq i j) [ inl same ↦ rw same (omega arith) | inr other ↦ (let less : get_or ks i 0 < get_or ks j 0 = up i j (omega arith) lt in omega arith) ]
+
+pub gap_found : (ks : List ℕ) (u : ℕ) (r : Result ℕ ℕ) → IsRising ks → IsBinarySearchResult (λ y. nat_cmp y u) ks r → IfErr r (λ i. IsGap ks u i)
+gap_found ks u (Ok i) up found = tt
+gap_found ks u (Err i) up found = (let h = searched ks u (Err i) found (not_falling ks up) in record { within = h.0; below = h.1; above = h.2 })
+
+apart : (ks : List ℕ) → IsRising ks → (i p : ℕ) → i < length ks → p < length ks → i ≢ p → get_or ks i 0 ≢ get_or ks p 0
+apart ks up i p li lp ne e = elim (cases_order i p) [
+  | inl same ↦ ne same
+  | inr differ ↦ elim differ [
+    | inl less ↦ (let x : get_or ks i 0 < get_or ks p 0 = up i p less lp in omega arith)
+    | inr more ↦ (let x : get_or ks p 0 < get_or ks i 0 = up p i more li in omega arith)
+  ]
+]
+
+-- what covers a chain is in it, so it's below what the chain is below
+pub covers_under : (q : ℕ → ℕ) (x : ℕ) (xs : List ℕ) (e : ℕ) → AreUnder x xs → covers q xs e ≡ true → e < x
+covers_under q x [] e a is = cc
+covers_under q x (y ∷ ys) e a is = elim (or_cases (eqb y e) (eqb (q y) 0 && covers q ys e) is) [
+  | inl here ↦ (let same : y ≡ e = eqb-true y e here in let lt : y < x = a.0 in omega arith)
+  | inr there ↦ covers_under q x ys e a.1 (and_parts (eqb (q y) 0) (covers q ys e) there).1
+]
+
+pub covers_not : (q : ℕ → ℕ) (x : ℕ) (xs : List ℕ) → AreUnder x xs → covers q xs x ≡ false
+covers_not q x xs a = elim (cases_Bool (covers q xs x)) [ inl is ↦ absurd (let lt : x < x = covers_under q x xs x a is in omega arith) | inr isnt ↦ isnt ]
+
+pub changed_none : (g : ℕ → ℕ) (q : ℕ → ℕ) (ks ws : List ℕ) → changed_where g (covers q []) ks ws ≡ ws
+changed_none g q [] ws = refl
+changed_none g q (k ∷ ks) [] = refl
+changed_none g q (k ∷ ks) (w ∷ ws) = ap (λ xs. w ∷ xs) (changed_none g q ks ws)
+
+-- a walk up a chain
+pub record Going (g : ℕ → ℕ) (P : ℕ → Type 0) (ks : List ℕ) (q : ℕ → ℕ) (left ws goal : List ℕ) : Type 0 where
+  pub loads : length ws ≡ length ks
+  pub there : AreThere ks left
+  pub falls : IsFalling left
+  pub room : (e : ℕ) → covers q left e ≡ true → P (look ks ws e)
+  pub so_far : changed_where g (covers q left) ks ws ≡ goal
+
+module _ (g : ℕ → ℕ) (P : ℕ → Type 0) (ks : List ℕ) (up : IsRising ks) (q : ℕ → ℕ) (x : ℕ) (xs ws goal : List ℕ) (going : Going g P ks q (x ∷ xs) ws goal) (p : ℕ) (within : p < length ks) (is : get_or ks p 0 ≡ x) where
+  abbrev changed : List ℕ
+  changed = set ws p (g (get_or ws p 0))
+
+  in_ws : p < length ws
+  in_ws = (let n : length ws ≡ length ks = going.loads in omega arith)
+
+  here_covers : covers q (x ∷ xs) (get_or ks p 0) ≡ true
+  here_covers = rw is (or_left (eqb x x) (eqb (q x) 0 && covers q xs x) (eq-eqb x x refl))
+
+  pub going_here : P (get_or ws p 0)
+  going_here = subst P (look_at ks ws p up within) (going.room (get_or ks p 0) here_covers)
+
+  other_covers : (i : ℕ) → i < length ks → i ≢ p → covers q (x ∷ xs) (get_or ks i 0) ≡ (eqb (q x) 0 && covers q xs (get_or ks i 0))
+  other_covers i lt ne = (let far : eqb x (get_or ks i 0) ≡ false = ne_eqb x (get_or ks i 0) (λ e. apart ks up i p lt within ne (sym e ∙ sym is)) in rw far refl)
+
+  sizes : length changed ≡ length ws
+  sizes = length-set ws p (g (get_or ws p 0))
+
+  same_next : q x ≡ 0 → (i : ℕ) → i < length ks → get_or (changed_where g (covers q xs) ks changed) i 0 ≡ get_or (changed_where g (covers q (x ∷ xs)) ks ws) i 0
+  same_next zero_q i lt = elim (cases_eq i p) [
+    | inl same ↦
+        (let not_again : covers q xs (get_or ks p 0) ≡ false = rw is (covers_not q x xs going.falls.0) in
+        let a : get_or (changed_where g (covers q xs) ks changed) p 0 ≡ g (get_or ws p 0) = get_changed g (covers q xs) ks changed p (sizes ∙ going.loads) within ∙ rw not_again (get_or-set_same ws p (g (get_or ws p 0)) 0 in_ws) in
+        let b : get_or (changed_where g (covers q (x ∷ xs)) ks ws) p 0 ≡ g (get_or ws p 0) = get_changed g (covers q (x ∷ xs)) ks ws p going.loads within ∙ ap (λ t. cond t (g (get_or ws p 0)) (get_or ws p 0)) here_covers in
+        rw same (a ∙ sym b))
+    | inr other ↦
+        (let none : eqb (q x) 0 ≡ true = eq-eqb (q x) 0 zero_q in
+        let c : covers q (x ∷ xs) (get_or ks i 0) ≡ covers q xs (get_or ks i 0) = other_covers i lt other ∙ rw none refl in
+        let w : get_or changed i 0 ≡ get_or ws i 0 = get_or-set_other ws p i (g (get_or ws p 0)) 0 other in
+        get_changed g (covers q xs) ks changed i (sizes ∙ going.loads) lt ∙ rw (w, ← c) (sym (get_changed g (covers q (x ∷ xs)) ks ws i going.loads lt)))
+  ]
+
+  same_end : q x ≢ 0 → (i : ℕ) → i < length ks → get_or changed i 0 ≡ get_or (changed_where g (covers q (x ∷ xs)) ks ws) i 0
+  same_end some_q i lt = elim (cases_eq i p) [
+    | inl same ↦ rw same (get_or-set_same ws p (g (get_or ws p 0)) 0 in_ws ∙ sym (get_changed g (covers q (x ∷ xs)) ks ws p going.loads within ∙ ap (λ t. cond t (g (get_or ws p 0)) (get_or ws p 0)) here_covers))
+    | inr other ↦
+        (let some : eqb (q x) 0 ≡ false = ne_eqb (q x) 0 some_q in
+        let c : covers q (x ∷ xs) (get_or ks i 0) ≡ false = other_covers i lt other ∙ rw some refl in
+        get_or-set_other ws p i (g (get_or ws p 0)) 0 other ∙ sym (get_changed g (covers q (x ∷ xs)) ks ws i going.loads lt ∙ ap (λ t. cond t (g (get_or ws i 0)) (get_or ws i 0)) c))
+  ]
+
+  pub going_ends : q x ≢ 0 → changed ≡ goal
+  going_ends some_q = (let n : length ws ≡ length ks = going.loads in ext_get_or 0 changed (changed_where g (covers q (x ∷ xs)) ks ws) (sizes ∙ sym (length_changed g (covers q (x ∷ xs)) ks ws going.loads)) (λ i lt. same_end some_q i (let m = sizes in omega arith))) ∙ going.so_far
+
+  still_room : q x ≡ 0 → (e : ℕ) → covers q xs e ≡ true → P (look ks changed e)
+  still_room zero_q e c =
+      let less : e < x = covers_under q x xs e going.falls.0 c in
+      let there : has ks (get_or ks p 0) ≡ true = has_at ks p within in
+      let same : look ks changed e ≡ look ks ws e = ap (λ vs. look ks vs e) (set_at ks ws p (g (get_or ws p 0)) up within) ∙ look_with ks ws (get_or ks p 0) (g (get_or ws p 0)) e going.loads there ∙ rw (ne_eqb (get_or ks p 0) e (λ z. omega arith)) refl in
+      subst P (sym same) (going.room e (or_right (eqb x e) (eqb (q x) 0 && covers q xs e) (rw (eq-eqb (q x) 0 zero_q) c)))
+
+  pub going_next : q x ≡ 0 → Going g P ks q xs changed goal
+  going_next zero_q = record {
+    loads = sizes ∙ going.loads;
+    there = going.there.1;
+    falls = going.falls.1;
+    room = still_room zero_q;
+    so_far = ext_get_or 0 (changed_where g (covers q xs) ks changed) (changed_where g (covers q (x ∷ xs)) ks ws) (length_changed g (covers q xs) ks changed (sizes ∙ going.loads) ∙ sizes ∙ sym (length_changed g (covers q (x ∷ xs)) ks ws going.loads))
+        (λ i lt. same_next zero_q i (let m = length_changed g (covers q xs) ks changed (sizes ∙ going.loads) in let n : length ws ≡ length ks = going.loads in let k = sizes in omega arith))
+        ∙ going.so_far;
+  }

@@ -1,0 +1,149 @@
+-- What a contract sees of quota cells: a finite map from directory to quota, one from segment to stored pages, and
+-- for each directory the stored pages below it that no lower account takes (Organick 1972). A map is a list of uids
+-- with a list of values beside them.
+use Rattle.std.specs.Prelude.{◌≡◌, ◌≢◌, ℕ, ◌+◌, ◌-◌, ◌<◌, ◌≤◌, ◌==◌, ◌^◌, Bool, true, false, ◌&&◌, ◌||◌, not, if◌then◌else◌, List, [], ◌∷◌, length, Option, Some, None, slice_index, sum, nat_lt, Result, Ok, Err}
+use Rattle.storage_terms.specs.Tree.{above, account}
+use Rattle.dir_tree.specs.declared.node.Node.{Node}
+use Rattle.dir_tree.specs.Nodes.{is_directory, is_segment}
+use Rattle.dir_tree.specs.Shape.{shapes}
+use Rattle.std.specs.List.{find}
+use Rattle.quota_cells.specs.declared.Full.{Full}
+use Rattle.quota_cells.specs.declared.MoveFault.{MoveFault}
+use Rattle.quota_cells.specs.declared.MoveFault.TheVariants as fault
+use Rattle.quota_cells.specs.Accounts.{look, has, with_value, covers, weigh, load, charged_to, is_an_account, changed_where}
+
+pub record CellMaps : Type 0 where
+  pub directories : List ℕ
+  pub quotas : List ℕ
+  pub loads : List ℕ
+  pub segments : List ℕ
+  pub stored : List ℕ
+
+abbrev pub quota_in : CellMaps → ℕ → ℕ
+quota_in c d = look c.directories c.quotas d
+
+abbrev pub load_in : CellMaps → ℕ → ℕ
+load_in c d = look c.directories c.loads d
+
+abbrev pub stored_in : CellMaps → ℕ → ℕ
+stored_in c s = look c.segments c.stored s
+
+-- the pages that an account is charged for, 0 where it is none
+abbrev pub used_in : CellMaps → ℕ → ℕ
+used_in c a = if is_an_account (quota_in c) a then load_in c a else 0
+
+-- The cells fit a tree: its directories and segments are exactly the uids with a cell, and each directory's load is
+-- the count from scratch in that tree, with the quotas and stored pages that the cells hold.
+pub record Fits (nodes : List Node) (c : CellMaps) : Type 0 where
+  pub directories : (u : ℕ) → has c.directories u ≡ is_directory nodes u
+  pub segments : (u : ℕ) → has c.segments u ≡ is_segment nodes u
+  pub loads : (e : ℕ) → has c.directories e ≡ true → load_in c e ≡ load (above (shapes nodes)) (quota_in c) c.segments c.stored e
+  pub count : length c.directories + length c.segments ≡ length nodes
+
+abbrev pub IsRising : List ℕ → Type 0
+IsRising ks = (i j : ℕ) → i < j → j < length ks → slice_index ks i < slice_index ks j
+
+-- each account is within its quota
+abbrev pub AreWithin : CellMaps → Type 0
+AreWithin c = (a : ℕ) → has c.directories a ≡ true → is_an_account (quota_in c) a ≡ true → load_in c a ≤ quota_in c a
+
+-- what holds of all cells
+pub record IsTable (c : CellMaps) : Type 0 where
+  pub rising : IsRising c.directories
+  pub segments_rise : IsRising c.segments
+  pub quota_count : length c.quotas ≡ length c.directories
+  pub load_count : length c.loads ≡ length c.directories
+  pub stored_count : length c.stored ≡ length c.segments
+  pub apart : (u : ℕ) → has c.directories u ≡ true → has c.segments u ≡ false
+  pub within : AreWithin c
+  pub total : sum c.quotas < 2 ^ 32
+
+-- the root's cell alone
+abbrev pub root_cell : ℕ → CellMaps
+root_cell quota = record { directories = 1 ∷ []; quotas = quota ∷ []; loads = 0 ∷ []; segments = []; stored = [] }
+
+-- a page more, or less, of a segment below these directories
+abbrev pub charged : CellMaps → List ℕ → ℕ → CellMaps
+charged c up s = record c { loads = changed_where (λ w. w + 1) (covers (quota_in c) up) c.directories c.loads; stored = with_value c.segments c.stored s (stored_in c s + 1) }
+
+abbrev pub credited : CellMaps → List ℕ → ℕ → CellMaps
+credited c up s = record c { loads = changed_where (λ w. w - 1) (covers (quota_in c) up) c.directories c.loads; stored = with_value c.segments c.stored s (stored_in c s - 1) }
+
+-- the loads once a directory below these has another quota: where it becomes an account its load is taken from what
+-- covers it, and where it is one no more its load is added there
+abbrev pub loads_then : List ℕ → List ℕ → List ℕ → List ℕ → ℕ → Bool → Bool → List ℕ
+loads_then directories quotas loads up d true false = changed_where (λ w. w - look directories loads d) (covers (look directories quotas) up) directories loads
+loads_then directories quotas loads up d false true = changed_where (λ w. w + look directories loads d) (covers (look directories quotas) up) directories loads
+loads_then directories quotas loads up d true true = loads
+loads_then directories quotas loads up d false false = loads
+
+-- the cells once a directory below these has another quota
+abbrev pub with_quota : CellMaps → List ℕ → ℕ → ℕ → CellMaps
+with_quota c up d v = record c { quotas = with_value c.directories c.quotas d v; loads = loads_then c.directories c.quotas c.loads up d (quota_in c d == 0) (v == 0) }
+
+-- whether a page of a segment below these can be charged, or the account that is full
+abbrev pub charge_fault : CellMaps → List ℕ → Result (Unit {0}) Full
+charge_fault c up = if load_in c (account (quota_in c) up) == quota_in c (account (quota_in c) up) then Err (record { account = account (quota_in c) up }) else Ok tt
+
+-- So each used count is, in this tree, the number of stored pages of the segments whose account this is.
+abbrev pub CountsUsed : List Node → CellMaps → Type 0
+CountsUsed nodes c = (a : ℕ) → has c.directories a ≡ true → used_in c a ≡ (if is_an_account (quota_in c) a then charged_to (above (shapes nodes)) (quota_in c) c.segments c.stored a else 0)
+
+-- a directory or a segment gets an empty cell
+pub record Enters (old new : CellMaps) (uid : ℕ) (dir : Bool) : Type 0 where
+  pub directories : (u : ℕ) → has new.directories u ≡ ((dir && uid == u) || has old.directories u)
+  pub segments : (u : ℕ) → has new.segments u ≡ ((not dir && uid == u) || has old.segments u)
+  pub quotas : (d : ℕ) → quota_in new d ≡ quota_in old d
+  pub loads : (d : ℕ) → load_in new d ≡ load_in old d
+  pub stored : (s : ℕ) → stored_in new s ≡ stored_in old s
+  pub counts : (test : ℕ → Bool) → weigh test new.segments new.stored ≡ weigh test old.segments old.stored
+  pub size : length new.directories + length new.segments ≡ length old.directories + length old.segments + 1
+
+-- a uid has no cell any more
+pub record Leaves (old new : CellMaps) (uid : ℕ) : Type 0 where
+  pub directories : (u : ℕ) → has new.directories u ≡ (has old.directories u && not (uid == u))
+  pub segments : (u : ℕ) → has new.segments u ≡ (has old.segments u && not (uid == u))
+  pub quotas : (d : ℕ) → quota_in new d ≡ quota_in old d
+  pub loads : (d : ℕ) → d ≢ uid → load_in new d ≡ load_in old d
+  pub stored : (s : ℕ) → stored_in new s ≡ stored_in old s
+  pub counts : (test : ℕ → Bool) → weigh test new.segments new.stored ≡ weigh test old.segments old.stored
+  pub size : length new.directories + length new.segments + 1 ≡ length old.directories + length old.segments
+
+-- a uid has a cell
+abbrev pub has_cell : CellMaps → ℕ → Bool
+has_cell c u = has c.directories u || has c.segments u
+
+-- ---- quota that moves
+
+-- Between a directory and its superior: down to the directory, or up from it. One gets the quota, the other gives it.
+abbrev pub superior_of : (ℕ → List ℕ) → ℕ → ℕ
+superior_of above d = slice_index (above d) 0
+
+abbrev pub getter_of : (ℕ → List ℕ) → ℕ → Bool → ℕ
+getter_of above d down = if down then d else superior_of above d
+
+abbrev pub giver_of : (ℕ → List ℕ) → ℕ → Bool → ℕ
+giver_of above d down = if down then superior_of above d else d
+
+-- the cells once so many pages of quota have moved
+abbrev pub moved : CellMaps → (ℕ → List ℕ) → ℕ → Bool → ℕ → CellMaps
+moved c above d down n =
+    let getter = getter_of above d down in
+    let giver = giver_of above d down in
+    with_quota (with_quota c (above getter) getter (quota_in c getter + n)) (above giver) giver (quota_in c giver - n)
+
+-- an account above its quota
+abbrev pub is_over : CellMaps → ℕ → Bool
+is_over c a = is_an_account (quota_in c) a && nat_lt (quota_in c a) (load_in c a)
+
+-- the least of them
+abbrev pub first_over : CellMaps → Option ℕ
+first_over c = find (is_over c) c.directories
+
+abbrev pub over_answer : Option ℕ → Result (Unit {0}) MoveFault
+over_answer None = Ok tt
+over_answer (Some a) = Err (fault.Over a)
+
+-- whether so much quota may move: the giver must have it, and no account may be above its quota then
+abbrev pub move_answer : CellMaps → (ℕ → List ℕ) → ℕ → Bool → ℕ → Result (Unit {0}) MoveFault
+move_answer c above d down n = if nat_lt (quota_in c (giver_of above d down)) n then Err fault.TooLittle else over_answer (first_over (moved c above d down n))

@@ -1,0 +1,455 @@
+//! Quota cells: the quota of each directory, and the stored pages of each segment (Organick 1972).
+//!
+//! A page is charged to the nearest superior directory with a quota, which is an account, else to the root, which
+//! always is one. For each directory a load is kept besides, the stored pages below it that no lower account takes:
+//! an account's used count is its load, and any other directory uses nothing. So where quota moves, and a directory
+//! becomes an account or is one no more, its load is taken from the directories above it up to the nearest account,
+//! or added there, and no page is counted again.
+//!
+//! Costs: `new` takes all memory, once: five numbers of 4 bytes for each of 4097 cells. A look-up halves a list of
+//! uids: at most 13 looks. `charge` and `credit` go up from the segment to its account, at most 9 directories, with
+//! one look-up each. `move_quota` goes up twice so, and looks at no more than three accounts to find one that would
+//! be above its quota. `enter` and `leave` move a part of the lists by one place. None but `new` takes memory.
+#![tactic(auto)]
+
+ghost use Rattle.std.specs.Prelude.{◌≡◌, ◌≢◌, ◌<◌, ◌≤◌, ◌+◌, ◌-◌, ◌^◌, ◌==◌, ◌&&◌, ◌||◌, not, ℕ, Bool, true, false, Some, None, List, length, IfOk, IfErr, IfSome, IfNone, OnOk, OnErr, IsErr, sum, if◌then◌else◌, [], ◌∷◌, vec_capacity};
+ghost use Rattle.storage_terms.specs.Tree.{above, account};
+ghost use Rattle.dir_tree.specs.declared.node.Node.{Node};
+ghost use Rattle.dir_tree.specs.Nodes.{root_alone, is_in, is_directory, is_segment, without};
+ghost use Rattle.dir_tree.specs.Shape.{shapes, HasChains};
+ghost use Rattle.quota_cells.specs.Accounts.{has, is_an_account};
+ghost use Rattle.quota_cells.specs.Cells.{quota_in, load_in, stored_in, used_in, Fits, AreWithin, root_cell, charged, credited, charge_fault, has_cell, Enters, Leaves, moved, move_answer, first_over, with_quota, superior_of, CountsUsed};
+ghost use Rattle.std.specs.Int.RustNames.{unsigned_abs};
+ghost use Rattle.std.specs.Int.{is_positive};
+
+mod columns;
+mod moves;
+#[cfg(test)]
+mod tests;
+
+use dir_tree::{ROOT, Tree};
+use std::alloc::{AllocError, Global};
+use std::marker::Model;
+
+/// No memory was left for the cells.
+#[derive(Clone, Copy, Debug, PartialEq, Eq)]
+pub struct NoMemory;
+
+impl From<AllocError> for NoMemory {
+    fn from(_: AllocError) -> Self {
+        NoMemory
+    }
+}
+
+/// The account has as many stored pages as its quota.
+#[derive(Clone, Copy, Debug, PartialEq, Eq)]
+pub struct Full {
+    /// The directory that would be charged.
+    pub account: u32,
+}
+
+/// Why quota can't move: the first of these that holds.
+#[derive(Clone, Copy, Debug, PartialEq, Eq)]
+pub enum MoveFault {
+    /// The giver's quota is below the amount.
+    TooLittle,
+    /// This account, the one with the least uid, would have more stored pages than its quota.
+    Over {
+        /// The account.
+        account: u32,
+    },
+}
+
+/// The most cells.
+pub const CELLS: usize = 4097;
+
+/// Quota cells (Organick 1972).
+///
+/// Contracts see a finite map from directory to quota, one from segment to stored pages, and one from directory to
+/// load. The cells fit a tree (`Fits`) where its directories and segments are exactly the uids with a cell, and each
+/// load is the count from scratch in that tree, with the quotas and stored pages that the cells hold. Each account is
+/// within its quota at all times, and the sum of quotas is what the root had at first.
+#[derive(Debug, Drop)]
+pub struct Cells {
+    directories: Vec<u32>,
+    quotas: Vec<u32>,
+    loads: Vec<u32>,
+    segments: Vec<u32>,
+    stored: Vec<u32>,
+}
+
+impl Model for Cells {
+    ghost use Rattle.std.specs.Prelude.{◌≤◌, vec_capacity};
+    ghost use Rattle.quota_cells.specs.Cells.{CellMaps, IsTable};
+
+    ghost Value = { CellMaps };
+
+    ghost view = { λ c. record { directories = c.directories.items; quotas = c.quotas.items; loads = c.loads.items; segments = c.segments.items; stored = c.stored.items } };
+
+    ghost invariant = { λ c. IsTable (record { directories = c.directories.items; quotas = c.quotas.items; loads = c.loads.items; segments = c.segments.items; stored = c.stored.items }) × (4097 ≤ vec_capacity c.directories) × (4097 ≤ vec_capacity c.quotas) × (4097 ≤ vec_capacity c.loads) × (4097 ≤ vec_capacity c.segments) × (4097 ≤ vec_capacity c.stored) };
+}
+
+/// An empty column with room for all cells.
+fn column(alloc: Global) -> Result<Vec<u32>, AllocError>
+    ensures items { IfOk result (λ v. v.items ≡ []) }
+    ensures capacity { IfOk result (λ v. vec_capacity v ≡ 4097) }
+{
+    Vec::with_capacity(alloc, CELLS)
+}
+
+/// The superior of a directory that isn't the root.
+fn superior_of(t: &Tree, dir: u32) -> u32
+    requires directory { is_directory t.now.nodes dir ≡ true }
+    requires branch { dir ≢ 1 }
+    ensures is { superior_of (above (shapes t.now.nodes)) dir ≡ result }
+    ensures above { above (shapes t.now.nodes) dir ≡ result ∷ above (shapes t.now.nodes) result }
+    ensures below { result < dir }
+    ensures directory { is_directory t.now.nodes result ≡ true }
+    ensures there { is_in t.now.nodes result ≡ true }
+    ensures chains { HasChains (shapes t.now.nodes) }
+{
+    let up = t.superiors(dir);
+    up.as_slice()[0]
+}
+
+impl Cells {
+    /// The root's cell alone, with this quota, in pages. They fit the tree of the root alone.
+    ///
+    /// # Errors
+    /// `NoMemory` is want of memory.
+    pub fn new(alloc: Global, root_quota: u32) -> Result<Cells, NoMemory>
+        ensures cells { IfOk result (λ cells. cells ≡ root_cell root_quota) }
+        ensures fits { IfOk result (λ cells. (volume entry : ℕ) → Fits (root_alone volume entry).nodes cells) }
+    {
+        let mut directories = column(alloc)?;
+        let mut quotas = column(alloc)?;
+        let mut loads = column(alloc)?;
+        let segments = column(alloc)?;
+        let stored = column(alloc)?;
+        directories.push_reserved(ROOT);
+        quotas.push_reserved(root_quota);
+        loads.push_reserved(0);
+        Ok(Cells {
+            directories,
+            quotas,
+            loads,
+            segments,
+            stored,
+        })
+    }
+
+    /// Adds an empty cell for a new directory or segment. Where the cells fitted the tree before it was added, they
+    /// fit the tree with it.
+    pub fn enter(&mut self, uid: u32, dir: bool)
+        requires room { length self.old.directories + length self.old.segments < 4097 }
+        requires absent { has_cell self.old uid ≡ false }
+        ensures enters { Enters self.old self.new uid dir }
+        ensures fits { (nodes : List Node) (n : Node) → n.uid ≡ uid → n.dir ≡ dir → is_in nodes uid ≡ false → HasChains (shapes nodes) → Fits nodes self.old → Fits (n ∷ nodes) self.new }
+    {
+        if dir {
+            self.enter_directory(uid);
+        } else {
+            self.enter_segment(uid);
+        }
+    }
+
+    /// Adds an empty cell of a directory.
+    fn enter_directory(&mut self, uid: u32)
+        requires room { length self.old.directories + length self.old.segments < 4097 }
+        requires absent { has_cell self.old uid ≡ false }
+        ensures { Enters self.old self.new uid true }
+    {
+        match columns::search(&self.directories, uid) {
+            Ok(_) => unreachable!(),
+            Err(at) => {
+                columns::insert_at(&mut self.directories, at, uid);
+                columns::insert_at(&mut self.quotas, at, 0);
+                columns::insert_at(&mut self.loads, at, 0);
+            }
+        }
+    }
+
+    /// Adds an empty cell of a segment.
+    fn enter_segment(&mut self, uid: u32)
+        requires room { length self.old.directories + length self.old.segments < 4097 }
+        requires absent { has_cell self.old uid ≡ false }
+        ensures { Enters self.old self.new uid false }
+    {
+        match columns::search(&self.segments, uid) {
+            Ok(_) => unreachable!(),
+            Err(at) => {
+                columns::insert_at(&mut self.segments, at, uid);
+                columns::insert_at(&mut self.stored, at, 0);
+            }
+        }
+    }
+
+    /// Drops the cell of a directory without quota, or of a segment without stored pages. Where the cells fitted the
+    /// tree before the node was taken out, they fit the tree without it.
+    pub fn leave(&mut self, uid: u32)
+        requires cell { has_cell self.old uid ≡ true }
+        requires quota { quota_in self.old uid ≡ 0 }
+        requires stored { stored_in self.old uid ≡ 0 }
+        ensures leaves { Leaves self.old self.new uid }
+        ensures fits { (nodes : List Node) → ((u : ℕ) → u ≢ uid → above (shapes (without uid nodes)) u ≡ above (shapes nodes) u) → length (without uid nodes) + 1 ≡ length nodes → Fits nodes self.old → Fits (without uid nodes) self.new }
+    {
+        match columns::search(&self.directories, uid) {
+            Ok(_) => self.drop_directory(uid),
+            Err(_) => self.drop_segment(uid),
+        }
+    }
+
+    /// Drops the empty cell of a directory.
+    fn drop_directory(&mut self, uid: u32)
+        requires cell { has self.old.directories uid ≡ true }
+        requires quota { quota_in self.old uid ≡ 0 }
+        ensures { Leaves self.old self.new uid }
+    {
+        let at = columns::place(&self.directories, uid);
+        self.directories.remove(at);
+        self.quotas.remove(at);
+        self.loads.remove(at);
+    }
+
+    /// Drops the empty cell of a segment.
+    fn drop_segment(&mut self, uid: u32)
+        requires cell { has self.old.segments uid ≡ true }
+        requires stored { stored_in self.old uid ≡ 0 }
+        requires apart { has self.old.directories uid ≡ false }
+        ensures { Leaves self.old self.new uid }
+    {
+        let at = columns::place(&self.segments, uid);
+        self.segments.remove(at);
+        self.stored.remove(at);
+    }
+
+    /// The quota of a directory, in pages; 0 where it is no account of its own.
+    pub fn quota(&self, d: u32) -> u32
+        requires { has self.now.directories d ≡ true }
+        ensures { result ≡ quota_in self.now d }
+    {
+        columns::value(&self.directories, &self.quotas, d)
+    }
+
+    /// The stored pages of a segment.
+    pub fn stored(&self, seg: u32) -> u32
+        requires { has self.now.segments seg ≡ true }
+        ensures { result ≡ stored_in self.now seg }
+    {
+        columns::value(&self.segments, &self.stored, seg)
+    }
+
+    /// The stored pages that an account is charged for; 0 where it is no account.
+    pub fn used(&self, a: u32) -> u32
+        ensures used { result ≡ used_in self.now a }
+        ensures within { AreWithin self.now }
+    {
+        if a == ROOT || columns::value(&self.directories, &self.quotas, a) > 0 {
+            return columns::value(&self.directories, &self.loads, a);
+        }
+        0
+    }
+
+    /// What `charge` would refuse.
+    ///
+    /// # Errors
+    /// `Full` exactly where the account of the segment has used all of its quota.
+    pub fn may_charge(&self, t: &Tree, seg: u32) -> Result<(), Full>
+        requires segment { is_segment t.now.nodes seg ≡ true }
+        requires fits { Fits t.now.nodes self.now }
+        ensures { result ≡ charge_fault self.now (above (shapes t.now.nodes) seg) }
+    {
+        let up = t.superiors(seg);
+        let account = columns::account(&self.directories, &self.quotas, up.as_slice());
+        let quota = columns::value(&self.directories, &self.quotas, account);
+        if columns::value(&self.directories, &self.loads, account) == quota {
+            return Err(Full { account });
+        }
+        Ok(())
+    }
+
+    /// Counts one more stored page of a segment, and charges its account for it.
+    ///
+    /// # Errors
+    /// `Full` exactly where the account of the segment has used all of its quota; then nothing is changed.
+    pub fn charge(&mut self, t: &Tree, seg: u32) -> Result<(), Full>
+        requires segment { is_segment t.now.nodes seg ≡ true }
+        requires fits { Fits t.now.nodes self.old }
+        ensures answer { result ≡ charge_fault self.old (above (shapes t.now.nodes) seg) }
+        ensures ok { OnOk result (self.new ≡ charged self.old (above (shapes t.now.nodes) seg) seg) }
+        ensures err { OnErr result (self.new ≡ self.old) }
+        ensures fits { Fits t.now.nodes self.new }
+        ensures used { OnOk result (CountsUsed t.now.nodes self.new) }
+    {
+        self.may_charge(t, seg)?;
+        let up = t.superiors(seg);
+        let at = columns::place(&self.segments, seg);
+        self.stored[at] += 1;
+        columns::lift(
+            &mut self.loads,
+            &self.directories,
+            &self.quotas,
+            up.as_slice(),
+            1,
+        );
+        Ok(())
+    }
+
+    /// Counts one stored page of a segment less, to the credit of the account that it has now.
+    pub fn credit(&mut self, t: &Tree, seg: u32)
+        requires segment { is_segment t.now.nodes seg ≡ true }
+        requires stored { 0 < stored_in self.old seg }
+        requires fits { Fits t.now.nodes self.old }
+        ensures cells { self.new ≡ credited self.old (above (shapes t.now.nodes) seg) seg }
+        ensures fits { Fits t.now.nodes self.new }
+        ensures used { CountsUsed t.now.nodes self.new }
+    {
+        let up = t.superiors(seg);
+        let at = columns::place(&self.segments, seg);
+        self.stored[at] -= 1;
+        columns::lower(
+            &mut self.loads,
+            &self.directories,
+            &self.quotas,
+            up.as_slice(),
+            1,
+        );
+    }
+
+    /// What `move_quota` would refuse.
+    ///
+    /// # Errors
+    /// `TooLittle` exactly where the giver's quota is below the amount; else `Over` exactly where an account would
+    /// have more stored pages than its quota, with the least uid of such.
+    pub fn may_move(&self, t: &Tree, dir: u32, amount: i32) -> Result<(), MoveFault>
+        requires directory { is_directory t.now.nodes dir ≡ true }
+        requires branch { dir ≢ 1 }
+        requires amount { 0 < unsigned_abs amount }
+        requires fits { Fits t.now.nodes self.now }
+        ensures { result ≡ move_answer self.now (above (shapes t.now.nodes)) dir (is_positive amount) (unsigned_abs amount) }
+    {
+        if amount.is_positive() {
+            self.may_move_down(t, dir, amount.unsigned_abs())
+        } else {
+            self.may_move_up(t, dir, amount.unsigned_abs())
+        }
+    }
+
+    /// What a move of so many pages of quota from its superior to a directory would be refused for.
+    fn may_move_down(&self, t: &Tree, dir: u32, pages: u32) -> Result<(), MoveFault>
+        requires directory { is_directory t.now.nodes dir ≡ true }
+        requires branch { dir ≢ 1 }
+        requires pages { 0 < pages }
+        requires fits { Fits t.now.nodes self.now }
+        ensures { result ≡ move_answer self.now (above (shapes t.now.nodes)) dir true pages }
+    {
+        let superior = superior_of(t, dir);
+        let given = columns::value(&self.directories, &self.quotas, superior);
+        if given < pages {
+            return Err(MoveFault::TooLittle);
+        }
+        let rest = given - pages;
+        let quota = columns::value(&self.directories, &self.quotas, dir);
+        let load = columns::value(&self.directories, &self.loads, dir);
+        let before = columns::value(&self.directories, &self.loads, superior);
+        let left = moves::load_left(before, load, quota);
+        let up = t.superiors(superior);
+        let account = columns::account(&self.directories, &self.quotas, up.as_slice());
+        let account_load = columns::value(&self.directories, &self.loads, account);
+        let account_quota = columns::value(&self.directories, &self.quotas, account);
+        if moves::is_above_over(superior, rest, left, account_load, account_quota) {
+            return Err(MoveFault::Over { account });
+        }
+        if moves::is_giver_over(superior, rest, left) {
+            return Err(MoveFault::Over { account: superior });
+        }
+        if moves::is_getter_over(load, quota, pages) {
+            return Err(MoveFault::Over { account: dir });
+        }
+        Ok(())
+    }
+
+    /// What a move of so many pages of quota from a directory to its superior would be refused for.
+    fn may_move_up(&self, t: &Tree, dir: u32, pages: u32) -> Result<(), MoveFault>
+        requires directory { is_directory t.now.nodes dir ≡ true }
+        requires branch { dir ≢ 1 }
+        requires pages { 0 < pages }
+        requires fits { Fits t.now.nodes self.now }
+        ensures { result ≡ move_answer self.now (above (shapes t.now.nodes)) dir false pages }
+    {
+        let superior = superior_of(t, dir);
+        let given = columns::value(&self.directories, &self.quotas, dir);
+        if given < pages {
+            return Err(MoveFault::TooLittle);
+        }
+        let rest = given - pages;
+        let load = columns::value(&self.directories, &self.loads, dir);
+        let above = columns::value(&self.directories, &self.loads, superior);
+        let quota = columns::value(&self.directories, &self.quotas, superior);
+        if moves::is_superior_over(above, load, rest, quota, pages) {
+            return Err(MoveFault::Over { account: superior });
+        }
+        if moves::is_inferior_over(load, rest) {
+            return Err(MoveFault::Over { account: dir });
+        }
+        Ok(())
+    }
+
+    /// Moves quota between a directory and its immediate superior: a positive amount down to the directory, a
+    /// negative one up from it. Used counts are those of the new accounts from then on.
+    ///
+    /// # Errors
+    /// `TooLittle` exactly where the giver's quota is below the amount; else `Over` exactly where an account would
+    /// have more stored pages than its quota, with the least uid of such. Then nothing is changed.
+    pub fn move_quota(&mut self, t: &Tree, dir: u32, amount: i32) -> Result<(), MoveFault>
+        requires directory { is_directory t.now.nodes dir ≡ true }
+        requires branch { dir ≢ 1 }
+        requires amount { 0 < unsigned_abs amount }
+        requires fits { Fits t.now.nodes self.old }
+        ensures answer { result ≡ move_answer self.old (above (shapes t.now.nodes)) dir (is_positive amount) (unsigned_abs amount) }
+        ensures ok { OnOk result (self.new ≡ moved self.old (above (shapes t.now.nodes)) dir (is_positive amount) (unsigned_abs amount)) }
+        ensures err { OnErr result (self.new ≡ self.old) }
+        ensures fits { Fits t.now.nodes self.new }
+        ensures used { OnOk result (CountsUsed t.now.nodes self.new) }
+        ensures total { sum self.new.quotas ≡ sum self.old.quotas }
+    {
+        self.may_move(t, dir, amount)?;
+        let superior = superior_of(t, dir);
+        if amount.is_positive() {
+            self.transfer(t, dir, superior, amount.unsigned_abs());
+        } else {
+            self.transfer(t, superior, dir, amount.unsigned_abs());
+        }
+        Ok(())
+    }
+
+    /// Moves quota that may move.
+    fn transfer(&mut self, t: &Tree, getter: u32, giver: u32, pages: u32)
+        requires getter { is_directory t.now.nodes getter ≡ true }
+        requires giver { is_directory t.now.nodes giver ≡ true }
+        requires other { getter ≢ giver }
+        requires pages { 0 < pages }
+        requires enough { pages ≤ quota_in self.old giver }
+        requires fits { Fits t.now.nodes self.old }
+        requires none { first_over (with_quota (with_quota self.old (above (shapes t.now.nodes) getter) getter (quota_in self.old getter + pages)) (above (shapes t.now.nodes) giver) giver (quota_in self.old giver - pages)) ≡ None }
+        ensures cells { self.new ≡ with_quota (with_quota self.old (above (shapes t.now.nodes) getter) getter (quota_in self.old getter + pages)) (above (shapes t.now.nodes) giver) giver (quota_in self.old giver - pages) }
+        ensures fits { Fits t.now.nodes self.new }
+        ensures total { sum self.new.quotas ≡ sum self.old.quotas }
+    {
+        let above_getter = t.superiors(getter);
+        let above_giver = t.superiors(giver);
+        let more = columns::value(&self.directories, &self.quotas, getter) + pages;
+        let less = columns::value(&self.directories, &self.quotas, giver) - pages;
+        columns::transfer(
+            &mut self.quotas,
+            &mut self.loads,
+            &self.directories,
+            above_getter.as_slice(),
+            getter,
+            more,
+            above_giver.as_slice(),
+            giver,
+            less,
+        );
+    }
+}
