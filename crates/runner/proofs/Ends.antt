@@ -4,23 +4,21 @@ use Rattle.std.specs.Prelude.{count_by, IsTrue, ◌↔◌}
 use Rattle.std.proofs.lemmas.Bool.{cases_eq}
 use Rattle.std.proofs.lemmas.Bool.Decides.{nat_tests}
 use Rattle.std.proofs.lemmas.List.{get_or-set_same, get_or-set_other, length-set}
-use Rattle.std.proofs.lemmas.List.Sums.{sum_by-set, sum_by-cons, count_by-le-length}
+use Rattle.std.proofs.lemmas.List.Sums.{sum_by-set, count_by-le-length}
 use Rattle.script.specs.Plans.{Plan, commands_of, command_at}
 use Rattle.script.specs.Forms.{IsFirstForm, IsTail, IsReference}
 use Rattle.script.specs.declared.commands.Command.{Command}
 use Rattle.script.specs.declared.commands.Command.TheVariants as command
-use Rattle.script.specs.declared.plan.VolumeLine.{VolumeLine}
 use Rattle.book.specs.declared.entries.Entry.{Entry}
 use Rattle.book.specs.declared.replies.Reply.TheVariants as reply
-use Rattle.storage_terms.specs.Tree.{Node, account, account_of, quota_in, volume_in, used_by, taken_on, entries_on}
+use Rattle.storage_terms.specs.Tree.{Node, used_by}
 use Rattle.flat_store.specs.Pages.{is_page, is_stored, without_stored}
-use Rattle.flat_store.specs.Flat.{Store, root_of, moved_on, after_command}
+use Rattle.flat_store.specs.Flat.{Store, moved_on, after_command}
 use Rattle.flat_store.specs.Legal.{IsZeroPage, IsAnswer, MayRelease, IsLawful, after_do, after_entry, store_after, part, last_of, IsEnd, IsComplete, IsSettled, quotas_of, AreWithin}
 use Rattle.flat_store.proofs.BookLaws.{store_after-push, legal_push, part-push, part-skip, last_of-push}
 use Rattle.flat_store.proofs.PageLaws.{is_stored-without, length-without, once_kept}
-use Rattle.runner.specs.Machines.{segment_in, IsPicture, Holds, IsAt, done_at, IsCleanBelow, release_entry}
-use Rattle.std.specs.List.{flat_map}
-use Rattle.std.specs.Prelude.{reverse, slice_get}
+use Rattle.runner.specs.Machines.{IsPicture, Holds, IsAt, done_at, IsCleanBelow, release_entry}
+use Rattle.std.specs.Prelude.{slice_get}
 use Rattle.runner.specs.declared.steps.Step.{Step}
 use Rattle.runner.specs.declared.steps.Step.TheVariants as step
 use Rattle.runner.specs.Steps.{step_of, command_of, Follows}

@@ -9,7 +9,6 @@ use Rattle.script.specs.Forms.{IsFirstForm, pages_of, path_of, fits_in}
 use Rattle.script.specs.declared.plan.VolumeLine.{VolumeLine}
 use Rattle.storage_terms.specs.Tree.{Walk, LeadsTo, walk_in, entries_on}
 use Rattle.script.specs.declared.commands.Command.{Command}
-use Rattle.script.specs.declared.commands.Command.TheVariants as command
 use Rattle.book.specs.declared.entries.Entry.{Entry}
 use Rattle.book.specs.declared.replies.Reply.{Reply}
 use Rattle.book.specs.declared.replies.Reply.TheVariants as reply

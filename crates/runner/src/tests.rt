@@ -2,6 +2,8 @@
 ghost use Rattle.std.specs.Prelude.{◌≤◌};
 
 use crate::{Status, Words, multics};
+use book::Book;
+use flat_store::FlatStore;
 use site_io::{MemorySink, MemorySource, NoGate};
 use std::alloc::{AllocError, Global};
 use std::sync::Wait;
@@ -63,6 +65,42 @@ fn run<R: Threads + Wait + Sync + AllocGlobal>(
     requires { 1 ≤ piece }
 {
     ask(rt, &["run"], bytes, piece, (&[], &[]), 65536)
+}
+
+/// How many pages the root is charged for after each entry of a book was allowed by the flat store and followed, or
+/// that one wasn't allowed.
+fn replay(alloc: Global, book: &Book) -> Result<Option<u32>, Fail> {
+    let script = book.script();
+    let mut store = FlatStore::boot(alloc, script)?;
+    for entry in book.entries() {
+        if !store.allows(script, *entry) {
+            return Ok(None);
+        }
+        store.follow(script, *entry)?;
+    }
+    Ok(Some(store.used(1)))
+}
+
+/// The same of the book of a script, and what the flat store after it says.
+fn replay_run<R: Threads + Wait + Sync + AllocGlobal>(
+    rt: &R,
+    bytes: &[u8],
+) -> Result<Option<(Option<u32>, u32)>, Fail> {
+    let alloc = rt.alloc();
+    let mut texts = Vec::new(alloc);
+    texts.push(String::from_str(alloc, "run")?)?;
+    let mut source = MemorySource::new(bytes.to_vec(alloc)?, 64, Vec::new(alloc));
+    let mut sink = MemorySink::new(alloc, 65536, Vec::new(alloc))?;
+    let words = Words::new(texts);
+    let finished = multics(rt, alloc, words, &mut source, &mut sink, &NoGate);
+    match finished.book {
+        Some(book) => {
+            let followed = replay(alloc, &book)?;
+            let store = FlatStore::after(alloc, &book)?;
+            Ok(Some((followed, store.used(1))))
+        }
+        None => Ok(None),
+    }
 }
 
 const FIRST: &str = "machine 1 4 12 1 1 1
@@ -228,5 +266,24 @@ fn other_statuses_have_their_texts(rt: HostRuntime) -> Result<(), Fail> {
     let answer = run(&rt, &hashes, 65536)?;
     assert_eq!(rt; answer.status, Status::TooLong);
     assert_eq!(rt; answer.text.as_slice(), b"script too long\n".as_slice());
+    Ok(())
+}
+
+#[test]
+fn books_are_those_of_the_flat_store(rt: HostRuntime) -> Result<(), Fail> {
+    for (script, used) in [
+        (FIRST, 1),
+        (
+            "machine 1 4 12 1 1 1\nquota 4\nvolume alpha 8 4\nprocess Smith\nmkseg >s 1 alpha\ninitiate >s\nwrite 0 0 5\nread 0 0\nwrite 0 0 0\nwrite 0 1024 1\nread 1 0\nend\n",
+            0,
+        ),
+        (
+            "machine 1 4 12 1 1 1\nquota 4\nvolume alpha 8 4\nprocess Smith.Dev\nmkseg >s 3 alpha\ninitiate >s\nwrite 0 0 1\nwrite 0 1024 2\nwrite 0 2048 3\nwrite 0 0 0\nwrite 0 2048 0\nwrite 0 2049 4\nend\n",
+            2,
+        ),
+    ] {
+        let replayed = replay_run(&rt, script.as_bytes())?;
+        assert_eq!(rt; replayed, Some((Some(used), used)));
+    }
     Ok(())
 }

@@ -1,5 +1,4 @@
-use Rattle.std.proofs.Common.{subst, sym, ap, ◌∙◌, Bool}
-use Rattle.std.specs.Prelude.{count_by}
+use Rattle.std.proofs.Common.{subst, sym}
 use Rattle.script.specs.Plans.{commands_of}
 use Rattle.script.specs.Forms.{pages_of}
 use Rattle.book.specs.Books.{Ledger}
