@@ -135,6 +135,14 @@ fn scripts_give_their_listings(rt: HostRuntime) -> Result<(), Fail> {
             "process 0 Smith\nmkseg >s 1 alpha = made 2\ninitiate >s = known 0\nwrite 0 0 000000000005 = done\nread 0 0 = word 000000000005\nwrite 0 0 000000000000 = done\nwrite 0 1024 000000000001 = length\nread 1 0 = unknown\nend = done\n> quota 4 used 0\nvolume alpha records 8 taken 0 entries 4 taken 2\n",
         ),
         (
+            "machine 1 4 12 1 1 1\nquota 1\nvolume a 1 2\nprocess Smith.Default\nmkseg >s 1 a\ninitiate >s\nend\n",
+            "process 0 Smith\nmkseg >s 1 a = made 2\ninitiate >s = known 0\nend = done\n> quota 1 used 0\nvolume a records 1 taken 0 entries 2 taken 2\n",
+        ),
+        (
+            "machine 1 4 12 1 1 1\nquota 1\nvolume a 1 2\nprocess Smith.Dev\nmkseg >s 1 a\ninitiate >s\nend\n",
+            "process 0 Smith.Dev\nmkseg >s 1 a = made 2\ninitiate >s = known 0\nend = done\n> quota 1 used 0\nvolume a records 1 taken 0 entries 2 taken 2\n",
+        ),
+        (
             "machine 1 4 12 1 1 1\nquota 1\nvolume a 1 2\nprocess J_1\nmkseg >x.y-z 1 a\ninitiate >x.y-z\nend\n",
             "process 0 J_1\nmkseg >x.y-z 1 a = made 2\ninitiate >x.y-z = known 0\nend = done\n> quota 1 used 0\nvolume a records 1 taken 0 entries 2 taken 2\n",
         ),
@@ -196,6 +204,9 @@ fn other_bytes_are_later(rt: HostRuntime) -> Result<(), Fail> {
         "machine 1 4 12 1 1 1\nquota 4\nvolume alpha 8 4\nprocess Smith\nmkseg >s>t 1 alpha\ninitiate >s>t\nend\n",
         "machine 2 4 12 1 1 1\nquota 4\nvolume alpha 8 4\nprocess Smith\nmkseg >s 1 alpha\ninitiate >s\nend\n",
         "machine 1 4 1022 1 1 1\nquota 4\nvolume alpha 8 4\nprocess Smith\nmkseg >s 1 alpha\ninitiate >s\nend\n",
+        "machine 1 4 12 1 1 1\nquota 4\nvolume alpha 8 4\nprocess Smith.\nmkseg >s 1 alpha\ninitiate >s\nend\n",
+        "machine 1 4 12 1 1 1\nquota 4\nvolume alpha 8 4\nprocess Smith.Dev.x\nmkseg >s 1 alpha\ninitiate >s\nend\n",
+        "machine 1 4 12 1 1 1\nquota 4\nvolume alpha 8 4\nprocess *\nmkseg >s 1 alpha\ninitiate >s\nend\n",
     ] {
         let answer = run(&rt, script.as_bytes(), 7)?;
         assert_eq!(rt; answer.status, Status::Later, "{script}");
