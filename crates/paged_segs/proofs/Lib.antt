@@ -3,3 +3,4 @@ pub mod Moving
 pub mod Counting
 pub mod Located
 pub mod Keeping
+pub mod Emptying

@@ -1,15 +1,18 @@
 -- What is known of a segment, and of the page in a bound frame.
-use Rattle.std.proofs.Common.{◌≡◌, ◌≢◌, ℕ, ◌+◌, ◌-◌, ◌<◌, ◌≤◌, true, List, length, Option, Some, None, refl, sym, ap, ◌∙◌, arith, subst}
+use Rattle.std.proofs.Common.{◌≡◌, ◌≢◌, ℕ, ◌+◌, ◌-◌, ◌<◌, ◌≤◌, true, false, List, [], length, get_or, replicate, is_some, Option, Some, None, refl, sym, ap, ◌∙◌, arith, subst}
 use Rattle.std.proofs.lemmas.Option.{same_Some}
-use Rattle.core_map.specs.CoreMap.{frame_at, is_bound}
+use Rattle.std.proofs.lemmas.List.{get_or_default}
+use Rattle.core_map.specs.CoreMap.{Core, frame_at, is_bound}
 use Rattle.page_table.specs.declared.Ptw.{Ptw}
 use Rattle.page_table.specs.declared.Ptw.TheVariants.{Null, Out, Here, Leaving}
 use Rattle.page_table.specs.PageTable.{ptw_at}
 use Rattle.vtoc.specs.Vtoc.{Entry}
 use Rattle.page_control.specs.declared.Home.{Home}
-use Rattle.page_control.specs.Plain.{bindings, binding_at, number_in}
-use Rattle.page_control.specs.Tied.{frame_of, uid_in, uid_at, map_at, IsTableOf, IsHomeOf, IsMapOf}
-use Rattle.page_control.proofs.Facts.{binding_is, bound_to, here_within}
+use Rattle.page_control.specs.Plain.{bindings, binding_at, number_in, words_in, disk_of, filed}
+use Rattle.page_control.specs.Picture.{picture, is_stored, words_filed}
+use Rattle.page_control.specs.Tied.{frame_of, has_record, uid_in, uid_at, map_at, IsTableOf, IsHomeOf, IsMapOf}
+use Rattle.page_control.proofs.Facts.{binding_is, bound_to, bound_from_page, here_within}
+use Rattle.page_control.proofs.Callers.{stored_shown, record_shown, words_shown}
 use Rattle.page_control.proofs.Ties.{frame_same}
 use Rattle.paged_segs.specs.Segs.{Segs, home_at, table_at, word_at}
 use Rattle.paged_segs.specs.Kept.{IsKept}
@@ -77,3 +80,48 @@ page_bound s f uid p k at =
 
 pub page_of_frame : (s : Segs) (f : ℕ) → IsKept s → is_bound (frame_at s.storage.core f) ≡ true → IsPageOf s f (uid_in (frame_at s.storage.core f)) (number_in (frame_at s.storage.core f))
 page_of_frame s f k bound = page_bound s f _ _ k (binding_is s.storage.core f ∙ bound_to (frame_at s.storage.core f) bound)
+
+-- the same in the terms in which a call's steps give it
+pub page_told : (s : Segs) (core : Core) (f : ℕ) (page : ℕ × ℕ) → IsKept s → core ≡ s.storage.core → is_bound (frame_at s.storage.core f) ≡ true
+    → page ≡ (uid_in (frame_at core f), number_in (frame_at core f)) → IsPageOf s f page.0 page.1
+page_told s core f page k same bound is = rw (is, same) (page_of_frame s f k bound)
+
+-- what a word tells of its page
+pub record IsWordOf (s : Segs) (i page : ℕ) (w : Ptw) : Type 0 where
+  pub word : w ≡ word_at s i page
+  pub stays : (f : ℕ) → w ≢ Leaving f
+  pub stored : is_stored s.storage (i + 2) page ≡ has_record w
+  pub null : w ≡ Null → picture s.storage (i + 2) page ≡ replicate 1024 0
+  pub bound : (f : ℕ) → w ≡ Here f → is_bound (frame_at s.storage.core f) ≡ true
+  pub here : (f : ℕ) → w ≡ Here f → binding_at (bindings s.storage.core) f ≡ Some (i + 2, page)
+  pub words : (f : ℕ) → w ≡ Here f → picture s.storage (i + 2) page ≡ words_in s.storage f
+
+none_from : (place : Option ℕ) (w : Ptw) → is_some place ≡ has_record w → w ≡ Null → place ≡ None
+none_from None w same null = refl
+none_from (Some r) w same null = (let no : has_record w ≡ false = ap has_record null in cc)
+
+pub word_tells : (s : Segs) (i page : ℕ) (w : Ptw) (table : List Ptw) → IsKept s → i < length s.homes → table ≡ get_or s.tables i table → w ≡ ptw_at table page → IsWordOf s i page w
+word_tells s i page w table k il is at =
+    let more = homes_within s k in
+    let place : i < length s.tables = omega (arith, il, more) in
+    let word : w ≡ word_at s i page = at ∙ ap (λ (those : List Ptw). ptw_at those page) (is ∙ get_or_default s.tables i table [] place) in
+    let its : IsTableOf (bindings s.storage.core) (i + 2) (table_at s.tables i) = k.tables i il in
+    let here : (f : ℕ) → w ≡ Here f → binding_at (bindings s.storage.core) f ≡ Some (i + 2, page) = λ f that. its.back f page (ap frame_of (sym word ∙ that)) in
+    record {
+      word = word;
+      stays = λ f that. k.stay i page f (sym word ∙ that);
+      stored = stored_shown s.storage (i + 2) page (home_at s.homes i) (table_at s.tables i) (k.homes i il) (k.maps i il) ∙ sym (ap has_record word);
+      null = λ that. record_shown s.storage (i + 2) page (home_at s.homes i) (table_at s.tables i) (k.homes i il) its (ap frame_of (sym word ∙ that))
+          ∙ ap (words_filed (disk_of s.storage (home_at s.homes i).volume))
+          (none_from (filed s.storage (home_at s.homes i) page) w ((k.maps i il).stored page ∙ sym (ap has_record word)) that);
+      bound = λ f that. bound_from_page (frame_at s.storage.core f) (i + 2) page (sym (binding_is s.storage.core f) ∙ here f that);
+      here = here;
+      words = λ f that. words_shown s.storage (i + 2) page f (table_at s.tables i) its (ap frame_of (sym word ∙ that));
+    }
+
+-- a table that was read has 256 words
+pub word_within : (s : Segs) (i : ℕ) (table : List Ptw) → IsKept s → i < length s.homes → table ≡ get_or s.tables i table → length table ≡ 256
+word_within s i table k il is =
+    let more = homes_within s k in
+    let place : i < length s.tables = omega (arith, il, more) in
+    ap length (is ∙ get_or_default s.tables i table [] place) ∙ k.lengths i place
