@@ -4,3 +4,6 @@ pub mod Counting
 pub mod Located
 pub mod Keeping
 pub mod Emptying
+pub mod Marking
+pub mod Paging
+pub mod Ending
