@@ -1,5 +1,5 @@
 -- Calls that change marks and words alone, and the clock.
-use Rattle.std.proofs.Common.{◌≡◌, ◌≢◌, ℕ, zero, suc, ◌+◌, ◌-◌, ◌<◌, ◌≤◌, Bool, true, false, cond, ltb, List, [], ◌∷◌, length, Option, Some, None, refl, sym, ap, ◌∙◌, arith, inl, inr, get_or, set, map, subst, tt}
+use Rattle.std.proofs.Common.{◌≡◌, ◌≢◌, ℕ, zero, suc, ◌+◌, ◌-◌, ◌<◌, ◌≤◌, Bool, true, false, cond, ltb, List, [], ◌∷◌, length, Option, Some, None, refl, sym, ap, ◌∙◌, arith, inl, inr, get_or, set, map, subst}
 use Rattle.std.specs.List.{position, position_or_len, list_any}
 use Rattle.std.proofs.lemmas.Bool.Decides.{leb_tells}
 use Rattle.std.proofs.lemmas.Bool.{cases_eq}
@@ -19,6 +19,7 @@ use Rattle.page_control.specs.Plain.{Plain, Paging, plain, bindings, binding_at,
 use Rattle.page_control.specs.Picture.{picture, AreClean}
 use Rattle.page_control.specs.Tied.{frame_of, uid_in, map_at, uid_at, flags_in, IsTableOf, IsHomeOf, IsMapOf, AreFiled, IsBoundOnce}
 use Rattle.page_control.proofs.Callers.{bound_once}
+use Rattle.page_control.proofs.Firsts.{below}
 use Rattle.page_control.proofs.Shown.{kept_chosen}
 use Rattle.paged_segs.specs.Segs.{Segs, segs_of, home_at, table_at, word_at, root_home, pages_of, plan_of}
 use Rattle.paged_segs.specs.Kept.{IsKept}
@@ -103,7 +104,7 @@ some_bound core none full some_ = first core.frames none full some_
   where
     first : (frames : List Frame) → ((g : ℕ) → is_started (get_or frames g Free) ≡ false) → position is_free frames ≡ None → 0 < length frames → list_any is_bound frames ≡ true
     first [] none full some_ = absurd (omega (arith, some_))
-    first (Free ∷ frames) none full some_ = cc
+    first (Free ∷ frames) none full some_ = (let found : position is_free (Free ∷ frames) ≡ Some 0 = rw (below 0 (suc (length frames)) (omega arith)) refl in cc)
     first (Started u q ∷ frames) none full some_ = (let no : true ≡ false = none 0 in cc)
     first (Bound u q used modified ∷ frames) none full some_ = refl
 

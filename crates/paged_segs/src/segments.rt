@@ -1,5 +1,4 @@
 ghost use Rattle.std.specs.Prelude.{◌≡◌, ◌≢◌, ◌+◌, ◌<◌, ◌↔◌, ℕ, All, IsSome, None, Some, true, false, length, map, replicate, sum_by, slice_index, slice_set, IfOk, IfSome, IfNone, IsTrue};
-ghost use Rattle.std.specs.List.{list_any};
 ghost use Rattle.core_map.specs.declared.Frame.TheVariants.{Free, Bound};
 ghost use Rattle.core_map.specs.CoreMap.{frame_at, with_frame, is_bound, least_free_frame, IsLeastFreeFrame};
 ghost use Rattle.core_map.specs.Clock.{IsClockChoice, unmarked};
@@ -229,9 +228,10 @@ impl Segments {
         self.pages.into_volumes()
     }
 
-    /// The frame that the clock chooses among the bound ones.
+    /// The frame that the clock chooses, where none is free.
     fn choose(&mut self) -> u32
-        requires { list_any is_bound self.old.storage.core.frames ≡ true }
+        requires some { 0 < length self.old.storage.core.frames }
+        requires full { least_free_frame self.old.storage.core ≡ None }
         ensures choice { IsClockChoice self.old.storage.core self.new.storage.core result }
         ensures rest { self.new ≡ record self.old { storage = record self.old.storage { core = self.new.storage.core } } }
         ensures bound { is_bound (frame_at self.new.storage.core result) ≡ true }

@@ -1,6 +1,4 @@
-use Rattle.std.proofs.Common.{subst}
-use Rattle.paged_segs.specs.Kept.{IsKept}
-use Rattle.paged_segs.proofs.Marking.{some_bound, choice_again}
+use Rattle.paged_segs.proofs.Marking.{choice_again}
 use Rattle.paged_segs.proofs.segments.Segments.evict.Goals as goal
 
 pub returns-clause-choice : goal.returns-clause-choice
