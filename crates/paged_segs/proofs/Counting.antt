@@ -32,7 +32,7 @@ pub record KeepsCounts (old new : Plain) : Type 0 where
 by_list : {X : Type 0} (f : List X → ℕ) (xs ys : List (List X)) → map f xs ≡ map f ys → (v : ℕ) → f (get_or xs v []) ≡ f (get_or ys v [])
 by_list f xs ys same v = sym (get_or-map f xs v []) ∙ ap (λ (counts : List ℕ). get_or counts v (f [])) same ∙ get_or-map f ys v []
 
-by_sum : {X : Type 0} (f : List X → ℕ) (xs ys : List (List X)) → map f xs ≡ map f ys → sum_by f xs ≡ sum_by f ys
+pub by_sum : {X : Type 0} (f : List X → ℕ) (xs ys : List (List X)) → map f xs ≡ map f ys → sum_by f xs ≡ sum_by f ys
 by_sum f xs ys same = sym (sum-map f xs) ∙ ap sum same ∙ sum-map f ys
 
 pub used_same : (old new : Plain) → KeepsCounts old new → used new.vtocs ≡ used old.vtocs

@@ -7,3 +7,5 @@ pub mod Emptying
 pub mod Marking
 pub mod Paging
 pub mod Ending
+pub mod Making
+pub mod Beginning

@@ -12,6 +12,7 @@
 
 mod moves;
 mod segments;
+mod tables;
 
 pub use page_control::{Home, Left};
 pub use segments::Segments;

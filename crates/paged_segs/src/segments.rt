@@ -14,6 +14,7 @@ ghost use Rattle.paged_segs.specs.Kept.{IsKept, AreFresh};
 ghost use Rattle.paged_segs.specs.Effects.{made, read_in, made_page, begun, IsEmptied};
 
 use crate::moves::{bring_in, home_of, page_of, put_out};
+use crate::tables::{empty_tables, places_of};
 use crate::{Evicted, NoMemory};
 use mword::Word;
 use page_control::{Home, NoRecord, Pages};
@@ -45,6 +46,34 @@ impl Model for Segments {
 }
 
 impl Segments {
+    /// No segment yet, over as many free frames and over fresh volumes, of which the first gives the root an entry.
+    /// `NoMemory` is want of memory, which 2^32 - 2 VTOC entries and more always are. It takes 8 KiB for each frame, and
+    /// a page table of 256 words and room for a home for each VTOC entry. (Source: Bensoussan, Clingen and Daley 1972.)
+    pub fn new(
+        alloc: Global,
+        frames: u32,
+        volumes: Volumes<CoreDrive>,
+    ) -> Result<Segments, NoMemory>
+        requires { AreFresh volumes }
+        ensures begun { IfOk result (λ s. s ≡ begun frames volumes) }
+        ensures picture { IfOk result (λ s. (uid p : ℕ) → picture s.storage uid p ≡ replicate 1024 0) }
+        ensures stored { IfOk result (λ s. (uid p : ℕ) → is_stored s.storage uid p ≡ false) }
+        ensures used { IfOk result (λ s. used s.storage.vtocs ≡ one_more (used volumes.vtocs) 0) }
+    {
+        let places = places_of(&volumes)?;
+        let tables = empty_tables(alloc, places)?;
+        let homes = Vec::with_capacity(alloc, places as usize).map_err(|_| NoMemory)?;
+        let mut pages = Pages::new(alloc, frames, volumes)?;
+        match pages.new_home(0, 1) {
+            Some(_) => Ok(Segments {
+                pages,
+                tables,
+                homes,
+            }),
+            None => unreachable!(),
+        }
+    }
+
     /// How many segments there are. It reads a number. (Source: own.)
     pub fn count(&self) -> u32
         ensures count { result ≡ length self.now.homes }
