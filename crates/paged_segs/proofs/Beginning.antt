@@ -15,7 +15,7 @@ use Rattle.volumes.specs.declared.drive.FailLine.{FailLine}
 use Rattle.volumes.specs.CoreDrive.{DriveState}
 use Rattle.volumes.specs.Volumes.{Vols}
 use Rattle.page_control.specs.declared.Home.{Home}
-use Rattle.page_control.specs.Plain.{Plain, bindings, disk_of}
+use Rattle.page_control.specs.Plain.{Plain, Paging, plain, bindings, disk_of, vtoc_of}
 use Rattle.page_control.specs.Effects.{allocated}
 use Rattle.page_control.specs.Picture.{picture, is_stored, is_filed_in, volume_of, record_named, words_filed, words_held, words_of_page, AreClean}
 use Rattle.page_control.specs.Tied.{vtoc_in, uid_at, map_at, IsHomeOf, AreFiled, HasNoHome}
@@ -27,9 +27,16 @@ use Rattle.page_control.proofs.Homes.{at_or_other, uid_here, uid_other, none_nam
 use Rattle.page_control.proofs.Places.{put, list_within}
 use Rattle.page_control.proofs.Fresh.{alike}
 use Rattle.page_control.proofs.Made.{no_frame_made, clean_made}
-use Rattle.paged_segs.specs.Segs.{Segs, table_at, root_home, plan_of}
+use Rattle.std.proofs.lemmas.Option.{same_Some}
+use Rattle.paged_segs.specs.Segs.{Segs, segs_of, table_at, root_home, pages_of, plan_of}
+use Rattle.paged_segs.specs.Counts.{used, one_more}
+use Rattle.paged_segs.specs.Effects.{begun}
 use Rattle.paged_segs.specs.Kept.{IsKept, AreFresh}
-use Rattle.paged_segs.proofs.Making.{sum_more, places_same}
+use Rattle.paged_segs.proofs.Making.{sum_more, places_same, used_more, free_at}
+
+-- frames and volumes as page control begins
+abbrev pub begun_pages : ℕ → Vols DriveState → Paging DriveState
+begun_pages frames v = record { core = record { frames = replicate frames Free; hand = 0 }; frames = replicate frames (replicate 1024 0); volumes = v }
 
 -- no entry is used
 pub fresh_no_home : (v : Vols DriveState) (uid : ℕ) → AreFresh v → HasNoHome v.vtocs uid
@@ -126,3 +133,57 @@ fresh_shown v s frames uid p fresh start vtocs =
 pub fresh_stored : (v : Vols DriveState) (s : Plain) (uid p : ℕ) → AreFresh v → s.vtocs ≡ v.vtocs → is_stored s uid p ≡ false
 unfolding is_filed_in
 fresh_stored v s uid p fresh vtocs = ap is_some (ap (λ (x : List (List (Option Entry))). record_named x uid p) vtocs ∙ none_named v.vtocs uid p (fresh_no_home v uid fresh))
+
+-- the same in the terms in which a call's steps give it
+first_entry : (v : Vols DriveState) (pages : Paging DriveState) (e : ℕ) → AreFresh v → pages.volumes ≡ v → Some e ≡ least_free_entry (vtoc_of (plain pages_of pages) 0) → e ≡ 0
+first_entry v pages e fresh is least = same_Some e 0 (least ∙ ap (λ (x : Vols DriveState). least_free_entry (vtoc_in x.vtocs 0)) is ∙ first_free (vtoc_in v.vtocs 0) fresh.root (fresh.free 0))
+
+pub begun_steps : (v : Vols DriveState) (pages now : Paging DriveState) (frames e places : ℕ) (tables : List (List Ptw)) (homes : List Home) → AreFresh v → pages ≡ begun_pages frames v
+    → Some e ≡ least_free_entry (vtoc_of (plain pages_of pages) 0) → plain pages_of now ≡ allocated (plain pages_of pages) 0 e 1 → now.volumes.drives ≡ pages.volumes.drives
+    → (HasNoHome pages.volumes.vtocs 1 → IsHomeOf now.volumes.vtocs 1 (record { volume = 0; entry = e })) → ((other : Home) → map_at now.volumes.vtocs other ≡ map_at pages.volumes.vtocs other)
+    → (AreFiled pages.volumes.records pages.volumes.vtocs → AreFiled now.volumes.records now.volumes.vtocs) → (HasNoHome pages.volumes.vtocs 1 → AreClean (plain pages_of pages) → AreClean (plain pages_of now))
+    → tables ≡ replicate places (replicate 256 Null) → places ≡ sum_by length v.vtocs → places < 2 ^ 32 - 2 → homes ≡ [] → IsKept (segs_of now tables homes)
+begun_steps v pages now frames e places tables homes fresh start least is drives home maps filed clean those sum few none =
+    let volumes : pages.volumes ≡ v = ap (λ (x : Paging DriveState). x.volumes) start in
+    let first : e ≡ 0 = first_entry v pages e fresh volumes least in
+    let nobody : HasNoHome pages.volumes.vtocs 1 = rw volumes (fresh_no_home v 1 fresh) in
+    kept_begun v (plain pages_of pages) (plain pages_of now) (map plan_of now.volumes.drives) tables homes frames places fresh (ap (λ (x : Paging DriveState). x.core.frames) start)
+    (ap (λ (x : Vols DriveState). x.records) volumes) (ap (λ (x : Vols DriveState). x.vtocs) volumes) (subst (λ (n : ℕ). plain pages_of now ≡ allocated (plain pages_of pages) 0 n 1) first is)
+    (ap (map plan_of) drives ∙ ap (λ (x : Vols DriveState). map plan_of x.drives) volumes) those sum few none
+    (subst (λ (n : ℕ). IsHomeOf now.volumes.vtocs 1 (record { volume = 0; entry = n })) first (home nobody)) maps (filed (rw volumes (fresh_filed v fresh)))
+    (clean nobody (clean_made (plain pages_of pages) frames (ap (λ (x : Paging DriveState). x.core.frames) start)))
+
+pub begun_is : (v : Vols DriveState) (pages now : Paging DriveState) (frames e places : ℕ) (tables : List (List Ptw)) (homes : List Home) → AreFresh v → pages ≡ begun_pages frames v
+    → Some e ≡ least_free_entry (vtoc_of (plain pages_of pages) 0) → plain pages_of now ≡ allocated (plain pages_of pages) 0 e 1 → now.volumes.drives ≡ pages.volumes.drives
+    → tables ≡ replicate places (replicate 256 Null) → places ≡ sum_by length v.vtocs → homes ≡ [] → segs_of now tables homes ≡ begun frames v
+begun_is v pages now frames e places tables homes fresh start least is drives those sum none =
+    let first : e ≡ 0 = first_entry v pages e fresh (ap (λ (x : Paging DriveState). x.volumes) start) least in
+    let storage : plain pages_of now ≡ allocated (plain pages_of (begun_pages frames v)) 0 0 1 = is ∙ ap (λ (n : ℕ). allocated (plain pages_of pages) 0 n 1) first ∙ ap (λ (x : Paging DriveState). allocated (plain pages_of x) 0 0 1) start in
+    let plans : map plan_of now.volumes.drives ≡ map plan_of v.drives = ap (map plan_of) drives ∙ ap (λ (x : Paging DriveState). map plan_of x.volumes.drives) start in
+    let all : tables ≡ replicate (sum_by length v.vtocs) (replicate 256 Null) = those ∙ ap (λ (n : ℕ). replicate n (replicate 256 Null)) sum in
+    λ i. record { storage = storage i; plans = plans i; tables = all i; homes = none i }
+
+pub begun_used : (v : Vols DriveState) (pages now : Paging DriveState) (e : ℕ) → AreFresh v → pages.volumes ≡ v → Some e ≡ least_free_entry (vtoc_of (plain pages_of pages) 0)
+    → plain pages_of now ≡ allocated (plain pages_of pages) 0 e 1 → used now.volumes.vtocs ≡ one_more (used v.vtocs) 0
+begun_used v pages now e fresh is least effect =
+    let at = free_at (vtoc_of (plain pages_of pages) 0) e (sym least) in
+    ap (λ (x : Plain). used x.vtocs) effect ∙ used_more pages.volumes.vtocs 0 e 1 at.0 at.1 ∙ ap (λ (x : Vols DriveState). one_more (used x.vtocs) 0) is
+
+-- there is an entry for the root
+pub root_room : (v : Vols DriveState) (pages : Paging DriveState) → AreFresh v → pages.volumes ≡ v → None ≡ least_free_entry (vtoc_of (plain pages_of pages) 0) → ⊥
+root_room v pages fresh is least =
+    not_none (least_free_entry (vtoc_of (plain pages_of pages) 0)) 0 (sym least) (ap (λ (x : Vols DriveState). least_free_entry (vtoc_in x.vtocs 0)) is ∙ first_free (vtoc_in v.vtocs 0) fresh.root (fresh.free 0))
+
+pub begun_shown : (v : Vols DriveState) (pages now : Paging DriveState) (frames : ℕ) → AreFresh v → pages ≡ begun_pages frames v
+    → (HasNoHome pages.volumes.vtocs 1 → picture (plain pages_of now) ≡ picture (plain pages_of pages)) → (uid p : ℕ) → picture (plain pages_of now) uid p ≡ replicate 1024 0
+begun_shown v pages now frames fresh start same uid p =
+    let volumes : pages.volumes ≡ v = ap (λ (x : Paging DriveState). x.volumes) start in
+    ap (λ (those : ℕ → ℕ → List ℕ). those uid p) (same (rw volumes (fresh_no_home v 1 fresh)))
+    ∙ fresh_shown v (plain pages_of pages) frames uid p fresh (ap (λ (x : Paging DriveState). x.core.frames) start) (ap (λ (x : Vols DriveState). x.vtocs) volumes)
+
+pub begun_stored : (v : Vols DriveState) (pages now : Paging DriveState) (frames : ℕ) → AreFresh v → pages ≡ begun_pages frames v
+    → (HasNoHome pages.volumes.vtocs 1 → is_stored (plain pages_of now) ≡ is_stored (plain pages_of pages)) → (uid p : ℕ) → is_stored (plain pages_of now) uid p ≡ false
+begun_stored v pages now frames fresh start same uid p =
+    let volumes : pages.volumes ≡ v = ap (λ (x : Paging DriveState). x.volumes) start in
+    ap (λ (those : ℕ → ℕ → Bool). those uid p) (same (rw volumes (fresh_no_home v 1 fresh)))
+    ∙ fresh_stored v (plain pages_of pages) uid p fresh (ap (λ (x : Vols DriveState). x.vtocs) volumes)

@@ -17,9 +17,17 @@ mod tables;
 pub use page_control::{Home, Left};
 pub use segments::Segments;
 
+use std::alloc::AllocError;
+
 /// There is no memory for frames and tables. (Source: own.)
 #[derive(Clone, Copy, Debug, PartialEq, Eq)]
 pub struct NoMemory;
+
+impl From<AllocError> for NoMemory {
+    fn from(_: AllocError) -> Self {
+        NoMemory
+    }
+}
 
 impl From<page_control::NoMemory> for NoMemory {
     fn from(_: page_control::NoMemory) -> Self {

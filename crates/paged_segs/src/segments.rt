@@ -62,7 +62,7 @@ impl Segments {
     {
         let places = places_of(&volumes)?;
         let tables = empty_tables(alloc, places)?;
-        let homes = Vec::with_capacity(alloc, places as usize).map_err(|_| NoMemory)?;
+        let homes = Vec::with_capacity(alloc, places as usize)?;
         let mut pages = Pages::new(alloc, frames, volumes)?;
         match pages.new_home(0, 1) {
             Some(_) => Ok(Segments {

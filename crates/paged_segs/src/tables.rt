@@ -38,7 +38,7 @@ fn sum_of(places: u32, entries: u32) -> Result<u32, NoMemory>
 pub(crate) fn empty_tables(alloc: Global, places: u32) -> Result<Vec<PageTable>, NoMemory>
     ensures { IfOk result (λ tables. tables.items ≡ replicate places (replicate 256 Null)) }
 {
-    let mut tables = Vec::with_capacity(alloc, places as usize).map_err(|_| NoMemory)?;
+    let mut tables = Vec::with_capacity(alloc, places as usize)?;
     for _ in 0..places {
         tables.push_reserved(PageTable::new(alloc, 256)?);
     }

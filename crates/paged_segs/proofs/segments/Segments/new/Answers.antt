@@ -1,39 +1,34 @@
-use Rattle.std.proofs.Common.{rules, ◌≡◌, ◌≢◌, ◌+◌, ◌<◌, ◌↔◌, ℕ, All, IsSome, None, Some, true, false, length, map, replicate, sum_by, slice_index, slice_set, IfOk, IfSome, IfNone, IsTrue, ◌-◌, ◌*◌, ◌≤◌, ◌/◌, ◌%◌, Bool, nat_eq, nat_lt, List, [], ◌∷◌, ◌++◌, slice_index_or, bit_and, bit_or, Fits, w8, w32, w64, Bor, MutBor}
-use Rattle.core_map.specs.declared.Frame.TheVariants.{Free, Bound}
-use Rattle.core_map.specs.CoreMap.{frame_at, with_frame, is_bound, least_free_frame, IsLeastFreeFrame}
-use Rattle.core_map.specs.Clock.{IsClockChoice, unmarked}
-use Rattle.mword.specs.Words.{AreZero}
-use Rattle.page_table.specs.declared.Ptw.TheVariants.{Null, Out, Here, Leaving}
-use Rattle.page_control.specs.Plain.{bindings, binding_at, words_in, words_on, disk_of, number_in, vtoc_of}
-use Rattle.page_control.specs.Effects.{referred, word_put}
-use Rattle.page_control.specs.Picture.{picture, is_stored, changed_at, volume_of, record_named, words_filed, is_filed_in}
-use Rattle.page_control.specs.Tied.{uid_in, is_out, has_record}
-use Rattle.paged_segs.specs.Segs.{Segs, volume_at, word_at, pages_of, plan_of}
-use Rattle.paged_segs.specs.Counts.{taken, used, entries, is_full, one_more}
-use Rattle.paged_segs.specs.Kept.{IsKept, AreFresh}
-use Rattle.paged_segs.specs.Effects.{made, read_in, made_page, begun, IsEmptied}
+use Rattle.std.proofs.Common.{◌≡◌, ◌≤◌, ℕ, [], length, replicate, ap, sym, ◌∙◌, rules, arith, vec_capacity}
+use Rattle.std.proofs.lemmas.List.{length-replicate}
+use Rattle.page_table.specs.declared.Ptw.TheVariants.{Null}
+use Rattle.volumes.specs.CoreDrive.{DriveState}
+use Rattle.page_control.specs.Plain.{Paging}
+use Rattle.paged_segs.proofs.Beginning.{begun_steps, begun_is, begun_used, root_room, begun_shown, begun_stored}
 use Rattle.paged_segs.proofs.segments.Segments.new.Goals as goal
 
--- src/segments.rt:68:24
 pub invariant_of-result : goal.invariant_of-result
-invariant_of-result c = ?
+invariant_of-result c =
+    let none : c.in_ok-homes.homes.items ≡ [] = search rules in
+    let room : c.in_ok-places.places ≤ vec_capacity c.in_ok-homes.homes = search rules in
+    let count : length c.in_ok-tables.tables.items ≡ c.in_ok-places.places = ap length c.in_ok-tables.ensures ∙ length-replicate c.in_ok-places.places (replicate 256 Null) in
+    (begun_steps c.args.volumes c.in_ok-pages.pages c.new_home.new.self c.args.frames c.in-Some.field-0 c.in_ok-places.places c.in_ok-tables.tables.items c.in_ok-homes.homes.items c.requires
+    c.in_ok-pages.ensures c.in-Some.ensures.least c.in-Some.ensures.some c.new_home.ensures.drives c.in-Some.ensures.home c.new_home.ensures.maps c.new_home.ensures.records c.new_home.ensures.clean
+    c.in_ok-tables.ensures c.in_ok-places.ensures.sum c.in_ok-places.ensures.few none, omega (arith, room, count))
 
--- src/segments.rt:73:21
 pub unreachable-requires : goal.unreachable-requires
-unreachable-requires c = ?
+unreachable-requires c = root_room c.args.volumes c.in_ok-pages.pages c.requires (ap (λ (x : Paging DriveState). x.volumes) c.in_ok-pages.ensures) c.in-None.ensures.least
 
--- src/segments.rt:52:5
 pub returns-clause-begun : goal.returns-clause-begun
-returns-clause-begun c = ?
+returns-clause-begun c =
+    let none : c.in_ok-homes.homes.items ≡ [] = search rules in
+    begun_is c.args.volumes c.in_ok-pages.pages c.new_home.new.self c.args.frames c.in-Some.field-0 c.in_ok-places.places c.in_ok-tables.tables.items c.in_ok-homes.homes.items c.requires
+    c.in_ok-pages.ensures c.in-Some.ensures.least c.in-Some.ensures.some c.new_home.ensures.drives c.in_ok-tables.ensures c.in_ok-places.ensures.sum none
 
--- src/segments.rt:52:5
 pub returns-clause-picture : goal.returns-clause-picture
-returns-clause-picture c = ?
+returns-clause-picture c = begun_shown c.args.volumes c.in_ok-pages.pages c.new_home.new.self c.args.frames c.requires c.in_ok-pages.ensures c.new_home.ensures.picture
 
--- src/segments.rt:52:5
 pub returns-clause-stored : goal.returns-clause-stored
-returns-clause-stored c = ?
+returns-clause-stored c = begun_stored c.args.volumes c.in_ok-pages.pages c.new_home.new.self c.args.frames c.requires c.in_ok-pages.ensures c.new_home.ensures.stored
 
--- src/segments.rt:52:5
 pub returns-clause-used : goal.returns-clause-used
-returns-clause-used c = ?
+returns-clause-used c = begun_used c.args.volumes c.in_ok-pages.pages c.new_home.new.self c.in-Some.field-0 c.requires (ap (λ (x : Paging DriveState). x.volumes) c.in_ok-pages.ensures) c.in-Some.ensures.least c.in-Some.ensures.some
