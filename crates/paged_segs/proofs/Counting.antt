@@ -29,7 +29,7 @@ pub record KeepsCounts (old new : Plain) : Type 0 where
   pub frames : length new.core.frames ≡ length old.core.frames
 
 -- a count for each volume is told by the list of all
-by_list : {X : Type 0} (f : List X → ℕ) (xs ys : List (List X)) → map f xs ≡ map f ys → (v : ℕ) → f (get_or xs v []) ≡ f (get_or ys v [])
+pub by_list : {X : Type 0} (f : List X → ℕ) (xs ys : List (List X)) → map f xs ≡ map f ys → (v : ℕ) → f (get_or xs v []) ≡ f (get_or ys v [])
 by_list f xs ys same v = sym (get_or-map f xs v []) ∙ ap (λ (counts : List ℕ). get_or counts v (f [])) same ∙ get_or-map f ys v []
 
 pub by_sum : {X : Type 0} (f : List X → ℕ) (xs ys : List (List X)) → map f xs ≡ map f ys → sum_by f xs ≡ sum_by f ys

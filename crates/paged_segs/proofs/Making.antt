@@ -27,7 +27,8 @@ use Rattle.page_control.proofs.Callers.{table_of_no_frame}
 use Rattle.paged_segs.specs.Segs.{Segs, home_at, table_at, word_at, root_home}
 use Rattle.paged_segs.specs.Counts.{used, entries, one_more}
 use Rattle.paged_segs.specs.Kept.{IsKept}
-use Rattle.paged_segs.proofs.Counting.{more_by, by_sum}
+use Rattle.paged_segs.specs.Effects.{HasSizes}
+use Rattle.paged_segs.proofs.Counting.{more_by, by_list, by_sum}
 use Rattle.paged_segs.proofs.Located.{homes_within}
 use Rattle.paged_segs.proofs.Paging.{count_all}
 
@@ -172,3 +173,15 @@ pub made_steps : (s : Segs) (now : Plain) (plans : List (Option (List FailLine))
 made_steps s now plans v e uid next k same vl found is home homes maps filed shown clean =
     kept_made s now plans v e k same vl found (subst (λ (u : ℕ). now ≡ allocated s.storage v e u) next is) (subst (λ (u : ℕ). IsHomeOf now.vtocs u (record { volume = v; entry = e })) next home) homes maps filed shown
     clean
+
+-- counts that stay
+pub sizes_made : (s now : Plain) (v e uid : ℕ) → now ≡ allocated s v e uid → HasSizes s now
+sizes_made s now v e uid is = rw is (record {
+  volumes = refl;
+  records = refl;
+  places = λ i. λ w. by_list (length {A = Option Entry}) (put s.vtocs v e (fresh_entry uid)) s.vtocs (map-set_same (length {A = Option Entry}) s.vtocs v _ [] (length-set (vtoc_in s.vtocs v) e (fresh_entry uid))) w i;
+  frames = refl;
+})
+
+pub sizes_same : (s now : Plain) → now ≡ s → HasSizes s now
+sizes_same s now is = rw is (record { volumes = refl; records = refl; places = refl; frames = refl })

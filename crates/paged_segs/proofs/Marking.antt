@@ -19,7 +19,9 @@ use Rattle.page_control.specs.Plain.{Plain, Paging, plain, bindings, binding_at,
 use Rattle.page_control.specs.Picture.{picture, AreClean}
 use Rattle.page_control.specs.Tied.{frame_of, uid_in, map_at, uid_at, flags_in, IsTableOf, IsHomeOf, IsMapOf, AreFiled, IsBoundOnce}
 use Rattle.page_control.proofs.Callers.{bound_once}
-use Rattle.page_control.proofs.Firsts.{below}
+use Rattle.page_control.proofs.Firsts.{below, position_at_one}
+use Rattle.page_control.proofs.Pictures.{off_and_on}
+use Rattle.page_control.proofs.Ties.{not_none}
 use Rattle.page_control.proofs.Shown.{kept_chosen}
 use Rattle.paged_segs.specs.Segs.{Segs, segs_of, home_at, table_at, word_at, root_home, pages_of, plan_of}
 use Rattle.paged_segs.specs.Kept.{IsKept}
@@ -128,3 +130,48 @@ choice_again core chosen now f g choice is same =
     let back : chosen ≡ with_frame now f (unmarked (frame_at core f)) =
     sym (ap (λ (c : Core). with_frame c f (unmarked (frame_at core f))) is ∙ ap (λ (those : List Frame). record chosen { frames = those }) frames) in
     subst (λ (n : ℕ). IsClockChoice core (with_frame now n (unmarked (frame_at core n))) n) (sym same) (subst (λ (c : Core). IsClockChoice core c f) back choice)
+
+-- where no frame was free, the one that was emptied is the least free one
+free_unmarked : (frame : Frame) → is_free (unmarked frame) ≡ is_free frame
+free_unmarked Free = refl
+free_unmarked (Started u q) = refl
+free_unmarked (Bound u q used modified) = refl
+
+some_before : (test : Frame → Bool) (frames : List Frame) (g : ℕ) → g < length frames → test (get_or frames g Free) ≡ true → position_or_len test frames < length frames
+some_before test [] g lt on = absurd (omega (arith, lt))
+some_before test (frame ∷ frames) zero lt on = rw on (omega arith)
+some_before test (frame ∷ frames) (suc g) lt on = here (test frame) refl (some_before test frames g (omega (arith, lt)) on)
+  where
+    here : (b : Bool) → test frame ≡ b → position_or_len test frames < length frames → position_or_len test (frame ∷ frames) < length (frame ∷ frames)
+    here true is rest = rw is (omega arith)
+    here false is rest = rw is (omega (arith, rest))
+
+none_free : (core : Core) → least_free_frame core ≡ None → (g : ℕ) → g < length core.frames → is_free (frame_at core g) ≡ false
+none_free core full g lt = off (is_free (frame_at core g)) refl
+  where
+    off : (b : Bool) → is_free (frame_at core g) ≡ b → is_free (frame_at core g) ≡ false
+    off false is = is
+    off true is = (let found : least_free_frame core ≡ Some (position_or_len is_free core.frames) = rw (below (position_or_len is_free core.frames) (length core.frames) (some_before is_free core.frames g lt is)) refl in
+        absurd (not_none (least_free_frame core) (position_or_len is_free core.frames) full found))
+
+pub least_emptied : (core chosen now : Core) (f g : ℕ) → IsClockChoice core chosen f → least_free_frame core ≡ None → now ≡ with_frame chosen f Free → g ≡ f → f < length core.frames → least_free_frame now ≡ Some g
+least_emptied core chosen now f g choice full is same fl =
+    let count = choice.count in
+    let long = length-set chosen.frames f Free in
+    let inside : f < length (set chosen.frames f Free) = omega (arith, count, long, fl) in
+    let here : frame_at (with_frame chosen f Free) f ≡ Free = get_or-set_same chosen.frames f Free Free (omega (arith, count, fl)) in
+    rw (is, same) (position_at_one is_free (set chosen.frames f Free) f Free inside (ap is_free here)
+    (λ k lt passes. elim (cases_eq k f) [
+      | inl e ↦ e
+      | inr n ↦ (let old : is_free (frame_at chosen k) ≡ is_free (frame_at core k) = kept_chosen is_free core chosen f k free_unmarked choice (omega (arith, count, long, lt)) in
+          let off : is_free (frame_at core k) ≡ false = none_free core full k (omega (arith, count, long, lt)) in
+          let on : is_free (get_or (set chosen.frames f Free) k Free) ≡ true = passes in
+          let kept : get_or (set chosen.frames f Free) k Free ≡ frame_at chosen k = get_or-set_other chosen.frames f k Free Free n in
+          absurd (off_and_on (is_free (frame_at core k)) off (sym old ∙ ap is_free (sym kept) ∙ on)))
+    ]))
+
+pub chosen_within : (core now : Core) (f : ℕ) → IsClockChoice core now f → f < length core.frames
+chosen_within core now f choice = elim choice.turn [
+  | inl over ↦ over.first.within
+  | inr round ↦ round.first.within
+]

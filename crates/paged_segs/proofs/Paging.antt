@@ -23,9 +23,10 @@ use Rattle.page_control.proofs.Facts.{bindings_with, used_within}
 use Rattle.page_control.proofs.Firsts.{below}
 use Rattle.page_control.proofs.Fresh.{uid_of_page}
 use Rattle.paged_segs.specs.Segs.{Segs, home_at, table_at}
-use Rattle.paged_segs.specs.Counts.{taken, size, is_full, one_more}
+use Rattle.paged_segs.specs.Counts.{taken, used, size, is_full, one_more}
+use Rattle.paged_segs.specs.Effects.{HasSizes}
 use Rattle.paged_segs.specs.Kept.{IsKept}
-use Rattle.paged_segs.proofs.Counting.{counts_read, counts_created, taken_more}
+use Rattle.paged_segs.proofs.Counting.{counts_read, counts_created, used_same, sizes, taken_more}
 use Rattle.paged_segs.proofs.Located.{homes_within}
 use Rattle.paged_segs.proofs.Keeping.{kept_call, changed_other}
 
@@ -123,3 +124,13 @@ taken_created s now uid p home f at w is room = rw is (by_least (least_free (fla
         off false e = refl
         free_at : (r : ℕ) → least_free (flags_of s home.volume) ≡ Some r → (r < length (flags_of s home.volume)) × (get_or (flags_of s home.volume) r false ≡ false)
         free_at r found = ((position-Some not (flags_of s home.volume) r false found).0, off _ (position-Some not (flags_of s home.volume) r false found).1)
+
+-- counts that stay
+pub sizes_read : (s now : Plain) (uid p v r f : ℕ) → now ≡ brought_in s uid p v r f → HasSizes s now
+sizes_read s now uid p v r f is = sizes s now (counts_read s now uid p v r f is)
+
+pub sizes_created : (s now : Plain) (uid p : ℕ) (home : Home) (r f at w : ℕ) → now ≡ created s uid p home r f at w → HasSizes s now
+sizes_created s now uid p home r f at w is = sizes s now (counts_created s now uid p home r f at w is)
+
+pub used_created : (s now : Plain) (uid p : ℕ) (home : Home) (r f at w : ℕ) → now ≡ created s uid p home r f at w → used now.vtocs ≡ used s.vtocs
+used_created s now uid p home r f at w is = used_same s now (counts_created s now uid p home r f at w is)

@@ -11,7 +11,7 @@ ghost use Rattle.page_control.specs.Tied.{uid_in, is_out, has_record};
 ghost use Rattle.paged_segs.specs.Segs.{Segs, volume_at, word_at, pages_of, plan_of};
 ghost use Rattle.paged_segs.specs.Counts.{taken, used, entries, is_full, one_more};
 ghost use Rattle.paged_segs.specs.Kept.{IsKept, AreFresh};
-ghost use Rattle.paged_segs.specs.Effects.{made, read_in, made_page, begun, IsEmptied};
+ghost use Rattle.paged_segs.specs.Effects.{made, read_in, made_page, begun, HasSizes, IsEmptied};
 
 use crate::moves::{bring_in, home_of, page_of, put_out};
 use crate::tables::{empty_tables, places_of};
@@ -159,6 +159,7 @@ impl Segments {
         ensures used { IfSome result (λ i. used self.new.storage.vtocs ≡ one_more (used self.old.storage.vtocs) volume) }
         ensures picture { picture self.new.storage ≡ picture self.old.storage }
         ensures stored { is_stored self.new.storage ≡ is_stored self.old.storage }
+        ensures sizes { HasSizes self.old.storage self.new.storage }
     {
         let i = self.homes.len() as u32;
         let entry = self.pages.new_home(volume, i + 2)?;
@@ -177,6 +178,7 @@ impl Segments {
         ensures picture { picture self.new.storage ≡ picture self.old.storage }
         ensures stored { is_stored self.new.storage ≡ is_stored self.old.storage }
         ensures binding { bindings self.new.storage.core ≡ slice_set (bindings self.old.storage.core) f (Some (i + 2, page)) }
+        ensures sizes { HasSizes self.old.storage self.new.storage }
     {
         let home = home_of(&self.homes, i as usize);
         bring_in(
@@ -203,7 +205,9 @@ impl Segments {
         ensures picture { picture self.new.storage ≡ changed_at (picture self.old.storage) (i + 2) page (slice_set (replicate 1024 0) at w) }
         ensures stored { is_stored self.new.storage ≡ changed_at (is_stored self.old.storage) (i + 2) page true }
         ensures taken { taken self.new.storage.records ≡ one_more (taken self.old.storage.records) (volume_at self.old i) }
+        ensures used { used self.new.storage.vtocs ≡ used self.old.storage.vtocs }
         ensures binding { bindings self.new.storage.core ≡ slice_set (bindings self.old.storage.core) f (Some (i + 2, page)) }
+        ensures sizes { HasSizes self.old.storage self.new.storage }
     {
         let home = home_of(&self.homes, i as usize);
         let table = &mut self.tables[i as usize];
@@ -221,6 +225,7 @@ impl Segments {
         requires full { least_free_frame self.old.storage.core ≡ None }
         ensures choice { IsClockChoice self.old.storage.core (with_frame self.new.storage.core result.frame (unmarked (frame_at self.old.storage.core result.frame))) result.frame }
         ensures emptied { IsEmptied self.old self.new result }
+        ensures least { least_free_frame self.new.storage.core ≡ Some result.frame }
     {
         let f = self.choose();
         self.empty(f)

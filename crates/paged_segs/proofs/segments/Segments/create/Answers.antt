@@ -6,8 +6,9 @@ use Rattle.page_table.specs.PageTable.{ptw_at}
 use Rattle.page_control.specs.declared.Home.{Home}
 use Rattle.page_control.specs.Plain.{plain, bindings}
 use Rattle.paged_segs.specs.Segs.{Segs, segs_of, pages_of, plan_of, home_at, table_at, volume_at}
-use Rattle.paged_segs.specs.Counts.{taken, one_more, is_full}
-use Rattle.paged_segs.proofs.Paging.{table_read, place_within, uid_fits, kept_created, binding_created, not_full, taken_created}
+use Rattle.paged_segs.specs.Counts.{taken, used, one_more, is_full}
+use Rattle.paged_segs.specs.Effects.{HasSizes}
+use Rattle.paged_segs.proofs.Paging.{table_read, place_within, uid_fits, kept_created, binding_created, not_full, taken_created, sizes_created, used_created}
 use Rattle.paged_segs.proofs.segments.Segments.create.Goals as goal
 
 pub index_mut-table-requires : goal.index_mut-table-requires
@@ -89,3 +90,13 @@ pub returns-clause-binding : goal.returns-clause-binding
 returns-clause-binding c =
     subst (λ (s : Segs). bindings c.create_page.new.self.core ≡ slice_set (bindings s.storage.core) c.args.f (Some (c.args.i + 2, c.args.page))) c.self.view_is
     (binding_created (plain pages_of c.self.inside.pages) (plain pages_of c.create_page.new.self) (c.args.i + 2) c.args.page c.home_of-home.result _ c.args.f c.args.at c.args.w c.in-Ok.ensures.ok)
+
+pub returns-clause-sizes : goal.returns-clause-sizes
+returns-clause-sizes c =
+    subst (λ (s : Segs). HasSizes s.storage (plain pages_of c.create_page.new.self)) c.self.view_is
+    (sizes_created (plain pages_of c.self.inside.pages) (plain pages_of c.create_page.new.self) (c.args.i + 2) c.args.page c.home_of-home.result _ c.args.f c.args.at c.args.w c.in-Ok.ensures.ok)
+
+pub returns-clause-used : goal.returns-clause-used
+returns-clause-used c =
+    subst (λ (s : Segs). used c.create_page.new.self.volumes.vtocs ≡ used s.storage.vtocs) c.self.view_is
+    (used_created (plain pages_of c.self.inside.pages) (plain pages_of c.create_page.new.self) (c.args.i + 2) c.args.page c.home_of-home.result _ c.args.f c.args.at c.args.w c.in-Ok.ensures.ok)

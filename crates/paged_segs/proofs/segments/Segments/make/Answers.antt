@@ -6,9 +6,10 @@ use Rattle.vtoc.specs.Vtoc.{least_free_entry}
 use Rattle.paged_segs.specs.Segs.{Segs, segs_of, pages_of, plan_of}
 use Rattle.paged_segs.specs.Counts.{used, entries, one_more}
 use Rattle.paged_segs.specs.Kept.{IsKept}
+use Rattle.paged_segs.specs.Effects.{HasSizes}
 use Rattle.page_control.specs.declared.Home.{Home}
 use Rattle.paged_segs.proofs.Located.{homes_within}
-use Rattle.paged_segs.proofs.Making.{made_steps, next_no_home, used_more, used_room, used_full, free_at}
+use Rattle.paged_segs.proofs.Making.{made_steps, next_no_home, used_more, used_room, used_full, free_at, sizes_made}
 use Rattle.paged_segs.proofs.segments.Segments.make.Goals as goal
 
 pub overflow_cast-i : goal.overflow_cast-i
@@ -74,3 +75,8 @@ invariant_of-self-2 c =
     c.in_ok-entry.ensures.some (c.in_ok-entry.ensures.home none) (c.new_home.ensures.homes none) c.new_home.ensures.maps (c.new_home.ensures.records c.self.invariant.0.filed)
     (c.new_home.ensures.picture none) (c.new_home.ensures.clean none c.self.invariant.0.clean) in
     (subst (λ (homes : List Home). IsKept (segs_of c.new_home.new.self c.self.inside.tables.items homes)) (sym c.push_reserved.ensures.items) kept, room)
+
+pub returns-clause-sizes : goal.returns-clause-sizes
+returns-clause-sizes c =
+    subst (λ (s : Segs). HasSizes s.storage (plain pages_of c.new_home.new.self)) c.self.view_is
+    (sizes_made (plain pages_of c.self.inside.pages) (plain pages_of c.new_home.new.self) c.args.volume c.in_ok-entry.entry (c.len-i.result + 2) c.in_ok-entry.ensures.some)

@@ -4,7 +4,8 @@ use Rattle.page_control.specs.declared.Home.{Home}
 use Rattle.page_control.specs.Plain.{plain, bindings, record_of}
 use Rattle.page_control.specs.Tied.{IsMapOf, map_at}
 use Rattle.paged_segs.specs.Segs.{Segs, segs_of, pages_of, plan_of, home_at, table_at}
-use Rattle.paged_segs.proofs.Paging.{table_read, kept_read, binding_read}
+use Rattle.paged_segs.specs.Effects.{HasSizes}
+use Rattle.paged_segs.proofs.Paging.{table_read, kept_read, binding_read, sizes_read}
 use Rattle.paged_segs.proofs.segments.Segments.page_in.Goals as goal
 
 pub bring_in-requires-clause-map : goal.bring_in-requires-clause-map
@@ -29,3 +30,8 @@ pub returns-clause-binding : goal.returns-clause-binding
 returns-clause-binding c =
     subst (λ (s : Segs). bindings c.bring_in.new.pages.core ≡ slice_set (bindings s.storage.core) c.args.f (Some (c.args.i + 2, c.args.page))) c.self.view_is
     (binding_read (plain pages_of c.self.inside.pages) (plain pages_of c.bring_in.new.pages) (c.args.i + 2) c.args.page _ _ c.args.f c.bring_in.ensures.effect)
+
+pub returns-clause-sizes : goal.returns-clause-sizes
+returns-clause-sizes c =
+    subst (λ (s : Segs). HasSizes s.storage (plain pages_of c.bring_in.new.pages)) c.self.view_is
+    (sizes_read (plain pages_of c.self.inside.pages) (plain pages_of c.bring_in.new.pages) (c.args.i + 2) c.args.page _ _ c.args.f c.bring_in.ensures.effect)
