@@ -105,7 +105,7 @@ kept_begun v old now plans tables homes frames places fresh core records vtocs i
       places = ap length those ∙ length-replicate places (replicate 256 Null) ∙ sum ∙ sym (ap (sum_by length) put_is ∙ places_same v.vtocs 0 0 1);
       few = (let count = ap length those ∙ length-replicate places (replicate 256 Null) in omega (arith, count, few));
       lengths = λ i lt. (let count = ap length those ∙ length-replicate places (replicate 256 Null) in
-      ap (λ (all : List (List Ptw)). length (table_at all i)) those ∙ ap length (get_or-replicate places i (replicate 256 Null) [] (omega (arith, lt, count))) ∙ length-replicate 256 Null);
+          ap (λ (all : List (List Ptw)). length (table_at all i)) those ∙ ap length (get_or-replicate places i (replicate 256 Null) [] (omega (arith, lt, count))) ∙ length-replicate 256 Null);
       tables = λ i lt. absurd (omega (arith, lt, nobody));
       maps = λ i lt. absurd (omega (arith, lt, nobody));
       stay = λ i p f leaving. leaves (ptw_at (table_at tables i) p) f (blank i p) leaving;
@@ -120,6 +120,7 @@ kept_begun v old now plans tables homes frames places fresh core records vtocs i
   where
     same_uid : (a b : ℕ) → Some a ≡ Some b → a ≡ b
     same_uid a b h = cc
+
     leaves : (w : Ptw) (f : ℕ) → w ≡ Null → w ≡ Leaving f → ⊥
     leaves w f null leaving = cc
 

@@ -135,6 +135,7 @@ less_by old new v here others = λ i. λ w. at w i
   where
     fewer : new v ≡ old v - 1
     fewer = omega (arith, here)
+
     at : (w : ℕ) → new w ≡ cond (eqb w v) (old w - 1) (old w)
     at w = elim (eqb_tells w v) [
       | inl same ↦ rw (same.0, same.1) fewer

@@ -75,11 +75,11 @@ kept_call s now plans i p f w frame t k il same ts stays core idle own table map
       places = length-set s.tables i t ∙ k.places ∙ sym (places_sum s.storage now counts);
       few = (let count = length-set s.tables i t in let few = k.few in omega (arith, count, few));
       lengths = λ j lt. (let count = length-set s.tables i t in
-      let jl : j < length s.tables = omega (arith, count, lt) in
-      elim (cases_eq j i) [
-        | inl e ↦ ap (λ (n : ℕ). length (table_at (set s.tables i t) n)) e ∙ ap length here ∙ ap length ts ∙ length-set (table_at s.tables i) p w ∙ k.lengths i inside
-        | inr n ↦ ap length (there j n) ∙ k.lengths j jl
-      ]);
+          let jl : j < length s.tables = omega (arith, count, lt) in
+          elim (cases_eq j i) [
+            | inl e ↦ ap (λ (n : ℕ). length (table_at (set s.tables i t) n)) e ∙ ap length here ∙ ap length ts ∙ length-set (table_at s.tables i) p w ∙ k.lengths i inside
+            | inr n ↦ ap length (there j n) ∙ k.lengths j jl
+          ]);
       tables = λ j lt. elim (cases_eq j i) [
         | inl e ↦ rw (e, here) table
         | inr n ↦ rw (there j n) (others.tables (j + 2) (table_at s.tables j) (λ e. n (omega (arith, e))) (k.tables j lt))

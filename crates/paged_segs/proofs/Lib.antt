@@ -9,3 +9,4 @@ pub mod Paging
 pub mod Ending
 pub mod Making
 pub mod Beginning
+pub mod Callers

@@ -156,8 +156,10 @@ kept_made s now plans v e k same vl found is home homes maps filed shown clean =
   where
     same_uid : (a b : ℕ) → Some a ≡ Some b → a ≡ b
     same_uid a b h = cc
+
     not_out : (w : Ptw) (r : ℕ) → w ≡ Null → w ≡ Out r → ⊥
     not_out w r null out = cc
+
     empty_map : (table : List Ptw) → ((p : ℕ) → ptw_at table p ≡ Null) → IsMapOf no_records table
     empty_map table null = record {
       stored = λ p. ap is_some (no_record p) ∙ sym (ap has_record (null p));

@@ -110,6 +110,7 @@ taken_created s now uid p home f at w is room = rw is (by_least (least_free (fla
   where
     full : ltb (position_or_len not (flags_of s home.volume)) (length (flags_of s home.volume)) ≡ false → ⊥
     full none = (let all : is_full s.records home.volume ≡ true = eq-eqb (taken s.records home.volume) (size s.records home.volume) (full_from (flags_of s home.volume) none) in cc)
+
     by_least : (o : Option ℕ) → least_free (flags_of s home.volume) ≡ o
         → taken (set s.records home.volume (set (flags_of s home.volume) (number_or_zero (least_free (flags_of s home.volume))) true)) ≡ one_more (taken s.records) home.volume
     by_least None none = absurd (full (none_from _ _ none))
@@ -122,6 +123,7 @@ taken_created s now uid p home f at w is room = rw is (by_least (least_free (fla
         off : (b : Bool) → not b ≡ true → b ≡ false
         off true e = cc
         off false e = refl
+
         free_at : (r : ℕ) → least_free (flags_of s home.volume) ≡ Some r → (r < length (flags_of s home.volume)) × (get_or (flags_of s home.volume) r false ≡ false)
         free_at r found = ((position-Some not (flags_of s home.volume) r false found).0, off _ (position-Some not (flags_of s home.volume) r false found).1)
 

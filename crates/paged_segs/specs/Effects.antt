@@ -57,17 +57,14 @@ pub record IsEmptied (old new : Segs) (gone : Evicted) : Type 0 where
   pub some : 2 ≤ gone.uid
   pub segment : gone.uid < length old.homes + 2
   pub number : gone.page < 256
-
   -- the frame and the word of the page
   pub freed : bindings new.storage.core ≡ slice_set (bindings old.storage.core) gone.frame None
   pub words : new.tables ≡ with_word old.tables (gone.uid - 2) gone.page (word_of_left gone.left (record_of old.storage (home_at old.homes (gone.uid - 2)) gone.page))
   pub homes : new.homes ≡ old.homes
-
   -- what is stored
   pub zeros : gone.left ≡ Released ↔ AreZero (picture old.storage gone.uid gone.page)
   pub shown : picture new.storage ≡ picture old.storage
   pub stored : is_stored new.storage ≡ stored_after (is_stored old.storage) gone.uid gone.page gone.left
-
   -- counts
   pub records : taken new.storage.records ≡ taken_after (taken old.storage.records) (volume_at old (gone.uid - 2)) gone.left
   pub given : gone.left ≡ Released → 0 < taken old.storage.records (volume_at old (gone.uid - 2))

@@ -19,7 +19,6 @@ NeverFail plans = All (λ plan. plan ≡ Some []) plans
 
 pub record IsKept (s : Segs) : Type 0 where
   pub sound : NeverFail s.plans
-
   -- homes: each used VTOC entry is the root's or a segment's, and the root has no pages
   pub root : IsHomeOf s.storage.vtocs 1 root_home
   pub homes : (i : ℕ) → i < length s.homes → IsHomeOf s.storage.vtocs (i + 2) (home_at s.homes i)
@@ -27,7 +26,6 @@ pub record IsKept (s : Segs) : Type 0 where
   pub owners : (home : Home) (uid : ℕ) → uid_at s.storage.vtocs home ≡ Some uid → (1 ≤ uid) × (uid < length s.homes + 2)
   pub rootless : (p : ℕ) → slice_index_or (map_at s.storage.vtocs root_home) p None ≡ None
   pub used : sum_by (count_by is_some) s.storage.vtocs ≡ length s.homes + 1
-
   -- page tables: one for each VTOC entry, of 256 words, of which no word is leaving; those past the segments' are empty
   pub places : length s.tables ≡ sum_by length s.storage.vtocs
   pub few : length s.tables < 2 ^ 32 - 2
@@ -36,14 +34,11 @@ pub record IsKept (s : Segs) : Type 0 where
   pub maps : (i : ℕ) → i < length s.homes → IsMapOf (map_at s.storage.vtocs (home_at s.homes i)) (table_at s.tables i)
   pub stay : (i p f : ℕ) → word_at s i p ≢ Leaving f
   pub blank : (i p : ℕ) → length s.homes ≤ i → word_at s i p ≡ Null
-
   -- a page that is on its record alone isn't all zeros
   pub zeros : (i p r : ℕ) → i < length s.homes → word_at s i p ≡ Out r → AreZero (picture s.storage (i + 2) p) → ⊥
-
   -- frames: no page is being read, and each bound frame is bound to a page of a segment
   pub started : (f : ℕ) → is_started (frame_at s.storage.core f) ≡ false
   pub bound : (f uid p : ℕ) → binding_at (bindings s.storage.core) f ≡ Some (uid, p) → (2 ≤ uid) × (uid < length s.homes + 2)
-
   -- records
   pub filed : AreFiled s.storage.records s.storage.vtocs
   pub short : (v : ℕ) → length (flags_in s.storage.records v) < 65536

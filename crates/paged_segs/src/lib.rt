@@ -13,10 +13,11 @@
 mod moves;
 mod segments;
 mod tables;
+#[cfg(test)]
+mod tests;
 
 pub use page_control::{Home, Left};
 pub use segments::Segments;
-
 use std::alloc::AllocError;
 
 /// There is no memory for frames and tables. (Source: own.)

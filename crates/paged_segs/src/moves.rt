@@ -38,7 +38,12 @@ pub(crate) fn home_of(homes: &[Home], i: usize) -> Home
 }
 
 /// Takes the page in frame `f` out of it, to its record or, where it is all zeros, out of storage.
-pub(crate) fn put_out(pages: &mut Pages<CoreDrive>, table: &mut PageTable, home: Home, f: u32) -> Left
+pub(crate) fn put_out(
+    pages: &mut Pages<CoreDrive>,
+    table: &mut PageTable,
+    home: Home,
+    f: u32,
+) -> Left
     requires sound { NeverFail (map plan_of pages.old.volumes.drives) }
     requires words { length table.old ≤ 256 }
     requires bound { is_bound (frame_at pages.old.core f) ≡ true }
@@ -69,7 +74,14 @@ pub(crate) fn put_out(pages: &mut Pages<CoreDrive>, table: &mut PageTable, home:
 }
 
 /// Reads page `p` of segment `uid` from its record into the free frame `f`.
-pub(crate) fn bring_in(pages: &mut Pages<CoreDrive>, table: &mut PageTable, uid: u32, p: u32, home: Home, f: u32)
+pub(crate) fn bring_in(
+    pages: &mut Pages<CoreDrive>,
+    table: &mut PageTable,
+    uid: u32,
+    p: u32,
+    home: Home,
+    f: u32,
+)
     requires sound { NeverFail (map plan_of pages.old.volumes.drives) }
     requires page { p < length table.old }
     requires words { length table.old ≤ 256 }

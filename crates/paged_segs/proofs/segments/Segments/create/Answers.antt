@@ -72,10 +72,12 @@ invariant_of-self c =
     let il : c.args.i < length s.homes = search rules in
     let home : c.home_of-home.result ≡ home_at s.homes c.args.i = c.home_of-home.ensures ∙ ap (λ (homes : List Home). home_at homes c.args.i) c.deref.ensures.value in
     let count = length-set c.self.inside.tables.items c.args.i c.create_page.new.t in
-    let room = c.self.invariant.1 in
-    (kept_created s (plain pages_of c.create_page.new.self) _ c.args.i c.args.page _ c.args.f c.args.at c.args.w c.home_of-home.result c.index_mut-table.result.now c.create_page.new.t c.self.invariant.0 il home
-    (table_read s c.args.i c.index_mut-table.result.now c.self.invariant.0 il c.index_mut-table.ensures.value) (ap (map plan_of) c.create_page.ensures.drives) c.in-Ok.ensures.ok c.in-Ok.ensures.word
-    c.create_page.ensures.table c.create_page.ensures.map c.create_page.ensures.records (c.create_page.ensures.clean c.self.invariant.0.clean) c.create_page.ensures.others c.in-Ok.ensures.picture, omega (arith, count, room))
+    let room = c.self.invariant.1 in (
+      kept_created s (plain pages_of c.create_page.new.self) _ c.args.i c.args.page _ c.args.f c.args.at c.args.w c.home_of-home.result c.index_mut-table.result.now c.create_page.new.t c.self.invariant.0 il home
+          (table_read s c.args.i c.index_mut-table.result.now c.self.invariant.0 il c.index_mut-table.ensures.value) (ap (map plan_of) c.create_page.ensures.drives) c.in-Ok.ensures.ok c.in-Ok.ensures.word
+          c.create_page.ensures.table c.create_page.ensures.map c.create_page.ensures.records (c.create_page.ensures.clean c.self.invariant.0.clean) c.create_page.ensures.others c.in-Ok.ensures.picture,
+      omega (arith, count, room),
+    )
 
 pub returns-clause-taken : goal.returns-clause-taken
 returns-clause-taken c =

@@ -92,9 +92,11 @@ invariant_of-self c =
       stored = c.put_out-left.ensures.stored;
     } in
     let count = length-set c.self.inside.tables.items (c.page_of-uid.result.0 - 2) c.put_out-left.new.table in
-    let room = c.self.invariant.1 in
-    (kept_steps s (plain pages_of c.put_out-left.new.pages) _ c.args.f c.page_of-uid.result c.home_of-home.result c.index_mut.result.now c.put_out-left.new.table c.put_out-left.result c.self.invariant.0
-    bound is at those c.put_out-left.ensures.plans out, omega (arith, count, room))
+    let room = c.self.invariant.1 in (
+      kept_steps s (plain pages_of c.put_out-left.new.pages) _ c.args.f c.page_of-uid.result c.home_of-home.result c.index_mut.result.now c.put_out-left.new.table c.put_out-left.result c.self.invariant.0
+          bound is at those c.put_out-left.ensures.plans out,
+      omega (arith, count, room),
+    )
 
 pub returns-clause-emptied : goal.returns-clause-emptied
 returns-clause-emptied c =

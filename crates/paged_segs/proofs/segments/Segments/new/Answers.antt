@@ -10,10 +10,12 @@ pub invariant_of-result : goal.invariant_of-result
 invariant_of-result c =
     let none : c.in_ok-homes.homes.items ≡ [] = search rules in
     let room : c.in_ok-places.places ≤ vec_capacity c.in_ok-homes.homes = search rules in
-    let count : length c.in_ok-tables.tables.items ≡ c.in_ok-places.places = ap length c.in_ok-tables.ensures ∙ length-replicate c.in_ok-places.places (replicate 256 Null) in
-    (begun_steps c.args.volumes c.in_ok-pages.pages c.new_home.new.self c.args.frames c.in-Some.field-0 c.in_ok-places.places c.in_ok-tables.tables.items c.in_ok-homes.homes.items c.requires
-    c.in_ok-pages.ensures c.in-Some.ensures.least c.in-Some.ensures.some c.new_home.ensures.drives c.in-Some.ensures.home c.new_home.ensures.maps c.new_home.ensures.records c.new_home.ensures.clean
-    c.in_ok-tables.ensures c.in_ok-places.ensures.sum c.in_ok-places.ensures.few none, omega (arith, room, count))
+    let count : length c.in_ok-tables.tables.items ≡ c.in_ok-places.places = ap length c.in_ok-tables.ensures ∙ length-replicate c.in_ok-places.places (replicate 256 Null) in (
+      begun_steps c.args.volumes c.in_ok-pages.pages c.new_home.new.self c.args.frames c.in-Some.field-0 c.in_ok-places.places c.in_ok-tables.tables.items c.in_ok-homes.homes.items c.requires
+          c.in_ok-pages.ensures c.in-Some.ensures.least c.in-Some.ensures.some c.new_home.ensures.drives c.in-Some.ensures.home c.new_home.ensures.maps c.new_home.ensures.records c.new_home.ensures.clean
+          c.in_ok-tables.ensures c.in_ok-places.ensures.sum c.in_ok-places.ensures.few none,
+      omega (arith, room, count),
+    )
 
 pub unreachable-requires : goal.unreachable-requires
 unreachable-requires c = root_room c.args.volumes c.in_ok-pages.pages c.requires (ap (λ (x : Paging DriveState). x.volumes) c.in_ok-pages.ensures) c.in-None.ensures.least

@@ -21,10 +21,12 @@ invariant_of-self c =
     let il : c.args.i < length s.homes = search rules in
     let home : c.home_of-home.result ≡ home_at s.homes c.args.i = c.home_of-home.ensures ∙ ap (λ (homes : List Home). home_at homes c.args.i) c.deref.ensures.value in
     let count = length-set c.self.inside.tables.items c.args.i c.bring_in.new.table in
-    let room = c.self.invariant.1 in
-    (kept_read s (plain pages_of c.bring_in.new.pages) _ c.args.i c.args.page _ c.args.f c.home_of-home.result c.index_mut.result.now c.bring_in.new.table c.self.invariant.0 il home
-    (table_read s c.args.i c.index_mut.result.now c.self.invariant.0 il c.index_mut.ensures.value) c.bring_in.ensures.plans c.bring_in.ensures.effect c.bring_in.ensures.word c.bring_in.ensures.table
-    c.bring_in.ensures.map c.bring_in.ensures.clean c.bring_in.ensures.others c.bring_in.ensures.picture, omega (arith, count, room))
+    let room = c.self.invariant.1 in (
+      kept_read s (plain pages_of c.bring_in.new.pages) _ c.args.i c.args.page _ c.args.f c.home_of-home.result c.index_mut.result.now c.bring_in.new.table c.self.invariant.0 il home
+          (table_read s c.args.i c.index_mut.result.now c.self.invariant.0 il c.index_mut.ensures.value) c.bring_in.ensures.plans c.bring_in.ensures.effect c.bring_in.ensures.word c.bring_in.ensures.table
+          c.bring_in.ensures.map c.bring_in.ensures.clean c.bring_in.ensures.others c.bring_in.ensures.picture,
+      omega (arith, count, room),
+    )
 
 pub returns-clause-binding : goal.returns-clause-binding
 returns-clause-binding c =
