@@ -130,6 +130,7 @@ is_emptied s now plans f uid p t left k q out =
       some = q.some;
       segment = omega (arith, segment, some_);
       number = q.number;
+      here = q.here;
       freed = ap bindings (core_out s.storage now (home_at s.homes (uid - 2)) p f left out.effect) ∙ bindings_with s.storage.core f Free;
       words = ap (set s.tables (uid - 2)) out.word;
       homes = refl;

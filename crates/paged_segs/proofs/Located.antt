@@ -2,7 +2,8 @@
 use Rattle.std.proofs.Common.{◌≡◌, ◌≢◌, ℕ, ◌+◌, ◌-◌, ◌<◌, ◌≤◌, true, false, List, [], length, get_or, replicate, is_some, Option, Some, None, refl, sym, ap, ◌∙◌, arith, subst}
 use Rattle.std.proofs.lemmas.Option.{same_Some}
 use Rattle.std.proofs.lemmas.List.{get_or_default}
-use Rattle.core_map.specs.CoreMap.{Core, frame_at, is_bound}
+use Rattle.core_map.specs.CoreMap.{Core, frame_at, is_bound, bound_page}
+use Rattle.core_map.specs.declared.Frame.{Frame}
 use Rattle.page_table.specs.declared.Ptw.{Ptw}
 use Rattle.page_table.specs.declared.Ptw.TheVariants.{Null, Out, Here, Leaving}
 use Rattle.page_table.specs.PageTable.{ptw_at}
@@ -13,7 +14,8 @@ use Rattle.page_control.specs.Picture.{picture, is_stored, words_filed}
 use Rattle.page_control.specs.Tied.{frame_of, has_record, uid_in, uid_at, map_at, IsTableOf, IsHomeOf, IsMapOf}
 use Rattle.page_control.proofs.Facts.{binding_is, bound_to, bound_from_page, here_within}
 use Rattle.page_control.proofs.Callers.{stored_shown, record_shown, words_shown}
-use Rattle.page_control.proofs.Ties.{frame_same}
+use Rattle.page_control.proofs.Fresh.{uid_of_page}
+use Rattle.page_control.proofs.Ties.{frame_same, number_of}
 use Rattle.paged_segs.specs.Segs.{Segs, home_at, table_at, word_at}
 use Rattle.paged_segs.specs.Kept.{IsKept}
 use Rattle.paged_segs.proofs.Counting.{used_most}
@@ -94,7 +96,13 @@ pub record IsWordOf (s : Segs) (i page : ℕ) (w : Ptw) : Type 0 where
   pub null : w ≡ Null → picture s.storage (i + 2) page ≡ replicate 1024 0
   pub bound : (f : ℕ) → w ≡ Here f → is_bound (frame_at s.storage.core f) ≡ true
   pub here : (f : ℕ) → w ≡ Here f → binding_at (bindings s.storage.core) f ≡ Some (i + 2, page)
+  pub uid : (f : ℕ) → w ≡ Here f → uid_in (frame_at s.storage.core f) ≡ i + 2
+  pub number : (f : ℕ) → w ≡ Here f → number_in (frame_at s.storage.core f) ≡ page
   pub words : (f : ℕ) → w ≡ Here f → picture s.storage (i + 2) page ≡ words_in s.storage f
+
+-- the page in a frame that is bound to it
+page_told_by : (frame : Frame) (uid p : ℕ) → bound_page frame ≡ Some (uid, p) → ◌≡◌ {A = Option (ℕ × ℕ)} (Some (uid_in frame, number_in frame)) (Some (uid, p))
+page_told_by frame uid p at = sym (bound_to frame (bound_from_page frame uid p at)) ∙ at
 
 none_from : (place : Option ℕ) (w : Ptw) → is_some place ≡ has_record w → w ≡ Null → place ≡ None
 none_from None w same null = refl
@@ -116,6 +124,8 @@ word_tells s i page w table k il is at =
           (none_from (filed s.storage (home_at s.homes i) page) w ((k.maps i il).stored page ∙ sym (ap has_record word)) that);
       bound = λ f that. bound_from_page (frame_at s.storage.core f) (i + 2) page (sym (binding_is s.storage.core f) ∙ here f that);
       here = here;
+      uid = λ f that. ap uid_of_page (page_told_by (frame_at s.storage.core f) (i + 2) page (sym (binding_is s.storage.core f) ∙ here f that));
+      number = λ f that. ap number_of (page_told_by (frame_at s.storage.core f) (i + 2) page (sym (binding_is s.storage.core f) ∙ here f that));
       words = λ f that. words_shown s.storage (i + 2) page f (table_at s.tables i) its (ap frame_of (sym word ∙ that));
     }
 

@@ -14,7 +14,7 @@ use Rattle.page_control.specs.Picture.{picture, is_stored, stored_after}
 use Rattle.page_control.specs.Tied.{vtoc_in}
 use Rattle.record_map.specs.Bitmap.{least_free}
 use Rattle.paged_segs.specs.declared.Evicted.{Evicted}
-use Rattle.paged_segs.specs.Segs.{Segs, home_at, volume_at, with_word, pages_of, plan_of}
+use Rattle.paged_segs.specs.Segs.{Segs, home_at, volume_at, word_at, with_word, pages_of, plan_of}
 use Rattle.paged_segs.specs.Counts.{taken, used, size, entries, taken_after}
 
 -- the entry of volume v that the next segment gets
@@ -57,6 +57,7 @@ pub record IsEmptied (old new : Segs) (gone : Evicted) : Type 0 where
   pub some : 2 ≤ gone.uid
   pub segment : gone.uid < length old.homes + 2
   pub number : gone.page < 256
+  pub here : word_at old (gone.uid - 2) gone.page ≡ Here gone.frame
   -- the frame and the word of the page
   pub freed : bindings new.storage.core ≡ slice_set (bindings old.storage.core) gone.frame None
   pub words : new.tables ≡ with_word old.tables (gone.uid - 2) gone.page (word_of_left gone.left (record_of old.storage (home_at old.homes (gone.uid - 2)) gone.page))

@@ -94,6 +94,8 @@ impl Segments {
         ensures null { result ≡ Null → picture self.now.storage (i + 2) page ≡ replicate 1024 0 }
         ensures bound { (f : ℕ) → result ≡ Here f → is_bound (frame_at self.now.storage.core f) ≡ true }
         ensures here { (f : ℕ) → result ≡ Here f → binding_at (bindings self.now.storage.core) f ≡ Some (i + 2, page) }
+        ensures uid { (f : ℕ) → result ≡ Here f → uid_in (frame_at self.now.storage.core f) ≡ i + 2 }
+        ensures number { (f : ℕ) → result ≡ Here f → number_in (frame_at self.now.storage.core f) ≡ page }
         ensures words { (f : ℕ) → result ≡ Here f → picture self.now.storage (i + 2) page ≡ words_in self.now.storage f }
     {
         self.tables[i as usize].get(page)

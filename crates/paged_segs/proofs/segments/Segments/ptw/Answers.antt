@@ -37,3 +37,9 @@ returns-clause-here c = (word_tells c.args.self.now c.args.i c.args.page c.get.r
 
 pub returns-clause-words : goal.returns-clause-words
 returns-clause-words c = (word_tells c.args.self.now c.args.i c.args.page c.get.result c.index.result.now (subst IsKept c.self.view_is c.self.invariant.0) c.requires.segment (search rules) c.get.ensures).words
+
+pub returns-clause-uid : goal.returns-clause-uid
+returns-clause-uid c = (word_tells c.args.self.now c.args.i c.args.page c.get.result c.index.result.now (subst IsKept c.self.view_is c.self.invariant.0) c.requires.segment (search rules) c.get.ensures).uid
+
+pub returns-clause-number : goal.returns-clause-number
+returns-clause-number c = (word_tells c.args.self.now c.args.i c.args.page c.get.result c.index.result.now (subst IsKept c.self.view_is c.self.invariant.0) c.requires.segment (search rules) c.get.ensures).number
