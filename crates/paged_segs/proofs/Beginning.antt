@@ -1,12 +1,11 @@
 -- The segments as they begin.
-use Rattle.std.proofs.Common.{◌≡◌, ℕ, zero, suc, ◌+◌, ◌-◌, ◌^◌, ◌<◌, ◌≤◌, Bool, true, false, cond, List, [], ◌∷◌, length, Option, Some, None, refl, sym, ap, ◌∙◌, arith, inl, inr, get_or, set, replicate, is_some, is_none, map, sum_by, count_by, subst}
-use Rattle.std.specs.List.{position}
+use Rattle.std.proofs.Common.{◌≡◌, ℕ, suc, ◌-◌, ◌^◌, ◌<◌, Bool, false, cond, List, [], ◌∷◌, length, Option, Some, None, refl, sym, ap, ◌∙◌, arith, inl, inr, get_or, replicate, is_some, map, sum_by, count_by, subst}
 use Rattle.std.proofs.lemmas.Bool.Decides.{leb_tells}
 use Rattle.std.proofs.lemmas.List.{get_or_past, get_or-replicate, length-replicate}
 use Rattle.std.proofs.lemmas.List.Sums.{sum_by-cons}
 use Rattle.core_map.specs.declared.Frame.{Frame}
 use Rattle.core_map.specs.declared.Frame.TheVariants.{Free}
-use Rattle.core_map.specs.CoreMap.{frame_at, is_started}
+use Rattle.core_map.specs.CoreMap.{is_started}
 use Rattle.page_table.specs.declared.Ptw.{Ptw}
 use Rattle.page_table.specs.declared.Ptw.TheVariants.{Null, Leaving}
 use Rattle.page_table.specs.PageTable.{ptw_at}
@@ -28,7 +27,7 @@ use Rattle.page_control.proofs.Places.{put, list_within}
 use Rattle.page_control.proofs.Fresh.{alike}
 use Rattle.page_control.proofs.Made.{no_frame_made, clean_made}
 use Rattle.std.proofs.lemmas.Option.{same_Some}
-use Rattle.paged_segs.specs.Segs.{Segs, segs_of, table_at, root_home, pages_of, plan_of}
+use Rattle.paged_segs.specs.Segs.{segs_of, table_at, root_home, pages_of, plan_of}
 use Rattle.paged_segs.specs.Counts.{used, one_more}
 use Rattle.paged_segs.specs.Effects.{begun}
 use Rattle.paged_segs.specs.Kept.{IsKept, AreFresh}

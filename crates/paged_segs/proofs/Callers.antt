@@ -1,12 +1,12 @@
 -- For callers: fresh volumes, and frames that were all visited.
-use Rattle.std.proofs.Common.{◌≡◌, ◌≢◌, ℕ, zero, suc, ◌+◌, ◌<◌, ◌≤◌, false, All, List, [], ◌∷◌, length, Option, Some, None, refl, sym, ap, ◌∙◌, arith, inl, inr, get_or, replicate, map}
+use Rattle.std.proofs.Common.{◌≡◌, ℕ, zero, suc, ◌+◌, ◌<◌, false, All, List, [], ◌∷◌, length, Some, None, refl, ap, ◌∙◌, arith, inl, inr, get_or, map}
 use Rattle.std.proofs.lemmas.Bool.{cases_eq}
 use Rattle.std.proofs.lemmas.Bool.Decides.{leb_tells}
 use Rattle.std.proofs.lemmas.List.{get_or_past, get_or-set_same, get_or-set_other, length-replicate, set_past}
 use Rattle.std.proofs.lemmas.List.Elements.{All-map, All-head, All-tail}
 use Rattle.core_map.specs.declared.Frame.TheVariants.{Free}
 use Rattle.core_map.specs.CoreMap.{Core, frame_at, with_frame}
-use Rattle.vtoc.specs.Vtoc.{Entry, entry_at}
+use Rattle.vtoc.specs.Vtoc.{entry_at}
 use Rattle.volumes.specs.CoreDrive.{DriveState}
 use Rattle.volumes.specs.Volumes.{Vols, made_of}
 use Rattle.volumes.specs.declared.Part.{Part}

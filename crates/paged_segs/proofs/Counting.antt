@@ -1,6 +1,5 @@
 -- What becomes of the counts of each volume.
 use Rattle.std.proofs.Common.{◌≡◌, ◌≢◌, ℕ, ◌+◌, ◌-◌, ◌<◌, ◌≤◌, Bool, true, false, cond, eqb, List, [], ◌∷◌, length, Option, Some, None, is_some, refl, sym, ap, ◌∙◌, arith, inl, inr, get_or, set, map, sum, sum_by, count_by}
-use Rattle.std.proofs.lemmas.Bool.{cases_eq}
 use Rattle.std.proofs.lemmas.Bool.Decides.{eqb_tells, leb_tells}
 use Rattle.std.proofs.lemmas.List.{get_or-set_same, get_or-set_other, length-set, set_past}
 use Rattle.std.proofs.lemmas.List.Sums.{sum_by-cons, sum_by-set, sum-map, count_by-le-length}
@@ -17,7 +16,7 @@ use Rattle.page_control.specs.declared.Left.TheVariants.{Released, Kept}
 use Rattle.page_control.specs.Effects.{evicted, created, brought_in}
 use Rattle.page_control.proofs.Facts.{used_within}
 use Rattle.page_control.proofs.Places.{put, list_within, refile}
-use Rattle.paged_segs.specs.Counts.{taken, size, used, entries, one_more, one_less}
+use Rattle.paged_segs.specs.Counts.{taken, used, one_more, one_less}
 use Rattle.paged_segs.specs.Effects.{HasSizes}
 
 -- what the counts are told by

@@ -1,11 +1,11 @@
 -- A page leaves its frame.
-use Rattle.std.proofs.Common.{◌≡◌, ◌≢◌, ℕ, ◌+◌, ◌-◌, ◌<◌, ◌≤◌, ◌↔◌, true, false, List, [], length, Option, Some, None, refl, sym, ap, ◌∙◌, arith, get_or, set, subst}
+use Rattle.std.proofs.Common.{◌≡◌, ◌≢◌, ℕ, ◌+◌, ◌-◌, ◌<◌, ◌≤◌, ◌↔◌, true, false, List, [], length, Option, refl, sym, ap, ◌∙◌, arith, get_or, set, subst}
 use Rattle.std.proofs.lemmas.List.{get_or_default}
 use Rattle.core_map.specs.declared.Frame.TheVariants.{Free}
 use Rattle.core_map.specs.CoreMap.{Core, frame_at, with_frame, is_bound}
 use Rattle.mword.specs.Words.{AreZero}
 use Rattle.page_table.specs.declared.Ptw.{Ptw}
-use Rattle.page_table.specs.declared.Ptw.TheVariants.{Null, Out, Here, Leaving}
+use Rattle.page_table.specs.declared.Ptw.TheVariants.{Out, Here, Leaving}
 use Rattle.page_table.specs.PageTable.{ptw_at}
 use Rattle.volumes.specs.declared.drive.FailLine.{FailLine}
 use Rattle.page_control.specs.declared.Home.{Home}
@@ -17,7 +17,6 @@ use Rattle.page_control.specs.Picture.{picture, is_stored, stored_after, AreClea
 use Rattle.page_control.specs.Tied.{frame_of, has_record, uid_in, map_at, IsTableOf, IsHomeOf, IsMapOf, AreFiled, KeepsOthers}
 use Rattle.page_control.proofs.Facts.{bindings_with, filed_from_word, filed_in_use}
 use Rattle.page_control.proofs.Callers.{words_shown}
-use Rattle.paged_segs.specs.declared.Evicted.{Evicted}
 use Rattle.paged_segs.specs.Segs.{Segs, home_at, table_at}
 use Rattle.paged_segs.specs.Counts.{taken, taken_after}
 use Rattle.paged_segs.specs.Kept.{IsKept}

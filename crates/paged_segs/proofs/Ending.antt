@@ -1,16 +1,14 @@
 -- The volumes once every frame is free.
-use Rattle.std.proofs.Common.{◌≡◌, ℕ, ◌+◌, ◌-◌, ◌<◌, ◌≤◌, true, false, List, [], length, Option, Some, None, refl, sym, ap, ◌∙◌, arith, get_or, is_some, subst, inl, inr}
+use Rattle.std.proofs.Common.{◌≡◌, ℕ, ◌+◌, ◌-◌, ◌<◌, ◌≤◌, true, length, Some, refl, sym, ap, ◌∙◌, arith, subst, inl, inr}
 use Rattle.std.proofs.lemmas.Bool.{cases_eq}
 use Rattle.core_map.specs.declared.Frame.TheVariants.{Free}
 use Rattle.core_map.specs.CoreMap.{frame_at, bound_page}
 use Rattle.mword.specs.Words.{AreZero}
 use Rattle.page_table.specs.declared.Ptw.{Ptw}
 use Rattle.page_table.specs.declared.Ptw.TheVariants.{Null, Out, Here, Leaving}
-use Rattle.page_table.specs.PageTable.{ptw_at}
-use Rattle.page_control.specs.declared.Home.{Home}
 use Rattle.page_control.specs.Plain.{Plain, bindings, binding_at, disk_of, number_or_zero}
 use Rattle.page_control.specs.Picture.{picture, is_stored, is_filed_in, volume_of, place_of, record_named, words_filed, words_held, words_of_page}
-use Rattle.page_control.specs.Tied.{frame_of, has_record, map_at, uid_at, IsTableOf}
+use Rattle.page_control.specs.Tied.{frame_of, has_record}
 use Rattle.page_control.proofs.Facts.{binding_is, some_number}
 use Rattle.page_control.proofs.Ties.{not_none}
 use Rattle.page_control.proofs.Pictures.{found_nowhere, record_found}

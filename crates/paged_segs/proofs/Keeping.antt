@@ -1,23 +1,20 @@
 -- What is true of the segments stays true.
-use Rattle.std.proofs.Common.{◌≡◌, ◌≢◌, ℕ, ◌+◌, ◌-◌, ◌<◌, ◌≤◌, Bool, true, false, cond, eqb, List, [], ◌∷◌, length, Option, Some, None, refl, sym, ap, ◌∙◌, arith, inl, inr, get_or, set, ◌⊎◌, subst}
+use Rattle.std.proofs.Common.{◌≡◌, ◌≢◌, ℕ, ◌+◌, ◌<◌, ◌≤◌, false, List, [], length, Option, Some, None, refl, sym, ap, ◌∙◌, arith, inl, inr, get_or, set, ◌⊎◌, subst}
 use Rattle.std.proofs.lemmas.Bool.{cases_eq}
 use Rattle.std.proofs.lemmas.Bool.Decides.{eqb_tells, leb_tells}
 use Rattle.std.proofs.lemmas.List.{get_or-set_same, get_or-set_other, length-set, set_past}
 use Rattle.core_map.specs.declared.Frame.{Frame}
 use Rattle.core_map.specs.declared.Frame.TheVariants.{Free}
-use Rattle.core_map.specs.CoreMap.{Core, frame_at, with_frame, is_started, bound_page}
+use Rattle.core_map.specs.CoreMap.{frame_at, with_frame, is_started, bound_page}
 use Rattle.mword.specs.Words.{AreZero}
 use Rattle.page_table.specs.declared.Ptw.{Ptw}
-use Rattle.page_table.specs.declared.Ptw.TheVariants.{Null, Out, Here, Leaving}
+use Rattle.page_table.specs.declared.Ptw.TheVariants.{Null, Out, Leaving}
 use Rattle.page_table.specs.PageTable.{ptw_at}
-use Rattle.vtoc.specs.Vtoc.{Entry}
 use Rattle.volumes.specs.declared.drive.FailLine.{FailLine}
-use Rattle.page_control.specs.declared.Home.{Home}
-use Rattle.page_control.specs.Plain.{Plain, bindings, binding_at}
+use Rattle.page_control.specs.Plain.{Plain, bindings}
 use Rattle.page_control.specs.Picture.{picture, changed_at, AreClean}
-use Rattle.page_control.specs.Tied.{frame_of, map_at, IsTableOf, IsHomeOf, IsMapOf, AreFiled, KeepsOthers}
+use Rattle.page_control.specs.Tied.{map_at, IsTableOf, IsMapOf, AreFiled, KeepsOthers}
 use Rattle.page_control.proofs.Facts.{binding_is, out_within}
-use Rattle.page_control.proofs.Ties.{not_none}
 use Rattle.paged_segs.specs.Segs.{Segs, home_at, table_at, word_at, root_home}
 use Rattle.paged_segs.specs.Kept.{IsKept}
 use Rattle.paged_segs.proofs.Counting.{KeepsCounts, used_sum, places_sum, size_at}

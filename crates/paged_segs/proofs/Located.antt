@@ -15,7 +15,7 @@ use Rattle.page_control.specs.Tied.{frame_of, has_record, uid_in, uid_at, map_at
 use Rattle.page_control.proofs.Facts.{binding_is, bound_to, bound_from_page, here_within}
 use Rattle.page_control.proofs.Callers.{stored_shown, record_shown, words_shown}
 use Rattle.page_control.proofs.Fresh.{uid_of_page}
-use Rattle.page_control.proofs.Ties.{frame_same, number_of}
+use Rattle.page_control.proofs.Ties.{number_of}
 use Rattle.paged_segs.specs.Segs.{Segs, home_at, table_at, word_at}
 use Rattle.paged_segs.specs.Kept.{IsKept}
 use Rattle.paged_segs.proofs.Counting.{used_most}

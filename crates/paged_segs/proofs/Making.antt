@@ -1,25 +1,22 @@
 -- A segment is made.
-use Rattle.std.proofs.Common.{◌≡◌, ◌≢◌, ℕ, suc, ◌+◌, ◌-◌, ◌<◌, ◌≤◌, Bool, true, false, cond, All, IsSome, List, [], ◌∷◌, ◌++◌, length, Option, Some, None, refl, sym, ap, ◌∙◌, arith, inl, inr, ◌⊎◌, get_or, set, is_some, is_none, sum_by, count_by, subst}
-use Rattle.std.specs.List.{position}
+use Rattle.std.proofs.Common.{◌≡◌, ℕ, ◌+◌, ◌<◌, true, cond, All, IsSome, List, [], ◌∷◌, ◌++◌, length, Option, Some, None, refl, sym, ap, ◌∙◌, arith, inl, inr, ◌⊎◌, get_or, set, is_some, is_none, sum_by, count_by, subst}
 use Rattle.std.proofs.lemmas.Bool.{cases_eq}
-use Rattle.std.proofs.lemmas.Bool.Decides.{leb_tells}
 use Rattle.std.proofs.lemmas.List.{get_or-set_same, get_or-set_other, length-set, length-append, get_or_append_left}
 use Rattle.std.proofs.lemmas.List.Sums.{sum_by-set, count_by-le-length}
 use Rattle.std.proofs.lemmas.List.Quantifiers.{position-Some}
 use Rattle.std.proofs.Math.Seq.{map-set_same, get_or-append_seam}
 use Rattle.mword.specs.Words.{AreZero}
 use Rattle.page_table.specs.declared.Ptw.{Ptw}
-use Rattle.page_table.specs.declared.Ptw.TheVariants.{Null, Out, Here, Leaving}
+use Rattle.page_table.specs.declared.Ptw.TheVariants.{Null, Out}
 use Rattle.page_table.specs.PageTable.{ptw_at}
-use Rattle.vtoc.specs.Vtoc.{Entry, entry_at, records_in, uid_of, fresh_entry, least_free_entry}
+use Rattle.vtoc.specs.Vtoc.{Entry, entry_at, records_in, fresh_entry, least_free_entry}
 use Rattle.vtoc.specs.FileMap.{no_records}
 use Rattle.volumes.specs.declared.drive.FailLine.{FailLine}
 use Rattle.page_control.specs.declared.Home.{Home}
 use Rattle.page_control.specs.Plain.{Plain, bindings, binding_at, vtoc_of}
 use Rattle.page_control.specs.Effects.{allocated}
 use Rattle.page_control.specs.Picture.{picture, AreClean}
-use Rattle.page_control.specs.Tied.{vtoc_in, frame_of, has_record, uid_at, map_at, IsTableOf, IsHomeOf, IsMapOf, AreFiled, HasNoHome, HasNoFrame}
-use Rattle.page_control.proofs.Ties.{not_none}
+use Rattle.page_control.specs.Tied.{vtoc_in, frame_of, has_record, uid_at, map_at, IsHomeOf, IsMapOf, AreFiled, HasNoHome, HasNoFrame}
 use Rattle.page_control.proofs.Leaving.{no_record}
 use Rattle.page_control.proofs.Places.{put, list_within}
 use Rattle.page_control.proofs.Homes.{at_or_other, uid_here, uid_other}
@@ -29,7 +26,6 @@ use Rattle.paged_segs.specs.Counts.{used, entries, one_more}
 use Rattle.paged_segs.specs.Kept.{IsKept}
 use Rattle.paged_segs.specs.Effects.{HasSizes}
 use Rattle.paged_segs.proofs.Counting.{more_by, by_list, by_sum}
-use Rattle.paged_segs.proofs.Located.{homes_within}
 use Rattle.paged_segs.proofs.Paging.{count_all}
 
 -- nobody has the next uid

@@ -1,5 +1,5 @@
 -- Calls that change marks and words alone, and the clock.
-use Rattle.std.proofs.Common.{◌≡◌, ◌≢◌, ℕ, zero, suc, ◌+◌, ◌-◌, ◌<◌, ◌≤◌, Bool, true, false, cond, ltb, List, [], ◌∷◌, length, Option, Some, None, refl, sym, ap, ◌∙◌, arith, inl, inr, get_or, set, map, subst}
+use Rattle.std.proofs.Common.{◌≡◌, ℕ, zero, suc, ◌+◌, ◌-◌, ◌<◌, Bool, true, false, List, [], ◌∷◌, length, Option, Some, None, refl, sym, ap, ◌∙◌, arith, inl, inr, get_or, set, subst}
 use Rattle.std.specs.List.{position, position_or_len, list_any}
 use Rattle.std.proofs.lemmas.Bool.Decides.{leb_tells}
 use Rattle.std.proofs.lemmas.Bool.{cases_eq}
@@ -7,23 +7,22 @@ use Rattle.std.proofs.lemmas.List.{get_or_past, get_or-set_same, get_or-set_othe
 use Rattle.core_map.specs.declared.Frame.{Frame}
 use Rattle.core_map.specs.declared.Frame.TheVariants.{Free, Started, Bound}
 use Rattle.core_map.specs.CoreMap.{Core, frame_at, with_frame, is_free, is_bound, is_started, after_reference, least_free_frame}
-use Rattle.core_map.specs.Clock.{IsClockChoice, unmarked, is_idle, frame_in}
+use Rattle.core_map.specs.Clock.{IsClockChoice, unmarked, is_idle}
 use Rattle.page_table.specs.declared.Ptw.{Ptw}
 use Rattle.page_table.specs.declared.Ptw.TheVariants.{Out, Here}
 use Rattle.page_table.specs.PageTable.{ptw_at}
-use Rattle.vtoc.specs.Vtoc.{Entry}
 use Rattle.volumes.specs.CoreDrive.{DriveState}
 use Rattle.volumes.specs.Volumes.{Vols}
 use Rattle.page_control.specs.declared.Home.{Home}
-use Rattle.page_control.specs.Plain.{Plain, Paging, plain, bindings, binding_at, number_in}
+use Rattle.page_control.specs.Plain.{Paging, plain, bindings, binding_at, number_in}
 use Rattle.page_control.specs.Picture.{picture, AreClean}
-use Rattle.page_control.specs.Tied.{frame_of, uid_in, map_at, uid_at, flags_in, IsTableOf, IsHomeOf, IsMapOf, AreFiled, IsBoundOnce}
+use Rattle.page_control.specs.Tied.{frame_of, uid_in, uid_at, IsBoundOnce}
 use Rattle.page_control.proofs.Callers.{bound_once}
 use Rattle.page_control.proofs.Firsts.{below, position_at_one}
 use Rattle.page_control.proofs.Pictures.{off_and_on}
 use Rattle.page_control.proofs.Ties.{not_none}
 use Rattle.page_control.proofs.Shown.{kept_chosen}
-use Rattle.paged_segs.specs.Segs.{Segs, segs_of, home_at, table_at, word_at, root_home, pages_of, plan_of}
+use Rattle.paged_segs.specs.Segs.{Segs, segs_of, table_at, word_at, pages_of}
 use Rattle.paged_segs.specs.Kept.{IsKept}
 use Rattle.paged_segs.proofs.Located.{IsPageOf, page_of_frame}
 

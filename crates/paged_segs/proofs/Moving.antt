@@ -1,5 +1,5 @@
 -- What becomes of frames and words in a move of two calls.
-use Rattle.std.proofs.Common.{◌≡◌, ℕ, false, List, refl, ap, ◌∙◌, set}
+use Rattle.std.proofs.Common.{◌≡◌, ℕ, false, List, ap, ◌∙◌, set}
 use Rattle.std.proofs.lemmas.List.{get_or-set_same, set-set}
 use Rattle.core_map.specs.declared.Frame.{Frame}
 use Rattle.core_map.specs.declared.Frame.TheVariants.{Started, Bound}

@@ -1,25 +1,23 @@
 -- A page is read into a frame, or created in one.
-use Rattle.std.proofs.Common.{◌≡◌, ◌≢◌, ℕ, zero, suc, ◌+◌, ◌-◌, ◌^◌, ◌<◌, ◌≤◌, Bool, true, false, not, cond, ltb, eqb, eq-eqb, All, List, [], ◌∷◌, length, Option, Some, None, refl, sym, ap, ◌∙◌, arith, inl, inr, get_or, set, replicate, count_by, subst}
-use Rattle.std.specs.List.{position, position_or_len}
+use Rattle.std.proofs.Common.{◌≡◌, ℕ, suc, ◌+◌, ◌^◌, ◌<◌, Bool, true, false, not, cond, ltb, eq-eqb, All, List, [], ◌∷◌, length, Option, Some, None, refl, sym, ap, ◌∙◌, arith, inl, inr, get_or, set, replicate, count_by, subst}
+use Rattle.std.specs.List.{position_or_len}
 use Rattle.std.proofs.lemmas.Bool.Decides.{leb_tells}
 use Rattle.std.proofs.lemmas.List.{get_or_default}
 use Rattle.std.proofs.lemmas.List.Elements.{All-head, All-tail}
 use Rattle.std.proofs.lemmas.List.Sums.{sum_by-cons}
 use Rattle.std.proofs.lemmas.List.Quantifiers.{position-Some}
 use Rattle.bitmap.specs.Bitmap.{least_free}
-use Rattle.core_map.specs.declared.Frame.TheVariants.{Free, Bound}
-use Rattle.core_map.specs.CoreMap.{Core, frame_at, with_frame, bound_page}
+use Rattle.core_map.specs.declared.Frame.TheVariants.{Bound}
+use Rattle.core_map.specs.CoreMap.{bound_page}
 use Rattle.page_table.specs.declared.Ptw.{Ptw}
-use Rattle.page_table.specs.declared.Ptw.TheVariants.{Null, Out, Here, Leaving}
-use Rattle.page_table.specs.PageTable.{ptw_at}
-use Rattle.vtoc.specs.Vtoc.{Entry}
+use Rattle.page_table.specs.declared.Ptw.TheVariants.{Here}
 use Rattle.volumes.specs.declared.drive.FailLine.{FailLine}
 use Rattle.page_control.specs.declared.Home.{Home}
 use Rattle.page_control.specs.Plain.{Plain, bindings, flags_of, number_or_zero}
 use Rattle.page_control.specs.Effects.{brought_in, created}
 use Rattle.page_control.specs.Picture.{picture, changed_at, AreClean}
-use Rattle.page_control.specs.Tied.{flags_in, map_at, IsTableOf, IsHomeOf, IsMapOf, AreFiled, KeepsOthers}
-use Rattle.page_control.proofs.Facts.{bindings_with, used_within}
+use Rattle.page_control.specs.Tied.{flags_in, map_at, IsTableOf, IsMapOf, AreFiled, KeepsOthers}
+use Rattle.page_control.proofs.Facts.{bindings_with}
 use Rattle.page_control.proofs.Firsts.{below}
 use Rattle.page_control.proofs.Fresh.{uid_of_page}
 use Rattle.paged_segs.specs.Segs.{Segs, home_at, table_at}

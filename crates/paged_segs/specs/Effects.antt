@@ -1,13 +1,12 @@
 -- What each call does (Bensoussan, Clingen and Daley 1972).
-use Rattle.std.specs.Prelude.{◌≡◌, ℕ, ◌+◌, ◌-◌, ◌<◌, ◌≤◌, ◌↔◌, Bool, List, [], ◌∷◌, ◌++◌, Option, None, Some, length, map, replicate, slice_set, sum_by}
+use Rattle.std.specs.Prelude.{◌≡◌, ℕ, ◌+◌, ◌-◌, ◌<◌, ◌≤◌, ◌↔◌, [], ◌∷◌, ◌++◌, None, Some, length, map, replicate, slice_set, sum_by}
 use Rattle.core_map.specs.declared.Frame.TheVariants.{Free}
 use Rattle.mword.specs.Words.{AreZero}
 use Rattle.page_table.specs.declared.Ptw.TheVariants.{Null, Here}
 use Rattle.vtoc.specs.Vtoc.{fresh_entry, least_free_entry}
 use Rattle.volumes.specs.CoreDrive.{DriveState}
 use Rattle.volumes.specs.Volumes.{Vols}
-use Rattle.page_control.specs.declared.Left.{Left}
-use Rattle.page_control.specs.declared.Left.TheVariants.{Released, Kept}
+use Rattle.page_control.specs.declared.Left.TheVariants.{Released}
 use Rattle.page_control.specs.Plain.{Plain, bindings, binding_at, number_or_zero, record_of, vtoc_of, flags_of}
 use Rattle.page_control.specs.Effects.{brought_in, created, allocated, word_of_left}
 use Rattle.page_control.specs.Picture.{picture, is_stored, stored_after}

@@ -3,7 +3,7 @@ use Rattle.std.specs.Prelude.{◌≡◌, ◌≢◌, ℕ, ◌+◌, ◌-◌, ◌^�
 use Rattle.core_map.specs.CoreMap.{frame_at, is_started}
 use Rattle.mword.specs.Words.{AreZero}
 use Rattle.page_table.specs.declared.Ptw.TheVariants.{Null, Out, Leaving}
-use Rattle.vtoc.specs.Vtoc.{Entry, entry_at}
+use Rattle.vtoc.specs.Vtoc.{entry_at}
 use Rattle.volumes.specs.CoreDrive.{DriveState}
 use Rattle.volumes.specs.Volumes.{Vols}
 use Rattle.volumes.specs.declared.drive.FailLine.{FailLine}

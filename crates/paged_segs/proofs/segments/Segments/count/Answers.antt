@@ -1,4 +1,4 @@
-use Rattle.std.proofs.Common.{◌<◌, length, arith, rules}
+use Rattle.std.proofs.Common.{◌<◌, length, rules}
 use Rattle.paged_segs.specs.Segs.{Segs, segs_of}
 use Rattle.paged_segs.proofs.Located.{homes_within}
 use Rattle.paged_segs.proofs.segments.Segments.count.Goals as goal

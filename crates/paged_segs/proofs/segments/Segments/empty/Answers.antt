@@ -1,11 +1,8 @@
-use Rattle.std.proofs.Common.{◌≡◌, ◌<◌, ◌-◌, true, length, map, rules, slice_set, subst, ap, ◌∙◌, arith, List}
+use Rattle.std.proofs.Common.{◌≡◌, ◌<◌, ◌-◌, true, length, map, rules, slice_set, subst, ap, ◌∙◌, arith}
 use Rattle.std.proofs.lemmas.List.{length-map, length-set}
 use Rattle.core_map.specs.CoreMap.{Core, frame_at, is_bound}
-use Rattle.page_table.specs.declared.Ptw.{Ptw}
-use Rattle.page_control.specs.declared.Home.{Home}
 use Rattle.page_control.specs.Plain.{plain, number_in}
 use Rattle.page_control.specs.Tied.{uid_in}
-use Rattle.paged_segs.specs.declared.Evicted.{Evicted}
 use Rattle.paged_segs.specs.Effects.{IsEmptied}
 use Rattle.paged_segs.specs.Segs.{Segs, segs_of, pages_of, plan_of}
 use Rattle.paged_segs.proofs.Located.{page_told}

@@ -1,4 +1,4 @@
-use Rattle.std.proofs.Common.{◌≡◌, ℕ, ◌+◌, ◌<◌, List, ap, ◌∙◌, sym, rules, subst, arith, Some, length, vec_len, vec_capacity, ◌≤◌, map}
+use Rattle.std.proofs.Common.{◌≡◌, ℕ, ◌+◌, ◌<◌, List, ap, ◌∙◌, sym, rules, subst, Some, length, vec_capacity, ◌≤◌, map}
 use Rattle.page_control.specs.Plain.{Plain, plain, vtoc_of}
 use Rattle.page_control.specs.Picture.{picture, is_stored}
 use Rattle.page_control.specs.Tied.{HasNoHome}

@@ -1,4 +1,4 @@
-use Rattle.std.proofs.Common.{◌≡◌, ◌≤◌, ℕ, [], length, replicate, ap, sym, ◌∙◌, rules, arith, vec_capacity}
+use Rattle.std.proofs.Common.{◌≡◌, ◌≤◌, [], length, replicate, ap, ◌∙◌, rules, arith, vec_capacity}
 use Rattle.std.proofs.lemmas.List.{length-replicate}
 use Rattle.page_table.specs.declared.Ptw.TheVariants.{Null}
 use Rattle.volumes.specs.CoreDrive.{DriveState}

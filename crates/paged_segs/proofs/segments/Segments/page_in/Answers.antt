@@ -1,9 +1,8 @@
-use Rattle.std.proofs.Common.{◌≡◌, ℕ, ◌+◌, ◌<◌, List, ap, ◌∙◌, rules, subst, arith, slice_set, Some, length}
+use Rattle.std.proofs.Common.{◌≡◌, ◌+◌, ◌<◌, List, ap, ◌∙◌, rules, subst, arith, slice_set, Some, length}
 use Rattle.std.proofs.lemmas.List.{length-set}
 use Rattle.page_control.specs.declared.Home.{Home}
-use Rattle.page_control.specs.Plain.{plain, bindings, record_of}
-use Rattle.page_control.specs.Tied.{IsMapOf, map_at}
-use Rattle.paged_segs.specs.Segs.{Segs, segs_of, pages_of, plan_of, home_at, table_at}
+use Rattle.page_control.specs.Plain.{plain, bindings}
+use Rattle.paged_segs.specs.Segs.{Segs, segs_of, pages_of, home_at}
 use Rattle.paged_segs.specs.Effects.{HasSizes}
 use Rattle.paged_segs.proofs.Paging.{table_read, kept_read, binding_read, sizes_read}
 use Rattle.paged_segs.proofs.segments.Segments.page_in.Goals as goal
