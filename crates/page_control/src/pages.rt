@@ -74,6 +74,13 @@ impl<D: Drive> Pages<D> {
         &self.volumes
     }
 
+    /// The volumes, once the frames are given up. (Source: own.)
+    pub fn into_volumes(self) -> Volumes<D>
+        ensures { result ≡ self.volumes }
+    {
+        self.volumes
+    }
+
     /// Whether all words of frame `f` are 0. It reads words up to the first that isn't. (Source: own.)
     pub fn is_zero(&self, f: u32) -> bool
         requires { f < length self.now.core.frames }

@@ -1,0 +1,187 @@
+-- What becomes of the counts of each volume.
+use Rattle.std.proofs.Common.{◌≡◌, ◌≢◌, ℕ, ◌+◌, ◌-◌, ◌<◌, ◌≤◌, Bool, true, false, cond, eqb, List, [], ◌∷◌, length, Option, Some, None, is_some, refl, sym, ap, ◌∙◌, arith, inl, inr, get_or, set, map, sum, sum_by, count_by}
+use Rattle.std.proofs.lemmas.Bool.Decides.{eqb_tells, leb_tells}
+use Rattle.std.proofs.lemmas.List.{get_or-set_same, get_or-set_other, length-set, set_past}
+use Rattle.std.proofs.lemmas.List.Sums.{sum_by-cons, sum_by-set, sum-map, count_by-le-length}
+use Rattle.std.proofs.Math.ListN.{get_or-map}
+use Rattle.std.proofs.Math.Seq.{map-set_same}
+use Rattle.bitmap.specs.Bitmap.{in_use}
+use Rattle.bitmap.proofs.BitLemmas.{count_with, count_without}
+use Rattle.vtoc.specs.Vtoc.{Entry, entry_at, with_record}
+use Rattle.page_control.specs.Tied.{flags_in, vtoc_in}
+use Rattle.page_control.specs.Plain.{Plain}
+use Rattle.page_control.specs.declared.Home.{Home}
+use Rattle.page_control.specs.declared.Left.{Left}
+use Rattle.page_control.specs.declared.Left.TheVariants.{Released, Kept}
+use Rattle.page_control.specs.Effects.{evicted, created, brought_in}
+use Rattle.page_control.proofs.Facts.{used_within}
+use Rattle.page_control.proofs.Places.{put, list_within, refile}
+use Rattle.paged_segs.specs.Counts.{taken, used, one_more, one_less}
+use Rattle.paged_segs.specs.Effects.{HasSizes}
+
+-- what the counts are told by
+pub record KeepsCounts (old new : Plain) : Type 0 where
+  pub used : map (count_by is_some) new.vtocs ≡ map (count_by is_some) old.vtocs
+  pub places : map (length {A = Option Entry}) new.vtocs ≡ map length old.vtocs
+  pub flags : map (length {A = Bool}) new.records ≡ map length old.records
+  pub volumes : length new.disks ≡ length old.disks
+  pub frames : length new.core.frames ≡ length old.core.frames
+
+-- a count for each volume is told by the list of all
+pub by_list : {X : Type 0} (f : List X → ℕ) (xs ys : List (List X)) → map f xs ≡ map f ys → (v : ℕ) → f (get_or xs v []) ≡ f (get_or ys v [])
+by_list f xs ys same v = sym (get_or-map f xs v []) ∙ ap (λ (counts : List ℕ). get_or counts v (f [])) same ∙ get_or-map f ys v []
+
+pub by_sum : {X : Type 0} (f : List X → ℕ) (xs ys : List (List X)) → map f xs ≡ map f ys → sum_by f xs ≡ sum_by f ys
+by_sum f xs ys same = sym (sum-map f xs) ∙ ap sum same ∙ sum-map f ys
+
+pub used_same : (old new : Plain) → KeepsCounts old new → used new.vtocs ≡ used old.vtocs
+used_same old new k = λ i. λ v. by_list (count_by is_some) new.vtocs old.vtocs k.used v i
+
+pub used_sum : (old new : Plain) → KeepsCounts old new → sum_by (count_by is_some) new.vtocs ≡ sum_by (count_by is_some) old.vtocs
+used_sum old new k = by_sum (count_by is_some) new.vtocs old.vtocs k.used
+
+pub places_sum : (old new : Plain) → KeepsCounts old new → sum_by (length {A = Option Entry}) new.vtocs ≡ sum_by length old.vtocs
+places_sum old new k = by_sum (length {A = Option Entry}) new.vtocs old.vtocs k.places
+
+pub size_at : (old new : Plain) → KeepsCounts old new → (v : ℕ) → length (flags_in new.records v) ≡ length (flags_in old.records v)
+size_at old new k v = by_list (length {A = Bool}) new.records old.records k.flags v
+
+pub sizes : (old new : Plain) → KeepsCounts old new → HasSizes old new
+sizes old new k = record {
+  volumes = k.volumes;
+  records = λ i. λ v. size_at old new k v i;
+  places = λ i. λ v. by_list (length {A = Option Entry}) new.vtocs old.vtocs k.places v i;
+  frames = k.frames;
+}
+
+-- one entry names another record
+some_with : (entry : Option Entry) (p : ℕ) (place : Option ℕ) → is_some (with_record entry p place) ≡ is_some entry
+some_with None p place = refl
+some_with (Some entry) p place = refl
+
+count_set : (table : List (Option Entry)) (e : ℕ) (x : Option Entry) → is_some x ≡ is_some (entry_at table e) → count_by is_some (set table e x) ≡ count_by is_some table
+count_set table e x same = elim (leb_tells (length table) e) [
+  | inl past ↦ ap (count_by is_some) (set_past table e x past.1)
+  | inr lt ↦ (let all = sum_by-set (λ (y : Option Entry). cond {A = ℕ} (is_some y) 1 0) table e x None lt.1 in
+      let both : cond {A = ℕ} (is_some x) 1 0 ≡ cond (is_some (entry_at table e)) 1 0 = ap (λ (b : Bool). cond {A = ℕ} b 1 0) same in
+      omega (arith, all, both))
+]
+
+pub used_refiled : (vtocs : List (List (Option Entry))) (home : Home) (p : ℕ) (place : Option ℕ) → map (count_by is_some) (refile vtocs home p place) ≡ map (count_by is_some) vtocs
+used_refiled vtocs home p place =
+    map-set_same (count_by is_some) vtocs home.volume _ [] (count_set (vtoc_in vtocs home.volume) home.entry _ (some_with (entry_at (vtoc_in vtocs home.volume) home.entry) p place))
+
+pub places_refiled : (vtocs : List (List (Option Entry))) (home : Home) (p : ℕ) (place : Option ℕ) → map (length {A = Option Entry}) (refile vtocs home p place) ≡ map length vtocs
+places_refiled vtocs home p place =
+    map-set_same (length {A = Option Entry}) vtocs home.volume _ [] (length-set (vtoc_in vtocs home.volume) home.entry (with_record (entry_at (vtoc_in vtocs home.volume) home.entry) p place))
+
+pub flags_put : (records : List (List Bool)) (v r : ℕ) (flag : Bool) → map (length {A = Bool}) (put records v r flag) ≡ map length records
+flags_put records v r flag = map-set_same (length {A = Bool}) records v _ [] (length-set (flags_in records v) r flag)
+
+disks_saved : (disks : List (List (List ℕ))) (b : Bool) (v : ℕ) (pages : List (List ℕ)) → length (cond b (set disks v pages) disks) ≡ length disks
+disks_saved disks true v pages = length-set disks v pages
+disks_saved disks false v pages = refl
+
+-- a page that left its frame, one that was read and one that was created
+pub counts_evicted : (s now : Plain) (home : Home) (p f : ℕ) (left : Left) → now ≡ evicted s home p f left → KeepsCounts s now
+counts_evicted s now home p f Released is = rw is (record {
+  used = used_refiled s.vtocs home p None;
+  places = places_refiled s.vtocs home p None;
+  flags = flags_put s.records home.volume _ false;
+  volumes = refl;
+  frames = length-set s.core.frames f _;
+})
+counts_evicted s now home p f Kept is = rw is (record {
+  used = refl;
+  places = refl;
+  flags = refl;
+  volumes = disks_saved s.disks _ home.volume _;
+  frames = length-set s.core.frames f _;
+})
+
+pub counts_read : (s now : Plain) (uid p v r f : ℕ) → now ≡ brought_in s uid p v r f → KeepsCounts s now
+counts_read s now uid p v r f is = rw is (record {
+  used = refl;
+  places = refl;
+  flags = refl;
+  volumes = refl;
+  frames = length-set s.core.frames f _;
+})
+
+pub counts_created : (s now : Plain) (uid p : ℕ) (home : Home) (r f at w : ℕ) → now ≡ created s uid p home r f at w → KeepsCounts s now
+counts_created s now uid p home r f at w is = rw is (record {
+  used = used_refiled s.vtocs home p (Some r);
+  places = places_refiled s.vtocs home p (Some r);
+  flags = flags_put s.records home.volume r true;
+  volumes = refl;
+  frames = length-set s.core.frames f _;
+})
+
+-- a count that changes for one volume alone
+pub more_by : (old new : ℕ → ℕ) (v : ℕ) → new v ≡ old v + 1 → ((w : ℕ) → w ≢ v → new w ≡ old w) → new ≡ one_more old v
+unfolding one_more
+more_by old new v here others = λ i. λ w. at w i
+  where
+    at : (w : ℕ) → new w ≡ cond (eqb w v) (old w + 1) (old w)
+    at w = elim (eqb_tells w v) [
+      | inl same ↦ rw (same.0, same.1) here
+      | inr n ↦ rw n.0 (others w n.1)
+    ]
+
+pub less_by : (old new : ℕ → ℕ) (v : ℕ) → new v + 1 ≡ old v → ((w : ℕ) → w ≢ v → new w ≡ old w) → new ≡ one_less old v
+unfolding one_less
+less_by old new v here others = λ i. λ w. at w i
+  where
+    fewer : new v ≡ old v - 1
+    fewer = omega (arith, here)
+
+    at : (w : ℕ) → new w ≡ cond (eqb w v) (old w - 1) (old w)
+    at w = elim (eqb_tells w v) [
+      | inl same ↦ rw (same.0, same.1) fewer
+      | inr n ↦ rw n.0 (others w n.1)
+    ]
+
+pub one_more_here : (count : ℕ → ℕ) (v : ℕ) → one_more count v v ≡ count v + 1
+unfolding one_more
+one_more_here count v = elim (eqb_tells v v) [ inl same ↦ rw same.0 refl | inr n ↦ absurd (n.1 refl) ]
+
+pub one_more_other : (count : ℕ → ℕ) (v w : ℕ) → w ≢ v → one_more count v w ≡ count w
+unfolding one_more
+one_more_other count v w other = elim (eqb_tells w v) [ inl same ↦ absurd (other same.1) | inr n ↦ rw n.0 refl ]
+
+pub one_less_here : (count : ℕ → ℕ) (v : ℕ) → one_less count v v ≡ count v - 1
+unfolding one_less
+one_less_here count v = elim (eqb_tells v v) [ inl same ↦ rw same.0 refl | inr n ↦ absurd (n.1 refl) ]
+
+pub one_less_other : (count : ℕ → ℕ) (v w : ℕ) → w ≢ v → one_less count v w ≡ count w
+unfolding one_less
+one_less_other count v w other = elim (eqb_tells w v) [ inl same ↦ absurd (other same.1) | inr n ↦ rw n.0 refl ]
+
+-- a record is taken into use, and one is given back
+pub taken_more : (records : List (List Bool)) (v r : ℕ) → r < length (flags_in records v) → in_use (flags_in records v) r ≡ false → taken (put records v r true) ≡ one_more (taken records) v
+taken_more records v r rl free =
+    let vl : v < length records = list_within records v r rl in
+    more_by (taken records) (taken (put records v r true)) v
+    (ap (count_by (λ flag. flag)) (get_or-set_same records v (set (flags_in records v) r true) [] vl) ∙ count_with (flags_in records v) r rl free)
+    (λ w n. ap (count_by (λ flag. flag)) (get_or-set_other records v w (set (flags_in records v) r true) [] n))
+
+pub fewer_at : (records : List (List Bool)) (v r : ℕ) → in_use (flags_in records v) r ≡ true → taken (put records v r false) v + 1 ≡ taken records v
+fewer_at records v r is =
+    let rl : r < length (flags_in records v) = used_within (flags_in records v) r is in
+    let vl : v < length records = list_within records v r rl in
+    ap (λ (flags : List Bool). count_by (λ flag. flag) flags + 1) (get_or-set_same records v (set (flags_in records v) r false) [] vl) ∙ count_without (flags_in records v) r rl is
+
+pub taken_less : (records : List (List Bool)) (v r : ℕ) → in_use (flags_in records v) r ≡ true → taken (put records v r false) ≡ one_less (taken records) v
+taken_less records v r is =
+    less_by (taken records) (taken (put records v r false)) v (fewer_at records v r is)
+    (λ w n. ap (count_by (λ flag. flag)) (get_or-set_other records v w (set (flags_in records v) r false) [] n))
+
+-- there are as many used entries as entries at most
+pub used_most : (vtocs : List (List (Option Entry))) → sum_by (count_by is_some) vtocs ≤ sum_by length vtocs
+used_most [] = omega arith
+used_most (table ∷ vtocs) =
+    let ih = used_most vtocs in
+    let one = count_by-le-length is_some table in
+    let some_ = sum_by-cons (count_by is_some) table vtocs in
+    let all = sum_by-cons (length {A = Option Entry}) table vtocs in
+    omega (arith, ih, one, some_, all)

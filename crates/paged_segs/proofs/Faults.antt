@@ -1,0 +1,39 @@
+-- Drives without a line that names a failing call have no faults, so none of their calls fails.
+use Rattle.std.proofs.Common.{◌≡◌, ℕ, zero, suc, Bool, true, false, List, [], ◌∷◌, Option, Some, refl, ap, ◌∙◌, arith, map}
+use Rattle.std.specs.List.{sum_by}
+use Rattle.std.proofs.lemmas.List.Sums.{sum_by-cons}
+use Rattle.std.proofs.lemmas.List.Elements.{All-head, All-tail}
+use Rattle.std.proofs.lemmas.Option.{same_Some}
+use Rattle.site_io.specs.Faults.{Rose}
+use Rattle.volumes.specs.declared.drive.FailLine.{FailLine}
+use Rattle.volumes.specs.FailLine.{named_calls}
+use Rattle.volumes.specs.CoreDrive.{DriveState, faults_of}
+use Rattle.paged_segs.specs.Segs.{plan_of}
+use Rattle.paged_segs.specs.Kept.{NeverFail}
+
+none_named : (write : Bool) (n : ℕ) → named_calls [] write n ≡ 0
+unfolding named_calls
+none_named write zero = refl
+none_named write (suc n) = (let ih = none_named write n in omega (arith, ih))
+
+no_fault : (d : DriveState) → plan_of d ≡ Some [] → faults_of d ≡ 0
+no_fault d sound =
+    let none : d.fails ≡ [] = same_Some d.fails [] sound in
+    let reads : named_calls d.fails false d.reads ≡ 0 = ap (λ (lines : List FailLine). named_calls lines false d.reads) none ∙ none_named false d.reads in
+    let writes : named_calls d.fails true d.writes ≡ 0 = ap (λ (lines : List FailLine). named_calls lines true d.writes) none ∙ none_named true d.writes in
+    omega (arith, reads, writes)
+
+no_faults : (drives : List DriveState) → NeverFail (map plan_of drives) → sum_by faults_of drives ≡ 0
+no_faults [] sound = refl
+no_faults (d ∷ drives) sound =
+    let here : faults_of d ≡ 0 = no_fault d (All-head (λ (plan : Option (List FailLine)). plan ≡ Some []) (plan_of d) (map plan_of drives) sound) in
+    let rest : sum_by faults_of drives ≡ 0 = no_faults drives (All-tail (λ (plan : Option (List FailLine)). plan ≡ Some []) (plan_of d) (map plan_of drives) sound) in
+    let all = sum_by-cons faults_of d drives in
+    omega (arith, here, rest, all)
+
+-- so the count of faults doesn't rise
+pub never_rose : (old mid new : List DriveState) → mid ≡ old → NeverFail (map plan_of old) → map plan_of new ≡ map plan_of mid → Rose (sum_by faults_of mid) (sum_by faults_of new) → ⊥
+never_rose old mid new same sound plans rose =
+    let before : sum_by faults_of mid ≡ 0 = ap (sum_by faults_of) same ∙ no_faults old sound in
+    let after : sum_by faults_of new ≡ 0 = no_faults new (rw (plans, same) sound) in
+    omega (arith, before, after, rose)

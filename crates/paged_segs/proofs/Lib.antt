@@ -1,0 +1,12 @@
+pub mod Faults
+pub mod Moving
+pub mod Counting
+pub mod Located
+pub mod Keeping
+pub mod Emptying
+pub mod Marking
+pub mod Paging
+pub mod Ending
+pub mod Making
+pub mod Beginning
+pub mod Callers

@@ -1,0 +1,137 @@
+-- What is known of a segment, and of the page in a bound frame.
+use Rattle.std.proofs.Common.{◌≡◌, ◌≢◌, ℕ, ◌+◌, ◌-◌, ◌<◌, ◌≤◌, true, false, List, [], length, get_or, replicate, is_some, Option, Some, None, refl, sym, ap, ◌∙◌, arith, subst}
+use Rattle.std.proofs.lemmas.Option.{same_Some}
+use Rattle.std.proofs.lemmas.List.{get_or_default}
+use Rattle.core_map.specs.CoreMap.{Core, frame_at, is_bound, bound_page}
+use Rattle.core_map.specs.declared.Frame.{Frame}
+use Rattle.page_table.specs.declared.Ptw.{Ptw}
+use Rattle.page_table.specs.declared.Ptw.TheVariants.{Null, Out, Here, Leaving}
+use Rattle.page_table.specs.PageTable.{ptw_at}
+use Rattle.vtoc.specs.Vtoc.{Entry}
+use Rattle.page_control.specs.declared.Home.{Home}
+use Rattle.page_control.specs.Plain.{bindings, binding_at, number_in, words_in, disk_of, filed}
+use Rattle.page_control.specs.Picture.{picture, is_stored, words_filed}
+use Rattle.page_control.specs.Tied.{frame_of, has_record, uid_in, uid_at, map_at, IsTableOf, IsHomeOf, IsMapOf}
+use Rattle.page_control.proofs.Facts.{binding_is, bound_to, bound_from_page, here_within}
+use Rattle.page_control.proofs.Callers.{stored_shown, record_shown, words_shown}
+use Rattle.page_control.proofs.Fresh.{uid_of_page}
+use Rattle.page_control.proofs.Ties.{number_of}
+use Rattle.paged_segs.specs.Segs.{Segs, home_at, table_at, word_at}
+use Rattle.paged_segs.specs.Kept.{IsKept}
+use Rattle.paged_segs.proofs.Counting.{used_most}
+
+-- there is a page table for each segment, and one more
+pub homes_within : (s : Segs) → IsKept s → length s.homes < length s.tables
+homes_within s k =
+    let most = used_most s.storage.vtocs in
+    let count = k.used in
+    let places = k.places in
+    omega (arith, most, count, places)
+
+-- two homes that are one are of one segment
+pub one_home : (vtocs : List (List (Option Entry))) (a b : ℕ) (g h : Home) → IsHomeOf vtocs a g → IsHomeOf vtocs b h → g ≡ h → a ≡ b
+one_home vtocs a b g h is its same = same_Some a b (sym is.used ∙ ap (uid_at vtocs) same ∙ its.used)
+
+-- a word that names a frame, and isn't leaving, says that the page is there
+pub here_from : (w : Ptw) (f : ℕ) → frame_of w ≡ Some f → ((g : ℕ) → w ≢ Leaving g) → w ≡ Here f
+here_from Null f is stays = cc
+here_from (Out r) f is stays = cc
+here_from (Here g) f is stays = ap Here (same_Some g f is)
+here_from (Leaving g) f is stays = absurd (stays g refl)
+
+-- the page in a bound frame is that of a segment
+pub record IsPageOf (s : Segs) (f uid p : ℕ) : Type 0 where
+  pub some : 2 ≤ uid
+  pub segment : uid - 2 < length s.homes
+  pub place : uid - 2 < length s.tables
+  pub number : p < 256
+  pub at : binding_at (bindings s.storage.core) f ≡ Some (uid, p)
+  pub here : word_at s (uid - 2) p ≡ Here f
+  pub long : length (table_at s.tables (uid - 2)) ≡ 256
+  pub home : IsHomeOf s.storage.vtocs uid (home_at s.homes (uid - 2))
+  pub volume : (home_at s.homes (uid - 2)).volume < length s.storage.disks
+  pub table : IsTableOf (bindings s.storage.core) uid (table_at s.tables (uid - 2))
+  pub map : IsMapOf (map_at s.storage.vtocs (home_at s.homes (uid - 2))) (table_at s.tables (uid - 2))
+
+pub page_bound : (s : Segs) (f uid p : ℕ) → IsKept s → binding_at (bindings s.storage.core) f ≡ Some (uid, p) → IsPageOf s f uid p
+page_bound s f uid p k at =
+    let some_ : 2 ≤ uid = (k.bound f uid p at).0 in
+    let few : uid < length s.homes + 2 = (k.bound f uid p at).1 in
+    let back : (uid - 2) + 2 ≡ uid = omega (arith, some_) in
+    let segment : uid - 2 < length s.homes = omega (arith, some_, few) in
+    let more = homes_within s k in
+    let place : uid - 2 < length s.tables = omega (arith, segment, more) in
+    let table : IsTableOf (bindings s.storage.core) uid (table_at s.tables (uid - 2)) =
+    subst (λ (n : ℕ). IsTableOf (bindings s.storage.core) n (table_at s.tables (uid - 2))) back (k.tables (uid - 2) segment) in
+    let long : length (table_at s.tables (uid - 2)) ≡ 256 = k.lengths (uid - 2) place in
+    let here : word_at s (uid - 2) p ≡ Here f = here_from (word_at s (uid - 2) p) f (table.named f p at) (λ g. k.stay (uid - 2) p g) in
+    let within = here_within (table_at s.tables (uid - 2)) p f here in
+    record {
+      some = some_;
+      segment = segment;
+      place = place;
+      number = omega (arith, within, long);
+      at = at;
+      here = here;
+      long = long;
+      home = subst (λ (n : ℕ). IsHomeOf s.storage.vtocs n (home_at s.homes (uid - 2))) back (k.homes (uid - 2) segment);
+      volume = k.volumes (uid - 2) segment;
+      table = table;
+      map = k.maps (uid - 2) segment;
+    }
+
+pub page_of_frame : (s : Segs) (f : ℕ) → IsKept s → is_bound (frame_at s.storage.core f) ≡ true → IsPageOf s f (uid_in (frame_at s.storage.core f)) (number_in (frame_at s.storage.core f))
+page_of_frame s f k bound = page_bound s f _ _ k (binding_is s.storage.core f ∙ bound_to (frame_at s.storage.core f) bound)
+
+-- the same in the terms in which a call's steps give it
+pub page_told : (s : Segs) (core : Core) (f : ℕ) (page : ℕ × ℕ) → IsKept s → core ≡ s.storage.core → is_bound (frame_at s.storage.core f) ≡ true
+    → page ≡ (uid_in (frame_at core f), number_in (frame_at core f)) → IsPageOf s f page.0 page.1
+page_told s core f page k same bound is = rw (is, same) (page_of_frame s f k bound)
+
+-- what a word tells of its page
+pub record IsWordOf (s : Segs) (i page : ℕ) (w : Ptw) : Type 0 where
+  pub word : w ≡ word_at s i page
+  pub stays : (f : ℕ) → w ≢ Leaving f
+  pub stored : is_stored s.storage (i + 2) page ≡ has_record w
+  pub null : w ≡ Null → picture s.storage (i + 2) page ≡ replicate 1024 0
+  pub bound : (f : ℕ) → w ≡ Here f → is_bound (frame_at s.storage.core f) ≡ true
+  pub here : (f : ℕ) → w ≡ Here f → binding_at (bindings s.storage.core) f ≡ Some (i + 2, page)
+  pub uid : (f : ℕ) → w ≡ Here f → uid_in (frame_at s.storage.core f) ≡ i + 2
+  pub number : (f : ℕ) → w ≡ Here f → number_in (frame_at s.storage.core f) ≡ page
+  pub words : (f : ℕ) → w ≡ Here f → picture s.storage (i + 2) page ≡ words_in s.storage f
+
+-- the page in a frame that is bound to it
+page_told_by : (frame : Frame) (uid p : ℕ) → bound_page frame ≡ Some (uid, p) → ◌≡◌ {A = Option (ℕ × ℕ)} (Some (uid_in frame, number_in frame)) (Some (uid, p))
+page_told_by frame uid p at = sym (bound_to frame (bound_from_page frame uid p at)) ∙ at
+
+none_from : (place : Option ℕ) (w : Ptw) → is_some place ≡ has_record w → w ≡ Null → place ≡ None
+none_from None w same null = refl
+none_from (Some r) w same null = (let no : has_record w ≡ false = ap has_record null in cc)
+
+pub word_tells : (s : Segs) (i page : ℕ) (w : Ptw) (table : List Ptw) → IsKept s → i < length s.homes → table ≡ get_or s.tables i table → w ≡ ptw_at table page → IsWordOf s i page w
+word_tells s i page w table k il is at =
+    let more = homes_within s k in
+    let place : i < length s.tables = omega (arith, il, more) in
+    let word : w ≡ word_at s i page = at ∙ ap (λ (those : List Ptw). ptw_at those page) (is ∙ get_or_default s.tables i table [] place) in
+    let its : IsTableOf (bindings s.storage.core) (i + 2) (table_at s.tables i) = k.tables i il in
+    let here : (f : ℕ) → w ≡ Here f → binding_at (bindings s.storage.core) f ≡ Some (i + 2, page) = λ f that. its.back f page (ap frame_of (sym word ∙ that)) in
+    record {
+      word = word;
+      stays = λ f that. k.stay i page f (sym word ∙ that);
+      stored = stored_shown s.storage (i + 2) page (home_at s.homes i) (table_at s.tables i) (k.homes i il) (k.maps i il) ∙ sym (ap has_record word);
+      null = λ that. record_shown s.storage (i + 2) page (home_at s.homes i) (table_at s.tables i) (k.homes i il) its (ap frame_of (sym word ∙ that))
+          ∙ ap (words_filed (disk_of s.storage (home_at s.homes i).volume))
+          (none_from (filed s.storage (home_at s.homes i) page) w ((k.maps i il).stored page ∙ sym (ap has_record word)) that);
+      bound = λ f that. bound_from_page (frame_at s.storage.core f) (i + 2) page (sym (binding_is s.storage.core f) ∙ here f that);
+      here = here;
+      uid = λ f that. ap uid_of_page (page_told_by (frame_at s.storage.core f) (i + 2) page (sym (binding_is s.storage.core f) ∙ here f that));
+      number = λ f that. ap number_of (page_told_by (frame_at s.storage.core f) (i + 2) page (sym (binding_is s.storage.core f) ∙ here f that));
+      words = λ f that. words_shown s.storage (i + 2) page f (table_at s.tables i) its (ap frame_of (sym word ∙ that));
+    }
+
+-- a table that was read has 256 words
+pub word_within : (s : Segs) (i : ℕ) (table : List Ptw) → IsKept s → i < length s.homes → table ≡ get_or s.tables i table → length table ≡ 256
+word_within s i table k il is =
+    let more = homes_within s k in
+    let place : i < length s.tables = omega (arith, il, more) in
+    ap length (is ∙ get_or_default s.tables i table [] place) ∙ k.lengths i place

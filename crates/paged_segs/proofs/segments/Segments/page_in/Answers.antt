@@ -1,0 +1,38 @@
+use Rattle.std.proofs.Common.{◌≡◌, ◌+◌, ◌<◌, List, ap, ◌∙◌, rules, subst, arith, slice_set, Some, length}
+use Rattle.std.proofs.lemmas.List.{length-set}
+use Rattle.page_control.specs.declared.Home.{Home}
+use Rattle.page_control.specs.Plain.{plain, bindings}
+use Rattle.paged_segs.specs.Segs.{Segs, segs_of, pages_of, home_at}
+use Rattle.paged_segs.specs.Effects.{HasSizes}
+use Rattle.paged_segs.proofs.Paging.{table_read, kept_read, binding_read, sizes_read}
+use Rattle.paged_segs.proofs.segments.Segments.page_in.Goals as goal
+
+pub bring_in-requires-clause-map : goal.bring_in-requires-clause-map
+bring_in-requires-clause-map c =
+    let s : Segs = segs_of c.self.inside.pages c.self.inside.tables.items c.self.inside.homes.items in
+    let il : c.args.i < length s.homes = search rules in
+    let home : c.home_of-home.result ≡ home_at s.homes c.args.i = c.home_of-home.ensures ∙ ap (λ (homes : List Home). home_at homes c.args.i) c.deref.ensures.value in
+    rw (home, table_read s c.args.i c.index_mut.result.now c.self.invariant.0 il c.index_mut.ensures.value) (c.self.invariant.0.maps c.args.i il)
+
+pub invariant_of-self : goal.invariant_of-self
+invariant_of-self c =
+    let s : Segs = segs_of c.self.inside.pages c.self.inside.tables.items c.self.inside.homes.items in
+    let il : c.args.i < length s.homes = search rules in
+    let home : c.home_of-home.result ≡ home_at s.homes c.args.i = c.home_of-home.ensures ∙ ap (λ (homes : List Home). home_at homes c.args.i) c.deref.ensures.value in
+    let count = length-set c.self.inside.tables.items c.args.i c.bring_in.new.table in
+    let room = c.self.invariant.1 in (
+      kept_read s (plain pages_of c.bring_in.new.pages) _ c.args.i c.args.page _ c.args.f c.home_of-home.result c.index_mut.result.now c.bring_in.new.table c.self.invariant.0 il home
+          (table_read s c.args.i c.index_mut.result.now c.self.invariant.0 il c.index_mut.ensures.value) c.bring_in.ensures.plans c.bring_in.ensures.effect c.bring_in.ensures.word c.bring_in.ensures.table
+          c.bring_in.ensures.map c.bring_in.ensures.clean c.bring_in.ensures.others c.bring_in.ensures.picture,
+      omega (arith, count, room),
+    )
+
+pub returns-clause-binding : goal.returns-clause-binding
+returns-clause-binding c =
+    subst (λ (s : Segs). bindings c.bring_in.new.pages.core ≡ slice_set (bindings s.storage.core) c.args.f (Some (c.args.i + 2, c.args.page))) c.self.view_is
+    (binding_read (plain pages_of c.self.inside.pages) (plain pages_of c.bring_in.new.pages) (c.args.i + 2) c.args.page _ _ c.args.f c.bring_in.ensures.effect)
+
+pub returns-clause-sizes : goal.returns-clause-sizes
+returns-clause-sizes c =
+    subst (λ (s : Segs). HasSizes s.storage (plain pages_of c.bring_in.new.pages)) c.self.view_is
+    (sizes_read (plain pages_of c.self.inside.pages) (plain pages_of c.bring_in.new.pages) (c.args.i + 2) c.args.page _ _ c.args.f c.bring_in.ensures.effect)

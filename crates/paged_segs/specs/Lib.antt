@@ -1,0 +1,9 @@
+pub use Rattle.core_map.specs.CoreMap
+pub use Rattle.core_map.specs.Clock
+pub use Rattle.page_table.specs.PageTable
+pub use Rattle.page_control.specs.Vtoc
+pub use Rattle.page_control.specs.Volumes
+pub mod Segs
+pub mod Counts
+pub mod Kept
+pub mod Effects
