@@ -37,7 +37,7 @@ module _ (nodes : List Node) (es : List Entry) (free : List ℕ) (index : Pairs)
     (is_hash : hash ≡ key_hash s n.name) (pairs : (h p : ℕ) → HasPair index'.pairs h p ↔ (HasPair index.pairs h p ⊎ ((h ≡ hash) × (p ≡ place))))
     (count : length index'.pairs ≡ length index.pairs + 1) (room : index'.room ≡ index.room) where
   abbrev entry : Entry
-  entry = record { uid = next; superior = Some s; place = place }
+  entry = record { uid = next; superior = Some s; place = place; inferiors = 0 }
 
   abbrev es' : List Entry
   es' = es ++ entry ∷ []

@@ -1,6 +1,7 @@
 pub mod AddedLemmas
 pub mod ChangedLemmas
 pub mod ChainLemmas
+pub mod CountLemmas
 pub mod EditLemmas
 pub mod EntryLemmas
 pub mod FindLemmas

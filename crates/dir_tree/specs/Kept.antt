@@ -1,12 +1,12 @@
 -- What always holds of the tables behind a tree.
-use Rattle.std.specs.Prelude.{◌≡◌, ◌≢◌, ℕ, ◌+◌, ◌<◌, ◌≤◌, List, [], ◌∷◌, ◌++◌, length, Option, Some, None, slice_index, slice_index_or, ◌-◌, ◌==◌, if◌then◌else◌}
+use Rattle.std.specs.Prelude.{◌≡◌, ◌≢◌, ℕ, ◌+◌, ◌<◌, ◌≤◌, Bool, false, List, [], ◌∷◌, ◌++◌, length, map, count_by, Option, Some, None, slice_index, slice_index_or, ◌-◌, ◌==◌, if◌then◌else◌}
 use Rattle.dir_tree.specs.declared.node.Node.{Node}
 use Rattle.dir_tree.specs.declared.entries.Entry.{Entry}
 use Rattle.dir_tree.specs.Index.{Pairs, HasPair, key_hash, node_at}
 use Rattle.dir_tree.specs.Shape.{shapes, IsTree}
 
 abbrev pub no_entry : Entry
-no_entry = record { uid = 0; superior = None; place = 0 }
+no_entry = record { uid = 0; superior = None; place = 0; inferiors = 0 }
 
 abbrev pub entry_at : List Entry → ℕ → Entry
 entry_at entries i = slice_index_or entries i no_entry
@@ -21,6 +21,25 @@ pub record HasEntry (entries : List Entry) (uid : ℕ) (e : Entry) : Type 0 wher
   pub within : i < length entries
   pub entry_is : entry_at entries i ≡ e
   pub uid_is : e.uid ≡ uid
+
+-- whether an entry is that of a node in the directory of this uid
+abbrev pub lies_in : ℕ → Entry → Bool
+lies_in u e = is_of u e.superior
+  where
+    is_of : ℕ → Option ℕ → Bool
+    is_of u None = false
+    is_of u (Some s) = s == u
+
+-- each entry has the number of those that lie in it
+abbrev pub IsCounted : List Entry → Type 0
+IsCounted entries = (i : ℕ) → i < length entries → (entry_at entries i).inferiors ≡ count_by (lies_in (entry_at entries i).uid) entries
+
+-- the entries with the number of a uid changed
+abbrev pub recount : ℕ → (ℕ → ℕ) → Entry → Entry
+recount uid change e = record e { inferiors = if e.uid == uid then change e.inferiors else e.inferiors }
+
+abbrev pub recounted : ℕ → (ℕ → ℕ) → List Entry → List Entry
+recounted uid change entries = map (recount uid change) entries
 
 -- the place that the next node gets: the last free one, else behind all others
 abbrev pub place_for : List Node → List ℕ → ℕ

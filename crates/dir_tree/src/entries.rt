@@ -2,7 +2,7 @@
 
 ghost use Rattle.std.specs.Prelude.{◌≡◌, ◌≢◌, ℕ, ◌<◌, ◌≤◌, ◌+◌, ◌-◌, [], length, true, IsTrue, ◌↔◌, take, if◌then◌else◌, ◌==◌, Option, IfOk, IfErr, IfSome, IfNone, Some, slice_index, vec_len, vec_capacity, ◌^◌};
 ghost use Rattle.dir_tree.specs.Index.{node_at};
-ghost use Rattle.dir_tree.specs.Kept.{entry_at, place_for, HasEntry, IsAscending};
+ghost use Rattle.dir_tree.specs.Kept.{entry_at, place_for, recounted, HasEntry, IsAscending, IsCounted};
 
 use crate::node::Node;
 
@@ -15,6 +15,8 @@ pub(crate) struct Entry {
     pub superior: Option<u32>,
     /// The node's place.
     pub place: u32,
+    /// How many nodes lie in it.
+    pub inferiors: u32,
 }
 
 /// Where the entry of `uid` stands, or where it would.
@@ -62,9 +64,34 @@ pub(crate) fn place_of(entries: &[Entry], uid: u32) -> u32
 
 /// Whether some entry has this superior.
 pub(crate) fn has_inferior(entries: &[Entry], uid: u32) -> bool
+    requires rising { IsAscending entries.now }
+    requires there { (i : ℕ) × (i < length entries.now) × ((entry_at entries.now i).uid ≡ uid) }
+    requires counted { IsCounted entries.now }
     ensures { IsTrue result ↔ ((i : ℕ) × (i < length entries.now) × ((entry_at entries.now i).superior ≡ Some uid)) }
 {
-    entries.iter().any(|entry| entry.superior == Some(uid))
+    entries[position_of(entries, uid)].inferiors > 0
+}
+
+/// Counts one more inferior of `uid`.
+pub(crate) fn gain(entries: &mut [Entry], uid: u32)
+    requires rising { IsAscending entries.old }
+    requires there { (i : ℕ) × (i < length entries.old) × ((entry_at entries.old i).uid ≡ uid) }
+    requires room { (i : ℕ) → i < length entries.old → (entry_at entries.old i).inferiors + 1 < 2 ^ 32 }
+    ensures { entries.new ≡ recounted uid (λ n. n + 1) entries.old }
+{
+    let at = position_of(entries, uid);
+    entries[at].inferiors += 1;
+}
+
+/// Counts one inferior of `uid` less.
+pub(crate) fn lose(entries: &mut [Entry], uid: u32)
+    requires rising { IsAscending entries.old }
+    requires there { (i : ℕ) × (i < length entries.old) × ((entry_at entries.old i).uid ≡ uid) }
+    requires some { (i : ℕ) → i < length entries.old → (entry_at entries.old i).uid ≡ uid → 0 < (entry_at entries.old i).inferiors }
+    ensures { entries.new ≡ recounted uid (λ n. n - 1) entries.old }
+{
+    let at = position_of(entries, uid);
+    entries[at].inferiors -= 1;
 }
 
 /// Puts a node into a free place, or behind all others.

@@ -1,13 +1,14 @@
 //! The directory tree: directories and segments, each a branch of one directory, down from one root (Bensoussan,
 //! Clingen and Daley 1972; Organick 1972). The limits of 4096 branches and eight directories below the root are own.
 //!
-//! Costs: `new` takes all memory, once: room for 4097 nodes, an entry of 16 bytes for each by uid, and one for each
+//! Costs: `new` takes all memory, once: room for 4097 nodes, an entry of 20 bytes for each by uid, and one for each
 //! by superior and name. A look-up by uid halves the list of uids: at most 13 looks. A look-up by superior and name
 //! halves the list of hashes, and then compares the names whose hashes are alike. `walk` makes one such look-up for
 //! each name. `superiors`, `chain` and the test of depth look one uid up for each directory above, of which there are
-//! at most 9. `add_branch` writes one node and one entry, and moves up a part of the list of hashes. `remove` and
-//! `may_remove` go once through the entries, which are compact, for an inferior; `remove` moves down a part of both
-//! lists, and no node: the place of the node is free from then on. None but `new` takes memory.
+//! at most 9. Each entry counts the nodes that lie in its own, so `may_remove` makes one look-up by uid. `add_branch`
+//! writes one node and one entry, counts it in the entry of its superior, and moves up a part of the list of hashes.
+//! `remove` takes it from that count, and moves down a part of both lists, and no node: the place of the node is free
+//! from then on. None but `new` takes memory.
 #![tactic(auto)]
 
 ghost use Rattle.std.specs.Prelude.{◌≡◌, ◌≢◌, ◌<◌, ◌≤◌, ◌^◌, ◌+◌, ℕ, Bool, ◌&&◌, nat_le, is_some, true, false, ◌↔◌, Some, None, IsErr, length, IfOk, IfSome, IfNone, OnOk, OnErr};
@@ -57,13 +58,13 @@ pub struct Tree {
 impl Model for Tree {
     ghost use Rattle.std.specs.Prelude.{◌≤◌, vec_capacity};
     ghost use Rattle.dir_tree.specs.Nodes.{Branches};
-    ghost use Rattle.dir_tree.specs.Kept.{newest, IsKept};
+    ghost use Rattle.dir_tree.specs.Kept.{newest, IsCounted, IsKept};
 
     ghost Value = { Branches };
 
     ghost view = { λ t. record { nodes = newest t.nodes.items t.entries.items; next = t.next } };
 
-    ghost invariant = { λ t. IsKept t.nodes.items t.entries.items t.free.items t.index t.next × (4097 ≤ vec_capacity t.nodes) × (4097 ≤ vec_capacity t.entries) × (4097 ≤ vec_capacity t.free) };
+    ghost invariant = { λ t. IsKept t.nodes.items t.entries.items t.free.items t.index t.next × (4097 ≤ vec_capacity t.nodes) × (4097 ≤ vec_capacity t.entries) × (4097 ≤ vec_capacity t.free) × IsCounted t.entries.items };
 }
 
 impl From<AllocError> for NoMemory {
@@ -98,6 +99,7 @@ impl Tree {
             uid: ROOT,
             superior: None,
             place: 0,
+            inferiors: 0,
         });
         Ok(Tree {
             nodes,
@@ -294,7 +296,9 @@ impl Tree {
             uid,
             superior: Some(superior),
             place,
+            inferiors: 0,
         });
+        entries::gain(&mut self.entries, superior);
         self.next = uid + 1;
     }
 
@@ -350,6 +354,7 @@ impl Tree {
         };
         let hash = key_hash(superior, &self.nodes[place as usize].name);
         self.index.remove(hash, place);
+        entries::lose(&mut self.entries, superior);
         self.free.push_reserved(place);
     }
 

@@ -12,7 +12,7 @@ place_of-place-requires-clause-there c =
 pub invariant_of-self-lent : goal.invariant_of-self-lent
 invariant_of-self-lent c w =
     let set = set_kept c.self.inside.nodes.items c.self.inside.entries.items c.self.inside.free.items c.self.inside.index c.self.inside.next c.self.invariant.0 c.args.uid c.place_of-place.result (rw c.deref.ensures.value at c.place_of-place.ensures) (λ n. record n { acl = w }) (λ n. refl) c.index_mut-node.result.now c.index_mut-node.ensures.value in
-    (set.0, c.self.invariant.1, c.self.invariant.2, c.self.invariant.3)
+    (set.0, c.self.invariant.1, c.self.invariant.2, c.self.invariant.3, c.self.invariant.4)
 
 pub returns : goal.returns
 returns c = (

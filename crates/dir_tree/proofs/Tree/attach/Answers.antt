@@ -1,18 +1,22 @@
-use Rattle.std.proofs.Common.{◌≡◌, ◌+◌, ◌<◌, ℕ, List, Bool, length, true, None, Some, refl, sym, ap, subst, arith}
+use Rattle.std.proofs.Common.{◌≡◌, ◌+◌, ◌<◌, ℕ, List, [], ◌∷◌, ◌++◌, Bool, length, take, drop, true, None, Some, refl, sym, ap, subst, ◌∙◌, arith}
 use Rattle.std.proofs.lemmas.List.{length-map}
 use Rattle.dir_tree.specs.declared.node.Node.{Node}
 use Rattle.dir_tree.specs.declared.node.NewNode.{NewNode}
 use Rattle.dir_tree.specs.declared.entries.Entry.{Entry}
 use Rattle.dir_tree.specs.Nodes.{Branches, is_directory, add_fault_of}
 use Rattle.dir_tree.specs.Shape.{shape, shapes}
-use Rattle.dir_tree.specs.Kept.{newest}
+use Rattle.dir_tree.specs.Kept.{newest, recounted, IsCounted, IsKept}
 use Rattle.dir_tree.proofs.AddedLemmas.{no_pair, kept_added, view_added}
+use Rattle.dir_tree.proofs.CountLemmas.{seamed, superior_there, pushed_few, counted_with, length_recounted, newest_recounted, kept_recounted}
 use Rattle.dir_tree.proofs.KeptLemmas.{no_fault}
 use Rattle.dir_tree.proofs.NewestLemmas.{length_newest}
 use Rattle.dir_tree.proofs.Tree.attach.Goals as goal
 
 abbrev new_node : ℕ → ℕ → NewNode → Node
 new_node next superior new = record { uid = next; superior = Some superior; name = new.name; dir = new.dir; volume = new.volume; entry = new.entry; length = new.length; acl = new.acl }
+
+abbrev new_entry : ℕ → ℕ → ℕ → Entry
+new_entry next superior place = record { uid = next; superior = Some superior; place = place; inferiors = 0 }
 
 directory_at : (u : ℕ) {s t : Branches} → s ≡ t → is_directory t.nodes u ≡ true → is_directory s.nodes u ≡ true
 directory_at u {s} {t} e h = subst (λ (x : Branches). is_directory x.nodes u ≡ true) (sym e) h
@@ -44,16 +48,37 @@ push_reserved-requires c =
     let lt = few c.self.inside.nodes.items c.self.inside.entries.items c.args.superior c.args.new.name c.args.new.dir (may_at c.args.superior c.args.new.name c.args.new.dir c.self.view_is c.requires.may) in
     omega (arith, c.self.invariant.2, c.self.inside.entries.ok.0)
 
+pub gain-requires-clause-there : goal.gain-requires-clause-there
+gain-requires-clause-there c =
+    rw (c.deref_mut.ensures.value, c.push_reserved.ensures.items) (superior_there c.self.inside.nodes.items c.self.inside.entries.items c.self.inside.free.items c.self.inside.index c.self.inside.next c.self.invariant.0 c.args.superior (directory_at c.args.superior c.self.view_is c.requires.directory) _)
+
+pub gain-requires-clause-room : goal.gain-requires-clause-room
+gain-requires-clause-room c =
+    let lt = few c.self.inside.nodes.items c.self.inside.entries.items c.args.superior c.args.new.name c.args.new.dir (may_at c.args.superior c.args.new.name c.args.new.dir c.self.view_is c.requires.may) in
+    rw (c.deref_mut.ensures.value, c.push_reserved.ensures.items) (pushed_few c.self.inside.entries.items _ c.self.invariant.4 (omega (arith, lt)) refl)
+
 pub invariant_of-self : goal.invariant_of-self
-invariant_of-self c = (
-  rw c.push_reserved.ensures.items (kept_added c.self.inside.nodes.items c.self.inside.entries.items c.self.inside.free.items c.self.inside.index c.self.inside.next c.self.invariant.0 c.args.superior (new_node c.self.inside.next c.args.superior c.args.new) c.store-place.new.nodes.items c.store-place.new.free.items c.insert.new.self c.store-place.result c.key_hash-hash.result
-      refl refl (directory_at c.args.superior c.self.view_is c.requires.directory) (may_at c.args.superior c.args.new.name c.args.new.dir c.self.view_is c.requires.may) c.store-place.ensures.place c.store-place.ensures.here c.store-place.ensures.others c.store-place.ensures.rest c.store-place.ensures.count c.key_hash-hash.ensures c.insert.ensures.pairs c.insert.ensures.count c.insert.ensures.room),
-  omega (arith, c.self.invariant.1, c.store-place.ensures.nodes_room),
-  omega (arith, c.self.invariant.2, c.push_reserved.ensures.capacity),
-  omega (arith, c.self.invariant.3, c.store-place.ensures.free_room),
-)
+invariant_of-self c =
+    let more : List Entry = c.self.inside.entries.items ++ new_entry c.self.inside.next c.args.superior c.store-place.result ∷ [] in
+    let gained : c.gain.new.entries ≡ recounted c.args.superior (λ n. n + 1) more = rw (c.deref_mut.ensures.value, c.push_reserved.ensures.items) at c.gain.ensures in
+    let len : c.push_reserved.new.self.len ≡ length c.push_reserved.new.self.items = omega (arith, c.push_reserved.new.self.ok.0) in
+    let seam : take c.push_reserved.new.self.len (c.gain.new.entries ++ drop (length c.gain.new.entries) more) ≡ recounted c.args.superior (λ n. n + 1) more = seamed c.gain.new.entries more _ c.push_reserved.new.self.len gained (length_recounted c.args.superior (λ n. n + 1) more) (len ∙ ap (λ (xs : List Entry). length xs) c.push_reserved.ensures.items) in
+    let kept : IsKept c.store-place.new.nodes.items more c.store-place.new.free.items c.insert.new.self (c.self.inside.next + 1) = kept_added c.self.inside.nodes.items c.self.inside.entries.items c.self.inside.free.items c.self.inside.index c.self.inside.next c.self.invariant.0 c.args.superior (new_node c.self.inside.next c.args.superior c.args.new) c.store-place.new.nodes.items c.store-place.new.free.items c.insert.new.self c.store-place.result c.key_hash-hash.result
+    refl refl (directory_at c.args.superior c.self.view_is c.requires.directory) (may_at c.args.superior c.args.new.name c.args.new.dir c.self.view_is c.requires.may) c.store-place.ensures.place c.store-place.ensures.here c.store-place.ensures.others c.store-place.ensures.rest c.store-place.ensures.count c.key_hash-hash.ensures c.insert.ensures.pairs c.insert.ensures.count c.insert.ensures.room in
+    let counted : IsCounted (recounted c.args.superior (λ n. n + 1) more) = counted_with c.self.inside.nodes.items c.self.inside.entries.items c.self.inside.free.items c.self.inside.index c.self.inside.next c.self.invariant.0 c.self.invariant.4 c.args.superior (directory_at c.args.superior c.self.view_is c.requires.directory) (new_entry c.self.inside.next c.args.superior c.store-place.result) refl refl refl in (
+      rw (c.push_reserved.ensures.items, seam) (kept_recounted c.args.superior (λ n. n + 1) c.store-place.new.nodes.items more c.store-place.new.free.items c.insert.new.self (c.self.inside.next + 1) kept),
+      omega (arith, c.self.invariant.1, c.store-place.ensures.nodes_room),
+      omega (arith, c.self.invariant.2, c.push_reserved.ensures.capacity),
+      omega (arith, c.self.invariant.3, c.store-place.ensures.free_room),
+      rw (c.push_reserved.ensures.items, seam) counted,
+    )
 
 pub returns : goal.returns
 returns c =
-    rw (← c.self.view_is) (ap (λ (ns : List Node). record { nodes = ns; next = c.self.inside.next + 1 }) (rw c.push_reserved.ensures.items (view_added c.self.inside.nodes.items c.self.inside.entries.items c.self.inside.free.items c.self.inside.index c.self.inside.next c.self.invariant.0 c.args.superior (new_node c.self.inside.next c.args.superior c.args.new) c.store-place.new.nodes.items c.store-place.new.free.items c.insert.new.self c.store-place.result c.key_hash-hash.result
-    refl refl (directory_at c.args.superior c.self.view_is c.requires.directory) (may_at c.args.superior c.args.new.name c.args.new.dir c.self.view_is c.requires.may) c.store-place.ensures.place c.store-place.ensures.here c.store-place.ensures.others c.store-place.ensures.rest c.store-place.ensures.count c.key_hash-hash.ensures c.insert.ensures.pairs c.insert.ensures.count c.insert.ensures.room)))
+    let more : List Entry = c.self.inside.entries.items ++ new_entry c.self.inside.next c.args.superior c.store-place.result ∷ [] in
+    let gained : c.gain.new.entries ≡ recounted c.args.superior (λ n. n + 1) more = rw (c.deref_mut.ensures.value, c.push_reserved.ensures.items) at c.gain.ensures in
+    let len : c.push_reserved.new.self.len ≡ length c.push_reserved.new.self.items = omega (arith, c.push_reserved.new.self.ok.0) in
+    let seam : take c.push_reserved.new.self.len (c.gain.new.entries ++ drop (length c.gain.new.entries) more) ≡ recounted c.args.superior (λ n. n + 1) more = seamed c.gain.new.entries more _ c.push_reserved.new.self.len gained (length_recounted c.args.superior (λ n. n + 1) more) (len ∙ ap (λ (xs : List Entry). length xs) c.push_reserved.ensures.items) in
+    let view = view_added c.self.inside.nodes.items c.self.inside.entries.items c.self.inside.free.items c.self.inside.index c.self.inside.next c.self.invariant.0 c.args.superior (new_node c.self.inside.next c.args.superior c.args.new) c.store-place.new.nodes.items c.store-place.new.free.items c.insert.new.self c.store-place.result c.key_hash-hash.result
+    refl refl (directory_at c.args.superior c.self.view_is c.requires.directory) (may_at c.args.superior c.args.new.name c.args.new.dir c.self.view_is c.requires.may) c.store-place.ensures.place c.store-place.ensures.here c.store-place.ensures.others c.store-place.ensures.rest c.store-place.ensures.count c.key_hash-hash.ensures c.insert.ensures.pairs c.insert.ensures.count c.insert.ensures.room in
+    rw (← c.self.view_is) (ap (λ (ns : List Node). record { nodes = ns; next = c.self.inside.next + 1 }) (rw (c.push_reserved.ensures.items, seam) (newest_recounted c.args.superior (λ n. n + 1) c.store-place.new.nodes.items more ∙ view)))

@@ -1,11 +1,15 @@
-use Rattle.std.proofs.Common.{◌≡◌, ◌≢◌, ℕ, ◌<◌, length, true, false, Some, refl, ◌∙◌}
+use Rattle.std.proofs.Common.{◌≡◌, ◌≢◌, ℕ, ◌<◌, length, true, false, Some, refl, sym, subst, ◌∙◌}
 use Rattle.std.proofs.lemmas.Bool.{both_ways}
-use Rattle.dir_tree.specs.Nodes.{has_inferior}
+use Rattle.dir_tree.specs.Nodes.{Branches, is_in, has_inferior}
 use Rattle.dir_tree.specs.Shape.{shapes}
 use Rattle.dir_tree.specs.Kept.{newest, entry_at}
-use Rattle.dir_tree.proofs.KeptLemmas.{inferior_since, no_inferior}
+use Rattle.dir_tree.proofs.KeptLemmas.{entry_present, inferior_since, no_inferior}
 use Rattle.dir_tree.proofs.QuotaLemmas.{inferior_any}
 use Rattle.dir_tree.proofs.Tree.may_remove.Goals as goal
+
+pub has_inferior-requires-clause-there : goal.has_inferior-requires-clause-there
+has_inferior-requires-clause-there c =
+    rw c.deref.ensures.value (entry_present c.self.inside.nodes.items c.self.inside.entries.items c.self.inside.free.items c.self.inside.index c.self.inside.next c.self.invariant.0 c.args.uid (subst (λ (t : Branches). is_in t.nodes c.args.uid ≡ true) (sym c.self.view_is) c.requires.there))
 
 pub returns-then-has_inferior : goal.returns-then-has_inferior
 returns-then-has_inferior c quota =

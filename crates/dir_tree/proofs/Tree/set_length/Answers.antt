@@ -12,7 +12,7 @@ place_of-place-requires-clause-there c =
 pub invariant_of-self : goal.invariant_of-self
 invariant_of-self c =
     let set = set_kept c.self.inside.nodes.items c.self.inside.entries.items c.self.inside.free.items c.self.inside.index c.self.inside.next c.self.invariant.0 c.args.uid c.place_of-place.result (rw c.deref.ensures.value at c.place_of-place.ensures) (λ n. record n { length = c.args.pages }) (λ n. refl) c.index_mut.result.now c.index_mut.ensures.value in
-    (set.0, c.self.invariant.1, c.self.invariant.2, c.self.invariant.3)
+    (set.0, c.self.invariant.1, c.self.invariant.2, c.self.invariant.3, c.self.invariant.4)
 
 pub returns : goal.returns
 returns c =
