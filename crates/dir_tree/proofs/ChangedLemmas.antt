@@ -1,6 +1,6 @@
 -- What a change of a node, which keeps its shape, leaves of the tables behind a tree.
 use Rattle.std.proofs.Common.{◌≡◌, ◌≢◌, ℕ, suc, ◌<◌, [], ◌∷◌, ◌++◌, arith, eqb, if◌then◌else◌, List, length, Some, refl, sym, ap, subst, ◌∙◌, get_or, set, inl, inr}
-use Rattle.std.proofs.lemmas.Bool.{cases_eq, eq-eqb}
+use Rattle.std.proofs.lemmas.Bool.{cases_Bool, cases_eq, eq-eqb}
 use Rattle.std.proofs.lemmas.List.{get_or-set_same, get_or-set_other, length-set, map-append, get_or_read}
 use Rattle.storage_terms.specs.Tree.{Node as Term}
 use Rattle.dir_tree.specs.declared.node.Node.{Node}
@@ -81,3 +81,11 @@ acl_read nodes es free index next k uid place at x read =
     let entry : HasEntry es uid (entry_at es at.0) = record { i = at.0; within = at.1; entry_is = refl; uid_is = at.2 } in
     let found : node_of (newest nodes es) uid ≡ Some x = node_read nodes es free index next k uid (entry_at es at.0) entry x (subst (λ q. x ≡ get_or nodes q x) (sym at.3) read) in
     rw found refl
+
+-- a change of nodes that keeps their shapes
+pub shapes_changed : (u : ℕ) (h : Node → Node) → ((n : Node) → shape (h n) ≡ shape n) → (ns : List Node) → shapes (with_changed u h ns) ≡ shapes ns
+shapes_changed u h keeps [] = refl
+shapes_changed u h keeps (n ∷ ns) = elim (cases_Bool (eqb n.uid u)) [
+  | inl is ↦ rw (is, keeps n, shapes_changed u h keeps ns) refl
+  | inr isnt ↦ rw (isnt, shapes_changed u h keeps ns) refl
+]

@@ -1,6 +1,6 @@
 -- What holds of every tree. It speaks of uids, superiors, names and kinds alone, so no change of a length, a home or
 -- an access control list touches it.
-use Rattle.std.specs.Prelude.{◌≡◌, ◌≢◌, ℕ, ◌<◌, ◌≤◌, true, false, is_some, List, [], ◌∷◌, length, map, Option, Some, None}
+use Rattle.std.specs.Prelude.{◌≡◌, ◌≢◌, ◌==◌, ℕ, ◌<◌, ◌≤◌, Bool, not, if◌then◌else◌, true, false, is_some, List, [], ◌∷◌, length, map, Option, Some, None}
 use Rattle.storage_terms.specs.Tree.{Node as Term, above, branch_in, has_directory, node_in}
 use Rattle.dir_tree.specs.declared.node.Node.{Node}
 
@@ -10,6 +10,11 @@ shape n = record { uid = n.uid; superior = n.superior; name = n.name; directory 
 
 abbrev pub shapes : List Node → List Term
 shapes nodes = map shape nodes
+
+-- whether a uid is that of a segment
+abbrev pub has_segment : List Term → ℕ → Bool
+has_segment [] u = false
+has_segment (n ∷ ns) u = if n.uid == u then not n.directory else has_segment ns u
 
 -- each uid is below this one
 abbrev pub AreBelow : ℕ → List Term → Type 0

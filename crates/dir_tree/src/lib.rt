@@ -11,10 +11,11 @@
 //! from then on. None but `new` takes memory.
 #![tactic(auto)]
 
-ghost use Rattle.std.specs.Prelude.{◌≡◌, ◌≢◌, ◌<◌, ◌≤◌, ◌^◌, ◌+◌, ℕ, Bool, ◌&&◌, nat_le, is_some, true, false, ◌↔◌, Some, None, IsErr, length, IfOk, IfSome, IfNone, OnOk, OnErr};
+ghost use Rattle.std.specs.Prelude.{◌≡◌, ◌≢◌, ◌<◌, ◌≤◌, ◌^◌, ◌+◌, ℕ, Bool, ◌&&◌, nat_le, is_some, true, false, ◌↔◌, List, Some, None, IsErr, length, IfOk, IfSome, IfNone, OnOk, OnErr};
+ghost use Rattle.storage_terms.specs.Access.{Row};
 ghost use Rattle.storage_terms.specs.Tree.{above, branch_in, walk_in, step_up};
 ghost use Rattle.std.specs.Borrow.{sem};
-ghost use Rattle.dir_tree.specs.Nodes.{acl_of, with_quotas, node_of, is_in, is_directory, is_segment, root_alone, path_answer, add_fault_of, unless, added, removed, has_inferior, with_length, with_home, chain_of};
+ghost use Rattle.dir_tree.specs.Nodes.{acl_of, with_quotas, node_of, is_in, is_directory, is_segment, root_alone, path_answer, add_fault_of, unless, added, removed, has_inferior, with_length, with_home, with_acl, chain_of};
 ghost use Rattle.dir_tree.specs.Shape.{shape, shapes, IsTree, HasChains};
 
 mod entries;
@@ -361,7 +362,8 @@ impl Tree {
     /// Sets the length of a segment, in pages.
     pub fn set_length(&mut self, uid: u32, pages: u32)
         requires { is_segment self.old.nodes uid ≡ true }
-        ensures { self.new ≡ with_length self.old uid pages }
+        ensures tree { self.new ≡ with_length self.old uid pages }
+        ensures shapes { shapes self.new.nodes ≡ shapes self.old.nodes }
     {
         let place = entries::place_of(&self.entries, uid);
         self.nodes[place as usize].length = pages;
@@ -372,6 +374,7 @@ impl Tree {
         requires { is_segment self.old.nodes uid ≡ true }
         ensures* writes_back { sem 𝓛 (LendsAcl self.entry uid result) }
         ensures value { result.now ≡ acl_of self.old.nodes uid }
+        ensures shapes { (rows : List Row) → shapes (with_acl self.old uid rows).nodes ≡ shapes self.old.nodes }
     {
         let place = entries::place_of(&self.entries, uid);
         let node = &mut self.nodes[place as usize];
@@ -381,7 +384,8 @@ impl Tree {
     /// Sets the home of a segment: its volume, and its entry in the VTOC of that volume.
     pub fn set_home(&mut self, uid: u32, volume: u32, entry: u32)
         requires { is_segment self.old.nodes uid ≡ true }
-        ensures { self.new ≡ with_home self.old uid volume entry }
+        ensures tree { self.new ≡ with_home self.old uid volume entry }
+        ensures shapes { shapes self.new.nodes ≡ shapes self.old.nodes }
     {
         let place = entries::place_of(&self.entries, uid);
         let node = &mut self.nodes[place as usize];

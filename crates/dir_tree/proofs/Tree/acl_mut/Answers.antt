@@ -2,7 +2,7 @@ use Rattle.std.proofs.Common.{◌≡◌, List, true, refl, sym, ap, subst}
 use Rattle.dir_tree.specs.declared.node.Node.{Node}
 use Rattle.dir_tree.specs.Nodes.{Branches, is_in}
 use Rattle.dir_tree.proofs.KeptLemmas.{entry_present, segment_in}
-use Rattle.dir_tree.proofs.ChangedLemmas.{set_kept, acl_read}
+use Rattle.dir_tree.proofs.ChangedLemmas.{set_kept, acl_read, shapes_changed}
 use Rattle.dir_tree.proofs.Tree.acl_mut.Goals as goal
 
 pub place_of-place-requires-clause-there : goal.place_of-place-requires-clause-there
@@ -25,5 +25,6 @@ returns c = (
   record {
     writes_back = tt;
     value = rw (← c.self.view_is) (acl_read c.self.inside.nodes.items c.self.inside.entries.items c.self.inside.free.items c.self.inside.index c.self.inside.next c.self.invariant.0 c.args.uid c.place_of-place.result (rw c.deref.ensures.value at c.place_of-place.ensures) c.index_mut-node.result.now c.index_mut-node.ensures.value);
+    shapes = λ rows. shapes_changed c.args.uid (λ n. record n { acl = rows }) (λ n. refl) c.args.self.now.nodes;
   },
 )
