@@ -2,18 +2,19 @@
 use Rattle.std.proofs.Common.{◌≡◌, ◌≢◌, ℕ, ◌+◌, ◌<◌, ◌≤◌, ◌^◌, Bool, true, false, eqb, not, ◌&&◌, List, [], ◌∷◌, length, refl, sym, ap, subst, ◌∙◌, arith, get_or, inl, inr}
 use Rattle.std.specs.List.{insert, remove, sum}
 use Rattle.std.proofs.lemmas.Bool.{cases_Bool, cases_eq, both_ways, eqb-true, eq-eqb, ne_eqb, or_parts, and_parts, or_right, or_left, false_from_ne_true}
+use Rattle.std.proofs.lemmas.List.{length-map}
 use Rattle.std.proofs.lemmas.List.Edits.{length-insert, length-remove}
 use Rattle.std.proofs.lemmas.List.Sums.{sum_by-insert, sum_by-remove}
 use Rattle.storage_terms.specs.Tree.{above}
 use Rattle.dir_tree.specs.declared.node.Node.{Node}
 use Rattle.dir_tree.specs.Nodes.{is_directory, is_segment, is_in, without}
-use Rattle.dir_tree.specs.Shape.{shapes, HasChains}
+use Rattle.dir_tree.specs.Shape.{shape, shapes, HasChains}
 use Rattle.quota_cells.specs.Accounts.{look, has, covers, weigh, load, is_an_account}
 use Rattle.quota_cells.specs.Cells.{CellMaps, quota_in, load_in, stored_in, Fits, IsTable, Enters, Leaves, has_cell}
 use Rattle.quota_cells.specs.Columns.{IsGap}
 use Rattle.quota_cells.proofs.ColumnLaws.{weigh_same}
 use Rattle.quota_cells.proofs.PlaceLaws.{look_at, look_absent}
-use Rattle.quota_cells.proofs.FitLaws.{all_there, covered_there}
+use Rattle.quota_cells.proofs.FitLaws.{on_directories, on_segments, directory_shape, segment_shape, all_there, covered_there}
 use Rattle.quota_cells.proofs.EditLaws.{has_insert, look_insert, weigh_insert, has_remove, look_remove, look_gone, weigh_remove, rising_insert, rising_remove}
 
 no_weight : (t : ℕ → Bool) (ks ws : List ℕ) → ((k : ℕ) → has ks k ≡ true → t k ≡ false) → weigh t ks ws ≡ 0
@@ -32,7 +33,7 @@ not_in_segment (n ∷ ns) u e = elim (cases_Bool (eqb n.uid u)) [ inl is ↦ (le
 module _ (nodes : List Node) (n : Node) (old new : CellMaps) (fits : Fits nodes old) (chains : HasChains (shapes nodes)) (absent : is_in nodes n.uid ≡ false) (enters : Enters old new n.uid n.dir) where
   -- segments of the tree are as they were
   apart : (k : ℕ) → has old.segments k ≡ true → eqb n.uid k ≡ false
-  apart k h = ne_eqb n.uid k (λ e. both_ways (is_segment nodes n.uid) (not_in_segment nodes n.uid absent) (rw e (sym (fits.segments k) ∙ h)))
+  apart k h = ne_eqb n.uid k (λ e. both_ways (is_segment nodes n.uid) (not_in_segment nodes n.uid absent) (rw e (sym (on_segments nodes fits k) ∙ h)))
 
   same_up : (k : ℕ) → has old.segments k ≡ true → above (shapes (n ∷ nodes)) k ≡ above (shapes nodes) k
   same_up k h = rw (apart k h) refl
@@ -49,24 +50,24 @@ module _ (nodes : List Node) (n : Node) (old new : CellMaps) (fits : Fits nodes 
   -- nothing lies below the new node
   none_below : load (above (shapes nodes)) (quota_in old) old.segments old.stored n.uid ≡ 0
   none_below = no_weight (λ k. covers (quota_in old) (above (shapes nodes) k) n.uid) old.segments old.stored (λ k h. false_from_ne_true _ (λ is.
-      both_ways (has old.directories n.uid) (fits.directories n.uid ∙ not_in_directory nodes n.uid absent)
+      both_ways (has old.directories n.uid) (on_directories nodes fits n.uid ∙ not_in_directory nodes n.uid absent)
       (covered_there (quota_in old) old.directories (above (shapes nodes) k) n.uid (all_there nodes old fits (above (shapes nodes) k) (chains.directories k)) is)))
 
   absent_load : load_in old n.uid ≡ 0
-  absent_load = look_absent old.directories old.loads n.uid (fits.directories n.uid ∙ not_in_directory nodes n.uid absent)
+  absent_load = look_absent old.directories old.loads n.uid (on_directories nodes fits n.uid ∙ not_in_directory nodes n.uid absent)
 
   pub fits_entered : Fits (n ∷ nodes) new
   fits_entered = record {
-    count = (let a = enters.size in let b : length old.directories + length old.segments ≡ length nodes = fits.count in omega (arith, a));
+    count = (let a = enters.size in let b : length old.directories + length old.segments ≡ length (shapes nodes) = fits.count in omega (arith, a));
     directories = λ u. enters.directories u ∙ elim (cases_Bool (eqb n.uid u)) [
       | inl is ↦
-          (let off : has old.directories u ≡ false = fits.directories u ∙ not_in_directory nodes u (subst (λ v. is_in nodes v ≡ false) (eqb-true n.uid u is) absent) in
+          (let off : has old.directories u ≡ false = on_directories nodes fits u ∙ not_in_directory nodes u (subst (λ v. is_in nodes v ≡ false) (eqb-true n.uid u is) absent) in
           rw (is, off) (elim (cases_Bool n.dir) [ inl t ↦ rw t refl | inr f ↦ rw f refl ]))
       | inr isnt ↦ rw isnt (elim (cases_Bool n.dir) [ inl t ↦ rw t (fits.directories u) | inr f ↦ rw f (fits.directories u) ])
     ];
     segments = λ u. enters.segments u ∙ elim (cases_Bool (eqb n.uid u)) [
       | inl is ↦
-          (let off : has old.segments u ≡ false = fits.segments u ∙ not_in_segment nodes u (subst (λ v. is_in nodes v ≡ false) (eqb-true n.uid u is) absent) in
+          (let off : has old.segments u ≡ false = on_segments nodes fits u ∙ not_in_segment nodes u (subst (λ v. is_in nodes v ≡ false) (eqb-true n.uid u is) absent) in
           rw (is, off) (elim (cases_Bool n.dir) [ inl t ↦ rw t refl | inr f ↦ rw f refl ]))
       | inr isnt ↦ rw isnt (elim (cases_Bool n.dir) [ inl t ↦ rw t (fits.segments u) | inr f ↦ rw f (fits.segments u) ])
     ];
@@ -121,9 +122,9 @@ module _ (nodes : List Node) (uid : ℕ) (old new : CellMaps) (fits : Fits nodes
 
   pub fits_left : Fits (without uid nodes) new
   fits_left = record {
-    count = (let a = leaves.size in let b : length old.directories + length old.segments ≡ length nodes = fits.count in omega (arith, a));
-    directories = λ u. leaves.directories u ∙ ap (λ b. b && not (eqb uid u)) (fits.directories u) ∙ sym (directory_without nodes uid u);
-    segments = λ u. leaves.segments u ∙ ap (λ b. b && not (eqb uid u)) (fits.segments u) ∙ sym (segment_without nodes uid u);
+    count = (let a = leaves.size in let b : length old.directories + length old.segments ≡ length (shapes nodes) = fits.count in let m = length-map nodes shape in let n = length-map (without uid nodes) shape in omega (arith, a));
+    directories = λ u. leaves.directories u ∙ ap (λ b. b && not (eqb uid u)) (on_directories nodes fits u) ∙ sym (directory_without nodes uid u) ∙ sym (directory_shape (without uid nodes) u);
+    segments = λ u. leaves.segments u ∙ ap (λ b. b && not (eqb uid u)) (on_segments nodes fits u) ∙ sym (segment_without nodes uid u) ∙ sym (segment_shape (without uid nodes) u);
     loads = λ e there.
         (let kept : (has old.directories e && not (eqb uid e)) ≡ true = sym (leaves.directories e) ∙ there in
         leaves.loads e (not_gone e (has old.directories e) kept) ∙ fits.loads e (and_parts (has old.directories e) (not (eqb uid e)) kept).0 ∙ sym (loads_left e));

@@ -6,7 +6,7 @@ use Rattle.std.proofs.lemmas.List.{get_or_read, drop_all, take_all, append-nil}
 use Rattle.storage_terms.specs.Tree.{above, account, node_in, has_directory}
 use Rattle.dir_tree.specs.declared.node.Node.{Node}
 use Rattle.dir_tree.specs.Nodes.{is_directory, is_segment}
-use Rattle.dir_tree.specs.Shape.{shapes, HasChains, IsChain, AreDirectories, EndsAtRoot}
+use Rattle.dir_tree.specs.Shape.{shapes, has_segment, HasChains, IsChain, AreDirectories, EndsAtRoot}
 use Rattle.quota_cells.specs.Accounts.{look, has, with_value, covers, load, is_an_account, changed_where}
 use Rattle.quota_cells.specs.Cells.{CellMaps, quota_in, load_in, stored_in, Fits, IsTable, charged, credited, charge_fault, IsRising, CountsUsed}
 use Rattle.quota_cells.specs.Columns.{AreThere, IsFalling}
@@ -26,13 +26,24 @@ pub segment_not : (ns : List Node) (u : ℕ) → is_segment ns u ≡ true → ha
 segment_not [] u e = cc
 segment_not (n ∷ ns) u e = elim (cases_Bool (eqb n.uid u)) [ inl is ↦ (let h : not n.dir ≡ true = rw is at e in rw is (not-true n.dir h)) | inr isnt ↦ rw isnt (segment_not ns u (rw isnt at e)) ]
 
+pub segment_shape : (ns : List Node) (u : ℕ) → has_segment (shapes ns) u ≡ is_segment ns u
+segment_shape [] u = refl
+segment_shape (n ∷ ns) u = elim (cases_Bool (eqb n.uid u)) [ inl is ↦ rw is refl | inr isnt ↦ rw isnt (segment_shape ns u) ]
+
+-- the cells of a tree's directories, and of its segments
+pub on_directories : (nodes : List Node) {c : CellMaps} → Fits nodes c → (u : ℕ) → has c.directories u ≡ is_directory nodes u
+on_directories nodes fits u = fits.directories u ∙ directory_shape nodes u
+
+pub on_segments : (nodes : List Node) {c : CellMaps} → Fits nodes c → (u : ℕ) → has c.segments u ≡ is_segment nodes u
+on_segments nodes fits u = fits.segments u ∙ segment_shape nodes u
+
 pub falling : (f : ℕ → List ℕ) (xs : List ℕ) → IsChain f xs → IsFalling xs
 falling f [] c = tt
 falling f (x ∷ xs) c = (c.1, falling f xs c.2)
 
 pub all_there : (nodes : List Node) (c : CellMaps) → Fits nodes c → (xs : List ℕ) → AreDirectories (shapes nodes) xs → AreThere c.directories xs
 all_there nodes c fits [] a = tt
-all_there nodes c fits (x ∷ xs) a = (fits.directories x ∙ sym (directory_shape nodes x) ∙ a.0, all_there nodes c fits xs a.1)
+all_there nodes c fits (x ∷ xs) a = (fits.directories x ∙ a.0, all_there nodes c fits xs a.1)
 
 pub account_there : (q : ℕ → ℕ) (ks xs : List ℕ) → AreThere ks xs → EndsAtRoot xs → has ks (account q xs) ≡ true
 account_there q ks [] a e = absurd e
@@ -59,7 +70,7 @@ module _ (nodes : List Node) (c : CellMaps) (table : IsTable c) (fits : Fits nod
     loads = λ e there.
         (let q = quota_in c in
         let old : load_in c e ≡ load f q c.segments c.stored e = fits.loads e there in
-        let seg : has c.segments s ≡ true = fits.segments s ∙ is in
+        let seg : has c.segments s ≡ true = on_segments nodes fits s ∙ is in
         let w = weigh_with (λ k. covers q (f k) e) c.segments c.stored s (stored_in c s + 1) table.stored_count seg in
         let l = look_changed (λ w. w + 1) (covers q (f s)) c.directories c.loads e table.load_count there in
         l ∙ elim (cases_Bool (covers q (f s) e)) [
@@ -76,7 +87,7 @@ module _ (nodes : List Node) (c : CellMaps) (table : IsTable c) (fits : Fits nod
     loads = λ e there.
         (let q = quota_in c in
         let old : load_in c e ≡ load f q c.segments c.stored e = fits.loads e there in
-        let seg : has c.segments s ≡ true = fits.segments s ∙ is in
+        let seg : has c.segments s ≡ true = on_segments nodes fits s ∙ is in
         let w = weigh_with (λ k. covers q (f k) e) c.segments c.stored s (stored_in c s - 1) table.stored_count seg in
         let l = look_changed (λ w. w - 1) (covers q (f s)) c.directories c.loads e table.load_count there in
         l ∙ elim (cases_Bool (covers q (f s) e)) [
@@ -107,7 +118,7 @@ module _ (nodes : List Node) (c : CellMaps) (table : IsTable c) (fits : Fits nod
       let a_there : has c.directories a ≡ true = account_there q c.directories (f s) (there s) ends_s in
       let through : a ≡ account_from f q e = account_through f q (f s) e (chains.chain s) covered in
       rw (fits.loads e e_there, fits.loads a a_there) (weigh_le_on (λ k. covers q (f k) e) (λ k. covers q (f k) a) c.segments c.stored (λ k h k_covered.
-      (let seg : is_segment nodes k ≡ true = sym (fits.segments k) ∙ h in
+      (let seg : is_segment nodes k ≡ true = sym (on_segments nodes fits k) ∙ h in
       let same : account q (f k) ≡ a = account_through f q (f k) e (chains.chain k) k_covered ∙ sym through in
       subst (λ b. covers q (f k) b ≡ true) same (account_covers q (f k) (ends k seg)))))
 
@@ -194,7 +205,7 @@ counts_used nodes c fits chains a a_there = elim (cases_Bool (is_an_account (quo
   | inr isnt ↦ rw isnt refl
   | inl is ↦
       rw is (fits.loads a a_there ∙ weigh_same (λ k. covers (quota_in c) (above (shapes nodes) k) a) (λ k. eqb (account (quota_in c) (above (shapes nodes) k)) a) c.segments c.stored
-      (λ k h. (let seg : is_segment nodes k ≡ true = sym (fits.segments k) ∙ h in account_is (quota_in c) (above (shapes nodes) k) a (chains.segments k (segment_there nodes k seg) (segment_not nodes k seg)) is)))
+      (λ k h. (let seg : is_segment nodes k ≡ true = sym (on_segments nodes fits k) ∙ h in account_is (quota_in c) (above (shapes nodes) k) a (chains.segments k (segment_there nodes k seg) (segment_not nodes k seg)) is)))
 ]
 
 -- ---- what the code leaves

@@ -10,7 +10,7 @@ use Rattle.quota_cells.specs.Accounts.{has, covers, is_an_account}
 use Rattle.quota_cells.specs.Cells.{CellMaps, quota_in, load_in, Fits, IsTable, with_quota, IsRising, is_over, first_over}
 use Rattle.quota_cells.proofs.AccountLaws.{covers_above}
 use Rattle.quota_cells.proofs.ColumnLaws.{two_le_sum}
-use Rattle.quota_cells.proofs.FitLaws.{load_bound, all_there, covered_there}
+use Rattle.quota_cells.proofs.FitLaws.{on_directories, load_bound, all_there, covered_there}
 use Rattle.quota_cells.proofs.MoveLaws.{AreEven, fits_quota, even_quota, quota_own, quota_other, load_falls, load_rises, load_stays, total_quota}
 
 -- ---- the least that passes
@@ -178,7 +178,7 @@ module _ (nodes : List Node) (c : CellMaps) (table : IsTable c) (fits : Fits nod
   pub room2 : first_over c2 ≡ None → q v ≡ n → (e : ℕ) → covers (quota_in c1) (f v) e ≡ true → load_in c1 e + load_in c1 v < 2 ^ 32
   room2 none all e is =
       let root_no : v ≢ 1 = λ z. both_ways (covers (quota_in c1) (f v) e) (rw (z, chains.root) refl) is in
-      let ends : EndsAtRoot (f v) = chains.rooted v (directory_there nodes v (sym (fits.directories v) ∙ here_v)) root_no in
+      let ends : EndsAtRoot (f v) = chains.rooted v (directory_there nodes v (sym (on_directories nodes fits v) ∙ here_v)) root_no in
       let there_e : has c.directories e ≡ true = covered_there (quota_in c1) c.directories (f v) e (all_there nodes c fits (f v) (chains.directories v)) is in
       let same : covers (quota_in c2) (f v) e ≡ covers (quota_in c1) (f v) e = covers_above (quota_in c1) (quota_in c2) v (f v) e (quota_other nodes c1 even1 fits1 chains v (q v - n) here_v) (chains.under v) in
       let bound : load_in c2 e < 2 ^ 32 = load_bound nodes c2 (table2 none) fits2 chains v e ends (same ∙ is) in

@@ -10,7 +10,7 @@ use Rattle.quota_cells.specs.Cells.{CellMaps, quota_in, load_in, Fits, IsTable, 
 use Rattle.quota_cells.specs.declared.MoveFault.TheVariants as fault
 use Rattle.quota_cells.proofs.PlaceLaws.{covers_under, covers_not}
 use Rattle.quota_cells.proofs.AccountLaws.{account_is, account_covers, account_of_chain}
-use Rattle.quota_cells.proofs.FitLaws.{all_there, account_there, directory_shape}
+use Rattle.quota_cells.proofs.FitLaws.{on_directories, all_there, account_there, directory_shape}
 use Rattle.quota_cells.proofs.OverLaws.{none_passes, first_passes, c1, c2, q1_g, q1_other, q2_g, q2_v, q2_other, load1_falls, load1_stays, load2_rises, load2_stays, over_who}
 
 directory_there : (ns : List Node) (u : ℕ) → is_directory ns u ≡ true → is_some (node_in (shapes ns) u) ≡ true
@@ -134,7 +134,7 @@ module _ (nodes : List Node) (c : CellMaps) (table : IsTable c) (fits : Fits nod
     ]
 
     ends_s : s ≢ 1 → EndsAtRoot (f s)
-    ends_s ne = chains.rooted s (directory_there nodes s (sym (fits.directories s) ∙ here_s)) ne
+    ends_s ne = chains.rooted s (directory_there nodes s (sym (on_directories nodes fits s) ∙ here_s)) ne
 
     x_covers : s ≢ 1 → covers (quota_in m1) (f s) x ≡ true
     x_covers ne = subst (λ y. covers (quota_in m1) (f s) y ≡ true) x_is (account_covers (quota_in m1) (f s) (ends_s ne))

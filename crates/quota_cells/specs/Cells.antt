@@ -2,10 +2,9 @@
 -- for each directory the stored pages below it that no lower account takes (Organick 1972). A map is a list of uids
 -- with a list of values beside them.
 use Rattle.std.specs.Prelude.{◌≡◌, ◌≢◌, ℕ, ◌+◌, ◌-◌, ◌<◌, ◌≤◌, ◌==◌, ◌^◌, Bool, true, false, ◌&&◌, ◌||◌, not, if◌then◌else◌, List, [], ◌∷◌, length, Option, Some, None, slice_index, sum, nat_lt, Result, Ok, Err}
-use Rattle.storage_terms.specs.Tree.{above, account}
+use Rattle.storage_terms.specs.Tree.{Node as Term, above, account, has_directory}
 use Rattle.dir_tree.specs.declared.node.Node.{Node}
-use Rattle.dir_tree.specs.Nodes.{is_directory, is_segment}
-use Rattle.dir_tree.specs.Shape.{shapes}
+use Rattle.dir_tree.specs.Shape.{shapes, has_segment}
 use Rattle.std.specs.List.{find}
 use Rattle.quota_cells.specs.declared.Full.{Full}
 use Rattle.quota_cells.specs.declared.MoveFault.{MoveFault}
@@ -34,11 +33,16 @@ used_in c a = if is_an_account (quota_in c) a then load_in c a else 0
 
 -- The cells fit a tree: its directories and segments are exactly the uids with a cell, and each directory's load is
 -- the count from scratch in that tree, with the quotas and stored pages that the cells hold.
-pub record Fits (nodes : List Node) (c : CellMaps) : Type 0 where
-  pub directories : (u : ℕ) → has c.directories u ≡ is_directory nodes u
-  pub segments : (u : ℕ) → has c.segments u ≡ is_segment nodes u
-  pub loads : (e : ℕ) → has c.directories e ≡ true → load_in c e ≡ load (above (shapes nodes)) (quota_in c) c.segments c.stored e
-  pub count : length c.directories + length c.segments ≡ length nodes
+pub record FitsShapes (ns : List Term) (c : CellMaps) : Type 0 where
+  pub directories : (u : ℕ) → has c.directories u ≡ has_directory ns u
+  pub segments : (u : ℕ) → has c.segments u ≡ has_segment ns u
+  pub loads : (e : ℕ) → has c.directories e ≡ true → load_in c e ≡ load (above ns) (quota_in c) c.segments c.stored e
+  pub count : length c.directories + length c.segments ≡ length ns
+
+-- Only the shapes of the nodes matter: cells that fit a tree fit it too once a length, a home or an access control
+-- list has changed.
+abbrev pub Fits : List Node → CellMaps → Type 0
+Fits nodes c = FitsShapes (shapes nodes) c
 
 abbrev pub IsRising : List ℕ → Type 0
 IsRising ks = (i j : ℕ) → i < j → j < length ks → slice_index ks i < slice_index ks j

@@ -1,5 +1,6 @@
-ghost use Rattle.std.specs.Prelude.{◌≡◌};
-ghost use Rattle.quota_cells.specs.Cells.{Fits};
+ghost use Rattle.std.specs.Prelude.{◌≡◌, true};
+ghost use Rattle.dir_tree.specs.Nodes.{is_directory, is_segment};
+ghost use Rattle.quota_cells.specs.Cells.{Fits, quota_in, stored_in};
 
 use super::*;
 use acl::Acl;
@@ -40,6 +41,72 @@ fn charge(rt: &impl Abort, tree: &Tree, cells: &mut Cells, seg: u32) -> Result<(
     let may = cells.may_charge(tree, seg);
     assert!(rt; cells.charge(tree, seg) == may);
     may
+}
+
+// The stored pages of a segment.
+fn stored(rt: &impl Abort, tree: &Tree, cells: &Cells, seg: u32) -> u32
+    requires { Fits tree.now.nodes cells.now }
+    ensures segment { is_segment tree.now.nodes seg ≡ true }
+    ensures stored { result ≡ stored_in cells.now seg }
+{
+    assert!(rt; !tree.node(seg).expect(rt, "the segment").dir);
+    cells.stored(seg)
+}
+
+// The quota of a directory.
+fn quota(rt: &impl Abort, tree: &Tree, cells: &Cells, dir: u32) -> u32
+    requires { Fits tree.now.nodes cells.now }
+    ensures directory { is_directory tree.now.nodes dir ≡ true }
+    ensures quota { result ≡ quota_in cells.now dir }
+{
+    assert!(rt; tree.node(dir).expect(rt, "the directory").dir);
+    cells.quota(dir)
+}
+
+// A stored page less.
+fn credit(rt: &impl Abort, tree: &Tree, cells: &mut Cells, seg: u32)
+    requires { Fits tree.now.nodes cells.old }
+    ensures { Fits tree.now.nodes cells.new }
+{
+    assert!(rt; stored(rt, tree, cells, seg) > 0);
+    cells.credit(tree, seg);
+}
+
+// Takes out a segment without stored pages, and its cell.
+fn drop_segment(rt: &impl Abort, tree: &mut Tree, cells: &mut Cells, seg: u32)
+    requires { Fits tree.old.nodes cells.old }
+    ensures { Fits tree.new.nodes cells.new }
+{
+    assert!(rt; stored(rt, tree, cells, seg) == 0 && seg != ROOT);
+    match tree.remove(seg) {
+        Ok(()) => cells.leave(seg),
+        Err(_) => {
+            assert!(rt; false, "an inferior");
+        }
+    }
+}
+
+// Takes out a directory without quota, and its cell.
+fn drop_directory(rt: &impl Abort, tree: &mut Tree, cells: &mut Cells, dir: u32)
+    requires { Fits tree.old.nodes cells.old }
+    ensures { Fits tree.new.nodes cells.new }
+{
+    assert!(rt; quota(rt, tree, cells, dir) == 0 && dir != ROOT);
+    match tree.remove(dir) {
+        Ok(()) => cells.leave(dir),
+        Err(_) => {
+            assert!(rt; false, "an inferior");
+        }
+    }
+}
+
+// Sets the length of a segment.
+fn set_length(rt: &impl Abort, tree: &mut Tree, cells: &Cells, seg: u32, pages: u32)
+    requires { Fits tree.old.nodes cells.now }
+    ensures { Fits tree.new.nodes cells.now }
+{
+    assert!(rt; !tree.node(seg).expect(rt, "the segment").dir);
+    tree.set_length(seg, pages);
 }
 
 // Quota moves.
@@ -92,4 +159,76 @@ fn used_counts_follow_quota_that_moves(rt: HostRuntime) {
     assert_eq!(rt; move_quota(&rt, &tree, &mut cells, 2, -3), Ok(()));
     assert_eq!(rt; cells.used(ROOT), 3);
     assert_eq!(rt; cells.used(2), 0);
+}
+
+// >a>s with 2 stored pages, and >a>b>t with 3.
+#[test]
+fn a_page_is_counted_for_the_nearest_account_above(rt: HostRuntime) {
+    let (Ok(mut tree), Ok(mut cells)) = (Tree::new(rt.alloc(), 0, 0), Cells::new(rt.alloc(), 10))
+    else {
+        assert!(rt; false, "no memory");
+        return;
+    };
+    make(&rt, &mut tree, &mut cells, ROOT, "a", true);
+    make(&rt, &mut tree, &mut cells, 2, "s", false);
+    make(&rt, &mut tree, &mut cells, 2, "b", true);
+    make(&rt, &mut tree, &mut cells, 4, "t", false);
+    for _ in 0..2 {
+        assert_eq!(rt; charge(&rt, &tree, &mut cells, 3), Ok(()));
+    }
+    for _ in 0..3 {
+        assert_eq!(rt; charge(&rt, &tree, &mut cells, 5), Ok(()));
+    }
+    assert_eq!(rt; stored(&rt, &tree, &cells, 3), 2);
+    assert_eq!(rt; stored(&rt, &tree, &cells, 5), 3);
+    assert_eq!(rt; cells.used(ROOT), 5);
+
+    // 6 of the root's 10 to >a, and 3 of these to >a>b
+    assert_eq!(rt; move_quota(&rt, &tree, &mut cells, 2, 6), Ok(()));
+    assert_eq!(rt; move_quota(&rt, &tree, &mut cells, 4, 3), Ok(()));
+    assert_eq!(rt; quota(&rt, &tree, &cells, ROOT), 4);
+    assert_eq!(rt; quota(&rt, &tree, &cells, 2), 3);
+    assert_eq!(rt; quota(&rt, &tree, &cells, 4), 3);
+    assert_eq!(rt; cells.used(ROOT), 0);
+    assert_eq!(rt; cells.used(2), 2);
+    assert_eq!(rt; cells.used(4), 3);
+
+    // a page less of each
+    credit(&rt, &tree, &mut cells, 3);
+    credit(&rt, &tree, &mut cells, 5);
+    assert_eq!(rt; stored(&rt, &tree, &cells, 3), 1);
+    assert_eq!(rt; stored(&rt, &tree, &cells, 5), 2);
+    assert_eq!(rt; cells.used(2), 1);
+    assert_eq!(rt; cells.used(4), 2);
+
+    // without quota in >a>b its 2 pages are charged to >a
+    assert_eq!(rt; move_quota(&rt, &tree, &mut cells, 4, -3), Ok(()));
+    assert_eq!(rt; quota(&rt, &tree, &cells, 4), 0);
+    assert_eq!(rt; cells.used(4), 0);
+    assert_eq!(rt; cells.used(2), 3);
+}
+
+#[test]
+fn what_is_empty_leaves_and_the_rest_keeps_its_counts(rt: HostRuntime) {
+    let (Ok(mut tree), Ok(mut cells)) = (Tree::new(rt.alloc(), 0, 0), Cells::new(rt.alloc(), 5))
+    else {
+        assert!(rt; false, "no memory");
+        return;
+    };
+    make(&rt, &mut tree, &mut cells, ROOT, "a", true);
+    make(&rt, &mut tree, &mut cells, 2, "s", false);
+    make(&rt, &mut tree, &mut cells, ROOT, "t", false);
+    assert_eq!(rt; charge(&rt, &tree, &mut cells, 3), Ok(()));
+    assert_eq!(rt; charge(&rt, &tree, &mut cells, 4), Ok(()));
+    assert_eq!(rt; cells.used(ROOT), 2);
+    set_length(&rt, &mut tree, &cells, 3, 9);
+    credit(&rt, &tree, &mut cells, 3);
+    assert_eq!(rt; cells.used(ROOT), 1);
+    drop_segment(&rt, &mut tree, &mut cells, 3);
+    drop_directory(&rt, &mut tree, &mut cells, 2);
+    assert!(rt; tree.node(3).is_none() && tree.node(2).is_none());
+    assert_eq!(rt; stored(&rt, &tree, &cells, 4), 1);
+    assert_eq!(rt; quota(&rt, &tree, &cells, ROOT), 5);
+    assert_eq!(rt; charge(&rt, &tree, &mut cells, 4), Ok(()));
+    assert_eq!(rt; cells.used(ROOT), 2);
 }

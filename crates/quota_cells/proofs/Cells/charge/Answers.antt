@@ -4,7 +4,7 @@ use Rattle.dir_tree.specs.Shape.{shapes}
 use Rattle.quota_cells.specs.Accounts.{covers, with_value, changed_where}
 use Rattle.quota_cells.specs.Cells.{CellMaps, quota_in, load_in, stored_in, Fits, IsTable, charged, charge_fault}
 use Rattle.quota_cells.proofs.ColumnLaws.{length_changed}
-use Rattle.quota_cells.proofs.FitLaws.{there, falls, room_charged, stored_room, fits_charged, table_charged, not_full, counts_used, read_stored, stored_at, seamed}
+use Rattle.quota_cells.proofs.FitLaws.{there, falls, room_charged, stored_room, fits_charged, table_charged, not_full, counts_used, read_stored, stored_at, seamed, on_segments}
 use Rattle.quota_cells.proofs.Cells.charge.Goals as goal
 
 pub overflow_add-index_mut : goal.overflow_add-index_mut
@@ -78,3 +78,9 @@ returns-clause-fits c =
 
 pub returns-clause-used : goal.returns-clause-used
 returns-clause-used c = counts_used c.args.t.now.nodes _ (returns-clause-fits c) c.superiors-up.ensures.chains
+
+pub place-at-requires-clause-there : goal.place-at-requires-clause-there
+place-at-requires-clause-there c =
+    let s : CellMaps = record { directories = c.self.inside.directories.items; quotas = c.self.inside.quotas.items; loads = c.self.inside.loads.items; segments = c.self.inside.segments.items; stored = c.self.inside.stored.items } in
+    let fits : Fits c.args.t.now.nodes s = subst (Fits c.args.t.now.nodes) (sym c.self.view_is) c.requires.fits in
+    rw c.deref.ensures.value (on_segments c.args.t.now.nodes fits c.args.seg ∙ c.requires.segment)

@@ -1,6 +1,7 @@
 use Rattle.std.proofs.Common.{◌≡◌, ◌≤◌, ℕ, true, false, Some, refl, sym, ap, subst, ◌∙◌, arith}
 use Rattle.quota_cells.specs.Accounts.{has}
 use Rattle.quota_cells.specs.Cells.{CellMaps, quota_in, load_in, Fits, is_over, over_answer}
+use Rattle.quota_cells.proofs.FitLaws.{on_directories}
 use Rattle.quota_cells.proofs.MoveLaws.{covers_more}
 use Rattle.quota_cells.proofs.TransferLaws.{top_covers, left, x, m2, down_is, over_s, over_d, first_is_s, first_is_d, none_down, above_test, above_yes, above_no}
 use Rattle.quota_cells.proofs.Cells.may_move_down.Goals as goal
@@ -11,8 +12,8 @@ load_left-left-requires c none =
     let u : ℕ = c.superior_of-superior.result in
     let q : ℕ → ℕ = quota_in s in
     let fits : Fits c.args.t.now.nodes s = subst (Fits c.args.t.now.nodes) (sym c.self.view_is) c.requires.fits in
-    let here_d : has s.directories c.args.dir ≡ true = fits.directories c.args.dir ∙ c.requires.directory in
-    let here_s : has s.directories u ≡ true = fits.directories u ∙ c.superior_of-superior.ensures.directory in
+    let here_d : has s.directories c.args.dir ≡ true = on_directories c.args.t.now.nodes fits c.args.dir ∙ c.requires.directory in
+    let here_s : has s.directories u ≡ true = on_directories c.args.t.now.nodes fits u ∙ c.superior_of-superior.ensures.directory in
     let given : c.value-given.result ≡ q u = rw (c.deref.ensures.value, c.deref-2.ensures.value) at c.value-given.ensures in
     let enough : c.args.pages ≤ q u = omega (arith, c.if-given-pages.false) in
     let quota : c.value-quota.result ≡ q c.args.dir = rw (c.deref-3.ensures.value, c.deref-4.ensures.value) at c.value-quota.ensures in
@@ -27,8 +28,8 @@ returns-then-is_above_over c =
     let u : ℕ = c.superior_of-superior.result in
     let q : ℕ → ℕ = quota_in s in
     let fits : Fits c.args.t.now.nodes s = subst (Fits c.args.t.now.nodes) (sym c.self.view_is) c.requires.fits in
-    let here_d : has s.directories c.args.dir ≡ true = fits.directories c.args.dir ∙ c.requires.directory in
-    let here_s : has s.directories u ≡ true = fits.directories u ∙ c.superior_of-superior.ensures.directory in
+    let here_d : has s.directories c.args.dir ≡ true = on_directories c.args.t.now.nodes fits c.args.dir ∙ c.requires.directory in
+    let here_s : has s.directories u ≡ true = on_directories c.args.t.now.nodes fits u ∙ c.superior_of-superior.ensures.directory in
     let given : c.value-given.result ≡ q u = rw (c.deref.ensures.value, c.deref-2.ensures.value) at c.value-given.ensures in
     let enough : c.args.pages ≤ q u = omega (arith, c.if-given-pages.false) in
     let quota : c.value-quota.result ≡ q c.args.dir = rw (c.deref-3.ensures.value, c.deref-4.ensures.value) at c.value-quota.ensures in
@@ -48,8 +49,8 @@ returns-then-is_giver_over c =
     let u : ℕ = c.superior_of-superior.result in
     let q : ℕ → ℕ = quota_in s in
     let fits : Fits c.args.t.now.nodes s = subst (Fits c.args.t.now.nodes) (sym c.self.view_is) c.requires.fits in
-    let here_d : has s.directories c.args.dir ≡ true = fits.directories c.args.dir ∙ c.requires.directory in
-    let here_s : has s.directories u ≡ true = fits.directories u ∙ c.superior_of-superior.ensures.directory in
+    let here_d : has s.directories c.args.dir ≡ true = on_directories c.args.t.now.nodes fits c.args.dir ∙ c.requires.directory in
+    let here_s : has s.directories u ≡ true = on_directories c.args.t.now.nodes fits u ∙ c.superior_of-superior.ensures.directory in
     let given : c.value-given.result ≡ q u = rw (c.deref.ensures.value, c.deref-2.ensures.value) at c.value-given.ensures in
     let enough : c.args.pages ≤ q u = omega (arith, c.if-given-pages.false) in
     let quota : c.value-quota.result ≡ q c.args.dir = rw (c.deref-3.ensures.value, c.deref-4.ensures.value) at c.value-quota.ensures in
@@ -70,8 +71,8 @@ returns-then-is_getter_over c =
     let u : ℕ = c.superior_of-superior.result in
     let q : ℕ → ℕ = quota_in s in
     let fits : Fits c.args.t.now.nodes s = subst (Fits c.args.t.now.nodes) (sym c.self.view_is) c.requires.fits in
-    let here_d : has s.directories c.args.dir ≡ true = fits.directories c.args.dir ∙ c.requires.directory in
-    let here_s : has s.directories u ≡ true = fits.directories u ∙ c.superior_of-superior.ensures.directory in
+    let here_d : has s.directories c.args.dir ≡ true = on_directories c.args.t.now.nodes fits c.args.dir ∙ c.requires.directory in
+    let here_s : has s.directories u ≡ true = on_directories c.args.t.now.nodes fits u ∙ c.superior_of-superior.ensures.directory in
     let given : c.value-given.result ≡ q u = rw (c.deref.ensures.value, c.deref-2.ensures.value) at c.value-given.ensures in
     let enough : c.args.pages ≤ q u = omega (arith, c.if-given-pages.false) in
     let quota : c.value-quota.result ≡ q c.args.dir = rw (c.deref-3.ensures.value, c.deref-4.ensures.value) at c.value-quota.ensures in
@@ -93,8 +94,8 @@ returns c =
     let u : ℕ = c.superior_of-superior.result in
     let q : ℕ → ℕ = quota_in s in
     let fits : Fits c.args.t.now.nodes s = subst (Fits c.args.t.now.nodes) (sym c.self.view_is) c.requires.fits in
-    let here_d : has s.directories c.args.dir ≡ true = fits.directories c.args.dir ∙ c.requires.directory in
-    let here_s : has s.directories u ≡ true = fits.directories u ∙ c.superior_of-superior.ensures.directory in
+    let here_d : has s.directories c.args.dir ≡ true = on_directories c.args.t.now.nodes fits c.args.dir ∙ c.requires.directory in
+    let here_s : has s.directories u ≡ true = on_directories c.args.t.now.nodes fits u ∙ c.superior_of-superior.ensures.directory in
     let given : c.value-given.result ≡ q u = rw (c.deref.ensures.value, c.deref-2.ensures.value) at c.value-given.ensures in
     let enough : c.args.pages ≤ q u = omega (arith, c.if-given-pages.false) in
     let quota : c.value-quota.result ≡ q c.args.dir = rw (c.deref-3.ensures.value, c.deref-4.ensures.value) at c.value-quota.ensures in

@@ -1,6 +1,7 @@
 use Rattle.std.proofs.Common.{◌≡◌, ◌≤◌, ℕ, true, false, sym, ap, subst, ◌∙◌, arith}
 use Rattle.quota_cells.specs.Accounts.{has}
 use Rattle.quota_cells.specs.Cells.{CellMaps, quota_in, load_in, Fits, is_over, over_answer}
+use Rattle.quota_cells.proofs.FitLaws.{on_directories}
 use Rattle.quota_cells.proofs.TransferLaws.{u2, up_is, up_over_s, up_over_d, up_first_s, up_first_d, up_none}
 use Rattle.quota_cells.proofs.Cells.may_move_up.Goals as goal
 
@@ -10,8 +11,8 @@ returns-then-is_superior_over c =
     let u : ℕ = c.superior_of-superior.result in
     let q : ℕ → ℕ = quota_in s in
     let fits : Fits c.args.t.now.nodes s = subst (Fits c.args.t.now.nodes) (sym c.self.view_is) c.requires.fits in
-    let here_d : has s.directories c.args.dir ≡ true = fits.directories c.args.dir ∙ c.requires.directory in
-    let here_s : has s.directories u ≡ true = fits.directories u ∙ c.superior_of-superior.ensures.directory in
+    let here_d : has s.directories c.args.dir ≡ true = on_directories c.args.t.now.nodes fits c.args.dir ∙ c.requires.directory in
+    let here_s : has s.directories u ≡ true = on_directories c.args.t.now.nodes fits u ∙ c.superior_of-superior.ensures.directory in
     let given : c.value-given.result ≡ q c.args.dir = rw (c.deref.ensures.value, c.deref-2.ensures.value) at c.value-given.ensures in
     let enough : c.args.pages ≤ q c.args.dir = omega (arith, c.if-given-pages.false) in
     let load : c.value-load.result ≡ load_in s c.args.dir = rw (c.deref-3.ensures.value, c.deref-4.ensures.value) at c.value-load.ensures in
@@ -26,8 +27,8 @@ returns-then-is_inferior_over c =
     let u : ℕ = c.superior_of-superior.result in
     let q : ℕ → ℕ = quota_in s in
     let fits : Fits c.args.t.now.nodes s = subst (Fits c.args.t.now.nodes) (sym c.self.view_is) c.requires.fits in
-    let here_d : has s.directories c.args.dir ≡ true = fits.directories c.args.dir ∙ c.requires.directory in
-    let here_s : has s.directories u ≡ true = fits.directories u ∙ c.superior_of-superior.ensures.directory in
+    let here_d : has s.directories c.args.dir ≡ true = on_directories c.args.t.now.nodes fits c.args.dir ∙ c.requires.directory in
+    let here_s : has s.directories u ≡ true = on_directories c.args.t.now.nodes fits u ∙ c.superior_of-superior.ensures.directory in
     let given : c.value-given.result ≡ q c.args.dir = rw (c.deref.ensures.value, c.deref-2.ensures.value) at c.value-given.ensures in
     let enough : c.args.pages ≤ q c.args.dir = omega (arith, c.if-given-pages.false) in
     let load : c.value-load.result ≡ load_in s c.args.dir = rw (c.deref-3.ensures.value, c.deref-4.ensures.value) at c.value-load.ensures in
@@ -43,8 +44,8 @@ returns c =
     let u : ℕ = c.superior_of-superior.result in
     let q : ℕ → ℕ = quota_in s in
     let fits : Fits c.args.t.now.nodes s = subst (Fits c.args.t.now.nodes) (sym c.self.view_is) c.requires.fits in
-    let here_d : has s.directories c.args.dir ≡ true = fits.directories c.args.dir ∙ c.requires.directory in
-    let here_s : has s.directories u ≡ true = fits.directories u ∙ c.superior_of-superior.ensures.directory in
+    let here_d : has s.directories c.args.dir ≡ true = on_directories c.args.t.now.nodes fits c.args.dir ∙ c.requires.directory in
+    let here_s : has s.directories u ≡ true = on_directories c.args.t.now.nodes fits u ∙ c.superior_of-superior.ensures.directory in
     let given : c.value-given.result ≡ q c.args.dir = rw (c.deref.ensures.value, c.deref-2.ensures.value) at c.value-given.ensures in
     let enough : c.args.pages ≤ q c.args.dir = omega (arith, c.if-given-pages.false) in
     let load : c.value-load.result ≡ load_in s c.args.dir = rw (c.deref-3.ensures.value, c.deref-4.ensures.value) at c.value-load.ensures in

@@ -4,7 +4,7 @@ use Rattle.storage_terms.specs.Tree.{above}
 use Rattle.dir_tree.specs.Shape.{shapes}
 use Rattle.quota_cells.specs.Accounts.{has}
 use Rattle.quota_cells.specs.Cells.{CellMaps, quota_in, Fits, IsTable, first_over, with_quota}
-use Rattle.quota_cells.proofs.FitLaws.{all_there, falling, covered_there, seamed}
+use Rattle.quota_cells.proofs.FitLaws.{on_directories, all_there, falling, covered_there, seamed}
 use Rattle.quota_cells.proofs.MoveLaws.{covers_more}
 use Rattle.quota_cells.proofs.OverLaws.{c2, even2, fits2, table2, conserved, room1, room2}
 use Rattle.quota_cells.proofs.TransferLaws.{directory_in}
@@ -21,8 +21,8 @@ overflow_add-more c =
     let s : CellMaps = record { directories = c.self.inside.directories.items; quotas = c.self.inside.quotas.items; loads = c.self.inside.loads.items; segments = c.self.inside.segments.items; stored = c.self.inside.stored.items } in
     let f : ℕ → List ℕ = above (shapes c.args.t.now.nodes) in
     let fits : Fits c.args.t.now.nodes s = subst (Fits c.args.t.now.nodes) (sym c.self.view_is) c.requires.fits in
-    let here_g : has s.directories c.args.getter ≡ true = fits.directories c.args.getter ∙ c.requires.getter in
-    let here_v : has s.directories c.args.giver ≡ true = fits.directories c.args.giver ∙ c.requires.giver in
+    let here_g : has s.directories c.args.getter ≡ true = on_directories c.args.t.now.nodes fits c.args.getter ∙ c.requires.getter in
+    let here_v : has s.directories c.args.giver ≡ true = on_directories c.args.t.now.nodes fits c.args.giver ∙ c.requires.giver in
     let enough : c.args.pages ≤ quota_in s c.args.giver = subst (λ (x : CellMaps). c.args.pages ≤ quota_in x c.args.giver) (sym c.self.view_is) c.requires.enough in
     let more : c.value.result ≡ quota_in s c.args.getter = rw (c.deref.ensures.value, c.deref-2.ensures.value) at c.value.ensures in
     omega (arith, more, room1 c.args.t.now.nodes s c.self.invariant.0 fits c.superiors-above_getter.ensures.chains c.args.getter c.args.giver c.args.pages c.requires.other here_g here_v c.requires.pages enough)
@@ -35,8 +35,8 @@ transfer-requires-clause-getter_there c =
     let s : CellMaps = record { directories = c.self.inside.directories.items; quotas = c.self.inside.quotas.items; loads = c.self.inside.loads.items; segments = c.self.inside.segments.items; stored = c.self.inside.stored.items } in
     let f : ℕ → List ℕ = above (shapes c.args.t.now.nodes) in
     let fits : Fits c.args.t.now.nodes s = subst (Fits c.args.t.now.nodes) (sym c.self.view_is) c.requires.fits in
-    let here_g : has s.directories c.args.getter ≡ true = fits.directories c.args.getter ∙ c.requires.getter in
-    let here_v : has s.directories c.args.giver ≡ true = fits.directories c.args.giver ∙ c.requires.giver in
+    let here_g : has s.directories c.args.getter ≡ true = on_directories c.args.t.now.nodes fits c.args.getter ∙ c.requires.getter in
+    let here_v : has s.directories c.args.giver ≡ true = on_directories c.args.t.now.nodes fits c.args.giver ∙ c.requires.giver in
     let enough : c.args.pages ≤ quota_in s c.args.giver = subst (λ (x : CellMaps). c.args.pages ≤ quota_in x c.args.giver) (sym c.self.view_is) c.requires.enough in
     let up_g : c.as_slice.result.now ≡ f c.args.getter = c.as_slice.ensures.value ∙ c.superiors-above_getter.ensures.plain in
     let up_v : c.as_slice-2.result.now ≡ f c.args.giver = c.as_slice-2.ensures.value ∙ c.superiors-above_giver.ensures.plain in
@@ -47,8 +47,8 @@ transfer-requires-clause-getter_falls c =
     let s : CellMaps = record { directories = c.self.inside.directories.items; quotas = c.self.inside.quotas.items; loads = c.self.inside.loads.items; segments = c.self.inside.segments.items; stored = c.self.inside.stored.items } in
     let f : ℕ → List ℕ = above (shapes c.args.t.now.nodes) in
     let fits : Fits c.args.t.now.nodes s = subst (Fits c.args.t.now.nodes) (sym c.self.view_is) c.requires.fits in
-    let here_g : has s.directories c.args.getter ≡ true = fits.directories c.args.getter ∙ c.requires.getter in
-    let here_v : has s.directories c.args.giver ≡ true = fits.directories c.args.giver ∙ c.requires.giver in
+    let here_g : has s.directories c.args.getter ≡ true = on_directories c.args.t.now.nodes fits c.args.getter ∙ c.requires.getter in
+    let here_v : has s.directories c.args.giver ≡ true = on_directories c.args.t.now.nodes fits c.args.giver ∙ c.requires.giver in
     let enough : c.args.pages ≤ quota_in s c.args.giver = subst (λ (x : CellMaps). c.args.pages ≤ quota_in x c.args.giver) (sym c.self.view_is) c.requires.enough in
     let up_g : c.as_slice.result.now ≡ f c.args.getter = c.as_slice.ensures.value ∙ c.superiors-above_getter.ensures.plain in
     let up_v : c.as_slice-2.result.now ≡ f c.args.giver = c.as_slice-2.ensures.value ∙ c.superiors-above_giver.ensures.plain in
@@ -59,8 +59,8 @@ transfer-requires-clause-giver_there c =
     let s : CellMaps = record { directories = c.self.inside.directories.items; quotas = c.self.inside.quotas.items; loads = c.self.inside.loads.items; segments = c.self.inside.segments.items; stored = c.self.inside.stored.items } in
     let f : ℕ → List ℕ = above (shapes c.args.t.now.nodes) in
     let fits : Fits c.args.t.now.nodes s = subst (Fits c.args.t.now.nodes) (sym c.self.view_is) c.requires.fits in
-    let here_g : has s.directories c.args.getter ≡ true = fits.directories c.args.getter ∙ c.requires.getter in
-    let here_v : has s.directories c.args.giver ≡ true = fits.directories c.args.giver ∙ c.requires.giver in
+    let here_g : has s.directories c.args.getter ≡ true = on_directories c.args.t.now.nodes fits c.args.getter ∙ c.requires.getter in
+    let here_v : has s.directories c.args.giver ≡ true = on_directories c.args.t.now.nodes fits c.args.giver ∙ c.requires.giver in
     let enough : c.args.pages ≤ quota_in s c.args.giver = subst (λ (x : CellMaps). c.args.pages ≤ quota_in x c.args.giver) (sym c.self.view_is) c.requires.enough in
     let up_g : c.as_slice.result.now ≡ f c.args.getter = c.as_slice.ensures.value ∙ c.superiors-above_getter.ensures.plain in
     let up_v : c.as_slice-2.result.now ≡ f c.args.giver = c.as_slice-2.ensures.value ∙ c.superiors-above_giver.ensures.plain in
@@ -71,8 +71,8 @@ transfer-requires-clause-giver_falls c =
     let s : CellMaps = record { directories = c.self.inside.directories.items; quotas = c.self.inside.quotas.items; loads = c.self.inside.loads.items; segments = c.self.inside.segments.items; stored = c.self.inside.stored.items } in
     let f : ℕ → List ℕ = above (shapes c.args.t.now.nodes) in
     let fits : Fits c.args.t.now.nodes s = subst (Fits c.args.t.now.nodes) (sym c.self.view_is) c.requires.fits in
-    let here_g : has s.directories c.args.getter ≡ true = fits.directories c.args.getter ∙ c.requires.getter in
-    let here_v : has s.directories c.args.giver ≡ true = fits.directories c.args.giver ∙ c.requires.giver in
+    let here_g : has s.directories c.args.getter ≡ true = on_directories c.args.t.now.nodes fits c.args.getter ∙ c.requires.getter in
+    let here_v : has s.directories c.args.giver ≡ true = on_directories c.args.t.now.nodes fits c.args.giver ∙ c.requires.giver in
     let enough : c.args.pages ≤ quota_in s c.args.giver = subst (λ (x : CellMaps). c.args.pages ≤ quota_in x c.args.giver) (sym c.self.view_is) c.requires.enough in
     let up_g : c.as_slice.result.now ≡ f c.args.getter = c.as_slice.ensures.value ∙ c.superiors-above_getter.ensures.plain in
     let up_v : c.as_slice-2.result.now ≡ f c.args.giver = c.as_slice-2.ensures.value ∙ c.superiors-above_giver.ensures.plain in
@@ -83,8 +83,8 @@ transfer-requires-clause-appears c =
     let s : CellMaps = record { directories = c.self.inside.directories.items; quotas = c.self.inside.quotas.items; loads = c.self.inside.loads.items; segments = c.self.inside.segments.items; stored = c.self.inside.stored.items } in
     let f : ℕ → List ℕ = above (shapes c.args.t.now.nodes) in
     let fits : Fits c.args.t.now.nodes s = subst (Fits c.args.t.now.nodes) (sym c.self.view_is) c.requires.fits in
-    let here_g : has s.directories c.args.getter ≡ true = fits.directories c.args.getter ∙ c.requires.getter in
-    let here_v : has s.directories c.args.giver ≡ true = fits.directories c.args.giver ∙ c.requires.giver in
+    let here_g : has s.directories c.args.getter ≡ true = on_directories c.args.t.now.nodes fits c.args.getter ∙ c.requires.getter in
+    let here_v : has s.directories c.args.giver ≡ true = on_directories c.args.t.now.nodes fits c.args.giver ∙ c.requires.giver in
     let enough : c.args.pages ≤ quota_in s c.args.giver = subst (λ (x : CellMaps). c.args.pages ≤ quota_in x c.args.giver) (sym c.self.view_is) c.requires.enough in
     let up_g : c.as_slice.result.now ≡ f c.args.getter = c.as_slice.ensures.value ∙ c.superiors-above_getter.ensures.plain in
     let up_v : c.as_slice-2.result.now ≡ f c.args.giver = c.as_slice-2.ensures.value ∙ c.superiors-above_giver.ensures.plain in
@@ -95,8 +95,8 @@ transfer-requires-clause-vanishes c =
     let s : CellMaps = record { directories = c.self.inside.directories.items; quotas = c.self.inside.quotas.items; loads = c.self.inside.loads.items; segments = c.self.inside.segments.items; stored = c.self.inside.stored.items } in
     let f : ℕ → List ℕ = above (shapes c.args.t.now.nodes) in
     let fits : Fits c.args.t.now.nodes s = subst (Fits c.args.t.now.nodes) (sym c.self.view_is) c.requires.fits in
-    let here_g : has s.directories c.args.getter ≡ true = fits.directories c.args.getter ∙ c.requires.getter in
-    let here_v : has s.directories c.args.giver ≡ true = fits.directories c.args.giver ∙ c.requires.giver in
+    let here_g : has s.directories c.args.getter ≡ true = on_directories c.args.t.now.nodes fits c.args.getter ∙ c.requires.getter in
+    let here_v : has s.directories c.args.giver ≡ true = on_directories c.args.t.now.nodes fits c.args.giver ∙ c.requires.giver in
     let enough : c.args.pages ≤ quota_in s c.args.giver = subst (λ (x : CellMaps). c.args.pages ≤ quota_in x c.args.giver) (sym c.self.view_is) c.requires.enough in
     let more : c.value.result ≡ quota_in s c.args.getter = rw (c.deref.ensures.value, c.deref-2.ensures.value) at c.value.ensures in
     let less : c.value-2.result ≡ quota_in s c.args.giver = rw (c.deref-3.ensures.value, c.deref-4.ensures.value) at c.value-2.ensures in
@@ -110,8 +110,8 @@ invariant_of-self c =
     let s : CellMaps = record { directories = c.self.inside.directories.items; quotas = c.self.inside.quotas.items; loads = c.self.inside.loads.items; segments = c.self.inside.segments.items; stored = c.self.inside.stored.items } in
     let f : ℕ → List ℕ = above (shapes c.args.t.now.nodes) in
     let fits : Fits c.args.t.now.nodes s = subst (Fits c.args.t.now.nodes) (sym c.self.view_is) c.requires.fits in
-    let here_g : has s.directories c.args.getter ≡ true = fits.directories c.args.getter ∙ c.requires.getter in
-    let here_v : has s.directories c.args.giver ≡ true = fits.directories c.args.giver ∙ c.requires.giver in
+    let here_g : has s.directories c.args.getter ≡ true = on_directories c.args.t.now.nodes fits c.args.getter ∙ c.requires.getter in
+    let here_v : has s.directories c.args.giver ≡ true = on_directories c.args.t.now.nodes fits c.args.giver ∙ c.requires.giver in
     let enough : c.args.pages ≤ quota_in s c.args.giver = subst (λ (x : CellMaps). c.args.pages ≤ quota_in x c.args.giver) (sym c.self.view_is) c.requires.enough in
     let more : c.value.result ≡ quota_in s c.args.getter = rw (c.deref.ensures.value, c.deref-2.ensures.value) at c.value.ensures in
     let less : c.value-2.result ≡ quota_in s c.args.giver = rw (c.deref-3.ensures.value, c.deref-4.ensures.value) at c.value-2.ensures in
@@ -133,8 +133,8 @@ returns-clause-fits c =
     let s : CellMaps = record { directories = c.self.inside.directories.items; quotas = c.self.inside.quotas.items; loads = c.self.inside.loads.items; segments = c.self.inside.segments.items; stored = c.self.inside.stored.items } in
     let f : ℕ → List ℕ = above (shapes c.args.t.now.nodes) in
     let fits : Fits c.args.t.now.nodes s = subst (Fits c.args.t.now.nodes) (sym c.self.view_is) c.requires.fits in
-    let here_g : has s.directories c.args.getter ≡ true = fits.directories c.args.getter ∙ c.requires.getter in
-    let here_v : has s.directories c.args.giver ≡ true = fits.directories c.args.giver ∙ c.requires.giver in
+    let here_g : has s.directories c.args.getter ≡ true = on_directories c.args.t.now.nodes fits c.args.getter ∙ c.requires.getter in
+    let here_v : has s.directories c.args.giver ≡ true = on_directories c.args.t.now.nodes fits c.args.giver ∙ c.requires.giver in
     let enough : c.args.pages ≤ quota_in s c.args.giver = subst (λ (x : CellMaps). c.args.pages ≤ quota_in x c.args.giver) (sym c.self.view_is) c.requires.enough in
     let more : c.value.result ≡ quota_in s c.args.getter = rw (c.deref.ensures.value, c.deref-2.ensures.value) at c.value.ensures in
     let less : c.value-2.result ≡ quota_in s c.args.giver = rw (c.deref-3.ensures.value, c.deref-4.ensures.value) at c.value-2.ensures in
@@ -155,8 +155,8 @@ returns-clause-total c =
     let s : CellMaps = record { directories = c.self.inside.directories.items; quotas = c.self.inside.quotas.items; loads = c.self.inside.loads.items; segments = c.self.inside.segments.items; stored = c.self.inside.stored.items } in
     let f : ℕ → List ℕ = above (shapes c.args.t.now.nodes) in
     let fits : Fits c.args.t.now.nodes s = subst (Fits c.args.t.now.nodes) (sym c.self.view_is) c.requires.fits in
-    let here_g : has s.directories c.args.getter ≡ true = fits.directories c.args.getter ∙ c.requires.getter in
-    let here_v : has s.directories c.args.giver ≡ true = fits.directories c.args.giver ∙ c.requires.giver in
+    let here_g : has s.directories c.args.getter ≡ true = on_directories c.args.t.now.nodes fits c.args.getter ∙ c.requires.getter in
+    let here_v : has s.directories c.args.giver ≡ true = on_directories c.args.t.now.nodes fits c.args.giver ∙ c.requires.giver in
     let enough : c.args.pages ≤ quota_in s c.args.giver = subst (λ (x : CellMaps). c.args.pages ≤ quota_in x c.args.giver) (sym c.self.view_is) c.requires.enough in
     let more : c.value.result ≡ quota_in s c.args.getter = rw (c.deref.ensures.value, c.deref-2.ensures.value) at c.value.ensures in
     let less : c.value-2.result ≡ quota_in s c.args.giver = rw (c.deref-3.ensures.value, c.deref-4.ensures.value) at c.value-2.ensures in
@@ -177,8 +177,8 @@ returns-clause-cells c =
     let s : CellMaps = record { directories = c.self.inside.directories.items; quotas = c.self.inside.quotas.items; loads = c.self.inside.loads.items; segments = c.self.inside.segments.items; stored = c.self.inside.stored.items } in
     let f : ℕ → List ℕ = above (shapes c.args.t.now.nodes) in
     let fits : Fits c.args.t.now.nodes s = subst (Fits c.args.t.now.nodes) (sym c.self.view_is) c.requires.fits in
-    let here_g : has s.directories c.args.getter ≡ true = fits.directories c.args.getter ∙ c.requires.getter in
-    let here_v : has s.directories c.args.giver ≡ true = fits.directories c.args.giver ∙ c.requires.giver in
+    let here_g : has s.directories c.args.getter ≡ true = on_directories c.args.t.now.nodes fits c.args.getter ∙ c.requires.getter in
+    let here_v : has s.directories c.args.giver ≡ true = on_directories c.args.t.now.nodes fits c.args.giver ∙ c.requires.giver in
     let enough : c.args.pages ≤ quota_in s c.args.giver = subst (λ (x : CellMaps). c.args.pages ≤ quota_in x c.args.giver) (sym c.self.view_is) c.requires.enough in
     let more : c.value.result ≡ quota_in s c.args.getter = rw (c.deref.ensures.value, c.deref-2.ensures.value) at c.value.ensures in
     let less : c.value-2.result ≡ quota_in s c.args.giver = rw (c.deref-3.ensures.value, c.deref-4.ensures.value) at c.value-2.ensures in
@@ -193,3 +193,15 @@ returns-clause-cells c =
     let l_seam = seamed c.transfer.new.loads s.loads _ c.self.inside.loads.len loads (even.loads ∙ sym l_size) (omega (arith, c.self.inside.loads.ok.0)) in
     let whole : (record { directories = s.directories; quotas = take c.self.inside.quotas.len (c.transfer.new.quotas ++ drop (length c.transfer.new.quotas) s.quotas); loads = take c.self.inside.loads.len (c.transfer.new.loads ++ drop (length c.transfer.new.loads) s.loads); segments = s.segments; stored = s.stored }) ≡ c2 c.args.t.now.nodes s c.self.invariant.0 fits c.superiors-above_getter.ensures.chains c.args.getter c.args.giver c.args.pages c.requires.other here_g here_v c.requires.pages enough = λ i. record { directories = s.directories; quotas = q_seam i; loads = l_seam i; segments = s.segments; stored = s.stored } in
     whole ∙ ap (λ (x : CellMaps). with_quota (with_quota x (f c.args.getter) c.args.getter (quota_in x c.args.getter + c.args.pages)) (f c.args.giver) c.args.giver (quota_in x c.args.giver - c.args.pages)) c.self.view_is
+
+pub transfer-requires-clause-getter : goal.transfer-requires-clause-getter
+transfer-requires-clause-getter c =
+    let s : CellMaps = record { directories = c.self.inside.directories.items; quotas = c.self.inside.quotas.items; loads = c.self.inside.loads.items; segments = c.self.inside.segments.items; stored = c.self.inside.stored.items } in
+    let fits : Fits c.args.t.now.nodes s = subst (Fits c.args.t.now.nodes) (sym c.self.view_is) c.requires.fits in
+    rw c.deref-5.ensures.value (on_directories c.args.t.now.nodes fits c.args.getter ∙ c.requires.getter)
+
+pub transfer-requires-clause-giver : goal.transfer-requires-clause-giver
+transfer-requires-clause-giver c =
+    let s : CellMaps = record { directories = c.self.inside.directories.items; quotas = c.self.inside.quotas.items; loads = c.self.inside.loads.items; segments = c.self.inside.segments.items; stored = c.self.inside.stored.items } in
+    let fits : Fits c.args.t.now.nodes s = subst (Fits c.args.t.now.nodes) (sym c.self.view_is) c.requires.fits in
+    rw c.deref-5.ensures.value (on_directories c.args.t.now.nodes fits c.args.giver ∙ c.requires.giver)
