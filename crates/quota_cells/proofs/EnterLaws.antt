@@ -30,6 +30,13 @@ not_in_segment : (ns : List Node) (u : ℕ) → is_in ns u ≡ false → is_segm
 not_in_segment [] u e = refl
 not_in_segment (n ∷ ns) u e = elim (cases_Bool (eqb n.uid u)) [ inl is ↦ (let z : true ≡ false = rw is at e in cc) | inr isnt ↦ rw isnt (not_in_segment ns u (rw isnt at e)) ]
 
+-- a uid that isn't in the tree has no cell
+pub absent_cell : (nodes : List Node) (c : CellMaps) → Fits nodes c → (u : ℕ) → is_in nodes u ≡ false → has_cell c u ≡ false
+absent_cell nodes c fits u absent =
+    let dir : has c.directories u ≡ false = on_directories nodes fits u ∙ not_in_directory nodes u absent in
+    let seg : has c.segments u ≡ false = on_segments nodes fits u ∙ not_in_segment nodes u absent in
+    rw (dir, seg) refl
+
 module _ (nodes : List Node) (n : Node) (old new : CellMaps) (fits : Fits nodes old) (chains : HasChains (shapes nodes)) (absent : is_in nodes n.uid ≡ false) (enters : Enters old new n.uid n.dir) where
   -- segments of the tree are as they were
   apart : (k : ℕ) → has old.segments k ≡ true → eqb n.uid k ≡ false

@@ -26,6 +26,10 @@ pub segment_not : (ns : List Node) (u : ℕ) → is_segment ns u ≡ true → ha
 segment_not [] u e = cc
 segment_not (n ∷ ns) u e = elim (cases_Bool (eqb n.uid u)) [ inl is ↦ (let h : not n.dir ≡ true = rw is at e in rw is (not-true n.dir h)) | inr isnt ↦ rw isnt (segment_not ns u (rw isnt at e)) ]
 
+pub directory_not : (ns : List Node) (u : ℕ) → is_directory ns u ≡ true → has_segment (shapes ns) u ≡ false
+directory_not [] u e = cc
+directory_not (n ∷ ns) u e = elim (cases_Bool (eqb n.uid u)) [ inl is ↦ (let h : n.dir ≡ true = rw is at e in rw (is, h) refl) | inr isnt ↦ rw isnt (directory_not ns u (rw isnt at e)) ]
+
 pub segment_shape : (ns : List Node) (u : ℕ) → has_segment (shapes ns) u ≡ is_segment ns u
 segment_shape [] u = refl
 segment_shape (n ∷ ns) u = elim (cases_Bool (eqb n.uid u)) [ inl is ↦ rw is refl | inr isnt ↦ rw isnt (segment_shape ns u) ]

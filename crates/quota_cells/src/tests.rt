@@ -43,13 +43,27 @@ fn charge(rt: &impl Abort, tree: &Tree, cells: &mut Cells, seg: u32) -> Result<(
     may
 }
 
+// Stops a test where a uid is not that of a segment.
+fn check_segment(rt: &impl Abort, tree: &Tree, uid: u32)
+    ensures { is_segment tree.now.nodes uid ≡ true }
+{
+    assert!(rt; !tree.node(uid).expect(rt, "the segment").dir);
+}
+
+// Stops a test where a uid is not that of a directory.
+fn check_directory(rt: &impl Abort, tree: &Tree, uid: u32)
+    ensures { is_directory tree.now.nodes uid ≡ true }
+{
+    assert!(rt; tree.node(uid).expect(rt, "the directory").dir);
+}
+
 // The stored pages of a segment.
 fn stored(rt: &impl Abort, tree: &Tree, cells: &Cells, seg: u32) -> u32
     requires { Fits tree.now.nodes cells.now }
     ensures segment { is_segment tree.now.nodes seg ≡ true }
     ensures stored { result ≡ stored_in cells.now seg }
 {
-    assert!(rt; !tree.node(seg).expect(rt, "the segment").dir);
+    check_segment(rt, tree, seg);
     cells.stored(seg)
 }
 
@@ -59,7 +73,7 @@ fn quota(rt: &impl Abort, tree: &Tree, cells: &Cells, dir: u32) -> u32
     ensures directory { is_directory tree.now.nodes dir ≡ true }
     ensures quota { result ≡ quota_in cells.now dir }
 {
-    assert!(rt; tree.node(dir).expect(rt, "the directory").dir);
+    check_directory(rt, tree, dir);
     cells.quota(dir)
 }
 
@@ -105,7 +119,7 @@ fn set_length(rt: &impl Abort, tree: &mut Tree, cells: &Cells, seg: u32, pages: 
     requires { Fits tree.old.nodes cells.now }
     ensures { Fits tree.new.nodes cells.now }
 {
-    assert!(rt; !tree.node(seg).expect(rt, "the segment").dir);
+    check_segment(rt, tree, seg);
     tree.set_length(seg, pages);
 }
 
@@ -173,12 +187,11 @@ fn a_page_is_counted_for_the_nearest_account_above(rt: HostRuntime) {
     make(&rt, &mut tree, &mut cells, 2, "s", false);
     make(&rt, &mut tree, &mut cells, 2, "b", true);
     make(&rt, &mut tree, &mut cells, 4, "t", false);
-    for _ in 0..2 {
-        assert_eq!(rt; charge(&rt, &tree, &mut cells, 3), Ok(()));
-    }
-    for _ in 0..3 {
-        assert_eq!(rt; charge(&rt, &tree, &mut cells, 5), Ok(()));
-    }
+    assert_eq!(rt; charge(&rt, &tree, &mut cells, 3), Ok(()));
+    assert_eq!(rt; charge(&rt, &tree, &mut cells, 3), Ok(()));
+    assert_eq!(rt; charge(&rt, &tree, &mut cells, 5), Ok(()));
+    assert_eq!(rt; charge(&rt, &tree, &mut cells, 5), Ok(()));
+    assert_eq!(rt; charge(&rt, &tree, &mut cells, 5), Ok(()));
     assert_eq!(rt; stored(&rt, &tree, &cells, 3), 2);
     assert_eq!(rt; stored(&rt, &tree, &cells, 5), 3);
     assert_eq!(rt; cells.used(ROOT), 5);
