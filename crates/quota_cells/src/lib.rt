@@ -9,10 +9,10 @@
 //! Costs: `new` takes all memory, once: five numbers of 4 bytes for each of 4097 cells. A look-up halves a list of
 //! uids: at most 13 looks. To go up is to read the directories above a node from the tree, at most 9 with one look-up
 //! each, and to look their cells up to the first account. `credit` goes up once from the segment, `charge` twice:
-//! once to see whether the account is full, and once to count. `move_quota` goes up once from the superior to see
-//! whether the quota may move, where it looks at no more than three accounts for one that would be above its quota,
-//! and then once from each of the two directories; besides, it reads the directories above twice for the superior.
-//! `enter` and `leave` move a part of the lists by one place. None but `new` takes memory.
+//! once to see whether the account is full, and once to count. `move_quota` goes up at most three times: from the
+//! superior, to see whether the quota may move, where it looks at no more than three accounts for one that would be
+//! above its quota, and then from each of the two directories; besides, it reads the directories above twice, for the
+//! superior. `enter` and `leave` move a part of the lists by one place. None but `new` takes memory.
 #![tactic(auto)]
 
 ghost use Rattle.std.specs.Prelude.{◌≡◌, ◌≢◌, ◌<◌, ◌≤◌, ◌+◌, ◌-◌, ◌^◌, ◌==◌, ◌&&◌, ◌||◌, not, ℕ, Bool, true, false, Some, None, List, length, IfOk, IfErr, IfSome, IfNone, OnOk, OnErr, IsErr, sum, if◌then◌else◌, [], ◌∷◌, vec_capacity};
