@@ -1,4 +1,4 @@
-pub mod Fields
+pub mod Causes
 pub mod Forms
 pub mod Grammar
 pub mod Plans

@@ -1,4 +1,0 @@
-mod LineLaws
-mod NumberLaws
-mod ReferenceLaws
-mod TailLaws
