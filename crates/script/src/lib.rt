@@ -2,6 +2,7 @@
 #![tactic(auto)]
 
 mod commands;
+mod drafts;
 mod plan;
 mod reader;
 mod refusals;
