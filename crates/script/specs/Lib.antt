@@ -7,3 +7,4 @@ pub mod Grammar
 pub mod Heads
 pub mod Lines
 pub mod Plans
+pub mod Readers

@@ -1,3 +1,5 @@
+use crate::refusals::Cause;
+
 /// What may stand next in a script (own).
 #[derive(Clone, Copy, Debug, PartialEq, Eq)]
 pub enum Stage {
@@ -17,4 +19,13 @@ pub enum Stage {
     Commands,
     /// A further process.
     Processes,
+}
+
+/// Why a line of a script changed nothing more.
+#[derive(Clone, Copy, Debug, PartialEq, Eq)]
+pub enum LineFault {
+    /// It is refused.
+    Refused(Cause),
+    /// There wasn't enough memory.
+    Memory,
 }

@@ -3,6 +3,8 @@
 
 mod commands;
 mod drafts;
+mod fields;
+mod lines;
 mod plan;
 mod reader;
 mod refusals;
