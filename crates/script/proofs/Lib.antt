@@ -1,1 +1,3 @@
 mod LineLaws
+mod NumberLaws
+mod PathLaws

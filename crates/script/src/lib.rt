@@ -8,6 +8,7 @@ mod lines;
 mod plan;
 mod reader;
 mod refusals;
+mod values;
 
 pub use commands::{Command, Process};
 pub use plan::{Bulk, Fail, Print, Script, VolumeLine};
