@@ -1,3 +1,4 @@
 mod LineLaws
 mod NumberLaws
 mod PathLaws
+mod VolumeLaws

@@ -1,6 +1,7 @@
 //! The script of a run: a machine, its volumes, and the commands of each process.
 #![tactic(auto)]
 
+mod command_lines;
 mod commands;
 mod drafts;
 mod fields;
@@ -9,6 +10,7 @@ mod plan;
 mod reader;
 mod refusals;
 mod values;
+mod volumes;
 
 pub use commands::{Command, Process};
 pub use plan::{Bulk, Fail, Print, Script, VolumeLine};

@@ -30,7 +30,7 @@ fn decimal(text: &[u8]) -> Option<u64>
 
 /// The number of a field, from low to high.
 #[tactic(auto, unfolding(crate::specs::Lines::number_in))]
-pub(crate) fn number(text: &[u8], low: u32, high: u32) -> Result<u32, Cause>
+pub(crate) fn number_in(text: &[u8], low: u32, high: u32) -> Result<u32, Cause>
     ensures number { Gives (λ n. n) result (number_in low high text.now) }
     ensures at_least { IfOk result (λ n. low ≤ n) }
     ensures at_most { IfOk result (λ n. n ≤ high) }
@@ -42,28 +42,28 @@ pub(crate) fn number(text: &[u8], low: u32, high: u32) -> Result<u32, Cause>
 }
 
 /// The word of a field.
-pub(crate) fn word(text: &[u8]) -> Result<Word, Cause>
+pub(crate) fn word_in(text: &[u8]) -> Result<Word, Cause>
     ensures { Gives (λ w. w) result (word_in text.now) }
 {
     read_octal(text).ok_or(Cause::Number)
 }
 
 /// The entry name of a field.
-pub(crate) fn name(text: &[u8]) -> Result<Name, Cause>
+pub(crate) fn name_in(text: &[u8]) -> Result<Name, Cause>
     ensures { Gives (λ n. n) result (name_in text.now) }
 {
     read_name(text).ok_or(Cause::Name)
 }
 
 /// The principal of a field.
-pub(crate) fn who(text: &[u8]) -> Result<Who, Cause>
+pub(crate) fn who_in(text: &[u8]) -> Result<Who, Cause>
     ensures { Gives (λ w. w) result (who_in text.now) }
 {
     read_who(text).ok_or(Cause::Name)
 }
 
 /// The row of a field.
-pub(crate) fn row(text: &[u8]) -> Result<Row, Cause>
+pub(crate) fn row_in(text: &[u8]) -> Result<Row, Cause>
     ensures { Gives (λ r. r) result (row_in text.now) }
 {
     read_row(text).ok_or(Cause::Name)
@@ -71,7 +71,7 @@ pub(crate) fn row(text: &[u8]) -> Result<Row, Cause>
 
 /// The path of a field.
 #[tactic(auto, using(crate::proofs::PathLaws::path_read, crate::proofs::PathLaws::no_path_read, crate::proofs::PathLaws::path_is, std::proofs::lemmas::Grind::common_steps))]
-pub(crate) fn path(text: &[u8]) -> Result<Path, Cause>
+pub(crate) fn path_in(text: &[u8]) -> Result<Path, Cause>
     ensures path { Gives (λ p. p) result (path_in text.now) }
     ensures range { IfOk result (λ p. is_path p ≡ true) }
 {
@@ -86,7 +86,7 @@ pub(crate) fn path(text: &[u8]) -> Result<Path, Cause>
 
 /// The mode of a field.
 #[tactic(auto, unfolding(crate::specs::Lines::mode_in))]
-pub(crate) fn mode(text: &[u8]) -> Result<Mode, Cause>
+pub(crate) fn mode_in(text: &[u8]) -> Result<Mode, Cause>
     ensures { Gives (λ m. m) result (mode_in text.now) }
 {
     match text {
@@ -100,7 +100,7 @@ pub(crate) fn mode(text: &[u8]) -> Result<Mode, Cause>
 
 /// What a listing has, by a field.
 #[tactic(auto, unfolding(crate::specs::Lines::print_in))]
-pub(crate) fn print(text: &[u8]) -> Result<Print, Cause>
+pub(crate) fn print_in(text: &[u8]) -> Result<Print, Cause>
     ensures { Gives (λ p. p) result (print_in text.now) }
 {
     if text == b"short".as_slice() {
@@ -116,7 +116,7 @@ pub(crate) fn print(text: &[u8]) -> Result<Print, Cause>
 
 /// Whether the calls of a field are writes; else they are reads.
 #[tactic(auto, unfolding(crate::specs::Lines::is_write_in))]
-pub(crate) fn is_write(text: &[u8]) -> Result<bool, Cause>
+pub(crate) fn is_write_in(text: &[u8]) -> Result<bool, Cause>
     ensures { Gives (λ w. w) result (is_write_in text.now) }
 {
     match text {
@@ -128,25 +128,25 @@ pub(crate) fn is_write(text: &[u8]) -> Result<bool, Cause>
 
 /// The amount of a field.
 #[tactic(auto, unfolding(crate::specs::Lines::amount_in))]
-pub(crate) fn amount(text: &[u8]) -> Result<i32, Cause>
+pub(crate) fn amount_in(text: &[u8]) -> Result<i32, Cause>
     ensures amount { Gives (λ a. a) result (amount_in text.now) }
     ensures range { IfOk result (λ a. is_from 1 16384 (unsigned_abs a) ≡ true) }
 {
     match text.split_first() {
-        Some((b'+', digits)) => Ok(number(digits, 1, 16384)? as i32),
-        Some((b'-', digits)) => Ok(-(number(digits, 1, 16384)? as i32)),
+        Some((b'+', digits)) => Ok(number_in(digits, 1, 16384)? as i32),
+        Some((b'-', digits)) => Ok(-(number_in(digits, 1, 16384)? as i32)),
         _ => Err(Cause::Number),
     }
 }
 
 /// The number of a call that fails, and whether all after it do.
 #[tactic(auto, unfolding(crate::specs::Lines::call_in))]
-pub(crate) fn call(text: &[u8]) -> Result<(u32, bool), Cause>
+pub(crate) fn call_in(text: &[u8]) -> Result<(u32, bool), Cause>
     ensures call { Gives (λ c. c) result (call_in text.now) }
     ensures range { IfOk result (λ c. is_from 1 1000000 c.0 ≡ true) }
 {
     match text.split_last() {
-        Some((b'+', digits)) => Ok((number(digits, 1, 1_000_000)?, true)),
-        _ => Ok((number(text, 1, 1_000_000)?, false)),
+        Some((b'+', digits)) => Ok((number_in(digits, 1, 1_000_000)?, true)),
+        _ => Ok((number_in(text, 1, 1_000_000)?, false)),
     }
 }
