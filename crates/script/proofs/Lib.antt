@@ -1,3 +1,4 @@
+mod DraftLaws
 mod LineLaws
 mod NumberLaws
 mod PathLaws

@@ -69,3 +69,64 @@ plan_of d = record {
   initializer = d.initializer;
   processes = d.processes;
 }
+
+-- no volume must still come
+abbrev pub has_volume : Stage → Bool
+has_volume stage.Machine = false
+has_volume stage.Quota = false
+has_volume stage.FirstVolume = false
+has_volume _ = true
+
+-- a volume may still come, so nothing that names one came
+abbrev pub is_early : Stage → Bool
+is_early stage.Machine = true
+is_early stage.Quota = true
+is_early stage.FirstVolume = true
+is_early stage.Volumes = true
+is_early _ = false
+
+-- commands of a process stand next
+abbrev pub is_inside : Stage → Bool
+is_inside stage.Commands = true
+is_inside _ = false
+
+-- no process began
+abbrev pub is_head : Stage → Bool
+is_head stage.Commands = false
+is_head stage.Processes = false
+is_head _ = true
+
+abbrev pub goes_on : Command → Bool
+goes_on c = not (is_end c)
+
+-- the processes, the one whose commands stand next among them
+abbrev pub begun_at : Stage → DraftPlan → List ProcessPlan
+begun_at stage.Commands d = d.processes ++ record { who = d.who; commands = d.commands } ∷ []
+begun_at _ d = d.processes
+
+-- what each draft keeps; it becomes what each script keeps
+pub record IsDraft (d : DraftPlan) : Type 0 where
+  pub processors : (1 ≤ d.processors) × (d.processors ≤ 8)
+  pub frames : (4 ≤ d.frames) × (d.frames ≤ 1024)
+  pub pools : ArePools d.pools
+  pub quota : d.quota ≤ 16384
+  pub some : has_volume d.stage ≡ true → 1 ≤ length d.volumes
+  pub few : length d.volumes ≤ 4
+  pub volumes : list_all is_volume d.volumes ≡ true
+  pub names : have_own_names d.volumes ≡ true
+  pub records : sum_by records_of d.volumes ≤ 16384
+  pub bulks : list_all (is_bulk (length d.volumes)) d.bulks ≡ true
+  pub apart : have_own_volumes d.bulks ≡ true
+  pub fails : list_all (is_fail (length d.volumes)) d.fails ≡ true
+  pub most : length d.fails ≤ 100
+  pub early : is_early d.stage ≡ true → (d.bulks ≡ []) × (d.fails ≡ []) × (d.commands ≡ [])
+  pub head : is_head d.stage ≡ true → d.processes ≡ []
+  pub room : is_inside d.stage ≡ true → length d.processes < 32
+  pub processes : length d.processes ≤ 32
+  pub each : list_all (is_process (length d.volumes)) d.processes ≡ true
+  pub first : d.initializer ≡ true → BeginsWithInitializer (begun_at d.stage d)
+  pub who : is_who d.who ≡ true
+  pub commands : list_all (is_command (length d.volumes)) d.commands ≡ true
+  pub going : list_all goes_on d.commands ≡ true
+  pub weights : sum_by weight_of d.processes + sum_by weight d.commands ≤ d.used
+  pub used : d.used ≤ 100000

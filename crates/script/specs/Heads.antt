@@ -4,10 +4,9 @@ use Rattle.std.specs.List.{list_any}
 use Rattle.std.specs.Str.{bytes_eq}
 use Rattle.script.specs.Commands.{command_of}
 use Rattle.script.specs.Drafts.{DraftPlan, initializer_who}
-use Rattle.script.specs.Forms.{is_before, records_of, weight}
+use Rattle.script.specs.Forms.{is_before, is_end, records_of, weight}
 use Rattle.script.specs.Lines.{◌>>=◌, only_if, no_fields, one_field, two_fields, three_fields, six_fields, number_in, who_in, print_in, is_write_in, volume_in, new_name_in, call_in}
 use Rattle.script.specs.declared.commands.Command.{Command}
-use Rattle.script.specs.declared.commands.Command.TheVariants as command
 use Rattle.script.specs.declared.drafts.Stage.{Stage}
 use Rattle.script.specs.declared.drafts.Stage.TheVariants as stage
 use Rattle.script.specs.declared.refusals.Cause.{Cause}
@@ -85,8 +84,7 @@ process_line d fields = do
 
 -- a command, with which so many came in all; at the end the process is whole
 abbrev pub with_command : DraftPlan → ℕ → Command → DraftPlan
-with_command d used command.End = record d { stage = stage.Processes; processes = d.processes ++ record { who = d.who; commands = d.commands ++ command.End ∷ [] } ∷ []; commands = []; used = used }
-with_command d used c = record d { commands = d.commands ++ c ∷ []; used = used }
+with_command d used c = if is_end c then record d { stage = stage.Processes; processes = d.processes ++ record { who = d.who; commands = d.commands ++ c ∷ [] } ∷ []; commands = []; used = used } else record d { commands = d.commands ++ c ∷ []; used = used }
 
 -- a command of a process; at most 100,000 in all
 unfoldable pub command_line : DraftPlan → List ℕ → List (List ℕ) → Result DraftPlan Cause

@@ -9,6 +9,8 @@ mod lines;
 mod plan;
 mod reader;
 mod refusals;
+#[cfg(test)]
+mod tests;
 mod values;
 mod volumes;
 

@@ -1,6 +1,8 @@
 ghost use Rattle.std.specs.Prelude.{◌<◌, ◌^◌, length};
 ghost use Rattle.script.specs.Grammar.{Reads, script_of};
 
+use crate::drafts::{Draft, LineFault};
+use crate::lines::next_line;
 use crate::plan::Script;
 use crate::refusals::Refusal;
 use std::alloc::Global;
@@ -20,7 +22,26 @@ pub fn read_script(alloc: Global, bytes: &[u8]) -> Result<Script, ScriptFault>
     requires { length bytes.now < 2 ^ 31 }
     ensures { Reads result (script_of bytes.now) }
 {
-    let _alloc = alloc;
-    let _count = bytes.len();
-    Err(ScriptFault::Memory)
+    let mut draft = Draft::blank(alloc);
+    let mut rest = bytes;
+    let mut number: u32 = 1;
+    while !rest.is_empty() {
+        let (line, after) = next_line(rest);
+        match draft.line(alloc, line) {
+            Ok(()) => {}
+            Err(LineFault::Refused(cause)) => {
+                return Err(ScriptFault::Refused(Refusal {
+                    line: number,
+                    cause,
+                }));
+            }
+            Err(LineFault::Memory) => return Err(ScriptFault::Memory),
+        }
+        rest = after;
+        number += 1;
+    }
+    match draft.into_script(number) {
+        Ok(script) => Ok(script),
+        Err(refusal) => Err(ScriptFault::Refused(refusal)),
+    }
 }
