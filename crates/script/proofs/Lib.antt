@@ -2,4 +2,6 @@ mod DraftLaws
 mod LineLaws
 mod NumberLaws
 mod PathLaws
+mod PushLaws
+mod ReaderLaws
 mod VolumeLaws
