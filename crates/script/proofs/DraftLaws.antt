@@ -34,7 +34,6 @@ blank_is volumes bulks fails processes who commands a b c d e f = rw (a, b, c, d
     apart : false ≡ true → ⊥
     apart e = cc
 
-
 false_not_true : false ≡ true → ⊥
 false_not_true e = cc
 

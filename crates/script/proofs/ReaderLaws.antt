@@ -39,7 +39,13 @@ unfolding lines_of
 no_lines [] e = refl
 no_lines (b ∷ bs) e = absurd (omega arith)
 
-pub all_read : (n : ℕ) (d : DraftPlan) (bytes all : List ℕ) (r : Result Plan Refusal) → length bytes ≡ 0 → r ≡ whole_or_missing n d → fold numbered (Ok (n, d)) (lines_of bytes) ≡ fold numbered (Ok (1, blank)) (lines_of all) → script_of all ≡ r
+all_read : (n : ℕ) (d : DraftPlan) (bytes all : List ℕ) (r : Result Plan Refusal) → length bytes ≡ 0 → r ≡ whole_or_missing n d → fold numbered (Ok (n, d)) (lines_of bytes) ≡ fold numbered (Ok (1, blank)) (lines_of all) → script_of all ≡ r
 unfolding script_of finished
 all_read n d bytes all r end e h =
     ap finished (sym h ∙ ap (λ ls. fold numbered (Ok (n, d)) ls) (no_lines bytes end)) ∙ sym e
+
+pub whole_read : (n : ℕ) (d : DraftPlan) (p : Plan) (bytes all : List ℕ) → length bytes ≡ 0 → Ok p ≡ whole_or_missing n d → fold numbered (Ok (n, d)) (lines_of bytes) ≡ fold numbered (Ok (1, blank)) (lines_of all) → script_of all ≡ Ok p
+whole_read n d p bytes all end e h = all_read n d bytes all (Ok p) end e h
+
+pub missing_read : (n : ℕ) (d : DraftPlan) (r : Refusal) (bytes all : List ℕ) → length bytes ≡ 0 → Err r ≡ whole_or_missing n d → fold numbered (Ok (n, d)) (lines_of bytes) ≡ fold numbered (Ok (1, blank)) (lines_of all) → script_of all ≡ Err r
+missing_read n d r bytes all end e h = all_read n d bytes all (Err r) end e h

@@ -381,7 +381,8 @@ impl Draft {
         self.processes.reserve(1)?;
         self.commands.push(command)?;
         let commands = mem::replace(&mut self.commands, Vec::new(alloc));
-        self.processes.push_reserved(Process::new(self.who.copied(), commands));
+        self.processes
+            .push_reserved(Process::new(self.who.copied(), commands));
         self.stage = Stage::Processes;
         self.used = used;
         Ok(())

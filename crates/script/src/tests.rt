@@ -18,8 +18,11 @@ end
 ";
 
 /// What reading gives: `script`, or the line and the cause of the refusal.
-fn outcome(alloc: Global, text: &str) -> Result<String, AllocError> {
-    match read_script(alloc, text.as_bytes()) {
+fn outcome(alloc: Global, text: &[u8]) -> Result<String, AllocError> {
+    if text.len() > 4_194_304 {
+        return format!(in alloc; "too long");
+    }
+    match read_script(alloc, text) {
         Ok(_) => format!(in alloc; "script"),
         Err(ScriptFault::Refused(refusal)) => {
             let line = refusal.line;
@@ -33,7 +36,7 @@ fn outcome(alloc: Global, text: &str) -> Result<String, AllocError> {
 /// Each text gives its outcome.
 fn check(rt: &(impl Abort + AllocGlobal), cases: &[(&str, &str)]) -> Result<(), Fail> {
     for (text, wanted) in cases {
-        let given = outcome(rt.alloc(), text)?;
+        let given = outcome(rt.alloc(), text.as_bytes())?;
         assert_eq!(rt; given.as_str(), *wanted, "{text}");
     }
     Ok(())
@@ -43,7 +46,7 @@ fn check(rt: &(impl Abort + AllocGlobal), cases: &[(&str, &str)]) -> Result<(), 
 fn check_after_head(rt: &(impl Abort + AllocGlobal), cases: &[(&str, &str)]) -> Result<(), Fail> {
     for (text, wanted) in cases {
         let whole = format!(in rt.alloc(); "{HEAD}{text}")?;
-        let given = outcome(rt.alloc(), whole.as_str())?;
+        let given = outcome(rt.alloc(), whole.as_bytes())?;
         assert_eq!(rt; given.as_str(), *wanted, "{text}");
     }
     Ok(())
@@ -53,7 +56,7 @@ fn check_after_head(rt: &(impl Abort + AllocGlobal), cases: &[(&str, &str)]) -> 
 fn check_command(rt: &(impl Abort + AllocGlobal), cases: &[(&str, &str)]) -> Result<(), Fail> {
     for (line, wanted) in cases {
         let whole = format!(in rt.alloc(); "{HEAD}process Smith\n{line}\nend\n")?;
-        let given = outcome(rt.alloc(), whole.as_str())?;
+        let given = outcome(rt.alloc(), whole.as_bytes())?;
         assert_eq!(rt; given.as_str(), *wanted, "{line}");
     }
     Ok(())
@@ -305,7 +308,7 @@ fn numbers_stay_in_their_ranges(rt: HostRuntime) -> Result<(), Fail> {
         ("machine 1 4 12 1 1 1\nquota", "2: fields"),
         ("machine 1 4 12 1 1 1\nquota 4 4", "2: fields"),
     ] {
-        let given = outcome(rt.alloc(), line)?;
+        let given = outcome(rt.alloc(), line.as_bytes())?;
         assert_eq!(rt; given.as_str(), wanted, "{line}");
     }
     Ok(())
@@ -326,7 +329,10 @@ fn volumes_are_few_and_apart(rt: HostRuntime) -> Result<(), Fail> {
         ("volume a>b x 1", "3: name"),
         ("volume a 16384 1\nvolume b 1 1", "4: many"),
         ("volume a 16383 1\nvolume b 1 1", "script"),
-        ("volume a 1 1\nvolume b 1 1\nvolume c 1 1\nvolume d 1 1", "script"),
+        (
+            "volume a 1 1\nvolume b 1 1\nvolume c 1 1\nvolume d 1 1",
+            "script",
+        ),
         (
             "volume a 1 1\nvolume b 1 1\nvolume c 1 1\nvolume d 1 1\nvolume e 1 1",
             "7: many",
@@ -343,7 +349,7 @@ fn volumes_are_few_and_apart(rt: HostRuntime) -> Result<(), Fail> {
         ("volume a 1 1\nvolume A 1 1", "script"),
     ] {
         let text = format!(in rt.alloc(); "machine 1 4 12 1 1 1\nquota 4\n{lines}")?;
-        let given = outcome(rt.alloc(), text.as_str())?;
+        let given = outcome(rt.alloc(), text.as_bytes())?;
         assert_eq!(rt; given.as_str(), wanted, "{lines}");
     }
     check_after_head(
@@ -543,7 +549,12 @@ fn limits_on_how_many_are_kept(rt: HostRuntime) -> Result<(), Fail> {
         ("process Smith\nend\n", 32, "process *", "68: name"),
         ("fail alpha read 1\n", 100, "", "script"),
         ("fail alpha read 1\n", 101, "", "104: many"),
-        ("fail alpha read 1\n", 100, "fail alpha read 0", "104: number"),
+        (
+            "fail alpha read 1\n",
+            100,
+            "fail alpha read 0",
+            "104: number",
+        ),
         ("", 0, "process Smith\nawait 0 0 1 99999\nend\n", "script"),
         ("", 0, "process Smith\nawait 0 0 1 100000\nend\n", "6: many"),
         (
@@ -564,31 +575,58 @@ fn limits_on_how_many_are_kept(rt: HostRuntime) -> Result<(), Fail> {
             "initializer\nawait 0 0 1 99999\nend\nprocess Jones\nend\n",
             "8: many",
         ),
-        ("", 0, "process Smith\nawait 0 0 1 100000\nawait 0 0 1 100001", "6: number"),
+        (
+            "",
+            0,
+            "process Smith\nawait 0 0 1 100000\nawait 0 0 1 100001",
+            "6: number",
+        ),
     ] {
         let text = repeated(rt.alloc(), line, times, end)?;
-        let given = outcome(rt.alloc(), text.as_str())?;
+        let given = outcome(rt.alloc(), text.as_bytes())?;
         assert_eq!(rt; given.as_str(), wanted, "{line}{end}");
     }
     Ok(())
 }
 
+// From so many bytes of the script on, and below so many, the outcome is this.
 #[test]
 fn the_first_script_is_refused_where_it_is_cut(rt: HostRuntime) -> Result<(), Fail> {
-    let bytes = FIRST.as_bytes();
-    let mut scripts = 0;
-    for length in 0..=bytes.len() {
-        let cut = &bytes[..length];
-        let lines = cut.split(|byte| *byte == b'\n').count();
-        let read = read_script(rt.alloc(), cut).is_ok();
-        let whole = length + 1 >= bytes.len();
-        let head = length == HEAD.len() || length + 1 == HEAD.len();
-        if read {
-            scripts += 1;
+    for (first, past, wanted) in [
+        (0, 1, "1: missing"),
+        (1, 7, "1: order"),
+        (7, 20, "1: fields"),
+        (20, 22, "2: missing"),
+        (22, 26, "2: order"),
+        (26, 28, "2: fields"),
+        (28, 30, "3: missing"),
+        (30, 35, "3: order"),
+        (35, 45, "3: fields"),
+        (45, 47, "script"),
+        (47, 53, "4: order"),
+        (53, 55, "4: fields"),
+        (55, 61, "5: missing"),
+        (61, 65, "5: order"),
+        (65, 72, "5: fields"),
+        (72, 76, "5: unknown"),
+        (76, 78, "6: missing"),
+        (78, 85, "6: order"),
+        (85, 87, "6: fields"),
+        (87, 90, "7: missing"),
+        (90, 94, "7: order"),
+        (94, 100, "7: fields"),
+        (100, 102, "8: missing"),
+        (102, 105, "8: order"),
+        (105, 109, "8: fields"),
+        (109, 111, "9: missing"),
+        (111, 113, "9: order"),
+        (113, 115, "script"),
+    ] {
+        for length in first..past {
+            let cut = FIRST.as_bytes().get(..length).expect(&rt, "so many bytes");
+            let given = outcome(rt.alloc(), cut)?;
+            assert_eq!(rt; given.as_str(), wanted, "{length}");
         }
-        assert!(rt; !(whole || head) || read, "{length}, line {lines}");
     }
-    // a quota, records or entries that lost no digit at their ends are whole numbers too
-    assert_eq!(rt; scripts, 4);
     Ok(())
 }
