@@ -1,7 +1,6 @@
 -- Laws of drafts (own).
-use Rattle.std.proofs.Common.{◌≡◌, ◌≢◌, ℕ, suc, zero, ◌+◌, ◌-◌, ◌<◌, ◌≤◌, Bool, true, false, cond, not, nat_le, nat_lt, ◌&&◌, ◌||◌, List, [], ◌∷◌, ◌++◌, length, refl, sym, ap, subst, ◌∙◌, arith, sum_by}
+use Rattle.std.proofs.Common.{◌≡◌, ℕ, ◌+◌, ◌<◌, ◌≤◌, true, false, not, nat_le, nat_lt, ◌&&◌, List, [], ◌∷◌, ◌++◌, length, refl, sym, ap, subst, ◌∙◌, arith, sum_by}
 use Rattle.std.proofs.lemmas.Bool.Decides.{nat_tests}
-use Rattle.std.proofs.lemmas.Grind.{common_steps}
 use Rattle.mnames.specs.Names.{is_name}
 use Rattle.mnames.specs.declared.principals.Who.{Who}
 use Rattle.std.specs.List.{list_all, list_any}
@@ -15,7 +14,6 @@ use Rattle.script.specs.declared.drafts.Stage.{Stage}
 use Rattle.script.specs.declared.drafts.Stage.TheVariants as stage
 use Rattle.script.specs.declared.plan.Bulk.{Bulk}
 use Rattle.script.specs.declared.plan.Fail.{Fail}
-use Rattle.script.specs.declared.plan.Print.TheVariants as print
 use Rattle.script.specs.declared.plan.VolumeLine.{VolumeLine}
 use Rattle.script.proofs.PathLaws.{and_both, and_parts}
 use Rattle.script.proofs.PushLaws.{all_push, begins_same, bulks_push, end_push, length_push, names_push, sum_push}

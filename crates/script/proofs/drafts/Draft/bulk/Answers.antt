@@ -1,9 +1,6 @@
-use Rattle.std.proofs.Common.{◌≡◌, ◌∙◌, ap, arith, refl, sym, length, ◌+◌, true}
-use Rattle.std.proofs.lemmas.Bool.Decides.{nat_tests}
-use Rattle.std.proofs.lemmas.Grind.{common_steps}
+use Rattle.std.proofs.Common.{◌∙◌, ap}
 use Rattle.script.proofs.DraftLaws.{bulk_added}
-use Rattle.script.specs.Drafts.{DraftPlan, has_volume, is_early, is_head, is_inside}
-use Rattle.script.specs.Forms.{is_command, weight}
+use Rattle.script.specs.Drafts.{DraftPlan, has_volume, is_head}
 use Rattle.script.proofs.drafts.Draft.bulk.Goals as goal
 
 pub invariant_of-self-2 : goal.invariant_of-self-2

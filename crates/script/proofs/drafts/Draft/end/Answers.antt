@@ -1,8 +1,6 @@
-use Rattle.std.proofs.Common.{◌≡◌, ◌∙◌, ap, arith, refl, sym, length, ◌+◌, true}
-use Rattle.std.proofs.lemmas.Bool.Decides.{nat_tests}
-use Rattle.std.proofs.lemmas.Grind.{common_steps}
+use Rattle.std.proofs.Common.{◌∙◌, ap, refl, sym, length, ◌+◌}
 use Rattle.script.proofs.DraftLaws.{process_ended}
-use Rattle.script.specs.Drafts.{DraftPlan, has_volume, is_early, is_head, is_inside}
+use Rattle.script.specs.Drafts.{DraftPlan, is_inside}
 use Rattle.script.specs.Forms.{is_command, weight}
 use Rattle.script.proofs.drafts.Draft.end.Goals as goal
 

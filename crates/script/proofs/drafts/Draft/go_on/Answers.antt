@@ -1,8 +1,6 @@
-use Rattle.std.proofs.Common.{◌≡◌, ◌∙◌, ap, arith, refl, sym, length, ◌+◌, true}
-use Rattle.std.proofs.lemmas.Bool.Decides.{nat_tests}
-use Rattle.std.proofs.lemmas.Grind.{common_steps}
+use Rattle.std.proofs.Common.{◌∙◌, ap, sym, length, ◌+◌}
 use Rattle.script.proofs.DraftLaws.{command_added}
-use Rattle.script.specs.Drafts.{DraftPlan, has_volume, is_early, is_head, is_inside}
+use Rattle.script.specs.Drafts.{DraftPlan, is_inside}
 use Rattle.script.specs.Forms.{is_command, weight}
 use Rattle.script.proofs.drafts.Draft.go_on.Goals as goal
 

@@ -1,9 +1,7 @@
-use Rattle.std.proofs.Common.{◌≡◌, ◌∙◌, ap, arith, refl, sym, length, ◌+◌, true}
-use Rattle.std.proofs.lemmas.Bool.Decides.{nat_tests}
+use Rattle.std.proofs.Common.{◌∙◌, ap, arith}
 use Rattle.std.proofs.lemmas.Grind.{common_steps}
 use Rattle.script.proofs.DraftLaws.{volume_added}
-use Rattle.script.specs.Drafts.{DraftPlan, has_volume, is_early, is_head, is_inside}
-use Rattle.script.specs.Forms.{is_command, weight}
+use Rattle.script.specs.Drafts.{DraftPlan, is_early}
 use Rattle.script.proofs.drafts.Draft.volume.Goals as goal
 
 pub invariant_of-self-2 : goal.invariant_of-self-2
