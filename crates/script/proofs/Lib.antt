@@ -1,4 +1,7 @@
+mod DraftLaws
 mod LineLaws
 mod NumberLaws
-mod ReferenceLaws
-mod TailLaws
+mod PathLaws
+mod PushLaws
+mod ReaderLaws
+mod VolumeLaws

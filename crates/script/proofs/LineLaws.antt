@@ -1,9 +1,8 @@
--- Laws of lines, fields and numbers.
-use Rattle.std.proofs.Common.{◌≡◌, ◌≢◌, ℕ, suc, zero, ◌+◌, ◌-◌, ◌<◌, ◌≤◌, Bool, true, false, not, ◌&&◌, eqb, List, [], ◌∷◌, ◌++◌, length, Option, Some, None, refl, sym, ap, ◌∙◌, arith, get_or, take, drop, drop-cons, add-one, append_assoc}
+-- Laws of lines and fields (own).
+use Rattle.std.proofs.Common.{◌≡◌, ◌≢◌, ℕ, suc, zero, ◌+◌, ◌-◌, ◌<◌, ◌≤◌, false, eqb, List, [], ◌∷◌, ◌++◌, length, refl, sym, ap, ◌∙◌, arith, get_or, take, drop, drop-cons, add-one}
 use Rattle.std.proofs.lemmas.Bool.Decides.{nat_tests}
 use Rattle.std.proofs.lemmas.Grind.{common_steps}
-use Rattle.std.proofs.lemmas.List.{take_more}
-use Rattle.script.specs.Fields.{line_at, onto_line, is_tight_after, fields_of, onto_field}
+use Rattle.script.specs.Fields.{lines_of, onto_piece, fields_of, onto_field}
 
 pub drop_at : (xs : List ℕ) (i : ℕ) → i < length xs → drop i xs ≡ get_or xs i 0 ∷ drop (i + 1) xs
 drop_at xs i h = rw (add-one, drop-cons xs i 0) refl
@@ -18,83 +17,41 @@ all_left xs i = grind (arith, common_steps)
 none_left : (xs : List ℕ) (i : ℕ) → length xs ≤ i → drop i xs ≡ []
 none_left xs i h = grind (arith, common_steps)
 
--- bytes at the front of the first line
-abbrev pub with_start : List ℕ → Option (List ℕ × List ℕ) → Option (List ℕ × List ℕ)
-with_start xs None = None
-with_start xs (Some l) = Some (xs ++ l.0, l.1)
+-- no line feed stands before i
+abbrev pub NoFeedBefore : ℕ → List ℕ → Type 0
+NoFeedBefore i bs = (k : ℕ) → k < i → get_or bs k 0 ≢ 10
 
-start_more : (xs : List ℕ) (b : ℕ) (l : Option (List ℕ × List ℕ)) → with_start xs (onto_line b l) ≡ with_start (xs ++ b ∷ []) l
-start_more xs b None = refl
-start_more xs b (Some l) = ap (λ (t : List ℕ). Some (t, l.1)) (sym (append_assoc xs (b ∷ []) l.0))
+lines_nil : lines_of [] ≡ []
+unfolding lines_of
+lines_nil = refl
 
-line_feed : (bs : List ℕ) (b : ℕ) → b ≡ 10 → line_at (b ∷ bs) ≡ Some ([], bs)
-unfolding line_at
-line_feed bs b e = rw e refl
+line_feed : (b : ℕ) (bs : List ℕ) → b ≡ 10 → lines_of (b ∷ bs) ≡ [] ∷ lines_of bs
+unfolding lines_of
+line_feed b bs e = rw e refl
 
-line_byte : (bs : List ℕ) (b : ℕ) → b ≢ 10 → line_at (b ∷ bs) ≡ onto_line b (line_at bs)
-unfolding line_at
-line_byte bs b ne = let z : eqb b 10 ≡ false = grind (arith, nat_tests) in rw z refl
+line_byte : (b : ℕ) (bs : List ℕ) → b ≢ 10 → lines_of (b ∷ bs) ≡ onto_piece b (lines_of bs)
+unfolding lines_of
+line_byte b bs ne = let z : eqb b 10 ≡ false = grind (arith, nat_tests) in rw z refl
 
-line_nil : line_at [] ≡ None
-unfolding line_at
-line_nil = refl
+-- the first line ends before a line feed
+lines_split : (bs : List ℕ) (i : ℕ) → NoFeedBefore i bs → i < length bs → get_or bs i 0 ≡ 10 → lines_of bs ≡ take i bs ∷ lines_of (drop (suc i) bs)
+lines_split [] i clear lt e = absurd (omega arith)
+lines_split (b ∷ bs) zero clear lt e = line_feed b bs e
+lines_split (b ∷ bs) (suc i) clear lt e =
+    line_byte b bs (clear 0 (omega arith)) ∙ ap (onto_piece b) (lines_split bs i (λ k h. clear (suc k) (omega arith)) (omega arith) e)
 
-pub line_none_yet : (bs : List ℕ) → line_at bs ≡ with_start (take 0 bs) (line_at (drop 0 bs))
-line_none_yet bs = kept (line_at bs)
-  where
-    kept : (l : Option (List ℕ × List ℕ)) → l ≡ with_start [] l
-    kept None = refl
-    kept (Some l) = refl
+pub line_found : (bs : List ℕ) (i : ℕ) → NoFeedBefore i bs → i < length bs → get_or bs i 0 ≡ 10 → lines_of bs ≡ take i bs ∷ lines_of (take (length bs - (i + 1)) (drop (i + 1) bs))
+line_found bs i clear lt e = rw (all_left bs (i + 1), add-one) (lines_split bs i clear lt e)
 
-pub line_next : (bs : List ℕ) (i : ℕ) → i < length bs → get_or bs i 0 ≢ 10 → line_at bs ≡ with_start (take i bs) (line_at (drop i bs)) → line_at bs ≡ with_start (take (i + 1) bs) (line_at (drop (i + 1) bs))
-line_next bs i lt ne h =
-    h
-    ∙ ap (λ (t : List ℕ). with_start (take i bs) (line_at t)) (drop_at bs i lt)
-    ∙ ap (λ (t : Option (List ℕ × List ℕ)). with_start (take i bs) t) (line_byte (drop (i + 1) bs) (get_or bs i 0) ne)
-    ∙ start_more (take i bs) (get_or bs i 0) (line_at (drop (i + 1) bs))
-    ∙ ap (λ (t : List ℕ). with_start t (line_at (drop (i + 1) bs))) (sym (take_more bs i 0 lt))
+-- the last line may lack its line feed
+lines_last : (b : ℕ) (bs : List ℕ) → NoFeedBefore (suc (length bs)) (b ∷ bs) → lines_of (b ∷ bs) ≡ (b ∷ bs) ∷ []
+lines_last b [] clear = line_byte b [] (clear 0 (omega arith)) ∙ rw lines_nil refl
+lines_last b (c ∷ cs) clear =
+    line_byte b (c ∷ cs) (clear 0 (omega arith)) ∙ ap (onto_piece b) (lines_last c cs (λ k h. clear (suc k) (omega arith)))
 
-pub line_found : (bs : List ℕ) (i : ℕ) → i < length bs → get_or bs i 0 ≡ 10 → line_at bs ≡ with_start (take i bs) (line_at (drop i bs)) → line_at bs ≡ Some (take i bs, take (length bs - (i + 1)) (drop (i + 1) bs))
-line_found bs i lt e h =
-    h
-    ∙ ap (λ (t : List ℕ). with_start (take i bs) (line_at t)) (drop_at bs i lt)
-    ∙ ap (λ (t : Option (List ℕ × List ℕ)). with_start (take i bs) t) (line_feed (drop (i + 1) bs) (get_or bs i 0) e)
-    ∙ rw (nil_after (take i bs), all_left bs (i + 1)) refl
-
-pub line_missing : (bs : List ℕ) (i : ℕ) → length bs ≤ i → line_at bs ≡ with_start (take i bs) (line_at (drop i bs)) → line_at bs ≡ None
-line_missing bs i le h =
-    h
-    ∙ ap (λ (t : List ℕ). with_start (take i bs) (line_at t)) (none_left bs i le)
-    ∙ ap (λ (t : Option (List ℕ × List ℕ)). with_start (take i bs) t) line_nil
-
--- one byte of a tight line
-tight_space : (gap : Bool) (b : ℕ) (bs : List ℕ) → b ≡ 32 → is_tight_after gap (b ∷ bs) ≡ (not gap && is_tight_after true bs)
-unfolding is_tight_after
-tight_space gap b bs e = rw e refl
-
-tight_byte : (gap : Bool) (b : ℕ) (bs : List ℕ) → b ≢ 32 → is_tight_after gap (b ∷ bs) ≡ is_tight_after false bs
-unfolding is_tight_after
-tight_byte gap b bs ne = let z : eqb b 32 ≡ false = grind (arith, nat_tests) in rw z refl
-
-tight_at : (bs : List ℕ) (i : ℕ) (gap : Bool) → i < length bs → is_tight_after gap (drop i bs) ≡ is_tight_after gap (get_or bs i 0 ∷ drop (i + 1) bs)
-tight_at bs i gap lt = ap (is_tight_after gap) (drop_at bs i lt)
-
-pub tight_gap : (bs : List ℕ) (i : ℕ) (gap : Bool) → i < length bs → get_or bs i 0 ≡ 32 → gap ≡ true → is_tight_after gap (drop i bs) ≡ is_tight_after true bs → false ≡ is_tight_after true bs
-tight_gap bs i gap lt e g h =
-    sym (tight_at bs i gap lt ∙ tight_space gap (get_or bs i 0) (drop (i + 1) bs) e ∙ ap (λ (z : Bool). not z && is_tight_after true (drop (i + 1) bs)) g) ∙ h
-
-pub tight_after_space : (bs : List ℕ) (i : ℕ) (gap : Bool) → i < length bs → get_or bs i 0 ≡ 32 → gap ≡ false → is_tight_after gap (drop i bs) ≡ is_tight_after true bs → is_tight_after true (drop (i + 1) bs) ≡ is_tight_after true bs
-tight_after_space bs i gap lt e g h = sym (tight_at bs i gap lt ∙ tight_space gap (get_or bs i 0) (drop (i + 1) bs) e ∙ ap (λ (z : Bool). not z && is_tight_after true (drop (i + 1) bs)) g) ∙ h
-
-pub tight_after_byte : (bs : List ℕ) (i : ℕ) (gap : Bool) → i < length bs → get_or bs i 0 ≢ 32 → is_tight_after gap (drop i bs) ≡ is_tight_after true bs → is_tight_after false (drop (i + 1) bs) ≡ is_tight_after true bs
-tight_after_byte bs i gap lt ne h = sym (tight_at bs i gap lt ∙ tight_byte gap (get_or bs i 0) (drop (i + 1) bs) ne) ∙ h
-
-tight_nil : (gap : Bool) → is_tight_after gap [] ≡ not gap
-unfolding is_tight_after
-tight_nil gap = refl
-
-pub tight_end : (bs : List ℕ) (i : ℕ) (gap : Bool) → length bs ≤ i → is_tight_after gap (drop i bs) ≡ is_tight_after true bs → not gap ≡ is_tight_after true bs
-tight_end bs i gap le h = sym (ap (is_tight_after gap) (none_left bs i le) ∙ tight_nil gap) ∙ h
+pub line_last : (bs : List ℕ) → NoFeedBefore (length bs) bs → 0 < length bs → lines_of bs ≡ bs ∷ lines_of []
+line_last [] clear some = absurd (omega arith)
+line_last (b ∷ bs) clear some = rw lines_nil (lines_last b bs clear)
 
 -- spaces before a field
 fields_space : (b : ℕ) (bs : List ℕ) → b ≡ 32 → fields_of (b ∷ bs) ≡ fields_of bs

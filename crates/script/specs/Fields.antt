@@ -1,32 +1,18 @@
--- Lines, fields and numbers of a text (own).
-use Rattle.std.specs.Prelude.{ℕ, ◌+◌, ◌-◌, ◌*◌, Bool, true, false, not, ◌&&◌, ◌==◌, nat_le, if◌then◌else◌, List, [], ◌∷◌, length, Option, Some, None}
+-- The lines of a script, the fields of a line, and what a field stands for (own).
+use Rattle.std.specs.Prelude.{ℕ, ◌+◌, ◌-◌, ◌*◌, Bool, ◌&&◌, ◌==◌, nat_le, if◌then◌else◌, List, [], ◌∷◌, length, Option, Some, None}
+use Rattle.std.specs.List.{list_all}
 use Rattle.std.specs.Char.{is_ascii_digit}
+use Rattle.script.specs.Forms.{is_path}
 
--- a byte at the front of the first line of what follows; none where no line feed follows
-abbrev pub onto_line : ℕ → Option (List ℕ × List ℕ) → Option (List ℕ × List ℕ)
-onto_line b None = None
-onto_line b (Some l) = Some (b ∷ l.0, l.1)
+-- a byte at the front of the first of some pieces
+abbrev pub onto_piece : ℕ → List (List ℕ) → List (List ℕ)
+onto_piece b [] = (b ∷ []) ∷ []
+onto_piece b (piece ∷ pieces) = (b ∷ piece) ∷ pieces
 
--- the first line without its line feed, and what follows it; none where no line feed comes
-unfoldable pub line_at : List ℕ → Option (List ℕ × List ℕ)
-line_at [] = None
-line_at (b ∷ bs) = if b == 10 then Some ([], bs) else onto_line b (line_at bs)
-
--- a line before other lines
-abbrev pub before_lines : List ℕ → Option (List (List ℕ)) → Option (List (List ℕ))
-before_lines line None = None
-before_lines line (Some lines) = Some (line ∷ lines)
-
--- a byte before the first of some lines, which must be there to end it
-abbrev pub onto_lines : ℕ → Option (List (List ℕ)) → Option (List (List ℕ))
-onto_lines b None = None
-onto_lines b (Some []) = None
-onto_lines b (Some (line ∷ lines)) = Some ((b ∷ line) ∷ lines)
-
--- the lines of a text each of which ends with a line feed; none where the last one lacks it
-unfoldable pub lines_of : List ℕ → Option (List (List ℕ))
-lines_of [] = Some []
-lines_of (b ∷ bs) = if b == 10 then before_lines [] (lines_of bs) else onto_lines b (lines_of bs)
+-- the lines of a text, without their line feeds; the last may lack its own, and is one only if it has a byte
+unfoldable pub lines_of : List ℕ → List (List ℕ)
+lines_of [] = []
+lines_of (b ∷ bs) = if b == 10 then [] ∷ lines_of bs else onto_piece b (lines_of bs)
 
 -- a byte that isn't a space, before what follows it and the fields of that
 abbrev pub onto_field : ℕ → List ℕ → List (List ℕ) → List (List ℕ)
@@ -39,15 +25,12 @@ unfoldable pub fields_of : List ℕ → List (List ℕ)
 fields_of [] = []
 fields_of (b ∷ bs) = if b == 32 then fields_of bs else onto_field b bs (fields_of bs)
 
--- whether no space stands at the end of a line, before another space, or, where a gap is open, at the
--- start
-unfoldable pub is_tight_after : Bool → List ℕ → Bool
-is_tight_after gap [] = not gap
-is_tight_after gap (b ∷ bs) = if b == 32 then not gap && is_tight_after true bs else is_tight_after false bs
+-- a printable ASCII character, or a space
+abbrev pub is_printable_byte : ℕ → Bool
+is_printable_byte b = nat_le 32 b && nat_le b 126
 
--- whether exactly one space stands between the fields of a line that has some, and no other space
-unfoldable pub is_tight : List ℕ → Bool
-is_tight line = is_tight_after true line
+unfoldable pub is_printable : List ℕ → Bool
+is_printable line = list_all is_printable_byte line
 
 -- the number that decimal digits stand for, after another number
 unfoldable pub decimal_value_from : ℕ → List ℕ → Option ℕ
@@ -57,3 +40,17 @@ decimal_value_from before (d ∷ ds) = if is_ascii_digit d then decimal_value_fr
 -- a number: 1 to 10 decimal digits
 unfoldable pub decimal_value : List ℕ → Option ℕ
 decimal_value text = if nat_le 1 (length text) && nat_le (length text) 10 then decimal_value_from 0 text else None
+
+-- the pieces of a text between its signs `>`, at least one
+unfoldable pub pieces_of : List ℕ → List (List ℕ)
+pieces_of [] = [] ∷ []
+pieces_of (b ∷ bs) = if b == 62 then [] ∷ pieces_of bs else onto_piece b (pieces_of bs)
+
+abbrev pub if_path : List (List ℕ) → Option (List (List ℕ))
+if_path names = if is_path names then Some names else None
+
+-- the names of the path that a text is: `>` for the root, else each name with `>` before it
+unfoldable pub path_of : List ℕ → Option (List (List ℕ))
+path_of [] = None
+path_of (b ∷ []) = if b == 62 then Some [] else None
+path_of (b ∷ c ∷ cs) = if b == 62 then if_path (pieces_of (c ∷ cs)) else None

@@ -1,55 +1,123 @@
--- The shape of the scripts that run so far (own).
-use Rattle.std.specs.Prelude.{◌≡◌, ℕ, ◌≤◌, Bool, true, false, ◌&&◌, nat_le, List, [], ◌∷◌, length, drop, Some, slice_get}
-use Rattle.script.specs.Plans.{Plan, commands_of}
+-- What each script keeps: its numbers are in their ranges, and each volume that it names is one of its own (own).
+use Rattle.std.specs.Prelude.{◌≡◌, ℕ, ◌+◌, ◌≤◌, Bool, true, false, not, ◌&&◌, ◌==◌, nat_le, nat_lt, List, [], ◌∷◌, length, sum_by, codes}
+use Rattle.std.specs.List.{list_all, list_any}
+use Rattle.std.specs.Str.{bytes_eq}
+use Rattle.std.specs.Int.RustNames.{unsigned_abs}
+use Rattle.mnames.specs.Names.{is_name, is_label}
+use Rattle.mnames.specs.Principals.{default_project}
+use Rattle.mnames.specs.declared.principals.Who.{Who}
+use Rattle.script.specs.Plans.{Plan, ProcessPlan}
+use Rattle.script.specs.declared.plan.Bulk.{Bulk}
+use Rattle.script.specs.declared.plan.Fail.{Fail}
 use Rattle.script.specs.declared.plan.VolumeLine.{VolumeLine}
 use Rattle.script.specs.declared.commands.Command.{Command}
 use Rattle.script.specs.declared.commands.Command.TheVariants as command
 
--- a reference to a word
-abbrev pub IsReference : Command → Type 0
-IsReference (command.Read number offset) = Unit {0}
-IsReference (command.Write number offset word) = Unit {0}
-IsReference _ = ⊥
+abbrev pub is_from : ℕ → ℕ → ℕ → Bool
+is_from low high n = nat_le low n && nat_le n high
 
--- references, and then the end
-abbrev pub IsTail : List Command → Type 0
-IsTail [] = ⊥
-IsTail (c ∷ []) = c ≡ command.End
-IsTail (c ∷ d ∷ cs) = IsReference c × IsTail (d ∷ cs)
+-- a pathname has at most nine names
+unfoldable pub is_path : List (List ℕ) → Bool
+is_path names = nat_le (length names) 9 && list_all is_name names
 
--- the same of what comes after the first commands
-abbrev pub IsTailAfter : List Command → List Command → Type 0
-IsTailAfter first commands = IsTail (drop (length first) commands)
+-- the place of a word: a segment number of a process, and an offset
+abbrev pub is_place : ℕ → ℕ → Bool
+is_place number offset = nat_le number 255 && nat_le offset 999999
 
--- the pages of the segment that the first command makes, and its path
-abbrev pub pages_of : List Command → ℕ
-pages_of (command.MkSeg path pages volume ∷ cs) = pages
-pages_of _ = 0
+-- a command's numbers are in their ranges, and its volume is one of so many
+unfoldable pub is_command : ℕ → Command → Bool
+is_command volumes (command.MkDir path volume) = is_path path && nat_lt volume volumes
+is_command volumes (command.MkSeg path pages volume) = is_path path && (is_from 1 256 pages && nat_lt volume volumes)
+is_command volumes (command.Initiate path) = is_path path
+is_command volumes (command.Terminate number) = nat_le number 255
+is_command volumes (command.Read number offset) = is_place number offset
+is_command volumes (command.Write number offset word) = is_place number offset
+is_command volumes (command.Add number offset word) = is_place number offset
+is_command volumes (command.Await number offset word tries) = is_place number offset && is_from 1 100000 tries
+is_command volumes (command.Acl path row mode) = is_path path
+is_command volumes (command.Length path pages) = is_path path && is_from 1 256 pages
+is_command volumes (command.Truncate path words) = is_path path && nat_le words 262144
+is_command volumes (command.Delete path) = is_path path
+is_command volumes (command.Move path amount) = is_path path && is_from 1 16384 (unsigned_abs amount)
+is_command volumes (command.Status path) = is_path path
+is_command volumes command.End = true
 
-abbrev pub path_of : List Command → List (List ℕ)
-path_of (command.MkSeg path pages volume ∷ cs) = path
-path_of _ = []
+abbrev pub is_end : Command → Bool
+is_end command.End = true
+is_end _ = false
 
--- what the process does: it makes a segment right below the root on the first volume, initiates it,
--- and refers to it
-pub record IsRun (commands : List Command) : Type 0 where
-  pub makes : slice_get commands 0 ≡ Some (command.MkSeg (path_of commands) (pages_of commands) 0)
-  pub initiates : slice_get commands 1 ≡ Some (command.Initiate (path_of commands))
-  pub refers : IsTail (drop 2 commands)
-  pub branch : length (path_of commands) ≡ 1
-  pub low : 1 ≤ pages_of commands
-  pub high : pages_of commands ≤ 256
-  pub most : length commands ≤ 100000
+-- the end comes last, and nowhere else
+unfoldable pub ends_once : List Command → Bool
+ends_once [] = false
+ends_once (c ∷ []) = is_end c
+ends_once (c ∷ d ∷ cs) = not (is_end c) && ends_once (d ∷ cs)
 
--- the first volume has records for so many pages, and two VTOC entries
-abbrev pub fits_in : List VolumeLine → ℕ → Bool
-fits_in [] pages = false
-fits_in (v ∷ vs) pages = nat_le pages v.records && nat_le 2 v.entries
+abbrev pub is_who : Who → Bool
+is_who who = is_label who.person && is_label who.project
 
--- one volume and one process, with quota and records for each page of the segment, and two VTOC entries
-pub record IsFirstForm (p : Plan) : Type 0 where
-  pub volumes : length p.volumes ≡ 1
-  pub processes : length p.processes ≡ 1
-  pub run : IsRun (commands_of p 0)
-  pub quota : pages_of (commands_of p 0) ≤ p.quota
-  pub fits : fits_in p.volumes (pages_of (commands_of p 0)) ≡ true
+unfoldable pub is_process : ℕ → ProcessPlan → Bool
+is_process volumes x = is_who x.who && (list_all (is_command volumes) x.commands && ends_once x.commands)
+
+-- so many commands a command counts as: an await as its tries
+abbrev pub weight : Command → ℕ
+weight (command.Await number offset word tries) = tries
+weight _ = 1
+
+unfoldable pub weight_of : ProcessPlan → ℕ
+weight_of x = sum_by weight x.commands
+
+-- the first process is for the initializer
+abbrev pub BeginsWithInitializer : List ProcessPlan → Type 0
+BeginsWithInitializer [] = ⊥
+BeginsWithInitializer (x ∷ xs) = x.who ≡ record { person = codes "Initializer"; project = default_project }
+
+abbrev pub ArePools : List ℕ → Type 0
+ArePools (four ∷ sixteen ∷ sixty_four ∷ most ∷ []) = (12 ≤ four) × (1 ≤ sixteen) × (1 ≤ sixty_four) × (1 ≤ most) × (four + sixteen + sixty_four + most ≤ 1024)
+ArePools _ = ⊥
+
+unfoldable pub is_volume : VolumeLine → Bool
+is_volume v = is_name v.name && (is_from 1 16384 v.records && is_from 1 4097 v.entries)
+
+abbrev pub has_name : List ℕ → VolumeLine → Bool
+has_name name v = bytes_eq v.name name
+
+-- no name is that of two volumes
+unfoldable pub have_own_names : List VolumeLine → Bool
+have_own_names [] = true
+have_own_names (v ∷ vs) = not (list_any (has_name v.name) vs) && have_own_names vs
+
+unfoldable pub is_bulk : ℕ → Bulk → Bool
+is_bulk volumes b = nat_lt b.volume volumes && is_from 1 1024 b.places
+
+abbrev pub is_before : ℕ → Bulk → Bool
+is_before volume b = b.volume == volume
+
+-- no volume has two fast stores
+unfoldable pub have_own_volumes : List Bulk → Bool
+have_own_volumes [] = true
+have_own_volumes (b ∷ bs) = not (list_any (is_before b.volume) bs) && have_own_volumes bs
+
+unfoldable pub is_fail : ℕ → Fail → Bool
+is_fail volumes f = nat_lt f.volume volumes && is_from 1 1000000 f.number
+
+abbrev pub records_of : VolumeLine → ℕ
+records_of v = v.records
+
+pub record IsPlan (p : Plan) : Type 0 where
+  pub processors : (1 ≤ p.processors) × (p.processors ≤ 8)
+  pub frames : (4 ≤ p.frames) × (p.frames ≤ 1024)
+  pub pools : ArePools p.pools
+  pub quota : p.quota ≤ 16384
+  pub some : 1 ≤ length p.volumes
+  pub few : length p.volumes ≤ 4
+  pub volumes : list_all is_volume p.volumes ≡ true
+  pub names : have_own_names p.volumes ≡ true
+  pub records : sum_by records_of p.volumes ≤ 16384
+  pub bulks : list_all (is_bulk (length p.volumes)) p.bulks ≡ true
+  pub apart : have_own_volumes p.bulks ≡ true
+  pub fails : list_all (is_fail (length p.volumes)) p.fails ≡ true
+  pub most : length p.fails ≤ 100
+  pub processes : length p.processes ≤ 32
+  pub each : list_all (is_process (length p.volumes)) p.processes ≡ true
+  pub first : p.initializer ≡ true → BeginsWithInitializer p.processes
+  pub commands : sum_by weight_of p.processes ≤ 100000

@@ -1,4 +1,10 @@
+pub mod Causes
+pub mod Commands
+pub mod Drafts
 pub mod Fields
 pub mod Forms
 pub mod Grammar
+pub mod Heads
+pub mod Lines
 pub mod Plans
+pub mod Readers

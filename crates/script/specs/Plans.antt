@@ -1,7 +1,10 @@
 -- What a script says: the machine, its volumes, and the processes (own).
-use Rattle.std.specs.Prelude.{ℕ, List, [], Option, slice_get, slice_index_or}
+use Rattle.std.specs.Prelude.{ℕ, Bool, List, [], Option, slice_get, slice_index_or}
 use Rattle.mnames.specs.declared.principals.Who.{Who}
 use Rattle.script.specs.declared.commands.Command.{Command}
+use Rattle.script.specs.declared.plan.Bulk.{Bulk}
+use Rattle.script.specs.declared.plan.Fail.{Fail}
+use Rattle.script.specs.declared.plan.Print.{Print}
 use Rattle.script.specs.declared.plan.VolumeLine.{VolumeLine}
 
 -- a process: for whom it runs, and its commands
@@ -9,14 +12,19 @@ pub record ProcessPlan : Type 0 where
   pub who : Who
   pub commands : List Command
 
--- processors; frames of core; places in the pools of the active segment table; quota of the root in
--- pages; volumes and processes in the order of the script
+-- processors; frames of core; places in the pools of the active segment table; quota of the root in pages; volumes in
+-- the order of the script; what is printed; fast stores before drives; calls of drives that fail; whether the first
+-- process is the initializer; processes in the order of the script
 pub record Plan : Type 0 where
   pub processors : ℕ
   pub frames : ℕ
   pub pools : List ℕ
   pub quota : ℕ
   pub volumes : List VolumeLine
+  pub print : Print
+  pub bulks : List Bulk
+  pub fails : List Fail
+  pub initializer : Bool
   pub processes : List ProcessPlan
 
 -- a principal that no process runs for

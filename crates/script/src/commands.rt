@@ -1,16 +1,21 @@
 ghost use Rattle.std.specs.Prelude.{◌≡◌};
 
-use mnames::{Path, Who};
+use mnames::{Mode, Path, Row, Who};
 use mword::Word;
 use std::marker::Model;
 
 /// What a process asks of the supervisor or of its virtual memory, one line of a script (own).
 ///
-/// Segments are named by paths, and once initiated by the numbers that their process knows them by,
-/// 0 to 255. An offset counts words from the start of the segment; volumes count from 0 in the order
-/// of the script.
+/// Segments and directories are named by paths, and segments, once initiated, by the numbers that their
+/// process knows them by, 0 to 255. An offset counts words from the start of the segment; volumes count
+/// from 0 in the order of the script.
 #[derive(Drop)]
 pub enum Command {
+    /// Makes a directory, with its entry on a volume.
+    MkDir {
+        path: Path,
+        volume: u32,
+    },
     /// Makes a segment of so many pages, of 1024 words each, on a volume.
     MkSeg {
         path: Path,
@@ -20,6 +25,10 @@ pub enum Command {
     /// Makes the segment known to the process by a number.
     Initiate {
         path: Path,
+    },
+    /// The number stands for nothing from then on.
+    Terminate {
+        number: u32,
     },
     /// Reads a word.
     Read {
@@ -31,6 +40,49 @@ pub enum Command {
         number: u32,
         offset: u32,
         word: Word,
+    },
+    /// Adds to a word, modulo 2^36.
+    Add {
+        number: u32,
+        offset: u32,
+        word: Word,
+    },
+    /// Reads a word until it is this one, at most so many times.
+    Await {
+        number: u32,
+        offset: u32,
+        word: Word,
+        tries: u32,
+    },
+    /// Sets a row of the segment's access control list.
+    Acl {
+        path: Path,
+        row: Row,
+        mode: Mode,
+    },
+    /// Changes a segment's length, in pages.
+    Length {
+        path: Path,
+        pages: u32,
+    },
+    /// The words of a segment from this one on become 0.
+    Truncate {
+        path: Path,
+        words: u32,
+    },
+    /// Deletes a segment or a directory.
+    Delete {
+        path: Path,
+    },
+    /// Moves quota, in pages, between a directory and the one above it: down to it where the amount is
+    /// positive, back where it is negative.
+    Move {
+        path: Path,
+        amount: i32,
+    },
+    /// Asks what a segment or a directory is like.
+    Status {
+        path: Path,
     },
     /// The process ends.
     End,

@@ -1,8 +1,9 @@
-ghost use Rattle.std.specs.Prelude.{◌≡◌, ◌≢◌, ◌<◌, ◌≤◌, IfOk, slice_index, [], ◌∷◌, length};
-ghost use Rattle.script.specs.Fields.{fields_of, decimal_value};
-ghost use Rattle.script.specs.Grammar.{Gives, field_at, after_word, at_end, number_in, number_at, branch_name, place_at};
+ghost use Rattle.std.specs.Prelude.{◌≡◌, ◌≢◌, ◌<◌, slice_index, [], ◌∷◌, length};
+ghost use Rattle.script.specs.Fields.{fields_of};
+ghost use Rattle.script.specs.Lines.{no_fields, one_field, two_fields, three_fields, four_fields, six_fields};
+ghost use Rattle.script.specs.Readers.{Gives};
 
-use crate::reader::ScriptFault;
+use crate::refusals::Cause;
 
 /// The line from its first byte on that isn't a space.
 #[tactic(auto, using(crate::proofs::LineLaws::space_passed, crate::proofs::LineLaws::field_starts, crate::proofs::LineLaws::all_spaces, std::proofs::lemmas::Grind::common_steps))]
@@ -20,7 +21,7 @@ fn skip_spaces(line: &[u8]) -> &[u8]
 
 /// The first field of a line and what follows it. The field is empty where the line has none.
 #[tactic(auto, using(crate::proofs::LineLaws::field_split, crate::proofs::LineLaws::field_last, crate::proofs::LineLaws::fields_nil, crate::proofs::LineLaws::fields_empty, std::proofs::lemmas::Grind::common_steps))]
-fn split_field(line: &[u8]) -> (&[u8], &[u8])
+pub(crate) fn split_field(line: &[u8]) -> (&[u8], &[u8])
     ensures some { 0 < length result.0.now → fields_of line.now ≡ result.0.now ∷ fields_of result.1.now }
     ensures none { length result.0.now ≡ 0 → fields_of line.now ≡ [] }
 {
@@ -33,102 +34,144 @@ fn split_field(line: &[u8]) -> (&[u8], &[u8])
     (line, &[])
 }
 
-/// The first field and what follows it.
-pub(crate) fn next_field(line: &[u8]) -> Result<(&[u8], &[u8]), ScriptFault>
-    ensures { Gives (λ f. (f.0.now, fields_of f.1.now)) result (field_at (fields_of line.now)) }
+/// Whether the line has no field; else it has too many.
+#[tactic(auto, unfolding(crate::specs::Lines::no_fields))]
+pub(crate) fn no_fields(line: &[u8]) -> Result<(), Cause>
+    ensures { Gives (λ u. u) result (no_fields (fields_of line.now)) }
 {
-    let (field, rest) = split_field(line);
-    if field.is_empty() {
-        Err(ScriptFault::Later)
+    let (more, _) = split_field(line);
+    if more.is_empty() {
+        Ok(())
     } else {
-        Ok((field, rest))
+        Err(Cause::Fields)
     }
 }
 
-/// What follows a word that must stand first.
-#[tactic(auto, unfolding(crate::specs::Grammar::after_word))]
-pub(crate) fn expect_word<'a>(line: &'a [u8], word: &[u8]) -> Result<&'a [u8], ScriptFault>
-    ensures { Gives (λ f. fields_of f.now) result (after_word word.now (fields_of line.now)) }
+/// The field of a line that has one.
+#[tactic(auto, unfolding(crate::specs::Lines::one_field))]
+pub(crate) fn one_field(line: &[u8]) -> Result<&[u8], Cause>
+    ensures { Gives (λ f. f.now) result (one_field (fields_of line.now)) }
 {
-    let (field, rest) = next_field(line)?;
-    if field == word {
-        Ok(rest)
+    let (first, rest) = split_field(line);
+    if first.is_empty() {
+        return Err(Cause::Fields);
+    }
+    let (more, _) = split_field(rest);
+    if more.is_empty() {
+        Ok(first)
     } else {
-        Err(ScriptFault::Later)
+        Err(Cause::Fields)
     }
 }
 
-/// The number that 1 to 10 decimal digits stand for.
-#[tactic(auto, using(crate::proofs::NumberLaws::number_starts, crate::proofs::NumberLaws::number_next, crate::proofs::NumberLaws::number_fits, crate::proofs::NumberLaws::number_below, crate::proofs::NumberLaws::number_stops, crate::proofs::NumberLaws::number_ends, crate::proofs::NumberLaws::number_empty, crate::proofs::NumberLaws::number_long, std::proofs::lemmas::Grind::common_steps))]
-fn decimal(text: &[u8]) -> Option<u64>
-    ensures { result ≡ decimal_value text.now }
+/// The fields of a line that has two.
+#[tactic(auto, unfolding(crate::specs::Lines::two_fields))]
+pub(crate) fn two_fields(line: &[u8]) -> Result<(&[u8], &[u8]), Cause>
+    ensures { Gives (λ f. (f.0.now, f.1.now)) result (two_fields (fields_of line.now)) }
 {
-    if text.is_empty() || text.len() > 10 {
-        return None;
+    let (first, rest) = split_field(line);
+    if first.is_empty() {
+        return Err(Cause::Fields);
     }
-    let mut value: u64 = 0;
-    for byte in text {
-        match byte {
-            b'0'..=b'9' => value = value * 10 + u64::from(*byte - b'0'),
-            _ => return None,
-        }
+    let (second, rest) = split_field(rest);
+    if second.is_empty() {
+        return Err(Cause::Fields);
     }
-    Some(value)
-}
-
-/// The number of a field, from low to high.
-fn number(text: &[u8], low: u32, high: u32) -> Result<u32, ScriptFault>
-    ensures number { Gives (λ n. n) result (number_in low high (decimal_value text.now)) }
-    ensures at_least { IfOk result (λ n. low ≤ n) }
-    ensures at_most { IfOk result (λ n. n ≤ high) }
-{
-    match decimal(text) {
-        Some(value) if u64::from(low) <= value && value <= u64::from(high) => Ok(value as u32),
-        _ => Err(ScriptFault::Later),
-    }
-}
-
-/// The number of the first field, from low to high, and what follows it.
-#[tactic(auto, unfolding(crate::specs::Grammar::number_at))]
-pub(crate) fn next_number(line: &[u8], low: u32, high: u32) -> Result<(u32, &[u8]), ScriptFault>
-    ensures number { Gives (λ n. (n.0, fields_of n.1.now)) result (number_at low high (fields_of line.now)) }
-    ensures at_least { IfOk result (λ n. low ≤ n.0) }
-    ensures at_most { IfOk result (λ n. n.0 ≤ high) }
-{
-    let (text, rest) = next_field(line)?;
-    let value = number(text, low, high)?;
-    Ok((value, rest))
-}
-
-/// The name of a path that is `>` and one name.
-pub(crate) fn branch_name(path: &[u8]) -> Result<&[u8], ScriptFault>
-    ensures { Gives (λ name. name.now) result (branch_name path.now) }
-{
-    match path.split_first() {
-        Some((b'>', name)) => Ok(name),
-        _ => Err(ScriptFault::Later),
-    }
-}
-
-/// A value, where no field follows it.
-pub(crate) fn at_end<T: Drop>(line: &[u8], value: T) -> Result<T, ScriptFault>
-    ensures end { Gives (λ x. x) result (at_end (fields_of line.now) value) }
-    ensures same { IfOk result (λ x. x ≡ value) }
-{
-    let (field, _) = split_field(line);
-    if field.is_empty() {
-        Ok(value)
+    let (more, _) = split_field(rest);
+    if more.is_empty() {
+        Ok((first, second))
     } else {
-        Err(ScriptFault::Later)
+        Err(Cause::Fields)
     }
 }
 
-/// The number and the offset of a reference, and what follows them.
-#[tactic(auto, unfolding(crate::specs::Grammar::place_at))]
-pub(crate) fn next_place(line: &[u8]) -> Result<(u32, u32, &[u8]), ScriptFault>
-    ensures { Gives (λ p. (p.0, p.1, fields_of p.2.now)) result (place_at (fields_of line.now)) }
+/// The fields of a line that has three.
+#[tactic(auto, unfolding(crate::specs::Lines::three_fields))]
+pub(crate) fn three_fields(line: &[u8]) -> Result<(&[u8], &[u8], &[u8]), Cause>
+    ensures { Gives (λ f. (f.0.now, f.1.now, f.2.now)) result (three_fields (fields_of line.now)) }
 {
-    let (number, rest) = next_number(line, 0, 255)?;
-    let (offset, rest) = next_number(rest, 0, 999_999)?;
-    Ok((number, offset, rest))
+    let (first, rest) = split_field(line);
+    if first.is_empty() {
+        return Err(Cause::Fields);
+    }
+    let (second, rest) = split_field(rest);
+    if second.is_empty() {
+        return Err(Cause::Fields);
+    }
+    let (third, rest) = split_field(rest);
+    if third.is_empty() {
+        return Err(Cause::Fields);
+    }
+    let (more, _) = split_field(rest);
+    if more.is_empty() {
+        Ok((first, second, third))
+    } else {
+        Err(Cause::Fields)
+    }
+}
+
+/// The fields of a line that has four.
+#[tactic(auto, unfolding(crate::specs::Lines::four_fields))]
+pub(crate) fn four_fields(line: &[u8]) -> Result<(&[u8], &[u8], &[u8], &[u8]), Cause>
+    ensures { Gives (λ f. (f.0.now, f.1.now, f.2.now, f.3.now)) result (four_fields (fields_of line.now)) }
+{
+    let (first, rest) = split_field(line);
+    if first.is_empty() {
+        return Err(Cause::Fields);
+    }
+    let (second, rest) = split_field(rest);
+    if second.is_empty() {
+        return Err(Cause::Fields);
+    }
+    let (third, rest) = split_field(rest);
+    if third.is_empty() {
+        return Err(Cause::Fields);
+    }
+    let (fourth, rest) = split_field(rest);
+    if fourth.is_empty() {
+        return Err(Cause::Fields);
+    }
+    let (more, _) = split_field(rest);
+    if more.is_empty() {
+        Ok((first, second, third, fourth))
+    } else {
+        Err(Cause::Fields)
+    }
+}
+
+/// The fields of a line that has six.
+#[tactic(auto, unfolding(crate::specs::Lines::six_fields))]
+pub(crate) fn six_fields(line: &[u8]) -> Result<(&[u8], &[u8], &[u8], &[u8], &[u8], &[u8]), Cause>
+    ensures { Gives (λ f. (f.0.now, f.1.now, f.2.now, f.3.now, f.4.now, f.5.now)) result (six_fields (fields_of line.now)) }
+{
+    let (first, rest) = split_field(line);
+    if first.is_empty() {
+        return Err(Cause::Fields);
+    }
+    let (second, rest) = split_field(rest);
+    if second.is_empty() {
+        return Err(Cause::Fields);
+    }
+    let (third, rest) = split_field(rest);
+    if third.is_empty() {
+        return Err(Cause::Fields);
+    }
+    let (fourth, rest) = split_field(rest);
+    if fourth.is_empty() {
+        return Err(Cause::Fields);
+    }
+    let (fifth, rest) = split_field(rest);
+    if fifth.is_empty() {
+        return Err(Cause::Fields);
+    }
+    let (sixth, rest) = split_field(rest);
+    if sixth.is_empty() {
+        return Err(Cause::Fields);
+    }
+    let (more, _) = split_field(rest);
+    if more.is_empty() {
+        Ok((first, second, third, fourth, fifth, sixth))
+    } else {
+        Err(Cause::Fields)
+    }
 }

@@ -1,7 +1,6 @@
 ghost use Rattle.std.specs.Prelude.{◌≡◌};
 
 use crate::commands::{Command, Process};
-use crate::heads::MachineLine;
 use mnames::{Name, Who};
 use std::marker::Model;
 
@@ -17,13 +16,46 @@ pub struct VolumeLine {
     pub entries: u32,
 }
 
-/// A script that was read. A contract sees its plan: the machine's numbers, the root's quota, the
-/// volumes and the processes.
+/// What a listing has beside its summary (own).
+#[derive(Clone, Copy, Debug, PartialEq, Eq)]
+pub enum Print {
+    /// Nothing.
+    Short,
+    /// What each process was answered.
+    Replies,
+    /// Each entry of the book.
+    All,
+}
+
+/// A fast store of so many pages before the drive of a volume (own).
+#[derive(Clone, Copy, Debug, PartialEq, Eq)]
+pub struct Bulk {
+    pub volume: u32,
+    pub places: u32,
+}
+
+/// A call of a volume's drive that fails (own): its read or write of this number, counted from 1, and
+/// where `onward` all after it.
+#[derive(Clone, Copy, Debug, PartialEq, Eq)]
+pub struct Fail {
+    pub volume: u32,
+    pub write: bool,
+    pub number: u32,
+    pub onward: bool,
+}
+
+/// A script that was read. A contract sees its plan.
 #[derive(Drop)]
 pub struct Script {
-    pub(crate) machine: MachineLine,
+    pub(crate) processors: u32,
+    pub(crate) frames: u32,
+    pub(crate) pools: [u32; 4],
     pub(crate) quota: u32,
     pub(crate) volumes: Vec<VolumeLine>,
+    pub(crate) print: Print,
+    pub(crate) bulks: Vec<Bulk>,
+    pub(crate) fails: Vec<Fail>,
+    pub(crate) initializer: bool,
     pub(crate) processes: Vec<Process>,
 }
 
@@ -33,43 +65,51 @@ impl Model for Script {
     ghost Value = { Plan };
 
     ghost view = { λ s. record {
-      processors = s.machine.processors;
-      frames = s.machine.frames;
-      pools = s.machine.pools;
+      processors = s.processors;
+      frames = s.frames;
+      pools = s.pools;
       quota = s.quota;
       volumes = s.volumes.items;
+      print = s.print;
+      bulks = s.bulks.items;
+      fails = s.fails.items;
+      initializer = s.initializer;
       processes = s.processes.items;
     } };
 
-    ghost use Rattle.script.specs.Forms.{IsFirstForm};
+    ghost use Rattle.script.specs.Forms.{IsPlan};
 
-    ghost invariant = { λ s. IsFirstForm (record {
-      processors = s.machine.processors;
-      frames = s.machine.frames;
-      pools = s.machine.pools;
+    ghost invariant = { λ s. IsPlan (record {
+      processors = s.processors;
+      frames = s.frames;
+      pools = s.pools;
       quota = s.quota;
       volumes = s.volumes.items;
+      print = s.print;
+      bulks = s.bulks.items;
+      fails = s.fails.items;
+      initializer = s.initializer;
       processes = s.processes.items;
     }) };
 }
 
 impl Script {
-    ghost use Rattle.std.specs.Prelude.{◌<◌, length, slice_get, Some};
+    ghost use Rattle.std.specs.Prelude.{◌<◌, length};
     ghost use Rattle.script.specs.Plans.{commands_of, who_of};
-    ghost use Rattle.script.specs.Forms.{IsFirstForm};
+    ghost use Rattle.script.specs.Forms.{IsPlan};
 
     /// How many processors the machine has.
     pub fn processors(&self) -> u32
         ensures { result ≡ self.now.processors }
     {
-        self.machine.processors
+        self.processors
     }
 
     /// How many frames of core the machine has, of a page each.
     pub fn frames(&self) -> u32
         ensures { result ≡ self.now.frames }
     {
-        self.machine.frames
+        self.frames
     }
 
     /// How many places the four pools of the active segment table have: those of page tables of 4, 16,
@@ -77,7 +117,7 @@ impl Script {
     pub fn pools(&self) -> [u32; 4]
         ensures { result ≡ self.now.pools }
     {
-        self.machine.pools
+        self.pools
     }
 
     /// The quota of the root, in pages.
@@ -94,10 +134,38 @@ impl Script {
         &self.volumes
     }
 
+    /// What the listing has.
+    pub fn print(&self) -> Print
+        ensures { result ≡ self.now.print }
+    {
+        self.print
+    }
+
+    /// The fast stores, in the order of the script.
+    pub fn bulks(&self) -> &[Bulk]
+        ensures { result.now ≡ self.now.bulks }
+    {
+        &self.bulks
+    }
+
+    /// The calls of drives that fail, in the order of the script.
+    pub fn fails(&self) -> &[Fail]
+        ensures { result.now ≡ self.now.fails }
+    {
+        &self.fails
+    }
+
+    /// Whether process 0 is the initializer, before whose end no other process is ready.
+    pub fn initializer(&self) -> bool
+        ensures { result ≡ self.now.initializer }
+    {
+        self.initializer
+    }
+
     /// How many processes the script has.
     pub fn processes(&self) -> u32
         ensures count { result ≡ length self.now.processes }
-        ensures form { IsFirstForm self.now }
+        ensures plan { IsPlan self.now }
     {
         self.processes.len() as u32
     }

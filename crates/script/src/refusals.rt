@@ -1,3 +1,8 @@
+ghost use Rattle.std.specs.Prelude.{Some};
+ghost use Rattle.script.specs.Causes.{cause_text};
+
+use std::fmt;
+
 /// Why a line of a script is refused (own). The causes come in this order where several hold.
 #[derive(Clone, Copy, Debug, PartialEq, Eq)]
 pub enum Cause {
@@ -21,6 +26,26 @@ pub enum Cause {
     Many,
     /// The script ends where a line must still come.
     Missing,
+}
+
+impl fmt::Display for Cause {
+    ghost output = { λ c. Some (cause_text c) };
+
+    #[tactic(auto, unfolding(crate::specs::Causes::cause_text))]
+    fn fmt<W: fmt::Write>(&self, f: &mut fmt::Formatter<W>) -> fmt::Result {
+        match self {
+            Cause::BadChar => write!(f, "badchar"),
+            Cause::Order => write!(f, "order"),
+            Cause::Fields => write!(f, "fields"),
+            Cause::Number => write!(f, "number"),
+            Cause::Name => write!(f, "name"),
+            Cause::Path => write!(f, "path"),
+            Cause::Twice => write!(f, "twice"),
+            Cause::Unknown => write!(f, "unknown"),
+            Cause::Many => write!(f, "many"),
+            Cause::Missing => write!(f, "missing"),
+        }
+    }
 }
 
 /// The first line of a script that is refused.

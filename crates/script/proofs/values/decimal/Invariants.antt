@@ -1,6 +1,6 @@
 use Rattle.std.proofs.Common.{◌≡◌, ◌<◌, ◌^◌, drop}
 use Rattle.script.specs.Fields.{decimal_value_from}
-use Rattle.script.proofs.fields.decimal.Given as goal
+use Rattle.script.proofs.values.decimal.Given as goal
 
 -- the digits so far, and those that are left, give the number
 abbrev pub invariant-loop-byte : goal.invariant-loop-byte

@@ -1,0 +1,173 @@
+-- Laws of the texts of paths (own).
+use Rattle.std.proofs.Common.{◌≡◌, ℕ, ◌≤◌, Bool, true, false, cond, ◌&&◌, nat_le, eqb, List, [], ◌∷◌, ◌++◌, length, Option, Some, None, Ok, Err, refl, sym, ap, subst, ◌∙◌, arith}
+use Rattle.std.proofs.lemmas.Bool.Decides.{nat_tests}
+use Rattle.std.proofs.lemmas.Grind.{common_steps}
+use Rattle.std.specs.List.{list_all, AllByRecursion}
+use Rattle.mnames.specs.Names.{is_name, is_name_byte, names_text, path_text, IsName, IsPath}
+use Rattle.script.specs.Fields.{onto_piece, path_of, pieces_of, if_path}
+use Rattle.script.specs.Forms.{is_path}
+use Rattle.script.specs.Lines.{path_in}
+use Rattle.script.specs.declared.refusals.Cause.TheVariants as cause
+
+pub and_parts : (a b : Bool) → (a && b) ≡ true → (a ≡ true) × (b ≡ true)
+and_parts true true h = (refl, refl)
+and_parts true false h = absurd (apart h)
+  where
+    apart : false ≡ true → ⊥
+    apart e = cc
+and_parts false b h = absurd (apart h)
+  where
+    apart : false ≡ true → ⊥
+    apart e = cc
+
+pub and_both : (a b : Bool) → a ≡ true → b ≡ true → (a && b) ≡ true
+and_both a b x y = rw (x, y) refl
+
+pieces_nil : pieces_of [] ≡ [] ∷ []
+unfolding pieces_of
+pieces_nil = refl
+
+pieces_sign : (bs : List ℕ) → pieces_of (62 ∷ bs) ≡ [] ∷ pieces_of bs
+unfolding pieces_of
+pieces_sign bs = refl
+
+pieces_byte : (b : ℕ) (bs : List ℕ) → eqb b 62 ≡ false → pieces_of (b ∷ bs) ≡ onto_piece b (pieces_of bs)
+unfolding pieces_of
+pieces_byte b bs z = rw z refl
+
+-- the text of some pieces is that from which they come
+onto_text : (b : ℕ) (bs : List ℕ) (pieces : List (List ℕ)) → names_text pieces ≡ 62 ∷ bs → names_text (onto_piece b pieces) ≡ 62 ∷ b ∷ bs
+onto_text b bs [] e = absurd (apart e)
+  where
+    apart : [] ≡ 62 ∷ bs → ⊥
+    apart e = cc
+onto_text b bs (piece ∷ pieces) e = cc
+
+pieces_text : (bs : List ℕ) → names_text (pieces_of bs) ≡ 62 ∷ bs
+pieces_text [] = ap names_text pieces_nil
+pieces_text (b ∷ bs) = split (eqb b 62) refl (pieces_text bs)
+  where
+    split : (z : Bool) → eqb b 62 ≡ z → names_text (pieces_of bs) ≡ 62 ∷ bs → names_text (pieces_of (b ∷ bs)) ≡ 62 ∷ b ∷ bs
+    split true z ih = let e : b ≡ 62 = grind (arith, nat_tests) in rw e (ap names_text (pieces_sign bs) ∙ ap (λ (t : List ℕ). 62 ∷ t) ih)
+    split false z ih = ap names_text (pieces_byte b bs z) ∙ onto_text b bs (pieces_of bs) ih
+
+some_text : (names : List (List ℕ)) (bs : List ℕ) → names_text names ≡ 62 ∷ bs → path_text names ≡ 62 ∷ bs
+some_text [] bs e = absurd (apart e)
+  where
+    apart : [] ≡ 62 ∷ bs → ⊥
+    apart e = cc
+some_text (name ∷ names) bs e = e
+
+-- no sign stands in a name
+no_sign : (b : ℕ) → is_name_byte b ≡ true → eqb b 62 ≡ false
+no_sign b h = split (eqb b 62) refl
+  where
+    split : (z : Bool) → eqb b 62 ≡ z → eqb b 62 ≡ false
+    split true z = let e : b ≡ 62 = grind (arith, nat_tests) in absurd (apart (subst (λ n. is_name_byte n ≡ true) e h))
+      where
+        apart : false ≡ true → ⊥
+        apart e = cc
+    split false z = z
+
+name_bytes : (name : List ℕ) → is_name name ≡ true → (1 ≤ length name) × (list_all is_name_byte name ≡ true)
+unfolding is_name
+name_bytes name h =
+    let parts = and_parts (nat_le 1 (length name) && nat_le (length name) 32) (list_all is_name_byte name) h in
+    let long = (and_parts (nat_le 1 (length name)) (nat_le (length name) 32) parts.0).0 in
+    (grind (arith, nat_tests), parts.1)
+
+name_before : (name : List ℕ) (names : List (List ℕ)) → list_all is_name_byte name ≡ true → pieces_of (names_text names) ≡ [] ∷ names → pieces_of (name ++ names_text names) ≡ name ∷ names
+name_before [] names h ih = ih
+name_before (b ∷ bs) names h ih =
+    let parts = and_parts (is_name_byte b) (list_all is_name_byte bs) h in
+    pieces_byte b (bs ++ names_text names) (no_sign b parts.0) ∙ ap (onto_piece b) (name_before bs names parts.1 ih)
+
+names_again : (names : List (List ℕ)) → list_all is_name names ≡ true → pieces_of (names_text names) ≡ [] ∷ names
+names_again [] h = pieces_nil
+names_again (name ∷ names) h =
+    let parts = and_parts (is_name name) (list_all is_name names) h in
+    pieces_sign (name ++ names_text names) ∙ ap (λ (t : List (List ℕ)). [] ∷ t) (name_before name names (name_bytes name parts.0).1 (names_again names parts.1))
+
+each_name : (names : List (List ℕ)) → AllByRecursion IsName names → list_all is_name names ≡ true
+each_name [] h = refl
+each_name (name ∷ names) h = and_both (is_name name) (list_all is_name names) h.0 (each_name names h.1)
+
+each_is_name : (names : List (List ℕ)) → list_all is_name names ≡ true → AllByRecursion IsName names
+each_is_name [] h = tt
+each_is_name (name ∷ names) h = let parts = and_parts (is_name name) (list_all is_name names) h in (parts.0, each_is_name names parts.1)
+
+-- a path keeps the rules that a script asks of it, and the other way round
+pub path_is : (names : List (List ℕ)) → IsPath names → is_path names ≡ true
+unfolding is_path
+path_is names h = let few = h.few in and_both (nat_le (length names) 9) (list_all is_name names) (grind (arith, nat_tests)) (each_name names h.each)
+
+pub path_from : (names : List (List ℕ)) → is_path names ≡ true → IsPath names
+unfolding is_path
+path_from names h =
+    let parts = and_parts (nat_le (length names) 9) (list_all is_name names) h in
+    let few = parts.0 in
+    record { few = grind (arith, nat_tests); each = each_is_name names parts.1 }
+
+root_again : path_of (62 ∷ []) ≡ Some []
+unfolding path_of
+root_again = refl
+
+below_again : (c : ℕ) (cs : List ℕ) → path_of (62 ∷ c ∷ cs) ≡ if_path (pieces_of (c ∷ cs))
+unfolding path_of
+below_again c cs = refl
+
+text_again : (text : List ℕ) → 1 ≤ length text → path_of (62 ∷ text) ≡ if_path (pieces_of text)
+text_again [] some = absurd (omega arith)
+text_again (c ∷ cs) some = below_again c cs
+
+-- each path is read from its text
+pub path_again : (names : List (List ℕ)) → is_path names ≡ true → path_of (path_text names) ≡ Some names
+path_again [] h = root_again
+path_again (name ∷ names) h =
+    let whole = path_from (name ∷ names) h in
+    let letters = name_bytes name whole.each.0 in
+    text_again (name ++ names_text names) (grind (arith, common_steps, letters.0))
+    ∙ ap if_path (name_before name names letters.1 (names_again names (each_name names whole.each.1)))
+    ∙ rw h refl
+
+-- what is read is the text of a path
+pub path_only : (text : List ℕ) (names : List (List ℕ)) → path_of text ≡ Some names → (text ≡ path_text names) × (is_path names ≡ true)
+unfolding path_of
+path_only [] names h = absurd (apart h)
+  where
+    apart : None ≡ Some names → ⊥
+    apart e = cc
+path_only (b ∷ []) names h = root (eqb b 62) refl h
+  where
+    root : (z : Bool) → eqb b 62 ≡ z → cond {A = Option (List (List ℕ))} z (Some []) None ≡ Some names → (b ∷ [] ≡ path_text names) × (is_path names ≡ true)
+    root true z e = let same : [] ≡ names = cc in let sign : b ≡ 62 = grind (arith, nat_tests) in subst (λ ns. (b ∷ [] ≡ path_text ns) × (is_path ns ≡ true)) same (ap (λ n. n ∷ []) sign, path_is [] (record { few = omega arith; each = tt }))
+    root false z e = absurd (apart e)
+      where
+        apart : None ≡ Some names → ⊥
+        apart e = cc
+path_only (b ∷ c ∷ cs) names h = below (eqb b 62) refl (is_path (pieces_of (c ∷ cs))) refl h
+  where
+    below : (z : Bool) → eqb b 62 ≡ z → (y : Bool) → is_path (pieces_of (c ∷ cs)) ≡ y → cond {A = Option (List (List ℕ))} z (cond y (Some (pieces_of (c ∷ cs))) None) None ≡ Some names → (b ∷ c ∷ cs ≡ path_text names) × (is_path names ≡ true)
+    below true z true y e =
+        let same : pieces_of (c ∷ cs) ≡ names = cc in
+        let sign : b ≡ 62 = grind (arith, nat_tests) in
+        subst (λ ns. (b ∷ c ∷ cs ≡ path_text ns) × (is_path ns ≡ true)) same (ap (λ n. n ∷ c ∷ cs) sign ∙ sym (some_text (pieces_of (c ∷ cs)) (c ∷ cs) (pieces_text (c ∷ cs))), y)
+    below true z false y e = absurd (apart e)
+      where
+        apart : None ≡ Some names → ⊥
+        apart e = cc
+    below false z y w e = absurd (apart e)
+      where
+        apart : None ≡ Some names → ⊥
+        apart e = cc
+
+-- the path of a field, as reading gives it
+pub path_read : (text : List ℕ) (names : List (List ℕ)) → text ≡ path_text names → IsPath names → path_in text ≡ Ok names
+path_read text names e h = rw (e, path_again names (path_is names h)) refl
+
+pub no_path_read : (text : List ℕ) → ((names : List (List ℕ)) → IsPath names → text ≡ path_text names → ⊥) → path_in text ≡ Err cause.Path
+no_path_read text never = none (path_of text) refl
+  where
+    none : (r : Option (List (List ℕ))) → path_of text ≡ r → path_in text ≡ Err cause.Path
+    none None e = rw e refl
+    none (Some names) e = let only = path_only text names e in absurd (never names (path_from names only.1) only.0)

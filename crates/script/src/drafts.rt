@@ -1,0 +1,539 @@
+ghost use Rattle.std.specs.Prelude.{◌≡◌, ◌+◌, ◌≤◌, false, true, length, sum_by, Ok};
+ghost use Rattle.std.specs.List.{list_any};
+ghost use Rattle.script.specs.Drafts.{blank, initializer_who, has_volume, is_early, is_head, is_inside, plan_of};
+ghost use Rattle.script.specs.Fields.{fields_of};
+ghost use Rattle.script.specs.Forms.{is_before, is_command, is_end, is_who, records_of, weight};
+ghost use Rattle.script.specs.Grammar.{text_after, whole_or_missing};
+ghost use Rattle.script.specs.Heads.{machine_line, quota_line, volume_line, print_line, bulk_line, fail_line, initializer_line, process_line, command_line, with_command, after_process, after_fail, after_bulk, after_volume, line_at};
+ghost use Rattle.script.specs.Readers.{Gives, Steps};
+
+use crate::command_lines::command_of;
+use crate::commands::{Command, Process};
+use crate::fields::{no_fields, one_field, six_fields, split_field, three_fields, two_fields};
+use crate::lines::is_printable;
+use crate::plan::{Bulk, Fail, Print, Script, VolumeLine};
+use crate::refusals::{Cause, Refusal};
+use crate::values::{call_in, is_write_in, number_in, print_in, who_in};
+use crate::volumes::{new_name_in, volume_in};
+use mnames::{Label, Who, read_label};
+use std::alloc::{AllocError, AllocFailed, Global};
+use std::marker::Model;
+use std::mem;
+
+/// What may stand next in a script (own).
+#[derive(Clone, Copy, Debug, PartialEq, Eq)]
+pub enum Stage {
+    /// The line of the machine.
+    Machine,
+    /// The line of the root's quota.
+    Quota,
+    /// The first volume.
+    FirstVolume,
+    /// A further volume, or what may stand after the volumes.
+    Volumes,
+    /// A fast store, or what may stand after these; how to print was said, or need not be.
+    Bulks,
+    /// A call that fails, or what may stand after these.
+    Fails,
+    /// A command of a process.
+    Commands,
+    /// A further process.
+    Processes,
+}
+
+/// Why a line of a script changed nothing more.
+#[derive(Clone, Copy, Debug, PartialEq, Eq)]
+pub enum LineFault {
+    /// It is refused.
+    Refused(Cause),
+    /// There wasn't enough memory.
+    Memory,
+}
+
+impl From<Cause> for LineFault {
+    ghost use Rattle.script.specs.declared.drafts.LineFault.TheVariants.{Refused};
+
+    ghost from_gives = { λ c e. e ≡ Refused c };
+
+    fn from(cause: Cause) -> Self {
+        LineFault::Refused(cause)
+    }
+}
+
+impl<T: Drop> From<AllocFailed<T>> for LineFault {
+    ghost use Rattle.script.specs.declared.drafts.LineFault.TheVariants.{Memory};
+
+    ghost from_gives = { λ _ e. e ≡ Memory };
+
+    fn from(_: AllocFailed<T>) -> Self {
+        LineFault::Memory
+    }
+}
+
+impl From<AllocError> for LineFault {
+    ghost use Rattle.script.specs.declared.drafts.LineFault.TheVariants.{Memory};
+
+    ghost from_gives = { λ _ e. e ≡ Memory };
+
+    fn from(_: AllocError) -> Self {
+        LineFault::Memory
+    }
+}
+
+/// What the lines of a script so far say. A contract sees it as a record.
+#[derive(Drop)]
+pub struct Draft {
+    stage: Stage,
+    processors: u32,
+    frames: u32,
+    pools: [u32; 4],
+    quota: u32,
+    volumes: Vec<VolumeLine>,
+    print: Print,
+    bulks: Vec<Bulk>,
+    fails: Vec<Fail>,
+    initializer: bool,
+    processes: Vec<Process>,
+    who: Who,
+    commands: Vec<Command>,
+    used: u32,
+}
+
+impl Model for Draft {
+    ghost use Rattle.script.specs.Drafts.{DraftPlan, IsDraft};
+
+    ghost Value = { DraftPlan };
+
+    ghost view = { λ d. record {
+      stage = d.stage;
+      processors = d.processors;
+      frames = d.frames;
+      pools = d.pools;
+      quota = d.quota;
+      volumes = d.volumes.items;
+      print = d.print;
+      bulks = d.bulks.items;
+      fails = d.fails.items;
+      initializer = d.initializer;
+      processes = d.processes.items;
+      who = d.who;
+      commands = d.commands.items;
+      used = d.used;
+    } };
+
+    ghost invariant = { λ d. IsDraft (record {
+      stage = d.stage;
+      processors = d.processors;
+      frames = d.frames;
+      pools = d.pools;
+      quota = d.quota;
+      volumes = d.volumes.items;
+      print = d.print;
+      bulks = d.bulks.items;
+      fails = d.fails.items;
+      initializer = d.initializer;
+      processes = d.processes.items;
+      who = d.who;
+      commands = d.commands.items;
+      used = d.used;
+    }) };
+}
+
+/// For whom the initializer runs.
+#[tactic(auto, unfolding(mnames::specs::Names::is_label))]
+fn initializer_who() -> Who
+    ensures who { result ≡ initializer_who }
+    ensures form { is_who result ≡ true }
+{
+    match read_label(b"Initializer") {
+        Some(person) => Who {
+            person,
+            project: Label::default_project(),
+        },
+        None => unreachable!(),
+    }
+}
+
+/// How many records the volumes have together.
+fn records_in(volumes: &[VolumeLine]) -> u32
+    requires { sum_by records_of volumes.now ≤ 16384 }
+    ensures { result ≡ sum_by records_of volumes.now }
+{
+    volumes.iter().map(|volume| volume.records).sum()
+}
+
+/// As how many commands a command counts: an await as its tries.
+fn weight_of(command: &Command) -> u32
+    ensures { result ≡ weight command.now }
+{
+    match command {
+        Command::Await { tries, .. } => *tries,
+        _ => 1,
+    }
+}
+
+/// Whether a command ends its process.
+fn is_end(command: &Command) -> bool
+    ensures { result ≡ is_end command.now }
+{
+    matches!(command, Command::End)
+}
+
+/// Whether the volume has a fast store.
+fn has_bulk(bulks: &[Bulk], volume: u32) -> bool
+    ensures { result ≡ list_any (is_before volume) bulks.now }
+{
+    bulks.iter().any(|bulk| bulk.volume == volume)
+}
+
+impl Draft {
+    /// What no line says.
+    #[tactic(auto, using(crate::proofs::DraftLaws::blank_is, std::proofs::lemmas::Grind::common_steps))]
+    pub(crate) fn blank(alloc: Global) -> Draft
+        ensures { result ≡ blank }
+    {
+        Draft {
+            stage: Stage::Machine,
+            processors: 1,
+            frames: 4,
+            pools: [12, 1, 1, 1],
+            quota: 0,
+            volumes: Vec::new(alloc),
+            print: Print::Replies,
+            bulks: Vec::new(alloc),
+            fails: Vec::new(alloc),
+            initializer: false,
+            processes: Vec::new(alloc),
+            who: initializer_who(),
+            commands: Vec::new(alloc),
+            used: 0,
+        }
+    }
+
+    /// `machine P F N4 N16 N64 N256`
+    #[tactic(auto, unfolding(crate::specs::Heads::machine_line))]
+    fn machine(&mut self, line: &[u8]) -> Result<(), LineFault>
+        requires { is_early self.old.stage ≡ true }
+        ensures { Steps self.new result (machine_line self.old (fields_of line.now)) }
+    {
+        let (processors, frames, four, sixteen, sixty_four, most) = six_fields(line)?;
+        let processors = number_in(processors, 1, 8)?;
+        let frames = number_in(frames, 4, 1024)?;
+        let four = number_in(four, 12, 1024)?;
+        let sixteen = number_in(sixteen, 1, 1024)?;
+        let sixty_four = number_in(sixty_four, 1, 1024)?;
+        let most = number_in(most, 1, 1024)?;
+        if four + sixteen + sixty_four + most > 1024 {
+            return Err(LineFault::Refused(Cause::Many));
+        }
+        self.stage = Stage::Quota;
+        self.processors = processors;
+        self.frames = frames;
+        self.pools = [four, sixteen, sixty_four, most];
+        Ok(())
+    }
+
+    /// `quota Q`
+    #[tactic(auto, unfolding(crate::specs::Heads::quota_line))]
+    fn quota(&mut self, line: &[u8]) -> Result<(), LineFault>
+        requires { is_early self.old.stage ≡ true }
+        ensures { Steps self.new result (quota_line self.old (fields_of line.now)) }
+    {
+        let quota = one_field(line)?;
+        let quota = number_in(quota, 0, 16384)?;
+        self.stage = Stage::FirstVolume;
+        self.quota = quota;
+        Ok(())
+    }
+
+    /// `print MODE`
+    #[tactic(auto, unfolding(crate::specs::Heads::print_line))]
+    fn print(&mut self, line: &[u8]) -> Result<(), LineFault>
+        requires head { is_head self.old.stage ≡ true }
+        requires volume { has_volume self.old.stage ≡ true }
+        ensures { Steps self.new result (print_line self.old (fields_of line.now)) }
+    {
+        let mode = one_field(line)?;
+        let mode = print_in(mode)?;
+        self.stage = Stage::Bulks;
+        self.print = mode;
+        Ok(())
+    }
+
+    /// `volume NAME RECORDS ENTRIES`
+    #[tactic(auto, unfolding(crate::specs::Heads::volume_line))]
+    fn volume(&mut self, line: &[u8]) -> Result<(), LineFault>
+        requires { is_early self.old.stage ≡ true }
+        ensures { Steps self.new result (volume_line self.old (fields_of line.now)) }
+    {
+        let (name, records, entries) = three_fields(line)?;
+        let name = new_name_in(&self.volumes, name)?;
+        let records = number_in(records, 1, 16384)?;
+        let entries = number_in(entries, 1, 4097)?;
+        if self.volumes.len() >= 4 || records_in(&self.volumes) + records > 16384 {
+            return Err(LineFault::Refused(Cause::Many));
+        }
+        self.volumes.push(VolumeLine {
+            name,
+            records,
+            entries,
+        })?;
+        self.stage = Stage::Volumes;
+        Ok(())
+    }
+
+    /// `bulk NAME PLACES`
+    #[tactic(auto, unfolding(crate::specs::Heads::bulk_line))]
+    fn bulk(&mut self, line: &[u8]) -> Result<(), LineFault>
+        requires head { is_head self.old.stage ≡ true }
+        requires volume { has_volume self.old.stage ≡ true }
+        ensures { Steps self.new result (bulk_line self.old (fields_of line.now)) }
+    {
+        let (volume, places) = two_fields(line)?;
+        let volume = volume_in(&self.volumes, volume)?;
+        if has_bulk(&self.bulks, volume) {
+            return Err(LineFault::Refused(Cause::Twice));
+        }
+        let places = number_in(places, 1, 1024)?;
+        self.bulks.push(Bulk { volume, places })?;
+        self.stage = Stage::Bulks;
+        Ok(())
+    }
+
+    /// `fail NAME read N`, `fail NAME write N`, or the same with `+` after it
+    #[tactic(auto, unfolding(crate::specs::Heads::fail_line))]
+    fn fail(&mut self, line: &[u8]) -> Result<(), LineFault>
+        requires head { is_head self.old.stage ≡ true }
+        requires volume { has_volume self.old.stage ≡ true }
+        ensures { Steps self.new result (fail_line self.old (fields_of line.now)) }
+    {
+        let (volume, write, call) = three_fields(line)?;
+        let volume = volume_in(&self.volumes, volume)?;
+        let write = is_write_in(write)?;
+        let (number, onward) = call_in(call)?;
+        if self.fails.len() >= 100 {
+            return Err(LineFault::Refused(Cause::Many));
+        }
+        self.fails.push(Fail {
+            volume,
+            write,
+            number,
+            onward,
+        })?;
+        self.stage = Stage::Fails;
+        Ok(())
+    }
+
+    /// `initializer`
+    #[tactic(auto, unfolding(crate::specs::Heads::initializer_line))]
+    fn initializer(&mut self, line: &[u8]) -> Result<(), LineFault>
+        requires head { is_head self.old.stage ≡ true }
+        requires volume { has_volume self.old.stage ≡ true }
+        ensures { Steps self.new result (initializer_line self.old (fields_of line.now)) }
+    {
+        no_fields(line)?;
+        self.stage = Stage::Commands;
+        self.initializer = true;
+        self.who = initializer_who();
+        Ok(())
+    }
+
+    /// `process WHO`
+    #[tactic(auto, unfolding(crate::specs::Heads::process_line))]
+    fn process(&mut self, line: &[u8]) -> Result<(), LineFault>
+        requires between { is_inside self.old.stage ≡ false }
+        requires volume { has_volume self.old.stage ≡ true }
+        ensures { Steps self.new result (process_line self.old (fields_of line.now)) }
+    {
+        let who = one_field(line)?;
+        let who = who_in(who)?;
+        if self.processes.len() >= 32 {
+            return Err(LineFault::Refused(Cause::Many));
+        }
+        self.stage = Stage::Commands;
+        self.who = who;
+        Ok(())
+    }
+
+    /// Adds a command that isn't the end, with which so many came in all.
+    fn go_on(&mut self, used: u32, command: Command) -> Result<(), LineFault>
+        requires inside { is_inside self.old.stage ≡ true }
+        requires range { is_command (length self.old.volumes) command ≡ true }
+        requires going { is_end command ≡ false }
+        requires used { used ≡ self.old.used + weight command }
+        requires within { used ≤ 100000 }
+        ensures { Steps self.new result (Ok (with_command self.old used command)) }
+    {
+        self.commands.push(command)?;
+        self.used = used;
+        Ok(())
+    }
+
+    /// Adds the end of the process, with which so many commands came in all.
+    fn end(&mut self, alloc: Global, used: u32, command: Command) -> Result<(), LineFault>
+        requires inside { is_inside self.old.stage ≡ true }
+        requires range { is_command (length self.old.volumes) command ≡ true }
+        requires last { is_end command ≡ true }
+        requires used { used ≡ self.old.used + weight command }
+        requires within { used ≤ 100000 }
+        ensures { Steps self.new result (Ok (with_command self.old used command)) }
+    {
+        self.processes.reserve(1)?;
+        self.commands.push(command)?;
+        let commands = mem::replace(&mut self.commands, Vec::new(alloc));
+        self.processes
+            .push_reserved(Process::new(self.who.copied(), commands));
+        self.stage = Stage::Processes;
+        self.used = used;
+        Ok(())
+    }
+
+    /// A command of the process.
+    #[tactic(auto, using(crate::proofs::DraftLaws::weight_bound, std::proofs::lemmas::Grind::common_steps), unfolding(crate::specs::Heads::command_line))]
+    fn command(&mut self, alloc: Global, word: &[u8], line: &[u8]) -> Result<(), LineFault>
+        requires { is_inside self.old.stage ≡ true }
+        ensures { Steps self.new result (command_line self.old word.now (fields_of line.now)) }
+    {
+        let command = command_of(&self.volumes, word, line)?;
+        let used = self.used + weight_of(&command);
+        if used > 100_000 {
+            return Err(LineFault::Refused(Cause::Many));
+        }
+        if is_end(&command) {
+            self.end(alloc, used, command)
+        } else {
+            self.go_on(used, command)
+        }
+    }
+
+    /// A line that may stand after a process.
+    #[tactic(auto, unfolding(crate::specs::Heads::after_process))]
+    fn after_process(&mut self, word: &[u8], line: &[u8]) -> Result<(), LineFault>
+        requires between { is_inside self.old.stage ≡ false }
+        requires volume { has_volume self.old.stage ≡ true }
+        ensures { Steps self.new result (after_process self.old word.now (fields_of line.now)) }
+    {
+        if word == b"process".as_slice() {
+            self.process(line)
+        } else {
+            Err(LineFault::Refused(Cause::Order))
+        }
+    }
+
+    /// A line that may stand after a call that fails.
+    #[tactic(auto, unfolding(crate::specs::Heads::after_fail))]
+    fn after_fail(&mut self, word: &[u8], line: &[u8]) -> Result<(), LineFault>
+        requires head { is_head self.old.stage ≡ true }
+        requires volume { has_volume self.old.stage ≡ true }
+        ensures { Steps self.new result (after_fail self.old word.now (fields_of line.now)) }
+    {
+        if word == b"fail".as_slice() {
+            self.fail(line)
+        } else if word == b"initializer".as_slice() {
+            self.initializer(line)
+        } else {
+            self.after_process(word, line)
+        }
+    }
+
+    /// A line that may stand after `print` or a fast store.
+    #[tactic(auto, unfolding(crate::specs::Heads::after_bulk))]
+    fn after_bulk(&mut self, word: &[u8], line: &[u8]) -> Result<(), LineFault>
+        requires head { is_head self.old.stage ≡ true }
+        requires volume { has_volume self.old.stage ≡ true }
+        ensures { Steps self.new result (after_bulk self.old word.now (fields_of line.now)) }
+    {
+        if word == b"bulk".as_slice() {
+            self.bulk(line)
+        } else {
+            self.after_fail(word, line)
+        }
+    }
+
+    /// A line that may stand after a volume.
+    #[tactic(auto, unfolding(crate::specs::Heads::after_volume))]
+    fn after_volume(&mut self, word: &[u8], line: &[u8]) -> Result<(), LineFault>
+        requires early { is_early self.old.stage ≡ true }
+        requires head { is_head self.old.stage ≡ true }
+        requires volume { has_volume self.old.stage ≡ true }
+        ensures { Steps self.new result (after_volume self.old word.now (fields_of line.now)) }
+    {
+        if word == b"volume".as_slice() {
+            self.volume(line)
+        } else if word == b"print".as_slice() {
+            self.print(line)
+        } else {
+            self.after_bulk(word, line)
+        }
+    }
+
+    /// A line up to the first volume.
+    #[tactic(auto, unfolding(crate::specs::Heads::line_at))]
+    fn first_line(&mut self, word: &[u8], line: &[u8]) -> Result<(), LineFault>
+        requires { has_volume self.old.stage ≡ false }
+        ensures { Steps self.new result (line_at self.old.stage self.old word.now (fields_of line.now)) }
+    {
+        match self.stage {
+            Stage::Machine if word == b"machine".as_slice() => self.machine(line),
+            Stage::Quota if word == b"quota".as_slice() => self.quota(line),
+            Stage::FirstVolume if word == b"volume".as_slice() => self.volume(line),
+            _ => Err(LineFault::Refused(Cause::Order)),
+        }
+    }
+
+    /// A line that isn't skipped, by its word and what follows the word.
+    #[tactic(auto, unfolding(crate::specs::Heads::line_at))]
+    fn worded_line(&mut self, alloc: Global, word: &[u8], line: &[u8]) -> Result<(), LineFault>
+        ensures { Steps self.new result (line_at self.old.stage self.old word.now (fields_of line.now)) }
+    {
+        match self.stage {
+            Stage::Volumes => self.after_volume(word, line),
+            Stage::Bulks => self.after_bulk(word, line),
+            Stage::Fails => self.after_fail(word, line),
+            Stage::Commands => self.command(alloc, word, line),
+            Stage::Processes => self.after_process(word, line),
+            _ => self.first_line(word, line),
+        }
+    }
+
+    /// One more line.
+    #[tactic(auto, unfolding(crate::specs::Grammar::text_after, crate::specs::Grammar::line_after))]
+    pub(crate) fn line(&mut self, alloc: Global, line: &[u8]) -> Result<(), LineFault>
+        ensures { Steps self.new result (text_after self.old line.now) }
+    {
+        if !is_printable(line) {
+            return Err(LineFault::Refused(Cause::BadChar));
+        }
+        let (word, rest) = split_field(line);
+        if word.is_empty() || word[0] == b'#' {
+            return Ok(());
+        }
+        self.worded_line(alloc, word, rest)
+    }
+
+    /// The script of the lines up to the one of that number, which isn't there.
+    #[tactic(auto, using(crate::proofs::DraftLaws::plan_is, std::proofs::lemmas::Grind::common_steps))]
+    pub(crate) fn into_script(self, line: u32) -> Result<Script, Refusal>
+        ensures { result ≡ whole_or_missing line self }
+    {
+        let pools = self.pools;
+        match self.stage {
+            Stage::Machine | Stage::Quota | Stage::FirstVolume | Stage::Commands => Err(Refusal {
+                line,
+                cause: Cause::Missing,
+            }),
+            _ => Ok(Script {
+                processors: self.processors,
+                frames: self.frames,
+                pools,
+                quota: self.quota,
+                volumes: self.volumes,
+                print: self.print,
+                bulks: self.bulks,
+                fails: self.fails,
+                initializer: self.initializer,
+                processes: self.processes,
+            }),
+        }
+    }
+}

@@ -1,0 +1,52 @@
+ghost use Rattle.std.specs.Prelude.{◌≡◌, ◌<◌, false, true, IfOk, IfSome, length};
+ghost use Rattle.std.specs.List.{list_any};
+ghost use Rattle.mnames.specs.Names.{is_name};
+ghost use Rattle.script.specs.Forms.{has_name};
+ghost use Rattle.script.specs.Lines.{number_from, new_name_in, volume_in};
+ghost use Rattle.script.specs.Readers.{Gives};
+
+use crate::plan::VolumeLine;
+use crate::refusals::Cause;
+use crate::values::name_in;
+use mnames::Name;
+
+/// The number of the first volume of that name, counted from 0.
+#[tactic(auto, using(crate::proofs::VolumeLaws::number_found, crate::proofs::VolumeLaws::number_next, crate::proofs::VolumeLaws::number_missing, std::proofs::lemmas::Grind::common_steps))]
+fn number_of(volumes: &[VolumeLine], name: &[u8]) -> Option<u32>
+    requires { length volumes.now < 5 }
+    ensures number { result ≡ number_from 0 volumes.now name.now }
+    ensures given { IfSome result (λ n. n < length volumes.now) }
+{
+    for (i, volume) in volumes.iter().enumerate() {
+        if volume.name.as_str().as_bytes() == name {
+            return Some(i as u32);
+        }
+    }
+    None
+}
+
+/// The number of the volume that a field names, which must have been given.
+#[tactic(auto, unfolding(crate::specs::Lines::volume_in))]
+pub(crate) fn volume_in(volumes: &[VolumeLine], text: &[u8]) -> Result<u32, Cause>
+    requires { length volumes.now < 5 }
+    ensures volume { Gives (λ n. n) result (volume_in volumes.now text.now) }
+    ensures given { IfOk result (λ n. n < length volumes.now) }
+{
+    let _name = name_in(text)?;
+    number_of(volumes, text).ok_or(Cause::Unknown)
+}
+
+/// The name in a field, which no volume may have.
+#[tactic(auto, using(crate::proofs::VolumeLaws::found_is_given, crate::proofs::VolumeLaws::missing_is_new, std::proofs::lemmas::Grind::common_steps), unfolding(crate::specs::Lines::new_name_in))]
+pub(crate) fn new_name_in(volumes: &[VolumeLine], text: &[u8]) -> Result<Name, Cause>
+    requires { length volumes.now < 5 }
+    ensures name { Gives (λ n. n) result (new_name_in volumes.now text.now) }
+    ensures form { IfOk result (λ n. is_name n ≡ true) }
+    ensures new { IfOk result (λ n. list_any (has_name n) volumes.now ≡ false) }
+{
+    let name = name_in(text)?;
+    match number_of(volumes, text) {
+        Some(_) => Err(Cause::Twice),
+        None => Ok(name),
+    }
+}
