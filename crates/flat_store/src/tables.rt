@@ -1,5 +1,6 @@
 ghost use Rattle.std.specs.Prelude.{is_some, ◌≡◌, ◌==◌, ◌+◌, ◌++◌, [], ◌∷◌, ◌<◌, ◌↔◌, true, length, Option, Some, None, IfSome, IfOk, OnOk, OnErr, MatchOption, slice_get, slice_set, slice_index_or, position};
 ghost use Rattle.script.specs.Plans.{commands_of, command_at};
+ghost use Rattle.flat_store.specs.Flat.{runs};
 ghost use Rattle.flat_store.specs.Kept.{Kept, Seg, no_seg, seg_at, slot_at, gauge_at, found_in, newest_named, known_at, read_of, write_of, store_in, make_new, make_answer, past_segment, number_in, initiate_new, initiate_answer, answer_to};
 
 use crate::gauges::Gauge;
@@ -110,6 +111,20 @@ fn is_full(gauges: &[Gauge], i: u32) -> bool
         Some(gauge) => gauge.is_full(),
         None => true,
     }
+}
+
+/// Whether a command is one of those that run.
+pub(crate) fn runs(command: &Command) -> bool
+    ensures { result ≡ runs command.now }
+{
+    matches!(
+        command,
+        Command::MkSeg { .. }
+            | Command::Initiate { .. }
+            | Command::Read { .. }
+            | Command::Write { .. }
+            | Command::End
+    )
 }
 
 impl Tables {
@@ -277,7 +292,7 @@ impl Tables {
         }
     }
 
-    /// What a process is answered to a command.
+    /// What a process is answered to a command that runs.
     #[tactic(auto, unfolding(crate::specs::Kept::answer_to))]
     pub(crate) fn answer(&self, process: u32, command: &Command) -> Reply
         ensures { result ≡ answer_to self.now process command.now }
@@ -292,6 +307,7 @@ impl Tables {
                 word,
             } => self.write(process, *number, *offset, *word),
             Command::End => Reply::Done,
+            _ => Reply::Unknown,
         }
     }
 }
