@@ -10,6 +10,7 @@ ghost use Rattle.flat_store.specs.Shown.{Shows};
 use crate::NoMemory;
 use crate::follows::{command_at, fill};
 use crate::gauges::Gauge;
+use crate::segment_list::SegmentList;
 use crate::tables::{Known, PAGE_WORDS, Tables, runs};
 use book::{Book, Entry, Reply};
 use mword::Word;
@@ -89,7 +90,7 @@ impl Tables {
         fill(&mut entries, 0);
         Ok(Tables {
             alloc,
-            segments: Vec::new(alloc),
+            segments: SegmentList::new(alloc),
             quota: Gauge::new(s.quota()),
             records,
             entries,
@@ -187,7 +188,7 @@ impl Tables {
         requires { at < 1024 }
         ensures { result ≡ word_of_slot (slot_at self.now.segments i page) at }
     {
-        match self.segments.get(i) {
+        match self.segments.all().get(i) {
             Some(segment) => match segment.page(page) {
                 Some(words) => words.get(at),
                 None => Word::ZERO,
@@ -203,7 +204,7 @@ impl Tables {
         if uid < 2 {
             return false;
         }
-        match self.segments.get(uid as usize - 2) {
+        match self.segments.all().get(uid as usize - 2) {
             Some(segment) => match segment.page(page) {
                 Some(words) => words.is_zero(),
                 None => false,
