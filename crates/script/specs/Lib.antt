@@ -2,3 +2,4 @@ pub mod Causes
 pub mod Forms
 pub mod Grammar
 pub mod Plans
+pub mod Texts

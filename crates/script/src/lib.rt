@@ -5,8 +5,10 @@ mod commands;
 mod plan;
 mod reader;
 mod refusals;
+mod texts;
 
 pub use commands::{Command, Process};
 pub use plan::{Bulk, Fail, Print, Script, VolumeLine};
 pub use reader::{ScriptFault, read_script};
 pub use refusals::{Cause, Refusal};
+pub use texts::push_command;
