@@ -102,7 +102,6 @@ const WAITING: &[u8] = b"machine 1 4 12 1 1 1
 quota 4
 volume alpha 8 4
 initializer
-process Initializer
 mkseg >a 1 alpha
 end
 process Smith
