@@ -18,15 +18,20 @@ write 0 2048 1
 end
 ";
 
-/// The entry of a command of the one process.
-fn done(place: u32, reply: Reply) -> Entry {
+/// The entry of a command of a process.
+fn done_by(process: u32, place: u32, reply: Reply) -> Entry {
     Entry::Do {
-        process: 0,
+        process,
         place,
         cpu: 0,
         frame: None,
         reply,
     }
+}
+
+/// The entry of a command of the one process.
+fn done(place: u32, reply: Reply) -> Entry {
+    done_by(0, place, reply)
 }
 
 /// A book of the script, with the word at offset 1024 and the stored pages after each entry.
@@ -90,5 +95,64 @@ fn other_entries_are_not_allowed(rt: HostRuntime) -> Result<(), Fail> {
     store.follow(&script, done(2, Reply::Done))?;
     assert!(rt; !store.allows(&script, Entry::Release { uid: 2, page: 1 }));
     assert!(rt; !store.allows(&script, done(3, Reply::Word(Word::ZERO))));
+    Ok(())
+}
+
+const WAITING: &[u8] = b"machine 1 4 12 1 1 1
+quota 4
+volume alpha 8 4
+initializer
+mkseg >a 1 alpha
+end
+process Smith
+mkseg >b 1 alpha
+initiate >b
+initiate >a
+add 0 0 1
+end
+";
+
+#[test]
+fn others_wait_for_the_initializer(rt: HostRuntime) -> Result<(), Fail> {
+    let script = read_script(rt.alloc(), WAITING)?;
+    let mut store = FlatStore::boot(rt.alloc(), &script)?;
+    assert!(rt; !store.allows(&script, done_by(1, 0, Reply::Made(2))));
+    store.follow(&script, done_by(0, 0, Reply::Made(2)))?;
+    assert!(rt; !store.allows(&script, done_by(1, 0, Reply::Made(3))));
+    store.follow(&script, done_by(0, 1, Reply::Done))?;
+    assert!(rt; store.allows(&script, done_by(1, 0, Reply::Made(3))));
+    Ok(())
+}
+
+#[test]
+fn segments_are_found_by_their_names(rt: HostRuntime) -> Result<(), Fail> {
+    let script = read_script(rt.alloc(), WAITING)?;
+    let mut store = FlatStore::boot(rt.alloc(), &script)?;
+    for entry in [
+        done_by(0, 0, Reply::Made(2)),
+        done_by(0, 1, Reply::Done),
+        done_by(1, 0, Reply::Made(3)),
+        done_by(1, 1, Reply::Known(0)),
+        done_by(1, 2, Reply::Known(1)),
+    ] {
+        assert!(rt; store.allows(&script, entry));
+        store.follow(&script, entry)?;
+    }
+    assert_eq!(rt; store.entries(0), 3);
+    Ok(())
+}
+
+#[test]
+fn a_command_that_does_not_run_has_no_answer(rt: HostRuntime) -> Result<(), Fail> {
+    let script = read_script(rt.alloc(), WAITING)?;
+    let mut store = FlatStore::boot(rt.alloc(), &script)?;
+    store.follow(&script, done_by(0, 0, Reply::Made(2)))?;
+    store.follow(&script, done_by(0, 1, Reply::Done))?;
+    store.follow(&script, done_by(1, 0, Reply::Made(3)))?;
+    store.follow(&script, done_by(1, 1, Reply::Known(0)))?;
+    store.follow(&script, done_by(1, 2, Reply::Known(1)))?;
+    for reply in [Reply::Done, Reply::Unknown, Reply::Word(Word::ZERO)] {
+        assert!(rt; !store.allows(&script, done_by(1, 3, reply)));
+    }
     Ok(())
 }

@@ -1,16 +1,15 @@
 -- Laws of the lines of a listing.
-use Rattle.std.proofs.Common.{◌≡◌, ℕ, ◌+◌, ◌<◌, ◌≤◌, Bool, true, false, cond, eqb, List, [], ◌∷◌, ◌++◌, length, take, get_or, refl, sym, ap, subst, ◌∙◌, arith, filter}
+use Rattle.std.proofs.Common.{◌≡◌, ℕ, ◌+◌, ◌<◌, ◌≤◌, Bool, true, false, cond, eqb, List, [], ◌∷◌, ◌++◌, length, take, get_or, refl, sym, ap, ◌∙◌, arith, filter}
 use Rattle.std.specs.List.{flat_map}
 use Rattle.std.proofs.lemmas.Bool.Decides.{nat_tests}
 use Rattle.std.proofs.lemmas.Grind.{common_steps}
-use Rattle.std.proofs.lemmas.List.{take_more, flat_map_more}
+use Rattle.std.proofs.lemmas.List.{take_more, flat_map_more, append_assoc}
 use Rattle.mnames.specs.declared.principals.Who.{Who}
 use Rattle.script.specs.Plans.{Plan, ProcessPlan, nobody, who_of, command_at}
-use Rattle.script.specs.Forms.{IsFirstForm}
 use Rattle.book.specs.declared.entries.Entry.{Entry}
 use Rattle.book.specs.declared.entries.Entry.TheVariants as entry
 use Rattle.flat_store.specs.Legal.{part, is_part, store_after}
-use Rattle.listing.specs.Listings.{answer_line, entry_line, own_line, process_line, process_lines, processes_lines, kept_summary, listing_of}
+use Rattle.listing.specs.Listings.{answer_line, entry_line, own_line, process_line, process_lines, processes_lines, full_line, body_of, kept_summary, listing_of}
 use Rattle.flat_store.specs.Kept.{Kept}
 use Rattle.flat_store.specs.Shown.{Shows}
 use Rattle.listing.proofs.SummaryLaws.{summary_shown}
@@ -31,46 +30,90 @@ own_lines p k (entry.Do process place cpu frame r ∷ es) = chosen (eqb process 
         ∙ ap (λ (t : List ℕ). answer_line p (command_at p process place) r ++ t) ih
     chosen false h ih = ih
 
--- the text before, and the lines of the entries so far
-abbrev pub HasLines : List ℕ → Plan → List Entry → List ℕ → Type 0
-HasLines before p es now = now ≡ before ++ flat_map (own_line p 0) es
-
 nil_after : (x : List ℕ) → x ++ [] ≡ x
 nil_after [] = refl
 nil_after (b ∷ bs) = ap (λ t. b ∷ t) (nil_after bs)
 
-pub lines_start : (before : List ℕ) (p : Plan) (es : List Entry) → HasLines before p (take 0 es) before
-lines_start before p es = sym (nil_after before)
+-- the text before, and the lines of process k of the entries so far
+abbrev pub HasLines : List ℕ → Plan → ℕ → List Entry → List ℕ → Type 0
+HasLines before p k es now = now ≡ before ++ flat_map (own_line p k) es
 
-pub lines_more : (before : List ℕ) (p : Plan) (es : List Entry) (i : ℕ) (e : Entry) (now new : List ℕ) → i < length es → e ≡ get_or es i e → HasLines before p (take i es) now → new ≡ now ++ own_line p 0 e → HasLines before p (take (i + 1) es) new
-lines_more before p es i e now new lt at h add =
+pub lines_start : (before : List ℕ) (p : Plan) (k : ℕ) (es : List Entry) → HasLines before p k (take 0 es) before
+lines_start before p k es = sym (nil_after before)
+
+pub lines_more : (before : List ℕ) (p : Plan) (k : ℕ) (es : List Entry) (i : ℕ) (e : Entry) (now new : List ℕ) → i < length es → e ≡ get_or es i e → HasLines before p k (take i es) now → new ≡ now ++ own_line p k e → HasLines before p k (take (i + 1) es) new
+lines_more before p k es i e now new lt at h add =
     let more : take (i + 1) es ≡ take i es ++ e ∷ [] = take_more es i e lt ∙ ap (λ (x : Entry). take i es ++ x ∷ []) (sym at) in
     add
-    ∙ ap (λ (t : List ℕ). t ++ own_line p 0 e) h
-    ∙ flat_map_more (own_line p 0) before (take i es) e
-    ∙ ap (λ (t : List Entry). before ++ flat_map (own_line p 0) t) (sym more)
+    ∙ ap (λ (t : List ℕ). t ++ own_line p k e) h
+    ∙ flat_map_more (own_line p k) before (take i es) e
+    ∙ ap (λ (t : List Entry). before ++ flat_map (own_line p k) t) (sym more)
 
-pub lines_end : (before : List ℕ) (p : Plan) (es : List Entry) (i : ℕ) (now : List ℕ) → length es ≤ i → HasLines before p (take i es) now → now ≡ before ++ flat_map (entry_line p) (part 0 es)
-lines_end before p es i now le h =
+pub lines_end : (before : List ℕ) (p : Plan) (k : ℕ) (es : List Entry) (i : ℕ) (now : List ℕ) → length es ≤ i → HasLines before p k (take i es) now → now ≡ before ++ flat_map (entry_line p) (part k es)
+lines_end before p k es i now le h =
     let whole : take i es ≡ es = grind (arith, common_steps) in
-    h ∙ ap (λ (t : List Entry). before ++ flat_map (own_line p 0) t) whole ∙ ap (λ (t : List ℕ). before ++ t) (own_lines p 0 es)
+    h ∙ ap (λ (t : List Entry). before ++ flat_map (own_line p k) t) whole ∙ ap (λ (t : List ℕ). before ++ t) (own_lines p k es)
 
-one_process : (p : Plan) (es : List Entry) (xs : List ProcessPlan) → length xs ≡ 1 → processes_lines p es 0 xs ≡ process_lines p es 0 (get_or xs 0 (record { who = nobody; commands = [] })).who
-one_process p es [] h = absurd (omega arith)
-one_process p es (x ∷ []) h = nil_after (process_lines p es 0 x.who)
-one_process p es (x ∷ y ∷ xs) h = absurd (omega arith)
+-- the text before, and the lines of the entries so far
+abbrev pub HasEntries : List ℕ → List Entry → List ℕ → Type 0
+HasEntries before es now = now ≡ before ++ flat_map full_line es
 
-pub listing_whole : (p q : Plan) (es : List Entry) (k : Kept) (none a b c : List ℕ) (w : Who) → q ≡ p → IsFirstForm q → Shows p k (store_after p es) → none ≡ [] → w ≡ who_of q 0 → a ≡ none ++ process_line 0 w → b ≡ a ++ flat_map (entry_line p) (part 0 es) → c ≡ b ++ kept_summary q k → c ≡ listing_of p es
-unfolding listing_of process_lines
-listing_whole p q es k none a b c w same form shows empty who first second third =
-    whole (subst IsFirstForm same form) (who ∙ ap (λ (x : Plan). who_of x 0) same) (third ∙ ap (λ (x : Plan). b ++ kept_summary x k) same)
-  where
-    whole : IsFirstForm p → w ≡ who_of p 0 → c ≡ b ++ kept_summary p k → c ≡ listing_of p es
-    whole f v t =
-        t
-        ∙ ap (λ (x : List ℕ). x ++ kept_summary p k)
-        (second
-        ∙ ap (λ (x : List ℕ). x ++ flat_map (entry_line p) (part 0 es))
-        (first ∙ ap (λ (x : List ℕ). x ++ process_line 0 w) empty ∙ ap (process_line 0) v)
-        ∙ sym (one_process p es p.processes f.processes))
-        ∙ ap (λ (x : List ℕ). processes_lines p es 0 p.processes ++ x) (summary_shown p k (store_after p es) shows)
+pub entries_start : (before : List ℕ) (es : List Entry) → HasEntries before (take 0 es) before
+entries_start before es = sym (nil_after before)
+
+pub entries_more : (before : List ℕ) (es : List Entry) (i : ℕ) (e : Entry) (now new : List ℕ) → i < length es → e ≡ get_or es i e → HasEntries before (take i es) now → new ≡ now ++ full_line e → HasEntries before (take (i + 1) es) new
+entries_more before es i e now new lt at h add =
+    let more : take (i + 1) es ≡ take i es ++ e ∷ [] = take_more es i e lt ∙ ap (λ (x : Entry). take i es ++ x ∷ []) (sym at) in
+    add
+    ∙ ap (λ (t : List ℕ). t ++ full_line e) h
+    ∙ flat_map_more full_line before (take i es) e
+    ∙ ap (λ (t : List Entry). before ++ flat_map full_line t) (sym more)
+
+pub entries_end : (before : List ℕ) (es : List Entry) (i : ℕ) (now : List ℕ) → length es ≤ i → HasEntries before (take i es) now → now ≡ before ++ flat_map full_line es
+entries_end before es i now le h =
+    let whole : take i es ≡ es = grind (arith, common_steps) in
+    h ∙ ap (λ (t : List Entry). before ++ flat_map full_line t) whole
+
+-- the text before, and the lines of the first so many processes
+abbrev pub HasProcesses : List ℕ → Plan → List Entry → ℕ → List ℕ → Type 0
+HasProcesses before p es k now = now ≡ before ++ processes_lines p es 0 (take k p.processes)
+
+abbrev pub no_process : ProcessPlan
+no_process = record { who = nobody; commands = [] }
+
+processes_push : (p : Plan) (es : List Entry) (k : ℕ) (xs : List ProcessPlan) (y : ProcessPlan) → processes_lines p es k (xs ++ y ∷ []) ≡ processes_lines p es k xs ++ process_lines p es (k + length xs) y.who
+processes_push p es k [] y = let same : k ≡ k + 0 = omega arith in nil_after (process_lines p es k y.who) ∙ ap (λ (n : ℕ). process_lines p es n y.who) same
+processes_push p es k (x ∷ xs) y =
+    let same : k + 1 + length xs ≡ k + length (x ∷ xs) = omega arith in
+    ap (λ (t : List ℕ). process_lines p es k x.who ++ t) (processes_push p es (k + 1) xs y ∙ ap (λ (n : ℕ). processes_lines p es (k + 1) xs ++ process_lines p es n y.who) same)
+    ∙ sym (append_assoc (process_lines p es k x.who) (processes_lines p es (k + 1) xs) (process_lines p es (k + length (x ∷ xs)) y.who))
+
+pub processes_start : (before : List ℕ) (p : Plan) (es : List Entry) → HasProcesses before p es 0 before
+processes_start before p es = sym (nil_after before)
+
+pub processes_more : (before : List ℕ) (p : Plan) (es : List Entry) (k : ℕ) (w : Who) (now middle new : List ℕ) → k < length p.processes → w ≡ who_of p k → HasProcesses before p es k now → middle ≡ now ++ process_line k w → new ≡ middle ++ flat_map (entry_line p) (part k es) → HasProcesses before p es (k + 1) new
+unfolding process_lines
+processes_more before p es k w now middle new lt who h first second =
+    let more : take (k + 1) p.processes ≡ take k p.processes ++ get_or p.processes k no_process ∷ [] = take_more p.processes k no_process lt in
+    let size : 0 + length (take k p.processes) ≡ k = grind (arith, common_steps) in
+    let so_far : List ℕ = processes_lines p es 0 (take k p.processes) in
+    let lines : List ℕ = flat_map (entry_line p) (part k es) in
+    second
+    ∙ ap (λ (t : List ℕ). t ++ lines) (first ∙ ap (λ (x : Who). now ++ process_line k x) who)
+    ∙ append_assoc now (process_line k (who_of p k)) lines
+    ∙ ap (λ (t : List ℕ). t ++ process_lines p es k (who_of p k)) h
+    ∙ append_assoc before so_far (process_lines p es k (who_of p k))
+    ∙ ap (λ (t : List ℕ). before ++ t) (ap (λ (n : ℕ). so_far ++ process_lines p es n (who_of p k)) (sym size) ∙ sym (processes_push p es 0 (take k p.processes) (get_or p.processes k no_process)) ∙ ap (λ (t : List ProcessPlan). processes_lines p es 0 t) (sym more))
+
+pub processes_end : (before : List ℕ) (p : Plan) (es : List Entry) (k : ℕ) (now : List ℕ) → length p.processes ≤ k → HasProcesses before p es k now → now ≡ before ++ processes_lines p es 0 p.processes
+processes_end before p es k now le h =
+    let whole : take k p.processes ≡ p.processes = grind (arith, common_steps) in
+    h ∙ ap (λ (t : List ProcessPlan). before ++ processes_lines p es 0 t) whole
+
+pub listing_whole : (p q : Plan) (es : List Entry) (k : Kept) (none a b : List ℕ) → q ≡ p → Shows p k (store_after p es) → none ≡ [] → a ≡ none ++ body_of p.print p es → b ≡ a ++ kept_summary q k → b ≡ listing_of p es
+unfolding listing_of
+listing_whole p q es k none a b same shows empty first second =
+    second
+    ∙ ap (λ (x : Plan). a ++ kept_summary x k) same
+    ∙ ap (λ (x : List ℕ). x ++ kept_summary p k) (first ∙ ap (λ (x : List ℕ). x ++ body_of p.print p es) empty)
+    ∙ ap (λ (x : List ℕ). body_of p.print p es ++ x) (summary_shown p k (store_after p es) shows)

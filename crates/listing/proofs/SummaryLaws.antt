@@ -33,11 +33,13 @@ kept_more k a (x ∷ xs) y =
 pub volumes_start : (before : List ℕ) (k : Kept) (vs : List VolumeLine) → HasVolumes before k vs 0 before
 volumes_start before k vs = sym (nil_after before)
 
-pub volumes_more : (before : List ℕ) (k : Kept) (vs : List VolumeLine) (i v : ℕ) (x : VolumeLine) (now new : List ℕ) → i < length vs → v ≡ i → x ≡ get_or vs i x → HasVolumes before k vs i now → new ≡ now ++ volume_text x (gauge_at k.records v).used (gauge_at k.entries v).used → HasVolumes before k vs (i + 1) new
-volumes_more before k vs i v x now new lt same at h add =
+pub volumes_more : (before : List ℕ) (k : Kept) (vs : List VolumeLine) (i v taken nodes : ℕ) (x : VolumeLine) (now new : List ℕ) → i < length vs → v ≡ i → x ≡ get_or vs i x → taken ≡ (gauge_at k.records v).used → nodes ≡ (gauge_at k.entries v).used → HasVolumes before k vs i now → new ≡ now ++ volume_text x taken nodes → HasVolumes before k vs (i + 1) new
+volumes_more before k vs i v taken nodes x now new lt same at records entries h add =
     let more : take (i + 1) vs ≡ take i vs ++ x ∷ [] = take_more vs i x lt ∙ ap (λ (y : VolumeLine). take i vs ++ y ∷ []) (sym at) in
     let size : 0 + length (take i vs) ≡ v = grind (arith, common_steps) in
     add
+    ∙ ap (λ (n : ℕ). now ++ volume_text x n nodes) records
+    ∙ ap (λ (n : ℕ). now ++ volume_text x (gauge_at k.records v).used n) entries
     ∙ ap (λ (t : List ℕ). t ++ kept_line k v x) h
     ∙ append_assoc before (kept_lines k 0 (take i vs)) (kept_line k v x)
     ∙ ap (λ (t : List ℕ). before ++ t) (ap (λ (n : ℕ). kept_lines k 0 (take i vs) ++ kept_line k n x) (sym size) ∙ sym (kept_more k 0 (take i vs) x) ∙ ap (λ (t : List VolumeLine). kept_lines k 0 t) (sym more))

@@ -1,4 +1,4 @@
--- The listing of a book: what each process was answered, then the accounts, then the volumes (own).
+-- The listing of a book: what each process was answered, or each entry; then the accounts, then the volumes (own).
 use Rattle.std.specs.Prelude.{ℕ, ◌+◌, List, [], ◌∷◌, ◌++◌, reverse, Option, Some, None, codes, eqb, if◌then◌else◌}
 use Rattle.std.specs.List.{flat_map}
 use Rattle.std.specs.Fmt.{decimal}
@@ -7,21 +7,24 @@ use Rattle.mnames.specs.Principals.{who_text}
 use Rattle.mnames.specs.declared.principals.Who.{Who}
 use Rattle.script.specs.Plans.{Plan, ProcessPlan, command_at}
 use Rattle.script.specs.declared.commands.Command.{Command}
+use Rattle.script.specs.declared.plan.Print.{Print}
+use Rattle.script.specs.declared.plan.Print.TheVariants as print
 use Rattle.script.specs.declared.plan.VolumeLine.{VolumeLine}
+use Rattle.script.specs.Texts.{command_text}
 use Rattle.book.specs.declared.entries.Entry.{Entry}
 use Rattle.book.specs.declared.entries.Entry.TheVariants as entry
 use Rattle.book.specs.declared.replies.Reply.{Reply}
+use Rattle.book.specs.Entries.{entry_text}
 use Rattle.book.specs.Replies.{reply_text}
 use Rattle.storage_terms.specs.Tree.{Node, is_account, used_by, taken_on, entries_on}
 use Rattle.flat_store.specs.Flat.{Store}
 use Rattle.flat_store.specs.Kept.{Kept, gauge_at}
 use Rattle.flat_store.specs.Legal.{store_after, part}
-use Rattle.listing.specs.Commands.{command_text}
 
 -- `COMMAND = REPLY`
 unfoldable pub answer_line : Plan → Option Command → Reply → List ℕ
 answer_line p None r = []
-answer_line p (Some c) r = command_text p c ++ (codes " = " ++ (reply_text r ++ codes "\n"))
+answer_line p (Some c) r = command_text p.volumes c ++ (codes " = " ++ (reply_text r ++ codes "\n"))
 
 abbrev pub entry_line : Plan → Entry → List ℕ
 entry_line p (entry.Do process place cpu frame r) = answer_line p (command_at p process place) r
@@ -73,9 +76,19 @@ volume_lines s v (x ∷ xs) = volume_text x (taken_on s.nodes s.stored v) (entri
 unfoldable pub summary_of : Plan → Store → List ℕ
 summary_of p s = account_lines s ++ volume_lines s 0 p.volumes
 
+-- a line for each entry
+unfoldable pub full_line : Entry → List ℕ
+full_line e = entry_text e ++ codes "\n"
+
+-- what stands before the summary, by what the script prints
+unfoldable pub body_of : Print → Plan → List Entry → List ℕ
+body_of print.Short p entries = []
+body_of print.Replies p entries = processes_lines p entries 0 p.processes
+body_of print.All p entries = flat_map full_line entries
+
 -- the listing of a book
 unfoldable pub listing_of : Plan → List Entry → List ℕ
-listing_of p entries = processes_lines p entries 0 p.processes ++ summary_of p (store_after p entries)
+listing_of p entries = body_of p.print p entries ++ summary_of p (store_after p entries)
 
 -- the line of an entry, where it answers a command of this process
 abbrev pub own_line : Plan → ℕ → Entry → List ℕ

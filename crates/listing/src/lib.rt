@@ -3,5 +3,7 @@
 
 mod answers;
 mod summary;
+#[cfg(test)]
+mod tests;
 
 pub use summary::{NoMemory, listing_text};

@@ -1,11 +1,10 @@
-ghost use Rattle.std.specs.Prelude.{◌≡◌, ◌++◌, [], ◌<◌, OnOk, IfOk, length, string_bytes};
-ghost use Rattle.std.specs.List.{flat_map};
-ghost use Rattle.flat_store.specs.Legal.{IsLegal, store_after, part};
+ghost use Rattle.std.specs.Prelude.{◌≡◌, ◌++◌, [], ◌<◌, ◌≤◌, OnOk, IfOk, length, string_bytes};
+ghost use Rattle.flat_store.specs.Legal.{IsLegal, store_after};
 ghost use Rattle.flat_store.specs.Shown.{Shows};
-ghost use Rattle.listing.specs.Listings.{entry_line, own_line, account_text, volume_text, kept_lines, kept_summary, listing_of};
+ghost use Rattle.listing.specs.Listings.{account_text, volume_text, kept_lines, kept_summary, listing_of};
 
-use crate::answers::{push_answer, push_process};
-use book::{Book, Entry};
+use crate::answers::push_body;
+use book::Book;
 use flat_store::FlatStore;
 use script::{Script, VolumeLine};
 use std::alloc::{AllocError, Global};
@@ -16,39 +15,6 @@ const ROOT: u32 = 1;
 /// There wasn't enough memory.
 #[derive(Clone, Copy, Debug, PartialEq, Eq)]
 pub struct NoMemory;
-
-/// Appends the line of a command entry of process 0, and nothing for any other entry.
-#[tactic(auto, unfolding(crate::specs::Listings::answer_line))]
-fn push_entry(out: &mut String, script: &Script, entry: &Entry) -> Result<(), AllocError>
-    requires { 0 < length script.now.processes }
-    ensures { OnOk result (string_bytes out.new ≡ string_bytes out.old ++ own_line script.now 0 entry.now) }
-{
-    match entry {
-        Entry::Do {
-            process: 0,
-            place,
-            reply,
-            ..
-        } => match script.commands(0).get(*place as usize) {
-            Some(command) => push_answer(out, script, command, *reply),
-            None => Ok(()),
-        },
-        _ => Ok(()),
-    }
-}
-
-/// Appends a line for each command entry of process 0, in order.
-#[tactic(auto, using(crate::proofs::LineLaws::lines_start, crate::proofs::LineLaws::lines_more, crate::proofs::LineLaws::lines_end, std::proofs::lemmas::Grind::common_steps))]
-fn push_entries(out: &mut String, book: &Book) -> Result<(), AllocError>
-    requires { 0 < length book.now.script.processes }
-    ensures { OnOk result (string_bytes out.new ≡ string_bytes out.old ++ flat_map (entry_line book.now.script) (part 0 book.now.entries)) }
-{
-    let script = book.script();
-    for entry in book.entries() {
-        push_entry(out, script, entry)?;
-    }
-    Ok(())
-}
 
 /// Appends the line of the root's account.
 #[tactic(auto, unfolding(crate::specs::Listings::account_text))]
@@ -80,13 +46,17 @@ fn push_volume(
 }
 
 /// Appends a line for each volume, in order.
-#[tactic(auto, using(crate::proofs::SummaryLaws::volumes_start, crate::proofs::SummaryLaws::volumes_more, crate::proofs::SummaryLaws::volumes_end, std::proofs::lemmas::Grind::common_steps))]
-fn push_volumes(out: &mut String, script: &Script, store: &FlatStore) -> Result<(), AllocError>
-    ensures { OnOk result (string_bytes out.new ≡ string_bytes out.old ++ kept_lines store.now 0 script.now.volumes) }
+#[tactic(auto, using(crate::proofs::SummaryLaws::volumes_start, crate::proofs::SummaryLaws::volumes_end, std::proofs::lemmas::Grind::common_steps))]
+fn push_volumes(
+    out: &mut String,
+    volumes: &[VolumeLine],
+    store: &FlatStore,
+) -> Result<(), AllocError>
+    requires { length volumes.now ≤ 4 }
+    ensures { OnOk result (string_bytes out.new ≡ string_bytes out.old ++ kept_lines store.now 0 volumes.now) }
 {
-    let _processes = script.processes();
     let mut v = 0;
-    for volume in script.volumes() {
+    for volume in volumes {
         push_volume(out, volume, store.taken(v), store.entries(v))?;
         v += 1;
     }
@@ -97,13 +67,15 @@ fn push_volumes(out: &mut String, script: &Script, store: &FlatStore) -> Result<
 fn push_summary(out: &mut String, script: &Script, store: &FlatStore) -> Result<(), AllocError>
     ensures { OnOk result (string_bytes out.new ≡ string_bytes out.old ++ kept_summary script.now store.now) }
 {
+    let _processes = script.processes();
     push_account(out, script, store)?;
-    push_volumes(out, script, store)
+    push_volumes(out, script.volumes(), store)
 }
 
-/// The listing of the book of a run, which must be legal: what each process was answered, then the accounts and the
-/// volumes, as they are in the flat store after the book (own). It takes memory for the text and for that store, and
-/// goes through the book twice.
+/// The listing of the book of a run, which must be legal (own): what its script prints, which is what each process was
+/// answered, or each entry, or nothing; then the accounts and the volumes, as they are in the flat store after the book.
+/// It takes memory for the text and for that store, and goes through the book once for that store, and at most once
+/// more for each process.
 pub fn listing_text(alloc: Global, book: &Book) -> Result<Vec<u8>, NoMemory>
     requires { IsLegal book.now.script book.now.entries }
     ensures { IfOk result (λ text. text.items ≡ listing_of book.now.script book.now.entries) }
@@ -122,10 +94,8 @@ fn listing_string(alloc: Global, book: &Book, store: &FlatStore) -> Result<Strin
     ensures { IfOk result (λ text. string_bytes text ≡ listing_of book.now.script book.now.entries) }
 {
     let script = book.script();
-    let _processes = script.processes();
     let mut text = String::new(alloc);
-    push_process(&mut text, 0, script.who(0))?;
-    push_entries(&mut text, book)?;
+    push_body(&mut text, book)?;
     push_summary(&mut text, script, store)?;
     Ok(text)
 }

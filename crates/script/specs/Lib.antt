@@ -8,3 +8,4 @@ pub mod Heads
 pub mod Lines
 pub mod Plans
 pub mod Readers
+pub mod Texts

@@ -13,8 +13,10 @@ mod refusals;
 mod tests;
 mod values;
 mod volumes;
+mod texts;
 
 pub use commands::{Command, Process};
 pub use plan::{Bulk, Fail, Print, Script, VolumeLine};
 pub use reader::{ScriptFault, read_script};
 pub use refusals::{Cause, Refusal};
+pub use texts::push_command;

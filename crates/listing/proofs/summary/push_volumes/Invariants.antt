@@ -6,5 +6,5 @@ use Rattle.listing.proofs.summary.push_volumes.Given as goal
 abbrev pub invariant-loop-volume : goal.invariant-loop-volume
 invariant-loop-volume l = record {
   counted : l.v ≡ l.volume-index;
-  lines : HasVolumes (string_bytes l.fn.out) l.store l.script.volumes l.volume-index (string_bytes l.out);
+  lines : HasVolumes (string_bytes l.fn.out) l.store l.volumes l.volume-index (string_bytes l.out);
 }
