@@ -1,4 +1,4 @@
-ghost use Rattle.std.specs.Prelude.{◌≡◌, ◌≢◌, ◌+◌, ◌<◌, ◌↔◌, ℕ, All, IsSome, None, Some, true, false, length, map, replicate, sum_by, slice_index, slice_set, IfOk, IfSome, IfNone, IsTrue};
+ghost use Rattle.std.specs.Prelude.{◌≡◌, ◌≢◌, ◌+◌, ◌<◌, ◌↔◌, ◌==◌, ℕ, All, IsSome, None, Some, true, false, length, map, replicate, sum_by, slice_index, slice_set, IfOk, IfSome, IfNone, IsTrue};
 ghost use Rattle.core_map.specs.declared.Frame.TheVariants.{Free, Bound};
 ghost use Rattle.core_map.specs.CoreMap.{frame_at, with_frame, is_bound, least_free_frame, IsLeastFreeFrame};
 ghost use Rattle.core_map.specs.Clock.{IsClockChoice, unmarked};
@@ -8,7 +8,7 @@ ghost use Rattle.page_control.specs.Plain.{bindings, binding_at, words_in, words
 ghost use Rattle.page_control.specs.Effects.{referred, word_put};
 ghost use Rattle.page_control.specs.Picture.{picture, is_stored, changed_at, volume_of, record_named, words_filed, is_filed_in};
 ghost use Rattle.page_control.specs.Tied.{uid_in, is_out, has_record};
-ghost use Rattle.paged_segs.specs.Segs.{Segs, volume_at, word_at, pages_of, plan_of};
+ghost use Rattle.paged_segs.specs.Segs.{Segs, home_at, volume_at, word_at, pages_of, plan_of};
 ghost use Rattle.paged_segs.specs.Counts.{taken, used, entries, is_full, one_more};
 ghost use Rattle.paged_segs.specs.Kept.{IsKept, AreFresh};
 ghost use Rattle.paged_segs.specs.Effects.{made, read_in, made_page, begun, HasSizes, IsEmptied};
@@ -80,6 +80,23 @@ impl Segments {
         ensures kept { IsKept self.now }
     {
         self.homes.len() as u32
+    }
+
+    /// The home of segment `i`. It reads two numbers. (Source: Organick 1972.)
+    pub fn home(&self, i: u32) -> Home
+        requires { i < length self.now.homes }
+        ensures { result ≡ home_at self.now.homes i }
+    {
+        home_of(&self.homes, i as usize)
+    }
+
+    /// Whether all VTOC entries of a volume are used. It reads two counts. (Source: Organick 1972.)
+    pub fn is_vtoc_full(&self, volume: u32) -> bool
+        requires { volume < length self.now.storage.disks }
+        ensures { result ≡ (used self.now.storage.vtocs volume == entries self.now.storage.vtocs volume) }
+    {
+        let vtoc = self.pages.volumes().vtoc(volume);
+        vtoc.used() == vtoc.size()
     }
 
     /// The word of page `page` of segment `i`. It reads one word. (Source: Bensoussan, Clingen and Daley 1972.)

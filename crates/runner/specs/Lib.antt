@@ -1,3 +1,5 @@
+pub mod Effects
+pub mod Looks
 pub mod Machines
-pub mod Runs
-pub mod Steps
+pub mod Places
+pub mod Tables

@@ -1,12 +1,13 @@
-//! The run of a script: the private machine that answers its commands, and the top call of the
-//! program, from the bytes of a script to the bytes of its listing.
+//! Runs scripts: the machine, and the program's top call.
 #![tactic(auto)]
 
+mod commands;
+mod looks;
 mod machine;
-mod pages;
+mod naming;
 mod steps;
-#[cfg(test)]
-mod tests;
-mod top;
+mod tables;
 
-pub use top::{Finished, SCRIPT_BYTES, Status, Words, multics};
+/// There wasn't enough memory.
+#[derive(Clone, Copy, Debug, PartialEq, Eq)]
+pub(crate) struct NoMemory;

@@ -1,12 +1,12 @@
-ghost use Rattle.std.specs.Prelude.{◌≡◌};
-ghost use Rattle.runner.specs.Steps.{step_of};
-
 use mword::Word;
-use script::Command;
 
-/// What the process does next, once its segment is known.
+/// What a process asks next.
 #[derive(Clone, Copy)]
 pub(crate) enum Step {
+    /// A new segment.
+    Make,
+    /// A segment is to be known.
+    Initiate,
     Read {
         number: u32,
         offset: u32,
@@ -17,27 +17,4 @@ pub(crate) enum Step {
         word: Word,
     },
     End,
-}
-
-/// The step that a command is.
-pub(crate) fn step_of(command: &Command) -> Option<Step>
-    ensures { result ≡ step_of command.now }
-{
-    match command {
-        Command::Read { number, offset } => Some(Step::Read {
-            number: *number,
-            offset: *offset,
-        }),
-        Command::Write {
-            number,
-            offset,
-            word,
-        } => Some(Step::Write {
-            number: *number,
-            offset: *offset,
-            word: *word,
-        }),
-        Command::End => Some(Step::End),
-        _ => None,
-    }
 }

@@ -11,9 +11,9 @@ mod reader;
 mod refusals;
 #[cfg(test)]
 mod tests;
+mod texts;
 mod values;
 mod volumes;
-mod texts;
 
 pub use commands::{Command, Process};
 pub use plan::{Bulk, Fail, Print, Script, VolumeLine};

@@ -1,0 +1,134 @@
+-- One more entry of the book, and the tables beside it.
+use Rattle.std.proofs.Common.{◌≡◌, ℕ, ◌+◌, ◌<◌, Bool, true, false, not, ◌||◌, List, [], ◌∷◌, ◌++◌, length, get_or, Option, Some, None, refl, sym, ap, subst, ◌∙◌, arith}
+use Rattle.script.specs.Plans.{Plan, command_at}
+use Rattle.book.specs.declared.entries.Entry.{Entry}
+use Rattle.book.specs.declared.entries.Entry.TheVariants as entry
+use Rattle.book.specs.declared.replies.Reply.{Reply}
+use Rattle.flat_store.specs.Flat.{Store, is_turn}
+use Rattle.flat_store.specs.Legal.{IsLawful, IsAnswer, MayRelease, after_entry, store_after}
+use Rattle.flat_store.proofs.BookLaws.{store_after-push, legal_push}
+use Rattle.page_control.specs.declared.Left.TheVariants.{Released, Kept}
+use Rattle.paged_segs.specs.declared.Evicted.{Evicted}
+use Rattle.runner.specs.Tables.{Held, AreTied}
+use Rattle.runner.specs.Effects.{IsSame, IsGone, KeepsCounts}
+use Rattle.runner.specs.Machines.{Holds, IsAt, IsStep, GoesOn, done_at, store_done}
+use Rattle.runner.proofs.Same as same
+use Rattle.runner.proofs.Gone.{tied_gone, may_release, store_left, count_left}
+
+-- the book with one more entry
+pub record IsBooked (p now : Plan) (es later : List Entry) (e : Entry) : Type 0 where
+  pub script : now ≡ p
+  pub entries : later ≡ es ++ e ∷ []
+
+pub pushed : (p now : Plan) (es later : List Entry) (e : Entry) (t new : Held) → IsBooked p now es later e → Holds p es t → IsLawful p (store_after p es) e → AreTied p (after_entry p (store_after p es) e) new → length new.segs.storage.core.frames ≡ length t.segs.storage.core.frames → length new.segs.storage.disks ≡ length t.segs.storage.disks → Holds now later new
+pushed p now es later e t new b h lawful tied frames disks =
+    subst (λ (x : Plan). Holds x later new) (sym b.script)
+    (subst (λ (x : List Entry). Holds p x new) (sym b.entries) (record {
+      form = h.form;
+      legal = legal_push p es e h.legal lawful;
+      tied = subst (λ (s : Store). AreTied p s new) (sym (store_after-push p es e)) tied;
+      frames = omega (arith, frames, h.frames);
+      disks = disks ∙ h.disks;
+    }))
+
+-- where the process is, where an entry changes nothing of that
+pub at_pushed : (p now : Plan) (es later : List Entry) (e : Entry) (place next : ℕ) → IsBooked p now es later e → get_or (after_entry p (store_after p es) e).places 0 0 ≡ next → get_or (after_entry p (store_after p es) e).ended 0 true ≡ false → IsAt now later next
+at_pushed p now es later e place next b is going =
+    subst (λ (x : Plan). IsAt x later next) (sym b.script)
+    (subst (λ (x : List Entry). IsAt p x next) (sym b.entries) (record {
+      next = ap (λ (s : Store). get_or s.places 0 0) (store_after-push p es e) ∙ is;
+      going = ap (λ (s : Store). get_or s.ended 0 true) (store_after-push p es e) ∙ going;
+    }))
+
+-- ---- a command
+
+pub turn_first : (p : Plan) (ended : List Bool) → is_turn p ended 0 ≡ true
+turn_first p ended = either (not p.initializer)
+  where
+    either : (z : Bool) → (z || true) ≡ true
+    either true = refl
+    either false = refl
+
+done_lawful : (p : Plan) (es : List Entry) (place : ℕ) (frame : Option ℕ) (r : Reply) → IsAt p es place → IsAnswer p (store_after p es) 0 (command_at p 0 place) r → IsLawful p (store_after p es) (done_at place frame r)
+unfolding IsLawful
+done_lawful p es place frame r at answer = record { turn = turn_first p (store_after p es).ended; going = at.going; next = at.next; answer = answer }
+
+done_after : (p : Plan) (s : Store) (es : List Entry) (place : ℕ) (frame : Option ℕ) (r : Reply) → after_entry p (store_after p es) (done_at place frame r) ≡ store_done p es place r
+unfolding after_entry
+done_after p s es place frame r = refl
+
+pub holds_step : (p now : Plan) (es later : List Entry) (t new : Held) (place : ℕ) (frame : Option ℕ) (r : Reply) → IsBooked p now es later (done_at place frame r) → Holds p es t → IsAt p es place → IsStep p es t new place r → Holds now later new
+holds_step p now es later t new place frame r b h at step =
+    pushed p now es later (done_at place frame r) t new b h (done_lawful p es place frame r at step.answer)
+    (subst (λ (s : Store). AreTied p s new) (sym (done_after p (store_after p es) es place frame r)) step.tied) step.frames step.disks
+
+pub at_step : (p now : Plan) (es later : List Entry) (t new : Held) (place : ℕ) (frame : Option ℕ) (r : Reply) → IsBooked p now es later (done_at place frame r) → IsStep p es t new place r → GoesOn p es place r → IsAt now later (place + 1)
+at_step p now es later t new place frame r b step on =
+    at_pushed p now es later (done_at place frame r) place (place + 1) b
+    (ap (λ (s : Store). get_or s.places 0 0) (done_after p (store_after p es) es place frame r) ∙ step.next)
+    (ap (λ (s : Store). get_or s.ended 0 true) (done_after p (store_after p es) es place frame r) ∙ on.going)
+
+-- ---- entries that tell where a page is
+
+here_after : (p : Plan) (s : Store) (frame uid page : ℕ) → (IsLawful p s (entry.Here frame uid page)) × (after_entry p s (entry.Here frame uid page) ≡ s)
+unfolding IsLawful after_entry
+here_after p s frame uid page = (tt, refl)
+
+take_after : (p : Plan) (s : Store) (frame : ℕ) → (IsLawful p s (entry.Take frame)) × (after_entry p s (entry.Take frame) ≡ s)
+unfolding IsLawful after_entry
+take_after p s frame = (tt, refl)
+
+gone_after : (p : Plan) (s : Store) (frame : ℕ) → (IsLawful p s (entry.GonePage frame)) × (after_entry p s (entry.GonePage frame) ≡ s)
+unfolding IsLawful after_entry
+gone_after p s frame = (tt, refl)
+
+release_after : (p : Plan) (s : Store) (uid page : ℕ) → MayRelease s uid page → (IsLawful p s (entry.Release uid page)) × (after_entry p s (entry.Release uid page) ≡ store_left s uid page Released)
+unfolding IsLawful after_entry
+release_after p s uid page may = (may, refl)
+
+-- an entry that leaves the flat store alone
+pub pushed_quiet : (p now : Plan) (es later : List Entry) (e : Entry) (t new : Held) → IsBooked p now es later e → Holds p es t → IsLawful p (store_after p es) e × (after_entry p (store_after p es) e ≡ store_after p es) → AreTied p (store_after p es) new → length new.segs.storage.core.frames ≡ length t.segs.storage.core.frames → length new.segs.storage.disks ≡ length t.segs.storage.disks → Holds now later new
+pushed_quiet p now es later e t new b h quiet tied frames disks =
+    pushed p now es later e t new b h quiet.0 (subst (λ (s : Store). AreTied p s new) (sym quiet.1) tied) frames disks
+
+pub at_quiet : (p now : Plan) (es later : List Entry) (e : Entry) (place : ℕ) → IsBooked p now es later e → (after_entry p (store_after p es) e ≡ store_after p es) → IsAt p es place → IsAt now later place
+at_quiet p now es later e place b quiet at =
+    at_pushed p now es later e place place b (ap (λ (s : Store). get_or s.places 0 0) quiet ∙ at.next) (ap (λ (s : Store). get_or s.ended 0 true) quiet ∙ at.going)
+
+-- ---- a page comes in
+
+pub same_as : (t new : Held) → IsSame t new → same.IsSame t new
+same_as t new h = record {
+  homes = h.names.homes;
+  tree = h.names.tree;
+  known = h.names.known;
+  lengths = h.names.lengths;
+  stored = h.count;
+  words = h.words;
+  filed = h.filed;
+  records = h.counts.records;
+  places = h.counts.places;
+  record_sizes = h.counts.sizes.records;
+  entry_sizes = h.counts.sizes.places;
+}
+
+pub holds_here : (p now : Plan) (es later : List Entry) (t new : Held) (frame uid page : ℕ) → IsBooked p now es later (entry.Here frame uid page) → Holds p es t → IsSame t new → Holds now later new
+holds_here p now es later t new frame uid page b h is =
+    pushed_quiet p now es later (entry.Here frame uid page) t new b h (here_after p (store_after p es) frame uid page) (same.tied_same p (store_after p es) t new h.tied (same_as t new is)) is.counts.sizes.frames is.counts.sizes.volumes
+
+pub at_here : (p now : Plan) (es later : List Entry) (frame uid page place : ℕ) → IsBooked p now es later (entry.Here frame uid page) → IsAt p es place → IsAt now later place
+at_here p now es later frame uid page place b at = at_quiet p now es later (entry.Here frame uid page) place b (here_after p (store_after p es) frame uid page).1 at
+
+-- ---- a page leaves
+
+pub holds_take : (p now : Plan) (es later : List Entry) (t : Held) (frame : ℕ) → IsBooked p now es later (entry.Take frame) → Holds p es t → Holds now later t
+holds_take p now es later t frame b h = pushed_quiet p now es later (entry.Take frame) t t b h (take_after p (store_after p es) frame) h.tied refl refl
+
+pub at_take : (p now : Plan) (es later : List Entry) (frame place : ℕ) → IsBooked p now es later (entry.Take frame) → IsAt p es place → IsAt now later place
+at_take p now es later frame place b at = at_quiet p now es later (entry.Take frame) place b (take_after p (store_after p es) frame).1 at
+
+pub holds_gone : (p now : Plan) (es later : List Entry) (t : Held) (frame : ℕ) → IsBooked p now es later (entry.GonePage frame) → Holds p es t → Holds now later t
+holds_gone p now es later t frame b h = pushed_quiet p now es later (entry.GonePage frame) t t b h (gone_after p (store_after p es) frame) h.tied refl refl
+
+pub at_gone : (p now : Plan) (es later : List Entry) (frame place : ℕ) → IsBooked p now es later (entry.GonePage frame) → IsAt p es place → IsAt now later place
+at_gone p now es later frame place b at = at_quiet p now es later (entry.GonePage frame) place b (gone_after p (store_after p es) frame).1 at

@@ -1,0 +1,98 @@
+-- The tables at the boot.
+use Rattle.std.proofs.Common.{◌≡◌, ◌≢◌, ℕ, ◌+◌, ◌*◌, ◌<◌, ◌≤◌, Bool, true, false, cond, eqb, List, [], ◌∷◌, length, Option, Some, None, is_some, replicate, refl, sym, ap, ◌∙◌, arith, get_or, inl, inr}
+use Rattle.std.proofs.lemmas.Bool.{cases_lt}
+use Rattle.std.proofs.lemmas.Bool.Decides.{nat_tests}
+use Rattle.std.proofs.lemmas.List.{length-replicate, get_or-replicate, get_or_past}
+use Rattle.std.proofs.lemmas.List.Sums.{sum_by-cons}
+use Rattle.script.specs.Plans.{Plan}
+use Rattle.storage_terms.specs.Tree.{Node, taken_on, entries_on}
+use Rattle.flat_store.specs.Flat.{boot, root_of, records_of, entries_of}
+use Rattle.flat_store.proofs.WordLaws.{word_at-empty}
+use Rattle.dir_tree.specs.Nodes.{root_alone}
+use Rattle.known_segs.specs.Known.{uid_of}
+use Rattle.page_control.specs.Plain.{Plain}
+use Rattle.page_control.specs.Picture.{picture, is_stored as is_filed}
+use Rattle.paged_segs.specs.Counts.{taken, size, used, entries}
+use Rattle.runner.specs.Tables.{Held, AreNamed, AreNumbered, ArePages, AreTied}
+use Rattle.std.specs.FinMap as map
+
+named_boot : (p : Plan) → AreNamed p (root_of p ∷ []) 2 [] (root_alone 0 0) []
+named_boot p = record {
+  nodes = refl;
+  next = refl;
+  count = refl;
+  nodes_count = refl;
+  few = omega arith;
+  lengths = refl;
+  segments = λ i lt. absurd (omega (arith, lt));
+  others = λ u there ne. other u (eqb 1 u) refl there ne;
+  root = refl;
+  quotas = omega arith;
+}
+  where
+    other : (u : ℕ) (z : Bool) → eqb 1 u ≡ z → is_some (cond z (Some (root_of p)) None) ≡ true → u ≢ 1 → (2 ≤ u) × (u < 0 + 2)
+    other u true e there ne = absurd (ne (grind (arith, nat_tests)))
+    other u false e there ne = absurd (apart there)
+      where
+        apart : false ≡ true → ⊥
+        apart x = cc
+
+none_known : (n : ℕ) → uid_of (replicate 256 None) n ≡ None
+none_known n = elim (cases_lt n 256) [
+  | inl lt ↦ get_or-replicate {A = Option ℕ} 256 n None None lt
+  | inr le ↦ get_or_past {X = Option ℕ} (replicate 256 None) n None (let size = length-replicate {A = Option ℕ} 256 None in omega (arith, size, le))
+]
+
+numbered_boot : AreNumbered [] 0 (replicate 256 None)
+numbered_boot = record {
+  same = λ n. sym (none_known n);
+  places = length-replicate {A = Option ℕ} 256 None;
+  there = λ n u at. absurd (apart u (sym (none_known n) ∙ at));
+}
+  where
+    apart : (u : ℕ) → None ≡ Some u → ⊥
+    apart u e = cc
+
+pages_boot : (storage : Plain) → ((uid q : ℕ) → picture storage uid q ≡ replicate 1024 0) → ((uid q : ℕ) → is_filed storage uid q ≡ false) → ArePages map.empty [] 0 storage
+pages_boot storage shown filed = record {
+  words = λ i page o lp lo. ap (λ (words : List ℕ). get_or words o 0) (shown (i + 2) page) ∙ get_or-replicate 1024 o 0 0 lo ∙ sym (word_at-empty (i + 2) (1024 * page + o));
+  stored = λ u page. sym (filed u page);
+  inside = λ u page on. absurd (apart on);
+  sizes = λ u page on. absurd (apart on);
+  once = tt;
+}
+  where
+    apart : false ≡ true → ⊥
+    apart e = cc
+
+none_taken : (p : Plan) (v : ℕ) → taken_on (root_of p ∷ []) [] v ≡ 0
+unfolding taken_on
+none_taken p v = refl
+
+one_entry : (p : Plan) (v : ℕ) → entries_on (root_of p ∷ []) v ≡ cond (eqb v 0) 1 0
+unfolding entries_on
+one_entry p v = sum_by-cons (λ (n : Node). cond (eqb n.volume v) 1 0) (root_of p) [] ∙ by_volume (eqb 0 v) (eqb v 0) (grind (arith, nat_tests))
+  where
+    by_volume : (a b : Bool) → a ≡ b → cond {A = ℕ} a 1 0 + 0 ≡ cond b 1 0
+    by_volume true b e = rw (sym e) refl
+    by_volume false b e = rw (sym e) refl
+
+pub tied_boot : (p : Plan) (t : Held) → t.segs.homes ≡ [] → ((uid q : ℕ) → picture t.segs.storage uid q ≡ replicate 1024 0) → ((uid q : ℕ) → is_filed t.segs.storage uid q ≡ false)
+    → ((v : ℕ) → taken t.segs.storage.records v ≡ 0) → ((v : ℕ) → used t.segs.storage.vtocs v ≡ cond (eqb v 0) 1 0)
+    → ((v : ℕ) → size t.segs.storage.records v ≡ records_of p v) → ((v : ℕ) → entries t.segs.storage.vtocs v ≡ entries_of p v)
+    → t.tree ≡ root_alone 0 0 → t.known ≡ replicate 256 None → t.lengths ≡ [] → t.stored ≡ 0 → AreTied p (boot p) t
+unfolding boot
+tied_boot p t homes shown filed records places record_sizes entry_sizes tree known lengths stored = record {
+  named = rw (homes, tree, lengths) (named_boot p);
+  numbered = rw (homes, known) numbered_boot;
+  pages = rw homes (pages_boot t.segs.storage shown filed);
+  counted = record {
+    stored = stored;
+    within = omega arith;
+    records = λ v. none_taken p v ∙ sym (records v);
+    homes = λ v. one_entry p v ∙ sym (places v);
+    record_sizes = record_sizes;
+    entry_sizes = entry_sizes;
+  };
+  processes = record { places = length-replicate (length p.processes) 0; ended = length-replicate (length p.processes) false };
+}

@@ -1,0 +1,88 @@
+-- The tables of a run, and what they are to the flat store (own).
+use Rattle.std.specs.Prelude.{◌≡◌, ◌≢◌, ◌<◌, ◌≤◌, ℕ, ◌+◌, ◌*◌, Bool, false, true, ◌==◌, if◌then◌else◌, List, length, Option, Some, None, is_some, slice_index}
+use Rattle.script.specs.Plans.{Plan}
+use Rattle.storage_terms.specs.Tree.{Node, node_in, has_directory, taken_on, entries_on}
+use Rattle.flat_store.specs.Words.{Words, word_at}
+use Rattle.flat_store.specs.Pages.{is_stored, IsOnce}
+use Rattle.flat_store.specs.Flat.{Store, Knows, known_uid, records_of, entries_of}
+use Rattle.flat_store.specs.Legal.{quotas_of}
+use Rattle.dir_tree.specs.Nodes.{Branches, with_quotas}
+use Rattle.known_segs.specs.Known.{uid_of}
+use Rattle.page_control.specs.declared.Home.{Home}
+use Rattle.page_control.specs.Plain.{Plain}
+use Rattle.page_control.specs.Picture.{picture, is_stored as is_filed}
+use Rattle.paged_segs.specs.Segs.{Segs, home_at}
+use Rattle.paged_segs.specs.Counts.{taken, size, used, entries}
+
+-- The segments over page control; the directory tree; what the process's numbers stand for; the length of each segment
+-- in pages; how many pages are stored.
+pub record Held : Type 0 where
+  pub segs : Segs
+  pub tree : Branches
+  pub known : List (Option ℕ)
+  pub lengths : List ℕ
+  pub stored : ℕ
+
+-- the root has the script's quota, and no other directory is an account
+abbrev pub root_quota : ℕ → ℕ → ℕ
+root_quota quota u = if u == 1 then quota else 0
+
+-- a node is a segment of so many pages on a volume
+pub record IsSegment (n : Node) (u v count : ℕ) : Type 0 where
+  pub uid : n.uid ≡ u
+  pub kind : n.directory ≡ false
+  pub volume : n.volume ≡ v
+  pub pages : n.pages ≡ count
+  pub most : count ≤ 256
+
+abbrev pub IsSegmentIn : Option Node → ℕ → ℕ → ℕ → Type 0
+IsSegmentIn None u v count = ⊥
+IsSegmentIn (Some n) u v count = IsSegment n u v count
+
+-- The tree's nodes are those of the flat store: the root, and segment i under uid i + 2.
+pub record AreNamed (p : Plan) (ns : List Node) (free : ℕ) (homes : List Home) (tree : Branches) (counts : List ℕ) : Type 0 where
+  pub nodes : ns ≡ with_quotas (root_quota p.quota) tree.nodes
+  pub next : free ≡ tree.next
+  pub count : free ≡ length homes + 2
+  pub nodes_count : length ns ≡ length homes + 1
+  pub few : length homes ≤ 4096
+  pub lengths : length counts ≡ length homes
+  pub segments : (i : ℕ) → i < length homes → IsSegmentIn (node_in ns (i + 2)) (i + 2) (home_at homes i).volume (slice_index counts i)
+  pub others : (u : ℕ) → is_some (node_in ns u) ≡ true → u ≢ 1 → (2 ≤ u) × (u < length homes + 2)
+  pub root : has_directory ns 1 ≡ true
+  pub quotas : quotas_of ns ≡ p.quota
+
+-- The numbers of the process stand for the same segments.
+pub record AreNumbered (known : List Knows) (count : ℕ) (kst : List (Option ℕ)) : Type 0 where
+  pub same : (n : ℕ) → known_uid known 0 n ≡ uid_of kst n
+  pub places : length kst ≡ 256
+  pub there : (n u : ℕ) → uid_of kst n ≡ Some u → (2 ≤ u) × (u < count + 2)
+
+-- Frames, records and file maps have the same words and the same stored pages.
+pub record ArePages (ws : Words) (xs : List (ℕ × ℕ)) (count : ℕ) (storage : Plain) : Type 0 where
+  pub words : (i page o : ℕ) → page < 256 → o < 1024 → slice_index (picture storage (i + 2) page) o ≡ word_at ws (i + 2) (1024 * page + o)
+  pub stored : (u page : ℕ) → is_stored xs u page ≡ is_filed storage u page
+  pub inside : (u page : ℕ) → is_stored xs u page ≡ true → (2 ≤ u) × (u < count + 2) × (page < 256)
+  pub sizes : (u page : ℕ) → is_stored xs u page ≡ true → length (picture storage u page) ≡ 1024
+  pub once : IsOnce xs
+
+-- Running counts are the counts from scratch.
+pub record AreCounted (p : Plan) (ns : List Node) (xs : List (ℕ × ℕ)) (storage : Plain) (count : ℕ) : Type 0 where
+  pub stored : count ≡ length xs
+  pub within : length xs ≤ p.quota
+  pub records : (v : ℕ) → taken_on ns xs v ≡ taken storage.records v
+  pub homes : (v : ℕ) → entries_on ns v ≡ used storage.vtocs v
+  pub record_sizes : (v : ℕ) → size storage.records v ≡ records_of p v
+  pub entry_sizes : (v : ℕ) → entries storage.vtocs v ≡ entries_of p v
+
+pub record AreProcesses (p : Plan) (nexts : List ℕ) (ends : List Bool) : Type 0 where
+  pub places : length nexts ≡ length p.processes
+  pub ended : length ends ≡ length p.processes
+
+-- The tables are those of a flat store.
+pub record AreTied (p : Plan) (s : Store) (t : Held) : Type 0 where
+  pub named : AreNamed p s.nodes s.next t.segs.homes t.tree t.lengths
+  pub numbered : AreNumbered s.known (length t.segs.homes) t.known
+  pub pages : ArePages s.words s.stored (length t.segs.homes) t.segs.storage
+  pub counted : AreCounted p s.nodes s.stored t.segs.storage t.stored
+  pub processes : AreProcesses p s.places s.ended
