@@ -17,6 +17,7 @@ pub mod Parts
 pub mod Paths
 pub mod Puts
 pub mod Same
+pub mod Texts
 pub mod Trees
 pub mod Uses
 pub mod Volumes

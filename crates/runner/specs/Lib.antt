@@ -1,5 +1,7 @@
 pub mod Effects
 pub mod Looks
 pub mod Machines
+pub mod OnDisk
 pub mod Places
+pub mod Runs
 pub mod Tables
