@@ -7,7 +7,9 @@ pub mod Boots
 pub mod Calls
 pub mod Creates
 pub mod Endings
+pub mod Freshness
 pub mod Gone
+pub mod KindLaws
 pub mod Looked
 pub mod Looking
 pub mod Made

@@ -4,4 +4,5 @@ pub mod Machines
 pub mod OnDisk
 pub mod Places
 pub mod Runs
+pub mod Starts
 pub mod Tables

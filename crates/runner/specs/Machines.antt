@@ -6,9 +6,11 @@ use Rattle.script.specs.declared.commands.Command.TheVariants as command
 use Rattle.book.specs.declared.entries.Entry.{Entry}
 use Rattle.book.specs.declared.entries.Entry.TheVariants as entry
 use Rattle.book.specs.declared.replies.Reply.{Reply}
-use Rattle.flat_store.specs.Flat.{Store, moved_on}
+use Rattle.flat_store.specs.Flat.{Store, moved_on, entries_of, records_of}
 use Rattle.flat_store.specs.Legal.{IsLegal, IsComplete, IsAnswer, store_after, after_do}
 use Rattle.runner.specs.Tables.{Held, AreTied}
+use Rattle.runner.specs.declared.steps.Step.{Step}
+use Rattle.runner.specs.declared.steps.Step.TheVariants as step
 
 -- the script of a run, its entries so far and room for more, and the tables
 pub record Run : Type 0 where
@@ -34,7 +36,11 @@ IsPlaced _ next count = next < count
 -- A script that runs so far: at most one process, whose commands do and whose end comes last.
 pub record IsForm (p : Plan) : Type 0 where
   pub processes : length p.processes ≤ 1
+  pub frames : 0 < p.frames
   pub quota : p.quota ≤ 16384
+  pub root : 1 ≤ entries_of p 0
+  pub short : (v : ℕ) → records_of p v < 65536
+  pub acts : 0 < length p.processes → 0 < length (commands_of p 0)
   pub commands : length (commands_of p 0) ≤ 100000
   pub fits : (place : ℕ) (c : Command) → command_at p 0 place ≡ Some c → IsFit (length p.volumes) c
   pub placed : (place : ℕ) (c : Command) → command_at p 0 place ≡ Some c → IsPlaced c (place + 1) (length (commands_of p 0))
@@ -81,3 +87,8 @@ pub record IsDone (p : Plan) (es : List Entry) (t new : Held) (place : ℕ) (r :
 pub record IsUnderway (p : Plan) (es : List Entry) (place : ℕ) : Type 0 where
   pub goes : place < length (commands_of p 0) → IsAt p es place
   pub done : place ≡ length (commands_of p 0) → IsComplete p es
+
+-- a step that isn't the end is followed by another command
+abbrev pub Follows : Step → ℕ → ℕ → Type 0
+Follows step.End next count = next ≡ count
+Follows _ next count = next < count

@@ -5,7 +5,7 @@ ghost use Rattle.script.specs.Plans.{command_at, commands_of};
 ghost use Rattle.script.specs.declared.commands.Command.TheVariants as command;
 ghost use Rattle.flat_store.specs.Flat.{known_or_full};
 ghost use Rattle.flat_store.specs.Legal.{IsComplete};
-ghost use Rattle.runner.specs.Machines.{IsAt, IsUnderway, done_at};
+ghost use Rattle.runner.specs.Machines.{Follows, IsAt, IsUnderway, done_at};
 ghost use Rattle.runner.specs.Places.{IsCommand, IsMkSeg, IsInitiate, CanMake, new_segment_by, wanted_by};
 
 use crate::NoMemory;
@@ -167,5 +167,89 @@ impl Machine {
         ensures complete { IsComplete self.new.script self.new.entries }
     {
         self.book.push(done(place, None, Reply::Done));
+    }
+
+    /// What the process does at a place.
+    fn step_at(&self, place: u32) -> Step
+        requires { place < length (commands_of self.now.script 0) }
+        ensures command { IsCommand (command_at self.now.script 0 place) result }
+        ensures follows { Follows result (place + 1) (length (commands_of self.now.script 0)) }
+    {
+        let script = self.book.script();
+        let _processes = script.processes();
+        match &script.commands(0)[place as usize] {
+            Command::MkSeg { .. } => Step::Make,
+            Command::Initiate { .. } => Step::Initiate,
+            Command::Read { number, offset } => Step::Read {
+                number: *number,
+                offset: *offset,
+            },
+            Command::Write {
+                number,
+                offset,
+                word,
+            } => Step::Write {
+                number: *number,
+                offset: *offset,
+                word: *word,
+            },
+            Command::End => Step::End,
+            _ => unreachable!(),
+        }
+    }
+
+    /// Makes room in the book for the entries of a command.
+    fn reserve(&mut self) -> Result<(), NoMemory>
+        ensures room { OnOk result (6 ≤ self.new.spare) }
+        ensures script { self.new.script ≡ self.old.script }
+        ensures entries { self.new.entries ≡ self.old.entries }
+    {
+        self.book.reserve(6).map_err(|_| NoMemory)
+    }
+
+    /// Answers the command at a place.
+    fn advance(&mut self, place: u32) -> Result<(), NoMemory>
+        requires within { place < length (commands_of self.old.script 0) }
+        requires at { IsAt self.old.script self.old.entries place }
+        ensures script { self.new.script ≡ self.old.script }
+        ensures underway { OnOk result (IsUnderway self.new.script self.new.entries (place + 1)) }
+    {
+        self.reserve()?;
+        match self.step_at(place) {
+            Step::Make => self.make(place),
+            Step::Initiate => self.initiate(place),
+            Step::Read { number, offset } => self.read(place, number, offset),
+            Step::Write {
+                number,
+                offset,
+                word,
+            } => self.write(place, number, offset, word),
+            Step::End => self.end(place),
+        }
+        Ok(())
+    }
+
+    /// How many commands the process has, 0 where there is none.
+    fn command_count(&self) -> u32
+        ensures { result ≡ length (commands_of self.now.script 0) }
+    {
+        let script = self.book.script();
+        match script.processes() {
+            0 => 0,
+            _ => script.commands(0).len() as u32,
+        }
+    }
+
+    /// Answers all commands, in order.
+    pub(crate) fn advance_all(&mut self) -> Result<(), NoMemory>
+        requires { IsUnderway self.old.script self.old.entries 0 }
+        ensures script { self.new.script ≡ self.old.script }
+        ensures complete { OnOk result (IsComplete self.new.script self.new.entries) }
+    {
+        let count = self.command_count();
+        for place in 0..count {
+            self.advance(place)?;
+        }
+        Ok(())
     }
 }

@@ -5,6 +5,7 @@ mod commands;
 mod looks;
 mod machine;
 mod naming;
+mod starting;
 mod steps;
 mod tables;
 
