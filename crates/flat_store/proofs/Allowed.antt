@@ -11,30 +11,32 @@ use Rattle.script.specs.declared.commands.Command.{Command}
 use Rattle.book.specs.declared.entries.Entry.TheVariants as entry
 use Rattle.book.specs.declared.replies.Reply.{Reply}
 use Rattle.flat_store.specs.Pages.{is_stored}
-use Rattle.flat_store.specs.Flat.{Store}
+use Rattle.flat_store.specs.Flat.{Store, is_turn}
 use Rattle.flat_store.specs.Legal.{IsLawful, IsAnswer, MayRelease}
 use Rattle.flat_store.specs.Kept.{Kept, Gauge, seg_at, slot_at, word_of_slot, IsDue, MayAnswer, IsZeroSlot, MayGiveUp}
 use Rattle.flat_store.specs.Shown.{Shows}
 use Rattle.flat_store.proofs.Replies.{answer_shown}
 use Rattle.flat_store.proofs.Followed.{slot_there}
 
-due_answer : (p : Plan) (k : Kept) (s : Store) (process : ℕ) (c : Option Command) (r : Reply) → Shows p k s → IsDue k process c r → IsAnswer p s process c r
+pub due_answer : (p : Plan) (k : Kept) (s : Store) (process : ℕ) (c : Option Command) (r : Reply) → Shows p k s → IsDue k process c r → IsAnswer p s process c r
 due_answer p k s process None r h due = due
-due_answer p k s process (Some c) r h due = due ∙ answer_shown p k s process c h
+due_answer p k s process (Some c) r h due = (due.0, due.1 ∙ answer_shown p k s process c h)
 
 answer_due : (p : Plan) (k : Kept) (s : Store) (process : ℕ) (c : Option Command) (r : Reply) → Shows p k s → IsAnswer p s process c r → IsDue k process c r
 answer_due p k s process None r h answer = answer
-answer_due p k s process (Some c) r h answer = answer ∙ sym (answer_shown p k s process c h)
+answer_due p k s process (Some c) r h answer = (answer.0, answer.1 ∙ sym (answer_shown p k s process c h))
 
 pub do_allowed : (p : Plan) (k : Kept) (s : Store) (process place cpu : ℕ) (frame : Option ℕ) (r : Reply) (z : Bool) → Shows p k s → IsTrue z ↔ MayAnswer p k process place r → IsTrue z ↔ IsLawful p s (entry.Do process place cpu frame r)
 unfolding IsLawful
 do_allowed p k s process place cpu frame r z h allowed = (
   (λ t. (let may = allowed.0 t in record {
+    turn = ap (λ (xs : List Bool). is_turn p xs process) (sym h.ended) ∙ may.turn;
     going = ap (λ (xs : List Bool). slice_index_or xs process true) (sym h.ended) ∙ may.next.going;
     next = ap (λ (xs : List ℕ). slice_index xs process) (sym h.places) ∙ may.next.next;
     answer = due_answer p k s process (command_at p process place) r h may.due;
   })),
   (λ lawful. allowed.1 (record {
+    turn = ap (λ (xs : List Bool). is_turn p xs process) h.ended ∙ lawful.turn;
     next = record {
       going = ap (λ (xs : List Bool). slice_index_or xs process true) h.ended ∙ lawful.going;
       next = ap (λ (xs : List ℕ). slice_index xs process) h.places ∙ lawful.next;

@@ -13,7 +13,7 @@ use Rattle.book.specs.declared.replies.Reply.TheVariants as reply
 use Rattle.storage_terms.specs.Tree.{Node}
 use Rattle.flat_store.specs.Words.{word_at, with_word}
 use Rattle.flat_store.specs.Pages.{is_stored, with_stored, without_stored}
-use Rattle.flat_store.specs.Flat.{Store, segment_of, stored_by, written_in, takes_effect, effect_of, made_by, made_at, known_by, known_or_full, number_for, reply_to_command, after_command}
+use Rattle.flat_store.specs.Flat.{Store, segment_of, stored_by, written_in, takes_effect, effect_of, runs, made_by, made_at, known_by, known_or_full, number_for, reply_to_command, after_command}
 use Rattle.flat_store.specs.Flat as flat
 use Rattle.flat_store.specs.Legal.{IsZeroPage, MayRelease, IsLawful, IsAnswer, after_do, after_entry}
 use Rattle.flat_store.specs.Kept.{Seg, Kept, is_full, gauge_at, seg_at, slot_at, word_of_slot, found_in, known_at, make_new, make_answer, past_segment, number_in, initiate_new, initiate_answer, store_in, put_in, with_slot, charged, credited, put_at, put_word, give_up, make_named, know, know_named, made_of, follow_do, follow_release, kept_after, answer_to}
@@ -263,13 +263,27 @@ end_effect : (p : Plan) (k : Kept) (s : Store) (process : ℕ) (r : Reply) → S
 unfolding made_of
 end_effect p k s process r h e = subst (λ (x : Reply). Shows p (made_of k process command.End x) (cond (takes_effect x) (effect_of p s process command.End) s)) (sym e) (ended_shown p k s process h)
 
-command_effect : (p : Plan) (k : Kept) (s : Store) (process : ℕ) (c : Command) (r : Reply) → Shows p k s → process < length p.processes → ((path : List (List ℕ)) (pages volume : ℕ) → c ≡ command.MkSeg path pages volume → pages ≤ 256) → r ≡ answer_to k process c → Shows p (made_of k process c r) (cond (takes_effect r) (effect_of p s process c) s)
+-- what runs is true of no other command
+differs : false ≡ true → ⊥
+differs e = absurd cc
+
+command_effect : (p : Plan) (k : Kept) (s : Store) (process : ℕ) (c : Command) (r : Reply) → Shows p k s → process < length p.processes → ((path : List (List ℕ)) (pages volume : ℕ) → c ≡ command.MkSeg path pages volume → pages ≤ 256) → (runs c ≡ true) × (r ≡ answer_to k process c) → Shows p (made_of k process c r) (cond (takes_effect r) (effect_of p s process c) s)
 unfolding answer_to
-command_effect p k s process (command.MkSeg path pages volume) r h there small e = make_effect p k s process pages volume path r h (small path pages volume refl) e
-command_effect p k s process (command.Initiate path) r h there small e = initiate_effect p k s process path r h there e
+command_effect p k s process (command.MkSeg path pages volume) r h there small e = make_effect p k s process pages volume path r h (small path pages volume refl) e.1
+command_effect p k s process (command.Initiate path) r h there small e = initiate_effect p k s process path r h there e.1
 command_effect p k s process (command.Read number offset) r h there small e = read_effect p k s process number offset r h
-command_effect p k s process (command.Write number offset w) r h there small e = write_effect p k s process number offset w r h e
-command_effect p k s process command.End r h there small e = end_effect p k s process r h e
+command_effect p k s process (command.Write number offset w) r h there small e = write_effect p k s process number offset w r h e.1
+command_effect p k s process command.End r h there small e = end_effect p k s process r h e.1
+command_effect p k s process (command.MkDir path volume) r h there small e = absurd (differs e.0)
+command_effect p k s process (command.Terminate number) r h there small e = absurd (differs e.0)
+command_effect p k s process (command.Add number offset word) r h there small e = absurd (differs e.0)
+command_effect p k s process (command.Await number offset word tries) r h there small e = absurd (differs e.0)
+command_effect p k s process (command.Acl path row mode) r h there small e = absurd (differs e.0)
+command_effect p k s process (command.Length path pages) r h there small e = absurd (differs e.0)
+command_effect p k s process (command.Truncate path words) r h there small e = absurd (differs e.0)
+command_effect p k s process (command.Delete path) r h there small e = absurd (differs e.0)
+command_effect p k s process (command.Move path amount) r h there small e = absurd (differs e.0)
+command_effect p k s process (command.Status path) r h there small e = absurd (differs e.0)
 
 -- an ended process is one of the script's
 process_there : (ended : List Bool) (k : ℕ) → slice_index_or ended k true ≡ false → k < length ended
@@ -284,7 +298,7 @@ do_shown p k s process place (Some c) r h going small answer =
     let lt : process < length s.ended = process_there s.ended process going in
     let size : length s.ended ≡ length p.processes = ap (λ (t : List Bool). length t) (sym h.ended) ∙ h.processes.2 in
     moved_shown p (made_of k process c r) (cond (takes_effect r) (effect_of p s process c) s) process place
-    (command_effect p k s process c r h (omega arith) (λ path pages volume is. small path pages volume (ap (λ (x : Command). Some x) is)) (answer ∙ sym (answer_shown p k s process c h)))
+    (command_effect p k s process c r h (omega arith) (λ path pages volume is. small path pages volume (ap (λ (x : Command). Some x) is)) (answer.0, answer.1 ∙ sym (answer_shown p k s process c h)))
 
 pub slot_there : (slots : List (Option (List ℕ))) (page : ℕ) (words : List ℕ) → get_or slots page None ≡ Some words → page < length slots
 slot_there [] page words some = absurd cc

@@ -2,6 +2,7 @@ pub mod Allowed
 pub mod BookLaws
 pub mod Booted
 pub mod PageLaws
+pub mod Named
 pub mod Numbers
 pub mod Replies
 pub mod Scripts

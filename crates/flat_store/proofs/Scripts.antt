@@ -1,49 +1,48 @@
--- What a script of the first form promises of its segment and its volume.
-use Rattle.std.proofs.Common.{◌≡◌, ℕ, suc, zero, ◌+◌, ◌≤◌, true, List, [], ◌∷◌, length, drop, Some, None, refl, sym, ap, subst, ◌∙◌, arith}
+-- What each script promises of its segments and of its first volume.
+use Rattle.std.proofs.Common.{◌≡◌, ℕ, suc, zero, ◌≤◌, true, List, [], ◌∷◌, length, get_or, Some, arith}
 use Rattle.std.specs.Prelude.{slice_get}
+use Rattle.std.specs.List.{list_all}
+use Rattle.std.proofs.lemmas.Bool.{and_parts}
 use Rattle.std.proofs.lemmas.Bool.Decides.{nat_tests}
-use Rattle.script.specs.Plans.{Plan, ProcessPlan, commands_of, command_at}
-use Rattle.script.specs.Forms.{IsFirstForm, IsTail, IsReference, pages_of, path_of, fits_in}
+use Rattle.script.specs.Plans.{Plan, ProcessPlan, nobody}
+use Rattle.script.specs.Forms.{IsPlan, is_command, is_process, is_volume}
 use Rattle.script.specs.declared.plan.VolumeLine.{VolumeLine}
 use Rattle.script.specs.declared.commands.Command.{Command}
 use Rattle.script.specs.declared.commands.Command.TheVariants as command
 use Rattle.flat_store.specs.Flat.{entries_in, entries_of}
 use Rattle.flat_store.specs.Shown.{AreSmall}
-use Rattle.flat_store.proofs.Changes.{past_end}
+
+entries_some : (v : VolumeLine) → is_volume v ≡ true → 1 ≤ v.entries
+unfolding is_volume
+entries_some v h = grind (arith, nat_tests)
 
 -- the first volume has an entry for the root
-pub root_there : (p : Plan) → IsFirstForm p → 1 ≤ entries_of p 0
-root_there p f = by_volumes p.volumes f.fits
+pub root_there : (p : Plan) → IsPlan p → 1 ≤ entries_of p 0
+root_there p h = by_volumes p.volumes h.some h.volumes
   where
-    by_volumes : (vs : List VolumeLine) → fits_in vs (pages_of (commands_of p 0)) ≡ true → 1 ≤ entries_in (slice_get vs 0)
-    by_volumes [] h = absurd cc
-    by_volumes (v ∷ vs) h = grind (arith, nat_tests)
+    by_volumes : (vs : List VolumeLine) → 1 ≤ length vs → list_all is_volume vs ≡ true → 1 ≤ entries_in (slice_get vs 0)
+    by_volumes [] there are = absurd (omega arith)
+    by_volumes (v ∷ vs) there are = entries_some v (and_parts _ _ are).0
 
-no_make : (cs : List Command) (n : ℕ) (path : List (List ℕ)) (pages volume : ℕ) → IsTail cs → slice_get cs n ≡ Some (command.MkSeg path pages volume) → ⊥
-no_make [] n path pages volume t at = t
-no_make (c ∷ []) zero path pages volume t at = let same : Some command.End ≡ Some (command.MkSeg path pages volume) = ap (λ (x : Command). Some x) (sym t) ∙ at in absurd cc
-no_make (c ∷ []) (suc n) path pages volume t at = absurd cc
-no_make (c ∷ d ∷ cs) zero path pages volume t at =
-    let same : c ≡ command.MkSeg path pages volume = cc in
-    subst (λ (x : Command). IsReference x) same t.0
-no_make (c ∷ d ∷ cs) (suc n) path pages volume t at = no_make (d ∷ cs) n path pages volume t.1 at
+command_of : (volumes : ℕ) (cs : List Command) (place : ℕ) (c : Command) → list_all (is_command volumes) cs ≡ true → slice_get cs place ≡ Some c → is_command volumes c ≡ true
+command_of volumes [] place c are at = absurd cc
+command_of volumes (d ∷ cs) zero c are at = let same : d ≡ c = cc in let is : is_command volumes d ≡ true = (and_parts _ _ are).0 in cc
+command_of volumes (d ∷ cs) (suc place) c are at = command_of volumes cs place c (and_parts _ _ are).1 at
 
-behind : (cs : List Command) (n : ℕ) → slice_get cs (n + 2) ≡ slice_get (drop 2 cs) n
-behind [] n = refl
-behind (c ∷ []) n = let next : n + 2 ≡ suc (n + 1) = omega arith in ap (λ (x : ℕ). slice_get (c ∷ []) x) next
-behind (c ∷ d ∷ cs) n = let next : n + 2 ≡ suc (suc n) = omega arith in ap (λ (x : ℕ). slice_get (c ∷ d ∷ cs) x) next
+commands_are : (volumes : ℕ) (x : ProcessPlan) → is_process volumes x ≡ true → list_all (is_command volumes) x.commands ≡ true
+unfolding is_process
+commands_are volumes x h = (and_parts _ _ (and_parts _ _ h).1).0
 
-others_none : (p : Plan) (process place : ℕ) → length p.processes ≡ 1 → command_at p (suc process) place ≡ None
-others_none p process place one = ap (λ (x : ProcessPlan). slice_get x.commands place) (past_end p.processes (suc process) _ (omega arith))
+-- each command of a script has its numbers in their ranges
+pub command_there : (volumes : ℕ) (xs : List ProcessPlan) (process place : ℕ) (c : Command) → list_all (is_process volumes) xs ≡ true → slice_get (get_or xs process (record { who = nobody; commands = [] })).commands place ≡ Some c → is_command volumes c ≡ true
+command_there volumes [] process place c are at = absurd cc
+command_there volumes (x ∷ xs) zero place c are at = command_of volumes x.commands place c (commands_are volumes x (and_parts _ _ are).0) at
+command_there volumes (x ∷ xs) (suc process) place c are at = command_there volumes xs process place c (and_parts _ _ are).1 at
 
-pub form_small : (p : Plan) → IsFirstForm p → AreSmall p
-form_small p f zero zero path pages volume is =
-    let same : Some (command.MkSeg (path_of (commands_of p 0)) (pages_of (commands_of p 0)) 0) ≡ Some (command.MkSeg path pages volume) = sym f.run.makes ∙ is in
-    let size : pages_of (commands_of p 0) ≡ pages = cc in omega (arith, f.run.high)
-form_small p f zero (suc zero) path pages volume is =
-    let same : Some (command.Initiate (path_of (commands_of p 0))) ≡ Some (command.MkSeg path pages volume) = sym f.run.initiates ∙ is in absurd cc
-form_small p f zero (suc (suc n)) path pages volume is =
-    let next : suc (suc n) ≡ n + 2 = omega arith in
-    absurd (no_make (drop 2 (commands_of p 0)) n path pages volume f.run.refers (sym (behind (commands_of p 0) n) ∙ ap (λ (x : ℕ). slice_get (commands_of p 0) x) (sym next) ∙ is))
-form_small p f (suc process) place path pages volume is =
-    let nothing : None ≡ Some (command.MkSeg path pages volume) = sym (others_none p process place f.processes) ∙ is in absurd cc
+few_pages : (volumes : ℕ) (path : List (List ℕ)) (pages volume : ℕ) → is_command volumes (command.MkSeg path pages volume) ≡ true → pages ≤ 256
+unfolding is_command
+few_pages volumes path pages volume h = grind (arith, nat_tests)
+
+-- the segments that a script makes are small
+pub plan_small : (p : Plan) → IsPlan p → AreSmall p
+plan_small p h process place path pages volume at = few_pages (length p.volumes) path pages volume (command_there (length p.volumes) p.processes process place (command.MkSeg path pages volume) h.each at)

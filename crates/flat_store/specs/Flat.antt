@@ -1,7 +1,7 @@
 -- The flat store: the tree, the words, the stored pages, what numbers stand for, and how far each
 -- process has come. It restates the view that a user has of segments in Bensoussan, Clingen and Daley
 -- 1972: words under a segment number and an offset, and pages that cost nothing while they are zeros.
-use Rattle.std.specs.Prelude.{ℕ, zero, suc, ◌+◌, ◌*◌, ◌/◌, Bool, true, false, ◌&&◌, ◌==◌, ◌||◌, nat_le, if◌then◌else◌, replicate, is_some, slice_get, slice_set, List, [], ◌∷◌, length, Option, Some, None, codes}
+use Rattle.std.specs.Prelude.{ℕ, zero, suc, ◌+◌, ◌*◌, ◌/◌, Bool, true, false, not, ◌&&◌, ◌==◌, ◌||◌, nat_le, if◌then◌else◌, replicate, is_some, slice_get, slice_index_or, slice_set, List, [], ◌∷◌, length, Option, Some, None, codes}
 use Rattle.std.specs.Option.{option_and_then}
 use Rattle.mnames.specs.declared.modes.Mode.TheVariants as mode
 use Rattle.mnames.specs.declared.principals.Who.{Who}
@@ -175,13 +175,27 @@ initiate_at s process InSegment = reply.NotDir
 unfoldable pub initiate_reply : Store → ℕ → List (List ℕ) → Reply
 initiate_reply s process path = initiate_at s process (walk_in s.nodes path)
 
--- what a process is answered to a command
+-- the commands that run; no other is lawful in a book
+abbrev pub runs : Command → Bool
+runs (command.MkSeg path pages volume) = true
+runs (command.Initiate path) = true
+runs (command.Read number offset) = true
+runs (command.Write number offset word) = true
+runs command.End = true
+runs _ = false
+
+-- whether it is a process's turn: where the first process is the initializer, no other runs before it has ended
+abbrev pub is_turn : Plan → List Bool → ℕ → Bool
+is_turn p ended k = not p.initializer || (k == 0 || slice_index_or ended 0 true)
+
+-- what a process is answered to a command; of a command that doesn't run the last case says nothing
 abbrev pub reply_to_command : Plan → Store → ℕ → Command → Reply
 reply_to_command p s k (command.MkSeg path pages volume) = make_reply p s path volume
 reply_to_command p s k (command.Initiate path) = initiate_reply s k path
 reply_to_command p s k (command.Read number offset) = read_reply s k number offset
 reply_to_command p s k (command.Write number offset word) = write_reply p s k number offset word
 reply_to_command p s k command.End = reply.Done
+reply_to_command p s k _ = reply.Unknown
 
 -- the row of access of a new segment: the process's own principal may read and write
 abbrev pub owner_row : Who → Row
@@ -230,13 +244,14 @@ abbrev pub written_in : Store → ℕ → ℕ → Option Node → Store
 written_in s offset w None = s
 written_in s offset w (Some n) = record s { words = with_word s.words n.uid offset w; stored = stored_by s.stored n.uid offset w }
 
--- the store once a command took effect
+-- the store once a command took effect; of a command that doesn't run the last case says nothing
 abbrev pub effect_of : Plan → Store → ℕ → Command → Store
 effect_of p s k (command.MkSeg path pages volume) = made_by p s k pages volume (parts_of path)
 effect_of p s k (command.Initiate path) = known_at s k (walk_in s.nodes path)
 effect_of p s k (command.Read number offset) = s
 effect_of p s k (command.Write number offset word) = written_in s offset word (segment_of s k number)
 effect_of p s k command.End = record s { ended = slice_set s.ended k true }
+effect_of p s k _ = s
 
 -- a refused command changes nothing
 abbrev pub takes_effect : Reply → Bool

@@ -10,6 +10,7 @@ use Rattle.book.specs.declared.entries.Entry.{Entry}
 use Rattle.book.specs.declared.entries.Entry.TheVariants as entry
 use Rattle.book.specs.declared.replies.Reply.{Reply}
 use Rattle.book.specs.declared.replies.Reply.TheVariants as reply
+use Rattle.flat_store.specs.Flat.{runs, is_turn}
 
 -- a segment: its name below the root, its volume, and for each page its words, where it is stored
 pub record Seg : Type 0 where
@@ -134,13 +135,14 @@ initiate_answer k process [] = reply.IsDir
 initiate_answer k process (name ∷ []) = initiate_new (slice_index_or k.known process []) (found_in k.segments name)
 initiate_answer k process (name ∷ next ∷ names) = past_segment (found_in k.segments name)
 
--- what a process is answered to a command
+-- what a process is answered to a command; of a command that doesn't run the last case says nothing
 unfoldable pub answer_to : Kept → ℕ → Command → Reply
 answer_to k process (command.MkSeg path pages volume) = make_answer k path volume
 answer_to k process (command.Initiate path) = initiate_answer k process path
 answer_to k process (command.Read number offset) = read_of k offset (known_at k process number)
 answer_to k process (command.Write number offset w) = write_of k offset w (known_at k process number)
 answer_to k process command.End = reply.Done
+answer_to k process _ = reply.Unknown
 
 -- the words of a page of a segment become these, or it is stored no more
 abbrev pub with_slot : List Seg → ℕ → ℕ → Option (List ℕ) → List Seg
@@ -241,10 +243,11 @@ pub record IsNext (k : Kept) (process place : ℕ) : Type 0 where
 
 abbrev pub IsDue : Kept → ℕ → Option Command → Reply → Type 0
 IsDue k process None r = ⊥
-IsDue k process (Some c) r = r ≡ answer_to k process c
+IsDue k process (Some c) r = (runs c ≡ true) × (r ≡ answer_to k process c)
 
 -- a command may be answered so
 pub record MayAnswer (p : Plan) (k : Kept) (process place : ℕ) (r : Reply) : Type 0 where
+  pub turn : is_turn p k.ended process ≡ true
   pub next : IsNext k process place
   pub due : IsDue k process (command_at p process place) r
 

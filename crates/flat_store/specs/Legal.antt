@@ -9,20 +9,21 @@ use Rattle.book.specs.declared.replies.Reply.{Reply}
 use Rattle.storage_terms.specs.Tree.{Node, is_account, used_by}
 use Rattle.flat_store.specs.Words.{word_at}
 use Rattle.flat_store.specs.Pages.{is_stored, without_stored}
-use Rattle.flat_store.specs.Flat.{Store, boot, reply_to_command, after_command}
+use Rattle.flat_store.specs.Flat.{Store, boot, runs, is_turn, reply_to_command, after_command}
 
 -- each word of a page is 0
 abbrev pub IsZeroPage : Store → ℕ → ℕ → Type 0
 IsZeroPage s uid page = (i : ℕ) → i < 1024 → word_at s.words uid (1024 * page + i) ≡ 0
 
--- the answer of a command that is there
+-- the answer of a command that is there, and runs
 abbrev pub IsAnswer : Plan → Store → ℕ → Option Command → Reply → Type 0
 IsAnswer p s k None r = ⊥
-IsAnswer p s k (Some c) r = r ≡ reply_to_command p s k c
+IsAnswer p s k (Some c) r = (runs c ≡ true) × (r ≡ reply_to_command p s k c)
 
--- a command may be answered so: its process hasn't ended, it is the process's next one, and the reply
--- is the flat store's
+-- a command may be answered so: it is its process's turn, the process hasn't ended, it is the process's next command,
+-- and the reply is the flat store's
 pub record IsLawfulDo (p : Plan) (s : Store) (k place : ℕ) (r : Reply) : Type 0 where
+  pub turn : is_turn p s.ended k ≡ true
   pub going : slice_index_or s.ended k true ≡ false
   pub next : slice_index s.places k ≡ place
   pub answer : IsAnswer p s k (command_at p k place) r

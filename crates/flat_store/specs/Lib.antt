@@ -1,4 +1,5 @@
 pub mod Flat
+pub mod Index
 pub mod Legal
 pub mod Kept
 pub mod Pages

@@ -56,7 +56,7 @@ impl Tables {
             return Ok(());
         }
         let volume = self.volume_of(i);
-        self.segments[i].put(self.alloc, page, at, word)?;
+        self.segments.put(self.alloc, i, page, at, word)?;
         if !stored {
             self.quota.fill();
             fill(&mut self.records, volume);
@@ -70,7 +70,7 @@ impl Tables {
     {
         if self.is_stored(i, page) {
             let volume = self.volume_of(i);
-            self.segments[i].give_up(page);
+            self.segments.give_up(i, page);
             self.quota.drain();
             drain(&mut self.records, volume);
         }
@@ -101,7 +101,7 @@ impl Tables {
     {
         if let [name, ..] = path.names() {
             let segment = Segment::new(self.alloc, name, volume, pages)?;
-            self.segments.push(segment).map_err(|_| NoMemory)?;
+            self.segments.push(self.alloc, segment)?;
             fill(&mut self.entries, volume);
         }
         Ok(())

@@ -5,6 +5,7 @@
 
 mod follows;
 mod gauges;
+mod segment_list;
 mod segments;
 mod store;
 mod tables;

@@ -1,5 +1,4 @@
 ghost use Rattle.std.specs.Prelude.{◌≡◌, ◌*◌, ◌<◌, ◌↔◌, true, length, replicate, Some, None, slice_set, slice_index_or, IfOk, OnOk, OnErr, MatchOption};
-ghost use Rattle.std.specs.Str.{bytes_eq};
 ghost use Rattle.flat_store.specs.Kept.{words_of_slot};
 
 use crate::NoMemory;
@@ -53,11 +52,11 @@ impl Segment {
         })
     }
 
-    /// Whether it has this name.
-    pub(crate) fn is_named(&self, name: &Name) -> bool
-        ensures { result ≡ bytes_eq self.now.name name.now }
+    /// Its name.
+    pub(crate) fn name(&self) -> &str
+        ensures { result.now ≡ self.now.name }
     {
-        self.name.as_str() == name.as_str()
+        self.name.as_str()
     }
 
     /// The number of its volume.
@@ -96,6 +95,7 @@ impl Segment {
         requires at { at < 1024 }
         ensures ok { OnOk result (self.new ≡ record self.old { slots = slice_set self.old.slots page (Some (slice_set (words_of_slot (slice_index_or self.old.slots page None)) at word)) }) }
         ensures err { OnErr result (self.new ≡ self.old) }
+        ensures name { self.new.name ≡ self.old.name }
     {
         match &mut self.slots[page as usize] {
             Some(words) => words.set(at, word),

@@ -1,9 +1,8 @@
 ghost use Rattle.std.specs.Prelude.{◌≡◌, ◌≤◌, ◌+◌, ◌<◌, ◌↔◌, true, false, length, map, replicate, IsTrue, IfOk, OnOk, OnErr, [], ◌∷◌, slice_index_or, slice_index};
 ghost use Rattle.script.specs.Plans.{Plan};
-ghost use Rattle.script.specs.Forms.{IsFirstForm};
 ghost use Rattle.storage_terms.specs.Tree.{used_by, taken_on, entries_on};
 ghost use Rattle.flat_store.specs.Words.{word_at};
-ghost use Rattle.flat_store.specs.Flat.{Store, boot};
+ghost use Rattle.flat_store.specs.Flat.{Store, boot, is_turn};
 ghost use Rattle.flat_store.specs.Legal.{IsLawful, IsLegal, store_after, after_entry};
 ghost use Rattle.flat_store.specs.Kept.{booted, records_gauge, entries_gauge, with_root, gauge_at, slot_at, word_of_slot, IsNext, MayAnswer, MayGiveUp};
 ghost use Rattle.flat_store.specs.Shown.{Shows};
@@ -11,7 +10,8 @@ ghost use Rattle.flat_store.specs.Shown.{Shows};
 use crate::NoMemory;
 use crate::follows::{command_at, fill};
 use crate::gauges::Gauge;
-use crate::tables::{Known, PAGE_WORDS, Tables};
+use crate::segment_list::SegmentList;
+use crate::tables::{Known, PAGE_WORDS, Tables, runs};
 use book::{Book, Entry, Reply};
 use mword::Word;
 use script::{Script, VolumeLine};
@@ -90,7 +90,7 @@ impl Tables {
         fill(&mut entries, 0);
         Ok(Tables {
             alloc,
-            segments: Vec::new(alloc),
+            segments: SegmentList::new(alloc),
             quota: Gauge::new(s.quota()),
             records,
             entries,
@@ -148,10 +148,24 @@ impl Tables {
     fn is_next(&self, process: u32, place: u32) -> bool
         ensures { IsTrue result ↔ IsNext self.now process place }
     {
+        !self.has_ended(process) && self.place_of(process) == place as usize
+    }
+
+    /// Whether a process has ended; one that isn't there has.
+    fn has_ended(&self, process: u32) -> bool
+        ensures { result ≡ slice_index_or self.now.ended process true }
+    {
         match self.ended.get(process as usize) {
-            Some(false) => self.place_of(process) == place as usize,
-            _ => false,
+            Some(ended) => *ended,
+            None => true,
         }
+    }
+
+    /// Whether it is a process's turn: where process 0 is the initializer, no other runs before it has ended.
+    fn is_turn(&self, script: &Script, process: u32) -> bool
+        ensures { result ≡ is_turn script.now self.now.ended process }
+    {
+        !script.initializer() || process == 0 || self.has_ended(0)
     }
 
     /// Whether a command of a process may be answered so.
@@ -160,7 +174,10 @@ impl Tables {
     {
         match command_at(script, process, place) {
             Some(command) => {
-                self.is_next(process, place) && is_due(reply, &self.answer(process, command))
+                runs(command)
+                    && self.is_turn(script, process)
+                    && self.is_next(process, place)
+                    && is_due(reply, &self.answer(process, command))
             }
             None => false,
         }
@@ -171,7 +188,7 @@ impl Tables {
         requires { at < 1024 }
         ensures { result ≡ word_of_slot (slot_at self.now.segments i page) at }
     {
-        match self.segments.get(i) {
+        match self.segments.all().get(i) {
             Some(segment) => match segment.page(page) {
                 Some(words) => words.get(at),
                 None => Word::ZERO,
@@ -187,7 +204,7 @@ impl Tables {
         if uid < 2 {
             return false;
         }
-        match self.segments.get(uid as usize - 2) {
+        match self.segments.all().get(uid as usize - 2) {
             Some(segment) => match segment.page(page) {
                 Some(words) => words.is_zero(),
                 None => false,

@@ -1,9 +1,10 @@
 ghost use Rattle.std.specs.Prelude.{is_some, ◌≡◌, ◌==◌, ◌+◌, ◌++◌, [], ◌∷◌, ◌<◌, ◌↔◌, true, length, Option, Some, None, IfSome, IfOk, OnOk, OnErr, MatchOption, slice_get, slice_set, slice_index_or, position};
 ghost use Rattle.script.specs.Plans.{commands_of, command_at};
-ghost use Rattle.flat_store.specs.Kept.{Kept, Seg, no_seg, seg_at, slot_at, gauge_at, found_in, newest_named, known_at, read_of, write_of, store_in, make_new, make_answer, past_segment, number_in, initiate_new, initiate_answer, answer_to};
+ghost use Rattle.flat_store.specs.Flat.{runs};
+ghost use Rattle.flat_store.specs.Kept.{Kept, Seg, no_seg, seg_at, slot_at, gauge_at, found_in, known_at, read_of, write_of, store_in, make_new, make_answer, past_segment, number_in, initiate_new, initiate_answer, answer_to};
 
 use crate::gauges::Gauge;
-use crate::segments::Segment;
+use crate::segment_list::SegmentList;
 use book::Reply;
 use mnames::{Name, Path};
 use mword::Word;
@@ -63,7 +64,7 @@ impl Known {
 #[derive(Drop)]
 pub(crate) struct Tables {
     pub(crate) alloc: Global,
-    pub(crate) segments: Vec<Segment>,
+    pub(crate) segments: SegmentList,
     pub(crate) quota: Gauge,
     pub(crate) records: Vec<Gauge>,
     pub(crate) entries: Vec<Gauge>,
@@ -78,7 +79,7 @@ impl Model for Tables {
     ghost Value = { Kept };
 
     ghost view = { λ t. record {
-      segments = t.segments.items;
+      segments = t.segments;
       quota = t.quota;
       records = t.records.items;
       entries = t.entries.items;
@@ -86,20 +87,6 @@ impl Model for Tables {
       places = t.places.items;
       ended = t.ended.items;
     } };
-}
-
-/// The newest segment of a name.
-fn newest_named(segments: &[Segment], name: &Name) -> Option<usize>
-    ensures { result ≡ newest_named segments.now name.now (length segments.now) }
-{
-    let mut i = segments.len();
-    while i > 0 {
-        i -= 1;
-        if segments[i].is_named(name) {
-            return Some(i);
-        }
-    }
-    None
 }
 
 /// Whether all of the gauge of that number is used; where there is none, there is nothing to use.
@@ -112,13 +99,26 @@ fn is_full(gauges: &[Gauge], i: u32) -> bool
     }
 }
 
+/// Whether a command is one of those that run.
+pub(crate) fn runs(command: &Command) -> bool
+    ensures { result ≡ runs command.now }
+{
+    matches!(
+        command,
+        Command::MkSeg { .. }
+            | Command::Initiate { .. }
+            | Command::Read { .. }
+            | Command::Write { .. }
+            | Command::End
+    )
+}
+
 impl Tables {
     /// The segment of a name.
-    #[tactic(auto, unfolding(crate::specs::Kept::found_in))]
     pub(crate) fn find(&self, name: &Name) -> Option<usize>
         ensures { result ≡ found_in self.now.segments name.now }
     {
-        newest_named(&self.segments, name)
+        self.segments.find(name)
     }
 
     /// The segment that a number of a process stands for.
@@ -133,7 +133,7 @@ impl Tables {
     pub(crate) fn has_page(&self, i: usize, page: u32) -> bool
         ensures { result ≡ true ↔ page < length (seg_at self.now.segments i).slots }
     {
-        match self.segments.get(i) {
+        match self.segments.all().get(i) {
             Some(segment) => segment.has_page(page),
             None => false,
         }
@@ -143,7 +143,7 @@ impl Tables {
     pub(crate) fn volume_of(&self, i: usize) -> u32
         ensures { result ≡ (seg_at self.now.segments i).volume }
     {
-        match self.segments.get(i) {
+        match self.segments.all().get(i) {
             Some(segment) => segment.volume(),
             None => 0,
         }
@@ -160,7 +160,7 @@ impl Tables {
         if !self.has_page(i, page) {
             return Reply::Length;
         }
-        match self.segments[i].page(page) {
+        match self.segments.all()[i].page(page) {
             Some(words) => Reply::Word(words.get(offset % PAGE_WORDS)),
             None => Reply::Word(Word::ZERO),
         }
@@ -172,7 +172,7 @@ impl Tables {
         ensures segment { result ≡ true → i < length self.now.segments }
         ensures page { result ≡ true → page < length (seg_at self.now.segments i).slots }
     {
-        match self.segments.get(i) {
+        match self.segments.all().get(i) {
             Some(segment) => segment.page(page).is_some(),
             None => false,
         }
@@ -277,7 +277,7 @@ impl Tables {
         }
     }
 
-    /// What a process is answered to a command.
+    /// What a process is answered to a command that runs.
     #[tactic(auto, unfolding(crate::specs::Kept::answer_to))]
     pub(crate) fn answer(&self, process: u32, command: &Command) -> Reply
         ensures { result ≡ answer_to self.now process command.now }
@@ -292,6 +292,7 @@ impl Tables {
                 word,
             } => self.write(process, *number, *offset, *word),
             Command::End => Reply::Done,
+            _ => Reply::Unknown,
         }
     }
 }

@@ -11,6 +11,7 @@ mod reader;
 mod refusals;
 #[cfg(test)]
 mod tests;
+mod texts;
 mod values;
 mod volumes;
 
@@ -18,3 +19,4 @@ pub use commands::{Command, Process};
 pub use plan::{Bulk, Fail, Print, Script, VolumeLine};
 pub use reader::{ScriptFault, read_script};
 pub use refusals::{Cause, Refusal};
+pub use texts::push_command;

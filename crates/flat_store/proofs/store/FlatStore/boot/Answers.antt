@@ -7,4 +7,4 @@ use Rattle.flat_store.proofs.Scripts.{root_there}
 use Rattle.flat_store.proofs.store.FlatStore.boot.Goals as goal
 
 pub returns : goal.returns
-returns c = subst (λ (k : Kept). Shows c.args.s.now k (boot c.args.s.now)) (sym c.in_ok-boot.ensures) (booted_shown _ (root_there _ c.processes-processes.ensures.form))
+returns c = subst (λ (k : Kept). Shows c.args.s.now k (boot c.args.s.now)) (sym c.in_ok-boot.ensures) (booted_shown _ (root_there _ c.processes-processes.ensures.plan))
