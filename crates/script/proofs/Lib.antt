@@ -2,4 +2,5 @@ mod DraftLaws
 mod LineLaws
 mod NumberLaws
 mod PathLaws
+mod ScriptSteps
 mod VolumeLaws

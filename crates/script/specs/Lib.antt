@@ -7,8 +7,6 @@ pub mod Grammar
 pub mod Heads
 pub mod Lines
 pub mod Plans
-<<<<<<< HEAD
 pub mod Readers
-=======
+pub mod Scripts
 pub mod Texts
->>>>>>> 0d7dd30bb963e96dfff0953e2ce9ccd65930f29f

@@ -1,0 +1,7 @@
+use Rattle.std.proofs.Common.{◌≡◌, ◌++◌, take, flat_map, string_bytes, ℕ}
+use Rattle.script.specs.Scripts.{bulk_text, ended, fail_text, volume_text}
+use Rattle.script.specs.Texts.{command_text}
+use Rattle.script.proofs.scripts.push_fails.Given as goal
+
+abbrev pub invariant-loop-fail : goal.invariant-loop-fail
+invariant-loop-fail l = string_bytes l.out ≡ string_bytes l.fn.out ++ flat_map (λ f. ended (fail_text l.volumes f)) (take l.fail-index l.fails)

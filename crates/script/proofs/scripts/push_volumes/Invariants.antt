@@ -1,0 +1,7 @@
+use Rattle.std.proofs.Common.{◌≡◌, ◌++◌, take, flat_map, string_bytes, ℕ}
+use Rattle.script.specs.Scripts.{bulk_text, ended, fail_text, volume_text}
+use Rattle.script.specs.Texts.{command_text}
+use Rattle.script.proofs.scripts.push_volumes.Given as goal
+
+abbrev pub invariant-loop-volume : goal.invariant-loop-volume
+invariant-loop-volume l = string_bytes l.out ≡ string_bytes l.fn.out ++ flat_map (λ v. ended (volume_text v)) (take l.volume-index l.volumes)
