@@ -1,6 +1,15 @@
+mod CommandTexts
 mod DraftLaws
+mod FieldTexts
+mod HeadTexts
 mod LineLaws
 mod NumberLaws
 mod PathLaws
+mod PrincipalLaws
+mod Reaching
 mod ScriptSteps
+mod ScriptTexts
+mod SmallLaws
+mod ValueTexts
 mod VolumeLaws
+mod VolumeTexts

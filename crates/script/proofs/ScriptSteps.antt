@@ -1,13 +1,10 @@
 -- Steps of writing the processes of a script (own).
-use Rattle.std.proofs.Common.{◌≡◌, ℕ, suc, zero, ◌+◌, ◌<◌, ◌≤◌, Bool, true, false, List, [], ◌∷◌, ◌++◌, length, refl, sym, ap, ◌∙◌, arith, drop, drop-cons, add-one, append_assoc, slice_index_or}
+use Rattle.std.proofs.Common.{◌≡◌, ℕ, suc, ◌+◌, ◌<◌, ◌≤◌, Bool, false, List, [], ◌∷◌, ◌++◌, length, refl, sym, ap, ◌∙◌, arith, drop, drop-cons, add-one, append_assoc, slice_index_or}
 use Rattle.std.proofs.lemmas.Grind.{common_steps}
+use Rattle.script.proofs.SmallLaws.{nil_after}
 use Rattle.script.specs.Plans.{ProcessPlan}
 use Rattle.script.specs.Scripts.{process_text, processes_text}
 use Rattle.script.specs.declared.plan.VolumeLine.{VolumeLine}
-
-nil_after : (x : List ℕ) → x ++ [] ≡ x
-nil_after [] = refl
-nil_after (b ∷ bs) = ap (λ t. b ∷ t) (nil_after bs)
 
 process_at : (xs : List ProcessPlan) (i : ℕ) (x : ProcessPlan) → i < length xs → x ≡ slice_index_or xs i x → drop i xs ≡ x ∷ drop (i + 1) xs
 process_at xs i x lt e = rw (add-one, drop-cons xs i x) (ap (λ w. w ∷ drop (suc i) xs) (sym e))

@@ -168,9 +168,13 @@ fn push_script(out: &mut String, script: &Script) -> Result<(), AllocError>
 
 /// The canonical text of a script (own): one space between fields, no leading zeros, words of 12 octal digits, and a line
 /// that says what is printed, but no line that is skipped.
+#[tactic(auto, using(crate::proofs::ScriptTexts::text_read_again, std::proofs::lemmas::Grind::common_steps))]
 pub fn script_text(alloc: Global, script: &Script) -> Result<Vec<u8>, NoMemory>
-    ensures { IfOk result (λ text. text.items ≡ script_text script.now) }
+    ensures text { IfOk result (λ text. text.items ≡ script_text script.now) }
+    // it is read back as the script
+    ensures again { IfOk result (λ text. script_of text.items ≡ Ok script.now) }
 {
+    let _processes = script.processes();
     let mut out = String::new(alloc);
     match push_script(&mut out, script) {
         Ok(()) => Ok(out.into_bytes()),

@@ -1,6 +1,5 @@
-use Rattle.std.proofs.Common.{◌≡◌, ◌++◌, take, flat_map, string_bytes, ℕ}
-use Rattle.script.specs.Scripts.{bulk_text, ended, fail_text, volume_text}
-use Rattle.script.specs.Texts.{command_text}
+use Rattle.std.proofs.Common.{◌≡◌, ◌++◌, take, flat_map, string_bytes}
+use Rattle.script.specs.Scripts.{bulk_text, ended}
 use Rattle.script.proofs.scripts.push_bulks.Given as goal
 
 abbrev pub invariant-loop-bulk : goal.invariant-loop-bulk

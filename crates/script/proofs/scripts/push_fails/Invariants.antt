@@ -1,6 +1,5 @@
-use Rattle.std.proofs.Common.{◌≡◌, ◌++◌, take, flat_map, string_bytes, ℕ}
-use Rattle.script.specs.Scripts.{bulk_text, ended, fail_text, volume_text}
-use Rattle.script.specs.Texts.{command_text}
+use Rattle.std.proofs.Common.{◌≡◌, ◌++◌, take, flat_map, string_bytes}
+use Rattle.script.specs.Scripts.{ended, fail_text}
 use Rattle.script.proofs.scripts.push_fails.Given as goal
 
 abbrev pub invariant-loop-fail : goal.invariant-loop-fail

@@ -1,4 +1,4 @@
-use Rattle.std.proofs.Common.{◌≡◌, ◌++◌, ◌∷◌, drop, codes, string_bytes, ℕ}
+use Rattle.std.proofs.Common.{◌≡◌, ◌++◌, drop, string_bytes}
 use Rattle.script.specs.Scripts.{machine_text, numbers_text}
 use Rattle.script.proofs.scripts.push_machine.Given as goal
 

@@ -1,4 +1,4 @@
-use Rattle.std.proofs.Common.{◌≡◌, ◌++◌, drop, string_bytes, ℕ}
+use Rattle.std.proofs.Common.{◌≡◌, ◌++◌, drop, string_bytes}
 use Rattle.script.specs.Scripts.{processes_text}
 use Rattle.script.proofs.scripts.push_processes.Given as goal
 
