@@ -6,6 +6,8 @@ mod LineLaws
 mod NumberLaws
 mod PathLaws
 mod PrincipalLaws
+mod PushLaws
+mod ReaderLaws
 mod Reaching
 mod ScriptSteps
 mod ScriptTexts

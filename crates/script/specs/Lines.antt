@@ -1,5 +1,5 @@
 -- What each kind of line says, and why it is refused (own). A line is the list of its fields.
-use Rattle.std.specs.Prelude.{ℕ, zero, suc, ◌+◌, ◌-◌, Bool, true, false, ◌==◌, nat_le, if◌then◌else◌, List, [], ◌∷◌, ◌++◌, length, take, slice_index_or, sum_by, Option, Some, None, Result, Ok, Err, codes, ℤ, pos, neg_ℤ}
+use Rattle.std.specs.Prelude.{ℕ, ◌+◌, ◌-◌, Bool, true, false, ◌==◌, if◌then◌else◌, List, [], ◌∷◌, length, take, slice_index_or, Option, Some, None, Result, Ok, Err, codes, ℤ, pos, neg_ℤ}
 use Rattle.std.specs.List.{list_any}
 use Rattle.std.specs.Str.{bytes_eq}
 use Rattle.mnames.specs.Names.{is_name}
@@ -9,13 +9,8 @@ use Rattle.mnames.specs.declared.modes.Mode.TheVariants as mode
 use Rattle.mnames.specs.declared.principals.Who.{Who}
 use Rattle.mnames.specs.declared.rows.Row.{Row}
 use Rattle.mword.specs.Octal.{octal_value}
-use Rattle.script.specs.Drafts.{DraftPlan, initializer_who}
 use Rattle.script.specs.Fields.{decimal_value, path_of}
-use Rattle.script.specs.Forms.{has_name, is_before, is_from, records_of, weight}
-use Rattle.script.specs.declared.commands.Command.{Command}
-use Rattle.script.specs.declared.commands.Command.TheVariants as command
-use Rattle.script.specs.declared.drafts.Stage.{Stage}
-use Rattle.script.specs.declared.drafts.Stage.TheVariants as stage
+use Rattle.script.specs.Forms.{has_name, is_from}
 use Rattle.script.specs.declared.plan.Print.{Print}
 use Rattle.script.specs.declared.plan.Print.TheVariants as print
 use Rattle.script.specs.declared.plan.VolumeLine.{VolumeLine}

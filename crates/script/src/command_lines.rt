@@ -35,7 +35,11 @@ fn mkseg(volumes: &[VolumeLine], line: &[u8]) -> Result<Command, Cause>
     let path = path_in(path)?;
     let pages = number_in(pages, 1, 256)?;
     let volume = volume_in(volumes, volume)?;
-    Ok(Command::MkSeg { path, pages, volume })
+    Ok(Command::MkSeg {
+        path,
+        pages,
+        volume,
+    })
 }
 
 /// `initiate PATH`
@@ -82,7 +86,11 @@ fn write(line: &[u8]) -> Result<Command, Cause>
     let number = number_in(number, 0, 255)?;
     let offset = number_in(offset, 0, 999_999)?;
     let word = word_in(word)?;
-    Ok(Command::Write { number, offset, word })
+    Ok(Command::Write {
+        number,
+        offset,
+        word,
+    })
 }
 
 /// `add N OFF W`
@@ -95,7 +103,11 @@ fn add(line: &[u8]) -> Result<Command, Cause>
     let number = number_in(number, 0, 255)?;
     let offset = number_in(offset, 0, 999_999)?;
     let word = word_in(word)?;
-    Ok(Command::Add { number, offset, word })
+    Ok(Command::Add {
+        number,
+        offset,
+        word,
+    })
 }
 
 /// `await N OFF W TRIES`
@@ -109,7 +121,12 @@ fn await_word(line: &[u8]) -> Result<Command, Cause>
     let offset = number_in(offset, 0, 999_999)?;
     let word = word_in(word)?;
     let tries = number_in(tries, 1, 100_000)?;
-    Ok(Command::Await { number, offset, word, tries })
+    Ok(Command::Await {
+        number,
+        offset,
+        word,
+        tries,
+    })
 }
 
 /// `acl PATH WHO MODE`

@@ -381,14 +381,15 @@ impl Draft {
         self.processes.reserve(1)?;
         self.commands.push(command)?;
         let commands = mem::replace(&mut self.commands, Vec::new(alloc));
-        self.processes.push_reserved(Process::new(self.who.copied(), commands));
+        self.processes
+            .push_reserved(Process::new(self.who.copied(), commands));
         self.stage = Stage::Processes;
         self.used = used;
         Ok(())
     }
 
     /// A command of the process.
-    #[tactic(auto, unfolding(crate::specs::Heads::command_line))]
+    #[tactic(auto, using(crate::proofs::DraftLaws::weight_bound, std::proofs::lemmas::Grind::common_steps), unfolding(crate::specs::Heads::command_line))]
     fn command(&mut self, alloc: Global, word: &[u8], line: &[u8]) -> Result<(), LineFault>
         requires { is_inside self.old.stage ≡ true }
         ensures { Steps self.new result (command_line self.old word.now (fields_of line.now)) }
@@ -467,6 +468,7 @@ impl Draft {
     }
 
     /// A line up to the first volume.
+    #[tactic(auto, unfolding(crate::specs::Heads::line_at))]
     fn first_line(&mut self, word: &[u8], line: &[u8]) -> Result<(), LineFault>
         requires { has_volume self.old.stage ≡ false }
         ensures { Steps self.new result (line_at self.old.stage self.old word.now (fields_of line.now)) }
@@ -510,9 +512,11 @@ impl Draft {
     }
 
     /// The script of the lines up to the one of that number, which isn't there.
+    #[tactic(auto, using(crate::proofs::DraftLaws::plan_is, std::proofs::lemmas::Grind::common_steps))]
     pub(crate) fn into_script(self, line: u32) -> Result<Script, Refusal>
         ensures { result ≡ whole_or_missing line self }
     {
+        let pools = self.pools;
         match self.stage {
             Stage::Machine | Stage::Quota | Stage::FirstVolume | Stage::Commands => Err(Refusal {
                 line,
@@ -521,7 +525,7 @@ impl Draft {
             _ => Ok(Script {
                 processors: self.processors,
                 frames: self.frames,
-                pools: self.pools,
+                pools,
                 quota: self.quota,
                 volumes: self.volumes,
                 print: self.print,

@@ -18,8 +18,11 @@ end
 ";
 
 /// What reading gives: `script`, or the line and the cause of the refusal.
-fn outcome(alloc: Global, text: &str) -> Result<String, AllocError> {
-    match read_script(alloc, text.as_bytes()) {
+fn outcome(alloc: Global, text: &[u8]) -> Result<String, AllocError> {
+    if text.len() > 4_194_304 {
+        return format!(in alloc; "too long");
+    }
+    match read_script(alloc, text) {
         Ok(_) => format!(in alloc; "script"),
         Err(ScriptFault::Refused(refusal)) => {
             let line = refusal.line;
@@ -30,31 +33,23 @@ fn outcome(alloc: Global, text: &str) -> Result<String, AllocError> {
     }
 }
 
-/// Each text gives its outcome.
-fn check(rt: &(impl Abort + AllocGlobal), cases: &[(&str, &str)]) -> Result<(), Fail> {
-    for (text, wanted) in cases {
-        let given = outcome(rt.alloc(), text)?;
-        assert_eq!(rt; given.as_str(), *wanted, "{text}");
+/// The text of a case after a front; `/` stands for a line feed.
+fn text_of_case(alloc: Global, front: &str, case: &str) -> Result<String, AllocError> {
+    let mut text = String::new(alloc);
+    text.push_str(front)?;
+    for c in case.chars() {
+        text.push(if c == '/' { '\n' } else { c })?;
     }
-    Ok(())
+    Ok(text)
 }
 
-/// Each text gives its outcome where it stands after the head.
-fn check_after_head(rt: &(impl Abort + AllocGlobal), cases: &[(&str, &str)]) -> Result<(), Fail> {
-    for (text, wanted) in cases {
-        let whole = format!(in rt.alloc(); "{HEAD}{text}")?;
-        let given = outcome(rt.alloc(), whole.as_str())?;
-        assert_eq!(rt; given.as_str(), *wanted, "{text}");
-    }
-    Ok(())
-}
-
-/// Each line gives its outcome where it is the first of a process, on line 5, and the process ends after it.
-fn check_command(rt: &(impl Abort + AllocGlobal), cases: &[(&str, &str)]) -> Result<(), Fail> {
-    for (line, wanted) in cases {
-        let whole = format!(in rt.alloc(); "{HEAD}process Smith\n{line}\nend\n")?;
-        let given = outcome(rt.alloc(), whole.as_str())?;
-        assert_eq!(rt; given.as_str(), *wanted, "{line}");
+/// Each line is a case and its outcome, after a front.
+fn check(rt: &(impl Abort + AllocGlobal), front: &str, cases: &str) -> Result<(), Fail> {
+    for line in cases.lines() {
+        let (case, wanted) = line.split_once(" => ").expect(rt, "a case and its outcome");
+        let text = text_of_case(rt.alloc(), front, case)?;
+        let given = outcome(rt.alloc(), text.as_bytes())?;
+        assert_eq!(rt; given.as_str(), wanted, "{case}");
     }
     Ok(())
 }
@@ -216,314 +211,255 @@ fn each_kind_of_line_is_read(rt: HostRuntime) -> Result<(), Fail> {
     Ok(())
 }
 
-#[test]
-fn the_head_keeps_its_order(rt: HostRuntime) -> Result<(), Fail> {
-    check(
-        &rt,
-        &[
-            ("", "1: missing"),
-            ("\n", "2: missing"),
-            ("# all\n  # is\n\n   \nskipped", "5: order"),
-            ("#\n  #x y\n\n   ", "5: missing"),
-            ("quota 4", "1: order"),
-            ("Machine 1 4 12 1 1 1", "1: order"),
-            ("book", "1: order"),
-            ("machine 1 4 12 1 1 1\n\n", "3: missing"),
-            ("machine 1 4 12 1 1 1\nmachine 1 4 12 1 1 1", "2: order"),
-            ("machine 1 4 12 1 1 1\nvolume a 1 1", "2: order"),
-            ("machine 1 4 12 1 1 1\nquota 4", "3: missing"),
-            ("machine 1 4 12 1 1 1\nquota 4\nprint all", "3: order"),
-            ("machine 1 4 12 1 1 1\nquota 4\nprocess Smith", "3: order"),
-        ],
-    )?;
-    check_after_head(
-        &rt,
-        &[
-            ("", "script"),
-            ("\n\n# end", "script"),
-            ("print all", "script"),
-            ("print all\nprint all", "5: order"),
-            ("print all\nvolume beta 8 4", "5: order"),
-            ("bulk alpha 1\nprint all", "5: order"),
-            ("bulk alpha 1\nvolume beta 8 4", "5: order"),
-            ("print all\nbulk alpha 1\nfail alpha read 1", "script"),
-            ("fail alpha read 1\nbulk alpha 1", "5: order"),
-            ("fail alpha read 1\nprint all", "5: order"),
-            ("fail alpha read 1\nvolume beta 8 4", "5: order"),
-            ("initializer\nend", "script"),
-            ("initializer\nend\ninitializer", "6: order"),
-            ("process Smith\nend\ninitializer", "6: order"),
-            ("process Smith\nend\nfail alpha read 1", "6: order"),
-            ("process Smith\nend\nprint all", "6: order"),
-            ("process Smith\nend\nend", "6: order"),
-            ("process Smith\nend\nread 0 0", "6: order"),
-            ("process Smith\nprocess Smith", "5: order"),
-            ("process Smith\ninitializer", "5: order"),
-            ("process Smith\nbook", "5: order"),
-            ("end", "4: order"),
-            ("read 0 0", "4: order"),
-            ("quota 4", "4: order"),
-            ("machine 1 4 12 1 1 1", "4: order"),
-            ("initializer", "5: missing"),
-            ("process Smith\n\n# more", "7: missing"),
-            ("process Smith\nend\nprocess Smith\n", "7: missing"),
-        ],
-    )
-}
+// Lines that begin a script.
+const STARTS: &str = " => 1: missing
+/ => 2: missing
+# all/  # is//   /skipped => 5: order
+#/  #x y//    => 5: missing
+quota 4 => 1: order
+Machine 1 4 12 1 1 1 => 1: order
+book => 1: order
+machine 1 4 12 1 1 1// => 3: missing
+machine 1 4 12 1 1 1/machine 1 4 12 1 1 1 => 2: order
+machine 1 4 12 1 1 1/volume a 1 1 => 2: order
+machine 1 4 12 1 1 1/quota 4 => 3: missing
+machine 1 4 12 1 1 1/quota 4/print all => 3: order
+machine 1 4 12 1 1 1/quota 4/process Smith => 3: order
+machine 1 4 12 1 1 1 => 2: missing
+machine 8 1024 1021 1 1 1 => 2: missing
+machine 8 1024 1022 1 1 1 => 1: many
+machine 1 4 12 1 1 1011 => 1: many
+machine 1 4 1025 1 1 1 => 1: number
+machine 1 4 12 1025 1 1 => 1: number
+machine 1 4 12 1 1025 1 => 1: number
+machine 1 4 12 1 1 1025 => 1: number
+machine 0 4 12 1 1 1 => 1: number
+machine 9 4 12 1 1 1 => 1: number
+machine 1 3 12 1 1 1 => 1: number
+machine 1 1025 12 1 1 1 => 1: number
+machine 1 4 11 1 1 1 => 1: number
+machine 1 4 12 0 1 1 => 1: number
+machine 1 4 12 1 0 1 => 1: number
+machine 1 4 12 1 1 0 => 1: number
+machine 1 4 12 1 1 => 1: fields
+machine 1 4 12 1 1 1 1 => 1: fields
+machine x 4 12 1 1 => 1: fields
+machine 1 4 12 1 1 00000000001 => 1: number
+machine 0000000001 4 12 1 1 1 => 2: missing
+machine 1 4 12 1 1 1x => 1: number
+machine => 1: fields
+machine 1 4 12 1 1 1/quota 16384 => 3: missing
+machine 1 4 12 1 1 1/quota 16385 => 2: number
+machine 1 4 12 1 1 1/quota 4294967295 => 2: number
+machine 1 4 12 1 1 1/quota 9999999999 => 2: number
+machine 1 4 12 1 1 1/quota -1 => 2: number
+machine 1 4 12 1 1 1/quota => 2: fields
+machine 1 4 12 1 1 1/quota 4 4 => 2: fields";
+
+// Lines after a quota.
+const VOLUMES: &str = "volume a 16384 1 => script
+volume a 1 4097 => script
+volume a 0 1 => 3: number
+volume a 16385 1 => 3: number
+volume a 1 0 => 3: number
+volume a 1 4098 => 3: number
+volume a 1 => 3: fields
+volume a 1 1 1 => 3: fields
+volume a>b 1 1 => 3: name
+volume a>b x 1 => 3: name
+volume a 16384 1/volume b 1 1 => 4: many
+volume a 16383 1/volume b 1 1 => script
+volume a 1 1/volume b 1 1/volume c 1 1/volume d 1 1 => script
+volume a 1 1/volume b 1 1/volume c 1 1/volume d 1 1/volume e 1 1 => 7: many
+volume a 1 1/volume b 1 1/volume c 1 1/volume d 1 1/volume e 1 0 => 7: number
+volume a 1 1/volume b 1 1/volume c 1 1/volume d 1 1/volume a 1 1 => 7: twice
+volume a 1 1/volume b 1 1/volume b 16384 1 => 5: twice
+volume a 1 1/volume A 1 1 => script";
+
+// Lines after the head.
+const HEADS: &str = " => script
+//# end => script
+print all => script
+print all/print all => 5: order
+print all/volume beta 8 4 => 5: order
+bulk alpha 1/print all => 5: order
+bulk alpha 1/volume beta 8 4 => 5: order
+print all/bulk alpha 1/fail alpha read 1 => script
+fail alpha read 1/bulk alpha 1 => 5: order
+fail alpha read 1/print all => 5: order
+fail alpha read 1/volume beta 8 4 => 5: order
+initializer/end => script
+initializer/end/initializer => 6: order
+process Smith/end/initializer => 6: order
+process Smith/end/fail alpha read 1 => 6: order
+process Smith/end/print all => 6: order
+process Smith/end/end => 6: order
+process Smith/end/read 0 0 => 6: order
+process Smith/process Smith => 5: order
+process Smith/initializer => 5: order
+process Smith/book => 5: order
+end => 4: order
+read 0 0 => 4: order
+quota 4 => 4: order
+machine 1 4 12 1 1 1 => 4: order
+initializer => 5: missing
+process Smith//# more => 7: missing
+process Smith/end/process Smith/ => 7: missing
+volume alpha 8 4 => 4: twice
+volume alpha x 4 => 4: twice
+volume alpha x => 4: fields
+volume 123456789012345678901234567890123 1 1 => 4: name
+print short => script
+print replies => script
+print Short => 4: name
+print => 4: fields
+print all all => 4: fields
+bulk alpha 0 => 4: number
+bulk alpha 1025 => 4: number
+bulk alpha => 4: fields
+bulk beta 1 => 4: unknown
+bulk beta x => 4: unknown
+bulk * 1 => 4: name
+bulk alpha 1/bulk alpha 1 => 5: twice
+bulk alpha 1/bulk alpha x => 5: twice
+fail alpha read 0 => 4: number
+fail alpha read 1000000 => script
+fail alpha read 1000001 => 4: number
+fail alpha write 1000000+ => script
+fail alpha write 1000001+ => 4: number
+fail alpha read 1++ => 4: number
+fail alpha read + => 4: number
+fail alpha read 1 + => 4: fields
+fail alpha reed 1 => 4: name
+fail alpha reed x => 4: name
+fail zeta reed x => 4: unknown
+fail zeta read 1 => 4: unknown
+fail alpha => 4: fields
+initializer Smith => 4: fields
+process => 4: fields
+process Smith Smith => 4: fields
+process Smith. => 4: name
+process .Dev => 4: name
+process * => 4: name
+process Smith.* => 4: name
+process Smith.Dev.a => 4: name
+process Smith- => 4: name";
+
+// Lines of a process, on line 5 and after it.
+const COMMANDS: &str = "mkdir >a alpha/end => script
+mkseg >a 1 alpha/end => script
+mkseg >a 256 alpha/end => script
+initiate >/end => script
+terminate 0/end => script
+terminate 0000000255/end => script
+read 255 999999/end => script
+write 0 0 777777777777/end => script
+write 0 0 0/end => script
+add 0 0 000000000001/end => script
+await 0 0 0 99999/end => script
+acl > *.* n/end => script
+acl > Smith r/end => script
+acl > *.Dev w/end => script
+acl > Smith.* rw/end => script
+length >a 256/end => script
+truncate >a 0/end => script
+truncate >a 262144/end => script
+delete >a.-_Z9/end => script
+move >a +16384/end => script
+move >a -1/end => script
+status >1>2>3>4>5>6>7>8>9/end => script
+  status    >  /end => script
+#/end => script
+end/end => 6: order
+fly/end => 5: order
+End/end => 5: order
+end x/end => 5: fields
+mkdir >a/end => 5: fields
+mkdir >a beta/end => 5: unknown
+mkdir >a> beta/end => 5: path
+mkdir >a */end => 5: name
+mkseg >s 1 beta/end => 5: unknown
+mkseg >s 0 alpha/end => 5: number
+mkseg >s 257 beta/end => 5: number
+mkseg s 257 beta/end => 5: path
+mkseg >s 1 al>pha/end => 5: name
+mkseg >s 1/end => 5: fields
+initiate a/end => 5: path
+initiate >a>>b/end => 5: path
+initiate >>/end => 5: path
+initiate >a*/end => 5: path
+initiate > >/end => 5: fields
+terminate 256/end => 5: number
+read 256 0/end => 5: number
+read 0 1000000/end => 5: number
+read 0 00000000000/end => 5: number
+read 0/end => 5: fields
+read 0 0 0/end => 5: fields
+write 0 0/end => 5: fields
+write 0 0 8/end => 5: number
+write 0 0 1000000000000/end => 5: number
+write 256 0 8/end => 5: number
+add 0 0 0000000000001/end => 5: number
+add 0 1000000 1/end => 5: number
+await 0 0 0 0/end => 5: number
+await 0 0 0 100001/end => 5: number
+await 0 0 9 1/end => 5: number
+await 0 0 1/end => 5: fields
+acl >a Smith x/end => 5: name
+acl >a Smith wr/end => 5: name
+acl >a Smith. rw/end => 5: name
+acl >a ** rw/end => 5: name
+acl a Smith. x/end => 5: path
+acl >a Smith/end => 5: fields
+length >a 0/end => 5: number
+length >a 257/end => 5: number
+truncate >a 262145/end => 5: number
+delete >a>/end => 5: path
+delete >1>2>3>4>5>6>7>8>9>0/end => 5: path
+delete >123456789012345678901234567890123/end => 5: path
+move >a 5/end => 5: number
+move >a +0/end => 5: number
+move >a -16385/end => 5: number
+move >a +-5/end => 5: number
+move >a +/end => 5: number
+move a 5/end => 5: path
+status/end => 5: fields
+await 0 0 1 99999/end => script
+await 0 0 1 100000/end => 6: many
+read 0 0/await 0 0 1 100000/end => 6: many
+await 0 0 1 99998/end/process Jones/end => script
+await 0 0 1 99999/end/process Jones/end => 8: many
+await 0 0 1 100000/await 0 0 1 100001 => 6: number";
 
 #[test]
-fn numbers_stay_in_their_ranges(rt: HostRuntime) -> Result<(), Fail> {
-    for (line, wanted) in [
-        ("machine 1 4 12 1 1 1", "2: missing"),
-        ("machine 8 1024 1021 1 1 1", "2: missing"),
-        ("machine 8 1024 1022 1 1 1", "1: many"),
-        ("machine 1 4 12 1 1 1011", "1: many"),
-        ("machine 1 4 1025 1 1 1", "1: number"),
-        ("machine 1 4 12 1025 1 1", "1: number"),
-        ("machine 1 4 12 1 1025 1", "1: number"),
-        ("machine 1 4 12 1 1 1025", "1: number"),
-        ("machine 0 4 12 1 1 1", "1: number"),
-        ("machine 9 4 12 1 1 1", "1: number"),
-        ("machine 1 3 12 1 1 1", "1: number"),
-        ("machine 1 1025 12 1 1 1", "1: number"),
-        ("machine 1 4 11 1 1 1", "1: number"),
-        ("machine 1 4 12 0 1 1", "1: number"),
-        ("machine 1 4 12 1 0 1", "1: number"),
-        ("machine 1 4 12 1 1 0", "1: number"),
-        ("machine 1 4 12 1 1", "1: fields"),
-        ("machine 1 4 12 1 1 1 1", "1: fields"),
-        ("machine x 4 12 1 1", "1: fields"),
-        ("machine 1 4 12 1 1 00000000001", "1: number"),
-        ("machine 0000000001 4 12 1 1 1", "2: missing"),
-        ("machine 1 4 12 1 1 1x", "1: number"),
-        ("machine", "1: fields"),
-        ("machine 1 4 12 1 1 1\nquota 16384", "3: missing"),
-        ("machine 1 4 12 1 1 1\nquota 16385", "2: number"),
-        ("machine 1 4 12 1 1 1\nquota 4294967295", "2: number"),
-        ("machine 1 4 12 1 1 1\nquota 9999999999", "2: number"),
-        ("machine 1 4 12 1 1 1\nquota -1", "2: number"),
-        ("machine 1 4 12 1 1 1\nquota", "2: fields"),
-        ("machine 1 4 12 1 1 1\nquota 4 4", "2: fields"),
-    ] {
-        let given = outcome(rt.alloc(), line)?;
-        assert_eq!(rt; given.as_str(), wanted, "{line}");
+fn each_line_is_read_or_refused_by_its_first_cause(rt: HostRuntime) -> Result<(), Fail> {
+    check(&rt, "", STARTS)?;
+    check(&rt, "machine 1 4 12 1 1 1\nquota 4\n", VOLUMES)?;
+    check(&rt, HEAD, HEADS)?;
+    let process = format!(in rt.alloc(); "{HEAD}process Smith\n")?;
+    check(&rt, process.as_str(), COMMANDS)
+}
+
+const UNPRINTABLE: [(&str, &str); 6] = [
+    ("\t", "4: badchar"),
+    ("print\tall\n", "4: badchar"),
+    ("# \u{1f}", "4: badchar"),
+    ("#~ caf\u{e9}\n", "4: badchar"),
+    ("process Smith\nend\r", "5: badchar"),
+    ("fly \u{7f}\nend", "4: badchar"),
+];
+
+#[test]
+fn a_byte_that_is_not_printable_is_refused_first(rt: HostRuntime) -> Result<(), Fail> {
+    for (case, wanted) in UNPRINTABLE {
+        let text = text_of_case(rt.alloc(), HEAD, case)?;
+        let given = outcome(rt.alloc(), text.as_bytes())?;
+        assert_eq!(rt; given.as_str(), wanted, "{case}");
     }
     Ok(())
 }
 
-#[test]
-fn volumes_are_few_and_apart(rt: HostRuntime) -> Result<(), Fail> {
-    for (lines, wanted) in [
-        ("volume a 16384 1", "script"),
-        ("volume a 1 4097", "script"),
-        ("volume a 0 1", "3: number"),
-        ("volume a 16385 1", "3: number"),
-        ("volume a 1 0", "3: number"),
-        ("volume a 1 4098", "3: number"),
-        ("volume a 1", "3: fields"),
-        ("volume a 1 1 1", "3: fields"),
-        ("volume a>b 1 1", "3: name"),
-        ("volume a>b x 1", "3: name"),
-        ("volume a 16384 1\nvolume b 1 1", "4: many"),
-        ("volume a 16383 1\nvolume b 1 1", "script"),
-        ("volume a 1 1\nvolume b 1 1\nvolume c 1 1\nvolume d 1 1", "script"),
-        (
-            "volume a 1 1\nvolume b 1 1\nvolume c 1 1\nvolume d 1 1\nvolume e 1 1",
-            "7: many",
-        ),
-        (
-            "volume a 1 1\nvolume b 1 1\nvolume c 1 1\nvolume d 1 1\nvolume e 1 0",
-            "7: number",
-        ),
-        (
-            "volume a 1 1\nvolume b 1 1\nvolume c 1 1\nvolume d 1 1\nvolume a 1 1",
-            "7: twice",
-        ),
-        ("volume a 1 1\nvolume b 1 1\nvolume b 16384 1", "5: twice"),
-        ("volume a 1 1\nvolume A 1 1", "script"),
-    ] {
-        let text = format!(in rt.alloc(); "machine 1 4 12 1 1 1\nquota 4\n{lines}")?;
-        let given = outcome(rt.alloc(), text.as_str())?;
-        assert_eq!(rt; given.as_str(), wanted, "{lines}");
-    }
-    check_after_head(
-        &rt,
-        &[
-            ("volume alpha 8 4", "4: twice"),
-            ("volume alpha x 4", "4: twice"),
-            ("volume alpha x", "4: fields"),
-            ("volume 123456789012345678901234567890123 1 1", "4: name"),
-        ],
-    )
-}
-
-#[test]
-fn the_rest_of_the_head_is_refused_by_its_first_cause(rt: HostRuntime) -> Result<(), Fail> {
-    check_after_head(
-        &rt,
-        &[
-            ("print short", "script"),
-            ("print replies", "script"),
-            ("print Short", "4: name"),
-            ("print", "4: fields"),
-            ("print all all", "4: fields"),
-            ("bulk alpha 0", "4: number"),
-            ("bulk alpha 1025", "4: number"),
-            ("bulk alpha", "4: fields"),
-            ("bulk beta 1", "4: unknown"),
-            ("bulk beta x", "4: unknown"),
-            ("bulk * 1", "4: name"),
-            ("bulk alpha 1\nbulk alpha 1", "5: twice"),
-            ("bulk alpha 1\nbulk alpha x", "5: twice"),
-            ("fail alpha read 0", "4: number"),
-            ("fail alpha read 1000000", "script"),
-            ("fail alpha read 1000001", "4: number"),
-            ("fail alpha write 1000000+", "script"),
-            ("fail alpha write 1000001+", "4: number"),
-            ("fail alpha read 1++", "4: number"),
-            ("fail alpha read +", "4: number"),
-            ("fail alpha read 1 +", "4: fields"),
-            ("fail alpha reed 1", "4: name"),
-            ("fail alpha reed x", "4: name"),
-            ("fail zeta reed x", "4: unknown"),
-            ("fail zeta read 1", "4: unknown"),
-            ("fail alpha", "4: fields"),
-            ("initializer Smith", "4: fields"),
-            ("process", "4: fields"),
-            ("process Smith Smith", "4: fields"),
-            ("process Smith.", "4: name"),
-            ("process .Dev", "4: name"),
-            ("process *", "4: name"),
-            ("process Smith.*", "4: name"),
-            ("process Smith.Dev.a", "4: name"),
-            ("process Smith-", "4: name"),
-        ],
-    )
-}
-
-#[test]
-fn commands_are_read(rt: HostRuntime) -> Result<(), Fail> {
-    check_command(
-        &rt,
-        &[
-            ("mkdir >a alpha", "script"),
-            ("mkseg >a 1 alpha", "script"),
-            ("mkseg >a 256 alpha", "script"),
-            ("initiate >", "script"),
-            ("terminate 0", "script"),
-            ("terminate 0000000255", "script"),
-            ("read 255 999999", "script"),
-            ("write 0 0 777777777777", "script"),
-            ("write 0 0 0", "script"),
-            ("add 0 0 000000000001", "script"),
-            ("await 0 0 0 99999", "script"),
-            ("acl > *.* n", "script"),
-            ("acl > Smith r", "script"),
-            ("acl > *.Dev w", "script"),
-            ("acl > Smith.* rw", "script"),
-            ("length >a 256", "script"),
-            ("truncate >a 0", "script"),
-            ("truncate >a 262144", "script"),
-            ("delete >a.-_Z9", "script"),
-            ("move >a +16384", "script"),
-            ("move >a -1", "script"),
-            ("status >1>2>3>4>5>6>7>8>9", "script"),
-            ("  status    >  ", "script"),
-            ("#", "script"),
-            ("end", "6: order"),
-        ],
-    )
-}
-
-#[test]
-fn commands_are_refused_by_their_first_cause(rt: HostRuntime) -> Result<(), Fail> {
-    check_command(
-        &rt,
-        &[
-            ("fly", "5: order"),
-            ("End", "5: order"),
-            ("end x", "5: fields"),
-            ("mkdir >a", "5: fields"),
-            ("mkdir >a beta", "5: unknown"),
-            ("mkdir >a> beta", "5: path"),
-            ("mkdir >a *", "5: name"),
-            ("mkseg >s 1 beta", "5: unknown"),
-            ("mkseg >s 0 alpha", "5: number"),
-            ("mkseg >s 257 beta", "5: number"),
-            ("mkseg s 257 beta", "5: path"),
-            ("mkseg >s 1 al>pha", "5: name"),
-            ("mkseg >s 1", "5: fields"),
-            ("initiate a", "5: path"),
-            ("initiate >a>>b", "5: path"),
-            ("initiate >>", "5: path"),
-            ("initiate >a*", "5: path"),
-            ("initiate > >", "5: fields"),
-            ("terminate 256", "5: number"),
-            ("read 256 0", "5: number"),
-            ("read 0 1000000", "5: number"),
-            ("read 0 00000000000", "5: number"),
-            ("read 0", "5: fields"),
-            ("read 0 0 0", "5: fields"),
-            ("write 0 0", "5: fields"),
-            ("write 0 0 8", "5: number"),
-            ("write 0 0 1000000000000", "5: number"),
-            ("write 256 0 8", "5: number"),
-            ("add 0 0 0000000000001", "5: number"),
-            ("add 0 1000000 1", "5: number"),
-            ("await 0 0 0 0", "5: number"),
-            ("await 0 0 0 100001", "5: number"),
-            ("await 0 0 9 1", "5: number"),
-            ("await 0 0 1", "5: fields"),
-            ("acl >a Smith x", "5: name"),
-            ("acl >a Smith wr", "5: name"),
-            ("acl >a Smith. rw", "5: name"),
-            ("acl >a ** rw", "5: name"),
-            ("acl a Smith. x", "5: path"),
-            ("acl >a Smith", "5: fields"),
-            ("length >a 0", "5: number"),
-            ("length >a 257", "5: number"),
-            ("truncate >a 262145", "5: number"),
-            ("delete >a>", "5: path"),
-            ("delete >1>2>3>4>5>6>7>8>9>0", "5: path"),
-            ("delete >123456789012345678901234567890123", "5: path"),
-            ("move >a 5", "5: number"),
-            ("move >a +0", "5: number"),
-            ("move >a -16385", "5: number"),
-            ("move >a +-5", "5: number"),
-            ("move >a +", "5: number"),
-            ("move a 5", "5: path"),
-            ("status", "5: fields"),
-        ],
-    )
-}
-
-#[test]
-fn a_byte_that_is_not_printable_is_refused_first(rt: HostRuntime) -> Result<(), Fail> {
-    check(
-        &rt,
-        &[
-            ("\t", "1: badchar"),
-            ("# \t", "1: badchar"),
-            ("\r\n", "1: badchar"),
-            ("fly\u{7f}", "1: badchar"),
-            ("# caf\u{e9}", "1: badchar"),
-            ("#~ ", "2: missing"),
-            ("# \u{1f}", "1: badchar"),
-        ],
-    )?;
-    check_after_head(
-        &rt,
-        &[
-            ("\tprint all", "4: badchar"),
-            ("print\tall\n", "4: badchar"),
-            ("process Smith\nend\n\u{0}", "6: badchar"),
-            ("process Smith\nend\r", "5: badchar"),
-            ("fly\n\t", "4: order"),
-        ],
-    )
-}
-
-/// The head, and a line so many times.
+/// The head, a line so many times, and an end.
 fn repeated(alloc: Global, line: &str, times: u32, end: &str) -> Result<String, AllocError> {
     let mut text = String::new(alloc);
     text.push_str(HEAD)?;
@@ -539,56 +475,62 @@ fn limits_on_how_many_are_kept(rt: HostRuntime) -> Result<(), Fail> {
     for (line, times, end, wanted) in [
         ("process Smith\nend\n", 32, "", "script"),
         ("process Smith\nend\n", 33, "", "68: many"),
-        ("process Smith\nend\n", 32, "process", "68: fields"),
         ("process Smith\nend\n", 32, "process *", "68: name"),
         ("fail alpha read 1\n", 100, "", "script"),
         ("fail alpha read 1\n", 101, "", "104: many"),
-        ("fail alpha read 1\n", 100, "fail alpha read 0", "104: number"),
-        ("", 0, "process Smith\nawait 0 0 1 99999\nend\n", "script"),
-        ("", 0, "process Smith\nawait 0 0 1 100000\nend\n", "6: many"),
         (
-            "",
-            0,
-            "process Smith\nread 0 0\nawait 0 0 1 100000\nend\n",
-            "6: many",
+            "fail alpha read 1\n",
+            100,
+            "fail alpha read 0",
+            "104: number",
         ),
-        (
-            "",
-            0,
-            "process Smith\nawait 0 0 1 99998\nend\nprocess Jones\nend\n",
-            "script",
-        ),
-        (
-            "",
-            0,
-            "initializer\nawait 0 0 1 99999\nend\nprocess Jones\nend\n",
-            "8: many",
-        ),
-        ("", 0, "process Smith\nawait 0 0 1 100000\nawait 0 0 1 100001", "6: number"),
+        ("#", 4_000_000, "\n\n", "script"),
     ] {
         let text = repeated(rt.alloc(), line, times, end)?;
-        let given = outcome(rt.alloc(), text.as_str())?;
+        let given = outcome(rt.alloc(), text.as_bytes())?;
         assert_eq!(rt; given.as_str(), wanted, "{line}{end}");
     }
     Ok(())
 }
 
+// From so many bytes of the script on, and below so many, the outcome is this.
 #[test]
 fn the_first_script_is_refused_where_it_is_cut(rt: HostRuntime) -> Result<(), Fail> {
-    let bytes = FIRST.as_bytes();
-    let mut scripts = 0;
-    for length in 0..=bytes.len() {
-        let cut = &bytes[..length];
-        let lines = cut.split(|byte| *byte == b'\n').count();
-        let read = read_script(rt.alloc(), cut).is_ok();
-        let whole = length + 1 >= bytes.len();
-        let head = length == HEAD.len() || length + 1 == HEAD.len();
-        if read {
-            scripts += 1;
+    for (first, past, wanted) in [
+        (0, 1, "1: missing"),
+        (1, 7, "1: order"),
+        (7, 20, "1: fields"),
+        (20, 22, "2: missing"),
+        (22, 26, "2: order"),
+        (26, 28, "2: fields"),
+        (28, 30, "3: missing"),
+        (30, 35, "3: order"),
+        (35, 45, "3: fields"),
+        (45, 47, "script"),
+        (47, 53, "4: order"),
+        (53, 55, "4: fields"),
+        (55, 61, "5: missing"),
+        (61, 65, "5: order"),
+        (65, 72, "5: fields"),
+        (72, 76, "5: unknown"),
+        (76, 78, "6: missing"),
+        (78, 85, "6: order"),
+        (85, 87, "6: fields"),
+        (87, 90, "7: missing"),
+        (90, 94, "7: order"),
+        (94, 100, "7: fields"),
+        (100, 102, "8: missing"),
+        (102, 105, "8: order"),
+        (105, 109, "8: fields"),
+        (109, 111, "9: missing"),
+        (111, 113, "9: order"),
+        (113, 115, "script"),
+    ] {
+        for length in first..past {
+            let cut = FIRST.as_bytes().get(..length).expect(&rt, "so many bytes");
+            let given = outcome(rt.alloc(), cut)?;
+            assert_eq!(rt; given.as_str(), wanted, "{length}");
         }
-        assert!(rt; !(whole || head) || read, "{length}, line {lines}");
     }
-    // a quota, records or entries that lost no digit at their ends are whole numbers too
-    assert_eq!(rt; scripts, 4);
     Ok(())
 }

@@ -1,4 +1,5 @@
 ghost use Rattle.std.specs.Prelude.{◌≡◌, ◌<◌, ◌≤◌, true, IfOk, IfSome, length, unsigned_abs};
+ghost use Rattle.mnames.specs.Names.{is_name};
 ghost use Rattle.mword.specs.Octal.{octal_value};
 ghost use Rattle.script.specs.Fields.{decimal_value};
 ghost use Rattle.script.specs.Forms.{is_from, is_path, is_who};
@@ -50,7 +51,8 @@ pub(crate) fn word_in(text: &[u8]) -> Result<Word, Cause>
 
 /// The entry name of a field.
 pub(crate) fn name_in(text: &[u8]) -> Result<Name, Cause>
-    ensures { Gives (λ n. n) result (name_in text.now) }
+    ensures name { Gives (λ n. n) result (name_in text.now) }
+    ensures form { IfOk result (λ n. is_name n ≡ true) }
 {
     read_name(text).ok_or(Cause::Name)
 }

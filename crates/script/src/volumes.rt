@@ -1,4 +1,7 @@
-ghost use Rattle.std.specs.Prelude.{◌≡◌, ◌<◌, IfOk, IfSome, length};
+ghost use Rattle.std.specs.Prelude.{◌≡◌, ◌<◌, false, true, IfOk, IfSome, length};
+ghost use Rattle.std.specs.List.{list_any};
+ghost use Rattle.mnames.specs.Names.{is_name};
+ghost use Rattle.script.specs.Forms.{has_name};
 ghost use Rattle.script.specs.Lines.{number_from, new_name_in, volume_in};
 ghost use Rattle.script.specs.Readers.{Gives};
 
@@ -37,7 +40,9 @@ pub(crate) fn volume_in(volumes: &[VolumeLine], text: &[u8]) -> Result<u32, Caus
 #[tactic(auto, using(crate::proofs::VolumeLaws::found_is_given, crate::proofs::VolumeLaws::missing_is_new, std::proofs::lemmas::Grind::common_steps), unfolding(crate::specs::Lines::new_name_in))]
 pub(crate) fn new_name_in(volumes: &[VolumeLine], text: &[u8]) -> Result<Name, Cause>
     requires { length volumes.now < 5 }
-    ensures { Gives (λ n. n) result (new_name_in volumes.now text.now) }
+    ensures name { Gives (λ n. n) result (new_name_in volumes.now text.now) }
+    ensures form { IfOk result (λ n. is_name n ≡ true) }
+    ensures new { IfOk result (λ n. list_any (has_name n) volumes.now ≡ false) }
 {
     let name = name_in(text)?;
     match number_of(volumes, text) {
