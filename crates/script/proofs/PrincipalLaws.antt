@@ -1,5 +1,5 @@
 -- The texts of principals and of rows are read back as what they are the texts of (own).
-use Rattle.std.proofs.Common.{◌≡◌, ℕ, ◌+◌, ◌≤◌, Bool, true, false, not, cond, ◌&&◌, nat_le, eqb, List, [], ◌∷◌, ◌++◌, length, take, drop, Option, Some, None, Ok, refl, sym, ap, ◌∙◌, arith}
+use Rattle.std.proofs.Common.{◌≡◌, ℕ, ◌+◌, ◌≤◌, Bool, true, false, not, cond, ◌&&◌, nat_le, eqb, List, [], ◌∷◌, ◌++◌, length, take, drop, Option, Some, None, Ok, refl, sym, ap, subst, ◌∙◌, arith}
 use Rattle.std.specs.List.{list_all, position_or_len}
 use Rattle.std.specs.Str.{bytes_eq}
 use Rattle.std.proofs.lemmas.Bool.Decides.{nat_tests}
@@ -8,11 +8,11 @@ use Rattle.std.proofs.Math.Seq.{drop-append-add}
 use Rattle.std.proofs.lemmas.List.Folds.{list_all-append}
 use Rattle.std.proofs.lemmas.Slice.Eq.{bytes_eq-Decides}
 use Rattle.mnames.specs.Names.{is_label, is_label_byte}
-use Rattle.mnames.specs.Principals.{default_project, is_dot, before_dot, after_dot, who_of, who_text, parts_text, any_text, part_of, row_of, row_text, row_parts_text}
+use Rattle.mnames.specs.Principals.{default_project, is_dot, before_dot, after_dot, who_of, who_text, parts_text, any_text, part_of, row_alone, row_of, row_or, row_parts_text, row_text, row_with}
 use Rattle.mnames.specs.declared.principals.Who.{Who}
 use Rattle.mnames.specs.declared.rows.Row.{Row}
 use Rattle.script.proofs.FieldTexts.{is_field_byte, IsField, all_from, all_both}
-use Rattle.script.proofs.PathLaws.{and_parts}
+use Rattle.script.proofs.PathLaws.{and_both, and_parts}
 use Rattle.script.specs.Forms.{is_who, is_part, is_row}
 use Rattle.script.specs.Lines.{who_in, row_in}
 
@@ -184,3 +184,39 @@ row_parts_field (Some a) (Some b) ha hb = parts_field a b ha hb
 pub row_field : (row : Row) → is_row row ≡ true → IsField (row_text row)
 unfolding row_text
 row_field row h = let parts = and_parts (is_part row.person) (is_part row.project) h in row_parts_field row.person row.project parts.0 parts.1
+
+-- ---- a row that was read has labels as its parts
+
+part_read : (text : List ℕ) (part : Option (List ℕ)) → part_of text ≡ Some part → is_part part ≡ true
+unfolding part_of
+part_read text part e = chosen (bytes_eq text any_text) (is_label text) refl e
+  where
+    chosen : (y z : Bool) → is_label text ≡ z → cond y (Some None) (cond z (Some (Some text)) None) ≡ Some part → is_part part ≡ true
+    chosen true z l e = let same : None ≡ part = cc in ap is_part (sym same)
+    chosen false true l e = let same : Some text ≡ part = cc in ap is_part (sym same) ∙ l
+    chosen false false l e = absurd (cc)
+
+default_part : is_part (Some default_project) ≡ true
+unfolding is_label
+default_part = refl
+
+parts_read : (a b : Option (Option (List ℕ))) (row : Row) → ((part : Option (List ℕ)) → a ≡ Some part → is_part part ≡ true) → ((part : Option (List ℕ)) → b ≡ Some part → is_part part ≡ true) → row_with a b ≡ Some row → is_row row ≡ true
+parts_read None b row ha hb e = absurd (cc)
+parts_read (Some x) None row ha hb e = absurd (cc)
+parts_read (Some x) (Some y) row ha hb e =
+    let same : record { person = x; project = y } ≡ row = cc in
+    subst (λ (r : Row). is_row r ≡ true) same (and_both (is_part x) (is_part y) (ha x refl) (hb y refl))
+
+alone_read : (part : Option (List ℕ)) → is_part part ≡ true → is_row (row_alone part) ≡ true
+alone_read None h = refl
+alone_read (Some person) h = and_both (is_label person) (is_part (Some default_project)) h default_part
+
+pub row_read : (text : List ℕ) (row : Row) → Some row ≡ row_of text → is_row row ≡ true
+unfolding row_of
+row_read text row e = chosen (part_of text) refl e
+  where
+    chosen : (o : Option (Option (List ℕ))) → part_of text ≡ o → Some row ≡ row_or o (row_with (part_of (before_dot text)) (part_of (after_dot text))) → is_row row ≡ true
+    chosen None n e = parts_read (part_of (before_dot text)) (part_of (after_dot text)) row (part_read (before_dot text)) (part_read (after_dot text)) (sym e)
+    chosen (Some part) n e =
+        let same : row_alone part ≡ row = cc in
+        subst (λ (r : Row). is_row r ≡ true) same (alone_read part (part_read text part n))
