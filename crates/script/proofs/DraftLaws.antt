@@ -5,7 +5,7 @@ use Rattle.mnames.specs.Names.{is_name}
 use Rattle.mnames.specs.declared.principals.Who.{Who}
 use Rattle.std.specs.List.{list_all, list_any}
 use Rattle.script.specs.Drafts.{DraftPlan, IsDraft, begun_at, blank, has_volume, goes_on, is_early, is_head, is_inside, plan_of}
-use Rattle.script.specs.Forms.{BeginsWithInitializer, IsPlan, has_name, have_own_names, have_own_volumes, is_before, is_bulk, is_command, is_end, is_fail, is_from, is_place, is_process, is_volume, is_who, ends_once, records_of, weight, weight_of}
+use Rattle.script.specs.Forms.{BeginsWithInitializer, IsPlan, has_name, have_own_names, have_own_volumes, is_before, is_bulk, is_command, is_end, is_fail, is_from, is_place, is_process, is_volume, is_who, is_word, ends_once, records_of, weight, weight_of}
 use Rattle.script.specs.Grammar.{is_whole}
 use Rattle.script.specs.Plans.{ProcessPlan}
 use Rattle.script.specs.declared.commands.Command.{Command}
@@ -150,8 +150,9 @@ weight_bound volumes (command.Read number offset) h = omega arith
 weight_bound volumes (command.Write number offset word) h = omega arith
 weight_bound volumes (command.Add number offset word) h = omega arith
 weight_bound volumes (command.Await number offset word tries) h =
-    let range = and_parts (is_place number offset) (is_from 1 100000 tries) h in
-    let most = (and_parts (nat_le 1 tries) (nat_le tries 100000) range.1).1 in
+    let range = and_parts (is_place number offset) (is_word word && is_from 1 100000 tries) h in
+    let last = and_parts (is_word word) (is_from 1 100000 tries) range.1 in
+    let most = (and_parts (nat_le 1 tries) (nat_le tries 100000) last.1).1 in
     grind (arith, nat_tests)
 weight_bound volumes (command.Acl path row mode) h = omega arith
 weight_bound volumes (command.Length path pages) h = omega arith

@@ -1,7 +1,17 @@
+mod CommandTexts
 mod DraftLaws
+mod FieldTexts
+mod HeadTexts
 mod LineLaws
 mod NumberLaws
 mod PathLaws
+mod PrincipalLaws
 mod PushLaws
 mod ReaderLaws
+mod Reaching
+mod ScriptSteps
+mod ScriptTexts
+mod SmallLaws
+mod ValueTexts
 mod VolumeLaws
+mod VolumeTexts

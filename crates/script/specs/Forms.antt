@@ -1,11 +1,12 @@
 -- What each script keeps: its numbers are in their ranges, and each volume that it names is one of its own (own).
-use Rattle.std.specs.Prelude.{◌≡◌, ℕ, ◌+◌, ◌≤◌, Bool, true, false, not, ◌&&◌, ◌==◌, nat_le, nat_lt, List, [], ◌∷◌, length, sum_by, codes}
+use Rattle.std.specs.Prelude.{◌≡◌, ℕ, ◌+◌, ◌≤◌, Bool, true, false, not, ◌&&◌, ◌==◌, nat_le, nat_lt, List, [], ◌∷◌, length, sum_by, Option, Some, None, codes}
 use Rattle.std.specs.List.{list_all, list_any}
 use Rattle.std.specs.Str.{bytes_eq}
 use Rattle.std.specs.Int.RustNames.{unsigned_abs}
 use Rattle.mnames.specs.Names.{is_name, is_label}
 use Rattle.mnames.specs.Principals.{default_project}
 use Rattle.mnames.specs.declared.principals.Who.{Who}
+use Rattle.mnames.specs.declared.rows.Row.{Row}
 use Rattle.script.specs.Plans.{Plan, ProcessPlan}
 use Rattle.script.specs.declared.plan.Bulk.{Bulk}
 use Rattle.script.specs.declared.plan.Fail.{Fail}
@@ -24,6 +25,18 @@ is_path names = nat_le (length names) 9 && list_all is_name names
 abbrev pub is_place : ℕ → ℕ → Bool
 is_place number offset = nat_le number 255 && nat_le offset 999999
 
+-- a word of 36 bits
+abbrev pub is_word : ℕ → Bool
+is_word word = nat_lt word 68719476736
+
+-- a part of a row is any, or a label
+abbrev pub is_part : Option (List ℕ) → Bool
+is_part None = true
+is_part (Some part) = is_label part
+
+abbrev pub is_row : Row → Bool
+is_row row = is_part row.person && is_part row.project
+
 -- a command's numbers are in their ranges, and its volume is one of so many
 unfoldable pub is_command : ℕ → Command → Bool
 is_command volumes (command.MkDir path volume) = is_path path && nat_lt volume volumes
@@ -31,10 +44,10 @@ is_command volumes (command.MkSeg path pages volume) = is_path path && (is_from 
 is_command volumes (command.Initiate path) = is_path path
 is_command volumes (command.Terminate number) = nat_le number 255
 is_command volumes (command.Read number offset) = is_place number offset
-is_command volumes (command.Write number offset word) = is_place number offset
-is_command volumes (command.Add number offset word) = is_place number offset
-is_command volumes (command.Await number offset word tries) = is_place number offset && is_from 1 100000 tries
-is_command volumes (command.Acl path row mode) = is_path path
+is_command volumes (command.Write number offset word) = is_place number offset && is_word word
+is_command volumes (command.Add number offset word) = is_place number offset && is_word word
+is_command volumes (command.Await number offset word tries) = is_place number offset && (is_word word && is_from 1 100000 tries)
+is_command volumes (command.Acl path row mode) = is_path path && is_row row
 is_command volumes (command.Length path pages) = is_path path && is_from 1 256 pages
 is_command volumes (command.Truncate path words) = is_path path && nat_le words 262144
 is_command volumes (command.Delete path) = is_path path

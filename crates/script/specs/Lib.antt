@@ -8,4 +8,5 @@ pub mod Heads
 pub mod Lines
 pub mod Plans
 pub mod Readers
+pub mod Scripts
 pub mod Texts

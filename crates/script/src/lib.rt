@@ -9,6 +9,9 @@ mod lines;
 mod plan;
 mod reader;
 mod refusals;
+mod scripts;
+#[cfg(test)]
+mod scripts_tests;
 #[cfg(test)]
 mod tests;
 mod texts;
@@ -19,4 +22,5 @@ pub use commands::{Command, Process};
 pub use plan::{Bulk, Fail, Print, Script, VolumeLine};
 pub use reader::{ScriptFault, read_script};
 pub use refusals::{Cause, Refusal};
+pub use scripts::{NoMemory, script_text};
 pub use texts::push_command;

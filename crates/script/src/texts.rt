@@ -8,7 +8,7 @@ use mnames::Mode;
 use std::alloc::AllocError;
 
 /// The name of the volume of that number.
-fn volume_name(volumes: &[VolumeLine], volume: u32) -> &str
+pub(crate) fn volume_name(volumes: &[VolumeLine], volume: u32) -> &str
     ensures { result.now ≡ volume_name volumes.now volume }
 {
     match volumes.get(volume as usize) {

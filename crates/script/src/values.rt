@@ -2,7 +2,7 @@ ghost use Rattle.std.specs.Prelude.{◌≡◌, ◌<◌, ◌≤◌, true, IfOk, I
 ghost use Rattle.mnames.specs.Names.{is_name};
 ghost use Rattle.mword.specs.Octal.{octal_value};
 ghost use Rattle.script.specs.Fields.{decimal_value};
-ghost use Rattle.script.specs.Forms.{is_from, is_path, is_who};
+ghost use Rattle.script.specs.Forms.{is_from, is_path, is_row, is_who, is_word};
 ghost use Rattle.script.specs.Lines.{number_in, word_in, name_in, who_in, row_in, path_in, mode_in, print_in, is_write_in, amount_in, call_in};
 ghost use Rattle.script.specs.Readers.{Gives};
 
@@ -44,9 +44,12 @@ pub(crate) fn number_in(text: &[u8], low: u32, high: u32) -> Result<u32, Cause>
 
 /// The word of a field.
 pub(crate) fn word_in(text: &[u8]) -> Result<Word, Cause>
-    ensures { Gives (λ w. w) result (word_in text.now) }
+    ensures word { Gives (λ w. w) result (word_in text.now) }
+    ensures range { IfOk result (λ w. is_word w ≡ true) }
 {
-    read_octal(text).ok_or(Cause::Number)
+    let word = read_octal(text).ok_or(Cause::Number)?;
+    let _value = word.value();
+    Ok(word)
 }
 
 /// The entry name of a field.
@@ -65,8 +68,10 @@ pub(crate) fn who_in(text: &[u8]) -> Result<Who, Cause>
 }
 
 /// The row of a field.
+#[tactic(auto, using(crate::proofs::PrincipalLaws::row_read, std::proofs::lemmas::Grind::common_steps))]
 pub(crate) fn row_in(text: &[u8]) -> Result<Row, Cause>
-    ensures { Gives (λ r. r) result (row_in text.now) }
+    ensures row { Gives (λ r. r) result (row_in text.now) }
+    ensures form { IfOk result (λ r. is_row r ≡ true) }
 {
     read_row(text).ok_or(Cause::Name)
 }

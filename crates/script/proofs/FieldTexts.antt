@@ -1,0 +1,130 @@
+-- Texts of fields with a space between them, and of lines with a line feed after each, read back (own).
+use Rattle.std.proofs.Common.{◌≡◌, ℕ, ◌≤◌, Bool, true, false, ◌&&◌, nat_le, eqb, List, [], ◌∷◌, ◌++◌, length, refl, ap, ◌∙◌, arith}
+use Rattle.std.proofs.lemmas.Bool.Decides.{nat_tests}
+use Rattle.std.proofs.lemmas.List.Folds.{list_all-append}
+use Rattle.std.specs.List.{list_all}
+use Rattle.script.proofs.PathLaws.{and_parts, and_both}
+use Rattle.script.specs.Fields.{lines_of, onto_piece, fields_of, onto_field, is_printable, is_printable_byte}
+
+-- a printable byte that isn't a space
+abbrev pub is_field_byte : ℕ → Bool
+is_field_byte b = nat_le 33 b && nat_le b 126
+
+pub record IsField (text : List ℕ) : Type 0 where
+  pub some : 1 ≤ length text
+  pub bytes : list_all is_field_byte text ≡ true
+
+-- ---- bytes
+
+-- a test that holds wherever another does holds of each of a list
+pub all_from : (p q : ℕ → Bool) → ((b : ℕ) → p b ≡ true → q b ≡ true) → (bs : List ℕ) → list_all p bs ≡ true → list_all q bs ≡ true
+all_from p q step [] h = refl
+all_from p q step (b ∷ bs) h =
+    let parts = and_parts (p b) (list_all p bs) h in
+    and_both (q b) (list_all q bs) (step b parts.0) (all_from p q step bs parts.1)
+
+pub all_both : (p : ℕ → Bool) (xs ys : List ℕ) → list_all p xs ≡ true → list_all p ys ≡ true → list_all p (xs ++ ys) ≡ true
+all_both p xs ys a b = list_all-append p xs ys ∙ and_both (list_all p xs) (list_all p ys) a b
+
+byte_is_printable : (b : ℕ) → is_field_byte b ≡ true → is_printable_byte b ≡ true
+byte_is_printable b h = grind (arith, nat_tests)
+
+byte_is_no_space : (b : ℕ) → is_field_byte b ≡ true → eqb b 32 ≡ false
+byte_is_no_space b h = grind (arith, nat_tests)
+
+byte_is_no_feed : (b : ℕ) → is_printable_byte b ≡ true → eqb b 10 ≡ false
+byte_is_no_feed b h = grind (arith, nat_tests)
+
+-- ---- lines
+
+line_feed : (bs : List ℕ) → lines_of (10 ∷ bs) ≡ [] ∷ lines_of bs
+unfolding lines_of
+line_feed bs = refl
+
+line_byte : (b : ℕ) (bs : List ℕ) → eqb b 10 ≡ false → lines_of (b ∷ bs) ≡ onto_piece b (lines_of bs)
+unfolding lines_of
+line_byte b bs z = rw z refl
+
+cut : (line rest : List ℕ) → list_all is_printable_byte line ≡ true → lines_of (line ++ (10 ∷ rest)) ≡ line ∷ lines_of rest
+cut [] rest h = line_feed rest
+cut (b ∷ bs) rest h =
+    let parts = and_parts (is_printable_byte b) (list_all is_printable_byte bs) h in
+    line_byte b (bs ++ (10 ∷ rest)) (byte_is_no_feed b parts.0) ∙ ap (onto_piece b) (cut bs rest parts.1)
+
+-- the first line of a text
+pub line_first : (line rest : List ℕ) → is_printable line ≡ true → lines_of (line ++ (10 ∷ rest)) ≡ line ∷ lines_of rest
+unfolding is_printable
+line_first line rest h = cut line rest h
+
+-- ---- fields
+
+fields_nil : fields_of [] ≡ []
+unfolding fields_of
+fields_nil = refl
+
+fields_space : (bs : List ℕ) → fields_of (32 ∷ bs) ≡ fields_of bs
+unfolding fields_of
+fields_space bs = refl
+
+fields_byte : (b : ℕ) (bs : List ℕ) → eqb b 32 ≡ false → fields_of (b ∷ bs) ≡ onto_field b bs (fields_of bs)
+unfolding fields_of
+fields_byte b bs z = rw z refl
+
+onto_space : (b : ℕ) (cs : List ℕ) (fs : List (List ℕ)) → onto_field b (32 ∷ cs) fs ≡ (b ∷ []) ∷ fs
+onto_space b cs [] = refl
+onto_space b cs (f ∷ fs) = refl
+
+onto_byte : (b c : ℕ) (cs f : List ℕ) (fs : List (List ℕ)) → eqb c 32 ≡ false → onto_field b (c ∷ cs) (f ∷ fs) ≡ (b ∷ f) ∷ fs
+onto_byte b c cs f fs z = rw z refl
+
+before_space : (b : ℕ) (bs rest : List ℕ) → list_all is_field_byte (b ∷ bs) ≡ true → fields_of ((b ∷ bs) ++ (32 ∷ rest)) ≡ (b ∷ bs) ∷ fields_of rest
+before_space b [] rest h =
+    let parts = and_parts (is_field_byte b) true h in
+    fields_byte b (32 ∷ rest) (byte_is_no_space b parts.0) ∙ onto_space b rest (fields_of (32 ∷ rest)) ∙ ap (λ (fs : List (List ℕ)). (b ∷ []) ∷ fs) (fields_space rest)
+before_space b (c ∷ cs) rest h =
+    let parts = and_parts (is_field_byte b) (list_all is_field_byte (c ∷ cs)) h in
+    let next = and_parts (is_field_byte c) (list_all is_field_byte cs) parts.1 in
+    fields_byte b ((c ∷ cs) ++ (32 ∷ rest)) (byte_is_no_space b parts.0)
+    ∙ ap (onto_field b ((c ∷ cs) ++ (32 ∷ rest))) (before_space c cs rest parts.1)
+    ∙ onto_byte b c (cs ++ (32 ∷ rest)) (c ∷ cs) (fields_of rest) (byte_is_no_space c next.0)
+
+alone : (b : ℕ) (bs : List ℕ) → list_all is_field_byte (b ∷ bs) ≡ true → fields_of (b ∷ bs) ≡ (b ∷ bs) ∷ []
+alone b [] h =
+    let parts = and_parts (is_field_byte b) true h in
+    fields_byte b [] (byte_is_no_space b parts.0) ∙ ap (onto_field b []) fields_nil
+alone b (c ∷ cs) h =
+    let parts = and_parts (is_field_byte b) (list_all is_field_byte (c ∷ cs)) h in
+    let next = and_parts (is_field_byte c) (list_all is_field_byte cs) parts.1 in
+    fields_byte b (c ∷ cs) (byte_is_no_space b parts.0)
+    ∙ ap (onto_field b (c ∷ cs)) (alone c cs parts.1)
+    ∙ onto_byte b c cs (c ∷ cs) [] (byte_is_no_space c next.0)
+
+first_of : (w rest : List ℕ) → 1 ≤ length w → list_all is_field_byte w ≡ true → fields_of (w ++ (32 ∷ rest)) ≡ w ∷ fields_of rest
+first_of [] rest some h = absurd (omega arith)
+first_of (b ∷ bs) rest some h = before_space b bs rest h
+
+only_of : (w : List ℕ) → 1 ≤ length w → list_all is_field_byte w ≡ true → fields_of w ≡ w ∷ []
+only_of [] some h = absurd (omega arith)
+only_of (b ∷ bs) some h = alone b bs h
+
+-- ---- lines of fields
+
+-- a line of printable bytes with these fields
+pub record HasFields (line : List ℕ) (fields : List (List ℕ)) : Type 0 where
+  pub printable : is_printable line ≡ true
+  pub split : fields_of line ≡ fields
+
+printable_field : (w : List ℕ) → list_all is_field_byte w ≡ true → is_printable w ≡ true
+unfolding is_printable
+printable_field w h = all_from is_field_byte is_printable_byte byte_is_printable w h
+
+printable_before : (w rest : List ℕ) → list_all is_field_byte w ≡ true → is_printable rest ≡ true → is_printable (w ++ (32 ∷ rest)) ≡ true
+unfolding is_printable
+printable_before w rest h r = all_both is_printable_byte w (32 ∷ rest) (all_from is_field_byte is_printable_byte byte_is_printable w h) r
+
+pub last_field : (w : List ℕ) → IsField w → HasFields w (w ∷ [])
+last_field w h = record { printable = printable_field w h.bytes; split = only_of w h.some h.bytes }
+
+pub front_field : (w rest : List ℕ) (fields : List (List ℕ)) → IsField w → HasFields rest fields → HasFields (w ++ (32 ∷ rest)) (w ∷ fields)
+front_field w rest fields h r =
+    record { printable = printable_before w rest h.bytes r.printable; split = first_of w rest h.some h.bytes ∙ ap (λ (fs : List (List ℕ)). w ∷ fs) r.split }
