@@ -3,6 +3,7 @@ pub mod Answering
 pub mod Booking
 pub mod Leaving
 pub mod Refers
+pub mod Runnable
 pub mod Boots
 pub mod Calls
 pub mod Creates

@@ -2,12 +2,17 @@
 #![tactic(auto)]
 
 mod commands;
+mod forms;
 mod looks;
 mod machine;
 mod naming;
+mod runs;
 mod starting;
 mod steps;
 mod tables;
+mod top;
+
+pub use top::{Finished, SCRIPT_BYTES, Status, Words, multics};
 
 /// There wasn't enough memory.
 #[derive(Clone, Copy, Debug, PartialEq, Eq)]
