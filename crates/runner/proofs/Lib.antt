@@ -20,4 +20,5 @@ pub mod Same
 pub mod Texts
 pub mod Trees
 pub mod Uses
+pub mod Visits
 pub mod Volumes
