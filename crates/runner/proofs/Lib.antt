@@ -6,6 +6,7 @@ pub mod Refers
 pub mod Boots
 pub mod Calls
 pub mod Creates
+pub mod Disks
 pub mod Endings
 pub mod Gone
 pub mod Looked

@@ -3,10 +3,20 @@
 ghost use Rattle.std.specs.Prelude.{◌≡◌, ◌<◌, ◌≤◌, ◌+◌, ◌++◌, ℕ, IfOk, OnOk, length};
 ghost use Rattle.core_map.specs.declared.Frame.TheVariants.{Free};
 ghost use Rattle.core_map.specs.CoreMap.{frame_at, with_frame};
-ghost use Rattle.flat_store.specs.Legal.{IsComplete};
+ghost use Rattle.flat_store.specs.Legal.{IsComplete, IsLegal, IsSettled, store_after};
+ghost use Rattle.runner.specs.OnDisk.{IsOnDisk};
 
 use crate::NoMemory;
 use crate::machine::{Machine, push_gone};
+use book::Book;
+use volumes::{CoreDrive, Volumes};
+
+/// What a run leaves: its book and the volumes.
+#[derive(Drop)]
+pub(crate) struct Left {
+    pub(crate) book: Book,
+    pub(crate) volumes: Volumes<CoreDrive>,
+}
 
 impl Machine {
     /// Visits a frame: a page in it is written to its record where it was modified, or given up where it is all zeros.
@@ -45,5 +55,22 @@ impl Machine {
             self.visit(f)?;
         }
         Ok(())
+    }
+
+    /// The book and the volumes, once every frame is free.
+    pub(crate) fn finish(self) -> Left
+        requires complete { IsComplete self.script self.entries }
+        requires free { (f : ℕ) → frame_at self.held.segs.storage.core f ≡ Free }
+        ensures script { result.book.script ≡ self.script }
+        ensures legal { IsLegal result.book.script result.book.entries }
+        ensures complete { IsComplete result.book.script result.book.entries }
+        ensures settled { IsSettled result.book.script (store_after result.book.script result.book.entries) }
+        ensures disk { IsOnDisk result.volumes (store_after result.book.script result.book.entries) }
+    {
+        let volumes = self.tables.into_volumes();
+        Left {
+            book: self.book,
+            volumes,
+        }
     }
 }
