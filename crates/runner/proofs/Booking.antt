@@ -27,7 +27,7 @@ pushed p now es later e t new b h lawful tied frames disks =
       form = h.form;
       legal = legal_push p es e h.legal lawful;
       tied = subst (λ (s : Store). AreTied p s new) (sym (store_after-push p es e)) tied;
-      frames = omega (arith, frames, h.frames);
+      frames = frames ∙ h.frames;
       disks = disks ∙ h.disks;
     }))
 

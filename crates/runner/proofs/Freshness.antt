@@ -122,7 +122,7 @@ holds_begun p t f segs shown filed places tree known lengths stored = record {
       (λ v. ap (λ (x : Segs). size x.storage.records v) segs ∙ records_fit p v)
       (λ v. ap (λ (x : Segs). entries x.storage.vtocs v) segs ∙ begun_entries p v)
       tree known lengths stored);
-  frames = omega (arith, ap (λ (x : Segs). length x.storage.core.frames) segs, length-replicate p.frames Free, f.frames);
+  frames = ap (λ (x : Segs). length x.storage.core.frames) segs ∙ length-replicate p.frames Free;
   disks = ap (λ (x : Segs). length x.storage.disks) segs ∙ disks_count p;
 }
 

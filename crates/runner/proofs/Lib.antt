@@ -7,6 +7,7 @@ pub mod Runnable
 pub mod Boots
 pub mod Calls
 pub mod Creates
+pub mod Disks
 pub mod Endings
 pub mod Freshness
 pub mod Gone
@@ -23,4 +24,5 @@ pub mod Same
 pub mod Texts
 pub mod Trees
 pub mod Uses
+pub mod Visits
 pub mod Volumes

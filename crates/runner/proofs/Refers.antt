@@ -42,11 +42,11 @@ node_at p s t i h lt = node_found (node_in s.nodes (i + 2)) (i + 2) (volume_at t
 
 -- the tables are sound
 pub sound_of : (p : Plan) (es : List Entry) (t : Held) → Holds p es t → AreSound t
-sound_of p es t h = record {
+sound_of p es t h = let same = h.frames in let some = h.form.frames in record {
   numbers = λ n u is. h.tied.numbered.there n u is;
   lengths = h.tied.named.lengths;
   most = λ i lt. (node_at p (store_after p es) t i h.tied lt).segment.most;
-  frames = h.frames;
+  frames = omega (arith, same, some);
 }
 
 -- a target's segment in the flat store

@@ -1,5 +1,5 @@
 -- What the machine of a run keeps, and what its steps do (own).
-use Rattle.std.specs.Prelude.{◌≡◌, ◌≢◌, ◌<◌, ◌≤◌, ◌⊎◌, ℕ, ◌+◌, Bool, false, true, List, length, Option, Some, None, slice_index, slice_index_or}
+use Rattle.std.specs.Prelude.{◌≡◌, ◌≢◌, ◌<◌, ◌≤◌, ◌⊎◌, ℕ, ◌+◌, Bool, false, true, List, [], ◌∷◌, length, Option, Some, None, slice_index, slice_index_or}
 use Rattle.script.specs.Plans.{Plan, command_at, commands_of}
 use Rattle.script.specs.declared.commands.Command.{Command}
 use Rattle.script.specs.declared.commands.Command.TheVariants as command
@@ -8,6 +8,9 @@ use Rattle.book.specs.declared.entries.Entry.TheVariants as entry
 use Rattle.book.specs.declared.replies.Reply.{Reply}
 use Rattle.flat_store.specs.Flat.{Store, moved_on, entries_of, records_of}
 use Rattle.flat_store.specs.Legal.{IsLegal, IsComplete, IsAnswer, store_after, after_do}
+use Rattle.page_control.specs.declared.Left.{Left}
+use Rattle.page_control.specs.declared.Left.TheVariants as left
+use Rattle.paged_segs.specs.declared.Evicted.{Evicted}
 use Rattle.runner.specs.Tables.{Held, AreTied}
 use Rattle.runner.specs.declared.steps.Step.{Step}
 use Rattle.runner.specs.declared.steps.Step.TheVariants as step
@@ -50,7 +53,7 @@ pub record Holds (p : Plan) (es : List Entry) (t : Held) : Type 0 where
   pub form : IsForm p
   pub legal : IsLegal p es
   pub tied : AreTied p (store_after p es) t
-  pub frames : 0 < length t.segs.storage.core.frames
+  pub frames : length t.segs.storage.core.frames ≡ p.frames
   pub disks : length t.segs.storage.disks ≡ length p.volumes
 
 -- the process hasn't ended, and this is the place of its next command
@@ -61,6 +64,14 @@ pub record IsAt (p : Plan) (es : List Entry) (place : ℕ) : Type 0 where
 -- the entry of the command at a place, which was answered through a frame or without one
 abbrev pub done_at : ℕ → Option ℕ → Reply → Entry
 done_at place frame r = entry.Do 0 place 0 frame r
+
+-- the entries of a page that left its frame, which tell of its record where that was given back
+abbrev pub release_entries : Left → ℕ → ℕ → List Entry
+release_entries left.Released uid page = entry.Release uid page ∷ []
+release_entries left.Kept uid page = []
+
+unfoldable pub left_entries : Evicted → List Entry
+left_entries gone = entry.Take gone.frame ∷ entry.GonePage gone.frame ∷ release_entries gone.left gone.uid gone.page
 
 -- the store once the command at a place is answered
 abbrev pub store_done : Plan → List Entry → ℕ → Reply → Store

@@ -2,6 +2,7 @@
 #![tactic(auto)]
 
 mod commands;
+mod ending;
 mod forms;
 mod looks;
 mod machine;

@@ -1,4 +1,4 @@
-ghost use Rattle.std.specs.Prelude.{◌≡◌, ◌<◌, ◌≤◌, ◌+◌, ◌/◌, ℕ, Some, None, true, false, is_some, length};
+ghost use Rattle.std.specs.Prelude.{◌≡◌, ◌<◌, ◌≤◌, ◌+◌, ◌/◌, ◌++◌, ℕ, Some, None, true, false, is_some, length};
 ghost use Rattle.script.specs.Plans.{command_at};
 ghost use Rattle.script.specs.declared.commands.Command.TheVariants as command;
 ghost use Rattle.core_map.specs.CoreMap.{least_free_frame};
@@ -7,14 +7,14 @@ ghost use Rattle.page_control.specs.Tied.{is_out};
 ghost use Rattle.paged_segs.specs.Segs.{word_at};
 ghost use Rattle.runner.specs.Effects.{IsSame};
 ghost use Rattle.runner.specs.Looks.{AreSound, look_of, wants_frame, HasFree, IsNotOut, IsTarget, IsSeen};
-ghost use Rattle.runner.specs.Machines.{IsAt, done_at};
+ghost use Rattle.runner.specs.Machines.{IsAt, done_at, left_entries};
 ghost use Rattle.runner.specs.declared.looks.Look.TheVariants as look;
 
 use crate::looks::{Look, Target};
 use crate::tables::Tables;
 use book::{Book, Entry, Reply};
 use mword::Word;
-use paged_segs::Left;
+use paged_segs::{Evicted, Left};
 use std::marker::Model;
 
 /// How many words a page has.
@@ -50,6 +50,23 @@ pub(crate) fn done(place: u32, frame: Option<u32>, reply: Reply) -> Entry
     }
 }
 
+/// Books a page that left its frame.
+pub(crate) fn push_gone(book: &mut Book, gone: &Evicted)
+    requires { 3 ≤ book.old.spare }
+    ensures entries { book.new.entries ≡ book.old.entries ++ left_entries gone.now }
+    ensures script { book.new.script ≡ book.old.script }
+    ensures room { book.old.spare ≤ book.new.spare + 3 }
+{
+    book.push(Entry::Take { frame: gone.frame });
+    book.push(Entry::GonePage { frame: gone.frame });
+    if let Left::Released = gone.left {
+        book.push(Entry::Release {
+            uid: gone.uid,
+            page: gone.page,
+        });
+    }
+}
+
 impl Machine {
     /// What a reference of the process comes to.
     fn look(&self, number: u32, offset: u32, word: &Option<Word>) -> Look
@@ -71,14 +88,7 @@ impl Machine {
         ensures room { self.old.spare ≤ self.new.spare + 3 }
     {
         let gone = self.tables.evict();
-        self.book.push(Entry::Take { frame: gone.frame });
-        self.book.push(Entry::GonePage { frame: gone.frame });
-        if let Left::Released = gone.left {
-            self.book.push(Entry::Release {
-                uid: gone.uid,
-                page: gone.page,
-            });
-        }
+        push_gone(&mut self.book, &gone);
     }
 
     /// Reads the page of a reference from its record into the least free frame.

@@ -1,11 +1,14 @@
-ghost use Rattle.std.specs.Prelude.{◌≡◌, ◌<◌, ◌≤◌, ◌+◌, ◌*◌, ◌/◌, ◌%◌, ℕ, Some, None, is_some, true, false, IfSome, IfNone, length, slice_index, replicate};
+ghost use Rattle.std.specs.Prelude.{◌≡◌, ◌<◌, ◌≤◌, ◌+◌, ◌*◌, ◌/◌, ◌%◌, ℕ, Some, None, is_some, true, false, IfSome, IfNone, length, slice_index, replicate, map};
 ghost use Rattle.core_map.specs.declared.Frame.TheVariants.{Free};
 ghost use Rattle.core_map.specs.CoreMap.{frame_at, with_frame, least_free_frame};
 ghost use Rattle.core_map.specs.Clock.{IsClockChoice, unmarked};
 ghost use Rattle.page_table.specs.declared.Ptw.TheVariants.{Null, Here};
-ghost use Rattle.page_control.specs.Picture.{picture, is_stored as is_filed};
+ghost use Rattle.mword.specs.Words.{AreZero};
+ghost use Rattle.page_control.specs.Plain.{disk_of};
+ghost use Rattle.page_control.specs.Picture.{picture, is_stored as is_filed, volume_of, record_named, words_filed};
 ghost use Rattle.page_control.specs.Tied.{is_out};
-ghost use Rattle.paged_segs.specs.Segs.{word_at, volume_at};
+ghost use Rattle.paged_segs.specs.Segs.{word_at, volume_at, pages_of};
+ghost use Rattle.paged_segs.specs.Kept.{IsKept};
 ghost use Rattle.paged_segs.specs.Counts.{is_full};
 ghost use Rattle.runner.specs.Looks.{look_of, look_page, look_unstored, AreSound, HasFree, IsTarget, IsBlank, IsSeen};
 ghost use Rattle.runner.specs.Effects.{IsSame, IsPut, IsCreated, IsGone, stored_after};
@@ -18,6 +21,7 @@ use mword::Word;
 use page_table::Ptw;
 use paged_segs::{Evicted, Left, Segments};
 use std::marker::Model;
+use volumes::{CoreDrive, Volumes};
 
 /// How many words a page has.
 const PAGE_WORDS: u32 = 1024;
@@ -139,6 +143,22 @@ impl Tables {
         let gone = self.segments.visit(f)?;
         self.stored = stored_after(self.stored, gone.left);
         Some(gone)
+    }
+
+    /// The volumes, once every frame is free.
+    pub(crate) fn into_volumes(self) -> Volumes<CoreDrive>
+        requires { (f : ℕ) → frame_at self.segs.storage.core f ≡ Free }
+        ensures kept { IsKept self.segs }
+        ensures disks { map pages_of result.drives ≡ self.segs.storage.disks }
+        ensures records { result.records ≡ self.segs.storage.records }
+        ensures vtocs { result.vtocs ≡ self.segs.storage.vtocs }
+
+        // What is on the records.
+        ensures words { (uid p : ℕ) → picture self.segs.storage uid p ≡ words_filed (disk_of self.segs.storage (volume_of self.segs.storage.vtocs uid)) (record_named self.segs.storage.vtocs uid p) }
+        ensures zeros { (uid p : ℕ) → is_filed self.segs.storage uid p ≡ true → AreZero (picture self.segs.storage uid p) → ⊥ }
+    {
+        let _kept = self.segments.count();
+        self.segments.into_volumes()
     }
 
     /// Reads a page from its record into the least free frame.
