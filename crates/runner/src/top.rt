@@ -252,13 +252,13 @@ pub fn multics<R: Threads + Wait + Sync, S: Source, K: Sink, G: Gate + Sync>(
         IfSome (S.left src.old) (λ bytes. SCRIPT_BYTES < length bytes → (result.status ≡ Status.TooLong) ⊎ (result.status ≡ Status.Memory)) }
     ensures finds_refused { is_run words ≡ true → (Rose (S.faults src.old) (S.faults src.new) → ⊥) →
         IfSome (S.left src.old) (λ bytes. (r : Refusal) → length bytes ≤ SCRIPT_BYTES → script_of bytes ≡ Err r →
-            (result.status ≡ Status.Script r) ⊎ (result.status ≡ Status.Memory)) }
+        (result.status ≡ Status.Script r) ⊎ (result.status ≡ Status.Memory)) }
     ensures finds_later { is_run words ≡ true → (Rose (S.faults src.old) (S.faults src.new) → ⊥) →
         IfSome (S.left src.old) (λ bytes. (p : Plan) → length bytes ≤ SCRIPT_BYTES → script_of bytes ≡ Ok p → script_runs p ≡ false →
-            (result.status ≡ Status.Later) ⊎ (result.status ≡ Status.Memory)) }
+        (result.status ≡ Status.Later) ⊎ (result.status ≡ Status.Memory)) }
     ensures completes { is_run words ≡ true → (Rose (S.faults src.old) (S.faults src.new) → ⊥) → (Rose (K.faults out.old) (K.faults out.new) → ⊥) →
         IfSome (S.left src.old) (λ bytes. (p : Plan) → length bytes ≤ SCRIPT_BYTES → script_of bytes ≡ Ok p → script_runs p ≡ true →
-            (result.status ≡ Status.Done) ⊎ (result.status ≡ Status.Memory)) }
+        (result.status ≡ Status.Done) ⊎ (result.status ≡ Status.Memory)) }
 {
     if !words.is_run() {
         return with_text(out, USAGE, Status::Usage);
