@@ -1,5 +1,5 @@
 -- A command is answered: the flat store's answer, and the tables of the store after it.
-use Rattle.std.proofs.Common.{◌≡◌, ◌≢◌, ℕ, suc, zero, ◌+◌, ◌*◌, ◌/◌, ◌%◌, ◌<◌, ◌≤◌, Bool, true, false, cond, eqb, ◌&&◌, ◌||◌, nat_le, List, [], ◌∷◌, ◌++◌, length, get_or, set, replicate, Option, Some, None, refl, sym, ap, subst, ◌∙◌, arith, inl, inr, ◌⊎◌}
+use Rattle.std.proofs.Common.{◌≡◌, ◌≢◌, ℕ, ◌+◌, ◌*◌, ◌/◌, ◌%◌, ◌<◌, Bool, true, false, cond, eqb, ◌&&◌, ◌||◌, List, [], ◌∷◌, length, get_or, set, replicate, Option, Some, None, refl, sym, ap, subst, ◌∙◌, arith, inl, inr, ◌⊎◌}
 use Rattle.std.proofs.lemmas.Bool.Decides.{nat_tests}
 use Rattle.std.proofs.lemmas.List.{get_or-replicate, get_or-set_same}
 use Rattle.script.specs.Plans.{Plan, command_at}
@@ -8,10 +8,9 @@ use Rattle.script.specs.declared.commands.Command.TheVariants as command
 use Rattle.book.specs.declared.entries.Entry.{Entry}
 use Rattle.book.specs.declared.replies.Reply.{Reply}
 use Rattle.book.specs.declared.replies.Reply.TheVariants as reply
-use Rattle.storage_terms.specs.Tree.{Node}
 use Rattle.flat_store.specs.Words.{word_at, with_word}
 use Rattle.flat_store.specs.Pages.{is_stored, with_stored}
-use Rattle.flat_store.specs.Flat.{Store, moved_on, segment_of, is_past, read_of, write_of, read_reply, write_reply, written_in, stored_by, is_used_up, is_volume_full, runs, takes_effect, effect_of, reply_to_command, after_command}
+use Rattle.flat_store.specs.Flat.{Store, moved_on, segment_of, read_of, write_of, read_reply, write_reply, written_in, stored_by, is_used_up, is_volume_full, runs, takes_effect, reply_to_command, after_command}
 use Rattle.flat_store.specs.Legal.{IsAnswer, after_do, store_after}
 use Rattle.flat_store.proofs.WordLaws.{word_at-with}
 use Rattle.known_segs.specs.Known.{uid_of}
@@ -22,15 +21,14 @@ use Rattle.paged_segs.specs.Segs.{word_at as ptw_at, volume_at}
 use Rattle.paged_segs.specs.Counts.{is_full}
 use Rattle.runner.specs.Tables.{Held, AreTied}
 use Rattle.runner.specs.Effects.{IsSame, IsPut, IsCreated}
-use Rattle.runner.specs.Looks.{look_of, look_page, look_unstored, AreSound, IsTarget, IsBlank, IsSeen}
-use Rattle.runner.specs.declared.looks.Look.{Look}
+use Rattle.runner.specs.Looks.{look_of, look_page, look_unstored, IsTarget, IsBlank, IsSeen}
 use Rattle.runner.specs.declared.looks.Look.TheVariants as look
-use Rattle.runner.specs.Machines.{Holds, IsAt, IsStep, GoesOn, IsDone, store_done}
+use Rattle.runner.specs.Machines.{Holds, IsAt, IsDone, store_done}
 use Rattle.runner.proofs.Same as same
 use Rattle.runner.proofs.Accounts.{used_up_same, volume_full_same}
 use Rattle.runner.proofs.Booking.{same_as}
 use Rattle.runner.proofs.Creates.{tied_create}
-use Rattle.runner.proofs.Looked.{IsOver, IsWithin, looked, IsNew, IsCreate, create_target, unstored_told}
+use Rattle.runner.proofs.Looked.{IsOver, IsWithin, looked}
 use Rattle.runner.proofs.Puts.{tied_put}
 use Rattle.runner.proofs.Refers.{sound_of, IsReached, reached_by, read_past, read_word, known_none}
 use Rattle.runner.proofs.Uses.{room_left}

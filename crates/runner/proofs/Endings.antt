@@ -1,17 +1,15 @@
 -- The process ends.
-use Rattle.std.proofs.Common.{◌≡◌, ℕ, ◌+◌, ◌<◌, ◌≤◌, Bool, true, false, List, [], ◌∷◌, ◌++◌, length, get_or, set, Option, Some, None, refl, sym, ap, subst, ◌∙◌, arith}
-use Rattle.std.proofs.lemmas.List.{get_or-set_same}
+use Rattle.std.proofs.Common.{◌≡◌, ℕ, ◌<◌, true, false, List, [], ◌∷◌, ◌++◌, length, set, Option, Some, None, refl, sym, ap, subst, ◌∙◌, arith}
 use Rattle.script.specs.Plans.{Plan, command_at}
 use Rattle.script.specs.declared.commands.Command.{Command}
 use Rattle.script.specs.declared.commands.Command.TheVariants as command
 use Rattle.book.specs.declared.entries.Entry.{Entry}
-use Rattle.book.specs.declared.entries.Entry.TheVariants as entry
 use Rattle.book.specs.declared.replies.Reply.TheVariants as reply
 use Rattle.flat_store.specs.Flat.{Store, moved_on, after_command}
 use Rattle.flat_store.specs.Legal.{IsAnswer, IsComplete, IsEnd, IsLawful, after_do, after_entry, store_after, is_part, part, last_of}
 use Rattle.flat_store.proofs.BookLaws.{part-push, part-skip, last_of-push}
 use Rattle.runner.specs.Tables.{Held, AreTied}
-use Rattle.runner.specs.Machines.{Holds, IsAt, done_at, store_done, IsForm}
+use Rattle.runner.specs.Machines.{Holds, IsAt, done_at, IsForm}
 use Rattle.runner.proofs.Booking.{IsBooked, turn_first, pushed}
 use Rattle.runner.proofs.Same.{tied_moved, tied_ended}
 

@@ -1,10 +1,8 @@
 -- Fresh volumes: what they have room for.
-use Rattle.std.proofs.Common.{◌≡◌, ℕ, suc, zero, ◌+◌, ◌<◌, ◌≤◌, Bool, true, false, cond, eqb, List, [], ◌∷◌, length, get_or, set, map, replicate, Option, Some, None, refl, sym, ap, subst, ◌∙◌, arith, inl, inr}
+use Rattle.std.proofs.Common.{◌≡◌, ℕ, suc, zero, ◌+◌, ◌<◌, ◌≤◌, Bool, true, false, cond, eqb, List, [], ◌∷◌, length, get_or, set, map, replicate, Option, Some, None, refl, sym, ap, subst, ◌∙◌, arith}
 use Rattle.std.specs.Prelude.{slice_get, count_by, is_some, All}
-use Rattle.std.proofs.lemmas.Bool.{cases_eq}
-use Rattle.std.proofs.lemmas.Bool.Decides.{nat_tests}
-use Rattle.std.proofs.lemmas.List.{length-replicate, length-map, length-set, get_or-set_same, get_or-set_other}
-use Rattle.script.specs.Plans.{Plan, ProcessPlan, commands_of, nobody}
+use Rattle.std.proofs.lemmas.List.{length-replicate, length-map, length-set}
+use Rattle.script.specs.Plans.{Plan, ProcessPlan, nobody}
 use Rattle.script.specs.declared.plan.VolumeLine.{VolumeLine}
 use Rattle.flat_store.specs.Flat.{Store, boot, records_in, records_of, entries_in, entries_of}
 use Rattle.vtoc.specs.Vtoc.{Entry, entry_at, fresh_entry}
@@ -19,9 +17,9 @@ use Rattle.paged_segs.specs.Effects.{begun}
 use Rattle.core_map.specs.declared.Frame.TheVariants.{Free}
 use Rattle.dir_tree.specs.Nodes.{root_alone}
 use Rattle.page_control.specs.Picture.{picture, is_stored as is_filed}
-use Rattle.flat_store.specs.Legal.{IsComplete, IsEnd, store_after, part, last_of}
+use Rattle.flat_store.specs.Legal.{IsComplete, part}
 use Rattle.flat_store.proofs.BookLaws.{legal_nil, store_after-nil}
-use Rattle.runner.specs.Machines.{Holds, IsForm, IsAt, IsUnderway}
+use Rattle.runner.specs.Machines.{Holds, IsForm, IsUnderway}
 use Rattle.runner.specs.Starts.{part_of, volumes_of}
 use Rattle.runner.specs.Tables.{Held, AreTied}
 use Rattle.runner.proofs.Boots.{tied_boot}

@@ -1,5 +1,5 @@
 -- What a look finds.
-use Rattle.std.proofs.Common.{◌≡◌, ℕ, ◌+◌, ◌-◌, ◌*◌, ◌/◌, ◌<◌, ◌≤◌, Bool, true, false, List, length, get_or, Option, Some, None, refl, sym, ap, subst, ◌∙◌, arith}
+use Rattle.std.proofs.Common.{◌≡◌, ℕ, ◌-◌, ◌<◌, ◌≤◌, length, get_or, Some, subst, arith}
 use Rattle.known_segs.specs.Known.{uid_of}
 use Rattle.runner.specs.Tables.{Held}
 use Rattle.runner.specs.Looks.{AreSound}

@@ -1,27 +1,25 @@
 -- Segments made and made known: the flat store's answers.
-use Rattle.std.proofs.Common.{◌≡◌, ◌≢◌, ℕ, suc, zero, ◌+◌, ◌<◌, ◌≤◌, ◌^◌, Bool, true, false, cond, eqb, nat_le, List, [], ◌∷◌, ◌++◌, length, get_or, set, Option, Some, None, Result, refl, sym, ap, subst, ◌∙◌, arith}
+use Rattle.std.proofs.Common.{◌≡◌, ◌≢◌, ℕ, suc, zero, ◌+◌, ◌<◌, ◌≤◌, ◌^◌, Bool, true, false, cond, eqb, nat_le, List, [], ◌∷◌, length, get_or, Option, Some, None, Result, refl, sym, ap, subst, ◌∙◌, arith}
 use Rattle.std.specs.Prelude.{Ok, Err, is_some, IfSome, slice_get}
 use Rattle.std.proofs.lemmas.Bool.Decides.{nat_tests}
-use Rattle.std.proofs.lemmas.List.{get_or-set_same}
 use Rattle.script.specs.Plans.{Plan, command_at, commands_of, who_of}
 use Rattle.script.specs.declared.commands.Command.{Command}
 use Rattle.script.specs.declared.commands.Command.TheVariants as command
 use Rattle.book.specs.declared.entries.Entry.{Entry}
 use Rattle.book.specs.declared.replies.Reply.{Reply}
 use Rattle.book.specs.declared.replies.Reply.TheVariants as reply
-use Rattle.storage_terms.specs.Tree.{Node, Walk, LeadsTo, Missing, InSegment, branch_in, has_directory, node_in, walk_in, entries_on}
+use Rattle.storage_terms.specs.Tree.{Node, Walk, LeadsTo, Missing, InSegment, branch_in, has_directory, walk_in, entries_on}
 use Rattle.flat_store.specs.Flat.{Store, moved_on, entries_of, parts_of, make_in, make_at, make_of, make_reply, made_in, made_at, made_by, initiate_at, initiate_reply, known_at, known_by, known_or_full, number_for, takes_effect, runs, reply_to_command, after_command}
-use Rattle.flat_store.specs.Legal.{after_do, store_after}
-use Rattle.dir_tree.specs.Nodes.{Branches, with_quotas}
+use Rattle.flat_store.specs.Legal.{store_after}
+use Rattle.dir_tree.specs.Nodes.{with_quotas}
 use Rattle.known_segs.specs.Known.{number_for as number_in, with_number}
-use Rattle.page_control.specs.declared.Home.{Home}
 use Rattle.paged_segs.specs.Segs.{home_at}
 use Rattle.paged_segs.specs.Counts.{used, entries}
 use Rattle.runner.specs.Tables.{Held, AreTied, root_quota}
 use Rattle.runner.specs.Machines.{Holds, IsAt, IsDone}
-use Rattle.runner.specs.Places.{segment_at, segment_of_path, directory_at, directory_of_path, branch_refusal, unless_refused, new_branch, new_branch_in, new_branch_at, new_branch_of, with_room, new_segment_by, wanted_by, CanMake, IsMade, IsMkSeg, IsInitiate}
+use Rattle.runner.specs.Places.{segment_at, segment_of_path, directory_at, directory_of_path, branch_refusal, new_branch, new_branch_in, new_branch_at, new_branch_of, with_room, new_segment_by, wanted_by, CanMake, IsMade, IsMkSeg, IsInitiate}
 use Rattle.runner.specs.declared.commands.NewSegment.{NewSegment}
-use Rattle.runner.proofs.Accounts.{vtoc_full_same, entries_full_same}
+use Rattle.runner.proofs.Accounts.{vtoc_full_same}
 use Rattle.runner.proofs.Answering.{done_by}
 use Rattle.runner.proofs.Made.{tied_made}
 use Rattle.runner.proofs.Trees.{leads_there, segment_there}

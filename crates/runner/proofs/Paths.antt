@@ -1,7 +1,6 @@
 -- Where a path leads, by the tree as the code has it and as the flat store has it.
-use Rattle.std.proofs.Common.{◌≡◌, ◌≢◌, ℕ, suc, zero, ◌+◌, ◌<◌, ◌≤◌, Bool, true, false, cond, eqb, ◌&&◌, nat_le, List, [], ◌∷◌, ◌++◌, length, Option, Some, None, refl, sym, ap, subst, ◌∙◌, arith}
+use Rattle.std.proofs.Common.{◌≡◌, ℕ, Bool, true, false, cond, eqb, nat_le, List, [], ◌∷◌, ◌++◌, length, Option, Some, None, refl, sym, ap, ◌∙◌}
 use Rattle.std.specs.Prelude.{Result, Ok, Err, is_some}
-use Rattle.std.proofs.lemmas.Bool.Decides.{nat_tests}
 use Rattle.book.specs.declared.replies.Reply.{Reply}
 use Rattle.book.specs.declared.replies.Reply.TheVariants as reply
 use Rattle.storage_terms.specs.Tree.{Node as Term, Walk, LeadsTo, Missing, InSegment, branch_in, has_directory, walk_in}
@@ -11,7 +10,7 @@ use Rattle.dir_tree.specs.declared.node.Node.{Node}
 use Rattle.dir_tree.specs.declared.node.PathFault.{PathFault}
 use Rattle.dir_tree.specs.declared.node.AddFault.{AddFault}
 use Rattle.dir_tree.specs.declared.node.AddFault.TheVariants as add_fault
-use Rattle.runner.specs.Places.{refusal_of, segment_at, segment_of_path, directory_at, directory_of_path, branch_refusal, unless_refused, new_branch_in, new_branch_at, new_branch_of}
+use Rattle.runner.specs.Places.{segment_at, segment_of_path, directory_at, directory_of_path, branch_refusal, unless_refused, new_branch_in, new_branch_at, new_branch_of}
 
 pub directory_same : (quota : ℕ → ℕ) (nodes : List Node) (u : ℕ) → has_directory (with_quotas quota nodes) u ≡ is_directory nodes u
 directory_same quota [] u = refl

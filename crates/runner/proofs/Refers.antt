@@ -1,30 +1,18 @@
 -- References: what is looked for, and the flat store's answer.
-use Rattle.std.proofs.Common.{◌≡◌, ◌≢◌, ℕ, suc, zero, ◌+◌, ◌-◌, ◌*◌, ◌/◌, ◌%◌, ◌<◌, ◌≤◌, Bool, true, false, cond, eqb, ◌&&◌, ◌||◌, nat_le, List, [], ◌∷◌, ◌++◌, length, get_or, set, replicate, Option, Some, None, refl, sym, ap, subst, ◌∙◌, arith}
-use Rattle.std.specs.Option.{option_and_then}
+use Rattle.std.proofs.Common.{◌≡◌, ℕ, ◌+◌, ◌-◌, ◌*◌, ◌/◌, ◌%◌, ◌<◌, Bool, true, false, cond, nat_le, List, length, get_or, Option, Some, None, refl, sym, ap, ◌∙◌, arith}
 use Rattle.std.proofs.lemmas.Bool.Decides.{nat_tests}
-use Rattle.std.proofs.lemmas.List.{get_or-replicate, get_or-set_same}
-use Rattle.script.specs.Plans.{Plan, command_at}
-use Rattle.script.specs.declared.commands.Command.{Command}
-use Rattle.script.specs.declared.commands.Command.TheVariants as command
+use Rattle.script.specs.Plans.{Plan}
 use Rattle.book.specs.declared.entries.Entry.{Entry}
-use Rattle.book.specs.declared.replies.Reply.{Reply}
 use Rattle.book.specs.declared.replies.Reply.TheVariants as reply
 use Rattle.storage_terms.specs.Tree.{Node, node_in}
 use Rattle.flat_store.specs.Words.{word_at}
-use Rattle.flat_store.specs.Pages.{is_stored}
-use Rattle.flat_store.specs.Flat.{Store, known_uid, segment_of, is_past, read_of, write_of, read_reply, write_reply, is_used_up, is_volume_full}
+use Rattle.flat_store.specs.Flat.{Store, known_uid, segment_of, is_past, read_of, write_of, read_reply, write_reply}
 use Rattle.flat_store.specs.Legal.{store_after}
 use Rattle.known_segs.specs.Known.{uid_of}
-use Rattle.page_table.specs.declared.Ptw.{Ptw}
-use Rattle.page_table.specs.declared.Ptw.TheVariants.{Null, Out, Here, Leaving}
-use Rattle.page_control.specs.Picture.{picture, is_stored as is_filed}
-use Rattle.page_control.specs.Tied.{is_out}
-use Rattle.paged_segs.specs.Segs.{word_at as ptw_at, home_at, volume_at}
-use Rattle.paged_segs.specs.Counts.{is_full}
+use Rattle.page_control.specs.Picture.{picture}
+use Rattle.paged_segs.specs.Segs.{volume_at}
 use Rattle.runner.specs.Tables.{Held, AreTied, IsSegment, IsSegmentIn}
-use Rattle.runner.specs.Looks.{look_of, look_known, look_within, look_page, look_unstored, AreSound, IsTarget, IsBlank, IsSeen}
-use Rattle.runner.specs.declared.looks.Look.{Look}
-use Rattle.runner.specs.declared.looks.Look.TheVariants as look
+use Rattle.runner.specs.Looks.{AreSound, IsTarget}
 use Rattle.runner.specs.Machines.{Holds}
 
 -- the node of a segment

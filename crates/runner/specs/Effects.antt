@@ -1,14 +1,12 @@
 -- What each call on the tables of a run does (own).
-use Rattle.std.specs.Prelude.{◌≡◌, ◌<◌, ◌≤◌, ℕ, ◌+◌, ◌-◌, ◌%◌, ◌/◌, Bool, false, true, List, [], ◌∷◌, ◌++◌, length, Option, Some, None, replicate, slice_set}
-use Rattle.dir_tree.specs.Nodes.{added}
-use Rattle.dir_tree.specs.declared.node.NewNode.{NewNode}
+use Rattle.std.specs.Prelude.{◌≡◌, ℕ, ◌+◌, ◌-◌, true, replicate, slice_set}
 use Rattle.page_control.specs.declared.Left.{Left}
 use Rattle.page_control.specs.declared.Left.TheVariants as left
 use Rattle.page_control.specs.Plain.{Plain}
 use Rattle.page_control.specs.Picture.{picture, is_stored as is_filed, changed_at}
 use Rattle.paged_segs.specs.declared.Evicted.{Evicted}
-use Rattle.paged_segs.specs.Segs.{Segs, volume_at}
-use Rattle.paged_segs.specs.Counts.{taken, size, used, entries, one_more}
+use Rattle.paged_segs.specs.Segs.{volume_at}
+use Rattle.paged_segs.specs.Counts.{taken, used, one_more}
 use Rattle.paged_segs.specs.Effects.{IsEmptied, HasSizes}
 use Rattle.runner.specs.Tables.{Held}
 

@@ -1,5 +1,5 @@
 -- What the supervisor finds where a reference goes, by the tables (Bensoussan, Clingen and Daley 1972).
-use Rattle.std.specs.Prelude.{◌≡◌, ◌≢◌, ◌<◌, ◌≤◌, ℕ, ◌+◌, ◌-◌, ◌*◌, ◌/◌, Bool, false, true, ◌==◌, nat_le, if◌then◌else◌, List, length, Option, Some, None, is_some, replicate, slice_index}
+use Rattle.std.specs.Prelude.{◌≡◌, ◌≢◌, ◌<◌, ◌≤◌, ℕ, ◌+◌, ◌-◌, ◌*◌, ◌/◌, Bool, false, true, ◌==◌, nat_le, if◌then◌else◌, length, Option, Some, None, is_some, replicate, slice_index}
 use Rattle.book.specs.declared.replies.Reply.TheVariants as reply
 use Rattle.page_table.specs.declared.Ptw.{Ptw}
 use Rattle.page_table.specs.declared.Ptw.TheVariants.{Null, Out, Here, Leaving}

@@ -1,12 +1,12 @@
 -- What the machine of a run keeps, and what its steps do (own).
-use Rattle.std.specs.Prelude.{◌≡◌, ◌≢◌, ◌<◌, ◌≤◌, ◌⊎◌, ℕ, ◌+◌, Bool, false, true, List, [], ◌∷◌, length, Option, Some, None, slice_index, slice_index_or}
+use Rattle.std.specs.Prelude.{◌≡◌, ◌<◌, ◌≤◌, ℕ, ◌+◌, false, true, List, [], ◌∷◌, length, Option, Some, slice_index, slice_index_or}
 use Rattle.script.specs.Plans.{Plan, command_at, commands_of}
 use Rattle.script.specs.declared.commands.Command.{Command}
 use Rattle.script.specs.declared.commands.Command.TheVariants as command
 use Rattle.book.specs.declared.entries.Entry.{Entry}
 use Rattle.book.specs.declared.entries.Entry.TheVariants as entry
 use Rattle.book.specs.declared.replies.Reply.{Reply}
-use Rattle.flat_store.specs.Flat.{Store, moved_on, entries_of, records_of}
+use Rattle.flat_store.specs.Flat.{Store, entries_of, records_of}
 use Rattle.flat_store.specs.Legal.{IsLegal, IsComplete, IsAnswer, store_after, after_do}
 use Rattle.page_control.specs.declared.Left.{Left}
 use Rattle.page_control.specs.declared.Left.TheVariants as left

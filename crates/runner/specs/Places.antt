@@ -1,5 +1,5 @@
 -- Where a path leads, and where a new segment goes, by the directory tree (Bensoussan, Clingen and Daley 1972).
-use Rattle.std.specs.Prelude.{◌≡◌, ◌<◌, ◌≤◌, ◌^◌, ℕ, Bool, false, true, ◌==◌, nat_le, if◌then◌else◌, List, [], ◌∷◌, ◌++◌, length, Option, Some, None, Result, Ok, Err, is_some}
+use Rattle.std.specs.Prelude.{◌≡◌, ℕ, false, true, ◌==◌, nat_le, if◌then◌else◌, List, [], ◌∷◌, ◌++◌, length, Option, Some, None, Result, Ok, Err, is_some}
 use Rattle.mnames.specs.declared.principals.Who.{Who}
 use Rattle.script.specs.Plans.{Plan, who_of}
 use Rattle.script.specs.declared.commands.Command.{Command}
@@ -8,11 +8,11 @@ use Rattle.book.specs.declared.replies.Reply.{Reply}
 use Rattle.book.specs.declared.replies.Reply.TheVariants as reply
 use Rattle.storage_terms.specs.Tree.{Node, Walk, LeadsTo, Missing, InSegment, branch_in, has_directory, walk_in}
 use Rattle.flat_store.specs.Flat.{parts_of, owner_row}
-use Rattle.dir_tree.specs.Nodes.{Branches, with_quotas, added, is_directory}
+use Rattle.dir_tree.specs.Nodes.{with_quotas, added, is_directory}
 use Rattle.dir_tree.specs.declared.node.PathFault.{PathFault}
 use Rattle.dir_tree.specs.declared.node.PathFault.TheVariants as path_fault
 use Rattle.page_control.specs.Picture.{picture, is_stored as is_filed}
-use Rattle.paged_segs.specs.Segs.{Segs, home_at}
+use Rattle.paged_segs.specs.Segs.{home_at}
 use Rattle.paged_segs.specs.Counts.{used, entries, one_more}
 use Rattle.paged_segs.specs.Effects.{made, HasSizes}
 use Rattle.runner.specs.Tables.{Held, root_quota}

@@ -1,5 +1,5 @@
 -- How a run begins: fresh volumes, and no segment (own).
-use Rattle.std.specs.Prelude.{ℕ, List, [], map, replicate}
+use Rattle.std.specs.Prelude.{List, [], map, replicate}
 use Rattle.script.specs.declared.plan.VolumeLine.{VolumeLine}
 use Rattle.volumes.specs.declared.Part.{Part}
 use Rattle.volumes.specs.CoreDrive.{DriveState}

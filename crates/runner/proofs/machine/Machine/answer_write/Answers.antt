@@ -1,4 +1,4 @@
-use Rattle.std.proofs.Common.{◌≡◌, ◌∷◌, ◌++◌, [], None, ap, ◌∙◌}
+use Rattle.std.proofs.Common.{◌∷◌, ◌++◌, [], None, ap, ◌∙◌}
 use Rattle.book.specs.declared.entries.Entry.{Entry}
 use Rattle.runner.specs.Machines.{IsDone, done_at}
 use Rattle.runner.proofs.Booking.{IsBooked, holds_step, at_step}

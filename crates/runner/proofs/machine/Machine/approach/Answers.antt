@@ -1,5 +1,4 @@
-use Rattle.std.proofs.Common.{◌≡◌, ℕ, refl, sym, ap, ◌∙◌}
-use Rattle.runner.specs.Looks.{look_of}
+use Rattle.std.proofs.Common.{sym}
 use Rattle.runner.proofs.Looked.{bring_target, target_kept, seen_here, look_here}
 use Rattle.runner.proofs.machine.Machine.approach.Goals as goal
 

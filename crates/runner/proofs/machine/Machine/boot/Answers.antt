@@ -1,4 +1,4 @@
-use Rattle.std.proofs.Common.{◌≡◌, ℕ, List, [], sym, subst, ap, ◌∙◌}
+use Rattle.std.proofs.Common.{ℕ, List, [], sym, subst, ap, ◌∙◌}
 use Rattle.script.specs.Plans.{Plan}
 use Rattle.book.specs.declared.entries.Entry.{Entry}
 use Rattle.paged_segs.specs.Kept.{AreFresh}

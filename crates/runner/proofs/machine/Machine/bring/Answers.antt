@@ -1,4 +1,4 @@
-use Rattle.std.proofs.Common.{◌≡◌, ◌+◌, ◌∷◌, ◌++◌, []}
+use Rattle.std.proofs.Common.{◌+◌}
 use Rattle.book.specs.declared.entries.Entry.TheVariants as entry
 use Rattle.runner.proofs.Booking.{IsBooked, holds_here, at_here}
 use Rattle.runner.proofs.machine.Machine.bring.Goals as goal

@@ -1,9 +1,8 @@
-use Rattle.std.proofs.Common.{◌≡◌, ℕ, ◌<◌, Bool, true, false, cond, eqb, Some, Option, ap, sym, subst, ◌∙◌, refl, arith}
-use Rattle.std.specs.Prelude.{Ok, Err, Result}
+use Rattle.std.proofs.Common.{◌≡◌, true, false, eqb, Some, ap, sym, subst, ◌∙◌, refl, arith}
+use Rattle.std.specs.Prelude.{Ok}
 use Rattle.script.specs.Plans.{Plan, commands_of, who_of}
 use Rattle.script.specs.declared.commands.Command.{Command}
 use Rattle.script.specs.declared.commands.Command.TheVariants as command
-use Rattle.book.specs.declared.replies.Reply.TheVariants as reply
 use Rattle.runner.specs.Tables.{root_quota}
 use Rattle.mnames.specs.declared.principals.Who.{Who}
 use Rattle.paged_segs.specs.Counts.{used, entries}

@@ -1,4 +1,4 @@
-use Rattle.std.proofs.Common.{◌≡◌, None, subst, inl, inr}
+use Rattle.std.proofs.Common.{None, subst, inl, inr}
 use Rattle.runner.specs.Looks.{IsNotOut}
 use Rattle.runner.proofs.Looked.{through_target, read_makes_nothing}
 use Rattle.runner.proofs.machine.Machine.read.Goals as goal

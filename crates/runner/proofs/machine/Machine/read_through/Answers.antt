@@ -1,9 +1,8 @@
-use Rattle.std.proofs.Common.{◌≡◌, ◌+◌, ◌%◌, ◌∷◌, ◌++◌, [], Some, None, ap, sym, subst, ◌∙◌}
+use Rattle.std.proofs.Common.{◌∷◌, ◌++◌, [], Some, ap, ◌∙◌}
 use Rattle.book.specs.declared.entries.Entry.{Entry}
-use Rattle.book.specs.declared.entries.Entry.TheVariants as entry
 use Rattle.book.specs.declared.replies.Reply.TheVariants as reply
 use Rattle.runner.specs.Machines.{IsDone, done_at}
-use Rattle.runner.proofs.Booking.{IsBooked, holds_step, at_step, holds_here, at_here}
+use Rattle.runner.proofs.Booking.{IsBooked, holds_step, at_step}
 use Rattle.runner.proofs.Answering.{read_through}
 use Rattle.runner.proofs.machine.Machine.read_through.Goals as goal
 

@@ -1,6 +1,5 @@
-use Rattle.std.proofs.Common.{◌≡◌, ◌∷◌, ◌++◌, [], None, ap, ◌∙◌}
+use Rattle.std.proofs.Common.{◌∷◌, ◌++◌, [], None, ap, ◌∙◌}
 use Rattle.book.specs.declared.entries.Entry.{Entry}
-use Rattle.book.specs.declared.replies.Reply.TheVariants as reply
 use Rattle.runner.specs.Machines.{IsDone, done_at}
 use Rattle.runner.proofs.Booking.{IsBooked, holds_step, at_step}
 use Rattle.runner.proofs.NewSegments.{known_refused}

@@ -1,4 +1,4 @@
-use Rattle.std.proofs.Common.{◌≡◌, Some}
+use Rattle.std.proofs.Common.{Some}
 use Rattle.runner.proofs.Looked.{through_target}
 use Rattle.runner.proofs.machine.Machine.write.Goals as goal
 

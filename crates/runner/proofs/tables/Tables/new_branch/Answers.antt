@@ -1,5 +1,5 @@
-use Rattle.std.proofs.Common.{◌≡◌, List, Some, None, ap, sym, ◌∙◌}
-use Rattle.std.specs.Prelude.{Ok, Err}
+use Rattle.std.proofs.Common.{List, ap, sym, ◌∙◌}
+use Rattle.std.specs.Prelude.{Ok}
 use Rattle.dir_tree.specs.Nodes.{with_quotas}
 use Rattle.runner.specs.Places.{unless_refused}
 use Rattle.runner.proofs.Paths.{new_refused, new_found}

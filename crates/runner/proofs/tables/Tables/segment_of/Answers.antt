@@ -1,4 +1,4 @@
-use Rattle.std.proofs.Common.{◌≡◌, ap, cond, sym, ◌∙◌, Bool}
+use Rattle.std.proofs.Common.{ap, cond, sym, ◌∙◌, Bool}
 use Rattle.std.specs.Prelude.{Ok, Err}
 use Rattle.book.specs.declared.replies.Reply.TheVariants as reply
 use Rattle.runner.proofs.Paths.{segment_found}
