@@ -3,7 +3,8 @@ ghost use Rattle.script.specs.Causes.{cause_text};
 
 use std::fmt;
 
-/// Why a line of a script is refused (own). The causes come in this order where several hold.
+/// Why a line of a script is refused (own). Where several hold, `BadChar`, `Order` and `Fields` come first, in this
+/// order, then the cause of the first bad field, then `Many`.
 #[derive(Clone, Copy, Debug, PartialEq, Eq)]
 pub enum Cause {
     /// A byte of the line is no printable ASCII character.
@@ -14,11 +15,11 @@ pub enum Cause {
     Fields,
     /// A numeric field isn't a number, or is out of its range.
     Number,
-    /// A name, a principal or a mode isn't one.
+    /// A name, a principal, a row of access, a mode or another such word isn't one.
     Name,
     /// A path isn't one.
     Path,
-    /// A volume's name was given before.
+    /// A volume's name was given before, or its fast store.
     Twice,
     /// A volume wasn't given.
     Unknown,
