@@ -1,4 +1,5 @@
-//! The listing of a run: what each process was answered, then the accounts and the volumes.
+//! The listing of a run: by its print mode what each process was answered, every entry of the book or neither of the
+//! two, then the accounts and the volumes.
 #![tactic(auto)]
 
 mod answers;

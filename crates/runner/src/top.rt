@@ -194,7 +194,7 @@ fn run_script<K: Sink>(alloc: Global, script: Script, out: &mut K) -> Finished
 ///
 /// The causes are looked at in this order: the words (`Usage`), a read that fails (`ReadFault`), a source that is too
 /// long (`TooLong`), a script that is refused (`Script`), one that doesn't run so far (`Later`), a write that fails
-/// (`WriteFault`). Want of memory (`Memory`) may stand in place of any but the first two, and nothing was written then.
+/// (`WriteFault`). Want of memory (`Memory`) may stand in place of any but the first, and nothing was written then.
 /// The runtime and the gate are for a machine of several processors, whose workers call the gate between two steps;
 /// one process on one processor needs neither.
 #[tactic(auto, using(crate::proofs::Texts::nothing_kept, crate::proofs::Texts::nothing_read, std::proofs::lemmas::Grind::common_steps))]
