@@ -2,7 +2,7 @@
 """Measures `multics run`: measure.py BINARY [--instructions] [--repeat N] [CASE..]
 
 Each case is a script that is made here. For each it prints the exit status, the bytes in and out, the least and the
-middle wall time, the peak of memory, and with --instructions what valgrind's callgrind counts.
+middle wall time, the peak of memory (GNU time's), and with --instructions what valgrind's callgrind counts.
 """
 import argparse, os, random, statistics, subprocess, tempfile, time
 
@@ -43,17 +43,14 @@ CASES = {
 
 
 def run(binary, path, repeat):
-    times, peaks = [], []
+    times, peak = [], 0
     for _ in range(repeat):
         with open(path) as source:
             start = time.perf_counter()
-            child = subprocess.Popen([binary, "run"], stdin=source, stdout=subprocess.PIPE)
-            written = sum(len(part) for part in iter(lambda: child.stdout.read(1 << 20), b""))
-            _, status, usage = os.wait4(child.pid, 0)
+            child = subprocess.run(["/usr/bin/time", "-f", "%M", binary, "run"], stdin=source, capture_output=True)
             times.append((time.perf_counter() - start) * 1000)
-            peaks.append(usage.ru_maxrss)
-            child.returncode = os.waitstatus_to_exitcode(status)
-    return child.returncode, written, min(times), statistics.median(times), max(peaks)
+            peak = max(peak, int(child.stderr.split()[-1]))
+    return child.returncode, len(child.stdout), min(times), statistics.median(times), peak
 
 
 def instructions(binary, path):
