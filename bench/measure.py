@@ -20,6 +20,12 @@ def references(frames):
     return "\n".join(lines + ["end"]) + "\n"
 
 
+def unended(commands):
+    """So many references and no end: a script that is read and then refused."""
+    lines = references(64).split("\n")[:commands + 4]
+    return "\n".join(lines) + "\n"
+
+
 def segments(count):
     """So many segments of a page each."""
     lines = ["machine 1 64 12 4 4 4", "quota 1000", "volume alpha 8 4097", "process Smith"]
@@ -33,6 +39,8 @@ CASES = {
     "1024 segments": lambda: segments(1024),
     "2048 segments": lambda: segments(2048),
     "4096 segments": lambda: segments(4096),
+    "99,999 commands without an end": lambda: unended(99_999),
+    "50,000 commands without an end": lambda: unended(50_000),
     "a comment as long as a script": lambda: "#" * SOURCE_LIMIT,
     "line feeds as many as a script has bytes": lambda: "\n" * SOURCE_LIMIT,
     "a line as long as a script": lambda: "a" * SOURCE_LIMIT,
