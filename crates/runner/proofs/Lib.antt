@@ -5,7 +5,6 @@ pub mod Leaving
 pub mod Refers
 pub mod Runnable
 pub mod Boots
-pub mod Calls
 pub mod Creates
 pub mod Disks
 pub mod Endings

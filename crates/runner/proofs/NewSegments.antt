@@ -1,5 +1,5 @@
 -- Segments made and made known: the flat store's answers.
-use Rattle.std.proofs.Common.{◌≡◌, ◌≢◌, ℕ, suc, zero, ◌+◌, ◌<◌, ◌≤◌, ◌^◌, Bool, true, false, cond, eqb, nat_le, List, [], ◌∷◌, length, get_or, Option, Some, None, Result, refl, sym, ap, subst, ◌∙◌, arith}
+use Rattle.std.proofs.Common.{◌≡◌, ◌≢◌, ℕ, suc, zero, ◌+◌, ◌<◌, ◌≤◌, Bool, true, false, cond, eqb, nat_le, List, [], ◌∷◌, length, get_or, Option, Some, None, Result, refl, sym, ap, subst, ◌∙◌, arith}
 use Rattle.std.specs.Prelude.{Ok, Err, is_some, IfSome, slice_get}
 use Rattle.std.proofs.lemmas.Bool.Decides.{nat_tests}
 use Rattle.script.specs.Plans.{Plan, command_at, commands_of, who_of}
@@ -270,9 +270,6 @@ found_at (x ∷ xs) (suc i) c some is = found_at xs i c some is
 pub mkseg_there : (p : Plan) (place : ℕ) (xs : List Command) (c : Command) → IsMkSeg (command_at p 0 place) → xs ≡ commands_of p 0 → c ≡ get_or xs place c → command_at p 0 place ≡ Some c
 mkseg_there p place xs c h same is = ap (λ (ys : List Command). slice_get ys place) (sym same) ∙ found_at xs place c (λ none. subst IsMkSeg (sym (ap (λ (ys : List Command). slice_get ys place) same) ∙ none) h) is
 
-pub initiate_there : (p : Plan) (place : ℕ) (xs : List Command) (c : Command) → IsInitiate (command_at p 0 place) → xs ≡ commands_of p 0 → c ≡ get_or xs place c → command_at p 0 place ≡ Some c
-initiate_there p place xs c h same is = ap (λ (ys : List Command). slice_get ys place) (sym same) ∙ found_at xs place c (λ none. subst IsInitiate (sym (ap (λ (ys : List Command). slice_get ys place) same) ∙ none) h) is
-
 pub new_told : (p : Plan) (t : Held) (place pages volume : ℕ) (path : List (List ℕ)) (x : Result (ℕ × List ℕ) Reply) → command_at p 0 place ≡ Some (command.MkSeg path pages volume) → x ≡ new_branch_of (with_quotas (root_quota p.quota) t.tree.nodes) path → new_segment_by p t (command_at p 0 place) ≡ with_room p.quota t (who_of p 0) pages volume x
 new_told p t place pages volume path x is found = ap (new_segment_by p t) is ∙ ap (with_room p.quota t (who_of p 0) pages volume) (sym found)
 
@@ -301,22 +298,6 @@ volume_there p es t place x h asked e =
     by_branch : (c : HasMkSeg (command_at p 0 place)) (o : Result (ℕ × List ℕ) Reply) → Ok x ≡ with_room p.quota t (who_of p 0) c.pages c.volume o → x.volume < length t.segs.storage.disks
     by_branch c (Err q) e = absurd cc
     by_branch c (Ok b) e = by_room c b.0 b.1 (eqb (used t.segs.storage.vtocs c.volume) (entries t.segs.storage.vtocs c.volume)) e
-
--- there is a next uid, and room for a length
-pub next_few : (p : Plan) (es : List Entry) (t : Held) (x : NewSegment) → Holds p es t → CanMake t x → (t.tree.next < 2 ^ 31) × (length t.lengths < 4096)
-next_few p es t x h can =
-    let s = store_after p es in
-    let free : branch_refusal s.nodes x.directory x.name ≡ None = ap (λ (ns : List Node). branch_refusal ns x.directory x.name) (nodes_are p s t h.tied) ∙ can.free (root_quota p.quota) in
-    let few : length s.nodes ≤ 4096 = room_by s x (is_some (branch_in s.nodes x.directory x.name)) refl free in
-    (omega (arith, few, h.tied.named.next, h.tied.named.count, h.tied.named.nodes_count), omega (arith, few, h.tied.named.lengths, h.tied.named.nodes_count))
-  where
-    room_in : (s : Store) (x : NewSegment) (z : Bool) → nat_le 4097 (length s.nodes) ≡ z → is_some (branch_in s.nodes x.directory x.name) ≡ false → branch_refusal s.nodes x.directory x.name ≡ None → length s.nodes ≤ 4096
-    room_in s x true f g none = absurd (let some : branch_refusal s.nodes x.directory x.name ≡ Some reply.Room = rw (g, f) refl in cc)
-    room_in s x false f g none = grind (arith, nat_tests)
-
-    room_by : (s : Store) (x : NewSegment) (z : Bool) → is_some (branch_in s.nodes x.directory x.name) ≡ z → branch_refusal s.nodes x.directory x.name ≡ None → length s.nodes ≤ 4096
-    room_by s x true g none = absurd (let some : branch_refusal s.nodes x.directory x.name ≡ Some reply.Exists = rw g refl in cc)
-    room_by s x false g none = room_in s x (nat_le 4097 (length s.nodes)) refl g none
 
 pub known_refused : (p : Plan) (es : List Entry) (t : Held) (place : ℕ) (r : Reply) → Holds p es t → IsAt p es place → IsInitiate (command_at p 0 place) → Err r ≡ wanted_by p t (command_at p 0 place) → IsDone p es t t place r
 known_refused p es t place r h at asked e = let c = initiate_of (command_at p 0 place) asked in know_refused p es t place c.path r h at c.is (e ∙ ap (wanted_by p t) c.is)

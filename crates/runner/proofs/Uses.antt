@@ -1,15 +1,10 @@
 -- What the calls on the tree and on the numbers of a process answer, in the terms of the flat store.
-use Rattle.std.proofs.Common.{◌≡◌, ℕ, ◌+◌, ◌<◌, ◌≤◌, Bool, false, eqb, List, length, Option, Some, None, Result, IfSome, refl, sym, ap, subst, ◌∙◌, arith}
+use Rattle.std.proofs.Common.{◌≡◌, ℕ, ◌+◌, ◌<◌, ◌≤◌, false, eqb, List, length, Option, Some, None, IfSome, refl, sym, ap, subst, ◌∙◌, arith}
 use Rattle.std.proofs.lemmas.Bool.Decides.{nat_tests}
-use Rattle.std.proofs.lemmas.List.{length-map}
 use Rattle.script.specs.Plans.{Plan}
-use Rattle.storage_terms.specs.Tree.{Node, walk_in}
 use Rattle.flat_store.specs.Flat.{Store, number_for, known_by, known_or_full}
-use Rattle.dir_tree.specs.declared.node.PathFault.{PathFault}
-use Rattle.dir_tree.specs.Nodes.{Branches, as_term, with_quotas, path_answer, add_fault_of}
 use Rattle.known_segs.specs.Known.{number_for as number_in, with_number}
-use Rattle.page_control.specs.declared.Home.{Home}
-use Rattle.runner.specs.Tables.{Held, root_quota, AreNamed, AreTied}
+use Rattle.runner.specs.Tables.{Held, AreTied}
 use Rattle.runner.proofs.Numbers.{number_same, tied_known}
 
 -- where the quota isn't used up there is room for one more page
@@ -18,19 +13,6 @@ room_left p s t h off =
     let total = h.counted.stored in
     let most = h.counted.within in
     grind (arith, nat_tests)
-
-pub nodes_length : (p : Plan) (ns : List Node) (free : ℕ) (homes : List Home) (tree : Branches) (counts : List ℕ) → AreNamed p ns free homes tree counts → length ns ≡ length tree.nodes
-nodes_length p ns free homes tree counts h = ap length h.nodes ∙ length-map tree.nodes (as_term (root_quota p.quota))
-
--- `walk`
-pub walked : (p : Plan) (ns : List Node) (free : ℕ) (homes : List Home) (tree : Branches) (counts : List ℕ) (path : List (List ℕ)) (r : Result ℕ PathFault) → AreNamed p ns free homes tree counts
-    → ((quota : ℕ → ℕ) → r ≡ path_answer (walk_in (with_quotas quota tree.nodes) path)) → r ≡ path_answer (walk_in ns path)
-walked p ns free homes tree counts path r h all = all (root_quota p.quota) ∙ ap (λ (xs : List Node). path_answer (walk_in xs path)) (sym h.nodes)
-
--- `may_add`, `add_branch`
-pub add_fault_same : (p : Plan) (ns : List Node) (free : ℕ) (homes : List Home) (tree : Branches) (counts : List ℕ) (directory : ℕ) (name : List ℕ) (dir : Bool) → AreNamed p ns free homes tree counts
-    → add_fault_of (with_quotas (root_quota p.quota) tree.nodes) directory name dir ≡ add_fault_of ns directory name dir
-add_fault_same p ns free homes tree counts directory name dir h = ap (λ (xs : List Node). add_fault_of xs directory name dir) (sym h.nodes)
 
 -- `make_known`
 pub tied_make_known : (p : Plan) (s : Store) (t : Held) (now : List (Option ℕ)) (uid : ℕ) (r : Option ℕ) → AreTied p s t → 2 ≤ uid → uid < length t.segs.homes + 2
