@@ -128,15 +128,16 @@ fn others_wait_for_the_initializer(rt: HostRuntime) -> Result<(), Fail> {
 fn segments_are_found_by_their_names(rt: HostRuntime) -> Result<(), Fail> {
     let script = read_script(rt.alloc(), WAITING)?;
     let mut store = FlatStore::boot(rt.alloc(), &script)?;
-    for entry in [
+    let entries = [
         done_by(0, 0, Reply::Made(2)),
         done_by(0, 1, Reply::Done),
         done_by(1, 0, Reply::Made(3)),
         done_by(1, 1, Reply::Known(0)),
         done_by(1, 2, Reply::Known(1)),
-    ] {
-        assert!(rt; store.allows(&script, entry));
-        store.follow(&script, entry)?;
+    ];
+    for entry in entries.iter() {
+        assert!(rt; store.allows(&script, *entry));
+        store.follow(&script, *entry)?;
     }
     assert_eq!(rt; store.entries(0), 3);
     Ok(())

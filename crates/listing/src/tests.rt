@@ -1,3 +1,5 @@
+ghost use Rattle.std.specs.Prelude.{◌<◌, ◌^◌, length};
+
 use super::*;
 use crate::answers::push_body;
 use book::{Book, Entry, Reply};
@@ -42,7 +44,9 @@ end
 const SUMMARY: &str = "> quota 4 used 0\nvolume alpha records 8 taken 0 entries 4 taken 1\n";
 
 /// What the listing of such a book of a script has before its summary.
-fn body(alloc: Global, script: &[u8]) -> Result<String, Fail> {
+fn body(alloc: Global, script: &[u8]) -> Result<String, Fail>
+    requires { length script.now < 2 ^ 31 }
+{
     let mut book = Book::new(alloc, read_script(alloc, script)?)?;
     book.reserve(3)?;
     book.push(Entry::Do {

@@ -1,5 +1,5 @@
 use super::*;
-use std::alloc::Global;
+use std::process::Abort;
 use std::test::Fail;
 
 // every kind of line, with comments, spaces and zeros that the canonical text lacks
@@ -77,16 +77,17 @@ end
 ";
 
 /// The canonical text of the script that the bytes are.
-fn again(alloc: Global, text: &[u8]) -> Result<Vec<u8>, Fail> {
-    let script = read_script(alloc, text)?;
-    Ok(script_text(alloc, &script)?)
+fn again(rt: &(impl Abort + AllocGlobal), text: &[u8]) -> Result<Vec<u8>, Fail> {
+    assert!(rt; text.len() <= 4_194_304);
+    let script = read_script(rt.alloc(), text)?;
+    Ok(script_text(rt.alloc(), &script)?)
 }
 
 #[test]
 fn a_script_is_written_in_its_canonical_text(rt: HostRuntime) -> Result<(), Fail> {
-    let first = again(rt.alloc(), LOOSE.as_bytes())?;
+    let first = again(&rt, LOOSE.as_bytes())?;
     assert_eq!(rt; first.as_slice(), CANONICAL.as_bytes());
-    let second = again(rt.alloc(), first.as_slice())?;
+    let second = again(&rt, first.as_slice())?;
     assert_eq!(rt; second.as_slice(), CANONICAL.as_bytes());
     Ok(())
 }
@@ -101,7 +102,7 @@ fn what_is_printed_is_always_said(rt: HostRuntime) -> Result<(), Fail> {
     ] {
         let loose = format!(in rt.alloc(); "{head}{line}")?;
         let canonical = format!(in rt.alloc(); "{head}{wanted}")?;
-        let text = again(rt.alloc(), loose.as_bytes())?;
+        let text = again(&rt, loose.as_bytes())?;
         assert_eq!(rt; text.as_slice(), canonical.as_bytes());
     }
     Ok(())
