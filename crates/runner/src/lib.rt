@@ -11,6 +11,8 @@ mod runs;
 mod starting;
 mod steps;
 mod tables;
+#[cfg(test)]
+mod tests;
 mod top;
 
 pub use top::{Finished, SCRIPT_BYTES, Status, Words, multics};
