@@ -1,16 +1,20 @@
 -- A page that wasn't stored gets its first word.
-use Rattle.std.proofs.Common.{◌≡◌, ℕ, ◌+◌, ◌/◌, ◌%◌, ◌<◌, ◌≤◌, Bool, true, false, cond, eqb, ◌&&◌, ◌||◌, List, length, refl, sym, ap, ◌∙◌, arith, get_or, set, replicate}
+use Rattle.std.proofs.Common.{◌≡◌, ℕ, ◌+◌, ◌/◌, ◌%◌, ◌<◌, ◌≤◌, Bool, true, false, cond, eqb, ◌&&◌, ◌||◌, List, Option, Some, None, length, refl, sym, ap, subst, ◌∙◌, ◌-◌, arith, get_or, set, replicate}
 use Rattle.std.proofs.lemmas.Bool.Decides.{nat_tests}
-use Rattle.std.proofs.lemmas.List.{length-replicate}
+use Rattle.std.proofs.lemmas.List.{length-replicate, length-map, get_or-set_same}
 use Rattle.script.specs.Plans.{Plan}
 use Rattle.flat_store.specs.Words.{with_word}
 use Rattle.flat_store.specs.Pages.{is_stored, with_stored}
 use Rattle.flat_store.specs.Flat.{Store}
 use Rattle.flat_store.proofs.PageLaws.{is_stored-with, once_with, length-with_new}
 use Rattle.page_control.specs.declared.Home.{Home}
-use Rattle.page_control.specs.Plain.{Plain}
+use Rattle.core_map.specs.CoreMap.{IsLeastFreeFrame}
+use Rattle.page_table.specs.declared.Ptw.TheVariants.{Here}
+use Rattle.page_control.specs.Plain.{Plain, bindings, binding_at}
 use Rattle.page_control.specs.Picture.{picture, is_stored as is_filed, changed_at}
-use Rattle.paged_segs.specs.Segs.{volume_at}
+use Rattle.paged_segs.specs.Segs.{Segs, volume_at, word_at}
+use Rattle.paged_segs.specs.Kept.{IsKept}
+use Rattle.paged_segs.proofs.Located.{page_bound}
 use Rattle.paged_segs.specs.Counts.{taken, size, used, entries, one_more}
 use Rattle.runner.specs.Tables.{Held, ArePages, AreTied}
 use Rattle.runner.proofs.Parts.{named_same, numbered_same}
@@ -80,3 +84,13 @@ tied_create p s old new i o w h li lo off zeros room shown filed records places 
       };
       processes = h.processes;
     }
+
+-- the page to which a free frame was bound is there
+pub bound_there : (s now : Segs) (i p f : ℕ) → IsKept now → IsLeastFreeFrame s.storage.core f
+    → bindings now.storage.core ≡ set (bindings s.storage.core) f (Some (i + 2, p)) → word_at now i p ≡ Here f
+bound_there s now i p f k least binding =
+    let inside : f < length (bindings s.storage.core) = subst (λ n. f < n) (sym (length-map s.storage.core.frames _)) least.within in
+    let at : binding_at (bindings now.storage.core) f ≡ Some (i + 2, p) =
+    ap (λ (xs : List (Option (ℕ × ℕ))). binding_at xs f) binding ∙ get_or-set_same (bindings s.storage.core) f (Some (i + 2, p)) None inside in
+    let back : (i + 2) - 2 ≡ i = omega (arith) in
+    subst (λ j. word_at now j p ≡ Here f) back (page_bound now f (i + 2) p k at).here

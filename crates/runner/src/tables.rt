@@ -204,6 +204,7 @@ impl Tables {
     }
 
     /// Makes a page of zeros but for one word in the least free frame, which it tells.
+    #[tactic(auto, using(crate::proofs::Creates::bound_there, std::proofs::lemmas::Grind::common_steps))]
     pub(crate) fn create(&mut self, segment: u32, page: u32, at: u32, word: Word) -> u32
         requires there { segment < length self.old.segs.homes }
         requires few { page < 256 }
@@ -213,6 +214,7 @@ impl Tables {
         requires free { HasFree self.old.segs }
         requires at { at < 1024 }
         ensures created { IsCreated self.old self.new segment page at word }
+        ensures here { word_at self.new.segs segment page ≡ Here result }
         ensures blank { IsBlank self.old segment page }
     {
         let _null = self.segments.ptw(segment, page);
@@ -220,6 +222,7 @@ impl Tables {
             unreachable!()
         };
         self.segments.create(segment, page, frame, at, word);
+        let _kept = self.segments.count();
         self.stored += 1;
         frame
     }
