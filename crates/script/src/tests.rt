@@ -440,6 +440,69 @@ fn each_line_is_read_or_refused_by_its_first_cause(rt: HostRuntime) -> Result<()
     check(&rt, process.as_str(), COMMANDS)
 }
 
+// Each cause on the first line where it can stand.
+const FIRST_PLACES: &str = "\tmachine 1 4 12 1 1 1 => 1: badchar
+process Smith => 1: order
+machine => 1: fields
+machine 0 4 12 1 1 1 => 1: number
+machine 1 4 1024 1 1 1 => 1: many
+ => 1: missing
+machine 1 4 12 1 1 1/quota 4/volume > 1 1 => 3: name
+machine 1 4 12 1 1 1/quota 4/volume a 1 1/volume a 1 1 => 4: twice
+machine 1 4 12 1 1 1/quota 4/volume a 1 1/bulk b 1 => 4: unknown
+machine 1 4 12 1 1 1/quota 4/volume a 1 1/initializer/initiate a => 5: path";
+
+// The lines up to the last process but one, with each kind of line; the next is line 75.
+const LONG_HEAD: &str = "machine 8 4 12 1 1 1
+quota 4
+volume a 1 1
+volume b 1 1
+volume c 1 1
+volume d 1 1
+print all
+bulk d 1
+bulk c 1
+bulk b 1
+bulk a 1
+fail d write 1+
+initializer
+end
+";
+
+// Each cause but `twice` on the last line where it can stand, from the last process on.
+const LAST_PLACES: &str = "process Smith/await 0 0 0 99968/end => script
+process Smith/end/#\t => 77: badchar
+process Smith/end/end => 77: order
+process Smith/end/process => 77: fields
+process Smith/end/process > => 77: name
+process Smith/end/process Smith => 77: many
+process Smith/await 0 0 0 99969/end => 77: many
+process Smith/end 0 => 76: fields
+process Smith/await 0 0 0 0/end => 76: number
+process Smith/acl > Smith x/end => 76: name
+process Smith/status a/end => 76: path
+process Smith/mkdir >a e/end => 76: unknown
+process Smith/read 0 0 => 77: missing
+process Smith => 76: missing";
+
+// A name that was given before, on the last line where one can stand.
+const LAST_TWICE: &str = "volume a 1 1 => 7: twice
+print all/bulk a 1/bulk b 1/bulk c 1/bulk d 1 => script
+print all/bulk a 1/bulk b 1/bulk c 1/bulk d 1/bulk d 1 => 12: twice";
+
+#[test]
+fn each_cause_stands_first_and_last(rt: HostRuntime) -> Result<(), Fail> {
+    check(&rt, "", FIRST_PLACES)?;
+    let mut front = String::new(rt.alloc());
+    front.push_str(LONG_HEAD)?;
+    for _ in 0..30 {
+        front.push_str("process Jones\nend\n")?;
+    }
+    check(&rt, front.as_str(), LAST_PLACES)?;
+    let volumes = "machine 1 4 12 1 1 1\nquota 4\nvolume a 1 1\nvolume b 1 1\nvolume c 1 1\nvolume d 1 1\n";
+    check(&rt, volumes, LAST_TWICE)
+}
+
 const UNPRINTABLE: [(&str, &str); 6] = [
     ("\t", "4: badchar"),
     ("print\tall\n", "4: badchar"),
