@@ -112,10 +112,6 @@ module _ (sizes hands : List ℕ) (used : List (List Bool)) (xs : List (Option E
       length_down counts None = refl
       length_down counts (Some r) = length-set counts r (get_or counts r 0 - 1)
 
--- nothing changes where nothing is active
-pub none_stays : (xs : List (Option Entry)) (p : ℕ) → entry_at xs p ≡ None → xs ≡ set xs p None
-none_stays xs p free = sym (ap (set xs p) (sym free) ∙ set-get_or xs p None)
-
 -- ---- the free places of a pool
 
 pub full_since_marked : (s : ActiveSegs) (used : List (List Bool)) (pool : ℕ) → pool < 4 → IsMarked s.sizes used s.entries → All (λ flag. flag ≡ true) (map_of used pool) → IsFull s pool

@@ -40,17 +40,6 @@ no_inferiors (x ∷ xs) u none =
     let all : inferiors_of (x ∷ xs) u ≡ bit (is_inferior_of u x) + inferiors_of xs u = sum_by-cons (λ (y : Option Entry). bit (is_inferior_of u y)) x xs in
     let zero_bit : bit (is_inferior_of u x) ≡ 0 = ap bit this in omega arith
 
--- where the count is 0 nobody has the segment as its superior
-pub none_since_zero : (xs : List (Option Entry)) (u : ℕ) → inferiors_of xs u ≡ 0 → (q : ℕ) → superior_at xs q ≢ Some u
-none_since_zero xs u zero_count q e =
-    let counted = inferiors_set xs q None u (superior_within xs q u e) in
-    let one : bit (is_inferior_of u (entry_at xs q)) ≡ 1 = ap bit (inferior_yes u (superior_at xs q) e) in
-    omega arith
-
--- where the count is above 0 somebody has
-pub some_since_count : (xs : List (Option Entry)) (u : ℕ) → 0 < inferiors_of xs u → ((q : ℕ) → superior_at xs q ≢ Some u) → ⊥
-some_since_count xs u some none = let zero_count : inferiors_of xs u ≡ 0 = no_inferiors xs u none in omega arith
-
 -- where the superior's place is
 abbrev pub IsSuperiorPlace : List (Option Entry) → Option ℕ → Option ℕ → Type 0
 IsSuperiorPlace xs None place = place ≡ None
@@ -200,14 +189,6 @@ position_none {X} p xs e k d within = none_at (ltb (position_or_len p xs) (lengt
     none_at false is e' =
         let past : length xs ≤ position_or_len p xs = ltb-false _ _ is in
         not-true _ (prefix_len_passes (λ x. not (p x)) xs k d (omega arith))
-
--- a place that nothing is active in has no inferior
-pub free_has_none : (xs : List (Option Entry)) (place : ℕ) → entry_at xs place ≡ None → HasNoInferior xs place
-free_has_none xs place free q uid is = absurd (none-some uid (sym (ap uid_in free) ∙ is))
-
--- nor has one whose count is 0
-pub counted_has_none : (xs : List (Option Entry)) (counts : List ℕ) (place : ℕ) → IsCounted xs counts → get_or counts place 0 ≡ 0 → HasNoInferior xs place
-counted_has_none xs counts place counted none q uid is = none_since_zero xs uid (sym (counted.counted place uid is) ∙ none) q
 
 -- nor one whose segment is found nowhere as a superior
 pub searched_has_none : (xs : List (Option Entry)) (place : ℕ) (e : Entry) → entry_at xs place ≡ Some e → position (is_inferior_of e.uid) xs ≡ None → HasNoInferior xs place

@@ -114,18 +114,8 @@ victim_off s pool chain a closed v =
 pub places_more : (i to : ℕ) → i < to → places_from i to ≡ i ∷ places_from (i + 1) to
 places_more i to lt = let n : to - i ≡ suc (to - (i + 1)) = omega arith in ap (range_with_len i) n
 
-pub places_none : (i to : ℕ) → to ≤ i → places_from i to ≡ []
-places_none i to le = let n : to - i ≡ 0 = omega arith in ap (range_with_len i) n
-
--- a search that has come to place i of a range
-pub finds_here : (p : ℕ → Bool) (i to : ℕ) → i < to → p i ≡ true → find p (places_from i to) ≡ Some i
-finds_here p i to lt on = ap (find p) (places_more i to lt) ∙ ap (λ (b : Bool). cond b (Some i) (find p (places_from (i + 1) to))) on
-
 pub finds_later : (p : ℕ → Bool) (i to : ℕ) → i < to → p i ≡ false → find p (places_from (i + 1) to) ≡ find p (places_from i to)
 finds_later p i to lt off = sym (ap (find p) (places_more i to lt) ∙ ap (λ (b : Bool). cond b (Some i) (find p (places_from (i + 1) to))) off)
-
-pub finds_none : (p : ℕ → Bool) (i to : ℕ) → to ≤ i → find p (places_from i to) ≡ None
-finds_none p i to le = ap (find p) (places_none i to le)
 
 pub find_first : (p : ℕ → Bool) (xs ys : List ℕ) (x : ℕ) → find p xs ≡ Some x → find p (xs ++ ys) ≡ Some x
 find_first p [] ys x e = absurd (none-some x e)

@@ -30,10 +30,6 @@ pub used_since_superior : (o : Option Entry) (s : ℕ) → superior_in o ≡ Som
 used_since_superior None s e = absurd (none-some s e)
 used_since_superior (Some e) s h = (e.uid, refl)
 
-pub entry_none : (o : Option Entry) → uid_in o ≡ None → o ≡ None
-entry_none None h = refl
-entry_none (Some e) h = absurd (none-some e.uid (sym h))
-
 -- ---- a segment becomes active
 
 module _ (xs : List (Option Entry)) (p uid : ℕ) (superior : Option ℕ) (lt : p < length xs) (free : entry_at xs p ≡ None) (inactive : (q : ℕ) → uid_at xs q ≢ Some uid) (above : (s : ℕ) → superior ≡ Some s → IsActive xs s) (tree : IsTree xs) where

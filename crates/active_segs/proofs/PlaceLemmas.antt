@@ -141,9 +141,6 @@ index_lacks xs index uid indexed inactive = lacks (place_of index.pairs uid) ref
     lacks None is = is
     lacks (Some q) is = absurd (inactive q ((indexed.places q uid).0 is))
 
-pub index_has : (xs : List (Option Entry)) (index : Pairs) (q uid : ℕ) → IsIndexed xs index → uid_at xs q ≡ Some uid → IsSome (place_of index.pairs uid)
-index_has xs index q uid indexed active = ap is_some ((indexed.places q uid).1 active)
-
 module _ (xs : List (Option Entry)) (old new : Pairs) (p : ℕ) (lt : p < length xs) (indexed : IsIndexed xs old) (room : new.room ≡ old.room) where
   this_place : (uid u : ℕ) (place : Option ℕ) → SetsPlace old.pairs new.pairs uid place → uid ≡ u → place_of new.pairs u ≡ place
   this_place uid u place sets same = sets u ∙ ap (λ (b : Bool). cond b place (place_of old.pairs u)) (eq-eqb uid u same)

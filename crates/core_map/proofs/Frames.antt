@@ -36,16 +36,6 @@ idle_unmarked Free = refl
 idle_unmarked (Started uid page) = refl
 idle_unmarked (Bound uid page used modified) = refl
 
-taken_from_bound : (x : Frame) → is_bound x ≡ true → is_taken x ≡ true
-taken_from_bound Free h = cc
-taken_from_bound (Started uid page) h = cc
-taken_from_bound (Bound uid page used modified) h = refl
-
-taken_from_started : (x : Frame) → is_started x ≡ true → is_taken x ≡ true
-taken_from_started Free h = cc
-taken_from_started (Started uid page) h = refl
-taken_from_started (Bound uid page used modified) h = cc
-
 free_from_taken : (x : Frame) → is_taken x ≡ false → x ≡ Free
 free_from_taken Free h = refl
 free_from_taken (Started uid page) h = cc
@@ -72,16 +62,6 @@ taken_same frames f x same =
 -- the bits of taken frames
 pub bit_is : (taken : List Bool) (frames : List Frame) (hand f : ℕ) → IsTied taken frames hand → in_use taken f ≡ is_taken (frame_in frames f)
 bit_is taken frames hand f h = ap (λ (ts : List Bool). in_use ts f) h.bits ∙ taken_at frames f
-
-pub bit_of_bound : (taken : List Bool) (frames : List Frame) (hand f : ℕ) (core : Core) → IsTied taken frames hand
-    → record { frames = frames; hand = hand } ≡ core → is_bound (frame_at core f) ≡ true → in_use taken f ≡ true
-bit_of_bound taken frames hand f core h view bound =
-    bit_is taken frames hand f h ∙ taken_from_bound (frame_in frames f) (ap (λ (k : Core). is_bound (frame_at k f)) view ∙ bound)
-
-pub bit_of_started : (taken : List Bool) (frames : List Frame) (hand f : ℕ) (core : Core) → IsTied taken frames hand
-    → record { frames = frames; hand = hand } ≡ core → is_started (frame_at core f) ≡ true → in_use taken f ≡ true
-bit_of_started taken frames hand f core h view started =
-    bit_is taken frames hand f h ∙ taken_from_started (frame_in frames f) (ap (λ (k : Core). is_started (frame_at k f)) view ∙ started)
 
 -- a frame is written, and its bit with it
 pub tied_with : (taken ts : List Bool) (frames : List Frame) (hand f : ℕ) (x : Frame) → IsTied taken frames hand → ts ≡ set taken f (is_taken x)

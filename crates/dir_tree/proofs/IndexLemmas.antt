@@ -146,10 +146,3 @@ module _ (ps : List (ℕ × ℕ)) (i : ℕ) (within : i < length ps) where
   )
 
 -- ---- the search
-
-pub passed_all : (ps : List (ℕ × ℕ)) (nodes : List Node) (hash at superior : ℕ) (name : List ℕ) → ((k : ℕ) → k < at → hash_at ps k ≡ hash → is_branch superior name (shape (node_at nodes (place_of ps k))) ≡ false)
-    → ((k : ℕ) → at ≤ k → k < length ps → hash_at ps k ≢ hash) → (place : ℕ) → HasPair ps hash place → is_branch superior name (shape (node_at nodes place)) ≡ false
-passed_all ps nodes hash at superior name passed past place x = elim (cases_lt x.at at) [
-  | inl before ↦ rw (← x.place_is) (passed x.at before x.hash_is)
-  | inr after ↦ absurd (past x.at after x.within x.hash_is)
-]

@@ -50,9 +50,6 @@ pub inferior_any : (q : ℕ → ℕ) (ns : List Node) (u : ℕ) → has_inferior
 inferior_any q [] u = refl
 inferior_any q (n ∷ ns) u = ap (λ b. is_inferior u (shape n) || b) (inferior_any q ns u)
 
-pub chain_any : (q : ℕ → ℕ) (ns : List Node) (u : ℕ) → chain_of (with_quotas q ns) u ≡ chain_of (shapes ns) u
-chain_any q ns u = ap (λ up. reverse (u ∷ up)) (above_any q ns u)
-
 -- one more name of a path
 pub walk_next : (ns : List Term) (u : ℕ) (b : Bool) (names : List (List ℕ)) (i : ℕ) (name : List ℕ) → i < length names → name ≡ get_or names i name
     → walk_from ns u b (drop i names) ≡ onward (λ n. walk_from ns n.uid n.directory (drop (i + 1) names)) b (branch_in ns u name)

@@ -31,10 +31,6 @@ pub length-with_new : (xs : List (ℕ × ℕ)) (u p : ℕ) → is_stored xs u p 
 unfolding with_stored
 length-with_new xs u p h = rw h (omega arith)
 
-pub length-with_old : (xs : List (ℕ × ℕ)) (u p : ℕ) → is_stored xs u p ≡ true → length (with_stored xs u p) ≡ length xs
-unfolding with_stored
-length-with_old xs u p h = rw h refl
-
 pub is_stored-without : (xs : List (ℕ × ℕ)) (u p v q : ℕ) → is_stored (without_stored xs u p) v q ≡ (not (is_page u p (v, q)) && is_stored xs v q)
 unfolding without_stored
 is_stored-without [] u p v q = both (not (is_page u p (v, q)))

@@ -188,10 +188,6 @@ branch_some p segments (n ∷ m ∷ ns) name (suc j) i h size some = by_name (by
           there = let lt : i + 1 < length (m ∷ ns) = rest.there in omega arith;
         }
 
--- where paths lead
-pub walk_root : (nodes : List Node) → walk_in nodes [] ≡ LeadsTo 1
-walk_root nodes = refl
-
 pub walk_none : (nodes : List Node) (name : List ℕ) (names : List (List ℕ)) → branch_in nodes 1 name ≡ None → walk_in nodes (name ∷ names) ≡ Missing
 walk_none nodes name names none = rw none refl
 

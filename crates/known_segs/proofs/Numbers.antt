@@ -53,14 +53,6 @@ pub unknown_is : (kst : List (Option ℕ)) (uid : ℕ) (r : Option ℕ) → r �
 unknown_is kst uid None e = (λ _. number_none kst uid (sym e), λ _. refl)
 unknown_is kst uid (Some m) e = (λ h. cc, λ unknown. absurd (unknown m (number_some kst uid m (sym e)).1))
 
--- each place of the empty table stands for nothing
-pub once_new : (kst : List (Option ℕ)) (size : ℕ) → kst ≡ replicate size None → HasOneNumberEach kst
-once_new kst size is n m uid e f =
-    let lt : n < length kst = within_since_known kst n uid e in
-    let below : n < size = (let l : length kst ≡ size = rw (is, length-replicate) refl in omega arith) in
-    let none : uid_of (replicate size None) n ≡ None = get_or-replicate size n None None below in
-    let none' : uid_of kst n ≡ None = rw is none in cc
-
 free_is : (o : Option ℕ) → is_none o ≡ true → o ≡ None
 free_is None e = refl
 free_is (Some u) e = cc

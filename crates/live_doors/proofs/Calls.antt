@@ -120,10 +120,6 @@ module _ (doors : DoorsModel) (old now next : KeeperModel) (stamp cpu seen : ℕ
     cleared = same ∙ so.cleared;
   }
 
--- with every processor read, all is clear
-pub all_noted : (doors : DoorsModel) (old now : KeeperModel) (stamp cpu : ℕ) → ClearSoFar doors old now stamp cpu → cpu ≡ doors.cpus → HasNoted now.watch stamp
-all_noted doors old now stamp cpu so is c inside = so.noted c (let r = so.keeper.cpus in omega arith)
-
 -- every new pass came with its doors
 pub all_first : (doors : DoorsModel) (n : ℕ) → n ≤ doors.cpus → All (IsPassOf doors) (first_passes doors n)
 all_first doors zero few = λ k d inside. absurd (omega arith)

@@ -34,10 +34,6 @@ parts_stay : (ps : List PassModel) (k : Holder) → length (taking_all_in ps k).
 parts_stay [] k = refl
 parts_stay (p ∷ ps) k = length-set (taking_all_in ps k).parts p.walker.walk.cpu (In p.walker.made) ∙ parts_stay ps k
 
-pub watch_stays : (ps : List PassModel) (k : Holder) → (taking_all_in ps k).watch ≡ k.watch
-watch_stays [] k = refl
-watch_stays (p ∷ ps) k = watch_stays ps k
-
 -- the touches of a pass that is among them were taken in
 in_all : (ps : List PassModel) (k : Holder) (cpu i : ℕ) → cpu < length k.parts → i < length ps → ((d : PassModel) → (get_or ps i d).walker.walk.cpu ≡ cpu) → (made : List Made) × (get_or (taking_all_in ps k).parts cpu Out ≡ In made)
 in_all [] k cpu i inside none is = absurd (omega arith)

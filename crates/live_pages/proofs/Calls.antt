@@ -273,9 +273,6 @@ zero_pages_push slots h zeros page f inside = dite (ℕ_discrete f (length slots
     let old = zeros f (let l = length-append slots (Some h ∷ []) in omega arith) in
     (old.0, at_longer slots (Some h ∷ []) f (Some old.0) old.1, old.2))
 
-pub zero_pages_none : HaveZeroPages []
-zero_pages_none f inside = absurd (omega arith)
-
 -- every new pass came with its pages
 pub all_first : (pages : PagesModel) (n : ℕ) → n ≤ pages.cpus → All (IsPassOf pages) (first_passes pages n)
 all_first pages zero few = λ k d inside. absurd (omega arith)

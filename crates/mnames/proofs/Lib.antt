@@ -1,4 +1,4 @@
 mod NamesText
 mod PathGrammar
-mod PrincipalTexts
+pub mod PrincipalTexts
 mod ShortTexts

@@ -49,24 +49,11 @@ pub used_uid : (entry : Option Entry) (uid : ℕ) → uid_of entry ≡ Some uid 
 used_uid None uid used = cc
 used_uid (Some entry) uid used = same_Some entry.uid uid used
 
-pub home_uid : (s : Plain) (uid : ℕ) (home : Home) → IsHomeOf s.vtocs uid home → uid_of_home s home ≡ uid
-home_uid s uid home h = used_uid (entry_of s home) uid h.used
-
 -- a frame that was bound still is, where bindings are as before
 pub still_bound : (old new : Core) (f : ℕ) → bindings new ≡ bindings old → is_bound (frame_at old f) ≡ true → is_bound (frame_at new f) ≡ true
 still_bound old new f same bound =
     bound_from_page (frame_at new f) (uid_in (frame_at old f)) (number_in (frame_at old f))
     (sym (binding_is new f) ∙ ap (λ (b : List (Option (ℕ × ℕ))). binding_at b f) same ∙ binding_is old f ∙ bound_to (frame_at old f) bound)
-
--- the home of a segment stays one, and no entry is used for a stranger
-pub no_home_kept : (old new : Plain) (uid : ℕ) (home : Home) (segment : ℕ) → KeepsOthers old new uid home → HasNoHome old.vtocs segment → HasNoHome new.vtocs segment
-no_home_kept old new uid home segment kept none = record { none = λ other at. none.none other (sym (kept.uids other) ∙ at) }
-
--- a segment that has no frame has none after a call for another
-pub no_frame_kept : (old new : Plain) (uid : ℕ) (home : Home) (segment : ℕ) → KeepsOthers old new uid home → segment ≢ uid → HasNoFrame (bindings old.core) segment
-    → HasNoFrame (bindings new.core) segment
-no_frame_kept old new uid home segment kept other none =
-    no_frame (bindings new.core) segment [] (kept.tables segment [] other (table_of_no_frame (bindings old.core) segment [] none (λ p. refl))) (λ p. refl)
 
 -- the words of a page that is in a frame, and of one that is in none
 pub words_shown : (s : Plain) (uid p f : ℕ) (t : List Ptw) → IsTableOf (bindings s.core) uid t → frame_of (ptw_at t p) ≡ Some f → picture s uid p ≡ words_in s f
@@ -87,15 +74,3 @@ record_shown s uid p home t h table word =
 pub stored_shown : (s : Plain) (uid p : ℕ) (home : Home) (t : List Ptw) → IsHomeOf s.vtocs uid home → IsMapOf (file_map_of s home) t → is_stored s uid p ≡ has_record (ptw_at t p)
 unfolding is_filed_in
 stored_shown s uid p home t h map = ap is_some (record_found s.vtocs uid p home h) ∙ map.stored p
-
--- no frame is started for a page where the one frame that changes isn't
-pub not_started_with : (core : Core) (f : ℕ) (frame : Frame) (uid p : ℕ) → frame ≢ Started uid p → IsNotStarted core uid p → IsNotStarted (with_frame core f frame) uid p
-not_started_with core f frame uid p other none = record {
-  none = λ g started. elim (leb_tells (length core.frames) f) [
-    | inl past ↦ none.none g (ap (λ (frames : List Frame). get_or frames g Free) (sym (set_past core.frames f frame past.1)) ∙ started)
-    | inr lt ↦ elim (cases_eq g f) [
-      | inl same ↦ other (sym (get_or-set_same core.frames f frame Free lt.1) ∙ ap (frame_at (with_frame core f frame)) (sym same) ∙ started)
-      | inr n ↦ none.none g (sym (get_or-set_other core.frames f g frame Free n) ∙ started)
-    ]
-  ];
-}

@@ -21,19 +21,8 @@ use Rattle.page_control.proofs.Filing.{filed_fewer, filed_unstored}
 use Rattle.page_control.proofs.Leaving.{no_record}
 use Rattle.page_control.proofs.Homes.{at_or_other, uid_here, uid_other, none_named}
 
-freed_none : (flags : List Bool) (places : List (Option ℕ)) (place : Option ℕ) → place ≡ None → freed flags (place ∷ places) ≡ freed flags places
-freed_none flags places None is = refl
-freed_none flags places (Some r) is = cc
-
 freed_some : (flags : List Bool) (places : List (Option ℕ)) (place : Option ℕ) (r : ℕ) → place ≡ Some r → freed flags (place ∷ places) ≡ freed (set flags r false) places
 freed_some flags places place r is = rw is refl
-
--- the records of the pages from n on, where page n has none
-skips : (flags : List Bool) (places : List (Option ℕ)) (n : ℕ) → get_or places n None ≡ None → freed flags (drop (n + 1) places) ≡ freed flags (drop n places)
-skips flags places n none = elim (leb_tells (length places) n) [
-  | inl past ↦ at_drop_all (freed flags) places (n + 1) (omega (arith, past.1)) ∙ sym (at_drop_all (freed flags) places n past.1)
-  | inr lt ↦ sym (at_drop_more (freed flags) places n None lt.1 ∙ freed_none flags (drop (n + 1) places) (get_or places n None) none)
-]
 
 -- and where it has one
 takes : (flags : List Bool) (places : List (Option ℕ)) (n r : ℕ) → get_or places n None ≡ Some r → freed (set flags r false) (drop (n + 1) places) ≡ freed flags (drop n places)
@@ -46,16 +35,6 @@ put_put xs v e x y vl =
     ap (λ (ys : List _). set (put xs v e x) v (set ys e y)) (get_or-set_same xs v (set (get_or xs v []) e x) [] vl)
     ∙ ap (set (put xs v e x) v) (set-set (get_or xs v []) e x y)
     ∙ set-set xs v (set (get_or xs v []) e x) (set (get_or xs v []) e y)
-
--- page n has no record
-pub part_none : (old s now : Plain) (uid : ℕ) (home : Home) (n : ℕ) → now ≡ s → filed s home n ≡ None → IsPartErased old s uid home n → IsPartErased old now uid home (n + 1)
-part_none old s now uid home n is none part = rw is (record {
-  rest = ap (λ (flags : List Bool). record s { records = set s.records home.volume flags; vtocs = put s.vtocs home.volume home.entry None })
-      (skips (flags_of s home.volume) (file_map_of s home) n none) ∙ part.rest;
-  gone = λ q lt. elim (cases_eq q n) [ inl same ↦ rw same none | inr other ↦ part.gone q (omega (arith, lt, other)) ];
-  at = part.at;
-  records = part.records;
-})
 
 -- the file map after page n has given its record back
 rest_flags : (s : Plain) (uid : ℕ) (home : Home) (n r : ℕ) → IsHomeOf s.vtocs uid home → filed s home n ≡ Some r → home.volume < length s.records
@@ -96,14 +75,6 @@ part_some old s now uid home n is there part =
       at = homes_kept s.vtocs (refile s.vtocs home n None) (λ other. uids_refiled s.vtocs uid n None home other h) uid home h;
       records = filed_unstored s.records s.vtocs uid n r home part.records h there;
     })
-
-pub part_first : (s : Plain) (uid : ℕ) (home : Home) → IsHomeOf s.vtocs uid home → AreFiled s.records s.vtocs → IsPartErased s s uid home 0
-part_first s uid home h filed = record {
-  rest = refl;
-  gone = λ q lt. absurd (omega (arith, lt));
-  at = h;
-  records = filed;
-}
 
 -- all pages have given their records back, and the entry is freed
 pub all_erased : (old s now : Plain) (uid : ℕ) (home : Home) → IsPartErased old s uid home 256 → length (file_map_of s home) ≡ 256

@@ -24,16 +24,3 @@ free_made : {D : Type 0} (parts : List (Part D)) (v e : ℕ) → entry_at (vtoc_
 free_made [] v e = refl
 free_made (part ∷ parts) zero e = alike part.entries e None
 free_made (part ∷ parts) (suc v) e = free_made parts v e
-
-pub no_home_made : {D : Type 0} (vtocs : List (List (Option Entry))) (parts : List (Part D)) (uid : ℕ) → vtocs ≡ map (λ part. replicate part.entries None) parts → HasNoHome vtocs uid
-no_home_made vtocs parts uid is = rw is (record {
-  none = λ home used. not_none (uid_of (entry_at (vtoc_in (map (λ part. replicate part.entries None) parts) home.volume) home.entry)) uid
-      (ap uid_of (free_made parts home.volume home.entry)) used;
-})
-
-pub filed_made : {D : Type 0} (records : List (List Bool)) (vtocs : List (List (Option Entry))) (parts : List (Part D))
-    → vtocs ≡ map (λ part. replicate part.entries None) parts → AreFiled records vtocs
-filed_made records vtocs parts is = rw is (record {
-  used = λ v e p r at. absurd (named_by (entry_at (vtoc_in (map (λ part. replicate part.entries None) parts) v) e) p r (free_made parts v e) at);
-  once = λ v e p g q r at those. absurd (named_by (entry_at (vtoc_in (map (λ part. replicate part.entries None) parts) v) e) p r (free_made parts v e) at);
-})

@@ -21,23 +21,6 @@ free_made [] w e = refl
 free_made (part ∷ parts) zero e = alike part.entries e None
 free_made (part ∷ parts) (suc w) e = free_made parts w e
 
-short_made : (parts : List (Part DriveState)) (w : ℕ) → All (λ part. length part.drive.pages < 65536) parts → length (flags_in (made_of pages_of parts).records w) < 65536
-short_made [] w short = omega arith
-short_made (part ∷ parts) zero short =
-    let here = All-head (λ (p : Part DriveState). length p.drive.pages < 65536) part parts short in
-    let long = length-replicate (length part.drive.pages) false in
-    omega (arith, here, long)
-short_made (part ∷ parts) (suc w) short = short_made parts w (All-tail (λ (p : Part DriveState). length p.drive.pages < 65536) part parts short)
-
-pub fresh_made : (v : Vols DriveState) (parts : List (Part DriveState)) → v ≡ made_of pages_of parts → All (λ part. plan_of part.drive ≡ Some []) parts
-    → All (λ part. length part.drive.pages < 65536) parts → 0 < length (vtoc_in (made_of pages_of parts).vtocs 0) → AreFresh v
-fresh_made v parts is sound short root = rw is (record {
-  free = free_made parts;
-  root = root;
-  sound = All-map (λ plan. plan ≡ Some []) plan_of (map (λ (part : Part DriveState). part.drive) parts) (All-map (λ (d : DriveState). plan_of d ≡ Some []) (λ (part : Part DriveState). part.drive) parts sound);
-  short = λ w. short_made parts w short;
-})
-
 -- the frames up to one that was just visited are free, and all are after the last
 pub visited : (core now : Core) (f : ℕ) → now ≡ with_frame core f Free → ((g : ℕ) → g < f → frame_at core g ≡ Free) → (g : ℕ) → g < f + 1 → frame_at now g ≡ Free
 visited core now f is before g lt = rw is (elim (cases_eq g f) [
@@ -48,9 +31,3 @@ visited core now f is before g lt = rw is (elim (cases_eq g f) [
   ]
   | inr n ↦ get_or-set_other core.frames f g Free Free n ∙ before g (omega (arith, lt, n))
 ])
-
-pub all_visited : (core : Core) → ((g : ℕ) → g < length core.frames → frame_at core g ≡ Free) → (g : ℕ) → frame_at core g ≡ Free
-all_visited core each g = elim (leb_tells (length core.frames) g) [
-  | inl past ↦ get_or_past core.frames g Free past.1
-  | inr lt ↦ each g lt.1
-]

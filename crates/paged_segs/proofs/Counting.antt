@@ -141,22 +141,6 @@ less_by old new v here others = λ i. λ w. at w i
       | inr n ↦ rw n.0 (others w n.1)
     ]
 
-pub one_more_here : (count : ℕ → ℕ) (v : ℕ) → one_more count v v ≡ count v + 1
-unfolding one_more
-one_more_here count v = elim (eqb_tells v v) [ inl same ↦ rw same.0 refl | inr n ↦ absurd (n.1 refl) ]
-
-pub one_more_other : (count : ℕ → ℕ) (v w : ℕ) → w ≢ v → one_more count v w ≡ count w
-unfolding one_more
-one_more_other count v w other = elim (eqb_tells w v) [ inl same ↦ absurd (other same.1) | inr n ↦ rw n.0 refl ]
-
-pub one_less_here : (count : ℕ → ℕ) (v : ℕ) → one_less count v v ≡ count v - 1
-unfolding one_less
-one_less_here count v = elim (eqb_tells v v) [ inl same ↦ rw same.0 refl | inr n ↦ absurd (n.1 refl) ]
-
-pub one_less_other : (count : ℕ → ℕ) (v w : ℕ) → w ≢ v → one_less count v w ≡ count w
-unfolding one_less
-one_less_other count v w other = elim (eqb_tells w v) [ inl same ↦ absurd (other same.1) | inr n ↦ rw n.0 refl ]
-
 -- a record is taken into use, and one is given back
 pub taken_more : (records : List (List Bool)) (v r : ℕ) → r < length (flags_in records v) → in_use (flags_in records v) r ≡ false → taken (put records v r true) ≡ one_more (taken records) v
 taken_more records v r rl free =

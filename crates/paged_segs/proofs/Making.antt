@@ -180,6 +180,3 @@ sizes_made s now v e uid is = rw is (record {
   places = λ i. λ w. by_list (length {A = Option Entry}) (put s.vtocs v e (fresh_entry uid)) s.vtocs (map-set_same (length {A = Option Entry}) s.vtocs v _ [] (length-set (vtoc_in s.vtocs v) e (fresh_entry uid))) w i;
   frames = refl;
 })
-
-pub sizes_same : (s now : Plain) → now ≡ s → HasSizes s now
-sizes_same s now is = rw is (record { volumes = refl; records = refl; places = refl; frames = refl })

@@ -91,15 +91,6 @@ weigh_with t (k ∷ ks) (w ∷ ws) u v len e = elim (cases_eq k u) [
       rw far (omega (arith, ih)))
 ]
 
--- a weight is no more where fewer pass
-pub weigh_le : (s t : ℕ → Bool) (ks ws : List ℕ) → ((k : ℕ) → s k ≡ true → t k ≡ true) → weigh s ks ws ≤ weigh t ks ws
-weigh_le s t [] ws le = omega arith
-weigh_le s t (k ∷ ks) [] le = omega arith
-weigh_le s t (k ∷ ks) (w ∷ ws) le = (let ih : weigh s ks ws ≤ weigh t ks ws = weigh_le s t ks ws le in elim (cases_Bool (s k)) [
-  | inl is ↦ (let also : t k ≡ true = le k is in rw (is, also) (omega arith))
-  | inr isnt ↦ rw isnt (omega arith)
-])
-
 pub weigh_same : (s t : ℕ → Bool) (ks ws : List ℕ) → ((k : ℕ) → has ks k ≡ true → s k ≡ t k) → weigh s ks ws ≡ weigh t ks ws
 weigh_same s t [] ws same = refl
 weigh_same s t (k ∷ ks) [] same = refl

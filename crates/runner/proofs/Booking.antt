@@ -81,10 +81,6 @@ gone_after : (p : Plan) (s : Store) (frame : ℕ) → (IsLawful p s (entry.GoneP
 unfolding IsLawful after_entry
 gone_after p s frame = (tt, refl)
 
-release_after : (p : Plan) (s : Store) (uid page : ℕ) → MayRelease s uid page → (IsLawful p s (entry.Release uid page)) × (after_entry p s (entry.Release uid page) ≡ store_left s uid page Released)
-unfolding IsLawful after_entry
-release_after p s uid page may = (may, refl)
-
 -- an entry that leaves the flat store alone
 pub pushed_quiet : (p now : Plan) (es later : List Entry) (e : Entry) (t new : Held) → IsBooked p now es later e → Holds p es t → IsLawful p (store_after p es) e × (after_entry p (store_after p es) e ≡ store_after p es) → AreTied p (store_after p es) new → length new.segs.storage.core.frames ≡ length t.segs.storage.core.frames → length new.segs.storage.disks ≡ length t.segs.storage.disks → Holds now later new
 pushed_quiet p now es later e t new b h quiet tied frames disks =

@@ -114,9 +114,6 @@ inside_has_volume s h = ap has_volume (inside_is s h)
 inside_is_late : (s : Stage) → is_inside s ≡ true → is_early s ≡ true → ⊥
 inside_is_late s h e = false_not_true (sym (ap is_early (inside_is s h)) ∙ e)
 
-inside_no_head : (s : Stage) → is_inside s ≡ true → is_head s ≡ true → ⊥
-inside_no_head s h e = false_not_true (sym (ap is_head (inside_is s h)) ∙ e)
-
 pub command_added : (d : DraftPlan) (new : List Command) (c : Command) (used : ℕ) → IsDraft d → new ≡ d.commands ++ c ∷ [] → is_inside d.stage ≡ true → is_command (length d.volumes) c ≡ true → is_end c ≡ false → used ≡ d.used + weight c → used ≤ 100000 → IsDraft (record d { commands = new; used = used })
 command_added d new c used h e inside range going u within =
     let at : d.stage ≡ stage.Commands = inside_is d.stage inside in

@@ -1,14 +1,12 @@
--- The texts of principals and of rows are read back as what they are the texts of (own).
+-- The texts of principals and of rows are fields, and are read back as what they are the texts of (own).
 use Rattle.std.proofs.Common.{◌≡◌, ℕ, ◌+◌, ◌≤◌, Bool, true, false, not, cond, ◌&&◌, nat_le, eqb, List, [], ◌∷◌, ◌++◌, length, take, drop, Option, Some, None, Ok, refl, sym, ap, subst, ◌∙◌, arith}
-use Rattle.std.specs.List.{list_all, position_or_len}
+use Rattle.std.specs.Prelude.{IfSome}
+use Rattle.std.specs.List.{list_all}
 use Rattle.std.specs.Str.{bytes_eq}
 use Rattle.std.proofs.lemmas.Bool.Decides.{nat_tests}
-use Rattle.std.proofs.lemmas.List.{take_at}
-use Rattle.std.proofs.Math.Seq.{drop-append-add}
-use Rattle.std.proofs.lemmas.List.Folds.{list_all-append}
-use Rattle.std.proofs.lemmas.Slice.Eq.{bytes_eq-Decides}
-use Rattle.mnames.specs.Names.{is_label, is_label_byte}
-use Rattle.mnames.specs.Principals.{default_project, is_dot, before_dot, after_dot, who_of, who_text, parts_text, any_text, part_of, row_alone, row_of, row_or, row_parts_text, row_text, row_with}
+use Rattle.mnames.proofs.PrincipalTexts.{who_again, row_again}
+use Rattle.mnames.specs.Names.{is_label, is_label_byte, IsLabel}
+use Rattle.mnames.specs.Principals.{default_project, before_dot, after_dot, IsWho, who_of, who_text, parts_text, IsRow, any_text, part_of, row_alone, row_of, row_or, row_parts_text, row_text, row_with}
 use Rattle.mnames.specs.declared.principals.Who.{Who}
 use Rattle.mnames.specs.declared.rows.Row.{Row}
 use Rattle.script.proofs.FieldTexts.{is_field_byte, IsField, all_from, all_both}
@@ -28,69 +26,13 @@ label_field text h =
     let long = (and_parts (nat_le 1 (length text)) (nat_le (length text) 32) parts.0).0 in
     record { some = grind (arith, nat_tests); bytes = all_from is_label_byte is_field_byte label_byte_is_field text parts.1 }
 
--- ---- the first dot
-
-and_no : (b : Bool) → (b && false) ≡ false
-and_no true = refl
-and_no false = refl
-
--- a text in which no dot stands
-abbrev lacks_dots : List ℕ → Bool
-lacks_dots text = list_all (λ b. not (eqb b 46)) text
-
-label_byte_is_no_dot : (b : ℕ) → is_label_byte b ≡ true → not (eqb b 46) ≡ true
-label_byte_is_no_dot b h = let here : eqb b 46 ≡ false = grind (arith, nat_tests) in rw here refl
-
-label_lacks_dots : (text : List ℕ) → is_label text ≡ true → lacks_dots text ≡ true
-unfolding is_label
-label_lacks_dots text h =
-    let parts = and_parts (nat_le 1 (length text) && nat_le (length text) 32) (list_all is_label_byte text) h in
-    all_from is_label_byte (λ b. not (eqb b 46)) label_byte_is_no_dot text parts.1
-
-dotted_bytes : (xs ys : List ℕ) → list_all is_label_byte (xs ++ (46 ∷ ys)) ≡ false
-dotted_bytes xs ys = list_all-append is_label_byte xs (46 ∷ ys) ∙ and_no (list_all is_label_byte xs)
-
-dotted_is_no_label : (xs ys : List ℕ) → is_label (xs ++ (46 ∷ ys)) ≡ false
-unfolding is_label
-dotted_is_no_label xs ys = rw (dotted_bytes xs ys) (and_no _)
-
-first_dot : (xs ys : List ℕ) → lacks_dots xs ≡ true → position_or_len is_dot (xs ++ (46 ∷ ys)) ≡ length xs
-first_dot [] ys h = refl
-first_dot (x ∷ xs) ys h =
-    let here : eqb x 46 ≡ false = grind (arith, nat_tests) in
-    let rest : position_or_len is_dot (xs ++ (46 ∷ ys)) ≡ length xs = first_dot xs ys (grind (arith, nat_tests)) in
-    rw (here, rest) (omega arith)
-
-before_dotted : (xs ys : List ℕ) → lacks_dots xs ≡ true → before_dot (xs ++ (46 ∷ ys)) ≡ xs
-before_dotted xs ys h = ap (λ (n : ℕ). take n (xs ++ (46 ∷ ys))) (first_dot xs ys h) ∙ take_at xs (46 ∷ ys) (length xs) refl
-
-after_dotted : (xs ys : List ℕ) → lacks_dots xs ≡ true → after_dot (xs ++ (46 ∷ ys)) ≡ ys
-after_dotted xs ys h = ap (λ (n : ℕ). drop (n + 1) (xs ++ (46 ∷ ys))) (first_dot xs ys h) ∙ drop-append-add xs (46 ∷ ys) 1
-
 -- ---- principals
 
-who_alone : (text : List ℕ) → is_label text ≡ true → who_of text ≡ Some (record { person = text; project = default_project })
-unfolding who_of
-who_alone text h = rw h refl
-
-who_dotted : (a b : List ℕ) → is_label a ≡ true → is_label b ≡ true → who_of (a ++ (46 ∷ b)) ≡ Some (record { person = a; project = b })
-unfolding who_of
-who_dotted a b ha hb =
-    let clear : lacks_dots a ≡ true = label_lacks_dots a ha in
-    rw (dotted_is_no_label a b, before_dotted a b clear, after_dotted a b clear, ha, hb) refl
-
-who_parts : (a b : List ℕ) → is_label a ≡ true → is_label b ≡ true → who_of (parts_text a b) ≡ Some (record { person = a; project = b })
-who_parts a b ha hb = chosen (bytes_eq b default_project) refl
-  where
-    chosen : (z : Bool) → bytes_eq b default_project ≡ z → who_of (cond z a (a ++ (46 ∷ b))) ≡ Some (record { person = a; project = b })
-    chosen true e = who_alone a ha ∙ ap (λ (p : List ℕ). Some (record { person = a; project = p })) (sym ((bytes_eq-Decides b default_project).0 e))
-    chosen false e = who_dotted a b ha hb
-
 pub who_in_again : (who : Who) → is_who who ≡ true → who_in (who_text who) ≡ Ok who
-unfolding who_text
 who_in_again who h =
     let parts = and_parts (is_label who.person) (is_label who.project) h in
-    rw (who_parts who.person who.project parts.0 parts.1) refl
+    let whole : IsWho who = record { person = parts.0; project = parts.1 } in
+    rw (who_again (who_text who) (who_of (who_text who)) refl who whole refl) refl
 
 dotted_field : (xs ys : List ℕ) → IsField xs → list_all is_field_byte ys ≡ true → IsField (xs ++ (46 ∷ ys))
 dotted_field xs ys x y = record { some = some xs x.some; bytes = all_both is_field_byte xs (46 ∷ ys) x.bytes y }
@@ -112,65 +54,15 @@ who_field who h = let parts = and_parts (is_label who.person) (is_label who.proj
 
 -- ---- rows
 
-part_any : part_of any_text ≡ Some None
-unfolding part_of
-part_any = refl
-
-label_not_any : (text : List ℕ) → is_label text ≡ true → bytes_eq text any_text ≡ false
-unfolding is_label
-label_not_any text h = chosen (bytes_eq text any_text) refl
-  where
-    chosen : (z : Bool) → bytes_eq text any_text ≡ z → z ≡ false
-    chosen true e =
-        let same : text ≡ any_text = (bytes_eq-Decides text any_text).0 e in
-        let never : is_label any_text ≡ true = ap is_label (sym same) ∙ h in
-        sym never
-    chosen false e = refl
-
-part_label : (text : List ℕ) → is_label text ≡ true → part_of text ≡ Some (Some text)
-unfolding part_of
-part_label text h = rw (label_not_any text h, h) refl
-
-dotted_not_any : (xs ys : List ℕ) → bytes_eq (xs ++ (46 ∷ ys)) any_text ≡ false
-dotted_not_any [] ys = refl
-dotted_not_any (x ∷ []) ys = and_no (eqb x 42)
-dotted_not_any (x ∷ y ∷ xs) ys = and_no (eqb x 42)
-
-part_dotted : (xs ys : List ℕ) → part_of (xs ++ (46 ∷ ys)) ≡ None
-unfolding part_of
-part_dotted xs ys = rw (dotted_not_any xs ys, dotted_is_no_label xs ys) refl
-
-row_alone_label : (text : List ℕ) → is_label text ≡ true → row_of text ≡ Some (record { person = Some text; project = Some default_project })
-unfolding row_of
-row_alone_label text h = rw (part_label text h) refl
-
-row_dotted : (a b : List ℕ) (person project : Option (List ℕ)) → lacks_dots a ≡ true → part_of a ≡ Some person → part_of b ≡ Some project → row_of (a ++ (46 ∷ b)) ≡ Some (record { person = person; project = project })
-unfolding row_of
-row_dotted a b person project clear ha hb =
-    rw (part_dotted a b, before_dotted a b clear, after_dotted a b clear, ha, hb) refl
-
-row_any : row_of any_text ≡ Some (record { person = None; project = None })
-unfolding row_of part_of
-row_any = refl
-
-row_parts : (a b : List ℕ) → is_label a ≡ true → is_label b ≡ true → row_of (parts_text a b) ≡ Some (record { person = Some a; project = Some b })
-row_parts a b ha hb = chosen (bytes_eq b default_project) refl
-  where
-    chosen : (z : Bool) → bytes_eq b default_project ≡ z → row_of (cond z a (a ++ (46 ∷ b))) ≡ Some (record { person = Some a; project = Some b })
-    chosen true e = row_alone_label a ha ∙ ap (λ (p : List ℕ). Some (record { person = Some a; project = Some p })) (sym ((bytes_eq-Decides b default_project).0 e))
-    chosen false e = row_dotted a b (Some a) (Some b) (label_lacks_dots a ha) (part_label a ha) (part_label b hb)
-
-row_back : (person project : Option (List ℕ)) → is_part person ≡ true → is_part project ≡ true → row_of (row_parts_text person project) ≡ Some (record { person = person; project = project })
-row_back None None ha hb = row_any
-row_back None (Some b) ha hb = row_dotted any_text b None (Some b) refl part_any (part_label b hb)
-row_back (Some a) None ha hb = row_dotted a any_text (Some a) None (label_lacks_dots a ha) (part_label a ha) part_any
-row_back (Some a) (Some b) ha hb = row_parts a b ha hb
+labels_in : (part : Option (List ℕ)) → is_part part ≡ true → IfSome part IsLabel
+labels_in None h = tt
+labels_in (Some part) h = h
 
 pub row_in_again : (row : Row) → is_row row ≡ true → row_in (row_text row) ≡ Ok row
-unfolding row_text
 row_in_again row h =
     let parts = and_parts (is_part row.person) (is_part row.project) h in
-    rw (row_back row.person row.project parts.0 parts.1) refl
+    let whole : IsRow row = record { person = labels_in row.person parts.0; project = labels_in row.project parts.1 } in
+    rw (row_again (row_text row) (row_of (row_text row)) refl row whole refl) refl
 
 any_field : IsField any_text
 any_field = record { some = omega arith; bytes = refl }

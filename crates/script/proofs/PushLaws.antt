@@ -89,10 +89,6 @@ end_push (a ∷ []) c h e =
 end_push (a ∷ b ∷ cs) c h e =
     let parts = and_parts (goes_on a) (list_all goes_on (b ∷ cs)) h in and_both (not (is_end a)) (ends_once (b ∷ (cs ++ c ∷ []))) parts.0 (end_push (b ∷ cs) c parts.1 e)
 
-pub begins_push : (xs : List ProcessPlan) (x : ProcessPlan) → BeginsWithInitializer xs → BeginsWithInitializer (xs ++ x ∷ [])
-begins_push [] x h = absurd h
-begins_push (y ∷ ys) x h = h
-
 -- the last process is replaced by another of the same principal
 pub begins_same : (xs : List ProcessPlan) (x y : ProcessPlan) → x.who ≡ y.who → BeginsWithInitializer (xs ++ x ∷ []) → BeginsWithInitializer (xs ++ y ∷ [])
 begins_same [] x y e h = sym e ∙ h

@@ -20,10 +20,6 @@ pub write_code : (codes : List ℕ) (p code : ℕ) (r : Option ℕ) → record_o
 unfolding records_of
 write_code codes p code r is = map-set record_of codes p code ∙ ap (λ (x : Option ℕ). set (records_of codes) p x) is
 
-pub length_records : (codes : List ℕ) → length (records_of codes) ≡ length codes
-unfolding records_of
-length_records codes = length-map codes record_of
-
 map_none : (n : ℕ) → records_of (replicate n 65535) ≡ replicate n None
 unfolding records_of
 map_none zero = refl
