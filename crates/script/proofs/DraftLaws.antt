@@ -129,13 +129,17 @@ process_weight : (who : Who) (commands : List Command) (c : Command) → weight_
 unfolding weight_of
 process_weight who commands c = sum_push weight commands c
 
-pub process_ended : (d : DraftPlan) (new : List ProcessPlan) (left : List Command) (c : Command) (used : ℕ) → IsDraft d → new ≡ d.processes ++ record { who = d.who; commands = d.commands ++ c ∷ [] } ∷ [] → left ≡ [] → is_inside d.stage ≡ true → is_command (length d.volumes) c ≡ true → is_end c ≡ true → used ≡ d.used + weight c → used ≤ 100000 → IsDraft (record d { stage = stage.Processes; processes = new; commands = left; used = used })
-process_ended d new left c used h e empty inside range last u within =
+end_is_command : (volumes : ℕ) → is_command volumes command.End ≡ true
+unfolding is_command
+end_is_command volumes = refl
+
+pub process_ended : (d : DraftPlan) (new : List ProcessPlan) (left : List Command) (used : ℕ) → IsDraft d → new ≡ d.processes ++ record { who = d.who; commands = d.commands ++ command.End ∷ [] } ∷ [] → left ≡ [] → is_inside d.stage ≡ true → used ≡ d.used + 1 → used ≤ 100000 → IsDraft (record d { stage = stage.Processes; processes = new; commands = left; used = used })
+process_ended d new left used h e empty inside u within =
     let at : d.stage ≡ stage.Commands = inside_is d.stage inside in
-    let ended : ProcessPlan = record { who = d.who; commands = d.commands ++ c ∷ [] } in
+    let ended : ProcessPlan = record { who = d.who; commands = d.commands ++ command.End ∷ [] } in
     let more : length (d.processes ++ ended ∷ []) ≡ length d.processes + 1 = length_push d.processes ended in
     let room : length d.processes < 32 = h.room inside in
-    rw (e, empty) (record { processors = h.processors; frames = h.frames; pools = h.pools; quota = h.quota; some = λ _. h.some (inside_has_volume d.stage inside); few = h.few; volumes = h.volumes; names = h.names; records = h.records; bulks = h.bulks; apart = h.apart; fails = h.fails; most = h.most; early = λ z. absurd (false_not_true z); head = λ z. absurd (false_not_true z); room = λ z. absurd (false_not_true z); processes = omega (arith, more, room); each = all_push (is_process (length d.volumes)) d.processes ended h.each (process_is (length d.volumes) d.who d.commands c h.who h.commands h.going range last); first = λ z. begins_same d.processes (record { who = d.who; commands = d.commands }) ended refl (subst (λ s. BeginsWithInitializer (begun_at s d)) at (h.first z)); who = h.who; commands = refl; going = refl; weights = omega (arith, h.weights, sum_push weight_of d.processes ended, process_weight d.who d.commands c); used = within })
+    rw (e, empty) (record { processors = h.processors; frames = h.frames; pools = h.pools; quota = h.quota; some = λ _. h.some (inside_has_volume d.stage inside); few = h.few; volumes = h.volumes; names = h.names; records = h.records; bulks = h.bulks; apart = h.apart; fails = h.fails; most = h.most; early = λ z. absurd (false_not_true z); head = λ z. absurd (false_not_true z); room = λ z. absurd (false_not_true z); processes = omega (arith, more, room); each = all_push (is_process (length d.volumes)) d.processes ended h.each (process_is (length d.volumes) d.who d.commands command.End h.who h.commands h.going (end_is_command (length d.volumes)) refl); first = λ z. begins_same d.processes (record { who = d.who; commands = d.commands }) ended refl (subst (λ s. BeginsWithInitializer (begun_at s d)) at (h.first z)); who = h.who; commands = refl; going = refl; weights = omega (arith, h.weights, sum_push weight_of d.processes ended, process_weight d.who d.commands command.End); used = within })
 
 pub weight_bound : (volumes : ℕ) (c : Command) → is_command volumes c ≡ true → weight c ≤ 100000
 unfolding is_command

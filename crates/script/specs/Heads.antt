@@ -86,11 +86,14 @@ process_line d fields = do
 abbrev pub with_command : DraftPlan → ℕ → Command → DraftPlan
 with_command d used c = if is_end c then record d { stage = stage.Processes; processes = d.processes ++ record { who = d.who; commands = d.commands ++ c ∷ [] } ∷ []; commands = []; used = used } else record d { commands = d.commands ++ c ∷ []; used = used }
 
--- a command of a process; at most 100,000 in all
+-- the command that was read comes next; at most 100,000 in all
+abbrev pub added : DraftPlan → Result Command Cause → Result DraftPlan Cause
+added d (Ok c) = only_if cause.Many (nat_le (d.used + weight c) 100000) (with_command d (d.used + weight c) c)
+added d (Err e) = Err e
+
+-- a command of a process
 unfoldable pub command_line : DraftPlan → List ℕ → List (List ℕ) → Result DraftPlan Cause
-command_line d word fields = do
-  c ← command_of d.volumes word fields
-  only_if cause.Many (nat_le (d.used + weight c) 100000) (with_command d (d.used + weight c) c)
+command_line d word fields = added d (command_of d.volumes word fields)
 
 -- the lines that may stand after a process, after `fail`, after `print` or `bulk`, and after a volume
 unfoldable pub after_process : DraftPlan → List ℕ → List (List ℕ) → Result DraftPlan Cause

@@ -1,13 +1,14 @@
-ghost use Rattle.std.specs.Prelude.{◌≡◌, ◌+◌, ◌≤◌, false, true, length, sum_by, Ok};
+ghost use Rattle.std.specs.Prelude.{◌≡◌, ◌+◌, ◌<◌, ◌≤◌, false, true, IfOk, Ok, length, sum_by};
 ghost use Rattle.std.specs.List.{list_any};
 ghost use Rattle.script.specs.Drafts.{blank, initializer_who, has_volume, is_early, is_head, is_inside, plan_of};
 ghost use Rattle.script.specs.Fields.{fields_of};
 ghost use Rattle.script.specs.Forms.{is_before, is_command, is_end, is_who, records_of, weight};
 ghost use Rattle.script.specs.Grammar.{text_after, whole_or_missing};
-ghost use Rattle.script.specs.Heads.{machine_line, quota_line, volume_line, print_line, bulk_line, fail_line, initializer_line, process_line, command_line, with_command, after_process, after_fail, after_bulk, after_volume, line_at};
+ghost use Rattle.script.specs.Heads.{machine_line, quota_line, volume_line, print_line, bulk_line, fail_line, initializer_line, process_line, after_process, after_fail, after_bulk, after_volume, added, line_at};
+ghost use Rattle.script.specs.Lines.{volume_in};
 ghost use Rattle.script.specs.Readers.{Gives, Steps};
+ghost use Rattle.script.specs.declared.commands.Command.TheVariants.{End};
 
-use crate::command_lines::command_of;
 use crate::commands::{Command, Process};
 use crate::fields::{no_fields, one_field, six_fields, split_field, three_fields, two_fields};
 use crate::lines::is_printable;
@@ -170,13 +171,6 @@ fn weight_of(command: &Command) -> u32
         Command::Await { tries, .. } => *tries,
         _ => 1,
     }
-}
-
-/// Whether a command ends its process.
-fn is_end(command: &Command) -> bool
-    ensures { result ≡ is_end command.now }
-{
-    matches!(command, Command::End)
 }
 
 /// Whether the volume has a fast store.
@@ -355,55 +349,50 @@ impl Draft {
         Ok(())
     }
 
-    /// Adds a command that isn't the end, with which so many came in all.
-    fn go_on(&mut self, used: u32, command: Command) -> Result<(), LineFault>
+    /// The number of the volume that a field names, which must have been given.
+    pub(crate) fn volume_of(&self, text: &[u8]) -> Result<u32, Cause>
+        ensures volume { Gives (λ n. n) result (volume_in self.now.volumes text.now) }
+        ensures given { IfOk result (λ n. n < length self.now.volumes) }
+    {
+        volume_in(&self.volumes, text)
+    }
+
+    /// Adds a command that isn't the end. At most 100,000 come in all, where an await counts as its tries.
+    #[tactic(auto, using(crate::proofs::DraftLaws::weight_bound, std::proofs::lemmas::Grind::common_steps))]
+    pub(crate) fn push(&mut self, command: Command) -> Result<(), LineFault>
         requires inside { is_inside self.old.stage ≡ true }
         requires range { is_command (length self.old.volumes) command ≡ true }
         requires going { is_end command ≡ false }
-        requires used { used ≡ self.old.used + weight command }
-        requires within { used ≤ 100000 }
-        ensures { Steps self.new result (Ok (with_command self.old used command)) }
+        ensures { Steps self.new result (added self.old (Ok command)) }
     {
-        self.commands.push(command)?;
+        let used = self.used + weight_of(&command);
+        if used > 100_000 {
+            return Err(LineFault::Refused(Cause::Many));
+        }
+        self.commands.reserve(1)?;
+        self.commands.push_reserved(command);
         self.used = used;
         Ok(())
     }
 
-    /// Adds the end of the process, with which so many commands came in all.
-    fn end(&mut self, alloc: Global, used: u32, command: Command) -> Result<(), LineFault>
-        requires inside { is_inside self.old.stage ≡ true }
-        requires range { is_command (length self.old.volumes) command ≡ true }
-        requires last { is_end command ≡ true }
-        requires used { used ≡ self.old.used + weight command }
-        requires within { used ≤ 100000 }
-        ensures { Steps self.new result (Ok (with_command self.old used command)) }
+    /// Adds the end of the process, which is a command too.
+    pub(crate) fn end_process(&mut self, alloc: Global) -> Result<(), LineFault>
+        requires { is_inside self.old.stage ≡ true }
+        ensures { Steps self.new result (added self.old (Ok End)) }
     {
+        let used = self.used + 1;
+        if used > 100_000 {
+            return Err(LineFault::Refused(Cause::Many));
+        }
         self.processes.reserve(1)?;
-        self.commands.push(command)?;
+        self.commands.reserve(1)?;
+        self.commands.push_reserved(Command::End);
         let commands = mem::replace(&mut self.commands, Vec::new(alloc));
         self.processes
             .push_reserved(Process::new(self.who.copied(), commands));
         self.stage = Stage::Processes;
         self.used = used;
         Ok(())
-    }
-
-    /// A command of the process.
-    #[tactic(auto, using(crate::proofs::DraftLaws::weight_bound, std::proofs::lemmas::Grind::common_steps), unfolding(crate::specs::Heads::command_line))]
-    fn command(&mut self, alloc: Global, word: &[u8], line: &[u8]) -> Result<(), LineFault>
-        requires { is_inside self.old.stage ≡ true }
-        ensures { Steps self.new result (command_line self.old word.now (fields_of line.now)) }
-    {
-        let command = command_of(&self.volumes, word, line)?;
-        let used = self.used + weight_of(&command);
-        if used > 100_000 {
-            return Err(LineFault::Refused(Cause::Many));
-        }
-        if is_end(&command) {
-            self.end(alloc, used, command)
-        } else {
-            self.go_on(used, command)
-        }
     }
 
     /// A line that may stand after a process.
