@@ -7,7 +7,7 @@ use Rattle.std.proofs.lemmas.List.Elements.{All-get_or, All-from_get_or}
 use Rattle.bitmap.specs.Bitmap.{in_use, least_free, IsLeastFree}
 use Rattle.core_map.specs.declared.Frame.{Frame}
 use Rattle.core_map.specs.declared.Frame.TheVariants.{Free, Started, Bound}
-use Rattle.core_map.specs.CoreMap.{Core, frame_at, is_free, is_taken, is_started, is_bound, after_reference, with_modified, least_free_frame, IsLeastFreeFrame}
+use Rattle.core_map.specs.CoreMap.{Core, is_free, is_taken, is_bound, after_reference, with_modified, least_free_frame, IsLeastFreeFrame}
 use Rattle.core_map.specs.Clock.{frame_in, is_idle, unmarked}
 use Rattle.core_map.specs.Turns.{IsUnmarked}
 use Rattle.core_map.specs.Taken.{IsTied}

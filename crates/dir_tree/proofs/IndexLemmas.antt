@@ -1,14 +1,11 @@
 -- What an edit of the index leaves.
-use Rattle.std.proofs.Common.{◌≡◌, ◌≢◌, ℕ, ◌+◌, ◌-◌, ◌<◌, ◌≤◌, false, List, length, refl, sym, ap, ◌∙◌, arith, get_or, inl, inr, ◌⊎◌}
+use Rattle.std.proofs.Common.{◌≡◌, ◌≢◌, ℕ, ◌+◌, ◌-◌, ◌<◌, ◌≤◌, List, length, refl, sym, ap, ◌∙◌, arith, get_or, inl, inr, ◌⊎◌}
 use Rattle.std.specs.Prelude.{◌↔◌}
 use Rattle.std.specs.List.{insert, remove}
 use Rattle.std.proofs.lemmas.Bool.{cases_lt, cases_eq, cases_order}
 use Rattle.std.proofs.lemmas.List.Edits.{length-insert, get_or-insert_below, get_or-insert_at, get_or-insert_above, get_or-remove_below, get_or-remove_above}
-use Rattle.storage_terms.specs.Tree.{is_branch}
 use Rattle.dir_tree.proofs.EditLemmas.{was, was_other, was_up, at_was, fewer, was_within}
-use Rattle.dir_tree.specs.declared.node.Node.{Node}
-use Rattle.dir_tree.specs.Shape.{shape}
-use Rattle.dir_tree.specs.Index.{hash_at, place_of, node_at, HasPair, IsRising, AreApart}
+use Rattle.dir_tree.specs.Index.{hash_at, place_of, HasPair, IsRising, AreApart}
 
 -- where a pair of the longer list stands
 data Where (k i : ℕ) : Type 0 where

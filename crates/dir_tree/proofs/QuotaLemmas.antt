@@ -1,12 +1,12 @@
 -- Where a path leads, what is above a node and what keeps a branch from being added don't depend on quotas, nor on
 -- anything but uids, superiors, names and kinds.
-use Rattle.std.proofs.Common.{◌≡◌, ℕ, ◌+◌, Bool, true, false, cond, eqb, List, [], ◌∷◌, length, reverse, ◌||◌, Option, Some, None, Ok, refl, sym, ap, ◌∙◌, is_some, get_or, drop, ◌<◌, ◌≤◌}
+use Rattle.std.proofs.Common.{◌≡◌, ℕ, ◌+◌, Bool, true, false, cond, eqb, List, [], ◌∷◌, length, ◌||◌, Option, Some, None, Ok, refl, sym, ap, ◌∙◌, is_some, get_or, drop, ◌<◌, ◌≤◌}
 use Rattle.std.specs.List.{find}
 use Rattle.std.specs.Option.{option_map}
 use Rattle.std.proofs.lemmas.List.{length-map, at_drop_more, at_drop_all}
 use Rattle.storage_terms.specs.Tree.{Node as Term, Walk, LeadsTo, above, branch_in, is_branch, is_inferior, onward, step_up, walk_from, walk_in}
 use Rattle.dir_tree.specs.declared.node.Node.{Node}
-use Rattle.dir_tree.specs.Nodes.{as_term, with_quotas, add_fault_of, has_inferior, chain_of, unless}
+use Rattle.dir_tree.specs.Nodes.{as_term, with_quotas, add_fault_of, has_inferior, unless}
 use Rattle.dir_tree.specs.Shape.{shape, shapes}
 use Rattle.dir_tree.proofs.FindLemmas.{find_map, branch_found}
 

@@ -1,23 +1,18 @@
 -- For callers: what the ties between tables, homes and frames give.
-use Rattle.std.proofs.Common.{◌≡◌, ◌≢◌, ℕ, true, false, List, [], length, get_or, is_some, inl, inr, refl, Option, None, Some, sym, ap, ◌∙◌}
-use Rattle.std.proofs.lemmas.Bool.{cases_eq}
-use Rattle.std.proofs.lemmas.Bool.Decides.{leb_tells}
-use Rattle.std.proofs.lemmas.List.{get_or-set_same, get_or-set_other, set_past}
+use Rattle.std.proofs.Common.{◌≡◌, ◌≢◌, ℕ, true, false, List, [], is_some, Option, None, Some, sym, ap, ◌∙◌}
 use Rattle.std.proofs.lemmas.Option.{same_Some}
 use Rattle.page_table.specs.declared.Ptw.{Ptw}
 use Rattle.page_table.specs.declared.Ptw.TheVariants.{Leaving}
 use Rattle.page_table.specs.PageTable.{ptw_at}
-use Rattle.page_control.specs.Plain.{Plain, bindings, binding_at, number_in, entry_of, uid_of_home, uid_or_zero, frame_in, words_in, words_on, disk_of, file_map_of, filed, record_of}
-use Rattle.core_map.specs.CoreMap.{Core, frame_at, with_frame, is_bound, is_modified}
-use Rattle.core_map.specs.declared.Frame.{Frame}
-use Rattle.core_map.specs.declared.Frame.TheVariants.{Free, Started}
+use Rattle.page_control.specs.Plain.{Plain, bindings, binding_at, number_in, uid_or_zero, frame_in, words_in, words_on, disk_of, file_map_of, filed, record_of}
+use Rattle.core_map.specs.CoreMap.{Core, frame_at, is_bound, is_modified}
 use Rattle.vtoc.specs.Vtoc.{Entry, uid_of}
 use Rattle.page_control.specs.declared.Home.{Home}
 use Rattle.page_control.specs.Picture.{AreClean, volume_of, record_named, words_filed, words_held, words_of_page, is_filed_in, picture, is_stored}
 use Rattle.page_control.proofs.Facts.{filed_from_word, binding_is, bound_from_page, bound_to}
 use Rattle.page_control.proofs.Pictures.{volume_found, record_found, found_nowhere}
 use Rattle.page_control.proofs.Changes.{picture_at}
-use Rattle.page_control.specs.Tied.{frame_of, has_record, uid_in, IsTableOf, IsHomeOf, IsMapOf, IsBoundOnce, HasNoHome, HasNoFrame, IsNotStarted, KeepsOthers}
+use Rattle.page_control.specs.Tied.{frame_of, has_record, uid_in, IsTableOf, IsHomeOf, IsMapOf, IsBoundOnce, HasNoFrame}
 use Rattle.page_control.proofs.Ties.{not_none, frame_same, bound_within}
 
 -- a page of the segment of a table is in one frame

@@ -1,13 +1,12 @@
 -- For callers: page control as it is made, with all frames free and no VTOC entry used.
-use Rattle.std.proofs.Common.{◌≡◌, ℕ, zero, suc, Bool, List, [], ◌∷◌, Option, None, refl, ap, map, replicate}
+use Rattle.std.proofs.Common.{◌≡◌, ℕ, zero, suc, List, [], ◌∷◌, None, refl, map, replicate}
 use Rattle.core_map.specs.declared.Frame.TheVariants.{Free}
-use Rattle.vtoc.specs.Vtoc.{Entry, entry_at, uid_of}
+use Rattle.vtoc.specs.Vtoc.{entry_at}
 use Rattle.volumes.specs.declared.Part.{Part}
 use Rattle.page_control.specs.Plain.{Plain, bindings}
-use Rattle.page_control.specs.Tied.{vtoc_in, HasNoHome, HasNoFrame, AreFiled}
+use Rattle.page_control.specs.Tied.{vtoc_in, HasNoFrame}
 use Rattle.page_control.specs.Picture.{AreClean}
 use Rattle.page_control.proofs.Ties.{not_none}
-use Rattle.page_control.proofs.Leaving.{named_by}
 use Rattle.page_control.proofs.Fresh.{alike, table_fresh}
 
 -- no frame is bound, so each bound one is clean

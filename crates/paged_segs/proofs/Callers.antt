@@ -1,19 +1,17 @@
 -- For callers: fresh volumes, and frames that were all visited.
-use Rattle.std.proofs.Common.{◌≡◌, ℕ, zero, suc, ◌+◌, ◌<◌, false, All, List, [], ◌∷◌, length, Some, None, refl, ap, ◌∙◌, arith, inl, inr, get_or, map}
+use Rattle.std.proofs.Common.{◌≡◌, ℕ, zero, suc, ◌+◌, ◌<◌, List, [], ◌∷◌, length, None, refl, ap, ◌∙◌, arith, inl, inr, get_or}
 use Rattle.std.proofs.lemmas.Bool.{cases_eq}
 use Rattle.std.proofs.lemmas.Bool.Decides.{leb_tells}
-use Rattle.std.proofs.lemmas.List.{get_or_past, get_or-set_same, get_or-set_other, length-replicate, set_past}
-use Rattle.std.proofs.lemmas.List.Elements.{All-map, All-head, All-tail}
+use Rattle.std.proofs.lemmas.List.{get_or_past, get_or-set_same, get_or-set_other, set_past}
 use Rattle.core_map.specs.declared.Frame.TheVariants.{Free}
 use Rattle.core_map.specs.CoreMap.{Core, frame_at, with_frame}
 use Rattle.vtoc.specs.Vtoc.{entry_at}
 use Rattle.volumes.specs.CoreDrive.{DriveState}
-use Rattle.volumes.specs.Volumes.{Vols, made_of}
+use Rattle.volumes.specs.Volumes.{made_of}
 use Rattle.volumes.specs.declared.Part.{Part}
-use Rattle.page_control.specs.Tied.{vtoc_in, flags_in}
+use Rattle.page_control.specs.Tied.{vtoc_in}
 use Rattle.page_control.proofs.Fresh.{alike}
-use Rattle.paged_segs.specs.Segs.{pages_of, plan_of}
-use Rattle.paged_segs.specs.Kept.{AreFresh}
+use Rattle.paged_segs.specs.Segs.{pages_of}
 
 -- volumes as they are made of parts whose drives never fail
 free_made : (parts : List (Part DriveState)) (w e : ℕ) → entry_at (vtoc_in (made_of pages_of parts).vtocs w) e ≡ None

@@ -5,14 +5,12 @@ use Rattle.book.specs.declared.entries.Entry.{Entry}
 use Rattle.book.specs.declared.entries.Entry.TheVariants as entry
 use Rattle.book.specs.declared.replies.Reply.{Reply}
 use Rattle.flat_store.specs.Flat.{Store, is_turn}
-use Rattle.flat_store.specs.Legal.{IsLawful, IsAnswer, MayRelease, after_entry, store_after}
+use Rattle.flat_store.specs.Legal.{IsLawful, IsAnswer, after_entry, store_after}
 use Rattle.flat_store.proofs.BookLaws.{store_after-push, legal_push}
-use Rattle.page_control.specs.declared.Left.TheVariants.{Released}
 use Rattle.runner.specs.Tables.{Held, AreTied}
 use Rattle.runner.specs.Effects.{IsSame}
 use Rattle.runner.specs.Machines.{Holds, IsAt, IsStep, GoesOn, done_at, store_done}
 use Rattle.runner.proofs.Same as same
-use Rattle.runner.proofs.Gone.{store_left}
 
 -- the book with one more entry
 pub record IsBooked (p now : Plan) (es later : List Entry) (e : Entry) : Type 0 where

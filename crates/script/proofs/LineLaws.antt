@@ -1,8 +1,10 @@
 -- Laws of lines and fields (own).
-use Rattle.std.proofs.Common.{◌≡◌, ◌≢◌, ℕ, suc, zero, ◌+◌, ◌-◌, ◌<◌, ◌≤◌, false, eqb, List, [], ◌∷◌, ◌++◌, length, refl, sym, ap, ◌∙◌, arith, get_or, take, drop, drop-cons, add-one}
+use Rattle.std.proofs.Common.{◌≡◌, ◌≢◌, ℕ, suc, zero, ◌+◌, ◌-◌, ◌<◌, ◌≤◌, true, false, ◌&&◌, eqb, List, [], ◌∷◌, ◌++◌, length, refl, sym, ap, ◌∙◌, arith, Bool, get_or, take, drop, drop-cons, add-one}
 use Rattle.std.proofs.lemmas.Bool.Decides.{nat_tests}
 use Rattle.std.proofs.lemmas.Grind.{common_steps}
-use Rattle.script.specs.Fields.{lines_of, onto_piece, fields_of, onto_field}
+use Rattle.std.proofs.lemmas.List.{take_all}
+use Rattle.std.proofs.lemmas.List.Folds.{list_all_more}
+use Rattle.script.specs.Fields.{lines_of, onto_piece, fields_of, onto_field, is_printable, is_printable_byte}
 
 pub drop_at : (xs : List ℕ) (i : ℕ) → i < length xs → drop i xs ≡ get_or xs i 0 ∷ drop (i + 1) xs
 drop_at xs i h = rw (add-one, drop-cons xs i 0) refl
@@ -52,6 +54,37 @@ lines_last b (c ∷ cs) clear =
 pub line_last : (bs : List ℕ) → NoFeedBefore (length bs) bs → 0 < length bs → lines_of bs ≡ bs ∷ lines_of []
 line_last [] clear some = absurd (omega arith)
 line_last (b ∷ bs) clear some = rw lines_nil (lines_last b bs clear)
+
+-- ---- printable bytes
+
+pub none_printable : true ≡ is_printable []
+unfolding is_printable
+none_printable = refl
+
+pub more_printable : (bs : List ℕ) (i : ℕ) → i < length bs → 32 ≤ get_or bs i 0 → get_or bs i 0 ≤ 126 → is_printable (take (i + 1) bs) ≡ is_printable (take i bs)
+unfolding is_printable
+more_printable bs i lt low high =
+    let here : is_printable_byte (get_or bs i 0) ≡ true = grind (arith, nat_tests) in
+    list_all_more is_printable_byte bs i 0 lt ∙ rw here (and_true _)
+  where
+    and_true : (z : Bool) → (z && true) ≡ z
+    and_true true = refl
+    and_true false = refl
+
+pub one_unprintable : (bs : List ℕ) (i : ℕ) → i < length bs → (32 ≤ get_or bs i 0 → get_or bs i 0 ≤ 126 → ⊥) → false ≡ is_printable (take (i + 1) bs)
+unfolding is_printable
+one_unprintable bs i lt out =
+    let here : is_printable_byte (get_or bs i 0) ≡ false = grind (arith, nat_tests) in
+    sym (list_all_more is_printable_byte bs i 0 lt ∙ rw here (and_false _))
+  where
+    and_false : (z : Bool) → (z && false) ≡ false
+    and_false true = refl
+    and_false false = refl
+
+pub all_printable : (bs : List ℕ) (i : ℕ) → length bs ≤ i → is_printable (take i bs) ≡ is_printable bs
+all_printable bs i end = ap is_printable (take_all i bs end)
+
+-- ---- fields
 
 -- spaces before a field
 fields_space : (b : ℕ) (bs : List ℕ) → b ≡ 32 → fields_of (b ∷ bs) ≡ fields_of bs

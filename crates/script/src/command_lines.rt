@@ -254,7 +254,12 @@ impl Draft {
 
     /// The command of a line, by its word and what follows the word.
     #[tactic(auto, unfolding(crate::specs::Commands::command_of, crate::specs::Heads::command_line))]
-    pub(crate) fn command(&mut self, alloc: Global, word: &[u8], line: &[u8]) -> Result<(), LineFault>
+    pub(crate) fn command(
+        &mut self,
+        alloc: Global,
+        word: &[u8],
+        line: &[u8],
+    ) -> Result<(), LineFault>
         requires { is_inside self.old.stage ≡ true }
         ensures { Steps self.new result (command_line self.old word.now (fields_of line.now)) }
     {

@@ -1,7 +1,7 @@
 ghost use Rattle.std.specs.Prelude.{◌≡◌, ◌+◌, ◌<◌, ◌≤◌, false, true, IfOk, Ok, length, sum_by};
 ghost use Rattle.std.specs.List.{list_any};
 ghost use Rattle.script.specs.Drafts.{blank, initializer_who, has_volume, is_early, is_head, is_inside, plan_of};
-ghost use Rattle.script.specs.Fields.{fields_of};
+ghost use Rattle.script.specs.Fields.{fields_of, is_printable};
 ghost use Rattle.script.specs.Forms.{is_before, is_command, is_end, is_who, records_of, weight};
 ghost use Rattle.script.specs.Grammar.{text_after, whole_or_missing};
 ghost use Rattle.script.specs.Heads.{machine_line, quota_line, volume_line, print_line, bulk_line, fail_line, initializer_line, process_line, after_process, after_fail, after_bulk, after_volume, added, line_at};
@@ -11,7 +11,6 @@ ghost use Rattle.script.specs.declared.commands.Command.TheVariants.{End};
 
 use crate::commands::{Command, Process};
 use crate::fields::{no_fields, one_field, six_fields, split_field, three_fields, two_fields};
-use crate::lines::is_printable;
 use crate::plan::{Bulk, Fail, Print, Script, VolumeLine};
 use crate::refusals::{Cause, Refusal};
 use crate::values::{call_in, is_write_in, number_in, print_in, who_in};
@@ -485,12 +484,18 @@ impl Draft {
         }
     }
 
-    /// One more line.
+    /// One more line, and whether it is printable.
     #[tactic(auto, unfolding(crate::specs::Grammar::text_after, crate::specs::Grammar::line_after))]
-    pub(crate) fn line(&mut self, alloc: Global, line: &[u8]) -> Result<(), LineFault>
+    pub(crate) fn line(
+        &mut self,
+        alloc: Global,
+        line: &[u8],
+        printable: bool,
+    ) -> Result<(), LineFault>
+        requires { printable ≡ is_printable line.now }
         ensures { Steps self.new result (text_after self.old line.now) }
     {
-        if !is_printable(line) {
+        if !printable {
             return Err(LineFault::Refused(Cause::BadChar));
         }
         let (word, rest) = split_field(line);

@@ -27,8 +27,8 @@ pub fn read_script(alloc: Global, bytes: &[u8]) -> Result<Script, ScriptFault>
     let mut rest = bytes;
     let mut number: u32 = 1;
     while !rest.is_empty() {
-        let (line, after) = next_line(rest);
-        match draft.line(alloc, line) {
+        let (line, after, printable) = next_line(rest);
+        match draft.line(alloc, line, printable) {
             Ok(()) => {}
             Err(LineFault::Refused(cause)) => {
                 return Err(ScriptFault::Refused(Refusal {

@@ -153,7 +153,7 @@ process Smith
 end";
 
 #[test]
-fn each_kind_of_line_is_read(rt: HostRuntime) -> Result<(), Fail> {
+fn each_kind_of_line_of_the_head_is_read(rt: HostRuntime) -> Result<(), Fail> {
     let script = read_script(rt.alloc(), WHOLE.as_bytes())?;
     assert_eq!(rt; script.processors(), 8);
     assert_eq!(rt; script.frames(), 1024);
@@ -189,6 +189,12 @@ fn each_kind_of_line_is_read(rt: HostRuntime) -> Result<(), Fail> {
     ];
     assert_eq!(rt; script.fails(), fails.as_slice());
     assert!(rt; script.initializer());
+    Ok(())
+}
+
+#[test]
+fn each_kind_of_command_is_read(rt: HostRuntime) -> Result<(), Fail> {
+    let script = read_script(rt.alloc(), WHOLE.as_bytes())?;
     assert_eq!(rt; script.processes(), 3);
     assert_eq!(rt; script.who(0).person.as_str(), "Initializer");
     assert_eq!(rt; script.who(0).project.as_str(), "Default");
@@ -499,7 +505,8 @@ fn each_cause_stands_first_and_last(rt: HostRuntime) -> Result<(), Fail> {
         front.push_str("process Jones\nend\n")?;
     }
     check(&rt, front.as_str(), LAST_PLACES)?;
-    let volumes = "machine 1 4 12 1 1 1\nquota 4\nvolume a 1 1\nvolume b 1 1\nvolume c 1 1\nvolume d 1 1\n";
+    let volumes =
+        "machine 1 4 12 1 1 1\nquota 4\nvolume a 1 1\nvolume b 1 1\nvolume c 1 1\nvolume d 1 1\n";
     check(&rt, volumes, LAST_TWICE)
 }
 
