@@ -1,4 +1,4 @@
-ghost use Rattle.std.specs.Prelude.{◌≡◌, ◌+◌, ◌<◌, ◌≤◌, false, true, IfOk, Ok, length, sum_by};
+ghost use Rattle.std.specs.Prelude.{◌≡◌, ◌+◌, ◌<◌, ◌≤◌, false, true, IfOk, Ok, OnOk, length, sum_by, vec_capacity, vec_len};
 ghost use Rattle.std.specs.List.{list_any};
 ghost use Rattle.script.specs.Drafts.{blank, initializer_who, has_volume, is_early, is_head, is_inside, plan_of};
 ghost use Rattle.script.specs.Fields.{fields_of, is_printable};
@@ -170,6 +170,18 @@ fn weight_of(command: &Command) -> u32
         Command::Await { tries, .. } => *tries,
         _ => 1,
     }
+}
+
+/// Makes room for a command more. It is for a part in 32 more each time, so that less than 400 bytes a
+/// command are taken.
+fn make_room(commands: &mut Vec<Command>) -> Result<(), AllocError>
+    ensures items { commands.new.items ≡ commands.old.items }
+    ensures room { OnOk result (vec_len commands.new < vec_capacity commands.new) }
+{
+    if commands.len() < commands.capacity() {
+        return Ok(());
+    }
+    commands.reserve_exact(commands.len() / 32 + 8)
 }
 
 /// Whether the volume has a fast store.
@@ -368,7 +380,7 @@ impl Draft {
         if used > 100_000 {
             return Err(LineFault::Refused(Cause::Many));
         }
-        self.commands.reserve(1)?;
+        make_room(&mut self.commands)?;
         self.commands.push_reserved(command);
         self.used = used;
         Ok(())
@@ -384,7 +396,7 @@ impl Draft {
             return Err(LineFault::Refused(Cause::Many));
         }
         self.processes.reserve(1)?;
-        self.commands.reserve(1)?;
+        make_room(&mut self.commands)?;
         self.commands.push_reserved(Command::End);
         let commands = mem::replace(&mut self.commands, Vec::new(alloc));
         self.processes
