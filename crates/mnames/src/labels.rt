@@ -5,8 +5,7 @@ ghost use Rattle.std.specs.Cmp.{partial_equiv_from_equiv};
 ghost use Rattle.mnames.specs.Names.{is_label, is_label_byte, IsLabel};
 ghost use Rattle.mnames.specs.Principals.{default_project};
 
-use crate::texts::{NAME_BYTES, short_text};
-use arrayvec::ArrayString;
+use crate::texts::{NAME_BYTES, ShortText};
 use std::fmt;
 use std::marker::Model;
 
@@ -14,7 +13,7 @@ use std::marker::Model;
 /// (own). Case counts. It is kept in the value itself, and a contract sees the bytes.
 #[derive(Debug, Drop)]
 pub struct Label {
-    text: ArrayString<NAME_BYTES>,
+    text: ShortText,
 }
 
 impl Model for Label {
@@ -23,9 +22,9 @@ impl Model for Label {
 
     ghost Value = { List ℕ };
 
-    ghost view = { λ l. l.text.bytes };
+    ghost view = { λ l. l.text };
 
-    ghost invariant = { λ l. IsLabel l.text.bytes };
+    ghost invariant = { λ l. IsLabel l.text };
 }
 
 /// Whether a byte may stand in a label.
@@ -62,7 +61,7 @@ pub fn read_label(text: &[u8]) -> Option<Label>
         return None;
     }
     Some(Label {
-        text: short_text(text),
+        text: ShortText::of(text),
     })
 }
 
@@ -72,15 +71,17 @@ impl Label {
         ensures { result ≡ default_project }
     {
         Label {
-            text: short_text(b"Default"),
+            text: ShortText::of(b"Default"),
         }
     }
 
-    /// The same label. It takes no memory: 40 bytes are copied.
+    /// The same label. It takes no memory: 33 bytes are copied.
     pub fn copied(&self) -> Label
         ensures { result ≡ self.now }
     {
-        Label { text: self.text }
+        Label {
+            text: self.text.copied(),
+        }
     }
 
     /// The text of the label.
@@ -98,7 +99,7 @@ impl PartialEq for Label {
     ghost laws = { partial_equiv_from_equiv nat_list_eq_equiv };
 
     fn eq(&self, other: &Self) -> bool {
-        self.text == other.text
+        self.text.as_bytes() == other.text.as_bytes()
     }
 }
 
@@ -110,6 +111,6 @@ impl fmt::Display for Label {
     ghost output = { λ l. Some l };
 
     fn fmt<W: fmt::Write>(&self, f: &mut fmt::Formatter<W>) -> fmt::Result {
-        write!(f, "{}", self.text)
+        write!(f, "{}", self.text.as_str())
     }
 }

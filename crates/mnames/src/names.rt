@@ -5,8 +5,7 @@ ghost use Rattle.std.specs.Cmp.{partial_equiv_from_equiv};
 ghost use Rattle.mnames.specs.Names.{is_name, is_name_byte, IsName};
 ghost use Rattle.mnames.specs.Reading.{IsAtSign, IsRun, IsStuck};
 
-use crate::texts::{NAME_BYTES, short_text};
-use arrayvec::ArrayString;
+use crate::texts::{NAME_BYTES, ShortText};
 use std::fmt;
 use std::marker::Model;
 
@@ -15,7 +14,7 @@ use std::marker::Model;
 /// contract sees the bytes.
 #[derive(Debug, Drop)]
 pub struct Name {
-    text: ArrayString<NAME_BYTES>,
+    text: ShortText,
 }
 
 impl Model for Name {
@@ -24,9 +23,9 @@ impl Model for Name {
 
     ghost Value = { List ℕ };
 
-    ghost view = { λ n. n.text.bytes };
+    ghost view = { λ n. n.text };
 
-    ghost invariant = { λ n. IsName n.text.bytes };
+    ghost invariant = { λ n. IsName n.text };
 }
 
 /// Whether a byte may stand in an entry name.
@@ -63,7 +62,7 @@ pub fn read_name(text: &[u8]) -> Option<Name>
         return None;
     }
     Some(Name {
-        text: short_text(text),
+        text: ShortText::of(text),
     })
 }
 
@@ -102,11 +101,13 @@ pub(crate) fn next_name(text: &[u8]) -> Result<(Name, &[u8]), usize>
 }
 
 impl Name {
-    /// The same name. It takes no memory: 40 bytes are copied.
+    /// The same name. It takes no memory: 33 bytes are copied.
     pub fn copied(&self) -> Name
         ensures { result ≡ self.now }
     {
-        Name { text: self.text }
+        Name {
+            text: self.text.copied(),
+        }
     }
 
     /// The text of the name.
@@ -124,7 +125,7 @@ impl PartialEq for Name {
     ghost laws = { partial_equiv_from_equiv nat_list_eq_equiv };
 
     fn eq(&self, other: &Self) -> bool {
-        self.text == other.text
+        self.text.as_bytes() == other.text.as_bytes()
     }
 }
 
@@ -138,7 +139,7 @@ impl Default for Name {
 
     fn default() -> Self {
         Name {
-            text: short_text(b"root"),
+            text: ShortText::of(b"root"),
         }
     }
 }
@@ -147,6 +148,6 @@ impl fmt::Display for Name {
     ghost output = { λ n. Some n };
 
     fn fmt<W: fmt::Write>(&self, f: &mut fmt::Formatter<W>) -> fmt::Result {
-        write!(f, "{}", self.text)
+        write!(f, "{}", self.text.as_str())
     }
 }

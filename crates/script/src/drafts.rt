@@ -172,7 +172,7 @@ fn weight_of(command: &Command) -> u32
     }
 }
 
-/// Makes room for a command more. It is for a part in 32 more each time, so that less than 400 bytes a
+/// Makes room for a command more. It grows by a part in 64 at a time, so that at most 400 bytes a
 /// command are taken.
 fn make_room(commands: &mut Vec<Command>) -> Result<(), AllocError>
     ensures items { commands.new.items ≡ commands.old.items }
@@ -181,7 +181,7 @@ fn make_room(commands: &mut Vec<Command>) -> Result<(), AllocError>
     if commands.len() < commands.capacity() {
         return Ok(());
     }
-    commands.reserve_exact(commands.len() / 32 + 8)
+    commands.reserve_exact(commands.len() / 64 + 8)
 }
 
 /// Whether the volume has a fast store.

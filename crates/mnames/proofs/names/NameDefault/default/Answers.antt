@@ -8,4 +8,4 @@ unfolding is_name
 root_is_name = refl
 
 pub invariant_of-result : goal.invariant_of-result
-invariant_of-result c = rw (c.short_text.ensures) root_is_name
+invariant_of-result c = rw (c.of.ensures) root_is_name
