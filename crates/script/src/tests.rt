@@ -529,6 +529,11 @@ fn a_byte_that_is_not_printable_is_refused_first(rt: HostRuntime) -> Result<(), 
     Ok(())
 }
 
+#[test]
+fn a_command_takes_at_most_400_bytes(rt: HostRuntime) {
+    assert!(rt; size_of::<Command>() <= 400);
+}
+
 /// The head, a line so many times, and an end.
 fn repeated(alloc: Global, line: &str, times: u32, end: &str) -> Result<String, AllocError> {
     let mut text = String::new(alloc);
