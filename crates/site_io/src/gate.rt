@@ -1,10 +1,18 @@
 use std::sync::Wait;
 use std::thread::Threads;
 
-/// Where a processor stands when a gate is called.
+/// Where a processor stands when a gate is called: what its last step did, as far as a test asks. (Source: own.)
 #[derive(Clone, Copy, Debug, PartialEq, Eq)]
 pub enum Point {
-    /// Between two steps of which nothing else is told.
+    /// It came online.
+    Online,
+    /// It loaded this process.
+    Loaded(u32),
+    /// A reference of this process was answered through a frame.
+    Answered(u32),
+    /// It signalled the other processors to clear what they hold.
+    Signalled,
+    /// Anything else, a wait among it.
     Other,
 }
 
