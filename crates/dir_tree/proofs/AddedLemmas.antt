@@ -5,15 +5,17 @@ use Rattle.std.proofs.lemmas.Bool.{cases_eq, cases_lt, eq-eqb, ne_eqb}
 use Rattle.std.proofs.lemmas.List.{length-map, length_push, get_or_append_left, get_or_push, get_or-take, length-take-le}
 use Rattle.dir_tree.specs.declared.node.Node.{Node}
 use Rattle.dir_tree.specs.declared.entries.Entry.{Entry}
-use Rattle.dir_tree.specs.Index.{Pairs, HasPair, key_hash, node_at}
+use Rattle.dir_tree.specs.Index.{Places, HasPlace, IsSorted, AreWithin, key_of, key_at, node_at}
 use Rattle.dir_tree.specs.Nodes.{is_directory, add_fault_of}
 use Rattle.dir_tree.specs.Shape.{shape, shapes, IsBranch, IsTree, Joins}
 use Rattle.dir_tree.specs.Kept.{no_entry, entry_at, newest, place_for, IsNamed, IsPlace, IsKept}
 use Rattle.dir_tree.proofs.EditLemmas.{each_pushed}
 use Rattle.dir_tree.proofs.NewestLemmas.{node_of_entry, newest_same, newest_push, length_newest}
-use Rattle.dir_tree.proofs.KeptLemmas.{MayAdd, no_fault, directory_shape, below_newest}
+use Rattle.dir_tree.proofs.KeptLemmas.{MayAdd, no_fault, directory_shape, below_newest, no_place, places_within}
+use Rattle.dir_tree.proofs.IndexLemmas.{key_branch}
+use Rattle.storage_terms.specs.Tree.{branch_in}
 
-module _ (nodes : List Node) (es : List Entry) (free : List ℕ) (index : Pairs) (next : ℕ) (k : IsKept nodes es free index next) (place : ℕ) (is_place : place ≡ place_for nodes free) where
+module _ (nodes : List Node) (es : List Entry) (free : List ℕ) (index : Places) (next : ℕ) (k : IsKept nodes es free index next) (place : ℕ) (is_place : place ≡ place_for nodes free) where
   -- the place of a new node is no entry's
   pub place_unused : (j : ℕ) → j < length es → (entry_at es j).place ≢ place
   place_unused j lt e = elim (cases_eq (length free) 0) [
@@ -26,16 +28,50 @@ module _ (nodes : List Node) (es : List Entry) (free : List ℕ) (index : Pairs)
         k.unused (length free - 1) j (omega arith) lt (sym (e ∙ last)))
   ]
 
-  pub no_pair : (hash : ℕ) → HasPair index.pairs hash place → ⊥
-  no_pair hash pair = (let p = k.places hash place pair in place_unused p.i p.within p.place_is)
+  pub no_place_yet : HasPlace index.places place → ⊥
+  no_place_yet there = (let p = k.places place there in place_unused p.i p.within p.place_is)
 
-module _ (nodes : List Node) (es : List Entry) (free : List ℕ) (index : Pairs) (next : ℕ) (k : IsKept nodes es free index next) (s : ℕ) (n : Node) (nodes' : List Node) (free' : List ℕ) (index' : Pairs) (place hash : ℕ)
+  -- what the index asks for, once the new node stands in its place
+  module _ (nodes' : List Node) (others : (p : ℕ) → p ≢ place → node_at nodes' p ≡ node_at nodes p) (grown : length nodes' ≡ (if eqb (length free) 0 then length nodes + 1 else length nodes)) where
+    old_key : (i : ℕ) → i < length index.places → key_at nodes' index.places i ≡ key_at nodes index.places i
+    old_key i lt = ap key_of (others (get_or index.places i 0) (λ e. no_place_yet (record { at = i; within = lt; is = e })))
+
+    pub sorted_still : IsSorted nodes' index.places
+    sorted_still i j lt in_j = rw (old_key i (omega arith), old_key j in_j) (k.sorted i j lt in_j)
+
+    within_more : (p : ℕ) → p < length nodes → p < length nodes'
+    within_more p lt = elim (cases_eq (length free) 0) [
+      | inl none ↦ (let g : length nodes' ≡ length nodes + 1 = rw (eq-eqb (length free) 0 none) at grown in omega arith)
+      | inr some ↦ (let g : length nodes' ≡ length nodes = rw (ne_eqb (length free) 0 some) at grown in omega arith)
+    ]
+
+    pub within_still : AreWithin nodes' index.places
+    within_still i lt = within_more (get_or index.places i 0) (places_within nodes es free index next k i lt)
+
+    pub new_within : place < length nodes'
+    new_within = elim (cases_eq (length free) 0) [
+      | inl none ↦
+          (let g : length nodes' ≡ length nodes + 1 = rw (eq-eqb (length free) 0 none) at grown in
+          let at_end : place ≡ length nodes = rw (eq-eqb (length free) 0 none) at is_place in omega arith)
+      | inr some ↦
+          (let last : place ≡ get_or free (length free - 1) 0 = rw (ne_eqb (length free) 0 some) at is_place in
+          within_more place (rw last (k.free_within (length free - 1) (omega arith))))
+    ]
+
+    -- no branch that is there has its key
+    pub new_key : (s : ℕ) (n : Node) → node_at nodes' place ≡ n → n.superior ≡ Some s → branch_in (shapes (newest nodes es)) s n.name ≡ None
+        → (i : ℕ) → i < length index.places → key_at nodes' index.places i ≢ key_of (node_at nodes' place)
+    new_key s n here up none i lt e =
+        (let same : key_at nodes index.places i ≡ (Some s, n.name) = sym (old_key i lt) ∙ e ∙ ap key_of here ∙ ap (λ (o : Option ℕ). (o, n.name)) up in
+        no_place nodes es free index next k s n.name none (get_or index.places i 0) (record { at = i; within = lt; is = refl }) (key_branch s n.name (node_at nodes (get_or index.places i 0)) same))
+
+module _ (nodes : List Node) (es : List Entry) (free : List ℕ) (index : Places) (next : ℕ) (k : IsKept nodes es free index next) (s : ℕ) (n : Node) (nodes' : List Node) (free' : List ℕ) (index' : Places) (place : ℕ)
     (n_uid : n.uid ≡ next) (n_superior : n.superior ≡ Some s)
     (directory : is_directory (newest nodes es) s ≡ true) (may : add_fault_of (shapes (newest nodes es)) s n.name n.dir ≡ None)
     (is_place : place ≡ place_for nodes free) (here : node_at nodes' place ≡ n) (others : (p : ℕ) → p ≢ place → node_at nodes' p ≡ node_at nodes p)
     (rest : free' ≡ take (length free - 1) free) (grown : length nodes' ≡ (if eqb (length free) 0 then length nodes + 1 else length nodes))
-    (is_hash : hash ≡ key_hash s n.name) (pairs : (h p : ℕ) → HasPair index'.pairs h p ↔ (HasPair index.pairs h p ⊎ ((h ≡ hash) × (p ≡ place))))
-    (count : length index'.pairs ≡ length index.pairs + 1) (room : index'.room ≡ index.room) where
+    (sorted : IsSorted nodes' index'.places) (places : (p : ℕ) → HasPlace index'.places p ↔ (HasPlace index.places p ⊎ (p ≡ place)))
+    (count : length index'.places ≡ length index.places + 1) (room : index'.room ≡ index.room) where
   abbrev entry : Entry
   entry = record { uid = next; superior = Some s; place = place; inferiors = 0 }
 
@@ -77,21 +113,11 @@ module _ (nodes : List Node) (es : List Entry) (free : List ℕ) (index : Pairs)
   old_free : (i : ℕ) → i < length free' → get_or free' i 0 ≡ get_or free i 0
   old_free i lt = (let m = size_free in rw rest (get_or-take (length free - 1) free i 0 (omega arith)))
 
-  within_more : (p : ℕ) → p < length nodes → p < length nodes'
-  within_more p lt = elim (cases_eq (length free) 0) [
-    | inl none ↦ (let g : length nodes' ≡ length nodes + 1 = rw (eq-eqb (length free) 0 none) at grown in omega arith)
-    | inr some ↦ (let g : length nodes' ≡ length nodes = rw (ne_eqb (length free) 0 some) at grown in omega arith)
-  ]
+  more : (p : ℕ) → p < length nodes → p < length nodes'
+  more = within_more nodes es free index next k place is_place nodes' others grown
 
-  place_within : place < length nodes'
-  place_within = elim (cases_eq (length free) 0) [
-    | inl none ↦
-        (let g : length nodes' ≡ length nodes + 1 = rw (eq-eqb (length free) 0 none) at grown in
-        let at_end : place ≡ length nodes = rw (eq-eqb (length free) 0 none) at is_place in omega arith)
-    | inr some ↦
-        (let last : place ≡ get_or free (length free - 1) 0 = rw (ne_eqb (length free) 0 some) at is_place in
-        within_more place (rw last (k.free_within (length free - 1) (omega arith))))
-  ]
+  in_place : place < length nodes'
+  in_place = new_within nodes es free index next k place is_place nodes' others grown
 
   old_entry : (i : ℕ) → i < length es → entry_at es' i ≡ entry_at es i
   old_entry i lt = get_or_append_left es (entry ∷ []) no_entry i lt
@@ -134,36 +160,36 @@ module _ (nodes : List Node) (es : List Entry) (free : List ℕ) (index : Pairs)
     | inr some ↦ (let g : length nodes' ≡ length nodes = rw (ne_eqb (length free) 0 some) at grown in omega arith)
   ])
 
-  still_named : (o : Option ℕ) (name : List ℕ) (p : ℕ) → p ≢ place → IsNamed index.pairs o name p → IsNamed index'.pairs o name p
-  still_named None name p ne none = λ h pair. elim ((pairs h p).0 pair) [ inl old ↦ none h old | inr new ↦ ne new.1 ]
-  still_named (Some d) name p ne pair = (pairs (key_hash d name) p).1 (inl pair)
+  still_named : (o : Option ℕ) (p : ℕ) → p ≢ place → IsNamed index.places o p → IsNamed index'.places o p
+  still_named None p ne none = λ there. elim ((places p).0 there) [ inl old ↦ none old | inr new ↦ ne new ]
+  still_named (Some d) p ne there = (places p).1 (inl there)
 
-  named' : (i : ℕ) → i < length es' → IsNamed index'.pairs (entry_at es' i).superior (node_at nodes' (entry_at es' i).place).name (entry_at es' i).place
-  named' = each_pushed es entry no_entry (λ e. IsNamed index'.pairs e.superior (node_at nodes' e.place).name e.place)
-      (λ i lt. still_named (entry_at es i).superior (node_of_entry nodes' es i).name (entry_at es i).place (unused i lt) (subst (λ (x : Node). IsNamed index.pairs (entry_at es i).superior x.name (entry_at es i).place) (sym (old_node i lt)) (k.named i lt)))
-      ((pairs (key_hash s (node_at nodes' place).name) place).1 (inr (ap (λ (x : Node). key_hash s x.name) here ∙ sym is_hash, refl)))
+  named' : (i : ℕ) → i < length es' → IsNamed index'.places (entry_at es' i).superior (entry_at es' i).place
+  named' = each_pushed es entry no_entry (λ e. IsNamed index'.places e.superior e.place)
+      (λ i lt. still_named (entry_at es i).superior (entry_at es i).place (unused i lt) (k.named i lt)) ((places place).1 (inr refl))
 
-  places' : (h p : ℕ) → HasPair index'.pairs h p → IsPlace es' p
-  places' h p pair = (let m = size in elim ((pairs h p).0 pair) [
-    | inl old ↦ (let q = k.places h p old in record { i = q.i; within = omega (arith, q.within); place_is = ap (λ (d : Entry). d.place) (old_entry q.i q.within) ∙ q.place_is })
-    | inr new ↦ record { i = length es; within = omega arith; place_is = ap (λ (d : Entry). d.place) (new_entry (length es) (omega arith) (omega arith)) ∙ sym new.1 }
+  places' : (p : ℕ) → HasPlace index'.places p → IsPlace es' p
+  places' p there = (let m = size in elim ((places p).0 there) [
+    | inl old ↦ (let q = k.places p old in record { i = q.i; within = omega (arith, q.within); place_is = ap (λ (d : Entry). d.place) (old_entry q.i q.within) ∙ q.place_is })
+    | inr new ↦ record { i = length es; within = omega arith; place_is = ap (λ (d : Entry). d.place) (new_entry (length es) (omega arith) (omega arith)) ∙ sym new }
   ])
 
   pub kept_added : IsKept nodes' es' free' index' (next + 1)
   kept_added = record {
     uids = each_pushed es entry no_entry (λ e. (node_at nodes' e.place).uid ≡ e.uid) (λ i lt. ap (λ (x : Node). x.uid) (old_node i lt) ∙ k.uids i lt) (ap (λ (x : Node). x.uid) here ∙ n_uid);
     superiors = each_pushed es entry no_entry (λ e. (node_at nodes' e.place).superior ≡ e.superior) (λ i lt. ap (λ (x : Node). x.superior) (old_node i lt) ∙ k.superiors i lt) (ap (λ (x : Node). x.superior) here ∙ n_superior);
-    within = each_pushed es entry no_entry (λ e. e.place < length nodes') (λ i lt. within_more _ (k.within i lt)) place_within;
+    within = each_pushed es entry no_entry (λ e. e.place < length nodes') (λ i lt. more _ (k.within i lt)) in_place;
     rising = rising';
     below = each_pushed es entry no_entry (λ e. e.uid < next + 1) (λ i lt. omega (arith, k.below i lt)) (omega arith);
-    free_within = λ i lt. subst (λ p. p < length nodes') (sym (old_free i lt)) (within_more _ (k.free_within i (let m = size_free in omega arith)));
+    free_within = λ i lt. subst (λ p. p < length nodes') (sym (old_free i lt)) (more _ (k.free_within i (let m = size_free in omega arith)));
     free_apart = free_apart';
     unused = unused';
     count = count';
     few = few';
     named = named';
     places = places';
-    pairs = (let m = size in let p : length index.pairs + 1 ≡ length es = k.pairs in omega arith);
+    sorted = sorted;
+    branches = (let m = size in let p : length index.places + 1 ≡ length es = k.branches in omega arith);
     room = room ∙ k.room;
     tree = subst (λ ns. IsTree (shapes ns)) (sym view_added) (subst (λ o. Joins (shapes (newest nodes es)) o (shape n)) (sym n_superior) branch, k.tree);
   }

@@ -5,7 +5,7 @@ use Rattle.std.proofs.lemmas.List.{get_or-set_same, get_or-set_other, length-set
 use Rattle.storage_terms.specs.Tree.{Node as Term}
 use Rattle.dir_tree.specs.declared.node.Node.{Node}
 use Rattle.dir_tree.specs.declared.entries.Entry.{Entry}
-use Rattle.dir_tree.specs.Index.{Pairs, node_at, no_node}
+use Rattle.dir_tree.specs.Index.{Places, Key, HasPlace, key_at, node_at, no_node}
 use Rattle.dir_tree.specs.Nodes.{with_changed, node_of, acl_of}
 use Rattle.dir_tree.specs.Shape.{shape, shapes, IsTree}
 use Rattle.dir_tree.specs.Kept.{entry_at, newest, IsNamed, IsKept, HasEntry}
@@ -20,7 +20,10 @@ shapes_newest ms ns (e ∷ es) same =
     ∙ ap (λ x. shapes (newest ns es) ++ x ∷ []) (same 0 (omega arith))
     ∙ sym (map-append shape (newest ns es) (node_at ns e.place ∷ []))
 
-module _ (nodes : List Node) (es : List Entry) (free : List ℕ) (index : Pairs) (next : ℕ) (k : IsKept nodes es free index next) (uid i : ℕ) (within : i < length es) (is_uid : (entry_at es i).uid ≡ uid) (h : Node → Node) (m : Node)
+abbrev shape_key : Term → Key
+shape_key t = (t.superior, t.name)
+
+module _ (nodes : List Node) (es : List Entry) (free : List ℕ) (index : Places) (next : ℕ) (k : IsKept nodes es free index next) (uid i : ℕ) (within : i < length es) (is_uid : (entry_at es i).uid ≡ uid) (h : Node → Node) (m : Node)
     (is : m ≡ h (node_of_entry nodes es i)) (keeps : shape m ≡ shape (node_of_entry nodes es i)) where
   abbrev nodes' : List Node
   nodes' = set nodes (entry_at es i).place m
@@ -36,6 +39,12 @@ module _ (nodes : List Node) (es : List Entry) (free : List ℕ) (index : Pairs)
     | inl same ↦ rw same (ap shape here ∙ keeps)
     | inr other ↦ ap shape (there j lt other)
   ]
+
+  same_key : (a : ℕ) → a < length index.places → key_at nodes' index.places a ≡ key_at nodes index.places a
+  same_key a lt =
+      (let p = k.places (get_or index.places a 0) (record { at = a; within = lt; is = refl }) in
+      let same : shape (node_of_entry nodes' es p.i) ≡ shape (node_of_entry nodes es p.i) = same_shape p.i p.within in
+      subst (λ q. shape_key (shape (node_at nodes' q)) ≡ shape_key (shape (node_at nodes q))) p.place_is (ap shape_key same))
 
   changed : (j : ℕ) → j < length es → node_of_entry nodes' es j ≡ (if eqb (node_of_entry nodes es j).uid uid then h (node_of_entry nodes es j) else node_of_entry nodes es j)
   changed j lt = elim (cases_eq j i) [
@@ -58,14 +67,15 @@ module _ (nodes : List Node) (es : List Entry) (free : List ℕ) (index : Pairs)
     unused = k.unused;
     count = length-set nodes (entry_at es i).place m ∙ k.count;
     few = rw (length-set nodes (entry_at es i).place m) k.few;
-    named = λ j lt. subst (λ (t : Term). IsNamed index.pairs (entry_at es j).superior t.name (entry_at es j).place) (sym (same_shape j lt)) (k.named j lt);
+    named = k.named;
     places = k.places;
-    pairs = k.pairs;
+    sorted = λ a b lt in_b. rw (same_key a (omega arith), same_key b in_b) (k.sorted a b lt in_b);
+    branches = k.branches;
     room = k.room;
     tree = subst IsTree (sym (shapes_newest nodes' nodes es same_shape)) k.tree;
   }
 
-pub set_kept : (nodes : List Node) (es : List Entry) (free : List ℕ) (index : Pairs) (next : ℕ) → IsKept nodes es free index next → (uid place : ℕ) → (i : ℕ) × (i < length es) × ((entry_at es i).uid ≡ uid) × ((entry_at es i).place ≡ place)
+pub set_kept : (nodes : List Node) (es : List Entry) (free : List ℕ) (index : Places) (next : ℕ) → IsKept nodes es free index next → (uid place : ℕ) → (i : ℕ) × (i < length es) × ((entry_at es i).uid ≡ uid) × ((entry_at es i).place ≡ place)
     → (h : Node → Node) → ((n : Node) → shape (h n) ≡ shape n) → (x : Node) → x ≡ get_or nodes place x
     → IsKept (set nodes place (h x)) es free index next × (newest (set nodes place (h x)) es ≡ with_changed uid h (newest nodes es))
 set_kept nodes es free index next k uid place at h keeps x read =
@@ -75,7 +85,7 @@ set_kept nodes es free index next k uid place at h keeps x read =
     subst (λ q. IsKept (set nodes q (h x)) es free index next × (newest (set nodes q (h x)) es ≡ with_changed uid h (newest nodes es))) at.3
     (kept_changed nodes es free index next k uid at.0 at.1 at.2 h (h x) (ap h node) same, view_changed nodes es free index next k uid at.0 at.1 at.2 h (h x) (ap h node) same)
 
-pub acl_read : (nodes : List Node) (es : List Entry) (free : List ℕ) (index : Pairs) (next : ℕ) → IsKept nodes es free index next → (uid place : ℕ) → (i : ℕ) × (i < length es) × ((entry_at es i).uid ≡ uid) × ((entry_at es i).place ≡ place)
+pub acl_read : (nodes : List Node) (es : List Entry) (free : List ℕ) (index : Places) (next : ℕ) → IsKept nodes es free index next → (uid place : ℕ) → (i : ℕ) × (i < length es) × ((entry_at es i).uid ≡ uid) × ((entry_at es i).place ≡ place)
     → (x : Node) → x ≡ get_or nodes place x → x.acl ≡ acl_of (newest nodes es) uid
 acl_read nodes es free index next k uid place at x read =
     let entry : HasEntry es uid (entry_at es at.0) = record { i = at.0; within = at.1; entry_is = refl; uid_is = at.2 } in

@@ -1,13 +1,82 @@
--- What an edit of the index leaves.
-use Rattle.std.proofs.Common.{◌≡◌, ◌≢◌, ℕ, ◌+◌, ◌-◌, ◌<◌, ◌≤◌, List, length, refl, sym, ap, ◌∙◌, arith, get_or, inl, inr, ◌⊎◌}
-use Rattle.std.specs.Prelude.{◌↔◌}
+-- What the order of keys tells, and what an edit of the index leaves.
+use Rattle.std.proofs.Common.{◌≡◌, ◌≢◌, ℕ, ◌+◌, ◌-◌, ◌<◌, ◌≤◌, Bool, true, false, List, length, Option, Some, None, refl, sym, ap, subst, ◌∙◌, arith, get_or, inl, inr, ◌⊎◌}
+use Rattle.std.specs.Prelude.{◌↔◌, bytes_eq}
 use Rattle.std.specs.List.{insert, remove}
-use Rattle.std.proofs.lemmas.Bool.{cases_lt, cases_eq, cases_order}
+use Rattle.std.specs.declared.cmp.Ordering.{Ordering}
+use Rattle.std.specs.declared.cmp.Ordering.TheVariants.{Less, Equal, Greater}
+use Rattle.std.specs.Ordering.{nat_cmp, ordering_then, is_eq, MatchOrdering}
+use Rattle.std.specs.Option.{option_cmp}
+use Rattle.std.specs.Cmp.{IsTotalOrder}
+use Rattle.std.specs.Cmp.Lexicographic.{slice_cmp, options_total}
+use Rattle.std.proofs.lemmas.Cmp.{tied_itself, then_total, on_total, nat_cmp_total, nat_list_cmp_total, ranked}
+use Rattle.std.proofs.lemmas.Map.Text.{is_eq-slice_cmp}
+use Rattle.std.proofs.lemmas.Slice.Eq.{bytes_eq-Decides}
+use Rattle.std.proofs.lemmas.Bool.{cases_lt, cases_eq, cases_order, and_from}
 use Rattle.std.proofs.lemmas.List.Edits.{length-insert, get_or-insert_below, get_or-insert_at, get_or-insert_above, get_or-remove_below, get_or-remove_above}
+use Rattle.storage_terms.specs.Tree.{is_branch, is_inferior}
+use Rattle.dir_tree.specs.declared.node.Node.{Node}
+use Rattle.dir_tree.specs.Shape.{shape}
+use Rattle.dir_tree.specs.Index.{Key, HasPlace, IsSorted, node_at, key_of, key_at, key_cmp}
 use Rattle.dir_tree.proofs.EditLemmas.{was, was_other, was_up, at_was, fewer, was_within}
-use Rattle.dir_tree.specs.Index.{hash_at, place_of, HasPair, IsRising, AreApart}
+use Rattle.dir_tree.proofs.TreeLemmas.{lies, is_below}
 
--- where a pair of the longer list stands
+-- ---- the order of keys
+
+key_total : IsTotalOrder key_cmp
+unfolding key_cmp
+key_total = then_total (on_total (λ (k : Key). k.0) (options_total nat_cmp_total)) (on_total (λ (k : Key). k.1) nat_list_cmp_total)
+
+-- no key is before itself
+pub not_itself : (x y : Key) → x ≡ y → key_cmp x y ≢ Less
+not_itself x y same is = (let tied : key_cmp x x ≡ Equal = tied_itself key_total x in let less : key_cmp x x ≡ Less = subst (λ (k : Key). key_cmp x k ≡ Less) (sym same) is in cc)
+
+pub less_through : (x y z : Key) → key_cmp x y ≡ Less → key_cmp y z ≡ Less → key_cmp x z ≡ Less
+less_through = key_total.trans
+
+superiors_tied : (a b : Option ℕ) → option_cmp nat_cmp a b ≡ Equal → a ≡ b
+superiors_tied None None e = refl
+superiors_tied None (Some y) e = cc
+superiors_tied (Some x) None e = cc
+superiors_tied (Some x) (Some y) e = (let same : x ≡ y = subst (λ o. MatchOrdering o (x < y) (x ≡ y) (y < x)) e (ranked x y (nat_cmp x y) refl) in ap (λ (n : ℕ). Some n) same)
+
+names_tied : (a b : List ℕ) → slice_cmp nat_cmp a b ≡ Equal → a ≡ b
+names_tied a b e = (let same : bytes_eq a b ≡ true = sym (is_eq-slice_cmp a b) ∙ ap is_eq e in (bytes_eq-Decides a b).0 same)
+
+then_tied : (o p : Ordering) → ordering_then o p ≡ Equal → (o ≡ Equal) × (p ≡ Equal)
+then_tied Less p e = cc
+then_tied Equal p e = (refl, e)
+then_tied Greater p e = cc
+
+-- keys that are neither before nor after one another are the same
+tied_same : (x y : Key) → key_cmp x y ≡ Equal → x ≡ y
+unfolding key_cmp
+tied_same x y e =
+    let both : (option_cmp nat_cmp x.0 y.0 ≡ Equal) × (slice_cmp nat_cmp x.1 y.1 ≡ Equal) = then_tied (option_cmp nat_cmp x.0 y.0) (slice_cmp nat_cmp x.1 y.1) e in
+    let up : x.0 ≡ y.0 = superiors_tied x.0 y.0 both.0 in
+    let name : x.1 ≡ y.1 = names_tied x.1 y.1 both.1 in
+    ap (λ (s : Option ℕ). (s, x.1)) up ∙ ap (λ (n : List ℕ). (y.0, n)) name
+
+after_by : (x y : Key) (o p : Ordering) → key_cmp x y ≡ o → key_cmp y x ≡ p → o ≢ Less → x ≢ y → p ≡ Less
+after_by x y Less p eo ep isnt other = absurd (isnt refl)
+after_by x y Equal p eo ep isnt other = absurd (other (tied_same x y eo))
+after_by x y Greater p eo ep isnt other = (let back = key_total.antisymm y x in sym ep ∙ back ∙ rw eo refl)
+
+-- a key that isn't before another one, and isn't it, is after it
+pub after_other : (x y : Key) → key_cmp x y ≢ Less → x ≢ y → key_cmp y x ≡ Less
+after_other x y isnt other = after_by x y (key_cmp x y) (key_cmp y x) refl refl isnt other
+
+pub branch_key : (d : ℕ) (name : List ℕ) (n : Node) → is_branch d name (shape n) ≡ true → key_of n ≡ (Some d, name)
+branch_key d name n is = (let h : (n.superior ≡ Some d) × (n.name ≡ name) = lies d name (shape n) is in ap (λ (s : Option ℕ). (s, n.name)) h.0 ∙ ap (λ (m : List ℕ). (Some d, m)) h.1)
+
+pub key_branch : (d : ℕ) (name : List ℕ) (n : Node) → key_of n ≡ (Some d, name) → is_branch d name (shape n) ≡ true
+key_branch d name n e =
+    let up : n.superior ≡ Some d = ap (λ (k : Key). k.0) e in
+    let same : n.name ≡ name = ap (λ (k : Key). k.1) e in
+    and_from (is_inferior d (shape n)) (bytes_eq n.name name) (is_below d (shape n) up) ((bytes_eq-Decides n.name name).1 same)
+
+-- ---- one place more
+
+-- where a place of the longer list stands
 data Where (k i : ℕ) : Type 0 where
   Before : k < i → Where k i
   Here : k ≡ i → Where k i
@@ -19,127 +88,120 @@ where_is k i = elim (cases_order k i) [
   | inr differ ↦ elim differ [ inl lt ↦ Before lt | inr gt ↦ After (k - 1) (omega arith) (omega arith) ]
 ]
 
-module _ (ps : List (ℕ × ℕ)) (i hash place : ℕ) (within : i ≤ length ps) where
-  abbrev longer : List (ℕ × ℕ)
-  longer = insert ps i (hash, place)
+module _ (ps : List ℕ) (i place : ℕ) (within : i ≤ length ps) where
+  abbrev longer : List ℕ
+  longer = insert ps i place
 
-  at_before : (k : ℕ) → k < i → get_or longer k (0, 0) ≡ get_or ps k (0, 0)
-  at_before k lt = get_or-insert_below ps i (hash, place) (0, 0) k lt within
+  at_before : (k : ℕ) → k < i → get_or longer k 0 ≡ get_or ps k 0
+  at_before k lt = get_or-insert_below ps i place 0 k lt within
 
-  at_here : get_or longer i (0, 0) ≡ (hash, place)
-  at_here = get_or-insert_at ps i (hash, place) (0, 0) within
+  at_here : get_or longer i 0 ≡ place
+  at_here = get_or-insert_at ps i place 0 within
 
-  at_after : (k j : ℕ) → k ≡ j + 1 → i ≤ j → get_or longer k (0, 0) ≡ get_or ps j (0, 0)
-  at_after k j e le = rw e (get_or-insert_above ps i (hash, place) (0, 0) j le within)
+  at_after : (k j : ℕ) → k ≡ j + 1 → i ≤ j → get_or longer k 0 ≡ get_or ps j 0
+  at_after k j e le = rw e (get_or-insert_above ps i place 0 j le within)
 
   size : length longer ≡ length ps + 1
-  size = length-insert ps i (hash, place) within
+  size = length-insert ps i place within
 
-  old_or_new : (h p k : ℕ) → k < length longer → hash_at longer k ≡ h → place_of longer k ≡ p → Where k i → HasPair ps h p ⊎ ((h ≡ hash) × (p ≡ place))
-  old_or_new h p k lt eh ep (Before before) =
-      (let e : get_or longer k (0, 0) ≡ get_or ps k (0, 0) = at_before k before in
-      inl (record { at = k; within = omega arith; hash_is = ap (λ y. y.0) (sym e) ∙ eh; place_is = ap (λ y. y.1) (sym e) ∙ ep }))
-  old_or_new h p k lt eh ep (Here same) =
-      (let e : get_or longer k (0, 0) ≡ (hash, place) = rw same at_here in
-      inr (sym eh ∙ ap (λ y. y.0) e, sym ep ∙ ap (λ y. y.1) e))
-  old_or_new h p k lt eh ep (After j is le) =
-      (let e : get_or longer k (0, 0) ≡ get_or ps j (0, 0) = at_after k j is le in
-      let n : length longer ≡ length ps + 1 = size in
-      inl (record { at = j; within = omega arith; hash_is = ap (λ y. y.0) (sym e) ∙ eh; place_is = ap (λ y. y.1) (sym e) ∙ ep }))
+  old_or_new : (p k : ℕ) → k < length longer → get_or longer k 0 ≡ p → Where k i → HasPlace ps p ⊎ (p ≡ place)
+  old_or_new p k lt e (Before before) = inl (record { at = k; within = omega arith; is = sym (at_before k before) ∙ e })
+  old_or_new p k lt e (Here same) = inr (sym e ∙ ap (λ j. get_or longer j 0) same ∙ at_here)
+  old_or_new p k lt e (After j is le) = (let n : length longer ≡ length ps + 1 = size in inl (record { at = j; within = omega arith; is = sym (at_after k j is le) ∙ e }))
 
-  still_there : (h p : ℕ) → HasPair ps h p → HasPair longer h p
-  still_there h p x =
+  still_there : (p : ℕ) → HasPlace ps p → HasPlace longer p
+  still_there p x =
       let n : length longer ≡ length ps + 1 = size in
       elim (cases_lt x.at i) [
-        | inl before ↦ record { at = x.at; within = omega (arith, x.within); hash_is = ap (λ y. y.0) (at_before x.at before) ∙ x.hash_is; place_is = ap (λ y. y.1) (at_before x.at before) ∙ x.place_is }
-        | inr after ↦ record { at = x.at + 1; within = omega (arith, x.within); hash_is = ap (λ y. y.0) (at_after (x.at + 1) x.at refl after) ∙ x.hash_is; place_is = ap (λ y. y.1) (at_after (x.at + 1) x.at refl after) ∙ x.place_is }
+        | inl before ↦ record { at = x.at; within = omega (arith, x.within); is = at_before x.at before ∙ x.is }
+        | inr after ↦ record { at = x.at + 1; within = omega (arith, x.within); is = at_after (x.at + 1) x.at refl after ∙ x.is }
       ]
 
-  there_now : (h p : ℕ) → h ≡ hash → p ≡ place → HasPair longer h p
-  there_now h p eh ep = (let n : length longer ≡ length ps + 1 = size in record { at = i; within = omega arith; hash_is = ap (λ y. y.0) at_here ∙ sym eh; place_is = ap (λ y. y.1) at_here ∙ sym ep })
-
-  pub pair_inserted : (h p : ℕ) → HasPair (insert ps i (hash, place)) h p ↔ (HasPair ps h p ⊎ ((h ≡ hash) × (p ≡ place)))
-  pair_inserted h p = (
-    λ x. old_or_new h p x.at x.within x.hash_is x.place_is (where_is x.at i),
-    λ o. elim o [ inl x ↦ still_there h p x | inr e ↦ there_now h p e.0 e.1 ],
+  pub place_inserted : (p : ℕ) → HasPlace (insert ps i place) p ↔ (HasPlace ps p ⊎ (p ≡ place))
+  place_inserted p = (
+    λ x. old_or_new p x.at x.within x.is (where_is x.at i),
+    λ o. elim o [ inl x ↦ still_there p x | inr e ↦ (let n = size in record { at = i; within = omega arith; is = at_here ∙ sym e }) ],
   )
 
-  rising_inserted : IsRising ps → ((k : ℕ) → k < i → hash_at ps k < hash) → ((k : ℕ) → i ≤ k → k < length ps → hash ≤ hash_at ps k) → (a b : ℕ) → a ≤ b → b < length longer → Where a i → Where b i → hash_at longer a ≤ hash_at longer b
-  rising_inserted up below from a b le lt (Before x) (Before y) = rw (hash_at, at_before a x, at_before b y) (up a b le (omega arith))
-  rising_inserted up below from a b le lt (Before x) (Here y) = rw (hash_at, at_before a x, y, at_here) (let less : hash_at ps a < hash = below a x in omega arith)
-  rising_inserted up below from a b le lt (Before x) (After j e g) = rw (hash_at, at_before a x, at_after b j e g) (let n = size in up a j (omega arith) (omega arith))
-  rising_inserted up below from a b le lt (Here x) (Before y) = absurd (omega arith)
-  rising_inserted up below from a b le lt (Here x) (Here y) = rw (x, y) (omega arith)
-  rising_inserted up below from a b le lt (Here x) (After j e g) = rw (hash_at, x, at_here, at_after b j e g) (let n = size in from j g (omega arith))
-  rising_inserted up below from a b le lt (After i' d f) (Before y) = absurd (omega arith)
-  rising_inserted up below from a b le lt (After i' d f) (Here y) = absurd (omega arith)
-  rising_inserted up below from a b le lt (After i' d f) (After j e g) = rw (hash_at, at_after a i' d f, at_after b j e g) (let n = size in up i' j (omega arith) (omega arith))
+  module _ (nodes : List Node) (sorted : IsSorted nodes ps) (below : (k : ℕ) → k < i → key_cmp (key_at nodes ps k) (key_of (node_at nodes place)) ≡ Less)
+      (above : (k : ℕ) → i ≤ k → k < length ps → key_cmp (key_of (node_at nodes place)) (key_at nodes ps k) ≡ Less) where
+    sorted_at : (a b : ℕ) → a < b → b < length longer → Where a i → Where b i → key_cmp (key_at nodes longer a) (key_at nodes longer b) ≡ Less
+    sorted_at a b lt w (Before x) (Before y) = rw (at_before a x, at_before b y) (sorted a b lt (omega arith))
+    sorted_at a b lt w (Before x) (Here y) = rw (at_before a x, y, at_here) (below a x)
+    sorted_at a b lt w (Before x) (After j e g) = rw (at_before a x, at_after b j e g) (let n = size in sorted a j (omega arith) (omega arith))
+    sorted_at a b lt w (Here x) (Before y) = absurd (omega arith)
+    sorted_at a b lt w (Here x) (Here y) = absurd (omega arith)
+    sorted_at a b lt w (Here x) (After j e g) = rw (x, at_here, at_after b j e g) (let n = size in above j g (omega arith))
+    sorted_at a b lt w (After i' d f) (Before y) = absurd (omega arith)
+    sorted_at a b lt w (After i' d f) (Here y) = absurd (omega arith)
+    sorted_at a b lt w (After i' d f) (After j e g) = rw (at_after a i' d f, at_after b j e g) (let n = size in sorted i' j (omega arith) (omega arith))
 
-  pub inserted_rises : IsRising ps → ((k : ℕ) → k < i → hash_at ps k < hash) → ((k : ℕ) → i ≤ k → k < length ps → hash ≤ hash_at ps k) → IsRising (insert ps i (hash, place))
-  inserted_rises up below from a b le lt = rising_inserted up below from a b le lt (where_is a i) (where_is b i)
+    pub inserted_sorted : IsSorted nodes (insert ps i place)
+    inserted_sorted a b lt w = sorted_at a b lt w (where_is a i) (where_is b i)
 
-  apart_inserted : AreApart ps → ((other : ℕ) → HasPair ps other place → ⊥) → (a b : ℕ) → a < b → b < length longer → Where a i → Where b i → place_of longer a ≢ place_of longer b
-  apart_inserted apart absent a b lt w (Before x) (Before y) e = apart a b lt (omega arith) (rw (place_of, at_before a x, at_before b y) at e)
-  apart_inserted apart absent a b lt w (Before x) (Here y) e =
-      (let is : place_of ps a ≡ place = rw (place_of, at_before a x, y, at_here) at e in
-      absent (hash_at ps a) (record { at = a; within = omega arith; hash_is = refl; place_is = is }))
-  apart_inserted apart absent a b lt w (Before x) (After j d g) e = (let n = size in apart a j (omega arith) (omega arith) (rw (place_of, at_before a x, at_after b j d g) at e))
-  apart_inserted apart absent a b lt w (Here x) (Before y) e = omega arith
-  apart_inserted apart absent a b lt w (Here x) (Here y) e = omega arith
-  apart_inserted apart absent a b lt w (Here x) (After j d g) e =
-      (let n = size in
-      let is : place ≡ place_of ps j = rw (place_of, x, at_here, at_after b j d g) at e in
-      absent (hash_at ps j) (record { at = j; within = omega arith; hash_is = refl; place_is = sym is }))
-  apart_inserted apart absent a b lt w (After i' d f) (Before y) e = omega arith
-  apart_inserted apart absent a b lt w (After i' d f) (Here y) e = omega arith
-  apart_inserted apart absent a b lt w (After i' d f) (After j c g) e = (let n = size in apart i' j (omega arith) (omega arith) (rw (place_of, at_after a i' d f, at_after b j c g) at e))
+-- ---- one place less
 
-  pub inserted_apart : AreApart ps → ((other : ℕ) → HasPair ps other place → ⊥) → AreApart (insert ps i (hash, place))
-  inserted_apart apart absent a b lt w = apart_inserted apart absent a b lt w (where_is a i) (where_is b i)
-
--- ---- one pair less
-
-module _ (ps : List (ℕ × ℕ)) (i : ℕ) (within : i < length ps) where
-  abbrev shorter : List (ℕ × ℕ)
+module _ (nodes : List Node) (ps : List ℕ) (i : ℕ) (within : i < length ps) (sorted : IsSorted nodes ps) where
+  abbrev shorter : List ℕ
   shorter = remove ps i
 
-  pub removed_rises : IsRising ps → IsRising (remove ps i)
-  removed_rises up a b le lt =
-      (let ordered : was i a ≤ was i b = elim (cases_eq a b) [ inl same ↦ rw same (omega arith) | inr other ↦ (let less : was i a < was i b = was_up i a b (omega arith) in omega arith) ] in
-      rw (hash_at, at_was ps i within a (0, 0), at_was ps i within b (0, 0)) (up (was i a) (was i b) ordered (was_within ps i within b lt)))
+  pub removed_sorted : IsSorted nodes (remove ps i)
+  removed_sorted a b lt w = rw (at_was ps i within a 0, at_was ps i within b 0) (sorted (was i a) (was i b) (was_up i a b lt) (was_within ps i within b w))
 
-  pub removed_apart : AreApart ps → AreApart (remove ps i)
-  removed_apart apart a b lt w e = apart (was i a) (was i b) (was_up i a b lt) (was_within ps i within b w) (rw (place_of, at_was ps i within a (0, 0), at_was ps i within b (0, 0)) at e)
+  apart : (a b : ℕ) → a < b → b < length ps → get_or ps a 0 ≢ get_or ps b 0
+  apart a b lt w e = not_itself (key_at nodes ps a) (key_at nodes ps b) (ap (λ p. key_of (node_at nodes p)) e) (sorted a b lt w)
 
-  still_left : (h p : ℕ) → HasPair ps h p → p ≢ place_of ps i → HasPair shorter h p
-  still_left h p x ne =
+  still_left : (p : ℕ) → HasPlace ps p → p ≢ get_or ps i 0 → HasPlace shorter p
+  still_left p x ne =
       let n = fewer ps i within in
-      let other : x.at ≢ i = λ e. ne (sym x.place_is ∙ ap (place_of ps) e) in
+      let other : x.at ≢ i = λ e. ne (sym x.is ∙ ap (λ j. get_or ps j 0) e) in
       elim (cases_lt x.at i) [
-        | inl before ↦
-            (let e : get_or shorter x.at (0, 0) ≡ get_or ps x.at (0, 0) = get_or-remove_below ps i (0, 0) x.at before within in
-            record { at = x.at; within = omega arith; hash_is = ap (λ y. y.0) e ∙ x.hash_is; place_is = ap (λ y. y.1) e ∙ x.place_is })
+        | inl before ↦ record { at = x.at; within = omega arith; is = get_or-remove_below ps i 0 x.at before within ∙ x.is }
         | inr after ↦
             (let same : x.at - 1 + 1 ≡ x.at = omega arith in
-            let e : get_or shorter (x.at - 1) (0, 0) ≡ get_or ps x.at (0, 0) = rw same at (get_or-remove_above ps i (0, 0) (x.at - 1) (omega arith) within) in
-            record { at = x.at - 1; within = omega (arith, x.within); hash_is = ap (λ y. y.0) e ∙ x.hash_is; place_is = ap (λ y. y.1) e ∙ x.place_is })
+            let e : get_or shorter (x.at - 1) 0 ≡ get_or ps x.at 0 = rw same at (get_or-remove_above ps i 0 (x.at - 1) (omega arith) within) in
+            record { at = x.at - 1; within = omega (arith, x.within); is = e ∙ x.is })
       ]
 
-  no_longer : AreApart ps → (k : ℕ) → k < length shorter → place_of shorter k ≢ place_of ps i
-  no_longer apart k lt e =
-      let same : place_of ps (was i k) ≡ place_of ps i = rw (place_of, at_was ps i within k (0, 0)) at e in
+  no_longer : (k : ℕ) → k < length shorter → get_or shorter k 0 ≢ get_or ps i 0
+  no_longer k lt e =
+      let same : get_or ps (was i k) 0 ≡ get_or ps i 0 = sym (at_was ps i within k 0) ∙ e in
       elim (cases_order (was i k) i) [
         | inl z ↦ was_other i k z
         | inr differ ↦ elim differ [ inl below ↦ apart (was i k) i below within same | inr above ↦ apart i (was i k) above (was_within ps i within k lt) (sym same) ]
       ]
 
-  pub pair_removed : AreApart ps → (place h p : ℕ) → place_of ps i ≡ place → HasPair (remove ps i) h p ↔ (HasPair ps h p × (p ≢ place))
-  pair_removed apart place h p is = (
+  pub place_removed : (place p : ℕ) → get_or ps i 0 ≡ place → HasPlace (remove ps i) p ↔ (HasPlace ps p × (p ≢ place))
+  place_removed place p is = (
     λ x. (
-      record { at = was i x.at; within = was_within ps i within x.at x.within; hash_is = ap (λ y. y.0) (sym (at_was ps i within x.at (0, 0))) ∙ x.hash_is; place_is = ap (λ y. y.1) (sym (at_was ps i within x.at (0, 0))) ∙ x.place_is },
-      λ e. no_longer apart x.at x.within (x.place_is ∙ e ∙ sym is),
+      record { at = was i x.at; within = was_within ps i within x.at x.within; is = sym (at_was ps i within x.at 0) ∙ x.is },
+      λ e. no_longer x.at x.within (x.is ∙ e ∙ sym is),
     ),
-    λ y. still_left h p y.0 (λ e. y.1 (e ∙ is)),
+    λ y. still_left p y.0 (λ e. y.1 (e ∙ is)),
   )
 
 -- ---- the search
+
+-- what stands after one that is before a key's place can't be before it
+pub halved_below : (nodes : List Node) (ps : List ℕ) (m : ℕ) (key : Key) → IsSorted nodes ps → m < length ps → key_cmp (key_at nodes ps m) key ≡ Less → (k : ℕ) → k < m + 1 → key_cmp (key_at nodes ps k) key ≡ Less
+halved_below nodes ps m key sorted within less k lt = elim (cases_eq k m) [
+  | inl same ↦ subst (λ (j : ℕ). key_cmp (key_at nodes ps j) key ≡ Less) (sym same) less
+  | inr other ↦ less_through _ _ _ (sorted k m (omega arith) within) less
+]
+
+pub halved_above : (nodes : List Node) (ps : List ℕ) (m : ℕ) (key : Key) → IsSorted nodes ps → key_cmp (key_at nodes ps m) key ≢ Less → (k : ℕ) → m ≤ k → k < length ps → key_cmp (key_at nodes ps k) key ≢ Less
+halved_above nodes ps m key sorted isnt k le within less = elim (cases_eq k m) [
+  | inl same ↦ isnt (subst (λ (j : ℕ). key_cmp (key_at nodes ps j) key ≡ Less) same less)
+  | inr other ↦ isnt (less_through _ _ _ (sorted m k (omega arith) within) less)
+]
+
+-- the branch of a key can only stand in the first place that isn't before it
+pub first_is : (nodes : List Node) (ps : List ℕ) (at : ℕ) (key : Key) → IsSorted nodes ps → ((k : ℕ) → k < at → key_cmp (key_at nodes ps k) key ≡ Less) → ((k : ℕ) → at ≤ k → k < length ps → key_cmp (key_at nodes ps k) key ≢ Less)
+    → (k : ℕ) → k < length ps → key_at nodes ps k ≡ key → k ≡ at
+first_is nodes ps at key sorted below from k within is = elim (cases_order k at) [
+  | inl same ↦ same
+  | inr differ ↦ elim differ [
+    | inl before ↦ absurd (not_itself (key_at nodes ps k) key is (below k before))
+    | inr after ↦ absurd (from at (omega arith) (omega arith) (subst (λ (x : Key). key_cmp (key_at nodes ps at) x ≡ Less) is (sorted at k after within)))
+  ]
+]

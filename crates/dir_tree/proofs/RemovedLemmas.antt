@@ -8,7 +8,7 @@ use Rattle.std.proofs.lemmas.List.{get_or_read, length_push, get_or_append_left,
 use Rattle.storage_terms.specs.Tree.{is_inferior}
 use Rattle.dir_tree.specs.declared.node.Node.{Node}
 use Rattle.dir_tree.specs.declared.entries.Entry.{Entry}
-use Rattle.dir_tree.specs.Index.{Pairs, HasPair, key_hash, node_at, no_node}
+use Rattle.dir_tree.specs.Index.{Places, HasPlace, IsSorted, node_at}
 use Rattle.dir_tree.specs.Nodes.{without, node_of}
 use Rattle.dir_tree.specs.Shape.{shape, shapes, IsTree}
 use Rattle.dir_tree.specs.Kept.{no_entry, entry_at, newest, IsNamed, IsPlace, IsKept}
@@ -18,10 +18,10 @@ use Rattle.dir_tree.proofs.NewestLemmas.{node_of_entry, newest_remove}
 use Rattle.dir_tree.proofs.TreeLemmas.{tree_left, root_only}
 use Rattle.dir_tree.proofs.KeptLemmas.{apart_places, not_of, node_found}
 
-module _ (nodes : List Node) (es : List Entry) (free : List ℕ) (index : Pairs) (next : ℕ) (k : IsKept nodes es free index next) (i : ℕ) (within : i < length es) (index' : Pairs)
+module _ (nodes : List Node) (es : List Entry) (free : List ℕ) (index : Places) (next : ℕ) (k : IsKept nodes es free index next) (i : ℕ) (within : i < length es) (index' : Places)
     (leaf : list_any (is_inferior (entry_at es i).uid) (shapes (newest nodes es)) ≡ false)
-    (pairs : (h p : ℕ) → HasPair index'.pairs h p ↔ (HasPair index.pairs h p × (p ≢ (entry_at es i).place)))
-    (count : length index'.pairs + 1 ≡ length index.pairs) (room : index'.room ≡ index.room) where
+    (sorted : IsSorted nodes index'.places) (places : (p : ℕ) → HasPlace index'.places p ↔ (HasPlace index.places p × (p ≢ (entry_at es i).place)))
+    (count : length index'.places + 1 ≡ length index.places) (room : index'.room ≡ index.room) where
   abbrev uid : ℕ
   uid = (entry_at es i).uid
 
@@ -72,14 +72,14 @@ module _ (nodes : List Node) (es : List Entry) (free : List ℕ) (index : Pairs)
         | inr last ↦ apart_places nodes es free index next k i (was i b) within (old_within b in_b) (was_other i b) (sym at ∙ new_free a last in_a)
       ])
 
-  still_named : (o : Option ℕ) (name : List ℕ) (p : ℕ) → p ≢ place → IsNamed index.pairs o name p → IsNamed index'.pairs o name p
-  still_named None name p ne none = λ h pair. none h ((pairs h p).0 pair).0
-  still_named (Some d) name p ne pair = (pairs (key_hash d name) p).1 (pair, ne)
+  still_named : (o : Option ℕ) (p : ℕ) → p ≢ place → IsNamed index.places o p → IsNamed index'.places o p
+  still_named None p ne none = λ there. none ((places p).0 there).0
+  still_named (Some d) p ne there = (places p).1 (there, ne)
 
-  places' : (h p : ℕ) → HasPair index'.pairs h p → IsPlace es' p
-  places' h p pair =
-      (let both : HasPair index.pairs h p × (p ≢ place) = (pairs h p).0 pair in
-      let q = k.places h p both.0 in
+  places' : (p : ℕ) → HasPlace index'.places p → IsPlace es' p
+  places' p there =
+      (let both : HasPlace index.places p × (p ≢ place) = (places p).0 there in
+      let q = k.places p both.0 in
       let other : q.i ≢ i = λ e. both.1 (sym q.place_is ∙ ap (λ j. (entry_at es j).place) e) in
       record { i = now i q.i; within = now_within es i within q.i q.within other; place_is = ap (λ (d : Entry). d.place) (old (now i q.i)) ∙ ap (λ j. (entry_at es j).place) (was_now i q.i other) ∙ q.place_is })
 
@@ -95,36 +95,39 @@ module _ (nodes : List Node) (es : List Entry) (free : List ℕ) (index : Pairs)
     unused = unused';
     count = (let m = size in let f = size_free in let c : length nodes ≡ length es + length free = k.count in omega arith);
     few = k.few;
-    named = each_left es i within no_entry (λ e. IsNamed index'.pairs e.superior (node_at nodes e.place).name e.place) (λ j lt ne. still_named (entry_at es j).superior (node_of_entry nodes es j).name (entry_at es j).place (apart_places nodes es free index next k i j within lt ne) (k.named j lt));
+    named = each_left es i within no_entry (λ e. IsNamed index'.places e.superior e.place)
+        (λ j lt ne. still_named (entry_at es j).superior (entry_at es j).place (apart_places nodes es free index next k i j within lt ne) (k.named j lt));
     places = places';
-    pairs = (let m = size in let p : length index.pairs + 1 ≡ length es = k.pairs in omega arith);
+    sorted = sorted;
+    branches = (let m = size in let p : length index.places + 1 ≡ length es = k.branches in omega arith);
     room = room ∙ k.room;
     tree = subst (λ ns. IsTree (shapes ns)) (sym view_removed) (subst IsTree (sym (filter_map_same (λ n. not (eqb n.uid uid)) shape (newest nodes es))) (tree_left uid (shapes (newest nodes es)) leaf k.tree));
   }
 
-pub removed_at : (nodes : List Node) (es : List Entry) (free : List ℕ) (index : Pairs) (next : ℕ) → IsKept nodes es free index next → (uid i : ℕ) (e : Entry) → i < length es → e ≡ get_or es i e → (entry_at es i).uid ≡ uid
-    → list_any (is_inferior uid) (shapes (newest nodes es)) ≡ false → (index' : Pairs) → ((h p : ℕ) → HasPair index'.pairs h p ↔ (HasPair index.pairs h p × (p ≢ e.place))) → length index'.pairs + 1 ≡ length index.pairs → index'.room ≡ index.room
+pub removed_at : (nodes : List Node) (es : List Entry) (free : List ℕ) (index : Places) (next : ℕ) → IsKept nodes es free index next → (uid i : ℕ) (e : Entry) → i < length es → e ≡ get_or es i e → (entry_at es i).uid ≡ uid
+    → list_any (is_inferior uid) (shapes (newest nodes es)) ≡ false → (index' : Places) → IsSorted nodes index'.places → ((p : ℕ) → HasPlace index'.places p ↔ (HasPlace index.places p × (p ≢ e.place)))
+    → length index'.places + 1 ≡ length index.places → index'.room ≡ index.room
     → IsKept nodes (remove es i) (free ++ e.place ∷ []) index' next × (newest nodes (remove es i) ≡ without uid (newest nodes es))
-removed_at nodes es free index next k uid i e within read is_uid leaf index' pairs count room =
+removed_at nodes es free index next k uid i e within read is_uid leaf index' sorted places count room =
     let same : e ≡ entry_at es i = get_or_read es i e within read no_entry in
     let leaf' : list_any (is_inferior (entry_at es i).uid) (shapes (newest nodes es)) ≡ false = rw is_uid leaf in
-    let pairs' : (h p : ℕ) → HasPair index'.pairs h p ↔ (HasPair index.pairs h p × (p ≢ (entry_at es i).place)) = subst (λ (d : Entry). (h p : ℕ) → HasPair index'.pairs h p ↔ (HasPair index.pairs h p × (p ≢ d.place))) same pairs in (
-      subst (λ (d : Entry). IsKept nodes (remove es i) (free ++ d.place ∷ []) index' next) (sym same) (kept_removed nodes es free index next k i within index' leaf' pairs' count room),
-      subst (λ u. newest nodes (remove es i) ≡ without u (newest nodes es)) is_uid (view_removed nodes es free index next k i within index' leaf' pairs' count room),
+    let places' : (p : ℕ) → HasPlace index'.places p ↔ (HasPlace index.places p × (p ≢ (entry_at es i).place)) = subst (λ (d : Entry). (p : ℕ) → HasPlace index'.places p ↔ (HasPlace index.places p × (p ≢ d.place))) same places in (
+      subst (λ (d : Entry). IsKept nodes (remove es i) (free ++ d.place ∷ []) index' next) (sym same) (kept_removed nodes es free index next k i within index' leaf' sorted places' count room),
+      subst (λ u. newest nodes (remove es i) ≡ without u (newest nodes es)) is_uid (view_removed nodes es free index next k i within index' leaf' sorted places' count room),
     )
 
 -- the root is the only node without a superior
-pub not_root : (nodes : List Node) (es : List Entry) (free : List ℕ) (index : Pairs) (next : ℕ) → IsKept nodes es free index next → (uid i : ℕ) (e : Entry) → i < length es → e ≡ get_or es i e → (entry_at es i).uid ≡ uid → e.superior ≡ None → uid ≡ 1
+pub not_root : (nodes : List Node) (es : List Entry) (free : List ℕ) (index : Places) (next : ℕ) → IsKept nodes es free index next → (uid i : ℕ) (e : Entry) → i < length es → e ≡ get_or es i e → (entry_at es i).uid ≡ uid → e.superior ≡ None → uid ≡ 1
 not_root nodes es free index next k uid i e within read is_uid none =
     let same : e ≡ entry_at es i = get_or_read es i e within read no_entry in
     let found : node_of (newest nodes es) uid ≡ Some (node_of_entry nodes es i) = node_found nodes es free index next k uid i within is_uid in
     let shaped : find (λ n. eqb n.uid uid) (shapes (newest nodes es)) ≡ Some (shape (node_of_entry nodes es i)) = find_map (λ n. eqb n.uid uid) shape (newest nodes es) ∙ ap (option_map shape) found in
     root_only (shapes (newest nodes es)) k.tree uid (shape (node_of_entry nodes es i)) shaped (k.superiors i within ∙ ap (λ (d : Entry). d.superior) (sym same) ∙ none)
 
-pub named_at : (nodes : List Node) (es : List Entry) (free : List ℕ) (index : Pairs) (next : ℕ) → IsKept nodes es free index next → (i : ℕ) (e : Entry) → i < length es → e ≡ get_or es i e → (s : ℕ) → e.superior ≡ Some s → (x : Node) → x ≡ get_or nodes e.place x → HasPair index.pairs (key_hash s x.name) e.place
-named_at nodes es free index next k i e within read s up x read_x =
+-- a node with a superior stands in the index
+pub named_at : (nodes : List Node) (es : List Entry) (free : List ℕ) (index : Places) (next : ℕ) → IsKept nodes es free index next → (i : ℕ) (e : Entry) → i < length es → e ≡ get_or es i e
+    → (s : ℕ) → e.superior ≡ Some s → HasPlace index.places e.place
+named_at nodes es free index next k i e within read s up =
     let same : e ≡ entry_at es i = get_or_read es i e within read no_entry in
-    let in_nodes : e.place < length nodes = subst (λ (d : Entry). d.place < length nodes) (sym same) (k.within i within) in
-    let node : x ≡ node_at nodes e.place = get_or_read nodes e.place x in_nodes read_x no_node in
-    let named : IsNamed index.pairs e.superior (node_at nodes e.place).name e.place = subst (λ (d : Entry). IsNamed index.pairs d.superior (node_at nodes d.place).name d.place) (sym same) (k.named i within) in
-    subst (λ (n : Node). HasPair index.pairs (key_hash s n.name) e.place) (sym node) (subst (λ o. IsNamed index.pairs o (node_at nodes e.place).name e.place) up named)
+    let named : IsNamed index.places e.superior e.place = subst (λ (d : Entry). IsNamed index.places d.superior d.place) (sym same) (k.named i within) in
+    subst (λ o. IsNamed index.places o e.place) up named

@@ -1,40 +1,22 @@
 -- The index of branches by superior and name.
-use Rattle.std.specs.Prelude.{false, ◌≡◌, ◌≢◌, ℕ, ◌+◌, ◌*◌, ◌%◌, ◌^◌, ◌<◌, ◌≤◌, List, [], length, None, slice_index_or}
-use Rattle.std.specs.List.{fold}
+use Rattle.std.specs.Prelude.{false, ◌≡◌, ◌≢◌, ℕ, ◌+◌, ◌<◌, List, [], length, Option, None, slice_index, slice_index_or}
+use Rattle.std.specs.declared.cmp.Ordering.{Ordering}
+use Rattle.std.specs.declared.cmp.Ordering.TheVariants.{Less}
+use Rattle.std.specs.Ordering.{nat_cmp, ordering_then}
+use Rattle.std.specs.Option.{option_cmp}
+use Rattle.std.specs.Cmp.Lexicographic.{slice_cmp}
 use Rattle.dir_tree.specs.declared.node.Node.{Node}
 
--- hashes of superior and name, each with the place of its branch, and how many there is room for
-pub record Pairs : Type 0 where
-  pub pairs : List (ℕ × ℕ)
+-- the places of branches, and how many there is room for
+pub record Places : Type 0 where
+  pub places : List ℕ
   pub room : ℕ
 
-abbrev pub hash_at : List (ℕ × ℕ) → ℕ → ℕ
-hash_at pairs k = (slice_index_or pairs k (0, 0)).0
-
-abbrev pub place_of : List (ℕ × ℕ) → ℕ → ℕ
-place_of pairs k = (slice_index_or pairs k (0, 0)).1
-
--- a place stands under a hash
-pub record HasPair (pairs : List (ℕ × ℕ)) (hash place : ℕ) : Type 0 where
+-- a place is one of these
+pub record HasPlace (places : List ℕ) (place : ℕ) : Type 0 where
   pub at : ℕ
-  pub within : at < length pairs
-  pub hash_is : hash_at pairs at ≡ hash
-  pub place_is : place_of pairs at ≡ place
-
-abbrev pub IsRising : List (ℕ × ℕ) → Type 0
-IsRising pairs = (i j : ℕ) → i ≤ j → j < length pairs → hash_at pairs i ≤ hash_at pairs j
-
--- no place stands twice
-abbrev pub AreApart : List (ℕ × ℕ) → Type 0
-AreApart pairs = (i j : ℕ) → i < j → j < length pairs → place_of pairs i ≢ place_of pairs j
-
--- one more byte in a hash
-abbrev pub mixed : ℕ → ℕ → ℕ
-mixed hash byte = ((hash * 1099511628211) % 2 ^ 64 + byte) % 2 ^ 64
-
--- the hash of a superior and a name
-unfoldable pub key_hash : ℕ → List ℕ → ℕ
-key_hash superior name = fold mixed superior name
+  pub within : at < length places
+  pub is : slice_index places at ≡ place
 
 -- what is in no place
 abbrev pub no_node : Node
@@ -42,3 +24,26 @@ no_node = record { uid = 0; superior = None; name = []; dir = false; volume = 0;
 
 abbrev pub node_at : List Node → ℕ → Node
 node_at nodes place = slice_index_or nodes place no_node
+
+-- what a branch is looked up by: its superior and its name
+abbrev pub Key : Type 0
+Key = Option ℕ × List ℕ
+
+abbrev pub key_of : Node → Key
+key_of n = (n.superior, n.name)
+
+-- keys are in the order of superiors, and those of one superior in that of names
+unfoldable pub key_cmp : Key → Key → Ordering
+key_cmp a b = ordering_then (option_cmp nat_cmp a.0 b.0) (slice_cmp nat_cmp a.1 b.1)
+
+-- the key of the branch in the k-th place
+abbrev pub key_at : List Node → List ℕ → ℕ → Key
+key_at nodes places k = key_of (node_at nodes (slice_index places k))
+
+-- the branches stand in the order of their keys, and no two have the same
+abbrev pub IsSorted : List Node → List ℕ → Type 0
+IsSorted nodes places = (i j : ℕ) → i < j → j < length places → key_cmp (key_at nodes places i) (key_at nodes places j) ≡ Less
+
+-- each place is that of a node
+abbrev pub AreWithin : List Node → List ℕ → Type 0
+AreWithin nodes places = (k : ℕ) → k < length places → slice_index places k < length nodes

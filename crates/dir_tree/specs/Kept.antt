@@ -2,7 +2,7 @@
 use Rattle.std.specs.Prelude.{◌≡◌, ◌≢◌, ℕ, ◌+◌, ◌<◌, ◌≤◌, Bool, false, List, [], ◌∷◌, ◌++◌, length, map, count_by, Option, Some, None, slice_index, slice_index_or, ◌-◌, ◌==◌, if◌then◌else◌}
 use Rattle.dir_tree.specs.declared.node.Node.{Node}
 use Rattle.dir_tree.specs.declared.entries.Entry.{Entry}
-use Rattle.dir_tree.specs.Index.{Pairs, HasPair, key_hash, node_at}
+use Rattle.dir_tree.specs.Index.{Places, HasPlace, IsSorted, node_at}
 use Rattle.dir_tree.specs.Shape.{shapes, IsTree}
 
 abbrev pub no_entry : Entry
@@ -50,10 +50,10 @@ abbrev pub newest : List Node → List Entry → List Node
 newest nodes [] = []
 newest nodes (e ∷ es) = newest nodes es ++ node_at nodes e.place ∷ []
 
--- a node stands in the index under its superior and name
-abbrev pub IsNamed : List (ℕ × ℕ) → Option ℕ → List ℕ → ℕ → Type 0
-IsNamed pairs None name place = (hash : ℕ) → HasPair pairs hash place → ⊥
-IsNamed pairs (Some s) name place = HasPair pairs (key_hash s name) place
+-- a branch stands in the index, and the root doesn't
+abbrev pub IsNamed : List ℕ → Option ℕ → ℕ → Type 0
+IsNamed places None place = HasPlace places place → ⊥
+IsNamed places (Some s) place = HasPlace places place
 
 -- a place of the index is that of a node
 pub record IsPlace (entries : List Entry) (place : ℕ) : Type 0 where
@@ -61,7 +61,7 @@ pub record IsPlace (entries : List Entry) (place : ℕ) : Type 0 where
   pub within : i < length entries
   pub place_is : (entry_at entries i).place ≡ place
 
-pub record IsKept (nodes : List Node) (entries : List Entry) (free : List ℕ) (index : Pairs) (next : ℕ) : Type 0 where
+pub record IsKept (nodes : List Node) (entries : List Entry) (free : List ℕ) (index : Places) (next : ℕ) : Type 0 where
   -- each entry is that of the node in its place
   pub uids : (i : ℕ) → i < length entries → (node_at nodes (entry_at entries i).place).uid ≡ (entry_at entries i).uid
   pub superiors : (i : ℕ) → i < length entries → (node_at nodes (entry_at entries i).place).superior ≡ (entry_at entries i).superior
@@ -75,8 +75,9 @@ pub record IsKept (nodes : List Node) (entries : List Entry) (free : List ℕ) (
   pub count : length nodes ≡ length entries + length free
   pub few : length nodes ≤ 4097
   -- the index
-  pub named : (i : ℕ) → i < length entries → IsNamed index.pairs (entry_at entries i).superior (node_at nodes (entry_at entries i).place).name (entry_at entries i).place
-  pub places : (hash place : ℕ) → HasPair index.pairs hash place → IsPlace entries place
-  pub pairs : length index.pairs + 1 ≡ length entries
+  pub named : (i : ℕ) → i < length entries → IsNamed index.places (entry_at entries i).superior (entry_at entries i).place
+  pub places : (place : ℕ) → HasPlace index.places place → IsPlace entries place
+  pub sorted : IsSorted nodes index.places
+  pub branches : length index.places + 1 ≡ length entries
   pub room : index.room ≡ 4096
   pub tree : IsTree (shapes (newest nodes entries))

@@ -1,137 +1,150 @@
-//! The index of the branches by superior and name: a list of the branches' places, in the order of a hash of these.
+//! The index of the branches by superior and name: a list of the branches' places, in the order of these.
 
-ghost use Rattle.std.specs.Prelude.{◌≡◌, ◌≢◌, ℕ, ◌<◌, ◌≤◌, ◌+◌, ◌↔◌, ◌⊎◌, true, false, [], drop, length, None, IfOk, IfSome, IfNone};
+ghost use Rattle.std.specs.Prelude.{◌≡◌, ◌≢◌, ℕ, ◌<◌, ◌≤◌, ◌+◌, ◌↔◌, ◌⊎◌, Some, true, false, [], length, IfOk, IfSome, IfNone, slice_index};
+ghost use Rattle.std.specs.declared.cmp.Ordering.TheVariants.{Less};
 ghost use Rattle.storage_terms.specs.Tree.{is_branch};
 ghost use Rattle.dir_tree.specs.Shape.{shape};
-ghost use Rattle.dir_tree.specs.Index.{mixed, key_hash, hash_at, node_at, HasPair, IsRising, place_of};
+ghost use Rattle.dir_tree.specs.Index.{node_at, key_of, key_cmp, key_at, HasPlace, IsSorted, AreWithin};
 
 use crate::NoMemory;
 use crate::node::Node;
 use mnames::Name;
 use std::alloc::Global;
+use std::cmp::Ordering;
 use std::marker::Model;
 
-/// A place under the hash of its branch's superior and name.
-type Pair = (u64, u32);
-
-/// The places of the branches by superior and name. It has room for a fixed number of them.
+/// The places of the branches, in the order of superior and name. It has room for a fixed number of them.
 #[derive(Debug, Drop)]
 pub(crate) struct Index {
-    pairs: Vec<Pair>,
+    places: Vec<u32>,
     room: usize,
 }
 
 impl Model for Index {
     ghost use Rattle.std.specs.Prelude.{◌≤◌, vec_len, vec_capacity};
-    ghost use Rattle.dir_tree.specs.Index.{Pairs, IsRising, AreApart};
+    ghost use Rattle.dir_tree.specs.Index.{Places};
 
-    ghost Value = { Pairs };
+    ghost Value = { Places };
 
-    ghost view = { λ i. record { pairs = i.pairs.items; room = i.room } };
+    ghost view = { λ i. record { places = i.places.items; room = i.room } };
 
-    ghost invariant = { λ i. IsRising i.pairs.items × AreApart i.pairs.items × (vec_len i.pairs ≤ i.room) × (i.room ≤ vec_capacity i.pairs) };
+    ghost invariant = { λ i. (vec_len i.places ≤ i.room) × (i.room ≤ vec_capacity i.places) };
 }
 
 impl Index {
     /// An empty index with room for `room` branches.
     pub(crate) fn new(alloc: Global, room: usize) -> Result<Index, NoMemory>
-        ensures empty { IfOk result (λ index. index.pairs ≡ []) }
+        ensures empty { IfOk result (λ index. index.places ≡ []) }
         ensures room { IfOk result (λ index. index.room ≡ room) }
     {
         match Vec::with_capacity(alloc, room) {
-            Ok(pairs) => Ok(Index { pairs, room }),
+            Ok(places) => Ok(Index { places, room }),
             Err(_) => Err(NoMemory),
         }
     }
 
-    /// The place of the branch with this superior and name. It halves the list, and looks at the names whose hashes
-    /// are alike.
+    /// The place of the branch with this superior and name. It halves the list.
     pub(crate) fn find(&self, nodes: &[Node], superior: u32, name: &Name) -> Option<u32>
-        requires { (hash place : ℕ) → HasPair self.now.pairs hash place → place < length nodes.now }
-        ensures some { IfSome result (λ place. HasPair self.now.pairs (key_hash superior name.now) place × (is_branch superior name.now (shape (node_at nodes.now place)) ≡ true)) }
-        ensures none { IfNone result ((place : ℕ) → HasPair self.now.pairs (key_hash superior name.now) place → is_branch superior name.now (shape (node_at nodes.now place)) ≡ false) }
+        requires sorted { IsSorted nodes.now self.now.places }
+        requires within { AreWithin nodes.now self.now.places }
+        ensures some { IfSome result (λ place. HasPlace self.now.places place × (is_branch superior name.now (shape (node_at nodes.now place)) ≡ true)) }
+        ensures none { IfNone result ((place : ℕ) → HasPlace self.now.places place → is_branch superior name.now (shape (node_at nodes.now place)) ≡ false) }
     {
-        find(&self.pairs, nodes, superior, name)
+        find(&self.places, nodes, superior, name)
     }
 
-    /// Notes a place under a hash. The pairs after it move up.
-    pub(crate) fn insert(&mut self, hash: u64, place: u32)
-        requires room { length self.old.pairs < self.old.room }
-        requires absent { (other : ℕ) → HasPair self.old.pairs other place → ⊥ }
-        ensures pairs { (h p : ℕ) → HasPair self.new.pairs h p ↔ (HasPair self.old.pairs h p ⊎ ((h ≡ hash) × (p ≡ place))) }
-        ensures count { length self.new.pairs ≡ length self.old.pairs + 1 }
+    /// Notes the place of a new branch. The places after it move up.
+    pub(crate) fn insert(&mut self, nodes: &[Node], place: u32)
+        requires room { length self.old.places < self.old.room }
+        requires sorted { IsSorted nodes.now self.old.places }
+        requires within { AreWithin nodes.now self.old.places }
+        requires node { place < length nodes.now }
+        requires new { (k : ℕ) → k < length self.old.places → key_at nodes.now self.old.places k ≢ key_of (node_at nodes.now place) }
+        ensures sorted { IsSorted nodes.now self.new.places }
+        ensures places { (p : ℕ) → HasPlace self.new.places p ↔ (HasPlace self.old.places p ⊎ (p ≡ place)) }
+        ensures count { length self.new.places ≡ length self.old.places + 1 }
         ensures room { self.new.room ≡ self.old.room }
     {
-        let at = first_at(&self.pairs, hash);
-        match self.pairs.insert(at, (hash, place)) {
+        let node = &nodes[place as usize];
+        let at = first_at(&self.places, nodes, node.superior, &node.name);
+        match self.places.insert(at, place) {
             Ok(()) => {}
             Err(_) => unreachable!(),
         }
     }
 
-    /// Forgets a place, which stands under this hash. The pairs after it move down.
-    pub(crate) fn remove(&mut self, hash: u64, place: u32)
-        requires there { HasPair self.old.pairs hash place }
-        ensures pairs { (h p : ℕ) → HasPair self.new.pairs h p ↔ (HasPair self.old.pairs h p × (p ≢ place)) }
-        ensures count { length self.new.pairs + 1 ≡ length self.old.pairs }
+    /// Forgets the place of a branch. The places after it move down.
+    pub(crate) fn remove(&mut self, nodes: &[Node], place: u32)
+        requires there { HasPlace self.old.places place }
+        requires sorted { IsSorted nodes.now self.old.places }
+        requires within { AreWithin nodes.now self.old.places }
+        ensures sorted { IsSorted nodes.now self.new.places }
+        ensures places { (p : ℕ) → HasPlace self.new.places p ↔ (HasPlace self.old.places p × (p ≢ place)) }
+        ensures count { length self.new.places + 1 ≡ length self.old.places }
         ensures room { self.new.room ≡ self.old.room }
     {
-        let at = place_at(&self.pairs, hash, place);
-        self.pairs.remove(at);
+        let at = place_at(&self.places, nodes, place);
+        self.places.remove(at);
     }
 }
 
-/// Where the hashes from this one on begin.
-fn first_at(pairs: &[Pair], hash: u64) -> usize
-    requires { IsRising pairs.now }
-    ensures within { result ≤ length pairs.now }
-    ensures below { (k : ℕ) → k < result → hash_at pairs.now k < hash }
-    ensures from { (k : ℕ) → result ≤ k → k < length pairs.now → hash ≤ hash_at pairs.now k }
+/// How a branch stands to a superior and a name.
+fn compare(node: &Node, superior: Option<u32>, name: &Name) -> Ordering
+    ensures { result ≡ key_cmp (key_of node.now) (superior, name.now) }
+{
+    node.superior
+        .cmp(&superior)
+        .then_with(|| node.name.as_str().cmp(name.as_str()))
+}
+
+/// Where the branches from this superior and name on begin.
+fn first_at(places: &[u32], nodes: &[Node], superior: Option<u32>, name: &Name) -> usize
+    requires sorted { IsSorted nodes.now places.now }
+    requires within { AreWithin nodes.now places.now }
+    ensures within { result ≤ length places.now }
+    ensures below { (k : ℕ) → k < result → key_cmp (key_at nodes.now places.now k) (superior, name.now) ≡ Less }
+    ensures from { (k : ℕ) → result ≤ k → k < length places.now → key_cmp (key_at nodes.now places.now k) (superior, name.now) ≢ Less }
 {
     let mut low = 0;
-    let mut high = pairs.len();
+    let mut high = places.len();
     while low < high {
         let middle = low + (high - low) / 2;
-        if pairs[middle].0 < hash {
-            low = middle + 1;
-        } else {
-            high = middle;
+        match compare(&nodes[places[middle] as usize], superior, name) {
+            Ordering::Less => low = middle + 1,
+            Ordering::Equal | Ordering::Greater => high = middle,
         }
     }
     low
 }
 
-/// The place of the branch with this superior and name, among the pairs of their hash.
-fn find(pairs: &[Pair], nodes: &[Node], superior: u32, name: &Name) -> Option<u32>
-    requires rising { IsRising pairs.now }
-    requires within { (hash place : ℕ) → HasPair pairs.now hash place → place < length nodes.now }
-    ensures some { IfSome result (λ place. HasPair pairs.now (key_hash superior name.now) place × (is_branch superior name.now (shape (node_at nodes.now place)) ≡ true)) }
-    ensures none { IfNone result ((place : ℕ) → HasPair pairs.now (key_hash superior name.now) place → is_branch superior name.now (shape (node_at nodes.now place)) ≡ false) }
+/// The place of the branch with this superior and name: it can only be the first of those from there on.
+fn find(places: &[u32], nodes: &[Node], superior: u32, name: &Name) -> Option<u32>
+    requires sorted { IsSorted nodes.now places.now }
+    requires within { AreWithin nodes.now places.now }
+    ensures some { IfSome result (λ place. HasPlace places.now place × (is_branch superior name.now (shape (node_at nodes.now place)) ≡ true)) }
+    ensures none { IfNone result ((place : ℕ) → HasPlace places.now place → is_branch superior name.now (shape (node_at nodes.now place)) ≡ false) }
 {
-    let hash = key_hash(superior, name);
-    let mut at = first_at(pairs, hash);
-    while at < pairs.len() && pairs[at].0 == hash {
-        let place = pairs[at].1;
-        if has_key(&nodes[place as usize], superior, name) {
-            return Some(place);
-        }
-        at += 1;
+    let at = first_at(places, nodes, Some(superior), name);
+    if at == places.len() {
+        return None;
     }
-    None
+    let place = places[at];
+    if !has_key(&nodes[place as usize], superior, name) {
+        return None;
+    }
+    Some(place)
 }
 
-/// Where a place stands, among the pairs of its hash.
-fn place_at(pairs: &[Pair], hash: u64, place: u32) -> usize
-    requires rising { IsRising pairs.now }
-    requires there { HasPair pairs.now hash place }
-    ensures within { result < length pairs.now }
-    ensures place { place_of pairs.now result ≡ place }
+/// Where the place of a branch stands.
+fn place_at(places: &[u32], nodes: &[Node], place: u32) -> usize
+    requires there { HasPlace places.now place }
+    requires sorted { IsSorted nodes.now places.now }
+    requires within { AreWithin nodes.now places.now }
+    ensures within { result < length places.now }
+    ensures place { slice_index places.now result ≡ place }
 {
-    let mut at = first_at(pairs, hash);
-    while pairs[at].1 != place {
-        at += 1;
-    }
-    at
+    let node = &nodes[place as usize];
+    first_at(places, nodes, node.superior, &node.name)
 }
 
 /// Whether a node is the branch with this superior and name.
@@ -139,23 +152,4 @@ fn has_key(node: &Node, superior: u32, name: &Name) -> bool
     ensures { result ≡ is_branch superior name.now (shape node.now) }
 {
     node.superior == Some(superior) && node.name == *name
-}
-
-/// One more byte in a hash.
-fn mixed(hash: u64, byte: u8) -> u64
-    ensures { result ≡ mixed hash byte }
-{
-    hash.wrapping_mul(0x0000_0100_0000_01b3)
-        .wrapping_add(byte as u64)
-}
-
-/// The hash of a branch's superior and name.
-pub(crate) fn key_hash(superior: u32, name: &Name) -> u64
-    ensures { result ≡ key_hash superior name.now }
-{
-    let mut hash = superior as u64;
-    for byte in name.as_str().as_bytes() {
-        hash = mixed(hash, *byte);
-    }
-    hash
 }

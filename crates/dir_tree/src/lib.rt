@@ -1,14 +1,14 @@
 //! The directory tree: directories and segments, each a branch of one directory, down from one root (Bensoussan,
 //! Clingen and Daley 1972; Organick 1972). The limits of 4096 branches and eight directories below the root are own.
 //!
-//! Costs: `new` takes all memory, once: room for 4097 nodes, an entry of 20 bytes for each by uid, and one for each
-//! by superior and name. A look-up by uid halves the list of uids: at most 13 looks. A look-up by superior and name
-//! halves the list of hashes, and then compares the names whose hashes are alike. `walk` makes one such look-up for
-//! each name. `superiors`, `chain` and the test of depth look one uid up for each directory above, of which there are
-//! at most 9. Each entry counts the nodes that lie in its own, so `may_remove` makes one look-up by uid. `add_branch`
-//! writes one node and one entry, counts it in the entry of its superior, and moves up a part of the list of hashes.
-//! `remove` takes it from that count, and moves down a part of both lists, and no node: the place of the node is free
-//! from then on. None but `new` takes memory.
+//! Costs: `new` takes all memory, once: room for 4097 nodes, an entry of 20 bytes for each by uid, and its place, of 4
+//! bytes, by superior and name. A look-up by uid halves the list of uids, and one by superior and name that of places in
+//! the order of these: at most 13 looks each, whatever the names are. `walk` makes one such look-up for each name.
+//! `superiors`, `chain` and the test of depth look one uid up for each directory above, of which there are at most 9.
+//! Each entry counts the nodes that lie in its own, so `may_remove` makes one look-up by uid. `add_branch` writes one
+//! node and one entry, counts it in the entry of its superior, and moves up a part of the list of places. `remove`
+//! takes it from that count, and moves down a part of both lists, and no node: the place of the node is free from then
+//! on. None but `new` takes memory.
 #![tactic(auto)]
 
 ghost use Rattle.std.specs.Prelude.{◌≡◌, ◌≢◌, ◌<◌, ◌≤◌, ◌^◌, ◌+◌, ℕ, Bool, ◌&&◌, nat_le, is_some, true, false, ◌↔◌, List, Some, None, IsErr, length, IfOk, IfSome, IfNone, OnOk, OnErr};
@@ -27,7 +27,7 @@ mod tests;
 use acl::Acl;
 use arrayvec::ArrayVec;
 use entries::Entry;
-use index::{Index, key_hash};
+use index::Index;
 use mnames::{Name, Path};
 pub use node::{AddFault, NewNode, NoMemory, Node, NotEmpty, PathFault};
 use std::alloc::{AllocError, Global};
@@ -280,7 +280,6 @@ impl Tree {
         ensures { self.new ≡ added self.old superior new }
     {
         let uid = self.next;
-        let hash = key_hash(superior, &new.name);
         let node = Node {
             uid,
             superior: Some(superior),
@@ -292,7 +291,7 @@ impl Tree {
             acl: new.acl,
         };
         let place = entries::store(&mut self.nodes, &mut self.free, node);
-        self.index.insert(hash, place);
+        self.index.insert(&self.nodes, place);
         self.entries.push_reserved(Entry {
             uid,
             superior: Some(superior),
@@ -353,8 +352,7 @@ impl Tree {
         let Some(superior) = superior else {
             unreachable!();
         };
-        let hash = key_hash(superior, &self.nodes[place as usize].name);
-        self.index.remove(hash, place);
+        self.index.remove(&self.nodes, place);
         entries::lose(&mut self.entries, superior);
         self.free.push_reserved(place);
     }

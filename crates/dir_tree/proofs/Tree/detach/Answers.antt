@@ -7,7 +7,7 @@ use Rattle.std.specs.List.{list_any, remove}
 use Rattle.storage_terms.specs.Tree.{is_inferior}
 use Rattle.dir_tree.specs.Nodes.{Branches, is_in}
 use Rattle.dir_tree.specs.Shape.{shapes}
-use Rattle.dir_tree.proofs.KeptLemmas.{entry_present}
+use Rattle.dir_tree.proofs.KeptLemmas.{entry_present, places_within}
 use Rattle.std.proofs.lemmas.List.Edits.{length-remove}
 use Rattle.dir_tree.proofs.CountLemmas.{seamed, removed_rising, superior_left, some_left, counted_removed, length_recounted, newest_recounted, kept_recounted}
 use Rattle.dir_tree.proofs.NewestLemmas.{length_newest}
@@ -60,7 +60,7 @@ invariant_of-self c =
     let len : c.remove-superior.new.self.len ≡ length c.remove-superior.new.self.items = omega (arith, c.remove-superior.new.self.ok.0) in
     let seam : take c.remove-superior.new.self.len (c.lose.new.entries ++ drop (length c.lose.new.entries) fewer) ≡ recounted c.in-Some.superior (λ n. n - 1) fewer = seamed c.lose.new.entries fewer _ c.remove-superior.new.self.len lost (length_recounted c.in-Some.superior (λ n. n - 1) fewer) (len ∙ ap (λ (xs : List Entry). length xs) c.remove-superior.ensures.items) in
     let left = removed_at c.self.inside.nodes.items c.self.inside.entries.items c.self.inside.free.items c.self.inside.index c.self.inside.next c.self.invariant.0 c.args.uid c.position_of-at.result c.remove-superior.result at.within c.remove-superior.ensures.value at.uid
-    (subst (λ (t : Branches). list_any (is_inferior c.args.uid) (shapes t.nodes) ≡ false) (sym c.self.view_is) c.requires.leaf) c.remove.new.self c.remove.ensures.pairs c.remove.ensures.count c.remove.ensures.room in (
+    (subst (λ (t : Branches). list_any (is_inferior c.args.uid) (shapes t.nodes) ≡ false) (sym c.self.view_is) c.requires.leaf) c.remove.new.self (rw c.deref-2.ensures.value at c.remove.ensures.sorted) c.remove.ensures.places c.remove.ensures.count c.remove.ensures.room in (
       rw (c.remove-superior.ensures.items, c.push_reserved.ensures.items, seam) (kept_recounted c.in-Some.superior (λ n. n - 1) c.self.inside.nodes.items fewer _ c.remove.new.self c.self.inside.next left.0),
       c.self.invariant.1,
       omega (arith, c.self.invariant.2, c.remove-superior.ensures.capacity),
@@ -78,13 +78,14 @@ returns-clause-tree c =
     let len : c.remove-superior.new.self.len ≡ length c.remove-superior.new.self.items = omega (arith, c.remove-superior.new.self.ok.0) in
     let seam : take c.remove-superior.new.self.len (c.lose.new.entries ++ drop (length c.lose.new.entries) fewer) ≡ recounted c.in-Some.superior (λ n. n - 1) fewer = seamed c.lose.new.entries fewer _ c.remove-superior.new.self.len lost (length_recounted c.in-Some.superior (λ n. n - 1) fewer) (len ∙ ap (λ (xs : List Entry). length xs) c.remove-superior.ensures.items) in
     let left = removed_at c.self.inside.nodes.items c.self.inside.entries.items c.self.inside.free.items c.self.inside.index c.self.inside.next c.self.invariant.0 c.args.uid c.position_of-at.result c.remove-superior.result at.within c.remove-superior.ensures.value at.uid
-    (subst (λ (t : Branches). list_any (is_inferior c.args.uid) (shapes t.nodes) ≡ false) (sym c.self.view_is) c.requires.leaf) c.remove.new.self c.remove.ensures.pairs c.remove.ensures.count c.remove.ensures.room in
+    (subst (λ (t : Branches). list_any (is_inferior c.args.uid) (shapes t.nodes) ≡ false) (sym c.self.view_is) c.requires.leaf) c.remove.new.self (rw c.deref-2.ensures.value at c.remove.ensures.sorted) c.remove.ensures.places c.remove.ensures.count c.remove.ensures.room in
     rw (← c.self.view_is) (ap (λ (ns : List Node). record { nodes = ns; next = c.self.inside.next }) (rw (c.remove-superior.ensures.items, seam) (newest_recounted c.in-Some.superior (λ n. n - 1) c.self.inside.nodes.items fewer ∙ left.1)))
 
 pub remove-requires : goal.remove-requires
 remove-requires c =
     let at = rw c.deref.ensures.value at c.position_of-at.ensures in
-    record { there = rw c.key_hash-hash.ensures (named_at c.self.inside.nodes.items c.self.inside.entries.items c.self.inside.free.items c.self.inside.index c.self.inside.next c.self.invariant.0 c.position_of-at.result c.remove-superior.result at.within c.remove-superior.ensures.value c.in-Some.superior c.in-Some.is c.index.result.now c.index.ensures) }
+    let there = named_at c.self.inside.nodes.items c.self.inside.entries.items c.self.inside.free.items c.self.inside.index c.self.inside.next c.self.invariant.0 c.position_of-at.result c.remove-superior.result at.within c.remove-superior.ensures.value c.in-Some.superior c.in-Some.is in
+    rw c.deref-2.ensures.value (record { there = there; sorted = c.self.invariant.0.sorted; within = places_within c.self.inside.nodes.items c.self.inside.entries.items c.self.inside.free.items c.self.inside.index c.self.inside.next c.self.invariant.0 })
 
 pub returns-clause-count : goal.returns-clause-count
 returns-clause-count c =

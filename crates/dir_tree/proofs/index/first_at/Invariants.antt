@@ -1,13 +1,14 @@
-use Rattle.std.proofs.Common.{ℕ, ◌<◌, ◌≤◌, ◌-◌, length}
-use Rattle.dir_tree.specs.Index.{hash_at}
+use Rattle.std.proofs.Common.{◌≡◌, ◌≢◌, ℕ, ◌<◌, ◌≤◌, ◌-◌, length}
+use Rattle.std.specs.declared.cmp.Ordering.TheVariants.{Less}
+use Rattle.dir_tree.specs.Index.{key_cmp, key_at}
 use Rattle.dir_tree.proofs.index.first_at.Given as goal
 
 abbrev pub invariant-loop-low : goal.invariant-loop-low
 invariant-loop-low l = record {
-  within : l.high ≤ length l.pairs;
+  within : l.high ≤ length l.places;
   order : l.low ≤ l.high;
-  below : (k : ℕ) → k < l.low → hash_at l.pairs k < l.hash;
-  from : (k : ℕ) → l.high ≤ k → k < length l.pairs → l.hash ≤ hash_at l.pairs k;
+  below : (k : ℕ) → k < l.low → key_cmp (key_at l.nodes l.places k) (l.superior, l.name) ≡ Less;
+  from : (k : ℕ) → l.high ≤ k → k < length l.places → key_cmp (key_at l.nodes l.places k) (l.superior, l.name) ≢ Less;
 }
 
 abbrev pub decreases-loop-low : goal.decreases-loop-low

@@ -1,26 +1,30 @@
-use Rattle.std.proofs.Common.{◌≡◌, ◌<◌, ◌≤◌, ℕ, List, length, sym, subst, arith}
+use Rattle.std.proofs.Common.{◌≡◌, ◌≢◌, ◌<◌, ◌≤◌, ℕ, List, length, get_or, refl, sym, ap, subst, ◌∙◌, arith}
 use Rattle.std.specs.Prelude.{◌↔◌, ◌⊎◌}
-use Rattle.dir_tree.specs.Index.{Pairs, HasPair, IsRising, AreApart, hash_at}
-use Rattle.dir_tree.proofs.IndexLemmas.{inserted_rises, inserted_apart, pair_inserted}
+use Rattle.std.proofs.lemmas.List.{get_or_read}
+use Rattle.std.specs.declared.cmp.Ordering.TheVariants.{Less}
+use Rattle.dir_tree.specs.declared.node.Node.{Node}
+use Rattle.dir_tree.specs.Index.{Places, Key, HasPlace, IsSorted, node_at, no_node, key_of, key_at, key_cmp}
+use Rattle.dir_tree.proofs.IndexLemmas.{after_other, inserted_sorted, place_inserted}
 use Rattle.dir_tree.proofs.index.Index.insert.Goals as goal
 
-pub invariant_of-self : goal.invariant_of-self
-invariant_of-self c =
-    let ps : List (ℕ × ℕ) = c.self.inside.pairs.items in
+pub returns-clause-sorted : goal.returns-clause-sorted
+returns-clause-sorted c =
+    let nodes : List Node = c.args.nodes.now in
+    let ps : List ℕ = c.self.inside.places.items in
+    let node : c.index-nodes-place.result ≡ node_at nodes c.args.place = get_or_read nodes c.args.place c.index-nodes-place.result c.requires.node c.index-nodes-place.is no_node in
+    let key : key_of c.index-nodes-place.result ≡ key_of (node_at nodes c.args.place) = ap key_of node in
     let within : c.first_at-at.result ≤ length ps = rw c.deref.ensures.value at c.first_at-at.ensures.within in
-    let below : (k : ℕ) → k < c.first_at-at.result → hash_at ps k < c.args.hash = rw c.deref.ensures.value at c.first_at-at.ensures.below in
-    let from : (k : ℕ) → c.first_at-at.result ≤ k → k < length ps → c.args.hash ≤ hash_at ps k = rw c.deref.ensures.value at c.first_at-at.ensures.from in
-    let absent : (other : ℕ) → HasPair ps other c.args.place → ⊥ = subst (λ (v : Pairs). (other : ℕ) → HasPair v.pairs other c.args.place → ⊥) (sym c.self.view_is) c.requires.absent in
-    let room : length ps < c.self.inside.room = subst (λ (v : Pairs). length v.pairs < v.room) (sym c.self.view_is) c.requires.room in (
-      subst IsRising (sym c.in-Ok.ensures.items) (inserted_rises ps c.first_at-at.result c.args.hash c.args.place within c.self.invariant.0 below from),
-      subst AreApart (sym c.in-Ok.ensures.items) (inserted_apart ps c.first_at-at.result c.args.hash c.args.place within c.self.invariant.1 absent),
-      omega (arith, c.in-Ok.ensures.len, room),
-      omega (arith, c.in-Ok.ensures.capacity),
-    )
+    let below : (k : ℕ) → k < c.first_at-at.result → key_cmp (key_at nodes ps k) (key_of c.index-nodes-place.result) ≡ Less = rw c.deref.ensures.value at c.first_at-at.ensures.below in
+    let from : (k : ℕ) → c.first_at-at.result ≤ k → k < length ps → key_cmp (key_at nodes ps k) (key_of c.index-nodes-place.result) ≢ Less = rw c.deref.ensures.value at c.first_at-at.ensures.from in
+    let sorted : IsSorted nodes ps = subst (λ (v : Places). IsSorted nodes v.places) (sym c.self.view_is) c.requires.sorted in
+    let new : (k : ℕ) → k < length ps → key_at nodes ps k ≢ key_of (node_at nodes c.args.place) = subst (λ (v : Places). (k : ℕ) → k < length v.places → key_at nodes v.places k ≢ key_of (node_at nodes c.args.place)) (sym c.self.view_is) c.requires.new in
+    subst (IsSorted nodes) (sym c.in-Ok.ensures.items) (inserted_sorted ps c.first_at-at.result c.args.place within nodes sorted
+    (λ k lt. subst (λ (x : Key). key_cmp (key_at nodes ps k) x ≡ Less) key (below k lt))
+    (λ k le lt. after_other (key_at nodes ps k) (key_of (node_at nodes c.args.place)) (λ less. from k le lt (subst (λ (x : Key). key_cmp (key_at nodes ps k) x ≡ Less) (sym key) less)) (new k lt)))
 
-pub returns-clause-pairs : goal.returns-clause-pairs
-returns-clause-pairs c =
-    let ps : List (ℕ × ℕ) = c.self.inside.pairs.items in
+pub returns-clause-places : goal.returns-clause-places
+returns-clause-places c =
+    let ps : List ℕ = c.self.inside.places.items in
     let within : c.first_at-at.result ≤ length ps = rw c.deref.ensures.value at c.first_at-at.ensures.within in
-    let made : (h p : ℕ) → HasPair c.insert.new.self.items h p ↔ (HasPair ps h p ⊎ ((h ≡ c.args.hash) × (p ≡ c.args.place))) = rw c.in-Ok.ensures.items (pair_inserted ps c.first_at-at.result c.args.hash c.args.place within) in
-    subst (λ (v : Pairs). (h p : ℕ) → HasPair c.insert.new.self.items h p ↔ (HasPair v.pairs h p ⊎ ((h ≡ c.args.hash) × (p ≡ c.args.place)))) c.self.view_is made
+    let made : (p : ℕ) → HasPlace c.insert.new.self.items p ↔ (HasPlace ps p ⊎ (p ≡ c.args.place)) = rw c.in-Ok.ensures.items (place_inserted ps c.first_at-at.result c.args.place within) in
+    subst (λ (v : Places). (p : ℕ) → HasPlace c.insert.new.self.items p ↔ (HasPlace v.places p ⊎ (p ≡ c.args.place))) c.self.view_is made
