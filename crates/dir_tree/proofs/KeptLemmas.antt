@@ -165,6 +165,13 @@ places_within nodes es free index next k i lt = (let p = k.places (get_or index.
 pub place_within : (nodes : List Node) (es : List Entry) (free : List ℕ) (index : Places) (next : ℕ) → IsKept nodes es free index next → (place : ℕ) → HasPlace index.places place → place < length nodes
 place_within nodes es free index next k place there = subst (λ q. q < length nodes) there.is (places_within nodes es free index next k there.at there.within)
 
+-- what stands in the index is a node of the tree
+pub place_there : (nodes : List Node) (es : List Entry) (free : List ℕ) (index : Places) (next : ℕ) → IsKept nodes es free index next → (place : ℕ) → HasPlace index.places place
+    → is_in (newest nodes es) (node_at nodes place).uid ≡ true
+place_there nodes es free index next k place there =
+    let p = k.places place there in
+    subst (λ q. is_in (newest nodes es) (node_at nodes q).uid ≡ true) p.place_is (ap is_some (node_found nodes es free index next k (node_of_entry nodes es p.i).uid p.i p.within (sym (k.uids p.i p.within))))
+
 -- a node has an inferior where an entry has it as superior
 pub inferior_since : (nodes : List Node) (es : List Entry) (free : List ℕ) (index : Places) (next : ℕ) → IsKept nodes es free index next → (u i : ℕ) → i < length es → (entry_at es i).superior ≡ Some u → list_any (is_inferior u) (shapes (newest nodes es)) ≡ true
 inferior_since nodes es free index next k u i lt is =

@@ -1,18 +1,38 @@
 -- Where a path leads, what is above a node and what keeps a branch from being added don't depend on quotas, nor on
 -- anything but uids, superiors, names and kinds.
-use Rattle.std.proofs.Common.{◌≡◌, ℕ, ◌+◌, Bool, true, false, cond, eqb, List, [], ◌∷◌, length, ◌||◌, Option, Some, None, Ok, refl, sym, ap, ◌∙◌, is_some, get_or, drop, ◌<◌, ◌≤◌}
+use Rattle.std.proofs.Common.{◌≡◌, ℕ, ◌+◌, Bool, true, false, cond, eqb, List, [], ◌∷◌, length, ◌||◌, Option, Some, None, Ok, refl, sym, ap, ◌∙◌, is_some, get_or, drop, ◌<◌, ◌≤◌, arith, inl, inr}
 use Rattle.std.specs.List.{find}
-use Rattle.std.specs.Option.{option_map}
+use Rattle.std.specs.Option.{option_map, option_and_then}
+use Rattle.std.proofs.lemmas.Bool.{cases_Bool, eq-eqb}
 use Rattle.std.proofs.lemmas.List.{length-map, at_drop_more, at_drop_all}
-use Rattle.storage_terms.specs.Tree.{Node as Term, Walk, LeadsTo, above, branch_in, is_branch, is_inferior, onward, step_up, walk_from, walk_in}
+use Rattle.storage_terms.specs.Tree.{Node as Term, Walk, LeadsTo, node_in, above, branch_in, is_branch, is_inferior, onward, step_up, walk_from, walk_in}
 use Rattle.dir_tree.specs.declared.node.Node.{Node}
-use Rattle.dir_tree.specs.Nodes.{as_term, with_quotas, add_fault_of, has_inferior, unless}
-use Rattle.dir_tree.specs.Shape.{shape, shapes}
+use Rattle.dir_tree.specs.Nodes.{as_term, node_of, with_quotas, add_fault_of, has_inferior, unless}
+use Rattle.dir_tree.specs.Shape.{shape, shapes, IsTree, Joins}
+use Rattle.dir_tree.proofs.TreeLemmas.{superior_in}
 use Rattle.dir_tree.proofs.FindLemmas.{find_map, branch_found}
 
 pub above_any : (q : ℕ → ℕ) (ns : List Node) (u : ℕ) → above (with_quotas q ns) u ≡ above (shapes ns) u
 above_any q [] u = refl
 above_any q (n ∷ ns) u = ap (λ (f : ℕ → List ℕ). cond (eqb n.uid u) (step_up f n.superior) (f u)) (λ i. λ v. above_any q ns v i)
+
+pub node_any : (q : ℕ → ℕ) (ns : List Node) (u : ℕ) → node_in (with_quotas q ns) u ≡ option_map (as_term q) (node_of ns u)
+node_any q [] u = refl
+node_any q (n ∷ ns) u = elim (cases_Bool (eqb n.uid u)) [ inl is ↦ rw is refl | inr isnt ↦ rw isnt (node_any q ns u) ]
+
+-- the superior of a node that is found
+pub superior_is : (ns : List Node) (u : ℕ) (n : Node) → node_of ns u ≡ Some n → superior_in (shapes ns) u ≡ n.superior
+superior_is ns u n e = ap (option_and_then (λ m. m.superior)) (find_map (λ n. eqb n.uid u) shape ns ∙ ap (option_map shape) e)
+
+-- the root is in each tree that has a node
+pub root_there : (ns : List Node) → IsTree (shapes ns) → 0 < length ns → is_some (node_of ns 1) ≡ true
+root_there [] t some = absurd (omega arith)
+root_there (n ∷ []) t some = first n.superior t.0
+  where
+    first : (o : Option ℕ) → Joins [] o (shape n) → is_some (node_of (n ∷ []) 1) ≡ true
+    first None root = rw (eq-eqb n.uid 1 root.one) refl
+    first (Some s) branch = (let no : false ≡ true = branch.below in cc)
+root_there (n ∷ m ∷ ms) t some = elim (cases_Bool (eqb n.uid 1)) [ inl is ↦ rw is refl | inr isnt ↦ rw isnt (root_there (m ∷ ms) t.1 (omega arith)) ]
 
 branch_any : (q : ℕ → ℕ) (ns : List Node) (d : ℕ) (name : List ℕ) → branch_in (with_quotas q ns) d name ≡ option_map (as_term q) (find (λ n. is_branch d name (shape n)) ns)
 branch_any q ns d name = branch_found d name (with_quotas q ns) ∙ find_map (is_branch d name) (as_term q) ns

@@ -13,9 +13,9 @@
 
 ghost use Rattle.std.specs.Prelude.{◌≡◌, ◌≢◌, ◌<◌, ◌≤◌, ◌^◌, ◌+◌, ℕ, Bool, ◌&&◌, nat_le, is_some, true, false, ◌↔◌, List, Some, None, IsErr, length, IfOk, IfSome, IfNone, OnOk, OnErr};
 ghost use Rattle.storage_terms.specs.Access.{Row};
-ghost use Rattle.storage_terms.specs.Tree.{above, branch_in, walk_in, step_up};
+ghost use Rattle.storage_terms.specs.Tree.{above, node_in, branch_in, walk_in, step_up};
 ghost use Rattle.std.specs.Borrow.{sem};
-ghost use Rattle.dir_tree.specs.Nodes.{acl_of, with_quotas, node_of, is_in, is_directory, is_segment, root_alone, path_answer, add_fault_of, unless, added, removed, has_inferior, with_length, with_home, with_acl, chain_of};
+ghost use Rattle.dir_tree.specs.Nodes.{acl_of, as_term, with_quotas, node_of, is_in, is_directory, is_segment, root_alone, path_answer, add_fault_of, unless, added, removed, has_inferior, with_length, with_home, with_acl, chain_of};
 ghost use Rattle.dir_tree.specs.Shape.{shape, shapes, IsTree, HasChains};
 
 mod entries;
@@ -117,6 +117,10 @@ impl Tree {
     pub fn node(&self, uid: u32) -> Option<&Node>
         ensures some { IfSome result (λ n. node_of self.now.nodes uid ≡ Some n.now) }
         ensures none { IfNone result (node_of self.now.nodes uid ≡ None) }
+        ensures up { IfSome result (λ n. above (shapes self.now.nodes) uid ≡ step_up (above (shapes self.now.nodes)) n.now.superior) }
+        ensures term { (quota : ℕ → ℕ) → IfSome result (λ n. node_in (with_quotas quota self.now.nodes) uid ≡ Some (as_term quota n.now)) }
+        ensures missing { (quota : ℕ → ℕ) → IfNone result (node_in (with_quotas quota self.now.nodes) uid ≡ None) }
+        ensures tree { IsTree (shapes self.now.nodes) }
         ensures chains { HasChains (shapes self.now.nodes) }
     {
         let entry = entries::entry_of(&self.entries, uid)?;
@@ -125,7 +129,8 @@ impl Tree {
 
     /// The uid that the next new branch gets.
     pub fn next_uid(&self) -> u32
-        ensures { result ≡ self.now.next }
+        ensures uid { result ≡ self.now.next }
+        ensures fresh { is_in self.now.nodes self.now.next ≡ false }
     {
         self.next
     }
@@ -134,9 +139,19 @@ impl Tree {
     fn branch(&self, directory: u32, name: &Name) -> Option<&Node>
         ensures some { IfSome result (λ n. branch_in (shapes self.now.nodes) directory name.now ≡ Some (shape n.now)) }
         ensures none { IfNone result (branch_in (shapes self.now.nodes) directory name.now ≡ None) }
+        ensures there { IfSome result (λ n. is_in self.now.nodes n.now.uid ≡ true) }
     {
         let place = self.index.find(&self.nodes, directory, name)?;
         Some(&self.nodes[place as usize])
+    }
+
+    /// The uid of the root, where each path begins.
+    fn root(&self) -> u32
+        ensures is { result ≡ 1 }
+        ensures there { is_in self.now.nodes 1 ≡ true }
+    {
+        prove!(!self.entries.is_empty());
+        ROOT
     }
 
     /// The uid of the node that a path leads to.
@@ -145,9 +160,10 @@ impl Tree {
     /// By the first name from the left that can't be followed: `NoPath` exactly where it's missing in its directory,
     /// `NotDir` exactly where it would be looked up in a segment.
     pub fn walk(&self, p: &Path) -> Result<u32, PathFault>
-        ensures { (quota : ℕ → ℕ) → result ≡ path_answer (walk_in (with_quotas quota self.now.nodes) p.now) }
+        ensures answer { (quota : ℕ → ℕ) → result ≡ path_answer (walk_in (with_quotas quota self.now.nodes) p.now) }
+        ensures there { IfOk result (λ uid. is_in self.now.nodes uid ≡ true) }
     {
-        let mut at = ROOT;
+        let mut at = self.root();
         let mut dir = true;
         for name in p.names() {
             if !dir {
@@ -198,6 +214,7 @@ impl Tree {
     pub fn chain(&self, uid: u32) -> ArrayVec<u32, 10>
         requires { is_in self.now.nodes uid ≡ true }
         ensures chain { (quota : ℕ → ℕ) → result.items ≡ chain_of (with_quotas quota self.now.nodes) uid }
+        ensures most { length result.items ≤ 10 }
         ensures chains { HasChains (shapes self.now.nodes) }
     {
         let mut chain = ArrayVec::new();
@@ -264,6 +281,7 @@ impl Tree {
         ensures ok { OnOk result (self.new ≡ added self.old superior new) }
         ensures fresh { is_in self.old.nodes self.old.next ≡ false }
         ensures room { OnOk result (length self.old.nodes < 4097) }
+        ensures chains { HasChains (shapes self.old.nodes) }
         ensures err { OnErr result (self.new ≡ self.old) }
     {
         self.may_add(superior, &new.name, new.dir)?;

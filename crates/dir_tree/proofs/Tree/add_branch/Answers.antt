@@ -1,5 +1,6 @@
 use Rattle.std.proofs.Common.{◌<◌, length, sym, ap, ◌∙◌, arith, is_some}
-use Rattle.dir_tree.specs.Kept.{entry_at}
+use Rattle.dir_tree.specs.Kept.{entry_at, newest}
+use Rattle.dir_tree.proofs.ChainLemmas.{has_chains}
 use Rattle.dir_tree.proofs.KeptLemmas.{node_missing, MayAdd, no_fault}
 use Rattle.dir_tree.specs.Shape.{shape, shapes}
 use Rattle.std.proofs.lemmas.List.{length-map}
@@ -22,3 +23,9 @@ returns-clause-room c =
     let may : MayAdd (shapes c.args.self.now.nodes) c.args.superior c.args.new.name c.args.new.dir = no_fault (shapes c.args.self.now.nodes) c.args.superior c.args.new.name c.args.new.dir none in
     let room : length (shapes c.args.self.now.nodes) < 4097 = may.room in
     omega (arith, length-map c.args.self.now.nodes shape)
+
+pub returns-in_err-may_add-clause-chains : goal.returns-in_err-may_add-clause-chains
+returns-in_err-may_add-clause-chains c = rw (← c.self.view_is) (has_chains (shapes (newest c.self.inside.nodes.items c.self.inside.entries.items)) c.self.invariant.0.tree)
+
+pub returns-clause-chains : goal.returns-clause-chains
+returns-clause-chains c = rw (← c.self.view_is) (has_chains (shapes (newest c.self.inside.nodes.items c.self.inside.entries.items)) c.self.invariant.0.tree)

@@ -1,7 +1,11 @@
 use Rattle.std.proofs.Common.{◌≡◌, drop, true}
 use Rattle.storage_terms.specs.Tree.{walk_from}
+use Rattle.dir_tree.specs.Nodes.{is_in}
 use Rattle.dir_tree.specs.Shape.{shapes}
 use Rattle.dir_tree.proofs.Tree.walk.Given as goal
 
 abbrev pub invariant-loop-name : goal.invariant-loop-name
-invariant-loop-name l = walk_from (shapes l.self.nodes) l.at l.dir (drop l.name-index l.name-items) ≡ walk_from (shapes l.self.nodes) 1 true l.p
+invariant-loop-name l = record {
+  so_far : walk_from (shapes l.self.nodes) l.at l.dir (drop l.name-index l.name-items) ≡ walk_from (shapes l.self.nodes) 1 true l.p;
+  there : is_in l.self.nodes l.at ≡ true;
+}
