@@ -83,8 +83,8 @@ module _ (nodes : List Node) (c : CellMaps) (table : IsTable c) (fits : Fits nod
         ]);
   }
 
-  pub fits_credited : (s : ℕ) → is_segment nodes s ≡ true → 0 < stored_in c s → Fits nodes (credited c (f s) s)
-  fits_credited s is some = record {
+  pub fits_credited : (s n : ℕ) → is_segment nodes s ≡ true → n ≤ stored_in c s → Fits nodes (credited c (f s) s n)
+  fits_credited s n is some = record {
     directories = fits.directories;
     segments = fits.segments;
     count = fits.count;
@@ -92,8 +92,8 @@ module _ (nodes : List Node) (c : CellMaps) (table : IsTable c) (fits : Fits nod
         (let q = quota_in c in
         let old : load_in c e ≡ load f q c.segments c.stored e = fits.loads e there in
         let seg : has c.segments s ≡ true = on_segments nodes fits s ∙ is in
-        let w = weigh_with (λ k. covers q (f k) e) c.segments c.stored s (stored_in c s - 1) table.stored_count seg in
-        let l = look_changed (λ w. w - 1) (covers q (f s)) c.directories c.loads e table.load_count there in
+        let w = weigh_with (λ k. covers q (f k) e) c.segments c.stored s (stored_in c s - n) table.stored_count seg in
+        let l = look_changed (λ w. w - n) (covers q (f s)) c.directories c.loads e table.load_count there in
         l ∙ elim (cases_Bool (covers q (f s) e)) [
           | inl t ↦ (let w' = rw t at w in rw t (omega (arith, old, w')))
           | inr u ↦ (let w' = rw u at w in rw u (omega (arith, old, w')))
@@ -182,27 +182,27 @@ module _ (nodes : List Node) (c : CellMaps) (table : IsTable c) (fits : Fits nod
     total = table.total;
   }
 
-  pub table_credited : (s : ℕ) → is_segment nodes s ≡ true → IsTable (credited c (f s) s)
-  table_credited s is = record {
+  pub table_credited : (s n : ℕ) → is_segment nodes s ≡ true → IsTable (credited c (f s) s n)
+  table_credited s n is = record {
     rising = table.rising;
     segments_rise = table.segments_rise;
     quota_count = table.quota_count;
-    load_count = length_changed (λ w. w - 1) (covers (quota_in c) (f s)) c.directories c.loads table.load_count ∙ table.load_count;
-    stored_count = length_with c.segments c.stored s (stored_in c s - 1) ∙ table.stored_count;
+    load_count = length_changed (λ w. w - n) (covers (quota_in c) (f s)) c.directories c.loads table.load_count ∙ table.load_count;
+    stored_count = length_with c.segments c.stored s (stored_in c s - n) ∙ table.stored_count;
     apart = table.apart;
     within = λ b b_there b_is.
         (let q = quota_in c in
-        let l = look_changed (λ w. w - 1) (covers q (f s)) c.directories c.loads b table.load_count b_there in
+        let l = look_changed (λ w. w - n) (covers q (f s)) c.directories c.loads b table.load_count b_there in
         let old : load_in c b ≤ q b = table.within b b_there b_is in
-        let new : look c.directories (changed_where (λ w. w - 1) (covers q (f s)) c.directories c.loads) b ≤ q b = elim (cases_Bool (covers q (f s) b)) [
+        let new : look c.directories (changed_where (λ w. w - n) (covers q (f s)) c.directories c.loads) b ≤ q b = elim (cases_Bool (covers q (f s) b)) [
           | inl t ↦ (let l' = rw t at l in omega (arith, l'))
           | inr u ↦ (let l' = rw u at l in omega (arith, l'))
         ] in new);
     total = table.total;
   }
 
-  pub room_credited : (s : ℕ) → is_segment nodes s ≡ true → 0 < stored_in c s → (e : ℕ) → covers (quota_in c) (f s) e ≡ true → 1 ≤ load_in c e
-  room_credited s is some e covered = (let le : stored_in c s ≤ load_in c e = stored_below s e (covered_there (quota_in c) c.directories (f s) e (there s) covered) covered in omega arith)
+  pub room_credited : (s n : ℕ) → is_segment nodes s ≡ true → n ≤ stored_in c s → (e : ℕ) → covers (quota_in c) (f s) e ≡ true → n ≤ load_in c e
+  room_credited s n is some e covered = (let le : stored_in c s ≤ load_in c e = stored_below s e (covered_there (quota_in c) c.directories (f s) e (there s) covered) covered in omega arith)
 
 pub counts_used : (nodes : List Node) (c : CellMaps) → Fits nodes c → HasChains (shapes nodes) → CountsUsed nodes c
 counts_used nodes c fits chains a a_there = elim (cases_Bool (is_an_account (quota_in c) a)) [

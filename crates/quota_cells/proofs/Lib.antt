@@ -6,4 +6,5 @@ pub mod FitLaws
 pub mod MoveLaws
 pub mod OverLaws
 pub mod PlaceLaws
+pub mod ScratchLaws
 pub mod TransferLaws

@@ -26,7 +26,7 @@ later_than k (j ∷ js) all b h = elim (or_cases (eqb j b) (has js b) h) [
   | inr there ↦ later_than k js (λ i lt. all (suc i) (omega arith)) b there
 ]
 
-later : (k : ℕ) (ks : List ℕ) → IsRising (k ∷ ks) → (b : ℕ) → has ks b ≡ true → k < b
+pub later : (k : ℕ) (ks : List ℕ) → IsRising (k ∷ ks) → (b : ℕ) → has ks b ≡ true → k < b
 later k ks up b h = later_than k ks (λ i lt. up 0 (suc i) (omega arith) (omega arith)) b h
 
 pub first_passes : (p : ℕ → Bool) (ks : List ℕ) (a : ℕ) → IsRising ks → has ks a ≡ true → p a ≡ true → ((b : ℕ) → has ks b ≡ true → b < a → p b ≡ false) → find p ks ≡ Some a

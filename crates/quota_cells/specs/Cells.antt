@@ -3,6 +3,7 @@
 -- with a list of values beside them.
 use Rattle.std.specs.Prelude.{◌≡◌, ◌≢◌, ℕ, ◌+◌, ◌-◌, ◌<◌, ◌≤◌, ◌==◌, ◌^◌, Bool, true, false, ◌&&◌, ◌||◌, not, if◌then◌else◌, List, [], ◌∷◌, length, Option, Some, None, slice_index, sum, nat_lt, Result, Ok, Err}
 use Rattle.storage_terms.specs.Tree.{Node as Term, above, account, has_directory}
+use Rattle.storage_terms.specs.Quotas.{getter_of, giver_of}
 use Rattle.dir_tree.specs.declared.node.Node.{Node}
 use Rattle.dir_tree.specs.Shape.{shapes, has_segment}
 use Rattle.std.specs.List.{find}
@@ -66,12 +67,12 @@ pub record IsTable (c : CellMaps) : Type 0 where
 abbrev pub root_cell : ℕ → CellMaps
 root_cell quota = record { directories = 1 ∷ []; quotas = quota ∷ []; loads = 0 ∷ []; segments = []; stored = [] }
 
--- a page more, or less, of a segment below these directories
+-- a page more, or so many less, of a segment below these directories
 abbrev pub charged : CellMaps → List ℕ → ℕ → CellMaps
 charged c up s = record c { loads = changed_where (λ w. w + 1) (covers (quota_in c) up) c.directories c.loads; stored = with_value c.segments c.stored s (stored_in c s + 1) }
 
-abbrev pub credited : CellMaps → List ℕ → ℕ → CellMaps
-credited c up s = record c { loads = changed_where (λ w. w - 1) (covers (quota_in c) up) c.directories c.loads; stored = with_value c.segments c.stored s (stored_in c s - 1) }
+abbrev pub credited : CellMaps → List ℕ → ℕ → ℕ → CellMaps
+credited c up s n = record c { loads = changed_where (λ w. w - n) (covers (quota_in c) up) c.directories c.loads; stored = with_value c.segments c.stored s (stored_in c s - n) }
 
 -- the loads once a directory below these has another quota: where it becomes an account its load is taken from what
 -- covers it, and where it is one no more its load is added there
@@ -118,16 +119,6 @@ abbrev pub has_cell : CellMaps → ℕ → Bool
 has_cell c u = has c.directories u || has c.segments u
 
 -- ---- quota that moves
-
--- Between a directory and its superior: down to the directory, or up from it. One gets the quota, the other gives it.
-abbrev pub superior_of : (ℕ → List ℕ) → ℕ → ℕ
-superior_of above d = slice_index (above d) 0
-
-abbrev pub getter_of : (ℕ → List ℕ) → ℕ → Bool → ℕ
-getter_of above d down = if down then d else superior_of above d
-
-abbrev pub giver_of : (ℕ → List ℕ) → ℕ → Bool → ℕ
-giver_of above d down = if down then superior_of above d else d
 
 -- the cells once so many pages of quota have moved
 abbrev pub moved : CellMaps → (ℕ → List ℕ) → ℕ → Bool → ℕ → CellMaps

@@ -1,3 +1,4 @@
 pub mod Accounts
 pub mod Cells
 pub mod Columns
+pub mod Scratch

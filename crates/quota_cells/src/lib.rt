@@ -16,12 +16,15 @@
 #![tactic(auto)]
 
 ghost use Rattle.std.specs.Prelude.{◌≡◌, ◌≢◌, ◌<◌, ◌≤◌, ◌+◌, ◌-◌, ◌^◌, ◌==◌, ◌&&◌, ◌||◌, not, ℕ, Bool, true, false, Some, None, List, length, IfOk, IfErr, IfSome, IfNone, OnOk, OnErr, IsErr, sum, if◌then◌else◌, [], ◌∷◌, vec_capacity};
-ghost use Rattle.storage_terms.specs.Tree.{above, account};
+ghost use Rattle.storage_terms.specs.Tree.{above, account, account_of, used_by};
 ghost use Rattle.dir_tree.specs.declared.node.Node.{Node};
-ghost use Rattle.dir_tree.specs.Nodes.{root_alone, is_in, is_directory, is_segment, without};
+ghost use Rattle.dir_tree.specs.Nodes.{with_quotas, root_alone, is_in, is_directory, is_segment, without};
 ghost use Rattle.dir_tree.specs.Shape.{shapes, HasChains};
-ghost use Rattle.quota_cells.specs.Accounts.{has, is_an_account};
-ghost use Rattle.quota_cells.specs.Cells.{quota_in, load_in, stored_in, used_in, Fits, AreWithin, root_cell, charged, credited, charge_fault, has_cell, Enters, Leaves, moved, move_answer, first_over, with_quota, superior_of, CountsUsed};
+ghost use Rattle.quota_cells.specs.Accounts.{has, covers, is_an_account};
+ghost use Rattle.quota_cells.specs.Columns.{AreThere, IsFalling};
+ghost use Rattle.quota_cells.specs.Cells.{IsTable, quota_in, load_in, stored_in, used_in, Fits, AreWithin, root_cell, charged, credited, charge_fault, has_cell, Enters, Leaves, moved, move_answer, first_over, with_quota, CountsUsed};
+ghost use Rattle.storage_terms.specs.Quotas.{superior_of, tree_moved};
+ghost use Rattle.quota_cells.specs.Scratch.{HoldCounts, charge_answer, scratch_answer};
 ghost use Rattle.std.specs.Int.RustNames.{unsigned_abs};
 ghost use Rattle.std.specs.Int.{is_positive};
 
@@ -237,15 +240,29 @@ impl Cells {
     /// The stored pages of a segment.
     pub fn stored(&self, seg: u32) -> u32
         requires { has self.now.segments seg ≡ true }
-        ensures { result ≡ stored_in self.now seg }
+        ensures stored { result ≡ stored_in self.now seg }
+        ensures table { IsTable self.now }
     {
         columns::value(&self.segments, &self.stored, seg)
     }
 
     /// The stored pages that an account is charged for; 0 where it is no account.
+    ///
+    /// In each tree that the cells fit it is the count from scratch, over any list of stored pages that has as many of
+    /// each segment as its cell says.
     pub fn used(&self, a: u32) -> u32
         ensures used { result ≡ used_in self.now a }
+        ensures scratch { (nodes : List Node) (stored : List (ℕ × ℕ)) → HasChains (shapes nodes) → Fits nodes self.now → HoldCounts self.now stored → result ≡ used_by (with_quotas (quota_in self.now) nodes) stored a }
         ensures within { AreWithin self.now }
+        ensures table { IsTable self.now }
+    {
+        self.pages_used(a)
+    }
+
+    /// What `used` gives, by the cells alone.
+    fn pages_used(&self, a: u32) -> u32
+        ensures used { result ≡ used_in self.now a }
+        ensures table { IsTable self.now }
     {
         if a == ROOT || columns::value(&self.directories, &self.quotas, a) > 0 {
             return columns::value(&self.directories, &self.loads, a);
@@ -260,10 +277,18 @@ impl Cells {
     pub fn may_charge(&self, t: &Tree, seg: u32) -> Result<(), Full>
         requires segment { is_segment t.now.nodes seg ≡ true }
         requires fits { Fits t.now.nodes self.now }
-        ensures { result ≡ charge_fault self.now (above (shapes t.now.nodes) seg) }
+        ensures { (stored : List (ℕ × ℕ)) → HoldCounts self.now stored → result ≡ charge_answer (with_quotas (quota_in self.now) t.now.nodes) stored seg }
     {
         let up = t.superiors(seg);
-        let account = columns::account(&self.directories, &self.quotas, up.as_slice());
+        self.room_for(up.as_slice())
+    }
+
+    /// Whether the account of what lies below these directories has room for a page.
+    fn room_for(&self, up: &[u32]) -> Result<(), Full>
+        ensures answer { result ≡ charge_fault self.now up.now }
+        ensures table { IsTable self.now }
+    {
+        let account = columns::account(&self.directories, &self.quotas, up);
         let quota = columns::value(&self.directories, &self.quotas, account);
         if columns::value(&self.directories, &self.loads, account) == quota {
             return Err(Full { account });
@@ -278,24 +303,41 @@ impl Cells {
     pub fn charge(&mut self, t: &Tree, seg: u32) -> Result<(), Full>
         requires segment { is_segment t.now.nodes seg ≡ true }
         requires fits { Fits t.now.nodes self.old }
-        ensures answer { result ≡ charge_fault self.old (above (shapes t.now.nodes) seg) }
-        ensures ok { OnOk result (self.new ≡ charged self.old (above (shapes t.now.nodes) seg) seg) }
+        ensures scratch { (stored : List (ℕ × ℕ)) → HoldCounts self.old stored → result ≡ charge_answer (with_quotas (quota_in self.old) t.now.nodes) stored seg }
+        ensures stored { OnOk result ((s : ℕ) → stored_in self.new s ≡ (if seg == s then stored_in self.old seg + 1 else stored_in self.old s)) }
+        ensures quotas { quota_in self.new ≡ quota_in self.old }
         ensures err { OnErr result (self.new ≡ self.old) }
         ensures fits { Fits t.now.nodes self.new }
-        ensures used { OnOk result (CountsUsed t.now.nodes self.new) }
     {
-        self.may_charge(t, seg)?;
         let up = t.superiors(seg);
+        match self.room_for(up.as_slice()) {
+            Ok(()) => {
+                self.add_page(up.as_slice(), seg);
+                Ok(())
+            }
+            Err(full) => Err(full),
+        }
+    }
+
+    /// Counts one more page of a segment below these directories.
+    fn add_page(&mut self, up: &[u32], seg: u32)
+        requires segment { has self.old.segments seg ≡ true }
+        requires there { AreThere self.old.directories up.now }
+        requires falls { IsFalling up.now }
+        requires room { (e : ℕ) → covers (quota_in self.old) up.now e ≡ true → load_in self.old e + 1 < 2 ^ 32 }
+        requires page { stored_in self.old seg + 1 < 2 ^ 32 }
+        requires table { IsTable (charged self.old up.now seg) }
+        ensures { self.new ≡ charged self.old up.now seg }
+    {
         let at = columns::place(&self.segments, seg);
         self.stored[at] += 1;
         columns::lift(
             &mut self.loads,
             &self.directories,
             &self.quotas,
-            up.as_slice(),
+            up,
             1,
         );
-        Ok(())
     }
 
     /// Counts one stored page of a segment less, to the credit of the account that it has now.
@@ -303,19 +345,46 @@ impl Cells {
         requires segment { is_segment t.now.nodes seg ≡ true }
         requires stored { 0 < stored_in self.old seg }
         requires fits { Fits t.now.nodes self.old }
-        ensures cells { self.new ≡ credited self.old (above (shapes t.now.nodes) seg) seg }
+        ensures stored { (s : ℕ) → stored_in self.new s ≡ (if seg == s then stored_in self.old seg - 1 else stored_in self.old s) }
+        ensures quotas { quota_in self.new ≡ quota_in self.old }
         ensures fits { Fits t.now.nodes self.new }
-        ensures used { CountsUsed t.now.nodes self.new }
     {
+        self.credit_pages(t, seg, 1);
+    }
+
+    /// Counts so many stored pages of a segment less, to the credit of the account that it has now. It goes up once,
+    /// however many pages they are.
+    pub fn credit_pages(&mut self, t: &Tree, seg: u32, pages: u32)
+        requires segment { is_segment t.now.nodes seg ≡ true }
+        requires stored { pages ≤ stored_in self.old seg }
+        requires fits { Fits t.now.nodes self.old }
+        ensures stored { (s : ℕ) → stored_in self.new s ≡ (if seg == s then stored_in self.old seg - pages else stored_in self.old s) }
+        ensures quotas { quota_in self.new ≡ quota_in self.old }
+        ensures fits { Fits t.now.nodes self.new }
+    {
+        prove!(self.segments.len() == self.stored.len());
         let up = t.superiors(seg);
+        self.take_pages(up.as_slice(), seg, pages);
+    }
+
+    /// Counts so many pages less of a segment below these directories.
+    fn take_pages(&mut self, up: &[u32], seg: u32, pages: u32)
+        requires segment { has self.old.segments seg ≡ true }
+        requires there { AreThere self.old.directories up.now }
+        requires falls { IsFalling up.now }
+        requires loads { (e : ℕ) → covers (quota_in self.old) up.now e ≡ true → pages ≤ load_in self.old e }
+        requires stored { pages ≤ stored_in self.old seg }
+        requires table { IsTable (credited self.old up.now seg pages) }
+        ensures { self.new ≡ credited self.old up.now seg pages }
+    {
         let at = columns::place(&self.segments, seg);
-        self.stored[at] -= 1;
+        self.stored[at] -= pages;
         columns::lower(
             &mut self.loads,
             &self.directories,
             &self.quotas,
-            up.as_slice(),
-            1,
+            up,
+            pages,
         );
     }
 
@@ -329,24 +398,46 @@ impl Cells {
         requires branch { dir ≢ 1 }
         requires amount { 0 < unsigned_abs amount }
         requires fits { Fits t.now.nodes self.now }
-        ensures { result ≡ move_answer self.now (above (shapes t.now.nodes)) dir (is_positive amount) (unsigned_abs amount) }
+        ensures { (stored : List (ℕ × ℕ)) → HoldCounts self.now stored → result ≡ scratch_answer (with_quotas (quota_in self.now) t.now.nodes) stored dir (is_positive amount) (unsigned_abs amount) }
     {
+        let superior = superior_of(t, dir);
+        self.move_refusal(t, dir, superior, amount)
+    }
+
+    /// What `may_move` gives, by the cells alone.
+    fn move_refusal(&self, t: &Tree, dir: u32, superior: u32, amount: i32) -> Result<(), MoveFault>
+        requires directory { is_directory t.now.nodes dir ≡ true }
+        requires branch { dir ≢ 1 }
+        requires is { superior_of (above (shapes t.now.nodes)) dir ≡ superior }
+        requires above { above (shapes t.now.nodes) dir ≡ superior ∷ above (shapes t.now.nodes) superior }
+        requires below { superior < dir }
+        requires upper { is_directory t.now.nodes superior ≡ true }
+        requires chains { HasChains (shapes t.now.nodes) }
+        requires amount { 0 < unsigned_abs amount }
+        requires fits { Fits t.now.nodes self.now }
+        ensures answer { result ≡ move_answer self.now (above (shapes t.now.nodes)) dir (is_positive amount) (unsigned_abs amount) }
+        ensures table { IsTable self.now }
+    {
+        prove!(self.directories.len() == self.quotas.len());
         if amount.is_positive() {
-            self.may_move_down(t, dir, amount.unsigned_abs())
+            self.may_move_down(t, dir, superior, amount.unsigned_abs())
         } else {
-            self.may_move_up(t, dir, amount.unsigned_abs())
+            self.may_move_up(t, dir, superior, amount.unsigned_abs())
         }
     }
 
     /// What a move of so many pages of quota from its superior to a directory would be refused for.
-    fn may_move_down(&self, t: &Tree, dir: u32, pages: u32) -> Result<(), MoveFault>
+    fn may_move_down(&self, t: &Tree, dir: u32, superior: u32, pages: u32) -> Result<(), MoveFault>
         requires directory { is_directory t.now.nodes dir ≡ true }
-        requires branch { dir ≢ 1 }
+        requires is { superior_of (above (shapes t.now.nodes)) dir ≡ superior }
+        requires above { above (shapes t.now.nodes) dir ≡ superior ∷ above (shapes t.now.nodes) superior }
+        requires below { superior < dir }
+        requires upper { is_directory t.now.nodes superior ≡ true }
+        requires chains { HasChains (shapes t.now.nodes) }
         requires pages { 0 < pages }
         requires fits { Fits t.now.nodes self.now }
         ensures { result ≡ move_answer self.now (above (shapes t.now.nodes)) dir true pages }
     {
-        let superior = superior_of(t, dir);
         let given = columns::value(&self.directories, &self.quotas, superior);
         if given < pages {
             return Err(MoveFault::TooLittle);
@@ -373,14 +464,18 @@ impl Cells {
     }
 
     /// What a move of so many pages of quota from a directory to its superior would be refused for.
-    fn may_move_up(&self, t: &Tree, dir: u32, pages: u32) -> Result<(), MoveFault>
+    fn may_move_up(&self, t: &Tree, dir: u32, superior: u32, pages: u32) -> Result<(), MoveFault>
         requires directory { is_directory t.now.nodes dir ≡ true }
         requires branch { dir ≢ 1 }
+        requires is { superior_of (above (shapes t.now.nodes)) dir ≡ superior }
+        requires above { above (shapes t.now.nodes) dir ≡ superior ∷ above (shapes t.now.nodes) superior }
+        requires below { superior < dir }
+        requires upper { is_directory t.now.nodes superior ≡ true }
+        requires chains { HasChains (shapes t.now.nodes) }
         requires pages { 0 < pages }
         requires fits { Fits t.now.nodes self.now }
         ensures { result ≡ move_answer self.now (above (shapes t.now.nodes)) dir false pages }
     {
-        let superior = superior_of(t, dir);
         let given = columns::value(&self.directories, &self.quotas, dir);
         if given < pages {
             return Err(MoveFault::TooLittle);
@@ -409,15 +504,36 @@ impl Cells {
         requires branch { dir ≢ 1 }
         requires amount { 0 < unsigned_abs amount }
         requires fits { Fits t.now.nodes self.old }
+        ensures scratch { (stored : List (ℕ × ℕ)) → HoldCounts self.old stored → result ≡ scratch_answer (with_quotas (quota_in self.old) t.now.nodes) stored dir (is_positive amount) (unsigned_abs amount) }
+        ensures tree { OnOk result (with_quotas (quota_in self.new) t.now.nodes ≡ tree_moved (with_quotas (quota_in self.old) t.now.nodes) dir (is_positive amount) (unsigned_abs amount)) }
+        ensures stored { (s : ℕ) → stored_in self.new s ≡ stored_in self.old s }
+        ensures err { OnErr result (self.new ≡ self.old) }
+        ensures fits { Fits t.now.nodes self.new }
+        ensures total { sum self.new.quotas ≡ sum self.old.quotas }
+    {
+        let superior = superior_of(t, dir);
+        self.move_between(t, dir, superior, amount)
+    }
+
+    /// Moves quota between a directory and this superior of it.
+    fn move_between(&mut self, t: &Tree, dir: u32, superior: u32, amount: i32) -> Result<(), MoveFault>
+        requires directory { is_directory t.now.nodes dir ≡ true }
+        requires branch { dir ≢ 1 }
+        requires is { superior_of (above (shapes t.now.nodes)) dir ≡ superior }
+        requires above { above (shapes t.now.nodes) dir ≡ superior ∷ above (shapes t.now.nodes) superior }
+        requires below { superior < dir }
+        requires upper { is_directory t.now.nodes superior ≡ true }
+        requires chains { HasChains (shapes t.now.nodes) }
+        requires amount { 0 < unsigned_abs amount }
+        requires fits { Fits t.now.nodes self.old }
         ensures answer { result ≡ move_answer self.old (above (shapes t.now.nodes)) dir (is_positive amount) (unsigned_abs amount) }
         ensures ok { OnOk result (self.new ≡ moved self.old (above (shapes t.now.nodes)) dir (is_positive amount) (unsigned_abs amount)) }
         ensures err { OnErr result (self.new ≡ self.old) }
+        ensures table { IsTable self.old }
         ensures fits { Fits t.now.nodes self.new }
-        ensures used { OnOk result (CountsUsed t.now.nodes self.new) }
         ensures total { sum self.new.quotas ≡ sum self.old.quotas }
     {
-        self.may_move(t, dir, amount)?;
-        let superior = superior_of(t, dir);
+        self.move_refusal(t, dir, superior, amount)?;
         if amount.is_positive() {
             self.transfer(t, dir, superior, amount.unsigned_abs());
         } else {

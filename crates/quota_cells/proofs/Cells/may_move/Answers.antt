@@ -1,19 +1,15 @@
-use Rattle.std.proofs.Common.{◌≡◌, true, false, sym, ◌∙◌, w32}
+use Rattle.std.proofs.Common.{◌≡◌, ◌∙◌, w32}
 use Rattle.std.proofs.lemmas.Int.{to_z-of_z}
 use Rattle.std.specs.Int.{is_positive}
 use Rattle.std.specs.Int.RustNames.{unsigned_abs}
+use Rattle.storage_terms.specs.Tree.{above}
+use Rattle.dir_tree.specs.Shape.{shapes}
+use Rattle.quota_cells.specs.Cells.{move_answer}
+use Rattle.quota_cells.proofs.ScratchLaws.{answer_same}
 use Rattle.quota_cells.proofs.Cells.may_move.Goals as goal
 
-pub returns-then-is_positive : goal.returns-then-is_positive
-returns-then-is_positive c =
+pub returns : goal.returns
+returns c stored holds =
     let back = to_z-of_z w32 c.args.amount c.ranges.amount in
-    let down : is_positive c.args.amount ≡ true = sym (rw back at c.is_positive.ensures) ∙ c.if-is_positive.true in
-    let pages : c.unsigned_abs.result ≡ unsigned_abs c.args.amount = rw back at c.unsigned_abs.ensures.value in
-    rw (down, ← pages) c.may_move_down.ensures
-
-pub returns-else-is_positive : goal.returns-else-is_positive
-returns-else-is_positive c =
-    let back = to_z-of_z w32 c.args.amount c.ranges.amount in
-    let down : is_positive c.args.amount ≡ false = sym (rw back at c.is_positive.ensures) ∙ c.if-is_positive.false in
-    let pages : c.unsigned_abs-else-is_positive.result ≡ unsigned_abs c.args.amount = rw back at c.unsigned_abs-else-is_positive.ensures.value in
-    rw (down, ← pages) c.may_move_up.ensures
+    let is : c.move_refusal.result ≡ move_answer c.args.self.now (above (shapes c.args.t.now.nodes)) c.args.dir (is_positive c.args.amount) (unsigned_abs c.args.amount) = rw back at c.move_refusal.ensures.answer in
+    is ∙ answer_same c.args.t.now.nodes c.args.self.now c.move_refusal.ensures.table c.requires.fits c.superior_of-superior.ensures.chains c.args.dir (unsigned_abs c.args.amount) c.requires.directory c.requires.branch c.requires.amount stored holds (is_positive c.args.amount)

@@ -1,79 +1,26 @@
-use Rattle.std.proofs.Common.{◌≡◌, true, false, Ok, sym, ◌∙◌, w32, arith}
+use Rattle.std.proofs.Common.{◌≡◌, ◌∙◌, w32}
 use Rattle.std.proofs.lemmas.Int.{to_z-of_z}
+use Rattle.std.specs.Prelude.{OnOk}
 use Rattle.std.specs.Int.{is_positive}
 use Rattle.std.specs.Int.RustNames.{unsigned_abs}
-use Rattle.std.proofs.lemmas.Grind.{common_steps}
 use Rattle.storage_terms.specs.Tree.{above}
 use Rattle.dir_tree.specs.Shape.{shapes}
-use Rattle.quota_cells.specs.Cells.{move_answer}
-use Rattle.quota_cells.proofs.FitLaws.{counts_used}
-use Rattle.quota_cells.proofs.TransferLaws.{answer_ok}
+use Rattle.quota_cells.specs.Cells.{moved, move_answer}
+use Rattle.quota_cells.proofs.ScratchLaws.{answer_same, moved_shown, stored_kept}
 use Rattle.quota_cells.proofs.Cells.move_quota.Goals as goal
 
-pub transfer-requires-clause-none : goal.transfer-requires-clause-none
-transfer-requires-clause-none c =
+pub returns-clause-scratch : goal.returns-clause-scratch
+returns-clause-scratch c stored holds =
     let back = to_z-of_z w32 c.args.amount c.ranges.amount in
-    let answer : c.may_move.result ≡ move_answer c.args.self.now (above (shapes c.args.t.now.nodes)) c.args.dir (is_positive c.args.amount) (unsigned_abs c.args.amount) = rw back at c.may_move.ensures in
-    let ok : move_answer c.args.self.now (above (shapes c.args.t.now.nodes)) c.args.dir (is_positive c.args.amount) (unsigned_abs c.args.amount) ≡ Ok tt = sym answer ∙ c.in_ok-may_move.was in
-    let down : is_positive c.args.amount ≡ true = sym (rw back at c.is_positive.ensures) ∙ c.if-is_positive.true in
-    let pages : c.unsigned_abs.result ≡ unsigned_abs c.args.amount = rw back at c.unsigned_abs.ensures.value in
-    let both = answer_ok c.args.self.now (above (shapes c.args.t.now.nodes)) c.args.dir true c.unsigned_abs.result (rw pages (rw down at ok)) in
-    rw c.superior_of-superior.ensures.is at both.1
+    let is : c.move_between.result ≡ move_answer c.args.self.now (above (shapes c.args.t.now.nodes)) c.args.dir (is_positive c.args.amount) (unsigned_abs c.args.amount) = rw back at c.move_between.ensures.answer in
+    is ∙ answer_same c.args.t.now.nodes c.args.self.now c.move_between.ensures.table c.requires.fits c.superior_of-superior.ensures.chains c.args.dir (unsigned_abs c.args.amount) c.requires.directory c.requires.branch c.requires.amount stored holds (is_positive c.args.amount)
 
-pub transfer-requires-else-is_positive-clause-none : goal.transfer-requires-else-is_positive-clause-none
-transfer-requires-else-is_positive-clause-none c =
+pub returns-clause-tree : goal.returns-clause-tree
+returns-clause-tree c =
     let back = to_z-of_z w32 c.args.amount c.ranges.amount in
-    let answer : c.may_move.result ≡ move_answer c.args.self.now (above (shapes c.args.t.now.nodes)) c.args.dir (is_positive c.args.amount) (unsigned_abs c.args.amount) = rw back at c.may_move.ensures in
-    let ok : move_answer c.args.self.now (above (shapes c.args.t.now.nodes)) c.args.dir (is_positive c.args.amount) (unsigned_abs c.args.amount) ≡ Ok tt = sym answer ∙ c.in_ok-may_move.was in
-    let down : is_positive c.args.amount ≡ false = sym (rw back at c.is_positive.ensures) ∙ c.if-is_positive.false in
-    let pages : c.unsigned_abs-else-is_positive.result ≡ unsigned_abs c.args.amount = rw back at c.unsigned_abs-else-is_positive.ensures.value in
-    let both = answer_ok c.args.self.now (above (shapes c.args.t.now.nodes)) c.args.dir false c.unsigned_abs-else-is_positive.result (rw pages (rw down at ok)) in
-    rw c.superior_of-superior.ensures.is at both.1
+    let is : c.move_between.result ≡ move_answer c.args.self.now (above (shapes c.args.t.now.nodes)) c.args.dir (is_positive c.args.amount) (unsigned_abs c.args.amount) = rw back at c.move_between.ensures.answer in
+    let ok : OnOk c.move_between.result (c.move_between.new.self ≡ moved c.args.self.now (above (shapes c.args.t.now.nodes)) c.args.dir (is_positive c.args.amount) (unsigned_abs c.args.amount)) = rw back at c.move_between.ensures.ok in
+    moved_shown c.args.t.now.nodes c.args.self.now c.move_between.ensures.table c.requires.fits c.superior_of-superior.ensures.chains c.args.dir (unsigned_abs c.args.amount) c.requires.directory c.requires.branch c.requires.amount (is_positive c.args.amount) c.move_between.new.self c.move_between.result is ok
 
-pub transfer-requires-clause-enough : goal.transfer-requires-clause-enough
-transfer-requires-clause-enough c =
-    let back = to_z-of_z w32 c.args.amount c.ranges.amount in
-    let answer : c.may_move.result ≡ move_answer c.args.self.now (above (shapes c.args.t.now.nodes)) c.args.dir (is_positive c.args.amount) (unsigned_abs c.args.amount) = rw back at c.may_move.ensures in
-    let ok : move_answer c.args.self.now (above (shapes c.args.t.now.nodes)) c.args.dir (is_positive c.args.amount) (unsigned_abs c.args.amount) ≡ Ok tt = sym answer ∙ c.in_ok-may_move.was in
-    let down : is_positive c.args.amount ≡ true = sym (rw back at c.is_positive.ensures) ∙ c.if-is_positive.true in
-    let pages : c.unsigned_abs.result ≡ unsigned_abs c.args.amount = rw back at c.unsigned_abs.ensures.value in
-    let both = answer_ok c.args.self.now (above (shapes c.args.t.now.nodes)) c.args.dir true c.unsigned_abs.result (rw pages (rw down at ok)) in
-    rw c.superior_of-superior.ensures.is at both.0
-
-pub transfer-requires-else-is_positive-clause-enough : goal.transfer-requires-else-is_positive-clause-enough
-transfer-requires-else-is_positive-clause-enough c =
-    let back = to_z-of_z w32 c.args.amount c.ranges.amount in
-    let answer : c.may_move.result ≡ move_answer c.args.self.now (above (shapes c.args.t.now.nodes)) c.args.dir (is_positive c.args.amount) (unsigned_abs c.args.amount) = rw back at c.may_move.ensures in
-    let ok : move_answer c.args.self.now (above (shapes c.args.t.now.nodes)) c.args.dir (is_positive c.args.amount) (unsigned_abs c.args.amount) ≡ Ok tt = sym answer ∙ c.in_ok-may_move.was in
-    let down : is_positive c.args.amount ≡ false = sym (rw back at c.is_positive.ensures) ∙ c.if-is_positive.false in
-    let pages : c.unsigned_abs-else-is_positive.result ≡ unsigned_abs c.args.amount = rw back at c.unsigned_abs-else-is_positive.ensures.value in
-    let both = answer_ok c.args.self.now (above (shapes c.args.t.now.nodes)) c.args.dir false c.unsigned_abs-else-is_positive.result (rw pages (rw down at ok)) in
-    both.0
-
-pub returns-in_err-may_move-clause-answer : goal.returns-in_err-may_move-clause-answer
-returns-in_err-may_move-clause-answer c =
-    let back = to_z-of_z w32 c.args.amount c.ranges.amount in
-    let answer : c.may_move.result ≡ move_answer c.args.self.now (above (shapes c.args.t.now.nodes)) c.args.dir (is_positive c.args.amount) (unsigned_abs c.args.amount) = rw back at c.may_move.ensures in
-    let was = c.in_err-may_move.was in
-    let given = c.from_residual.ensures in
-    grind (arith, common_steps)
-
-pub returns-then-is_positive-clause-answer : goal.returns-then-is_positive-clause-answer
-returns-then-is_positive-clause-answer c =
-    let back = to_z-of_z w32 c.args.amount c.ranges.amount in
-    let answer : c.may_move.result ≡ move_answer c.args.self.now (above (shapes c.args.t.now.nodes)) c.args.dir (is_positive c.args.amount) (unsigned_abs c.args.amount) = rw back at c.may_move.ensures in
-    let ok : move_answer c.args.self.now (above (shapes c.args.t.now.nodes)) c.args.dir (is_positive c.args.amount) (unsigned_abs c.args.amount) ≡ Ok tt = sym answer ∙ c.in_ok-may_move.was in
-    sym ok
-
-pub returns-else-is_positive-clause-answer : goal.returns-else-is_positive-clause-answer
-returns-else-is_positive-clause-answer c =
-    let back = to_z-of_z w32 c.args.amount c.ranges.amount in
-    let answer : c.may_move.result ≡ move_answer c.args.self.now (above (shapes c.args.t.now.nodes)) c.args.dir (is_positive c.args.amount) (unsigned_abs c.args.amount) = rw back at c.may_move.ensures in
-    let ok : move_answer c.args.self.now (above (shapes c.args.t.now.nodes)) c.args.dir (is_positive c.args.amount) (unsigned_abs c.args.amount) ≡ Ok tt = sym answer ∙ c.in_ok-may_move.was in
-    sym ok
-
-pub returns-then-is_positive-clause-used : goal.returns-then-is_positive-clause-used
-returns-then-is_positive-clause-used c = counts_used c.args.t.now.nodes c.transfer.new.self c.transfer.ensures.fits c.superior_of-superior.ensures.chains
-
-pub returns-else-is_positive-clause-used : goal.returns-else-is_positive-clause-used
-returns-else-is_positive-clause-used c = counts_used c.args.t.now.nodes c.transfer-else-is_positive.new.self c.transfer-else-is_positive.ensures.fits c.superior_of-superior.ensures.chains
+pub returns-clause-stored : goal.returns-clause-stored
+returns-clause-stored c s = stored_kept c.args.self.now c.move_between.new.self (above (shapes c.args.t.now.nodes)) c.args.dir _ _ c.move_between.result c.move_between.ensures.ok c.move_between.ensures.err s

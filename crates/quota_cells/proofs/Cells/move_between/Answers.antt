@@ -1,0 +1,72 @@
+use Rattle.std.proofs.Common.{◌≡◌, true, false, Ok, sym, ◌∙◌, w32, arith}
+use Rattle.std.proofs.lemmas.Int.{to_z-of_z}
+use Rattle.std.specs.Int.{is_positive}
+use Rattle.std.specs.Int.RustNames.{unsigned_abs}
+use Rattle.std.proofs.lemmas.Grind.{common_steps}
+use Rattle.storage_terms.specs.Tree.{above}
+use Rattle.dir_tree.specs.Shape.{shapes}
+use Rattle.quota_cells.specs.Cells.{move_answer}
+use Rattle.quota_cells.proofs.TransferLaws.{answer_ok}
+use Rattle.quota_cells.proofs.Cells.move_between.Goals as goal
+
+pub transfer-requires-clause-none : goal.transfer-requires-clause-none
+transfer-requires-clause-none c =
+    let back = to_z-of_z w32 c.args.amount c.ranges.amount in
+    let answer : c.move_refusal.result ≡ move_answer c.args.self.now (above (shapes c.args.t.now.nodes)) c.args.dir (is_positive c.args.amount) (unsigned_abs c.args.amount) = rw back at c.move_refusal.ensures.answer in
+    let ok : move_answer c.args.self.now (above (shapes c.args.t.now.nodes)) c.args.dir (is_positive c.args.amount) (unsigned_abs c.args.amount) ≡ Ok tt = sym answer ∙ c.in_ok-move_refusal.was in
+    let down : is_positive c.args.amount ≡ true = sym (rw back at c.is_positive.ensures) ∙ c.if-is_positive.true in
+    let pages : c.unsigned_abs.result ≡ unsigned_abs c.args.amount = rw back at c.unsigned_abs.ensures.value in
+    let both = answer_ok c.args.self.now (above (shapes c.args.t.now.nodes)) c.args.dir true c.unsigned_abs.result (rw pages (rw down at ok)) in
+    rw c.requires.is at both.1
+
+pub transfer-requires-else-is_positive-clause-none : goal.transfer-requires-else-is_positive-clause-none
+transfer-requires-else-is_positive-clause-none c =
+    let back = to_z-of_z w32 c.args.amount c.ranges.amount in
+    let answer : c.move_refusal.result ≡ move_answer c.args.self.now (above (shapes c.args.t.now.nodes)) c.args.dir (is_positive c.args.amount) (unsigned_abs c.args.amount) = rw back at c.move_refusal.ensures.answer in
+    let ok : move_answer c.args.self.now (above (shapes c.args.t.now.nodes)) c.args.dir (is_positive c.args.amount) (unsigned_abs c.args.amount) ≡ Ok tt = sym answer ∙ c.in_ok-move_refusal.was in
+    let down : is_positive c.args.amount ≡ false = sym (rw back at c.is_positive.ensures) ∙ c.if-is_positive.false in
+    let pages : c.unsigned_abs-else-is_positive.result ≡ unsigned_abs c.args.amount = rw back at c.unsigned_abs-else-is_positive.ensures.value in
+    let both = answer_ok c.args.self.now (above (shapes c.args.t.now.nodes)) c.args.dir false c.unsigned_abs-else-is_positive.result (rw pages (rw down at ok)) in
+    rw c.requires.is at both.1
+
+pub transfer-requires-clause-enough : goal.transfer-requires-clause-enough
+transfer-requires-clause-enough c =
+    let back = to_z-of_z w32 c.args.amount c.ranges.amount in
+    let answer : c.move_refusal.result ≡ move_answer c.args.self.now (above (shapes c.args.t.now.nodes)) c.args.dir (is_positive c.args.amount) (unsigned_abs c.args.amount) = rw back at c.move_refusal.ensures.answer in
+    let ok : move_answer c.args.self.now (above (shapes c.args.t.now.nodes)) c.args.dir (is_positive c.args.amount) (unsigned_abs c.args.amount) ≡ Ok tt = sym answer ∙ c.in_ok-move_refusal.was in
+    let down : is_positive c.args.amount ≡ true = sym (rw back at c.is_positive.ensures) ∙ c.if-is_positive.true in
+    let pages : c.unsigned_abs.result ≡ unsigned_abs c.args.amount = rw back at c.unsigned_abs.ensures.value in
+    let both = answer_ok c.args.self.now (above (shapes c.args.t.now.nodes)) c.args.dir true c.unsigned_abs.result (rw pages (rw down at ok)) in
+    rw c.requires.is at both.0
+
+pub transfer-requires-else-is_positive-clause-enough : goal.transfer-requires-else-is_positive-clause-enough
+transfer-requires-else-is_positive-clause-enough c =
+    let back = to_z-of_z w32 c.args.amount c.ranges.amount in
+    let answer : c.move_refusal.result ≡ move_answer c.args.self.now (above (shapes c.args.t.now.nodes)) c.args.dir (is_positive c.args.amount) (unsigned_abs c.args.amount) = rw back at c.move_refusal.ensures.answer in
+    let ok : move_answer c.args.self.now (above (shapes c.args.t.now.nodes)) c.args.dir (is_positive c.args.amount) (unsigned_abs c.args.amount) ≡ Ok tt = sym answer ∙ c.in_ok-move_refusal.was in
+    let down : is_positive c.args.amount ≡ false = sym (rw back at c.is_positive.ensures) ∙ c.if-is_positive.false in
+    let pages : c.unsigned_abs-else-is_positive.result ≡ unsigned_abs c.args.amount = rw back at c.unsigned_abs-else-is_positive.ensures.value in
+    let both = answer_ok c.args.self.now (above (shapes c.args.t.now.nodes)) c.args.dir false c.unsigned_abs-else-is_positive.result (rw pages (rw down at ok)) in
+    both.0
+
+pub returns-in_err-move_refusal-clause-answer : goal.returns-in_err-move_refusal-clause-answer
+returns-in_err-move_refusal-clause-answer c =
+    let back = to_z-of_z w32 c.args.amount c.ranges.amount in
+    let answer : c.move_refusal.result ≡ move_answer c.args.self.now (above (shapes c.args.t.now.nodes)) c.args.dir (is_positive c.args.amount) (unsigned_abs c.args.amount) = rw back at c.move_refusal.ensures.answer in
+    let was = c.in_err-move_refusal.was in
+    let given = c.from_residual.ensures in
+    grind (arith, common_steps)
+
+pub returns-then-is_positive-clause-answer : goal.returns-then-is_positive-clause-answer
+returns-then-is_positive-clause-answer c =
+    let back = to_z-of_z w32 c.args.amount c.ranges.amount in
+    let answer : c.move_refusal.result ≡ move_answer c.args.self.now (above (shapes c.args.t.now.nodes)) c.args.dir (is_positive c.args.amount) (unsigned_abs c.args.amount) = rw back at c.move_refusal.ensures.answer in
+    let ok : move_answer c.args.self.now (above (shapes c.args.t.now.nodes)) c.args.dir (is_positive c.args.amount) (unsigned_abs c.args.amount) ≡ Ok tt = sym answer ∙ c.in_ok-move_refusal.was in
+    sym ok
+
+pub returns-else-is_positive-clause-answer : goal.returns-else-is_positive-clause-answer
+returns-else-is_positive-clause-answer c =
+    let back = to_z-of_z w32 c.args.amount c.ranges.amount in
+    let answer : c.move_refusal.result ≡ move_answer c.args.self.now (above (shapes c.args.t.now.nodes)) c.args.dir (is_positive c.args.amount) (unsigned_abs c.args.amount) = rw back at c.move_refusal.ensures.answer in
+    let ok : move_answer c.args.self.now (above (shapes c.args.t.now.nodes)) c.args.dir (is_positive c.args.amount) (unsigned_abs c.args.amount) ≡ Ok tt = sym answer ∙ c.in_ok-move_refusal.was in
+    sym ok
