@@ -21,8 +21,6 @@ ghost use Rattle.dir_tree.specs.Shape.{shape, shapes, IsTree, HasChains};
 mod entries;
 mod index;
 mod node;
-#[cfg(test)]
-mod tests;
 
 use acl::Acl;
 use arrayvec::ArrayVec;

@@ -17,12 +17,13 @@ use Rattle.quota_cells.proofs.PlaceLaws.{look_at, look_absent}
 use Rattle.quota_cells.proofs.FitLaws.{on_directories, on_segments, directory_shape, segment_shape, all_there, covered_there}
 use Rattle.quota_cells.proofs.EditLaws.{has_insert, look_insert, weigh_insert, has_remove, look_remove, look_gone, weigh_remove, rising_insert, rising_remove}
 
-no_weight : (t : ℕ → Bool) (ks ws : List ℕ) → ((k : ℕ) → has ks k ≡ true → t k ≡ false) → weigh t ks ws ≡ 0
+-- what no uid passes weighs nothing
+pub no_weight : (t : ℕ → Bool) (ks ws : List ℕ) → ((k : ℕ) → has ks k ≡ true → t k ≡ false) → weigh t ks ws ≡ 0
 no_weight t [] ws none = refl
 no_weight t (k ∷ ks) [] none = refl
 no_weight t (k ∷ ks) (w ∷ ws) none = rw (none k (or_left (eqb k k) (has ks k) (eq-eqb k k refl)), no_weight t ks ws (λ j h. none j (or_right (eqb k j) (has ks j) h))) refl
 
-not_in_directory : (ns : List Node) (u : ℕ) → is_in ns u ≡ false → is_directory ns u ≡ false
+pub not_in_directory : (ns : List Node) (u : ℕ) → is_in ns u ≡ false → is_directory ns u ≡ false
 not_in_directory [] u e = refl
 not_in_directory (n ∷ ns) u e = elim (cases_Bool (eqb n.uid u)) [ inl is ↦ (let z : true ≡ false = rw is at e in cc) | inr isnt ↦ rw isnt (not_in_directory ns u (rw isnt at e)) ]
 
@@ -158,6 +159,7 @@ module _ (c : CellMaps) (table : IsTable c) (uid i : ℕ) (absent : has_cell c u
     loads = λ d. look_insert c.directories c.loads i uid d table.load_count no_directory;
     stored = λ s. refl;
     counts = λ t. refl;
+    total = (let s = sum_by-insert (λ (x : ℕ). x) c.quotas i 0 in omega (arith, s));
   }
 
   same_quotas : quota_in with_directory ≡ quota_in c
@@ -193,6 +195,7 @@ module _ (c : CellMaps) (table : IsTable c) (uid i : ℕ) (absent : has_cell c u
     loads = λ d. refl;
     stored = λ s. look_insert c.segments c.stored i uid s table.stored_count no_segment;
     counts = λ t. weigh_insert t c.segments c.stored i uid table.stored_count;
+    total = refl;
   }
 
   pub table_segment : IsGap c.segments uid i → IsTable with_segment
@@ -229,6 +232,10 @@ module _ (c : CellMaps) (table : IsTable c) (uid i : ℕ) where
     loads = λ d other. look_remove c.directories c.loads i d table.load_count table.rising lt (λ e. other (e ∙ is));
     stored = λ s. refl;
     counts = λ t. refl;
+    total =
+      (let s = sum_by-remove (λ (x : ℕ). x) c.quotas i 0 (let n : length c.quotas ≡ length c.directories = table.quota_count in omega arith) in
+      let gone : get_or c.quotas i 0 ≡ 0 = sym (look_at c.directories c.quotas i table.rising lt) ∙ ap (look c.directories c.quotas) is ∙ none in
+      omega (arith, s, gone));
   }
 
   pub table_less_directory : has c.directories uid ≡ true → quota_in c uid ≡ 0 → i < length c.directories → get_or c.directories i 0 ≡ uid → IsTable less_directory
@@ -267,6 +274,7 @@ module _ (c : CellMaps) (table : IsTable c) (uid i : ℕ) where
       | inr other ↦ look_remove c.segments c.stored i s table.stored_count table.segments_rise lt (λ e. other (e ∙ is))
     ];
     counts = λ t. weigh_remove t c.segments c.stored i table.stored_count lt (sym (look_at c.segments c.stored i table.segments_rise lt) ∙ ap (look c.segments c.stored) is ∙ none);
+    total = refl;
   }
 
   pub table_less_segment : i < length c.segments → IsTable less_segment

@@ -20,6 +20,7 @@ use Rattle.quota_cells.proofs.ColumnLaws.{look_with, length_with, weigh_with, we
 use Rattle.quota_cells.proofs.PlaceLaws.{look_at, look_absent}
 use Rattle.quota_cells.proofs.AccountLaws.{account_of_chain}
 use Rattle.quota_cells.proofs.FitLaws.{on_directories, on_segments, segment_there, segment_not, account_there, all_there, counts_used}
+use Rattle.quota_cells.proofs.EnterLaws.{no_weight, not_in_directory}
 use Rattle.quota_cells.proofs.OverLaws.{passes, later, fits2, q2_g, q2_v, q2_other}
 use Rattle.quota_cells.proofs.TransferLaws.{IsBelow, top, answer_ok}
 
@@ -32,13 +33,6 @@ zeros t (k ∷ ks) (w ∷ ws) none =
     let here : w ≡ 0 = none 0 (omega arith) in
     let rest : weigh t ks ws ≡ 0 = zeros t ks ws (λ i lt. none (suc i) (omega arith)) in
     elim (cases_Bool (t k)) [ inl y ↦ rw y (omega arith) | inr n ↦ rw n (omega arith) ]
-
-unweighed : (t : ℕ → Bool) (ks ws : List ℕ) → ((k : ℕ) → has ks k ≡ true → t k ≡ false) → weigh t ks ws ≡ 0
-unweighed t [] ws none = refl
-unweighed t (k ∷ ks) [] none = refl
-unweighed t (k ∷ ks) (w ∷ ws) none =
-    let rest : weigh t ks ws ≡ 0 = unweighed t ks ws (λ j is. none j (or_right (eqb k j) (has ks j) is)) in
-    rw (none k (or_left (eqb k k) (has ks k) (eq-eqb k k refl))) (omega arith)
 
 count_more : (t : ℕ → Bool) (x : ℕ × ℕ) (xs : List (ℕ × ℕ)) → count_by (λ y. t y.0) (x ∷ xs) ≡ cond (t x.0) 1 0 + count_by (λ y. t y.0) xs
 count_more t x xs = sum_by-cons (λ y. cond (t y.0) 1 0) x xs
@@ -84,13 +78,6 @@ quota_node q (n ∷ ns) u none = elim (cases_eq n.uid u) [
   | inr other ↦ rw (ne_eqb n.uid u other) (quota_node q ns u (λ e. none (rw (ne_eqb n.uid u other) e)))
 ]
 
-missing_directory : (ns : List Node) (u : ℕ) → is_in ns u ≡ false → is_directory ns u ≡ false
-missing_directory [] u e = refl
-missing_directory (n ∷ ns) u e = elim (cases_Bool (eqb n.uid u)) [
-  | inl is ↦ (let no : true ≡ false = rw is at e in cc)
-  | inr isnt ↦ rw isnt (missing_directory ns u (rw isnt at e))
-]
-
 directory_kept : (q : ℕ → ℕ) (ns : List Node) (u : ℕ) → has_directory (with_quotas q ns) u ≡ has_directory (shapes ns) u
 directory_kept q [] u = refl
 directory_kept q (n ∷ ns) u = ap (cond (eqb n.uid u) n.dir) (directory_kept q ns u)
@@ -110,7 +97,7 @@ module _ (nodes : List Node) (c : CellMaps) (fits : Fits nodes c) (chains : HasC
   tree = with_quotas (quota_in c) nodes
 
   pub quota_same : (u : ℕ) → quota_at tree u ≡ q u
-  quota_same u = quota_node q nodes u (λ e. look_absent c.directories c.quotas u (on_directories nodes fits u ∙ missing_directory nodes u e))
+  quota_same u = quota_node q nodes u (λ e. look_absent c.directories c.quotas u (on_directories nodes fits u ∙ not_in_directory nodes u e))
 
   pub account_same : (s : ℕ) → account_of tree s ≡ account q (f s)
   account_same s = ap (λ (g : ℕ → ℕ). account g (above tree s)) (λ i. λ u. quota_same u i) ∙ ap (account q) (above_any q nodes s)
@@ -125,11 +112,11 @@ module _ (nodes : List Node) (c : CellMaps) (fits : Fits nodes c) (chains : HasC
     | inl there ↦ (let counted = counts_used nodes c fits chains a there in elim (cases_Bool (is_an_account q a)) [
       | inl y ↦ counted ∙ rw y refl
       | inr n ↦
-          (let none : charged_to f q c.segments c.stored a ≡ 0 = unweighed (λ s. eqb (account q (f s)) a) c.segments c.stored (λ k is. ne_eqb _ _ (λ e. both_ways (is_an_account q a) n (subst (λ z. is_an_account q z ≡ true) e (account_of_chain q (f k))))) in
+          (let none : charged_to f q c.segments c.stored a ≡ 0 = no_weight (λ s. eqb (account q (f s)) a) c.segments c.stored (λ k is. ne_eqb _ _ (λ e. both_ways (is_an_account q a) n (subst (λ z. is_an_account q z ≡ true) e (account_of_chain q (f k))))) in
           rw n (sym none))
     ])
     | inr absent ↦
-        (let none : charged_to f q c.segments c.stored a ≡ 0 = unweighed (λ s. eqb (account q (f s)) a) c.segments c.stored (λ k is. ne_eqb _ _ (λ e. both_ways (has c.directories a) absent (subst (λ z. has c.directories z ≡ true) e (account_here k is)))) in
+        (let none : charged_to f q c.segments c.stored a ≡ 0 = no_weight (λ s. eqb (account q (f s)) a) c.segments c.stored (λ k is. ne_eqb _ _ (λ e. both_ways (has c.directories a) absent (subst (λ z. has c.directories z ≡ true) e (account_here k is)))) in
         let zero : load_in c a ≡ 0 = look_absent c.directories c.loads a absent in
         let used : used_in c a ≡ 0 = elim (cases_Bool (is_an_account q a)) [ inl y ↦ rw y zero | inr n ↦ rw n refl ] in
         used ∙ sym none)

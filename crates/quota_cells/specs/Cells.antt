@@ -103,6 +103,7 @@ pub record Enters (old new : CellMaps) (uid : ℕ) (dir : Bool) : Type 0 where
   pub stored : (s : ℕ) → stored_in new s ≡ stored_in old s
   pub counts : (test : ℕ → Bool) → weigh test new.segments new.stored ≡ weigh test old.segments old.stored
   pub size : length new.directories + length new.segments ≡ length old.directories + length old.segments + 1
+  pub total : sum new.quotas ≡ sum old.quotas
 
 -- a uid has no cell any more
 pub record Leaves (old new : CellMaps) (uid : ℕ) : Type 0 where
@@ -113,6 +114,7 @@ pub record Leaves (old new : CellMaps) (uid : ℕ) : Type 0 where
   pub stored : (s : ℕ) → stored_in new s ≡ stored_in old s
   pub counts : (test : ℕ → Bool) → weigh test new.segments new.stored ≡ weigh test old.segments old.stored
   pub size : length new.directories + length new.segments + 1 ≡ length old.directories + length old.segments
+  pub total : sum new.quotas ≡ sum old.quotas
 
 -- a uid has a cell
 abbrev pub has_cell : CellMaps → ℕ → Bool

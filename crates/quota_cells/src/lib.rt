@@ -30,8 +30,6 @@ ghost use Rattle.std.specs.Int.{is_positive};
 
 mod columns;
 mod moves;
-#[cfg(test)]
-mod tests;
 
 use dir_tree::{ROOT, Tree};
 use std::alloc::{AllocError, Global};
@@ -232,7 +230,8 @@ impl Cells {
     /// The quota of a directory, in pages; 0 where it is no account of its own.
     pub fn quota(&self, d: u32) -> u32
         requires { has self.now.directories d ≡ true }
-        ensures { result ≡ quota_in self.now d }
+        ensures quota { result ≡ quota_in self.now d }
+        ensures pages { stored_in self.now d ≡ 0 }
     {
         columns::value(&self.directories, &self.quotas, d)
     }
@@ -241,6 +240,7 @@ impl Cells {
     pub fn stored(&self, seg: u32) -> u32
         requires { has self.now.segments seg ≡ true }
         ensures stored { result ≡ stored_in self.now seg }
+        ensures quota { quota_in self.now seg ≡ 0 }
         ensures table { IsTable self.now }
     {
         columns::value(&self.segments, &self.stored, seg)

@@ -1,6 +1,6 @@
 use Rattle.std.proofs.Common.{◌∙◌}
 use Rattle.quota_cells.proofs.FitLaws.{on_segments}
-use Rattle.quota_cells.proofs.tests.stored.Goals as goal
+use Rattle.tree_tests.proofs.quotas.stored.Goals as goal
 
 pub stored-requires : goal.stored-requires
 stored-requires g c = on_segments c.args.tree.now.nodes c.requires c.args.seg ∙ c.check_segment.ensures

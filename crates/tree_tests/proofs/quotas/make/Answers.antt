@@ -5,7 +5,7 @@ use Rattle.dir_tree.specs.Nodes.{Branches, added, is_in}
 use Rattle.dir_tree.specs.Shape.{shapes, HasChains}
 use Rattle.quota_cells.specs.Cells.{CellMaps, Fits}
 use Rattle.quota_cells.proofs.EnterLaws.{absent_cell}
-use Rattle.quota_cells.proofs.tests.make.Goals as goal
+use Rattle.tree_tests.proofs.quotas.make.Goals as goal
 
 entered : (old new : Branches) (s : ℕ) (n : NewNode) (uid : ℕ) (cells before : CellMaps) → new ≡ added old s n → uid ≡ old.next → is_in old.nodes old.next ≡ false → HasChains (shapes old.nodes) → Fits old.nodes before
     → ((nodes : List Node) (m : Node) → m.uid ≡ uid → m.dir ≡ n.dir → is_in nodes uid ≡ false → HasChains (shapes nodes) → Fits nodes before → Fits (m ∷ nodes) cells) → Fits new.nodes cells

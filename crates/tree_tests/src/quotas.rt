@@ -2,10 +2,10 @@ ghost use Rattle.std.specs.Prelude.{◌≡◌, true};
 ghost use Rattle.dir_tree.specs.Nodes.{is_directory, is_segment};
 ghost use Rattle.quota_cells.specs.Cells.{Fits, quota_in, stored_in};
 
-use super::*;
 use acl::Acl;
-use dir_tree::NewNode;
+use dir_tree::{NewNode, ROOT, Tree};
 use mnames::read_name;
+use quota_cells::{Cells, Full, MoveFault};
 use std::process::Abort;
 
 // Adds a branch and its cell.
@@ -77,13 +77,16 @@ fn quota(rt: &impl Abort, tree: &Tree, cells: &Cells, dir: u32) -> u32
     cells.quota(dir)
 }
 
-// A stored page less.
-fn credit(rt: &impl Abort, tree: &Tree, cells: &mut Cells, seg: u32)
+// So many stored pages less.
+fn credit(rt: &impl Abort, tree: &Tree, cells: &mut Cells, seg: u32, pages: u32)
     requires { Fits tree.now.nodes cells.old }
     ensures { Fits tree.now.nodes cells.new }
 {
-    assert!(rt; stored(rt, tree, cells, seg) > 0);
-    cells.credit(tree, seg);
+    assert!(rt; stored(rt, tree, cells, seg) >= pages && pages > 0);
+    match pages {
+        1 => cells.credit(tree, seg),
+        _ => cells.credit_pages(tree, seg, pages),
+    }
 }
 
 // Takes out a segment without stored pages, and its cell.
@@ -175,7 +178,22 @@ fn used_counts_follow_quota_that_moves(rt: HostRuntime) {
     assert_eq!(rt; cells.used(2), 0);
 }
 
-// >a>s with 2 stored pages, and >a>b>t with 3.
+// >a>s with 2 stored pages, and >a>b>t with 3, below a root with a quota of 10.
+fn two_levels(rt: &impl Abort, tree: &mut Tree, cells: &mut Cells)
+    requires { Fits tree.old.nodes cells.old }
+    ensures { Fits tree.new.nodes cells.new }
+{
+    make(rt, tree, cells, ROOT, "a", true);
+    make(rt, tree, cells, 2, "s", false);
+    make(rt, tree, cells, 2, "b", true);
+    make(rt, tree, cells, 4, "t", false);
+    assert_eq!(rt; charge(rt, tree, cells, 3), Ok(()));
+    assert_eq!(rt; charge(rt, tree, cells, 3), Ok(()));
+    assert_eq!(rt; charge(rt, tree, cells, 5), Ok(()));
+    assert_eq!(rt; charge(rt, tree, cells, 5), Ok(()));
+    assert_eq!(rt; charge(rt, tree, cells, 5), Ok(()));
+}
+
 #[test]
 fn a_page_is_counted_for_the_nearest_account_above(rt: HostRuntime) {
     let (Ok(mut tree), Ok(mut cells)) = (Tree::new(rt.alloc(), 0, 0), Cells::new(rt.alloc(), 10))
@@ -183,15 +201,7 @@ fn a_page_is_counted_for_the_nearest_account_above(rt: HostRuntime) {
         assert!(rt; false, "no memory");
         return;
     };
-    make(&rt, &mut tree, &mut cells, ROOT, "a", true);
-    make(&rt, &mut tree, &mut cells, 2, "s", false);
-    make(&rt, &mut tree, &mut cells, 2, "b", true);
-    make(&rt, &mut tree, &mut cells, 4, "t", false);
-    assert_eq!(rt; charge(&rt, &tree, &mut cells, 3), Ok(()));
-    assert_eq!(rt; charge(&rt, &tree, &mut cells, 3), Ok(()));
-    assert_eq!(rt; charge(&rt, &tree, &mut cells, 5), Ok(()));
-    assert_eq!(rt; charge(&rt, &tree, &mut cells, 5), Ok(()));
-    assert_eq!(rt; charge(&rt, &tree, &mut cells, 5), Ok(()));
+    two_levels(&rt, &mut tree, &mut cells);
     assert_eq!(rt; stored(&rt, &tree, &cells, 3), 2);
     assert_eq!(rt; stored(&rt, &tree, &cells, 5), 3);
     assert_eq!(rt; cells.used(ROOT), 5);
@@ -205,20 +215,32 @@ fn a_page_is_counted_for_the_nearest_account_above(rt: HostRuntime) {
     assert_eq!(rt; cells.used(ROOT), 0);
     assert_eq!(rt; cells.used(2), 2);
     assert_eq!(rt; cells.used(4), 3);
+}
 
-    // a page less of each
-    credit(&rt, &tree, &mut cells, 3);
-    credit(&rt, &tree, &mut cells, 5);
+#[test]
+fn pages_that_go_are_credited_to_the_account_of_their_segment(rt: HostRuntime) {
+    let (Ok(mut tree), Ok(mut cells)) = (Tree::new(rt.alloc(), 0, 0), Cells::new(rt.alloc(), 10))
+    else {
+        assert!(rt; false, "no memory");
+        return;
+    };
+    two_levels(&rt, &mut tree, &mut cells);
+    assert_eq!(rt; move_quota(&rt, &tree, &mut cells, 2, 6), Ok(()));
+    assert_eq!(rt; move_quota(&rt, &tree, &mut cells, 4, 3), Ok(()));
+
+    // a page of >a>s, and two of >a>b>t at once
+    credit(&rt, &tree, &mut cells, 3, 1);
+    credit(&rt, &tree, &mut cells, 5, 2);
     assert_eq!(rt; stored(&rt, &tree, &cells, 3), 1);
-    assert_eq!(rt; stored(&rt, &tree, &cells, 5), 2);
+    assert_eq!(rt; stored(&rt, &tree, &cells, 5), 1);
     assert_eq!(rt; cells.used(2), 1);
-    assert_eq!(rt; cells.used(4), 2);
+    assert_eq!(rt; cells.used(4), 1);
 
-    // without quota in >a>b its 2 pages are charged to >a
+    // without quota in >a>b its page is charged to >a
     assert_eq!(rt; move_quota(&rt, &tree, &mut cells, 4, -3), Ok(()));
     assert_eq!(rt; quota(&rt, &tree, &cells, 4), 0);
     assert_eq!(rt; cells.used(4), 0);
-    assert_eq!(rt; cells.used(2), 3);
+    assert_eq!(rt; cells.used(2), 2);
 }
 
 #[test]
@@ -235,7 +257,7 @@ fn what_is_empty_leaves_and_the_rest_keeps_its_counts(rt: HostRuntime) {
     assert_eq!(rt; charge(&rt, &tree, &mut cells, 4), Ok(()));
     assert_eq!(rt; cells.used(ROOT), 2);
     set_length(&rt, &mut tree, &cells, 3, 9);
-    credit(&rt, &tree, &mut cells, 3);
+    credit(&rt, &tree, &mut cells, 3, 1);
     assert_eq!(rt; cells.used(ROOT), 1);
     drop_segment(&rt, &mut tree, &mut cells, 3);
     drop_directory(&rt, &mut tree, &mut cells, 2);

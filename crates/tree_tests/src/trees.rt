@@ -1,13 +1,14 @@
-use super::*;
-use mnames::{read_name, read_path, read_row};
+use acl::Acl;
+use dir_tree::{AddFault, NewNode, NotEmpty, PathFault, ROOT, Tree};
+use mnames::{Name, read_name, read_path, read_row};
 use std::process::Abort;
 use std::test::Fail;
 
-fn name(rt: &impl Abort, text: &str) -> Name {
+pub(crate) fn name(rt: &impl Abort, text: &str) -> Name {
     read_name(text.as_bytes()).expect(rt, "an entry name")
 }
 
-fn directory(rt: &impl Abort, text: &str) -> NewNode {
+pub(crate) fn directory(rt: &impl Abort, text: &str) -> NewNode {
     NewNode {
         name: name(rt, text),
         dir: true,
@@ -18,7 +19,7 @@ fn directory(rt: &impl Abort, text: &str) -> NewNode {
     }
 }
 
-fn segment(rt: &impl Abort, text: &str) -> NewNode {
+pub(crate) fn segment(rt: &impl Abort, text: &str) -> NewNode {
     NewNode {
         name: name(rt, text),
         dir: false,
@@ -30,7 +31,7 @@ fn segment(rt: &impl Abort, text: &str) -> NewNode {
 }
 
 // Adds a branch, where the conditions of the call hold.
-fn add(rt: &impl Abort, tree: &mut Tree, superior: u32, new: NewNode) -> Result<u32, AddFault> {
+pub(crate) fn add(rt: &impl Abort, tree: &mut Tree, superior: u32, new: NewNode) -> Result<u32, AddFault> {
     let node = tree.node(superior).expect(rt, "the superior");
     assert!(rt; node.dir);
     assert!(rt; tree.next_uid() < 1 << 31);
@@ -38,7 +39,7 @@ fn add(rt: &impl Abort, tree: &mut Tree, superior: u32, new: NewNode) -> Result<
 }
 
 // Takes a branch out, where the conditions of the call hold.
-fn remove(rt: &impl Abort, tree: &mut Tree, uid: u32) -> Result<(), NotEmpty> {
+pub(crate) fn remove(rt: &impl Abort, tree: &mut Tree, uid: u32) -> Result<(), NotEmpty> {
     assert!(rt; uid != ROOT && tree.node(uid).is_some());
     let may = tree.may_remove(uid);
     assert!(rt; tree.remove(uid) == may);
@@ -46,7 +47,7 @@ fn remove(rt: &impl Abort, tree: &mut Tree, uid: u32) -> Result<(), NotEmpty> {
 }
 
 // Where a path leads.
-fn walk(rt: &impl Abort, tree: &Tree, path: &str) -> Result<u32, PathFault> {
+pub(crate) fn walk(rt: &impl Abort, tree: &Tree, path: &str) -> Result<u32, PathFault> {
     match read_path(path.as_bytes()) {
         Ok(path) => tree.walk(&path),
         Err(_) => {

@@ -3,7 +3,7 @@ use Rattle.std.proofs.lemmas.Bool.{or_right}
 use Rattle.quota_cells.specs.Accounts.{has}
 use Rattle.quota_cells.proofs.FitLaws.{on_segments, segment_not}
 use Rattle.quota_cells.proofs.PlaceLaws.{look_absent}
-use Rattle.quota_cells.proofs.tests.drop_segment.Goals as goal
+use Rattle.tree_tests.proofs.quotas.drop_segment.Goals as goal
 
 pub leave-requires-clause-cell : goal.leave-requires-clause-cell
 leave-requires-clause-cell g c = or_right (has c.args.cells.now.directories c.args.seg) _ (on_segments c.args.tree.now.nodes c.requires c.args.seg ∙ c.stored.ensures.segment)

@@ -3,7 +3,7 @@ use Rattle.std.proofs.lemmas.Bool.{or_left}
 use Rattle.quota_cells.specs.Accounts.{has}
 use Rattle.quota_cells.proofs.FitLaws.{on_directories, directory_not}
 use Rattle.quota_cells.proofs.PlaceLaws.{look_absent}
-use Rattle.quota_cells.proofs.tests.drop_directory.Goals as goal
+use Rattle.tree_tests.proofs.quotas.drop_directory.Goals as goal
 
 pub leave-requires-clause-cell : goal.leave-requires-clause-cell
 leave-requires-clause-cell g c = or_left _ (has c.args.cells.now.segments c.args.dir) (on_directories c.args.tree.now.nodes c.requires c.args.dir ∙ c.quota.ensures.directory)

@@ -1,0 +1,11 @@
+use Rattle.std.proofs.Common.{◌≡◌, true, sym, subst}
+use Rattle.std.proofs.lemmas.Bool.{both_ways, false_from_ne_true}
+use Rattle.quota_cells.specs.Accounts.{has}
+use Rattle.quota_cells.specs.Cells.{CellMaps}
+use Rattle.quota_cells.proofs.PlaceLaws.{look_absent}
+use Rattle.quota_cells.proofs.Cells.stored.Goals as goal
+
+pub returns-clause-quota : goal.returns-clause-quota
+returns-clause-quota c =
+    rw (← c.self.view_is) (look_absent c.self.inside.directories.items c.self.inside.quotas.items c.args.seg
+    (false_from_ne_true _ (λ is. both_ways (has c.self.inside.segments.items c.args.seg) (c.self.invariant.0.apart c.args.seg is) (subst (λ (x : CellMaps). has x.segments c.args.seg ≡ true) (sym c.self.view_is) c.requires))))
