@@ -5,6 +5,7 @@
 #![tactic(auto)]
 
 mod gate;
+mod hold_gate;
 mod memory;
 mod standard;
 mod stream;
@@ -13,6 +14,7 @@ mod tests;
 mod whole;
 
 pub use gate::{Gate, NoGate, Point};
+pub use hold_gate::HoldGate;
 pub use memory::{MemorySink, MemorySource};
 pub use standard::{StdSink, StdSource};
 pub use stream::{Failed, Sink, Source};
