@@ -41,6 +41,15 @@ decimal_value_from before (d ∷ ds) = if is_ascii_digit d then decimal_value_fr
 unfoldable pub decimal_value : List ℕ → Option ℕ
 decimal_value text = if nat_le 1 (length text) && nat_le (length text) 10 then decimal_value_from 0 text else None
 
+-- a number up to a greatest one
+abbrev pub up_to : ℕ → Option ℕ → Option ℕ
+up_to most None = None
+up_to most (Some n) = if nat_le n most then Some n else None
+
+-- a number of 32 bits: 1 to 10 decimal digits, of at most 4294967295
+unfoldable pub number_of : List ℕ → Option ℕ
+number_of text = up_to 4294967295 (decimal_value text)
+
 -- the pieces of a text between its signs `>`, at least one
 unfoldable pub pieces_of : List ℕ → List (List ℕ)
 pieces_of [] = [] ∷ []

@@ -10,10 +10,6 @@ mod plan;
 mod reader;
 mod refusals;
 mod scripts;
-#[cfg(test)]
-mod scripts_tests;
-#[cfg(test)]
-mod tests;
 mod texts;
 mod values;
 mod volumes;
@@ -22,5 +18,6 @@ pub use commands::{Command, Process};
 pub use plan::{Bulk, Fail, Print, Script, VolumeLine};
 pub use reader::{ScriptFault, read_script};
 pub use refusals::{Cause, Refusal};
-pub use scripts::{NoMemory, script_text};
+pub use scripts::{NoMemory, each_text_is_read_again, script_text};
 pub use texts::push_command;
+pub use values::read_number;

@@ -1,4 +1,4 @@
-use super::*;
+use script::{Bulk, Command, Print, ScriptFault, read_script};
 use std::alloc::{AllocError, Global};
 use std::process::Abort;
 use std::test::Fail;
@@ -174,13 +174,13 @@ fn each_kind_of_line_of_the_head_is_read(rt: HostRuntime) -> Result<(), Fail> {
     ];
     assert_eq!(rt; script.bulks(), bulks.as_slice());
     let fails = [
-        plan::Fail {
+        script::Fail {
             volume: 0,
             write: false,
             number: 1,
             onward: false,
         },
-        plan::Fail {
+        script::Fail {
             volume: 1,
             write: true,
             number: 1000000,

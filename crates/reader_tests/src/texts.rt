@@ -1,4 +1,4 @@
-use super::*;
+use script::{read_script, script_text};
 use std::process::Abort;
 use std::test::Fail;
 
