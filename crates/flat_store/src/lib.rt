@@ -9,8 +9,6 @@ mod segment_list;
 mod segments;
 mod store;
 mod tables;
-#[cfg(test)]
-mod tests;
 
 pub use store::FlatStore;
 

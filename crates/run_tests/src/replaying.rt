@@ -1,5 +1,5 @@
-use super::*;
 use book::{Entry, Reply};
+use flat_store::FlatStore;
 use mword::Word;
 use script::read_script;
 use std::test::Fail;

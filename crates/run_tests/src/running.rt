@@ -2,9 +2,9 @@
 ghost use Rattle.std.specs.Prelude.{◌≤◌, IfSome};
 ghost use Rattle.flat_store.specs.Legal.{IsLegal};
 
-use crate::{Finished, Status, Words, multics};
 use book::{Book, entry_text};
 use flat_store::FlatStore;
+use runner::{Finished, Status, Words, multics};
 use site_io::{MemorySink, MemorySource, NoGate};
 use std::alloc::{AllocError, Global};
 use std::process::Abort;
@@ -635,8 +635,6 @@ fn other_machines_are_later(rt: HostRuntime) -> Result<(), Fail> {
         "machine 2 4 12 1 1 1\nquota 4\nvolume alpha 8 4\nprocess Smith\nend\n",
     )?;
     for rest in [
-        "print short\nprocess Smith\nend\n",
-        "print all\nprocess Smith\nend\n",
         "fail alpha read 1\nprocess Smith\nend\n",
         "bulk alpha 2\nprocess Smith\nend\n",
         "initializer\nend\n",
@@ -714,7 +712,7 @@ fn other_words_have_the_usage_text(rt: HostRuntime) -> Result<(), Fail> {
         &["Run"],
         &["run", "x"],
         &["make"],
-        &["make", "4294967296"],
+        &["make", "7", "7"],
         &["check"],
     ];
     for words in words {

@@ -20,7 +20,8 @@ pub mod Parts
 pub mod Paths
 pub mod Puts
 pub mod Same
-pub mod Texts
+pub mod Ends
+pub mod Verdicts
 pub mod Trees
 pub mod Uses
 pub mod Visits

@@ -1,4 +1,5 @@
 pub mod Effects
+pub mod Endings
 pub mod Looks
 pub mod Machines
 pub mod OnDisk
@@ -6,3 +7,4 @@ pub mod Places
 pub mod Runs
 pub mod Starts
 pub mod Tables
+pub mod Words

@@ -14,12 +14,6 @@ use Rattle.script.specs.declared.plan.Print.{Print}
 use Rattle.script.specs.declared.plan.Print.TheVariants as print
 use Rattle.script.specs.declared.refusals.Refusal.{Refusal}
 
--- the words `run` alone
-abbrev pub is_run : List (List ℕ) → Bool
-is_run [] = false
-is_run (word ∷ []) = bytes_eq word (codes "run")
-is_run (word ∷ next ∷ words) = false
-
 -- a path of exactly one name
 abbrev pub is_branch : List (List ℕ) → Bool
 is_branch path = length path == 1
@@ -37,21 +31,15 @@ command_runs _ = false
 abbrev pub process_runs : ProcessPlan → Bool
 process_runs x = list_all command_runs x.commands
 
-abbrev pub is_replies : Print → Bool
-is_replies print.Short = false
-is_replies print.Replies = true
-is_replies print.All = false
-
 -- at most one process, each of whose commands runs
 abbrev pub processes_run : List ProcessPlan → Bool
 processes_run [] = true
 processes_run (x ∷ []) = process_runs x
 processes_run (x ∷ y ∷ xs) = false
 
--- A script that runs so far: one processor, no fast store, no failing call, no initializer, at most one process, and
--- the replies printed.
+-- a script that runs so far: one processor, no fast store, no failing call, no initializer, and at most one process
 unfoldable pub script_runs : Plan → Bool
-script_runs p = (((p.processors == 1 && is_replies p.print) && (length p.bulks == 0 && length p.fails == 0)) && not p.initializer) && processes_run p.processes
+script_runs p = ((p.processors == 1 && (length p.bulks == 0 && length p.fails == 0)) && not p.initializer) && processes_run p.processes
 
 -- a script that is one, and doesn't run yet
 abbrev pub IsLater : Result Plan Refusal → Type 0
@@ -70,7 +58,3 @@ later_text = codes "script refused at line 0: later\n"
 
 unfoldable pub refusal_text : Refusal → List ℕ
 refusal_text r = codes "script refused at line " ++ (decimal r.line ++ (codes ": " ++ (cause_text r.cause ++ codes "\n")))
-
--- a text was appended, or where the count of the sink's faults rose, a front of it
-unfoldable pub WritesText : Option (List ℕ) → Option (List ℕ) → ℕ → ℕ → List ℕ → Type 0
-WritesText held_before held_after faults_before faults_after text = Appends held_before held_after text ⊎ (AppendsFront held_before held_after text × Rose faults_before faults_after)

@@ -6,7 +6,7 @@ ghost use Rattle.runner.specs.Machines.{IsForm};
 ghost use Rattle.runner.specs.Runs.{command_runs, is_branch, processes_run, script_runs};
 
 use mnames::Path;
-use script::{Command, Print, Script};
+use script::{Command, Script};
 
 /// Whether a path has exactly one name.
 fn is_branch(path: &Path) -> bool
@@ -48,16 +48,13 @@ fn processes_run(script: &Script) -> bool
 }
 
 /// Whether a script runs so far: one processor, no fast store, no call of a drive that fails, no initializer, at most
-/// one process, which makes segments right below the root and refers to them, and the replies printed. It goes through
-/// the commands once.
+/// one process, which makes segments right below the root and refers to them. It goes through the commands once.
 #[tactic(auto, unfolding(crate::specs::Runs::script_runs))]
 pub(crate) fn script_runs(script: &Script) -> bool
     ensures runs { result ≡ script_runs script.now }
     ensures form { result ≡ true → IsForm script.now }
 {
-    let replies = matches!(script.print(), Print::Replies);
     script.processors() == 1
-        && replies
         && script.bulks().is_empty()
         && script.fails().is_empty()
         && !script.initializer()

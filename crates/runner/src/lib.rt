@@ -3,19 +3,24 @@
 
 mod commands;
 mod ending;
+mod finished;
 mod forms;
 mod looks;
 mod machine;
 mod naming;
+mod printing;
+mod reading;
 mod runs;
 mod starting;
 mod steps;
 mod tables;
-#[cfg(test)]
-mod tests;
 mod top;
+mod words;
 
-pub use top::{Finished, SCRIPT_BYTES, Status, Words, multics};
+pub use finished::{Finished, Status};
+pub use reading::SCRIPT_BYTES;
+pub use top::multics;
+pub use words::{Form, Words};
 
 /// There wasn't enough memory.
 #[derive(Clone, Copy, Debug, PartialEq, Eq)]

@@ -1,4 +1,5 @@
-ghost use Rattle.std.specs.Prelude.{◌≡◌, ◌<◌, ◌≤◌, ◌+◌, ◌/◌, ◌++◌, ℕ, Some, None, true, false, is_some, length};
+ghost use Rattle.std.specs.Prelude.{◌≡◌, ◌<◌, ◌≤◌, ◌+◌, ◌/◌, ◌++◌, ◌∷◌, [], ℕ, Some, None, true, false, is_some, length};
+ghost use Rattle.book.specs.declared.replies.Reply.{Reply};
 ghost use Rattle.script.specs.Plans.{command_at};
 ghost use Rattle.script.specs.declared.commands.Command.TheVariants as command;
 ghost use Rattle.core_map.specs.CoreMap.{least_free_frame};
@@ -119,8 +120,12 @@ impl Machine {
         requires room { 3 ≤ self.old.spare }
         ensures script { self.new.script ≡ self.old.script }
         ensures at { (place : ℕ) → IsAt self.old.script self.old.entries place → IsAt self.new.script self.new.entries place }
-        ensures free { wants_frame (look_of self.new.script.quota self.new.held number offset word.now) ≡ true → HasFree self.new.held.segs }
+        ensures free { wants_frame (look_of self.new.script.quota self.new.held number offset word.now) ≡ true →
+            HasFree self.new.held.segs }
         ensures room { self.old.spare ≤ self.new.spare + 3 }
+        // where no frame is wanted, nothing is done
+        ensures still { wants_frame (look_of self.old.script.quota self.old.held number offset word.now) ≡ false →
+            self.new ≡ self.old }
     {
         if self.tables.has_free() {
             return;
@@ -141,6 +146,9 @@ impl Machine {
         ensures sound { AreSound self.new.held }
         ensures free { wants_frame result ≡ true → HasFree self.new.held.segs }
         ensures room { self.old.spare ≤ self.new.spare + 4 }
+        // where no frame is wanted, nothing is done
+        ensures still { wants_frame (look_of self.old.script.quota self.old.held number offset word.now) ≡ false →
+            self.new ≡ self.old }
     {
         self.make_room(number, offset, word);
         match self.look(number, offset, word) {
@@ -163,6 +171,10 @@ impl Machine {
         requires room { 5 ≤ self.old.spare }
         ensures script { self.new.script ≡ self.old.script }
         ensures at { IsAt self.new.script self.new.entries (place + 1) }
+        // a look that answers without a frame does nothing but book the answer
+        ensures answered { (r : Reply) →
+            look_of self.old.script.quota self.old.held number offset None ≡ look.Answer r →
+            self.new.entries ≡ self.old.entries ++ done_at place None r ∷ [] }
     {
         match self.approach(number, offset, &None) {
             Look::Answer(reply) => self.answer_read(place, number, offset, reply),
@@ -178,6 +190,10 @@ impl Machine {
         requires room { 6 ≤ self.old.spare }
         ensures script { self.new.script ≡ self.old.script }
         ensures at { IsAt self.new.script self.new.entries (place + 1) }
+        // a look that answers without a frame does nothing but book the answer
+        ensures answered { (r : Reply) →
+            look_of self.old.script.quota self.old.held number offset (Some word) ≡ look.Answer r →
+            self.new.entries ≡ self.old.entries ++ done_at place None r ∷ [] }
     {
         match self.approach(number, offset, &Some(word)) {
             Look::Answer(reply) => self.answer_write(place, number, offset, word, reply),
@@ -198,6 +214,7 @@ impl Machine {
         requires room { 1 ≤ self.old.spare }
         ensures script { self.new.script ≡ self.old.script }
         ensures at { IsAt self.new.script self.new.entries (place + 1) }
+        ensures entry { self.new.entries ≡ self.old.entries ++ done_at place None reply ∷ [] }
     {
         self.book.push(done(place, None, reply));
     }
@@ -211,6 +228,7 @@ impl Machine {
         requires room { 1 ≤ self.old.spare }
         ensures script { self.new.script ≡ self.old.script }
         ensures at { IsAt self.new.script self.new.entries (place + 1) }
+        ensures entry { self.new.entries ≡ self.old.entries ++ done_at place None reply ∷ [] }
     {
         self.book.push(done(place, None, reply));
     }

@@ -1,0 +1,101 @@
+//! The mode `make`: the script of a day, by its length and its sum, and through the top call.
+
+use make_work::make_script;
+use runner::{Status, Words, multics};
+use script::{read_script, script_text};
+use sha2::{Digest, Sha256};
+use site_io::{MemorySink, MemorySource, NoGate};
+use std::alloc::{AllocError, Global};
+use std::process::Abort;
+use std::sync::Wait;
+use std::test::Fail;
+use std::thread::Threads;
+
+/// The lengths and the SHA-256 sums of three days.
+const DAYS: [(u32, usize, &str); 3] = [
+    (
+        0,
+        159_793,
+        "1a673a3dc242a76d216424df310ba003e546a02174149fa2dd1ba044e030673b",
+    ),
+    (
+        7,
+        159_094,
+        "4eccac796eec35ef17d42c0e4a8f60c32aea783c070fe9c49c5b5551155f1530",
+    ),
+    (
+        4_294_967_295,
+        160_206,
+        "f1e5ddfc28795d6ea540f4e9dd20c6860f60092c080dedcd6e0960b9235cce22",
+    ),
+];
+
+/// Two hexadecimal digits a byte.
+fn hexadecimal(alloc: Global, bytes: &[u8]) -> Result<String, AllocError> {
+    let mut text = String::new(alloc);
+    for byte in bytes {
+        write!(text, "{byte:02x}")?;
+    }
+    Ok(text)
+}
+
+#[test]
+fn three_days_have_their_lengths_and_sums(rt: HostRuntime) -> Result<(), Fail> {
+    for (n, length, sum) in DAYS {
+        let text = make_script(rt.alloc(), n)?;
+        assert_eq!(rt; text.len(), length, "{n}");
+        let digest = Sha256::digest(text.as_slice());
+        let digits = hexadecimal(rt.alloc(), &digest)?;
+        assert_eq!(rt; digits.as_str(), sum, "{n}");
+    }
+    Ok(())
+}
+
+#[test]
+fn a_day_is_read_as_a_script_with_that_text(rt: HostRuntime) -> Result<(), Fail> {
+    let text = make_script(rt.alloc(), 7)?;
+    let script = read_script(rt.alloc(), &text)?;
+    assert_eq!(rt; script.processes(), 5);
+    let again = script_text(rt.alloc(), &script)?;
+    assert!(rt; again.as_slice() == text.as_slice());
+    Ok(())
+}
+
+/// How the program ends that is asked for `make` with a number, and what it writes into so much room.
+fn make<R: Threads + Wait + Sync + AllocGlobal>(
+    rt: &R,
+    number: &str,
+    room: usize,
+) -> Result<(Status, Vec<u8>), Fail> {
+    let alloc = rt.alloc();
+    let mut texts = Vec::new(alloc);
+    texts.push(String::from_str(alloc, "make")?)?;
+    texts.push(String::from_str(alloc, number)?)?;
+    let mut source = MemorySource::new(Vec::new(alloc), 1, vec![in alloc; 1]?);
+    let mut sink = MemorySink::new(alloc, room, Vec::new(alloc))?;
+    let finished = multics(rt, alloc, Words::new(texts), &mut source, &mut sink, &NoGate);
+    Ok((finished.status, sink.bytes().to_vec(alloc)?))
+}
+
+#[test]
+fn the_program_prints_a_day_and_reads_nothing(rt: HostRuntime) -> Result<(), Fail> {
+    let day = make_script(rt.alloc(), 7)?;
+    for number in ["7", "0000000007"] {
+        let (status, written) = make(&rt, number, 1_000_000)?;
+        assert_eq!(rt; status, Status::Done);
+        assert!(rt; written.as_slice() == day.as_slice());
+    }
+    let (status, written) = make(&rt, "7", 1000)?;
+    assert_eq!(rt; status, Status::WriteFault);
+    assert!(rt; written.as_slice() == &day[..1000]);
+    Ok(())
+}
+
+#[test]
+fn other_numbers_are_no_form_of_the_program(rt: HostRuntime) -> Result<(), Fail> {
+    for number in ["", "x", "-1", "4294967296", "00000000007", "7 ", "1e3"] {
+        let (status, _) = make(&rt, number, 1_000_000)?;
+        assert_eq!(rt; status, Status::Usage, "{number}");
+    }
+    Ok(())
+}

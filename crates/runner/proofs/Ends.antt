@@ -1,0 +1,130 @@
+-- How each way out of a call ends. (own)
+use Rattle.std.proofs.Common.{◌≡◌, ℕ, ◌<◌, ◌≤◌, true, false, List, [], length, Option, Some, None, is_some, Ok, Err, IfSome, refl, sym, ap, subst, ◌∙◌, arith}
+use Rattle.std.specs.Prelude.{IsSomeAnd}
+use Rattle.std.specs.Io.KnownBytes.{Appends, Keeps}
+use Rattle.std.proofs.KnownBytes.{Keeps-refl, Consumes-nil}
+use Rattle.site_io.specs.Faults.{Rose}
+use Rattle.site_io.specs.Streams.{AppendsFront, ConsumesFront}
+use Rattle.volumes.specs.CoreDrive.{DriveState}
+use Rattle.volumes.specs.Volumes.{Vols}
+use Rattle.script.specs.Grammar.{script_of}
+use Rattle.script.specs.Plans.{Plan}
+use Rattle.script.specs.declared.refusals.Refusal.{Refusal}
+use Rattle.book.specs.Books.{Ledger}
+use Rattle.listing.specs.Listings.{listing_of}
+use Rattle.make_work.specs.Day.{made}
+use Rattle.runner.specs.Endings.{Change, Ends, EndsSo, Failed, IsRun, Printed, Prints, PrintsRun, Refuses, RunOf, Writes, WritesAll, WritesFront, WritesNothing}
+use Rattle.runner.specs.Endings.Writes.{whole, cut}
+use Rattle.runner.specs.Runs.{IsLater, script_runs}
+use Rattle.runner.specs.declared.finished.Finished.{Finished}
+use Rattle.runner.specs.declared.finished.Status.{Status}
+use Rattle.runner.specs.declared.finished.Status.TheVariants as status
+use Rattle.runner.specs.declared.words.Form.{Form}
+use Rattle.runner.specs.declared.words.Form.TheVariants as form
+
+-- a text was written whole, or cut where a write failed
+pub text_whole : (out : Change) (text : List ℕ) → Appends out.before out.after text → Writes out text
+text_whole out text h = whole h
+
+pub text_cut : (out : Change) (text : List ℕ) → AppendsFront out.before out.after text → Failed out → Writes out text
+text_cut out text h f = cut (record { front = h; fault = f })
+
+-- nothing is read, or written
+pub reads_nothing : (a : Option (List ℕ)) (most : ℕ) → ConsumesFront a a most
+unfolding ConsumesFront
+reads_nothing a most = ([], omega arith, Consumes-nil a)
+
+pub writes_nothing : (a : Option (List ℕ)) → Keeps a a
+writes_nothing a = Keeps-refl a
+
+-- a call ended so, without a book
+pub ends_without : (asked : Option Form) (src out : Change) (f : Finished) (s : Status) → f.status ≡ s → f.book ≡ None
+    → EndsSo s asked src out None → ConsumesFront src.before src.after 4194305 → Ends asked src out f
+ends_without asked src out f s is without so reads = record {
+  so = subst (λ (x : Status). EndsSo x asked src out f.book) (sym is) (subst (λ (b : Option Ledger). EndsSo s asked src out b) (sym without) so);
+  run = subst (λ (b : Option Ledger). IfSome b (λ k. IsRun src k f.volumes)) (sym without) tt;
+  reads = reads;
+}
+
+-- what holds of the bytes that were read holds of those that the source tells
+pub of_told : (left : Option (List ℕ)) (bytes : List ℕ) (P : List ℕ → Type 0) → IfSome left (λ all. bytes ≡ all) → P bytes → IfSome left P
+of_told None bytes P h p = tt
+of_told (Some all) bytes P h p = subst P h p
+
+later_is : (bytes : List ℕ) (p : Plan) → script_of bytes ≡ Ok p → script_runs p ≡ false → IsLater (script_of bytes)
+later_is bytes p e h = subst IsLater (sym e) h
+
+pub told_later : (left : Option (List ℕ)) (bytes : List ℕ) (p : Plan) → IfSome left (λ all. bytes ≡ all) → length bytes ≤ 4194304 → script_of bytes ≡ Ok p → script_runs p ≡ false
+    → IfSome left (λ all. (length all ≤ 4194304) × IsLater (script_of all))
+told_later left bytes p told few e h = of_told left bytes (λ all. (length all ≤ 4194304) × IsLater (script_of all)) told (few, later_is bytes p e h)
+
+-- a refusal was written
+refused_so : (s : Status) (r : Refusal) (src out : Change) → Refuses s r out → IfSome src.before (λ bytes. (length bytes ≤ 4194304) × (script_of bytes ≡ Err r)) → EndsSo s (Some form.Run) src out None
+refused_so (status.Script q) r src out h is =
+    (refl, subst (λ (x : Refusal). IfSome src.before (λ bytes. (length bytes ≤ 4194304) × (script_of bytes ≡ Err x))) (sym h.0) is, subst (λ (x : Refusal). Writes out (Rattle.runner.specs.Runs.refusal_text x)) (sym h.0) h.1)
+refused_so status.Memory r src out h is = (refl, h)
+refused_so status.Done r src out h is = absurd h
+refused_so status.TooLong r src out h is = absurd h
+refused_so status.Usage r src out h is = absurd h
+refused_so status.ReadFault r src out h is = absurd h
+refused_so status.WriteFault r src out h is = absurd h
+refused_so status.Later r src out h is = absurd h
+
+pub ends_refused : (src out : Change) (f : Finished) (bytes : List ℕ) (r : Refusal) → Refuses f.status r out → f.book ≡ None → IfSome src.before (λ all. bytes ≡ all) → length bytes ≤ 4194304 → script_of bytes ≡ Err r
+    → ConsumesFront src.before src.after 4194305 → Ends (Some form.Run) src out f
+ends_refused src out f bytes r h without told few e reads =
+    ends_without (Some form.Run) src out f f.status refl without
+    (refused_so f.status r src out h (of_told src.before bytes (λ all. (length all ≤ 4194304) × (script_of all ≡ Err r)) told (few, e))) reads
+
+-- the script of a day was printed
+made_so : (s : Status) (n : ℕ) (src out : Change) → Printed s out (made n) → EndsSo s (Some (form.Make n)) src out None
+made_so status.Done n src out h = h
+made_so status.WriteFault n src out h = h
+made_so status.Memory n src out h = (refl, h)
+made_so (status.Script r) n src out h = absurd h
+made_so status.TooLong n src out h = absurd h
+made_so status.Usage n src out h = absurd h
+made_so status.ReadFault n src out h = absurd h
+made_so status.Later n src out h = absurd h
+
+pub ends_made : (src out : Change) (f : Finished) (n : ℕ) → Printed f.status out (made n) → f.book ≡ None → ConsumesFront src.before src.after 4194305 → Ends (Some (form.Make n)) src out f
+ends_made src out f n h without reads = ends_without (Some (form.Make n)) src out f f.status refl without (made_so f.status n src out h) reads
+
+-- a run's listing was printed
+run_so : (s : Status) (book : Option Ledger) (src out : Change) → PrintsRun s book out → EndsSo s (Some form.Run) src out book
+run_so status.Memory book src out h = (refl, h.1)
+run_so status.Done (Some b) src out h = h
+run_so status.WriteFault (Some b) src out h = h
+run_so (status.Script r) (Some b) src out h = absurd h
+run_so status.TooLong (Some b) src out h = absurd h
+run_so status.Usage (Some b) src out h = absurd h
+run_so status.ReadFault (Some b) src out h = absurd h
+run_so status.Later (Some b) src out h = absurd h
+run_so status.Done None src out h = absurd h
+run_so status.WriteFault None src out h = absurd h
+run_so (status.Script r) None src out h = absurd h
+run_so status.TooLong None src out h = absurd h
+run_so status.Usage None src out h = absurd h
+run_so status.ReadFault None src out h = absurd h
+run_so status.Later None src out h = absurd h
+
+is_run : (src : Change) (p : Plan) (book : Option Ledger) (volumes : Option (Vols DriveState)) → IfSome src.before (λ all. length all ≤ 4194304) → IfSome src.before (λ all. script_of all ≡ Ok p) → script_runs p ≡ true
+    → IfSome book (λ b. RunOf p b volumes) → IfSome book (λ b. IsRun src b volumes)
+is_run src p None volumes few read runs h = tt
+is_run src p (Some b) volumes few read runs h = record {
+  within = few;
+  script = subst (λ (x : Plan). IfSome src.before (λ all. script_of all ≡ Ok x)) (sym h.script) read;
+  runs = ap script_runs h.script ∙ runs;
+  legal = h.legal;
+  complete = h.complete;
+  settled = h.settled;
+  disk = h.disk;
+}
+
+pub ends_run : (src out : Change) (f : Finished) (bytes : List ℕ) (p : Plan) → PrintsRun f.status f.book out → IfSome f.book (λ b. RunOf p b f.volumes) → IfSome src.before (λ all. bytes ≡ all) → length bytes ≤ 4194304 → script_of bytes ≡ Ok p → script_runs p ≡ true
+    → ConsumesFront src.before src.after 4194305 → Ends (Some form.Run) src out f
+ends_run src out f bytes p printed run told few e runs reads = record {
+  so = run_so f.status f.book src out printed;
+  run = is_run src p f.book f.volumes (of_told src.before bytes (λ all. length all ≤ 4194304) told few) (of_told src.before bytes (λ all. script_of all ≡ Ok p) told e) runs run;
+  reads = reads;
+}

@@ -1,0 +1,161 @@
+-- What an ending says of its cause. (own)
+use Rattle.std.proofs.Common.{◌≡◌, ◌≢◌, ℕ, ◌<◌, ◌≤◌, ◌⊎◌, inl, inr, true, false, List, length, Option, Some, None, is_some, Ok, Err, IfSome, refl, sym, ap, subst, ◌∙◌, arith}
+use Rattle.std.specs.Prelude.{IsSomeAnd}
+use Rattle.std.specs.Io.KnownBytes.{Appends, Keeps}
+use Rattle.site_io.specs.Streams.{AppendsFront}
+use Rattle.volumes.specs.CoreDrive.{DriveState}
+use Rattle.volumes.specs.Volumes.{Vols}
+use Rattle.script.specs.Grammar.{script_of}
+use Rattle.script.specs.Plans.{Plan}
+use Rattle.script.specs.declared.refusals.Refusal.{Refusal}
+use Rattle.book.specs.Books.{Ledger}
+use Rattle.listing.specs.Listings.{listing_of}
+use Rattle.make_work.specs.Day.{made}
+use Rattle.runner.specs.Endings.{Change, Ends, EndsSo, Failed, IsRun, Prints, Writes, WritesAll, WritesFront, WritesNothing}
+use Rattle.runner.specs.Runs.{IsLater, script_runs, later_text, refusal_text, too_long_text, usage_text}
+use Rattle.runner.specs.declared.finished.Finished.{Finished}
+use Rattle.runner.specs.declared.finished.Status.{Status}
+use Rattle.runner.specs.declared.finished.Status.TheVariants as status
+use Rattle.runner.specs.declared.words.Form.{Form}
+use Rattle.runner.specs.declared.words.Form.TheVariants as form
+
+-- an ending of this status
+pub ended : (asked : Option Form) (src out : Change) (f : Finished) (s : Status) → Ends asked src out f → f.status ≡ s → EndsSo s asked src out f.book
+ended asked src out f s h e = subst (λ (x : Status). EndsSo x asked src out f.book) e h.so
+
+-- words that are no form have no other ending
+only_usage : (s : Status) (src out : Change) (book : Option Ledger) → EndsSo s None src out book → s ≡ status.Usage
+only_usage status.Usage src out book h = refl
+only_usage status.ReadFault src out book h = absurd cc
+only_usage status.TooLong src out book h = absurd cc
+only_usage (status.Script r) src out book h = absurd cc
+only_usage status.Later src out book h = absurd cc
+only_usage status.Done src out book h = absurd h
+only_usage status.WriteFault src out book h = absurd h
+only_usage status.Memory src out book h = absurd cc
+
+pub usage_there : (asked : Option Form) (src out : Change) (f : Finished) → Ends asked src out f → asked ≡ None → f.status ≡ status.Usage
+usage_there asked src out f h e = only_usage f.status src out f.book (subst (λ (x : Option Form). EndsSo f.status x src out f.book) e h.so)
+
+-- of a refusal or a script that is later, the bytes alone
+pub fact_only : (left : Option (List ℕ)) (P Q : List ℕ → Type 0) → IfSome left (λ all. P all × Q all) → IfSome left Q
+fact_only None P Q h = tt
+fact_only (Some all) P Q h = h.1
+
+-- of a book that is there
+pub of_run : (src : Change) (f : Finished) (P : Ledger → Type 0) → ((b : Ledger) → IsRun src b f.volumes → P b) → IfSome f.book (λ b. IsRun src b f.volumes) → IfSome f.book P
+of_run src f P get h = each f.book h
+  where
+    each : (book : Option Ledger) → IfSome book (λ b. IsRun src b f.volumes) → IfSome book P
+    each None h = tt
+    each (Some b) h = get b h
+
+-- a front that was written of a listing
+pub front_only : (book : Option Ledger) (out : Change) → IsSomeAnd book (λ b. WritesFront out (listing_of b.script b.entries)) → IsSomeAnd book (λ b. AppendsFront out.before out.after (listing_of b.script b.entries))
+front_only None out h = h
+front_only (Some b) out h = h.front
+
+-- a write failed
+pub write_failed : (asked : Option Form) (book : Option Ledger) (out : Change) → Prints asked book (WritesFront out) → Failed out
+write_failed (Some form.Run) (Some b) out h = h.fault
+write_failed (Some form.Run) None out h = absurd h
+write_failed (Some (form.Make n)) book out h = h.fault
+write_failed None book out h = absurd h
+
+-- what a run's ending says of the bytes
+data Verdict (s : Status) (bytes : List ℕ) (out : Change) : Type 0 where
+  memory : s ≡ status.Memory → Verdict s bytes out
+  long : s ≡ status.TooLong → 4194304 < length bytes → Verdict s bytes out
+  refused : (r : Refusal) → s ≡ status.Script r → length bytes ≤ 4194304 → script_of bytes ≡ Err r → Verdict s bytes out
+  late : s ≡ status.Later → length bytes ≤ 4194304 → IsLater (script_of bytes) → Verdict s bytes out
+  printed : (p : Plan) → s ≡ status.Done → length bytes ≤ 4194304 → script_of bytes ≡ Ok p → script_runs p ≡ true → Verdict s bytes out
+  broken : (p : Plan) → Failed out → length bytes ≤ 4194304 → script_of bytes ≡ Ok p → script_runs p ≡ true → Verdict s bytes out
+
+done_verdict : (book : Option Ledger) (bytes : List ℕ) (src out : Change) (volumes : Option (Vols DriveState)) → src.before ≡ Some bytes → IsSomeAnd book (λ b. WritesAll out (listing_of b.script b.entries)) → IfSome book (λ b. IsRun src b volumes) → Verdict status.Done bytes out
+done_verdict None bytes src out volumes told h run = absurd h
+done_verdict (Some b) bytes src out volumes told h run =
+    printed b.script refl (subst (λ (x : Option (List ℕ)). IfSome x (λ all. length all ≤ 4194304)) told run.within) (subst (λ (x : Option (List ℕ)). IfSome x (λ all. script_of all ≡ Ok b.script)) told run.script) run.runs
+
+fault_verdict : (book : Option Ledger) (bytes : List ℕ) (src out : Change) (volumes : Option (Vols DriveState)) → src.before ≡ Some bytes → IsSomeAnd book (λ b. WritesFront out (listing_of b.script b.entries)) → IfSome book (λ b. IsRun src b volumes) → Verdict status.WriteFault bytes out
+fault_verdict None bytes src out volumes told h run = absurd h
+fault_verdict (Some b) bytes src out volumes told h run =
+    broken b.script h.fault (subst (λ (x : Option (List ℕ)). IfSome x (λ all. length all ≤ 4194304)) told run.within) (subst (λ (x : Option (List ℕ)). IfSome x (λ all. script_of all ≡ Ok b.script)) told run.script) run.runs
+
+verdict_of : (s : Status) (book : Option Ledger) (bytes : List ℕ) (src out : Change) (volumes : Option (Vols DriveState)) → (Failed src → ⊥) → src.before ≡ Some bytes → EndsSo s (Some form.Run) src out book → IfSome book (λ b. IsRun src b volumes) → Verdict s bytes out
+verdict_of status.Usage book bytes src out volumes fine told h run = absurd cc
+verdict_of status.ReadFault book bytes src out volumes fine told h run = absurd (fine h.1)
+verdict_of status.TooLong book bytes src out volumes fine told h run = long refl (subst (λ (x : Option (List ℕ)). IfSome x (λ all. 4194304 < length all)) told h.1)
+verdict_of (status.Script r) book bytes src out volumes fine told h run = let is = subst (λ (x : Option (List ℕ)). IfSome x (λ all. (length all ≤ 4194304) × (script_of all ≡ Err r))) told h.1 in refused r refl is.0 is.1
+verdict_of status.Later book bytes src out volumes fine told h run = let is = subst (λ (x : Option (List ℕ)). IfSome x (λ all. (length all ≤ 4194304) × IsLater (script_of all))) told h.1 in late refl is.0 is.1
+verdict_of status.Done book bytes src out volumes fine told h run = done_verdict book bytes src out volumes told h run
+verdict_of status.WriteFault book bytes src out volumes fine told h run = fault_verdict book bytes src out volumes told h run
+verdict_of status.Memory book bytes src out volumes fine told h run = memory refl
+
+-- the verdict of a call that ran a script
+pub verdict : (asked : Option Form) (src out : Change) (f : Finished) → Ends asked src out f → asked ≡ Some form.Run → (Failed src → ⊥) → IfSome src.before (λ bytes. Verdict f.status bytes out)
+verdict asked src out f h run fine = each src.before refl
+  where
+    each : (left : Option (List ℕ)) → src.before ≡ left → IfSome left (λ bytes. Verdict f.status bytes out)
+    each None told = tt
+    each (Some bytes) told = verdict_of f.status f.book bytes src out f.volumes fine told (subst (λ (x : Option Form). EndsSo f.status x src out f.book) run h.so) h.run
+
+-- what each verdict has is there, or there was no memory
+pub by_verdict : (left : Option (List ℕ)) (s : Status) (out : Change) (Q : List ℕ → Type 0) → IfSome left (λ bytes. Verdict s bytes out) → ((bytes : List ℕ) → Verdict s bytes out → Q bytes) → IfSome left Q
+by_verdict None s out Q h get = tt
+by_verdict (Some bytes) s out Q h get = get bytes h
+
+pub found_long : (s : Status) (bytes : List ℕ) (out : Change) → Verdict s bytes out → 4194304 < length bytes → (s ≡ status.TooLong) ⊎ (s ≡ status.Memory)
+found_long s bytes out (memory e) lt = inr e
+found_long s bytes out (long e l) lt = inl e
+found_long s bytes out (refused r e few is) lt = absurd (omega arith)
+found_long s bytes out (late e few is) lt = absurd (omega arith)
+found_long s bytes out (printed p e few is runs) lt = absurd (omega arith)
+found_long s bytes out (broken p e few is runs) lt = absurd (omega arith)
+
+pub found_refused : (s : Status) (bytes : List ℕ) (out : Change) → Verdict s bytes out → (r : Refusal) → length bytes ≤ 4194304 → script_of bytes ≡ Err r → (s ≡ status.Script r) ⊎ (s ≡ status.Memory)
+found_refused s bytes out (memory e) r le is = inr e
+found_refused s bytes out (long e l) r le is = absurd (omega arith)
+found_refused s bytes out (refused q e few was) r le is = let same : q ≡ r = cc in inl (e ∙ ap status.Script same)
+found_refused s bytes out (late e few was) r le is = absurd (subst IsLater is was)
+found_refused s bytes out (printed p e few was runs) r le is = absurd cc
+found_refused s bytes out (broken p e few was runs) r le is = absurd cc
+
+pub found_later : (s : Status) (bytes : List ℕ) (out : Change) → Verdict s bytes out → (p : Plan) → length bytes ≤ 4194304 → script_of bytes ≡ Ok p → script_runs p ≡ false → (s ≡ status.Later) ⊎ (s ≡ status.Memory)
+found_later s bytes out (memory e) p le is runs = inr e
+found_later s bytes out (long e l) p le is runs = absurd (omega arith)
+found_later s bytes out (refused r e few was) p le is runs = absurd cc
+found_later s bytes out (late e few was) p le is runs = inl e
+found_later s bytes out (printed q e few was ran) p le is runs = let same : q ≡ p = cc in absurd (apart (sym ran ∙ ap script_runs same ∙ runs))
+  where
+    apart : true ≡ false → ⊥
+    apart e = cc
+found_later s bytes out (broken q e few was ran) p le is runs = let same : q ≡ p = cc in absurd (apart (sym ran ∙ ap script_runs same ∙ runs))
+  where
+    apart : true ≡ false → ⊥
+    apart e = cc
+
+pub found_done : (s : Status) (bytes : List ℕ) (out : Change) → Verdict s bytes out → (Failed out → ⊥) → (p : Plan) → length bytes ≤ 4194304 → script_of bytes ≡ Ok p → script_runs p ≡ true → (s ≡ status.Done) ⊎ (s ≡ status.Memory)
+found_done s bytes out (memory e) fine p le is runs = inr e
+found_done s bytes out (long e l) fine p le is runs = absurd (omega arith)
+found_done s bytes out (refused r e few was) fine p le is runs = absurd cc
+found_done s bytes out (late e few was) fine p le is runs = let no : script_runs p ≡ false = subst IsLater is was in absurd cc
+found_done s bytes out (printed q e few was ran) fine p le is runs = inl e
+found_done s bytes out (broken q e few was ran) fine p le is runs = absurd (fine e)
+
+-- a script of a day is printed, or there was no memory for it
+made_done : (s : Status) (n : ℕ) (src out : Change) (book : Option Ledger) → (Failed out → ⊥) → EndsSo s (Some (form.Make n)) src out book → (s ≡ status.Done) ⊎ (s ≡ status.Memory)
+made_done status.Done n src out book fine h = inl refl
+made_done status.Memory n src out book fine h = inr refl
+made_done status.WriteFault n src out book fine h = absurd (fine h.fault)
+made_done status.Usage n src out book fine h = absurd cc
+made_done status.ReadFault n src out book fine h = absurd cc
+made_done status.TooLong n src out book fine h = absurd cc
+made_done (status.Script r) n src out book fine h = absurd cc
+made_done status.Later n src out book fine h = absurd cc
+
+pub found_made : (asked : Option Form) (src out : Change) (f : Finished) (n : ℕ) → Ends asked src out f → asked ≡ Some (form.Make n) → (Failed out → ⊥) → (f.status ≡ status.Done) ⊎ (f.status ≡ status.Memory)
+found_made asked src out f n h e fine = made_done f.status n src out f.book fine (subst (λ (x : Option Form). EndsSo f.status x src out f.book) e h.so)
+
+-- what was printed, by the form that was asked for
+pub printed_in : (asked other : Option Form) (book : Option Ledger) (P : List ℕ → Type 0) → Prints asked book P → asked ≡ other → Prints other book P
+printed_in asked other book P h e = subst (λ (x : Option Form). Prints x book P) e h

@@ -1,0 +1,119 @@
+-- How a call of the program may end, and what it leaves then. (own)
+use Rattle.std.specs.Prelude.{◌≡◌, ℕ, ◌<◌, ◌≤◌, true, List, length, Option, Some, None, is_some, IfSome, IsSomeAnd, Ok, Err}
+use Rattle.std.specs.Io.KnownBytes.{Appends, Keeps}
+use Rattle.site_io.specs.Faults.{Rose}
+use Rattle.site_io.specs.Streams.{AppendsFront, ConsumesFront}
+use Rattle.volumes.specs.CoreDrive.{DriveState}
+use Rattle.volumes.specs.Volumes.{Vols}
+use Rattle.script.specs.Grammar.{script_of}
+use Rattle.script.specs.Plans.{Plan}
+use Rattle.script.specs.declared.refusals.Refusal.{Refusal}
+use Rattle.book.specs.Books.{Ledger}
+use Rattle.flat_store.specs.Legal.{IsComplete, IsLegal, IsSettled, store_after}
+use Rattle.listing.specs.Listings.{listing_of}
+use Rattle.make_work.specs.Day.{made}
+use Rattle.runner.specs.OnDisk.{IsOnDisk}
+use Rattle.runner.specs.Runs.{IsLater, script_runs, refusal_text, too_long_text, later_text, usage_text}
+use Rattle.runner.specs.declared.finished.Finished.{Finished}
+use Rattle.runner.specs.declared.finished.Status.{Status}
+use Rattle.runner.specs.declared.finished.Status.TheVariants as status
+use Rattle.runner.specs.declared.words.Form.{Form}
+use Rattle.runner.specs.declared.words.Form.TheVariants as form
+
+-- what is told of a source or a sink: its bytes, and how many of its calls failed, before a call and after it
+pub record Change : Type 0 where
+  pub before : Option (List ℕ)
+  pub after : Option (List ℕ)
+  pub faults_before : ℕ
+  pub faults_after : ℕ
+
+abbrev pub change : Option (List ℕ) → Option (List ℕ) → ℕ → ℕ → Change
+change before after faults_before faults_after =
+    record { before = before; after = after; faults_before = faults_before; faults_after = faults_after }
+
+-- a call of it failed
+abbrev pub Failed : Change → Type 0
+Failed c = Rose c.faults_before c.faults_after
+
+-- nothing was written
+abbrev pub WritesNothing : Change → Type 0
+WritesNothing out = Keeps out.before out.after
+
+-- a text was written, and nothing else
+abbrev pub WritesAll : Change → List ℕ → Type 0
+WritesAll out text = Appends out.before out.after text
+
+-- a front of a text was written, since a write failed
+pub record WritesFront (out : Change) (text : List ℕ) : Type 0 where
+  pub front : AppendsFront out.before out.after text
+  pub fault : Failed out
+
+-- a text was written, or a front of it where a write failed
+data pub Writes (out : Change) (text : List ℕ) : Type 0 where
+  whole : WritesAll out text → Writes out text
+  cut : WritesFront out text → Writes out text
+
+-- a run's book is right, and the volumes hold what it stored
+pub record IsRun (src : Change) (book : Ledger) (volumes : Option (Vols DriveState)) : Type 0 where
+  pub within : IfSome src.before (λ bytes. length bytes ≤ 4194304)
+  pub script : IfSome src.before (λ bytes. script_of bytes ≡ Ok book.script)
+  pub runs : script_runs book.script ≡ true
+  pub legal : IsLegal book.script book.entries
+  pub complete : IsComplete book.script book.entries
+  pub settled : IsSettled book.script (store_after book.script book.entries)
+  pub disk : IsSomeAnd volumes (λ v. IsOnDisk v (store_after book.script book.entries))
+
+-- an output was printed: whole, a front of it where a write failed, or nothing for want of memory
+abbrev pub Printed : Status → Change → List ℕ → Type 0
+Printed status.Done out text = WritesAll out text
+Printed status.WriteFault out text = WritesFront out text
+Printed status.Memory out text = WritesNothing out
+Printed _ out text = ⊥
+
+-- a refusal was written, or nothing for want of memory
+abbrev pub Refuses : Status → Refusal → Change → Type 0
+Refuses (status.Script s) r out = (s ≡ r) × Writes out (refusal_text r)
+Refuses status.Memory r out = WritesNothing out
+Refuses _ r out = ⊥
+
+-- the run of a script is right, and the volumes hold what it stored
+pub record RunOf (p : Plan) (book : Ledger) (volumes : Option (Vols DriveState)) : Type 0 where
+  pub script : book.script ≡ p
+  pub legal : IsLegal book.script book.entries
+  pub complete : IsComplete book.script book.entries
+  pub settled : IsSettled book.script (store_after book.script book.entries)
+  pub disk : IsSomeAnd volumes (λ v. IsOnDisk v (store_after book.script book.entries))
+
+-- the listing of a run was printed, or there was no memory for the run
+abbrev pub PrintsRun : Status → Option Ledger → Change → Type 0
+PrintsRun status.Memory book out = (book ≡ None) × WritesNothing out
+PrintsRun s None out = ⊥
+PrintsRun s (Some b) out = Printed s out (listing_of b.script b.entries)
+
+-- what the program prints in each of its forms
+abbrev pub Prints : Option Form → Option Ledger → (List ℕ → Type 0) → Type 0
+Prints (Some form.Run) book P = IsSomeAnd book (λ b. P (listing_of b.script b.entries))
+Prints (Some (form.Make n)) book P = P (made n)
+Prints None book P = ⊥
+
+-- why a call ended so, and what it wrote
+abbrev pub EndsSo : Status → Option Form → Change → Change → Option Ledger → Type 0
+EndsSo status.Usage asked src out book = (asked ≡ None) × Writes out usage_text
+EndsSo status.ReadFault asked src out book = (asked ≡ Some form.Run) × Failed src × WritesNothing out
+EndsSo status.TooLong asked src out book =
+    (asked ≡ Some form.Run) × IfSome src.before (λ bytes. 4194304 < length bytes) × Writes out too_long_text
+EndsSo (status.Script r) asked src out book =
+    (asked ≡ Some form.Run) × IfSome src.before (λ bytes. (length bytes ≤ 4194304) × (script_of bytes ≡ Err r))
+    × Writes out (refusal_text r)
+EndsSo status.Later asked src out book =
+    (asked ≡ Some form.Run) × IfSome src.before (λ bytes. (length bytes ≤ 4194304) × IsLater (script_of bytes))
+    × Writes out later_text
+EndsSo status.Done asked src out book = Prints asked book (WritesAll out)
+EndsSo status.WriteFault asked src out book = Prints asked book (WritesFront out)
+EndsSo status.Memory asked src out book = (is_some asked ≡ true) × WritesNothing out
+
+-- how a call ended that was asked for this
+pub record Ends (asked : Option Form) (src out : Change) (f : Finished) : Type 0 where
+  pub so : EndsSo f.status asked src out f.book
+  pub run : IfSome f.book (λ b. IsRun src b f.volumes)
+  pub reads : ConsumesFront src.before src.after 4194305

@@ -1,0 +1,81 @@
+ghost use Rattle.std.specs.Prelude.{◌≡◌, ◌⊎◌, Some, None, IfOk};
+ghost use Rattle.std.specs.Io.KnownBytes.{Appends, Keeps};
+ghost use Rattle.make_work.specs.Day.{made};
+ghost use Rattle.runner.specs.Endings.{change, Printed, Refuses, Writes};
+ghost use Rattle.runner.specs.Runs.{refusal_text};
+
+use crate::NoMemory;
+use crate::finished::{Finished, Status};
+use make_work::make_script;
+use script::Refusal;
+use site_io::{Sink, write_all};
+use std::alloc::Global;
+
+/// A call that ended without a run.
+pub(crate) fn without_book(status: Status) -> Finished
+    ensures status { result.status ≡ status }
+    ensures book { result.book ≡ None }
+{
+    Finished {
+        status,
+        book: None,
+        volumes: None,
+    }
+}
+
+/// Writes the text of a status. A sink that fails doesn't change the status.
+pub(crate) fn with_text<K: Sink>(out: &mut K, text: &[u8], status: Status) -> Finished
+    ensures status { result.status ≡ status }
+    ensures book { result.book ≡ None }
+    ensures text { Writes (change (K.held out.old) (K.held out.new) (K.faults out.old) (K.faults out.new)) text.now }
+{
+    let _ = write_all(out, text);
+    without_book(status)
+}
+
+/// Writes an output, whole unless a write fails.
+pub(crate) fn print<K: Sink>(out: &mut K, text: &[u8]) -> Status
+    ensures { Printed result (change (K.held out.old) (K.held out.new) (K.faults out.old) (K.faults out.new)) text.now }
+{
+    match write_all(out, text) {
+        Ok(()) => Status::Done,
+        Err(_) => Status::WriteFault,
+    }
+}
+
+/// Writes the script of the day of a number, in mode `make`.
+pub(crate) fn make<K: Sink>(alloc: Global, n: u32, out: &mut K) -> Finished
+    ensures printed { Printed result.status
+        (change (K.held out.old) (K.held out.new) (K.faults out.old) (K.faults out.new)) (made n) }
+    ensures book { result.book ≡ None }
+{
+    match make_script(alloc, n) {
+        Ok(text) => without_book(print(out, &text)),
+        Err(_) => without_book(Status::Memory),
+    }
+}
+
+/// The text of a refusal.
+#[tactic(auto, unfolding(crate::specs::Runs::refusal_text))]
+fn text_of(alloc: Global, refusal: Refusal) -> Result<Vec<u8>, NoMemory>
+    ensures { IfOk result (λ text. text.items ≡ refusal_text refusal) }
+{
+    let line = refusal.line;
+    let cause = refusal.cause;
+    match format!(in alloc; "script refused at line {line}: {cause}\n") {
+        Ok(text) => Ok(text.into_bytes()),
+        Err(_) => Err(NoMemory),
+    }
+}
+
+/// Writes the text of a refusal, or nothing where there is no memory for it.
+pub(crate) fn write_refusal<K: Sink>(alloc: Global, refusal: Refusal, out: &mut K) -> Finished
+    ensures refused { Refuses result.status refusal
+        (change (K.held out.old) (K.held out.new) (K.faults out.old) (K.faults out.new)) }
+    ensures book { result.book ≡ None }
+{
+    match text_of(alloc, refusal) {
+        Ok(text) => with_text(out, &text, Status::Script(refusal)),
+        Err(_) => without_book(Status::Memory),
+    }
+}
