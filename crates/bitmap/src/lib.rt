@@ -9,7 +9,7 @@
 //! one upper word. `is_used` reads one word, and `used` and `size` one number. None of these takes memory.
 #![tactic(auto)]
 
-ghost use Rattle.std.specs.Prelude.{◌≡◌, ◌<◌, ◌≤◌, ◌*◌, ◌/◌, ◌^◌, ◌-◌, ◌==◌, ℕ, Bool, true, false, List, length, replicate, slice_index, slice_set, count_by, vec_len, All, IfOk, IfSome, IfNone};
+ghost use Rattle.std.specs.Prelude.{◌≡◌, ◌<◌, ◌≤◌, ◌+◌, ◌*◌, ◌/◌, ◌^◌, ◌-◌, ◌==◌, ℕ, Bool, true, false, List, length, replicate, slice_index, slice_set, count_by, vec_len, All, IfOk, IfSome, IfNone};
 ghost use Rattle.bitmap.specs.Bitmap.{in_use, least_free, IsLeastFree};
 ghost use Rattle.bitmap.specs.Bits.{bit_on, with_bit, without_bit, full_after, IsFirstOff, IsClear};
 
@@ -99,7 +99,8 @@ impl Bitmap {
     pub fn take(&mut self, r: u32)
         requires within { r < length self.old }
         requires free { in_use self.old r ≡ false }
-        ensures { self.new ≡ slice_set self.old r true }
+        ensures flags { self.new ≡ slice_set self.old r true }
+        ensures count { count_by (λ flag. flag) self.new ≡ count_by (λ flag. flag) self.old + 1 }
     {
         turn_on(&mut self.words, &mut self.full, r as usize);
         self.used += 1;
@@ -108,7 +109,8 @@ impl Bitmap {
     /// Gives back the number `r`, which is in use.
     pub fn give_back(&mut self, r: u32)
         requires { in_use self.old r ≡ true }
-        ensures { self.new ≡ slice_set self.old r false }
+        ensures flags { self.new ≡ slice_set self.old r false }
+        ensures count { count_by (λ flag. flag) self.new + 1 ≡ count_by (λ flag. flag) self.old }
     {
         let r = r as usize;
         clear_bit(&mut self.words, r);
@@ -185,9 +187,8 @@ mod tests {
         let mut map = Bitmap::new(rt.alloc(), 130)?;
         for want in 0..130 {
             assert_eq!(rt; map.first_free(), Some(want));
-            if let Some(r) = map.first_free() {
-                map.take(r);
-            }
+            assert!(rt; !map.is_used(want));
+            map.take(want);
         }
         assert_eq!(rt; map.first_free(), None);
         assert_eq!(rt; (map.size(), map.used()), (130, 130));

@@ -10,7 +10,7 @@
 //! no call walks over the records, and none but `new` takes memory.
 #![tactic(auto)]
 
-ghost use Rattle.std.specs.Prelude.{◌≡◌, ◌<◌, Bool, true, false, List, length, replicate, slice_set, count_by, All, IfOk, IfSome, IfNone};
+ghost use Rattle.std.specs.Prelude.{◌≡◌, ◌<◌, ◌+◌, Bool, true, false, List, length, replicate, slice_set, count_by, All, IfOk, IfSome, IfNone};
 ghost use Rattle.bitmap.specs.Bitmap.{in_use, least_free, IsLeastFree};
 
 use bitmap::Bitmap;
@@ -62,6 +62,7 @@ impl RecordMap {
 
         // What becomes of the map.
         ensures taken { IfSome result (λ r. self.new ≡ slice_set self.old r true) }
+        ensures count { IfSome result (λ _. count_by (λ flag. flag) self.new ≡ count_by (λ flag. flag) self.old + 1) }
         ensures same { IfNone result (self.new ≡ self.old) }
     {
         let r = self.records.first_free()?;
@@ -72,7 +73,8 @@ impl RecordMap {
     /// Puts back the record `r`, which is in use. It writes two words. (Source: Organick 1972.)
     pub fn deposit(&mut self, r: u32)
         requires { in_use self.old r ≡ true }
-        ensures { self.new ≡ slice_set self.old r false }
+        ensures flags { self.new ≡ slice_set self.old r false }
+        ensures count { count_by (λ flag. flag) self.new + 1 ≡ count_by (λ flag. flag) self.old }
     {
         self.records.give_back(r);
     }
@@ -95,12 +97,10 @@ mod tests {
         let mut map = RecordMap::new(rt.alloc(), 3)?;
         assert_eq!(rt; map.taken(), 0);
         assert_eq!(rt; map.withdraw(), Some(0));
-        if let Some(second) = map.withdraw() {
-            assert_eq!(rt; second, 1);
-            assert_eq!(rt; map.taken(), 2);
-            map.deposit(second);
-            assert_eq!(rt; map.taken(), 1);
-        }
+        let second = map.withdraw().expect(&rt, "a free record");
+        assert_eq!(rt; (second, map.taken()), (1, 2));
+        map.deposit(second);
+        assert_eq!(rt; map.taken(), 1);
         assert_eq!(rt; map.withdraw(), Some(1));
         assert_eq!(rt; map.withdraw(), Some(2));
         assert_eq!(rt; map.withdraw(), None);

@@ -4,7 +4,7 @@ use Rattle.std.proofs.lemmas.Bool.{cases_eq}
 use Rattle.std.proofs.lemmas.Bool.Decides.{leb_tells}
 use Rattle.std.proofs.lemmas.List.{map-set, get_or-map, get_or_past, length-map, length-set, length-replicate, get_or-set_same, get_or-set_other, set-get_or, get_or_read, get_or-replicate, ext_get_or}
 use Rattle.std.proofs.lemmas.List.Elements.{All-get_or, All-from_get_or}
-use Rattle.std.proofs.lemmas.List.Sums.{sum_by-cons}
+use Rattle.std.proofs.lemmas.List.Sums.{sum_by-cons, sum_by-set}
 use Rattle.bitmap.specs.Bitmap.{in_use, least_free, IsLeastFree}
 use Rattle.vtoc.specs.FileMap.{no_records}
 use Rattle.vtoc.specs.Vtoc.{Entry, entry_at, uid_of, records_in, record_at, fresh_entry, with_record, least_free_entry, IsLeastFreeEntry, NamesNoRecord}
@@ -208,6 +208,25 @@ pub count_same : (flags : List Bool) (slots : List Slot) (table : List (Option E
     → count_by (λ flag. flag) flags ≡ count_by is_some table
 unfolding table_of
 count_same flags slots table h view = ap (count_by (λ flag. flag)) h.marks ∙ count_slots slots ∙ ap (count_by is_some) view
+
+-- an entry that is taken counts for one more, and one that is freed for one less
+pub count_taken : (table : List (Option Entry)) (e uid : ℕ) → IsLeastFreeEntry table e
+    → count_by is_some (set table e (fresh_entry uid)) ≡ count_by is_some table + 1
+count_taken table e uid least =
+    let step = sum_by-set (λ (entry : Option Entry). cond {A = ℕ} (is_some entry) 1 0) table e (fresh_entry uid) None least.within in
+    let free : cond {A = ℕ} (is_some (entry_at table e)) 1 0 ≡ 0 = rw least.free refl in
+    omega (arith, step, free)
+
+weight_of_used : (entry : Option Entry) → IsSome entry → cond {A = ℕ} (is_some entry) 1 0 ≡ 1
+weight_of_used None used = cc
+weight_of_used (Some entry) used = refl
+
+pub count_freed : (table : List (Option Entry)) (e : ℕ) → IsSome (entry_at table e)
+    → count_by is_some (set table e None) + 1 ≡ count_by is_some table
+count_freed table e used =
+    let step = sum_by-set (λ (entry : Option Entry). cond {A = ℕ} (is_some entry) 1 0) table e None None (used_inside table e used) in
+    let one = weight_of_used (entry_at table e) used in
+    omega (arith, step, one)
 
 -- a table that is all free
 table_free : (n : ℕ) → map entry_of (replicate n free_slot) ≡ replicate n None

@@ -11,7 +11,7 @@
 
 mod file_map;
 
-ghost use Rattle.std.specs.Prelude.{◌≡◌, ◌<◌, ◌^◌, ◌-◌, List, Option, None, Some, length, replicate, slice_set, count_by, is_some, All, IsSome, IfOk, IfSome, IfNone};
+ghost use Rattle.std.specs.Prelude.{◌≡◌, ◌<◌, ◌^◌, ◌+◌, ◌-◌, List, Option, None, Some, length, replicate, slice_set, count_by, is_some, All, IsSome, IfOk, IfSome, IfNone};
 ghost use Rattle.std.specs.Option.{ForSome};
 ghost use Rattle.vtoc.specs.Vtoc.{Entry, entry_at, uid_of, record_at, fresh_entry, with_record, least_free_entry, IsLeastFreeEntry, HasFullMaps, NamesNoRecord};
 ghost use Rattle.vtoc.specs.Slots.{free_slot};
@@ -88,6 +88,7 @@ impl Vtoc {
         // What becomes of the table.
         ensures taken { IfSome result (λ e. self.new ≡ slice_set self.old e (fresh_entry uid)) }
         ensures empty { IfSome result (λ e. NamesNoRecord self.new e) }
+        ensures count { IfSome result (λ _. count_by is_some self.new ≡ count_by is_some self.old + 1) }
         ensures same { IfNone result (self.new ≡ self.old) }
     {
         let e = self.in_use.first_free()?;
@@ -132,7 +133,8 @@ impl Vtoc {
     pub fn free(&mut self, e: u32)
         requires used { IsSome (entry_at self.old e) }
         requires empty { NamesNoRecord self.old e }
-        ensures { self.new ≡ slice_set self.old e None }
+        ensures entries { self.new ≡ slice_set self.old e None }
+        ensures count { count_by is_some self.new + 1 ≡ count_by is_some self.old }
     {
         self.in_use.give_back(e);
         self.slots[e as usize].uid = None;
@@ -177,16 +179,15 @@ mod tests {
     fn allocates_and_frees_entries(rt: HostRuntime) -> Result<(), Fail> {
         let mut vtoc = Vtoc::new(rt.alloc(), 2)?;
         assert_eq!(rt; (vtoc.used(), vtoc.size()), (0, 2));
-        if let Some(e) = vtoc.allocate(7) {
-            assert_eq!(rt; (e, vtoc.uid_at(e)), (0, Some(7)));
-            vtoc.put_file_map(e, 255, Some(16_383));
-            vtoc.put_file_map(e, 0, Some(4));
-            assert_eq!(rt; vtoc.file_map(e, 255), Some(16_383));
-            assert_eq!(rt; vtoc.file_map(e, 0), Some(4));
-            assert_eq!(rt; vtoc.file_map(e, 1), None);
-            vtoc.put_file_map(e, 0, None);
-            assert_eq!(rt; vtoc.file_map(e, 0), None);
-        }
+        let e = vtoc.allocate(7).expect(&rt, "a free entry");
+        assert_eq!(rt; (e, vtoc.uid_at(e)), (0, Some(7)));
+        vtoc.put_file_map(e, 255, Some(16_383));
+        vtoc.put_file_map(e, 0, Some(4));
+        assert_eq!(rt; vtoc.file_map(e, 255), Some(16_383));
+        assert_eq!(rt; vtoc.file_map(e, 0), Some(4));
+        assert_eq!(rt; vtoc.file_map(e, 1), None);
+        vtoc.put_file_map(e, 0, None);
+        assert_eq!(rt; vtoc.file_map(e, 0), None);
         assert_eq!(rt; vtoc.allocate(8), Some(1));
         assert_eq!(rt; vtoc.allocate(9), None);
         assert_eq!(rt; vtoc.used(), 2);
@@ -196,13 +197,12 @@ mod tests {
     #[test]
     fn frees_the_entry_that_is_then_the_least(rt: HostRuntime) -> Result<(), Fail> {
         let mut vtoc = Vtoc::new(rt.alloc(), 4097)?;
-        if let Some(e) = vtoc.allocate(7) {
-            vtoc.free(e);
-        }
+        let e = vtoc.allocate(7).expect(&rt, "a free entry");
+        vtoc.free(e);
         assert_eq!(rt; vtoc.used(), 0);
-        if let Some(e) = vtoc.allocate(8) {
-            assert_eq!(rt; (e, vtoc.uid_at(e)), (0, Some(8)));
-        }
+        assert_eq!(rt; vtoc.allocate(8), Some(0));
+        assert!(rt; vtoc.size() == 4097);
+        assert_eq!(rt; vtoc.uid_at(0), Some(8));
         Ok(())
     }
 }

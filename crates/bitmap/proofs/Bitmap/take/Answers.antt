@@ -1,5 +1,5 @@
 use Rattle.std.proofs.Common.{◌∙◌, arith}
-use Rattle.bitmap.proofs.BitLemmas.{flags_with_bit}
+use Rattle.bitmap.proofs.BitLemmas.{flags_with_bit, count_with}
 use Rattle.bitmap.proofs.Levels.{placed, room_for_one, levels_after_take}
 use Rattle.bitmap.proofs.Bitmap.take.Goals as goal
 
@@ -22,7 +22,13 @@ invariant_of-self c =
     rw (c.turn_on.ensures.lower, c.turn_on.ensures.upper)
     (levels_after_take _ _ _ _ c.args.r c.self.invariant place.below (place.is ∙ c.requires.free))
 
-pub returns : goal.returns
-returns c =
+pub returns-clause-flags : goal.returns-clause-flags
+returns-clause-flags c =
     let place = placed _ _ _ _ _ c.args.r c.self.invariant c.self.view_is c.requires.within in
     rw (c.turn_on.ensures.lower, ← c.self.view_is) (flags_with_bit _ _ c.args.r place.below place.word)
+
+pub returns-clause-count : goal.returns-clause-count
+returns-clause-count c =
+    let place = placed _ _ _ _ _ c.args.r c.self.invariant c.self.view_is c.requires.within in
+    rw (c.turn_on.ensures.lower, flags_with_bit _ _ c.args.r place.below place.word, c.self.view_is)
+    (count_with _ c.args.r c.requires.within c.requires.free)

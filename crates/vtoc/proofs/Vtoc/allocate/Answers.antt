@@ -1,10 +1,10 @@
 use Rattle.std.proofs.Common.{◌∙◌}
-use Rattle.vtoc.proofs.Table.{least_same, least_entry, all_used, allocate_marked, allocate_table, allocate_empty}
+use Rattle.vtoc.proofs.Table.{least_same, least_entry, all_used, allocate_marked, allocate_table, allocate_empty, count_taken}
 use Rattle.vtoc.proofs.Vtoc.allocate.Goals as goal
 
 pub invariant_of-self : goal.invariant_of-self
 invariant_of-self c =
-    allocate_marked _ _ _ c.in_ok-e.e c.args.uid _ c.self.invariant c.in_ok-e.ensures.some c.index_mut.ensures.value c.take.ensures
+    allocate_marked _ _ _ c.in_ok-e.e c.args.uid _ c.self.invariant c.in_ok-e.ensures.some c.index_mut.ensures.value c.take.ensures.flags
 
 pub returns-clause-taken : goal.returns-clause-taken
 returns-clause-taken c =
@@ -26,3 +26,8 @@ pub returns-clause-empty : goal.returns-clause-empty
 returns-clause-empty c =
     rw (allocate_table _ _ _ c.in_ok-e.e c.args.uid _ c.self.invariant c.self.view_is c.in_ok-e.ensures.some c.index_mut.ensures.value)
     (allocate_empty _ _ _ c.in_ok-e.e c.args.uid c.self.invariant c.self.view_is c.in_ok-e.ensures.some)
+
+pub returns-clause-count : goal.returns-clause-count
+returns-clause-count c =
+    rw (allocate_table _ _ _ c.in_ok-e.e c.args.uid _ c.self.invariant c.self.view_is c.in_ok-e.ensures.some c.index_mut.ensures.value)
+    (count_taken _ c.in_ok-e.e c.args.uid (least_entry _ _ _ c.in_ok-e.e c.self.invariant c.self.view_is c.in_ok-e.ensures.some))

@@ -1,5 +1,5 @@
 use Rattle.std.proofs.Common.{arith}
-use Rattle.vtoc.proofs.Table.{used_slot, used_bit, free_marked, free_table}
+use Rattle.vtoc.proofs.Table.{used_slot, used_bit, free_marked, free_table, count_freed}
 use Rattle.vtoc.proofs.Vtoc.free.Goals as goal
 
 pub give_back-requires : goal.give_back-requires
@@ -10,7 +10,10 @@ index_mut-requires c = let inside = used_slot _ _ _ c.args.e c.self.invariant c.
 
 pub invariant_of-self : goal.invariant_of-self
 invariant_of-self c =
-    free_marked _ _ _ _ c.args.e _ c.self.invariant c.self.view_is c.requires.used c.requires.empty c.index_mut.ensures.value c.give_back.ensures
+    free_marked _ _ _ _ c.args.e _ c.self.invariant c.self.view_is c.requires.used c.requires.empty c.index_mut.ensures.value c.give_back.ensures.flags
 
-pub returns : goal.returns
-returns c = free_table _ _ c.args.e c.index_mut.result.now c.self.view_is
+pub returns-clause-entries : goal.returns-clause-entries
+returns-clause-entries c = free_table _ _ c.args.e c.index_mut.result.now c.self.view_is
+
+pub returns-clause-count : goal.returns-clause-count
+returns-clause-count c = rw (free_table _ _ c.args.e c.index_mut.result.now c.self.view_is) (count_freed _ c.args.e c.requires.used)
