@@ -7,12 +7,12 @@ use Rattle.std.proofs.lemmas.List.Elements.{All-get_or, All-from_get_or}
 use Rattle.bitmap.specs.Bitmap.{in_use, least_free, IsLeastFree}
 use Rattle.core_map.specs.declared.Frame.{Frame}
 use Rattle.core_map.specs.declared.Frame.TheVariants.{Free, Started, Bound}
-use Rattle.core_map.specs.CoreMap.{Core, is_free, is_taken, is_bound, after_reference, with_modified, least_free_frame, IsLeastFreeFrame}
+use Rattle.core_map.specs.CoreMap.{Core, is_free, is_taken, is_bound, started_page, after_reference, with_modified, least_free_frame, IsLeastFreeFrame}
 use Rattle.core_map.specs.Clock.{frame_in, is_idle, unmarked}
 use Rattle.core_map.specs.Turns.{IsUnmarked}
 use Rattle.core_map.specs.Taken.{IsTied}
 
-below_or_past : (a b : ℕ) → (a < b) ⊎ (b ≤ a)
+pub below_or_past : (a b : ℕ) → (a < b) ⊎ (b ≤ a)
 below_or_past a b = elim (leb_tells b a) [ inl h ↦ inr h.1 | inr h ↦ inl h.1 ]
 
 -- what a change of marks leaves as it is
@@ -31,6 +31,27 @@ taken_modified Free now = refl
 taken_modified (Started uid page) now = refl
 taken_modified (Bound uid page used modified) now = refl
 
+-- which page is being read in, by the same changes
+pub started_unmarked : (x : Frame) → started_page (unmarked x) ≡ started_page x
+started_unmarked Free = refl
+started_unmarked (Started uid page) = refl
+started_unmarked (Bound uid page used modified) = refl
+
+pub started_referred : (x : Frame) (wrote : Bool) → started_page (after_reference x wrote) ≡ started_page x
+started_referred Free wrote = refl
+started_referred (Started uid page) wrote = refl
+started_referred (Bound uid page used modified) wrote = refl
+
+pub started_modified : (x : Frame) (now : Bool) → started_page (with_modified x now) ≡ started_page x
+started_modified Free now = refl
+started_modified (Started uid page) now = refl
+started_modified (Bound uid page used modified) now = refl
+
+pub started_of_bound : (x : Frame) → is_bound x ≡ true → None ≡ started_page x
+started_of_bound Free h = cc
+started_of_bound (Started uid page) h = cc
+started_of_bound (Bound uid page used modified) h = refl
+
 pub idle_unmarked : (x : Frame) → is_idle (unmarked x) ≡ is_bound x
 idle_unmarked Free = refl
 idle_unmarked (Started uid page) = refl
@@ -46,22 +67,22 @@ not_free_from_taken Free h = cc
 not_free_from_taken (Started uid page) h = refl
 not_free_from_taken (Bound uid page used modified) h = refl
 
--- whether a frame is taken, in the list of all
-pub taken_at : (frames : List Frame) (f : ℕ) → get_or (map is_taken frames) f false ≡ is_taken (frame_in frames f)
-taken_at frames f = elim (below_or_past f (length frames)) [
-  | inl lt ↦ get_or-map is_taken frames f Free false lt
-  | inr past ↦ (let long : length (map is_taken frames) ≤ f = omega (arith, length-map frames is_taken) in
-      get_or_past (map is_taken frames) f false long ∙ sym (ap is_taken (get_or_past frames f Free past)))
+-- what a test of the frames says of one of them
+pub map_at : {X : Type 0} (t : Frame → X) (frames : List Frame) (f : ℕ) → get_or (map t frames) f (t Free) ≡ t (frame_in frames f)
+map_at t frames f = elim (below_or_past f (length frames)) [
+  | inl lt ↦ get_or-map t frames f Free (t Free) lt
+  | inr past ↦ (let long : length (map t frames) ≤ f = omega (arith, length-map frames t) in
+      get_or_past (map t frames) f (t Free) long ∙ sym (ap t (get_or_past frames f Free past)))
 ]
 
--- a write of a frame that leaves it as taken, or free, as it was
-pub taken_same : (frames : List Frame) (f : ℕ) (x : Frame) → is_taken x ≡ is_taken (frame_in frames f) → map is_taken (set frames f x) ≡ map is_taken frames
-taken_same frames f x same =
-    map-set is_taken frames f x ∙ ap (set (map is_taken frames) f) (same ∙ sym (taken_at frames f)) ∙ set-get_or (map is_taken frames) f false
+-- a write of a frame that leaves it as it was, by the test
+pub same_with : {X : Type 0} (t : Frame → X) (frames : List Frame) (f : ℕ) (x : Frame) → t x ≡ t (frame_in frames f) → map t (set frames f x) ≡ map t frames
+same_with t frames f x same =
+    map-set t frames f x ∙ ap (set (map t frames) f) (same ∙ sym (map_at t frames f)) ∙ set-get_or (map t frames) f (t Free)
 
 -- the bits of taken frames
 pub bit_is : (taken : List Bool) (frames : List Frame) (hand f : ℕ) → IsTied taken frames hand → in_use taken f ≡ is_taken (frame_in frames f)
-bit_is taken frames hand f h = ap (λ (ts : List Bool). in_use ts f) h.bits ∙ taken_at frames f
+bit_is taken frames hand f h = ap (λ (ts : List Bool). in_use ts f) h.bits ∙ map_at is_taken frames f
 
 -- a frame is written, and its bit with it
 pub tied_with : (taken ts : List Bool) (frames : List Frame) (hand f : ℕ) (x : Frame) → IsTied taken frames hand → ts ≡ set taken f (is_taken x)
@@ -73,16 +94,16 @@ tied_with taken ts frames hand f x h is = record {
 }
 
 -- the marks of a frame are written
-pub taken_kept : (frames : List Frame) (f : ℕ) (x y : Frame) → x ≡ get_or frames f x → is_taken y ≡ is_taken x → map is_taken (set frames f y) ≡ map is_taken frames
-taken_kept frames f x y read same = elim (below_or_past f (length frames)) [
-  | inl lt ↦ taken_same frames f y (same ∙ ap is_taken (get_or_read frames f x lt read Free))
-  | inr past ↦ ap (map is_taken) (set_past frames f y past)
+pub kept_by : {X : Type 0} (t : Frame → X) (frames : List Frame) (f : ℕ) (x y : Frame) → x ≡ get_or frames f x → t y ≡ t x → map t (set frames f y) ≡ map t frames
+kept_by t frames f x y read same = elim (below_or_past f (length frames)) [
+  | inl lt ↦ same_with t frames f y (same ∙ ap t (get_or_read frames f x lt read Free))
+  | inr past ↦ ap (map t) (set_past frames f y past)
 ]
 
 pub tied_same : (taken : List Bool) (frames : List Frame) (hand f : ℕ) (x y : Frame) → IsTied taken frames hand → x ≡ get_or frames f x
     → is_taken y ≡ is_taken x → IsTied taken (set frames f y) hand
 tied_same taken frames hand f x y h read same = record {
-  bits = h.bits ∙ sym (taken_kept frames f x y read same);
+  bits = h.bits ∙ sym (kept_by is_taken frames f x y read same);
   short = rw (length-set frames f y) h.short;
   hand_within = rw (length-set frames f y) h.hand_within;
 }
@@ -91,6 +112,7 @@ tied_same taken frames hand f x y h read same = record {
 pub unmarked_more : (old now : List Frame) (low i : ℕ) (x y : Frame) → IsUnmarked old now low i → low ≤ i → i < length now → x ≡ get_or now i x
     → y ≡ unmarked x → IsUnmarked old (set now i y) low (i + 1)
 unmarked_more old now low i x y h above lt read is = record {
+  count = length-set now i y ∙ h.count;
   inside = λ k over under. elim (cases_eq k i) [
     | inl e ↦ (let read_here : x ≡ frame_in now i = get_or_read now i x lt read Free in
         rw e (get_or-set_same now i y Free lt ∙ is ∙ ap unmarked (read_here ∙ h.after i (omega arith))))
@@ -104,18 +126,6 @@ unmarked_more old now low i x y h above lt read is = record {
 pub none_bound : (frames : List Frame) → ((i : ℕ) → i < length frames → is_bound (frame_in frames i) ≡ false) → list_any is_bound frames ≡ false
 none_bound [] h = refl
 none_bound (x ∷ frames) h = let first : is_bound x ≡ false = h 0 (omega arith) in rw first (none_bound frames (λ i lt. h (suc i) (omega arith)))
-
--- so after a turn that unmarked all frames an idle one is there
-pub no_turn : (old now a b : List Frame) (hand n : ℕ) → n ≡ length old → list_any is_bound old ≡ true → IsUnmarked old now 0 n → a ≡ now → b ≡ now
-    → ((i : ℕ) → hand ≤ i → i < n → is_idle (frame_in a i) ≡ false) → ((i : ℕ) → 0 ≤ i → i < hand → is_idle (frame_in b i) ≡ false) → ⊥
-no_turn old now a b hand n long some h first second above below =
-    let none = none_bound old (λ i lt. let inside : i < n = omega (arith, long) in
-    sym (ap is_idle (h.inside i (omega arith) inside) ∙ idle_unmarked (frame_in old i))
-    ∙ elim (below_or_past i hand) [
-      | inl under ↦ ap (λ (xs : List Frame). is_idle (frame_in xs i)) (sym second) ∙ below i (omega arith) under
-      | inr over ↦ ap (λ (xs : List Frame). is_idle (frame_in xs i)) (sym first) ∙ above i over inside
-    ]) in
-    cc
 
 -- the least free frame by the bits
 first_step : (x : Frame) (a b : ℕ) → a ≡ b → cond (not (not (is_taken x))) (1 + a) 0 ≡ cond (not (is_free x)) (1 + b) 0

@@ -1,5 +1,6 @@
 -- The clock, which chooses the frame that gives up its page (Corbató 1968).
-use Rattle.std.specs.Prelude.{◌≡◌, ℕ, ◌+◌, ◌-◌, ◌<◌, ◌≤◌, ◌==◌, nat_le, if◌then◌else◌, Bool, true, false, not, ◌⊎◌, List, length, slice_index_or}
+use Rattle.std.specs.Prelude.{◌≡◌, ℕ, ◌+◌, ◌-◌, ◌<◌, ◌≤◌, ◌==◌, nat_le, if◌then◌else◌, Bool, true, false, not, ◌⊎◌, List, [], ◌∷◌, ◌++◌, length, Option, None, Some, slice_index_or, slice_set}
+use Rattle.std.specs.List.{range_with_len, find}
 use Rattle.core_map.specs.declared.Frame.{Frame}
 use Rattle.core_map.specs.declared.Frame.TheVariants.{Free, Started, Bound}
 use Rattle.core_map.specs.CoreMap.{Core, frame_at, is_bound}
@@ -60,3 +61,29 @@ pub record IsClockChoice (old new : Core) (f : ℕ) : Type 0 where
   pub count : length new.frames ≡ length old.frames
   pub hand : new.hand ≡ hand_after old f
   pub turn : IsTurn old new.frames f
+
+-- the frames' numbers in the order in which the hand meets them
+abbrev pub round_frames : Core → List ℕ
+round_frames core = range_with_len core.hand (length core.frames - core.hand) ++ range_with_len 0 core.hand
+
+-- the first answer, and where there is none the second
+abbrev pub or_else : Option ℕ → Option ℕ → Option ℕ
+or_else None other = other
+or_else (Some f) other = Some f
+
+-- the choice of the clock: the first bound frame from the hand whose used mark is off, and where there is none the first
+-- bound one
+abbrev pub clock_choice : Core → Option ℕ
+clock_choice core =
+    or_else (find (λ f. is_idle (frame_at core f)) (round_frames core))
+    (find (λ f. is_bound (frame_at core f)) (round_frames core))
+
+-- the frames after the hand went over those of these numbers, up to the first bound one whose used mark was off
+unfoldable pub passed_over : List Frame → List ℕ → List Frame
+passed_over frames [] = frames
+passed_over frames (f ∷ fs) =
+    if is_idle (frame_in frames f) then frames else passed_over (slice_set frames f (unmarked (frame_in frames f))) fs
+
+-- the core after frame f was chosen
+abbrev pub after_choice : Core → ℕ → Core
+after_choice core f = record { frames = passed_over core.frames (round_frames core); hand = hand_after core f }

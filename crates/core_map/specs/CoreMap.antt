@@ -1,4 +1,4 @@
-use Rattle.std.specs.Prelude.{◌≡◌, ℕ, ◌<◌, Bool, true, false, ◌||◌, ◌⊎◌, List, length, Option, None, Some, slice_index_or, slice_set, position}
+use Rattle.std.specs.Prelude.{◌≡◌, ℕ, ◌<◌, Bool, true, false, ◌||◌, ◌⊎◌, List, length, Option, None, Some, slice_index_or, slice_set, position, map}
 use Rattle.core_map.specs.declared.Frame.{Frame}
 use Rattle.core_map.specs.declared.Frame.TheVariants.{Free, Started, Bound}
 
@@ -47,6 +47,10 @@ abbrev pub started_page : Frame → Option (ℕ × ℕ)
 started_page Free = None
 started_page (Started uid page) = Some (uid, page)
 started_page (Bound uid page used modified) = None
+
+-- for each frame the page that is being read into it
+abbrev pub reads_of : Core → List (Option (ℕ × ℕ))
+reads_of core = map started_page core.frames
 
 -- whether a frame is bound and its modified mark is on
 abbrev pub is_modified : Frame → Bool

@@ -1,39 +1,28 @@
-ghost use Rattle.std.specs.Prelude.{◌≡◌, ℕ, ◌+◌, ◌<◌, ◌≤◌, ◌==◌, if◌then◌else◌, Bool, true, false, is_some, List, length, vec_len, IfSome, IfNone, map};
+ghost use Rattle.std.specs.Prelude.{◌≡◌, ℕ, ◌+◌, ◌<◌, ◌≤◌, ◌==◌, if◌then◌else◌, Bool, true, false, is_some, List, length, vec_len, IfSome, IfNone};
 ghost use Rattle.std.specs.List.{list_any};
 ghost use Rattle.core_map.specs.declared.Frame.{Frame};
-ghost use Rattle.core_map.specs.CoreMap.{is_taken, is_bound};
-ghost use Rattle.core_map.specs.Clock.{frame_in, is_idle, unmarked, IsTurn};
-ghost use Rattle.core_map.specs.Turns.{IsFirstIdle, IsUnmarked};
+ghost use Rattle.core_map.specs.CoreMap.{is_bound};
+ghost use Rattle.core_map.specs.Clock.{unmarked};
+ghost use Rattle.core_map.specs.Turns.{IsFirst, HasNone, HasPassed, IsFirstBound, IsTurned};
 
 use crate::Frame;
 
 /// The frame that the clock chooses. The marks of the frames that it passed over are off then.
+///
+/// It goes round the frames once, and on to the first bound one where every bound frame had its mark on.
 pub fn turn(frames: &mut Vec<Frame>, hand: usize) -> usize
     requires within { hand ≤ vec_len frames.old }
     requires bound { list_any is_bound frames.old.items ≡ true }
-    ensures len { vec_len frames.new ≡ vec_len frames.old }
-    ensures free { map is_taken frames.new.items ≡ map is_taken frames.old.items }
-    ensures within { result < vec_len frames.old }
-    ensures turn { IsTurn (record { frames = frames.old.items; hand = hand }) frames.new.items result }
+    ensures { IsTurned frames.old.items frames.new.items hand result }
 {
     let end = frames.len();
-    if let Some(f) = first_idle(frames, hand, end) {
-        unmark(frames, hand, f);
+    if let Some(f) = pass(frames, hand, end) {
         return f;
     }
-    if let Some(f) = first_idle(frames, 0, hand) {
-        unmark(frames, hand, end);
-        unmark(frames, 0, f);
+    if let Some(f) = pass(frames, 0, hand) {
         return f;
     }
-    unmark(frames, 0, end);
-    if let Some(f) = first_idle(frames, hand, end) {
-        return f;
-    }
-    match first_idle(frames, 0, hand) {
-        Some(f) => f,
-        None => unreachable!(),
-    }
+    first_from(frames, hand)
 }
 
 /// The number of the frame after `f`, round `count` frames.
@@ -45,32 +34,51 @@ pub fn next(f: usize, count: usize) -> usize
     if f + 1 == count { 0 } else { f + 1 }
 }
 
-/// The first frame from `from` on and below `to` that is bound with its used mark off.
-fn first_idle(frames: &[Frame], from: usize, to: usize) -> Option<usize>
+/// Goes over the frames from `from` on and below `to`, and turns their used marks off, up to the first bound one whose
+/// mark is off already. None exactly where there is no such one.
+fn pass(frames: &mut Vec<Frame>, from: usize, to: usize) -> Option<usize>
     requires order { from ≤ to }
-    requires within { to ≤ length frames.now }
-    ensures some { IfSome result (λ f. IsFirstIdle frames.now from to f) }
-    ensures none { IfNone result ((i : ℕ) → from ≤ i → i < to → is_idle (frame_in frames.now i) ≡ false) }
+    requires within { to ≤ vec_len frames.old }
+    ensures { HasPassed frames.old.items frames.new.items from to result }
 {
     for i in from..to {
         if let Frame::Bound { used: false, .. } = frames[i] {
             return Some(i);
         }
+        frames[i] = without_mark(frames[i]);
     }
     None
 }
 
-/// Turns off the used marks of the frames from `from` on and below `to`.
-fn unmark(frames: &mut Vec<Frame>, from: usize, to: usize)
+/// The first bound frame from the hand, round the frames.
+fn first_from(frames: &[Frame], hand: usize) -> usize
+    requires within { hand ≤ length frames.now }
+    requires bound { list_any is_bound frames.now ≡ true }
+    ensures { IsFirstBound frames.now hand result }
+{
+    let end = frames.len();
+    if let Some(f) = first_bound(frames, hand, end) {
+        return f;
+    }
+    match first_bound(frames, 0, hand) {
+        Some(f) => f,
+        None => unreachable!(),
+    }
+}
+
+/// The first bound frame from `from` on and below `to`.
+fn first_bound(frames: &[Frame], from: usize, to: usize) -> Option<usize>
     requires order { from ≤ to }
-    requires within { to ≤ vec_len frames.old }
-    ensures len { vec_len frames.new ≡ vec_len frames.old }
-    ensures free { map is_taken frames.new.items ≡ map is_taken frames.old.items }
-    ensures marks { IsUnmarked frames.old.items frames.new.items from to }
+    requires within { to ≤ length frames.now }
+    ensures some { IfSome result (λ f. IsFirst is_bound frames.now from to f) }
+    ensures none { IfNone result (HasNone is_bound frames.now from to) }
 {
     for i in from..to {
-        frames[i] = without_mark(frames[i]);
+        if let Frame::Bound { .. } = frames[i] {
+            return Some(i);
+        }
     }
+    None
 }
 
 /// The frame with its used mark off.

@@ -6,19 +6,20 @@
 //! Multics system").
 //!
 //! Costs: `new` takes memory twice, for the frames and for a bit map of those that are taken. `take_free` reads one
-//! upper word of the bit map for 4096 frames, and one lower word if a frame is free. `bind`, `start`, `lose` and `release` write one frame and at most two
-//! words, and the other calls read or write one frame. `choose` reads the frames from the hand to its choice, and
-//! writes those of them whose mark it turns off; at most it goes round twice. None but `new` takes memory.
+//! upper word of the bit map for 4096 frames, and one lower word if a frame is free. `bind`, `start`, `lose` and
+//! `release` write one frame and at most two words, and the other calls read or write one frame. `choose` goes over the
+//! frames from the hand to its choice and turns their marks off as it goes; where every mark was on it goes round once,
+//! and on to the first bound frame. None but `new` takes memory.
 #![tactic(auto)]
 
 mod clock;
 
-ghost use Rattle.std.specs.Prelude.{◌≡◌, ◌<◌, ◌≢◌, ℕ, Bool, true, false, List, Option, length, replicate, slice_set, All, IfOk, IfSome, IfNone};
+ghost use Rattle.std.specs.Prelude.{◌≡◌, ◌<◌, ◌≢◌, ℕ, Bool, true, false, List, Option, None, Some, length, replicate, slice_set, All, IfOk, IfSome, IfNone};
 ghost use Rattle.std.specs.List.{list_any};
 ghost use Rattle.core_map.specs.declared.Frame.{Frame};
 ghost use Rattle.core_map.specs.declared.Frame.TheVariants.{Free, Started, Bound};
-ghost use Rattle.core_map.specs.CoreMap.{Core, frame_at, with_frame, is_free, is_started, is_bound, bound_page, started_page, is_modified, after_reference, with_modified, CanBind, least_free_frame, IsLeastFreeFrame};
-ghost use Rattle.core_map.specs.Clock.{IsClockChoice};
+ghost use Rattle.core_map.specs.CoreMap.{Core, frame_at, with_frame, is_free, is_started, is_bound, bound_page, started_page, reads_of, is_modified, after_reference, with_modified, CanBind, least_free_frame, IsLeastFreeFrame};
+ghost use Rattle.core_map.specs.Clock.{IsClockChoice, clock_choice, after_choice};
 
 use bitmap::Bitmap;
 use std::alloc::{AllocError, Global};
@@ -108,11 +109,16 @@ impl CoreMap {
     /// The frame that the clock chooses among the bound ones, of which there is one. Marks of the frames that it
     /// passed over are off then, and the hand stands after the choice.
     ///
-    /// It reads the frames from the hand to the choice, and goes round once more where every bound frame has its
-    /// mark on. (Source: Corbató 1968.)
+    /// It goes over the frames from the hand to the choice, round once and on to the first bound one where every bound
+    /// frame has its mark on. Which pages are being read in stays. (Source: Corbató 1968.)
     pub fn choose(&mut self) -> u32
         requires { list_any is_bound self.old.frames ≡ true }
-        ensures { IsClockChoice self.old self.new result }
+        ensures choice { IsClockChoice self.old self.new result }
+        ensures chosen { clock_choice self.old ≡ Some result }
+        ensures core { self.new ≡ after_choice self.old result }
+        ensures bound { is_bound (frame_at self.new result) ≡ true }
+        ensures reads { (f uid p : ℕ) → frame_at self.new f ≡ Started uid p → frame_at self.old f ≡ Started uid p }
+        ensures started { reads_of self.new ≡ reads_of self.old }
     {
         let f = clock::turn(&mut self.frames, self.hand);
         self.hand = clock::next(f, self.frames.len());
@@ -124,10 +130,16 @@ impl CoreMap {
     pub fn bind(&mut self, f: u32, uid: u32, page: u32)
         requires within { f < length self.old.frames }
         requires can { CanBind (frame_at self.old f) uid page }
-        ensures { self.new ≡ with_frame self.old f (Bound uid page false false) }
+        ensures frame { self.new ≡ with_frame self.old f (Bound uid page false false) }
+        ensures started { reads_of self.new ≡ slice_set (reads_of self.old) f None }
     {
         occupy(&mut self.taken, f);
-        self.frames[f as usize] = filled(self.frames[f as usize], uid, page);
+        self.frames[f as usize] = Frame::Bound {
+            uid,
+            page,
+            used: false,
+            modified: false,
+        };
     }
 
     /// Notes that a page is being read into the free frame `f`: page `page` of segment `uid`. It writes one frame.
@@ -135,7 +147,8 @@ impl CoreMap {
     pub fn start(&mut self, f: u32, uid: u32, page: u32)
         requires within { f < length self.old.frames }
         requires free { frame_at self.old f ≡ Free }
-        ensures { self.new ≡ with_frame self.old f (Started uid page) }
+        ensures frame { self.new ≡ with_frame self.old f (Started uid page) }
+        ensures started { reads_of self.new ≡ slice_set (reads_of self.old) f (Some (uid, page)) }
     {
         self.taken.take(f);
         self.frames[f as usize] = Frame::Started { uid, page };
@@ -144,7 +157,8 @@ impl CoreMap {
     /// Frees the started frame `f`. It writes one frame. (Source: own.)
     pub fn lose(&mut self, f: u32)
         requires { is_started (frame_at self.old f) ≡ true }
-        ensures { self.new ≡ with_frame self.old f Free }
+        ensures frame { self.new ≡ with_frame self.old f Free }
+        ensures started { reads_of self.new ≡ slice_set (reads_of self.old) f None }
     {
         self.taken.give_back(f);
         self.frames[f as usize] = Frame::Free;
@@ -153,7 +167,8 @@ impl CoreMap {
     /// Frees the bound frame `f`. It writes one frame. (Source: Bensoussan, Clingen and Daley 1972.)
     pub fn release(&mut self, f: u32)
         requires { is_bound (frame_at self.old f) ≡ true }
-        ensures { self.new ≡ with_frame self.old f Free }
+        ensures frame { self.new ≡ with_frame self.old f Free }
+        ensures started { reads_of self.new ≡ reads_of self.old }
     {
         self.taken.give_back(f);
         self.frames[f as usize] = Frame::Free;
@@ -163,7 +178,8 @@ impl CoreMap {
     /// (Source: Corbató 1968.)
     pub fn mark(&mut self, f: u32, wrote: bool)
         requires { is_bound (frame_at self.old f) ≡ true }
-        ensures { self.new ≡ with_frame self.old f (after_reference (frame_at self.old f) wrote) }
+        ensures frame { self.new ≡ with_frame self.old f (after_reference (frame_at self.old f) wrote) }
+        ensures started { reads_of self.new ≡ reads_of self.old }
     {
         self.frames[f as usize] = referred(self.frames[f as usize], wrote);
     }
@@ -172,7 +188,8 @@ impl CoreMap {
     /// 1968.)
     pub fn cleaned(&mut self, f: u32)
         requires { is_bound (frame_at self.old f) ≡ true }
-        ensures { self.new ≡ with_frame self.old f (with_modified (frame_at self.old f) false) }
+        ensures frame { self.new ≡ with_frame self.old f (with_modified (frame_at self.old f) false) }
+        ensures started { reads_of self.new ≡ reads_of self.old }
     {
         self.frames[f as usize] = modified_as(self.frames[f as usize], false);
     }
@@ -180,7 +197,8 @@ impl CoreMap {
     /// Turns the modified mark of the bound frame `f` on, and no other. It writes one frame. (Source: own.)
     pub fn changed(&mut self, f: u32)
         requires { is_bound (frame_at self.old f) ≡ true }
-        ensures { self.new ≡ with_frame self.old f (with_modified (frame_at self.old f) true) }
+        ensures frame { self.new ≡ with_frame self.old f (with_modified (frame_at self.old f) true) }
+        ensures started { reads_of self.new ≡ reads_of self.old }
     {
         self.frames[f as usize] = modified_as(self.frames[f as usize], true);
     }
@@ -225,22 +243,6 @@ fn occupy(taken: &mut Bitmap, f: u32)
 {
     if !taken.is_used(f) {
         taken.take(f);
-    }
-}
-
-/// A frame that may be bound to the page, after it is.
-fn filled(frame: Frame, uid: u32, page: u32) -> Frame
-    requires { CanBind frame uid page }
-    ensures { result ≡ Bound uid page false false }
-{
-    match frame {
-        Frame::Free | Frame::Started { .. } => Frame::Bound {
-            uid,
-            page,
-            used: false,
-            modified: false,
-        },
-        Frame::Bound { .. } => unreachable!(),
     }
 }
 

@@ -1,9 +1,26 @@
 use Rattle.std.proofs.Common.{◌∙◌, sym, arith}
+use Rattle.core_map.specs.CoreMap.{is_taken, started_page}
+use Rattle.core_map.proofs.Frames.{started_unmarked, taken_unmarked}
+use Rattle.core_map.proofs.Turning.{turned_same, turned_choice, turned_core, turned_count}
 use Rattle.core_map.proofs.CoreMap.choose.Goals as goal
 
 pub invariant_of-self : goal.invariant_of-self
-invariant_of-self c = record {
-  bits = c.self.invariant.bits ∙ sym c.turn-f.ensures.free;
-  short = omega (arith, c.turn-f.ensures.len, c.self.invariant.short);
-  hand_within = omega (arith, c.next-self-inside.ensures.within, c.len.ensures);
-}
+invariant_of-self c =
+    let count = turned_count _ _ _ _ c.turn-f.ensures in
+    record {
+      bits = c.self.invariant.bits ∙ sym (turned_same is_taken taken_unmarked _ _ _ _ c.turn-f.ensures);
+      short = omega (arith, count, c.self.invariant.short);
+      hand_within = omega (arith, c.next-self-inside.ensures.within, c.len.ensures);
+    }
+
+pub returns-clause-chosen : goal.returns-clause-chosen
+returns-clause-chosen c =
+    rw (← c.self.view_is) (turned_choice _ _ _ _ c.self.invariant.hand_within c.turn-f.ensures)
+
+pub returns-clause-core : goal.returns-clause-core
+returns-clause-core c =
+    rw (← c.self.view_is)
+    (turned_core _ _ _ _ _ _ c.self.invariant.hand_within c.turn-f.ensures (omega (arith, c.len.ensures)) c.next-self-inside.ensures.next)
+
+pub returns-clause-started : goal.returns-clause-started
+returns-clause-started c = rw (← c.self.view_is) (turned_same started_page started_unmarked _ _ _ _ c.turn-f.ensures)

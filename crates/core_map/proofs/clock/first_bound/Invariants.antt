@@ -1,0 +1,6 @@
+use Rattle.core_map.specs.CoreMap.{is_bound}
+use Rattle.core_map.specs.Turns.{HasNone}
+use Rattle.core_map.proofs.clock.first_bound.Given as goal
+
+abbrev pub invariant-loop-i : goal.invariant-loop-i
+invariant-loop-i l = HasNone is_bound l.frames l.from l.i

@@ -1,0 +1,5 @@
+use Rattle.core_map.specs.Turns.{PassesAll}
+use Rattle.core_map.proofs.clock.pass.Given as goal
+
+abbrev pub invariant-loop-i : goal.invariant-loop-i
+invariant-loop-i l = PassesAll l.initial.frames.items l.frames.items l.from l.i
