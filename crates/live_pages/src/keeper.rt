@@ -1,6 +1,6 @@
 //! The keeper of the pages.
 ghost use Rattle.std.specs.Prelude.{◌≡◌, ◌<◌, ◌↔◌, length, max, IsTrue};
-ghost use Rattle.live_doors.specs.Doors.{HasNoted, MayBind};
+ghost use Rattle.live_doors.specs.Doors.{HasNoted, IsAdmitted, MayBind};
 ghost use Rattle.live_pages.specs.Kept.{HasNoHolder};
 
 use crate::rule::Place;
@@ -32,6 +32,14 @@ impl Model for Keeper {
 }
 
 impl Keeper {
+    /// Whether the door of frame `f` admits a binding. Takes no memory and constant time. Source: own.
+    pub fn is_admitted(&self, f: u32) -> bool
+        requires { f < length self.now.holder.watch.doors }
+        ensures { IsTrue result ↔ IsAdmitted self.now.holder.watch f }
+    {
+        self.doors[f as usize] % 2 == 0
+    }
+
     /// Whether frame `f` may be bound anew: it was never bound, or it is closed and `all_clear` answered Ok for a
     /// stamp that was raised since. No pass then holds an entry of it. Takes no memory and constant time. Source: own.
     pub fn may_bind(&self, f: u32) -> bool
