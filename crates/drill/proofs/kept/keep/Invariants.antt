@@ -1,0 +1,6 @@
+use Rattle.std.proofs.Common.{◌≡◌}
+use Rattle.drill.specs.Roles.{IsKept}
+use Rattle.drill.proofs.kept.keep.Given as goal
+
+abbrev pub invariant-loop-r : goal.invariant-loop-r
+invariant-loop-r g l = IsKept l.pages l.kept × (l.kept.keeper.holder.watch.request ≡ l.r)

@@ -1,0 +1,15 @@
+use Rattle.std.proofs.Common.{◌≡◌, ◌+◌, ◌%◌, ◌^◌, ◌≤◌, All, vec_len, vec_capacity}
+use Rattle.live_pages.specs.Models.{IsPassOf}
+use Rattle.drill.specs.Roles.{RoleDone, EachRole, AreDone, missing}
+use Rattle.drill.proofs.roles.gather.Given as goal
+
+abbrev pub invariant-loop-role : goal.invariant-loop-role
+invariant-loop-role l = EachRole (RoleDone l.pages l.size.seed l.size.adds l.size.cpus) l.roles.items
+    × (vec_len l.roles + vec_len l.row ≡ l.size.cpus)
+    × (l.size.cpus ≤ vec_capacity l.row)
+    × All (IsPassOf l.pages) l.row.items
+    × AreDone l.pages l.size.seed l.size.adds 0 l.row.items
+    × (l.sum ≡ missing l.size.adds l.row.items % 2 ^ 36)
+
+abbrev pub decreases-loop-role : goal.decreases-loop-role
+decreases-loop-role l = vec_len l.roles

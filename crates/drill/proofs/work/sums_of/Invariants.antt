@@ -1,0 +1,6 @@
+use Rattle.std.proofs.Common.{◌≡◌}
+use Rattle.drill.specs.Work.{sums_of}
+use Rattle.drill.proofs.work.sums_of.Given as goal
+
+abbrev pub invariant-loop : goal.invariant-loop
+invariant-loop l = l.sums.items ≡ sums_of l.fn.size.frames l.fn.size.adds l.fn.size.seed l.counter

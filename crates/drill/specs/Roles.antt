@@ -1,0 +1,94 @@
+-- What each thread of the drill has done, and what the keeper has taken out (own).
+use Rattle.std.specs.Prelude.{◌≡◌, ℕ, zero, suc, ◌+◌, ◌-◌, ◌%◌, ◌^◌, ◌<◌, ◌≤◌, List, [], ◌∷◌, map, length, replicate, slice_index, slice_index_or, IsSomeAnd}
+use Rattle.live_doors.specs.declared.views.Watch.{Watch}
+use Rattle.live_pages.specs.declared.touch.Touch.{Touch}
+use Rattle.live_pages.specs.declared.touch.Bound.{Bound}
+use Rattle.live_pages.specs.Models.{PagesModel, PassModel, IsPassOf, IsKeeperOf}
+use Rattle.live_pages.specs.Turns.{current}
+use Rattle.drill.specs.declared.worker.Worker.{Worker}
+use Rattle.drill.specs.declared.kept.Kept.{Kept}
+use Rattle.drill.specs.declared.roles.Role.{Role}
+use Rattle.drill.specs.declared.roles.Role.TheVariants.{Works, Keeps}
+use Rattle.drill.specs.Work.{add_at, word_at, deed}
+
+-- the first n adds of a processor, the last one first, as a pass keeps its touches
+abbrev pub done : ℕ → ℕ → ℕ → List (ℕ × Touch)
+done frames x zero = []
+done frames x (suc n) = add_at frames x n ∷ done frames x n
+
+-- the sum of the words of the first n adds
+abbrev pub words_to : ℕ → ℕ
+words_to zero = 0
+words_to (suc n) = words_to n + word_at n
+
+-- the sum of the first words of the pages that were handed out
+abbrev pub words_left : List Bound → ℕ
+words_left [] = 0
+words_left (b ∷ bs) = words_left bs + slice_index b.left 0
+
+-- each bind took a page of zeros
+abbrev pub TookZeros : List Bound → Type 0
+TookZeros [] = Unit {0}
+TookZeros (b ∷ bs) = TookZeros bs × (b.next ≡ replicate 1024 0)
+
+-- the pass has made the first n adds of its processor's work
+pub record HasDone (pages : PagesModel) (seed n : ℕ) (p : PassModel) : Type 0 where
+  pub pass : IsPassOf pages p
+  pub made : map deed p.walker.made ≡ done pages.frames (seed + p.walker.walk.cpu) n
+
+-- these passes, the first of which is that of processor `first`, have each made the first ones of their adds
+abbrev pub AreDone : PagesModel → ℕ → ℕ → ℕ → List PassModel → Type 0
+AreDone pages seed adds first [] = Unit {0}
+AreDone pages seed adds first (p ∷ ps) = AreDone pages seed adds (first + 1) ps × (p.walker.walk.cpu ≡ first)
+    × HasDone pages seed (length p.walker.made) p × (length p.walker.made ≤ adds)
+
+-- the sum of the words of the adds that these passes have not made
+abbrev pub missing : ℕ → List PassModel → ℕ
+missing adds [] = 0
+missing adds (p ∷ ps) = missing adds ps + (words_to adds - words_to (length p.walker.made))
+
+-- a worker that has made no add
+pub record IsFresh (pages : PagesModel) (w : Worker) : Type 0 where
+  pub pass : IsPassOf pages w.pass
+  pub cpu : w.pass.walker.walk.cpu ≡ w.cpu
+  pub made : w.pass.walker.made ≡ []
+  pub done : w.done ≡ 0
+
+-- a worker that has made the first ones of its adds, and counted them
+pub record IsDone (pages : PagesModel) (seed adds : ℕ) (w : Worker) : Type 0 where
+  pub pass : IsPassOf pages w.pass
+  pub cpu : w.pass.walker.walk.cpu ≡ w.cpu
+  pub made : map deed w.pass.walker.made ≡ done pages.frames (seed + w.cpu) w.done
+  pub few : w.done ≤ adds
+
+-- The keeper has a page of zeros to hand in, has handed in nothing else, and has the sum of what it took out.
+-- A frame was bound at most once for each stamp, and once before.
+pub record IsKept (pages : PagesModel) (k : Kept) : Type 0 where
+  pub keeper : IsKeeperOf pages k.keeper
+  pub spare : IsSomeAnd k.spare (λ page. page ≡ replicate 1024 0)
+  pub zeros : TookZeros k.keeper.holder.ended
+  pub sum : k.sum ≡ words_left k.keeper.holder.ended % 2 ^ 36
+  pub low : (f : ℕ) → current k.keeper.holder.watch f ≤ k.keeper.holder.watch.request + 1
+
+-- no stamp was raised, and none of the first frames was ever bound
+abbrev pub IsUnbound : ℕ → Watch → Type 0
+IsUnbound frames w = (w.request ≡ 0) × ((f : ℕ) → f < frames → slice_index w.doors f ≡ 1)
+
+-- At place i before the run: the worker of processor cpus - 1 - i, and behind all workers the keeper.
+abbrev pub RoleFresh : PagesModel → ℕ → ℕ → Role → Type 0
+RoleFresh pages cpus place (Works w) = IsFresh pages w × (w.cpu + place + 1 ≡ cpus)
+RoleFresh pages cpus place (Keeps k) = IsKept pages k × (k.keeper.holder.watch.request ≡ 0) × (place ≡ cpus)
+
+-- the same after the run
+abbrev pub RoleDone : PagesModel → ℕ → ℕ → ℕ → ℕ → Role → Type 0
+RoleDone pages seed adds cpus place (Works w) = IsDone pages seed adds w × (w.cpu + place + 1 ≡ cpus)
+RoleDone pages seed adds cpus place (Keeps k) = IsKept pages k × (place ≡ cpus)
+
+-- this holds of the role at each place
+abbrev pub EachRole : (ℕ → Role → Type 0) → List Role → Type 0
+EachRole ok roles = (place : ℕ) (d : Role) → place < length roles → ok place (slice_index_or roles place d)
+
+-- the sum of the first words of the first n pages
+abbrev pub first_words : ℕ → List (List ℕ) → ℕ
+first_words zero pages = 0
+first_words (suc n) pages = first_words n pages + slice_index (slice_index_or pages n []) 0

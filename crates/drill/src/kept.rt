@@ -1,0 +1,113 @@
+//! The keeper of the drill.
+ghost use Rattle.std.specs.Prelude.{◌≡◌, ◌+◌, ◌<◌, ◌≤◌};
+ghost use Rattle.live_doors.specs.Doors.{MayBind, OnlyNoted};
+ghost use Rattle.live_pages.specs.Models.{IsKeeperOf, SameButWatch};
+ghost use Rattle.live_pages.specs.Turns.{current, admitted};
+ghost use Rattle.drill.specs.Roles.{IsKept, IsUnbound};
+
+use crate::work::Size;
+use live_pages::{Keeper, LivePages};
+use mword::{Page, Word};
+use site_io::{Gate, Point};
+use std::sync::Wait;
+use std::thread;
+use std::thread::Threads;
+
+/// How often the keeper asks in a round.
+const QUESTIONS: u32 = 1024;
+
+/// How many rounds the keeper makes for each frame.
+const ROUNDS: u32 = 4;
+
+/// The keeper, the page of zeros that it binds next, and the sum of the first words of the pages that it took out.
+#[derive(Drop)]
+pub(crate) struct Kept {
+    pub(crate) keeper: Keeper,
+    pub(crate) spare: Option<Page>,
+    pub(crate) sum: Word,
+}
+
+// Binds frame f to the page of zeros, adds the first word of the page that it had to the sum, and clears that page.
+fn renew(pages: &LivePages, kept: &mut Kept, f: u32)
+    requires kept { IsKept pages.now kept.old }
+    requires frame { f < pages.now.frames }
+    requires may_bind { MayBind kept.old.keeper.holder.watch kept.old.keeper.cleared f }
+    requires low { current kept.old.keeper.holder.watch f ≤ kept.old.keeper.holder.watch.request }
+    requires few { kept.old.keeper.holder.watch.request ≤ 256 }
+    ensures kept { IsKept pages.now kept.new }
+    ensures request { kept.new.keeper.holder.watch.request ≡ kept.old.keeper.holder.watch.request }
+    ensures doors { kept.new.keeper.holder.watch.doors ≡ (admitted f kept.old.keeper.holder.watch).doors }
+{
+    let Some(page) = kept.spare.take() else {
+        unreachable!()
+    };
+    let mut old = pages.bind(&mut kept.keeper, f, page);
+    kept.sum = kept.sum.plus(old.get(0));
+    old.clear_from(0);
+    kept.spare = Some(old);
+}
+
+/// Binds every frame to a page of zeros, where none was ever bound.
+pub(crate) fn bind_all(pages: &LivePages, kept: &mut Kept, frames: u32)
+    requires kept { IsKept pages.now kept.old }
+    requires frames { frames ≡ pages.now.frames }
+    requires fresh { IsUnbound frames kept.old.keeper.holder.watch }
+    ensures kept { IsKept pages.now kept.new }
+    ensures request { kept.new.keeper.holder.watch.request ≡ kept.old.keeper.holder.watch.request }
+{
+    for f in 0..frames {
+        renew(pages, kept, f);
+    }
+}
+
+// Asks whether all is clear, for as often as is allowed, and lets other threads go on after each answer that it is not.
+fn ask(pages: &LivePages, keeper: &mut Keeper, stamp: u64)
+    requires { IsKeeperOf pages.now keeper.old }
+    ensures keeper { IsKeeperOf pages.now keeper.new }
+    ensures noted { OnlyNoted keeper.old.holder.watch keeper.new.holder.watch }
+    ensures same { SameButWatch keeper.old.holder keeper.new.holder }
+{
+    for _ in 0..QUESTIONS {
+        if pages.all_clear(keeper, stamp).is_ok() {
+            break;
+        }
+        thread::yield_now();
+    }
+}
+
+// Closes the door of frame f if it is admitted, raises a stamp and asks, and binds the frame anew where it may.
+fn round(pages: &LivePages, kept: &mut Kept, f: u32)
+    requires kept { IsKept pages.now kept.old }
+    requires frame { f < pages.now.frames }
+    requires few { kept.old.keeper.holder.watch.request < 256 }
+    ensures kept { IsKept pages.now kept.new }
+    ensures request { kept.new.keeper.holder.watch.request ≡ kept.old.keeper.holder.watch.request + 1 }
+{
+    if kept.keeper.is_admitted(f) {
+        pages.close_door(&mut kept.keeper, f);
+    }
+    let stamp = pages.raise(&mut kept.keeper);
+    ask(pages, &mut kept.keeper, stamp);
+    if kept.keeper.may_bind(f) {
+        renew(pages, kept, f);
+    }
+}
+
+/// Calls the gate once, and makes the keeper's rounds, in which the frames come in turn.
+pub(crate) fn keep<R: Threads + Wait + Sync, G: Gate>(
+    rt: &R,
+    pages: &LivePages,
+    size: Size,
+    gate: &G,
+    kept: &mut Kept,
+)
+    requires kept { IsKept pages.now kept.old }
+    requires fresh { kept.old.keeper.holder.watch.request ≡ 0 }
+    requires frames { (size.frames ≡ pages.now.frames) × (0 < size.frames) × (size.frames ≤ 64) }
+    ensures { IsKept pages.now kept.new }
+{
+    gate.hold(rt, size.cpus, Point::Other);
+    for r in 0..ROUNDS * size.frames {
+        round(pages, kept, r % size.frames);
+    }
+}

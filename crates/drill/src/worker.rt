@@ -1,0 +1,109 @@
+//! A processor of the drill.
+ghost use Rattle.std.specs.Prelude.{◌≡◌, ◌+◌, ◌^◌, ◌<◌, ◌≤◌, ◌∷◌, false, map, length, IsTrue};
+ghost use Rattle.live_pages.specs.declared.touch.Touch.TheVariants.{Add};
+ghost use Rattle.live_pages.specs.Models.{IsPassOf};
+ghost use Rattle.drill.specs.Work.{deed};
+ghost use Rattle.drill.specs.Roles.{IsFresh, IsDone};
+
+use crate::work::{Size, drawn, next_state, word_at};
+use live_pages::{LivePages, Pass, Touch};
+use mword::Word;
+use site_io::{Gate, Point};
+use std::sync::Wait;
+use std::thread;
+use std::thread::Threads;
+
+/// How often an add is tried.
+const TRIES: u32 = 64;
+
+/// A processor that adds, and how many of its adds were made.
+#[derive(Drop)]
+pub(crate) struct Worker {
+    pub(crate) pass: Pass,
+    pub(crate) cpu: u32,
+    pub(crate) done: u32,
+}
+
+// Drops the entries of the pass, and lets the keeper know.
+fn rest(pages: &LivePages, pass: &mut Pass)
+    requires { IsPassOf pages.now pass.old }
+    ensures pass { IsPassOf pages.now pass.new }
+    ensures cpu { pass.new.walker.walk.cpu ≡ pass.old.walker.walk.cpu }
+    ensures made { pass.new.walker.made ≡ pass.old.walker.made }
+{
+    pages.forget(pass);
+    pages.acknowledge(pass);
+}
+
+// Adds the word to the first one of the frame's page, if door and turn let it. At a closed door the pass forgets.
+fn try_once(pages: &LivePages, pass: &mut Pass, f: u32, word: Word) -> bool
+    requires pass { IsPassOf pages.now pass.old }
+    requires frame { f < pages.now.frames }
+    requires few { length pass.old.walker.made < 2 ^ 32 }
+    ensures pass { IsPassOf pages.now pass.new }
+    ensures cpu { pass.new.walker.walk.cpu ≡ pass.old.walker.walk.cpu }
+    ensures made { IsTrue result → map deed pass.new.walker.made ≡ (f, Add 0 word) ∷ map deed pass.old.walker.made }
+    ensures failed { result ≡ false → pass.new.walker.made ≡ pass.old.walker.made }
+{
+    if !pass.holds(f) && pages.fill(pass, f).is_err() {
+        rest(pages, pass);
+        return false;
+    }
+    pass.holds(f) && pages.touch(pass, f, Touch::Add(0, word)).is_ok()
+}
+
+// Tries an add for as often as is allowed, and lets other threads go on after each try that failed.
+fn try_add(pages: &LivePages, pass: &mut Pass, f: u32, word: Word) -> bool
+    requires pass { IsPassOf pages.now pass.old }
+    requires frame { f < pages.now.frames }
+    requires few { length pass.old.walker.made < 2 ^ 32 }
+    ensures pass { IsPassOf pages.now pass.new }
+    ensures cpu { pass.new.walker.walk.cpu ≡ pass.old.walker.walk.cpu }
+    ensures made { IsTrue result → map deed pass.new.walker.made ≡ (f, Add 0 word) ∷ map deed pass.old.walker.made }
+    ensures failed { result ≡ false → pass.new.walker.made ≡ pass.old.walker.made }
+{
+    for _ in 0..TRIES {
+        if try_once(pages, pass, f, word) {
+            return true;
+        }
+        thread::yield_now();
+    }
+    false
+}
+
+/// Makes the adds of the processor, in order, up to the first that can't be made. Calls the gate after each one, and
+/// rests after every eighth and at the end.
+pub(crate) fn work<R: Threads + Wait + Sync, G: Gate>(
+    rt: &R,
+    pages: &LivePages,
+    size: Size,
+    gate: &G,
+    worker: &mut Worker,
+)
+    requires fresh { IsFresh pages.now worker.old }
+    requires frames { (size.frames ≡ pages.now.frames) × (0 < size.frames) }
+    requires adds { size.adds ≤ 10000 }
+    ensures done { IsDone pages.now size.seed size.adds worker.new }
+    ensures cpu { worker.new.cpu ≡ worker.old.cpu }
+{
+    let Size {
+        frames,
+        adds,
+        seed,
+        ..
+    } = size;
+    let mut state = u64::from(seed) + u64::from(worker.cpu);
+    for i in 0..adds {
+        state = next_state(state);
+        let f = drawn(frames, state);
+        if !try_add(pages, &mut worker.pass, f, word_at(i)) {
+            break;
+        }
+        worker.done = i + 1;
+        gate.hold(rt, worker.cpu, Point::Answered(worker.cpu));
+        if i % 8 == 7 {
+            rest(pages, &mut worker.pass);
+        }
+    }
+    rest(pages, &mut worker.pass);
+}
