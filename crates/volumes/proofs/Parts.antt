@@ -1,9 +1,14 @@
-use Rattle.std.proofs.Common.{◌≡◌, ◌≢◌, ℕ, zero, suc, ◌<◌, ◌^◌, Bool, true, false, List, [], ◌∷◌, length, Option, None, Some, Result, Ok, Err, refl, sym, ap, ◌∙◌, arith, get_or, set, replicate, map, slice_get, IfSome, IfNone, OnOk, OnErr}
-use Rattle.std.proofs.lemmas.List.{map-set, get_or-map, length-map, length-set, length-replicate, set-get_or}
+use Rattle.std.proofs.Common.{◌≡◌, ◌≢◌, ℕ, zero, suc, ◌≤◌, ◌<◌, ◌^◌, Bool, true, false, List, [], ◌∷◌, ◌++◌, length, Option, None, Some, Result, Ok, Err, refl, sym, ap, ◌∙◌, arith, get_or, set, replicate, map, slice_get, IfSome, IfNone, OnOk, OnErr, sum_by}
+use Rattle.site_io.specs.Faults.{Rose}
+use Rattle.std.proofs.lemmas.List.Sums.{sum_by-set, get_or-le-sum_by}
+use Rattle.std.proofs.lemmas.List.{get_or-set_same, map-set, get_or-map, map-append, length-map, length-set, length-replicate, set-get_or}
+use Rattle.std.proofs.lemmas.List.Elements.{All-set, All-push}
 use Rattle.site_io.specs.declared.stream.Failed.{Failed}
 use Rattle.vtoc.specs.Vtoc.{Entry}
 use Rattle.volumes.specs.declared.Part.{Part}
-use Rattle.volumes.specs.Volumes.{HasParts, KeepsOthers}
+use Rattle.volumes.specs.declared.drive.FailLine.{FailLine}
+use Rattle.volumes.specs.FailLine.{HasFewFaults}
+use Rattle.volumes.specs.Volumes.{Vols, HasParts, HaveFewFaults, KeepsOthers}
 
 -- a write of what is there already
 set_same : {X : Type 0} (xs : List X) (v : ℕ) (x : X) → x ≡ get_or xs v x → set xs v x ≡ xs
@@ -83,3 +88,49 @@ parts_made pages parts drives records vtocs few ds rs vs =
       sizes = rw (ds, rs) (sizes_made pages parts);
       tables = ap length vs ∙ length-map parts (λ (part : Part _). replicate part.entries None) ∙ sym count;
     }
+
+-- one drive is written, and a meaning of it is as before
+pub same_with : {D X : Type 0} (t : D → X) (drives : List D) (v : ℕ) (x y : D) → x ≡ get_or drives v x → t y ≡ t x → map t (set drives v y) ≡ map t drives
+same_with t drives v x y read same =
+    map-set t drives v y ∙ ap (set (map t drives) v) same ∙ sym (map-set t drives v x) ∙ ap (map t) (set_same drives v x read)
+
+-- its count of faults is higher, and so the sum of all
+pub sum_grows : {D : Type 0} (t : D → ℕ) (drives : List D) (v : ℕ) (x y : D) → v < length drives → x ≡ get_or drives v x → t x ≤ t y
+    → sum_by t drives ≤ sum_by t (set drives v y)
+sum_grows t drives v x y lt read more = let step = sum_by-set t drives v y x lt in let same = ap t read in omega (arith, step, same, more)
+
+pub sum_rose : {D : Type 0} (t : D → ℕ) (result : Result (Unit {0}) Failed) (drives : List D) (v : ℕ) (x y : D) → v < length drives → x ≡ get_or drives v x
+    → OnErr result (Rose (t x) (t y)) → OnErr result (Rose (sum_by t drives) (sum_by t (set drives v y)))
+sum_rose t (Ok u) drives v x y lt read rose = tt
+sum_rose t (Err e) drives v x y lt read rose =
+    let step = sum_by-set t drives v y x lt in
+    let same = ap t read in
+    let part = get_or-le-sum_by t drives v x lt in
+    omega (arith, step, same, part, rose)
+
+pub its_rose : {D : Type 0} (t : D → ℕ) (result : Result (Unit {0}) Failed) (drives : List D) (v : ℕ) (x y : D) → v < length drives → x ≡ get_or drives v x
+    → OnErr result (Rose (t x) (t y)) → OnErr result (Rose (get_or (map t drives) v 0) (get_or (map t (set drives v y)) v 0))
+its_rose t (Ok u) drives v x y lt read rose = tt
+its_rose t (Err e) drives v x y lt read rose =
+    let before : get_or (map t drives) v 0 ≡ t x = get_or-map t drives v x 0 lt ∙ sym (ap t read) in
+    let now : get_or (map t (set drives v y)) v 0 ≡ t y =
+    get_or-map t (set drives v y) v y 0 (rw (length-set drives v y) lt) ∙ ap t (get_or-set_same drives v y y lt) in
+    rw (before, now) rose
+
+-- its place in the list
+pub drives_within : {D : Type 0} (drives : List D) (records : List (List Bool)) (vtocs : List (List (Option Entry))) (vols : Vols D) (v : ℕ)
+    → record { drives = drives; records = records; vtocs = vtocs } ≡ vols → v < length vols.drives → v < length drives
+drives_within drives records vtocs vols v view lt = let same = ap (λ (vs : Vols _). length vs.drives) view in omega (arith, same, lt)
+
+pub few_with : {D : Type 0} (plan : D → Option (List FailLine)) (faults : D → ℕ) (drives : List D) (v : ℕ) (y : D) → HaveFewFaults plan faults drives
+    → HasFewFaults (plan y) (faults y) → HaveFewFaults plan faults (set drives v y)
+few_with plan faults drives v y all few = All-set (λ d. HasFewFaults (plan d) (faults d)) drives v y few all
+
+pub few_more : {D : Type 0} (plan : D → Option (List FailLine)) (faults : D → ℕ) (drives now : List D) (d : D) → now ≡ drives ++ d ∷ [] → HaveFewFaults plan faults drives
+    → HasFewFaults (plan d) (faults d) → HaveFewFaults plan faults now
+few_more plan faults drives now d is all few = rw is (All-push (λ d. HasFewFaults (plan d) (faults d)) drives d all few)
+
+-- one more part is made
+pub made_more : {X Y : Type 0} (f : X → Y) (xs : List X) (x : X) (ys now : List Y) (y : Y) → ys ≡ map f xs → now ≡ ys ++ y ∷ [] → y ≡ f x
+    → now ≡ map f (xs ++ x ∷ [])
+made_more f xs x ys now y all is one = rw (is, all, one) (sym (map-append f xs (x ∷ [])))

@@ -1,4 +1,4 @@
-use Rattle.std.specs.Prelude.{ℕ, ◌+◌, List, true, false, slice_set}
+use Rattle.std.specs.Prelude.{ℕ, ◌+◌, List, true, false, slice_set, replicate}
 use Rattle.site_io.specs.Faults.{counted}
 use Rattle.volumes.specs.declared.drive.FailLine.{FailLine}
 use Rattle.volumes.specs.FailLine.{named_calls}
@@ -9,6 +9,10 @@ pub record DriveState : Type 0 where
   pub fails : List FailLine
   pub reads : ℕ
   pub writes : ℕ
+
+-- a drive of as many pages of zeros, which no call has reached
+abbrev pub fresh_drive : ℕ → List FailLine → DriveState
+fresh_drive records fails = record { pages = replicate records (replicate 1024 0); fails = fails; reads = 0; writes = 0 }
 
 -- the faults so far are the calls so far that the lines name
 abbrev pub faults_of : DriveState → ℕ

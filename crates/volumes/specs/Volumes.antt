@@ -1,6 +1,8 @@
-use Rattle.std.specs.Prelude.{◌≡◌, ◌≢◌, ◌<◌, ◌^◌, ℕ, Bool, false, List, [], length, replicate, map, Option, None, slice_index_or, slice_set, slice_get}
+use Rattle.std.specs.Prelude.{◌≡◌, ◌≢◌, ◌<◌, ◌^◌, ℕ, Bool, false, List, [], length, replicate, map, Option, None, slice_index_or, slice_set, slice_get, count_by, All}
 use Rattle.vtoc.specs.Vtoc.{Entry}
 use Rattle.volumes.specs.declared.Part.{Part}
+use Rattle.volumes.specs.declared.drive.FailLine.{FailLine}
+use Rattle.volumes.specs.FailLine.{HasFewFaults}
 
 -- the volumes, each with its drive, the flags of its records in use and the entries of its VTOC (Organick 1972)
 pub record Vols (D : Type 0) : Type 0 where
@@ -12,6 +14,10 @@ pub record Vols (D : Type 0) : Type 0 where
 abbrev pub records_at : {D : Type 0} → Vols D → ℕ → List Bool
 records_at vols v = slice_index_or vols.records v []
 
+-- how many of them are in use
+abbrev pub used_at : {D : Type 0} → Vols D → ℕ → ℕ
+used_at vols v = count_by (λ flag. flag) (records_at vols v)
+
 -- the entries of volume v
 abbrev pub vtoc_at : {D : Type 0} → Vols D → ℕ → List (Option Entry)
 vtoc_at vols v = slice_index_or vols.vtocs v []
@@ -20,10 +26,23 @@ vtoc_at vols v = slice_index_or vols.vtocs v []
 abbrev pub pages_at : {D : Type 0} → (D → List (List ℕ)) → Vols D → ℕ → List (List ℕ)
 pages_at pages vols v = slice_index_or (map pages vols.drives) v []
 
--- the volumes after the flags of volume v have changed, and after its VTOC has
+-- the count of faults of the drive of volume v, where `faults` says it of a drive
+abbrev pub faults_at : {D : Type 0} → (D → ℕ) → List D → ℕ → ℕ
+faults_at faults drives v = slice_index_or (map faults drives) v 0
+
+-- where the plan of a drive is told, its faults are few
+abbrev pub HaveFewFaults : {D : Type 0} → (D → Option (List FailLine)) → (D → ℕ) → List D → Type 0
+HaveFewFaults plan faults drives = All (λ d. HasFewFaults (plan d) (faults d)) drives
+
+-- the volumes after the flags of volume v have changed
 abbrev pub with_records : {D : Type 0} → Vols D → ℕ → List Bool → Vols D
 with_records vols v flags = record vols { records = slice_set vols.records v flags }
 
+-- the volumes after record r of volume v came into use, or went out of it
+abbrev pub with_record_used : {D : Type 0} → Vols D → ℕ → ℕ → Bool → Vols D
+with_record_used vols v r flag = with_records vols v (slice_set (records_at vols v) r flag)
+
+-- the volumes after the VTOC of volume v has changed
 abbrev pub with_vtoc : {D : Type 0} → Vols D → ℕ → List (Option Entry) → Vols D
 with_vtoc vols v entries = record vols { vtocs = slice_set vols.vtocs v entries }
 

@@ -2,6 +2,7 @@ ghost use Rattle.std.specs.Prelude.{◌≡◌, ◌≤◌, ◌<◌, ◌↔◌, �
 ghost use Rattle.std.specs.List.{list_any};
 ghost use Rattle.site_io.specs.Faults.{Rose};
 ghost use Rattle.volumes.specs.FailLine.{names, names_next, HasFewFaults};
+ghost use Rattle.volumes.specs.CoreDrive.{fresh_drive};
 
 use crate::NoMemory;
 use crate::drive::{Drive, FailLine};
@@ -35,7 +36,7 @@ impl CoreDrive {
     /// A drive of `records` pages of zeros, of which the calls that `fails` names fail. `NoMemory` is want of memory.
     /// It takes 8 KiB for each page.
     pub fn new(alloc: Global, records: u32, fails: Vec<FailLine>) -> Result<CoreDrive, NoMemory>
-        ensures { IfOk result (λ d. d ≡ record { pages = replicate records (replicate 1024 0); fails = fails.items; reads = 0; writes = 0 }) }
+        ensures { IfOk result (λ d. d ≡ fresh_drive records fails.items) }
     {
         let pages = zero_pages(alloc, records)?;
         Ok(CoreDrive {
@@ -83,11 +84,12 @@ fn some_names(lines: &[FailLine], write: bool, number: u64) -> bool
 fn line_names(line: FailLine, write: bool, number: u64) -> bool
     ensures { result ≡ names write number line }
 {
+    let first = u64::from(line.number);
     line.write == write
         && if line.onward {
-            line.number <= number
+            first <= number
         } else {
-            line.number == number
+            first == number
         }
 }
 

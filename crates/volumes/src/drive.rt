@@ -11,7 +11,7 @@ pub struct FailLine {
     /// Whether it names writes, and not reads.
     pub write: bool,
     /// The number of the call, counted from 1 among the calls of its kind.
-    pub number: u64,
+    pub number: u32,
     /// Whether it names every later call too.
     pub onward: bool,
 }

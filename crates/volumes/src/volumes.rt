@@ -1,8 +1,9 @@
-ghost use Rattle.std.specs.Prelude.{◌≡◌, ◌≤◌, ◌<◌, ℕ, Bool, true, false, List, [], ◌∷◌, ◌++◌, Option, Some, length, map, sum_by, count_by, All, slice_get, slice_index_or, slice_set, IfOk, IfSome, IfNone, OnOk, OnErr};
+ghost use Rattle.std.specs.Prelude.{◌≡◌, ◌≤◌, ◌<◌, ◌+◌, ℕ, Bool, true, false, List, [], ◌∷◌, ◌++◌, Option, Some, length, map, sum_by, All, slice_get, slice_index_or, IfOk, IfSome, IfNone, OnOk, OnErr};
 ghost use Rattle.std.specs.Borrow.{sem};
 ghost use Rattle.site_io.specs.Faults.{Rose};
 ghost use Rattle.record_map.specs.Bitmap.{in_use, least_free, IsLeastFree};
-ghost use Rattle.volumes.specs.Volumes.{records_at, vtoc_at, pages_at, with_records, with_page, made_of, HasParts, KeepsOthers, KeepsTables};
+ghost use Rattle.volumes.specs.Volumes.{records_at, used_at, vtoc_at, pages_at, faults_at, with_record_used, with_page};
+ghost use Rattle.volumes.specs.Volumes.{made_of, HasParts, HaveFewFaults, KeepsOthers, KeepsTables};
 ghost use Rattle.volumes.specs.Lending.{lends_vtoc};
 
 use crate::drive::Drive;
@@ -23,14 +24,15 @@ pub struct Volumes<D: Drive> {
 }
 
 impl<D: Drive> Model for Volumes<D> {
-    ghost use Rattle.std.specs.Prelude.{map, vec_len};
-    ghost use Rattle.volumes.specs.Volumes.{Vols, HasParts};
+    ghost use Rattle.std.specs.Prelude.{map};
+    ghost use Rattle.volumes.specs.Volumes.{Vols, HasParts, HaveFewFaults};
 
     ghost Value = { Vols D };
 
     ghost view = { λ v. record { drives = v.drives.items; records = v.records.items; vtocs = v.vtocs.items } };
 
-    ghost invariant = { λ v. HasParts (map D.pages v.drives.items) v.records.items v.vtocs.items };
+    ghost invariant = { λ v. HasParts (map D.pages v.drives.items) v.records.items v.vtocs.items
+        × HaveFewFaults D.plan D.faults v.drives.items };
 }
 
 impl<D: Drive> Volumes<D> {
@@ -48,7 +50,8 @@ impl<D: Drive> Volumes<D> {
         let mut records = Vec::new(alloc);
         let mut vtocs = Vec::new(alloc);
         for part in parts {
-            let map = RecordMap::new(alloc, part.drive.size())?;
+            let size = part.drive.size();
+            let map = RecordMap::new(alloc, size)?;
             add(&mut records, map)?;
             let vtoc = Vtoc::new(alloc, part.entries)?;
             add(&mut vtocs, vtoc)?;
@@ -65,6 +68,7 @@ impl<D: Drive> Volumes<D> {
     pub fn count(&self) -> u32
         ensures count { result ≡ length self.now.drives }
         ensures parts { HasParts (map D.pages self.now.drives) self.now.records self.now.vtocs }
+        ensures few { HaveFewFaults D.plan D.faults self.now.drives }
     {
         self.drives.len() as u32
     }
@@ -78,7 +82,8 @@ impl<D: Drive> Volumes<D> {
         ensures none { IfNone result (All (λ flag. flag ≡ true) (records_at self.old v)) }
 
         // What becomes of the volumes.
-        ensures taken { IfSome result (λ r. self.new ≡ with_records self.old v (slice_set (records_at self.old v) r true)) }
+        ensures taken { IfSome result (λ r. self.new ≡ with_record_used self.old v r true) }
+        ensures count { IfSome result (λ _. used_at self.new v ≡ used_at self.old v + 1) }
         ensures same { IfNone result (self.new ≡ self.old) }
     {
         self.records[v as usize].withdraw()
@@ -89,7 +94,8 @@ impl<D: Drive> Volumes<D> {
     pub fn deposit(&mut self, v: u32, r: u32)
         requires volume { v < length self.old.drives }
         requires used { in_use (records_at self.old v) r ≡ true }
-        ensures { self.new ≡ with_records self.old v (slice_set (records_at self.old v) r false) }
+        ensures records { self.new ≡ with_record_used self.old v r false }
+        ensures count { used_at self.new v + 1 ≡ used_at self.old v }
     {
         self.records[v as usize].deposit(r);
     }
@@ -97,7 +103,7 @@ impl<D: Drive> Volumes<D> {
     /// How many records of volume `v` are in use. It reads a count. (Source: own.)
     pub fn taken(&self, v: u32) -> u32
         requires { v < length self.now.drives }
-        ensures { result ≡ count_by (λ flag. flag) (records_at self.now v) }
+        ensures { result ≡ used_at self.now v }
     {
         self.records[v as usize].taken()
     }
@@ -136,8 +142,8 @@ impl<D: Drive> Volumes<D> {
         &mut self.vtocs[v as usize]
     }
 
-    /// Reads record `r` of volume `v` into `to`. After `Failed`, `to` is as before; it comes only where the sum of the
-    /// drives' faults rose. It costs one read of the drive. (Source: Organick 1972.)
+    /// Reads record `r` of volume `v` into `to`. After `Failed`, `to` is as before; it comes only where the count of that
+    /// drive's faults rose, and so the sum of all. It costs one read of the drive. (Source: Organick 1972.)
     #[tactic(auto, using(crate::proofs::Drives::one_drive))]
     pub fn read_page(&mut self, v: u32, r: u32, to: &mut Page) -> Result<(), Failed>
         requires volume { v < length self.old.drives }
@@ -148,6 +154,7 @@ impl<D: Drive> Volumes<D> {
 
         // What becomes of the rest.
         ensures rose { OnErr result (Rose (sum_by D.faults self.old.drives) (sum_by D.faults self.new.drives)) }
+        ensures its { OnErr result (Rose (faults_at D.faults self.old.drives v) (faults_at D.faults self.new.drives v)) }
         ensures grows { sum_by D.faults self.old.drives ≤ sum_by D.faults self.new.drives }
         ensures plans { map D.plan self.new.drives ≡ map D.plan self.old.drives }
         ensures places { map D.places self.new.drives ≡ map D.places self.old.drives }
@@ -158,8 +165,8 @@ impl<D: Drive> Volumes<D> {
         self.drives[v as usize].read_page(r, to)
     }
 
-    /// Makes record `r` of volume `v` the page `from`. After `Failed` no page has changed; it comes only where the sum
-    /// of the drives' faults rose. It costs one write of the drive. (Source: Organick 1972.)
+    /// Makes record `r` of volume `v` the page `from`. After `Failed` no page has changed; it comes only where the count
+    /// of that drive's faults rose, and so the sum of all. It costs one write of the drive. (Source: Organick 1972.)
     #[tactic(auto, using(crate::proofs::Drives::one_drive))]
     pub fn write_page(&mut self, v: u32, r: u32, from: &Page) -> Result<(), Failed>
         requires volume { v < length self.old.drives }
@@ -169,6 +176,7 @@ impl<D: Drive> Volumes<D> {
 
         // What becomes of the rest.
         ensures rose { OnErr result (Rose (sum_by D.faults self.old.drives) (sum_by D.faults self.new.drives)) }
+        ensures its { OnErr result (Rose (faults_at D.faults self.old.drives v) (faults_at D.faults self.new.drives v)) }
         ensures grows { sum_by D.faults self.old.drives ≤ sum_by D.faults self.new.drives }
         ensures plans { map D.plan self.new.drives ≡ map D.plan self.old.drives }
         ensures places { map D.places self.new.drives ≡ map D.places self.old.drives }

@@ -4,6 +4,8 @@ use Rattle.volumes.proofs.Parts.{parts_with_records}
 use Rattle.volumes.proofs.volumes.Volumes.deposit.Goals as goal
 
 pub invariant_of-self : goal.invariant_of-self
-invariant_of-self g c =
-    parts_with_records _ _ _ c.args.v c.index_mut.result.now _ c.self.invariant c.index_mut.ensures.value
-    (ap length c.deposit.ensures ∙ length-set c.index_mut.result.now c.args.r false)
+invariant_of-self g c = (
+  parts_with_records _ _ _ c.args.v c.index_mut.result.now _ c.self.invariant.0 c.index_mut.ensures.value
+      (ap length c.deposit.ensures.flags ∙ length-set c.index_mut.result.now c.args.r false),
+  c.self.invariant.1,
+)

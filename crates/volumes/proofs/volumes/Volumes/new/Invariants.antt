@@ -1,4 +1,5 @@
 use Rattle.std.proofs.Common.{◌≡◌, ◌+◌, length, map, replicate, false, None}
+use Rattle.volumes.specs.Volumes.{HaveFewFaults}
 use Rattle.volumes.proofs.volumes.Volumes.new.Given as goal
 
 abbrev pub invariant-loop-part : goal.invariant-loop-part
@@ -7,3 +8,4 @@ invariant-loop-part g l =
     × (l.records.items ≡ map (λ part. replicate (length (g.D.Drive.pages part.drive)) false) l.yielded)
     × (l.vtocs.items ≡ map (λ part. replicate part.entries None) l.yielded)
     × (length l.yielded + l.part-iterator.rest.len ≡ length l.fn.parts.items)
+    × HaveFewFaults g.D.Drive.plan g.D.Drive.faults l.drives.items
