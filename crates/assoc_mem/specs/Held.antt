@@ -41,6 +41,13 @@ frame_of held uid page = option_map (λ entry. entry.frame) (page_of held uid pa
 abbrev pub filled : {X : Type 0} → List X → X → List X
 filled held entry = (if length held == 16 then drop 1 held else held) ++ entry ∷ []
 
+-- what is held after a descriptor is filled in, and after a page table word is
+abbrev pub with_seg : Held → HeldSeg → Held
+with_seg held entry = record held { segs = filled held.segs entry }
+
+abbrev pub with_page : Held → HeldPage → Held
+with_page held entry = record held { pages = filled held.pages entry }
+
 -- whether a descriptor is among what is to be dropped: everything, the page table word of a frame, or all entries of a
 -- segment
 abbrev pub names_seg : What → HeldSeg → Bool

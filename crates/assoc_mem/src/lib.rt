@@ -5,10 +5,10 @@
 //! of one kind until one fits. A fill into a full kind moves its entries down by one. `clear` copies what stays.
 #![tactic(auto)]
 
-ghost use Rattle.std.specs.Prelude.{◌≡◌, ◌≢◌, ◌↔◌, None, All, IsNone, filter, not};
+ghost use Rattle.std.specs.Prelude.{◌≡◌, ◌≢◌, ◌≤◌, ◌↔◌, None, length, All, IsNone, filter, not};
 ghost use Rattle.std.specs.List.{find};
 ghost use Rattle.std.specs.Option.{option_map};
-ghost use Rattle.assoc_mem.specs.Held.{nothing_held, is_number, is_page, seg_of, page_of, frame_of, filled, cleared, names_seg, names_page};
+ghost use Rattle.assoc_mem.specs.Held.{nothing_held, is_number, is_page, seg_of, page_of, frame_of, with_seg, with_page, cleared, names_seg, names_page};
 
 use arrayvec::ArrayVec;
 use mnames::Mode;
@@ -92,6 +92,7 @@ impl Assoc {
     pub fn find_sdw(&self, number: u32) -> Option<HeldSeg>
         ensures entry { result ≡ seg_of self.now number }
         ensures none { IsNone result ↔ All (λ entry. entry.number ≢ number) self.now.segs }
+        ensures most { length self.now.segs ≤ 16 }
     {
         find_seg(&self.segs, number)
     }
@@ -100,6 +101,7 @@ impl Assoc {
     pub fn find_ptw(&self, uid: u32, page: u32) -> Option<u32>
         ensures frame { result ≡ frame_of self.now uid page }
         ensures none { IsNone result ↔ All (λ entry. (entry.uid ≡ uid → entry.page ≢ page)) self.now.pages }
+        ensures most { length self.now.pages ≤ 16 }
     {
         find_page(&self.pages, uid, page)
     }
@@ -107,7 +109,7 @@ impl Assoc {
     /// Fills in a descriptor. Where 16 are held, the one that was filled in longest ago is dropped.
     pub fn fill_sdw(&mut self, e: HeldSeg)
         requires { seg_of self.old e.number ≡ None }
-        ensures { self.new ≡ record self.old { segs = filled self.old.segs e } }
+        ensures { self.new ≡ with_seg self.old e }
     {
         if self.segs.is_full() {
             self.segs.remove(0);
@@ -118,7 +120,7 @@ impl Assoc {
     /// Fills in a page table word. Where 16 are held, the one that was filled in longest ago is dropped.
     pub fn fill_ptw(&mut self, e: HeldPage)
         requires { page_of self.old e.uid e.page ≡ None }
-        ensures { self.new ≡ record self.old { pages = filled self.old.pages e } }
+        ensures { self.new ≡ with_page self.old e }
     {
         if self.pages.is_full() {
             self.pages.remove(0);
@@ -215,14 +217,12 @@ mod tests {
     fn drops_what_is_named_and_the_oldest(rt: HostRuntime) {
         let mut held = Assoc::new();
         for page in 0..17 {
-            if held.find_ptw(3, page).is_none() {
-                let frame = 100 + page;
-                held.fill_ptw(HeldPage {
-                    uid: 3,
-                    page,
-                    frame,
-                });
-            }
+            assert!(rt; held.find_ptw(3, page).is_none());
+            held.fill_ptw(HeldPage {
+                uid: 3,
+                page,
+                frame: 100 + page,
+            });
         }
         assert_eq!(rt; held.find_ptw(3, 0), None);
         assert_eq!(rt; held.find_ptw(3, 1), Some(101));

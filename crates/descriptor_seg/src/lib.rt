@@ -4,7 +4,8 @@
 //! Costs: `new` takes memory once, for all 256 words. `get` reads one word, and `connect` and `cut` write one.
 #![tactic(auto)]
 
-ghost use Rattle.std.specs.Prelude.{◌≡◌, ◌<◌, IfOk};
+ghost use Rattle.std.specs.Prelude.{◌≡◌, ◌≢◌, ◌<◌, ℕ, length, IfOk};
+ghost use Rattle.descriptor_seg.specs.declared.Sdw.TheVariants.{Fault, Present};
 ghost use Rattle.descriptor_seg.specs.Descriptors.{sdw_at, all_faults, connected, cut_off};
 
 use mnames::Mode;
@@ -70,7 +71,8 @@ impl DescSeg {
     /// The word of segment number `n`.
     pub fn get(&self, n: u32) -> Sdw
         requires { n < 256 }
-        ensures { result ≡ sdw_at self.now n }
+        ensures word { result ≡ sdw_at self.now n }
+        ensures size { length self.now ≡ 256 }
     {
         self.words[n as usize]
     }
@@ -79,7 +81,9 @@ impl DescSeg {
     /// `pages` pages.
     pub fn connect(&mut self, n: u32, aste: u32, mode: Mode, pages: u32)
         requires { n < 256 }
-        ensures { self.new ≡ connected self.old n aste mode pages }
+        ensures words { self.new ≡ connected self.old n aste mode pages }
+        ensures word { sdw_at self.new n ≡ Present aste mode pages }
+        ensures others { (m : ℕ) → m ≢ n → sdw_at self.new m ≡ sdw_at self.old m }
     {
         self.words[n as usize] = Sdw::Present { aste, mode, pages };
     }
@@ -87,7 +91,9 @@ impl DescSeg {
     /// Segment number `n` faults from now on.
     pub fn cut(&mut self, n: u32)
         requires { n < 256 }
-        ensures { self.new ≡ cut_off self.old n }
+        ensures words { self.new ≡ cut_off self.old n }
+        ensures word { sdw_at self.new n ≡ Fault }
+        ensures others { (m : ℕ) → m ≢ n → sdw_at self.new m ≡ sdw_at self.old m }
     {
         self.words[n as usize] = Sdw::Fault;
     }

@@ -141,3 +141,10 @@ once_forgotten kst n once lt a b u e f =
           let here : get_or (set kst n None) n None ≡ Some u = subst (λ (k : ℕ). get_or (set kst n None) k None ≡ Some u) at_a e in cc)
       | inr off_a ↦ sym (get_or-set_other kst n a None None off_a) ∙ e
     ]
+
+-- what was known stays so where an empty place is filled
+pub kept_given : (kst : List (Option ℕ)) (n uid : ℕ) → uid_of kst n ≡ None → (m v : ℕ) → uid_of kst m ≡ Some v → uid_of (set kst n (Some uid)) m ≡ Some v
+kept_given kst n uid empty m v known = elim (cases_eq m n) [
+  | inl e ↦ (let none : uid_of kst m ≡ None = rw e empty in absurd (cc))
+  | inr ne ↦ get_or-set_other kst n m (Some uid) None ne ∙ known
+]

@@ -80,6 +80,8 @@ impl Kst {
         ensures full { IsNone result ↔ ((known_count self.old ≡ 256) × IsUnknown self.old uid) }
         ensures within { IfSome result (λ n. n < 256) }
         ensures once { HasOneNumberEach self.new }
+        ensures size { length self.new ≡ length self.old }
+        ensures kept { (n v : ℕ) → uid_of self.old n ≡ Some v → uid_of self.new n ≡ Some v }
     {
         if let Some(number) = place_of(&self.places, uid) {
             return Some(number as u32);
@@ -95,6 +97,8 @@ impl Kst {
     pub fn uid_of(&self, n: u32) -> Option<u32>
         ensures uid { result ≡ uid_of self.now n }
         ensures within { IsSome result → n < 256 }
+        ensures size { length self.now ≡ 256 }
+        ensures once { HasOneNumberEach self.now }
     {
         *self.places.get(n as usize)?
     }
@@ -103,6 +107,7 @@ impl Kst {
     pub fn forget(&mut self, n: u32)
         requires known { IsSome (uid_of self.old n) }
         ensures places { self.new ≡ without_number self.old n }
+        ensures once { HasOneNumberEach self.new }
     {
         self.places[n as usize] = None;
     }

@@ -45,9 +45,14 @@ pub struct PageTable {
 }
 
 impl Model for PageTable {
+    ghost use Rattle.std.specs.Prelude.{◌<◌, ◌^◌, List, length};
+    ghost use Rattle.page_table.specs.declared.Ptw.{Ptw};
+
     ghost Value = { List Ptw };
 
     ghost view = { λ table. table.words.items };
+
+    ghost invariant = { λ table. length table.words.items < 2 ^ 32 };
 }
 
 impl PageTable {
@@ -60,6 +65,13 @@ impl PageTable {
     {
         let words = vec![in alloc; Ptw::Null; size as usize]?;
         Ok(PageTable { words })
+    }
+
+    /// How many words there are, one for each page. It reads a number. (Source: Bensoussan, Clingen and Daley 1972.)
+    pub fn size(&self) -> u32
+        ensures { result ≡ length self.now }
+    {
+        self.words.len() as u32
     }
 
     /// The word of page `p`. It costs one read. (Source: Bensoussan, Clingen and Daley 1972.)
@@ -97,6 +109,7 @@ mod tests {
     #[test]
     fn keeps_a_word_for_each_page(rt: HostRuntime) -> Result<(), Fail> {
         let mut table = PageTable::new(rt.alloc(), 3)?;
+        assert!(rt; table.size() == 3);
         assert_eq!(rt; table.get(2), Ptw::Null);
         table.set(0, Ptw::Out(7));
         table.set(2, Ptw::Here(4));

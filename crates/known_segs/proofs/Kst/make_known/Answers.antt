@@ -1,7 +1,7 @@
 use Rattle.std.proofs.Common.{◌≡◌, length, subst, sym, ◌∙◌, List, ℕ, Option, Some, None}
 use Rattle.std.proofs.lemmas.List.{length-set}
 use Rattle.known_segs.specs.Known.{number_of, least_free}
-use Rattle.known_segs.proofs.Numbers.{known_stays, known_is_some, given_is_some, none_is_full, once_given, free_some, number_none}
+use Rattle.known_segs.proofs.Numbers.{known_stays, known_is_some, given_is_some, none_is_full, once_given, free_some, number_none, kept_given}
 use Rattle.known_segs.proofs.Kst.make_known.Goals as goal
 
 pub returns-in-Some-clause-places : goal.returns-in-Some-clause-places
@@ -54,3 +54,10 @@ returns-clause-once c =
     once_given _ _ _ c.self.invariant.1
     (free_some _ _ (sym (subst (λ (kst : List (Option ℕ)). Some c.in_ok-number.number ≡ least_free kst) same_2 least))).0
     (number_none _ _ (sym (subst (λ (kst : List (Option ℕ)). None ≡ number_of kst c.args.uid) same unknown)))
+
+pub returns-clause-kept : goal.returns-clause-kept
+returns-clause-kept c =
+    let same : c.deref-2.result.now ≡ c.self.inside.places.items = c.deref-2.ensures.value in
+    let least : Some c.in_ok-number.number ≡ least_free c.deref-2.result.now = sym c.in_ok-number.was ∙ c.least_free.ensures.number in
+    let empty = (free_some _ _ (sym (subst (λ (kst : List (Option ℕ)). Some c.in_ok-number.number ≡ least_free kst) same least))).1 in
+    rw (← c.self.view_is) (kept_given c.self.inside.places.items c.in_ok-number.number c.args.uid empty)
