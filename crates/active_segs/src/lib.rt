@@ -134,6 +134,8 @@ impl Ast {
         ensures least { IfSome result (λ place. IsLeastFree self.now pool place) }
         ensures within { IfSome result (λ place. place < length self.now.entries) }
         ensures full { IsNone result ↔ IsFull self.now pool }
+        ensures tree { IsTree self.now.entries }
+        ensures shape { HasShape self.now }
     {
         let offset = self.used[pool as usize].first_free()?;
         Some(pools::first_of(&self.sizes, pool) + offset)
@@ -197,7 +199,9 @@ impl Ast {
         requires free { entry_at self.old.entries place ≡ None }
         requires inactive { (q : ℕ) → uid_at self.old.entries q ≢ Some uid }
         requires superior { ForSome superior (IsActive self.old.entries) }
-        ensures { self.new ≡ activated self.old place uid superior }
+        ensures active { self.new ≡ activated self.old place uid superior }
+        ensures tree { IsTree self.new.entries }
+        ensures shape { HasShape self.new }
     {
         let above = counts::place_of_superior(&self.index, superior);
         counts::count_up(&mut self.inferiors, above);
@@ -213,7 +217,9 @@ impl Ast {
         requires place { place < length self.old.entries }
         requires leaf { HasNoInferior self.old.entries place }
         requires away { All IsAway (table_at self.old.tables place) }
-        ensures { self.new ≡ deactivated self.old place }
+        ensures inactive { self.new ≡ deactivated self.old place }
+        ensures tree { IsTree self.new.entries }
+        ensures shape { HasShape self.new }
     {
         self.tables[place as usize].clear();
         let Some(entry) = self.entries[place as usize] else {
@@ -230,7 +236,9 @@ impl Ast {
     /// The page table of the place.
     pub fn table(&self, place: u32) -> &PageTable
         requires { place < length self.now.entries }
-        ensures { result.now ≡ table_at self.now.tables place }
+        ensures words { result.now ≡ table_at self.now.tables place }
+        ensures tree { IsTree self.now.entries }
+        ensures shape { HasShape self.now }
     {
         &self.tables[place as usize]
     }
@@ -247,7 +255,9 @@ impl Ast {
     /// The uid of what is active in the place. `None` exactly where nothing is.
     pub fn uid_at(&self, place: u32) -> Option<u32>
         requires { place < length self.now.entries }
-        ensures { result ≡ uid_at self.now.entries place }
+        ensures uid { result ≡ uid_at self.now.entries place }
+        ensures tree { IsTree self.now.entries }
+        ensures shape { HasShape self.now }
     {
         match self.entries[place as usize] {
             Some(entry) => Some(entry.uid),

@@ -34,3 +34,6 @@ invariant_of-self c =
     (subst (λ (v : ActiveSegs). (q : ℕ) → uid_at v.entries q ≢ Some c.args.uid) (sym c.self.view_is) c.requires.inactive)
     (λ s h. subst (λ (v : ActiveSegs). IsActive v.entries s) (sym c.self.view_is) (c.requires.superior s h))
     c.pool_of-pool.ensures c.place_of_superior-above.ensures c.mark.ensures c.count_up.ensures c.insert.ensures.sets c.insert.ensures.count c.insert.ensures.room
+
+pub returns-clause-tree : goal.returns-clause-tree
+returns-clause-tree c = (invariant_of-self c).tree

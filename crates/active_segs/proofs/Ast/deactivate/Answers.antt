@@ -22,3 +22,6 @@ invariant_of-self-2 c =
     c.args.place c.in-Some.entry c.pool_of-pool.result.0 c.pool_of-pool.result.1 c.unmark.new.used.items c.count_down.new.counts.items c.remove.new.self c.place_of_superior-above.result c.clear.new.self
     lt entry (subst (λ (v : ActiveSegs). HasNoInferior v.entries c.args.place) (sym c.self.view_is) c.requires.leaf)
     c.pool_of-pool.ensures c.place_of_superior-above.ensures c.unmark.ensures c.count_down.ensures c.remove.ensures.sets c.remove.ensures.count c.remove.ensures.room
+
+pub returns-clause-tree : goal.returns-clause-tree
+returns-clause-tree c = (invariant_of-self-2 c).tree
