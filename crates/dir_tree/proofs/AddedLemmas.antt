@@ -7,7 +7,8 @@ use Rattle.dir_tree.specs.declared.node.Node.{Node}
 use Rattle.dir_tree.specs.declared.entries.Entry.{Entry}
 use Rattle.dir_tree.specs.Index.{Places, HasPlace, IsSorted, AreWithin, key_of, key_at, node_at}
 use Rattle.dir_tree.specs.Nodes.{is_directory, add_fault_of}
-use Rattle.dir_tree.specs.Shape.{shape, shapes, IsBranch, IsTree, Joins}
+use Rattle.dir_tree.specs.Shape.{shape, shapes}
+use Rattle.storage_terms.specs.Trees.{IsBranch, IsTree, Joins}
 use Rattle.dir_tree.specs.Kept.{no_entry, entry_at, newest, place_for, IsNamed, IsPlace, IsKept}
 use Rattle.dir_tree.proofs.EditLemmas.{each_pushed}
 use Rattle.dir_tree.proofs.NewestLemmas.{node_of_entry, newest_same, newest_push, length_newest}

@@ -7,7 +7,8 @@ use Rattle.dir_tree.specs.declared.node.Node.{Node}
 use Rattle.dir_tree.specs.declared.entries.Entry.{Entry}
 use Rattle.dir_tree.specs.Index.{Places, Key, HasPlace, key_at, node_at, no_node}
 use Rattle.dir_tree.specs.Nodes.{with_changed, node_of, acl_of}
-use Rattle.dir_tree.specs.Shape.{shape, shapes, IsTree}
+use Rattle.dir_tree.specs.Shape.{shape, shapes}
+use Rattle.storage_terms.specs.Trees.{IsTree}
 use Rattle.dir_tree.specs.Kept.{entry_at, newest, IsNamed, IsKept, HasEntry}
 use Rattle.dir_tree.proofs.NewestLemmas.{node_of_entry, newest_changed}
 use Rattle.dir_tree.proofs.KeptLemmas.{apart_places, not_of, node_read}

@@ -18,7 +18,7 @@ use Rattle.dir_tree.specs.declared.node.Node.{Node}
 use Rattle.dir_tree.specs.Shape.{shape}
 use Rattle.dir_tree.specs.Index.{Key, HasPlace, IsSorted, node_at, key_of, key_at, key_cmp}
 use Rattle.dir_tree.proofs.EditLemmas.{was, was_other, was_up, at_was, fewer, was_within}
-use Rattle.dir_tree.proofs.TreeLemmas.{lies, is_below}
+use Rattle.storage_terms.proofs.TreeLaws.{lies, is_below}
 
 -- ---- the order of keys
 

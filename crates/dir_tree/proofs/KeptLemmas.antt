@@ -10,11 +10,12 @@ use Rattle.dir_tree.specs.declared.node.AddFault.TheVariants as add_fault
 use Rattle.dir_tree.specs.declared.entries.Entry.{Entry}
 use Rattle.dir_tree.specs.Index.{Places, HasPlace, AreWithin, node_at, no_node}
 use Rattle.dir_tree.specs.Nodes.{node_of, is_in, is_directory, is_segment, add_fault_of}
-use Rattle.dir_tree.specs.Shape.{shape, shapes, AreBelow}
+use Rattle.dir_tree.specs.Shape.{shape, shapes}
+use Rattle.storage_terms.specs.Trees.{AreBelow}
 use Rattle.dir_tree.specs.Kept.{entry_at, newest, IsNamed, IsKept, HasEntry}
-use Rattle.dir_tree.proofs.FindLemmas.{IsMember, member_parts, member_map, member_found, branch_found, any_member, any_found, find_map, found_member, found_passes}
+use Rattle.storage_terms.proofs.Finds.{IsMember, member_parts, member_map, member_found, branch_found, any_member, any_found, find_map, found_member, found_passes}
 use Rattle.dir_tree.proofs.NewestLemmas.{node_of_entry, none_newest, find_newest, member_newest}
-use Rattle.dir_tree.proofs.TreeLemmas.{superior_in, lies, only_branch, is_below, not_below, IsUp}
+use Rattle.storage_terms.proofs.TreeLaws.{superior_in, lies, only_branch, is_below, not_below, IsUp}
 
 -- ---- nodes and their shapes
 

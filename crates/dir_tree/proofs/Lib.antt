@@ -1,13 +1,10 @@
 pub mod AddedLemmas
 pub mod ChangedLemmas
-pub mod ChainLemmas
 pub mod CountLemmas
 pub mod EditLemmas
 pub mod EntryLemmas
-pub mod FindLemmas
 pub mod IndexLemmas
 pub mod KeptLemmas
 pub mod NewestLemmas
 pub mod QuotaLemmas
 pub mod RemovedLemmas
-pub mod TreeLemmas

@@ -16,7 +16,8 @@ ghost use Rattle.storage_terms.specs.Access.{Row};
 ghost use Rattle.storage_terms.specs.Tree.{above, node_in, branch_in, walk_in, step_up};
 ghost use Rattle.std.specs.Borrow.{sem};
 ghost use Rattle.dir_tree.specs.Nodes.{acl_of, as_term, with_quotas, node_of, is_in, is_directory, is_segment, root_alone, path_answer, add_fault_of, unless, added, removed, has_inferior, with_length, with_home, with_acl, chain_of};
-ghost use Rattle.dir_tree.specs.Shape.{shape, shapes, IsTree, HasChains};
+ghost use Rattle.dir_tree.specs.Shape.{shape, shapes};
+ghost use Rattle.storage_terms.specs.Trees.{IsTree, HasChains};
 
 mod entries;
 mod index;

@@ -5,7 +5,8 @@ use Rattle.std.proofs.lemmas.Bool.{cases_Bool, cases_eq, cases_lt, both_ways, eq
 use Rattle.storage_terms.specs.Tree.{above, node_in}
 use Rattle.dir_tree.specs.declared.node.Node.{Node}
 use Rattle.dir_tree.specs.Nodes.{is_directory}
-use Rattle.dir_tree.specs.Shape.{shapes, HasChains, EndsAtRoot}
+use Rattle.dir_tree.specs.Shape.{shapes}
+use Rattle.storage_terms.specs.Trees.{HasChains, EndsAtRoot}
 use Rattle.quota_cells.specs.Accounts.{has, covers, is_an_account}
 use Rattle.quota_cells.specs.Cells.{CellMaps, quota_in, load_in, Fits, IsTable, with_quota, IsRising, is_over, first_over}
 use Rattle.quota_cells.proofs.AccountLaws.{covers_above}

@@ -8,7 +8,8 @@ use Rattle.storage_terms.specs.Tree.{Node as Term, above, account, account_of, h
 use Rattle.storage_terms.specs.Quotas.{superior_of, getter_of, giver_of, with_quota_of, with_moved, tree_moved, is_over as is_over_at, lesser, least_where, over_in}
 use Rattle.dir_tree.specs.declared.node.Node.{Node}
 use Rattle.dir_tree.specs.Nodes.{as_term, with_quotas, is_in, is_directory, is_segment}
-use Rattle.dir_tree.specs.Shape.{shape, shapes, HasChains}
+use Rattle.dir_tree.specs.Shape.{shape, shapes}
+use Rattle.storage_terms.specs.Trees.{HasChains}
 use Rattle.dir_tree.proofs.QuotaLemmas.{above_any}
 use Rattle.quota_cells.specs.declared.Full.{Full}
 use Rattle.quota_cells.specs.declared.MoveFault.{MoveFault}

@@ -4,7 +4,8 @@ use Rattle.std.proofs.lemmas.Bool.{cases_Bool, cases_eq, cases_lt, both_ways, eq
 use Rattle.storage_terms.specs.Tree.{above, account, node_in}
 use Rattle.dir_tree.specs.declared.node.Node.{Node}
 use Rattle.dir_tree.specs.Nodes.{is_directory, is_in}
-use Rattle.dir_tree.specs.Shape.{shapes, HasChains, AreUnder, IsChain, EndsAtRoot, AreDirectories}
+use Rattle.dir_tree.specs.Shape.{shapes}
+use Rattle.storage_terms.specs.Trees.{HasChains, AreUnder, IsChain, EndsAtRoot, AreDirectories}
 use Rattle.quota_cells.specs.Accounts.{has, covers, is_an_account}
 use Rattle.quota_cells.specs.Cells.{CellMaps, quota_in, load_in, Fits, IsTable, is_over, first_over, move_answer, over_answer, moved}
 use Rattle.storage_terms.specs.Quotas.{superior_of, giver_of}

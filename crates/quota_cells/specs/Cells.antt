@@ -5,7 +5,8 @@ use Rattle.std.specs.Prelude.{◌≡◌, ◌≢◌, ℕ, ◌+◌, ◌-◌, ◌<�
 use Rattle.storage_terms.specs.Tree.{Node as Term, above, account, has_directory}
 use Rattle.storage_terms.specs.Quotas.{getter_of, giver_of}
 use Rattle.dir_tree.specs.declared.node.Node.{Node}
-use Rattle.dir_tree.specs.Shape.{shapes, has_segment}
+use Rattle.dir_tree.specs.Shape.{shapes}
+use Rattle.storage_terms.specs.Trees.{has_segment}
 use Rattle.std.specs.List.{find}
 use Rattle.quota_cells.specs.declared.Full.{Full}
 use Rattle.quota_cells.specs.declared.MoveFault.{MoveFault}

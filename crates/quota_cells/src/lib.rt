@@ -19,7 +19,8 @@ ghost use Rattle.std.specs.Prelude.{◌≡◌, ◌≢◌, ◌<◌, ◌≤◌, �
 ghost use Rattle.storage_terms.specs.Tree.{above, account, account_of, used_by};
 ghost use Rattle.dir_tree.specs.declared.node.Node.{Node};
 ghost use Rattle.dir_tree.specs.Nodes.{with_quotas, root_alone, is_in, is_directory, is_segment, without};
-ghost use Rattle.dir_tree.specs.Shape.{shapes, HasChains};
+ghost use Rattle.dir_tree.specs.Shape.{shapes};
+ghost use Rattle.storage_terms.specs.Trees.{HasChains};
 ghost use Rattle.quota_cells.specs.Accounts.{has, covers, is_an_account};
 ghost use Rattle.quota_cells.specs.Columns.{AreThere, IsFalling};
 ghost use Rattle.quota_cells.specs.Cells.{IsTable, quota_in, load_in, stored_in, used_in, Fits, AreWithin, root_cell, charged, credited, charge_fault, has_cell, Enters, Leaves, moved, move_answer, first_over, with_quota, CountsUsed};

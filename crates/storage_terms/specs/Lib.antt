@@ -1,3 +1,4 @@
 pub mod Access
 pub mod Quotas
 pub mod Tree
+pub mod Trees

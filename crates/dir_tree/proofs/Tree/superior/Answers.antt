@@ -5,7 +5,7 @@ use Rattle.dir_tree.specs.Nodes.{Branches, is_in, node_of}
 use Rattle.dir_tree.specs.Kept.{newest}
 use Rattle.dir_tree.specs.Shape.{shapes}
 use Rattle.dir_tree.proofs.KeptLemmas.{superior_read, node_missing, up_in}
-use Rattle.dir_tree.proofs.TreeLemmas.{superior_in, above_once, superior_up, IsUp}
+use Rattle.storage_terms.proofs.TreeLaws.{superior_in, above_once, superior_up, IsUp}
 use Rattle.dir_tree.proofs.Tree.superior.Goals as goal
 
 pub unreachable-requires : goal.unreachable-requires

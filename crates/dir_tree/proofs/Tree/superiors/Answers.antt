@@ -2,9 +2,9 @@ use Rattle.std.proofs.Common.{◌≡◌, ◌++◌, ◌+◌, ◌≤◌, length, [
 use Rattle.std.proofs.lemmas.List.{length-append, append-nil}
 use Rattle.storage_terms.specs.Tree.{above}
 use Rattle.dir_tree.specs.Shape.{shapes}
-use Rattle.dir_tree.proofs.ChainLemmas.{has_chains}
+use Rattle.storage_terms.proofs.ChainLaws.{has_chains}
 use Rattle.dir_tree.proofs.QuotaLemmas.{above_any}
-use Rattle.dir_tree.proofs.TreeLemmas.{depth}
+use Rattle.storage_terms.proofs.TreeLaws.{depth}
 use Rattle.dir_tree.proofs.Tree.superiors.Goals as goal
 
 pub push-requires : goal.push-requires
