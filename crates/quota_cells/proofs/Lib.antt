@@ -1,5 +1,6 @@
 pub mod AccountLaws
 pub mod ColumnLaws
+pub mod DecisionLaws
 pub mod EditLaws
 pub mod EnterLaws
 pub mod FitLaws

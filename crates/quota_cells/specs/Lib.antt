@@ -1,4 +1,5 @@
 pub mod Accounts
 pub mod Cells
 pub mod Columns
+pub mod Moves
 pub mod Scratch

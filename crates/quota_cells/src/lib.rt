@@ -25,6 +25,7 @@ ghost use Rattle.quota_cells.specs.Accounts.{has, covers, is_an_account};
 ghost use Rattle.quota_cells.specs.Columns.{AreThere, IsFalling};
 ghost use Rattle.quota_cells.specs.Cells.{IsTable, quota_in, load_in, stored_in, used_in, Fits, AreWithin, root_cell, charged, credited, charge_fault, has_cell, Enters, Leaves, moved, move_answer, first_over, with_quota, CountsUsed};
 ghost use Rattle.storage_terms.specs.Quotas.{superior_of, tree_moved};
+ghost use Rattle.quota_cells.specs.Moves.{cell_in};
 ghost use Rattle.quota_cells.specs.Scratch.{HoldCounts, charge_answer, scratch_answer};
 ghost use Rattle.std.specs.Int.RustNames.{unsigned_abs};
 ghost use Rattle.std.specs.Int.{is_positive};
@@ -33,6 +34,7 @@ mod columns;
 mod moves;
 
 use dir_tree::{ROOT, Tree};
+use moves::Cell;
 use std::alloc::{AllocError, Global};
 use std::marker::Model;
 
@@ -284,15 +286,35 @@ impl Cells {
         self.room_for(up.as_slice())
     }
 
+    /// The cell of a directory.
+    fn cell(&self, directory: u32) -> Cell
+        ensures { result ≡ cell_in self.now directory }
+    {
+        Cell {
+            uid: directory,
+            quota: columns::value(&self.directories, &self.quotas, directory),
+            load: columns::value(&self.directories, &self.loads, directory),
+        }
+    }
+
+    /// The cell of the account of what lies below these directories.
+    fn account(&self, up: &[u32]) -> Cell
+        ensures { result ≡ cell_in self.now (account (quota_in self.now) up.now) }
+    {
+        self.cell(columns::account(&self.directories, &self.quotas, up))
+    }
+
     /// Whether the account of what lies below these directories has room for a page.
     fn room_for(&self, up: &[u32]) -> Result<(), Full>
         ensures answer { result ≡ charge_fault self.now up.now }
         ensures table { IsTable self.now }
     {
-        let account = columns::account(&self.directories, &self.quotas, up);
-        let quota = columns::value(&self.directories, &self.quotas, account);
-        if columns::value(&self.directories, &self.loads, account) == quota {
-            return Err(Full { account });
+        prove!(self.segments.len() == self.stored.len());
+        let account = self.account(up);
+        if account.load == account.quota {
+            return Err(Full {
+                account: account.uid,
+            });
         }
         Ok(())
     }
@@ -436,32 +458,13 @@ impl Cells {
         requires upper { is_directory t.now.nodes superior ≡ true }
         requires chains { HasChains (shapes t.now.nodes) }
         requires pages { 0 < pages }
+        requires table { IsTable self.now }
         requires fits { Fits t.now.nodes self.now }
         ensures { result ≡ move_answer self.now (above (shapes t.now.nodes)) dir true pages }
     {
-        let given = columns::value(&self.directories, &self.quotas, superior);
-        if given < pages {
-            return Err(MoveFault::TooLittle);
-        }
-        let rest = given - pages;
-        let quota = columns::value(&self.directories, &self.quotas, dir);
-        let load = columns::value(&self.directories, &self.loads, dir);
-        let before = columns::value(&self.directories, &self.loads, superior);
-        let left = moves::load_left(before, load, quota);
         let up = t.superiors(superior);
-        let account = columns::account(&self.directories, &self.quotas, up.as_slice());
-        let account_load = columns::value(&self.directories, &self.loads, account);
-        let account_quota = columns::value(&self.directories, &self.quotas, account);
-        if moves::is_above_over(superior, rest, left, account_load, account_quota) {
-            return Err(MoveFault::Over { account });
-        }
-        if moves::is_giver_over(superior, rest, left) {
-            return Err(MoveFault::Over { account: superior });
-        }
-        if moves::is_getter_over(load, quota, pages) {
-            return Err(MoveFault::Over { account: dir });
-        }
-        Ok(())
+        let account = self.account(up.as_slice());
+        moves::refusal_down(self.cell(dir), self.cell(superior), account, pages)
     }
 
     /// What a move of so many pages of quota from a directory to its superior would be refused for.
@@ -474,24 +477,11 @@ impl Cells {
         requires upper { is_directory t.now.nodes superior ≡ true }
         requires chains { HasChains (shapes t.now.nodes) }
         requires pages { 0 < pages }
+        requires table { IsTable self.now }
         requires fits { Fits t.now.nodes self.now }
         ensures { result ≡ move_answer self.now (above (shapes t.now.nodes)) dir false pages }
     {
-        let given = columns::value(&self.directories, &self.quotas, dir);
-        if given < pages {
-            return Err(MoveFault::TooLittle);
-        }
-        let rest = given - pages;
-        let load = columns::value(&self.directories, &self.loads, dir);
-        let above = columns::value(&self.directories, &self.loads, superior);
-        let quota = columns::value(&self.directories, &self.quotas, superior);
-        if moves::is_superior_over(above, load, rest, quota, pages) {
-            return Err(MoveFault::Over { account: superior });
-        }
-        if moves::is_inferior_over(load, rest) {
-            return Err(MoveFault::Over { account: dir });
-        }
-        Ok(())
+        moves::refusal_up(self.cell(dir), self.cell(superior), pages)
     }
 
     /// Moves quota between a directory and its immediate superior: a positive amount down to the directory, a

@@ -1,53 +1,122 @@
 //! Whether an account would be above its quota once quota has moved, from the numbers before the move.
 
-ghost use Rattle.std.specs.Prelude.{◌≡◌, ◌≤◌, ◌+◌, ◌-◌, ◌==◌, ◌&&◌, ◌||◌, not, nat_lt, if◌then◌else◌};
+ghost use Rattle.std.specs.Prelude.{◌≡◌, ◌≤◌, ◌+◌, ◌-◌, ◌==◌, ◌&&◌, not, nat_lt};
+ghost use Rattle.quota_cells.specs.Moves.{load_left, load_grown, is_account_over, is_giver_over, refusal_down, refusal_up};
 
+use crate::MoveFault;
 use dir_tree::ROOT;
 
+/// The quota cell of a directory (Organick 1972), with the stored pages below it that no lower account takes.
+#[derive(Clone, Copy)]
+pub(crate) struct Cell {
+    /// The directory.
+    pub uid: u32,
+    /// Its quota, in pages; 0 where it is no account of its own.
+    pub quota: u32,
+    /// Its load, in pages.
+    pub load: u32,
+}
+
 /// The load of a superior whose inferior gets quota: an inferior that was no account takes its own load from it.
-pub(crate) fn load_left(load: u32, below: u32, quota: u32) -> u32
-    requires { quota ≡ 0 → below ≤ load }
-    ensures { result ≡ (if quota == 0 then load - below else load) }
+fn load_left(below: Cell, above: Cell) -> u32
+    requires { below.quota ≡ 0 → below.load ≤ above.load }
+    ensures { result ≡ load_left below above }
 {
-    if quota == 0 {
-        return load - below;
+    if below.quota == 0 {
+        return above.load - below.load;
     }
-    load
+    above.load
+}
+
+/// The load of a superior that gets so many pages of quota from an inferior, which may keep none.
+fn load_grown(below: Cell, above: Cell, pages: u32) -> u64
+    requires { pages ≤ below.quota }
+    ensures { result ≡ load_grown below above pages }
+{
+    if below.quota == pages {
+        return above.load as u64 + below.load as u64;
+    }
+    above.load as u64
 }
 
 /// Whether the account above a superior that keeps no quota would be above its quota, with what is left to it.
-pub(crate) fn is_above_over(superior: u32, rest: u32, left: u32, load: u32, quota: u32) -> bool
-    ensures { result ≡ (rest == 0 && (not (superior == 1) && nat_lt quota (load + left))) }
+fn is_account_over(below: Cell, above: Cell, account: Cell, pages: u32) -> bool
+    requires load { below.quota ≡ 0 → below.load ≤ above.load }
+    requires enough { pages ≤ above.quota }
+    ensures { result ≡ is_account_over below above account pages }
 {
-    rest == 0 && superior != ROOT && load as u64 + left as u64 > quota as u64
+    let left = load_left(below, above);
+    above.quota - pages == 0
+        && above.uid != ROOT
+        && account.load as u64 + left as u64 > account.quota as u64
 }
 
-/// Whether a superior that keeps this quota would be an account above it.
-pub(crate) fn is_giver_over(superior: u32, rest: u32, left: u32) -> bool
-    ensures { result ≡ ((superior == 1 || not (rest == 0)) && nat_lt rest left) }
+/// Whether a superior that gives so many pages would be an account above what it keeps.
+fn is_giver_over(below: Cell, above: Cell, pages: u32) -> bool
+    requires load { below.quota ≡ 0 → below.load ≤ above.load }
+    requires enough { pages ≤ above.quota }
+    ensures { result ≡ is_giver_over below above pages }
 {
-    (superior == ROOT || rest > 0) && left > rest
+    let rest = above.quota - pages;
+    (above.uid == ROOT || rest > 0) && load_left(below, above) > rest
 }
 
-/// Whether a directory that gets quota would be above it.
-pub(crate) fn is_getter_over(load: u32, quota: u32, pages: u32) -> bool
+/// Whether a directory with this load that gets so many pages would be above its quota.
+fn is_getter_over(load: u64, quota: u32, pages: u32) -> bool
     ensures { result ≡ nat_lt (quota + pages) load }
 {
-    load as u64 > quota as u64 + pages as u64
+    load > quota as u64 + pages as u64
 }
 
-/// Whether a superior that gets quota from an inferior would be above it: where the inferior keeps no quota, its load
-/// comes with it.
-pub(crate) fn is_superior_over(load: u32, below: u32, rest: u32, quota: u32, pages: u32) -> bool
-    ensures { result ≡ nat_lt (quota + pages) (if rest == 0 then load + below else load) }
+/// Whether a directory that gives so many pages would be an account above what it keeps.
+fn is_inferior_over(below: Cell, pages: u32) -> bool
+    requires { pages ≤ below.quota }
+    ensures { result ≡ (not (below.quota - pages == 0) && nat_lt (below.quota - pages) below.load) }
 {
-    let more = if rest == 0 { below as u64 } else { 0 };
-    load as u64 + more > quota as u64 + pages as u64
+    let rest = below.quota - pages;
+    rest > 0 && below.load > rest
 }
 
-/// Whether a directory that keeps this quota would be an account above it.
-pub(crate) fn is_inferior_over(load: u32, rest: u32) -> bool
-    ensures { result ≡ (not (rest == 0) && nat_lt rest load) }
+/// What a move of so many pages down to a directory would be refused for: from the one that it lies in, which itself
+/// lies below this account.
+pub(crate) fn refusal_down(
+    below: Cell,
+    above: Cell,
+    account: Cell,
+    pages: u32,
+) -> Result<(), MoveFault>
+    requires { below.quota ≡ 0 → below.load ≤ above.load }
+    ensures { result ≡ refusal_down below above account pages }
 {
-    rest > 0 && load > rest
+    if above.quota < pages {
+        return Err(MoveFault::TooLittle);
+    }
+    if is_account_over(below, above, account, pages) {
+        return Err(MoveFault::Over {
+            account: account.uid,
+        });
+    }
+    if is_giver_over(below, above, pages) {
+        return Err(MoveFault::Over { account: above.uid });
+    }
+    if is_getter_over(below.load as u64, below.quota, pages) {
+        return Err(MoveFault::Over { account: below.uid });
+    }
+    Ok(())
+}
+
+/// What a move of so many pages up from a directory, to the one that it lies in, would be refused for.
+pub(crate) fn refusal_up(below: Cell, above: Cell, pages: u32) -> Result<(), MoveFault>
+    ensures { result ≡ refusal_up below above pages }
+{
+    if below.quota < pages {
+        return Err(MoveFault::TooLittle);
+    }
+    if is_getter_over(load_grown(below, above, pages), above.quota, pages) {
+        return Err(MoveFault::Over { account: above.uid });
+    }
+    if is_inferior_over(below, pages) {
+        return Err(MoveFault::Over { account: below.uid });
+    }
+    Ok(())
 }

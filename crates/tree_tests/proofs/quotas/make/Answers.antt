@@ -15,8 +15,8 @@ entered old new s n uid cells before is next fresh chains fits enters =
 
 pub returns-in-Ok : goal.returns-in-Ok
 returns-in-Ok g c =
-    entered c.args.tree.now c.add_branch.new.self c.args.superior _ c.next_uid-uid.result c.enter.new.self c.args.cells.now c.in-Ok.ensures.ok c.next_uid-uid.ensures c.add_branch.ensures.fresh c.node.ensures.chains c.requires c.enter.ensures.fits
+    entered c.args.tree.now c.add_branch.new.self c.args.superior _ c.next_uid-uid.result c.enter.new.self c.args.cells.now c.in-Ok.ensures.ok c.next_uid-uid.ensures.uid c.add_branch.ensures.fresh c.node.ensures.chains c.requires c.enter.ensures.fits
 
 pub enter-requires-clause-absent : goal.enter-requires-clause-absent
 enter-requires-clause-absent g c =
-    absent_cell c.args.tree.now.nodes c.args.cells.now c.requires c.next_uid-uid.result (subst (λ u. is_in c.args.tree.now.nodes u ≡ false) (sym c.next_uid-uid.ensures) c.add_branch.ensures.fresh)
+    absent_cell c.args.tree.now.nodes c.args.cells.now c.requires c.next_uid-uid.result (subst (λ u. is_in c.args.tree.now.nodes u ≡ false) (sym c.next_uid-uid.ensures.uid) c.add_branch.ensures.fresh)
