@@ -54,7 +54,8 @@ impl Default for Grant {
 impl Grant {
     /// Whether the row names just these parts, where `None` is any.
     fn names_just(&self, person: Option<&Label>, project: Option<&Label>) -> bool
-        ensures { result ≡ names_just (option_map (λ l. l.now) person.entry) (option_map (λ l. l.now) project.entry) self.now }
+        ensures { result ≡ names_just (option_map (λ l. l.now) person.entry) (option_map (λ l. l.now) project.entry)
+            self.now }
     {
         is_part(person, &self.row.person) && is_part(project, &self.row.project)
     }
@@ -124,7 +125,8 @@ impl Acl {
     /// `AclFull` exactly where the row isn't in the list and 16 rows are; then nothing is changed.
     #[tactic(auto, using(crate::proofs::RowLaws::row_taken, crate::proofs::RowLaws::row_replaced, crate::proofs::RowLaws::row_appended, std::proofs::lemmas::Grind::common_steps))]
     pub fn set(&mut self, row: Row, mode: Mode) -> Result<(), AclFull>
-        ensures ok { OnOk result (self.new ≡ with_row (record { person = row.person; project = row.project; mode = mode }) self.old) }
+        ensures ok { OnOk result (self.new ≡ with_row (record
+            { person = row.person; project = row.project; mode = mode }) self.old) }
         ensures err { OnErr result (self.new ≡ self.old) }
         ensures full { IsOk result ↔ IsTrue (takes_row row.person row.project self.old) }
     {
@@ -171,7 +173,8 @@ impl Acl {
     /// What the row with just these parts allows, where `None` is any.
     #[tactic(auto, using(crate::proofs::RowLaws::row_passed, crate::proofs::RowLaws::row_found, crate::proofs::RowLaws::no_row_left, std::proofs::lemmas::Grind::common_steps))]
     fn mode_at(&self, person: Option<&Label>, project: Option<&Label>) -> Option<Mode>
-        ensures { result ≡ mode_at (option_map (λ l. l.now) person.entry) (option_map (λ l. l.now) project.entry) self.now }
+        ensures { result ≡ mode_at (option_map (λ l. l.now) person.entry) (option_map (λ l. l.now) project.entry)
+            self.now }
     {
         for grant in self.rows.as_slice() {
             if grant.names_just(person, project) {

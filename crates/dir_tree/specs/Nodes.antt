@@ -1,5 +1,6 @@
 -- What a contract sees of a directory tree: its nodes, the newest first, and the next uid.
-use Rattle.std.specs.Prelude.{ℕ, ◌+◌, ◌==◌, Bool, true, false, ◌&&◌, not, if◌then◌else◌, nat_le, List, [], ◌∷◌, length, map, reverse, Option, Some, None, Result, Ok, Err, is_some, codes}
+use Rattle.std.specs.Prelude.{ℕ, ◌+◌, ◌==◌, Bool, true, false, ◌&&◌, not, if◌then◌else◌, nat_le, List, [], ◌∷◌, length, map, reverse, Option, Some, None}
+use Rattle.std.specs.Prelude.{Result, Ok, Err, is_some, codes}
 use Rattle.std.specs.List.{find, filter, list_any}
 use Rattle.storage_terms.specs.Access.{Row}
 use Rattle.storage_terms.specs.Tree.{Node as Term, Walk, LeadsTo, Missing, InSegment, above, branch_in, is_inferior}
@@ -17,7 +18,16 @@ pub record Branches : Type 0 where
 -- the node as all of storage speaks of it, where each directory has the quota that this function says: the tree
 -- keeps none
 abbrev pub as_term : (ℕ → ℕ) → Node → Term
-as_term quota n = record { uid = n.uid; superior = n.superior; name = n.name; directory = n.dir; volume = n.volume; pages = n.length; quota = quota n.uid; rows = n.acl }
+as_term quota n = record {
+  uid = n.uid;
+  superior = n.superior;
+  name = n.name;
+  directory = n.dir;
+  volume = n.volume;
+  pages = n.length;
+  quota = quota n.uid;
+  rows = n.acl;
+}
 
 abbrev pub with_quotas : (ℕ → ℕ) → List Node → List Term
 with_quotas quota nodes = map (as_term quota) nodes
@@ -73,7 +83,17 @@ unless (Some e) x = Err e
 -- the tree with a new branch, which gets the next uid
 abbrev pub added : Branches → ℕ → NewNode → Branches
 added t superior new = record {
-  nodes = record { uid = t.next; superior = Some superior; name = new.name; dir = new.dir; volume = new.volume; entry = new.entry; length = new.length; acl = new.acl } ∷ t.nodes;
+  nodes = record {
+    uid = t.next;
+    superior = Some superior;
+    name = new.name;
+    dir = new.dir;
+    volume = new.volume;
+    entry = new.entry;
+    length = new.length;
+    acl
+        = new.acl;
+  } ∷ t.nodes;
   next = t.next + 1;
 }
 

@@ -1,6 +1,8 @@
 //! The nodes by uid: a list of entries in the order of uids, which is the order of their making.
 
-ghost use Rattle.std.specs.Prelude.{◌≡◌, ◌≢◌, ℕ, ◌<◌, ◌≤◌, ◌+◌, ◌-◌, [], length, true, IsTrue, ◌↔◌, take, if◌then◌else◌, ◌==◌, Option, IfOk, IfErr, IfSome, IfNone, Some, slice_index, vec_len, vec_capacity, ◌^◌};
+ghost use Rattle.std.specs.Prelude.{◌≡◌, ◌≢◌, ℕ, ◌<◌, ◌≤◌, ◌+◌, ◌-◌, [], length, true, IsTrue, ◌↔◌, take};
+ghost use Rattle.std.specs.Prelude.{if◌then◌else◌, ◌==◌, Option, IfOk, IfErr, IfSome, IfNone, Some, slice_index};
+ghost use Rattle.std.specs.Prelude.{vec_len, vec_capacity, ◌^◌};
 ghost use Rattle.dir_tree.specs.Index.{node_at};
 ghost use Rattle.dir_tree.specs.Kept.{entry_at, place_for, recounted, HasEntry, IsAscending, IsCounted};
 
@@ -57,7 +59,8 @@ pub(crate) fn position_of(entries: &[Entry], uid: u32) -> usize
 pub(crate) fn place_of(entries: &[Entry], uid: u32) -> u32
     requires rising { IsAscending entries.now }
     requires there { (i : ℕ) × (i < length entries.now) × ((entry_at entries.now i).uid ≡ uid) }
-    ensures { (i : ℕ) × (i < length entries.now) × ((entry_at entries.now i).uid ≡ uid) × ((entry_at entries.now i).place ≡ result) }
+    ensures { (i : ℕ) × (i < length entries.now) × ((entry_at entries.now i).uid ≡ uid)
+        × ((entry_at entries.now i).place ≡ result) }
 {
     entries[position_of(entries, uid)].place
 }
@@ -87,7 +90,8 @@ pub(crate) fn gain(entries: &mut [Entry], uid: u32)
 pub(crate) fn lose(entries: &mut [Entry], uid: u32)
     requires rising { IsAscending entries.old }
     requires there { (i : ℕ) × (i < length entries.old) × ((entry_at entries.old i).uid ≡ uid) }
-    requires some { (i : ℕ) → i < length entries.old → (entry_at entries.old i).uid ≡ uid → 0 < (entry_at entries.old i).inferiors }
+    requires some { (i : ℕ) → i < length entries.old → (entry_at entries.old i).uid ≡ uid
+        → 0 < (entry_at entries.old i).inferiors }
     ensures { entries.new ≡ recounted uid (λ n. n - 1) entries.old }
 {
     let at = position_of(entries, uid);
@@ -103,7 +107,8 @@ pub(crate) fn store(nodes: &mut Vec<Node>, free: &mut Vec<u32>, node: Node) -> u
     ensures here { node_at nodes.new.items result ≡ node }
     ensures others { (p : ℕ) → p ≢ result → node_at nodes.new.items p ≡ node_at nodes.old.items p }
     ensures rest { free.new.items ≡ take (length free.old.items - 1) free.old.items }
-    ensures count { length nodes.new.items ≡ (if length free.old.items == 0 then length nodes.old.items + 1 else length nodes.old.items) }
+    ensures count { length nodes.new.items ≡ (if length free.old.items == 0 then length nodes.old.items + 1
+        else length nodes.old.items) }
     ensures nodes_room { vec_capacity nodes.new ≡ vec_capacity nodes.old }
     ensures free_room { vec_capacity free.new ≡ vec_capacity free.old }
 {

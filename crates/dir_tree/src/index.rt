@@ -1,6 +1,7 @@
 //! The index of the branches by superior and name: a list of the branches' places, in the order of these.
 
-ghost use Rattle.std.specs.Prelude.{◌≡◌, ◌≢◌, ℕ, ◌<◌, ◌≤◌, ◌+◌, ◌↔◌, ◌⊎◌, Some, true, false, [], length, IfOk, IfSome, IfNone, slice_index};
+ghost use Rattle.std.specs.Prelude.{◌≡◌, ◌≢◌, ℕ, ◌<◌, ◌≤◌, ◌+◌, ◌↔◌, ◌⊎◌, Some, true, false, [], length, IfOk, IfSome};
+ghost use Rattle.std.specs.Prelude.{IfNone, slice_index};
 ghost use Rattle.std.specs.declared.cmp.Ordering.TheVariants.{Less};
 ghost use Rattle.storage_terms.specs.Tree.{is_branch};
 ghost use Rattle.dir_tree.specs.Shape.{shape};
@@ -47,8 +48,10 @@ impl Index {
     pub(crate) fn find(&self, nodes: &[Node], superior: u32, name: &Name) -> Option<u32>
         requires sorted { IsSorted nodes.now self.now.places }
         requires within { AreWithin nodes.now self.now.places }
-        ensures some { IfSome result (λ place. HasPlace self.now.places place × (is_branch superior name.now (shape (node_at nodes.now place)) ≡ true)) }
-        ensures none { IfNone result ((place : ℕ) → HasPlace self.now.places place → is_branch superior name.now (shape (node_at nodes.now place)) ≡ false) }
+        ensures some { IfSome result (λ place. HasPlace self.now.places place
+            × (is_branch superior name.now (shape (node_at nodes.now place)) ≡ true)) }
+        ensures none { IfNone result ((place : ℕ) → HasPlace self.now.places place
+            → is_branch superior name.now (shape (node_at nodes.now place)) ≡ false) }
     {
         find(&self.places, nodes, superior, name)
     }
@@ -59,7 +62,8 @@ impl Index {
         requires sorted { IsSorted nodes.now self.old.places }
         requires within { AreWithin nodes.now self.old.places }
         requires node { place < length nodes.now }
-        requires new { (k : ℕ) → k < length self.old.places → key_at nodes.now self.old.places k ≢ key_of (node_at nodes.now place) }
+        requires new { (k : ℕ) → k < length self.old.places
+            → key_at nodes.now self.old.places k ≢ key_of (node_at nodes.now place) }
         ensures sorted { IsSorted nodes.now self.new.places }
         ensures places { (p : ℕ) → HasPlace self.new.places p ↔ (HasPlace self.old.places p ⊎ (p ≡ place)) }
         ensures count { length self.new.places ≡ length self.old.places + 1 }
@@ -103,7 +107,8 @@ fn first_at(places: &[u32], nodes: &[Node], superior: Option<u32>, name: &Name) 
     requires within { AreWithin nodes.now places.now }
     ensures within { result ≤ length places.now }
     ensures below { (k : ℕ) → k < result → key_cmp (key_at nodes.now places.now k) (superior, name.now) ≡ Less }
-    ensures from { (k : ℕ) → result ≤ k → k < length places.now → key_cmp (key_at nodes.now places.now k) (superior, name.now) ≢ Less }
+    ensures from { (k : ℕ) → result ≤ k → k < length places.now
+        → key_cmp (key_at nodes.now places.now k) (superior, name.now) ≢ Less }
 {
     let mut low = 0;
     let mut high = places.len();
@@ -121,8 +126,10 @@ fn first_at(places: &[u32], nodes: &[Node], superior: Option<u32>, name: &Name) 
 fn find(places: &[u32], nodes: &[Node], superior: u32, name: &Name) -> Option<u32>
     requires sorted { IsSorted nodes.now places.now }
     requires within { AreWithin nodes.now places.now }
-    ensures some { IfSome result (λ place. HasPlace places.now place × (is_branch superior name.now (shape (node_at nodes.now place)) ≡ true)) }
-    ensures none { IfNone result ((place : ℕ) → HasPlace places.now place → is_branch superior name.now (shape (node_at nodes.now place)) ≡ false) }
+    ensures some { IfSome result (λ place. HasPlace places.now place
+        × (is_branch superior name.now (shape (node_at nodes.now place)) ≡ true)) }
+    ensures none { IfNone result ((place : ℕ) → HasPlace places.now place
+        → is_branch superior name.now (shape (node_at nodes.now place)) ≡ false) }
 {
     let at = first_at(places, nodes, Some(superior), name);
     if at == places.len() {

@@ -2,20 +2,23 @@
 //! Clingen and Daley 1972; Organick 1972). The limits of 4096 branches and eight directories below the root are own.
 //!
 //! Costs: `new` takes all memory, once: room for 4097 nodes, an entry of 20 bytes for each by uid, and its place, of 4
-//! bytes, by superior and name. A look-up by uid halves the list of uids, and one by superior and name that of places in
-//! the order of these: at most 13 looks each, whatever the names are. `walk` makes one such look-up for each name.
-//! `superiors`, `chain` and the test of depth look one uid up for each directory above, of which there are at most 9.
-//! Each entry counts the nodes that lie in its own, so `may_remove` makes one look-up by uid. `add_branch` writes one
-//! node and one entry, counts it in the entry of its superior, and moves up a part of the list of places. `remove`
-//! takes it from that count, and moves down a part of both lists, and no node: the place of the node is free from then
-//! on. None but `new` takes memory.
+//! bytes, by superior and name. A look-up by uid halves the list of uids, and one by superior and name that of the
+//! places in the order of these: at most 13 looks each, whatever the names are. `walk` makes one such look-up for each
+//! name. `superiors`, `chain` and the test of depth look one uid up for each directory above, of which there are at
+//! most 9. Each entry counts the nodes that lie in its own, so `may_remove` makes one look-up by uid. `add_branch`
+//! writes one node and one entry, counts it in the entry of its superior, and moves up a part of the list of places.
+//! `remove` takes it from that count, and moves down a part of both lists, and no node: the place of the node is free
+//! from then on. None but `new` takes memory.
 #![tactic(auto)]
 
-ghost use Rattle.std.specs.Prelude.{◌≡◌, ◌≢◌, ◌<◌, ◌≤◌, ◌^◌, ◌+◌, ℕ, Bool, ◌&&◌, nat_le, is_some, true, false, ◌↔◌, List, Some, None, IsErr, length, IfOk, IfSome, IfNone, OnOk, OnErr};
+ghost use Rattle.std.specs.Prelude.{◌≡◌, ◌≢◌, ◌<◌, ◌≤◌, ◌^◌, ◌+◌, ℕ, Bool, ◌&&◌, nat_le, is_some, true, false, ◌↔◌};
+ghost use Rattle.std.specs.Prelude.{List, Some, None, IsErr, length, IfOk, IfSome, IfNone, OnOk, OnErr};
 ghost use Rattle.storage_terms.specs.Access.{Row};
 ghost use Rattle.storage_terms.specs.Tree.{above, node_in, branch_in, walk_in, step_up};
 ghost use Rattle.std.specs.Borrow.{sem};
-ghost use Rattle.dir_tree.specs.Nodes.{acl_of, as_term, with_quotas, node_of, is_in, is_directory, is_segment, root_alone, path_answer, add_fault_of, unless, added, removed, has_inferior, with_length, with_home, with_acl, chain_of};
+ghost use Rattle.dir_tree.specs.Nodes.{acl_of, as_term, with_quotas, node_of, is_in, is_directory, is_segment};
+ghost use Rattle.dir_tree.specs.Nodes.{root_alone, path_answer, add_fault_of, unless, added, removed, has_inferior};
+ghost use Rattle.dir_tree.specs.Nodes.{with_length, with_home, with_acl, chain_of};
 ghost use Rattle.dir_tree.specs.Shape.{shape, shapes};
 ghost use Rattle.storage_terms.specs.Trees.{IsTree, HasChains};
 
@@ -64,7 +67,9 @@ impl Model for Tree {
 
     ghost view = { λ t. record { nodes = newest t.nodes.items t.entries.items; next = t.next } };
 
-    ghost invariant = { λ t. IsKept t.nodes.items t.entries.items t.free.items t.index t.next × (4097 ≤ vec_capacity t.nodes) × (4097 ≤ vec_capacity t.entries) × (4097 ≤ vec_capacity t.free) × IsCounted t.entries.items };
+    ghost invariant = { λ t. IsKept t.nodes.items t.entries.items t.free.items t.index t.next
+        × (4097 ≤ vec_capacity t.nodes) × (4097 ≤ vec_capacity t.entries) × (4097 ≤ vec_capacity t.free)
+        × IsCounted t.entries.items };
 }
 
 impl From<AllocError> for NoMemory {
@@ -116,8 +121,10 @@ impl Tree {
     pub fn node(&self, uid: u32) -> Option<&Node>
         ensures some { IfSome result (λ n. node_of self.now.nodes uid ≡ Some n.now) }
         ensures none { IfNone result (node_of self.now.nodes uid ≡ None) }
-        ensures up { IfSome result (λ n. above (shapes self.now.nodes) uid ≡ step_up (above (shapes self.now.nodes)) n.now.superior) }
-        ensures term { (quota : ℕ → ℕ) → IfSome result (λ n. node_in (with_quotas quota self.now.nodes) uid ≡ Some (as_term quota n.now)) }
+        ensures up { IfSome result (λ n. above (shapes self.now.nodes) uid ≡ step_up (above (shapes self.now.nodes))
+            n.now.superior) }
+        ensures term { (quota : ℕ → ℕ) → IfSome result (λ n. node_in (with_quotas quota self.now.nodes) uid ≡ Some
+            (as_term quota n.now)) }
         ensures missing { (quota : ℕ → ℕ) → IfNone result (node_in (with_quotas quota self.now.nodes) uid ≡ None) }
         ensures tree { IsTree (shapes self.now.nodes) }
         ensures chains { HasChains (shapes self.now.nodes) }
@@ -233,7 +240,8 @@ impl Tree {
     /// are 4096 branches.
     pub fn may_add(&self, superior: u32, name: &Name, dir: bool) -> Result<(), AddFault>
         requires { is_directory self.now.nodes superior ≡ true }
-        ensures { (quota : ℕ → ℕ) → result ≡ unless (add_fault_of (with_quotas quota self.now.nodes) superior name.now dir) tt }
+        ensures { (quota : ℕ → ℕ) → result ≡ unless (add_fault_of (with_quotas quota self.now.nodes) superior name.now
+            dir) tt }
     {
         if self.has_branch(superior, name) {
             return Err(AddFault::Exists);
@@ -276,7 +284,8 @@ impl Tree {
     pub fn add_branch(&mut self, superior: u32, new: NewNode) -> Result<u32, AddFault>
         requires directory { is_directory self.old.nodes superior ≡ true }
         requires uids { self.old.next < 2 ^ 31 }
-        ensures answer { (quota : ℕ → ℕ) → result ≡ unless (add_fault_of (with_quotas quota self.old.nodes) superior new.name new.dir) self.old.next }
+        ensures answer { (quota : ℕ → ℕ) → result ≡ unless
+            (add_fault_of (with_quotas quota self.old.nodes) superior new.name new.dir) self.old.next }
         ensures ok { OnOk result (self.new ≡ added self.old superior new) }
         ensures fresh { is_in self.old.nodes self.old.next ≡ false }
         ensures room { OnOk result (length self.old.nodes < 4097) }
@@ -344,7 +353,8 @@ impl Tree {
         ensures answer { (quota : ℕ → ℕ) → IsErr result ↔ (has_inferior (with_quotas quota self.old.nodes) uid ≡ true) }
         ensures ok { OnOk result (self.new ≡ removed self.old uid) }
         ensures count { OnOk result (length self.new.nodes + 1 ≡ length self.old.nodes) }
-        ensures rest { OnOk result ((u : ℕ) → u ≢ uid → above (shapes self.new.nodes) u ≡ above (shapes self.old.nodes) u) }
+        ensures rest { OnOk result ((u : ℕ) → u ≢ uid → above (shapes self.new.nodes) u ≡ above (shapes self.old.nodes)
+            u) }
         ensures err { OnErr result (self.new ≡ self.old) }
     {
         self.may_remove(uid)?;

@@ -234,9 +234,9 @@ module _ (c : CellMaps) (table : IsTable c) (uid i : ℕ) where
     stored = λ s. refl;
     counts = λ t. refl;
     total =
-      (let s = sum_by-remove (λ (x : ℕ). x) c.quotas i 0 (let n : length c.quotas ≡ length c.directories = table.quota_count in omega arith) in
-      let gone : get_or c.quotas i 0 ≡ 0 = sym (look_at c.directories c.quotas i table.rising lt) ∙ ap (look c.directories c.quotas) is ∙ none in
-      omega (arith, s, gone));
+        (let s = sum_by-remove (λ (x : ℕ). x) c.quotas i 0 (let n : length c.quotas ≡ length c.directories = table.quota_count in omega arith) in
+        let gone : get_or c.quotas i 0 ≡ 0 = sym (look_at c.directories c.quotas i table.rising lt) ∙ ap (look c.directories c.quotas) is ∙ none in
+        omega (arith, s, gone));
   }
 
   pub table_less_directory : has c.directories uid ≡ true → quota_in c uid ≡ 0 → i < length c.directories → get_or c.directories i 0 ≡ uid → IsTable less_directory

@@ -189,17 +189,23 @@ first_found p [] a up e = cc
 first_found p (k ∷ ks) a up e = elim (cases_Bool (p k)) [
   | inl here ↦
       (let z : Some k ≡ Some a = rw here at e in
-      let same : k ≡ a = cc in
-      (or_left (eqb k a) (has ks a) (eq-eqb k a same), subst (λ z. p z ≡ true) same here, λ b h is. elim (or_cases (eqb k b) (has ks b) h) [
-        | inl first ↦ (let eq : k ≡ b = eqb-true k b first in omega arith)
-        | inr rest ↦ (let lt : k < b = later k ks up b rest in omega arith)
-      ]))
+      let same : k ≡ a = cc in (
+        or_left (eqb k a) (has ks a) (eq-eqb k a same),
+        subst (λ z. p z ≡ true) same here,
+        λ b h is. elim (or_cases (eqb k b) (has ks b) h) [
+          | inl first ↦ (let eq : k ≡ b = eqb-true k b first in omega arith)
+          | inr rest ↦ (let lt : k < b = later k ks up b rest in omega arith)
+        ],
+      ))
   | inr off ↦
-      (let ih = first_found p ks a (λ i j lt w. up (suc i) (suc j) (omega arith) (omega arith)) (rw off at e) in
-      (or_right (eqb k a) (has ks a) ih.0, ih.1, λ b h is. elim (or_cases (eqb k b) (has ks b) h) [
-        | inl first ↦ (let eq : k ≡ b = eqb-true k b first in absurd (both_ways (p k) off (subst (λ z. p z ≡ true) (sym eq) is)))
-        | inr rest ↦ ih.2 b rest is
-      ]))
+      (let ih = first_found p ks a (λ i j lt w. up (suc i) (suc j) (omega arith) (omega arith)) (rw off at e) in (
+        or_right (eqb k a) (has ks a) ih.0,
+        ih.1,
+        λ b h is. elim (or_cases (eqb k b) (has ks b) h) [
+          | inl first ↦ (let eq : k ≡ b = eqb-true k b first in absurd (both_ways (p k) off (subst (λ z. p z ≡ true) (sym eq) is)))
+          | inr rest ↦ ih.2 b rest is
+        ],
+      ))
 ]
 
 least_first : (t p : ℕ → Bool) (ks us : List ℕ) → IsRising ks → ((u : ℕ) → t u ≡ (has ks u && p u)) → ((u : ℕ) → has ks u ≡ true → has us u ≡ true) → (o : Option ℕ) → find p ks ≡ o → least_where t us ≡ o

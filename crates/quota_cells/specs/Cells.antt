@@ -1,7 +1,8 @@
 -- What a contract sees of quota cells: a finite map from directory to quota, one from segment to stored pages, and
 -- for each directory the stored pages below it that no lower account takes (Organick 1972). A map is a list of uids
 -- with a list of values beside them.
-use Rattle.std.specs.Prelude.{◌≡◌, ◌≢◌, ℕ, ◌+◌, ◌-◌, ◌<◌, ◌≤◌, ◌==◌, ◌^◌, Bool, true, false, ◌&&◌, ◌||◌, not, if◌then◌else◌, List, [], ◌∷◌, length, Option, Some, None, slice_index, sum, nat_lt, Result, Ok, Err}
+use Rattle.std.specs.Prelude.{◌≡◌, ◌≢◌, ℕ, ◌+◌, ◌-◌, ◌<◌, ◌≤◌, ◌==◌, ◌^◌, Bool, true, false, ◌&&◌, ◌||◌, not, if◌then◌else◌, List, [], ◌∷◌, length, Option}
+use Rattle.std.specs.Prelude.{Some, None, slice_index, sum, nat_lt, Result, Ok, Err}
 use Rattle.storage_terms.specs.Tree.{Node as Term, above, account, has_directory}
 use Rattle.storage_terms.specs.Quotas.{getter_of, giver_of}
 use Rattle.dir_tree.specs.declared.node.Node.{Node}
@@ -70,30 +71,46 @@ root_cell quota = record { directories = 1 ∷ []; quotas = quota ∷ []; loads 
 
 -- a page more, or so many less, of a segment below these directories
 abbrev pub charged : CellMaps → List ℕ → ℕ → CellMaps
-charged c up s = record c { loads = changed_where (λ w. w + 1) (covers (quota_in c) up) c.directories c.loads; stored = with_value c.segments c.stored s (stored_in c s + 1) }
+charged c up s = record c {
+  loads = changed_where (λ w. w + 1) (covers (quota_in c) up) c.directories c.loads;
+  stored = with_value c.segments c.stored s
+      (stored_in c s + 1);
+}
 
 abbrev pub credited : CellMaps → List ℕ → ℕ → ℕ → CellMaps
-credited c up s n = record c { loads = changed_where (λ w. w - n) (covers (quota_in c) up) c.directories c.loads; stored = with_value c.segments c.stored s (stored_in c s - n) }
+credited c up s n = record c {
+  loads = changed_where (λ w. w - n) (covers (quota_in c) up) c.directories c.loads;
+  stored = with_value c.segments c.stored s
+      (stored_in c s - n);
+}
 
 -- the loads once a directory below these has another quota: where it becomes an account its load is taken from what
 -- covers it, and where it is one no more its load is added there
 abbrev pub loads_then : List ℕ → List ℕ → List ℕ → List ℕ → ℕ → Bool → Bool → List ℕ
-loads_then directories quotas loads up d true false = changed_where (λ w. w - look directories loads d) (covers (look directories quotas) up) directories loads
-loads_then directories quotas loads up d false true = changed_where (λ w. w + look directories loads d) (covers (look directories quotas) up) directories loads
+loads_then directories quotas loads up d true false = changed_where (λ w. w - look directories loads d) (covers (look directories quotas) up) directories
+    loads
+loads_then directories quotas loads up d false true = changed_where (λ w. w + look directories loads d) (covers (look directories quotas) up) directories
+    loads
 loads_then directories quotas loads up d true true = loads
 loads_then directories quotas loads up d false false = loads
 
 -- the cells once a directory below these has another quota
 abbrev pub with_quota : CellMaps → List ℕ → ℕ → ℕ → CellMaps
-with_quota c up d v = record c { quotas = with_value c.directories c.quotas d v; loads = loads_then c.directories c.quotas c.loads up d (quota_in c d == 0) (v == 0) }
+with_quota c up d v = record c {
+  quotas = with_value c.directories c.quotas d v;
+  loads = loads_then c.directories c.quotas c.loads up d (quota_in c d == 0)
+      (v == 0);
+}
 
 -- whether a page of a segment below these can be charged, or the account that is full
 abbrev pub charge_fault : CellMaps → List ℕ → Result (Unit {0}) Full
-charge_fault c up = if load_in c (account (quota_in c) up) == quota_in c (account (quota_in c) up) then Err (record { account = account (quota_in c) up }) else Ok tt
+charge_fault c up = if load_in c (account (quota_in c) up) == quota_in c (account (quota_in c) up) then Err (record { account = account (quota_in c) up })
+    else Ok tt
 
 -- So each used count is, in this tree, the number of stored pages of the segments whose account this is.
 abbrev pub CountsUsed : List Node → CellMaps → Type 0
-CountsUsed nodes c = (a : ℕ) → has c.directories a ≡ true → used_in c a ≡ (if is_an_account (quota_in c) a then charged_to (above (shapes nodes)) (quota_in c) c.segments c.stored a else 0)
+CountsUsed nodes c = (a : ℕ) → has c.directories a ≡ true → used_in c a ≡
+    (if is_an_account (quota_in c) a then charged_to (above (shapes nodes)) (quota_in c) c.segments c.stored a else 0)
 
 -- a directory or a segment gets an empty cell
 pub record Enters (old new : CellMaps) (uid : ℕ) (dir : Bool) : Type 0 where
@@ -144,4 +161,5 @@ over_answer (Some a) = Err (fault.Over a)
 
 -- whether so much quota may move: the giver must have it, and no account may be above its quota then
 abbrev pub move_answer : CellMaps → (ℕ → List ℕ) → ℕ → Bool → ℕ → Result (Unit {0}) MoveFault
-move_answer c above d down n = if nat_lt (quota_in c (giver_of above d down)) n then Err fault.TooLittle else over_answer (first_over (moved c above d down n))
+move_answer c above d down n = if nat_lt (quota_in c (giver_of above d down)) n then Err fault.TooLittle
+    else over_answer (first_over (moved c above d down n))

@@ -1,6 +1,7 @@
 //! Numbers in columns beside uids that rise: look-ups by halving.
 
-ghost use Rattle.std.specs.Prelude.{◌≡◌, ◌≢◌, ℕ, ◌<◌, ◌≤◌, ◌+◌, ◌-◌, ◌^◌, ◌==◌, Bool, true, [], ◌∷◌, length, slice_index, IfOk, IfErr, vec_len, vec_capacity};
+ghost use Rattle.std.specs.Prelude.{◌≡◌, ◌≢◌, ℕ, ◌<◌, ◌≤◌, ◌+◌, ◌-◌, ◌^◌, ◌==◌, Bool, true, [], ◌∷◌, length};
+ghost use Rattle.std.specs.Prelude.{slice_index, IfOk, IfErr, vec_len, vec_capacity};
 ghost use Rattle.std.specs.List.{insert, remove};
 ghost use Rattle.storage_terms.specs.Tree.{account};
 ghost use Rattle.storage_terms.specs.Trees.{AreUnder};
@@ -66,8 +67,10 @@ pub(crate) fn lift(loads: &mut [u32], directories: &[u32], quotas: &[u32], up: &
     requires loads { length loads.old ≡ length directories.now }
     requires there { AreThere directories.now up.now }
     requires falls { IsFalling up.now }
-    requires room { (e : ℕ) → covers (look directories.now quotas.now) up.now e ≡ true → look directories.now loads.old e + pages < 2 ^ 32 }
-    ensures { loads.new ≡ changed_where (λ w. w + pages) (covers (look directories.now quotas.now) up.now) directories.now loads.old }
+    requires room { (e : ℕ) → covers (look directories.now quotas.now) up.now e ≡ true
+        → look directories.now loads.old e + pages < 2 ^ 32 }
+    ensures { loads.new ≡ changed_where (λ w. w + pages) (covers (look directories.now quotas.now) up.now)
+        directories.now loads.old }
 {
     for directory in up {
         let at = place(directories, *directory);
@@ -85,8 +88,10 @@ pub(crate) fn lower(loads: &mut [u32], directories: &[u32], quotas: &[u32], up: 
     requires loads { length loads.old ≡ length directories.now }
     requires there { AreThere directories.now up.now }
     requires falls { IsFalling up.now }
-    requires stored { (e : ℕ) → covers (look directories.now quotas.now) up.now e ≡ true → pages ≤ look directories.now loads.old e }
-    ensures { loads.new ≡ changed_where (λ w. w - pages) (covers (look directories.now quotas.now) up.now) directories.now loads.old }
+    requires stored { (e : ℕ) → covers (look directories.now quotas.now) up.now e ≡ true
+        → pages ≤ look directories.now loads.old e }
+    ensures { loads.new ≡ changed_where (λ w. w - pages) (covers (look directories.now quotas.now) up.now)
+        directories.now loads.old }
 {
     for directory in up {
         let at = place(directories, *directory);
@@ -111,9 +116,13 @@ pub(crate) fn shift(
     requires loads { length loads.old ≡ length directories.now }
     requires there { AreThere directories.now up.now }
     requires falls { IsFalling up.now }
-    requires appears { look directories.now quotas.now directory ≡ 0 → 0 < pages → (e : ℕ) → covers (look directories.now quotas.now) up.now e ≡ true → look directories.now loads.old directory ≤ look directories.now loads.old e }
-    requires vanishes { pages ≡ 0 → (e : ℕ) → covers (look directories.now quotas.now) up.now e ≡ true → look directories.now loads.old e + look directories.now loads.old directory < 2 ^ 32 }
-    ensures { loads.new ≡ loads_then directories.now quotas.now loads.old up.now directory (look directories.now quotas.now directory == 0) (pages == 0) }
+    requires appears { look directories.now quotas.now directory ≡ 0 → 0 < pages → (e : ℕ)
+        → covers (look directories.now quotas.now) up.now e ≡ true
+        → look directories.now loads.old directory ≤ look directories.now loads.old e }
+    requires vanishes { pages ≡ 0 → (e : ℕ) → covers (look directories.now quotas.now) up.now e ≡ true
+        → look directories.now loads.old e + look directories.now loads.old directory < 2 ^ 32 }
+    ensures { loads.new ≡ loads_then directories.now quotas.now loads.old up.now directory
+        (look directories.now quotas.now directory == 0) (pages == 0) }
 {
     let before = value(directories, quotas, directory);
     let load = value(directories, loads, directory);
@@ -141,10 +150,14 @@ pub(crate) fn change(
     requires here { has directories.now directory ≡ true }
     requires there { AreThere directories.now up.now }
     requires falls { IsFalling up.now }
-    requires appears { look directories.now quotas.old directory ≡ 0 → 0 < pages → (e : ℕ) → covers (look directories.now quotas.old) up.now e ≡ true → look directories.now loads.old directory ≤ look directories.now loads.old e }
-    requires vanishes { pages ≡ 0 → (e : ℕ) → covers (look directories.now quotas.old) up.now e ≡ true → look directories.now loads.old e + look directories.now loads.old directory < 2 ^ 32 }
+    requires appears { look directories.now quotas.old directory ≡ 0 → 0 < pages → (e : ℕ)
+        → covers (look directories.now quotas.old) up.now e ≡ true
+        → look directories.now loads.old directory ≤ look directories.now loads.old e }
+    requires vanishes { pages ≡ 0 → (e : ℕ) → covers (look directories.now quotas.old) up.now e ≡ true
+        → look directories.now loads.old e + look directories.now loads.old directory < 2 ^ 32 }
     ensures quotas { quotas.new ≡ with_value directories.now quotas.old directory pages }
-    ensures loads { loads.new ≡ loads_then directories.now quotas.old loads.old up.now directory (look directories.now quotas.old directory == 0) (pages == 0) }
+    ensures loads { loads.new ≡ loads_then directories.now quotas.old loads.old up.now directory
+        (look directories.now quotas.old directory == 0) (pages == 0) }
 {
     shift(loads, directories, quotas, up, directory, pages);
     let at = place(directories, directory);
@@ -175,10 +188,21 @@ pub(crate) fn transfer(
     requires some { 0 < more }
     requires gives { 0 < look directories.now quotas.old giver }
     requires other { getter ≢ giver }
-    requires appears { look directories.now quotas.old getter ≡ 0 → (e : ℕ) → covers (look directories.now quotas.old) above_getter.now e ≡ true → look directories.now loads.old getter ≤ look directories.now loads.old e }
-    requires vanishes { less ≡ 0 → (e : ℕ) → covers (look directories.now (with_value directories.now quotas.old getter more)) above_giver.now e ≡ true → look directories.now (loads_then directories.now quotas.old loads.old above_getter.now getter (look directories.now quotas.old getter == 0) (more == 0)) e + look directories.now (loads_then directories.now quotas.old loads.old above_getter.now getter (look directories.now quotas.old getter == 0) (more == 0)) giver < 2 ^ 32 }
-    ensures quotas { quotas.new ≡ with_value directories.now (with_value directories.now quotas.old getter more) giver less }
-    ensures loads { loads.new ≡ loads_then directories.now (with_value directories.now quotas.old getter more) (loads_then directories.now quotas.old loads.old above_getter.now getter (look directories.now quotas.old getter == 0) (more == 0)) above_giver.now giver (look directories.now (with_value directories.now quotas.old getter more) giver == 0) (less == 0) }
+    requires appears { look directories.now quotas.old getter ≡ 0 → (e : ℕ)
+        → covers (look directories.now quotas.old) above_getter.now e ≡ true
+        → look directories.now loads.old getter ≤ look directories.now loads.old e }
+    requires vanishes { less ≡ 0 → (e : ℕ) → covers (look directories.now
+        (with_value directories.now quotas.old getter more)) above_giver.now e ≡ true
+        → look directories.now (loads_then directories.now quotas.old loads.old above_getter.now getter
+        (look directories.now quotas.old getter == 0) (more == 0)) e + look directories.now
+        (loads_then directories.now quotas.old loads.old above_getter.now getter
+        (look directories.now quotas.old getter == 0) (more == 0)) giver < 2 ^ 32 }
+    ensures quotas { quotas.new ≡ with_value directories.now (with_value directories.now quotas.old getter more) giver
+        less }
+    ensures loads { loads.new ≡ loads_then directories.now (with_value directories.now quotas.old getter more)
+        (loads_then directories.now quotas.old loads.old above_getter.now getter
+        (look directories.now quotas.old getter == 0) (more == 0)) above_giver.now giver
+        (look directories.now (with_value directories.now quotas.old getter more) giver == 0) (less == 0) }
 {
     change(quotas, loads, directories, above_getter, getter, more);
     change(quotas, loads, directories, above_giver, giver, less);

@@ -8,14 +8,16 @@
 //!
 //! Costs: `new` takes all memory, once: five numbers of 4 bytes for each of 4097 cells. A look-up halves a list of
 //! uids: at most 13 looks. To go up is to read the directories above a node from the tree, at most 9 with one look-up
-//! each, and to look their cells up to the first account. `credit` goes up once from the segment, `charge` twice:
-//! once to see whether the account is full, and once to count. `move_quota` goes up at most three times: from the
-//! superior, to see whether the quota may move, where it looks at no more than three accounts for one that would be
-//! above its quota, and then from each of the two directories; besides, it reads the directories above twice, for the
-//! superior. `enter` and `leave` move a part of the lists by one place. None but `new` takes memory.
+//! each, and to look their cells up to the first account. `credit` goes up once from the segment, for one page or for
+//! many, and `charge` reads what is above it once, and looks it up twice: to see whether the account is full, and to
+//! count. `move_quota` reads what is above the directory, and then what is above its superior to see whether the quota
+//! may move, where it looks at no more than three accounts for one that would be above its quota; then it goes up from
+//! each of the two directories. `enter` and `leave` move a part of the lists by one place. None but `new` takes memory.
 #![tactic(auto)]
 
-ghost use Rattle.std.specs.Prelude.{◌≡◌, ◌≢◌, ◌<◌, ◌≤◌, ◌+◌, ◌-◌, ◌^◌, ◌==◌, ◌&&◌, ◌||◌, not, ℕ, Bool, true, false, Some, None, List, length, IfOk, IfErr, IfSome, IfNone, OnOk, OnErr, IsErr, sum, if◌then◌else◌, [], ◌∷◌, vec_capacity};
+ghost use Rattle.std.specs.Prelude.{◌≡◌, ◌≢◌, ◌<◌, ◌≤◌, ◌+◌, ◌-◌, ◌^◌, ◌==◌, ◌&&◌, ◌||◌, not, ℕ, Bool, true, false};
+ghost use Rattle.std.specs.Prelude.{Some, None, List, length, IfOk, IfErr, IfSome, IfNone, OnOk, OnErr, IsErr, sum};
+ghost use Rattle.std.specs.Prelude.{if◌then◌else◌, [], ◌∷◌, vec_capacity};
 ghost use Rattle.storage_terms.specs.Tree.{above, account, account_of, used_by};
 ghost use Rattle.dir_tree.specs.declared.node.Node.{Node};
 ghost use Rattle.dir_tree.specs.Nodes.{with_quotas, root_alone, is_in, is_directory, is_segment, without};
@@ -23,7 +25,9 @@ ghost use Rattle.dir_tree.specs.Shape.{shapes};
 ghost use Rattle.storage_terms.specs.Trees.{HasChains};
 ghost use Rattle.quota_cells.specs.Accounts.{has, covers, is_an_account};
 ghost use Rattle.quota_cells.specs.Columns.{AreThere, IsFalling};
-ghost use Rattle.quota_cells.specs.Cells.{IsTable, quota_in, load_in, stored_in, used_in, Fits, AreWithin, root_cell, charged, credited, charge_fault, has_cell, Enters, Leaves, moved, move_answer, first_over, with_quota, CountsUsed};
+ghost use Rattle.quota_cells.specs.Cells.{IsTable, quota_in, load_in, stored_in, used_in, Fits, AreWithin, root_cell};
+ghost use Rattle.quota_cells.specs.Cells.{charged, credited, charge_fault, has_cell, Enters, Leaves, moved};
+ghost use Rattle.quota_cells.specs.Cells.{move_answer, first_over, with_quota, CountsUsed};
 ghost use Rattle.storage_terms.specs.Quotas.{superior_of, tree_moved};
 ghost use Rattle.quota_cells.specs.Moves.{cell_in};
 ghost use Rattle.quota_cells.specs.Scratch.{HoldCounts, charge_answer, scratch_answer};
@@ -91,9 +95,23 @@ impl Model for Cells {
 
     ghost Value = { CellMaps };
 
-    ghost view = { λ c. record { directories = c.directories.items; quotas = c.quotas.items; loads = c.loads.items; segments = c.segments.items; stored = c.stored.items } };
+    ghost view = { λ c. record {
+      directories = c.directories.items;
+      quotas = c.quotas.items;
+      loads = c.loads.items;
+      segments = c.segments.items;
+      stored = c.stored.items;
+    } };
 
-    ghost invariant = { λ c. IsTable (record { directories = c.directories.items; quotas = c.quotas.items; loads = c.loads.items; segments = c.segments.items; stored = c.stored.items }) × (4097 ≤ vec_capacity c.directories) × (4097 ≤ vec_capacity c.quotas) × (4097 ≤ vec_capacity c.loads) × (4097 ≤ vec_capacity c.segments) × (4097 ≤ vec_capacity c.stored) };
+    ghost invariant = { λ c. IsTable (record {
+      directories = c.directories.items;
+      quotas = c.quotas.items;
+      loads = c.loads.items;
+      segments = c.segments.items;
+      stored = c.stored.items;
+    }) × (4097 ≤ vec_capacity c.directories)
+        × (4097 ≤ vec_capacity c.quotas) × (4097 ≤ vec_capacity c.loads) × (4097 ≤ vec_capacity c.segments)
+        × (4097 ≤ vec_capacity c.stored) };
 }
 
 /// An empty column with room for all cells.
@@ -151,7 +169,8 @@ impl Cells {
         requires room { length self.old.directories + length self.old.segments < 4097 }
         requires absent { has_cell self.old uid ≡ false }
         ensures enters { Enters self.old self.new uid dir }
-        ensures fits { (nodes : List Node) (n : Node) → n.uid ≡ uid → n.dir ≡ dir → is_in nodes uid ≡ false → HasChains (shapes nodes) → Fits nodes self.old → Fits (n ∷ nodes) self.new }
+        ensures fits { (nodes : List Node) (n : Node) → n.uid ≡ uid → n.dir ≡ dir → is_in nodes uid ≡ false
+            → HasChains (shapes nodes) → Fits nodes self.old → Fits (n ∷ nodes) self.new }
     {
         if dir {
             self.enter_directory(uid);
@@ -198,7 +217,9 @@ impl Cells {
         requires quota { quota_in self.old uid ≡ 0 }
         requires stored { stored_in self.old uid ≡ 0 }
         ensures leaves { Leaves self.old self.new uid }
-        ensures fits { (nodes : List Node) → ((u : ℕ) → u ≢ uid → above (shapes (without uid nodes)) u ≡ above (shapes nodes) u) → length (without uid nodes) + 1 ≡ length nodes → Fits nodes self.old → Fits (without uid nodes) self.new }
+        ensures fits { (nodes : List Node) → ((u : ℕ) → u ≢ uid
+            → above (shapes (without uid nodes)) u ≡ above (shapes nodes) u)
+            → length (without uid nodes) + 1 ≡ length nodes → Fits nodes self.old → Fits (without uid nodes) self.new }
     {
         match columns::search(&self.directories, uid) {
             Ok(_) => self.drop_directory(uid),
@@ -255,7 +276,8 @@ impl Cells {
     /// each segment as its cell says.
     pub fn used(&self, a: u32) -> u32
         ensures used { result ≡ used_in self.now a }
-        ensures scratch { (nodes : List Node) (stored : List (ℕ × ℕ)) → HasChains (shapes nodes) → Fits nodes self.now → HoldCounts self.now stored → result ≡ used_by (with_quotas (quota_in self.now) nodes) stored a }
+        ensures scratch { (nodes : List Node) (stored : List (ℕ × ℕ)) → HasChains (shapes nodes) → Fits nodes self.now
+            → HoldCounts self.now stored → result ≡ used_by (with_quotas (quota_in self.now) nodes) stored a }
         ensures within { AreWithin self.now }
         ensures table { IsTable self.now }
     {
@@ -280,7 +302,8 @@ impl Cells {
     pub fn may_charge(&self, t: &Tree, seg: u32) -> Result<(), Full>
         requires segment { is_segment t.now.nodes seg ≡ true }
         requires fits { Fits t.now.nodes self.now }
-        ensures { (stored : List (ℕ × ℕ)) → HoldCounts self.now stored → result ≡ charge_answer (with_quotas (quota_in self.now) t.now.nodes) stored seg }
+        ensures { (stored : List (ℕ × ℕ)) → HoldCounts self.now stored
+            → result ≡ charge_answer (with_quotas (quota_in self.now) t.now.nodes) stored seg }
     {
         let up = t.superiors(seg);
         self.room_for(up.as_slice())
@@ -326,8 +349,10 @@ impl Cells {
     pub fn charge(&mut self, t: &Tree, seg: u32) -> Result<(), Full>
         requires segment { is_segment t.now.nodes seg ≡ true }
         requires fits { Fits t.now.nodes self.old }
-        ensures scratch { (stored : List (ℕ × ℕ)) → HoldCounts self.old stored → result ≡ charge_answer (with_quotas (quota_in self.old) t.now.nodes) stored seg }
-        ensures stored { OnOk result ((s : ℕ) → stored_in self.new s ≡ (if seg == s then stored_in self.old seg + 1 else stored_in self.old s)) }
+        ensures scratch { (stored : List (ℕ × ℕ)) → HoldCounts self.old stored
+            → result ≡ charge_answer (with_quotas (quota_in self.old) t.now.nodes) stored seg }
+        ensures stored { OnOk result ((s : ℕ) → stored_in self.new s ≡
+            (if seg == s then stored_in self.old seg + 1 else stored_in self.old s)) }
         ensures quotas { quota_in self.new ≡ quota_in self.old }
         ensures err { OnErr result (self.new ≡ self.old) }
         ensures fits { Fits t.now.nodes self.new }
@@ -354,13 +379,7 @@ impl Cells {
     {
         let at = columns::place(&self.segments, seg);
         self.stored[at] += 1;
-        columns::lift(
-            &mut self.loads,
-            &self.directories,
-            &self.quotas,
-            up,
-            1,
-        );
+        columns::lift(&mut self.loads, &self.directories, &self.quotas, up, 1);
     }
 
     /// Counts one stored page of a segment less, to the credit of the account that it has now.
@@ -368,7 +387,8 @@ impl Cells {
         requires segment { is_segment t.now.nodes seg ≡ true }
         requires stored { 0 < stored_in self.old seg }
         requires fits { Fits t.now.nodes self.old }
-        ensures stored { (s : ℕ) → stored_in self.new s ≡ (if seg == s then stored_in self.old seg - 1 else stored_in self.old s) }
+        ensures stored { (s : ℕ) → stored_in self.new s ≡
+            (if seg == s then stored_in self.old seg - 1 else stored_in self.old s) }
         ensures quotas { quota_in self.new ≡ quota_in self.old }
         ensures fits { Fits t.now.nodes self.new }
     {
@@ -381,7 +401,8 @@ impl Cells {
         requires segment { is_segment t.now.nodes seg ≡ true }
         requires stored { pages ≤ stored_in self.old seg }
         requires fits { Fits t.now.nodes self.old }
-        ensures stored { (s : ℕ) → stored_in self.new s ≡ (if seg == s then stored_in self.old seg - pages else stored_in self.old s) }
+        ensures stored { (s : ℕ) → stored_in self.new s ≡
+            (if seg == s then stored_in self.old seg - pages else stored_in self.old s) }
         ensures quotas { quota_in self.new ≡ quota_in self.old }
         ensures fits { Fits t.now.nodes self.new }
     {
@@ -402,13 +423,7 @@ impl Cells {
     {
         let at = columns::place(&self.segments, seg);
         self.stored[at] -= pages;
-        columns::lower(
-            &mut self.loads,
-            &self.directories,
-            &self.quotas,
-            up,
-            pages,
-        );
+        columns::lower(&mut self.loads, &self.directories, &self.quotas, up, pages);
     }
 
     /// What `move_quota` would refuse.
@@ -421,7 +436,9 @@ impl Cells {
         requires branch { dir ≢ 1 }
         requires amount { 0 < unsigned_abs amount }
         requires fits { Fits t.now.nodes self.now }
-        ensures { (stored : List (ℕ × ℕ)) → HoldCounts self.now stored → result ≡ scratch_answer (with_quotas (quota_in self.now) t.now.nodes) stored dir (is_positive amount) (unsigned_abs amount) }
+        ensures { (stored : List (ℕ × ℕ)) → HoldCounts self.now stored
+            → result ≡ scratch_answer (with_quotas (quota_in self.now) t.now.nodes) stored dir (is_positive amount)
+            (unsigned_abs amount) }
     {
         let superior = superior_of(t, dir);
         self.move_refusal(t, dir, superior, amount)
@@ -438,7 +455,8 @@ impl Cells {
         requires chains { HasChains (shapes t.now.nodes) }
         requires amount { 0 < unsigned_abs amount }
         requires fits { Fits t.now.nodes self.now }
-        ensures answer { result ≡ move_answer self.now (above (shapes t.now.nodes)) dir (is_positive amount) (unsigned_abs amount) }
+        ensures answer { result ≡ move_answer self.now (above (shapes t.now.nodes)) dir (is_positive amount)
+            (unsigned_abs amount) }
         ensures table { IsTable self.now }
     {
         prove!(self.directories.len() == self.quotas.len());
@@ -495,8 +513,11 @@ impl Cells {
         requires branch { dir ≢ 1 }
         requires amount { 0 < unsigned_abs amount }
         requires fits { Fits t.now.nodes self.old }
-        ensures scratch { (stored : List (ℕ × ℕ)) → HoldCounts self.old stored → result ≡ scratch_answer (with_quotas (quota_in self.old) t.now.nodes) stored dir (is_positive amount) (unsigned_abs amount) }
-        ensures tree { OnOk result (with_quotas (quota_in self.new) t.now.nodes ≡ tree_moved (with_quotas (quota_in self.old) t.now.nodes) dir (is_positive amount) (unsigned_abs amount)) }
+        ensures scratch { (stored : List (ℕ × ℕ)) → HoldCounts self.old stored
+            → result ≡ scratch_answer (with_quotas (quota_in self.old) t.now.nodes) stored dir (is_positive amount)
+            (unsigned_abs amount) }
+        ensures tree { OnOk result (with_quotas (quota_in self.new) t.now.nodes ≡ tree_moved
+            (with_quotas (quota_in self.old) t.now.nodes) dir (is_positive amount) (unsigned_abs amount)) }
         ensures stored { (s : ℕ) → stored_in self.new s ≡ stored_in self.old s }
         ensures err { OnErr result (self.new ≡ self.old) }
         ensures fits { Fits t.now.nodes self.new }
@@ -507,7 +528,13 @@ impl Cells {
     }
 
     /// Moves quota between a directory and this superior of it.
-    fn move_between(&mut self, t: &Tree, dir: u32, superior: u32, amount: i32) -> Result<(), MoveFault>
+    fn move_between(
+        &mut self,
+        t: &Tree,
+        dir: u32,
+        superior: u32,
+        amount: i32,
+    ) -> Result<(), MoveFault>
         requires directory { is_directory t.now.nodes dir ≡ true }
         requires branch { dir ≢ 1 }
         requires is { superior_of (above (shapes t.now.nodes)) dir ≡ superior }
@@ -517,8 +544,10 @@ impl Cells {
         requires chains { HasChains (shapes t.now.nodes) }
         requires amount { 0 < unsigned_abs amount }
         requires fits { Fits t.now.nodes self.old }
-        ensures answer { result ≡ move_answer self.old (above (shapes t.now.nodes)) dir (is_positive amount) (unsigned_abs amount) }
-        ensures ok { OnOk result (self.new ≡ moved self.old (above (shapes t.now.nodes)) dir (is_positive amount) (unsigned_abs amount)) }
+        ensures answer { result ≡ move_answer self.old (above (shapes t.now.nodes)) dir (is_positive amount)
+            (unsigned_abs amount) }
+        ensures ok { OnOk result (self.new ≡ moved self.old (above (shapes t.now.nodes)) dir (is_positive amount)
+            (unsigned_abs amount)) }
         ensures err { OnErr result (self.new ≡ self.old) }
         ensures table { IsTable self.old }
         ensures fits { Fits t.now.nodes self.new }
@@ -541,8 +570,12 @@ impl Cells {
         requires pages { 0 < pages }
         requires enough { pages ≤ quota_in self.old giver }
         requires fits { Fits t.now.nodes self.old }
-        requires none { first_over (with_quota (with_quota self.old (above (shapes t.now.nodes) getter) getter (quota_in self.old getter + pages)) (above (shapes t.now.nodes) giver) giver (quota_in self.old giver - pages)) ≡ None }
-        ensures cells { self.new ≡ with_quota (with_quota self.old (above (shapes t.now.nodes) getter) getter (quota_in self.old getter + pages)) (above (shapes t.now.nodes) giver) giver (quota_in self.old giver - pages) }
+        requires none { first_over (with_quota (with_quota self.old (above (shapes t.now.nodes) getter) getter
+            (quota_in self.old getter + pages)) (above (shapes t.now.nodes) giver) giver
+            (quota_in self.old giver - pages)) ≡ None }
+        ensures cells { self.new ≡ with_quota (with_quota self.old (above (shapes t.now.nodes) getter) getter
+            (quota_in self.old getter + pages)) (above (shapes t.now.nodes) giver) giver
+            (quota_in self.old giver - pages) }
         ensures fits { Fits t.now.nodes self.new }
         ensures total { sum self.new.quotas ≡ sum self.old.quotas }
     {

@@ -1,7 +1,8 @@
 //! Whether an account would be above its quota once quota has moved, from the numbers before the move.
 
 ghost use Rattle.std.specs.Prelude.{◌≡◌, ◌≤◌, ◌+◌, ◌-◌, ◌==◌, ◌&&◌, not, nat_lt};
-ghost use Rattle.quota_cells.specs.Moves.{load_left, load_grown, is_account_over, is_giver_over, refusal_down, refusal_up};
+ghost use Rattle.quota_cells.specs.Moves.{load_left, load_grown, is_account_over, is_giver_over, refusal_down};
+ghost use Rattle.quota_cells.specs.Moves.{refusal_up};
 
 use crate::MoveFault;
 use dir_tree::ROOT;

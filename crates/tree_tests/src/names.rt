@@ -14,7 +14,13 @@ fn named(alloc: Global, number: u32) -> Result<String, AllocError> {
 }
 
 // Adds the branch with this number, which gets this uid.
-fn fill(rt: &impl Abort, alloc: Global, tree: &mut Tree, number: u32, uid: u32) -> Result<(), Fail> {
+fn fill(
+    rt: &impl Abort,
+    alloc: Global,
+    tree: &mut Tree,
+    number: u32,
+    uid: u32,
+) -> Result<(), Fail> {
     let text = named(alloc, number)?;
     assert_eq!(rt; add(rt, tree, ROOT, segment(rt, text.as_str())), Ok(uid));
     Ok(())
@@ -49,7 +55,13 @@ fn names_that_differ_at_their_ends_are_found_in_rising_order(rt: HostRuntime) ->
 fn names_that_differ_at_their_ends_are_found_in_falling_order(rt: HostRuntime) -> Result<(), Fail> {
     let mut tree = Tree::new(rt.alloc(), 0, 0).map_err(|_| "memory")?;
     for number in 0..BRANCHES {
-        fill(&rt, rt.alloc(), &mut tree, BRANCHES - 1 - number, number + 2)?;
+        fill(
+            &rt,
+            rt.alloc(),
+            &mut tree,
+            BRANCHES - 1 - number,
+            number + 2,
+        )?;
     }
     for number in 0..BRANCHES {
         find(&rt, rt.alloc(), &tree, BRANCHES - 1 - number, number + 2)?;

@@ -31,7 +31,12 @@ pub(crate) fn segment(rt: &impl Abort, text: &str) -> NewNode {
 }
 
 // Adds a branch, where the conditions of the call hold.
-pub(crate) fn add(rt: &impl Abort, tree: &mut Tree, superior: u32, new: NewNode) -> Result<u32, AddFault> {
+pub(crate) fn add(
+    rt: &impl Abort,
+    tree: &mut Tree,
+    superior: u32,
+    new: NewNode,
+) -> Result<u32, AddFault> {
     let node = tree.node(superior).expect(rt, "the superior");
     assert!(rt; node.dir);
     assert!(rt; tree.next_uid() < 1 << 31);
