@@ -6,7 +6,7 @@ use Rattle.std.proofs.lemmas.Bool.Decides.{nat_tests}
 use Rattle.std.proofs.lemmas.Grind.{common_steps}
 use Rattle.mnames.specs.declared.modes.Mode.{Mode}
 use Rattle.mnames.specs.declared.modes.Mode.TheVariants as mode
-use Rattle.storage_terms.specs.Access.{Row, names_just, mode_at, with_row, has_row, takes_row}
+use Rattle.tree_model.specs.Access.{Row, names_just, mode_at, with_row, has_row, takes_row}
 
 drop_at : (rows : List Row) (i : ℕ) (d : Row) → i < length rows → drop i rows ≡ get_or rows i d ∷ drop (i + 1) rows
 drop_at rows i d h = rw (add-one, drop-cons rows i d) refl

@@ -8,7 +8,7 @@ mod tests;
 
 ghost use Rattle.std.specs.Prelude.{◌≡◌, ◌∷◌, [], ◌↔◌, Some, IsOk, IsTrue, OnOk, OnErr, option_map};
 ghost use Rattle.std.specs.List.{position};
-ghost use Rattle.storage_terms.specs.Access.{access_of, mode_at, with_row, takes_row, is_part, names_just};
+ghost use Rattle.tree_model.specs.Access.{access_of, mode_at, with_row, takes_row, is_part, names_just};
 ghost use Rattle.mnames.specs.declared.modes.Mode.TheVariants as modes;
 
 use arrayvec::ArrayVec;
@@ -30,7 +30,7 @@ struct Grant {
 }
 
 impl Model for Grant {
-    ghost use Rattle.storage_terms.specs.Access.{Row};
+    ghost use Rattle.tree_model.specs.Access.{Row};
 
     ghost Value = { Row };
 
@@ -81,7 +81,7 @@ pub struct Acl {
 
 impl Model for Acl {
     ghost use Rattle.std.specs.Prelude.{List};
-    ghost use Rattle.storage_terms.specs.Access.{Row};
+    ghost use Rattle.tree_model.specs.Access.{Row};
 
     ghost Value = { List Row };
 
@@ -142,7 +142,7 @@ impl Acl {
     /// What a principal may do: by the row of the person on the project, else that of the person on any
     /// project, else that of anyone on the project, else that of anyone at all, else nothing. It goes
     /// through the rows at most four times, and takes no memory.
-    #[tactic(auto, unfolding(storage_terms::specs::Access::access_of))]
+    #[tactic(auto, unfolding(tree_model::specs::Access::access_of))]
     pub fn access_of(&self, who: &Who) -> Mode
         ensures { result ≡ access_of who.now self.now }
     {

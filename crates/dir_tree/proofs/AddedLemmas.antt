@@ -8,13 +8,13 @@ use Rattle.dir_tree.specs.declared.entries.Entry.{Entry}
 use Rattle.dir_tree.specs.Index.{Places, HasPlace, IsSorted, AreWithin, key_of, key_at, node_at}
 use Rattle.dir_tree.specs.Nodes.{is_directory, add_fault_of}
 use Rattle.dir_tree.specs.Shape.{shape, shapes}
-use Rattle.storage_terms.specs.Trees.{IsBranch, IsTree, Joins}
+use Rattle.tree_model.specs.Trees.{IsBranch, IsTree, Joins}
 use Rattle.dir_tree.specs.Kept.{no_entry, entry_at, newest, place_for, IsNamed, IsPlace, IsKept}
 use Rattle.dir_tree.proofs.EditLemmas.{each_pushed}
 use Rattle.dir_tree.proofs.NewestLemmas.{node_of_entry, newest_same, newest_push, length_newest}
 use Rattle.dir_tree.proofs.KeptLemmas.{MayAdd, no_fault, directory_shape, below_newest, no_place, places_within}
 use Rattle.dir_tree.proofs.IndexLemmas.{key_branch}
-use Rattle.storage_terms.specs.Tree.{branch_in}
+use Rattle.tree_model.specs.Tree.{branch_in}
 
 module _ (nodes : List Node) (es : List Entry) (free : List ℕ) (index : Places) (next : ℕ) (k : IsKept nodes es free index next) (place : ℕ) (is_place : place ≡ place_for nodes free) where
   -- the place of a new node is no entry's

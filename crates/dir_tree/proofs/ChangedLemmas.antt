@@ -2,13 +2,13 @@
 use Rattle.std.proofs.Common.{◌≡◌, ◌≢◌, ℕ, suc, ◌<◌, [], ◌∷◌, ◌++◌, arith, eqb, if◌then◌else◌, List, length, Some, refl, sym, ap, subst, ◌∙◌, get_or, set, inl, inr}
 use Rattle.std.proofs.lemmas.Bool.{cases_Bool, cases_eq, eq-eqb}
 use Rattle.std.proofs.lemmas.List.{get_or-set_same, get_or-set_other, length-set, map-append, get_or_read}
-use Rattle.storage_terms.specs.Tree.{Node as Term}
+use Rattle.tree_model.specs.Tree.{Node as Term}
 use Rattle.dir_tree.specs.declared.node.Node.{Node}
 use Rattle.dir_tree.specs.declared.entries.Entry.{Entry}
 use Rattle.dir_tree.specs.Index.{Places, Key, HasPlace, key_at, node_at, no_node}
 use Rattle.dir_tree.specs.Nodes.{with_changed, node_of, acl_of}
 use Rattle.dir_tree.specs.Shape.{shape, shapes}
-use Rattle.storage_terms.specs.Trees.{IsTree}
+use Rattle.tree_model.specs.Trees.{IsTree}
 use Rattle.dir_tree.specs.Kept.{entry_at, newest, IsNamed, IsKept, HasEntry}
 use Rattle.dir_tree.proofs.NewestLemmas.{node_of_entry, newest_changed}
 use Rattle.dir_tree.proofs.KeptLemmas.{apart_places, not_of, node_read}

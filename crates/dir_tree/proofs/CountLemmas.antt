@@ -11,11 +11,11 @@ use Rattle.dir_tree.specs.declared.entries.Entry.{Entry}
 use Rattle.dir_tree.specs.Index.{Places, node_at}
 use Rattle.dir_tree.specs.Nodes.{is_directory}
 use Rattle.dir_tree.specs.Shape.{shapes}
-use Rattle.storage_terms.specs.Trees.{IsTree}
+use Rattle.tree_model.specs.Trees.{IsTree}
 use Rattle.dir_tree.specs.Kept.{no_entry, entry_at, newest, lies_in, recount, recounted, HasEntry, IsAscending, IsCounted, IsKept, IsNamed}
 use Rattle.dir_tree.proofs.EditLemmas.{each_pushed, each_left, was, was_up, was_within, now, was_now, now_within, at_was}
 use Rattle.dir_tree.proofs.KeptLemmas.{directory_in, directory_shape, entry_present, superior_read}
-use Rattle.storage_terms.proofs.TreeLaws.{superior_in, superior_up, IsUp}
+use Rattle.tree_model.proofs.TreeLaws.{superior_in, superior_up, IsUp}
 
 -- ---- entries below a uid
 

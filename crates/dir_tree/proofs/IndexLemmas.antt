@@ -13,12 +13,12 @@ use Rattle.std.proofs.lemmas.Map.Text.{is_eq-slice_cmp}
 use Rattle.std.proofs.lemmas.Slice.Eq.{bytes_eq-Decides}
 use Rattle.std.proofs.lemmas.Bool.{cases_lt, cases_eq, cases_order, and_from}
 use Rattle.std.proofs.lemmas.List.Edits.{length-insert, get_or-insert_below, get_or-insert_at, get_or-insert_above, get_or-remove_below, get_or-remove_above}
-use Rattle.storage_terms.specs.Tree.{is_branch, is_inferior}
+use Rattle.tree_model.specs.Tree.{is_branch, is_inferior}
 use Rattle.dir_tree.specs.declared.node.Node.{Node}
 use Rattle.dir_tree.specs.Shape.{shape}
 use Rattle.dir_tree.specs.Index.{Key, HasPlace, IsSorted, node_at, key_of, key_at, key_cmp}
 use Rattle.dir_tree.proofs.EditLemmas.{was, was_other, was_up, at_was, fewer, was_within}
-use Rattle.storage_terms.proofs.TreeLaws.{lies, is_below}
+use Rattle.tree_model.proofs.TreeLaws.{lies, is_below}
 
 -- ---- the order of keys
 

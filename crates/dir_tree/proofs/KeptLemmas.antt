@@ -4,18 +4,18 @@ use Rattle.std.specs.List.{find, list_any}
 use Rattle.std.specs.Option.{option_map, option_and_then}
 use Rattle.std.proofs.lemmas.Bool.{cases_Bool, cases_lt, cases_order, both_ways, le-leb, eq-eqb, ne_eqb, eqb-true, leb-false, and_from}
 use Rattle.std.proofs.lemmas.List.{map-append, get_or_read}
-use Rattle.storage_terms.specs.Tree.{Node as Term, above, branch_in, is_branch, is_inferior, has_directory}
+use Rattle.tree_model.specs.Tree.{Node as Term, above, branch_in, is_branch, is_inferior, has_directory}
 use Rattle.dir_tree.specs.declared.node.Node.{Node}
 use Rattle.dir_tree.specs.declared.node.AddFault.TheVariants as add_fault
 use Rattle.dir_tree.specs.declared.entries.Entry.{Entry}
 use Rattle.dir_tree.specs.Index.{Places, HasPlace, AreWithin, node_at, no_node}
 use Rattle.dir_tree.specs.Nodes.{node_of, is_in, is_directory, is_segment, add_fault_of}
 use Rattle.dir_tree.specs.Shape.{shape, shapes}
-use Rattle.storage_terms.specs.Trees.{AreBelow}
+use Rattle.tree_model.specs.Trees.{AreBelow}
 use Rattle.dir_tree.specs.Kept.{entry_at, newest, IsNamed, IsKept, HasEntry}
-use Rattle.storage_terms.proofs.Finds.{IsMember, member_parts, member_map, member_found, branch_found, any_member, any_found, find_map, found_member, found_passes}
+use Rattle.tree_model.proofs.Finds.{IsMember, member_parts, member_map, member_found, branch_found, any_member, any_found, find_map, found_member, found_passes}
 use Rattle.dir_tree.proofs.NewestLemmas.{node_of_entry, none_newest, find_newest, member_newest}
-use Rattle.storage_terms.proofs.TreeLaws.{superior_in, lies, only_branch, is_below, not_below, IsUp}
+use Rattle.tree_model.proofs.TreeLaws.{superior_in, lies, only_branch, is_below, not_below, IsUp}
 
 -- ---- nodes and their shapes
 

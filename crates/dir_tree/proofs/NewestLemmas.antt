@@ -7,7 +7,7 @@ use Rattle.dir_tree.specs.declared.node.Node.{Node}
 use Rattle.dir_tree.specs.declared.entries.Entry.{Entry}
 use Rattle.dir_tree.specs.Index.{node_at}
 use Rattle.dir_tree.specs.Kept.{entry_at, newest}
-use Rattle.storage_terms.proofs.Finds.{IsMember, found_front, past_front, member_left, member_right}
+use Rattle.tree_model.proofs.Finds.{IsMember, found_front, past_front, member_left, member_right}
 
 -- the node of the i-th entry
 abbrev pub node_of_entry : List Node → List Entry → ℕ → Node

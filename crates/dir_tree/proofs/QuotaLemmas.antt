@@ -5,13 +5,13 @@ use Rattle.std.specs.List.{find}
 use Rattle.std.specs.Option.{option_map, option_and_then}
 use Rattle.std.proofs.lemmas.Bool.{cases_Bool, eq-eqb}
 use Rattle.std.proofs.lemmas.List.{length-map, at_drop_more, at_drop_all}
-use Rattle.storage_terms.specs.Tree.{Node as Term, Walk, LeadsTo, node_in, above, branch_in, is_branch, is_inferior, onward, step_up, walk_from, walk_in}
+use Rattle.tree_model.specs.Tree.{Node as Term, Walk, LeadsTo, node_in, above, branch_in, is_branch, is_inferior, onward, step_up, walk_from, walk_in}
 use Rattle.dir_tree.specs.declared.node.Node.{Node}
 use Rattle.dir_tree.specs.Nodes.{as_term, node_of, with_quotas, add_fault_of, has_inferior, unless}
 use Rattle.dir_tree.specs.Shape.{shape, shapes}
-use Rattle.storage_terms.specs.Trees.{IsTree, Joins}
-use Rattle.storage_terms.proofs.TreeLaws.{superior_in}
-use Rattle.storage_terms.proofs.Finds.{find_map, branch_found}
+use Rattle.tree_model.specs.Trees.{IsTree, Joins}
+use Rattle.tree_model.proofs.TreeLaws.{superior_in}
+use Rattle.tree_model.proofs.Finds.{find_map, branch_found}
 
 pub above_any : (q : ℕ → ℕ) (ns : List Node) (u : ℕ) → above (with_quotas q ns) u ≡ above (shapes ns) u
 above_any q [] u = refl

@@ -5,18 +5,18 @@ use Rattle.std.specs.List.{find, remove, list_any}
 use Rattle.std.specs.Option.{option_map}
 use Rattle.std.proofs.lemmas.Bool.{cases_lt, eq-eqb, not_from_true, not_from_false}
 use Rattle.std.proofs.lemmas.List.{get_or_read, length_push, get_or_append_left, get_or_push}
-use Rattle.storage_terms.specs.Tree.{is_inferior}
+use Rattle.tree_model.specs.Tree.{is_inferior}
 use Rattle.dir_tree.specs.declared.node.Node.{Node}
 use Rattle.dir_tree.specs.declared.entries.Entry.{Entry}
 use Rattle.dir_tree.specs.Index.{Places, HasPlace, IsSorted, node_at}
 use Rattle.dir_tree.specs.Nodes.{without, node_of}
 use Rattle.dir_tree.specs.Shape.{shape, shapes}
-use Rattle.storage_terms.specs.Trees.{IsTree}
+use Rattle.tree_model.specs.Trees.{IsTree}
 use Rattle.dir_tree.specs.Kept.{no_entry, entry_at, newest, IsNamed, IsPlace, IsKept}
 use Rattle.dir_tree.proofs.EditLemmas.{each_pushed, each_left, was, was_up, was_other, now, was_now, at_was, fewer, was_within, now_within}
-use Rattle.storage_terms.proofs.Finds.{filter_map_same, find_map}
+use Rattle.tree_model.proofs.Finds.{filter_map_same, find_map}
 use Rattle.dir_tree.proofs.NewestLemmas.{node_of_entry, newest_remove}
-use Rattle.storage_terms.proofs.TreeLaws.{tree_left, root_only}
+use Rattle.tree_model.proofs.TreeLaws.{tree_left, root_only}
 use Rattle.dir_tree.proofs.KeptLemmas.{apart_places, not_of, node_found}
 
 module _ (nodes : List Node) (es : List Entry) (free : List ℕ) (index : Places) (next : ℕ) (k : IsKept nodes es free index next) (i : ℕ) (within : i < length es) (index' : Places)

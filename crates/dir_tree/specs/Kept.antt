@@ -5,7 +5,7 @@ use Rattle.dir_tree.specs.declared.node.Node.{Node}
 use Rattle.dir_tree.specs.declared.entries.Entry.{Entry}
 use Rattle.dir_tree.specs.Index.{Places, HasPlace, IsSorted, node_at}
 use Rattle.dir_tree.specs.Shape.{shapes}
-use Rattle.storage_terms.specs.Trees.{IsTree}
+use Rattle.tree_model.specs.Trees.{IsTree}
 
 abbrev pub no_entry : Entry
 no_entry = record { uid = 0; superior = None; place = 0; inferiors = 0 }

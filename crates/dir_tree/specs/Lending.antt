@@ -1,7 +1,7 @@
 -- What `acl_mut` lends.
 use Rattle.std.specs.Prelude.{ℕ, List}
 use Rattle.std.specs.Borrow.{Lends, MutBor, Fml}
-use Rattle.storage_terms.specs.Access.{Row}
+use Rattle.tree_model.specs.Access.{Row}
 use Rattle.acl.specs.contracts.Acl.{the_row as acl_row}
 use Rattle.dir_tree.specs.Nodes.{Branches, with_acl}
 use Rattle.dir_tree.specs.contracts.Tree.{the_row}

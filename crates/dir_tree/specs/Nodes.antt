@@ -2,8 +2,8 @@
 use Rattle.std.specs.Prelude.{ℕ, ◌+◌, ◌==◌, Bool, true, false, ◌&&◌, not, if◌then◌else◌, nat_le, List, [], ◌∷◌, length, map, reverse, Option, Some, None}
 use Rattle.std.specs.Prelude.{Result, Ok, Err, is_some, codes}
 use Rattle.std.specs.List.{find, filter, list_any}
-use Rattle.storage_terms.specs.Access.{Row}
-use Rattle.storage_terms.specs.Tree.{Node as Term, Walk, LeadsTo, Missing, InSegment, above, branch_in, is_inferior}
+use Rattle.tree_model.specs.Access.{Row}
+use Rattle.tree_model.specs.Tree.{Node as Term, Walk, LeadsTo, Missing, InSegment, above, branch_in, is_inferior}
 use Rattle.dir_tree.specs.declared.node.Node.{Node}
 use Rattle.dir_tree.specs.declared.node.NewNode.{NewNode}
 use Rattle.dir_tree.specs.declared.node.PathFault.{PathFault}

@@ -1,7 +1,7 @@
 -- The nodes without what may change: no change of a length, a home or an access control list touches it, and what holds
 -- of every tree speaks of it alone.
 use Rattle.std.specs.Prelude.{List, [], map}
-use Rattle.storage_terms.specs.Tree.{Node as Term}
+use Rattle.tree_model.specs.Tree.{Node as Term}
 use Rattle.dir_tree.specs.declared.node.Node.{Node}
 
 abbrev pub shape : Node → Term

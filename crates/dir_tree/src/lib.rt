@@ -13,14 +13,14 @@
 
 ghost use Rattle.std.specs.Prelude.{◌≡◌, ◌≢◌, ◌<◌, ◌≤◌, ◌^◌, ◌+◌, ℕ, Bool, ◌&&◌, nat_le, is_some, true, false, ◌↔◌};
 ghost use Rattle.std.specs.Prelude.{List, Some, None, IsErr, length, IfOk, IfSome, IfNone, OnOk, OnErr};
-ghost use Rattle.storage_terms.specs.Access.{Row};
-ghost use Rattle.storage_terms.specs.Tree.{above, node_in, branch_in, walk_in, step_up};
+ghost use Rattle.tree_model.specs.Access.{Row};
+ghost use Rattle.tree_model.specs.Tree.{above, node_in, branch_in, walk_in, step_up};
 ghost use Rattle.std.specs.Borrow.{sem};
 ghost use Rattle.dir_tree.specs.Nodes.{acl_of, as_term, with_quotas, node_of, is_in, is_directory, is_segment};
 ghost use Rattle.dir_tree.specs.Nodes.{root_alone, path_answer, add_fault_of, unless, added, removed, has_inferior};
 ghost use Rattle.dir_tree.specs.Nodes.{with_length, with_home, with_acl, chain_of};
 ghost use Rattle.dir_tree.specs.Shape.{shape, shapes};
-ghost use Rattle.storage_terms.specs.Trees.{IsTree, HasChains};
+ghost use Rattle.tree_model.specs.Trees.{IsTree, HasChains};
 
 mod entries;
 mod index;

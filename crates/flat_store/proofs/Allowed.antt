@@ -2,7 +2,7 @@
 use Rattle.std.proofs.Common.{◌≡◌, ◌≢◌, ℕ, suc, zero, ◌+◌, ◌<◌, ◌≤◌, Bool, true, false, cond, eqb, List, [], ◌∷◌, length, Option, Some, None, refl, sym, ap, subst, ◌∙◌, arith}
 use Rattle.std.proofs.lemmas.Bool.Decides.{nat_tests}
 use Rattle.std.proofs.lemmas.List.Sums.{sum_by-cons}
-use Rattle.storage_terms.specs.Tree.{account_of, used_by}
+use Rattle.tree_model.specs.Tree.{account_of, used_by}
 use Rattle.flat_store.proofs.Shallow.{account_root, used_root}
 use Rattle.std.specs.Prelude.{Result, Ok, Err, OnOk, count_by, IsTrue, ◌↔◌, is_some, slice_index, slice_index_or}
 use Rattle.std.proofs.lemmas.Grind.{get_or_default_zero}

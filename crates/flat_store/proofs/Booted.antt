@@ -6,7 +6,7 @@ use Rattle.std.proofs.lemmas.Bool.Decides.{nat_tests}
 use Rattle.std.proofs.lemmas.List.{length-set, length-map, length-replicate}
 use Rattle.script.specs.Plans.{Plan}
 use Rattle.script.specs.declared.plan.VolumeLine.{VolumeLine}
-use Rattle.storage_terms.specs.Tree.{entries_on, taken_on}
+use Rattle.tree_model.specs.Tree.{entries_on, taken_on}
 use Rattle.flat_store.specs.Flat.{boot, root_of, records_in, entries_in, records_of, entries_of}
 use Rattle.flat_store.specs.Kept.{Gauge, filled, gauge_at, records_gauge, entries_gauge, booted}
 use Rattle.flat_store.specs.Shown.{Shows, uid_of_place}

@@ -7,7 +7,7 @@ use Rattle.std.proofs.lemmas.List.{get_or_append_left, get_or-set_same, get_or-s
 use Rattle.std.proofs.lemmas.List.Sums.{sum_by-cons}
 use Rattle.std.proofs.Math.Seq.{get_or-append_seam}
 use Rattle.script.specs.Plans.{Plan}
-use Rattle.storage_terms.specs.Tree.{Node, volume_in, taken_on}
+use Rattle.tree_model.specs.Tree.{Node, volume_in, taken_on}
 use Rattle.flat_store.specs.Pages.{is_page, is_stored, with_stored, without_stored, IsOnce}
 use Rattle.flat_store.specs.Kept.{Seg, Gauge, no_seg, seg_at, slot_at, gauge_at, with_slot}
 use Rattle.flat_store.specs.Shown.{IsSegment, AreNodes}

@@ -4,7 +4,7 @@ use Rattle.std.specs.Prelude.{slice_set}
 use Rattle.std.proofs.lemmas.Bool.{cases_eq}
 use Rattle.std.proofs.lemmas.Bool.Decides.{nat_tests}
 use Rattle.script.specs.Plans.{Plan}
-use Rattle.storage_terms.specs.Tree.{Node, volume_in, taken_on}
+use Rattle.tree_model.specs.Tree.{Node, volume_in, taken_on}
 use Rattle.flat_store.specs.Pages.{is_stored, with_stored, without_stored, IsOnce}
 use Rattle.flat_store.specs.Flat.{Store, records_of}
 use Rattle.flat_store.specs.Kept.{Kept, Gauge, is_full, filled, drained, gauge_at, seg_at}

@@ -10,7 +10,7 @@ use Rattle.book.specs.declared.entries.Entry.{Entry}
 use Rattle.book.specs.declared.entries.Entry.TheVariants as entry
 use Rattle.book.specs.declared.replies.Reply.{Reply}
 use Rattle.book.specs.declared.replies.Reply.TheVariants as reply
-use Rattle.storage_terms.specs.Tree.{Node}
+use Rattle.tree_model.specs.Tree.{Node}
 use Rattle.flat_store.specs.Words.{word_at, with_word}
 use Rattle.flat_store.specs.Pages.{is_stored, with_stored, without_stored}
 use Rattle.flat_store.specs.Flat.{Store, segment_of, stored_by, written_in, takes_effect, effect_of, runs, made_by, made_at, known_by, known_or_full, number_for, reply_to_command, after_command}

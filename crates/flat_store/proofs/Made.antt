@@ -6,7 +6,7 @@ use Rattle.std.proofs.lemmas.Bool.Decides.{nat_tests}
 use Rattle.std.proofs.lemmas.List.{length-set, length-append, length-replicate}
 use Rattle.std.proofs.lemmas.List.Sums.{sum_by-cons}
 use Rattle.script.specs.Plans.{Plan, who_of}
-use Rattle.storage_terms.specs.Tree.{Node, entries_on}
+use Rattle.tree_model.specs.Tree.{Node, entries_on}
 use Rattle.flat_store.specs.Pages.{is_stored}
 use Rattle.flat_store.specs.Flat.{Store, made_in, entries_of}
 use Rattle.flat_store.specs.Flat as flat

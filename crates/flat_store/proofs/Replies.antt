@@ -8,7 +8,7 @@ use Rattle.script.specs.declared.commands.Command.{Command}
 use Rattle.script.specs.declared.commands.Command.TheVariants as command
 use Rattle.book.specs.declared.replies.Reply.{Reply}
 use Rattle.book.specs.declared.replies.Reply.TheVariants as reply
-use Rattle.storage_terms.specs.Tree.{Node, Walk, LeadsTo, node_in, branch_in, walk_in, quota_in, used_by, taken_on, entries_on}
+use Rattle.tree_model.specs.Tree.{Node, Walk, LeadsTo, node_in, branch_in, walk_in, quota_in, used_by, taken_on, entries_on}
 use Rattle.flat_store.specs.Words.{word_at}
 use Rattle.flat_store.specs.Pages.{is_stored}
 use Rattle.flat_store.specs.Flat.{Store, segment_of, is_past, read_of, write_of, is_used_up, is_volume_full, records_of, entries_of, read_reply, write_reply, parts_of, before_parts, make_in, make_at, make_of, make_reply, initiate_at, initiate_reply, reply_to_command}

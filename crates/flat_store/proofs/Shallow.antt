@@ -6,7 +6,7 @@ use Rattle.std.proofs.lemmas.Bool.{cases_eq}
 use Rattle.std.proofs.lemmas.Bool.Decides.{nat_tests}
 use Rattle.std.proofs.lemmas.List.Sums.{sum_by-cons}
 use Rattle.script.specs.Plans.{Plan}
-use Rattle.storage_terms.specs.Tree.{Node, LeadsTo, Missing, InSegment, node_in, is_branch, branch_in, has_directory, walk_in, step_up, above, volume_in, quota_in, account, account_of, used_by}
+use Rattle.tree_model.specs.Tree.{Node, LeadsTo, Missing, InSegment, node_in, is_branch, branch_in, has_directory, walk_in, step_up, above, volume_in, quota_in, account, account_of, used_by}
 use Rattle.flat_store.specs.Flat.{root_of}
 use Rattle.flat_store.specs.Kept.{Seg, seg_at, newest_named}
 use Rattle.flat_store.specs.Shown.{IsSegment, AreNodes}

@@ -5,7 +5,7 @@ use Rattle.std.proofs.lemmas.Bool.{cases_eq}
 use Rattle.std.proofs.lemmas.Bool.Decides.{nat_tests}
 use Rattle.std.proofs.lemmas.List.{get_or-set_same, get_or-set_other}
 use Rattle.script.specs.Plans.{Plan}
-use Rattle.storage_terms.specs.Tree.{taken_on}
+use Rattle.tree_model.specs.Tree.{taken_on}
 use Rattle.flat_store.specs.Words.{Words, word_at, with_word}
 use Rattle.flat_store.specs.Pages.{is_page, is_stored, with_stored, without_stored, IsOnce}
 use Rattle.flat_store.specs.Flat.{Store, records_of}

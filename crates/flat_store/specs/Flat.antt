@@ -9,8 +9,8 @@ use Rattle.script.specs.Plans.{Plan, who_of}
 use Rattle.script.specs.declared.plan.VolumeLine.{VolumeLine}
 use Rattle.script.specs.declared.commands.Command.{Command}
 use Rattle.script.specs.declared.commands.Command.TheVariants as command
-use Rattle.storage_terms.specs.Access.{Row}
-use Rattle.storage_terms.specs.Tree.{Node, Walk, LeadsTo, Missing, InSegment, node_in, branch_in, has_directory, walk_in, quota_in, account_of, used_by, taken_on, entries_on}
+use Rattle.tree_model.specs.Access.{Row}
+use Rattle.tree_model.specs.Tree.{Node, Walk, LeadsTo, Missing, InSegment, node_in, branch_in, has_directory, walk_in, quota_in, account_of, used_by, taken_on, entries_on}
 use Rattle.book.specs.declared.replies.Reply.{Reply}
 use Rattle.book.specs.declared.replies.Reply.TheVariants as reply
 use Rattle.flat_store.specs.Words.{Words, word_at, with_word}

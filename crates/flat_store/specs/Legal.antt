@@ -6,7 +6,7 @@ use Rattle.script.specs.declared.commands.Command.TheVariants as command
 use Rattle.book.specs.declared.entries.Entry.{Entry}
 use Rattle.book.specs.declared.entries.Entry.TheVariants as entry
 use Rattle.book.specs.declared.replies.Reply.{Reply}
-use Rattle.storage_terms.specs.Tree.{Node, is_account, used_by}
+use Rattle.tree_model.specs.Tree.{Node, is_account, used_by}
 use Rattle.flat_store.specs.Words.{word_at}
 use Rattle.flat_store.specs.Pages.{is_stored, without_stored}
 use Rattle.flat_store.specs.Flat.{Store, boot, runs, is_turn, reply_to_command, after_command}

@@ -2,7 +2,7 @@
 use Rattle.std.specs.Prelude.{◌≡◌, ◌<◌, ◌≤◌, ℕ, ◌+◌, ◌*◌, false, List, [], ◌∷◌, length, Option, Some, None, is_some, slice_index_or}
 use Rattle.script.specs.Plans.{Plan, command_at}
 use Rattle.script.specs.declared.commands.Command.TheVariants as command
-use Rattle.storage_terms.specs.Tree.{Node, taken_on, entries_on}
+use Rattle.tree_model.specs.Tree.{Node, taken_on, entries_on}
 use Rattle.flat_store.specs.Words.{word_at}
 use Rattle.flat_store.specs.Pages.{is_stored, IsOnce}
 use Rattle.flat_store.specs.Flat.{Store, root_of, known_uid, records_of, entries_of}

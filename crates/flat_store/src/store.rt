@@ -1,6 +1,6 @@
 ghost use Rattle.std.specs.Prelude.{◌≡◌, ◌≤◌, ◌+◌, ◌<◌, ◌↔◌, true, false, length, map, replicate, IsTrue, IfOk, OnOk, OnErr, [], ◌∷◌, slice_index_or, slice_index};
 ghost use Rattle.script.specs.Plans.{Plan};
-ghost use Rattle.storage_terms.specs.Tree.{used_by, taken_on, entries_on};
+ghost use Rattle.tree_model.specs.Tree.{used_by, taken_on, entries_on};
 ghost use Rattle.flat_store.specs.Words.{word_at};
 ghost use Rattle.flat_store.specs.Flat.{Store, boot, is_turn};
 ghost use Rattle.flat_store.specs.Legal.{IsLawful, IsLegal, store_after, after_entry};

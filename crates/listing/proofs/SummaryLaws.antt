@@ -8,7 +8,7 @@ use Rattle.std.proofs.lemmas.List.Concat.{flat_map-append}
 use mathlib.Core.List.{reverse-cons}
 use Rattle.script.specs.Plans.{Plan}
 use Rattle.script.specs.declared.plan.VolumeLine.{VolumeLine}
-use Rattle.storage_terms.specs.Tree.{Node, used_by, taken_on, entries_on}
+use Rattle.tree_model.specs.Tree.{Node, used_by, taken_on, entries_on}
 use Rattle.flat_store.specs.Flat.{Store}
 use Rattle.flat_store.specs.Kept.{Seg, Kept, Gauge, gauge_at}
 use Rattle.flat_store.specs.Shown.{AreNodes, Shows}

@@ -16,7 +16,7 @@ use Rattle.book.specs.declared.entries.Entry.TheVariants as entry
 use Rattle.book.specs.declared.replies.Reply.{Reply}
 use Rattle.book.specs.Entries.{entry_text}
 use Rattle.book.specs.Replies.{reply_text}
-use Rattle.storage_terms.specs.Tree.{Node, is_account, used_by, taken_on, entries_on}
+use Rattle.tree_model.specs.Tree.{Node, is_account, used_by, taken_on, entries_on}
 use Rattle.flat_store.specs.Flat.{Store}
 use Rattle.flat_store.specs.Kept.{Kept, gauge_at}
 use Rattle.flat_store.specs.Legal.{store_after, part}

@@ -1,9 +1,9 @@
 -- What a move is refused for, by the numbers of three directories.
 use Rattle.std.proofs.Common.{◌≡◌, ◌≢◌, ℕ, ◌+◌, ◌-◌, ◌<◌, ◌≤◌, Bool, true, false, cond, eqb, ltb, not, ◌&&◌, ◌||◌, if◌then◌else◌, List, ◌∷◌, Some, Ok, Err, refl, sym, ap, ◌∙◌, arith, inl, inr}
 use Rattle.std.proofs.lemmas.Bool.{cases_Bool, cases_lt, le-ltb, lt-ltb}
-use Rattle.storage_terms.specs.Tree.{above, account}
-use Rattle.storage_terms.specs.Trees.{HasChains}
-use Rattle.storage_terms.specs.Quotas.{superior_of}
+use Rattle.tree_model.specs.Tree.{above, account}
+use Rattle.tree_model.specs.Trees.{HasChains}
+use Rattle.tree_model.specs.Quotas.{superior_of}
 use Rattle.dir_tree.specs.declared.node.Node.{Node}
 use Rattle.dir_tree.specs.Shape.{shapes}
 use Rattle.quota_cells.specs.declared.MoveFault.TheVariants as fault

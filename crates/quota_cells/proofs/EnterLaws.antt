@@ -5,11 +5,11 @@ use Rattle.std.proofs.lemmas.Bool.{cases_Bool, cases_eq, both_ways, eqb-true, eq
 use Rattle.std.proofs.lemmas.List.{length-map}
 use Rattle.std.proofs.lemmas.List.Edits.{length-insert, length-remove}
 use Rattle.std.proofs.lemmas.List.Sums.{sum_by-insert, sum_by-remove}
-use Rattle.storage_terms.specs.Tree.{above}
+use Rattle.tree_model.specs.Tree.{above}
 use Rattle.dir_tree.specs.declared.node.Node.{Node}
 use Rattle.dir_tree.specs.Nodes.{is_directory, is_segment, is_in, without}
 use Rattle.dir_tree.specs.Shape.{shape, shapes}
-use Rattle.storage_terms.specs.Trees.{HasChains}
+use Rattle.tree_model.specs.Trees.{HasChains}
 use Rattle.quota_cells.specs.Accounts.{look, has, covers, weigh, load, is_an_account}
 use Rattle.quota_cells.specs.Cells.{CellMaps, quota_in, load_in, stored_in, Fits, IsTable, Enters, Leaves, has_cell}
 use Rattle.quota_cells.specs.Columns.{IsGap}

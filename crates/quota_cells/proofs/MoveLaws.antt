@@ -2,10 +2,10 @@
 use Rattle.std.proofs.Common.{◌≡◌, ◌≢◌, ℕ, ◌+◌, ◌-◌, ◌≤◌, Bool, true, false, eqb, if◌then◌else◌, List, length, refl, sym, ap, subst, ◌∙◌, arith, inl, inr}
 use Rattle.std.specs.List.{sum}
 use Rattle.std.proofs.lemmas.Bool.{cases_Bool, cases_eq, eqb-true, eqb-false, eq-eqb, ne_eqb}
-use Rattle.storage_terms.specs.Tree.{above}
+use Rattle.tree_model.specs.Tree.{above}
 use Rattle.dir_tree.specs.declared.node.Node.{Node}
 use Rattle.dir_tree.specs.Shape.{shapes}
-use Rattle.storage_terms.specs.Trees.{HasChains}
+use Rattle.tree_model.specs.Trees.{HasChains}
 use Rattle.quota_cells.specs.Accounts.{look, has, covers, load}
 use Rattle.quota_cells.specs.Cells.{CellMaps, quota_in, load_in, Fits, loads_then, with_quota}
 use Rattle.quota_cells.proofs.ColumnLaws.{look_with, look_changed, length_with, length_changed, sum_with}

@@ -2,11 +2,11 @@
 use Rattle.std.proofs.Common.{◌≡◌, ◌≢◌, ℕ, suc, ◌+◌, ◌-◌, ◌<◌, ◌≤◌, ◌^◌, Bool, true, false, cond, eqb, ltb, not, ◌||◌, if◌then◌else◌, List, [], ◌∷◌, length, Some, None, refl, sym, ap, subst, ◌∙◌, arith, get_or, inl, inr, ◌⊎◌, is_some}
 use Rattle.std.specs.List.{sum, find}
 use Rattle.std.proofs.lemmas.Bool.{cases_Bool, cases_eq, cases_lt, both_ways, eqb-true, eq-eqb, ne_eqb, or_cases, and_parts, or_right, or_left, and_from, lt-ltb, ltb-true, false_from_ne_true}
-use Rattle.storage_terms.specs.Tree.{above, node_in}
+use Rattle.tree_model.specs.Tree.{above, node_in}
 use Rattle.dir_tree.specs.declared.node.Node.{Node}
 use Rattle.dir_tree.specs.Nodes.{is_directory}
 use Rattle.dir_tree.specs.Shape.{shapes}
-use Rattle.storage_terms.specs.Trees.{HasChains, EndsAtRoot}
+use Rattle.tree_model.specs.Trees.{HasChains, EndsAtRoot}
 use Rattle.quota_cells.specs.Accounts.{has, covers, is_an_account}
 use Rattle.quota_cells.specs.Cells.{CellMaps, quota_in, load_in, Fits, IsTable, with_quota, IsRising, is_over, first_over}
 use Rattle.quota_cells.proofs.AccountLaws.{covers_above}

@@ -5,7 +5,7 @@ use Rattle.std.specs.Ordering.{nat_cmp}
 use Rattle.std.proofs.lemmas.Bool.{cases_Bool, cases_eq, cases_lt, cases_order, eqb-true, eq-eqb, ne_eqb, or_cases, and_parts, or_right, or_left}
 use Rattle.std.proofs.lemmas.List.{get_or-set_same, get_or-set_other, length-set, ext_get_or}
 use Rattle.std.proofs.lemmas.List.Sorted.{searched}
-use Rattle.storage_terms.specs.Trees.{AreUnder}
+use Rattle.tree_model.specs.Trees.{AreUnder}
 use Rattle.quota_cells.specs.Accounts.{look, has, with_value, covers, changed_where}
 use Rattle.quota_cells.specs.Cells.{IsRising}
 use Rattle.quota_cells.specs.Columns.{IsGap, AreThere, IsFalling}

@@ -4,12 +4,12 @@ use Rattle.std.specs.Prelude.{count_by, OnOk, OnErr}
 use Rattle.std.specs.List.{find}
 use Rattle.std.proofs.lemmas.Bool.{cases_Bool, cases_eq, cases_lt, both_ways, eqb-true, eq-eqb, ne_eqb, or_cases, and_parts, or_right, or_left, and_from, le-leb, lt-leb, lt-ltb, le-ltb, true_from_ne_false, false_from_ne_true}
 use Rattle.std.proofs.lemmas.List.Sums.{sum_by-cons}
-use Rattle.storage_terms.specs.Tree.{Node as Term, above, account, account_of, has_directory, quota_in as quota_at, used_by}
-use Rattle.storage_terms.specs.Quotas.{superior_of, getter_of, giver_of, with_quota_of, with_moved, tree_moved, is_over as is_over_at, lesser, least_where, over_in}
+use Rattle.tree_model.specs.Tree.{Node as Term, above, account, account_of, has_directory, quota_in as quota_at, used_by}
+use Rattle.tree_model.specs.Quotas.{superior_of, getter_of, giver_of, with_quota_of, with_moved, tree_moved, is_over as is_over_at, lesser, least_where, over_in}
 use Rattle.dir_tree.specs.declared.node.Node.{Node}
 use Rattle.dir_tree.specs.Nodes.{as_term, with_quotas, is_in, is_directory, is_segment}
 use Rattle.dir_tree.specs.Shape.{shape, shapes}
-use Rattle.storage_terms.specs.Trees.{HasChains}
+use Rattle.tree_model.specs.Trees.{HasChains}
 use Rattle.dir_tree.proofs.QuotaLemmas.{above_any}
 use Rattle.quota_cells.specs.declared.Full.{Full}
 use Rattle.quota_cells.specs.declared.MoveFault.{MoveFault}

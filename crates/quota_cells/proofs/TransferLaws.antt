@@ -1,14 +1,14 @@
 -- The first account above its quota once quota has moved down to a directory, or up from it.
 use Rattle.std.proofs.Common.{◌≡◌, ◌≢◌, ℕ, ◌+◌, ◌-◌, ◌<◌, ◌≤◌, Bool, true, false, cond, eqb, ltb, not, ◌&&◌, ◌||◌, if◌then◌else◌, List, [], ◌∷◌, length, Option, Some, None, Ok, Err, refl, sym, ap, subst, ◌∙◌, arith, get_or, inl, inr, ◌⊎◌, is_some}
 use Rattle.std.proofs.lemmas.Bool.{cases_Bool, cases_eq, cases_lt, both_ways, eqb-true, eq-eqb, ne_eqb, and_parts, or_left, false_from_ne_true, le-ltb, lt-ltb}
-use Rattle.storage_terms.specs.Tree.{above, account, node_in}
+use Rattle.tree_model.specs.Tree.{above, account, node_in}
 use Rattle.dir_tree.specs.declared.node.Node.{Node}
 use Rattle.dir_tree.specs.Nodes.{is_directory, is_in}
 use Rattle.dir_tree.specs.Shape.{shapes}
-use Rattle.storage_terms.specs.Trees.{HasChains, AreUnder, IsChain, EndsAtRoot, AreDirectories}
+use Rattle.tree_model.specs.Trees.{HasChains, AreUnder, IsChain, EndsAtRoot, AreDirectories}
 use Rattle.quota_cells.specs.Accounts.{has, covers, is_an_account}
 use Rattle.quota_cells.specs.Cells.{CellMaps, quota_in, load_in, Fits, IsTable, is_over, first_over, move_answer, over_answer, moved}
-use Rattle.storage_terms.specs.Quotas.{superior_of, giver_of}
+use Rattle.tree_model.specs.Quotas.{superior_of, giver_of}
 use Rattle.quota_cells.specs.declared.MoveFault.TheVariants as fault
 use Rattle.quota_cells.proofs.PlaceLaws.{covers_under, covers_not}
 use Rattle.quota_cells.proofs.AccountLaws.{account_is, account_covers, account_of_chain}

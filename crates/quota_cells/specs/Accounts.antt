@@ -1,7 +1,7 @@
 -- Accounts and what they are charged for, over functions: the directories above a node, and the quota of each
 -- (Organick 1972).
 use Rattle.std.specs.Prelude.{ℕ, Bool, false, ◌+◌, ◌==◌, ◌||◌, ◌&&◌, not, List, [], ◌∷◌, if◌then◌else◌}
-use Rattle.storage_terms.specs.Tree.{account}
+use Rattle.tree_model.specs.Tree.{account}
 
 -- the value beside a uid, 0 where it has none
 abbrev pub look : List ℕ → List ℕ → ℕ → ℕ

@@ -3,11 +3,11 @@
 -- with a list of values beside them.
 use Rattle.std.specs.Prelude.{◌≡◌, ◌≢◌, ℕ, ◌+◌, ◌-◌, ◌<◌, ◌≤◌, ◌==◌, ◌^◌, Bool, true, false, ◌&&◌, ◌||◌, not, if◌then◌else◌, List, [], ◌∷◌, length, Option}
 use Rattle.std.specs.Prelude.{Some, None, slice_index, sum, nat_lt, Result, Ok, Err}
-use Rattle.storage_terms.specs.Tree.{Node as Term, above, account, has_directory}
-use Rattle.storage_terms.specs.Quotas.{getter_of, giver_of}
+use Rattle.tree_model.specs.Tree.{Node as Term, above, account, has_directory}
+use Rattle.tree_model.specs.Quotas.{getter_of, giver_of}
 use Rattle.dir_tree.specs.declared.node.Node.{Node}
 use Rattle.dir_tree.specs.Shape.{shapes}
-use Rattle.storage_terms.specs.Trees.{has_segment}
+use Rattle.tree_model.specs.Trees.{has_segment}
 use Rattle.std.specs.List.{find}
 use Rattle.quota_cells.specs.declared.Full.{Full}
 use Rattle.quota_cells.specs.declared.MoveFault.{MoveFault}

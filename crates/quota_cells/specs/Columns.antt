@@ -1,6 +1,6 @@
 -- Columns: where a uid would stand, and lists of uids.
 use Rattle.std.specs.Prelude.{◌≡◌, ℕ, ◌<◌, ◌≤◌, true, List, [], ◌∷◌, length, slice_index}
-use Rattle.storage_terms.specs.Trees.{AreUnder}
+use Rattle.tree_model.specs.Trees.{AreUnder}
 use Rattle.quota_cells.specs.Accounts.{has}
 
 -- a uid isn't there, and would stand at this place: smaller ones before it, greater ones from there on

@@ -1,7 +1,7 @@
 -- The answers of the cells by counts from scratch over the stored pages, as pairs of a uid and a page.
 use Rattle.std.specs.Prelude.{◌≡◌, ℕ, Bool, ◌==◌, nat_lt, if◌then◌else◌, count_by, List, Result, Ok, Err}
-use Rattle.storage_terms.specs.Tree.{Node, above, account_of, used_by, quota_in}
-use Rattle.storage_terms.specs.Quotas.{giver_of, tree_moved, over_in}
+use Rattle.tree_model.specs.Tree.{Node, above, account_of, used_by, quota_in}
+use Rattle.tree_model.specs.Quotas.{giver_of, tree_moved, over_in}
 use Rattle.quota_cells.specs.declared.Full.{Full}
 use Rattle.quota_cells.specs.declared.MoveFault.{MoveFault}
 use Rattle.quota_cells.specs.declared.MoveFault.TheVariants as fault

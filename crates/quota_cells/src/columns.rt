@@ -3,8 +3,8 @@
 ghost use Rattle.std.specs.Prelude.{◌≡◌, ◌≢◌, ℕ, ◌<◌, ◌≤◌, ◌+◌, ◌-◌, ◌^◌, ◌==◌, Bool, true, [], ◌∷◌, length};
 ghost use Rattle.std.specs.Prelude.{slice_index, IfOk, IfErr, vec_len, vec_capacity};
 ghost use Rattle.std.specs.List.{insert, remove};
-ghost use Rattle.storage_terms.specs.Tree.{account};
-ghost use Rattle.storage_terms.specs.Trees.{AreUnder};
+ghost use Rattle.tree_model.specs.Tree.{account};
+ghost use Rattle.tree_model.specs.Trees.{AreUnder};
 ghost use Rattle.quota_cells.specs.Accounts.{look, has, with_value, covers, changed_where};
 ghost use Rattle.quota_cells.specs.Cells.{IsRising, loads_then};
 ghost use Rattle.quota_cells.specs.Columns.{IsGap, AreThere, IsFalling};

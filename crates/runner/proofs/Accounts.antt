@@ -7,7 +7,7 @@ use Rattle.std.proofs.lemmas.Grind.{get_or_default_zero}
 use Rattle.std.proofs.lemmas.List.Sums.{sum_by-cons, count_by-le-length}
 use Rattle.script.specs.Plans.{Plan}
 use Rattle.mword.specs.Words.{AreZero}
-use Rattle.storage_terms.specs.Tree.{Node, has_directory, above, quota_in, account, account_of, used_by, entries_on}
+use Rattle.tree_model.specs.Tree.{Node, has_directory, above, quota_in, account, account_of, used_by, entries_on}
 use Rattle.flat_store.specs.Words.{Words, word_at}
 use Rattle.flat_store.specs.Pages.{is_stored}
 use Rattle.flat_store.specs.Flat.{Store, records_of, entries_of, is_used_up, is_volume_full}

@@ -5,7 +5,7 @@ use Rattle.std.proofs.lemmas.Bool.Decides.{nat_tests}
 use Rattle.std.proofs.lemmas.List.{length-replicate, get_or-replicate, get_or_past}
 use Rattle.std.proofs.lemmas.List.Sums.{sum_by-cons}
 use Rattle.script.specs.Plans.{Plan}
-use Rattle.storage_terms.specs.Tree.{Node, taken_on, entries_on}
+use Rattle.tree_model.specs.Tree.{Node, taken_on, entries_on}
 use Rattle.flat_store.specs.Flat.{boot, root_of, records_of, entries_of}
 use Rattle.flat_store.proofs.WordLaws.{word_at-empty}
 use Rattle.dir_tree.specs.Nodes.{root_alone}

@@ -2,7 +2,7 @@
 use Rattle.std.proofs.Common.{◌≡◌, ◌≢◌, ℕ, ◌+◌, ◌-◌, ◌*◌, ◌<◌, ◌≤◌, Bool, true, false, cond, eqb, map, List, [], ◌∷◌, length, Option, Some, None, is_some, sym, ap, subst, ◌∙◌, arith, get_or, inl, inr, ◌⊎◌}
 use Rattle.std.proofs.lemmas.Bool.{cases_eq}
 use Rattle.script.specs.Plans.{Plan}
-use Rattle.storage_terms.specs.Tree.{Node, node_in, has_directory}
+use Rattle.tree_model.specs.Tree.{Node, node_in, has_directory}
 use Rattle.vtoc.specs.Vtoc.{Entry, entry_at, uid_of}
 use Rattle.volumes.specs.CoreDrive.{DriveState}
 use Rattle.volumes.specs.Volumes.{Vols}

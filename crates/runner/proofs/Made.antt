@@ -6,8 +6,8 @@ use Rattle.std.proofs.lemmas.List.{length-append, get_or_append_left}
 use Rattle.std.proofs.lemmas.List.Sums.{sum_by-cons}
 use Rattle.std.proofs.Math.Seq.{get_or-append_seam}
 use Rattle.script.specs.Plans.{Plan, who_of}
-use Rattle.storage_terms.specs.Access.{Row}
-use Rattle.storage_terms.specs.Tree.{Node, node_in, entries_on}
+use Rattle.tree_model.specs.Access.{Row}
+use Rattle.tree_model.specs.Tree.{Node, node_in, entries_on}
 use Rattle.flat_store.specs.Pages.{is_stored}
 use Rattle.flat_store.specs.Flat.{Store, owner_row, made_in}
 use Rattle.flat_store.proofs.Changes.{taken_new}

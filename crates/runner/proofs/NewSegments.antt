@@ -8,7 +8,7 @@ use Rattle.script.specs.declared.commands.Command.TheVariants as command
 use Rattle.book.specs.declared.entries.Entry.{Entry}
 use Rattle.book.specs.declared.replies.Reply.{Reply}
 use Rattle.book.specs.declared.replies.Reply.TheVariants as reply
-use Rattle.storage_terms.specs.Tree.{Node, Walk, LeadsTo, Missing, InSegment, branch_in, has_directory, walk_in, entries_on}
+use Rattle.tree_model.specs.Tree.{Node, Walk, LeadsTo, Missing, InSegment, branch_in, has_directory, walk_in, entries_on}
 use Rattle.flat_store.specs.Flat.{Store, moved_on, entries_of, parts_of, make_in, make_at, make_of, make_reply, made_in, made_at, made_by, initiate_at, initiate_reply, known_at, known_by, known_or_full, number_for, takes_effect, runs, reply_to_command, after_command}
 use Rattle.flat_store.specs.Legal.{store_after}
 use Rattle.dir_tree.specs.Nodes.{with_quotas}

@@ -1,7 +1,7 @@
 -- What each part of the tie asks of a change that leaves the part as it is.
 use Rattle.std.proofs.Common.{◌≡◌, ℕ, ◌+◌, ◌≤◌, List, length, Option, sym, ap, ◌∙◌, arith, get_or}
 use Rattle.script.specs.Plans.{Plan}
-use Rattle.storage_terms.specs.Tree.{Node}
+use Rattle.tree_model.specs.Tree.{Node}
 use Rattle.flat_store.specs.Words.{Words}
 use Rattle.flat_store.specs.Flat.{Knows}
 use Rattle.dir_tree.specs.Nodes.{Branches}

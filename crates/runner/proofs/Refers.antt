@@ -4,7 +4,7 @@ use Rattle.std.proofs.lemmas.Bool.Decides.{nat_tests}
 use Rattle.script.specs.Plans.{Plan}
 use Rattle.book.specs.declared.entries.Entry.{Entry}
 use Rattle.book.specs.declared.replies.Reply.TheVariants as reply
-use Rattle.storage_terms.specs.Tree.{Node, node_in}
+use Rattle.tree_model.specs.Tree.{Node, node_in}
 use Rattle.flat_store.specs.Words.{word_at}
 use Rattle.flat_store.specs.Flat.{Store, known_uid, segment_of, is_past, read_of, write_of, read_reply, write_reply}
 use Rattle.flat_store.specs.Legal.{store_after}

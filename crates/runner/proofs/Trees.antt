@@ -3,7 +3,7 @@ use Rattle.std.proofs.Common.{◌≡◌, ◌≢◌, ℕ, ◌+◌, ◌<◌, ◌�
 use Rattle.std.proofs.lemmas.Bool.{cases_Bool}
 use Rattle.std.proofs.lemmas.Bool.Decides.{nat_tests}
 use Rattle.script.specs.Plans.{Plan}
-use Rattle.storage_terms.specs.Tree.{Node, LeadsTo, Missing, InSegment, node_in, is_branch, branch_in, has_directory, onward, walk_from, walk_in}
+use Rattle.tree_model.specs.Tree.{Node, LeadsTo, Missing, InSegment, node_in, is_branch, branch_in, has_directory, onward, walk_from, walk_in}
 use Rattle.dir_tree.specs.declared.node.Node.{Node as Branch}
 use Rattle.dir_tree.specs.Nodes.{Branches, with_quotas, is_directory}
 use Rattle.page_control.specs.declared.Home.{Home}

@@ -3,7 +3,7 @@ use Rattle.std.proofs.Common.{◌≡◌, ◌≢◌, ℕ, ◌+◌, ◌-◌, ◌<�
 use Rattle.std.proofs.lemmas.Bool.{cases_eq}
 use Rattle.std.proofs.lemmas.Bool.Decides.{nat_tests}
 use Rattle.script.specs.Plans.{Plan}
-use Rattle.storage_terms.specs.Tree.{Node, node_in, volume_in, taken_on}
+use Rattle.tree_model.specs.Tree.{Node, node_in, volume_in, taken_on}
 use Rattle.flat_store.specs.Pages.{is_stored, with_stored, without_stored, IsOnce}
 use Rattle.flat_store.proofs.Changes.{count_with, count_without}
 use Rattle.dir_tree.specs.Nodes.{Branches}

@@ -1,6 +1,6 @@
 -- What the volumes hold once the machine is shut down: the flat store, and nothing else (Organick 1972).
 use Rattle.std.specs.Prelude.{◌≡◌, ◌⊎◌, ◌<◌, ℕ, ◌+◌, ◌*◌, false, true, List, [], Option, Some, map, is_some, slice_index, slice_index_or}
-use Rattle.storage_terms.specs.Tree.{Node, node_in, taken_on, entries_on}
+use Rattle.tree_model.specs.Tree.{Node, node_in, taken_on, entries_on}
 use Rattle.vtoc.specs.Vtoc.{Entry, entry_at, uid_of}
 use Rattle.volumes.specs.CoreDrive.{DriveState}
 use Rattle.volumes.specs.Volumes.{Vols}

@@ -6,7 +6,7 @@ use Rattle.script.specs.declared.commands.Command.{Command}
 use Rattle.script.specs.declared.commands.Command.TheVariants as command
 use Rattle.book.specs.declared.replies.Reply.{Reply}
 use Rattle.book.specs.declared.replies.Reply.TheVariants as reply
-use Rattle.storage_terms.specs.Tree.{Node, Walk, LeadsTo, Missing, InSegment, branch_in, has_directory, walk_in}
+use Rattle.tree_model.specs.Tree.{Node, Walk, LeadsTo, Missing, InSegment, branch_in, has_directory, walk_in}
 use Rattle.flat_store.specs.Flat.{parts_of, owner_row}
 use Rattle.dir_tree.specs.Nodes.{with_quotas, added, is_directory}
 use Rattle.dir_tree.specs.declared.node.PathFault.{PathFault}

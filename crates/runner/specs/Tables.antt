@@ -1,7 +1,7 @@
 -- The tables of a run, and what they are to the flat store (own).
 use Rattle.std.specs.Prelude.{◌≡◌, ◌≢◌, ◌<◌, ◌≤◌, ℕ, ◌+◌, ◌*◌, Bool, false, true, ◌==◌, if◌then◌else◌, List, length, Option, Some, None, is_some, slice_index}
 use Rattle.script.specs.Plans.{Plan}
-use Rattle.storage_terms.specs.Tree.{Node, node_in, has_directory, taken_on, entries_on}
+use Rattle.tree_model.specs.Tree.{Node, node_in, has_directory, taken_on, entries_on}
 use Rattle.flat_store.specs.Words.{Words, word_at}
 use Rattle.flat_store.specs.Pages.{is_stored, IsOnce}
 use Rattle.flat_store.specs.Flat.{Store, Knows, known_uid, records_of, entries_of}

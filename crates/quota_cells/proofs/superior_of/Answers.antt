@@ -1,5 +1,5 @@
 use Rattle.std.proofs.Common.{◌≡◌, ℕ, List, get_or, sym, ap, subst, ◌∙◌}
-use Rattle.storage_terms.specs.Tree.{above}
+use Rattle.tree_model.specs.Tree.{above}
 use Rattle.dir_tree.specs.Shape.{shapes}
 use Rattle.quota_cells.proofs.TransferLaws.{IsBelow, top, not_empty, directory_in}
 use Rattle.quota_cells.proofs.superior_of.Goals as goal

@@ -1,6 +1,6 @@
 use Rattle.std.proofs.Common.{◌≡◌, drop}
 use Rattle.std.specs.Prelude.{option_map}
-use Rattle.storage_terms.specs.Access.{mode_at}
+use Rattle.tree_model.specs.Access.{mode_at}
 use Rattle.acl.proofs.Acl.mode_at.Given as goal
 
 -- no row so far names just these parts

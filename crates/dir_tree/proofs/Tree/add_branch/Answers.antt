@@ -1,6 +1,6 @@
 use Rattle.std.proofs.Common.{◌<◌, length, sym, ap, ◌∙◌, arith, is_some}
 use Rattle.dir_tree.specs.Kept.{entry_at, newest}
-use Rattle.storage_terms.proofs.ChainLaws.{has_chains}
+use Rattle.tree_model.proofs.ChainLaws.{has_chains}
 use Rattle.dir_tree.proofs.KeptLemmas.{node_missing, MayAdd, no_fault}
 use Rattle.dir_tree.specs.Shape.{shape, shapes}
 use Rattle.std.proofs.lemmas.List.{length-map}

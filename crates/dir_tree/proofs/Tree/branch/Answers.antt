@@ -1,6 +1,6 @@
 use Rattle.std.proofs.Common.{◌≡◌, ◌<◌, length, Some, sym, ap, ◌∙◌}
 use Rattle.std.proofs.lemmas.List.{get_or_read}
-use Rattle.storage_terms.specs.Tree.{branch_in}
+use Rattle.tree_model.specs.Tree.{branch_in}
 use Rattle.dir_tree.specs.declared.node.Node.{Node}
 use Rattle.dir_tree.specs.Index.{node_at, no_node}
 use Rattle.dir_tree.specs.Kept.{newest}

@@ -4,7 +4,7 @@ use Rattle.dir_tree.specs.declared.node.Node.{Node}
 use Rattle.dir_tree.specs.declared.entries.Entry.{Entry}
 use Rattle.dir_tree.specs.Kept.{no_entry, entry_at, recounted}
 use Rattle.std.specs.List.{list_any, remove}
-use Rattle.storage_terms.specs.Tree.{is_inferior}
+use Rattle.tree_model.specs.Tree.{is_inferior}
 use Rattle.dir_tree.specs.Nodes.{Branches, is_in}
 use Rattle.dir_tree.specs.Shape.{shapes}
 use Rattle.dir_tree.proofs.KeptLemmas.{entry_present, places_within}

@@ -1,5 +1,5 @@
 use Rattle.std.proofs.Common.{◌≡◌, length, nat_le, ap, ◌∙◌}
-use Rattle.storage_terms.specs.Tree.{above}
+use Rattle.tree_model.specs.Tree.{above}
 use Rattle.dir_tree.specs.Shape.{shapes}
 use Rattle.dir_tree.proofs.QuotaLemmas.{above_any}
 use Rattle.dir_tree.proofs.Tree.is_too_deep.Goals as goal

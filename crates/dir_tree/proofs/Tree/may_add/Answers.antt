@@ -1,6 +1,6 @@
 use Rattle.std.proofs.Common.{◌≡◌, ℕ, true, false, ◌&&◌, nat_le, length, refl, sym, ap, ◌∙◌, is_some}
 use Rattle.std.proofs.lemmas.List.{length-map}
-use Rattle.storage_terms.specs.Tree.{above, branch_in}
+use Rattle.tree_model.specs.Tree.{above, branch_in}
 use Rattle.dir_tree.specs.Nodes.{add_fault_of, with_quotas}
 use Rattle.dir_tree.specs.Shape.{shape, shapes}
 use Rattle.dir_tree.proofs.QuotaLemmas.{fault_any}

@@ -1,11 +1,11 @@
 use Rattle.std.proofs.Common.{◌≡◌, List, false, eqb, not, refl, sym, ap, ◌∙◌}
 use Rattle.std.proofs.lemmas.Bool.{false_from_ne_true, both_ways}
-use Rattle.storage_terms.specs.Tree.{Node as Term, above}
+use Rattle.tree_model.specs.Tree.{Node as Term, above}
 use Rattle.dir_tree.specs.Nodes.{Branches, has_inferior}
 use Rattle.dir_tree.specs.Shape.{shape, shapes}
-use Rattle.storage_terms.proofs.Finds.{filter_map_same}
+use Rattle.tree_model.proofs.Finds.{filter_map_same}
 use Rattle.dir_tree.proofs.QuotaLemmas.{inferior_any}
-use Rattle.storage_terms.proofs.TreeLaws.{above_left}
+use Rattle.tree_model.proofs.TreeLaws.{above_left}
 use Rattle.dir_tree.proofs.Tree.remove.Goals as goal
 
 pub detach-requires-clause-leaf : goal.detach-requires-clause-leaf

@@ -1,10 +1,10 @@
 use Rattle.std.proofs.Common.{◌≡◌, ◌++◌, ◌+◌, ◌≤◌, length, [], ◌∷◌, ℕ, List, sym, ap, ◌∙◌, arith}
 use Rattle.std.proofs.lemmas.List.{length-append, append-nil}
-use Rattle.storage_terms.specs.Tree.{above}
+use Rattle.tree_model.specs.Tree.{above}
 use Rattle.dir_tree.specs.Shape.{shapes}
-use Rattle.storage_terms.proofs.ChainLaws.{has_chains}
+use Rattle.tree_model.proofs.ChainLaws.{has_chains}
 use Rattle.dir_tree.proofs.QuotaLemmas.{above_any}
-use Rattle.storage_terms.proofs.TreeLaws.{depth}
+use Rattle.tree_model.proofs.TreeLaws.{depth}
 use Rattle.dir_tree.proofs.Tree.superiors.Goals as goal
 
 pub push-requires : goal.push-requires

@@ -1,5 +1,5 @@
 use Rattle.std.proofs.Common.{◌≡◌, ◌+◌, ℕ, List, drop, true, false, sym, ap, ◌∙◌}
-use Rattle.storage_terms.specs.Tree.{Node as Term, Walk, InSegment, Missing, branch_in, onward, walk_from}
+use Rattle.tree_model.specs.Tree.{Node as Term, Walk, InSegment, Missing, branch_in, onward, walk_from}
 use Rattle.dir_tree.specs.Nodes.{path_answer}
 use Rattle.dir_tree.specs.Shape.{shapes}
 use Rattle.dir_tree.proofs.QuotaLemmas.{walk_any, walk_next, walk_ends}

@@ -1,5 +1,5 @@
 use Rattle.std.proofs.Common.{◌≡◌, drop, true}
-use Rattle.storage_terms.specs.Tree.{walk_from}
+use Rattle.tree_model.specs.Tree.{walk_from}
 use Rattle.dir_tree.specs.Nodes.{is_in}
 use Rattle.dir_tree.specs.Shape.{shapes}
 use Rattle.dir_tree.proofs.Tree.walk.Given as goal

@@ -1,6 +1,6 @@
 use Rattle.std.proofs.Common.{◌≡◌, ◌+◌, ℕ, List, Result, Ok, Err, is_ok, true, refl, sym, ap, subst, ◌∙◌}
 use Rattle.quota_cells.specs.declared.Full.{Full}
-use Rattle.storage_terms.specs.Tree.{above}
+use Rattle.tree_model.specs.Tree.{above}
 use Rattle.dir_tree.specs.Shape.{shapes}
 use Rattle.quota_cells.specs.Cells.{quota_in, stored_in, Fits, charged, charge_fault}
 use Rattle.quota_cells.proofs.ColumnLaws.{look_with}

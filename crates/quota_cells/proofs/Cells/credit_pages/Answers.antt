@@ -1,5 +1,5 @@
 use Rattle.std.proofs.Common.{◌≡◌, ◌-◌, ℕ, List, sym, ap, subst, ◌∙◌}
-use Rattle.storage_terms.specs.Tree.{above}
+use Rattle.tree_model.specs.Tree.{above}
 use Rattle.dir_tree.specs.Shape.{shapes}
 use Rattle.quota_cells.specs.Cells.{quota_in, stored_in, Fits, IsTable, credited}
 use Rattle.quota_cells.proofs.ColumnLaws.{look_with}

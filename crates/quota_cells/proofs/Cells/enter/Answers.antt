@@ -2,7 +2,7 @@ use Rattle.std.proofs.Common.{◌≡◌, ℕ, Bool, false, List, ◌∷◌, sym,
 use Rattle.dir_tree.specs.declared.node.Node.{Node}
 use Rattle.dir_tree.specs.Nodes.{is_in}
 use Rattle.dir_tree.specs.Shape.{shapes}
-use Rattle.storage_terms.specs.Trees.{HasChains}
+use Rattle.tree_model.specs.Trees.{HasChains}
 use Rattle.quota_cells.specs.Cells.{CellMaps, Enters, Fits}
 use Rattle.quota_cells.proofs.EnterLaws.{fits_entered}
 use Rattle.quota_cells.proofs.Cells.enter.Goals as goal

@@ -1,5 +1,5 @@
 use Rattle.std.proofs.Common.{◌≡◌, ◌≤◌, ◌∷◌, ℕ, List, sym, ap, subst, ◌∙◌}
-use Rattle.storage_terms.specs.Tree.{above, account}
+use Rattle.tree_model.specs.Tree.{above, account}
 use Rattle.dir_tree.specs.Shape.{shapes}
 use Rattle.quota_cells.specs.declared.moves.Cell.{Cell}
 use Rattle.quota_cells.specs.Cells.{quota_in, load_in}

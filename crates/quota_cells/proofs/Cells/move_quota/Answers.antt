@@ -3,7 +3,7 @@ use Rattle.std.proofs.lemmas.Int.{to_z-of_z}
 use Rattle.std.specs.Prelude.{OnOk}
 use Rattle.std.specs.Int.{is_positive}
 use Rattle.std.specs.Int.RustNames.{unsigned_abs}
-use Rattle.storage_terms.specs.Tree.{above}
+use Rattle.tree_model.specs.Tree.{above}
 use Rattle.dir_tree.specs.Shape.{shapes}
 use Rattle.quota_cells.specs.Cells.{moved, move_answer}
 use Rattle.quota_cells.proofs.ScratchLaws.{answer_same, moved_shown, stored_kept}

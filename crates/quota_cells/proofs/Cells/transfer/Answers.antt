@@ -1,6 +1,6 @@
 use Rattle.std.proofs.Common.{◌≡◌, ◌+◌, ◌-◌, ◌≤◌, ◌++◌, ℕ, List, length, take, drop, true, None, sym, ap, subst, ◌∙◌, arith}
 use Rattle.std.specs.List.{sum}
-use Rattle.storage_terms.specs.Tree.{above}
+use Rattle.tree_model.specs.Tree.{above}
 use Rattle.dir_tree.specs.Shape.{shapes}
 use Rattle.quota_cells.specs.Accounts.{has}
 use Rattle.quota_cells.specs.Cells.{CellMaps, quota_in, Fits, IsTable, first_over, with_quota}

@@ -1,5 +1,5 @@
 use Rattle.std.proofs.Common.{◌≡◌, drop}
-use Rattle.storage_terms.specs.Tree.{account}
+use Rattle.tree_model.specs.Tree.{account}
 use Rattle.quota_cells.specs.Accounts.{look}
 use Rattle.quota_cells.proofs.columns.account.Given as goal
 

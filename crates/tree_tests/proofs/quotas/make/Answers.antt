@@ -3,7 +3,7 @@ use Rattle.dir_tree.specs.declared.node.Node.{Node}
 use Rattle.dir_tree.specs.declared.node.NewNode.{NewNode}
 use Rattle.dir_tree.specs.Nodes.{Branches, added, is_in}
 use Rattle.dir_tree.specs.Shape.{shapes}
-use Rattle.storage_terms.specs.Trees.{HasChains}
+use Rattle.tree_model.specs.Trees.{HasChains}
 use Rattle.quota_cells.specs.Cells.{CellMaps, Fits}
 use Rattle.quota_cells.proofs.EnterLaws.{absent_cell}
 use Rattle.tree_tests.proofs.quotas.make.Goals as goal

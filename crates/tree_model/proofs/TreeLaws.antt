@@ -6,9 +6,9 @@ use Rattle.std.specs.Option.{option_and_then}
 use Rattle.std.proofs.lemmas.Bool.{cases_Bool, cases_eq, both_ways, eqb-true, eq-eqb, ne_eqb, and_parts, or_parts}
 use Rattle.std.proofs.lemmas.Option.{same_Some}
 use Rattle.std.proofs.lemmas.Slice.Eq.{bytes_eq-Decides}
-use Rattle.storage_terms.specs.Tree.{Node as Term, above, branch_in, is_branch, is_inferior, step_up, has_directory}
-use Rattle.storage_terms.specs.Trees.{AreBelow, IsBranch, Joins, IsTree}
-use Rattle.storage_terms.proofs.Finds.{IsMember, branch_found, member_found}
+use Rattle.tree_model.specs.Tree.{Node as Term, above, branch_in, is_branch, is_inferior, step_up, has_directory}
+use Rattle.tree_model.specs.Trees.{AreBelow, IsBranch, Joins, IsTree}
+use Rattle.tree_model.proofs.Finds.{IsMember, branch_found, member_found}
 
 -- the superior of a node
 abbrev pub superior_in : List Term → ℕ → Option ℕ

@@ -3,7 +3,7 @@ use Rattle.std.proofs.Common.{◌≡◌, ◌≢◌, ℕ, Bool, true, false, cond
 use Rattle.std.specs.List.{find, filter, list_any}
 use Rattle.std.specs.Option.{option_map}
 use Rattle.std.proofs.lemmas.Bool.{cases_Bool, true_from_ne_false}
-use Rattle.storage_terms.specs.Tree.{Node as Term, branch_in, is_branch}
+use Rattle.tree_model.specs.Tree.{Node as Term, branch_in, is_branch}
 
 pub find_map : {X Y : Type 0} (p : Y → Bool) (f : X → Y) (xs : List X) → find p (map f xs) ≡ option_map f (find (λ x. p (f x)) xs)
 find_map p f [] = refl

@@ -2,7 +2,7 @@
 -- Daley 1972; Organick 1972).
 use Rattle.std.specs.Prelude.{ℕ, Bool, true, false, ◌&&◌, ◌||◌, not, ◌==◌, if◌then◌else◌, count_by, List, [], ◌∷◌, Option, Some, None}
 use Rattle.std.specs.Str.{bytes_eq}
-use Rattle.storage_terms.specs.Access.{Row}
+use Rattle.tree_model.specs.Access.{Row}
 
 -- a directory or a segment: its unique identifier; the directory above it, none for the root; its
 -- name there; its volume, counted from 0; a segment's length in pages and access control list; a

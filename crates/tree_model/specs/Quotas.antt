@@ -1,7 +1,7 @@
 -- Quota that moves between a directory and the one that it lies in, and the accounts that are above their quotas
 -- (Organick 1972).
 use Rattle.std.specs.Prelude.{ℕ, ◌+◌, ◌-◌, Bool, ◌&&◌, ◌||◌, not, ◌==◌, nat_le, nat_lt, if◌then◌else◌, map, List, [], ◌∷◌, Option, Some, None, slice_index}
-use Rattle.storage_terms.specs.Tree.{Node, above, has_directory, quota_in, used_by}
+use Rattle.tree_model.specs.Tree.{Node, above, has_directory, quota_in, used_by}
 
 -- Between a directory and its superior: down to the directory, or up from it. One gets the quota, the other gives it.
 abbrev pub superior_of : (ℕ → List ℕ) → ℕ → ℕ

@@ -3,9 +3,9 @@ use Rattle.std.proofs.Common.{◌≡◌, ◌≢◌, ℕ, suc, zero, ◌<◌, ◌
 use Rattle.std.specs.List.{find}
 use Rattle.std.specs.Option.{option_and_then}
 use Rattle.std.proofs.lemmas.Bool.{cases_Bool, both_ways}
-use Rattle.storage_terms.specs.Tree.{Node as Term, above, has_directory, node_in, step_up}
-use Rattle.storage_terms.specs.Trees.{IsTree, AreUnder, IsChain, AreDirectories, EndsAtRoot, HasChains}
-use Rattle.storage_terms.proofs.TreeLaws.{superior_in, IsUp, superior_up, above_once, root_only, root_directory}
+use Rattle.tree_model.specs.Tree.{Node as Term, above, has_directory, node_in, step_up}
+use Rattle.tree_model.specs.Trees.{IsTree, AreUnder, IsChain, AreDirectories, EndsAtRoot, HasChains}
+use Rattle.tree_model.proofs.TreeLaws.{superior_in, IsUp, superior_up, above_once, root_only, root_directory}
 
 node_found : (ns : List Term) (u : ℕ) → node_in ns u ≡ find (λ n. eqb n.uid u) ns
 node_found [] u = refl
