@@ -12,8 +12,6 @@ mod laws;
 mod opening;
 mod pass;
 mod rule;
-#[cfg(test)]
-mod tests;
 mod views;
 
 pub use doors::{Ended, LiveDoors};

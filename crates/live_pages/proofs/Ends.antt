@@ -352,9 +352,14 @@ all_in_is_legal z words homes views seat k h at free all =
     )
 
 pub entry_names_current : EntryIsCurrent
-entry_names_current z words homes views seat w f b h at inside holds =
+entry_names_current p f b named z words homes views seat w h at same inside =
     let own = h.seats_ok seat (Passing w) at in
+    let holds : get_or w.walk.held f None ≡ Some b = ap (λ l. get_or l f None) same ∙ named in
     ap (λ x. x / 2) (h.book_ok.plan_ok.doors f inside) ∙ sym (entry_is_current z words h.plan.watch w.walk f b own.1.pass_ok holds) ∙ ap binding_in holds
+
+-- the binding of an entry that a pass holds
+pub held_is_current : (p : Walk) (f : ℕ) → HoldsEntry p f → IsCurrent p f (binding_at p f)
+held_is_current p f holds = subst (IsCurrent p f) (sym (ap binding_in holds.1)) (entry_names_current p f holds.0 holds.1)
 
 pub may_bind_is_free : MayBindHasNoHolder
 may_bind_is_free k cleared f noted may z words homes views seat h at seat' w there =

@@ -17,8 +17,6 @@ mod opening;
 mod pages;
 mod pass;
 mod rule;
-#[cfg(test)]
-mod tests;
 mod touch;
 mod views;
 

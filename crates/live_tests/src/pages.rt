@@ -1,4 +1,4 @@
-//! Tests over the public calls.
+//! Tests of the pages.
 ghost use Rattle.std.specs.Prelude.{◌≡◌, [], ◌∷◌, ℕ, ◌+◌, ◌^◌, ◌<◌, ◌≤◌, All, length, slice_index_or, None, Some, IsTrue, OnOk, IfSome};
 ghost use Rattle.live_doors.specs.Doors.{IsAdmitted, OnlyNoted};
 ghost use Rattle.live_pages.specs.Turns.{current};
@@ -7,7 +7,7 @@ ghost use Rattle.live_pages.specs.Ending.{in_order};
 ghost use Rattle.live_pages.specs.declared.touch.Touch.TheVariants.{Get, Put, Add};
 ghost use Rattle.live_pages.specs.Models.{PassModel, IsPassOf, IsKeeperOf, AreAll, first_passes};
 
-use crate::{Ended, Keeper, LivePages, NoMemory, Pass, Touch, Touched};
+use live_pages::{Ended, Keeper, LivePages, NoMemory, Pass, Touch, Touched};
 use mword::{Page, Word};
 use std::alloc::Global;
 use std::sync::atomic::{AtomicBool, AtomicU64, Ordering};
@@ -173,17 +173,20 @@ fn work_and_keep<R: Threads + Sync>(
     requires keeper { IsKeeperOf pages.now keeper × (keeper.holder.watch.request ≡ 0) }
     requires frame { pages.now.frames ≡ 1 }
     requires admitted { IsAdmitted keeper.holder.watch 0 × (current keeper.holder.watch 0 ≤ 1) }
-    ensures pass { IsPassOf pages.now result.0.0 × (result.0.0.walker.walk.cpu ≡ pass.walker.walk.cpu) × (result.0.1 ≤ 4294967295) }
+    ensures pass { IsPassOf pages.now result.0.0 × (result.0.0.walker.walk.cpu ≡ pass.walker.walk.cpu)
+        × (result.0.1 ≤ 4294967295) }
     ensures keeper { IsKeeperOf pages.now result.1.0 }
 {
     join(
         rt,
         || -> (Pass, u64)
             requires { IsPassOf pages.now pass × (pages.now.frames ≡ 1) × (pass.walker.made ≡ []) }
-            ensures { IsPassOf pages.entry.now result.0 × (result.0.walker.walk.cpu ≡ pass.walker.walk.cpu) × (result.1 ≤ 4294967295) }
+            ensures { IsPassOf pages.entry.now result.0 × (result.0.walker.walk.cpu ≡ pass.walker.walk.cpu)
+                × (result.1 ≤ 4294967295) }
         { work(pages, pass, unit, signals) },
         || -> (Keeper, Word)
-            requires { IsKeeperOf pages.now keeper × (pages.now.frames ≡ 1) × (keeper.holder.watch.request ≡ 0) × IsAdmitted keeper.holder.watch 0 × (current keeper.holder.watch 0 ≤ 1) }
+            requires { IsKeeperOf pages.now keeper × (pages.now.frames ≡ 1) × (keeper.holder.watch.request ≡ 0)
+                × IsAdmitted keeper.holder.watch 0 × (current keeper.holder.watch 0 ≤ 1) }
             ensures { IsKeeperOf pages.entry.now result.0 }
         { keep_and_end(pages, keeper, spare, signals) },
     )
@@ -205,19 +208,25 @@ fn run<R: Threads + Sync>(
     requires keeper { IsKeeperOf pages.now keeper × (keeper.holder.watch.request ≡ 0) }
     requires frame { pages.now.frames ≡ 1 }
     requires admitted { IsAdmitted keeper.holder.watch 0 × (current keeper.holder.watch 0 ≤ 1) }
-    ensures zero { IsPassOf pages.now result.0.0 × (result.0.0.walker.walk.cpu ≡ zero.walker.walk.cpu) × (result.0.1 ≤ 4294967295) }
-    ensures one { IsPassOf pages.now result.1.0.0 × (result.1.0.0.walker.walk.cpu ≡ one.walker.walk.cpu) × (result.1.0.1 ≤ 4294967295) }
+    ensures zero { IsPassOf pages.now result.0.0 × (result.0.0.walker.walk.cpu ≡ zero.walker.walk.cpu)
+        × (result.0.1 ≤ 4294967295) }
+    ensures one { IsPassOf pages.now result.1.0.0 × (result.1.0.0.walker.walk.cpu ≡ one.walker.walk.cpu)
+        × (result.1.0.1 ≤ 4294967295) }
     ensures keeper { IsKeeperOf pages.now result.1.1.0 }
 {
     join(
         rt,
         || -> (Pass, u64)
             requires { IsPassOf pages.now zero × (pages.now.frames ≡ 1) × (zero.walker.made ≡ []) }
-            ensures { IsPassOf pages.entry.now result.0 × (result.0.walker.walk.cpu ≡ zero.walker.walk.cpu) × (result.1 ≤ 4294967295) }
+            ensures { IsPassOf pages.entry.now result.0 × (result.0.walker.walk.cpu ≡ zero.walker.walk.cpu)
+                × (result.1 ≤ 4294967295) }
         { work(pages, zero, unit, signals) },
         || -> ((Pass, u64), (Keeper, Word))
-            requires { IsPassOf pages.now one × (one.walker.made ≡ []) × IsKeeperOf pages.now keeper × (pages.now.frames ≡ 1) × (keeper.holder.watch.request ≡ 0) × IsAdmitted keeper.holder.watch 0 × (current keeper.holder.watch 0 ≤ 1) }
-            ensures { IsPassOf pages.entry.now result.0.0 × (result.0.0.walker.walk.cpu ≡ one.walker.walk.cpu) × (result.0.1 ≤ 4294967295) × IsKeeperOf pages.entry.now result.1.0 }
+            requires { IsPassOf pages.now one × (one.walker.made ≡ []) × IsKeeperOf pages.now keeper
+                × (pages.now.frames ≡ 1) × (keeper.holder.watch.request ≡ 0) × IsAdmitted keeper.holder.watch 0
+                × (current keeper.holder.watch 0 ≤ 1) }
+            ensures { IsPassOf pages.entry.now result.0.0 × (result.0.0.walker.walk.cpu ≡ one.walker.walk.cpu)
+                × (result.0.1 ≤ 4294967295) × IsKeeperOf pages.entry.now result.1.0 }
         { work_and_keep(rt, pages, one, keeper, spare, unit, signals) },
     )
 }
@@ -225,7 +234,8 @@ fn run<R: Threads + Sync>(
 // The two passes, in order.
 fn both(mut passes: Vec<Pass>) -> Option<(Pass, Pass)>
     requires { length passes.items ≡ 2 }
-    ensures { IfSome result (λ two. (d : PassModel) → (two.0 ≡ slice_index_or passes.items 0 d) × (two.1 ≡ slice_index_or passes.items 1 d)) }
+    ensures { IfSome result (λ two. (d : PassModel) → (two.0 ≡ slice_index_or passes.items 0 d)
+        × (two.1 ≡ slice_index_or passes.items 1 d)) }
 {
     let one = passes.pop()?;
     let zero = passes.pop()?;
@@ -236,8 +246,10 @@ fn both(mut passes: Vec<Pass>) -> Option<(Pass, Pass)>
 fn first_two(pages: &LivePages, passes: Vec<Pass>) -> Option<(Pass, Pass)>
     requires first { passes.items ≡ first_passes pages.now 2 }
     requires of { All (IsPassOf pages.now) passes.items }
-    ensures zero { IfSome result (λ two. IsPassOf pages.now two.0 × (two.0.walker.made ≡ []) × (two.0.walker.walk.cpu ≡ 0)) }
-    ensures one { IfSome result (λ two. IsPassOf pages.now two.1 × (two.1.walker.made ≡ []) × (two.1.walker.walk.cpu ≡ 1)) }
+    ensures zero { IfSome result (λ two. IsPassOf pages.now two.0 × (two.0.walker.made ≡ [])
+        × (two.0.walker.walk.cpu ≡ 0)) }
+    ensures one { IfSome result (λ two. IsPassOf pages.now two.1 × (two.1.walker.made ≡ [])
+        × (two.1.walker.walk.cpu ≡ 1)) }
 {
     both(passes)
 }
@@ -287,7 +299,8 @@ fn touches_as_expected(pages: &LivePages, pass: &mut Pass, t: Touch, expected: T
     ensures pass { IsPassOf pages.now pass.new }
     ensures cpu { pass.new.walker.walk.cpu ≡ pass.old.walker.walk.cpu }
     ensures held { pass.new.walker.walk.held ≡ pass.old.walker.walk.held }
-    ensures made { IsTrue result → pass.new.walker.made ≡ record { ticket = expected.ticket; cpu = pass.old.walker.walk.cpu; frame = 0; binding = 1; touch = t; word = expected.word } ∷ pass.old.walker.made }
+    ensures made { IsTrue result → pass.new.walker.made
+        ≡ record { ticket = expected.ticket; cpu = pass.old.walker.walk.cpu; frame = 0; binding = 1; touch = t; word = expected.word } ∷ pass.old.walker.made }
 {
     let Ok(done) = pages.touch(pass, 0, t) else {
         return false;
@@ -314,10 +327,13 @@ fn close_row(
     requires passes { IsPassOf pages zero × IsPassOf pages one }
     requires count { pages.cpus ≡ 2 }
     requires cpus { (zero.walker.walk.cpu ≡ 0) × (one.walker.walk.cpu ≡ 1) }
-    requires zero { zero.walker.made ≡ record { ticket = 2; cpu = 0; frame = 0; binding = 1; touch = Put 3 7; word = 7 } ∷ record { ticket = 0; cpu = 0; frame = 0; binding = 1; touch = Add 3 5; word = 5 } ∷ [] }
-    requires one { one.walker.made ≡ record { ticket = 1; cpu = 1; frame = 0; binding = 1; touch = Get 3; word = 5 } ∷ [] }
+    requires zero { zero.walker.made
+        ≡ record { ticket = 2; cpu = 0; frame = 0; binding = 1; touch = Put 3 7; word = 7 } ∷ record { ticket = 0; cpu = 0; frame = 0; binding = 1; touch = Add 3 5; word = 5 } ∷ [] }
+    requires one { one.walker.made
+        ≡ record { ticket = 1; cpu = 1; frame = 0; binding = 1; touch = Get 3; word = 5 } ∷ [] }
     ensures count { IfSome result (λ ended. length ended.pages.items ≡ pages.frames) }
-    ensures touches { IfSome result (λ ended. in_order ended.shown ≡ record { ticket = 0; cpu = 0; frame = 0; binding = 1; touch = Add 3 5; word = 5 } ∷ record { ticket = 1; cpu = 1; frame = 0; binding = 1; touch = Get 3; word = 5 } ∷ record { ticket = 2; cpu = 0; frame = 0; binding = 1; touch = Put 3 7; word = 7 } ∷ []) }
+    ensures touches { IfSome result (λ ended. in_order ended.shown
+        ≡ record { ticket = 0; cpu = 0; frame = 0; binding = 1; touch = Add 3 5; word = 5 } ∷ record { ticket = 1; cpu = 1; frame = 0; binding = 1; touch = Get 3; word = 5 } ∷ record { ticket = 2; cpu = 0; frame = 0; binding = 1; touch = Put 3 7; word = 7 } ∷ []) }
 {
     let passes = gather(alloc, &pages, zero, one)?;
     Some(pages.close(keeper, passes))

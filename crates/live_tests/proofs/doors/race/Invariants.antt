@@ -1,5 +1,5 @@
 use Rattle.live_doors.specs.Doors.{IsPassOf}
-use Rattle.live_doors.proofs.tests.race.Given as goal
+use Rattle.live_tests.proofs.doors.race.Given as goal
 
 abbrev pub invariant-loop-turn : goal.invariant-loop-turn
 invariant-loop-turn l = IsPassOf l.doors l.pass

@@ -1,18 +1,11 @@
-//! Tests over the public calls.
+//! Tests of the doors.
 ghost use Rattle.std.specs.Prelude.{◌≡◌, ℕ, ◌+◌, ◌%◌, ◌<◌, ◌≤◌, length, slice_index};
 ghost use Rattle.live_doors.specs.Doors.{IsPassOf, IsKeeperOf, IsAdmitted, OnlyNoted};
 
-use crate::{Behind, Closed, Keeper, LiveDoors, NoMemory, Pass};
-use std::alloc::AllocFailed;
+use live_doors::{Behind, Closed, Keeper, LiveDoors, NoMemory, Pass};
 use std::sync::atomic::{AtomicBool, AtomicU64, Ordering};
 use std::thread;
 use std::thread::{Threads, join};
-
-impl From<AllocFailed<Pass>> for NoMemory {
-    fn from(_: AllocFailed<Pass>) -> NoMemory {
-        NoMemory
-    }
-}
 
 #[test]
 fn revokes_in_order_on_one_thread(rt: HostRuntime) -> Result<(), NoMemory> {
@@ -40,8 +33,8 @@ fn revokes_in_order_on_one_thread(rt: HostRuntime) -> Result<(), NoMemory> {
     assert_eq!(&rt; doors.all_clear(&mut keeper, 1), Ok(()));
     assert!(&rt; keeper.may_bind(0) && !keeper.may_bind(1));
     assert!(&rt; !zero.holds(0));
-    passes.push(zero)?;
-    passes.push(one)?;
+    passes.push(zero).ok().expect(&rt, "room for a pass");
+    passes.push(one).ok().expect(&rt, "room for a pass");
     let ended = doors.close(keeper, passes);
     assert_eq!(&rt; ended.doors.as_slice(), [3, 2].as_slice());
     assert_eq!(&rt; ended.request, 1);
@@ -170,7 +163,8 @@ fn run<R: Threads + Sync>(
             ensures { IsPassOf doors.entry.now result }
         { race(doors, zero, signals) },
         || -> (Pass, Keeper)
-            requires { IsPassOf doors.now one × IsKeeperOf doors.now keeper × (doors.now.frames ≡ 1000) × (keeper.watch.request ≡ 0) × ((f : ℕ) → f < 1000 → IsAdmitted keeper.watch f) }
+            requires { IsPassOf doors.now one × IsKeeperOf doors.now keeper × (doors.now.frames ≡ 1000)
+                × (keeper.watch.request ≡ 0) × ((f : ℕ) → f < 1000 → IsAdmitted keeper.watch f) }
             ensures { IsPassOf doors.entry.now result.0 × IsKeeperOf doors.entry.now result.1 }
         { race_and_keep(rt, doors, one, keeper, signals) },
     );
@@ -199,7 +193,8 @@ fn race_and_keep<R: Threads + Sync>(
             ensures { IsPassOf doors.entry.now result }
         { race(doors, pass, signals) },
         || -> Keeper
-            requires { IsKeeperOf doors.now keeper × (doors.now.frames ≡ 1000) × (keeper.watch.request ≡ 0) × ((f : ℕ) → f < 1000 → IsAdmitted keeper.watch f) }
+            requires { IsKeeperOf doors.now keeper × (doors.now.frames ≡ 1000) × (keeper.watch.request ≡ 0)
+                × ((f : ℕ) → f < 1000 → IsAdmitted keeper.watch f) }
             ensures { IsKeeperOf doors.entry.now result }
         { keep(doors, keeper, signals) },
     )
@@ -234,8 +229,8 @@ fn no_pass_holds_what_was_cleared(rt: HostRuntime) -> Result<(), NoMemory> {
     assert_eq!(&rt; signals.cleared.load(Ordering::SeqCst), 1000);
     assert_eq!(&rt; doors.all_clear(&mut keeper, 1000), Ok(()));
     assert!(&rt; all_are_free(&keeper, &zero, &one));
-    passes.push(zero)?;
-    passes.push(one)?;
+    passes.push(zero).ok().expect(&rt, "room for a pass");
+    passes.push(one).ok().expect(&rt, "room for a pass");
     let ended = doors.close(keeper, passes);
     assert!(&rt; ended.doors.iter().all(|&door| door == 3));
     assert_eq!(&rt; ended.request, 1000);
