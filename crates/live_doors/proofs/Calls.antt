@@ -14,7 +14,7 @@ use Rattle.live_doors.specs.declared.views.Watch.{Watch}
 use Rattle.live_doors.specs.declared.views.View.{View}
 use Rattle.live_doors.specs.declared.views.View.TheVariants.{Walking, Keeping}
 use Rattle.live_doors.specs.Doors.{blank, first_passes, DoorsModel, PassModel, KeeperModel, IsPassOf, IsKeeperOf, OnlyNoted, HasNoted, having_read, holding, having_noted}
-use Rattle.live_doors.specs.Steps.{filled_if, filled, walk_of, watch_of}
+use Rattle.live_doors.specs.Steps.{PassFits, KeeperFits, filled_if, filled, walk_of, watch_of}
 
 -- a fill that finds an odd word only notes it
 pub filled_odd : (f n : ℕ) (p : Walk) → n % 2 ≡ 1 → filled f n p ≡ having_read n p
@@ -26,14 +26,13 @@ filled_even f n p even = let h : n ≡ 2 * (n / 2) = omega arith in let e : n % 
     ap (λ b. filled_if b f n p) (eq-eqb (n % 2) 0 e) ∙ ap (λ k. holding f (n / 2) (having_read k p)) h
 
 -- a pass whose fields are those of its view
-abbrev pub PassFits : Me (Unit {0}) View → ℕ → List (Option ℕ) → ℕ → Type 0
-PassFits m cpu held stamp = (m ≡ (Walking (walk_of m.0), [])) × (cpu ≡ (walk_of m.0).cpu) × (held ≡ (walk_of m.0).held) × (stamp ≡ (walk_of m.0).stamp)
-
-pub pass_fits : (m : Me (Unit {0}) View) (q : Walk) (cpu : ℕ) (held : List (Option ℕ)) (stamp : ℕ) → m ≡ (Walking q, []) → cpu ≡ q.cpu → held ≡ q.held → stamp ≡ q.stamp → PassFits m cpu held stamp
-pass_fits m q cpu held stamp is a b c = subst (λ x. PassFits x cpu held stamp) (sym is) (refl, a, b, c)
+pub pass_fits : (m : Me (Unit {0}) View) (q : Walk) (cpu : ℕ) (held : List (Option ℕ)) (stamp : ℕ) → m ≡ (Walking q, []) → cpu ≡ q.cpu → held ≡ q.held
+    → stamp ≡ q.stamp → PassFits m cpu held stamp
+pass_fits m q cpu held stamp is a b c = subst (λ x. PassFits x cpu held stamp) (sym is) record { seat = refl; cpu = a; held = b; stamp = c }
 
 -- it came with the same doors as before
-pub pass_stays_of : (doors : DoorsModel) (now : PassModel) (t t' : TableId) (m m' : Me (Unit {0}) View) (q : Walk) → record { table = t; walk = walk_of m.0 } ≡ now → IsPassOf doors now → t' ≡ t → m' ≡ (Walking q, [])
+pub pass_stays_of : (doors : DoorsModel) (now : PassModel) (t t' : TableId) (m m' : Me (Unit {0}) View) (q : Walk)
+    → record { table = t; walk = walk_of m.0 } ≡ now → IsPassOf doors now → t' ≡ t → m' ≡ (Walking q, [])
     → length q.held ≡ length (walk_of m.0).held → q.cpu ≡ (walk_of m.0).cpu → IsPassOf doors record { table = t'; walk = walk_of m'.0 }
 pass_stays_of doors now t t' m m' q view ok same is row cpu = record {
   table = same ∙ ap (λ v. v.table) view ∙ ok.table;
@@ -46,20 +45,22 @@ pub noted_still : (w : Watch) (c n stamp : ℕ) → HasNoted w stamp → get_or 
 noted_still w c n stamp all low d inside =
     let l = length-set w.noted c n in
     dite (ℕ_discrete d c)
-    (λ (same : d ≡ c). let h : get_or (set w.noted c n) d 0 ≡ n = subst (λ k. get_or (set w.noted c n) k 0 ≡ n) (sym same) (get_or-set_same w.noted c n 0 (omega arith)) in let old = all c (omega arith) in omega arith)
+    (λ (same : d ≡ c). let h : get_or (set w.noted c n) d 0 ≡ n = subst (λ k. get_or (set w.noted c n) k 0 ≡ n) (sym same)
+    (get_or-set_same w.noted c n 0 (omega arith)) in let old = all c (omega arith) in omega arith)
     (λ (other : d ≢ c). subst (λ k. stamp ≤ k) (sym (get_or-set_other w.noted c d n 0 other)) (all d (omega arith)))
 
 -- a keeper whose fields are those of its view
-abbrev pub KeeperFits : Me (Unit {0}) View → ℕ → List ℕ → List ℕ → ℕ → Type 0
-KeeperFits m request doors since cleared = (m ≡ (Keeping (watch_of m.0), [])) × (request ≡ (watch_of m.0).request) × (doors ≡ (watch_of m.0).doors) × (since ≡ (watch_of m.0).since) × HasNoted (watch_of m.0) cleared
-
-pub keeper_fits : (m : Me (Unit {0}) View) (w : Watch) (request : ℕ) (doors since : List ℕ) (cleared : ℕ) → m ≡ (Keeping w, []) → request ≡ w.request → doors ≡ w.doors → since ≡ w.since → HasNoted w cleared
+pub keeper_fits : (m : Me (Unit {0}) View) (w : Watch) (request : ℕ) (doors since : List ℕ) (cleared : ℕ) → m ≡ (Keeping w, []) → request ≡ w.request
+    → doors ≡ w.doors → since ≡ w.since → length since ≡ length doors → HasNoted w cleared
     → KeeperFits m request doors since cleared
-keeper_fits m w request doors since cleared is a b c d = subst (λ x. KeeperFits x request doors since cleared) (sym is) (refl, a, b, c, d)
+keeper_fits m w request doors since cleared is a b c e d = subst (λ x. KeeperFits x request doors since cleared) (sym is) record
+    { seat = refl; request = a; doors = b; since = c; rows = e; cleared = d }
 
 -- it came with the same doors as before
-pub keeper_stays_of : (doors : DoorsModel) (now : KeeperModel) (t t' : TableId) (cleared cleared' : ℕ) (m m' : Me (Unit {0}) View) (w : Watch) → record { table = t; watch = watch_of m.0; cleared = cleared } ≡ now → IsKeeperOf doors now → t' ≡ t
-    → m' ≡ (Keeping w, []) → length w.doors ≡ length (watch_of m.0).doors → length w.since ≡ length (watch_of m.0).since → length w.noted ≡ length (watch_of m.0).noted
+pub keeper_stays_of : (doors : DoorsModel) (now : KeeperModel) (t t' : TableId) (cleared cleared' : ℕ) (m m' : Me (Unit {0}) View) (w : Watch)
+    → record { table = t; watch = watch_of m.0; cleared = cleared } ≡ now → IsKeeperOf doors now → t' ≡ t
+    → m' ≡ (Keeping w, []) → length w.doors ≡ length (watch_of m.0).doors → length w.since ≡ length (watch_of m.0).since
+    → length w.noted ≡ length (watch_of m.0).noted
     → IsKeeperOf doors record { table = t'; watch = watch_of m'.0; cleared = cleared' }
 keeper_stays_of doors now t t' cleared cleared' m m' w view ok same is a b c = record {
   table = same ∙ ap (λ v. v.table) view ∙ ok.table;
@@ -106,30 +107,36 @@ module _ (doors : DoorsModel) (old now next : KeeperModel) (stamp cpu seen : ℕ
   noted_here so is inside = ap (λ w. get_or w.noted cpu 0) is ∙ get_or-set_same now.watch.noted cpu seen 0 (let r = so.keeper.cpus in omega arith)
 
   pub noted_before : ClearSoFar doors old now stamp cpu → next.watch ≡ having_noted cpu seen now.watch → (c : ℕ) → c < cpu → stamp ≤ get_or next.watch.noted c 0
-  noted_before so is c below = subst (λ k. stamp ≤ k) (sym (ap (λ w. get_or w.noted c 0) is ∙ get_or-set_other now.watch.noted cpu c seen 0 (λ e. omega arith))) (so.noted c below)
+  noted_before so is c below = subst (λ k. stamp ≤ k) (sym (ap (λ w. get_or w.noted c 0) is ∙ get_or-set_other now.watch.noted cpu c seen 0 (λ e. omega arith)))
+      (so.noted c below)
 
   pub looked_once_more : ClearSoFar doors old now stamp cpu → next.watch ≡ having_noted cpu seen now.watch → next.watch.looks ≡ old.watch.looks + cpu + 1
   looked_once_more so is = ap (λ w. w.looks) is ∙ ap (λ k. k + 1) so.looks
 
-  pub clear_goes_on : ClearSoFar doors old now stamp cpu → IsKeeperOf doors next → next.watch ≡ having_noted cpu seen now.watch → next.cleared ≡ now.cleared → cpu < doors.cpus → stamp ≤ seen → ClearSoFar doors old next stamp (cpu + 1)
+  pub clear_goes_on : ClearSoFar doors old now stamp cpu → IsKeeperOf doors next → next.watch ≡ having_noted cpu seen now.watch → next.cleared ≡ now.cleared
+      → cpu < doors.cpus → stamp ≤ seen → ClearSoFar doors old next stamp (cpu + 1)
   clear_goes_on so ok is same inside enough = record {
     keeper = ok;
     only = only_noted so is;
     looks = (let l = looked_once_more so is in omega arith);
-    noted = λ c below. dite (ℕ_discrete c cpu) (λ (e : c ≡ cpu). subst (λ k. stamp ≤ get_or next.watch.noted k 0) (sym e) (subst (λ k. stamp ≤ k) (sym (noted_here so is inside)) enough)) (λ (other : c ≢ cpu). noted_before so is c (omega arith));
+    noted = λ c below. dite (ℕ_discrete c cpu) (λ (e : c ≡ cpu). subst (λ k. stamp ≤ get_or next.watch.noted k 0) (sym e)
+        (subst (λ k. stamp ≤ k) (sym (noted_here so is inside)) enough)) (λ (other : c ≢ cpu). noted_before so is c (omega arith));
     cleared = same ∙ so.cleared;
   }
 
 -- every new pass came with its doors
 pub all_first : (doors : DoorsModel) (n : ℕ) → n ≤ doors.cpus → All (IsPassOf doors) (first_passes doors n)
 all_first doors zero few = λ k d inside. absurd (omega arith)
-all_first doors (suc n) few = All-append (IsPassOf doors) (first_passes doors n) _ (all_first doors n (omega arith)) (λ k d inside. let at : k ≡ 0 = omega arith in subst (λ j. IsPassOf doors (get_or (record { table = doors.table; walk = blank doors.frames n } ∷ []) j d)) (sym at) record { table = refl; frames = length-replicate doors.frames None; cpu = omega arith })
+all_first doors (suc n) few = All-append (IsPassOf doors) (first_passes doors n) _ (all_first doors n (omega arith)) (λ k d inside. let at : k
+    ≡ 0 = omega arith in subst (λ j. IsPassOf doors (get_or (record { table = doors.table; walk = blank doors.frames n } ∷ []) j d)) (sym at) record
+    { table = refl; frames = length-replicate doors.frames None; cpu = omega arith })
 
 pub all_first_at : (doors : DoorsModel) (passes : List PassModel) (n : ℕ) → passes ≡ first_passes doors n → n ≡ doors.cpus → All (IsPassOf doors) passes
 all_first_at doors passes n is all = subst (All (IsPassOf doors)) (sym is) (all_first doors n (omega arith))
 
 -- what is found at a place is an entry exactly where the pass holds one there
-pub holds_entry : (xs ys : List (Option ℕ)) (f : ℕ) (o : Option ℕ) → o ≡ get_or xs f o → xs ≡ ys → f < length ys → IsTrue (is_some o) ↔ ((b : ℕ) × (get_or ys f None ≡ Some b))
+pub holds_entry : (xs ys : List (Option ℕ)) (f : ℕ) (o : Option ℕ) → o ≡ get_or xs f o → xs ≡ ys → f < length ys
+    → IsTrue (is_some o) ↔ ((b : ℕ) × (get_or ys f None ≡ Some b))
 holds_entry xs ys f o is same inside = cases o (is ∙ ap (λ l. get_or l f o) same ∙ get_or_default ys f o None inside)
   where
     cases : (u : Option ℕ) → u ≡ get_or ys f None → IsTrue (is_some u) ↔ ((b : ℕ) × (get_or ys f None ≡ Some b))

@@ -17,9 +17,11 @@ use Rattle.live_doors.specs.Kept.{PlanOk, PassOk, SeatOk, Kept, NotedIsClear, Ne
 use Rattle.live_doors.proofs.Plain.{filled_ok, forgotten_ok, plan_acknowledged, acknowledged_ok, pass_stays, plan_shut, pass_shut, plan_raised, pass_raised, plan_noted, pass_noted, plan_admits, pass_admits, blank_ok, entry_gone, entry_never}
 
 -- after a change of one seat's view, each seat is in order, if that one is and the others were
-pub seats_stay : {V : Type 0} (K : ℕ → V → Type 0) (views : List V) (me : ℕ) (w : V) → K me w → ((j : ℕ) (v : V) → j ≢ me → get_elem? views j ≡ some v → K j v) → (j : ℕ) (v : V) → get_elem? (set views me w) j ≡ some v → K j v
+pub seats_stay : {V : Type 0} (K : ℕ → V → Type 0) (views : List V) (me : ℕ) (w : V) → K me w → ((j : ℕ) (v : V) → j ≢ me → get_elem? views j ≡ some v → K j v)
+    → (j : ℕ) (v : V) → get_elem? (set views me w) j ≡ some v → K j v
 seats_stay {V} K views me w mine others j v e =
-    ⊎_elim (λ (t : (j ≡ me) × (w ≡ v)). subst (λ (x : ℕ × V). K x.0 x.1) (λ i. (sym t.0 i, t.1 i)) mine) (λ (t : (j ≢ me) × (get_elem? views j ≡ some v)). others j v t.0 t.1) (at_set views me j w v e)
+    ⊎_elim (λ (t : (j ≡ me) × (w ≡ v)). subst (λ (x : ℕ × V). K x.0 x.1) (λ i. (sym t.0 i, t.1 i)) mine)
+    (λ (t : (j ≢ me) × (get_elem? views j ≡ some v)). others j v t.0 t.1) (at_set views me j w v e)
 
 abbrev Board : Type 0
 Board = State (Unit {0}) View
@@ -29,7 +31,8 @@ InOrder z s = Kept z s.words s.views
 
 module _ (z : Size) where
   -- a pass has looked at a word
-  pass_looked : (words : List ℕ) (views : List View) (id i : ℕ) (p p' : Walk) → (h : Kept z words views) → get_elem? views id ≡ some (Walking p) → p'.cpu ≡ p.cpu
+  pass_looked : (words : List ℕ) (views : List View) (id i : ℕ) (p p' : Walk) → (h : Kept z words views) → get_elem? views id ≡ some (Walking p)
+      → p'.cpu ≡ p.cpu
       → (PassOk z.frames z.cpus words h.plan p → PassOk z.frames z.cpus words h.plan p') → Kept z (set words i (get_or words i 0)) (set views id (Walking p'))
   pass_looked words views id i p p' h at same ok =
       let mine = h.seats_ok id (Walking p) at in
@@ -39,10 +42,16 @@ module _ (z : Size) where
         keeper = h.keeper;
         seat_of = h.seat_of;
         plan_ok = h.plan_ok;
-        seats_ok = seats_stay (SeatOk z.frames z.cpus words h.plan h.keeper h.seat_of) views id (Walking p') (ap h.seat_of same ∙ mine.0, ok mine.1) (λ j v _ e. h.seats_ok j v e);
+        seats_ok = seats_stay (SeatOk z.frames z.cpus words h.plan h.keeper h.seat_of) views id (Walking p') (
+          ap h.seat_of same ∙ mine.0,
+          ok mine.1,
+        ) (λ j v _ e. h.seats_ok j v e);
       }
 
-  pub fills : (slots id f : ℕ) (p : Walk) → f < z.frames → Allows (InOrder z) slots id (Walking p, []) (door_at f) (λ n. n) (Fills (step slots (door_at f) 0 0 none) (Walking p, []))
+  pub fills : (slots id f : ℕ) (p : Walk) → f < z.frames → Allows (InOrder z) slots id (
+    Walking p,
+    [],
+  ) (door_at f) (λ n. n) (Fills (step slots (door_at f) 0 0 none) (Walking p, []))
   fills slots id f p inside s h homes at fits =
       let n : ℕ = get_or s.words (door_at f) 0 in (
         Walking (filled f n p),
@@ -64,10 +73,19 @@ module _ (z : Size) where
 
   pub forgets : (slots id : ℕ) (p : Walk) → Allows (InOrder z) slots id (Walking p, []) 0 (λ n. n) (Forgets (step slots 0 0 0 none) (Walking p, []))
   forgets slots id p s h homes at fits =
-      let n : ℕ = get_or s.words 0 0 in
-      (Walking (forgotten n p), keeps, tt, pass_looked s.words s.views id 0 p (forgotten n p) h at refl (forgotten_ok z.frames z.cpus s.words h.plan p n refl h.plan_ok), refl)
+      let n : ℕ = get_or s.words 0 0 in (
+        Walking (forgotten n p),
+        keeps,
+        tt,
+        pass_looked s.words s.views id 0 p (forgotten n p) h at refl
+            (forgotten_ok z.frames z.cpus s.words h.plan p n refl h.plan_ok),
+        refl,
+      )
 
-  pub acknowledges : (slots id : ℕ) (p : Walk) → Allows (InOrder z) slots id (Walking p, []) (ack_at z.frames p.cpu) (λ _. p.stamp) (λ _. Acknowledges (step slots (ack_at z.frames p.cpu) p.stamp 0 none) (Walking p, []) p.stamp)
+  pub acknowledges : (slots id : ℕ) (p : Walk) → Allows (InOrder z) slots id (
+    Walking p,
+    [],
+  ) (ack_at z.frames p.cpu) (λ _. p.stamp) (λ _. Acknowledges (step slots (ack_at z.frames p.cpu) p.stamp 0 none) (Walking p, []) p.stamp)
   acknowledges slots id p s h homes at fits =
       let mine = h.seats_ok id (Walking p) at in (
         Walking (acknowledged p),
@@ -78,14 +96,16 @@ module _ (z : Size) where
           keeper = h.keeper;
           seat_of = h.seat_of;
           plan_ok = plan_acknowledged z.frames z.cpus s.words h.plan p h.plan_ok mine.1;
-          seats_ok = seats_stay (SeatOk z.frames z.cpus (set s.words (ack_at z.frames p.cpu) p.stamp) h.plan h.keeper h.seat_of) s.views id (Walking (acknowledged p))
+          seats_ok = seats_stay (SeatOk z.frames z.cpus (set s.words (ack_at z.frames p.cpu) p.stamp) h.plan h.keeper h.seat_of) s.views id
+              (Walking (acknowledged p))
               (mine.0, acknowledged_ok z.frames z.cpus s.words h.plan p h.plan_ok mine.1)
               (λ j v other e. stays s.words h.plan h.keeper h.seat_of mine.0 j v other (h.seats_ok j v e));
         },
         refl,
       )
     where
-      stays : (words : List ℕ) (plan : Watch) (keeper : ℕ) (seat_of : ℕ → ℕ) → seat_of p.cpu ≡ id → (j : ℕ) (v : View) → j ≢ id → SeatOk z.frames z.cpus words plan keeper seat_of j v
+      stays : (words : List ℕ) (plan : Watch) (keeper : ℕ) (seat_of : ℕ → ℕ) → seat_of p.cpu ≡ id → (j : ℕ) (v : View) → j ≢ id
+          → SeatOk z.frames z.cpus words plan keeper seat_of j v
           → SeatOk z.frames z.cpus (set words (ack_at z.frames p.cpu) p.stamp) plan keeper seat_of j v
       stays words plan keeper seat_of here j (Walking q) other k =
           (k.0, pass_stays z.frames z.cpus words plan q (ack_at z.frames p.cpu) p.stamp (λ e. other (sym k.0 ∙ ap seat_of (omega arith) ∙ here)) k.1)
@@ -94,7 +114,8 @@ module _ (z : Size) where
 
   -- the keeper's step: its plan becomes another, beside words in which each pass is in order
   keeper_stepped : (words words' : List ℕ) (views : List View) (id : ℕ) (w w' : Watch) → (h : Kept z words views) → get_elem? views id ≡ some (Keeping w)
-      → (PlanOk z.frames z.cpus words w → PlanOk z.frames z.cpus words' w') → (PlanOk z.frames z.cpus words w → (q : Walk) → PassOk z.frames z.cpus words w q → PassOk z.frames z.cpus words' w' q)
+      → (PlanOk z.frames z.cpus words w → PlanOk z.frames z.cpus words' w')
+      → (PlanOk z.frames z.cpus words w → (q : Walk) → PassOk z.frames z.cpus words w q → PassOk z.frames z.cpus words' w' q)
       → Kept z words' (set views id (Keeping w'))
   keeper_stepped words words' views id w w' h at plan pass =
       let mine = h.seats_ok id (Keeping w) at in
@@ -105,31 +126,39 @@ module _ (z : Size) where
         seat_of = h.seat_of;
         plan_ok = plan was;
         seats_ok = seats_stay (SeatOk z.frames z.cpus words' w' h.keeper h.seat_of) views id (Keeping w') (mine.0, refl)
-            (λ j v other e. stays h.keeper h.seat_of mine.0 (pass was) j v other (subst (λ k. SeatOk z.frames z.cpus words k h.keeper h.seat_of j v) (sym mine.1) (h.seats_ok j v e)));
+            (λ j v other e. stays h.keeper h.seat_of mine.0 (pass was) j v other
+            (subst (λ k. SeatOk z.frames z.cpus words k h.keeper h.seat_of j v) (sym mine.1) (h.seats_ok j v e)));
       }
     where
-      stays : (keeper : ℕ) (seat_of : ℕ → ℕ) → keeper ≡ id → ((q : Walk) → PassOk z.frames z.cpus words w q → PassOk z.frames z.cpus words' w' q) → (j : ℕ) (v : View) → j ≢ id
+      stays : (keeper : ℕ) (seat_of : ℕ → ℕ) → keeper ≡ id → ((q : Walk) → PassOk z.frames z.cpus words w q → PassOk z.frames z.cpus words' w' q)
+          → (j : ℕ) (v : View) → j ≢ id
           → SeatOk z.frames z.cpus words w keeper seat_of j v → SeatOk z.frames z.cpus words' w' keeper seat_of j v
       stays keeper seat_of here pass j (Walking q) other k = (k.0, pass q k.1)
       stays keeper seat_of here pass j (Keeping u) other k = absurd (other (sym k.0 ∙ here))
       stays keeper seat_of here pass j Spent other k = tt
 
   pub closes : (slots id f : ℕ) (w : Watch) → f < z.frames → get_or w.doors f 0 % 2 ≡ 0
-      → Allows (InOrder z) slots id (Keeping w, []) (door_at f) (λ _. get_or w.doors f 0 + 1) (λ _. Closes (step slots (door_at f) (get_or w.doors f 0 + 1) 0 none) (Keeping w, []) (get_or w.doors f 0 + 1))
+      → Allows (InOrder z) slots id (Keeping w, []) (door_at f) (λ _. get_or w.doors f 0 + 1)
+      (λ _. Closes (step slots (door_at f) (get_or w.doors f 0 + 1) 0 none) (Keeping w, []) (get_or w.doors f 0 + 1))
   closes slots id f w inside even s h homes at fits = (
     Keeping (shut f w),
     keeps,
     tt,
-    keeper_stepped s.words (set s.words (door_at f) (get_or w.doors f 0 + 1)) s.views id w (shut f w) h at (plan_shut z.frames z.cpus s.words w f inside) (λ k q ok. pass_shut z.frames z.cpus s.words w f q inside even k ok),
+    keeper_stepped s.words (set s.words (door_at f) (get_or w.doors f 0 + 1)) s.views id w (shut f w) h at (plan_shut z.frames z.cpus s.words w f inside)
+        (λ k q ok. pass_shut z.frames z.cpus s.words w f q inside even k ok),
     λ g e. ap (λ k. (Keeping (shut k w), [])) (omega arith),
   )
 
-  pub raises : (slots id : ℕ) (w : Watch) → Allows (InOrder z) slots id (Keeping w, []) 0 (λ _. w.request + 1) (λ _. Raises (step slots 0 (w.request + 1) 0 none) (Keeping w, []) (w.request + 1))
+  pub raises : (slots id : ℕ) (w : Watch) → Allows (InOrder z) slots id (
+    Keeping w,
+    [],
+  ) 0 (λ _. w.request + 1) (λ _. Raises (step slots 0 (w.request + 1) 0 none) (Keeping w, []) (w.request + 1))
   raises slots id w s h homes at fits = (
     Keeping (raised w),
     keeps,
     tt,
-    keeper_stepped s.words (set s.words 0 (w.request + 1)) s.views id w (raised w) h at (plan_raised z.frames z.cpus s.words w) (λ _ q ok. pass_raised z.frames z.cpus s.words w q ok),
+    keeper_stepped s.words (set s.words 0 (w.request + 1)) s.views id w (raised w) h at (plan_raised z.frames z.cpus s.words w)
+        (λ _ q ok. pass_raised z.frames z.cpus s.words w q ok),
     refl,
   )
 
@@ -143,41 +172,54 @@ module _ (z : Size) where
         keeps,
         tt,
         keeper_stepped s.words (set s.words (ack_at z.frames c) n) s.views id w (having_noted c n w) h at
-            (λ k. subst (λ ws. PlanOk z.frames z.cpus ws (having_noted c n w)) (sym (set-get_or s.words (ack_at z.frames c) 0)) (plan_noted z.frames z.cpus s.words w c n inside refl k))
-            (λ _ q ok. subst (λ ws. PassOk z.frames z.cpus ws (having_noted c n w) q) (sym (set-get_or s.words (ack_at z.frames c) 0)) (pass_noted z.frames z.cpus s.words w c n q ok)),
+            (λ k. subst (λ ws. PlanOk z.frames z.cpus ws (having_noted c n w)) (sym (set-get_or s.words (ack_at z.frames c) 0))
+            (plan_noted z.frames z.cpus s.words w c n inside refl k))
+            (λ _ q ok. subst (λ ws. PassOk z.frames z.cpus ws (having_noted c n w) q) (sym (set-get_or s.words (ack_at z.frames c) 0))
+            (pass_noted z.frames z.cpus s.words w c n q ok)),
         λ d e. let same : c ≡ d = omega arith in (subst (λ k. get_or w.noted k 0 ≤ n) same low, ap (λ k. (Keeping (having_noted k n w), [])) same),
       )
 
   -- the same at a seat that is known to be a pass's or the keeper's
-  pub fills_at : (slots id f : ℕ) (m : Me (Unit {0}) View) → m ≡ (Walking (walk_of m.0), []) → f < z.frames → Allows (InOrder z) slots id m (1 + f) (λ n. n) (Fills (step slots (1 + f) 0 0 none) m)
-  fills_at slots id f m is inside = subst (λ x. Allows (InOrder z) slots id x (1 + f) (λ n. n) (Fills (step slots (1 + f) 0 0 none) x)) (sym is) (fills slots id f (walk_of m.0) inside)
+  pub fills_at : (slots id f : ℕ) (m : Me (Unit {0}) View) → m ≡ (Walking (walk_of m.0), []) → f < z.frames
+      → Allows (InOrder z) slots id m (1 + f) (λ n. n) (Fills (step slots (1 + f) 0 0 none) m)
+  fills_at slots id f m is inside = subst (λ x. Allows (InOrder z) slots id x (1 + f) (λ n. n) (Fills (step slots (1 + f) 0 0 none) x)) (sym is)
+      (fills slots id f (walk_of m.0) inside)
 
-  pub forgets_at : (slots id : ℕ) (m : Me (Unit {0}) View) → m ≡ (Walking (walk_of m.0), []) → Allows (InOrder z) slots id m 0 (λ n. n) (Forgets (step slots 0 0 0 none) m)
+  pub forgets_at : (slots id : ℕ) (m : Me (Unit {0}) View) → m ≡ (Walking (walk_of m.0), [])
+      → Allows (InOrder z) slots id m 0 (λ n. n) (Forgets (step slots 0 0 0 none) m)
   forgets_at slots id m is = subst (λ x. Allows (InOrder z) slots id x 0 (λ n. n) (Forgets (step slots 0 0 0 none) x)) (sym is) (forgets slots id (walk_of m.0))
 
-  pub acknowledges_at : (slots id i n : ℕ) (m : Me (Unit {0}) View) → m ≡ (Walking (walk_of m.0), []) → i ≡ ack_at z.frames (walk_of m.0).cpu → n ≡ (walk_of m.0).stamp
+  pub acknowledges_at : (slots id i n : ℕ) (m : Me (Unit {0}) View) → m ≡ (Walking (walk_of m.0), []) → i ≡ ack_at z.frames (walk_of m.0).cpu
+      → n ≡ (walk_of m.0).stamp
       → Allows (InOrder z) slots id m i (λ _. n) (λ _. Acknowledges (step slots i n 0 none) m n)
   acknowledges_at slots id i n m is word stamp =
       subst (λ (x : ℕ × ℕ). Allows (InOrder z) slots id m x.0 (λ _. x.1) (λ _. Acknowledges (step slots x.0 x.1 0 none) m x.1)) (λ k. (sym word k, sym stamp k))
-      (subst (λ x. Allows (InOrder z) slots id x (ack_at z.frames (walk_of m.0).cpu) (λ _. (walk_of m.0).stamp) (λ _. Acknowledges (step slots (ack_at z.frames (walk_of m.0).cpu) (walk_of m.0).stamp 0 none) x (walk_of m.0).stamp)) (sym is)
+      (subst (λ x. Allows (InOrder z) slots id x (ack_at z.frames (walk_of m.0).cpu) (λ _. (walk_of m.0).stamp)
+      (λ _. Acknowledges (step slots (ack_at z.frames (walk_of m.0).cpu) (walk_of m.0).stamp 0 none) x (walk_of m.0).stamp)) (sym is)
       (acknowledges slots id (walk_of m.0)))
 
-  pub closes_at : (slots id f n : ℕ) (m : Me (Unit {0}) View) → m ≡ (Keeping (watch_of m.0), []) → f < z.frames → get_or (watch_of m.0).doors f 0 % 2 ≡ 0 → n ≡ get_or (watch_of m.0).doors f 0 + 1
+  pub closes_at : (slots id f n : ℕ) (m : Me (Unit {0}) View) → m ≡ (Keeping (watch_of m.0), []) → f < z.frames → get_or (watch_of m.0).doors f 0 % 2 ≡ 0
+      → n ≡ get_or (watch_of m.0).doors f 0 + 1
       → Allows (InOrder z) slots id m (1 + f) (λ _. n) (λ _. Closes (step slots (1 + f) n 0 none) m n)
   closes_at slots id f n m is inside even word =
       subst (λ k. Allows (InOrder z) slots id m (1 + f) (λ _. k) (λ _. Closes (step slots (1 + f) k 0 none) m k)) (sym word)
-      (subst (λ x. Allows (InOrder z) slots id x (1 + f) (λ _. get_or (watch_of m.0).doors f 0 + 1) (λ _. Closes (step slots (1 + f) (get_or (watch_of m.0).doors f 0 + 1) 0 none) x (get_or (watch_of m.0).doors f 0 + 1))) (sym is)
+      (subst (λ x. Allows (InOrder z) slots id x (1 + f) (λ _. get_or (watch_of m.0).doors f 0 + 1)
+      (λ _. Closes (step slots (1 + f) (get_or (watch_of m.0).doors f 0 + 1) 0 none) x (get_or (watch_of m.0).doors f 0 + 1))) (sym is)
       (closes slots id f (watch_of m.0) inside even))
 
-  pub raises_at : (slots id n : ℕ) (m : Me (Unit {0}) View) → m ≡ (Keeping (watch_of m.0), []) → n ≡ (watch_of m.0).request + 1 → Allows (InOrder z) slots id m 0 (λ _. n) (λ _. Raises (step slots 0 n 0 none) m n)
+  pub raises_at : (slots id n : ℕ) (m : Me (Unit {0}) View) → m ≡ (Keeping (watch_of m.0), []) → n ≡ (watch_of m.0).request + 1
+      → Allows (InOrder z) slots id m 0 (λ _. n) (λ _. Raises (step slots 0 n 0 none) m n)
   raises_at slots id n m is word =
       subst (λ k. Allows (InOrder z) slots id m 0 (λ _. k) (λ _. Raises (step slots 0 k 0 none) m k)) (sym word)
-      (subst (λ x. Allows (InOrder z) slots id x 0 (λ _. (watch_of m.0).request + 1) (λ _. Raises (step slots 0 ((watch_of m.0).request + 1) 0 none) x ((watch_of m.0).request + 1))) (sym is) (raises slots id (watch_of m.0)))
+      (subst (λ x. Allows (InOrder z) slots id x 0 (λ _. (watch_of m.0).request + 1)
+      (λ _. Raises (step slots 0 ((watch_of m.0).request + 1) 0 none) x ((watch_of m.0).request + 1))) (sym is) (raises slots id (watch_of m.0)))
 
-  pub looks_at : (slots id i c : ℕ) (m : Me (Unit {0}) View) → m ≡ (Keeping (watch_of m.0), []) → i ≡ ack_at z.frames c → c < z.cpus → length (watch_of m.0).doors ≡ z.frames → Allows (InOrder z) slots id m i (λ n. n) (Looks (step slots i 0 0 none) m)
+  pub looks_at : (slots id i c : ℕ) (m : Me (Unit {0}) View) → m ≡ (Keeping (watch_of m.0), []) → i ≡ ack_at z.frames c → c < z.cpus
+      → length (watch_of m.0).doors ≡ z.frames → Allows (InOrder z) slots id m i (λ n. n) (Looks (step slots i 0 0 none) m)
   looks_at slots id i c m is word inside row =
       subst (λ k. Allows (InOrder z) slots id m k (λ n. n) (Looks (step slots k 0 0 none) m)) (sym word)
-      (subst (λ x. Allows (InOrder z) slots id x (ack_at z.frames c) (λ n. n) (Looks (step slots (ack_at z.frames c) 0 0 none) x)) (sym is) (looks slots id c (watch_of m.0) inside row))
+      (subst (λ x. Allows (InOrder z) slots id x (ack_at z.frames c) (λ n. n) (Looks (step slots (ack_at z.frames c) 0 0 none) x)) (sym is)
+      (looks slots id c (watch_of m.0) inside row))
 
 -- one number more has a value of its own
 abbrev put : ℕ → ℕ → (ℕ → ℕ) → ℕ → ℕ
@@ -198,7 +240,8 @@ snoc_place (x ∷ xs) a b (suc j) e = ⊎_elim (λ t. inl t) (λ (t : (j ≡ len
 
 module _ (z : Size) where
   -- the keeper makes the pass of the next processor
-  pub admits : (id : ℕ) (w : Watch) → w.made < z.cpus → length w.doors ≡ z.frames → Splits (InOrder z) id (Keeping w) (keeper_with_pass (Keeping w)) (pass_of_keeper (Keeping w))
+  pub admits : (id : ℕ) (w : Watch) → w.made < z.cpus → length w.doors ≡ z.frames
+      → Splits (InOrder z) id (Keeping w) (keeper_with_pass (Keeping w)) (pass_of_keeper (Keeping w))
   admits id w room row s h at =
       let mine = h.seats_ok id (Keeping w) at in
       let was : PlanOk z.frames z.cpus s.words w = subst (PlanOk z.frames z.cpus s.words) (sym mine.1) h.plan_ok in
@@ -211,23 +254,36 @@ module _ (z : Size) where
         plan_ok = plan_admits z.frames z.cpus s.words w room was;
         seats_ok = λ j v e. ⊎_elim
             (λ (old : get_elem? longer j ≡ some v).
-            seats_stay (SeatOk z.frames z.cpus s.words (record w { made = w.made + 1 }) h.keeper seat_of) s.views id (keeper_with_pass (Keeping w)) (mine.0, refl)
-            (λ i u other there. stays s.words h.keeper h.seat_of (length longer) mine.0 i u other (subst (λ k. SeatOk z.frames z.cpus s.words k h.keeper h.seat_of i u) (sym mine.1) (h.seats_ok i u there)))
+            seats_stay (SeatOk z.frames z.cpus s.words (record w { made = w.made + 1 }) h.keeper seat_of) s.views id (keeper_with_pass (Keeping w)) (
+              mine.0,
+              refl,
+            )
+            (λ i u other there. stays s.words h.keeper h.seat_of (length longer) mine.0 i u other
+            (subst (λ k. SeatOk z.frames z.cpus s.words k h.keeper h.seat_of i u) (sym mine.1) (h.seats_ok i u there)))
             j v old)
             (λ (new : (j ≡ length longer) × (pass_of_keeper (Keeping w) ≡ v)).
-            subst (λ (x : ℕ × View). SeatOk z.frames z.cpus s.words (record w { made = w.made + 1 }) h.keeper seat_of x.0 x.1) (λ i. (sym new.0 i, new.1 i))
-            (put_here w.made (length longer) h.seat_of, subst (λ n. PassOk z.frames z.cpus s.words (record w { made = w.made + 1 }) (blank n w.made)) (sym row) (blank_ok z.frames z.cpus s.words w room was)))
+            subst (λ (x : ℕ × View). SeatOk z.frames z.cpus s.words (record w { made = w.made + 1 }) h.keeper seat_of x.0 x.1) (λ i. (sym new.0 i, new.1 i)) (
+              put_here w.made (length longer) h.seat_of,
+              subst (λ n. PassOk z.frames z.cpus s.words (record w { made = w.made + 1 }) (blank n w.made)) (sym row)
+                  (blank_ok z.frames z.cpus s.words w room was),
+            ))
             (snoc_place longer (pass_of_keeper (Keeping w)) v j e);
       }
     where
-      stays : (words : List ℕ) (keeper : ℕ) (seat_of : ℕ → ℕ) (new : ℕ) → keeper ≡ id → (j : ℕ) (v : View) → j ≢ id → SeatOk z.frames z.cpus words w keeper seat_of j v
+      stays : (words : List ℕ) (keeper : ℕ) (seat_of : ℕ → ℕ) (new : ℕ) → keeper ≡ id → (j : ℕ) (v : View) → j ≢ id
+          → SeatOk z.frames z.cpus words w keeper seat_of j v
           → SeatOk z.frames z.cpus words (record w { made = w.made + 1 }) keeper (put w.made new seat_of) j v
-      stays words keeper seat_of new here j (Walking q) other k = (put_else w.made q.cpu new seat_of (λ e. let m = k.1.made in omega arith) ∙ k.0, pass_admits z.frames z.cpus words w q k.1)
+      stays words keeper seat_of new here j (Walking q) other k = (
+        put_else w.made q.cpu new seat_of (λ e. let m = k.1.made in omega arith) ∙ k.0,
+        pass_admits z.frames z.cpus words w q k.1,
+      )
       stays words keeper seat_of new here j (Keeping u) other k = absurd (other (sym k.0 ∙ here))
       stays words keeper seat_of new here j Spent other k = tt
 
-  pub admits_at : (id : ℕ) (m : Me (Unit {0}) View) → m ≡ (Keeping (watch_of m.0), []) → (watch_of m.0).made < z.cpus → length (watch_of m.0).doors ≡ z.frames → Splits (InOrder z) id m.0 (keeper_with_pass m.0) (pass_of_keeper m.0)
-  admits_at id m is room row = subst (λ x. Splits (InOrder z) id x (keeper_with_pass x) (pass_of_keeper x)) (sym (ap (λ y. y.0) is)) (admits id (watch_of m.0) room row)
+  pub admits_at : (id : ℕ) (m : Me (Unit {0}) View) → m ≡ (Keeping (watch_of m.0), []) → (watch_of m.0).made < z.cpus → length (watch_of m.0).doors ≡ z.frames
+      → Splits (InOrder z) id m.0 (keeper_with_pass m.0) (pass_of_keeper m.0)
+  admits_at id m is room row = subst (λ x. Splits (InOrder z) id x (keeper_with_pass x) (pass_of_keeper x)) (sym (ap (λ y. y.0) is))
+      (admits id (watch_of m.0) room row)
 
   -- a seat takes in another, which knows nothing any more
   pub takes_in : (id other : ℕ) (v u : View) → Joins (InOrder z) id v other u v Spent
@@ -237,7 +293,8 @@ module _ (z : Size) where
     seat_of = h.seat_of;
     plan_ok = h.plan_ok;
     seats_ok = seats_stay (SeatOk z.frames z.cpus s.words h.plan h.keeper h.seat_of) (set s.views id v) other Spent tt
-        (λ j w _ e. seats_stay (SeatOk z.frames z.cpus s.words h.plan h.keeper h.seat_of) s.views id v (h.seats_ok id v at) (λ i y _ e'. h.seats_ok i y e') j w e);
+        (λ j w _ e. seats_stay (SeatOk z.frames z.cpus s.words h.plan h.keeper h.seat_of) s.views id v (h.seats_ok id v at) (λ i y _ e'. h.seats_ok i y e') j w
+        e);
   }
 
   door_word : (door f : ℕ) → f < z.frames → get_or (first_words z.frames z.cpus door) (door_at f) 0 ≡ get_or (replicate z.frames door) f 0
@@ -263,7 +320,8 @@ module _ (z : Size) where
     keeper = 0;
     seat_of = λ c. 0;
     plan_ok = record {
-      room = (let row : List ℕ = replicate z.frames z.door in let acks : List ℕ = replicate z.cpus 0 in let a : length row ≡ z.frames = length-replicate z.frames z.door in let b : length acks ≡ z.cpus = length-replicate z.cpus 0 in
+      room = (let row : List ℕ = replicate z.frames z.door in let acks : List ℕ = replicate z.cpus 0 in
+          let a : length row ≡ z.frames = length-replicate z.frames z.door in let b : length acks ≡ z.cpus = length-replicate z.cpus 0 in
           let c = length-append row acks in omega arith);
       doors_row = length-replicate z.frames z.door;
       since_row = length-replicate z.frames 0;
@@ -272,14 +330,17 @@ module _ (z : Size) where
       request = refl;
       doors = λ f inside. door_word z.door f inside;
       least = λ f inside. subst (λ k. 1 ≤ k) (sym (get_or-replicate z.frames f z.door 0 inside)) least;
-      noted = λ c inside. subst (λ k. k ≤ get_or (first_words z.frames z.cpus z.door) (ack_at z.frames c) 0) (sym (get_or-replicate z.cpus c 0 0 inside)) (omega arith);
+      noted = λ c inside. subst (λ k. k ≤ get_or (first_words z.frames z.cpus z.door) (ack_at z.frames c) 0) (sym (get_or-replicate z.cpus c 0 0 inside))
+          (omega arith);
       unmade = λ c above inside. ack_word z.door c inside;
     };
     seats_ok = one;
   }
     where
-      one : (j : ℕ) (v : View) → get_elem? (Keeping (first_watch z.frames z.cpus z.door) ∷ []) j ≡ some v → SeatOk z.frames z.cpus (first_words z.frames z.cpus z.door) (first_watch z.frames z.cpus z.door) 0 (λ c. 0) j v
-      one zero v e = subst (SeatOk z.frames z.cpus (first_words z.frames z.cpus z.door) (first_watch z.frames z.cpus z.door) 0 (λ c. 0) 0) (some-injective _ _ e) (refl, refl)
+      one : (j : ℕ) (v : View) → get_elem? (Keeping (first_watch z.frames z.cpus z.door) ∷ []) j ≡ some v
+          → SeatOk z.frames z.cpus (first_words z.frames z.cpus z.door) (first_watch z.frames z.cpus z.door) 0 (λ c. 0) j v
+      one zero v e = subst (SeatOk z.frames z.cpus (first_words z.frames z.cpus z.door) (first_watch z.frames z.cpus z.door) 0 (λ c. 0) 0)
+          (some-injective _ _ e) (refl, refl)
       one (suc j) v e = absurd (some-ne-none v (sym e))
 
   pub opens_at : (words : List ℕ) → words ≡ first_words z.frames z.cpus z.door → 1 ≤ z.door → Kept z words (Keeping (first_watch z.frames z.cpus z.door) ∷ [])
@@ -308,7 +369,8 @@ never_bound w f one z words views seat h at id p there =
     none_if (get_or p.held f None) (λ b e. entry_never z.frames z.cpus words w p f b ok one e)
 
 pub may_bind_is_free : MayBindHasNoHolder
-may_bind_is_free w cleared f noted may = ⊎_elim (λ one. never_bound w f one) (λ (t : IsShut w f × (get_or w.since f 0 < cleared)). noted_is_clear w cleared noted f t.0 t.1) may
+may_bind_is_free w cleared f noted may = ⊎_elim (λ one. never_bound w f one)
+    (λ (t : IsShut w f × (get_or w.since f 0 < cleared)). noted_is_clear w cleared noted f t.0 t.1) may
 
 -- at the end the words are those that the keeper knows
 elem_get_or : (l : List ℕ) (i a : ℕ) → get_elem? l i ≡ some a → get_or l i 0 ≡ a
@@ -316,18 +378,22 @@ elem_get_or [] i a e = absurd (some-ne-none a (sym e))
 elem_get_or (x ∷ xs) zero a e = some-injective x a e
 elem_get_or (x ∷ xs) (suc i) a e = elem_get_or xs i a e
 
-ended_plan : (z : Size) (id : ℕ) (m : Me (Unit {0}) View) (words : List ℕ) (slots : List (Unit {0})) → m ≡ (Keeping (watch_of m.0), []) → Final (Seen (InOrder z) id m.0) words slots → PlanOk z.frames z.cpus words (watch_of m.0)
+ended_plan : (z : Size) (id : ℕ) (m : Me (Unit {0}) View) (words : List ℕ) (slots : List (Unit {0})) → m ≡ (Keeping (watch_of m.0), [])
+    → Final (Seen (InOrder z) id m.0) words slots → PlanOk z.frames z.cpus words (watch_of m.0)
 ended_plan z id m words slots is end =
     let s = end.0 in
     let h : Kept z s.words s.views = end.1.0 in
     let at : get_elem? s.views id ≡ some (Keeping (watch_of m.0)) = end.1.1 ∙ ap (λ x. some x.0) is in
-    subst (λ ws. PlanOk z.frames z.cpus ws (watch_of m.0)) end.2 (subst (PlanOk z.frames z.cpus s.words) (sym (known z s.words s.views id (watch_of m.0) h at)) h.plan_ok)
+    subst (λ ws. PlanOk z.frames z.cpus ws (watch_of m.0)) end.2 (subst (PlanOk z.frames z.cpus s.words) (sym (known z s.words s.views id (watch_of m.0) h at))
+    h.plan_ok)
 
-pub ended_request : (z : Size) (id : ℕ) (m : Me (Unit {0}) View) (words : List ℕ) (slots : List (Unit {0})) (found : ℕ) → m ≡ (Keeping (watch_of m.0), []) → Final (Seen (InOrder z) id m.0) words slots → get_elem? words 0 ≡ some found
+pub ended_request : (z : Size) (id : ℕ) (m : Me (Unit {0}) View) (words : List ℕ) (slots : List (Unit {0})) (found : ℕ) → m ≡ (Keeping (watch_of m.0), [])
+    → Final (Seen (InOrder z) id m.0) words slots → get_elem? words 0 ≡ some found
     → found ≡ (watch_of m.0).request
 ended_request z id m words slots found is end there = let k = ended_plan z id m words slots is end in sym (elem_get_or words 0 found there) ∙ k.request
 
-pub ended_doors : (z : Size) (id : ℕ) (m : Me (Unit {0}) View) (words doors : List ℕ) (slots : List (Unit {0})) → m ≡ (Keeping (watch_of m.0), []) → Final (Seen (InOrder z) id m.0) words slots → length doors ≡ length (watch_of m.0).doors
+pub ended_doors : (z : Size) (id : ℕ) (m : Me (Unit {0}) View) (words doors : List ℕ) (slots : List (Unit {0})) → m ≡ (Keeping (watch_of m.0), [])
+    → Final (Seen (InOrder z) id m.0) words slots → length doors ≡ length (watch_of m.0).doors
     → ((f : ℕ) → f < length doors → get_elem? words (f + 1) ≡ some (get_or doors f 0)) → doors ≡ (watch_of m.0).doors
 ended_doors z id m words doors slots is end same read =
     let k = ended_plan z id m words slots is end in

@@ -14,7 +14,8 @@ use Rattle.live_doors.specs.Kept.{EntryOk, PlanOk, PassOk}
 
 -- no place of a row of Nones has an entry
 pub none_held : (k f b : ℕ) → get_or (replicate k None) f None ≡ Some b → ⊥
-none_held k f b e = dite (dec_lt f k) (λ (h : f < k). none-some b (sym (get_or-replicate k f None None h) ∙ e)) (λ (h : ¬ (f < k)). none-some b (sym (get_or-eq_default (replicate k None) None (beyond h)) ∙ e))
+none_held k f b e = dite (dec_lt f k) (λ (h : f < k). none-some b (sym (get_or-replicate k f None None h) ∙ e))
+    (λ (h : ¬ (f < k)). none-some b (sym (get_or-eq_default (replicate k None) None (beyond h)) ∙ e))
   where
     beyond : ¬ (f < k) → length (replicate {A = Option ℕ} k None) ≤ f
     beyond h = let n : length (replicate {A = Option ℕ} k None) ≡ k = length-replicate k None in omega arith
@@ -25,7 +26,8 @@ module _ (frames cpus : ℕ) (words : List ℕ) (plan : Watch) where
   read_ok p n ok = record { made = ok.made; row = ok.row; stamp = ok.stamp; word = ok.word; acked = ok.acked; bound = ok.bound; entries = ok.entries }
 
   -- an entry that the door admits is held besides
-  pub holding_ok : (p : Walk) (f b : ℕ) → f < frames → get_or plan.doors f 0 ≡ 2 * b → 1 ≤ b → PassOk frames cpus words plan p → PassOk frames cpus words plan (holding f b p)
+  pub holding_ok : (p : Walk) (f b : ℕ) → f < frames → get_or plan.doors f 0 ≡ 2 * b → 1 ≤ b → PassOk frames cpus words plan p
+      → PassOk frames cpus words plan (holding f b p)
   holding_ok p f b inside door least ok = record {
     made = ok.made;
     row = length-set p.held f (Some b) ∙ ok.row;
@@ -33,7 +35,8 @@ module _ (frames cpus : ℕ) (words : List ℕ) (plan : Watch) where
     word = ok.word;
     acked = ok.acked;
     bound = λ g c e. dite (ℕ_discrete g f) (λ (same : g ≡ f). subst (λ k. 1 ≤ k) (here g c same e) least) (λ (other : g ≢ f). ok.bound g c (else g c other e));
-    entries = λ g c e. dite (ℕ_discrete g f) (λ (same : g ≡ f). inl (subst (λ k. get_or plan.doors k 0 ≡ 2 * c) (sym same) (door ∙ ap (λ k. 2 * k) (here g c same e)))) (λ (other : g ≢ f). ok.entries g c (else g c other e));
+    entries = λ g c e. dite (ℕ_discrete g f) (λ (same : g ≡ f). inl (subst (λ k. get_or plan.doors k 0 ≡ 2 * c) (sym same) (door
+        ∙ ap (λ k. 2 * k) (here g c same e)))) (λ (other : g ≢ f). ok.entries g c (else g c other e));
   }
     where
       here : (g c : ℕ) → g ≡ f → get_or (set p.held f (Some b)) g None ≡ Some c → b ≡ c
@@ -44,15 +47,20 @@ module _ (frames cpus : ℕ) (words : List ℕ) (plan : Watch) where
       else : (g c : ℕ) → g ≢ f → get_or (set p.held f (Some b)) g None ≡ Some c → get_or p.held g None ≡ Some c
       else g c other e = sym (get_or-set_other p.held f g (Some b) None other) ∙ e
 
-  filled_ok_if : (even : Bool) (p : Walk) (f n : ℕ) → eqb (n % 2) 0 ≡ even → f < frames → get_or plan.doors f 0 ≡ n → 1 ≤ n → PassOk frames cpus words plan p → PassOk frames cpus words plan (filled_if even f n p)
-  filled_ok_if true p f n is inside door least ok = let e : n % 2 ≡ 0 = eqb-true _ _ is in let h : n ≡ 2 * (n / 2) = omega arith in let l : 1 ≤ n / 2 = omega arith in
+  filled_ok_if : (even : Bool) (p : Walk) (f n : ℕ) → eqb (n % 2) 0 ≡ even → f < frames → get_or plan.doors f 0 ≡ n → 1 ≤ n → PassOk frames cpus words plan p
+      → PassOk frames cpus words plan (filled_if even f n p)
+  filled_ok_if true p f n is inside door least ok = let e : n % 2 ≡ 0 = eqb-true _ _ is in let h : n ≡ 2 * (n / 2) = omega arith in
+      let l : 1 ≤ n / 2 = omega arith in
       holding_ok (having_read n p) f (n / 2) inside (door ∙ h) l (read_ok p n ok)
   filled_ok_if false p f n is inside door least ok = read_ok p n ok
 
-  pub filled_ok : (p : Walk) (f n : ℕ) → f < frames → n ≡ get_or words (door_at f) 0 → PlanOk frames cpus words plan → PassOk frames cpus words plan p → PassOk frames cpus words plan (filled f n p)
-  filled_ok p f n inside is k ok = let door : get_or plan.doors f 0 ≡ n = sym (is ∙ k.doors f inside) in let l = k.least f inside in filled_ok_if (eqb (n % 2) 0) p f n refl inside door (omega arith) ok
+  pub filled_ok : (p : Walk) (f n : ℕ) → f < frames → n ≡ get_or words (door_at f) 0 → PlanOk frames cpus words plan → PassOk frames cpus words plan p
+      → PassOk frames cpus words plan (filled f n p)
+  filled_ok p f n inside is k ok = let door : get_or plan.doors f 0 ≡ n = sym (is ∙ k.doors f inside) in let l = k.least f inside in
+      filled_ok_if (eqb (n % 2) 0) p f n refl inside door (omega arith) ok
 
-  pub forgotten_ok : (p : Walk) (n : ℕ) → n ≡ get_or words 0 0 → PlanOk frames cpus words plan → PassOk frames cpus words plan p → PassOk frames cpus words plan (forgotten n p)
+  pub forgotten_ok : (p : Walk) (n : ℕ) → n ≡ get_or words 0 0 → PlanOk frames cpus words plan → PassOk frames cpus words plan p
+      → PassOk frames cpus words plan (forgotten n p)
   forgotten_ok p n is k ok = let r : n ≡ plan.request = is ∙ k.request in record {
     made = ok.made;
     row = length-replicate (length p.held) None ∙ ok.row;
@@ -64,7 +72,8 @@ module _ (frames cpus : ℕ) (words : List ℕ) (plan : Watch) where
   }
 
   -- a store that leaves the words of doors, request and other processors
-  pub plan_acknowledged : (p : Walk) → PlanOk frames cpus words plan → PassOk frames cpus words plan p → PlanOk frames cpus (set words (ack_at frames p.cpu) p.stamp) plan
+  pub plan_acknowledged : (p : Walk) → PlanOk frames cpus words plan → PassOk frames cpus words plan p
+      → PlanOk frames cpus (set words (ack_at frames p.cpu) p.stamp) plan
   plan_acknowledged p k ok = record {
     room = (let l = length-set words (ack_at frames p.cpu) p.stamp in let r = k.room in omega arith);
     doors_row = k.doors_row;
@@ -75,8 +84,10 @@ module _ (frames cpus : ℕ) (words : List ℕ) (plan : Watch) where
     doors = λ f inside. get_or-set_other words (ack_at frames p.cpu) (door_at f) p.stamp 0 (λ e. omega arith) ∙ k.doors f inside;
     least = k.least;
     noted = λ c inside. dite (ℕ_discrete c p.cpu)
-        (λ (same : c ≡ p.cpu). let w : get_or (set words (ack_at frames p.cpu) p.stamp) (ack_at frames c) 0 ≡ p.stamp = ap (λ i. get_or (set words (ack_at frames p.cpu) p.stamp) (ack_at frames i) 0) same ∙ here in
-        let old : get_or plan.noted c 0 ≤ p.acked = subst (λ i. get_or plan.noted c 0 ≤ i) (ap (λ i. get_or words (ack_at frames i) 0) same ∙ ok.word) (k.noted c inside) in
+        (λ (same : c ≡ p.cpu). let w : get_or (set words (ack_at frames p.cpu) p.stamp) (ack_at frames c) 0
+        ≡ p.stamp = ap (λ i. get_or (set words (ack_at frames p.cpu) p.stamp) (ack_at frames i) 0) same ∙ here in
+        let old : get_or plan.noted c 0 ≤ p.acked = subst (λ i. get_or plan.noted c 0 ≤ i) (ap (λ i. get_or words (ack_at frames i) 0) same
+        ∙ ok.word) (k.noted c inside) in
         let a = ok.acked in omega arith)
         (λ (other : c ≢ p.cpu). subst (λ i. get_or plan.noted c 0 ≤ i) (sym (elsewhere c other)) (k.noted c inside));
     unmade = λ c above inside. elsewhere c (λ e. let m = ok.made in omega arith) ∙ k.unmade c above inside;
@@ -88,7 +99,8 @@ module _ (frames cpus : ℕ) (words : List ℕ) (plan : Watch) where
       elsewhere : (c : ℕ) → c ≢ p.cpu → get_or (set words (ack_at frames p.cpu) p.stamp) (ack_at frames c) 0 ≡ get_or words (ack_at frames c) 0
       elsewhere c other = get_or-set_other words (ack_at frames p.cpu) (ack_at frames c) p.stamp 0 (λ e. other (omega arith))
 
-  pub acknowledged_ok : (p : Walk) → PlanOk frames cpus words plan → PassOk frames cpus words plan p → PassOk frames cpus (set words (ack_at frames p.cpu) p.stamp) plan (acknowledged p)
+  pub acknowledged_ok : (p : Walk) → PlanOk frames cpus words plan → PassOk frames cpus words plan p
+      → PassOk frames cpus (set words (ack_at frames p.cpu) p.stamp) plan (acknowledged p)
   acknowledged_ok p k ok = record {
     made = ok.made;
     row = ok.row;
@@ -122,11 +134,14 @@ module _ (frames cpus : ℕ) (words : List ℕ) (plan : Watch) where
     doors = λ g within. dite (ℕ_discrete g f)
         (λ (same : g ≡ f). subst (λ j. get_or (set words (door_at f) n) (door_at j) 0 ≡ get_or (set plan.doors f n) j 0) (sym same)
         (get_or-set_same words (door_at f) n 0 (let r = k.room in omega arith) ∙ sym (get_or-set_same plan.doors f n 0 (let r = k.doors_row in omega arith))))
-        (λ (other : g ≢ f). get_or-set_other words (door_at f) (door_at g) n 0 (λ e. other (omega arith)) ∙ k.doors g within ∙ sym (get_or-set_other plan.doors f g n 0 other));
+        (λ (other : g ≢ f). get_or-set_other words (door_at f) (door_at g) n 0 (λ e. other (omega arith)) ∙ k.doors g within
+        ∙ sym (get_or-set_other plan.doors f g n 0 other));
     least = λ g within. dite (ℕ_discrete g f)
-        (λ (same : g ≡ f). subst (λ j. 1 ≤ get_or (set plan.doors f n) j 0) (sym same) (subst (λ j. 1 ≤ j) (sym (get_or-set_same plan.doors f n 0 (let r = k.doors_row in omega arith))) (omega arith)))
+        (λ (same : g ≡ f). subst (λ j. 1 ≤ get_or (set plan.doors f n) j 0) (sym same)
+        (subst (λ j. 1 ≤ j) (sym (get_or-set_same plan.doors f n 0 (let r = k.doors_row in omega arith))) (omega arith)))
         (λ (other : g ≢ f). subst (λ j. 1 ≤ j) (sym (get_or-set_other plan.doors f g n 0 other)) (k.least g within));
-    noted = λ c within. subst (λ j. get_or plan.noted c 0 ≤ j) (sym (get_or-set_other words (door_at f) (ack_at frames c) n 0 (λ e. omega arith))) (k.noted c within);
+    noted = λ c within. subst (λ j. get_or plan.noted c 0 ≤ j) (sym (get_or-set_other words (door_at f) (ack_at frames c) n 0 (λ e. omega arith)))
+        (k.noted c within);
     unmade = λ c above within. get_or-set_other words (door_at f) (ack_at frames c) n 0 (λ e. omega arith) ∙ k.unmade c above within;
   }
 
@@ -142,14 +157,17 @@ module _ (frames cpus : ℕ) (words : List ℕ) (plan : Watch) where
     entries = λ g b e. dite (ℕ_discrete g f)
         (λ (same : g ≡ f). subst (λ j. EntryOk (get_or (set plan.doors f n) j 0) (get_or (set plan.since f plan.request) j 0) q.stamp b) (sym same)
         (inr (
-          get_or-set_same plan.doors f n 0 (let r = k.doors_row in omega arith) ∙ was b (subst (λ j. EntryOk (get_or plan.doors j 0) (get_or plan.since j 0) q.stamp b) same (ok.entries g b e)),
+          get_or-set_same plan.doors f n 0 (let r = k.doors_row in omega arith)
+              ∙ was b (subst (λ j. EntryOk (get_or plan.doors j 0) (get_or plan.since j 0) q.stamp b) same (ok.entries g b e)),
           subst (λ j. q.stamp ≤ j) (sym (get_or-set_same plan.since f plan.request 0 (let r = k.since_row in omega arith))) ok.stamp,
         )))
-        (λ (other : g ≢ f). subst (λ (x : ℕ × ℕ). EntryOk x.0 x.1 q.stamp b) (λ i. (sym (get_or-set_other plan.doors f g n 0 other) i, sym (get_or-set_other plan.since f g plan.request 0 other) i)) (ok.entries g b e));
+        (λ (other : g ≢ f). subst (λ (x : ℕ × ℕ). EntryOk x.0 x.1 q.stamp b)
+        (λ i. (sym (get_or-set_other plan.doors f g n 0 other) i, sym (get_or-set_other plan.since f g plan.request 0 other) i)) (ok.entries g b e));
   }
     where
       was : (b : ℕ) → EntryOk (get_or plan.doors f 0) (get_or plan.since f 0) q.stamp b → get_or plan.doors f 0 + 1 ≡ 2 * b + 1
-      was b = ⊎_elim (λ (e : get_or plan.doors f 0 ≡ 2 * b). ap (λ j. j + 1) e) (λ (e : (get_or plan.doors f 0 ≡ 2 * b + 1) × (q.stamp ≤ get_or plan.since f 0)). let o = e.0 in absurd (omega arith))
+      was b = ⊎_elim (λ (e : get_or plan.doors f 0 ≡ 2 * b). ap (λ j. j + 1) e)
+          (λ (e : (get_or plan.doors f 0 ≡ 2 * b + 1) × (q.stamp ≤ get_or plan.since f 0)). let o = e.0 in absurd (omega arith))
 
   pub plan_raised : PlanOk frames cpus words plan → PlanOk frames cpus (set words 0 (plan.request + 1)) (raised plan)
   plan_raised k = let n : ℕ = plan.request + 1 in record {
@@ -176,7 +194,8 @@ module _ (frames cpus : ℕ) (words : List ℕ) (plan : Watch) where
     entries = ok.entries;
   }
 
-  pub plan_noted : (c n : ℕ) → c < cpus → n ≡ get_or words (ack_at frames c) 0 → PlanOk frames cpus words plan → PlanOk frames cpus words (having_noted c n plan)
+  pub plan_noted : (c n : ℕ) → c < cpus → n ≡ get_or words (ack_at frames c) 0 → PlanOk frames cpus words plan
+      → PlanOk frames cpus words (having_noted c n plan)
   plan_noted c n inside is k = record {
     room = k.room;
     doors_row = k.doors_row;
@@ -187,7 +206,8 @@ module _ (frames cpus : ℕ) (words : List ℕ) (plan : Watch) where
     doors = k.doors;
     least = k.least;
     noted = λ d within. dite (ℕ_discrete d c)
-        (λ (same : d ≡ c). subst (λ j. get_or (set plan.noted c n) j 0 ≤ get_or words (ack_at frames j) 0) (sym same) (let h = get_or-set_same plan.noted c n 0 (let r = k.noted_row in omega arith) in omega arith))
+        (λ (same : d ≡ c). subst (λ j. get_or (set plan.noted c n) j 0 ≤ get_or words (ack_at frames j) 0) (sym same)
+        (let h = get_or-set_same plan.noted c n 0 (let r = k.noted_row in omega arith) in omega arith))
         (λ (other : d ≢ c). subst (λ j. j ≤ get_or words (ack_at frames d) 0) (sym (get_or-set_other plan.noted c d n 0 other)) (k.noted d within));
     unmade = k.unmade;
   }
@@ -210,7 +230,16 @@ module _ (frames cpus : ℕ) (words : List ℕ) (plan : Watch) where
   }
 
   pub pass_admits : (q : Walk) → PassOk frames cpus words plan q → PassOk frames cpus words record plan { made = plan.made + 1 } q
-  pass_admits q ok = record { made = (let m = ok.made in omega arith); row = ok.row; stamp = ok.stamp; word = ok.word; acked = ok.acked; bound = ok.bound; entries = ok.entries }
+  pass_admits q ok = record {
+    made = (let m = ok.made in omega arith);
+    row = ok.row;
+    stamp = ok.stamp;
+    word = ok.word;
+    acked = ok.acked;
+    bound =
+        ok.bound;
+    entries = ok.entries;
+  }
 
   pub blank_ok : plan.made < cpus → PlanOk frames cpus words plan → PassOk frames cpus words record plan { made = plan.made + 1 } (blank frames plan.made)
   blank_ok room k = record {
@@ -224,13 +253,16 @@ module _ (frames cpus : ℕ) (words : List ℕ) (plan : Watch) where
   }
 
   -- who has acknowledged a stamp that was raised after the door was closed holds no entry there
-  pub entry_gone : (p : Walk) (f b stamp : ℕ) → PlanOk frames cpus words plan → PassOk frames cpus words plan p → stamp ≤ get_or plan.noted p.cpu 0 → get_or plan.doors f 0 % 2 ≡ 1 → get_or plan.since f 0 < stamp
+  pub entry_gone : (p : Walk) (f b stamp : ℕ) → PlanOk frames cpus words plan → PassOk frames cpus words plan p → stamp ≤ get_or plan.noted p.cpu 0
+      → get_or plan.doors f 0 % 2 ≡ 1 → get_or plan.since f 0 < stamp
       → get_or p.held f None ≡ Some b → ⊥
   entry_gone p f b stamp k ok noted odd since e =
       let there = k.noted p.cpu (let m = ok.made in let n = k.made in omega arith) in let word = ok.word in let acked = ok.acked in
-      ⊎_elim (λ (t : get_or plan.doors f 0 ≡ 2 * b). omega arith) (λ (t : (get_or plan.doors f 0 ≡ 2 * b + 1) × (p.stamp ≤ get_or plan.since f 0)). let s = t.1 in omega arith) (ok.entries f b e)
+      ⊎_elim (λ (t : get_or plan.doors f 0 ≡ 2 * b). omega arith) (λ (t : (get_or plan.doors f 0 ≡ 2 * b + 1) × (p.stamp ≤ get_or plan.since f 0)). let s =
+      t.1 in omega arith) (ok.entries f b e)
 
   -- nobody holds an entry of a frame that was never bound
   pub entry_never : (p : Walk) (f b : ℕ) → PassOk frames cpus words plan p → get_or plan.doors f 0 ≡ 1 → get_or p.held f None ≡ Some b → ⊥
   entry_never p f b ok one e = let l = ok.bound f b e in
-      ⊎_elim (λ (t : get_or plan.doors f 0 ≡ 2 * b). omega arith) (λ (t : (get_or plan.doors f 0 ≡ 2 * b + 1) × (p.stamp ≤ get_or plan.since f 0)). let s = t.0 in omega arith) (ok.entries f b e)
+      ⊎_elim (λ (t : get_or plan.doors f 0 ≡ 2 * b). omega arith) (λ (t : (get_or plan.doors f 0 ≡ 2 * b + 1) × (p.stamp ≤ get_or plan.since f 0)). let s =
+      t.0 in omega arith) (ok.entries f b e)

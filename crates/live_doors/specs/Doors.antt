@@ -38,7 +38,16 @@ pub record IsKeeperOf (doors : DoorsModel) (keeper : KeeperModel) : Type 0 where
 
 -- At the start no pass is made, no stamp raised and nothing acknowledged, and every door has this word.
 abbrev pub first_watch : ℕ → ℕ → ℕ → Watch
-first_watch frames cpus door = record { made = 0; request = 0; doors = replicate frames door; since = replicate frames 0; noted = replicate cpus 0; looks = 0; last = 0 }
+first_watch frames cpus door = record {
+  made = 0;
+  request = 0;
+  doors = replicate frames door;
+  since = replicate frames 0;
+  noted = replicate cpus 0;
+  looks =
+      0;
+  last = 0;
+}
 
 -- the keeper once every pass is made
 abbrev pub opening_watch : ℕ → ℕ → ℕ → Watch

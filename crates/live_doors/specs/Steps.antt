@@ -1,11 +1,13 @@
 -- What each kind of step on a word tells the seat that makes it.
-use Rattle.std.specs.Prelude.{◌≡◌, ℕ, ◌+◌, ◌/◌, ◌%◌, ◌≤◌, ◌==◌, List, [], ◌∷◌, ◌++◌, replicate, length, slice_index, Bool, true, false}
+use Rattle.std.specs.Prelude.{◌≡◌, ℕ, ◌+◌, ◌/◌, ◌%◌, ◌≤◌, ◌==◌, List, [], ◌∷◌, ◌++◌, replicate, length, slice_index, Bool, true, false, Option}
 use Rattle.atomic_table.specs.Table.{Step, Me}
+use Rattle.atomic_table.specs.Seated.{TableId}
+use Rattle.live_doors.specs.declared.rule.Size.{Size}
 use Rattle.live_doors.specs.declared.views.Walk.{Walk}
 use Rattle.live_doors.specs.declared.views.Watch.{Watch}
 use Rattle.live_doors.specs.declared.views.View.{View}
 use Rattle.live_doors.specs.declared.views.View.TheVariants.{Walking, Keeping, Spent}
-use Rattle.live_doors.specs.Doors.{blank, first_watch, having_read, holding, forgotten, acknowledged, shut, raised, having_noted}
+use Rattle.live_doors.specs.Doors.{blank, first_watch, having_read, holding, forgotten, acknowledged, shut, raised, having_noted, HasNoted}
 
 -- the word of frame f's door
 abbrev pub door_at : ℕ → ℕ
@@ -30,6 +32,30 @@ abbrev pub watch_of : View → Watch
 watch_of (Walking p) = first_watch 0 0 1
 watch_of (Keeping w) = w
 watch_of Spent = first_watch 0 0 1
+
+-- what a pass has beside its seat is what the seat knows
+pub record PassFits (m : Me (Unit {0}) View) (number : ℕ) (entries : List (Option ℕ)) (last : ℕ) : Type 0 where
+  pub seat : m ≡ (Walking (walk_of m.0), [])
+  pub cpu : number ≡ (walk_of m.0).cpu
+  pub held : entries ≡ (walk_of m.0).held
+  pub stamp : last ≡ (walk_of m.0).stamp
+
+-- what the keeper has beside its seat is what the seat knows, with as many rows of the one kind as of the other, and an
+-- acknowledgement of the greatest stamp for which all was clear from each processor
+pub record KeeperFits (m : Me (Unit {0}) View) (last : ℕ) (words stamps : List ℕ) (clear : ℕ) : Type 0 where
+  pub seat : m ≡ (Keeping (watch_of m.0), [])
+  pub request : last ≡ (watch_of m.0).request
+  pub doors : words ≡ (watch_of m.0).doors
+  pub since : stamps ≡ (watch_of m.0).since
+  pub rows : length stamps ≡ length words
+  pub cleared : HasNoted (watch_of m.0) clear
+
+-- the table is of this size
+pub record DoorsFit (key : Size) (table : TableId) (f c : ℕ) : Type 0 where
+  pub frames : key.frames ≡ f
+  pub cpus : key.cpus ≡ c
+  pub words : table.words ≡ 1 + f + c
+  pub slots : table.slots ≡ 0
 
 abbrev pub filled_if : Bool → ℕ → ℕ → Walk → Walk
 filled_if true f word p = holding f (word / 2) (having_read word p)

@@ -11,6 +11,7 @@ use crate::keeper::Keeper;
 use crate::opening::begin;
 use crate::pass::Pass;
 use crate::rule::{Acknowledge, Board, CloseDoor, Fill, Forget, Look, Raise, TakeIn};
+use crate::words::{REQUEST, acknowledgement_word, door_word};
 use atomic_table::Closed as Words;
 use std::alloc::Global;
 use std::marker::Model;
@@ -25,14 +26,14 @@ pub struct LiveDoors {
 }
 
 impl Model for LiveDoors {
-    ghost use Rattle.std.specs.Prelude.{◌≡◌, ◌+◌};
     ghost use Rattle.live_doors.specs.Doors.{DoorsModel};
+    ghost use Rattle.live_doors.specs.Steps.{DoorsFit};
 
     ghost Value = { DoorsModel };
 
     ghost view = { λ d. record { table = d.table.shared.table_id; frames = d.frames; cpus = d.cpus } };
 
-    ghost invariant = { λ d. (d.table.shared.key.frames ≡ d.frames) × (d.table.shared.key.cpus ≡ d.cpus) × (d.table.shared.table_id.words ≡ 1 + d.frames + d.cpus) × (d.table.shared.table_id.slots ≡ 0) };
+    ghost invariant = { λ d. DoorsFit d.table.shared.key d.table.shared.table_id d.frames d.cpus };
 }
 
 /// The words as they were last.
@@ -96,7 +97,7 @@ impl LiveDoors {
         ensures closed { IfErr result (λ e. (e.word % 2 ≡ 1) × (pass.new.walk ≡ having_read e.word pass.old.walk)) }
     {
         let words = &self.table.shared;
-        let word = words.load::<Fill>(&mut pass.seat, 1 + f as usize);
+        let word = words.load::<Fill>(&mut pass.seat, door_word(f));
         if word % 2 == 1 {
             return Err(Closed { word });
         }
@@ -114,7 +115,7 @@ impl LiveDoors {
         ensures forgotten { pass.new.walk ≡ forgotten result pass.old.walk }
     {
         let words = &self.table.shared;
-        let stamp = words.load::<Forget>(&mut pass.seat, 0);
+        let stamp = words.load::<Forget>(&mut pass.seat, REQUEST);
         pass.stamp = stamp;
         pass.held.fill(None);
         stamp
@@ -130,7 +131,7 @@ impl LiveDoors {
         ensures acknowledged { pass.new.walk ≡ acknowledged pass.old.walk }
     {
         let words = &self.table.shared;
-        let word = 1 + self.frames as usize + pass.cpu as usize;
+        let word = acknowledgement_word(self.frames, pass.cpu);
         let stamp = pass.stamp;
         words.store::<Acknowledge>(&mut pass.seat, word, stamp);
     }
@@ -147,7 +148,7 @@ impl LiveDoors {
     {
         let words = &self.table.shared;
         let door = keeper.doors[f as usize] + 1;
-        words.store::<CloseDoor>(&mut keeper.seat, 1 + f as usize, door);
+        words.store::<CloseDoor>(&mut keeper.seat, door_word(f), door);
         keeper.doors[f as usize] = door;
         keeper.since[f as usize] = keeper.request;
     }
@@ -163,7 +164,7 @@ impl LiveDoors {
     {
         let words = &self.table.shared;
         let stamp = keeper.request + 1;
-        words.store::<Raise>(&mut keeper.seat, 0, stamp);
+        words.store::<Raise>(&mut keeper.seat, REQUEST, stamp);
         keeper.request = stamp;
         stamp
     }
@@ -176,7 +177,7 @@ impl LiveDoors {
         ensures noted { keeper.new.watch ≡ having_noted cpu result keeper.old.watch }
         ensures cleared { keeper.new.cleared ≡ keeper.old.cleared }
     {
-        let word = 1 + self.frames as usize + cpu as usize;
+        let word = acknowledgement_word(self.frames, cpu);
         self.table.shared.load::<Look>(&mut keeper.seat, word)
     }
 
@@ -194,7 +195,8 @@ impl LiveDoors {
         ensures looked { OnOk result (keeper.new.watch.looks ≡ keeper.old.watch.looks + self.now.cpus) }
         ensures cleared { OnOk result (keeper.new.cleared ≡ max keeper.old.cleared stamp) }
         ensures behind { IfErr result (λ b. (b.cpu < self.now.cpus) × (b.seen < stamp)) }
-        ensures seen { IfErr result (λ b. (keeper.new.watch.last ≡ b.seen) × (slice_index keeper.new.watch.noted b.cpu ≡ b.seen)) }
+        ensures seen { IfErr result (λ b. (keeper.new.watch.last ≡ b.seen)
+            × (slice_index keeper.new.watch.noted b.cpu ≡ b.seen)) }
         ensures looked_so_far { IfErr result (λ b. keeper.new.watch.looks ≡ keeper.old.watch.looks + b.cpu + 1) }
         ensures first { IfErr result (λ b. (cpu : ℕ) → cpu < b.cpu → stamp ≤ slice_index keeper.new.watch.noted cpu) }
         ensures not_cleared { OnErr result (keeper.new.cleared ≡ keeper.old.cleared) }
@@ -249,7 +251,7 @@ impl LiveDoors {
             ..
         } = keeper;
         let closed = table.close_with(seat);
-        let request = closed.word(0);
+        let request = closed.word(REQUEST);
         read_doors(&closed, doors.as_mut_slice());
         closed.free();
         Ended { doors, request }
@@ -261,7 +263,8 @@ fn read_doors(closed: &Words<(), Global>, doors: &mut [u64])
     requires room { length doors.old + 1 ≤ slots_len closed.now.words }
     requires full { IsFull closed.now.words }
     ensures count { length doors.new ≡ length doors.old }
-    ensures words { (f : ℕ) → f < length doors.old → get_elem? (slots_items closed.now.words) (f + 1) ≡ some (slice_index doors.new f) }
+    ensures words { (f : ℕ) → f < length doors.old
+        → get_elem? (slots_items closed.now.words) (f + 1) ≡ some (slice_index doors.new f) }
 {
     for f in 0..doors.len() {
         doors[f] = closed.word(f + 1);

@@ -19,16 +19,14 @@ pub struct Keeper {
 }
 
 impl Model for Keeper {
-    ghost use Rattle.std.specs.Prelude.{◌≡◌, [], vec_len};
-    ghost use Rattle.live_doors.specs.Doors.{KeeperModel, HasNoted};
-    ghost use Rattle.live_doors.specs.Steps.{watch_of};
-    ghost use Rattle.live_doors.specs.declared.views.View.TheVariants.{Keeping};
+    ghost use Rattle.live_doors.specs.Doors.{KeeperModel};
+    ghost use Rattle.live_doors.specs.Steps.{watch_of, KeeperFits};
 
     ghost Value = { KeeperModel };
 
     ghost view = { λ k. record { table = k.seat.table_id; watch = watch_of k.seat.me.0; cleared = k.cleared } };
 
-    ghost invariant = { λ k. (k.seat.me ≡ (Keeping (watch_of k.seat.me.0), [])) × (k.request ≡ (watch_of k.seat.me.0).request) × (k.doors.items ≡ (watch_of k.seat.me.0).doors) × (k.since.items ≡ (watch_of k.seat.me.0).since) × (vec_len k.since ≡ vec_len k.doors) × HasNoted (watch_of k.seat.me.0) k.cleared };
+    ghost invariant = { λ k. KeeperFits k.seat.me k.request k.doors.items k.since.items k.cleared };
 }
 
 impl Keeper {

@@ -13,6 +13,7 @@ mod opening;
 mod pass;
 mod rule;
 mod views;
+mod words;
 
 pub use doors::{Ended, LiveDoors};
 pub use errors::{Behind, Closed, NoMemory};
@@ -21,3 +22,4 @@ pub use laws::{may_bind_has_no_holder, never_bound_has_no_holder, noted_is_clear
 pub use pass::Pass;
 pub use rule::{Revocation, Size};
 pub use views::{View, Walk, Watch};
+pub use words::{REQUEST, acknowledgement_word, door_word};

@@ -32,7 +32,8 @@ fn first_keeper(
 ) -> Result<(LiveDoors, Keeper), AllocError>
     requires { 1 ≤ door }
     ensures size { IfOk result (λ made. (made.0.frames ≡ frames) × (made.0.cpus ≡ cpus)) }
-    ensures keeper { IfOk result (λ made. made.1 ≡ record { table = made.0.table; watch = first_watch frames cpus door; cleared = 0 }) }
+    ensures keeper { IfOk result (λ made. made.1
+        ≡ record { table = made.0.table; watch = first_watch frames cpus door; cleared = 0 }) }
 {
     let words = first_words(alloc, frames, cpus, door)?;
     let doors = vec![in alloc; door; frames as usize]?;
@@ -66,7 +67,8 @@ fn admit(
     requires keeper { IsKeeperOf doors.now keeper.old }
     requires next { (cpu ≡ keeper.old.watch.made) × (cpu < doors.now.cpus) }
     ensures pass { IfOk result (λ pass. pass ≡ record { table = doors.now.table; walk = blank doors.now.frames cpu }) }
-    ensures keeper { OnOk result (keeper.new ≡ record keeper.old { watch = record keeper.old.watch { made = cpu + 1 } }) }
+    ensures keeper { OnOk result (keeper.new
+        ≡ record keeper.old { watch = record keeper.old.watch { made = cpu + 1 } }) }
 {
     let held = vec![in alloc; None; doors.frames as usize]?;
     let seat = doors.table.shared.split_seat::<Admit>(&mut keeper.seat);
@@ -83,7 +85,8 @@ fn admit_all(alloc: Global, doors: &LiveDoors, keeper: &mut Keeper) -> Result<Ve
     requires keeper { IsKeeperOf doors.now keeper.old }
     requires first { keeper.old.watch.made ≡ 0 }
     ensures passes { IfOk result (λ passes. passes.items ≡ first_passes doors.now doors.now.cpus) }
-    ensures keeper { OnOk result (keeper.new ≡ record keeper.old { watch = record keeper.old.watch { made = doors.now.cpus } }) }
+    ensures keeper { OnOk result (keeper.new
+        ≡ record keeper.old { watch = record keeper.old.watch { made = doors.now.cpus } }) }
 {
     let mut passes = Vec::with_capacity(alloc, doors.cpus as usize)?;
     for cpu in 0..doors.cpus {

@@ -17,16 +17,14 @@ pub struct Pass {
 }
 
 impl Model for Pass {
-    ghost use Rattle.std.specs.Prelude.{◌≡◌, []};
     ghost use Rattle.live_doors.specs.Doors.{PassModel};
-    ghost use Rattle.live_doors.specs.Steps.{walk_of};
-    ghost use Rattle.live_doors.specs.declared.views.View.TheVariants.{Walking};
+    ghost use Rattle.live_doors.specs.Steps.{walk_of, PassFits};
 
     ghost Value = { PassModel };
 
     ghost view = { λ p. record { table = p.seat.table_id; walk = walk_of p.seat.me.0 } };
 
-    ghost invariant = { λ p. (p.seat.me ≡ (Walking (walk_of p.seat.me.0), [])) × (p.cpu ≡ (walk_of p.seat.me.0).cpu) × (p.held.items ≡ (walk_of p.seat.me.0).held) × (p.stamp ≡ (walk_of p.seat.me.0).stamp) };
+    ghost invariant = { λ p. PassFits p.seat.me p.cpu p.held.items p.stamp };
 }
 
 impl Pass {

@@ -1,5 +1,6 @@
 //! The rule of the table, and what each kind of step tells the seat that makes it.
-//! Word 0 is the stamp that was raised last, then comes a door for each frame, then an acknowledgement for each processor.
+//! Word 0 is the stamp that was raised last, then comes a door for each frame, then an acknowledgement for each
+//! processor.
 use crate::views::View;
 use atomic_table::{Join, Play, Seat, Split, Table, TableRule};
 use std::alloc::Global;

@@ -3,4 +3,9 @@ use Rattle.live_doors.proofs.Keeps.{acknowledges_at}
 use Rattle.live_doors.proofs.doors.LiveDoors.acknowledge.Goals as goal
 
 pub store-requires : goal.store-requires
-store-requires c = (search rules, search rules, acknowledges_at c.self.inside.table.shared.key _ _ _ _ c.pass.inside.seat.me c.pass.invariant.0 (search rules) c.pass.invariant.3)
+store-requires c = (
+  search rules,
+  search rules,
+  acknowledges_at c.self.inside.table.shared.key _ _ _ _ c.pass.inside.seat.me c.pass.invariant.seat
+      (search rules) c.pass.invariant.stamp,
+)

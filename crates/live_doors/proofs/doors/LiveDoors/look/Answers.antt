@@ -6,14 +6,21 @@ use Rattle.live_doors.proofs.Calls.{noted_still, keeper_fits, keeper_stays_of}
 use Rattle.live_doors.proofs.doors.LiveDoors.look.Goals as goal
 
 pub load-requires : goal.load-requires
-load-requires c = (search rules, search rules, looks_at c.self.inside.table.shared.key _ _ _ c.args.cpu c.keeper.inside.seat.me c.keeper.invariant.0 (search rules) (search rules) (search rules))
+load-requires c = (
+  search rules,
+  search rules,
+  looks_at c.self.inside.table.shared.key _ _ _ c.args.cpu c.keeper.inside.seat.me c.keeper.invariant.seat
+      (search rules) (search rules) (search rules),
+)
 
 pub invariant_of-keeper : goal.invariant_of-keeper
 invariant_of-keeper c =
     let told = c.load.ensures.2 c.args.cpu (search rules) in
-    let fits = keeper_fits c.load.new.seat.me _ _ _ _ _ told.1 c.keeper.invariant.1 c.keeper.invariant.2 c.keeper.invariant.3 (noted_still (watch_of c.keeper.inside.seat.me.0) c.args.cpu c.load.result _ c.keeper.invariant.5 told.0) in (fits.0, fits.1, fits.2, fits.3, c.keeper.invariant.4, fits.4)
+    keeper_fits c.load.new.seat.me _ _ _ _ _ told.1 c.keeper.invariant.request c.keeper.invariant.doors c.keeper.invariant.since c.keeper.invariant.rows
+    (noted_still (watch_of c.keeper.inside.seat.me.0) c.args.cpu c.load.result _ c.keeper.invariant.cleared told.0)
 
 pub returns-clause-keeper : goal.returns-clause-keeper
 returns-clause-keeper c =
-    keeper_stays_of c.args.self.now c.args.keeper.now _ c.load.new.seat.table_id _ _ c.keeper.inside.seat.me c.load.new.seat.me _ c.keeper.view_is c.requires.keeper c.load.ensures.0
+    keeper_stays_of c.args.self.now c.args.keeper.now _ c.load.new.seat.table_id _ _ c.keeper.inside.seat.me c.load.new.seat.me _ c.keeper.view_is
+    c.requires.keeper c.load.ensures.0
     (c.load.ensures.2 c.args.cpu (search rules)).1 refl refl (length-set _ _ _)
