@@ -23,7 +23,7 @@ use Rattle.live_pages.specs.declared.views.View.{View}
 use Rattle.live_pages.specs.declared.views.View.TheVariants.{Passing, Keeping}
 use Rattle.live_pages.specs.Touches.{touched, answer}
 use Rattle.live_pages.specs.Turns.{Seat, opening_words, first_holder, first_walker, keeper_with_pass, pass_of_keeper, bound_anew, having_made, turn_at, ticket_at, current, watching, walker_of, holder_of, Fills, Forgets, Acknowledges, Closes, Raises, Looks, Takes, Draws, Gives, KeeperTakes, Binds, KeeperGives}
-use Rattle.live_pages.specs.Models.{PagesModel, PassModel, KeeperModel, IsPassOf, IsKeeperOf, SameButWatch, HasInHand, touched_in_hand, rebound, HaveZeroPages, first_passes, AreAll}
+use Rattle.live_pages.specs.Models.{PassFits, KeeperFits, PagesModel, PassModel, KeeperModel, IsPassOf, IsKeeperOf, SameButWatch, HasInHand, touched_in_hand, rebound, HaveZeroPages, first_passes, AreAll}
 use Rattle.live_pages.proofs.Quiet.{InOrder, fills, forgets, acknowledges, closes, raises, looks}
 use Rattle.live_pages.proofs.Turning.{with_hand, takes_turn, gives_turn, keeper_takes, keeper_gives}
 use Rattle.live_pages.proofs.Changing.{draws, binds}
@@ -31,82 +31,109 @@ use Rattle.live_pages.proofs.Ends.{admits, opens}
 use Rattle.live_pages.specs.Kept.{Kept}
 
 module _ (z : Size) (slots id : ℕ) (m : Seat) where
-  pub fills_at : (f : ℕ) → m ≡ (Passing (walker_of m.0), []) → (walker_of m.0).hand ≡ Free → f < z.frames → Allows (InOrder z) slots id m (1 + f) (λ n. n) (Fills (step slots (1 + f) 0 0 M.none) m)
-  fills_at f is free inside = subst (λ x. Allows (InOrder z) slots id x (1 + f) (λ n. n) (Fills (step slots (1 + f) 0 0 M.none) x)) (sym is) (fills z slots id f (walker_of m.0) free inside)
+  pub fills_at : (f : ℕ) → m ≡ (Passing (walker_of m.0), []) → (walker_of m.0).hand ≡ Free → f < z.frames
+      → Allows (InOrder z) slots id m (1 + f) (λ n. n) (Fills (step slots (1 + f) 0 0 M.none) m)
+  fills_at f is free inside = subst (λ x. Allows (InOrder z) slots id x (1 + f) (λ n. n) (Fills (step slots (1 + f) 0 0 M.none) x)) (sym is)
+      (fills z slots id f (walker_of m.0) free inside)
 
-  pub forgets_at : m ≡ (Passing (walker_of m.0), []) → (walker_of m.0).hand ≡ Free → Allows (InOrder z) slots id m 0 (λ n. n) (Forgets (step slots 0 0 0 M.none) m)
-  forgets_at is free = subst (λ x. Allows (InOrder z) slots id x 0 (λ n. n) (Forgets (step slots 0 0 0 M.none) x)) (sym is) (forgets z slots id (walker_of m.0) free)
+  pub forgets_at : m ≡ (Passing (walker_of m.0), []) → (walker_of m.0).hand ≡ Free
+      → Allows (InOrder z) slots id m 0 (λ n. n) (Forgets (step slots 0 0 0 M.none) m)
+  forgets_at is free = subst (λ x. Allows (InOrder z) slots id x 0 (λ n. n) (Forgets (step slots 0 0 0 M.none) x)) (sym is)
+      (forgets z slots id (walker_of m.0) free)
 
-  pub acknowledges_at : (i n : ℕ) → m ≡ (Passing (walker_of m.0), []) → (walker_of m.0).hand ≡ Free → (walker_of m.0).walk.cpu < z.cpus → i ≡ ack_at z.frames (walker_of m.0).walk.cpu → n ≡ (walker_of m.0).walk.stamp
+  pub acknowledges_at : (i n : ℕ) → m ≡ (Passing (walker_of m.0), []) → (walker_of m.0).hand ≡ Free → (walker_of m.0).walk.cpu < z.cpus
+      → i ≡ ack_at z.frames (walker_of m.0).walk.cpu → n ≡ (walker_of m.0).walk.stamp
       → Allows (InOrder z) slots id m i (λ _. n) (λ _. Acknowledges (step slots i n 0 M.none) m n)
   acknowledges_at i n is free inside word stamp =
-      subst (λ (x : ℕ × ℕ). Allows (InOrder z) slots id m x.0 (λ _. x.1) (λ _. Acknowledges (step slots x.0 x.1 0 M.none) m x.1)) (λ k. (sym word k, sym stamp k))
-      (subst (λ x. Allows (InOrder z) slots id x (ack_at z.frames (walker_of m.0).walk.cpu) (λ _. (walker_of m.0).walk.stamp) (λ _. Acknowledges (step slots (ack_at z.frames (walker_of m.0).walk.cpu) (walker_of m.0).walk.stamp 0 M.none) x (walker_of m.0).walk.stamp)) (sym is)
+      subst (λ (x : ℕ × ℕ). Allows (InOrder z) slots id m x.0 (λ _. x.1) (λ _. Acknowledges (step slots x.0 x.1 0 M.none) m x.1))
+      (λ k. (sym word k, sym stamp k))
+      (subst (λ x. Allows (InOrder z) slots id x (ack_at z.frames (walker_of m.0).walk.cpu) (λ _. (walker_of m.0).walk.stamp)
+      (λ _. Acknowledges (step slots (ack_at z.frames (walker_of m.0).walk.cpu) (walker_of m.0).walk.stamp 0 M.none) x (walker_of m.0).walk.stamp)) (sym is)
       (acknowledges z slots id (walker_of m.0) free inside))
 
-  pub closes_at : (f n : ℕ) → m ≡ (Keeping (holder_of m.0), []) → f < z.frames → get_or (holder_of m.0).watch.doors f 0 % 2 ≡ 0 → f < length (holder_of m.0).watch.doors → n ≡ get_or (holder_of m.0).watch.doors f 0 + 1
+  pub closes_at : (f n : ℕ) → m ≡ (Keeping (holder_of m.0), []) → f < z.frames → get_or (holder_of m.0).watch.doors f 0 % 2 ≡ 0
+      → f < length (holder_of m.0).watch.doors → n ≡ get_or (holder_of m.0).watch.doors f 0 + 1
       → Allows (InOrder z) slots id m (1 + f) (λ _. n) (λ _. Closes (step slots (1 + f) n 0 M.none) m n)
   closes_at f n is inside even row word =
       subst (λ k. Allows (InOrder z) slots id m (1 + f) (λ _. k) (λ _. Closes (step slots (1 + f) k 0 M.none) m k)) (sym word)
-      (subst (λ x. Allows (InOrder z) slots id x (1 + f) (λ _. get_or (holder_of m.0).watch.doors f 0 + 1) (λ _. Closes (step slots (1 + f) (get_or (holder_of m.0).watch.doors f 0 + 1) 0 M.none) x (get_or (holder_of m.0).watch.doors f 0 + 1))) (sym is)
+      (subst (λ x. Allows (InOrder z) slots id x (1 + f) (λ _. get_or (holder_of m.0).watch.doors f 0 + 1)
+      (λ _. Closes (step slots (1 + f) (get_or (holder_of m.0).watch.doors f 0 + 1) 0 M.none) x (get_or (holder_of m.0).watch.doors f 0 + 1))) (sym is)
       (closes z slots id f (holder_of m.0) inside even row))
 
-  pub raises_at : (n : ℕ) → m ≡ (Keeping (holder_of m.0), []) → n ≡ (holder_of m.0).watch.request + 1 → Allows (InOrder z) slots id m 0 (λ _. n) (λ _. Raises (step slots 0 n 0 M.none) m n)
+  pub raises_at : (n : ℕ) → m ≡ (Keeping (holder_of m.0), []) → n ≡ (holder_of m.0).watch.request + 1
+      → Allows (InOrder z) slots id m 0 (λ _. n) (λ _. Raises (step slots 0 n 0 M.none) m n)
   raises_at n is word =
       subst (λ k. Allows (InOrder z) slots id m 0 (λ _. k) (λ _. Raises (step slots 0 k 0 M.none) m k)) (sym word)
-      (subst (λ x. Allows (InOrder z) slots id x 0 (λ _. (holder_of m.0).watch.request + 1) (λ _. Raises (step slots 0 ((holder_of m.0).watch.request + 1) 0 M.none) x ((holder_of m.0).watch.request + 1))) (sym is) (raises z slots id (holder_of m.0)))
+      (subst (λ x. Allows (InOrder z) slots id x 0 (λ _. (holder_of m.0).watch.request + 1)
+      (λ _. Raises (step slots 0 ((holder_of m.0).watch.request + 1) 0 M.none) x ((holder_of m.0).watch.request + 1))) (sym is)
+      (raises z slots id (holder_of m.0)))
 
-  pub looks_at : (i c : ℕ) → m ≡ (Keeping (holder_of m.0), []) → i ≡ ack_at z.frames c → c < z.cpus → length (holder_of m.0).watch.doors ≡ z.frames → Allows (InOrder z) slots id m i (λ n. n) (Looks (step slots i 0 0 M.none) m)
+  pub looks_at : (i c : ℕ) → m ≡ (Keeping (holder_of m.0), []) → i ≡ ack_at z.frames c → c < z.cpus → length (holder_of m.0).watch.doors ≡ z.frames
+      → Allows (InOrder z) slots id m i (λ n. n) (Looks (step slots i 0 0 M.none) m)
   looks_at i c is word inside row =
       subst (λ k. Allows (InOrder z) slots id m k (λ n. n) (Looks (step slots k 0 0 M.none) m)) (sym word)
-      (subst (λ x. Allows (InOrder z) slots id x (ack_at z.frames c) (λ n. n) (Looks (step slots (ack_at z.frames c) 0 0 M.none) x)) (sym is) (looks z slots id c (holder_of m.0) inside row))
+      (subst (λ x. Allows (InOrder z) slots id x (ack_at z.frames c) (λ n. n) (Looks (step slots (ack_at z.frames c) 0 0 M.none) x)) (sym is)
+      (looks z slots id c (holder_of m.0) inside row))
 
-  pub takes_turn_at : (i f b : ℕ) → m ≡ (Passing (walker_of m.0), []) → (walker_of m.0).hand ≡ Free → f < z.frames → get_or (walker_of m.0).walk.held f None ≡ Some b → i ≡ turn_at z.frames z.cpus f
+  pub takes_turn_at : (i f b : ℕ) → m ≡ (Passing (walker_of m.0), []) → (walker_of m.0).hand ≡ Free → f < z.frames
+      → get_or (walker_of m.0).walk.held f None ≡ Some b → i ≡ turn_at z.frames z.cpus f
       → Allows (InOrder z) slots id m i (λ n. either (eqb n 0) 1 n) (Takes (step slots i 0 1 M.none) m)
   takes_turn_at i f b is free inside holds word =
       subst (λ k. Allows (InOrder z) slots id m k (λ n. either (eqb n 0) 1 n) (Takes (step slots k 0 1 M.none) m)) (sym word)
-      (subst (λ x. Allows (InOrder z) slots id x (turn_at z.frames z.cpus f) (λ n. either (eqb n 0) 1 n) (Takes (step slots (turn_at z.frames z.cpus f) 0 1 M.none) x)) (sym is) (takes_turn z slots id f b (walker_of m.0) free inside holds))
+      (subst (λ x. Allows (InOrder z) slots id x (turn_at z.frames z.cpus f) (λ n. either (eqb n 0) 1 n)
+      (Takes (step slots (turn_at z.frames z.cpus f) 0 1 M.none) x)) (sym is) (takes_turn z slots id f b (walker_of m.0) free inside holds))
 
-  pub keeper_takes_at : (i f cleared : ℕ) → m ≡ (Keeping (holder_of m.0), []) → (holder_of m.0).hand ≡ Free → HasNoted (holder_of m.0).watch cleared → MayBind (holder_of m.0).watch cleared f → f < z.frames → i ≡ turn_at z.frames z.cpus f
+  pub keeper_takes_at : (i f cleared : ℕ) → m ≡ (Keeping (holder_of m.0), []) → (holder_of m.0).hand ≡ Free → HasNoted (holder_of m.0).watch cleared
+      → MayBind (holder_of m.0).watch cleared f → f < z.frames → i ≡ turn_at z.frames z.cpus f
       → Allows (InOrder z) slots id m i (λ n. either (eqb n 0) 1 n) (KeeperTakes (step slots i 0 1 M.none) m)
   keeper_takes_at i f cleared is free noted may inside word =
       subst (λ k. Allows (InOrder z) slots id m k (λ n. either (eqb n 0) 1 n) (KeeperTakes (step slots k 0 1 M.none) m)) (sym word)
-      (subst (λ x. Allows (InOrder z) slots id x (turn_at z.frames z.cpus f) (λ n. either (eqb n 0) 1 n) (KeeperTakes (step slots (turn_at z.frames z.cpus f) 0 1 M.none) x)) (sym is) (keeper_takes z slots id f cleared (holder_of m.0) free noted may inside))
+      (subst (λ x. Allows (InOrder z) slots id x (turn_at z.frames z.cpus f) (λ n. either (eqb n 0) 1 n)
+      (KeeperTakes (step slots (turn_at z.frames z.cpus f) 0 1 M.none) x)) (sym is)
+      (keeper_takes z slots id f cleared (holder_of m.0) free noted may inside))
 
 module _ (z : Size) (slots id : ℕ) (m : Seat) (all : slots ≡ z.frames) where
-  pub draws_at : (i f : ℕ) (hd : Held) (page : List ℕ) → m ≡ (Passing (walker_of m.0), (f, Some hd) ∷ []) → z.cpus ≤ 8 → (walker_of m.0).hand ≡ Has f page → hd.page ≡ touched hd.touch page → hd.word ≡ answer hd.touch page → length (walker_of m.0).made < 2 ^ 32
+  pub draws_at : (i f : ℕ) (hd : Held) (page : List ℕ) → m ≡ (Passing (walker_of m.0), (f, Some hd) ∷ []) → z.cpus ≤ 8 → (walker_of m.0).hand ≡ Has f page
+      → hd.page ≡ touched hd.touch page → hd.word ≡ answer hd.touch page → length (walker_of m.0).made < 2 ^ 32
       → i ≡ ticket_at z.frames z.cpus → Allows (InOrder z) slots id m i (λ n. (n + 1) % 2 ^ 64) (Draws (step slots i 1 0 M.none) m)
   draws_at i f hd page is low has after_touch word few place =
       subst (λ (k : ℕ × ℕ). Allows (InOrder z) k.0 id m k.1 (λ n. (n + 1) % 2 ^ 64) (Draws (step k.0 k.1 1 0 M.none) m)) (λ j. (sym all j, sym place j))
-      (subst (λ x. Allows (InOrder z) z.frames id x (ticket_at z.frames z.cpus) (λ n. (n + 1) % 2 ^ 64) (Draws (step z.frames (ticket_at z.frames z.cpus) 1 0 M.none) x)) (sym is) (draws z id f (walker_of m.0) hd page low has after_touch word few))
+      (subst (λ x. Allows (InOrder z) z.frames id x (ticket_at z.frames z.cpus) (λ n. (n + 1) % 2 ^ 64)
+      (Draws (step z.frames (ticket_at z.frames z.cpus) 1 0 M.none) x)) (sym is) (draws z id f (walker_of m.0) hd page low has after_touch word few))
 
-  pub gives_turn_at : (i f : ℕ) (hd : Held) → m ≡ (Passing (walker_of m.0), (f, Some hd) ∷ []) → (walker_of m.0).hand ≡ Has f hd.page → i ≡ turn_at z.frames z.cpus f → Allows (InOrder z) slots id m i (λ _. 0) (λ _. Gives (step slots i 0 0 M.none) m 0)
+  pub gives_turn_at : (i f : ℕ) (hd : Held) → m ≡ (Passing (walker_of m.0), (f, Some hd) ∷ []) → (walker_of m.0).hand ≡ Has f hd.page
+      → i ≡ turn_at z.frames z.cpus f → Allows (InOrder z) slots id m i (λ _. 0) (λ _. Gives (step slots i 0 0 M.none) m 0)
   gives_turn_at i f hd is has place =
       subst (λ (k : ℕ × ℕ). Allows (InOrder z) k.0 id m k.1 (λ _. 0) (λ _. Gives (step k.0 k.1 0 0 M.none) m 0)) (λ j. (sym all j, sym place j))
-      (subst (λ x. Allows (InOrder z) z.frames id x (turn_at z.frames z.cpus f) (λ _. 0) (λ _. Gives (step z.frames (turn_at z.frames z.cpus f) 0 0 M.none) x 0)) (sym is) (gives_turn z id f (walker_of m.0) hd has))
+      (subst (λ x. Allows (InOrder z) z.frames id x (turn_at z.frames z.cpus f) (λ _. 0)
+      (λ _. Gives (step z.frames (turn_at z.frames z.cpus f) 0 0 M.none) x 0)) (sym is) (gives_turn z id f (walker_of m.0) hd has))
 
-  pub binds_at : (f n cleared : ℕ) (hd : Held) (page : List ℕ) → m ≡ (Keeping (holder_of m.0), (f, Some hd) ∷ []) → (holder_of m.0).hand ≡ Has f page → HasNoted (holder_of m.0).watch cleared → MayBind (holder_of m.0).watch cleared f → n ≡ 2 * (current (holder_of m.0).watch f + 1)
+  pub binds_at : (f n cleared : ℕ) (hd : Held) (page : List ℕ) → m ≡ (Keeping (holder_of m.0), (f, Some hd) ∷ []) → (holder_of m.0).hand ≡ Has f page
+      → HasNoted (holder_of m.0).watch cleared → MayBind (holder_of m.0).watch cleared f → n ≡ 2 * (current (holder_of m.0).watch f + 1)
       → Allows (InOrder z) slots id m (1 + f) (λ _. n) (λ _. Binds (step slots (1 + f) n 0 M.none) m n)
   binds_at f n cleared hd page is has noted may word =
       subst (λ (k : ℕ × ℕ). Allows (InOrder z) k.0 id m (1 + f) (λ _. k.1) (λ _. Binds (step k.0 (1 + f) k.1 0 M.none) m k.1)) (λ j. (sym all j, sym word j))
-      (subst (λ x. Allows (InOrder z) z.frames id x (1 + f) (λ _. 2 * (current (holder_of m.0).watch f + 1)) (λ _. Binds (step z.frames (1 + f) (2 * (current (holder_of m.0).watch f + 1)) 0 M.none) x (2 * (current (holder_of m.0).watch f + 1)))) (sym is)
+      (subst (λ x. Allows (InOrder z) z.frames id x (1 + f) (λ _. 2 * (current (holder_of m.0).watch f + 1))
+      (λ _. Binds (step z.frames (1 + f) (2 * (current (holder_of m.0).watch f + 1)) 0 M.none) x (2 * (current (holder_of m.0).watch f + 1)))) (sym is)
       (binds z id f cleared (holder_of m.0) hd page has noted may))
 
-  pub keeper_gives_at : (i f : ℕ) (hd : Held) → m ≡ (Keeping (holder_of m.0), (f, Some hd) ∷ []) → (holder_of m.0).hand ≡ Has f hd.page → i ≡ turn_at z.frames z.cpus f → Allows (InOrder z) slots id m i (λ _. 0) (λ _. KeeperGives (step slots i 0 0 M.none) m 0)
+  pub keeper_gives_at : (i f : ℕ) (hd : Held) → m ≡ (Keeping (holder_of m.0), (f, Some hd) ∷ []) → (holder_of m.0).hand ≡ Has f hd.page
+      → i ≡ turn_at z.frames z.cpus f → Allows (InOrder z) slots id m i (λ _. 0) (λ _. KeeperGives (step slots i 0 0 M.none) m 0)
   keeper_gives_at i f hd is has place =
       subst (λ (k : ℕ × ℕ). Allows (InOrder z) k.0 id m k.1 (λ _. 0) (λ _. KeeperGives (step k.0 k.1 0 0 M.none) m 0)) (λ j. (sym all j, sym place j))
-      (subst (λ x. Allows (InOrder z) z.frames id x (turn_at z.frames z.cpus f) (λ _. 0) (λ _. KeeperGives (step z.frames (turn_at z.frames z.cpus f) 0 0 M.none) x 0)) (sym is) (keeper_gives z id f (holder_of m.0) hd has))
+      (subst (λ x. Allows (InOrder z) z.frames id x (turn_at z.frames z.cpus f) (λ _. 0)
+      (λ _. KeeperGives (step z.frames (turn_at z.frames z.cpus f) 0 0 M.none) x 0)) (sym is) (keeper_gives z id f (holder_of m.0) hd has))
 
 -- a pass whose fields are those of its view
-abbrev pub PassFits : Seat → ℕ → List (Option ℕ) → ℕ → Type 0
-PassFits m cpu held stamp = (m ≡ (Passing (walker_of m.0), [])) × ((walker_of m.0).hand ≡ Free) × (cpu ≡ (walker_of m.0).walk.cpu) × (held ≡ (walker_of m.0).walk.held) × (stamp ≡ (walker_of m.0).walk.stamp)
-
-pub pass_fits : (m : Seat) (q : Walker) (cpu : ℕ) (held : List (Option ℕ)) (stamp : ℕ) → m ≡ (Passing q, []) → q.hand ≡ Free → cpu ≡ q.walk.cpu → held ≡ q.walk.held → stamp ≡ q.walk.stamp → PassFits m cpu held stamp
-pass_fits m q cpu held stamp is free a b c = subst (λ x. PassFits x cpu held stamp) (sym is) (refl, free, a, b, c)
+pub pass_fits : (m : Seat) (q : Walker) (cpu : ℕ) (held : List (Option ℕ)) (stamp : ℕ) → m ≡ (Passing q, []) → q.hand ≡ Free → cpu ≡ q.walk.cpu
+    → held ≡ q.walk.held → stamp ≡ q.walk.stamp → PassFits m cpu held stamp
+pass_fits m q cpu held stamp is free a b c = subst (λ x. PassFits x cpu held stamp) (sym is) record { seat = refl; hand = free; cpu = a; held = b; stamp = c }
 
 -- it came with the same pages as before
-pub pass_stays_of : (pages : PagesModel) (now : PassModel) (t t' : TableId) (m m' : Seat) (q : Walker) → record { table = t; walker = walker_of m.0 } ≡ now → IsPassOf pages now → t' ≡ t → m' ≡ (Passing q, [])
-    → length q.walk.held ≡ length (walker_of m.0).walk.held → q.walk.cpu ≡ (walker_of m.0).walk.cpu → q.cpus ≡ (walker_of m.0).cpus → IsPassOf pages record { table = t'; walker = walker_of m'.0 }
+pub pass_stays_of : (pages : PagesModel) (now : PassModel) (t t' : TableId) (m m' : Seat) (q : Walker) → record { table = t; walker = walker_of m.0 } ≡ now
+    → IsPassOf pages now → t' ≡ t → m' ≡ (Passing q, [])
+    → length q.walk.held ≡ length (walker_of m.0).walk.held → q.walk.cpu ≡ (walker_of m.0).walk.cpu → q.cpus ≡ (walker_of m.0).cpus
+    → IsPassOf pages record { table = t'; walker = walker_of m'.0 }
 pass_stays_of pages now t t' m m' q view ok same is row cpu all = record {
   table = same ∙ ap (λ v. v.table) view ∙ ok.table;
   frames = ap (λ x. length (walker_of x.0).walk.held) is ∙ row ∙ ap (λ v. length v.walker.walk.held) view ∙ ok.frames;
@@ -115,16 +142,16 @@ pass_stays_of pages now t t' m m' q view ok same is row cpu all = record {
 }
 
 -- a keeper whose fields are those of its view
-abbrev pub KeeperFits : Seat → ℕ → List ℕ → List ℕ → ℕ → Type 0
-KeeperFits m request doors since cleared =
-    (m ≡ (Keeping (holder_of m.0), [])) × ((holder_of m.0).hand ≡ Free) × (request ≡ (holder_of m.0).watch.request) × (doors ≡ (holder_of m.0).watch.doors) × (since ≡ (holder_of m.0).watch.since) × HasNoted (holder_of m.0).watch cleared
-
-pub keeper_fits : (m : Seat) (k : Holder) (request : ℕ) (doors since : List ℕ) (cleared : ℕ) → m ≡ (Keeping k, []) → k.hand ≡ Free → request ≡ k.watch.request → doors ≡ k.watch.doors → since ≡ k.watch.since → HasNoted k.watch cleared → KeeperFits m request doors since cleared
-keeper_fits m k request doors since cleared is free a b c d = subst (λ x. KeeperFits x request doors since cleared) (sym is) (refl, free, a, b, c, d)
+pub keeper_fits : (m : Seat) (k : Holder) (request : ℕ) (doors since : List ℕ) (cleared : ℕ) → m ≡ (Keeping k, []) → k.hand ≡ Free → request ≡ k.watch.request
+    → doors ≡ k.watch.doors → since ≡ k.watch.since → length since ≡ length doors → HasNoted k.watch cleared → KeeperFits m request doors since cleared
+keeper_fits m k request doors since cleared is free a b c e d = subst (λ x. KeeperFits x request doors since cleared) (sym is) record
+    { seat = refl; hand = free; request = a; doors = b; since = c; rows = e; cleared = d }
 
 -- it came with the same pages as before
-pub keeper_stays_of : (pages : PagesModel) (now : KeeperModel) (t t' : TableId) (cleared cleared' : ℕ) (m m' : Seat) (k : Holder) → record { table = t; holder = holder_of m.0; cleared = cleared } ≡ now → IsKeeperOf pages now → t' ≡ t → m' ≡ (Keeping k, [])
-    → length k.watch.doors ≡ length (holder_of m.0).watch.doors → length k.watch.since ≡ length (holder_of m.0).watch.since → length k.watch.noted ≡ length (holder_of m.0).watch.noted → length k.parts ≡ length (holder_of m.0).parts
+pub keeper_stays_of : (pages : PagesModel) (now : KeeperModel) (t t' : TableId) (cleared cleared' : ℕ) (m m' : Seat) (k : Holder)
+    → record { table = t; holder = holder_of m.0; cleared = cleared } ≡ now → IsKeeperOf pages now → t' ≡ t → m' ≡ (Keeping k, [])
+    → length k.watch.doors ≡ length (holder_of m.0).watch.doors → length k.watch.since ≡ length (holder_of m.0).watch.since
+    → length k.watch.noted ≡ length (holder_of m.0).watch.noted → length k.parts ≡ length (holder_of m.0).parts
     → IsKeeperOf pages record { table = t'; holder = holder_of m'.0; cleared = cleared' }
 keeper_stays_of pages now t t' cleared cleared' m m' k view ok same is a b c d = record {
   table = same ∙ ap (λ v. v.table) view ∙ ok.table;
@@ -163,21 +190,31 @@ module _ (pages : PagesModel) (old now next : KeeperModel) (stamp cpu seen : ℕ
   }
 
   pub same_but_watch : ClearSoFar pages old now stamp cpu → next.holder ≡ watching (having_noted cpu seen) now.holder → SameButWatch old.holder next.holder
-  same_but_watch so is = record { hand = ap (λ w. w.hand) is ∙ so.same.hand; ended = ap (λ w. w.ended) is ∙ so.same.ended; parts = ap (λ w. w.parts) is ∙ so.same.parts }
+  same_but_watch so is = record {
+    hand = ap (λ w. w.hand) is ∙ so.same.hand;
+    ended = ap (λ w. w.ended) is ∙ so.same.ended;
+    parts = ap (λ w. w.parts) is
+        ∙ so.same.parts;
+  }
 
-  pub noted_here : ClearSoFar pages old now stamp cpu → next.holder ≡ watching (having_noted cpu seen) now.holder → cpu < pages.cpus → get_or next.holder.watch.noted cpu 0 ≡ seen
+  pub noted_here : ClearSoFar pages old now stamp cpu → next.holder ≡ watching (having_noted cpu seen) now.holder → cpu < pages.cpus
+      → get_or next.holder.watch.noted cpu 0 ≡ seen
   noted_here so is inside = ap (λ w. get_or w.watch.noted cpu 0) is ∙ get_or-set_same now.holder.watch.noted cpu seen 0 (let r = so.keeper.cpus in omega arith)
 
-  pub noted_before : ClearSoFar pages old now stamp cpu → next.holder ≡ watching (having_noted cpu seen) now.holder → (c : ℕ) → c < cpu → stamp ≤ get_or next.holder.watch.noted c 0
-  noted_before so is c below = subst (λ k. stamp ≤ k) (sym (ap (λ w. get_or w.watch.noted c 0) is ∙ get_or-set_other now.holder.watch.noted cpu c seen 0 (λ e. omega arith))) (so.noted c below)
+  pub noted_before : ClearSoFar pages old now stamp cpu → next.holder ≡ watching (having_noted cpu seen) now.holder → (c : ℕ) → c < cpu
+      → stamp ≤ get_or next.holder.watch.noted c 0
+  noted_before so is c below = subst (λ k. stamp ≤ k) (sym (ap (λ w. get_or w.watch.noted c 0) is
+      ∙ get_or-set_other now.holder.watch.noted cpu c seen 0 (λ e. omega arith))) (so.noted c below)
 
-  pub clear_goes_on : ClearSoFar pages old now stamp cpu → IsKeeperOf pages next → next.holder ≡ watching (having_noted cpu seen) now.holder → next.cleared ≡ now.cleared → cpu < pages.cpus → stamp ≤ seen → ClearSoFar pages old next stamp (cpu + 1)
+  pub clear_goes_on : ClearSoFar pages old now stamp cpu → IsKeeperOf pages next → next.holder ≡ watching (having_noted cpu seen) now.holder
+      → next.cleared ≡ now.cleared → cpu < pages.cpus → stamp ≤ seen → ClearSoFar pages old next stamp (cpu + 1)
   clear_goes_on so ok is same inside enough = record {
     keeper = ok;
     only = only_noted so is;
     same = same_but_watch so is;
     looks = (let a = ap (λ w. w.watch.looks) is in let b = so.looks in omega arith);
-    noted = λ c below. dite (ℕ_discrete c cpu) (λ (e : c ≡ cpu). subst (λ k. stamp ≤ get_or next.holder.watch.noted k 0) (sym e) (subst (λ k. stamp ≤ k) (sym (noted_here so is inside)) enough)) (λ (other : c ≢ cpu). noted_before so is c (omega arith));
+    noted = λ c below. dite (ℕ_discrete c cpu) (λ (e : c ≡ cpu). subst (λ k. stamp ≤ get_or next.holder.watch.noted k 0) (sym e)
+        (subst (λ k. stamp ≤ k) (sym (noted_here so is inside)) enough)) (λ (other : c ≢ cpu). noted_before so is c (omega arith));
     cleared = same ∙ so.cleared;
   }
 
@@ -193,7 +230,8 @@ pub keeper_form : (m : Seat) (k : Holder) (cs : List (ℕ × Option Held)) → m
 keeper_form m k cs is = is ∙ ap (λ x. (Keeping (holder_of x.0), cs)) (sym is)
 
 -- what lies in the slot in hand after two exchanges
-pub exchanged_twice : (m m1 m2 : Seat) (v : View) (f : ℕ) (h new : Option Held) → m ≡ (v, (f, h) ∷ []) → m1 ≡ (m.0, (f, None) ∷ rest m.1) → m2 ≡ (m1.0, (f, new) ∷ rest m1.1) → m2 ≡ (v, (f, new) ∷ [])
+pub exchanged_twice : (m m1 m2 : Seat) (v : View) (f : ℕ) (h new : Option Held) → m ≡ (v, (f, h) ∷ []) → m1 ≡ (m.0, (f, None) ∷ rest m.1)
+    → m2 ≡ (m1.0, (f, new) ∷ rest m1.1) → m2 ≡ (v, (f, new) ∷ [])
 exchanged_twice m m1 m2 v f h new is one two = two ∙ ap (λ x. (x.0, (f, new) ∷ rest x.1)) one ∙ ap (λ x. (x.0, (f, new) ∷ rest x.1)) is
 
 abbrev slot_of : List (ℕ × Option Held) → Option Held
@@ -212,22 +250,31 @@ pub same_held : (a b : Held) → Some a ≡ Some b → a ≡ b
 same_held a b e = ap (held_in a) e
 
 module _ (z : Size) (slots id : ℕ) (m : Seat) (all : slots ≡ z.frames) where
-  pub draws_in_hand : (i f : ℕ) (w : Walker) (hd : Held) (page : List ℕ) → m ≡ (Passing w, (f, Some hd) ∷ []) → z.cpus ≤ 8 → w.hand ≡ Has f page → hd.page ≡ touched hd.touch page → hd.word ≡ answer hd.touch page → length w.made < 2 ^ 32
+  pub draws_in_hand : (i f : ℕ) (w : Walker) (hd : Held) (page : List ℕ) → m ≡ (Passing w, (f, Some hd) ∷ []) → z.cpus ≤ 8 → w.hand ≡ Has f page
+      → hd.page ≡ touched hd.touch page → hd.word ≡ answer hd.touch page → length w.made < 2 ^ 32
       → i ≡ ticket_at z.frames z.cpus → Allows (InOrder z) slots id m i (λ n. (n + 1) % 2 ^ 64) (Draws (step slots i 1 0 M.none) m)
   draws_in_hand i f w hd page is low has after_touch word few place =
-      draws_at z slots id m all i f hd page (self_form m w ((f, Some hd) ∷ []) is) low (ap (λ x. (walker_of x.0).hand) is ∙ has) after_touch word (subst (λ x. length (walker_of x.0).made < 2 ^ 32) (sym is) few) place
+      draws_at z slots id m all i f hd page (self_form m w ((f, Some hd) ∷ []) is) low (ap (λ x. (walker_of x.0).hand) is
+      ∙ has) after_touch word (subst (λ x. length (walker_of x.0).made < 2 ^ 32) (sym is) few) place
 
-  pub gives_in_hand : (i f : ℕ) (w : Walker) (hd : Held) → m ≡ (Passing w, (f, Some hd) ∷ []) → w.hand ≡ Has f hd.page → i ≡ turn_at z.frames z.cpus f → Allows (InOrder z) slots id m i (λ _. 0) (λ _. Gives (step slots i 0 0 M.none) m 0)
-  gives_in_hand i f w hd is has place = gives_turn_at z slots id m all i f hd (self_form m w ((f, Some hd) ∷ []) is) (ap (λ x. (walker_of x.0).hand) is ∙ has) place
+  pub gives_in_hand : (i f : ℕ) (w : Walker) (hd : Held) → m ≡ (Passing w, (f, Some hd) ∷ []) → w.hand ≡ Has f hd.page → i ≡ turn_at z.frames z.cpus f
+      → Allows (InOrder z) slots id m i (λ _. 0) (λ _. Gives (step slots i 0 0 M.none) m 0)
+  gives_in_hand i f w hd is has place = gives_turn_at z slots id m all i f hd (self_form m w ((f, Some hd) ∷ []) is) (ap (λ x. (walker_of x.0).hand) is
+      ∙ has) place
 
 -- the pass after its touch has drawn the ticket
-pub drawn : (m m' : Seat) (w : Walker) (f ticket : ℕ) (hd : Held) → m ≡ (Passing w, (f, Some hd) ∷ []) → m' ≡ (Passing (having_made ticket f hd.touch hd.word hd.page (walker_of m.0)), m.1) → m' ≡ (Passing (having_made ticket f hd.touch hd.word hd.page w), (f, Some hd) ∷ [])
+pub drawn : (m m' : Seat) (w : Walker) (f ticket : ℕ) (hd : Held) → m ≡ (Passing w, (f, Some hd) ∷ [])
+    → m' ≡ (Passing (having_made ticket f hd.touch hd.word hd.page (walker_of m.0)), m.1)
+    → m' ≡ (Passing (having_made ticket f hd.touch hd.word hd.page w), (f, Some hd) ∷ [])
 drawn m m' w f ticket hd is told = told ∙ ap (λ x. (Passing (having_made ticket f hd.touch hd.word hd.page (walker_of x.0)), x.1)) is
 
 -- and after it has given the turn back
-pub given_back : (m m' : Seat) (w : Walker) (f ticket word : ℕ) (t : Touch) (hd : Held) → m ≡ (Passing (having_made ticket f hd.touch hd.word hd.page w), (f, Some hd) ∷ []) → m' ≡ (Passing (record (walker_of m.0) { hand = Free }), []) → hd.touch ≡ t → hd.word ≡ word
+pub given_back : (m m' : Seat) (w : Walker) (f ticket word : ℕ) (t : Touch) (hd : Held)
+    → m ≡ (Passing (having_made ticket f hd.touch hd.word hd.page w), (f, Some hd) ∷ []) → m' ≡ (Passing (record (walker_of m.0) { hand = Free }), [])
+    → hd.touch ≡ t → hd.word ≡ word
     → m' ≡ (Passing (touched_in_hand ticket f t word w), [])
-given_back m m' w f ticket word t hd is told touch_is word_is = told ∙ ap (λ x. (Passing (freed (walker_of x.0)), [])) is ∙ (λ i. (Passing (touched_in_hand ticket f (touch_is i) (word_is i) w), []))
+given_back m m' w f ticket word t hd is told touch_is word_is = told ∙ ap (λ x. (Passing (freed (walker_of x.0)), [])) is
+    ∙ (λ i. (Passing (touched_in_hand ticket f (touch_is i) (word_is i) w), []))
   where
     freed : Walker → Walker
     freed u = record u { hand = Free }
@@ -240,29 +287,40 @@ pub none_is : (h : Held) → None ≡ Some h → ⊥
 none_is h e = none-some h e
 
 module _ (z : Size) (slots id : ℕ) (m : Seat) (all : slots ≡ z.frames) where
-  pub binds_in_hand : (f n cleared : ℕ) (k : Holder) (hd : Held) (page : List ℕ) → m ≡ (Keeping k, (f, Some hd) ∷ []) → k.hand ≡ Has f page → HasNoted k.watch cleared → MayBind k.watch cleared f → n ≡ 2 * (current k.watch f + 1)
+  pub binds_in_hand : (f n cleared : ℕ) (k : Holder) (hd : Held) (page : List ℕ) → m ≡ (Keeping k, (f, Some hd) ∷ []) → k.hand ≡ Has f page
+      → HasNoted k.watch cleared → MayBind k.watch cleared f → n ≡ 2 * (current k.watch f + 1)
       → Allows (InOrder z) slots id m (1 + f) (λ _. n) (λ _. Binds (step slots (1 + f) n 0 M.none) m n)
   binds_in_hand f n cleared k hd page is has noted may word =
-      binds_at z slots id m all f n cleared hd page (keeper_form m k ((f, Some hd) ∷ []) is) (ap (λ x. (holder_of x.0).hand) is ∙ has) (subst (λ x. HasNoted (holder_of x.0).watch cleared) (sym is) noted) (subst (λ x. MayBind (holder_of x.0).watch cleared f) (sym is) may)
+      binds_at z slots id m all f n cleared hd page (keeper_form m k ((f, Some hd) ∷ []) is) (ap (λ x. (holder_of x.0).hand) is
+      ∙ has) (subst (λ x. HasNoted (holder_of x.0).watch cleared) (sym is) noted) (subst (λ x. MayBind (holder_of x.0).watch cleared f) (sym is) may)
       (word ∙ ap (λ x. 2 * (current (holder_of x.0).watch f + 1)) (sym is))
 
-  pub keeper_gives_in_hand : (i f : ℕ) (k : Holder) (hd : Held) → m ≡ (Keeping k, (f, Some hd) ∷ []) → k.hand ≡ Has f hd.page → i ≡ turn_at z.frames z.cpus f → Allows (InOrder z) slots id m i (λ _. 0) (λ _. KeeperGives (step slots i 0 0 M.none) m 0)
-  keeper_gives_in_hand i f k hd is has place = keeper_gives_at z slots id m all i f hd (keeper_form m k ((f, Some hd) ∷ []) is) (ap (λ x. (holder_of x.0).hand) is ∙ has) place
+  pub keeper_gives_in_hand : (i f : ℕ) (k : Holder) (hd : Held) → m ≡ (Keeping k, (f, Some hd) ∷ []) → k.hand ≡ Has f hd.page → i ≡ turn_at z.frames z.cpus f
+      → Allows (InOrder z) slots id m i (λ _. 0) (λ _. KeeperGives (step slots i 0 0 M.none) m 0)
+  keeper_gives_in_hand i f k hd is has place = keeper_gives_at z slots id m all i f hd (keeper_form m k ((f, Some hd) ∷ []) is)
+      (ap (λ x. (holder_of x.0).hand) is ∙ has) place
 
 -- the keeper's seat after the door has admitted the next binding
-pub bound_now : (m m' : Seat) (k : Holder) (f : ℕ) (hd : Held) → m ≡ (Keeping k, (f, Some hd) ∷ []) → m' ≡ (Keeping (bound_anew f hd.page (holder_of m.0)), m.1) → m' ≡ (Keeping (bound_anew f hd.page k), (f, Some hd) ∷ [])
+pub bound_now : (m m' : Seat) (k : Holder) (f : ℕ) (hd : Held) → m ≡ (Keeping k, (f, Some hd) ∷ []) → m' ≡ (Keeping (bound_anew f hd.page (holder_of m.0)), m.1)
+    → m' ≡ (Keeping (bound_anew f hd.page k), (f, Some hd) ∷ [])
 bound_now m m' k f hd is told = told ∙ ap (λ x. (Keeping (bound_anew f hd.page (holder_of x.0)), x.1)) is
 
 -- and after the turn was given back
-pub rebound_now : (m m' : Seat) (k : Holder) (f : ℕ) (page left : List ℕ) (hd : Held) → m ≡ (Keeping (bound_anew f page (record k { hand = Has f left })), (f, Some hd) ∷ []) → m' ≡ (Keeping (record (holder_of m.0) { hand = Free }), []) → k.hand ≡ Free
+pub rebound_now : (m m' : Seat) (k : Holder) (f : ℕ) (page left : List ℕ) (hd : Held)
+    → m ≡ (Keeping (bound_anew f page (record k { hand = Has f left })), (f, Some hd) ∷ []) → m' ≡ (Keeping (record (holder_of m.0) { hand = Free }), [])
+    → k.hand ≡ Free
     → m' ≡ (Keeping (rebound f page left k), [])
-rebound_now m m' k f page left hd is told free = told ∙ ap (λ x. (Keeping (with_hand Free (holder_of x.0)), [])) is ∙ (λ i. (Keeping (with_hand (sym free i) (rebound f page left k)), []))
+rebound_now m m' k f page left hd is told free = told ∙ ap (λ x. (Keeping (with_hand Free (holder_of x.0)), [])) is
+    ∙ (λ i. (Keeping (with_hand (sym free i) (rebound f page left k)), []))
 
 module _ (z : Size) where
-  pub admits_at : (id : ℕ) (m : Seat) → m ≡ (Keeping (holder_of m.0), []) → (holder_of m.0).watch.made < z.cpus → length (holder_of m.0).watch.doors ≡ z.frames → length (holder_of m.0).parts ≡ z.cpus → Splits (InOrder z) id m.0 (keeper_with_pass m.0) (pass_of_keeper m.0)
-  admits_at id m is room row count = subst (λ x. Splits (InOrder z) id x (keeper_with_pass x) (pass_of_keeper x)) (sym (ap (λ y. y.0) is)) (admits z id (holder_of m.0) room row count)
+  pub admits_at : (id : ℕ) (m : Seat) → m ≡ (Keeping (holder_of m.0), []) → (holder_of m.0).watch.made < z.cpus → length (holder_of m.0).watch.doors ≡ z.frames
+      → length (holder_of m.0).parts ≡ z.cpus → Splits (InOrder z) id m.0 (keeper_with_pass m.0) (pass_of_keeper m.0)
+  admits_at id m is room row count = subst (λ x. Splits (InOrder z) id x (keeper_with_pass x) (pass_of_keeper x)) (sym (ap (λ y. y.0) is))
+      (admits z id (holder_of m.0) room row count)
 
-  pub opens_at : (words : List ℕ) (slots : List (Option Held)) → words ≡ opening_words z.frames z.cpus → length slots ≡ z.frames → HaveZeroPages slots → Kept z words (map M.some slots) (Keeping (first_holder z.frames z.cpus) ∷ [])
+  pub opens_at : (words : List ℕ) (slots : List (Option Held)) → words ≡ opening_words z.frames z.cpus → length slots ≡ z.frames → HaveZeroPages slots
+      → Kept z words (map M.some slots) (Keeping (first_holder z.frames z.cpus) ∷ [])
   opens_at words slots is count zeros = opens z words slots is (λ f inside. zeros f (subst (λ k. f < k) (sym count) inside))
 
 -- one more slot with a page of zeros
@@ -278,14 +336,16 @@ pub all_first : (pages : PagesModel) (n : ℕ) → n ≤ pages.cpus → All (IsP
 all_first pages zero few = λ k d inside. absurd (omega arith)
 all_first pages (suc n) few = All-append (IsPassOf pages) (first_passes pages n) _ (all_first pages n (omega arith))
     (λ k d inside. let at : k ≡ 0 = omega arith in
-    subst (λ j. IsPassOf pages (get_or (record { table = pages.table; walker = first_walker pages.frames pages.cpus n } ∷ []) j d)) (sym at) record { table = refl; frames = length-replicate pages.frames None; cpu = omega arith; cpus = refl })
+    subst (λ j. IsPassOf pages (get_or (record { table = pages.table; walker = first_walker pages.frames pages.cpus n } ∷ []) j d)) (sym at) record
+    { table = refl; frames = length-replicate pages.frames None; cpu = omega arith; cpus = refl })
 
 pub all_first_at : (pages : PagesModel) (passes : List PassModel) (n : ℕ) → passes ≡ first_passes pages n → n ≡ pages.cpus → All (IsPassOf pages) passes
 all_first_at pages passes n is all = subst (All (IsPassOf pages)) (sym is) (all_first pages n (omega arith))
 
 first_count : (pages : PagesModel) (n : ℕ) → length (first_passes pages n) ≡ n
 first_count pages zero = refl
-first_count pages (suc n) = let l = length-append (first_passes pages n) (record { table = pages.table; walker = first_walker pages.frames pages.cpus n } ∷ []) in let e = first_count pages n in omega arith
+first_count pages (suc n) = let l = length-append (first_passes pages n) (record { table = pages.table; walker = first_walker pages.frames pages.cpus n } ∷ [])
+    in let e = first_count pages n in omega arith
 
 -- and they are the passes of all processors, in order
 first_place : (pages : PagesModel) (n cpu : ℕ) (d : PassModel) → cpu < n → (get_or (first_passes pages n) cpu d).walker.walk.cpu ≡ cpu
@@ -295,8 +355,14 @@ first_place pages (suc n) cpu d inside =
     let l = first_count pages n in
     dite (ℕ_discrete cpu n)
     (λ (here : cpu ≡ n). let at : cpu ≡ length (first_passes pages n) + 0 = omega arith in
-    ap (λ j. (get_or (first_passes pages n ++ last ∷ []) j d).walker.walk.cpu) at ∙ ap (λ (p : PassModel). p.walker.walk.cpu) (get_or-append-add (first_passes pages n) (last ∷ []) 0 d) ∙ sym here)
-    (λ (other : cpu ≢ n). ap (λ (p : PassModel). p.walker.walk.cpu) (get_or_append_left (first_passes pages n) (last ∷ []) d cpu (omega arith)) ∙ first_place pages n cpu d (omega arith))
+    ap (λ j. (get_or (first_passes pages n ++ last ∷ []) j d).walker.walk.cpu) at
+    ∙ ap (λ (p : PassModel). p.walker.walk.cpu) (get_or-append-add (first_passes pages n) (last ∷ []) 0 d) ∙ sym here)
+    (λ (other : cpu ≢ n). ap (λ (p : PassModel). p.walker.walk.cpu) (get_or_append_left (first_passes pages n) (last ∷ []) d cpu (omega arith))
+    ∙ first_place pages n cpu d (omega arith))
 
 pub all_at_first : (pages : PagesModel) (passes : List PassModel) → passes ≡ first_passes pages pages.cpus → AreAll pages passes
-all_at_first pages passes is = subst (AreAll pages) (sym is) (λ cpu inside. (cpu, (let l = first_count pages pages.cpus in omega arith), λ d. first_place pages pages.cpus cpu d inside))
+all_at_first pages passes is = subst (AreAll pages) (sym is) (λ cpu inside. (
+  cpu,
+  (let l = first_count pages pages.cpus in omega arith),
+  λ d. first_place pages pages.cpus cpu d inside,
+))

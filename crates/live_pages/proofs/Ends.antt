@@ -7,11 +7,12 @@ use lib.ListN.{get_elem?}
 use Rattle.std.proofs.lemmas.List.{length-replicate, length-append, get_or-replicate, get_or_append_left, get_or-append-add, get_or-set_same, get_or-set_other, length-set}
 use Rattle.atomic_table.specs.Table.{Splits, Joins}
 use Rattle.atomic_table.proofs.Lists.{set_again, at_set, set_else, at_map}
-use Rattle.live_doors.specs.Doors.{blank, first_watch, HasNoted, MayBind}
+use Rattle.live_doors.specs.Doors.{blank, first_watch, HasNoted, HoldsEntry, MayBind}
 use Rattle.live_doors.specs.Steps.{door_at, ack_at, first_words}
 use Rattle.live_doors.specs.Kept.{PassOk}
 use Rattle.live_doors.proofs.Plain.{plan_admits, pass_admits, blank_ok}
 use Rattle.live_doors.proofs.Keeps.{seats_stay}
+use Rattle.live_doors.specs.declared.views.Walk.{Walk}
 use Rattle.live_pages.specs.declared.rule.Held.{Held}
 use Rattle.live_pages.specs.declared.rule.Size.{Size}
 use Rattle.live_pages.specs.declared.touch.Made.{Made}
@@ -23,8 +24,8 @@ use Rattle.live_pages.specs.declared.views.Holder.{Holder}
 use Rattle.live_pages.specs.declared.views.View.{View}
 use Rattle.live_pages.specs.declared.views.View.TheVariants.{Passing, Keeping, Spent}
 use Rattle.live_pages.specs.Touches.{Given, page_given, after, mine}
-use Rattle.live_pages.specs.Turns.{first_holder, opening_words, keeper_with_pass, pass_of_keeper, taken_in, turn_at, current, hand_of, watching, binding_in}
-use Rattle.live_pages.specs.Kept.{IsClearOf, BookOk, SlotsOk, HandOk, SeatOk, Kept, AllIn, EntryIsCurrent, MayBindHasNoHolder}
+use Rattle.live_pages.specs.Turns.{first_holder, opening_words, keeper_with_pass, pass_of_keeper, taken_in, turn_at, current, hand_of, watching, binding_in, binding_at}
+use Rattle.live_pages.specs.Kept.{IsClearOf, BookOk, SlotsOk, HandOk, SeatOk, Kept, AllIn, IsCurrent, EntryIsCurrent, MayBindHasNoHolder}
 use Rattle.live_pages.specs.Ending.{AllInIsLegal}
 use Rattle.live_pages.proofs.Replay.{bindings_stay, left_stays}
 use Rattle.live_pages.proofs.Changing.{entry_is_current}
@@ -51,7 +52,8 @@ none_ended (suc frames) cpus (suc f) = none_ended frames cpus f
 
 module _ (z : Size) where
   -- the keeper makes the pass of the next processor
-  pub admits : (id : ℕ) (k : Holder) → k.watch.made < z.cpus → length k.watch.doors ≡ z.frames → length k.parts ≡ z.cpus → Splits (InOrder z) id (Keeping k) (keeper_with_pass (Keeping k)) (pass_of_keeper (Keeping k))
+  pub admits : (id : ℕ) (k : Holder) → k.watch.made < z.cpus → length k.watch.doors ≡ z.frames → length k.parts ≡ z.cpus
+      → Splits (InOrder z) id (Keeping k) (keeper_with_pass (Keeping k)) (pass_of_keeper (Keeping k))
   admits id k room row count s h at =
       let own = h.seats_ok id (Keeping k) at in
       let book : BookOk z.frames z.cpus s.words k h.given h.log = subst (λ p. BookOk z.frames z.cpus s.words p h.given h.log) (sym own.1) h.book_ok in
@@ -86,21 +88,34 @@ module _ (z : Size) where
             let old = h.turns_ok f inside busy in
             dite (ℕ_discrete (h.holder f) id)
             (λ (here : h.holder f ≡ id).
-            let is : old.0 ≡ Keeping k = M.some-injective _ _ (sym old.2 ∙ ap (get_elem? s.views) here ∙ at) in
-            (Keeping k', old.1, at_longer longer (pass_of_keeper (Keeping k) ∷ []) (h.holder f) (Keeping k') (ap (get_elem? longer) here ∙ set_at s.views id (Keeping k) (Keeping k') at), sym (ap hand_of is) ∙ old.3))
-            (λ (other : h.holder f ≢ id). (old.0, old.1, at_longer longer (pass_of_keeper (Keeping k) ∷ []) (h.holder f) old.0 (set_else s.views id (h.holder f) (Keeping k') other ∙ old.2), old.3));
+            let is : old.0 ≡ Keeping k = M.some-injective _ _ (sym old.2 ∙ ap (get_elem? s.views) here ∙ at) in (
+              Keeping k',
+              old.1,
+              at_longer longer (pass_of_keeper (Keeping k) ∷ []) (h.holder f) (Keeping k') (ap (get_elem? longer) here
+                  ∙ set_at s.views id (Keeping k) (Keeping k') at),
+              sym (ap hand_of is) ∙ old.3,
+            ))
+            (λ (other : h.holder f ≢ id). (
+              old.0,
+              old.1,
+              at_longer longer (pass_of_keeper (Keeping k) ∷ []) (h.holder f) old.0
+                  (set_else s.views id (h.holder f) (Keeping k') other ∙ old.2),
+              old.3,
+            ));
         seats_ok = λ j v e. ⊎_elim
             (λ (old : get_elem? longer j ≡ M.some v).
             seats_stay (SeatOk z.frames z.cpus s.words k' h.keeper seat_of h.holder h.given h.log) s.views id (Keeping k')
             (own.0, refl, subst (λ p. HandOk z.frames z.cpus s.words p.watch h.holder h.given h.log id k.hand) (sym own.1) own.2)
-            (λ i u other there. stays s.words h.keeper h.seat_of h.holder h.given h.log (length longer) own.0 i u other (subst (λ p. SeatOk z.frames z.cpus s.words p h.keeper h.seat_of h.holder h.given h.log i u) (sym own.1) (h.seats_ok i u there)))
+            (λ i u other there. stays s.words h.keeper h.seat_of h.holder h.given h.log (length longer) own.0 i u other
+            (subst (λ p. SeatOk z.frames z.cpus s.words p h.keeper h.seat_of h.holder h.given h.log i u) (sym own.1) (h.seats_ok i u there)))
             j v old)
             (λ (new : (j ≡ length longer) × (pass_of_keeper (Keeping k) ≡ v)).
             subst (λ (x : ℕ × View). SeatOk z.frames z.cpus s.words k' h.keeper seat_of h.holder h.given h.log x.0 x.1) (λ i. (sym new.0 i, new.1 i)) (
               put_here k.watch.made (length longer) h.seat_of,
               record {
                 all = count;
-                pass_ok = subst (λ n. PassOk z.frames z.cpus s.words k'.watch (blank n k.watch.made)) (sym row) (blank_ok z.frames z.cpus s.words k.watch room book.plan_ok);
+                pass_ok = subst (λ n. PassOk z.frames z.cpus s.words k'.watch (blank n k.watch.made)) (sym row)
+                    (blank_ok z.frames z.cpus s.words k.watch room book.plan_ok);
                 made = sym (book.unmade k.watch.made (omega arith)).0;
                 hand_ok = tt;
                 holds = tt;
@@ -110,21 +125,33 @@ module _ (z : Size) where
             (snoc_place longer (pass_of_keeper (Keeping k)) v j e);
       }
     where
-      stays : (words : List ℕ) (keeper : ℕ) (seat_of holder : ℕ → ℕ) (given : Given) (log : List Made) (new : ℕ) → keeper ≡ id → (j : ℕ) (v : View) → j ≢ id → SeatOk z.frames z.cpus words k keeper seat_of holder given log j v
+      stays : (words : List ℕ) (keeper : ℕ) (seat_of holder : ℕ → ℕ) (given : Given) (log : List Made) (new : ℕ) → keeper ≡ id → (j : ℕ) (v : View) → j ≢ id
+          → SeatOk z.frames z.cpus words k keeper seat_of holder given log j v
           → SeatOk z.frames z.cpus words (watching (λ w. record w { made = w.made + 1 }) k) keeper (put k.watch.made new seat_of) holder given log j v
       stays words keeper seat_of holder given log new here j (Passing q) other ok = (
         put_else k.watch.made q.walk.cpu new seat_of (λ e. let m = ok.1.pass_ok.made in omega arith) ∙ ok.0,
-        record { all = ok.1.all; pass_ok = pass_admits z.frames z.cpus words k.watch q.walk ok.1.pass_ok; made = ok.1.made; hand_ok = same_hand words holder given log j q.hand ok.1.hand_ok; holds = ok.1.holds; out = ok.1.out },
+        record {
+          all = ok.1.all;
+          pass_ok = pass_admits z.frames z.cpus words k.watch q.walk ok.1.pass_ok;
+          made = ok.1.made;
+          hand_ok =
+              same_hand words holder given log j q.hand ok.1.hand_ok;
+          holds = ok.1.holds;
+          out = ok.1.out;
+        },
       )
         where
-          same_hand : (words : List ℕ) (holder : ℕ → ℕ) (given : Given) (log : List Made) (j : ℕ) (hand : Hand) → HandOk z.frames z.cpus words k.watch holder given log j hand → HandOk z.frames z.cpus words (record k.watch { made = k.watch.made + 1 }) holder given log j hand
+          same_hand : (words : List ℕ) (holder : ℕ → ℕ) (given : Given) (log : List Made) (j : ℕ) (hand : Hand)
+              → HandOk z.frames z.cpus words k.watch holder given log j hand
+              → HandOk z.frames z.cpus words (record k.watch { made = k.watch.made + 1 }) holder given log j hand
           same_hand words holder given log j Free ok = tt
           same_hand words holder given log j (Has g page) ok = ok
       stays words keeper seat_of holder given log new here j (Keeping u) other ok = absurd (other (sym ok.0 ∙ here))
       stays words keeper seat_of holder given log new here j (Spent u) other ok = tt
 
   -- the keeper takes a pass in, with its touches
-  pub takes_in : (id other : ℕ) (k : Holder) (q : Walker) → q.hand ≡ Free → Joins (InOrder z) id (Keeping k) other (Passing q) (taken_in (Keeping k) (Passing q)) (Spent (first_holder 0 0))
+  pub takes_in : (id other : ℕ) (k : Holder) (q : Walker) → q.hand ≡ Free
+      → Joins (InOrder z) id (Keeping k) other (Passing q) (taken_in (Keeping k) (Passing q)) (Spent (first_holder 0 0))
   takes_in id other k q free s h at apart there =
       let own = h.seats_ok id (Keeping k) at in
       let book : BookOk z.frames z.cpus s.words k h.given h.log = subst (λ p. BookOk z.frames z.cpus s.words p h.given h.log) (sym own.1) h.book_ok in
@@ -156,40 +183,59 @@ module _ (z : Size) where
           unmade = λ c above. ((book.unmade c above).0, get_or-set_other k.parts q.walk.cpu c (In q.made) Out (λ e. omega arith) ∙ (book.unmade c above).1);
           taken_in = λ c list part. dite (ℕ_discrete c q.walk.cpu)
               (λ (same : c ≡ q.walk.cpu).
-              let is : In q.made ≡ In list = sym (get_or-set_same k.parts q.walk.cpu (In q.made) Out inside) ∙ subst (λ j. get_or (set k.parts q.walk.cpu (In q.made)) j Out ≡ In list) same part in
+              let is : In q.made ≡ In list = sym (get_or-set_same k.parts q.walk.cpu (In q.made) Out inside)
+              ∙ subst (λ j. get_or (set k.parts q.walk.cpu (In q.made)) j Out ≡ In list) same part in
               sym (ap list_of is) ∙ his.1.made ∙ ap (λ j. mine j h.log) (sym same))
               (λ (else : c ≢ q.walk.cpu). book.taken_in c list (sym (get_or-set_other k.parts q.walk.cpu c (In q.made) Out else) ∙ part));
         };
         slots_ok = subst (λ p. SlotsOk z.frames z.cpus s.words s.homes p.watch h.given h.log) (sym own.1) h.slots_ok;
         turns_ok = λ f within busy.
             let old = h.turns_ok f within busy in
-            let away : h.holder f ≢ other = λ here. free_has f old.1 (sym free ∙ sym (ap hand_of (M.some-injective _ _ (sym old.2 ∙ ap (get_elem? s.views) here ∙ there'))) ∙ old.3) in
+            let away : h.holder f ≢ other = λ here. free_has f old.1 (sym free
+            ∙ sym (ap hand_of (M.some-injective _ _ (sym old.2 ∙ ap (get_elem? s.views) here ∙ there'))) ∙ old.3) in
             dite (ℕ_discrete (h.holder f) id)
             (λ (here : h.holder f ≡ id).
-            let is : old.0 ≡ Keeping k = M.some-injective _ _ (sym old.2 ∙ ap (get_elem? s.views) here ∙ at) in
-            (Keeping k', old.1, set_else (set s.views id (Keeping k')) other (h.holder f) (Spent (first_holder 0 0)) away ∙ ap (get_elem? (set s.views id (Keeping k'))) here ∙ set_at s.views id (Keeping k) (Keeping k') at, sym (ap hand_of is) ∙ old.3))
-            (λ (else : h.holder f ≢ id). (old.0, old.1, set_else (set s.views id (Keeping k')) other (h.holder f) (Spent (first_holder 0 0)) away ∙ set_else s.views id (h.holder f) (Keeping k') else ∙ old.2, old.3));
+            let is : old.0 ≡ Keeping k = M.some-injective _ _ (sym old.2 ∙ ap (get_elem? s.views) here ∙ at) in (
+              Keeping k',
+              old.1,
+              set_else (set s.views id (Keeping k')) other (h.holder f) (Spent (first_holder 0 0)) away
+                  ∙ ap (get_elem? (set s.views id (Keeping k'))) here ∙ set_at s.views id (Keeping k) (Keeping k') at,
+              sym (ap hand_of is) ∙ old.3,
+            ))
+            (λ (else : h.holder f ≢ id). (
+              old.0,
+              old.1,
+              set_else (set s.views id (Keeping k')) other (h.holder f) (Spent (first_holder 0 0)) away
+                  ∙ set_else s.views id (h.holder f) (Keeping k') else ∙ old.2,
+              old.3,
+            ));
         seats_ok = seats_spent s.words s.views id other k' h.keeper h.seat_of h.holder h.given h.log
             (own.0, refl, subst (λ p. HandOk z.frames z.cpus s.words p.watch h.holder h.given h.log id k.hand) (sym own.1) own.2)
-            (λ j v not_id not_other e. stays s.words h.keeper h.seat_of h.holder h.given h.log own.0 his.0 j v not_id not_other (subst (λ p. SeatOk z.frames z.cpus s.words p h.keeper h.seat_of h.holder h.given h.log j v) (sym own.1) (h.seats_ok j v e)));
+            (λ j v not_id not_other e. stays s.words h.keeper h.seat_of h.holder h.given h.log own.0 his.0 j v not_id not_other
+            (subst (λ p. SeatOk z.frames z.cpus s.words p h.keeper h.seat_of h.holder h.given h.log j v) (sym own.1) (h.seats_ok j v e)));
       }
     where
       list_of : Rattle.live_pages.specs.declared.views.Part.Part → List Made
       list_of Out = []
       list_of (In l) = l
 
-      seats_spent : (words : List ℕ) (views : List View) (id other : ℕ) (k' : Holder) (keeper : ℕ) (seat_of holder : ℕ → ℕ) (given : Given) (log : List Made) → SeatOk z.frames z.cpus words k' keeper seat_of holder given log id (Keeping k')
-          → ((j : ℕ) (v : View) → j ≢ id → j ≢ other → get_elem? views j ≡ M.some v → SeatOk z.frames z.cpus words k' keeper seat_of holder given log j v) → (j : ℕ) (v : View) → get_elem? (set (set views id (Keeping k')) other (Spent (first_holder 0 0))) j ≡ M.some v
+      seats_spent : (words : List ℕ) (views : List View) (id other : ℕ) (k' : Holder) (keeper : ℕ) (seat_of holder : ℕ → ℕ) (given : Given) (log : List Made)
+          → SeatOk z.frames z.cpus words k' keeper seat_of holder given log id (Keeping k')
+          → ((j : ℕ) (v : View) → j ≢ id → j ≢ other → get_elem? views j ≡ M.some v → SeatOk z.frames z.cpus words k' keeper seat_of holder given log j v)
+          → (j : ℕ) (v : View) → get_elem? (set (set views id (Keeping k')) other (Spent (first_holder 0 0))) j ≡ M.some v
           → SeatOk z.frames z.cpus words k' keeper seat_of holder given log j v
       seats_spent words views id other k' keeper seat_of holder given log own others =
           seats_stay (SeatOk z.frames z.cpus words k' keeper seat_of holder given log) (set views id (Keeping k')) other (Spent (first_holder 0 0)) tt
           (λ j v not_other e. ⊎_elim
-          (λ (t : (j ≡ id) × (Keeping k' ≡ v)). subst (λ (x : ℕ × View). SeatOk z.frames z.cpus words k' keeper seat_of holder given log x.0 x.1) (λ i. (sym t.0 i, t.1 i)) own)
+          (λ (t : (j ≡ id) × (Keeping k' ≡ v)). subst (λ (x : ℕ × View). SeatOk z.frames z.cpus words k' keeper seat_of holder given log x.0 x.1)
+          (λ i. (sym t.0 i, t.1 i)) own)
           (λ (t : (j ≢ id) × (get_elem? views j ≡ M.some v)). others j v t.0 not_other t.1)
           (at_set views id j (Keeping k') v e))
 
-      stays : (words : List ℕ) (keeper : ℕ) (seat_of holder : ℕ → ℕ) (given : Given) (log : List Made) → keeper ≡ id → seat_of q.walk.cpu ≡ other → (j : ℕ) (v : View) → j ≢ id → j ≢ other
-          → SeatOk z.frames z.cpus words k keeper seat_of holder given log j v → SeatOk z.frames z.cpus words (record k { parts = set k.parts q.walk.cpu (In q.made) }) keeper seat_of holder given log j v
+      stays : (words : List ℕ) (keeper : ℕ) (seat_of holder : ℕ → ℕ) (given : Given) (log : List Made) → keeper ≡ id → seat_of q.walk.cpu ≡ other
+          → (j : ℕ) (v : View) → j ≢ id → j ≢ other
+          → SeatOk z.frames z.cpus words k keeper seat_of holder given log j v
+          → SeatOk z.frames z.cpus words (record k { parts = set k.parts q.walk.cpu (In q.made) }) keeper seat_of holder given log j v
       stays words keeper seat_of holder given log here theirs j (Passing u) not_id not_other ok = (
         ok.0,
         record {
@@ -238,7 +284,8 @@ module _ (z : Size) where
       let l : length row ≡ z.frames = length-replicate z.frames 1 in
       let n = first_length in
       let one : door_at f ≡ suc f = omega arith in
-      get_or_append_left (first_words z.frames z.cpus 1) (replicate (z.frames + 1) 0) 0 (door_at f) (omega arith) ∙ ap (λ i. get_or (0 ∷ (row ++ acks)) i 0) one ∙ get_or_append_left row acks 0 f (omega arith)
+      get_or_append_left (first_words z.frames z.cpus 1) (replicate (z.frames + 1) 0) 0 (door_at f) (omega arith) ∙ ap (λ i. get_or (0 ∷ (row ++ acks)) i 0) one
+      ∙ get_or_append_left row acks 0 f (omega arith)
 
   ack_word : (c : ℕ) → c < z.cpus → get_or (opening_words z.frames z.cpus) (ack_at z.frames c) 0 ≡ 0
   ack_word c inside =
@@ -247,14 +294,16 @@ module _ (z : Size) where
       let l : length row ≡ z.frames = length-replicate z.frames 1 in
       let n = first_length in
       let one : ack_at z.frames c ≡ suc (length row + c) = omega arith in
-      get_or_append_left (first_words z.frames z.cpus 1) (replicate (z.frames + 1) 0) 0 (ack_at z.frames c) (omega arith) ∙ ap (λ i. get_or (0 ∷ (row ++ acks)) i 0) one ∙ get_or-append-add row acks c 0
+      get_or_append_left (first_words z.frames z.cpus 1) (replicate (z.frames + 1) 0) 0 (ack_at z.frames c) (omega arith)
+      ∙ ap (λ i. get_or (0 ∷ (row ++ acks)) i 0) one ∙ get_or-append-add row acks c 0
       ∙ get_or-replicate z.cpus c 0 0 inside
 
   turn_word : (f : ℕ) → f < z.frames + 1 → get_or (opening_words z.frames z.cpus) (turn_at z.frames z.cpus f) 0 ≡ 0
   turn_word f inside =
       let n = first_length in
       let one : turn_at z.frames z.cpus f ≡ length (first_words z.frames z.cpus 1) + f = omega arith in
-      ap (λ i. get_or (opening_words z.frames z.cpus) i 0) one ∙ get_or-append-add (first_words z.frames z.cpus 1) (replicate (z.frames + 1) 0) f 0 ∙ get_or-replicate (z.frames + 1) f 0 0 inside
+      ap (λ i. get_or (opening_words z.frames z.cpus) i 0) one ∙ get_or-append-add (first_words z.frames z.cpus 1) (replicate (z.frames + 1) 0) f 0
+      ∙ get_or-replicate (z.frames + 1) f 0 0 inside
 
   opening_length : length (opening_words z.frames z.cpus) ≡ 1 + z.frames + z.cpus + (z.frames + 1)
   opening_length =
@@ -264,7 +313,8 @@ module _ (z : Size) where
       let c = length-append (first_words z.frames z.cpus 1) tail in omega arith
 
   -- the rule holds at the start, with a page of zeros in each slot
-  pub opens : (words : List ℕ) (slots : List (Option Held)) → words ≡ opening_words z.frames z.cpus → ((f : ℕ) → f < z.frames → (h : Held) × (get_elem? slots f ≡ M.some (Some h)) × (h.page ≡ replicate 1024 0))
+  pub opens : (words : List ℕ) (slots : List (Option Held)) → words ≡ opening_words z.frames z.cpus
+      → ((f : ℕ) → f < z.frames → (h : Held) × (get_elem? slots f ≡ M.some (Some h)) × (h.page ≡ replicate 1024 0))
       → Kept z words (map M.some slots) (Keeping (first_holder z.frames z.cpus) ∷ [])
   opens words slots is zeros = subst (λ ws. Kept z ws (map M.some slots) (Keeping (first_holder z.frames z.cpus) ∷ [])) (sym is) record {
     plan = first_holder z.frames z.cpus;
@@ -283,7 +333,8 @@ module _ (z : Size) where
         request = refl;
         doors = λ f inside. door_word f inside;
         least = λ f inside. subst (λ k. 1 ≤ k) (sym (get_or-replicate z.frames f 1 0 inside)) (omega arith);
-        noted = λ c inside. subst (λ k. k ≤ get_or (opening_words z.frames z.cpus) (ack_at z.frames c) 0) (sym (get_or-replicate z.cpus c 0 0 inside)) (omega arith);
+        noted = λ c inside. subst (λ k. k ≤ get_or (opening_words z.frames z.cpus) (ack_at z.frames c) 0) (sym (get_or-replicate z.cpus c 0 0 inside))
+            (omega arith);
         unmade = λ c above inside. ack_word c inside;
       };
       room = (let n = opening_length in omega arith);
@@ -313,12 +364,15 @@ module _ (z : Size) where
       out_in : {p : Rattle.live_pages.specs.declared.views.Part.Part} (made : List Made) → p ≡ Out → p ≡ In made → ⊥
       out_in made a i = absurd (cc)
 
-      one : (j : ℕ) (v : View) → get_elem? (Keeping (first_holder z.frames z.cpus) ∷ []) j ≡ M.some v → SeatOk z.frames z.cpus (opening_words z.frames z.cpus) (first_holder z.frames z.cpus) 0 (λ c. 0) (λ f. 0) (λ f b. replicate 1024 0) [] j v
-      one zero v e = subst (SeatOk z.frames z.cpus (opening_words z.frames z.cpus) (first_holder z.frames z.cpus) 0 (λ c. 0) (λ f. 0) (λ f b. replicate 1024 0) [] 0) (M.some-injective _ _ e) (refl, refl, tt)
+      one : (j : ℕ) (v : View) → get_elem? (Keeping (first_holder z.frames z.cpus) ∷ []) j ≡ M.some v
+          → SeatOk z.frames z.cpus (opening_words z.frames z.cpus) (first_holder z.frames z.cpus) 0 (λ c. 0) (λ f. 0) (λ f b. replicate 1024 0) [] j v
+      one zero v e = subst (SeatOk z.frames z.cpus (opening_words z.frames z.cpus) (first_holder z.frames z.cpus) 0 (λ c. 0) (λ f. 0) (λ f b. replicate 1024 0)
+          [] 0) (M.some-injective _ _ e) (refl, refl, tt)
       one (suc j) v e = absurd (M.some-ne-none v (sym e))
 
 -- once every pass was taken in no turn is taken
-no_turn_left : (z : Size) (words : List ℕ) (homes : List (M.Option (Option Held))) (views : List View) (seat : ℕ) (k : Holder) → (h : Kept z words homes views) → get_elem? views seat ≡ M.some (Keeping k) → k.hand ≡ Free → AllIn z.cpus k → (f : ℕ) → f < z.frames
+no_turn_left : (z : Size) (words : List ℕ) (homes : List (M.Option (Option Held))) (views : List View) (seat : ℕ) (k : Holder) → (h : Kept z words homes views)
+    → get_elem? views seat ≡ M.some (Keeping k) → k.hand ≡ Free → AllIn z.cpus k → (f : ℕ) → f < z.frames
     → get_or words (turn_at z.frames z.cpus f) 0 ≢ 0 → ⊥
 no_turn_left z words homes views seat k h at free all f inside busy =
     let t = h.turns_ok f inside busy in
@@ -328,7 +382,8 @@ no_turn_left z words homes views seat k h at free all f inside busy =
     out_in : {p : Rattle.live_pages.specs.declared.views.Part.Part} (made : List Made) → p ≡ Out → p ≡ In made → ⊥
     out_in made a i = absurd (cc)
 
-    of_view : (v : View) (page : List ℕ) → hand_of v ≡ Has f page → k ≡ h.plan → SeatOk z.frames z.cpus words h.plan h.keeper h.seat_of h.holder h.given h.log (h.holder f) v → ⊥
+    of_view : (v : View) (page : List ℕ) → hand_of v ≡ Has f page → k ≡ h.plan
+        → SeatOk z.frames z.cpus words h.plan h.keeper h.seat_of h.holder h.given h.log (h.holder f) v → ⊥
     of_view (Passing q) page has is ok =
         let cpu : q.walk.cpu < z.cpus = (let m = ok.1.pass_ok.made in let n = h.book_ok.plan_ok.made in omega arith) in
         let there = all q.walk.cpu cpu in
@@ -346,8 +401,12 @@ all_in_is_legal z words homes views seat k h at free all =
       all_ended_left z.frames z.cpus words k h.log book all,
       λ f inside. dite (ℕ_discrete (get_or words (turn_at z.frames z.cpus f) 0) 0)
           (λ (zero_word : get_or words (turn_at z.frames z.cpus f) 0 ≡ 0).
-          let slot = h.slots_ok f inside zero_word in
-          (slot.0, slot.1, slot.2 ∙ ap (λ p. after h.given f (current p.watch f) h.log) (sym own.1) ∙ ap (λ (g : Given). after g f (current k.watch f) h.log) given ∙ sym (pages_are z.frames z.cpus words k h.log book all f (current k.watch f))))
+          let slot = h.slots_ok f inside zero_word in (
+            slot.0,
+            slot.1,
+            slot.2 ∙ ap (λ p. after h.given f (current p.watch f) h.log) (sym own.1)
+                ∙ ap (λ (g : Given). after g f (current k.watch f) h.log) given ∙ sym (pages_are z.frames z.cpus words k h.log book all f (current k.watch f)),
+          ))
           (λ (busy : get_or words (turn_at z.frames z.cpus f) 0 ≢ 0). absurd (no_turn_left z words homes views seat k h at free all f inside busy)),
     )
 
@@ -366,7 +425,8 @@ may_bind_is_free k cleared f noted may z words homes views seat h at seat' w the
     let own = h.seats_ok seat (Keeping k) at in
     let his = h.seats_ok seat' (Passing w) there in
     none_if (get_or w.walk.held f None)
-    (λ b e. holder_stands z words h.plan.watch w.walk cleared f b h.book_ok.plan_ok his.1.pass_ok (subst (λ p. HasNoted p.watch cleared) own.1 noted) (subst (λ p. MayBind p.watch cleared f) own.1 may) e)
+    (λ b e. holder_stands z words h.plan.watch w.walk cleared f b h.book_ok.plan_ok his.1.pass_ok (subst (λ p. HasNoted p.watch cleared) own.1 noted)
+    (subst (λ p. MayBind p.watch cleared f) own.1 may) e)
   where
     none_if : (o : Option ℕ) → ((b : ℕ) → o ≡ Some b → ⊥) → o ≡ None
     none_if None never = refl

@@ -44,7 +44,8 @@ le_of_same : {x y : ℕ} → x ≡ y → y ≤ x
 le_of_same e = omega arith
 
 module _ (frames cpus : ℕ) (words words' : List ℕ) (given : Given) (log : List Made) (quiet : Quiet frames cpus words words') where
-  pub book_quiet : (plan : Holder) (w : Watch) → PlanOk frames cpus words' w → ((f : ℕ) → current w f ≡ current plan.watch f) → w.made ≡ plan.watch.made → BookOk frames cpus words plan given log → BookOk frames cpus words' (record plan { watch = w }) given log
+  pub book_quiet : (plan : Holder) (w : Watch) → PlanOk frames cpus words' w → ((f : ℕ) → current w f ≡ current plan.watch f) → w.made ≡ plan.watch.made
+      → BookOk frames cpus words plan given log → BookOk frames cpus words' (record plan { watch = w }) given log
   book_quiet plan w ok same made b = record {
     plan_ok = ok;
     room = (let l = quiet.0 in let r = b.room in omega arith);
@@ -65,16 +66,19 @@ module _ (frames cpus : ℕ) (words words' : List ℕ) (given : Given) (log : Li
   turn_stays : (f : ℕ) → get_or words' (turn_at frames cpus f) 0 ≡ get_or words (turn_at frames cpus f) 0
   turn_stays f = quiet.1 (turn_at frames cpus f) (omega arith)
 
-  pub slots_quiet : (homes : List (M.Option (Option Held))) (plan w : Watch) → ((f : ℕ) → current w f ≡ current plan f) → SlotsOk frames cpus words homes plan given log → SlotsOk frames cpus words' homes w given log
+  pub slots_quiet : (homes : List (M.Option (Option Held))) (plan w : Watch) → ((f : ℕ) → current w f ≡ current plan f)
+      → SlotsOk frames cpus words homes plan given log → SlotsOk frames cpus words' homes w given log
   slots_quiet homes plan w same ok f inside free =
       let old = ok f inside (sym (turn_stays f) ∙ free) in
       (old.0, old.1, old.2 ∙ ap (λ b. after given f b log) (sym (same f)))
 
-  pub hand_quiet : (holder : ℕ → ℕ) (plan w : Watch) (seat : ℕ) (hand : Hand) → ((f : ℕ) → current w f ≡ current plan f) → HandOk frames cpus words plan holder given log seat hand → HandOk frames cpus words' w holder given log seat hand
+  pub hand_quiet : (holder : ℕ → ℕ) (plan w : Watch) (seat : ℕ) (hand : Hand) → ((f : ℕ) → current w f ≡ current plan f)
+      → HandOk frames cpus words plan holder given log seat hand → HandOk frames cpus words' w holder given log seat hand
   hand_quiet holder plan w seat Free same ok = tt
   hand_quiet holder plan w seat (Has f page) same ok = (ok.0, ok.1, (λ e. ok.2 (sym (turn_stays f) ∙ e)), ok.3 ∙ ap (λ b. after given f b log) (sym (same f)))
 
-  pub turns_quiet : (views : List View) (holder : ℕ → ℕ) (id : ℕ) (v v' : View) → get_elem? views id ≡ M.some v → hand_of v' ≡ hand_of v → TurnsOk frames cpus words views holder → TurnsOk frames cpus words' (set views id v') holder
+  pub turns_quiet : (views : List View) (holder : ℕ → ℕ) (id : ℕ) (v v' : View) → get_elem? views id ≡ M.some v → hand_of v' ≡ hand_of v
+      → TurnsOk frames cpus words views holder → TurnsOk frames cpus words' (set views id v') holder
   turns_quiet views holder id v v' at same ok f inside taken =
       let old = ok f inside (λ e. taken (turn_stays f ∙ e)) in
       dite (ℕ_discrete (holder f) id)
@@ -83,7 +87,8 @@ module _ (frames cpus : ℕ) (words words' : List ℕ) (given : Given) (log : Li
       (v', old.1, ap (get_elem? (set views id v')) here ∙ set_at views id v v' at, same ∙ sym (ap hand_of is) ∙ old.3))
       (λ (other : holder f ≢ id). (old.0, old.1, set_else views id (holder f) v' other ∙ old.2, old.3))
 
-  pub walker_quiet : (plan : Holder) (w : Watch) (holder : ℕ → ℕ) (seat : ℕ) (q : Walker) → ((f : ℕ) → current w f ≡ current plan.watch f) → PassOk frames cpus words' w q.walk → WalkerOk frames cpus words plan holder given log seat q
+  pub walker_quiet : (plan : Holder) (w : Watch) (holder : ℕ → ℕ) (seat : ℕ) (q : Walker) → ((f : ℕ) → current w f ≡ current plan.watch f)
+      → PassOk frames cpus words' w q.walk → WalkerOk frames cpus words plan holder given log seat q
       → WalkerOk frames cpus words' (record plan { watch = w }) holder given log seat q
   walker_quiet plan w holder seat q same pass ok = record {
     all = ok.all;
@@ -102,10 +107,13 @@ InOrder z s = Kept z s.words s.homes s.views
 
 module _ (z : Size) where
   -- a pass without a turn has read or stored a word
-  pub pass_stepped : (words words' : List ℕ) (homes : List (M.Option (Option Held))) (views : List View) (id : ℕ) (w : Walker) (change : Walk → Walk) → (h : Kept z words homes views) → get_elem? views id ≡ M.some (Passing w) → w.hand ≡ Free
+  pub pass_stepped : (words words' : List ℕ) (homes : List (M.Option (Option Held))) (views : List View) (id : ℕ) (w : Walker) (change : Walk → Walk)
+      → (h : Kept z words homes views) → get_elem? views id ≡ M.some (Passing w) → w.hand ≡ Free
       → (change w.walk).cpu ≡ w.walk.cpu → Quiet z.frames z.cpus words words'
-      → (PassOk z.frames z.cpus words h.plan.watch w.walk → PlanOk z.frames z.cpus words' h.plan.watch) → (PassOk z.frames z.cpus words h.plan.watch w.walk → PassOk z.frames z.cpus words' h.plan.watch (change w.walk))
-      → ((q : Walk) → q.cpu ≢ w.walk.cpu → PassOk z.frames z.cpus words h.plan.watch q → PassOk z.frames z.cpus words' h.plan.watch q) → Kept z words' homes (set views id (Passing (walking change w)))
+      → (PassOk z.frames z.cpus words h.plan.watch w.walk → PlanOk z.frames z.cpus words' h.plan.watch)
+      → (PassOk z.frames z.cpus words h.plan.watch w.walk → PassOk z.frames z.cpus words' h.plan.watch (change w.walk))
+      → ((q : Walk) → q.cpu ≢ w.walk.cpu → PassOk z.frames z.cpus words h.plan.watch q → PassOk z.frames z.cpus words' h.plan.watch q)
+      → Kept z words' homes (set views id (Passing (walking change w)))
   pass_stepped words words' homes views id w change h at free cpu quiet plan own others =
       let mine = h.seats_ok id (Passing w) at in
       record {
@@ -133,22 +141,35 @@ module _ (z : Size) where
       }
     where
       stays : (plan : Holder) (keeper : ℕ) (seat_of holder : ℕ → ℕ) (given : Given) (log : List Made) → seat_of w.walk.cpu ≡ id
-          → ((q : Walk) → q.cpu ≢ w.walk.cpu → PassOk z.frames z.cpus words plan.watch q → PassOk z.frames z.cpus words' plan.watch q) → (j : ℕ) (v : View) → j ≢ id → SeatOk z.frames z.cpus words plan keeper seat_of holder given log j v
+          → ((q : Walk) → q.cpu ≢ w.walk.cpu → PassOk z.frames z.cpus words plan.watch q → PassOk z.frames z.cpus words' plan.watch q) → (j : ℕ) (v : View)
+          → j ≢ id → SeatOk z.frames z.cpus words plan keeper seat_of holder given log j v
           → SeatOk z.frames z.cpus words' plan keeper seat_of holder given log j v
-      stays plan keeper seat_of holder given log here others j (Passing q) other k =
-          (k.0, walker_quiet z.frames z.cpus words words' given log quiet plan plan.watch holder j q (λ f. refl) (others q.walk (λ e. other (sym k.0 ∙ ap seat_of e ∙ here)) k.1.pass_ok) k.1)
-      stays plan keeper seat_of holder given log here others j (Keeping u) other k = (k.0, k.1, hand_quiet z.frames z.cpus words words' given log quiet holder plan.watch plan.watch j u.hand (λ f. refl) k.2)
+      stays plan keeper seat_of holder given log here others j (Passing q) other k = (
+        k.0,
+        walker_quiet z.frames z.cpus words words' given log quiet plan plan.watch holder j q (λ f. refl)
+            (others q.walk (λ e. other (sym k.0 ∙ ap seat_of e ∙ here)) k.1.pass_ok) k.1,
+      )
+      stays plan keeper seat_of holder given log here others j (Keeping u) other k = (
+        k.0,
+        k.1,
+        hand_quiet z.frames z.cpus words words' given log quiet holder plan.watch plan.watch j u.hand (λ f. refl) k.2,
+      )
       stays plan keeper seat_of holder given log here others j (Spent u) other k = tt
 
   -- the keeper has read or stored a word, and no frame's current binding is another
-  pub keeper_stepped : (words words' : List ℕ) (homes : List (M.Option (Option Held))) (views : List View) (id : ℕ) (k : Holder) (change : Watch → Watch) → (h : Kept z words homes views) → get_elem? views id ≡ M.some (Keeping k)
-      → Quiet z.frames z.cpus words words' → ((f : ℕ) → current (change k.watch) f ≡ current k.watch f) → (change k.watch).made ≡ k.watch.made → (PlanOk z.frames z.cpus words k.watch → PlanOk z.frames z.cpus words' (change k.watch))
-      → (PlanOk z.frames z.cpus words k.watch → (q : Walk) → PassOk z.frames z.cpus words k.watch q → PassOk z.frames z.cpus words' (change k.watch) q) → Kept z words' homes (set views id (Keeping (watching change k)))
+  pub keeper_stepped : (words words' : List ℕ) (homes : List (M.Option (Option Held))) (views : List View) (id : ℕ) (k : Holder) (change : Watch → Watch)
+      → (h : Kept z words homes views) → get_elem? views id ≡ M.some (Keeping k)
+      → Quiet z.frames z.cpus words words' → ((f : ℕ) → current (change k.watch) f ≡ current k.watch f) → (change k.watch).made ≡ k.watch.made
+      → (PlanOk z.frames z.cpus words k.watch → PlanOk z.frames z.cpus words' (change k.watch))
+      → (PlanOk z.frames z.cpus words k.watch → (q : Walk) → PassOk z.frames z.cpus words k.watch q → PassOk z.frames z.cpus words' (change k.watch) q)
+      → Kept z words' homes (set views id (Keeping (watching change k)))
   keeper_stepped words words' homes views id k change h at quiet same made plan pass =
       let mine = h.seats_ok id (Keeping k) at in
       let book : BookOk z.frames z.cpus words k h.given h.log = subst (λ p. BookOk z.frames z.cpus words p h.given h.log) (sym mine.1) h.book_ok in
-      let slots : SlotsOk z.frames z.cpus words homes k.watch h.given h.log = subst (λ p. SlotsOk z.frames z.cpus words homes p.watch h.given h.log) (sym mine.1) h.slots_ok in
-      let hand : HandOk z.frames z.cpus words k.watch h.holder h.given h.log id k.hand = subst (λ p. HandOk z.frames z.cpus words p.watch h.holder h.given h.log id k.hand) (sym mine.1) mine.2 in
+      let slots : SlotsOk z.frames z.cpus words homes k.watch h.given h.log =
+      subst (λ p. SlotsOk z.frames z.cpus words homes p.watch h.given h.log) (sym mine.1) h.slots_ok in
+      let hand : HandOk z.frames z.cpus words k.watch h.holder h.given h.log id k.hand =
+      subst (λ p. HandOk z.frames z.cpus words p.watch h.holder h.given h.log id k.hand) (sym mine.1) mine.2 in
       record {
         plan = watching change k;
         keeper = h.keeper;
@@ -159,18 +180,26 @@ module _ (z : Size) where
         book_ok = book_quiet z.frames z.cpus words words' h.given h.log quiet k (change k.watch) (plan book.plan_ok) same made book;
         slots_ok = slots_quiet z.frames z.cpus words words' h.given h.log quiet homes k.watch (change k.watch) same slots;
         turns_ok = turns_quiet z.frames z.cpus words words' h.given h.log quiet views h.holder id (Keeping k) (Keeping (watching change k)) at refl h.turns_ok;
-        seats_ok = seats_stay (SeatOk z.frames z.cpus words' (watching change k) h.keeper h.seat_of h.holder h.given h.log) views id (Keeping (watching change k))
+        seats_ok = seats_stay (SeatOk z.frames z.cpus words' (watching change k) h.keeper h.seat_of h.holder h.given h.log) views id
+            (Keeping (watching change k))
             (mine.0, refl, hand_quiet z.frames z.cpus words words' h.given h.log quiet h.holder k.watch (change k.watch) id k.hand same hand)
-            (λ j v other e. stays h.keeper h.seat_of h.holder h.given h.log mine.0 (pass book.plan_ok) j v other (subst (λ p. SeatOk z.frames z.cpus words p h.keeper h.seat_of h.holder h.given h.log j v) (sym mine.1) (h.seats_ok j v e)));
+            (λ j v other e. stays h.keeper h.seat_of h.holder h.given h.log mine.0 (pass book.plan_ok) j v other
+            (subst (λ p. SeatOk z.frames z.cpus words p h.keeper h.seat_of h.holder h.given h.log j v) (sym mine.1) (h.seats_ok j v e)));
       }
     where
-      stays : (keeper : ℕ) (seat_of holder : ℕ → ℕ) (given : Given) (log : List Made) → keeper ≡ id → ((q : Walk) → PassOk z.frames z.cpus words k.watch q → PassOk z.frames z.cpus words' (change k.watch) q) → (j : ℕ) (v : View) → j ≢ id
-          → SeatOk z.frames z.cpus words k keeper seat_of holder given log j v → SeatOk z.frames z.cpus words' (watching change k) keeper seat_of holder given log j v
-      stays keeper seat_of holder given log here pass j (Passing q) other s = (s.0, walker_quiet z.frames z.cpus words words' given log quiet k (change k.watch) holder j q same (pass q.walk s.1.pass_ok) s.1)
+      stays : (keeper : ℕ) (seat_of holder : ℕ → ℕ) (given : Given) (log : List Made) → keeper ≡ id
+          → ((q : Walk) → PassOk z.frames z.cpus words k.watch q → PassOk z.frames z.cpus words' (change k.watch) q) → (j : ℕ) (v : View) → j ≢ id
+          → SeatOk z.frames z.cpus words k keeper seat_of holder given log j v
+          → SeatOk z.frames z.cpus words' (watching change k) keeper seat_of holder given log j v
+      stays keeper seat_of holder given log here pass j (Passing q) other s = (
+        s.0,
+        walker_quiet z.frames z.cpus words words' given log quiet k (change k.watch) holder j q same (pass q.walk s.1.pass_ok) s.1,
+      )
       stays keeper seat_of holder given log here pass j (Keeping u) other s = absurd (other (sym s.0 ∙ here))
       stays keeper seat_of holder given log here pass j (Spent u) other s = tt
 
-  pub fills : (slots id f : ℕ) (w : Walker) → w.hand ≡ Free → f < z.frames → Allows (InOrder z) slots id (Passing w, []) (door_at f) (λ n. n) (Fills (step slots (door_at f) 0 0 M.none) (Passing w, []))
+  pub fills : (slots id f : ℕ) (w : Walker) → w.hand ≡ Free → f < z.frames
+      → Allows (InOrder z) slots id (Passing w, []) (door_at f) (λ n. n) (Fills (step slots (door_at f) 0 0 M.none) (Passing w, []))
   fills slots id f w free inside s h homes at fits =
       let n : ℕ = get_or s.words (door_at f) 0 in (
         Passing (walking (filled f n) w),
@@ -189,36 +218,49 @@ module _ (z : Size) where
       least : (words : List ℕ) (plan : Watch) → PlanOk z.frames z.cpus words plan → 1 ≤ get_or words (door_at f) 0
       least words plan k = subst (λ i. 1 ≤ i) (sym (k.doors f inside)) (k.least f inside)
 
-  pub forgets : (slots id : ℕ) (w : Walker) → w.hand ≡ Free → Allows (InOrder z) slots id (Passing w, []) 0 (λ n. n) (Forgets (step slots 0 0 0 M.none) (Passing w, []))
+  pub forgets : (slots id : ℕ) (w : Walker) → w.hand ≡ Free → Allows (InOrder z) slots id (
+    Passing w,
+    [],
+  ) 0 (λ n. n) (Forgets (step slots 0 0 0 M.none) (Passing w, []))
   forgets slots id w free s h homes at fits =
       let n : ℕ = get_or s.words 0 0 in (
         Passing (walking (forgotten n) w),
         keeps,
         tt,
         subst (λ ws. Kept z ws s.homes (set s.views id (Passing (walking (forgotten n) w)))) (sym (set-get_or s.words 0 0))
-            (pass_stepped s.words s.words s.homes s.views id w (forgotten n) h at free refl (refl, λ i _. refl) (λ _. h.book_ok.plan_ok) (λ ok. forgotten_ok z.frames z.cpus s.words h.plan.watch w.walk n refl h.book_ok.plan_ok ok) (λ q _ ok. ok)),
+            (pass_stepped s.words s.words s.homes s.views id w (forgotten n) h at free refl (
+              refl,
+              λ i _. refl,
+            ) (λ _. h.book_ok.plan_ok) (λ ok. forgotten_ok z.frames z.cpus s.words h.plan.watch w.walk n refl h.book_ok.plan_ok ok)
+            (λ q _ ok. ok)),
         refl,
       )
 
   pub acknowledges : (slots id : ℕ) (w : Walker) → w.hand ≡ Free → w.walk.cpu < z.cpus
-      → Allows (InOrder z) slots id (Passing w, []) (ack_at z.frames w.walk.cpu) (λ _. w.walk.stamp) (λ _. Acknowledges (step slots (ack_at z.frames w.walk.cpu) w.walk.stamp 0 M.none) (Passing w, []) w.walk.stamp)
+      → Allows (InOrder z) slots id (Passing w, []) (ack_at z.frames w.walk.cpu) (λ _. w.walk.stamp)
+      (λ _. Acknowledges (step slots (ack_at z.frames w.walk.cpu) w.walk.stamp 0 M.none) (Passing w, []) w.walk.stamp)
   acknowledges slots id w free inside s h homes at fits = (
     Passing (walking acknowledged w),
     keeps,
     tt,
-    pass_stepped s.words (set s.words (ack_at z.frames w.walk.cpu) w.walk.stamp) s.homes s.views id w acknowledged h at free refl (quiet_set z.frames z.cpus s.words (ack_at z.frames w.walk.cpu) w.walk.stamp (omega arith))
-        (λ ok. plan_acknowledged z.frames z.cpus s.words h.plan.watch w.walk h.book_ok.plan_ok ok) (λ ok. acknowledged_ok z.frames z.cpus s.words h.plan.watch w.walk h.book_ok.plan_ok ok)
+    pass_stepped s.words (set s.words (ack_at z.frames w.walk.cpu) w.walk.stamp) s.homes s.views id w acknowledged h at free refl
+        (quiet_set z.frames z.cpus s.words (ack_at z.frames w.walk.cpu) w.walk.stamp (omega arith))
+        (λ ok. plan_acknowledged z.frames z.cpus s.words h.plan.watch w.walk h.book_ok.plan_ok ok)
+        (λ ok. acknowledged_ok z.frames z.cpus s.words h.plan.watch w.walk h.book_ok.plan_ok ok)
         (λ q other ok. pass_stays z.frames z.cpus s.words h.plan.watch q (ack_at z.frames w.walk.cpu) w.walk.stamp (λ e. other (omega arith)) ok),
     refl,
   )
 
   pub closes : (slots id f : ℕ) (k : Holder) → f < z.frames → get_or k.watch.doors f 0 % 2 ≡ 0 → f < length k.watch.doors
-      → Allows (InOrder z) slots id (Keeping k, []) (door_at f) (λ _. get_or k.watch.doors f 0 + 1) (λ _. Closes (step slots (door_at f) (get_or k.watch.doors f 0 + 1) 0 M.none) (Keeping k, []) (get_or k.watch.doors f 0 + 1))
+      → Allows (InOrder z) slots id (Keeping k, []) (door_at f) (λ _. get_or k.watch.doors f 0 + 1)
+      (λ _. Closes (step slots (door_at f) (get_or k.watch.doors f 0 + 1) 0 M.none) (Keeping k, []) (get_or k.watch.doors f 0 + 1))
   closes slots id f k inside even row s h homes at fits = (
     Keeping (watching (shut f) k),
     keeps,
     tt,
-    keeper_stepped s.words (set s.words (door_at f) (get_or k.watch.doors f 0 + 1)) s.homes s.views id k (shut f) h at (quiet_set z.frames z.cpus s.words (door_at f) (get_or k.watch.doors f 0 + 1) (omega arith)) same refl (plan_shut z.frames z.cpus s.words k.watch f inside)
+    keeper_stepped s.words (set s.words (door_at f) (get_or k.watch.doors f 0 + 1)) s.homes s.views id k (shut f) h at
+        (quiet_set z.frames z.cpus s.words (door_at f) (get_or k.watch.doors f 0 + 1) (omega arith)) same refl
+        (plan_shut z.frames z.cpus s.words k.watch f inside)
         (λ p q ok. pass_shut z.frames z.cpus s.words k.watch f q inside even p ok),
     λ g e. ap (λ j. (Keeping (watching (shut j) k), [])) (omega arith),
   )
@@ -228,15 +270,21 @@ module _ (z : Size) where
 
       same : (g : ℕ) → current (shut f k.watch) g ≡ current k.watch g
       same g = dite (ℕ_discrete g f)
-          (λ (is : g ≡ f). subst (λ j. current (shut f k.watch) j ≡ current k.watch j) (sym is) (half (get_or k.watch.doors f 0) (get_or (set k.watch.doors f (get_or k.watch.doors f 0 + 1)) f 0) (get_or-set_same k.watch.doors f (get_or k.watch.doors f 0 + 1) 0 row) even))
+          (λ (is : g ≡ f). subst (λ j. current (shut f k.watch) j ≡ current k.watch j) (sym is)
+          (half (get_or k.watch.doors f 0) (get_or (set k.watch.doors f (get_or k.watch.doors f 0 + 1)) f 0)
+          (get_or-set_same k.watch.doors f (get_or k.watch.doors f 0 + 1) 0 row) even))
           (λ (other : g ≢ f). ap (λ x. x / 2) (get_or-set_other k.watch.doors f g (get_or k.watch.doors f 0 + 1) 0 other))
 
-  pub raises : (slots id : ℕ) (k : Holder) → Allows (InOrder z) slots id (Keeping k, []) 0 (λ _. k.watch.request + 1) (λ _. Raises (step slots 0 (k.watch.request + 1) 0 M.none) (Keeping k, []) (k.watch.request + 1))
+  pub raises : (slots id : ℕ) (k : Holder) → Allows (InOrder z) slots id (
+    Keeping k,
+    [],
+  ) 0 (λ _. k.watch.request + 1) (λ _. Raises (step slots 0 (k.watch.request + 1) 0 M.none) (Keeping k, []) (k.watch.request + 1))
   raises slots id k s h homes at fits = (
     Keeping (watching raised k),
     keeps,
     tt,
-    keeper_stepped s.words (set s.words 0 (k.watch.request + 1)) s.homes s.views id k raised h at (quiet_set z.frames z.cpus s.words 0 (k.watch.request + 1) (omega arith)) (λ f. refl) refl (plan_raised z.frames z.cpus s.words k.watch)
+    keeper_stepped s.words (set s.words 0 (k.watch.request + 1)) s.homes s.views id k raised h at
+        (quiet_set z.frames z.cpus s.words 0 (k.watch.request + 1) (omega arith)) (λ f. refl) refl (plan_raised z.frames z.cpus s.words k.watch)
         (λ _ q ok. pass_raised z.frames z.cpus s.words k.watch q ok),
     refl,
   )
@@ -251,6 +299,13 @@ module _ (z : Size) where
         keeps,
         tt,
         subst (λ ws. Kept z ws s.homes (set s.views id (Keeping (watching (having_noted c n) k)))) (sym (set-get_or s.words (ack_at z.frames c) 0))
-            (keeper_stepped s.words s.words s.homes s.views id k (having_noted c n) h at (refl, λ i _. refl) (λ f. refl) refl (λ p. plan_noted z.frames z.cpus s.words k.watch c n inside refl p) (λ _ q ok. pass_noted z.frames z.cpus s.words k.watch c n q ok)),
-        λ d e. let same : c ≡ d = omega arith in (subst (λ j. get_or k.watch.noted j 0 ≤ n) same low, ap (λ j. (Keeping (watching (having_noted j n) k), [])) same),
+            (keeper_stepped s.words s.words s.homes s.views id k (having_noted c n) h at (
+              refl,
+              λ i _. refl,
+            ) (λ f. refl) refl (λ p. plan_noted z.frames z.cpus s.words k.watch c n inside refl p)
+            (λ _ q ok. pass_noted z.frames z.cpus s.words k.watch c n q ok)),
+        λ d e. let same : c ≡ d = omega arith in (
+          subst (λ j. get_or k.watch.noted j 0 ≤ n) same low,
+          ap (λ j. (Keeping (watching (having_noted j n) k), [])) same,
+        ),
       )

@@ -11,8 +11,10 @@ use Rattle.live_pages.specs.Turns.{current}
 use Rattle.live_pages.specs.Kept.{AreOfBindings, HaveLeft}
 
 -- a touch of this binding
-pub after_here : (given : Given) (f b : ℕ) (e : Made) (es : List Made) → e.frame ≡ f → e.binding ≡ b → after given f b (e ∷ es) ≡ touched e.touch (after given f b es)
-after_here given f b e es frame binding = ap (λ t. touched_if t e.touch (after given f b es)) (ap (λ t. t && eqb e.binding b) (eq-eqb e.frame f frame) ∙ eq-eqb e.binding b binding)
+pub after_here : (given : Given) (f b : ℕ) (e : Made) (es : List Made) → e.frame ≡ f → e.binding ≡ b
+    → after given f b (e ∷ es) ≡ touched e.touch (after given f b es)
+after_here given f b e es frame binding = ap (λ t. touched_if t e.touch (after given f b es)) (ap (λ t. t && eqb e.binding b) (eq-eqb e.frame f frame)
+    ∙ eq-eqb e.binding b binding)
 
 -- a touch of another frame
 pub after_frame : (given : Given) (f b : ℕ) (e : Made) (es : List Made) → e.frame ≢ f → after given f b (e ∷ es) ≡ after given f b es
@@ -24,7 +26,8 @@ and_false false = refl
 
 -- a touch of another binding
 pub after_binding : (given : Given) (f b : ℕ) (e : Made) (es : List Made) → e.binding ≢ b → after given f b (e ∷ es) ≡ after given f b es
-after_binding given f b e es binding = ap (λ t. touched_if t e.touch (after given f b es)) (ap (λ t. eqb e.frame f && t) (ne_eqb e.binding b binding) ∙ and_false (eqb e.frame f))
+after_binding given f b e es binding = ap (λ t. touched_if t e.touch (after given f b es)) (ap (λ t. eqb e.frame f && t) (ne_eqb e.binding b binding)
+    ∙ and_false (eqb e.frame f))
 
 -- only what the binding itself was given counts
 pub after_given : (given given' : Given) (f b : ℕ) (es : List Made) → given' f b ≡ given f b → after given' f b es ≡ after given f b es
@@ -45,26 +48,33 @@ pub regiven_binding : (f b : ℕ) (page : List ℕ) (given : Given) (g c : ℕ) 
 regiven_binding f b page given g c other = ap (λ t. cond t page (given g c)) (ap (λ t. eqb g f && t) (ne_eqb c b other) ∙ and_false (eqb g f))
 
 -- another page for a binding that no touch is of changes no other page, and no touch
-pub after_else : (f b : ℕ) (page : List ℕ) (given : Given) (g c : ℕ) (es : List Made) → (g ≢ f) ⊎ (c ≢ b) → after (regiven f b page given) g c es ≡ after given g c es
-after_else f b page given g c es other = after_given given (regiven f b page given) g c es (⊎_elim (λ (o : g ≢ f). regiven_frame f b page given g c o) (λ (o : c ≢ b). regiven_binding f b page given g c o) other)
+pub after_else : (f b : ℕ) (page : List ℕ) (given : Given) (g c : ℕ) (es : List Made) → (g ≢ f) ⊎ (c ≢ b)
+    → after (regiven f b page given) g c es ≡ after given g c es
+after_else f b page given g c es other = after_given given (regiven f b page given) g c es
+    (⊎_elim (λ (o : g ≢ f). regiven_frame f b page given g c o) (λ (o : c ≢ b). regiven_binding f b page given g c o) other)
 
 not_after : (b c : ℕ) → b ≤ c → b ≢ c + 1
 not_after b c low e = omega arith
 
 -- no touch is yet of the binding after the current one
-pub after_next : (cpus : ℕ) (plan : Watch) (f : ℕ) (page : List ℕ) (given : Given) (es : List Made) → AreOfBindings cpus plan es → after (regiven f (current plan f + 1) page given) f (current plan f + 1) es ≡ page
+pub after_next : (cpus : ℕ) (plan : Watch) (f : ℕ) (page : List ℕ) (given : Given) (es : List Made) → AreOfBindings cpus plan es
+    → after (regiven f (current plan f + 1) page given) f (current plan f + 1) es ≡ page
 after_next cpus plan f page given [] ok = regiven_here f (current plan f + 1) page given
 after_next cpus plan f page given (e ∷ es) ok =
     dite (ℕ_discrete e.frame f)
     (λ (same : e.frame ≡ f). let low = subst (λ g. e.binding ≤ current plan g) same ok.2 in
-    after_binding (regiven f (current plan f + 1) page given) f (current plan f + 1) e es (not_after e.binding (current plan f) low) ∙ after_next cpus plan f page given es ok.0)
-    (λ (other : e.frame ≢ f). after_frame (regiven f (current plan f + 1) page given) f (current plan f + 1) e es other ∙ after_next cpus plan f page given es ok.0)
+    after_binding (regiven f (current plan f + 1) page given) f (current plan f + 1) e es (not_after e.binding (current plan f) low)
+    ∙ after_next cpus plan f page given es ok.0)
+    (λ (other : e.frame ≢ f). after_frame (regiven f (current plan f + 1) page given) f (current plan f + 1) e es other
+    ∙ after_next cpus plan f page given es ok.0)
 
 -- a binding that was had is not the next one of frame f
 not_next : (plan : Watch) (f g b : ℕ) → b ≤ current plan g → (g ≢ f) ⊎ (b ≢ current plan f + 1)
-not_next plan f g b low = dite (ℕ_discrete g f) (λ (same : g ≡ f). inr (not_after b (current plan f) (subst (λ k. b ≤ current plan k) same low))) (λ (other : g ≢ f). inl other)
+not_next plan f g b low = dite (ℕ_discrete g f) (λ (same : g ≡ f). inr (not_after b (current plan f) (subst (λ k. b ≤ current plan k) same low)))
+    (λ (other : g ≢ f). inl other)
 
-pub legal_next : (cpus : ℕ) (plan : Watch) (f : ℕ) (page : List ℕ) (given : Given) (es : List Made) → AreOfBindings cpus plan es → IsLegal given es → IsLegal (regiven f (current plan f + 1) page given) es
+pub legal_next : (cpus : ℕ) (plan : Watch) (f : ℕ) (page : List ℕ) (given : Given) (es : List Made) → AreOfBindings cpus plan es → IsLegal given es
+    → IsLegal (regiven f (current plan f + 1) page given) es
 legal_next cpus plan f page given [] ok legal = tt
 legal_next cpus plan f page given (e ∷ es) ok legal = (
   legal_next cpus plan f page given es ok.0 legal.0,
@@ -84,7 +94,8 @@ le_both a b = omega arith
 lt_both : {x y n : ℕ} → x ≤ y → n < x → n < y
 lt_both a b = omega arith
 
-pub left_next : (plan : Watch) (f : ℕ) (page : List ℕ) (given : Given) (log : List Made) (bs : List Bound) → HaveLeft given plan log bs → HaveLeft (regiven f (current plan f + 1) page given) plan log bs
+pub left_next : (plan : Watch) (f : ℕ) (page : List ℕ) (given : Given) (log : List Made) (bs : List Bound) → HaveLeft given plan log bs
+    → HaveLeft (regiven f (current plan f + 1) page given) plan log bs
 left_next plan f page given log [] ok = tt
 left_next plan f page given log (b ∷ bs) ok = (
   left_next plan f page given log bs ok.0,
@@ -94,11 +105,13 @@ left_next plan f page given log (b ∷ bs) ok = (
 )
 
 -- where no frame's current binding is lower, touches and ended bindings stay in order
-pub bindings_stay : (cpus : ℕ) (plan plan' : Watch) (es : List Made) → ((f : ℕ) → current plan f ≤ current plan' f) → AreOfBindings cpus plan es → AreOfBindings cpus plan' es
+pub bindings_stay : (cpus : ℕ) (plan plan' : Watch) (es : List Made) → ((f : ℕ) → current plan f ≤ current plan' f) → AreOfBindings cpus plan es
+    → AreOfBindings cpus plan' es
 bindings_stay cpus plan plan' [] up ok = tt
 bindings_stay cpus plan plan' (e ∷ es) up ok = (bindings_stay cpus plan plan' es up ok.0, ok.1, le_both (up e.frame) ok.2)
 
-pub left_stays : (given : Given) (plan plan' : Watch) (log : List Made) (bs : List Bound) → ((f : ℕ) → current plan f ≤ current plan' f) → HaveLeft given plan log bs → HaveLeft given plan' log bs
+pub left_stays : (given : Given) (plan plan' : Watch) (log : List Made) (bs : List Bound) → ((f : ℕ) → current plan f ≤ current plan' f)
+    → HaveLeft given plan log bs → HaveLeft given plan' log bs
 left_stays given plan plan' log [] up ok = tt
 left_stays given plan plan' log (b ∷ bs) up ok = (left_stays given plan plan' log bs up ok.0, lt_both (up b.frame) ok.1, ok.2, ok.3)
 
@@ -106,14 +119,16 @@ not_below : (x y : ℕ) → y < x → y ≡ x → ⊥
 not_below x y l e = omega arith
 
 -- one more touch of a current binding leaves the bindings that have ended
-pub left_touched : (given : Given) (plan : Watch) (log : List Made) (bs : List Bound) (e : Made) → e.binding ≡ current plan e.frame → HaveLeft given plan log bs → HaveLeft given plan (e ∷ log) bs
+pub left_touched : (given : Given) (plan : Watch) (log : List Made) (bs : List Bound) (e : Made) → e.binding ≡ current plan e.frame → HaveLeft given plan log bs
+    → HaveLeft given plan (e ∷ log) bs
 left_touched given plan log [] e is ok = tt
 left_touched given plan log (b ∷ bs) e is ok = (
   left_touched given plan log bs e is ok.0,
   ok.1,
   ok.2
       ∙ dite (ℕ_discrete e.frame b.frame)
-      (λ (same : e.frame ≡ b.frame). sym (after_binding given b.frame b.binding e log (λ hit. not_below (current plan b.frame) b.binding ok.1 (sym hit ∙ is ∙ ap (current plan) same))))
+      (λ (same : e.frame ≡ b.frame). sym (after_binding given b.frame b.binding e log
+      (λ hit. not_below (current plan b.frame) b.binding ok.1 (sym hit ∙ is ∙ ap (current plan) same))))
       (λ (other : e.frame ≢ b.frame). sym (after_frame given b.frame b.binding e log other)),
   ok.3,
 )
@@ -143,7 +158,8 @@ mine_below n cpu [] ok = tt
 mine_below n cpu (e ∷ es) ok = below_if (eqb e.cpu cpu) n e (mine cpu es) (mine_below n cpu es ok.0) ok.1
 
 pub own_below : (given : Given) (log made : List Made) (n cpu : ℕ) → IsLegal given log → made ≡ mine cpu log → n ≡ length log → AreBelow n made
-own_below given log made n cpu legal own count = subst (λ (x : ℕ × List Made). AreBelow x.0 x.1) (λ i. (sym count i, sym own i)) (mine_below (length log) cpu log (all_below given log legal))
+own_below given log made n cpu legal own count = subst (λ (x : ℕ × List Made). AreBelow x.0 x.1) (λ i. (sym count i, sym own i))
+    (mine_below (length log) cpu log (all_below given log legal))
 
 -- how many touches are of the first n processors
 abbrev pub count_below : ℕ → List Made → ℕ
@@ -154,7 +170,8 @@ count_none : (n : ℕ) → count_below n [] ≡ 0
 count_none zero = refl
 count_none (suc n) = let h = count_none n in omega arith
 
-count_more : (n : ℕ) (e : Made) (es : List Made) → (e.cpu < n → count_below n (e ∷ es) ≡ count_below n es + 1) × (n ≤ e.cpu → count_below n (e ∷ es) ≡ count_below n es)
+count_more : (n : ℕ) (e : Made) (es : List Made) → (e.cpu < n → count_below n (e ∷ es) ≡ count_below n es + 1)
+    × (n ≤ e.cpu → count_below n (e ∷ es) ≡ count_below n es)
 count_more zero e es = ((λ l. absurd (omega arith)), λ l. refl)
 count_more (suc n) e es =
     let before = count_more n e es in (
@@ -173,7 +190,8 @@ count_few zero m es few = omega arith
 count_few (suc n) m es few = let a = count_few n m es few in let b = few n in let c = suc-mul n m in omega arith
 
 -- so the tickets do not wrap
-pub tickets_fit : (cpus : ℕ) (plan : Watch) (es : List Made) → cpus ≤ 8 → AreOfBindings cpus plan es → ((cpu : ℕ) → length (mine cpu es) ≤ 2 ^ 32) → length es ≤ 8 * 2 ^ 32
+pub tickets_fit : (cpus : ℕ) (plan : Watch) (es : List Made) → cpus ≤ 8 → AreOfBindings cpus plan es → ((cpu : ℕ) → length (mine cpu es) ≤ 2 ^ 32)
+    → length es ≤ 8 * 2 ^ 32
 tickets_fit cpus plan es low ok few =
     let a : count_below cpus es ≤ cpus * 2 ^ 32 = count_few cpus (2 ^ 32) es few in
     let b = count_all cpus plan es ok in

@@ -22,7 +22,8 @@ puts = record { ticket = 2; cpu = 0; frame = 0; binding = 1; touch = Put 3 7; wo
 abbrev row_end : Holder
 row_end = record (first_holder 1 2) {
   watch = record (first_watch 1 2 1) { doors = 4 ∷ [] };
-  ended = record { frame = 0; binding = 1; left = set (replicate 1024 0) 3 7; next = replicate 1024 0 } ∷ record { frame = 0; binding = 0; left = replicate 1024 0; next = replicate 1024 0 } ∷ [];
+  ended = record { frame = 0; binding = 1; left = set (replicate 1024 0) 3 7; next = replicate 1024 0 } ∷ record
+      { frame = 0; binding = 0; left = replicate 1024 0; next = replicate 1024 0 } ∷ [];
   parts = In (puts ∷ adds ∷ []) ∷ In (reads ∷ []) ∷ [];
 }
 
@@ -39,5 +40,7 @@ page_of_row : pages_after row_end 0 1 ≡ set (replicate 1024 0) 3 7
 page_of_row = refl
 
 bindings_of_row : all_bindings (replicate 1024 0 ∷ []) row_end
-    ≡ record { frame = 0; number = 0; given = replicate 1024 0; left = replicate 1024 0 } ∷ record { frame = 0; number = 1; given = replicate 1024 0; left = set (replicate 1024 0) 3 7 } ∷ record { frame = 0; number = 2; given = replicate 1024 0; left = replicate 1024 0 } ∷ []
+    ≡ record { frame = 0; number = 0; given = replicate 1024 0; left = replicate 1024 0 } ∷ record
+    { frame = 0; number = 1; given = replicate 1024 0; left = set (replicate 1024 0) 3 7 } ∷ record
+    { frame = 0; number = 2; given = replicate 1024 0; left = replicate 1024 0 } ∷ []
 bindings_of_row = refl

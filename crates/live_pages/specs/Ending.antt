@@ -57,7 +57,13 @@ ended_bindings given (b ∷ bs) = ended_bindings given bs ++ record { frame = b.
 -- the last binding of each of the first frames, where these pages are left
 abbrev pub last_bindings : ℕ → List (List ℕ) → Holder → List Binding
 last_bindings zero pages k = []
-last_bindings (suc f) pages k = last_bindings f pages k ++ record { frame = f; number = current k.watch f; given = page_given k.ended f (current k.watch f); left = slice_index_or pages f [] } ∷ []
+last_bindings (suc f) pages k = last_bindings f pages k ++ record {
+  frame = f;
+  number = current k.watch f;
+  given =
+      page_given k.ended f (current k.watch f);
+  left = slice_index_or pages f [];
+} ∷ []
 
 -- all bindings, where these pages are left
 abbrev pub all_bindings : List (List ℕ) → Holder → List Binding
@@ -94,5 +100,6 @@ EndIsLegal frames cpus homes k = IsOfOneThread cpus k × All (IsLeftAfterAll k) 
 
 -- Once the keeper has taken every pass in, the end is legal.
 abbrev pub AllInIsLegal : Type 0
-AllInIsLegal = (z : Size) (words : List ℕ) (homes : List (M.Option (Option Held))) (views : List View) (seat : ℕ) (k : Holder) → Kept z words homes views → get_elem? views seat ≡ M.some (Keeping k) → k.hand ≡ Free → AllIn z.cpus k
+AllInIsLegal = (z : Size) (words : List ℕ) (homes : List (M.Option (Option Held))) (views : List View) (seat : ℕ) (k : Holder) → Kept z words homes views
+    → get_elem? views seat ≡ M.some (Keeping k) → k.hand ≡ Free → AllIn z.cpus k
     → EndIsLegal z.frames z.cpus homes k

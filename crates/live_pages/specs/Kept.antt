@@ -29,7 +29,8 @@ AreOfBindings cpus plan (e ∷ es) = AreOfBindings cpus plan es × (e.cpu < cpus
 -- Each binding that has ended left the page that its touches made, and the next one was given the page that is named.
 abbrev pub HaveLeft : Given → Watch → List Made → List Bound → Type 0
 HaveLeft given plan log [] = Unit {0}
-HaveLeft given plan log (b ∷ bs) = HaveLeft given plan log bs × (b.binding < current plan b.frame) × (b.left ≡ after given b.frame b.binding log) × (b.next ≡ given b.frame (b.binding + 1))
+HaveLeft given plan log (b ∷ bs) = HaveLeft given plan log bs × (b.binding < current plan b.frame) × (b.left ≡ after given b.frame b.binding log)
+    × (b.next ≡ given b.frame (b.binding + 1))
 
 -- What the words say besides doors, stamps and acknowledgements: the tickets count the touches, which are those of one thread.
 -- No processor makes more than 2^32, so the tickets never wrap.
@@ -79,8 +80,10 @@ pub record WalkerOk (frames cpus : ℕ) (words : List ℕ) (plan : Holder) (hold
   pub out : slice_index_or plan.parts w.walk.cpu Out ≡ Out
 
 abbrev pub SeatOk : ℕ → ℕ → List ℕ → Holder → ℕ → (ℕ → ℕ) → (ℕ → ℕ) → Given → List Made → ℕ → View → Type 0
-SeatOk frames cpus words plan keeper seat_of holder given log seat (Passing w) = (seat_of w.walk.cpu ≡ seat) × WalkerOk frames cpus words plan holder given log seat w
-SeatOk frames cpus words plan keeper seat_of holder given log seat (Keeping k) = (keeper ≡ seat) × (k ≡ plan) × HandOk frames cpus words plan.watch holder given log seat k.hand
+SeatOk frames cpus words plan keeper seat_of holder given log seat (Passing w) = (seat_of w.walk.cpu ≡ seat)
+    × WalkerOk frames cpus words plan holder given log seat w
+SeatOk frames cpus words plan keeper seat_of holder given log seat (Keeping k) = (keeper ≡ seat) × (k ≡ plan)
+    × HandOk frames cpus words plan.watch holder given log seat k.hand
 SeatOk frames cpus words plan keeper seat_of holder given log seat (Spent k) = Unit {0}
 
 -- The rule: there are a plan, the keeper's seat, a seat for each processor, a holder for each turn, a page that each binding
@@ -101,10 +104,15 @@ pub record Kept (z : Size) (words : List ℕ) (homes : List (M.Option (Option He
 abbrev pub AllIn : ℕ → Holder → Type 0
 AllIn cpus k = (cpu : ℕ) → cpu < cpus → (made : List Made) × (slice_index_or k.parts cpu Out ≡ In made)
 
+-- wherever the rule holds and a pass holds these entries, this is the binding of frame f, by its door
+abbrev pub IsCurrent : Walk → ℕ → ℕ → Type 0
+IsCurrent p f b = (z : Size) (words : List ℕ) (homes : List (M.Option (Option Held))) (views : List View) (seat : ℕ) (w : Walker)
+    → Kept z words homes views → get_elem? views seat ≡ M.some (Passing w) → w.walk.held ≡ p.held → f < z.frames
+    → slice_index words (door_at f) / 2 ≡ b
+
 -- The binding that a pass's entry names is the frame's at that moment.
 abbrev pub EntryIsCurrent : Type 0
-EntryIsCurrent = (z : Size) (words : List ℕ) (homes : List (M.Option (Option Held))) (views : List View) (seat : ℕ) (w : Walker) (f b : ℕ) → Kept z words homes views → get_elem? views seat ≡ M.some (Passing w) → f < z.frames
-    → slice_index_or w.walk.held f None ≡ Some b → slice_index words (door_at f) / 2 ≡ b
+EntryIsCurrent = (p : Walk) (f b : ℕ) → slice_index_or p.held f None ≡ Some b → IsCurrent p f b
 
 -- no pass holds an entry of frame f
 abbrev pub NoHolder : List View → ℕ → Type 0
@@ -112,7 +120,8 @@ NoHolder views f = (seat : ℕ) (w : Walker) → get_elem? views seat ≡ M.some
 
 -- wherever the rule holds and this is what the keeper knows, no pass holds an entry of frame f
 abbrev pub HasNoHolder : Holder → ℕ → Type 0
-HasNoHolder k f = (z : Size) (words : List ℕ) (homes : List (M.Option (Option Held))) (views : List View) (seat : ℕ) → Kept z words homes views → get_elem? views seat ≡ M.some (Keeping k) → NoHolder views f
+HasNoHolder k f = (z : Size) (words : List ℕ) (homes : List (M.Option (Option Held))) (views : List View) (seat : ℕ) → Kept z words homes views
+    → get_elem? views seat ≡ M.some (Keeping k) → NoHolder views f
 
 -- no pass holds an entry of a frame that was closed before this stamp was raised, and is closed still
 abbrev pub IsClearOf : Holder → ℕ → Type 0

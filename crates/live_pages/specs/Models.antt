@@ -1,16 +1,18 @@
 -- What callers see of pages, passes and the keeper.
-use Rattle.std.specs.Prelude.{◌≡◌, ℕ, zero, suc, ◌++◌, replicate, Option, ◌<◌, List, [], ◌∷◌, length, slice_index_or, slice_set, Some}
+use Rattle.std.specs.Prelude.{◌≡◌, ℕ, zero, suc, ◌+◌, ◌++◌, replicate, Option, ◌<◌, ◌≤◌, List, [], ◌∷◌, length, slice_index_or, slice_set, Some}
 use mathlib.Core.Option as M
 use lib.ListN.{get_elem?}
 use Rattle.atomic_table.specs.Seated.{TableId}
 use Rattle.live_pages.specs.declared.touch.Touch.{Touch}
 use Rattle.live_pages.specs.declared.views.Hand.TheVariants.{Free, Has}
 use Rattle.live_pages.specs.declared.views.Part.TheVariants.{In}
-use Rattle.live_pages.specs.declared.views.View.TheVariants.{Passing}
+use Rattle.live_pages.specs.declared.views.View.TheVariants.{Passing, Keeping}
+use Rattle.live_doors.specs.Doors.{HasNoted}
 use Rattle.live_pages.specs.declared.rule.Held.{Held}
+use Rattle.live_pages.specs.declared.rule.Size.{Size}
 use Rattle.live_pages.specs.declared.views.Walker.{Walker}
 use Rattle.live_pages.specs.declared.views.Holder.{Holder}
-use Rattle.live_pages.specs.Turns.{Seat, watching, first_holder, first_walker, walker_of, taken, having_made, admitted, current}
+use Rattle.live_pages.specs.Turns.{Seat, watching, first_holder, first_walker, walker_of, holder_of, taken, having_made, admitted, current}
 
 -- which table it is, and how many frames and processors it has
 pub record PagesModel : Type 0 where
@@ -43,6 +45,35 @@ pub record IsKeeperOf (pages : PagesModel) (keeper : KeeperModel) : Type 0 where
   pub since : length keeper.holder.watch.since ≡ pages.frames
   pub cpus : length keeper.holder.watch.noted ≡ pages.cpus
   pub parts : length keeper.holder.parts ≡ pages.cpus
+
+-- what a pass has beside its seat is what the seat knows, and it has no turn
+pub record PassFits (m : Seat) (number : ℕ) (entries : List (Option ℕ)) (last : ℕ) : Type 0 where
+  pub seat : m ≡ (Passing (walker_of m.0), [])
+  pub hand : (walker_of m.0).hand ≡ Free
+  pub cpu : number ≡ (walker_of m.0).walk.cpu
+  pub held : entries ≡ (walker_of m.0).walk.held
+  pub stamp : last ≡ (walker_of m.0).walk.stamp
+
+-- what the keeper has beside its seat is what the seat knows, it has no turn, and from each processor it has an
+-- acknowledgement of the greatest stamp for which all was clear
+pub record KeeperFits (m : Seat) (last : ℕ) (words stamps : List ℕ) (clear : ℕ) : Type 0 where
+  pub seat : m ≡ (Keeping (holder_of m.0), [])
+  pub hand : (holder_of m.0).hand ≡ Free
+  pub request : last ≡ (holder_of m.0).watch.request
+  pub doors : words ≡ (holder_of m.0).watch.doors
+  pub since : stamps ≡ (holder_of m.0).watch.since
+  pub rows : length stamps ≡ length words
+  pub cleared : HasNoted (holder_of m.0).watch clear
+
+-- the table is of this size, and there is room for a page of each frame
+pub record PagesFit (key : Size) (table : TableId) (f c : ℕ) (left : List (List ℕ)) (capacity : ℕ) : Type 0 where
+  pub frames : key.frames ≡ f
+  pub cpus : key.cpus ≡ c
+  pub words : table.words ≡ 1 + f + c + (f + 1)
+  pub slots : table.slots ≡ f
+  pub few : c ≤ 8
+  pub empty : left ≡ []
+  pub room : f ≤ capacity
 
 -- the seat is a pass's that has the turn of frame f, with the page of the slot in hand
 abbrev pub HasInHand : Seat → ℕ → Type 0

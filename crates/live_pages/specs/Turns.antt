@@ -122,11 +122,13 @@ having_made ticket f t word page w = record w {
 
 -- the pass makes the touch that lies with the page in hand, by a ticket above all that it had
 abbrev pub Draws : Told
-Draws s old word new = (f : ℕ) (h : Held) (rest : List (ℕ × Option Held)) → old.1 ≡ (f, Some h) ∷ rest → AreBelow word (walker_of old.0).made × (new ≡ (Passing (having_made word f h.touch h.word h.page (walker_of old.0)), old.1))
+Draws s old word new = (f : ℕ) (h : Held) (rest : List (ℕ × Option Held)) → old.1 ≡ (f, Some h) ∷ rest
+    → AreBelow word (walker_of old.0).made × (new ≡ (Passing (having_made word f h.touch h.word h.page (walker_of old.0)), old.1))
 
 -- the pass has no turn any more, and the slot in hand is back in its place
 abbrev pub Gives : Told
-Gives s old word new = (x : ℕ × Option Held) (rest : List (ℕ × Option Held)) → old.1 ≡ x ∷ rest → new ≡ (Passing (record (walker_of old.0) { hand = Free }), rest)
+Gives s old word new = (x : ℕ × Option Held) (rest : List (ℕ × Option Held)) → old.1 ≡ x ∷ rest
+    → new ≡ (Passing (record (walker_of old.0) { hand = Free }), rest)
 
 -- the keeper found the turn free, and has it with the page that its slot held
 abbrev pub KeeperTakes : Told
@@ -145,14 +147,21 @@ admitted f w = record w { doors = slice_set w.doors f (2 * (current w f + 1)) }
 -- The frame's binding ends with the page that the keeper took out, and the next one begins with this page. `given` is what
 -- each binding of the frame was given.
 abbrev pub bound_anew : ℕ → List ℕ → Holder → Holder
-bound_anew f page k = record k { watch = admitted f k.watch; hand = Has f page; ended = record { frame = f; binding = current k.watch f; left = page_of k.hand; next = page } ∷ k.ended }
+bound_anew f page k = record k {
+  watch = admitted f k.watch;
+  hand = Has f page;
+  ended =
+      record { frame = f; binding = current k.watch f; left = page_of k.hand; next = page } ∷ k.ended;
+}
 
 -- the keeper binds the frame to the page that lies in the slot in hand
 abbrev pub Binds : Told
-Binds s old word new = (f : ℕ) (h : Held) (rest : List (ℕ × Option Held)) → old.1 ≡ (f, Some h) ∷ rest → new ≡ (Keeping (bound_anew f h.page (holder_of old.0)), old.1)
+Binds s old word new = (f : ℕ) (h : Held) (rest : List (ℕ × Option Held)) → old.1 ≡ (f, Some h) ∷ rest
+    → new ≡ (Keeping (bound_anew f h.page (holder_of old.0)), old.1)
 
 abbrev pub KeeperGives : Told
-KeeperGives s old word new = (x : ℕ × Option Held) (rest : List (ℕ × Option Held)) → old.1 ≡ x ∷ rest → new ≡ (Keeping (record (holder_of old.0) { hand = Free }), rest)
+KeeperGives s old word new = (x : ℕ × Option Held) (rest : List (ℕ × Option Held)) → old.1 ≡ x ∷ rest
+    → new ≡ (Keeping (record (holder_of old.0) { hand = Free }), rest)
 
 -- the keeper has made one pass more
 abbrev pub keeper_with_pass : View → View

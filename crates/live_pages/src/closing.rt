@@ -25,9 +25,9 @@ pub struct Ended {
     pub shown: Shown,
 }
 
-/// The last seat of the table, into which all passes were taken. It is seen as what its keeper knew. From that `in_order`
-/// has all touches in order of ticket, and `all_bindings` each binding with the page that it was given and the page that
-/// was handed out at its end or is left.
+/// The last seat of the table, into which all passes were taken. It is seen as what its keeper knew. From that
+/// `in_order` has all touches in order of ticket, and `all_bindings` each binding with the page that it was given and
+/// the page that was handed out at its end or is left.
 #[derive(Drop)]
 pub struct Shown {
     seat: Place,

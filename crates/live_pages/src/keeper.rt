@@ -17,18 +17,14 @@ pub struct Keeper {
 }
 
 impl Model for Keeper {
-    ghost use Rattle.std.specs.Prelude.{◌≡◌, [], vec_len};
-    ghost use Rattle.live_doors.specs.Doors.{HasNoted};
-    ghost use Rattle.live_pages.specs.Models.{KeeperModel};
+    ghost use Rattle.live_pages.specs.Models.{KeeperModel, KeeperFits};
     ghost use Rattle.live_pages.specs.Turns.{holder_of};
-    ghost use Rattle.live_pages.specs.declared.views.Hand.TheVariants.{Free};
-    ghost use Rattle.live_pages.specs.declared.views.View.TheVariants.{Keeping};
 
     ghost Value = { KeeperModel };
 
     ghost view = { λ k. record { table = k.seat.table_id; holder = holder_of k.seat.me.0; cleared = k.cleared } };
 
-    ghost invariant = { λ k. (k.seat.me ≡ (Keeping (holder_of k.seat.me.0), [])) × ((holder_of k.seat.me.0).hand ≡ Free) × (k.request ≡ (holder_of k.seat.me.0).watch.request) × (k.doors.items ≡ (holder_of k.seat.me.0).watch.doors) × (k.since.items ≡ (holder_of k.seat.me.0).watch.since) × (vec_len k.since ≡ vec_len k.doors) × HasNoted (holder_of k.seat.me.0).watch k.cleared };
+    ghost invariant = { λ k. KeeperFits k.seat.me k.request k.doors.items k.since.items k.cleared };
 }
 
 impl Keeper {

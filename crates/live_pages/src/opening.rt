@@ -57,7 +57,8 @@ fn first_slots(alloc: Global, frames: u32) -> Result<Vec<Option<Held>>, AllocErr
 fn first_keeper(alloc: Global, frames: u32, cpus: u32) -> Result<(LivePages, Keeper), AllocError>
     requires { cpus ≤ 8 }
     ensures size { IfOk result (λ made. (made.0.frames ≡ frames) × (made.0.cpus ≡ cpus)) }
-    ensures keeper { IfOk result (λ made. made.1 ≡ record { table = made.0.table; holder = first_holder frames cpus; cleared = 0 }) }
+    ensures keeper { IfOk result (λ made. made.1
+        ≡ record { table = made.0.table; holder = first_holder frames cpus; cleared = 0 }) }
 {
     let words = first_words(alloc, frames, cpus)?;
     let slots = first_slots(alloc, frames)?;
@@ -95,8 +96,10 @@ fn admit(
 ) -> Result<Pass, AllocError>
     requires keeper { IsKeeperOf pages.now keeper.old }
     requires next { (cpu ≡ keeper.old.holder.watch.made) × (cpu < pages.now.cpus) }
-    ensures pass { IfOk result (λ pass. pass ≡ record { table = pages.now.table; walker = first_walker pages.now.frames pages.now.cpus cpu }) }
-    ensures keeper { OnOk result (keeper.new ≡ record keeper.old { holder = watching (λ w. record w { made = cpu + 1 }) keeper.old.holder }) }
+    ensures pass { IfOk result (λ pass. pass
+        ≡ record { table = pages.now.table; walker = first_walker pages.now.frames pages.now.cpus cpu }) }
+    ensures keeper { OnOk result (keeper.new
+        ≡ record keeper.old { holder = watching (λ w. record w { made = cpu + 1 }) keeper.old.holder }) }
 {
     let held = vec![in alloc; None; pages.frames as usize]?;
     let seat = pages.table.shared.split_seat::<Admit>(&mut keeper.seat);
@@ -113,7 +116,8 @@ fn admit_all(alloc: Global, pages: &LivePages, keeper: &mut Keeper) -> Result<Ve
     requires keeper { IsKeeperOf pages.now keeper.old }
     requires first { keeper.old.holder.watch.made ≡ 0 }
     ensures passes { IfOk result (λ passes. passes.items ≡ first_passes pages.now pages.now.cpus) }
-    ensures keeper { OnOk result (keeper.new ≡ record keeper.old { holder = watching (λ w. record w { made = pages.now.cpus }) keeper.old.holder }) }
+    ensures keeper { OnOk result (keeper.new
+        ≡ record keeper.old { holder = watching (λ w. record w { made = pages.now.cpus }) keeper.old.holder }) }
 {
     let mut passes = Vec::with_capacity(alloc, pages.cpus as usize)?;
     for cpu in 0..pages.cpus {

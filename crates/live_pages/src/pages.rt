@@ -1,9 +1,9 @@
 //! The pages behind doors, which passes and the keeper step on.
 ghost use Rattle.std.specs.Prelude.{◌≡◌, ◌≢◌, [], ℕ, ◌+◌, ◌*◌, ◌%◌, ◌^◌, ◌<◌, ◌≤◌, All, max, length, slice_index, OnOk, OnErr, IfOk, IfErr};
 ghost use Rattle.live_doors.specs.Doors.{HoldsEntry, IsAdmitted, OnlyNoted, HasNoted, MayBind, having_read, holding, forgotten, acknowledged, shut, raised, having_noted};
-ghost use Rattle.live_pages.specs.Kept.{IsClearOf, HasNoHolder};
+ghost use Rattle.live_pages.specs.Kept.{IsClearOf, IsCurrent, HasNoHolder};
 ghost use Rattle.live_pages.specs.Touches.{place_of, AreBelow};
-ghost use Rattle.live_pages.specs.Turns.{walking, watching, walker_of, current};
+ghost use Rattle.live_pages.specs.Turns.{walking, watching, walker_of, current, binding_at, turn_at, ticket_at};
 ghost use Rattle.live_pages.specs.declared.views.View.TheVariants.{Passing};
 ghost use Rattle.live_pages.specs.Models.{HasInHand, touched_in_hand, IsPassOf, IsKeeperOf, SameButWatch, having_touched, rebound, opening_holder, first_passes, AreAll};
 
@@ -16,6 +16,7 @@ use crate::rule::{
     Look, Place, Raise, Take,
 };
 use crate::touch::{Touch, Touched};
+use live_doors::{REQUEST, acknowledgement_word, door_word};
 use mword::Page;
 use std::alloc::Global;
 use std::marker::Model;
@@ -32,19 +33,20 @@ pub struct LivePages {
 }
 
 impl Model for LivePages {
-    ghost use Rattle.std.specs.Prelude.{◌≡◌, [], ◌+◌, ◌≤◌, vec_capacity};
-    ghost use Rattle.live_pages.specs.Models.{PagesModel};
+    ghost use Rattle.std.specs.Prelude.{vec_capacity};
+    ghost use Rattle.live_pages.specs.Models.{PagesModel, PagesFit};
 
     ghost Value = { PagesModel };
 
     ghost view = { λ d. record { table = d.table.shared.table_id; frames = d.frames; cpus = d.cpus } };
 
-    ghost invariant = { λ d. (d.table.shared.key.frames ≡ d.frames) × (d.table.shared.key.cpus ≡ d.cpus) × (d.table.shared.table_id.words ≡ 1 + d.frames + d.cpus + (d.frames + 1)) × (d.table.shared.table_id.slots ≡ d.frames) × (d.cpus ≤ 8) × (d.room.items ≡ []) × (d.frames ≤ vec_capacity d.room) };
+    ghost invariant = { λ d.
+        PagesFit d.table.shared.key d.table.shared.table_id d.frames d.cpus d.room.items (vec_capacity d.room) };
 }
 
 impl LivePages {
-    /// Pages of zeros for `frames` frames, their keeper, and a pass for each of `cpus` processors, in order. No frame is
-    /// bound: every door has the word 1. No stamp is raised and no ticket drawn.
+    /// Pages of zeros for `frames` frames, their keeper, and a pass for each of `cpus` processors, in order. No frame
+    /// is bound: every door has the word 1. No stamp is raised and no ticket drawn.
     ///
     /// Takes memory for the pages, for two words a frame and one a processor, and for the rows of keeper and passes.
     /// `NoMemory` comes only from the allocator. Source: own.
@@ -74,11 +76,13 @@ impl LivePages {
         requires frame { f < self.now.frames }
         ensures pass { IsPassOf self.now pass.new }
         ensures bound { IfOk result (λ b. 1 ≤ b) }
-        ensures admitted { IfOk result (λ b. pass.new.walker ≡ walking (λ p. holding f b (having_read (2 * b) p)) pass.old.walker) }
-        ensures closed { IfErr result (λ e. (e.word % 2 ≡ 1) × (pass.new.walker ≡ walking (having_read e.word) pass.old.walker)) }
+        ensures admitted { IfOk result (λ b. pass.new.walker
+            ≡ walking (λ p. holding f b (having_read (2 * b) p)) pass.old.walker) }
+        ensures closed { IfErr result (λ e. (e.word % 2 ≡ 1)
+            × (pass.new.walker ≡ walking (having_read e.word) pass.old.walker)) }
     {
         let words = &self.table.shared;
-        let word = words.load::<Fill>(&mut pass.seat, 1 + f as usize);
+        let word = words.load::<Fill>(&mut pass.seat, door_word(f));
         if word % 2 == 1 {
             return Err(Closed { word });
         }
@@ -96,7 +100,7 @@ impl LivePages {
         ensures forgotten { pass.new.walker ≡ walking (forgotten result) pass.old.walker }
     {
         let words = &self.table.shared;
-        let stamp = words.load::<Forget>(&mut pass.seat, 0);
+        let stamp = words.load::<Forget>(&mut pass.seat, REQUEST);
         pass.stamp = stamp;
         pass.held.fill(None);
         stamp
@@ -112,7 +116,7 @@ impl LivePages {
         ensures acknowledged { pass.new.walker ≡ walking acknowledged pass.old.walker }
     {
         let words = &self.table.shared;
-        let word = 1 + self.frames as usize + pass.cpu as usize;
+        let word = acknowledgement_word(self.frames, pass.cpu);
         let stamp = pass.stamp;
         words.store::<Acknowledge>(&mut pass.seat, word, stamp);
     }
@@ -129,7 +133,7 @@ impl LivePages {
     {
         let words = &self.table.shared;
         let door = keeper.doors[f as usize] + 1;
-        words.store::<CloseDoor>(&mut keeper.seat, 1 + f as usize, door);
+        words.store::<CloseDoor>(&mut keeper.seat, door_word(f), door);
         keeper.doors[f as usize] = door;
         keeper.since[f as usize] = keeper.request;
     }
@@ -145,7 +149,7 @@ impl LivePages {
     {
         let words = &self.table.shared;
         let stamp = keeper.request + 1;
-        words.store::<Raise>(&mut keeper.seat, 0, stamp);
+        words.store::<Raise>(&mut keeper.seat, REQUEST, stamp);
         keeper.request = stamp;
         stamp
     }
@@ -158,7 +162,7 @@ impl LivePages {
         ensures noted { keeper.new.holder ≡ watching (having_noted cpu result) keeper.old.holder }
         ensures cleared { keeper.new.cleared ≡ keeper.old.cleared }
     {
-        let word = 1 + self.frames as usize + cpu as usize;
+        let word = acknowledgement_word(self.frames, cpu);
         self.table.shared.load::<Look>(&mut keeper.seat, word)
     }
 
@@ -177,9 +181,12 @@ impl LivePages {
         ensures looked { OnOk result (keeper.new.holder.watch.looks ≡ keeper.old.holder.watch.looks + self.now.cpus) }
         ensures cleared { OnOk result (keeper.new.cleared ≡ max keeper.old.cleared stamp) }
         ensures behind { IfErr result (λ b. (b.cpu < self.now.cpus) × (b.seen < stamp)) }
-        ensures seen { IfErr result (λ b. (keeper.new.holder.watch.last ≡ b.seen) × (slice_index keeper.new.holder.watch.noted b.cpu ≡ b.seen)) }
-        ensures looked_so_far { IfErr result (λ b. keeper.new.holder.watch.looks ≡ keeper.old.holder.watch.looks + b.cpu + 1) }
-        ensures first { IfErr result (λ b. (cpu : ℕ) → cpu < b.cpu → stamp ≤ slice_index keeper.new.holder.watch.noted cpu) }
+        ensures seen { IfErr result (λ b. (keeper.new.holder.watch.last ≡ b.seen)
+            × (slice_index keeper.new.holder.watch.noted b.cpu ≡ b.seen)) }
+        ensures looked_so_far { IfErr result (λ b. keeper.new.holder.watch.looks
+            ≡ keeper.old.holder.watch.looks + b.cpu + 1) }
+        ensures first { IfErr result (λ b. (cpu : ℕ) → cpu < b.cpu
+            → stamp ≤ slice_index keeper.new.holder.watch.noted cpu) }
         ensures not_cleared { OnErr result (keeper.new.cleared ≡ keeper.old.cleared) }
     {
         for cpu in 0..self.cpus {
@@ -195,9 +202,16 @@ impl LivePages {
     // The word of a frame's turn.
     fn turn_word(&self, f: u32) -> usize
         requires { f < self.now.frames }
-        ensures { result ≡ 1 + self.now.frames + self.now.cpus + f }
+        ensures { result ≡ turn_at self.now.frames self.now.cpus f }
     {
         1 + self.frames as usize + self.cpus as usize + f as usize
+    }
+
+    // The word of the number of tickets that were drawn.
+    fn ticket_word(&self) -> usize
+        ensures { result ≡ ticket_at self.now.frames self.now.cpus }
+    {
+        1 + self.frames as usize + self.cpus as usize + self.frames as usize
     }
 
     // Touches the page that the pass has the turn of, draws the ticket, and gives the turn back.
@@ -209,7 +223,8 @@ impl LivePages {
         requires few { length (walker_of seat.old.me.0).made < 2 ^ 32 }
         ensures seat { (seat.new.table_id ≡ seat.old.table_id) × (seat.new.id ≡ seat.old.id) }
         ensures above { AreBelow result.ticket (walker_of seat.old.me.0).made }
-        ensures touched { seat.new.me ≡ (Passing (touched_in_hand result.ticket f t result.word (walker_of seat.old.me.0)), []) }
+        ensures touched { seat.new.me
+            ≡ (Passing (touched_in_hand result.ticket f t result.word (walker_of seat.old.me.0)), []) }
     {
         let words = &self.table.shared;
         let Some(mut held) = words.exchange(seat, f as usize, None) else {
@@ -217,13 +232,13 @@ impl LivePages {
         };
         let word = held.touch(t);
         words.exchange(seat, f as usize, Some(held));
-        let tickets = self.turn_word(f) + (self.frames - f) as usize;
-        let ticket = words.fetch_add::<Draw>(seat, tickets, 1);
+        let ticket = words.fetch_add::<Draw>(seat, self.ticket_word(), 1);
         words.store::<Give>(seat, self.turn_word(f), 0);
         Touched { ticket, word }
     }
 
-    /// Touches a word of frame `f`'s page, by a ticket above all that were drawn before, and answers it.
+    /// Touches a word of frame `f`'s page, by a ticket above all that this pass drew before, and answers it. The touch
+    /// is of the binding that the pass's entry names, which is the frame's at that moment.
     ///
     /// `Busy` comes exactly where the turn's word, which this call read, was not 0; no touch is then made. A few steps
     /// on words; takes no memory and never waits. Source: own.
@@ -234,9 +249,12 @@ impl LivePages {
         requires place { place_of t < 1024 }
         requires few { length pass.old.walker.made < 2 ^ 32 }
         ensures pass { IsPassOf self.now pass.new }
+        ensures current { IfOk result (λ done. IsCurrent pass.old.walker.walk f (binding_at pass.old.walker.walk f)) }
         ensures above { IfOk result (λ done. AreBelow done.ticket pass.old.walker.made) }
-        ensures touched { IfOk result (λ done. pass.new.walker ≡ having_touched done.ticket f t done.word pass.old.walker) }
-        ensures busy { IfErr result (λ e. (e.word ≢ 0) × (pass.new.walker ≡ walking (having_read e.word) pass.old.walker)) }
+        ensures touched { IfOk result (λ done. pass.new.walker
+            ≡ having_touched done.ticket f t done.word pass.old.walker) }
+        ensures busy { IfErr result (λ e. (e.word ≢ 0)
+            × (pass.new.walker ≡ walking (having_read e.word) pass.old.walker)) }
     {
         let words = &self.table.shared;
         let turn = self.turn_word(f);
@@ -247,8 +265,8 @@ impl LivePages {
         Ok(self.touch_in_hand(&mut pass.seat, f, t))
     }
 
-    /// Gives frame `f` a new page, and hands out the old one, which no touch can reach any more. The door admits the next
-    /// binding. No pass holds an entry of the frame, so nobody has its turn.
+    /// Gives frame `f` a new page, and hands out the old one, which no touch can reach any more. The door admits the
+    /// next binding. No pass holds an entry of the frame, so nobody has its turn.
     ///
     /// A few steps on words; takes no memory and never waits. Source: own.
     pub fn bind(&self, keeper: &mut Keeper, f: u32, page: Page) -> Page
@@ -274,7 +292,7 @@ impl LivePages {
         } = held;
         let new = Held { page, touch, word };
         words.exchange(&mut keeper.seat, f as usize, Some(new));
-        words.store::<Bind>(&mut keeper.seat, 1 + f as usize, door);
+        words.store::<Bind>(&mut keeper.seat, door_word(f), door);
         words.store::<KeeperGive>(&mut keeper.seat, self.turn_word(f), 0);
         keeper.doors[f as usize] = door;
         old

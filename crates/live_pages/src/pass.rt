@@ -16,17 +16,14 @@ pub struct Pass {
 }
 
 impl Model for Pass {
-    ghost use Rattle.std.specs.Prelude.{◌≡◌, []};
-    ghost use Rattle.live_pages.specs.Models.{PassModel};
+    ghost use Rattle.live_pages.specs.Models.{PassModel, PassFits};
     ghost use Rattle.live_pages.specs.Turns.{walker_of};
-    ghost use Rattle.live_pages.specs.declared.views.Hand.TheVariants.{Free};
-    ghost use Rattle.live_pages.specs.declared.views.View.TheVariants.{Passing};
 
     ghost Value = { PassModel };
 
     ghost view = { λ p. record { table = p.seat.table_id; walker = walker_of p.seat.me.0 } };
 
-    ghost invariant = { λ p. (p.seat.me ≡ (Passing (walker_of p.seat.me.0), [])) × ((walker_of p.seat.me.0).hand ≡ Free) × (p.cpu ≡ (walker_of p.seat.me.0).walk.cpu) × (p.held.items ≡ (walker_of p.seat.me.0).walk.held) × (p.stamp ≡ (walker_of p.seat.me.0).walk.stamp) };
+    ghost invariant = { λ p. PassFits p.seat.me p.cpu p.held.items p.stamp };
 }
 
 impl Pass {

@@ -32,8 +32,8 @@ pub struct Holder {
     pub parts: [Part; 0],
 }
 
-/// What a seat knows: a pass, the keeper, or one that steps no more. That is a pass that was taken in, and at the end the
-/// seat that shows what the keeper knew.
+/// What a seat knows: a pass, the keeper, or one that steps no more. That is a pass that was taken in, and at the end
+/// the seat that shows what the keeper knew.
 pub enum View {
     Passing(Walker),
     Keeping(Holder),

@@ -3,4 +3,9 @@ use Rattle.live_pages.proofs.Calls.{acknowledges_at}
 use Rattle.live_pages.proofs.pages.LivePages.acknowledge.Goals as goal
 
 pub store-requires : goal.store-requires
-store-requires c = (search rules, search rules, acknowledges_at c.self.inside.table.shared.key _ _ c.pass.inside.seat.me _ _ c.pass.invariant.0 c.pass.invariant.1 (search rules) (search rules) c.pass.invariant.4)
+store-requires c = (
+  search rules,
+  search rules,
+  acknowledges_at c.self.inside.table.shared.key _ _ c.pass.inside.seat.me _ _ c.pass.invariant.seat
+      c.pass.invariant.hand (search rules) (search rules) c.pass.invariant.stamp,
+)

@@ -9,29 +9,62 @@ use Rattle.live_pages.proofs.Calls.{fills_at, pass_fits, pass_stays_of}
 use Rattle.live_pages.proofs.pages.LivePages.fill.Goals as goal
 
 pub load-word-requires : goal.load-word-requires
-load-word-requires c = (search rules, search rules, fills_at c.self.inside.table.shared.key _ _ c.pass.inside.seat.me c.args.f c.pass.invariant.0 c.pass.invariant.1 (search rules))
+load-word-requires c = (
+  search rules,
+  search rules,
+  rw c.door_word.ensures
+      (fills_at c.self.inside.table.shared.key _ _ c.pass.inside.seat.me c.args.f c.pass.invariant.seat c.pass.invariant.hand (search rules)),
+)
 
 pub invariant_of-pass : goal.invariant_of-pass
-invariant_of-pass c = pass_fits c.load-word.new.seat.me _ _ _ _ (((c.load-word.ensures.2 c.args.f refl).1 ∙ ap (λ cs. (Passing (walking (filled c.args.f c.load-word.result) (walker_of c.pass.inside.seat.me.0)), cs)) (ap (λ m. m.1) c.pass.invariant.0)) ∙ ap (λ q. (Passing (record (walker_of c.pass.inside.seat.me.0) { walk = q }), [])) (filled_odd c.args.f c.load-word.result (walker_of c.pass.inside.seat.me.0).walk (search rules))) c.pass.invariant.1 c.pass.invariant.2 c.pass.invariant.3 c.pass.invariant.4
+invariant_of-pass c = pass_fits c.load-word.new.seat.me _ _ _ _ (((c.load-word.ensures.2 c.args.f c.door_word.ensures).1
+    ∙ ap (λ cs. (Passing (walking (filled c.args.f c.load-word.result) (walker_of c.pass.inside.seat.me.0)), cs)) (ap (λ m. m.1) c.pass.invariant.seat))
+    ∙ ap (λ q. (Passing (record (walker_of c.pass.inside.seat.me.0) { walk = q }), []))
+    (filled_odd c.args.f c.load-word.result (walker_of c.pass.inside.seat.me.0).walk (search rules))) c.pass.invariant.hand c.pass.invariant.cpu
+    c.pass.invariant.held c.pass.invariant.stamp
 
 pub returns-then-word-eq1-clause-pass : goal.returns-then-word-eq1-clause-pass
 returns-then-word-eq1-clause-pass c =
-    pass_stays_of c.args.self.now c.args.pass.now _ c.load-word.new.seat.table_id c.pass.inside.seat.me c.load-word.new.seat.me _ c.pass.view_is c.requires.pass c.load-word.ensures.0
-    (((c.load-word.ensures.2 c.args.f refl).1 ∙ ap (λ cs. (Passing (walking (filled c.args.f c.load-word.result) (walker_of c.pass.inside.seat.me.0)), cs)) (ap (λ m. m.1) c.pass.invariant.0)) ∙ ap (λ q. (Passing (record (walker_of c.pass.inside.seat.me.0) { walk = q }), [])) (filled_odd c.args.f c.load-word.result (walker_of c.pass.inside.seat.me.0).walk (search rules))) refl refl refl
+    pass_stays_of c.args.self.now c.args.pass.now _ c.load-word.new.seat.table_id c.pass.inside.seat.me c.load-word.new.seat.me _ c.pass.view_is c.requires.pass
+    c.load-word.ensures.0
+    (((c.load-word.ensures.2 c.args.f c.door_word.ensures).1
+    ∙ ap (λ cs. (Passing (walking (filled c.args.f c.load-word.result) (walker_of c.pass.inside.seat.me.0)), cs)) (ap (λ m. m.1) c.pass.invariant.seat))
+    ∙ ap (λ q. (Passing (record (walker_of c.pass.inside.seat.me.0) { walk = q }), []))
+    (filled_odd c.args.f c.load-word.result (walker_of c.pass.inside.seat.me.0).walk (search rules))) refl refl refl
 
 pub returns-then-word-eq1-clause-closed : goal.returns-then-word-eq1-clause-closed
-returns-then-word-eq1-clause-closed c = (search rules, ap (λ x. walker_of x.0) (((c.load-word.ensures.2 c.args.f refl).1 ∙ ap (λ cs. (Passing (walking (filled c.args.f c.load-word.result) (walker_of c.pass.inside.seat.me.0)), cs)) (ap (λ m. m.1) c.pass.invariant.0)) ∙ ap (λ q. (Passing (record (walker_of c.pass.inside.seat.me.0) { walk = q }), [])) (filled_odd c.args.f c.load-word.result (walker_of c.pass.inside.seat.me.0).walk (search rules))) ∙ ap (λ v. walking (having_read c.load-word.result) v.walker) c.pass.view_is)
+returns-then-word-eq1-clause-closed c = (
+  search rules,
+  ap (λ x. walker_of x.0)
+      (((c.load-word.ensures.2 c.args.f c.door_word.ensures).1
+      ∙ ap (λ cs. (Passing (walking (filled c.args.f c.load-word.result) (walker_of c.pass.inside.seat.me.0)), cs)) (ap (λ m. m.1) c.pass.invariant.seat))
+      ∙ ap (λ q. (Passing (record (walker_of c.pass.inside.seat.me.0) { walk = q }), []))
+      (filled_odd c.args.f c.load-word.result (walker_of c.pass.inside.seat.me.0).walk (search rules)))
+      ∙ ap (λ v. walking (having_read c.load-word.result) v.walker) c.pass.view_is,
+)
 
 pub invariant_of-pass-2 : goal.invariant_of-pass-2
-invariant_of-pass-2 c = pass_fits c.load-word.new.seat.me _ _ _ _ (((c.load-word.ensures.2 c.args.f refl).1 ∙ ap (λ cs. (Passing (walking (filled c.args.f c.load-word.result) (walker_of c.pass.inside.seat.me.0)), cs)) (ap (λ m. m.1) c.pass.invariant.0)) ∙ ap (λ q. (Passing (record (walker_of c.pass.inside.seat.me.0) { walk = q }), [])) (filled_even c.args.f c.load-word.result (walker_of c.pass.inside.seat.me.0).walk (search rules))) c.pass.invariant.1 c.pass.invariant.2 (ap (λ h. set h c.args.f (Some (c.load-word.result / 2))) c.pass.invariant.3) c.pass.invariant.4
+invariant_of-pass-2 c = pass_fits c.load-word.new.seat.me _ _ _ _ (((c.load-word.ensures.2 c.args.f c.door_word.ensures).1
+    ∙ ap (λ cs. (Passing (walking (filled c.args.f c.load-word.result) (walker_of c.pass.inside.seat.me.0)), cs)) (ap (λ m. m.1) c.pass.invariant.seat))
+    ∙ ap (λ q. (Passing (record (walker_of c.pass.inside.seat.me.0) { walk = q }), []))
+    (filled_even c.args.f c.load-word.result (walker_of c.pass.inside.seat.me.0).walk (search rules))) c.pass.invariant.hand c.pass.invariant.cpu
+    (ap (λ h. set h c.args.f (Some (c.load-word.result / 2))) c.pass.invariant.held) c.pass.invariant.stamp
 
 pub returns-clause-pass : goal.returns-clause-pass
 returns-clause-pass c =
-    pass_stays_of c.args.self.now c.args.pass.now _ c.load-word.new.seat.table_id c.pass.inside.seat.me c.load-word.new.seat.me _ c.pass.view_is c.requires.pass c.load-word.ensures.0
-    (((c.load-word.ensures.2 c.args.f refl).1 ∙ ap (λ cs. (Passing (walking (filled c.args.f c.load-word.result) (walker_of c.pass.inside.seat.me.0)), cs)) (ap (λ m. m.1) c.pass.invariant.0)) ∙ ap (λ q. (Passing (record (walker_of c.pass.inside.seat.me.0) { walk = q }), [])) (filled_even c.args.f c.load-word.result (walker_of c.pass.inside.seat.me.0).walk (search rules))) (length-set _ _ _) refl refl
+    pass_stays_of c.args.self.now c.args.pass.now _ c.load-word.new.seat.table_id c.pass.inside.seat.me c.load-word.new.seat.me _ c.pass.view_is c.requires.pass
+    c.load-word.ensures.0
+    (((c.load-word.ensures.2 c.args.f c.door_word.ensures).1
+    ∙ ap (λ cs. (Passing (walking (filled c.args.f c.load-word.result) (walker_of c.pass.inside.seat.me.0)), cs)) (ap (λ m. m.1) c.pass.invariant.seat))
+    ∙ ap (λ q. (Passing (record (walker_of c.pass.inside.seat.me.0) { walk = q }), []))
+    (filled_even c.args.f c.load-word.result (walker_of c.pass.inside.seat.me.0).walk (search rules))) (length-set _ _ _) refl refl
 
 pub returns-clause-admitted : goal.returns-clause-admitted
-returns-clause-admitted c = ap (λ x. walker_of x.0) (((c.load-word.ensures.2 c.args.f refl).1 ∙ ap (λ cs. (Passing (walking (filled c.args.f c.load-word.result) (walker_of c.pass.inside.seat.me.0)), cs)) (ap (λ m. m.1) c.pass.invariant.0)) ∙ ap (λ q. (Passing (record (walker_of c.pass.inside.seat.me.0) { walk = q }), [])) (filled_even c.args.f c.load-word.result (walker_of c.pass.inside.seat.me.0).walk (search rules))) ∙ ap (λ v. walking (λ p. holding c.args.f (c.load-word.result / 2) (having_read (2 * (c.load-word.result / 2)) p)) v.walker) c.pass.view_is
+returns-clause-admitted c = ap (λ x. walker_of x.0) (((c.load-word.ensures.2 c.args.f c.door_word.ensures).1
+    ∙ ap (λ cs. (Passing (walking (filled c.args.f c.load-word.result) (walker_of c.pass.inside.seat.me.0)), cs)) (ap (λ m. m.1) c.pass.invariant.seat))
+    ∙ ap (λ q. (Passing (record (walker_of c.pass.inside.seat.me.0) { walk = q }), []))
+    (filled_even c.args.f c.load-word.result (walker_of c.pass.inside.seat.me.0).walk (search rules)))
+    ∙ ap (λ v. walking (λ p. holding c.args.f (c.load-word.result / 2) (having_read (2 * (c.load-word.result / 2)) p)) v.walker) c.pass.view_is
 
 pub returns-clause-bound : goal.returns-clause-bound
-returns-clause-bound c = let least = (c.load-word.ensures.2 c.args.f refl).0 in omega arith
+returns-clause-bound c = let least = (c.load-word.ensures.2 c.args.f c.door_word.ensures).0 in omega arith

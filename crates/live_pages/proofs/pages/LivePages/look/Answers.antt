@@ -8,12 +8,23 @@ use Rattle.live_pages.proofs.Calls.{looks_at, keeper_fits, keeper_stays_of}
 use Rattle.live_pages.proofs.pages.LivePages.look.Goals as goal
 
 pub load-requires : goal.load-requires
-load-requires c = (search rules, search rules, looks_at c.self.inside.table.shared.key _ _ c.keeper.inside.seat.me _ c.args.cpu c.keeper.invariant.0 (search rules) (search rules) (search rules))
+load-requires c = (
+  search rules,
+  search rules,
+  looks_at c.self.inside.table.shared.key _ _ c.keeper.inside.seat.me _ c.args.cpu c.keeper.invariant.seat
+      (search rules) (search rules) (search rules),
+)
 
 pub invariant_of-keeper : goal.invariant_of-keeper
 invariant_of-keeper c =
-    let fits = keeper_fits c.load.new.seat.me _ _ _ _ _ ((c.load.ensures.2 c.args.cpu (search rules)).1 ∙ ap (λ cs. (Keeping (watching (having_noted c.args.cpu c.load.result) (holder_of c.keeper.inside.seat.me.0)), cs)) (ap (λ m. m.1) c.keeper.invariant.0)) c.keeper.invariant.1 c.keeper.invariant.2 c.keeper.invariant.3 c.keeper.invariant.4 (noted_still (holder_of c.keeper.inside.seat.me.0).watch c.args.cpu c.load.result _ c.keeper.invariant.6 (c.load.ensures.2 c.args.cpu (search rules)).0) in
-    (fits.0, fits.1, fits.2, fits.3, fits.4, c.keeper.invariant.5, fits.5)
+    keeper_fits c.load.new.seat.me _ _ _ _ _ ((c.load.ensures.2 c.args.cpu (search rules)).1
+    ∙ ap (λ cs. (Keeping (watching (having_noted c.args.cpu c.load.result) (holder_of c.keeper.inside.seat.me.0)), cs))
+    (ap (λ m. m.1) c.keeper.invariant.seat)) c.keeper.invariant.hand c.keeper.invariant.request c.keeper.invariant.doors c.keeper.invariant.since
+    c.keeper.invariant.rows (noted_still (holder_of c.keeper.inside.seat.me.0).watch c.args.cpu c.load.result _ c.keeper.invariant.cleared
+    (c.load.ensures.2 c.args.cpu (search rules)).0)
 
 pub returns-clause-keeper : goal.returns-clause-keeper
-returns-clause-keeper c = keeper_stays_of c.args.self.now c.args.keeper.now _ c.load.new.seat.table_id _ _ c.keeper.inside.seat.me c.load.new.seat.me _ c.keeper.view_is c.requires.keeper c.load.ensures.0 ((c.load.ensures.2 c.args.cpu (search rules)).1 ∙ ap (λ cs. (Keeping (watching (having_noted c.args.cpu c.load.result) (holder_of c.keeper.inside.seat.me.0)), cs)) (ap (λ m. m.1) c.keeper.invariant.0)) refl refl (length-set _ _ _) refl
+returns-clause-keeper c = keeper_stays_of c.args.self.now c.args.keeper.now _ c.load.new.seat.table_id _ _ c.keeper.inside.seat.me c.load.new.seat.me _
+    c.keeper.view_is c.requires.keeper c.load.ensures.0 ((c.load.ensures.2 c.args.cpu (search rules)).1
+    ∙ ap (λ cs. (Keeping (watching (having_noted c.args.cpu c.load.result) (holder_of c.keeper.inside.seat.me.0)), cs)) (ap (λ m. m.1) c.keeper.invariant.seat))
+    refl refl (length-set _ _ _) refl

@@ -6,7 +6,8 @@ pub join_seat-requires : goal.join_seat-requires
 join_seat-requires c = (
   search rules,
   search rules,
-  ap (λ m. m.1) c.pass.invariant.0,
+  ap (λ m. m.1) c.pass.invariant.seat,
   search rules,
-  takes_in_at c.self.inside.table.shared.key c.keeper.inside.seat.id c.keeper.inside.seat.me c.pass.inside.seat.id c.pass.inside.seat.me c.keeper.invariant.0 c.pass.invariant.0 c.pass.invariant.1,
+  takes_in_at c.self.inside.table.shared.key c.keeper.inside.seat.id c.keeper.inside.seat.me c.pass.inside.seat.id c.pass.inside.seat.me c.keeper.invariant.seat
+      c.pass.invariant.seat c.pass.invariant.hand,
 )

@@ -14,13 +14,17 @@ fetch_add-ticket-requires c =
     let h = c.requires.hand.0 in
     let w = walker_of c.args.seat.now.me.0 in
     let new = c.touch-word.new.self in
-    let same = same_held c.in-Some.held h (sym c.in-Some.is ∙ found_in_slot c.args.seat.now.me (Passing w) c.args.f (Some h) c.exchange.result c.requires.hand.1 c.exchange.ensures.2) in
-    let there = exchanged_twice c.args.seat.now.me c.exchange.new.seat.me c.exchange-2.new.seat.me (Passing w) c.args.f (Some h) (Some new) c.requires.hand.1 c.exchange.ensures.3 c.exchange-2.ensures.3 in (
+    let same = same_held c.in-Some.held h (sym c.in-Some.is ∙ found_in_slot c.args.seat.now.me (Passing w) c.args.f (Some h) c.exchange.result c.requires.hand.1
+    c.exchange.ensures.2) in
+    let there = exchanged_twice c.args.seat.now.me c.exchange.new.seat.me c.exchange-2.new.seat.me (Passing w) c.args.f (Some h) (Some new) c.requires.hand.1
+    c.exchange.ensures.3 c.exchange-2.ensures.3 in (
       search rules,
       search rules,
       draws_in_hand c.self.inside.table.shared.key _ _ c.exchange-2.new.seat.me (search rules) _ c.args.f w new h.page there (search rules) c.requires.hand.2
-          (c.touch-word.ensures.page ∙ ap (λ x. touched x c.in-Some.held.page) (sym c.touch-word.ensures.kept.0) ∙ ap (λ (x : Held). touched new.touch x.page) same)
-          (c.touch-word.ensures.kept.1 ∙ c.touch-word.ensures.word ∙ ap (λ x. answer x c.in-Some.held.page) (sym c.touch-word.ensures.kept.0) ∙ ap (λ (x : Held). answer new.touch x.page) same) c.requires.few (search rules),
+          (c.touch-word.ensures.page ∙ ap (λ x. touched x c.in-Some.held.page) (sym c.touch-word.ensures.kept.0)
+          ∙ ap (λ (x : Held). touched new.touch x.page) same)
+          (c.touch-word.ensures.kept.1 ∙ c.touch-word.ensures.word ∙ ap (λ x. answer x c.in-Some.held.page) (sym c.touch-word.ensures.kept.0)
+          ∙ ap (λ (x : Held). answer new.touch x.page) same) c.requires.few (search rules),
     )
 
 pub store-requires : goal.store-requires
@@ -28,25 +32,37 @@ store-requires c =
     let h = c.requires.hand.0 in
     let w = walker_of c.args.seat.now.me.0 in
     let new = c.touch-word.new.self in
-    let same = same_held c.in-Some.held h (sym c.in-Some.is ∙ found_in_slot c.args.seat.now.me (Passing w) c.args.f (Some h) c.exchange.result c.requires.hand.1 c.exchange.ensures.2) in
-    let there = exchanged_twice c.args.seat.now.me c.exchange.new.seat.me c.exchange-2.new.seat.me (Passing w) c.args.f (Some h) (Some new) c.requires.hand.1 c.exchange.ensures.3 c.exchange-2.ensures.3 in
-    let after = drawn c.exchange-2.new.seat.me c.fetch_add-ticket.new.seat.me w c.args.f c.fetch_add-ticket.result new there (c.fetch_add-ticket.ensures.2 c.args.f new [] (ap (λ x. x.1) there)).1 in
-    (search rules, search rules, gives_in_hand c.self.inside.table.shared.key _ _ c.fetch_add-ticket.new.seat.me (search rules) _ c.args.f (having_made c.fetch_add-ticket.result c.args.f new.touch new.word new.page w) new after refl (search rules))
+    let same = same_held c.in-Some.held h (sym c.in-Some.is ∙ found_in_slot c.args.seat.now.me (Passing w) c.args.f (Some h) c.exchange.result c.requires.hand.1
+    c.exchange.ensures.2) in
+    let there = exchanged_twice c.args.seat.now.me c.exchange.new.seat.me c.exchange-2.new.seat.me (Passing w) c.args.f (Some h) (Some new) c.requires.hand.1
+    c.exchange.ensures.3 c.exchange-2.ensures.3 in
+    let after = drawn c.exchange-2.new.seat.me c.fetch_add-ticket.new.seat.me w c.args.f c.fetch_add-ticket.result new there
+    (c.fetch_add-ticket.ensures.2 c.args.f new [] (ap (λ x. x.1) there)).1 in (
+      search rules,
+      search rules,
+      gives_in_hand c.self.inside.table.shared.key _ _ c.fetch_add-ticket.new.seat.me (search rules) _ c.args.f
+          (having_made c.fetch_add-ticket.result c.args.f new.touch new.word new.page w) new after refl (search rules),
+    )
 
 pub returns-clause-touched : goal.returns-clause-touched
 returns-clause-touched c =
     let h = c.requires.hand.0 in
     let w = walker_of c.args.seat.now.me.0 in
     let new = c.touch-word.new.self in
-    let same = same_held c.in-Some.held h (sym c.in-Some.is ∙ found_in_slot c.args.seat.now.me (Passing w) c.args.f (Some h) c.exchange.result c.requires.hand.1 c.exchange.ensures.2) in
-    let there = exchanged_twice c.args.seat.now.me c.exchange.new.seat.me c.exchange-2.new.seat.me (Passing w) c.args.f (Some h) (Some new) c.requires.hand.1 c.exchange.ensures.3 c.exchange-2.ensures.3 in
-    let after = drawn c.exchange-2.new.seat.me c.fetch_add-ticket.new.seat.me w c.args.f c.fetch_add-ticket.result new there (c.fetch_add-ticket.ensures.2 c.args.f new [] (ap (λ x. x.1) there)).1 in
-    given_back c.fetch_add-ticket.new.seat.me c.store.new.seat.me w c.args.f c.fetch_add-ticket.result c.touch-word.result c.args.t new after (c.store.ensures.2 (c.args.f, Some new) [] (ap (λ x. x.1) after)) c.touch-word.ensures.kept.0 c.touch-word.ensures.kept.1
+    let same = same_held c.in-Some.held h (sym c.in-Some.is ∙ found_in_slot c.args.seat.now.me (Passing w) c.args.f (Some h) c.exchange.result c.requires.hand.1
+    c.exchange.ensures.2) in
+    let there = exchanged_twice c.args.seat.now.me c.exchange.new.seat.me c.exchange-2.new.seat.me (Passing w) c.args.f (Some h) (Some new) c.requires.hand.1
+    c.exchange.ensures.3 c.exchange-2.ensures.3 in
+    let after = drawn c.exchange-2.new.seat.me c.fetch_add-ticket.new.seat.me w c.args.f c.fetch_add-ticket.result new there
+    (c.fetch_add-ticket.ensures.2 c.args.f new [] (ap (λ x. x.1) there)).1 in
+    given_back c.fetch_add-ticket.new.seat.me c.store.new.seat.me w c.args.f c.fetch_add-ticket.result c.touch-word.result c.args.t new after
+    (c.store.ensures.2 (c.args.f, Some new) [] (ap (λ x. x.1) after)) c.touch-word.ensures.kept.0 c.touch-word.ensures.kept.1
 
 pub returns-clause-above : goal.returns-clause-above
 returns-clause-above c =
     let h = c.requires.hand.0 in
     let w = walker_of c.args.seat.now.me.0 in
     let new = c.touch-word.new.self in
-    let there = exchanged_twice c.args.seat.now.me c.exchange.new.seat.me c.exchange-2.new.seat.me (Passing w) c.args.f (Some h) (Some new) c.requires.hand.1 c.exchange.ensures.3 c.exchange-2.ensures.3 in
+    let there = exchanged_twice c.args.seat.now.me c.exchange.new.seat.me c.exchange-2.new.seat.me (Passing w) c.args.f (Some h) (Some new) c.requires.hand.1
+    c.exchange.ensures.3 c.exchange-2.ensures.3 in
     subst (λ x. AreBelow c.fetch_add-ticket.result (walker_of x.0).made) there (c.fetch_add-ticket.ensures.2 c.args.f new [] (ap (λ x. x.1) there)).0
