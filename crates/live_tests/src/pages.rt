@@ -4,7 +4,7 @@ ghost use Rattle.live_doors.specs.Doors.{IsAdmitted, OnlyNoted};
 ghost use Rattle.live_pages.specs.Turns.{current};
 ghost use Rattle.live_pages.specs.Touches.{place_of};
 ghost use Rattle.live_pages.specs.Ending.{in_order};
-ghost use Rattle.live_pages.specs.declared.touch.Touch.TheVariants.{Get, Put, Add};
+ghost use Rattle.live_tests.specs.Row.{made_so, adds, reads, puts};
 ghost use Rattle.live_pages.specs.Models.{PassModel, IsPassOf, IsKeeperOf, AreAll, first_passes};
 
 use live_pages::{Ended, Keeper, LivePages, NoMemory, Pass, Touch, Touched};
@@ -123,7 +123,8 @@ fn renew(pages: &LivePages, keeper: &mut Keeper, page: Page) -> Result<Page, Pag
     Ok(pages.bind(keeper, 0, page))
 }
 
-// Binds the frame anew for as long as all goes clear, once both passes have added, and answers the sum of the pages that were handed out.
+// Binds the frame anew for as long as all goes clear, once both passes have added, and answers the sum of the pages
+// that were handed out.
 fn keep(pages: &LivePages, mut keeper: Keeper, mut spare: Page, signals: &Signals) -> (Keeper, Word)
     requires keeper { IsKeeperOf pages.now keeper }
     requires frame { pages.now.frames ≡ 1 }
@@ -300,7 +301,7 @@ fn touches_as_expected(pages: &LivePages, pass: &mut Pass, t: Touch, expected: T
     ensures cpu { pass.new.walker.walk.cpu ≡ pass.old.walker.walk.cpu }
     ensures held { pass.new.walker.walk.held ≡ pass.old.walker.walk.held }
     ensures made { IsTrue result → pass.new.walker.made
-        ≡ record { ticket = expected.ticket; cpu = pass.old.walker.walk.cpu; frame = 0; binding = 1; touch = t; word = expected.word } ∷ pass.old.walker.made }
+        ≡ made_so pass.old.walker.walk.cpu t expected ∷ pass.old.walker.made }
 {
     let Ok(done) = pages.touch(pass, 0, t) else {
         return false;
@@ -328,12 +329,12 @@ fn close_row(
     requires count { pages.cpus ≡ 2 }
     requires cpus { (zero.walker.walk.cpu ≡ 0) × (one.walker.walk.cpu ≡ 1) }
     requires zero { zero.walker.made
-        ≡ record { ticket = 2; cpu = 0; frame = 0; binding = 1; touch = Put 3 7; word = 7 } ∷ record { ticket = 0; cpu = 0; frame = 0; binding = 1; touch = Add 3 5; word = 5 } ∷ [] }
+        ≡ puts ∷ adds ∷ [] }
     requires one { one.walker.made
-        ≡ record { ticket = 1; cpu = 1; frame = 0; binding = 1; touch = Get 3; word = 5 } ∷ [] }
+        ≡ reads ∷ [] }
     ensures count { IfSome result (λ ended. length ended.pages.items ≡ pages.frames) }
     ensures touches { IfSome result (λ ended. in_order ended.shown
-        ≡ record { ticket = 0; cpu = 0; frame = 0; binding = 1; touch = Add 3 5; word = 5 } ∷ record { ticket = 1; cpu = 1; frame = 0; binding = 1; touch = Get 3; word = 5 } ∷ record { ticket = 2; cpu = 0; frame = 0; binding = 1; touch = Put 3 7; word = 7 } ∷ []) }
+        ≡ adds ∷ reads ∷ puts ∷ []) }
 {
     let passes = gather(alloc, &pages, zero, one)?;
     Some(pages.close(keeper, passes))
