@@ -1,14 +1,15 @@
 -- Touches that add to the first word of a frame's page.
-use Rattle.std.proofs.Common.{◌≡◌, ℕ, zero, suc, ◌+◌, ◌%◌, ◌^◌, ◌<◌, Bool, true, false, cond, eqb, List, [], ◌∷◌, ◌++◌, map, reverse, length, get_or, sym, ap, subst, refl, ◌∙◌, arith, mod-lt, get_or-set_same, length-set}
+use Rattle.std.proofs.Common.{◌≡◌, ℕ, zero, suc, ◌+◌, ◌/◌, ◌%◌, ◌^◌, ◌<◌, Bool, true, false, cond, eqb, List, [], ◌∷◌, ◌++◌, map, reverse, length, get_or, sym, ap, subst, refl, ◌∙◌, arith, mod-lt, get_or-set_same, length-set}
 use Rattle.std.proofs.lemmas.Bool.{eq-eqb}
 use Rattle.std.proofs.lemmas.List.{reverse-append}
+use Rattle.draws.specs.Draws.{next_state, drawn}
 use Rattle.live_doors.specs.declared.views.Watch.{Watch}
 use Rattle.live_pages.specs.declared.touch.Touch.{Touch}
 use Rattle.live_pages.specs.declared.touch.Touch.TheVariants.{Add}
 use Rattle.live_pages.specs.declared.touch.Made.{Made}
 use Rattle.live_pages.specs.Touches.{Given, touched, is_of, touched_if, touching, after_all, mine, mine_if}
 use Rattle.live_pages.specs.Kept.{AreOfBindings}
-use Rattle.drill.specs.Work.{next_state, state_after, drawn, word_at, add_at, added, sum_of, deed}
+use Rattle.drill.specs.Work.{state_after, word_at, add_at, added, sum_of, deed}
 use Rattle.drill.specs.Roles.{done, words_to}
 use Rattle.drill.proofs.Words.{done_sum}
 
@@ -41,13 +42,17 @@ done_count frames x zero (e ∷ es) is = let c : length (map deed (e ∷ es)) �
 done_count frames x (suc n) [] is = let c : 0 ≡ length (done frames x (suc n)) = ap (λ (l : List (ℕ × Touch)). length l) is in absurd (omega arith)
 done_count frames x (suc n) (e ∷ es) is = ap suc (done_count frames x n es (cons_parts (deed e) (add_at frames x n) (map deed es) (done frames x n) is).1)
 
+drawn_below : (m x : ℕ) → 0 < m → drawn m x < m
+unfolding drawn
+drawn_below m x some = mod-lt (x / 2 ^ 33) some
+
 pub done_adds : (frames x n : ℕ) (es : List Made) → 0 < frames → map deed es ≡ done frames x n → AreAdds frames es
 done_adds frames x n [] some is = tt
 done_adds frames x zero (e ∷ es) some is = let c : length (map deed (e ∷ es)) ≡ 0 = ap (λ (l : List (ℕ × Touch)). length l) is in absurd (omega arith)
 done_adds frames x (suc n) (e ∷ es) some is =
     let parts = cons_parts (deed e) (add_at frames x n) (map deed es) (done frames x n) is in
     let frame : e.frame ≡ drawn frames (next_state (state_after n x)) = ap (λ t. t.0) parts.0 in
-    let below : drawn frames (next_state (state_after n x)) < frames = mod-lt _ some in
+    let below : drawn frames (next_state (state_after n x)) < frames = drawn_below frames (next_state (state_after n x)) some in
     let touch : e.touch ≡ Add 0 (word_at n) = ap (λ t. t.1) parts.0 in
     let word : added e.touch ≡ word_at n = ap added touch in
     (done_adds frames x n es some parts.1, omega (arith, frame, below), touch ∙ ap (λ w. Add 0 w) (sym word))

@@ -1,21 +1,14 @@
 -- The work of the drill: which adds each processor is to make, and their sums (own).
-use Rattle.std.specs.Prelude.{◌≡◌, ℕ, zero, suc, ◌+◌, ◌*◌, ◌/◌, ◌%◌, ◌^◌, List, [], ◌∷◌, ◌++◌, map, length, take}
+use Rattle.std.specs.Prelude.{◌≡◌, ℕ, zero, suc, ◌+◌, ◌%◌, List, [], ◌∷◌, ◌++◌, map, length, take}
+use Rattle.draws.specs.Draws.{next_state, drawn}
 use Rattle.live_pages.specs.declared.touch.Touch.{Touch}
 use Rattle.live_pages.specs.declared.touch.Touch.TheVariants.{Get, Put, Add}
 use Rattle.live_pages.specs.declared.touch.Made.{Made}
 
--- the state of the generator after another one
-unfoldable pub next_state : ℕ → ℕ
-next_state x = (x * 6364136223846793005 + 1442695040888963407) % 2 ^ 64
-
--- the state after so many steps from x
+-- the state of the generator after so many draws from x
 abbrev pub state_after : ℕ → ℕ → ℕ
 state_after zero x = x
 state_after (suc i) x = next_state (state_after i x)
-
--- what is drawn below m in a state
-abbrev pub drawn : ℕ → ℕ → ℕ
-drawn m x = x / 2 ^ 33 % m
 
 -- the word that add i adds
 abbrev pub word_at : ℕ → ℕ

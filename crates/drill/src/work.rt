@@ -1,6 +1,6 @@
 //! The work of each processor.
 ghost use Rattle.std.specs.Prelude.{◌≡◌, ◌+◌, ◌*◌, ◌<◌, ◌≤◌, IfOk};
-ghost use Rattle.drill.specs.Work.{next_state, drawn, word_at, sums_of};
+ghost use Rattle.drill.specs.Work.{word_at, sums_of};
 ghost use Rattle.drill.specs.Roles.{words_to};
 
 use mword::Word;
@@ -13,24 +13,6 @@ pub(crate) struct Size {
     pub(crate) frames: u32,
     pub(crate) adds: u32,
     pub(crate) seed: u32,
-}
-
-/// The next state of the generator.
-#[tactic(auto, unfolding(crate::specs::Work::next_state))]
-pub(crate) fn next_state(x: u64) -> u64
-    ensures { result ≡ next_state x }
-{
-    x.wrapping_mul(6364136223846793005)
-        .wrapping_add(1442695040888963407)
-}
-
-/// The frame that is drawn in this state.
-pub(crate) fn drawn(frames: u32, state: u64) -> u32
-    requires { 0 < frames }
-    ensures frame { result ≡ drawn frames state }
-    ensures within { result < frames }
-{
-    ((state >> 33) % u64::from(frames)) as u32
 }
 
 /// The word that add `i` adds.

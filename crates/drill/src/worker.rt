@@ -5,7 +5,8 @@ ghost use Rattle.live_pages.specs.Models.{IsPassOf};
 ghost use Rattle.drill.specs.Work.{deed};
 ghost use Rattle.drill.specs.Roles.{IsFresh, IsDone};
 
-use crate::work::{Size, drawn, next_state, word_at};
+use crate::work::{Size, word_at};
+use draws::Draws;
 use live_pages::{LivePages, Pass, Touch};
 use mword::Word;
 use site_io::{Gate, Point};
@@ -92,10 +93,11 @@ pub(crate) fn work<R: Threads + Wait + Sync, G: Gate>(
         seed,
         ..
     } = size;
-    let mut state = u64::from(seed) + u64::from(worker.cpu);
+    let mut draws = Draws {
+        state: u64::from(seed) + u64::from(worker.cpu),
+    };
     for i in 0..adds {
-        state = next_state(state);
-        let f = drawn(frames, state);
+        let f = draws.draw(frames);
         if !try_add(pages, &mut worker.pass, f, word_at(i)) {
             break;
         }
