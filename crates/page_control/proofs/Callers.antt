@@ -1,5 +1,7 @@
 -- For callers: what the ties between tables, homes and frames give.
-use Rattle.std.proofs.Common.{◌≡◌, ◌≢◌, ℕ, true, false, List, [], is_some, Option, None, Some, sym, ap, ◌∙◌}
+use Rattle.std.proofs.Common.{◌≡◌, ◌≢◌, ℕ, Bool, true, false, List, [], length, is_some, Option, None, Some, sym, ap, ◌∙◌, sum_by, count_by}
+use Rattle.page_control.specs.Counts.{used, entries, KeepsCounts}
+use Rattle.page_control.proofs.Counting.{by_list, by_sum}
 use Rattle.std.proofs.lemmas.Option.{same_Some}
 use Rattle.page_table.specs.declared.Ptw.{Ptw}
 use Rattle.page_table.specs.declared.Ptw.TheVariants.{Leaving}
@@ -12,7 +14,7 @@ use Rattle.page_control.specs.Picture.{AreClean, volume_of, record_named, words_
 use Rattle.page_control.proofs.Facts.{filed_from_word, binding_is, bound_from_page, bound_to}
 use Rattle.page_control.proofs.Pictures.{volume_found, record_found, found_nowhere}
 use Rattle.page_control.proofs.Changes.{picture_at}
-use Rattle.page_control.specs.Tied.{frame_of, has_record, uid_in, IsTableOf, IsHomeOf, IsMapOf, IsBoundOnce, HasNoFrame}
+use Rattle.page_control.specs.Tied.{flags_in, frame_of, has_record, uid_in, IsTableOf, IsHomeOf, IsMapOf, IsBoundOnce, HasNoFrame, IsTied}
 use Rattle.page_control.proofs.Ties.{not_none, frame_same, bound_within}
 
 -- a page of the segment of a table is in one frame
@@ -32,12 +34,24 @@ table_of_no_frame bound uid t none away = record {
 }
 
 -- a frame that `evict` may be called with
-pub clean_at : (s : Plain) (uid p f : ℕ) (home : Home) (t : List Ptw) → AreClean s → IsHomeOf s.vtocs uid home → IsTableOf (bindings s.core) uid t
-    → IsMapOf (file_map_of s home) t → ptw_at t p ≡ Leaving f → is_modified (frame_in s f) ≡ false → words_in s f ≡ words_on s home.volume (record_of s home p)
-clean_at s uid p f home t clean h table map word off =
-    clean.clean f uid p off (table.back f p (ap frame_of word))
-    ∙ ap (λ (v : ℕ). words_filed (disk_of s v) (record_named s.vtocs uid p)) (volume_found s.vtocs uid home h)
-    ∙ ap (words_filed (disk_of s home.volume)) (record_found s.vtocs uid p home h ∙ filed_from_word s home t p map (ap has_record word))
+pub clean_at : (s : Plain) (uid p f : ℕ) (home : Home) (t : List Ptw) → AreClean s → IsTied s uid home t → ptw_at t p ≡ Leaving f → is_modified (frame_in s f) ≡ false
+    → words_in s f ≡ words_on s home.volume (record_of s home p)
+clean_at s uid p f home t clean tie word off =
+    clean.clean f uid p off (tie.table.back f p (ap frame_of word))
+    ∙ ap (λ (v : ℕ). words_filed (disk_of s v) (record_named s.vtocs uid p)) (volume_found s.vtocs uid home tie.used)
+    ∙ ap (words_filed (disk_of s home.volume)) (record_found s.vtocs uid p home tie.used ∙ filed_from_word s home t p tie.map (ap has_record word))
+
+-- the tie of a segment stays where frames are bound as before, and records and VTOCs are as before
+pub tie_kept : (s now : Plain) (uid : ℕ) (home : Home) (t : List Ptw) → bindings now.core ≡ bindings s.core → now.disks ≡ s.disks → now.records ≡ s.records → now.vtocs ≡ s.vtocs
+    → IsTied s uid home t → IsTied now uid home t
+tie_kept s now uid home t bound disks records vtocs tie = record {
+  volume = rw disks tie.volume;
+  pages = tie.pages;
+  used = rw vtocs tie.used;
+  table = rw bound tie.table;
+  map = rw vtocs tie.map;
+  records = rw (records, vtocs) tie.records;
+}
 
 -- a home is used for its segment
 pub used_uid : (entry : Option Entry) (uid : ℕ) → uid_of entry ≡ Some uid → uid_or_zero entry ≡ uid
@@ -69,3 +83,19 @@ record_shown s uid p home t h table word =
 pub stored_shown : (s : Plain) (uid p : ℕ) (home : Home) (t : List Ptw) → IsHomeOf s.vtocs uid home → IsMapOf (file_map_of s home) t → is_stored s uid p ≡ has_record (ptw_at t p)
 unfolding is_filed_in
 stored_shown s uid p home t h map = ap is_some (record_found s.vtocs uid p home h) ∙ map.stored p
+
+-- counts of all volumes, from what a call keeps
+pub used_same : (old new : Plain) → KeepsCounts old new → used new.vtocs ≡ used old.vtocs
+used_same old new k = λ i. λ v. by_list (count_by is_some) new.vtocs old.vtocs k.used v i
+
+pub used_sum : (old new : Plain) → KeepsCounts old new → sum_by (count_by is_some) new.vtocs ≡ sum_by (count_by is_some) old.vtocs
+used_sum old new k = by_sum (count_by is_some) new.vtocs old.vtocs k.used
+
+pub places_sum : (old new : Plain) → KeepsCounts old new → sum_by (length {A = Option Entry}) new.vtocs ≡ sum_by length old.vtocs
+places_sum old new k = by_sum (length {A = Option Entry}) new.vtocs old.vtocs k.places
+
+pub size_at : (old new : Plain) → KeepsCounts old new → (v : ℕ) → length (flags_in new.records v) ≡ length (flags_in old.records v)
+size_at old new k v = by_list (length {A = Bool}) new.records old.records k.flags v
+
+pub entries_at : (old new : Plain) → KeepsCounts old new → (v : ℕ) → entries new.vtocs v ≡ entries old.vtocs v
+entries_at old new k v = by_list (length {A = Option Entry}) new.vtocs old.vtocs k.places v

@@ -1,20 +1,20 @@
-use Rattle.std.proofs.Common.{◌≡◌, ℕ, ◌<◌, Bool, true, false, List, [], ◌∷◌, ◌++◌, length, Option, None, Some, refl, sym, ap, ◌∙◌, get_or, set, replicate, take, inl, inr, All, IsSome, is_some}
+use Rattle.std.proofs.Common.{◌≡◌, ℕ, ◌<◌, ◌≤◌, arith, Bool, true, false, List, [], ◌∷◌, ◌++◌, length, Option, None, Some, refl, sym, ap, ◌∙◌, get_or, set, replicate, take, inl, inr, All, IsSome, is_some}
 use Rattle.std.proofs.lemmas.Bool.Decides.{leb_tells}
-use Rattle.std.proofs.lemmas.List.{get_or_past, get_or-set_same, set-set, map-set}
+use Rattle.std.proofs.lemmas.List.{get_or_past, get_or-set_same, set-set, map-set, length-map}
 use Rattle.std.proofs.Math.ListN.{get_or-map}
 use Rattle.std.proofs.Math.Seq.{map-set_same}
 use Rattle.std.proofs.lemmas.List.Elements.{All-get_or}
 use Rattle.bitmap.specs.Bitmap.{in_use, IsLeastFree}
 use Rattle.core_map.specs.declared.Frame.{Frame}
 use Rattle.core_map.specs.declared.Frame.TheVariants.{Free, Started, Bound}
-use Rattle.core_map.specs.CoreMap.{Core, frame_at, with_frame, is_bound, bound_page, after_reference}
+use Rattle.core_map.specs.CoreMap.{Core, frame_at, with_frame, is_bound, bound_page, started_page, after_reference}
 use Rattle.page_table.specs.declared.Ptw.{Ptw}
 use Rattle.page_table.specs.declared.Ptw.TheVariants.{Null, Out, Here, Leaving}
 use Rattle.page_table.specs.PageTable.{ptw_at}
 use Rattle.vtoc.specs.Vtoc.{Entry, uid_of}
 use Rattle.page_control.specs.declared.Home.{Home}
-use Rattle.page_control.specs.Plain.{Plain, bindings, binding_at, flags_of, file_map_of, filed, entry_of, record_of, number_in, number_or_zero}
-use Rattle.page_control.specs.Tied.{frame_of, has_record, uid_in, IsTableOf, IsHomeOf, IsMapOf, AreFiled}
+use Rattle.page_control.specs.Plain.{Plain, Paging, plain, bindings, starts, binding_at, flags_of, file_map_of, filed, entry_of, record_of, number_in, number_or_zero}
+use Rattle.page_control.specs.Tied.{frame_of, has_record, uid_in, IsTableOf, IsHomeOf, IsMapOf, AreFiled, IsTied}
 
 -- a used entry is there
 pub some_entry : (entry : Option Entry) (uid : ℕ) → uid_of entry ≡ Some uid → IsSome entry
@@ -118,3 +118,40 @@ bound_and_marked core f uid p lt =
     let read : get_or (set core.frames f (Bound uid p false false)) f Free ≡ Bound uid p false false = get_or-set_same core.frames f (Bound uid p false false) Free lt in
     ap (λ (frame : Frame). with_frame (with_frame core f (Bound uid p false false)) f (after_reference frame true)) read
     ∙ ap (λ (frames : List Frame). record core { frames = frames }) (set-set core.frames f (Bound uid p false false) (Bound uid p true true))
+
+-- for which pages frames are started
+pub starts_with : (core : Core) (f : ℕ) (frame : Frame) → starts (with_frame core f frame) ≡ set (starts core) f (started_page frame)
+starts_with core f frame = map-set started_page core.frames f frame
+
+pub starts_same : (core : Core) (f : ℕ) (frame : Frame) → started_page frame ≡ started_page (frame_at core f) → starts (with_frame core f frame) ≡ starts core
+starts_same core f frame same = map-set_same started_page core.frames f frame Free same
+
+started_referred : (frame : Frame) (wrote : Bool) → started_page (after_reference frame wrote) ≡ started_page frame
+started_referred Free wrote = refl
+started_referred (Started u q) wrote = refl
+started_referred (Bound u q used modified) wrote = refl
+
+pub starts_referred : (core : Core) (f : ℕ) (wrote : Bool) → starts (with_frame core f (after_reference (frame_at core f) wrote)) ≡ starts core
+starts_referred core f wrote = starts_same core f _ (started_referred (frame_at core f) wrote)
+
+-- a bound frame is started for none
+pub bound_idle : (frame : Frame) (uid p : ℕ) → bound_page frame ≡ Some (uid, p) → started_page frame ≡ None
+bound_idle Free uid p h = refl
+bound_idle (Started u q) uid p h = cc
+bound_idle (Bound u q used modified) uid p h = refl
+
+-- the record that a file map names
+pub record_is : (s : Plain) (home : Home) (p r : ℕ) → filed s home p ≡ Some r → record_of s home p ≡ r
+record_is s home p r is = ap number_or_zero is
+
+-- what the tie of a segment gives
+pub tied_entry : (s : Plain) (uid : ℕ) (home : Home) (words : List Ptw) → IsTied s uid home words → IsSome (entry_of s home)
+tied_entry s uid home words tie = home_used s uid home tie.used
+
+pub tied_volume : {D : Type 0} (pages : D → List (List ℕ)) (s : Paging D) (uid : ℕ) (home : Home) (words : List Ptw) → IsTied (plain pages s) uid home words
+    → home.volume < length s.volumes.drives
+tied_volume pages s uid home words tie = (let volume = tie.volume in let count = length-map s.volumes.drives pages in omega (arith, volume, count))
+
+pub tied_filed : (s : Plain) (uid : ℕ) (home : Home) (words : List Ptw) (p : ℕ) → IsTied s uid home words → has_record (ptw_at words p) ≡ true
+    → filed s home p ≡ Some (record_of s home p)
+tied_filed s uid home words p tie has = filed_from_word s home words p tie.map has

@@ -11,7 +11,7 @@ use Rattle.page_control.proofs.Places.{put, put_here, put_other, none_put, some_
 use Rattle.page_control.proofs.Pictures.{home_within, off_and_on}
 
 -- the record of any page after a file map names another for page p at a home: that one, or the record as before
-refiled_cases : (vtocs : List (List (Option Entry))) (uid p : ℕ) (place : Option ℕ) (home : Home) → IsHomeOf vtocs uid home → (v e q : ℕ)
+pub refiled_cases : (vtocs : List (List (Option Entry))) (uid p : ℕ) (place : Option ℕ) (home : Home) → IsHomeOf vtocs uid home → (v e q : ℕ)
     → ((v ≡ home.volume) × (e ≡ home.entry) × (q ≡ p)) ⊎ (record_at (vtoc_in (refile vtocs home p place) v) e q ≡ record_at (vtoc_in vtocs v) e q)
 refiled_cases vtocs uid p place home h v e q =
     let entry : Option Entry = entry_at (vtoc_in vtocs home.volume) home.entry in
@@ -31,7 +31,7 @@ refiled_cases vtocs uid p place home h v e q =
     ]
 
 -- the record of page p there
-refiled_at : (vtocs : List (List (Option Entry))) (uid p : ℕ) (place : Option ℕ) (home : Home) (v e q : ℕ) → IsHomeOf vtocs uid home
+pub refiled_at : (vtocs : List (List (Option Entry))) (uid p : ℕ) (place : Option ℕ) (home : Home) (v e q : ℕ) → IsHomeOf vtocs uid home
     → (v ≡ home.volume) × (e ≡ home.entry) × (q ≡ p) → record_at (vtoc_in (refile vtocs home p place) v) e q ≡ record_at (vtoc_in (refile vtocs home p place) home.volume) home.entry p
 refiled_at vtocs uid p place home v e q h (i, j, k) = rw (i, j, k) refl
 

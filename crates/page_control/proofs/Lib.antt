@@ -15,3 +15,8 @@ pub mod Erasing
 pub mod Callers
 pub mod Clean
 pub mod Made
+pub mod Counting
+pub mod Naming
+pub mod Loose
+pub mod Calls
+pub mod Laws

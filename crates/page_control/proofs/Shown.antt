@@ -1,8 +1,8 @@
 -- What each call that changes the picture makes of it, by its effect.
-use Rattle.std.proofs.Common.{◌≡◌, ℕ, ◌<◌, true, false, List, length, Option, None, Some, refl, sym, ap, ◌∙◌, arith, replicate, All}
+use Rattle.std.proofs.Common.{◌≡◌, ℕ, ◌<◌, ◌↔◌, Bool, IsTrue, true, false, List, length, Option, None, Some, refl, sym, ap, ◌∙◌, arith, replicate, All}
 use Rattle.core_map.specs.declared.Frame.{Frame}
 use Rattle.core_map.specs.declared.Frame.TheVariants.{Free, Started, Bound}
-use Rattle.core_map.specs.CoreMap.{Core, frame_at, is_bound, bound_page}
+use Rattle.core_map.specs.CoreMap.{Core, frame_at, is_bound, bound_page, started_page}
 use Rattle.core_map.specs.Clock.{IsClockChoice, PassesOver, frame_in, unmarked, way}
 use Rattle.std.proofs.Common.{inl, inr}
 use Rattle.std.proofs.lemmas.Bool.Decides.{leb_tells}
@@ -14,10 +14,11 @@ use Rattle.page_table.specs.declared.Ptw.TheVariants.{Null, Out, Here, Leaving}
 use Rattle.page_table.specs.PageTable.{ptw_at}
 use Rattle.page_control.specs.declared.Home.{Home}
 use Rattle.page_control.specs.declared.Left.TheVariants.{Released}
-use Rattle.page_control.specs.Plain.{Plain, bindings, binding_at, words_in}
+use Rattle.page_control.specs.Plain.{Plain, bindings, starts, binding_at, words_in}
 use Rattle.page_control.specs.Effects.{evicted, dropped}
 use Rattle.page_control.specs.Tied.{frame_of, is_away, IsTableOf, IsHomeOf}
 use Rattle.page_control.specs.Picture.{picture, changed_at}
+use Rattle.std.proofs.Math.ListN.{get_or-map}
 use Rattle.page_control.proofs.Facts.{binding_is, bindings_with, within_from}
 use Rattle.page_control.proofs.Ties.{bound_within}
 use Rattle.page_control.proofs.Places.{none_put}
@@ -31,6 +32,9 @@ zeros_are n words all long =
 
 pub zeros_same : (words those : List ℕ) → words ≡ those → All (λ word. word ≡ 0) those → All (λ word. word ≡ 0) words
 zeros_same words those same all = rw same all
+
+pub not_zero : (b : Bool) (words those : List ℕ) → words ≡ those → (IsTrue b) ↔ (All (λ word. word ≡ 0) those) → b ≡ false → All (λ word. word ≡ 0) words → ⊥
+not_zero b words those same zero off all = (let on : b ≡ true = zero.1 (zeros_same those words (sym same) all) in cc)
 
 -- a bound frame is within the core
 bound_not_free : (frame : Frame) → frame ≡ Free → is_bound frame ≡ true → ⊥
@@ -92,3 +96,17 @@ bindings_chosen old new f choice =
     (λ i lt. (let long : length (bindings new) ≡ length new.frames = length-map new.frames bound_page in
     let inside : i < length old.frames = omega (arith, lt, long, choice.count) in
     binding_is new i ∙ kept_chosen bound_page old new f i page_unmarked choice inside ∙ sym (binding_is old i)))
+
+start_unmarked : (frame : Frame) → started_page (unmarked frame) ≡ started_page frame
+start_unmarked Free = refl
+start_unmarked (Started u q) = refl
+start_unmarked (Bound u q used modified) = refl
+
+pub starts_chosen : (old new : Core) (f : ℕ) → IsClockChoice old new f → starts new ≡ starts old
+starts_chosen old new f choice =
+    let none : Option (ℕ × ℕ) = None in
+    let count : length (starts new) ≡ length (starts old) = length-map new.frames started_page ∙ choice.count ∙ sym (length-map old.frames started_page) in
+    ext_get_or none (starts new) (starts old) count
+    (λ i lt. (let long : length (starts new) ≡ length new.frames = length-map new.frames started_page in
+    let inside : i < length old.frames = omega (arith, lt, long, choice.count) in
+    get_or-map started_page new.frames i Free ∙ kept_chosen started_page old new f i start_unmarked choice inside ∙ sym (get_or-map started_page old.frames i Free)))

@@ -1,8 +1,9 @@
 -- What each call of page control does (Bensoussan, Clingen and Daley 1972).
-use Rattle.std.specs.Prelude.{ℕ, ◌-◌, List, [], ◌∷◌, ◌++◌, drop, Bool, true, false, if◌then◌else◌, Option, None, Some, replicate, take, slice_set}
+use Rattle.std.specs.Prelude.{◌≡◌, ◌⊎◌, ℕ, ◌-◌, List, [], ◌∷◌, ◌++◌, drop, Bool, true, false, if◌then◌else◌, Option, None, Some, replicate, take, slice_set}
 use Rattle.core_map.specs.declared.Frame.{Frame}
 use Rattle.core_map.specs.declared.Frame.TheVariants.{Free, Bound}
 use Rattle.core_map.specs.CoreMap.{with_frame, after_reference, is_modified}
+use Rattle.mword.specs.Words.{AreZero}
 use Rattle.page_table.specs.declared.Ptw.{Ptw}
 use Rattle.page_table.specs.declared.Ptw.TheVariants.{Null, Out, Here, Leaving}
 use Rattle.vtoc.specs.Vtoc.{with_record, fresh_entry}
@@ -54,6 +55,10 @@ brought_in s uid p v r f = worded (framed s f (Bound uid p false false)) f (word
 -- is on
 abbrev pub saved : Plain → ℕ → ℕ → ℕ → Plain
 saved s f v r = record s { disks = if is_modified (frame_in s f) then with_page s.disks v r (words_in s f) else s.disks }
+
+-- the page in frame f is all zeros, or as its record has it
+abbrev pub NeedsNoWrite : Plain → ℕ → Type 0
+NeedsNoWrite s f = (AreZero (words_in s f)) ⊎ (is_modified (frame_in s f) ≡ false)
 
 -- frame f is bound to page p of segment uid, written through it, and all zeros but word `at`, which is w
 abbrev pub filled : Plain → ℕ → ℕ → ℕ → ℕ → ℕ → Plain

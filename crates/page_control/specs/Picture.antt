@@ -1,13 +1,14 @@
 -- What the frames, the records and the VTOCs stand for: the words of each page of each segment, and which pages are
 -- stored (Bensoussan, Clingen and Daley 1972; that a page of zeros has no record is Organick 1972).
-use Rattle.std.specs.Prelude.{◌≡◌, ℕ, ◌==◌, ◌&&◌, if◌then◌else◌, Bool, false, List, [], Option, None, Some, is_some, replicate, position, slice_index_or}
+use Rattle.std.specs.Prelude.{◌≡◌, ℕ, true, ◌==◌, ◌&&◌, if◌then◌else◌, Bool, false, List, [], Option, None, Some, is_some, replicate, position, slice_index_or}
 use Rattle.std.specs.List.{position_or_len}
 use Rattle.vtoc.specs.Vtoc.{Entry, record_at}
 use Rattle.page_control.specs.declared.Left.{Left}
 use Rattle.page_control.specs.declared.Left.TheVariants.{Released, Kept}
 use Rattle.core_map.specs.CoreMap.{is_modified}
 use Rattle.page_control.specs.Plain.{Plain, bindings, binding_at, frame_in, words_in, disk_of}
-use Rattle.page_control.specs.Tied.{vtoc_in}
+use Rattle.mword.specs.Words.{AreZero}
+use Rattle.page_control.specs.Tied.{vtoc_in, AreNamed}
 
 -- whether a frame is bound to page p of segment uid
 abbrev pub is_binding : ℕ → ℕ → Option (ℕ × ℕ) → Bool
@@ -76,3 +77,18 @@ stored_after stored uid p Kept = stored
 pub record AreClean (s : Plain) : Type 0 where
   pub clean : (f uid p : ℕ) → is_modified (frame_in s f) ≡ false → binding_at (bindings s.core) f ≡ Some (uid, p)
       → words_in s f ≡ words_filed (disk_of s (volume_of s.vtocs uid)) (record_named s.vtocs uid p)
+
+-- some frame is bound to page p of segment uid
+abbrev pub IsInFrame : List (Option (ℕ × ℕ)) → ℕ → ℕ → Type 0
+IsInFrame bound uid p = (f : ℕ) × (binding_at bound f ≡ Some (uid, p))
+
+-- A stored page that is all zeros is in a frame.
+pub record ZerosAreBound (s : Plain) : Type 0 where
+  pub bound : (uid p : ℕ) → is_stored s uid p ≡ true → AreZero (picture s uid p) → IsInFrame (bindings s.core) uid p
+
+-- What every call keeps where it holds: clean frames have the words of their records, a stored page of zeros is in a
+-- frame, and each record in use is named.
+pub record KeepsSound (old new : Plain) : Type 0 where
+  pub clean : AreClean old → AreClean new
+  pub zeros : ZerosAreBound old → ZerosAreBound new
+  pub named : AreNamed old.records old.vtocs → AreNamed new.records new.vtocs

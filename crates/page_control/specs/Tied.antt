@@ -1,5 +1,5 @@
 -- What ties page tables, homes and frames together (Bensoussan, Clingen and Daley 1972).
-use Rattle.std.specs.Prelude.{◌≡◌, ◌≢◌, ℕ, Bool, true, false, List, [], Option, None, Some, is_some, slice_index_or}
+use Rattle.std.specs.Prelude.{◌≡◌, ◌≢◌, ◌<◌, ◌≤◌, ℕ, Bool, true, false, List, [], Option, None, Some, is_some, length, slice_index_or}
 use Rattle.core_map.specs.CoreMap.{Core, frame_at}
 use Rattle.core_map.specs.declared.Frame.{Frame}
 use Rattle.core_map.specs.declared.Frame.TheVariants.{Free, Started, Bound}
@@ -73,6 +73,32 @@ pub record AreFiled (records : List (List Bool)) (vtocs : List (List (Option Ent
   pub used : (v e p r : ℕ) → record_at (vtoc_in vtocs v) e p ≡ Some r → in_use (flags_in records v) r ≡ true
   pub once : (v e p g q r : ℕ) → record_at (vtoc_in vtocs v) e p ≡ Some r → record_at (vtoc_in vtocs v) g q ≡ Some r → (e ≡ g) × (p ≡ q)
 
+-- the uid of the segment that a home is used for, and the file map there
+abbrev pub uid_at : List (List (Option Entry)) → Home → Option ℕ
+uid_at vtocs home = uid_of (entry_at (vtoc_in vtocs home.volume) home.entry)
+
+abbrev pub map_at : List (List (Option Entry)) → Home → List (Option ℕ)
+map_at vtocs home = records_in (entry_at (vtoc_in vtocs home.volume) home.entry)
+
+-- some entry's file map names record r for some page
+abbrev pub IsNamed : List (Option Entry) → ℕ → Type 0
+IsNamed table r = (e p : ℕ) × (record_at table e p ≡ Some r)
+
+-- What a call that concerns a segment asks and keeps: the home is the used VTOC entry of segment uid, on a volume that is
+-- there; the words are its page table, of 256 at most, and agree with its file map; and the records that file maps name
+-- are in use, each named once.
+pub record IsTied (s : Plain) (uid : ℕ) (home : Home) (words : List Ptw) : Type 0 where
+  pub volume : home.volume < length s.disks
+  pub pages : length words ≤ 256
+  pub used : IsHomeOf s.vtocs uid home
+  pub table : IsTableOf (bindings s.core) uid words
+  pub map : IsMapOf (map_at s.vtocs home) words
+  pub records : AreFiled s.records s.vtocs
+
+-- each record that is in use is named by some file map
+pub record AreNamed (records : List (List Bool)) (vtocs : List (List (Option Entry))) : Type 0 where
+  pub named : (v r : ℕ) → in_use (flags_in records v) r ≡ true → IsNamed (vtoc_in vtocs v) r
+
 -- no frame is started for page p of segment uid
 pub record IsNotStarted (core : Core) (uid p : ℕ) : Type 0 where
   pub none : (f : ℕ) → frame_at core f ≢ Started uid p
@@ -80,13 +106,6 @@ pub record IsNotStarted (core : Core) (uid p : ℕ) : Type 0 where
 -- a frame is bound to a page that no other frame is bound to
 pub record IsBoundOnce (bound : List (Option (ℕ × ℕ))) (f : ℕ) : Type 0 where
   pub only : (g : ℕ) → binding_at bound g ≡ binding_at bound f → g ≡ f
-
--- the uid of the segment that a home is used for, and the file map there
-abbrev pub uid_at : List (List (Option Entry)) → Home → Option ℕ
-uid_at vtocs home = uid_of (entry_at (vtoc_in vtocs home.volume) home.entry)
-
-abbrev pub map_at : List (List (Option Entry)) → Home → List (Option ℕ)
-map_at vtocs home = records_in (entry_at (vtoc_in vtocs home.volume) home.entry)
 
 -- no entry is used for segment uid
 pub record HasNoHome (vtocs : List (List (Option Entry))) (uid : ℕ) : Type 0 where

@@ -9,13 +9,11 @@
 //! in `choose`, and in `erase`, which reads the 256 places of one file map. `end_in` costs one read of a drive, `evict`
 //! one write at most. None but `new` takes memory.
 //!
-//! `proofs/Callers.antt` has laws for callers: that a page is in one frame, what the picture shows of a page by its word,
+//! `proofs/Laws.antt` has the laws for callers: that a page is in one frame, what the picture shows of a page by its word,
 //! and which frames `evict` may be called with.
 #![tactic(auto)]
 
 mod pages;
-#[cfg(test)]
-mod tests;
 
 pub use pages::Pages;
 

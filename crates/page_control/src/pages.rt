@@ -1,7 +1,7 @@
-ghost use Rattle.std.specs.Prelude.{◌≡◌, ◌≢◌, ◌+◌, ◌≤◌, ◌-◌, ◌++◌, take, ◌<◌, ◌↔◌, ℕ, Bool, true, false, List, Option, Some, None, Result, Ok, length, replicate, sum_by, map, slice_index, slice_set, IsTrue, IsSome, IsErr, IfOk, IfSome, IfNone, OnOk, OnErr, All};
+ghost use Rattle.std.specs.Prelude.{◌≡◌, ◌≢◌, ◌+◌, ◌≤◌, ◌-◌, ◌++◌, take, ◌<◌, ◌↔◌, ℕ, Bool, true, false, List, Option, Some, None, Result, Ok, length, replicate, sum_by, map, slice_index, slice_set, IsTrue, IsSome, IsOk, IsErr, IfOk, IfSome, IfNone, OnOk, OnErr, All};
 ghost use Rattle.std.specs.List.{list_any};
 ghost use Rattle.site_io.specs.Faults.{Rose};
-ghost use Rattle.bitmap.specs.Bitmap.{in_use, least_free};
+ghost use Rattle.bitmap.specs.Bitmap.{least_free};
 ghost use Rattle.core_map.specs.declared.Frame.TheVariants.{Free, Started, Bound};
 ghost use Rattle.core_map.specs.CoreMap.{frame_at, with_frame, is_bound, is_modified};
 ghost use Rattle.core_map.specs.Clock.{IsClockChoice};
@@ -10,11 +10,15 @@ ghost use Rattle.page_table.specs.declared.Ptw.{Ptw};
 ghost use Rattle.page_table.specs.declared.Ptw.TheVariants.{Null, Out, Here, Leaving};
 ghost use Rattle.page_table.specs.PageTable.{ptw_at};
 ghost use Rattle.vtoc.specs.Vtoc.{least_free_entry};
-ghost use Rattle.page_control.specs.Plain.{Paging, Plain, plain, words_in, words_on, number_in, flags_of, vtoc_of, file_map_of, bindings, disk_of, entry_of, filed, record_of, uid_of_home, number_or_zero};
-ghost use Rattle.page_control.specs.Effects.{framed, erased, word_put, referred, cut, unstored, brought_in, created, dropped, evicted, word_of_left, allocated, saved, filled};
+ghost use Rattle.volumes.specs.Volumes.{KeepsTables};
+ghost use Rattle.page_control.specs.Plain.{Paging, Plain, plain, words_in, words_on, number_in, flags_of, vtoc_of, bindings, starts, disk_of, entry_of, filed, record_of, uid_of_home, number_or_zero};
+ghost use Rattle.page_control.specs.Effects.{framed, erased, word_put, referred, cut, unstored, brought_in, created, dropped, evicted, word_of_left, allocated, saved, filled, NeedsNoWrite};
+ghost use Rattle.page_control.specs.Steps.{HasLeft, HasRead, HasCreated};
 ghost use Rattle.page_control.specs.Erasing.{IsPartErased};
-ghost use Rattle.page_control.specs.Picture.{picture, is_stored, changed_at, changed_for, stored_after, AreClean};
-ghost use Rattle.page_control.specs.Tied.{IsTableOf, IsHomeOf, HasNoHome, HasNoFrame, IsMapOf, AreFiled, IsNotStarted, IsBoundOnce, KeepsOthers, map_at, uid_in, is_away, is_out};
+ghost use Rattle.page_control.specs.Picture.{picture, is_stored, changed_at, changed_for, stored_after, KeepsSound};
+ghost use Rattle.page_control.specs.Counts.{taken, used, one_more, one_less, taken_after, KeepsCounts};
+ghost use Rattle.page_control.specs.Drives.{KeepsDrives};
+ghost use Rattle.page_control.specs.Tied.{IsTableOf, IsHomeOf, HasNoHome, HasNoFrame, IsMapOf, AreFiled, IsNotStarted, IsBoundOnce, IsTied, KeepsOthers, map_at, uid_in, is_away, is_out};
 ghost use Rattle.page_control.specs.declared.Home.{Home};
 
 use crate::{Home, Left, NoMemory, NoRecord};
@@ -98,8 +102,9 @@ impl<D: Drive> Pages<D> {
         ensures rest { self.new ≡ record self.old { core = self.new.core } }
         ensures picture { picture (plain D.pages self.new) ≡ picture (plain D.pages self.old) }
         ensures stored { is_stored (plain D.pages self.new) ≡ is_stored (plain D.pages self.old) }
-        ensures clean { AreClean (plain D.pages self.old) → AreClean (plain D.pages self.new) }
+        ensures sound { KeepsSound (plain D.pages self.old) (plain D.pages self.new) }
         ensures bindings { bindings self.new.core ≡ bindings self.old.core }
+        ensures starts { starts self.new.core ≡ starts self.old.core }
         ensures volumes { self.new.volumes ≡ self.old.volumes }
     {
         self.core.choose()
@@ -115,8 +120,9 @@ impl<D: Drive> Pages<D> {
         ensures marks { plain D.pages self.new ≡ referred (plain D.pages self.old) f false }
         ensures picture { picture (plain D.pages self.new) ≡ picture (plain D.pages self.old) }
         ensures stored { is_stored (plain D.pages self.new) ≡ is_stored (plain D.pages self.old) }
-        ensures clean { AreClean (plain D.pages self.old) → AreClean (plain D.pages self.new) }
+        ensures sound { KeepsSound (plain D.pages self.old) (plain D.pages self.new) }
         ensures bindings { bindings self.new.core ≡ bindings self.old.core }
+        ensures starts { starts self.new.core ≡ starts self.old.core }
         ensures volumes { self.new.volumes ≡ self.old.volumes }
     {
         self.core.mark(f, false);
@@ -132,8 +138,9 @@ impl<D: Drive> Pages<D> {
         ensures word { plain D.pages self.new ≡ word_put (plain D.pages self.old) f at w }
         ensures picture { IsBoundOnce (bindings self.old.core) f → picture (plain D.pages self.new) ≡ changed_at (picture (plain D.pages self.old)) (uid_in (frame_at self.old.core f)) (number_in (frame_at self.old.core f)) (slice_set (words_in (plain D.pages self.old) f) at w) }
         ensures stored { is_stored (plain D.pages self.new) ≡ is_stored (plain D.pages self.old) }
-        ensures clean { AreClean (plain D.pages self.old) → AreClean (plain D.pages self.new) }
+        ensures sound { KeepsSound (plain D.pages self.old) (plain D.pages self.new) }
         ensures bindings { bindings self.new.core ≡ bindings self.old.core }
+        ensures starts { starts self.new.core ≡ starts self.old.core }
         ensures volumes { self.new.volumes ≡ self.old.volumes }
     {
         self.core.mark(f, true);
@@ -150,8 +157,9 @@ impl<D: Drive> Pages<D> {
         ensures words { plain D.pages self.new ≡ cut (plain D.pages self.old) f at }
         ensures picture { IsBoundOnce (bindings self.old.core) f → picture (plain D.pages self.new) ≡ changed_at (picture (plain D.pages self.old)) (uid_in (frame_at self.old.core f)) (number_in (frame_at self.old.core f)) (take at (words_in (plain D.pages self.old) f) ++ replicate (1024 - at) 0) }
         ensures stored { is_stored (plain D.pages self.new) ≡ is_stored (plain D.pages self.old) }
-        ensures clean { AreClean (plain D.pages self.old) → AreClean (plain D.pages self.new) }
+        ensures sound { KeepsSound (plain D.pages self.old) (plain D.pages self.new) }
         ensures bindings { bindings self.new.core ≡ bindings self.old.core }
+        ensures starts { starts self.new.core ≡ starts self.old.core }
         ensures volumes { self.new.volumes ≡ self.old.volumes }
     {
         self.core.mark(f, true);
@@ -164,31 +172,21 @@ impl<D: Drive> Pages<D> {
     #[tactic(auto, using(crate::proofs::Facts::home_used, crate::proofs::Facts::filed_from_word, crate::proofs::Facts::leaving_bound, std::proofs::lemmas::Grind::common_steps))]
     pub fn drop_page(&mut self, t: &mut PageTable, p: u32, home: Home)
         requires page { p < length t.old }
-        requires pages { length t.old ≤ 256 }
         requires away { is_away (ptw_at t.old p) ≡ true }
-        requires volume { home.volume < length self.old.volumes.drives }
-        requires home { IsHomeOf self.old.volumes.vtocs (uid_of_home (plain D.pages self.old) home) home }
-        requires table { IsTableOf (bindings self.old.core) (uid_of_home (plain D.pages self.old) home) t.old }
-        requires map { IsMapOf (file_map_of (plain D.pages self.old) home) t.old }
-        requires records { AreFiled self.old.volumes.records self.old.volumes.vtocs }
+        requires tie { IsTied (plain D.pages self.old) (uid_of_home (plain D.pages self.old) home) home t.old }
         ensures dropped { plain D.pages self.new ≡ dropped (plain D.pages self.old) home p (ptw_at t.old p) }
         ensures word { t.new ≡ slice_set t.old p Null }
-        ensures table { IsTableOf (bindings self.new.core) (uid_of_home (plain D.pages self.old) home) t.new }
-        ensures map { IsMapOf (file_map_of (plain D.pages self.new) home) t.new }
-        ensures records { AreFiled self.new.volumes.records self.new.volumes.vtocs }
+        ensures tie { IsTied (plain D.pages self.new) (uid_of_home (plain D.pages self.old) home) home t.new }
         ensures others { KeepsOthers (plain D.pages self.old) (plain D.pages self.new) (uid_of_home (plain D.pages self.old) home) home }
+        ensures sound { KeepsSound (plain D.pages self.old) (plain D.pages self.new) }
         ensures picture { picture (plain D.pages self.new) ≡ changed_at (picture (plain D.pages self.old)) (uid_of_home (plain D.pages self.old) home) p (replicate 1024 0) }
         ensures stored { is_stored (plain D.pages self.new) ≡ changed_at (is_stored (plain D.pages self.old)) (uid_of_home (plain D.pages self.old) home) p false }
-        ensures clean { AreClean (plain D.pages self.old) → AreClean (plain D.pages self.new) }
+        ensures starts { starts self.new.core ≡ starts self.old.core }
+        ensures taken { taken self.new.volumes.records ≡ one_less (taken self.old.volumes.records) home.volume }
+        ensures counts { KeepsCounts (plain D.pages self.old) (plain D.pages self.new) }
         ensures drives { self.new.volumes.drives ≡ self.old.volumes.drives }
     {
-        let word = t.get(p);
-        self.unstore(home, p);
-        t.set(p, Ptw::Null);
-        match word {
-            Ptw::Leaving(f) => self.core.release(f),
-            Ptw::Null | Ptw::Out(_) | Ptw::Here(_) => {}
-        }
+        self.drop_at(t, p, home);
     }
 
     /// Takes the least free VTOC entry of a volume for segment `uid`, with an empty file map. None exactly where all of
@@ -212,7 +210,8 @@ impl<D: Drive> Pages<D> {
         ensures records { AreFiled self.old.volumes.records self.old.volumes.vtocs → AreFiled self.new.volumes.records self.new.volumes.vtocs }
         ensures picture { HasNoHome self.old.volumes.vtocs uid → picture (plain D.pages self.new) ≡ picture (plain D.pages self.old) }
         ensures stored { HasNoHome self.old.volumes.vtocs uid → is_stored (plain D.pages self.new) ≡ is_stored (plain D.pages self.old) }
-        ensures clean { HasNoHome self.old.volumes.vtocs uid → AreClean (plain D.pages self.old) → AreClean (plain D.pages self.new) }
+        ensures sound { HasNoHome self.old.volumes.vtocs uid → KeepsSound (plain D.pages self.old) (plain D.pages self.new) }
+        ensures used { IfSome result (λ e. used self.new.volumes.vtocs ≡ one_more (used self.old.volumes.vtocs) volume) }
     {
         self.volumes.vtoc_mut(volume).allocate(uid)
     }
@@ -239,13 +238,10 @@ impl<D: Drive> Pages<D> {
         // What becomes of the picture.
         ensures picture { picture (plain D.pages self.new) ≡ changed_for (picture (plain D.pages self.old)) (uid_of_home (plain D.pages self.old) home) (replicate 1024 0) }
         ensures stored { is_stored (plain D.pages self.new) ≡ changed_for (is_stored (plain D.pages self.old)) (uid_of_home (plain D.pages self.old) home) false }
-        ensures clean { AreClean (plain D.pages self.old) → AreClean (plain D.pages self.new) }
+        ensures sound { KeepsSound (plain D.pages self.old) (plain D.pages self.new) }
+        ensures used { used self.new.volumes.vtocs ≡ one_less (used self.old.volumes.vtocs) home.volume }
     {
-        for p in 0..256 {
-            self.give_back(home, p);
-        }
-        prove!(home.entry < self.volumes.vtoc(home.volume).size());
-        self.volumes.vtoc_mut(home.volume).free(home.entry);
+        self.erase_all(home);
     }
 
     /// Notes that page `p` of segment `uid`, which is on a record, is being read into the free frame `f`. (Source: own.)
@@ -260,8 +256,9 @@ impl<D: Drive> Pages<D> {
         ensures started { plain D.pages self.new ≡ framed (plain D.pages self.old) f (Started uid p) }
         ensures picture { picture (plain D.pages self.new) ≡ picture (plain D.pages self.old) }
         ensures stored { is_stored (plain D.pages self.new) ≡ is_stored (plain D.pages self.old) }
-        ensures clean { AreClean (plain D.pages self.old) → AreClean (plain D.pages self.new) }
+        ensures sound { KeepsSound (plain D.pages self.old) (plain D.pages self.new) }
         ensures bindings { bindings self.new.core ≡ bindings self.old.core }
+        ensures starts { starts self.new.core ≡ slice_set (starts self.old.core) f (Some (uid, p)) }
         ensures volumes { self.new.volumes ≡ self.old.volumes }
     {
         self.core.start(f, uid, p);
@@ -270,7 +267,6 @@ impl<D: Drive> Pages<D> {
     /// Reads page `p` of segment `uid` into the frame `f` that was started for it, and binds the frame to it. `Failed`
     /// comes only where the faults of the drives rose; `f` is free then, and the rest as before. It costs one read of
     /// the drive. (Source: Bensoussan, Clingen and Daley 1972.)
-    #[tactic(auto, using(crate::proofs::Facts::home_used, crate::proofs::Facts::bindings_lost, std::proofs::lemmas::Grind::common_steps))]
     pub fn end_in(
         &mut self,
         t: &mut PageTable,
@@ -280,53 +276,32 @@ impl<D: Drive> Pages<D> {
         f: u32,
     ) -> Result<(), Failed>
         requires page { p < length t.old }
-        requires pages { length t.old ≤ 256 }
-        requires out { ptw_at t.old p ≡ Out (record_of (plain D.pages self.old) home p) }
+        requires out { is_out (ptw_at t.old p) ≡ true }
         requires started { frame_at self.old.core f ≡ Started uid p }
-        requires volume { home.volume < length self.old.volumes.drives }
-        requires home { IsHomeOf self.old.volumes.vtocs uid home }
-        requires table { IsTableOf (bindings self.old.core) uid t.old }
-        requires map { IsMapOf (file_map_of (plain D.pages self.old) home) t.old }
-        requires records { AreFiled self.old.volumes.records self.old.volumes.vtocs }
+        requires tie { IsTied (plain D.pages self.old) uid home t.old }
         ensures ok { OnOk result (plain D.pages self.new ≡ brought_in (plain D.pages self.old) uid p home.volume (record_of (plain D.pages self.old) home p) f) }
-        ensures word { OnOk result (t.new ≡ slice_set t.old p (Here f)) }
-        ensures table { IsTableOf (bindings self.new.core) uid t.new }
         ensures err { OnErr result (plain D.pages self.new ≡ framed (plain D.pages self.old) f Free) }
+        ensures word { OnOk result (t.new ≡ slice_set t.old p (Here f)) }
+        ensures word_kept { OnErr result (t.new ≡ t.old) }
+        ensures tie { IsTied (plain D.pages self.new) uid home t.new }
+        ensures others { KeepsOthers (plain D.pages self.old) (plain D.pages self.new) uid home }
+        ensures sound { KeepsSound (plain D.pages self.old) (plain D.pages self.new) }
         ensures picture { picture (plain D.pages self.new) ≡ picture (plain D.pages self.old) }
         ensures stored { is_stored (plain D.pages self.new) ≡ is_stored (plain D.pages self.old) }
-        ensures map { IsMapOf (file_map_of (plain D.pages self.new) home) t.new }
-        ensures homes { self.new.volumes.vtocs ≡ self.old.volumes.vtocs }
-        ensures records { self.new.volumes.records ≡ self.old.volumes.records }
-        ensures others { KeepsOthers (plain D.pages self.old) (plain D.pages self.new) uid home }
-        ensures clean { AreClean (plain D.pages self.old) → AreClean (plain D.pages self.new) }
-        ensures word_kept { OnErr result (t.new ≡ t.old) }
-        ensures plans { map D.plan self.new.volumes.drives ≡ map D.plan self.old.volumes.drives }
-        ensures places { map D.places self.new.volumes.drives ≡ map D.places self.old.volumes.drives }
-        ensures count { length self.new.volumes.drives ≡ length self.old.volumes.drives }
+        ensures bound { OnOk result (bindings self.new.core ≡ slice_set (bindings self.old.core) f (Some (uid, p))) }
+        ensures lost { OnErr result (bindings self.new.core ≡ bindings self.old.core) }
+        ensures starts { starts self.new.core ≡ slice_set (starts self.old.core) f None }
+        ensures tables { KeepsTables self.old.volumes self.new.volumes }
+        ensures counts { KeepsCounts (plain D.pages self.old) (plain D.pages self.new) }
+        ensures drives { KeepsDrives D.plan D.places D.faults self.old.volumes.drives self.new.volumes.drives home.volume }
         ensures rose { OnErr result (Rose (sum_by D.faults self.old.volumes.drives) (sum_by D.faults self.new.volumes.drives)) }
-        ensures grows { sum_by D.faults self.old.volumes.drives ≤ sum_by D.faults self.new.volumes.drives }
     {
-        let r = self.record_in(home, p);
-        match self
-            .volumes
-            .read_page(home.volume, r, &mut self.frames[f as usize])
-        {
-            Ok(()) => {
-                self.core.bind(f, uid, p);
-                t.set(p, Ptw::Here(f));
-                Ok(())
-            }
-            Err(failed) => {
-                self.core.lose(f);
-                Err(failed)
-            }
-        }
+        self.read_at(t, uid, p, home, f)
     }
 
     /// Gives page `p` of segment `uid`, which had no record, the least free record of its volume and the free frame
     /// `f`, all zeros but word `at`, which becomes `w`; both marks are on then. `NoRecord` exactly where all records of
     /// the volume are in use; nothing has changed then. A file map names records below 65,535. (Source: Organick 1972.)
-    #[tactic(auto, using(crate::proofs::Facts::home_used, crate::proofs::Facts::none_free, crate::proofs::Ties::table_created, std::proofs::lemmas::Grind::common_steps))]
     pub fn create_page(
         &mut self,
         t: &mut PageTable,
@@ -338,42 +313,29 @@ impl<D: Drive> Pages<D> {
         w: Word,
     ) -> Result<(), NoRecord>
         requires page { p < length t.old }
-        requires pages { length t.old ≤ 256 }
         requires null { ptw_at t.old p ≡ Null }
         requires frame { f < length self.old.core.frames }
         requires free { frame_at self.old.core f ≡ Free }
         requires at { at < 1024 }
-        requires volume { home.volume < length self.old.volumes.drives }
         requires short { length (flags_of (plain D.pages self.old) home.volume) < 65536 }
-        requires home { IsHomeOf self.old.volumes.vtocs uid home }
-        requires table { IsTableOf (bindings self.old.core) uid t.old }
-        requires map { IsMapOf (file_map_of (plain D.pages self.old) home) t.old }
-        requires records { AreFiled self.old.volumes.records self.old.volumes.vtocs }
+        requires tie { IsTied (plain D.pages self.old) uid home t.old }
         ensures ok { OnOk result (plain D.pages self.new ≡ created (plain D.pages self.old) uid p home (number_or_zero (least_free (flags_of (plain D.pages self.old) home.volume))) f at w) }
+        ensures err { OnErr result (self.new ≡ self.old) }
+        ensures full { IsErr result ↔ All (λ flag. flag ≡ true) (flags_of (plain D.pages self.old) home.volume) }
         ensures word { OnOk result (t.new ≡ slice_set t.old p (Here f)) }
-        ensures table { IsTableOf (bindings self.new.core) uid t.new }
-        ensures map { IsMapOf (file_map_of (plain D.pages self.new) home) t.new }
-        ensures records { AreFiled self.new.volumes.records self.new.volumes.vtocs }
+        ensures word_kept { OnErr result (t.new ≡ t.old) }
+        ensures tie { IsTied (plain D.pages self.new) uid home t.new }
         ensures others { KeepsOthers (plain D.pages self.old) (plain D.pages self.new) uid home }
-        ensures clean { AreClean (plain D.pages self.old) → AreClean (plain D.pages self.new) }
+        ensures sound { KeepsSound (plain D.pages self.old) (plain D.pages self.new) }
         ensures picture { OnOk result (picture (plain D.pages self.new) ≡ changed_at (picture (plain D.pages self.old)) uid p (slice_set (replicate 1024 0) at w)) }
         ensures stored { OnOk result (is_stored (plain D.pages self.new) ≡ changed_at (is_stored (plain D.pages self.old)) uid p true) }
-        ensures full { IsErr result ↔ All (λ flag. flag ≡ true) (flags_of (plain D.pages self.old) home.volume) }
-        ensures err { OnErr result (self.new ≡ self.old) }
-        ensures word_kept { OnErr result (t.new ≡ t.old) }
+        ensures bound { OnOk result (bindings self.new.core ≡ slice_set (bindings self.old.core) f (Some (uid, p))) }
+        ensures starts { starts self.new.core ≡ starts self.old.core }
+        ensures taken { OnOk result (taken self.new.volumes.records ≡ one_more (taken self.old.volumes.records) home.volume) }
+        ensures counts { KeepsCounts (plain D.pages self.old) (plain D.pages self.new) }
         ensures drives { self.new.volumes.drives ≡ self.old.volumes.drives }
     {
-        match self.volumes.withdraw(home.volume) {
-            Some(r) => {
-                self.volumes
-                    .vtoc_mut(home.volume)
-                    .put_file_map(home.entry, p, Some(r));
-                self.fill(uid, p, f, at, w);
-                t.set(p, Ptw::Here(f));
-                Ok(())
-            }
-            None => Err(NoRecord),
-        }
+        self.create_at(t, uid, p, home, f, at, w)
     }
 
     /// Lets no more references go through the word of the page in frame `f`, which is on its way out from now on.
@@ -397,48 +359,32 @@ impl<D: Drive> Pages<D> {
     /// Empties frame `f`, whose page is on its way out. A page that is all zeros gives its record back, with no call of
     /// a drive; one whose modified mark is on is written to its record. `Failed` comes only where the faults of the
     /// drives rose; the page is still leaving then. (Source: Organick 1972.)
-    #[tactic(auto, using(crate::proofs::Facts::home_used, crate::proofs::Facts::leaving_within, crate::proofs::Facts::filed_from_word, crate::proofs::Facts::filed_in_use, crate::proofs::Others::others_same, crate::proofs::Clean::clean_same, std::proofs::lemmas::Grind::common_steps))]
     pub fn evict(&mut self, t: &mut PageTable, home: Home, f: u32) -> Result<Left, Failed>
-        requires pages { length t.old ≤ 256 }
         requires bound { is_bound (frame_at self.old.core f) ≡ true }
         requires leaving { ptw_at t.old (number_in (frame_at self.old.core f)) ≡ Leaving f }
-        requires volume { home.volume < length self.old.volumes.drives }
-        requires home { IsHomeOf self.old.volumes.vtocs (uid_in (frame_at self.old.core f)) home }
-        requires table { IsTableOf (bindings self.old.core) (uid_in (frame_at self.old.core f)) t.old }
-        requires map { IsMapOf (file_map_of (plain D.pages self.old) home) t.old }
-        requires records { AreFiled self.old.volumes.records self.old.volumes.vtocs }
+        requires tie { IsTied (plain D.pages self.old) (uid_in (frame_at self.old.core f)) home t.old }
         requires clean { is_modified (frame_at self.old.core f) ≡ false → words_in (plain D.pages self.old) f ≡ words_on (plain D.pages self.old) home.volume (record_of (plain D.pages self.old) home (number_in (frame_at self.old.core f))) }
         ensures zeros { IfOk result (λ left. left ≡ Left.Released ↔ AreZero (words_in (plain D.pages self.old) f)) }
+        ensures released { AreZero (words_in (plain D.pages self.old) f) → result ≡ Ok Left.Released }
         ensures ok { IfOk result (λ left. plain D.pages self.new ≡ evicted (plain D.pages self.old) home (number_in (frame_at self.old.core f)) f left) }
+        ensures err { OnErr result (plain D.pages self.new ≡ plain D.pages self.old) }
         ensures word { IfOk result (λ left. t.new ≡ slice_set t.old (number_in (frame_at self.old.core f)) (word_of_left left (record_of (plain D.pages self.old) home (number_in (frame_at self.old.core f))))) }
-        ensures table { IsTableOf (bindings self.new.core) (uid_in (frame_at self.old.core f)) t.new }
-        ensures map { IsMapOf (file_map_of (plain D.pages self.new) home) t.new }
-        ensures records { AreFiled self.new.volumes.records self.new.volumes.vtocs }
+        ensures word_kept { OnErr result (t.new ≡ t.old) }
+        ensures tie { IsTied (plain D.pages self.new) (uid_in (frame_at self.old.core f)) home t.new }
         ensures others { KeepsOthers (plain D.pages self.old) (plain D.pages self.new) (uid_in (frame_at self.old.core f)) home }
-        ensures clean { AreClean (plain D.pages self.old) → AreClean (plain D.pages self.new) }
+        ensures sound { KeepsSound (plain D.pages self.old) (plain D.pages self.new) }
         ensures picture { picture (plain D.pages self.new) ≡ picture (plain D.pages self.old) }
         ensures stored { IfOk result (λ left. is_stored (plain D.pages self.new) ≡ stored_after (is_stored (plain D.pages self.old)) (uid_in (frame_at self.old.core f)) (number_in (frame_at self.old.core f)) left) }
-        ensures no_call { AreZero (words_in (plain D.pages self.old) f) → self.new.volumes.drives ≡ self.old.volumes.drives }
-        ensures err { OnErr result (plain D.pages self.new ≡ plain D.pages self.old) }
-        ensures word_kept { OnErr result (t.new ≡ t.old) }
-        ensures plans { map D.plan self.new.volumes.drives ≡ map D.plan self.old.volumes.drives }
-        ensures places { map D.places self.new.volumes.drives ≡ map D.places self.old.volumes.drives }
-        ensures count { length self.new.volumes.drives ≡ length self.old.volumes.drives }
+        ensures freed { OnOk result (bindings self.new.core ≡ slice_set (bindings self.old.core) f None) }
+        ensures starts { starts self.new.core ≡ starts self.old.core }
+        ensures taken { IfOk result (λ left. taken self.new.volumes.records ≡ taken_after (taken self.old.volumes.records) home.volume left) }
+        ensures counts { KeepsCounts (plain D.pages self.old) (plain D.pages self.new) }
+        ensures sure { is_modified (frame_at self.old.core f) ≡ false → IsOk result }
+        ensures no_call { NeedsNoWrite (plain D.pages self.old) f → self.new.volumes.drives ≡ self.old.volumes.drives }
+        ensures drives { KeepsDrives D.plan D.places D.faults self.old.volumes.drives self.new.volumes.drives home.volume }
         ensures rose { OnErr result (Rose (sum_by D.faults self.old.volumes.drives) (sum_by D.faults self.new.volumes.drives)) }
-        ensures grows { sum_by D.faults self.old.volumes.drives ≤ sum_by D.faults self.new.volumes.drives }
     {
-        let p = self.page_in(f);
-        let r = self.record_in(home, p);
-        if self.frames[f as usize].is_zero() {
-            self.unstore(home, p);
-            self.core.release(f);
-            t.set(p, Ptw::Null);
-            return Ok(Left::Released);
-        }
-        self.save(f, home.volume, r)?;
-        self.core.release(f);
-        t.set(p, Ptw::Out(r));
-        Ok(Left::Kept)
+        self.leave(t, home, f)
     }
 
     /// Lets references go through the word of the page in frame `f` again, which was on its way out. (Source: own.)
@@ -456,6 +402,146 @@ impl<D: Drive> Pages<D> {
     {
         let p = self.page_in(f);
         t.set(p, Ptw::Here(f));
+    }
+
+    /// The steps of `drop_page`.
+    #[tactic(auto, using(crate::proofs::Facts::tied_entry, crate::proofs::Facts::leaving_bound, std::proofs::lemmas::Grind::common_steps))]
+    fn drop_at(&mut self, t: &mut PageTable, p: u32, home: Home)
+        requires page { p < length t.old }
+        requires away { is_away (ptw_at t.old p) ≡ true }
+        requires tie { IsTied (plain D.pages self.old) (uid_of_home (plain D.pages self.old) home) home t.old }
+        ensures dropped { plain D.pages self.new ≡ dropped (plain D.pages self.old) home p (ptw_at t.old p) }
+        ensures word { t.new ≡ slice_set t.old p Null }
+        ensures drives { self.new.volumes.drives ≡ self.old.volumes.drives }
+    {
+        let r = self.record_in(home, p);
+        self.unstore(home, p, r);
+        let word = t.get(p);
+        t.set(p, Ptw::Null);
+        match word {
+            Ptw::Leaving(f) => self.core.release(f),
+            Ptw::Null | Ptw::Out(_) | Ptw::Here(_) => {}
+        }
+    }
+
+    /// The steps of `erase`.
+    #[tactic(auto, using(crate::proofs::Facts::home_used, std::proofs::lemmas::Grind::common_steps))]
+    fn erase_all(&mut self, home: Home)
+        requires volume { home.volume < length self.old.volumes.drives }
+        requires home { IsHomeOf self.old.volumes.vtocs (uid_of_home (plain D.pages self.old) home) home }
+        requires records { AreFiled self.old.volumes.records self.old.volumes.vtocs }
+        ensures erased { plain D.pages self.new ≡ erased (plain D.pages self.old) home }
+        ensures records { AreFiled self.new.volumes.records self.new.volumes.vtocs }
+        ensures core { self.new.core ≡ self.old.core }
+        ensures drives { self.new.volumes.drives ≡ self.old.volumes.drives }
+    {
+        for p in 0..256 {
+            self.give_back(home, p);
+        }
+        prove!(home.entry < self.volumes.vtoc(home.volume).size());
+        self.volumes.vtoc_mut(home.volume).free(home.entry);
+    }
+
+    /// The steps of `end_in`.
+    #[tactic(auto, using(std::proofs::lemmas::Grind::common_steps))]
+    fn read_at(
+        &mut self,
+        t: &mut PageTable,
+        uid: u32,
+        p: u32,
+        home: Home,
+        f: u32,
+    ) -> Result<(), Failed>
+        requires page { p < length t.old }
+        requires out { is_out (ptw_at t.old p) ≡ true }
+        requires started { frame_at self.old.core f ≡ Started uid p }
+        requires tie { IsTied (plain D.pages self.old) uid home t.old }
+        ensures read { HasRead (plain D.pages self.old) (plain D.pages self.new) t.old t.new uid home p f result }
+        ensures tables { KeepsTables self.old.volumes self.new.volumes }
+        ensures drives { KeepsDrives D.plan D.places D.faults self.old.volumes.drives self.new.volumes.drives home.volume }
+        ensures rose { OnErr result (Rose (sum_by D.faults self.old.volumes.drives) (sum_by D.faults self.new.volumes.drives)) }
+    {
+        let r = record_out(t, p);
+        prove!(r < self.volumes.size(home.volume));
+        match self
+            .volumes
+            .read_page(home.volume, r, &mut self.frames[f as usize])
+        {
+            Ok(()) => {
+                self.core.bind(f, uid, p);
+                t.set(p, Ptw::Here(f));
+                Ok(())
+            }
+            Err(failed) => {
+                self.core.lose(f);
+                Err(failed)
+            }
+        }
+    }
+
+    /// The steps of `create_page`.
+    #[tactic(auto, using(crate::proofs::Facts::home_used, crate::proofs::Facts::none_free, std::proofs::lemmas::Grind::common_steps))]
+    fn create_at(
+        &mut self,
+        t: &mut PageTable,
+        uid: u32,
+        p: u32,
+        home: Home,
+        f: u32,
+        at: u32,
+        w: Word,
+    ) -> Result<(), NoRecord>
+        requires page { p < length t.old }
+        requires pages { length t.old ≤ 256 }
+        requires frame { f < length self.old.core.frames }
+        requires free { frame_at self.old.core f ≡ Free }
+        requires at { at < 1024 }
+        requires volume { home.volume < length self.old.volumes.drives }
+        requires short { length (flags_of (plain D.pages self.old) home.volume) < 65536 }
+        requires home { IsHomeOf self.old.volumes.vtocs uid home }
+        ensures created { HasCreated (plain D.pages self.old) (plain D.pages self.new) t.old t.new uid home p f at w result }
+        ensures err { OnErr result (self.new ≡ self.old) }
+        ensures drives { self.new.volumes.drives ≡ self.old.volumes.drives }
+    {
+        match self.volumes.withdraw(home.volume) {
+            Some(r) => {
+                self.volumes
+                    .vtoc_mut(home.volume)
+                    .put_file_map(home.entry, p, Some(r));
+                self.fill(uid, p, f, at, w);
+                t.set(p, Ptw::Here(f));
+                Ok(())
+            }
+            None => Err(NoRecord),
+        }
+    }
+
+    /// The steps of `evict`.
+    #[tactic(auto, using(crate::proofs::Facts::tied_entry, crate::proofs::Facts::leaving_within, std::proofs::lemmas::Grind::common_steps))]
+    fn leave(&mut self, t: &mut PageTable, home: Home, f: u32) -> Result<Left, Failed>
+        requires bound { is_bound (frame_at self.old.core f) ≡ true }
+        requires leaving { ptw_at t.old (number_in (frame_at self.old.core f)) ≡ Leaving f }
+        requires tie { IsTied (plain D.pages self.old) (uid_in (frame_at self.old.core f)) home t.old }
+        ensures left { HasLeft (plain D.pages self.old) (plain D.pages self.new) t.old t.new home (number_in (frame_at self.old.core f)) f result }
+        ensures sure { is_modified (frame_at self.old.core f) ≡ false → IsOk result }
+        ensures no_call { NeedsNoWrite (plain D.pages self.old) f → self.new.volumes.drives ≡ self.old.volumes.drives }
+        ensures drives { KeepsDrives D.plan D.places D.faults self.old.volumes.drives self.new.volumes.drives home.volume }
+        ensures rose { OnErr result (Rose (sum_by D.faults self.old.volumes.drives) (sum_by D.faults self.new.volumes.drives)) }
+    {
+        let p = self.page_in(f);
+        let r = self.record_in(home, p);
+        if self.frames[f as usize].is_zero() {
+            self.unstore(home, p, r);
+            self.core.release(f);
+            t.set(p, Ptw::Null);
+            return Ok(Left::Released);
+        }
+        if let Err(failed) = self.save(f, home.volume, r) {
+            return Err(failed);
+        }
+        self.core.release(f);
+        t.set(p, Ptw::Out(r));
+        Ok(Left::Kept)
     }
 
     /// Binds the free frame `f` to page `p` of segment `uid`, all zeros but word `at`, which becomes `w`. Both marks are
@@ -518,35 +604,28 @@ impl<D: Drive> Pages<D> {
         ensures core { self.new.core ≡ self.old.core }
         ensures drives { self.new.volumes.drives ≡ self.old.volumes.drives }
     {
-        if self
-            .volumes
-            .vtoc(home.volume)
-            .file_map(home.entry, p)
-            .is_some()
-        {
-            self.unstore(home, p);
+        if let Some(r) = self.volumes.vtoc(home.volume).file_map(home.entry, p) {
+            self.unstore(home, p, r);
         }
     }
 
-    /// Gives the record of page `p` at a home back.
-    #[tactic(auto, using(crate::proofs::Facts::filed_in_use, std::proofs::lemmas::Grind::common_steps))]
-    fn unstore(&mut self, home: Home, p: u32)
+    /// Gives back record `r`, which page `p` at a home has.
+    #[tactic(auto, using(crate::proofs::Facts::filed_in_use, crate::proofs::Facts::record_is, std::proofs::lemmas::Grind::common_steps))]
+    fn unstore(&mut self, home: Home, p: u32, r: u32)
         requires page { p < 256 }
         requires volume { home.volume < length self.old.volumes.drives }
         requires used { IsSome (entry_of (plain D.pages self.old) home) }
-        requires filed { filed (plain D.pages self.old) home p ≡ Some (record_of (plain D.pages self.old) home p) }
+        requires filed { filed (plain D.pages self.old) home p ≡ Some r }
         requires records { AreFiled self.old.volumes.records self.old.volumes.vtocs }
         ensures unstored { plain D.pages self.new ≡ unstored (plain D.pages self.old) home p }
         ensures core { self.new.core ≡ self.old.core }
         ensures frames { self.new.frames ≡ self.old.frames }
         ensures drives { self.new.volumes.drives ≡ self.old.volumes.drives }
     {
-        if let Some(r) = self.volumes.vtoc(home.volume).file_map(home.entry, p) {
-            self.volumes.deposit(home.volume, r);
-            self.volumes
-                .vtoc_mut(home.volume)
-                .put_file_map(home.entry, p, None);
-        }
+        self.volumes.deposit(home.volume, r);
+        self.volumes
+            .vtoc_mut(home.volume)
+            .put_file_map(home.entry, p, None);
     }
 
     /// Writes the page in the bound frame `f` to record `r` of a volume where its modified mark is on.
@@ -556,13 +635,10 @@ impl<D: Drive> Pages<D> {
         requires record { r < length (disk_of (plain D.pages self.old) volume) }
         ensures ok { OnOk result (plain D.pages self.new ≡ saved (plain D.pages self.old) f volume r) }
         ensures err { OnErr result (plain D.pages self.new ≡ plain D.pages self.old) }
-        ensures core { self.new.core ≡ self.old.core }
-        ensures frames { self.new.frames ≡ self.old.frames }
-        ensures plans { map D.plan self.new.volumes.drives ≡ map D.plan self.old.volumes.drives }
-        ensures places { map D.places self.new.volumes.drives ≡ map D.places self.old.volumes.drives }
-        ensures count { length self.new.volumes.drives ≡ length self.old.volumes.drives }
+        ensures sure { is_modified (frame_at self.old.core f) ≡ false → IsOk result }
+        ensures no_call { is_modified (frame_at self.old.core f) ≡ false → self.new.volumes.drives ≡ self.old.volumes.drives }
+        ensures drives { KeepsDrives D.plan D.places D.faults self.old.volumes.drives self.new.volumes.drives volume }
         ensures rose { OnErr result (Rose (sum_by D.faults self.old.volumes.drives) (sum_by D.faults self.new.volumes.drives)) }
-        ensures grows { sum_by D.faults self.old.volumes.drives ≤ sum_by D.faults self.new.volumes.drives }
     {
         if self.core.modified(f) {
             self.volumes
@@ -581,4 +657,16 @@ fn zero_pages(alloc: Global, count: u32) -> Result<Vec<Page>, NoMemory>
         pages.push_reserved(Page::zero(alloc)?);
     }
     Ok(pages)
+}
+
+/// The record that the word of page `p` names.
+fn record_out(t: &PageTable, p: u32) -> u32
+    requires page { p < length t.now }
+    requires out { is_out (ptw_at t.now p) ≡ true }
+    ensures { ptw_at t.now p ≡ Out result }
+{
+    match t.get(p) {
+        Ptw::Out(r) => r,
+        Ptw::Null | Ptw::Here(_) | Ptw::Leaving(_) => unreachable!(),
+    }
 }

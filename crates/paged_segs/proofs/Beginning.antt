@@ -18,20 +18,12 @@ use Rattle.page_control.specs.Plain.{Plain, Paging, plain, bindings, disk_of, vt
 use Rattle.page_control.specs.Effects.{allocated}
 use Rattle.page_control.specs.Picture.{picture, is_stored, is_filed_in, volume_of, record_named, words_filed, words_held, words_of_page, AreClean}
 use Rattle.page_control.specs.Tied.{vtoc_in, uid_at, map_at, IsHomeOf, AreFiled, HasNoHome}
-use Rattle.page_control.proofs.Firsts.{below}
-use Rattle.page_control.proofs.Ties.{not_none}
-use Rattle.page_control.proofs.Leaving.{no_record, named_by}
-use Rattle.page_control.proofs.Pictures.{found_nowhere}
-use Rattle.page_control.proofs.Homes.{at_or_other, uid_here, uid_other, none_named}
-use Rattle.page_control.proofs.Places.{put, list_within}
-use Rattle.page_control.proofs.Fresh.{alike}
-use Rattle.page_control.proofs.Made.{no_frame_made, clean_made}
+use Rattle.page_control.proofs.Laws.{below, not_none, no_record, named_by, found_nowhere, at_or_other, uid_here, uid_other, none_named, put, list_within, alike, no_frame_made, clean_made}
 use Rattle.std.proofs.lemmas.Option.{same_Some}
 use Rattle.paged_segs.specs.Segs.{segs_of, table_at, root_home, pages_of, plan_of}
-use Rattle.paged_segs.specs.Counts.{used, one_more}
 use Rattle.paged_segs.specs.Effects.{begun}
 use Rattle.paged_segs.specs.Kept.{IsKept, AreFresh}
-use Rattle.paged_segs.proofs.Making.{sum_more, places_same, used_more, free_at}
+use Rattle.paged_segs.proofs.Making.{sum_more, places_same}
 
 -- frames and volumes as page control begins
 abbrev pub begun_pages : ℕ → Vols DriveState → Paging DriveState
@@ -162,12 +154,6 @@ begun_is v pages now frames e places tables homes fresh start least is drives th
     let plans : map plan_of now.volumes.drives ≡ map plan_of v.drives = ap (map plan_of) drives ∙ ap (λ (x : Paging DriveState). map plan_of x.volumes.drives) start in
     let all : tables ≡ replicate (sum_by length v.vtocs) (replicate 256 Null) = those ∙ ap (λ (n : ℕ). replicate n (replicate 256 Null)) sum in
     λ i. record { storage = storage i; plans = plans i; tables = all i; homes = none i }
-
-pub begun_used : (v : Vols DriveState) (pages now : Paging DriveState) (e : ℕ) → AreFresh v → pages.volumes ≡ v → Some e ≡ least_free_entry (vtoc_of (plain pages_of pages) 0)
-    → plain pages_of now ≡ allocated (plain pages_of pages) 0 e 1 → used now.volumes.vtocs ≡ one_more (used v.vtocs) 0
-begun_used v pages now e fresh is least effect =
-    let at = free_at (vtoc_of (plain pages_of pages) 0) e (sym least) in
-    ap (λ (x : Plain). used x.vtocs) effect ∙ used_more pages.volumes.vtocs 0 e 1 at.0 at.1 ∙ ap (λ (x : Vols DriveState). one_more (used x.vtocs) 0) is
 
 -- there is an entry for the root
 pub root_room : (v : Vols DriveState) (pages : Paging DriveState) → AreFresh v → pages.volumes ≡ v → None ≡ least_free_entry (vtoc_of (plain pages_of pages) 0) → ⊥

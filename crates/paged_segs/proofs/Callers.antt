@@ -10,7 +10,7 @@ use Rattle.volumes.specs.CoreDrive.{DriveState}
 use Rattle.volumes.specs.Volumes.{made_of}
 use Rattle.volumes.specs.declared.Part.{Part}
 use Rattle.page_control.specs.Tied.{vtoc_in}
-use Rattle.page_control.proofs.Fresh.{alike}
+use Rattle.page_control.proofs.Laws.{alike}
 use Rattle.paged_segs.specs.Segs.{pages_of}
 
 -- volumes as they are made of parts whose drives never fail

@@ -9,11 +9,7 @@ use Rattle.page_table.specs.declared.Ptw.TheVariants.{Null, Out, Here, Leaving}
 use Rattle.page_control.specs.Plain.{Plain, bindings, binding_at, disk_of, number_or_zero}
 use Rattle.page_control.specs.Picture.{picture, is_stored, is_filed_in, volume_of, place_of, record_named, words_filed, words_held, words_of_page}
 use Rattle.page_control.specs.Tied.{frame_of, has_record}
-use Rattle.page_control.proofs.Facts.{binding_is, some_number}
-use Rattle.page_control.proofs.Ties.{not_none}
-use Rattle.page_control.proofs.Pictures.{found_nowhere, record_found}
-use Rattle.page_control.proofs.Leaving.{named_home}
-use Rattle.page_control.proofs.Callers.{stored_shown}
+use Rattle.page_control.proofs.Laws.{binding_is, some_number, not_none, found_nowhere, record_found, named_home, stored_shown}
 use Rattle.paged_segs.specs.Segs.{Segs, home_at, table_at, word_at, root_home}
 use Rattle.paged_segs.specs.Kept.{IsKept}
 

@@ -12,12 +12,13 @@ use Rattle.page_table.specs.declared.Ptw.TheVariants.{Null, Out, Leaving}
 use Rattle.page_table.specs.PageTable.{ptw_at}
 use Rattle.volumes.specs.declared.drive.FailLine.{FailLine}
 use Rattle.page_control.specs.Plain.{Plain, bindings}
-use Rattle.page_control.specs.Picture.{picture, changed_at, AreClean}
-use Rattle.page_control.specs.Tied.{map_at, IsTableOf, IsMapOf, AreFiled, KeepsOthers}
-use Rattle.page_control.proofs.Facts.{binding_is, out_within}
+use Rattle.page_control.specs.Picture.{picture, AreClean}
+use Rattle.page_control.specs.Counts.{KeepsCounts}
+use Rattle.page_control.specs.Tied.{map_at, IsTableOf, IsMapOf, IsTied, KeepsOthers}
+use Rattle.page_control.proofs.Laws.{binding_is, out_within, used_sum, places_sum, size_at, entries_at}
 use Rattle.paged_segs.specs.Segs.{Segs, home_at, table_at, word_at, root_home}
+use Rattle.paged_segs.specs.Effects.{HasSizes}
 use Rattle.paged_segs.specs.Kept.{IsKept}
-use Rattle.paged_segs.proofs.Counting.{KeepsCounts, used_sum, places_sum, size_at}
 use Rattle.paged_segs.proofs.Located.{homes_within, one_home}
 
 -- an element of a list that was set is the new one, or as before
@@ -30,26 +31,24 @@ set_or_same xs p x d q = elim (leb_tells (length xs) p) [
   ]
 ]
 
--- a page other than the one that has changed
-pub changed_other : {X : Type 0} (old : ℕ → ℕ → X) (uid p : ℕ) (x : X) (u q : ℕ) → (u ≡ uid → q ≡ p → ⊥) → changed_at old uid p x u q ≡ old u q
-unfolding changed_at
-changed_other old uid p x u q other = elim (eqb_tells uid u) [
-  | inl same ↦ elim (eqb_tells p q) [
-    | inl also ↦ absurd (other (sym same.1) (sym also.1))
-    | inr n ↦ rw (same.0, n.0) refl
-  ]
-  | inr n ↦ rw n.0 refl
-]
+-- counts that a call keeps
+pub sizes : (old new : Plain) → KeepsCounts old new → HasSizes old new
+sizes old new k = record {
+  volumes = k.volumes;
+  records = λ i. λ v. size_at old new k v i;
+  places = λ i. λ v. entries_at old new k v i;
+  frames = k.frames;
+}
 
 -- a call for page p of segment i, whose word and frame have changed
 pub kept_call : (s : Segs) (now : Plain) (plans : List (Option (List FailLine))) (i p f : ℕ) (w : Ptw) (frame : Frame) (t : List Ptw)
     → IsKept s → i < length s.homes → plans ≡ s.plans → t ≡ set (table_at s.tables i) p w → ((g : ℕ) → w ≢ Leaving g)
     → now.core ≡ with_frame s.storage.core f frame → is_started frame ≡ false → ((uid q : ℕ) → bound_page frame ≡ Some (uid, q) → uid ≡ i + 2)
-    → IsTableOf (bindings now.core) (i + 2) t → IsMapOf (map_at now.vtocs (home_at s.homes i)) t → AreFiled now.records now.vtocs → AreClean now
+    → IsTied now (i + 2) (home_at s.homes i) t → AreClean now
     → KeepsOthers s.storage now (i + 2) (home_at s.homes i) → KeepsCounts s.storage now
     → ((r : ℕ) → w ≡ Out r → AreZero (picture now (i + 2) p) → ⊥) → ((j q : ℕ) → (j ≡ i → q ≡ p → ⊥) → picture now (j + 2) q ≡ picture s.storage (j + 2) q)
     → IsKept (record { storage = now; plans = plans; tables = set s.tables i t; homes = s.homes })
-kept_call s now plans i p f w frame t k il same ts stays core idle own table map filed clean others counts zeros pictures =
+kept_call s now plans i p f w frame t k il same ts stays core idle own tie clean others counts zeros pictures =
     let inside : i < length s.tables = (let more = homes_within s k in omega (arith, il, more)) in
     let here : table_at (set s.tables i t) i ≡ t = get_or-set_same s.tables i t [] inside in
     let there : (j : ℕ) → j ≢ i → table_at (set s.tables i t) j ≡ table_at s.tables j = λ j n. get_or-set_other s.tables i j t [] n in
@@ -78,11 +77,11 @@ kept_call s now plans i p f w frame t k il same ts stays core idle own table map
             | inr n ↦ ap length (there j n) ∙ k.lengths j jl
           ]);
       tables = λ j lt. elim (cases_eq j i) [
-        | inl e ↦ rw (e, here) table
+        | inl e ↦ rw (e, here) tie.table
         | inr n ↦ rw (there j n) (others.tables (j + 2) (table_at s.tables j) (λ e. n (omega (arith, e))) (k.tables j lt))
       ];
       maps = λ j lt. elim (cases_eq j i) [
-        | inl e ↦ rw (e, here) map
+        | inl e ↦ rw (e, here) tie.map
         | inr n ↦ rw (there j n, others.maps (home_at s.homes j) (other_home j lt n)) (k.maps j lt)
       ];
       stay = λ j q g is. elim (cases_eq j i) [
@@ -119,7 +118,7 @@ kept_call s now plans i p f w frame t k il same ts stays core idle own table map
         | inl new ↦ (let mine : uid ≡ i + 2 = own uid q (sym (ap bound_page new.1) ∙ sym (binding_is now.core g) ∙ at) in (omega (arith, mine), omega (arith, mine, il)))
         | inr old ↦ k.bound g uid q (binding_is s.storage.core g ∙ sym (ap bound_page old) ∙ sym (binding_is now.core g) ∙ at)
       ];
-      filed = filed;
+      filed = tie.records;
       short = λ v. (let count = size_at s.storage now counts v in let few = k.short v in omega (arith, count, few));
       clean = clean;
     }

@@ -1,7 +1,8 @@
 -- What is known of a segment, and of the page in a bound frame.
-use Rattle.std.proofs.Common.{◌≡◌, ◌≢◌, ℕ, ◌+◌, ◌-◌, ◌<◌, ◌≤◌, true, false, List, [], length, get_or, replicate, is_some, Option, Some, None, refl, sym, ap, ◌∙◌, arith, subst}
+use Rattle.std.proofs.Common.{◌≡◌, ◌≢◌, ℕ, ◌+◌, ◌-◌, ◌<◌, ◌≤◌, true, false, List, [], ◌∷◌, length, sum_by, count_by, get_or, replicate, is_some, Option, Some, None, refl, sym, ap, ◌∙◌, arith, subst}
 use Rattle.std.proofs.lemmas.Option.{same_Some}
 use Rattle.std.proofs.lemmas.List.{get_or_default}
+use Rattle.std.proofs.lemmas.List.Sums.{sum_by-cons, count_by-le-length}
 use Rattle.core_map.specs.CoreMap.{Core, frame_at, is_bound, bound_page}
 use Rattle.core_map.specs.declared.Frame.{Frame}
 use Rattle.page_table.specs.declared.Ptw.{Ptw}
@@ -11,14 +12,20 @@ use Rattle.vtoc.specs.Vtoc.{Entry}
 use Rattle.page_control.specs.declared.Home.{Home}
 use Rattle.page_control.specs.Plain.{bindings, binding_at, number_in, words_in, disk_of, filed}
 use Rattle.page_control.specs.Picture.{picture, is_stored, words_filed}
-use Rattle.page_control.specs.Tied.{frame_of, has_record, uid_in, uid_at, map_at, IsTableOf, IsHomeOf, IsMapOf}
-use Rattle.page_control.proofs.Facts.{binding_is, bound_to, bound_from_page, here_within}
-use Rattle.page_control.proofs.Callers.{stored_shown, record_shown, words_shown}
-use Rattle.page_control.proofs.Fresh.{uid_of_page}
-use Rattle.page_control.proofs.Ties.{number_of}
+use Rattle.page_control.specs.Tied.{frame_of, has_record, uid_in, uid_at, IsTableOf, IsHomeOf, IsTied}
+use Rattle.page_control.proofs.Laws.{binding_is, bound_to, bound_from_page, here_within, stored_shown, record_shown, words_shown, uid_of_page, number_of}
 use Rattle.paged_segs.specs.Segs.{Segs, home_at, table_at, word_at}
 use Rattle.paged_segs.specs.Kept.{IsKept}
-use Rattle.paged_segs.proofs.Counting.{used_most}
+
+-- there are as many used entries as entries at most
+used_most : (vtocs : List (List (Option Entry))) → sum_by (count_by is_some) vtocs ≤ sum_by length vtocs
+used_most [] = omega arith
+used_most (table ∷ vtocs) =
+    let ih = used_most vtocs in
+    let one = count_by-le-length is_some table in
+    let some_ = sum_by-cons (count_by is_some) table vtocs in
+    let all = sum_by-cons (length {A = Option Entry}) table vtocs in
+    omega (arith, ih, one, some_, all)
 
 -- there is a page table for each segment, and one more
 pub homes_within : (s : Segs) → IsKept s → length s.homes < length s.tables
@@ -39,6 +46,20 @@ here_from (Out r) f is stays = cc
 here_from (Here g) f is stays = ap Here (same_Some g f is)
 here_from (Leaving g) f is stays = absurd (stays g refl)
 
+-- the tie of a segment
+pub tie_of : (s : Segs) (i : ℕ) → IsKept s → i < length s.homes → IsTied s.storage (i + 2) (home_at s.homes i) (table_at s.tables i)
+tie_of s i k il =
+    let more = homes_within s k in
+    let long = k.lengths i (omega (arith, il, more)) in
+    record {
+      volume = k.volumes i il;
+      pages = omega (arith, long);
+      used = k.homes i il;
+      table = k.tables i il;
+      map = k.maps i il;
+      records = k.filed;
+    }
+
 -- the page in a bound frame is that of a segment
 pub record IsPageOf (s : Segs) (f uid p : ℕ) : Type 0 where
   pub some : 2 ≤ uid
@@ -47,11 +68,7 @@ pub record IsPageOf (s : Segs) (f uid p : ℕ) : Type 0 where
   pub number : p < 256
   pub at : binding_at (bindings s.storage.core) f ≡ Some (uid, p)
   pub here : word_at s (uid - 2) p ≡ Here f
-  pub long : length (table_at s.tables (uid - 2)) ≡ 256
-  pub home : IsHomeOf s.storage.vtocs uid (home_at s.homes (uid - 2))
-  pub volume : (home_at s.homes (uid - 2)).volume < length s.storage.disks
-  pub table : IsTableOf (bindings s.storage.core) uid (table_at s.tables (uid - 2))
-  pub map : IsMapOf (map_at s.storage.vtocs (home_at s.homes (uid - 2))) (table_at s.tables (uid - 2))
+  pub tie : IsTied s.storage uid (home_at s.homes (uid - 2)) (table_at s.tables (uid - 2))
 
 pub page_bound : (s : Segs) (f uid p : ℕ) → IsKept s → binding_at (bindings s.storage.core) f ≡ Some (uid, p) → IsPageOf s f uid p
 page_bound s f uid p k at =
@@ -61,10 +78,10 @@ page_bound s f uid p k at =
     let segment : uid - 2 < length s.homes = omega (arith, some_, few) in
     let more = homes_within s k in
     let place : uid - 2 < length s.tables = omega (arith, segment, more) in
-    let table : IsTableOf (bindings s.storage.core) uid (table_at s.tables (uid - 2)) =
-    subst (λ (n : ℕ). IsTableOf (bindings s.storage.core) n (table_at s.tables (uid - 2))) back (k.tables (uid - 2) segment) in
+    let tie : IsTied s.storage uid (home_at s.homes (uid - 2)) (table_at s.tables (uid - 2)) =
+    subst (λ (n : ℕ). IsTied s.storage n (home_at s.homes (uid - 2)) (table_at s.tables (uid - 2))) back (tie_of s (uid - 2) k segment) in
     let long : length (table_at s.tables (uid - 2)) ≡ 256 = k.lengths (uid - 2) place in
-    let here : word_at s (uid - 2) p ≡ Here f = here_from (word_at s (uid - 2) p) f (table.named f p at) (λ g. k.stay (uid - 2) p g) in
+    let here : word_at s (uid - 2) p ≡ Here f = here_from (word_at s (uid - 2) p) f (tie.table.named f p at) (λ g. k.stay (uid - 2) p g) in
     let within = here_within (table_at s.tables (uid - 2)) p f here in
     record {
       some = some_;
@@ -73,11 +90,7 @@ page_bound s f uid p k at =
       number = omega (arith, within, long);
       at = at;
       here = here;
-      long = long;
-      home = subst (λ (n : ℕ). IsHomeOf s.storage.vtocs n (home_at s.homes (uid - 2))) back (k.homes (uid - 2) segment);
-      volume = k.volumes (uid - 2) segment;
-      table = table;
-      map = k.maps (uid - 2) segment;
+      tie = tie;
     }
 
 pub page_of_frame : (s : Segs) (f : ℕ) → IsKept s → is_bound (frame_at s.storage.core f) ≡ true → IsPageOf s f (uid_in (frame_at s.storage.core f)) (number_in (frame_at s.storage.core f))

@@ -17,15 +17,11 @@ use Rattle.page_control.specs.Plain.{Plain, bindings, binding_at, vtoc_of}
 use Rattle.page_control.specs.Effects.{allocated}
 use Rattle.page_control.specs.Picture.{picture, AreClean}
 use Rattle.page_control.specs.Tied.{vtoc_in, frame_of, has_record, uid_at, map_at, IsHomeOf, IsMapOf, AreFiled, HasNoHome, HasNoFrame}
-use Rattle.page_control.proofs.Leaving.{no_record}
-use Rattle.page_control.proofs.Places.{put, list_within}
-use Rattle.page_control.proofs.Homes.{at_or_other, uid_here, uid_other}
-use Rattle.page_control.proofs.Callers.{table_of_no_frame}
+use Rattle.page_control.proofs.Laws.{no_record, put, list_within, at_or_other, uid_here, uid_other, table_of_no_frame, count_more, by_list, by_sum}
 use Rattle.paged_segs.specs.Segs.{Segs, home_at, table_at, word_at, root_home}
-use Rattle.paged_segs.specs.Counts.{used, entries, one_more}
+use Rattle.page_control.specs.Counts.{used, entries, one_more}
 use Rattle.paged_segs.specs.Kept.{IsKept}
 use Rattle.paged_segs.specs.Effects.{HasSizes}
-use Rattle.paged_segs.proofs.Counting.{more_by, by_list, by_sum}
 use Rattle.paged_segs.proofs.Paging.{count_all}
 
 -- nobody has the next uid
@@ -42,21 +38,6 @@ free_none (Some entry) free = cc
 
 pub free_at : (table : List (Option Entry)) (e : ℕ) → least_free_entry table ≡ Some e → (e < length table) × (entry_at table e ≡ None)
 free_at table e found = ((position-Some is_none table e None found).0, free_none _ (position-Some is_none table e None found).1)
-
--- the counts of used entries
-count_more : (table : List (Option Entry)) (e uid : ℕ) → e < length table → entry_at table e ≡ None → count_by is_some (set table e (fresh_entry uid)) ≡ count_by is_some table + 1
-count_more table e uid el free =
-    let all = sum_by-set (λ (y : Option Entry). cond {A = ℕ} (is_some y) 1 0) table e (fresh_entry uid) None el in
-    let none : cond {A = ℕ} (is_some (entry_at table e)) 1 0 ≡ 0 = ap (λ (y : Option Entry). cond {A = ℕ} (is_some y) 1 0) free in
-    omega (arith, all, none)
-
-pub used_more : (vtocs : List (List (Option Entry))) (v e uid : ℕ) → e < length (vtoc_in vtocs v) → entry_at (vtoc_in vtocs v) e ≡ None
-    → used (put vtocs v e (fresh_entry uid)) ≡ one_more (used vtocs) v
-used_more vtocs v e uid el free =
-    let vl : v < length vtocs = list_within vtocs v e el in
-    more_by (used vtocs) (used (put vtocs v e (fresh_entry uid))) v
-    (ap (count_by is_some) (get_or-set_same vtocs v (set (vtoc_in vtocs v) e (fresh_entry uid)) [] vl) ∙ count_more (vtoc_in vtocs v) e uid el free)
-    (λ w n. ap (count_by is_some) (get_or-set_other vtocs v w (set (vtoc_in vtocs v) e (fresh_entry uid)) [] n))
 
 pub used_room : (vtocs : List (List (Option Entry))) (v e : ℕ) → least_free_entry (vtoc_in vtocs v) ≡ Some e → used vtocs v < entries vtocs v
 used_room vtocs v e found =

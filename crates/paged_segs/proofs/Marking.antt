@@ -17,11 +17,7 @@ use Rattle.page_control.specs.declared.Home.{Home}
 use Rattle.page_control.specs.Plain.{Paging, plain, bindings, binding_at, number_in}
 use Rattle.page_control.specs.Picture.{picture, AreClean}
 use Rattle.page_control.specs.Tied.{frame_of, uid_in, uid_at, IsBoundOnce}
-use Rattle.page_control.proofs.Callers.{bound_once}
-use Rattle.page_control.proofs.Firsts.{below, position_at_one}
-use Rattle.page_control.proofs.Pictures.{off_and_on}
-use Rattle.page_control.proofs.Ties.{not_none}
-use Rattle.page_control.proofs.Shown.{kept_chosen}
+use Rattle.page_control.proofs.Laws.{bound_once, below, position_at_one, off_and_on, not_none, kept_chosen}
 use Rattle.paged_segs.specs.Segs.{Segs, segs_of, table_at, word_at, pages_of}
 use Rattle.paged_segs.specs.Kept.{IsKept}
 use Rattle.paged_segs.proofs.Located.{IsPageOf, page_of_frame}
@@ -90,7 +86,7 @@ started_chosen core now f choice none g = elim (leb_tells (length core.frames) g
 pub bound_alone : (s : Segs) (f : ℕ) → IsKept s → is_bound (frame_at s.storage.core f) ≡ true → IsBoundOnce (bindings s.storage.core) f
 bound_alone s f k bound =
     let q = page_of_frame s f k bound in
-    bound_once (bindings s.storage.core) (uid_in (frame_at s.storage.core f)) (number_in (frame_at s.storage.core f)) f (table_at s.tables (uid_in (frame_at s.storage.core f) - 2)) q.table (ap frame_of q.here)
+    bound_once (bindings s.storage.core) (uid_in (frame_at s.storage.core f)) (number_in (frame_at s.storage.core f)) f (table_at s.tables (uid_in (frame_at s.storage.core f) - 2)) q.tie.table (ap frame_of q.here)
 
 pub out_other : (s : Segs) (f uid p j q r : ℕ) → IsPageOf s f uid p → word_at s j q ≡ Out r → j + 2 ≡ uid → q ≡ p → ⊥
 out_other s f uid p j q r page out same also =

@@ -1,38 +1,75 @@
 -- What becomes of frames and words in a move of two calls.
-use Rattle.std.proofs.Common.{◌≡◌, ℕ, false, List, ap, ◌∙◌, set}
-use Rattle.std.proofs.lemmas.List.{get_or-set_same, set-set}
+use Rattle.std.proofs.Common.{◌≡◌, ℕ, ◌≤◌, false, List, length, Option, Some, refl, sym, ap, ◌∙◌, arith, set, map, is_some, count_by, subst}
+use Rattle.std.proofs.lemmas.List.{get_or-set_same, set-set, length-set}
 use Rattle.core_map.specs.declared.Frame.{Frame}
 use Rattle.core_map.specs.declared.Frame.TheVariants.{Started, Bound}
 use Rattle.core_map.specs.CoreMap.{frame_at, is_modified}
 use Rattle.page_table.specs.declared.Ptw.{Ptw}
 use Rattle.page_table.specs.declared.Ptw.TheVariants.{Null, Here, Leaving}
 use Rattle.page_table.specs.PageTable.{ptw_at}
+use Rattle.vtoc.specs.Vtoc.{Entry}
 use Rattle.volumes.specs.CoreDrive.{DriveState}
 use Rattle.page_control.specs.declared.Home.{Home}
 use Rattle.page_control.specs.declared.Left.{Left}
-use Rattle.page_control.specs.Plain.{Plain, Paging, plain, bindings, words_in, words_on, file_map_of, record_of, number_in}
+use Rattle.page_control.specs.Plain.{Plain, Paging, plain, bindings, words_in, words_on, record_of, number_in}
+use Rattle.page_control.specs.Counts.{KeepsCounts}
 use Rattle.page_control.specs.Effects.{framed, brought_in, word_of_left}
 use Rattle.page_control.specs.Picture.{AreClean}
-use Rattle.page_control.specs.Tied.{IsTableOf, IsHomeOf, IsMapOf}
-use Rattle.page_control.proofs.Callers.{clean_at}
-use Rattle.page_control.proofs.Facts.{here_within}
+use Rattle.page_control.specs.Tied.{uid_in, uid_at, map_at, IsTableOf, IsMapOf, IsTied, KeepsOthers}
+use Rattle.page_control.proofs.Laws.{clean_at, here_within}
 use Rattle.paged_segs.specs.Segs.{pages_of}
+use Rattle.paged_segs.specs.Moves.{IsPutOut}
 
--- a frame that may be emptied, once the word of its page is leaving
-pub clean_taken : (old now : Paging DriveState) (uid f : ℕ) (home : Home) (t u : List Ptw) → now ≡ old → AreClean (plain pages_of old) → IsHomeOf old.volumes.vtocs uid home
-    → IsTableOf (bindings now.core) uid u → ((places : _) → IsMapOf places t → IsMapOf places u) → IsMapOf (file_map_of (plain pages_of old) home) t
-    → u ≡ set t (number_in (frame_at old.core f)) (Leaving f) → ptw_at t (number_in (frame_at old.core f)) ≡ Here f → is_modified (frame_at now.core f) ≡ false
+-- the tie of a segment, once the word of its page is leaving
+pub tie_taken : (old now : Paging DriveState) (f : ℕ) (home : Home) (t u : List Ptw) → now ≡ old → IsTied (plain pages_of old) (uid_in (frame_at old.core f)) home t
+    → IsTableOf (bindings now.core) (uid_in (frame_at old.core f)) u → ((places : List (Option ℕ)) → IsMapOf places t → IsMapOf places u)
+    → u ≡ set t (number_in (frame_at old.core f)) (Leaving f) → IsTied (plain pages_of now) (uid_in (frame_at now.core f)) home u
+tie_taken old now f home t u same tie table maps us =
+    let own : IsTableOf (bindings old.core) (uid_in (frame_at old.core f)) u = subst (λ (s : Paging DriveState). IsTableOf (bindings s.core) (uid_in (frame_at old.core f)) u) same table in
+    let pages = tie.pages in
+    let long = ap length us ∙ length-set t (number_in (frame_at old.core f)) (Leaving f) in
+    rw same (record {
+      volume = tie.volume;
+      pages = omega (arith, pages, long);
+      used = tie.used;
+      table = own;
+      map = maps _ tie.map;
+      records = tie.records;
+    })
+
+pub word_leaving : (old now : Paging DriveState) (f : ℕ) (t u : List Ptw) → now ≡ old → u ≡ set t (number_in (frame_at old.core f)) (Leaving f)
+    → ptw_at t (number_in (frame_at old.core f)) ≡ Here f → ptw_at u (number_in (frame_at now.core f)) ≡ Leaving f
+word_leaving old now f t u same us here =
+    rw (same, us) (get_or-set_same t (number_in (frame_at old.core f)) (Leaving f) Null (here_within t (number_in (frame_at old.core f)) f here))
+
+-- so the frame may be emptied
+pub clean_taken : (old now : Paging DriveState) (f : ℕ) (home : Home) (u : List Ptw) → now ≡ old → AreClean (plain pages_of old) → IsTied (plain pages_of now) (uid_in (frame_at now.core f)) home u
+    → ptw_at u (number_in (frame_at now.core f)) ≡ Leaving f → is_modified (frame_at now.core f) ≡ false
     → words_in (plain pages_of now) f ≡ words_on (plain pages_of now) home.volume (record_of (plain pages_of now) home (number_in (frame_at now.core f)))
-clean_taken old now uid f home t u same clean h table maps map us here off =
-    let leaving : ptw_at u (number_in (frame_at now.core f)) ≡ Leaving f =
-    rw (same, us) (get_or-set_same t (number_in (frame_at old.core f)) (Leaving f) Null (here_within t (number_in (frame_at old.core f)) f here)) in
-    clean_at (plain pages_of now) uid (number_in (frame_at now.core f)) f home u (rw same clean) (rw same h) table (rw same (maps (file_map_of (plain pages_of old) home) map)) leaving off
+clean_taken old now f home u same clean tie leaving off =
+    clean_at (plain pages_of now) (uid_in (frame_at now.core f)) (number_in (frame_at now.core f)) f home u (rw same clean) tie leaving off
 
--- the word of a page that has left its frame
-pub word_taken : (old now : Paging DriveState) (f : ℕ) (home : Home) (left : Left) (t u v : List Ptw) → now ≡ old → u ≡ set t (number_in (frame_at old.core f)) (Leaving f)
-    → v ≡ set u (number_in (frame_at now.core f)) (word_of_left left (record_of (plain pages_of now) home (number_in (frame_at now.core f))))
-    → v ≡ set t (number_in (frame_at old.core f)) (word_of_left left (record_of (plain pages_of old) home (number_in (frame_at old.core f))))
-word_taken old now f home left t u v same us vs = rw (vs, same, us) (set-set t (number_in (frame_at old.core f)) (Leaving f) _)
+-- a page whose word was leaving in between has left its frame
+pub put_out : (old mid now : Paging DriveState) (home : Home) (f : ℕ) (t u v : List Ptw) (left : Left) → mid ≡ old → u ≡ set t (number_in (frame_at old.core f)) (Leaving f)
+    → IsPutOut (plain pages_of mid) (plain pages_of now) home (uid_in (frame_at mid.core f)) (number_in (frame_at mid.core f)) f u v left
+    → IsPutOut (plain pages_of old) (plain pages_of now) home (uid_in (frame_at old.core f)) (number_in (frame_at old.core f)) f t v left
+put_out old mid now home f t u v left same us out =
+    let o : IsPutOut (plain pages_of old) (plain pages_of now) home (uid_in (frame_at old.core f)) (number_in (frame_at old.core f)) f u v left =
+    subst (λ (s : Paging DriveState). IsPutOut (plain pages_of s) (plain pages_of now) home (uid_in (frame_at s.core f)) (number_in (frame_at s.core f)) f u v left) same out in
+    let w : Ptw = word_of_left left (record_of (plain pages_of old) home (number_in (frame_at old.core f))) in
+    record {
+      zeros = o.zeros;
+      effect = o.effect;
+      word = o.word ∙ ap (λ (those : List Ptw). set those (number_in (frame_at old.core f)) w) us ∙ set-set t (number_in (frame_at old.core f)) (Leaving f) w;
+      tie = o.tie;
+      others = o.others;
+      clean = o.clean;
+      shown = o.shown;
+      stored = o.stored;
+      freed = o.freed;
+      records = o.records;
+      counts = o.counts;
+    }
 
 -- a page that was read into a frame that had been started for it
 pub brought_same : (s mid now : Plain) (uid p v r f : ℕ) → mid ≡ framed s f (Started uid p) → now ≡ brought_in mid uid p v r f → now ≡ brought_in s uid p v r f
@@ -40,3 +77,21 @@ brought_same s mid now uid p v r f started is =
     is ∙ ap (λ (m : Plain). brought_in m uid p v r f) started
     ∙ ap (λ (frames : List Frame). record s { core = record s.core { frames = frames }; frames = set s.frames f (words_on s v r) })
     (set-set s.core.frames f (Started uid p) (Bound uid p false false))
+
+-- what is kept from the frame's start on is kept
+pub others_started : (s mid now : Plain) (uid : ℕ) (home : Home) → bindings mid.core ≡ bindings s.core → mid.vtocs ≡ s.vtocs → KeepsOthers mid now uid home → KeepsOthers s now uid home
+others_started s mid now uid home bound vtocs k = record {
+  uids = λ other. k.uids other ∙ ap (λ (v : List (List (Option Entry))). uid_at v other) vtocs;
+  homes = λ segment other h. k.homes segment other (rw vtocs h);
+  maps = λ other n. k.maps other n ∙ ap (λ (v : List (List (Option Entry))). map_at v other) vtocs;
+  tables = λ segment table n t. k.tables segment table n (rw bound t);
+}
+
+pub counts_started : (s mid now : Plain) (uid p f : ℕ) → mid ≡ framed s f (Started uid p) → KeepsCounts mid now → KeepsCounts s now
+counts_started s mid now uid p f started k = record {
+  used = k.used ∙ ap (λ (m : Plain). map (count_by is_some) m.vtocs) started;
+  places = k.places ∙ ap (λ (m : Plain). map length m.vtocs) started;
+  flags = k.flags ∙ ap (λ (m : Plain). map length m.records) started;
+  volumes = k.volumes ∙ ap (λ (m : Plain). length m.disks) started;
+  frames = k.frames ∙ ap (λ (m : Plain). length m.core.frames) started ∙ length-set s.core.frames f (Started uid p);
+}

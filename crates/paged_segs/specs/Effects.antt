@@ -14,7 +14,7 @@ use Rattle.page_control.specs.Tied.{vtoc_in}
 use Rattle.record_map.specs.Bitmap.{least_free}
 use Rattle.paged_segs.specs.declared.Evicted.{Evicted}
 use Rattle.paged_segs.specs.Segs.{Segs, home_at, volume_at, word_at, with_word, pages_of, plan_of}
-use Rattle.paged_segs.specs.Counts.{taken, used, size, entries, taken_after}
+use Rattle.page_control.specs.Counts.{taken, used, size, entries, taken_after}
 
 -- the entry of volume v that the next segment gets
 abbrev pub next_entry : Segs → ℕ → ℕ

@@ -3,7 +3,8 @@ pub use Rattle.core_map.specs.Clock
 pub use Rattle.page_table.specs.PageTable
 pub use Rattle.page_control.specs.Vtoc
 pub use Rattle.page_control.specs.Volumes
+pub use Rattle.page_control.specs.Counts
 pub mod Segs
-pub mod Counts
 pub mod Kept
+pub mod Moves
 pub mod Effects

@@ -13,8 +13,6 @@
 mod moves;
 mod segments;
 mod tables;
-#[cfg(test)]
-mod tests;
 
 pub use page_control::{Home, Left};
 pub use segments::Segments;

@@ -9,7 +9,7 @@ ghost use Rattle.page_control.specs.Effects.{referred, word_put};
 ghost use Rattle.page_control.specs.Picture.{picture, is_stored, changed_at, volume_of, record_named, words_filed, is_filed_in};
 ghost use Rattle.page_control.specs.Tied.{uid_in, is_out, has_record};
 ghost use Rattle.paged_segs.specs.Segs.{Segs, home_at, volume_at, word_at, pages_of, plan_of};
-ghost use Rattle.paged_segs.specs.Counts.{taken, used, entries, is_full, one_more};
+ghost use Rattle.page_control.specs.Counts.{taken, used, entries, is_full, one_more};
 ghost use Rattle.paged_segs.specs.Kept.{IsKept, AreFresh};
 ghost use Rattle.paged_segs.specs.Effects.{made, read_in, made_page, begun, HasSizes, IsEmptied};
 

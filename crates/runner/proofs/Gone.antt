@@ -14,7 +14,7 @@ use Rattle.page_control.specs.declared.Left.TheVariants.{Released, Kept}
 use Rattle.page_control.specs.Plain.{Plain}
 use Rattle.page_control.specs.Picture.{picture, is_stored as is_filed, changed_at, stored_after}
 use Rattle.page_control.specs.Tied.{has_record}
-use Rattle.page_control.proofs.Callers.{stored_shown}
+use Rattle.page_control.proofs.Laws.{stored_shown}
 use Rattle.paged_segs.specs.declared.Evicted.{Evicted}
 use Rattle.paged_segs.specs.Segs.{Segs, home_at, table_at, volume_at}
 use Rattle.paged_segs.specs.Counts.{taken, one_less, taken_after}
@@ -38,7 +38,7 @@ count_left n Kept = n
 pub filed_of_kept : (old new : Segs) (gone : Evicted) → IsKept old → IsEmptied old new gone → is_filed old.storage gone.uid gone.page ≡ true
 filed_of_kept old new gone k e =
     let its = page_bound old gone.frame gone.uid gone.page k e.bound in
-    stored_shown old.storage gone.uid gone.page (home_at old.homes (gone.uid - 2)) (table_at old.tables (gone.uid - 2)) its.home its.map ∙ ap has_record its.here
+    stored_shown old.storage gone.uid gone.page (home_at old.homes (gone.uid - 2)) (table_at old.tables (gone.uid - 2)) its.tie.used its.tie.map ∙ ap has_record its.here
 
 zero_page : (ws : Words) (xs : List (ℕ × ℕ)) (count u q : ℕ) (storage : Plain) → ArePages ws xs count storage → is_stored xs u q ≡ true → AreZero (picture storage u q) → (x : ℕ) → x < 1024 → word_at ws u (1024 * q + x) ≡ 0
 zero_page ws xs count u q storage h on zeros x lx =

@@ -1,7 +1,14 @@
-use Rattle.std.proofs.Common.{rules}
+use Rattle.std.proofs.Common.{rules, refl}
 use Rattle.page_control.specs.Plain.{plain}
 use Rattle.page_control.proofs.Clean.{clean_chosen}
+use Rattle.page_control.proofs.Calls.{sound_worded}
+use Rattle.page_control.proofs.Shown.{bindings_chosen, starts_chosen}
 use Rattle.page_control.proofs.pages.Pages.choose.Goals as goal
 
-pub returns-clause-clean : goal.returns-clause-clean
-returns-clause-clean g c = clean_chosen (plain g.D.Drive.pages c.args.self.now) _ c.choose.result (search rules) (search rules) (search rules) (search rules)
+pub returns-clause-sound : goal.returns-clause-sound
+returns-clause-sound g c =
+    sound_worded (plain g.D.Drive.pages c.args.self.now) _ (clean_chosen (plain g.D.Drive.pages c.args.self.now) _ c.choose.result (search rules) (search rules) (search rules) (search rules))
+    (bindings_chosen c.args.self.now.core c.choose.new.self c.choose.result (search rules)) (search rules) (search rules) (search rules)
+
+pub returns-clause-starts : goal.returns-clause-starts
+returns-clause-starts g c = starts_chosen c.args.self.now.core c.choose.new.self c.choose.result (search rules)

@@ -3,7 +3,8 @@ use Rattle.std.proofs.lemmas.Grind.{common_steps}
 use Rattle.core_map.specs.CoreMap.{frame_at}
 use Rattle.page_control.specs.Tied.{uid_in}
 use Rattle.page_control.specs.Plain.{number_in}
-use Rattle.page_control.proofs.Facts.{binding_is, bound_to, bindings_referred}
+use Rattle.page_control.proofs.Facts.{binding_is, bound_to, bindings_referred, starts_referred}
+use Rattle.page_control.proofs.Calls.{sound_worded}
 use Rattle.page_control.proofs.Ties.{bound_within}
 use Rattle.page_control.proofs.Changes.{picture_worded}
 use Rattle.page_control.proofs.Shown.{bound_inside}
@@ -20,6 +21,11 @@ returns-clause-picture g c = λ once.
     (bound_within _ c.args.f (uid_in (frame_at c.args.self.now.core c.args.f)) (number_in (frame_at c.args.self.now.core c.args.f)) (binding_is c.args.self.now.core c.args.f ∙ bound_to (frame_at c.args.self.now.core c.args.f) c.requires.bound))
     (omega (arith, inside, count)) once
 
-pub returns-clause-clean : goal.returns-clause-clean
-returns-clause-clean g c =
-    clean_written (plain g.D.Drive.pages c.args.self.now) _ c.args.f c.clear_from.new.self (search rules) (grind (arith, common_steps)) (search rules) (search rules) (bound_inside c.args.self.now.core c.args.f c.requires.bound)
+pub returns-clause-sound : goal.returns-clause-sound
+returns-clause-sound g c =
+    sound_worded (plain g.D.Drive.pages c.args.self.now) _
+    (clean_written (plain g.D.Drive.pages c.args.self.now) _ c.args.f c.clear_from.new.self (search rules) (grind (arith, common_steps)) (search rules) (search rules) (bound_inside c.args.self.now.core c.args.f c.requires.bound))
+    (search (rules, bindings_referred)) (search rules) (search rules) (search rules)
+
+pub returns-clause-starts : goal.returns-clause-starts
+returns-clause-starts g c = search (rules, starts_referred)

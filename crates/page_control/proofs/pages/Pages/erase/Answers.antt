@@ -1,98 +1,32 @@
-use Rattle.std.proofs.Common.{◌≡◌, rules, ap}
-use Rattle.vtoc.specs.Vtoc.{HasFullMaps}
-use Rattle.volumes.specs.Volumes.{with_vtoc}
-use Rattle.page_control.specs.Plain.{Plain, plain, bindings, vtoc_of, uid_of_home}
-use Rattle.page_control.specs.Effects.{erased}
-use Rattle.page_control.specs.Erasing.{IsPartErased}
-use Rattle.page_control.proofs.Erasing.{part_at, full_same, names_same, names_none, all_erased, home_erased, homes_erased, strangers_erased, maps_erased, filed_erased, picture_erased, stored_erased}
-use Rattle.page_control.proofs.Clean.{clean_erased}
+use Rattle.std.proofs.Common.{rules, ap, refl}
+use Rattle.page_control.specs.Plain.{Plain, plain, bindings, uid_of_home}
+use Rattle.page_control.proofs.Erasing.{home_erased, homes_erased, strangers_erased, maps_erased, picture_erased, stored_erased}
+use Rattle.page_control.proofs.Calls.{sound_erased}
+use Rattle.page_control.proofs.Counting.{used_erased}
 use Rattle.page_control.proofs.pages.Pages.erase.Goals as goal
 
-pub loop-p-preserved : goal.loop-p-preserved
-loop-p-preserved g c = (c.give_back.ensures.part (plain g.D.Drive.pages c.args.self.now) (uid_of_home (plain g.D.Drive.pages c.args.self.now) c.args.home) c.loop-p.invariant.0, search rules, search rules)
-
-pub free-requires-clause-empty : goal.free-requires-clause-empty
-free-requires-clause-empty g c =
-    let part : IsPartErased (plain g.D.Drive.pages c.args.self.now) (plain g.D.Drive.pages c.loop-p.self) (uid_of_home (plain g.D.Drive.pages c.args.self.now) c.args.home) c.args.home 256 = part_at (plain g.D.Drive.pages c.args.self.now) (plain g.D.Drive.pages c.loop-p.self) (uid_of_home (plain g.D.Drive.pages c.args.self.now) c.args.home) c.args.home c.loop-p.p 256 (search rules) c.loop-p.invariant.0 in
-    let full : HasFullMaps (vtoc_of (plain g.D.Drive.pages c.loop-p.self) c.args.home.volume) = full_same (vtoc_of (plain g.D.Drive.pages c.loop-p.self) c.args.home.volume) c.vtoc.result.now (search rules) c.size.ensures.places in
-    names_same c.vtoc_mut.result.now (vtoc_of (plain g.D.Drive.pages c.loop-p.self) c.args.home.volume) c.args.home.entry (search rules) (names_none (plain g.D.Drive.pages c.loop-p.self) (uid_of_home (plain g.D.Drive.pages c.args.self.now) c.args.home) c.args.home (plain g.D.Drive.pages c.args.self.now) part full)
-
-pub returns-clause-erased : goal.returns-clause-erased
-returns-clause-erased g c =
-    let part : IsPartErased (plain g.D.Drive.pages c.args.self.now) (plain g.D.Drive.pages c.loop-p.self) (uid_of_home (plain g.D.Drive.pages c.args.self.now) c.args.home) c.args.home 256 = part_at (plain g.D.Drive.pages c.args.self.now) (plain g.D.Drive.pages c.loop-p.self) (uid_of_home (plain g.D.Drive.pages c.args.self.now) c.args.home) c.args.home c.loop-p.p 256 (search rules) c.loop-p.invariant.0 in
-    let full : HasFullMaps (vtoc_of (plain g.D.Drive.pages c.loop-p.self) c.args.home.volume) = full_same (vtoc_of (plain g.D.Drive.pages c.loop-p.self) c.args.home.volume) c.vtoc.result.now (search rules) c.size.ensures.places in
-    let now : Plain = plain g.D.Drive.pages (record { core = c.self.inside.core; frames = c.self.inside.frames.items; volumes = with_vtoc c.self.inside.volumes c.args.home.volume c.free.new.self }) in
-    let effect : now ≡ erased (plain g.D.Drive.pages c.args.self.now) c.args.home =
-    all_erased (plain g.D.Drive.pages c.args.self.now) (plain g.D.Drive.pages c.loop-p.self) now (uid_of_home (plain g.D.Drive.pages c.args.self.now) c.args.home) c.args.home part (full.places c.args.home.entry) (search rules) in
-    effect
-
 pub returns-clause-home : goal.returns-clause-home
-returns-clause-home g c =
-    let part : IsPartErased (plain g.D.Drive.pages c.args.self.now) (plain g.D.Drive.pages c.loop-p.self) (uid_of_home (plain g.D.Drive.pages c.args.self.now) c.args.home) c.args.home 256 = part_at (plain g.D.Drive.pages c.args.self.now) (plain g.D.Drive.pages c.loop-p.self) (uid_of_home (plain g.D.Drive.pages c.args.self.now) c.args.home) c.args.home c.loop-p.p 256 (search rules) c.loop-p.invariant.0 in
-    let full : HasFullMaps (vtoc_of (plain g.D.Drive.pages c.loop-p.self) c.args.home.volume) = full_same (vtoc_of (plain g.D.Drive.pages c.loop-p.self) c.args.home.volume) c.vtoc.result.now (search rules) c.size.ensures.places in
-    let now : Plain = plain g.D.Drive.pages (record { core = c.self.inside.core; frames = c.self.inside.frames.items; volumes = with_vtoc c.self.inside.volumes c.args.home.volume c.free.new.self }) in
-    let effect : now ≡ erased (plain g.D.Drive.pages c.args.self.now) c.args.home =
-    all_erased (plain g.D.Drive.pages c.args.self.now) (plain g.D.Drive.pages c.loop-p.self) now (uid_of_home (plain g.D.Drive.pages c.args.self.now) c.args.home) c.args.home part (full.places c.args.home.entry) (search rules) in
-    home_erased c.args.self.now.volumes.vtocs now.vtocs (uid_of_home (plain g.D.Drive.pages c.args.self.now) c.args.home) c.args.home (ap (λ (s : Plain). s.vtocs) effect) c.requires.home
+returns-clause-home g c = home_erased c.args.self.now.volumes.vtocs _ _ c.args.home (ap (λ (s : Plain). s.vtocs) c.erase_all.ensures.erased) c.requires.home
 
 pub returns-clause-homes : goal.returns-clause-homes
-returns-clause-homes g c =
-    let part : IsPartErased (plain g.D.Drive.pages c.args.self.now) (plain g.D.Drive.pages c.loop-p.self) (uid_of_home (plain g.D.Drive.pages c.args.self.now) c.args.home) c.args.home 256 = part_at (plain g.D.Drive.pages c.args.self.now) (plain g.D.Drive.pages c.loop-p.self) (uid_of_home (plain g.D.Drive.pages c.args.self.now) c.args.home) c.args.home c.loop-p.p 256 (search rules) c.loop-p.invariant.0 in
-    let full : HasFullMaps (vtoc_of (plain g.D.Drive.pages c.loop-p.self) c.args.home.volume) = full_same (vtoc_of (plain g.D.Drive.pages c.loop-p.self) c.args.home.volume) c.vtoc.result.now (search rules) c.size.ensures.places in
-    let now : Plain = plain g.D.Drive.pages (record { core = c.self.inside.core; frames = c.self.inside.frames.items; volumes = with_vtoc c.self.inside.volumes c.args.home.volume c.free.new.self }) in
-    let effect : now ≡ erased (plain g.D.Drive.pages c.args.self.now) c.args.home =
-    all_erased (plain g.D.Drive.pages c.args.self.now) (plain g.D.Drive.pages c.loop-p.self) now (uid_of_home (plain g.D.Drive.pages c.args.self.now) c.args.home) c.args.home part (full.places c.args.home.entry) (search rules) in
-    homes_erased c.args.self.now.volumes.vtocs now.vtocs (uid_of_home (plain g.D.Drive.pages c.args.self.now) c.args.home) c.args.home (ap (λ (s : Plain). s.vtocs) effect) c.requires.home
+returns-clause-homes g c = homes_erased c.args.self.now.volumes.vtocs _ _ c.args.home (ap (λ (s : Plain). s.vtocs) c.erase_all.ensures.erased) c.requires.home
 
 pub returns-clause-strangers : goal.returns-clause-strangers
-returns-clause-strangers g c =
-    let part : IsPartErased (plain g.D.Drive.pages c.args.self.now) (plain g.D.Drive.pages c.loop-p.self) (uid_of_home (plain g.D.Drive.pages c.args.self.now) c.args.home) c.args.home 256 = part_at (plain g.D.Drive.pages c.args.self.now) (plain g.D.Drive.pages c.loop-p.self) (uid_of_home (plain g.D.Drive.pages c.args.self.now) c.args.home) c.args.home c.loop-p.p 256 (search rules) c.loop-p.invariant.0 in
-    let full : HasFullMaps (vtoc_of (plain g.D.Drive.pages c.loop-p.self) c.args.home.volume) = full_same (vtoc_of (plain g.D.Drive.pages c.loop-p.self) c.args.home.volume) c.vtoc.result.now (search rules) c.size.ensures.places in
-    let now : Plain = plain g.D.Drive.pages (record { core = c.self.inside.core; frames = c.self.inside.frames.items; volumes = with_vtoc c.self.inside.volumes c.args.home.volume c.free.new.self }) in
-    let effect : now ≡ erased (plain g.D.Drive.pages c.args.self.now) c.args.home =
-    all_erased (plain g.D.Drive.pages c.args.self.now) (plain g.D.Drive.pages c.loop-p.self) now (uid_of_home (plain g.D.Drive.pages c.args.self.now) c.args.home) c.args.home part (full.places c.args.home.entry) (search rules) in
-    strangers_erased c.args.self.now.volumes.vtocs now.vtocs (uid_of_home (plain g.D.Drive.pages c.args.self.now) c.args.home) c.args.home (ap (λ (s : Plain). s.vtocs) effect) c.requires.home
+returns-clause-strangers g c = strangers_erased c.args.self.now.volumes.vtocs _ _ c.args.home (ap (λ (s : Plain). s.vtocs) c.erase_all.ensures.erased) c.requires.home
 
 pub returns-clause-maps : goal.returns-clause-maps
-returns-clause-maps g c =
-    let part : IsPartErased (plain g.D.Drive.pages c.args.self.now) (plain g.D.Drive.pages c.loop-p.self) (uid_of_home (plain g.D.Drive.pages c.args.self.now) c.args.home) c.args.home 256 = part_at (plain g.D.Drive.pages c.args.self.now) (plain g.D.Drive.pages c.loop-p.self) (uid_of_home (plain g.D.Drive.pages c.args.self.now) c.args.home) c.args.home c.loop-p.p 256 (search rules) c.loop-p.invariant.0 in
-    let full : HasFullMaps (vtoc_of (plain g.D.Drive.pages c.loop-p.self) c.args.home.volume) = full_same (vtoc_of (plain g.D.Drive.pages c.loop-p.self) c.args.home.volume) c.vtoc.result.now (search rules) c.size.ensures.places in
-    let now : Plain = plain g.D.Drive.pages (record { core = c.self.inside.core; frames = c.self.inside.frames.items; volumes = with_vtoc c.self.inside.volumes c.args.home.volume c.free.new.self }) in
-    let effect : now ≡ erased (plain g.D.Drive.pages c.args.self.now) c.args.home =
-    all_erased (plain g.D.Drive.pages c.args.self.now) (plain g.D.Drive.pages c.loop-p.self) now (uid_of_home (plain g.D.Drive.pages c.args.self.now) c.args.home) c.args.home part (full.places c.args.home.entry) (search rules) in
-    maps_erased c.args.self.now.volumes.vtocs now.vtocs (uid_of_home (plain g.D.Drive.pages c.args.self.now) c.args.home) c.args.home (ap (λ (s : Plain). s.vtocs) effect) c.requires.home
-
-pub returns-clause-records : goal.returns-clause-records
-returns-clause-records g c =
-    let part : IsPartErased (plain g.D.Drive.pages c.args.self.now) (plain g.D.Drive.pages c.loop-p.self) (uid_of_home (plain g.D.Drive.pages c.args.self.now) c.args.home) c.args.home 256 = part_at (plain g.D.Drive.pages c.args.self.now) (plain g.D.Drive.pages c.loop-p.self) (uid_of_home (plain g.D.Drive.pages c.args.self.now) c.args.home) c.args.home c.loop-p.p 256 (search rules) c.loop-p.invariant.0 in
-    let full : HasFullMaps (vtoc_of (plain g.D.Drive.pages c.loop-p.self) c.args.home.volume) = full_same (vtoc_of (plain g.D.Drive.pages c.loop-p.self) c.args.home.volume) c.vtoc.result.now (search rules) c.size.ensures.places in
-    filed_erased (plain g.D.Drive.pages c.loop-p.self).records c.self.inside.volumes.records (plain g.D.Drive.pages c.loop-p.self).vtocs _ (uid_of_home (plain g.D.Drive.pages c.args.self.now) c.args.home) c.args.home (search rules) (search rules) part.at part.records
+returns-clause-maps g c = maps_erased c.args.self.now.volumes.vtocs _ _ c.args.home (ap (λ (s : Plain). s.vtocs) c.erase_all.ensures.erased) c.requires.home
 
 pub returns-clause-picture : goal.returns-clause-picture
 returns-clause-picture g c =
-    let part : IsPartErased (plain g.D.Drive.pages c.args.self.now) (plain g.D.Drive.pages c.loop-p.self) (uid_of_home (plain g.D.Drive.pages c.args.self.now) c.args.home) c.args.home 256 = part_at (plain g.D.Drive.pages c.args.self.now) (plain g.D.Drive.pages c.loop-p.self) (uid_of_home (plain g.D.Drive.pages c.args.self.now) c.args.home) c.args.home c.loop-p.p 256 (search rules) c.loop-p.invariant.0 in
-    let full : HasFullMaps (vtoc_of (plain g.D.Drive.pages c.loop-p.self) c.args.home.volume) = full_same (vtoc_of (plain g.D.Drive.pages c.loop-p.self) c.args.home.volume) c.vtoc.result.now (search rules) c.size.ensures.places in
-    let now : Plain = plain g.D.Drive.pages (record { core = c.self.inside.core; frames = c.self.inside.frames.items; volumes = with_vtoc c.self.inside.volumes c.args.home.volume c.free.new.self }) in
-    let effect : now ≡ erased (plain g.D.Drive.pages c.args.self.now) c.args.home =
-    all_erased (plain g.D.Drive.pages c.args.self.now) (plain g.D.Drive.pages c.loop-p.self) now (uid_of_home (plain g.D.Drive.pages c.args.self.now) c.args.home) c.args.home part (full.places c.args.home.entry) (search rules) in
-    picture_erased (bindings c.args.self.now.core) (bindings now.core) c.args.self.now.frames now.frames (plain g.D.Drive.pages c.args.self.now).disks now.disks c.args.self.now.volumes.vtocs now.vtocs (uid_of_home (plain g.D.Drive.pages c.args.self.now) c.args.home) c.args.home
-    (ap (λ (s : Plain). bindings s.core) effect) (ap (λ (s : Plain). s.frames) effect) (ap (λ (s : Plain). s.disks) effect) (ap (λ (s : Plain). s.vtocs) effect) c.requires.home c.requires.away
+    picture_erased _ _ _ _ _ _ c.args.self.now.volumes.vtocs _ _ c.args.home (ap (λ (s : Plain). bindings s.core) c.erase_all.ensures.erased) (ap (λ (s : Plain). s.frames) c.erase_all.ensures.erased)
+    (ap (λ (s : Plain). s.disks) c.erase_all.ensures.erased) (ap (λ (s : Plain). s.vtocs) c.erase_all.ensures.erased) c.requires.home c.requires.away
 
 pub returns-clause-stored : goal.returns-clause-stored
-returns-clause-stored g c =
-    let part : IsPartErased (plain g.D.Drive.pages c.args.self.now) (plain g.D.Drive.pages c.loop-p.self) (uid_of_home (plain g.D.Drive.pages c.args.self.now) c.args.home) c.args.home 256 = part_at (plain g.D.Drive.pages c.args.self.now) (plain g.D.Drive.pages c.loop-p.self) (uid_of_home (plain g.D.Drive.pages c.args.self.now) c.args.home) c.args.home c.loop-p.p 256 (search rules) c.loop-p.invariant.0 in
-    let full : HasFullMaps (vtoc_of (plain g.D.Drive.pages c.loop-p.self) c.args.home.volume) = full_same (vtoc_of (plain g.D.Drive.pages c.loop-p.self) c.args.home.volume) c.vtoc.result.now (search rules) c.size.ensures.places in
-    let now : Plain = plain g.D.Drive.pages (record { core = c.self.inside.core; frames = c.self.inside.frames.items; volumes = with_vtoc c.self.inside.volumes c.args.home.volume c.free.new.self }) in
-    let effect : now ≡ erased (plain g.D.Drive.pages c.args.self.now) c.args.home =
-    all_erased (plain g.D.Drive.pages c.args.self.now) (plain g.D.Drive.pages c.loop-p.self) now (uid_of_home (plain g.D.Drive.pages c.args.self.now) c.args.home) c.args.home part (full.places c.args.home.entry) (search rules) in
-    stored_erased c.args.self.now.volumes.vtocs now.vtocs (uid_of_home (plain g.D.Drive.pages c.args.self.now) c.args.home) c.args.home (ap (λ (s : Plain). s.vtocs) effect) c.requires.home
+returns-clause-stored g c = stored_erased c.args.self.now.volumes.vtocs _ _ c.args.home (ap (λ (s : Plain). s.vtocs) c.erase_all.ensures.erased) c.requires.home
 
-pub returns-clause-clean : goal.returns-clause-clean
-returns-clause-clean g c =
-    let part : IsPartErased (plain g.D.Drive.pages c.args.self.now) (plain g.D.Drive.pages c.loop-p.self) (uid_of_home (plain g.D.Drive.pages c.args.self.now) c.args.home) c.args.home 256 = part_at (plain g.D.Drive.pages c.args.self.now) (plain g.D.Drive.pages c.loop-p.self) (uid_of_home (plain g.D.Drive.pages c.args.self.now) c.args.home) c.args.home c.loop-p.p 256 (search rules) c.loop-p.invariant.0 in
-    let full : HasFullMaps (vtoc_of (plain g.D.Drive.pages c.loop-p.self) c.args.home.volume) = full_same (vtoc_of (plain g.D.Drive.pages c.loop-p.self) c.args.home.volume) c.vtoc.result.now (search rules) c.size.ensures.places in
-    let now : Plain = plain g.D.Drive.pages (record { core = c.self.inside.core; frames = c.self.inside.frames.items; volumes = with_vtoc c.self.inside.volumes c.args.home.volume c.free.new.self }) in
-    let effect : now ≡ erased (plain g.D.Drive.pages c.args.self.now) c.args.home =
-    all_erased (plain g.D.Drive.pages c.args.self.now) (plain g.D.Drive.pages c.loop-p.self) now (uid_of_home (plain g.D.Drive.pages c.args.self.now) c.args.home) c.args.home part (full.places c.args.home.entry) (search rules) in
-    clean_erased (plain g.D.Drive.pages c.args.self.now) now (uid_of_home (plain g.D.Drive.pages c.args.self.now) c.args.home) c.args.home (ap (λ (s : Plain). s.core) effect) (ap (λ (s : Plain). s.frames) effect) (ap (λ (s : Plain). s.disks) effect)
-    (ap (λ (s : Plain). s.vtocs) effect) c.requires.home c.requires.away
+pub returns-clause-sound : goal.returns-clause-sound
+returns-clause-sound g c = sound_erased (plain g.D.Drive.pages c.args.self.now) _ _ c.args.home c.erase_all.ensures.erased c.requires.home c.requires.away
+
+pub returns-clause-used : goal.returns-clause-used
+returns-clause-used g c = used_erased c.args.self.now.volumes.vtocs _ _ c.args.home (ap (λ (s : Plain). s.vtocs) c.erase_all.ensures.erased) c.requires.home

@@ -4,7 +4,7 @@ use Rattle.page_control.proofs.Facts.{some_number}
 use Rattle.page_control.proofs.Erasing.{part_some}
 use Rattle.page_control.proofs.pages.Pages.give_back.Goals as goal
 
-pub returns-then-is_some-clause-part : goal.returns-then-is_some-clause-part
-returns-then-is_some-clause-part g c = λ old uid part.
+pub returns-in-Some-clause-part : goal.returns-in-Some-clause-part
+returns-in-Some-clause-part g c = λ old uid part.
     part_some old (plain g.D.Drive.pages c.args.self.now) (plain g.D.Drive.pages c.unstore.new.self) uid c.args.home c.args.p c.unstore.ensures.unstored
     (some_number (filed (plain g.D.Drive.pages c.args.self.now) c.args.home c.args.p) (search rules)) part

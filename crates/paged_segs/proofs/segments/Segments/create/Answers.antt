@@ -6,9 +6,12 @@ use Rattle.page_table.specs.PageTable.{ptw_at}
 use Rattle.page_control.specs.declared.Home.{Home}
 use Rattle.page_control.specs.Plain.{plain, bindings}
 use Rattle.paged_segs.specs.Segs.{Segs, segs_of, pages_of, plan_of, home_at, table_at, volume_at}
-use Rattle.paged_segs.specs.Counts.{taken, used, one_more, is_full}
+use Rattle.page_control.specs.Counts.{taken, used, one_more, is_full}
 use Rattle.paged_segs.specs.Effects.{HasSizes}
-use Rattle.paged_segs.proofs.Paging.{table_read, place_within, uid_fits, kept_created, binding_created, not_full, taken_created, sizes_created, used_created}
+use Rattle.page_control.proofs.Laws.{used_same}
+use Rattle.paged_segs.proofs.Keeping.{sizes}
+use Rattle.paged_segs.proofs.Located.{tie_of}
+use Rattle.paged_segs.proofs.Paging.{table_read, place_within, uid_fits, kept_created, not_full}
 use Rattle.paged_segs.proofs.segments.Segments.create.Goals as goal
 
 pub index_mut-table-requires : goal.index_mut-table-requires
@@ -32,13 +35,6 @@ create_page-requires-clause-page c =
     let long = ap length (table_read s c.args.i c.index_mut-table.result.now c.self.invariant.0 il c.index_mut-table.ensures.value) ∙ c.self.invariant.0.lengths c.args.i (place_within s c.args.i c.self.invariant.0 il) in
     omega (arith, long, c.requires.page)
 
-pub create_page-requires-clause-pages : goal.create_page-requires-clause-pages
-create_page-requires-clause-pages c =
-    let s : Segs = segs_of c.self.inside.pages c.self.inside.tables.items c.self.inside.homes.items in
-    let il : c.args.i < length s.homes = search rules in
-    let long = ap length (table_read s c.args.i c.index_mut-table.result.now c.self.invariant.0 il c.index_mut-table.ensures.value) ∙ c.self.invariant.0.lengths c.args.i (place_within s c.args.i c.self.invariant.0 il) in
-    omega (arith, long)
-
 pub create_page-requires-clause-null : goal.create_page-requires-clause-null
 create_page-requires-clause-null c =
     let s : Segs = segs_of c.self.inside.pages c.self.inside.tables.items c.self.inside.homes.items in
@@ -46,18 +42,12 @@ create_page-requires-clause-null c =
     let null : ptw_at (table_at s.tables c.args.i) c.args.page ≡ Null = search rules in
     ap (λ (those : List Ptw). ptw_at those c.args.page) (table_read s c.args.i c.index_mut-table.result.now c.self.invariant.0 il c.index_mut-table.ensures.value) ∙ null
 
-pub create_page-requires-clause-table : goal.create_page-requires-clause-table
-create_page-requires-clause-table c =
-    let s : Segs = segs_of c.self.inside.pages c.self.inside.tables.items c.self.inside.homes.items in
-    let il : c.args.i < length s.homes = search rules in
-    rw (table_read s c.args.i c.index_mut-table.result.now c.self.invariant.0 il c.index_mut-table.ensures.value) (c.self.invariant.0.tables c.args.i il)
-
-pub create_page-requires-clause-map : goal.create_page-requires-clause-map
-create_page-requires-clause-map c =
+pub create_page-requires-clause-tie : goal.create_page-requires-clause-tie
+create_page-requires-clause-tie c =
     let s : Segs = segs_of c.self.inside.pages c.self.inside.tables.items c.self.inside.homes.items in
     let il : c.args.i < length s.homes = search rules in
     let home : c.home_of-home.result ≡ home_at s.homes c.args.i = c.home_of-home.ensures ∙ ap (λ (homes : List Home). home_at homes c.args.i) c.deref.ensures.value in
-    rw (home, table_read s c.args.i c.index_mut-table.result.now c.self.invariant.0 il c.index_mut-table.ensures.value) (c.self.invariant.0.maps c.args.i il)
+    rw (home, table_read s c.args.i c.index_mut-table.result.now c.self.invariant.0 il c.index_mut-table.ensures.value) (tie_of s c.args.i c.self.invariant.0 il)
 
 pub unreachable-requires : goal.unreachable-requires
 unreachable-requires c =
@@ -75,7 +65,7 @@ invariant_of-self c =
     let room = c.self.invariant.1 in (
       kept_created s (plain pages_of c.create_page.new.self) _ c.args.i c.args.page _ c.args.f c.args.at c.args.w c.home_of-home.result c.index_mut-table.result.now c.create_page.new.t c.self.invariant.0 il home
           (table_read s c.args.i c.index_mut-table.result.now c.self.invariant.0 il c.index_mut-table.ensures.value) (ap (map plan_of) c.create_page.ensures.drives) c.in-Ok.ensures.ok c.in-Ok.ensures.word
-          c.create_page.ensures.table c.create_page.ensures.map c.create_page.ensures.records (c.create_page.ensures.clean c.self.invariant.0.clean) c.create_page.ensures.others c.in-Ok.ensures.picture,
+          c.create_page.ensures.tie (c.create_page.ensures.sound.clean c.self.invariant.0.clean) c.create_page.ensures.others c.create_page.ensures.counts c.in-Ok.ensures.picture,
       omega (arith, count, room),
     )
 
@@ -83,22 +73,19 @@ pub returns-clause-taken : goal.returns-clause-taken
 returns-clause-taken c =
     let s : Segs = segs_of c.self.inside.pages c.self.inside.tables.items c.self.inside.homes.items in
     let home : c.home_of-home.result ≡ home_at s.homes c.args.i = c.home_of-home.ensures ∙ ap (λ (homes : List Home). home_at homes c.args.i) c.deref.ensures.value in
-    let room : is_full s.storage.records c.home_of-home.result.volume ≡ false = rw home (subst (λ (old : Segs). is_full old.storage.records (volume_at old c.args.i) ≡ false) (sym c.self.view_is) c.requires.room) in
     subst (λ (old : Segs). taken c.create_page.new.self.volumes.records ≡ one_more (taken old.storage.records) (volume_at old c.args.i)) c.self.view_is
-    (subst (λ (h : Home). taken c.create_page.new.self.volumes.records ≡ one_more (taken s.storage.records) h.volume) home
-    (taken_created s.storage (plain pages_of c.create_page.new.self) (c.args.i + 2) c.args.page c.home_of-home.result c.args.f c.args.at c.args.w c.in-Ok.ensures.ok room))
+    (subst (λ (h : Home). taken c.create_page.new.self.volumes.records ≡ one_more (taken s.storage.records) h.volume) home c.in-Ok.ensures.taken)
 
 pub returns-clause-binding : goal.returns-clause-binding
 returns-clause-binding c =
-    subst (λ (s : Segs). bindings c.create_page.new.self.core ≡ slice_set (bindings s.storage.core) c.args.f (Some (c.args.i + 2, c.args.page))) c.self.view_is
-    (binding_created (plain pages_of c.self.inside.pages) (plain pages_of c.create_page.new.self) (c.args.i + 2) c.args.page c.home_of-home.result _ c.args.f c.args.at c.args.w c.in-Ok.ensures.ok)
+    subst (λ (s : Segs). bindings c.create_page.new.self.core ≡ slice_set (bindings s.storage.core) c.args.f (Some (c.args.i + 2, c.args.page))) c.self.view_is c.in-Ok.ensures.bound
 
 pub returns-clause-sizes : goal.returns-clause-sizes
 returns-clause-sizes c =
     subst (λ (s : Segs). HasSizes s.storage (plain pages_of c.create_page.new.self)) c.self.view_is
-    (sizes_created (plain pages_of c.self.inside.pages) (plain pages_of c.create_page.new.self) (c.args.i + 2) c.args.page c.home_of-home.result _ c.args.f c.args.at c.args.w c.in-Ok.ensures.ok)
+    (sizes (plain pages_of c.self.inside.pages) (plain pages_of c.create_page.new.self) c.create_page.ensures.counts)
 
 pub returns-clause-used : goal.returns-clause-used
 returns-clause-used c =
     subst (λ (s : Segs). used c.create_page.new.self.volumes.vtocs ≡ used s.storage.vtocs) c.self.view_is
-    (used_created (plain pages_of c.self.inside.pages) (plain pages_of c.create_page.new.self) (c.args.i + 2) c.args.page c.home_of-home.result _ c.args.f c.args.at c.args.w c.in-Ok.ensures.ok)
+    (used_same (plain pages_of c.self.inside.pages) (plain pages_of c.create_page.new.self) c.create_page.ensures.counts)

@@ -4,12 +4,12 @@ use Rattle.page_control.specs.Picture.{picture, is_stored}
 use Rattle.page_control.specs.Tied.{HasNoHome}
 use Rattle.vtoc.specs.Vtoc.{least_free_entry}
 use Rattle.paged_segs.specs.Segs.{Segs, segs_of, pages_of, plan_of}
-use Rattle.paged_segs.specs.Counts.{used, entries, one_more}
+use Rattle.page_control.specs.Counts.{used, entries, one_more}
 use Rattle.paged_segs.specs.Kept.{IsKept}
 use Rattle.paged_segs.specs.Effects.{HasSizes}
 use Rattle.page_control.specs.declared.Home.{Home}
 use Rattle.paged_segs.proofs.Located.{homes_within}
-use Rattle.paged_segs.proofs.Making.{made_steps, next_no_home, used_more, used_room, used_full, free_at, sizes_made}
+use Rattle.paged_segs.proofs.Making.{made_steps, next_no_home, used_room, used_full, sizes_made}
 use Rattle.paged_segs.proofs.segments.Segments.make.Goals as goal
 
 pub overflow_cast-i : goal.overflow_cast-i
@@ -44,11 +44,7 @@ returns-clause-some c =
     (used_room c.self.inside.pages.volumes.vtocs c.args.volume c.in_ok-entry.entry (sym c.in_ok-entry.ensures.least))
 
 pub returns-clause-used : goal.returns-clause-used
-returns-clause-used c =
-    let found : least_free_entry (vtoc_of (plain pages_of c.self.inside.pages) c.args.volume) ≡ Some c.in_ok-entry.entry = sym c.in_ok-entry.ensures.least in
-    subst (λ (s : Segs). used c.new_home.new.self.volumes.vtocs ≡ one_more (used s.storage.vtocs) c.args.volume) c.self.view_is
-    (ap (λ (x : Plain). used x.vtocs) c.in_ok-entry.ensures.some ∙ used_more c.self.inside.pages.volumes.vtocs c.args.volume c.in_ok-entry.entry (c.len-i.result + 2)
-    (free_at _ _ found).0 (free_at _ _ found).1)
+returns-clause-used c = subst (λ (s : Segs). used c.new_home.new.self.volumes.vtocs ≡ one_more (used s.storage.vtocs) c.args.volume) c.self.view_is c.in_ok-entry.ensures.used
 
 pub returns-clause-picture : goal.returns-clause-picture
 returns-clause-picture c =
@@ -73,7 +69,7 @@ invariant_of-self-2 c =
     let kept = made_steps s (plain pages_of c.new_home.new.self) (map plan_of c.new_home.new.self.volumes.drives) c.args.volume c.in_ok-entry.entry (c.len-i.result + 2) (ap (λ (n : ℕ). n + 2) next) c.self.invariant.0
     (ap (map plan_of) c.new_home.ensures.drives) (subst (λ (old : Segs). c.args.volume < length old.storage.disks) (sym c.self.view_is) c.requires) (sym c.in_ok-entry.ensures.least)
     c.in_ok-entry.ensures.some (c.in_ok-entry.ensures.home none) (c.new_home.ensures.homes none) c.new_home.ensures.maps (c.new_home.ensures.records c.self.invariant.0.filed)
-    (c.new_home.ensures.picture none) (c.new_home.ensures.clean none c.self.invariant.0.clean) in
+    (c.new_home.ensures.picture none) ((c.new_home.ensures.sound none).clean c.self.invariant.0.clean) in
     (subst (λ (homes : List Home). IsKept (segs_of c.new_home.new.self c.self.inside.tables.items homes)) (sym c.push_reserved.ensures.items) kept, room)
 
 pub returns-clause-sizes : goal.returns-clause-sizes

@@ -1,18 +1,24 @@
-use Rattle.std.proofs.Common.{◌≡◌, ◌+◌, ◌<◌, List, ap, ◌∙◌, rules, subst, arith, slice_set, Some, length}
+use Rattle.std.proofs.Common.{◌≡◌, ◌+◌, ◌<◌, List, ap, ◌∙◌, rules, subst, arith, slice_set, Some, length, true}
 use Rattle.std.proofs.lemmas.List.{length-set}
+use Rattle.std.proofs.lemmas.Grind.{common_steps}
+use Rattle.page_table.specs.declared.Ptw.{Ptw}
+use Rattle.page_table.specs.PageTable.{ptw_at}
 use Rattle.page_control.specs.declared.Home.{Home}
 use Rattle.page_control.specs.Plain.{plain, bindings}
-use Rattle.paged_segs.specs.Segs.{Segs, segs_of, pages_of, home_at}
+use Rattle.page_control.specs.Tied.{is_out}
+use Rattle.paged_segs.specs.Segs.{Segs, segs_of, pages_of, plan_of, home_at, table_at}
 use Rattle.paged_segs.specs.Effects.{HasSizes}
-use Rattle.paged_segs.proofs.Paging.{table_read, kept_read, binding_read, sizes_read}
+use Rattle.paged_segs.proofs.Keeping.{sizes}
+use Rattle.paged_segs.proofs.Located.{tie_of}
+use Rattle.paged_segs.proofs.Paging.{table_read, kept_read}
 use Rattle.paged_segs.proofs.segments.Segments.page_in.Goals as goal
 
-pub bring_in-requires-clause-map : goal.bring_in-requires-clause-map
-bring_in-requires-clause-map c =
+pub bring_in-requires-clause-tie : goal.bring_in-requires-clause-tie
+bring_in-requires-clause-tie c =
     let s : Segs = segs_of c.self.inside.pages c.self.inside.tables.items c.self.inside.homes.items in
     let il : c.args.i < length s.homes = search rules in
     let home : c.home_of-home.result ≡ home_at s.homes c.args.i = c.home_of-home.ensures ∙ ap (λ (homes : List Home). home_at homes c.args.i) c.deref.ensures.value in
-    rw (home, table_read s c.args.i c.index_mut.result.now c.self.invariant.0 il c.index_mut.ensures.value) (c.self.invariant.0.maps c.args.i il)
+    rw (home, table_read s c.args.i c.index_mut.result.now c.self.invariant.0 il c.index_mut.ensures.value) (tie_of s c.args.i c.self.invariant.0 il)
 
 pub invariant_of-self : goal.invariant_of-self
 invariant_of-self c =
@@ -21,18 +27,16 @@ invariant_of-self c =
     let home : c.home_of-home.result ≡ home_at s.homes c.args.i = c.home_of-home.ensures ∙ ap (λ (homes : List Home). home_at homes c.args.i) c.deref.ensures.value in
     let count = length-set c.self.inside.tables.items c.args.i c.bring_in.new.table in
     let room = c.self.invariant.1 in (
-      kept_read s (plain pages_of c.bring_in.new.pages) _ c.args.i c.args.page _ c.args.f c.home_of-home.result c.index_mut.result.now c.bring_in.new.table c.self.invariant.0 il home
-          (table_read s c.args.i c.index_mut.result.now c.self.invariant.0 il c.index_mut.ensures.value) c.bring_in.ensures.plans c.bring_in.ensures.effect c.bring_in.ensures.word c.bring_in.ensures.table
-          c.bring_in.ensures.map c.bring_in.ensures.clean c.bring_in.ensures.others c.bring_in.ensures.picture,
+      kept_read s (plain pages_of c.bring_in.new.pages) _ c.args.i c.args.page c.args.f c.home_of-home.result c.index_mut.result.now c.bring_in.new.table c.self.invariant.0 il home
+          (table_read s c.args.i c.index_mut.result.now c.self.invariant.0 il c.index_mut.ensures.value) c.bring_in.ensures.plans c.bring_in.ensures.read,
       omega (arith, count, room),
     )
 
 pub returns-clause-binding : goal.returns-clause-binding
 returns-clause-binding c =
-    subst (λ (s : Segs). bindings c.bring_in.new.pages.core ≡ slice_set (bindings s.storage.core) c.args.f (Some (c.args.i + 2, c.args.page))) c.self.view_is
-    (binding_read (plain pages_of c.self.inside.pages) (plain pages_of c.bring_in.new.pages) (c.args.i + 2) c.args.page _ _ c.args.f c.bring_in.ensures.effect)
+    subst (λ (s : Segs). bindings c.bring_in.new.pages.core ≡ slice_set (bindings s.storage.core) c.args.f (Some (c.args.i + 2, c.args.page))) c.self.view_is c.bring_in.ensures.read.bound
 
 pub returns-clause-sizes : goal.returns-clause-sizes
 returns-clause-sizes c =
     subst (λ (s : Segs). HasSizes s.storage (plain pages_of c.bring_in.new.pages)) c.self.view_is
-    (sizes_read (plain pages_of c.self.inside.pages) (plain pages_of c.bring_in.new.pages) (c.args.i + 2) c.args.page _ _ c.args.f c.bring_in.ensures.effect)
+    (sizes (plain pages_of c.self.inside.pages) (plain pages_of c.bring_in.new.pages) c.bring_in.ensures.read.counts)

@@ -1,8 +1,9 @@
 -- How much of each volume is in use: records and VTOC entries (Organick 1972).
-use Rattle.std.specs.Prelude.{ℕ, ◌+◌, ◌-◌, ◌==◌, if◌then◌else◌, Bool, List, Option, length, is_some, count_by}
+use Rattle.std.specs.Prelude.{◌≡◌, ℕ, ◌+◌, ◌-◌, ◌==◌, if◌then◌else◌, Bool, List, Option, length, is_some, count_by, map}
 use Rattle.vtoc.specs.Vtoc.{Entry}
 use Rattle.page_control.specs.declared.Left.{Left}
 use Rattle.page_control.specs.declared.Left.TheVariants.{Released, Kept}
+use Rattle.page_control.specs.Plain.{Plain}
 use Rattle.page_control.specs.Tied.{flags_in, vtoc_in}
 
 -- how many records of volume v are in use, and how many it has
@@ -33,3 +34,11 @@ one_less count v w = if w == v then count w - 1 else count w
 abbrev pub taken_after : (ℕ → ℕ) → ℕ → Left → ℕ → ℕ
 taken_after count v Released = one_less count v
 taken_after count v Kept = count
+
+-- No volume has more or fewer entries in use, entries, records or pages, and the frames are as many as before.
+pub record KeepsCounts (old new : Plain) : Type 0 where
+  pub used : map (count_by is_some) new.vtocs ≡ map (count_by is_some) old.vtocs
+  pub places : map (length {A = Option Entry}) new.vtocs ≡ map length old.vtocs
+  pub flags : map (length {A = Bool}) new.records ≡ map length old.records
+  pub volumes : length new.disks ≡ length old.disks
+  pub frames : length new.core.frames ≡ length old.core.frames

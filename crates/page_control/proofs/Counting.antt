@@ -7,25 +7,22 @@ use Rattle.std.proofs.Math.ListN.{get_or-map}
 use Rattle.std.proofs.Math.Seq.{map-set_same}
 use Rattle.bitmap.specs.Bitmap.{in_use}
 use Rattle.bitmap.proofs.BitLemmas.{count_with, count_without}
-use Rattle.vtoc.specs.Vtoc.{Entry, entry_at, with_record}
-use Rattle.page_control.specs.Tied.{flags_in, vtoc_in}
+use Rattle.std.specs.Prelude.{IfSome}
+use Rattle.vtoc.specs.Vtoc.{Entry, entry_at, uid_of, with_record, fresh_entry}
+use Rattle.page_control.specs.Tied.{flags_in, vtoc_in, IsHomeOf}
 use Rattle.page_control.specs.Plain.{Plain}
 use Rattle.page_control.specs.declared.Home.{Home}
 use Rattle.page_control.specs.declared.Left.{Left}
 use Rattle.page_control.specs.declared.Left.TheVariants.{Released, Kept}
-use Rattle.page_control.specs.Effects.{evicted, created, brought_in}
+use Rattle.core_map.specs.declared.Frame.TheVariants.{Free}
+use Rattle.page_table.specs.declared.Ptw.{Ptw}
+use Rattle.page_table.specs.declared.Ptw.TheVariants.{Null, Out, Here, Leaving}
+use Rattle.page_control.specs.Effects.{evicted, created, brought_in, framed, dropped}
 use Rattle.page_control.proofs.Facts.{used_within}
+use Rattle.page_control.proofs.Pictures.{home_within}
+use Rattle.page_control.proofs.Homes.{Allocates}
 use Rattle.page_control.proofs.Places.{put, list_within, refile}
-use Rattle.paged_segs.specs.Counts.{taken, used, one_more, one_less}
-use Rattle.paged_segs.specs.Effects.{HasSizes}
-
--- what the counts are told by
-pub record KeepsCounts (old new : Plain) : Type 0 where
-  pub used : map (count_by is_some) new.vtocs ≡ map (count_by is_some) old.vtocs
-  pub places : map (length {A = Option Entry}) new.vtocs ≡ map length old.vtocs
-  pub flags : map (length {A = Bool}) new.records ≡ map length old.records
-  pub volumes : length new.disks ≡ length old.disks
-  pub frames : length new.core.frames ≡ length old.core.frames
+use Rattle.page_control.specs.Counts.{taken, used, one_more, one_less, taken_after, KeepsCounts}
 
 -- a count for each volume is told by the list of all
 pub by_list : {X : Type 0} (f : List X → ℕ) (xs ys : List (List X)) → map f xs ≡ map f ys → (v : ℕ) → f (get_or xs v []) ≡ f (get_or ys v [])
@@ -33,26 +30,6 @@ by_list f xs ys same v = sym (get_or-map f xs v []) ∙ ap (λ (counts : List �
 
 pub by_sum : {X : Type 0} (f : List X → ℕ) (xs ys : List (List X)) → map f xs ≡ map f ys → sum_by f xs ≡ sum_by f ys
 by_sum f xs ys same = sym (sum-map f xs) ∙ ap sum same ∙ sum-map f ys
-
-pub used_same : (old new : Plain) → KeepsCounts old new → used new.vtocs ≡ used old.vtocs
-used_same old new k = λ i. λ v. by_list (count_by is_some) new.vtocs old.vtocs k.used v i
-
-pub used_sum : (old new : Plain) → KeepsCounts old new → sum_by (count_by is_some) new.vtocs ≡ sum_by (count_by is_some) old.vtocs
-used_sum old new k = by_sum (count_by is_some) new.vtocs old.vtocs k.used
-
-pub places_sum : (old new : Plain) → KeepsCounts old new → sum_by (length {A = Option Entry}) new.vtocs ≡ sum_by length old.vtocs
-places_sum old new k = by_sum (length {A = Option Entry}) new.vtocs old.vtocs k.places
-
-pub size_at : (old new : Plain) → KeepsCounts old new → (v : ℕ) → length (flags_in new.records v) ≡ length (flags_in old.records v)
-size_at old new k v = by_list (length {A = Bool}) new.records old.records k.flags v
-
-pub sizes : (old new : Plain) → KeepsCounts old new → HasSizes old new
-sizes old new k = record {
-  volumes = k.volumes;
-  records = λ i. λ v. size_at old new k v i;
-  places = λ i. λ v. by_list (length {A = Option Entry}) new.vtocs old.vtocs k.places v i;
-  frames = k.frames;
-}
 
 -- one entry names another record
 some_with : (entry : Option Entry) (p : ℕ) (place : Option ℕ) → is_some (with_record entry p place) ≡ is_some entry
@@ -160,12 +137,91 @@ taken_less records v r is =
     less_by (taken records) (taken (put records v r false)) v (fewer_at records v r is)
     (λ w n. ap (count_by (λ flag. flag)) (get_or-set_other records v w (set (flags_in records v) r false) [] n))
 
--- there are as many used entries as entries at most
-pub used_most : (vtocs : List (List (Option Entry))) → sum_by (count_by is_some) vtocs ≤ sum_by length vtocs
-used_most [] = omega arith
-used_most (table ∷ vtocs) =
-    let ih = used_most vtocs in
-    let one = count_by-le-length is_some table in
-    let some_ = sum_by-cons (count_by is_some) table vtocs in
-    let all = sum_by-cons (length {A = Option Entry}) table vtocs in
-    omega (arith, ih, one, some_, all)
+-- a page that couldn't be read, and one that is dropped
+pub counts_lost : (s now : Plain) (f : ℕ) → now ≡ framed s f Free → KeepsCounts s now
+counts_lost s now f is = rw is (record {
+  used = refl;
+  places = refl;
+  flags = refl;
+  volumes = refl;
+  frames = length-set s.core.frames f _;
+})
+
+pub counts_same : (s now : Plain) → now ≡ s → KeepsCounts s now
+counts_same s now is = rw is (record {
+  used = refl;
+  places = refl;
+  flags = refl;
+  volumes = refl;
+  frames = refl;
+})
+
+pub counts_dropped : (s now : Plain) (home : Home) (p : ℕ) (word : Ptw) → now ≡ dropped s home p word → KeepsCounts s now
+counts_dropped s now home p Null is = rw is (record {
+  used = used_refiled s.vtocs home p None;
+  places = places_refiled s.vtocs home p None;
+  flags = flags_put s.records home.volume _ false;
+  volumes = refl;
+  frames = refl;
+})
+counts_dropped s now home p (Out r) is = rw is (record {
+  used = used_refiled s.vtocs home p None;
+  places = places_refiled s.vtocs home p None;
+  flags = flags_put s.records home.volume _ false;
+  volumes = refl;
+  frames = refl;
+})
+counts_dropped s now home p (Here f) is = rw is (record {
+  used = used_refiled s.vtocs home p None;
+  places = places_refiled s.vtocs home p None;
+  flags = flags_put s.records home.volume _ false;
+  volumes = refl;
+  frames = refl;
+})
+counts_dropped s now home p (Leaving f) is = rw is (record {
+  used = used_refiled s.vtocs home p None;
+  places = places_refiled s.vtocs home p None;
+  flags = flags_put s.records home.volume _ false;
+  volumes = refl;
+  frames = length-set s.core.frames f _;
+})
+
+-- the counts of used entries
+pub count_more : (table : List (Option Entry)) (e uid : ℕ) → e < length table → entry_at table e ≡ None → count_by is_some (set table e (fresh_entry uid)) ≡ count_by is_some table + 1
+count_more table e uid el free =
+    let all = sum_by-set (λ (y : Option Entry). cond {A = ℕ} (is_some y) 1 0) table e (fresh_entry uid) None el in
+    let none : cond {A = ℕ} (is_some (entry_at table e)) 1 0 ≡ 0 = ap (λ (y : Option Entry). cond {A = ℕ} (is_some y) 1 0) free in
+    omega (arith, all, none)
+
+pub used_more : (vtocs : List (List (Option Entry))) (v e uid : ℕ) → e < length (vtoc_in vtocs v) → entry_at (vtoc_in vtocs v) e ≡ None
+    → used (put vtocs v e (fresh_entry uid)) ≡ one_more (used vtocs) v
+used_more vtocs v e uid el free =
+    let vl : v < length vtocs = list_within vtocs v e el in
+    more_by (used vtocs) (used (put vtocs v e (fresh_entry uid))) v
+    (ap (count_by is_some) (get_or-set_same vtocs v (set (vtoc_in vtocs v) e (fresh_entry uid)) [] vl) ∙ count_more (vtoc_in vtocs v) e uid el free)
+    (λ w n. ap (count_by is_some) (get_or-set_other vtocs v w (set (vtoc_in vtocs v) e (fresh_entry uid)) [] n))
+
+count_fewer : (table : List (Option Entry)) (e uid : ℕ) → e < length table → uid_of (entry_at table e) ≡ Some uid → count_by is_some (set table e None) + 1 ≡ count_by is_some table
+count_fewer table e uid el used =
+    let all = sum_by-set (λ (y : Option Entry). cond {A = ℕ} (is_some y) 1 0) table e None None el in
+    let one : cond {A = ℕ} (is_some (entry_at table e)) 1 0 ≡ 1 = ap (λ (b : Bool). cond {A = ℕ} b 1 0) (there (entry_at table e) used) in
+    omega (arith, all, one)
+  where
+    there : (entry : Option Entry) → uid_of entry ≡ Some uid → is_some entry ≡ true
+    there None is = cc
+    there (Some entry) is = refl
+
+-- an entry that is asked for, and a home that is given back
+pub used_asked : (vtocs now : List (List (Option Entry))) (v uid : ℕ) (result : Option ℕ) → Allocates vtocs now v uid result → IfSome result (λ e. used now ≡ one_more (used vtocs) v)
+used_asked vtocs now v uid None a = tt
+used_asked vtocs now v uid (Some e) a = (let least = a.least e refl in ap used (a.taken e refl) ∙ used_more vtocs v e uid least.within least.free)
+
+pub used_erased : (vtocs now : List (List (Option Entry))) (uid : ℕ) (home : Home) → now ≡ put vtocs home.volume home.entry None → IsHomeOf vtocs uid home
+    → used now ≡ one_less (used vtocs) home.volume
+used_erased vtocs now uid home is h =
+    let el : home.entry < length (vtoc_in vtocs home.volume) = home_within vtocs uid home h in
+    let vl : home.volume < length vtocs = list_within vtocs home.volume home.entry el in
+    ap used is ∙ less_by (used vtocs) (used (put vtocs home.volume home.entry None)) home.volume
+    (ap (λ (table : List (Option Entry)). count_by is_some table + 1) (get_or-set_same vtocs home.volume (set (vtoc_in vtocs home.volume) home.entry None) [] vl)
+    ∙ count_fewer (vtoc_in vtocs home.volume) home.entry uid el h.used)
+    (λ w n. ap (count_by is_some) (get_or-set_other vtocs home.volume w (set (vtoc_in vtocs home.volume) home.entry None) [] n))

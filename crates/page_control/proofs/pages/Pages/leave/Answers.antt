@@ -1,0 +1,87 @@
+use Rattle.std.proofs.Common.{◌≡◌, ◌≤◌, ◌∙◌, List, ℕ, true, rules, arith, ap, sym, refl, Some, length, inl, inr}
+use Rattle.std.proofs.lemmas.Grind.{common_steps}
+use Rattle.page_control.specs.Plain.{plain, words_in}
+use Rattle.page_control.specs.Tied.{has_record}
+use Rattle.page_control.proofs.Facts.{tied_volume, tied_filed, leaving_within}
+use Rattle.page_control.proofs.Shown.{zeros_same, not_zero}
+use Rattle.page_control.proofs.pages.Pages.leave.Goals as goal
+
+pub record_in-r-requires-clause-page : goal.record_in-r-requires-clause-page
+record_in-r-requires-clause-page g c =
+    let pages = c.requires.tie.pages in
+    let inside = leaving_within c.args.t.now _ c.args.f c.requires.leaving in
+    rw c.page_in-p.ensures (omega (arith, pages, inside))
+
+pub record_in-r-requires-clause-volume : goal.record_in-r-requires-clause-volume
+record_in-r-requires-clause-volume g c = tied_volume g.D.Drive.pages c.args.self.now _ _ _ c.requires.tie
+
+pub record_in-r-requires-clause-filed : goal.record_in-r-requires-clause-filed
+record_in-r-requires-clause-filed g c =
+    rw c.page_in-p.ensures (tied_filed (plain g.D.Drive.pages c.args.self.now) _ c.args.home c.args.t.now _ c.requires.tie (ap has_record c.requires.leaving))
+
+pub unstore-requires-clause-page : goal.unstore-requires-clause-page
+unstore-requires-clause-page g c =
+    let pages = c.requires.tie.pages in
+    let inside = leaving_within c.args.t.now _ c.args.f c.requires.leaving in
+    rw c.page_in-p.ensures (omega (arith, pages, inside))
+
+pub unstore-requires-clause-volume : goal.unstore-requires-clause-volume
+unstore-requires-clause-volume g c = tied_volume g.D.Drive.pages c.args.self.now _ _ _ c.requires.tie
+
+pub unstore-requires-clause-filed : goal.unstore-requires-clause-filed
+unstore-requires-clause-filed g c =
+    rw (c.record_in-r.ensures.record, c.page_in-p.ensures)
+    (tied_filed (plain g.D.Drive.pages c.args.self.now) _ c.args.home c.args.t.now _ c.requires.tie (ap has_record c.requires.leaving))
+
+pub save-requires-clause-volume : goal.save-requires-clause-volume
+save-requires-clause-volume g c = tied_volume g.D.Drive.pages c.args.self.now _ _ _ c.requires.tie
+
+pub returns-then-is_zero-clause-left : goal.returns-then-is_zero-clause-left
+returns-then-is_zero-clause-left g c =
+    let here : words_in (plain g.D.Drive.pages c.args.self.now) c.args.f ≡ c.index.result.now = grind (arith, common_steps) in
+    record {
+      zeros = (λ _. zeros_same _ c.index.result.now here (c.is_zero.ensures.zero.0 c.if-is_zero.true), λ _. refl);
+      released = λ _. refl;
+      ok = search rules;
+      err = _;
+      word = search rules;
+      word_kept = _;
+      long = ap (λ (words : List ℕ). length words) here ∙ c.is_zero.ensures.size;
+      within = search rules;
+    }
+
+pub returns-in-Err-clause-left : goal.returns-in-Err-clause-left
+returns-in-Err-clause-left g c =
+    let here : words_in (plain g.D.Drive.pages c.args.self.now) c.args.f ≡ c.index.result.now = grind (arith, common_steps) in
+    record {
+      zeros = _;
+      released = λ all. absurd (not_zero c.is_zero.result _ c.index.result.now here c.is_zero.ensures.zero c.if-is_zero.false all);
+      ok = _;
+      err = search rules;
+      word = _;
+      word_kept = refl;
+      long = ap (λ (words : List ℕ). length words) here ∙ c.is_zero.ensures.size;
+      within = search rules;
+    }
+
+pub returns-clause-left : goal.returns-clause-left
+returns-clause-left g c =
+    let here : words_in (plain g.D.Drive.pages c.args.self.now) c.args.f ≡ c.index.result.now = grind (arith, common_steps) in
+    record {
+      zeros = (λ same. cc, λ all. absurd (not_zero c.is_zero.result _ c.index.result.now here c.is_zero.ensures.zero c.if-is_zero.false all));
+      released = λ all. absurd (not_zero c.is_zero.result _ c.index.result.now here c.is_zero.ensures.zero c.if-is_zero.false all);
+      ok = search rules;
+      err = _;
+      word = search rules;
+      word_kept = _;
+      long = ap (λ (words : List ℕ). length words) here ∙ c.is_zero.ensures.size;
+      within = search rules;
+    }
+
+pub returns-clause-no_call : goal.returns-clause-no_call
+returns-clause-no_call g c = λ need.
+    let here : words_in (plain g.D.Drive.pages c.args.self.now) c.args.f ≡ c.index.result.now = grind (arith, common_steps) in
+    elim need [
+      | inl all ↦ absurd (not_zero c.is_zero.result _ c.index.result.now here c.is_zero.ensures.zero c.if-is_zero.false all)
+      | inr off ↦ (let same = c.save.ensures.no_call off in search rules)
+    ]

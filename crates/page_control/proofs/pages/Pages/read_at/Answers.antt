@@ -1,0 +1,44 @@
+use Rattle.std.proofs.Common.{◌≡◌, ◌<◌, ◌∙◌, rules, arith, ap, sym, refl, length}
+use Rattle.std.proofs.lemmas.Grind.{common_steps}
+use Rattle.page_table.specs.PageTable.{ptw_at}
+use Rattle.page_control.specs.Plain.{plain, record_of, flags_of}
+use Rattle.page_control.proofs.Facts.{tied_volume, used_within}
+use Rattle.page_control.proofs.Calls.{out_record}
+use Rattle.page_control.proofs.pages.Pages.read_at.Goals as goal
+
+pub size-requires : goal.size-requires
+size-requires g c =
+    let volume = tied_volume g.D.Drive.pages c.args.self.now _ _ _ c.requires.tie in
+    grind (arith, common_steps)
+
+pub prove-unreachable-requires : goal.prove-unreachable-requires
+prove-unreachable-requires g c =
+    let lt : c.record_out-r.result < length (flags_of (plain g.D.Drive.pages c.args.self.now) c.args.home.volume) =
+    used_within _ _ (c.requires.tie.records.used c.args.home.volume c.args.home.entry c.args.p _ (c.requires.tie.map.out c.args.p _ c.record_out-r.ensures)) in
+    let size : c.size.result ≡ length (flags_of (plain g.D.Drive.pages c.args.self.now) c.args.home.volume) = search rules in
+    omega (arith, lt, size, c.if-prove.true)
+
+pub read_page-requires-clause-volume : goal.read_page-requires-clause-volume
+read_page-requires-clause-volume g c =
+    let volume = tied_volume g.D.Drive.pages c.args.self.now _ _ _ c.requires.tie in
+    grind (arith, common_steps)
+
+pub returns-in-Ok-clause-read : goal.returns-in-Ok-clause-read
+returns-in-Ok-clause-read g c =
+    let r : record_of (plain g.D.Drive.pages c.args.self.now) c.args.home c.args.p ≡ c.record_out-r.result = out_record _ _ _ _ _ _ c.requires.tie c.record_out-r.ensures in
+    record {
+      ok = rw r (grind (arith, common_steps));
+      err = _;
+      word = search rules;
+      word_kept = _;
+      frames = rw (← c.self.view_is) c.self.invariant;
+    }
+
+pub returns-in-Err-clause-read : goal.returns-in-Err-clause-read
+returns-in-Err-clause-read g c = record {
+  ok = _;
+  err = grind (arith, common_steps);
+  word = _;
+  word_kept = refl;
+  frames = rw (← c.self.view_is) c.self.invariant;
+}
