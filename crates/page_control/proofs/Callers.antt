@@ -1,21 +1,24 @@
 -- For callers: what the ties between tables, homes and frames give.
-use Rattle.std.proofs.Common.{◌≡◌, ◌≢◌, ℕ, Bool, true, false, List, [], length, is_some, Option, None, Some, sym, ap, ◌∙◌, sum_by, count_by}
+use Rattle.std.proofs.Common.{◌≡◌, ◌≢◌, ℕ, Bool, true, false, List, [], length, is_some, Option, None, Some, refl, sym, ap, ◌∙◌, get_or, sum_by, count_by}
+use Rattle.std.proofs.Math.ListN.{get_or-map}
+use Rattle.core_map.specs.declared.Frame.{Frame}
+use Rattle.core_map.specs.declared.Frame.TheVariants.{Free, Started, Bound}
 use Rattle.page_control.specs.Counts.{used, entries, KeepsCounts}
 use Rattle.page_control.proofs.Counting.{by_list, by_sum}
 use Rattle.std.proofs.lemmas.Option.{same_Some}
 use Rattle.page_table.specs.declared.Ptw.{Ptw}
 use Rattle.page_table.specs.declared.Ptw.TheVariants.{Leaving}
 use Rattle.page_table.specs.PageTable.{ptw_at}
-use Rattle.page_control.specs.Plain.{Plain, bindings, binding_at, number_in, uid_or_zero, frame_in, words_in, words_on, disk_of, file_map_of, filed, record_of}
-use Rattle.core_map.specs.CoreMap.{Core, frame_at, is_bound, is_modified}
+use Rattle.page_control.specs.Plain.{Plain, bindings, starts, binding_at, number_in, uid_or_zero, frame_in, words_in, words_on, disk_of, file_map_of, filed, record_of}
+use Rattle.core_map.specs.CoreMap.{Core, frame_at, is_bound, is_modified, is_started, bound_page, started_page}
 use Rattle.vtoc.specs.Vtoc.{Entry, uid_of}
 use Rattle.page_control.specs.declared.Home.{Home}
-use Rattle.page_control.specs.Picture.{AreClean, volume_of, record_named, words_filed, words_held, words_of_page, is_filed_in, picture, is_stored}
+use Rattle.page_control.specs.Picture.{AreClean, volume_of, record_named, words_filed, words_held, words_of_page, is_filed_in, picture, is_stored, IsInFrame}
 use Rattle.page_control.proofs.Facts.{filed_from_word, binding_is, bound_from_page, bound_to}
-use Rattle.page_control.proofs.Pictures.{volume_found, record_found, found_nowhere}
+use Rattle.page_control.proofs.Pictures.{uid_part, volume_found, record_found, found_nowhere}
 use Rattle.page_control.proofs.Changes.{picture_at}
-use Rattle.page_control.specs.Tied.{flags_in, frame_of, has_record, uid_in, IsTableOf, IsHomeOf, IsMapOf, IsBoundOnce, HasNoFrame, IsTied}
-use Rattle.page_control.proofs.Ties.{not_none, frame_same, bound_within}
+use Rattle.page_control.specs.Tied.{flags_in, frame_of, has_record, uid_in, IsTableOf, IsHomeOf, IsMapOf, IsBoundOnce, IsBoundTo, HasNoFrame, IsTied}
+use Rattle.page_control.proofs.Ties.{not_none, number_of, frame_same, bound_within}
 
 -- a page of the segment of a table is in one frame
 pub bound_once : (bound : List (Option (ℕ × ℕ))) (uid p f : ℕ) (t : List Ptw) → IsTableOf bound uid t → frame_of (ptw_at t p) ≡ Some f → IsBoundOnce bound f
@@ -99,3 +102,37 @@ size_at old new k v = by_list (length {A = Bool}) new.records old.records k.flag
 
 pub entries_at : (old new : Plain) → KeepsCounts old new → (v : ℕ) → entries new.vtocs v ≡ entries old.vtocs v
 entries_at old new k v = by_list (length {A = Option Entry}) new.vtocs old.vtocs k.places v
+
+-- a page that is in no frame has the words of its record
+pub away_shown : (s : Plain) (uid p : ℕ) → (IsInFrame (bindings s.core) uid p → ⊥) → picture s uid p ≡ words_filed (disk_of s (volume_of s.vtocs uid)) (record_named s.vtocs uid p)
+unfolding words_of_page
+away_shown s uid p away =
+    ap (words_held s.frames (disk_of s (volume_of s.vtocs uid)) (record_named s.vtocs uid p)) (found_nowhere (bindings s.core) uid p (λ g at. away (g, at)))
+
+-- a frame that is bound to a page, and so one that a word names
+told : (frame : Frame) (uid p : ℕ) → bound_page frame ≡ Some (uid, p) → ◌≡◌ {A = Option (ℕ × ℕ)} (Some (uid_in frame, number_in frame)) (Some (uid, p))
+told frame uid p at = sym (bound_to frame (bound_from_page frame uid p at)) ∙ at
+
+pub bound_frame : (core : Core) (f uid p : ℕ) → binding_at (bindings core) f ≡ Some (uid, p) → IsBoundTo (frame_at core f) uid p
+bound_frame core f uid p at =
+    let page : bound_page (frame_at core f) ≡ Some (uid, p) = sym (binding_is core f) ∙ at in
+    record {
+      bound = bound_from_page (frame_at core f) uid p page;
+      segment = ap uid_part (told (frame_at core f) uid p page);
+      page = ap number_of (told (frame_at core f) uid p page);
+    }
+
+pub frame_named : (core : Core) (uid p f : ℕ) (t : List Ptw) → IsTableOf (bindings core) uid t → frame_of (ptw_at t p) ≡ Some f → IsBoundTo (frame_at core f) uid p
+frame_named core uid p f t table word = bound_frame core f uid p (table.back f p word)
+
+-- no page is being read where none was, and frames are started as before
+is_started_page : (frame : Frame) → is_some (started_page frame) ≡ is_started frame
+is_started_page Free = refl
+is_started_page (Started u q) = refl
+is_started_page (Bound u q used modified) = refl
+
+pub started_same : (old new : Core) (g : ℕ) → starts new ≡ starts old → is_started (frame_at new g) ≡ is_started (frame_at old g)
+started_same old new g same =
+    let none : Option (ℕ × ℕ) = None in
+    sym (is_started_page (frame_at new g)) ∙ ap is_some (sym (get_or-map started_page new.frames g Free)) ∙ ap (λ (those : List (Option (ℕ × ℕ))). is_some (get_or those g none)) same
+    ∙ ap is_some (get_or-map started_page old.frames g Free) ∙ is_started_page (frame_at old g)

@@ -1,5 +1,5 @@
 -- A segment that was just given its home, where no page is stored and none is in a frame.
-use Rattle.std.proofs.Common.{◌≡◌, ℕ, zero, suc, arith, Bool, true, false, All, List, [], ◌∷◌, Option, None, Some, refl, sym, ap, ◌∙◌, get_or, replicate, is_some}
+use Rattle.std.proofs.Common.{◌≡◌, ℕ, ◌<◌, length, zero, suc, arith, Bool, true, false, All, List, [], ◌∷◌, Option, None, Some, refl, sym, ap, ◌∙◌, get_or, replicate, is_some}
 use Rattle.std.specs.Prelude.{Result, Ok, Err, IfOk, slice_set}
 use Rattle.std.specs.Result.{OnOk, result_ok}
 use Rattle.std.proofs.lemmas.List.Elements.{All-get_or}
@@ -15,8 +15,8 @@ use Rattle.page_control.specs.declared.Home.{Home}
 use Rattle.page_control.specs.declared.Left.{Left}
 use Rattle.page_control.specs.declared.Left.TheVariants.{Released, Kept}
 use Rattle.page_control.specs.Effects.{word_of_left}
-use Rattle.page_control.specs.Plain.{bindings, binding_at, uid_or_zero}
-use Rattle.page_control.specs.Tied.{vtoc_in, flags_in, frame_of, has_record, uid_in, IsTableOf, IsHomeOf, IsMapOf, HasNoFrame, AreFiled}
+use Rattle.page_control.specs.Plain.{Plain, bindings, binding_at, uid_or_zero}
+use Rattle.page_control.specs.Tied.{vtoc_in, flags_in, frame_of, has_record, uid_in, map_at, IsTableOf, IsHomeOf, IsMapOf, IsTied, HasNoFrame, AreFiled}
 use Rattle.page_control.proofs.Facts.{binding_is}
 use Rattle.page_control.proofs.Ties.{not_none}
 use Rattle.page_control.proofs.Callers.{used_uid, no_frame}
@@ -129,3 +129,16 @@ pub away_erased : (bound : List (Option (ℕ × ℕ))) (vtocs : List (List (Opti
     → IsTableOf bound segment u → ((p : ℕ) → frame_of (ptw_at u p) ≡ None) → HasNoFrame bound (uid_or_zero (entry_at (vtoc_in vtocs home.volume) home.entry))
 away_erased bound vtocs uid segment home u h same table away =
     rw (used_uid (entry_at (vtoc_in vtocs home.volume) home.entry) uid h.used, sym same) (no_frame bound segment u table away)
+
+-- a segment of three pages that was just given its home on one volume
+pub tie_fresh : (s : Plain) (uid n : ℕ) (home : Home) (table : List Ptw) → s.vtocs ≡ (fresh_entry uid ∷ None ∷ []) ∷ [] → home.volume ≡ 0 → home.entry ≡ 0 → 0 < length s.disks
+    → s.core.frames ≡ replicate n Free → table ≡ replicate 3 Null → IsTied s uid home table
+tie_fresh s uid n home table is volume entry some_ free null = record {
+  volume = rw volume some_;
+  pages = (let long = ap length null in omega (arith, long));
+  used = home_fresh s.vtocs uid home is volume entry;
+  table = table_fresh s.core uid n 3 table free null;
+  map = map_fresh _ 3 table (ap (λ (v : ℕ). map_at s.vtocs (record home { volume = v })) volume ∙ ap (λ (e : ℕ). map_at s.vtocs (record { volume = 0; entry = e })) entry
+      ∙ ap (λ (vtocs : List (List (Option Entry))). map_at vtocs (record { volume = 0; entry = 0 })) is) null;
+  records = filed_fresh s.records s.vtocs uid is;
+}

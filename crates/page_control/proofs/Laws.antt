@@ -10,5 +10,5 @@ pub use Rattle.page_control.proofs.Fresh.{alike, uid_of_page}
 pub use Rattle.page_control.proofs.Made.{no_frame_made, clean_made}
 pub use Rattle.page_control.proofs.Shown.{kept_chosen}
 pub use Rattle.page_control.proofs.Loose.{changed_here, changed_other}
-pub use Rattle.page_control.proofs.Callers.{bound_once, no_frame, table_of_no_frame, clean_at, tie_kept, used_uid, words_shown, record_shown, stored_shown, used_same, used_sum, places_sum, size_at, entries_at}
+pub use Rattle.page_control.proofs.Callers.{bound_once, no_frame, table_of_no_frame, clean_at, tie_kept, used_uid, words_shown, record_shown, away_shown, bound_frame, frame_named, started_same, stored_shown, used_same, used_sum, places_sum, size_at, entries_at}
 pub use Rattle.page_control.proofs.Counting.{by_list, by_sum, count_more, used_more, fewer_at}

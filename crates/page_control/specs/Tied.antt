@@ -1,6 +1,6 @@
 -- What ties page tables, homes and frames together (Bensoussan, Clingen and Daley 1972).
 use Rattle.std.specs.Prelude.{◌≡◌, ◌≢◌, ◌<◌, ◌≤◌, ℕ, Bool, true, false, List, [], Option, None, Some, is_some, length, slice_index_or}
-use Rattle.core_map.specs.CoreMap.{Core, frame_at}
+use Rattle.core_map.specs.CoreMap.{Core, frame_at, is_bound}
 use Rattle.core_map.specs.declared.Frame.{Frame}
 use Rattle.core_map.specs.declared.Frame.TheVariants.{Free, Started, Bound}
 use Rattle.page_table.specs.declared.Ptw.{Ptw}
@@ -9,7 +9,7 @@ use Rattle.page_table.specs.PageTable.{ptw_at}
 use Rattle.vtoc.specs.Vtoc.{Entry, record_at, records_in, uid_of, entry_at}
 use Rattle.record_map.specs.Bitmap.{in_use}
 use Rattle.page_control.specs.declared.Home.{Home}
-use Rattle.page_control.specs.Plain.{Plain, bindings, binding_at}
+use Rattle.page_control.specs.Plain.{Plain, bindings, binding_at, number_in}
 
 -- the VTOC of volume v, and its flags of records in use
 abbrev pub vtoc_in : List (List (Option Entry)) → ℕ → List (Option Entry)
@@ -50,6 +50,12 @@ abbrev pub uid_in : Frame → ℕ
 uid_in Free = 0
 uid_in (Started uid page) = 0
 uid_in (Bound uid page used modified) = uid
+
+-- a frame is bound to page p of segment uid
+pub record IsBoundTo (frame : Frame) (uid p : ℕ) : Type 0 where
+  pub bound : is_bound frame ≡ true
+  pub segment : uid_in frame ≡ uid
+  pub page : number_in frame ≡ p
 
 -- the table is that of segment uid: a frame is bound to a page of it exactly where the word of that page names the
 -- frame

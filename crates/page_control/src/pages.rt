@@ -15,10 +15,10 @@ ghost use Rattle.page_control.specs.Plain.{Paging, Plain, plain, words_in, words
 ghost use Rattle.page_control.specs.Effects.{framed, erased, word_put, referred, cut, unstored, brought_in, created, dropped, evicted, word_of_left, allocated, saved, filled, NeedsNoWrite};
 ghost use Rattle.page_control.specs.Steps.{HasLeft, HasRead, HasCreated};
 ghost use Rattle.page_control.specs.Erasing.{IsPartErased};
-ghost use Rattle.page_control.specs.Picture.{picture, is_stored, changed_at, changed_for, stored_after, KeepsSound};
+ghost use Rattle.page_control.specs.Picture.{picture, is_stored, changed_at, changed_for, stored_after, volume_of, record_named, words_filed, IsInFrame, KeepsSound};
 ghost use Rattle.page_control.specs.Counts.{taken, used, one_more, one_less, taken_after, KeepsCounts};
 ghost use Rattle.page_control.specs.Drives.{KeepsDrives};
-ghost use Rattle.page_control.specs.Tied.{IsTableOf, IsHomeOf, HasNoHome, HasNoFrame, IsMapOf, AreFiled, IsNotStarted, IsBoundOnce, IsTied, KeepsOthers, map_at, uid_in, is_away, is_out};
+ghost use Rattle.page_control.specs.Tied.{IsTableOf, IsHomeOf, HasNoHome, HasNoFrame, IsMapOf, AreFiled, IsNotStarted, IsBoundOnce, IsTied, KeepsOthers, IsBoundTo, map_at, frame_of, uid_in, is_away, is_out};
 ghost use Rattle.page_control.specs.declared.Home.{Home};
 
 use crate::{Home, Left, NoMemory, NoRecord};
@@ -66,14 +66,16 @@ impl<D: Drive> Pages<D> {
 
     /// The core map. (Source: own.)
     pub fn frames(&self) -> &CoreMap
-        ensures { result.now ≡ self.now.core }
+        ensures core { result.now ≡ self.now.core }
+        ensures named { (uid p f : ℕ) (words : List Ptw) → IsTableOf (bindings self.now.core) uid words → frame_of (ptw_at words p) ≡ Some f → IsBoundTo (frame_at self.now.core f) uid p }
     {
         &self.core
     }
 
     /// The volumes. (Source: own.)
     pub fn volumes(&self) -> &Volumes<D>
-        ensures { result.now ≡ self.now.volumes }
+        ensures volumes { result.now ≡ self.now.volumes }
+        ensures away { (uid p : ℕ) → (IsInFrame (bindings self.now.core) uid p → ⊥) → picture (plain D.pages self.now) uid p ≡ words_filed (disk_of (plain D.pages self.now) (volume_of self.now.volumes.vtocs uid)) (record_named self.now.volumes.vtocs uid p) }
     {
         &self.volumes
     }

@@ -9,7 +9,7 @@ use Rattle.page_table.specs.declared.Ptw.TheVariants.{Null, Out, Here, Leaving}
 use Rattle.page_control.specs.Plain.{Plain, bindings, binding_at, disk_of, number_or_zero}
 use Rattle.page_control.specs.Picture.{picture, is_stored, is_filed_in, volume_of, place_of, record_named, words_filed, words_held, words_of_page}
 use Rattle.page_control.specs.Tied.{frame_of, has_record}
-use Rattle.page_control.proofs.Laws.{binding_is, some_number, not_none, found_nowhere, record_found, named_home, stored_shown}
+use Rattle.page_control.proofs.Laws.{binding_is, some_number, not_none, away_shown as record_away, record_found, named_home, stored_shown}
 use Rattle.paged_segs.specs.Segs.{Segs, home_at, table_at, word_at, root_home}
 use Rattle.paged_segs.specs.Kept.{IsKept}
 
@@ -18,9 +18,7 @@ none_bound s free f uid p at = not_none (binding_at (bindings s.core) f) (uid, p
 
 -- each page is on its record
 pub away_shown : (s : Plain) (uid p : ℕ) → ((f : ℕ) → frame_at s.core f ≡ Free) → picture s uid p ≡ words_filed (disk_of s (volume_of s.vtocs uid)) (record_named s.vtocs uid p)
-unfolding words_of_page
-away_shown s uid p free =
-    ap (words_held s.frames (disk_of s (volume_of s.vtocs uid)) (record_named s.vtocs uid p)) (found_nowhere (bindings s.core) uid p (λ g at. none_bound s free g uid p at))
+away_shown s uid p free = record_away s uid p (λ there. none_bound s free there.0 uid p there.1)
 
 -- and one that is stored is not all zeros
 not_zeros_at : (s : Segs) (i p : ℕ) (w : Ptw) → IsKept s → ((f : ℕ) → frame_at s.storage.core f ≡ Free) → i < length s.homes → word_at s i p ≡ w → has_record w ≡ true

@@ -13,7 +13,7 @@ use Rattle.page_control.specs.declared.Home.{Home}
 use Rattle.page_control.specs.Plain.{bindings, binding_at, number_in, words_in, disk_of, filed}
 use Rattle.page_control.specs.Picture.{picture, is_stored, words_filed}
 use Rattle.page_control.specs.Tied.{frame_of, has_record, uid_in, uid_at, IsTableOf, IsHomeOf, IsTied}
-use Rattle.page_control.proofs.Laws.{binding_is, bound_to, bound_from_page, here_within, stored_shown, record_shown, words_shown, uid_of_page, number_of}
+use Rattle.page_control.proofs.Laws.{binding_is, bound_to, bound_frame, here_within, stored_shown, record_shown, words_shown}
 use Rattle.paged_segs.specs.Segs.{Segs, home_at, table_at, word_at}
 use Rattle.paged_segs.specs.Kept.{IsKept}
 
@@ -113,10 +113,6 @@ pub record IsWordOf (s : Segs) (i page : ℕ) (w : Ptw) : Type 0 where
   pub number : (f : ℕ) → w ≡ Here f → number_in (frame_at s.storage.core f) ≡ page
   pub words : (f : ℕ) → w ≡ Here f → picture s.storage (i + 2) page ≡ words_in s.storage f
 
--- the page in a frame that is bound to it
-page_told_by : (frame : Frame) (uid p : ℕ) → bound_page frame ≡ Some (uid, p) → ◌≡◌ {A = Option (ℕ × ℕ)} (Some (uid_in frame, number_in frame)) (Some (uid, p))
-page_told_by frame uid p at = sym (bound_to frame (bound_from_page frame uid p at)) ∙ at
-
 none_from : (place : Option ℕ) (w : Ptw) → is_some place ≡ has_record w → w ≡ Null → place ≡ None
 none_from None w same null = refl
 none_from (Some r) w same null = (let no : has_record w ≡ false = ap has_record null in cc)
@@ -135,10 +131,10 @@ word_tells s i page w table k il is at =
       null = λ that. record_shown s.storage (i + 2) page (home_at s.homes i) (table_at s.tables i) (k.homes i il) its (ap frame_of (sym word ∙ that))
           ∙ ap (words_filed (disk_of s.storage (home_at s.homes i).volume))
           (none_from (filed s.storage (home_at s.homes i) page) w ((k.maps i il).stored page ∙ sym (ap has_record word)) that);
-      bound = λ f that. bound_from_page (frame_at s.storage.core f) (i + 2) page (sym (binding_is s.storage.core f) ∙ here f that);
+      bound = λ f that. (bound_frame s.storage.core f (i + 2) page (here f that)).bound;
       here = here;
-      uid = λ f that. ap uid_of_page (page_told_by (frame_at s.storage.core f) (i + 2) page (sym (binding_is s.storage.core f) ∙ here f that));
-      number = λ f that. ap number_of (page_told_by (frame_at s.storage.core f) (i + 2) page (sym (binding_is s.storage.core f) ∙ here f that));
+      uid = λ f that. (bound_frame s.storage.core f (i + 2) page (here f that)).segment;
+      number = λ f that. (bound_frame s.storage.core f (i + 2) page (here f that)).page;
       words = λ f that. words_shown s.storage (i + 2) page f (table_at s.tables i) its (ap frame_of (sym word ∙ that));
     }
 

@@ -14,19 +14,19 @@ use Rattle.page_table.specs.PageTable.{ptw_at}
 use Rattle.volumes.specs.CoreDrive.{DriveState}
 use Rattle.volumes.specs.Volumes.{Vols}
 use Rattle.page_control.specs.declared.Home.{Home}
-use Rattle.page_control.specs.Plain.{Paging, plain, bindings, binding_at, number_in}
+use Rattle.page_control.specs.Plain.{Paging, plain, bindings, starts, binding_at, number_in}
 use Rattle.page_control.specs.Picture.{picture, AreClean}
 use Rattle.page_control.specs.Tied.{frame_of, uid_in, uid_at, IsBoundOnce}
-use Rattle.page_control.proofs.Laws.{bound_once, below, position_at_one, off_and_on, not_none, kept_chosen}
+use Rattle.page_control.proofs.Laws.{started_same, bound_once, below, position_at_one, off_and_on, not_none, kept_chosen}
 use Rattle.paged_segs.specs.Segs.{Segs, segs_of, table_at, word_at, pages_of}
 use Rattle.paged_segs.specs.Kept.{IsKept}
 use Rattle.paged_segs.proofs.Located.{IsPageOf, page_of_frame}
 
 -- nothing changes but marks and words in frames
 pub kept_marks : (old new : Paging DriveState) (tables : List (List Ptw)) (homes : List Home) → IsKept (segs_of old tables homes) → new.volumes ≡ old.volumes → bindings new.core ≡ bindings old.core
-    → ((g : ℕ) → is_started (frame_at new.core g) ≡ false) → (AreClean (plain pages_of old) → AreClean (plain pages_of new))
+    → starts new.core ≡ starts old.core → (AreClean (plain pages_of old) → AreClean (plain pages_of new))
     → ((j q r : ℕ) → ptw_at (table_at tables j) q ≡ Out r → picture (plain pages_of new) (j + 2) q ≡ picture (plain pages_of old) (j + 2) q) → IsKept (segs_of new tables homes)
-kept_marks old new tables homes k volumes bound started clean pictures = record {
+kept_marks old new tables homes k volumes bound idle clean pictures = record {
   sound = rw volumes k.sound;
   root = rw volumes k.root;
   homes = λ j lt. rw volumes (k.homes j lt);
@@ -42,45 +42,12 @@ kept_marks old new tables homes k volumes bound started clean pictures = record 
   stay = k.stay;
   blank = k.blank;
   zeros = λ j q r lt is all. k.zeros j q r lt is (rw (sym (pictures j q r is)) all);
-  started = started;
+  started = λ g. started_same old.core new.core g idle ∙ k.started g;
   bound = λ g uid q at. k.bound g uid q (sym (ap (λ (those : List (Option (ℕ × ℕ))). binding_at those g) bound) ∙ at);
   filed = rw volumes k.filed;
   short = λ v. rw volumes (k.short v);
   clean = clean k.clean;
 }
-
--- no page is being read where one frame is referred to, and where the clock has turned
-referred_started : (frame : Frame) (wrote : Bool) → is_started (after_reference frame wrote) ≡ is_started frame
-referred_started Free wrote = refl
-referred_started (Started u q) wrote = refl
-referred_started (Bound u q used modified) wrote = refl
-
-pub started_referred : (core now : Core) (f : ℕ) (wrote : Bool) → now ≡ with_frame core f (after_reference (frame_at core f) wrote) → ((g : ℕ) → is_started (frame_at core g) ≡ false)
-    → (g : ℕ) → is_started (frame_at now g) ≡ false
-started_referred core now f wrote is none g = elim (leb_tells (length core.frames) g) [
-  | inl past ↦ rw is (elim (cases_eq g f) [
-    | inl same ↦ elim (leb_tells (length core.frames) f) [
-      | inl also ↦ ap is_started (get_or_past (set core.frames f (after_reference (frame_at core f) wrote)) g Free (rw (length-set core.frames f (after_reference (frame_at core f) wrote)) past.1))
-      | inr lt ↦ absurd (omega (arith, same, past.1, lt.1))
-    ]
-    | inr n ↦ ap is_started (get_or-set_other core.frames f g (after_reference (frame_at core f) wrote) Free n) ∙ none g
-  ])
-  | inr lt ↦ rw is (elim (cases_eq g f) [
-    | inl same ↦ rw same (ap is_started (get_or-set_same core.frames f (after_reference (frame_at core f) wrote) Free (omega (arith, same, lt.1))) ∙ referred_started (frame_at core f) wrote ∙ none f)
-    | inr n ↦ ap is_started (get_or-set_other core.frames f g (after_reference (frame_at core f) wrote) Free n) ∙ none g
-  ])
-]
-
-unmarked_started : (frame : Frame) → is_started (unmarked frame) ≡ is_started frame
-unmarked_started Free = refl
-unmarked_started (Started u q) = refl
-unmarked_started (Bound u q used modified) = refl
-
-pub started_chosen : (core now : Core) (f : ℕ) → IsClockChoice core now f → ((g : ℕ) → is_started (frame_at core g) ≡ false) → (g : ℕ) → is_started (frame_at now g) ≡ false
-started_chosen core now f choice none g = elim (leb_tells (length core.frames) g) [
-  | inl past ↦ (let count = choice.count in let over = past.1 in ap is_started (get_or_past now.frames g Free (omega (arith, count, over))))
-  | inr lt ↦ kept_chosen is_started core now f g unmarked_started choice lt.1 ∙ none g
-]
 
 -- a page is in one frame, and one that is on its record alone is another page
 pub bound_alone : (s : Segs) (f : ℕ) → IsKept s → is_bound (frame_at s.storage.core f) ≡ true → IsBoundOnce (bindings s.storage.core) f

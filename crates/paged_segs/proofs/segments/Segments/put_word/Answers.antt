@@ -6,7 +6,7 @@ use Rattle.page_control.specs.Tied.{uid_in}
 use Rattle.paged_segs.specs.Segs.{Segs, segs_of, pages_of}
 use Rattle.paged_segs.proofs.Located.{page_of_frame}
 use Rattle.page_control.proofs.Laws.{changed_other}
-use Rattle.paged_segs.proofs.Marking.{kept_marks, started_referred, bound_alone, out_other}
+use Rattle.paged_segs.proofs.Marking.{kept_marks, bound_alone, out_other}
 use Rattle.paged_segs.proofs.segments.Segments.put_word.Goals as goal
 
 pub invariant_of-self : goal.invariant_of-self
@@ -14,7 +14,7 @@ invariant_of-self c =
     let s : Segs = segs_of c.self.inside.pages c.self.inside.tables.items c.self.inside.homes.items in
     let bound : is_bound (frame_at s.storage.core c.args.f) ≡ true = search rules in (
       kept_marks c.self.inside.pages c.put_word.new.self c.self.inside.tables.items c.self.inside.homes.items c.self.invariant.0 c.put_word.ensures.volumes c.put_word.ensures.bindings
-          (started_referred c.self.inside.pages.core c.put_word.new.self.core c.args.f _ (ap (λ (s : Plain). s.core) c.put_word.ensures.word) c.self.invariant.0.started) c.put_word.ensures.sound.clean
+          c.put_word.ensures.starts c.put_word.ensures.sound.clean
           (λ j q r is. ap (λ (shown : ℕ → ℕ → List ℕ). shown (j + 2) q) (c.put_word.ensures.picture (bound_alone s c.args.f c.self.invariant.0 bound))
           ∙ changed_other (picture s.storage) (uid_in (frame_at s.storage.core c.args.f)) (number_in (frame_at s.storage.core c.args.f)) _ (j + 2) q
           (out_other s c.args.f (uid_in (frame_at s.storage.core c.args.f)) (number_in (frame_at s.storage.core c.args.f)) j q r (page_of_frame s c.args.f c.self.invariant.0 bound) is)),
