@@ -13,8 +13,8 @@ use Rattle.script.specs.declared.refusals.Refusal.{Refusal}
 use Rattle.book.specs.Books.{Ledger}
 use Rattle.listing.specs.Listings.{listing_of}
 use Rattle.make_work.specs.Day.{made}
-use Rattle.runner.specs.Endings.{Change, Ends, EndsSo, Failed, IsRun, Printed, Prints, PrintsRun, Refuses, RunOf, Writes, WritesAll, WritesFront, WritesNothing}
-use Rattle.runner.specs.Endings.Writes.{whole, cut}
+use Rattle.drill.specs.Texts.{drill_text}
+use Rattle.runner.specs.Endings.{Change, Ends, EndsSo, Failed, IsRun, Printed, Prints, PrintsRun, Refuses, RunOf, Writes, WritesAll, WritesFront, WritesNothing, whole, cut}
 use Rattle.runner.specs.Runs.{IsLater, script_runs}
 use Rattle.runner.specs.declared.finished.Finished.{Finished}
 use Rattle.runner.specs.declared.finished.Status.{Status}
@@ -89,6 +89,20 @@ made_so status.Later n src out h = absurd h
 
 pub ends_made : (src out : Change) (f : Finished) (n : ℕ) → Printed f.status out (made n) → f.book ≡ None → ConsumesFront src.before src.after 4194305 → Ends (Some (form.Make n)) src out f
 ends_made src out f n h without reads = ends_without (Some (form.Make n)) src out f f.status refl without (made_so f.status n src out h) reads
+
+-- the text of a drill was printed
+drilled_so : (s : Status) (p f n seed : ℕ) (src out : Change) → Printed s out (drill_text p f n seed) → EndsSo s (Some (form.Drill p f n seed)) src out None
+drilled_so status.Done p f n seed src out h = h
+drilled_so status.WriteFault p f n seed src out h = h
+drilled_so status.Memory p f n seed src out h = (refl, h)
+drilled_so (status.Script r) p f n seed src out h = absurd h
+drilled_so status.TooLong p f n seed src out h = absurd h
+drilled_so status.Usage p f n seed src out h = absurd h
+drilled_so status.ReadFault p f n seed src out h = absurd h
+drilled_so status.Later p f n seed src out h = absurd h
+
+pub ends_drilled : (src out : Change) (f : Finished) (p frames n seed : ℕ) → Printed f.status out (drill_text p frames n seed) → f.book ≡ None → ConsumesFront src.before src.after 4194305 → Ends (Some (form.Drill p frames n seed)) src out f
+ends_drilled src out f p frames n seed h without reads = ends_without (Some (form.Drill p frames n seed)) src out f f.status refl without (drilled_so f.status p frames n seed src out h) reads
 
 -- a run's listing was printed
 run_so : (s : Status) (book : Option Ledger) (src out : Change) → PrintsRun s book out → EndsSo s (Some form.Run) src out book

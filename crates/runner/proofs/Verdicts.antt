@@ -60,6 +60,7 @@ pub write_failed : (asked : Option Form) (book : Option Ledger) (out : Change) �
 write_failed (Some form.Run) (Some b) out h = h.fault
 write_failed (Some form.Run) None out h = absurd h
 write_failed (Some (form.Make n)) book out h = h.fault
+write_failed (Some (form.Drill p f n seed)) book out h = h.fault
 write_failed None book out h = absurd h
 
 -- what a run's ending says of the bytes
@@ -155,6 +156,20 @@ made_done status.Later n src out book fine h = absurd cc
 
 pub found_made : (asked : Option Form) (src out : Change) (f : Finished) (n : ℕ) → Ends asked src out f → asked ≡ Some (form.Make n) → (Failed out → ⊥) → (f.status ≡ status.Done) ⊎ (f.status ≡ status.Memory)
 found_made asked src out f n h e fine = made_done f.status n src out f.book fine (subst (λ (x : Option Form). EndsSo f.status x src out f.book) e h.so)
+
+-- the text of a drill is printed, or there was no memory for it
+drilled_done : (s : Status) (p f n seed : ℕ) (src out : Change) (book : Option Ledger) → (Failed out → ⊥) → EndsSo s (Some (form.Drill p f n seed)) src out book → (s ≡ status.Done) ⊎ (s ≡ status.Memory)
+drilled_done status.Done p f n seed src out book fine h = inl refl
+drilled_done status.Memory p f n seed src out book fine h = inr refl
+drilled_done status.WriteFault p f n seed src out book fine h = absurd (fine h.fault)
+drilled_done status.Usage p f n seed src out book fine h = absurd cc
+drilled_done status.ReadFault p f n seed src out book fine h = absurd cc
+drilled_done status.TooLong p f n seed src out book fine h = absurd cc
+drilled_done (status.Script r) p f n seed src out book fine h = absurd cc
+drilled_done status.Later p f n seed src out book fine h = absurd cc
+
+pub found_drilled : (asked : Option Form) (src out : Change) (f : Finished) (p frames n seed : ℕ) → Ends asked src out f → asked ≡ Some (form.Drill p frames n seed) → (Failed out → ⊥) → (f.status ≡ status.Done) ⊎ (f.status ≡ status.Memory)
+found_drilled asked src out f p frames n seed h e fine = drilled_done f.status p frames n seed src out f.book fine (subst (λ (x : Option Form). EndsSo f.status x src out f.book) e h.so)
 
 -- what was printed, by the form that was asked for
 pub printed_in : (asked other : Option Form) (book : Option Ledger) (P : List ℕ → Type 0) → Prints asked book P → asked ≡ other → Prints other book P

@@ -12,6 +12,7 @@ use Rattle.book.specs.Books.{Ledger}
 use Rattle.flat_store.specs.Legal.{IsComplete, IsLegal, IsSettled, store_after}
 use Rattle.listing.specs.Listings.{listing_of}
 use Rattle.make_work.specs.Day.{made}
+use Rattle.drill.specs.Texts.{drill_text}
 use Rattle.runner.specs.OnDisk.{IsOnDisk}
 use Rattle.runner.specs.Runs.{IsLater, script_runs, refusal_text, too_long_text, later_text, usage_text}
 use Rattle.runner.specs.declared.finished.Finished.{Finished}
@@ -49,7 +50,7 @@ pub record WritesFront (out : Change) (text : List ℕ) : Type 0 where
   pub fault : Failed out
 
 -- a text was written, or a front of it where a write failed
-data pub Writes (out : Change) (text : List ℕ) : Type 0 where
+pub data Writes (out : Change) (text : List ℕ) : Type 0 where
   whole : WritesAll out text → Writes out text
   cut : WritesFront out text → Writes out text
 
@@ -94,6 +95,7 @@ PrintsRun s (Some b) out = Printed s out (listing_of b.script b.entries)
 abbrev pub Prints : Option Form → Option Ledger → (List ℕ → Type 0) → Type 0
 Prints (Some form.Run) book P = IsSomeAnd book (λ b. P (listing_of b.script b.entries))
 Prints (Some (form.Make n)) book P = P (made n)
+Prints (Some (form.Drill p f n seed)) book P = P (drill_text p f n seed)
 Prints None book P = ⊥
 
 -- why a call ended so, and what it wrote

@@ -1,15 +1,18 @@
-ghost use Rattle.std.specs.Prelude.{◌≡◌, ◌⊎◌, Some, None, IfOk};
-ghost use Rattle.std.specs.Io.KnownBytes.{Appends, Keeps};
+ghost use Rattle.std.specs.Prelude.{◌≡◌, ◌≤◌, None, IfOk};
+ghost use Rattle.drill.specs.Texts.{drill_text};
 ghost use Rattle.make_work.specs.Day.{made};
 ghost use Rattle.runner.specs.Endings.{change, Printed, Refuses, Writes};
 ghost use Rattle.runner.specs.Runs.{refusal_text};
 
 use crate::NoMemory;
 use crate::finished::{Finished, Status};
+use drill::{drill, drilled_text};
 use make_work::make_script;
 use script::Refusal;
-use site_io::{Sink, write_all};
+use site_io::{Gate, Sink, write_all};
 use std::alloc::Global;
+use std::sync::Wait;
+use std::thread::Threads;
 
 /// A call that ended without a run.
 pub(crate) fn without_book(status: Status) -> Finished
@@ -24,13 +27,16 @@ pub(crate) fn without_book(status: Status) -> Finished
 }
 
 /// Writes the text of a status. A sink that fails doesn't change the status.
+#[tactic(auto, using(crate::proofs::Ends::text_whole, crate::proofs::Ends::text_cut, std::proofs::lemmas::Grind::common_steps))]
 pub(crate) fn with_text<K: Sink>(out: &mut K, text: &[u8], status: Status) -> Finished
     ensures status { result.status ≡ status }
     ensures book { result.book ≡ None }
     ensures text { Writes (change (K.held out.old) (K.held out.new) (K.faults out.old) (K.faults out.new)) text.now }
 {
-    let _ = write_all(out, text);
-    without_book(status)
+    match write_all(out, text) {
+        Ok(()) => without_book(status),
+        Err(_) => without_book(status),
+    }
 }
 
 /// Writes an output, whole unless a write fails.
@@ -55,6 +61,32 @@ pub(crate) fn make<K: Sink>(alloc: Global, n: u32, out: &mut K) -> Finished
     }
 }
 
+/// Runs the drill, and writes its text.
+pub(crate) fn run_drill<R: Threads + Wait + Sync, K: Sink, G: Gate + Sync>(
+    rt: &R,
+    alloc: Global,
+    size: (u32, u32, u32, u32),
+    out: &mut K,
+    gate: &G,
+) -> Finished
+    requires processors { (1 ≤ size.0) × (size.0 ≤ 8) }
+    requires frames { (4 ≤ size.1) × (size.1 ≤ 64) }
+    requires adds { (1 ≤ size.2) × (size.2 ≤ 10000) }
+    ensures printed { Printed result.status
+        (change (K.held out.old) (K.held out.new) (K.faults out.old) (K.faults out.new))
+        (drill_text size.0 size.1 size.2 size.3) }
+    ensures book { result.book ≡ None }
+{
+    let (processors, frames, adds, seed) = size;
+    let Ok(drilled) = drill(rt, alloc, processors, frames, adds, seed, gate) else {
+        return without_book(Status::Memory);
+    };
+    match drilled_text(alloc, adds, &drilled) {
+        Ok(text) => without_book(print(out, text.as_bytes())),
+        Err(_) => without_book(Status::Memory),
+    }
+}
+
 /// The text of a refusal.
 #[tactic(auto, unfolding(crate::specs::Runs::refusal_text))]
 fn text_of(alloc: Global, refusal: Refusal) -> Result<Vec<u8>, NoMemory>
@@ -69,6 +101,7 @@ fn text_of(alloc: Global, refusal: Refusal) -> Result<Vec<u8>, NoMemory>
 }
 
 /// Writes the text of a refusal, or nothing where there is no memory for it.
+#[tactic(auto, using(crate::proofs::Ends::writes_nothing, std::proofs::lemmas::Grind::common_steps))]
 pub(crate) fn write_refusal<K: Sink>(alloc: Global, refusal: Refusal, out: &mut K) -> Finished
     ensures refused { Refuses result.status refusal
         (change (K.held out.old) (K.held out.new) (K.faults out.old) (K.faults out.new)) }

@@ -7,15 +7,16 @@ ghost use Rattle.script.specs.Grammar.{script_of};
 ghost use Rattle.script.specs.declared.refusals.Refusal.{Refusal};
 ghost use Rattle.flat_store.specs.Legal.{IsLegal, IsComplete, IsSettled, store_after};
 ghost use Rattle.listing.specs.Listings.{listing_of};
+ghost use Rattle.drill.specs.Texts.{drill_text};
 ghost use Rattle.make_work.specs.Day.{made};
 ghost use Rattle.runner.specs.Endings.{change, Ends, Writes};
 ghost use Rattle.runner.specs.OnDisk.{IsOnDisk};
 ghost use Rattle.runner.specs.Runs.{script_runs, IsLater, usage_text, too_long_text, later_text, refusal_text};
-ghost use Rattle.runner.specs.Words.{form_of};
+ghost use Rattle.runner.specs.Words.{form_of, IsInRange};
 ghost use Rattle.runner.specs.declared.words.Form.TheVariants as form;
 
 use crate::finished::{Finished, Status};
-use crate::printing::{make, with_text};
+use crate::printing::{make, run_drill, with_text};
 use crate::reading::read_and_run;
 use crate::words::{Form, Words};
 use site_io::{Gate, Sink, Source};
@@ -27,12 +28,15 @@ use std::thread::Threads;
 const USAGE: &[u8] = b"usage: multics run | check | make N | drill P F N SEED\n";
 
 /// Does what the words ask for.
-fn answer<S: Source, K: Sink>(
+fn answer<R: Threads + Wait + Sync, S: Source, K: Sink, G: Gate + Sync>(
+    rt: &R,
     alloc: Global,
     asked: Option<Form>,
     src: &mut S,
     out: &mut K,
+    gate: &G,
 ) -> Finished
+    requires { IfSome asked IsInRange }
     ensures ends { Ends asked (change (S.left src.old) (S.left src.new) (S.faults src.old) (S.faults src.new))
         (change (K.held out.old) (K.held out.new) (K.faults out.old) (K.faults out.new)) result }
     ensures source { asked ≢ Some form.Run → src.new ≡ src.old }
@@ -41,24 +45,30 @@ fn answer<S: Source, K: Sink>(
         None => with_text(out, USAGE, Status::Usage),
         Some(Form::Run) => read_and_run(alloc, src, out),
         Some(Form::Make(n)) => make(alloc, n, out),
+        Some(Form::Drill {
+            processors,
+            frames,
+            adds,
+            seed,
+        }) => run_drill(rt, alloc, (processors, frames, adds, seed), out, gate),
     }
 }
 
 /// Runs the program: `run` reads a script from the source to its end, runs it, and writes its listing; `make N` writes
-/// the script of the day of a number, and reads nothing.
+/// the script of the day of a number, and `drill` lets threads add to pages; neither reads anything.
 ///
 /// The causes are looked at in this order: the words (`Usage`), a read that fails (`ReadFault`), a source that is too
 /// long (`TooLong`), a script that is refused (`Script`), one that doesn't run so far (`Later`), a write that fails
 /// (`WriteFault`). Want of memory (`Memory`) may stand in place of any but the first, and nothing was written then.
-/// The runtime and the gate are for a machine of several processors, whose workers call the gate between two steps;
-/// one process on one processor needs neither.
+/// The runtime and the gate are for the drill, whose threads call the gate where they stand between two tries; a run of
+/// one process on one processor needs neither so far.
 pub fn multics<R: Threads + Wait + Sync, S: Source, K: Sink, G: Gate + Sync>(
-    _rt: &R,
+    rt: &R,
     alloc: Global,
     words: Words,
     src: &mut S,
     out: &mut K,
-    _gate: &G,
+    gate: &G,
 ) -> Finished
     // The words are no form of the program: nothing is read, and the text is written.
     ensures usage { (result.status ≡ Status.Usage) ↔ (form_of words ≡ None) }
@@ -106,6 +116,10 @@ pub fn multics<R: Threads + Wait + Sync, S: Source, K: Sink, G: Gate + Sync>(
         Appends (K.held out.old) (K.held out.new) (made n) }
     ensures made_front { (n : ℕ) → form_of words ≡ Some (form.Make n) → result.status ≡ Status.WriteFault →
         AppendsFront (K.held out.old) (K.held out.new) (made n) }
+    ensures drilled { (p f n seed : ℕ) → form_of words ≡ Some (form.Drill p f n seed) → result.status ≡ Status.Done →
+        Appends (K.held out.old) (K.held out.new) (drill_text p f n seed) }
+    ensures drilled_front { (p f n seed : ℕ) → form_of words ≡ Some (form.Drill p f n seed) →
+        result.status ≡ Status.WriteFault → AppendsFront (K.held out.old) (K.held out.new) (drill_text p f n seed) }
     ensures write_fault { result.status ≡ Status.WriteFault → Rose (K.faults out.old) (K.faults out.new) }
 
     // Want of memory: nothing was written.
@@ -127,6 +141,9 @@ pub fn multics<R: Threads + Wait + Sync, S: Source, K: Sink, G: Gate + Sync>(
         script_runs p ≡ true → (result.status ≡ Status.Done) ⊎ (result.status ≡ Status.Memory)) }
     ensures makes { (n : ℕ) → form_of words ≡ Some (form.Make n) → (Rose (K.faults out.old) (K.faults out.new) → ⊥) →
         (result.status ≡ Status.Done) ⊎ (result.status ≡ Status.Memory) }
+    ensures drills { (p f n seed : ℕ) → form_of words ≡ Some (form.Drill p f n seed) →
+        (Rose (K.faults out.old) (K.faults out.new) → ⊥) →
+        (result.status ≡ Status.Done) ⊎ (result.status ≡ Status.Memory) }
 {
-    answer(alloc, words.form(), src, out)
+    answer(rt, alloc, words.form(), src, out, gate)
 }
