@@ -9,8 +9,8 @@ use Rattle.std.proofs.lemmas.Option.{same_Some}
 use Rattle.page_table.specs.declared.Ptw.{Ptw}
 use Rattle.page_table.specs.declared.Ptw.TheVariants.{Leaving}
 use Rattle.page_table.specs.PageTable.{ptw_at}
-use Rattle.page_control.specs.Plain.{Plain, bindings, starts, binding_at, number_in, uid_or_zero, frame_in, words_in, words_on, disk_of, file_map_of, filed, record_of}
-use Rattle.core_map.specs.CoreMap.{Core, frame_at, is_bound, is_modified, is_started, bound_page, started_page}
+use Rattle.page_control.specs.Plain.{Plain, bindings, binding_at, number_in, uid_or_zero, frame_in, words_in, words_on, disk_of, file_map_of, filed, record_of}
+use Rattle.core_map.specs.CoreMap.{reads_of, Core, frame_at, is_bound, is_modified, is_started, bound_page, started_page}
 use Rattle.vtoc.specs.Vtoc.{Entry, uid_of}
 use Rattle.page_control.specs.declared.Home.{Home}
 use Rattle.page_control.specs.Picture.{AreClean, volume_of, record_named, words_filed, words_held, words_of_page, is_filed_in, picture, is_stored, IsInFrame}
@@ -131,7 +131,7 @@ is_started_page Free = refl
 is_started_page (Started u q) = refl
 is_started_page (Bound u q used modified) = refl
 
-pub started_same : (old new : Core) (g : ℕ) → starts new ≡ starts old → is_started (frame_at new g) ≡ is_started (frame_at old g)
+pub started_same : (old new : Core) (g : ℕ) → reads_of new ≡ reads_of old → is_started (frame_at new g) ≡ is_started (frame_at old g)
 started_same old new g same =
     let none : Option (ℕ × ℕ) = None in
     sym (is_started_page (frame_at new g)) ∙ ap is_some (sym (get_or-map started_page new.frames g Free)) ∙ ap (λ (those : List (Option (ℕ × ℕ))). is_some (get_or those g none)) same

@@ -6,7 +6,7 @@ use Rattle.bitmap.specs.Bitmap.{least_free}
 use Rattle.mword.specs.Words.{AreZero}
 use Rattle.core_map.specs.declared.Frame.{Frame}
 use Rattle.core_map.specs.declared.Frame.TheVariants.{Free, Started, Bound}
-use Rattle.core_map.specs.CoreMap.{Core, frame_at, with_frame, is_modified, bound_page, started_page}
+use Rattle.core_map.specs.CoreMap.{reads_of, Core, frame_at, with_frame, is_modified, bound_page, started_page}
 use Rattle.page_table.specs.declared.Ptw.{Ptw}
 use Rattle.page_table.specs.declared.Ptw.TheVariants.{Null, Out, Here, Leaving}
 use Rattle.page_table.specs.PageTable.{ptw_at}
@@ -14,7 +14,7 @@ use Rattle.vtoc.specs.Vtoc.{Entry, entry_at, record_at, records_in}
 use Rattle.page_control.specs.declared.Home.{Home}
 use Rattle.page_control.specs.declared.Left.{Left}
 use Rattle.page_control.specs.declared.Left.TheVariants.{Released, Kept}
-use Rattle.page_control.specs.Plain.{Plain, bindings, starts, binding_at, frame_in, words_in, words_on, disk_of, flags_of, vtoc_of, filed, record_of, number_or_zero}
+use Rattle.page_control.specs.Plain.{Plain, bindings, binding_at, frame_in, words_in, words_on, disk_of, flags_of, vtoc_of, filed, record_of, number_or_zero}
 use Rattle.page_control.specs.Effects.{evicted, word_of_left, brought_in, framed, created, dropped, erased}
 use Rattle.page_control.specs.Steps.{HasLeft, HasRead, HasCreated}
 use Rattle.page_control.specs.Counts.{taken, one_more, one_less, taken_after, KeepsCounts}
@@ -112,10 +112,10 @@ freed_left (Err x) e = tt
 freed_left (Ok left) {s = s} {now = now} {home = home} {p = p} {f = f} e = ap bindings (core_left s now home p f left e.left.ok) ∙ bindings_with s.core f Free
 
 pub starts_left : {E : Type 0} (result : Result Left E) {s now : Plain} {t u : List Ptw} {uid : ℕ} {home : Home} {p f : ℕ} → Evicts s now t u uid home p f result
-    → starts now.core ≡ starts s.core
-starts_left (Err x) e = ap (λ (x : Plain). starts x.core) e.left.err
+    → reads_of now.core ≡ reads_of s.core
+starts_left (Err x) e = ap (λ (x : Plain). reads_of x.core) e.left.err
 starts_left (Ok left) {s = s} {now = now} {uid = uid} {home = home} {p = p} {f = f} e =
-    ap starts (core_left s now home p f left e.left.ok) ∙ starts_same s.core f Free (sym (bound_idle (frame_in s f) uid p (sym (binding_is s.core f) ∙ bound_at e)))
+    ap reads_of (core_left s now home p f left e.left.ok) ∙ starts_same s.core f Free (sym (bound_idle (frame_in s f) uid p (sym (binding_is s.core f) ∙ bound_at e)))
 
 pub taken_left : {E : Type 0} (result : Result Left E) {s now : Plain} {t u : List Ptw} {uid : ℕ} {home : Home} {p f : ℕ} → Evicts s now t u uid home p f result
     → IfOk result (λ left. taken now.records ≡ taken_after (taken s.records) home.volume left)
@@ -200,9 +200,9 @@ lost_read (Ok x) e = tt
 lost_read (Err x) {s = s} {uid = uid} {p = p} {f = f} e = ap (λ (y : Plain). bindings y.core) e.read.err ∙ bindings_lost s.core f uid p e.started
 
 pub starts_read : {T E : Type 0} (result : Result T E) {s now : Plain} {t u : List Ptw} {uid : ℕ} {home : Home} {p f : ℕ} → Reads s now t u uid home p f result
-    → starts now.core ≡ set (starts s.core) f None
-starts_read (Ok x) {s = s} {uid = uid} {p = p} {f = f} e = ap (λ (y : Plain). starts y.core) e.read.ok ∙ starts_with s.core f (Bound uid p false false)
-starts_read (Err x) {s = s} {f = f} e = ap (λ (y : Plain). starts y.core) e.read.err ∙ starts_with s.core f Free
+    → reads_of now.core ≡ set (reads_of s.core) f None
+starts_read (Ok x) {s = s} {uid = uid} {p = p} {f = f} e = ap (λ (y : Plain). reads_of y.core) e.read.ok ∙ starts_with s.core f (Bound uid p false false)
+starts_read (Err x) {s = s} {f = f} e = ap (λ (y : Plain). reads_of y.core) e.read.err ∙ starts_with s.core f Free
 
 pub tie_read : {T E : Type 0} (result : Result T E) {s now : Plain} {t u : List Ptw} {uid : ℕ} {home : Home} {p f : ℕ} → Reads s now t u uid home p f result → IsTied now uid home u
 tie_read (Ok x) {s = s} {now = now} {t = t} {u = u} {uid = uid} {home = home} {p = p} {f = f} e =
@@ -329,10 +329,10 @@ bound_created (Err x) e = tt
 bound_created (Ok x) {s = s} {uid = uid} {p = p} {f = f} e = ap (λ (y : Plain). bindings y.core) e.made.ok ∙ bindings_with s.core f (Bound uid p true true)
 
 pub starts_created : {T E : Type 0} (result : Result T E) {s now : Plain} {t u : List Ptw} {uid : ℕ} {home : Home} {p f at w : ℕ} → Creates s now t u uid home p f at w result
-    → starts now.core ≡ starts s.core
-starts_created (Err x) e = ap (λ (y : Plain). starts y.core) e.made.err
+    → reads_of now.core ≡ reads_of s.core
+starts_created (Err x) e = ap (λ (y : Plain). reads_of y.core) e.made.err
 starts_created (Ok x) {s = s} {uid = uid} {p = p} {f = f} e =
-    ap (λ (y : Plain). starts y.core) e.made.ok ∙ starts_same s.core f (Bound uid p true true) (sym (ap started_page e.free))
+    ap (λ (y : Plain). reads_of y.core) e.made.ok ∙ starts_same s.core f (Bound uid p true true) (sym (ap started_page e.free))
 
 pub shown_created : {T E : Type 0} (result : Result T E) {s now : Plain} {t u : List Ptw} {uid : ℕ} {home : Home} {p f at w : ℕ} → Creates s now t u uid home p f at w result
     → OnOk result (picture now ≡ changed_at (picture s) uid p (set (replicate 1024 0) at w))
@@ -434,14 +434,14 @@ taken_dropped {s = s} {now = now} {t = t} {home = home} {p = p} e =
 pub counts_of_dropped : {s now : Plain} {t u : List Ptw} {uid : ℕ} {home : Home} {p : ℕ} → Drops s now t u uid home p → KeepsCounts s now
 counts_of_dropped {s = s} {now = now} {t = t} {home = home} {p = p} e = counts_dropped s now home p (ptw_at t p) e.effect
 
-starts_by : (s now : Plain) (uid : ℕ) (home : Home) (p : ℕ) (t : List Ptw) (w : Ptw) → ptw_at t p ≡ w → IsTableOf (bindings s.core) uid t → now ≡ dropped s home p w → starts now.core ≡ starts s.core
-starts_by s now uid home p t Null at table is = ap (λ (x : Plain). starts x.core) is
-starts_by s now uid home p t (Out r) at table is = ap (λ (x : Plain). starts x.core) is
-starts_by s now uid home p t (Here f) at table is = ap (λ (x : Plain). starts x.core) is
+starts_by : (s now : Plain) (uid : ℕ) (home : Home) (p : ℕ) (t : List Ptw) (w : Ptw) → ptw_at t p ≡ w → IsTableOf (bindings s.core) uid t → now ≡ dropped s home p w → reads_of now.core ≡ reads_of s.core
+starts_by s now uid home p t Null at table is = ap (λ (x : Plain). reads_of x.core) is
+starts_by s now uid home p t (Out r) at table is = ap (λ (x : Plain). reads_of x.core) is
+starts_by s now uid home p t (Here f) at table is = ap (λ (x : Plain). reads_of x.core) is
 starts_by s now uid home p t (Leaving f) at table is =
-    ap (λ (x : Plain). starts x.core) is ∙ starts_same s.core f Free (sym (bound_idle (frame_in s f) uid p (sym (binding_is s.core f) ∙ table.back f p (ap frame_of at))))
+    ap (λ (x : Plain). reads_of x.core) is ∙ starts_same s.core f Free (sym (bound_idle (frame_in s f) uid p (sym (binding_is s.core f) ∙ table.back f p (ap frame_of at))))
 
-pub starts_dropped : {s now : Plain} {t u : List Ptw} {uid : ℕ} {home : Home} {p : ℕ} → Drops s now t u uid home p → starts now.core ≡ starts s.core
+pub starts_dropped : {s now : Plain} {t u : List Ptw} {uid : ℕ} {home : Home} {p : ℕ} → Drops s now t u uid home p → reads_of now.core ≡ reads_of s.core
 starts_dropped {s = s} {now = now} {t = t} {uid = uid} {home = home} {p = p} e = starts_by s now uid home p t (ptw_at t p) refl e.tie.table e.effect
 
 frames_by : (s now : Plain) (uid : ℕ) (home : Home) (p : ℕ) (t : List Ptw) (w : Ptw) → ptw_at t p ≡ w → IsTableOf (bindings s.core) uid t → now ≡ dropped s home p w

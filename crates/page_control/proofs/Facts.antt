@@ -7,13 +7,13 @@ use Rattle.std.proofs.lemmas.List.Elements.{All-get_or}
 use Rattle.bitmap.specs.Bitmap.{in_use, IsLeastFree}
 use Rattle.core_map.specs.declared.Frame.{Frame}
 use Rattle.core_map.specs.declared.Frame.TheVariants.{Free, Started, Bound}
-use Rattle.core_map.specs.CoreMap.{Core, frame_at, with_frame, is_bound, bound_page, started_page, after_reference}
+use Rattle.core_map.specs.CoreMap.{reads_of, Core, frame_at, with_frame, is_bound, bound_page, started_page, after_reference}
 use Rattle.page_table.specs.declared.Ptw.{Ptw}
 use Rattle.page_table.specs.declared.Ptw.TheVariants.{Null, Out, Here, Leaving}
 use Rattle.page_table.specs.PageTable.{ptw_at}
 use Rattle.vtoc.specs.Vtoc.{Entry, uid_of}
 use Rattle.page_control.specs.declared.Home.{Home}
-use Rattle.page_control.specs.Plain.{Plain, Paging, plain, bindings, starts, binding_at, flags_of, file_map_of, filed, entry_of, record_of, number_in, number_or_zero}
+use Rattle.page_control.specs.Plain.{Plain, Paging, plain, bindings, binding_at, flags_of, file_map_of, filed, entry_of, record_of, number_in, number_or_zero}
 use Rattle.page_control.specs.Tied.{frame_of, has_record, uid_in, IsTableOf, IsHomeOf, IsMapOf, AreFiled, IsTied}
 
 -- a used entry is there
@@ -120,10 +120,10 @@ bound_and_marked core f uid p lt =
     ∙ ap (λ (frames : List Frame). record core { frames = frames }) (set-set core.frames f (Bound uid p false false) (Bound uid p true true))
 
 -- for which pages frames are started
-pub starts_with : (core : Core) (f : ℕ) (frame : Frame) → starts (with_frame core f frame) ≡ set (starts core) f (started_page frame)
+pub starts_with : (core : Core) (f : ℕ) (frame : Frame) → reads_of (with_frame core f frame) ≡ set (reads_of core) f (started_page frame)
 starts_with core f frame = map-set started_page core.frames f frame
 
-pub starts_same : (core : Core) (f : ℕ) (frame : Frame) → started_page frame ≡ started_page (frame_at core f) → starts (with_frame core f frame) ≡ starts core
+pub starts_same : (core : Core) (f : ℕ) (frame : Frame) → started_page frame ≡ started_page (frame_at core f) → reads_of (with_frame core f frame) ≡ reads_of core
 starts_same core f frame same = map-set_same started_page core.frames f frame Free same
 
 started_referred : (frame : Frame) (wrote : Bool) → started_page (after_reference frame wrote) ≡ started_page frame
@@ -131,7 +131,7 @@ started_referred Free wrote = refl
 started_referred (Started u q) wrote = refl
 started_referred (Bound u q used modified) wrote = refl
 
-pub starts_referred : (core : Core) (f : ℕ) (wrote : Bool) → starts (with_frame core f (after_reference (frame_at core f) wrote)) ≡ starts core
+pub starts_referred : (core : Core) (f : ℕ) (wrote : Bool) → reads_of (with_frame core f (after_reference (frame_at core f) wrote)) ≡ reads_of core
 starts_referred core f wrote = starts_same core f _ (started_referred (frame_at core f) wrote)
 
 -- a bound frame is started for none

@@ -2,7 +2,7 @@
 use Rattle.std.proofs.Common.{◌≡◌, ℕ, ◌<◌, ◌↔◌, Bool, IsTrue, true, false, List, length, Option, None, Some, refl, sym, ap, ◌∙◌, arith, replicate, All}
 use Rattle.core_map.specs.declared.Frame.{Frame}
 use Rattle.core_map.specs.declared.Frame.TheVariants.{Free, Started, Bound}
-use Rattle.core_map.specs.CoreMap.{Core, frame_at, is_bound, bound_page, started_page}
+use Rattle.core_map.specs.CoreMap.{reads_of, Core, frame_at, is_bound, bound_page, started_page}
 use Rattle.core_map.specs.Clock.{IsClockChoice, PassesOver, frame_in, unmarked, way}
 use Rattle.std.proofs.Common.{inl, inr}
 use Rattle.std.proofs.lemmas.Bool.Decides.{leb_tells}
@@ -14,7 +14,7 @@ use Rattle.page_table.specs.declared.Ptw.TheVariants.{Null, Out, Here, Leaving}
 use Rattle.page_table.specs.PageTable.{ptw_at}
 use Rattle.page_control.specs.declared.Home.{Home}
 use Rattle.page_control.specs.declared.Left.TheVariants.{Released}
-use Rattle.page_control.specs.Plain.{Plain, bindings, starts, binding_at, words_in}
+use Rattle.page_control.specs.Plain.{Plain, bindings, binding_at, words_in}
 use Rattle.page_control.specs.Effects.{evicted, dropped}
 use Rattle.page_control.specs.Tied.{frame_of, is_away, IsTableOf, IsHomeOf}
 use Rattle.page_control.specs.Picture.{picture, changed_at}
@@ -102,11 +102,11 @@ start_unmarked Free = refl
 start_unmarked (Started u q) = refl
 start_unmarked (Bound u q used modified) = refl
 
-pub starts_chosen : (old new : Core) (f : ℕ) → IsClockChoice old new f → starts new ≡ starts old
+pub starts_chosen : (old new : Core) (f : ℕ) → IsClockChoice old new f → reads_of new ≡ reads_of old
 starts_chosen old new f choice =
     let none : Option (ℕ × ℕ) = None in
-    let count : length (starts new) ≡ length (starts old) = length-map new.frames started_page ∙ choice.count ∙ sym (length-map old.frames started_page) in
-    ext_get_or none (starts new) (starts old) count
-    (λ i lt. (let long : length (starts new) ≡ length new.frames = length-map new.frames started_page in
+    let count : length (reads_of new) ≡ length (reads_of old) = length-map new.frames started_page ∙ choice.count ∙ sym (length-map old.frames started_page) in
+    ext_get_or none (reads_of new) (reads_of old) count
+    (λ i lt. (let long : length (reads_of new) ≡ length new.frames = length-map new.frames started_page in
     let inside : i < length old.frames = omega (arith, lt, long, choice.count) in
     get_or-map started_page new.frames i Free ∙ kept_chosen started_page old new f i start_unmarked choice inside ∙ sym (get_or-map started_page old.frames i Free)))

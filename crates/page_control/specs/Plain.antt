@@ -1,6 +1,6 @@
 -- What page control keeps, in lists (Bensoussan, Clingen and Daley 1972).
 use Rattle.std.specs.Prelude.{ℕ, List, [], Bool, Option, None, Some, map, slice_index_or}
-use Rattle.core_map.specs.CoreMap.{Core, frame_at, bound_page, started_page}
+use Rattle.core_map.specs.CoreMap.{Core, frame_at, bound_page}
 use Rattle.core_map.specs.declared.Frame.{Frame}
 use Rattle.core_map.specs.declared.Frame.TheVariants.{Free, Started, Bound}
 use Rattle.vtoc.specs.Vtoc.{Entry, entry_at, record_at, records_in}
@@ -41,10 +41,6 @@ words_in s f = slice_index_or s.frames f []
 -- what each frame is bound to, as uid and page number
 abbrev pub bindings : Core → List (Option (ℕ × ℕ))
 bindings core = map bound_page core.frames
-
--- and for which page it is started
-abbrev pub starts : Core → List (Option (ℕ × ℕ))
-starts core = map started_page core.frames
 
 abbrev pub binding_at : List (Option (ℕ × ℕ)) → ℕ → Option (ℕ × ℕ)
 binding_at bound f = slice_index_or bound f None

@@ -3,7 +3,7 @@ ghost use Rattle.std.specs.List.{list_any};
 ghost use Rattle.site_io.specs.Faults.{Rose};
 ghost use Rattle.bitmap.specs.Bitmap.{least_free};
 ghost use Rattle.core_map.specs.declared.Frame.TheVariants.{Free, Started, Bound};
-ghost use Rattle.core_map.specs.CoreMap.{frame_at, with_frame, is_bound, is_modified};
+ghost use Rattle.core_map.specs.CoreMap.{reads_of, frame_at, with_frame, is_bound, is_modified};
 ghost use Rattle.core_map.specs.Clock.{IsClockChoice};
 ghost use Rattle.mword.specs.Words.{AreZero};
 ghost use Rattle.page_table.specs.declared.Ptw.{Ptw};
@@ -11,7 +11,7 @@ ghost use Rattle.page_table.specs.declared.Ptw.TheVariants.{Null, Out, Here, Lea
 ghost use Rattle.page_table.specs.PageTable.{ptw_at};
 ghost use Rattle.vtoc.specs.Vtoc.{least_free_entry};
 ghost use Rattle.volumes.specs.Volumes.{KeepsTables};
-ghost use Rattle.page_control.specs.Plain.{Paging, Plain, plain, words_in, words_on, number_in, flags_of, vtoc_of, bindings, starts, disk_of, entry_of, filed, record_of, uid_of_home, number_or_zero};
+ghost use Rattle.page_control.specs.Plain.{Paging, Plain, plain, words_in, words_on, number_in, flags_of, vtoc_of, bindings, disk_of, entry_of, filed, record_of, uid_of_home, number_or_zero};
 ghost use Rattle.page_control.specs.Effects.{framed, erased, word_put, referred, cut, unstored, brought_in, created, dropped, evicted, word_of_left, allocated, saved, filled, NeedsNoWrite};
 ghost use Rattle.page_control.specs.Steps.{HasLeft, HasRead, HasCreated};
 ghost use Rattle.page_control.specs.Erasing.{IsPartErased};
@@ -106,7 +106,7 @@ impl<D: Drive> Pages<D> {
         ensures stored { is_stored (plain D.pages self.new) ≡ is_stored (plain D.pages self.old) }
         ensures sound { KeepsSound (plain D.pages self.old) (plain D.pages self.new) }
         ensures bindings { bindings self.new.core ≡ bindings self.old.core }
-        ensures starts { starts self.new.core ≡ starts self.old.core }
+        ensures reads { reads_of self.new.core ≡ reads_of self.old.core }
         ensures volumes { self.new.volumes ≡ self.old.volumes }
     {
         self.core.choose()
@@ -124,7 +124,7 @@ impl<D: Drive> Pages<D> {
         ensures stored { is_stored (plain D.pages self.new) ≡ is_stored (plain D.pages self.old) }
         ensures sound { KeepsSound (plain D.pages self.old) (plain D.pages self.new) }
         ensures bindings { bindings self.new.core ≡ bindings self.old.core }
-        ensures starts { starts self.new.core ≡ starts self.old.core }
+        ensures reads { reads_of self.new.core ≡ reads_of self.old.core }
         ensures volumes { self.new.volumes ≡ self.old.volumes }
     {
         self.core.mark(f, false);
@@ -142,7 +142,7 @@ impl<D: Drive> Pages<D> {
         ensures stored { is_stored (plain D.pages self.new) ≡ is_stored (plain D.pages self.old) }
         ensures sound { KeepsSound (plain D.pages self.old) (plain D.pages self.new) }
         ensures bindings { bindings self.new.core ≡ bindings self.old.core }
-        ensures starts { starts self.new.core ≡ starts self.old.core }
+        ensures reads { reads_of self.new.core ≡ reads_of self.old.core }
         ensures volumes { self.new.volumes ≡ self.old.volumes }
     {
         self.core.mark(f, true);
@@ -161,7 +161,7 @@ impl<D: Drive> Pages<D> {
         ensures stored { is_stored (plain D.pages self.new) ≡ is_stored (plain D.pages self.old) }
         ensures sound { KeepsSound (plain D.pages self.old) (plain D.pages self.new) }
         ensures bindings { bindings self.new.core ≡ bindings self.old.core }
-        ensures starts { starts self.new.core ≡ starts self.old.core }
+        ensures reads { reads_of self.new.core ≡ reads_of self.old.core }
         ensures volumes { self.new.volumes ≡ self.old.volumes }
     {
         self.core.mark(f, true);
@@ -183,7 +183,7 @@ impl<D: Drive> Pages<D> {
         ensures sound { KeepsSound (plain D.pages self.old) (plain D.pages self.new) }
         ensures picture { picture (plain D.pages self.new) ≡ changed_at (picture (plain D.pages self.old)) (uid_of_home (plain D.pages self.old) home) p (replicate 1024 0) }
         ensures stored { is_stored (plain D.pages self.new) ≡ changed_at (is_stored (plain D.pages self.old)) (uid_of_home (plain D.pages self.old) home) p false }
-        ensures starts { starts self.new.core ≡ starts self.old.core }
+        ensures reads { reads_of self.new.core ≡ reads_of self.old.core }
         ensures taken { taken self.new.volumes.records ≡ one_less (taken self.old.volumes.records) home.volume }
         ensures counts { KeepsCounts (plain D.pages self.old) (plain D.pages self.new) }
         ensures drives { self.new.volumes.drives ≡ self.old.volumes.drives }
@@ -260,7 +260,7 @@ impl<D: Drive> Pages<D> {
         ensures stored { is_stored (plain D.pages self.new) ≡ is_stored (plain D.pages self.old) }
         ensures sound { KeepsSound (plain D.pages self.old) (plain D.pages self.new) }
         ensures bindings { bindings self.new.core ≡ bindings self.old.core }
-        ensures starts { starts self.new.core ≡ slice_set (starts self.old.core) f (Some (uid, p)) }
+        ensures reads { reads_of self.new.core ≡ slice_set (reads_of self.old.core) f (Some (uid, p)) }
         ensures volumes { self.new.volumes ≡ self.old.volumes }
     {
         self.core.start(f, uid, p);
@@ -292,7 +292,7 @@ impl<D: Drive> Pages<D> {
         ensures stored { is_stored (plain D.pages self.new) ≡ is_stored (plain D.pages self.old) }
         ensures bound { OnOk result (bindings self.new.core ≡ slice_set (bindings self.old.core) f (Some (uid, p))) }
         ensures lost { OnErr result (bindings self.new.core ≡ bindings self.old.core) }
-        ensures starts { starts self.new.core ≡ slice_set (starts self.old.core) f None }
+        ensures reads { reads_of self.new.core ≡ slice_set (reads_of self.old.core) f None }
         ensures tables { KeepsTables self.old.volumes self.new.volumes }
         ensures counts { KeepsCounts (plain D.pages self.old) (plain D.pages self.new) }
         ensures drives { KeepsDrives D.plan D.places D.faults self.old.volumes.drives self.new.volumes.drives home.volume }
@@ -332,7 +332,7 @@ impl<D: Drive> Pages<D> {
         ensures picture { OnOk result (picture (plain D.pages self.new) ≡ changed_at (picture (plain D.pages self.old)) uid p (slice_set (replicate 1024 0) at w)) }
         ensures stored { OnOk result (is_stored (plain D.pages self.new) ≡ changed_at (is_stored (plain D.pages self.old)) uid p true) }
         ensures bound { OnOk result (bindings self.new.core ≡ slice_set (bindings self.old.core) f (Some (uid, p))) }
-        ensures starts { starts self.new.core ≡ starts self.old.core }
+        ensures reads { reads_of self.new.core ≡ reads_of self.old.core }
         ensures taken { OnOk result (taken self.new.volumes.records ≡ one_more (taken self.old.volumes.records) home.volume) }
         ensures counts { KeepsCounts (plain D.pages self.old) (plain D.pages self.new) }
         ensures drives { self.new.volumes.drives ≡ self.old.volumes.drives }
@@ -378,7 +378,7 @@ impl<D: Drive> Pages<D> {
         ensures picture { picture (plain D.pages self.new) ≡ picture (plain D.pages self.old) }
         ensures stored { IfOk result (λ left. is_stored (plain D.pages self.new) ≡ stored_after (is_stored (plain D.pages self.old)) (uid_in (frame_at self.old.core f)) (number_in (frame_at self.old.core f)) left) }
         ensures freed { OnOk result (bindings self.new.core ≡ slice_set (bindings self.old.core) f None) }
-        ensures starts { starts self.new.core ≡ starts self.old.core }
+        ensures reads { reads_of self.new.core ≡ reads_of self.old.core }
         ensures taken { IfOk result (λ left. taken self.new.volumes.records ≡ taken_after (taken self.old.volumes.records) home.volume left) }
         ensures counts { KeepsCounts (plain D.pages self.old) (plain D.pages self.new) }
         ensures sure { is_modified (frame_at self.old.core f) ≡ false → IsOk result }

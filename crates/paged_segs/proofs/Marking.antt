@@ -6,7 +6,7 @@ use Rattle.std.proofs.lemmas.Bool.{cases_eq}
 use Rattle.std.proofs.lemmas.List.{get_or_past, get_or-set_same, get_or-set_other, length-set, set-set, set-get_or}
 use Rattle.core_map.specs.declared.Frame.{Frame}
 use Rattle.core_map.specs.declared.Frame.TheVariants.{Free, Started, Bound}
-use Rattle.core_map.specs.CoreMap.{Core, frame_at, with_frame, is_free, is_bound, is_started, after_reference, least_free_frame}
+use Rattle.core_map.specs.CoreMap.{reads_of, Core, frame_at, with_frame, is_free, is_bound, is_started, after_reference, least_free_frame}
 use Rattle.core_map.specs.Clock.{IsClockChoice, unmarked, is_idle}
 use Rattle.page_table.specs.declared.Ptw.{Ptw}
 use Rattle.page_table.specs.declared.Ptw.TheVariants.{Out, Here}
@@ -14,7 +14,7 @@ use Rattle.page_table.specs.PageTable.{ptw_at}
 use Rattle.volumes.specs.CoreDrive.{DriveState}
 use Rattle.volumes.specs.Volumes.{Vols}
 use Rattle.page_control.specs.declared.Home.{Home}
-use Rattle.page_control.specs.Plain.{Paging, plain, bindings, starts, binding_at, number_in}
+use Rattle.page_control.specs.Plain.{Paging, plain, bindings, binding_at, number_in}
 use Rattle.page_control.specs.Picture.{picture, AreClean}
 use Rattle.page_control.specs.Tied.{frame_of, uid_in, uid_at, IsBoundOnce}
 use Rattle.page_control.proofs.Laws.{started_same, bound_once, below, position_at_one, off_and_on, not_none, kept_chosen}
@@ -24,7 +24,7 @@ use Rattle.paged_segs.proofs.Located.{IsPageOf, page_of_frame}
 
 -- nothing changes but marks and words in frames
 pub kept_marks : (old new : Paging DriveState) (tables : List (List Ptw)) (homes : List Home) → IsKept (segs_of old tables homes) → new.volumes ≡ old.volumes → bindings new.core ≡ bindings old.core
-    → starts new.core ≡ starts old.core → (AreClean (plain pages_of old) → AreClean (plain pages_of new))
+    → reads_of new.core ≡ reads_of old.core → (AreClean (plain pages_of old) → AreClean (plain pages_of new))
     → ((j q r : ℕ) → ptw_at (table_at tables j) q ≡ Out r → picture (plain pages_of new) (j + 2) q ≡ picture (plain pages_of old) (j + 2) q) → IsKept (segs_of new tables homes)
 kept_marks old new tables homes k volumes bound idle clean pictures = record {
   sound = rw volumes k.sound;

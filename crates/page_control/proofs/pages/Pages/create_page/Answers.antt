@@ -24,8 +24,8 @@ returns-clause-stored g c = stored_created c.create_at.result (record { tie = c.
 pub returns-clause-bound : goal.returns-clause-bound
 returns-clause-bound g c = bound_created c.create_at.result (record { tie = c.requires.tie; page = c.requires.page; null = c.requires.null; frame = c.requires.frame; free = c.requires.free; made = c.create_at.ensures.created })
 
-pub returns-clause-starts : goal.returns-clause-starts
-returns-clause-starts g c = starts_created c.create_at.result (record { tie = c.requires.tie; page = c.requires.page; null = c.requires.null; frame = c.requires.frame; free = c.requires.free; made = c.create_at.ensures.created })
+pub returns-clause-reads : goal.returns-clause-reads
+returns-clause-reads g c = starts_created c.create_at.result (record { tie = c.requires.tie; page = c.requires.page; null = c.requires.null; frame = c.requires.frame; free = c.requires.free; made = c.create_at.ensures.created })
 
 pub returns-clause-taken : goal.returns-clause-taken
 returns-clause-taken g c = taken_created c.create_at.result (record { tie = c.requires.tie; page = c.requires.page; null = c.requires.null; frame = c.requires.frame; free = c.requires.free; made = c.create_at.ensures.created })

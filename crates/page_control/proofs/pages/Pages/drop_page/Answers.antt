@@ -17,8 +17,8 @@ returns-clause-picture g c = shown_dropped (record { tie = c.requires.tie; page 
 pub returns-clause-stored : goal.returns-clause-stored
 returns-clause-stored g c = stored_dropped (record { tie = c.requires.tie; page = c.requires.page; away = c.requires.away; effect = c.drop_at.ensures.dropped; word = c.drop_at.ensures.word })
 
-pub returns-clause-starts : goal.returns-clause-starts
-returns-clause-starts g c = starts_dropped (record { tie = c.requires.tie; page = c.requires.page; away = c.requires.away; effect = c.drop_at.ensures.dropped; word = c.drop_at.ensures.word })
+pub returns-clause-reads : goal.returns-clause-reads
+returns-clause-reads g c = starts_dropped (record { tie = c.requires.tie; page = c.requires.page; away = c.requires.away; effect = c.drop_at.ensures.dropped; word = c.drop_at.ensures.word })
 
 pub returns-clause-taken : goal.returns-clause-taken
 returns-clause-taken g c = taken_dropped (record { tie = c.requires.tie; page = c.requires.page; away = c.requires.away; effect = c.drop_at.ensures.dropped; word = c.drop_at.ensures.word })

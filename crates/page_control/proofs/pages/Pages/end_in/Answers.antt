@@ -23,8 +23,8 @@ returns-clause-bound g c = bound_read c.read_at.result (record { tie = c.require
 pub returns-clause-lost : goal.returns-clause-lost
 returns-clause-lost g c = lost_read c.read_at.result (record { tie = c.requires.tie; out = c.requires.out; started = c.requires.started; read = c.read_at.ensures.read })
 
-pub returns-clause-starts : goal.returns-clause-starts
-returns-clause-starts g c = starts_read c.read_at.result (record { tie = c.requires.tie; out = c.requires.out; started = c.requires.started; read = c.read_at.ensures.read })
+pub returns-clause-reads : goal.returns-clause-reads
+returns-clause-reads g c = starts_read c.read_at.result (record { tie = c.requires.tie; out = c.requires.out; started = c.requires.started; read = c.read_at.ensures.read })
 
 pub returns-clause-counts : goal.returns-clause-counts
 returns-clause-counts g c = counts_of_read c.read_at.result (record { tie = c.requires.tie; out = c.requires.out; started = c.requires.started; read = c.read_at.ensures.read })

@@ -20,8 +20,8 @@ returns-clause-stored g c = stored_left c.leave.result (record { tie = c.require
 pub returns-clause-freed : goal.returns-clause-freed
 returns-clause-freed g c = freed_left c.leave.result (record { tie = c.requires.tie; leaving = c.requires.leaving; clean = c.requires.clean; left = c.leave.ensures.left })
 
-pub returns-clause-starts : goal.returns-clause-starts
-returns-clause-starts g c = starts_left c.leave.result (record { tie = c.requires.tie; leaving = c.requires.leaving; clean = c.requires.clean; left = c.leave.ensures.left })
+pub returns-clause-reads : goal.returns-clause-reads
+returns-clause-reads g c = starts_left c.leave.result (record { tie = c.requires.tie; leaving = c.requires.leaving; clean = c.requires.clean; left = c.leave.ensures.left })
 
 pub returns-clause-taken : goal.returns-clause-taken
 returns-clause-taken g c = taken_left c.leave.result (record { tie = c.requires.tie; leaving = c.requires.leaving; clean = c.requires.clean; left = c.leave.ensures.left })

@@ -12,5 +12,5 @@ returns-clause-sound g c =
     (clean_moved (plain g.D.Drive.pages c.args.self.now) _ c.args.f (Started c.args.uid c.args.p) (search rules) refl (search rules) (search rules) (search rules) c.requires.frame)
     (search (rules, bindings_started)) (search rules) (search rules) (search rules)
 
-pub returns-clause-starts : goal.returns-clause-starts
-returns-clause-starts g c = search (rules, starts_with)
+pub returns-clause-reads : goal.returns-clause-reads
+returns-clause-reads g c = search (rules, starts_with)

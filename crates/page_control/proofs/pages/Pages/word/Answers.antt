@@ -12,5 +12,5 @@ returns-clause-sound g c =
     (clean_read (plain g.D.Drive.pages c.args.self.now) _ c.args.f (search rules) (search rules) (search rules) (search rules) (bound_inside c.args.self.now.core c.args.f c.requires.bound))
     (search (rules, bindings_referred)) (search rules) (search rules) (search rules)
 
-pub returns-clause-starts : goal.returns-clause-starts
-returns-clause-starts g c = search (rules, starts_referred)
+pub returns-clause-reads : goal.returns-clause-reads
+returns-clause-reads g c = search (rules, starts_referred)

@@ -14,7 +14,7 @@ invariant_of-self c =
     let s : Segs = segs_of c.self.inside.pages c.self.inside.tables.items c.self.inside.homes.items in
     let bound : is_bound (frame_at s.storage.core c.args.f) ≡ true = search rules in (
       kept_marks c.self.inside.pages c.put_word.new.self c.self.inside.tables.items c.self.inside.homes.items c.self.invariant.0 c.put_word.ensures.volumes c.put_word.ensures.bindings
-          c.put_word.ensures.starts c.put_word.ensures.sound.clean
+          c.put_word.ensures.reads c.put_word.ensures.sound.clean
           (λ j q r is. ap (λ (shown : ℕ → ℕ → List ℕ). shown (j + 2) q) (c.put_word.ensures.picture (bound_alone s c.args.f c.self.invariant.0 bound))
           ∙ changed_other (picture s.storage) (uid_in (frame_at s.storage.core c.args.f)) (number_in (frame_at s.storage.core c.args.f)) _ (j + 2) q
           (out_other s c.args.f (uid_in (frame_at s.storage.core c.args.f)) (number_in (frame_at s.storage.core c.args.f)) j q r (page_of_frame s c.args.f c.self.invariant.0 bound) is)),
