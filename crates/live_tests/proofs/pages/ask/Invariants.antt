@@ -1,6 +1,0 @@
-use Rattle.live_doors.specs.Doors.{OnlyNoted}
-use Rattle.live_pages.specs.Models.{IsKeeperOf}
-use Rattle.live_tests.proofs.pages.ask.Given as goal
-
-abbrev pub invariant-loop : goal.invariant-loop
-invariant-loop l = IsKeeperOf l.pages l.keeper × OnlyNoted l.fn.keeper.holder.watch l.keeper.holder.watch
