@@ -21,9 +21,10 @@ mod touch;
 mod views;
 
 pub use closing::{Ended, Shown};
-pub use errors::{Behind, Busy, Closed, NoMemory};
+pub use errors::{Busy, NoMemory};
 pub use keeper::Keeper;
 pub use laws::{all_in_is_legal, entry_is_current, may_bind_has_no_holder};
+pub use live_doors::{Behind, Closed};
 pub use pages::LivePages;
 pub use pass::Pass;
 pub use rule::{Frames, Held, Size};

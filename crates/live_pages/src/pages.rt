@@ -7,7 +7,7 @@ ghost use Rattle.live_pages.specs.Turns.{walking, watching, walker_of, current, 
 ghost use Rattle.live_pages.specs.declared.views.View.TheVariants.{Passing};
 ghost use Rattle.live_pages.specs.Models.{HasInHand, touched_in_hand, IsPassOf, IsKeeperOf, SameButWatch, having_touched, rebound, opening_holder, first_passes, AreAll};
 
-use crate::errors::{Behind, Busy, Closed, NoMemory};
+use crate::errors::{Busy, NoMemory};
 use crate::keeper::Keeper;
 use crate::opening::begin;
 use crate::pass::Pass;
@@ -16,7 +16,7 @@ use crate::rule::{
     Look, Place, Raise, Take,
 };
 use crate::touch::{Touch, Touched};
-use live_doors::{REQUEST, acknowledgement_word, door_word};
+use live_doors::{Behind, Closed, REQUEST, acknowledgement_word, door_word};
 use mword::Page;
 use std::alloc::Global;
 use std::marker::Model;
