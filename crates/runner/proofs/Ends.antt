@@ -15,7 +15,7 @@ use Rattle.listing.specs.Listings.{listing_of}
 use Rattle.make_work.specs.Day.{made}
 use Rattle.drill.specs.Texts.{drill_text}
 use Rattle.runner.specs.Endings.{Change, Ends, EndsSo, Failed, IsRun, Printed, Prints, PrintsRun, Refuses, RunOf, Writes, WritesAll, WritesFront, WritesNothing, whole, cut}
-use Rattle.runner.specs.Runs.{IsLater, script_runs}
+use Rattle.runner.specs.Runs.{IsLater, script_runs, usage_text}
 use Rattle.runner.specs.declared.finished.Finished.{Finished}
 use Rattle.runner.specs.declared.finished.Status.{Status}
 use Rattle.runner.specs.declared.finished.Status.TheVariants as status
@@ -106,7 +106,7 @@ ends_drilled src out f p frames n seed h without reads = ends_without (Some (for
 
 -- a run's listing was printed
 run_so : (s : Status) (book : Option Ledger) (src out : Change) → PrintsRun s book out → EndsSo s (Some form.Run) src out book
-run_so status.Memory book src out h = (refl, h.1)
+run_so status.Memory book src out h = (refl, h)
 run_so status.Done (Some b) src out h = h
 run_so status.WriteFault (Some b) src out h = h
 run_so (status.Script r) (Some b) src out h = absurd h
@@ -121,6 +121,19 @@ run_so status.TooLong None src out h = absurd h
 run_so status.Usage None src out h = absurd h
 run_so status.ReadFault None src out h = absurd h
 run_so status.Later None src out h = absurd h
+
+printed_run : (s : Status) (b : Ledger) (out : Change) → Printed s out (listing_of b.script b.entries) → PrintsRun s (Some b) out
+printed_run status.Memory b out h = h
+printed_run status.Done b out h = h
+printed_run status.WriteFault b out h = h
+printed_run (status.Script r) b out h = h
+printed_run status.TooLong b out h = h
+printed_run status.Usage b out h = h
+printed_run status.ReadFault b out h = h
+printed_run status.Later b out h = h
+
+pub prints_run : (s : Status) (b : Ledger) (out : Change) (text : List ℕ) → Printed s out text → text ≡ listing_of b.script b.entries → PrintsRun s (Some b) out
+prints_run s b out text h e = printed_run s b out (subst (Printed s out) e h)
 
 is_run : (src : Change) (p : Plan) (book : Option Ledger) (volumes : Option (Vols DriveState)) → IfSome src.before (λ all. length all ≤ 4194304) → IfSome src.before (λ all. script_of all ≡ Ok p) → script_runs p ≡ true
     → IfSome book (λ b. RunOf p b volumes) → IfSome book (λ b. IsRun src b volumes)
@@ -142,3 +155,17 @@ ends_run src out f bytes p printed run told few e runs reads = record {
   run = is_run src p f.book f.volumes (of_told src.before bytes (λ all. length all ≤ 4194304) told few) (of_told src.before bytes (λ all. script_of all ≡ Ok p) told e) runs run;
   reads = reads;
 }
+
+-- ---- what was asked for
+
+asks : (asked is : Option Form) (src out : Change) (f : Finished) → asked ≡ is → Ends is src out f → Ends asked src out f
+asks asked is src out f e h = subst (λ (x : Option Form). Ends x src out f) (sym e) h
+
+pub asked_none : (asked : Option Form) (src out : Change) (f : Finished) → asked ≡ None → f.status ≡ status.Usage → f.book ≡ None → Writes out usage_text → ConsumesFront src.before src.after 4194305 → Ends asked src out f
+asked_none asked src out f e s b text reads = asks asked None src out f e (ends_without None src out f status.Usage s b (refl, text) reads)
+
+pub asked_made : (asked : Option Form) (src out : Change) (f : Finished) (n : ℕ) → asked ≡ Some (form.Make n) → Printed f.status out (made n) → f.book ≡ None → ConsumesFront src.before src.after 4194305 → Ends asked src out f
+asked_made asked src out f n e h b reads = asks asked (Some (form.Make n)) src out f e (ends_made src out f n h b reads)
+
+pub asked_drilled : (asked : Option Form) (src out : Change) (f : Finished) (p frames n seed : ℕ) → asked ≡ Some (form.Drill p frames n seed) → Printed f.status out (drill_text p frames n seed) → f.book ≡ None → ConsumesFront src.before src.after 4194305 → Ends asked src out f
+asked_drilled asked src out f p frames n seed e h b reads = asks asked (Some (form.Drill p frames n seed)) src out f e (ends_drilled src out f p frames n seed h b reads)

@@ -64,7 +64,7 @@ write_failed (Some (form.Drill p f n seed)) book out h = h.fault
 write_failed None book out h = absurd h
 
 -- what a run's ending says of the bytes
-data Verdict (s : Status) (bytes : List ℕ) (out : Change) : Type 0 where
+pub data Verdict (s : Status) (bytes : List ℕ) (out : Change) : Type 0 where
   memory : s ≡ status.Memory → Verdict s bytes out
   long : s ≡ status.TooLong → 4194304 < length bytes → Verdict s bytes out
   refused : (r : Refusal) → s ≡ status.Script r → length bytes ≤ 4194304 → script_of bytes ≡ Err r → Verdict s bytes out

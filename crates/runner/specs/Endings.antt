@@ -87,7 +87,7 @@ pub record RunOf (p : Plan) (book : Ledger) (volumes : Option (Vols DriveState))
 
 -- the listing of a run was printed, or there was no memory for the run
 abbrev pub PrintsRun : Status → Option Ledger → Change → Type 0
-PrintsRun status.Memory book out = (book ≡ None) × WritesNothing out
+PrintsRun status.Memory book out = WritesNothing out
 PrintsRun s None out = ⊥
 PrintsRun s (Some b) out = Printed s out (listing_of b.script b.entries)
 

@@ -41,19 +41,19 @@ pub returns-clause-later_text : goal.returns-clause-later_text
 returns-clause-later_text g c = λ e. (ended _ _ _ _ status.Later (asked_for _ _ _ _ _ c.answer.ensures.ends c.form.ensures.form) e).2
 
 pub returns-clause-script : goal.returns-clause-script
-returns-clause-script g c = of_run _ _ _ (λ b r. r.script) (asked_for _ _ _ _ _ c.answer.ensures.ends c.form.ensures.form).run
+returns-clause-script g c = of_run _ c.answer.result _ (λ b r. r.script) (asked_for _ _ _ _ _ c.answer.ensures.ends c.form.ensures.form).run
 
 pub returns-clause-legal : goal.returns-clause-legal
-returns-clause-legal g c = of_run _ _ _ (λ b r. r.legal) (asked_for _ _ _ _ _ c.answer.ensures.ends c.form.ensures.form).run
+returns-clause-legal g c = of_run _ c.answer.result _ (λ b r. r.legal) (asked_for _ _ _ _ _ c.answer.ensures.ends c.form.ensures.form).run
 
 pub returns-clause-complete : goal.returns-clause-complete
-returns-clause-complete g c = of_run _ _ _ (λ b r. r.complete) (asked_for _ _ _ _ _ c.answer.ensures.ends c.form.ensures.form).run
+returns-clause-complete g c = of_run _ c.answer.result _ (λ b r. r.complete) (asked_for _ _ _ _ _ c.answer.ensures.ends c.form.ensures.form).run
 
 pub returns-clause-settled : goal.returns-clause-settled
-returns-clause-settled g c = of_run _ _ _ (λ b r. r.settled) (asked_for _ _ _ _ _ c.answer.ensures.ends c.form.ensures.form).run
+returns-clause-settled g c = of_run _ c.answer.result _ (λ b r. r.settled) (asked_for _ _ _ _ _ c.answer.ensures.ends c.form.ensures.form).run
 
 pub returns-clause-disk : goal.returns-clause-disk
-returns-clause-disk g c = of_run _ _ _ (λ b r. r.disk) (asked_for _ _ _ _ _ c.answer.ensures.ends c.form.ensures.form).run
+returns-clause-disk g c = of_run _ c.answer.result _ (λ b r. r.disk) (asked_for _ _ _ _ _ c.answer.ensures.ends c.form.ensures.form).run
 
 pub returns-clause-listing : goal.returns-clause-listing
 returns-clause-listing g c = λ asks e. printed_in _ _ _ _ (ended _ _ _ _ status.Done (asked_for _ _ _ _ _ c.answer.ensures.ends c.form.ensures.form) e) asks
