@@ -86,11 +86,11 @@ zeros_worded s now bound disks vtocs zeros =
       | inr out ↦ elim (in_frame_or_out s u q (position (is_binding u q) (bindings s.core)) refl) [
         | inl there ↦ inl (rw bound there)
         | inr was ↦ inr (
-            sym (ap (λ (v : List (List (Option Entry))). is_filed_in v u q) vtocs) ∙ on,
-            subst AreZero (out ∙ ap (λ (d : List (List (List ℕ))). words_filed (get_or d (volume_of now.vtocs u) []) (record_named now.vtocs u q)) disks
-                ∙ ap (λ (v : List (List (Option Entry))). words_filed (get_or s.disks (volume_of v u) []) (record_named v u q)) vtocs ∙ sym was) all,
-            λ there. rw bound there,
-          )
+          sym (ap (λ (v : List (List (Option Entry))). is_filed_in v u q) vtocs) ∙ on,
+          subst AreZero (out ∙ ap (λ (d : List (List (List ℕ))). words_filed (get_or d (volume_of now.vtocs u) []) (record_named now.vtocs u q)) disks
+              ∙ ap (λ (v : List (List (Option Entry))). words_filed (get_or s.disks (volume_of v u) []) (record_named v u q)) vtocs ∙ sym was) all,
+          λ there. rw bound there,
+        )
       ]
     ]) zeros
 
@@ -102,10 +102,10 @@ zeros_left s now uid p f shown bound at never others zeros =
       | inl here ↦ absurd (never (sym (ap (λ (n : ℕ). is_stored now n p) here.0) ∙ sym (ap (is_stored now u) here.1) ∙ on)
           (subst (λ (n : ℕ). AreZero (picture s n p)) here.0 (subst (λ (n : ℕ). AreZero (picture s u n)) here.1 (were_zero s now u q shown all))))
       | inr n ↦ inr (
-          sym (others u q n) ∙ on,
-          were_zero s now u q shown all,
-          λ there. rw bound (in_frame_kept (bindings s.core) f u q None (λ is. n (sym (ap uid_part is) ∙ ap uid_part at) (sym (ap number_of is) ∙ ap number_of at)) there),
-        )
+        sym (others u q n) ∙ on,
+        were_zero s now u q shown all,
+        λ there. rw bound (in_frame_kept (bindings s.core) f u q None (λ is. n (sym (ap uid_part is) ∙ ap uid_part at) (sym (ap number_of is) ∙ ap number_of at)) there),
+      )
     ]) zeros
 
 -- frame f, which was bound to no page, is bound to one
@@ -125,10 +125,10 @@ zeros_made s now uid p f words stored shown bound free fl zeros =
     zeros_by s now (λ u q on all. elim (one_page uid p u q) [
       | inl here ↦ inl (rw (bound, here.0, here.1) (f, get_or-set_same (bindings s.core) f (Some (uid, p)) None fl))
       | inr n ↦ inr (
-          sym (changed_other (is_stored s) uid p true u q n) ∙ sym (ap (λ (x : ℕ → ℕ → Bool). x u q) stored) ∙ on,
-          subst AreZero (ap (λ (x : ℕ → ℕ → List ℕ). x u q) shown ∙ changed_other (picture s) uid p words u q n) all,
-          λ there. rw bound (in_frame_kept (bindings s.core) f u q (Some (uid, p)) (λ is. not_none (binding_at (bindings s.core) f) (u, q) free is) there),
-        )
+        sym (changed_other (is_stored s) uid p true u q n) ∙ sym (ap (λ (x : ℕ → ℕ → Bool). x u q) stored) ∙ on,
+        subst AreZero (ap (λ (x : ℕ → ℕ → List ℕ). x u q) shown ∙ changed_other (picture s) uid p words u q n) all,
+        λ there. rw bound (in_frame_kept (bindings s.core) f u q (Some (uid, p)) (λ is. not_none (binding_at (bindings s.core) f) (u, q) free is) there),
+      )
     ]) zeros
 
 -- page p of segment uid is stored no more, and in no frame
@@ -138,10 +138,10 @@ zeros_dropped s now uid p words stored shown frames zeros =
     zeros_by s now (λ u q on all. elim (one_page uid p u q) [
       | inl here ↦ absurd (off_and_on (is_stored now u q) (ap (λ (x : ℕ → ℕ → Bool). x u q) stored ∙ changed_here (is_stored s) uid p false u q here.0 here.1) on)
       | inr n ↦ inr (
-          sym (changed_other (is_stored s) uid p false u q n) ∙ sym (ap (λ (x : ℕ → ℕ → Bool). x u q) stored) ∙ on,
-          subst AreZero (ap (λ (x : ℕ → ℕ → List ℕ). x u q) shown ∙ changed_other (picture s) uid p words u q n) all,
-          frames u q n,
-        )
+        sym (changed_other (is_stored s) uid p false u q n) ∙ sym (ap (λ (x : ℕ → ℕ → Bool). x u q) stored) ∙ on,
+        subst AreZero (ap (λ (x : ℕ → ℕ → List ℕ). x u q) shown ∙ changed_other (picture s) uid p words u q n) all,
+        frames u q n,
+      )
     ]) zeros
 
 -- no page of segment uid is stored any more
@@ -151,8 +151,8 @@ zeros_erased s now uid words stored shown bound zeros =
     zeros_by s now (λ u q on all. elim (cases_eq u uid) [
       | inl here ↦ absurd (off_and_on (is_stored now u q) (ap (λ (x : ℕ → ℕ → Bool). x u q) stored ∙ changed_all (is_stored s) uid false u q here) on)
       | inr n ↦ inr (
-          sym (changed_away (is_stored s) uid false u q n) ∙ sym (ap (λ (x : ℕ → ℕ → Bool). x u q) stored) ∙ on,
-          subst AreZero (ap (λ (x : ℕ → ℕ → List ℕ). x u q) shown ∙ changed_away (picture s) uid words u q n) all,
-          λ there. rw bound there,
-        )
+        sym (changed_away (is_stored s) uid false u q n) ∙ sym (ap (λ (x : ℕ → ℕ → Bool). x u q) stored) ∙ on,
+        subst AreZero (ap (λ (x : ℕ → ℕ → List ℕ). x u q) shown ∙ changed_away (picture s) uid words u q n) all,
+        λ there. rw bound there,
+      )
     ]) zeros

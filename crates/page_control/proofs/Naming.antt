@@ -56,8 +56,12 @@ named_stored records vtocs uid p r home h none full rl named =
     let vl : home.volume < length records = list_within records home.volume r rl in
     record {
       named = λ w k on. elim (same_place home.volume w r k) [
-        | inl at ↦ (home.entry, p, ap (λ (v : ℕ). record_at (vtoc_in (refile vtocs home p (Some r)) v) home.entry p) at.0
-            ∙ ap (λ (places : List (Option ℕ)). get_or places p None) (map_refiled vtocs uid p (Some r) home h) ∙ full ∙ ap Some (sym at.1))
+        | inl at ↦ (
+          home.entry,
+          p,
+          ap (λ (v : ℕ). record_at (vtoc_in (refile vtocs home p (Some r)) v) home.entry p) at.0
+              ∙ ap (λ (places : List (Option ℕ)). get_or places p None) (map_refiled vtocs uid p (Some r) home h) ∙ full ∙ ap Some (sym at.1),
+        )
         | inr n ↦ still w k (named.named w k (sym (put_other records home.volume r true false w k vl n) ∙ on))
       ];
     }

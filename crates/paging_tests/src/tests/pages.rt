@@ -40,7 +40,10 @@ fn two_frames(alloc: Global, fails: Vec<FailLine>) -> Result<Pages<CoreDrive>, N
 }
 
 /// The same, where segment 7 has the first entry, with its page table.
-fn one_segment(alloc: Global, fails: Vec<FailLine>) -> Result<(Pages<CoreDrive>, PageTable), NoMemory>
+fn one_segment(
+    alloc: Global,
+    fails: Vec<FailLine>,
+) -> Result<(Pages<CoreDrive>, PageTable), NoMemory>
     ensures frames { IfOk result (λ made. made.0.core.frames ≡ replicate 2 Free) }
     ensures drives { IfOk result (λ made. length made.0.volumes.drives ≡ 1) }
     ensures records { IfOk result (λ made. made.0.volumes.records ≡ replicate 3 false ∷ []) }
@@ -54,7 +57,11 @@ fn one_segment(alloc: Global, fails: Vec<FailLine>) -> Result<(Pages<CoreDrive>,
 }
 
 /// The same, where page 1 of the segment is in frame 0, all zeros but word 5, which is `w`.
-fn one_page(alloc: Global, fails: Vec<FailLine>, w: Word) -> Result<(Pages<CoreDrive>, PageTable), NoMemory>
+fn one_page(
+    alloc: Global,
+    fails: Vec<FailLine>,
+    w: Word,
+) -> Result<(Pages<CoreDrive>, PageTable), NoMemory>
     ensures frame { IfOk result (λ made. frame_at made.0.core 0 ≡ Bound 7 1 true true) }
     ensures other { IfOk result (λ made. frame_at made.0.core 1 ≡ Free) }
     ensures count { IfOk result (λ made. length made.0.core.frames ≡ 2) }
