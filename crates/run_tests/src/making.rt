@@ -73,7 +73,14 @@ fn make<R: Threads + Wait + Sync + AllocGlobal>(
     texts.push(String::from_str(alloc, number)?)?;
     let mut source = MemorySource::new(Vec::new(alloc), 1, vec![in alloc; 1]?);
     let mut sink = MemorySink::new(alloc, room, Vec::new(alloc))?;
-    let finished = multics(rt, alloc, Words::new(texts), &mut source, &mut sink, &NoGate);
+    let finished = multics(
+        rt,
+        alloc,
+        Words::new(texts),
+        &mut source,
+        &mut sink,
+        &NoGate,
+    );
     Ok((finished.status, sink.bytes().to_vec(alloc)?))
 }
 

@@ -1,9 +1,7 @@
 -- How each way out of a call ends. (own)
-use Rattle.std.proofs.Common.{◌≡◌, ℕ, ◌<◌, ◌≤◌, true, false, List, [], length, Option, Some, None, is_some, Ok, Err, IfSome, refl, sym, ap, subst, ◌∙◌, arith}
-use Rattle.std.specs.Prelude.{IsSomeAnd}
+use Rattle.std.proofs.Common.{◌≡◌, ℕ, ◌≤◌, true, false, List, [], length, Option, Some, None, Ok, Err, IfSome, refl, sym, ap, subst, ◌∙◌, arith}
 use Rattle.std.specs.Io.KnownBytes.{Appends, Keeps}
 use Rattle.std.proofs.KnownBytes.{Keeps-refl, Consumes-nil}
-use Rattle.site_io.specs.Faults.{Rose}
 use Rattle.site_io.specs.Streams.{AppendsFront, ConsumesFront}
 use Rattle.volumes.specs.CoreDrive.{DriveState}
 use Rattle.volumes.specs.Volumes.{Vols}
@@ -14,7 +12,7 @@ use Rattle.book.specs.Books.{Ledger}
 use Rattle.listing.specs.Listings.{listing_of}
 use Rattle.make_work.specs.Day.{made}
 use Rattle.drill.specs.Texts.{drill_text}
-use Rattle.runner.specs.Endings.{Change, Ends, EndsSo, Failed, IsRun, Printed, Prints, PrintsRun, Refuses, RunOf, Writes, WritesAll, WritesFront, WritesNothing, whole, cut}
+use Rattle.runner.specs.Endings.{Change, Ends, EndsSo, Failed, IsRun, Printed, PrintsRun, Refuses, RunOf, Writes, whole, cut}
 use Rattle.runner.specs.Runs.{IsLater, script_runs, usage_text}
 use Rattle.runner.specs.declared.finished.Finished.{Finished}
 use Rattle.runner.specs.declared.finished.Status.{Status}
@@ -158,14 +156,11 @@ ends_run src out f bytes p printed run told few e runs reads = record {
 
 -- ---- what was asked for
 
-asks : (asked is : Option Form) (src out : Change) (f : Finished) → asked ≡ is → Ends is src out f → Ends asked src out f
+pub asks : (asked is : Option Form) (src out : Change) (f : Finished) → asked ≡ is → Ends is src out f → Ends asked src out f
 asks asked is src out f e h = subst (λ (x : Option Form). Ends x src out f) (sym e) h
 
 pub asked_none : (asked : Option Form) (src out : Change) (f : Finished) → asked ≡ None → f.status ≡ status.Usage → f.book ≡ None → Writes out usage_text → ConsumesFront src.before src.after 4194305 → Ends asked src out f
 asked_none asked src out f e s b text reads = asks asked None src out f e (ends_without None src out f status.Usage s b (refl, text) reads)
 
-pub asked_made : (asked : Option Form) (src out : Change) (f : Finished) (n : ℕ) → asked ≡ Some (form.Make n) → Printed f.status out (made n) → f.book ≡ None → ConsumesFront src.before src.after 4194305 → Ends asked src out f
-asked_made asked src out f n e h b reads = asks asked (Some (form.Make n)) src out f e (ends_made src out f n h b reads)
-
-pub asked_drilled : (asked : Option Form) (src out : Change) (f : Finished) (p frames n seed : ℕ) → asked ≡ Some (form.Drill p frames n seed) → Printed f.status out (drill_text p frames n seed) → f.book ≡ None → ConsumesFront src.before src.after 4194305 → Ends asked src out f
-asked_drilled asked src out f p frames n seed e h b reads = asks asked (Some (form.Drill p frames n seed)) src out f e (ends_drilled src out f p frames n seed h b reads)
+pub form_is : (form is : Form) (src out : Change) (f : Finished) → form ≡ is → Ends (Some is) src out f → Ends (Some form) src out f
+form_is form is src out f e h = asks (Some form) (Some is) src out f (ap Some e) h

@@ -1,7 +1,6 @@
 -- What an ending says of its cause. (own)
-use Rattle.std.proofs.Common.{◌≡◌, ◌≢◌, ℕ, ◌<◌, ◌≤◌, ◌⊎◌, inl, inr, true, false, List, length, Option, Some, None, is_some, Ok, Err, IfSome, refl, sym, ap, subst, ◌∙◌, arith}
+use Rattle.std.proofs.Common.{◌≡◌, ℕ, ◌<◌, ◌≤◌, ◌⊎◌, inl, inr, true, false, List, length, Option, Some, None, Ok, Err, IfSome, refl, sym, ap, subst, ◌∙◌, arith}
 use Rattle.std.specs.Prelude.{IsSomeAnd}
-use Rattle.std.specs.Io.KnownBytes.{Appends, Keeps}
 use Rattle.site_io.specs.Streams.{AppendsFront}
 use Rattle.volumes.specs.CoreDrive.{DriveState}
 use Rattle.volumes.specs.Volumes.{Vols}
@@ -10,9 +9,8 @@ use Rattle.script.specs.Plans.{Plan}
 use Rattle.script.specs.declared.refusals.Refusal.{Refusal}
 use Rattle.book.specs.Books.{Ledger}
 use Rattle.listing.specs.Listings.{listing_of}
-use Rattle.make_work.specs.Day.{made}
-use Rattle.runner.specs.Endings.{Change, Ends, EndsSo, Failed, IsRun, Prints, Writes, WritesAll, WritesFront, WritesNothing}
-use Rattle.runner.specs.Runs.{IsLater, script_runs, later_text, refusal_text, too_long_text, usage_text}
+use Rattle.runner.specs.Endings.{Change, Ends, EndsSo, Failed, IsRun, Prints, WritesAll, WritesFront}
+use Rattle.runner.specs.Runs.{IsLater, script_runs}
 use Rattle.runner.specs.declared.finished.Finished.{Finished}
 use Rattle.runner.specs.declared.finished.Status.{Status}
 use Rattle.runner.specs.declared.finished.Status.TheVariants as status

@@ -1,17 +1,11 @@
 -- What the program is asked, what of it runs so far, and what it writes (own).
-use Rattle.std.specs.Prelude.{◌≡◌, ℕ, Bool, true, false, not, ◌&&◌, ◌==◌, List, [], ◌∷◌, ◌++◌, length, ◌⊎◌, Option, Result, Ok, Err, codes}
+use Rattle.std.specs.Prelude.{◌≡◌, ℕ, Bool, true, false, not, ◌&&◌, ◌==◌, List, [], ◌∷◌, ◌++◌, length, Result, Ok, Err, codes}
 use Rattle.std.specs.List.{list_all}
 use Rattle.std.specs.Fmt.{decimal}
-use Rattle.std.specs.Io.KnownBytes.{Appends}
-use Rattle.std.specs.Str.{bytes_eq}
-use Rattle.site_io.specs.Faults.{Rose}
-use Rattle.site_io.specs.Streams.{AppendsFront}
 use Rattle.script.specs.Causes.{cause_text}
 use Rattle.script.specs.Plans.{Plan, ProcessPlan}
 use Rattle.script.specs.declared.commands.Command.{Command}
 use Rattle.script.specs.declared.commands.Command.TheVariants as command
-use Rattle.script.specs.declared.plan.Print.{Print}
-use Rattle.script.specs.declared.plan.Print.TheVariants as print
 use Rattle.script.specs.declared.refusals.Refusal.{Refusal}
 
 -- a path of exactly one name

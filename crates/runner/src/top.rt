@@ -27,7 +27,33 @@ use std::thread::Threads;
 /// What the program writes where its words are no form of it.
 const USAGE: &[u8] = b"usage: multics run | check | make N | drill P F N SEED\n";
 
-/// Does what the words ask for.
+/// Does what is asked for.
+fn serve<R: Threads + Wait + Sync, S: Source, K: Sink, G: Gate + Sync>(
+    rt: &R,
+    alloc: Global,
+    asked: Form,
+    src: &mut S,
+    out: &mut K,
+    gate: &G,
+) -> Finished
+    requires { IsInRange asked }
+    ensures ends { Ends (Some asked) (change (S.left src.old) (S.left src.new) (S.faults src.old) (S.faults src.new))
+        (change (K.held out.old) (K.held out.new) (K.faults out.old) (K.faults out.new)) result }
+    ensures source { asked ≢ form.Run → src.new ≡ src.old }
+{
+    match asked {
+        Form::Run => read_and_run(alloc, src, out),
+        Form::Make(n) => make(alloc, n, out),
+        Form::Drill {
+            processors,
+            frames,
+            adds,
+            seed,
+        } => run_drill(rt, alloc, (processors, frames, adds, seed), out, gate),
+    }
+}
+
+/// Does what the words ask for, or says how they may be.
 fn answer<R: Threads + Wait + Sync, S: Source, K: Sink, G: Gate + Sync>(
     rt: &R,
     alloc: Global,
@@ -43,14 +69,7 @@ fn answer<R: Threads + Wait + Sync, S: Source, K: Sink, G: Gate + Sync>(
 {
     match asked {
         None => with_text(out, USAGE, Status::Usage),
-        Some(Form::Run) => read_and_run(alloc, src, out),
-        Some(Form::Make(n)) => make(alloc, n, out),
-        Some(Form::Drill {
-            processors,
-            frames,
-            adds,
-            seed,
-        }) => run_drill(rt, alloc, (processors, frames, adds, seed), out, gate),
+        Some(form) => serve(rt, alloc, form, src, out, gate),
     }
 }
 

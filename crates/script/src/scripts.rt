@@ -1,7 +1,6 @@
 ghost use Rattle.std.specs.Prelude.{◌≡◌, ◌++◌, flat_map, IfOk, OnOk, Ok, string_bytes};
 ghost use Rattle.script.specs.Grammar.{script_of};
 ghost use Rattle.script.specs.Scripts.{begin_text, bulk_text, commands_text, ended, fail_text, head_text, machine_text, print_text, process_text, processes_text, script_text, volume_text};
-
 ghost use Rattle.script.specs.Forms.{IsPlan};
 ghost use Rattle.script.specs.Plans.{Plan};
 
@@ -188,5 +187,4 @@ pub fn script_text(alloc: Global, script: &Script) -> Result<Vec<u8>, NoMemory>
 /// The canonical text of each script is read back as that script: a law, which runs no code (own).
 pub fn each_text_is_read_again()
     ensures { (p : Plan) → IsPlan p → script_of (script_text p) ≡ Ok p }
-{
-}
+{}
