@@ -3,6 +3,8 @@
 #![tactic(auto)]
 
 #[cfg(test)]
+mod drilling;
+#[cfg(test)]
 mod making;
 #[cfg(test)]
 mod replaying;
