@@ -1,0 +1,6 @@
+pub mod Places
+pub mod Indexed
+pub mod Pages
+pub mod Stores
+pub mod Drives
+pub mod Writes

@@ -1,0 +1,6 @@
+use Rattle.std.proofs.Common.{sym, ◌∙◌}
+use Rattle.bulk_store.proofs.Pages.{length-pages_of}
+use Rattle.bulk_store.proofs.store.BulkStoreDrive.size.Goals as goal
+
+pub returns-clause-size : goal.returns-clause-size
+returns-clause-size g c = rw (← c.self.view_is) (c.size.ensures.size ∙ sym (length-pages_of _ _ _))
