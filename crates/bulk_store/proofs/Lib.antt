@@ -4,3 +4,4 @@ pub mod Pages
 pub mod Stores
 pub mod Drives
 pub mod Writes
+pub mod Sure

@@ -6,3 +6,5 @@ pub mod Pages
 pub mod Index
 pub mod Contents
 pub mod Store
+pub mod CoreBulk
+pub mod AnyDrive

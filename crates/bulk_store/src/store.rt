@@ -63,6 +63,20 @@ impl<F: Drive, D: Drive> BulkStore<F, D> {
     {
         self.parts.table.place(r)
     }
+
+    /// The fast store, as a drive of its own. (Source: own.)
+    pub fn fast(&self) -> &F
+        ensures { result.now ≡ self.now.fast }
+    {
+        &self.parts.fast
+    }
+
+    /// The disk behind the fast store. (Source: own.)
+    pub fn disk(&self) -> &D
+        ensures { result.now ≡ self.now.disk }
+    {
+        &self.parts.disk
+    }
 }
 
 impl<F: Drive, D: Drive> Drive for BulkStore<F, D> {

@@ -1,0 +1,41 @@
+-- A drive in core without lines never fails.
+use Rattle.std.proofs.Common.{◌≡◌, ℕ, zero, suc, Bool, false, true, [], refl, ◌⊎◌, Option, None, Some, Result, Ok, Err, IsOk, IfSome, IfNone, OnErr, inl, inr, arith}
+use Rattle.site_io.specs.Faults.{Rose}
+use Rattle.volumes.specs.FailLine.{named_calls}
+use Rattle.volumes.specs.CoreDrive.{DriveState, faults_of}
+
+named_none : (write : Bool) (n : ℕ) → named_calls [] write n ≡ 0
+unfolding named_calls
+named_none write zero = omega arith
+named_none write (suc n) = let before = named_none write n in omega (arith, before)
+
+no_faults : (d : DriveState) → d.fails ≡ [] → faults_of d ≡ 0
+no_faults d none = rw none (let reads = named_none false d.reads in let writes = named_none true d.writes in omega (arith, reads, writes))
+
+pub never_rises : (old now : DriveState) → old.fails ≡ [] → Some now.fails ≡ Some old.fails → Rose (faults_of old) (faults_of now) → ⊥
+never_rises old now none same rose =
+    let also : now.fails ≡ [] = cc in
+    omega (arith, rose, no_faults old none, no_faults now also)
+
+-- a call that fails for no cause is done
+pub sure_call : {T E P : Type 0} (result : Result T E) → (P → ⊥) → OnErr result P → IsOk result
+sure_call (Ok v) never cause = refl
+sure_call (Err e) never cause = absurd (never cause)
+
+-- and one that fails by this drive or that, by that one
+pub other_cause : {T E : Type 0} (P Q : Type 0) (result : Result T E) → (P → ⊥) → OnErr result (P ⊎ Q) → OnErr result Q
+other_cause P Q (Ok v) never cause = tt
+other_cause P Q (Err e) never (inl p) = absurd (never p)
+other_cause P Q (Err e) never (inr q) = q
+
+-- a read of what is held is done
+pub sure_read : {T E P : Type 0} (place : Option ℕ) (result : Result T E) → (P → ⊥) → OnErr result (IfSome place (λ _. P)) → IfSome place (λ _. IsOk result)
+sure_read None result never cause = tt
+sure_read (Some p) result never cause = sure_call result never cause
+
+-- so a read fails by the disk
+pub read_cause : {T E : Type 0} (P Q : Type 0) (place : Option ℕ) (result : Result T E) → (P → ⊥) → OnErr result (IfSome place (λ _. P)) → OnErr result (IfNone place Q)
+    → OnErr result Q
+read_cause P Q place (Ok v) never held other = tt
+read_cause P Q None (Err e) never held other = other
+read_cause P Q (Some p) (Err e) never held other = absurd (never held)
