@@ -3,7 +3,7 @@ use Rattle.std.proofs.Common.{◌≡◌, ◌<◌, ℕ, List, [], ◌⊎◌, Bool
 use Rattle.std.proofs.lemmas.Bool.{le-ltb}
 use Rattle.std.proofs.lemmas.List.{length-set, ext_get_or}
 use Rattle.bulk_store.specs.declared.index.Held.{Held}
-use Rattle.bulk_store.specs.Held.{place_of, IsLeastFree, HeldAfter}
+use Rattle.bulk_store.specs.Held.{place_of, IsLeastFreePlace, BulkAfter}
 use Rattle.bulk_store.specs.Pages.{page_of, pages_of}
 use Rattle.bulk_store.specs.Index.{Holdings, IsIndexed}
 use Rattle.bulk_store.specs.Contents.{Contents, IsStore, gave_up_oldest, took_in, wrote, AfterFailed}
@@ -35,9 +35,9 @@ lt_from a b is = elim (in_or_past a b) [ inl lt ↦ lt | inr ge ↦ (let not = l
 pub record IsDone (s : Contents) (r : ℕ) (words : List ℕ) (t : Contents) : Type 0 where
   pub store : IsStore t
   pub pages : pages_of t.fast t.disk t.table.held ≡ set (pages_of s.fast s.disk s.table.held) r words
-  pub list : HeldAfter (length s.fast) s.table.held r t.table.held
+  pub list : BulkAfter (length s.fast) s.table.held r t.table.held
 
-least_free : (t : Holdings) → IsIndexed t → IsLeastFree t.held t.free
+least_free : (t : Holdings) → IsIndexed t → IsLeastFreePlace t.held t.free
 least_free t k = record { free = k.free; least = λ q lt. k.taken q (omega (arith, lt, k.free_used)) (λ e. omega (arith, lt, e)) }
 
 done-held : (s : Contents) (r p : ℕ) (words : List ℕ) → IsStore s → place_of s.table.held r ≡ Some p

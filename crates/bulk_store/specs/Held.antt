@@ -21,16 +21,16 @@ abbrev pub is_fast_write : ℕ → List Held → ℕ → Bool
 is_fast_write places held r = is_some (place_of held r) || nat_lt (length held) places
 
 -- no record has place p, and each lesser place is a record's
-pub record IsLeastFree (held : List Held) (p : ℕ) : Type 0 where
+pub record IsLeastFreePlace (held : List Held) (p : ℕ) : Type 0 where
   pub free : (r : ℕ) → place_of held r ≢ Some p
   pub least : (q : ℕ) → q < p → (r : ℕ) × (place_of held r ≡ Some q)
 
 -- what a list of a store with so many places is after a done write of record r: as before where r was held; longer by r,
 -- in the least free place, where a place was free; else without the oldest, and longer by r in the oldest's place
-abbrev pub HeldAfter : ℕ → List Held → ℕ → List Held → Type 0
-HeldAfter places held r now =
+abbrev pub BulkAfter : ℕ → List Held → ℕ → List Held → Type 0
+BulkAfter places held r now =
     MatchOption (place_of held r)
     (MatchBool (nat_lt (length held) places)
-    ((p : ℕ) × IsLeastFree held p × (now ≡ with_newest held r p))
+    ((p : ℕ) × IsLeastFreePlace held p × (now ≡ with_newest held r p))
     (now ≡ with_newest (drop 1 held) r (oldest_of held).place))
     (λ p. now ≡ held)

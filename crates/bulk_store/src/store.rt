@@ -1,7 +1,7 @@
 ghost use Rattle.std.specs.Prelude.{◌≡◌, ◌≤◌, ◌<◌, ◌+◌, ◌⊎◌, List, [], Option, None, IfOk, IfSome, IfNone, length, slice_index_or, slice_set, OnOk, OnErr, IsTrue};
 ghost use Rattle.site_io.specs.Faults.{Rose};
 ghost use Rattle.volumes.specs.FailLine.{HasFewFaults};
-ghost use Rattle.bulk_store.specs.Held.{place_of, is_fast_write, HeldAfter};
+ghost use Rattle.bulk_store.specs.Held.{place_of, is_fast_write, BulkAfter};
 ghost use Rattle.bulk_store.specs.Contents.{GoesOn};
 ghost use Rattle.bulk_store.specs.Store.{store_pages, store_faults, store_plan, disk_after, FailedWrite};
 
@@ -131,7 +131,7 @@ impl<F: Drive, D: Drive> Drive for BulkStore<F, D> {
         ensures err { OnErr result (store_pages F.pages D.pages self.new ≡ store_pages F.pages D.pages self.old) }
 
         // What is held, and what the disk has.
-        ensures list { OnOk result (HeldAfter (length (F.pages self.old.fast)) self.old.held r self.new.held) }
+        ensures list { OnOk result (BulkAfter (length (F.pages self.old.fast)) self.old.held r self.new.held) }
         ensures disk_pages { OnOk result (D.pages self.new.disk
             ≡ disk_after (F.pages self.old.fast) (D.pages self.old.disk) self.old.held r) }
         ensures failed { OnErr result (FailedWrite (F.pages self.old.fast) (D.pages self.old.disk) self.old.held r
