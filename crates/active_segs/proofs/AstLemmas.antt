@@ -7,11 +7,11 @@ use Rattle.bitmap.specs.Bitmap.{in_use, IsLeastFree as IsFirstFree}
 use Rattle.page_table.specs.declared.Ptw.{Ptw}
 use Rattle.active_segs.specs.declared.Entry.{Entry}
 use Rattle.active_segs.specs.Active.{ActiveSegs, entry_at, superior_in, uid_at, IsActive, HasNoInferior, IsTree, IsLeastFree, IsFull}
-use Rattle.active_segs.specs.Kept.{IsKept, IsMarked, IsCounted, IsIndexed, map_of, map_set, counted_up, counted_down, place_of_superior, is_inferior_of, inferiors_of, IsActiveAt}
+use Rattle.active_segs.specs.Kept.{IsKept, IsMarked, IsCounted, IsIndexed, map_of, map_set, counted_up, counted_down, place_of_superior, inferiors_of, IsActiveAt}
 use Rattle.active_segs.specs.Pairs.{Pairs, place_of, SetsPlace}
 use Rattle.active_segs.specs.Pool.{HasPools, first_of, size_of, IsInPool, IsPlaced}
 use Rattle.active_segs.proofs.CountLemmas.{IsSuperiorPlace, superior_placed, counted_activated, counted_deactivated, some_count}
-use Rattle.active_segs.specs.Victim.{off_chain, hand_of, round_pool, first_off_chain, StandsFor, IsVictim, HasOneOffChain}
+use Rattle.active_segs.specs.Victim.{is_inferior_of, leaf_below, leaf_of, victim_of, off_chain, hand_of, round_pool, first_off_chain, StandsFor, IsVictim, HasOneOffChain}
 use Rattle.active_segs.proofs.DescentLemmas.{round_reaches, round_found, off_is_used, find_passes}
 use Rattle.active_segs.proofs.EntryLemmas.{tree_activated, tree_deactivated, used_within}
 use Rattle.active_segs.proofs.PlaceLemmas.{marked_set, indexed_activated, indexed_deactivated}
@@ -177,3 +177,6 @@ found_active s pool chain found is =
 
 pub is_victim : (s : ActiveSegs) (pool : ℕ) (chain : List ℕ) (found leaf : ℕ) → first_off_chain s pool chain ≡ Some found → StandsFor s.entries found leaf → IsVictim s pool chain leaf
 is_victim s pool chain found leaf first stands = record { found = found; first = first; leaf = stands }
+
+pub is_victim_of : (s : ActiveSegs) (pool : ℕ) (chain : List ℕ) (found leaf : ℕ) → first_off_chain s pool chain ≡ Some found → leaf ≡ leaf_below s.entries (length s.entries) found → victim_of s pool chain ≡ Some leaf
+is_victim_of s pool chain found leaf first is = ap (leaf_of s.entries) first ∙ ap (λ (k : ℕ). Some k) (sym is)

@@ -8,25 +8,14 @@ use Rattle.std.proofs.lemmas.List.Sums.{sum_by-set, sum_by-cons, prefix_len_pass
 use Rattle.std.proofs.lemmas.Option.{none-some, same_Some}
 use Rattle.active_segs.specs.declared.Entry.{Entry}
 use Rattle.active_segs.specs.Active.{entry_at, uid_in, superior_in, uid_at, superior_at, IsActive, HasNoInferior, SuperiorsAreActive, IsTree}
-use Rattle.active_segs.specs.Kept.{is_inferior_in, is_inferior_of, inferiors_of, counted_up, counted_down, IsCounted, IsIndexed, place_of_superior}
-use Rattle.active_segs.specs.Victim.{IsLeastInferior}
+use Rattle.active_segs.specs.Kept.{inferiors_of, counted_up, counted_down, IsCounted, IsIndexed, place_of_superior}
+use Rattle.active_segs.specs.Victim.{is_inferior_in, is_inferior_of, IsLeastInferior}
 use Rattle.active_segs.specs.Pairs.{Pairs}
 use Rattle.active_segs.proofs.EntryLemmas.{uid_set, uid_kept, used_within, superior_within}
+use Rattle.active_segs.proofs.LeafLemmas.{inferior_yes, inferior_no, is_inferior, position_none}
 
 abbrev bit : Bool → ℕ
 bit b = cond b 1 0
-
-inferior_yes : (u : ℕ) (o : Option ℕ) → o ≡ Some u → is_inferior_in u o ≡ true
-inferior_yes u None e = absurd (none-some u e)
-inferior_yes u (Some s) e = eq-eqb s u (same_Some s u e)
-
-pub inferior_no : (u : ℕ) (o : Option ℕ) → o ≢ Some u → is_inferior_in u o ≡ false
-inferior_no u None ne = refl
-inferior_no u (Some s) ne = ne_eqb s u (λ same. ne (ap (λ (k : ℕ). Some k) same))
-
-pub is_inferior : (u : ℕ) (o : Option ℕ) → is_inferior_in u o ≡ true → o ≡ Some u
-is_inferior u None e = cc
-is_inferior u (Some s) e = ap (λ (k : ℕ). Some k) (eqb-true s u e)
 
 -- a count after one entry changes
 inferiors_set : (xs : List (Option Entry)) (p : ℕ) (e : Option Entry) (u : ℕ) → p < length xs → inferiors_of (set xs p e) u + bit (is_inferior_of u (entry_at xs p)) ≡ inferiors_of xs u + bit (is_inferior_of u e)
@@ -180,15 +169,6 @@ module _ (xs : List (Option Entry)) (counts : List ℕ) (size : length counts �
         })
 
 -- ---- who the inferiors are
-
-position_none : {X : Type 0} (p : X → Bool) (xs : List X) → position p xs ≡ None → (k : ℕ) (d : X) → k < length xs → p (get_or xs k d) ≡ false
-position_none {X} p xs e k d within = none_at (ltb (position_or_len p xs) (length xs)) refl e
-  where
-    none_at : (b : Bool) → ltb (position_or_len p xs) (length xs) ≡ b → cond b (Some (position_or_len p xs)) None ≡ None → p (get_or xs k d) ≡ false
-    none_at true is e' = cc
-    none_at false is e' =
-        let past : length xs ≤ position_or_len p xs = ltb-false _ _ is in
-        not-true _ (prefix_len_passes (λ x. not (p x)) xs k d (omega arith))
 
 -- nor one whose segment is found nowhere as a superior
 pub searched_has_none : (xs : List (Option Entry)) (place : ℕ) (e : Entry) → entry_at xs place ≡ Some e → position (is_inferior_of e.uid) xs ≡ None → HasNoInferior xs place

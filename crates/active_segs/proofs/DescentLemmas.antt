@@ -6,9 +6,10 @@ use Rattle.std.proofs.lemmas.Option.{none-some, same_Some}
 use Rattle.std.proofs.lemmas.Map.Steps.{length-le_from_distinct_below}
 use Rattle.active_segs.specs.declared.Entry.{Entry}
 use Rattle.active_segs.specs.Active.{ActiveSegs, entry_at, uid_in, uid_at, superior_at, HasNoInferior, IsGrounded}
-use Rattle.active_segs.specs.Victim.{off_chain, places_from, round_pool, IsLeastInferior, Descends, StandsFor, IsVictim, HasItsSuperiors, IsOffChain}
+use Rattle.active_segs.specs.Victim.{leaf_below, off_chain, places_from, round_pool, IsLeastInferior, Descends, StandsFor, IsVictim, HasItsSuperiors, IsOffChain}
 use Rattle.active_segs.specs.Kept.{IsActiveAt}
 use Rattle.active_segs.proofs.EntryLemmas.{used_within, used_since_superior}
+use Rattle.active_segs.proofs.LeafLemmas.{one_step_more, stays_at_leaf}
 
 -- ---- the leaf
 
@@ -160,6 +161,7 @@ pub record IsOnTheWay (xs : List (Option Entry)) (start place steps : ℕ) : Typ
   pub rank : ℕ → ℕ
   pub law : (p u s : ℕ) → uid_at xs p ≡ Some u → superior_at xs p ≡ Some s → rank s < rank u
   pub back : (leaf : ℕ) → StandsFor xs place leaf → StandsFor xs start leaf
+  pub same : (more : ℕ) → leaf_below xs (more + steps) start ≡ leaf_below xs more place
   pub uid : ℕ
   pub is : uid_at xs place ≡ Some uid
   pub passed : List ℕ
@@ -184,6 +186,7 @@ way_begins xs start grounded (u, is) = record {
   rank = grounded.0;
   law = grounded.1;
   back = λ leaf d. d;
+  same = λ more. (let n : more + 0 ≡ more = omega arith in ap (λ (k : ℕ). leaf_below xs k start) n);
   uid = u;
   is = is;
   passed = [];
@@ -211,6 +214,9 @@ way_goes_on xs start place q steps way least =
       rank = way.rank;
       law = way.law;
       back = λ leaf d. way.back leaf (goes_down xs place q leaf least d);
+      same = λ more.
+          (let n : more + (steps + 1) ≡ suc more + steps = omega arith in
+          ap (λ (k : ℕ). leaf_below xs k start) n ∙ way.same (suc more) ∙ one_step_more xs more place q least);
       uid = used.0;
       is = used.1;
       passed = place ∷ way.passed;
@@ -233,6 +239,13 @@ way_ends xs start place steps way =
     ] in
     let most : length all ≤ length xs = length-le_from_distinct_below all (length xs) (one_more_distinct place way.passed (not_passed xs start place steps way) way.distinct) below in
     let n : length way.passed ≡ steps = way.count in omega arith
+
+-- as many steps down as there are places come to the leaf
+pub way_comes_to : (xs : List (Option Entry)) (start leaf steps : ℕ) → IsOnTheWay xs start leaf steps → HasNoInferior xs leaf → leaf ≡ leaf_below xs (length xs) start
+way_comes_to xs start leaf steps way none =
+    let less : steps < length xs = way_ends xs start leaf steps way in
+    let n : length xs - steps + steps ≡ length xs = omega arith in
+    sym (stays_at_leaf xs (length xs - steps) leaf none) ∙ sym (way.same (length xs - steps)) ∙ ap (λ (k : ℕ). leaf_below xs k start) n
 
 -- ---- once round a pool
 

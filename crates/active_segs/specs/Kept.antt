@@ -1,19 +1,12 @@
 -- What holds of the fields of an active segment table; contracts don't see it.
-use Rattle.std.specs.Prelude.{◌≡◌, ℕ, ◌+◌, ◌-◌, ◌<◌, ◌↔◌, Bool, false, ◌==◌, List, [], length, Option, Some, None, is_some, slice_index, slice_index_or, slice_set, sum, count_by}
+use Rattle.std.specs.Prelude.{◌≡◌, ℕ, ◌+◌, ◌-◌, ◌<◌, ◌↔◌, Bool, List, [], length, Option, Some, None, is_some, slice_index, slice_index_or, slice_set, sum, count_by}
 use Rattle.bitmap.specs.Bitmap.{in_use}
 use Rattle.page_table.specs.declared.Ptw.{Ptw}
 use Rattle.active_segs.specs.declared.Entry.{Entry}
-use Rattle.active_segs.specs.Active.{entry_at, uid_at, superior_in, IsTree}
+use Rattle.active_segs.specs.Active.{entry_at, uid_at, IsTree}
 use Rattle.active_segs.specs.Pairs.{Pairs, place_of}
 use Rattle.active_segs.specs.Pool.{first_of, size_of, HasPools}
-
--- whether an entry has the segment as its superior
-abbrev pub is_inferior_in : ℕ → Option ℕ → Bool
-is_inferior_in uid None = false
-is_inferior_in uid (Some s) = s == uid
-
-abbrev pub is_inferior_of : ℕ → Option Entry → Bool
-is_inferior_of uid entry = is_inferior_in uid (superior_in entry)
+use Rattle.active_segs.specs.Victim.{is_inferior_of}
 
 -- how many active inferiors a segment has
 abbrev pub inferiors_of : List (Option Entry) → ℕ → ℕ

@@ -1,9 +1,9 @@
 -- The segment that has to go where a pool is full (own).
-use Rattle.std.specs.Prelude.{◌≡◌, ◌≢◌, ℕ, zero, suc, ◌+◌, ◌-◌, ◌<◌, Bool, true, false, not, ◌==◌, List, ◌++◌, Option, Some, None, Contains, slice_index, slice_set, if◌then◌else◌}
+use Rattle.std.specs.Prelude.{◌≡◌, ◌≢◌, ℕ, zero, suc, ◌+◌, ◌-◌, ◌<◌, Bool, true, false, not, ◌==◌, List, ◌++◌, Option, Some, None, Contains, length, position, slice_index, slice_set, if◌then◌else◌}
 use Rattle.std.specs.List.{find, list_any, range_with_len}
 use Rattle.active_segs.specs.declared.Entry.{Entry}
 use Rattle.active_segs.specs.Pool.{first_of, size_of, IsInPool}
-use Rattle.active_segs.specs.Active.{ActiveSegs, entry_at, uid_at, superior_at, HasNoInferior}
+use Rattle.active_segs.specs.Active.{ActiveSegs, entry_at, superior_in, uid_at, superior_at, HasNoInferior}
 
 -- whether a place is used by a segment that isn't in the chain
 abbrev pub off_chain : List ℕ → Option Entry → Bool
@@ -52,6 +52,45 @@ pub record IsVictim (s : ActiveSegs) (pool : ℕ) (chain : List ℕ) (place : �
   pub found : ℕ
   pub first : first_off_chain s pool chain ≡ Some found
   pub leaf : StandsFor s.entries found place
+
+-- ---- the same as a function
+
+-- whether an entry has the segment as its superior
+abbrev pub is_inferior_in : ℕ → Option ℕ → Bool
+is_inferior_in uid None = false
+is_inferior_in uid (Some s) = s == uid
+
+abbrev pub is_inferior_of : ℕ → Option Entry → Bool
+is_inferior_of uid entry = is_inferior_in uid (superior_in entry)
+
+-- the least place whose segment has the one of a place as its superior, all pools counted in order
+abbrev pub least_inferior_of : List (Option Entry) → Option ℕ → Option ℕ
+least_inferior_of entries None = None
+least_inferior_of entries (Some uid) = position (is_inferior_of uid) entries
+
+abbrev pub least_inferior : List (Option Entry) → ℕ → Option ℕ
+least_inferior entries place = least_inferior_of entries (uid_at entries place)
+
+-- what takes a place's stead in one step down, and the place itself where there is no inferior
+abbrev pub stead_of : ℕ → Option ℕ → ℕ
+stead_of place None = place
+stead_of place (Some inferior) = inferior
+
+-- so many steps down from a place
+unfoldable pub leaf_below : List (Option Entry) → ℕ → ℕ → ℕ
+leaf_below entries zero place = place
+leaf_below entries (suc steps) place = leaf_below entries steps (stead_of place (least_inferior entries place))
+
+-- as many steps down as the table has places come to the leaf
+abbrev pub leaf_of : List (Option Entry) → Option ℕ → Option ℕ
+leaf_of entries None = None
+leaf_of entries (Some place) = Some (leaf_below entries (length entries) place)
+
+-- the place of the segment that has to go where the pool is full
+abbrev pub victim_of : ActiveSegs → ℕ → List ℕ → Option ℕ
+victim_of s pool chain = leaf_of s.entries (first_off_chain s pool chain)
+
+-- ---- the hand
 
 -- a hand past an offset, round the pool
 abbrev pub offset_after : ℕ → ℕ → ℕ

@@ -2,8 +2,8 @@
 
 ghost use Rattle.std.specs.Prelude.{◌≡◌, ◌<◌, ◌≤◌, length, position, IfSome, IfNone, slice_index};
 ghost use Rattle.active_segs.specs.Active.{HasNoInferior};
-ghost use Rattle.active_segs.specs.Kept.{counted_up, counted_down, is_inferior_of, place_of_superior, IsCounted};
-ghost use Rattle.active_segs.specs.Victim.{IsLeastInferior};
+ghost use Rattle.active_segs.specs.Kept.{counted_up, counted_down, place_of_superior, IsCounted};
+ghost use Rattle.active_segs.specs.Victim.{is_inferior_of, IsLeastInferior};
 
 use crate::Entry;
 use crate::index::Index;

@@ -18,7 +18,7 @@ ghost use Rattle.std.specs.Borrow.{sem};
 ghost use Rattle.active_segs.specs.Active.{entry_at, uid_at, table_at, no_segments, activated, deactivated, HasShape, IsActive, HasNoInferior, IsAway, IsTree, IsLeastFree, IsFull};
 ghost use Rattle.active_segs.specs.Kept.{IsActiveAt};
 ghost use Rattle.active_segs.specs.Pool.{IsInPool};
-ghost use Rattle.active_segs.specs.Victim.{first_off_chain, hand_moved, IsVictim, IsOffChain, HasOneOffChain, HasItsSuperiors};
+ghost use Rattle.active_segs.specs.Victim.{first_off_chain, hand_moved, victim_of, IsVictim, IsOffChain, HasOneOffChain, HasItsSuperiors};
 
 mod counts;
 mod index;
@@ -147,6 +147,7 @@ impl Ast {
         requires pool { pool < 4 }
         requires some { HasOneOffChain self.old pool chain.now }
         requires superiors { HasItsSuperiors self.old.entries chain.now }
+        ensures is { victim_of self.old pool chain.now ≡ Some result }
         ensures victim { IsVictim self.old pool chain.now result }
         ensures only { (place : ℕ) → IsVictim self.old pool chain.now place → place ≡ result }
         ensures within { result < length self.old.entries }
@@ -169,6 +170,7 @@ impl Ast {
         requires pool { pool < 4 }
         requires some { HasOneOffChain self.now pool chain.now }
         requires superiors { HasItsSuperiors self.now.entries chain.now }
+        ensures is { victim_of self.now pool chain.now ≡ Some result }
         ensures victim { IsVictim self.now pool chain.now result }
         ensures only { (place : ℕ) → IsVictim self.now pool chain.now place → place ≡ result }
         ensures within { result < length self.now.entries }

@@ -3,7 +3,7 @@
 ghost use Rattle.std.specs.Prelude.{◌≡◌, ◌<◌, ◌≤◌, ◌++◌, Some, IsSome, length};
 ghost use Rattle.active_segs.specs.Active.{IsGrounded};
 ghost use Rattle.active_segs.specs.Kept.{IsCounted, IsActiveAt};
-ghost use Rattle.active_segs.specs.Victim.{off_chain, first_of_places, offset_after, places_from, StandsFor};
+ghost use Rattle.active_segs.specs.Victim.{leaf_below, off_chain, first_of_places, offset_after, places_from, StandsFor};
 
 use crate::Entry;
 use crate::counts::least_inferior;
@@ -60,7 +60,8 @@ pub(crate) fn leaf_below(entries: &[Option<Entry>], inferiors: &[u32], found: u3
     requires few { length entries.now ≤ 1024 }
     requires grounded { IsGrounded entries.now }
     requires active { IsActiveAt entries.now found }
-    ensures { StandsFor entries.now found result }
+    ensures stands { StandsFor entries.now found result }
+    ensures is { result ≡ leaf_below entries.now (length entries.now) found }
 {
     let mut place = found;
     for _step in 0..entries.len() {
