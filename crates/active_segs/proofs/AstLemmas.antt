@@ -1,12 +1,12 @@
 -- What each call keeps, over plain fields.
-use Rattle.std.proofs.Common.{◌≡◌, ◌≢◌, ℕ, ◌+◌, ◌-◌, ◌<◌, ◌≤◌, Bool, true, false, List, length, Option, Some, None, IsSome, IfSome, All, is_some, refl, sym, ap, subst, ◌∙◌, arith, get_or, set, sum}
+use Rattle.std.proofs.Common.{◌≡◌, ◌≢◌, ℕ, ◌+◌, ◌-◌, ◌<◌, ◌≤◌, Bool, true, false, List, length, Option, Some, None, IsSome, IfSome, All, is_some, refl, sym, ap, subst, ◌∙◌, arith, get_or, set, sum, take, drop}
 use Rattle.std.proofs.lemmas.Bool.{both_ways}
-use Rattle.std.proofs.lemmas.List.{length-set}
+use Rattle.std.proofs.lemmas.List.{length-set, length-drop, length-take-le, get_or-take, get_or-drop}
 use Rattle.std.proofs.lemmas.List.Sums.{count_by-le-length}
 use Rattle.bitmap.specs.Bitmap.{in_use, IsLeastFree as IsFirstFree}
 use Rattle.page_table.specs.declared.Ptw.{Ptw}
 use Rattle.active_segs.specs.declared.Entry.{Entry}
-use Rattle.active_segs.specs.Active.{ActiveSegs, entry_at, superior_in, uid_at, IsActive, HasNoInferior, IsTree, IsLeastFree, IsFull}
+use Rattle.active_segs.specs.Active.{ActiveSegs, entry_at, superior_in, uid_at, IsActive, HasNoInferior, IsTree, IsLeastFree, IsFull, used_in}
 use Rattle.active_segs.specs.Kept.{IsKept, IsMarked, IsCounted, IsIndexed, map_of, map_set, counted_up, counted_down, place_of_superior, inferiors_of, IsActiveAt}
 use Rattle.active_segs.specs.Pairs.{Pairs, place_of, SetsPlace}
 use Rattle.active_segs.specs.Pool.{HasPools, first_of, size_of, IsInPool, IsPlaced}
@@ -14,7 +14,7 @@ use Rattle.active_segs.proofs.CountLemmas.{IsSuperiorPlace, superior_placed, cou
 use Rattle.active_segs.specs.Victim.{is_inferior_of, leaf_below, leaf_of, victim_of, off_chain, hand_of, round_pool, first_off_chain, StandsFor, IsVictim, HasOneOffChain}
 use Rattle.active_segs.proofs.DescentLemmas.{round_reaches, round_found, off_is_used, find_passes}
 use Rattle.active_segs.proofs.EntryLemmas.{tree_activated, tree_deactivated, used_within}
-use Rattle.active_segs.proofs.PlaceLemmas.{marked_set, indexed_activated, indexed_deactivated}
+use Rattle.active_segs.proofs.PlaceLemmas.{pool_within, not_all_used, marked_set, indexed_activated, indexed_deactivated}
 
 -- ---- search
 
@@ -151,6 +151,21 @@ least_since_marked s used pool offset lt marked first =
 
 pub not_full : (s : ActiveSegs) (pool place : ℕ) → IsLeastFree s pool place → IsFull s pool → ⊥
 not_full s pool place least full = both_ways _ (ap is_some least.free) (full place least.in_pool)
+
+-- and it has room for one more
+pub room_since_free : (s : ActiveSegs) (pool place : ℕ) → HasPools s.sizes s.hands → length s.entries ≡ sum s.sizes → pool < 4 → IsLeastFree s pool place → used_in s pool < size_of s.sizes pool
+room_since_free s pool place pools count lt least =
+    let first : ℕ = first_of s.sizes pool in
+    let size : ℕ = size_of s.sizes pool in
+    let i : ℕ = place - first in
+    let from : first ≤ place = least.in_pool.from in
+    let to : place < first + size = least.in_pool.to in
+    let ends : first + size ≤ sum s.sizes = pool_within s.sizes pool pools.four lt in
+    let past : length (drop first s.entries) ≡ length s.entries - first = length-drop first s.entries in
+    let long : length (take size (drop first s.entries)) ≡ size = length-take-le size (drop first s.entries) (omega arith) in
+    let at : first + i ≡ place = omega arith in
+    let free : entry_at (take size (drop first s.entries)) i ≡ None = get_or-take size (drop first s.entries) i None (omega arith) ∙ get_or-drop first s.entries i None ∙ ap (entry_at s.entries) at ∙ least.free in
+    let few : used_in s pool < length (take size (drop first s.entries)) = not_all_used (take size (drop first s.entries)) i (omega arith) free in omega arith
 
 -- ---- the victim
 

@@ -1,13 +1,15 @@
 -- A new table keeps what every table keeps.
-use Rattle.std.proofs.Common.{◌≡◌, ℕ, zero, suc, ◌+◌, ◌<◌, ◌≤◌, Bool, false, cond, List, [], ◌∷◌, length, Option, None, is_some, refl, sym, ap, ◌∙◌, arith, get_or, map, replicate, sum, count_by, inl, inr}
+use Rattle.std.proofs.Common.{◌≡◌, ℕ, zero, suc, ◌+◌, ◌-◌, ◌<◌, ◌≤◌, Bool, false, cond, List, [], ◌∷◌, ◌++◌, length, Option, None, is_some, refl, sym, ap, ◌∙◌, arith, get_or, map, replicate, sum, count_by, inl, inr}
 use Rattle.std.proofs.lemmas.Bool.{cases_lt}
-use Rattle.std.proofs.lemmas.List.{length-replicate, length-append, length-map, get_or-replicate, get_or_past, get_or-map, take_all}
+use Rattle.std.proofs.lemmas.List.{length-replicate, length-append, length-map, get_or-replicate, get_or_past, get_or-map, get_or_append_left, append_assoc, take_all}
+use Rattle.std.proofs.Math.Seq.{get_or-append_right}
 use Rattle.std.proofs.lemmas.List.Sums.{sum_by-cons}
 use Rattle.std.proofs.lemmas.Option.{none-some}
 use Rattle.bitmap.specs.Bitmap.{in_use}
 use Rattle.page_table.specs.declared.Ptw.{Ptw}
+use Rattle.page_table.specs.declared.Ptw.TheVariants.{Null}
 use Rattle.active_segs.specs.declared.Entry.{Entry}
-use Rattle.active_segs.specs.Active.{entry_at, uid_in, superior_in, uid_at, superior_at, null_tables}
+use Rattle.active_segs.specs.Active.{entry_at, uid_in, superior_in, uid_at, superior_at, table_at, null_tables, AreNullTables}
 use Rattle.active_segs.specs.Kept.{IsKept, map_of}
 use Rattle.active_segs.specs.Pairs.{Pairs, place_of}
 use Rattle.active_segs.specs.Pool.{first_of, size_of}
@@ -77,3 +79,67 @@ kept_new sizes used xs tables counts index four few is_used is_xs is_tables is_c
         grounded = ((λ u. 0), λ q u s h k. absurd (none-some u (sym (no_uid q) ∙ h)));
       };
     }
+
+-- ---- the tables of each pool
+
+of_these : (n : ℕ) (table : List Ptw) (rest : List (List Ptw)) (i : ℕ) → i < n → table_at (replicate n table ++ rest) i ≡ table
+of_these n table rest i lt = let size : length (replicate n table) ≡ n = length-replicate n table in get_or_append_left (replicate n table) rest [] i (omega arith) ∙ get_or-replicate n i table [] lt
+
+of_the_rest : (n : ℕ) (table : List Ptw) (rest : List (List Ptw)) (i : ℕ) → n ≤ i → table_at (replicate n table ++ rest) i ≡ table_at rest (i - n)
+of_the_rest n table rest i le = let size : length (replicate n table) ≡ n = length-replicate n table in get_or-append_right (replicate n table) rest i [] (omega arith) ∙ ap (λ (k : ℕ). table_at rest (i - k)) size
+
+module _ (sizes : List ℕ) (four : length sizes ≡ 4) where
+  abbrev blank : ℕ → List Ptw
+  blank words = replicate words Null
+
+  abbrev last : List (List Ptw)
+  last = replicate (size_of sizes 3) (blank 256)
+
+  abbrev last_two : List (List Ptw)
+  last_two = replicate (size_of sizes 2) (blank 64) ++ last
+
+  abbrev last_three : List (List Ptw)
+  last_three = replicate (size_of sizes 1) (blank 16) ++ last_two
+
+  regrouped : null_tables sizes ≡ replicate (size_of sizes 0) (blank 4) ++ last_three
+  regrouped =
+      append_assoc (replicate (size_of sizes 0) (blank 4) ++ replicate (size_of sizes 1) (blank 16)) (replicate (size_of sizes 2) (blank 64)) last
+      ∙ append_assoc (replicate (size_of sizes 0) (blank 4)) (replicate (size_of sizes 1) (blank 16)) last_two
+
+  past_first : (place : ℕ) → first_of sizes 1 ≤ place → table_at (null_tables sizes) place ≡ table_at last_three (place - first_of sizes 1)
+  past_first place le =
+      let a : first_of sizes 1 ≡ first_of sizes 0 + size_of sizes 0 = first_more sizes 0 (omega arith) in
+      let none : first_of sizes 0 ≡ 0 = refl in
+      let n : size_of sizes 0 ≡ first_of sizes 1 = omega arith in
+      ap (λ (tables : List (List Ptw)). table_at tables place) regrouped ∙ of_the_rest (size_of sizes 0) (blank 4) last_three place (omega arith) ∙ ap (λ (k : ℕ). table_at last_three (place - k)) n
+
+  past_second : (place : ℕ) → first_of sizes 2 ≤ place → table_at (null_tables sizes) place ≡ table_at last_two (place - first_of sizes 2)
+  past_second place le =
+      let b : first_of sizes 2 ≡ first_of sizes 1 + size_of sizes 1 = first_more sizes 1 (omega arith) in
+      let n : place - first_of sizes 1 - size_of sizes 1 ≡ place - first_of sizes 2 = omega arith in
+      past_first place (omega arith) ∙ of_the_rest (size_of sizes 1) (blank 16) last_two (place - first_of sizes 1) (omega arith) ∙ ap (table_at last_two) n
+
+  past_third : (place : ℕ) → first_of sizes 3 ≤ place → table_at (null_tables sizes) place ≡ table_at last (place - first_of sizes 3)
+  past_third place le =
+      let c : first_of sizes 3 ≡ first_of sizes 2 + size_of sizes 2 = first_more sizes 2 (omega arith) in
+      let n : place - first_of sizes 2 - size_of sizes 2 ≡ place - first_of sizes 3 = omega arith in
+      past_second place (omega arith) ∙ of_the_rest (size_of sizes 2) (blank 64) last (place - first_of sizes 2) (omega arith) ∙ ap (table_at last) n
+
+  pub are_null : AreNullTables sizes (null_tables sizes)
+  are_null zero place lt in_pool =
+      let to : place < first_of sizes 0 + size_of sizes 0 = in_pool.to in
+      let none : first_of sizes 0 ≡ 0 = refl in
+      ap (λ (tables : List (List Ptw)). table_at tables place) regrouped ∙ of_these (size_of sizes 0) (blank 4) last_three place (omega arith)
+  are_null (suc zero) place lt in_pool =
+      let from : first_of sizes 1 ≤ place = in_pool.from in
+      let to : place < first_of sizes 1 + size_of sizes 1 = in_pool.to in
+      past_first place from ∙ of_these (size_of sizes 1) (blank 16) last_two (place - first_of sizes 1) (omega arith)
+  are_null (suc (suc zero)) place lt in_pool =
+      let from : first_of sizes 2 ≤ place = in_pool.from in
+      let to : place < first_of sizes 2 + size_of sizes 2 = in_pool.to in
+      past_second place from ∙ of_these (size_of sizes 2) (blank 64) last (place - first_of sizes 2) (omega arith)
+  are_null (suc (suc (suc zero))) place lt in_pool =
+      let from : first_of sizes 3 ≤ place = in_pool.from in
+      let to : place < first_of sizes 3 + size_of sizes 3 = in_pool.to in
+      past_third place from ∙ get_or-replicate (size_of sizes 3) (place - first_of sizes 3) (blank 256) [] (omega arith)
+  are_null (suc (suc (suc (suc pool)))) place lt in_pool = absurd (omega arith)

@@ -124,14 +124,19 @@ marked_set sizes used xs place pool offset b o four size marked placed is =
 used_set : (xs : List (Option Entry)) (p : ℕ) (o : Option Entry) → p < length xs → count_by is_some (set xs p o) + cond {A = ℕ} (is_some (entry_at xs p)) 1 0 ≡ count_by is_some xs + cond (is_some o) 1 0
 used_set xs p o lt = sum_by-set (λ (x : Option Entry). cond (is_some x) 1 0) xs p o None lt
 
--- where a place is free the index has room
-pub index_has_room : (xs : List (Option Entry)) (index : Pairs) (p : ℕ) → IsIndexed xs index → p < length xs → entry_at xs p ≡ None → length index.pairs < index.room
-index_has_room xs index p indexed lt free =
+-- where a place is free not all are used
+pub not_all_used : (xs : List (Option Entry)) (p : ℕ) → p < length xs → entry_at xs p ≡ None → count_by is_some xs < length xs
+not_all_used xs p lt free =
     let e : Entry = record { uid = 0; superior = None } in
     let more = used_set xs p (Some e) lt in
     let zero_bit : cond {A = ℕ} (is_some (entry_at xs p)) 1 0 ≡ 0 = ap (λ (o : Option Entry). cond {A = ℕ} (is_some o) 1 0) free in
     let most : count_by is_some (set xs p (Some e)) ≤ length (set xs p (Some e)) = count_by-le-length is_some (set xs p (Some e)) in
-    let size : length (set xs p (Some e)) ≡ length xs = length-set xs p (Some e) in
+    let size : length (set xs p (Some e)) ≡ length xs = length-set xs p (Some e) in omega arith
+
+-- and the index has room
+pub index_has_room : (xs : List (Option Entry)) (index : Pairs) (p : ℕ) → IsIndexed xs index → p < length xs → entry_at xs p ≡ None → length index.pairs < index.room
+index_has_room xs index p indexed lt free =
+    let few : count_by is_some xs < length xs = not_all_used xs p lt free in
     let c : length index.pairs ≡ count_by is_some xs = indexed.count in let r : index.room ≡ length xs = indexed.room in omega arith
 
 pub index_lacks : (xs : List (Option Entry)) (index : Pairs) (uid : ℕ) → IsIndexed xs index → ((q : ℕ) → uid_at xs q ≢ Some uid) → place_of index.pairs uid ≡ None

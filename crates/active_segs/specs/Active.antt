@@ -1,9 +1,9 @@
 -- What a contract sees of an active segment table (Bensoussan, Clingen and Daley 1972; the pools are own).
-use Rattle.std.specs.Prelude.{◌≡◌, ◌≢◌, ℕ, ◌<◌, List, [], ◌++◌, length, replicate, Option, Some, None, IsSome, slice_index_or, slice_set, sum}
+use Rattle.std.specs.Prelude.{◌≡◌, ◌≢◌, ℕ, ◌+◌, ◌^◌, ◌<◌, List, [], ◌++◌, length, replicate, take, drop, count_by, Option, Some, None, IsSome, is_some, slice_index_or, slice_set, sum}
 use Rattle.page_table.specs.declared.Ptw.{Ptw}
 use Rattle.page_table.specs.declared.Ptw.TheVariants.{Null, Out, Here, Leaving}
 use Rattle.active_segs.specs.declared.Entry.{Entry}
-use Rattle.active_segs.specs.Pool.{size_of, IsInPool, HasPools}
+use Rattle.active_segs.specs.Pool.{first_of, size_of, IsInPool, HasPools}
 
 -- the sizes of the pools, how far each pool's hand is from its first place, what is active in each place, and the
 -- page table of each place
@@ -90,6 +90,14 @@ pub record IsLeastFree (s : ActiveSegs) (pool place : ℕ) : Type 0 where
 -- something is active in each place of the pool
 abbrev pub IsFull : ActiveSegs → ℕ → Type 0
 IsFull s pool = (q : ℕ) → IsInPool s.sizes pool q → IsSome (entry_at s.entries q)
+
+-- how many places of the pool are used
+abbrev pub used_in : ActiveSegs → ℕ → ℕ
+used_in s pool = count_by is_some (take (size_of s.sizes pool) (drop (first_of s.sizes pool) s.entries))
+
+-- each word is `Null` of 4 in the tables of the first pool, and of four times as many in those of each next one
+abbrev pub AreNullTables : List ℕ → List (List Ptw) → Type 0
+AreNullTables sizes tables = (pool place : ℕ) → pool < 4 → IsInPool sizes pool place → table_at tables place ≡ replicate (4 ^ (pool + 1)) Null
 
 -- ---- what the calls do
 

@@ -15,9 +15,9 @@
 ghost use Rattle.std.specs.Prelude.{◌≡◌, ◌≢◌, ◌<◌, ◌≤◌, ◌↔◌, ℕ, Some, None, length, sum, All, IsNone, IfOk, IfSome};
 ghost use Rattle.std.specs.Option.{ForSome};
 ghost use Rattle.std.specs.Borrow.{sem};
-ghost use Rattle.active_segs.specs.Active.{entry_at, uid_at, table_at, no_segments, activated, deactivated, HasShape, IsActive, HasNoInferior, IsAway, IsTree, IsLeastFree, IsFull};
+ghost use Rattle.active_segs.specs.Active.{entry_at, uid_at, table_at, used_in, no_segments, activated, deactivated, HasShape, IsActive, HasNoInferior, IsAway, IsTree, IsLeastFree, IsFull, AreNullTables};
 ghost use Rattle.active_segs.specs.Kept.{IsActiveAt};
-ghost use Rattle.active_segs.specs.Pool.{IsInPool};
+ghost use Rattle.active_segs.specs.Pool.{size_of, IsInPool};
 ghost use Rattle.active_segs.specs.Victim.{first_off_chain, hand_moved, victim_of, IsVictim, IsOffChain, HasOneOffChain, HasItsSuperiors};
 
 mod counts;
@@ -99,7 +99,8 @@ impl Ast {
     /// Answers `NoMemory` where the memory for all of it can't be had.
     pub fn new(alloc: Global, pools: [u32; 4]) -> Result<Ast, NoMemory>
         requires { sum pools ≤ 1024 }
-        ensures { IfOk result (λ ast. ast ≡ no_segments pools) }
+        ensures empty { IfOk result (λ ast. ast ≡ no_segments pools) }
+        ensures tables { IfOk result (λ ast. AreNullTables pools ast.tables) }
     {
         let total = pools::total(&pools) as usize;
         let used = pools::no_marks(alloc, &pools)?;
@@ -133,6 +134,7 @@ impl Ast {
         requires { pool < 4 }
         ensures least { IfSome result (λ place. IsLeastFree self.now pool place) }
         ensures within { IfSome result (λ place. place < length self.now.entries) }
+        ensures room { IfSome result (λ _. used_in self.now pool < size_of self.now.sizes pool) }
         ensures full { IsNone result ↔ IsFull self.now pool }
         ensures tree { IsTree self.now.entries }
         ensures shape { HasShape self.now }

@@ -1,12 +1,12 @@
 use Rattle.std.proofs.Common.{◌≡◌, ◌<◌, ◌+◌, ◌≤◌, sum, List, [], Bool, true, length, sym, ap, subst, ◌∙◌, arith, is_some, All}
 use Rattle.std.proofs.lemmas.List.{get_or_default}
 use Rattle.bitmap.specs.Bitmap.{IsLeastFree as IsFirstFree}
-use Rattle.active_segs.specs.Active.{ActiveSegs, IsLeastFree, IsFull}
+use Rattle.active_segs.specs.Active.{ActiveSegs, IsLeastFree, IsFull, used_in}
 use Rattle.std.proofs.lemmas.Bool.{true≢false}
 use Rattle.active_segs.specs.Pool.{HasPools, first_of, size_of}
 use Rattle.active_segs.proofs.PlaceLemmas.{pool_within}
 use Rattle.active_segs.specs.Kept.{map_of}
-use Rattle.active_segs.proofs.AstLemmas.{full_since_marked, least_since_marked, not_full}
+use Rattle.active_segs.proofs.AstLemmas.{full_since_marked, least_since_marked, not_full, room_since_free}
 use Rattle.active_segs.proofs.Ast.free_in.Goals as goal
 
 pub returns-in_err-offset-clause-full : goal.returns-in_err-offset-clause-full
@@ -49,3 +49,12 @@ returns-clause-within c =
     let is_first : c.first_of.result ≡ first_of c.self.inside.sizes c.args.pool = c.first_of.ensures.first in
     let within : c.first_of.result + c.in_ok-offset.offset < length c.self.inside.entries.items = omega arith in
     subst (λ (v : ActiveSegs). c.first_of.result + c.in_ok-offset.offset < length v.entries) c.self.view_is within
+
+pub returns-clause-room : goal.returns-clause-room
+returns-clause-room c =
+    let s : ActiveSegs = record { sizes = c.self.inside.sizes; hands = c.self.inside.hands; entries = c.self.inside.entries.items; tables = c.self.inside.tables.items } in
+    let maps : length c.self.inside.used.items ≡ 4 = c.self.invariant.marked.maps in
+    let map : c.index.result.now ≡ map_of c.self.inside.used.items c.args.pool = (let lt : c.args.pool < length c.self.inside.used.items = (let pool : c.args.pool < 4 = c.requires in omega arith) in c.index.ensures ∙ get_or_default _ _ _ [] lt) in
+    let first : IsFirstFree (map_of c.self.inside.used.items c.args.pool) c.in_ok-offset.offset = subst (λ (m : List Bool). IsFirstFree m c.in_ok-offset.offset) map c.in_ok-offset.ensures.some in
+    let least : IsLeastFree s c.args.pool (first_of c.self.inside.sizes c.args.pool + c.in_ok-offset.offset) = least_since_marked s c.self.inside.used.items c.args.pool c.in_ok-offset.offset c.requires c.self.invariant.marked first in
+    subst (λ (v : ActiveSegs). used_in v c.args.pool < size_of v.sizes c.args.pool) c.self.view_is (room_since_free s c.args.pool _ c.self.invariant.pools c.self.invariant.entry_count c.requires least)
