@@ -7,10 +7,10 @@ use Rattle.bitmap.specs.Bitmap.{in_use, IsLeastFree as IsFirstFree}
 use Rattle.page_table.specs.declared.Ptw.{Ptw}
 use Rattle.active_segs.specs.declared.Entry.{Entry}
 use Rattle.active_segs.specs.Active.{ActiveSegs, entry_at, superior_in, uid_at, IsActive, HasNoInferior, IsTree, IsLeastFree, IsFull, used_in}
-use Rattle.active_segs.specs.Kept.{IsKept, IsMarked, IsCounted, IsIndexed, map_of, map_set, counted_up, counted_down, place_of_superior, inferiors_of, IsActiveAt}
+use Rattle.active_segs.specs.Kept.{IsKept, IsMarked, AreNoted, IsIndexed, map_of, map_set, noted, place_of_superior, IsActiveAt}
 use Rattle.active_segs.specs.Pairs.{Pairs, place_of, SetsPlace}
 use Rattle.active_segs.specs.Pool.{HasPools, first_of, size_of, IsInPool, IsPlaced}
-use Rattle.active_segs.proofs.CountLemmas.{IsSuperiorPlace, superior_placed, counted_activated, counted_deactivated, some_count}
+use Rattle.active_segs.proofs.InferiorLemmas.{IsSuperiorPlace, superior_placed, superior_of_active, noted_activated, noted_deactivated}
 use Rattle.active_segs.specs.Victim.{is_inferior_of, leaf_below, leaf_of, victim_of, off_chain, hand_of, round_pool, first_off_chain, StandsFor, IsVictim, HasOneOffChain}
 use Rattle.active_segs.proofs.DescentLemmas.{round_reaches, round_found, off_is_used, find_passes}
 use Rattle.active_segs.proofs.EntryLemmas.{tree_activated, tree_deactivated, used_within}
@@ -22,95 +22,58 @@ pub searched_within : (xs : List (Option Entry)) (index : Pairs) (uid : ℕ) (r 
 searched_within xs index uid None indexed is = tt
 searched_within xs index uid (Some p) indexed is = used_within xs p uid ((indexed.places p uid).0 (sym is))
 
--- ---- the counts may go up and down
-
-pub may_count_up : (xs : List (Option Entry)) (counts : List ℕ) (superior place : Option ℕ) → IsCounted xs counts → length counts ≡ length xs → length xs ≤ 1024 → IsSuperiorPlace xs superior place → IfSome place (λ p. (p < length counts) × (get_or counts p 0 ≤ 1024))
-may_count_up xs counts None place counted size few placed = subst (λ (o : Option ℕ). IfSome o (λ p. (p < length counts) × (get_or counts p 0 ≤ 1024))) (sym placed) tt
-may_count_up xs counts (Some s) place counted size few (r, is, active) =
-    let within : r < length xs = used_within xs r s active in
-    let count : get_or counts r 0 ≡ inferiors_of xs s = counted.counted r s active in
-    let most : inferiors_of xs s ≤ length xs = count_by-le-length (is_inferior_of s) xs in
-    let both : (r < length counts) × (get_or counts r 0 ≤ 1024) = (omega arith, omega arith) in
-    subst (λ (o : Option ℕ). IfSome o (λ p. (p < length counts) × (get_or counts p 0 ≤ 1024))) (sym is) both
-
-pub may_count_down : (xs : List (Option Entry)) (counts : List ℕ) (p : ℕ) (e : Entry) (superior place : Option ℕ) → IsCounted xs counts → length counts ≡ length xs → entry_at xs p ≡ Some e → e.superior ≡ superior → IsSuperiorPlace xs superior place → IfSome place (λ q. (q < length counts) × (0 < get_or counts q 0))
-may_count_down xs counts p e None place counted size is is_superior placed = subst (λ (o : Option ℕ). IfSome o (λ q. (q < length counts) × (0 < get_or counts q 0))) (sym placed) tt
-may_count_down xs counts p e (Some s) place counted size is is_superior (r, at, active) =
-    let within : r < length xs = used_within xs r s active in
-    let count : get_or counts r 0 ≡ inferiors_of xs s = counted.counted r s active in
-    let some : 0 < inferiors_of xs s = some_count xs s p (ap superior_in is ∙ is_superior) in
-    let both : (r < length counts) × (0 < get_or counts r 0) = (omega arith, omega arith) in
-    subst (λ (o : Option ℕ). IfSome o (λ q. (q < length counts) × (0 < get_or counts q 0))) (sym at) both
-
--- the superior of an active segment has a place
-pub superior_of_active : (xs : List (Option Entry)) (index : Pairs) (p : ℕ) (e : Entry) → IsIndexed xs index → IsTree xs → entry_at xs p ≡ Some e → IsSuperiorPlace xs e.superior (place_of_superior index.pairs e.superior)
-superior_of_active xs index p e indexed tree is = superior_placed xs index indexed e.superior (λ s h. tree.superiors p s (ap superior_in is ∙ h))
-
 -- ---- the calls
 
-module _ (sizes hands : List ℕ) (used : List (List Bool)) (xs : List (Option Entry)) (tables : List (List Ptw)) (counts : List ℕ) (index : Pairs) (kept : IsKept sizes hands used xs tables counts index) where
-  pub kept_activated : (place uid : ℕ) (superior : Option ℕ) (pool offset : ℕ) (used' : List (List Bool)) (counts' : List ℕ) (index' : Pairs) (above : Option ℕ)
+module _ (sizes hands : List ℕ) (used : List (List Bool)) (xs : List (Option Entry)) (tables : List (List Ptw)) (maps : List (List Bool)) (index : Pairs) (kept : IsKept sizes hands used xs tables maps index) where
+  pub kept_activated : (place uid : ℕ) (superior : Option ℕ) (pool offset : ℕ) (used' maps' : List (List Bool)) (index' : Pairs) (above : Option ℕ)
       → place < length xs → entry_at xs place ≡ None → ((q : ℕ) → uid_at xs q ≢ Some uid) → ((s : ℕ) → superior ≡ Some s → IsActive xs s)
-      → IsPlaced sizes place pool offset → above ≡ place_of_superior index.pairs superior → used' ≡ map_set used pool offset true → counts' ≡ counted_up counts above
+      → IsPlaced sizes place pool offset → above ≡ place_of_superior index.pairs superior → used' ≡ map_set used pool offset true → maps' ≡ noted maps above place false
       → SetsPlace index.pairs index'.pairs uid (Some place) → length index'.pairs ≡ length index.pairs + 1 → index'.room ≡ index.room
-      → IsKept sizes hands used' (set xs place (Some (record { uid = uid; superior = superior }))) tables counts' index'
-  kept_activated place uid superior pool offset used' counts' index' above lt free inactive active placed is_above is_used is_counts sets count room =
+      → IsKept sizes hands used' (set xs place (Some (record { uid = uid; superior = superior }))) tables maps' index'
+  kept_activated place uid superior pool offset used' counts' index' above lt free inactive active placed is_above is_used is_maps sets count room =
       let e : Entry = record { uid = uid; superior = superior } in
       let pools : HasPools sizes hands = kept.pools in
       let entry_count : length xs ≡ sum sizes = kept.entry_count in
-      let inferior_count : length counts ≡ sum sizes = kept.inferior_count in
       let at : IsSuperiorPlace xs superior above = subst (IsSuperiorPlace xs superior) (sym is_above) (superior_placed xs index kept.indexed superior active) in
       record {
         pools = pools;
         entry_count = length-set xs place (Some e) ∙ entry_count;
         table_count = kept.table_count;
-        inferior_count = ap length is_counts ∙ length_up counts above ∙ inferior_count;
         marked = subst (λ (u : List (List Bool)). IsMarked sizes u (set xs place (Some e))) (sym is_used) (marked_set sizes used xs place pool offset true (Some e) pools.four entry_count kept.marked placed refl);
-        counted = subst (IsCounted (set xs place (Some e))) (sym is_counts) (counted_activated xs counts (inferior_count ∙ sym entry_count) kept.counted kept.tree place uid lt free inactive superior above at);
+        inferior_maps = subst (AreNoted (set xs place (Some e))) (sym is_maps) (noted_activated xs maps kept.inferior_maps kept.tree place uid lt free inactive superior above at);
         indexed = indexed_activated xs index index' place lt kept.indexed room e free inactive sets count;
         tree = tree_activated xs place uid superior lt free inactive active kept.tree;
       }
-    where
-      length_up : (counts : List ℕ) (above : Option ℕ) → length (counted_up counts above) ≡ length counts
-      length_up counts None = refl
-      length_up counts (Some r) = length-set counts r (get_or counts r 0 + 1)
 
-  pub kept_cleared : (place : ℕ) (table : List Ptw) → IsKept sizes hands used xs (set tables place table) counts index
+  pub kept_cleared : (place : ℕ) (table : List Ptw) → IsKept sizes hands used xs (set tables place table) maps index
   kept_cleared place table = record {
     pools = kept.pools;
     entry_count = kept.entry_count;
     table_count = length-set tables place table ∙ kept.table_count;
-    inferior_count = kept.inferior_count;
     marked = kept.marked;
-    counted = kept.counted;
+    inferior_maps = kept.inferior_maps;
     indexed = kept.indexed;
     tree = kept.tree;
   }
 
-  pub kept_deactivated : (place : ℕ) (e : Entry) (pool offset : ℕ) (used' : List (List Bool)) (counts' : List ℕ) (index' : Pairs) (above : Option ℕ) (table : List Ptw)
+  pub kept_deactivated : (place : ℕ) (e : Entry) (pool offset : ℕ) (used' maps' : List (List Bool)) (index' : Pairs) (above : Option ℕ) (table : List Ptw)
       → place < length xs → entry_at xs place ≡ Some e → HasNoInferior xs place
-      → IsPlaced sizes place pool offset → above ≡ place_of_superior index.pairs e.superior → used' ≡ map_set used pool offset false → counts' ≡ counted_down counts above
+      → IsPlaced sizes place pool offset → above ≡ place_of_superior index.pairs e.superior → used' ≡ map_set used pool offset false → maps' ≡ noted maps above place true
       → SetsPlace index.pairs index'.pairs e.uid None → length index'.pairs + 1 ≡ length index.pairs → index'.room ≡ index.room
-      → IsKept sizes hands used' (set xs place None) (set tables place table) counts' index'
-  kept_deactivated place e pool offset used' counts' index' above table lt is leaf placed is_above is_used is_counts sets count room =
+      → IsKept sizes hands used' (set xs place None) (set tables place table) maps' index'
+  kept_deactivated place e pool offset used' counts' index' above table lt is leaf placed is_above is_used is_maps sets count room =
       let pools : HasPools sizes hands = kept.pools in
       let entry_count : length xs ≡ sum sizes = kept.entry_count in
-      let inferior_count : length counts ≡ sum sizes = kept.inferior_count in
       let at : IsSuperiorPlace xs e.superior above = subst (IsSuperiorPlace xs e.superior) (sym is_above) (superior_of_active xs index place e kept.indexed kept.tree is) in
       record {
         pools = pools;
         entry_count = length-set xs place None ∙ entry_count;
         table_count = length-set tables place table ∙ kept.table_count;
-        inferior_count = ap length is_counts ∙ length_down counts above ∙ inferior_count;
         marked = subst (λ (u : List (List Bool)). IsMarked sizes u (set xs place None)) (sym is_used) (marked_set sizes used xs place pool offset false None pools.four entry_count kept.marked placed refl);
-        counted = subst (IsCounted (set xs place None)) (sym is_counts) (counted_deactivated xs counts (inferior_count ∙ sym entry_count) kept.counted kept.tree place e lt is leaf e.superior above refl at);
+        inferior_maps = subst (AreNoted (set xs place None)) (sym is_maps) (noted_deactivated xs maps kept.inferior_maps kept.tree place lt leaf e.superior above (ap superior_in is) at);
         indexed = indexed_deactivated xs index index' place lt kept.indexed room e is kept.tree.once sets count;
         tree = tree_deactivated xs place lt leaf kept.tree;
       }
-    where
-      length_down : (counts : List ℕ) (above : Option ℕ) → length (counted_down counts above) ≡ length counts
-      length_down counts None = refl
-      length_down counts (Some r) = length-set counts r (get_or counts r 0 - 1)
 
 -- ---- the free places of a pool
 

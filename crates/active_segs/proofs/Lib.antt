@@ -1,7 +1,7 @@
 pub mod AstLemmas
-pub mod CountLemmas
 pub mod DescentLemmas
 pub mod EntryLemmas
+pub mod InferiorLemmas
 pub mod LeafLemmas
 pub mod NewLemmas
 pub mod PairLemmas

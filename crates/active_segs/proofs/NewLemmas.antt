@@ -1,6 +1,6 @@
 -- A new table keeps what every table keeps.
-use Rattle.std.proofs.Common.{◌≡◌, ℕ, zero, suc, ◌+◌, ◌-◌, ◌<◌, ◌≤◌, Bool, false, cond, List, [], ◌∷◌, ◌++◌, length, Option, None, is_some, refl, sym, ap, ◌∙◌, arith, get_or, map, replicate, sum, count_by, inl, inr}
-use Rattle.std.proofs.lemmas.Bool.{cases_lt}
+use Rattle.std.proofs.Common.{◌≡◌, ℕ, zero, suc, ◌+◌, ◌-◌, ◌<◌, ◌≤◌, Bool, true, false, cond, List, [], ◌∷◌, ◌++◌, length, Option, None, is_some, refl, sym, ap, ◌∙◌, arith, get_or, map, replicate, sum, count_by, inl, inr}
+use Rattle.std.proofs.lemmas.Bool.{cases_lt, both_ways}
 use Rattle.std.proofs.lemmas.List.{length-replicate, length-append, length-map, get_or-replicate, get_or_past, get_or-map, get_or_append_left, append_assoc, take_all}
 use Rattle.std.proofs.Math.Seq.{get_or-append_right}
 use Rattle.std.proofs.lemmas.List.Sums.{sum_by-cons}
@@ -45,28 +45,33 @@ as_many_tables sizes four = let all = four_sizes sizes four in simp (length-appe
 new_map : (sizes : List ℕ) (pool : ℕ) → pool < length sizes → map_of (map (λ size. replicate size false) sizes) pool ≡ replicate (size_of sizes pool) false
 new_map sizes pool lt = get_or-map (λ size. replicate size false) sizes pool 0 [] lt
 
-pub kept_new : (sizes : List ℕ) (used : List (List Bool)) (xs : List (Option Entry)) (tables : List (List Ptw)) (counts : List ℕ) (index : Pairs)
+pub kept_new : (sizes : List ℕ) (used : List (List Bool)) (xs : List (Option Entry)) (tables : List (List Ptw)) (maps : List (List Bool)) (index : Pairs)
     → length sizes ≡ 4 → sum sizes ≤ 1024 → used ≡ map (λ size. replicate size false) sizes → xs ≡ replicate (sum sizes) None → tables ≡ null_tables sizes
-    → counts ≡ replicate (sum sizes) 0 → index.pairs ≡ [] → index.room ≡ sum sizes
-    → IsKept sizes (0 ∷ 0 ∷ 0 ∷ 0 ∷ []) used xs tables counts index
-kept_new sizes used xs tables counts index four few is_used is_xs is_tables is_counts empty room =
+    → maps ≡ replicate (sum sizes) (replicate (sum sizes) true) → index.pairs ≡ [] → index.room ≡ sum sizes
+    → IsKept sizes (0 ∷ 0 ∷ 0 ∷ 0 ∷ []) used xs tables maps index
+kept_new sizes used xs tables maps index four few is_used is_xs is_tables is_maps empty room =
     let free : (q : ℕ) → entry_at xs q ≡ None = λ q. ap (λ (l : List (Option Entry)). entry_at l q) is_xs ∙ vacant_at (sum sizes) q in
     let no_uid : (q : ℕ) → uid_at xs q ≡ None = λ q. ap uid_in (free q) in
     let no_superior : (q : ℕ) → superior_at xs q ≡ None = λ q. ap superior_in (free q) in
-    let maps : (pool : ℕ) → pool < 4 → map_of used pool ≡ replicate (size_of sizes pool) false = λ pool lt. ap (λ (l : List (List Bool)). map_of l pool) is_used ∙ new_map sizes pool (omega arith) in
+    let size : length xs ≡ sum sizes = ap length is_xs ∙ length-replicate (sum sizes) None in
+    let full : (place : ℕ) → place < sum sizes → map_of maps place ≡ replicate (sum sizes) true = λ place lt. ap (λ (l : List (List Bool)). map_of l place) is_maps ∙ get_or-replicate (sum sizes) place (replicate (sum sizes) true) [] lt in
+    let marks : (pool : ℕ) → pool < 4 → map_of used pool ≡ replicate (size_of sizes pool) false = λ pool lt. ap (λ (l : List (List Bool)). map_of l pool) is_used ∙ new_map sizes pool (omega arith) in
     record {
       pools = record { four = four; few = few; hand_count = refl; inside = λ pool lt some. (let at : get_or {A = ℕ} (0 ∷ 0 ∷ 0 ∷ 0 ∷ []) pool 0 ≡ 0 = zero_at 4 pool in omega arith) };
       entry_count = ap length is_xs ∙ length-replicate (sum sizes) None;
       table_count = ap length is_tables ∙ as_many_tables sizes four;
-      inferior_count = ap length is_counts ∙ length-replicate (sum sizes) 0;
       marked = record {
         maps = ap length is_used ∙ length-map sizes (λ size. replicate size false) ∙ four;
-        as_long = λ pool lt. ap length (maps pool lt) ∙ length-replicate (size_of sizes pool) false;
-        flags = λ pool offset lt within. ap (λ (m : List Bool). in_use m offset) (maps pool lt) ∙ get_or-replicate (size_of sizes pool) offset false false within ∙ sym (ap is_some (free (first_of sizes pool + offset)));
+        as_long = λ pool lt. ap length (marks pool lt) ∙ length-replicate (size_of sizes pool) false;
+        flags = λ pool offset lt within. ap (λ (m : List Bool). in_use m offset) (marks pool lt) ∙ get_or-replicate (size_of sizes pool) offset false false within ∙ sym (ap is_some (free (first_of sizes pool + offset)));
       };
-      counted = record {
-        counted = λ q uid h. absurd (none-some uid (sym (no_uid q) ∙ h));
-        none = λ q h. ap (λ (l : List ℕ). get_or l q 0) is_counts ∙ zero_at (sum sizes) q;
+      inferior_maps = record {
+        maps = ap length is_maps ∙ length-replicate (sum sizes) (replicate (sum sizes) true) ∙ sym size;
+        as_long = λ place lt. ap length (full place (omega arith)) ∙ length-replicate (sum sizes) true ∙ sym size;
+        free = λ place q lt lt_q. (
+          λ h. absurd (both_ways _ h (ap (λ (m : List Bool). in_use m q) (full place (omega arith)) ∙ get_or-replicate (sum sizes) q true false (omega arith))),
+          λ h. absurd (none-some h.0 (sym (no_uid place) ∙ h.1)),
+        );
       };
       indexed = record {
         places = λ q uid. (λ h. absurd (none-some q (sym (ap (λ (l : List (ℕ × ℕ)). place_of l uid) empty) ∙ h)), λ h. absurd (none-some uid (sym (no_uid q) ∙ h)));

@@ -6,10 +6,12 @@
 //! Organick 1972). The four pools, the order of search and the choice of a victim are own.
 //!
 //! Costs: `new` takes all memory, once. `search` halves a sorted list of uids: at most 11 looks at 1024 segments.
-//! `free_in` reads two words of a map of bits. `activate` and `deactivate` do both, move a part of the list of
-//! uids by one place, and `deactivate` writes each word of one page table. `victim` and `next_victim` look at the
-//! places of one pool from its hand on, each uid against the chain; then, for each step down to the leaf, they read
-//! one count, and only where it isn't 0 do they go over the table for the least inferior. All others cost one look.
+//! `free_in` looks for the first free bit of a map of the pool's places. `activate` and `deactivate` search, change a
+//! bit of two maps and move a part of the list of uids by one place, and `deactivate` writes each word of one page
+//! table. `victim` and `next_victim` look at the places of one pool from its hand on, each uid against the chain; then
+//! each step down to the leaf looks for the first free bit of one map of all places: 16 words at 1024 places, of which
+//! two are read. These maps, one for each place, are what `new` spends most of its time on: it writes each bit of them,
+//! as many as the square of the places. All others cost one look.
 #![tactic(auto)]
 
 ghost use Rattle.std.specs.Prelude.{◌≡◌, ◌≢◌, ◌<◌, ◌≤◌, ◌↔◌, ℕ, Some, None, length, sum, All, IsNone, IfOk, IfSome};
@@ -20,8 +22,8 @@ ghost use Rattle.active_segs.specs.Kept.{IsActiveAt};
 ghost use Rattle.active_segs.specs.Pool.{size_of, IsInPool};
 ghost use Rattle.active_segs.specs.Victim.{first_off_chain, hand_moved, victim_of, IsVictim, IsOffChain, HasOneOffChain, HasItsSuperiors};
 
-mod counts;
 mod index;
+mod inferiors;
 mod pools;
 mod victim;
 
@@ -63,7 +65,7 @@ pub struct Ast {
     used: Vec<Bitmap>,
     entries: Vec<Option<Entry>>,
     tables: Vec<PageTable>,
-    inferiors: Vec<u32>,
+    inferiors: Vec<Bitmap>,
     index: Index,
 }
 
@@ -102,12 +104,12 @@ impl Ast {
         ensures empty { IfOk result (λ ast. ast ≡ no_segments pools) }
         ensures tables { IfOk result (λ ast. AreNullTables pools ast.tables) }
     {
-        let total = pools::total(&pools) as usize;
+        let total = pools::total(&pools);
         let used = pools::no_marks(alloc, &pools)?;
-        let entries = pools::no_entries(alloc, total)?;
+        let entries = pools::no_entries(alloc, total as usize)?;
         let tables = pools::null_tables(alloc, &pools)?;
-        let inferiors = vec![in alloc; 0u32; total]?;
-        let index = Index::new(alloc, total)?;
+        let inferiors = inferiors::no_inferiors(alloc, total)?;
+        let index = Index::new(alloc, total as usize)?;
         Ok(Ast {
             sizes: pools,
             hands: [0; 4],
@@ -207,8 +209,8 @@ impl Ast {
         ensures tree { IsTree self.new.entries }
         ensures shape { HasShape self.new }
     {
-        let above = counts::place_of_superior(&self.index, superior);
-        counts::count_up(&mut self.inferiors, above);
+        let above = inferiors::place_of_superior(&self.index, superior);
+        inferiors::note(&mut self.inferiors, above, place);
         let (pool, offset) = pools::pool_of(&self.sizes, place);
         pools::mark(&mut self.used, pool, offset);
         self.index.insert(uid, place);
@@ -229,8 +231,8 @@ impl Ast {
         let Some(entry) = self.entries[place as usize] else {
             return;
         };
-        let above = counts::place_of_superior(&self.index, entry.superior);
-        counts::count_down(&mut self.inferiors, above);
+        let above = inferiors::place_of_superior(&self.index, entry.superior);
+        inferiors::forget(&mut self.inferiors, above, place);
         let (pool, offset) = pools::pool_of(&self.sizes, place);
         pools::unmark(&mut self.used, pool, offset);
         self.index.remove(entry.uid);

@@ -2,11 +2,11 @@
 
 ghost use Rattle.std.specs.Prelude.{◌≡◌, ◌<◌, ◌≤◌, ◌++◌, Some, IsSome, length};
 ghost use Rattle.active_segs.specs.Active.{IsGrounded};
-ghost use Rattle.active_segs.specs.Kept.{IsCounted, IsActiveAt};
+ghost use Rattle.active_segs.specs.Kept.{AreNoted, IsActiveAt};
 ghost use Rattle.active_segs.specs.Victim.{leaf_below, off_chain, first_of_places, offset_after, places_from, StandsFor};
 
 use crate::Entry;
-use crate::counts::least_inferior;
+use bitmap::Bitmap;
 
 /// Whether something is active here that isn't in the chain.
 fn is_off_chain(entry: &Option<Entry>, chain: &[u32]) -> bool
@@ -54,10 +54,8 @@ pub(crate) fn find_from_hand(
 }
 
 /// The leaf that takes a place's stead: while a segment has an active inferior, the least one takes its stead.
-pub(crate) fn leaf_below(entries: &[Option<Entry>], inferiors: &[u32], found: u32) -> u32
-    requires counted { IsCounted entries.now inferiors.now }
-    requires size { length inferiors.now ≡ length entries.now }
-    requires few { length entries.now ≤ 1024 }
+pub(crate) fn leaf_below(entries: &[Option<Entry>], inferiors: &[Bitmap], found: u32) -> u32
+    requires noted { AreNoted entries.now inferiors.now }
     requires grounded { IsGrounded entries.now }
     requires active { IsActiveAt entries.now found }
     ensures stands { StandsFor entries.now found result }
@@ -65,7 +63,7 @@ pub(crate) fn leaf_below(entries: &[Option<Entry>], inferiors: &[u32], found: u3
 {
     let mut place = found;
     for _step in 0..entries.len() {
-        match least_inferior(entries, inferiors, place) {
+        match inferiors[place as usize].first_free() {
             Some(inferior) => place = inferior,
             None => return place,
         }

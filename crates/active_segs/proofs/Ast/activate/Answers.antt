@@ -1,18 +1,26 @@
 use Rattle.std.proofs.Common.{◌≡◌, ◌≢◌, ◌<◌, ◌≤◌, ℕ, Some, None, length, sum, sym, subst, arith}
 use Rattle.active_segs.specs.Active.{ActiveSegs, entry_at, uid_at, IsActive}
-use Rattle.active_segs.proofs.AstLemmas.{may_count_up, kept_activated}
-use Rattle.active_segs.proofs.CountLemmas.{IsSuperiorPlace, superior_placed}
+use Rattle.active_segs.proofs.AstLemmas.{kept_activated}
+use Rattle.active_segs.proofs.InferiorLemmas.{IsSuperiorPlace, superior_placed, above_within, may_add}
 use Rattle.active_segs.proofs.PlaceLemmas.{index_has_room, index_lacks}
 use Rattle.active_segs.proofs.Ast.activate.Goals as goal
 
-pub count_up-requires : goal.count_up-requires
-count_up-requires c =
+pub note-requires-clause-above : goal.note-requires-clause-above
+note-requires-clause-above c =
     let active : (s : ℕ) → c.args.superior ≡ Some s → IsActive c.self.inside.entries.items s = λ s h. subst (λ (v : ActiveSegs). IsActive v.entries s) (sym c.self.view_is) (c.requires.superior s h) in
-    let placed : IsSuperiorPlace c.self.inside.entries.items c.args.superior c.place_of_superior-above.result = subst (IsSuperiorPlace c.self.inside.entries.items c.args.superior) (sym c.place_of_superior-above.ensures) (superior_placed _ _ c.self.invariant.indexed c.args.superior active) in
-    let entries : length c.self.inside.entries.items ≡ sum c.self.inside.sizes = c.self.invariant.entry_count in
-    let counts : length c.self.inside.inferiors.items ≡ sum c.self.inside.sizes = c.self.invariant.inferior_count in
-    let few : sum c.self.inside.sizes ≤ 1024 = c.self.invariant.pools.few in
-    may_count_up c.self.inside.entries.items c.self.inside.inferiors.items c.args.superior c.place_of_superior-above.result c.self.invariant.counted (omega arith) (omega arith) placed
+    let placed : IsSuperiorPlace c.self.inside.entries.items c.args.superior c.place_of_superior-above.result =
+        subst (IsSuperiorPlace c.self.inside.entries.items c.args.superior) (sym c.place_of_superior-above.ensures) (superior_placed _ _ c.self.invariant.indexed c.args.superior active) in
+    above_within c.self.inside.entries.items c.self.inside.inferiors.items c.self.invariant.inferior_maps c.args.superior c.place_of_superior-above.result placed
+
+pub note-requires-clause-other : goal.note-requires-clause-other
+note-requires-clause-other c =
+    let active : (s : ℕ) → c.args.superior ≡ Some s → IsActive c.self.inside.entries.items s = λ s h. subst (λ (v : ActiveSegs). IsActive v.entries s) (sym c.self.view_is) (c.requires.superior s h) in
+    let placed : IsSuperiorPlace c.self.inside.entries.items c.args.superior c.place_of_superior-above.result =
+        subst (IsSuperiorPlace c.self.inside.entries.items c.args.superior) (sym c.place_of_superior-above.ensures) (superior_placed _ _ c.self.invariant.indexed c.args.superior active) in
+    may_add c.self.inside.entries.items c.self.inside.inferiors.items c.self.invariant.inferior_maps c.args.superior c.place_of_superior-above.result c.args.place
+        (subst (λ (v : ActiveSegs). c.args.place < length v.entries) (sym c.self.view_is) c.requires.place)
+        (subst (λ (v : ActiveSegs). entry_at v.entries c.args.place ≡ None) (sym c.self.view_is) c.requires.free)
+        placed
 
 pub insert-requires-clause-room : goal.insert-requires-clause-room
 insert-requires-clause-room c =
@@ -28,12 +36,12 @@ insert-requires-clause-absent c =
 pub invariant_of-self : goal.invariant_of-self
 invariant_of-self c =
     kept_activated c.self.inside.sizes c.self.inside.hands c.self.inside.used.items c.self.inside.entries.items c.self.inside.tables.items c.self.inside.inferiors.items c.self.inside.index c.self.invariant
-    c.args.place c.args.uid c.args.superior c.pool_of-pool.result.0 c.pool_of-pool.result.1 c.mark.new.used.items c.count_up.new.counts.items c.insert.new.self c.place_of_superior-above.result
+    c.args.place c.args.uid c.args.superior c.pool_of-pool.result.0 c.pool_of-pool.result.1 c.mark.new.used.items c.note.new.inferiors.items c.insert.new.self c.place_of_superior-above.result
     (subst (λ (v : ActiveSegs). c.args.place < length v.entries) (sym c.self.view_is) c.requires.place)
     (subst (λ (v : ActiveSegs). entry_at v.entries c.args.place ≡ None) (sym c.self.view_is) c.requires.free)
     (subst (λ (v : ActiveSegs). (q : ℕ) → uid_at v.entries q ≢ Some c.args.uid) (sym c.self.view_is) c.requires.inactive)
     (λ s h. subst (λ (v : ActiveSegs). IsActive v.entries s) (sym c.self.view_is) (c.requires.superior s h))
-    c.pool_of-pool.ensures c.place_of_superior-above.ensures c.mark.ensures c.count_up.ensures c.insert.ensures.sets c.insert.ensures.count c.insert.ensures.room
+    c.pool_of-pool.ensures c.place_of_superior-above.ensures c.mark.ensures c.note.ensures c.insert.ensures.sets c.insert.ensures.count c.insert.ensures.room
 
 pub returns-clause-tree : goal.returns-clause-tree
 returns-clause-tree c = (invariant_of-self c).tree

@@ -1,0 +1,69 @@
+//! Where the active inferiors of each active segment are.
+//!
+//! Each place has a map of all places, in which the places of its segment's inferiors are free and all others are in
+//! use. So the least free number of a map is the place of the least inferior.
+
+ghost use Rattle.std.specs.Prelude.{◌≡◌, ◌<◌, true, false, length, replicate, IfOk, IfSome};
+ghost use Rattle.bitmap.specs.Bitmap.{in_use};
+ghost use Rattle.active_segs.specs.Kept.{map_of, noted, place_of_superior};
+
+use crate::NoMemory;
+use crate::index::Index;
+use bitmap::Bitmap;
+use std::alloc::Global;
+
+/// A map for each of so many places, none of which has an inferior.
+pub(crate) fn no_inferiors(alloc: Global, places: u32) -> Result<Vec<Bitmap>, NoMemory>
+    ensures { IfOk result (λ maps. maps.items ≡ replicate places (replicate places true)) }
+{
+    let mut maps = Vec::with_capacity(alloc, places as usize)?;
+    for _place in 0..places {
+        maps.push_reserved(all_in_use(alloc, places)?);
+    }
+    Ok(maps)
+}
+
+/// A map of so many numbers, all in use.
+#[tactic(auto, using(crate::proofs::InferiorLemmas::next_is_free, crate::proofs::InferiorLemmas::one_more_taken, std::proofs::lemmas::Grind::common_steps))]
+fn all_in_use(alloc: Global, numbers: u32) -> Result<Bitmap, NoMemory>
+    ensures { IfOk result (λ map. map ≡ replicate numbers true) }
+{
+    let mut map = Bitmap::new(alloc, numbers)?;
+    for number in 0..numbers {
+        map.take(number);
+    }
+    Ok(map)
+}
+
+/// The place of a superior directory, where there is one.
+pub(crate) fn place_of_superior(index: &Index, superior: Option<u32>) -> Option<u32>
+    ensures { result ≡ place_of_superior index.now.pairs superior }
+{
+    match superior {
+        Some(uid) => index.find(uid),
+        None => None,
+    }
+}
+
+/// Notes that an inferior of the segment in the place `above`, if there is such a place, is active in `place`.
+pub(crate) fn note(inferiors: &mut Vec<Bitmap>, above: Option<u32>, place: u32)
+    requires above { IfSome above (λ p. p < length inferiors.old.items) }
+    requires other { IfSome above (λ p. in_use (map_of inferiors.old.items p) place ≡ true) }
+    ensures { inferiors.new.items ≡ noted inferiors.old.items above place false }
+{
+    if let Some(above) = above {
+        inferiors[above as usize].give_back(place);
+    }
+}
+
+/// Notes that no inferior of that segment is active in `place` any more.
+pub(crate) fn forget(inferiors: &mut Vec<Bitmap>, above: Option<u32>, place: u32)
+    requires above { IfSome above (λ p. p < length inferiors.old.items) }
+    requires within { IfSome above (λ p. place < length (map_of inferiors.old.items p)) }
+    requires noted { IfSome above (λ p. in_use (map_of inferiors.old.items p) place ≡ false) }
+    ensures { inferiors.new.items ≡ noted inferiors.old.items above place true }
+{
+    if let Some(above) = above {
+        inferiors[above as usize].take(place);
+    }
+}
