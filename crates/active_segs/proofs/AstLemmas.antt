@@ -6,7 +6,7 @@ use Rattle.std.proofs.lemmas.List.Sums.{count_by-le-length}
 use Rattle.bitmap.specs.Bitmap.{in_use, IsLeastFree as IsFirstFree}
 use Rattle.page_table.specs.declared.Ptw.{Ptw}
 use Rattle.active_segs.specs.declared.Entry.{Entry}
-use Rattle.active_segs.specs.Active.{ActiveSegs, entry_at, superior_in, uid_at, IsActive, HasNoInferior, IsTree, IsLeastFree, IsFull, used_in}
+use Rattle.active_segs.specs.Active.{ActiveSegs, entry_at, superior_in, uid_at, IsActive, HasNoInferior, IsTree, HasShape, IsLeastFree, IsFull, used_in}
 use Rattle.active_segs.specs.Kept.{IsKept, IsMarked, AreNoted, IsIndexed, map_of, map_set, noted, place_of_superior, IsActiveAt}
 use Rattle.active_segs.specs.Pairs.{Pairs, place_of, SetsPlace}
 use Rattle.active_segs.specs.Pool.{HasPools, first_of, size_of, IsInPool, IsPlaced}
@@ -115,20 +115,29 @@ least_since_marked s used pool offset lt marked first =
 pub not_full : (s : ActiveSegs) (pool place : ℕ) → IsLeastFree s pool place → IsFull s pool → ⊥
 not_full s pool place least full = both_ways _ (ap is_some least.free) (full place least.in_pool)
 
--- and it has room for one more
-pub room_since_free : (s : ActiveSegs) (pool place : ℕ) → HasPools s.sizes s.hands → length s.entries ≡ sum s.sizes → pool < 4 → IsLeastFree s pool place → used_in s pool < size_of s.sizes pool
-room_since_free s pool place pools count lt least =
+pub free_within : (s : ActiveSegs) (pool place : ℕ) → HasShape s → pool < 4 → IsLeastFree s pool place → place < length s.entries
+free_within s pool place shape lt least =
+    let to : place < first_of s.sizes pool + size_of s.sizes pool = least.in_pool.to in
+    let ends : first_of s.sizes pool + size_of s.sizes pool ≤ sum s.sizes = pool_within s.sizes pool shape.pools.four lt in
+    let count : length s.entries ≡ sum s.sizes = shape.entry_count in omega arith
+
+-- where a place is free the pool has room for one more
+pub room_since_free : (s : ActiveSegs) (pool place : ℕ) → HasShape s → pool < 4 → IsLeastFree s pool place → used_in s pool < size_of s.sizes pool
+room_since_free s pool place shape lt least =
     let first : ℕ = first_of s.sizes pool in
     let size : ℕ = size_of s.sizes pool in
     let i : ℕ = place - first in
     let from : first ≤ place = least.in_pool.from in
     let to : place < first + size = least.in_pool.to in
-    let ends : first + size ≤ sum s.sizes = pool_within s.sizes pool pools.four lt in
+    let ends : first + size ≤ sum s.sizes = pool_within s.sizes pool shape.pools.four lt in
+    let count : length s.entries ≡ sum s.sizes = shape.entry_count in
     let past : length (drop first s.entries) ≡ length s.entries - first = length-drop first s.entries in
     let long : length (take size (drop first s.entries)) ≡ size = length-take-le size (drop first s.entries) (omega arith) in
     let at : first + i ≡ place = omega arith in
-    let free : entry_at (take size (drop first s.entries)) i ≡ None = get_or-take size (drop first s.entries) i None (omega arith) ∙ get_or-drop first s.entries i None ∙ ap (entry_at s.entries) at ∙ least.free in
-    let few : used_in s pool < length (take size (drop first s.entries)) = not_all_used (take size (drop first s.entries)) i (omega arith) free in omega arith
+    let free : entry_at (take size (drop first s.entries)) i ≡ None =
+        get_or-take size (drop first s.entries) i None (omega arith) ∙ get_or-drop first s.entries i None ∙ ap (entry_at s.entries) at ∙ least.free in
+    let few : used_in s pool < length (take size (drop first s.entries)) = not_all_used (take size (drop first s.entries)) i (omega arith) free in
+    omega arith
 
 -- ---- the victim
 

@@ -80,7 +80,7 @@ pub off_is_used : (chain : List ℕ) (o : Option Entry) → off_chain chain o �
 off_is_used chain None off = absurd (false≢true off)
 off_is_used chain (Some e) off = (e.uid, refl)
 
-pub off_within : (xs : List (Option Entry)) (chain : List ℕ) (place : ℕ) → IsOffChain xs chain place → place < length xs
+off_within : (xs : List (Option Entry)) (chain : List ℕ) (place : ℕ) → IsOffChain xs chain place → place < length xs
 off_within xs chain place off = let used : (u : ℕ) × (uid_at xs place ≡ Some u) = off_is_used chain (entry_at xs place) off in used_within xs place used.0 used.1
 
 off_below : (xs : List (Option Entry)) (chain : List ℕ) (place q : ℕ) → HasItsSuperiors xs chain → IsOffChain xs chain place → IsLeastInferior xs place q → IsOffChain xs chain q
@@ -111,6 +111,9 @@ find_passes {X} p (y ∷ xs) x e = at (find_passes p xs x) (p y) refl e
 pub victim_off : (s : ActiveSegs) (pool : ℕ) (chain : List ℕ) (a : ℕ) → HasItsSuperiors s.entries chain → IsVictim s pool chain a → IsOffChain s.entries chain a
 victim_off s pool chain a closed v =
     off_leaf s.entries chain v.leaf.0 v.found a closed (find_passes (λ place. off_chain chain (entry_at s.entries place)) (round_pool s pool) v.found v.first) v.leaf.1
+
+pub victim_within : (s : ActiveSegs) (pool : ℕ) (chain : List ℕ) (a : ℕ) → HasItsSuperiors s.entries chain → IsVictim s pool chain a → a < length s.entries
+victim_within s pool chain a closed v = off_within s.entries chain a (victim_off s pool chain a closed v)
 
 pub places_more : (i to : ℕ) → i < to → places_from i to ≡ i ∷ places_from (i + 1) to
 places_more i to lt = let n : to - i ≡ suc (to - (i + 1)) = omega arith in ap (range_with_len i) n

@@ -159,10 +159,10 @@ impl Ast {
         ensures off { IsOffChain self.old.entries chain.now result }
         ensures hand { self.new ≡ hand_moved self.old pool chain.now }
     {
-        let found = self.found(pool, chain);
+        let (found, leaf) = self.way_down(pool, chain);
         let offset = found - pools::first_of(&self.sizes, pool);
         self.hands[pool as usize] = victim::offset_after(self.sizes[pool as usize], offset);
-        victim::leaf_below(&self.entries, &self.inferiors, found)
+        leaf
     }
 
     /// What has to be made inactive so that the pool has a free place.
@@ -181,8 +181,25 @@ impl Ast {
         ensures leaf { HasNoInferior self.now.entries result }
         ensures off { IsOffChain self.now.entries chain.now result }
     {
+        self.way_down(pool, chain).1
+    }
+
+    /// The place from which the way goes down to the victim, and the victim's.
+    fn way_down(&self, pool: u32, chain: &[u32]) -> (u32, u32)
+        requires pool { pool < 4 }
+        requires some { HasOneOffChain self.now pool chain.now }
+        requires superiors { HasItsSuperiors self.now.entries chain.now }
+        ensures first { first_off_chain self.now pool chain.now ≡ Some result.0 }
+        ensures in_pool { IsInPool self.now.sizes pool result.0 }
+        ensures is { victim_of self.now pool chain.now ≡ Some result.1 }
+        ensures victim { IsVictim self.now pool chain.now result.1 }
+        ensures only { (place : ℕ) → IsVictim self.now pool chain.now place → place ≡ result.1 }
+        ensures within { result.1 < length self.now.entries }
+        ensures leaf { HasNoInferior self.now.entries result.1 }
+        ensures off { IsOffChain self.now.entries chain.now result.1 }
+    {
         let found = self.found(pool, chain);
-        victim::leaf_below(&self.entries, &self.inferiors, found)
+        (found, victim::leaf_below(&self.entries, &self.inferiors, found))
     }
 
     /// The place from which the way goes down to the victim.
