@@ -7,7 +7,7 @@ use Rattle.std.proofs.lemmas.Option.{none-some, same_Some}
 use Rattle.bitmap.specs.Bitmap.{in_use, IsLeastFree as IsFirstFree}
 use Rattle.active_segs.specs.declared.Entry.{Entry}
 use Rattle.active_segs.specs.Active.{entry_at, uid_in, superior_in, uid_at, superior_at, IsActive, HasNoInferior, SuperiorsAreActive, IsTree}
-use Rattle.active_segs.specs.Kept.{map_of, map_set, noted, place_of_superior, IsInferior, AreNoted, IsIndexed}
+use Rattle.active_segs.specs.Kept.{map_of, map_set, noted, place_of_superior, HasFlag, IsInferior, AreNoted, IsIndexed}
 use Rattle.active_segs.specs.Victim.{IsLeastInferior}
 use Rattle.active_segs.specs.Pairs.{Pairs}
 use Rattle.active_segs.proofs.EntryLemmas.{entry_set, entry_kept, uid_set, uid_kept, used_within, superior_within}
@@ -78,22 +78,23 @@ module _ (xs : List (Option Entry)) (maps : List (List Bool)) (notes : AreNoted 
 
   -- ---- what the calls ask
 
-  pub above_within : (superior above : Option ℕ) → IsSuperiorPlace xs superior above → IfSome above (λ r. r < length maps)
-  above_within None above placed = subst (λ (o : Option ℕ). IfSome o (λ r. r < length maps)) (sym placed) tt
-  above_within (Some s) above (r, is, active) = subst (λ (o : Option ℕ). IfSome o (λ q. q < length maps)) (sym is) (within_maps r s active)
+  pub may_note : (superior above : Option ℕ) (p : ℕ) → p < length xs → entry_at xs p ≡ None → IsSuperiorPlace xs superior above → IfSome above (HasFlag maps p true)
+  may_note None above p lt free placed = subst (λ (o : Option ℕ). IfSome o (HasFlag maps p true)) (sym placed) tt
+  may_note (Some s) above p lt free (r, is, active) =
+      subst (λ (o : Option ℕ). IfSome o (HasFlag maps p true)) (sym is) (record {
+        known = within_maps r s active;
+        within = within_map r s p active lt;
+        is = not_noted r s p active lt free;
+      })
 
-  pub may_add : (superior above : Option ℕ) (p : ℕ) → p < length xs → entry_at xs p ≡ None → IsSuperiorPlace xs superior above → IfSome above (λ r. in_use (map_of maps r) p ≡ true)
-  may_add None above p lt free placed = subst (λ (o : Option ℕ). IfSome o (λ r. in_use (map_of maps r) p ≡ true)) (sym placed) tt
-  may_add (Some s) above p lt free (r, is, active) = subst (λ (o : Option ℕ). IfSome o (λ q. in_use (map_of maps q) p ≡ true)) (sym is) (not_noted r s p active lt free)
-
-  pub fits_above : (superior above : Option ℕ) (p : ℕ) → p < length xs → IsSuperiorPlace xs superior above → IfSome above (λ r. p < length (map_of maps r))
-  fits_above None above p lt placed = subst (λ (o : Option ℕ). IfSome o (λ r. p < length (map_of maps r))) (sym placed) tt
-  fits_above (Some s) above p lt (r, is, active) = subst (λ (o : Option ℕ). IfSome o (λ q. p < length (map_of maps q))) (sym is) (within_map r s p active lt)
-
-  pub may_remove : (superior above : Option ℕ) (p : ℕ) → p < length xs → superior_at xs p ≡ superior → IsSuperiorPlace xs superior above → IfSome above (λ r. in_use (map_of maps r) p ≡ false)
-  may_remove None above p lt is_superior placed = subst (λ (o : Option ℕ). IfSome o (λ r. in_use (map_of maps r) p ≡ false)) (sym placed) tt
-  may_remove (Some s) above p lt is_superior (r, is, active) =
-      subst (λ (o : Option ℕ). IfSome o (λ q. in_use (map_of maps q) p ≡ false)) (sym is) ((notes.free r p (used_within xs r s active) lt).1 (s, active, is_superior))
+  pub may_forget : (superior above : Option ℕ) (p : ℕ) → p < length xs → superior_at xs p ≡ superior → IsSuperiorPlace xs superior above → IfSome above (HasFlag maps p false)
+  may_forget None above p lt is_superior placed = subst (λ (o : Option ℕ). IfSome o (HasFlag maps p false)) (sym placed) tt
+  may_forget (Some s) above p lt is_superior (r, is, active) =
+      subst (λ (o : Option ℕ). IfSome o (HasFlag maps p false)) (sym is) (record {
+        known = within_maps r s active;
+        within = within_map r s p active lt;
+        is = (notes.free r p (used_within xs r s active) lt).1 (s, active, is_superior);
+      })
 
   -- ---- what the maps say
 

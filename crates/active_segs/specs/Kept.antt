@@ -31,6 +31,12 @@ pub record AreNoted (entries : List (Option Entry)) (inferiors : List (List Bool
   pub as_long : (place : ℕ) → place < length entries → length (map_of inferiors place) ≡ length entries
   pub free : (place q : ℕ) → place < length entries → q < length entries → (in_use (map_of inferiors place) q ≡ false) ↔ IsInferior entries place q
 
+-- the flag of a place in one map of some
+pub record HasFlag (maps : List (List Bool)) (place : ℕ) (flag : Bool) (i : ℕ) : Type 0 where
+  pub known : i < length maps
+  pub within : place < length (map_of maps i)
+  pub is : in_use (map_of maps i) place ≡ flag
+
 -- the maps of inferiors with a place's flag changed in its superior's map, where it has a superior
 abbrev pub noted : List (List Bool) → Option ℕ → ℕ → Bool → List (List Bool)
 noted inferiors None place flag = inferiors

@@ -3,9 +3,8 @@
 //! Each place has a map of all places, in which the places of its segment's inferiors are free and all others are in
 //! use. So the least free number of a map is the place of the least inferior.
 
-ghost use Rattle.std.specs.Prelude.{◌≡◌, ◌<◌, true, false, length, replicate, IfOk, IfSome};
-ghost use Rattle.bitmap.specs.Bitmap.{in_use};
-ghost use Rattle.active_segs.specs.Kept.{map_of, noted, place_of_superior};
+ghost use Rattle.std.specs.Prelude.{◌≡◌, true, false, replicate, IfOk, IfSome};
+ghost use Rattle.active_segs.specs.Kept.{noted, place_of_superior, HasFlag};
 
 use crate::NoMemory;
 use crate::index::Index;
@@ -47,8 +46,7 @@ pub(crate) fn place_of_superior(index: &Index, superior: Option<u32>) -> Option<
 
 /// Notes that an inferior of the segment in the place `above`, if there is such a place, is active in `place`.
 pub(crate) fn note(inferiors: &mut Vec<Bitmap>, above: Option<u32>, place: u32)
-    requires above { IfSome above (λ p. p < length inferiors.old.items) }
-    requires other { IfSome above (λ p. in_use (map_of inferiors.old.items p) place ≡ true) }
+    requires { IfSome above (HasFlag inferiors.old.items place true) }
     ensures { inferiors.new.items ≡ noted inferiors.old.items above place false }
 {
     if let Some(above) = above {
@@ -58,9 +56,7 @@ pub(crate) fn note(inferiors: &mut Vec<Bitmap>, above: Option<u32>, place: u32)
 
 /// Notes that no inferior of that segment is active in `place` any more.
 pub(crate) fn forget(inferiors: &mut Vec<Bitmap>, above: Option<u32>, place: u32)
-    requires above { IfSome above (λ p. p < length inferiors.old.items) }
-    requires within { IfSome above (λ p. place < length (map_of inferiors.old.items p)) }
-    requires noted { IfSome above (λ p. in_use (map_of inferiors.old.items p) place ≡ false) }
+    requires { IfSome above (HasFlag inferiors.old.items place false) }
     ensures { inferiors.new.items ≡ noted inferiors.old.items above place true }
 {
     if let Some(above) = above {

@@ -1,26 +1,21 @@
-use Rattle.std.proofs.Common.{◌≡◌, ◌≢◌, ◌<◌, ◌≤◌, ℕ, Some, None, length, sum, sym, subst, arith}
+use Rattle.std.proofs.Common.{◌≡◌, ◌≢◌, ◌<◌, List, Option, ◌≤◌, ℕ, Some, None, length, sum, sym, subst, arith}
+use Rattle.active_segs.specs.declared.Entry.{Entry}
 use Rattle.active_segs.specs.Active.{ActiveSegs, entry_at, uid_at, IsActive}
 use Rattle.active_segs.proofs.AstLemmas.{kept_activated}
-use Rattle.active_segs.proofs.InferiorLemmas.{IsSuperiorPlace, superior_placed, above_within, may_add}
+use Rattle.active_segs.proofs.InferiorLemmas.{IsSuperiorPlace, superior_placed, may_note}
 use Rattle.active_segs.proofs.PlaceLemmas.{index_has_room, index_lacks}
 use Rattle.active_segs.proofs.Ast.activate.Goals as goal
 
-pub note-requires-clause-above : goal.note-requires-clause-above
-note-requires-clause-above c =
-    let active : (s : ℕ) → c.args.superior ≡ Some s → IsActive c.self.inside.entries.items s = λ s h. subst (λ (v : ActiveSegs). IsActive v.entries s) (sym c.self.view_is) (c.requires.superior s h) in
-    let placed : IsSuperiorPlace c.self.inside.entries.items c.args.superior c.place_of_superior-above.result =
-        subst (IsSuperiorPlace c.self.inside.entries.items c.args.superior) (sym c.place_of_superior-above.ensures) (superior_placed _ _ c.self.invariant.indexed c.args.superior active) in
-    above_within c.self.inside.entries.items c.self.inside.inferiors.items c.self.invariant.inferior_maps c.args.superior c.place_of_superior-above.result placed
-
-pub note-requires-clause-other : goal.note-requires-clause-other
-note-requires-clause-other c =
-    let active : (s : ℕ) → c.args.superior ≡ Some s → IsActive c.self.inside.entries.items s = λ s h. subst (λ (v : ActiveSegs). IsActive v.entries s) (sym c.self.view_is) (c.requires.superior s h) in
-    let placed : IsSuperiorPlace c.self.inside.entries.items c.args.superior c.place_of_superior-above.result =
-        subst (IsSuperiorPlace c.self.inside.entries.items c.args.superior) (sym c.place_of_superior-above.ensures) (superior_placed _ _ c.self.invariant.indexed c.args.superior active) in
-    may_add c.self.inside.entries.items c.self.inside.inferiors.items c.self.invariant.inferior_maps c.args.superior c.place_of_superior-above.result c.args.place
-        (subst (λ (v : ActiveSegs). c.args.place < length v.entries) (sym c.self.view_is) c.requires.place)
-        (subst (λ (v : ActiveSegs). entry_at v.entries c.args.place ≡ None) (sym c.self.view_is) c.requires.free)
-        placed
+pub note-requires : goal.note-requires
+note-requires c =
+    let xs : List (Option Entry) = c.self.inside.entries.items in
+    let active : (s : ℕ) → c.args.superior ≡ Some s → IsActive xs s =
+        λ s h. subst (λ (v : ActiveSegs). IsActive v.entries s) (sym c.self.view_is) (c.requires.superior s h) in
+    let placed : IsSuperiorPlace xs c.args.superior c.place_of_superior-above.result =
+        subst (IsSuperiorPlace xs c.args.superior) (sym c.place_of_superior-above.ensures) (superior_placed _ _ c.self.invariant.indexed c.args.superior active) in
+    let lt : c.args.place < length xs = subst (λ (v : ActiveSegs). c.args.place < length v.entries) (sym c.self.view_is) c.requires.place in
+    let free : entry_at xs c.args.place ≡ None = subst (λ (v : ActiveSegs). entry_at v.entries c.args.place ≡ None) (sym c.self.view_is) c.requires.free in
+    may_note xs c.self.inside.inferiors.items c.self.invariant.inferior_maps c.args.superior c.place_of_superior-above.result c.args.place lt free placed
 
 pub insert-requires-clause-room : goal.insert-requires-clause-room
 insert-requires-clause-room c =
