@@ -70,20 +70,24 @@ chain_has (u ∷ chain) uid (suc k, lt, e) = or_right _ _ (chain_has chain uid (
 
 off_not_there : (chain : List ℕ) (o : Option Entry) (u : ℕ) → off_chain chain o ≡ true → uid_in o ≡ Some u → list_any (λ v. eqb v u) chain ≡ false
 off_not_there chain None u off is = absurd (false≢true off)
-off_not_there chain (Some e) u off is = let same : e.uid ≡ u = same_Some _ _ is in subst (λ (k : ℕ). list_any (λ v. eqb v k) chain ≡ false) same (not-true _ off)
+off_not_there chain (Some e) u off is =
+    let same : e.uid ≡ u = same_Some _ _ is in subst (λ (k : ℕ). list_any (λ v. eqb v k) chain ≡ false) same (not-true _ off)
 
 not_there_off : (chain : List ℕ) (o : Option Entry) (u : ℕ) → list_any (λ v. eqb v u) chain ≡ false → uid_in o ≡ Some u → off_chain chain o ≡ true
 not_there_off chain None u absent is = absurd (none-some u is)
-not_there_off chain (Some e) u absent is = let same : u ≡ e.uid = sym (same_Some _ _ is) in ap not (subst (λ (k : ℕ). list_any (λ v. eqb v k) chain ≡ false) same absent)
+not_there_off chain (Some e) u absent is =
+    let same : u ≡ e.uid = sym (same_Some _ _ is) in ap not (subst (λ (k : ℕ). list_any (λ v. eqb v k) chain ≡ false) same absent)
 
 pub off_is_used : (chain : List ℕ) (o : Option Entry) → off_chain chain o ≡ true → (u : ℕ) × (uid_in o ≡ Some u)
 off_is_used chain None off = absurd (false≢true off)
 off_is_used chain (Some e) off = (e.uid, refl)
 
 off_within : (xs : List (Option Entry)) (chain : List ℕ) (place : ℕ) → IsOffChain xs chain place → place < length xs
-off_within xs chain place off = let used : (u : ℕ) × (uid_at xs place ≡ Some u) = off_is_used chain (entry_at xs place) off in used_within xs place used.0 used.1
+off_within xs chain place off =
+    let used : (u : ℕ) × (uid_at xs place ≡ Some u) = off_is_used chain (entry_at xs place) off in used_within xs place used.0 used.1
 
-off_below : (xs : List (Option Entry)) (chain : List ℕ) (place q : ℕ) → HasItsSuperiors xs chain → IsOffChain xs chain place → IsLeastInferior xs place q → IsOffChain xs chain q
+off_below : (xs : List (Option Entry)) (chain : List ℕ) (place q : ℕ) → HasItsSuperiors xs chain → IsOffChain xs chain place → IsLeastInferior xs place q
+    → IsOffChain xs chain q
 off_below xs chain place q closed off least =
     let used : (u : ℕ) × (uid_at xs q ≡ Some u) = used_since_superior (entry_at xs q) least.uid least.inferior in
     elim (cases_Bool (list_any (λ v. eqb v used.0) chain)) [
@@ -93,7 +97,8 @@ off_below xs chain place q closed off least =
       | inr absent ↦ not_there_off chain (entry_at xs q) used.0 absent used.1
     ]
 
-off_leaf : (xs : List (Option Entry)) (chain : List ℕ) (n place leaf : ℕ) → HasItsSuperiors xs chain → IsOffChain xs chain place → Descends xs n place leaf → IsOffChain xs chain leaf
+off_leaf : (xs : List (Option Entry)) (chain : List ℕ) (n place leaf : ℕ) → HasItsSuperiors xs chain → IsOffChain xs chain place → Descends xs n place leaf
+    → IsOffChain xs chain leaf
 unfolding Descends
 off_leaf xs chain zero place leaf closed off (none, is) = subst (IsOffChain xs chain) (sym is) off
 off_leaf xs chain (suc n) place leaf closed off (q, least, d) = off_leaf xs chain n q leaf closed (off_below xs chain place q closed off least) d
@@ -110,7 +115,8 @@ find_passes {X} p (y ∷ xs) x e = at (find_passes p xs x) (p y) refl e
 
 pub victim_off : (s : ActiveSegs) (pool : ℕ) (chain : List ℕ) (a : ℕ) → HasItsSuperiors s.entries chain → IsVictim s pool chain a → IsOffChain s.entries chain a
 victim_off s pool chain a closed v =
-    off_leaf s.entries chain v.leaf.0 v.found a closed (find_passes (λ place. off_chain chain (entry_at s.entries place)) (round_pool s pool) v.found v.first) v.leaf.1
+    off_leaf s.entries chain v.leaf.0 v.found a closed (find_passes (λ place. off_chain chain (entry_at s.entries place)) (round_pool s pool) v.found v.first)
+    v.leaf.1
 
 pub victim_within : (s : ActiveSegs) (pool : ℕ) (chain : List ℕ) (a : ℕ) → HasItsSuperiors s.entries chain → IsVictim s pool chain a → a < length s.entries
 victim_within s pool chain a closed v = off_within s.entries chain a (victim_off s pool chain a closed v)
@@ -125,7 +131,8 @@ pub find_first : (p : ℕ → Bool) (xs ys : List ℕ) (x : ℕ) → find p xs �
 find_first p [] ys x e = absurd (none-some x e)
 find_first p (y ∷ xs) ys x e = at (find_first p xs ys x) (p y) refl e
   where
-    at : (find p xs ≡ Some x → find p (xs ++ ys) ≡ Some x) → (b : Bool) → p y ≡ b → cond b (Some y) (find p xs) ≡ Some x → cond (p y) (Some y) (find p (xs ++ ys)) ≡ Some x
+    at : (find p xs ≡ Some x → find p (xs ++ ys) ≡ Some x) → (b : Bool) → p y ≡ b → cond b (Some y) (find p xs) ≡ Some x
+        → cond (p y) (Some y) (find p (xs ++ ys)) ≡ Some x
     at ih true is e' = ap (λ (b : Bool). cond b (Some y) (find p (xs ++ ys))) is ∙ e'
     at ih false is e' = ap (λ (b : Bool). cond b (Some y) (find p (xs ++ ys))) is ∙ ih e'
 
@@ -133,7 +140,8 @@ pub find_second : (p : ℕ → Bool) (xs ys : List ℕ) → find p xs ≡ None �
 find_second p [] ys e = refl
 find_second p (y ∷ xs) ys e = at (find_second p xs ys) (p y) refl e
   where
-    at : (find p xs ≡ None → find p (xs ++ ys) ≡ find p ys) → (b : Bool) → p y ≡ b → cond b (Some y) (find p xs) ≡ None → cond (p y) (Some y) (find p (xs ++ ys)) ≡ find p ys
+    at : (find p xs ≡ None → find p (xs ++ ys) ≡ find p ys) → (b : Bool) → p y ≡ b → cond b (Some y) (find p xs) ≡ None
+        → cond (p y) (Some y) (find p (xs ++ ys)) ≡ find p ys
     at ih true is e' = absurd (none-some y (sym e'))
     at ih false is e' = ap (λ (b : Bool). cond b (Some y) (find p (xs ++ ys))) is ∙ ih e'
 
@@ -142,16 +150,20 @@ pub found_within : (p : ℕ → Bool) (n a x : ℕ) → find p (range_with_len a
 found_within p zero a x e = absurd (none-some x e)
 found_within p (suc n) a x e = at (found_within p n (a + 1) x) (p a) refl e
   where
-    at : (find p (range_with_len (a + 1) n) ≡ Some x → (a + 1 ≤ x) × (x < a + 1 + n) × (p x ≡ true)) → (b : Bool) → p a ≡ b → cond b (Some a) (find p (range_with_len (a + 1) n)) ≡ Some x → (a ≤ x) × (x < a + suc n) × (p x ≡ true)
+    at : (find p (range_with_len (a + 1) n) ≡ Some x → (a + 1 ≤ x) × (x < a + 1 + n) × (p x ≡ true)) → (b : Bool) → p a ≡ b
+        → cond b (Some a) (find p (range_with_len (a + 1) n)) ≡ Some x → (a ≤ x) × (x < a + suc n) × (p x ≡ true)
     at ih true is e' = let same : a ≡ x = same_Some a x e' in (omega arith, omega arith, ap p (sym same) ∙ is)
-    at ih false is e' = let h : (a + 1 ≤ x) × (x < a + 1 + n) × (p x ≡ true) = ih e' in (let l : a + 1 ≤ x = h.0 in omega arith, let u : x < a + 1 + n = h.1 in omega arith, h.2)
+    at ih false is e' =
+        let h : (a + 1 ≤ x) × (x < a + 1 + n) × (p x ≡ true) = ih e' in
+        (let l : a + 1 ≤ x = h.0 in omega arith, let u : x < a + 1 + n = h.1 in omega arith, h.2)
 
 -- a place of the range that passes is found, or one before it
 pub reaches : (p : ℕ → Bool) (n a x : ℕ) → a ≤ x → x < a + n → p x ≡ true → IsSome (find p (range_with_len a n))
 reaches p zero a x le lt on = absurd (omega arith)
 reaches p (suc n) a x le lt on = at (λ le' lt'. reaches p n (a + 1) x le' lt' on) (p a) refl
   where
-    at : (a + 1 ≤ x → x < a + 1 + n → IsSome (find p (range_with_len (a + 1) n))) → (b : Bool) → p a ≡ b → is_some (cond (p a) (Some a) (find p (range_with_len (a + 1) n))) ≡ true
+    at : (a + 1 ≤ x → x < a + 1 + n → IsSome (find p (range_with_len (a + 1) n))) → (b : Bool) → p a ≡ b
+        → is_some (cond (p a) (Some a) (find p (range_with_len (a + 1) n))) ≡ true
     at ih true is = ap (λ (b : Bool). is_some (cond b (Some a) (find p (range_with_len (a + 1) n)))) is
     at ih false is =
         let off : a ≢ x = λ same. both_ways _ is (ap p same ∙ on) in
@@ -208,7 +220,8 @@ not_passed xs start place steps way = elim (cases_Bool (list_any (eqb place) way
   | inr absent ↦ absent
 ]
 
-pub way_goes_on : (xs : List (Option Entry)) (start place q steps : ℕ) → IsOnTheWay xs start place steps → IsLeastInferior xs place q → IsOnTheWay xs start q (steps + 1)
+pub way_goes_on : (xs : List (Option Entry)) (start place q steps : ℕ) → IsOnTheWay xs start place steps → IsLeastInferior xs place q
+    → IsOnTheWay xs start q (steps + 1)
 way_goes_on xs start place q steps way least =
     let used : (u : ℕ) × (uid_at xs q ≡ Some u) = used_since_superior (entry_at xs q) least.uid least.inferior in
     let same : least.uid ≡ way.uid = same_Some _ _ (sym least.is ∙ way.is) in
@@ -240,11 +253,13 @@ way_ends xs start place steps way =
       | inl this ↦ (let same : q ≡ place = eqb-true q place this in used_within xs q way.uid (subst (λ (k : ℕ). uid_at xs k ≡ Some way.uid) (sym same) way.is))
       | inr earlier ↦ (let was : (u : ℕ) × (uid_at xs q ≡ Some u) × (way.rank u < way.rank way.uid) = way.before q earlier in used_within xs q was.0 was.1)
     ] in
-    let most : length all ≤ length xs = length-le_from_distinct_below all (length xs) (one_more_distinct place way.passed (not_passed xs start place steps way) way.distinct) below in
+    let most : length all ≤ length xs =
+    length-le_from_distinct_below all (length xs) (one_more_distinct place way.passed (not_passed xs start place steps way) way.distinct) below in
     let n : length way.passed ≡ steps = way.count in omega arith
 
 -- as many steps down as there are places come to the leaf
-pub way_comes_to : (xs : List (Option Entry)) (start leaf steps : ℕ) → IsOnTheWay xs start leaf steps → HasNoInferior xs leaf → leaf ≡ leaf_below xs (length xs) start
+pub way_comes_to : (xs : List (Option Entry)) (start leaf steps : ℕ) → IsOnTheWay xs start leaf steps → HasNoInferior xs leaf
+    → leaf ≡ leaf_below xs (length xs) start
 way_comes_to xs start leaf steps way none =
     let less : steps < length xs = way_ends xs start leaf steps way in
     let n : length xs - steps + steps ≡ length xs = omega arith in
@@ -253,17 +268,20 @@ way_comes_to xs start leaf steps way none =
 -- ---- once round a pool
 
 -- a place of the pool that passes is found, or one before it
-pub round_reaches : (p : ℕ → Bool) (first hand end x : ℕ) → first ≤ hand → hand ≤ end → first ≤ x → x < end → p x ≡ true → IsSome (find p (places_from hand end ++ places_from first hand))
+pub round_reaches : (p : ℕ → Bool) (first hand end x : ℕ) → first ≤ hand → hand ≤ end → first ≤ x → x < end → p x ≡ true
+    → IsSome (find p (places_from hand end ++ places_from first hand))
 round_reaches p first hand end x low high from to on = go (find p (places_from hand end)) refl
   where
     go : (o : Option ℕ) → find p (places_from hand end) ≡ o → IsSome (find p (places_from hand end ++ places_from first hand))
     go (Some y) is = ap is_some (find_first p (places_from hand end) (places_from first hand) y is)
     go None is =
-        let before : x < hand = elim (cases_lt x hand) [ inl lt ↦ lt | inr le ↦ absurd (both_ways _ (ap is_some is) (reaches p (end - hand) hand x le (omega arith) on)) ] in
+        let before : x < hand =
+        elim (cases_lt x hand) [ inl lt ↦ lt | inr le ↦ absurd (both_ways _ (ap is_some is) (reaches p (end - hand) hand x le (omega arith) on)) ] in
         ap is_some (find_second p (places_from hand end) (places_from first hand) is) ∙ reaches p (hand - first) first x from (omega arith) on
 
 -- what is found is a place of the pool
-pub round_found : (p : ℕ → Bool) (first hand end x : ℕ) → first ≤ hand → hand ≤ end → find p (places_from hand end ++ places_from first hand) ≡ Some x → (first ≤ x) × (x < end) × (p x ≡ true)
+pub round_found : (p : ℕ → Bool) (first hand end x : ℕ) → first ≤ hand → hand ≤ end → find p (places_from hand end ++ places_from first hand) ≡ Some x
+    → (first ≤ x) × (x < end) × (p x ≡ true)
 round_found p first hand end x low high found = go (find p (places_from hand end)) refl
   where
     go : (o : Option ℕ) → find p (places_from hand end) ≡ o → (first ≤ x) × (x < end) × (p x ≡ true)

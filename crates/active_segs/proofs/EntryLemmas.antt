@@ -23,7 +23,8 @@ pub used_within : (xs : List (Option Entry)) (p uid : ℕ) → uid_at xs p ≡ S
 used_within xs p uid e = elim (cases_lt p (length xs)) [ inl lt ↦ lt | inr past ↦ absurd (none-some uid (sym (ap uid_in (get_or_past xs p None past)) ∙ e)) ]
 
 pub superior_within : (xs : List (Option Entry)) (p uid : ℕ) → superior_at xs p ≡ Some uid → p < length xs
-superior_within xs p uid e = elim (cases_lt p (length xs)) [ inl lt ↦ lt | inr past ↦ absurd (none-some uid (sym (ap superior_in (get_or_past xs p None past)) ∙ e)) ]
+superior_within xs p uid e =
+    elim (cases_lt p (length xs)) [ inl lt ↦ lt | inr past ↦ absurd (none-some uid (sym (ap superior_in (get_or_past xs p None past)) ∙ e)) ]
 
 -- a place that has a superior is used
 pub used_since_superior : (o : Option Entry) (s : ℕ) → superior_in o ≡ Some s → (uid : ℕ) × (uid_in o ≡ Some uid)
@@ -32,7 +33,8 @@ used_since_superior (Some e) s h = (e.uid, refl)
 
 -- ---- a segment becomes active
 
-module _ (xs : List (Option Entry)) (p uid : ℕ) (superior : Option ℕ) (lt : p < length xs) (free : entry_at xs p ≡ None) (inactive : (q : ℕ) → uid_at xs q ≢ Some uid) (above : (s : ℕ) → superior ≡ Some s → IsActive xs s) (tree : IsTree xs) where
+module _ (xs : List (Option Entry)) (p uid : ℕ) (superior : Option ℕ) (lt : p < length xs) (free : entry_at xs p ≡ None)
+    (inactive : (q : ℕ) → uid_at xs q ≢ Some uid) (above : (s : ℕ) → superior ≡ Some s → IsActive xs s) (tree : IsTree xs) where
   new_entry : Entry
   new_entry = record { uid = uid; superior = superior }
 
@@ -95,7 +97,10 @@ module _ (xs : List (Option Entry)) (p uid : ℕ) (superior : Option ℕ) (lt : 
   grounded_activated =
       let rank : ℕ → ℕ = tree.grounded.0 in
       let rank' : ℕ → ℕ = λ u. cond (eqb u uid) (rank_in rank superior) (rank u) in
-      let old : (s : ℕ) → IsActive xs s → rank' s ≡ rank s = λ s active. (let ne : eqb s uid ≡ false = ne_eqb s uid (λ same. inactive active.0 (active.1 ∙ ap (λ (k : ℕ). Some k) same)) in ap (λ (b : Bool). cond b (rank_in rank superior) (rank s)) ne) in
+      let old : (s : ℕ) → IsActive xs s → rank' s ≡ rank s =
+      λ s active.
+      (let ne : eqb s uid ≡ false = ne_eqb s uid (λ same. inactive active.0 (active.1 ∙ ap (λ (k : ℕ). Some k) same)) in
+      ap (λ (b : Bool). cond b (rank_in rank superior) (rank s)) ne) in
       let this : rank' uid ≡ rank_in rank superior = ap (λ (b : Bool). cond b (rank_in rank superior) (rank uid)) (eq-eqb uid uid refl) in (
         rank',
         λ q u s e f. elim (cases_eq q p) [

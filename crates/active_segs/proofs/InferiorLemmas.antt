@@ -1,5 +1,5 @@
 -- The maps of inferiors after a segment has become active or is so no more, and what their least free number is.
-use Rattle.std.proofs.Common.{◌≡◌, ◌≢◌, ℕ, suc, ◌+◌, ◌-◌, ◌<◌, ◌≤◌, ◌↔◌, Bool, true, false, List, [], ◌∷◌, ◌++◌, length, replicate, Option, Some, None, IfSome, All, refl, sym, ap, subst, ◌∙◌, arith, get_or, set, inl, inr}
+use Rattle.std.proofs.Common.{◌≡◌, ◌≢◌, ℕ, suc, ◌+◌, ◌-◌, ◌<◌, ◌↔◌, Bool, true, false, List, [], ◌∷◌, ◌++◌, length, replicate, Option, Some, None, IfSome, All, refl, sym, ap, subst, ◌∙◌, arith, set, inl, inr}
 use Rattle.std.proofs.lemmas.Bool.{cases_eq, cases_Bool, both_ways}
 use Rattle.std.proofs.lemmas.List.{get_or-set_same, get_or-set_other, length-set, length-replicate, replicate-append-replicate, append_assoc}
 use Rattle.std.proofs.Math.Seq.{get_or-append_seam, set-append_seam}
@@ -25,7 +25,8 @@ pub next_is_free : (numbers k : ℕ) → k < numbers → in_use (taken_up_to num
 next_is_free numbers k lt =
     let size : length (replicate k true) ≡ k = length-replicate k true in
     ap (λ (flags : List Bool). in_use (replicate k true ++ flags) k) (rest_begins numbers k lt)
-    ∙ subst (λ (i : ℕ). in_use (replicate k true ++ false ∷ replicate (numbers - suc k) false) i ≡ false) size (get_or-append_seam (replicate k true) false (replicate (numbers - suc k) false) false)
+    ∙ subst (λ (i : ℕ). in_use (replicate k true ++ false ∷ replicate (numbers - suc k) false) i ≡ false) size
+    (get_or-append_seam (replicate k true) false (replicate (numbers - suc k) false) false)
 
 pub one_more_taken : (numbers k : ℕ) → k < numbers → set (taken_up_to numbers k) k true ≡ taken_up_to numbers (k + 1)
 one_more_taken numbers k lt =
@@ -33,7 +34,8 @@ one_more_taken numbers k lt =
     let size : length (replicate k true) ≡ k = length-replicate k true in
     let n : numbers - suc k ≡ numbers - (k + 1) = omega arith in
     ap (λ (flags : List Bool). set (replicate k true ++ flags) k true) (rest_begins numbers k lt)
-    ∙ subst (λ (i : ℕ). set (replicate k true ++ false ∷ rest) i true ≡ replicate k true ++ true ∷ rest) size (set-append_seam (replicate k true) false rest true)
+    ∙ subst (λ (i : ℕ). set (replicate k true ++ false ∷ rest) i true ≡ replicate k true ++ true ∷ rest) size
+    (set-append_seam (replicate k true) false rest true)
     ∙ sym (append_assoc (replicate k true) (true ∷ []) rest)
     ∙ ap (λ (flags : List Bool). flags ++ rest) (replicate-append-replicate k 1 true)
     ∙ ap (λ (m : ℕ). replicate (k + 1) true ++ replicate m false) n
@@ -44,12 +46,14 @@ abbrev pub IsSuperiorPlace : List (Option Entry) → Option ℕ → Option ℕ �
 IsSuperiorPlace xs None place = place ≡ None
 IsSuperiorPlace xs (Some s) place = (r : ℕ) × (place ≡ Some r) × (uid_at xs r ≡ Some s)
 
-pub superior_placed : (xs : List (Option Entry)) (index : Pairs) → IsIndexed xs index → (superior : Option ℕ) → ((s : ℕ) → superior ≡ Some s → IsActive xs s) → IsSuperiorPlace xs superior (place_of_superior index.pairs superior)
+pub superior_placed : (xs : List (Option Entry)) (index : Pairs) → IsIndexed xs index → (superior : Option ℕ) → ((s : ℕ) → superior ≡ Some s → IsActive xs s)
+    → IsSuperiorPlace xs superior (place_of_superior index.pairs superior)
 superior_placed xs index indexed None above = refl
 superior_placed xs index indexed (Some s) above = let active : IsActive xs s = above s refl in (active.0, (indexed.places active.0 s).1 active.1, active.1)
 
 -- the superior of an active segment has a place
-pub superior_of_active : (xs : List (Option Entry)) (index : Pairs) (p : ℕ) (e : Entry) → IsIndexed xs index → IsTree xs → entry_at xs p ≡ Some e → IsSuperiorPlace xs e.superior (place_of_superior index.pairs e.superior)
+pub superior_of_active : (xs : List (Option Entry)) (index : Pairs) (p : ℕ) (e : Entry) → IsIndexed xs index → IsTree xs → entry_at xs p ≡ Some e
+    → IsSuperiorPlace xs e.superior (place_of_superior index.pairs e.superior)
 superior_of_active xs index p e indexed tree is = superior_placed xs index indexed e.superior (λ s h. tree.superiors p s (ap superior_in is ∙ h))
 
 -- no superior of an active segment is a segment that isn't active
@@ -78,7 +82,8 @@ module _ (xs : List (Option Entry)) (maps : List (List Bool)) (notes : AreNoted 
 
   -- ---- what the calls ask
 
-  pub may_note : (superior above : Option ℕ) (p : ℕ) → p < length xs → entry_at xs p ≡ None → IsSuperiorPlace xs superior above → IfSome above (HasFlag maps p true)
+  pub may_note : (superior above : Option ℕ) (p : ℕ) → p < length xs → entry_at xs p ≡ None → IsSuperiorPlace xs superior above
+      → IfSome above (HasFlag maps p true)
   may_note None above p lt free placed = subst (λ (o : Option ℕ). IfSome o (HasFlag maps p true)) (sym placed) tt
   may_note (Some s) above p lt free (r, is, active) =
       subst (λ (o : Option ℕ). IfSome o (HasFlag maps p true)) (sym is) (record {
@@ -87,7 +92,8 @@ module _ (xs : List (Option Entry)) (maps : List (List Bool)) (notes : AreNoted 
         is = not_noted r s p active lt free;
       })
 
-  pub may_forget : (superior above : Option ℕ) (p : ℕ) → p < length xs → superior_at xs p ≡ superior → IsSuperiorPlace xs superior above → IfSome above (HasFlag maps p false)
+  pub may_forget : (superior above : Option ℕ) (p : ℕ) → p < length xs → superior_at xs p ≡ superior → IsSuperiorPlace xs superior above
+      → IfSome above (HasFlag maps p false)
   may_forget None above p lt is_superior placed = subst (λ (o : Option ℕ). IfSome o (HasFlag maps p false)) (sym placed) tt
   may_forget (Some s) above p lt is_superior (r, is, active) =
       subst (λ (o : Option ℕ). IfSome o (HasFlag maps p false)) (sym is) (record {
@@ -130,17 +136,23 @@ module _ (xs : List (Option Entry)) (maps : List (List Bool)) (notes : AreNoted 
   map_there : (r p : ℕ) (b : Bool) (place : ℕ) → place ≢ r → map_of (map_set maps r p b) place ≡ map_of maps place
   map_there r p b place ne = get_or-set_other maps r place (set (map_of maps r) p b) [] ne
 
-  as_long_still : (above : Option ℕ) (p : ℕ) (b : Bool) (place : ℕ) → place < length maps → length (map_of (noted maps above p b) place) ≡ length (map_of maps place)
+  as_long_still : (above : Option ℕ) (p : ℕ) (b : Bool) (place : ℕ) → place < length maps
+      → length (map_of (noted maps above p b) place) ≡ length (map_of maps place)
   as_long_still None p b place lt = refl
   as_long_still (Some r) p b place lt = elim (cases_eq place r) [
-    | inl same ↦ subst (λ (k : ℕ). length (map_of (map_set maps r p b) k) ≡ length (map_of maps k)) (sym same) (ap length (map_here r p b (subst (λ (k : ℕ). k < length maps) same lt)) ∙ length-set (map_of maps r) p b)
+    | inl same ↦
+        subst (λ (k : ℕ). length (map_of (map_set maps r p b) k) ≡ length (map_of maps k)) (sym same)
+        (ap length (map_here r p b (subst (λ (k : ℕ). k < length maps) same lt)) ∙ length-set (map_of maps r) p b)
     | inr ne ↦ ap length (map_there r p b place ne)
   ]
 
-  elsewhere : (above : Option ℕ) (p : ℕ) (b : Bool) (place q : ℕ) → place < length maps → q ≢ p → in_use (map_of (noted maps above p b) place) q ≡ in_use (map_of maps place) q
+  elsewhere : (above : Option ℕ) (p : ℕ) (b : Bool) (place q : ℕ) → place < length maps → q ≢ p
+      → in_use (map_of (noted maps above p b) place) q ≡ in_use (map_of maps place) q
   elsewhere None p b place q lt ne = refl
   elsewhere (Some r) p b place q lt ne = elim (cases_eq place r) [
-    | inl same ↦ subst (λ (k : ℕ). in_use (map_of (map_set maps r p b) k) q ≡ in_use (map_of maps k) q) (sym same) (ap (λ (m : List Bool). in_use m q) (map_here r p b (subst (λ (k : ℕ). k < length maps) same lt)) ∙ get_or-set_other (map_of maps r) p q b false ne)
+    | inl same ↦
+        subst (λ (k : ℕ). in_use (map_of (map_set maps r p b) k) q ≡ in_use (map_of maps k) q) (sym same)
+        (ap (λ (m : List Bool). in_use m q) (map_here r p b (subst (λ (k : ℕ). k < length maps) same lt)) ∙ get_or-set_other (map_of maps r) p q b false ne)
     | inr off ↦ ap (λ (m : List Bool). in_use m q) (map_there r p b place off)
   ]
 
@@ -178,20 +190,23 @@ module _ (xs : List (Option Entry)) (maps : List (List Bool)) (notes : AreNoted 
         ]
 
     -- at the new segment's place
-    at_new : (superior above : Option ℕ) (place : ℕ) → place < length xs → IsSuperiorPlace xs superior above → (in_use (map_of (noted maps above p false) place) p ≡ false) ↔ IsInferior (with_new superior) place p
+    at_new : (superior above : Option ℕ) (place : ℕ) → place < length xs → IsSuperiorPlace xs superior above
+        → (in_use (map_of (noted maps above p false) place) p ≡ false) ↔ IsInferior (with_new superior) place p
     unfolding with_new
     at_new None above place within placed =
         let new : Option Entry = Some (record { uid = uid; superior = None }) in (
-          λ h. absurd (none_there place ((notes.free place p within lt).0 (subst (λ (o : Option ℕ). in_use (map_of (noted maps o p false) place) p ≡ false) placed h))),
+          λ h. absurd
+              (none_there place ((notes.free place p within lt).0 (subst (λ (o : Option ℕ). in_use (map_of (noted maps o p false) place) p ≡ false) placed h))),
           λ h. absurd (none-some h.0 (sym (superior_set xs p new lt) ∙ h.2)),
         )
     at_new (Some s) above place within (r, is, active) =
         let new : Option Entry = Some (record { uid = uid; superior = Some s }) in
-        subst (λ (o : Option ℕ). (in_use (map_of (noted maps o p false) place) p ≡ false) ↔ IsInferior (set xs p new) place p) (sym is) (elim (cases_eq place r) [
+        subst (λ (o : Option ℕ). (in_use (map_of (noted maps o p false) place) p ≡ false) ↔ IsInferior (set xs p new) place p) (sym is)
+        (elim (cases_eq place r) [
           | inl same ↦
               (let inferior : IsInferior (set xs p new) r p = (s, uid_kept xs p new r (off_new r s active) ∙ active, superior_set xs p new lt) in
               subst (λ (k : ℕ). (in_use (map_of (map_set maps r p false) k) p ≡ false) ↔ IsInferior (set xs p new) k p) (sym same)
-                (λ h. inferior, λ h. flag_here r p false (within_maps r s active) (within_map r s p active lt)))
+              (λ h. inferior, λ h. flag_here r p false (within_maps r s active) (within_map r s p active lt)))
           | inr off ↦ (
             λ h. absurd (none_there place ((notes.free place p within lt).0 (sym (ap (λ (m : List Bool). in_use m p) (map_there r p false place off)) ∙ h))),
             λ h.
@@ -205,7 +220,8 @@ module _ (xs : List (Option Entry)) (maps : List (List Bool)) (notes : AreNoted 
           )
         ])
 
-    pub noted_activated : (superior above : Option ℕ) → IsSuperiorPlace xs superior above → AreNoted (set xs p (Some (record { uid = uid; superior = superior }))) (noted maps above p false)
+    pub noted_activated : (superior above : Option ℕ) → IsSuperiorPlace xs superior above
+        → AreNoted (set xs p (Some (record { uid = uid; superior = superior }))) (noted maps above p false)
     unfolding with_new
     noted_activated superior above placed =
         let new : Option Entry = Some (record { uid = uid; superior = superior }) in
@@ -215,9 +231,12 @@ module _ (xs : List (Option Entry)) (maps : List (List Bool)) (notes : AreNoted 
           maps = as_many above p false ∙ many ∙ sym size;
           as_long = λ place within. as_long_still above p false place (omega arith) ∙ notes.as_long place (omega arith) ∙ sym size;
           free = λ place q within within_q. elim (cases_eq q p) [
-            | inl same ↦ subst (λ (k : ℕ). (in_use (map_of (noted maps above p false) place) k ≡ false) ↔ IsInferior (set xs p new) place k) (sym same) (at_new superior above place (omega arith) placed)
+            | inl same ↦
+                subst (λ (k : ℕ). (in_use (map_of (noted maps above p false) place) k ≡ false) ↔ IsInferior (set xs p new) place k) (sym same)
+                (at_new superior above place (omega arith) placed)
             | inr off ↦
-                (let kept : in_use (map_of (noted maps above p false) place) q ≡ in_use (map_of maps place) q = elsewhere above p false place q (omega arith) off in
+                (let kept : in_use (map_of (noted maps above p false) place) q ≡ in_use (map_of maps place) q =
+                elsewhere above p false place q (omega arith) off in
                 let old : (in_use (map_of maps place) q ≡ false) ↔ IsInferior xs place q = notes.free place q (omega arith) (omega arith) in
                 (λ h. still_inferior superior place q off (old.0 (sym kept ∙ h)), λ h. kept ∙ old.1 (was_inferior superior place q off h)))
           ];
@@ -237,21 +256,28 @@ module _ (xs : List (Option Entry)) (maps : List (List Bool)) (notes : AreNoted 
         (u, sym (uid_kept xs p None place off) ∙ is, sym (superior_kept xs p None q ne) ∙ e)
 
     -- at the place that became free
-    not_at_gone : (superior above : Option ℕ) (place : ℕ) → place < length xs → superior_at xs p ≡ superior → IsSuperiorPlace xs superior above → in_use (map_of (noted maps above p true) place) p ≢ false
+    not_at_gone : (superior above : Option ℕ) (place : ℕ) → place < length xs → superior_at xs p ≡ superior → IsSuperiorPlace xs superior above
+        → in_use (map_of (noted maps above p true) place) p ≢ false
     not_at_gone None above place within is_superior placed off =
-        let h : IsInferior xs place p = (notes.free place p within lt).0 (subst (λ (o : Option ℕ). in_use (map_of (noted maps o p true) place) p ≡ false) placed off) in
+        let h : IsInferior xs place p =
+        (notes.free place p within lt).0 (subst (λ (o : Option ℕ). in_use (map_of (noted maps o p true) place) p ≡ false) placed off) in
         none-some h.0 (sym is_superior ∙ h.2)
     not_at_gone (Some s) above place within is_superior (r, is, active) off =
-        let off' : in_use (map_of (map_set maps r p true) place) p ≡ false = subst (λ (o : Option ℕ). in_use (map_of (noted maps o p true) place) p ≡ false) is off in
+        let off' : in_use (map_of (map_set maps r p true) place) p ≡ false =
+        subst (λ (o : Option ℕ). in_use (map_of (noted maps o p true) place) p ≡ false) is off in
         elim (cases_eq place r) [
-          | inl same ↦ both_ways _ (subst (λ (k : ℕ). in_use (map_of (map_set maps r p true) k) p ≡ false) same off') (flag_here r p true (within_maps r s active) (within_map r s p active lt))
+          | inl same ↦
+              both_ways _ (subst (λ (k : ℕ). in_use (map_of (map_set maps r p true) k) p ≡ false) same off')
+              (flag_here r p true (within_maps r s active) (within_map r s p active lt))
           | inr ne ↦
-              (let h : IsInferior xs place p = (notes.free place p within lt).0 (sym (ap (λ (m : List Bool). in_use m p) (map_there r p true place ne)) ∙ off') in
+              (let h : IsInferior xs place p =
+              (notes.free place p within lt).0 (sym (ap (λ (m : List Bool). in_use m p) (map_there r p true place ne)) ∙ off') in
               let is_s : s ≡ h.0 = same_Some _ _ (sym is_superior ∙ h.2) in
               ne (tree.once place r h.0 h.1 (active ∙ ap (λ (k : ℕ). Some k) is_s)))
         ]
 
-    pub noted_deactivated : (superior above : Option ℕ) → superior_at xs p ≡ superior → IsSuperiorPlace xs superior above → AreNoted (set xs p None) (noted maps above p true)
+    pub noted_deactivated : (superior above : Option ℕ) → superior_at xs p ≡ superior → IsSuperiorPlace xs superior above
+        → AreNoted (set xs p None) (noted maps above p true)
     noted_deactivated superior above is_superior placed =
         let size : length (set xs p None) ≡ length xs = length-set xs p None in
         let many : length maps ≡ length xs = notes.maps in
@@ -260,11 +286,15 @@ module _ (xs : List (Option Entry)) (maps : List (List Bool)) (notes : AreNoted 
           as_long = λ place within. as_long_still above p true place (omega arith) ∙ notes.as_long place (omega arith) ∙ sym size;
           free = λ place q within within_q. elim (cases_eq q p) [
             | inl same ↦ (
-              λ h. absurd (not_at_gone superior above place (omega arith) is_superior placed (subst (λ (k : ℕ). in_use (map_of (noted maps above p true) place) k ≡ false) same h)),
+              λ h.
+                  (let off : in_use (map_of (noted maps above p true) place) p ≡ false =
+                  subst (λ (k : ℕ). in_use (map_of (noted maps above p true) place) k ≡ false) same h in
+                  absurd (not_at_gone superior above place (omega arith) is_superior placed off)),
               λ h. absurd (none-some h.0 (sym (superior_set xs p None lt) ∙ subst (λ (k : ℕ). superior_at (set xs p None) k ≡ Some h.0) same h.2)),
             )
             | inr off ↦
-                (let kept : in_use (map_of (noted maps above p true) place) q ≡ in_use (map_of maps place) q = elsewhere above p true place q (omega arith) off in
+                (let kept : in_use (map_of (noted maps above p true) place) q ≡ in_use (map_of maps place) q =
+                elsewhere above p true place q (omega arith) off in
                 let old : (in_use (map_of maps place) q ≡ false) ↔ IsInferior xs place q = notes.free place q (omega arith) (omega arith) in
                 (λ h. inferior_left place q off (old.0 (sym kept ∙ h)), λ h. kept ∙ old.1 (inferior_before place q off h)))
           ];

@@ -1,12 +1,12 @@
 -- The leaf below a place as a function: the least inferior, and steps down.
-use Rattle.std.proofs.Common.{◌≡◌, ◌≢◌, ℕ, zero, suc, ◌<◌, ◌≤◌, Bool, true, false, cond, eqb, not, List, length, Option, Some, None, refl, sym, ap, subst, ◌∙◌, arith, get_or, inl, inr, position, ltb}
+use Rattle.std.proofs.Common.{◌≡◌, ◌≢◌, ℕ, zero, suc, ◌<◌, ◌≤◌, Bool, true, false, cond, not, List, length, Option, Some, None, refl, ap, ◌∙◌, arith, get_or, inl, inr, position, ltb}
 use Rattle.std.specs.List.{position_or_len}
 use Rattle.std.proofs.lemmas.Bool.{cases_order, eqb-true, eq-eqb, ne_eqb, ltb-false, not-true, both_ways}
 use Rattle.std.proofs.lemmas.List.Quantifiers.{position-Some}
 use Rattle.std.proofs.lemmas.List.Sums.{prefix_len_passes}
 use Rattle.std.proofs.lemmas.Option.{none-some, same_Some}
 use Rattle.active_segs.specs.declared.Entry.{Entry}
-use Rattle.active_segs.specs.Active.{superior_in, uid_at, superior_at, HasNoInferior}
+use Rattle.active_segs.specs.Active.{uid_at, superior_at, HasNoInferior}
 use Rattle.active_segs.specs.Victim.{is_inferior_in, is_inferior_of, least_inferior_of, least_inferior, stead_of, leaf_below, IsLeastInferior}
 use Rattle.active_segs.proofs.EntryLemmas.{superior_within}
 
@@ -33,7 +33,8 @@ position_none {X} p xs e k d within = none_at (ltb (position_or_len p xs) (lengt
         let past : length xs ≤ position_or_len p xs = ltb-false _ _ is in
         not-true _ (prefix_len_passes (λ x. not (p x)) xs k d (omega arith))
 
-position_is : {X : Type 0} (p : X → Bool) (xs : List X) (q : ℕ) (d : X) → q < length xs → p (get_or xs q d) ≡ true → ((k : ℕ) → k < q → p (get_or xs k d) ≡ false) → position p xs ≡ Some q
+position_is : {X : Type 0} (p : X → Bool) (xs : List X) (q : ℕ) (d : X) → q < length xs → p (get_or xs q d) ≡ true
+    → ((k : ℕ) → k < q → p (get_or xs k d) ≡ false) → position p xs ≡ Some q
 position_is {X} p xs q d within passes before = at (position p xs) refl
   where
     at : (o : Option ℕ) → position p xs ≡ o → o ≡ Some q
@@ -62,7 +63,8 @@ position_nowhere {X} p xs d never = at (position p xs) refl
 least_inferior_is : (xs : List (Option Entry)) (place q : ℕ) → IsLeastInferior xs place q → least_inferior xs place ≡ Some q
 least_inferior_is xs place q least =
     ap (least_inferior_of xs) least.is
-    ∙ position_is (is_inferior_of least.uid) xs q None (superior_within xs q least.uid least.inferior) (inferior_yes least.uid (superior_at xs q) least.inferior) (λ k lt. inferior_no least.uid (superior_at xs k) (least.least k lt))
+    ∙ position_is (is_inferior_of least.uid) xs q None (superior_within xs q least.uid least.inferior)
+    (inferior_yes least.uid (superior_at xs q) least.inferior) (λ k lt. inferior_no least.uid (superior_at xs k) (least.least k lt))
 
 no_inferior_is : (xs : List (Option Entry)) (place : ℕ) → HasNoInferior xs place → least_inferior xs place ≡ None
 no_inferior_is xs place none = at (uid_at xs place) refl
@@ -85,4 +87,5 @@ one_step_more xs steps place q least = ap (λ (o : Option ℕ). leaf_below xs st
 pub stays_at_leaf : (xs : List (Option Entry)) (steps place : ℕ) → HasNoInferior xs place → leaf_below xs steps place ≡ place
 unfolding leaf_below
 stays_at_leaf xs zero place none = refl
-stays_at_leaf xs (suc steps) place none = ap (λ (o : Option ℕ). leaf_below xs steps (stead_of place o)) (no_inferior_is xs place none) ∙ stays_at_leaf xs steps place none
+stays_at_leaf xs (suc steps) place none =
+    ap (λ (o : Option ℕ). leaf_below xs steps (stead_of place o)) (no_inferior_is xs place none) ∙ stays_at_leaf xs steps place none

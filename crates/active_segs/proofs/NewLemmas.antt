@@ -17,18 +17,23 @@ use Rattle.active_segs.proofs.PlaceLemmas.{first_more}
 
 -- every place of a new table is free
 vacant_at : (n q : ℕ) → entry_at (replicate n None) q ≡ None
-vacant_at n q = elim (cases_lt q n) [ inl lt ↦ get_or-replicate n q None None lt | inr past ↦ get_or_past (replicate n None) q None (let size : length (replicate n (let none : Option Entry = None in none)) ≡ n = length-replicate n None in omega arith) ]
+vacant_at n q =
+    let size : length (replicate n (let none : Option Entry = None in none)) ≡ n = length-replicate n None in
+    elim (cases_lt q n) [ inl lt ↦ get_or-replicate n q None None lt | inr past ↦ get_or_past (replicate n None) q None (omega arith) ]
 
 none_used : (n : ℕ) → count_by is_some (replicate n (let none : Option Entry = None in none)) ≡ 0
 none_used zero = refl
 none_used (suc n) =
     let ih : count_by is_some (replicate n (let none : Option Entry = None in none)) ≡ 0 = none_used n in
     let none : Option Entry = None in
-    let all : count_by is_some (none ∷ replicate n none) ≡ 0 + count_by is_some (replicate n none) = sum_by-cons (λ (x : Option Entry). cond {A = ℕ} (is_some x) 1 0) none (replicate n none) in
+    let all : count_by is_some (none ∷ replicate n none) ≡ 0 + count_by is_some (replicate n none) =
+    sum_by-cons (λ (x : Option Entry). cond {A = ℕ} (is_some x) 1 0) none (replicate n none) in
     omega arith
 
 zero_at : (n q : ℕ) → get_or (replicate {A = ℕ} n 0) q 0 ≡ 0
-zero_at n q = elim (cases_lt q n) [ inl lt ↦ get_or-replicate n q 0 0 lt | inr past ↦ get_or_past (replicate {A = ℕ} n 0) q 0 (let size : length (replicate {A = ℕ} n 0) ≡ n = length-replicate n 0 in omega arith) ]
+zero_at n q =
+    let size : length (replicate {A = ℕ} n 0) ≡ n = length-replicate n 0 in
+    elim (cases_lt q n) [ inl lt ↦ get_or-replicate n q 0 0 lt | inr past ↦ get_or_past (replicate {A = ℕ} n 0) q 0 (omega arith) ]
 
 four_sizes : (sizes : List ℕ) → length sizes ≡ 4 → sum sizes ≡ size_of sizes 0 + size_of sizes 1 + size_of sizes 2 + size_of sizes 3
 four_sizes sizes four =
@@ -54,16 +59,26 @@ kept_new sizes used xs tables maps index four few is_used is_xs is_tables is_map
     let no_uid : (q : ℕ) → uid_at xs q ≡ None = λ q. ap uid_in (free q) in
     let no_superior : (q : ℕ) → superior_at xs q ≡ None = λ q. ap superior_in (free q) in
     let size : length xs ≡ sum sizes = ap length is_xs ∙ length-replicate (sum sizes) None in
-    let full : (place : ℕ) → place < sum sizes → map_of maps place ≡ replicate (sum sizes) true = λ place lt. ap (λ (l : List (List Bool)). map_of l place) is_maps ∙ get_or-replicate (sum sizes) place (replicate (sum sizes) true) [] lt in
-    let marks : (pool : ℕ) → pool < 4 → map_of used pool ≡ replicate (size_of sizes pool) false = λ pool lt. ap (λ (l : List (List Bool)). map_of l pool) is_used ∙ new_map sizes pool (omega arith) in
+    let full : (place : ℕ) → place < sum sizes → map_of maps place ≡ replicate (sum sizes) true =
+    λ place lt. ap (λ (l : List (List Bool)). map_of l place) is_maps ∙ get_or-replicate (sum sizes) place (replicate (sum sizes) true) [] lt in
+    let marks : (pool : ℕ) → pool < 4 → map_of used pool ≡ replicate (size_of sizes pool) false =
+    λ pool lt. ap (λ (l : List (List Bool)). map_of l pool) is_used ∙ new_map sizes pool (omega arith) in
     record {
-      pools = record { four = four; few = few; hand_count = refl; inside = λ pool lt some. (let at : get_or {A = ℕ} (0 ∷ 0 ∷ 0 ∷ 0 ∷ []) pool 0 ≡ 0 = zero_at 4 pool in omega arith) };
+      pools =
+          record {
+            four = four;
+            few = few;
+            hand_count = refl;
+            inside = λ pool lt some. (let at : get_or {A = ℕ} (0 ∷ 0 ∷ 0 ∷ 0 ∷ []) pool 0 ≡ 0 = zero_at 4 pool in omega arith);
+          };
       entry_count = ap length is_xs ∙ length-replicate (sum sizes) None;
       table_count = ap length is_tables ∙ as_many_tables sizes four;
       marked = record {
         maps = ap length is_used ∙ length-map sizes (λ size. replicate size false) ∙ four;
         as_long = λ pool lt. ap length (marks pool lt) ∙ length-replicate (size_of sizes pool) false;
-        flags = λ pool offset lt within. ap (λ (m : List Bool). in_use m offset) (marks pool lt) ∙ get_or-replicate (size_of sizes pool) offset false false within ∙ sym (ap is_some (free (first_of sizes pool + offset)));
+        flags =
+            λ pool offset lt within. ap (λ (m : List Bool). in_use m offset) (marks pool lt) ∙ get_or-replicate (size_of sizes pool) offset false false within
+            ∙ sym (ap is_some (free (first_of sizes pool + offset)));
       };
       inferior_maps = record {
         maps = ap length is_maps ∙ length-replicate (sum sizes) (replicate (sum sizes) true) ∙ sym size;
@@ -74,7 +89,8 @@ kept_new sizes used xs tables maps index four few is_used is_xs is_tables is_map
         );
       };
       indexed = record {
-        places = λ q uid. (λ h. absurd (none-some q (sym (ap (λ (l : List (ℕ × ℕ)). place_of l uid) empty) ∙ h)), λ h. absurd (none-some uid (sym (no_uid q) ∙ h)));
+        places =
+            λ q uid. (λ h. absurd (none-some q (sym (ap (λ (l : List (ℕ × ℕ)). place_of l uid) empty) ∙ h)), λ h. absurd (none-some uid (sym (no_uid q) ∙ h)));
         count = ap length empty ∙ sym (ap (count_by is_some) is_xs ∙ none_used (sum sizes));
         room = room ∙ sym (ap length is_xs ∙ length-replicate (sum sizes) None);
       };
@@ -88,10 +104,14 @@ kept_new sizes used xs tables maps index four few is_used is_xs is_tables is_map
 -- ---- the tables of each pool
 
 of_these : (n : ℕ) (table : List Ptw) (rest : List (List Ptw)) (i : ℕ) → i < n → table_at (replicate n table ++ rest) i ≡ table
-of_these n table rest i lt = let size : length (replicate n table) ≡ n = length-replicate n table in get_or_append_left (replicate n table) rest [] i (omega arith) ∙ get_or-replicate n i table [] lt
+of_these n table rest i lt =
+    let size : length (replicate n table) ≡ n = length-replicate n table in get_or_append_left (replicate n table) rest [] i (omega arith)
+    ∙ get_or-replicate n i table [] lt
 
 of_the_rest : (n : ℕ) (table : List Ptw) (rest : List (List Ptw)) (i : ℕ) → n ≤ i → table_at (replicate n table ++ rest) i ≡ table_at rest (i - n)
-of_the_rest n table rest i le = let size : length (replicate n table) ≡ n = length-replicate n table in get_or-append_right (replicate n table) rest i [] (omega arith) ∙ ap (λ (k : ℕ). table_at rest (i - k)) size
+of_the_rest n table rest i le =
+    let size : length (replicate n table) ≡ n = length-replicate n table in get_or-append_right (replicate n table) rest i [] (omega arith)
+    ∙ ap (λ (k : ℕ). table_at rest (i - k)) size
 
 module _ (sizes : List ℕ) (four : length sizes ≡ 4) where
   abbrev blank : ℕ → List Ptw
@@ -116,7 +136,8 @@ module _ (sizes : List ℕ) (four : length sizes ≡ 4) where
       let a : first_of sizes 1 ≡ first_of sizes 0 + size_of sizes 0 = first_more sizes 0 (omega arith) in
       let none : first_of sizes 0 ≡ 0 = refl in
       let n : size_of sizes 0 ≡ first_of sizes 1 = omega arith in
-      ap (λ (tables : List (List Ptw)). table_at tables place) regrouped ∙ of_the_rest (size_of sizes 0) (blank 4) last_three place (omega arith) ∙ ap (λ (k : ℕ). table_at last_three (place - k)) n
+      ap (λ (tables : List (List Ptw)). table_at tables place) regrouped ∙ of_the_rest (size_of sizes 0) (blank 4) last_three place (omega arith)
+      ∙ ap (λ (k : ℕ). table_at last_three (place - k)) n
 
   past_second : (place : ℕ) → first_of sizes 2 ≤ place → table_at (null_tables sizes) place ≡ table_at last_two (place - first_of sizes 2)
   past_second place le =

@@ -28,13 +28,15 @@ place_absent (x ∷ l) uid not_before = grind (arith, nat_tests, not_before 0 (o
 pub place_present : (l : List (ℕ × ℕ)) (uid i : ℕ) → IsFoundAt l uid i → NotBefore l uid i → place_of l uid ≡ Some (get_or l i (0, 0)).1
 place_present [] uid i found not_before = absurd (omega (arith, found.within))
 place_present (x ∷ l) uid zero found not_before = grind (arith, nat_tests, found.is)
-place_present (x ∷ l) uid (suc i) found not_before = grind (arith, nat_tests, not_before 0 (omega arith), place_present l uid i (found_tail x l uid i found) (not_before_tail x l uid i not_before))
+place_present (x ∷ l) uid (suc i) found not_before =
+    grind (arith, nat_tests, not_before 0 (omega arith), place_present l uid i (found_tail x l uid i found) (not_before_tail x l uid i not_before))
 
 -- a new pair before any pair that has the uid sets its place
 pub place_inserted : (l : List (ℕ × ℕ)) (uid place i : ℕ) → NotBefore l uid i → SetsPlace l (insert l i (uid, place)) uid (Some place)
 place_inserted l uid place zero not_before q = refl
 place_inserted [] uid place (suc i) not_before q = refl
-place_inserted (x ∷ l) uid place (suc i) not_before q = grind (arith, nat_tests, not_before 0 (omega arith), place_inserted l uid place i (not_before_tail x l uid i not_before) q)
+place_inserted (x ∷ l) uid place (suc i) not_before q =
+    grind (arith, nat_tests, not_before 0 (omega arith), place_inserted l uid place i (not_before_tail x l uid i not_before) q)
 
 ascending_tail : (x : ℕ × ℕ) (l : List (ℕ × ℕ)) → IsAscending (x ∷ l) → IsAscending l
 ascending_tail x l ascending i j lt within = ascending (suc i) (suc j) (omega arith) (omega arith)
@@ -46,7 +48,8 @@ place_removed (x ∷ l) uid zero ascending found q =
     let absent : place_of l uid ≡ None = place_absent l uid (λ j lt same. omega (arith, ascending 0 (suc j) (omega arith) (omega arith), found.is)) in
     grind (arith, nat_tests, found.is)
 place_removed (x ∷ l) uid (suc i) ascending found q =
-    let ih : place_of (remove l i) q ≡ (if eqb uid q then None else place_of l q) = place_removed l uid i (ascending_tail x l ascending) (found_tail x l uid i found) q in
+    let ih : place_of (remove l i) q ≡ (if eqb uid q then None else place_of l q) =
+    place_removed l uid i (ascending_tail x l ascending) (found_tail x l uid i found) q in
     let below : x.0 < uid = omega (arith, ascending 0 (suc i) (omega arith) found.within, found.is) in
     grind (arith, nat_tests)
 
@@ -58,7 +61,8 @@ module _ (l : List (ℕ × ℕ)) (ascending : IsAscending l) (uid : ℕ) where
       grind (arith, nat_tests))
 
   -- a binary search ends at the uid, or at the gap for it
-  pub searched : (r : Result ℕ ℕ) → IsSearchInRange r (length l) → IsBinarySearchResult (λ pair. nat_cmp pair.0 uid) l r → record { found : IfOk r (IsFoundAt l uid); absent : IfErr r (BelongsAt l uid) }
+  pub searched : (r : Result ℕ ℕ) → IsSearchInRange r (length l) → IsBinarySearchResult (λ pair. nat_cmp pair.0 uid) l r
+      → record { found : IfOk r (IsFoundAt l uid); absent : IfErr r (BelongsAt l uid) }
   searched (Ok at) within equal = record { found = record { within = within; is = ranked _ uid _ (sym (equal (0, 0))) }; absent = tt }
   searched (Err at) within parted = record {
     found = tt;
@@ -103,5 +107,20 @@ module _ (l : List (ℕ × ℕ)) (uid at : ℕ) (gap : BelongsAt l uid at) where
       let length_new = length-insert l at (uid, place) gap.within in
       let key_below : (i : ℕ) → i < at → uid_in new i ≡ uid_in l i = λ i below. ap key (get_or-insert_below l at (uid, place) (0, 0) i below gap.within) in
       let key_here : (i : ℕ) → i ≡ at → uid_in new i ≡ uid = λ i here. rw here (ap key (get_or-insert_at l at (uid, place) (0, 0) gap.within)) in
-      let key_above : (i : ℕ) → at < i → uid_in new i ≡ uid_in l (i - 1) = λ i above. subst (λ q. uid_in new q ≡ uid_in l (i - 1)) {x = i - 1 + 1} (omega arith) (ap key (get_or-insert_above l at (uid, place) (0, 0) (i - 1) (omega arith) gap.within)) in
-      grind (arith, key_below i, key_here i, key_above i, key_below j, key_here j, key_above j, ascending i j, ascending i (j - 1), ascending (i - 1) (j - 1), gap.below i, gap.above (j - 1))
+      let key_above : (i : ℕ) → at < i → uid_in new i ≡ uid_in l (i - 1) =
+      λ i above. subst (λ q. uid_in new q ≡ uid_in l (i - 1)) {x = i - 1 + 1} (omega arith)
+      (ap key (get_or-insert_above l at (uid, place) (0, 0) (i - 1) (omega arith) gap.within)) in
+      grind (
+        arith,
+        key_below i,
+        key_here i,
+        key_above i,
+        key_below j,
+        key_here j,
+        key_above j,
+        ascending i j,
+        ascending i (j - 1),
+        ascending (i - 1) (j - 1),
+        gap.below i,
+        gap.above (j - 1),
+      )

@@ -72,8 +72,14 @@ placed_once sizes place p i q j four a b =
     elim (cases_order p q) [
       | inl same ↦ (same, (let f : first_of sizes p ≡ first_of sizes q = ap (first_of sizes) same in omega arith))
       | inr differ ↦ elim differ [
-        | inl before ↦ absurd (let h : first_of sizes p + size_of sizes p ≤ first_of sizes q = pools_apart sizes p q (let k : p < 4 = a.known in omega arith) before in omega arith)
-        | inr after ↦ absurd (let h : first_of sizes q + size_of sizes q ≤ first_of sizes p = pools_apart sizes q p (let k : q < 4 = b.known in omega arith) after in omega arith)
+        | inl before ↦
+            absurd
+            (let h : first_of sizes p + size_of sizes p ≤ first_of sizes q =
+            pools_apart sizes p q (let k : p < 4 = a.known in omega arith) before in omega arith)
+        | inr after ↦
+            absurd
+            (let h : first_of sizes q + size_of sizes q ≤ first_of sizes p =
+            pools_apart sizes q p (let k : q < 4 = b.known in omega arith) after in omega arith)
       ]
     ]
 
@@ -91,7 +97,9 @@ marked_set sizes used xs place pool offset b o four size marked placed is =
     record {
       maps = length-set used pool map ∙ marked.maps;
       as_long = λ q lt_q. elim (cases_eq q pool) [
-        | inl same ↦ subst (λ (k : ℕ). length (map_of (set used pool map) k) ≡ size_of sizes k) (sym same) (ap length here ∙ length-set (map_of used pool) offset b ∙ marked.as_long pool placed.known)
+        | inl same ↦
+            subst (λ (k : ℕ). length (map_of (set used pool map) k) ≡ size_of sizes k) (sym same)
+            (ap length here ∙ length-set (map_of used pool) offset b ∙ marked.as_long pool placed.known)
         | inr off ↦ ap length (there q off) ∙ marked.as_long q lt_q
       ];
       flags = λ q i lt_q lt_i.
@@ -99,29 +107,38 @@ marked_set sizes used xs place pool offset b o four size marked placed is =
           elim (cases_eq q pool) [
             | inl same ↦ elim (cases_eq i offset) [
               | inl same_i ↦
-                  (let at : first_of sizes q + i ≡ place = (let f : first_of sizes q ≡ first_of sizes pool = ap (first_of sizes) same in let p : place ≡ first_of sizes pool + offset = placed.is in omega arith) in
-                  let short : offset < length (map_of used pool) = (let l : length (map_of used pool) ≡ size_of sizes pool = marked.as_long pool placed.known in let w : offset < size_of sizes pool = placed.within in omega arith) in
+                  (let at : first_of sizes q + i ≡ place =
+                  (let f : first_of sizes q ≡ first_of sizes pool = ap (first_of sizes) same in
+                  let p : place ≡ first_of sizes pool + offset = placed.is in omega arith) in
+                  let short : offset < length (map_of used pool) =
+                  (let l : length (map_of used pool) ≡ size_of sizes pool = marked.as_long pool placed.known in
+                  let w : offset < size_of sizes pool = placed.within in omega arith) in
                   let on : in_use map offset ≡ b = get_or-set_same (map_of used pool) offset b false short in
                   let entry : is_some (entry_at (set xs place o) place) ≡ b = ap is_some (entry_set xs place o lt) ∙ is in
                   let map_is : map_of (set used pool map) q ≡ map = ap (map_of (set used pool map)) same ∙ here in
                   let left : in_use (map_of (set used pool map) q) i ≡ b = ap (λ (m : List Bool). in_use m i) map_is ∙ ap (in_use map) same_i ∙ on in
                   left ∙ sym (ap (λ (k : ℕ). is_some (entry_at (set xs place o) k)) at ∙ entry))
               | inr off_i ↦
-                  (let off : first_of sizes q + i ≢ place = λ e. off_i (placed_once sizes place q i pool offset four (record { known = lt_q; within = lt_i; is = sym e }) placed).1 in
+                  (let off : first_of sizes q + i ≢ place =
+                  λ e. off_i (placed_once sizes place q i pool offset four (record { known = lt_q; within = lt_i; is = sym e }) placed).1 in
                   let map_is : map_of (set used pool map) q ≡ map = ap (map_of (set used pool map)) same ∙ here in
                   let kept : in_use map i ≡ in_use (map_of used pool) i = get_or-set_other (map_of used pool) offset i b false off_i in
                   let was : in_use (map_of used q) i ≡ is_some (entry_at xs (first_of sizes q + i)) = marked.flags q i lt_q lt_i in
-                  ap (λ (m : List Bool). in_use m i) map_is ∙ kept ∙ ap (λ (k : ℕ). in_use (map_of used k) i) (sym same) ∙ was ∙ sym (ap is_some (entry_kept xs place o (first_of sizes q + i) off)))
+                  ap (λ (m : List Bool). in_use m i) map_is ∙ kept ∙ ap (λ (k : ℕ). in_use (map_of used k) i) (sym same) ∙ was
+                  ∙ sym (ap is_some (entry_kept xs place o (first_of sizes q + i) off)))
             ]
             | inr off_q ↦
-                (let off : first_of sizes q + i ≢ place = λ e. off_q (placed_once sizes place q i pool offset four (record { known = lt_q; within = lt_i; is = sym e }) placed).0 in
-                ap (λ (m : List Bool). in_use m i) (there q off_q) ∙ marked.flags q i lt_q lt_i ∙ sym (ap is_some (entry_kept xs place o (first_of sizes q + i) off)))
+                (let off : first_of sizes q + i ≢ place =
+                λ e. off_q (placed_once sizes place q i pool offset four (record { known = lt_q; within = lt_i; is = sym e }) placed).0 in
+                ap (λ (m : List Bool). in_use m i) (there q off_q) ∙ marked.flags q i lt_q lt_i
+                ∙ sym (ap is_some (entry_kept xs place o (first_of sizes q + i) off)))
           ]);
     }
 
 -- ---- the index
 
-used_set : (xs : List (Option Entry)) (p : ℕ) (o : Option Entry) → p < length xs → count_by is_some (set xs p o) + cond {A = ℕ} (is_some (entry_at xs p)) 1 0 ≡ count_by is_some xs + cond (is_some o) 1 0
+used_set : (xs : List (Option Entry)) (p : ℕ) (o : Option Entry) → p < length xs
+    → count_by is_some (set xs p o) + cond {A = ℕ} (is_some (entry_at xs p)) 1 0 ≡ count_by is_some xs + cond (is_some o) 1 0
 used_set xs p o lt = sum_by-set (λ (x : Option Entry). cond (is_some x) 1 0) xs p o None lt
 
 -- where a place is free not all are used
@@ -134,12 +151,14 @@ not_all_used xs p lt free =
     let size : length (set xs p (Some e)) ≡ length xs = length-set xs p (Some e) in omega arith
 
 -- and the index has room
-pub index_has_room : (xs : List (Option Entry)) (index : Pairs) (p : ℕ) → IsIndexed xs index → p < length xs → entry_at xs p ≡ None → length index.pairs < index.room
+pub index_has_room : (xs : List (Option Entry)) (index : Pairs) (p : ℕ) → IsIndexed xs index → p < length xs → entry_at xs p ≡ None
+    → length index.pairs < index.room
 index_has_room xs index p indexed lt free =
     let few : count_by is_some xs < length xs = not_all_used xs p lt free in
     let c : length index.pairs ≡ count_by is_some xs = indexed.count in let r : index.room ≡ length xs = indexed.room in omega arith
 
-pub index_lacks : (xs : List (Option Entry)) (index : Pairs) (uid : ℕ) → IsIndexed xs index → ((q : ℕ) → uid_at xs q ≢ Some uid) → place_of index.pairs uid ≡ None
+pub index_lacks : (xs : List (Option Entry)) (index : Pairs) (uid : ℕ) → IsIndexed xs index → ((q : ℕ) → uid_at xs q ≢ Some uid)
+    → place_of index.pairs uid ≡ None
 index_lacks xs index uid indexed inactive = lacks (place_of index.pairs uid) refl
   where
     lacks : (o : Option ℕ) → place_of index.pairs uid ≡ o → place_of index.pairs uid ≡ None
@@ -153,12 +172,15 @@ module _ (xs : List (Option Entry)) (old new : Pairs) (p : ℕ) (lt : p < length
   other_place : (uid u : ℕ) (place : Option ℕ) → SetsPlace old.pairs new.pairs uid place → uid ≢ u → place_of new.pairs u ≡ place_of old.pairs u
   other_place uid u place sets ne = sets u ∙ ap (λ (b : Bool). cond b place (place_of old.pairs u)) (ne_eqb uid u ne)
 
-  pub indexed_activated : (e : Entry) → entry_at xs p ≡ None → ((q : ℕ) → uid_at xs q ≢ Some e.uid) → SetsPlace old.pairs new.pairs e.uid (Some p) → length new.pairs ≡ length old.pairs + 1 → IsIndexed (set xs p (Some e)) new
+  pub indexed_activated : (e : Entry) → entry_at xs p ≡ None → ((q : ℕ) → uid_at xs q ≢ Some e.uid) → SetsPlace old.pairs new.pairs e.uid (Some p)
+      → length new.pairs ≡ length old.pairs + 1 → IsIndexed (set xs p (Some e)) new
   indexed_activated e free inactive sets count = record {
     places = λ q u. elim (cases_eq e.uid u) [
       | inl same ↦
           (let here : place_of new.pairs u ≡ Some p = this_place e.uid u (Some p) sets same in (
-            λ h. (let at : p ≡ q = same_Some p q (sym here ∙ h) in subst (λ (k : ℕ). uid_at (set xs p (Some e)) k ≡ Some u) at (uid_set xs p (Some e) lt ∙ ap (λ (k : ℕ). Some k) same)),
+            λ h.
+                (let at : p ≡ q = same_Some p q (sym here ∙ h) in
+                subst (λ (k : ℕ). uid_at (set xs p (Some e)) k ≡ Some u) at (uid_set xs p (Some e) lt ∙ ap (λ (k : ℕ). Some k) same)),
             λ h. elim (cases_eq q p) [
               | inl at_p ↦ here ∙ ap (λ (k : ℕ). Some k) (sym at_p)
               | inr off ↦ absurd (inactive q (sym (uid_kept xs p (Some e) q off) ∙ h ∙ ap (λ (k : ℕ). Some k) (sym same)))
@@ -171,7 +193,8 @@ module _ (xs : List (Option Entry)) (old new : Pairs) (p : ℕ) (lt : p < length
                 let off : q ≢ p = λ same. none-some u (sym (ap uid_in free) ∙ subst (λ (k : ℕ). uid_at xs k ≡ Some u) same was) in
                 uid_kept xs p (Some e) q off ∙ was),
             λ h. elim (cases_eq q p) [
-              | inl at_p ↦ absurd (differ (same_Some e.uid u (sym (uid_set xs p (Some e) lt) ∙ subst (λ (k : ℕ). uid_at (set xs p (Some e)) k ≡ Some u) at_p h)))
+              | inl at_p ↦
+                  absurd (differ (same_Some e.uid u (sym (uid_set xs p (Some e) lt) ∙ subst (λ (k : ℕ). uid_at (set xs p (Some e)) k ≡ Some u) at_p h)))
               | inr off ↦ there ∙ (indexed.places q u).1 (sym (uid_kept xs p (Some e) q off) ∙ h)
             ],
           ))
@@ -183,7 +206,8 @@ module _ (xs : List (Option Entry)) (old new : Pairs) (p : ℕ) (lt : p < length
     room = room ∙ indexed.room ∙ sym (length-set xs p (Some e));
   }
 
-  pub indexed_deactivated : (e : Entry) → entry_at xs p ≡ Some e → IsOneToOne xs → SetsPlace old.pairs new.pairs e.uid None → length new.pairs + 1 ≡ length old.pairs → IsIndexed (set xs p None) new
+  pub indexed_deactivated : (e : Entry) → entry_at xs p ≡ Some e → IsOneToOne xs → SetsPlace old.pairs new.pairs e.uid None
+      → length new.pairs + 1 ≡ length old.pairs → IsIndexed (set xs p None) new
   indexed_deactivated e is once sets count = record {
     places = λ q u. elim (cases_eq e.uid u) [
       | inl same ↦

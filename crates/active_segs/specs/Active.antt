@@ -64,7 +64,8 @@ SuperiorsAreActive entries = (place superior : ℕ) → superior_at entries plac
 
 -- superiors don't go round: each segment can be given a rank above its superior's
 abbrev pub IsGrounded : List (Option Entry) → Type 0
-IsGrounded entries = (rank : ℕ → ℕ) × ((place uid superior : ℕ) → uid_at entries place ≡ Some uid → superior_at entries place ≡ Some superior → rank superior < rank uid)
+IsGrounded entries =
+    (rank : ℕ → ℕ) × ((place uid superior : ℕ) → uid_at entries place ≡ Some uid → superior_at entries place ≡ Some superior → rank superior < rank uid)
 
 -- the active segments are a part of a tree that reaches up to its root
 pub record IsTree (entries : List (Option Entry)) : Type 0 where
@@ -121,7 +122,8 @@ activated s place uid superior = record s { entries = slice_set s.entries place 
 
 -- nothing is active in the place, and each word of its table is `Null`
 abbrev pub deactivated : ActiveSegs → ℕ → ActiveSegs
-deactivated s place = record s { entries = slice_set s.entries place None; tables = slice_set s.tables place (replicate (length (table_at s.tables place)) Null) }
+deactivated s place =
+    record s { entries = slice_set s.entries place None; tables = slice_set s.tables place (replicate (length (table_at s.tables place)) Null) }
 
 -- the place has this table
 abbrev pub with_table : ActiveSegs → ℕ → List Ptw → ActiveSegs

@@ -19,7 +19,8 @@ map_set maps i k flag = slice_set maps i (slice_set (map_of maps i) k flag)
 pub record IsMarked (sizes : List ℕ) (used : List (List Bool)) (entries : List (Option Entry)) : Type 0 where
   pub maps : length used ≡ 4
   pub as_long : (pool : ℕ) → pool < 4 → length (map_of used pool) ≡ size_of sizes pool
-  pub flags : (pool offset : ℕ) → pool < 4 → offset < size_of sizes pool → in_use (map_of used pool) offset ≡ is_some (entry_at entries (first_of sizes pool + offset))
+  pub flags : (pool offset : ℕ) → pool < 4 → offset < size_of sizes pool
+      → in_use (map_of used pool) offset ≡ is_some (entry_at entries (first_of sizes pool + offset))
 
 -- the segment of a place is the superior of the one in place q
 abbrev pub IsInferior : List (Option Entry) → ℕ → ℕ → Type 0
@@ -48,7 +49,8 @@ pub record IsIndexed (entries : List (Option Entry)) (index : Pairs) : Type 0 wh
   pub count : length index.pairs ≡ count_by is_some entries
   pub room : index.room ≡ length entries
 
-pub record IsKept (sizes hands : List ℕ) (used : List (List Bool)) (entries : List (Option Entry)) (tables : List (List Ptw)) (inferiors : List (List Bool)) (index : Pairs) : Type 0 where
+pub record IsKept (sizes hands : List ℕ) (used : List (List Bool)) (entries : List (Option Entry)) (tables : List (List Ptw)) (inferiors : List (List Bool))
+    (index : Pairs) : Type 0 where
   pub pools : HasPools sizes hands
   pub entry_count : length entries ≡ sum sizes
   pub table_count : length tables ≡ sum sizes

@@ -113,7 +113,8 @@ pub record HasOneOffChain (s : ActiveSegs) (pool : ℕ) (chain : List ℕ) : Typ
 
 -- the superior of each active segment of the chain is in the chain
 abbrev pub HasItsSuperiors : List (Option Entry) → List ℕ → Type 0
-HasItsSuperiors entries chain = (place uid superior : ℕ) → uid_at entries place ≡ Some uid → Contains chain uid → superior_at entries place ≡ Some superior → Contains chain superior
+HasItsSuperiors entries chain =
+    (place uid superior : ℕ) → uid_at entries place ≡ Some uid → Contains chain uid → superior_at entries place ≡ Some superior → Contains chain superior
 
 -- the segment of this place isn't in the chain
 abbrev pub IsOffChain : List (Option Entry) → List ℕ → ℕ → Type 0

@@ -23,7 +23,7 @@ pub(crate) fn no_inferiors(alloc: Global, places: u32) -> Result<Vec<Bitmap>, No
 }
 
 /// A map of so many numbers, all in use.
-#[tactic(auto, using(crate::proofs::InferiorLemmas::next_is_free, crate::proofs::InferiorLemmas::one_more_taken, std::proofs::lemmas::Grind::common_steps))]
+#[tactic(auto, using(crate::proofs::InferiorLemmas::next_is_free, crate::proofs::InferiorLemmas::one_more_taken))]
 fn all_in_use(alloc: Global, numbers: u32) -> Result<Bitmap, NoMemory>
     ensures { IfOk result (λ map. map ≡ replicate numbers true) }
 {

@@ -75,9 +75,11 @@ impl Model for Ast {
 
     ghost Value = { ActiveSegs };
 
-    ghost view = { λ a. record { sizes = a.sizes; hands = a.hands; entries = a.entries.items; tables = a.tables.items } };
+    ghost view = { λ a.
+        record { sizes = a.sizes; hands = a.hands; entries = a.entries.items; tables = a.tables.items } };
 
-    ghost invariant = { λ a. IsKept a.sizes a.hands a.used.items a.entries.items a.tables.items a.inferiors.items a.index };
+    ghost invariant = { λ a.
+        IsKept a.sizes a.hands a.used.items a.entries.items a.tables.items a.inferiors.items a.index };
 }
 
 impl From<bitmap::NoMemory> for NoMemory {
@@ -199,7 +201,10 @@ impl Ast {
         ensures off { IsOffChain self.now.entries chain.now result.1 }
     {
         let found = self.found(pool, chain);
-        (found, victim::leaf_below(&self.entries, &self.inferiors, found))
+        (
+            found,
+            victim::leaf_below(&self.entries, &self.inferiors, found),
+        )
     }
 
     /// The place from which the way goes down to the victim.

@@ -1,4 +1,4 @@
-use Rattle.std.proofs.Common.{◌≡◌, ◌≢◌, ◌<◌, List, Option, ◌≤◌, ℕ, Some, None, length, sum, sym, subst, arith}
+use Rattle.std.proofs.Common.{◌≡◌, ◌≢◌, ◌<◌, List, Option, ℕ, Some, None, length, sym, subst}
 use Rattle.active_segs.specs.declared.Entry.{Entry}
 use Rattle.active_segs.specs.Active.{ActiveSegs, entry_at, uid_at, IsActive}
 use Rattle.active_segs.proofs.AstLemmas.{kept_activated}
@@ -10,9 +10,10 @@ pub note-requires : goal.note-requires
 note-requires c =
     let xs : List (Option Entry) = c.self.inside.entries.items in
     let active : (s : ℕ) → c.args.superior ≡ Some s → IsActive xs s =
-        λ s h. subst (λ (v : ActiveSegs). IsActive v.entries s) (sym c.self.view_is) (c.requires.superior s h) in
+    λ s h. subst (λ (v : ActiveSegs). IsActive v.entries s) (sym c.self.view_is) (c.requires.superior s h) in
     let placed : IsSuperiorPlace xs c.args.superior c.place_of_superior-above.result =
-        subst (IsSuperiorPlace xs c.args.superior) (sym c.place_of_superior-above.ensures) (superior_placed _ _ c.self.invariant.indexed c.args.superior active) in
+    subst (IsSuperiorPlace xs c.args.superior) (sym c.place_of_superior-above.ensures)
+    (superior_placed _ _ c.self.invariant.indexed c.args.superior active) in
     let lt : c.args.place < length xs = subst (λ (v : ActiveSegs). c.args.place < length v.entries) (sym c.self.view_is) c.requires.place in
     let free : entry_at xs c.args.place ≡ None = subst (λ (v : ActiveSegs). entry_at v.entries c.args.place ≡ None) (sym c.self.view_is) c.requires.free in
     may_note xs c.self.inside.inferiors.items c.self.invariant.inferior_maps c.args.superior c.place_of_superior-above.result c.args.place lt free placed
@@ -30,8 +31,10 @@ insert-requires-clause-absent c =
 
 pub invariant_of-self : goal.invariant_of-self
 invariant_of-self c =
-    kept_activated c.self.inside.sizes c.self.inside.hands c.self.inside.used.items c.self.inside.entries.items c.self.inside.tables.items c.self.inside.inferiors.items c.self.inside.index c.self.invariant
-    c.args.place c.args.uid c.args.superior c.pool_of-pool.result.0 c.pool_of-pool.result.1 c.mark.new.used.items c.note.new.inferiors.items c.insert.new.self c.place_of_superior-above.result
+    kept_activated c.self.inside.sizes c.self.inside.hands c.self.inside.used.items c.self.inside.entries.items c.self.inside.tables.items
+    c.self.inside.inferiors.items c.self.inside.index c.self.invariant
+    c.args.place c.args.uid c.args.superior c.pool_of-pool.result.0 c.pool_of-pool.result.1 c.mark.new.used.items c.note.new.inferiors.items c.insert.new.self
+    c.place_of_superior-above.result
     (subst (λ (v : ActiveSegs). c.args.place < length v.entries) (sym c.self.view_is) c.requires.place)
     (subst (λ (v : ActiveSegs). entry_at v.entries c.args.place ≡ None) (sym c.self.view_is) c.requires.free)
     (subst (λ (v : ActiveSegs). (q : ℕ) → uid_at v.entries q ≢ Some c.args.uid) (sym c.self.view_is) c.requires.inactive)

@@ -1,4 +1,4 @@
-use Rattle.std.proofs.Common.{◌≡◌, ◌<◌, ◌+◌, List, [], Bool, true, length, sym, ap, subst, ◌∙◌, arith, is_some, All}
+use Rattle.std.proofs.Common.{◌≡◌, ◌<◌, ◌+◌, List, [], Bool, true, length, ap, subst, ◌∙◌, arith, is_some, All}
 use Rattle.std.proofs.lemmas.Bool.{true≢false}
 use Rattle.std.proofs.lemmas.List.{get_or_default}
 use Rattle.bitmap.specs.Bitmap.{IsLeastFree as IsFirstFree}
@@ -17,11 +17,12 @@ returns-in_err-offset-clause-full c =
       tables = c.self.inside.tables.items;
     } in
     let used : List (List Bool) = c.self.inside.used.items in
-    let lt : c.args.pool < length used = (let maps : length used ≡ 4 = c.self.invariant.marked.maps in let pool : c.args.pool < 4 = c.requires in omega arith) in
+    let lt : c.args.pool < length used =
+    (let maps : length used ≡ 4 = c.self.invariant.marked.maps in let pool : c.args.pool < 4 = c.requires in omega arith) in
     let map : c.index.result.now ≡ map_of used c.args.pool = c.index.ensures ∙ get_or_default _ _ _ [] lt in
     let all : All (λ flag. flag ≡ true) (map_of used c.args.pool) = subst (All (λ (flag : Bool). flag ≡ true)) map c.in_err-offset.ensures.none in
     let full : IsFull c.args.self.now c.args.pool =
-        subst (λ (v : ActiveSegs). IsFull v c.args.pool) c.self.view_is (full_since_marked s used c.args.pool c.requires c.self.invariant.marked all) in
+    subst (λ (v : ActiveSegs). IsFull v c.args.pool) c.self.view_is (full_since_marked s used c.args.pool c.requires c.self.invariant.marked all) in
     (λ h. full, λ h. ap is_some c.from_residual.ensures)
 
 pub returns-clause-least : goal.returns-clause-least
@@ -33,11 +34,13 @@ returns-clause-least c =
       tables = c.self.inside.tables.items;
     } in
     let used : List (List Bool) = c.self.inside.used.items in
-    let lt : c.args.pool < length used = (let maps : length used ≡ 4 = c.self.invariant.marked.maps in let pool : c.args.pool < 4 = c.requires in omega arith) in
+    let lt : c.args.pool < length used =
+    (let maps : length used ≡ 4 = c.self.invariant.marked.maps in let pool : c.args.pool < 4 = c.requires in omega arith) in
     let map : c.index.result.now ≡ map_of used c.args.pool = c.index.ensures ∙ get_or_default _ _ _ [] lt in
-    let first : IsFirstFree (map_of used c.args.pool) c.in_ok-offset.offset = subst (λ (m : List Bool). IsFirstFree m c.in_ok-offset.offset) map c.in_ok-offset.ensures.some in
+    let first : IsFirstFree (map_of used c.args.pool) c.in_ok-offset.offset =
+    subst (λ (m : List Bool). IsFirstFree m c.in_ok-offset.offset) map c.in_ok-offset.ensures.some in
     let least : IsLeastFree s c.args.pool (first_of c.self.inside.sizes c.args.pool + c.in_ok-offset.offset) =
-        least_since_marked s used c.args.pool c.in_ok-offset.offset c.requires c.self.invariant.marked first in
+    least_since_marked s used c.args.pool c.in_ok-offset.offset c.requires c.self.invariant.marked first in
     subst (λ (v : ActiveSegs). IsLeastFree v c.args.pool (c.first_of.result + c.in_ok-offset.offset)) c.self.view_is (rw c.first_of.ensures.first least)
 
 pub returns-clause-shape : goal.returns-clause-shape

@@ -11,4 +11,5 @@ returns-clause-within c =
 
 pub returns-clause-shape : goal.returns-clause-shape
 returns-clause-shape c =
-    subst HasShape c.self.view_is (record { pools = c.self.invariant.pools; entry_count = c.self.invariant.entry_count; table_count = c.self.invariant.table_count })
+    subst HasShape c.self.view_is
+    (record { pools = c.self.invariant.pools; entry_count = c.self.invariant.entry_count; table_count = c.self.invariant.table_count })

@@ -2,7 +2,7 @@ use Rattle.std.proofs.Common.{◌≡◌, List, Option, length, sym, ap, subst, �
 use Rattle.active_segs.specs.declared.Entry.{Entry}
 use Rattle.active_segs.specs.Active.{ActiveSegs}
 use Rattle.active_segs.specs.Kept.{IsActiveAt}
-use Rattle.active_segs.specs.Victim.{leaf_below, StandsFor, IsVictim}
+use Rattle.active_segs.specs.Victim.{leaf_below, StandsFor}
 use Rattle.active_segs.proofs.AstLemmas.{is_victim, is_victim_of}
 use Rattle.active_segs.proofs.DescentLemmas.{victim_once, victim_is_leaf, victim_off, victim_within}
 use Rattle.active_segs.proofs.Ast.way_down.Goals as goal
@@ -10,7 +10,7 @@ use Rattle.active_segs.proofs.Ast.way_down.Goals as goal
 pub leaf_below-requires-clause-active : goal.leaf_below-requires-clause-active
 leaf_below-requires-clause-active c =
     let same : c.args.self.now.entries ≡ c.deref.result.now =
-        ap (λ (v : ActiveSegs). v.entries) (sym c.self.view_is) ∙ sym c.deref.ensures.value in
+    ap (λ (v : ActiveSegs). v.entries) (sym c.self.view_is) ∙ sym c.deref.ensures.value in
     subst (λ (xs : List (Option Entry)). IsActiveAt xs c.found-found.result) same c.found-found.ensures.active
 
 pub returns-clause-is : goal.returns-clause-is
@@ -23,7 +23,7 @@ pub returns-clause-victim : goal.returns-clause-victim
 returns-clause-victim c =
     let same : c.deref.result.now ≡ c.args.self.now.entries = c.deref.ensures.value ∙ ap (λ (v : ActiveSegs). v.entries) c.self.view_is in
     let stands : StandsFor c.args.self.now.entries c.found-found.result c.leaf_below.result =
-        subst (λ (xs : List (Option Entry)). StandsFor xs c.found-found.result c.leaf_below.result) same c.leaf_below.ensures.stands in
+    subst (λ (xs : List (Option Entry)). StandsFor xs c.found-found.result c.leaf_below.result) same c.leaf_below.ensures.stands in
     is_victim c.args.self.now c.args.pool c.args.chain.now c.found-found.result c.leaf_below.result c.found-found.ensures.first stands
 
 pub returns-clause-only : goal.returns-clause-only
