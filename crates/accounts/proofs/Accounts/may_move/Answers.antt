@@ -1,0 +1,16 @@
+use Rattle.std.proofs.Common.{◌≡◌, ℕ, List, subst, w32}
+use Rattle.std.proofs.lemmas.Int.{to_z-of_z}
+use Rattle.std.specs.Int.{is_positive}
+use Rattle.std.specs.Int.RustNames.{unsigned_abs}
+use Rattle.quota_cells.specs.Scratch.{scratch_answer}
+use Rattle.accounts.specs.Maps.{AccountMaps, Counts}
+use Rattle.accounts.proofs.Laws.{directory_of}
+use Rattle.accounts.proofs.Accounts.may_move.Goals as goal
+
+pub may_move-requires-clause-directory : goal.may_move-requires-clause-directory
+may_move-requires-clause-directory c = directory_of c.self.inside.tree c.self.inside.cells c.args.self.now c.self.view_is c.args.dir c.requires.directory
+
+pub returns : goal.returns
+returns c =
+    let back = to_z-of_z w32 c.args.amount c.ranges.amount in
+    subst (λ (a : AccountMaps). (stored : List (ℕ × ℕ)) → Counts a stored → c.may_move.result ≡ scratch_answer a.nodes stored c.args.dir (is_positive c.args.amount) (unsigned_abs c.args.amount)) c.self.view_is (rw back at c.may_move.ensures)

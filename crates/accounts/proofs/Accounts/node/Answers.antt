@@ -1,0 +1,18 @@
+use Rattle.std.proofs.Common.{◌≡◌, Some, subst}
+use Rattle.std.specs.Prelude.{IfSome}
+use Rattle.tree_model.specs.Tree.{node_in, quota_in as quota_at}
+use Rattle.dir_tree.specs.Nodes.{as_term}
+use Rattle.quota_cells.specs.Cells.{quota_in}
+use Rattle.accounts.specs.Maps.{AccountMaps, entry_of}
+use Rattle.accounts.proofs.Laws.{node_shown, entry_shown}
+use Rattle.accounts.proofs.Accounts.node.Goals as goal
+
+pub returns-clause-some : goal.returns-clause-some
+returns-clause-some c =
+    subst (λ (a : AccountMaps). IfSome c.node.result (λ n. node_in a.nodes c.args.uid ≡ Some (as_term (quota_at a.nodes) n.now))) c.self.view_is
+    (node_shown (λ n. n.now) c.self.inside.tree c.self.inside.cells c.self.invariant c.args.uid c.node.result (c.node.ensures.term (quota_in c.self.inside.cells)))
+
+pub returns-clause-entry : goal.returns-clause-entry
+returns-clause-entry c =
+    subst (λ (a : AccountMaps). IfSome c.node.result (λ n. entry_of a c.args.uid ≡ n.now.entry)) c.self.view_is
+    (entry_shown (λ n. n.now) c.self.inside.tree c.self.inside.cells c.args.uid c.node.result c.node.ensures.some)

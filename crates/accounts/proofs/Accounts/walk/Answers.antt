@@ -1,0 +1,12 @@
+use Rattle.std.proofs.Common.{◌≡◌, true, subst, is_some}
+use Rattle.std.specs.Prelude.{IfOk}
+use Rattle.tree_model.specs.Tree.{node_in}
+use Rattle.quota_cells.specs.Cells.{quota_in}
+use Rattle.accounts.specs.Maps.{AccountMaps}
+use Rattle.accounts.proofs.Laws.{walked}
+use Rattle.accounts.proofs.Accounts.walk.Goals as goal
+
+pub returns-clause-there : goal.returns-clause-there
+returns-clause-there c =
+    subst (λ (a : AccountMaps). IfOk c.walk.result (λ uid. is_some (node_in a.nodes uid) ≡ true)) c.self.view_is
+    (walked (quota_in c.self.inside.cells) c.self.inside.tree.nodes c.walk.result c.walk.ensures.there)
