@@ -1,22 +1,20 @@
 -- What the tree and its cells show, said of the nodes with their quotas.
-use Rattle.std.proofs.Common.{◌≡◌, ◌≢◌, ℕ, ◌+◌, ◌-◌, Bool, true, false, cond, eqb, not, ◌||◌, List, [], ◌∷◌, map, Option, Some, None, Result, Ok, Err, refl, sym, ap, subst, ◌∙◌, arith, inl, inr, is_some, if◌then◌else◌, length, ◌<◌}
+use Rattle.std.proofs.Common.{◌≡◌, ◌≢◌, ℕ, true, false, cond, eqb, not, ◌||◌, List, [], ◌∷◌, map, Option, Some, None, Result, Ok, Err, refl, sym, ap, subst, ◌∙◌, arith, inl, inr, is_some, if◌then◌else◌, ◌<◌}
 use Rattle.std.specs.Prelude.{IfSome, IfNone, IfOk, OnOk, OnErr}
-use Rattle.std.specs.List.{filter}
 use Rattle.std.proofs.lemmas.Bool.{cases_Bool, cases_eq, eq-eqb, ne_eqb}
 use Rattle.tree_model.specs.Access.{Row, with_row}
-use Rattle.tree_model.specs.Tree.{Node as Term, above, has_directory, node_in, quota_in as quota_at}
+use Rattle.tree_model.specs.Tree.{Node as Term, has_directory, node_in, quota_in as quota_at}
 use Rattle.tree_model.specs.Trees.{has_segment, HasChains, IsTree, Joins, AreBelow}
 use Rattle.dir_tree.specs.declared.node.Node.{Node}
 use Rattle.dir_tree.specs.declared.node.NewNode.{NewNode}
-use Rattle.dir_tree.specs.declared.node.AddFault.{AddFault}
 use Rattle.dir_tree.specs.Nodes.{Branches, as_term, with_quotas, node_of, is_in, is_directory, is_segment, added, removed, without, unless, with_length, with_changed, with_acl, with_home, acl_of}
 use Rattle.dir_tree.specs.Shape.{shape, shapes}
 use Rattle.quota_cells.specs.Accounts.{look, has}
 use Rattle.quota_cells.specs.Cells.{CellMaps, quota_in, stored_in, has_cell, Fits, Enters, Leaves}
 use Rattle.quota_cells.proofs.PlaceLaws.{look_absent}
 use Rattle.quota_cells.proofs.FitLaws.{on_directories, on_segments}
-use Rattle.quota_cells.proofs.EnterLaws.{absent_cell, not_in_directory}
-use Rattle.accounts.specs.Maps.{AccountMaps, accounts_of, count_of, entry_of, branch_of, without_node, with_node, Recounts, Changes, Gains, Loses, Rehomes, rows_in, with_row_in}
+use Rattle.quota_cells.proofs.EnterLaws.{not_in_directory}
+use Rattle.accounts.specs.Maps.{AccountMaps, accounts_of, entry_of, branch_of, without_node, with_node, Recounts, Changes, Gains, Loses, Rehomes, rows_in, with_row_in}
 
 -- ---- uids of the tree
 
@@ -70,6 +68,23 @@ no_segment (n ∷ ns) u none seg = elim (cases_Bool (eqb n.uid u)) [
 pub segment_found : {X : Type 0} (ns : List Node) (u : ℕ) (r : Option X) → is_some r ≡ false → IfNone r (node_of ns u ≡ None) → is_segment ns u ≡ true → ⊥
 segment_found ns u None isnt none seg = no_segment ns u none seg
 segment_found ns u (Some x) isnt none seg = cc
+
+kind_is : (q : ℕ → ℕ) (ns : List Node) (u : ℕ) (n : Node) → node_of ns u ≡ Some n → (has_directory (with_quotas q ns) u ≡ n.dir) × (has_segment (with_quotas q ns) u ≡ not n.dir)
+kind_is q [] u n e = cc
+kind_is q (m ∷ ns) u n e = elim (cases_Bool (eqb m.uid u)) [
+  | inl is ↦ (let z : Some m ≡ Some n = rw is at e in let same : m ≡ n = cc in rw is (ap (λ (x : Node). x.dir) same, ap (λ (x : Node). not x.dir) same))
+  | inr isnt ↦ rw isnt (kind_is q ns u n (rw isnt at e))
+]
+
+-- what a look-up says of the kind of a node
+module _ {X : Type 0} (f : X → Node) (t : Branches) (c : CellMaps) (u : ℕ) where
+  pub directory_shown : (r : Option X) → IfSome r (λ x. node_of t.nodes u ≡ Some (f x)) → IfSome r (λ x. has_directory (accounts_of t c).nodes u ≡ (f x).dir)
+  directory_shown None h = tt
+  directory_shown (Some x) h = (kind_is (quota_in c) t.nodes u (f x) h).0
+
+  pub segment_shown : (r : Option X) → IfSome r (λ x. node_of t.nodes u ≡ Some (f x)) → IfSome r (λ x. has_segment (accounts_of t c).nodes u ≡ not (f x).dir)
+  segment_shown None h = tt
+  segment_shown (Some x) h = (kind_is (quota_in c) t.nodes u (f x) h).1
 
 -- ---- quotas and VTOC entries
 

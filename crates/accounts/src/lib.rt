@@ -8,7 +8,7 @@
 //! what charges or moves quota goes up once from a node, by at most 9 directories. None but `new` takes memory.
 #![tactic(auto)]
 
-ghost use Rattle.std.specs.Prelude.{◌≡◌, ◌≢◌, ◌<◌, ◌≤◌, ◌^◌, ◌+◌, ◌-◌, ℕ, ◌↔◌, is_some, true, false, List, Some, None};
+ghost use Rattle.std.specs.Prelude.{◌≡◌, ◌≢◌, ◌<◌, ◌≤◌, ◌^◌, ◌+◌, ◌-◌, ℕ, ◌↔◌, not, is_some, true, false, List, Some, None};
 ghost use Rattle.std.specs.Prelude.{IfOk, IfSome, IfNone, OnOk, OnErr, IsErr, IsOk, IsTrue, length};
 ghost use Rattle.std.specs.Int.{is_positive};
 ghost use Rattle.std.specs.Int.RustNames.{unsigned_abs};
@@ -85,6 +85,8 @@ impl Accounts {
     pub fn node(&self, uid: u32) -> Option<&Node>
         ensures some { IfSome result (λ n. node_in self.now.nodes uid ≡ Some (as_term (quota_in self.now.nodes) n.now)) }
         ensures entry { IfSome result (λ n. entry_of self.now uid ≡ n.now.entry) }
+        ensures directory { IfSome result (λ n. has_directory self.now.nodes uid ≡ n.now.dir) }
+        ensures segment { IfSome result (λ n. has_segment self.now.nodes uid ≡ not n.now.dir) }
         ensures none { IfNone result (node_in self.now.nodes uid ≡ None) }
     {
         self.tree.node(uid)

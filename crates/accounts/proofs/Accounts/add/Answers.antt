@@ -1,6 +1,5 @@
 use Rattle.std.proofs.Common.{◌≡◌, false, subst, sym}
-use Rattle.dir_tree.specs.Nodes.{is_in, add_fault_of}
-use Rattle.dir_tree.specs.Shape.{shapes}
+use Rattle.dir_tree.specs.Nodes.{is_in}
 use Rattle.quota_cells.proofs.EnterLaws.{absent_cell}
 use Rattle.accounts.specs.Maps.{AccountMaps, Gains, accounts_of, branch_of}
 use Rattle.accounts.proofs.Laws.{directory_of, unless_ok, enters_fit, gained}

@@ -1,10 +1,11 @@
-use Rattle.std.proofs.Common.{◌≡◌, Some, subst}
+use Rattle.std.proofs.Common.{◌≡◌, Some, subst, not}
 use Rattle.std.specs.Prelude.{IfSome}
-use Rattle.tree_model.specs.Tree.{node_in, quota_in as quota_at}
+use Rattle.tree_model.specs.Tree.{has_directory, node_in, quota_in as quota_at}
+use Rattle.tree_model.specs.Trees.{has_segment}
 use Rattle.dir_tree.specs.Nodes.{as_term}
 use Rattle.quota_cells.specs.Cells.{quota_in}
 use Rattle.accounts.specs.Maps.{AccountMaps, entry_of}
-use Rattle.accounts.proofs.Laws.{node_shown, entry_shown}
+use Rattle.accounts.proofs.Laws.{node_shown, entry_shown, directory_shown, segment_shown}
 use Rattle.accounts.proofs.Accounts.node.Goals as goal
 
 pub returns-clause-some : goal.returns-clause-some
@@ -16,3 +17,13 @@ pub returns-clause-entry : goal.returns-clause-entry
 returns-clause-entry c =
     subst (λ (a : AccountMaps). IfSome c.node.result (λ n. entry_of a c.args.uid ≡ n.now.entry)) c.self.view_is
     (entry_shown (λ n. n.now) c.self.inside.tree c.self.inside.cells c.args.uid c.node.result c.node.ensures.some)
+
+pub returns-clause-directory : goal.returns-clause-directory
+returns-clause-directory c =
+    subst (λ (a : AccountMaps). IfSome c.node.result (λ n. has_directory a.nodes c.args.uid ≡ n.now.dir)) c.self.view_is
+    (directory_shown (λ n. n.now) c.self.inside.tree c.self.inside.cells c.args.uid c.node.result c.node.ensures.some)
+
+pub returns-clause-segment : goal.returns-clause-segment
+returns-clause-segment c =
+    subst (λ (a : AccountMaps). IfSome c.node.result (λ n. has_segment a.nodes c.args.uid ≡ not n.now.dir)) c.self.view_is
+    (segment_shown (λ n. n.now) c.self.inside.tree c.self.inside.cells c.args.uid c.node.result c.node.ensures.some)
