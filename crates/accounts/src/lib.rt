@@ -124,7 +124,8 @@ impl Accounts {
     /// The quota of a directory, in pages; 0 where it is no account of its own.
     pub fn quota(&self, dir: u32) -> u32
         requires { has_directory self.now.nodes dir ≡ true }
-        ensures { result ≡ quota_in self.now.nodes dir }
+        ensures quota { result ≡ quota_in self.now.nodes dir }
+        ensures pages { count_of self.now dir ≡ 0 }
     {
         self.cells.quota(dir)
     }
@@ -132,7 +133,8 @@ impl Accounts {
     /// The stored pages of a segment.
     pub fn stored(&self, seg: u32) -> u32
         requires { has_segment self.now.nodes seg ≡ true }
-        ensures { result ≡ count_of self.now seg }
+        ensures stored { result ≡ count_of self.now seg }
+        ensures quota { quota_in self.now.nodes seg ≡ 0 }
     {
         self.cells.stored(seg)
     }

@@ -1,7 +1,9 @@
-//! Tests of the directory tree and its quota cells, over public calls: paths, limits and
+//! Tests of the directory tree, its quota cells and both as one type, over public calls: paths, limits and
 //! removals, names that differ only in their last letters, and counts that follow quota that moves.
 #![tactic(auto)]
 
+#[cfg(test)]
+mod accounts;
 #[cfg(test)]
 mod names;
 #[cfg(test)]
