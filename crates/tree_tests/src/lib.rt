@@ -3,7 +3,7 @@
 #![tactic(auto)]
 
 #[cfg(test)]
-mod accounts;
+mod counts;
 #[cfg(test)]
 mod names;
 #[cfg(test)]
