@@ -9,7 +9,7 @@ use Rattle.dir_tree.specs.Nodes.{is_directory, is_segment}
 use Rattle.dir_tree.specs.Shape.{shapes}
 use Rattle.tree_model.specs.Trees.{has_segment, HasChains, IsChain, AreDirectories, EndsAtRoot}
 use Rattle.quota_cells.specs.Accounts.{look, has, with_value, covers, load, is_an_account, changed_where}
-use Rattle.quota_cells.specs.Cells.{CellMaps, quota_in, load_in, stored_in, Fits, IsTable, charged, credited, charge_fault, IsRising, CountsUsed}
+use Rattle.quota_cells.specs.Cells.{CellMaps, quota_in, load_in, stored_in, Fits, IsTable, charged, credited, charge_fault, given, IsRising, CountsUsed}
 use Rattle.quota_cells.specs.Columns.{AreThere, IsFalling}
 use Rattle.quota_cells.proofs.ColumnLaws.{look_changed, length_with, length_changed, weigh_with, weigh_same, weigh_le_on, look_le_weigh, look_le_sum}
 use Rattle.quota_cells.proofs.PlaceLaws.{look_at, set_at}
@@ -227,6 +227,15 @@ pub seamed : (new old target : List ℕ) (n : ℕ) → new ≡ target → length
 seamed new old target n is size len =
     let whole : drop (length new) old ≡ [] = drop_all (length new) old (let a : length new ≡ length target = ap length is in omega arith) in
     rw (whole, append-nil new) (take_all n new (let a : length new ≡ length target = ap length is in omega arith) ∙ is)
+
+-- the cells whose quotas and loads were lent, once one directory has given another quota
+pub given_left : (s : CellMaps) (g : ℕ) (ups : List ℕ) (v : ℕ) (vps : List ℕ) (n : ℕ) (quotas loads : List ℕ) (a b : ℕ) → IsTable s → IsTable (given s g ups v vps n)
+    → quotas ≡ (given s g ups v vps n).quotas → loads ≡ (given s g ups v vps n).loads → a ≡ length s.quotas → b ≡ length s.loads
+    → (record { directories = s.directories; quotas = take a (quotas ++ drop (length quotas) s.quotas); loads = take b (loads ++ drop (length loads) s.loads); segments = s.segments; stored = s.stored }) ≡ given s g ups v vps n
+given_left s g ups v vps n quotas loads a b was now is_q is_l len_q len_l =
+    let q = seamed quotas s.quotas (given s g ups v vps n).quotas a is_q (now.quota_count ∙ sym was.quota_count) len_q in
+    let l = seamed loads s.loads (given s g ups v vps n).loads b is_l (now.load_count ∙ sym was.load_count) len_l in
+    λ i. record { directories = s.directories; quotas = q i; loads = l i; segments = s.segments; stored = s.stored }
 
 pub not_full : (c : CellMaps) (up : List ℕ) → charge_fault c up ≡ Ok tt → load_in c (account (quota_in c) up) ≢ quota_in c (account (quota_in c) up)
 not_full c up e same = (let full : eqb (load_in c (account (quota_in c) up)) (quota_in c (account (quota_in c) up)) ≡ true = eq-eqb _ _ same in let z = rw full at e in cc)

@@ -9,10 +9,11 @@ use Rattle.dir_tree.specs.Shape.{shapes}
 use Rattle.tree_model.specs.Trees.{HasChains, EndsAtRoot}
 use Rattle.quota_cells.specs.Accounts.{has, covers, is_an_account}
 use Rattle.quota_cells.specs.Cells.{CellMaps, quota_in, load_in, Fits, IsTable, with_quota, IsRising, is_over, first_over}
+use Rattle.quota_cells.specs.Columns.{IsPlaced, CanGive}
 use Rattle.quota_cells.proofs.AccountLaws.{covers_above}
 use Rattle.quota_cells.proofs.ColumnLaws.{two_le_sum}
-use Rattle.quota_cells.proofs.FitLaws.{on_directories, load_bound, all_there, covered_there}
-use Rattle.quota_cells.proofs.MoveLaws.{AreEven, fits_quota, even_quota, quota_own, quota_other, load_falls, load_rises, load_stays, total_quota}
+use Rattle.quota_cells.proofs.FitLaws.{on_directories, load_bound, all_there, covered_there, falling}
+use Rattle.quota_cells.proofs.MoveLaws.{AreEven, covers_more, fits_quota, even_quota, quota_own, quota_other, load_falls, load_rises, load_stays, total_quota}
 
 -- ---- the least that passes
 
@@ -188,3 +189,18 @@ module _ (nodes : List Node) (c : CellMaps) (table : IsTable c) (fits : Fits nod
 
   pub room1 : q g + n < 2 ^ 32
   room1 = (let a : q g + q v ≤ sum c.quotas = two_le_sum c.directories c.quotas g v other in let t : sum c.quotas < 2 ^ 32 = table.total in omega arith)
+
+  placed : (u : ℕ) → has c.directories u ≡ true → IsPlaced c.directories u (f u)
+  placed u here = record { here = here; there = all_there nodes c fits (f u) (chains.directories u); falls = falling f (f u) (chains.chain u) }
+
+  pub can_give : first_over c2 ≡ None → CanGive c.directories c.quotas c.loads g (f g) v (f v) n
+  can_give none = record {
+    getter_placed = placed g here_g;
+    giver_placed = placed v here_v;
+    other = other;
+    some = some;
+    enough = enough;
+    fits = room1;
+    appears = λ zero e is. covers_more nodes c even fits chains g 0 here_g zero e (covered_there q c.directories (f g) e (all_there nodes c fits (f g) (chains.directories g)) is) is;
+    vanishes = λ all e is. room2 none all e is;
+  }

@@ -1,7 +1,7 @@
 -- The counts that the cells keep are the counts from scratch over the stored pages.
 use Rattle.std.proofs.Common.{◌≡◌, ◌≢◌, ℕ, suc, ◌+◌, ◌-◌, ◌<◌, ◌≤◌, Bool, true, false, cond, eqb, ltb, leb, ◌&&◌, ◌||◌, not, if◌then◌else◌, List, [], ◌∷◌, length, map, Option, Some, None, Result, Ok, Err, refl, sym, ap, subst, ◌∙◌, arith, get_or, inl, inr}
 use Rattle.std.specs.Prelude.{count_by, OnOk, OnErr}
-use Rattle.std.specs.List.{find}
+use Rattle.std.specs.List.{find, sum}
 use Rattle.std.proofs.lemmas.Bool.{cases_Bool, cases_eq, cases_lt, both_ways, eqb-true, eq-eqb, ne_eqb, or_cases, and_parts, or_right, or_left, and_from, le-leb, lt-leb, lt-ltb, le-ltb, true_from_ne_false, false_from_ne_true}
 use Rattle.std.proofs.lemmas.List.Sums.{sum_by-cons}
 use Rattle.tree_model.specs.Tree.{Node as Term, above, account, account_of, has_directory, quota_in as quota_at, used_by}
@@ -22,7 +22,7 @@ use Rattle.quota_cells.proofs.PlaceLaws.{look_at, look_absent}
 use Rattle.quota_cells.proofs.AccountLaws.{account_of_chain}
 use Rattle.quota_cells.proofs.FitLaws.{on_directories, on_segments, segment_there, segment_not, account_there, all_there, counts_used}
 use Rattle.quota_cells.proofs.EnterLaws.{no_weight, not_in_directory}
-use Rattle.quota_cells.proofs.OverLaws.{passes, later, fits2, q2_g, q2_v, q2_other}
+use Rattle.quota_cells.proofs.OverLaws.{passes, later, fits2, conserved, q2_g, q2_v, q2_other}
 use Rattle.quota_cells.proofs.TransferLaws.{IsBelow, top, answer_ok}
 
 -- ---- counts of pages beside uids are counts over the pages
@@ -280,6 +280,19 @@ module _ (nodes : List Node) (c : CellMaps) (table : IsTable c) (fits : Fits nod
   fits_moved : (down : Bool) → n ≤ quota_in c (giver_of up d down) → Fits nodes (moved c up d down n)
   fits_moved true enough = fits2 nodes c table fits chains d (superior_of up d) n d_not_s here_d here_s some enough
   fits_moved false enough = fits2 nodes c table fits chains (superior_of up d) d n (λ e. d_not_s (sym e)) here_s here_d some enough
+
+  total_moved : (down : Bool) → n ≤ quota_in c (giver_of up d down) → sum (moved c up d down n).quotas ≡ sum c.quotas
+  total_moved true enough = conserved nodes c table fits chains d (superior_of up d) n d_not_s here_d here_s some enough
+  total_moved false enough = conserved nodes c table fits chains (superior_of up d) d n (λ e. d_not_s (sym e)) here_s here_d some enough
+
+  -- so the cells fit the tree whatever is answered, and the sum of quotas is as it was
+  pub moved_fits : (down : Bool) (new : CellMaps) (r : Result (Unit {0}) MoveFault) → r ≡ move_answer c up d down n → OnOk r (new ≡ moved c up d down n) → OnErr r (new ≡ c) → Fits nodes new
+  moved_fits down new (Err e) is ok err = subst (Fits nodes) (sym err) fits
+  moved_fits down new (Ok tt) is ok err = subst (Fits nodes) (sym ok) (fits_moved down (answer_ok c up d down n (sym is)).0)
+
+  pub moved_total : (down : Bool) (new : CellMaps) (r : Result (Unit {0}) MoveFault) → r ≡ move_answer c up d down n → OnOk r (new ≡ moved c up d down n) → OnErr r (new ≡ c) → sum new.quotas ≡ sum c.quotas
+  moved_total down new (Err e) is ok err = ap (λ (x : CellMaps). sum x.quotas) err
+  moved_total down new (Ok tt) is ok err = ap (λ (x : CellMaps). sum x.quotas) ok ∙ total_moved down (answer_ok c up d down n (sym is)).0
 
   -- after a move that is done, the nodes with their quotas are those of the tree once quota has moved
   pub moved_shown : (down : Bool) (new : CellMaps) (r : Result (Unit {0}) MoveFault) → r ≡ move_answer c up d down n → OnOk r (new ≡ moved c up d down n) → OnOk r (with_quotas (quota_in new) nodes ≡ tree_moved nodes_now d down n)

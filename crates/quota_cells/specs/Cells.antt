@@ -140,12 +140,21 @@ has_cell c u = has c.directories u || has c.segments u
 
 -- ---- quota that moves
 
+-- the cells of directories alone
+abbrev pub columns : List ℕ → List ℕ → List ℕ → CellMaps
+columns directories quotas loads = record { directories = directories; quotas = quotas; loads = loads; segments = []; stored = [] }
+
+-- the cells once one directory, below others, has got so many pages of quota, and another has given them
+abbrev pub given : CellMaps → ℕ → List ℕ → ℕ → List ℕ → ℕ → CellMaps
+given c getter above_getter giver above_giver n =
+    with_quota (with_quota c above_getter getter (quota_in c getter + n)) above_giver giver (quota_in c giver - n)
+
 -- the cells once so many pages of quota have moved
 abbrev pub moved : CellMaps → (ℕ → List ℕ) → ℕ → Bool → ℕ → CellMaps
 moved c above d down n =
     let getter = getter_of above d down in
     let giver = giver_of above d down in
-    with_quota (with_quota c (above getter) getter (quota_in c getter + n)) (above giver) giver (quota_in c giver - n)
+    given c getter (above getter) giver (above giver) n
 
 -- an account above its quota
 abbrev pub is_over : CellMaps → ℕ → Bool

@@ -6,8 +6,8 @@ ghost use Rattle.std.specs.List.{insert, remove};
 ghost use Rattle.tree_model.specs.Tree.{account};
 ghost use Rattle.tree_model.specs.Trees.{AreUnder};
 ghost use Rattle.quota_cells.specs.Accounts.{look, has, with_value, covers, changed_where};
-ghost use Rattle.quota_cells.specs.Cells.{IsRising, loads_then};
-ghost use Rattle.quota_cells.specs.Columns.{IsGap, AreThere, IsFalling};
+ghost use Rattle.quota_cells.specs.Cells.{IsRising, loads_then, given, columns};
+ghost use Rattle.quota_cells.specs.Columns.{IsGap, AreThere, IsFalling, CanGive};
 
 use dir_tree::ROOT;
 
@@ -164,48 +164,52 @@ pub(crate) fn change(
     quotas[at] = pages;
 }
 
-/// Gives one directory more quota, and then another less, with what becomes of the loads.
-pub(crate) fn transfer(
+/// A directory, and the directories above it, the nearest first.
+#[derive(Clone, Copy)]
+pub(crate) struct Placed<'a> {
+    /// The directory.
+    pub directory: u32,
+    /// The directories above it.
+    pub above: &'a [u32],
+}
+
+/// Gives one directory so many pages of another's quota, with what becomes of the loads.
+pub(crate) fn give(
     quotas: &mut [u32],
     loads: &mut [u32],
     directories: &[u32],
-    above_getter: &[u32],
-    getter: u32,
-    more: u32,
-    above_giver: &[u32],
-    giver: u32,
-    less: u32,
+    getter: Placed,
+    giver: Placed,
+    pages: u32,
 )
     requires rising { IsRising directories.now }
     requires quotas { length quotas.old ≡ length directories.now }
     requires loads { length loads.old ≡ length directories.now }
-    requires getter { has directories.now getter ≡ true }
-    requires giver { has directories.now giver ≡ true }
-    requires getter_there { AreThere directories.now above_getter.now }
-    requires getter_falls { IsFalling above_getter.now }
-    requires giver_there { AreThere directories.now above_giver.now }
-    requires giver_falls { IsFalling above_giver.now }
-    requires some { 0 < more }
-    requires gives { 0 < look directories.now quotas.old giver }
-    requires other { getter ≢ giver }
-    requires appears { look directories.now quotas.old getter ≡ 0 → (e : ℕ)
-        → covers (look directories.now quotas.old) above_getter.now e ≡ true
-        → look directories.now loads.old getter ≤ look directories.now loads.old e }
-    requires vanishes { less ≡ 0 → (e : ℕ) → covers (look directories.now
-        (with_value directories.now quotas.old getter more)) above_giver.now e ≡ true
-        → look directories.now (loads_then directories.now quotas.old loads.old above_getter.now getter
-        (look directories.now quotas.old getter == 0) (more == 0)) e + look directories.now
-        (loads_then directories.now quotas.old loads.old above_getter.now getter
-        (look directories.now quotas.old getter == 0) (more == 0)) giver < 2 ^ 32 }
-    ensures quotas { quotas.new ≡ with_value directories.now (with_value directories.now quotas.old getter more) giver
-        less }
-    ensures loads { loads.new ≡ loads_then directories.now (with_value directories.now quotas.old getter more)
-        (loads_then directories.now quotas.old loads.old above_getter.now getter
-        (look directories.now quotas.old getter == 0) (more == 0)) above_giver.now giver
-        (look directories.now (with_value directories.now quotas.old getter more) giver == 0) (less == 0) }
+    requires can { CanGive directories.now quotas.old loads.old getter.directory getter.above.now
+        giver.directory giver.above.now pages }
+    ensures quotas { quotas.new ≡ (given (columns directories.now quotas.old loads.old) getter.entry.directory
+        getter.entry.above.now giver.entry.directory giver.entry.above.now pages).quotas }
+    ensures loads { loads.new ≡ (given (columns directories.now quotas.old loads.old) getter.entry.directory
+        getter.entry.above.now giver.entry.directory giver.entry.above.now pages).loads }
 {
-    change(quotas, loads, directories, above_getter, getter, more);
-    change(quotas, loads, directories, above_giver, giver, less);
+    let more = value(directories, quotas, getter.directory) + pages;
+    let less = value(directories, quotas, giver.directory) - pages;
+    change(
+        quotas,
+        loads,
+        directories,
+        getter.above,
+        getter.directory,
+        more,
+    );
+    change(
+        quotas,
+        loads,
+        directories,
+        giver.above,
+        giver.directory,
+        less,
+    );
 }
 
 /// Puts a value into a column, which has room.

@@ -24,10 +24,10 @@ ghost use Rattle.dir_tree.specs.Nodes.{with_quotas, root_alone, is_in, is_direct
 ghost use Rattle.dir_tree.specs.Shape.{shapes};
 ghost use Rattle.tree_model.specs.Trees.{HasChains};
 ghost use Rattle.quota_cells.specs.Accounts.{has, covers, is_an_account};
-ghost use Rattle.quota_cells.specs.Columns.{AreThere, IsFalling};
+ghost use Rattle.quota_cells.specs.Columns.{AreThere, IsFalling, CanGive};
 ghost use Rattle.quota_cells.specs.Cells.{IsTable, quota_in, load_in, stored_in, used_in, Fits, AreWithin, root_cell};
 ghost use Rattle.quota_cells.specs.Cells.{charged, credited, charge_fault, has_cell, Enters, Leaves, moved};
-ghost use Rattle.quota_cells.specs.Cells.{move_answer, first_over, with_quota, CountsUsed};
+ghost use Rattle.quota_cells.specs.Cells.{move_answer, first_over, given, CountsUsed};
 ghost use Rattle.tree_model.specs.Quotas.{superior_of, tree_moved};
 ghost use Rattle.quota_cells.specs.Moves.{cell_in};
 ghost use Rattle.quota_cells.specs.Scratch.{HoldCounts, charge_answer, scratch_answer};
@@ -37,6 +37,7 @@ ghost use Rattle.std.specs.Int.{is_positive};
 mod columns;
 mod moves;
 
+use columns::Placed;
 use dir_tree::{ROOT, Tree};
 use moves::Cell;
 use std::alloc::{AllocError, Global};
@@ -550,8 +551,6 @@ impl Cells {
             (unsigned_abs amount)) }
         ensures err { OnErr result (self.new ≡ self.old) }
         ensures table { IsTable self.old }
-        ensures fits { Fits t.now.nodes self.new }
-        ensures total { sum self.new.quotas ≡ sum self.old.quotas }
     {
         self.move_refusal(t, dir, superior, amount)?;
         if amount.is_positive() {
@@ -570,29 +569,43 @@ impl Cells {
         requires pages { 0 < pages }
         requires enough { pages ≤ quota_in self.old giver }
         requires fits { Fits t.now.nodes self.old }
-        requires none { first_over (with_quota (with_quota self.old (above (shapes t.now.nodes) getter) getter
-            (quota_in self.old getter + pages)) (above (shapes t.now.nodes) giver) giver
-            (quota_in self.old giver - pages)) ≡ None }
-        ensures cells { self.new ≡ with_quota (with_quota self.old (above (shapes t.now.nodes) getter) getter
-            (quota_in self.old getter + pages)) (above (shapes t.now.nodes) giver) giver
-            (quota_in self.old giver - pages) }
-        ensures fits { Fits t.now.nodes self.new }
-        ensures total { sum self.new.quotas ≡ sum self.old.quotas }
+        requires none { first_over (given self.old getter (above (shapes t.now.nodes) getter) giver
+            (above (shapes t.now.nodes) giver) pages) ≡ None }
+        ensures { self.new ≡ given self.old getter (above (shapes t.now.nodes) getter) giver
+            (above (shapes t.now.nodes) giver) pages }
     {
+        prove!(self.directories.len() == self.quotas.len());
         let above_getter = t.superiors(getter);
         let above_giver = t.superiors(giver);
-        let more = columns::value(&self.directories, &self.quotas, getter) + pages;
-        let less = columns::value(&self.directories, &self.quotas, giver) - pages;
-        columns::transfer(
+        self.give(
+            Placed {
+                directory: getter,
+                above: above_getter.as_slice(),
+            },
+            Placed {
+                directory: giver,
+                above: above_giver.as_slice(),
+            },
+            pages,
+        );
+    }
+
+    /// Gives one directory so many pages of another's quota.
+    fn give(&mut self, getter: Placed, giver: Placed, pages: u32)
+        requires can { CanGive self.old.directories self.old.quotas self.old.loads getter.directory
+            getter.above.now giver.directory giver.above.now pages }
+        requires table { IsTable (given self.old getter.directory getter.above.now giver.directory
+            giver.above.now pages) }
+        ensures { self.new ≡ given self.old getter.entry.directory getter.entry.above.now giver.entry.directory
+            giver.entry.above.now pages }
+    {
+        columns::give(
             &mut self.quotas,
             &mut self.loads,
             &self.directories,
-            above_getter.as_slice(),
             getter,
-            more,
-            above_giver.as_slice(),
             giver,
-            less,
+            pages,
         );
     }
 }
