@@ -1,5 +1,5 @@
 -- The counts that the cells keep are the counts from scratch over the stored pages.
-use Rattle.std.proofs.Common.{◌≡◌, ◌≢◌, ℕ, suc, ◌+◌, ◌-◌, ◌<◌, ◌≤◌, Bool, true, false, cond, eqb, ltb, leb, ◌&&◌, ◌||◌, not, if◌then◌else◌, List, [], ◌∷◌, length, map, Option, Some, None, Result, Ok, Err, refl, sym, ap, subst, ◌∙◌, arith, get_or, inl, inr}
+use Rattle.std.proofs.Common.{◌≡◌, ◌≢◌, ℕ, suc, ◌+◌, ◌-◌, ◌<◌, ◌≤◌, Bool, true, false, cond, eqb, leb, ◌&&◌, if◌then◌else◌, List, [], ◌∷◌, length, map, Option, Some, None, Result, Ok, Err, refl, sym, ap, subst, ◌∙◌, arith, get_or, inl, inr}
 use Rattle.std.specs.Prelude.{count_by, OnOk, OnErr}
 use Rattle.std.specs.List.{find, sum}
 use Rattle.std.proofs.lemmas.Bool.{cases_Bool, cases_eq, cases_lt, both_ways, eqb-true, eq-eqb, ne_eqb, or_cases, and_parts, or_right, or_left, and_from, le-leb, lt-leb, lt-ltb, le-ltb, true_from_ne_false, false_from_ne_true}
@@ -8,16 +8,15 @@ use Rattle.tree_model.specs.Tree.{Node as Term, above, account, account_of, has_
 use Rattle.tree_model.specs.Quotas.{superior_of, getter_of, giver_of, with_quota_of, with_moved, tree_moved, is_over as is_over_at, lesser, least_where, over_in}
 use Rattle.dir_tree.specs.declared.node.Node.{Node}
 use Rattle.dir_tree.specs.Nodes.{as_term, with_quotas, is_in, is_directory, is_segment}
-use Rattle.dir_tree.specs.Shape.{shape, shapes}
+use Rattle.dir_tree.specs.Shape.{shapes}
 use Rattle.tree_model.specs.Trees.{HasChains}
 use Rattle.dir_tree.proofs.QuotaLemmas.{above_any}
 use Rattle.quota_cells.specs.declared.Full.{Full}
 use Rattle.quota_cells.specs.declared.MoveFault.{MoveFault}
-use Rattle.quota_cells.specs.declared.MoveFault.TheVariants as fault
 use Rattle.quota_cells.specs.Accounts.{look, has, with_value, weigh, charged_to, is_an_account}
 use Rattle.quota_cells.specs.Cells.{CellMaps, quota_in, load_in, stored_in, used_in, Fits, IsTable, IsRising, charge_fault, with_quota, moved, is_over, first_over, over_answer, move_answer}
 use Rattle.quota_cells.specs.Scratch.{HoldCounts, charge_answer, scratch_answer}
-use Rattle.quota_cells.proofs.ColumnLaws.{look_with, length_with, weigh_with, weigh_same}
+use Rattle.quota_cells.proofs.ColumnLaws.{look_with, length_with, weigh_with}
 use Rattle.quota_cells.proofs.PlaceLaws.{look_at, look_absent}
 use Rattle.quota_cells.proofs.AccountLaws.{account_of_chain}
 use Rattle.quota_cells.proofs.FitLaws.{on_directories, on_segments, segment_there, segment_not, account_there, all_there, counts_used}

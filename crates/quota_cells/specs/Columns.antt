@@ -1,5 +1,5 @@
 -- Columns: where a uid would stand, lists of uids, and quota that goes from one directory to another.
-use Rattle.std.specs.Prelude.{◌≡◌, ◌≢◌, ℕ, ◌+◌, ◌-◌, ◌<◌, ◌≤◌, ◌^◌, ◌==◌, true, List, [], ◌∷◌, length, slice_index}
+use Rattle.std.specs.Prelude.{◌≡◌, ◌≢◌, ℕ, ◌+◌, ◌<◌, ◌≤◌, ◌^◌, ◌==◌, true, List, [], ◌∷◌, length, slice_index}
 use Rattle.tree_model.specs.Trees.{AreUnder}
 use Rattle.quota_cells.specs.Accounts.{look, has, with_value, covers}
 use Rattle.quota_cells.specs.Cells.{loads_then}

@@ -1,8 +1,7 @@
-use Rattle.std.proofs.Common.{◌≡◌, ◌+◌, ℕ, List, Result, Ok, Err, is_ok, true, refl, sym, ap, subst, ◌∙◌}
-use Rattle.quota_cells.specs.declared.Full.{Full}
+use Rattle.std.proofs.Common.{◌≡◌, ◌+◌, ℕ, List, Ok, sym, ap, subst, ◌∙◌}
 use Rattle.tree_model.specs.Tree.{above}
 use Rattle.dir_tree.specs.Shape.{shapes}
-use Rattle.quota_cells.specs.Cells.{quota_in, stored_in, Fits, charged, charge_fault}
+use Rattle.quota_cells.specs.Cells.{stored_in, Fits, charged, charge_fault}
 use Rattle.quota_cells.proofs.ColumnLaws.{look_with}
 use Rattle.quota_cells.proofs.FitLaws.{there, falls, room_charged, stored_room, fits_charged, table_charged, not_full, on_segments}
 use Rattle.quota_cells.proofs.ScratchLaws.{charge_same}

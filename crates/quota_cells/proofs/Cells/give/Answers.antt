@@ -1,4 +1,4 @@
-use Rattle.std.proofs.Common.{◌≡◌, ◌∙◌, sym, ap, subst, arith}
+use Rattle.std.proofs.Common.{◌∙◌, sym, ap, subst, arith}
 use Rattle.quota_cells.specs.Columns.{CanGive}
 use Rattle.quota_cells.specs.Cells.{CellMaps, IsTable, given}
 use Rattle.quota_cells.proofs.FitLaws.{given_left}

@@ -1,9 +1,8 @@
-use Rattle.std.proofs.Common.{◌≡◌, ◌≤◌, ◌∷◌, ℕ, List, sym, ap, subst, ◌∙◌}
+use Rattle.std.proofs.Common.{◌≡◌, ℕ, List, ap, ◌∙◌}
 use Rattle.tree_model.specs.Tree.{above, account}
 use Rattle.dir_tree.specs.Shape.{shapes}
-use Rattle.quota_cells.specs.declared.moves.Cell.{Cell}
-use Rattle.quota_cells.specs.Cells.{quota_in, load_in}
-use Rattle.quota_cells.specs.Moves.{cell_in, refusal_down}
+use Rattle.quota_cells.specs.Cells.{quota_in}
+use Rattle.quota_cells.specs.Moves.{cell_in}
 use Rattle.quota_cells.proofs.FitLaws.{on_directories}
 use Rattle.quota_cells.proofs.MoveLaws.{covers_more}
 use Rattle.quota_cells.proofs.TransferLaws.{top_covers}

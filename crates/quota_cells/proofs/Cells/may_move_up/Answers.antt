@@ -1,5 +1,4 @@
-use Rattle.std.proofs.Common.{◌≡◌, sym, ap, ◌∙◌, arith}
-use Rattle.quota_cells.specs.Moves.{cell_in, refusal_up}
+use Rattle.std.proofs.Common.{◌∙◌}
 use Rattle.quota_cells.proofs.FitLaws.{on_directories}
 use Rattle.quota_cells.proofs.DecisionLaws.{up_decided}
 use Rattle.quota_cells.proofs.Cells.may_move_up.Goals as goal

@@ -1,4 +1,4 @@
-use Rattle.std.proofs.Common.{◌≡◌, ◌≤◌, ◌<◌, ◌+◌, ◌-◌, ◌^◌, ◌++◌, ℕ, true, length, take, drop, set, sym, ap, subst, ◌∙◌, arith}
+use Rattle.std.proofs.Common.{◌≡◌, ◌≤◌, ◌-◌, ◌++◌, ℕ, true, length, take, drop, set, sym, ap, subst, ◌∙◌, arith}
 use Rattle.quota_cells.specs.Accounts.{has, covers, with_value, changed_where}
 use Rattle.quota_cells.specs.Cells.{CellMaps, quota_in, load_in, stored_in, IsTable, credited}
 use Rattle.quota_cells.specs.Columns.{AreThere}

@@ -1,6 +1,4 @@
-use Rattle.std.proofs.Common.{◌≡◌, ℕ, List, subst, ◌∙◌}
-use Rattle.tree_model.specs.Tree.{above}
-use Rattle.dir_tree.specs.Shape.{shapes}
+use Rattle.std.proofs.Common.{subst, ◌∙◌}
 use Rattle.quota_cells.specs.Cells.{IsTable}
 use Rattle.quota_cells.proofs.FitLaws.{on_directories}
 use Rattle.quota_cells.proofs.OverLaws.{can_give, table2}
