@@ -260,7 +260,7 @@ pub row_set : {E : Type 0} (t : Branches) (c : CellMaps) → IsTree (shapes t.no
 row_set t c tree uid row rows acl (Err e) was is = tt
 row_set t c tree uid row rows acl (Ok x) was is =
     let own : with_acl t uid rows ≡ record { nodes = with_changed uid (λ n. record n { acl = with_row row n.acl }) t.nodes; next = t.next } =
-        ap (with_acl t uid) (is ∙ ap (with_row row) was) ∙ ap (λ (ns : List Node). record { nodes = ns; next = t.next }) (own_list (with_row row) t.nodes tree uid (acl_of t.nodes uid) refl)
+    ap (with_acl t uid) (is ∙ ap (with_row row) was) ∙ ap (λ (ns : List Node). record { nodes = ns; next = t.next }) (own_list (with_row row) t.nodes tree uid (acl_of t.nodes uid) refl)
     in record {
       nodes = ap (λ (t : Branches). with_quotas (quota_in c) t.nodes) own ∙ changed_nodes (quota_in c) uid (λ n. record n { acl = with_row row n.acl }) (λ n. record n { rows = with_row row n.rows }) (λ n. refl) t.nodes;
       entries = same_entries uid (λ n. record n { acl = rows }) (λ n. refl) t.nodes;
