@@ -1,5 +1,5 @@
 -- What the tree and its cells show, said of the nodes with their quotas.
-use Rattle.std.proofs.Common.{◌≡◌, ◌≢◌, ℕ, true, false, cond, eqb, not, ◌||◌, List, [], ◌∷◌, map, Option, Some, None, Result, Ok, Err, refl, sym, ap, subst, ◌∙◌, arith, inl, inr, is_some, if◌then◌else◌, ◌<◌}
+use Rattle.std.proofs.Common.{◌≡◌, ◌≢◌, ◌≤◌, ℕ, true, false, cond, eqb, not, ◌||◌, List, [], ◌∷◌, map, Option, Some, None, Result, Ok, Err, refl, sym, ap, subst, ◌∙◌, arith, inl, inr, is_some, if◌then◌else◌, ◌<◌}
 use Rattle.std.specs.Prelude.{IfSome, IfNone, IfOk, OnOk, OnErr}
 use Rattle.std.proofs.lemmas.Bool.{cases_Bool, cases_eq, eq-eqb, ne_eqb}
 use Rattle.tree_model.specs.Access.{Row, with_row}
@@ -9,8 +9,8 @@ use Rattle.dir_tree.specs.declared.node.Node.{Node}
 use Rattle.dir_tree.specs.declared.node.NewNode.{NewNode}
 use Rattle.dir_tree.specs.Nodes.{Branches, as_term, with_quotas, node_of, is_in, is_directory, is_segment, added, removed, without, unless, with_length, with_changed, with_acl, with_home, acl_of}
 use Rattle.dir_tree.specs.Shape.{shape, shapes}
-use Rattle.quota_cells.specs.Accounts.{look, has}
-use Rattle.quota_cells.specs.Cells.{CellMaps, quota_in, stored_in, has_cell, Fits, Enters, Leaves}
+use Rattle.quota_cells.specs.Accounts.{look, has, is_an_account}
+use Rattle.quota_cells.specs.Cells.{CellMaps, quota_in, stored_in, used_in, AreWithin, has_cell, Fits, Enters, Leaves}
 use Rattle.quota_cells.proofs.PlaceLaws.{look_absent}
 use Rattle.quota_cells.proofs.FitLaws.{on_directories, on_segments}
 use Rattle.quota_cells.proofs.EnterLaws.{not_in_directory}
@@ -130,6 +130,16 @@ entry_left (n ∷ ns) gone u other = elim (cases_eq n.uid gone) [
   | inl same ↦ rw (eq-eqb n.uid gone same, ne_eqb n.uid u (λ e. other (omega arith))) (entry_left ns gone u other)
   | inr far ↦ rw (ne_eqb n.uid gone far) (ap (cond (eqb n.uid u) n.entry) (entry_left ns gone u other))
 ]
+
+-- no account has more stored pages than its quota
+pub used_within : (t : Branches) (c : CellMaps) → Fits t.nodes c → AreWithin c → (a : ℕ) → used_in c a ≤ quota_at (accounts_of t c).nodes a
+used_within t c fits within a = rw (quota_shown t c fits a) (elim (cases_Bool (is_an_account (quota_in c) a)) [
+  | inr isnt ↦ rw isnt (omega arith)
+  | inl is ↦ elim (cases_Bool (has c.directories a)) [
+    | inl there ↦ rw is (within a there is)
+    | inr absent ↦ rw (is, look_absent c.directories c.loads a absent) (omega arith)
+  ]
+])
 
 -- ---- changes
 

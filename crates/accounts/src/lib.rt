@@ -8,8 +8,8 @@
 //! what charges or moves quota goes up once from a node, by at most 9 directories. None but `new` takes memory.
 #![tactic(auto)]
 
-ghost use Rattle.std.specs.Prelude.{◌≡◌, ◌≢◌, ◌<◌, ◌≤◌, ◌^◌, ◌+◌, ◌-◌, ℕ, ◌↔◌, not, is_some, true, false, List, Some, None};
-ghost use Rattle.std.specs.Prelude.{IfOk, IfSome, IfNone, OnOk, OnErr, IsErr, IsOk, IsTrue, length};
+ghost use Rattle.std.specs.Prelude.{◌≡◌, ◌≢◌, ◌<◌, ◌≤◌, ◌^◌, ◌+◌, ◌-◌, ℕ, ◌↔◌, not, is_some, true, false, List};
+ghost use Rattle.std.specs.Prelude.{Some, None, IfOk, IfSome, IfNone, OnOk, OnErr, IsErr, IsOk, IsTrue, length};
 ghost use Rattle.std.specs.Int.{is_positive};
 ghost use Rattle.std.specs.Int.RustNames.{unsigned_abs};
 ghost use Rattle.tree_model.specs.Access.{takes_row};
@@ -83,7 +83,8 @@ impl Accounts {
 
     /// The node of `uid`. `None` exactly where it isn't in the tree.
     pub fn node(&self, uid: u32) -> Option<&Node>
-        ensures some { IfSome result (λ n. node_in self.now.nodes uid ≡ Some (as_term (quota_in self.now.nodes) n.now)) }
+        ensures some { IfSome result (λ n. node_in self.now.nodes uid ≡ Some
+            (as_term (quota_in self.now.nodes) n.now)) }
         ensures entry { IfSome result (λ n. entry_of self.now uid ≡ n.now.entry) }
         ensures directory { IfSome result (λ n. has_directory self.now.nodes uid ≡ n.now.dir) }
         ensures segment { IfSome result (λ n. has_segment self.now.nodes uid ≡ not n.now.dir) }
@@ -139,9 +140,11 @@ impl Accounts {
         self.cells.stored(seg)
     }
 
-    /// The stored pages that an account is charged for; 0 where it is no account.
+    /// The stored pages that an account is charged for, which are never more than its quota; 0 where it is no account.
     pub fn used(&self, account: u32) -> u32
-        ensures { (stored : List (ℕ × ℕ)) → Counts self.now stored → result ≡ used_by self.now.nodes stored account }
+        ensures scratch { (stored : List (ℕ × ℕ)) → Counts self.now stored
+            → result ≡ used_by self.now.nodes stored account }
+        ensures within { result ≤ quota_in self.now.nodes account }
     {
         prove!(self.tree.node(self.tree.next_uid()).is_none());
         self.cells.used(account)
