@@ -5,6 +5,8 @@
 #[cfg(test)]
 mod drilling;
 #[cfg(test)]
+mod drives;
+#[cfg(test)]
 mod making;
 #[cfg(test)]
 mod replaying;

@@ -26,3 +26,4 @@ pub mod Trees
 pub mod Uses
 pub mod Visits
 pub mod Volumes
+pub mod Fresh

@@ -1,3 +1,4 @@
+pub mod Drives
 pub mod Effects
 pub mod Endings
 pub mod Looks

@@ -2,6 +2,7 @@
 #![tactic(auto)]
 
 mod commands;
+mod drives;
 mod ending;
 mod finished;
 mod forms;
@@ -17,6 +18,7 @@ mod tables;
 mod top;
 mod words;
 
+pub use drives::drive_of;
 pub use finished::{Finished, Status};
 pub use reading::SCRIPT_BYTES;
 pub use top::multics;
@@ -24,4 +26,4 @@ pub use words::{Form, Words};
 
 /// There wasn't enough memory.
 #[derive(Clone, Copy, Debug, PartialEq, Eq)]
-pub(crate) struct NoMemory;
+pub struct NoMemory;

@@ -1,0 +1,79 @@
+//! The drives of a script's volumes.
+
+ghost use Rattle.std.specs.Prelude.{◌≡◌, ◌<◌, IfOk, length, replicate};
+ghost use Rattle.volumes.specs.CoreDrive.{faults_of, fresh_drive};
+ghost use Rattle.flat_store.specs.Flat.{records_of};
+ghost use Rattle.bulk_store.specs.AnyDrive.{any_pages, any_places, disk_of as disk_in};
+ghost use Rattle.runner.specs.Drives.{lines_in, places_in};
+
+use crate::NoMemory;
+use bulk_store::{AnyDrive, CoreBulk};
+use script::{Bulk, Fail, Script};
+use std::alloc::Global;
+use volumes::{CoreDrive, FailLine};
+
+/// The lines that name failing calls of a volume's drive, in the order of the script.
+fn lines_of(alloc: Global, fails: &[Fail], volume: u32) -> Result<Vec<FailLine>, NoMemory>
+    ensures { IfOk result (λ lines. lines.items ≡ lines_in fails.now volume) }
+{
+    let mut lines = Vec::new(alloc);
+    for fail in fails {
+        if fail.volume == volume {
+            let line = FailLine {
+                write: fail.write,
+                number: fail.number,
+                onward: fail.onward,
+            };
+            lines.push(line).map_err(|_| NoMemory)?;
+        }
+    }
+    Ok(lines)
+}
+
+/// How many pages the fast store before a volume's drive holds, 0 where there is none.
+fn places_of(bulks: &[Bulk], volume: u32) -> u32
+    ensures { result ≡ places_in bulks.now volume }
+{
+    for bulk in bulks {
+        if bulk.volume == volume {
+            return bulk.places;
+        }
+    }
+    0
+}
+
+/// The disk of volume `v`: as many pages of zeros as the volume has records, of which the calls fail that the script's
+/// lines name.
+fn disk_of(alloc: Global, script: &Script, v: u32) -> Result<CoreDrive, NoMemory>
+    requires { v < length script.now.volumes }
+    ensures { IfOk result (λ d. d ≡ fresh_drive (records_of script.now v) (lines_in script.now.fails v)) }
+{
+    let records = script.volumes()[v as usize].records;
+    let lines = lines_of(alloc, script.fails(), v)?;
+    match CoreDrive::new(alloc, records, lines) {
+        Ok(disk) => Ok(disk),
+        Err(_) => Err(NoMemory),
+    }
+}
+
+/// The drive of volume `v` of a script, counted from 0: as many pages of zeros as the volume has records, of which the
+/// calls fail that the script's `fail` lines name, behind a fast store where the script has a `bulk` line for it.
+///
+/// `NoMemory` is want of memory. It takes 8 KiB for each record, and for each page of the fast store. (Source: own.)
+pub fn drive_of(alloc: Global, script: &Script, v: u32) -> Result<AnyDrive, NoMemory>
+    requires { v < length script.now.volumes }
+    ensures pages { IfOk result (λ d. any_pages d ≡ replicate (records_of script.now v) (replicate 1024 0)) }
+    ensures plan { IfOk result (λ d. (disk_in d).fails ≡ lines_in script.now.fails v) }
+    ensures places { IfOk result (λ d. any_places d ≡ places_in script.now.bulks v) }
+    ensures faults { IfOk result (λ d. faults_of (disk_in d) ≡ 0) }
+{
+    let disk = disk_of(alloc, script, v)?;
+    let places = places_of(script.bulks(), v);
+    if places == 0 {
+        return Ok(AnyDrive::Plain(disk));
+    }
+    match CoreBulk::new(alloc, places, disk) {
+        Ok(bulk) => Ok(AnyDrive::Bulk(bulk)),
+        Err(_) => Err(NoMemory),
+    }
+}
