@@ -16,7 +16,9 @@ in_or_past a b = elim (leb_tells b a) [ inl h ↦ inr h.1 | inr h ↦ inl h.1 ]
 place_cases : (held : List Held) (r p s q : ℕ) → place_of held r ≡ None → place_of (with_newest held r p) s ≡ Some q
     → ((s ≡ r) × (p ≡ q)) ⊎ ((s ≢ r) × (place_of held s ≡ Some q))
 place_cases held r p s q none is = elim (cases_eq s r) [
-  | inl e ↦ (let new = place_of-newest held r p none in let at : place_of (with_newest held r p) r ≡ Some q = ap (λ (x : ℕ). place_of (with_newest held r p) x) (sym e) ∙ is in inl (e, (cc)))
+  | inl e ↦ (let new = place_of-newest held r p none in
+      let at : place_of (with_newest held r p) r ≡ Some q = ap (λ (x : ℕ). place_of (with_newest held r p) x) (sym e) ∙ is in
+      inl (e, (cc)))
   | inr n ↦ inr (n, sym (place_of-others held r p s n) ∙ is)
 ]
 
@@ -122,6 +124,7 @@ rest_indexed h t k full = record {
 pub without_oldest-indexed : (t : Holdings) → IsIndexed t → length t.held ≡ t.room → 0 < t.room → IsIndexed (without_oldest t)
 without_oldest-indexed t k full some = go t.held k full (full_free t k full)
   where
-    go : (held : List Held) → IsIndexed (record t { held = held }) → length held ≡ t.room → t.free ≡ t.used → IsIndexed (without_oldest (record t { held = held }))
+    go : (held : List Held) → IsIndexed (record t { held = held }) → length held ≡ t.room → t.free ≡ t.used
+        → IsIndexed (without_oldest (record t { held = held }))
     go [] all is free = absurd (omega (arith, is, some))
     go (h ∷ held) all is free = rest_indexed h (record t { held = held }) all free

@@ -96,18 +96,20 @@ oldest s k full = go s.table.held k full
     go : (held : List Held) → IsStore (record s { table = record s.table { held = held } }) → length held ≡ s.table.room
         → IsOldest (record s { table = record s.table { held = held } })
     go [] all is = absurd (omega (arith, is, k.some))
-    go (h ∷ held) all is = (let within = held_within (record s { table = record s.table { held = h ∷ held } }) h.number h.place all (place_of-first h held) in record {
-      some = omega arith;
-      place = within.0;
-      page = within.1;
-      entry = omega (arith, within.1, k.records);
-      pages = pages_rest s.fast s.disk h held all.index.once.0 within.1;
-      room = omega (arith, is);
-      others = λ r none. elim (held_or_not (place_of held r)) [
-        | inl out ↦ out
-        | inr at ↦ (let there = (rest_places h held r at.0 all.index.once at.1).1 in cc)
-      ];
-    })
+    go (h ∷ held) all is = (let within =
+        held_within (record s { table = record s.table { held = h ∷ held } }) h.number h.place all (place_of-first h held) in
+        record {
+          some = omega arith;
+          place = within.0;
+          page = within.1;
+          entry = omega (arith, within.1, k.records);
+          pages = pages_rest s.fast s.disk h held all.index.once.0 within.1;
+          room = omega (arith, is);
+          others = λ r none. elim (held_or_not (place_of held r)) [
+            | inl out ↦ out
+            | inr at ↦ (let there = (rest_places h held r at.0 all.index.once at.1).1 in cc)
+          ];
+        })
 
 pub gave_up-store : (s : Contents) → IsStore s → length s.table.held ≡ s.table.room → IsStore (gave_up_oldest s)
 gave_up-store s k full =

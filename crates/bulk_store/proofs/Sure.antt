@@ -34,7 +34,8 @@ sure_read None result never cause = tt
 sure_read (Some p) result never cause = sure_call result never cause
 
 -- so a read fails by the disk
-pub read_cause : {T E : Type 0} (P Q : Type 0) (place : Option ℕ) (result : Result T E) → (P → ⊥) → OnErr result (IfSome place (λ _. P)) → OnErr result (IfNone place Q)
+pub read_cause : {T E : Type 0} (P Q : Type 0) (place : Option ℕ) (result : Result T E) → (P → ⊥)
+    → OnErr result (IfSome place (λ _. P)) → OnErr result (IfNone place Q)
     → OnErr result Q
 read_cause P Q place (Ok v) never held other = tt
 read_cause P Q None (Err e) never held other = other

@@ -113,7 +113,8 @@ on_err (Ok v) f h = tt
 on_err (Err e) f h = f h
 
 -- a record of the store is one of the disk's
-pub within_disk : {F D : Type 0} (fast_pages : F → List (List ℕ)) (disk_pages : D → List (List ℕ)) (fast : F) (disk : D) (held : List Held) (now : Store F D) (r : ℕ)
+pub within_disk : {F D : Type 0} (fast_pages : F → List (List ℕ)) (disk_pages : D → List (List ℕ))
+    (fast : F) (disk : D) (held : List Held) (now : Store F D) (r : ℕ)
     → record { fast = fast; disk = disk; held = held } ≡ now → r < length (store_pages fast_pages disk_pages now) → r < length (disk_pages disk)
 within_disk fast_pages disk_pages fast disk held now r view lt =
     let same : length (store_pages fast_pages disk_pages now) ≡ length (disk_pages disk)

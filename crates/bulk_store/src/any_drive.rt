@@ -20,6 +20,7 @@ pub enum AnyDrive {
 
 impl AnyDrive {
     /// The reads and the writes of its disk so far, each counted to 2^64 - 1, the failing ones too.
+    /// (Source: own.)
     pub fn calls(&self) -> (u64, u64)
         ensures { result ≡ ((disk_of self.now).reads, (disk_of self.now).writes) }
     {

@@ -1,4 +1,4 @@
-ghost use Rattle.std.specs.Prelude.{◌≡◌, ◌≤◌, ◌<◌, List, [], Option, Some, None, length, slice_index_or, slice_set, IfOk, IfSome, OnOk, OnErr, IsOk, IsTrue};
+ghost use Rattle.std.specs.Prelude.{◌≡◌, ◌≤◌, ◌<◌, [], Some, length, slice_index_or, slice_set, IfOk, IfSome, OnOk, OnErr, IsOk, IsTrue};
 ghost use Rattle.site_io.specs.Faults.{Rose};
 ghost use Rattle.volumes.specs.FailLine.{HasFewFaults};
 ghost use Rattle.volumes.specs.CoreDrive.{faults_of};
@@ -31,8 +31,9 @@ impl Model for CoreBulk {
 }
 
 impl CoreBulk {
-    /// A fast store of `places` pages of zeros, at least one, before `disk`. `NoMemory` is want of memory. It takes 8 KiB
-    /// for each place, and what the bulk store takes.
+    /// A fast store of `places` pages of zeros, at least one, before `disk`.
+    ///
+    /// `NoMemory` is want of memory. It takes 8 KiB for each place, and what the bulk store takes. (Source: own.)
     pub fn new(alloc: Global, places: u32, disk: CoreDrive) -> Result<CoreBulk, NoMemory>
         requires { 0 < places }
         ensures made { IfOk result (λ b. b ≡ fresh_store places disk) }

@@ -1,4 +1,4 @@
-ghost use Rattle.std.specs.Prelude.{◌≡◌, ◌≤◌, ◌<◌, ◌^◌, ◌+◌, ℕ, List, [], length, Option, None, replicate, nat_lt, slice_index_or, vec_capacity, IfOk, max};
+ghost use Rattle.std.specs.Prelude.{◌≡◌, ◌<◌, ◌^◌, ◌+◌, length, None, replicate, nat_lt, slice_index_or, IfOk};
 ghost use Rattle.bulk_store.specs.Held.{oldest_of};
 ghost use Rattle.bulk_store.specs.Index.{empty_index, with_record, without_oldest};
 

@@ -1,8 +1,9 @@
-ghost use Rattle.std.specs.Prelude.{◌≡◌, ◌≤◌, ◌<◌, ◌⊎◌, List, [], Option, None, IsSome, IfSome, IfNone, length, nat_lt, slice_index_or, slice_set, OnOk, OnErr, IsTrue};
+ghost use Rattle.std.specs.Prelude.{◌≡◌, ◌<◌, ◌⊎◌, Option, None, IfSome, IfNone, length, OnOk, OnErr, IsTrue};
 ghost use Rattle.site_io.specs.Faults.{Rose};
 ghost use Rattle.bulk_store.specs.Held.{place_of, is_fast_write};
 ghost use Rattle.bulk_store.specs.Pages.{page_of};
-ghost use Rattle.bulk_store.specs.Contents.{contents, IsStore, gave_up_oldest, took_in, wrote, wrote_new, AfterFailed, GoesOn};
+ghost use Rattle.bulk_store.specs.Contents.{contents, IsStore, GoesOn};
+ghost use Rattle.bulk_store.specs.Contents.{gave_up_oldest, took_in, wrote, wrote_new, AfterFailed};
 
 use crate::index::Index;
 use mword::Page;
@@ -24,7 +25,8 @@ impl<F: Drive, D: Drive> Parts<F, D> {
     fn give_up_oldest(&mut self) -> Result<(), Failed>
         requires store { IsStore (contents F.pages D.pages self.old) }
         requires full { length self.old.table.held ≡ self.old.table.room }
-        ensures ok { OnOk result (contents F.pages D.pages self.new ≡ gave_up_oldest (contents F.pages D.pages self.old)) }
+        ensures ok { OnOk result (contents F.pages D.pages self.new
+            ≡ gave_up_oldest (contents F.pages D.pages self.old)) }
         ensures err { OnErr result (contents F.pages D.pages self.new ≡ contents F.pages D.pages self.old) }
         ensures rose { OnErr result (Rose (F.faults self.old.fast) (F.faults self.new.fast)
             ⊎ Rose (D.faults self.old.disk) (D.faults self.new.disk)) }
@@ -43,7 +45,8 @@ impl<F: Drive, D: Drive> Parts<F, D> {
         requires store { IsStore (contents F.pages D.pages self.old) }
         requires room { length self.old.table.held < self.old.table.room }
         requires within { r < length (D.pages self.old.disk) }
-        ensures ok { OnOk result (contents F.pages D.pages self.new ≡ took_in (contents F.pages D.pages self.old) r from.now) }
+        ensures ok { OnOk result (contents F.pages D.pages self.new
+            ≡ took_in (contents F.pages D.pages self.old) r from.now) }
         ensures err { OnErr result (contents F.pages D.pages self.new ≡ contents F.pages D.pages self.old) }
         ensures rose { OnErr result (Rose (F.faults self.old.fast) (F.faults self.new.fast)) }
         ensures fast { GoesOn F.plan F.faults self.old.fast self.new.fast }
@@ -59,12 +62,16 @@ impl<F: Drive, D: Drive> Parts<F, D> {
         requires store { IsStore (contents F.pages D.pages self.old) }
         requires out { place_of self.old.table.held r ≡ None }
         requires within { r < length (D.pages self.old.disk) }
-        ensures ok { OnOk result (contents F.pages D.pages self.new ≡ wrote_new (contents F.pages D.pages self.old) r from.now) }
-        ensures err { OnErr result (AfterFailed (contents F.pages D.pages self.old) r (contents F.pages D.pages self.new)) }
+        ensures ok { OnOk result (contents F.pages D.pages self.new
+            ≡ wrote_new (contents F.pages D.pages self.old) r from.now) }
+        ensures err { OnErr result (AfterFailed (contents F.pages D.pages self.old) r
+            (contents F.pages D.pages self.new)) }
         ensures fast { GoesOn F.plan F.faults self.old.fast self.new.fast }
         ensures disk { GoesOn D.plan D.faults self.old.disk self.new.disk }
-        ensures alone { IsTrue (is_fast_write self.old.table.room self.old.table.held r) → self.new.disk ≡ self.old.disk }
-        ensures cause { IsTrue (is_fast_write self.old.table.room self.old.table.held r) → OnErr result (Rose (F.faults self.old.fast) (F.faults self.new.fast)) }
+        ensures alone { IsTrue (is_fast_write self.old.table.room self.old.table.held r)
+            → self.new.disk ≡ self.old.disk }
+        ensures cause { IsTrue (is_fast_write self.old.table.room self.old.table.held r)
+            → OnErr result (Rose (F.faults self.old.fast) (F.faults self.new.fast)) }
         ensures rose { OnErr result (Rose (F.faults self.old.fast) (F.faults self.new.fast)
             ⊎ Rose (D.faults self.old.disk) (D.faults self.new.disk)) }
     {
@@ -79,12 +86,16 @@ impl<F: Drive, D: Drive> Parts<F, D> {
     pub(crate) fn write(&mut self, r: u32, from: &Page) -> Result<(), Failed>
         requires store { IsStore (contents F.pages D.pages self.old) }
         requires within { r < length (D.pages self.old.disk) }
-        ensures ok { OnOk result (contents F.pages D.pages self.new ≡ wrote (contents F.pages D.pages self.old) r from.now) }
-        ensures err { OnErr result (AfterFailed (contents F.pages D.pages self.old) r (contents F.pages D.pages self.new)) }
+        ensures ok { OnOk result (contents F.pages D.pages self.new
+            ≡ wrote (contents F.pages D.pages self.old) r from.now) }
+        ensures err { OnErr result (AfterFailed (contents F.pages D.pages self.old) r
+            (contents F.pages D.pages self.new)) }
         ensures fast { GoesOn F.plan F.faults self.old.fast self.new.fast }
         ensures disk { GoesOn D.plan D.faults self.old.disk self.new.disk }
-        ensures alone { IsTrue (is_fast_write self.old.table.room self.old.table.held r) → self.new.disk ≡ self.old.disk }
-        ensures cause { IsTrue (is_fast_write self.old.table.room self.old.table.held r) → OnErr result (Rose (F.faults self.old.fast) (F.faults self.new.fast)) }
+        ensures alone { IsTrue (is_fast_write self.old.table.room self.old.table.held r)
+            → self.new.disk ≡ self.old.disk }
+        ensures cause { IsTrue (is_fast_write self.old.table.room self.old.table.held r)
+            → OnErr result (Rose (F.faults self.old.fast) (F.faults self.new.fast)) }
         ensures rose { OnErr result (Rose (F.faults self.old.fast) (F.faults self.new.fast)
             ⊎ Rose (D.faults self.old.disk) (D.faults self.new.disk)) }
     {
@@ -98,7 +109,8 @@ impl<F: Drive, D: Drive> Parts<F, D> {
     pub(crate) fn read(&mut self, r: u32, to: &mut Page) -> Result<(), Failed>
         requires store { IsStore (contents F.pages D.pages self.old) }
         requires within { r < length (D.pages self.old.disk) }
-        ensures ok { OnOk result (to.new ≡ page_of (F.pages self.old.fast) (D.pages self.old.disk) self.old.table.held r) }
+        ensures ok { OnOk result (to.new
+            ≡ page_of (F.pages self.old.fast) (D.pages self.old.disk) self.old.table.held r) }
         ensures err { OnErr result (to.new ≡ to.old) }
         ensures same { contents F.pages D.pages self.new ≡ contents F.pages D.pages self.old }
         ensures fast { GoesOn F.plan F.faults self.old.fast self.new.fast }

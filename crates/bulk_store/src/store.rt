@@ -1,4 +1,4 @@
-ghost use Rattle.std.specs.Prelude.{◌≡◌, ◌≤◌, ◌<◌, ◌+◌, ◌⊎◌, List, [], Option, None, IfOk, IfSome, IfNone, length, slice_index_or, slice_set, OnOk, OnErr, IsTrue};
+ghost use Rattle.std.specs.Prelude.{◌≡◌, ◌<◌, ◌⊎◌, [], IfOk, IfSome, IfNone, length, slice_index_or, slice_set, OnOk, OnErr, IsTrue};
 ghost use Rattle.site_io.specs.Faults.{Rose};
 ghost use Rattle.volumes.specs.FailLine.{HasFewFaults};
 ghost use Rattle.bulk_store.specs.Held.{place_of, is_fast_write, BulkAfter};
@@ -38,7 +38,8 @@ impl<F: Drive, D: Drive> Model for BulkStore<F, D> {
 impl<F: Drive, D: Drive> BulkStore<F, D> {
     /// A store that holds nothing, over a fast store of at least one page and a disk.
     ///
-    /// `NoMemory` is want of memory. It takes 8 KiB for a page, and 8 bytes for each of the disk's pages and each place.
+    /// `NoMemory` is want of memory. It takes 8 KiB for a page, and 8 bytes for each place and disk page.
+    /// (Source: own.)
     pub fn new(alloc: Global, fast: F, disk: D) -> Result<BulkStore<F, D>, NoMemory>
         requires { 0 < length (F.pages fast) }
         ensures made { IfOk result (λ s. s ≡ record { fast = fast; disk = disk; held = [] }) }
