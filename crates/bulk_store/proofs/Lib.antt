@@ -2,6 +2,5 @@ pub mod Places
 pub mod Indexed
 pub mod Pages
 pub mod Stores
-pub mod Drives
 pub mod Writes
 pub mod Sure
