@@ -3,7 +3,7 @@ use Rattle.std.proofs.Common.{◌≡◌, ◌≢◌, ◌≤◌, ℕ, true, false,
 use Rattle.std.specs.Prelude.{IfSome, IfNone, IfOk, OnOk, OnErr}
 use Rattle.std.proofs.lemmas.Bool.{cases_Bool, cases_eq, eq-eqb, ne_eqb}
 use Rattle.tree_model.specs.Access.{Row, with_row}
-use Rattle.tree_model.specs.Tree.{Node as Term, has_directory, node_in, quota_in as quota_at}
+use Rattle.tree_model.specs.Tree.{Node as Term, has_directory, node_in, quota_in as quota_at, with_node, without_node}
 use Rattle.tree_model.specs.Trees.{has_segment, HasChains, IsTree, Joins, AreBelow}
 use Rattle.dir_tree.specs.declared.node.Node.{Node}
 use Rattle.dir_tree.specs.declared.node.NewNode.{NewNode}
@@ -14,7 +14,7 @@ use Rattle.quota_cells.specs.Cells.{CellMaps, quota_in, stored_in, used_in, AreW
 use Rattle.quota_cells.proofs.PlaceLaws.{look_absent}
 use Rattle.quota_cells.proofs.FitLaws.{on_directories, on_segments}
 use Rattle.quota_cells.proofs.EnterLaws.{not_in_directory}
-use Rattle.accounts.specs.Maps.{AccountMaps, accounts_of, entry_of, branch_of, without_node, with_node, Recounts, Changes, Gains, Loses, Rehomes, rows_in, with_row_in}
+use Rattle.accounts.specs.Maps.{AccountMaps, accounts_of, entry_of, branch_of, Recounts, Changes, Gains, Loses, Rehomes, rows_in, with_row_in}
 
 -- ---- uids of the tree
 

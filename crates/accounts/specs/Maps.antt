@@ -3,7 +3,7 @@
 use Rattle.std.specs.Prelude.{◌≡◌, ◌≢◌, ℕ, ◌+◌, ◌==◌, not, if◌then◌else◌, codes, true, map, List, [], ◌∷◌, Some, None, count_by}
 use Rattle.std.specs.List.{filter}
 use Rattle.tree_model.specs.Access.{Row, with_row}
-use Rattle.tree_model.specs.Tree.{Node}
+use Rattle.tree_model.specs.Tree.{Node, with_node, without_node}
 use Rattle.dir_tree.specs.declared.node.NewNode.{NewNode}
 use Rattle.dir_tree.specs.Nodes.{Branches, with_quotas}
 use Rattle.quota_cells.specs.Accounts.{look}
@@ -91,20 +91,12 @@ pub record Gains (old new : AccountMaps) (node : Node) (entry : ℕ) : Type 0 wh
   pub next : new.next ≡ old.next + 1
   pub counts : (s : ℕ) → count_of new s ≡ count_of old s
 
--- the nodes without that of a uid
-abbrev pub without_node : List Node → ℕ → List Node
-without_node nodes u = filter (λ n. not (n.uid == u)) nodes
-
 -- a node is taken out
 pub record Loses (old new : AccountMaps) (uid : ℕ) : Type 0 where
   pub nodes : new.nodes ≡ without_node old.nodes uid
   pub entries : (u : ℕ) → u ≢ uid → entry_of new u ≡ entry_of old u
   pub next : new.next ≡ old.next
   pub counts : (s : ℕ) → count_of new s ≡ count_of old s
-
--- the nodes with that of a uid changed
-abbrev pub with_node : List Node → ℕ → (Node → Node) → List Node
-with_node nodes u change = map (λ n. if n.uid == u then change n else n) nodes
 
 -- the access control list of a node
 abbrev pub rows_in : List Node → ℕ → List Row

@@ -13,12 +13,12 @@ ghost use Rattle.std.specs.Prelude.{Some, None, IfOk, IfSome, IfNone, OnOk, OnEr
 ghost use Rattle.std.specs.Int.{is_positive};
 ghost use Rattle.std.specs.Int.RustNames.{unsigned_abs};
 ghost use Rattle.tree_model.specs.Access.{takes_row};
-ghost use Rattle.tree_model.specs.Tree.{above, has_directory, node_in, quota_in, used_by, walk_in};
+ghost use Rattle.tree_model.specs.Tree.{above, has_directory, node_in, quota_in, used_by, walk_in, with_node};
 ghost use Rattle.tree_model.specs.Trees.{has_segment};
 ghost use Rattle.tree_model.specs.Quotas.{tree_moved};
 ghost use Rattle.dir_tree.specs.Nodes.{add_fault_of, as_term, chain_of, has_inferior, path_answer, unless};
 ghost use Rattle.quota_cells.specs.Scratch.{charge_answer, scratch_answer};
-ghost use Rattle.accounts.specs.Maps.{Counts, count_of, entry_of, root_alone, branch_of, with_node};
+ghost use Rattle.accounts.specs.Maps.{Counts, count_of, entry_of, root_alone, branch_of};
 ghost use Rattle.accounts.specs.Maps.{Recounts, Changes, Gains, Loses, Rehomes, rows_in, with_row_in};
 
 use acl::AclFull;

@@ -1,18 +1,53 @@
 -- The text of an entry (own).
 use Rattle.std.specs.Prelude.{ℕ, List, ◌++◌, Option, Some, None, codes}
 use Rattle.std.specs.Fmt.{decimal}
+use Rattle.assoc_mem.specs.declared.What.{What}
+use Rattle.assoc_mem.specs.declared.What.TheVariants as what
 use Rattle.book.specs.declared.entries.Entry.{Entry}
 use Rattle.book.specs.declared.entries.Entry.TheVariants as entry
 use Rattle.book.specs.Replies.{reply_text}
 
--- a frame, and `-` where there is none
-unfoldable pub frame_text : Option ℕ → List ℕ
-frame_text None = codes "-"
-frame_text (Some f) = decimal f
+-- a number, and `-` where there is none
+unfoldable pub number_text : Option ℕ → List ℕ
+number_text None = codes "-"
+number_text (Some n) = decimal n
+
+-- what is dropped: everything, the word of a frame, or all words of a segment
+unfoldable pub what_text : What → List ℕ
+what_text what.All = codes "all"
+what_text (what.Page f) = codes "page " ++ decimal f
+what_text (what.Seg u) = codes "seg " ++ decimal u
+
+-- numbers with a space between them
+abbrev pub two_text : ℕ → ℕ → List ℕ
+two_text a b = decimal a ++ (codes " " ++ decimal b)
+
+abbrev pub three_text : ℕ → ℕ → ℕ → List ℕ
+three_text a b c = decimal a ++ (codes " " ++ two_text b c)
+
+abbrev pub do_text : ℕ → ℕ → ℕ → Option ℕ → List ℕ → List ℕ
+do_text k i c f reply = decimal k ++ (codes "." ++ (decimal i ++ (codes " " ++ (decimal c ++ (codes " " ++ (number_text f ++ (codes " " ++ reply)))))))
 
 unfoldable pub entry_text : Entry → List ℕ
-entry_text (entry.Do process place cpu frame r) = codes "do " ++ (decimal process ++ (codes "." ++ (decimal place ++ (codes " " ++ (decimal cpu ++ (codes " " ++ (frame_text frame ++ (codes " " ++ reply_text r))))))))
-entry_text (entry.Release uid page) = codes "release " ++ (decimal uid ++ (codes " " ++ decimal page))
-entry_text (entry.Here frame uid page) = codes "in " ++ (decimal frame ++ (codes " " ++ (decimal uid ++ (codes " " ++ decimal page))))
+entry_text (entry.Do process place cpu frame r) = codes "do " ++ do_text process place cpu frame (reply_text r)
+entry_text (entry.Release uid page) = codes "release " ++ two_text uid page
+entry_text (entry.Fault process) = codes "fault " ++ number_text process
+entry_text (entry.Online cpu) = codes "online " ++ decimal cpu
+entry_text (entry.Load cpu process) = codes "load " ++ two_text cpu process
+entry_text (entry.Leave cpu) = codes "leave " ++ decimal cpu
+entry_text (entry.Activate uid) = codes "activate " ++ decimal uid
+entry_text (entry.Deactivate uid) = codes "deactivate " ++ decimal uid
+entry_text (entry.Start frame uid page) = codes "start " ++ three_text frame uid page
+entry_text (entry.Lose frame) = codes "lose " ++ decimal frame
+entry_text (entry.Here frame uid page) = codes "in " ++ three_text frame uid page
+entry_text (entry.Connect process number uid) = codes "connect " ++ three_text process number uid
 entry_text (entry.Take frame) = codes "take " ++ decimal frame
+entry_text (entry.Cut process number) = codes "cut " ++ two_text process number
+entry_text (entry.Signal cpu w) = codes "signal " ++ (decimal cpu ++ (codes " " ++ what_text w))
+entry_text (entry.Clear cpu w) = codes "clear " ++ (decimal cpu ++ (codes " " ++ what_text w))
+entry_text (entry.FillSeg cpu number) = codes "fill " ++ (decimal cpu ++ (codes " seg " ++ decimal number))
+entry_text (entry.FillPage cpu frame) = codes "fill " ++ (decimal cpu ++ (codes " page " ++ decimal frame))
 entry_text (entry.GonePage frame) = codes "gone page " ++ decimal frame
+entry_text (entry.BackPage frame) = codes "back page " ++ decimal frame
+entry_text (entry.GoneSeg process number) = codes "gone seg " ++ two_text process number
+entry_text (entry.BackSeg process number) = codes "back seg " ++ two_text process number

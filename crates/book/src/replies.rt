@@ -10,17 +10,23 @@ use std::fmt;
 pub enum Reply {
     /// The number stands for nothing in this process.
     Unknown,
+    /// The segment that the number stands for was deleted.
+    Gone,
+    /// The access control list of the segment doesn't permit it (Organick 1972).
+    NoAccess,
     /// The offset is past the segment's last page.
     Length,
     /// The account that the segment is charged to has used up its quota (Organick 1972).
     Quota,
     /// All records of the segment's volume are in use (Organick 1972).
     NoRecord,
-    /// The word that was read.
+    /// A call of a drive failed.
+    Device,
+    /// The word that was read, or the sum that was written.
     Word(Word),
     /// The command took effect.
     Done,
-    /// The segment was made; its unique identifier.
+    /// The segment or the directory was made; its unique identifier.
     Made(u32),
     /// The segment is known to the process by this number.
     Known(u32),
@@ -30,14 +36,38 @@ pub enum Reply {
     NotDir,
     /// It is a directory, and a segment is asked for.
     IsDir,
+    /// It is a segment, and a directory is asked for.
+    IsSeg,
     /// The directory has a branch of that name (Organick 1972).
     Exists,
+    /// A directory would lie deeper than the tree may be.
+    Deep,
     /// The tree has as many branches as it may have.
     Room,
     /// All VTOC entries of the volume are in use (Organick 1972).
     NoEntry,
     /// The process knows as many segments as it may know.
     Full,
+    /// The access control list has as many rows as it may have.
+    AclFull,
+    /// A stored page lies past the new length.
+    Beyond,
+    /// The directory has a branch.
+    NotEmpty,
+    /// The directory has quota (Organick 1972).
+    HasQuota,
+    /// The root can't be deleted, and no quota moves to it from above.
+    Root,
+    /// The directory that gives quota has less (Organick 1972).
+    TooLittle,
+    /// An account would be charged for more pages than its quota; the least unique identifier of such (Organick
+    /// 1972).
+    Over(u32),
+    /// What a segment is like: its unique identifier, its length in pages, and how many of its pages are stored.
+    SegIs { uid: u32, length: u32, stored: u32 },
+    /// What a directory is like: its unique identifier, its quota in pages, and how many stored pages are charged to
+    /// it, 0 where it is no account.
+    DirIs { uid: u32, quota: u32, used: u32 },
 }
 
 impl fmt::Display for Reply {
@@ -47,9 +77,12 @@ impl fmt::Display for Reply {
     fn fmt<W: fmt::Write>(&self, f: &mut fmt::Formatter<W>) -> fmt::Result {
         match self {
             Reply::Unknown => write!(f, "unknown"),
+            Reply::Gone => write!(f, "gone"),
+            Reply::NoAccess => write!(f, "noaccess"),
             Reply::Length => write!(f, "length"),
             Reply::Quota => write!(f, "quota"),
             Reply::NoRecord => write!(f, "norecord"),
+            Reply::Device => write!(f, "device"),
             Reply::Word(word) => write!(f, "word {word}"),
             Reply::Done => write!(f, "done"),
             Reply::Made(uid) => write!(f, "made {uid}"),
@@ -57,10 +90,25 @@ impl fmt::Display for Reply {
             Reply::NoPath => write!(f, "nopath"),
             Reply::NotDir => write!(f, "notdir"),
             Reply::IsDir => write!(f, "isdir"),
+            Reply::IsSeg => write!(f, "isseg"),
             Reply::Exists => write!(f, "exists"),
+            Reply::Deep => write!(f, "deep"),
             Reply::Room => write!(f, "room"),
             Reply::NoEntry => write!(f, "noentry"),
             Reply::Full => write!(f, "full"),
+            Reply::AclFull => write!(f, "aclfull"),
+            Reply::Beyond => write!(f, "beyond"),
+            Reply::NotEmpty => write!(f, "notempty"),
+            Reply::HasQuota => write!(f, "hasquota"),
+            Reply::Root => write!(f, "root"),
+            Reply::TooLittle => write!(f, "toolittle"),
+            Reply::Over(account) => write!(f, "over {account}"),
+            Reply::SegIs {
+                uid,
+                length,
+                stored,
+            } => write!(f, "seg {uid} length {length} stored {stored}"),
+            Reply::DirIs { uid, quota, used } => write!(f, "dir {uid} quota {quota} used {used}"),
         }
     }
 }

@@ -8,5 +8,6 @@ pub mod Heads
 pub mod Lines
 pub mod Plans
 pub mod Readers
+pub mod References
 pub mod Scripts
 pub mod Texts

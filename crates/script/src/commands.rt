@@ -1,4 +1,5 @@
 ghost use Rattle.std.specs.Prelude.{◌≡◌};
+ghost use Rattle.script.specs.References.{reference_of};
 
 use mnames::{Mode, Path, Row, Who};
 use mword::Word;
@@ -86,6 +87,55 @@ pub enum Command {
     },
     /// The process ends.
     End,
+}
+
+/// What a reference does to the word that it names (Bensoussan, Clingen and Daley 1972; `Add` is own).
+#[derive(Clone, Copy, Debug, PartialEq, Eq)]
+pub enum RefKind {
+    /// Reads the word.
+    Read,
+    /// Writes this word.
+    Write(Word),
+    /// Reads the word, and writes its sum with this one, modulo 2^36.
+    Add(Word),
+}
+
+/// A reference of a process to a word of a segment, by the number that it knows the segment by and an offset in words
+/// (Bensoussan, Clingen and Daley 1972).
+#[derive(Clone, Copy, Debug, PartialEq, Eq)]
+pub struct Reference {
+    pub number: u32,
+    pub offset: u32,
+    pub kind: RefKind,
+}
+
+impl Command {
+    /// The reference that the command makes, where it is one; a try of `Await` is a read. `None` exactly for the
+    /// others, which are tree commands.
+    pub fn reference(&self) -> Option<Reference>
+        ensures { result ≡ reference_of self.now }
+    {
+        let (number, offset, kind) = match *self {
+            Command::Read { number, offset } => (number, offset, RefKind::Read),
+            Command::Write {
+                number,
+                offset,
+                word,
+            } => (number, offset, RefKind::Write(word)),
+            Command::Add {
+                number,
+                offset,
+                word,
+            } => (number, offset, RefKind::Add(word)),
+            Command::Await { number, offset, .. } => (number, offset, RefKind::Read),
+            _ => return None,
+        };
+        Some(Reference {
+            number,
+            offset,
+            kind,
+        })
+    }
 }
 
 /// A process of the script: for whom it runs, and what it does. A contract sees the principal and

@@ -14,7 +14,7 @@ mod texts;
 mod values;
 mod volumes;
 
-pub use commands::{Command, Process};
+pub use commands::{Command, Process, RefKind, Reference};
 pub use plan::{Bulk, Fail, Print, Script, VolumeLine};
 pub use reader::{ScriptFault, read_script};
 pub use refusals::{Cause, Refusal};

@@ -1,6 +1,7 @@
 -- The directory tree, the accounts in it, and their counts from scratch (Bensoussan, Clingen and
 -- Daley 1972; Organick 1972).
-use Rattle.std.specs.Prelude.{ℕ, Bool, true, false, ◌&&◌, ◌||◌, not, ◌==◌, if◌then◌else◌, count_by, List, [], ◌∷◌, Option, Some, None}
+use Rattle.std.specs.Prelude.{ℕ, Bool, true, false, ◌&&◌, ◌||◌, not, ◌==◌, nat_le, if◌then◌else◌, count_by, map, List, [], ◌∷◌, Option, Some, None}
+use Rattle.std.specs.List.{filter}
 use Rattle.std.specs.Str.{bytes_eq}
 use Rattle.tree_model.specs.Access.{Row}
 
@@ -116,3 +117,19 @@ entries_on nodes volume = count_by (λ n. n.volume == volume) nodes
 -- the root, and each directory with a quota
 abbrev pub is_account : Node → Bool
 is_account n = n.directory && (n.uid == 1 || not (n.quota == 0))
+
+-- the nodes with that of a uid changed
+abbrev pub with_node : List Node → ℕ → (Node → Node) → List Node
+with_node nodes u change = map (λ n. if n.uid == u then change n else n) nodes
+
+-- the nodes without that of a uid
+abbrev pub without_node : List Node → ℕ → List Node
+without_node nodes u = filter (λ n. not (n.uid == u)) nodes
+
+-- the pool of the active segment table that has the page table of so many pages: of 4, 16, 64 or 256 (own)
+abbrev pub pool_for : ℕ → ℕ
+pool_for pages = if nat_le pages 4 then 0 else if nat_le pages 16 then 1 else if nat_le pages 64 then 2 else 3
+
+-- a directory's page table has 4 places, a segment's the least that hold its length
+abbrev pub pool_of : Node → ℕ
+pool_of n = if n.directory then 0 else pool_for n.pages

@@ -1,0 +1,10 @@
+pub mod Branches
+pub mod Commands
+pub mod Legal
+pub mod Making
+pub mod Naming
+pub mod Pages
+pub mod References
+pub mod Rights
+pub mod Sizes
+pub mod Store
