@@ -17,9 +17,8 @@ use Rattle.book.specs.declared.replies.Reply.{Reply}
 use Rattle.book.specs.Entries.{entry_text}
 use Rattle.book.specs.Replies.{reply_text}
 use Rattle.tree_model.specs.Tree.{Node, is_account, used_by, taken_on, entries_on}
-use Rattle.flat_store.specs.Flat.{Store}
-use Rattle.flat_store.specs.Kept.{Kept, gauge_at}
-use Rattle.flat_store.specs.Legal.{store_after, part}
+use Rattle.flat_model.specs.Store.{Store}
+use Rattle.flat_model.specs.Legal.{store_after, part}
 
 -- `COMMAND = REPLY`
 unfoldable pub answer_line : Plan → Option Command → Reply → List ℕ
@@ -52,29 +51,53 @@ abbrev pub trail_of : List Node → ℕ → List (List ℕ)
 trail_of [] u = []
 trail_of (n ∷ ns) u = if eqb n.uid u then trail_up (trail_of ns) n.name n.superior else trail_of ns u
 
--- `PATH quota Q used N`
-unfoldable pub account_text : List (List ℕ) → ℕ → ℕ → List ℕ
-account_text path quota used = path_text path ++ (codes " quota " ++ (decimal quota ++ (codes " used " ++ (decimal used ++ codes "\n"))))
+-- an account: its path, its quota and how many stored pages it is charged for, both in pages
+pub record AccountCount : Type 0 where
+  pub path : List (List ℕ)
+  pub quota : ℕ
+  pub used : ℕ
 
-abbrev pub account_line : Store → Node → List ℕ
-account_line s n = if is_account n then account_text (trail_of s.nodes n.uid) n.quota (used_by s.nodes s.stored n.uid) else []
+-- a volume of a script, how many of its records are taken, one for each stored page, and how many of its VTOC entries, one
+-- for each node
+pub record VolumeCount : Type 0 where
+  pub volume : VolumeLine
+  pub taken : ℕ
+  pub used : ℕ
 
--- a line for each account, in order of uid
-unfoldable pub account_lines : Store → List ℕ
-account_lines s = flat_map (account_line s) (reverse s.nodes)
+-- what a listing ends with: the accounts in order of uid, and the volumes in the order of the script
+pub record Summary : Type 0 where
+  pub accounts : List AccountCount
+  pub volumes : List VolumeCount
 
--- `volume NAME records R taken T entries E taken G`
-unfoldable pub volume_text : VolumeLine → ℕ → ℕ → List ℕ
-volume_text v taken used = codes "volume " ++ (v.name ++ (codes " records " ++ (decimal v.records ++ (codes " taken " ++ (decimal taken ++ (codes " entries " ++ (decimal v.entries ++ (codes " taken " ++ (decimal used ++ codes "\n")))))))))
+abbrev pub account_count : Store → Node → List AccountCount
+account_count s n = if is_account n then (record { path = trail_of s.nodes n.uid; quota = n.quota; used = used_by s.nodes s.stored n.uid }) ∷ [] else []
 
--- a line for each volume, from number v on
-abbrev pub volume_lines : Store → ℕ → List VolumeLine → List ℕ
-volume_lines s v [] = []
-volume_lines s v (x ∷ xs) = volume_text x (taken_on s.nodes s.stored v) (entries_on s.nodes v) ++ volume_lines s (v + 1) xs
+-- the accounts of a store
+unfoldable pub accounts_of : Store → List AccountCount
+accounts_of s = flat_map (account_count s) (reverse s.nodes)
+
+-- the counts of volumes, from number v on
+abbrev pub volumes_of : Store → ℕ → List VolumeLine → List VolumeCount
+volumes_of s v [] = []
+volumes_of s v (x ∷ xs) = (record { volume = x; taken = taken_on s.nodes s.stored v; used = entries_on s.nodes v }) ∷ volumes_of s (v + 1) xs
 
 -- the accounts and the volumes, as they are in a store
-unfoldable pub summary_of : Plan → Store → List ℕ
-summary_of p s = account_lines s ++ volume_lines s 0 p.volumes
+unfoldable pub summary_of : Plan → Store → Summary
+summary_of p s = record { accounts = accounts_of s; volumes = volumes_of s 0 p.volumes }
+
+-- `PATH quota Q used N`
+unfoldable pub account_text : AccountCount → List ℕ
+account_text a = path_text a.path ++ (codes " quota " ++ (decimal a.quota ++ (codes " used " ++ (decimal a.used ++ codes "\n"))))
+
+-- `volume NAME records R taken T entries E taken G`
+unfoldable pub volume_text : VolumeCount → List ℕ
+volume_text c =
+    codes "volume " ++ (c.volume.name ++ (codes " records " ++ (decimal c.volume.records ++ (codes " taken " ++ (decimal c.taken
+    ++ (codes " entries " ++ (decimal c.volume.entries ++ (codes " taken " ++ (decimal c.used ++ codes "\n")))))))))
+
+-- a line for each account and for each volume
+unfoldable pub summary_text : Summary → List ℕ
+summary_text s = flat_map account_text s.accounts ++ flat_map volume_text s.volumes
 
 -- a line for each entry
 unfoldable pub full_line : Entry → List ℕ
@@ -88,20 +111,9 @@ body_of print.All p entries = flat_map full_line entries
 
 -- the listing of a book
 unfoldable pub listing_of : Plan → List Entry → List ℕ
-listing_of p entries = body_of p.print p entries ++ summary_of p (store_after p entries)
+listing_of p entries = body_of p.print p entries ++ summary_text (summary_of p (store_after p entries))
 
 -- the line of an entry, where it answers a command of this process
 abbrev pub own_line : Plan → ℕ → Entry → List ℕ
 own_line p k (entry.Do process place cpu frame r) = if eqb process k then answer_line p (command_at p k place) r else []
 own_line p k _ = []
-
--- the summary by what the program of the flat store keeps: the root is the only account
-abbrev pub kept_line : Kept → ℕ → VolumeLine → List ℕ
-kept_line k v x = volume_text x (gauge_at k.records v).used (gauge_at k.entries v).used
-
-abbrev pub kept_lines : Kept → ℕ → List VolumeLine → List ℕ
-kept_lines k v [] = []
-kept_lines k v (x ∷ xs) = kept_line k v x ++ kept_lines k (v + 1) xs
-
-abbrev pub kept_summary : Plan → Kept → List ℕ
-kept_summary p k = account_text [] p.quota k.quota.used ++ kept_lines k 0 p.volumes
