@@ -1,0 +1,5 @@
+pub mod Allowed
+pub mod Clean
+pub mod Custody
+pub mod Effects
+pub mod Next
