@@ -26,7 +26,8 @@ abbrev pub three_text : ℕ → ℕ → ℕ → List ℕ
 three_text a b c = decimal a ++ (codes " " ++ two_text b c)
 
 abbrev pub do_text : ℕ → ℕ → ℕ → Option ℕ → List ℕ → List ℕ
-do_text k i c f reply = decimal k ++ (codes "." ++ (decimal i ++ (codes " " ++ (decimal c ++ (codes " " ++ (number_text f ++ (codes " " ++ reply)))))))
+do_text k i c f reply = decimal k ++
+    (codes "." ++ (decimal i ++ (codes " " ++ (decimal c ++ (codes " " ++ (number_text f ++ (codes " " ++ reply)))))))
 
 unfoldable pub entry_text : Entry → List ℕ
 entry_text (entry.Do process place cpu frame r) = codes "do " ++ do_text process place cpu frame (reply_text r)

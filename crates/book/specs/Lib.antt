@@ -1,3 +1,4 @@
 pub mod Books
 pub mod Entries
+pub mod Reading
 pub mod Replies

@@ -1,14 +1,14 @@
-//! The book of a run: each event that the storage system makes, in order, and the text of a reply.
+//! The book of a run: each event that the storage system makes, in order, the text of each, and what is read of a text.
 #![tactic(auto)]
 
 mod entries;
+mod reading;
 mod replies;
 mod runs;
-#[cfg(test)]
-mod tests;
 mod texts;
 
 pub use entries::Entry;
+pub use reading::read_entry;
 pub use replies::Reply;
 pub use runs::{Book, NoMemory};
 pub use texts::entry_text;

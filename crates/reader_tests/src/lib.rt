@@ -1,7 +1,10 @@
-//! Tests of the reader of scripts, over the public calls of `script`: which lines are read and as what, which are refused
-//! and why, and that the text of a script is read back.
+//! Tests of what is read, over the public calls of `script` and `book`: which lines of a script are read and as what, which
+//! are refused and why, and that the text of a script is read back; the texts of replies and entries, and the entries that
+//! are read of them.
 #![tactic(auto)]
 
+#[cfg(test)]
+mod books;
 #[cfg(test)]
 mod reading;
 #[cfg(test)]

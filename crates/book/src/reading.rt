@@ -1,0 +1,525 @@
+ghost use Rattle.std.specs.Prelude.{◌≡◌, ◌==◌, ◌<◌, ◌≤◌, [], ◌∷◌, map, length, Some, None, IfSome, IfNone};
+ghost use Rattle.std.specs.List.{position, slice_split};
+ghost use Rattle.book.specs.Entries.{entry_text};
+ghost use Rattle.book.specs.Reading.{is_plain, number_of, number_or_none, word_of, dotted_of};
+ghost use Rattle.book.specs.Reading.{page_reply, path_reply, change_reply, bare_reply, numbered_reply};
+ghost use Rattle.book.specs.Reading.{status_reply, triple, reply_of, what_of, dropped_of, named_of, gone, back, filled, fill_of};
+ghost use Rattle.book.specs.Reading.{fault_of, do_of, of_one, of_two, of_three, plain_of, entry_of, entry_of_words, is_space, IsEntry};
+
+use crate::entries::Entry;
+use crate::replies::Reply;
+use arrayvec::ArrayVec;
+use assoc_mem::What;
+use mword::{Word, read_octal};
+
+/// The most words that an entry has: a command's entry whose reply is what a segment or a directory is like.
+const MOST_WORDS: usize = 10;
+
+/// What an entry takes away or gives back: the page in a frame, or a descriptor of a process.
+#[derive(Clone, Copy)]
+enum Named {
+    Page(u32),
+    Seg(u32, u32),
+}
+
+/// Whether a word has 1 to 10 bytes, and its first is a zero only where it is the only one.
+fn is_plain(word: &[u8]) -> bool
+    ensures { result ≡ is_plain word.now }
+{
+    !word.is_empty() && word.len() <= 10 && (word[0] != b'0' || word.len() == 1)
+}
+
+/// The number that a word is: decimal digits without a leading zero, of 32 bits.
+#[tactic(auto, using(crate::proofs::Numbers::digits_start, crate::proofs::Numbers::digits_next, crate::proofs::Numbers::value_fits, crate::proofs::Numbers::plain_short, crate::proofs::Numbers::not_plain, crate::proofs::Numbers::no_digit, crate::proofs::Numbers::number_found, crate::proofs::Numbers::number_large, std::proofs::lemmas::Grind::common_steps))]
+fn number(word: &[u8]) -> Option<u32>
+    ensures { result ≡ number_of word.now }
+{
+    if !is_plain(word) {
+        return None;
+    }
+    let mut value: u64 = 0;
+    for byte in word {
+        match byte {
+            b'0'..=b'9' => value = value * 10 + u64::from(*byte - b'0'),
+            _ => return None,
+        }
+    }
+    if value < 0x1_0000_0000 {
+        Some(value as u32)
+    } else {
+        None
+    }
+}
+
+/// A number, or `-` for none.
+fn number_or_none(word: &[u8]) -> Option<Option<u32>>
+    ensures { result ≡ number_or_none word.now }
+{
+    if word == b"-".as_slice() {
+        return Some(None);
+    }
+    Some(Some(number(word)?))
+}
+
+/// The word that twelve octal digits are.
+#[tactic(auto, unfolding(crate::specs::Reading::word_of))]
+fn octal_word(text: &[u8]) -> Option<Word>
+    ensures { result ≡ word_of text.now }
+{
+    if text.len() == 12 {
+        read_octal(text)
+    } else {
+        None
+    }
+}
+
+/// A reply of one word that a reference may have.
+fn page_reply(word: &[u8]) -> Option<Reply>
+    ensures { result ≡ page_reply word.now }
+{
+    if word == b"unknown".as_slice() {
+        Some(Reply::Unknown)
+    } else if word == b"gone".as_slice() {
+        Some(Reply::Gone)
+    } else if word == b"noaccess".as_slice() {
+        Some(Reply::NoAccess)
+    } else if word == b"length".as_slice() {
+        Some(Reply::Length)
+    } else if word == b"quota".as_slice() {
+        Some(Reply::Quota)
+    } else if word == b"norecord".as_slice() {
+        Some(Reply::NoRecord)
+    } else if word == b"device".as_slice() {
+        Some(Reply::Device)
+    } else if word == b"done".as_slice() {
+        Some(Reply::Done)
+    } else {
+        None
+    }
+}
+
+/// A reply of one word of a path, or of what is made.
+fn path_reply(word: &[u8]) -> Option<Reply>
+    ensures { result ≡ path_reply word.now }
+{
+    if word == b"nopath".as_slice() {
+        Some(Reply::NoPath)
+    } else if word == b"notdir".as_slice() {
+        Some(Reply::NotDir)
+    } else if word == b"isdir".as_slice() {
+        Some(Reply::IsDir)
+    } else if word == b"isseg".as_slice() {
+        Some(Reply::IsSeg)
+    } else if word == b"exists".as_slice() {
+        Some(Reply::Exists)
+    } else if word == b"deep".as_slice() {
+        Some(Reply::Deep)
+    } else if word == b"room".as_slice() {
+        Some(Reply::Room)
+    } else if word == b"noentry".as_slice() {
+        Some(Reply::NoEntry)
+    } else {
+        None
+    }
+}
+
+/// A reply of one word of another change.
+fn change_reply(word: &[u8]) -> Option<Reply>
+    ensures { result ≡ change_reply word.now }
+{
+    if word == b"full".as_slice() {
+        Some(Reply::Full)
+    } else if word == b"aclfull".as_slice() {
+        Some(Reply::AclFull)
+    } else if word == b"beyond".as_slice() {
+        Some(Reply::Beyond)
+    } else if word == b"notempty".as_slice() {
+        Some(Reply::NotEmpty)
+    } else if word == b"hasquota".as_slice() {
+        Some(Reply::HasQuota)
+    } else if word == b"root".as_slice() {
+        Some(Reply::Root)
+    } else if word == b"toolittle".as_slice() {
+        Some(Reply::TooLittle)
+    } else {
+        None
+    }
+}
+
+/// A reply of one word.
+fn bare_reply(word: &[u8]) -> Option<Reply>
+    ensures { result ≡ bare_reply word.now }
+{
+    if let Some(reply) = page_reply(word) {
+        return Some(reply);
+    }
+    if let Some(reply) = path_reply(word) {
+        return Some(reply);
+    }
+    change_reply(word)
+}
+
+/// A reply of a word and a number.
+fn numbered_reply(word: &[u8], number: u32) -> Option<Reply>
+    ensures { result ≡ numbered_reply word.now number }
+{
+    if word == b"made".as_slice() {
+        Some(Reply::Made(number))
+    } else if word == b"known".as_slice() {
+        Some(Reply::Known(number))
+    } else if word == b"over".as_slice() {
+        Some(Reply::Over(number))
+    } else {
+        None
+    }
+}
+
+/// What a segment or a directory is like, by its first word and those before its counts.
+fn status(kind: &[u8], of_first: &[u8], of_second: &[u8], numbers: (u32, u32, u32)) -> Option<Reply>
+    ensures { result ≡ status_reply kind.now of_first.now of_second.now numbers.0 (numbers.1, numbers.2) }
+{
+    let (uid, first, second) = numbers;
+    let counts_pages = of_first == b"length".as_slice() && of_second == b"stored".as_slice();
+    let counts_quota = of_first == b"quota".as_slice() && of_second == b"used".as_slice();
+    if kind == b"seg".as_slice() && counts_pages {
+        Some(Reply::SegIs {
+            uid,
+            length: first,
+            stored: second,
+        })
+    } else if kind == b"dir".as_slice() && counts_quota {
+        Some(Reply::DirIs {
+            uid,
+            quota: first,
+            used: second,
+        })
+    } else {
+        None
+    }
+}
+
+/// Three numbers.
+fn three(first: &[u8], second: &[u8], third: &[u8]) -> Option<(u32, u32, u32)>
+    ensures { result ≡ triple (number_of first.now) (number_of second.now) (number_of third.now) }
+{
+    Some((number(first)?, number(second)?, number(third)?))
+}
+
+/// The reply of some words.
+#[tactic(auto, unfolding(crate::specs::Reading::reply_of))]
+fn reply(fields: &[&[u8]]) -> Option<Reply>
+    ensures { result ≡ reply_of (map (λ w. w.now) fields.now) }
+{
+    match fields {
+        [word] => bare_reply(word),
+        [kind, field] => {
+            if *kind == b"word".as_slice() {
+                Some(Reply::Word(octal_word(field)?))
+            } else {
+                numbered_reply(kind, number(field)?)
+            }
+        }
+        [kind, uid, of_first, first, of_second, second] => {
+            status(kind, of_first, of_second, three(uid, first, second)?)
+        }
+        _ => None,
+    }
+}
+
+/// What is dropped from an associative memory.
+fn what(fields: &[&[u8]]) -> Option<What>
+    ensures { result ≡ what_of (map (λ w. w.now) fields.now) }
+{
+    match fields {
+        [kind] if *kind == b"all".as_slice() => Some(What::All),
+        [kind, field] => {
+            if *kind == b"page".as_slice() {
+                Some(What::Page(number(field)?))
+            } else if *kind == b"seg".as_slice() {
+                Some(What::Seg(number(field)?))
+            } else {
+                None
+            }
+        }
+        _ => None,
+    }
+}
+
+/// A processor, and what it drops.
+fn dropped(fields: &[&[u8]]) -> Option<(u32, What)>
+    ensures { result ≡ dropped_of (map (λ w. w.now) fields.now) }
+{
+    match fields {
+        [cpu, rest @ ..] => Some((number(cpu)?, what(rest)?)),
+        [] => None,
+    }
+}
+
+/// What is taken away or given back.
+fn thing_named(fields: &[&[u8]]) -> Option<Named>
+    ensures { result ≡ named_of (map (λ w. w.now) fields.now) }
+{
+    match fields {
+        [kind, frame] if *kind == b"page".as_slice() => Some(Named::Page(number(frame)?)),
+        [kind, process, segment] if *kind == b"seg".as_slice() => {
+            Some(Named::Seg(number(process)?, number(segment)?))
+        }
+        _ => None,
+    }
+}
+
+/// It is gone.
+fn gone(named: Named) -> Entry
+    ensures { result ≡ gone named }
+{
+    match named {
+        Named::Page(frame) => Entry::GonePage { frame },
+        Named::Seg(process, number) => Entry::GoneSeg { process, number },
+    }
+}
+
+/// It is back.
+fn back(named: Named) -> Entry
+    ensures { result ≡ back named }
+{
+    match named {
+        Named::Page(frame) => Entry::BackPage { frame },
+        Named::Seg(process, number) => Entry::BackSeg { process, number },
+    }
+}
+
+/// A descriptor, or the page table word of a frame, comes into a processor's associative memory.
+fn filled(kind: &[u8], cpu: u32, field: u32) -> Option<Entry>
+    ensures { result ≡ filled kind.now (cpu, field) }
+{
+    if kind == b"seg".as_slice() {
+        Some(Entry::FillSeg { cpu, number: field })
+    } else if kind == b"page".as_slice() {
+        Some(Entry::FillPage { cpu, frame: field })
+    } else {
+        None
+    }
+}
+
+fn fill(fields: &[&[u8]]) -> Option<Entry>
+    ensures { result ≡ fill_of (map (λ w. w.now) fields.now) }
+{
+    match fields {
+        [cpu, kind, field] => filled(kind, number(cpu)?, number(field)?),
+        _ => None,
+    }
+}
+
+fn fault(fields: &[&[u8]]) -> Option<Entry>
+    ensures { result ≡ fault_of (map (λ w. w.now) fields.now) }
+{
+    match fields {
+        [process] => Some(Entry::Fault {
+            process: number_or_none(process)?,
+        }),
+        _ => None,
+    }
+}
+
+/// The process and the place of a command.
+#[tactic(auto, using(crate::proofs::Words::no_dot, std::proofs::lemmas::Grind::common_steps))]
+fn dotted(word: &[u8]) -> Option<(u32, u32)>
+    ensures { result ≡ dotted_of word.now }
+{
+    let dot = place_of(b'.', word)?;
+    let process = number(&word[..dot])?;
+    let place = number(&word[dot + 1..])?;
+    Some((process, place))
+}
+
+fn command(fields: &[&[u8]]) -> Option<Entry>
+    ensures { result ≡ do_of (map (λ w. w.now) fields.now) }
+{
+    match fields {
+        [command, cpu, frame, words @ ..] => {
+            let (process, place) = dotted(command)?;
+            Some(Entry::Do {
+                process,
+                place,
+                cpu: number(cpu)?,
+                frame: number_or_none(frame)?,
+                reply: reply(words)?,
+            })
+        }
+        _ => None,
+    }
+}
+
+/// An entry of a word and a number.
+fn of_one(word: &[u8], number: u32) -> Option<Entry>
+    ensures { result ≡ of_one word.now number }
+{
+    if word == b"online".as_slice() {
+        Some(Entry::Online { cpu: number })
+    } else if word == b"leave".as_slice() {
+        Some(Entry::Leave { cpu: number })
+    } else if word == b"activate".as_slice() {
+        Some(Entry::Activate { uid: number })
+    } else if word == b"deactivate".as_slice() {
+        Some(Entry::Deactivate { uid: number })
+    } else if word == b"lose".as_slice() {
+        Some(Entry::Lose { frame: number })
+    } else if word == b"take".as_slice() {
+        Some(Entry::Take { frame: number })
+    } else {
+        None
+    }
+}
+
+/// An entry of a word and two numbers.
+fn of_two(word: &[u8], first: u32, second: u32) -> Option<Entry>
+    ensures { result ≡ of_two word.now (first, second) }
+{
+    if word == b"load".as_slice() {
+        Some(Entry::Load {
+            cpu: first,
+            process: second,
+        })
+    } else if word == b"release".as_slice() {
+        Some(Entry::Release {
+            uid: first,
+            page: second,
+        })
+    } else if word == b"cut".as_slice() {
+        Some(Entry::Cut {
+            process: first,
+            number: second,
+        })
+    } else {
+        None
+    }
+}
+
+/// An entry of a word and three numbers.
+fn of_three(word: &[u8], first: u32, second: u32, third: u32) -> Option<Entry>
+    ensures { result ≡ of_three word.now (first, second, third) }
+{
+    if word == b"in".as_slice() {
+        Some(Entry::Here {
+            frame: first,
+            uid: second,
+            page: third,
+        })
+    } else if word == b"start".as_slice() {
+        Some(Entry::Start {
+            frame: first,
+            uid: second,
+            page: third,
+        })
+    } else if word == b"connect".as_slice() {
+        Some(Entry::Connect {
+            process: first,
+            number: second,
+            uid: third,
+        })
+    } else {
+        None
+    }
+}
+
+fn plain(word: &[u8], fields: &[&[u8]]) -> Option<Entry>
+    ensures { result ≡ plain_of word.now (map (λ w. w.now) fields.now) }
+{
+    match fields {
+        [a] => of_one(word, number(a)?),
+        [a, b] => of_two(word, number(a)?, number(b)?),
+        [a, b, c] => of_three(word, number(a)?, number(b)?, number(c)?),
+        _ => None,
+    }
+}
+
+/// The entry of a first word and the others.
+#[tactic(auto, unfolding(crate::specs::Reading::entry_of))]
+fn entry(word: &[u8], fields: &[&[u8]]) -> Option<Entry>
+    ensures { result ≡ entry_of word.now (map (λ w. w.now) fields.now) }
+{
+    if word == b"do".as_slice() {
+        command(fields)
+    } else if word == b"fill".as_slice() {
+        fill(fields)
+    } else if word == b"signal".as_slice() {
+        let (cpu, what) = dropped(fields)?;
+        Some(Entry::Signal { cpu, what })
+    } else if word == b"clear".as_slice() {
+        let (cpu, what) = dropped(fields)?;
+        Some(Entry::Clear { cpu, what })
+    } else if word == b"gone".as_slice() {
+        Some(gone(thing_named(fields)?))
+    } else if word == b"back".as_slice() {
+        Some(back(thing_named(fields)?))
+    } else if word == b"fault".as_slice() {
+        fault(fields)
+    } else {
+        plain(word, fields)
+    }
+}
+
+/// The place of the first such byte of a text.
+fn place_of(byte: u8, text: &[u8]) -> Option<usize>
+    ensures { result ≡ position (λ b. b == byte) text.now }
+{
+    text.iter().position(|b| *b == byte)
+}
+
+/// The first word of a line and what follows its space. `None` exactly where the line has no space.
+#[tactic(auto, using(crate::proofs::Words::cut_at, crate::proofs::Words::no_cut, std::proofs::lemmas::Grind::common_steps))]
+fn split_word(line: &[u8]) -> Option<(&[u8], &[u8])>
+    ensures some { IfSome result
+        (λ cut. slice_split is_space line.now ≡ cut.0.now ∷ slice_split is_space cut.1.now) }
+    ensures less { IfSome result (λ cut. length cut.1.now < length line.now) }
+    ensures none { IfNone result (slice_split is_space line.now ≡ line.now ∷ []) }
+{
+    match place_of(b' ', line) {
+        Some(space) => Some((&line[..space], &line[space + 1..])),
+        None => None,
+    }
+}
+
+/// The words of a line between its spaces. `None` exactly where there are more than an entry has.
+#[tactic(auto, using(crate::proofs::Words::word_added, crate::proofs::Words::last_added, crate::proofs::Words::too_many, std::proofs::lemmas::Grind::common_steps))]
+fn words(line: &[u8]) -> Option<ArrayVec<&[u8], MOST_WORDS>>
+    ensures some { IfSome result (λ words. map (λ w. w.now) words.items ≡ slice_split is_space line.now) }
+    ensures none { IfNone result (10 < length (slice_split is_space line.now)) }
+{
+    let mut words = ArrayVec::new();
+    let mut rest = line;
+    while let Some((word, more)) = split_word(rest) {
+        if words.is_full() {
+            return None;
+        }
+        words.push(word);
+        rest = more;
+    }
+    if words.is_full() {
+        return None;
+    }
+    words.push(rest);
+    Some(words)
+}
+
+/// The entry of some words.
+fn entry_of_words(words: &[&[u8]]) -> Option<Entry>
+    ensures { result ≡ entry_of_words (map (λ w. w.now) words.now) }
+{
+    match words {
+        [word, fields @ ..] => entry(word, fields),
+        [] => None,
+    }
+}
+
+/// The entry whose text a line is, without its line feed. `None` exactly where the line is no entry's text. It takes no
+/// memory.
+pub fn read_entry(line: &[u8]) -> Option<Entry>
+    ensures some { IfSome result (λ e. entry_text e ≡ line.now) }
+    ensures back { (e : Entry) → IsEntry e → entry_text e ≡ line.now → result ≡ Some e }
+{
+    match words(line) {
+        Some(words) => entry_of_words(&words),
+        None => None,
+    }
+}
