@@ -1,5 +1,5 @@
 -- Which entries of a book custody allows, by the flat store before the entry (Bensoussan, Clingen and Daley 1972).
-use Rattle.std.specs.Prelude.{◌≡◌, ◌≢◌, ◌<◌, ◌≤◌, ℕ, ◌/◌, Bool, true, false, ◌&&◌, ◌||◌, not, ◌==◌, is_some, count_by, slice_index, List, [], ◌∷◌, length, Option, Some, None, IfSome, IsSomeAnd, ◌⊎◌}
+use Rattle.std.specs.Prelude.{◌≡◌, ◌≢◌, ◌<◌, ◌≤◌, ℕ, ◌/◌, Bool, true, false, ◌&&◌, not, ◌==◌, count_by, slice_index, List, [], ◌∷◌, Option, Some, None, IfSome, IsSomeAnd, ◌⊎◌}
 use Rattle.assoc_mem.specs.declared.What.{What}
 use Rattle.script.specs.Plans.{Plan, command_at}
 use Rattle.script.specs.References.{reference_of}

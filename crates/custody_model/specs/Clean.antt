@@ -1,5 +1,5 @@
 -- Which books are clean, and the custody that results from one.
-use Rattle.std.specs.Prelude.{ℕ, List, [], ◌∷◌}
+use Rattle.std.specs.Prelude.{List, [], ◌∷◌}
 use Rattle.script.specs.Plans.{Plan}
 use Rattle.book.specs.declared.entries.Entry.{Entry}
 use Rattle.flat_model.specs.Legal.{after_entry}

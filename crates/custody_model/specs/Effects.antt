@@ -1,6 +1,6 @@
 -- What must be in no frame and not connected where a command takes effect: what the command takes away from its users first
 -- (Bensoussan, Clingen and Daley 1972).
-use Rattle.std.specs.Prelude.{◌≡◌, ◌≢◌, ℕ, Bool, false, List, Option, Some, None, Result, Ok, Err}
+use Rattle.std.specs.Prelude.{◌≡◌, ◌≢◌, ℕ, false, Some, Result, Ok, Err}
 use Rattle.script.specs.declared.commands.Command.{Command}
 use Rattle.script.specs.declared.commands.Command.TheVariants as command
 use Rattle.book.specs.declared.replies.Reply.{Reply}

@@ -2,4 +2,5 @@ pub mod Allowed
 pub mod Clean
 pub mod Custody
 pub mod Effects
+pub mod Fine
 pub mod Next
