@@ -6,7 +6,7 @@ use drill::{NoMemory, drill, drilled_text};
 use site_io::{Gate, NoGate, Point};
 use std::alloc::Global;
 use std::sync::Wait;
-use std::sync::atomic::{AtomicBool, Ordering};
+use std::sync::atomic::{AtomicBool, AtomicU64, Ordering};
 use std::thread;
 use std::thread::Threads;
 
@@ -52,6 +52,20 @@ impl Gate for Meeting {
         };
         if is_first {
             self.wait();
+        }
+    }
+}
+
+// Counts the touches: a processor comes to the gate with each one that it made.
+#[derive(Drop)]
+struct Tally {
+    touches: AtomicU64,
+}
+
+impl Gate for Tally {
+    fn hold<R: Threads + Wait + Sync>(&self, _rt: &R, _cpu: u32, point: Point) {
+        if let Point::Answered(_) = point {
+            self.touches.fetch_add(1, Ordering::SeqCst);
         }
     }
 }
@@ -115,5 +129,22 @@ fn two_processors_touch_while_the_keeper_waits(rt: HostRuntime) -> Result<(), No
     assert!(&rt; gate.has_come());
     assert!(&rt; !gate.gave_up.load(Ordering::SeqCst));
     assert_eq!(&rt; drilled.total.value(), 790);
+    Ok(())
+}
+
+#[test]
+fn twenty_drills_have_one_total_and_no_more_touches_than_adds(
+    rt: HostRuntime,
+) -> Result<(), NoMemory> {
+    for run in 0..20 {
+        let tally = Tally {
+            touches: AtomicU64::new(0),
+        };
+        let text = printed(&rt, rt.alloc(), 8, 64, 10_000, 5, &tally)?;
+        assert!(&rt; text.as_str().ends_with("\ntotal 000001160720\n"));
+        let touches = tally.touches.load(Ordering::SeqCst);
+        assert!(&rt; touches <= 80_000);
+        let _ = eprintln!(rt; "run {run}: {touches} touches");
+    }
     Ok(())
 }
