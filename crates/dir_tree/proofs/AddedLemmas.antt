@@ -16,7 +16,7 @@ use Rattle.dir_tree.proofs.KeptLemmas.{MayAdd, no_fault, directory_shape, below_
 use Rattle.dir_tree.proofs.IndexLemmas.{key_branch}
 use Rattle.tree_model.specs.Tree.{branch_in}
 
-module _ (nodes : List Node) (es : List Entry) (free : List ℕ) (index : Places) (next : ℕ) (k : IsKept nodes es free index next) (place : ℕ) (is_place : place ≡ place_for nodes free) where
+module _ {nodes : List Node} {es : List Entry} {free : List ℕ} {index : Places} {next : ℕ} (k : IsKept nodes es free index next) (place : ℕ) (is_place : place ≡ place_for nodes free) where
   -- the place of a new node is no entry's
   pub place_unused : (j : ℕ) → j < length es → (entry_at es j).place ≢ place
   place_unused j lt e = elim (cases_eq (length free) 0) [
@@ -27,6 +27,19 @@ module _ (nodes : List Node) (es : List Entry) (free : List ℕ) (index : Places
     | inr some ↦
         (let last : place ≡ get_or free (length free - 1) 0 = rw (ne_eqb (length free) 0 some) at is_place in
         k.unused (length free - 1) j (omega arith) lt (sym (e ∙ last)))
+  ]
+
+  pub place_room : length es < 4097 → place < 4097
+  place_room room = elim (cases_eq (length free) 0) [
+    | inl none ↦
+        (let at_end : place ≡ length nodes = rw (eq-eqb (length free) 0 none) at is_place in
+        let c : length nodes ≡ length es + length free = k.count in
+        omega arith)
+    | inr some ↦
+        (let last : place ≡ get_or free (length free - 1) 0 = rw (ne_eqb (length free) 0 some) at is_place in
+        let within : get_or free (length free - 1) 0 < length nodes = k.free_within (length free - 1) (omega arith) in
+        let few : length nodes ≤ 4097 = k.few in
+        omega arith)
   ]
 
   pub no_place_yet : HasPlace index.places place → ⊥
@@ -47,7 +60,7 @@ module _ (nodes : List Node) (es : List Entry) (free : List ℕ) (index : Places
     ]
 
     pub within_still : AreWithin nodes' index.places
-    within_still i lt = within_more (get_or index.places i 0) (places_within nodes es free index next k i lt)
+    within_still i lt = within_more (get_or index.places i 0) (places_within k i lt)
 
     pub new_within : place < length nodes'
     new_within = elim (cases_eq (length free) 0) [
@@ -64,9 +77,9 @@ module _ (nodes : List Node) (es : List Entry) (free : List ℕ) (index : Places
         → (i : ℕ) → i < length index.places → key_at nodes' index.places i ≢ key_of (node_at nodes' place)
     new_key s n here up none i lt e =
         (let same : key_at nodes index.places i ≡ (Some s, n.name) = sym (old_key i lt) ∙ e ∙ ap key_of here ∙ ap (λ (o : Option ℕ). (o, n.name)) up in
-        no_place nodes es free index next k s n.name none (get_or index.places i 0) (record { at = i; within = lt; is = refl }) (key_branch s n.name (node_at nodes (get_or index.places i 0)) same))
+        no_place k s n.name none (get_or index.places i 0) (record { at = i; within = lt; is = refl }) (key_branch s n.name (node_at nodes (get_or index.places i 0)) same))
 
-module _ (nodes : List Node) (es : List Entry) (free : List ℕ) (index : Places) (next : ℕ) (k : IsKept nodes es free index next) (s : ℕ) (n : Node) (nodes' : List Node) (free' : List ℕ) (index' : Places) (place : ℕ)
+module _ {nodes : List Node} {es : List Entry} {free : List ℕ} {index : Places} {next : ℕ} (k : IsKept nodes es free index next) (s : ℕ) (n : Node) (nodes' : List Node) (free' : List ℕ) (index' : Places) (place : ℕ)
     (n_uid : n.uid ≡ next) (n_superior : n.superior ≡ Some s)
     (directory : is_directory (newest nodes es) s ≡ true) (may : add_fault_of (shapes (newest nodes es)) s n.name n.dir ≡ None)
     (is_place : place ≡ place_for nodes free) (here : node_at nodes' place ≡ n) (others : (p : ℕ) → p ≢ place → node_at nodes' p ≡ node_at nodes p)
@@ -83,7 +96,7 @@ module _ (nodes : List Node) (es : List Entry) (free : List ℕ) (index : Places
   may_add = no_fault (shapes (newest nodes es)) s n.name n.dir may
 
   unused : (j : ℕ) → j < length es → (entry_at es j).place ≢ place
-  unused = place_unused nodes es free index next k place is_place
+  unused = place_unused k place is_place
 
   old_node : (j : ℕ) → j < length es → node_of_entry nodes' es j ≡ node_of_entry nodes es j
   old_node j lt = others (entry_at es j).place (unused j lt)
@@ -115,10 +128,10 @@ module _ (nodes : List Node) (es : List Entry) (free : List ℕ) (index : Places
   old_free i lt = (let m = size_free in rw rest (get_or-take (length free - 1) free i 0 (omega arith)))
 
   more : (p : ℕ) → p < length nodes → p < length nodes'
-  more = within_more nodes es free index next k place is_place nodes' others grown
+  more = within_more k place is_place nodes' others grown
 
   in_place : place < length nodes'
-  in_place = new_within nodes es free index next k place is_place nodes' others grown
+  in_place = new_within k place is_place nodes' others grown
 
   old_entry : (i : ℕ) → i < length es → entry_at es' i ≡ entry_at es i
   old_entry i lt = get_or_append_left es (entry ∷ []) no_entry i lt

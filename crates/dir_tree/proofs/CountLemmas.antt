@@ -95,8 +95,8 @@ module _ (v : ℕ) (g : ℕ → ℕ) where
   newest_recounted ns [] = refl
   newest_recounted ns (e ∷ es) = ap (λ xs. xs ++ node_at ns e.place ∷ []) (newest_recounted ns es)
 
-  pub kept_recounted : (nodes : List Node) (es : List Entry) (free : List ℕ) (index : Places) (next : ℕ) → IsKept nodes es free index next → IsKept nodes (recounted v g es) free index next
-  kept_recounted nodes es free index next k = record {
+  pub kept_recounted : {nodes : List Node} {es : List Entry} {free : List ℕ} {index : Places} {next : ℕ} → IsKept nodes es free index next → IsKept nodes (recounted v g es) free index next
+  kept_recounted {nodes} {es} {free} {index} {next} k = record {
     uids = each_recounted es (λ e. (node_at nodes e.place).uid ≡ e.uid) k.uids;
     superiors = each_recounted es (λ e. (node_at nodes e.place).superior ≡ e.superior) k.superiors;
     within = each_recounted es (λ e. e.place < length nodes) k.within;
@@ -134,10 +134,10 @@ module _ (v : ℕ) (g : ℕ → ℕ) where
 -- ---- one inferior more, one less
 
 -- a directory is older than what lies in it
-pub superior_older : (nodes : List Node) (es : List Entry) (free : List ℕ) (index : Places) (next : ℕ) → IsKept nodes es free index next → (s i : ℕ) → i < length es → (entry_at es i).superior ≡ Some s → (s < (entry_at es i).uid) × (is_directory (newest nodes es) s ≡ true)
-superior_older nodes es free index next k s i lt is =
+pub superior_older : {nodes : List Node} {es : List Entry} {free : List ℕ} {index : Places} {next : ℕ} → IsKept nodes es free index next → (s i : ℕ) → i < length es → (entry_at es i).superior ≡ Some s → (s < (entry_at es i).uid) × (is_directory (newest nodes es) s ≡ true)
+superior_older {nodes} {es} {free} {index} {next} k s i lt is =
     let entry : HasEntry es (entry_at es i).uid (entry_at es i) = record { i = i; within = lt; entry_is = refl; uid_is = refl } in
-    let up : superior_in (shapes (newest nodes es)) (entry_at es i).uid ≡ Some s = superior_read nodes es free index next k (entry_at es i).uid (entry_at es i) entry ∙ is in
+    let up : superior_in (shapes (newest nodes es)) (entry_at es i).uid ≡ Some s = superior_read k (entry_at es i).uid (entry_at es i) entry ∙ is in
     let older : IsUp (shapes (newest nodes es)) (entry_at es i).uid (Some s) = subst (IsUp (shapes (newest nodes es)) (entry_at es i).uid) up (superior_up (shapes (newest nodes es)) k.tree (entry_at es i).uid) in
     (older.0, sym (directory_shape (newest nodes es) s) ∙ older.1)
 
@@ -188,11 +188,11 @@ module _ (es : List Entry) (counted : IsCounted es) (i : ℕ) (within : i < leng
   some_left = each_left es i within no_entry (λ d. d.uid ≡ s → 0 < d.inferiors) (λ j lt ne is. (let c : (entry_at es j).inferiors ≡ count_by (lies_in s) es = rw is at (counted j lt) in let one = counted_one s es i within (lies_since s (entry_at es i) up) in omega arith))
 
 -- a directory stays when one that lies in it comes out
-pub superior_left : (nodes : List Node) (es : List Entry) (free : List ℕ) (index : Places) (next : ℕ) → IsKept nodes es free index next → (s i : ℕ) → i < length es → (entry_at es i).superior ≡ Some s → (j : ℕ) × (j < length (remove es i)) × ((entry_at (remove es i) j).uid ≡ s)
-superior_left nodes es free index next k s i lt is =
-    let older = superior_older nodes es free index next k s i lt is in
+pub superior_left : {nodes : List Node} {es : List Entry} {free : List ℕ} {index : Places} {next : ℕ} → IsKept nodes es free index next → (s i : ℕ) → i < length es → (entry_at es i).superior ≡ Some s → (j : ℕ) × (j < length (remove es i)) × ((entry_at (remove es i) j).uid ≡ s)
+superior_left {nodes} {es} {free} {index} {next} k s i lt is =
+    let older = superior_older k s i lt is in
     let less : s < (entry_at es i).uid = older.0 in
-    let there : (j : ℕ) × (j < length es) × ((entry_at es j).uid ≡ s) = entry_present nodes es free index next k s (directory_in (newest nodes es) s older.1) in
+    let there : (j : ℕ) × (j < length es) × ((entry_at es j).uid ≡ s) = entry_present k s (directory_in (newest nodes es) s older.1) in
     let other : there.0 ≢ i = λ q. (let same : (entry_at es i).uid ≡ s = rw q at there.2 in omega arith) in
     (now i there.0, now_within es i lt there.0 there.1 other, ap (λ (e : Entry). e.uid) (at_was es i lt (now i there.0) no_entry) ∙ ap (λ j. (entry_at es j).uid) (was_now i there.0 other) ∙ there.2)
 
@@ -211,20 +211,20 @@ seamed new old target n is size len =
     let whole : drop (length new) old ≡ [] = drop_all (length new) old (let a : length new ≡ length target = ap length is in omega arith) in
     rw (whole, append-nil new) (take_all n new (let a : length new ≡ length target = ap length is in omega arith) ∙ is)
 
-pub superior_there : (nodes : List Node) (es : List Entry) (free : List ℕ) (index : Places) (next : ℕ) → IsKept nodes es free index next → (s : ℕ) → is_directory (newest nodes es) s ≡ true → (e : Entry) → (j : ℕ) × (j < length (es ++ e ∷ [])) × ((entry_at (es ++ e ∷ []) j).uid ≡ s)
-superior_there nodes es free index next k s is e =
-    let there : (j : ℕ) × (j < length es) × ((entry_at es j).uid ≡ s) = entry_present nodes es free index next k s (directory_in (newest nodes es) s is) in
+pub superior_there : {nodes : List Node} {es : List Entry} {free : List ℕ} {index : Places} {next : ℕ} → IsKept nodes es free index next → (s : ℕ) → is_directory (newest nodes es) s ≡ true → (e : Entry) → (j : ℕ) × (j < length (es ++ e ∷ [])) × ((entry_at (es ++ e ∷ []) j).uid ≡ s)
+superior_there {nodes} {es} {free} {index} {next} k s is e =
+    let there : (j : ℕ) × (j < length es) × ((entry_at es j).uid ≡ s) = entry_present k s (directory_in (newest nodes es) s is) in
     let n = length_push es e in
     (there.0, omega (arith, there.1), ap (λ (d : Entry). d.uid) (get_or_append_left es (e ∷ []) no_entry there.0 there.1) ∙ there.2)
 
 pub pushed_few : (es : List Entry) (e : Entry) → IsCounted es → length es ≤ 4097 → e.inferiors ≡ 0 → (i : ℕ) → i < length (es ++ e ∷ []) → (entry_at (es ++ e ∷ []) i).inferiors + 1 < 2 ^ 32
 pushed_few es e counted few none = each_pushed es e no_entry (λ d. d.inferiors + 1 < 2 ^ 32) (λ i lt. (let le = few_counted es counted few i lt in omega arith)) (omega arith)
 
-pub counted_with : (nodes : List Node) (es : List Entry) (free : List ℕ) (index : Places) (next : ℕ) → IsKept nodes es free index next → IsCounted es → (s : ℕ) → is_directory (newest nodes es) s ≡ true → (e : Entry) → e.uid ≡ next → e.superior ≡ Some s → e.inferiors ≡ 0 → IsCounted (recounted s (λ n. n + 1) (es ++ e ∷ []))
-counted_with nodes es free index next k counted s is e new up none =
-    let there : (j : ℕ) × (j < length es) × ((entry_at es j).uid ≡ s) = entry_present nodes es free index next k s (directory_in (newest nodes es) s is) in
+pub counted_with : {nodes : List Node} {es : List Entry} {free : List ℕ} {index : Places} {next : ℕ} → IsKept nodes es free index next → IsCounted es → (s : ℕ) → is_directory (newest nodes es) s ≡ true → (e : Entry) → e.uid ≡ next → e.superior ≡ Some s → e.inferiors ≡ 0 → IsCounted (recounted s (λ n. n + 1) (es ++ e ∷ []))
+counted_with {nodes} {es} {free} {index} {next} k counted s is e new up none =
+    let there : (j : ℕ) × (j < length es) × ((entry_at es j).uid ≡ s) = entry_present k s (directory_in (newest nodes es) s is) in
     counted_added es counted e s up none (let b : (entry_at es there.0).uid < next = k.below there.0 there.1 in let same : (entry_at es there.0).uid ≡ s = there.2 in omega arith)
-    (λ i lt t lies. (let older = superior_older nodes es free index next k t i lt lies in let a : t < (entry_at es i).uid = older.0 in let b : (entry_at es i).uid < next = k.below i lt in omega arith))
+    (λ i lt t lies. (let older = superior_older k t i lt lies in let a : t < (entry_at es i).uid = older.0 in let b : (entry_at es i).uid < next = k.below i lt in omega arith))
 
-pub removed_rising : (nodes : List Node) (es : List Entry) (free : List ℕ) (index : Places) (next : ℕ) → IsKept nodes es free index next → (i : ℕ) → i < length es → IsAscending (remove es i)
-removed_rising nodes es free index next k i within a b lt in_b = rw (at_was es i within a no_entry, at_was es i within b no_entry) (k.rising (was i a) (was i b) (was_up i a b lt) (was_within es i within b in_b))
+pub removed_rising : {nodes : List Node} {es : List Entry} {free : List ℕ} {index : Places} {next : ℕ} → IsKept nodes es free index next → (i : ℕ) → i < length es → IsAscending (remove es i)
+removed_rising {nodes} {es} {free} {index} {next} k i within a b lt in_b = rw (at_was es i within a no_entry, at_was es i within b no_entry) (k.rising (was i a) (was i b) (was_up i a b lt) (was_within es i within b in_b))

@@ -2,7 +2,7 @@ pub mod AddedLemmas
 pub mod ChangedLemmas
 pub mod CountLemmas
 pub mod EditLemmas
-pub mod EntryLemmas
+pub mod SlotLemmas
 pub mod IndexLemmas
 pub mod KeptLemmas
 pub mod NewestLemmas

@@ -4,7 +4,7 @@ use Rattle.std.specs.Prelude.{◌↔◌}
 use Rattle.std.specs.List.{find, remove, list_any}
 use Rattle.std.specs.Option.{option_map}
 use Rattle.std.proofs.lemmas.Bool.{cases_lt, eq-eqb, not_from_true, not_from_false}
-use Rattle.std.proofs.lemmas.List.{get_or_read, length_push, get_or_append_left, get_or_push}
+use Rattle.std.proofs.lemmas.List.{length_push, get_or_append_left, get_or_push}
 use Rattle.tree_model.specs.Tree.{is_inferior}
 use Rattle.dir_tree.specs.declared.node.Node.{Node}
 use Rattle.dir_tree.specs.declared.entries.Entry.{Entry}
@@ -19,7 +19,7 @@ use Rattle.dir_tree.proofs.NewestLemmas.{node_of_entry, newest_remove}
 use Rattle.tree_model.proofs.TreeLaws.{tree_left, root_only}
 use Rattle.dir_tree.proofs.KeptLemmas.{apart_places, not_of, node_found}
 
-module _ (nodes : List Node) (es : List Entry) (free : List ℕ) (index : Places) (next : ℕ) (k : IsKept nodes es free index next) (i : ℕ) (within : i < length es) (index' : Places)
+module _ {nodes : List Node} {es : List Entry} {free : List ℕ} {index : Places} {next : ℕ} (k : IsKept nodes es free index next) (i : ℕ) (within : i < length es) (index' : Places)
     (leaf : list_any (is_inferior (entry_at es i).uid) (shapes (newest nodes es)) ≡ false)
     (sorted : IsSorted nodes index'.places) (places : (p : ℕ) → HasPlace index'.places p ↔ (HasPlace index.places p × (p ≢ (entry_at es i).place)))
     (count : length index'.places + 1 ≡ length index.places) (room : index'.room ≡ index.room) where
@@ -36,7 +36,7 @@ module _ (nodes : List Node) (es : List Entry) (free : List ℕ) (index : Places
   free' = free ++ place ∷ []
 
   pub view_removed : newest nodes es' ≡ without uid (newest nodes es)
-  view_removed = newest_remove (λ n. not (eqb n.uid uid)) nodes es i within (not_from_true _ (eq-eqb _ _ (k.uids i within))) (λ j lt ne. not_from_false _ (not_of nodes es free index next k uid i j within refl lt ne))
+  view_removed = newest_remove (λ n. not (eqb n.uid uid)) nodes es i within (not_from_true _ (eq-eqb _ _ (k.uids i within))) (λ j lt ne. not_from_false _ (not_of k uid i j within refl lt ne))
 
   size : length es' + 1 ≡ length es
   size = fewer es i within
@@ -70,7 +70,7 @@ module _ (nodes : List Node) (es : List Entry) (free : List ℕ) (index : Places
       (let at : get_or free' a 0 ≡ (entry_at es (was i b)).place = e ∙ ap (λ (d : Entry). d.place) (old b) in
       elim (cases_lt a (length free)) [
         | inl before ↦ k.unused a (was i b) before (old_within b in_b) (sym (old_free a before) ∙ at)
-        | inr last ↦ apart_places nodes es free index next k i (was i b) within (old_within b in_b) (was_other i b) (sym at ∙ new_free a last in_a)
+        | inr last ↦ apart_places k i (was i b) within (old_within b in_b) (was_other i b) (sym at ∙ new_free a last in_a)
       ])
 
   still_named : (o : Option ℕ) (p : ℕ) → p ≢ place → IsNamed index.places o p → IsNamed index'.places o p
@@ -97,7 +97,7 @@ module _ (nodes : List Node) (es : List Entry) (free : List ℕ) (index : Places
     count = (let m = size in let f = size_free in let c : length nodes ≡ length es + length free = k.count in omega arith);
     few = k.few;
     named = each_left es i within no_entry (λ e. IsNamed index'.places e.superior e.place)
-        (λ j lt ne. still_named (entry_at es j).superior (entry_at es j).place (apart_places nodes es free index next k i j within lt ne) (k.named j lt));
+        (λ j lt ne. still_named (entry_at es j).superior (entry_at es j).place (apart_places k i j within lt ne) (k.named j lt));
     places = places';
     sorted = sorted;
     branches = (let m = size in let p : length index.places + 1 ≡ length es = k.branches in omega arith);
@@ -105,30 +105,27 @@ module _ (nodes : List Node) (es : List Entry) (free : List ℕ) (index : Places
     tree = subst (λ ns. IsTree (shapes ns)) (sym view_removed) (subst IsTree (sym (filter_map_same (λ n. not (eqb n.uid uid)) shape (newest nodes es))) (tree_left uid (shapes (newest nodes es)) leaf k.tree));
   }
 
-pub removed_at : (nodes : List Node) (es : List Entry) (free : List ℕ) (index : Places) (next : ℕ) → IsKept nodes es free index next → (uid i : ℕ) (e : Entry) → i < length es → e ≡ get_or es i e → (entry_at es i).uid ≡ uid
+pub removed_at : {nodes : List Node} {es : List Entry} {free : List ℕ} {index : Places} {next : ℕ} → IsKept nodes es free index next → (uid i : ℕ) (e : Entry) → i < length es → e ≡ entry_at es i → (entry_at es i).uid ≡ uid
     → list_any (is_inferior uid) (shapes (newest nodes es)) ≡ false → (index' : Places) → IsSorted nodes index'.places → ((p : ℕ) → HasPlace index'.places p ↔ (HasPlace index.places p × (p ≢ e.place)))
     → length index'.places + 1 ≡ length index.places → index'.room ≡ index.room
     → IsKept nodes (remove es i) (free ++ e.place ∷ []) index' next × (newest nodes (remove es i) ≡ without uid (newest nodes es))
-removed_at nodes es free index next k uid i e within read is_uid leaf index' sorted places count room =
-    let same : e ≡ entry_at es i = get_or_read es i e within read no_entry in
+removed_at {nodes} {es} {free} {index} {next} k uid i e within same is_uid leaf index' sorted places count room =
     let leaf' : list_any (is_inferior (entry_at es i).uid) (shapes (newest nodes es)) ≡ false = rw is_uid leaf in
     let places' : (p : ℕ) → HasPlace index'.places p ↔ (HasPlace index.places p × (p ≢ (entry_at es i).place)) = subst (λ (d : Entry). (p : ℕ) → HasPlace index'.places p ↔ (HasPlace index.places p × (p ≢ d.place))) same places in (
-      subst (λ (d : Entry). IsKept nodes (remove es i) (free ++ d.place ∷ []) index' next) (sym same) (kept_removed nodes es free index next k i within index' leaf' sorted places' count room),
-      subst (λ u. newest nodes (remove es i) ≡ without u (newest nodes es)) is_uid (view_removed nodes es free index next k i within index' leaf' sorted places' count room),
+      subst (λ (d : Entry). IsKept nodes (remove es i) (free ++ d.place ∷ []) index' next) (sym same) (kept_removed k i within index' leaf' sorted places' count room),
+      subst (λ u. newest nodes (remove es i) ≡ without u (newest nodes es)) is_uid (view_removed k i within index' leaf' sorted places' count room),
     )
 
 -- the root is the only node without a superior
-pub not_root : (nodes : List Node) (es : List Entry) (free : List ℕ) (index : Places) (next : ℕ) → IsKept nodes es free index next → (uid i : ℕ) (e : Entry) → i < length es → e ≡ get_or es i e → (entry_at es i).uid ≡ uid → e.superior ≡ None → uid ≡ 1
-not_root nodes es free index next k uid i e within read is_uid none =
-    let same : e ≡ entry_at es i = get_or_read es i e within read no_entry in
-    let found : node_of (newest nodes es) uid ≡ Some (node_of_entry nodes es i) = node_found nodes es free index next k uid i within is_uid in
+pub not_root : {nodes : List Node} {es : List Entry} {free : List ℕ} {index : Places} {next : ℕ} → IsKept nodes es free index next → (uid i : ℕ) (e : Entry) → i < length es → e ≡ entry_at es i → (entry_at es i).uid ≡ uid → e.superior ≡ None → uid ≡ 1
+not_root {nodes} {es} {free} {index} {next} k uid i e within same is_uid none =
+    let found : node_of (newest nodes es) uid ≡ Some (node_of_entry nodes es i) = node_found k uid i within is_uid in
     let shaped : find (λ n. eqb n.uid uid) (shapes (newest nodes es)) ≡ Some (shape (node_of_entry nodes es i)) = find_map (λ n. eqb n.uid uid) shape (newest nodes es) ∙ ap (option_map shape) found in
     root_only (shapes (newest nodes es)) k.tree uid (shape (node_of_entry nodes es i)) shaped (k.superiors i within ∙ ap (λ (d : Entry). d.superior) (sym same) ∙ none)
 
 -- a node with a superior stands in the index
-pub named_at : (nodes : List Node) (es : List Entry) (free : List ℕ) (index : Places) (next : ℕ) → IsKept nodes es free index next → (i : ℕ) (e : Entry) → i < length es → e ≡ get_or es i e
+pub named_at : {nodes : List Node} {es : List Entry} {free : List ℕ} {index : Places} {next : ℕ} → IsKept nodes es free index next → (i : ℕ) (e : Entry) → i < length es → e ≡ entry_at es i
     → (s : ℕ) → e.superior ≡ Some s → HasPlace index.places e.place
-named_at nodes es free index next k i e within read s up =
-    let same : e ≡ entry_at es i = get_or_read es i e within read no_entry in
+named_at {nodes} {es} {free} {index} {next} k i e within same s up =
     let named : IsNamed index.places e.superior e.place = subst (λ (d : Entry). IsNamed index.places d.superior d.place) (sym same) (k.named i within) in
     subst (λ o. IsNamed index.places o e.place) up named

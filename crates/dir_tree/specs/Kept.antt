@@ -13,6 +13,17 @@ no_entry = record { uid = 0; superior = None; place = 0; inferiors = 0 }
 abbrev pub entry_at : List Entry → ℕ → Entry
 entry_at entries i = slice_index_or entries i no_entry
 
+-- the entries of these places, in the order in which the places stand
+abbrev pub listed : List Entry → List ℕ → List Entry
+listed slots order = map (entry_at slots) order
+
+-- there is a slot for each place, an entry stands in that of its place, and no place stands twice
+pub record IsListed (slots : List Entry) (order : List ℕ) : Type 0 where
+  pub size : length slots ≡ 4097
+  pub within : (i : ℕ) → i < length order → slice_index order i < 4097
+  pub places : (i : ℕ) → i < length order → (entry_at slots (slice_index order i)).place ≡ slice_index order i
+  pub apart : (i j : ℕ) → i < length order → j < length order → i ≢ j → slice_index order i ≢ slice_index order j
+
 -- in the order of uids
 abbrev pub IsAscending : List Entry → Type 0
 IsAscending entries = (i j : ℕ) → i < j → j < length entries → (entry_at entries i).uid < (entry_at entries j).uid

@@ -17,7 +17,7 @@ use std::marker::Model;
 /// The places of the branches, in the order of superior and name. It has room for a fixed number of them.
 #[derive(Debug, Drop)]
 pub(crate) struct Index {
-    places: Vec<u32>,
+    places: Vec<u16>,
     room: usize,
 }
 
@@ -45,7 +45,7 @@ impl Index {
     }
 
     /// The place of the branch with this superior and name. It halves the list.
-    pub(crate) fn find(&self, nodes: &[Node], superior: u32, name: &Name) -> Option<u32>
+    pub(crate) fn find(&self, nodes: &[Node], superior: u32, name: &Name) -> Option<u16>
         requires sorted { IsSorted nodes.now self.now.places }
         requires within { AreWithin nodes.now self.now.places }
         ensures some { IfSome result (λ place. HasPlace self.now.places place
@@ -57,7 +57,7 @@ impl Index {
     }
 
     /// Notes the place of a new branch. The places after it move up.
-    pub(crate) fn insert(&mut self, nodes: &[Node], place: u32)
+    pub(crate) fn insert(&mut self, nodes: &[Node], place: u16)
         requires room { length self.old.places < self.old.room }
         requires sorted { IsSorted nodes.now self.old.places }
         requires within { AreWithin nodes.now self.old.places }
@@ -78,7 +78,7 @@ impl Index {
     }
 
     /// Forgets the place of a branch. The places after it move down.
-    pub(crate) fn remove(&mut self, nodes: &[Node], place: u32)
+    pub(crate) fn remove(&mut self, nodes: &[Node], place: u16)
         requires there { HasPlace self.old.places place }
         requires sorted { IsSorted nodes.now self.old.places }
         requires within { AreWithin nodes.now self.old.places }
@@ -102,7 +102,7 @@ fn compare(node: &Node, superior: Option<u32>, name: &Name) -> Ordering
 }
 
 /// Where the branches from this superior and name on begin.
-fn first_at(places: &[u32], nodes: &[Node], superior: Option<u32>, name: &Name) -> usize
+fn first_at(places: &[u16], nodes: &[Node], superior: Option<u32>, name: &Name) -> usize
     requires sorted { IsSorted nodes.now places.now }
     requires within { AreWithin nodes.now places.now }
     ensures within { result ≤ length places.now }
@@ -123,7 +123,7 @@ fn first_at(places: &[u32], nodes: &[Node], superior: Option<u32>, name: &Name) 
 }
 
 /// The place of the branch with this superior and name: it can only be the first of those from there on.
-fn find(places: &[u32], nodes: &[Node], superior: u32, name: &Name) -> Option<u32>
+fn find(places: &[u16], nodes: &[Node], superior: u32, name: &Name) -> Option<u16>
     requires sorted { IsSorted nodes.now places.now }
     requires within { AreWithin nodes.now places.now }
     ensures some { IfSome result (λ place. HasPlace places.now place
@@ -143,7 +143,7 @@ fn find(places: &[u32], nodes: &[Node], superior: u32, name: &Name) -> Option<u3
 }
 
 /// Where the place of a branch stands.
-fn place_at(places: &[u32], nodes: &[Node], place: u32) -> usize
+fn place_at(places: &[u16], nodes: &[Node], place: u16) -> usize
     requires there { HasPlace places.now place }
     requires sorted { IsSorted nodes.now places.now }
     requires within { AreWithin nodes.now places.now }

@@ -1,14 +1,14 @@
 //! The directory tree: directories and segments, each a branch of one directory, down from one root (Bensoussan,
 //! Clingen and Daley 1972; Organick 1972). The limits of 4096 branches and eight directories below the root are own.
 //!
-//! Costs: `new` takes all memory, once: room for 4097 nodes, an entry of 20 bytes for each by uid, and its place, of 4
-//! bytes, by superior and name. A look-up by uid halves the list of uids, and one by superior and name that of the
-//! places in the order of these: at most 13 looks each, whatever the names are. `walk` makes one such look-up for each
+//! Costs: `new` takes all memory, once: room for 4097 nodes, an entry of 20 bytes for each, and its place, of 2 bytes,
+//! by uid and again by superior and name. A look-up halves the list of the places in the order of these: at most 13
+//! looks, whatever the names are. `walk` makes one such look-up for each
 //! name. `superiors`, `chain` and the test of depth look one uid up for each directory above, of which there are at
 //! most 9. Each entry counts the nodes that lie in its own, so `may_remove` makes one look-up by uid. `add_branch`
-//! writes one node and one entry, counts it in the entry of its superior, and moves up a part of the list of places.
-//! `remove` takes it from that count, and moves down a part of both lists, and no node: the place of the node is free
-//! from then on. None but `new` takes memory.
+//! writes one node and one entry, counts it in the entry of its superior, and moves up a part of the places by name.
+//! `remove` takes it from that count, and moves down a part of both lists of places, at most 16 KiB, and no node and no
+//! entry: the place of the node is free from then on. None but `new` takes memory.
 #![tactic(auto)]
 
 ghost use Rattle.std.specs.Prelude.{◌≡◌, ◌≢◌, ◌<◌, ◌≤◌, ◌^◌, ◌+◌, ℕ, Bool, ◌&&◌, nat_le, is_some, true, false, ◌↔◌};
@@ -28,7 +28,7 @@ mod node;
 
 use acl::Acl;
 use arrayvec::ArrayVec;
-use entries::Entry;
+use entries::{Entries, Entry};
 use index::Index;
 use mnames::{Name, Path};
 pub use node::{AddFault, NewNode, NoMemory, Node, NotEmpty, PathFault};
@@ -52,8 +52,8 @@ pub const DEPTH: usize = 8;
 #[derive(Drop)]
 pub struct Tree {
     nodes: Vec<Node>,
-    entries: Vec<Entry>,
-    free: Vec<u32>,
+    entries: Entries,
+    free: Vec<u16>,
     index: Index,
     next: u32,
 }
@@ -65,11 +65,10 @@ impl Model for Tree {
 
     ghost Value = { Branches };
 
-    ghost view = { λ t. record { nodes = newest t.nodes.items t.entries.items; next = t.next } };
+    ghost view = { λ t. record { nodes = newest t.nodes.items t.entries; next = t.next } };
 
-    ghost invariant = { λ t. IsKept t.nodes.items t.entries.items t.free.items t.index t.next
-        × (4097 ≤ vec_capacity t.nodes) × (4097 ≤ vec_capacity t.entries) × (4097 ≤ vec_capacity t.free)
-        × IsCounted t.entries.items };
+    ghost invariant = { λ t. IsKept t.nodes.items t.entries t.free.items t.index t.next
+        × (4097 ≤ vec_capacity t.nodes) × (4097 ≤ vec_capacity t.free) × IsCounted t.entries };
 }
 
 impl From<AllocError> for NoMemory {
@@ -87,7 +86,7 @@ impl Tree {
         ensures { IfOk result (λ tree. tree ≡ root_alone volume entry) }
     {
         let mut nodes = Vec::with_capacity(alloc, NODES)?;
-        let mut entries = Vec::with_capacity(alloc, NODES)?;
+        let mut entries = Entries::new(alloc)?;
         let free = Vec::with_capacity(alloc, NODES)?;
         let index = Index::new(alloc, NODES - 1)?;
         nodes.push_reserved(Node {
@@ -100,7 +99,7 @@ impl Tree {
             length: 0,
             acl: Acl::none(),
         });
-        entries.push_reserved(Entry {
+        entries.push(Entry {
             uid: ROOT,
             superior: None,
             place: 0,
@@ -129,7 +128,7 @@ impl Tree {
         ensures tree { IsTree (shapes self.now.nodes) }
         ensures chains { HasChains (shapes self.now.nodes) }
     {
-        let entry = entries::entry_of(&self.entries, uid)?;
+        let entry = self.entries.entry_of(uid)?;
         Some(&self.nodes[entry.place as usize])
     }
 
@@ -137,6 +136,7 @@ impl Tree {
     pub fn next_uid(&self) -> u32
         ensures uid { result ≡ self.now.next }
         ensures fresh { is_in self.now.nodes self.now.next ≡ false }
+        ensures chains { HasChains (shapes self.now.nodes) }
     {
         self.next
     }
@@ -156,7 +156,7 @@ impl Tree {
         ensures is { result ≡ 1 }
         ensures there { is_in self.now.nodes 1 ≡ true }
     {
-        prove!(!self.entries.is_empty());
+        prove!(self.entries.len() > 0);
         ROOT
     }
 
@@ -193,7 +193,7 @@ impl Tree {
         ensures falls { IfSome result (λ s. (s < uid) × (is_in self.now.nodes s ≡ true)) }
         ensures tree { IsTree (shapes self.now.nodes) }
     {
-        match entries::entry_of(&self.entries, uid) {
+        match self.entries.entry_of(uid) {
             Some(entry) => entry.superior,
             None => unreachable!(),
         }
@@ -318,13 +318,13 @@ impl Tree {
         };
         let place = entries::store(&mut self.nodes, &mut self.free, node);
         self.index.insert(&self.nodes, place);
-        self.entries.push_reserved(Entry {
+        self.entries.push(Entry {
             uid,
             superior: Some(superior),
             place,
             inferiors: 0,
         });
-        entries::gain(&mut self.entries, superior);
+        self.entries.gain(superior);
         self.next = uid + 1;
     }
 
@@ -337,7 +337,7 @@ impl Tree {
         requires branch { uid ≢ 1 }
         ensures { (quota : ℕ → ℕ) → IsErr result ↔ (has_inferior (with_quotas quota self.now.nodes) uid ≡ true) }
     {
-        if entries::has_inferior(&self.entries, uid) {
+        if self.entries.has_inferior(uid) {
             return Err(NotEmpty);
         }
         Ok(())
@@ -370,7 +370,7 @@ impl Tree {
         ensures tree { self.new ≡ removed self.old uid }
         ensures count { length self.new.nodes + 1 ≡ length self.old.nodes }
     {
-        let at = entries::position_of(&self.entries, uid);
+        let at = self.entries.position_of(uid);
         let Entry {
             superior,
             place,
@@ -380,7 +380,7 @@ impl Tree {
             unreachable!();
         };
         self.index.remove(&self.nodes, place);
-        entries::lose(&mut self.entries, superior);
+        self.entries.lose(superior);
         self.free.push_reserved(place);
     }
 
@@ -390,7 +390,7 @@ impl Tree {
         ensures tree { self.new ≡ with_length self.old uid pages }
         ensures shapes { shapes self.new.nodes ≡ shapes self.old.nodes }
     {
-        let place = entries::place_of(&self.entries, uid);
+        let place = self.entries.place_of(uid);
         self.nodes[place as usize].length = pages;
     }
 
@@ -400,8 +400,10 @@ impl Tree {
         ensures* writes_back { sem 𝓛 (LendsAcl self.entry uid result) }
         ensures value { result.now ≡ acl_of self.old.nodes uid }
         ensures shapes { (rows : List Row) → shapes (with_acl self.old uid rows).nodes ≡ shapes self.old.nodes }
+        ensures others { (rows : List Row) (u : ℕ) → u ≢ uid
+            → node_of (with_acl self.old uid rows).nodes u ≡ node_of self.old.nodes u }
     {
-        let place = entries::place_of(&self.entries, uid);
+        let place = self.entries.place_of(uid);
         let node = &mut self.nodes[place as usize];
         &mut node.acl
     }
@@ -412,7 +414,7 @@ impl Tree {
         ensures tree { self.new ≡ with_home self.old uid volume entry }
         ensures shapes { shapes self.new.nodes ≡ shapes self.old.nodes }
     {
-        let place = entries::place_of(&self.entries, uid);
+        let place = self.entries.place_of(uid);
         let node = &mut self.nodes[place as usize];
         node.volume = volume;
         node.entry = entry;

@@ -1,4 +1,4 @@
-use Rattle.std.proofs.Common.{◌≡◌, ◌+◌, ◌<◌, ℕ, List, [], ◌∷◌, ◌++◌, Bool, length, take, drop, true, None, Some, refl, sym, ap, subst, ◌∙◌, arith}
+use Rattle.std.proofs.Common.{◌≡◌, ◌+◌, ◌<◌, ℕ, List, [], ◌∷◌, ◌++◌, Bool, length, true, None, Some, refl, sym, ap, subst, ◌∙◌, arith}
 use Rattle.std.proofs.lemmas.List.{length-map}
 use Rattle.dir_tree.specs.declared.node.Node.{Node}
 use Rattle.dir_tree.specs.declared.node.NewNode.{NewNode}
@@ -6,8 +6,8 @@ use Rattle.dir_tree.specs.declared.entries.Entry.{Entry}
 use Rattle.dir_tree.specs.Nodes.{Branches, is_directory, add_fault_of}
 use Rattle.dir_tree.specs.Shape.{shape, shapes}
 use Rattle.dir_tree.specs.Kept.{newest, recounted, IsCounted, IsKept}
-use Rattle.dir_tree.proofs.AddedLemmas.{sorted_still, within_still, new_within, new_key, kept_added, view_added}
-use Rattle.dir_tree.proofs.CountLemmas.{seamed, superior_there, pushed_few, counted_with, length_recounted, newest_recounted, kept_recounted}
+use Rattle.dir_tree.proofs.AddedLemmas.{place_unused, place_room, sorted_still, within_still, new_within, new_key, kept_added, view_added}
+use Rattle.dir_tree.proofs.CountLemmas.{superior_there, pushed_few, counted_with, newest_recounted, kept_recounted}
 use Rattle.dir_tree.proofs.KeptLemmas.{no_fault}
 use Rattle.dir_tree.proofs.NewestLemmas.{length_newest}
 use Rattle.dir_tree.proofs.Tree.attach.Goals as goal
@@ -29,7 +29,7 @@ few nodes es s name dir e = (let m = no_fault (shapes (newest nodes es)) s name 
 
 pub store-place-requires-clause-room : goal.store-place-requires-clause-room
 store-place-requires-clause-room c none =
-    let lt = few c.self.inside.nodes.items c.self.inside.entries.items c.args.superior c.args.new.name c.args.new.dir (may_at c.args.superior c.args.new.name c.args.new.dir c.self.view_is c.requires.may) in
+    let lt = few c.self.inside.nodes.items c.self.inside.entries c.args.superior c.args.new.name c.args.new.dir (may_at c.args.superior c.args.new.name c.args.new.dir c.self.view_is c.requires.may) in
     omega (arith, c.self.invariant.0.count, c.self.invariant.1, c.self.inside.nodes.ok.0)
 
 pub store-place-requires-clause-count : goal.store-place-requires-clause-count
@@ -37,59 +37,59 @@ store-place-requires-clause-count c = omega (arith, c.self.invariant.0.few)
 
 pub insert-requires-clause-room : goal.insert-requires-clause-room
 insert-requires-clause-room c =
-    let lt = few c.self.inside.nodes.items c.self.inside.entries.items c.args.superior c.args.new.name c.args.new.dir (may_at c.args.superior c.args.new.name c.args.new.dir c.self.view_is c.requires.may) in
+    let lt = few c.self.inside.nodes.items c.self.inside.entries c.args.superior c.args.new.name c.args.new.dir (may_at c.args.superior c.args.new.name c.args.new.dir c.self.view_is c.requires.may) in
     omega (arith, c.self.invariant.0.branches, c.self.invariant.0.room)
 
 pub insert-requires-clause-sorted : goal.insert-requires-clause-sorted
-insert-requires-clause-sorted c = rw c.deref.ensures.value (sorted_still c.self.inside.nodes.items c.self.inside.entries.items c.self.inside.free.items c.self.inside.index c.self.inside.next c.self.invariant.0 c.store-place.result c.store-place.ensures.place c.store-place.new.nodes.items c.store-place.ensures.others c.store-place.ensures.count)
+insert-requires-clause-sorted c = rw c.deref.ensures.value (sorted_still c.self.invariant.0 c.store-place.result c.store-place.ensures.place c.store-place.new.nodes.items c.store-place.ensures.others c.store-place.ensures.count)
 
 pub insert-requires-clause-within : goal.insert-requires-clause-within
-insert-requires-clause-within c = rw c.deref.ensures.value (within_still c.self.inside.nodes.items c.self.inside.entries.items c.self.inside.free.items c.self.inside.index c.self.inside.next c.self.invariant.0 c.store-place.result c.store-place.ensures.place c.store-place.new.nodes.items c.store-place.ensures.others c.store-place.ensures.count)
+insert-requires-clause-within c = rw c.deref.ensures.value (within_still c.self.invariant.0 c.store-place.result c.store-place.ensures.place c.store-place.new.nodes.items c.store-place.ensures.others c.store-place.ensures.count)
 
 pub insert-requires-clause-node : goal.insert-requires-clause-node
-insert-requires-clause-node c = rw c.deref.ensures.value (new_within c.self.inside.nodes.items c.self.inside.entries.items c.self.inside.free.items c.self.inside.index c.self.inside.next c.self.invariant.0 c.store-place.result c.store-place.ensures.place c.store-place.new.nodes.items c.store-place.ensures.others c.store-place.ensures.count)
+insert-requires-clause-node c = rw c.deref.ensures.value (new_within c.self.invariant.0 c.store-place.result c.store-place.ensures.place c.store-place.new.nodes.items c.store-place.ensures.others c.store-place.ensures.count)
 
 pub insert-requires-clause-new : goal.insert-requires-clause-new
 insert-requires-clause-new c =
-    let may = no_fault (shapes (newest c.self.inside.nodes.items c.self.inside.entries.items)) c.args.superior c.args.new.name c.args.new.dir (may_at c.args.superior c.args.new.name c.args.new.dir c.self.view_is c.requires.may) in
-    rw c.deref.ensures.value (new_key c.self.inside.nodes.items c.self.inside.entries.items c.self.inside.free.items c.self.inside.index c.self.inside.next c.self.invariant.0 c.store-place.result c.store-place.ensures.place c.store-place.new.nodes.items c.store-place.ensures.others c.store-place.ensures.count c.args.superior (new_node c.self.inside.next c.args.superior c.args.new) c.store-place.ensures.here refl may.new)
+    let may = no_fault (shapes (newest c.self.inside.nodes.items c.self.inside.entries)) c.args.superior c.args.new.name c.args.new.dir (may_at c.args.superior c.args.new.name c.args.new.dir c.self.view_is c.requires.may) in
+    rw c.deref.ensures.value (new_key c.self.invariant.0 c.store-place.result c.store-place.ensures.place c.store-place.new.nodes.items c.store-place.ensures.others c.store-place.ensures.count c.args.superior (new_node c.self.inside.next c.args.superior c.args.new) c.store-place.ensures.here refl may.new)
 
-pub push_reserved-requires : goal.push_reserved-requires
-push_reserved-requires c =
-    let lt = few c.self.inside.nodes.items c.self.inside.entries.items c.args.superior c.args.new.name c.args.new.dir (may_at c.args.superior c.args.new.name c.args.new.dir c.self.view_is c.requires.may) in
-    omega (arith, c.self.invariant.2, c.self.inside.entries.ok.0)
+pub push-requires-clause-few : goal.push-requires-clause-few
+push-requires-clause-few c = few c.self.inside.nodes.items c.self.inside.entries c.args.superior c.args.new.name c.args.new.dir (may_at c.args.superior c.args.new.name c.args.new.dir c.self.view_is c.requires.may)
+
+pub push-requires-clause-place : goal.push-requires-clause-place
+push-requires-clause-place c =
+    place_room c.self.invariant.0 c.store-place.result c.store-place.ensures.place
+    (few c.self.inside.nodes.items c.self.inside.entries c.args.superior c.args.new.name c.args.new.dir (may_at c.args.superior c.args.new.name c.args.new.dir c.self.view_is c.requires.may))
+
+pub push-requires-clause-new : goal.push-requires-clause-new
+push-requires-clause-new c = place_unused c.self.invariant.0 c.store-place.result c.store-place.ensures.place
 
 pub gain-requires-clause-there : goal.gain-requires-clause-there
-gain-requires-clause-there c =
-    rw (c.deref_mut.ensures.value, c.push_reserved.ensures.items) (superior_there c.self.inside.nodes.items c.self.inside.entries.items c.self.inside.free.items c.self.inside.index c.self.inside.next c.self.invariant.0 c.args.superior (directory_at c.args.superior c.self.view_is c.requires.directory) _)
+gain-requires-clause-there c = rw c.push.ensures (superior_there c.self.invariant.0 c.args.superior (directory_at c.args.superior c.self.view_is c.requires.directory) _)
 
 pub gain-requires-clause-room : goal.gain-requires-clause-room
 gain-requires-clause-room c =
-    let lt = few c.self.inside.nodes.items c.self.inside.entries.items c.args.superior c.args.new.name c.args.new.dir (may_at c.args.superior c.args.new.name c.args.new.dir c.self.view_is c.requires.may) in
-    rw (c.deref_mut.ensures.value, c.push_reserved.ensures.items) (pushed_few c.self.inside.entries.items _ c.self.invariant.4 (omega (arith, lt)) refl)
+    let lt = few c.self.inside.nodes.items c.self.inside.entries c.args.superior c.args.new.name c.args.new.dir (may_at c.args.superior c.args.new.name c.args.new.dir c.self.view_is c.requires.may) in
+    rw c.push.ensures (pushed_few c.self.inside.entries _ c.self.invariant.3 (omega (arith, lt)) refl)
 
 pub invariant_of-self : goal.invariant_of-self
 invariant_of-self c =
-    let more : List Entry = c.self.inside.entries.items ++ new_entry c.self.inside.next c.args.superior c.store-place.result ∷ [] in
-    let gained : c.gain.new.entries ≡ recounted c.args.superior (λ n. n + 1) more = rw (c.deref_mut.ensures.value, c.push_reserved.ensures.items) at c.gain.ensures in
-    let len : c.push_reserved.new.self.len ≡ length c.push_reserved.new.self.items = omega (arith, c.push_reserved.new.self.ok.0) in
-    let seam : take c.push_reserved.new.self.len (c.gain.new.entries ++ drop (length c.gain.new.entries) more) ≡ recounted c.args.superior (λ n. n + 1) more = seamed c.gain.new.entries more _ c.push_reserved.new.self.len gained (length_recounted c.args.superior (λ n. n + 1) more) (len ∙ ap (λ (xs : List Entry). length xs) c.push_reserved.ensures.items) in
-    let kept : IsKept c.store-place.new.nodes.items more c.store-place.new.free.items c.insert.new.self (c.self.inside.next + 1) = kept_added c.self.inside.nodes.items c.self.inside.entries.items c.self.inside.free.items c.self.inside.index c.self.inside.next c.self.invariant.0 c.args.superior (new_node c.self.inside.next c.args.superior c.args.new) c.store-place.new.nodes.items c.store-place.new.free.items c.insert.new.self c.store-place.result
+    let more : List Entry = c.self.inside.entries ++ new_entry c.self.inside.next c.args.superior c.store-place.result ∷ [] in
+    let gained : c.gain.new.self ≡ recounted c.args.superior (λ n. n + 1) more = rw c.push.ensures at c.gain.ensures in
+    let kept : IsKept c.store-place.new.nodes.items more c.store-place.new.free.items c.insert.new.self (c.self.inside.next + 1) = kept_added c.self.invariant.0 c.args.superior (new_node c.self.inside.next c.args.superior c.args.new) c.store-place.new.nodes.items c.store-place.new.free.items c.insert.new.self c.store-place.result
     refl refl (directory_at c.args.superior c.self.view_is c.requires.directory) (may_at c.args.superior c.args.new.name c.args.new.dir c.self.view_is c.requires.may) c.store-place.ensures.place c.store-place.ensures.here c.store-place.ensures.others c.store-place.ensures.rest c.store-place.ensures.count (rw c.deref.ensures.value at c.insert.ensures.sorted) c.insert.ensures.places c.insert.ensures.count c.insert.ensures.room in
-    let counted : IsCounted (recounted c.args.superior (λ n. n + 1) more) = counted_with c.self.inside.nodes.items c.self.inside.entries.items c.self.inside.free.items c.self.inside.index c.self.inside.next c.self.invariant.0 c.self.invariant.4 c.args.superior (directory_at c.args.superior c.self.view_is c.requires.directory) (new_entry c.self.inside.next c.args.superior c.store-place.result) refl refl refl in (
-      rw (c.push_reserved.ensures.items, seam) (kept_recounted c.args.superior (λ n. n + 1) c.store-place.new.nodes.items more c.store-place.new.free.items c.insert.new.self (c.self.inside.next + 1) kept),
+    let counted : IsCounted (recounted c.args.superior (λ n. n + 1) more) = counted_with c.self.invariant.0 c.self.invariant.3 c.args.superior (directory_at c.args.superior c.self.view_is c.requires.directory) (new_entry c.self.inside.next c.args.superior c.store-place.result) refl refl refl in (
+      rw gained (kept_recounted c.args.superior (λ n. n + 1) kept),
       omega (arith, c.self.invariant.1, c.store-place.ensures.nodes_room),
-      omega (arith, c.self.invariant.2, c.push_reserved.ensures.capacity),
-      omega (arith, c.self.invariant.3, c.store-place.ensures.free_room),
-      rw (c.push_reserved.ensures.items, seam) counted,
+      omega (arith, c.self.invariant.2, c.store-place.ensures.free_room),
+      rw gained counted,
     )
 
 pub returns : goal.returns
 returns c =
-    let more : List Entry = c.self.inside.entries.items ++ new_entry c.self.inside.next c.args.superior c.store-place.result ∷ [] in
-    let gained : c.gain.new.entries ≡ recounted c.args.superior (λ n. n + 1) more = rw (c.deref_mut.ensures.value, c.push_reserved.ensures.items) at c.gain.ensures in
-    let len : c.push_reserved.new.self.len ≡ length c.push_reserved.new.self.items = omega (arith, c.push_reserved.new.self.ok.0) in
-    let seam : take c.push_reserved.new.self.len (c.gain.new.entries ++ drop (length c.gain.new.entries) more) ≡ recounted c.args.superior (λ n. n + 1) more = seamed c.gain.new.entries more _ c.push_reserved.new.self.len gained (length_recounted c.args.superior (λ n. n + 1) more) (len ∙ ap (λ (xs : List Entry). length xs) c.push_reserved.ensures.items) in
-    let view = view_added c.self.inside.nodes.items c.self.inside.entries.items c.self.inside.free.items c.self.inside.index c.self.inside.next c.self.invariant.0 c.args.superior (new_node c.self.inside.next c.args.superior c.args.new) c.store-place.new.nodes.items c.store-place.new.free.items c.insert.new.self c.store-place.result
+    let more : List Entry = c.self.inside.entries ++ new_entry c.self.inside.next c.args.superior c.store-place.result ∷ [] in
+    let gained : c.gain.new.self ≡ recounted c.args.superior (λ n. n + 1) more = rw c.push.ensures at c.gain.ensures in
+    let view = view_added c.self.invariant.0 c.args.superior (new_node c.self.inside.next c.args.superior c.args.new) c.store-place.new.nodes.items c.store-place.new.free.items c.insert.new.self c.store-place.result
     refl refl (directory_at c.args.superior c.self.view_is c.requires.directory) (may_at c.args.superior c.args.new.name c.args.new.dir c.self.view_is c.requires.may) c.store-place.ensures.place c.store-place.ensures.here c.store-place.ensures.others c.store-place.ensures.rest c.store-place.ensures.count (rw c.deref.ensures.value at c.insert.ensures.sorted) c.insert.ensures.places c.insert.ensures.count c.insert.ensures.room in
-    rw (← c.self.view_is) (ap (λ (ns : List Node). record { nodes = ns; next = c.self.inside.next + 1 }) (rw (c.push_reserved.ensures.items, seam) (newest_recounted c.args.superior (λ n. n + 1) c.store-place.new.nodes.items more ∙ view)))
+    rw (← c.self.view_is) (ap (λ (ns : List Node). record { nodes = ns; next = c.self.inside.next + 1 }) (rw gained (newest_recounted c.args.superior (λ n. n + 1) c.store-place.new.nodes.items more ∙ view)))

@@ -1,4 +1,4 @@
-use Rattle.std.proofs.Common.{◌≡◌, rules}
+use Rattle.std.proofs.Common.{rules}
 use Rattle.dir_tree.specs.Index.{key_cmp}
 use Rattle.dir_tree.proofs.index.compare.Goals as goal
 

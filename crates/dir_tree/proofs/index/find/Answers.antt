@@ -1,10 +1,10 @@
-use Rattle.std.proofs.Common.{◌≡◌, ◌<◌, ◌≤◌, ℕ, Bool, true, false, length, Some, get_or, refl, sym, ap, subst, ◌∙◌, arith, inl, inr}
+use Rattle.std.proofs.Common.{◌≡◌, ◌<◌, true, false, length, Some, get_or, sym, ap, subst, ◌∙◌, arith, inl, inr}
 use Rattle.std.proofs.lemmas.Bool.{cases_Bool, both_ways}
 use Rattle.std.proofs.lemmas.List.{get_or_read}
 use Rattle.tree_model.specs.Tree.{is_branch}
 use Rattle.dir_tree.specs.declared.node.Node.{Node}
 use Rattle.dir_tree.specs.Shape.{shape}
-use Rattle.dir_tree.specs.Index.{Key, HasPlace, node_at, no_node, key_of, key_at}
+use Rattle.dir_tree.specs.Index.{node_at, no_node, key_of, key_at}
 use Rattle.dir_tree.proofs.IndexLemmas.{first_is, branch_key}
 use Rattle.dir_tree.proofs.index.find.Goals as goal
 

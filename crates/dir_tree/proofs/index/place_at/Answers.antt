@@ -1,7 +1,6 @@
-use Rattle.std.proofs.Common.{◌≡◌, ◌<◌, ℕ, length, get_or, refl, sym, ap, subst, ◌∙◌}
+use Rattle.std.proofs.Common.{◌≡◌, ◌<◌, length, get_or, sym, ap, subst, ◌∙◌}
 use Rattle.std.proofs.lemmas.List.{get_or_read}
-use Rattle.dir_tree.specs.declared.node.Node.{Node}
-use Rattle.dir_tree.specs.Index.{Key, node_at, no_node, key_of, key_at}
+use Rattle.dir_tree.specs.Index.{node_at, no_node, key_of, key_at}
 use Rattle.dir_tree.proofs.IndexLemmas.{first_is}
 use Rattle.dir_tree.proofs.index.place_at.Goals as goal
 

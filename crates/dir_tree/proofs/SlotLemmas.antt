@@ -1,0 +1,171 @@
+-- Entries that stand in the slots of their places.
+use Rattle.std.proofs.Common.{◌≡◌, ◌≢◌, ℕ, ◌+◌, ◌<◌, ◌≤◌, List, [], ◌∷◌, ◌++◌, length, set, get_or, sym, ap, subst, ◌∙◌, arith, inl, inr}
+use Rattle.std.specs.List.{remove}
+use Rattle.std.proofs.lemmas.Bool.{cases_eq, cases_lt}
+use Rattle.std.proofs.lemmas.List.{ext_get_or, get_or_read, get_or-map, get_or-set_same, get_or-set_other, get_or_append_left, get_or_push, length-map, length-set, length_push, map-append}
+use Rattle.dir_tree.specs.declared.entries.Entry.{Entry}
+use Rattle.dir_tree.specs.Kept.{no_entry, entry_at, listed, IsListed, IsAscending}
+use Rattle.dir_tree.proofs.EditLemmas.{was, was_up, was_within, at_was, each_left, fewer}
+
+pub listed_at : (slots : List Entry) (order : List ℕ) (i : ℕ) → i < length order → entry_at (listed slots order) i ≡ entry_at slots (get_or order i 0)
+listed_at slots order i lt = get_or-map (entry_at slots) order i 0 no_entry lt
+
+pub length_listed : (slots : List Entry) (order : List ℕ) → length (listed slots order) ≡ length order
+length_listed slots order = length-map order (entry_at slots)
+
+-- the place of an entry is that which stands there
+pub place_listed : {slots : List Entry} {order : List ℕ} → IsListed slots order → (i : ℕ) → i < length order → (entry_at (listed slots order) i).place ≡ get_or order i 0
+place_listed {slots} {order} l i lt = ap (λ (e : Entry). e.place) (listed_at slots order i lt) ∙ l.places i lt
+
+-- an entry changed, but for its place
+module _ {slots : List Entry} {order : List ℕ} (l : IsListed slots order) (i : ℕ) (lt : i < length order) (e : Entry) (place : e.place ≡ get_or order i 0) where
+  abbrev p : ℕ
+  p = get_or order i 0
+
+  slot : p < length slots
+  slot = (let w : p < 4097 = l.within i lt in let n : length slots ≡ 4097 = l.size in omega arith)
+
+  elsewhere : (j : ℕ) → j < length order → j ≢ i → entry_at (set slots p e) (get_or order j 0) ≡ entry_at slots (get_or order j 0)
+  elsewhere j in_j ne = get_or-set_other slots p (get_or order j 0) e no_entry (l.apart j i in_j lt ne)
+
+  pub set_listed : listed (set slots p e) order ≡ set (listed slots order) i e
+  set_listed = ext_get_or no_entry _ _ (length_listed (set slots p e) order ∙ sym (length-set (listed slots order) i e ∙ length_listed slots order))
+      (λ j in_j. at j (let n = length_listed (set slots p e) order in omega arith))
+    where
+      at : (j : ℕ) → j < length order → entry_at (listed (set slots p e) order) j ≡ entry_at (set (listed slots order) i e) j
+      at j in_j = elim (cases_eq j i) [
+        | inl here ↦
+            rw here (listed_at (set slots p e) order i lt ∙ get_or-set_same slots p e no_entry slot ∙ sym (get_or-set_same (listed slots order) i e no_entry (let n = length_listed slots order in omega arith)))
+        | inr there ↦
+            listed_at (set slots p e) order j in_j ∙ elsewhere j in_j there ∙ sym (listed_at slots order j in_j) ∙ sym (get_or-set_other (listed slots order) i j e no_entry there)
+      ]
+
+  pub still_listed : IsListed (set slots p e) order
+  still_listed = record {
+    size = length-set slots p e ∙ l.size;
+    within = l.within;
+    places = λ j in_j. elim (cases_eq j i) [
+      | inl here ↦ rw here (ap (λ (d : Entry). d.place) (get_or-set_same slots p e no_entry slot) ∙ place)
+      | inr there ↦ ap (λ (d : Entry). d.place) (elsewhere j in_j there) ∙ l.places j in_j
+    ];
+    apart = l.apart;
+  }
+
+-- how many nodes lie in that of an entry, set
+pub inferiors_set : {slots : List Entry} {order : List ℕ} → IsListed slots order → (now : List Entry) → listed slots order ≡ now → (i : ℕ) → i < length now
+    → (p : ℕ) → p ≡ get_or order i p → (x : Entry) → x ≡ get_or slots p x → (n : ℕ) → listed (set slots p (record x { inferiors = n })) order ≡ set now i (record (entry_at now i) { inferiors = n })
+inferiors_set {slots} {order} l now view i within p is_p x is_x n =
+    let lt : i < length order = (let m = length_listed slots order in let v : length (listed slots order) ≡ length now = ap length view in omega arith) in
+    let place : p ≡ get_or order i 0 = get_or_read order i p lt is_p 0 in
+    let slot : p < length slots = (let w : get_or order i 0 < 4097 = l.within i lt in let m : length slots ≡ 4097 = l.size in omega arith) in
+    let here : x ≡ entry_at slots p = get_or_read slots p x slot is_x no_entry in
+    let entry : x ≡ entry_at now i = here ∙ ap (entry_at slots) place ∙ sym (listed_at slots order i lt) ∙ ap (λ (es : List Entry). entry_at es i) view in
+    ap (λ q. listed (set slots q (record x { inferiors = n })) order) place
+    ∙ set_listed l i lt (record x { inferiors = n }) (ap (λ (d : Entry). d.place) (here ∙ ap (entry_at slots) place) ∙ l.places i lt)
+    ∙ ap (λ (es : List Entry). set es i (record x { inferiors = n })) view ∙ ap (λ (d : Entry). set now i (record d { inferiors = n })) entry
+
+-- one entry more, in a place that no other has
+module _ {slots : List Entry} {order : List ℕ} (l : IsListed slots order) (e : Entry) (room : e.place < 4097)
+    (new : (i : ℕ) → i < length (listed slots order) → (entry_at (listed slots order) i).place ≢ e.place) where
+  room_there : e.place < length slots
+  room_there = (let n : length slots ≡ 4097 = l.size in omega arith)
+
+  other : (i : ℕ) → i < length order → get_or order i 0 ≢ e.place
+  other i lt same = new i (let n = length_listed slots order in omega arith) (place_listed l i lt ∙ same)
+
+  unmoved : (i : ℕ) → i < length order → entry_at (set slots e.place e) (get_or order i 0) ≡ entry_at slots (get_or order i 0)
+  unmoved i lt = get_or-set_other slots e.place (get_or order i 0) e no_entry (other i lt)
+
+  rest : listed (set slots e.place e) order ≡ listed slots order
+  rest = ext_get_or no_entry _ _ (length_listed (set slots e.place e) order ∙ sym (length_listed slots order))
+      (λ i in_i. (let n = length_listed (set slots e.place e) order in let lt : i < length order = omega arith in listed_at (set slots e.place e) order i lt ∙ unmoved i lt ∙ sym (listed_at slots order i lt)))
+
+  pub push_listed : listed (set slots e.place e) (order ++ e.place ∷ []) ≡ listed slots order ++ e ∷ []
+  push_listed = map-append (entry_at (set slots e.place e)) order (e.place ∷ [])
+      ∙ ap (λ (es : List Entry). es ++ entry_at (set slots e.place e) e.place ∷ []) rest
+      ∙ ap (λ (d : Entry). listed slots order ++ d ∷ []) (get_or-set_same slots e.place e no_entry room_there)
+
+  abbrev order' : List ℕ
+  order' = order ++ e.place ∷ []
+
+  old_at : (i : ℕ) → i < length order → get_or order' i 0 ≡ get_or order i 0
+  old_at i lt = get_or_append_left order (e.place ∷ []) 0 i lt
+
+  last_at : (i : ℕ) → length order ≡ i → get_or order' i 0 ≡ e.place
+  last_at i is = get_or_push order e.place 0 i is
+
+  size : length order' ≡ length order + 1
+  size = length_push order e.place
+
+  pub more_listed : IsListed (set slots e.place e) (order ++ e.place ∷ [])
+  more_listed = record {
+    size = length-set slots e.place e ∙ l.size;
+    within = λ i lt. (let n = size in elim (cases_lt i (length order)) [
+      | inl before ↦ rw (old_at i before) (l.within i before)
+      | inr last ↦ rw (last_at i (omega arith)) room
+    ]);
+    places = λ i lt. (let n = size in elim (cases_lt i (length order)) [
+      | inl before ↦ rw (old_at i before) (ap (λ (d : Entry). d.place) (unmoved i before) ∙ l.places i before)
+      | inr last ↦ rw (last_at i (omega arith)) (ap (λ (d : Entry). d.place) (get_or-set_same slots e.place e no_entry room_there))
+    ]);
+    apart = λ i j in_i in_j ne same. (let n = size in elim (cases_lt i (length order)) [
+      | inl before_i ↦ elim (cases_lt j (length order)) [
+        | inl before_j ↦ l.apart i j before_i before_j ne (sym (old_at i before_i) ∙ same ∙ old_at j before_j)
+        | inr last_j ↦ other i before_i (sym (old_at i before_i) ∙ same ∙ last_at j (omega arith))
+      ]
+      | inr last_i ↦ elim (cases_lt j (length order)) [
+        | inl before_j ↦ other j before_j (sym (old_at j before_j) ∙ sym same ∙ last_at i (omega arith))
+        | inr last_j ↦ ne (omega arith)
+      ]
+    ]);
+  }
+
+-- one entry less
+module _ {slots : List Entry} {order : List ℕ} (l : IsListed slots order) (i : ℕ) (lt : i < length order) where
+  pub remove_listed : listed slots (remove order i) ≡ remove (listed slots order) i
+  remove_listed = ext_get_or no_entry _ _ (let a = length_listed slots (remove order i) in let b = length_listed slots order in let c = fewer order i lt in let d = fewer (listed slots order) i (omega arith) in omega arith)
+      (λ j in_j. at j (let a = length_listed slots (remove order i) in omega arith))
+    where
+      at : (j : ℕ) → j < length (remove order i) → entry_at (listed slots (remove order i)) j ≡ entry_at (remove (listed slots order) i) j
+      at j in_j = (let n = length_listed slots order in
+          listed_at slots (remove order i) j in_j ∙ ap (entry_at slots) (at_was order i lt j 0)
+          ∙ sym (listed_at slots order (was i j) (was_within order i lt j in_j)) ∙ sym (at_was (listed slots order) i (omega arith) j no_entry))
+
+  pub less_listed : IsListed slots (remove order i)
+  less_listed = record {
+    size = l.size;
+    within = each_left order i lt 0 (λ q. q < 4097) (λ j in_j ne. l.within j in_j);
+    places = each_left order i lt 0 (λ q. (entry_at slots q).place ≡ q) (λ j in_j ne. l.places j in_j);
+    apart = λ a b in_a in_b ne same. l.apart (was i a) (was i b) (was_within order i lt a in_a) (was_within order i lt b in_b) (was_apart a b ne) (sym (at_was order i lt a 0) ∙ same ∙ at_was order i lt b 0);
+  }
+    where
+      was_apart : (a b : ℕ) → a ≢ b → was i a ≢ was i b
+      was_apart a b ne same = elim (cases_lt a b) [
+        | inl up ↦ (let u = was_up i a b up in omega arith)
+        | inr down ↦ (let u = was_up i b a (omega arith) in omega arith)
+      ]
+
+-- ---- the search
+
+pub halved_below : (es : List Entry) → IsAscending es → (m uid : ℕ) → m < length es → (entry_at es m).uid < uid → (k : ℕ) → k < m + 1 → (entry_at es k).uid < uid
+halved_below es rising m uid within less k lt = elim (cases_lt k m) [
+  | inl before ↦ (let up : (entry_at es k).uid < (entry_at es m).uid = rising k m before within in omega arith)
+  | inr here ↦ (let same : k ≡ m = omega arith in rw same less)
+]
+
+pub halved_from : (es : List Entry) → IsAscending es → (m uid : ℕ) → uid ≤ (entry_at es m).uid → (k : ℕ) → m ≤ k → k < length es → uid ≤ (entry_at es k).uid
+halved_from es rising m uid more k le lt = elim (cases_lt m k) [
+  | inl after ↦ (let up : (entry_at es m).uid < (entry_at es k).uid = rising m k after lt in omega arith)
+  | inr here ↦ (let same : k ≡ m = omega arith in rw same more)
+]
+
+-- past those that are below a uid there is none of it where the first one isn't
+pub none_there : (es : List Entry) → IsAscending es → (at uid : ℕ) → ((k : ℕ) → k < at → (entry_at es k).uid < uid) → ((k : ℕ) → at ≤ k → k < length es → uid ≤ (entry_at es k).uid)
+    → (at < length es → (entry_at es at).uid ≢ uid) → (i : ℕ) → i < length es → (entry_at es i).uid ≢ uid
+none_there es rising at uid below from isnt i lt same = elim (cases_lt i at) [
+  | inl before ↦ (let less : (entry_at es i).uid < uid = below i before in omega arith)
+  | inr after ↦ elim (cases_eq i at) [
+    | inl here ↦ isnt (omega arith) (subst (λ k. (entry_at es k).uid ≡ uid) here same)
+    | inr later ↦ (let up : (entry_at es at).uid < (entry_at es i).uid = rising at i (omega arith) lt in let le : uid ≤ (entry_at es at).uid = from at (omega arith) (omega arith) in omega arith)
+  ]
+]
