@@ -24,6 +24,15 @@ look_with (k ∷ ks) (x ∷ vs) u v w len e = elim (cases_eq k u) [
       ])
 ]
 
+-- a value set leaves those beside other uids
+pub look_with_other : (ks vs : List ℕ) (u v w : ℕ) → u ≢ w → look ks (with_value ks vs u v) w ≡ look ks vs w
+look_with_other [] vs u v w ne = refl
+look_with_other (k ∷ ks) [] u v w ne = refl
+look_with_other (k ∷ ks) (x ∷ vs) u v w ne = elim (cases_eq k u) [
+  | inl same ↦ rw (eq-eqb k u same, ne_eqb k w (λ q. ne (omega arith))) refl
+  | inr other ↦ rw (ne_eqb k u other) (elim (cases_eq k w) [ inl here ↦ rw (eq-eqb k w here) refl | inr there ↦ rw (ne_eqb k w there) (look_with_other ks vs u v w ne) ])
+]
+
 pub length_with : (ks vs : List ℕ) (u v : ℕ) → length (with_value ks vs u v) ≡ length vs
 length_with [] vs u v = refl
 length_with (k ∷ ks) [] u v = refl

@@ -1,7 +1,7 @@
 -- What a new cell, and a cell less, leave.
 use Rattle.std.proofs.Common.{◌≡◌, ◌≢◌, ℕ, ◌+◌, ◌<◌, ◌≤◌, ◌^◌, Bool, true, false, eqb, not, ◌&&◌, List, [], ◌∷◌, length, refl, sym, ap, subst, ◌∙◌, arith, get_or, inl, inr}
 use Rattle.std.specs.List.{insert, remove, sum}
-use Rattle.std.proofs.lemmas.Bool.{cases_Bool, cases_eq, both_ways, eqb-true, eq-eqb, ne_eqb, or_parts, and_parts, or_right, or_left, false_from_ne_true}
+use Rattle.std.proofs.lemmas.Bool.{cases_Bool, cases_eq, both_ways, eqb-true, eq-eqb, ne_eqb, or_parts, or_cases, and_parts, or_right, or_left, false_from_ne_true}
 use Rattle.std.proofs.lemmas.List.{length-map}
 use Rattle.std.proofs.lemmas.List.Edits.{length-insert, length-remove}
 use Rattle.std.proofs.lemmas.List.Sums.{sum_by-insert, sum_by-remove}
@@ -11,11 +11,12 @@ use Rattle.dir_tree.specs.Nodes.{is_directory, is_segment, is_in, without}
 use Rattle.dir_tree.specs.Shape.{shape, shapes}
 use Rattle.tree_model.specs.Trees.{HasChains}
 use Rattle.quota_cells.specs.Accounts.{look, has, covers, weigh, load, is_an_account}
-use Rattle.quota_cells.specs.Cells.{CellMaps, quota_in, load_in, stored_in, Fits, IsTable, Enters, Leaves, has_cell}
+use Rattle.quota_cells.specs.Cells.{CellMaps, quota_in, load_in, stored_in, Fits, IsTable, Enters, Leaves, has_cell, with_directory, with_segment, without_directory, without_segment, entered, left}
 use Rattle.quota_cells.specs.Columns.{IsGap}
 use Rattle.quota_cells.proofs.ColumnLaws.{weigh_same}
 use Rattle.quota_cells.proofs.PlaceLaws.{look_at, look_absent}
 use Rattle.quota_cells.proofs.FitLaws.{on_directories, on_segments, directory_shape, segment_shape, all_there, covered_there}
+use Rattle.quota_cells.proofs.RowLaws.{insert_beside, remove_beside, gap_of, place_of}
 use Rattle.quota_cells.proofs.EditLaws.{has_insert, look_insert, weigh_insert, has_remove, look_remove, look_gone, weigh_remove, rising_insert, rising_remove}
 
 -- what no uid passes weighs nothing
@@ -148,10 +149,10 @@ module _ (c : CellMaps) (table : IsTable c) (uid i : ℕ) (absent : has_cell c u
   no_segment : has c.segments uid ≡ false
   no_segment = (or_parts (has c.directories uid) (has c.segments uid) absent).1
 
-  abbrev pub with_directory : CellMaps
-  with_directory = record { directories = insert c.directories i uid; quotas = insert c.quotas i 0; loads = insert c.loads i 0; segments = c.segments; stored = c.stored }
+  abbrev pub inserted_directory : CellMaps
+  inserted_directory = record { directories = insert c.directories i uid; quotas = insert c.quotas i 0; loads = insert c.loads i 0; segments = c.segments; stored = c.stored }
 
-  pub enters_directory : i ≤ length c.directories → Enters c with_directory uid true
+  pub enters_directory : i ≤ length c.directories → Enters c inserted_directory uid true
   enters_directory within = record {
     size = (let a = length-insert c.directories i uid within in omega (arith, a));
     directories = has_insert c.directories i uid;
@@ -163,10 +164,10 @@ module _ (c : CellMaps) (table : IsTable c) (uid i : ℕ) (absent : has_cell c u
     total = (let s = sum_by-insert (λ (x : ℕ). x) c.quotas i 0 in omega (arith, s));
   }
 
-  same_quotas : quota_in with_directory ≡ quota_in c
+  same_quotas : quota_in inserted_directory ≡ quota_in c
   same_quotas = λ j d. look_insert c.directories c.quotas i uid d table.quota_count no_directory j
 
-  pub table_directory : IsGap c.directories uid i → IsTable with_directory
+  pub table_directory : IsGap c.directories uid i → IsTable inserted_directory
   table_directory gap = record {
     rising = rising_insert c.directories uid i table.rising gap;
     segments_rise = table.segments_rise;
@@ -184,10 +185,10 @@ module _ (c : CellMaps) (table : IsTable c) (uid i : ℕ) (absent : has_cell c u
     total = (let s = sum_by-insert (λ (x : ℕ). x) c.quotas i 0 in let t : sum c.quotas < 2 ^ 32 = table.total in omega arith);
   }
 
-  abbrev pub with_segment : CellMaps
-  with_segment = record { directories = c.directories; quotas = c.quotas; loads = c.loads; segments = insert c.segments i uid; stored = insert c.stored i 0 }
+  abbrev pub inserted_segment : CellMaps
+  inserted_segment = record { directories = c.directories; quotas = c.quotas; loads = c.loads; segments = insert c.segments i uid; stored = insert c.stored i 0 }
 
-  pub enters_segment : i ≤ length c.segments → Enters c with_segment uid false
+  pub enters_segment : i ≤ length c.segments → Enters c inserted_segment uid false
   enters_segment within = record {
     size = (let a = length-insert c.segments i uid within in omega (arith, a));
     directories = λ u. refl;
@@ -199,7 +200,7 @@ module _ (c : CellMaps) (table : IsTable c) (uid i : ℕ) (absent : has_cell c u
     total = refl;
   }
 
-  pub table_segment : IsGap c.segments uid i → IsTable with_segment
+  pub table_segment : IsGap c.segments uid i → IsTable inserted_segment
   table_segment gap = record {
     rising = table.rising;
     segments_rise = rising_insert c.segments uid i table.segments_rise gap;
@@ -215,10 +216,10 @@ module _ (c : CellMaps) (table : IsTable c) (uid i : ℕ) (absent : has_cell c u
   }
 
 module _ (c : CellMaps) (table : IsTable c) (uid i : ℕ) where
-  abbrev pub less_directory : CellMaps
-  less_directory = record { directories = remove c.directories i; quotas = remove c.quotas i; loads = remove c.loads i; segments = c.segments; stored = c.stored }
+  abbrev pub removed_directory : CellMaps
+  removed_directory = record { directories = remove c.directories i; quotas = remove c.quotas i; loads = remove c.loads i; segments = c.segments; stored = c.stored }
 
-  pub leaves_directory : has c.directories uid ≡ true → quota_in c uid ≡ 0 → i < length c.directories → get_or c.directories i 0 ≡ uid → Leaves c less_directory uid
+  pub leaves_directory : has c.directories uid ≡ true → quota_in c uid ≡ 0 → i < length c.directories → get_or c.directories i 0 ≡ uid → Leaves c removed_directory uid
   leaves_directory there none lt is = record {
     size = (let a = length-remove c.directories i lt in omega (arith, a));
     directories = λ u. has_remove c.directories i u table.rising lt ∙ ap (λ x. has c.directories u && not (eqb x u)) is;
@@ -239,10 +240,10 @@ module _ (c : CellMaps) (table : IsTable c) (uid i : ℕ) where
         omega (arith, s, gone));
   }
 
-  pub table_less_directory : has c.directories uid ≡ true → quota_in c uid ≡ 0 → i < length c.directories → get_or c.directories i 0 ≡ uid → IsTable less_directory
-  table_less_directory there none lt is =
-      let leaves : Leaves c less_directory uid = leaves_directory there none lt is in
-      let same_q : quota_in less_directory ≡ quota_in c = λ j d. leaves.quotas d j in
+  pub table_removed_directory : has c.directories uid ≡ true → quota_in c uid ≡ 0 → i < length c.directories → get_or c.directories i 0 ≡ uid → IsTable removed_directory
+  table_removed_directory there none lt is =
+      let leaves : Leaves c removed_directory uid = leaves_directory there none lt is in
+      let same_q : quota_in removed_directory ≡ quota_in c = λ j d. leaves.quotas d j in
       record {
         rising = rising_remove c.directories i table.rising lt;
         segments_rise = table.segments_rise;
@@ -257,10 +258,10 @@ module _ (c : CellMaps) (table : IsTable c) (uid i : ℕ) where
         total = (let s = sum_by-remove (λ (x : ℕ). x) c.quotas i 0 (let n : length c.quotas ≡ length c.directories = table.quota_count in omega arith) in let t : sum c.quotas < 2 ^ 32 = table.total in omega arith);
       }
 
-  abbrev pub less_segment : CellMaps
-  less_segment = record { directories = c.directories; quotas = c.quotas; loads = c.loads; segments = remove c.segments i; stored = remove c.stored i }
+  abbrev pub removed_segment : CellMaps
+  removed_segment = record { directories = c.directories; quotas = c.quotas; loads = c.loads; segments = remove c.segments i; stored = remove c.stored i }
 
-  pub leaves_segment : has c.directories uid ≡ false → stored_in c uid ≡ 0 → i < length c.segments → get_or c.segments i 0 ≡ uid → Leaves c less_segment uid
+  pub leaves_segment : has c.directories uid ≡ false → stored_in c uid ≡ 0 → i < length c.segments → get_or c.segments i 0 ≡ uid → Leaves c removed_segment uid
   leaves_segment off none lt is = record {
     size = (let a = length-remove c.segments i lt in omega (arith, a));
     directories = λ u. elim (cases_eq uid u) [
@@ -278,8 +279,8 @@ module _ (c : CellMaps) (table : IsTable c) (uid i : ℕ) where
     total = refl;
   }
 
-  pub table_less_segment : i < length c.segments → IsTable less_segment
-  table_less_segment lt = record {
+  pub table_removed_segment : i < length c.segments → IsTable removed_segment
+  table_removed_segment lt = record {
     rising = table.rising;
     segments_rise = rising_remove c.segments i table.segments_rise lt;
     quota_count = table.quota_count;
@@ -289,3 +290,66 @@ module _ (c : CellMaps) (table : IsTable c) (uid i : ℕ) where
     within = table.within;
     total = table.total;
   }
+
+-- ---- as functions of what was there
+
+module _ (c : CellMaps) (table : IsTable c) (uid : ℕ) (absent : has_cell c uid ≡ false) where
+  new_directory : (g : (i : ℕ) × IsGap c.directories uid i) → inserted_directory c table uid g.0 absent ≡ with_directory c uid
+  new_directory g =
+      let uids = insert_beside c.directories c.directories uid g.0 uid refl g.1 in
+      let quotas = insert_beside c.directories c.quotas uid g.0 0 table.quota_count g.1 in
+      let loads = insert_beside c.directories c.loads uid g.0 0 table.load_count g.1 in
+      λ i. record c { directories = uids i; quotas = quotas i; loads = loads i }
+
+  new_segment : (g : (i : ℕ) × IsGap c.segments uid i) → inserted_segment c table uid g.0 absent ≡ with_segment c uid
+  new_segment g =
+      let uids = insert_beside c.segments c.segments uid g.0 uid refl g.1 in
+      let stored = insert_beside c.segments c.stored uid g.0 0 table.stored_count g.1 in
+      λ i. record c { segments = uids i; stored = stored i }
+
+  gap_directory : (i : ℕ) × IsGap c.directories uid i
+  gap_directory = gap_of c.directories uid table.rising (or_parts (has c.directories uid) (has c.segments uid) absent).0
+
+  gap_segment : (i : ℕ) × IsGap c.segments uid i
+  gap_segment = gap_of c.segments uid table.segments_rise (or_parts (has c.directories uid) (has c.segments uid) absent).1
+
+  pub enters_entered : (dir : Bool) → Enters c (entered c uid dir) uid dir
+  enters_entered true = subst (λ (d : CellMaps). Enters c d uid true) (new_directory gap_directory) (enters_directory c table uid gap_directory.0 absent gap_directory.1.within)
+  enters_entered false = subst (λ (d : CellMaps). Enters c d uid false) (new_segment gap_segment) (enters_segment c table uid gap_segment.0 absent gap_segment.1.within)
+
+  pub table_entered : (dir : Bool) → IsTable (entered c uid dir)
+  table_entered true = subst IsTable (new_directory gap_directory) (table_directory c table uid gap_directory.0 absent gap_directory.1)
+  table_entered false = subst IsTable (new_segment gap_segment) (table_segment c table uid gap_segment.0 absent gap_segment.1)
+
+module _ (c : CellMaps) (table : IsTable c) (uid : ℕ) (there : has_cell c uid ≡ true) (no_quota : quota_in c uid ≡ 0) (no_pages : stored_in c uid ≡ 0) where
+  old_directory : (p : (i : ℕ) × (i < length c.directories) × (get_or c.directories i 0 ≡ uid)) → removed_directory c table uid p.0 ≡ without_directory c uid
+  old_directory p =
+      let uids = remove_beside c.directories c.directories p.0 refl table.rising p.1 in
+      let quotas = remove_beside c.directories c.quotas p.0 table.quota_count table.rising p.1 in
+      let loads = remove_beside c.directories c.loads p.0 table.load_count table.rising p.1 in
+      (λ i. record c { directories = uids i; quotas = quotas i; loads = loads i }) ∙ ap (without_directory c) p.2
+
+  old_segment : (p : (i : ℕ) × (i < length c.segments) × (get_or c.segments i 0 ≡ uid)) → removed_segment c table uid p.0 ≡ without_segment c uid
+  old_segment p =
+      let uids = remove_beside c.segments c.segments p.0 refl table.segments_rise p.1 in
+      let stored = remove_beside c.segments c.stored p.0 table.stored_count table.segments_rise p.1 in
+      (λ i. record c { segments = uids i; stored = stored i }) ∙ ap (without_segment c) p.2
+
+  of_segment : has c.directories uid ≡ false → has c.segments uid ≡ true
+  of_segment off = elim (or_cases (has c.directories uid) (has c.segments uid) there) [ inl dir ↦ absurd (both_ways _ off dir) | inr seg ↦ seg ]
+
+  pub leaves_left : Leaves c (left c uid) uid
+  leaves_left = elim (cases_Bool (has c.directories uid)) [
+    | inl dir ↦
+        (let p = place_of c.directories uid dir in
+        rw dir (subst (λ (d : CellMaps). Leaves c d uid) (old_directory p) (leaves_directory c table uid p.0 dir no_quota p.1 p.2)))
+    | inr off ↦
+        (let p = place_of c.segments uid (of_segment off) in
+        rw off (subst (λ (d : CellMaps). Leaves c d uid) (old_segment p) (leaves_segment c table uid p.0 off no_pages p.1 p.2)))
+  ]
+
+  pub table_left : IsTable (left c uid)
+  table_left = elim (cases_Bool (has c.directories uid)) [
+    | inl dir ↦ (let p = place_of c.directories uid dir in rw dir (subst IsTable (old_directory p) (table_removed_directory c table uid p.0 dir no_quota p.1 p.2)))
+    | inr off ↦ (let p = place_of c.segments uid (of_segment off) in rw off (subst IsTable (old_segment p) (table_removed_segment c table uid p.0 p.1)))
+  ]

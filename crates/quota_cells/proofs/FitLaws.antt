@@ -1,18 +1,16 @@
 -- What keeps the cells fit for a tree.
-use Rattle.std.proofs.Common.{◌≡◌, ◌≢◌, ℕ, ◌+◌, ◌-◌, ◌<◌, ◌≤◌, ◌^◌, true, false, eqb, not, List, [], ◌∷◌, length, refl, sym, ap, subst, ◌∙◌, arith, inl, inr, is_some, ◌++◌, take, drop, set, get_or, Ok}
+use Rattle.std.proofs.Common.{◌≡◌, ◌≢◌, ℕ, ◌+◌, ◌-◌, ◌<◌, ◌≤◌, ◌^◌, true, false, eqb, not, List, [], ◌∷◌, refl, sym, subst, ◌∙◌, arith, inl, inr, is_some, Ok}
 use Rattle.std.specs.List.{sum}
 use Rattle.std.proofs.lemmas.Bool.{cases_Bool, cases_eq, eqb-true, eq-eqb, ne_eqb, and_parts, not-true}
-use Rattle.std.proofs.lemmas.List.{get_or_read, drop_all, take_all, append-nil}
 use Rattle.tree_model.specs.Tree.{above, account, node_in, has_directory}
 use Rattle.dir_tree.specs.declared.node.Node.{Node}
 use Rattle.dir_tree.specs.Nodes.{is_directory, is_segment}
 use Rattle.dir_tree.specs.Shape.{shapes}
 use Rattle.tree_model.specs.Trees.{has_segment, HasChains, IsChain, AreDirectories, EndsAtRoot}
-use Rattle.quota_cells.specs.Accounts.{look, has, with_value, covers, load, is_an_account, changed_where}
-use Rattle.quota_cells.specs.Cells.{CellMaps, quota_in, load_in, stored_in, Fits, IsTable, charged, credited, charge_fault, given, IsRising, CountsUsed}
+use Rattle.quota_cells.specs.Accounts.{look, has, covers, load, is_an_account, changed_where}
+use Rattle.quota_cells.specs.Cells.{CellMaps, quota_in, load_in, stored_in, Fits, IsTable, charged, credited, charge_fault, CountsUsed}
 use Rattle.quota_cells.specs.Columns.{AreThere, IsFalling}
 use Rattle.quota_cells.proofs.ColumnLaws.{look_changed, length_with, length_changed, weigh_with, weigh_same, weigh_le_on, look_le_weigh, look_le_sum}
-use Rattle.quota_cells.proofs.PlaceLaws.{look_at, set_at}
 use Rattle.quota_cells.proofs.AccountLaws.{account_covers, account_through, account_is, account_from, account_of_chain}
 
 pub directory_shape : (ns : List Node) (u : ℕ) → has_directory (shapes ns) u ≡ is_directory ns u
@@ -214,28 +212,6 @@ counts_used nodes c fits chains a a_there = elim (cases_Bool (is_an_account (quo
 ]
 
 -- ---- what the code leaves
-
-pub read_stored : (ks vs : List ℕ) (u i w : ℕ) → IsRising ks → i < length ks → get_or ks i 0 ≡ u → length vs ≡ length ks → w ≡ get_or vs i w → w ≡ look ks vs u
-read_stored ks vs u i w up lt is len read = (let at : w ≡ get_or vs i 0 = get_or_read vs i w (omega arith) read 0 in at ∙ sym (look_at ks vs i up lt) ∙ ap (look ks vs) is)
-
-pub stored_at : (ks vs : List ℕ) (u i w : ℕ) (g : ℕ → ℕ) → IsRising ks → length vs ≡ length ks → i < length ks → get_or ks i 0 ≡ u → w ≡ get_or vs i w → set vs i (g w) ≡ with_value ks vs u (g (look ks vs u))
-stored_at ks vs u i w g up len lt is read =
-    set_at ks vs i (g w) up lt ∙ ap (λ x. with_value ks vs x (g w)) is ∙ ap (λ x. with_value ks vs u (g x)) (read_stored ks vs u i w up lt is len read)
-
--- a slice that was lent whole comes back whole
-pub seamed : (new old target : List ℕ) (n : ℕ) → new ≡ target → length target ≡ length old → n ≡ length old → take n (new ++ drop (length new) old) ≡ target
-seamed new old target n is size len =
-    let whole : drop (length new) old ≡ [] = drop_all (length new) old (let a : length new ≡ length target = ap length is in omega arith) in
-    rw (whole, append-nil new) (take_all n new (let a : length new ≡ length target = ap length is in omega arith) ∙ is)
-
--- the cells whose quotas and loads were lent, once one directory has given another quota
-pub given_left : (s : CellMaps) (g : ℕ) (ups : List ℕ) (v : ℕ) (vps : List ℕ) (n : ℕ) (quotas loads : List ℕ) (a b : ℕ) → IsTable s → IsTable (given s g ups v vps n)
-    → quotas ≡ (given s g ups v vps n).quotas → loads ≡ (given s g ups v vps n).loads → a ≡ length s.quotas → b ≡ length s.loads
-    → (record { directories = s.directories; quotas = take a (quotas ++ drop (length quotas) s.quotas); loads = take b (loads ++ drop (length loads) s.loads); segments = s.segments; stored = s.stored }) ≡ given s g ups v vps n
-given_left s g ups v vps n quotas loads a b was now is_q is_l len_q len_l =
-    let q = seamed quotas s.quotas (given s g ups v vps n).quotas a is_q (now.quota_count ∙ sym was.quota_count) len_q in
-    let l = seamed loads s.loads (given s g ups v vps n).loads b is_l (now.load_count ∙ sym was.load_count) len_l in
-    λ i. record { directories = s.directories; quotas = q i; loads = l i; segments = s.segments; stored = s.stored }
 
 pub not_full : (c : CellMaps) (up : List ℕ) → charge_fault c up ≡ Ok tt → load_in c (account (quota_in c) up) ≢ quota_in c (account (quota_in c) up)
 not_full c up e same = (let full : eqb (load_in c (account (quota_in c) up)) (quota_in c (account (quota_in c) up)) ≡ true = eq-eqb _ _ same in let z = rw full at e in cc)

@@ -7,5 +7,6 @@ pub mod FitLaws
 pub mod MoveLaws
 pub mod OverLaws
 pub mod PlaceLaws
+pub mod RowLaws
 pub mod ScratchLaws
 pub mod TransferLaws

@@ -45,7 +45,7 @@ module _ (nodes : List Node) (c : CellMaps) (even : AreEven c) (fits : Fits node
   ]
 
   -- how the loads change
-  pub load_then : (e : ℕ) → has c.directories e ≡ true → (b w : Bool) → eqb (q d) 0 ≡ b → eqb v 0 ≡ w → load_in c' e ≡ look c.directories (loads_then c.directories c.quotas c.loads (f d) d b w) e
+  pub load_then : (e : ℕ) → has c.directories e ≡ true → (b w : Bool) → eqb (q d) 0 ≡ b → eqb v 0 ≡ w → load_in c' e ≡ look c.directories (loads_then c (f d) d b w) e
   load_then e there b w is_b is_w = rw (is_b, is_w) refl
 
   fits_at : (e : ℕ) → has c.directories e ≡ true → (b w : Bool) → eqb (q d) 0 ≡ b → eqb v 0 ≡ w → load_in c' e ≡ load f r c.segments c.stored e
@@ -80,7 +80,7 @@ module _ (nodes : List Node) (c : CellMaps) (even : AreEven c) (fits : Fits node
   pub fits_quota : Fits nodes c'
   fits_quota = record { directories = fits.directories; segments = fits.segments; count = fits.count; loads = λ e there. fits_at e there (eqb (q d) 0) (eqb v 0) refl refl }
 
-  loads_length : (b w : Bool) → length (loads_then c.directories c.quotas c.loads (f d) d b w) ≡ length c.loads
+  loads_length : (b w : Bool) → length (loads_then c (f d) d b w) ≡ length c.loads
   loads_length true true = refl
   loads_length false false = refl
   loads_length true false = length_changed (λ w. w - load_in c d) (covers q (f d)) c.directories c.loads even.loads

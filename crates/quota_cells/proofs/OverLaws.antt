@@ -193,7 +193,7 @@ module _ (nodes : List Node) (c : CellMaps) (table : IsTable c) (fits : Fits nod
   placed : (u : ℕ) → has c.directories u ≡ true → IsPlaced c.directories u (f u)
   placed u here = record { here = here; there = all_there nodes c fits (f u) (chains.directories u); falls = falling f (f u) (chains.chain u) }
 
-  pub can_give : first_over c2 ≡ None → CanGive c.directories c.quotas c.loads g (f g) v (f v) n
+  pub can_give : first_over c2 ≡ None → CanGive c g (f g) v (f v) n
   can_give none = record {
     getter_placed = placed g here_g;
     giver_placed = placed v here_v;

@@ -1,6 +1,6 @@
 -- Accounts and what they are charged for, over functions: the directories above a node, and the quota of each
 -- (Organick 1972).
-use Rattle.std.specs.Prelude.{ℕ, Bool, false, ◌+◌, ◌==◌, ◌||◌, ◌&&◌, not, List, [], ◌∷◌, if◌then◌else◌}
+use Rattle.std.specs.Prelude.{ℕ, Bool, false, ◌+◌, ◌==◌, ◌||◌, ◌&&◌, not, nat_lt, List, [], ◌∷◌, if◌then◌else◌}
 use Rattle.tree_model.specs.Tree.{account}
 
 -- the value beside a uid, 0 where it has none
@@ -19,6 +19,18 @@ abbrev pub with_value : List ℕ → List ℕ → ℕ → ℕ → List ℕ
 with_value [] vs u v = vs
 with_value (k ∷ ks) [] u v = []
 with_value (k ∷ ks) (w ∷ ws) u v = if k == u then v ∷ ws else w ∷ with_value ks ws u v
+
+-- the values with one more, where a uid that isn't there would stand in their order
+abbrev pub with_beside : List ℕ → List ℕ → ℕ → ℕ → List ℕ
+with_beside [] vs u v = v ∷ vs
+with_beside (k ∷ ks) [] u v = v ∷ []
+with_beside (k ∷ ks) (w ∷ ws) u v = if nat_lt u k then v ∷ w ∷ ws else w ∷ with_beside ks ws u v
+
+-- the values without that beside a uid
+abbrev pub without_beside : List ℕ → List ℕ → ℕ → List ℕ
+without_beside [] vs u = vs
+without_beside (k ∷ ks) [] u = []
+without_beside (k ∷ ks) (w ∷ ws) u = if k == u then ws else w ∷ without_beside ks ws u
 
 -- The directories above a node, the nearest first: whether one of them has the node's pages below it with no account
 -- between, so that no lower account takes them.

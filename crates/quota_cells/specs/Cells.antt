@@ -12,7 +12,7 @@ use Rattle.std.specs.List.{find}
 use Rattle.quota_cells.specs.declared.Full.{Full}
 use Rattle.quota_cells.specs.declared.MoveFault.{MoveFault}
 use Rattle.quota_cells.specs.declared.MoveFault.TheVariants as fault
-use Rattle.quota_cells.specs.Accounts.{look, has, with_value, covers, weigh, load, charged_to, is_an_account, changed_where}
+use Rattle.quota_cells.specs.Accounts.{look, has, with_value, with_beside, without_beside, covers, weigh, load, charged_to, is_an_account, changed_where}
 
 pub record CellMaps : Type 0 where
   pub directories : List ℕ
@@ -69,38 +69,38 @@ pub record IsTable (c : CellMaps) : Type 0 where
 abbrev pub root_cell : ℕ → CellMaps
 root_cell quota = record { directories = 1 ∷ []; quotas = quota ∷ []; loads = 0 ∷ []; segments = []; stored = [] }
 
+-- no cells
+abbrev pub no_cells : CellMaps
+no_cells = record { directories = []; quotas = []; loads = []; segments = []; stored = [] }
+
+abbrev pub with_loads : CellMaps → List ℕ → CellMaps
+with_loads c loads = record c { loads = loads }
+
+-- so many pages more, or less, on the loads of what covers a node below these directories
+abbrev pub lifted : CellMaps → List ℕ → ℕ → CellMaps
+lifted c up n = with_loads c (changed_where (λ w. w + n) (covers (quota_in c) up) c.directories c.loads)
+
+abbrev pub lowered : CellMaps → List ℕ → ℕ → CellMaps
+lowered c up n = with_loads c (changed_where (λ w. w - n) (covers (quota_in c) up) c.directories c.loads)
+
 -- a page more, or so many less, of a segment below these directories
 abbrev pub charged : CellMaps → List ℕ → ℕ → CellMaps
-charged c up s = record c {
-  loads = changed_where (λ w. w + 1) (covers (quota_in c) up) c.directories c.loads;
-  stored = with_value c.segments c.stored s
-      (stored_in c s + 1);
-}
+charged c up s = record (lifted c up 1) { stored = with_value c.segments c.stored s (stored_in c s + 1) }
 
 abbrev pub credited : CellMaps → List ℕ → ℕ → ℕ → CellMaps
-credited c up s n = record c {
-  loads = changed_where (λ w. w - n) (covers (quota_in c) up) c.directories c.loads;
-  stored = with_value c.segments c.stored s
-      (stored_in c s - n);
-}
+credited c up s n = record (lowered c up n) { stored = with_value c.segments c.stored s (stored_in c s - n) }
 
 -- the loads once a directory below these has another quota: where it becomes an account its load is taken from what
 -- covers it, and where it is one no more its load is added there
-abbrev pub loads_then : List ℕ → List ℕ → List ℕ → List ℕ → ℕ → Bool → Bool → List ℕ
-loads_then directories quotas loads up d true false = changed_where (λ w. w - look directories loads d) (covers (look directories quotas) up) directories
-    loads
-loads_then directories quotas loads up d false true = changed_where (λ w. w + look directories loads d) (covers (look directories quotas) up) directories
-    loads
-loads_then directories quotas loads up d true true = loads
-loads_then directories quotas loads up d false false = loads
+abbrev pub loads_then : CellMaps → List ℕ → ℕ → Bool → Bool → List ℕ
+loads_then c up d true false = (lowered c up (load_in c d)).loads
+loads_then c up d false true = (lifted c up (load_in c d)).loads
+loads_then c up d true true = c.loads
+loads_then c up d false false = c.loads
 
 -- the cells once a directory below these has another quota
 abbrev pub with_quota : CellMaps → List ℕ → ℕ → ℕ → CellMaps
-with_quota c up d v = record c {
-  quotas = with_value c.directories c.quotas d v;
-  loads = loads_then c.directories c.quotas c.loads up d (quota_in c d == 0)
-      (v == 0);
-}
+with_quota c up d v = record (with_loads c (loads_then c up d (quota_in c d == 0) (v == 0))) { quotas = with_value c.directories c.quotas d v }
 
 -- whether a page of a segment below these can be charged, or the account that is full
 abbrev pub charge_fault : CellMaps → List ℕ → Result (Unit {0}) Full
@@ -111,6 +111,34 @@ charge_fault c up = if load_in c (account (quota_in c) up) == quota_in c (accoun
 abbrev pub CountsUsed : List Node → CellMaps → Type 0
 CountsUsed nodes c = (a : ℕ) → has c.directories a ≡ true → used_in c a ≡
     (if is_an_account (quota_in c) a then charged_to (above (shapes nodes)) (quota_in c) c.segments c.stored a else 0)
+
+-- the cells with an empty one more, or without one, of a directory or of a segment
+abbrev pub with_directory : CellMaps → ℕ → CellMaps
+with_directory c u = record c {
+  directories = with_beside c.directories c.directories u u;
+  quotas = with_beside c.directories c.quotas u 0;
+  loads = with_beside c.directories c.loads u 0;
+}
+
+abbrev pub with_segment : CellMaps → ℕ → CellMaps
+with_segment c u = record c { segments = with_beside c.segments c.segments u u; stored = with_beside c.segments c.stored u 0 }
+
+abbrev pub without_directory : CellMaps → ℕ → CellMaps
+without_directory c u = record c {
+  directories = without_beside c.directories c.directories u;
+  quotas = without_beside c.directories c.quotas u;
+  loads = without_beside c.directories c.loads u;
+}
+
+abbrev pub without_segment : CellMaps → ℕ → CellMaps
+without_segment c u = record c { segments = without_beside c.segments c.segments u; stored = without_beside c.segments c.stored u }
+
+-- the cells once a directory or a segment has an empty one, and once a uid has none any more
+abbrev pub entered : CellMaps → ℕ → Bool → CellMaps
+entered c u dir = if dir then with_directory c u else with_segment c u
+
+abbrev pub left : CellMaps → ℕ → CellMaps
+left c u = if has c.directories u then without_directory c u else without_segment c u
 
 -- a directory or a segment gets an empty cell
 pub record Enters (old new : CellMaps) (uid : ℕ) (dir : Bool) : Type 0 where
@@ -139,10 +167,6 @@ abbrev pub has_cell : CellMaps → ℕ → Bool
 has_cell c u = has c.directories u || has c.segments u
 
 -- ---- quota that moves
-
--- the cells of directories alone
-abbrev pub columns : List ℕ → List ℕ → List ℕ → CellMaps
-columns directories quotas loads = record { directories = directories; quotas = quotas; loads = loads; segments = []; stored = [] }
 
 -- the cells once one directory, below others, has got so many pages of quota, and another has given them
 abbrev pub given : CellMaps → ℕ → List ℕ → ℕ → List ℕ → ℕ → CellMaps

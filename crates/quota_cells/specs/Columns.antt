@@ -1,8 +1,24 @@
--- Columns: where a uid would stand, lists of uids, and quota that goes from one directory to another.
-use Rattle.std.specs.Prelude.{◌≡◌, ◌≢◌, ℕ, ◌+◌, ◌<◌, ◌≤◌, ◌^◌, ◌==◌, true, List, [], ◌∷◌, length, slice_index}
+-- Cells in the order of uids as columns of numbers, lists of uids, and quota that goes from one directory to another.
+use Rattle.std.specs.Prelude.{◌≡◌, ◌≢◌, ℕ, ◌+◌, ◌<◌, ◌≤◌, ◌^◌, true, List, [], ◌∷◌, length, map, slice_index}
 use Rattle.tree_model.specs.Trees.{AreUnder}
-use Rattle.quota_cells.specs.Accounts.{look, has, with_value, covers}
-use Rattle.quota_cells.specs.Cells.{loads_then}
+use Rattle.quota_cells.specs.declared.directories.Cell.{Cell}
+use Rattle.quota_cells.specs.declared.segments.Count.{Count}
+use Rattle.quota_cells.specs.Accounts.{has, covers}
+use Rattle.quota_cells.specs.Cells.{CellMaps, quota_in, load_in, no_cells, with_quota}
+
+-- the maps of directories alone, of segments alone, and of both
+abbrev pub directory_maps : List Cell → CellMaps
+directory_maps cells = record no_cells { directories = map (λ c. c.uid) cells; quotas = map (λ c. c.quota) cells; loads = map (λ c. c.load) cells }
+
+abbrev pub segment_maps : List Count → CellMaps
+segment_maps counts = record no_cells { segments = map (λ c. c.uid) counts; stored = map (λ c. c.pages) counts }
+
+abbrev pub both_maps : CellMaps → CellMaps → CellMaps
+both_maps d s = record d { segments = s.segments; stored = s.stored }
+
+-- the directory's cell that stands there
+abbrev pub cell_from : CellMaps → ℕ → Cell
+cell_from c i = record { uid = slice_index c.directories i; quota = slice_index c.quotas i; load = slice_index c.loads i }
 
 -- a uid isn't there, and would stand at this place: smaller ones before it, greater ones from there on
 pub record IsGap (ks : List ℕ) (u i : ℕ) : Type 0 where
@@ -24,25 +40,15 @@ pub record IsPlaced (directories : List ℕ) (d : ℕ) (up : List ℕ) : Type 0 
   pub there : AreThere directories up
   pub falls : IsFalling up
 
--- the quotas, and the loads, once a directory below others has so many pages more
-abbrev pub quotas_given : List ℕ → List ℕ → ℕ → ℕ → List ℕ
-quotas_given directories quotas getter pages = with_value directories quotas getter (look directories quotas getter + pages)
-
-abbrev pub loads_given : List ℕ → List ℕ → List ℕ → ℕ → List ℕ → ℕ → List ℕ
-loads_given directories quotas loads getter up pages =
-    loads_then directories quotas loads up getter (look directories quotas getter == 0) (look directories quotas getter + pages == 0)
-
 -- One directory can give another so many pages: it has them, and what becomes of the loads is a number of 32 bits.
-pub record CanGive (directories quotas loads : List ℕ) (getter : ℕ) (above_getter : List ℕ) (giver : ℕ) (above_giver : List ℕ) (pages : ℕ) : Type 0 where
-  pub getter_placed : IsPlaced directories getter above_getter
-  pub giver_placed : IsPlaced directories giver above_giver
+pub record CanGive (c : CellMaps) (getter : ℕ) (above_getter : List ℕ) (giver : ℕ) (above_giver : List ℕ) (pages : ℕ) : Type 0 where
+  pub getter_placed : IsPlaced c.directories getter above_getter
+  pub giver_placed : IsPlaced c.directories giver above_giver
   pub other : getter ≢ giver
   pub some : 0 < pages
-  pub enough : pages ≤ look directories quotas giver
-  pub fits : look directories quotas getter + pages < 2 ^ 32
-  pub appears : look directories quotas getter ≡ 0 → (e : ℕ) → covers (look directories quotas) above_getter e ≡ true
-      → look directories loads getter ≤ look directories loads e
-  pub vanishes : look directories quotas giver ≡ pages → (e : ℕ)
-      → covers (look directories (quotas_given directories quotas getter pages)) above_giver e ≡ true
-      → look directories (loads_given directories quotas loads getter above_getter pages) e
-      + look directories (loads_given directories quotas loads getter above_getter pages) giver < 2 ^ 32
+  pub enough : pages ≤ quota_in c giver
+  pub fits : quota_in c getter + pages < 2 ^ 32
+  pub appears : quota_in c getter ≡ 0 → (e : ℕ) → covers (quota_in c) above_getter e ≡ true → load_in c getter ≤ load_in c e
+  pub vanishes : quota_in c giver ≡ pages
+      → (e : ℕ) → covers (quota_in (with_quota c above_getter getter (quota_in c getter + pages))) above_giver e ≡ true
+      → load_in (with_quota c above_getter getter (quota_in c getter + pages)) e + load_in (with_quota c above_getter getter (quota_in c getter + pages)) giver < 2 ^ 32

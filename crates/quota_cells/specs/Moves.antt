@@ -1,6 +1,6 @@
 -- What a move of quota is refused for, by the numbers of the directories that can come to be above their quotas.
 use Rattle.std.specs.Prelude.{ℕ, Bool, ◌+◌, ◌-◌, ◌==◌, ◌&&◌, ◌||◌, not, nat_lt, if◌then◌else◌, Result, Ok, Err}
-use Rattle.quota_cells.specs.declared.moves.Cell.{Cell}
+use Rattle.quota_cells.specs.declared.directories.Cell.{Cell}
 use Rattle.quota_cells.specs.declared.MoveFault.{MoveFault}
 use Rattle.quota_cells.specs.declared.MoveFault.TheVariants as fault
 use Rattle.quota_cells.specs.Cells.{CellMaps, quota_in, load_in}

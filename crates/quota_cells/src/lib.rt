@@ -6,18 +6,18 @@
 //! becomes an account or is one no more, its load is taken from the directories above it up to the nearest account,
 //! or added there, and no page is counted again.
 //!
-//! Costs: `new` takes all memory, once: five numbers of 4 bytes for each of 4097 cells. A look-up halves a list of
-//! uids: at most 13 looks. To go up is to read the directories above a node from the tree, at most 9 with one look-up
+//! Costs: `new` takes all memory, once: 12 bytes for the cell of each of 4097 directories, and 8 for the count of each of
+//! 4097 segments. A look-up halves one of the lists: at most 13 looks. To go up is to read the directories above a node from the tree, at most 9 with one look-up
 //! each, and to look their cells up to the first account. `credit` goes up once from the segment, for one page or for
 //! many, and `charge` reads what is above it once, and looks it up twice: to see whether the account is full, and to
 //! count. `move_quota` reads what is above the directory, and then what is above its superior to see whether the quota
 //! may move, where it looks at no more than three accounts for one that would be above its quota; then it goes up from
-//! each of the two directories. `enter` and `leave` move a part of the lists by one place. None but `new` takes memory.
+//! each of the two directories. `enter` and `leave` move a part of a list by one place. None but `new` takes memory.
 #![tactic(auto)]
 
 ghost use Rattle.std.specs.Prelude.{◌≡◌, ◌≢◌, ◌<◌, ◌≤◌, ◌+◌, ◌-◌, ◌^◌, ◌==◌, ◌&&◌, ◌||◌, not, ℕ, Bool, true, false};
 ghost use Rattle.std.specs.Prelude.{Some, None, List, length, IfOk, IfErr, IfSome, IfNone, OnOk, OnErr, IsErr, sum};
-ghost use Rattle.std.specs.Prelude.{if◌then◌else◌, [], ◌∷◌, vec_capacity};
+ghost use Rattle.std.specs.Prelude.{if◌then◌else◌, ◌∷◌};
 ghost use Rattle.tree_model.specs.Tree.{above, account, account_of, used_by};
 ghost use Rattle.dir_tree.specs.declared.node.Node.{Node};
 ghost use Rattle.dir_tree.specs.Nodes.{with_quotas, root_alone, is_in, is_directory, is_segment, without};
@@ -26,7 +26,7 @@ ghost use Rattle.tree_model.specs.Trees.{HasChains};
 ghost use Rattle.quota_cells.specs.Accounts.{has, covers, is_an_account};
 ghost use Rattle.quota_cells.specs.Columns.{AreThere, IsFalling, CanGive};
 ghost use Rattle.quota_cells.specs.Cells.{IsTable, quota_in, load_in, stored_in, used_in, Fits, AreWithin, root_cell};
-ghost use Rattle.quota_cells.specs.Cells.{charged, credited, charge_fault, has_cell, Enters, Leaves, moved};
+ghost use Rattle.quota_cells.specs.Cells.{charged, credited, charge_fault, has_cell, entered, left, Enters, Leaves, moved};
 ghost use Rattle.quota_cells.specs.Cells.{move_answer, first_over, given, CountsUsed};
 ghost use Rattle.tree_model.specs.Quotas.{superior_of, tree_moved};
 ghost use Rattle.quota_cells.specs.Moves.{cell_in};
@@ -34,12 +34,13 @@ ghost use Rattle.quota_cells.specs.Scratch.{HoldCounts, charge_answer, scratch_a
 ghost use Rattle.std.specs.Int.RustNames.{unsigned_abs};
 ghost use Rattle.std.specs.Int.{is_positive};
 
-mod columns;
+mod directories;
 mod moves;
+mod segments;
 
-use columns::Placed;
 use dir_tree::{ROOT, Tree};
-use moves::Cell;
+use directories::{Cell, Directories, Placed};
+use segments::Segments;
 use std::alloc::{AllocError, Global};
 use std::marker::Model;
 
@@ -83,44 +84,19 @@ pub const CELLS: usize = 4097;
 /// within its quota at all times, and the sum of quotas is what the root had at first.
 #[derive(Debug, Drop)]
 pub struct Cells {
-    directories: Vec<u32>,
-    quotas: Vec<u32>,
-    loads: Vec<u32>,
-    segments: Vec<u32>,
-    stored: Vec<u32>,
+    directories: Directories,
+    segments: Segments,
 }
 
 impl Model for Cells {
-    ghost use Rattle.std.specs.Prelude.{◌≤◌, vec_capacity};
     ghost use Rattle.quota_cells.specs.Cells.{CellMaps, IsTable};
+    ghost use Rattle.quota_cells.specs.Columns.{both_maps};
 
     ghost Value = { CellMaps };
 
-    ghost view = { λ c. record {
-      directories = c.directories.items;
-      quotas = c.quotas.items;
-      loads = c.loads.items;
-      segments = c.segments.items;
-      stored = c.stored.items;
-    } };
+    ghost view = { λ c. both_maps c.directories c.segments };
 
-    ghost invariant = { λ c. IsTable (record {
-      directories = c.directories.items;
-      quotas = c.quotas.items;
-      loads = c.loads.items;
-      segments = c.segments.items;
-      stored = c.stored.items;
-    }) × (4097 ≤ vec_capacity c.directories)
-        × (4097 ≤ vec_capacity c.quotas) × (4097 ≤ vec_capacity c.loads) × (4097 ≤ vec_capacity c.segments)
-        × (4097 ≤ vec_capacity c.stored) };
-}
-
-/// An empty column with room for all cells.
-fn column(alloc: Global) -> Result<Vec<u32>, AllocError>
-    ensures items { IfOk result (λ v. v.items ≡ []) }
-    ensures capacity { IfOk result (λ v. vec_capacity v ≡ 4097) }
-{
-    Vec::with_capacity(alloc, CELLS)
+    ghost invariant = { λ c. IsTable (both_maps c.directories c.segments) };
 }
 
 /// The superior of a directory that isn't the root.
@@ -147,20 +123,11 @@ impl Cells {
         ensures cells { IfOk result (λ cells. cells ≡ root_cell root_quota) }
         ensures fits { IfOk result (λ cells. (volume entry : ℕ) → Fits (root_alone volume entry).nodes cells) }
     {
-        let mut directories = column(alloc)?;
-        let mut quotas = column(alloc)?;
-        let mut loads = column(alloc)?;
-        let segments = column(alloc)?;
-        let stored = column(alloc)?;
-        directories.push_reserved(ROOT);
-        quotas.push_reserved(root_quota);
-        loads.push_reserved(0);
+        let directories = Directories::new(alloc, root_quota)?;
+        let segments = Segments::new(alloc)?;
         Ok(Cells {
             directories,
-            quotas,
-            loads,
             segments,
-            stored,
         })
     }
 
@@ -169,45 +136,25 @@ impl Cells {
     pub fn enter(&mut self, uid: u32, dir: bool)
         requires room { length self.old.directories + length self.old.segments < 4097 }
         requires absent { has_cell self.old uid ≡ false }
+        ensures cells { self.new ≡ entered self.old uid dir }
         ensures enters { Enters self.old self.new uid dir }
         ensures fits { (nodes : List Node) (n : Node) → n.uid ≡ uid → n.dir ≡ dir → is_in nodes uid ≡ false
             → HasChains (shapes nodes) → Fits nodes self.old → Fits (n ∷ nodes) self.new }
     {
+        self.add_cell(uid, dir);
+    }
+
+    /// Adds an empty cell of a directory or of a segment.
+    fn add_cell(&mut self, uid: u32, dir: bool)
+        requires room { length self.old.directories + length self.old.segments < 4097 }
+        requires absent { has_cell self.old uid ≡ false }
+        ensures cells { self.new ≡ entered self.old uid dir }
+        ensures table { IsTable self.old }
+    {
         if dir {
-            self.enter_directory(uid);
+            self.directories.enter(uid);
         } else {
-            self.enter_segment(uid);
-        }
-    }
-
-    /// Adds an empty cell of a directory.
-    fn enter_directory(&mut self, uid: u32)
-        requires room { length self.old.directories + length self.old.segments < 4097 }
-        requires absent { has_cell self.old uid ≡ false }
-        ensures { Enters self.old self.new uid true }
-    {
-        match columns::search(&self.directories, uid) {
-            Ok(_) => unreachable!(),
-            Err(at) => {
-                columns::insert_at(&mut self.directories, at, uid);
-                columns::insert_at(&mut self.quotas, at, 0);
-                columns::insert_at(&mut self.loads, at, 0);
-            }
-        }
-    }
-
-    /// Adds an empty cell of a segment.
-    fn enter_segment(&mut self, uid: u32)
-        requires room { length self.old.directories + length self.old.segments < 4097 }
-        requires absent { has_cell self.old uid ≡ false }
-        ensures { Enters self.old self.new uid false }
-    {
-        match columns::search(&self.segments, uid) {
-            Ok(_) => unreachable!(),
-            Err(at) => {
-                columns::insert_at(&mut self.segments, at, uid);
-                columns::insert_at(&mut self.stored, at, 0);
-            }
+            self.segments.enter(uid);
         }
     }
 
@@ -217,39 +164,28 @@ impl Cells {
         requires cell { has_cell self.old uid ≡ true }
         requires quota { quota_in self.old uid ≡ 0 }
         requires stored { stored_in self.old uid ≡ 0 }
+        ensures cells { self.new ≡ left self.old uid }
         ensures leaves { Leaves self.old self.new uid }
         ensures fits { (nodes : List Node) → ((u : ℕ) → u ≢ uid
             → above (shapes (without uid nodes)) u ≡ above (shapes nodes) u)
             → length (without uid nodes) + 1 ≡ length nodes → Fits nodes self.old → Fits (without uid nodes) self.new }
     {
-        match columns::search(&self.directories, uid) {
-            Ok(_) => self.drop_directory(uid),
-            Err(_) => self.drop_segment(uid),
-        }
+        self.drop_cell(uid);
     }
 
-    /// Drops the empty cell of a directory.
-    fn drop_directory(&mut self, uid: u32)
-        requires cell { has self.old.directories uid ≡ true }
+    /// Drops the empty cell of a directory or of a segment.
+    fn drop_cell(&mut self, uid: u32)
+        requires cell { has_cell self.old uid ≡ true }
         requires quota { quota_in self.old uid ≡ 0 }
-        ensures { Leaves self.old self.new uid }
-    {
-        let at = columns::place(&self.directories, uid);
-        self.directories.remove(at);
-        self.quotas.remove(at);
-        self.loads.remove(at);
-    }
-
-    /// Drops the empty cell of a segment.
-    fn drop_segment(&mut self, uid: u32)
-        requires cell { has self.old.segments uid ≡ true }
         requires stored { stored_in self.old uid ≡ 0 }
-        requires apart { has self.old.directories uid ≡ false }
-        ensures { Leaves self.old self.new uid }
+        ensures cells { self.new ≡ left self.old uid }
+        ensures table { IsTable self.old }
     {
-        let at = columns::place(&self.segments, uid);
-        self.segments.remove(at);
-        self.stored.remove(at);
+        if self.directories.has(uid) {
+            self.directories.leave(uid);
+        } else {
+            self.segments.leave(uid);
+        }
     }
 
     /// The quota of a directory, in pages; 0 where it is no account of its own.
@@ -258,7 +194,7 @@ impl Cells {
         ensures quota { result ≡ quota_in self.now d }
         ensures pages { stored_in self.now d ≡ 0 }
     {
-        columns::value(&self.directories, &self.quotas, d)
+        self.directories.cell(d).quota
     }
 
     /// The stored pages of a segment.
@@ -268,7 +204,7 @@ impl Cells {
         ensures quota { quota_in self.now seg ≡ 0 }
         ensures table { IsTable self.now }
     {
-        columns::value(&self.segments, &self.stored, seg)
+        self.segments.stored(seg)
     }
 
     /// The stored pages that an account is charged for; 0 where it is no account.
@@ -290,8 +226,9 @@ impl Cells {
         ensures used { result ≡ used_in self.now a }
         ensures table { IsTable self.now }
     {
-        if a == ROOT || columns::value(&self.directories, &self.quotas, a) > 0 {
-            return columns::value(&self.directories, &self.loads, a);
+        let cell = self.directories.cell(a);
+        if a == ROOT || cell.quota > 0 {
+            return cell.load;
         }
         0
     }
@@ -310,31 +247,12 @@ impl Cells {
         self.room_for(up.as_slice())
     }
 
-    /// The cell of a directory.
-    fn cell(&self, directory: u32) -> Cell
-        ensures { result ≡ cell_in self.now directory }
-    {
-        Cell {
-            uid: directory,
-            quota: columns::value(&self.directories, &self.quotas, directory),
-            load: columns::value(&self.directories, &self.loads, directory),
-        }
-    }
-
-    /// The cell of the account of what lies below these directories.
-    fn account(&self, up: &[u32]) -> Cell
-        ensures { result ≡ cell_in self.now (account (quota_in self.now) up.now) }
-    {
-        self.cell(columns::account(&self.directories, &self.quotas, up))
-    }
-
     /// Whether the account of what lies below these directories has room for a page.
     fn room_for(&self, up: &[u32]) -> Result<(), Full>
         ensures answer { result ≡ charge_fault self.now up.now }
         ensures table { IsTable self.now }
     {
-        prove!(self.segments.len() == self.stored.len());
-        let account = self.account(up);
+        let account = self.directories.account(up);
         if account.load == account.quota {
             return Err(Full {
                 account: account.uid,
@@ -378,9 +296,9 @@ impl Cells {
         requires table { IsTable (charged self.old up.now seg) }
         ensures { self.new ≡ charged self.old up.now seg }
     {
-        let at = columns::place(&self.segments, seg);
-        self.stored[at] += 1;
-        columns::lift(&mut self.loads, &self.directories, &self.quotas, up, 1);
+        let pages = self.segments.stored(seg) + 1;
+        self.segments.set(seg, pages);
+        self.directories.lift(up, 1);
     }
 
     /// Counts one stored page of a segment less, to the credit of the account that it has now.
@@ -407,7 +325,7 @@ impl Cells {
         ensures quotas { quota_in self.new ≡ quota_in self.old }
         ensures fits { Fits t.now.nodes self.new }
     {
-        prove!(self.segments.len() == self.stored.len());
+        let _ = &self.segments;
         let up = t.superiors(seg);
         self.take_pages(up.as_slice(), seg, pages);
     }
@@ -422,9 +340,9 @@ impl Cells {
         requires table { IsTable (credited self.old up.now seg pages) }
         ensures { self.new ≡ credited self.old up.now seg pages }
     {
-        let at = columns::place(&self.segments, seg);
-        self.stored[at] -= pages;
-        columns::lower(&mut self.loads, &self.directories, &self.quotas, up, pages);
+        let left = self.segments.stored(seg) - pages;
+        self.segments.set(seg, left);
+        self.directories.lower(up, pages);
     }
 
     /// What `move_quota` would refuse.
@@ -460,7 +378,7 @@ impl Cells {
             (unsigned_abs amount) }
         ensures table { IsTable self.now }
     {
-        prove!(self.directories.len() == self.quotas.len());
+        let _ = &self.directories;
         if amount.is_positive() {
             self.may_move_down(t, dir, superior, amount.unsigned_abs())
         } else {
@@ -482,8 +400,10 @@ impl Cells {
         ensures { result ≡ move_answer self.now (above (shapes t.now.nodes)) dir true pages }
     {
         let up = t.superiors(superior);
-        let account = self.account(up.as_slice());
-        moves::refusal_down(self.cell(dir), self.cell(superior), account, pages)
+        let below = self.directories.cell(dir);
+        let above = self.directories.cell(superior);
+        let account = self.directories.account(up.as_slice());
+        moves::refusal_down(below, above, account, pages)
     }
 
     /// What a move of so many pages of quota from a directory to its superior would be refused for.
@@ -500,7 +420,9 @@ impl Cells {
         requires fits { Fits t.now.nodes self.now }
         ensures { result ≡ move_answer self.now (above (shapes t.now.nodes)) dir false pages }
     {
-        moves::refusal_up(self.cell(dir), self.cell(superior), pages)
+        let below = self.directories.cell(dir);
+        let above = self.directories.cell(superior);
+        moves::refusal_up(below, above, pages)
     }
 
     /// Moves quota between a directory and its immediate superior: a positive amount down to the directory, a
@@ -574,7 +496,7 @@ impl Cells {
         ensures { self.new ≡ given self.old getter (above (shapes t.now.nodes) getter) giver
             (above (shapes t.now.nodes) giver) pages }
     {
-        prove!(self.directories.len() == self.quotas.len());
+        let _ = &self.directories;
         let above_getter = t.superiors(getter);
         let above_giver = t.superiors(giver);
         self.give(
@@ -592,20 +514,12 @@ impl Cells {
 
     /// Gives one directory so many pages of another's quota.
     fn give(&mut self, getter: Placed, giver: Placed, pages: u32)
-        requires can { CanGive self.old.directories self.old.quotas self.old.loads getter.directory
-            getter.above.now giver.directory giver.above.now pages }
+        requires can { CanGive self.old getter.directory getter.above.now giver.directory giver.above.now pages }
         requires table { IsTable (given self.old getter.directory getter.above.now giver.directory
             giver.above.now pages) }
         ensures { self.new ≡ given self.old getter.entry.directory getter.entry.above.now giver.entry.directory
             giver.entry.above.now pages }
     {
-        columns::give(
-            &mut self.quotas,
-            &mut self.loads,
-            &self.directories,
-            getter,
-            giver,
-            pages,
-        );
+        self.directories.give(getter, giver, pages);
     }
 }

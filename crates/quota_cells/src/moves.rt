@@ -5,18 +5,8 @@ ghost use Rattle.quota_cells.specs.Moves.{load_left, load_grown, is_account_over
 ghost use Rattle.quota_cells.specs.Moves.{refusal_up};
 
 use crate::MoveFault;
+use crate::directories::Cell;
 use dir_tree::ROOT;
-
-/// The quota cell of a directory (Organick 1972), with the stored pages below it that no lower account takes.
-#[derive(Clone, Copy)]
-pub(crate) struct Cell {
-    /// The directory.
-    pub uid: u32,
-    /// Its quota, in pages; 0 where it is no account of its own.
-    pub quota: u32,
-    /// Its load, in pages.
-    pub load: u32,
-}
 
 /// The load of a superior whose inferior gets quota: an inferior that was no account takes its own load from it.
 fn load_left(below: Cell, above: Cell) -> u32

@@ -6,5 +6,5 @@ use Rattle.quota_cells.proofs.Cells.quota.Goals as goal
 
 pub returns-clause-pages : goal.returns-clause-pages
 returns-clause-pages c =
-    rw (← c.self.view_is) (look_absent c.self.inside.segments.items c.self.inside.stored.items c.args.d
-    (c.self.invariant.0.apart c.args.d (subst (λ (x : CellMaps). has x.directories c.args.d ≡ true) (sym c.self.view_is) c.requires)))
+    rw (← c.self.view_is) (look_absent c.self.inside.segments.segments c.self.inside.segments.stored c.args.d
+    (c.self.invariant.apart c.args.d (subst (λ (x : CellMaps). has x.directories c.args.d ≡ true) (sym c.self.view_is) c.requires)))

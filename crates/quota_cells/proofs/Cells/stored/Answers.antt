@@ -7,5 +7,5 @@ use Rattle.quota_cells.proofs.Cells.stored.Goals as goal
 
 pub returns-clause-quota : goal.returns-clause-quota
 returns-clause-quota c =
-    rw (← c.self.view_is) (look_absent c.self.inside.directories.items c.self.inside.quotas.items c.args.seg
-    (false_from_ne_true _ (λ is. both_ways (has c.self.inside.segments.items c.args.seg) (c.self.invariant.0.apart c.args.seg is) (subst (λ (x : CellMaps). has x.segments c.args.seg ≡ true) (sym c.self.view_is) c.requires))))
+    rw (← c.self.view_is) (look_absent c.self.inside.directories.directories c.self.inside.directories.quotas c.args.seg
+    (false_from_ne_true _ (λ is. both_ways (has c.self.inside.segments.segments c.args.seg) (c.self.invariant.apart c.args.seg is) (subst (λ (x : CellMaps). has x.segments c.args.seg ≡ true) (sym c.self.view_is) c.requires))))

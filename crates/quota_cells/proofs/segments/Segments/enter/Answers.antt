@@ -1,0 +1,25 @@
+use Rattle.std.proofs.Common.{◌≡◌, true, map, sym, ap, subst, ◌∙◌, arith}
+use Rattle.std.proofs.lemmas.Bool.{both_ways}
+use Rattle.quota_cells.specs.Accounts.{has}
+use Rattle.quota_cells.specs.Cells.{CellMaps, IsRising, with_segment}
+use Rattle.quota_cells.specs.Columns.{IsGap, segment_maps}
+use Rattle.quota_cells.proofs.PlaceLaws.{has_at}
+use Rattle.quota_cells.proofs.EditLaws.{rising_insert}
+use Rattle.quota_cells.proofs.RowLaws.{map-insert, entered_counts}
+use Rattle.quota_cells.proofs.segments.Segments.enter.Goals as goal
+
+pub unreachable-requires : goal.unreachable-requires
+unreachable-requires c = both_ways _ c.requires.absent (subst (λ u. has c.args.self.now.segments u ≡ true) c.in_default.ensures.is (has_at c.args.self.now.segments c.in_default.field-0 c.in_default.ensures.found))
+
+pub invariant_of-self : goal.invariant_of-self
+invariant_of-self c =
+    let gap : IsGap (segment_maps c.self.inside.counts.items).segments c.args.uid c.in-Err.at = subst (λ (m : CellMaps). IsGap m.segments c.args.uid c.in-Err.at) (sym c.self.view_is) c.in-Err.ensures.gap in (
+      subst IsRising (sym (ap (map (λ x. x.uid)) c.in-Ok.ensures.items ∙ map-insert (λ x. x.uid) c.self.inside.counts.items c.in-Err.at (record { uid = c.args.uid; pages = 0 })))
+          (rising_insert (segment_maps c.self.inside.counts.items).segments c.args.uid c.in-Err.at c.self.invariant.0 gap),
+      omega (arith, c.self.invariant.1, c.in-Ok.ensures.capacity),
+    )
+
+pub returns : goal.returns
+returns c =
+    let gap : IsGap (segment_maps c.self.inside.counts.items).segments c.args.uid c.in-Err.at = subst (λ (m : CellMaps). IsGap m.segments c.args.uid c.in-Err.at) (sym c.self.view_is) c.in-Err.ensures.gap in
+    ap segment_maps c.in-Ok.ensures.items ∙ entered_counts c.self.inside.counts.items c.in-Err.at c.args.uid gap ∙ ap (λ (m : CellMaps). with_segment m c.args.uid) c.self.view_is
