@@ -12,7 +12,8 @@ use Rattle.tree_model.specs.Trees.{IsBranch, IsTree, Joins}
 use Rattle.dir_tree.specs.Kept.{no_entry, entry_at, newest, place_for, IsNamed, IsPlace, IsKept}
 use Rattle.dir_tree.proofs.EditLemmas.{each_pushed}
 use Rattle.dir_tree.proofs.NewestLemmas.{node_of_entry, newest_same, newest_push, length_newest}
-use Rattle.dir_tree.proofs.KeptLemmas.{MayAdd, no_fault, directory_shape, below_newest, no_place, places_within}
+use Rattle.dir_tree.proofs.KeptLemmas.{MayAdd, no_fault, below_newest, no_place, places_within}
+use Rattle.dir_tree.specs.Laws.{directory_shape}
 use Rattle.dir_tree.proofs.IndexLemmas.{key_branch}
 use Rattle.tree_model.specs.Tree.{branch_in}
 

@@ -14,7 +14,8 @@ use Rattle.dir_tree.specs.Shape.{shapes}
 use Rattle.tree_model.specs.Trees.{IsTree}
 use Rattle.dir_tree.specs.Kept.{no_entry, entry_at, newest, lies_in, recount, recounted, HasEntry, IsAscending, IsCounted, IsKept, IsNamed}
 use Rattle.dir_tree.proofs.EditLemmas.{each_pushed, each_left, was, was_up, was_within, now, was_now, now_within, at_was}
-use Rattle.dir_tree.proofs.KeptLemmas.{directory_in, directory_shape, entry_present, superior_read}
+use Rattle.dir_tree.proofs.KeptLemmas.{entry_present, superior_read}
+use Rattle.dir_tree.specs.Laws.{directory_in, directory_shape}
 use Rattle.tree_model.proofs.TreeLaws.{superior_in, superior_up, IsUp}
 
 -- ---- entries below a uid

@@ -4,32 +4,21 @@ use Rattle.std.specs.List.{find, list_any}
 use Rattle.std.specs.Option.{option_map, option_and_then}
 use Rattle.std.proofs.lemmas.Bool.{cases_Bool, cases_lt, cases_order, both_ways, le-leb, eq-eqb, ne_eqb, eqb-true, leb-false, and_from}
 use Rattle.std.proofs.lemmas.List.{map-append, get_or_read}
-use Rattle.tree_model.specs.Tree.{Node as Term, above, branch_in, is_branch, is_inferior, has_directory}
+use Rattle.tree_model.specs.Tree.{Node as Term, above, branch_in, is_branch, is_inferior}
 use Rattle.dir_tree.specs.declared.node.Node.{Node}
 use Rattle.dir_tree.specs.declared.node.AddFault.TheVariants as add_fault
 use Rattle.dir_tree.specs.declared.entries.Entry.{Entry}
 use Rattle.dir_tree.specs.Index.{Places, HasPlace, AreWithin, node_at, no_node}
-use Rattle.dir_tree.specs.Nodes.{node_of, is_in, is_directory, is_segment, add_fault_of}
+use Rattle.dir_tree.specs.Nodes.{node_of, is_in, add_fault_of}
 use Rattle.dir_tree.specs.Shape.{shape, shapes}
 use Rattle.tree_model.specs.Trees.{AreBelow}
+use Rattle.dir_tree.specs.Laws.{directory_shape, directory_in}
 use Rattle.dir_tree.specs.Kept.{entry_at, newest, IsNamed, IsKept, HasEntry}
 use Rattle.tree_model.proofs.Finds.{IsMember, member_parts, member_map, member_found, branch_found, any_member, any_found, find_map, found_member, found_passes}
 use Rattle.dir_tree.proofs.NewestLemmas.{node_of_entry, none_newest, find_newest, member_newest}
 use Rattle.tree_model.proofs.TreeLaws.{superior_in, lies, only_branch, is_below, not_below, IsUp}
 
 -- ---- nodes and their shapes
-
-pub directory_shape : (ns : List Node) (u : ℕ) → has_directory (shapes ns) u ≡ is_directory ns u
-directory_shape [] u = refl
-directory_shape (n ∷ ns) u = elim (cases_Bool (eqb n.uid u)) [ inl is ↦ rw is refl | inr isnt ↦ rw isnt (directory_shape ns u) ]
-
-pub directory_in : (ns : List Node) (u : ℕ) → is_directory ns u ≡ true → is_in ns u ≡ true
-directory_in [] u e = cc
-directory_in (n ∷ ns) u e = elim (cases_Bool (eqb n.uid u)) [ inl is ↦ rw is refl | inr isnt ↦ rw isnt (directory_in ns u (rw isnt at e)) ]
-
-pub segment_in : (ns : List Node) (u : ℕ) → is_segment ns u ≡ true → is_in ns u ≡ true
-segment_in [] u e = cc
-segment_in (n ∷ ns) u e = elim (cases_Bool (eqb n.uid u)) [ inl is ↦ rw is refl | inr isnt ↦ rw isnt (segment_in ns u (rw isnt at e)) ]
 
 below_append : (v : ℕ) (xs ys : List Term) → AreBelow v xs → AreBelow v ys → AreBelow v (xs ++ ys)
 below_append v [] ys a b = b

@@ -1,5 +1,6 @@
 pub mod Index
 pub mod Kept
+pub mod Laws
 pub mod Lending
 pub mod Nodes
 pub mod Shape

@@ -3,7 +3,8 @@ use Rattle.dir_tree.specs.declared.node.Node.{Node}
 use Rattle.dir_tree.specs.Nodes.{Branches, is_in}
 use Rattle.dir_tree.specs.Shape.{shapes}
 use Rattle.dir_tree.specs.Kept.{newest}
-use Rattle.dir_tree.proofs.KeptLemmas.{entry_present, segment_in}
+use Rattle.dir_tree.proofs.KeptLemmas.{entry_present}
+use Rattle.dir_tree.specs.Laws.{segment_in}
 use Rattle.dir_tree.proofs.ChangedLemmas.{set_kept, shapes_changed}
 use Rattle.dir_tree.proofs.Tree.set_home.Goals as goal
 
