@@ -1,5 +1,5 @@
 -- What the tree and its cells show, said of the nodes with their quotas.
-use Rattle.std.proofs.Common.{◌≡◌, ◌≢◌, ◌≤◌, ℕ, true, false, cond, eqb, not, ◌||◌, List, [], ◌∷◌, map, Option, Some, None, Result, Ok, Err, refl, sym, ap, subst, ◌∙◌, arith, inl, inr, is_some, if◌then◌else◌, ◌<◌}
+use Rattle.std.proofs.Common.{◌≡◌, ◌≢◌, ◌≤◌, ℕ, true, false, cond, eqb, not, List, [], ◌∷◌, map, Option, Some, None, Result, Ok, Err, refl, sym, ap, subst, ◌∙◌, arith, inl, inr, is_some, if◌then◌else◌, ◌<◌}
 use Rattle.std.specs.Prelude.{IfSome, IfNone, IfOk, OnOk, OnErr}
 use Rattle.std.proofs.lemmas.Bool.{cases_Bool, cases_eq, eq-eqb, ne_eqb}
 use Rattle.tree_model.specs.Access.{Row, with_row}
@@ -10,25 +10,21 @@ use Rattle.dir_tree.specs.declared.node.NewNode.{NewNode}
 use Rattle.dir_tree.specs.Nodes.{Branches, as_term, with_quotas, node_of, is_in, is_directory, is_segment, added, removed, without, unless, with_length, with_changed, with_acl, with_home, acl_of}
 use Rattle.dir_tree.specs.Shape.{shape, shapes}
 use Rattle.quota_cells.specs.Accounts.{look, has, is_an_account}
-use Rattle.quota_cells.specs.Cells.{CellMaps, quota_in, stored_in, used_in, AreWithin, has_cell, Fits, Enters, Leaves}
-use Rattle.quota_cells.proofs.PlaceLaws.{look_absent}
-use Rattle.quota_cells.proofs.FitLaws.{on_directories, on_segments}
-use Rattle.quota_cells.proofs.EnterLaws.{not_in_directory}
+use Rattle.quota_cells.specs.Cells.{CellMaps, quota_in, stored_in, used_in, AreWithin, Fits, Enters, Leaves}
+use Rattle.dir_tree.specs.Laws.{directory_shown as kind_of_directory, segment_shown as kind_of_segment, uid_shown, segment_in, not_in_directory}
+use Rattle.quota_cells.specs.Laws.{look_absent, on_directories, on_segments}
 use Rattle.accounts.specs.Maps.{AccountMaps, accounts_of, entry_of, branch_of, Recounts, Changes, Gains, Loses, Rehomes, rows_in, with_row_in}
 
 -- ---- uids of the tree
 
 segment_any : (q : ℕ → ℕ) (ns : List Node) (u : ℕ) → has_segment (with_quotas q ns) u ≡ is_segment ns u
-segment_any q [] u = refl
-segment_any q (n ∷ ns) u = elim (cases_Bool (eqb n.uid u)) [ inl is ↦ rw is refl | inr isnt ↦ rw isnt (segment_any q ns u) ]
+segment_any q = kind_of_segment (as_term q) (λ n. refl) (λ n. refl)
 
 directory_any : (q : ℕ → ℕ) (ns : List Node) (u : ℕ) → has_directory (with_quotas q ns) u ≡ is_directory ns u
-directory_any q [] u = refl
-directory_any q (n ∷ ns) u = elim (cases_Bool (eqb n.uid u)) [ inl is ↦ rw is refl | inr isnt ↦ rw isnt (directory_any q ns u) ]
+directory_any q = kind_of_directory (as_term q) (λ n. refl) (λ n. refl)
 
 there_any : (q : ℕ → ℕ) (ns : List Node) (u : ℕ) → is_some (node_in (with_quotas q ns) u) ≡ is_in ns u
-there_any q [] u = refl
-there_any q (n ∷ ns) u = elim (cases_Bool (eqb n.uid u)) [ inl is ↦ rw is refl | inr isnt ↦ rw isnt (there_any q ns u) ]
+there_any q = uid_shown (as_term q) (λ n. refl) (λ n. refl)
 
 none_there : {X : Type 0} (o : Option X) → is_some o ≡ false → o ≡ None
 none_there None e = refl
@@ -183,16 +179,6 @@ gained old new s n uid before after is next fresh fits enters =
       counts = enters.stored;
     }
 
-some_cell : (ns : List Node) (u : ℕ) → is_in ns u ≡ true → (is_directory ns u || is_segment ns u) ≡ true
-some_cell [] u e = cc
-some_cell (n ∷ ns) u e = elim (cases_Bool (eqb n.uid u)) [
-  | inl is ↦ rw is (elim (cases_Bool n.dir) [ inl y ↦ rw y refl | inr n ↦ rw n refl ])
-  | inr isnt ↦ rw isnt (some_cell ns u (rw isnt at e))
-]
-
-pub cell_there : (t : Branches) (c : CellMaps) → Fits t.nodes c → (u : ℕ) → is_in t.nodes u ≡ true → has_cell c u ≡ true
-cell_there t c fits u h = rw (on_directories t.nodes fits u, on_segments t.nodes fits u) (some_cell t.nodes u h)
-
 pub lost : (old new : Branches) (before after : CellMaps) (uid : ℕ) → new ≡ removed old uid → Leaves before after uid → Loses (accounts_of old before) (accounts_of new after) uid
 lost old new before after uid is leaves =
     let same : quota_in after ≡ quota_in before = λ i d. leaves.quotas d i in
@@ -303,15 +289,11 @@ entry_changed (n ∷ ns) uid volume entry u there = elim (cases_eq n.uid uid) [
       | inr far ↦ rw (ne_eqb n.uid uid far) (ap (cond (eqb n.uid u) n.entry) (entry_kept ns uid volume entry u off))
     ]
 
-segment_there : (ns : List Node) (u : ℕ) → is_segment ns u ≡ true → is_in ns u ≡ true
-segment_there [] u e = cc
-segment_there (n ∷ ns) u e = elim (cases_Bool (eqb n.uid u)) [ inl is ↦ rw is refl | inr isnt ↦ rw isnt (segment_there ns u (rw isnt at e)) ]
-
 pub home_shown : (old new : Branches) (c : CellMaps) (uid volume entry : ℕ) → is_segment old.nodes uid ≡ true → new ≡ with_home old uid volume entry → Rehomes (accounts_of old c) (accounts_of new c) uid volume entry
 home_shown old new c uid volume entry seg is = record {
   nodes = ap (λ (t : Branches). with_quotas (quota_in c) t.nodes) is ∙ changed_nodes (quota_in c) uid (λ n. record n { volume = volume; entry = entry }) (λ n. record n { volume = volume }) (λ n. refl) old.nodes;
   entries = λ u.
-      entry_any (quota_in c) new.nodes u ∙ ap (λ (t : Branches). entry_in t.nodes u) is ∙ entry_changed old.nodes uid volume entry u (segment_there old.nodes uid seg)
+      entry_any (quota_in c) new.nodes u ∙ ap (λ (t : Branches). entry_in t.nodes u) is ∙ entry_changed old.nodes uid volume entry u (segment_in old.nodes uid seg)
       ∙ ap (λ (e : ℕ). if eqb uid u then entry else e) (sym (entry_any (quota_in c) old.nodes u));
   next = ap (λ (t : Branches). t.next) is;
   counts = λ s. refl;

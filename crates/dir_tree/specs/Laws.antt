@@ -1,11 +1,11 @@
 -- Laws of uids and kinds, for the proofs of the crates above too.
 use Rattle.std.specs.Prelude.{◌≡◌, ℕ, Bool, true, false, ◌||◌, ◌&&◌, not, is_some, List, [], ◌∷◌, map}
-use Rattle.std.proofs.Common.{eqb, refl, sym, ap, ◌∙◌, inl, inr}
+use Rattle.std.proofs.Common.{cond, eqb, refl, sym, ap, ◌∙◌, inl, inr}
 use Rattle.std.proofs.lemmas.Bool.{cases_Bool, or_left, or_right, or_parts}
-use Rattle.tree_model.specs.Tree.{Node as Term, node_in, has_directory}
+use Rattle.tree_model.specs.Tree.{Node as Term, above, step_up, node_in, has_directory}
 use Rattle.tree_model.specs.Trees.{has_segment}
 use Rattle.dir_tree.specs.declared.node.Node.{Node}
-use Rattle.dir_tree.specs.Nodes.{is_in, is_directory, is_segment}
+use Rattle.dir_tree.specs.Nodes.{with_quotas, is_in, is_directory, is_segment}
 use Rattle.dir_tree.specs.Shape.{shape, shapes}
 
 -- however a node is shown, as long as its uid and its kind are its own
@@ -68,3 +68,8 @@ segment_not ns u is = not_both (is_directory ns u) (is_segment ns u) (kinds_apar
 
 pub directory_not : (ns : List Node) (u : ℕ) → is_directory ns u ≡ true → is_segment ns u ≡ false
 directory_not ns u is = rw is at (kinds_apart ns u)
+
+-- what is above a node doesn't depend on quotas, nor on what may change
+pub above_any : (q : ℕ → ℕ) (ns : List Node) (u : ℕ) → above (with_quotas q ns) u ≡ above (shapes ns) u
+above_any q [] u = refl
+above_any q (n ∷ ns) u = ap (λ (f : ℕ → List ℕ). cond (eqb n.uid u) (step_up f n.superior) (f u)) (λ i. λ v. above_any q ns v i)

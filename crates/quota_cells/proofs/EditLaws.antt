@@ -6,7 +6,8 @@ use Rattle.std.proofs.lemmas.List.Edits.{length-insert, get_or-insert_below, get
 use Rattle.quota_cells.specs.Accounts.{look, has, weigh}
 use Rattle.quota_cells.specs.Cells.{IsRising}
 use Rattle.quota_cells.specs.Columns.{IsGap}
-use Rattle.quota_cells.proofs.PlaceLaws.{look_absent, absent}
+use Rattle.quota_cells.proofs.PlaceLaws.{absent}
+use Rattle.quota_cells.specs.Laws.{look_absent}
 
 pub has_insert : (ks : List ℕ) (i u v : ℕ) → has (insert ks i u) v ≡ (eqb u v || has ks v)
 has_insert ks zero u v = refl

@@ -13,32 +13,20 @@ use Rattle.tree_model.specs.Trees.{HasChains}
 use Rattle.quota_cells.specs.Accounts.{look, has, covers, weigh, load, is_an_account}
 use Rattle.quota_cells.specs.Cells.{CellMaps, quota_in, load_in, stored_in, Fits, IsTable, Enters, Leaves, has_cell, with_directory, with_segment, without_directory, without_segment, entered, left}
 use Rattle.quota_cells.specs.Columns.{IsGap}
+use Rattle.dir_tree.specs.Laws.{not_in_directory, not_in_segment}
 use Rattle.quota_cells.proofs.ColumnLaws.{weigh_same}
-use Rattle.quota_cells.proofs.PlaceLaws.{look_at, look_absent}
-use Rattle.quota_cells.proofs.FitLaws.{on_directories, on_segments, directory_shape, segment_shape, all_there, covered_there}
+use Rattle.quota_cells.proofs.PlaceLaws.{look_at}
+use Rattle.quota_cells.proofs.FitLaws.{all_there, covered_there}
 use Rattle.quota_cells.proofs.RowLaws.{insert_beside, remove_beside, gap_of, place_of}
 use Rattle.quota_cells.proofs.EditLaws.{has_insert, look_insert, weigh_insert, has_remove, look_remove, look_gone, weigh_remove, rising_insert, rising_remove}
+use Rattle.dir_tree.specs.Laws.{directory_shape, segment_shape}
+use Rattle.quota_cells.specs.Laws.{look_absent, on_directories, on_segments}
 
 -- what no uid passes weighs nothing
 pub no_weight : (t : ℕ → Bool) (ks ws : List ℕ) → ((k : ℕ) → has ks k ≡ true → t k ≡ false) → weigh t ks ws ≡ 0
 no_weight t [] ws none = refl
 no_weight t (k ∷ ks) [] none = refl
 no_weight t (k ∷ ks) (w ∷ ws) none = rw (none k (or_left (eqb k k) (has ks k) (eq-eqb k k refl)), no_weight t ks ws (λ j h. none j (or_right (eqb k j) (has ks j) h))) refl
-
-pub not_in_directory : (ns : List Node) (u : ℕ) → is_in ns u ≡ false → is_directory ns u ≡ false
-not_in_directory [] u e = refl
-not_in_directory (n ∷ ns) u e = elim (cases_Bool (eqb n.uid u)) [ inl is ↦ (let z : true ≡ false = rw is at e in cc) | inr isnt ↦ rw isnt (not_in_directory ns u (rw isnt at e)) ]
-
-not_in_segment : (ns : List Node) (u : ℕ) → is_in ns u ≡ false → is_segment ns u ≡ false
-not_in_segment [] u e = refl
-not_in_segment (n ∷ ns) u e = elim (cases_Bool (eqb n.uid u)) [ inl is ↦ (let z : true ≡ false = rw is at e in cc) | inr isnt ↦ rw isnt (not_in_segment ns u (rw isnt at e)) ]
-
--- a uid that isn't in the tree has no cell
-pub absent_cell : (nodes : List Node) (c : CellMaps) → Fits nodes c → (u : ℕ) → is_in nodes u ≡ false → has_cell c u ≡ false
-absent_cell nodes c fits u absent =
-    let dir : has c.directories u ≡ false = on_directories nodes fits u ∙ not_in_directory nodes u absent in
-    let seg : has c.segments u ≡ false = on_segments nodes fits u ∙ not_in_segment nodes u absent in
-    rw (dir, seg) refl
 
 module _ (nodes : List Node) (n : Node) (old new : CellMaps) (fits : Fits nodes old) (chains : HasChains (shapes nodes)) (absent : is_in nodes n.uid ≡ false) (enters : Enters old new n.uid n.dir) where
   -- segments of the tree are as they were

@@ -1,44 +1,19 @@
 -- What keeps the cells fit for a tree.
-use Rattle.std.proofs.Common.{◌≡◌, ◌≢◌, ℕ, ◌+◌, ◌-◌, ◌<◌, ◌≤◌, ◌^◌, true, false, eqb, not, List, [], ◌∷◌, refl, sym, subst, ◌∙◌, arith, inl, inr, is_some, Ok}
+use Rattle.std.proofs.Common.{◌≡◌, ◌≢◌, ℕ, ◌+◌, ◌-◌, ◌<◌, ◌≤◌, ◌^◌, true, eqb, List, [], ◌∷◌, refl, sym, subst, ◌∙◌, arith, inl, inr, Ok}
 use Rattle.std.specs.List.{sum}
-use Rattle.std.proofs.lemmas.Bool.{cases_Bool, cases_eq, eqb-true, eq-eqb, ne_eqb, and_parts, not-true}
-use Rattle.tree_model.specs.Tree.{above, account, node_in, has_directory}
+use Rattle.std.proofs.lemmas.Bool.{cases_Bool, cases_eq, eqb-true, eq-eqb, ne_eqb, and_parts}
+use Rattle.tree_model.specs.Tree.{above, account}
 use Rattle.dir_tree.specs.declared.node.Node.{Node}
-use Rattle.dir_tree.specs.Nodes.{is_directory, is_segment}
+use Rattle.dir_tree.specs.Nodes.{is_segment}
 use Rattle.dir_tree.specs.Shape.{shapes}
-use Rattle.tree_model.specs.Trees.{has_segment, HasChains, IsChain, AreDirectories, EndsAtRoot}
+use Rattle.tree_model.specs.Trees.{HasChains, IsChain, AreDirectories, EndsAtRoot}
 use Rattle.quota_cells.specs.Accounts.{look, has, covers, load, is_an_account, changed_where}
 use Rattle.quota_cells.specs.Cells.{CellMaps, quota_in, load_in, stored_in, Fits, IsTable, charged, credited, charge_fault, CountsUsed}
+use Rattle.dir_tree.specs.Laws.{directory_shape, uid_shape, segment_in, segment_not}
+use Rattle.quota_cells.specs.Laws.{on_segments}
 use Rattle.quota_cells.specs.Columns.{AreThere, IsFalling}
 use Rattle.quota_cells.proofs.ColumnLaws.{look_changed, length_with, length_changed, weigh_with, weigh_same, weigh_le_on, look_le_weigh, look_le_sum}
 use Rattle.quota_cells.proofs.AccountLaws.{account_covers, account_through, account_is, account_from, account_of_chain}
-
-pub directory_shape : (ns : List Node) (u : ℕ) → has_directory (shapes ns) u ≡ is_directory ns u
-directory_shape [] u = refl
-directory_shape (n ∷ ns) u = elim (cases_Bool (eqb n.uid u)) [ inl is ↦ rw is refl | inr isnt ↦ rw isnt (directory_shape ns u) ]
-
-pub segment_there : (ns : List Node) (u : ℕ) → is_segment ns u ≡ true → is_some (node_in (shapes ns) u) ≡ true
-segment_there [] u e = cc
-segment_there (n ∷ ns) u e = elim (cases_Bool (eqb n.uid u)) [ inl is ↦ rw is refl | inr isnt ↦ rw isnt (segment_there ns u (rw isnt at e)) ]
-
-pub segment_not : (ns : List Node) (u : ℕ) → is_segment ns u ≡ true → has_directory (shapes ns) u ≡ false
-segment_not [] u e = cc
-segment_not (n ∷ ns) u e = elim (cases_Bool (eqb n.uid u)) [ inl is ↦ (let h : not n.dir ≡ true = rw is at e in rw is (not-true n.dir h)) | inr isnt ↦ rw isnt (segment_not ns u (rw isnt at e)) ]
-
-pub directory_not : (ns : List Node) (u : ℕ) → is_directory ns u ≡ true → has_segment (shapes ns) u ≡ false
-directory_not [] u e = cc
-directory_not (n ∷ ns) u e = elim (cases_Bool (eqb n.uid u)) [ inl is ↦ (let h : n.dir ≡ true = rw is at e in rw (is, h) refl) | inr isnt ↦ rw isnt (directory_not ns u (rw isnt at e)) ]
-
-pub segment_shape : (ns : List Node) (u : ℕ) → has_segment (shapes ns) u ≡ is_segment ns u
-segment_shape [] u = refl
-segment_shape (n ∷ ns) u = elim (cases_Bool (eqb n.uid u)) [ inl is ↦ rw is refl | inr isnt ↦ rw isnt (segment_shape ns u) ]
-
--- the cells of a tree's directories, and of its segments
-pub on_directories : (nodes : List Node) {c : CellMaps} → Fits nodes c → (u : ℕ) → has c.directories u ≡ is_directory nodes u
-on_directories nodes fits u = fits.directories u ∙ directory_shape nodes u
-
-pub on_segments : (nodes : List Node) {c : CellMaps} → Fits nodes c → (u : ℕ) → has c.segments u ≡ is_segment nodes u
-on_segments nodes fits u = fits.segments u ∙ segment_shape nodes u
 
 pub falling : (f : ℕ → List ℕ) (xs : List ℕ) → IsChain f xs → IsFalling xs
 falling f [] c = tt
@@ -104,7 +79,7 @@ module _ (nodes : List Node) (c : CellMaps) (table : IsTable c) (fits : Fits nod
   stored_below s e there is = rw (fits.loads e there) (look_le_weigh (λ k. covers (quota_in c) (f k) e) c.segments c.stored s is)
 
   pub ends : (s : ℕ) → is_segment nodes s ≡ true → EndsAtRoot (f s)
-  ends s is = chains.segments s (segment_there nodes s is) (segment_not nodes s is)
+  ends s is = chains.segments s (uid_shape nodes s ∙ segment_in nodes s is) (directory_shape nodes s ∙ segment_not nodes s is)
 
   pub there : (u : ℕ) → AreThere c.directories (f u)
   there u = all_there nodes c fits (f u) (chains.directories u)
@@ -208,7 +183,7 @@ counts_used nodes c fits chains a a_there = elim (cases_Bool (is_an_account (quo
   | inr isnt ↦ rw isnt refl
   | inl is ↦
       rw is (fits.loads a a_there ∙ weigh_same (λ k. covers (quota_in c) (above (shapes nodes) k) a) (λ k. eqb (account (quota_in c) (above (shapes nodes) k)) a) c.segments c.stored
-      (λ k h. (let seg : is_segment nodes k ≡ true = sym (on_segments nodes fits k) ∙ h in account_is (quota_in c) (above (shapes nodes) k) a (chains.segments k (segment_there nodes k seg) (segment_not nodes k seg)) is)))
+      (λ k h. (let seg : is_segment nodes k ≡ true = sym (on_segments nodes fits k) ∙ h in account_is (quota_in c) (above (shapes nodes) k) a (chains.segments k (uid_shape nodes k ∙ segment_in nodes k seg) (directory_shape nodes k ∙ segment_not nodes k seg)) is)))
 ]
 
 -- ---- what the code leaves

@@ -1,10 +1,9 @@
 -- Which accounts can be above their quotas once quota has moved.
-use Rattle.std.proofs.Common.{◌≡◌, ◌≢◌, ℕ, suc, ◌+◌, ◌-◌, ◌<◌, ◌≤◌, ◌^◌, Bool, true, false, cond, eqb, ltb, not, ◌||◌, if◌then◌else◌, List, [], ◌∷◌, length, Some, None, refl, sym, ap, subst, ◌∙◌, arith, get_or, inl, inr, ◌⊎◌, is_some}
+use Rattle.std.proofs.Common.{◌≡◌, ◌≢◌, ℕ, suc, ◌+◌, ◌-◌, ◌<◌, ◌≤◌, ◌^◌, Bool, true, false, cond, eqb, ltb, not, ◌||◌, if◌then◌else◌, List, [], ◌∷◌, length, Some, None, refl, sym, ap, subst, ◌∙◌, arith, get_or, inl, inr, ◌⊎◌}
 use Rattle.std.specs.List.{sum, find}
 use Rattle.std.proofs.lemmas.Bool.{cases_Bool, cases_eq, cases_lt, both_ways, eqb-true, eq-eqb, ne_eqb, or_cases, and_parts, or_right, or_left, and_from, lt-ltb, ltb-true, false_from_ne_true}
-use Rattle.tree_model.specs.Tree.{above, node_in}
+use Rattle.tree_model.specs.Tree.{above}
 use Rattle.dir_tree.specs.declared.node.Node.{Node}
-use Rattle.dir_tree.specs.Nodes.{is_directory}
 use Rattle.dir_tree.specs.Shape.{shapes}
 use Rattle.tree_model.specs.Trees.{HasChains, EndsAtRoot}
 use Rattle.quota_cells.specs.Accounts.{has, covers, is_an_account}
@@ -12,8 +11,10 @@ use Rattle.quota_cells.specs.Cells.{CellMaps, quota_in, load_in, Fits, IsTable, 
 use Rattle.quota_cells.specs.Columns.{IsPlaced, CanGive}
 use Rattle.quota_cells.proofs.AccountLaws.{covers_above}
 use Rattle.quota_cells.proofs.ColumnLaws.{two_le_sum}
-use Rattle.quota_cells.proofs.FitLaws.{on_directories, load_bound, all_there, covered_there, falling}
+use Rattle.dir_tree.specs.Laws.{uid_shape, directory_in}
+use Rattle.quota_cells.proofs.FitLaws.{load_bound, all_there, covered_there, falling}
 use Rattle.quota_cells.proofs.MoveLaws.{AreEven, covers_more, fits_quota, even_quota, quota_own, quota_other, load_falls, load_rises, load_stays, total_quota}
+use Rattle.quota_cells.specs.Laws.{on_directories}
 
 -- ---- the least that passes
 
@@ -41,10 +42,6 @@ first_passes p (k ∷ ks) a up h is none = elim (cases_eq k a) [
       let isnt : p k ≡ false = none k (or_left (eqb k k) (has ks k) (eq-eqb k k refl)) before in
       rw isnt (first_passes p ks a (λ i j lt w. up (suc i) (suc j) (omega arith) (omega arith)) rest is (λ b hb lt. none b (or_right (eqb k b) (has ks b) hb) lt)))
 ]
-
-directory_there : (ns : List Node) (u : ℕ) → is_directory ns u ≡ true → is_some (node_in (shapes ns) u) ≡ true
-directory_there [] u e = cc
-directory_there (n ∷ ns) u e = elim (cases_Bool (eqb n.uid u)) [ inl is ↦ rw is refl | inr isnt ↦ rw isnt (directory_there ns u (rw isnt at e)) ]
 
 pub passes : (p : ℕ → Bool) (ks : List ℕ) (b : ℕ) → has ks b ≡ true → p b ≡ true → find p ks ≢ None
 passes p [] b h is none = cc
@@ -180,7 +177,7 @@ module _ (nodes : List Node) (c : CellMaps) (table : IsTable c) (fits : Fits nod
   pub room2 : first_over c2 ≡ None → q v ≡ n → (e : ℕ) → covers (quota_in c1) (f v) e ≡ true → load_in c1 e + load_in c1 v < 2 ^ 32
   room2 none all e is =
       let root_no : v ≢ 1 = λ z. both_ways (covers (quota_in c1) (f v) e) (rw (z, chains.root) refl) is in
-      let ends : EndsAtRoot (f v) = chains.rooted v (directory_there nodes v (sym (on_directories nodes fits v) ∙ here_v)) root_no in
+      let ends : EndsAtRoot (f v) = chains.rooted v (uid_shape nodes v ∙ directory_in nodes v (sym (on_directories nodes fits v) ∙ here_v)) root_no in
       let there_e : has c.directories e ≡ true = covered_there (quota_in c1) c.directories (f v) e (all_there nodes c fits (f v) (chains.directories v)) is in
       let same : covers (quota_in c2) (f v) e ≡ covers (quota_in c1) (f v) e = covers_above (quota_in c1) (quota_in c2) v (f v) e (quota_other nodes c1 even1 fits1 chains v (q v - n) here_v) (chains.under v) in
       let bound : load_in c2 e < 2 ^ 32 = load_bound nodes c2 (table2 none) fits2 chains v e ends (same ∙ is) in

@@ -39,14 +39,6 @@ pub absent : (ks : List ℕ) (u : ℕ) → ((i : ℕ) → i < length ks → get_
 absent [] u none = refl
 absent (k ∷ ks) u none = rw (ne_eqb k u (none 0 (omega arith))) (absent ks u (λ i lt. none (suc i) (omega arith)))
 
-pub look_absent : (ks vs : List ℕ) (u : ℕ) → has ks u ≡ false → look ks vs u ≡ 0
-look_absent [] vs u e = refl
-look_absent (k ∷ ks) [] u e = refl
-look_absent (k ∷ ks) (v ∷ vs) u e = elim (cases_Bool (eqb k u)) [
-  | inl is ↦ (let z : true ≡ false = rw is at e in cc)
-  | inr isnt ↦ rw isnt (look_absent ks vs u (rw isnt at e))
-]
-
 pub gap_absent : (ks : List ℕ) (u i : ℕ) → IsGap ks u i → has ks u ≡ false
 gap_absent ks u i gap = absent ks u (λ j lt e. elim (cases_lt j i) [
   | inl before ↦ (let less : get_or ks j 0 < u = gap.below j before in omega arith)

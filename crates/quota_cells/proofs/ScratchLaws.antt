@@ -10,19 +10,20 @@ use Rattle.dir_tree.specs.declared.node.Node.{Node}
 use Rattle.dir_tree.specs.Nodes.{as_term, with_quotas, is_in, is_directory, is_segment}
 use Rattle.dir_tree.specs.Shape.{shapes}
 use Rattle.tree_model.specs.Trees.{HasChains}
-use Rattle.dir_tree.proofs.QuotaLemmas.{above_any}
 use Rattle.quota_cells.specs.declared.Full.{Full}
 use Rattle.quota_cells.specs.declared.MoveFault.{MoveFault}
 use Rattle.quota_cells.specs.Accounts.{look, has, with_value, weigh, charged_to, is_an_account}
 use Rattle.quota_cells.specs.Cells.{CellMaps, quota_in, load_in, stored_in, used_in, Fits, IsTable, IsRising, charge_fault, with_quota, moved, is_over, first_over, over_answer, move_answer}
 use Rattle.quota_cells.specs.Scratch.{HoldCounts, charge_answer, scratch_answer}
 use Rattle.quota_cells.proofs.ColumnLaws.{look_with, length_with, weigh_with}
-use Rattle.quota_cells.proofs.PlaceLaws.{look_at, look_absent}
+use Rattle.quota_cells.proofs.PlaceLaws.{look_at}
 use Rattle.quota_cells.proofs.AccountLaws.{account_of_chain}
-use Rattle.quota_cells.proofs.FitLaws.{on_directories, on_segments, segment_there, segment_not, account_there, all_there, counts_used}
-use Rattle.quota_cells.proofs.EnterLaws.{no_weight, not_in_directory}
+use Rattle.quota_cells.proofs.FitLaws.{account_there, all_there, counts_used}
+use Rattle.quota_cells.proofs.EnterLaws.{no_weight}
 use Rattle.quota_cells.proofs.OverLaws.{passes, later, fits2, conserved, q2_g, q2_v, q2_other}
 use Rattle.quota_cells.proofs.TransferLaws.{IsBelow, top, answer_ok}
+use Rattle.dir_tree.specs.Laws.{above_any, directory_shape, not_in_directory, segment_in, segment_not, uid_shape}
+use Rattle.quota_cells.specs.Laws.{look_absent, on_directories, on_segments}
 
 -- ---- counts of pages beside uids are counts over the pages
 
@@ -105,7 +106,7 @@ module _ (nodes : List Node) (c : CellMaps) (fits : Fits nodes c) (chains : HasC
   account_here : (k : ℕ) → has c.segments k ≡ true → has c.directories (account q (f k)) ≡ true
   account_here k is =
       (let seg : is_segment nodes k ≡ true = sym (on_segments nodes fits k) ∙ is in
-      account_there q c.directories (f k) (all_there nodes c fits (f k) (chains.directories k)) (chains.segments k (segment_there nodes k seg) (segment_not nodes k seg)))
+      account_there q c.directories (f k) (all_there nodes c fits (f k) (chains.directories k)) (chains.segments k (uid_shape nodes k ∙ segment_in nodes k seg) (directory_shape nodes k ∙ segment_not nodes k seg)))
 
   used_weighed : (a : ℕ) → used_in c a ≡ charged_to f q c.segments c.stored a
   used_weighed a = elim (cases_Bool (has c.directories a)) [

@@ -1,9 +1,9 @@
 -- The first account above its quota once quota has moved down to a directory, or up from it.
-use Rattle.std.proofs.Common.{◌≡◌, ◌≢◌, ℕ, ◌+◌, ◌-◌, ◌<◌, ◌≤◌, Bool, true, false, cond, eqb, ltb, not, ◌&&◌, ◌||◌, if◌then◌else◌, List, [], ◌∷◌, length, Option, Some, None, Ok, Err, refl, sym, ap, subst, ◌∙◌, arith, get_or, inl, inr, ◌⊎◌, is_some}
+use Rattle.std.proofs.Common.{◌≡◌, ◌≢◌, ℕ, ◌+◌, ◌-◌, ◌<◌, ◌≤◌, Bool, true, false, cond, eqb, ltb, not, ◌&&◌, ◌||◌, if◌then◌else◌, List, [], ◌∷◌, length, Option, Some, None, Ok, Err, refl, sym, ap, subst, ◌∙◌, arith, get_or, inl, inr, ◌⊎◌}
 use Rattle.std.proofs.lemmas.Bool.{cases_Bool, cases_eq, cases_lt, both_ways, eqb-true, eq-eqb, ne_eqb, and_parts, or_left, false_from_ne_true, le-ltb, lt-ltb}
-use Rattle.tree_model.specs.Tree.{above, account, node_in}
+use Rattle.tree_model.specs.Tree.{above, account}
 use Rattle.dir_tree.specs.declared.node.Node.{Node}
-use Rattle.dir_tree.specs.Nodes.{is_directory, is_in}
+use Rattle.dir_tree.specs.Nodes.{is_directory}
 use Rattle.dir_tree.specs.Shape.{shapes}
 use Rattle.tree_model.specs.Trees.{HasChains, AreUnder, IsChain, EndsAtRoot, AreDirectories}
 use Rattle.quota_cells.specs.Accounts.{has, covers, is_an_account}
@@ -12,12 +12,11 @@ use Rattle.tree_model.specs.Quotas.{superior_of, giver_of}
 use Rattle.quota_cells.specs.declared.MoveFault.TheVariants as fault
 use Rattle.quota_cells.proofs.PlaceLaws.{covers_under, covers_not}
 use Rattle.quota_cells.proofs.AccountLaws.{account_is, account_covers, account_of_chain}
-use Rattle.quota_cells.proofs.FitLaws.{on_directories, all_there, account_there, directory_shape}
+use Rattle.dir_tree.specs.Laws.{uid_shape, directory_in}
+use Rattle.quota_cells.proofs.FitLaws.{all_there, account_there}
 use Rattle.quota_cells.proofs.OverLaws.{none_passes, first_passes, c1, c2, q1_g, q1_other, q2_g, q2_v, q2_other, load1_falls, load1_stays, load2_rises, load2_stays, over_who}
-
-directory_there : (ns : List Node) (u : ℕ) → is_directory ns u ≡ true → is_some (node_in (shapes ns) u) ≡ true
-directory_there [] u e = cc
-directory_there (n ∷ ns) u e = elim (cases_Bool (eqb n.uid u)) [ inl is ↦ rw is refl | inr isnt ↦ rw isnt (directory_there ns u (rw isnt at e)) ]
+use Rattle.dir_tree.specs.Laws.{directory_shape}
+use Rattle.quota_cells.specs.Laws.{on_directories}
 
 account_above : (q r : ℕ → ℕ) (x : ℕ) (xs : List ℕ) → ((y : ℕ) → y ≢ x → r y ≡ q y) → AreUnder x xs → account r xs ≡ account q xs
 account_above q r x [] same a = refl
@@ -26,10 +25,6 @@ account_above q r x (y ∷ ys) same a = (let here : r y ≡ q y = same y (λ z. 
 under_weaker : (u v : ℕ) (xs : List ℕ) → v < u → AreUnder v xs → AreUnder u xs
 under_weaker u v [] lt a = tt
 under_weaker u v (x ∷ xs) lt a = ((let l : x < v = a.0 in omega arith), under_weaker u v xs lt a.1)
-
-pub directory_in : (ns : List Node) (u : ℕ) → is_directory ns u ≡ true → is_in ns u ≡ true
-directory_in [] u e = cc
-directory_in (n ∷ ns) u e = elim (cases_Bool (eqb n.uid u)) [ inl is ↦ rw is refl | inr isnt ↦ rw isnt (directory_in ns u (rw isnt at e)) ]
 
 -- what stands above a directory that isn't the root
 pub record IsBelow (nodes : List Node) (d s : ℕ) : Type 0 where
@@ -44,10 +39,10 @@ top_of nodes d (x ∷ xs) e ends chain under dirs =
     rw is (record { chain = e ∙ ap (λ ys. x ∷ ys) chain.0; below = under.0; directory = sym (directory_shape nodes x) ∙ dirs.0 })
 
 pub top : (nodes : List Node) → HasChains (shapes nodes) → (d : ℕ) → is_directory nodes d ≡ true → d ≢ 1 → IsBelow nodes d (get_or (above (shapes nodes) d) 0 0)
-top nodes chains d is ne = top_of nodes d (above (shapes nodes) d) refl (chains.rooted d (directory_there nodes d is) ne) (chains.chain d) (chains.under d) (chains.directories d)
+top nodes chains d is ne = top_of nodes d (above (shapes nodes) d) refl (chains.rooted d (uid_shape nodes d ∙ directory_in nodes d is) ne) (chains.chain d) (chains.under d) (chains.directories d)
 
 pub not_empty : (nodes : List Node) → HasChains (shapes nodes) → (d : ℕ) → is_directory nodes d ≡ true → d ≢ 1 → 0 < length (above (shapes nodes) d)
-not_empty nodes chains d is ne = long (above (shapes nodes) d) (chains.rooted d (directory_there nodes d is) ne)
+not_empty nodes chains d is ne = long (above (shapes nodes) d) (chains.rooted d (uid_shape nodes d ∙ directory_in nodes d is) ne)
   where
     long : (xs : List ℕ) → EndsAtRoot xs → 0 < length xs
     long [] e = absurd e
@@ -136,7 +131,7 @@ module _ (nodes : List Node) (c : CellMaps) (table : IsTable c) (fits : Fits nod
     ]
 
     ends_s : s ≢ 1 → EndsAtRoot (f s)
-    ends_s ne = chains.rooted s (directory_there nodes s (sym (on_directories nodes fits s) ∙ here_s)) ne
+    ends_s ne = chains.rooted s (uid_shape nodes s ∙ directory_in nodes s (sym (on_directories nodes fits s) ∙ here_s)) ne
 
     x_covers : s ≢ 1 → covers (quota_in m1) (f s) x ≡ true
     x_covers ne = subst (λ y. covers (quota_in m1) (f s) y ≡ true) x_is (account_covers (quota_in m1) (f s) (ends_s ne))

@@ -1,5 +1,6 @@
 pub mod Accounts
 pub mod Cells
 pub mod Columns
+pub mod Laws
 pub mod Moves
 pub mod Scratch

@@ -1,6 +1,6 @@
-use Rattle.std.proofs.Common.{◌≡◌, false, subst, sym}
+use Rattle.std.proofs.Common.{◌≡◌, false, subst, sym, ◌∙◌}
 use Rattle.dir_tree.specs.Nodes.{is_in}
-use Rattle.quota_cells.proofs.EnterLaws.{absent_cell}
+use Rattle.quota_cells.specs.Laws.{on_nodes}
 use Rattle.accounts.specs.Maps.{AccountMaps, Gains, accounts_of, branch_of}
 use Rattle.accounts.proofs.Laws.{directory_of, unless_ok, enters_fit, gained}
 use Rattle.accounts.proofs.Accounts.add.Goals as goal
@@ -11,7 +11,7 @@ add_branch-requires-clause-directory c = directory_of c.self.inside.tree c.self.
 pub enter-requires-clause-absent : goal.enter-requires-clause-absent
 enter-requires-clause-absent c =
     let next : c.in_ok-uid.uid ≡ c.self.inside.tree.next = unless_ok _ _ _ (c.in_ok-uid.ensures.answer (λ u. 0)) in
-    absent_cell c.self.inside.tree.nodes c.self.inside.cells c.self.invariant c.in_ok-uid.uid (subst (λ u. is_in c.self.inside.tree.nodes u ≡ false) (sym next) c.add_branch.ensures.fresh)
+    on_nodes c.self.inside.tree.nodes c.self.invariant c.in_ok-uid.uid ∙ (subst (λ u. is_in c.self.inside.tree.nodes u ≡ false) (sym next) c.add_branch.ensures.fresh)
 
 pub invariant_of-self-2 : goal.invariant_of-self-2
 invariant_of-self-2 c =

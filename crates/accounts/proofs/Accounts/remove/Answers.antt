@@ -1,14 +1,15 @@
 use Rattle.std.proofs.Common.{◌≡◌, sym, ◌∙◌, subst}
 use Rattle.tree_model.specs.Tree.{quota_in as quota_at}
 use Rattle.accounts.specs.Maps.{AccountMaps, Loses, accounts_of}
-use Rattle.accounts.proofs.Laws.{there_of, cell_there, quota_shown, lost}
+use Rattle.quota_cells.specs.Laws.{on_nodes}
+use Rattle.accounts.proofs.Laws.{there_of, quota_shown, lost}
 use Rattle.accounts.proofs.Accounts.remove.Goals as goal
 
 pub remove-requires-clause-there : goal.remove-requires-clause-there
 remove-requires-clause-there c = there_of c.self.inside.tree c.self.inside.cells c.args.self.now c.self.view_is c.args.uid c.requires.there
 
 pub leave-requires-clause-cell : goal.leave-requires-clause-cell
-leave-requires-clause-cell c = cell_there c.self.inside.tree c.self.inside.cells c.self.invariant c.args.uid (there_of c.self.inside.tree c.self.inside.cells c.args.self.now c.self.view_is c.args.uid c.requires.there)
+leave-requires-clause-cell c = on_nodes c.self.inside.tree.nodes c.self.invariant c.args.uid ∙ (there_of c.self.inside.tree c.self.inside.cells c.args.self.now c.self.view_is c.args.uid c.requires.there)
 
 pub leave-requires-clause-quota : goal.leave-requires-clause-quota
 leave-requires-clause-quota c =

@@ -3,7 +3,7 @@ use Rattle.std.proofs.lemmas.List.{length-append, append-nil}
 use Rattle.tree_model.specs.Tree.{above}
 use Rattle.dir_tree.specs.Shape.{shapes}
 use Rattle.tree_model.proofs.ChainLaws.{has_chains}
-use Rattle.dir_tree.proofs.QuotaLemmas.{above_any}
+use Rattle.dir_tree.specs.Laws.{above_any}
 use Rattle.tree_model.proofs.TreeLaws.{depth}
 use Rattle.dir_tree.proofs.Tree.superiors.Goals as goal
 

@@ -3,9 +3,10 @@ use Rattle.tree_model.specs.Tree.{above}
 use Rattle.dir_tree.specs.Shape.{shapes}
 use Rattle.quota_cells.specs.Cells.{stored_in, Fits, charged, charge_fault}
 use Rattle.quota_cells.proofs.ColumnLaws.{look_with}
-use Rattle.quota_cells.proofs.FitLaws.{there, falls, room_charged, stored_room, fits_charged, table_charged, not_full, on_segments}
+use Rattle.quota_cells.proofs.FitLaws.{there, falls, room_charged, stored_room, fits_charged, table_charged, not_full}
 use Rattle.quota_cells.proofs.ScratchLaws.{charge_same}
 use Rattle.quota_cells.proofs.Cells.charge.Goals as goal
+use Rattle.quota_cells.specs.Laws.{on_segments}
 
 pub add_page-requires : goal.add_page-requires
 add_page-requires c =

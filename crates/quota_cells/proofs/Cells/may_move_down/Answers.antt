@@ -3,11 +3,11 @@ use Rattle.tree_model.specs.Tree.{above, account}
 use Rattle.dir_tree.specs.Shape.{shapes}
 use Rattle.quota_cells.specs.Cells.{CellMaps, quota_in}
 use Rattle.quota_cells.specs.Moves.{cell_in}
-use Rattle.quota_cells.proofs.FitLaws.{on_directories}
 use Rattle.quota_cells.proofs.MoveLaws.{covers_more}
 use Rattle.quota_cells.proofs.TransferLaws.{top_covers}
 use Rattle.quota_cells.proofs.DecisionLaws.{down_decided}
 use Rattle.quota_cells.proofs.Cells.may_move_down.Goals as goal
+use Rattle.quota_cells.specs.Laws.{on_directories}
 
 pub refusal_down-requires : goal.refusal_down-requires
 refusal_down-requires c =

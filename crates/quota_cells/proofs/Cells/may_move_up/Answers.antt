@@ -1,9 +1,9 @@
 use Rattle.std.proofs.Common.{ap, ◌∙◌}
 use Rattle.quota_cells.specs.Cells.{CellMaps}
 use Rattle.quota_cells.specs.Moves.{cell_in}
-use Rattle.quota_cells.proofs.FitLaws.{on_directories}
 use Rattle.quota_cells.proofs.DecisionLaws.{up_decided}
 use Rattle.quota_cells.proofs.Cells.may_move_up.Goals as goal
+use Rattle.quota_cells.specs.Laws.{on_directories}
 
 pub returns : goal.returns
 returns c =

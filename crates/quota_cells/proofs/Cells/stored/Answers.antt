@@ -2,8 +2,8 @@ use Rattle.std.proofs.Common.{◌≡◌, true, sym, subst}
 use Rattle.std.proofs.lemmas.Bool.{both_ways, false_from_ne_true}
 use Rattle.quota_cells.specs.Accounts.{has}
 use Rattle.quota_cells.specs.Cells.{CellMaps}
-use Rattle.quota_cells.proofs.PlaceLaws.{look_absent}
 use Rattle.quota_cells.proofs.Cells.stored.Goals as goal
+use Rattle.quota_cells.specs.Laws.{look_absent}
 
 pub returns-clause-quota : goal.returns-clause-quota
 returns-clause-quota c =

@@ -1,9 +1,9 @@
 use Rattle.std.proofs.Common.{subst, ◌∙◌}
 use Rattle.quota_cells.specs.Cells.{IsTable}
-use Rattle.quota_cells.proofs.FitLaws.{on_directories}
 use Rattle.quota_cells.proofs.OverLaws.{can_give, table2}
-use Rattle.quota_cells.proofs.TransferLaws.{directory_in}
 use Rattle.quota_cells.proofs.Cells.transfer.Goals as goal
+use Rattle.dir_tree.specs.Laws.{directory_in}
+use Rattle.quota_cells.specs.Laws.{on_directories}
 
 pub superiors-above_getter-requires : goal.superiors-above_getter-requires
 superiors-above_getter-requires c = directory_in c.args.t.now.nodes c.args.getter c.requires.getter

@@ -1,11 +1,11 @@
-use Rattle.std.proofs.Common.{◌≡◌, ℕ, false, List, ◌∷◌, Some, refl, sym, subst}
+use Rattle.std.proofs.Common.{◌≡◌, ℕ, false, List, ◌∷◌, Some, refl, sym, subst, ◌∙◌}
 use Rattle.dir_tree.specs.declared.node.Node.{Node}
 use Rattle.dir_tree.specs.declared.node.NewNode.{NewNode}
 use Rattle.dir_tree.specs.Nodes.{Branches, added, is_in}
 use Rattle.dir_tree.specs.Shape.{shapes}
 use Rattle.tree_model.specs.Trees.{HasChains}
 use Rattle.quota_cells.specs.Cells.{CellMaps, Fits}
-use Rattle.quota_cells.proofs.EnterLaws.{absent_cell}
+use Rattle.quota_cells.specs.Laws.{on_nodes}
 use Rattle.tree_tests.proofs.quotas.make.Goals as goal
 
 entered : (old new : Branches) (s : ℕ) (n : NewNode) (uid : ℕ) (cells before : CellMaps) → new ≡ added old s n → uid ≡ old.next → is_in old.nodes old.next ≡ false → HasChains (shapes old.nodes) → Fits old.nodes before
@@ -19,4 +19,4 @@ returns-in-Ok g c =
 
 pub enter-requires-clause-absent : goal.enter-requires-clause-absent
 enter-requires-clause-absent g c =
-    absent_cell c.args.tree.now.nodes c.args.cells.now c.requires c.next_uid-uid.result (subst (λ u. is_in c.args.tree.now.nodes u ≡ false) (sym c.next_uid-uid.ensures.uid) c.add_branch.ensures.fresh)
+    on_nodes c.args.tree.now.nodes c.requires c.next_uid-uid.result ∙ (subst (λ u. is_in c.args.tree.now.nodes u ≡ false) (sym c.next_uid-uid.ensures.uid) c.add_branch.ensures.fresh)

@@ -1,5 +1,5 @@
 use Rattle.std.proofs.Common.{◌∙◌}
-use Rattle.quota_cells.proofs.FitLaws.{on_directories}
+use Rattle.quota_cells.specs.Laws.{on_directories}
 use Rattle.tree_tests.proofs.quotas.quota.Goals as goal
 
 pub quota-requires : goal.quota-requires

@@ -1,5 +1,5 @@
 use Rattle.std.proofs.Common.{◌∙◌}
-use Rattle.quota_cells.proofs.FitLaws.{on_segments}
+use Rattle.quota_cells.specs.Laws.{on_segments}
 use Rattle.tree_tests.proofs.quotas.stored.Goals as goal
 
 pub stored-requires : goal.stored-requires

@@ -1,8 +1,9 @@
 use Rattle.std.proofs.Common.{◌≡◌, false, sym, ◌∙◌}
 use Rattle.quota_cells.specs.Accounts.{has}
-use Rattle.quota_cells.proofs.PlaceLaws.{gap_absent, look_absent}
+use Rattle.quota_cells.proofs.PlaceLaws.{gap_absent}
 use Rattle.quota_cells.proofs.RowLaws.{cell_found}
 use Rattle.quota_cells.proofs.directories.Directories.cell.Goals as goal
+use Rattle.quota_cells.specs.Laws.{look_absent}
 
 pub returns-in-Ok : goal.returns-in-Ok
 returns-in-Ok c = c.cell_at.ensures ∙ cell_found c.args.self.now c.search.ensures.rising c.in-Ok.at c.args.uid c.in-Ok.ensures.found c.in-Ok.ensures.is

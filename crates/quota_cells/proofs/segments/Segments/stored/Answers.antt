@@ -1,8 +1,9 @@
 use Rattle.std.proofs.Common.{◌≡◌, ◌<◌, length, map, get_or, sym, ap, subst, ◌∙◌}
 use Rattle.quota_cells.specs.Cells.{CellMaps, stored_in}
-use Rattle.quota_cells.proofs.PlaceLaws.{gap_absent, look_absent}
+use Rattle.quota_cells.proofs.PlaceLaws.{gap_absent}
 use Rattle.quota_cells.proofs.RowLaws.{pages_read}
 use Rattle.quota_cells.proofs.segments.Segments.stored.Goals as goal
+use Rattle.quota_cells.specs.Laws.{look_absent}
 
 pub returns-in-Ok : goal.returns-in-Ok
 returns-in-Ok c =
