@@ -313,4 +313,22 @@ mod tests {
         assert_eq!(rt; ast.free_in(1), Some(2));
         assert_eq!(rt; ast.search(2), Some(1));
     }
+
+    #[test]
+    fn a_leaf_goes_and_the_hand_moves_on(rt: HostRuntime) {
+        let Ok(mut ast) = Ast::new(rt.alloc(), [3, 0, 0, 0]) else {
+            assert!(rt; false, "no memory");
+            return;
+        };
+        ast.activate(0, 1, None);
+        ast.activate(1, 2, Some(1));
+        ast.activate(2, 3, Some(1));
+        assert_eq!(rt; ast.victim(0, &[]), 1);
+        ast.deactivate(1);
+        assert_eq!(rt; ast.search(2), None);
+        assert_eq!(rt; ast.free_in(0), Some(1));
+        ast.activate(1, 4, Some(1));
+        assert_eq!(rt; ast.victim(0, &[]), 1);
+        assert_eq!(rt; ast.victim(0, &[]), 2);
+    }
 }
