@@ -1,5 +1,5 @@
 -- What a new cell, and a cell less, leave.
-use Rattle.std.proofs.Common.{◌≡◌, ◌≢◌, ℕ, ◌+◌, ◌<◌, ◌≤◌, ◌^◌, Bool, true, false, eqb, not, ◌&&◌, List, [], ◌∷◌, length, refl, sym, ap, subst, ◌∙◌, arith, get_or, inl, inr}
+use Rattle.std.proofs.Common.{◌≡◌, ◌≢◌, ℕ, ◌+◌, ◌<◌, ◌≤◌, ◌^◌, Bool, true, false, eqb, not, ◌&&◌, if◌then◌else◌, List, [], ◌∷◌, length, refl, sym, ap, subst, ◌∙◌, arith, get_or, inl, inr}
 use Rattle.std.specs.List.{insert, remove, sum}
 use Rattle.std.proofs.lemmas.Bool.{cases_Bool, cases_eq, both_ways, eqb-true, eq-eqb, ne_eqb, or_parts, or_cases, and_parts, or_right, or_left, false_from_ne_true}
 use Rattle.std.proofs.lemmas.List.{length-map}
@@ -79,31 +79,30 @@ module _ (nodes : List Node) (n : Node) (old new : CellMaps) (fits : Fits nodes 
 
 -- ---- a cell less
 
+and_false : (b : Bool) → (b && false) ≡ false
+and_false true = refl
+and_false false = refl
+
+-- what tells of the node of a uid, by what it tells of nodes
+module _ (is : List Node → ℕ → Bool) (kind : Node → Bool) (none : (u : ℕ) → is [] u ≡ false) (first : (n : Node) (ns : List Node) (u : ℕ) → is (n ∷ ns) u ≡ (if eqb n.uid u then kind n else is ns u)) where
+  kind_without : (ns : List Node) (u v : ℕ) → is (without u ns) v ≡ (is ns v && not (eqb u v))
+  kind_without [] u v = rw (none v) refl
+  kind_without (n ∷ ns) u v = elim (cases_eq n.uid u) [
+    | inl same ↦ rw (eq-eqb n.uid u same, first n ns v) (kind_without ns u v ∙ elim (cases_eq u v) [
+      | inl at ↦ rw (eq-eqb u v at) (and_false (is ns v) ∙ sym (and_false _))
+      | inr off ↦ rw (ne_eqb n.uid v (λ q. off (omega arith))) refl
+    ])
+    | inr other ↦ rw (ne_eqb n.uid u other, first n ns v, first n (without u ns) v) (elim (cases_eq n.uid v) [
+      | inl at ↦ rw (eq-eqb n.uid v at, ne_eqb u v (λ q. other (omega arith))) (elim (cases_Bool (kind n)) [ inl t ↦ rw t refl | inr f ↦ rw f refl ])
+      | inr off ↦ rw (ne_eqb n.uid v off) (kind_without ns u v)
+    ])
+  ]
+
 directory_without : (ns : List Node) (u v : ℕ) → is_directory (without u ns) v ≡ (is_directory ns v && not (eqb u v))
-directory_without [] u v = refl
-directory_without (n ∷ ns) u v = elim (cases_eq n.uid u) [
-  | inl same ↦ rw (eq-eqb n.uid u same) (directory_without ns u v ∙ elim (cases_eq u v) [
-    | inl at ↦ rw (eq-eqb u v at) (elim (cases_Bool (is_directory ns v)) [ inl t ↦ rw t (elim (cases_Bool (is_directory (n ∷ ns) v)) [ inl s ↦ rw s refl | inr s ↦ rw s refl ]) | inr f ↦ rw f (elim (cases_Bool (is_directory (n ∷ ns) v)) [ inl s ↦ rw s refl | inr s ↦ rw s refl ]) ])
-    | inr off ↦ rw (ne_eqb n.uid v (λ q. off (omega arith))) refl
-  ])
-  | inr other ↦ rw (ne_eqb n.uid u other) (elim (cases_eq n.uid v) [
-    | inl at ↦ rw (eq-eqb n.uid v at, ne_eqb u v (λ q. other (omega arith))) (elim (cases_Bool n.dir) [ inl t ↦ rw t refl | inr f ↦ rw f refl ])
-    | inr off ↦ rw (ne_eqb n.uid v off) (directory_without ns u v)
-  ])
-]
+directory_without = kind_without is_directory (λ n. n.dir) (λ u. refl) (λ n ns u. elim (cases_Bool (eqb n.uid u)) [ inl t ↦ rw t refl | inr f ↦ rw f refl ])
 
 segment_without : (ns : List Node) (u v : ℕ) → is_segment (without u ns) v ≡ (is_segment ns v && not (eqb u v))
-segment_without [] u v = refl
-segment_without (n ∷ ns) u v = elim (cases_eq n.uid u) [
-  | inl same ↦ rw (eq-eqb n.uid u same) (segment_without ns u v ∙ elim (cases_eq u v) [
-    | inl at ↦ rw (eq-eqb u v at) (elim (cases_Bool (is_segment ns v)) [ inl t ↦ rw t (elim (cases_Bool (is_segment (n ∷ ns) v)) [ inl s ↦ rw s refl | inr s ↦ rw s refl ]) | inr f ↦ rw f (elim (cases_Bool (is_segment (n ∷ ns) v)) [ inl s ↦ rw s refl | inr s ↦ rw s refl ]) ])
-    | inr off ↦ rw (ne_eqb n.uid v (λ q. off (omega arith))) refl
-  ])
-  | inr other ↦ rw (ne_eqb n.uid u other) (elim (cases_eq n.uid v) [
-    | inl at ↦ rw (eq-eqb n.uid v at, ne_eqb u v (λ q. other (omega arith))) (elim (cases_Bool n.dir) [ inl t ↦ rw t refl | inr f ↦ rw f refl ])
-    | inr off ↦ rw (ne_eqb n.uid v off) (segment_without ns u v)
-  ])
-]
+segment_without = kind_without is_segment (λ n. not n.dir) (λ u. refl) (λ n ns u. elim (cases_Bool (eqb n.uid u)) [ inl t ↦ rw t refl | inr f ↦ rw f refl ])
 
 module _ (nodes : List Node) (uid : ℕ) (old new : CellMaps) (fits : Fits nodes old) (leaves : Leaves old new uid) (same_above : (u : ℕ) → u ≢ uid → above (shapes (without uid nodes)) u ≡ above (shapes nodes) u) (one_less : length (without uid nodes) + 1 ≡ length nodes) where
   quotas_left : quota_in new ≡ quota_in old

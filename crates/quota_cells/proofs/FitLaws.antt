@@ -7,7 +7,7 @@ use Rattle.dir_tree.specs.declared.node.Node.{Node}
 use Rattle.dir_tree.specs.Nodes.{is_segment}
 use Rattle.dir_tree.specs.Shape.{shapes}
 use Rattle.tree_model.specs.Trees.{HasChains, IsChain, AreDirectories, EndsAtRoot}
-use Rattle.quota_cells.specs.Accounts.{look, has, covers, load, is_an_account, changed_where}
+use Rattle.quota_cells.specs.Accounts.{look, has, with_value, covers, load, is_an_account, changed_where}
 use Rattle.quota_cells.specs.Cells.{CellMaps, quota_in, load_in, stored_in, Fits, IsTable, charged, credited, charge_fault, CountsUsed}
 use Rattle.dir_tree.specs.Laws.{directory_shape, uid_shape, segment_in, segment_not}
 use Rattle.quota_cells.specs.Laws.{on_segments}
@@ -39,40 +39,29 @@ module _ (nodes : List Node) (c : CellMaps) (table : IsTable c) (fits : Fits nod
   abbrev f : ℕ → List ℕ
   f = above (shapes nodes)
 
-  -- a page more of a segment
-  pub fits_charged : (s : ℕ) → is_segment nodes s ≡ true → Fits nodes (charged c (f s) s)
-  fits_charged s is = record {
+  -- another count of stored pages of a segment, where what covers it has its load changed by as much
+  fits_with : (g : ℕ → ℕ) (s v : ℕ) → is_segment nodes s ≡ true → ((w x : ℕ) → x + stored_in c s ≡ w + v → g w ≡ x)
+      → Fits nodes (record c { loads = changed_where g (covers (quota_in c) (f s)) c.directories c.loads; stored = with_value c.segments c.stored s v })
+  fits_with g s v is changes = record {
     directories = fits.directories;
     segments = fits.segments;
     count = fits.count;
     loads = λ e there.
         (let q = quota_in c in
         let old : load_in c e ≡ load f q c.segments c.stored e = fits.loads e there in
-        let seg : has c.segments s ≡ true = on_segments nodes fits s ∙ is in
-        let w = weigh_with (λ k. covers q (f k) e) c.segments c.stored s (stored_in c s + 1) table.stored_count seg in
-        let l = look_changed (λ w. w + 1) (covers q (f s)) c.directories c.loads e table.load_count there in
-        l ∙ elim (cases_Bool (covers q (f s) e)) [
-          | inl t ↦ (let w' = rw t at w in rw t (omega (arith, old, w')))
+        let w = weigh_with (λ k. covers q (f k) e) c.segments c.stored s v table.stored_count (on_segments nodes fits s ∙ is) in
+        look_changed g (covers q (f s)) c.directories c.loads e table.load_count there ∙ elim (cases_Bool (covers q (f s) e)) [
+          | inl t ↦ (let w' = rw t at w in rw t (changes (load_in c e) _ (omega (arith, old, w'))))
           | inr u ↦ (let w' = rw u at w in rw u (omega (arith, old, w')))
         ]);
   }
 
+  -- a page more of a segment, and some less
+  pub fits_charged : (s : ℕ) → is_segment nodes s ≡ true → Fits nodes (charged c (f s) s)
+  fits_charged s is = fits_with (λ w. w + 1) s (stored_in c s + 1) is (λ w x e. omega arith)
+
   pub fits_credited : (s n : ℕ) → is_segment nodes s ≡ true → n ≤ stored_in c s → Fits nodes (credited c (f s) s n)
-  fits_credited s n is some = record {
-    directories = fits.directories;
-    segments = fits.segments;
-    count = fits.count;
-    loads = λ e there.
-        (let q = quota_in c in
-        let old : load_in c e ≡ load f q c.segments c.stored e = fits.loads e there in
-        let seg : has c.segments s ≡ true = on_segments nodes fits s ∙ is in
-        let w = weigh_with (λ k. covers q (f k) e) c.segments c.stored s (stored_in c s - n) table.stored_count seg in
-        let l = look_changed (λ w. w - n) (covers q (f s)) c.directories c.loads e table.load_count there in
-        l ∙ elim (cases_Bool (covers q (f s) e)) [
-          | inl t ↦ (let w' = rw t at w in rw t (omega (arith, old, w')))
-          | inr u ↦ (let w' = rw u at w in rw u (omega (arith, old, w')))
-        ]);
-  }
+  fits_credited s n is some = fits_with (λ w. w - n) s (stored_in c s - n) is (λ w x e. omega arith)
 
   -- what a stored page of a segment adds to the loads that cover it
   pub stored_below : (s e : ℕ) → has c.directories e ≡ true → covers (quota_in c) (f s) e ≡ true → stored_in c s ≤ load_in c e

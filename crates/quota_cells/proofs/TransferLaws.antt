@@ -1,5 +1,5 @@
 -- The first account above its quota once quota has moved down to a directory, or up from it.
-use Rattle.std.proofs.Common.{◌≡◌, ◌≢◌, ℕ, ◌+◌, ◌-◌, ◌<◌, ◌≤◌, Bool, true, false, cond, eqb, ltb, not, ◌&&◌, ◌||◌, if◌then◌else◌, List, [], ◌∷◌, length, Option, Some, None, Ok, Err, refl, sym, ap, subst, ◌∙◌, arith, get_or, inl, inr, ◌⊎◌}
+use Rattle.std.proofs.Common.{◌≡◌, ◌≢◌, ℕ, ◌+◌, ◌-◌, ◌<◌, ◌≤◌, Bool, true, false, cond, eqb, ltb, not, ◌&&◌, ◌||◌, if◌then◌else◌, List, [], ◌∷◌, length, Option, Some, None, Result, Ok, Err, refl, sym, ap, subst, ◌∙◌, arith, get_or, inl, inr, ◌⊎◌}
 use Rattle.std.proofs.lemmas.Bool.{cases_Bool, cases_eq, cases_lt, both_ways, eqb-true, eq-eqb, ne_eqb, and_parts, or_left, false_from_ne_true, le-ltb, lt-ltb}
 use Rattle.tree_model.specs.Tree.{above, account}
 use Rattle.dir_tree.specs.declared.node.Node.{Node}
@@ -9,6 +9,7 @@ use Rattle.tree_model.specs.Trees.{HasChains, AreUnder, IsChain, EndsAtRoot, Are
 use Rattle.quota_cells.specs.Accounts.{has, covers, is_an_account}
 use Rattle.quota_cells.specs.Cells.{CellMaps, quota_in, load_in, Fits, IsTable, is_over, first_over, move_answer, over_answer, moved}
 use Rattle.tree_model.specs.Quotas.{superior_of, giver_of}
+use Rattle.quota_cells.specs.declared.MoveFault.{MoveFault}
 use Rattle.quota_cells.specs.declared.MoveFault.TheVariants as fault
 use Rattle.quota_cells.proofs.PlaceLaws.{covers_under, covers_not}
 use Rattle.quota_cells.proofs.AccountLaws.{account_is, account_covers, account_of_chain}
@@ -297,3 +298,8 @@ answer_ok c up d b n e = elim (cases_lt (quota_in c (giver_of up d b)) n) [
   | inl lt ↦ (let z : Err fault.TooLittle ≡ Ok tt = rw (lt-ltb (quota_in c (giver_of up d b)) n lt) at e in cc)
   | inr le ↦ (le, none_over (first_over (moved c up d b n)) (rw (le-ltb (quota_in c (giver_of up d b)) n le) at e))
 ]
+
+-- the same of what a call answered, and of the numbers that it was asked with
+pub may_go : (c : CellMaps) (up : ℕ → List ℕ) (d n : ℕ) (down : Bool) {r : Result (Unit {0}) MoveFault} → r ≡ move_answer c up d down n → r ≡ Ok tt → (b : Bool) → down ≡ b → (pages : ℕ) → pages ≡ n
+    → (pages ≤ quota_in c (giver_of up d b)) × (first_over (moved c up d b pages) ≡ None)
+may_go c up d n down answer ok b is pages same = answer_ok c up d b pages (rw same (rw is at (sym answer ∙ ok)))

@@ -1,9 +1,24 @@
 -- What a move of quota is refused for, by the numbers of the directories that can come to be above their quotas.
-use Rattle.std.specs.Prelude.{ℕ, Bool, ◌+◌, ◌-◌, ◌==◌, ◌&&◌, ◌||◌, not, nat_lt, if◌then◌else◌, Result, Ok, Err}
+use Rattle.std.specs.Prelude.{◌≡◌, ◌<◌, ℕ, Bool, true, List, ◌∷◌, ◌+◌, ◌-◌, ◌==◌, ◌&&◌, ◌||◌, not, nat_lt, if◌then◌else◌, Result, Ok, Err}
+use Rattle.tree_model.specs.Tree.{above}
+use Rattle.tree_model.specs.Trees.{HasChains}
+use Rattle.tree_model.specs.Quotas.{superior_of}
+use Rattle.dir_tree.specs.declared.node.Node.{Node}
+use Rattle.dir_tree.specs.Nodes.{is_directory}
+use Rattle.dir_tree.specs.Shape.{shapes}
 use Rattle.quota_cells.specs.declared.directories.Cell.{Cell}
 use Rattle.quota_cells.specs.declared.MoveFault.{MoveFault}
 use Rattle.quota_cells.specs.declared.MoveFault.TheVariants as fault
 use Rattle.quota_cells.specs.Cells.{CellMaps, quota_in, load_in}
+
+-- a directory of the tree lies in this one
+pub record LiesIn (nodes : List Node) (dir superior : ℕ) : Type 0 where
+  pub directory : is_directory nodes dir ≡ true
+  pub is : superior_of (above (shapes nodes)) dir ≡ superior
+  pub chain : above (shapes nodes) dir ≡ superior ∷ above (shapes nodes) superior
+  pub below : superior < dir
+  pub upper : is_directory nodes superior ≡ true
+  pub chains : HasChains (shapes nodes)
 
 -- the numbers of a directory
 abbrev pub cell_in : CellMaps → ℕ → Cell

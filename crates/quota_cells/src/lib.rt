@@ -29,7 +29,7 @@ ghost use Rattle.quota_cells.specs.Cells.{IsTable, quota_in, load_in, stored_in,
 ghost use Rattle.quota_cells.specs.Cells.{charged, credited, charge_fault, has_cell, entered, left, Enters, Leaves, moved};
 ghost use Rattle.quota_cells.specs.Cells.{move_answer, first_over, given, CountsUsed};
 ghost use Rattle.tree_model.specs.Quotas.{superior_of, tree_moved};
-ghost use Rattle.quota_cells.specs.Moves.{cell_in};
+ghost use Rattle.quota_cells.specs.Moves.{LiesIn, cell_in};
 ghost use Rattle.quota_cells.specs.Scratch.{HoldCounts, charge_answer, scratch_answer};
 ghost use Rattle.std.specs.Int.RustNames.{unsigned_abs};
 ghost use Rattle.std.specs.Int.{is_positive};
@@ -103,12 +103,8 @@ impl Model for Cells {
 fn superior_of(t: &Tree, dir: u32) -> u32
     requires directory { is_directory t.now.nodes dir ≡ true }
     requires branch { dir ≢ 1 }
-    ensures is { superior_of (above (shapes t.now.nodes)) dir ≡ result }
-    ensures above { above (shapes t.now.nodes) dir ≡ result ∷ above (shapes t.now.nodes) result }
-    ensures below { result < dir }
-    ensures directory { is_directory t.now.nodes result ≡ true }
+    ensures lies { LiesIn t.now.nodes dir result }
     ensures there { is_in t.now.nodes result ≡ true }
-    ensures chains { HasChains (shapes t.now.nodes) }
 {
     let up = t.superiors(dir);
     up.as_slice()[0]
@@ -365,13 +361,8 @@ impl Cells {
 
     /// What `may_move` gives, by the cells alone.
     fn move_refusal(&self, t: &Tree, dir: u32, superior: u32, amount: i32) -> Result<(), MoveFault>
-        requires directory { is_directory t.now.nodes dir ≡ true }
         requires branch { dir ≢ 1 }
-        requires is { superior_of (above (shapes t.now.nodes)) dir ≡ superior }
-        requires above { above (shapes t.now.nodes) dir ≡ superior ∷ above (shapes t.now.nodes) superior }
-        requires below { superior < dir }
-        requires upper { is_directory t.now.nodes superior ≡ true }
-        requires chains { HasChains (shapes t.now.nodes) }
+        requires lies { LiesIn t.now.nodes dir superior }
         requires amount { 0 < unsigned_abs amount }
         requires fits { Fits t.now.nodes self.now }
         ensures answer { result ≡ move_answer self.now (above (shapes t.now.nodes)) dir (is_positive amount)
@@ -388,12 +379,7 @@ impl Cells {
 
     /// What a move of so many pages of quota from its superior to a directory would be refused for.
     fn may_move_down(&self, t: &Tree, dir: u32, superior: u32, pages: u32) -> Result<(), MoveFault>
-        requires directory { is_directory t.now.nodes dir ≡ true }
-        requires is { superior_of (above (shapes t.now.nodes)) dir ≡ superior }
-        requires above { above (shapes t.now.nodes) dir ≡ superior ∷ above (shapes t.now.nodes) superior }
-        requires below { superior < dir }
-        requires upper { is_directory t.now.nodes superior ≡ true }
-        requires chains { HasChains (shapes t.now.nodes) }
+        requires lies { LiesIn t.now.nodes dir superior }
         requires pages { 0 < pages }
         requires table { IsTable self.now }
         requires fits { Fits t.now.nodes self.now }
@@ -408,13 +394,8 @@ impl Cells {
 
     /// What a move of so many pages of quota from a directory to its superior would be refused for.
     fn may_move_up(&self, t: &Tree, dir: u32, superior: u32, pages: u32) -> Result<(), MoveFault>
-        requires directory { is_directory t.now.nodes dir ≡ true }
         requires branch { dir ≢ 1 }
-        requires is { superior_of (above (shapes t.now.nodes)) dir ≡ superior }
-        requires above { above (shapes t.now.nodes) dir ≡ superior ∷ above (shapes t.now.nodes) superior }
-        requires below { superior < dir }
-        requires upper { is_directory t.now.nodes superior ≡ true }
-        requires chains { HasChains (shapes t.now.nodes) }
+        requires lies { LiesIn t.now.nodes dir superior }
         requires pages { 0 < pages }
         requires table { IsTable self.now }
         requires fits { Fits t.now.nodes self.now }
@@ -458,13 +439,8 @@ impl Cells {
         superior: u32,
         amount: i32,
     ) -> Result<(), MoveFault>
-        requires directory { is_directory t.now.nodes dir ≡ true }
         requires branch { dir ≢ 1 }
-        requires is { superior_of (above (shapes t.now.nodes)) dir ≡ superior }
-        requires above { above (shapes t.now.nodes) dir ≡ superior ∷ above (shapes t.now.nodes) superior }
-        requires below { superior < dir }
-        requires upper { is_directory t.now.nodes superior ≡ true }
-        requires chains { HasChains (shapes t.now.nodes) }
+        requires lies { LiesIn t.now.nodes dir superior }
         requires amount { 0 < unsigned_abs amount }
         requires fits { Fits t.now.nodes self.old }
         ensures answer { result ≡ move_answer self.old (above (shapes t.now.nodes)) dir (is_positive amount)
