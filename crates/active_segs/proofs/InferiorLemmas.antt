@@ -1,7 +1,7 @@
 -- The maps of inferiors after a segment has become active or is so no more, and what their least free number is.
-use Rattle.std.proofs.Common.{◌≡◌, ◌≢◌, ℕ, suc, ◌+◌, ◌-◌, ◌<◌, ◌↔◌, Bool, true, false, List, [], ◌∷◌, ◌++◌, length, replicate, Option, Some, None, IfSome, All, refl, sym, ap, subst, ◌∙◌, arith, set, inl, inr}
+use Rattle.std.proofs.Common.{◌≡◌, ◌≢◌, ℕ, suc, ◌+◌, ◌-◌, ◌<◌, ◌↔◌, Bool, true, false, List, [], ◌∷◌, ◌++◌, length, replicate, Option, Some, None, IfSome, All, refl, sym, ap, subst, ◌∙◌, arith, set, inl, inr, get_or}
 use Rattle.std.proofs.lemmas.Bool.{cases_eq, cases_Bool, both_ways}
-use Rattle.std.proofs.lemmas.List.{get_or-set_same, get_or-set_other, length-set, length-replicate, replicate-append-replicate, append_assoc}
+use Rattle.std.proofs.lemmas.List.{get_or-set_same, get_or-set_other, length-set, length-replicate, replicate-append-replicate, append_assoc, get_or_read}
 use Rattle.std.proofs.Math.Seq.{get_or-append_seam, set-append_seam}
 use Rattle.std.proofs.lemmas.Option.{none-some, same_Some}
 use Rattle.bitmap.specs.Bitmap.{in_use, IsLeastFree as IsFirstFree}
@@ -118,6 +118,10 @@ module _ (xs : List (Option Entry)) (maps : List (List Bool)) (notes : AreNoted 
       }
 
   -- and where none is free there is none
+  -- the map of a place, as it is read
+  pub noted_map : (place : ℕ) (map : List Bool) → place < length xs → map ≡ get_or maps place map → map ≡ map_of maps place
+  noted_map place map lt read = (let many : length maps ≡ length xs = notes.maps in get_or_read maps place map (omega arith) read [])
+
   pub leaf_since_noted : (place : ℕ) → place < length xs → All (λ flag. flag ≡ true) (map_of maps place) → HasNoInferior xs place
   leaf_since_noted place lt all q uid is e =
       let size : length (map_of maps place) ≡ length xs = notes.as_long place lt in

@@ -191,7 +191,7 @@ impl CoreMap {
         ensures frame { self.new ≡ with_frame self.old f (with_modified (frame_at self.old f) false) }
         ensures started { reads_of self.new ≡ reads_of self.old }
     {
-        self.frames[f as usize] = modified_as(self.frames[f as usize], false);
+        self.set_modified(f, false);
     }
 
     /// Turns the modified mark of the bound frame `f` on, and no other. It writes one frame. (Source: own.)
@@ -200,7 +200,16 @@ impl CoreMap {
         ensures frame { self.new ≡ with_frame self.old f (with_modified (frame_at self.old f) true) }
         ensures started { reads_of self.new ≡ reads_of self.old }
     {
-        self.frames[f as usize] = modified_as(self.frames[f as usize], true);
+        self.set_modified(f, true);
+    }
+
+    /// Sets the modified mark of the bound frame `f`, and no other.
+    fn set_modified(&mut self, f: u32, modified: bool)
+        requires { is_bound (frame_at self.old f) ≡ true }
+        ensures frame { self.new ≡ with_frame self.old f (with_modified (frame_at self.old f) modified) }
+        ensures started { reads_of self.new ≡ reads_of self.old }
+    {
+        self.frames[f as usize] = modified_as(self.frames[f as usize], modified);
     }
 
     /// The modified mark of the bound frame `f`. It reads one frame. (Source: Corbató 1968.)

@@ -205,3 +205,8 @@ first_is nodes ps at key sorted below from k within is = elim (cases_order k at)
     | inr after ↦ absurd (from at (omega arith) (omega arith) (subst (λ (x : Key). key_cmp (key_at nodes ps at) x ≡ Less) is (sorted at k after within)))
   ]
 ]
+
+pub branch_at_first : (nodes : List Node) (ps : List ℕ) (at superior : ℕ) (name : List ℕ) → IsSorted nodes ps → ((k : ℕ) → k < at → key_cmp (key_at nodes ps k) (Some superior, name) ≡ Less)
+    → ((k : ℕ) → at ≤ k → k < length ps → key_cmp (key_at nodes ps k) (Some superior, name) ≢ Less) → (place : ℕ) → (there : HasPlace ps place) → is_branch superior name (shape (node_at nodes place)) ≡ true → there.at ≡ at
+branch_at_first nodes ps at superior name sorted below from place there is =
+    first_is nodes ps at (Some superior, name) sorted below from there.at there.within (ap (λ p. key_of (node_at nodes p)) there.is ∙ branch_key superior name (node_at nodes place) is)

@@ -1,11 +1,10 @@
-use Rattle.std.proofs.Common.{◌≡◌, ◌<◌, ◌+◌, List, [], Bool, true, length, ap, subst, ◌∙◌, arith, is_some, All}
+use Rattle.std.proofs.Common.{◌≡◌, ◌+◌, List, Bool, true, ap, subst, is_some, All}
 use Rattle.std.proofs.lemmas.Bool.{true≢false}
-use Rattle.std.proofs.lemmas.List.{get_or_default}
 use Rattle.bitmap.specs.Bitmap.{IsLeastFree as IsFirstFree}
 use Rattle.active_segs.specs.Active.{ActiveSegs, HasShape, IsLeastFree, IsFull}
 use Rattle.active_segs.specs.Kept.{map_of}
 use Rattle.active_segs.specs.Pool.{first_of}
-use Rattle.active_segs.proofs.AstLemmas.{full_since_marked, least_since_marked, not_full, room_since_free, free_within}
+use Rattle.active_segs.proofs.AstLemmas.{marked_map, full_since_marked, least_since_marked, not_full, room_since_free, free_within}
 use Rattle.active_segs.proofs.Ast.free_in.Goals as goal
 
 pub returns-in_err-offset-clause-full : goal.returns-in_err-offset-clause-full
@@ -17,9 +16,7 @@ returns-in_err-offset-clause-full c =
       tables = c.self.inside.tables.items;
     } in
     let used : List (List Bool) = c.self.inside.used.items in
-    let lt : c.args.pool < length used =
-    (let maps : length used ≡ 4 = c.self.invariant.marked.maps in let pool : c.args.pool < 4 = c.requires in omega arith) in
-    let map : c.index.result.now ≡ map_of used c.args.pool = c.index.ensures ∙ get_or_default _ _ _ [] lt in
+    let map : c.index.result.now ≡ map_of used c.args.pool = marked_map c.self.invariant.marked c.args.pool c.index.result.now c.requires c.index.ensures in
     let all : All (λ flag. flag ≡ true) (map_of used c.args.pool) = subst (All (λ (flag : Bool). flag ≡ true)) map c.in_err-offset.ensures.none in
     let full : IsFull c.args.self.now c.args.pool =
     subst (λ (v : ActiveSegs). IsFull v c.args.pool) c.self.view_is (full_since_marked s used c.args.pool c.requires c.self.invariant.marked all) in
@@ -34,9 +31,7 @@ returns-clause-least c =
       tables = c.self.inside.tables.items;
     } in
     let used : List (List Bool) = c.self.inside.used.items in
-    let lt : c.args.pool < length used =
-    (let maps : length used ≡ 4 = c.self.invariant.marked.maps in let pool : c.args.pool < 4 = c.requires in omega arith) in
-    let map : c.index.result.now ≡ map_of used c.args.pool = c.index.ensures ∙ get_or_default _ _ _ [] lt in
+    let map : c.index.result.now ≡ map_of used c.args.pool = marked_map c.self.invariant.marked c.args.pool c.index.result.now c.requires c.index.ensures in
     let first : IsFirstFree (map_of used c.args.pool) c.in_ok-offset.offset =
     subst (λ (m : List Bool). IsFirstFree m c.in_ok-offset.offset) map c.in_ok-offset.ensures.some in
     let least : IsLeastFree s c.args.pool (first_of c.self.inside.sizes c.args.pool + c.in_ok-offset.offset) =

@@ -1,11 +1,9 @@
-use Rattle.std.proofs.Common.{◌≡◌, ◌<◌, List, Bool, [], length, subst, arith, All, true}
-use Rattle.std.proofs.lemmas.List.{get_or_read}
+use Rattle.std.proofs.Common.{◌≡◌, ◌<◌, List, Bool, length, subst, arith, All, true}
 use Rattle.bitmap.specs.Bitmap.{IsLeastFree as IsFirstFree}
 use Rattle.active_segs.specs.Active.{HasNoInferior}
-use Rattle.active_segs.specs.Kept.{map_of}
 use Rattle.active_segs.specs.Victim.{IsLeastInferior}
 use Rattle.active_segs.proofs.EntryLemmas.{used_within}
-use Rattle.active_segs.proofs.InferiorLemmas.{least_since_noted, leaf_since_noted}
+use Rattle.active_segs.proofs.InferiorLemmas.{noted_map, least_since_noted, leaf_since_noted}
 use Rattle.active_segs.proofs.DescentLemmas.{stays, way_begins, way_goes_on, way_ends, way_comes_to}
 use Rattle.active_segs.proofs.victim.leaf_below.Goals as goal
 
@@ -20,10 +18,7 @@ bounds-inferiors-place c =
 pub returns-in-None-clause-is : goal.returns-in-None-clause-is
 returns-in-None-clause-is c =
     let within : c.loop-step.place < length c.args.entries.now = used_within _ _ c.loop-step.invariant.uid c.loop-step.invariant.is in
-    let many : length c.args.inferiors.now ≡ length c.args.entries.now = c.requires.noted.maps in
-    let lt : c.loop-step.place < length c.args.inferiors.now = omega arith in
-    let map : c.index-inferiors-place.result ≡ map_of c.args.inferiors.now c.loop-step.place =
-    get_or_read c.args.inferiors.now c.loop-step.place c.index-inferiors-place.result lt c.index-inferiors-place.is [] in
+    let map = noted_map _ _ c.requires.noted c.loop-step.place c.index-inferiors-place.result within c.index-inferiors-place.is in
     let none : HasNoInferior c.args.entries.now c.loop-step.place =
     leaf_since_noted _ _ c.requires.noted _ within (subst (All (λ (flag : Bool). flag ≡ true)) map c.in-None.ensures.none) in
     way_comes_to _ _ _ _ c.loop-step.invariant none
@@ -31,10 +26,7 @@ returns-in-None-clause-is c =
 pub returns-in-None-clause-stands : goal.returns-in-None-clause-stands
 returns-in-None-clause-stands c =
     let within : c.loop-step.place < length c.args.entries.now = used_within _ _ c.loop-step.invariant.uid c.loop-step.invariant.is in
-    let many : length c.args.inferiors.now ≡ length c.args.entries.now = c.requires.noted.maps in
-    let lt : c.loop-step.place < length c.args.inferiors.now = omega arith in
-    let map : c.index-inferiors-place.result ≡ map_of c.args.inferiors.now c.loop-step.place =
-    get_or_read c.args.inferiors.now c.loop-step.place c.index-inferiors-place.result lt c.index-inferiors-place.is [] in
+    let map = noted_map _ _ c.requires.noted c.loop-step.place c.index-inferiors-place.result within c.index-inferiors-place.is in
     let none : HasNoInferior c.args.entries.now c.loop-step.place =
     leaf_since_noted _ _ c.requires.noted _ within (subst (All (λ (flag : Bool). flag ≡ true)) map c.in-None.ensures.none) in
     c.loop-step.invariant.back _ (stays _ _ none)
@@ -42,10 +34,7 @@ returns-in-None-clause-stands c =
 pub loop-step-preserved : goal.loop-step-preserved
 loop-step-preserved c =
     let within : c.loop-step.place < length c.args.entries.now = used_within _ _ c.loop-step.invariant.uid c.loop-step.invariant.is in
-    let many : length c.args.inferiors.now ≡ length c.args.entries.now = c.requires.noted.maps in
-    let lt : c.loop-step.place < length c.args.inferiors.now = omega arith in
-    let map : c.index-inferiors-place.result ≡ map_of c.args.inferiors.now c.loop-step.place =
-    get_or_read c.args.inferiors.now c.loop-step.place c.index-inferiors-place.result lt c.index-inferiors-place.is [] in
+    let map = noted_map _ _ c.requires.noted c.loop-step.place c.index-inferiors-place.result within c.index-inferiors-place.is in
     let least : IsLeastInferior c.args.entries.now c.loop-step.place c.in-Some.inferior =
     least_since_noted _ _ c.requires.noted _ _ within (subst (λ (m : List Bool). IsFirstFree m c.in-Some.inferior) map c.in-Some.ensures.some) in
     way_goes_on _ _ _ _ _ c.loop-step.invariant least

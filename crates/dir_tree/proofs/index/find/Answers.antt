@@ -1,19 +1,18 @@
-use Rattle.std.proofs.Common.{◌≡◌, ◌<◌, true, false, length, Some, get_or, sym, ap, subst, ◌∙◌, arith, inl, inr}
+use Rattle.std.proofs.Common.{◌≡◌, ◌<◌, true, false, length, get_or, sym, ap, subst, ◌∙◌, arith, inl, inr}
 use Rattle.std.proofs.lemmas.Bool.{cases_Bool, both_ways}
 use Rattle.std.proofs.lemmas.List.{get_or_read}
 use Rattle.tree_model.specs.Tree.{is_branch}
 use Rattle.dir_tree.specs.declared.node.Node.{Node}
 use Rattle.dir_tree.specs.Shape.{shape}
-use Rattle.dir_tree.specs.Index.{node_at, no_node, key_of, key_at}
-use Rattle.dir_tree.proofs.IndexLemmas.{first_is, branch_key}
+use Rattle.dir_tree.specs.Index.{node_at, no_node}
+use Rattle.dir_tree.proofs.IndexLemmas.{branch_at_first}
 use Rattle.dir_tree.proofs.index.find.Goals as goal
 
 pub returns-then-at-places-clause-none : goal.returns-then-at-places-clause-none
 returns-then-at-places-clause-none c place there = elim (cases_Bool (is_branch c.args.superior c.args.name.now (shape (node_at c.args.nodes.now place)))) [
   | inr isnt ↦ isnt
   | inl is ↦
-      (let key : key_at c.args.nodes.now c.args.places.now there.at ≡ (Some c.args.superior, c.args.name.now) = ap (λ p. key_of (node_at c.args.nodes.now p)) there.is ∙ branch_key c.args.superior c.args.name.now (node_at c.args.nodes.now place) is in
-      let same : there.at ≡ c.first_at-at.result = first_is c.args.nodes.now c.args.places.now c.first_at-at.result (Some c.args.superior, c.args.name.now) c.requires.sorted c.first_at-at.ensures.below c.first_at-at.ensures.from there.at there.within key in
+      (let same : there.at ≡ c.first_at-at.result = branch_at_first c.args.nodes.now c.args.places.now c.first_at-at.result c.args.superior c.args.name.now c.requires.sorted c.first_at-at.ensures.below c.first_at-at.ensures.from place there is in
       let within : there.at < length c.args.places.now = there.within in
       absurd (omega arith))
 ]
@@ -22,8 +21,7 @@ pub returns-then-not-has_key-clause-none : goal.returns-then-not-has_key-clause-
 returns-then-not-has_key-clause-none c place there = elim (cases_Bool (is_branch c.args.superior c.args.name.now (shape (node_at c.args.nodes.now place)))) [
   | inr isnt ↦ isnt
   | inl is ↦
-      (let key : key_at c.args.nodes.now c.args.places.now there.at ≡ (Some c.args.superior, c.args.name.now) = ap (λ p. key_of (node_at c.args.nodes.now p)) there.is ∙ branch_key c.args.superior c.args.name.now (node_at c.args.nodes.now place) is in
-      let same : there.at ≡ c.first_at-at.result = first_is c.args.nodes.now c.args.places.now c.first_at-at.result (Some c.args.superior, c.args.name.now) c.requires.sorted c.first_at-at.ensures.below c.first_at-at.ensures.from there.at there.within key in
+      (let same : there.at ≡ c.first_at-at.result = branch_at_first c.args.nodes.now c.args.places.now c.first_at-at.result c.args.superior c.args.name.now c.requires.sorted c.first_at-at.ensures.below c.first_at-at.ensures.from place there is in
       let within : there.at < length c.args.places.now = there.within in
       let at : get_or c.args.places.now c.first_at-at.result 0 ≡ place = subst (λ k. get_or c.args.places.now k 0 ≡ place) same there.is in
       let node : c.index-nodes-place.result ≡ node_at c.args.nodes.now (get_or c.args.places.now c.first_at-at.result 0) = get_or_read c.args.nodes.now _ c.index-nodes-place.result (c.requires.within c.first_at-at.result (subst (λ k. k < length c.args.places.now) same within)) c.index-nodes-place.is no_node in

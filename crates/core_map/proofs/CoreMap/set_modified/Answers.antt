@@ -1,7 +1,7 @@
 use Rattle.std.proofs.Common.{◌∙◌, ap}
 use Rattle.core_map.specs.CoreMap.{is_taken, started_page}
 use Rattle.core_map.proofs.Frames.{tied_same, kept_by, started_modified, taken_modified}
-use Rattle.core_map.proofs.CoreMap.cleaned.Goals as goal
+use Rattle.core_map.proofs.CoreMap.set_modified.Goals as goal
 
 pub invariant_of-self : goal.invariant_of-self
 invariant_of-self c =
