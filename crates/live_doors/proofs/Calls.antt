@@ -1,29 +1,18 @@
 -- What a call leaves, from what its step told.
-use Rattle.std.proofs.Common.{◌≡◌, ◌≢◌, ℕ, suc, zero, ◌+◌, ◌*◌, ◌/◌, ◌%◌, ◌<◌, ◌≤◌, List, [], ◌∷◌, ◌++◌, length, Option, Some, None, refl, sym, ap, subst, ◌∙◌, arith, get_or, take, drop, set, All, IsTrue, is_some, ◌↔◌}
+use Rattle.std.proofs.Common.{◌≡◌, ◌≢◌, ℕ, suc, zero, ◌+◌, ◌<◌, ◌≤◌, List, [], ◌∷◌, ◌++◌, length, Option, None, refl, sym, ap, subst, ◌∙◌, arith, get_or, take, drop, All}
 use mathlib.Core.Logic.{dite}
 use native.Mathlib.Decide.{ℕ_discrete}
-use Rattle.std.proofs.lemmas.Option.{none-some}
 use Rattle.std.proofs.lemmas.List.Elements.{All-append}
-use Rattle.std.proofs.lemmas.List.{get_or_default, length-replicate, get_or-set_same, get_or-set_other, length-set}
-use Rattle.std.proofs.lemmas.Bool.{eq-eqb, ne_eqb}
-use Rattle.std.proofs.lemmas.Grind.{get_or_default_zero, common_steps}
+use Rattle.std.proofs.lemmas.List.{length-replicate, get_or-set_same, get_or-set_other}
+use Rattle.std.proofs.lemmas.Grind.{common_steps}
 use Rattle.atomic_table.specs.Table.{Me}
 use Rattle.atomic_table.specs.Seated.{TableId}
 use Rattle.live_doors.specs.declared.views.Walk.{Walk}
 use Rattle.live_doors.specs.declared.views.Watch.{Watch}
 use Rattle.live_doors.specs.declared.views.View.{View}
 use Rattle.live_doors.specs.declared.views.View.TheVariants.{Walking, Keeping}
-use Rattle.live_doors.specs.Doors.{blank, first_passes, DoorsModel, PassModel, KeeperModel, IsPassOf, IsKeeperOf, OnlyNoted, HasNoted, having_read, holding, having_noted}
-use Rattle.live_doors.specs.Steps.{PassFits, KeeperFits, filled_if, filled, walk_of, watch_of}
-
--- a fill that finds an odd word only notes it
-pub filled_odd : (f n : ℕ) (p : Walk) → n % 2 ≡ 1 → filled f n p ≡ having_read n p
-filled_odd f n p odd = ap (λ b. filled_if b f n p) (ne_eqb (n % 2) 0 (λ e. omega arith))
-
--- a fill that finds an even one holds the entry of its half
-pub filled_even : (f n : ℕ) (p : Walk) → n % 2 ≢ 1 → filled f n p ≡ holding f (n / 2) (having_read (2 * (n / 2)) p)
-filled_even f n p even = let h : n ≡ 2 * (n / 2) = omega arith in let e : n % 2 ≡ 0 = omega arith in
-    ap (λ b. filled_if b f n p) (eq-eqb (n % 2) 0 e) ∙ ap (λ k. holding f (n / 2) (having_read k p)) h
+use Rattle.live_doors.specs.Doors.{blank, first_passes, DoorsModel, PassModel, KeeperModel, IsPassOf, IsKeeperOf, OnlyNoted, HasNoted, having_noted}
+use Rattle.live_doors.specs.Steps.{PassFits, KeeperFits, walk_of, watch_of}
 
 -- a pass whose fields are those of its view
 pub pass_fits : (m : Me (Unit {0}) View) (q : Walk) (cpu : ℕ) (held : List (Option ℕ)) (stamp : ℕ) → m ≡ (Walking q, []) → cpu ≡ q.cpu → held ≡ q.held
@@ -39,15 +28,6 @@ pass_stays_of doors now t t' m m' q view ok same is row cpu = record {
   frames = ap (λ x. length (walk_of x.0).held) is ∙ row ∙ ap (λ v. length v.walk.held) view ∙ ok.frames;
   cpu = subst (λ k. k < doors.cpus) (sym (ap (λ x. (walk_of x.0).cpu) is ∙ cpu ∙ ap (λ v. v.walk.cpu) view)) ok.cpu;
 }
-
--- each acknowledgement that was noted is still at least the stamp
-pub noted_still : (w : Watch) (c n stamp : ℕ) → HasNoted w stamp → get_or w.noted c 0 ≤ n → HasNoted (having_noted c n w) stamp
-noted_still w c n stamp all low d inside =
-    let l = length-set w.noted c n in
-    dite (ℕ_discrete d c)
-    (λ (same : d ≡ c). let h : get_or (set w.noted c n) d 0 ≡ n = subst (λ k. get_or (set w.noted c n) k 0 ≡ n) (sym same)
-    (get_or-set_same w.noted c n 0 (omega arith)) in let old = all c (omega arith) in omega arith)
-    (λ (other : d ≢ c). subst (λ k. stamp ≤ k) (sym (get_or-set_other w.noted c d n 0 other)) (all d (omega arith)))
 
 -- a keeper whose fields are those of its view
 pub keeper_fits : (m : Me (Unit {0}) View) (w : Watch) (request : ℕ) (doors since : List ℕ) (cleared : ℕ) → m ≡ (Keeping w, []) → request ≡ w.request
@@ -68,14 +48,6 @@ keeper_stays_of doors now t t' cleared cleared' m m' w view ok same is a b c = r
   since = ap (λ x. length (watch_of x.0).since) is ∙ b ∙ ap (λ v. length v.watch.since) view ∙ ok.since;
   cpus = ap (λ x. length (watch_of x.0).noted) is ∙ c ∙ ap (λ v. length v.watch.noted) view ∙ ok.cpus;
 }
-
--- a word that was read from a row
-pub word_of : (xs ys : List ℕ) (i x : ℕ) → x ≡ get_or xs i x → xs ≡ ys → i < length xs → x ≡ get_or ys i 0
-word_of xs ys i x is same inside = is ∙ get_or_default_zero xs i x inside ∙ ap (λ l. get_or l i 0) same
-
--- a door's next word
-pub next_word : (xs ys : List ℕ) (i x : ℕ) → x ≡ get_or xs i x → xs ≡ ys → i < length xs → x + 1 ≡ get_or ys i 0 + 1
-next_word xs ys i x is same inside = ap (λ k. k + 1) (word_of xs ys i x is same inside)
 
 -- what the keeper has noted once it has read the acknowledgements of the first few processors, each at least the stamp
 pub record ClearSoFar (doors : DoorsModel) (old now : KeeperModel) (stamp cpu : ℕ) : Type 0 where
@@ -133,15 +105,6 @@ all_first doors (suc n) few = All-append (IsPassOf doors) (first_passes doors n)
 
 pub all_first_at : (doors : DoorsModel) (passes : List PassModel) (n : ℕ) → passes ≡ first_passes doors n → n ≡ doors.cpus → All (IsPassOf doors) passes
 all_first_at doors passes n is all = subst (All (IsPassOf doors)) (sym is) (all_first doors n (omega arith))
-
--- what is found at a place is an entry exactly where the pass holds one there
-pub holds_entry : (xs ys : List (Option ℕ)) (f : ℕ) (o : Option ℕ) → o ≡ get_or xs f o → xs ≡ ys → f < length ys
-    → IsTrue (is_some o) ↔ ((b : ℕ) × (get_or ys f None ≡ Some b))
-holds_entry xs ys f o is same inside = cases o (is ∙ ap (λ l. get_or l f o) same ∙ get_or_default ys f o None inside)
-  where
-    cases : (u : Option ℕ) → u ≡ get_or ys f None → IsTrue (is_some u) ↔ ((b : ℕ) × (get_or ys f None ≡ Some b))
-    cases (Some b) e = (λ _. (b, sym e), λ _. refl)
-    cases None e = (λ never. absurd (cc), λ t. absurd (none-some t.0 (e ∙ t.1)))
 
 -- a slice that was written whole
 pub written_whole : (new items : List ℕ) (n : ℕ) → n ≡ length items → length new ≡ length items → take n (new ++ drop (length new) items) ≡ new

@@ -5,7 +5,6 @@ use lib.ListN.{get_elem?}
 use Rattle.std.proofs.lemmas.List.{set-get_or, length-replicate, length-append, get_or-replicate, get_or_append_left, get_or-append-add, ext_get_or}
 use Rattle.std.proofs.lemmas.Bool.{eq-eqb, ne_eqb}
 use Rattle.atomic_table.specs.Table.{State, Me, step, keeps, Allows, Splits, Joins, Final, Seen}
-use Rattle.atomic_table.proofs.Lists.{at_set}
 use Rattle.live_doors.specs.declared.rule.Size.{Size}
 use Rattle.live_doors.specs.declared.views.Walk.{Walk}
 use Rattle.live_doors.specs.declared.views.Watch.{Watch}
@@ -14,14 +13,7 @@ use Rattle.live_doors.specs.declared.views.View.TheVariants.{Walking, Keeping, S
 use Rattle.live_doors.specs.Doors.{IsShut, blank, first_watch, forgotten, acknowledged, shut, raised, having_noted}
 use Rattle.live_doors.specs.Steps.{door_at, ack_at, first_words, filled_if, filled, walk_of, watch_of, Fills, Forgets, Acknowledges, Closes, Raises, Looks, keeper_with_pass, pass_of_keeper}
 use Rattle.live_doors.specs.Kept.{PlanOk, PassOk, SeatOk, Kept, NotedIsClear, NeverBoundHasNoHolder, MayBindHasNoHolder}
-use Rattle.live_doors.proofs.Plain.{filled_ok, forgotten_ok, plan_acknowledged, acknowledged_ok, pass_stays, plan_shut, pass_shut, plan_raised, pass_raised, plan_noted, pass_noted, plan_admits, pass_admits, blank_ok, entry_gone, entry_never}
-
--- after a change of one seat's view, each seat is in order, if that one is and the others were
-pub seats_stay : {V : Type 0} (K : ℕ → V → Type 0) (views : List V) (me : ℕ) (w : V) → K me w → ((j : ℕ) (v : V) → j ≢ me → get_elem? views j ≡ some v → K j v)
-    → (j : ℕ) (v : V) → get_elem? (set views me w) j ≡ some v → K j v
-seats_stay {V} K views me w mine others j v e =
-    ⊎_elim (λ (t : (j ≡ me) × (w ≡ v)). subst (λ (x : ℕ × V). K x.0 x.1) (λ i. (sym t.0 i, t.1 i)) mine)
-    (λ (t : (j ≢ me) × (get_elem? views j ≡ some v)). others j v t.0 t.1) (at_set views me j w v e)
+use Rattle.live_doors.specs.Laws.{filled_ok, forgotten_ok, plan_acknowledged, acknowledged_ok, pass_stays, plan_shut, pass_shut, plan_raised, pass_raised, plan_noted, pass_noted, plan_admits, pass_admits, blank_ok, entry_gone, entry_never, seats_stay}
 
 abbrev Board : Type 0
 Board = State (Unit {0}) View

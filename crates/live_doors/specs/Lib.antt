@@ -1,3 +1,4 @@
 pub mod Doors
 pub mod Steps
 pub mod Kept
+pub mod Laws

@@ -1,5 +1,5 @@
 -- The steps at seats that are known to be a pass's or the keeper's, and what a call leaves.
-use Rattle.std.proofs.Common.{◌≡◌, ◌≢◌, ℕ, suc, zero, ◌+◌, ◌*◌, ◌%◌, ◌^◌, ◌<◌, ◌≤◌, eqb, List, [], ◌∷◌, ◌++◌, length, replicate, Option, Some, None, refl, sym, ap, subst, ◌∙◌, arith, get_or, All, map}
+use Rattle.std.proofs.Common.{◌≡◌, ◌≢◌, ℕ, suc, zero, ◌+◌, ◌*◌, ◌%◌, ◌^◌, ◌<◌, ◌≤◌, eqb, List, [], ◌∷◌, ◌++◌, length, replicate, Option, Some, None, refl, sym, ap, subst, ◌∙◌, arith, get_or, All, map, ◌/◌}
 use mathlib.Core.Option as M
 use mathlib.Core.Logic.{dite}
 use native.Mathlib.Decide.{ℕ_discrete}
@@ -11,8 +11,9 @@ use Rattle.atomic_table.proofs.Lists.{at_last, at_longer}
 use lib.ListN.{get_elem?}
 use Rattle.std.proofs.lemmas.List.Elements.{All-append}
 use Rattle.atomic_table.specs.Seated.{TableId}
-use Rattle.live_doors.specs.Doors.{HasNoted, MayBind, having_noted, OnlyNoted}
-use Rattle.live_doors.specs.Steps.{ack_at}
+use Rattle.live_doors.specs.Doors.{HasNoted, MayBind, having_noted, OnlyNoted, having_read, holding}
+use Rattle.live_doors.specs.Steps.{ack_at, filled}
+use Rattle.live_doors.specs.Laws.{filled_odd, filled_even}
 use Rattle.live_pages.specs.declared.rule.Held.{Held}
 use Rattle.live_pages.specs.declared.rule.Size.{Size}
 use Rattle.live_pages.specs.declared.touch.Touch.{Touch}
@@ -22,7 +23,7 @@ use Rattle.live_pages.specs.declared.views.Holder.{Holder}
 use Rattle.live_pages.specs.declared.views.View.{View}
 use Rattle.live_pages.specs.declared.views.View.TheVariants.{Passing, Keeping}
 use Rattle.live_pages.specs.Touches.{touched, answer}
-use Rattle.live_pages.specs.Turns.{Seat, opening_words, first_holder, first_walker, keeper_with_pass, pass_of_keeper, bound_anew, having_made, turn_at, ticket_at, current, watching, walker_of, holder_of, Fills, Forgets, Acknowledges, Closes, Raises, Looks, Takes, Draws, Gives, KeeperTakes, Binds, KeeperGives}
+use Rattle.live_pages.specs.Turns.{Seat, opening_words, first_holder, first_walker, keeper_with_pass, pass_of_keeper, bound_anew, having_made, turn_at, ticket_at, current, watching, walker_of, holder_of, Fills, Forgets, Acknowledges, Closes, Raises, Looks, Takes, Draws, Gives, KeeperTakes, Binds, KeeperGives, walking}
 use Rattle.live_pages.specs.Models.{PassFits, KeeperFits, PagesModel, PassModel, KeeperModel, IsPassOf, IsKeeperOf, SameButWatch, HasInHand, touched_in_hand, rebound, HaveZeroPages, first_passes, AreAll}
 use Rattle.live_pages.proofs.Quiet.{InOrder, fills, forgets, acknowledges, closes, raises, looks}
 use Rattle.live_pages.proofs.Turning.{with_hand, takes_turn, gives_turn, keeper_takes, keeper_gives}
@@ -229,25 +230,41 @@ self_form m w cs is = is ∙ ap (λ x. (Passing (walker_of x.0), cs)) (sym is)
 pub keeper_form : (m : Seat) (k : Holder) (cs : List (ℕ × Option Held)) → m ≡ (Keeping k, cs) → m ≡ (Keeping (holder_of m.0), cs)
 keeper_form m k cs is = is ∙ ap (λ x. (Keeping (holder_of x.0), cs)) (sym is)
 
+-- what a step told of a seat that had nothing in hand
+pub told_alone : {m m' : Seat} {v w : View} → m ≡ (v, []) → m' ≡ (w, m.1) → m' ≡ (w, [])
+told_alone {m} {m'} {v} {w} is told = told ∙ ap (λ cs. (w, cs)) (ap (λ x. x.1) is)
+
+pub told_with : {m m' : Seat} {v w : View} {x : ℕ × Option Held} → m ≡ (v, []) → m' ≡ (w, x ∷ m.1) → m' ≡ (w, x ∷ [])
+told_with {m} {m'} {v} {w} {x} is told = told ∙ ap (λ cs. (w, x ∷ cs)) (ap (λ x. x.1) is)
+
+-- a fill's look at a door that is closed, and at an open one
+pub closed_read : {m m' : Seat} (f word : ℕ) → m ≡ (Passing (walker_of m.0), []) → m' ≡ (Passing (walking (filled f word) (walker_of m.0)), m.1) → word % 2 ≡ 1
+    → m' ≡ (Passing (walking (having_read word) (walker_of m.0)), [])
+closed_read {m} {m'} f word is told odd = told_alone is told ∙ ap (λ q. (Passing (record (walker_of m.0) { walk = q }), [])) (filled_odd f word (walker_of m.0).walk odd)
+
+pub open_read : {m m' : Seat} (f word : ℕ) → m ≡ (Passing (walker_of m.0), []) → m' ≡ (Passing (walking (filled f word) (walker_of m.0)), m.1) → word % 2 ≢ 1
+    → m' ≡ (Passing (walking (λ p. holding f (word / 2) (having_read (2 * (word / 2)) p)) (walker_of m.0)), [])
+open_read {m} {m'} f word is told even = told_alone is told ∙ ap (λ q. (Passing (record (walker_of m.0) { walk = q }), [])) (filled_even f word (walker_of m.0).walk even)
+
 -- what lies in the slot in hand after two exchanges
-pub exchanged_twice : (m m1 m2 : Seat) (v : View) (f : ℕ) (h new : Option Held) → m ≡ (v, (f, h) ∷ []) → m1 ≡ (m.0, (f, None) ∷ rest m.1)
+pub exchanged_twice : {m m1 m2 : Seat} {v : View} {f : ℕ} {h new : Option Held} → m ≡ (v, (f, h) ∷ []) → m1 ≡ (m.0, (f, None) ∷ rest m.1)
     → m2 ≡ (m1.0, (f, new) ∷ rest m1.1) → m2 ≡ (v, (f, new) ∷ [])
-exchanged_twice m m1 m2 v f h new is one two = two ∙ ap (λ x. (x.0, (f, new) ∷ rest x.1)) one ∙ ap (λ x. (x.0, (f, new) ∷ rest x.1)) is
+exchanged_twice {m} {m1} {m2} {v} {f} {h} {new} is one two = two ∙ ap (λ x. (x.0, (f, new) ∷ rest x.1)) one ∙ ap (λ x. (x.0, (f, new) ∷ rest x.1)) is
 
 abbrev slot_of : List (ℕ × Option Held) → Option Held
 slot_of [] = None
 slot_of (x ∷ xs) = x.1
 
 -- what was found in the slot is what lay there
-pub found_in_slot : (m : Seat) (v : View) (f : ℕ) (h found : Option Held) → m ≡ (v, (f, h) ∷ []) → m.1 ≡ (f, found) ∷ rest m.1 → found ≡ h
-found_in_slot m v f h found is there = ap slot_of (sym there ∙ ap (λ x. x.1) is)
+pub found_in_slot : {m : Seat} {v : View} {f : ℕ} {h found : Option Held} → m ≡ (v, (f, h) ∷ []) → m.1 ≡ (f, found) ∷ rest m.1 → found ≡ h
+found_in_slot is there = ap slot_of (sym there ∙ ap (λ x. x.1) is)
 
 abbrev held_in : Held → Option Held → Held
 held_in d None = d
 held_in d (Some h) = h
 
-pub same_held : (a b : Held) → Some a ≡ Some b → a ≡ b
-same_held a b e = ap (held_in a) e
+pub same_held : {a b : Held} → Some a ≡ Some b → a ≡ b
+same_held {a} {b} e = ap (held_in a) e
 
 module _ (z : Size) (slots id : ℕ) (m : Seat) (all : slots ≡ z.frames) where
   pub draws_in_hand : (i f : ℕ) (w : Walker) (hd : Held) (page : List ℕ) → m ≡ (Passing w, (f, Some hd) ∷ []) → z.cpus ≤ 8 → w.hand ≡ Has f page
@@ -263,10 +280,10 @@ module _ (z : Size) (slots id : ℕ) (m : Seat) (all : slots ≡ z.frames) where
       ∙ has) place
 
 -- the pass after its touch has drawn the ticket
-pub drawn : (m m' : Seat) (w : Walker) (f ticket : ℕ) (hd : Held) → m ≡ (Passing w, (f, Some hd) ∷ [])
+pub drawn : {m m' : Seat} {w : Walker} {f ticket : ℕ} {hd : Held} → m ≡ (Passing w, (f, Some hd) ∷ [])
     → m' ≡ (Passing (having_made ticket f hd.touch hd.word hd.page (walker_of m.0)), m.1)
     → m' ≡ (Passing (having_made ticket f hd.touch hd.word hd.page w), (f, Some hd) ∷ [])
-drawn m m' w f ticket hd is told = told ∙ ap (λ x. (Passing (having_made ticket f hd.touch hd.word hd.page (walker_of x.0)), x.1)) is
+drawn {m} {m'} {w} {f} {ticket} {hd} is told = told ∙ ap (λ x. (Passing (having_made ticket f hd.touch hd.word hd.page (walker_of x.0)), x.1)) is
 
 -- and after it has given the turn back
 pub given_back : (m m' : Seat) (w : Walker) (f ticket word : ℕ) (t : Touch) (hd : Held)
@@ -280,11 +297,11 @@ given_back m m' w f ticket word t hd is told touch_is word_is = told ∙ ap (λ 
     freed u = record u { hand = Free }
 
 -- what lies in the slot in hand
-pub slot_in_hand : (m : Seat) (v : View) (f : ℕ) (h : Option Held) → m ≡ (v, (f, h) ∷ []) → (old : Option Held) × (m.1 ≡ (f, old) ∷ rest m.1)
-slot_in_hand m v f h is = (h, ap (λ x. x.1) is ∙ ap (λ x. (f, h) ∷ rest x.1) (sym is))
+pub slot_in_hand : {m : Seat} {v : View} {f : ℕ} {h : Option Held} → m ≡ (v, (f, h) ∷ []) → (old : Option Held) × (m.1 ≡ (f, old) ∷ rest m.1)
+slot_in_hand {m} {v} {f} {h} is = (h, ap (λ x. x.1) is ∙ ap (λ x. (f, h) ∷ rest x.1) (sym is))
 
-pub none_is : (h : Held) → None ≡ Some h → ⊥
-none_is h e = none-some h e
+pub none_is : {h : Held} → None ≡ Some h → ⊥
+none_is {h} e = none-some h e
 
 module _ (z : Size) (slots id : ℕ) (m : Seat) (all : slots ≡ z.frames) where
   pub binds_in_hand : (f n cleared : ℕ) (k : Holder) (hd : Held) (page : List ℕ) → m ≡ (Keeping k, (f, Some hd) ∷ []) → k.hand ≡ Has f page
@@ -301,16 +318,16 @@ module _ (z : Size) (slots id : ℕ) (m : Seat) (all : slots ≡ z.frames) where
       (ap (λ x. (holder_of x.0).hand) is ∙ has) place
 
 -- the keeper's seat after the door has admitted the next binding
-pub bound_now : (m m' : Seat) (k : Holder) (f : ℕ) (hd : Held) → m ≡ (Keeping k, (f, Some hd) ∷ []) → m' ≡ (Keeping (bound_anew f hd.page (holder_of m.0)), m.1)
+pub bound_now : {m m' : Seat} {k : Holder} {f : ℕ} {hd : Held} → m ≡ (Keeping k, (f, Some hd) ∷ []) → m' ≡ (Keeping (bound_anew f hd.page (holder_of m.0)), m.1)
     → m' ≡ (Keeping (bound_anew f hd.page k), (f, Some hd) ∷ [])
-bound_now m m' k f hd is told = told ∙ ap (λ x. (Keeping (bound_anew f hd.page (holder_of x.0)), x.1)) is
+bound_now {m} {m'} {k} {f} {hd} is told = told ∙ ap (λ x. (Keeping (bound_anew f hd.page (holder_of x.0)), x.1)) is
 
 -- and after the turn was given back
-pub rebound_now : (m m' : Seat) (k : Holder) (f : ℕ) (page left : List ℕ) (hd : Held)
+pub rebound_now : {m m' : Seat} (k : Holder) {f : ℕ} (page left : List ℕ) {hd : Held}
     → m ≡ (Keeping (bound_anew f page (record k { hand = Has f left })), (f, Some hd) ∷ []) → m' ≡ (Keeping (record (holder_of m.0) { hand = Free }), [])
     → k.hand ≡ Free
     → m' ≡ (Keeping (rebound f page left k), [])
-rebound_now m m' k f page left hd is told free = told ∙ ap (λ x. (Keeping (with_hand Free (holder_of x.0)), [])) is
+rebound_now {m} {m'} k {f} page left {hd} is told free = told ∙ ap (λ x. (Keeping (with_hand Free (holder_of x.0)), [])) is
     ∙ (λ i. (Keeping (with_hand (sym free i) (rebound f page left k)), []))
 
 module _ (z : Size) where

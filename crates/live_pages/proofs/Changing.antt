@@ -13,7 +13,7 @@ use Rattle.live_doors.specs.declared.views.Watch.{Watch}
 use Rattle.live_doors.specs.Doors.{HasNoted, MayBind}
 use Rattle.live_doors.specs.Steps.{door_at, ack_at}
 use Rattle.live_doors.specs.Kept.{EntryOk, PlanOk, PassOk}
-use Rattle.live_doors.proofs.Keeps.{seats_stay}
+use Rattle.live_doors.specs.Laws.{seats_stay}
 use Rattle.live_pages.specs.declared.rule.Held.{Held}
 use Rattle.live_pages.specs.declared.rule.Size.{Size}
 use Rattle.live_pages.specs.declared.touch.Made.{Made}

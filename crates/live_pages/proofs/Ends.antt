@@ -10,8 +10,7 @@ use Rattle.atomic_table.proofs.Lists.{set_again, at_set, set_else, at_map}
 use Rattle.live_doors.specs.Doors.{blank, first_watch, HasNoted, HoldsEntry, MayBind}
 use Rattle.live_doors.specs.Steps.{door_at, ack_at, first_words}
 use Rattle.live_doors.specs.Kept.{PassOk}
-use Rattle.live_doors.proofs.Plain.{plan_admits, pass_admits, blank_ok}
-use Rattle.live_doors.proofs.Keeps.{seats_stay}
+use Rattle.live_doors.specs.Laws.{plan_admits, pass_admits, blank_ok, seats_stay}
 use Rattle.live_doors.specs.declared.views.Walk.{Walk}
 use Rattle.live_pages.specs.declared.rule.Held.{Held}
 use Rattle.live_pages.specs.declared.rule.Size.{Size}

@@ -14,8 +14,7 @@ use Rattle.live_doors.specs.declared.views.Watch.{Watch}
 use Rattle.live_doors.specs.Doors.{having_read, HasNoted, IsShut, MayBind}
 use Rattle.live_doors.specs.Steps.{door_at, ack_at}
 use Rattle.live_doors.specs.Kept.{PlanOk, PassOk}
-use Rattle.live_doors.proofs.Plain.{pass_stays, read_ok, entry_gone, entry_never}
-use Rattle.live_doors.proofs.Keeps.{seats_stay}
+use Rattle.live_doors.specs.Laws.{pass_stays, read_ok, entry_gone, entry_never, seats_stay}
 use Rattle.live_pages.specs.declared.rule.Held.{Held}
 use Rattle.live_pages.specs.declared.rule.Size.{Size}
 use Rattle.live_pages.specs.declared.touch.Made.{Made}

@@ -1,6 +1,6 @@
 use Rattle.std.proofs.Common.{rules}
 use Rattle.live_doors.proofs.Keeps.{closes_at}
-use Rattle.live_doors.proofs.Calls.{next_word}
+use Rattle.live_doors.specs.Laws.{next_word}
 use Rattle.live_doors.proofs.doors.LiveDoors.close_door.Goals as goal
 
 pub store-requires : goal.store-requires

@@ -4,7 +4,8 @@ use Rattle.live_doors.specs.Doors.{having_read, holding}
 use Rattle.live_doors.specs.declared.views.View.TheVariants.{Walking}
 use Rattle.live_doors.specs.Steps.{walk_of}
 use Rattle.live_doors.proofs.Keeps.{fills_at}
-use Rattle.live_doors.proofs.Calls.{filled_odd, filled_even, pass_fits, pass_stays_of}
+use Rattle.live_doors.proofs.Calls.{pass_fits, pass_stays_of}
+use Rattle.live_doors.specs.Laws.{filled_odd, filled_even}
 use Rattle.live_doors.proofs.doors.LiveDoors.fill.Goals as goal
 
 pub load-word-requires : goal.load-word-requires

@@ -2,7 +2,8 @@ use Rattle.std.proofs.Common.{rules, refl}
 use Rattle.std.proofs.lemmas.List.{length-set}
 use Rattle.live_doors.specs.Steps.{watch_of}
 use Rattle.live_doors.proofs.Keeps.{looks_at}
-use Rattle.live_doors.proofs.Calls.{noted_still, keeper_fits, keeper_stays_of}
+use Rattle.live_doors.proofs.Calls.{keeper_fits, keeper_stays_of}
+use Rattle.live_doors.specs.Laws.{noted_still}
 use Rattle.live_doors.proofs.doors.LiveDoors.look.Goals as goal
 
 pub load-requires : goal.load-requires

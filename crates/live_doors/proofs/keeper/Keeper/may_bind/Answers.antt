@@ -1,7 +1,7 @@
 use Rattle.std.proofs.Common.{rules, ◌<◌, ◌%◌, subst, sym, ap, ◌∙◌, inr, arith}
 use Rattle.std.proofs.lemmas.Bool.Decides.{nat_tests}
 use Rattle.live_doors.specs.Doors.{HasNoted}
-use Rattle.live_doors.proofs.Calls.{word_of}
+use Rattle.live_doors.specs.Laws.{word_of}
 use Rattle.live_doors.proofs.Keeps.{may_bind_is_free, never_bound}
 use Rattle.live_doors.proofs.keeper.Keeper.may_bind.Goals as goal
 

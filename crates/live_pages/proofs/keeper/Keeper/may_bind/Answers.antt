@@ -1,7 +1,7 @@
 use Rattle.std.proofs.Common.{rules, ◌<◌, ◌%◌, subst, sym, ap, ◌∙◌, inl, inr, arith}
 use Rattle.std.proofs.lemmas.Bool.Decides.{nat_tests}
 use Rattle.live_doors.specs.Doors.{HasNoted}
-use Rattle.live_doors.proofs.Calls.{word_of}
+use Rattle.live_doors.specs.Laws.{word_of}
 use Rattle.live_pages.proofs.Ends.{may_bind_is_free}
 use Rattle.live_pages.proofs.keeper.Keeper.may_bind.Goals as goal
 

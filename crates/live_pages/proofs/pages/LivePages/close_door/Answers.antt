@@ -1,5 +1,5 @@
 use Rattle.std.proofs.Common.{rules}
-use Rattle.live_doors.proofs.Calls.{next_word}
+use Rattle.live_doors.specs.Laws.{next_word}
 use Rattle.live_pages.proofs.Calls.{closes_at}
 use Rattle.live_pages.proofs.pages.LivePages.close_door.Goals as goal
 

@@ -1,11 +1,8 @@
-use Rattle.std.proofs.Common.{rules, ◌*◌, ◌/◌, [], set, Some, ap, refl, ◌∙◌, arith}
+use Rattle.std.proofs.Common.{rules, ◌*◌, ◌/◌, set, Some, ap, refl, ◌∙◌, arith}
 use Rattle.std.proofs.lemmas.List.{length-set}
 use Rattle.live_doors.specs.Doors.{having_read, holding}
-use Rattle.live_doors.specs.Steps.{filled}
-use Rattle.live_doors.proofs.Calls.{filled_odd, filled_even}
-use Rattle.live_pages.specs.declared.views.View.TheVariants.{Passing}
 use Rattle.live_pages.specs.Turns.{walking, walker_of}
-use Rattle.live_pages.proofs.Calls.{fills_at, pass_fits, pass_stays_of}
+use Rattle.live_pages.proofs.Calls.{closed_read, open_read, fills_at, pass_fits, pass_stays_of}
 use Rattle.live_pages.proofs.pages.LivePages.fill.Goals as goal
 
 pub load-word-requires : goal.load-word-requires
@@ -17,53 +14,35 @@ load-word-requires c = (
 )
 
 pub invariant_of-pass : goal.invariant_of-pass
-invariant_of-pass c = pass_fits c.load-word.new.seat.me _ _ _ _ (((c.load-word.ensures.2 c.args.f c.door_word.ensures).1
-    ∙ ap (λ cs. (Passing (walking (filled c.args.f c.load-word.result) (walker_of c.pass.inside.seat.me.0)), cs)) (ap (λ m. m.1) c.pass.invariant.seat))
-    ∙ ap (λ q. (Passing (record (walker_of c.pass.inside.seat.me.0) { walk = q }), []))
-    (filled_odd c.args.f c.load-word.result (walker_of c.pass.inside.seat.me.0).walk (search rules))) c.pass.invariant.hand c.pass.invariant.cpu
+invariant_of-pass c = pass_fits c.load-word.new.seat.me _ _ _ _ (closed_read c.args.f c.load-word.result c.pass.invariant.seat (c.load-word.ensures.2 c.args.f c.door_word.ensures).1 (search rules)) c.pass.invariant.hand c.pass.invariant.cpu
     c.pass.invariant.held c.pass.invariant.stamp
 
 pub returns-then-word-eq1-clause-pass : goal.returns-then-word-eq1-clause-pass
 returns-then-word-eq1-clause-pass c =
     pass_stays_of c.args.self.now c.args.pass.now _ c.load-word.new.seat.table_id c.pass.inside.seat.me c.load-word.new.seat.me _ c.pass.view_is c.requires.pass
     c.load-word.ensures.0
-    (((c.load-word.ensures.2 c.args.f c.door_word.ensures).1
-    ∙ ap (λ cs. (Passing (walking (filled c.args.f c.load-word.result) (walker_of c.pass.inside.seat.me.0)), cs)) (ap (λ m. m.1) c.pass.invariant.seat))
-    ∙ ap (λ q. (Passing (record (walker_of c.pass.inside.seat.me.0) { walk = q }), []))
-    (filled_odd c.args.f c.load-word.result (walker_of c.pass.inside.seat.me.0).walk (search rules))) refl refl refl
+    (closed_read c.args.f c.load-word.result c.pass.invariant.seat (c.load-word.ensures.2 c.args.f c.door_word.ensures).1 (search rules)) refl refl refl
 
 pub returns-then-word-eq1-clause-closed : goal.returns-then-word-eq1-clause-closed
 returns-then-word-eq1-clause-closed c = (
   search rules,
   ap (λ x. walker_of x.0)
-      (((c.load-word.ensures.2 c.args.f c.door_word.ensures).1
-      ∙ ap (λ cs. (Passing (walking (filled c.args.f c.load-word.result) (walker_of c.pass.inside.seat.me.0)), cs)) (ap (λ m. m.1) c.pass.invariant.seat))
-      ∙ ap (λ q. (Passing (record (walker_of c.pass.inside.seat.me.0) { walk = q }), []))
-      (filled_odd c.args.f c.load-word.result (walker_of c.pass.inside.seat.me.0).walk (search rules)))
+      (closed_read c.args.f c.load-word.result c.pass.invariant.seat (c.load-word.ensures.2 c.args.f c.door_word.ensures).1 (search rules))
       ∙ ap (λ v. walking (having_read c.load-word.result) v.walker) c.pass.view_is,
 )
 
 pub invariant_of-pass-2 : goal.invariant_of-pass-2
-invariant_of-pass-2 c = pass_fits c.load-word.new.seat.me _ _ _ _ (((c.load-word.ensures.2 c.args.f c.door_word.ensures).1
-    ∙ ap (λ cs. (Passing (walking (filled c.args.f c.load-word.result) (walker_of c.pass.inside.seat.me.0)), cs)) (ap (λ m. m.1) c.pass.invariant.seat))
-    ∙ ap (λ q. (Passing (record (walker_of c.pass.inside.seat.me.0) { walk = q }), []))
-    (filled_even c.args.f c.load-word.result (walker_of c.pass.inside.seat.me.0).walk (search rules))) c.pass.invariant.hand c.pass.invariant.cpu
+invariant_of-pass-2 c = pass_fits c.load-word.new.seat.me _ _ _ _ (open_read c.args.f c.load-word.result c.pass.invariant.seat (c.load-word.ensures.2 c.args.f c.door_word.ensures).1 (search rules)) c.pass.invariant.hand c.pass.invariant.cpu
     (ap (λ h. set h c.args.f (Some (c.load-word.result / 2))) c.pass.invariant.held) c.pass.invariant.stamp
 
 pub returns-clause-pass : goal.returns-clause-pass
 returns-clause-pass c =
     pass_stays_of c.args.self.now c.args.pass.now _ c.load-word.new.seat.table_id c.pass.inside.seat.me c.load-word.new.seat.me _ c.pass.view_is c.requires.pass
     c.load-word.ensures.0
-    (((c.load-word.ensures.2 c.args.f c.door_word.ensures).1
-    ∙ ap (λ cs. (Passing (walking (filled c.args.f c.load-word.result) (walker_of c.pass.inside.seat.me.0)), cs)) (ap (λ m. m.1) c.pass.invariant.seat))
-    ∙ ap (λ q. (Passing (record (walker_of c.pass.inside.seat.me.0) { walk = q }), []))
-    (filled_even c.args.f c.load-word.result (walker_of c.pass.inside.seat.me.0).walk (search rules))) (length-set _ _ _) refl refl
+    (open_read c.args.f c.load-word.result c.pass.invariant.seat (c.load-word.ensures.2 c.args.f c.door_word.ensures).1 (search rules)) (length-set _ _ _) refl refl
 
 pub returns-clause-admitted : goal.returns-clause-admitted
-returns-clause-admitted c = ap (λ x. walker_of x.0) (((c.load-word.ensures.2 c.args.f c.door_word.ensures).1
-    ∙ ap (λ cs. (Passing (walking (filled c.args.f c.load-word.result) (walker_of c.pass.inside.seat.me.0)), cs)) (ap (λ m. m.1) c.pass.invariant.seat))
-    ∙ ap (λ q. (Passing (record (walker_of c.pass.inside.seat.me.0) { walk = q }), []))
-    (filled_even c.args.f c.load-word.result (walker_of c.pass.inside.seat.me.0).walk (search rules)))
+returns-clause-admitted c = ap (λ x. walker_of x.0) (open_read c.args.f c.load-word.result c.pass.invariant.seat (c.load-word.ensures.2 c.args.f c.door_word.ensures).1 (search rules))
     ∙ ap (λ v. walking (λ p. holding c.args.f (c.load-word.result / 2) (having_read (2 * (c.load-word.result / 2)) p)) v.walker) c.pass.view_is
 
 pub returns-clause-bound : goal.returns-clause-bound

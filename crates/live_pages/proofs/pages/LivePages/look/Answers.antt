@@ -1,7 +1,7 @@
 use Rattle.std.proofs.Common.{rules, ap, refl, ◌∙◌}
 use Rattle.std.proofs.lemmas.List.{length-set}
 use Rattle.live_doors.specs.Doors.{having_noted}
-use Rattle.live_doors.proofs.Calls.{noted_still}
+use Rattle.live_doors.specs.Laws.{noted_still}
 use Rattle.live_pages.specs.declared.views.View.TheVariants.{Keeping}
 use Rattle.live_pages.specs.Turns.{watching, holder_of}
 use Rattle.live_pages.proofs.Calls.{looks_at, keeper_fits, keeper_stays_of}

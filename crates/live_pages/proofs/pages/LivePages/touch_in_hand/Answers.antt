@@ -1,6 +1,5 @@
 use Rattle.std.proofs.Common.{rules, [], Some, sym, ap, refl, ◌∙◌, subst}
 use Rattle.live_pages.specs.declared.rule.Held.{Held}
-use Rattle.live_pages.specs.declared.views.View.TheVariants.{Passing}
 use Rattle.live_pages.specs.Touches.{touched, answer, AreBelow}
 use Rattle.live_pages.specs.Turns.{having_made, walker_of}
 use Rattle.live_pages.proofs.Calls.{slot_there, exchanged_twice, found_in_slot, same_held, draws_in_hand, gives_in_hand, drawn, given_back}
@@ -14,10 +13,8 @@ fetch_add-ticket-requires c =
     let h = c.requires.hand.0 in
     let w = walker_of c.args.seat.now.me.0 in
     let new = c.touch-word.new.self in
-    let same = same_held c.in-Some.held h (sym c.in-Some.is ∙ found_in_slot c.args.seat.now.me (Passing w) c.args.f (Some h) c.exchange.result c.requires.hand.1
-    c.exchange.ensures.2) in
-    let there = exchanged_twice c.args.seat.now.me c.exchange.new.seat.me c.exchange-2.new.seat.me (Passing w) c.args.f (Some h) (Some new) c.requires.hand.1
-    c.exchange.ensures.3 c.exchange-2.ensures.3 in (
+    let same = same_held (sym c.in-Some.is ∙ found_in_slot c.requires.hand.1 c.exchange.ensures.2) in
+    let there = exchanged_twice c.requires.hand.1 c.exchange.ensures.3 c.exchange-2.ensures.3 in (
       search rules,
       search rules,
       draws_in_hand c.self.inside.table.shared.key _ _ c.exchange-2.new.seat.me (search rules) _ c.args.f w new h.page there (search rules) c.requires.hand.2
@@ -32,11 +29,9 @@ store-requires c =
     let h = c.requires.hand.0 in
     let w = walker_of c.args.seat.now.me.0 in
     let new = c.touch-word.new.self in
-    let same = same_held c.in-Some.held h (sym c.in-Some.is ∙ found_in_slot c.args.seat.now.me (Passing w) c.args.f (Some h) c.exchange.result c.requires.hand.1
-    c.exchange.ensures.2) in
-    let there = exchanged_twice c.args.seat.now.me c.exchange.new.seat.me c.exchange-2.new.seat.me (Passing w) c.args.f (Some h) (Some new) c.requires.hand.1
-    c.exchange.ensures.3 c.exchange-2.ensures.3 in
-    let after = drawn c.exchange-2.new.seat.me c.fetch_add-ticket.new.seat.me w c.args.f c.fetch_add-ticket.result new there
+    let same = same_held (sym c.in-Some.is ∙ found_in_slot c.requires.hand.1 c.exchange.ensures.2) in
+    let there = exchanged_twice c.requires.hand.1 c.exchange.ensures.3 c.exchange-2.ensures.3 in
+    let after = drawn there
     (c.fetch_add-ticket.ensures.2 c.args.f new [] (ap (λ x. x.1) there)).1 in (
       search rules,
       search rules,
@@ -49,11 +44,9 @@ returns-clause-touched c =
     let h = c.requires.hand.0 in
     let w = walker_of c.args.seat.now.me.0 in
     let new = c.touch-word.new.self in
-    let same = same_held c.in-Some.held h (sym c.in-Some.is ∙ found_in_slot c.args.seat.now.me (Passing w) c.args.f (Some h) c.exchange.result c.requires.hand.1
-    c.exchange.ensures.2) in
-    let there = exchanged_twice c.args.seat.now.me c.exchange.new.seat.me c.exchange-2.new.seat.me (Passing w) c.args.f (Some h) (Some new) c.requires.hand.1
-    c.exchange.ensures.3 c.exchange-2.ensures.3 in
-    let after = drawn c.exchange-2.new.seat.me c.fetch_add-ticket.new.seat.me w c.args.f c.fetch_add-ticket.result new there
+    let same = same_held (sym c.in-Some.is ∙ found_in_slot c.requires.hand.1 c.exchange.ensures.2) in
+    let there = exchanged_twice c.requires.hand.1 c.exchange.ensures.3 c.exchange-2.ensures.3 in
+    let after = drawn there
     (c.fetch_add-ticket.ensures.2 c.args.f new [] (ap (λ x. x.1) there)).1 in
     given_back c.fetch_add-ticket.new.seat.me c.store.new.seat.me w c.args.f c.fetch_add-ticket.result c.touch-word.result c.args.t new after
     (c.store.ensures.2 (c.args.f, Some new) [] (ap (λ x. x.1) after)) c.touch-word.ensures.kept.0 c.touch-word.ensures.kept.1
@@ -63,6 +56,5 @@ returns-clause-above c =
     let h = c.requires.hand.0 in
     let w = walker_of c.args.seat.now.me.0 in
     let new = c.touch-word.new.self in
-    let there = exchanged_twice c.args.seat.now.me c.exchange.new.seat.me c.exchange-2.new.seat.me (Passing w) c.args.f (Some h) (Some new) c.requires.hand.1
-    c.exchange.ensures.3 c.exchange-2.ensures.3 in
+    let there = exchanged_twice c.requires.hand.1 c.exchange.ensures.3 c.exchange-2.ensures.3 in
     subst (λ x. AreBelow c.fetch_add-ticket.result (walker_of x.0).made) there (c.fetch_add-ticket.ensures.2 c.args.f new [] (ap (λ x. x.1) there)).0

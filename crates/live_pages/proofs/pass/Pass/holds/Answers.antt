@@ -1,6 +1,6 @@
 use Rattle.std.proofs.Common.{sym, ap, ◌∙◌, subst, IsTrue, ◌↔◌}
 use Rattle.live_doors.specs.Doors.{HoldsEntry}
-use Rattle.live_doors.proofs.Calls.{holds_entry}
+use Rattle.live_doors.specs.Laws.{holds_entry}
 use Rattle.live_pages.proofs.pass.Pass.holds.Goals as goal
 
 pub returns : goal.returns

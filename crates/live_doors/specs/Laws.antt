@@ -1,14 +1,17 @@
--- What each kind of step leaves in order, on plain data.
-use Rattle.std.proofs.Common.{◌≡◌, ◌≢◌, ℕ, ◌+◌, ◌*◌, ◌/◌, ◌%◌, ◌<◌, ◌≤◌, Bool, true, false, eqb, List, length, replicate, Option, Some, None, refl, sym, ap, subst, ◌∙◌, arith, get_or, set, inl, inr, ⊎_elim}
+-- Laws of plain data: what each kind of step leaves in order, and what is read from rows. The crates above cite them too.
+use Rattle.std.proofs.Common.{◌≡◌, ◌≢◌, ℕ, ◌+◌, ◌*◌, ◌/◌, ◌%◌, ◌<◌, ◌≤◌, Bool, true, false, eqb, List, length, replicate, Option, Some, None, refl, sym, ap, subst, ◌∙◌, arith, get_or, set, inl, inr, ⊎_elim, is_some, IsTrue, ◌↔◌}
 use mathlib.Core.Logic.{dite}
 use native.Mathlib.Decide.{ℕ_discrete, dec_lt}
-use lib.ListN.{get_or-eq_default}
-use Rattle.std.proofs.lemmas.List.{get_or-set_same, get_or-set_other, length-set, length-replicate, get_or-replicate}
+use lib.ListN.{get_or-eq_default, get_elem?}
+use Rattle.std.proofs.lemmas.List.{get_or-set_same, get_or-set_other, length-set, length-replicate, get_or-replicate, get_or_default}
 use Rattle.std.proofs.lemmas.Option.{none-some}
-use Rattle.std.proofs.lemmas.Bool.{eqb-true}
+use Rattle.std.proofs.lemmas.Bool.{eqb-true, eq-eqb, ne_eqb}
+use Rattle.std.proofs.lemmas.Grind.{get_or_default_zero}
+use mathlib.Core.Option.{some}
+use Rattle.atomic_table.proofs.Lists.{at_set}
 use Rattle.live_doors.specs.declared.views.Walk.{Walk}
 use Rattle.live_doors.specs.declared.views.Watch.{Watch}
-use Rattle.live_doors.specs.Doors.{blank, having_read, holding, forgotten, acknowledged, shut, raised, having_noted}
+use Rattle.live_doors.specs.Doors.{blank, having_read, holding, forgotten, acknowledged, shut, raised, having_noted, HasNoted}
 use Rattle.live_doors.specs.Steps.{door_at, ack_at, filled_if, filled}
 use Rattle.live_doors.specs.Kept.{EntryOk, PlanOk, PassOk}
 
@@ -266,3 +269,47 @@ module _ (frames cpus : ℕ) (words : List ℕ) (plan : Watch) where
   entry_never p f b ok one e = let l = ok.bound f b e in
       ⊎_elim (λ (t : get_or plan.doors f 0 ≡ 2 * b). omega arith) (λ (t : (get_or plan.doors f 0 ≡ 2 * b + 1) × (p.stamp ≤ get_or plan.since f 0)). let s =
       t.0 in omega arith) (ok.entries f b e)
+
+-- ---- rows and their words
+
+-- a fill that finds an odd word only notes it
+pub filled_odd : (f n : ℕ) (p : Walk) → n % 2 ≡ 1 → filled f n p ≡ having_read n p
+filled_odd f n p odd = ap (λ b. filled_if b f n p) (ne_eqb (n % 2) 0 (λ e. omega arith))
+
+-- a fill that finds an even one holds the entry of its half
+pub filled_even : (f n : ℕ) (p : Walk) → n % 2 ≢ 1 → filled f n p ≡ holding f (n / 2) (having_read (2 * (n / 2)) p)
+filled_even f n p even = let h : n ≡ 2 * (n / 2) = omega arith in let e : n % 2 ≡ 0 = omega arith in
+    ap (λ b. filled_if b f n p) (eq-eqb (n % 2) 0 e) ∙ ap (λ k. holding f (n / 2) (having_read k p)) h
+
+-- each acknowledgement that was noted is still at least the stamp
+pub noted_still : (w : Watch) (c n stamp : ℕ) → HasNoted w stamp → get_or w.noted c 0 ≤ n → HasNoted (having_noted c n w) stamp
+noted_still w c n stamp all low d inside =
+    let l = length-set w.noted c n in
+    dite (ℕ_discrete d c)
+    (λ (same : d ≡ c). let h : get_or (set w.noted c n) d 0 ≡ n = subst (λ k. get_or (set w.noted c n) k 0 ≡ n) (sym same)
+    (get_or-set_same w.noted c n 0 (omega arith)) in let old = all c (omega arith) in omega arith)
+    (λ (other : d ≢ c). subst (λ k. stamp ≤ k) (sym (get_or-set_other w.noted c d n 0 other)) (all d (omega arith)))
+
+-- a word that was read from a row
+pub word_of : (xs ys : List ℕ) (i x : ℕ) → x ≡ get_or xs i x → xs ≡ ys → i < length xs → x ≡ get_or ys i 0
+word_of xs ys i x is same inside = is ∙ get_or_default_zero xs i x inside ∙ ap (λ l. get_or l i 0) same
+
+-- a door's next word
+pub next_word : (xs ys : List ℕ) (i x : ℕ) → x ≡ get_or xs i x → xs ≡ ys → i < length xs → x + 1 ≡ get_or ys i 0 + 1
+next_word xs ys i x is same inside = ap (λ k. k + 1) (word_of xs ys i x is same inside)
+
+-- what is found at a place is an entry exactly where the pass holds one there
+pub holds_entry : (xs ys : List (Option ℕ)) (f : ℕ) (o : Option ℕ) → o ≡ get_or xs f o → xs ≡ ys → f < length ys
+    → IsTrue (is_some o) ↔ ((b : ℕ) × (get_or ys f None ≡ Some b))
+holds_entry xs ys f o is same inside = cases o (is ∙ ap (λ l. get_or l f o) same ∙ get_or_default ys f o None inside)
+  where
+    cases : (u : Option ℕ) → u ≡ get_or ys f None → IsTrue (is_some u) ↔ ((b : ℕ) × (get_or ys f None ≡ Some b))
+    cases (Some b) e = (λ _. (b, sym e), λ _. refl)
+    cases None e = (λ never. absurd (cc), λ t. absurd (none-some t.0 (e ∙ t.1)))
+
+-- after a change of one seat's view, each seat is in order, if that one is and the others were
+pub seats_stay : {V : Type 0} (K : ℕ → V → Type 0) (views : List V) (me : ℕ) (w : V) → K me w → ((j : ℕ) (v : V) → j ≢ me → get_elem? views j ≡ some v → K j v)
+    → (j : ℕ) (v : V) → get_elem? (set views me w) j ≡ some v → K j v
+seats_stay {V} K views me w mine others j v e =
+    ⊎_elim (λ (t : (j ≡ me) × (w ≡ v)). subst (λ (x : ℕ × V). K x.0 x.1) (λ i. (sym t.0 i, t.1 i)) mine)
+    (λ (t : (j ≢ me) × (get_elem? views j ≡ some v)). others j v t.0 t.1) (at_set views me j w v e)
