@@ -146,7 +146,7 @@ impl Accounts {
             → result ≡ used_by self.now.nodes stored account }
         ensures within { result ≤ quota_in self.now.nodes account }
     {
-        prove!(self.tree.node(self.tree.next_uid()).is_none());
+        let _ = self.tree.next_uid();
         self.cells.used(account)
     }
 
