@@ -1,0 +1,5 @@
+pub mod BookLaws
+pub mod CountLaws
+pub mod PageLaws
+pub mod ScriptLaws
+pub mod ZeroLaws
