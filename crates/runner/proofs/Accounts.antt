@@ -1,6 +1,7 @@
 -- Quotas, records and entries: counts from scratch and running counts answer alike; and the store at the end.
-use Rattle.std.proofs.Common.{is_some, ◌≡◌, ◌≢◌, ℕ, ◌+◌, ◌-◌, ◌*◌, ◌<◌, ◌≤◌, Bool, true, false, not, cond, eqb, leb, ◌&&◌, ◌||◌, List, [], ◌∷◌, length, refl, sym, ap, ◌∙◌, arith, get_or, inl, inr, ◌⊎◌}
-use Rattle.std.specs.Prelude.{count_by, nat_le}
+use Rattle.std.proofs.Common.{is_some, ◌≡◌, ◌≢◌, ℕ, ◌+◌, ◌-◌, ◌*◌, ◌<◌, ◌≤◌, Bool, true, false, not, cond, eqb, leb, ◌&&◌, ◌||◌, List, [], ◌∷◌, length, refl, sym, ap, subst, ◌∙◌, arith, get_or, inl, inr, ◌⊎◌}
+use Rattle.std.specs.Prelude.{count_by, nat_le, nat_lt}
+use Rattle.std.specs.List.{list_all}
 use Rattle.std.proofs.lemmas.Bool.{cases_eq}
 use Rattle.std.proofs.lemmas.Bool.Decides.{nat_tests}
 use Rattle.std.proofs.lemmas.Grind.{get_or_default_zero}
@@ -8,10 +9,11 @@ use Rattle.std.proofs.lemmas.List.Sums.{sum_by-cons, count_by-le-length}
 use Rattle.script.specs.Plans.{Plan}
 use Rattle.mword.specs.Words.{AreZero}
 use Rattle.tree_model.specs.Tree.{Node, has_directory, above, quota_in, account, account_of, used_by, entries_on}
-use Rattle.flat_store.specs.Words.{Words, word_at}
-use Rattle.flat_store.specs.Pages.{is_stored}
-use Rattle.flat_store.specs.Flat.{Store, records_of, entries_of, is_used_up, is_volume_full}
-use Rattle.flat_store.specs.Legal.{IsWithin, AreWithin, IsSettled}
+use Rattle.flat_model.specs.Pages.{Words, is_zero_page, is_stored}
+use Rattle.flat_model.proofs.ZeroLaws.{zero_words}
+use Rattle.flat_model.specs.Store.{Store, records_of, entries_of}
+use Rattle.flat_model.specs.References.{is_used_up, is_volume_full}
+use Rattle.flat_model.specs.Legal.{is_within, IsSettled}
 use Rattle.dir_tree.specs.declared.node.Node.{Node as Branch}
 use Rattle.dir_tree.specs.Nodes.{with_quotas}
 use Rattle.page_control.specs.Plain.{Plain}
@@ -78,16 +80,16 @@ used_up q ns xs u there =
     ∙ ap (λ (n : ℕ). eqb n (quota_in (with_quotas (root_quota q) ns) 1)) (used_one q ns xs)
     ∙ ap (eqb (length xs)) (quota_of_root q ns there)
 
-pub used_up_same : (p : Plan) (s : Store) (t : Held) → AreTied p s t → (n : Node) → is_used_up s n ≡ eqb t.stored p.quota
-used_up_same p s t h n =
-    ap (λ (ns : List Node). eqb (used_by ns s.stored (account_of ns n.uid)) (quota_in ns (account_of ns n.uid))) h.named.nodes
-    ∙ used_up p.quota t.tree.nodes s.stored n.uid (ap (λ (ns : List Node). has_directory ns 1) (sym h.named.nodes) ∙ h.named.root)
+pub used_up_same : (p : Plan) (s : Store) (t : Held) → AreTied p s t → (u : ℕ) → is_used_up s u ≡ eqb t.stored p.quota
+used_up_same p s t h u =
+    ap (λ (ns : List Node). eqb (used_by ns s.stored (account_of ns u)) (quota_in ns (account_of ns u))) h.named.nodes
+    ∙ used_up p.quota t.tree.nodes s.stored u (ap (λ (ns : List Node). has_directory ns 1) (sym h.named.nodes) ∙ h.named.root)
     ∙ ap (λ (m : ℕ). eqb m p.quota) (sym h.counted.stored)
 
-pub volume_full_same : (p : Plan) (s : Store) (t : Held) → AreTied p s t → (n : Node) → is_volume_full p s n ≡ is_full t.segs.storage.records n.volume
-volume_full_same p s t h n =
-    ap (λ (m : ℕ). eqb m (records_of p n.volume)) (h.counted.records n.volume)
-    ∙ ap (λ (m : ℕ). eqb (taken t.segs.storage.records n.volume) m) (sym (h.counted.record_sizes n.volume))
+pub volume_full_same : (p : Plan) (s : Store) (t : Held) → AreTied p s t → (v : ℕ) → is_volume_full p s v ≡ is_full t.segs.storage.records v
+volume_full_same p s t h v =
+    ap (λ (m : ℕ). eqb m (records_of p v)) (h.counted.records v)
+    ∙ ap (λ (m : ℕ). eqb (taken t.segs.storage.records v) m) (sym (h.counted.record_sizes v))
 
 pub entries_full_same : (p : Plan) (s : Store) (t : Held) → AreTied p s t → (v : ℕ) → nat_le (entries_of p v) (entries_on s.nodes v) ≡ nat_le (entries t.segs.storage.vtocs v) (used t.segs.storage.vtocs v)
 entries_full_same p s t h v =
@@ -103,28 +105,36 @@ vtoc_full_same p s t h v = entries_full_same p s t h v ∙ compared (used t.segs
 
 -- ---- the store at the end
 
-within_all : (q : ℕ) (used : ℕ → ℕ) (ns : List Branch) → used 1 ≤ q → AreWithin used (with_quotas (root_quota q) ns)
-within_all q used [] most = tt
-within_all q used (n ∷ ns) most = (here (cases_eq n.uid 1), within_all q used ns most)
-  where
-    by_kind : (z : Bool) → used n.uid ≤ q → root_quota q n.uid ≡ q → IsWithin (record { uid = n.uid; superior = n.superior; name = n.name; directory = n.dir; volume = n.volume; pages = n.length; quota = root_quota q n.uid; rows = n.acl }) (used n.uid) z
-    by_kind true le e = omega (arith, le, e)
-    by_kind false le e = tt
+-- a node that is no account, or whose quota isn't used up
+within_one : (a b : Bool) → (a ≡ true → b ≡ false) → (not a || not b) ≡ true
+within_one true b h = rw (h refl) refl
+within_one false b h = refl
 
+within_all : (q : ℕ) (s : Store) (ns : List Branch) → used_by s.nodes s.stored 1 ≤ q → list_all (is_within s) (with_quotas (root_quota q) ns) ≡ true
+within_all q s [] most = refl
+within_all q s (n ∷ ns) most =
+    let first : (not (n.dir && (eqb n.uid 1 || not (eqb (root_quota q n.uid) 0))) || not (nat_lt (root_quota q n.uid) (used_by s.nodes s.stored n.uid))) ≡ true =
+    within_one (n.dir && (eqb n.uid 1 || not (eqb (root_quota q n.uid) 0))) (nat_lt (root_quota q n.uid) (used_by s.nodes s.stored n.uid)) (here (cases_eq n.uid 1)) in
+    rw first (within_all q s ns most)
+  where
     none : (z : Bool) → (z && false) ≡ false
     none true = refl
     none false = refl
 
-    here : (n.uid ≡ 1) ⊎ (n.uid ≢ 1) → IsWithin (record { uid = n.uid; superior = n.superior; name = n.name; directory = n.dir; volume = n.volume; pages = n.length; quota = root_quota q n.uid; rows = n.acl }) (used n.uid) (n.dir && (eqb n.uid 1 || not (eqb (root_quota q n.uid) 0)))
-    here (inl e) =
-        let test : eqb n.uid 1 ≡ true = grind (arith, nat_tests) in
-        by_kind (n.dir && (eqb n.uid 1 || not (eqb (root_quota q n.uid) 0))) (rw e most) (rw test refl)
-    here (inr ne) =
-        let test : eqb n.uid 1 ≡ false = grind (arith, nat_tests) in
-        rw (test, none n.dir) tt
+    apart : false ≡ true → ⊥
+    apart e = cc
 
-zero_words : (ws : Words) (xs : List (ℕ × ℕ)) (count u q : ℕ) (storage : Plain) → ArePages ws xs count storage → is_stored xs u q ≡ true → ((x : ℕ) → x < 1024 → word_at ws u (1024 * q + x) ≡ 0) → AreZero (picture storage u q)
-zero_words ws xs count u q storage h on zeros = λ x d within.
+    here : (n.uid ≡ 1) ⊎ (n.uid ≢ 1) → (n.dir && (eqb n.uid 1 || not (eqb (root_quota q n.uid) 0))) ≡ true → nat_lt (root_quota q n.uid) (used_by s.nodes s.stored n.uid) ≡ false
+    here (inl e) is =
+        let quota : root_quota q n.uid ≡ q = rw e refl in
+        let used_is : used_by s.nodes s.stored n.uid ≤ q = rw e most in
+        grind (arith, nat_tests)
+    here (inr ne) is =
+        let test : eqb n.uid 1 ≡ false = grind (arith, nat_tests) in
+        absurd (apart (sym (none n.dir) ∙ (rw test at is)))
+
+page_zeros : (ws : Words) (xs : List (ℕ × ℕ)) (count u q : ℕ) (storage : Plain) → ArePages ws xs count storage → is_stored xs u q ≡ true → is_zero_page ws u q ≡ true → AreZero (picture storage u q)
+page_zeros ws xs count u q storage h on zeros = λ x d within.
     let there = h.inside u q on in
     let two = there.0 in
     let size = h.sizes u q on in
@@ -133,12 +143,19 @@ zero_words ws xs count u q storage h on zeros = λ x d within.
     get_or_default_zero (picture storage u q) x d within
     ∙ ap (λ (v : ℕ). get_or (picture storage v q) x 0) (sym back)
     ∙ h.words (u - 2) q x there.2 lx
-    ∙ ap (λ (v : ℕ). word_at ws v (1024 * q + x)) back
-    ∙ zeros x lx
+    ∙ ap (λ (v : ℕ). ws v (1024 * q + x)) back
+    ∙ zero_words ws u q x zeros lx
 
 pub tied_settled : (p : Plan) (s : Store) (t : Held) → AreTied p s t → ((uid q : ℕ) → is_filed t.segs.storage uid q ≡ true → AreZero (picture t.segs.storage uid q) → ⊥) → IsSettled p s
 tied_settled p s t h clean = record {
   quotas = h.named.quotas;
-  within = rw h.named.nodes (within_all p.quota (used_by (with_quotas (root_quota p.quota) t.tree.nodes) s.stored) t.tree.nodes (rw (used_one p.quota t.tree.nodes s.stored) h.counted.within));
-  words = λ u q on zeros. clean u q (sym (h.pages.stored u q) ∙ on) (zero_words s.words s.stored (length t.segs.homes) u q t.segs.storage h.pages on zeros);
+  within = subst (λ (ns : List Node). list_all (is_within s) ns ≡ true) (sym h.named.nodes) (within_all p.quota s t.tree.nodes most);
+  words = λ u q on. by_zeros u q on (is_zero_page s.words u q) refl;
 }
+  where
+    most : used_by s.nodes s.stored 1 ≤ p.quota
+    most = (let total = ap (λ (ns : List Node). used_by ns s.stored 1) h.named.nodes ∙ used_one p.quota t.tree.nodes s.stored in let within = h.counted.within in omega (arith, total, within))
+
+    by_zeros : (u q : ℕ) → is_stored s.stored u q ≡ true → (z : Bool) → is_zero_page s.words u q ≡ z → is_zero_page s.words u q ≡ false
+    by_zeros u q on true zeros = absurd (clean u q (sym (h.pages.stored u q) ∙ on) (page_zeros s.words s.stored (length t.segs.homes) u q t.segs.storage h.pages on zeros))
+    by_zeros u q on false some = some

@@ -1,12 +1,12 @@
 -- One more entry of the book, and the tables beside it.
-use Rattle.std.proofs.Common.{◌≡◌, ℕ, ◌+◌, Bool, true, false, not, ◌||◌, List, [], ◌∷◌, ◌++◌, length, get_or, Option, refl, sym, ap, subst, ◌∙◌}
+use Rattle.std.proofs.Common.{◌≡◌, ℕ, ◌+◌, Bool, true, false, not, ◌||◌, List, [], ◌∷◌, ◌++◌, length, Option, refl, sym, ap, subst, ◌∙◌}
 use Rattle.script.specs.Plans.{Plan, command_at}
 use Rattle.book.specs.declared.entries.Entry.{Entry}
 use Rattle.book.specs.declared.entries.Entry.TheVariants as entry
 use Rattle.book.specs.declared.replies.Reply.{Reply}
-use Rattle.flat_store.specs.Flat.{Store, is_turn}
-use Rattle.flat_store.specs.Legal.{IsLawful, IsAnswer, after_entry, store_after}
-use Rattle.flat_store.proofs.BookLaws.{store_after-push, legal_push}
+use Rattle.flat_model.specs.Store.{Store, progress_of, is_turn}
+use Rattle.flat_model.specs.Legal.{IsLawful, IsAnswer, after_entry, store_after}
+use Rattle.flat_model.proofs.BookLaws.{store_after-push, legal_push}
 use Rattle.runner.specs.Tables.{Held, AreTied}
 use Rattle.runner.specs.Effects.{IsSame}
 use Rattle.runner.specs.Machines.{Holds, IsAt, IsStep, GoesOn, done_at, store_done}
@@ -29,18 +29,18 @@ pushed p now es later e t new b h lawful tied frames disks =
     }))
 
 -- where the process is, where an entry changes nothing of that
-pub at_pushed : (p now : Plan) (es later : List Entry) (e : Entry) (place next : ℕ) → IsBooked p now es later e → get_or (after_entry p (store_after p es) e).places 0 0 ≡ next → get_or (after_entry p (store_after p es) e).ended 0 true ≡ false → IsAt now later next
+pub at_pushed : (p now : Plan) (es later : List Entry) (e : Entry) (place next : ℕ) → IsBooked p now es later e → (progress_of (after_entry p (store_after p es) e) 0).place ≡ next → (progress_of (after_entry p (store_after p es) e) 0).ended ≡ false → IsAt now later next
 at_pushed p now es later e place next b is going =
     subst (λ (x : Plan). IsAt x later next) (sym b.script)
     (subst (λ (x : List Entry). IsAt p x next) (sym b.entries) (record {
-      next = ap (λ (s : Store). get_or s.places 0 0) (store_after-push p es e) ∙ is;
-      going = ap (λ (s : Store). get_or s.ended 0 true) (store_after-push p es e) ∙ going;
+      next = ap (λ (s : Store). (progress_of s 0).place) (store_after-push p es e) ∙ is;
+      going = ap (λ (s : Store). (progress_of s 0).ended) (store_after-push p es e) ∙ going;
     }))
 
 -- ---- a command
 
-pub turn_first : (p : Plan) (ended : List Bool) → is_turn p ended 0 ≡ true
-turn_first p ended = either (not p.initializer)
+pub turn_first : (p : Plan) (s : Store) → is_turn p s 0 ≡ true
+turn_first p s = either (not p.initializer)
   where
     either : (z : Bool) → (z || true) ≡ true
     either true = refl
@@ -48,22 +48,22 @@ turn_first p ended = either (not p.initializer)
 
 done_lawful : (p : Plan) (es : List Entry) (place : ℕ) (frame : Option ℕ) (r : Reply) → IsAt p es place → IsAnswer p (store_after p es) 0 (command_at p 0 place) r → IsLawful p (store_after p es) (done_at place frame r)
 unfolding IsLawful
-done_lawful p es place frame r at answer = record { turn = turn_first p (store_after p es).ended; going = at.going; next = at.next; answer = answer }
+done_lawful p es place frame r at answer = record { turn = turn_first p (store_after p es); going = at.going; next = at.next; answer = answer }
 
-done_after : (p : Plan) (s : Store) (es : List Entry) (place : ℕ) (frame : Option ℕ) (r : Reply) → after_entry p (store_after p es) (done_at place frame r) ≡ store_done p es place r
+done_after : (p : Plan) (es : List Entry) (place : ℕ) (frame : Option ℕ) (r : Reply) → after_entry p (store_after p es) (done_at place frame r) ≡ store_done p es place r
 unfolding after_entry
-done_after p s es place frame r = refl
+done_after p es place frame r = refl
 
 pub holds_step : (p now : Plan) (es later : List Entry) (t new : Held) (place : ℕ) (frame : Option ℕ) (r : Reply) → IsBooked p now es later (done_at place frame r) → Holds p es t → IsAt p es place → IsStep p es t new place r → Holds now later new
 holds_step p now es later t new place frame r b h at step =
     pushed p now es later (done_at place frame r) t new b h (done_lawful p es place frame r at step.answer)
-    (subst (λ (s : Store). AreTied p s new) (sym (done_after p (store_after p es) es place frame r)) step.tied) step.frames step.disks
+    (subst (λ (s : Store). AreTied p s new) (sym (done_after p es place frame r)) step.tied) step.frames step.disks
 
 pub at_step : (p now : Plan) (es later : List Entry) (t new : Held) (place : ℕ) (frame : Option ℕ) (r : Reply) → IsBooked p now es later (done_at place frame r) → IsStep p es t new place r → GoesOn p es place r → IsAt now later (place + 1)
 at_step p now es later t new place frame r b step on =
     at_pushed p now es later (done_at place frame r) place (place + 1) b
-    (ap (λ (s : Store). get_or s.places 0 0) (done_after p (store_after p es) es place frame r) ∙ step.next)
-    (ap (λ (s : Store). get_or s.ended 0 true) (done_after p (store_after p es) es place frame r) ∙ on.going)
+    (ap (λ (s : Store). (progress_of s 0).place) (done_after p es place frame r) ∙ step.next)
+    (ap (λ (s : Store). (progress_of s 0).ended) (done_after p es place frame r) ∙ on.going)
 
 -- ---- entries that tell where a page is
 
@@ -86,7 +86,7 @@ pushed_quiet p now es later e t new b h quiet tied frames disks =
 
 pub at_quiet : (p now : Plan) (es later : List Entry) (e : Entry) (place : ℕ) → IsBooked p now es later e → (after_entry p (store_after p es) e ≡ store_after p es) → IsAt p es place → IsAt now later place
 at_quiet p now es later e place b quiet at =
-    at_pushed p now es later e place place b (ap (λ (s : Store). get_or s.places 0 0) quiet ∙ at.next) (ap (λ (s : Store). get_or s.ended 0 true) quiet ∙ at.going)
+    at_pushed p now es later e place place b (ap (λ (s : Store). (progress_of s 0).place) quiet ∙ at.next) (ap (λ (s : Store). (progress_of s 0).ended) quiet ∙ at.going)
 
 -- ---- a page comes in
 

@@ -1,20 +1,18 @@
 -- The tables at the boot.
-use Rattle.std.proofs.Common.{◌≡◌, ◌≢◌, ℕ, ◌+◌, ◌*◌, ◌<◌, ◌≤◌, Bool, true, false, cond, eqb, List, [], ◌∷◌, length, Option, Some, None, is_some, replicate, refl, sym, ap, ◌∙◌, arith, get_or, inl, inr}
+use Rattle.std.proofs.Common.{◌≡◌, ◌≢◌, ℕ, zero, suc, ◌+◌, ◌<◌, ◌≤◌, Bool, true, false, cond, eqb, List, [], ◌∷◌, length, Option, Some, None, is_some, replicate, refl, sym, ap, ◌∙◌, arith, get_or, inl, inr}
 use Rattle.std.proofs.lemmas.Bool.{cases_lt}
 use Rattle.std.proofs.lemmas.Bool.Decides.{nat_tests}
 use Rattle.std.proofs.lemmas.List.{length-replicate, get_or-replicate, get_or_past}
 use Rattle.std.proofs.lemmas.List.Sums.{sum_by-cons}
 use Rattle.script.specs.Plans.{Plan}
 use Rattle.tree_model.specs.Tree.{Node, taken_on, entries_on}
-use Rattle.flat_store.specs.Flat.{boot, root_of, records_of, entries_of}
-use Rattle.flat_store.proofs.WordLaws.{word_at-empty}
+use Rattle.flat_model.specs.Store.{boot, root_of, at_first, records_of, entries_of}
 use Rattle.dir_tree.specs.Nodes.{root_alone}
 use Rattle.known_segs.specs.Known.{uid_of}
 use Rattle.page_control.specs.Plain.{Plain}
 use Rattle.page_control.specs.Picture.{picture, is_stored as is_filed}
 use Rattle.paged_segs.specs.Counts.{taken, size, used, entries}
 use Rattle.runner.specs.Tables.{Held, AreNamed, AreNumbered, ArePages, AreTied}
-use Rattle.std.specs.FinMap as map
 
 named_boot : (p : Plan) → AreNamed p (root_of p ∷ []) 2 [] (root_alone 0 0) []
 named_boot p = record {
@@ -43,9 +41,17 @@ none_known n = elim (cases_lt n 256) [
   | inr le ↦ get_or_past {X = Option ℕ} (replicate 256 None) n None (let size = length-replicate {A = Option ℕ} 256 None in omega (arith, size, le))
 ]
 
-numbered_boot : AreNumbered [] 0 (replicate 256 None)
-numbered_boot = record {
-  same = λ n. sym (none_known n);
+abbrev none : List (Option ℕ)
+none = replicate 256 None
+
+first_known : (n : ℕ) → 0 < n → get_or (replicate n none) 0 [] ≡ none
+first_known zero some = absurd (omega (arith, some))
+first_known (suc n) some = refl
+
+numbered_boot : (p : Plan) → AreNumbered p (replicate (length p.processes) none) 0 none
+numbered_boot p = record {
+  processes = length-replicate (length p.processes) none;
+  same = first_known (length p.processes);
   places = length-replicate {A = Option ℕ} 256 None;
   there = λ n u at. absurd (apart u (sym (none_known n) ∙ at));
 }
@@ -53,9 +59,9 @@ numbered_boot = record {
     apart : (u : ℕ) → None ≡ Some u → ⊥
     apart u e = cc
 
-pages_boot : (storage : Plain) → ((uid q : ℕ) → picture storage uid q ≡ replicate 1024 0) → ((uid q : ℕ) → is_filed storage uid q ≡ false) → ArePages map.empty [] 0 storage
+pages_boot : (storage : Plain) → ((uid q : ℕ) → picture storage uid q ≡ replicate 1024 0) → ((uid q : ℕ) → is_filed storage uid q ≡ false) → ArePages (λ u x. 0) [] 0 storage
 pages_boot storage shown filed = record {
-  words = λ i page o lp lo. ap (λ (words : List ℕ). get_or words o 0) (shown (i + 2) page) ∙ get_or-replicate 1024 o 0 0 lo ∙ sym (word_at-empty (i + 2) (1024 * page + o));
+  words = λ i page o lp lo. ap (λ (words : List ℕ). get_or words o 0) (shown (i + 2) page) ∙ get_or-replicate 1024 o 0 0 lo;
   stored = λ u page. sym (filed u page);
   inside = λ u page on. absurd (apart on);
   sizes = λ u page on. absurd (apart on);
@@ -84,7 +90,7 @@ pub tied_boot : (p : Plan) (t : Held) → t.segs.homes ≡ [] → ((uid q : ℕ)
 unfolding boot
 tied_boot p t homes shown filed records places record_sizes entry_sizes tree known lengths stored = record {
   named = rw (homes, tree, lengths) (named_boot p);
-  numbered = rw (homes, known) numbered_boot;
+  numbered = rw (homes, known) (numbered_boot p);
   pages = rw homes (pages_boot t.segs.storage shown filed);
   counted = record {
     stored = stored;
@@ -94,5 +100,5 @@ tied_boot p t homes shown filed records places record_sizes entry_sizes tree kno
     record_sizes = record_sizes;
     entry_sizes = entry_sizes;
   };
-  processes = record { places = length-replicate (length p.processes) 0; ended = length-replicate (length p.processes) false };
+  processes = record { count = length-replicate (length p.processes) at_first };
 }

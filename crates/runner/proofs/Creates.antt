@@ -3,10 +3,9 @@ use Rattle.std.proofs.Common.{◌≡◌, ℕ, ◌+◌, ◌/◌, ◌%◌, ◌<◌
 use Rattle.std.proofs.lemmas.Bool.Decides.{nat_tests}
 use Rattle.std.proofs.lemmas.List.{length-replicate, length-map, get_or-set_same}
 use Rattle.script.specs.Plans.{Plan}
-use Rattle.flat_store.specs.Words.{with_word}
-use Rattle.flat_store.specs.Pages.{is_stored, with_stored}
-use Rattle.flat_store.specs.Flat.{Store}
-use Rattle.flat_store.proofs.PageLaws.{is_stored-with, once_with, length-with_new}
+use Rattle.flat_model.specs.Pages.{with_word, is_stored, with_stored}
+use Rattle.flat_model.specs.Store.{Store}
+use Rattle.flat_model.proofs.PageLaws.{is_stored-with, once_with, length-with_new}
 use Rattle.page_control.specs.declared.Home.{Home}
 use Rattle.core_map.specs.CoreMap.{IsLeastFreeFrame}
 use Rattle.page_table.specs.declared.Ptw.TheVariants.{Here}
@@ -29,7 +28,7 @@ stored_create xs filed u q v page same = is_stored-with xs u q v page ∙ chosen
     chosen true = refl
     chosen false = same
 
-pages_create : (s : Store) (count i o w : ℕ) (old new : Plain) → ArePages s.words s.stored count old → i < count → o < 262144 → is_stored s.stored (i + 2) (o / 1024) ≡ false
+pages_create : (s : Store) (count i o w : ℕ) (old new : Plain) → ArePages s.words s.stored count old → i < count → o / 1024 < 256 → is_stored s.stored (i + 2) (o / 1024) ≡ false
     → picture old (i + 2) (o / 1024) ≡ replicate 1024 0 → picture new ≡ changed_at (picture old) (i + 2) (o / 1024) (set (replicate 1024 0) (o % 1024) w)
     → is_filed new ≡ changed_at (is_filed old) (i + 2) (o / 1024) true → ArePages (with_word s.words (i + 2) o w) (with_stored s.stored (i + 2) (o / 1024)) count new
 pages_create s count i o w old new h li lo off zeros shown filed =
@@ -37,7 +36,7 @@ pages_create s count i o w old new h li lo off zeros shown filed =
     record {
       words = λ j q x lq lx.
           ap (λ (f : ℕ → ℕ → List ℕ). get_or (f (j + 2) q) x 0) shown
-          ∙ words_put s.words (picture old) (replicate 1024 0) i o w j q x lo lq lx size (sym zeros) h.words;
+          ∙ words_put s.words (picture old) (replicate 1024 0) i o w j q x lq lx size (sym zeros) h.words;
       stored = λ u q. stored_create s.stored (is_filed old) (i + 2) (o / 1024) u q (h.stored u q) ∙ sym (λ k. filed k u q);
       inside = λ u q on. within u q (eqb (i + 2) u && eqb (o / 1024) q) refl (sym (is_stored-with s.stored (i + 2) (o / 1024) u q) ∙ on);
       sizes = λ u q on.
@@ -55,7 +54,7 @@ pages_create s count i o w old new h li lo off zeros shown filed =
     within u q false e on = h.inside u q on
 
 -- a page of segment i that wasn't stored gets a word
-pub tied_create : (p : Plan) (s : Store) (old new : Held) (i o w : ℕ) → AreTied p s old → i < length old.segs.homes → o < 262144 → is_stored s.stored (i + 2) (o / 1024) ≡ false
+pub tied_create : (p : Plan) (s : Store) (old new : Held) (i o w : ℕ) → AreTied p s old → i < length old.segs.homes → o / 1024 < 256 → is_stored s.stored (i + 2) (o / 1024) ≡ false
     → picture old.segs.storage (i + 2) (o / 1024) ≡ replicate 1024 0 → length s.stored < p.quota
     → picture new.segs.storage ≡ changed_at (picture old.segs.storage) (i + 2) (o / 1024) (set (replicate 1024 0) (o % 1024) w)
     → is_filed new.segs.storage ≡ changed_at (is_filed old.segs.storage) (i + 2) (o / 1024) true
@@ -70,7 +69,7 @@ tied_create p s old new i o w h li lo off zeros room shown filed records places 
     let longer : length (with_stored s.stored (i + 2) (o / 1024)) ≡ length s.stored + 1 = length-with_new s.stored (i + 2) (o / 1024) off in
     record {
       named = named_same p s.nodes s.next old.segs.homes new.segs.homes old.tree new.tree old.lengths new.lengths h.named homes tree lengths;
-      numbered = numbered_same s.known (length old.segs.homes) (length new.segs.homes) old.known new.known h.numbered (omega (arith, count)) known;
+      numbered = numbered_same p s.known (length old.segs.homes) (length new.segs.homes) old.known new.known h.numbered (omega (arith, count)) known;
       pages = rw count (pages_create s (length old.segs.homes) i o w old.segs.storage new.segs.storage h.pages li lo off zeros shown filed);
       counted = record {
         stored = omega (arith, stored, total, longer);

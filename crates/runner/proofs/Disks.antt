@@ -6,9 +6,8 @@ use Rattle.tree_model.specs.Tree.{Node, node_in, has_directory}
 use Rattle.vtoc.specs.Vtoc.{Entry, entry_at, uid_of}
 use Rattle.volumes.specs.CoreDrive.{DriveState}
 use Rattle.volumes.specs.Volumes.{Vols}
-use Rattle.flat_store.specs.Words.{word_at}
-use Rattle.flat_store.specs.Pages.{is_stored}
-use Rattle.flat_store.specs.Flat.{Store}
+use Rattle.flat_model.specs.Pages.{is_stored}
+use Rattle.flat_model.specs.Store.{Store}
 use Rattle.page_control.specs.Plain.{disk_of}
 use Rattle.page_control.specs.Picture.{picture, is_filed_in, volume_of, record_named, words_filed}
 use Rattle.page_control.specs.Tied.{AreFiled, IsHomeOf, vtoc_in}
@@ -94,12 +93,12 @@ maps_same : (p : Plan) (s : Store) (t : Held) (u page : ℕ) → AreTied p s t �
 unfolding is_filed_in
 maps_same p s t u page h = sym (h.pages.stored u page)
 
-words_same : (p : Plan) (s : Store) (t : Held) (u page o : ℕ) → AreTied p s t → is_stored s.stored u page ≡ true → o < 1024 → get_or (picture t.segs.storage u page) o 0 ≡ word_at s.words u (1024 * page + o)
+words_same : (p : Plan) (s : Store) (t : Held) (u page o : ℕ) → AreTied p s t → is_stored s.stored u page ≡ true → o < 1024 → get_or (picture t.segs.storage u page) o 0 ≡ s.words u (1024 * page + o)
 words_same p s t u page o h on lo =
     let there = h.pages.inside u page on in
     let two = there.0 in
     let back : (u - 2) + 2 ≡ u = omega (arith, two) in
-    subst (λ (x : ℕ). get_or (picture t.segs.storage x page) o 0 ≡ word_at s.words x (1024 * page + o)) back (h.pages.words (u - 2) page o there.2 lo)
+    subst (λ (x : ℕ). get_or (picture t.segs.storage x page) o 0 ≡ s.words x (1024 * page + o)) back (h.pages.words (u - 2) page o there.2 lo)
 
 words_left : (t : Held) (v : Vols DriveState) (u page : ℕ) → AreLeft t.segs v → words_on_disk v u page ≡ picture t.segs.storage u page
 words_left t v u page l =

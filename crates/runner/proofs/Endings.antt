@@ -1,30 +1,31 @@
 -- The process ends.
-use Rattle.std.proofs.Common.{◌≡◌, ℕ, ◌<◌, true, false, List, [], ◌∷◌, ◌++◌, length, set, Option, Some, None, refl, sym, ap, subst, ◌∙◌, arith}
+use Rattle.std.proofs.Common.{◌≡◌, ℕ, ◌<◌, true, false, List, [], ◌∷◌, ◌++◌, length, Option, Some, None, refl, sym, ap, subst, ◌∙◌, arith, inl}
 use Rattle.script.specs.Plans.{Plan, command_at}
 use Rattle.script.specs.declared.commands.Command.{Command}
 use Rattle.script.specs.declared.commands.Command.TheVariants as command
 use Rattle.book.specs.declared.entries.Entry.{Entry}
 use Rattle.book.specs.declared.replies.Reply.TheVariants as reply
-use Rattle.flat_store.specs.Flat.{Store, moved_on, after_command}
-use Rattle.flat_store.specs.Legal.{IsAnswer, IsComplete, IsEnd, IsLawful, after_do, after_entry, store_after, is_part, part, last_of}
-use Rattle.flat_store.proofs.BookLaws.{part-push, part-skip, last_of-push}
+use Rattle.flat_model.specs.Store.{Store, progress_of, with_progress}
+use Rattle.flat_model.specs.Commands.{after_command}
+use Rattle.flat_model.specs.Legal.{IsAnswer, IsComplete, IsEnd, IsLawful, after_do, after_entry, store_after, is_part, part, last_of}
+use Rattle.flat_model.proofs.BookLaws.{part-push, part-skip, last_of-push}
 use Rattle.runner.specs.Tables.{Held, AreTied}
 use Rattle.runner.specs.Machines.{Holds, IsAt, done_at, IsForm}
 use Rattle.runner.proofs.Booking.{IsBooked, turn_first, pushed}
-use Rattle.runner.proofs.Same.{tied_moved, tied_ended}
+use Rattle.runner.proofs.Same.{stepped, tied_moved}
 
-ended_store : (p : Plan) (es : List Entry) (place : ℕ) → command_at p 0 place ≡ Some command.End → after_entry p (store_after p es) (done_at place None reply.Done) ≡ moved_on (record (store_after p es) { ended = set (store_after p es).ended 0 true }) 0 place
+ended_store : (p : Plan) (es : List Entry) (place : ℕ) → command_at p 0 place ≡ Some command.End → after_entry p (store_after p es) (done_at place None reply.Done) ≡ with_progress (store_after p es) 0 (stepped (progress_of (store_after p es) 0) true)
 unfolding after_entry after_command
-ended_store p es place is = ap (λ (x : Option Command). after_do p (store_after p es) 0 place x reply.Done) is
+ended_store p es place is = ap (λ (x : Option Command). after_do p (store_after p es) 0 x reply.Done) is
 
 end_lawful : (p : Plan) (es : List Entry) (place : ℕ) → IsAt p es place → command_at p 0 place ≡ Some command.End → IsLawful p (store_after p es) (done_at place None reply.Done)
 unfolding IsLawful
-end_lawful p es place at is = record { turn = turn_first p (store_after p es).ended; going = at.going; next = at.next; answer = subst (λ (x : Option Command). IsAnswer p (store_after p es) 0 x reply.Done) (sym is) (refl, refl) }
+end_lawful p es place at is = record { turn = turn_first p (store_after p es); going = at.going; next = at.next; answer = subst (λ (x : Option Command). IsAnswer p (store_after p es) 0 x reply.Done) (sym is) (inl refl) }
 
 pub holds_ended : (p now : Plan) (es later : List Entry) (t : Held) (place : ℕ) → IsBooked p now es later (done_at place None reply.Done) → Holds p es t → IsAt p es place → command_at p 0 place ≡ Some command.End → Holds now later t
 holds_ended p now es later t place b h at is =
     pushed p now es later (done_at place None reply.Done) t t b h (end_lawful p es place at is)
-    (subst (λ (s : Store). AreTied p s t) (sym (ended_store p es place is)) (tied_moved p (record (store_after p es) { ended = set (store_after p es).ended 0 true }) t place (tied_ended p (store_after p es) t h.tied))) refl refl
+    (subst (λ (s : Store). AreTied p s t) (sym (ended_store p es place is)) (tied_moved p (store_after p es) t (stepped (progress_of (store_after p es) 0) true) h.tied)) refl refl
 
 completed : (p : Plan) (es : List Entry) (place : ℕ) → IsForm p → command_at p 0 place ≡ Some command.End → IsComplete p (es ++ done_at place None reply.Done ∷ [])
 unfolding IsComplete

@@ -4,7 +4,7 @@ use Rattle.std.specs.Prelude.{slice_get, count_by, is_some, All}
 use Rattle.std.proofs.lemmas.List.{length-replicate, length-map, length-set}
 use Rattle.script.specs.Plans.{Plan, ProcessPlan, nobody}
 use Rattle.script.specs.declared.plan.VolumeLine.{VolumeLine}
-use Rattle.flat_store.specs.Flat.{Store, boot, records_in, records_of, entries_in, entries_of}
+use Rattle.flat_model.specs.Store.{Store, Progress, boot, at_first, progress_of, records_in, records_of, entries_in, entries_of}
 use Rattle.vtoc.specs.Vtoc.{Entry, entry_at, fresh_entry}
 use Rattle.volumes.specs.declared.Part.{Part}
 use Rattle.volumes.specs.declared.drive.FailLine.{FailLine}
@@ -17,8 +17,8 @@ use Rattle.paged_segs.specs.Effects.{begun}
 use Rattle.core_map.specs.declared.Frame.TheVariants.{Free}
 use Rattle.dir_tree.specs.Nodes.{root_alone}
 use Rattle.page_control.specs.Picture.{picture, is_stored as is_filed}
-use Rattle.flat_store.specs.Legal.{IsComplete, part}
-use Rattle.flat_store.proofs.BookLaws.{legal_nil, store_after-nil}
+use Rattle.flat_model.specs.Legal.{IsComplete, part}
+use Rattle.flat_model.proofs.BookLaws.{legal_nil, store_after-nil}
 use Rattle.runner.specs.Machines.{Holds, IsForm, IsUnderway}
 use Rattle.runner.specs.Starts.{part_of, volumes_of}
 use Rattle.runner.specs.Tables.{Held, AreTied}
@@ -125,13 +125,13 @@ holds_begun p t f segs shown filed places tree known lengths stored = record {
 }
 
 -- the process is at its first command
-boot_at : (p : Plan) → 0 < length p.processes → (get_or (boot p).places 0 0 ≡ 0) × (get_or (boot p).ended 0 true ≡ false)
+boot_at : (p : Plan) → 0 < length p.processes → progress_of (boot p) 0 ≡ at_first
 unfolding boot
 boot_at p some = by_processes p.processes some
   where
-    by_processes : (xs : List ProcessPlan) → 0 < length xs → (get_or {A = ℕ} (replicate (length xs) 0) 0 0 ≡ 0) × (get_or (replicate (length xs) false) 0 true ≡ false)
+    by_processes : (xs : List ProcessPlan) → 0 < length xs → get_or (replicate (length xs) at_first) 0 (record { place = 0; tries = 0; ended = true; faulted = false }) ≡ at_first
     by_processes [] some = absurd (omega (arith, some))
-    by_processes (x ∷ xs) some = (refl, refl)
+    by_processes (x ∷ xs) some = refl
 
 process_some : (xs : List ProcessPlan) → 0 < length (get_or xs 0 (record { who = nobody; commands = [] })).commands → 0 < length xs
 process_some [] some = absurd (omega (arith, some))
@@ -143,8 +143,8 @@ underway_begun p f = record {
   goes = λ some.
       let first = boot_at p (process_some p.processes some) in
       record {
-        next = ap (λ (s : Store). get_or s.places 0 0) (store_after-nil p) ∙ first.0;
-        going = ap (λ (s : Store). get_or s.ended 0 true) (store_after-nil p) ∙ first.1;
+        next = ap (λ (s : Store). (progress_of s 0).place) (store_after-nil p) ∙ ap (λ (q : Progress). q.place) first;
+        going = ap (λ (s : Store). (progress_of s 0).ended) (store_after-nil p) ∙ ap (λ (q : Progress). q.ended) first;
       };
   done = λ none k below. absurd (omega (arith, none, f.acts (omega (arith, below))));
 }

@@ -1,10 +1,10 @@
 -- A page that has left its frame, in the book.
-use Rattle.std.proofs.Common.{◌≡◌, ◌≢◌, ℕ, true, List, get_or, refl, sym, ap, subst, ◌∙◌}
+use Rattle.std.proofs.Common.{◌≡◌, ◌≢◌, ℕ, true, List, refl, sym, ap, subst, ◌∙◌}
 use Rattle.script.specs.Plans.{Plan}
 use Rattle.book.specs.declared.entries.Entry.{Entry}
 use Rattle.book.specs.declared.entries.Entry.TheVariants as entry
-use Rattle.flat_store.specs.Flat.{Store}
-use Rattle.flat_store.specs.Legal.{IsLawful, MayRelease, after_entry, store_after}
+use Rattle.flat_model.specs.Store.{Store, progress_of}
+use Rattle.flat_model.specs.Legal.{IsLawful, MayRelease, after_entry, store_after}
 use Rattle.page_control.specs.declared.Left.{Left}
 use Rattle.page_control.specs.declared.Left.TheVariants.{Released, Kept}
 use Rattle.page_control.specs.Picture.{is_stored as is_filed}
@@ -63,4 +63,4 @@ at_released p one two now es first second later old new gone place b last h g fi
     let may : MayRelease (store_after two second) gone.uid gone.page = may_release two (store_after two second) old new gone held.tied filed g.emptied left in
     let after = released_after two (store_after two second) gone.uid gone.page may in
     let before : IsAt two second place = at_kept p one two es first second gone.frame place b at in
-    at_pushed two now second later (entry.Release gone.uid gone.page) place place last (ap (λ (s : Store). get_or s.places 0 0) after.1 ∙ before.next) (ap (λ (s : Store). get_or s.ended 0 true) after.1 ∙ before.going)
+    at_pushed two now second later (entry.Release gone.uid gone.page) place place last (ap (λ (s : Store). (progress_of s 0).place) after.1 ∙ before.next) (ap (λ (s : Store). (progress_of s 0).ended) after.1 ∙ before.going)

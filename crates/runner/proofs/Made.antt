@@ -1,16 +1,18 @@
 -- A segment is made.
-use Rattle.std.proofs.Common.{◌≡◌, ◌≢◌, ℕ, ◌+◌, ◌<◌, ◌≤◌, Bool, true, false, cond, eqb, List, [], ◌∷◌, ◌++◌, length, Some, is_some, refl, sym, ap, ◌∙◌, arith, get_or, inl, inr, ◌⊎◌}
+use Rattle.std.proofs.Common.{◌≡◌, ◌≢◌, ℕ, ◌+◌, ◌<◌, ◌≤◌, Bool, true, false, cond, eqb, List, [], ◌∷◌, ◌++◌, length, map, Some, is_some, refl, sym, ap, ◌∙◌, arith, get_or, inl, inr, ◌⊎◌}
+use Rattle.std.specs.List.{sum}
 use Rattle.std.proofs.lemmas.Bool.{cases_eq}
 use Rattle.std.proofs.lemmas.Bool.Decides.{nat_tests}
 use Rattle.std.proofs.lemmas.List.{length-append, get_or_append_left}
-use Rattle.std.proofs.lemmas.List.Sums.{sum_by-cons}
+use Rattle.std.proofs.lemmas.List.Sums.{sum_by-cons, sum-map}
 use Rattle.std.proofs.Math.Seq.{get_or-append_seam}
 use Rattle.script.specs.Plans.{Plan, who_of}
 use Rattle.tree_model.specs.Access.{Row}
 use Rattle.tree_model.specs.Tree.{Node, node_in, entries_on}
-use Rattle.flat_store.specs.Pages.{is_stored}
-use Rattle.flat_store.specs.Flat.{Store, owner_row, made_in}
-use Rattle.flat_store.proofs.Changes.{taken_new}
+use Rattle.flat_model.specs.Pages.{is_stored}
+use Rattle.flat_model.specs.Store.{Store}
+use Rattle.flat_model.specs.Making.{owner_row}
+use Rattle.flat_model.proofs.CountLaws.{taken_new}
 use Rattle.dir_tree.specs.Nodes.{Branches, added}
 use Rattle.page_control.specs.declared.Home.{Home}
 use Rattle.page_control.specs.Picture.{picture, is_stored as is_filed}
@@ -34,10 +36,14 @@ home_last homes home = get_or-append_seam homes home [] root_home
 old_or_last : (n i : ℕ) → i < n + 1 → (i < n) ⊎ (i ≡ n)
 old_or_last n i lt = elim (cases_eq i n) [ inl same ↦ inr same | inr other ↦ inl (omega (arith, lt, other)) ]
 
+quotas_more : (n : Node) (ns : List Node) → sum (map (λ m. m.quota) (n ∷ ns)) ≡ n.quota + sum (map (λ m. m.quota) ns)
+quotas_more n ns =
+    sum-map (λ (m : Node). m.quota) (n ∷ ns) ∙ sum_by-cons (λ (m : Node). m.quota) n ns ∙ ap (λ (k : ℕ). n.quota + k) (sym (sum-map (λ (m : Node). m.quota) ns))
+
 named_made : (p : Plan) (ns : List Node) (free : ℕ) (homes : List Home) (tree : Branches) (counts : List ℕ) (home : Home) (directory pages volume entry : ℕ) (name : List ℕ) (rows : List Row)
-    → AreNamed p ns free homes tree counts → pages ≤ 256 → length ns ≤ 4096 → home.volume ≡ volume
+    → AreNamed p ns free homes tree counts → pages ≤ 256 → rows ≡ owner_row (who_of p 0) ∷ [] → length ns ≤ 4096 → home.volume ≡ volume
     → AreNamed p (new_node free directory name volume pages rows 0 ∷ ns) (free + 1) (homes ++ home ∷ []) (added tree directory (record { name = name; dir = false; volume = volume; entry = entry; length = pages; acl = rows })) (counts ++ pages ∷ [])
-named_made p ns free homes tree counts home directory pages volume entry name rows h few room at =
+named_made p ns free homes tree counts home directory pages volume entry name rows h few owned room at =
     let next = h.next in
     let count = h.count in
     let nodes_count = h.nodes_count in
@@ -56,14 +62,14 @@ named_made p ns free homes tree counts home directory pages volume entry name ro
       segments = λ i lt. segment i (old_or_last (length homes) i (omega (arith, lt, more)));
       others = λ u there ne. other u (eqb free u) refl there ne (omega (arith, more));
       root = (let not_new : eqb free 1 ≡ false = (let c = count in grind (arith, nat_tests)) in rw not_new h.root);
-      quotas = (let sum = h.quotas in omega (arith, sum));
+      quotas = (let sum_is = h.quotas in quotas_more (new_node free directory name volume pages rows 0) ns ∙ omega (arith, sum_is));
     }
   where
     no_quota : (u : ℕ) → 2 ≤ u → root_quota p.quota u ≡ 0
     no_quota u two = (let test : eqb u 1 ≡ false = grind (arith, nat_tests) in rw test refl)
 
     segment : (i : ℕ) → (i < length homes) ⊎ (i ≡ length homes)
-        → IsSegmentIn (node_in (new_node free directory name volume pages rows 0 ∷ ns) (i + 2)) (i + 2) (home_at (homes ++ home ∷ []) i).volume (get_or (counts ++ pages ∷ []) i 0)
+        → IsSegmentIn (who_of p 0) (node_in (new_node free directory name volume pages rows 0 ∷ ns) (i + 2)) (i + 2) (home_at (homes ++ home ∷ []) i).volume (get_or (counts ++ pages ∷ []) i 0)
     segment i (inl lt) =
         let c = h.count in
         let l = h.lengths in
@@ -76,7 +82,7 @@ named_made p ns free homes tree counts home directory pages volume entry name ro
         let test : eqb free (i + 2) ≡ true = grind (arith, nat_tests) in
         let count : get_or (counts ++ pages ∷ []) i 0 ≡ pages = ap (get_or (counts ++ pages ∷ []) i) refl ∙ ap (λ (k : ℕ). get_or (counts ++ pages ∷ []) k 0) (e ∙ sym l) ∙ get_or-append_seam counts pages [] 0 in
         let volume_is : (home_at (homes ++ home ∷ []) i).volume ≡ volume = ap (λ (k : ℕ). (home_at (homes ++ home ∷ []) k).volume) e ∙ ap (λ (x : Home). x.volume) (home_last homes home) ∙ at in
-        rw (test, count, volume_is) (record { uid = omega (arith, c, e); kind = refl; volume = refl; pages = refl; most = few })
+        rw (test, count, volume_is) (record { uid = omega (arith, c, e); kind = refl; volume = refl; pages = refl; most = few; rows = owned })
 
     other : (u : ℕ) (z : Bool) → eqb free u ≡ z → is_some (cond z (Some (new_node free directory name volume pages rows 0)) (node_in ns u)) ≡ true → u ≢ 1 → length (homes ++ home ∷ []) ≡ length homes + 1
         → (2 ≤ u) × (u < length (homes ++ home ∷ []) + 2)
@@ -107,27 +113,33 @@ entries_made n ns volume count at were v =
         let also : eqb v volume ≡ false = grind (arith, nat_tests) in
         rw (here, also) (omega arith)
 
--- a segment of so many pages on a volume, under a name in a directory
-pub tied_made : (p : Plan) (s : Store) (old new : Held) (k pages volume entry directory : ℕ) (name : List ℕ) → AreTied p s old → pages ≤ 256 → length s.nodes ≤ 4096
+-- the store with a new segment of so many pages on a volume, under a name in a directory
+abbrev pub with_new : Plan → Store → ℕ → ℕ → ℕ → List ℕ → Store
+with_new p s pages volume directory name = record s {
+  nodes = new_node s.next directory name volume pages (owner_row (who_of p 0) ∷ []) 0 ∷ s.nodes;
+  next = s.next + 1;
+}
+
+pub tied_made : (p : Plan) (s : Store) (old new : Held) (pages volume entry directory : ℕ) (name : List ℕ) → AreTied p s old → pages ≤ 256 → length s.nodes ≤ 4096
     → new.segs ≡ made old.segs volume → used new.segs.storage.vtocs ≡ one_more (used old.segs.storage.vtocs) volume
     → picture new.segs.storage ≡ picture old.segs.storage → is_filed new.segs.storage ≡ is_filed old.segs.storage → HasSizes old.segs.storage new.segs.storage
-    → new.tree ≡ added old.tree directory (record { name = name; dir = false; volume = volume; entry = entry; length = pages; acl = owner_row (who_of p k) ∷ [] })
-    → new.lengths ≡ old.lengths ++ pages ∷ [] → new.known ≡ old.known → new.stored ≡ old.stored → AreTied p (made_in p s k pages volume directory name) new
-tied_made p s old new k pages volume entry directory name h few room segs places shown filed sizes tree lengths known stored =
+    → new.tree ≡ added old.tree directory (record { name = name; dir = false; volume = volume; entry = entry; length = pages; acl = owner_row (who_of p 0) ∷ [] })
+    → new.lengths ≡ old.lengths ++ pages ∷ [] → new.known ≡ old.known → new.stored ≡ old.stored → AreTied p (with_new p s pages volume directory name) new
+tied_made p s old new pages volume entry directory name h few room segs places shown filed sizes tree lengths known stored =
     let home : Home = record { volume = volume; entry = next_entry old.segs volume } in
     let homes : new.segs.homes ≡ old.segs.homes ++ home ∷ [] = ap (λ (x : Segs). x.homes) segs in
     let more : length new.segs.homes ≡ length old.segs.homes + 1 = ap (λ (xs : List Home). length xs) homes ∙ length-append old.segs.homes (home ∷ []) in
     let records : taken new.segs.storage.records ≡ taken old.segs.storage.records = ap (λ (x : Segs). taken x.storage.records) segs in
     let c = h.counted in
     record {
-      named = rw (homes, tree, lengths) (named_made p s.nodes s.next old.segs.homes old.tree old.lengths home directory pages volume entry name (owner_row (who_of p k) ∷ []) h.named few room refl);
-      numbered = numbered_same s.known (length old.segs.homes) (length new.segs.homes) old.known new.known h.numbered (omega (arith, more)) known;
+      named = rw (homes, tree, lengths) (named_made p s.nodes s.next old.segs.homes old.tree old.lengths home directory pages volume entry name (owner_row (who_of p 0) ∷ []) h.named few refl room refl);
+      numbered = numbered_same p s.known (length old.segs.homes) (length new.segs.homes) old.known new.known h.numbered (omega (arith, more)) known;
       pages = pages_same s.words s.stored (length old.segs.homes) (length new.segs.homes) old.segs.storage new.segs.storage h.pages (omega (arith, more)) shown filed;
       counted = record {
         stored = stored ∙ c.stored;
         within = c.within;
-        records = λ v. taken_new (new_node s.next directory name volume pages (owner_row (who_of p k) ∷ []) 0) s.nodes s.stored v (λ page. none_yet page (is_stored s.stored s.next page) refl) ∙ c.records v ∙ sym (λ i. records i v);
-        homes = λ v. entries_made (new_node s.next directory name volume pages (owner_row (who_of p k) ∷ []) 0) s.nodes volume (used old.segs.storage.vtocs) refl c.homes v ∙ sym (λ i. places i v);
+        records = λ v. taken_new (new_node s.next directory name volume pages (owner_row (who_of p 0) ∷ []) 0) s.nodes s.stored v (λ page. none_yet page (is_stored s.stored s.next page) refl) ∙ c.records v ∙ sym (λ i. records i v);
+        homes = λ v. entries_made (new_node s.next directory name volume pages (owner_row (who_of p 0) ∷ []) 0) s.nodes volume (used old.segs.storage.vtocs) refl c.homes v ∙ sym (λ i. places i v);
         record_sizes = λ v. (λ i. sizes.records i v) ∙ c.record_sizes v;
         entry_sizes = λ v. (λ i. sizes.places i v) ∙ c.entry_sizes v;
       };

@@ -2,8 +2,7 @@
 use Rattle.std.proofs.Common.{◌≡◌, ℕ, ◌+◌, ◌≤◌, List, length, Option, sym, ap, ◌∙◌, arith, get_or}
 use Rattle.script.specs.Plans.{Plan}
 use Rattle.tree_model.specs.Tree.{Node}
-use Rattle.flat_store.specs.Words.{Words}
-use Rattle.flat_store.specs.Flat.{Knows}
+use Rattle.flat_model.specs.Pages.{Words}
 use Rattle.dir_tree.specs.Nodes.{Branches}
 use Rattle.page_control.specs.declared.Home.{Home}
 use Rattle.page_control.specs.Plain.{Plain}
@@ -15,8 +14,9 @@ pub named_same : (p : Plan) (ns : List Node) (free : ℕ) (homes others : List H
 named_same p ns free homes others tree leaves counts more h a b c = rw (a, b, c) h
 
 -- more segments, and the same numbers
-pub numbered_same : (ks : List Knows) (count most : ℕ) (kst now : List (Option ℕ)) → AreNumbered ks count kst → count ≤ most → now ≡ kst → AreNumbered ks most now
-numbered_same ks count most kst now h le same = rw same (record {
+pub numbered_same : (p : Plan) (ks : List (List (Option ℕ))) (count most : ℕ) (kst now : List (Option ℕ)) → AreNumbered p ks count kst → count ≤ most → now ≡ kst → AreNumbered p ks most now
+numbered_same p ks count most kst now h le same = rw same (record {
+  processes = h.processes;
   same = h.same;
   places = h.places;
   there = λ n u at. (let old = h.there n u at in let below = old.1 in (old.0, omega (arith, below, le)));

@@ -4,7 +4,7 @@ use Rattle.std.specs.Prelude.{Result, Ok, Err, is_some}
 use Rattle.book.specs.declared.replies.Reply.{Reply}
 use Rattle.book.specs.declared.replies.Reply.TheVariants as reply
 use Rattle.tree_model.specs.Tree.{Node as Term, Walk, LeadsTo, Missing, InSegment, branch_in, has_directory, walk_in}
-use Rattle.flat_store.specs.Flat.{parts_of, before_parts}
+use Rattle.flat_model.specs.Branches.{parts_of, before_parts}
 use Rattle.dir_tree.specs.Nodes.{with_quotas, is_directory, path_answer, add_fault_of, unless}
 use Rattle.dir_tree.specs.declared.node.Node.{Node}
 use Rattle.dir_tree.specs.declared.node.PathFault.{PathFault}

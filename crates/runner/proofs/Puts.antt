@@ -3,10 +3,8 @@ use Rattle.std.proofs.Common.{◌≡◌, ◌≢◌, ℕ, ◌+◌, ◌*◌, ◌/�
 use Rattle.std.proofs.lemmas.Bool.Decides.{nat_tests}
 use Rattle.std.proofs.lemmas.List.{get_or-set_same, get_or-set_other, length-set}
 use Rattle.script.specs.Plans.{Plan}
-use Rattle.flat_store.specs.Words.{Words, word_at, with_word}
-use Rattle.flat_store.specs.Pages.{is_stored}
-use Rattle.flat_store.specs.Flat.{Store}
-use Rattle.flat_store.proofs.WordLaws.{word_at-with}
+use Rattle.flat_model.specs.Pages.{Words, with_word, is_stored}
+use Rattle.flat_model.specs.Store.{Store}
 use Rattle.page_control.specs.declared.Home.{Home}
 use Rattle.page_control.specs.Plain.{Plain}
 use Rattle.page_control.specs.Picture.{picture, is_stored as is_filed, changed_at}
@@ -18,10 +16,10 @@ use Rattle.runner.proofs.Parts.{named_same, numbered_same, counted_same}
 abbrev pub place_of : ℕ → ℕ → ℕ
 place_of q x = 1024 * q + x
 
-pub same_place : (o q x : ℕ) → x < 1024 → eqb o (place_of q x) ≡ (eqb (o / 1024) q && eqb (o % 1024) x)
+pub same_place : (o q x : ℕ) → x < 1024 → eqb (place_of q x) o ≡ (eqb (o / 1024) q && eqb (o % 1024) x)
 same_place o q x within = both (eqb (o / 1024) q) (eqb (o % 1024) x) refl refl
   where
-    both : (a b : Bool) → eqb (o / 1024) q ≡ a → eqb (o % 1024) x ≡ b → eqb o (place_of q x) ≡ (a && b)
+    both : (a b : Bool) → eqb (o / 1024) q ≡ a → eqb (o % 1024) x ≡ b → eqb (place_of q x) o ≡ (a && b)
     both true true e f =
         let page : o / 1024 ≡ q = grind (arith, nat_tests) in
         let at : o % 1024 ≡ x = grind (arith, nat_tests) in
@@ -44,17 +42,20 @@ word_set words at x w there = chosen (eqb at x) refl
     chosen false e = get_or-set_other words at x w 0 (grind (arith, nat_tests))
 
 -- the words of each page once one was written into a page
-pub words_put : (ws : Words) (old : ℕ → ℕ → List ℕ) (page_words : List ℕ) (i o w j q x : ℕ) → o < 262144 → q < 256 → x < 1024 → length page_words ≡ 1024 → page_words ≡ old (i + 2) (o / 1024)
-    → ((k page at : ℕ) → page < 256 → at < 1024 → get_or (old (k + 2) page) at 0 ≡ word_at ws (k + 2) (1024 * page + at))
-    → get_or (changed_at old (i + 2) (o / 1024) (set page_words (o % 1024) w) (j + 2) q) x 0 ≡ word_at (with_word ws (i + 2) o w) (j + 2) (1024 * q + x)
+pub words_put : (ws : Words) (old : ℕ → ℕ → List ℕ) (page_words : List ℕ) (i o w j q x : ℕ) → q < 256 → x < 1024 → length page_words ≡ 1024 → page_words ≡ old (i + 2) (o / 1024)
+    → ((k page at : ℕ) → page < 256 → at < 1024 → get_or (old (k + 2) page) at 0 ≡ ws (k + 2) (1024 * page + at))
+    → get_or (changed_at old (i + 2) (o / 1024) (set page_words (o % 1024) w) (j + 2) q) x 0 ≡ with_word ws (i + 2) o w (j + 2) (1024 * q + x)
 unfolding changed_at
-words_put ws old page_words i o w j q x lo lq lx size are all =
+words_put ws old page_words i o w j q x lq lx size are all =
     by_page (eqb (i + 2) (j + 2)) (eqb (o / 1024) q) refl refl
-    ∙ ap (λ (z : Bool). cond (eqb (i + 2) (j + 2) && z) w (word_at ws (j + 2) (1024 * q + x))) (sym (same_place o q x lx))
-    ∙ sym (word_at-with ws (i + 2) o w (j + 2) (1024 * q + x) lo (omega arith))
+    ∙ ap (λ (z : Bool). cond (eqb (i + 2) (j + 2) && z) w (ws (j + 2) (1024 * q + x))) (sym (same_place o q x lx))
+    ∙ ap (λ (z : Bool). cond (z && eqb (1024 * q + x) o) w (ws (j + 2) (1024 * q + x))) (turned (i + 2) (j + 2))
   where
+    turned : (a b : ℕ) → eqb a b ≡ eqb b a
+    turned a b = grind (arith, nat_tests)
+
     by_page : (a b : Bool) → eqb (i + 2) (j + 2) ≡ a → eqb (o / 1024) q ≡ b
-        → get_or (cond (a && b) (set page_words (o % 1024) w) (old (j + 2) q)) x 0 ≡ cond (a && (b && eqb (o % 1024) x)) w (word_at ws (j + 2) (1024 * q + x))
+        → get_or (cond (a && b) (set page_words (o % 1024) w) (old (j + 2) q)) x 0 ≡ cond (a && (b && eqb (o % 1024) x)) w (ws (j + 2) (1024 * q + x))
     by_page true true e f =
         let place : i ≡ j = grind (arith, nat_tests) in
         let page : o / 1024 ≡ q = grind (arith, nat_tests) in
@@ -77,13 +78,11 @@ size_put old page_words u q at w v page size others = chosen (eqb u v && eqb q p
 pages_put : (s : Store) (count i o w : ℕ) (old new : Plain) → ArePages s.words s.stored count old → is_stored s.stored (i + 2) (o / 1024) ≡ true
     → picture new ≡ changed_at (picture old) (i + 2) (o / 1024) (set (picture old (i + 2) (o / 1024)) (o % 1024) w) → is_filed new ≡ is_filed old → ArePages (with_word s.words (i + 2) o w) s.stored count new
 pages_put s count i o w old new h on shown filed =
-    let there = h.inside (i + 2) (o / 1024) on in
-    let within = there.2 in
     let size = h.sizes (i + 2) (o / 1024) on in
     record {
       words = λ j q x lq lx.
           ap (λ (f : ℕ → ℕ → List ℕ). get_or (f (j + 2) q) x 0) shown
-          ∙ words_put s.words (picture old) (picture old (i + 2) (o / 1024)) i o w j q x (omega (arith, within)) lq lx size refl h.words;
+          ∙ words_put s.words (picture old) (picture old (i + 2) (o / 1024)) i o w j q x lq lx size refl h.words;
       stored = λ u q. h.stored u q ∙ sym (λ k. filed k u q);
       inside = h.inside;
       sizes = λ u q stays.
@@ -103,7 +102,7 @@ tied_put p s old new i o w h on shown filed homes tree known lengths stored reco
     let count : length new.segs.homes ≡ length old.segs.homes = ap (λ (xs : List Home). length xs) homes in
     record {
       named = named_same p s.nodes s.next old.segs.homes new.segs.homes old.tree new.tree old.lengths new.lengths h.named homes tree lengths;
-      numbered = numbered_same s.known (length old.segs.homes) (length new.segs.homes) old.known new.known h.numbered (omega (arith, count)) known;
+      numbered = numbered_same p s.known (length old.segs.homes) (length new.segs.homes) old.known new.known h.numbered (omega (arith, count)) known;
       pages = rw count (pages_put s (length old.segs.homes) i o w old.segs.storage new.segs.storage h.pages on shown filed);
       counted = counted_same p s.nodes s.stored old.segs.storage new.segs.storage old.stored new.stored h.counted stored records places record_sizes entry_sizes;
       processes = h.processes;

@@ -10,8 +10,8 @@ use Rattle.script.specs.Forms.{IsPlan, is_command, is_end, is_process, is_volume
 use Rattle.script.specs.declared.commands.Command.{Command}
 use Rattle.script.specs.declared.commands.Command.TheVariants as command
 use Rattle.script.specs.declared.plan.VolumeLine.{VolumeLine}
-use Rattle.flat_store.specs.Flat.{records_in, entries_in}
-use Rattle.flat_store.proofs.Scripts.{command_there}
+use Rattle.flat_model.specs.Store.{records_in}
+use Rattle.flat_model.proofs.ScriptLaws.{command_planned, root_there}
 use Rattle.runner.specs.Machines.{IsFit, IsPlaced, IsForm}
 use Rattle.runner.specs.Runs.{command_runs, process_runs, processes_run}
 
@@ -101,11 +101,6 @@ few_records [] v h = omega arith
 few_records (x ∷ xs) zero h = let range : (nat_le 1 x.records && nat_le x.records 16384) ≡ true = (and_parts _ _ (and_parts _ _ (and_parts _ _ h).0).1).0 in grind (arith, nat_tests)
 few_records (x ∷ xs) (suc v) h = few_records xs v (and_parts _ _ h).1
 
-root_entry : (xs : List VolumeLine) → 1 ≤ length xs → list_all is_volume xs ≡ true → 1 ≤ entries_in (slice_get xs 0)
-unfolding is_volume
-root_entry [] some h = absurd (omega (arith, some))
-root_entry (x ∷ xs) some h = let range : (nat_le 1 x.entries && nat_le x.entries 4097) ≡ true = (and_parts _ _ (and_parts _ _ (and_parts _ _ h).0).1).1 in grind (arith, nat_tests)
-
 -- a process has a command
 some_commands : (cs : List Command) → ends_once cs ≡ true → 0 < length cs
 unfolding ends_once
@@ -124,11 +119,11 @@ form_of p is h =
     record {
       processes = few_processes p.processes h;
       frames = some_frame p is;
-      root = root_entry p.volumes is.some is.volumes;
+      root = root_there p is;
       short = λ v. few_records p.volumes v is.volumes;
       acts = some_command (length p.volumes) p.processes is.each;
       quota = is.quota;
       commands = all.few;
-      fits = λ place c at. fits_command (length p.volumes) c (command_runs_at (commands_of p 0) place c all.run at) (command_there (length p.volumes) p.processes 0 place c is.each at);
+      fits = λ place c at. fits_command (length p.volumes) c (command_runs_at (commands_of p 0) place c all.run at) (command_planned p 0 place c is at);
       placed = all.placed;
     }

@@ -2,10 +2,10 @@
 use Rattle.std.proofs.Common.{◌≡◌, ◌≢◌, ℕ, ◌+◌, ◌-◌, ◌<◌, ◌≤◌, Bool, true, false, cond, eqb, List, [], ◌∷◌, length, Option, Some, None, refl, sym, ap, ◌∙◌, arith, get_or, inl, inr, ◌⊎◌}
 use Rattle.std.proofs.lemmas.Bool.{cases_eq}
 use Rattle.std.proofs.lemmas.Bool.Decides.{nat_tests}
-use Rattle.script.specs.Plans.{Plan}
+use Rattle.script.specs.Plans.{Plan, who_of}
 use Rattle.tree_model.specs.Tree.{Node, node_in, volume_in, taken_on}
-use Rattle.flat_store.specs.Pages.{is_stored, with_stored, without_stored, IsOnce}
-use Rattle.flat_store.proofs.Changes.{count_with, count_without}
+use Rattle.flat_model.specs.Pages.{is_stored, with_stored, without_stored, IsOnce}
+use Rattle.flat_model.proofs.CountLaws.{count_with, count_without}
 use Rattle.dir_tree.specs.Nodes.{Branches}
 use Rattle.page_control.specs.declared.Home.{Home}
 use Rattle.paged_segs.specs.Segs.{home_at}
@@ -27,7 +27,7 @@ volume_found (m ∷ ns) u n e = here (eqb m.uid u) (λ rest. volume_found ns u n
 pub volume_of_segment : (p : Plan) (ns : List Node) (free : ℕ) (homes : List Home) (tree : Branches) (counts : List ℕ) (i : ℕ) → AreNamed p ns free homes tree counts → i < length homes → volume_in ns (i + 2) ≡ (home_at homes i).volume
 volume_of_segment p ns free homes tree counts i h lt = by_node (node_in ns (i + 2)) refl (h.segments i lt)
   where
-    by_node : (o : Option Node) → node_in ns (i + 2) ≡ o → IsSegmentIn o (i + 2) (home_at homes i).volume (get_or counts i 0) → volume_in ns (i + 2) ≡ (home_at homes i).volume
+    by_node : (o : Option Node) → node_in ns (i + 2) ≡ o → IsSegmentIn (who_of p 0) o (i + 2) (home_at homes i).volume (get_or counts i 0) → volume_in ns (i + 2) ≡ (home_at homes i).volume
     by_node None e is = absurd is
     by_node (Some n) e is = volume_found ns (i + 2) n e ∙ is.volume
 
@@ -57,20 +57,20 @@ taken_more ns xs u q volume count off at were v =
         rw (here, also) (omega arith)
 
 -- one page less
-pub taken_less : (ns : List Node) (xs : List (ℕ × ℕ)) (u q volume : ℕ) (count : ℕ → ℕ) → IsOnce xs → is_stored xs u q ≡ true → volume_in ns u ≡ volume → ((v : ℕ) → taken_on ns xs v ≡ count v) → (v : ℕ) → taken_on ns (without_stored xs u q) v ≡ one_less count volume v
+pub taken_less : (ns : List Node) (xs : List (ℕ × ℕ)) (u q volume : ℕ) (count : ℕ → ℕ) → IsOnce xs → is_stored xs u q ≡ true → volume_in ns u ≡ volume → ((v : ℕ) → taken_on ns xs v ≡ count v) → (v : ℕ) → taken_on ns (without_stored xs u (λ y. eqb y q)) v ≡ one_less count volume v
 unfolding taken_on one_less
 taken_less ns xs u q volume count once on at were v =
     by_volume (cases_eq v volume)
-    (ap (λ (n : ℕ). taken_on ns (without_stored xs u q) v + cond {A = ℕ} (eqb n v) 1 0) (sym at) ∙ count_without (λ x. eqb (volume_in ns x.0) v) xs u q once on ∙ were v)
+    (ap (λ (n : ℕ). taken_on ns (without_stored xs u (λ y. eqb y q)) v + cond {A = ℕ} (eqb n v) 1 0) (sym at) ∙ count_without (λ x. eqb (volume_in ns x.0) v) xs u q once on ∙ were v)
   where
-    by_volume : (v ≡ volume) ⊎ (v ≢ volume) → taken_on ns (without_stored xs u q) v + cond {A = ℕ} (eqb volume v) 1 0 ≡ count v → taken_on ns (without_stored xs u q) v ≡ cond (eqb v volume) (count v - 1) (count v)
+    by_volume : (v ≡ volume) ⊎ (v ≢ volume) → taken_on ns (without_stored xs u (λ y. eqb y q)) v + cond {A = ℕ} (eqb volume v) 1 0 ≡ count v → taken_on ns (without_stored xs u (λ y. eqb y q)) v ≡ cond (eqb v volume) (count v - 1) (count v)
     by_volume (inl e) less =
         let here : eqb volume v ≡ true = grind (arith, nat_tests) in
         let also : eqb v volume ≡ true = grind (arith, nat_tests) in
-        let one : taken_on ns (without_stored xs u q) v + 1 ≡ count v = rw here at less in
+        let one : taken_on ns (without_stored xs u (λ y. eqb y q)) v + 1 ≡ count v = rw here at less in
         rw also (omega (arith, one))
     by_volume (inr ne) less =
         let here : eqb volume v ≡ false = grind (arith, nat_tests) in
         let also : eqb v volume ≡ false = grind (arith, nat_tests) in
-        let same : taken_on ns (without_stored xs u q) v + 0 ≡ count v = rw here at less in
+        let same : taken_on ns (without_stored xs u (λ y. eqb y q)) v + 0 ≡ count v = rw here at less in
         rw also (omega (arith, same))

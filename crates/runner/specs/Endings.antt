@@ -9,7 +9,7 @@ use Rattle.script.specs.Grammar.{script_of}
 use Rattle.script.specs.Plans.{Plan}
 use Rattle.script.specs.declared.refusals.Refusal.{Refusal}
 use Rattle.book.specs.Books.{Ledger}
-use Rattle.flat_store.specs.Legal.{IsComplete, IsLegal, IsSettled, store_after}
+use Rattle.flat_model.specs.Legal.{IsComplete, IsLegal, IsSettled, store_after}
 use Rattle.listing.specs.Listings.{listing_of}
 use Rattle.make_work.specs.Day.{made}
 use Rattle.drill.specs.Texts.{drill_text}

@@ -1,13 +1,13 @@
 -- What the machine of a run keeps, and what its steps do (own).
-use Rattle.std.specs.Prelude.{◌≡◌, ◌<◌, ◌≤◌, ℕ, ◌+◌, false, true, List, [], ◌∷◌, length, Option, Some, slice_index, slice_index_or}
+use Rattle.std.specs.Prelude.{◌≡◌, ◌<◌, ◌≤◌, ℕ, ◌+◌, false, List, [], ◌∷◌, length, Option, Some}
 use Rattle.script.specs.Plans.{Plan, command_at, commands_of}
 use Rattle.script.specs.declared.commands.Command.{Command}
 use Rattle.script.specs.declared.commands.Command.TheVariants as command
 use Rattle.book.specs.declared.entries.Entry.{Entry}
 use Rattle.book.specs.declared.entries.Entry.TheVariants as entry
 use Rattle.book.specs.declared.replies.Reply.{Reply}
-use Rattle.flat_store.specs.Flat.{Store, entries_of, records_of}
-use Rattle.flat_store.specs.Legal.{IsLegal, IsComplete, IsAnswer, store_after, after_do}
+use Rattle.flat_model.specs.Store.{Store, entries_of, records_of, progress_of}
+use Rattle.flat_model.specs.Legal.{IsLegal, IsComplete, IsAnswer, store_after, after_do}
 use Rattle.page_control.specs.declared.Left.{Left}
 use Rattle.page_control.specs.declared.Left.TheVariants as left
 use Rattle.paged_segs.specs.declared.Evicted.{Evicted}
@@ -58,8 +58,8 @@ pub record Holds (p : Plan) (es : List Entry) (t : Held) : Type 0 where
 
 -- the process hasn't ended, and this is the place of its next command
 pub record IsAt (p : Plan) (es : List Entry) (place : ℕ) : Type 0 where
-  pub next : slice_index (store_after p es).places 0 ≡ place
-  pub going : slice_index_or (store_after p es).ended 0 true ≡ false
+  pub next : (progress_of (store_after p es) 0).place ≡ place
+  pub going : (progress_of (store_after p es) 0).ended ≡ false
 
 -- the entry of the command at a place, which was answered through a frame or without one
 abbrev pub done_at : ℕ → Option ℕ → Reply → Entry
@@ -75,19 +75,19 @@ left_entries gone = entry.Take gone.frame ∷ entry.GonePage gone.frame ∷ rele
 
 -- the store once the command at a place is answered
 abbrev pub store_done : Plan → List Entry → ℕ → Reply → Store
-store_done p es place r = after_do p (store_after p es) 0 place (command_at p 0 place) r
+store_done p es place r = after_do p (store_after p es) 0 (command_at p 0 place) r
 
 -- The command at a place is answered as the flat store answers it, and the tables are those of the store then.
 pub record IsStep (p : Plan) (es : List Entry) (t new : Held) (place : ℕ) (r : Reply) : Type 0 where
   pub answer : IsAnswer p (store_after p es) 0 (command_at p 0 place) r
   pub tied : AreTied p (store_done p es place r) new
-  pub next : slice_index (store_done p es place r).places 0 ≡ place + 1
+  pub next : (progress_of (store_done p es place r) 0).place ≡ place + 1
   pub frames : length new.segs.storage.core.frames ≡ length t.segs.storage.core.frames
   pub disks : length new.segs.storage.disks ≡ length t.segs.storage.disks
 
 -- the process goes on
 pub record GoesOn (p : Plan) (es : List Entry) (place : ℕ) (r : Reply) : Type 0 where
-  pub going : slice_index_or (store_done p es place r).ended 0 true ≡ false
+  pub going : (progress_of (store_done p es place r) 0).ended ≡ false
 
 -- a step after which the process goes on
 pub record IsDone (p : Plan) (es : List Entry) (t new : Held) (place : ℕ) (r : Reply) : Type 0 where

@@ -8,9 +8,8 @@ use Rattle.page_control.specs.Picture.{volume_of, record_named, words_filed}
 use Rattle.page_control.specs.Tied.{AreFiled, vtoc_in}
 use Rattle.paged_segs.specs.Segs.{pages_of}
 use Rattle.paged_segs.specs.Counts.{taken, used}
-use Rattle.flat_store.specs.Words.{word_at}
-use Rattle.flat_store.specs.Pages.{is_stored}
-use Rattle.flat_store.specs.Flat.{Store}
+use Rattle.flat_model.specs.Pages.{is_stored}
+use Rattle.flat_model.specs.Store.{Store}
 
 -- the words on the record that the file map of a segment names for a page
 abbrev pub words_on_disk : Vols DriveState → ℕ → ℕ → List ℕ
@@ -41,4 +40,4 @@ pub record IsOnDisk (v : Vols DriveState) (s : Store) : Type 0 where
   pub filed : AreFiled v.records v.vtocs
   pub records : (w : ℕ) → taken v.records w ≡ taken_on s.nodes s.stored w
   -- the record of each stored page has its words
-  pub words : (u page o : ℕ) → is_stored s.stored u page ≡ true → o < 1024 → slice_index (words_on_disk v u page) o ≡ word_at s.words u (1024 * page + o)
+  pub words : (u page o : ℕ) → is_stored s.stored u page ≡ true → o < 1024 → slice_index (words_on_disk v u page) o ≡ s.words u (1024 * page + o)

@@ -7,7 +7,8 @@ use Rattle.script.specs.declared.commands.Command.TheVariants as command
 use Rattle.book.specs.declared.replies.Reply.{Reply}
 use Rattle.book.specs.declared.replies.Reply.TheVariants as reply
 use Rattle.tree_model.specs.Tree.{Node, Walk, LeadsTo, Missing, InSegment, branch_in, has_directory, walk_in}
-use Rattle.flat_store.specs.Flat.{parts_of, owner_row}
+use Rattle.flat_model.specs.Branches.{parts_of}
+use Rattle.flat_model.specs.Making.{owner_row}
 use Rattle.dir_tree.specs.Nodes.{with_quotas, added, is_directory}
 use Rattle.dir_tree.specs.declared.node.PathFault.{PathFault}
 use Rattle.dir_tree.specs.declared.node.PathFault.TheVariants as path_fault

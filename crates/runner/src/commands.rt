@@ -3,8 +3,8 @@
 ghost use Rattle.std.specs.Prelude.{◌≡◌, ◌<◌, ◌≤◌, ◌+◌, ℕ, Some, Ok, Err, IfOk, OnOk, length};
 ghost use Rattle.script.specs.Plans.{command_at, commands_of};
 ghost use Rattle.script.specs.declared.commands.Command.TheVariants as command;
-ghost use Rattle.flat_store.specs.Flat.{known_or_full};
-ghost use Rattle.flat_store.specs.Legal.{IsComplete};
+ghost use Rattle.flat_model.specs.Naming.{known_or_full};
+ghost use Rattle.flat_model.specs.Legal.{IsComplete};
 ghost use Rattle.runner.specs.Machines.{Follows, IsAt, IsUnderway, done_at};
 ghost use Rattle.runner.specs.Places.{IsCommand, IsMkSeg, IsInitiate, CanMake, new_segment_by, wanted_by};
 

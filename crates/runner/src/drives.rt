@@ -2,7 +2,7 @@
 
 ghost use Rattle.std.specs.Prelude.{◌≡◌, ◌<◌, IfOk, length, replicate};
 ghost use Rattle.volumes.specs.CoreDrive.{faults_of, fresh_drive};
-ghost use Rattle.flat_store.specs.Flat.{records_of};
+ghost use Rattle.flat_model.specs.Store.{records_of};
 ghost use Rattle.bulk_store.specs.AnyDrive.{any_pages, any_places, disk_of as disk_in};
 ghost use Rattle.runner.specs.Drives.{lines_in, places_in};
 

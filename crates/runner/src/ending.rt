@@ -3,7 +3,7 @@
 ghost use Rattle.std.specs.Prelude.{◌≡◌, ◌<◌, ◌≤◌, ◌+◌, ◌++◌, ℕ, IfOk, OnOk, length};
 ghost use Rattle.core_map.specs.declared.Frame.TheVariants.{Free};
 ghost use Rattle.core_map.specs.CoreMap.{frame_at, with_frame};
-ghost use Rattle.flat_store.specs.Legal.{IsComplete, IsLegal, IsSettled, store_after};
+ghost use Rattle.flat_model.specs.Legal.{IsComplete, IsLegal, IsSettled, store_after};
 ghost use Rattle.runner.specs.OnDisk.{IsOnDisk};
 
 use crate::NoMemory;

@@ -1,5 +1,5 @@
 ghost use Rattle.std.specs.Prelude.{◌≡◌, Some, IfSome, None};
-ghost use Rattle.flat_store.specs.Legal.{IsComplete, IsLegal, IsSettled, store_after};
+ghost use Rattle.flat_model.specs.Legal.{IsComplete, IsLegal, IsSettled, store_after};
 ghost use Rattle.listing.specs.Listings.{listing_of};
 ghost use Rattle.runner.specs.Endings.{change, Ends, PrintsRun, RunOf};
 ghost use Rattle.runner.specs.Machines.{IsForm};

@@ -1,7 +1,7 @@
 //! A run: from a script to its book and the volumes.
 
 ghost use Rattle.std.specs.Prelude.{◌≡◌, IfOk};
-ghost use Rattle.flat_store.specs.Legal.{IsComplete, IsLegal, IsSettled, store_after};
+ghost use Rattle.flat_model.specs.Legal.{IsComplete, IsLegal, IsSettled, store_after};
 ghost use Rattle.runner.specs.Machines.{IsForm};
 ghost use Rattle.runner.specs.OnDisk.{IsOnDisk};
 

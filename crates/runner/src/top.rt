@@ -5,7 +5,7 @@ ghost use Rattle.site_io.specs.Streams.{AppendsFront, ConsumesFront};
 ghost use Rattle.script.specs.Plans.{Plan};
 ghost use Rattle.script.specs.Grammar.{script_of};
 ghost use Rattle.script.specs.declared.refusals.Refusal.{Refusal};
-ghost use Rattle.flat_store.specs.Legal.{IsLegal, IsComplete, IsSettled, store_after};
+ghost use Rattle.flat_model.specs.Legal.{IsLegal, IsComplete, IsSettled, store_after};
 ghost use Rattle.listing.specs.Listings.{listing_of};
 ghost use Rattle.drill.specs.Texts.{drill_text};
 ghost use Rattle.make_work.specs.Day.{made};

@@ -1,4 +1,4 @@
-use Rattle.flat_store.specs.Legal.{store_after}
+use Rattle.flat_model.specs.Legal.{store_after}
 use Rattle.runner.proofs.Accounts.{tied_settled}
 use Rattle.runner.proofs.Disks.{on_disk}
 use Rattle.runner.proofs.machine.Machine.finish.Goals as goal

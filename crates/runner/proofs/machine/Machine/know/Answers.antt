@@ -3,7 +3,7 @@ use Rattle.book.specs.declared.entries.Entry.{Entry}
 use Rattle.runner.specs.Machines.{IsDone, done_at}
 use Rattle.runner.proofs.Booking.{IsBooked, holds_step, at_step}
 use Rattle.runner.proofs.NewSegments.{known_done}
-use Rattle.flat_store.specs.Flat.{known_or_full}
+use Rattle.flat_model.specs.Naming.{known_or_full}
 use Rattle.runner.proofs.machine.Machine.know.Goals as goal
 
 pub invariant_of-self : goal.invariant_of-self

@@ -1,7 +1,7 @@
 use Rattle.std.proofs.Common.{◌≡◌, ℕ, ◌<◌, length}
 use Rattle.core_map.specs.declared.Frame.TheVariants.{Free}
 use Rattle.core_map.specs.CoreMap.{frame_at}
-use Rattle.flat_store.specs.Legal.{IsComplete}
+use Rattle.flat_model.specs.Legal.{IsComplete}
 use Rattle.runner.proofs.machine.Machine.visit_all.Given as goal
 
 abbrev pub invariant-loop-f : goal.invariant-loop-f
