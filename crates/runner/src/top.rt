@@ -57,17 +57,16 @@ fn serve<R: Threads + Wait + Sync, S: Source, K: Sink, G: Gate + Sync>(
 fn answer<R: Threads + Wait + Sync, S: Source, K: Sink, G: Gate + Sync>(
     rt: &R,
     alloc: Global,
-    asked: Option<Form>,
+    words: Words,
     src: &mut S,
     out: &mut K,
     gate: &G,
 ) -> Finished
-    requires { IfSome asked IsInRange }
-    ensures ends { Ends asked (change (S.left src.old) (S.left src.new) (S.faults src.old) (S.faults src.new))
+    ensures ends { Ends (form_of words) (change (S.left src.old) (S.left src.new) (S.faults src.old) (S.faults src.new))
         (change (K.held out.old) (K.held out.new) (K.faults out.old) (K.faults out.new)) result }
-    ensures source { asked ≢ Some form.Run → src.new ≡ src.old }
+    ensures source { form_of words ≢ Some form.Run → src.new ≡ src.old }
 {
-    match asked {
+    match words.form() {
         None => with_text(out, USAGE, Status::Usage),
         Some(form) => serve(rt, alloc, form, src, out, gate),
     }
@@ -164,5 +163,5 @@ pub fn multics<R: Threads + Wait + Sync, S: Source, K: Sink, G: Gate + Sync>(
         (Rose (K.faults out.old) (K.faults out.new) → ⊥) →
         (result.status ≡ Status.Done) ⊎ (result.status ≡ Status.Memory) }
 {
-    answer(rt, alloc, words.form(), src, out, gate)
+    answer(rt, alloc, words, src, out, gate)
 }

@@ -1,98 +1,97 @@
 -- Each clause of the top call, by what the ending says. (own)
-use Rattle.std.proofs.Common.{sym, ◌∙◌}
-use Rattle.runner.proofs.Verdicts.{asked_for, by_verdict, ended, fact_only, found_done, found_drilled, found_later, found_long, found_made, found_refused, front_only, of_run, printed_in, usage_there, verdict, write_failed}
+use Rattle.runner.proofs.Verdicts.{by_verdict, ended, fact_only, found_done, found_drilled, found_later, found_long, found_made, found_refused, front_only, of_run, printed_in, usage_there, verdict, write_failed}
 use Rattle.runner.specs.declared.finished.Status.TheVariants as status
 use Rattle.runner.proofs.top.multics.Goals as goal
 
 pub returns-clause-usage : goal.returns-clause-usage
-returns-clause-usage g c = (λ e. (ended _ _ _ _ status.Usage (asked_for _ _ _ _ _ c.answer.ensures.ends c.form.ensures.form) e).0, λ e. usage_there _ _ _ _ (asked_for _ _ _ _ _ c.answer.ensures.ends c.form.ensures.form) e)
+returns-clause-usage g c = (λ e. (ended _ _ _ _ status.Usage c.answer.ensures.ends e).0, λ e. usage_there _ _ _ _ c.answer.ensures.ends e)
 
 pub returns-clause-usage_text : goal.returns-clause-usage_text
-returns-clause-usage_text g c = λ e. (ended _ _ _ _ status.Usage (asked_for _ _ _ _ _ c.answer.ensures.ends c.form.ensures.form) e).1
+returns-clause-usage_text g c = λ e. (ended _ _ _ _ status.Usage c.answer.ensures.ends e).1
 
 pub returns-clause-source : goal.returns-clause-source
-returns-clause-source g c = λ other. c.answer.ensures.source (λ e. other (sym c.form.ensures.form ∙ e))
+returns-clause-source g c = c.answer.ensures.source
 
 pub returns-clause-read_fault : goal.returns-clause-read_fault
-returns-clause-read_fault g c = λ e. (ended _ _ _ _ status.ReadFault (asked_for _ _ _ _ _ c.answer.ensures.ends c.form.ensures.form) e).1
+returns-clause-read_fault g c = λ e. (ended _ _ _ _ status.ReadFault c.answer.ensures.ends e).1
 
 pub returns-clause-read_fault_text : goal.returns-clause-read_fault_text
-returns-clause-read_fault_text g c = λ e. (ended _ _ _ _ status.ReadFault (asked_for _ _ _ _ _ c.answer.ensures.ends c.form.ensures.form) e).2
+returns-clause-read_fault_text g c = λ e. (ended _ _ _ _ status.ReadFault c.answer.ensures.ends e).2
 
 pub returns-clause-too_long : goal.returns-clause-too_long
-returns-clause-too_long g c = λ e. (ended _ _ _ _ status.TooLong (asked_for _ _ _ _ _ c.answer.ensures.ends c.form.ensures.form) e).1
+returns-clause-too_long g c = λ e. (ended _ _ _ _ status.TooLong c.answer.ensures.ends e).1
 
 pub returns-clause-too_long_text : goal.returns-clause-too_long_text
-returns-clause-too_long_text g c = λ e. (ended _ _ _ _ status.TooLong (asked_for _ _ _ _ _ c.answer.ensures.ends c.form.ensures.form) e).2
+returns-clause-too_long_text g c = λ e. (ended _ _ _ _ status.TooLong c.answer.ensures.ends e).2
 
 pub returns-clause-reads : goal.returns-clause-reads
-returns-clause-reads g c = (asked_for _ _ _ _ _ c.answer.ensures.ends c.form.ensures.form).reads
+returns-clause-reads g c = c.answer.ensures.ends.reads
 
 pub returns-clause-refused : goal.returns-clause-refused
-returns-clause-refused g c = λ r e. fact_only _ _ _ (ended _ _ _ _ (status.Script r) (asked_for _ _ _ _ _ c.answer.ensures.ends c.form.ensures.form) e).1
+returns-clause-refused g c = λ r e. fact_only _ _ _ (ended _ _ _ _ (status.Script r) c.answer.ensures.ends e).1
 
 pub returns-clause-refused_text : goal.returns-clause-refused_text
-returns-clause-refused_text g c = λ r e. (ended _ _ _ _ (status.Script r) (asked_for _ _ _ _ _ c.answer.ensures.ends c.form.ensures.form) e).2
+returns-clause-refused_text g c = λ r e. (ended _ _ _ _ (status.Script r) c.answer.ensures.ends e).2
 
 pub returns-clause-later : goal.returns-clause-later
-returns-clause-later g c = λ e. fact_only _ _ _ (ended _ _ _ _ status.Later (asked_for _ _ _ _ _ c.answer.ensures.ends c.form.ensures.form) e).1
+returns-clause-later g c = λ e. fact_only _ _ _ (ended _ _ _ _ status.Later c.answer.ensures.ends e).1
 
 pub returns-clause-later_text : goal.returns-clause-later_text
-returns-clause-later_text g c = λ e. (ended _ _ _ _ status.Later (asked_for _ _ _ _ _ c.answer.ensures.ends c.form.ensures.form) e).2
+returns-clause-later_text g c = λ e. (ended _ _ _ _ status.Later c.answer.ensures.ends e).2
 
 pub returns-clause-script : goal.returns-clause-script
-returns-clause-script g c = of_run _ c.answer.result _ (λ b r. r.script) (asked_for _ _ _ _ _ c.answer.ensures.ends c.form.ensures.form).run
+returns-clause-script g c = of_run _ c.answer.result _ (λ b r. r.script) c.answer.ensures.ends.run
 
 pub returns-clause-legal : goal.returns-clause-legal
-returns-clause-legal g c = of_run _ c.answer.result _ (λ b r. r.legal) (asked_for _ _ _ _ _ c.answer.ensures.ends c.form.ensures.form).run
+returns-clause-legal g c = of_run _ c.answer.result _ (λ b r. r.legal) c.answer.ensures.ends.run
 
 pub returns-clause-complete : goal.returns-clause-complete
-returns-clause-complete g c = of_run _ c.answer.result _ (λ b r. r.complete) (asked_for _ _ _ _ _ c.answer.ensures.ends c.form.ensures.form).run
+returns-clause-complete g c = of_run _ c.answer.result _ (λ b r. r.complete) c.answer.ensures.ends.run
 
 pub returns-clause-settled : goal.returns-clause-settled
-returns-clause-settled g c = of_run _ c.answer.result _ (λ b r. r.settled) (asked_for _ _ _ _ _ c.answer.ensures.ends c.form.ensures.form).run
+returns-clause-settled g c = of_run _ c.answer.result _ (λ b r. r.settled) c.answer.ensures.ends.run
 
 pub returns-clause-disk : goal.returns-clause-disk
-returns-clause-disk g c = of_run _ c.answer.result _ (λ b r. r.disk) (asked_for _ _ _ _ _ c.answer.ensures.ends c.form.ensures.form).run
+returns-clause-disk g c = of_run _ c.answer.result _ (λ b r. r.disk) c.answer.ensures.ends.run
 
 pub returns-clause-listing : goal.returns-clause-listing
-returns-clause-listing g c = λ asks e. printed_in _ _ _ _ (ended _ _ _ _ status.Done (asked_for _ _ _ _ _ c.answer.ensures.ends c.form.ensures.form) e) asks
+returns-clause-listing g c = λ asks e. printed_in _ _ _ _ (ended _ _ _ _ status.Done c.answer.ensures.ends e) asks
 
 pub returns-clause-front : goal.returns-clause-front
-returns-clause-front g c = λ asks e. front_only _ _ (printed_in _ _ _ _ (ended _ _ _ _ status.WriteFault (asked_for _ _ _ _ _ c.answer.ensures.ends c.form.ensures.form) e) asks)
+returns-clause-front g c = λ asks e. front_only _ _ (printed_in _ _ _ _ (ended _ _ _ _ status.WriteFault c.answer.ensures.ends e) asks)
 
 pub returns-clause-made : goal.returns-clause-made
-returns-clause-made g c = λ n asks e. printed_in _ _ _ _ (ended _ _ _ _ status.Done (asked_for _ _ _ _ _ c.answer.ensures.ends c.form.ensures.form) e) asks
+returns-clause-made g c = λ n asks e. printed_in _ _ _ _ (ended _ _ _ _ status.Done c.answer.ensures.ends e) asks
 
 pub returns-clause-made_front : goal.returns-clause-made_front
-returns-clause-made_front g c = λ n asks e. (printed_in _ _ _ _ (ended _ _ _ _ status.WriteFault (asked_for _ _ _ _ _ c.answer.ensures.ends c.form.ensures.form) e) asks).front
+returns-clause-made_front g c = λ n asks e. (printed_in _ _ _ _ (ended _ _ _ _ status.WriteFault c.answer.ensures.ends e) asks).front
 
 pub returns-clause-drilled : goal.returns-clause-drilled
-returns-clause-drilled g c = λ p f n seed asks e. printed_in _ _ _ _ (ended _ _ _ _ status.Done (asked_for _ _ _ _ _ c.answer.ensures.ends c.form.ensures.form) e) asks
+returns-clause-drilled g c = λ p f n seed asks e. printed_in _ _ _ _ (ended _ _ _ _ status.Done c.answer.ensures.ends e) asks
 
 pub returns-clause-drilled_front : goal.returns-clause-drilled_front
-returns-clause-drilled_front g c = λ p f n seed asks e. (printed_in _ _ _ _ (ended _ _ _ _ status.WriteFault (asked_for _ _ _ _ _ c.answer.ensures.ends c.form.ensures.form) e) asks).front
+returns-clause-drilled_front g c = λ p f n seed asks e. (printed_in _ _ _ _ (ended _ _ _ _ status.WriteFault c.answer.ensures.ends e) asks).front
 
 pub returns-clause-write_fault : goal.returns-clause-write_fault
-returns-clause-write_fault g c = λ e. write_failed _ _ _ (ended _ _ _ _ status.WriteFault (asked_for _ _ _ _ _ c.answer.ensures.ends c.form.ensures.form) e)
+returns-clause-write_fault g c = λ e. write_failed _ _ _ (ended _ _ _ _ status.WriteFault c.answer.ensures.ends e)
 
 pub returns-clause-memory_text : goal.returns-clause-memory_text
-returns-clause-memory_text g c = λ e. (ended _ _ _ _ status.Memory (asked_for _ _ _ _ _ c.answer.ensures.ends c.form.ensures.form) e).1
+returns-clause-memory_text g c = λ e. (ended _ _ _ _ status.Memory c.answer.ensures.ends e).1
 
 pub returns-clause-finds_too_long : goal.returns-clause-finds_too_long
-returns-clause-finds_too_long g c = λ asks fine. by_verdict _ _ _ _ (verdict _ _ _ _ (asked_for _ _ _ _ _ c.answer.ensures.ends c.form.ensures.form) asks fine) (λ bytes v. found_long _ _ _ v)
+returns-clause-finds_too_long g c = λ asks fine. by_verdict _ _ _ _ (verdict _ _ _ _ c.answer.ensures.ends asks fine) (λ bytes v. found_long _ _ _ v)
 
 pub returns-clause-finds_refused : goal.returns-clause-finds_refused
-returns-clause-finds_refused g c = λ asks fine. by_verdict _ _ _ _ (verdict _ _ _ _ (asked_for _ _ _ _ _ c.answer.ensures.ends c.form.ensures.form) asks fine) (λ bytes v. found_refused _ _ _ v)
+returns-clause-finds_refused g c = λ asks fine. by_verdict _ _ _ _ (verdict _ _ _ _ c.answer.ensures.ends asks fine) (λ bytes v. found_refused _ _ _ v)
 
 pub returns-clause-finds_later : goal.returns-clause-finds_later
-returns-clause-finds_later g c = λ asks fine. by_verdict _ _ _ _ (verdict _ _ _ _ (asked_for _ _ _ _ _ c.answer.ensures.ends c.form.ensures.form) asks fine) (λ bytes v. found_later _ _ _ v)
+returns-clause-finds_later g c = λ asks fine. by_verdict _ _ _ _ (verdict _ _ _ _ c.answer.ensures.ends asks fine) (λ bytes v. found_later _ _ _ v)
 
 pub returns-clause-completes : goal.returns-clause-completes
-returns-clause-completes g c = λ asks fine whole. by_verdict _ _ _ _ (verdict _ _ _ _ (asked_for _ _ _ _ _ c.answer.ensures.ends c.form.ensures.form) asks fine) (λ bytes v. found_done _ _ _ v whole)
+returns-clause-completes g c = λ asks fine whole. by_verdict _ _ _ _ (verdict _ _ _ _ c.answer.ensures.ends asks fine) (λ bytes v. found_done _ _ _ v whole)
 
 pub returns-clause-makes : goal.returns-clause-makes
-returns-clause-makes g c = λ n asks fine. found_made _ _ _ _ n (asked_for _ _ _ _ _ c.answer.ensures.ends c.form.ensures.form) asks fine
+returns-clause-makes g c = λ n asks fine. found_made _ _ _ _ n c.answer.ensures.ends asks fine
 
 pub returns-clause-drills : goal.returns-clause-drills
-returns-clause-drills g c = λ p f n seed asks fine. found_drilled _ _ _ _ p f n seed (asked_for _ _ _ _ _ c.answer.ensures.ends c.form.ensures.form) asks fine
+returns-clause-drills g c = λ p f n seed asks fine. found_drilled _ _ _ _ p f n seed c.answer.ensures.ends asks fine
