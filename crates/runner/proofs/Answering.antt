@@ -8,6 +8,7 @@ use Rattle.script.specs.declared.commands.Command.TheVariants as command
 use Rattle.script.specs.declared.commands.RefKind.TheVariants as kind
 use Rattle.script.specs.declared.commands.Reference.{Reference}
 use Rattle.book.specs.declared.entries.Entry.{Entry}
+use Rattle.book.specs.declared.entries.Entry.TheVariants as entry
 use Rattle.book.specs.declared.replies.Reply.{Reply}
 use Rattle.book.specs.declared.replies.Reply.TheVariants as reply
 use Rattle.flat_model.specs.Pages.{Words, with_word, is_stored, with_stored}
@@ -26,12 +27,12 @@ use Rattle.runner.specs.Tables.{Held, AreTied}
 use Rattle.runner.specs.Effects.{IsSame, IsPut, IsCreated}
 use Rattle.runner.specs.Looks.{look_of, look_page, look_unstored, IsTarget, IsBlank, IsSeen}
 use Rattle.runner.specs.declared.looks.Look.TheVariants as look
-use Rattle.runner.specs.Machines.{Holds, IsAt, IsDone, store_done}
+use Rattle.runner.specs.Machines.{Holds, IsAt, IsDone, done_at, store_done}
 use Rattle.runner.proofs.Same.{tied_same, tied_moved, stepped, progress_moved, process_there, numbers_are}
 use Rattle.runner.proofs.Accounts.{used_up_same, volume_full_same}
-use Rattle.runner.proofs.Booking.{same_as}
+use Rattle.runner.proofs.Booking.{IsBooked, HasGoneOn, same_as, booked_step, holds_here, at_here}
 use Rattle.runner.proofs.Creates.{tied_create}
-use Rattle.runner.proofs.Looked.{IsOver, IsWithin, looked}
+use Rattle.runner.proofs.Looked.{IsOver, IsWithin, IsCreate, looked, create_target}
 use Rattle.runner.proofs.Puts.{tied_put}
 use Rattle.runner.proofs.Refers.{sound_of, IsReached, reached_by, reached_reply, unknown_reply, past_reply, word_there, read_word}
 use Rattle.runner.proofs.Uses.{room_left}
@@ -269,3 +270,23 @@ write_created p es t new place n o w i page h at is g blank some room space made
     (made.filed ∙ ap (λ (y : ℕ). changed_at (is_filed t.segs.storage) (i + 2) y true) (sym r.here))
     made.records made.places made.sizes.records made.sizes.places made.names.homes made.names.tree made.names.known made.names.lengths made.count)
     made.sizes.frames made.sizes.volumes
+
+-- a look that found that the page is to be made
+pub create_asked : (p : Plan) (es : List Entry) (t : Held) (n o w i page : ℕ) → Holds p es t → look_of p.quota t n o (Some w) ≡ look.Create i page → IsCreate p.quota t n o (Some w) i page
+create_asked p es t n o w i page h look = create_target p.quota t n o (Some w) (look_of p.quota t n o (Some w)) i page (sound_of p es t h) refl look
+
+-- the page of a write was made, and then the write was answered
+pub created_on : (p now last : Plan) (es later end : List Entry) (t new : Held) (place n o w i page frame : ℕ) → IsBooked p now es later (entry.Here frame (i + 2) page) → IsBooked now last later end (done_at place None reply.Done)
+    → Holds p es t → IsAt p es place → command_at p 0 place ≡ Some (command.Write n o w) → look_of p.quota t n o (Some w) ≡ look.Create i page → IsBlank t i page → IsCreated t new i page (o % 1024) w → HasGoneOn last end new place
+created_on p now last es later end t new place n o w i page frame here done h at command look blank created =
+    let made = create_asked p es t n o w i page h look in
+    let first : Holds now later t = holds_here p now es later t t frame (i + 2) page here h (same_self t) in
+    let still : IsAt now later place = at_here p now es later frame (i + 2) page place here at in
+    booked_step now last later end t new place None reply.Done done.script done.entries first still
+    (write_created now later t new place n o w i page first still
+    (ap (λ (x : Plan). command_at x 0 place) here.script ∙ command) made.target blank
+    (ap (λ (x : ℕ). eqb x 0) (the_word made.new.word made.new.is) ∙ made.new.some)
+    (ap (λ (x : Plan). eqb t.stored x.quota) here.script ∙ made.new.quota) made.new.volume created)
+  where
+    the_word : (b : ℕ) → Some w ≡ Some b → w ≡ b
+    the_word b e = cc

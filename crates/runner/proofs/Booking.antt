@@ -9,7 +9,7 @@ use Rattle.flat_model.specs.Legal.{IsLawful, IsAnswer, after_entry, store_after}
 use Rattle.flat_model.proofs.BookLaws.{store_after-push, legal_push}
 use Rattle.runner.specs.Tables.{Held, AreTied}
 use Rattle.runner.specs.Effects.{IsSame}
-use Rattle.runner.specs.Machines.{Holds, IsAt, IsStep, GoesOn, done_at, store_done}
+use Rattle.runner.specs.Machines.{Holds, IsAt, IsStep, GoesOn, IsDone, done_at, store_done}
 use Rattle.runner.proofs.Same as same
 
 -- the book with one more entry
@@ -64,6 +64,20 @@ at_step p now es later t new place frame r b step on =
     at_pushed p now es later (done_at place frame r) place (place + 1) b
     (ap (λ (s : Store). (progress_of s 0).place) (done_after p es place frame r) ∙ step.next)
     (ap (λ (s : Store). (progress_of s 0).ended) (done_after p es place frame r) ∙ on.going)
+
+-- the machine once the command at a place is answered
+pub record HasGoneOn (now : Plan) (later : List Entry) (new : Held) (place : ℕ) : Type 0 where
+  pub holds : Holds now later new
+  pub at : IsAt now later (place + 1)
+
+pub booked_step : (p now : Plan) (es later : List Entry) (t new : Held) (place : ℕ) (frame : Option ℕ) (r : Reply) → now ≡ p → later ≡ es ++ done_at place frame r ∷ [] → Holds p es t → IsAt p es place → IsDone p es t new place r
+    → HasGoneOn now later new place
+booked_step p now es later t new place frame r script entries h at done =
+    let b : IsBooked p now es later (done_at place frame r) = record { script = script; entries = entries } in
+    record {
+      holds = holds_step p now es later t new place frame r b h at done.step;
+      at = at_step p now es later t new place frame r b done.step done.on;
+    }
 
 -- ---- entries that tell where a page is
 

@@ -1,9 +1,8 @@
 -- Segments made and made known: the flat store's answers.
-use Rattle.std.proofs.Common.{◌≡◌, ◌≢◌, ℕ, suc, zero, ◌+◌, ◌<◌, ◌≤◌, Bool, true, false, cond, eqb, nat_le, List, [], ◌∷◌, length, get_or, set, Option, Some, None, Result, refl, sym, ap, subst, ◌∙◌, arith}
-use Rattle.std.specs.Prelude.{Ok, Err, is_some, IfSome, slice_get}
+use Rattle.std.proofs.Common.{◌≡◌, ℕ, ◌+◌, ◌<◌, ◌≤◌, Bool, true, false, cond, eqb, nat_le, List, [], ◌∷◌, length, set, Option, Some, None, Result, refl, sym, ap, subst, ◌∙◌, arith}
+use Rattle.std.specs.Prelude.{Ok, Err, is_some, IfSome}
 use Rattle.std.proofs.lemmas.Bool.Decides.{nat_tests}
-use Rattle.script.specs.Plans.{Plan, command_at, commands_of, who_of}
-use Rattle.script.specs.declared.commands.Command.{Command}
+use Rattle.script.specs.Plans.{Plan, command_at, who_of}
 use Rattle.script.specs.declared.commands.Command.TheVariants as command
 use Rattle.book.specs.declared.entries.Entry.{Entry}
 use Rattle.book.specs.declared.replies.Reply.{Reply}
@@ -22,8 +21,8 @@ use Rattle.paged_segs.specs.Segs.{home_at}
 use Rattle.paged_segs.specs.Counts.{used, entries}
 use Rattle.runner.specs.Tables.{Held, AreTied, root_quota}
 use Rattle.runner.specs.Machines.{Holds, IsAt, IsDone}
-use Rattle.runner.specs.Places.{segment_at, segment_of_path, directory_at, directory_of_path, branch_refusal, new_branch, new_branch_in, new_branch_at, new_branch_of, with_room, new_segment_by, wanted_by, CanMake, IsMade, IsMkSeg, IsInitiate}
-use Rattle.runner.specs.declared.commands.NewSegment.{NewSegment}
+use Rattle.runner.specs.Places.{segment_at, segment_of_path, directory_at, directory_of_path, branch_refusal, new_branch, new_branch_in, new_branch_at, new_branch_of, with_room, CanMake, IsMade, IsMaking, IsKnowing}
+use Rattle.runner.specs.declared.steps.NewSegment.{NewSegment}
 use Rattle.runner.proofs.Accounts.{vtoc_full_same}
 use Rattle.runner.proofs.Answering.{done_by, refused_done}
 use Rattle.runner.proofs.Made.{with_new, tied_made}
@@ -338,66 +337,29 @@ know_done p es t new place uid path number h at is e found new_is within =
 
 -- ---- by the command at a place
 
-pub record HasMkSeg (o : Option Command) : Type 0 where
-  pub path : List (List ℕ)
-  pub pages : ℕ
-  pub volume : ℕ
-  pub is : o ≡ Some (command.MkSeg path pages volume)
-
-pub mkseg_of : (o : Option Command) → IsMkSeg o → HasMkSeg o
-mkseg_of None h = absurd h
-mkseg_of (Some (command.MkSeg path pages volume)) h = record { path = path; pages = pages; volume = volume; is = refl }
-mkseg_of (Some _) h = absurd h
-
-pub record HasInitiate (o : Option Command) : Type 0 where
-  pub path : List (List ℕ)
-  pub is : o ≡ Some (command.Initiate path)
-
-pub initiate_at : (o : Option Command) → IsInitiate o → HasInitiate o
-initiate_at None h = absurd h
-initiate_at (Some (command.Initiate path)) h = record { path = path; is = refl }
-initiate_at (Some _) h = absurd h
-
--- the command that an index finds, where there is one
-pub found_at : (xs : List Command) (i : ℕ) (c : Command) → slice_get xs i ≢ None → c ≡ get_or xs i c → slice_get xs i ≡ Some c
-found_at [] i c some is = absurd (some refl)
-found_at (x ∷ xs) zero c some is = ap (λ (y : Command). Some y) (sym is)
-found_at (x ∷ xs) (suc i) c some is = found_at xs i c some is
-
-pub mkseg_there : (p : Plan) (place : ℕ) (xs : List Command) (c : Command) → IsMkSeg (command_at p 0 place) → xs ≡ commands_of p 0 → c ≡ get_or xs place c → command_at p 0 place ≡ Some c
-mkseg_there p place xs c h same is = ap (λ (ys : List Command). slice_get ys place) (sym same) ∙ found_at xs place c (λ none. subst IsMkSeg (sym (ap (λ (ys : List Command). slice_get ys place) same) ∙ none) h) is
-
-pub new_told : (p : Plan) (t : Held) (place pages volume : ℕ) (path : List (List ℕ)) (x : Result (ℕ × List ℕ) Reply) → command_at p 0 place ≡ Some (command.MkSeg path pages volume) → x ≡ new_branch_of (with_quotas (root_quota p.quota) t.tree.nodes) path → new_segment_by p t (command_at p 0 place) ≡ with_room p.quota t (who_of p 0) pages volume x
-new_told p t place pages volume path x is found = ap (new_segment_by p t) is ∙ ap (with_room p.quota t (who_of p 0) pages volume) (sym found)
-
-pub segment_refused : (p : Plan) (es : List Entry) (t : Held) (place : ℕ) (r : Reply) → Holds p es t → IsAt p es place → IsMkSeg (command_at p 0 place) → Err r ≡ new_segment_by p t (command_at p 0 place) → IsDone p es t t place r
-segment_refused p es t place r h at asked e = let c = mkseg_of (command_at p 0 place) asked in make_refused p es t place c.pages c.volume c.path r h at c.is (e ∙ ap (new_segment_by p t) c.is)
-
-pub segment_done : (p : Plan) (es : List Entry) (t new : Held) (place : ℕ) (x : NewSegment) → Holds p es t → IsAt p es place → IsMkSeg (command_at p 0 place) → Ok x ≡ new_segment_by p t (command_at p 0 place) → CanMake t x → IsMade t new x.directory x.name x.size x.volume x.who → IsDone p es t new place (reply.Made t.tree.next)
-segment_done p es t new place x h at asked e can made = let c = mkseg_of (command_at p 0 place) asked in make_done p es t new place c.pages c.volume c.path x h at c.is (e ∙ ap (new_segment_by p t) c.is) can made (h.form.fits place (command.MkSeg c.path c.pages c.volume) c.is).0
+pub segment_done : (p : Plan) (es : List Entry) (t new : Held) (place : ℕ) (x : NewSegment) → Holds p es t → IsAt p es place → IsMaking p t place x → IsMade t new x.directory x.name x.size x.volume x.who → IsDone p es t new place (reply.Made t.tree.next)
+segment_done p es t new place x h at m made = make_done p es t new place m.pages m.volume m.path x h at m.command m.made m.can made (h.form.fits place (command.MkSeg m.path m.pages m.volume) m.command).0
 
 -- the volume of a new segment is there
-pub volume_there : (p : Plan) (es : List Entry) (t : Held) (place : ℕ) (x : NewSegment) → Holds p es t → IsMkSeg (command_at p 0 place) → Ok x ≡ new_segment_by p t (command_at p 0 place) → x.volume < length t.segs.storage.disks
-volume_there p es t place x h asked e =
-    let c = mkseg_of (command_at p 0 place) asked in
-    by_branch c (new_branch_of (with_quotas (root_quota p.quota) t.tree.nodes) c.path) (e ∙ ap (new_segment_by p t) c.is)
+pub volume_there : (p : Plan) (es : List Entry) (t : Held) (place : ℕ) (x : NewSegment) → Holds p es t → IsMaking p t place x → x.volume < length t.segs.storage.disks
+volume_there p es t place x h m = by_branch (new_branch_of (with_quotas (root_quota p.quota) t.tree.nodes) m.path) m.made
   where
-    by_room : (c : HasMkSeg (command_at p 0 place)) (u : ℕ) (name : List ℕ) (z : Bool) → Ok x ≡ cond z (Err reply.NoEntry) (made_new (record { directory = u; name = name; size = c.pages; volume = c.volume; who = who_of p 0 })) → x.volume < length t.segs.storage.disks
-    by_room c u name true e = absurd cc
-    by_room c u name false e =
-        let same : x ≡ record { directory = u; name = name; size = c.pages; volume = c.volume; who = who_of p 0 } = the_new (record { directory = u; name = name; size = c.pages; volume = c.volume; who = who_of p 0 }) e in
-        let volume : x.volume ≡ c.volume = ap (λ (y : NewSegment). y.volume) same in
-        omega (arith, volume, h.disks, (h.form.fits place (command.MkSeg c.path c.pages c.volume) c.is).1)
-      where
-        the_new : (y : NewSegment) → made_new x ≡ made_new y → x ≡ y
-        the_new y e = cc
+    fits : m.volume < length t.segs.storage.disks
+    fits = (let fit = (h.form.fits place (command.MkSeg m.path m.pages m.volume) m.command).1 in let disks = h.disks in omega (arith, fit, disks))
 
-    by_branch : (c : HasMkSeg (command_at p 0 place)) (o : Result (ℕ × List ℕ) Reply) → Ok x ≡ with_room p.quota t (who_of p 0) c.pages c.volume o → x.volume < length t.segs.storage.disks
-    by_branch c (Err q) e = absurd cc
-    by_branch c (Ok b) e = by_room c b.0 b.1 (eqb (used t.segs.storage.vtocs c.volume) (entries t.segs.storage.vtocs c.volume)) e
+    the_new : (y : NewSegment) → made_new x ≡ made_new y → x ≡ y
+    the_new y e = cc
 
-pub known_refused : (p : Plan) (es : List Entry) (t : Held) (place : ℕ) (r : Reply) → Holds p es t → IsAt p es place → IsInitiate (command_at p 0 place) → Err r ≡ wanted_by p t (command_at p 0 place) → IsDone p es t t place r
-known_refused p es t place r h at asked e = let c = initiate_at (command_at p 0 place) asked in know_refused p es t place c.path r h at c.is (e ∙ ap (wanted_by p t) c.is)
+    by_room : (u : ℕ) (name : List ℕ) (z : Bool) → made_new x ≡ cond z (Err reply.NoEntry) (made_new (record { directory = u; name = name; size = m.pages; volume = m.volume; who = who_of p 0 })) → x.volume < length t.segs.storage.disks
+    by_room u name true e = absurd cc
+    by_room u name false e =
+        let volume : x.volume ≡ m.volume = ap (λ (y : NewSegment). y.volume) (the_new (record { directory = u; name = name; size = m.pages; volume = m.volume; who = who_of p 0 }) e) in
+        let there = fits in
+        omega (arith, volume, there)
 
-pub known_done : (p : Plan) (es : List Entry) (t new : Held) (place uid : ℕ) (number : Option ℕ) → Holds p es t → IsAt p es place → IsInitiate (command_at p 0 place) → Ok uid ≡ wanted_by p t (command_at p 0 place) → number ≡ number_for t.known uid → new ≡ record t { known = with_number t.known uid number } → IfSome number (λ n. n < 256) → IsDone p es t new place (known_or_full number)
-known_done p es t new place uid number h at asked e found is within = let c = initiate_at (command_at p 0 place) asked in know_done p es t new place uid c.path number h at c.is (e ∙ ap (wanted_by p t) c.is) found is within
+    by_branch : (o : Result (ℕ × List ℕ) Reply) → made_new x ≡ with_room p.quota t (who_of p 0) m.pages m.volume o → x.volume < length t.segs.storage.disks
+    by_branch (Err q) e = absurd cc
+    by_branch (Ok b) e = by_room b.0 b.1 (eqb (used t.segs.storage.vtocs m.volume) (entries t.segs.storage.vtocs m.volume)) e
+
+pub known_done : (p : Plan) (es : List Entry) (t new : Held) (place uid : ℕ) (number : Option ℕ) → Holds p es t → IsAt p es place → IsKnowing p t place uid → number ≡ number_for t.known uid → new ≡ record t { known = with_number t.known uid number } → IfSome number (λ n. n < 256) → IsDone p es t new place (known_or_full number)
+known_done p es t new place uid number h at k found is within = know_done p es t new place uid k.path number h at k.command k.wanted found is within

@@ -1,9 +1,9 @@
 -- Where a path leads, and where a new segment goes, by the directory tree (Bensoussan, Clingen and Daley 1972).
 use Rattle.std.specs.Prelude.{◌≡◌, ℕ, false, true, ◌==◌, nat_le, if◌then◌else◌, List, [], ◌∷◌, ◌++◌, length, Option, Some, None, Result, Ok, Err, is_some}
 use Rattle.mnames.specs.declared.principals.Who.{Who}
-use Rattle.script.specs.Plans.{Plan, who_of}
-use Rattle.script.specs.declared.commands.Command.{Command}
+use Rattle.script.specs.Plans.{Plan, who_of, command_at}
 use Rattle.script.specs.declared.commands.Command.TheVariants as command
+use Rattle.book.specs.declared.entries.Entry.{Entry}
 use Rattle.book.specs.declared.replies.Reply.{Reply}
 use Rattle.book.specs.declared.replies.Reply.TheVariants as reply
 use Rattle.tree_model.specs.Tree.{Node, Walk, LeadsTo, Missing, InSegment, branch_in, has_directory, walk_in}
@@ -17,7 +17,8 @@ use Rattle.paged_segs.specs.Segs.{home_at}
 use Rattle.paged_segs.specs.Counts.{used, entries, one_more}
 use Rattle.paged_segs.specs.Effects.{made, HasSizes}
 use Rattle.runner.specs.Tables.{Held, root_quota}
-use Rattle.runner.specs.declared.commands.NewSegment.{NewSegment}
+use Rattle.runner.specs.Machines.{IsDone}
+use Rattle.runner.specs.declared.steps.NewSegment.{NewSegment}
 use Rattle.runner.specs.declared.steps.Step.{Step}
 use Rattle.runner.specs.declared.steps.Step.TheVariants as step
 
@@ -83,42 +84,47 @@ pub record IsMade (old new : Held) (directory : ℕ) (name : List ℕ) (size vol
   pub known : new.known ≡ old.known
   pub count : new.stored ≡ old.stored
 
--- the command at a place is what a step says
-abbrev pub IsMkSeg : Option Command → Type 0
-IsMkSeg (Some (command.MkSeg path pages volume)) = Unit {0}
-IsMkSeg _ = ⊥
-
-abbrev pub IsInitiate : Option Command → Type 0
-IsInitiate (Some (command.Initiate path)) = Unit {0}
-IsInitiate _ = ⊥
-
-abbrev pub IsCommand : Option Command → Step → Type 0
-IsCommand c step.Make = IsMkSeg c
-IsCommand c step.Initiate = IsInitiate c
-IsCommand c (step.Read number offset) = c ≡ Some (command.Read number offset)
-IsCommand c (step.Write number offset word) = c ≡ Some (command.Write number offset word)
-IsCommand c step.End = c ≡ Some command.End
-
--- ---- what a command asks, by the tables
-
+-- where there is a VTOC entry left, the segment that is to be made
 abbrev pub with_room : ℕ → Held → Who → ℕ → ℕ → Result (ℕ × List ℕ) Reply → Result NewSegment Reply
 with_room quota t who pages volume (Err r) = Err r
 with_room quota t who pages volume (Ok place) =
     if used t.segs.storage.vtocs volume == entries t.segs.storage.vtocs volume then Err reply.NoEntry
     else Ok (record { directory = place.0; name = place.1; size = pages; volume = volume; who = who })
 
--- the segment that a command makes, or why it makes none
-abbrev pub new_segment_by : Plan → Held → Option Command → Result NewSegment Reply
-new_segment_by p t (Some (command.MkSeg path pages volume)) = with_room p.quota t (who_of p 0) pages volume (new_branch_of (with_quotas (root_quota p.quota) t.tree.nodes) path)
-new_segment_by p t _ = Err reply.Unknown
-
--- the segment that a command makes known, or why it makes none known
-abbrev pub wanted_by : Plan → Held → Option Command → Result ℕ Reply
-wanted_by p t (Some (command.Initiate path)) = segment_of_path (with_quotas (root_quota p.quota) t.tree.nodes) path
-wanted_by p t _ = Err reply.Unknown
-
 -- A segment can be made.
 pub record CanMake (t : Held) (new : NewSegment) : Type 0 where
   pub directory : is_directory t.tree.nodes new.directory ≡ true
   pub free : (quota : ℕ → ℕ) → branch_refusal (with_quotas quota t.tree.nodes) new.directory new.name ≡ None
   pub room : (used t.segs.storage.vtocs new.volume == entries t.segs.storage.vtocs new.volume) ≡ false
+
+-- a segment that is to be made
+abbrev pub to_make : NewSegment → Result NewSegment Reply
+to_make new = Ok new
+
+-- the segment of a uid that is to be known
+abbrev pub to_know : ℕ → Result ℕ Reply
+to_know uid = Ok uid
+
+-- The command at a place makes a segment.
+pub record IsMaking (p : Plan) (t : Held) (place : ℕ) (new : NewSegment) : Type 0 where
+  pub path : List (List ℕ)
+  pub pages : ℕ
+  pub volume : ℕ
+  pub command : command_at p 0 place ≡ Some (command.MkSeg path pages volume)
+  pub made : to_make new ≡ with_room p.quota t (who_of p 0) pages volume (new_branch_of (with_quotas (root_quota p.quota) t.tree.nodes) path)
+  pub can : CanMake t new
+
+-- The command at a place makes a segment known.
+pub record IsKnowing (p : Plan) (t : Held) (place uid : ℕ) : Type 0 where
+  pub path : List (List ℕ)
+  pub command : command_at p 0 place ≡ Some (command.Initiate path)
+  pub wanted : to_know uid ≡ segment_of_path (with_quotas (root_quota p.quota) t.tree.nodes) path
+
+-- what the command at a place asks, by the book and the tables
+abbrev pub IsAsked : Plan → List Entry → Held → ℕ → Step → Type 0
+IsAsked p es t place (step.Answer r) = IsDone p es t t place r
+IsAsked p es t place (step.Make new) = IsMaking p t place new
+IsAsked p es t place (step.Know uid) = IsKnowing p t place uid
+IsAsked p es t place (step.Read number offset) = command_at p 0 place ≡ Some (command.Read number offset)
+IsAsked p es t place (step.Write number offset word) = command_at p 0 place ≡ Some (command.Write number offset word)
+IsAsked p es t place step.End = command_at p 0 place ≡ Some command.End

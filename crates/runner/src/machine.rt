@@ -7,8 +7,8 @@ ghost use Rattle.page_table.specs.declared.Ptw.TheVariants.{Here};
 ghost use Rattle.page_control.specs.Tied.{is_out};
 ghost use Rattle.paged_segs.specs.Segs.{word_at};
 ghost use Rattle.runner.specs.Effects.{IsSame};
-ghost use Rattle.runner.specs.Looks.{AreSound, look_of, wants_frame, HasFree, IsNotOut, IsTarget, IsSeen};
-ghost use Rattle.runner.specs.Machines.{IsAt, done_at, left_entries};
+ghost use Rattle.runner.specs.Looks.{look_of, wants_frame, HasFree, IsNotOut, IsTarget, IsSeen};
+ghost use Rattle.runner.specs.Machines.{Holds, IsAt, IsDone, done_at, left_entries};
 ghost use Rattle.runner.specs.declared.looks.Look.TheVariants as look;
 
 use crate::looks::{Look, Target};
@@ -38,17 +38,20 @@ impl Model for Machine {
     ghost invariant = { λ m. Holds m.book.script m.book.entries m.tables };
 }
 
-/// The entry of a command of process 0, which runs on processor 0.
-pub(crate) fn done(place: u32, frame: Option<u32>, reply: Reply) -> Entry
-    ensures { result ≡ done_at place frame reply }
+/// Books the answer to a command of process 0, which runs on processor 0.
+pub(crate) fn push_answer(book: &mut Book, place: u32, frame: Option<u32>, reply: Reply)
+    requires { 1 ≤ book.old.spare }
+    ensures entries { book.new.entries ≡ book.old.entries ++ done_at place frame reply ∷ [] }
+    ensures script { book.new.script ≡ book.old.script }
+    ensures room { book.new.spare + 1 ≡ book.old.spare }
 {
-    Entry::Do {
+    book.push(Entry::Do {
         process: 0,
         place,
         cpu: 0,
         frame,
         reply,
-    }
+    });
 }
 
 /// Books a page that left its frame.
@@ -73,7 +76,7 @@ impl Machine {
     fn look(&self, number: u32, offset: u32, word: &Option<Word>) -> Look
         ensures look { result ≡ look_of self.now.script.quota self.now.held number offset word.now }
         ensures seen { (i page : ℕ) → IsTarget self.now.held number offset i page → IsSeen self.now.held i page }
-        ensures sound { AreSound self.now.held }
+        ensures holds { Holds self.now.script self.now.entries self.now.held }
     {
         let quota = self.book.script().quota();
         self.tables.look(quota, number, offset, word)
@@ -103,7 +106,7 @@ impl Machine {
         ensures at { (place : ℕ) → IsAt self.old.script self.old.entries place → IsAt self.new.script self.new.entries place }
         ensures same { IsSame self.old.held self.new.held }
         ensures here { word_at self.new.held.segs segment page ≡ Here result }
-        ensures sound { AreSound self.new.held }
+        ensures holds { Holds self.new.script self.new.entries self.new.held }
         ensures room { self.old.spare ≤ self.new.spare + 1 }
     {
         let frame = self.tables.bring(segment, page);
@@ -143,7 +146,7 @@ impl Machine {
         ensures look { result ≡ look_of self.new.script.quota self.new.held number offset word.now }
         ensures reached { IsNotOut result }
         ensures seen { (i page : ℕ) → IsTarget self.new.held number offset i page → IsSeen self.new.held i page }
-        ensures sound { AreSound self.new.held }
+        ensures holds { Holds self.new.script self.new.entries self.new.held }
         ensures free { wants_frame result ≡ true → HasFree self.new.held.segs }
         ensures room { self.old.spare ≤ self.new.spare + 4 }
         // where no frame is wanted, nothing is done
@@ -177,7 +180,7 @@ impl Machine {
             self.new.entries ≡ self.old.entries ++ done_at place None r ∷ [] }
     {
         match self.approach(number, offset, &None) {
-            Look::Answer(reply) => self.answer_read(place, number, offset, reply),
+            Look::Answer(reply) => self.answer(place, reply),
             Look::Through(target) => self.read_through(place, number, offset, target),
             Look::Bring { .. } | Look::Create { .. } => unreachable!(),
         }
@@ -196,7 +199,7 @@ impl Machine {
             self.new.entries ≡ self.old.entries ++ done_at place None r ∷ [] }
     {
         match self.approach(number, offset, &Some(word)) {
-            Look::Answer(reply) => self.answer_write(place, number, offset, word, reply),
+            Look::Answer(reply) => self.answer(place, reply),
             Look::Through(target) => self.write_through(place, number, offset, word, target),
             Look::Create { segment, page } => {
                 self.create(place, number, offset, word, segment, page)
@@ -205,32 +208,16 @@ impl Machine {
         }
     }
 
-    /// Books the answer of a read without a frame.
-    fn answer_read(&mut self, place: u32, number: u32, offset: u32, reply: Reply)
+    /// Answers a command for which the tables stay as they are, without a frame.
+    pub(crate) fn answer(&mut self, place: u32, reply: Reply)
         requires at { IsAt self.old.script self.old.entries place }
-        requires command { command_at self.old.script 0 place ≡ Some (command.Read number offset) }
-        requires look { look_of self.old.script.quota self.old.held number offset None ≡ look.Answer reply }
-        requires seen { (i page : ℕ) → IsTarget self.old.held number offset i page → IsSeen self.old.held i page }
+        requires done { IsDone self.old.script self.old.entries self.old.held self.old.held place reply }
         requires room { 1 ≤ self.old.spare }
         ensures script { self.new.script ≡ self.old.script }
         ensures at { IsAt self.new.script self.new.entries (place + 1) }
         ensures entry { self.new.entries ≡ self.old.entries ++ done_at place None reply ∷ [] }
     {
-        self.book.push(done(place, None, reply));
-    }
-
-    /// Books the answer of a write without a frame.
-    fn answer_write(&mut self, place: u32, number: u32, offset: u32, word: Word, reply: Reply)
-        requires at { IsAt self.old.script self.old.entries place }
-        requires command { command_at self.old.script 0 place ≡ Some (command.Write number offset word) }
-        requires look { look_of self.old.script.quota self.old.held number offset (Some word) ≡ look.Answer reply }
-        requires seen { (i page : ℕ) → IsTarget self.old.held number offset i page → IsSeen self.old.held i page }
-        requires room { 1 ≤ self.old.spare }
-        ensures script { self.new.script ≡ self.old.script }
-        ensures at { IsAt self.new.script self.new.entries (place + 1) }
-        ensures entry { self.new.entries ≡ self.old.entries ++ done_at place None reply ∷ [] }
-    {
-        self.book.push(done(place, None, reply));
+        push_answer(&mut self.book, place, None, reply);
     }
 
     /// Reads a word through a frame.
@@ -249,8 +236,7 @@ impl Machine {
             target.frame,
             offset % PAGE_WORDS,
         );
-        self.book
-            .push(done(place, Some(target.frame), Reply::Word(word)));
+        push_answer(&mut self.book, place, Some(target.frame), Reply::Word(word));
     }
 
     /// Writes a word through a frame.
@@ -270,7 +256,7 @@ impl Machine {
             offset % PAGE_WORDS,
             word,
         );
-        self.book.push(done(place, Some(target.frame), Reply::Done));
+        push_answer(&mut self.book, place, Some(target.frame), Reply::Done);
     }
 
     /// Makes the page of a write in a frame.
@@ -289,6 +275,6 @@ impl Machine {
             uid: segment + 2,
             page,
         });
-        self.book.push(done(place, None, Reply::Done));
+        push_answer(&mut self.book, place, None, Reply::Done);
     }
 }

@@ -1,27 +1,23 @@
-use Rattle.std.proofs.Common.{◌∷◌, ◌++◌, [], None, ap, ◌∙◌}
-use Rattle.book.specs.declared.entries.Entry.{Entry}
-use Rattle.runner.specs.Machines.{IsDone, done_at}
-use Rattle.runner.proofs.Booking.{IsBooked, holds_step, at_step}
-use Rattle.runner.proofs.NewSegments.{known_done}
+use Rattle.std.proofs.Common.{None, ap, ◌∙◌, ◌∷◌, ◌++◌, []}
+use Rattle.book.specs.declared.replies.Reply.{Reply}
 use Rattle.flat_model.specs.Naming.{known_or_full}
+use Rattle.runner.specs.Machines.{done_at}
+use Rattle.runner.proofs.Booking.{HasGoneOn, booked_step}
+use Rattle.runner.proofs.NewSegments.{known_done}
 use Rattle.runner.proofs.machine.Machine.know.Goals as goal
 
-pub invariant_of-self : goal.invariant_of-self
-invariant_of-self c =
+step : (c : goal.After-push_answer) → HasGoneOn c.push_answer.new.book.script c.push_answer.new.book.entries c.know-number.new.self c.args.place
+step c =
     let b = c.self.inside.book in
-    let segment = rw (← c.self.view_is) at c.requires.segment in
-    let booked : IsBooked b.script c.push.new.self.script b.entries c.push.new.self.entries (done_at c.args.place None (known_or_full c.know-number.result)) = record { script = c.push.ensures.script; entries = c.push.ensures.entries ∙ ap (λ (e : Entry). b.entries ++ e ∷ []) (c.done.ensures ∙ ap (done_at c.args.place None) c.known_or_full.ensures) } in
     let at = rw (← c.self.view_is) at c.requires.at in
-    let command = rw (← c.self.view_is) at c.requires.command in
-    let done : IsDone b.script b.entries c.self.inside.tables c.know-number.new.self c.args.place (known_or_full c.know-number.result) = known_done b.script b.entries c.self.inside.tables c.know-number.new.self c.args.place c.args.uid c.know-number.result c.self.invariant at command segment c.know-number.ensures.number c.know-number.ensures.known c.know-number.ensures.within in
-    holds_step b.script c.push.new.self.script b.entries c.push.new.self.entries c.self.inside.tables c.know-number.new.self c.args.place None (known_or_full c.know-number.result) booked c.self.invariant at done.step
+    let knowing = rw (← c.self.view_is) at c.requires.knowing in
+    let k = c.know-number in
+    let done = known_done b.script b.entries c.self.inside.tables k.new.self c.args.place c.args.uid k.result c.self.invariant at knowing k.ensures.number k.ensures.known k.ensures.within in
+    let entries = c.push_answer.ensures.entries ∙ ap (λ (r : Reply). b.entries ++ done_at c.args.place None r ∷ []) c.known_or_full.ensures in
+    booked_step b.script _ b.entries _ _ _ c.args.place None (known_or_full k.result) c.push_answer.ensures.script entries c.self.invariant at done
+
+pub invariant_of-self : goal.invariant_of-self
+invariant_of-self c = (step c).holds
 
 pub returns-clause-at : goal.returns-clause-at
-returns-clause-at c =
-    let b = c.self.inside.book in
-    let segment = rw (← c.self.view_is) at c.requires.segment in
-    let booked : IsBooked b.script c.push.new.self.script b.entries c.push.new.self.entries (done_at c.args.place None (known_or_full c.know-number.result)) = record { script = c.push.ensures.script; entries = c.push.ensures.entries ∙ ap (λ (e : Entry). b.entries ++ e ∷ []) (c.done.ensures ∙ ap (done_at c.args.place None) c.known_or_full.ensures) } in
-    let at = rw (← c.self.view_is) at c.requires.at in
-    let command = rw (← c.self.view_is) at c.requires.command in
-    let done : IsDone b.script b.entries c.self.inside.tables c.know-number.new.self c.args.place (known_or_full c.know-number.result) = known_done b.script b.entries c.self.inside.tables c.know-number.new.self c.args.place c.args.uid c.know-number.result c.self.invariant at command segment c.know-number.ensures.number c.know-number.ensures.known c.know-number.ensures.within in
-    at_step b.script c.push.new.self.script b.entries c.push.new.self.entries c.self.inside.tables c.know-number.new.self c.args.place None (known_or_full c.know-number.result) booked done.step done.on
+returns-clause-at c = (step c).at
