@@ -1,5 +1,5 @@
 -- A script that runs so far is of the form that the machine runs.
-use Rattle.std.proofs.Common.{◌≡◌, ℕ, suc, zero, ◌+◌, ◌<◌, ◌≤◌, true, not, ◌&&◌, nat_le, List, [], ◌∷◌, length, get_or, Some, refl, sym, ap, ◌∙◌, arith}
+use Rattle.std.proofs.Common.{◌≡◌, ℕ, suc, zero, ◌+◌, ◌<◌, ◌≤◌, true, not, List, [], ◌∷◌, length, get_or, Some, refl, sym, ap, ◌∙◌, arith}
 use Rattle.std.specs.Prelude.{slice_get, sum_by}
 use Rattle.std.specs.List.{list_all}
 use Rattle.std.proofs.lemmas.Bool.{and_parts}
@@ -94,11 +94,14 @@ few_processes (x ∷ y ∷ xs) h = absurd cc
 pub some_frame : (p : Plan) → IsPlan p → 0 < p.frames
 some_frame p is = omega (arith, is.frames.0)
 
--- the volumes of a script have few enough records, and the first has an entry for the root
-few_records : (xs : List VolumeLine) (v : ℕ) → list_all is_volume xs ≡ true → records_in (slice_get xs v) < 65536
+-- a volume of a script has few enough records
+few_records_of : (v : VolumeLine) → is_volume v ≡ true → v.records < 65536
 unfolding is_volume
+few_records_of v h = grind (arith, nat_tests)
+
+few_records : (xs : List VolumeLine) (v : ℕ) → list_all is_volume xs ≡ true → records_in (slice_get xs v) < 65536
 few_records [] v h = omega arith
-few_records (x ∷ xs) zero h = let range : (nat_le 1 x.records && nat_le x.records 16384) ≡ true = (and_parts _ _ (and_parts _ _ (and_parts _ _ h).0).1).0 in grind (arith, nat_tests)
+few_records (x ∷ xs) zero h = few_records_of x (and_parts _ _ h).0
 few_records (x ∷ xs) (suc v) h = few_records xs v (and_parts _ _ h).1
 
 -- a process has a command

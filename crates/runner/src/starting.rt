@@ -1,13 +1,9 @@
 //! The start of a run: fresh volumes, and tables without a segment.
 
-ghost use Rattle.std.specs.Prelude.{◌≡◌, ℕ, [], IfOk, None, map, replicate, false};
-ghost use Rattle.dir_tree.specs.Nodes.{root_alone};
-ghost use Rattle.page_control.specs.Picture.{picture, is_stored as is_filed};
-ghost use Rattle.paged_segs.specs.Counts.{used, one_more};
-ghost use Rattle.paged_segs.specs.Effects.{begun};
+ghost use Rattle.std.specs.Prelude.{◌≡◌, [], IfOk, map};
 ghost use Rattle.paged_segs.specs.Kept.{AreFresh};
 ghost use Rattle.runner.specs.Machines.{IsForm};
-ghost use Rattle.runner.specs.Starts.{part_of, volumes_of};
+ghost use Rattle.runner.specs.Starts.{HaveBegun, part_of, volumes_of};
 
 use crate::NoMemory;
 use crate::machine::Machine;
@@ -23,18 +19,24 @@ use volumes::{CoreDrive, Part, Volumes};
 /// The most branches of the directory tree.
 const BRANCHES: usize = 4096;
 
+/// A drive and a number of VTOC entries, as a line has them.
+fn part(alloc: Global, line: &VolumeLine) -> Result<Part<CoreDrive>, NoMemory>
+    ensures { IfOk result (λ part. part ≡ part_of line.now) }
+{
+    let drive = CoreDrive::new(alloc, line.records, Vec::new(alloc)).map_err(|_| NoMemory)?;
+    Ok(Part {
+        drive,
+        entries: line.entries,
+    })
+}
+
 /// A drive and a number of VTOC entries for each volume.
 fn parts(alloc: Global, lines: &[VolumeLine]) -> Result<Vec<Part<CoreDrive>>, NoMemory>
     ensures { IfOk result (λ parts. parts.items ≡ map part_of lines.now) }
 {
     let mut parts = Vec::new(alloc);
     for line in lines {
-        let drive = CoreDrive::new(alloc, line.records, Vec::new(alloc)).map_err(|_| NoMemory)?;
-        let part = Part {
-            drive,
-            entries: line.entries,
-        };
-        parts.push(part).map_err(|_| NoMemory)?;
+        parts.push(part(alloc, line)?).map_err(|_| NoMemory)?;
     }
     Ok(parts)
 }
@@ -51,14 +53,7 @@ impl Tables {
     /// The tables over so many free frames and fresh volumes: no segment, and nothing known.
     fn boot(alloc: Global, frames: u32, volumes: Volumes<CoreDrive>) -> Result<Tables, NoMemory>
         requires { AreFresh volumes }
-        ensures segments { IfOk result (λ t. t.segs ≡ begun frames volumes) }
-        ensures words { IfOk result (λ t. (uid p : ℕ) → picture t.segs.storage uid p ≡ replicate 1024 0) }
-        ensures filed { IfOk result (λ t. (uid p : ℕ) → is_filed t.segs.storage uid p ≡ false) }
-        ensures used { IfOk result (λ t. used t.segs.storage.vtocs ≡ one_more (used volumes.vtocs) 0) }
-        ensures tree { IfOk result (λ t. t.tree ≡ root_alone 0 0) }
-        ensures known { IfOk result (λ t. t.known ≡ replicate 256 None) }
-        ensures lengths { IfOk result (λ t. t.lengths ≡ []) }
-        ensures stored { IfOk result (λ t. t.stored ≡ 0) }
+        ensures { IfOk result (HaveBegun frames volumes) }
     {
         let Ok(segments) = Segments::new(alloc, frames, volumes) else {
             return Err(NoMemory);
