@@ -6,10 +6,8 @@ use Rattle.std.proofs.lemmas.List.Sums.{sum_by-cons, sum_by-set, sum-map, count_
 use Rattle.std.proofs.Math.ListN.{get_or-map}
 use Rattle.std.proofs.Math.Seq.{map-set_same}
 use Rattle.bitmap.specs.Bitmap.{in_use}
-use Rattle.bitmap.proofs.BitLemmas.{count_with, count_without}
-use Rattle.std.specs.Prelude.{IfSome}
 use Rattle.vtoc.specs.Vtoc.{Entry, entry_at, uid_of, with_record, fresh_entry}
-use Rattle.page_control.specs.Tied.{flags_in, vtoc_in, IsHomeOf}
+use Rattle.page_control.specs.Tied.{flags_in, vtoc_in, uid_at}
 use Rattle.page_control.specs.Plain.{Plain}
 use Rattle.page_control.specs.declared.Home.{Home}
 use Rattle.page_control.specs.declared.Left.{Left}
@@ -19,9 +17,7 @@ use Rattle.page_table.specs.declared.Ptw.{Ptw}
 use Rattle.page_table.specs.declared.Ptw.TheVariants.{Null, Out, Here, Leaving}
 use Rattle.page_control.specs.Effects.{evicted, created, brought_in, framed, dropped}
 use Rattle.page_control.proofs.Facts.{used_within}
-use Rattle.page_control.proofs.Pictures.{home_within}
-use Rattle.page_control.proofs.Homes.{Allocates}
-use Rattle.page_control.proofs.Places.{put, list_within, refile}
+use Rattle.page_control.proofs.Places.{put, list_within, refile, home_within}
 use Rattle.page_control.specs.Counts.{taken, used, one_more, one_less, taken_after, KeepsCounts}
 
 -- a count for each volume is told by the list of all
@@ -118,6 +114,19 @@ less_by old new v here others = λ i. λ w. at w i
       | inr n ↦ rw n.0 (others w n.1)
     ]
 
+-- a flag that is turned on, and one that is turned off
+count_with : (flags : List Bool) (r : ℕ) → r < length flags → in_use flags r ≡ false → count_by (λ flag. flag) (set flags r true) ≡ count_by (λ flag. flag) flags + 1
+count_with flags r lt free =
+    let e = sum_by-set (λ flag. cond {A = ℕ} flag 1 0) flags r true false lt in
+    let z : cond {A = ℕ} (in_use flags r) 1 0 ≡ 0 = rw free refl in
+    omega (arith, e, z)
+
+count_without : (flags : List Bool) (r : ℕ) → r < length flags → in_use flags r ≡ true → count_by (λ flag. flag) (set flags r false) + 1 ≡ count_by (λ flag. flag) flags
+count_without flags r lt used =
+    let e = sum_by-set (λ flag. cond {A = ℕ} flag 1 0) flags r false false lt in
+    let z : cond {A = ℕ} (in_use flags r) 1 0 ≡ 1 = rw used refl in
+    omega (arith, e, z)
+
 -- a record is taken into use, and one is given back
 pub taken_more : (records : List (List Bool)) (v r : ℕ) → r < length (flags_in records v) → in_use (flags_in records v) r ≡ false → taken (put records v r true) ≡ one_more (taken records) v
 taken_more records v r rl free =
@@ -211,17 +220,13 @@ count_fewer table e uid el used =
     there None is = cc
     there (Some entry) is = refl
 
--- an entry that is asked for, and a home that is given back
-pub used_asked : (vtocs now : List (List (Option Entry))) (v uid : ℕ) (result : Option ℕ) → Allocates vtocs now v uid result → IfSome result (λ e. used now ≡ one_more (used vtocs) v)
-used_asked vtocs now v uid None a = tt
-used_asked vtocs now v uid (Some e) a = (let least = a.least e refl in ap used (a.taken e refl) ∙ used_more vtocs v e uid least.within least.free)
-
-pub used_erased : (vtocs now : List (List (Option Entry))) (uid : ℕ) (home : Home) → now ≡ put vtocs home.volume home.entry None → IsHomeOf vtocs uid home
+-- a home that is given back
+pub used_erased : (vtocs now : List (List (Option Entry))) (uid : ℕ) (home : Home) → now ≡ put vtocs home.volume home.entry None → uid_at vtocs home ≡ Some uid
     → used now ≡ one_less (used vtocs) home.volume
 used_erased vtocs now uid home is h =
     let el : home.entry < length (vtoc_in vtocs home.volume) = home_within vtocs uid home h in
     let vl : home.volume < length vtocs = list_within vtocs home.volume home.entry el in
     ap used is ∙ less_by (used vtocs) (used (put vtocs home.volume home.entry None)) home.volume
     (ap (λ (table : List (Option Entry)). count_by is_some table + 1) (get_or-set_same vtocs home.volume (set (vtoc_in vtocs home.volume) home.entry None) [] vl)
-    ∙ count_fewer (vtoc_in vtocs home.volume) home.entry uid el h.used)
+    ∙ count_fewer (vtoc_in vtocs home.volume) home.entry uid el h)
     (λ w n. ap (count_by is_some) (get_or-set_other vtocs home.volume w (set (vtoc_in vtocs home.volume) home.entry None) [] n))

@@ -1,25 +1,25 @@
 -- A segment that is erased.
-use Rattle.std.proofs.Common.{◌≡◌, ◌≢◌, ℕ, ◌+◌, ◌<◌, Bool, true, false, cond, List, [], ◌∷◌, length, Option, None, Some, refl, sym, ap, ◌∙◌, arith, get_or, set, drop, is_some, replicate, inl, inr}
-use Rattle.std.specs.List.{position}
+use Rattle.std.proofs.Common.{◌≡◌, ◌≢◌, ℕ, ◌+◌, ◌<◌, Bool, true, false, List, [], ◌∷◌, length, Option, None, Some, refl, sym, ap, ◌∙◌, arith, get_or, set, drop, is_some, replicate, inl, inr}
 use Rattle.std.proofs.lemmas.Bool.{cases_eq}
-use Rattle.std.proofs.lemmas.Bool.Decides.{eqb_tells, leb_tells}
+use Rattle.std.proofs.lemmas.Bool.Decides.{leb_tells}
 use Rattle.std.proofs.lemmas.List.{get_or-set_same, get_or-set_other, get_or_past, set-set, set-get_or, at_drop_all, at_drop_more, drop-set-lt}
 use Rattle.vtoc.specs.Vtoc.{Entry, entry_at, record_at, records_in, uid_of, with_record, HasFullMaps, NamesNoRecord}
 use Rattle.bitmap.specs.Bitmap.{in_use}
+use Rattle.page_table.specs.declared.Ptw.{Ptw}
 use Rattle.page_control.specs.declared.Home.{Home}
-use Rattle.page_control.specs.Plain.{Plain, flags_of, file_map_of, filed, record_of}
+use Rattle.page_control.specs.Plain.{Plain, bindings, flags_of, file_map_of, filed, record_of, disk_of}
 use Rattle.page_control.specs.Effects.{freed, erased, unstored}
 use Rattle.page_control.specs.Erasing.{IsPartErased}
-use Rattle.page_control.specs.Tied.{vtoc_in, flags_in, uid_at, map_at, IsHomeOf, HasNoHome, HasNoFrame, AreFiled}
-use Rattle.page_control.specs.Picture.{is_binding, is_entry_of, volume_of, record_named, words_held, words_of_page, is_filed_in, changed_for}
+use Rattle.page_control.specs.Tied.{vtoc_in, flags_in, uid_at, map_at, HasNoFrame, AreFiled}
+use Rattle.page_control.specs.Picture.{words_at, words_filed, is_filed_at, is_stored}
+use Rattle.page_control.specs.Ties.{IsTied}
 use Rattle.page_control.proofs.Facts.{within_from}
-use Rattle.page_control.proofs.Ties.{not_none, frame_same}
-use Rattle.page_control.proofs.Pictures.{off_and_on, home_within, found_nowhere}
-use Rattle.page_control.proofs.Places.{put, put_other, put_here, volume_within, volume_put, named_put, placed_own, refile, map_refiled, uids_refiled, none_put, other_home}
-use Rattle.page_control.proofs.Others.{homes_kept}
-use Rattle.page_control.proofs.Filing.{filed_fewer, filed_unstored}
-use Rattle.page_control.proofs.Leaving.{no_record}
-use Rattle.page_control.proofs.Homes.{at_or_other, uid_here, uid_other, none_named}
+use Rattle.page_control.proofs.Ties.{not_none}
+use Rattle.page_control.proofs.Pictures.{off_and_on, shown_out, words_by}
+use Rattle.page_control.proofs.Places.{put, put_other, put_here, volume_within, home_within, refile, map_refiled, uids_refiled, none_put, other_home}
+use Rattle.page_control.proofs.Naming.{filed_unstored, filed_freed, maps_freed}
+use Rattle.page_control.proofs.Marks.{tie_mapped}
+use Rattle.page_control.proofs.Homes.{no_record}
 
 freed_some : (flags : List Bool) (places : List (Option ℕ)) (place : Option ℕ) (r : ℕ) → place ≡ Some r → freed flags (place ∷ places) ≡ freed (set flags r false) places
 freed_some flags places place r is = rw is refl
@@ -37,7 +37,7 @@ put_put xs v e x y vl =
     ∙ set-set xs v (set (get_or xs v []) e x) (set (get_or xs v []) e y)
 
 -- the file map after page n has given its record back
-rest_flags : (s : Plain) (uid : ℕ) (home : Home) (n r : ℕ) → IsHomeOf s.vtocs uid home → filed s home n ≡ Some r → home.volume < length s.records
+rest_flags : (s : Plain) (uid : ℕ) (home : Home) (n r : ℕ) → uid_at s.vtocs home ≡ Some uid → filed s home n ≡ Some r → home.volume < length s.records
     → set (put s.records home.volume r false) home.volume (freed (get_or (put s.records home.volume r false) home.volume []) (drop (n + 1) (map_at (refile s.vtocs home n None) home)))
     ≡ set s.records home.volume (freed (flags_of s home.volume) (drop n (file_map_of s home)))
 rest_flags s uid home n r h is vl =
@@ -50,7 +50,7 @@ rest_flags s uid home n r h is vl =
     ∙ ap (set (put s.records home.volume r false) home.volume) (takes flags places n r is)
     ∙ set-set s.records home.volume (set flags r false) (freed flags (drop n places))
 
-gone_refiled : (s : Plain) (uid : ℕ) (home : Home) (n q : ℕ) → IsHomeOf s.vtocs uid home → (q ≢ n → filed s home q ≡ None)
+gone_refiled : (s : Plain) (uid : ℕ) (home : Home) (n q : ℕ) → uid_at s.vtocs home ≡ Some uid → (q ≢ n → filed s home q ≡ None)
     → get_or (map_at (refile s.vtocs home n None) home) q None ≡ None
 gone_refiled s uid home n q h before =
     ap (λ (places : List (Option ℕ)). get_or places q None) (map_refiled s.vtocs uid n None home h) ∙ elim (cases_eq q n) [
@@ -62,7 +62,7 @@ pub part_some : (old s now : Plain) (uid : ℕ) (home : Home) (n : ℕ) → now 
     → IsPartErased old now uid home (n + 1)
 part_some old s now uid home n is there part =
     let r : ℕ = record_of s home n in
-    let h : IsHomeOf s.vtocs uid home = part.at in
+    let h : uid_at s.vtocs home ≡ Some uid = part.at in
     let on : in_use (flags_in s.records home.volume) r ≡ true = part.records.used home.volume home.entry n r there in
     let vl : home.volume < length s.records = within_from s.records home.volume [] (λ e. off_and_on _ (ap (λ (flags : List Bool). in_use flags r) e) on) in
     rw is (record {
@@ -72,7 +72,7 @@ part_some old s now uid home n is there part =
           (put_put s.vtocs home.volume home.entry (with_record (entry_at (vtoc_in s.vtocs home.volume) home.entry) n None) None (volume_within s.vtocs uid home h))
           ∙ part.rest;
       gone = λ q lt. gone_refiled s uid home n q h (λ other. part.gone q (omega (arith, lt, other)));
-      at = homes_kept s.vtocs (refile s.vtocs home n None) (λ other. uids_refiled s.vtocs uid n None home other h) uid home h;
+      at = uids_refiled s.vtocs uid n None home home h ∙ h;
       records = filed_unstored s.records s.vtocs uid n r home part.records h there;
     })
 
@@ -93,106 +93,58 @@ names_none s uid home old part full = record {
   ];
 }
 
--- the homes of the other segments
-uid_was : (vtocs : List (List (Option Entry))) (uid : ℕ) (home other : Home) → IsHomeOf vtocs uid home → (other.volume ≡ home.volume) × (other.entry ≡ home.entry)
-    → uid_at vtocs other ≡ Some uid
-uid_was vtocs uid home other h (i, j) = rw (i, j) h.used
+-- what erasing leaves to other homes
+abbrev pub erased_vtocs : Plain → Home → List (List (Option Entry))
+erased_vtocs s home = put s.vtocs home.volume home.entry None
 
-pub home_erased : (vtocs now : List (List (Option Entry))) (uid : ℕ) (home : Home) → now ≡ put vtocs home.volume home.entry None → IsHomeOf vtocs uid home → HasNoHome now uid
-home_erased vtocs now uid home is h = rw is (record {
-  none = λ other at. elim (at_or_other home.volume home.entry other) [
-    | inl here ↦ not_none (uid_at (put vtocs home.volume home.entry None) other) uid
-        (uid_here vtocs home.volume home.entry None other (volume_within vtocs uid home h) (home_within vtocs uid home h) here) at
-    | inr n ↦ (let one : (other.volume ≡ home.volume) × (other.entry ≡ home.entry) =
-        h.only other.volume other.entry (sym (uid_other vtocs home.volume home.entry None other (volume_within vtocs uid home h) n) ∙ at) in n one.0 one.1)
-  ];
-})
+pub uid_erased : (s now : Plain) (uid : ℕ) (home : Home) → now ≡ erased s home → uid_at s.vtocs home ≡ Some uid → uid_at now.vtocs home ≡ None
+uid_erased s now uid home is h =
+    ap (λ (x : Plain). uid_at x.vtocs home) is
+    ∙ ap uid_of (put_here s.vtocs home.volume home.entry None None (volume_within s.vtocs uid home h) (home_within s.vtocs uid home h))
 
-pub homes_erased : (vtocs now : List (List (Option Entry))) (uid : ℕ) (home : Home) → now ≡ put vtocs home.volume home.entry None → IsHomeOf vtocs uid home
-    → (segment : ℕ) (other : Home) → segment ≢ uid → IsHomeOf vtocs segment other → IsHomeOf now segment other
-homes_erased vtocs now uid home is h segment other n its = rw is (record {
-  used = uid_other vtocs home.volume home.entry None other (volume_within vtocs uid home h)
-      (λ i j. n (frame_same (uid_at vtocs other) segment uid its.used (uid_was vtocs uid home other h (i, j)))) ∙ its.used;
-  only = λ w g at. elim (at_or_other home.volume home.entry (record { volume = w; entry = g })) [
-    | inl here ↦ absurd (not_none (uid_at (put vtocs home.volume home.entry None) (record { volume = w; entry = g })) segment
-        (uid_here vtocs home.volume home.entry None (record { volume = w; entry = g }) (volume_within vtocs uid home h) (home_within vtocs uid home h) here) at)
-    | inr o ↦ its.only w g (sym (uid_other vtocs home.volume home.entry None (record { volume = w; entry = g }) (volume_within vtocs uid home h) o) ∙ at)
-  ];
-})
+pub uids_erased : (s now : Plain) (uid : ℕ) (home other : Home) → now ≡ erased s home → uid_at s.vtocs home ≡ Some uid → other ≢ home
+    → uid_at now.vtocs other ≡ uid_at s.vtocs other
+uids_erased s now uid home other is h n =
+    ap (λ (x : Plain). uid_at x.vtocs other) is
+    ∙ ap uid_of (put_other s.vtocs home.volume home.entry None None other.volume other.entry (volume_within s.vtocs uid home h) (other_home home other n))
 
-pub strangers_erased : (vtocs now : List (List (Option Entry))) (uid : ℕ) (home : Home) → now ≡ put vtocs home.volume home.entry None → IsHomeOf vtocs uid home
-    → (segment : ℕ) → HasNoHome vtocs segment → HasNoHome now segment
-strangers_erased vtocs now uid home is h segment none = rw is (record {
-  none = λ other at. elim (at_or_other home.volume home.entry other) [
-    | inl here ↦ not_none (uid_at (put vtocs home.volume home.entry None) other) segment
-        (uid_here vtocs home.volume home.entry None other (volume_within vtocs uid home h) (home_within vtocs uid home h) here) at
-    | inr n ↦ none.none other (sym (uid_other vtocs home.volume home.entry None other (volume_within vtocs uid home h) n) ∙ at)
-  ];
-})
+pub maps_erased : (s now : Plain) (uid : ℕ) (home other : Home) → now ≡ erased s home → uid_at s.vtocs home ≡ Some uid → other ≢ home
+    → map_at now.vtocs other ≡ map_at s.vtocs other
+maps_erased s now uid home other is h n = ap (λ (x : Plain). map_at x.vtocs other) is ∙ maps_freed s.vtocs uid home other h (other_home home other n)
 
-pub maps_erased : (vtocs now : List (List (Option Entry))) (uid : ℕ) (home : Home) → now ≡ put vtocs home.volume home.entry None → IsHomeOf vtocs uid home
-    → (other : Home) → other ≢ home → map_at now other ≡ map_at vtocs other
-maps_erased vtocs now uid home is h other n =
-    rw is (ap records_in (put_other vtocs home.volume home.entry None None other.volume other.entry (volume_within vtocs uid home h) (other_home home other n)))
+map_erased : (s now : Plain) (uid : ℕ) (home : Home) → now ≡ erased s home → uid_at s.vtocs home ≡ Some uid → (p : ℕ) → filed now home p ≡ None
+map_erased s now uid home is h p =
+    ap (λ (x : Plain). filed x home p) is
+    ∙ ap (λ (entry : Option Entry). get_or (records_in entry) p None)
+    (put_here s.vtocs home.volume home.entry None None (volume_within s.vtocs uid home h) (home_within s.vtocs uid home h))
+    ∙ no_record p
+
+pub stored_erased : (s now : Plain) (uid : ℕ) (home : Home) → now ≡ erased s home → uid_at s.vtocs home ≡ Some uid → (p : ℕ) → is_stored now home p ≡ false
+unfolding is_filed_at
+stored_erased s now uid home is h p = ap is_some (map_erased s now uid home is h p)
+
+pub zeros_erased : (s now : Plain) (uid : ℕ) (home : Home) → now ≡ erased s home → uid_at s.vtocs home ≡ Some uid → (u p : ℕ) → HasNoFrame (bindings s.core) u
+    → words_at now u home p ≡ replicate 1024 0
+zeros_erased s now uid home is h u p none =
+    shown_out now u p home (λ g at. none.none g p (ap (λ (x : Plain). get_or (bindings x.core) g None) (sym is) ∙ at))
+    ∙ ap (words_filed (disk_of now home.volume)) (map_erased s now uid home is h p)
+
+pub words_erased : (s now : Plain) (uid : ℕ) (home : Home) → now ≡ erased s home → uid_at s.vtocs home ≡ Some uid → (u : ℕ) (other : Home) (p : ℕ) → other ≢ home
+    → words_at now u other p ≡ words_at s u other p
+words_erased s now uid home is h u other p n =
+    words_by s now u other p (ap (λ (x : Plain). bindings x.core) is) (ap (λ (x : Plain). x.frames) is) (ap (λ (x : Plain). x.disks) is) (maps_erased s now uid home other is h n)
+
+pub ties_erased : (s now : Plain) (uid : ℕ) (home : Home) → now ≡ erased s home → uid_at s.vtocs home ≡ Some uid → AreFiled now.records now.vtocs
+    → (u : ℕ) (other : Home) (words : List Ptw) → other ≢ home → IsTied s u other words → IsTied now u other words
+ties_erased s now uid home is h filed u other words n tie =
+    tie_mapped s now u other words (ap (λ (x : Plain). x.core) is) (ap (λ (x : Plain). x.frames) is) (ap (λ (x : Plain). x.disks) is)
+    (uids_erased s now uid home other is h n ∙ tie.used) (maps_erased s now uid home other is h n) filed tie
 
 -- the records that the other file maps name
 pub filed_erased : (records now_records : List (List Bool)) (vtocs now : List (List (Option Entry))) (uid : ℕ) (home : Home) → now_records ≡ records
-    → now ≡ put vtocs home.volume home.entry None → IsHomeOf vtocs uid home → AreFiled records vtocs → AreFiled now_records now
-filed_erased records now_records vtocs now uid home r is h filed =
-    rw (r, is) (filed_fewer records vtocs (put vtocs home.volume home.entry None) filed
-    (λ v e q s at. elim (at_or_other home.volume home.entry (record { volume = v; entry = e })) [
-      | inl here ↦ absurd (not_none (record_at (vtoc_in (put vtocs home.volume home.entry None) v) e q) s
-          (rw (here.0, here.1) (ap (λ (entry : Option Entry). get_or (records_in entry) q None)
-          (put_here vtocs home.volume home.entry None None (volume_within vtocs uid home h) (home_within vtocs uid home h)) ∙ no_record q)) at)
-      | inr n ↦ sym (ap (λ (entry : Option Entry). get_or (records_in entry) q None)
-          (put_other vtocs home.volume home.entry None None v e (volume_within vtocs uid home h) n)) ∙ at
-    ]))
-
--- the pages of the other segments
-pub test_off : (entry : Option Entry) (u uid : ℕ) → u ≢ uid → uid_of entry ≡ Some uid → is_entry_of u None ≡ is_entry_of u entry
-test_off None u uid n is = cc
-test_off (Some entry) u uid n is = elim (eqb_tells entry.uid u) [
-  | inl i ↦ absurd (n (sym i.1 ∙ (let its : entry.uid ≡ uid = cc in its)))
-  | inr i ↦ sym i.0
-]
-
-pub named_erased : (vtocs : List (List (Option Entry))) (uid : ℕ) (home : Home) (u q : ℕ) → IsHomeOf vtocs uid home → u ≢ uid
-    → record_named (put vtocs home.volume home.entry None) u q ≡ record_named vtocs u q
-named_erased vtocs uid home u q h n =
-    named_put vtocs home.volume home.entry None u q (volume_within vtocs uid home h) (home_within vtocs uid home h)
-    (test_off (entry_at (vtoc_in vtocs home.volume) home.entry) u uid n h.used) (λ v e. absurd (n (placed_own vtocs uid u home h v e)))
-
-gone_erased : (vtocs : List (List (Option Entry))) (uid : ℕ) (home : Home) (q : ℕ) → IsHomeOf vtocs uid home → record_named (put vtocs home.volume home.entry None) uid q ≡ None
-gone_erased vtocs uid home q h = none_named (put vtocs home.volume home.entry None) uid q (home_erased vtocs (put vtocs home.volume home.entry None) uid home refl h)
-
-changed_segment : {X : Type 0} (old now : ℕ → ℕ → X) (uid : ℕ) (x : X) → ((q : ℕ) → now uid q ≡ x) → ((u q : ℕ) → u ≢ uid → now u q ≡ old u q) → (u q : ℕ)
-    → now u q ≡ changed_for old uid x u q
-unfolding changed_for
-changed_segment old now uid x here others u q = elim (eqb_tells uid u) [
-  | inl i ↦ ap (λ (n : ℕ). now n q) (sym i.1) ∙ here q ∙ sym (ap (λ (b : Bool). cond b x (old u q)) i.0)
-  | inr i ↦ others u q (λ same. i.1 (sym same)) ∙ sym (ap (λ (b : Bool). cond b x (old u q)) i.0)
-]
-
-pub stored_erased : (vtocs now : List (List (Option Entry))) (uid : ℕ) (home : Home) → now ≡ put vtocs home.volume home.entry None → IsHomeOf vtocs uid home
-    → is_filed_in now ≡ changed_for (is_filed_in vtocs) uid false
-unfolding is_filed_in
-stored_erased vtocs now uid home is h =
-    rw is (λ i. λ u q. changed_segment (is_filed_in vtocs) (is_filed_in (put vtocs home.volume home.entry None)) uid false
-    (λ p. ap is_some (gone_erased vtocs uid home p h)) (λ v p n. ap is_some (named_erased vtocs uid home v p h n)) u q i)
-
-pub picture_erased : (bound now_bound : List (Option (ℕ × ℕ))) (frames now_frames : List (List ℕ)) (disks now_disks : List (List (List ℕ)))
-    (vtocs now : List (List (Option Entry))) (uid : ℕ) (home : Home) → now_bound ≡ bound → now_frames ≡ frames → now_disks ≡ disks
-    → now ≡ put vtocs home.volume home.entry None → IsHomeOf vtocs uid home → HasNoFrame bound uid
-    → words_of_page now_bound now_frames now_disks now ≡ changed_for (words_of_page bound frames disks vtocs) uid (replicate 1024 0)
-unfolding words_of_page
-picture_erased bound now_bound frames now_frames disks now_disks vtocs now uid home b fr d is h away =
-    let new : List (List (Option Entry)) = put vtocs home.volume home.entry None in
-    rw (b, fr, d, is) (λ i. λ u q. changed_segment (words_of_page bound frames disks vtocs) (words_of_page bound frames disks new) uid (replicate 1024 0)
-    (λ p. ap (words_held frames (get_or disks (volume_of new uid) []) (record_named new uid p)) (found_nowhere bound uid p (λ g at. away.none g p at))
-    ∙ ap (λ (r : Option ℕ). words_held frames (get_or disks (volume_of new uid) []) r None) (gone_erased vtocs uid home p h))
-    (λ v p n. ap (λ (w : ℕ). words_held frames (get_or disks w []) (record_named new v p) (position (is_binding v p) bound))
-    (volume_put vtocs home.volume home.entry None v (test_off (entry_at (vtoc_in vtocs home.volume) home.entry) v uid n h.used))
-    ∙ ap (λ (r : Option ℕ). words_held frames (get_or disks (volume_of vtocs v) []) r (position (is_binding v p) bound)) (named_erased vtocs uid home v p h n)) u q i)
+    → now ≡ put vtocs home.volume home.entry None → uid_at vtocs home ≡ Some uid → NamesNoRecord (vtoc_in vtocs home.volume) home.entry → AreFiled records vtocs
+    → AreFiled now_records now
+filed_erased records now_records vtocs now uid home r is h gone filed = rw (r, is) (filed_freed records vtocs uid home h gone.none no_record filed)
 
 pub full_same : (table those : List (Option Entry)) → table ≡ those → HasFullMaps those → HasFullMaps table
 full_same table those same full = rw same full

@@ -14,15 +14,16 @@ use Rattle.page_table.specs.PageTable.{ptw_at}
 use Rattle.vtoc.specs.Vtoc.{Entry, uid_of}
 use Rattle.page_control.specs.declared.Home.{Home}
 use Rattle.page_control.specs.Plain.{Plain, Paging, plain, bindings, binding_at, flags_of, file_map_of, filed, entry_of, record_of, number_in, number_or_zero}
-use Rattle.page_control.specs.Tied.{frame_of, has_record, uid_in, IsTableOf, IsHomeOf, IsMapOf, AreFiled, IsTied}
+use Rattle.page_control.specs.Tied.{frame_of, has_record, uid_in, uid_at, IsTableOf, IsMapOf, AreFiled}
+use Rattle.page_control.specs.Ties.{IsTied}
 
 -- a used entry is there
 pub some_entry : (entry : Option Entry) (uid : ℕ) → uid_of entry ≡ Some uid → IsSome entry
 some_entry None uid h = cc
 some_entry (Some entry) uid h = refl
 
-pub home_used : (s : Plain) (uid : ℕ) (home : Home) → IsHomeOf s.vtocs uid home → IsSome (entry_of s home)
-home_used s uid home h = some_entry (entry_of s home) uid h.used
+pub home_used : (s : Plain) (uid : ℕ) (home : Home) → uid_at s.vtocs home ≡ Some uid → IsSome (entry_of s home)
+home_used s uid home h = some_entry (entry_of s home) uid h
 
 -- a place of a list whose element isn't the default is within the list
 pub within_from : {X : Type 0} (xs : List X) (i : ℕ) (d : X) → (get_or xs i d ≡ d → ⊥) → i < length xs
@@ -155,3 +156,6 @@ tied_volume pages s uid home words tie = (let volume = tie.volume in let count =
 pub tied_filed : (s : Plain) (uid : ℕ) (home : Home) (words : List Ptw) (p : ℕ) → IsTied s uid home words → has_record (ptw_at words p) ≡ true
     → filed s home p ≡ Some (record_of s home p)
 tied_filed s uid home words p tie has = filed_from_word s home words p tie.map has
+
+pub plain_volume : {D : Type 0} (pages : D → List (List ℕ)) (s : Paging D) (v : ℕ) → v < length s.volumes.drives → v < length (plain pages s).disks
+plain_volume pages s v lt = (let count = length-map s.volumes.drives pages in omega (arith, lt, count))

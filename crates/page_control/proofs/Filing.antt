@@ -4,14 +4,22 @@ use Rattle.std.proofs.lemmas.Bool.{cases_eq}
 use Rattle.record_map.specs.Bitmap.{in_use}
 use Rattle.vtoc.specs.Vtoc.{Entry, entry_at, record_at, records_in, with_record}
 use Rattle.page_control.specs.declared.Home.{Home}
-use Rattle.page_control.specs.Tied.{vtoc_in, flags_in, map_at, IsHomeOf, AreFiled}
+use Rattle.page_control.specs.Tied.{vtoc_in, flags_in, uid_at, map_at, AreFiled}
 use Rattle.page_control.proofs.Facts.{within_from}
 use Rattle.page_control.proofs.Ties.{not_none}
-use Rattle.page_control.proofs.Places.{put, put_here, put_other, none_put, some_put, refile, map_refiled, volume_within, same_record}
-use Rattle.page_control.proofs.Pictures.{home_within, off_and_on}
+use Rattle.page_control.proofs.Places.{put, put_here, put_other, none_put, some_put, refile, map_refiled, volume_within, home_within, same_record}
+use Rattle.page_control.proofs.Pictures.{off_and_on}
+
+-- the records that file maps name are in use, and each is named once
+pub record AreUsed (records : List (List Bool)) (vtocs : List (List (Option Entry))) : Type 0 where
+  pub used : (v e p r : ℕ) → record_at (vtoc_in vtocs v) e p ≡ Some r → in_use (flags_in records v) r ≡ true
+  pub once : (v e p g q r : ℕ) → record_at (vtoc_in vtocs v) e p ≡ Some r → record_at (vtoc_in vtocs v) g q ≡ Some r → (e ≡ g) × (p ≡ q)
+
+pub used_of : (records : List (List Bool)) (vtocs : List (List (Option Entry))) → AreFiled records vtocs → AreUsed records vtocs
+used_of records vtocs filed = record { used = filed.used; once = filed.once }
 
 -- the record of any page after a file map names another for page p at a home: that one, or the record as before
-pub refiled_cases : (vtocs : List (List (Option Entry))) (uid p : ℕ) (place : Option ℕ) (home : Home) → IsHomeOf vtocs uid home → (v e q : ℕ)
+pub refiled_cases : (vtocs : List (List (Option Entry))) (uid p : ℕ) (place : Option ℕ) (home : Home) → uid_at vtocs home ≡ Some uid → (v e q : ℕ)
     → ((v ≡ home.volume) × (e ≡ home.entry) × (q ≡ p)) ⊎ (record_at (vtoc_in (refile vtocs home p place) v) e q ≡ record_at (vtoc_in vtocs v) e q)
 refiled_cases vtocs uid p place home h v e q =
     let entry : Option Entry = entry_at (vtoc_in vtocs home.volume) home.entry in
@@ -31,14 +39,14 @@ refiled_cases vtocs uid p place home h v e q =
     ]
 
 -- the record of page p there
-pub refiled_at : (vtocs : List (List (Option Entry))) (uid p : ℕ) (place : Option ℕ) (home : Home) (v e q : ℕ) → IsHomeOf vtocs uid home
+pub refiled_at : (vtocs : List (List (Option Entry))) (uid p : ℕ) (place : Option ℕ) (home : Home) (v e q : ℕ) → uid_at vtocs home ≡ Some uid
     → (v ≡ home.volume) × (e ≡ home.entry) × (q ≡ p) → record_at (vtoc_in (refile vtocs home p place) v) e q ≡ record_at (vtoc_in (refile vtocs home p place) home.volume) home.entry p
 refiled_at vtocs uid p place home v e q h (i, j, k) = rw (i, j, k) refl
 
 -- page p at a home is stored no more, and its record r is given back
-pub filed_unstored : (records : List (List Bool)) (vtocs : List (List (Option Entry))) (uid p r : ℕ) (home : Home) → AreFiled records vtocs → IsHomeOf vtocs uid home
-    → record_at (vtoc_in vtocs home.volume) home.entry p ≡ Some r → AreFiled (put records home.volume r false) (refile vtocs home p None)
-filed_unstored records vtocs uid p r home filed h there =
+pub used_unstored : (records : List (List Bool)) (vtocs : List (List (Option Entry))) (uid p r : ℕ) (home : Home) → AreUsed records vtocs → uid_at vtocs home ≡ Some uid
+    → record_at (vtoc_in vtocs home.volume) home.entry p ≡ Some r → AreUsed (put records home.volume r false) (refile vtocs home p None)
+used_unstored records vtocs uid p r home filed h there =
     let gone : record_at (vtoc_in (refile vtocs home p None) home.volume) home.entry p ≡ None =
     ap (λ (places : List (Option ℕ)). get_or places p None) (map_refiled vtocs uid p None home h) ∙ none_put (map_at vtocs home) p in
     let none : Option ℕ = None in
@@ -65,10 +73,10 @@ filed_unstored records vtocs uid p r home filed h there =
     }
 
 -- page p at a home gets the free record r
-pub filed_stored : (records : List (List Bool)) (vtocs : List (List (Option Entry))) (uid p r : ℕ) (home : Home) → AreFiled records vtocs → IsHomeOf vtocs uid home
+pub used_stored : (records : List (List Bool)) (vtocs : List (List (Option Entry))) (uid p r : ℕ) (home : Home) → AreUsed records vtocs → uid_at vtocs home ≡ Some uid
     → in_use (flags_in records home.volume) r ≡ false → home.volume < length records → r < length (flags_in records home.volume)
-    → AreFiled (put records home.volume r true) (refile vtocs home p (Some r))
-filed_stored records vtocs uid p r home filed h free vl rl =
+    → AreUsed (put records home.volume r true) (refile vtocs home p (Some r))
+used_stored records vtocs uid p r home filed h free vl rl =
     let now : List (List (Option Entry)) = refile vtocs home p (Some r) in
     let its : (s : ℕ) → record_at (vtoc_in now home.volume) home.entry p ≡ Some s → s ≡ r =
     λ s is. some_put (map_at vtocs home) p r s (sym (ap (λ (places : List (Option ℕ)). get_or places p None) (map_refiled vtocs uid p (Some r) home h)) ∙ is) in
@@ -100,9 +108,9 @@ filed_stored records vtocs uid p r home filed h free vl rl =
     }
 
 -- where each record that a file map names was named there before
-pub filed_fewer : (records : List (List Bool)) (vtocs now : List (List (Option Entry))) → AreFiled records vtocs
-    → ((v e q s : ℕ) → record_at (vtoc_in now v) e q ≡ Some s → record_at (vtoc_in vtocs v) e q ≡ Some s) → AreFiled records now
-filed_fewer records vtocs now filed was = record {
+pub used_fewer : (records : List (List Bool)) (vtocs now : List (List (Option Entry))) → AreUsed records vtocs
+    → ((v e q s : ℕ) → record_at (vtoc_in now v) e q ≡ Some s → record_at (vtoc_in vtocs v) e q ≡ Some s) → AreUsed records now
+used_fewer records vtocs now filed was = record {
   used = λ v e q s is. filed.used v e q s (was v e q s is);
   once = λ v e q g o s is those. filed.once v e q g o s (was v e q s is) (was v g o s those);
 }

@@ -1,18 +1,17 @@
--- What leaves the picture as it is.
-use Rattle.std.proofs.Common.{◌≡◌, ◌≢◌, ℕ, ◌<◌, Bool, true, false, List, [], length, Option, None, Some, refl, sym, ap, ◌∙◌, get_or, set, is_some, eq-eqb, inl, inr}
-use Rattle.std.specs.List.{position, position_or_len}
-use Rattle.std.proofs.lemmas.Bool.Decides.{eqb_tells}
-use Rattle.std.proofs.lemmas.List.{get_or-set_same, get_or-set_other, length-set}
+-- What the words of a page are, where it is in a frame and where it is in none.
+use Rattle.std.proofs.Common.{◌≡◌, ◌≢◌, ◌⊎◌, ℕ, ◌<◌, Bool, true, false, List, [], length, Option, None, Some, refl, sym, ap, ◌∙◌, get_or, set, eq-eqb, inl, inr}
+use Rattle.std.specs.List.{position}
+use Rattle.std.proofs.lemmas.Bool.Decides.{eqb_tells, leb_tells}
 use Rattle.std.proofs.lemmas.Bool.{cases_eq}
+use Rattle.std.proofs.lemmas.List.{get_or-set_same, get_or-set_other, get_or_past, set_past}
 use Rattle.std.proofs.lemmas.List.Quantifiers.{position-Some}
-use Rattle.vtoc.specs.Vtoc.{Entry, entry_at, record_at, uid_of}
+use Rattle.vtoc.specs.Vtoc.{Entry}
 use Rattle.page_control.specs.declared.Home.{Home}
-use Rattle.page_control.specs.Plain.{binding_at, number_or_zero}
-use Rattle.page_control.specs.Tied.{vtoc_in, IsHomeOf}
-use Rattle.page_control.specs.Picture.{is_binding, is_entry_of, has_entry_of, volume_of, place_of, record_named, words_held, words_of_page}
-use Rattle.page_control.proofs.Facts.{within_from, some_number}
-use Rattle.page_control.proofs.Ties.{not_none, number_of}
-use Rattle.page_control.proofs.Firsts.{nowhere, at_one, position_at_one, position_kept}
+use Rattle.page_control.specs.Plain.{Plain, bindings, binding_at, words_in, disk_of, filed}
+use Rattle.page_control.specs.Tied.{IsInFrame, map_at}
+use Rattle.page_control.specs.Picture.{is_binding, words_filed, words_out, words_held, words_of_page, words_at}
+use Rattle.page_control.proofs.Ties.{not_none, number_of, bound_within}
+use Rattle.page_control.proofs.Firsts.{nowhere, position_at_one}
 
 -- the picture is that of its parts
 pub picture_by : (bound old_bound : List (Option (ℕ × ℕ))) (frames old_frames : List (List ℕ)) (disks old_disks : List (List (List ℕ)))
@@ -22,46 +21,6 @@ picture_by bound old_bound frames old_frames disks old_disks vtocs old_vtocs b f
 
 pub off_and_on : (b : Bool) → b ≡ false → b ≡ true → ⊥
 off_and_on b h i = cc
-
--- an entry that is used for a segment
-pub entry_tells : (entry : Option Entry) (uid : ℕ) → is_entry_of uid entry ≡ true → uid_of entry ≡ Some uid
-entry_tells None uid h = cc
-entry_tells (Some entry) uid h = elim (eqb_tells entry.uid uid) [ inl i ↦ ap Some i.1 | inr i ↦ absurd (off_and_on _ i.0 h) ]
-
-entry_is : (entry : Option Entry) (uid : ℕ) → uid_of entry ≡ Some uid → is_entry_of uid entry ≡ true
-entry_is None uid h = cc
-entry_is (Some entry) uid h = (let same : entry.uid ≡ uid = cc in eq-eqb entry.uid uid same)
-
--- the home of a segment is where the picture looks for its entry
-pub home_within : (vtocs : List (List (Option Entry))) (uid : ℕ) (home : Home) → IsHomeOf vtocs uid home → home.entry < length (vtoc_in vtocs home.volume)
-home_within vtocs uid home h =
-    within_from (vtoc_in vtocs home.volume) home.entry None (λ none. not_none (uid_of (entry_at (vtoc_in vtocs home.volume) home.entry)) uid (ap uid_of none) h.used)
-
-entry_found : (vtocs : List (List (Option Entry))) (uid : ℕ) (home : Home) → IsHomeOf vtocs uid home
-    → position_or_len (is_entry_of uid) (vtoc_in vtocs home.volume) ≡ home.entry
-entry_found vtocs uid home h =
-    at_one (is_entry_of uid) (vtoc_in vtocs home.volume) home.entry None (home_within vtocs uid home h) (entry_is _ uid h.used)
-    (λ k lt passes. (h.only home.volume k (entry_tells _ uid passes)).1)
-
-has_entry : (vtocs : List (List (Option Entry))) (uid : ℕ) (home : Home) → IsHomeOf vtocs uid home → has_entry_of uid (vtoc_in vtocs home.volume) ≡ true
-has_entry vtocs uid home h =
-    ap is_some (position_at_one (is_entry_of uid) (vtoc_in vtocs home.volume) home.entry None (home_within vtocs uid home h) (entry_is _ uid h.used)
-    (λ k lt passes. (h.only home.volume k (entry_tells _ uid passes)).1))
-
-pub volume_found : (vtocs : List (List (Option Entry))) (uid : ℕ) (home : Home) → IsHomeOf vtocs uid home → volume_of vtocs uid ≡ home.volume
-volume_found vtocs uid home h =
-    at_one (has_entry_of uid) vtocs home.volume []
-    (within_from vtocs home.volume [] (λ none. off_and_on _ (ap (has_entry_of uid) none) (has_entry vtocs uid home h))) (has_entry vtocs uid home h)
-    (λ v lt passes. (let at : position (is_entry_of uid) (vtoc_in vtocs v) ≡ Some (number_or_zero (position (is_entry_of uid) (vtoc_in vtocs v))) = some_number _ passes in
-    (h.only v _ (entry_tells _ uid (position-Some (is_entry_of uid) (vtoc_in vtocs v) _ None at).1)).0))
-
-pub record_found : (vtocs : List (List (Option Entry))) (uid p : ℕ) (home : Home) → IsHomeOf vtocs uid home
-    → record_named vtocs uid p ≡ record_at (vtoc_in vtocs home.volume) home.entry p
-record_found vtocs uid p home h =
-    let volume : volume_of vtocs uid ≡ home.volume = volume_found vtocs uid home h in
-    let place : place_of vtocs uid ≡ home.entry =
-    ap (λ (v : ℕ). position_or_len (is_entry_of uid) (vtoc_in vtocs v)) volume ∙ entry_found vtocs uid home h in
-    ap (λ (v : ℕ). record_at (vtoc_in vtocs v) (place_of vtocs uid) p) volume ∙ ap (λ (e : ℕ). record_at (vtoc_in vtocs home.volume) e p) place
 
 -- a binding as a page
 abbrev pub page : ℕ → ℕ → Option (ℕ × ℕ)
@@ -84,68 +43,75 @@ binding_tells (Some (a, b)) uid p h = elim (eqb_tells a uid) [
 pub binding_is_one : (uid p : ℕ) → is_binding uid p (page uid p) ≡ true
 binding_is_one uid p = rw (eq-eqb uid uid refl, eq-eqb p p refl) refl
 
-pub held_same : (frames disk : List (List ℕ)) (place : Option ℕ) (f : ℕ) (words : List ℕ) (x : Option ℕ) → ((g : ℕ) → x ≡ Some g → g ≢ f)
-    → words_held (set frames f words) disk place x ≡ words_held frames disk place x
-held_same frames disk place f words None other = refl
-held_same frames disk place f words (Some g) other = get_or-set_other frames f g words [] (other g refl)
-
 pub off_from : (x : Option (ℕ × ℕ)) (uid p : ℕ) (b : Bool) → is_binding uid p x ≡ b → (x ≡ page uid p → ⊥) → is_binding uid p x ≡ false
 off_from x uid p true is other = absurd (other (binding_tells x uid p is))
 off_from x uid p false is other = is
 
--- a page that no frame is bound to
+-- a page that no frame is bound to, and one that one frame is bound to
 pub found_nowhere : (bound : List (Option (ℕ × ℕ))) (uid p : ℕ) → ((g : ℕ) → binding_at bound g ≡ page uid p → ⊥) → position (is_binding uid p) bound ≡ None
 found_nowhere bound uid p none = nowhere (is_binding uid p) bound None (λ g. off_from (binding_at bound g) uid p _ refl (none g))
 
--- and then one frame is
-pub found_in : (bound : List (Option (ℕ × ℕ))) (uid p f : ℕ) → f < length bound → ((g : ℕ) → binding_at bound g ≡ page uid p → ⊥)
-    → position (is_binding uid p) (set bound f (page uid p)) ≡ Some f
-found_in bound uid p f within none =
-    position_at_one (is_binding uid p) (set bound f (page uid p)) f None (rw (length-set bound f (page uid p)) within)
-    (ap (is_binding uid p) (get_or-set_same bound f (page uid p) None within) ∙ binding_is_one uid p)
-    (λ g lt passes. elim (cases_eq g f) [
-      | inl e ↦ e
-      | inr n ↦ absurd (none g (sym (get_or-set_other bound f g (page uid p) None n) ∙ binding_tells _ uid p passes))
-    ])
+pub found_at : (bound : List (Option (ℕ × ℕ))) (uid p f : ℕ) → binding_at bound f ≡ page uid p → ((g : ℕ) → binding_at bound g ≡ page uid p → g ≡ f)
+    → position (is_binding uid p) bound ≡ Some f
+found_at bound uid p f here only =
+    position_at_one (is_binding uid p) bound f None (bound_within bound f uid p here) (ap (is_binding uid p) here ∙ binding_is_one uid p)
+    (λ g lt passes. only g (binding_tells (binding_at bound g) uid p passes))
 
--- the pages of other frames are found where they were
-pub found_other : (bound : List (Option (ℕ × ℕ))) (u q f g : ℕ) → binding_at bound f ≡ None → position (is_binding u q) bound ≡ Some g → g ≢ f
-found_other bound u q f g free found = λ e. off_and_on (is_binding u q (binding_at bound g)) (ap (λ (k : ℕ). is_binding u q (binding_at bound k)) e ∙ ap (is_binding u q) free)
-    (position-Some (is_binding u q) bound g None found).1
-
-read_at : (bound : List (Option (ℕ × ℕ))) (frames : List (List ℕ)) (disks : List (List (List ℕ))) (vtocs : List (List (Option Entry))) (uid p f r : ℕ) (home : Home)
-    → IsHomeOf vtocs uid home → record_at (vtoc_in vtocs home.volume) home.entry p ≡ Some r → binding_at bound f ≡ None → f < length bound → f < length frames
-    → ((g : ℕ) → binding_at bound g ≡ page uid p → ⊥) → (u q : ℕ) (b : Bool) → is_binding u q (page uid p) ≡ b
-    → words_held (set frames f (get_or (get_or disks home.volume []) r [])) (get_or disks (volume_of vtocs u) []) (record_named vtocs u q)
-    (position (is_binding u q) (set bound f (page uid p)))
-    ≡ words_held frames (get_or disks (volume_of vtocs u) []) (record_named vtocs u q) (position (is_binding u q) bound)
-read_at bound frames disks vtocs uid p f r home h filed free within frame none u q true is =
-    let tells : page uid p ≡ page u q = binding_tells (page uid p) u q is in
-    let same_uid : u ≡ uid = sym (ap uid_part tells) in
-    let same_page : q ≡ p = sym (ap number_of tells) in
-    rw (same_uid, same_page)
-    (rw (found_in bound uid p f within none, found_nowhere bound uid p none, record_found vtocs uid p home h ∙ filed, volume_found vtocs uid home h)
-    (get_or-set_same frames f (get_or (get_or disks home.volume []) r []) [] frame))
-read_at bound frames disks vtocs uid p f r home h filed free within frame none u q false is =
-    rw (position_kept (is_binding u q) bound f (page uid p) None (is ∙ sym (ap (is_binding u q) free)))
-    (held_same frames (get_or disks (volume_of vtocs u) []) (record_named vtocs u q) f (get_or (get_or disks home.volume []) r []) (position (is_binding u q) bound)
-    (λ g found. found_other bound u q f g free found))
-
--- a page that was in no frame is in frame f, with the words of its record
-pub picture_read : (bound : List (Option (ℕ × ℕ))) (frames : List (List ℕ)) (disks : List (List (List ℕ))) (vtocs : List (List (Option Entry))) (uid p f r : ℕ) (home : Home)
-    → IsHomeOf vtocs uid home → record_at (vtoc_in vtocs home.volume) home.entry p ≡ Some r → binding_at bound f ≡ None → f < length bound → f < length frames
-    → ((g : ℕ) → binding_at bound g ≡ page uid p → ⊥)
-    → words_of_page (set bound f (page uid p)) (set frames f (get_or (get_or disks home.volume []) r [])) disks vtocs ≡ words_of_page bound frames disks vtocs
+-- their words
+pub shown_in : (s : Plain) (uid p f : ℕ) (home : Home) → binding_at (bindings s.core) f ≡ page uid p
+    → ((g : ℕ) → binding_at (bindings s.core) g ≡ page uid p → g ≡ f) → words_at s uid home p ≡ words_in s f
 unfolding words_of_page
-picture_read bound frames disks vtocs uid p f r home h filed free within frame none =
-    λ i. λ u q. read_at bound frames disks vtocs uid p f r home h filed free within frame none u q (is_binding u q (page uid p)) refl i
+shown_in s uid p f home here only =
+    ap (words_held s.frames (disk_of s home.volume) (filed s home p)) (found_at (bindings s.core) uid p f here only)
 
--- the same, where the parts are known by equations
-pub picture_in : (bound old_bound : List (Option (ℕ × ℕ))) (frames old_frames : List (List ℕ)) (disks old_disks : List (List (List ℕ)))
-    (vtocs old_vtocs : List (List (Option Entry))) (uid p f r : ℕ) (home : Home) → bound ≡ set old_bound f (page uid p)
-    → frames ≡ set old_frames f (get_or (get_or old_disks home.volume []) r []) → disks ≡ old_disks → vtocs ≡ old_vtocs → IsHomeOf old_vtocs uid home
-    → record_at (vtoc_in old_vtocs home.volume) home.entry p ≡ Some r → binding_at old_bound f ≡ None → f < length old_bound → f < length old_frames
-    → ((g : ℕ) → binding_at old_bound g ≡ page uid p → ⊥)
-    → words_of_page bound frames disks vtocs ≡ words_of_page old_bound old_frames old_disks old_vtocs
-picture_in bound old_bound frames old_frames disks old_disks vtocs old_vtocs uid p f r home b fr d v h filed free within frame none =
-    rw (b, fr, d, v) (picture_read old_bound old_frames old_disks old_vtocs uid p f r home h filed free within frame none)
+pub shown_out : (s : Plain) (uid p : ℕ) (home : Home) → ((g : ℕ) → binding_at (bindings s.core) g ≡ page uid p → ⊥)
+    → words_at s uid home p ≡ words_out s home p
+unfolding words_of_page
+shown_out s uid p home none =
+    ap (words_held s.frames (disk_of s home.volume) (filed s home p)) (found_nowhere (bindings s.core) uid p none)
+
+-- one or the other
+pub in_frame_or_out : (s : Plain) (u q : ℕ) (h : Home) (place : Option ℕ) → position (is_binding u q) (bindings s.core) ≡ place
+    → (IsInFrame (bindings s.core) u q) ⊎ (words_at s u h q ≡ words_out s h q)
+unfolding words_of_page
+in_frame_or_out s u q h None is = inr (ap (words_held s.frames (disk_of s h.volume) (filed s h q)) is)
+in_frame_or_out s u q h (Some g) is =
+    inl (g, binding_tells (binding_at (bindings s.core) g) u q (position-Some (is_binding u q) (bindings s.core) g None is).1)
+
+-- the words of pages that are in no frame, where the record is the same
+pub filed_same : (disk now : List (List ℕ)) (place : Option ℕ) → ((k : ℕ) → place ≡ Some k → get_or now k [] ≡ get_or disk k [])
+    → words_filed now place ≡ words_filed disk place
+filed_same disk now None same = refl
+filed_same disk now (Some k) same = same k refl
+
+-- what a frame is bound to after frame f was bound to x
+pub bound_now : (bound : List (Option (ℕ × ℕ))) (f : ℕ) (x : Option (ℕ × ℕ)) (g : ℕ) (y : ℕ × ℕ) → binding_at (set bound f x) g ≡ Some y
+    → ((g ≡ f) × (x ≡ Some y)) ⊎ ((g ≢ f) × (binding_at bound g ≡ Some y))
+bound_now bound f x g y is = elim (cases_eq g f) [
+  | inl same ↦ elim (leb_tells (length bound) f) [
+    | inl past ↦ absurd (not_none (binding_at (set bound f x) g) y
+        (ap (λ (those : List (Option (ℕ × ℕ))). binding_at those g) (set_past bound f x past.1) ∙ ap (binding_at bound) same ∙ get_or_past bound f None past.1) is)
+    | inr lt ↦ inl (same, sym (get_or-set_same bound f x None lt.1) ∙ ap (binding_at (set bound f x)) (sym same) ∙ is)
+  ]
+  | inr n ↦ inr (n, sym (get_or-set_other bound f g x None n) ∙ is)
+]
+
+-- a page that is in a frame stays in it where another frame changes
+pub in_frame_kept : (bound : List (Option (ℕ × ℕ))) (f u q : ℕ) (x : Option (ℕ × ℕ)) → (binding_at bound f ≡ Some (u, q) → ⊥)
+    → IsInFrame bound u q → IsInFrame (set bound f x) u q
+in_frame_kept bound f u q x other (g, at) = (g, get_or-set_other bound f g x None (λ e. other (sym (ap (binding_at bound) e) ∙ at)) ∙ at)
+
+-- the words of a page are those of its parts: the frames, the drives and the file map at its home
+pub words_by : (s now : Plain) (u : ℕ) (h : Home) (q : ℕ) → bindings now.core ≡ bindings s.core → now.frames ≡ s.frames → now.disks ≡ s.disks
+    → map_at now.vtocs h ≡ map_at s.vtocs h → words_at now u h q ≡ words_at s u h q
+unfolding words_of_page
+words_by s now u h q bound frames disks map =
+    ap (λ (b : List (Option (ℕ × ℕ))). words_held now.frames (get_or now.disks h.volume []) (get_or (map_at now.vtocs h) q None) (position (is_binding u q) b)) bound
+    ∙ ap (λ (f : List (List ℕ)). words_held f (get_or now.disks h.volume []) (get_or (map_at now.vtocs h) q None) (position (is_binding u q) (bindings s.core))) frames
+    ∙ ap (λ (d : List (List (List ℕ))). words_held s.frames (get_or d h.volume []) (get_or (map_at now.vtocs h) q None) (position (is_binding u q) (bindings s.core))) disks
+    ∙ ap (λ (m : List (Option ℕ)). words_held s.frames (get_or s.disks h.volume []) (get_or m q None) (position (is_binding u q) (bindings s.core))) map
+
+pub out_by : (s now : Plain) (h : Home) (q : ℕ) → now.disks ≡ s.disks → map_at now.vtocs h ≡ map_at s.vtocs h → words_out now h q ≡ words_out s h q
+out_by s now h q disks map =
+    ap (λ (d : List (List (List ℕ))). words_filed (get_or d h.volume []) (get_or (map_at now.vtocs h) q None)) disks
+    ∙ ap (λ (m : List (Option ℕ)). words_filed (get_or s.disks h.volume []) (get_or m q None)) map

@@ -1,12 +1,14 @@
 -- What a call of one drive keeps (own).
-use Rattle.std.specs.Prelude.{◌≡◌, ◌≤◌, ℕ, List, length, map, sum_by}
-use Rattle.volumes.specs.Volumes.{KeepsOthers}
+use Rattle.std.specs.Prelude.{◌≡◌, ◌≤◌, ℕ, List, Result, OnErr, length, map, sum_by}
+use Rattle.site_io.specs.Faults.{Rose}
+use Rattle.volumes.specs.Volumes.{KeepsOthers, faults_at}
 
--- Every drive but that of volume v is as before, and so are the plans and the places of all; their faults don't fall. The
--- three meanings are the drive's.
-pub record KeepsDrives {D Plan : Type 0} (plan : D → Plan) (places faults : D → ℕ) (old new : List D) (v : ℕ) : Type 0 where
+-- Every drive but that of volume v is as before, and so are the plans and the places of all; their faults don't fall, and
+-- where the call failed the faults of that drive rose. The three meanings are the drive's.
+pub record CallsDrive {D Plan T E : Type 0} (plan : D → Plan) (places faults : D → ℕ) (old new : List D) (v : ℕ) (result : Result T E) : Type 0 where
   pub plans : map plan new ≡ map plan old
   pub stores : map places new ≡ map places old
   pub count : length new ≡ length old
   pub grows : sum_by faults old ≤ sum_by faults new
   pub others : KeepsOthers old new v
+  pub rose : OnErr result (Rose (faults_at faults old v) (faults_at faults new v))

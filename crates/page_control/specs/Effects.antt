@@ -1,5 +1,6 @@
 -- What each call of page control does (Bensoussan, Clingen and Daley 1972).
-use Rattle.std.specs.Prelude.{◌≡◌, ◌⊎◌, ℕ, ◌-◌, List, [], ◌∷◌, ◌++◌, drop, Bool, true, false, if◌then◌else◌, Option, None, Some, replicate, take, slice_set}
+use Rattle.std.specs.Prelude.{◌≡◌, ◌⊎◌, ℕ, ◌-◌, List, [], ◌∷◌, ◌++◌, drop, Bool, true, false, if◌then◌else◌, Option, None, Some, Result, Ok, Err, replicate, take, slice_set}
+use Rattle.bitmap.specs.Bitmap.{least_free}
 use Rattle.core_map.specs.declared.Frame.{Frame}
 use Rattle.core_map.specs.declared.Frame.TheVariants.{Free, Bound}
 use Rattle.core_map.specs.CoreMap.{with_frame, after_reference, is_modified}
@@ -11,7 +12,7 @@ use Rattle.volumes.specs.Volumes.{with_page}
 use Rattle.page_control.specs.declared.Home.{Home}
 use Rattle.page_control.specs.declared.Left.{Left}
 use Rattle.page_control.specs.declared.Left.TheVariants.{Released, Kept}
-use Rattle.page_control.specs.Plain.{Plain, frame_in, words_in, flags_of, vtoc_of, words_on, entry_of, file_map_of, record_of}
+use Rattle.page_control.specs.Plain.{Plain, frame_in, words_in, flags_of, vtoc_of, words_on, entry_of, file_map_of, record_of, number_or_zero}
 
 -- frame f becomes what is given
 abbrev pub framed : Plain → ℕ → Frame → Plain
@@ -68,6 +69,10 @@ filled s uid p f at w = worded (framed s f (Bound uid p true true)) f (slice_set
 abbrev pub created : Plain → ℕ → ℕ → Home → ℕ → ℕ → ℕ → ℕ → Plain
 created s uid p home r f at w = filled (refiled (flagged s home.volume r true) home p (Some r)) uid p f at w
 
+-- the record that the next page at a home gets: the least free one of its volume
+abbrev pub next_record : Plain → Home → ℕ
+next_record s home = number_or_zero (least_free (flags_of s home.volume))
+
 -- page p at a home, which the word names, is stored no more and in no frame
 abbrev pub dropped : Plain → Home → ℕ → Ptw → Plain
 dropped s home p Null = unstored s home p
@@ -85,9 +90,41 @@ abbrev pub word_of_left : Left → ℕ → Ptw
 word_of_left Released r = Null
 word_of_left Kept r = Out r
 
+-- ---- by how a call ended
+
+-- page p at a home has left frame f, or nothing has changed
+abbrev pub after_evict : {E : Type 0} → Plain → Home → ℕ → ℕ → Result Left E → Plain
+after_evict s home p f (Ok left) = evicted s home p f left
+after_evict s home p f (Err e) = s
+
+-- its word, where r is its record
+abbrev pub words_left : {E : Type 0} → List Ptw → ℕ → ℕ → Result Left E → List Ptw
+words_left t p r (Ok left) = slice_set t p (word_of_left left r)
+words_left t p r (Err e) = t
+
+-- page p is in frame f as its record has it, or frame f is free
+abbrev pub after_read : {T E : Type 0} → Plain → ℕ → ℕ → Home → ℕ → Result T E → Plain
+after_read s uid p home f (Ok x) = brought_in s uid p home.volume (record_of s home p) f
+after_read s uid p home f (Err e) = framed s f Free
+
+-- page p is made in frame f, or nothing has changed
+abbrev pub after_create : {T E : Type 0} → Plain → ℕ → ℕ → Home → ℕ → ℕ → ℕ → Result T E → Plain
+after_create s uid p home f at w (Ok x) = created s uid p home (next_record s home) f at w
+after_create s uid p home f at w (Err e) = s
+
+-- the word of a page that is in frame f now, where the call didn't fail
+abbrev pub words_here : {T E : Type 0} → List Ptw → ℕ → ℕ → Result T E → List Ptw
+words_here t p f (Ok x) = slice_set t p (Here f)
+words_here t p f (Err e) = t
+
 -- entry e of volume v is taken for uid, with an empty file map
 abbrev pub allocated : Plain → ℕ → ℕ → ℕ → Plain
 allocated s v e uid = record s { vtocs = slice_set s.vtocs v (slice_set (vtoc_of s v) e (fresh_entry uid)) }
+
+-- the same where an entry was found, and nothing where there is none
+abbrev pub after_asked : Plain → ℕ → ℕ → Option ℕ → Plain
+after_asked s v uid (Some e) = allocated s v e uid
+after_asked s v uid None = s
 
 -- the flags of a volume after the records that a file map names are given back
 abbrev pub freed : List Bool → List (Option ℕ) → List Bool

@@ -1,13 +1,13 @@
 -- A segment that is being erased, page by page (own).
-use Rattle.std.specs.Prelude.{◌≡◌, ℕ, ◌<◌, None}
+use Rattle.std.specs.Prelude.{◌≡◌, ℕ, ◌<◌, Some, None}
 use Rattle.page_control.specs.declared.Home.{Home}
 use Rattle.page_control.specs.Plain.{Plain, filed}
 use Rattle.page_control.specs.Effects.{erased, erased_from}
-use Rattle.page_control.specs.Tied.{IsHomeOf, AreFiled}
+use Rattle.page_control.specs.Tied.{uid_at, AreFiled}
 
 -- the pages before n of segment uid have given their records back since `old`
 pub record IsPartErased (old now : Plain) (uid : ℕ) (home : Home) (n : ℕ) : Type 0 where
   pub rest : erased_from now home n ≡ erased old home
   pub gone : (p : ℕ) → p < n → filed now home p ≡ None
-  pub at : IsHomeOf now.vtocs uid home
+  pub at : uid_at now.vtocs home ≡ Some uid
   pub records : AreFiled now.records now.vtocs

@@ -9,6 +9,7 @@ pub mod Plain
 pub mod Effects
 pub mod Tied
 pub mod Picture
+pub mod Ties
 pub mod Counts
 pub mod Drives
 pub mod Steps

@@ -1,5 +1,5 @@
 -- What ties page tables, homes and frames together (Bensoussan, Clingen and Daley 1972).
-use Rattle.std.specs.Prelude.{◌≡◌, ◌≢◌, ◌<◌, ◌≤◌, ℕ, Bool, true, false, List, [], Option, None, Some, is_some, length, slice_index_or}
+use Rattle.std.specs.Prelude.{◌≡◌, ◌≢◌, ◌≤◌, ℕ, Bool, true, false, List, [], Option, None, Some, is_some, length, slice_index_or}
 use Rattle.core_map.specs.CoreMap.{Core, frame_at, is_bound}
 use Rattle.core_map.specs.declared.Frame.{Frame}
 use Rattle.core_map.specs.declared.Frame.TheVariants.{Free, Started, Bound}
@@ -9,7 +9,7 @@ use Rattle.page_table.specs.PageTable.{ptw_at}
 use Rattle.vtoc.specs.Vtoc.{Entry, record_at, records_in, uid_of, entry_at}
 use Rattle.record_map.specs.Bitmap.{in_use}
 use Rattle.page_control.specs.declared.Home.{Home}
-use Rattle.page_control.specs.Plain.{Plain, bindings, binding_at, number_in}
+use Rattle.page_control.specs.Plain.{binding_at, number_in}
 
 -- the VTOC of volume v, and its flags of records in use
 abbrev pub vtoc_in : List (List (Option Entry)) → ℕ → List (Option Entry)
@@ -63,21 +63,16 @@ pub record IsTableOf (bound : List (Option (ℕ × ℕ))) (uid : ℕ) (table : L
   pub named : (f p : ℕ) → binding_at bound f ≡ Some (uid, p) → frame_of (ptw_at table p) ≡ Some f
   pub back : (f p : ℕ) → frame_of (ptw_at table p) ≡ Some f → binding_at bound f ≡ Some (uid, p)
 
--- the home is the used VTOC entry of segment uid
-pub record IsHomeOf (vtocs : List (List (Option Entry))) (uid : ℕ) (home : Home) : Type 0 where
-  pub used : uid_of (entry_at (vtoc_in vtocs home.volume) home.entry) ≡ Some uid
-  pub only : (v e : ℕ) → uid_of (entry_at (vtoc_in vtocs v) e) ≡ Some uid → (v ≡ home.volume) × (e ≡ home.entry)
-
 -- a file map names a record for exactly the pages whose word isn't `Null`, and for a word `Out` the record that the word
 -- names
 pub record IsMapOf (places : List (Option ℕ)) (table : List Ptw) : Type 0 where
   pub stored : (p : ℕ) → is_some (slice_index_or places p None) ≡ has_record (ptw_at table p)
   pub out : (p r : ℕ) → ptw_at table p ≡ Out r → slice_index_or places p None ≡ Some r
 
--- the records that file maps name are in use, and each is named once
-pub record AreFiled (records : List (List Bool)) (vtocs : List (List (Option Entry))) : Type 0 where
-  pub used : (v e p r : ℕ) → record_at (vtoc_in vtocs v) e p ≡ Some r → in_use (flags_in records v) r ≡ true
-  pub once : (v e p g q r : ℕ) → record_at (vtoc_in vtocs v) e p ≡ Some r → record_at (vtoc_in vtocs v) g q ≡ Some r → (e ≡ g) × (p ≡ q)
+-- a page table of no page: each of its words, 256 at most, is `Null`
+pub record IsBlank (table : List Ptw) : Type 0 where
+  pub pages : length table ≤ 256
+  pub null : (p : ℕ) → ptw_at table p ≡ Null
 
 -- the uid of the segment that a home is used for, and the file map there
 abbrev pub uid_at : List (List (Option Entry)) → Home → Option ℕ
@@ -90,19 +85,11 @@ map_at vtocs home = records_in (entry_at (vtoc_in vtocs home.volume) home.entry)
 abbrev pub IsNamed : List (Option Entry) → ℕ → Type 0
 IsNamed table r = (e p : ℕ) × (record_at table e p ≡ Some r)
 
--- What a call that concerns a segment asks and keeps: the home is the used VTOC entry of segment uid, on a volume that is
--- there; the words are its page table, of 256 at most, and agree with its file map; and the records that file maps name
--- are in use, each named once.
-pub record IsTied (s : Plain) (uid : ℕ) (home : Home) (words : List Ptw) : Type 0 where
-  pub volume : home.volume < length s.disks
-  pub pages : length words ≤ 256
-  pub used : IsHomeOf s.vtocs uid home
-  pub table : IsTableOf (bindings s.core) uid words
-  pub map : IsMapOf (map_at s.vtocs home) words
-  pub records : AreFiled s.records s.vtocs
-
--- each record that is in use is named by some file map
-pub record AreNamed (records : List (List Bool)) (vtocs : List (List (Option Entry))) : Type 0 where
+-- the records in use are those that file maps name, and each is named once
+pub record AreFiled (records : List (List Bool)) (vtocs : List (List (Option Entry))) : Type 0 where
+  pub used : (v e p r : ℕ) → record_at (vtoc_in vtocs v) e p ≡ Some r → in_use (flags_in records v) r ≡ true
+  pub once : (v e p g q r : ℕ) → record_at (vtoc_in vtocs v) e p ≡ Some r → record_at (vtoc_in vtocs v) g q ≡ Some r
+      → (e ≡ g) × (p ≡ q)
   pub named : (v r : ℕ) → in_use (flags_in records v) r ≡ true → IsNamed (vtoc_in vtocs v) r
 
 -- no frame is started for page p of segment uid
@@ -113,18 +100,14 @@ pub record IsNotStarted (core : Core) (uid p : ℕ) : Type 0 where
 pub record IsBoundOnce (bound : List (Option (ℕ × ℕ))) (f : ℕ) : Type 0 where
   pub only : (g : ℕ) → binding_at bound g ≡ binding_at bound f → g ≡ f
 
--- no entry is used for segment uid
-pub record HasNoHome (vtocs : List (List (Option Entry))) (uid : ℕ) : Type 0 where
-  pub none : (home : Home) → uid_at vtocs home ≢ Some uid
-
 -- no frame is bound to a page of segment uid
 pub record HasNoFrame (bound : List (Option (ℕ × ℕ))) (uid : ℕ) : Type 0 where
   pub none : (f p : ℕ) → binding_at bound f ≢ Some (uid, p)
 
--- What a call that concerns segment uid keeps: every entry is used for the segment that it was used for, so that homes
--- stay homes; every other file map is as before; and the page table of every other segment is still its table.
-pub record KeepsOthers (old new : Plain) (uid : ℕ) (home : Home) : Type 0 where
-  pub uids : (other : Home) → uid_at new.vtocs other ≡ uid_at old.vtocs other
-  pub homes : (segment : ℕ) (other : Home) → IsHomeOf old.vtocs segment other → IsHomeOf new.vtocs segment other
-  pub maps : (other : Home) → other ≢ home → map_at new.vtocs other ≡ map_at old.vtocs other
-  pub tables : (segment : ℕ) (table : List Ptw) → segment ≢ uid → IsTableOf (bindings old.core) segment table → IsTableOf (bindings new.core) segment table
+-- some frame is bound to page p of segment uid
+abbrev pub IsInFrame : List (Option (ℕ × ℕ)) → ℕ → ℕ → Type 0
+IsInFrame bound uid p = (f : ℕ) × (binding_at bound f ≡ Some (uid, p))
+
+-- no entry is used for segment uid
+pub record HasNoHome (vtocs : List (List (Option Entry))) (uid : ℕ) : Type 0 where
+  pub none : (home : Home) → uid_at vtocs home ≢ Some uid

@@ -1,24 +1,30 @@
-ghost use Rattle.std.specs.Prelude.{◌≡◌, ◌≢◌, ◌+◌, ◌≤◌, ◌-◌, ◌++◌, take, ◌<◌, ◌↔◌, ℕ, Bool, true, false, List, Option, Some, None, Result, Ok, length, replicate, sum_by, map, slice_index, slice_set, IsTrue, IsSome, IsOk, IsErr, IfOk, IfSome, IfNone, OnOk, OnErr, All};
+ghost use Rattle.std.specs.Prelude.{◌≡◌, ◌≢◌, ◌+◌, ◌≤◌, ◌-◌, ◌++◌, ◌<◌, ◌↔◌, ℕ, true, false, List, Option, Some, None};
+ghost use Rattle.std.specs.Prelude.{Ok, length, take, replicate, slice_index, slice_set, All, IsTrue, IsSome, IsOk, IsErr};
+ghost use Rattle.std.specs.Prelude.{IfOk, IfSome, IfNone, OnOk, OnErr};
 ghost use Rattle.std.specs.List.{list_any};
-ghost use Rattle.site_io.specs.Faults.{Rose};
-ghost use Rattle.bitmap.specs.Bitmap.{least_free};
 ghost use Rattle.core_map.specs.declared.Frame.TheVariants.{Free, Started, Bound};
 ghost use Rattle.core_map.specs.CoreMap.{reads_of, frame_at, with_frame, is_bound, is_modified};
-ghost use Rattle.core_map.specs.Clock.{IsClockChoice};
+ghost use Rattle.core_map.specs.Clock.{IsClockChoice, clock_choice, after_choice};
 ghost use Rattle.mword.specs.Words.{AreZero};
 ghost use Rattle.page_table.specs.declared.Ptw.{Ptw};
 ghost use Rattle.page_table.specs.declared.Ptw.TheVariants.{Null, Out, Here, Leaving};
 ghost use Rattle.page_table.specs.PageTable.{ptw_at};
 ghost use Rattle.vtoc.specs.Vtoc.{least_free_entry};
 ghost use Rattle.volumes.specs.Volumes.{KeepsTables};
-ghost use Rattle.page_control.specs.Plain.{Paging, Plain, plain, words_in, words_on, number_in, flags_of, vtoc_of, bindings, disk_of, entry_of, filed, record_of, uid_of_home, number_or_zero};
-ghost use Rattle.page_control.specs.Effects.{framed, erased, word_put, referred, cut, unstored, brought_in, created, dropped, evicted, word_of_left, allocated, saved, filled, NeedsNoWrite};
-ghost use Rattle.page_control.specs.Steps.{HasLeft, HasRead, HasCreated};
+ghost use Rattle.page_control.specs.Plain.{Paging, Plain, plain, words_in, number_in, flags_of, vtoc_of, bindings};
+ghost use Rattle.page_control.specs.Plain.{disk_of, entry_of, filed, record_of, uid_of_home};
+ghost use Rattle.page_control.specs.Effects.{framed, erased, word_put, referred, cut, unstored, dropped, saved, filled};
+ghost use Rattle.page_control.specs.Effects.{after_evict, after_read, after_create, after_asked, words_left, words_here};
+ghost use Rattle.page_control.specs.Effects.{NeedsNoWrite};
+ghost use Rattle.page_control.specs.Steps.{HasLeft, HasRead, HasCreated, HasAsked};
 ghost use Rattle.page_control.specs.Erasing.{IsPartErased};
-ghost use Rattle.page_control.specs.Picture.{picture, is_stored, changed_at, changed_for, stored_after, volume_of, record_named, words_filed, IsInFrame, KeepsSound};
+ghost use Rattle.page_control.specs.Picture.{words_at, words_out, is_stored, is_kept, changed_page};
+ghost use Rattle.page_control.specs.Picture.{KeepsWords, ChangesWords, ChangesStored};
 ghost use Rattle.page_control.specs.Counts.{taken, used, one_more, one_less, taken_after, KeepsCounts};
-ghost use Rattle.page_control.specs.Drives.{KeepsDrives};
-ghost use Rattle.page_control.specs.Tied.{IsTableOf, IsHomeOf, HasNoHome, HasNoFrame, IsMapOf, AreFiled, IsNotStarted, IsBoundOnce, IsTied, KeepsOthers, IsBoundTo, map_at, frame_of, uid_in, is_away, is_out};
+ghost use Rattle.page_control.specs.Drives.{CallsDrive};
+ghost use Rattle.page_control.specs.Tied.{IsTableOf, HasNoFrame, IsMapOf, AreFiled, IsNotStarted, IsBoundOnce, IsBoundTo};
+ghost use Rattle.page_control.specs.Tied.{IsInFrame, IsBlank, uid_at, map_at, frame_of, uid_in, is_away, is_out};
+ghost use Rattle.page_control.specs.Ties.{IsTied, KeepsOthers, KeepsTies};
 ghost use Rattle.page_control.specs.declared.Home.{Home};
 
 use crate::{Home, Left, NoMemory, NoRecord};
@@ -53,7 +59,8 @@ impl<D: Drive> Pages<D> {
     /// As many free frames, over these volumes. `NoMemory` is want of memory. It takes 8 KiB for each frame. (Source:
     /// Bensoussan, Clingen and Daley 1972.)
     pub fn new(alloc: Global, frames: u32, volumes: Volumes<D>) -> Result<Pages<D>, NoMemory>
-        ensures { IfOk result (λ s. s ≡ record { core = record { frames = replicate frames Free; hand = 0 }; frames = replicate frames (replicate 1024 0); volumes = volumes }) }
+        ensures { IfOk result (λ s. s ≡ record { core = record { frames = replicate frames Free; hand = 0 };
+            frames = replicate frames (replicate 1024 0); volumes = volumes }) }
     {
         let core = CoreMap::new(alloc, frames)?;
         let frames = zero_pages(alloc, frames)?;
@@ -64,18 +71,24 @@ impl<D: Drive> Pages<D> {
         })
     }
 
-    /// The core map. (Source: own.)
+    /// The core map. A frame that a word of a page table names is bound to that page, and has the words that the page
+    /// has. (Source: own.)
     pub fn frames(&self) -> &CoreMap
         ensures core { result.now ≡ self.now.core }
-        ensures named { (uid p f : ℕ) (words : List Ptw) → IsTableOf (bindings self.now.core) uid words → frame_of (ptw_at words p) ≡ Some f → IsBoundTo (frame_at self.now.core f) uid p }
+        ensures named { (uid p f : ℕ) (words : List Ptw) → IsTableOf (bindings self.now.core) uid words
+            → frame_of (ptw_at words p) ≡ Some f → IsBoundTo (frame_at self.now.core f) uid p }
+        ensures words { (uid p f : ℕ) (home : Home) (words : List Ptw) → IsTableOf (bindings self.now.core) uid words
+            → frame_of (ptw_at words p) ≡ Some f
+            → words_at (plain D.pages self.now) uid home p ≡ words_in (plain D.pages self.now) f }
     {
         &self.core
     }
 
-    /// The volumes. (Source: own.)
+    /// The volumes. A page that is in no frame has the words of its record. (Source: own.)
     pub fn volumes(&self) -> &Volumes<D>
         ensures volumes { result.now ≡ self.now.volumes }
-        ensures away { (uid p : ℕ) → (IsInFrame (bindings self.now.core) uid p → ⊥) → picture (plain D.pages self.now) uid p ≡ words_filed (disk_of (plain D.pages self.now) (volume_of self.now.volumes.vtocs uid)) (record_named self.now.volumes.vtocs uid p) }
+        ensures away { (uid p : ℕ) (home : Home) → (IsInFrame (bindings self.now.core) uid p → ⊥)
+            → words_at (plain D.pages self.now) uid home p ≡ words_out (plain D.pages self.now) home p }
     {
         &self.volumes
     }
@@ -97,17 +110,16 @@ impl<D: Drive> Pages<D> {
 
     /// The frame that the clock chooses among the bound ones, of which there is one. It costs what the core map's
     /// does. (Source: Corbató 1968.)
-    #[tactic(auto, using(crate::proofs::Shown::bindings_chosen, std::proofs::lemmas::Grind::common_steps))]
     pub fn choose(&mut self) -> u32
         requires { list_any is_bound self.old.core.frames ≡ true }
         ensures choice { IsClockChoice self.old.core self.new.core result }
-        ensures rest { self.new ≡ record self.old { core = self.new.core } }
-        ensures picture { picture (plain D.pages self.new) ≡ picture (plain D.pages self.old) }
-        ensures stored { is_stored (plain D.pages self.new) ≡ is_stored (plain D.pages self.old) }
-        ensures sound { KeepsSound (plain D.pages self.old) (plain D.pages self.new) }
+        ensures chosen { clock_choice self.old.core ≡ Some result }
+        ensures effect { self.new ≡ record self.old { core = after_choice self.old.core result } }
+        ensures bound { is_bound (frame_at self.new.core result) ≡ true }
+        ensures words { words_at (plain D.pages self.new) ≡ words_at (plain D.pages self.old) }
+        ensures ties { KeepsTies (plain D.pages self.old) (plain D.pages self.new) }
         ensures bindings { bindings self.new.core ≡ bindings self.old.core }
         ensures reads { reads_of self.new.core ≡ reads_of self.old.core }
-        ensures volumes { self.new.volumes ≡ self.old.volumes }
     {
         self.core.choose()
     }
@@ -120,9 +132,8 @@ impl<D: Drive> Pages<D> {
         requires at { at < 1024 }
         ensures word { result ≡ slice_index (words_in (plain D.pages self.old) f) at }
         ensures marks { plain D.pages self.new ≡ referred (plain D.pages self.old) f false }
-        ensures picture { picture (plain D.pages self.new) ≡ picture (plain D.pages self.old) }
-        ensures stored { is_stored (plain D.pages self.new) ≡ is_stored (plain D.pages self.old) }
-        ensures sound { KeepsSound (plain D.pages self.old) (plain D.pages self.new) }
+        ensures words { words_at (plain D.pages self.new) ≡ words_at (plain D.pages self.old) }
+        ensures ties { KeepsTies (plain D.pages self.old) (plain D.pages self.new) }
         ensures bindings { bindings self.new.core ≡ bindings self.old.core }
         ensures reads { reads_of self.new.core ≡ reads_of self.old.core }
         ensures volumes { self.new.volumes ≡ self.old.volumes }
@@ -138,9 +149,10 @@ impl<D: Drive> Pages<D> {
         requires bound { is_bound (frame_at self.old.core f) ≡ true }
         requires at { at < 1024 }
         ensures word { plain D.pages self.new ≡ word_put (plain D.pages self.old) f at w }
-        ensures picture { IsBoundOnce (bindings self.old.core) f → picture (plain D.pages self.new) ≡ changed_at (picture (plain D.pages self.old)) (uid_in (frame_at self.old.core f)) (number_in (frame_at self.old.core f)) (slice_set (words_in (plain D.pages self.old) f) at w) }
-        ensures stored { is_stored (plain D.pages self.new) ≡ is_stored (plain D.pages self.old) }
-        ensures sound { KeepsSound (plain D.pages self.old) (plain D.pages self.new) }
+        ensures words { IsBoundOnce (bindings self.old.core) f → words_at (plain D.pages self.new)
+            ≡ changed_page (words_at (plain D.pages self.old)) (uid_in (frame_at self.old.core f))
+              (number_in (frame_at self.old.core f)) (slice_set (words_in (plain D.pages self.old) f) at w) }
+        ensures ties { KeepsTies (plain D.pages self.old) (plain D.pages self.new) }
         ensures bindings { bindings self.new.core ≡ bindings self.old.core }
         ensures reads { reads_of self.new.core ≡ reads_of self.old.core }
         ensures volumes { self.new.volumes ≡ self.old.volumes }
@@ -156,10 +168,12 @@ impl<D: Drive> Pages<D> {
         requires bound { is_bound (frame_at self.old.core f) ≡ true }
         requires at { at ≤ 1024 }
         ensures zero { IsTrue result ↔ AreZero (words_in (plain D.pages self.new) f) }
-        ensures words { plain D.pages self.new ≡ cut (plain D.pages self.old) f at }
-        ensures picture { IsBoundOnce (bindings self.old.core) f → picture (plain D.pages self.new) ≡ changed_at (picture (plain D.pages self.old)) (uid_in (frame_at self.old.core f)) (number_in (frame_at self.old.core f)) (take at (words_in (plain D.pages self.old) f) ++ replicate (1024 - at) 0) }
-        ensures stored { is_stored (plain D.pages self.new) ≡ is_stored (plain D.pages self.old) }
-        ensures sound { KeepsSound (plain D.pages self.old) (plain D.pages self.new) }
+        ensures cut { plain D.pages self.new ≡ cut (plain D.pages self.old) f at }
+        ensures words { IsBoundOnce (bindings self.old.core) f → words_at (plain D.pages self.new)
+            ≡ changed_page (words_at (plain D.pages self.old)) (uid_in (frame_at self.old.core f))
+              (number_in (frame_at self.old.core f))
+              (take at (words_in (plain D.pages self.old) f) ++ replicate (1024 - at) 0) }
+        ensures ties { KeepsTies (plain D.pages self.old) (plain D.pages self.new) }
         ensures bindings { bindings self.new.core ≡ bindings self.old.core }
         ensures reads { reads_of self.new.core ≡ reads_of self.old.core }
         ensures volumes { self.new.volumes ≡ self.old.volumes }
@@ -171,18 +185,18 @@ impl<D: Drive> Pages<D> {
 
     /// Takes page `p` of a segment out of storage: its record is given back, its word is `Null`, and its frame, if it
     /// has one, is free. (Source: Organick 1972.)
-    #[tactic(auto, using(crate::proofs::Facts::home_used, crate::proofs::Facts::filed_from_word, crate::proofs::Facts::leaving_bound, std::proofs::lemmas::Grind::common_steps))]
     pub fn drop_page(&mut self, t: &mut PageTable, p: u32, home: Home)
         requires page { p < length t.old }
         requires away { is_away (ptw_at t.old p) ≡ true }
         requires tie { IsTied (plain D.pages self.old) (uid_of_home (plain D.pages self.old) home) home t.old }
-        ensures dropped { plain D.pages self.new ≡ dropped (plain D.pages self.old) home p (ptw_at t.old p) }
+        ensures effect { plain D.pages self.new ≡ dropped (plain D.pages self.old) home p (ptw_at t.old p) }
         ensures word { t.new ≡ slice_set t.old p Null }
         ensures tie { IsTied (plain D.pages self.new) (uid_of_home (plain D.pages self.old) home) home t.new }
-        ensures others { KeepsOthers (plain D.pages self.old) (plain D.pages self.new) (uid_of_home (plain D.pages self.old) home) home }
-        ensures sound { KeepsSound (plain D.pages self.old) (plain D.pages self.new) }
-        ensures picture { picture (plain D.pages self.new) ≡ changed_at (picture (plain D.pages self.old)) (uid_of_home (plain D.pages self.old) home) p (replicate 1024 0) }
-        ensures stored { is_stored (plain D.pages self.new) ≡ changed_at (is_stored (plain D.pages self.old)) (uid_of_home (plain D.pages self.old) home) p false }
+        ensures others { KeepsOthers (plain D.pages self.old) (plain D.pages self.new)
+            (uid_of_home (plain D.pages self.old) home) home }
+        ensures words { ChangesWords (plain D.pages self.old) (plain D.pages self.new)
+            (uid_of_home (plain D.pages self.old) home) home p (replicate 1024 0) }
+        ensures stored { ChangesStored (plain D.pages self.old) (plain D.pages self.new) home p false }
         ensures reads { reads_of self.new.core ≡ reads_of self.old.core }
         ensures taken { taken self.new.volumes.records ≡ one_less (taken self.old.volumes.records) home.volume }
         ensures counts { KeepsCounts (plain D.pages self.old) (plain D.pages self.new) }
@@ -197,50 +211,55 @@ impl<D: Drive> Pages<D> {
         requires { volume < length self.old.volumes.drives }
         ensures least { result ≡ least_free_entry (vtoc_of (plain D.pages self.old) volume) }
         ensures none { IfNone result (All (λ entry. IsSome entry) (vtoc_of (plain D.pages self.old) volume)) }
-        ensures some { IfSome result (λ e. plain D.pages self.new ≡ allocated (plain D.pages self.old) volume e uid) }
-        ensures same { IfNone result (plain D.pages self.new ≡ plain D.pages self.old) }
-        ensures core { self.new.core ≡ self.old.core }
+        ensures effect { plain D.pages self.new ≡ after_asked (plain D.pages self.old) volume uid result }
         ensures drives { self.new.volumes.drives ≡ self.old.volumes.drives }
 
-        // What becomes of homes, where no entry had that uid.
-        ensures home { HasNoHome self.old.volumes.vtocs uid → IfSome result (λ e. IsHomeOf self.new.volumes.vtocs uid (record { volume = volume; entry = e })) }
-        ensures homes { HasNoHome self.old.volumes.vtocs uid → (segment : ℕ) (other : Home) → IsHomeOf self.old.volumes.vtocs segment other → IsHomeOf self.new.volumes.vtocs segment other }
-        ensures strangers { (segment : ℕ) → segment ≢ uid → HasNoHome self.old.volumes.vtocs segment → HasNoHome self.new.volumes.vtocs segment }
+        // What becomes of homes. A table of no page is that of the segment, where no frame has a page of it.
+        ensures home { IfSome result (λ e. uid_at self.new.volumes.vtocs (record { volume = volume; entry = e }) ≡ Some uid) }
+        ensures homes { (u : ℕ) (h : Home) → uid_at self.old.volumes.vtocs h ≡ Some u → uid_at self.new.volumes.vtocs h ≡ Some u }
+        ensures back { (u : ℕ) (h : Home) → u ≢ uid → uid_at self.new.volumes.vtocs h ≡ Some u
+            → uid_at self.old.volumes.vtocs h ≡ Some u }
+        ensures tie { IfSome result (λ e. (words : List Ptw) → IsBlank words → HasNoFrame (bindings self.old.core) uid
+            → AreFiled self.old.volumes.records self.old.volumes.vtocs
+            → IsTied (plain D.pages self.new) uid (record { volume = volume; entry = e }) words) }
+        ensures ties { KeepsTies (plain D.pages self.old) (plain D.pages self.new) }
 
         // What becomes of the rest.
         ensures maps { (other : Home) → map_at self.new.volumes.vtocs other ≡ map_at self.old.volumes.vtocs other }
-        ensures records { AreFiled self.old.volumes.records self.old.volumes.vtocs → AreFiled self.new.volumes.records self.new.volumes.vtocs }
-        ensures picture { HasNoHome self.old.volumes.vtocs uid → picture (plain D.pages self.new) ≡ picture (plain D.pages self.old) }
-        ensures stored { HasNoHome self.old.volumes.vtocs uid → is_stored (plain D.pages self.new) ≡ is_stored (plain D.pages self.old) }
-        ensures sound { HasNoHome self.old.volumes.vtocs uid → KeepsSound (plain D.pages self.old) (plain D.pages self.new) }
+        ensures records { AreFiled self.old.volumes.records self.old.volumes.vtocs
+            → AreFiled self.new.volumes.records self.new.volumes.vtocs }
+        ensures words { words_at (plain D.pages self.new) ≡ words_at (plain D.pages self.old) }
+        ensures stored { is_stored (plain D.pages self.new) ≡ is_stored (plain D.pages self.old) }
         ensures used { IfSome result (λ e. used self.new.volumes.vtocs ≡ one_more (used self.old.volumes.vtocs) volume) }
     {
-        self.volumes.vtoc_mut(volume).allocate(uid)
+        self.ask(volume, uid)
     }
 
-    /// Gives back each record that the file map at a home names, and frees the entry. None of the segment's pages is in
-    /// a frame. It reads each of the 256 places of the file map. (Source: Organick 1972.)
-    #[tactic(auto, using(crate::proofs::Facts::home_used, std::proofs::lemmas::Grind::common_steps))]
+    /// Gives back each record that the file map at a home names, and frees the entry. It reads each of the 256 places of
+    /// the file map. (Source: Organick 1972.)
     pub fn erase(&mut self, home: Home)
         requires volume { home.volume < length self.old.volumes.drives }
-        requires home { IsHomeOf self.old.volumes.vtocs (uid_of_home (plain D.pages self.old) home) home }
-        requires away { HasNoFrame (bindings self.old.core) (uid_of_home (plain D.pages self.old) home) }
+        requires home { uid_at self.old.volumes.vtocs home ≡ Some (uid_of_home (plain D.pages self.old) home) }
         requires records { AreFiled self.old.volumes.records self.old.volumes.vtocs }
-        ensures erased { plain D.pages self.new ≡ erased (plain D.pages self.old) home }
-        ensures core { self.new.core ≡ self.old.core }
+        ensures effect { plain D.pages self.new ≡ erased (plain D.pages self.old) home }
         ensures drives { self.new.volumes.drives ≡ self.old.volumes.drives }
 
         // What becomes of homes, file maps and records.
-        ensures home { HasNoHome self.new.volumes.vtocs (uid_of_home (plain D.pages self.old) home) }
-        ensures homes { (segment : ℕ) (other : Home) → segment ≢ uid_of_home (plain D.pages self.old) home → IsHomeOf self.old.volumes.vtocs segment other → IsHomeOf self.new.volumes.vtocs segment other }
-        ensures strangers { (segment : ℕ) → HasNoHome self.old.volumes.vtocs segment → HasNoHome self.new.volumes.vtocs segment }
-        ensures maps { (other : Home) → other ≢ home → map_at self.new.volumes.vtocs other ≡ map_at self.old.volumes.vtocs other }
+        ensures home { uid_at self.new.volumes.vtocs home ≡ None }
+        ensures uids { (other : Home) → other ≢ home
+            → uid_at self.new.volumes.vtocs other ≡ uid_at self.old.volumes.vtocs other }
+        ensures maps { (other : Home) → other ≢ home
+            → map_at self.new.volumes.vtocs other ≡ map_at self.old.volumes.vtocs other }
         ensures records { AreFiled self.new.volumes.records self.new.volumes.vtocs }
+        ensures ties { (uid : ℕ) (other : Home) (words : List Ptw) → other ≢ home
+            → IsTied (plain D.pages self.old) uid other words → IsTied (plain D.pages self.new) uid other words }
 
-        // What becomes of the picture.
-        ensures picture { picture (plain D.pages self.new) ≡ changed_for (picture (plain D.pages self.old)) (uid_of_home (plain D.pages self.old) home) (replicate 1024 0) }
-        ensures stored { is_stored (plain D.pages self.new) ≡ changed_for (is_stored (plain D.pages self.old)) (uid_of_home (plain D.pages self.old) home) false }
-        ensures sound { KeepsSound (plain D.pages self.old) (plain D.pages self.new) }
+        // What becomes of the picture: no page is stored at this home, and those of a segment that has no frame are zeros.
+        ensures stored { (p : ℕ) → is_stored (plain D.pages self.new) home p ≡ false }
+        ensures zeros { (uid p : ℕ) → HasNoFrame (bindings self.old.core) uid
+            → words_at (plain D.pages self.new) uid home p ≡ replicate 1024 0 }
+        ensures words { (uid : ℕ) (other : Home) (p : ℕ) → other ≢ home
+            → words_at (plain D.pages self.new) uid other p ≡ words_at (plain D.pages self.old) uid other p }
         ensures used { used self.new.volumes.vtocs ≡ one_less (used self.old.volumes.vtocs) home.volume }
     {
         self.erase_all(home);
@@ -256,9 +275,8 @@ impl<D: Drive> Pages<D> {
         requires free { frame_at self.old.core f ≡ Free }
         requires first { IsNotStarted self.old.core uid p }
         ensures started { plain D.pages self.new ≡ framed (plain D.pages self.old) f (Started uid p) }
-        ensures picture { picture (plain D.pages self.new) ≡ picture (plain D.pages self.old) }
-        ensures stored { is_stored (plain D.pages self.new) ≡ is_stored (plain D.pages self.old) }
-        ensures sound { KeepsSound (plain D.pages self.old) (plain D.pages self.new) }
+        ensures words { words_at (plain D.pages self.new) ≡ words_at (plain D.pages self.old) }
+        ensures ties { KeepsTies (plain D.pages self.old) (plain D.pages self.new) }
         ensures bindings { bindings self.new.core ≡ bindings self.old.core }
         ensures reads { reads_of self.new.core ≡ slice_set (reads_of self.old.core) f (Some (uid, p)) }
         ensures volumes { self.new.volumes ≡ self.old.volumes }
@@ -267,8 +285,8 @@ impl<D: Drive> Pages<D> {
     }
 
     /// Reads page `p` of segment `uid` into the frame `f` that was started for it, and binds the frame to it. `Failed`
-    /// comes only where the faults of the drives rose; `f` is free then, and the rest as before. It costs one read of
-    /// the drive. (Source: Bensoussan, Clingen and Daley 1972.)
+    /// comes only where the faults of its drive rose; `f` is free then, and the rest as before. It costs one read of the
+    /// drive. (Source: Bensoussan, Clingen and Daley 1972.)
     pub fn end_in(
         &mut self,
         t: &mut PageTable,
@@ -281,22 +299,17 @@ impl<D: Drive> Pages<D> {
         requires out { is_out (ptw_at t.old p) ≡ true }
         requires started { frame_at self.old.core f ≡ Started uid p }
         requires tie { IsTied (plain D.pages self.old) uid home t.old }
-        ensures ok { OnOk result (plain D.pages self.new ≡ brought_in (plain D.pages self.old) uid p home.volume (record_of (plain D.pages self.old) home p) f) }
-        ensures err { OnErr result (plain D.pages self.new ≡ framed (plain D.pages self.old) f Free) }
-        ensures word { OnOk result (t.new ≡ slice_set t.old p (Here f)) }
-        ensures word_kept { OnErr result (t.new ≡ t.old) }
+        ensures effect { plain D.pages self.new ≡ after_read (plain D.pages self.old) uid p home f result }
+        ensures word { t.new ≡ words_here t.old p f result }
         ensures tie { IsTied (plain D.pages self.new) uid home t.new }
         ensures others { KeepsOthers (plain D.pages self.old) (plain D.pages self.new) uid home }
-        ensures sound { KeepsSound (plain D.pages self.old) (plain D.pages self.new) }
-        ensures picture { picture (plain D.pages self.new) ≡ picture (plain D.pages self.old) }
-        ensures stored { is_stored (plain D.pages self.new) ≡ is_stored (plain D.pages self.old) }
+        ensures words { KeepsWords (plain D.pages self.old) (plain D.pages self.new) uid home }
         ensures bound { OnOk result (bindings self.new.core ≡ slice_set (bindings self.old.core) f (Some (uid, p))) }
         ensures lost { OnErr result (bindings self.new.core ≡ bindings self.old.core) }
         ensures reads { reads_of self.new.core ≡ slice_set (reads_of self.old.core) f None }
         ensures tables { KeepsTables self.old.volumes self.new.volumes }
         ensures counts { KeepsCounts (plain D.pages self.old) (plain D.pages self.new) }
-        ensures drives { KeepsDrives D.plan D.places D.faults self.old.volumes.drives self.new.volumes.drives home.volume }
-        ensures rose { OnErr result (Rose (sum_by D.faults self.old.volumes.drives) (sum_by D.faults self.new.volumes.drives)) }
+        ensures drives { CallsDrive D.plan D.places D.faults self.old.volumes.drives self.new.volumes.drives home.volume result }
     {
         self.read_at(t, uid, p, home, f)
     }
@@ -321,16 +334,14 @@ impl<D: Drive> Pages<D> {
         requires at { at < 1024 }
         requires short { length (flags_of (plain D.pages self.old) home.volume) < 65536 }
         requires tie { IsTied (plain D.pages self.old) uid home t.old }
-        ensures ok { OnOk result (plain D.pages self.new ≡ created (plain D.pages self.old) uid p home (number_or_zero (least_free (flags_of (plain D.pages self.old) home.volume))) f at w) }
-        ensures err { OnErr result (self.new ≡ self.old) }
+        ensures effect { plain D.pages self.new ≡ after_create (plain D.pages self.old) uid p home f at w result }
+        ensures word { t.new ≡ words_here t.old p f result }
         ensures full { IsErr result ↔ All (λ flag. flag ≡ true) (flags_of (plain D.pages self.old) home.volume) }
-        ensures word { OnOk result (t.new ≡ slice_set t.old p (Here f)) }
-        ensures word_kept { OnErr result (t.new ≡ t.old) }
         ensures tie { IsTied (plain D.pages self.new) uid home t.new }
         ensures others { KeepsOthers (plain D.pages self.old) (plain D.pages self.new) uid home }
-        ensures sound { KeepsSound (plain D.pages self.old) (plain D.pages self.new) }
-        ensures picture { OnOk result (picture (plain D.pages self.new) ≡ changed_at (picture (plain D.pages self.old)) uid p (slice_set (replicate 1024 0) at w)) }
-        ensures stored { OnOk result (is_stored (plain D.pages self.new) ≡ changed_at (is_stored (plain D.pages self.old)) uid p true) }
+        ensures words { OnOk result (ChangesWords (plain D.pages self.old) (plain D.pages self.new) uid home p
+            (slice_set (replicate 1024 0) at w)) }
+        ensures stored { OnOk result (ChangesStored (plain D.pages self.old) (plain D.pages self.new) home p true) }
         ensures bound { OnOk result (bindings self.new.core ≡ slice_set (bindings self.old.core) f (Some (uid, p))) }
         ensures reads { reads_of self.new.core ≡ reads_of self.old.core }
         ensures taken { OnOk result (taken self.new.volumes.records ≡ one_more (taken self.old.volumes.records) home.volume) }
@@ -347,44 +358,42 @@ impl<D: Drive> Pages<D> {
         requires bound { is_bound (frame_at self.old.core f) ≡ true }
         requires here { ptw_at t.old (number_in (frame_at self.old.core f)) ≡ Here f }
         requires table { IsTableOf (bindings self.old.core) (uid_in (frame_at self.old.core f)) t.old }
+        ensures same { self.new ≡ self.old }
         ensures word { t.new ≡ slice_set t.old (number_in (frame_at self.old.core f)) (Leaving f) }
         ensures table { IsTableOf (bindings self.new.core) (uid_in (frame_at self.old.core f)) t.new }
         ensures maps { (places : List (Option ℕ)) → IsMapOf places t.old → IsMapOf places t.new }
-        ensures same { self.new ≡ self.old }
-        ensures picture { picture (plain D.pages self.new) ≡ picture (plain D.pages self.old) }
-        ensures stored { is_stored (plain D.pages self.new) ≡ is_stored (plain D.pages self.old) }
+        ensures tie { (uid : ℕ) (home : Home) → IsTied (plain D.pages self.old) uid home t.old
+            → IsTied (plain D.pages self.new) uid home t.new }
     {
         let p = self.page_in(f);
         t.set(p, Ptw::Leaving(f));
     }
 
     /// Empties frame `f`, whose page is on its way out. A page that is all zeros gives its record back, with no call of
-    /// a drive; one whose modified mark is on is written to its record. `Failed` comes only where the faults of the
-    /// drives rose; the page is still leaving then. (Source: Organick 1972.)
+    /// a drive; one whose modified mark is on is written to its record. `Failed` comes only where the faults of its
+    /// drive rose; the page is still leaving then. (Source: Organick 1972.)
     pub fn evict(&mut self, t: &mut PageTable, home: Home, f: u32) -> Result<Left, Failed>
         requires bound { is_bound (frame_at self.old.core f) ≡ true }
         requires leaving { ptw_at t.old (number_in (frame_at self.old.core f)) ≡ Leaving f }
         requires tie { IsTied (plain D.pages self.old) (uid_in (frame_at self.old.core f)) home t.old }
-        requires clean { is_modified (frame_at self.old.core f) ≡ false → words_in (plain D.pages self.old) f ≡ words_on (plain D.pages self.old) home.volume (record_of (plain D.pages self.old) home (number_in (frame_at self.old.core f))) }
-        ensures zeros { IfOk result (λ left. left ≡ Left.Released ↔ AreZero (words_in (plain D.pages self.old) f)) }
-        ensures released { AreZero (words_in (plain D.pages self.old) f) → result ≡ Ok Left.Released }
-        ensures ok { IfOk result (λ left. plain D.pages self.new ≡ evicted (plain D.pages self.old) home (number_in (frame_at self.old.core f)) f left) }
-        ensures err { OnErr result (plain D.pages self.new ≡ plain D.pages self.old) }
-        ensures word { IfOk result (λ left. t.new ≡ slice_set t.old (number_in (frame_at self.old.core f)) (word_of_left left (record_of (plain D.pages self.old) home (number_in (frame_at self.old.core f))))) }
-        ensures word_kept { OnErr result (t.new ≡ t.old) }
+        ensures zeros { result ≡ Ok Left.Released ↔ AreZero (words_in (plain D.pages self.old) f) }
+        ensures effect { plain D.pages self.new
+            ≡ after_evict (plain D.pages self.old) home (number_in (frame_at self.old.core f)) f result }
+        ensures word { t.new ≡ words_left t.old (number_in (frame_at self.old.core f))
+            (record_of (plain D.pages self.old) home (number_in (frame_at self.old.core f))) result }
         ensures tie { IsTied (plain D.pages self.new) (uid_in (frame_at self.old.core f)) home t.new }
         ensures others { KeepsOthers (plain D.pages self.old) (plain D.pages self.new) (uid_in (frame_at self.old.core f)) home }
-        ensures sound { KeepsSound (plain D.pages self.old) (plain D.pages self.new) }
-        ensures picture { picture (plain D.pages self.new) ≡ picture (plain D.pages self.old) }
-        ensures stored { IfOk result (λ left. is_stored (plain D.pages self.new) ≡ stored_after (is_stored (plain D.pages self.old)) (uid_in (frame_at self.old.core f)) (number_in (frame_at self.old.core f)) left) }
+        ensures words { KeepsWords (plain D.pages self.old) (plain D.pages self.new) (uid_in (frame_at self.old.core f)) home }
+        ensures stored { IfOk result (λ left. ChangesStored (plain D.pages self.old) (plain D.pages self.new) home
+            (number_in (frame_at self.old.core f)) (is_kept left)) }
         ensures freed { OnOk result (bindings self.new.core ≡ slice_set (bindings self.old.core) f None) }
         ensures reads { reads_of self.new.core ≡ reads_of self.old.core }
-        ensures taken { IfOk result (λ left. taken self.new.volumes.records ≡ taken_after (taken self.old.volumes.records) home.volume left) }
+        ensures taken { IfOk result (λ left. taken self.new.volumes.records
+            ≡ taken_after (taken self.old.volumes.records) home.volume left) }
         ensures counts { KeepsCounts (plain D.pages self.old) (plain D.pages self.new) }
-        ensures sure { is_modified (frame_at self.old.core f) ≡ false → IsOk result }
-        ensures no_call { NeedsNoWrite (plain D.pages self.old) f → self.new.volumes.drives ≡ self.old.volumes.drives }
-        ensures drives { KeepsDrives D.plan D.places D.faults self.old.volumes.drives self.new.volumes.drives home.volume }
-        ensures rose { OnErr result (Rose (sum_by D.faults self.old.volumes.drives) (sum_by D.faults self.new.volumes.drives)) }
+        ensures no_call { NeedsNoWrite (plain D.pages self.old) f
+            → IsOk result × (self.new.volumes.drives ≡ self.old.volumes.drives) }
+        ensures drives { CallsDrive D.plan D.places D.faults self.old.volumes.drives self.new.volumes.drives home.volume result }
     {
         self.leave(t, home, f)
     }
@@ -395,12 +404,12 @@ impl<D: Drive> Pages<D> {
         requires bound { is_bound (frame_at self.old.core f) ≡ true }
         requires leaving { ptw_at t.old (number_in (frame_at self.old.core f)) ≡ Leaving f }
         requires table { IsTableOf (bindings self.old.core) (uid_in (frame_at self.old.core f)) t.old }
+        ensures same { self.new ≡ self.old }
         ensures word { t.new ≡ slice_set t.old (number_in (frame_at self.old.core f)) (Here f) }
         ensures table { IsTableOf (bindings self.new.core) (uid_in (frame_at self.old.core f)) t.new }
         ensures maps { (places : List (Option ℕ)) → IsMapOf places t.old → IsMapOf places t.new }
-        ensures same { self.new ≡ self.old }
-        ensures picture { picture (plain D.pages self.new) ≡ picture (plain D.pages self.old) }
-        ensures stored { is_stored (plain D.pages self.new) ≡ is_stored (plain D.pages self.old) }
+        ensures tie { (uid : ℕ) (home : Home) → IsTied (plain D.pages self.old) uid home t.old
+            → IsTied (plain D.pages self.new) uid home t.new }
     {
         let p = self.page_in(f);
         t.set(p, Ptw::Here(f));
@@ -426,11 +435,22 @@ impl<D: Drive> Pages<D> {
         }
     }
 
+    /// The steps of `new_home`.
+    fn ask(&mut self, volume: u32, uid: u32) -> Option<u32>
+        requires { volume < length self.old.volumes.drives }
+        ensures asked { HasAsked (plain D.pages self.old) (plain D.pages self.new) volume uid result }
+        ensures least { result ≡ least_free_entry (vtoc_of (plain D.pages self.old) volume) }
+        ensures none { IfNone result (All (λ entry. IsSome entry) (vtoc_of (plain D.pages self.old) volume)) }
+        ensures drives { self.new.volumes.drives ≡ self.old.volumes.drives }
+    {
+        self.volumes.vtoc_mut(volume).allocate(uid)
+    }
+
     /// The steps of `erase`.
     #[tactic(auto, using(crate::proofs::Facts::home_used, std::proofs::lemmas::Grind::common_steps))]
     fn erase_all(&mut self, home: Home)
         requires volume { home.volume < length self.old.volumes.drives }
-        requires home { IsHomeOf self.old.volumes.vtocs (uid_of_home (plain D.pages self.old) home) home }
+        requires home { uid_at self.old.volumes.vtocs home ≡ Some (uid_of_home (plain D.pages self.old) home) }
         requires records { AreFiled self.old.volumes.records self.old.volumes.vtocs }
         ensures erased { plain D.pages self.new ≡ erased (plain D.pages self.old) home }
         ensures records { AreFiled self.new.volumes.records self.new.volumes.vtocs }
@@ -460,8 +480,7 @@ impl<D: Drive> Pages<D> {
         requires tie { IsTied (plain D.pages self.old) uid home t.old }
         ensures read { HasRead (plain D.pages self.old) (plain D.pages self.new) t.old t.new uid home p f result }
         ensures tables { KeepsTables self.old.volumes self.new.volumes }
-        ensures drives { KeepsDrives D.plan D.places D.faults self.old.volumes.drives self.new.volumes.drives home.volume }
-        ensures rose { OnErr result (Rose (sum_by D.faults self.old.volumes.drives) (sum_by D.faults self.new.volumes.drives)) }
+        ensures drives { CallsDrive D.plan D.places D.faults self.old.volumes.drives self.new.volumes.drives home.volume result }
     {
         let r = record_out(t, p);
         prove!(r < self.volumes.size(home.volume));
@@ -500,9 +519,8 @@ impl<D: Drive> Pages<D> {
         requires at { at < 1024 }
         requires volume { home.volume < length self.old.volumes.drives }
         requires short { length (flags_of (plain D.pages self.old) home.volume) < 65536 }
-        requires home { IsHomeOf self.old.volumes.vtocs uid home }
+        requires home { uid_at self.old.volumes.vtocs home ≡ Some uid }
         ensures created { HasCreated (plain D.pages self.old) (plain D.pages self.new) t.old t.new uid home p f at w result }
-        ensures err { OnErr result (self.new ≡ self.old) }
         ensures drives { self.new.volumes.drives ≡ self.old.volumes.drives }
     {
         match self.volumes.withdraw(home.volume) {
@@ -524,11 +542,11 @@ impl<D: Drive> Pages<D> {
         requires bound { is_bound (frame_at self.old.core f) ≡ true }
         requires leaving { ptw_at t.old (number_in (frame_at self.old.core f)) ≡ Leaving f }
         requires tie { IsTied (plain D.pages self.old) (uid_in (frame_at self.old.core f)) home t.old }
-        ensures left { HasLeft (plain D.pages self.old) (plain D.pages self.new) t.old t.new home (number_in (frame_at self.old.core f)) f result }
-        ensures sure { is_modified (frame_at self.old.core f) ≡ false → IsOk result }
-        ensures no_call { NeedsNoWrite (plain D.pages self.old) f → self.new.volumes.drives ≡ self.old.volumes.drives }
-        ensures drives { KeepsDrives D.plan D.places D.faults self.old.volumes.drives self.new.volumes.drives home.volume }
-        ensures rose { OnErr result (Rose (sum_by D.faults self.old.volumes.drives) (sum_by D.faults self.new.volumes.drives)) }
+        ensures left { HasLeft (plain D.pages self.old) (plain D.pages self.new) t.old t.new home
+            (number_in (frame_at self.old.core f)) f result }
+        ensures no_call { NeedsNoWrite (plain D.pages self.old) f
+            → IsOk result × (self.new.volumes.drives ≡ self.old.volumes.drives) }
+        ensures drives { CallsDrive D.plan D.places D.faults self.old.volumes.drives self.new.volumes.drives home.volume result }
     {
         let p = self.page_in(f);
         let r = self.record_in(home, p);
@@ -602,7 +620,8 @@ impl<D: Drive> Pages<D> {
         requires volume { home.volume < length self.old.volumes.drives }
         requires used { IsSome (entry_of (plain D.pages self.old) home) }
         requires records { AreFiled self.old.volumes.records self.old.volumes.vtocs }
-        ensures part { (old : Plain) (uid : ℕ) → IsPartErased old (plain D.pages self.old) uid home p → IsPartErased old (plain D.pages self.new) uid home (p + 1) }
+        ensures part { (old : Plain) (uid : ℕ) → IsPartErased old (plain D.pages self.old) uid home p
+            → IsPartErased old (plain D.pages self.new) uid home (p + 1) }
         ensures core { self.new.core ≡ self.old.core }
         ensures drives { self.new.volumes.drives ≡ self.old.volumes.drives }
     {
@@ -639,8 +658,7 @@ impl<D: Drive> Pages<D> {
         ensures err { OnErr result (plain D.pages self.new ≡ plain D.pages self.old) }
         ensures sure { is_modified (frame_at self.old.core f) ≡ false → IsOk result }
         ensures no_call { is_modified (frame_at self.old.core f) ≡ false → self.new.volumes.drives ≡ self.old.volumes.drives }
-        ensures drives { KeepsDrives D.plan D.places D.faults self.old.volumes.drives self.new.volumes.drives volume }
-        ensures rose { OnErr result (Rose (sum_by D.faults self.old.volumes.drives) (sum_by D.faults self.new.volumes.drives)) }
+        ensures drives { CallsDrive D.plan D.places D.faults self.old.volumes.drives self.new.volumes.drives volume result }
     {
         if self.core.modified(f) {
             self.volumes

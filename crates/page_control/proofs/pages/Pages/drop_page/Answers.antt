@@ -1,27 +1,37 @@
-use Rattle.page_control.specs.Plain.{plain}
-use Rattle.page_control.proofs.Calls.{Drops, tie_dropped, others_of_dropped, shown_dropped, stored_dropped, starts_dropped, taken_dropped, counts_of_dropped, sound_dropped}
+use Rattle.page_control.proofs.Calls.{Drops, tie_dropped, others_of_dropped, words_dropped, stored_dropped, starts_dropped, taken_dropped, counts_of_dropped}
 use Rattle.page_control.proofs.pages.Pages.drop_page.Goals as goal
 
 pub returns-clause-tie : goal.returns-clause-tie
-returns-clause-tie g c = tie_dropped (record { tie = c.requires.tie; page = c.requires.page; away = c.requires.away; effect = c.drop_at.ensures.dropped; word = c.drop_at.ensures.word })
+returns-clause-tie g c =
+    tie_dropped (record { tie = c.requires.tie; page = c.requires.page; away = c.requires.away; effect = c.drop_at.ensures.dropped;
+      word = c.drop_at.ensures.word })
 
 pub returns-clause-others : goal.returns-clause-others
-returns-clause-others g c = others_of_dropped (record { tie = c.requires.tie; page = c.requires.page; away = c.requires.away; effect = c.drop_at.ensures.dropped; word = c.drop_at.ensures.word })
+returns-clause-others g c =
+    others_of_dropped (record { tie = c.requires.tie; page = c.requires.page; away = c.requires.away; effect = c.drop_at.ensures.dropped;
+      word = c.drop_at.ensures.word })
 
-pub returns-clause-sound : goal.returns-clause-sound
-returns-clause-sound g c = sound_dropped (record { tie = c.requires.tie; page = c.requires.page; away = c.requires.away; effect = c.drop_at.ensures.dropped; word = c.drop_at.ensures.word })
-
-pub returns-clause-picture : goal.returns-clause-picture
-returns-clause-picture g c = shown_dropped (record { tie = c.requires.tie; page = c.requires.page; away = c.requires.away; effect = c.drop_at.ensures.dropped; word = c.drop_at.ensures.word })
+pub returns-clause-words : goal.returns-clause-words
+returns-clause-words g c =
+    words_dropped (record { tie = c.requires.tie; page = c.requires.page; away = c.requires.away; effect = c.drop_at.ensures.dropped;
+      word = c.drop_at.ensures.word })
 
 pub returns-clause-stored : goal.returns-clause-stored
-returns-clause-stored g c = stored_dropped (record { tie = c.requires.tie; page = c.requires.page; away = c.requires.away; effect = c.drop_at.ensures.dropped; word = c.drop_at.ensures.word })
+returns-clause-stored g c =
+    stored_dropped (record { tie = c.requires.tie; page = c.requires.page; away = c.requires.away; effect = c.drop_at.ensures.dropped;
+      word = c.drop_at.ensures.word })
 
 pub returns-clause-reads : goal.returns-clause-reads
-returns-clause-reads g c = starts_dropped (record { tie = c.requires.tie; page = c.requires.page; away = c.requires.away; effect = c.drop_at.ensures.dropped; word = c.drop_at.ensures.word })
+returns-clause-reads g c =
+    starts_dropped (record { tie = c.requires.tie; page = c.requires.page; away = c.requires.away; effect = c.drop_at.ensures.dropped;
+      word = c.drop_at.ensures.word })
 
 pub returns-clause-taken : goal.returns-clause-taken
-returns-clause-taken g c = taken_dropped (record { tie = c.requires.tie; page = c.requires.page; away = c.requires.away; effect = c.drop_at.ensures.dropped; word = c.drop_at.ensures.word })
+returns-clause-taken g c =
+    taken_dropped (record { tie = c.requires.tie; page = c.requires.page; away = c.requires.away; effect = c.drop_at.ensures.dropped;
+      word = c.drop_at.ensures.word })
 
 pub returns-clause-counts : goal.returns-clause-counts
-returns-clause-counts g c = counts_of_dropped (record { tie = c.requires.tie; page = c.requires.page; away = c.requires.away; effect = c.drop_at.ensures.dropped; word = c.drop_at.ensures.word })
+returns-clause-counts g c =
+    counts_of_dropped (record { tie = c.requires.tie; page = c.requires.page; away = c.requires.away; effect = c.drop_at.ensures.dropped;
+      word = c.drop_at.ensures.word })

@@ -29,4 +29,5 @@ pub returns-clause-records : goal.returns-clause-records
 returns-clause-records g c =
     let part : IsPartErased (plain g.D.Drive.pages c.args.self.now) (plain g.D.Drive.pages c.loop-p.self) (uid_of_home (plain g.D.Drive.pages c.args.self.now) c.args.home) c.args.home 256 = part_at (plain g.D.Drive.pages c.args.self.now) (plain g.D.Drive.pages c.loop-p.self) (uid_of_home (plain g.D.Drive.pages c.args.self.now) c.args.home) c.args.home c.loop-p.p 256 (search rules) c.loop-p.invariant.0 in
     let full : HasFullMaps (vtoc_of (plain g.D.Drive.pages c.loop-p.self) c.args.home.volume) = full_same (vtoc_of (plain g.D.Drive.pages c.loop-p.self) c.args.home.volume) c.vtoc.result.now (search rules) c.size.ensures.places in
-    filed_erased (plain g.D.Drive.pages c.loop-p.self).records c.self.inside.volumes.records (plain g.D.Drive.pages c.loop-p.self).vtocs _ (uid_of_home (plain g.D.Drive.pages c.args.self.now) c.args.home) c.args.home (search rules) (search rules) part.at part.records
+    filed_erased (plain g.D.Drive.pages c.loop-p.self).records c.self.inside.volumes.records (plain g.D.Drive.pages c.loop-p.self).vtocs _ (uid_of_home (plain g.D.Drive.pages c.args.self.now) c.args.home) c.args.home (search rules) (search rules) part.at
+    (names_none (plain g.D.Drive.pages c.loop-p.self) (uid_of_home (plain g.D.Drive.pages c.args.self.now) c.args.home) c.args.home (plain g.D.Drive.pages c.args.self.now) part full) part.records

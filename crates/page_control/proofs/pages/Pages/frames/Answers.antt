@@ -1,5 +1,9 @@
-use Rattle.page_control.proofs.Callers.{frame_named}
+use Rattle.page_control.specs.Plain.{plain}
+use Rattle.page_control.proofs.Looks.{frame_named, words_named}
 use Rattle.page_control.proofs.pages.Pages.frames.Goals as goal
 
 pub returns-clause-named : goal.returns-clause-named
 returns-clause-named g c = λ uid p f words table word. frame_named c.args.self.now.core uid p f words table word
+
+pub returns-clause-words : goal.returns-clause-words
+returns-clause-words g c = λ uid p f home words table word. words_named (plain g.D.Drive.pages c.args.self.now) uid p f home words table word

@@ -3,7 +3,7 @@ use Rattle.std.proofs.lemmas.Grind.{common_steps}
 use Rattle.page_control.specs.Plain.{plain, words_in}
 use Rattle.page_control.specs.Tied.{has_record}
 use Rattle.page_control.proofs.Facts.{tied_volume, tied_filed, leaving_within}
-use Rattle.page_control.proofs.Shown.{zeros_same, not_zero}
+use Rattle.page_control.proofs.Calls.{zeros_same, not_zero}
 use Rattle.page_control.proofs.pages.Pages.leave.Goals as goal
 
 pub record_in-r-requires-clause-page : goal.record_in-r-requires-clause-page
@@ -41,11 +41,8 @@ returns-then-is_zero-clause-left g c =
     let here : words_in (plain g.D.Drive.pages c.args.self.now) c.args.f ≡ c.index.result.now = grind (arith, common_steps) in
     record {
       zeros = (λ _. zeros_same _ c.index.result.now here (c.is_zero.ensures.zero.0 c.if-is_zero.true), λ _. refl);
-      released = λ _. refl;
-      ok = search rules;
-      err = _;
+      effect = search rules;
       word = search rules;
-      word_kept = _;
       long = ap (λ (words : List ℕ). length words) here ∙ c.is_zero.ensures.size;
       within = search rules;
     }
@@ -54,12 +51,9 @@ pub returns-in-Err-clause-left : goal.returns-in-Err-clause-left
 returns-in-Err-clause-left g c =
     let here : words_in (plain g.D.Drive.pages c.args.self.now) c.args.f ≡ c.index.result.now = grind (arith, common_steps) in
     record {
-      zeros = _;
-      released = λ all. absurd (not_zero c.is_zero.result _ c.index.result.now here c.is_zero.ensures.zero c.if-is_zero.false all);
-      ok = _;
-      err = search rules;
-      word = _;
-      word_kept = refl;
+      zeros = (λ same. cc, λ all. absurd (not_zero c.is_zero.result _ c.index.result.now here c.is_zero.ensures.zero c.if-is_zero.false all));
+      effect = search rules;
+      word = refl;
       long = ap (λ (words : List ℕ). length words) here ∙ c.is_zero.ensures.size;
       within = search rules;
     }
@@ -69,14 +63,19 @@ returns-clause-left g c =
     let here : words_in (plain g.D.Drive.pages c.args.self.now) c.args.f ≡ c.index.result.now = grind (arith, common_steps) in
     record {
       zeros = (λ same. cc, λ all. absurd (not_zero c.is_zero.result _ c.index.result.now here c.is_zero.ensures.zero c.if-is_zero.false all));
-      released = λ all. absurd (not_zero c.is_zero.result _ c.index.result.now here c.is_zero.ensures.zero c.if-is_zero.false all);
-      ok = search rules;
-      err = _;
+      effect = search rules;
       word = search rules;
-      word_kept = _;
       long = ap (λ (words : List ℕ). length words) here ∙ c.is_zero.ensures.size;
       within = search rules;
     }
+
+pub returns-in-Err-clause-no_call : goal.returns-in-Err-clause-no_call
+returns-in-Err-clause-no_call g c = λ need.
+    let here : words_in (plain g.D.Drive.pages c.args.self.now) c.args.f ≡ c.index.result.now = grind (arith, common_steps) in
+    elim need [
+      | inl all ↦ absurd (not_zero c.is_zero.result _ c.index.result.now here c.is_zero.ensures.zero c.if-is_zero.false all)
+      | inr off ↦ (let sure = c.save.ensures.sure off in search rules)
+    ]
 
 pub returns-clause-no_call : goal.returns-clause-no_call
 returns-clause-no_call g c = λ need.

@@ -1,47 +1,35 @@
 use Rattle.std.proofs.Common.{rules}
-use Rattle.page_control.proofs.Homes.{allocates, home_asked, homes_asked, strangers_asked, maps_asked, filed_asked, picture_asked, stored_asked}
 use Rattle.page_control.specs.Plain.{plain}
-use Rattle.page_control.proofs.Clean.{clean_asked}
-use Rattle.page_control.proofs.Calls.{sound_asked}
-use Rattle.page_control.proofs.Counting.{used_asked}
+use Rattle.page_control.proofs.Facts.{plain_volume}
+use Rattle.page_control.proofs.Homes.{maps_asked, home_asked, homes_asked, back_asked, filed_asked, stored_asked, words_asked, ties_asked, tie_asked, used_asked}
 use Rattle.page_control.proofs.pages.Pages.new_home.Goals as goal
 
 pub returns-clause-home : goal.returns-clause-home
-returns-clause-home g c = home_asked c.args.self.now.volumes.vtocs _ c.args.volume c.args.uid c.allocate.result
-    (allocates c.args.self.now.volumes.vtocs _ c.args.volume c.args.uid c.allocate.result c.allocate.new.self (search rules) (search rules) (search rules) (search rules))
+returns-clause-home g c = home_asked c.ask.result c.ask.ensures.asked
 
 pub returns-clause-homes : goal.returns-clause-homes
-returns-clause-homes g c = homes_asked c.args.self.now.volumes.vtocs _ c.args.volume c.args.uid c.allocate.result
-    (allocates c.args.self.now.volumes.vtocs _ c.args.volume c.args.uid c.allocate.result c.allocate.new.self (search rules) (search rules) (search rules) (search rules))
+returns-clause-homes g c = homes_asked c.ask.result c.ask.ensures.asked
 
-pub returns-clause-strangers : goal.returns-clause-strangers
-returns-clause-strangers g c = strangers_asked c.args.self.now.volumes.vtocs _ c.args.volume c.args.uid c.allocate.result
-    (allocates c.args.self.now.volumes.vtocs _ c.args.volume c.args.uid c.allocate.result c.allocate.new.self (search rules) (search rules) (search rules) (search rules))
+pub returns-clause-back : goal.returns-clause-back
+returns-clause-back g c = back_asked c.ask.result c.ask.ensures.asked
+
+pub returns-clause-ties : goal.returns-clause-ties
+returns-clause-ties g c = ties_asked c.ask.result c.ask.ensures.asked
 
 pub returns-clause-maps : goal.returns-clause-maps
-returns-clause-maps g c = maps_asked c.args.self.now.volumes.vtocs _ c.args.volume c.args.uid c.allocate.result
-    (allocates c.args.self.now.volumes.vtocs _ c.args.volume c.args.uid c.allocate.result c.allocate.new.self (search rules) (search rules) (search rules) (search rules))
+returns-clause-maps g c = maps_asked c.ask.result c.ask.ensures.asked
 
 pub returns-clause-records : goal.returns-clause-records
-returns-clause-records g c = filed_asked c.args.self.now.volumes.records _ c.args.self.now.volumes.vtocs _ c.args.volume c.args.uid c.allocate.result (search rules)
-    (allocates c.args.self.now.volumes.vtocs _ c.args.volume c.args.uid c.allocate.result c.allocate.new.self (search rules) (search rules) (search rules) (search rules))
+returns-clause-records g c = filed_asked c.ask.result c.ask.ensures.asked
 
-pub returns-clause-picture : goal.returns-clause-picture
-returns-clause-picture g c = picture_asked _ _ _ _ _ _ c.args.self.now.volumes.vtocs _ c.args.volume c.args.uid c.allocate.result
-    (search rules) (search rules) (search rules)
-    (allocates c.args.self.now.volumes.vtocs _ c.args.volume c.args.uid c.allocate.result c.allocate.new.self (search rules) (search rules) (search rules) (search rules))
+pub returns-clause-words : goal.returns-clause-words
+returns-clause-words g c = words_asked c.ask.result c.ask.ensures.asked
 
 pub returns-clause-stored : goal.returns-clause-stored
-returns-clause-stored g c = stored_asked c.args.self.now.volumes.vtocs _ c.args.volume c.args.uid c.allocate.result
-    (allocates c.args.self.now.volumes.vtocs _ c.args.volume c.args.uid c.allocate.result c.allocate.new.self (search rules) (search rules) (search rules) (search rules))
-
-pub returns-clause-sound : goal.returns-clause-sound
-returns-clause-sound g c = λ none.
-    sound_asked (plain g.D.Drive.pages c.args.self.now) _ (clean_asked (plain g.D.Drive.pages c.args.self.now) _ c.args.volume c.args.uid c.allocate.result (search rules) (search rules) (search rules)
-    (allocates c.args.self.now.volumes.vtocs _ c.args.volume c.args.uid c.allocate.result c.allocate.new.self (search rules) (search rules) (search rules) (search rules)) none)
-    (stored_asked c.args.self.now.volumes.vtocs _ c.args.volume c.args.uid c.allocate.result (allocates c.args.self.now.volumes.vtocs _ c.args.volume c.args.uid c.allocate.result c.allocate.new.self (search rules) (search rules) (search rules) (search rules)) none)
-    (picture_asked _ _ _ _ _ _ c.args.self.now.volumes.vtocs _ c.args.volume c.args.uid c.allocate.result (search rules) (search rules) (search rules) (allocates c.args.self.now.volumes.vtocs _ c.args.volume c.args.uid c.allocate.result c.allocate.new.self (search rules) (search rules) (search rules) (search rules)) none) (search rules) (search rules)
-    (maps_asked c.args.self.now.volumes.vtocs _ c.args.volume c.args.uid c.allocate.result (allocates c.args.self.now.volumes.vtocs _ c.args.volume c.args.uid c.allocate.result c.allocate.new.self (search rules) (search rules) (search rules) (search rules)))
+returns-clause-stored g c = stored_asked c.ask.result c.ask.ensures.asked
 
 pub returns-clause-used : goal.returns-clause-used
-returns-clause-used g c = used_asked c.args.self.now.volumes.vtocs _ c.args.volume c.args.uid c.allocate.result (allocates c.args.self.now.volumes.vtocs _ c.args.volume c.args.uid c.allocate.result c.allocate.new.self (search rules) (search rules) (search rules) (search rules))
+returns-clause-used g c = used_asked c.ask.result c.ask.ensures.asked
+
+pub returns-clause-tie : goal.returns-clause-tie
+returns-clause-tie g c = tie_asked c.ask.result c.ask.ensures.asked (plain_volume g.D.Drive.pages c.args.self.now c.args.volume c.requires)

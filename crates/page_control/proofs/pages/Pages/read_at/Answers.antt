@@ -27,18 +27,14 @@ pub returns-in-Ok-clause-read : goal.returns-in-Ok-clause-read
 returns-in-Ok-clause-read g c =
     let r : record_of (plain g.D.Drive.pages c.args.self.now) c.args.home c.args.p ≡ c.record_out-r.result = out_record _ _ _ _ _ _ c.requires.tie c.record_out-r.ensures in
     record {
-      ok = rw r (grind (arith, common_steps));
-      err = _;
+      effect = rw r (grind (arith, common_steps));
       word = search rules;
-      word_kept = _;
       frames = rw (← c.self.view_is) c.self.invariant;
     }
 
 pub returns-in-Err-clause-read : goal.returns-in-Err-clause-read
 returns-in-Err-clause-read g c = record {
-  ok = _;
-  err = grind (arith, common_steps);
-  word = _;
-  word_kept = refl;
+  effect = grind (arith, common_steps);
+  word = refl;
   frames = rw (← c.self.view_is) c.self.invariant;
 }
