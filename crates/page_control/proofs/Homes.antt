@@ -11,13 +11,13 @@ use Rattle.page_control.specs.declared.Home.{Home}
 use Rattle.page_control.specs.Counts.{used, one_more}
 use Rattle.page_control.specs.Effects.{after_asked}
 use Rattle.page_control.specs.Steps.{HasAsked}
-use Rattle.page_control.specs.Plain.{Plain, bindings, binding_at, vtoc_of}
+use Rattle.page_control.specs.Plain.{Plain, bindings, binding_at, disk_of, vtoc_of}
 use Rattle.page_control.specs.Tied.{vtoc_in, frame_of, has_record, uid_at, map_at, IsTableOf, IsMapOf, AreFiled, HasNoFrame, IsBlank}
-use Rattle.page_control.specs.Picture.{words_of_page, words_at, is_filed_at, is_stored}
+use Rattle.page_control.specs.Picture.{words_at, words_filed, is_filed_at, is_stored}
 use Rattle.page_control.specs.Ties.{IsTied, KeepsTies}
-use Rattle.page_control.proofs.Ties.{not_none, frame_same}
-use Rattle.page_control.proofs.Places.{put, list_within, put_here, put_other, at_or_other}
-use Rattle.page_control.proofs.Pictures.{off_and_on, words_by}
+use Rattle.page_control.proofs.Ties.{not_none}
+use Rattle.page_control.proofs.Places.{put, list_within, put_here, put_other, at_or_other, other_home}
+use Rattle.page_control.proofs.Pictures.{off_and_on, shown_out, words_by}
 use Rattle.page_control.proofs.Marks.{tie_mapped}
 use Rattle.page_control.proofs.Naming.{filed_mapped}
 use Rattle.page_control.proofs.Counting.{used_more}
@@ -69,19 +69,15 @@ homes_asked (Some e) {s = s} {v = v} {uid = uid} a u h used =
     was : h.volume ≡ v → h.entry ≡ e → uid_at s.vtocs h ≡ uid_at s.vtocs (record { volume = v; entry = e })
     was i j = rw (i, j) refl
 
--- and one that is another segment's was
-pub back_asked : (result : Option ℕ) {s now : Plain} {v uid : ℕ} → HasAsked s now v uid result → (u : ℕ) (h : Home) → u ≢ uid → uid_at now.vtocs h ≡ Some u
-    → uid_at s.vtocs h ≡ Some u
-back_asked None a u h n used = ap (λ (x : Plain). uid_at x.vtocs h) (sym a.effect) ∙ used
-back_asked (Some e) {s = s} {v = v} {uid = uid} a u h n used =
+-- and every other entry is used as before
+pub uids_asked : (result : Option ℕ) {s now : Plain} {v uid : ℕ} → HasAsked s now v uid result → (other : Home)
+    → IfSome result (λ e. other ≢ record { volume = v; entry = e }) → uid_at now.vtocs other ≡ uid_at s.vtocs other
+uids_asked None a other n = ap (λ (x : Plain). uid_at x.vtocs other) a.effect
+uids_asked (Some e) {s = s} {v = v} {uid = uid} a other n =
     let least = a.least in
-    let vl : v < length s.vtocs = list_within s.vtocs v e least.within in
-    let that : uid_at (put s.vtocs v e (fresh_entry uid)) h ≡ Some u = ap (λ (x : Plain). uid_at x.vtocs h) (sym a.effect) ∙ used in
-    elim (at_or_other v e h) [
-      | inl here ↦ absurd (n (frame_same (uid_at (put s.vtocs v e (fresh_entry uid)) h) u uid that
-          (uid_here s.vtocs v e (fresh_entry uid) h vl least.within here)))
-      | inr o ↦ sym (ap uid_of (put_other s.vtocs v e (fresh_entry uid) None h.volume h.entry vl o)) ∙ that
-    ]
+    ap (λ (x : Plain). uid_at x.vtocs other) a.effect
+    ∙ ap uid_of (put_other s.vtocs v e (fresh_entry uid) None other.volume other.entry (list_within s.vtocs v e least.within)
+    (other_home (record { volume = v; entry = e }) other n))
 
 -- the parts that stay
 parts_asked : {X : Type 0} (part : Plain → X) (result : Option ℕ) {s now : Plain} {v uid : ℕ} → HasAsked s now v uid result
@@ -145,6 +141,15 @@ tie_asked (Some e) {s = s} {now = now} {v = v} {uid = uid} a vl = λ words blank
       clean = λ g q off at. absurd (none.none g q (sym (ap (λ (those : List (Option (ℕ × ℕ))). binding_at those g) bound) ∙ at));
       zeros = λ q on all. absurd (off_and_on (is_stored now home q) (ap (λ (places : List (Option ℕ)). is_some (get_or places q None)) map ∙ ap is_some (no_record q)) on);
     }
+
+pub zeros_asked : (result : Option ℕ) {s now : Plain} {v uid : ℕ} → HasAsked s now v uid result
+    → IfSome result (λ e. (p : ℕ) → HasNoFrame (bindings s.core) uid → words_at now uid (record { volume = v; entry = e }) p ≡ replicate 1024 0)
+zeros_asked None a = tt
+zeros_asked (Some e) {s = s} {now = now} {v = v} {uid = uid} a = λ p none.
+    let home : Home = record { volume = v; entry = e } in
+    shown_out now uid p home
+    (λ g at. none.none g p (sym (parts_asked (λ (x : Plain). binding_at (bindings x.core) g) (Some e) a (λ _. refl)) ∙ at))
+    ∙ ap (words_filed (disk_of now v)) (ap (λ (places : List (Option ℕ)). get_or places p None) (maps_asked (Some e) a home ∙ ap records_in a.least.free) ∙ no_record p)
 
 pub used_asked : (result : Option ℕ) {s now : Plain} {v uid : ℕ} → HasAsked s now v uid result → IfSome result (λ e. used now.vtocs ≡ one_more (used s.vtocs) v)
 used_asked None a = tt

@@ -1,16 +1,20 @@
 -- What a word that names a frame tells of the frame and of the page.
-use Rattle.std.proofs.Common.{◌≡◌, ℕ, true, List, Option, Some, sym, ap, ◌∙◌}
+use Rattle.std.proofs.Common.{◌≡◌, ℕ, ◌+◌, ◌<◌, Bool, true, false, List, Option, None, Some, refl, sym, ap, ◌∙◌, arith, is_some, subst}
 use Rattle.core_map.specs.declared.Frame.{Frame}
 use Rattle.core_map.specs.CoreMap.{Core, frame_at, bound_page}
+use Rattle.mword.specs.Words.{AreZero}
 use Rattle.page_table.specs.declared.Ptw.{Ptw}
+use Rattle.page_table.specs.declared.Ptw.TheVariants.{Null, Out, Here, Leaving}
 use Rattle.page_table.specs.PageTable.{ptw_at}
 use Rattle.page_control.specs.declared.Home.{Home}
-use Rattle.page_control.specs.Plain.{Plain, bindings, binding_at, number_in, words_in}
-use Rattle.page_control.specs.Tied.{frame_of, uid_in, IsTableOf, IsBoundTo}
-use Rattle.page_control.specs.Picture.{words_at}
-use Rattle.page_control.proofs.Facts.{binding_is, bound_from_page, bound_to}
-use Rattle.page_control.proofs.Ties.{number_of, frame_same}
-use Rattle.page_control.proofs.Pictures.{uid_part, shown_in}
+use Rattle.page_control.specs.Plain.{Plain, bindings, binding_at, number_in, words_in, disk_of, filed, record_of}
+use Rattle.page_control.specs.Tied.{frame_of, has_record, is_out, uid_in, IsTableOf, IsBoundTo}
+use Rattle.page_control.specs.Picture.{words_at, words_filed, is_filed_at, is_stored}
+use Rattle.page_control.specs.Ties.{IsTied, IsSeen}
+use Rattle.page_control.proofs.Facts.{binding_is, bound_from_page, bound_to, tied_filed, filed_in_use}
+use Rattle.page_control.proofs.Ties.{not_none, number_of, frame_same}
+use Rattle.page_control.proofs.Pictures.{uid_part, shown_in, shown_out}
+use Rattle.page_control.proofs.Counting.{fewer_at}
 
 told : (frame : Frame) (uid p : ℕ) → bound_page frame ≡ Some (uid, p) → ◌≡◌ {A = Option (ℕ × ℕ)} (Some (uid_in frame, number_in frame)) (Some (uid, p))
 told frame uid p at = sym (bound_to frame (bound_from_page frame uid p at)) ∙ at
@@ -27,3 +31,42 @@ frame_named core uid p f t table word =
 pub words_named : (s : Plain) (uid p f : ℕ) (home : Home) (t : List Ptw) → IsTableOf (bindings s.core) uid t → frame_of (ptw_at t p) ≡ Some f → words_at s uid home p ≡ words_in s f
 words_named s uid p f home t table word =
     shown_in s uid p f home (table.back f p word) (λ g at. frame_same (frame_of (ptw_at t p)) g f (table.named g p at) word)
+
+-- a page whose word names no frame has the words of its record
+words_away : (s : Plain) (uid p : ℕ) (home : Home) (t : List Ptw) → IsTied s uid home t → frame_of (ptw_at t p) ≡ None
+    → words_at s uid home p ≡ words_filed (disk_of s home.volume) (filed s home p)
+words_away s uid p home t tie none = shown_out s uid p home (λ g at. not_none (frame_of (ptw_at t p)) g none (tie.table.named g p at))
+
+none_from : (place : Option ℕ) (w : Ptw) → is_some place ≡ has_record w → w ≡ Null → place ≡ None
+none_from None w same null = refl
+none_from (Some r) w same null = (let no : has_record w ≡ false = ap has_record null in cc)
+
+out_full : (s : Plain) (uid p : ℕ) (home : Home) (t : List Ptw) (w : Ptw) → IsTied s uid home t → ptw_at t p ≡ w → is_out w ≡ true → is_stored s home p ≡ true
+    → AreZero (words_at s uid home p) → ⊥
+out_full s uid p home t Null tie is out stored all = cc
+out_full s uid p home t (Here f) tie is out stored all = cc
+out_full s uid p home t (Leaving f) tie is out stored all = cc
+out_full s uid p home t (Out r) tie is out stored all =
+    let there = tie.zeros p stored all in
+    not_none (frame_of (ptw_at t p)) there.0 (ap frame_of is) (tie.table.named there.0 p there.1)
+
+stored_out : (w : Ptw) → is_out w ≡ true → has_record w ≡ true
+stored_out Null out = cc
+stored_out (Out r) out = refl
+stored_out (Here f) out = cc
+stored_out (Leaving f) out = cc
+
+pub seen : (s : Plain) (uid p : ℕ) (home : Home) (t : List Ptw) (w : Ptw) → w ≡ ptw_at t p → IsTied s uid home t → IsSeen s uid home p w
+unfolding is_filed_at
+seen s uid p home t w is tie = rw is (record {
+  stored = tie.map.stored p;
+  null = λ null. words_away s uid p home t tie (ap frame_of null) ∙ ap (words_filed (disk_of s home.volume)) (none_from (filed s home p) (ptw_at t p) (tie.map.stored p) null);
+  taken = λ has.
+      let fewer = fewer_at s.records home.volume (record_of s home p) (filed_in_use s home p (record_of s home p) tie.records (tied_filed s uid home t p tie has)) in
+      omega (arith, fewer);
+  out = λ r out. words_away s uid p home t tie (ap frame_of out) ∙ ap (words_filed (disk_of s home.volume)) (tie.map.out p r out);
+  full = λ out all. out_full s uid p home t (ptw_at t p) tie refl out (tie.map.stored p ∙ stored_out (ptw_at t p) out) all;
+  bound = λ f word. tie.table.back f p word;
+  frame = λ f word. frame_named s.core uid p f t tie.table word;
+  words = λ f word. words_named s uid p f home t tie.table word;
+})

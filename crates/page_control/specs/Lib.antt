@@ -9,8 +9,8 @@ pub mod Plain
 pub mod Effects
 pub mod Tied
 pub mod Picture
-pub mod Ties
 pub mod Counts
+pub mod Ties
 pub mod Drives
 pub mod Steps
 pub mod Erasing

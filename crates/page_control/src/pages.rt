@@ -24,7 +24,7 @@ ghost use Rattle.page_control.specs.Counts.{taken, used, one_more, one_less, tak
 ghost use Rattle.page_control.specs.Drives.{CallsDrive};
 ghost use Rattle.page_control.specs.Tied.{IsTableOf, HasNoFrame, IsMapOf, AreFiled, IsNotStarted, IsBoundOnce, IsBoundTo};
 ghost use Rattle.page_control.specs.Tied.{IsInFrame, IsBlank, uid_at, map_at, frame_of, uid_in, is_away, is_out};
-ghost use Rattle.page_control.specs.Ties.{IsTied, KeepsOthers, KeepsTies};
+ghost use Rattle.page_control.specs.Ties.{IsTied, IsSeen, KeepsOthers, KeepsTies};
 ghost use Rattle.page_control.specs.declared.Home.{Home};
 
 use crate::{Home, Left, NoMemory, NoRecord};
@@ -93,9 +93,22 @@ impl<D: Drive> Pages<D> {
         &self.volumes
     }
 
-    /// The volumes, once the frames are given up. (Source: own.)
+    /// The word of page `p`, which tells where the page of a segment is. It reads one word. (Source: Bensoussan, Clingen
+    /// and Daley 1972.)
+    pub fn look(&self, t: &PageTable, p: u32) -> Ptw
+        requires { p < length t.now }
+        ensures word { result ≡ ptw_at t.now p }
+        ensures seen { (uid : ℕ) (home : Home) → IsTied (plain D.pages self.now) uid home t.now
+            → IsSeen (plain D.pages self.now) uid home p result }
+    {
+        t.get(p)
+    }
+
+    /// The volumes, once the frames are given up. A page that is in no frame has the words of its record. (Source: own.)
     pub fn into_volumes(self) -> Volumes<D>
-        ensures { result ≡ self.volumes }
+        ensures volumes { result ≡ self.volumes }
+        ensures away { (uid p : ℕ) (home : Home) → (IsInFrame (bindings self.core) uid p → ⊥)
+            → words_at (plain D.pages self) uid home p ≡ words_out (plain D.pages self) home p }
     {
         self.volumes
     }
@@ -217,8 +230,8 @@ impl<D: Drive> Pages<D> {
         // What becomes of homes. A table of no page is that of the segment, where no frame has a page of it.
         ensures home { IfSome result (λ e. uid_at self.new.volumes.vtocs (record { volume = volume; entry = e }) ≡ Some uid) }
         ensures homes { (u : ℕ) (h : Home) → uid_at self.old.volumes.vtocs h ≡ Some u → uid_at self.new.volumes.vtocs h ≡ Some u }
-        ensures back { (u : ℕ) (h : Home) → u ≢ uid → uid_at self.new.volumes.vtocs h ≡ Some u
-            → uid_at self.old.volumes.vtocs h ≡ Some u }
+        ensures uids { (other : Home) → IfSome result (λ e. other ≢ record { volume = volume; entry = e })
+            → uid_at self.new.volumes.vtocs other ≡ uid_at self.old.volumes.vtocs other }
         ensures tie { IfSome result (λ e. (words : List Ptw) → IsBlank words → HasNoFrame (bindings self.old.core) uid
             → AreFiled self.old.volumes.records self.old.volumes.vtocs
             → IsTied (plain D.pages self.new) uid (record { volume = volume; entry = e }) words) }
@@ -230,6 +243,8 @@ impl<D: Drive> Pages<D> {
             → AreFiled self.new.volumes.records self.new.volumes.vtocs }
         ensures words { words_at (plain D.pages self.new) ≡ words_at (plain D.pages self.old) }
         ensures stored { is_stored (plain D.pages self.new) ≡ is_stored (plain D.pages self.old) }
+        ensures zeros { IfSome result (λ e. (p : ℕ) → HasNoFrame (bindings self.old.core) uid
+            → words_at (plain D.pages self.new) uid (record { volume = volume; entry = e }) p ≡ replicate 1024 0) }
         ensures used { IfSome result (λ e. used self.new.volumes.vtocs ≡ one_more (used self.old.volumes.vtocs) volume) }
     {
         self.ask(volume, uid)

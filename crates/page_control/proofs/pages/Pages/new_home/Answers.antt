@@ -1,7 +1,7 @@
 use Rattle.std.proofs.Common.{rules}
 use Rattle.page_control.specs.Plain.{plain}
 use Rattle.page_control.proofs.Facts.{plain_volume}
-use Rattle.page_control.proofs.Homes.{maps_asked, home_asked, homes_asked, back_asked, filed_asked, stored_asked, words_asked, ties_asked, tie_asked, used_asked}
+use Rattle.page_control.proofs.Homes.{maps_asked, home_asked, homes_asked, uids_asked, filed_asked, stored_asked, words_asked, ties_asked, tie_asked, used_asked, zeros_asked}
 use Rattle.page_control.proofs.pages.Pages.new_home.Goals as goal
 
 pub returns-clause-home : goal.returns-clause-home
@@ -10,8 +10,8 @@ returns-clause-home g c = home_asked c.ask.result c.ask.ensures.asked
 pub returns-clause-homes : goal.returns-clause-homes
 returns-clause-homes g c = homes_asked c.ask.result c.ask.ensures.asked
 
-pub returns-clause-back : goal.returns-clause-back
-returns-clause-back g c = back_asked c.ask.result c.ask.ensures.asked
+pub returns-clause-uids : goal.returns-clause-uids
+returns-clause-uids g c = uids_asked c.ask.result c.ask.ensures.asked
 
 pub returns-clause-ties : goal.returns-clause-ties
 returns-clause-ties g c = ties_asked c.ask.result c.ask.ensures.asked
@@ -33,3 +33,6 @@ returns-clause-used g c = used_asked c.ask.result c.ask.ensures.asked
 
 pub returns-clause-tie : goal.returns-clause-tie
 returns-clause-tie g c = tie_asked c.ask.result c.ask.ensures.asked (plain_volume g.D.Drive.pages c.args.self.now c.args.volume c.requires)
+
+pub returns-clause-zeros : goal.returns-clause-zeros
+returns-clause-zeros g c = zeros_asked c.ask.result c.ask.ensures.asked
