@@ -1,6 +1,8 @@
 -- A page leaves its frame.
-use Rattle.std.proofs.Common.{◌≡◌, ◌≢◌, ℕ, ◌+◌, ◌-◌, ◌<◌, ◌≤◌, ◌↔◌, true, false, List, [], length, Option, refl, sym, ap, ◌∙◌, arith, get_or, set, subst}
+use Rattle.std.proofs.Common.{◌≡◌, ◌≢◌, ℕ, zero, suc, ◌+◌, ◌-◌, ◌<◌, ◌≤◌, ◌↔◌, Bool, true, false, cond, List, [], ◌∷◌, length, Option, Some, None, refl, sym, ap, ◌∙◌, arith, get_or, set, subst, count_by, is_some}
 use Rattle.std.proofs.lemmas.List.{get_or_default}
+use Rattle.std.proofs.lemmas.List.Sums.{sum_by-cons}
+use Rattle.record_map.specs.Bitmap.{in_use}
 use Rattle.core_map.specs.declared.Frame.TheVariants.{Free}
 use Rattle.core_map.specs.CoreMap.{Core, frame_at, with_frame, is_bound}
 use Rattle.mword.specs.Words.{AreZero}
@@ -11,23 +13,21 @@ use Rattle.volumes.specs.declared.drive.FailLine.{FailLine}
 use Rattle.page_control.specs.declared.Home.{Home}
 use Rattle.page_control.specs.declared.Left.{Left}
 use Rattle.page_control.specs.declared.Left.TheVariants.{Released, Kept}
-use Rattle.page_control.specs.Plain.{Plain, words_in, number_in, record_of}
+use Rattle.page_control.specs.Plain.{Plain, bindings, binding_at, words_in, number_in, number_or_zero, filed, record_of}
 use Rattle.page_control.specs.Effects.{evicted, word_of_left}
-use Rattle.page_control.specs.Picture.{picture}
-use Rattle.page_control.specs.Tied.{flags_in, frame_of, has_record, uid_in, IsTied, KeepsOthers}
-use Rattle.record_map.specs.Bitmap.{in_use}
-use Rattle.page_control.proofs.Laws.{filed_from_word, filed_in_use, words_shown, used_same, fewer_at}
-use Rattle.paged_segs.specs.Segs.{Segs, home_at, table_at}
+use Rattle.page_control.specs.Picture.{words_at, is_filed_at, is_stored as is_filed, changed_at, stored_after, is_kept, ChangesStored}
+use Rattle.page_control.specs.Tied.{has_record, uid_in, frame_of, flags_in, IsTableOf}
+use Rattle.page_control.specs.Ties.{IsTied, KeepsOthers}
+use Rattle.page_control.specs.Counts.{taken, used, size, entries, taken_after}
+use Rattle.paged_segs.specs.declared.Evicted.{Evicted}
+use Rattle.paged_segs.specs.Segs.{Segs, home_at, home_of, table_at, volume_at, word_at, with_word}
+use Rattle.paged_segs.specs.Shown.{picture, is_stored}
 use Rattle.paged_segs.specs.Kept.{IsKept}
 use Rattle.paged_segs.specs.Effects.{IsEmptied}
 use Rattle.paged_segs.specs.Moves.{IsPutOut}
-use Rattle.paged_segs.proofs.Located.{IsPageOf, page_of_frame}
-use Rattle.paged_segs.proofs.Keeping.{sizes, kept_call}
-
--- what a frame that is to be emptied meets
-pub record IsReady (s : Segs) (f : ℕ) (home : Home) (table : List Ptw) : Type 0 where
-  pub here : ptw_at table (number_in (frame_at s.storage.core f)) ≡ Here f
-  pub tie : IsTied s.storage (uid_in (frame_at s.storage.core f)) home table
+use Rattle.paged_segs.proofs.Located.{IsPageOf, page_of_frame, home_is}
+use Rattle.paged_segs.proofs.Showing.{shown_kept, stored_changed, changed_same, picture_at, stored_at}
+use Rattle.paged_segs.proofs.Keeping.{sizes, used_same, kept_call}
 
 abbrev pub home_in : Segs → ℕ → Home
 home_in s f = home_at s.homes (uid_in (frame_at s.storage.core f) - 2)
@@ -43,8 +43,8 @@ pub record IsFound (s : Segs) (f : ℕ) (told : ℕ × ℕ) (at : Home) (words :
   pub table : words ≡ table_in s f
 
 pub found_by : (s : Segs) (core : Core) (f : ℕ) (page : ℕ × ℕ) (homes : List Home) (home : Home) (table : List Ptw) → IsKept s → is_bound (frame_at s.storage.core f) ≡ true
-    → core ≡ s.storage.core → page ≡ (uid_in (frame_at core f), number_in (frame_at core f)) → homes ≡ s.homes → home ≡ home_at homes (page.0 - 2) → table ≡ get_or s.tables (page.0 - 2) table
-    → IsFound s f page home table
+    → core ≡ s.storage.core → page ≡ (uid_in (frame_at core f), number_in (frame_at core f)) → homes ≡ s.homes → home ≡ home_at homes (page.0 - 2)
+    → table ≡ get_or s.tables (page.0 - 2) table → IsFound s f page home table
 found_by s core f page homes home table k bound same is all at those =
     let told : page ≡ (uid_in (frame_at s.storage.core f), number_in (frame_at s.storage.core f)) = is ∙ ap (λ (c : Core). (uid_in (frame_at c f), number_in (frame_at c f))) same in
     record {
@@ -54,6 +54,11 @@ found_by s core f page homes home table k bound same is all at those =
       table = those ∙ ap (λ (x : ℕ × ℕ). get_or s.tables (x.0 - 2) table) told
           ∙ get_or_default s.tables (uid_in (frame_at s.storage.core f) - 2) table [] (page_of_frame s f k bound).place;
     }
+
+-- what a frame that is to be emptied meets
+pub record IsReady (s : Segs) (f : ℕ) (home : Home) (table : List Ptw) : Type 0 where
+  pub here : ptw_at table (number_in (frame_at s.storage.core f)) ≡ Here f
+  pub tie : IsTied s.storage (uid_in (frame_at s.storage.core f)) home table
 
 pub ready : (s : Segs) (f : ℕ) (page : ℕ × ℕ) (home : Home) (table : List Ptw) → IsKept s → IsFound s f page home table → IsReady s f home table
 ready s f page home table k found =
@@ -68,39 +73,63 @@ stays_out : (left : Left) (r g : ℕ) → word_of_left left r ≢ Leaving g
 stays_out Released r g is = cc
 stays_out Kept r g is = cc
 
-zeros_out : (left : Left) (r q : ℕ) (words : List ℕ) → left ≡ Released ↔ AreZero words → word_of_left left r ≡ Out q → AreZero words → ⊥
-zeros_out Released r q words zeros is all = cc
-zeros_out Kept r q words zeros is all = (let no : Kept ≡ Released = zeros.1 all in cc)
-
 pub kept_emptied : (s : Segs) (now : Plain) (plans : List (Option (List FailLine))) (f uid p : ℕ) (t : List Ptw) (left : Left) → IsKept s → IsPageOf s f uid p → plans ≡ s.plans
     → IsPutOut s.storage now (home_at s.homes (uid - 2)) uid p f (table_at s.tables (uid - 2)) t left
     → IsKept (record { storage = now; plans = plans; tables = set s.tables (uid - 2) t; homes = s.homes })
 kept_emptied s now plans f uid p t left k q same out =
     let some_ = q.some in
     let back : uid ≡ (uid - 2) + 2 = omega (arith, some_) in
-    let words : picture s.storage uid p ≡ words_in s.storage f = words_shown s.storage uid p f (table_at s.tables (uid - 2)) q.tie.table (ap frame_of q.here) in
     kept_call s now plans (uid - 2) p f (word_of_left left (record_of s.storage (home_at s.homes (uid - 2)) p)) Free t k q.segment same out.word (stays_out left _)
     (core_out s.storage now (home_at s.homes (uid - 2)) p f left out.effect) refl (λ u n is. cc)
-    (subst (λ (n : ℕ). IsTied now n (home_at s.homes (uid - 2)) t) back out.tie) out.clean
+    (subst (λ (n : ℕ). IsTied now n (home_at s.homes (uid - 2)) t) back out.tie)
     (subst (λ (n : ℕ). KeepsOthers s.storage now n (home_at s.homes (uid - 2))) back out.others)
     out.counts
-    (λ r is all. zeros_out left _ r (words_in s.storage f) out.zeros is
-    (subst AreZero (ap (λ (shown : ℕ → ℕ → List ℕ). shown ((uid - 2) + 2) p) out.shown ∙ ap (λ (n : ℕ). picture s.storage n p) (sym back) ∙ words) all))
-    (λ j n other. ap (λ (shown : ℕ → ℕ → List ℕ). shown (j + 2) n) out.shown)
 
-in_use_out : (s : Segs) (f uid p : ℕ) → IsKept s → IsPageOf s f uid p
-    → in_use (flags_in s.storage.records (home_at s.homes (uid - 2)).volume) (record_of s.storage (home_at s.homes (uid - 2)) p) ≡ true
-in_use_out s f uid p k q =
-    filed_in_use s.storage (home_at s.homes (uid - 2)) p _ k.filed (filed_from_word s.storage (home_at s.homes (uid - 2)) (table_at s.tables (uid - 2)) p q.tie.map (ap has_record q.here))
+-- which pages are stored then
+stored_out : (stored now : ℕ → ℕ → Bool) (uid p : ℕ) (left : Left) → stored uid p ≡ true → now ≡ changed_at stored uid p (is_kept left) → now ≡ stored_after stored uid p left
+stored_out stored now uid p Released on is = is
+stored_out stored now uid p Kept on is = is ∙ changed_same stored uid p true on
+
+-- the page is stored, and its record is one that is in use
+filed_here : (s : Plain) (home : Home) (p : ℕ) (t : List Ptw) → is_some (filed s home p) ≡ has_record (ptw_at t p) → has_record (ptw_at t p) ≡ true → is_filed s home p ≡ true
+unfolding is_filed_at
+filed_here s home p t stored has = stored ∙ has
+
+some_in_use : (flags : List Bool) (r : ℕ) → in_use flags r ≡ true → 0 < count_by (λ flag. flag) flags
+some_in_use [] r on = cc
+some_in_use (flag ∷ flags) zero on =
+    let one : cond {A = ℕ} flag 1 0 ≡ 1 = ap (λ (b : Bool). cond {A = ℕ} b 1 0) on in
+    let all = sum_by-cons (λ flag. cond {A = ℕ} flag 1 0) flag flags in
+    omega (arith, one, all)
+some_in_use (flag ∷ flags) (suc r) on =
+    let ih = some_in_use flags r on in
+    let all = sum_by-cons (λ flag. cond {A = ℕ} flag 1 0) flag flags in
+    omega (arith, ih, all)
+
+some_taken : (s : Plain) (uid : ℕ) (home : Home) (t : List Ptw) (p : ℕ) → IsTied s uid home t → has_record (ptw_at t p) ≡ true → 0 < taken s.records home.volume
+some_taken s uid home t p tie has = some_in_use (flags_in s.records home.volume) (number_or_zero (filed s home p))
+    (tie.records.used home.volume home.entry p (number_or_zero (filed s home p)) (some_number (filed s home p) (tie.map.stored p ∙ has)))
+  where
+    some_number : (r : Option ℕ) → is_some r ≡ true → r ≡ Some (number_or_zero r)
+    some_number None h = cc
+    some_number (Some r) h = refl
+
+-- what page control tells of a page whose word names a frame
+abbrev pub HasWords : Segs → Type 0
+HasWords s = (uid p f : ℕ) (home : Home) (words : List Ptw) → IsTableOf (bindings s.storage.core) uid words → frame_of (ptw_at words p) ≡ Some f
+    → words_at s.storage uid home p ≡ words_in s.storage f
 
 pub is_emptied : (s : Segs) (now : Plain) (plans : List (Option (List FailLine))) (f uid p : ℕ) (t : List Ptw) (left : Left) → IsKept s → IsPageOf s f uid p
-    → IsPutOut s.storage now (home_at s.homes (uid - 2)) uid p f (table_at s.tables (uid - 2)) t left
+    → words_at s.storage uid (home_at s.homes (uid - 2)) p ≡ words_in s.storage f → IsPutOut s.storage now (home_at s.homes (uid - 2)) uid p f (table_at s.tables (uid - 2)) t left
     → IsEmptied s (record { storage = now; plans = plans; tables = set s.tables (uid - 2) t; homes = s.homes }) (record { frame = f; uid = uid; page = p; left = left })
-is_emptied s now plans f uid p t left k q out =
+is_emptied s now plans f uid p t left k q seen out =
     let segment = q.segment in
     let some_ = q.some in
-    let fewer = fewer_at s.storage.records (home_at s.homes (uid - 2)).volume _ (in_use_out s f uid p k q) in
-    let words : picture s.storage uid p ≡ words_in s.storage f = words_shown s.storage uid p f (table_at s.tables (uid - 2)) q.tie.table (ap frame_of q.here) in
+    let back : (uid - 2) + 2 ≡ uid = omega (arith, some_) in
+    let new : Segs = record { storage = now; plans = plans; tables = set s.tables (uid - 2) t; homes = s.homes } in
+    let its : home_of s.homes uid ≡ Some (home_at s.homes (uid - 2)) = ap (home_of s.homes) (sym back) ∙ home_is s.homes (uid - 2) segment in
+    let words : picture s uid p ≡ words_in s.storage f = picture_at s uid p (home_at s.homes (uid - 2)) its ∙ seen in
+    let filed : is_stored s uid p ≡ true = stored_at s uid p (home_at s.homes (uid - 2)) its ∙ filed_here s.storage (home_at s.homes (uid - 2)) p (table_at s.tables (uid - 2)) (q.tie.map.stored p) (ap has_record q.here) in
     record {
       bound = q.at;
       some = q.some;
@@ -110,11 +139,12 @@ is_emptied s now plans f uid p t left k q out =
       freed = out.freed;
       words = ap (set s.tables (uid - 2)) out.word;
       homes = refl;
+      filed = filed;
       zeros = rw words out.zeros;
-      shown = out.shown;
-      stored = out.stored;
+      shown = shown_kept s new uid (home_at s.homes (uid - 2)) k refl its out.words;
+      stored = stored_out (is_stored s) (is_stored new) uid p left filed (stored_changed s new uid p (home_at s.homes (uid - 2)) (is_kept left) k refl its out.stored);
       records = out.records;
-      given = λ released. omega (arith, fewer);
+      given = λ released. some_taken s.storage uid (home_at s.homes (uid - 2)) (table_at s.tables (uid - 2)) p q.tie (ap has_record q.here);
       homed = used_same s.storage now out.counts;
       sizes = sizes s.storage now out.counts;
     }
@@ -125,16 +155,54 @@ out_there : (s : Segs) (now : Plain) (f uid p : ℕ) (home : Home) (table t : Li
 out_there s now f uid p home table t left at is out =
     subst (λ (h : Home). IsPutOut s.storage now h uid p f (table_in s f) t left) at (subst (λ (those : List Ptw). IsPutOut s.storage now home uid p f those t left) is out)
 
-pub kept_steps : (s : Segs) (now : Plain) (plans : List (Option (List FailLine))) (f : ℕ) (page : ℕ × ℕ) (home : Home) (table t : List Ptw) (left : Left) → IsKept s → IsFound s f page home table
-    → plans ≡ s.plans → IsPutOut s.storage now home (uid_in (frame_at s.storage.core f)) (number_in (frame_at s.storage.core f)) f table t left
+pub kept_steps : (s : Segs) (now : Plain) (plans : List (Option (List FailLine))) (f : ℕ) (page : ℕ × ℕ) (home : Home) (table t : List Ptw) (left : Left) → IsKept s
+    → IsFound s f page home table → plans ≡ s.plans → IsPutOut s.storage now home (uid_in (frame_at s.storage.core f)) (number_in (frame_at s.storage.core f)) f table t left
     → IsKept (record { storage = now; plans = plans; tables = set s.tables (page.0 - 2) t; homes = s.homes })
 kept_steps s now plans f page home table t left k found same out =
-    rw found.page (kept_emptied s now plans f (uid_in (frame_at s.storage.core f)) (number_in (frame_at s.storage.core f)) t left k (page_of_frame s f k found.bound) same
+    rw found.page
+    (kept_emptied s now plans f (uid_in (frame_at s.storage.core f)) (number_in (frame_at s.storage.core f)) t left k (page_of_frame s f k found.bound) same
     (out_there s now f _ _ home table t left found.home found.table out))
 
-pub emptied_steps : (s : Segs) (now : Plain) (plans : List (Option (List FailLine))) (f : ℕ) (page : ℕ × ℕ) (home : Home) (table t : List Ptw) (left : Left) → IsKept s → IsFound s f page home table
+pub emptied_steps : (s : Segs) (now : Plain) (plans : List (Option (List FailLine))) (f : ℕ) (page : ℕ × ℕ) (home : Home) (table t : List Ptw) (left : Left) → IsKept s
+    → IsFound s f page home table → HasWords s
     → IsPutOut s.storage now home (uid_in (frame_at s.storage.core f)) (number_in (frame_at s.storage.core f)) f table t left
     → IsEmptied s (record { storage = now; plans = plans; tables = set s.tables (page.0 - 2) t; homes = s.homes }) (record { frame = f; uid = page.0; page = page.1; left = left })
-emptied_steps s now plans f page home table t left k found out =
-    rw found.page (is_emptied s now plans f (uid_in (frame_at s.storage.core f)) (number_in (frame_at s.storage.core f)) t left k (page_of_frame s f k found.bound)
+emptied_steps s now plans f page home table t left k found look out =
+    let q = page_of_frame s f k found.bound in
+    let seen = look (uid_in (frame_at s.storage.core f)) (number_in (frame_at s.storage.core f)) f (home_in s f) (table_in s f) q.tie.table (ap frame_of q.here) in
+    rw found.page
+    (is_emptied s now plans f (uid_in (frame_at s.storage.core f)) (number_in (frame_at s.storage.core f)) t left k q seen
     (out_there s now f _ _ home table t left found.home found.table out))
+
+-- where marks alone had changed before
+pub emptied_after : (s mid new : Segs) (gone : Evicted) → mid ≡ record s { storage = record s.storage { core = mid.storage.core } } → bindings mid.storage.core ≡ bindings s.storage.core
+    → length mid.storage.core.frames ≡ length s.storage.core.frames → picture mid ≡ picture s → is_stored mid ≡ is_stored s → IsEmptied mid new gone → IsEmptied s new gone
+emptied_after s mid new gone is bound frames shown stored e =
+    let homes : mid.homes ≡ s.homes = ap (λ (x : Segs). x.homes) is in
+    let vtocs : mid.storage.vtocs ≡ s.storage.vtocs = ap (λ (x : Segs). x.storage.vtocs) is in
+    let records : mid.storage.records ≡ s.storage.records = ap (λ (x : Segs). x.storage.records) is in
+    let sizes = e.sizes in
+    record {
+      bound = ap (λ (those : List (Option (ℕ × ℕ))). binding_at those gone.frame) (sym bound) ∙ e.bound;
+      some = e.some;
+      segment = subst (λ (those : List Home). gone.uid < length those + 2) homes e.segment;
+      number = e.number;
+      here = ap (λ (x : Segs). word_at x (gone.uid - 2) gone.page) (sym is) ∙ e.here;
+      freed = e.freed ∙ ap (λ (those : List (Option (ℕ × ℕ))). set those gone.frame None) bound;
+      words = e.words
+          ∙ ap (λ (x : Segs). with_word x.tables (gone.uid - 2) gone.page (word_of_left gone.left (record_of x.storage (home_at x.homes (gone.uid - 2)) gone.page))) is;
+      homes = e.homes ∙ homes;
+      filed = ap (λ (those : ℕ → ℕ → Bool). those gone.uid gone.page) (sym stored) ∙ e.filed;
+      zeros = subst (λ (those : ℕ → ℕ → List ℕ). gone.left ≡ Released ↔ AreZero (those gone.uid gone.page)) shown e.zeros;
+      shown = e.shown ∙ shown;
+      stored = e.stored ∙ ap (λ (those : ℕ → ℕ → Bool). stored_after those gone.uid gone.page gone.left) stored;
+      records = e.records ∙ ap (λ (x : Segs). taken_after (taken x.storage.records) (volume_at x (gone.uid - 2)) gone.left) is;
+      given = λ left. subst (λ (x : Segs). 0 < taken x.storage.records (volume_at x (gone.uid - 2))) is (e.given left);
+      homed = e.homed ∙ ap used vtocs;
+      sizes = record {
+        volumes = sizes.volumes ∙ ap (λ (x : Segs). length x.storage.disks) is;
+        records = sizes.records ∙ ap size records;
+        places = sizes.places ∙ ap entries vtocs;
+        frames = sizes.frames ∙ frames;
+      };
+    }

@@ -1,56 +1,63 @@
 -- The volumes once every frame is free.
-use Rattle.std.proofs.Common.{◌≡◌, ℕ, ◌+◌, ◌-◌, ◌<◌, ◌≤◌, true, length, Some, refl, sym, ap, ◌∙◌, arith, subst, inl, inr}
-use Rattle.std.proofs.lemmas.Bool.{cases_eq}
+use Rattle.std.proofs.Common.{◌≡◌, ◌⊎◌, ℕ, ◌+◌, ◌-◌, ◌<◌, Bool, true, false, List, [], length, inl, inr, Option, None, Some, refl, sym, ap, ◌∙◌, subst}
 use Rattle.core_map.specs.declared.Frame.TheVariants.{Free}
 use Rattle.core_map.specs.CoreMap.{frame_at, bound_page}
 use Rattle.mword.specs.Words.{AreZero}
+use Rattle.page_control.specs.declared.Home.{Home}
+use Rattle.page_control.specs.Plain.{Plain, bindings, binding_at}
+use Rattle.page_control.specs.Picture.{words_at, words_out, is_filed_at, is_stored as is_filed}
+use Rattle.page_control.specs.Tied.{uid_at, IsInFrame}
+use Rattle.page_control.specs.Ties.{IsTied}
 use Rattle.page_table.specs.declared.Ptw.{Ptw}
-use Rattle.page_table.specs.declared.Ptw.TheVariants.{Null, Out, Here, Leaving}
-use Rattle.page_control.specs.Plain.{Plain, bindings, binding_at, disk_of, number_or_zero}
-use Rattle.page_control.specs.Picture.{picture, is_stored, is_filed_in, volume_of, place_of, record_named, words_filed, words_held, words_of_page}
-use Rattle.page_control.specs.Tied.{frame_of, has_record}
-use Rattle.page_control.proofs.Laws.{binding_is, some_number, not_none, away_shown as record_away, record_found, named_home, stored_shown}
-use Rattle.paged_segs.specs.Segs.{Segs, home_at, table_at, word_at, root_home}
+use Rattle.paged_segs.specs.Segs.{Segs, home_at, home_of, table_at, root_home}
+use Rattle.paged_segs.specs.Shown.{picture, is_stored, stored_by}
 use Rattle.paged_segs.specs.Kept.{IsKept}
+use Rattle.paged_segs.proofs.Located.{binding_is, same_home, which, none_at, root_at, segment_at, segment_found}
+use Rattle.paged_segs.proofs.Showing.{picture_at, stored_at, stored_none}
 
-none_bound : (s : Plain) → ((f : ℕ) → frame_at s.core f ≡ Free) → (f uid p : ℕ) → binding_at (bindings s.core) f ≡ Some (uid, p) → ⊥
-none_bound s free f uid p at = not_none (binding_at (bindings s.core) f) (uid, p) (binding_is s.core f ∙ ap bound_page (free f)) at
+not_none : {A : Type 0} (x : Option A) (a : A) → x ≡ None → x ≡ Some a → ⊥
+not_none x a h i = cc
+
+pub none_bound : (s : Plain) → ((f : ℕ) → frame_at s.core f ≡ Free) → (uid p : ℕ) → IsInFrame (bindings s.core) uid p → ⊥
+none_bound s free uid p (f, at) = not_none (binding_at (bindings s.core) f) (uid, p) (binding_is s.core f ∙ ap bound_page (free f)) at
 
 -- each page is on its record
-pub away_shown : (s : Plain) (uid p : ℕ) → ((f : ℕ) → frame_at s.core f ≡ Free) → picture s uid p ≡ words_filed (disk_of s (volume_of s.vtocs uid)) (record_named s.vtocs uid p)
-away_shown s uid p free = record_away s uid p (λ there. none_bound s free there.0 uid p there.1)
+pub words_left : (s : Segs) (home : Home) (uid p : ℕ) → IsKept s → uid_at s.storage.vtocs home ≡ Some uid → words_at s.storage uid home p ≡ words_out s.storage home p
+    → picture s uid p ≡ words_out s.storage home p
+words_left s home uid p k used away = picture_at s uid p home (k.owners home uid used) ∙ away
+
+pub stored_left : (s : Segs) (home : Home) (uid p : ℕ) → IsKept s → uid_at s.storage.vtocs home ≡ Some uid → is_stored s uid p ≡ is_filed s.storage home p
+stored_left s home uid p k used = stored_at s uid p home (k.owners home uid used)
 
 -- and one that is stored is not all zeros
-not_zeros_at : (s : Segs) (i p : ℕ) (w : Ptw) → IsKept s → ((f : ℕ) → frame_at s.storage.core f ≡ Free) → i < length s.homes → word_at s i p ≡ w → has_record w ≡ true
-    → AreZero (picture s.storage (i + 2) p) → ⊥
-not_zeros_at s i p Null k free il word has all = cc
-not_zeros_at s i p (Out r) k free il word has all = k.zeros i p r il word all
-not_zeros_at s i p (Here f) k free il word has all = none_bound s.storage free f (i + 2) p ((k.tables i il).back f p (ap frame_of word))
-not_zeros_at s i p (Leaving f) k free il word has all = k.stay i p f word
+loose : (s : Segs) (uid p : ℕ) (home : Home) (t : List Ptw) → ((f : ℕ) → frame_at s.storage.core f ≡ Free) → IsTied s.storage uid home t → home_of s.homes uid ≡ Some home
+    → is_stored s uid p ≡ true → AreZero (picture s uid p) → ⊥
+loose s uid p home t free tie its stored all =
+    none_bound s.storage free uid p (tie.zeros p (sym (stored_at s uid p home its) ∙ stored) (subst AreZero (picture_at s uid p home its) all))
 
-owner_of : (s : Segs) (uid p : ℕ) → IsKept s → is_stored s.storage uid p ≡ true → (1 ≤ uid) × (uid < length s.homes + 2)
-unfolding is_filed_in
-owner_of s uid p k stored =
-    k.owners (record { volume = volume_of s.storage.vtocs uid; entry = place_of s.storage.vtocs uid }) uid
-    (named_home s.storage.vtocs uid p (number_or_zero (record_named s.storage.vtocs uid p)) (some_number (record_named s.storage.vtocs uid p) stored))
+-- the tie of a home that there is
+tie_there : (s : Segs) (uid : ℕ) (home : Home) → IsKept s → home_of s.homes uid ≡ Some home → (t : List Ptw) × IsTied s.storage uid home t
+tie_there s uid home k is = by (which uid)
+  where
+    by : (uid ≡ 0) ⊎ ((uid ≡ 1) ⊎ ((i : ℕ) × (uid ≡ i + 2))) → (t : List Ptw) × IsTied s.storage uid home t
+    by (inl nobody) = absurd (not_none (home_of s.homes uid) home (none_at s.homes uid nobody) is)
+    by (inr (inl one)) = ([], subst (λ (n : ℕ). IsTied s.storage n home []) (sym one)
+        (subst (λ (h : Home). IsTied s.storage 1 h []) (same_home root_home home (sym (root_at s.homes uid one) ∙ is)) k.root))
+    by (inr (inr (i, at))) =
+        let found = segment_found s.homes i home (sym (segment_at s.homes uid i at) ∙ is) in (
+          table_at s.tables i,
+          subst (λ (n : ℕ). IsTied s.storage n home (table_at s.tables i)) (sym at)
+              (subst (λ (h : Home). IsTied s.storage (i + 2) h (table_at s.tables i)) found.1 (k.tied i found.0)),
+        )
 
-root_stored : (s : Segs) (p : ℕ) → IsKept s → is_stored s.storage 1 p ≡ true → ⊥
-unfolding is_filed_in
-root_stored s p k stored =
-    not_none (record_named s.storage.vtocs 1 p) (number_or_zero (record_named s.storage.vtocs 1 p)) (record_found s.storage.vtocs 1 p root_home k.root ∙ k.rootless p)
-    (some_number (record_named s.storage.vtocs 1 p) stored)
+off_and_on : (b : Bool) → b ≡ false → b ≡ true → ⊥
+off_and_on b off on = cc
 
-pub none_zeros : (s : Segs) (uid p : ℕ) → IsKept s → ((f : ℕ) → frame_at s.storage.core f ≡ Free) → is_stored s.storage uid p ≡ true → AreZero (picture s.storage uid p) → ⊥
-none_zeros s uid p k free stored all = elim (cases_eq uid 1) [
-  | inl root ↦ root_stored s p k (subst (λ (n : ℕ). is_stored s.storage n p ≡ true) root stored)
-  | inr n ↦ (let owner = owner_of s uid p k stored in
-      let least = owner.0 in
-      let most = owner.1 in
-      let two : 2 ≤ uid = omega (arith, least, n) in
-      let il : uid - 2 < length s.homes = omega (arith, two, most) in
-      let back : uid ≡ (uid - 2) + 2 = omega (arith, two) in
-      not_zeros_at s (uid - 2) p (word_at s (uid - 2) p) k free il refl
-      (sym (stored_shown s.storage ((uid - 2) + 2) p (home_at s.homes (uid - 2)) (table_at s.tables (uid - 2)) (k.homes (uid - 2) il) (k.maps (uid - 2) il))
-      ∙ subst (λ (m : ℕ). is_stored s.storage m p ≡ true) back stored)
-      (subst (λ (m : ℕ). AreZero (picture s.storage m p)) back all))
-]
+pub none_zeros : (s : Segs) (uid p : ℕ) → IsKept s → ((f : ℕ) → frame_at s.storage.core f ≡ Free) → is_stored s uid p ≡ true → AreZero (picture s uid p) → ⊥
+none_zeros s uid p k free stored all = by_home (home_of s.homes uid) refl
+  where
+    by_home : (x : Option Home) → home_of s.homes uid ≡ x → ⊥
+    by_home None is = off_and_on (is_stored s uid p) (stored_none s uid p is) stored
+    by_home (Some home) is =
+        let its = tie_there s uid home k is in
+        loose s uid p home its.0 free its.1 is stored all

@@ -1,13 +1,12 @@
 -- Drives without a line that names a failing call have no faults, so none of their calls fails.
-use Rattle.std.proofs.Common.{◌≡◌, ℕ, zero, suc, Bool, true, false, List, [], ◌∷◌, Option, Some, refl, ap, ◌∙◌, arith, map}
-use Rattle.std.specs.List.{sum_by}
-use Rattle.std.proofs.lemmas.List.Sums.{sum_by-cons}
+use Rattle.std.proofs.Common.{◌≡◌, ℕ, zero, suc, Bool, true, false, List, [], ◌∷◌, Option, Some, refl, ap, ◌∙◌, arith, map, get_or}
 use Rattle.std.proofs.lemmas.List.Elements.{All-head, All-tail}
 use Rattle.std.proofs.lemmas.Option.{same_Some}
 use Rattle.site_io.specs.Faults.{Rose}
 use Rattle.volumes.specs.declared.drive.FailLine.{FailLine}
 use Rattle.volumes.specs.FailLine.{named_calls}
 use Rattle.volumes.specs.CoreDrive.{DriveState, faults_of}
+use Rattle.volumes.specs.Volumes.{faults_at}
 use Rattle.paged_segs.specs.Segs.{plan_of}
 use Rattle.paged_segs.specs.Kept.{NeverFail}
 
@@ -23,17 +22,15 @@ no_fault d sound =
     let writes : named_calls d.fails true d.writes ≡ 0 = ap (λ (lines : List FailLine). named_calls lines true d.writes) none ∙ none_named true d.writes in
     omega (arith, reads, writes)
 
-no_faults : (drives : List DriveState) → NeverFail (map plan_of drives) → sum_by faults_of drives ≡ 0
-no_faults [] sound = refl
-no_faults (d ∷ drives) sound =
-    let here : faults_of d ≡ 0 = no_fault d (All-head (λ (plan : Option (List FailLine)). plan ≡ Some []) (plan_of d) (map plan_of drives) sound) in
-    let rest : sum_by faults_of drives ≡ 0 = no_faults drives (All-tail (λ (plan : Option (List FailLine)). plan ≡ Some []) (plan_of d) (map plan_of drives) sound) in
-    let all = sum_by-cons faults_of d drives in
-    omega (arith, here, rest, all)
+no_faults : (drives : List DriveState) (v : ℕ) → NeverFail (map plan_of drives) → get_or (map faults_of drives) v 0 ≡ 0
+no_faults [] v sound = refl
+no_faults (d ∷ drives) zero sound = no_fault d (All-head (λ (plan : Option (List FailLine)). plan ≡ Some []) (plan_of d) (map plan_of drives) sound)
+no_faults (d ∷ drives) (suc v) sound = no_faults drives v (All-tail (λ (plan : Option (List FailLine)). plan ≡ Some []) (plan_of d) (map plan_of drives) sound)
 
--- so the count of faults doesn't rise
-pub never_rose : (old mid new : List DriveState) → mid ≡ old → NeverFail (map plan_of old) → map plan_of new ≡ map plan_of mid → Rose (sum_by faults_of mid) (sum_by faults_of new) → ⊥
-never_rose old mid new same sound plans rose =
-    let before : sum_by faults_of mid ≡ 0 = ap (sum_by faults_of) same ∙ no_faults old sound in
-    let after : sum_by faults_of new ≡ 0 = no_faults new (rw (plans, same) sound) in
+-- so the count of faults of none of them rises
+pub never_rose : (old mid new : List DriveState) (v : ℕ) → mid ≡ old → NeverFail (map plan_of old) → map plan_of new ≡ map plan_of mid
+    → Rose (faults_at faults_of mid v) (faults_at faults_of new v) → ⊥
+never_rose old mid new v same sound plans rose =
+    let before : faults_at faults_of mid v ≡ 0 = ap (λ (drives : List DriveState). faults_at faults_of drives v) same ∙ no_faults old v sound in
+    let after : faults_at faults_of new v ≡ 0 = no_faults new v (rw (plans, same) sound) in
     omega (arith, before, after, rose)

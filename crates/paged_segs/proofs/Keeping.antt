@@ -1,74 +1,83 @@
 -- What is true of the segments stays true.
-use Rattle.std.proofs.Common.{◌≡◌, ◌≢◌, ℕ, ◌+◌, ◌<◌, ◌≤◌, false, List, [], length, Option, Some, None, refl, sym, ap, ◌∙◌, arith, inl, inr, get_or, set, ◌⊎◌, subst}
+use Rattle.std.proofs.Common.{◌≡◌, ◌≢◌, ℕ, ◌+◌, ◌-◌, ◌<◌, ◌≤◌, Bool, false, List, [], length, Option, Some, None, refl, sym, ap, ◌∙◌, arith, inl, inr, get_or, set, ◌⊎◌, subst, map, sum, sum_by, count_by, is_some}
 use Rattle.std.proofs.lemmas.Bool.{cases_eq}
-use Rattle.std.proofs.lemmas.Bool.Decides.{eqb_tells, leb_tells}
+use Rattle.std.proofs.lemmas.Bool.Decides.{leb_tells}
 use Rattle.std.proofs.lemmas.List.{get_or-set_same, get_or-set_other, length-set, set_past}
+use Rattle.std.proofs.lemmas.List.Sums.{sum-map}
+use Rattle.std.proofs.Math.ListN.{get_or-map}
 use Rattle.core_map.specs.declared.Frame.{Frame}
-use Rattle.core_map.specs.declared.Frame.TheVariants.{Free}
-use Rattle.core_map.specs.CoreMap.{frame_at, with_frame, is_started, bound_page}
-use Rattle.mword.specs.Words.{AreZero}
+use Rattle.core_map.specs.declared.Frame.TheVariants.{Free, Started, Bound}
+use Rattle.core_map.specs.CoreMap.{reads_of, Core, frame_at, with_frame, is_started, bound_page, started_page}
 use Rattle.page_table.specs.declared.Ptw.{Ptw}
-use Rattle.page_table.specs.declared.Ptw.TheVariants.{Null, Out, Leaving}
+use Rattle.page_table.specs.declared.Ptw.TheVariants.{Null, Leaving}
 use Rattle.page_table.specs.PageTable.{ptw_at}
+use Rattle.vtoc.specs.Vtoc.{Entry}
+use Rattle.volumes.specs.CoreDrive.{DriveState}
+use Rattle.volumes.specs.Volumes.{Vols}
 use Rattle.volumes.specs.declared.drive.FailLine.{FailLine}
-use Rattle.page_control.specs.Plain.{Plain, bindings}
-use Rattle.page_control.specs.Picture.{picture, AreClean}
-use Rattle.page_control.specs.Counts.{KeepsCounts}
-use Rattle.page_control.specs.Tied.{map_at, IsTableOf, IsMapOf, IsTied, KeepsOthers}
-use Rattle.page_control.proofs.Laws.{binding_is, out_within, used_sum, places_sum, size_at, entries_at}
-use Rattle.paged_segs.specs.Segs.{Segs, home_at, table_at, word_at, root_home}
+use Rattle.page_control.specs.Plain.{Plain, Paging, plain, bindings, binding_at}
+use Rattle.page_control.specs.declared.Home.{Home}
+use Rattle.page_control.specs.Counts.{used, KeepsCounts}
+use Rattle.page_control.specs.Tied.{flags_in, uid_at}
+use Rattle.page_control.specs.Ties.{IsTied, KeepsOthers, KeepsTies}
+use Rattle.paged_segs.specs.Segs.{Segs, segs_of, home_at, table_at, word_at, root_home, pages_of}
 use Rattle.paged_segs.specs.Effects.{HasSizes}
 use Rattle.paged_segs.specs.Kept.{IsKept}
-use Rattle.paged_segs.proofs.Located.{homes_within, one_home}
+use Rattle.paged_segs.proofs.Located.{place_within, binding_is}
 
 -- an element of a list that was set is the new one, or as before
 set_or_same : {X : Type 0} (xs : List X) (p : ℕ) (x d : X) (q : ℕ) → ((q ≡ p) × (get_or (set xs p x) q d ≡ x)) ⊎ (get_or (set xs p x) q d ≡ get_or xs q d)
 set_or_same xs p x d q = elim (leb_tells (length xs) p) [
   | inl past ↦ inr (ap (λ (ys : List _). get_or ys q d) (set_past xs p x past.1))
   | inr lt ↦ elim (cases_eq q p) [
-    | inl same ↦ inl (same, ap (get_or (set xs p x) q) refl ∙ ap (λ (n : ℕ). get_or (set xs p x) n d) same ∙ get_or-set_same xs p x d lt.1)
+    | inl same ↦ inl (same, ap (λ (n : ℕ). get_or (set xs p x) n d) same ∙ get_or-set_same xs p x d lt.1)
     | inr n ↦ inr (get_or-set_other xs p q x d n)
   ]
 ]
+
+-- a count for each volume is told by the list of all
+pub by_list : {X : Type 0} (f : List X → ℕ) (xs ys : List (List X)) → map f xs ≡ map f ys → (v : ℕ) → f (get_or xs v []) ≡ f (get_or ys v [])
+by_list f xs ys same v = sym (get_or-map f xs v []) ∙ ap (λ (counts : List ℕ). get_or counts v (f [])) same ∙ get_or-map f ys v []
+
+pub by_sum : {X : Type 0} (f : List X → ℕ) (xs ys : List (List X)) → map f xs ≡ map f ys → sum_by f xs ≡ sum_by f ys
+by_sum f xs ys same = sym (sum-map f xs) ∙ ap sum same ∙ sum-map f ys
 
 -- counts that a call keeps
 pub sizes : (old new : Plain) → KeepsCounts old new → HasSizes old new
 sizes old new k = record {
   volumes = k.volumes;
-  records = λ i. λ v. size_at old new k v i;
-  places = λ i. λ v. entries_at old new k v i;
+  records = λ i. λ v. by_list (length {A = Bool}) new.records old.records k.flags v i;
+  places = λ i. λ v. by_list (length {A = Option Entry}) new.vtocs old.vtocs k.places v i;
   frames = k.frames;
 }
+
+pub used_same : (old new : Plain) → KeepsCounts old new → used new.vtocs ≡ used old.vtocs
+used_same old new k = λ i. λ v. by_list (count_by is_some) new.vtocs old.vtocs k.used v i
 
 -- a call for page p of segment i, whose word and frame have changed
 pub kept_call : (s : Segs) (now : Plain) (plans : List (Option (List FailLine))) (i p f : ℕ) (w : Ptw) (frame : Frame) (t : List Ptw)
     → IsKept s → i < length s.homes → plans ≡ s.plans → t ≡ set (table_at s.tables i) p w → ((g : ℕ) → w ≢ Leaving g)
     → now.core ≡ with_frame s.storage.core f frame → is_started frame ≡ false → ((uid q : ℕ) → bound_page frame ≡ Some (uid, q) → uid ≡ i + 2)
-    → IsTied now (i + 2) (home_at s.homes i) t → AreClean now
-    → KeepsOthers s.storage now (i + 2) (home_at s.homes i) → KeepsCounts s.storage now
-    → ((r : ℕ) → w ≡ Out r → AreZero (picture now (i + 2) p) → ⊥) → ((j q : ℕ) → (j ≡ i → q ≡ p → ⊥) → picture now (j + 2) q ≡ picture s.storage (j + 2) q)
+    → IsTied now (i + 2) (home_at s.homes i) t → KeepsOthers s.storage now (i + 2) (home_at s.homes i) → KeepsCounts s.storage now
     → IsKept (record { storage = now; plans = plans; tables = set s.tables i t; homes = s.homes })
-kept_call s now plans i p f w frame t k il same ts stays core idle own tie clean others counts zeros pictures =
-    let inside : i < length s.tables = (let more = homes_within s k in omega (arith, il, more)) in
+kept_call s now plans i p f w frame t k il same ts stays core idle own tie others counts =
+    let inside : i < length s.tables = place_within s i k il in
     let here : table_at (set s.tables i t) i ≡ t = get_or-set_same s.tables i t [] inside in
     let there : (j : ℕ) → j ≢ i → table_at (set s.tables i t) j ≡ table_at s.tables j = λ j n. get_or-set_other s.tables i j t [] n in
-    let other_home : (j : ℕ) → j < length s.homes → j ≢ i → home_at s.homes j ≢ home_at s.homes i =
-    λ j lt n e. (let one = one_home s.storage.vtocs (j + 2) (i + 2) (home_at s.homes j) (home_at s.homes i) (k.homes j lt) (k.homes i il) e in n (omega (arith, one))) in
-    let root_other : root_home ≢ home_at s.homes i =
-    λ e. (let one = one_home s.storage.vtocs 1 (i + 2) root_home (home_at s.homes i) k.root (k.homes i il) e in omega (arith, one)) in
     let words : (q : ℕ) → ((q ≡ p) × (ptw_at (table_at (set s.tables i t) i) q ≡ w)) ⊎ (ptw_at (table_at (set s.tables i t) i) q ≡ word_at s i q) =
     λ q. rw (here, ts) (set_or_same (table_at s.tables i) p w Null q) in
     let frames : (g : ℕ) → ((g ≡ f) × (frame_at now.core g ≡ frame)) ⊎ (frame_at now.core g ≡ frame_at s.storage.core g) =
     λ g. rw core (set_or_same s.storage.core.frames f frame Free g) in
     record {
       sound = rw same k.sound;
-      root = others.homes 1 root_home k.root;
-      homes = λ j lt. others.homes (j + 2) (home_at s.homes j) (k.homes j lt);
-      volumes = λ j lt. rw counts.volumes (k.volumes j lt);
+      root = others.ties 1 root_home [] (λ e. omega (arith, e)) k.root;
+      tied = λ j lt. elim (cases_eq j i) [
+        | inl e ↦ rw (e, here) tie
+        | inr n ↦ rw (there j n) (others.ties (j + 2) (home_at s.homes j) (table_at s.tables j) (λ e. n (omega (arith, e))) (k.tied j lt))
+      ];
       owners = λ home uid at. k.owners home uid (sym (others.uids home) ∙ at);
-      rootless = λ q. ap (λ (places : List (Option ℕ)). get_or places q None) (others.maps root_home root_other) ∙ k.rootless q;
-      used = used_sum s.storage now counts ∙ k.used;
-      places = length-set s.tables i t ∙ k.places ∙ sym (places_sum s.storage now counts);
+      used = by_sum (count_by is_some) now.vtocs s.storage.vtocs counts.used ∙ k.used;
+      places = length-set s.tables i t ∙ k.places ∙ sym (by_sum (length {A = Option Entry}) now.vtocs s.storage.vtocs counts.places);
       few = (let count = length-set s.tables i t in let few = k.few in omega (arith, count, few));
       lengths = λ j lt. (let count = length-set s.tables i t in
           let jl : j < length s.tables = omega (arith, count, lt) in
@@ -76,14 +85,6 @@ kept_call s now plans i p f w frame t k il same ts stays core idle own tie clean
             | inl e ↦ ap (λ (n : ℕ). length (table_at (set s.tables i t) n)) e ∙ ap length here ∙ ap length ts ∙ length-set (table_at s.tables i) p w ∙ k.lengths i inside
             | inr n ↦ ap length (there j n) ∙ k.lengths j jl
           ]);
-      tables = λ j lt. elim (cases_eq j i) [
-        | inl e ↦ rw (e, here) tie.table
-        | inr n ↦ rw (there j n) (others.tables (j + 2) (table_at s.tables j) (λ e. n (omega (arith, e))) (k.tables j lt))
-      ];
-      maps = λ j lt. elim (cases_eq j i) [
-        | inl e ↦ rw (e, here) tie.map
-        | inr n ↦ rw (there j n, others.maps (home_at s.homes j) (other_home j lt n)) (k.maps j lt)
-      ];
       stay = λ j q g is. elim (cases_eq j i) [
         | inl e ↦ elim (words q) [
           | inl new ↦ stays g (sym new.1 ∙ ap (λ (n : ℕ). ptw_at (table_at (set s.tables i t) n) q) (sym e) ∙ is)
@@ -92,24 +93,6 @@ kept_call s now plans i p f w frame t k il same ts stays core idle own tie clean
         | inr n ↦ k.stay j q g (sym (ap (λ (those : List Ptw). ptw_at those q) (there j n)) ∙ is)
       ];
       blank = λ j q past. ap (λ (those : List Ptw). ptw_at those q) (there j (λ e. omega (arith, e, past, il))) ∙ k.blank j q past;
-      zeros = λ j q r lt is all. elim (cases_eq j i) [
-        | inl e ↦ elim (words q) [
-          | inl new ↦ zeros r (sym new.1 ∙ ap (λ (n : ℕ). ptw_at (table_at (set s.tables i t) n) q) (sym e) ∙ is)
-              (subst (λ (n : ℕ). AreZero (picture now (i + 2) n)) new.0 (subst (λ (n : ℕ). AreZero (picture now (n + 2) q)) e all))
-          | inr old ↦ elim (cases_eq q p) [
-            | inl also ↦ elim (leb_tells (length (table_at s.tables i)) p) [
-              | inl past ↦ k.zeros i q r il (sym old ∙ ap (λ (n : ℕ). ptw_at (table_at (set s.tables i t) n) q) (sym e) ∙ is)
-                  (absurd (out_past (table_at s.tables i) q p r also past.1 (sym old ∙ ap (λ (n : ℕ). ptw_at (table_at (set s.tables i t) n) q) (sym e) ∙ is)))
-              | inr within ↦ zeros r (sym (ap (λ (those : List Ptw). ptw_at those p) (here ∙ ts) ∙ get_or-set_same (table_at s.tables i) p w Null within.1)
-                  ∙ ap (ptw_at (table_at (set s.tables i t) i)) (sym also) ∙ ap (λ (n : ℕ). ptw_at (table_at (set s.tables i t) n) q) (sym e) ∙ is)
-                  (subst (λ (n : ℕ). AreZero (picture now (i + 2) n)) also (subst (λ (n : ℕ). AreZero (picture now (n + 2) q)) e all))
-            ]
-            | inr n ↦ k.zeros i q r il (sym old ∙ ap (λ (m : ℕ). ptw_at (table_at (set s.tables i t) m) q) (sym e) ∙ is)
-                (subst AreZero (pictures i q (λ a b. n b)) (subst (λ (m : ℕ). AreZero (picture now (m + 2) q)) e all))
-          ]
-        ]
-        | inr n ↦ k.zeros j q r lt (sym (ap (λ (those : List Ptw). ptw_at those q) (there j n)) ∙ is) (subst AreZero (pictures j q (λ a b. n a)) all)
-      ];
       started = λ g. elim (frames g) [
         | inl new ↦ ap is_started new.1 ∙ idle
         | inr old ↦ ap is_started old ∙ k.started g
@@ -118,10 +101,33 @@ kept_call s now plans i p f w frame t k il same ts stays core idle own tie clean
         | inl new ↦ (let mine : uid ≡ i + 2 = own uid q (sym (ap bound_page new.1) ∙ sym (binding_is now.core g) ∙ at) in (omega (arith, mine), omega (arith, mine, il)))
         | inr old ↦ k.bound g uid q (binding_is s.storage.core g ∙ sym (ap bound_page old) ∙ sym (binding_is now.core g) ∙ at)
       ];
-      filed = tie.records;
-      short = λ v. (let count = size_at s.storage now counts v in let few = k.short v in omega (arith, count, few));
-      clean = clean;
+      short = λ v. (let count = by_list (length {A = Bool}) now.records s.storage.records counts.flags v in let few = k.short v in omega (arith, count, few));
     }
-  where
-    out_past : (those : List Ptw) (q p r : ℕ) → q ≡ p → length those ≤ p → ptw_at those q ≡ Out r → ⊥
-    out_past those q p r same past is = (let lt = out_within those q r is in omega (arith, same, past, lt))
+
+-- no page is being read where none was, and frames are started as before
+is_started_page : (frame : Frame) → is_some (started_page frame) ≡ is_started frame
+is_started_page Free = refl
+is_started_page (Started u q) = refl
+is_started_page (Bound u q used modified) = refl
+
+pub started_is : (core : Core) (g : ℕ) → is_some (get_or (reads_of core) g None) ≡ is_started (frame_at core g)
+started_is core g = ap is_some (get_or-map started_page core.frames g Free) ∙ is_started_page (frame_at core g)
+
+-- nothing changes but marks and words in frames
+pub kept_marks : (old new : Paging DriveState) (tables : List (List Ptw)) (homes : List Home) → IsKept (segs_of old tables homes) → new.volumes ≡ old.volumes
+    → bindings new.core ≡ bindings old.core → reads_of new.core ≡ reads_of old.core → KeepsTies (plain pages_of old) (plain pages_of new) → IsKept (segs_of new tables homes)
+kept_marks old new tables homes k volumes bound idle ties = record {
+  sound = rw volumes k.sound;
+  root = ties.ties 1 root_home [] k.root;
+  tied = λ j lt. ties.ties (j + 2) (home_at homes j) (table_at tables j) (k.tied j lt);
+  owners = λ home uid at. k.owners home uid (sym (ap (λ (v : Vols DriveState). uid_at v.vtocs home) volumes) ∙ at);
+  used = rw volumes k.used;
+  places = rw volumes k.places;
+  few = k.few;
+  lengths = k.lengths;
+  stay = k.stay;
+  blank = k.blank;
+  started = λ g. sym (started_is new.core g) ∙ ap (λ (those : List (Option (ℕ × ℕ))). is_some (get_or those g None)) idle ∙ started_is old.core g ∙ k.started g;
+  bound = λ g uid q at. k.bound g uid q (sym (ap (λ (those : List (Option (ℕ × ℕ))). binding_at those g) bound) ∙ at);
+  short = λ v. rw volumes (k.short v);
+}

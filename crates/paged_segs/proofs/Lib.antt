@@ -1,11 +1,12 @@
 pub mod Faults
-pub mod Moving
 pub mod Located
+pub mod Showing
+pub mod Seeing
 pub mod Keeping
+pub mod Moving
 pub mod Emptying
-pub mod Marking
 pub mod Paging
-pub mod Ending
+pub mod Marking
 pub mod Making
 pub mod Beginning
-pub mod Callers
+pub mod Ending

@@ -1,20 +1,23 @@
 -- What is known of a segment, and of the page in a bound frame.
-use Rattle.std.proofs.Common.{◌≡◌, ◌≢◌, ℕ, ◌+◌, ◌-◌, ◌<◌, ◌≤◌, true, false, List, [], ◌∷◌, length, sum_by, count_by, get_or, replicate, is_some, Option, Some, None, refl, sym, ap, ◌∙◌, arith, subst}
+use Rattle.std.proofs.Common.{◌≡◌, ◌≢◌, ℕ, zero, suc, ◌+◌, ◌-◌, ◌^◌, ◌<◌, ◌≤◌, Bool, true, false, cond, eqb, ◌⊎◌, List, [], ◌∷◌, length, sum_by, count_by, get_or, is_some, Option, Some, None, refl, sym, ap, ◌∙◌, arith, inl, inr, subst}
+use Rattle.std.proofs.lemmas.Bool.Decides.{leb_tells}
+use Rattle.std.proofs.lemmas.Bool.{le-leb}
 use Rattle.std.proofs.lemmas.Option.{same_Some}
-use Rattle.std.proofs.lemmas.List.{get_or_default}
+use Rattle.std.proofs.lemmas.List.{get_or_default, get_or_past}
 use Rattle.std.proofs.lemmas.List.Sums.{sum_by-cons, count_by-le-length}
+use Rattle.std.proofs.Math.ListN.{get_or-map}
 use Rattle.core_map.specs.CoreMap.{Core, frame_at, is_bound, bound_page}
 use Rattle.core_map.specs.declared.Frame.{Frame}
+use Rattle.core_map.specs.declared.Frame.TheVariants.{Free, Started, Bound}
 use Rattle.page_table.specs.declared.Ptw.{Ptw}
 use Rattle.page_table.specs.declared.Ptw.TheVariants.{Null, Out, Here, Leaving}
 use Rattle.page_table.specs.PageTable.{ptw_at}
 use Rattle.vtoc.specs.Vtoc.{Entry}
 use Rattle.page_control.specs.declared.Home.{Home}
-use Rattle.page_control.specs.Plain.{bindings, binding_at, number_in, words_in, disk_of, filed}
-use Rattle.page_control.specs.Picture.{picture, is_stored, words_filed}
-use Rattle.page_control.specs.Tied.{frame_of, has_record, uid_in, uid_at, IsTableOf, IsHomeOf, IsTied}
-use Rattle.page_control.proofs.Laws.{binding_is, bound_to, bound_frame, here_within, stored_shown, record_shown, words_shown}
-use Rattle.paged_segs.specs.Segs.{Segs, home_at, table_at, word_at}
+use Rattle.page_control.specs.Plain.{Plain, bindings, binding_at, number_in}
+use Rattle.page_control.specs.Tied.{frame_of, uid_in, uid_at, is_out}
+use Rattle.page_control.specs.Ties.{IsTied}
+use Rattle.paged_segs.specs.Segs.{Segs, home_at, home_of, segment_home, table_at, word_at, root_home}
 use Rattle.paged_segs.specs.Kept.{IsKept}
 
 -- there are as many used entries as entries at most
@@ -35,30 +38,113 @@ homes_within s k =
     let places = k.places in
     omega (arith, most, count, places)
 
--- two homes that are one are of one segment
-pub one_home : (vtocs : List (List (Option Entry))) (a b : ℕ) (g h : Home) → IsHomeOf vtocs a g → IsHomeOf vtocs b h → g ≡ h → a ≡ b
-one_home vtocs a b g h is its same = same_Some a b (sym is.used ∙ ap (uid_at vtocs) same ∙ its.used)
+pub place_within : (s : Segs) (i : ℕ) → IsKept s → i < length s.homes → i < length s.tables
+place_within s i k il = (let more = homes_within s k in omega (arith, il, more))
+
+pub uid_fits : (s : Segs) (i : ℕ) → IsKept s → i < length s.homes → i + 2 < 2 ^ 32
+uid_fits s i k il = (let more = homes_within s k in let few = k.few in omega (arith, il, more, few))
+
+-- the table that the steps of a call find
+pub table_read : (s : Segs) (i : ℕ) (table : List Ptw) → IsKept s → i < length s.homes → table ≡ get_or s.tables i table → table ≡ table_at s.tables i
+table_read s i table k il is = is ∙ get_or_default s.tables i table [] (place_within s i k il)
+
+pub table_long : (s : Segs) (i : ℕ) (table : List Ptw) → IsKept s → i < length s.homes → table ≡ get_or s.tables i table → length table ≡ 256
+table_long s i table k il is = ap length (table_read s i table k il is) ∙ k.lengths i (place_within s i k il)
+
+-- the tie of a segment, of whose table the steps of a call found the words
+pub tie_found : (s : Segs) (i : ℕ) (home : Home) (table : List Ptw) → IsKept s → i < length s.homes → home ≡ home_at s.homes i → table ≡ get_or s.tables i table
+    → IsTied s.storage (i + 2) home table
+tie_found s i home table k il at is = rw (at, table_read s i table k il is) (k.tied i il)
+
+-- the home of a uid: of none, of the root, and of a segment
+pub which : (uid : ℕ) → (uid ≡ 0) ⊎ ((uid ≡ 1) ⊎ ((i : ℕ) × (uid ≡ i + 2)))
+which zero = inl refl
+which (suc zero) = inr (inl refl)
+which (suc (suc i)) = inr (inr (i, omega arith))
+
+home_of_zero : (homes : List Home) → home_of homes 0 ≡ None
+unfolding home_of
+home_of_zero homes = refl
+
+home_of_one : (homes : List Home) → home_of homes 1 ≡ Some root_home
+unfolding home_of
+home_of_one homes = refl
+
+home_of_segment : (homes : List Home) (i : ℕ) → home_of homes (i + 2) ≡ segment_home homes i
+unfolding home_of
+home_of_segment homes i =
+    let back : (i + 2) - 2 ≡ i = omega arith in
+    ap (λ (b : Bool). cond b (segment_home homes ((i + 2) - 2)) (cond (eqb (i + 2) 1) (Some root_home) None)) (le-leb 2 (i + 2) (omega arith)) ∙ ap (segment_home homes) back
+
+pub none_at : (homes : List Home) (uid : ℕ) → uid ≡ 0 → home_of homes uid ≡ None
+none_at homes uid is = ap (home_of homes) is ∙ home_of_zero homes
+
+pub root_at : (homes : List Home) (uid : ℕ) → uid ≡ 1 → home_of homes uid ≡ Some root_home
+root_at homes uid is = ap (home_of homes) is ∙ home_of_one homes
+
+pub segment_at : (homes : List Home) (uid i : ℕ) → uid ≡ i + 2 → home_of homes uid ≡ segment_home homes i
+segment_at homes uid i is = ap (home_of homes) is ∙ home_of_segment homes i
+
+-- that of a segment that is there, and of one that isn't
+pub segment_is : (homes : List Home) (i : ℕ) → i < length homes → segment_home homes i ≡ Some (home_at homes i)
+segment_is homes i il = elim (leb_tells (suc i) (length homes)) [
+  | inl lt ↦ ap (λ (b : Bool). cond b (Some (home_at homes i)) None) lt.0
+  | inr past ↦ absurd (let over = past.1 in omega (arith, il, over))
+]
+
+pub home_is : (homes : List Home) (i : ℕ) → i < length homes → home_of homes (i + 2) ≡ Some (home_at homes i)
+home_is homes i il = home_of_segment homes i ∙ segment_is homes i il
+
+pub home_past : (homes : List Home) (i : ℕ) → length homes ≤ i → segment_home homes i ≡ None
+home_past homes i past = elim (leb_tells (suc i) (length homes)) [
+  | inl lt ↦ absurd (let under = lt.1 in omega (arith, under, past))
+  | inr n ↦ ap (λ (b : Bool). cond b (Some (home_at homes i)) None) n.0
+]
+
+pub same_home : (a b : Home) → ◌≡◌ {A = Option Home} (Some a) (Some b) → a ≡ b
+same_home a b e = cc
+
+pub segment_found : (homes : List Home) (i : ℕ) (home : Home) → segment_home homes i ≡ Some home → (i < length homes) × (home_at homes i ≡ home)
+segment_found homes i home is = elim (leb_tells (suc i) (length homes)) [
+  | inl lt ↦ (lt.1, same_home (home_at homes i) home (sym (ap (λ (b : Bool). cond b (Some (home_at homes i)) None) lt.0) ∙ is))
+  | inr past ↦ absurd (none_some home (sym (ap (λ (b : Bool). cond b (Some (home_at homes i)) None) past.0) ∙ is))
+]
+  where
+    none_some : (a : Home) → ◌≡◌ {A = Option Home} None (Some a) → ⊥
+    none_some a e = cc
+
+not_none : {A : Type 0} (x : Option A) (a : A) → x ≡ None → x ≡ Some a → ⊥
+not_none x a h i = cc
+
+-- a home that there is is used, by the root or by a segment that is there
+pub home_used : (s : Segs) (uid : ℕ) (home : Home) → IsKept s → home_of s.homes uid ≡ Some home → uid_at s.storage.vtocs home ≡ Some uid
+home_used s uid home k is = by (which uid)
+  where
+    by : (uid ≡ 0) ⊎ ((uid ≡ 1) ⊎ ((i : ℕ) × (uid ≡ i + 2))) → uid_at s.storage.vtocs home ≡ Some uid
+    by (inl nobody) = absurd (not_none (home_of s.homes uid) home (none_at s.homes uid nobody) is)
+    by (inr (inl one)) =
+        ap (uid_at s.storage.vtocs) (sym (same_home root_home home (sym (root_at s.homes uid one) ∙ is))) ∙ k.root.used ∙ ap Some (sym one)
+    by (inr (inr (i, at))) =
+        let found = segment_found s.homes i home (sym (segment_at s.homes uid i at) ∙ is) in
+        ap (uid_at s.storage.vtocs) (sym found.1) ∙ (k.tied i found.0).used ∙ ap Some (sym at)
+
+pub home_there : (homes : List Home) (uid : ℕ) (home : Home) → home_of homes uid ≡ Some home → (1 ≤ uid) × (uid < length homes + 2)
+home_there homes uid home is = by (which uid)
+  where
+    by : (uid ≡ 0) ⊎ ((uid ≡ 1) ⊎ ((i : ℕ) × (uid ≡ i + 2))) → (1 ≤ uid) × (uid < length homes + 2)
+    by (inl nobody) = absurd (not_none (home_of homes uid) home (none_at homes uid nobody) is)
+    by (inr (inl one)) = (omega (arith, one), omega (arith, one))
+    by (inr (inr (i, at))) =
+        let found = segment_found homes i home (sym (segment_at homes uid i at) ∙ is) in
+        let lt = found.0 in
+        (omega (arith, at), omega (arith, at, lt))
 
 -- a word that names a frame, and isn't leaving, says that the page is there
-pub here_from : (w : Ptw) (f : ℕ) → frame_of w ≡ Some f → ((g : ℕ) → w ≢ Leaving g) → w ≡ Here f
+here_from : (w : Ptw) (f : ℕ) → frame_of w ≡ Some f → ((g : ℕ) → w ≢ Leaving g) → w ≡ Here f
 here_from Null f is stays = cc
 here_from (Out r) f is stays = cc
 here_from (Here g) f is stays = ap Here (same_Some g f is)
 here_from (Leaving g) f is stays = absurd (stays g refl)
-
--- the tie of a segment
-pub tie_of : (s : Segs) (i : ℕ) → IsKept s → i < length s.homes → IsTied s.storage (i + 2) (home_at s.homes i) (table_at s.tables i)
-tie_of s i k il =
-    let more = homes_within s k in
-    let long = k.lengths i (omega (arith, il, more)) in
-    record {
-      volume = k.volumes i il;
-      pages = omega (arith, long);
-      used = k.homes i il;
-      table = k.tables i il;
-      map = k.maps i il;
-      records = k.filed;
-    }
 
 -- the page in a bound frame is that of a segment
 pub record IsPageOf (s : Segs) (f uid p : ℕ) : Type 0 where
@@ -70,16 +156,33 @@ pub record IsPageOf (s : Segs) (f uid p : ℕ) : Type 0 where
   pub here : word_at s (uid - 2) p ≡ Here f
   pub tie : IsTied s.storage uid (home_at s.homes (uid - 2)) (table_at s.tables (uid - 2))
 
+pub here_within : (table : List Ptw) (p f : ℕ) → ptw_at table p ≡ Here f → p < length table
+here_within table p f here = elim (leb_tells (length table) p) [
+  | inl past ↦ absurd (not_null (ptw_at table p) f (get_or_past table p Null past.1) here)
+  | inr lt ↦ lt.1
+]
+  where
+    not_null : (w : Ptw) (f : ℕ) → w ≡ Null → w ≡ Here f → ⊥
+    not_null w f a b = cc
+
+pub out_within : (table : List Ptw) (p : ℕ) → is_out (ptw_at table p) ≡ true → p < length table
+out_within table p out = elim (leb_tells (length table) p) [
+  | inl past ↦ absurd (not_out (ptw_at table p) (get_or_past table p Null past.1) out)
+  | inr lt ↦ lt.1
+]
+  where
+    not_out : (w : Ptw) → w ≡ Null → is_out w ≡ true → ⊥
+    not_out w null out = (let off : is_out w ≡ false = ap is_out null in cc)
+
 pub page_bound : (s : Segs) (f uid p : ℕ) → IsKept s → binding_at (bindings s.storage.core) f ≡ Some (uid, p) → IsPageOf s f uid p
 page_bound s f uid p k at =
     let some_ : 2 ≤ uid = (k.bound f uid p at).0 in
     let few : uid < length s.homes + 2 = (k.bound f uid p at).1 in
     let back : (uid - 2) + 2 ≡ uid = omega (arith, some_) in
     let segment : uid - 2 < length s.homes = omega (arith, some_, few) in
-    let more = homes_within s k in
-    let place : uid - 2 < length s.tables = omega (arith, segment, more) in
+    let place : uid - 2 < length s.tables = place_within s (uid - 2) k segment in
     let tie : IsTied s.storage uid (home_at s.homes (uid - 2)) (table_at s.tables (uid - 2)) =
-    subst (λ (n : ℕ). IsTied s.storage n (home_at s.homes (uid - 2)) (table_at s.tables (uid - 2))) back (tie_of s (uid - 2) k segment) in
+    subst (λ (n : ℕ). IsTied s.storage n (home_at s.homes (uid - 2)) (table_at s.tables (uid - 2))) back (k.tied (uid - 2) segment) in
     let long : length (table_at s.tables (uid - 2)) ≡ 256 = k.lengths (uid - 2) place in
     let here : word_at s (uid - 2) p ≡ Here f = here_from (word_at s (uid - 2) p) f (tie.table.named f p at) (λ g. k.stay (uid - 2) p g) in
     let within = here_within (table_at s.tables (uid - 2)) p f here in
@@ -93,54 +196,20 @@ page_bound s f uid p k at =
       tie = tie;
     }
 
-pub page_of_frame : (s : Segs) (f : ℕ) → IsKept s → is_bound (frame_at s.storage.core f) ≡ true → IsPageOf s f (uid_in (frame_at s.storage.core f)) (number_in (frame_at s.storage.core f))
+-- what a bound frame is bound to
+pub binding_is : (core : Core) (f : ℕ) → binding_at (bindings core) f ≡ bound_page (frame_at core f)
+binding_is core f = get_or-map bound_page core.frames f Free
+
+pub bound_to : (frame : Frame) → is_bound frame ≡ true → bound_page frame ≡ Some (uid_in frame, number_in frame)
+bound_to Free h = cc
+bound_to (Started u q) h = cc
+bound_to (Bound u q used modified) h = refl
+
+pub page_of_frame : (s : Segs) (f : ℕ) → IsKept s → is_bound (frame_at s.storage.core f) ≡ true
+    → IsPageOf s f (uid_in (frame_at s.storage.core f)) (number_in (frame_at s.storage.core f))
 page_of_frame s f k bound = page_bound s f _ _ k (binding_is s.storage.core f ∙ bound_to (frame_at s.storage.core f) bound)
 
 -- the same in the terms in which a call's steps give it
 pub page_told : (s : Segs) (core : Core) (f : ℕ) (page : ℕ × ℕ) → IsKept s → core ≡ s.storage.core → is_bound (frame_at s.storage.core f) ≡ true
     → page ≡ (uid_in (frame_at core f), number_in (frame_at core f)) → IsPageOf s f page.0 page.1
 page_told s core f page k same bound is = rw (is, same) (page_of_frame s f k bound)
-
--- what a word tells of its page
-pub record IsWordOf (s : Segs) (i page : ℕ) (w : Ptw) : Type 0 where
-  pub word : w ≡ word_at s i page
-  pub stays : (f : ℕ) → w ≢ Leaving f
-  pub stored : is_stored s.storage (i + 2) page ≡ has_record w
-  pub null : w ≡ Null → picture s.storage (i + 2) page ≡ replicate 1024 0
-  pub bound : (f : ℕ) → w ≡ Here f → is_bound (frame_at s.storage.core f) ≡ true
-  pub here : (f : ℕ) → w ≡ Here f → binding_at (bindings s.storage.core) f ≡ Some (i + 2, page)
-  pub uid : (f : ℕ) → w ≡ Here f → uid_in (frame_at s.storage.core f) ≡ i + 2
-  pub number : (f : ℕ) → w ≡ Here f → number_in (frame_at s.storage.core f) ≡ page
-  pub words : (f : ℕ) → w ≡ Here f → picture s.storage (i + 2) page ≡ words_in s.storage f
-
-none_from : (place : Option ℕ) (w : Ptw) → is_some place ≡ has_record w → w ≡ Null → place ≡ None
-none_from None w same null = refl
-none_from (Some r) w same null = (let no : has_record w ≡ false = ap has_record null in cc)
-
-pub word_tells : (s : Segs) (i page : ℕ) (w : Ptw) (table : List Ptw) → IsKept s → i < length s.homes → table ≡ get_or s.tables i table → w ≡ ptw_at table page → IsWordOf s i page w
-word_tells s i page w table k il is at =
-    let more = homes_within s k in
-    let place : i < length s.tables = omega (arith, il, more) in
-    let word : w ≡ word_at s i page = at ∙ ap (λ (those : List Ptw). ptw_at those page) (is ∙ get_or_default s.tables i table [] place) in
-    let its : IsTableOf (bindings s.storage.core) (i + 2) (table_at s.tables i) = k.tables i il in
-    let here : (f : ℕ) → w ≡ Here f → binding_at (bindings s.storage.core) f ≡ Some (i + 2, page) = λ f that. its.back f page (ap frame_of (sym word ∙ that)) in
-    record {
-      word = word;
-      stays = λ f that. k.stay i page f (sym word ∙ that);
-      stored = stored_shown s.storage (i + 2) page (home_at s.homes i) (table_at s.tables i) (k.homes i il) (k.maps i il) ∙ sym (ap has_record word);
-      null = λ that. record_shown s.storage (i + 2) page (home_at s.homes i) (table_at s.tables i) (k.homes i il) its (ap frame_of (sym word ∙ that))
-          ∙ ap (words_filed (disk_of s.storage (home_at s.homes i).volume))
-          (none_from (filed s.storage (home_at s.homes i) page) w ((k.maps i il).stored page ∙ sym (ap has_record word)) that);
-      bound = λ f that. (bound_frame s.storage.core f (i + 2) page (here f that)).bound;
-      here = here;
-      uid = λ f that. (bound_frame s.storage.core f (i + 2) page (here f that)).segment;
-      number = λ f that. (bound_frame s.storage.core f (i + 2) page (here f that)).page;
-      words = λ f that. words_shown s.storage (i + 2) page f (table_at s.tables i) its (ap frame_of (sym word ∙ that));
-    }
-
--- a table that was read has 256 words
-pub word_within : (s : Segs) (i : ℕ) (table : List Ptw) → IsKept s → i < length s.homes → table ≡ get_or s.tables i table → length table ≡ 256
-word_within s i table k il is =
-    let more = homes_within s k in
-    let place : i < length s.tables = omega (arith, il, more) in
-    ap length (is ∙ get_or_default s.tables i table [] place) ∙ k.lengths i place

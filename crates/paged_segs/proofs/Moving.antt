@@ -1,9 +1,11 @@
 -- What becomes of frames and words in a move of two calls.
-use Rattle.std.proofs.Common.{◌≡◌, ℕ, ◌≤◌, false, List, length, Option, Some, refl, sym, ap, ◌∙◌, arith, set, map, is_some, count_by, subst}
+use Rattle.std.proofs.Common.{◌≡◌, ◌↔◌, ℕ, false, List, length, Option, Some, refl, sym, ap, ◌∙◌, set, map, is_some, count_by, subst}
+use Rattle.std.specs.Prelude.{Result, Ok, Err}
 use Rattle.std.proofs.lemmas.List.{get_or-set_same, set-set, length-set}
 use Rattle.core_map.specs.declared.Frame.{Frame}
 use Rattle.core_map.specs.declared.Frame.TheVariants.{Started, Bound}
-use Rattle.core_map.specs.CoreMap.{frame_at, is_modified}
+use Rattle.core_map.specs.CoreMap.{frame_at}
+use Rattle.mword.specs.Words.{AreZero}
 use Rattle.page_table.specs.declared.Ptw.{Ptw}
 use Rattle.page_table.specs.declared.Ptw.TheVariants.{Null, Here, Leaving}
 use Rattle.page_table.specs.PageTable.{ptw_at}
@@ -11,43 +13,32 @@ use Rattle.vtoc.specs.Vtoc.{Entry}
 use Rattle.volumes.specs.CoreDrive.{DriveState}
 use Rattle.page_control.specs.declared.Home.{Home}
 use Rattle.page_control.specs.declared.Left.{Left}
-use Rattle.page_control.specs.Plain.{Plain, Paging, plain, bindings, words_in, words_on, record_of, number_in}
+use Rattle.page_control.specs.declared.Left.TheVariants.{Released}
+use Rattle.page_control.specs.Plain.{Plain, Paging, plain, bindings, words_on, record_of, number_in}
 use Rattle.page_control.specs.Counts.{KeepsCounts}
 use Rattle.page_control.specs.Effects.{framed, brought_in, word_of_left}
-use Rattle.page_control.specs.Picture.{AreClean}
-use Rattle.page_control.specs.Tied.{uid_in, uid_at, map_at, IsTableOf, IsMapOf, IsTied, KeepsOthers}
-use Rattle.page_control.proofs.Laws.{clean_at, here_within}
+use Rattle.page_control.specs.Picture.{words_at, AreHomes, KeepsWords}
+use Rattle.page_control.specs.Tied.{uid_in, uid_at, map_at}
+use Rattle.page_control.specs.Ties.{IsTied, KeepsOthers, KeepsTies}
 use Rattle.paged_segs.specs.Segs.{pages_of}
 use Rattle.paged_segs.specs.Moves.{IsPutOut}
+use Rattle.paged_segs.proofs.Located.{here_within}
 
--- the tie of a segment, once the word of its page is leaving
-pub tie_taken : (old now : Paging DriveState) (f : ℕ) (home : Home) (t u : List Ptw) → now ≡ old → IsTied (plain pages_of old) (uid_in (frame_at old.core f)) home t
-    → IsTableOf (bindings now.core) (uid_in (frame_at old.core f)) u → ((places : List (Option ℕ)) → IsMapOf places t → IsMapOf places u)
-    → u ≡ set t (number_in (frame_at old.core f)) (Leaving f) → IsTied (plain pages_of now) (uid_in (frame_at now.core f)) home u
-tie_taken old now f home t u same tie table maps us =
-    let own : IsTableOf (bindings old.core) (uid_in (frame_at old.core f)) u = subst (λ (s : Paging DriveState). IsTableOf (bindings s.core) (uid_in (frame_at old.core f)) u) same table in
-    let pages = tie.pages in
-    let long = ap length us ∙ length-set t (number_in (frame_at old.core f)) (Leaving f) in
-    rw same (record {
-      volume = tie.volume;
-      pages = omega (arith, pages, long);
-      used = tie.used;
-      table = own;
-      map = maps _ tie.map;
-      records = tie.records;
-    })
-
+-- the word of the page, once it is leaving, and the tie of its segment
 pub word_leaving : (old now : Paging DriveState) (f : ℕ) (t u : List Ptw) → now ≡ old → u ≡ set t (number_in (frame_at old.core f)) (Leaving f)
     → ptw_at t (number_in (frame_at old.core f)) ≡ Here f → ptw_at u (number_in (frame_at now.core f)) ≡ Leaving f
 word_leaving old now f t u same us here =
     rw (same, us) (get_or-set_same t (number_in (frame_at old.core f)) (Leaving f) Null (here_within t (number_in (frame_at old.core f)) f here))
 
--- so the frame may be emptied
-pub clean_taken : (old now : Paging DriveState) (f : ℕ) (home : Home) (u : List Ptw) → now ≡ old → AreClean (plain pages_of old) → IsTied (plain pages_of now) (uid_in (frame_at now.core f)) home u
-    → ptw_at u (number_in (frame_at now.core f)) ≡ Leaving f → is_modified (frame_at now.core f) ≡ false
-    → words_in (plain pages_of now) f ≡ words_on (plain pages_of now) home.volume (record_of (plain pages_of now) home (number_in (frame_at now.core f)))
-clean_taken old now f home u same clean tie leaving off =
-    clean_at (plain pages_of now) (uid_in (frame_at now.core f)) (number_in (frame_at now.core f)) f home u (rw same clean) tie leaving off
+pub tie_moved : (old now : Paging DriveState) (f : ℕ) (home : Home) (u : List Ptw) → now ≡ old → IsTied (plain pages_of now) (uid_in (frame_at old.core f)) home u
+    → IsTied (plain pages_of now) (uid_in (frame_at now.core f)) home u
+tie_moved old now f home u same tie = subst (λ (s : Paging DriveState). IsTied (plain pages_of now) (uid_in (frame_at s.core f)) home u) (sym same) tie
+
+pub zeros_left : {E : Type 0} (left : Left) (words : List ℕ) → ◌≡◌ {A = Result Left E} (Ok left) (Ok Released) ↔ AreZero words → left ≡ Released ↔ AreZero words
+zeros_left {E = E} left words zeros = (λ same. zeros.0 (ap Ok same), λ all. inside (zeros.1 all))
+  where
+    inside : ◌≡◌ {A = Result Left E} (Ok left) (Ok Released) → left ≡ Released
+    inside e = cc
 
 -- a page whose word was leaving in between has left its frame
 pub put_out : (old mid now : Paging DriveState) (home : Home) (f : ℕ) (t u v : List Ptw) (left : Left) → mid ≡ old → u ≡ set t (number_in (frame_at old.core f)) (Leaving f)
@@ -63,8 +54,7 @@ put_out old mid now home f t u v left same us out =
       word = o.word ∙ ap (λ (those : List Ptw). set those (number_in (frame_at old.core f)) w) us ∙ set-set t (number_in (frame_at old.core f)) (Leaving f) w;
       tie = o.tie;
       others = o.others;
-      clean = o.clean;
-      shown = o.shown;
+      words = o.words;
       stored = o.stored;
       freed = o.freed;
       records = o.records;
@@ -79,12 +69,20 @@ brought_same s mid now uid p v r f started is =
     (set-set s.core.frames f (Started uid p) (Bound uid p false false))
 
 -- what is kept from the frame's start on is kept
-pub others_started : (s mid now : Plain) (uid : ℕ) (home : Home) → bindings mid.core ≡ bindings s.core → mid.vtocs ≡ s.vtocs → KeepsOthers mid now uid home → KeepsOthers s now uid home
-others_started s mid now uid home bound vtocs k = record {
+pub others_started : (s mid now : Plain) (uid : ℕ) (home : Home) → bindings mid.core ≡ bindings s.core → mid.vtocs ≡ s.vtocs → KeepsTies s mid → KeepsOthers mid now uid home
+    → KeepsOthers s now uid home
+others_started s mid now uid home bound vtocs ties k = record {
   uids = λ other. k.uids other ∙ ap (λ (v : List (List (Option Entry))). uid_at v other) vtocs;
-  homes = λ segment other h. k.homes segment other (rw vtocs h);
   maps = λ other n. k.maps other n ∙ ap (λ (v : List (List (Option Entry))). map_at v other) vtocs;
   tables = λ segment table n t. k.tables segment table n (rw bound t);
+  ties = λ segment other table n t. k.ties segment other table n (ties.ties segment other table t);
+}
+
+pub words_started : (s mid now : Plain) (uid : ℕ) (home : Home) → mid.vtocs ≡ s.vtocs → words_at mid ≡ words_at s → KeepsWords mid now uid home → KeepsWords s now uid home
+words_started s mid now uid home vtocs words k = record {
+  words = λ u h q homes.
+      k.words u h q (record { used = ap (λ (v : List (List (Option Entry))). uid_at v h) vtocs ∙ homes.used; own = homes.own })
+      ∙ ap (λ (those : ℕ → Home → ℕ → List ℕ). those u h q) words;
 }
 
 pub counts_started : (s mid now : Plain) (uid p f : ℕ) → mid ≡ framed s f (Started uid p) → KeepsCounts mid now → KeepsCounts s now

@@ -1,5 +1,5 @@
 -- What each call does (Bensoussan, Clingen and Daley 1972).
-use Rattle.std.specs.Prelude.{◌≡◌, ℕ, ◌+◌, ◌-◌, ◌<◌, ◌≤◌, ◌↔◌, [], ◌∷◌, ◌++◌, None, Some, length, map, replicate, slice_set, sum_by}
+use Rattle.std.specs.Prelude.{◌≡◌, ℕ, ◌+◌, ◌-◌, ◌<◌, ◌≤◌, ◌↔◌, true, [], ◌∷◌, ◌++◌, None, Some, length, map, replicate, slice_set, sum_by}
 use Rattle.core_map.specs.declared.Frame.TheVariants.{Free}
 use Rattle.mword.specs.Words.{AreZero}
 use Rattle.page_table.specs.declared.Ptw.TheVariants.{Null, Here}
@@ -9,11 +9,12 @@ use Rattle.volumes.specs.Volumes.{Vols}
 use Rattle.page_control.specs.declared.Left.TheVariants.{Released}
 use Rattle.page_control.specs.Plain.{Plain, bindings, binding_at, number_or_zero, record_of, vtoc_of, flags_of}
 use Rattle.page_control.specs.Effects.{brought_in, created, allocated, word_of_left}
-use Rattle.page_control.specs.Picture.{picture, is_stored, stored_after}
+use Rattle.page_control.specs.Picture.{stored_after}
 use Rattle.page_control.specs.Tied.{vtoc_in}
 use Rattle.record_map.specs.Bitmap.{least_free}
 use Rattle.paged_segs.specs.declared.Evicted.{Evicted}
 use Rattle.paged_segs.specs.Segs.{Segs, home_at, volume_at, word_at, with_word, pages_of, plan_of}
+use Rattle.paged_segs.specs.Shown.{picture, is_stored}
 use Rattle.page_control.specs.Counts.{taken, used, size, entries, taken_after}
 
 -- the entry of volume v that the next segment gets
@@ -62,9 +63,10 @@ pub record IsEmptied (old new : Segs) (gone : Evicted) : Type 0 where
   pub words : new.tables ≡ with_word old.tables (gone.uid - 2) gone.page (word_of_left gone.left (record_of old.storage (home_at old.homes (gone.uid - 2)) gone.page))
   pub homes : new.homes ≡ old.homes
   -- what is stored
-  pub zeros : gone.left ≡ Released ↔ AreZero (picture old.storage gone.uid gone.page)
-  pub shown : picture new.storage ≡ picture old.storage
-  pub stored : is_stored new.storage ≡ stored_after (is_stored old.storage) gone.uid gone.page gone.left
+  pub filed : is_stored old gone.uid gone.page ≡ true
+  pub zeros : gone.left ≡ Released ↔ AreZero (picture old gone.uid gone.page)
+  pub shown : picture new ≡ picture old
+  pub stored : is_stored new ≡ stored_after (is_stored old) gone.uid gone.page gone.left
   -- counts
   pub records : taken new.storage.records ≡ taken_after (taken old.storage.records) (volume_at old (gone.uid - 2)) gone.left
   pub given : gone.left ≡ Released → 0 < taken old.storage.records (volume_at old (gone.uid - 2))

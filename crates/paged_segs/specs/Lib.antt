@@ -5,6 +5,7 @@ pub use Rattle.page_control.specs.Vtoc
 pub use Rattle.page_control.specs.Volumes
 pub use Rattle.page_control.specs.Counts
 pub mod Segs
+pub mod Shown
 pub mod Kept
 pub mod Moves
 pub mod Effects

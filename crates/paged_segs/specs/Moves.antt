@@ -9,8 +9,8 @@ use Rattle.page_control.specs.declared.Left.TheVariants.{Released}
 use Rattle.page_control.specs.Plain.{Plain, bindings, words_in, record_of}
 use Rattle.page_control.specs.Effects.{brought_in, evicted, word_of_left}
 use Rattle.page_control.specs.Counts.{taken, taken_after, KeepsCounts}
-use Rattle.page_control.specs.Picture.{picture, is_stored, stored_after, AreClean}
-use Rattle.page_control.specs.Tied.{IsTied, KeepsOthers}
+use Rattle.page_control.specs.Picture.{is_kept, KeepsWords, ChangesStored}
+use Rattle.page_control.specs.Ties.{IsTied, KeepsOthers}
 
 -- page p of segment uid has left frame f, and its word changed from t to u
 pub record IsPutOut (old now : Plain) (home : Home) (uid p f : ℕ) (t u : List Ptw) (left : Left) : Type 0 where
@@ -19,9 +19,8 @@ pub record IsPutOut (old now : Plain) (home : Home) (uid p f : ℕ) (t u : List 
   pub word : u ≡ slice_set t p (word_of_left left (record_of old home p))
   pub tie : IsTied now uid home u
   pub others : KeepsOthers old now uid home
-  pub clean : AreClean now
-  pub shown : picture now ≡ picture old
-  pub stored : is_stored now ≡ stored_after (is_stored old) uid p left
+  pub words : KeepsWords old now uid home
+  pub stored : ChangesStored old now home p (is_kept left)
   pub freed : bindings now.core ≡ slice_set (bindings old.core) f None
   pub records : taken now.records ≡ taken_after (taken old.records) home.volume left
   pub counts : KeepsCounts old now
@@ -32,8 +31,7 @@ pub record IsReadIn (old now : Plain) (home : Home) (uid p f : ℕ) (t u : List 
   pub word : u ≡ slice_set t p (Here f)
   pub tie : IsTied now uid home u
   pub others : KeepsOthers old now uid home
-  pub clean : AreClean now
-  pub shown : picture now ≡ picture old
-  pub stored : is_stored now ≡ is_stored old
+  pub words : KeepsWords old now uid home
+  pub stored : now.vtocs ≡ old.vtocs
   pub bound : bindings now.core ≡ slice_set (bindings old.core) f (Some (uid, p))
   pub counts : KeepsCounts old now

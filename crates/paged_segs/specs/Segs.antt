@@ -1,5 +1,5 @@
 -- Segments right below the root, each with its home and its page table (Bensoussan, Clingen and Daley 1972).
-use Rattle.std.specs.Prelude.{ℕ, List, [], Option, Some, map, slice_index_or, slice_set}
+use Rattle.std.specs.Prelude.{ℕ, ◌-◌, ◌==◌, nat_le, nat_lt, if◌then◌else◌, List, [], Option, None, Some, length, map, slice_index_or, slice_set}
 use Rattle.page_table.specs.declared.Ptw.{Ptw}
 use Rattle.page_table.specs.PageTable.{ptw_at}
 use Rattle.volumes.specs.declared.drive.FailLine.{FailLine}
@@ -37,6 +37,13 @@ root_home = record { volume = 0; entry = 0 }
 
 abbrev pub home_at : List Home → ℕ → Home
 home_at homes i = slice_index_or homes i root_home
+
+-- the home of a uid that has one: the root, or a segment that is there
+abbrev pub segment_home : List Home → ℕ → Option Home
+segment_home homes i = if nat_lt i (length homes) then Some (home_at homes i) else None
+
+unfoldable pub home_of : List Home → ℕ → Option Home
+home_of homes uid = if nat_le 2 uid then segment_home homes (uid - 2) else if uid == 1 then Some root_home else None
 
 abbrev pub volume_at : Segs → ℕ → ℕ
 volume_at s i = (home_at s.homes i).volume

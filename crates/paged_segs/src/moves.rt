@@ -6,8 +6,8 @@ ghost use Rattle.core_map.specs.CoreMap.{frame_at, is_bound};
 ghost use Rattle.page_table.specs.declared.Ptw.TheVariants.{Here};
 ghost use Rattle.page_table.specs.PageTable.{ptw_at};
 ghost use Rattle.page_control.specs.Plain.{plain, number_in};
-ghost use Rattle.page_control.specs.Picture.{AreClean};
-ghost use Rattle.page_control.specs.Tied.{IsNotStarted, IsTied, uid_in, is_out};
+ghost use Rattle.page_control.specs.Tied.{IsNotStarted, uid_in, is_out};
+ghost use Rattle.page_control.specs.Ties.{IsTied};
 ghost use Rattle.paged_segs.specs.Segs.{pages_of, plan_of, home_at};
 ghost use Rattle.paged_segs.specs.Kept.{NeverFail};
 ghost use Rattle.paged_segs.specs.Moves.{IsPutOut, IsReadIn};
@@ -47,7 +47,6 @@ pub(crate) fn put_out(
     requires bound { is_bound (frame_at pages.old.core f) ≡ true }
     requires here { ptw_at table.old (number_in (frame_at pages.old.core f)) ≡ Here f }
     requires tie { IsTied (plain pages_of pages.old) (uid_in (frame_at pages.old.core f)) home table.old }
-    requires clean { AreClean (plain pages_of pages.old) }
     ensures out { IsPutOut (plain pages_of pages.old) (plain pages_of pages.new) home (uid_in (frame_at pages.old.core f)) (number_in (frame_at pages.old.core f)) f table.old table.new result }
     ensures plans { map plan_of pages.new.volumes.drives ≡ map plan_of pages.old.volumes.drives }
 {
@@ -74,7 +73,6 @@ pub(crate) fn bring_in(
     requires free { frame_at pages.old.core f ≡ Free }
     requires first { IsNotStarted pages.old.core uid p }
     requires tie { IsTied (plain pages_of pages.old) uid home table.old }
-    requires clean { AreClean (plain pages_of pages.old) }
     ensures read { IsReadIn (plain pages_of pages.old) (plain pages_of pages.new) home uid p f table.old table.new }
     ensures plans { map plan_of pages.new.volumes.drives ≡ map plan_of pages.old.volumes.drives }
 {

@@ -1,15 +1,18 @@
-ghost use Rattle.std.specs.Prelude.{◌≡◌, ◌≢◌, ◌+◌, ◌<◌, ◌↔◌, ◌==◌, ℕ, All, IsSome, None, Some, true, false, length, map, replicate, sum_by, slice_index, slice_set, IfOk, IfSome, IfNone, IsTrue};
+ghost use Rattle.std.specs.Prelude.{◌≡◌, ◌≢◌, ◌+◌, ◌<◌, ◌↔◌, ◌==◌, ℕ, All, IsSome, None, Some, true, false, length, map, replicate, sum_by};
+ghost use Rattle.std.specs.Prelude.{slice_index, slice_set, IfOk, IfSome, IfNone, IsTrue};
 ghost use Rattle.core_map.specs.declared.Frame.TheVariants.{Free, Bound};
-ghost use Rattle.core_map.specs.CoreMap.{frame_at, with_frame, is_bound, least_free_frame, IsLeastFreeFrame};
-ghost use Rattle.core_map.specs.Clock.{IsClockChoice, unmarked};
+ghost use Rattle.core_map.specs.CoreMap.{frame_at, with_frame, is_bound, reads_of, least_free_frame, IsLeastFreeFrame};
+ghost use Rattle.core_map.specs.Clock.{IsClockChoice, clock_choice, unmarked};
 ghost use Rattle.mword.specs.Words.{AreZero};
 ghost use Rattle.page_table.specs.declared.Ptw.TheVariants.{Null, Out, Here, Leaving};
-ghost use Rattle.page_control.specs.Plain.{bindings, binding_at, words_in, words_on, disk_of, number_in, vtoc_of};
+ghost use Rattle.page_control.specs.declared.Home.{Home};
+ghost use Rattle.page_control.specs.Plain.{bindings, binding_at, words_in, number_in, vtoc_of};
 ghost use Rattle.page_control.specs.Effects.{referred, word_put};
-ghost use Rattle.page_control.specs.Picture.{picture, is_stored, changed_at, volume_of, record_named, words_filed, is_filed_in};
-ghost use Rattle.page_control.specs.Tied.{uid_in, is_out, has_record};
-ghost use Rattle.paged_segs.specs.Segs.{Segs, home_at, volume_at, word_at, pages_of, plan_of};
+ghost use Rattle.page_control.specs.Picture.{changed_at, words_out, is_stored as is_filed};
+ghost use Rattle.page_control.specs.Tied.{uid_in, uid_at, is_out, has_record};
 ghost use Rattle.page_control.specs.Counts.{taken, used, entries, is_full, one_more};
+ghost use Rattle.paged_segs.specs.Segs.{Segs, home_at, volume_at, word_at, pages_of, plan_of};
+ghost use Rattle.paged_segs.specs.Shown.{picture, is_stored};
 ghost use Rattle.paged_segs.specs.Kept.{IsKept, AreFresh};
 ghost use Rattle.paged_segs.specs.Effects.{made, read_in, made_page, begun, HasSizes, IsEmptied};
 
@@ -56,8 +59,8 @@ impl Segments {
     ) -> Result<Segments, NoMemory>
         requires { AreFresh volumes }
         ensures begun { IfOk result (λ s. s ≡ begun frames volumes) }
-        ensures picture { IfOk result (λ s. (uid p : ℕ) → picture s.storage uid p ≡ replicate 1024 0) }
-        ensures stored { IfOk result (λ s. (uid p : ℕ) → is_stored s.storage uid p ≡ false) }
+        ensures picture { IfOk result (λ s. (uid p : ℕ) → picture s uid p ≡ replicate 1024 0) }
+        ensures stored { IfOk result (λ s. (uid p : ℕ) → is_stored s uid p ≡ false) }
         ensures used { IfOk result (λ s. used s.storage.vtocs ≡ one_more (used volumes.vtocs) 0) }
     {
         let places = places_of(&volumes)?;
@@ -107,15 +110,15 @@ impl Segments {
         ensures stays { (f : ℕ) → result ≢ Leaving f }
 
         // What the word tells of the page.
-        ensures stored { is_stored self.now.storage (i + 2) page ≡ has_record result }
-        ensures null { result ≡ Null → picture self.now.storage (i + 2) page ≡ replicate 1024 0 }
+        ensures stored { is_stored self.now (i + 2) page ≡ has_record result }
+        ensures null { result ≡ Null → picture self.now (i + 2) page ≡ replicate 1024 0 }
         ensures bound { (f : ℕ) → result ≡ Here f → is_bound (frame_at self.now.storage.core f) ≡ true }
         ensures here { (f : ℕ) → result ≡ Here f → binding_at (bindings self.now.storage.core) f ≡ Some (i + 2, page) }
         ensures uid { (f : ℕ) → result ≡ Here f → uid_in (frame_at self.now.storage.core f) ≡ i + 2 }
         ensures number { (f : ℕ) → result ≡ Here f → number_in (frame_at self.now.storage.core f) ≡ page }
-        ensures words { (f : ℕ) → result ≡ Here f → picture self.now.storage (i + 2) page ≡ words_in self.now.storage f }
+        ensures words { (f : ℕ) → result ≡ Here f → picture self.now (i + 2) page ≡ words_in self.now.storage f }
     {
-        self.tables[i as usize].get(page)
+        self.pages.look(&self.tables[i as usize], page)
     }
 
     /// The least free frame, None exactly where none is free. It reads a few words. (Source: own.)
@@ -143,8 +146,8 @@ impl Segments {
         requires at { at < 1024 }
         ensures word { result ≡ slice_index (words_in self.old.storage f) at }
         ensures marks { self.new ≡ record self.old { storage = referred self.old.storage f false } }
-        ensures picture { picture self.new.storage ≡ picture self.old.storage }
-        ensures stored { is_stored self.new.storage ≡ is_stored self.old.storage }
+        ensures picture { picture self.new ≡ picture self.old }
+        ensures stored { is_stored self.new ≡ is_stored self.old }
         ensures bindings { bindings self.new.storage.core ≡ bindings self.old.storage.core }
     {
         self.pages.word(f, at)
@@ -156,8 +159,8 @@ impl Segments {
         requires bound { is_bound (frame_at self.old.storage.core f) ≡ true }
         requires at { at < 1024 }
         ensures effect { self.new ≡ record self.old { storage = word_put self.old.storage f at w } }
-        ensures picture { picture self.new.storage ≡ changed_at (picture self.old.storage) (uid_in (frame_at self.old.storage.core f)) (number_in (frame_at self.old.storage.core f)) (slice_set (words_in self.old.storage f) at w) }
-        ensures stored { is_stored self.new.storage ≡ is_stored self.old.storage }
+        ensures picture { picture self.new ≡ changed_at (picture self.old) (uid_in (frame_at self.old.storage.core f)) (number_in (frame_at self.old.storage.core f)) (slice_set (words_in self.old.storage f) at w) }
+        ensures stored { is_stored self.new ≡ is_stored self.old }
         ensures bindings { bindings self.new.storage.core ≡ bindings self.old.storage.core }
     {
         self.pages.put_word(f, at, w);
@@ -176,8 +179,8 @@ impl Segments {
         ensures place { IfSome result (λ i. i ≡ length self.old.homes) }
         ensures made { IfSome result (λ i. self.new ≡ made self.old volume) }
         ensures used { IfSome result (λ i. used self.new.storage.vtocs ≡ one_more (used self.old.storage.vtocs) volume) }
-        ensures picture { picture self.new.storage ≡ picture self.old.storage }
-        ensures stored { is_stored self.new.storage ≡ is_stored self.old.storage }
+        ensures picture { picture self.new ≡ picture self.old }
+        ensures stored { is_stored self.new ≡ is_stored self.old }
         ensures sizes { HasSizes self.old.storage self.new.storage }
     {
         let i = self.homes.len() as u32;
@@ -194,8 +197,9 @@ impl Segments {
         requires frame { f < length self.old.storage.core.frames }
         requires free { frame_at self.old.storage.core f ≡ Free }
         ensures effect { self.new ≡ read_in self.old i page f }
-        ensures picture { picture self.new.storage ≡ picture self.old.storage }
-        ensures stored { is_stored self.new.storage ≡ is_stored self.old.storage }
+        ensures here { word_at self.new i page ≡ Here f }
+        ensures picture { picture self.new ≡ picture self.old }
+        ensures stored { is_stored self.new ≡ is_stored self.old }
         ensures binding { bindings self.new.storage.core ≡ slice_set (bindings self.old.storage.core) f (Some (i + 2, page)) }
         ensures sizes { HasSizes self.old.storage self.new.storage }
     {
@@ -221,8 +225,9 @@ impl Segments {
         requires at { at < 1024 }
         requires room { is_full self.old.storage.records (volume_at self.old i) ≡ false }
         ensures effect { self.new ≡ made_page self.old i page f at w }
-        ensures picture { picture self.new.storage ≡ changed_at (picture self.old.storage) (i + 2) page (slice_set (replicate 1024 0) at w) }
-        ensures stored { is_stored self.new.storage ≡ changed_at (is_stored self.old.storage) (i + 2) page true }
+        ensures here { word_at self.new i page ≡ Here f }
+        ensures picture { picture self.new ≡ changed_at (picture self.old) (i + 2) page (slice_set (replicate 1024 0) at w) }
+        ensures stored { is_stored self.new ≡ changed_at (is_stored self.old) (i + 2) page true }
         ensures taken { taken self.new.storage.records ≡ one_more (taken self.old.storage.records) (volume_at self.old i) }
         ensures used { used self.new.storage.vtocs ≡ used self.old.storage.vtocs }
         ensures binding { bindings self.new.storage.core ≡ slice_set (bindings self.old.storage.core) f (Some (i + 2, page)) }
@@ -243,6 +248,7 @@ impl Segments {
         requires some { 0 < length self.old.storage.core.frames }
         requires full { least_free_frame self.old.storage.core ≡ None }
         ensures choice { IsClockChoice self.old.storage.core (with_frame self.new.storage.core result.frame (unmarked (frame_at self.old.storage.core result.frame))) result.frame }
+        ensures chosen { clock_choice self.old.storage.core ≡ Some result.frame }
         ensures emptied { IsEmptied self.old self.new result }
         ensures least { least_free_frame self.new.storage.core ≡ Some result.frame }
     {
@@ -270,13 +276,17 @@ impl Segments {
     /// (Source: Organick 1972.)
     pub fn into_volumes(self) -> Volumes<CoreDrive>
         requires { (f : ℕ) → frame_at self.storage.core f ≡ Free }
+        ensures kept { IsKept self }
         ensures disks { map pages_of result.drives ≡ self.storage.disks }
         ensures records { result.records ≡ self.storage.records }
         ensures vtocs { result.vtocs ≡ self.storage.vtocs }
 
         // What is on the records.
-        ensures words { (uid p : ℕ) → picture self.storage uid p ≡ words_filed (disk_of self.storage (volume_of self.storage.vtocs uid)) (record_named self.storage.vtocs uid p) }
-        ensures zeros { (uid p : ℕ) → is_stored self.storage uid p ≡ true → AreZero (picture self.storage uid p) → ⊥ }
+        ensures words { (home : Home) (uid p : ℕ) → uid_at self.storage.vtocs home ≡ Some uid
+            → picture self uid p ≡ words_out self.storage home p }
+        ensures stored { (home : Home) (uid p : ℕ) → uid_at self.storage.vtocs home ≡ Some uid
+            → is_stored self uid p ≡ is_filed self.storage home p }
+        ensures zeros { (uid p : ℕ) → is_stored self uid p ≡ true → AreZero (picture self uid p) → ⊥ }
     {
         self.pages.into_volumes()
     }
@@ -286,11 +296,13 @@ impl Segments {
         requires some { 0 < length self.old.storage.core.frames }
         requires full { least_free_frame self.old.storage.core ≡ None }
         ensures choice { IsClockChoice self.old.storage.core self.new.storage.core result }
+        ensures chosen { clock_choice self.old.storage.core ≡ Some result }
         ensures rest { self.new ≡ record self.old { storage = record self.old.storage { core = self.new.storage.core } } }
         ensures bound { is_bound (frame_at self.new.storage.core result) ≡ true }
+        ensures reads { reads_of self.new.storage.core ≡ reads_of self.old.storage.core }
         ensures bindings { bindings self.new.storage.core ≡ bindings self.old.storage.core }
-        ensures picture { picture self.new.storage ≡ picture self.old.storage }
-        ensures stored { is_stored self.new.storage ≡ is_stored self.old.storage }
+        ensures picture { picture self.new ≡ picture self.old }
+        ensures stored { is_stored self.new ≡ is_stored self.old }
     {
         self.pages.choose()
     }

@@ -1,4 +1,4 @@
-use Rattle.std.proofs.Common.{◌≡◌, ◌+◌, ◌<◌, List, ap, ◌∙◌, rules, subst, sym, arith, slice_set, Some, length, false, map}
+use Rattle.std.proofs.Common.{◌≡◌, ◌+◌, ◌<◌, List, ap, ◌∙◌, rules, subst, sym, arith, slice_set, Some, length, false, true, replicate, refl, map}
 use Rattle.std.proofs.lemmas.List.{length-set}
 use Rattle.page_table.specs.declared.Ptw.{Ptw}
 use Rattle.page_table.specs.declared.Ptw.TheVariants.{Null}
@@ -8,10 +8,12 @@ use Rattle.page_control.specs.Plain.{plain, bindings}
 use Rattle.paged_segs.specs.Segs.{Segs, segs_of, pages_of, plan_of, home_at, table_at, volume_at}
 use Rattle.page_control.specs.Counts.{taken, used, one_more, is_full}
 use Rattle.paged_segs.specs.Effects.{HasSizes}
-use Rattle.page_control.proofs.Laws.{used_same}
-use Rattle.paged_segs.proofs.Keeping.{sizes}
-use Rattle.paged_segs.proofs.Located.{tie_of}
-use Rattle.paged_segs.proofs.Paging.{table_read, place_within, uid_fits, kept_created, not_full}
+use Rattle.paged_segs.proofs.Keeping.{sizes, used_same}
+use Rattle.paged_segs.proofs.Located.{table_read, table_long, place_within, uid_fits, tie_found, home_is}
+use Rattle.paged_segs.proofs.Paging.{word_here, kept_created, not_full}
+use Rattle.paged_segs.proofs.Showing.{shown_changed, stored_changed}
+use Rattle.paged_segs.specs.Shown.{picture, is_stored}
+use Rattle.page_control.specs.Picture.{changed_at}
 use Rattle.paged_segs.proofs.segments.Segments.create.Goals as goal
 
 pub index_mut-table-requires : goal.index_mut-table-requires
@@ -32,7 +34,7 @@ pub create_page-requires-clause-page : goal.create_page-requires-clause-page
 create_page-requires-clause-page c =
     let s : Segs = segs_of c.self.inside.pages c.self.inside.tables.items c.self.inside.homes.items in
     let il : c.args.i < length s.homes = search rules in
-    let long = ap length (table_read s c.args.i c.index_mut-table.result.now c.self.invariant.0 il c.index_mut-table.ensures.value) ∙ c.self.invariant.0.lengths c.args.i (place_within s c.args.i c.self.invariant.0 il) in
+    let long = table_long s c.args.i c.index_mut-table.result.now c.self.invariant.0 il c.index_mut-table.ensures.value in
     omega (arith, long, c.requires.page)
 
 pub create_page-requires-clause-null : goal.create_page-requires-clause-null
@@ -47,7 +49,7 @@ create_page-requires-clause-tie c =
     let s : Segs = segs_of c.self.inside.pages c.self.inside.tables.items c.self.inside.homes.items in
     let il : c.args.i < length s.homes = search rules in
     let home : c.home_of-home.result ≡ home_at s.homes c.args.i = c.home_of-home.ensures ∙ ap (λ (homes : List Home). home_at homes c.args.i) c.deref.ensures.value in
-    rw (home, table_read s c.args.i c.index_mut-table.result.now c.self.invariant.0 il c.index_mut-table.ensures.value) (tie_of s c.args.i c.self.invariant.0 il)
+    tie_found s c.args.i c.home_of-home.result c.index_mut-table.result.now c.self.invariant.0 il home c.index_mut-table.ensures.value
 
 pub unreachable-requires : goal.unreachable-requires
 unreachable-requires c =
@@ -63,9 +65,9 @@ invariant_of-self c =
     let home : c.home_of-home.result ≡ home_at s.homes c.args.i = c.home_of-home.ensures ∙ ap (λ (homes : List Home). home_at homes c.args.i) c.deref.ensures.value in
     let count = length-set c.self.inside.tables.items c.args.i c.create_page.new.t in
     let room = c.self.invariant.1 in (
-      kept_created s (plain pages_of c.create_page.new.self) _ c.args.i c.args.page _ c.args.f c.args.at c.args.w c.home_of-home.result c.index_mut-table.result.now c.create_page.new.t c.self.invariant.0 il home
-          (table_read s c.args.i c.index_mut-table.result.now c.self.invariant.0 il c.index_mut-table.ensures.value) (ap (map plan_of) c.create_page.ensures.drives) c.in-Ok.ensures.ok c.in-Ok.ensures.word
-          c.create_page.ensures.tie (c.create_page.ensures.sound.clean c.self.invariant.0.clean) c.create_page.ensures.others c.create_page.ensures.counts c.in-Ok.ensures.picture,
+      kept_created s (plain pages_of c.create_page.new.self) _ c.args.i c.args.page c.args.f c.args.at c.args.w c.home_of-home.result c.index_mut-table.result.now c.create_page.new.t
+          c.self.invariant.0 il home (table_read s c.args.i c.index_mut-table.result.now c.self.invariant.0 il c.index_mut-table.ensures.value)
+          (ap (map plan_of) c.create_page.ensures.drives) c.in-Ok.ensures.effect c.in-Ok.ensures.word c.create_page.ensures.tie c.create_page.ensures.others c.create_page.ensures.counts,
       omega (arith, count, room),
     )
 
@@ -89,3 +91,29 @@ pub returns-clause-used : goal.returns-clause-used
 returns-clause-used c =
     subst (λ (s : Segs). used c.create_page.new.self.volumes.vtocs ≡ used s.storage.vtocs) c.self.view_is
     (used_same (plain pages_of c.self.inside.pages) (plain pages_of c.create_page.new.self) c.create_page.ensures.counts)
+
+pub returns-clause-here : goal.returns-clause-here
+returns-clause-here c =
+    let s : Segs = segs_of c.self.inside.pages c.self.inside.tables.items c.self.inside.homes.items in
+    let il : c.args.i < length s.homes = search rules in
+    let place : c.args.i < length c.self.inside.tables.items = place_within s c.args.i c.self.invariant.0 il in
+    let long = table_long s c.args.i c.index_mut-table.result.now c.self.invariant.0 il c.index_mut-table.ensures.value in
+    word_here c.self.inside.tables.items c.args.i c.args.page _ c.index_mut-table.result.now c.create_page.new.t place c.in-Ok.ensures.word (omega (arith, long, c.requires.page))
+
+pub returns-clause-picture : goal.returns-clause-picture
+returns-clause-picture c =
+    let s : Segs = segs_of c.self.inside.pages c.self.inside.tables.items c.self.inside.homes.items in
+    let il : c.args.i < length s.homes = search rules in
+    let home : c.home_of-home.result ≡ home_at s.homes c.args.i = c.home_of-home.ensures ∙ ap (λ (homes : List Home). home_at homes c.args.i) c.deref.ensures.value in
+    subst (λ (old : Segs). picture (segs_of c.create_page.new.self (slice_set c.self.inside.tables.items c.args.i c.create_page.new.t) c.self.inside.homes.items) ≡ changed_at (picture old) (c.args.i + 2) c.args.page (slice_set (replicate 1024 0) c.args.at c.args.w)) c.self.view_is
+    (shown_changed s (segs_of c.create_page.new.self (slice_set c.self.inside.tables.items c.args.i c.create_page.new.t) c.self.inside.homes.items) (c.args.i + 2) c.args.page c.home_of-home.result _ c.self.invariant.0 refl (home_is s.homes c.args.i il ∙ ap Some (sym home))
+    c.in-Ok.ensures.words)
+
+pub returns-clause-stored : goal.returns-clause-stored
+returns-clause-stored c =
+    let s : Segs = segs_of c.self.inside.pages c.self.inside.tables.items c.self.inside.homes.items in
+    let il : c.args.i < length s.homes = search rules in
+    let home : c.home_of-home.result ≡ home_at s.homes c.args.i = c.home_of-home.ensures ∙ ap (λ (homes : List Home). home_at homes c.args.i) c.deref.ensures.value in
+    subst (λ (old : Segs). is_stored (segs_of c.create_page.new.self (slice_set c.self.inside.tables.items c.args.i c.create_page.new.t) c.self.inside.homes.items) ≡ changed_at (is_stored old) (c.args.i + 2) c.args.page true) c.self.view_is
+    (stored_changed s (segs_of c.create_page.new.self (slice_set c.self.inside.tables.items c.args.i c.create_page.new.t) c.self.inside.homes.items) (c.args.i + 2) c.args.page c.home_of-home.result true c.self.invariant.0 refl (home_is s.homes c.args.i il ∙ ap Some (sym home))
+    c.in-Ok.ensures.stored)

@@ -61,4 +61,4 @@ returns-clause-emptied c =
     c.deref.ensures.value c.home_of-home.ensures c.index_mut.ensures.value in
     subst (λ (old : Segs). IsEmptied old (segs_of c.put_out-left.new.pages (slice_set c.self.inside.tables.items (c.page_of-uid.result.0 - 2) c.put_out-left.new.table) c.self.inside.homes.items) (record { frame = c.args.f; uid = c.page_of-uid.result.0; page = c.page_of-uid.result.1; left = c.put_out-left.result })) c.self.view_is
     (emptied_steps s (plain pages_of c.put_out-left.new.pages) (map plan_of c.put_out-left.new.pages.volumes.drives) c.args.f c.page_of-uid.result c.home_of-home.result c.index_mut.result.now c.put_out-left.new.table c.put_out-left.result c.self.invariant.0
-    found c.put_out-left.ensures.out)
+    found c.frames.ensures.words c.put_out-left.ensures.out)

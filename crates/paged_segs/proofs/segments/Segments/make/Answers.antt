@@ -1,15 +1,14 @@
 use Rattle.std.proofs.Common.{◌≡◌, ℕ, ◌+◌, ◌<◌, List, ap, ◌∙◌, sym, rules, subst, Some, length, vec_capacity, ◌≤◌, map}
 use Rattle.page_control.specs.Plain.{Plain, plain, vtoc_of}
-use Rattle.page_control.specs.Picture.{picture, is_stored}
-use Rattle.page_control.specs.Tied.{HasNoHome}
 use Rattle.vtoc.specs.Vtoc.{least_free_entry}
 use Rattle.paged_segs.specs.Segs.{Segs, segs_of, pages_of, plan_of}
 use Rattle.page_control.specs.Counts.{used, entries, one_more}
 use Rattle.paged_segs.specs.Kept.{IsKept}
+use Rattle.paged_segs.specs.Shown.{picture, is_stored}
 use Rattle.paged_segs.specs.Effects.{HasSizes}
 use Rattle.page_control.specs.declared.Home.{Home}
 use Rattle.paged_segs.proofs.Located.{homes_within}
-use Rattle.paged_segs.proofs.Making.{made_steps, next_no_home, used_room, used_full, sizes_made}
+use Rattle.paged_segs.proofs.Making.{IsGiven, as_next, made_by, kept_made, shown_made, stored_made, used_room, used_full, sizes_made}
 use Rattle.paged_segs.proofs.segments.Segments.make.Goals as goal
 
 pub overflow_cast-i : goal.overflow_cast-i
@@ -50,29 +49,64 @@ pub returns-clause-picture : goal.returns-clause-picture
 returns-clause-picture c =
     let s : Segs = segs_of c.self.inside.pages c.self.inside.tables.items c.self.inside.homes.items in
     let next : c.len-i.result ≡ length s.homes = search rules in
-    let none : HasNoHome s.storage.vtocs (c.len-i.result + 2) = rw next (next_no_home s c.self.invariant.0) in
-    subst (λ (old : Segs). picture (plain pages_of c.new_home.new.self) ≡ picture old.storage) c.self.view_is (c.new_home.ensures.picture none)
+    let given : IsGiven s (plain pages_of c.new_home.new.self) c.args.volume c.in_ok-entry.entry (length s.homes + 2) =
+    as_next s (plain pages_of c.new_home.new.self) c.args.volume c.in_ok-entry.entry (c.len-i.result + 2) (ap (λ (n : ℕ). n + 2) next) (record {
+      free = c.in_ok-entry.ensures.least;
+      effect = c.in_ok-entry.ensures.effect;
+      home = c.in_ok-entry.ensures.home;
+      uids = c.in_ok-entry.ensures.uids;
+      tie = c.in_ok-entry.ensures.tie;
+      ties = c.new_home.ensures.ties;
+      words = c.new_home.ensures.words;
+      stored = c.new_home.ensures.stored;
+      zeros = c.in_ok-entry.ensures.zeros;
+    }) in
+    subst (λ (homes : List Home). picture (segs_of c.new_home.new.self c.self.inside.tables.items homes) ≡ picture c.args.self.now) (sym c.push_reserved.ensures.items)
+    (subst (λ (old : Segs). picture (made_by s (plain pages_of c.new_home.new.self) (map plan_of c.new_home.new.self.volumes.drives) c.args.volume c.in_ok-entry.entry) ≡ picture old) c.self.view_is
+    (shown_made s (plain pages_of c.new_home.new.self) (map plan_of c.new_home.new.self.volumes.drives) c.args.volume c.in_ok-entry.entry c.self.invariant.0 given))
 
 pub returns-clause-stored : goal.returns-clause-stored
 returns-clause-stored c =
     let s : Segs = segs_of c.self.inside.pages c.self.inside.tables.items c.self.inside.homes.items in
     let next : c.len-i.result ≡ length s.homes = search rules in
-    let none : HasNoHome s.storage.vtocs (c.len-i.result + 2) = rw next (next_no_home s c.self.invariant.0) in
-    subst (λ (old : Segs). is_stored (plain pages_of c.new_home.new.self) ≡ is_stored old.storage) c.self.view_is (c.new_home.ensures.stored none)
+    let given : IsGiven s (plain pages_of c.new_home.new.self) c.args.volume c.in_ok-entry.entry (length s.homes + 2) =
+    as_next s (plain pages_of c.new_home.new.self) c.args.volume c.in_ok-entry.entry (c.len-i.result + 2) (ap (λ (n : ℕ). n + 2) next) (record {
+      free = c.in_ok-entry.ensures.least;
+      effect = c.in_ok-entry.ensures.effect;
+      home = c.in_ok-entry.ensures.home;
+      uids = c.in_ok-entry.ensures.uids;
+      tie = c.in_ok-entry.ensures.tie;
+      ties = c.new_home.ensures.ties;
+      words = c.new_home.ensures.words;
+      stored = c.new_home.ensures.stored;
+      zeros = c.in_ok-entry.ensures.zeros;
+    }) in
+    subst (λ (homes : List Home). is_stored (segs_of c.new_home.new.self c.self.inside.tables.items homes) ≡ is_stored c.args.self.now) (sym c.push_reserved.ensures.items)
+    (subst (λ (old : Segs). is_stored (made_by s (plain pages_of c.new_home.new.self) (map plan_of c.new_home.new.self.volumes.drives) c.args.volume c.in_ok-entry.entry) ≡ is_stored old) c.self.view_is
+    (stored_made s (plain pages_of c.new_home.new.self) (map plan_of c.new_home.new.self.volumes.drives) c.args.volume c.in_ok-entry.entry c.self.invariant.0 given))
 
 pub invariant_of-self-2 : goal.invariant_of-self-2
 invariant_of-self-2 c =
     let s : Segs = segs_of c.self.inside.pages c.self.inside.tables.items c.self.inside.homes.items in
     let next : c.len-i.result ≡ length s.homes = search rules in
-    let none : HasNoHome s.storage.vtocs (c.len-i.result + 2) = rw next (next_no_home s c.self.invariant.0) in
+    let given : IsGiven s (plain pages_of c.new_home.new.self) c.args.volume c.in_ok-entry.entry (length s.homes + 2) =
+    as_next s (plain pages_of c.new_home.new.self) c.args.volume c.in_ok-entry.entry (c.len-i.result + 2) (ap (λ (n : ℕ). n + 2) next) (record {
+      free = c.in_ok-entry.ensures.least;
+      effect = c.in_ok-entry.ensures.effect;
+      home = c.in_ok-entry.ensures.home;
+      uids = c.in_ok-entry.ensures.uids;
+      tie = c.in_ok-entry.ensures.tie;
+      ties = c.new_home.ensures.ties;
+      words = c.new_home.ensures.words;
+      stored = c.new_home.ensures.stored;
+      zeros = c.in_ok-entry.ensures.zeros;
+    }) in
     let room : length c.self.inside.tables.items ≤ vec_capacity c.push_reserved.new.self = rw c.push_reserved.ensures.capacity c.self.invariant.1 in
-    let kept = made_steps s (plain pages_of c.new_home.new.self) (map plan_of c.new_home.new.self.volumes.drives) c.args.volume c.in_ok-entry.entry (c.len-i.result + 2) (ap (λ (n : ℕ). n + 2) next) c.self.invariant.0
-    (ap (map plan_of) c.new_home.ensures.drives) (subst (λ (old : Segs). c.args.volume < length old.storage.disks) (sym c.self.view_is) c.requires) (sym c.in_ok-entry.ensures.least)
-    c.in_ok-entry.ensures.some (c.in_ok-entry.ensures.home none) (c.new_home.ensures.homes none) c.new_home.ensures.maps (c.new_home.ensures.records c.self.invariant.0.filed)
-    (c.new_home.ensures.picture none) ((c.new_home.ensures.sound none).clean c.self.invariant.0.clean) in
+    let kept = kept_made s (plain pages_of c.new_home.new.self) (map plan_of c.new_home.new.self.volumes.drives) c.args.volume c.in_ok-entry.entry c.self.invariant.0
+    (ap (map plan_of) c.new_home.ensures.drives) given in
     (subst (λ (homes : List Home). IsKept (segs_of c.new_home.new.self c.self.inside.tables.items homes)) (sym c.push_reserved.ensures.items) kept, room)
 
 pub returns-clause-sizes : goal.returns-clause-sizes
 returns-clause-sizes c =
     subst (λ (s : Segs). HasSizes s.storage (plain pages_of c.new_home.new.self)) c.self.view_is
-    (sizes_made (plain pages_of c.self.inside.pages) (plain pages_of c.new_home.new.self) c.args.volume c.in_ok-entry.entry (c.len-i.result + 2) c.in_ok-entry.ensures.some)
+    (sizes_made (plain pages_of c.self.inside.pages) (plain pages_of c.new_home.new.self) c.args.volume c.in_ok-entry.entry (c.len-i.result + 2) c.in_ok-entry.ensures.effect)
