@@ -1,5 +1,5 @@
 -- The volumes once every frame is free.
-use Rattle.std.proofs.Common.{◌≡◌, ◌⊎◌, ℕ, ◌+◌, ◌-◌, ◌<◌, Bool, true, false, List, [], length, inl, inr, Option, None, Some, refl, sym, ap, ◌∙◌, subst}
+use Rattle.std.proofs.Common.{◌≡◌, ◌≢◌, ◌≤◌, ◌⊎◌, ℕ, ◌+◌, ◌-◌, ◌<◌, Bool, true, false, List, [], length, inl, inr, Option, None, Some, refl, sym, ap, ◌∙◌, subst, arith}
 use Rattle.core_map.specs.declared.Frame.TheVariants.{Free}
 use Rattle.core_map.specs.CoreMap.{frame_at, bound_page}
 use Rattle.mword.specs.Words.{AreZero}
@@ -11,7 +11,7 @@ use Rattle.page_control.specs.Ties.{IsTied}
 use Rattle.page_table.specs.declared.Ptw.{Ptw}
 use Rattle.paged_segs.specs.Segs.{Segs, home_at, home_of, table_at, root_home}
 use Rattle.paged_segs.specs.Shown.{picture, is_stored, stored_by}
-use Rattle.paged_segs.specs.Kept.{IsKept}
+use Rattle.paged_segs.specs.Kept.{IsKept, AreHomed}
 use Rattle.paged_segs.proofs.Located.{binding_is, same_home, which, none_at, root_at, segment_at, segment_found}
 use Rattle.paged_segs.proofs.Showing.{picture_at, stored_at, stored_none}
 
@@ -50,6 +50,18 @@ tie_there s uid home k is = by (which uid)
               (subst (λ (h : Home). IsTied s.storage (i + 2) h (table_at s.tables i)) found.1 (k.tied i found.0)),
         )
 
+owner_of : (s : Segs) (home : Home) (uid : ℕ) → home_of s.homes uid ≡ Some home → uid ≢ 1 → (2 ≤ uid) × (uid < length s.homes + 2) × (home ≡ home_at s.homes (uid - 2))
+owner_of s home uid is n = by (which uid)
+  where
+    by : (uid ≡ 0) ⊎ ((uid ≡ 1) ⊎ ((i : ℕ) × (uid ≡ i + 2))) → (2 ≤ uid) × (uid < length s.homes + 2) × (home ≡ home_at s.homes (uid - 2))
+    by (inl nobody) = absurd (not_none (home_of s.homes uid) home (none_at s.homes uid nobody) is)
+    by (inr (inl one)) = absurd (n one)
+    by (inr (inr (i, at))) =
+        let found = segment_found s.homes i home (sym (segment_at s.homes uid i at) ∙ is) in
+        let lt = found.0 in
+        let place : i ≡ uid - 2 = omega (arith, at) in
+        (omega (arith, at), omega (arith, at, lt), sym found.1 ∙ ap (home_at s.homes) place)
+
 off_and_on : (b : Bool) → b ≡ false → b ≡ true → ⊥
 off_and_on b off on = cc
 
@@ -61,3 +73,12 @@ none_zeros s uid p k free stored all = by_home (home_of s.homes uid) refl
     by_home (Some home) is =
         let its = tie_there s uid home k is in
         loose s uid p home its.0 free its.1 is stored all
+
+-- the used entries are the homes
+pub homed : (s : Segs) → IsKept s → AreHomed s
+homed s k = record {
+  root = k.root.used;
+  homes = λ i il. (k.tied i il).used;
+  owners = λ home uid used n. owner_of s home uid (k.owners home uid used) n;
+  filed = k.root.records;
+}

@@ -9,7 +9,7 @@ use Rattle.volumes.specs.Volumes.{Vols}
 use Rattle.volumes.specs.declared.drive.FailLine.{FailLine}
 use Rattle.page_control.specs.declared.Home.{Home}
 use Rattle.page_control.specs.Plain.{bindings, binding_at}
-use Rattle.page_control.specs.Tied.{vtoc_in, flags_in, uid_at}
+use Rattle.page_control.specs.Tied.{vtoc_in, flags_in, uid_at, AreFiled}
 use Rattle.page_control.specs.Ties.{IsTied}
 use Rattle.paged_segs.specs.Segs.{Segs, home_at, home_of, table_at, word_at, root_home, plan_of}
 
@@ -35,6 +35,14 @@ pub record IsKept (s : Segs) : Type 0 where
   pub bound : (f uid p : ℕ) → binding_at (bindings s.storage.core) f ≡ Some (uid, p) → (2 ≤ uid) × (uid < length s.homes + 2)
   -- a file map can name each record
   pub short : (v : ℕ) → length (flags_in s.storage.records v) < 65536
+
+-- The used VTOC entries are the homes of the root and of the segments; and the records in use are those that file maps name.
+pub record AreHomed (s : Segs) : Type 0 where
+  pub root : uid_at s.storage.vtocs root_home ≡ Some 1
+  pub homes : (i : ℕ) → i < length s.homes → uid_at s.storage.vtocs (home_at s.homes i) ≡ Some (i + 2)
+  pub owners : (home : Home) (uid : ℕ) → uid_at s.storage.vtocs home ≡ Some uid → uid ≢ 1
+      → (2 ≤ uid) × (uid < length s.homes + 2) × (home ≡ home_at s.homes (uid - 2))
+  pub filed : AreFiled s.storage.records s.storage.vtocs
 
 -- Volumes on which segments may begin: none of their records and VTOC entries is used, the first volume has an entry for
 -- the root, no drive fails, and a file map can name each record.

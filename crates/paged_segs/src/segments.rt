@@ -13,7 +13,7 @@ ghost use Rattle.page_control.specs.Tied.{uid_in, uid_at, is_out, has_record};
 ghost use Rattle.page_control.specs.Counts.{taken, used, entries, is_full, one_more};
 ghost use Rattle.paged_segs.specs.Segs.{Segs, home_at, volume_at, word_at, pages_of, plan_of};
 ghost use Rattle.paged_segs.specs.Shown.{picture, is_stored};
-ghost use Rattle.paged_segs.specs.Kept.{IsKept, AreFresh};
+ghost use Rattle.paged_segs.specs.Kept.{AreHomed, AreFresh};
 ghost use Rattle.paged_segs.specs.Effects.{made, read_in, made_page, begun, HasSizes, IsEmptied};
 
 use crate::moves::{bring_in, home_of, page_of, put_out};
@@ -79,8 +79,7 @@ impl Segments {
 
     /// How many segments there are. It reads a number. (Source: own.)
     pub fn count(&self) -> u32
-        ensures count { result ≡ length self.now.homes }
-        ensures kept { IsKept self.now }
+        ensures { result ≡ length self.now.homes }
     {
         self.homes.len() as u32
     }
@@ -276,7 +275,7 @@ impl Segments {
     /// (Source: Organick 1972.)
     pub fn into_volumes(self) -> Volumes<CoreDrive>
         requires { (f : ℕ) → frame_at self.storage.core f ≡ Free }
-        ensures kept { IsKept self }
+        ensures homed { AreHomed self }
         ensures disks { map pages_of result.drives ≡ self.storage.disks }
         ensures records { result.records ≡ self.storage.records }
         ensures vtocs { result.vtocs ≡ self.storage.vtocs }

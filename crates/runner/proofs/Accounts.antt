@@ -16,9 +16,9 @@ use Rattle.flat_model.specs.References.{is_used_up, is_volume_full}
 use Rattle.flat_model.specs.Legal.{is_within, IsSettled}
 use Rattle.dir_tree.specs.declared.node.Node.{Node as Branch}
 use Rattle.dir_tree.specs.Nodes.{with_quotas}
-use Rattle.page_control.specs.Plain.{Plain}
+use Rattle.paged_segs.specs.Segs.{Segs}
 use Rattle.page_control.specs.Tied.{vtoc_in}
-use Rattle.page_control.specs.Picture.{picture, is_stored as is_filed}
+use Rattle.paged_segs.specs.Shown.{picture, is_stored as is_filed}
 use Rattle.paged_segs.specs.Counts.{taken, used, entries, is_full}
 use Rattle.runner.specs.Tables.{Held, root_quota, ArePages, AreTied}
 
@@ -133,20 +133,20 @@ within_all q s (n ∷ ns) most =
         let test : eqb n.uid 1 ≡ false = grind (arith, nat_tests) in
         absurd (apart (sym (none n.dir) ∙ (rw test at is)))
 
-page_zeros : (ws : Words) (xs : List (ℕ × ℕ)) (count u q : ℕ) (storage : Plain) → ArePages ws xs count storage → is_stored xs u q ≡ true → is_zero_page ws u q ≡ true → AreZero (picture storage u q)
-page_zeros ws xs count u q storage h on zeros = λ x d within.
+page_zeros : (ws : Words) (xs : List (ℕ × ℕ)) (count u q : ℕ) (segs : Segs) → ArePages ws xs count segs → is_stored xs u q ≡ true → is_zero_page ws u q ≡ true → AreZero (picture segs u q)
+page_zeros ws xs count u q segs h on zeros = λ x d within.
     let there = h.inside u q on in
     let two = there.0 in
     let size = h.sizes u q on in
     let lx : x < 1024 = omega (arith, size, within) in
     let back : (u - 2) + 2 ≡ u = omega (arith, two) in
-    get_or_default_zero (picture storage u q) x d within
-    ∙ ap (λ (v : ℕ). get_or (picture storage v q) x 0) (sym back)
+    get_or_default_zero (picture segs u q) x d within
+    ∙ ap (λ (v : ℕ). get_or (picture segs v q) x 0) (sym back)
     ∙ h.words (u - 2) q x there.2 lx
     ∙ ap (λ (v : ℕ). ws v (1024 * q + x)) back
     ∙ zero_words ws u q x zeros lx
 
-pub tied_settled : (p : Plan) (s : Store) (t : Held) → AreTied p s t → ((uid q : ℕ) → is_filed t.segs.storage uid q ≡ true → AreZero (picture t.segs.storage uid q) → ⊥) → IsSettled p s
+pub tied_settled : (p : Plan) (s : Store) (t : Held) → AreTied p s t → ((uid q : ℕ) → is_filed t.segs uid q ≡ true → AreZero (picture t.segs uid q) → ⊥) → IsSettled p s
 tied_settled p s t h clean = record {
   quotas = h.named.quotas;
   within = subst (λ (ns : List Node). list_all (is_within s) ns ≡ true) (sym h.named.nodes) (within_all p.quota s t.tree.nodes most);
@@ -157,5 +157,5 @@ tied_settled p s t h clean = record {
     most = (let total = ap (λ (ns : List Node). used_by ns s.stored 1) h.named.nodes ∙ used_one p.quota t.tree.nodes s.stored in let within = h.counted.within in omega (arith, total, within))
 
     by_zeros : (u q : ℕ) → is_stored s.stored u q ≡ true → (z : Bool) → is_zero_page s.words u q ≡ z → is_zero_page s.words u q ≡ false
-    by_zeros u q on true zeros = absurd (clean u q (sym (h.pages.stored u q) ∙ on) (page_zeros s.words s.stored (length t.segs.homes) u q t.segs.storage h.pages on zeros))
+    by_zeros u q on true zeros = absurd (clean u q (sym (h.pages.stored u q) ∙ on) (page_zeros s.words s.stored (length t.segs.homes) u q t.segs h.pages on zeros))
     by_zeros u q on false some = some

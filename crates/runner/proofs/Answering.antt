@@ -20,7 +20,8 @@ use Rattle.flat_model.specs.Legal.{IsAnswer, after_do, store_after}
 use Rattle.known_segs.specs.Known.{uid_of}
 use Rattle.page_table.specs.declared.Ptw.{Ptw}
 use Rattle.page_table.specs.declared.Ptw.TheVariants.{Null, Out, Here, Leaving}
-use Rattle.page_control.specs.Picture.{picture, is_stored as is_filed, changed_at}
+use Rattle.page_control.specs.Picture.{changed_at}
+use Rattle.paged_segs.specs.Shown.{picture, is_stored as is_filed}
 use Rattle.paged_segs.specs.Segs.{word_at as ptw_at, volume_at}
 use Rattle.paged_segs.specs.Counts.{is_full}
 use Rattle.runner.specs.Tables.{Held, AreTied}
@@ -87,7 +88,7 @@ pub read_done : (p : Plan) (es : List Entry) (t new : Held) (place n o : ℕ) (r
 read_done p es t new place n o r h at is answer alike =
     done_by p es t new place (command.Read n o) r (store_after p es) h at is answer (after_read p (store_after p es) n o r) (tied_same p (store_after p es) t new h.tied (same_as t new alike)) alike.counts.sizes.frames alike.counts.sizes.volumes
 
-pub read_through : (p : Plan) (es : List Entry) (t new : Held) (place n o i page : ℕ) (w : ℕ) → Holds p es t → IsAt p es place → command_at p 0 place ≡ Some (command.Read n o) → IsTarget t n o i page → w ≡ get_or (picture t.segs.storage (i + 2) page) (o % 1024) 0 → IsSame t new → IsDone p es t new place (reply.Word w)
+pub read_through : (p : Plan) (es : List Entry) (t new : Held) (place n o i page : ℕ) (w : ℕ) → Holds p es t → IsAt p es place → command_at p 0 place ≡ Some (command.Read n o) → IsTarget t n o i page → w ≡ get_or (picture t.segs (i + 2) page) (o % 1024) 0 → IsSame t new → IsDone p es t new place (reply.Word w)
 read_through p es t new place n o i page w h at is g word alike =
     read_done p es t new place n o (reply.Word w) h at is (ap (λ (x : ℕ). reply.Word x) word ∙ sym (read_word p (store_after p es) t n o i page h.tied (numbers_are p (store_after p es) t h.tied at.going) g)) alike
 
@@ -100,7 +101,7 @@ same_self t = record {
   counts = record { records = refl; places = refl; sizes = record { volumes = refl; records = refl; places = refl; frames = refl } };
 }
 
-blank_word : (p : Plan) (s : Store) (t : Held) (n o i page : ℕ) → AreTied p s t → IsTarget t n o i page → IsBlank t i page → get_or (picture t.segs.storage (i + 2) page) (o % 1024) 0 ≡ 0
+blank_word : (p : Plan) (s : Store) (t : Held) (n o i page : ℕ) → AreTied p s t → IsTarget t n o i page → IsBlank t i page → get_or (picture t.segs (i + 2) page) (o % 1024) 0 ≡ 0
 blank_word p s t n o i page h g blank = ap (λ (xs : List ℕ). get_or xs (o % 1024) 0) blank.words ∙ get_or-replicate 1024 (o % 1024) 0 0 (omega arith)
 
 -- what a page that isn't in a frame is answered, seen by its word
@@ -171,7 +172,7 @@ stored_old xs u o w on = by_zero (eqb w 0) (with_old xs u (o / 1024) on)
 stored_new : (xs : List (ℕ × ℕ)) (u o w : ℕ) → eqb w 0 ≡ false → cond (eqb w 0) xs (with_stored xs u (o / 1024)) ≡ with_stored xs u (o / 1024)
 stored_new xs u o w h = rw h refl
 
-pub write_through : (p : Plan) (es : List Entry) (t new : Held) (place n o w i page : ℕ) → Holds p es t → IsAt p es place → command_at p 0 place ≡ Some (command.Write n o w) → IsTarget t n o i page → is_filed t.segs.storage (i + 2) page ≡ true → IsPut t new i page (o % 1024) w → IsDone p es t new place reply.Done
+pub write_through : (p : Plan) (es : List Entry) (t new : Held) (place n o w i page : ℕ) → Holds p es t → IsAt p es place → command_at p 0 place ≡ Some (command.Write n o w) → IsTarget t n o i page → is_filed t.segs (i + 2) page ≡ true → IsPut t new i page (o % 1024) w → IsDone p es t new place reply.Done
 write_through p es t new place n o w i page h at is g filed put =
     let s = store_after p es in
     let r = reached_by p s t n o i page h.tied (numbers_are p s t h.tied at.going) g in
@@ -183,7 +184,7 @@ write_through p es t new place n o w i page h at is g filed put =
     ∙ ap (λ (z : Bool). cond (not (eqb w 0) && not z) (cond (eqb t.stored p.quota) reply.Quota (cond (is_full t.segs.storage.records (volume_at t.segs i)) reply.NoRecord reply.Done)) reply.Done) on
     ∙ always (eqb w 0))
     (ap (λ (xs : List (ℕ × ℕ)). record s { words = with_word s.words (i + 2) o w; stored = xs }) stored)
-    (tied_put p s t new i o w h.tied there (put.words ∙ ap (λ (y : ℕ). changed_at (picture t.segs.storage) (i + 2) y (set (picture t.segs.storage (i + 2) y) (o % 1024) w)) (sym r.here)) put.filed put.names.homes put.names.tree put.names.known put.names.lengths put.count put.counts.records put.counts.places put.counts.sizes.records put.counts.sizes.places)
+    (tied_put p s t new i o w h.tied there (put.words ∙ ap (λ (y : ℕ). changed_at (picture t.segs) (i + 2) y (set (picture t.segs (i + 2) y) (o % 1024) w)) (sym r.here)) put.filed put.names.homes put.names.tree put.names.known put.names.lengths put.count put.counts.records put.counts.places put.counts.sizes.records put.counts.sizes.places)
     put.counts.sizes.frames put.counts.sizes.volumes
   where
     always : (z : Bool) → cond (not z && false) (cond (eqb t.stored p.quota) reply.Quota (cond (is_full t.segs.storage.records (volume_at t.segs i)) reply.NoRecord reply.Done)) reply.Done ≡ reply.Done
@@ -265,9 +266,9 @@ write_created p es t new place n o w i page h at is g blank some room space made
     write_done p es t new place n o w i page (record s { words = with_word s.words (i + 2) o w; stored = with_stored s.stored (i + 2) (o / 1024) }) h at is r
     (write_within p s t n o w i page h.tied r ∙ rw (some, off, room, space) refl)
     (ap (λ (xs : List (ℕ × ℕ)). record s { words = with_word s.words (i + 2) o w; stored = xs }) stored)
-    (tied_create p s t new i o w h.tied g.there few off_there (ap (picture t.segs.storage (i + 2)) r.here ∙ blank.words) (room_left p s t h.tied room)
-    (made.words ∙ ap (λ (y : ℕ). changed_at (picture t.segs.storage) (i + 2) y (set (replicate 1024 0) (o % 1024) w)) (sym r.here))
-    (made.filed ∙ ap (λ (y : ℕ). changed_at (is_filed t.segs.storage) (i + 2) y true) (sym r.here))
+    (tied_create p s t new i o w h.tied g.there few off_there (ap (picture t.segs (i + 2)) r.here ∙ blank.words) (room_left p s t h.tied room)
+    (made.words ∙ ap (λ (y : ℕ). changed_at (picture t.segs) (i + 2) y (set (replicate 1024 0) (o % 1024) w)) (sym r.here))
+    (made.filed ∙ ap (λ (y : ℕ). changed_at (is_filed t.segs) (i + 2) y true) (sym r.here))
     made.records made.places made.sizes.records made.sizes.places made.names.homes made.names.tree made.names.known made.names.lengths made.count)
     made.sizes.frames made.sizes.volumes
 

@@ -1,5 +1,5 @@
 -- The tables at the boot.
-use Rattle.std.proofs.Common.{◌≡◌, ◌≢◌, ℕ, zero, suc, ◌+◌, ◌<◌, ◌≤◌, Bool, true, false, cond, eqb, List, [], ◌∷◌, length, Option, Some, None, is_some, replicate, refl, sym, ap, ◌∙◌, arith, get_or, inl, inr}
+use Rattle.std.proofs.Common.{◌≡◌, ◌≢◌, ℕ, zero, suc, ◌+◌, ◌<◌, ◌≤◌, Bool, true, false, cond, eqb, List, [], ◌∷◌, length, Option, Some, None, is_some, replicate, refl, sym, ap, subst, ◌∙◌, arith, get_or, inl, inr}
 use Rattle.std.proofs.lemmas.Bool.{cases_lt}
 use Rattle.std.proofs.lemmas.Bool.Decides.{nat_tests}
 use Rattle.std.proofs.lemmas.List.{length-replicate, get_or-replicate, get_or_past}
@@ -9,8 +9,9 @@ use Rattle.tree_model.specs.Tree.{Node, taken_on, entries_on}
 use Rattle.flat_model.specs.Store.{boot, root_of, at_first, records_of, entries_of}
 use Rattle.dir_tree.specs.Nodes.{root_alone}
 use Rattle.known_segs.specs.Known.{uid_of}
-use Rattle.page_control.specs.Plain.{Plain}
-use Rattle.page_control.specs.Picture.{picture, is_stored as is_filed}
+use Rattle.page_control.specs.declared.Home.{Home}
+use Rattle.paged_segs.specs.Segs.{Segs}
+use Rattle.paged_segs.specs.Shown.{picture, is_stored as is_filed}
 use Rattle.paged_segs.specs.Counts.{taken, size, used, entries}
 use Rattle.runner.specs.Tables.{Held, AreNamed, AreNumbered, ArePages, AreTied}
 
@@ -59,8 +60,8 @@ numbered_boot p = record {
     apart : (u : ℕ) → None ≡ Some u → ⊥
     apart u e = cc
 
-pages_boot : (storage : Plain) → ((uid q : ℕ) → picture storage uid q ≡ replicate 1024 0) → ((uid q : ℕ) → is_filed storage uid q ≡ false) → ArePages (λ u x. 0) [] 0 storage
-pages_boot storage shown filed = record {
+pages_boot : (segs : Segs) → ((uid q : ℕ) → picture segs uid q ≡ replicate 1024 0) → ((uid q : ℕ) → is_filed segs uid q ≡ false) → ArePages (λ u x. 0) [] 0 segs
+pages_boot segs shown filed = record {
   words = λ i page o lp lo. ap (λ (words : List ℕ). get_or words o 0) (shown (i + 2) page) ∙ get_or-replicate 1024 o 0 0 lo;
   stored = λ u page. sym (filed u page);
   inside = λ u page on. absurd (apart on);
@@ -83,7 +84,7 @@ one_entry p v = sum_by-cons (λ (n : Node). cond (eqb n.volume v) 1 0) (root_of 
     by_volume true b e = rw (sym e) refl
     by_volume false b e = rw (sym e) refl
 
-pub tied_boot : (p : Plan) (t : Held) → t.segs.homes ≡ [] → ((uid q : ℕ) → picture t.segs.storage uid q ≡ replicate 1024 0) → ((uid q : ℕ) → is_filed t.segs.storage uid q ≡ false)
+pub tied_boot : (p : Plan) (t : Held) → t.segs.homes ≡ [] → ((uid q : ℕ) → picture t.segs uid q ≡ replicate 1024 0) → ((uid q : ℕ) → is_filed t.segs uid q ≡ false)
     → ((v : ℕ) → taken t.segs.storage.records v ≡ 0) → ((v : ℕ) → used t.segs.storage.vtocs v ≡ cond (eqb v 0) 1 0)
     → ((v : ℕ) → size t.segs.storage.records v ≡ records_of p v) → ((v : ℕ) → entries t.segs.storage.vtocs v ≡ entries_of p v)
     → t.tree ≡ root_alone 0 0 → t.known ≡ replicate 256 None → t.lengths ≡ [] → t.stored ≡ 0 → AreTied p (boot p) t
@@ -91,7 +92,7 @@ unfolding boot
 tied_boot p t homes shown filed records places record_sizes entry_sizes tree known lengths stored = record {
   named = rw (homes, tree, lengths) (named_boot p);
   numbered = rw (homes, known) (numbered_boot p);
-  pages = rw homes (pages_boot t.segs.storage shown filed);
+  pages = subst (λ (xs : List Home). ArePages (λ u x. 0) [] (length xs) t.segs) (sym homes) (pages_boot t.segs shown filed);
   counted = record {
     stored = stored;
     within = omega arith;

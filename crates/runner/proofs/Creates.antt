@@ -1,19 +1,15 @@
 -- A page that wasn't stored gets its first word.
-use Rattle.std.proofs.Common.{◌≡◌, ℕ, ◌+◌, ◌/◌, ◌%◌, ◌<◌, ◌≤◌, Bool, true, false, cond, eqb, ◌&&◌, ◌||◌, List, Option, Some, None, length, refl, sym, ap, subst, ◌∙◌, ◌-◌, arith, get_or, set, replicate}
+use Rattle.std.proofs.Common.{◌≡◌, ℕ, ◌+◌, ◌/◌, ◌%◌, ◌<◌, ◌≤◌, Bool, true, false, cond, eqb, ◌&&◌, ◌||◌, List, length, refl, sym, ap, ◌∙◌, arith, get_or, set, replicate}
 use Rattle.std.proofs.lemmas.Bool.Decides.{nat_tests}
-use Rattle.std.proofs.lemmas.List.{length-replicate, length-map, get_or-set_same}
+use Rattle.std.proofs.lemmas.List.{length-replicate}
 use Rattle.script.specs.Plans.{Plan}
 use Rattle.flat_model.specs.Pages.{with_word, is_stored, with_stored}
 use Rattle.flat_model.specs.Store.{Store}
 use Rattle.flat_model.proofs.PageLaws.{is_stored-with, once_with, length-with_new}
 use Rattle.page_control.specs.declared.Home.{Home}
-use Rattle.core_map.specs.CoreMap.{IsLeastFreeFrame}
-use Rattle.page_table.specs.declared.Ptw.TheVariants.{Here}
-use Rattle.page_control.specs.Plain.{Plain, bindings, binding_at}
-use Rattle.page_control.specs.Picture.{picture, is_stored as is_filed, changed_at}
-use Rattle.paged_segs.specs.Segs.{Segs, volume_at, word_at}
-use Rattle.paged_segs.specs.Kept.{IsKept}
-use Rattle.paged_segs.proofs.Located.{page_bound}
+use Rattle.page_control.specs.Picture.{changed_at}
+use Rattle.paged_segs.specs.Shown.{picture, is_stored as is_filed}
+use Rattle.paged_segs.specs.Segs.{Segs, volume_at}
 use Rattle.paged_segs.specs.Counts.{taken, size, used, entries, one_more}
 use Rattle.runner.specs.Tables.{Held, ArePages, AreTied}
 use Rattle.runner.proofs.Parts.{named_same, numbered_same}
@@ -28,7 +24,7 @@ stored_create xs filed u q v page same = is_stored-with xs u q v page ∙ chosen
     chosen true = refl
     chosen false = same
 
-pages_create : (s : Store) (count i o w : ℕ) (old new : Plain) → ArePages s.words s.stored count old → i < count → o / 1024 < 256 → is_stored s.stored (i + 2) (o / 1024) ≡ false
+pages_create : (s : Store) (count i o w : ℕ) (old new : Segs) → ArePages s.words s.stored count old → i < count → o / 1024 < 256 → is_stored s.stored (i + 2) (o / 1024) ≡ false
     → picture old (i + 2) (o / 1024) ≡ replicate 1024 0 → picture new ≡ changed_at (picture old) (i + 2) (o / 1024) (set (replicate 1024 0) (o % 1024) w)
     → is_filed new ≡ changed_at (is_filed old) (i + 2) (o / 1024) true → ArePages (with_word s.words (i + 2) o w) (with_stored s.stored (i + 2) (o / 1024)) count new
 pages_create s count i o w old new h li lo off zeros shown filed =
@@ -55,9 +51,9 @@ pages_create s count i o w old new h li lo off zeros shown filed =
 
 -- a page of segment i that wasn't stored gets a word
 pub tied_create : (p : Plan) (s : Store) (old new : Held) (i o w : ℕ) → AreTied p s old → i < length old.segs.homes → o / 1024 < 256 → is_stored s.stored (i + 2) (o / 1024) ≡ false
-    → picture old.segs.storage (i + 2) (o / 1024) ≡ replicate 1024 0 → length s.stored < p.quota
-    → picture new.segs.storage ≡ changed_at (picture old.segs.storage) (i + 2) (o / 1024) (set (replicate 1024 0) (o % 1024) w)
-    → is_filed new.segs.storage ≡ changed_at (is_filed old.segs.storage) (i + 2) (o / 1024) true
+    → picture old.segs (i + 2) (o / 1024) ≡ replicate 1024 0 → length s.stored < p.quota
+    → picture new.segs ≡ changed_at (picture old.segs) (i + 2) (o / 1024) (set (replicate 1024 0) (o % 1024) w)
+    → is_filed new.segs ≡ changed_at (is_filed old.segs) (i + 2) (o / 1024) true
     → taken new.segs.storage.records ≡ one_more (taken old.segs.storage.records) (volume_at old.segs i) → used new.segs.storage.vtocs ≡ used old.segs.storage.vtocs
     → size new.segs.storage.records ≡ size old.segs.storage.records → entries new.segs.storage.vtocs ≡ entries old.segs.storage.vtocs
     → new.segs.homes ≡ old.segs.homes → new.tree ≡ old.tree → new.known ≡ old.known → new.lengths ≡ old.lengths → new.stored ≡ old.stored + 1
@@ -70,7 +66,7 @@ tied_create p s old new i o w h li lo off zeros room shown filed records places 
     record {
       named = named_same p s.nodes s.next old.segs.homes new.segs.homes old.tree new.tree old.lengths new.lengths h.named homes tree lengths;
       numbered = numbered_same p s.known (length old.segs.homes) (length new.segs.homes) old.known new.known h.numbered (omega (arith, count)) known;
-      pages = rw count (pages_create s (length old.segs.homes) i o w old.segs.storage new.segs.storage h.pages li lo off zeros shown filed);
+      pages = rw count (pages_create s (length old.segs.homes) i o w old.segs new.segs h.pages li lo off zeros shown filed);
       counted = record {
         stored = omega (arith, stored, total, longer);
         within = omega (arith, longer, room);
@@ -83,13 +79,3 @@ tied_create p s old new i o w h li lo off zeros room shown filed records places 
       };
       processes = h.processes;
     }
-
--- the page to which a free frame was bound is there
-pub bound_there : (s now : Segs) (i p f : ℕ) → IsKept now → IsLeastFreeFrame s.storage.core f
-    → bindings now.storage.core ≡ set (bindings s.storage.core) f (Some (i + 2, p)) → word_at now i p ≡ Here f
-bound_there s now i p f k least binding =
-    let inside : f < length (bindings s.storage.core) = subst (λ n. f < n) (sym (length-map s.storage.core.frames _)) least.within in
-    let at : binding_at (bindings now.storage.core) f ≡ Some (i + 2, p) =
-    ap (λ (xs : List (Option (ℕ × ℕ))). binding_at xs f) binding ∙ get_or-set_same (bindings s.storage.core) f (Some (i + 2, p)) None inside in
-    let back : (i + 2) - 2 ≡ i = omega (arith) in
-    subst (λ j. word_at now j p ≡ Here f) back (page_bound now f (i + 2) p k at).here

@@ -3,17 +3,18 @@ use Rattle.std.proofs.Common.{◌≡◌, ◌≢◌, ℕ, ◌+◌, ◌-◌, ◌*�
 use Rattle.std.proofs.lemmas.Bool.{cases_eq}
 use Rattle.script.specs.Plans.{Plan}
 use Rattle.tree_model.specs.Tree.{Node, node_in, has_directory}
-use Rattle.vtoc.specs.Vtoc.{Entry, entry_at, uid_of}
+use Rattle.vtoc.specs.Vtoc.{Entry, entry_at, record_at, uid_of}
 use Rattle.volumes.specs.CoreDrive.{DriveState}
 use Rattle.volumes.specs.Volumes.{Vols}
 use Rattle.flat_model.specs.Pages.{is_stored}
 use Rattle.flat_model.specs.Store.{Store}
-use Rattle.page_control.specs.Plain.{disk_of}
-use Rattle.page_control.specs.Picture.{picture, is_filed_in, volume_of, record_named, words_filed}
-use Rattle.page_control.specs.Tied.{AreFiled, IsHomeOf, vtoc_in}
+use Rattle.page_control.specs.declared.Home.{Home}
+use Rattle.page_control.specs.Picture.{is_filed_at, words_filed, words_out, is_stored as is_named}
+use Rattle.paged_segs.specs.Shown.{picture, is_stored as is_filed}
+use Rattle.page_control.specs.Tied.{AreFiled, uid_at, vtoc_in}
 use Rattle.paged_segs.specs.Segs.{Segs, home_at, volume_at, pages_of}
 use Rattle.paged_segs.specs.Counts.{taken, used}
-use Rattle.paged_segs.specs.Kept.{IsKept}
+use Rattle.paged_segs.specs.Kept.{AreHomed}
 use Rattle.runner.specs.Tables.{Held, AreTied}
 use Rattle.runner.specs.OnDisk.{HasEntry, IsThere, IsOnDisk, words_on_disk}
 use Rattle.runner.proofs.Refers.{node_at}
@@ -21,11 +22,12 @@ use Rattle.runner.proofs.Trees.{segment_there}
 
 -- the volumes that the segments leave
 pub record AreLeft (s : Segs) (v : Vols DriveState) : Type 0 where
-  pub kept : IsKept s
+  pub homed : AreHomed s
   pub disks : map pages_of v.drives ≡ s.storage.disks
   pub records : v.records ≡ s.storage.records
   pub vtocs : v.vtocs ≡ s.storage.vtocs
-  pub words : (uid q : ℕ) → picture s.storage uid q ≡ words_filed (disk_of s.storage (volume_of s.storage.vtocs uid)) (record_named s.storage.vtocs uid q)
+  pub words : (home : Home) (uid q : ℕ) → uid_at s.storage.vtocs home ≡ Some uid → picture s uid q ≡ words_out s.storage home q
+  pub stored : (home : Home) (uid q : ℕ) → uid_at s.storage.vtocs home ≡ Some uid → is_filed s uid q ≡ is_named s.storage home q
 
 node_kind : (ns : List Node) (u : ℕ) (n : Node) → node_in ns u ≡ Some n → has_directory ns u ≡ n.directory
 node_kind [] u n e = absurd (apart e)
@@ -64,56 +66,65 @@ segment_at p s t u h two most =
 node_same : (o : Option Node) (n m : Node) → o ≡ Some n → o ≡ Some m → n ≡ m
 node_same o n m a b = cc
 
-home_there : (p : Plan) (s : Store) (t : Held) (u : ℕ) (n : Node) → AreTied p s t → IsKept t.segs → node_in s.nodes u ≡ Some n → n.directory ≡ false → HasEntry t.segs.storage.vtocs n.volume u
+home_there : (p : Plan) (s : Store) (t : Held) (u : ℕ) (n : Node) → AreTied p s t → AreHomed t.segs → node_in s.nodes u ≡ Some n → n.directory ≡ false
+    → HasEntry t.segs.storage.vtocs n.volume u
 home_there p s t u n h k is kind =
     let there = segment_there p s.nodes s.next t.segs.homes t.tree t.lengths u h.named (ap is_some is) (node_kind s.nodes u n is ∙ kind) in
     let at = segment_at p s t u h there.0 there.1 in
-    let home : IsHomeOf t.segs.storage.vtocs ((u - 2) + 2) (home_at t.segs.homes (u - 2)) = k.homes (u - 2) at.below in
+    let home : uid_at t.segs.storage.vtocs (home_at t.segs.homes (u - 2)) ≡ Some ((u - 2) + 2) = k.homes (u - 2) at.below in
     let volume : n.volume ≡ volume_at t.segs (u - 2) = ap (λ (x : Node). x.volume) (node_same (node_in s.nodes u) n at.node is at.is) ∙ at.on in
     record {
       place = (home_at t.segs.homes (u - 2)).entry;
-      used = ap (λ (w : ℕ). uid_of (entry_at (vtoc_in t.segs.storage.vtocs w) (home_at t.segs.homes (u - 2)).entry)) volume ∙ home.used ∙ ap (λ (x : ℕ). Some x) at.back;
+      used = ap (λ (w : ℕ). uid_of (entry_at (vtoc_in t.segs.storage.vtocs w) (home_at t.segs.homes (u - 2)).entry)) volume ∙ home ∙ ap (λ (x : ℕ). Some x) at.back;
     }
 
-owner_there : (p : Plan) (s : Store) (t : Held) (w e u : ℕ) → AreTied p s t → IsKept t.segs → uid_of (entry_at (vtoc_in t.segs.storage.vtocs w) e) ≡ Some u → (u ≡ 1) ⊎ IsThere s w u
+owner_there : (p : Plan) (s : Store) (t : Held) (w e u : ℕ) → AreTied p s t → AreHomed t.segs → uid_of (entry_at (vtoc_in t.segs.storage.vtocs w) e) ≡ Some u
+    → (u ≡ 1) ⊎ IsThere s w u
 owner_there p s t w e u h k is = by_root (cases_eq u 1)
   where
     by_root : (u ≡ 1) ⊎ (u ≢ 1) → (u ≡ 1) ⊎ IsThere s w u
     by_root (inl root) = inl root
     by_root (inr ne) =
-        let owner = k.owners (record { volume = w; entry = e }) u is in
-        let one = owner.0 in
-        let most = owner.1 in
-        let at = segment_at p s t u h (omega (arith, one, ne)) most in
-        let home : IsHomeOf t.segs.storage.vtocs ((u - 2) + 2) (home_at t.segs.homes (u - 2)) = k.homes (u - 2) at.below in
-        let only = home.only w e (is ∙ ap (λ (x : ℕ). Some x) (sym at.back)) in
-        inr (record { node = at.node; is = at.is; kind = at.kind; on = at.on ∙ sym only.0 })
+        let owner = k.owners (record { volume = w; entry = e }) u is ne in
+        let at = segment_at p s t u h owner.0 owner.1 in
+        inr (record { node = at.node; is = at.is; kind = at.kind; on = at.on ∙ sym (ap (λ (x : Home). x.volume) owner.2) })
 
-maps_same : (p : Plan) (s : Store) (t : Held) (u page : ℕ) → AreTied p s t → is_some (record_named t.segs.storage.vtocs u page) ≡ is_stored s.stored u page
-unfolding is_filed_in
-maps_same p s t u page h = sym (h.pages.stored u page)
-
-words_same : (p : Plan) (s : Store) (t : Held) (u page o : ℕ) → AreTied p s t → is_stored s.stored u page ≡ true → o < 1024 → get_or (picture t.segs.storage u page) o 0 ≡ s.words u (1024 * page + o)
+words_same : (p : Plan) (s : Store) (t : Held) (u page o : ℕ) → AreTied p s t → is_stored s.stored u page ≡ true → o < 1024
+    → get_or (picture t.segs u page) o 0 ≡ s.words u (1024 * page + o)
 words_same p s t u page o h on lo =
     let there = h.pages.inside u page on in
     let two = there.0 in
     let back : (u - 2) + 2 ≡ u = omega (arith, two) in
-    subst (λ (x : ℕ). get_or (picture t.segs.storage x page) o 0 ≡ s.words x (1024 * page + o)) back (h.pages.words (u - 2) page o there.2 lo)
+    subst (λ (x : ℕ). get_or (picture t.segs x page) o 0 ≡ s.words x (1024 * page + o)) back (h.pages.words (u - 2) page o there.2 lo)
 
-words_left : (t : Held) (v : Vols DriveState) (u page : ℕ) → AreLeft t.segs v → words_on_disk v u page ≡ picture t.segs.storage u page
-words_left t v u page l =
-    ap (λ (xs : List (List (List ℕ))). words_filed (get_or xs (volume_of v.vtocs u) []) (record_named v.vtocs u page)) l.disks
-    ∙ ap (λ (xs : List (List (Option Entry))). words_filed (disk_of t.segs.storage (volume_of xs u)) (record_named xs u page)) l.vtocs
-    ∙ sym (l.words u page)
+-- an entry that is used at the end was used before
+was_used : (t : Held) (v : Vols DriveState) (w e u : ℕ) → AreLeft t.segs v → uid_of (entry_at (vtoc_in v.vtocs w) e) ≡ Some u
+    → uid_at t.segs.storage.vtocs (record { volume = w; entry = e }) ≡ Some u
+was_used t v w e u l used = ap (λ (xs : List (List (Option Entry))). uid_of (entry_at (vtoc_in xs w) e)) (sym l.vtocs) ∙ used
+
+words_left : (t : Held) (v : Vols DriveState) (w e u page : ℕ) → AreLeft t.segs v → uid_of (entry_at (vtoc_in v.vtocs w) e) ≡ Some u
+    → words_on_disk v w e page ≡ picture t.segs u page
+words_left t v w e u page l used =
+    ap (λ (xs : List (List (List ℕ))). words_filed (get_or xs w []) (record_at (vtoc_in v.vtocs w) e page)) l.disks
+    ∙ ap (λ (xs : List (List (Option Entry))). words_filed (get_or t.segs.storage.disks w []) (record_at (vtoc_in xs w) e page)) l.vtocs
+    ∙ sym (l.words (record { volume = w; entry = e }) u page (was_used t v w e u l used))
+
+maps_same : (p : Plan) (s : Store) (t : Held) (v : Vols DriveState) (w e u page : ℕ) → AreTied p s t → AreLeft t.segs v → uid_of (entry_at (vtoc_in v.vtocs w) e) ≡ Some u
+    → is_some (record_at (vtoc_in v.vtocs w) e page) ≡ is_stored s.stored u page
+unfolding is_filed_at
+maps_same p s t v w e u page h l used =
+    ap (λ (xs : List (List (Option Entry))). is_some (record_at (vtoc_in xs w) e page)) l.vtocs
+    ∙ sym (l.stored (record { volume = w; entry = e }) u page (was_used t v w e u l used)) ∙ sym (h.pages.stored u page)
 
 pub on_disk : (p : Plan) (s : Store) (t : Held) (v : Vols DriveState) → AreTied p s t → AreLeft t.segs v → IsOnDisk v s
 on_disk p s t v h l = record {
-  root = ap (λ (xs : List (List (Option Entry))). uid_of (entry_at (vtoc_in xs 0) 0)) l.vtocs ∙ l.kept.root.used;
-  homes = λ u n is kind. subst (λ (xs : List (List (Option Entry))). HasEntry xs n.volume u) (sym l.vtocs) (home_there p s t u n h l.kept is kind);
-  owners = λ w e u is. owner_there p s t w e u h l.kept (ap (λ (xs : List (List (Option Entry))). uid_of (entry_at (vtoc_in xs w) e)) (sym l.vtocs) ∙ is);
+  root = ap (λ (xs : List (List (Option Entry))). uid_of (entry_at (vtoc_in xs 0) 0)) l.vtocs ∙ l.homed.root;
+  homes = λ u n is kind. subst (λ (xs : List (List (Option Entry))). HasEntry xs n.volume u) (sym l.vtocs) (home_there p s t u n h l.homed is kind);
+  owners = λ w e u is. owner_there p s t w e u h l.homed (was_used t v w e u l is);
   places = λ w. ap (λ (xs : List (List (Option Entry))). used xs w) l.vtocs ∙ sym (h.counted.homes w);
-  maps = λ u page. ap (λ (xs : List (List (Option Entry))). is_some (record_named xs u page)) l.vtocs ∙ maps_same p s t u page h;
-  filed = subst (λ (xs : List (List (Option Entry))). AreFiled v.records xs) (sym l.vtocs) (subst (λ (xs : List (List Bool)). AreFiled xs t.segs.storage.vtocs) (sym l.records) l.kept.filed);
+  maps = λ w e u page is. maps_same p s t v w e u page h l is;
+  filed = subst (λ (xs : List (List (Option Entry))). AreFiled v.records xs) (sym l.vtocs)
+      (subst (λ (xs : List (List Bool)). AreFiled xs t.segs.storage.vtocs) (sym l.records) l.homed.filed);
   records = λ w. ap (λ (xs : List (List Bool)). taken xs w) l.records ∙ sym (h.counted.records w);
-  words = λ u page o on lo. ap (λ (xs : List ℕ). get_or xs o 0) (words_left t v u page l) ∙ words_same p s t u page o h on lo;
+  words = λ w e u page o is on lo. ap (λ (xs : List ℕ). get_or xs o 0) (words_left t v w e u page l is) ∙ words_same p s t u page o h on lo;
 }

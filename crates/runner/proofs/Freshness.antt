@@ -16,7 +16,7 @@ use Rattle.paged_segs.specs.Kept.{AreFresh}
 use Rattle.paged_segs.specs.Effects.{begun}
 use Rattle.core_map.specs.declared.Frame.TheVariants.{Free}
 use Rattle.dir_tree.specs.Nodes.{root_alone}
-use Rattle.page_control.specs.Picture.{picture, is_stored as is_filed}
+use Rattle.paged_segs.specs.Shown.{picture, is_stored as is_filed}
 use Rattle.flat_model.specs.Legal.{IsComplete, part}
 use Rattle.flat_model.proofs.BookLaws.{legal_nil, store_after-nil}
 use Rattle.runner.specs.Machines.{Holds, IsForm, IsUnderway}
@@ -80,10 +80,16 @@ sound_plans (x ∷ xs) = by_place (sound_plans xs)
     by_place rest zero d lt = refl
     by_place rest (suc k) d lt = rest k d (omega (arith, lt))
 
+none_named : (n r : ℕ) → get_or (replicate n false) r false ≡ false
+none_named zero r = refl
+none_named (suc n) zero = refl
+none_named (suc n) (suc r) = none_named n r
+
 pub are_fresh : (p : Plan) → 1 ≤ entries_of p 0 → ((v : ℕ) → records_of p v < 65536) → AreFresh (volumes_of p.volumes)
 are_fresh p root short = record {
   free = λ w e. ap (λ (xs : List (Option Entry)). entry_at xs e) (vtoc_is p.volumes w) ∙ nothing_there (entries_of p w) e;
   root = omega (arith, root, entries_fit p 0);
+  unused = λ w r. ap (λ (flags : List Bool). get_or flags r false) (flags_are p.volumes w) ∙ none_named (records_in (slice_get p.volumes w)) r;
   sound = sound_plans p.volumes;
   short = λ w. omega (arith, short w, records_fit p w);
 }
@@ -109,7 +115,7 @@ pub disks_count : (p : Plan) → length (map pages_of (volumes_of p.volumes).dri
 disks_count p =
     length-map (volumes_of p.volumes).drives pages_of ∙ length-map (map part_of p.volumes) (λ (part : Part DriveState). part.drive) ∙ length-map p.volumes part_of
 
-pub holds_begun : (p : Plan) (t : Held) → IsForm p → t.segs ≡ begun p.frames (volumes_of p.volumes) → ((uid q : ℕ) → picture t.segs.storage uid q ≡ replicate 1024 0) → ((uid q : ℕ) → is_filed t.segs.storage uid q ≡ false) → used t.segs.storage.vtocs ≡ one_more (used (volumes_of p.volumes).vtocs) 0 → t.tree ≡ root_alone 0 0 → t.known ≡ replicate 256 None → t.lengths ≡ [] → t.stored ≡ 0 → Holds p [] t
+pub holds_begun : (p : Plan) (t : Held) → IsForm p → t.segs ≡ begun p.frames (volumes_of p.volumes) → ((uid q : ℕ) → picture t.segs uid q ≡ replicate 1024 0) → ((uid q : ℕ) → is_filed t.segs uid q ≡ false) → used t.segs.storage.vtocs ≡ one_more (used (volumes_of p.volumes).vtocs) 0 → t.tree ≡ root_alone 0 0 → t.known ≡ replicate 256 None → t.lengths ≡ [] → t.stored ≡ 0 → Holds p [] t
 holds_begun p t f segs shown filed places tree known lengths stored = record {
   form = f;
   legal = legal_nil p;

@@ -11,16 +11,12 @@ use Rattle.flat_model.proofs.PageLaws.{is_stored-without, once_without, length-w
 use Rattle.page_control.specs.declared.Home.{Home}
 use Rattle.page_control.specs.declared.Left.{Left}
 use Rattle.page_control.specs.declared.Left.TheVariants.{Released, Kept}
-use Rattle.page_control.specs.Plain.{Plain}
-use Rattle.page_control.specs.Picture.{picture, is_stored as is_filed, changed_at, stored_after}
-use Rattle.page_control.specs.Tied.{has_record}
-use Rattle.page_control.proofs.Laws.{stored_shown}
+use Rattle.page_control.specs.Picture.{changed_at, stored_after}
+use Rattle.paged_segs.specs.Shown.{picture, is_stored as is_filed}
 use Rattle.paged_segs.specs.declared.Evicted.{Evicted}
-use Rattle.paged_segs.specs.Segs.{Segs, home_at, table_at, volume_at}
+use Rattle.paged_segs.specs.Segs.{Segs, volume_at}
 use Rattle.paged_segs.specs.Counts.{taken, one_less, taken_after}
 use Rattle.paged_segs.specs.Effects.{IsEmptied}
-use Rattle.paged_segs.specs.Kept.{IsKept}
-use Rattle.paged_segs.proofs.Located.{page_bound}
 use Rattle.runner.specs.Tables.{Held, ArePages, AreTied}
 use Rattle.runner.proofs.Parts.{named_same, numbered_same, pages_same, counted_same}
 use Rattle.runner.proofs.Volumes.{volume_at_uid, taken_less}
@@ -34,25 +30,19 @@ abbrev pub count_left : ℕ → Left → ℕ
 count_left n Released = n - 1
 count_left n Kept = n
 
--- a page in a frame is stored
-pub filed_of_kept : (old new : Segs) (gone : Evicted) → IsKept old → IsEmptied old new gone → is_filed old.storage gone.uid gone.page ≡ true
-filed_of_kept old new gone k e =
-    let its = page_bound old gone.frame gone.uid gone.page k e.bound in
-    stored_shown old.storage gone.uid gone.page (home_at old.homes (gone.uid - 2)) (table_at old.tables (gone.uid - 2)) its.tie.used its.tie.map ∙ ap has_record its.here
-
-zero_word : (ws : Words) (xs : List (ℕ × ℕ)) (count u q : ℕ) (storage : Plain) → ArePages ws xs count storage → is_stored xs u q ≡ true → AreZero (picture storage u q) → (x : ℕ) → x < 1024 → ws u (1024 * q + x) ≡ 0
-zero_word ws xs count u q storage h on zeros x lx =
+zero_word : (ws : Words) (xs : List (ℕ × ℕ)) (count u q : ℕ) (segs : Segs) → ArePages ws xs count segs → is_stored xs u q ≡ true → AreZero (picture segs u q) → (x : ℕ) → x < 1024 → ws u (1024 * q + x) ≡ 0
+zero_word ws xs count u q segs h on zeros x lx =
     let there = h.inside u q on in
     let two = there.0 in
     let size = h.sizes u q on in
     let back : (u - 2) + 2 ≡ u = omega (arith, two) in
     subst (λ (v : ℕ). ws v (1024 * q + x) ≡ 0) back
-    (sym (h.words (u - 2) q x there.2 lx) ∙ ap (λ (v : ℕ). get_or (picture storage v q) x 0) back ∙ zeros x 0 (omega (arith, size, lx)))
+    (sym (h.words (u - 2) q x there.2 lx) ∙ ap (λ (v : ℕ). get_or (picture segs v q) x 0) back ∙ zeros x 0 (omega (arith, size, lx)))
 
-pub may_release : (p : Plan) (s : Store) (old new : Held) (gone : Evicted) → AreTied p s old → is_filed old.segs.storage gone.uid gone.page ≡ true → IsEmptied old.segs new.segs gone → gone.left ≡ Released → MayRelease s gone.uid gone.page
+pub may_release : (p : Plan) (s : Store) (old new : Held) (gone : Evicted) → AreTied p s old → is_filed old.segs gone.uid gone.page ≡ true → IsEmptied old.segs new.segs gone → gone.left ≡ Released → MayRelease s gone.uid gone.page
 may_release p s old new gone h filed e left =
     let on : is_stored s.stored gone.uid gone.page ≡ true = h.pages.stored gone.uid gone.page ∙ filed in
-    record { there = on; zeros = words_zero s.words gone.uid gone.page (zero_word s.words s.stored (length old.segs.homes) gone.uid gone.page old.segs.storage h.pages on (e.zeros.0 left)) }
+    record { there = on; zeros = words_zero s.words gone.uid gone.page (zero_word s.words s.stored (length old.segs.homes) gone.uid gone.page old.segs h.pages on (e.zeros.0 left)) }
 
 stored_gone : (xs : List (ℕ × ℕ)) (filed : ℕ → ℕ → Bool) (u q v page : ℕ) → is_stored xs v page ≡ filed v page → is_stored (without_stored xs u (λ y. eqb y q)) v page ≡ changed_at filed u q false v page
 unfolding changed_at
@@ -71,7 +61,7 @@ stored_gone xs filed u q v page same =
     chosen true = refl
     chosen false = same
 
-pages_gone : (ws : Words) (xs : List (ℕ × ℕ)) (count u q : ℕ) (old new : Plain) → ArePages ws xs count old → picture new ≡ picture old → is_filed new ≡ changed_at (is_filed old) u q false → ArePages ws (without_stored xs u (λ y. eqb y q)) count new
+pages_gone : (ws : Words) (xs : List (ℕ × ℕ)) (count u q : ℕ) (old new : Segs) → ArePages ws xs count old → picture new ≡ picture old → is_filed new ≡ changed_at (is_filed old) u q false → ArePages ws (without_stored xs u (λ y. eqb y q)) count new
 pages_gone ws xs count u q old new h shown filed = record {
   words = λ i page o lp lo. ap (λ (f : ℕ → ℕ → List ℕ). get_or (f (i + 2) page) o 0) shown ∙ h.words i page o lp lo;
   stored = λ v page. stored_gone xs (is_filed old) u q v page (h.stored v page) ∙ sym (λ k. filed k v page);
@@ -102,14 +92,14 @@ released p s old new gone h e on left stored tree known lengths =
     let two = e.some in
     let below = e.segment in
     let shorter : length (without_stored s.stored gone.uid (λ y. eqb y gone.page)) + 1 ≡ length s.stored = length-without s.stored gone.uid gone.page h.pages.once on in
-    let filed : is_filed new.segs.storage ≡ changed_at (is_filed old.segs.storage) gone.uid gone.page false =
-    e.stored ∙ ap (stored_after (is_filed old.segs.storage) gone.uid gone.page) left in
+    let filed : is_filed new.segs ≡ changed_at (is_filed old.segs) gone.uid gone.page false =
+    e.stored ∙ ap (stored_after (is_filed old.segs) gone.uid gone.page) left in
     let fewer : taken new.segs.storage.records ≡ one_less (taken old.segs.storage.records) (volume_at old.segs (gone.uid - 2)) =
     e.records ∙ ap (taken_after (taken old.segs.storage.records) (volume_at old.segs (gone.uid - 2))) left in
     record {
       named = named_same p s.nodes s.next old.segs.homes new.segs.homes old.tree new.tree old.lengths new.lengths h.named e.homes tree lengths;
       numbered = numbered_same p s.known (length old.segs.homes) (length new.segs.homes) old.known new.known h.numbered (omega (arith, count)) known;
-      pages = rw count (pages_gone s.words s.stored (length old.segs.homes) gone.uid gone.page old.segs.storage new.segs.storage h.pages e.shown filed);
+      pages = rw count (pages_gone s.words s.stored (length old.segs.homes) gone.uid gone.page old.segs new.segs h.pages e.shown filed);
       counted = record {
         stored = omega (arith, stored, total, shorter);
         within = omega (arith, shorter, within);
@@ -130,14 +120,14 @@ kept p s old new gone h e left stored tree known lengths =
     record {
       named = named_same p s.nodes s.next old.segs.homes new.segs.homes old.tree new.tree old.lengths new.lengths h.named e.homes tree lengths;
       numbered = numbered_same p s.known (length old.segs.homes) (length new.segs.homes) old.known new.known h.numbered (omega (arith, count)) known;
-      pages = pages_same s.words s.stored (length old.segs.homes) (length new.segs.homes) old.segs.storage new.segs.storage h.pages (omega (arith, count)) e.shown
-          (e.stored ∙ ap (stored_after (is_filed old.segs.storage) gone.uid gone.page) left);
+      pages = pages_same s.words s.stored (length old.segs.homes) (length new.segs.homes) old.segs new.segs h.pages (omega (arith, count)) e.shown
+          (e.stored ∙ ap (stored_after (is_filed old.segs) gone.uid gone.page) left);
       counted = counted_same p s.nodes s.stored old.segs.storage new.segs.storage old.stored new.stored h.counted stored
           (e.records ∙ ap (taken_after (taken old.segs.storage.records) (volume_at old.segs (gone.uid - 2))) left) e.homed e.sizes.records e.sizes.places;
       processes = h.processes;
     }
 
-pub tied_gone : (p : Plan) (s : Store) (old new : Held) (gone : Evicted) → AreTied p s old → IsEmptied old.segs new.segs gone → is_filed old.segs.storage gone.uid gone.page ≡ true
+pub tied_gone : (p : Plan) (s : Store) (old new : Held) (gone : Evicted) → AreTied p s old → IsEmptied old.segs new.segs gone → is_filed old.segs gone.uid gone.page ≡ true
     → new.stored ≡ count_left old.stored gone.left → new.tree ≡ old.tree → new.known ≡ old.known → new.lengths ≡ old.lengths → AreTied p (store_left s gone.uid gone.page gone.left) new
 tied_gone p s old new gone h e filed stored tree known lengths = by_left gone.left refl
   where

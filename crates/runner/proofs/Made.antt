@@ -15,7 +15,7 @@ use Rattle.flat_model.specs.Making.{owner_row}
 use Rattle.flat_model.proofs.CountLaws.{taken_new}
 use Rattle.dir_tree.specs.Nodes.{Branches, added}
 use Rattle.page_control.specs.declared.Home.{Home}
-use Rattle.page_control.specs.Picture.{picture, is_stored as is_filed}
+use Rattle.paged_segs.specs.Shown.{picture, is_stored as is_filed}
 use Rattle.paged_segs.specs.Segs.{Segs, home_at, root_home}
 use Rattle.paged_segs.specs.Counts.{taken, used, one_more}
 use Rattle.paged_segs.specs.Effects.{HasSizes, made, next_entry}
@@ -122,7 +122,7 @@ with_new p s pages volume directory name = record s {
 
 pub tied_made : (p : Plan) (s : Store) (old new : Held) (pages volume entry directory : ℕ) (name : List ℕ) → AreTied p s old → pages ≤ 256 → length s.nodes ≤ 4096
     → new.segs ≡ made old.segs volume → used new.segs.storage.vtocs ≡ one_more (used old.segs.storage.vtocs) volume
-    → picture new.segs.storage ≡ picture old.segs.storage → is_filed new.segs.storage ≡ is_filed old.segs.storage → HasSizes old.segs.storage new.segs.storage
+    → picture new.segs ≡ picture old.segs → is_filed new.segs ≡ is_filed old.segs → HasSizes old.segs.storage new.segs.storage
     → new.tree ≡ added old.tree directory (record { name = name; dir = false; volume = volume; entry = entry; length = pages; acl = owner_row (who_of p 0) ∷ [] })
     → new.lengths ≡ old.lengths ++ pages ∷ [] → new.known ≡ old.known → new.stored ≡ old.stored → AreTied p (with_new p s pages volume directory name) new
 tied_made p s old new pages volume entry directory name h few room segs places shown filed sizes tree lengths known stored =
@@ -134,7 +134,7 @@ tied_made p s old new pages volume entry directory name h few room segs places s
     record {
       named = rw (homes, tree, lengths) (named_made p s.nodes s.next old.segs.homes old.tree old.lengths home directory pages volume entry name (owner_row (who_of p 0) ∷ []) h.named few refl room refl);
       numbered = numbered_same p s.known (length old.segs.homes) (length new.segs.homes) old.known new.known h.numbered (omega (arith, more)) known;
-      pages = pages_same s.words s.stored (length old.segs.homes) (length new.segs.homes) old.segs.storage new.segs.storage h.pages (omega (arith, more)) shown filed;
+      pages = pages_same s.words s.stored (length old.segs.homes) (length new.segs.homes) old.segs new.segs h.pages (omega (arith, more)) shown filed;
       counted = record {
         stored = stored ∙ c.stored;
         within = c.within;

@@ -6,7 +6,8 @@ use Rattle.flat_model.specs.Pages.{Words}
 use Rattle.dir_tree.specs.Nodes.{Branches}
 use Rattle.page_control.specs.declared.Home.{Home}
 use Rattle.page_control.specs.Plain.{Plain}
-use Rattle.page_control.specs.Picture.{picture, is_stored as is_filed}
+use Rattle.paged_segs.specs.Segs.{Segs}
+use Rattle.paged_segs.specs.Shown.{picture, is_stored as is_filed}
 use Rattle.paged_segs.specs.Counts.{taken, size, used, entries}
 use Rattle.runner.specs.Tables.{AreNamed, AreNumbered, ArePages, AreCounted}
 
@@ -23,7 +24,7 @@ numbered_same p ks count most kst now h le same = rw same (record {
 })
 
 -- more segments, and the same words in the same pages
-pub pages_same : (ws : Words) (xs : List (ℕ × ℕ)) (count most : ℕ) (old new : Plain) → ArePages ws xs count old → count ≤ most → picture new ≡ picture old → is_filed new ≡ is_filed old → ArePages ws xs most new
+pub pages_same : (ws : Words) (xs : List (ℕ × ℕ)) (count most : ℕ) (old new : Segs) → ArePages ws xs count old → count ≤ most → picture new ≡ picture old → is_filed new ≡ is_filed old → ArePages ws xs most new
 pages_same ws xs count most old new h le shown filed = record {
   words = λ i page o lp lo. ap (λ (f : ℕ → ℕ → List ℕ). get_or (f (i + 2) page) o 0) shown ∙ h.words i page o lp lo;
   stored = λ u page. h.stored u page ∙ sym (λ i. filed i u page);

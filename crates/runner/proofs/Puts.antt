@@ -6,8 +6,9 @@ use Rattle.script.specs.Plans.{Plan}
 use Rattle.flat_model.specs.Pages.{Words, with_word, is_stored}
 use Rattle.flat_model.specs.Store.{Store}
 use Rattle.page_control.specs.declared.Home.{Home}
-use Rattle.page_control.specs.Plain.{Plain}
-use Rattle.page_control.specs.Picture.{picture, is_stored as is_filed, changed_at}
+use Rattle.paged_segs.specs.Segs.{Segs}
+use Rattle.page_control.specs.Picture.{changed_at}
+use Rattle.paged_segs.specs.Shown.{picture, is_stored as is_filed}
 use Rattle.paged_segs.specs.Counts.{taken, size, used, entries}
 use Rattle.runner.specs.Tables.{Held, ArePages, AreTied}
 use Rattle.runner.proofs.Parts.{named_same, numbered_same, counted_same}
@@ -75,7 +76,7 @@ size_put old page_words u q at w v page size others = chosen (eqb u v && eqb q p
     chosen true e = length-set page_words at w ∙ size
     chosen false e = others e
 
-pages_put : (s : Store) (count i o w : ℕ) (old new : Plain) → ArePages s.words s.stored count old → is_stored s.stored (i + 2) (o / 1024) ≡ true
+pages_put : (s : Store) (count i o w : ℕ) (old new : Segs) → ArePages s.words s.stored count old → is_stored s.stored (i + 2) (o / 1024) ≡ true
     → picture new ≡ changed_at (picture old) (i + 2) (o / 1024) (set (picture old (i + 2) (o / 1024)) (o % 1024) w) → is_filed new ≡ is_filed old → ArePages (with_word s.words (i + 2) o w) s.stored count new
 pages_put s count i o w old new h on shown filed =
     let size = h.sizes (i + 2) (o / 1024) on in
@@ -93,8 +94,8 @@ pages_put s count i o w old new h on shown filed =
 
 -- a word written into a stored page
 pub tied_put : (p : Plan) (s : Store) (old new : Held) (i o w : ℕ) → AreTied p s old → is_stored s.stored (i + 2) (o / 1024) ≡ true
-    → picture new.segs.storage ≡ changed_at (picture old.segs.storage) (i + 2) (o / 1024) (set (picture old.segs.storage (i + 2) (o / 1024)) (o % 1024) w)
-    → is_filed new.segs.storage ≡ is_filed old.segs.storage → new.segs.homes ≡ old.segs.homes → new.tree ≡ old.tree → new.known ≡ old.known → new.lengths ≡ old.lengths → new.stored ≡ old.stored
+    → picture new.segs ≡ changed_at (picture old.segs) (i + 2) (o / 1024) (set (picture old.segs (i + 2) (o / 1024)) (o % 1024) w)
+    → is_filed new.segs ≡ is_filed old.segs → new.segs.homes ≡ old.segs.homes → new.tree ≡ old.tree → new.known ≡ old.known → new.lengths ≡ old.lengths → new.stored ≡ old.stored
     → taken new.segs.storage.records ≡ taken old.segs.storage.records → used new.segs.storage.vtocs ≡ used old.segs.storage.vtocs
     → size new.segs.storage.records ≡ size old.segs.storage.records → entries new.segs.storage.vtocs ≡ entries old.segs.storage.vtocs
     → AreTied p (record s { words = with_word s.words (i + 2) o w }) new
@@ -103,7 +104,7 @@ tied_put p s old new i o w h on shown filed homes tree known lengths stored reco
     record {
       named = named_same p s.nodes s.next old.segs.homes new.segs.homes old.tree new.tree old.lengths new.lengths h.named homes tree lengths;
       numbered = numbered_same p s.known (length old.segs.homes) (length new.segs.homes) old.known new.known h.numbered (omega (arith, count)) known;
-      pages = rw count (pages_put s (length old.segs.homes) i o w old.segs.storage new.segs.storage h.pages on shown filed);
+      pages = rw count (pages_put s (length old.segs.homes) i o w old.segs new.segs h.pages on shown filed);
       counted = counted_same p s.nodes s.stored old.segs.storage new.segs.storage old.stored new.stored h.counted stored records places record_sizes entry_sizes;
       processes = h.processes;
     }

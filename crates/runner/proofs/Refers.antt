@@ -18,7 +18,7 @@ use Rattle.flat_model.specs.References.{permits, stores_page, room_reply, word_r
 use Rattle.flat_model.specs.Making.{owner_row}
 use Rattle.flat_model.specs.Legal.{store_after}
 use Rattle.known_segs.specs.Known.{uid_of}
-use Rattle.page_control.specs.Picture.{picture}
+use Rattle.paged_segs.specs.Shown.{picture}
 use Rattle.paged_segs.specs.Segs.{volume_at}
 use Rattle.runner.specs.Tables.{Held, AreTied, IsSegment, IsSegmentIn}
 use Rattle.runner.specs.Looks.{AreSound, IsTarget}
@@ -124,14 +124,14 @@ past_reply p s t number offset u how h known is past =
 
 -- ---- reads
 
-pub word_there : (p : Plan) (s : Store) (t : Held) (number offset i page : ℕ) → AreTied p s t → IsTarget t number offset i page → get_or (picture t.segs.storage (i + 2) page) (offset % 1024) 0 ≡ s.words (i + 2) offset
+pub word_there : (p : Plan) (s : Store) (t : Held) (number offset i page : ℕ) → AreTied p s t → IsTarget t number offset i page → get_or (picture t.segs (i + 2) page) (offset % 1024) 0 ≡ s.words (i + 2) offset
 word_there p s t number offset i page h g =
     let at = g.place in
     let place : 1024 * page + offset % 1024 ≡ offset = omega (arith, at) in
     h.pages.words i page (offset % 1024) g.few (omega arith) ∙ ap (s.words (i + 2)) place
 
 pub read_word : (p : Plan) (s : Store) (t : Held) (number offset i page : ℕ) → AreTied p s t → numbers_of s 0 ≡ t.known → IsTarget t number offset i page
-    → reply_to_reference p s 0 (record { number = number; offset = offset; kind = kind.Read }) ≡ reply.Word (get_or (picture t.segs.storage (i + 2) page) (offset % 1024) 0)
+    → reply_to_reference p s 0 (record { number = number; offset = offset; kind = kind.Read }) ≡ reply.Word (get_or (picture t.segs (i + 2) page) (offset % 1024) 0)
 read_word p s t number offset i page h known g =
     reached_reply p s t number offset i page kind.Read (reached_by p s t number offset i page h known g)
     ∙ ap (λ (w : ℕ). reply.Word w) (sym (word_there p s t number offset i page h g))

@@ -4,7 +4,7 @@ use Rattle.std.proofs.lemmas.List.{length-set, get_or-set_same}
 use Rattle.script.specs.Plans.{Plan}
 use Rattle.flat_model.specs.Store.{Store, Progress, progress_of, numbers_of, with_progress}
 use Rattle.page_control.specs.declared.Home.{Home}
-use Rattle.page_control.specs.Picture.{picture, is_stored as is_filed}
+use Rattle.paged_segs.specs.Shown.{picture, is_stored as is_filed}
 use Rattle.paged_segs.specs.Counts.{taken, size, used, entries}
 use Rattle.runner.specs.Tables.{Held, AreTied}
 use Rattle.runner.proofs.Parts.{named_same, numbered_same, pages_same, counted_same}
@@ -16,8 +16,8 @@ pub record IsSame (old new : Held) : Type 0 where
   pub known : new.known ≡ old.known
   pub lengths : new.lengths ≡ old.lengths
   pub stored : new.stored ≡ old.stored
-  pub words : picture new.segs.storage ≡ picture old.segs.storage
-  pub filed : is_filed new.segs.storage ≡ is_filed old.segs.storage
+  pub words : picture new.segs ≡ picture old.segs
+  pub filed : is_filed new.segs ≡ is_filed old.segs
   pub records : taken new.segs.storage.records ≡ taken old.segs.storage.records
   pub places : used new.segs.storage.vtocs ≡ used old.segs.storage.vtocs
   pub record_sizes : size new.segs.storage.records ≡ size old.segs.storage.records
@@ -29,7 +29,7 @@ tied_same p s t new h same =
     record {
       named = named_same p s.nodes s.next t.segs.homes new.segs.homes t.tree new.tree t.lengths new.lengths h.named same.homes same.tree same.lengths;
       numbered = numbered_same p s.known (length t.segs.homes) (length new.segs.homes) t.known new.known h.numbered (omega (arith, count)) same.known;
-      pages = pages_same s.words s.stored (length t.segs.homes) (length new.segs.homes) t.segs.storage new.segs.storage h.pages (omega (arith, count)) same.words same.filed;
+      pages = pages_same s.words s.stored (length t.segs.homes) (length new.segs.homes) t.segs new.segs h.pages (omega (arith, count)) same.words same.filed;
       counted = counted_same p s.nodes s.stored t.segs.storage new.segs.storage t.stored new.stored h.counted same.stored same.records same.places same.record_sizes same.entry_sizes;
       processes = h.processes;
     }

@@ -6,7 +6,7 @@ use Rattle.book.specs.declared.entries.Entry.TheVariants as entry
 use Rattle.flat_model.specs.Legal.{IsComplete}
 use Rattle.page_control.specs.declared.Left.{Left}
 use Rattle.page_control.specs.declared.Left.TheVariants.{Released, Kept}
-use Rattle.page_control.specs.Picture.{is_stored as is_filed}
+use Rattle.paged_segs.specs.Shown.{is_stored as is_filed}
 use Rattle.paged_segs.specs.declared.Evicted.{Evicted}
 use Rattle.runner.specs.Tables.{Held}
 use Rattle.runner.specs.Effects.{IsGone}
@@ -70,7 +70,7 @@ pub record IsToldGone (p now : Plan) (es later : List Entry) (gone : Evicted) : 
 told : (P : Plan → List Entry → Type 0) (p now : Plan) (es later : List Entry) (gone : Evicted) → IsToldGone p now es later gone → P p (es ++ left_entries gone) → P now later
 told P p now es later gone b h = subst (λ (x : Plan). P x later) (sym b.script) (subst (P p) (sym b.entries) h)
 
-pub holds_left : (p now : Plan) (es later : List Entry) (old new : Held) (gone : Evicted) → IsToldGone p now es later gone → Holds p es old → IsGone old new gone → is_filed old.segs.storage gone.uid gone.page ≡ true → Holds now later new
+pub holds_left : (p now : Plan) (es later : List Entry) (old new : Held) (gone : Evicted) → IsToldGone p now es later gone → Holds p es old → IsGone old new gone → is_filed old.segs gone.uid gone.page ≡ true → Holds now later new
 holds_left p now es later old new gone b h g filed =
     let one : List Entry = es ++ entry.Take gone.frame ∷ [] in
     let two : List Entry = one ++ entry.GonePage gone.frame ∷ [] in
@@ -79,7 +79,7 @@ holds_left p now es later old new gone b h g filed =
     (λ left. holds_released p p p p es one two (two ++ entry.Release gone.uid gone.page ∷ []) old new gone (booked_left p es gone.frame) (record { script = refl; entries = refl }) h g filed left)
     (λ left. holds_kept p p p es one two old new gone (booked_left p es gone.frame) h g filed left))
 
-pub at_left : (p now : Plan) (es later : List Entry) (old new : Held) (gone : Evicted) (place : ℕ) → IsToldGone p now es later gone → Holds p es old → IsGone old new gone → is_filed old.segs.storage gone.uid gone.page ≡ true → IsAt p es place → IsAt now later place
+pub at_left : (p now : Plan) (es later : List Entry) (old new : Held) (gone : Evicted) (place : ℕ) → IsToldGone p now es later gone → Holds p es old → IsGone old new gone → is_filed old.segs gone.uid gone.page ≡ true → IsAt p es place → IsAt now later place
 at_left p now es later old new gone place b h g filed at =
     let one : List Entry = es ++ entry.Take gone.frame ∷ [] in
     let two : List Entry = one ++ entry.GonePage gone.frame ∷ [] in

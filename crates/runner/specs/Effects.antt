@@ -3,7 +3,8 @@ use Rattle.std.specs.Prelude.{◌≡◌, ℕ, ◌+◌, ◌-◌, true, replicate,
 use Rattle.page_control.specs.declared.Left.{Left}
 use Rattle.page_control.specs.declared.Left.TheVariants as left
 use Rattle.page_control.specs.Plain.{Plain}
-use Rattle.page_control.specs.Picture.{picture, is_stored as is_filed, changed_at}
+use Rattle.page_control.specs.Picture.{changed_at}
+use Rattle.paged_segs.specs.Shown.{picture, is_stored as is_filed}
 use Rattle.paged_segs.specs.declared.Evicted.{Evicted}
 use Rattle.paged_segs.specs.Segs.{volume_at}
 use Rattle.paged_segs.specs.Counts.{taken, used, one_more}
@@ -27,24 +28,24 @@ pub record KeepsCounts (old new : Plain) : Type 0 where
 pub record IsSame (old new : Held) : Type 0 where
   pub names : KeepsNames old new
   pub count : new.stored ≡ old.stored
-  pub words : picture new.segs.storage ≡ picture old.segs.storage
-  pub filed : is_filed new.segs.storage ≡ is_filed old.segs.storage
+  pub words : picture new.segs ≡ picture old.segs
+  pub filed : is_filed new.segs ≡ is_filed old.segs
   pub counts : KeepsCounts old.segs.storage new.segs.storage
 
 -- Word `at` of a stored page of segment i became w.
 pub record IsPut (old new : Held) (i page at w : ℕ) : Type 0 where
   pub names : KeepsNames old new
   pub count : new.stored ≡ old.stored
-  pub words : picture new.segs.storage ≡ changed_at (picture old.segs.storage) (i + 2) page (slice_set (picture old.segs.storage (i + 2) page) at w)
-  pub filed : is_filed new.segs.storage ≡ is_filed old.segs.storage
+  pub words : picture new.segs ≡ changed_at (picture old.segs) (i + 2) page (slice_set (picture old.segs (i + 2) page) at w)
+  pub filed : is_filed new.segs ≡ is_filed old.segs
   pub counts : KeepsCounts old.segs.storage new.segs.storage
 
 -- A page of segment i was made: zeros, but word `at`, which is w.
 pub record IsCreated (old new : Held) (i page at w : ℕ) : Type 0 where
   pub names : KeepsNames old new
   pub count : new.stored ≡ old.stored + 1
-  pub words : picture new.segs.storage ≡ changed_at (picture old.segs.storage) (i + 2) page (slice_set (replicate 1024 0) at w)
-  pub filed : is_filed new.segs.storage ≡ changed_at (is_filed old.segs.storage) (i + 2) page true
+  pub words : picture new.segs ≡ changed_at (picture old.segs) (i + 2) page (slice_set (replicate 1024 0) at w)
+  pub filed : is_filed new.segs ≡ changed_at (is_filed old.segs) (i + 2) page true
   pub records : taken new.segs.storage.records ≡ one_more (taken old.segs.storage.records) (volume_at old.segs i)
   pub places : used new.segs.storage.vtocs ≡ used old.segs.storage.vtocs
   pub sizes : HasSizes old.segs.storage new.segs.storage

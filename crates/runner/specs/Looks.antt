@@ -5,7 +5,7 @@ use Rattle.page_table.specs.declared.Ptw.{Ptw}
 use Rattle.page_table.specs.declared.Ptw.TheVariants.{Null, Out, Here, Leaving}
 use Rattle.known_segs.specs.Known.{uid_of}
 use Rattle.core_map.specs.CoreMap.{least_free_frame}
-use Rattle.page_control.specs.Picture.{picture, is_stored as is_filed}
+use Rattle.paged_segs.specs.Shown.{picture, is_stored as is_filed}
 use Rattle.paged_segs.specs.Segs.{Segs, volume_at, word_at}
 use Rattle.paged_segs.specs.Counts.{is_full}
 use Rattle.runner.specs.Tables.{Held}
@@ -69,8 +69,8 @@ HasFree s = is_some (least_free_frame s.storage.core) ≡ true
 
 -- a page of segment i isn't stored, and reads as zeros
 pub record IsBlank (t : Held) (i page : ℕ) : Type 0 where
-  pub words : picture t.segs.storage (i + 2) page ≡ replicate 1024 0
-  pub unstored : is_filed t.segs.storage (i + 2) page ≡ false
+  pub words : picture t.segs (i + 2) page ≡ replicate 1024 0
+  pub unstored : is_filed t.segs (i + 2) page ≡ false
 
 -- what a page table word says of a page: it isn't on its way out, and one without a record is zeros
 pub record IsSeen (t : Held) (i page : ℕ) : Type 0 where

@@ -12,7 +12,7 @@ use Rattle.flat_model.specs.Making.{owner_row}
 use Rattle.dir_tree.specs.Nodes.{with_quotas, added, is_directory}
 use Rattle.dir_tree.specs.declared.node.PathFault.{PathFault}
 use Rattle.dir_tree.specs.declared.node.PathFault.TheVariants as path_fault
-use Rattle.page_control.specs.Picture.{picture, is_stored as is_filed}
+use Rattle.paged_segs.specs.Shown.{picture, is_stored as is_filed}
 use Rattle.paged_segs.specs.Segs.{home_at}
 use Rattle.paged_segs.specs.Counts.{used, entries, one_more}
 use Rattle.paged_segs.specs.Effects.{made, HasSizes}
@@ -76,8 +76,8 @@ new_branch_of nodes path = new_branch_at nodes (parts_of path)
 pub record IsMade (old new : Held) (directory : ℕ) (name : List ℕ) (size volume : ℕ) (who : Who) : Type 0 where
   pub segments : new.segs ≡ made old.segs volume
   pub places : used new.segs.storage.vtocs ≡ one_more (used old.segs.storage.vtocs) volume
-  pub words : picture new.segs.storage ≡ picture old.segs.storage
-  pub filed : is_filed new.segs.storage ≡ is_filed old.segs.storage
+  pub words : picture new.segs ≡ picture old.segs
+  pub filed : is_filed new.segs ≡ is_filed old.segs
   pub sizes : HasSizes old.segs.storage new.segs.storage
   pub tree : new.tree ≡ added old.tree directory (record { name = name; dir = false; volume = volume; entry = (home_at new.segs.homes (length old.segs.homes)).entry; length = size; acl = owner_row who ∷ [] })
   pub lengths : new.lengths ≡ old.lengths ++ size ∷ []

@@ -4,7 +4,7 @@ use Rattle.script.specs.declared.plan.VolumeLine.{VolumeLine}
 use Rattle.volumes.specs.declared.Part.{Part}
 use Rattle.volumes.specs.CoreDrive.{DriveState}
 use Rattle.volumes.specs.Volumes.{Vols, made_of}
-use Rattle.page_control.specs.Picture.{picture, is_stored as is_filed}
+use Rattle.paged_segs.specs.Shown.{picture, is_stored as is_filed}
 use Rattle.paged_segs.specs.Segs.{pages_of}
 use Rattle.paged_segs.specs.Counts.{used, one_more}
 use Rattle.paged_segs.specs.Effects.{begun}
@@ -22,8 +22,8 @@ volumes_of lines = made_of pages_of (map part_of lines)
 -- The tables over so many free frames and fresh volumes: the root alone, no page stored, nothing known.
 pub record HaveBegun (frames : ℕ) (volumes : Vols DriveState) (t : Held) : Type 0 where
   pub segments : t.segs ≡ begun frames volumes
-  pub words : (uid p : ℕ) → picture t.segs.storage uid p ≡ replicate 1024 0
-  pub filed : (uid p : ℕ) → is_filed t.segs.storage uid p ≡ false
+  pub words : (uid p : ℕ) → picture t.segs uid p ≡ replicate 1024 0
+  pub filed : (uid p : ℕ) → is_filed t.segs uid p ≡ false
   pub used : used t.segs.storage.vtocs ≡ one_more (used volumes.vtocs) 0
   pub tree : t.tree ≡ root_alone 0 0
   pub known : t.known ≡ replicate 256 None

@@ -10,7 +10,7 @@ use Rattle.dir_tree.specs.Nodes.{Branches, with_quotas}
 use Rattle.known_segs.specs.Known.{uid_of}
 use Rattle.page_control.specs.declared.Home.{Home}
 use Rattle.page_control.specs.Plain.{Plain}
-use Rattle.page_control.specs.Picture.{picture, is_stored as is_filed}
+use Rattle.paged_segs.specs.Shown.{picture, is_stored as is_filed}
 use Rattle.paged_segs.specs.Segs.{Segs, home_at}
 use Rattle.paged_segs.specs.Counts.{taken, size, used, entries}
 
@@ -61,11 +61,11 @@ pub record AreNumbered (p : Plan) (known : List (List (Option ℕ))) (count : �
   pub there : (n u : ℕ) → uid_of kst n ≡ Some u → (2 ≤ u) × (u < count + 2)
 
 -- Frames, records and file maps have the same words and the same stored pages.
-pub record ArePages (ws : Words) (xs : List (ℕ × ℕ)) (count : ℕ) (storage : Plain) : Type 0 where
-  pub words : (i page o : ℕ) → page < 256 → o < 1024 → slice_index (picture storage (i + 2) page) o ≡ ws (i + 2) (1024 * page + o)
-  pub stored : (u page : ℕ) → is_stored xs u page ≡ is_filed storage u page
+pub record ArePages (ws : Words) (xs : List (ℕ × ℕ)) (count : ℕ) (segs : Segs) : Type 0 where
+  pub words : (i page o : ℕ) → page < 256 → o < 1024 → slice_index (picture segs (i + 2) page) o ≡ ws (i + 2) (1024 * page + o)
+  pub stored : (u page : ℕ) → is_stored xs u page ≡ is_filed segs u page
   pub inside : (u page : ℕ) → is_stored xs u page ≡ true → (2 ≤ u) × (u < count + 2) × (page < 256)
-  pub sizes : (u page : ℕ) → is_stored xs u page ≡ true → length (picture storage u page) ≡ 1024
+  pub sizes : (u page : ℕ) → is_stored xs u page ≡ true → length (picture segs u page) ≡ 1024
   pub once : IsOnce xs
 
 -- Running counts are the counts from scratch.
@@ -85,6 +85,6 @@ pub record AreProcesses (p : Plan) (processes : List Progress) : Type 0 where
 pub record AreTied (p : Plan) (s : Store) (t : Held) : Type 0 where
   pub named : AreNamed p s.nodes s.next t.segs.homes t.tree t.lengths
   pub numbered : AreNumbered p s.known (length t.segs.homes) t.known
-  pub pages : ArePages s.words s.stored (length t.segs.homes) t.segs.storage
+  pub pages : ArePages s.words s.stored (length t.segs.homes) t.segs
   pub counted : AreCounted p s.nodes s.stored t.segs.storage t.stored
   pub processes : AreProcesses p s.processes

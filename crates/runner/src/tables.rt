@@ -4,11 +4,12 @@ ghost use Rattle.core_map.specs.CoreMap.{frame_at, with_frame, least_free_frame}
 ghost use Rattle.core_map.specs.Clock.{IsClockChoice, unmarked};
 ghost use Rattle.page_table.specs.declared.Ptw.TheVariants.{Null, Here};
 ghost use Rattle.mword.specs.Words.{AreZero};
-ghost use Rattle.page_control.specs.Plain.{disk_of};
-ghost use Rattle.page_control.specs.Picture.{picture, is_stored as is_filed, volume_of, record_named, words_filed};
-ghost use Rattle.page_control.specs.Tied.{is_out};
+ghost use Rattle.page_control.specs.declared.Home.{Home};
+ghost use Rattle.page_control.specs.Picture.{words_out, is_stored as is_named};
+ghost use Rattle.paged_segs.specs.Shown.{picture, is_stored as is_filed};
+ghost use Rattle.page_control.specs.Tied.{uid_at, is_out};
 ghost use Rattle.paged_segs.specs.Segs.{word_at, volume_at, pages_of};
-ghost use Rattle.paged_segs.specs.Kept.{IsKept};
+ghost use Rattle.paged_segs.specs.Kept.{AreHomed};
 ghost use Rattle.paged_segs.specs.Counts.{is_full};
 ghost use Rattle.runner.specs.Looks.{look_of, look_page, look_unstored, AreSound, HasFree, IsTarget, IsBlank, IsSeen};
 ghost use Rattle.runner.specs.Effects.{IsSame, IsPut, IsCreated, IsGone, stored_after};
@@ -121,10 +122,9 @@ impl Tables {
         requires full { is_some (least_free_frame self.old.segs.storage.core) ≡ false }
         ensures choice { IsClockChoice self.old.segs.storage.core (with_frame self.new.segs.storage.core result.frame (unmarked (frame_at self.old.segs.storage.core result.frame))) result.frame }
         ensures gone { IsGone self.old self.new result }
-        ensures filed { is_filed self.old.segs.storage result.uid result.page ≡ true }
+        ensures filed { is_filed self.old.segs result.uid result.page ≡ true }
         ensures free { HasFree self.new.segs }
     {
-        let _kept = self.segments.count();
         let gone = self.segments.evict();
         self.stored = stored_after(self.stored, gone.left);
         gone
@@ -134,12 +134,11 @@ impl Tables {
     pub(crate) fn visit(&mut self, f: u32) -> Option<Evicted>
         requires { f < length self.old.segs.storage.core.frames }
         ensures gone { IfSome result (λ gone. IsGone self.old self.new gone) }
-        ensures filed { IfSome result (λ gone. is_filed self.old.segs.storage gone.uid gone.page ≡ true) }
+        ensures filed { IfSome result (λ gone. is_filed self.old.segs gone.uid gone.page ≡ true) }
         ensures same { IfNone result (self.new ≡ self.old) }
         ensures none { IfNone result (frame_at self.old.segs.storage.core f ≡ Free) }
         ensures core { self.new.segs.storage.core ≡ with_frame self.old.segs.storage.core f Free }
     {
-        let _kept = self.segments.count();
         let gone = self.segments.visit(f)?;
         self.stored = stored_after(self.stored, gone.left);
         Some(gone)
@@ -148,16 +147,18 @@ impl Tables {
     /// The volumes, once every frame is free.
     pub(crate) fn into_volumes(self) -> Volumes<CoreDrive>
         requires { (f : ℕ) → frame_at self.segs.storage.core f ≡ Free }
-        ensures kept { IsKept self.segs }
+        ensures homed { AreHomed self.segs }
         ensures disks { map pages_of result.drives ≡ self.segs.storage.disks }
         ensures records { result.records ≡ self.segs.storage.records }
         ensures vtocs { result.vtocs ≡ self.segs.storage.vtocs }
 
         // What is on the records.
-        ensures words { (uid p : ℕ) → picture self.segs.storage uid p ≡ words_filed (disk_of self.segs.storage (volume_of self.segs.storage.vtocs uid)) (record_named self.segs.storage.vtocs uid p) }
-        ensures zeros { (uid p : ℕ) → is_filed self.segs.storage uid p ≡ true → AreZero (picture self.segs.storage uid p) → ⊥ }
+        ensures words { (home : Home) (uid p : ℕ) → uid_at self.segs.storage.vtocs home ≡ Some uid
+            → picture self.segs uid p ≡ words_out self.segs.storage home p }
+        ensures stored { (home : Home) (uid p : ℕ) → uid_at self.segs.storage.vtocs home ≡ Some uid
+            → is_filed self.segs uid p ≡ is_named self.segs.storage home p }
+        ensures zeros { (uid p : ℕ) → is_filed self.segs uid p ≡ true → AreZero (picture self.segs uid p) → ⊥ }
     {
-        let _kept = self.segments.count();
         self.segments.into_volumes()
     }
 
@@ -184,7 +185,7 @@ impl Tables {
         requires here { word_at self.old.segs segment page ≡ Here frame }
         requires at { at < 1024 }
         ensures same { IsSame self.old self.new }
-        ensures word { result ≡ slice_index (picture self.old.segs.storage (segment + 2) page) at }
+        ensures word { result ≡ slice_index (picture self.old.segs (segment + 2) page) at }
     {
         let _here = self.segments.ptw(segment, page);
         self.segments.word(frame, at)
@@ -197,14 +198,14 @@ impl Tables {
         requires here { word_at self.old.segs segment page ≡ Here frame }
         requires at { at < 1024 }
         ensures put { IsPut self.old self.new segment page at word }
-        ensures filed { is_filed self.old.segs.storage (segment + 2) page ≡ true }
+        ensures filed { is_filed self.old.segs (segment + 2) page ≡ true }
     {
         let _here = self.segments.ptw(segment, page);
         self.segments.put_word(frame, at, word);
     }
 
     /// Makes a page of zeros but for one word in the least free frame, which it tells.
-    #[tactic(auto, using(crate::proofs::Creates::bound_there, std::proofs::lemmas::Grind::common_steps))]
+    #[tactic(auto, using(std::proofs::lemmas::Grind::common_steps))]
     pub(crate) fn create(&mut self, segment: u32, page: u32, at: u32, word: Word) -> u32
         requires there { segment < length self.old.segs.homes }
         requires few { page < 256 }
@@ -222,7 +223,6 @@ impl Tables {
             unreachable!()
         };
         self.segments.create(segment, page, frame, at, word);
-        let _kept = self.segments.count();
         self.stored += 1;
         frame
     }

@@ -5,11 +5,11 @@ use Rattle.page_control.specs.Plain.{plain}
 use Rattle.page_control.specs.Picture.{words_at, words_out}
 use Rattle.paged_segs.specs.Segs.{Segs, pages_of}
 use Rattle.paged_segs.specs.Kept.{IsKept}
-use Rattle.paged_segs.proofs.Ending.{none_bound, words_left, stored_left, none_zeros}
+use Rattle.paged_segs.proofs.Ending.{homed, none_bound, words_left, stored_left, none_zeros}
 use Rattle.paged_segs.proofs.segments.Segments.into_volumes.Goals as goal
 
-pub returns-clause-kept : goal.returns-clause-kept
-returns-clause-kept c = subst IsKept c.self.view_is c.self.invariant.0
+pub returns-clause-homed : goal.returns-clause-homed
+returns-clause-homed c = homed c.args.self (subst IsKept c.self.view_is c.self.invariant.0)
 
 pub returns-clause-words : goal.returns-clause-words
 returns-clause-words c = λ home uid p used.
