@@ -1,5 +1,6 @@
 -- The tables at the boot.
-use Rattle.std.proofs.Common.{◌≡◌, ◌≢◌, ℕ, zero, suc, ◌+◌, ◌<◌, ◌≤◌, Bool, true, false, cond, eqb, List, [], ◌∷◌, length, Option, Some, None, is_some, replicate, refl, sym, ap, subst, ◌∙◌, arith, get_or, inl, inr}
+use Rattle.std.proofs.Common.{◌≡◌, ◌≢◌, ℕ, zero, suc, ◌+◌, ◌<◌, ◌≤◌, Bool, true, false, cond, eqb, List, [], ◌∷◌, length, Option, Some, None, is_some}
+use Rattle.std.proofs.Common.{replicate, refl, sym, ap, subst, ◌∙◌, arith, get_or, inl, inr}
 use Rattle.std.proofs.lemmas.Bool.{cases_lt}
 use Rattle.std.proofs.lemmas.Bool.Decides.{nat_tests}
 use Rattle.std.proofs.lemmas.List.{length-replicate, get_or-replicate, get_or_past}
@@ -84,7 +85,8 @@ one_entry p v = sum_by-cons (λ (n : Node). cond (eqb n.volume v) 1 0) (root_of 
     by_volume true b e = rw (sym e) refl
     by_volume false b e = rw (sym e) refl
 
-pub tied_boot : (p : Plan) (t : Held) → t.segs.homes ≡ [] → ((uid q : ℕ) → picture t.segs uid q ≡ replicate 1024 0) → ((uid q : ℕ) → is_filed t.segs uid q ≡ false)
+pub tied_boot : (p : Plan) (t : Held) → t.segs.homes ≡ [] → ((uid q : ℕ) → picture t.segs uid q ≡ replicate 1024 0)
+    → ((uid q : ℕ) → is_filed t.segs uid q ≡ false)
     → ((v : ℕ) → taken t.segs.storage.records v ≡ 0) → ((v : ℕ) → used t.segs.storage.vtocs v ≡ cond (eqb v 0) 1 0)
     → ((v : ℕ) → size t.segs.storage.records v ≡ records_of p v) → ((v : ℕ) → entries t.segs.storage.vtocs v ≡ entries_of p v)
     → t.tree ≡ root_alone 0 0 → t.known ≡ replicate 256 None → t.lengths ≡ [] → t.stored ≡ 0 → AreTied p (boot p) t

@@ -1,5 +1,6 @@
 -- A page that wasn't stored gets its first word.
-use Rattle.std.proofs.Common.{◌≡◌, ℕ, ◌+◌, ◌/◌, ◌%◌, ◌<◌, ◌≤◌, Bool, true, false, cond, eqb, ◌&&◌, ◌||◌, List, length, refl, sym, ap, ◌∙◌, arith, get_or, set, replicate}
+use Rattle.std.proofs.Common.{◌≡◌, ℕ, ◌+◌, ◌/◌, ◌%◌, ◌<◌, ◌≤◌, Bool, true, false, cond, eqb, ◌&&◌, ◌||◌, List, length, refl, sym, ap, ◌∙◌, arith, get_or, set}
+use Rattle.std.proofs.Common.{replicate}
 use Rattle.std.proofs.lemmas.Bool.Decides.{nat_tests}
 use Rattle.std.proofs.lemmas.List.{length-replicate}
 use Rattle.script.specs.Plans.{Plan}
@@ -16,7 +17,8 @@ use Rattle.runner.proofs.Parts.{named_same, numbered_same}
 use Rattle.runner.proofs.Puts.{words_put, size_put}
 use Rattle.runner.proofs.Volumes.{volume_of_segment, taken_more}
 
-stored_create : (xs : List (ℕ × ℕ)) (filed : ℕ → ℕ → Bool) (u q v page : ℕ) → is_stored xs v page ≡ filed v page → is_stored (with_stored xs u q) v page ≡ changed_at filed u q true v page
+stored_create : (xs : List (ℕ × ℕ)) (filed : ℕ → ℕ → Bool) (u q v page : ℕ) → is_stored xs v page ≡ filed v page
+    → is_stored (with_stored xs u q) v page ≡ changed_at filed u q true v page
 unfolding changed_at
 stored_create xs filed u q v page same = is_stored-with xs u q v page ∙ chosen (eqb u v && eqb q page)
   where
@@ -24,9 +26,11 @@ stored_create xs filed u q v page same = is_stored-with xs u q v page ∙ chosen
     chosen true = refl
     chosen false = same
 
-pages_create : (s : Store) (count i o w : ℕ) (old new : Segs) → ArePages s.words s.stored count old → i < count → o / 1024 < 256 → is_stored s.stored (i + 2) (o / 1024) ≡ false
+pages_create : (s : Store) (count i o w : ℕ) (old new : Segs) → ArePages s.words s.stored count old → i < count → o / 1024 < 256
+    → is_stored s.stored (i + 2) (o / 1024) ≡ false
     → picture old (i + 2) (o / 1024) ≡ replicate 1024 0 → picture new ≡ changed_at (picture old) (i + 2) (o / 1024) (set (replicate 1024 0) (o % 1024) w)
-    → is_filed new ≡ changed_at (is_filed old) (i + 2) (o / 1024) true → ArePages (with_word s.words (i + 2) o w) (with_stored s.stored (i + 2) (o / 1024)) count new
+    → is_filed new ≡ changed_at (is_filed old) (i + 2) (o / 1024) true
+    → ArePages (with_word s.words (i + 2) o w) (with_stored s.stored (i + 2) (o / 1024)) count new
 pages_create s count i o w old new h li lo off zeros shown filed =
     let size : length {A = ℕ} (replicate 1024 0) ≡ 1024 = length-replicate {A = ℕ} 1024 0 in
     record {
@@ -50,11 +54,13 @@ pages_create s count i o w old new h li lo off zeros shown filed =
     within u q false e on = h.inside u q on
 
 -- a page of segment i that wasn't stored gets a word
-pub tied_create : (p : Plan) (s : Store) (old new : Held) (i o w : ℕ) → AreTied p s old → i < length old.segs.homes → o / 1024 < 256 → is_stored s.stored (i + 2) (o / 1024) ≡ false
+pub tied_create : (p : Plan) (s : Store) (old new : Held) (i o w : ℕ) → AreTied p s old → i < length old.segs.homes → o / 1024 < 256
+    → is_stored s.stored (i + 2) (o / 1024) ≡ false
     → picture old.segs (i + 2) (o / 1024) ≡ replicate 1024 0 → length s.stored < p.quota
     → picture new.segs ≡ changed_at (picture old.segs) (i + 2) (o / 1024) (set (replicate 1024 0) (o % 1024) w)
     → is_filed new.segs ≡ changed_at (is_filed old.segs) (i + 2) (o / 1024) true
-    → taken new.segs.storage.records ≡ one_more (taken old.segs.storage.records) (volume_at old.segs i) → used new.segs.storage.vtocs ≡ used old.segs.storage.vtocs
+    → taken new.segs.storage.records ≡ one_more (taken old.segs.storage.records) (volume_at old.segs i)
+    → used new.segs.storage.vtocs ≡ used old.segs.storage.vtocs
     → size new.segs.storage.records ≡ size old.segs.storage.records → entries new.segs.storage.vtocs ≡ entries old.segs.storage.vtocs
     → new.segs.homes ≡ old.segs.homes → new.tree ≡ old.tree → new.known ≡ old.known → new.lengths ≡ old.lengths → new.stored ≡ old.stored + 1
     → AreTied p (record s { words = with_word s.words (i + 2) o w; stored = with_stored s.stored (i + 2) (o / 1024) }) new
@@ -71,7 +77,8 @@ tied_create p s old new i o w h li lo off zeros room shown filed records places 
         stored = omega (arith, stored, total, longer);
         within = omega (arith, longer, room);
         records = λ v.
-            taken_more s.nodes s.stored (i + 2) (o / 1024) (volume_at old.segs i) (taken old.segs.storage.records) off (volume_of_segment p s.nodes s.next old.segs.homes old.tree old.lengths i h.named li) c.records v
+            taken_more s.nodes s.stored (i + 2) (o / 1024) (volume_at old.segs i) (taken old.segs.storage.records) off
+            (volume_of_segment p s.nodes s.next old.segs.homes old.tree old.lengths i h.named li) c.records v
             ∙ sym (λ k. records k v);
         homes = λ v. c.homes v ∙ sym (λ k. places k v);
         record_sizes = λ v. (λ k. record_sizes k v) ∙ c.record_sizes v;

@@ -1,5 +1,6 @@
 -- What the volumes hold at the end, by the tables.
-use Rattle.std.proofs.Common.{◌≡◌, ◌≢◌, ℕ, ◌+◌, ◌-◌, ◌*◌, ◌<◌, ◌≤◌, Bool, true, false, cond, eqb, map, List, [], ◌∷◌, length, Option, Some, None, is_some, sym, ap, subst, ◌∙◌, arith, get_or, inl, inr, ◌⊎◌}
+use Rattle.std.proofs.Common.{◌≡◌, ◌≢◌, ℕ, ◌+◌, ◌-◌, ◌*◌, ◌<◌, ◌≤◌, Bool, true, false, cond, eqb, map, List, [], ◌∷◌, length, Option, Some, None, is_some, sym}
+use Rattle.std.proofs.Common.{ap, subst, ◌∙◌, arith, get_or, inl, inr, ◌⊎◌}
 use Rattle.std.proofs.lemmas.Bool.{cases_eq}
 use Rattle.script.specs.Plans.{Plan}
 use Rattle.tree_model.specs.Tree.{Node, node_in, has_directory}
@@ -36,7 +37,8 @@ node_kind [] u n e = absurd (apart e)
     apart z = cc
 node_kind (m ∷ ns) u n e = here (eqb m.uid u) (λ rest. node_kind ns u n rest) e
   where
-    here : (z : Bool) → (node_in ns u ≡ Some n → has_directory ns u ≡ n.directory) → cond z (Some m) (node_in ns u) ≡ Some n → cond z m.directory (has_directory ns u) ≡ n.directory
+    here : (z : Bool) → (node_in ns u ≡ Some n → has_directory ns u ≡ n.directory) → cond z (Some m) (node_in ns u) ≡ Some n
+        → cond z m.directory (has_directory ns u) ≡ n.directory
     here true ih is = (let same : m ≡ n = cc in ap (λ (x : Node). x.directory) same)
     here false ih is = ih is
 
@@ -75,7 +77,8 @@ home_there p s t u n h k is kind =
     let volume : n.volume ≡ volume_at t.segs (u - 2) = ap (λ (x : Node). x.volume) (node_same (node_in s.nodes u) n at.node is at.is) ∙ at.on in
     record {
       place = (home_at t.segs.homes (u - 2)).entry;
-      used = ap (λ (w : ℕ). uid_of (entry_at (vtoc_in t.segs.storage.vtocs w) (home_at t.segs.homes (u - 2)).entry)) volume ∙ home ∙ ap (λ (x : ℕ). Some x) at.back;
+      used = ap (λ (w : ℕ). uid_of (entry_at (vtoc_in t.segs.storage.vtocs w) (home_at t.segs.homes (u - 2)).entry)) volume ∙ home
+          ∙ ap (λ (x : ℕ). Some x) at.back;
     }
 
 owner_there : (p : Plan) (s : Store) (t : Held) (w e u : ℕ) → AreTied p s t → AreHomed t.segs → uid_of (entry_at (vtoc_in t.segs.storage.vtocs w) e) ≡ Some u
@@ -109,7 +112,8 @@ words_left t v w e u page l used =
     ∙ ap (λ (xs : List (List (Option Entry))). words_filed (get_or t.segs.storage.disks w []) (record_at (vtoc_in xs w) e page)) l.vtocs
     ∙ sym (l.words (record { volume = w; entry = e }) u page (was_used t v w e u l used))
 
-maps_same : (p : Plan) (s : Store) (t : Held) (v : Vols DriveState) (w e u page : ℕ) → AreTied p s t → AreLeft t.segs v → uid_of (entry_at (vtoc_in v.vtocs w) e) ≡ Some u
+maps_same : (p : Plan) (s : Store) (t : Held) (v : Vols DriveState) (w e u page : ℕ) → AreTied p s t → AreLeft t.segs v
+    → uid_of (entry_at (vtoc_in v.vtocs w) e) ≡ Some u
     → is_some (record_at (vtoc_in v.vtocs w) e page) ≡ is_stored s.stored u page
 unfolding is_filed_at
 maps_same p s t v w e u page h l used =

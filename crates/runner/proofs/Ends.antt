@@ -52,14 +52,20 @@ of_told (Some all) bytes P h p = subst P h p
 later_is : (bytes : List ℕ) (p : Plan) → script_of bytes ≡ Ok p → script_runs p ≡ false → IsLater (script_of bytes)
 later_is bytes p e h = subst IsLater (sym e) h
 
-pub told_later : (left : Option (List ℕ)) (bytes : List ℕ) (p : Plan) → IfSome left (λ all. bytes ≡ all) → length bytes ≤ 4194304 → script_of bytes ≡ Ok p → script_runs p ≡ false
+pub told_later : (left : Option (List ℕ)) (bytes : List ℕ) (p : Plan) → IfSome left (λ all. bytes ≡ all) → length bytes ≤ 4194304 → script_of bytes ≡ Ok p
+    → script_runs p ≡ false
     → IfSome left (λ all. (length all ≤ 4194304) × IsLater (script_of all))
 told_later left bytes p told few e h = of_told left bytes (λ all. (length all ≤ 4194304) × IsLater (script_of all)) told (few, later_is bytes p e h)
 
 -- a refusal was written
-refused_so : (s : Status) (r : Refusal) (src out : Change) → Refuses s r out → IfSome src.before (λ bytes. (length bytes ≤ 4194304) × (script_of bytes ≡ Err r)) → EndsSo s (Some form.Run) src out None
-refused_so (status.Script q) r src out h is =
-    (refl, subst (λ (x : Refusal). IfSome src.before (λ bytes. (length bytes ≤ 4194304) × (script_of bytes ≡ Err x))) (sym h.0) is, subst (λ (x : Refusal). Writes out (Rattle.runner.specs.Runs.refusal_text x)) (sym h.0) h.1)
+refused_so : (s : Status) (r : Refusal) (src out : Change) → Refuses s r out
+    → IfSome src.before (λ bytes. (length bytes ≤ 4194304) × (script_of bytes ≡ Err r)) → EndsSo s (Some form.Run) src out None
+refused_so (status.Script q) r src out h is = (
+  refl,
+  subst (λ (x : Refusal). IfSome src.before (λ bytes. (length bytes ≤ 4194304) × (script_of bytes ≡ Err x))) (sym h.0) is,
+  subst
+      (λ (x : Refusal). Writes out (Rattle.runner.specs.Runs.refusal_text x)) (sym h.0) h.1,
+)
 refused_so status.Memory r src out h is = (refl, h)
 refused_so status.Done r src out h is = absurd h
 refused_so status.TooLong r src out h is = absurd h
@@ -68,7 +74,8 @@ refused_so status.ReadFault r src out h is = absurd h
 refused_so status.WriteFault r src out h is = absurd h
 refused_so status.Later r src out h is = absurd h
 
-pub ends_refused : (src out : Change) (f : Finished) (bytes : List ℕ) (r : Refusal) → Refuses f.status r out → f.book ≡ None → IfSome src.before (λ all. bytes ≡ all) → length bytes ≤ 4194304 → script_of bytes ≡ Err r
+pub ends_refused : (src out : Change) (f : Finished) (bytes : List ℕ) (r : Refusal) → Refuses f.status r out → f.book ≡ None
+    → IfSome src.before (λ all. bytes ≡ all) → length bytes ≤ 4194304 → script_of bytes ≡ Err r
     → ConsumesFront src.before src.after 4194305 → Ends (Some form.Run) src out f
 ends_refused src out f bytes r h without told few e reads =
     ends_without (Some form.Run) src out f f.status refl without
@@ -85,7 +92,8 @@ made_so status.Usage n src out h = absurd h
 made_so status.ReadFault n src out h = absurd h
 made_so status.Later n src out h = absurd h
 
-pub ends_made : (src out : Change) (f : Finished) (n : ℕ) → Printed f.status out (made n) → f.book ≡ None → ConsumesFront src.before src.after 4194305 → Ends (Some (form.Make n)) src out f
+pub ends_made : (src out : Change) (f : Finished) (n : ℕ) → Printed f.status out (made n) → f.book ≡ None → ConsumesFront src.before src.after 4194305
+    → Ends (Some (form.Make n)) src out f
 ends_made src out f n h without reads = ends_without (Some (form.Make n)) src out f f.status refl without (made_so f.status n src out h) reads
 
 -- the text of a drill was printed
@@ -99,8 +107,10 @@ drilled_so status.Usage p f n seed src out h = absurd h
 drilled_so status.ReadFault p f n seed src out h = absurd h
 drilled_so status.Later p f n seed src out h = absurd h
 
-pub ends_drilled : (src out : Change) (f : Finished) (p frames n seed : ℕ) → Printed f.status out (drill_text p frames n seed) → f.book ≡ None → ConsumesFront src.before src.after 4194305 → Ends (Some (form.Drill p frames n seed)) src out f
-ends_drilled src out f p frames n seed h without reads = ends_without (Some (form.Drill p frames n seed)) src out f f.status refl without (drilled_so f.status p frames n seed src out h) reads
+pub ends_drilled : (src out : Change) (f : Finished) (p frames n seed : ℕ) → Printed f.status out (drill_text p frames n seed) → f.book ≡ None
+    → ConsumesFront src.before src.after 4194305 → Ends (Some (form.Drill p frames n seed)) src out f
+ends_drilled src out f p frames n seed h without reads =
+    ends_without (Some (form.Drill p frames n seed)) src out f f.status refl without (drilled_so f.status p frames n seed src out h) reads
 
 -- a run's listing was printed
 run_so : (s : Status) (book : Option Ledger) (src out : Change) → PrintsRun s book out → EndsSo s (Some form.Run) src out book
@@ -133,7 +143,8 @@ printed_run status.Later b out h = h
 pub prints_run : (s : Status) (b : Ledger) (out : Change) (text : List ℕ) → Printed s out text → text ≡ listing_of b.script b.entries → PrintsRun s (Some b) out
 prints_run s b out text h e = printed_run s b out (subst (Printed s out) e h)
 
-is_run : (src : Change) (p : Plan) (book : Option Ledger) (volumes : Option (Vols DriveState)) → IfSome src.before (λ all. length all ≤ 4194304) → IfSome src.before (λ all. script_of all ≡ Ok p) → script_runs p ≡ true
+is_run : (src : Change) (p : Plan) (book : Option Ledger) (volumes : Option (Vols DriveState)) → IfSome src.before (λ all. length all ≤ 4194304)
+    → IfSome src.before (λ all. script_of all ≡ Ok p) → script_runs p ≡ true
     → IfSome book (λ b. RunOf p b volumes) → IfSome book (λ b. IsRun src b volumes)
 is_run src p None volumes few read runs h = tt
 is_run src p (Some b) volumes few read runs h = record {
@@ -146,11 +157,13 @@ is_run src p (Some b) volumes few read runs h = record {
   disk = h.disk;
 }
 
-pub ends_run : (src out : Change) (f : Finished) (bytes : List ℕ) (p : Plan) → PrintsRun f.status f.book out → IfSome f.book (λ b. RunOf p b f.volumes) → IfSome src.before (λ all. bytes ≡ all) → length bytes ≤ 4194304 → script_of bytes ≡ Ok p → script_runs p ≡ true
+pub ends_run : (src out : Change) (f : Finished) (bytes : List ℕ) (p : Plan) → PrintsRun f.status f.book out → IfSome f.book (λ b. RunOf p b f.volumes)
+    → IfSome src.before (λ all. bytes ≡ all) → length bytes ≤ 4194304 → script_of bytes ≡ Ok p → script_runs p ≡ true
     → ConsumesFront src.before src.after 4194305 → Ends (Some form.Run) src out f
 ends_run src out f bytes p printed run told few e runs reads = record {
   so = run_so f.status f.book src out printed;
-  run = is_run src p f.book f.volumes (of_told src.before bytes (λ all. length all ≤ 4194304) told few) (of_told src.before bytes (λ all. script_of all ≡ Ok p) told e) runs run;
+  run = is_run src p f.book f.volumes (of_told src.before bytes (λ all. length all ≤ 4194304) told few)
+      (of_told src.before bytes (λ all. script_of all ≡ Ok p) told e) runs run;
   reads = reads;
 }
 
@@ -159,8 +172,12 @@ ends_run src out f bytes p printed run told few e runs reads = record {
 pub asks : (asked is : Option Form) (src out : Change) (f : Finished) → asked ≡ is → Ends is src out f → Ends asked src out f
 asks asked is src out f e h = subst (λ (x : Option Form). Ends x src out f) (sym e) h
 
-pub asked_none : (asked : Option Form) (src out : Change) (f : Finished) → asked ≡ None → f.status ≡ status.Usage → f.book ≡ None → Writes out usage_text → ConsumesFront src.before src.after 4194305 → Ends asked src out f
+pub asked_none : (asked : Option Form) (src out : Change) (f : Finished) → asked ≡ None → f.status ≡ status.Usage → f.book ≡ None → Writes out usage_text
+    → ConsumesFront src.before src.after 4194305 → Ends asked src out f
 asked_none asked src out f e s b text reads = asks asked None src out f e (ends_without None src out f status.Usage s b (refl, text) reads)
 
 pub form_is : (form is : Form) (src out : Change) (f : Finished) → form ≡ is → Ends (Some is) src out f → Ends (Some form) src out f
 form_is form is src out f e h = asks (Some form) (Some is) src out f (ap Some e) h
+
+-- a text was written, whole or cut
+pub ruleset text_written = (text_whole, text_cut)

@@ -1,5 +1,6 @@
 -- Fresh volumes: what they have room for.
-use Rattle.std.proofs.Common.{◌≡◌, ℕ, suc, zero, ◌+◌, ◌<◌, ◌≤◌, Bool, true, false, cond, eqb, List, [], ◌∷◌, length, get_or, set, map, replicate, Option, Some, None, refl, sym, ap, subst, ◌∙◌, arith}
+use Rattle.std.proofs.Common.{◌≡◌, ℕ, suc, zero, ◌+◌, ◌<◌, ◌≤◌, Bool, true, false, cond, eqb, List, [], ◌∷◌, length, get_or, set, map, replicate, Option, Some}
+use Rattle.std.proofs.Common.{None, refl, sym, ap, subst, ◌∙◌, arith}
 use Rattle.std.specs.Prelude.{slice_get, count_by, is_some, All}
 use Rattle.std.proofs.lemmas.List.{length-replicate, length-map, length-set}
 use Rattle.script.specs.Plans.{Plan, ProcessPlan, nobody}
@@ -76,7 +77,8 @@ sound_plans (x ∷ xs) = by_place (sound_plans xs)
     plans : List (Option (List FailLine))
     plans = map plan_of (map (λ (part : Part DriveState). part.drive) (map part_of xs))
 
-    by_place : ((k : ℕ) (d : Option (List FailLine)) → k < length plans → get_or plans k d ≡ Some []) → (k : ℕ) (d : Option (List FailLine)) → k < suc (length plans) → get_or (Some [] ∷ plans) k d ≡ Some []
+    by_place : ((k : ℕ) (d : Option (List FailLine)) → k < length plans → get_or plans k d ≡ Some []) → (k : ℕ) (d : Option (List FailLine))
+        → k < suc (length plans) → get_or (Some [] ∷ plans) k d ≡ Some []
     by_place rest zero d lt = refl
     by_place rest (suc k) d lt = rest k d (omega (arith, lt))
 
@@ -100,7 +102,8 @@ set_entries [] e v = refl
 set_entries (x ∷ xs) e zero = length-set x 0 e
 set_entries (x ∷ xs) e (suc v) = refl
 
-pub begun_entries : (p : Plan) (v : ℕ) → entries (set (volumes_of p.volumes).vtocs 0 (set (vtoc_in (volumes_of p.volumes).vtocs 0) 0 (fresh_entry 1))) v ≡ entries_of p v
+pub begun_entries : (p : Plan) (v : ℕ) → entries
+    (set (volumes_of p.volumes).vtocs 0 (set (vtoc_in (volumes_of p.volumes).vtocs 0) 0 (fresh_entry 1))) v ≡ entries_of p v
 begun_entries p v = set_entries (volumes_of p.volumes).vtocs (fresh_entry 1) v ∙ entries_fit p v
 
 pub begun_used : (p : Plan) (v : ℕ) → one_more (used (volumes_of p.volumes).vtocs) 0 v ≡ cond (eqb v 0) 1 0
@@ -113,9 +116,12 @@ begun_used p v = by_first (eqb v 0)
 
 pub disks_count : (p : Plan) → length (map pages_of (volumes_of p.volumes).drives) ≡ length p.volumes
 disks_count p =
-    length-map (volumes_of p.volumes).drives pages_of ∙ length-map (map part_of p.volumes) (λ (part : Part DriveState). part.drive) ∙ length-map p.volumes part_of
+    length-map (volumes_of p.volumes).drives pages_of ∙ length-map (map part_of p.volumes) (λ (part : Part DriveState). part.drive)
+    ∙ length-map p.volumes part_of
 
-pub holds_begun : (p : Plan) (t : Held) → IsForm p → t.segs ≡ begun p.frames (volumes_of p.volumes) → ((uid q : ℕ) → picture t.segs uid q ≡ replicate 1024 0) → ((uid q : ℕ) → is_filed t.segs uid q ≡ false) → used t.segs.storage.vtocs ≡ one_more (used (volumes_of p.volumes).vtocs) 0 → t.tree ≡ root_alone 0 0 → t.known ≡ replicate 256 None → t.lengths ≡ [] → t.stored ≡ 0 → Holds p [] t
+pub holds_begun : (p : Plan) (t : Held) → IsForm p → t.segs ≡ begun p.frames (volumes_of p.volumes) → ((uid q : ℕ) → picture t.segs uid q ≡ replicate 1024 0)
+    → ((uid q : ℕ) → is_filed t.segs uid q ≡ false) → used t.segs.storage.vtocs ≡ one_more (used (volumes_of p.volumes).vtocs) 0 → t.tree ≡ root_alone 0 0
+    → t.known ≡ replicate 256 None → t.lengths ≡ [] → t.stored ≡ 0 → Holds p [] t
 holds_begun p t f segs shown filed places tree known lengths stored = record {
   form = f;
   legal = legal_nil p;
@@ -135,7 +141,8 @@ boot_at : (p : Plan) → 0 < length p.processes → progress_of (boot p) 0 ≡ a
 unfolding boot
 boot_at p some = by_processes p.processes some
   where
-    by_processes : (xs : List ProcessPlan) → 0 < length xs → get_or (replicate (length xs) at_first) 0 (record { place = 0; tries = 0; ended = true; faulted = false }) ≡ at_first
+    by_processes : (xs : List ProcessPlan) → 0 < length xs
+        → get_or (replicate (length xs) at_first) 0 (record { place = 0; tries = 0; ended = true; faulted = false }) ≡ at_first
     by_processes [] some = absurd (omega (arith, some))
     by_processes (x ∷ xs) some = refl
 

@@ -30,7 +30,8 @@ abbrev pub count_left : ℕ → Left → ℕ
 count_left n Released = n - 1
 count_left n Kept = n
 
-zero_word : (ws : Words) (xs : List (ℕ × ℕ)) (count u q : ℕ) (segs : Segs) → ArePages ws xs count segs → is_stored xs u q ≡ true → AreZero (picture segs u q) → (x : ℕ) → x < 1024 → ws u (1024 * q + x) ≡ 0
+zero_word : (ws : Words) (xs : List (ℕ × ℕ)) (count u q : ℕ) (segs : Segs) → ArePages ws xs count segs → is_stored xs u q ≡ true → AreZero (picture segs u q)
+    → (x : ℕ) → x < 1024 → ws u (1024 * q + x) ≡ 0
 zero_word ws xs count u q segs h on zeros x lx =
     let there = h.inside u q on in
     let two = there.0 in
@@ -39,12 +40,18 @@ zero_word ws xs count u q segs h on zeros x lx =
     subst (λ (v : ℕ). ws v (1024 * q + x) ≡ 0) back
     (sym (h.words (u - 2) q x there.2 lx) ∙ ap (λ (v : ℕ). get_or (picture segs v q) x 0) back ∙ zeros x 0 (omega (arith, size, lx)))
 
-pub may_release : (p : Plan) (s : Store) (old new : Held) (gone : Evicted) → AreTied p s old → is_filed old.segs gone.uid gone.page ≡ true → IsEmptied old.segs new.segs gone → gone.left ≡ Released → MayRelease s gone.uid gone.page
+pub may_release : (p : Plan) (s : Store) (old new : Held) (gone : Evicted) → AreTied p s old → is_filed old.segs gone.uid gone.page ≡ true
+    → IsEmptied old.segs new.segs gone → gone.left ≡ Released → MayRelease s gone.uid gone.page
 may_release p s old new gone h filed e left =
     let on : is_stored s.stored gone.uid gone.page ≡ true = h.pages.stored gone.uid gone.page ∙ filed in
-    record { there = on; zeros = words_zero s.words gone.uid gone.page (zero_word s.words s.stored (length old.segs.homes) gone.uid gone.page old.segs h.pages on (e.zeros.0 left)) }
+    record {
+      there = on;
+      zeros = words_zero s.words gone.uid gone.page
+          (zero_word s.words s.stored (length old.segs.homes) gone.uid gone.page old.segs h.pages on (e.zeros.0 left));
+    }
 
-stored_gone : (xs : List (ℕ × ℕ)) (filed : ℕ → ℕ → Bool) (u q v page : ℕ) → is_stored xs v page ≡ filed v page → is_stored (without_stored xs u (λ y. eqb y q)) v page ≡ changed_at filed u q false v page
+stored_gone : (xs : List (ℕ × ℕ)) (filed : ℕ → ℕ → Bool) (u q v page : ℕ) → is_stored xs v page ≡ filed v page
+    → is_stored (without_stored xs u (λ y. eqb y q)) v page ≡ changed_at filed u q false v page
 unfolding changed_at
 stored_gone xs filed u q v page same =
     is_stored-without xs u (λ y. eqb y q) v page
@@ -61,7 +68,8 @@ stored_gone xs filed u q v page same =
     chosen true = refl
     chosen false = same
 
-pages_gone : (ws : Words) (xs : List (ℕ × ℕ)) (count u q : ℕ) (old new : Segs) → ArePages ws xs count old → picture new ≡ picture old → is_filed new ≡ changed_at (is_filed old) u q false → ArePages ws (without_stored xs u (λ y. eqb y q)) count new
+pages_gone : (ws : Words) (xs : List (ℕ × ℕ)) (count u q : ℕ) (old new : Segs) → ArePages ws xs count old → picture new ≡ picture old
+    → is_filed new ≡ changed_at (is_filed old) u q false → ArePages ws (without_stored xs u (λ y. eqb y q)) count new
 pages_gone ws xs count u q old new h shown filed = record {
   words = λ i page o lp lo. ap (λ (f : ℕ → ℕ → List ℕ). get_or (f (i + 2) page) o 0) shown ∙ h.words i page o lp lo;
   stored = λ v page. stored_gone xs (is_filed old) u q v page (h.stored v page) ∙ sym (λ k. filed k v page);
@@ -82,7 +90,8 @@ pages_gone ws xs count u q old new h shown filed = record {
 
 -- the tables once a page was given up, in the terms of its parts
 released : (p : Plan) (s : Store) (old new : Held) (gone : Evicted) → AreTied p s old → IsEmptied old.segs new.segs gone
-    → is_stored s.stored gone.uid gone.page ≡ true → gone.left ≡ Released → new.stored ≡ old.stored - 1 → new.tree ≡ old.tree → new.known ≡ old.known → new.lengths ≡ old.lengths
+    → is_stored s.stored gone.uid gone.page ≡ true → gone.left ≡ Released → new.stored ≡ old.stored - 1 → new.tree ≡ old.tree → new.known ≡ old.known
+    → new.lengths ≡ old.lengths
     → AreTied p (record s { stored = without_stored s.stored gone.uid (λ y. eqb y gone.page) }) new
 released p s old new gone h e on left stored tree known lengths =
     let count : length new.segs.homes ≡ length old.segs.homes = ap (λ (xs : List Home). length xs) e.homes in
@@ -91,7 +100,8 @@ released p s old new gone h e on left stored tree known lengths =
     let within = c.within in
     let two = e.some in
     let below = e.segment in
-    let shorter : length (without_stored s.stored gone.uid (λ y. eqb y gone.page)) + 1 ≡ length s.stored = length-without s.stored gone.uid gone.page h.pages.once on in
+    let shorter : length (without_stored s.stored gone.uid (λ y. eqb y gone.page)) + 1 ≡ length s.stored =
+    length-without s.stored gone.uid gone.page h.pages.once on in
     let filed : is_filed new.segs ≡ changed_at (is_filed old.segs) gone.uid gone.page false =
     e.stored ∙ ap (stored_after (is_filed old.segs) gone.uid gone.page) left in
     let fewer : taken new.segs.storage.records ≡ one_less (taken old.segs.storage.records) (volume_at old.segs (gone.uid - 2)) =
@@ -114,7 +124,8 @@ released p s old new gone h e on left stored tree known lengths =
       processes = h.processes;
     }
 
-kept : (p : Plan) (s : Store) (old new : Held) (gone : Evicted) → AreTied p s old → IsEmptied old.segs new.segs gone → gone.left ≡ Kept → new.stored ≡ old.stored → new.tree ≡ old.tree → new.known ≡ old.known → new.lengths ≡ old.lengths → AreTied p s new
+kept : (p : Plan) (s : Store) (old new : Held) (gone : Evicted) → AreTied p s old → IsEmptied old.segs new.segs gone → gone.left ≡ Kept
+    → new.stored ≡ old.stored → new.tree ≡ old.tree → new.known ≡ old.known → new.lengths ≡ old.lengths → AreTied p s new
 kept p s old new gone h e left stored tree known lengths =
     let count : length new.segs.homes ≡ length old.segs.homes = ap (λ (xs : List Home). length xs) e.homes in
     record {
@@ -127,10 +138,13 @@ kept p s old new gone h e left stored tree known lengths =
       processes = h.processes;
     }
 
-pub tied_gone : (p : Plan) (s : Store) (old new : Held) (gone : Evicted) → AreTied p s old → IsEmptied old.segs new.segs gone → is_filed old.segs gone.uid gone.page ≡ true
-    → new.stored ≡ count_left old.stored gone.left → new.tree ≡ old.tree → new.known ≡ old.known → new.lengths ≡ old.lengths → AreTied p (store_left s gone.uid gone.page gone.left) new
+pub tied_gone : (p : Plan) (s : Store) (old new : Held) (gone : Evicted) → AreTied p s old → IsEmptied old.segs new.segs gone
+    → is_filed old.segs gone.uid gone.page ≡ true
+    → new.stored ≡ count_left old.stored gone.left → new.tree ≡ old.tree → new.known ≡ old.known → new.lengths ≡ old.lengths
+    → AreTied p (store_left s gone.uid gone.page gone.left) new
 tied_gone p s old new gone h e filed stored tree known lengths = by_left gone.left refl
   where
     by_left : (left : Left) → gone.left ≡ left → AreTied p (store_left s gone.uid gone.page left) new
-    by_left Released is = released p s old new gone h e (h.pages.stored gone.uid gone.page ∙ filed) is (stored ∙ ap (count_left old.stored) is) tree known lengths
+    by_left Released is = released p s old new gone h e (h.pages.stored gone.uid gone.page ∙ filed) is
+        (stored ∙ ap (count_left old.stored) is) tree known lengths
     by_left Kept is = kept p s old new gone h e is (stored ∙ ap (count_left old.stored) is) tree known lengths

@@ -7,7 +7,8 @@ use Rattle.flat_model.specs.Store.{Store, with_numbers}
 use Rattle.known_segs.specs.Known.{uid_of}
 use Rattle.runner.specs.Tables.{Held, AreNumbered, AreTied}
 
-numbered_with : (p : Plan) (known : List (List (Option ℕ))) (count : ℕ) (kst : List (Option ℕ)) (number uid : ℕ) → AreNumbered p known count kst → number < 256 → 2 ≤ uid → uid < count + 2
+numbered_with : (p : Plan) (known : List (List (Option ℕ))) (count : ℕ) (kst : List (Option ℕ)) (number uid : ℕ) → AreNumbered p known count kst → number < 256
+    → 2 ≤ uid → uid < count + 2
     → AreNumbered p (set known 0 (set kst number (Some uid))) count (set kst number (Some uid))
 numbered_with p known count kst number uid h lt two below =
     let size = h.places in
@@ -25,7 +26,8 @@ numbered_with p known count kst number uid h lt two below =
 
     inside : (n u : ℕ) → (n ≡ number) ⊎ (n ≢ number) → number < length kst → uid_of (set kst number (Some uid)) n ≡ Some u → (2 ≤ u) × (u < count + 2)
     inside n u (inl e) within at =
-        let same : uid ≡ u = same_uid uid u (sym (ap (λ (k : ℕ). get_or (set kst number (Some uid)) k None) e ∙ get_or-set_same kst number (Some uid) None within) ∙ at) in
+        let same : uid ≡ u = same_uid uid u
+        (sym (ap (λ (k : ℕ). get_or (set kst number (Some uid)) k None) e ∙ get_or-set_same kst number (Some uid) None within) ∙ at) in
         (omega (arith, same, two), omega (arith, same, below))
     inside n u (inr ne) within at = h.there n u (sym (get_or-set_other kst number n (Some uid) None ne) ∙ at)
 

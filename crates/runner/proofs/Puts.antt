@@ -43,7 +43,8 @@ word_set words at x w there = chosen (eqb at x) refl
     chosen false e = get_or-set_other words at x w 0 (grind (arith, nat_tests))
 
 -- the words of each page once one was written into a page
-pub words_put : (ws : Words) (old : ℕ → ℕ → List ℕ) (page_words : List ℕ) (i o w j q x : ℕ) → q < 256 → x < 1024 → length page_words ≡ 1024 → page_words ≡ old (i + 2) (o / 1024)
+pub words_put : (ws : Words) (old : ℕ → ℕ → List ℕ) (page_words : List ℕ) (i o w j q x : ℕ) → q < 256 → x < 1024 → length page_words ≡ 1024
+    → page_words ≡ old (i + 2) (o / 1024)
     → ((k page at : ℕ) → page < 256 → at < 1024 → get_or (old (k + 2) page) at 0 ≡ ws (k + 2) (1024 * page + at))
     → get_or (changed_at old (i + 2) (o / 1024) (set page_words (o % 1024) w) (j + 2) q) x 0 ≡ with_word ws (i + 2) o w (j + 2) (1024 * q + x)
 unfolding changed_at
@@ -67,7 +68,8 @@ words_put ws old page_words i o w j q x lq lx size are all =
     by_page false b e f = all j q x lq lx
 
 -- the lengths of the pages
-pub size_put : (old : ℕ → ℕ → List ℕ) (page_words : List ℕ) (u q at w v page : ℕ) → length page_words ≡ 1024 → ((eqb u v && eqb q page) ≡ false → length (old v page) ≡ 1024)
+pub size_put : (old : ℕ → ℕ → List ℕ) (page_words : List ℕ) (u q at w v page : ℕ) → length page_words ≡ 1024
+    → ((eqb u v && eqb q page) ≡ false → length (old v page) ≡ 1024)
     → length (changed_at old u q (set page_words at w) v page) ≡ 1024
 unfolding changed_at
 size_put old page_words u q at w v page size others = chosen (eqb u v && eqb q page) refl
@@ -77,7 +79,8 @@ size_put old page_words u q at w v page size others = chosen (eqb u v && eqb q p
     chosen false e = others e
 
 pages_put : (s : Store) (count i o w : ℕ) (old new : Segs) → ArePages s.words s.stored count old → is_stored s.stored (i + 2) (o / 1024) ≡ true
-    → picture new ≡ changed_at (picture old) (i + 2) (o / 1024) (set (picture old (i + 2) (o / 1024)) (o % 1024) w) → is_filed new ≡ is_filed old → ArePages (with_word s.words (i + 2) o w) s.stored count new
+    → picture new ≡ changed_at (picture old) (i + 2) (o / 1024) (set (picture old (i + 2) (o / 1024)) (o % 1024) w) → is_filed new ≡ is_filed old
+    → ArePages (with_word s.words (i + 2) o w) s.stored count new
 pages_put s count i o w old new h on shown filed =
     let size = h.sizes (i + 2) (o / 1024) on in
     record {
@@ -95,7 +98,8 @@ pages_put s count i o w old new h on shown filed =
 -- a word written into a stored page
 pub tied_put : (p : Plan) (s : Store) (old new : Held) (i o w : ℕ) → AreTied p s old → is_stored s.stored (i + 2) (o / 1024) ≡ true
     → picture new.segs ≡ changed_at (picture old.segs) (i + 2) (o / 1024) (set (picture old.segs (i + 2) (o / 1024)) (o % 1024) w)
-    → is_filed new.segs ≡ is_filed old.segs → new.segs.homes ≡ old.segs.homes → new.tree ≡ old.tree → new.known ≡ old.known → new.lengths ≡ old.lengths → new.stored ≡ old.stored
+    → is_filed new.segs ≡ is_filed old.segs → new.segs.homes ≡ old.segs.homes → new.tree ≡ old.tree → new.known ≡ old.known → new.lengths ≡ old.lengths
+    → new.stored ≡ old.stored
     → taken new.segs.storage.records ≡ taken old.segs.storage.records → used new.segs.storage.vtocs ≡ used old.segs.storage.vtocs
     → size new.segs.storage.records ≡ size old.segs.storage.records → entries new.segs.storage.vtocs ≡ entries old.segs.storage.vtocs
     → AreTied p (record s { words = with_word s.words (i + 2) o w }) new
@@ -105,6 +109,7 @@ tied_put p s old new i o w h on shown filed homes tree known lengths stored reco
       named = named_same p s.nodes s.next old.segs.homes new.segs.homes old.tree new.tree old.lengths new.lengths h.named homes tree lengths;
       numbered = numbered_same p s.known (length old.segs.homes) (length new.segs.homes) old.known new.known h.numbered (omega (arith, count)) known;
       pages = rw count (pages_put s (length old.segs.homes) i o w old.segs new.segs h.pages on shown filed);
-      counted = counted_same p s.nodes s.stored old.segs.storage new.segs.storage old.stored new.stored h.counted stored records places record_sizes entry_sizes;
+      counted = counted_same p s.nodes s.stored old.segs.storage new.segs.storage old.stored new.stored h.counted stored records places record_sizes
+          entry_sizes;
       processes = h.processes;
     }

@@ -61,8 +61,10 @@ unfolding ends_once
 placed_at [] place c h e = absurd cc
 placed_at (d ∷ []) zero c h e = let same : d ≡ c = cc in end_placed c 1 1 (ap is_end (sym same) ∙ h) refl
 placed_at (d ∷ []) (suc place) c h e = absurd cc
-placed_at (d ∷ f ∷ cs) zero c h e = let same : d ≡ c = cc in other_placed c 1 (length (d ∷ f ∷ cs)) (ap (λ (x : Command). not (is_end x)) (sym same) ∙ (and_parts _ _ h).0) (omega arith)
-placed_at (d ∷ f ∷ cs) (suc place) c h e = placed_later c (place + 1) (suc place + 1) (length (f ∷ cs)) (placed_at (f ∷ cs) place c (and_parts _ _ h).1 e) (omega arith)
+placed_at (d ∷ f ∷ cs) zero c h e = let same : d ≡ c = cc in
+    other_placed c 1 (length (d ∷ f ∷ cs)) (ap (λ (x : Command). not (is_end x)) (sym same) ∙ (and_parts _ _ h).0) (omega arith)
+placed_at (d ∷ f ∷ cs) (suc place) c h e = placed_later c (place + 1) (suc place + 1) (length (f ∷ cs)) (placed_at (f ∷ cs) place c (and_parts _ _ h).1 e)
+    (omega arith)
 
 -- ---- the script
 
@@ -80,7 +82,8 @@ runnable_process volumes x h is light = record {
   placed = λ place c at. placed_at x.commands place c (and_parts _ _ (and_parts _ _ is).1).1 at;
 }
 
-runnable_first : (volumes : ℕ) (xs : List ProcessPlan) → processes_run xs ≡ true → list_all (is_process volumes) xs ≡ true → sum_by weight_of xs ≤ 100000 → AreRunnable (get_or xs 0 (record { who = nobody; commands = [] })).commands
+runnable_first : (volumes : ℕ) (xs : List ProcessPlan) → processes_run xs ≡ true → list_all (is_process volumes) xs ≡ true → sum_by weight_of xs ≤ 100000
+    → AreRunnable (get_or xs 0 (record { who = nobody; commands = [] })).commands
 runnable_first volumes [] h are light = record { run = refl; few = omega arith; placed = λ place c at. absurd cc }
 runnable_first volumes (x ∷ []) h are light = runnable_process volumes x h (and_parts _ _ are).0 (omega (arith, sum_by-cons weight_of x [], light))
 runnable_first volumes (x ∷ y ∷ xs) h are light = absurd cc
@@ -110,7 +113,8 @@ unfolding ends_once
 some_commands [] h = absurd cc
 some_commands (c ∷ cs) h = omega arith
 
-some_command : (volumes : ℕ) (xs : List ProcessPlan) → list_all (is_process volumes) xs ≡ true → 0 < length xs → 0 < length (get_or xs 0 (record { who = nobody; commands = [] })).commands
+some_command : (volumes : ℕ) (xs : List ProcessPlan) → list_all (is_process volumes) xs ≡ true → 0 < length xs
+    → 0 < length (get_or xs 0 (record { who = nobody; commands = [] })).commands
 unfolding is_process
 some_command volumes [] h some = absurd (omega (arith, some))
 some_command volumes (x ∷ xs) h some = some_commands x.commands (and_parts _ _ (and_parts _ _ (and_parts _ _ h).0).1).1

@@ -41,7 +41,8 @@ fact_only None P Q h = tt
 fact_only (Some all) P Q h = h.1
 
 -- of a book that is there
-pub of_run : (src : Change) (f : Finished) (P : Ledger → Type 0) → ((b : Ledger) → IsRun src b f.volumes → P b) → IfSome f.book (λ b. IsRun src b f.volumes) → IfSome f.book P
+pub of_run : (src : Change) (f : Finished) (P : Ledger → Type 0) → ((b : Ledger) → IsRun src b f.volumes → P b) → IfSome f.book (λ b. IsRun src b f.volumes)
+    → IfSome f.book P
 of_run src f P get h = each f.book h
   where
     each : (book : Option Ledger) → IfSome book (λ b. IsRun src b f.volumes) → IfSome book P
@@ -49,7 +50,8 @@ of_run src f P get h = each f.book h
     each (Some b) h = get b h
 
 -- a front that was written of a listing
-pub front_only : (book : Option Ledger) (out : Change) → IsSomeAnd book (λ b. WritesFront out (listing_of b.script b.entries)) → IsSomeAnd book (λ b. AppendsFront out.before out.after (listing_of b.script b.entries))
+pub front_only : (book : Option Ledger) (out : Change) → IsSomeAnd book (λ b. WritesFront out (listing_of b.script b.entries))
+    → IsSomeAnd book (λ b. AppendsFront out.before out.after (listing_of b.script b.entries))
 front_only None out h = h
 front_only (Some b) out h = h.front
 
@@ -70,36 +72,47 @@ pub data Verdict (s : Status) (bytes : List ℕ) (out : Change) : Type 0 where
   printed : (p : Plan) → s ≡ status.Done → length bytes ≤ 4194304 → script_of bytes ≡ Ok p → script_runs p ≡ true → Verdict s bytes out
   broken : (p : Plan) → Failed out → length bytes ≤ 4194304 → script_of bytes ≡ Ok p → script_runs p ≡ true → Verdict s bytes out
 
-done_verdict : (book : Option Ledger) (bytes : List ℕ) (src out : Change) (volumes : Option (Vols DriveState)) → src.before ≡ Some bytes → IsSomeAnd book (λ b. WritesAll out (listing_of b.script b.entries)) → IfSome book (λ b. IsRun src b volumes) → Verdict status.Done bytes out
+done_verdict : (book : Option Ledger) (bytes : List ℕ) (src out : Change) (volumes : Option (Vols DriveState)) → src.before ≡ Some bytes
+    → IsSomeAnd book (λ b. WritesAll out (listing_of b.script b.entries)) → IfSome book (λ b. IsRun src b volumes) → Verdict status.Done bytes out
 done_verdict None bytes src out volumes told h run = absurd h
 done_verdict (Some b) bytes src out volumes told h run =
-    printed b.script refl (subst (λ (x : Option (List ℕ)). IfSome x (λ all. length all ≤ 4194304)) told run.within) (subst (λ (x : Option (List ℕ)). IfSome x (λ all. script_of all ≡ Ok b.script)) told run.script) run.runs
+    printed b.script refl (subst (λ (x : Option (List ℕ)). IfSome x (λ all. length all ≤ 4194304)) told run.within)
+    (subst (λ (x : Option (List ℕ)). IfSome x (λ all. script_of all ≡ Ok b.script)) told run.script) run.runs
 
-fault_verdict : (book : Option Ledger) (bytes : List ℕ) (src out : Change) (volumes : Option (Vols DriveState)) → src.before ≡ Some bytes → IsSomeAnd book (λ b. WritesFront out (listing_of b.script b.entries)) → IfSome book (λ b. IsRun src b volumes) → Verdict status.WriteFault bytes out
+fault_verdict : (book : Option Ledger) (bytes : List ℕ) (src out : Change) (volumes : Option (Vols DriveState)) → src.before ≡ Some bytes
+    → IsSomeAnd book (λ b. WritesFront out (listing_of b.script b.entries)) → IfSome book (λ b. IsRun src b volumes) → Verdict status.WriteFault bytes out
 fault_verdict None bytes src out volumes told h run = absurd h
 fault_verdict (Some b) bytes src out volumes told h run =
-    broken b.script h.fault (subst (λ (x : Option (List ℕ)). IfSome x (λ all. length all ≤ 4194304)) told run.within) (subst (λ (x : Option (List ℕ)). IfSome x (λ all. script_of all ≡ Ok b.script)) told run.script) run.runs
+    broken b.script h.fault (subst (λ (x : Option (List ℕ)). IfSome x (λ all. length all ≤ 4194304)) told run.within)
+    (subst (λ (x : Option (List ℕ)). IfSome x (λ all. script_of all ≡ Ok b.script)) told run.script) run.runs
 
-verdict_of : (s : Status) (book : Option Ledger) (bytes : List ℕ) (src out : Change) (volumes : Option (Vols DriveState)) → (Failed src → ⊥) → src.before ≡ Some bytes → EndsSo s (Some form.Run) src out book → IfSome book (λ b. IsRun src b volumes) → Verdict s bytes out
+verdict_of : (s : Status) (book : Option Ledger) (bytes : List ℕ) (src out : Change) (volumes : Option (Vols DriveState)) → (Failed src → ⊥)
+    → src.before ≡ Some bytes → EndsSo s (Some form.Run) src out book → IfSome book (λ b. IsRun src b volumes) → Verdict s bytes out
 verdict_of status.Usage book bytes src out volumes fine told h run = absurd cc
 verdict_of status.ReadFault book bytes src out volumes fine told h run = absurd (fine h.1)
-verdict_of status.TooLong book bytes src out volumes fine told h run = long refl (subst (λ (x : Option (List ℕ)). IfSome x (λ all. 4194304 < length all)) told h.1)
-verdict_of (status.Script r) book bytes src out volumes fine told h run = let is = subst (λ (x : Option (List ℕ)). IfSome x (λ all. (length all ≤ 4194304) × (script_of all ≡ Err r))) told h.1 in refused r refl is.0 is.1
-verdict_of status.Later book bytes src out volumes fine told h run = let is = subst (λ (x : Option (List ℕ)). IfSome x (λ all. (length all ≤ 4194304) × IsLater (script_of all))) told h.1 in late refl is.0 is.1
+verdict_of status.TooLong book bytes src out volumes fine told h run =
+    long refl (subst (λ (x : Option (List ℕ)). IfSome x (λ all. 4194304 < length all)) told h.1)
+verdict_of (status.Script r) book bytes src out volumes fine told h run = let is =
+    subst (λ (x : Option (List ℕ)). IfSome x (λ all. (length all ≤ 4194304) × (script_of all ≡ Err r))) told h.1 in refused r refl is.0 is.1
+verdict_of status.Later book bytes src out volumes fine told h run = let is =
+    subst (λ (x : Option (List ℕ)). IfSome x (λ all. (length all ≤ 4194304) × IsLater (script_of all))) told h.1 in late refl is.0 is.1
 verdict_of status.Done book bytes src out volumes fine told h run = done_verdict book bytes src out volumes told h run
 verdict_of status.WriteFault book bytes src out volumes fine told h run = fault_verdict book bytes src out volumes told h run
 verdict_of status.Memory book bytes src out volumes fine told h run = memory refl
 
 -- the verdict of a call that ran a script
-pub verdict : (asked : Option Form) (src out : Change) (f : Finished) → Ends asked src out f → asked ≡ Some form.Run → (Failed src → ⊥) → IfSome src.before (λ bytes. Verdict f.status bytes out)
+pub verdict : (asked : Option Form) (src out : Change) (f : Finished) → Ends asked src out f → asked ≡ Some form.Run → (Failed src → ⊥)
+    → IfSome src.before (λ bytes. Verdict f.status bytes out)
 verdict asked src out f h run fine = each src.before refl
   where
     each : (left : Option (List ℕ)) → src.before ≡ left → IfSome left (λ bytes. Verdict f.status bytes out)
     each None told = tt
-    each (Some bytes) told = verdict_of f.status f.book bytes src out f.volumes fine told (subst (λ (x : Option Form). EndsSo f.status x src out f.book) run h.so) h.run
+    each (Some bytes) told = verdict_of f.status f.book bytes src out f.volumes fine told
+        (subst (λ (x : Option Form). EndsSo f.status x src out f.book) run h.so) h.run
 
 -- what each verdict has is there, or there was no memory
-pub by_verdict : (left : Option (List ℕ)) (s : Status) (out : Change) (Q : List ℕ → Type 0) → IfSome left (λ bytes. Verdict s bytes out) → ((bytes : List ℕ) → Verdict s bytes out → Q bytes) → IfSome left Q
+pub by_verdict : (left : Option (List ℕ)) (s : Status) (out : Change) (Q : List ℕ → Type 0) → IfSome left (λ bytes. Verdict s bytes out)
+    → ((bytes : List ℕ) → Verdict s bytes out → Q bytes) → IfSome left Q
 by_verdict None s out Q h get = tt
 by_verdict (Some bytes) s out Q h get = get bytes h
 
@@ -111,7 +124,8 @@ found_long s bytes out (late e few is) lt = absurd (omega arith)
 found_long s bytes out (printed p e few is runs) lt = absurd (omega arith)
 found_long s bytes out (broken p e few is runs) lt = absurd (omega arith)
 
-pub found_refused : (s : Status) (bytes : List ℕ) (out : Change) → Verdict s bytes out → (r : Refusal) → length bytes ≤ 4194304 → script_of bytes ≡ Err r → (s ≡ status.Script r) ⊎ (s ≡ status.Memory)
+pub found_refused : (s : Status) (bytes : List ℕ) (out : Change) → Verdict s bytes out → (r : Refusal) → length bytes ≤ 4194304 → script_of bytes ≡ Err r
+    → (s ≡ status.Script r) ⊎ (s ≡ status.Memory)
 found_refused s bytes out (memory e) r le is = inr e
 found_refused s bytes out (long e l) r le is = absurd (omega arith)
 found_refused s bytes out (refused q e few was) r le is = let same : q ≡ r = cc in inl (e ∙ ap status.Script same)
@@ -119,7 +133,8 @@ found_refused s bytes out (late e few was) r le is = absurd (subst IsLater is wa
 found_refused s bytes out (printed p e few was runs) r le is = absurd cc
 found_refused s bytes out (broken p e few was runs) r le is = absurd cc
 
-pub found_later : (s : Status) (bytes : List ℕ) (out : Change) → Verdict s bytes out → (p : Plan) → length bytes ≤ 4194304 → script_of bytes ≡ Ok p → script_runs p ≡ false → (s ≡ status.Later) ⊎ (s ≡ status.Memory)
+pub found_later : (s : Status) (bytes : List ℕ) (out : Change) → Verdict s bytes out → (p : Plan) → length bytes ≤ 4194304 → script_of bytes ≡ Ok p
+    → script_runs p ≡ false → (s ≡ status.Later) ⊎ (s ≡ status.Memory)
 found_later s bytes out (memory e) p le is runs = inr e
 found_later s bytes out (long e l) p le is runs = absurd (omega arith)
 found_later s bytes out (refused r e few was) p le is runs = absurd cc
@@ -133,7 +148,8 @@ found_later s bytes out (broken q e few was ran) p le is runs = let same : q ≡
     apart : true ≡ false → ⊥
     apart e = cc
 
-pub found_done : (s : Status) (bytes : List ℕ) (out : Change) → Verdict s bytes out → (Failed out → ⊥) → (p : Plan) → length bytes ≤ 4194304 → script_of bytes ≡ Ok p → script_runs p ≡ true → (s ≡ status.Done) ⊎ (s ≡ status.Memory)
+pub found_done : (s : Status) (bytes : List ℕ) (out : Change) → Verdict s bytes out → (Failed out → ⊥) → (p : Plan) → length bytes ≤ 4194304
+    → script_of bytes ≡ Ok p → script_runs p ≡ true → (s ≡ status.Done) ⊎ (s ≡ status.Memory)
 found_done s bytes out (memory e) fine p le is runs = inr e
 found_done s bytes out (long e l) fine p le is runs = absurd (omega arith)
 found_done s bytes out (refused r e few was) fine p le is runs = absurd cc
@@ -142,7 +158,8 @@ found_done s bytes out (printed q e few was ran) fine p le is runs = inl e
 found_done s bytes out (broken q e few was ran) fine p le is runs = absurd (fine e)
 
 -- a script of a day is printed, or there was no memory for it
-made_done : (s : Status) (n : ℕ) (src out : Change) (book : Option Ledger) → (Failed out → ⊥) → EndsSo s (Some (form.Make n)) src out book → (s ≡ status.Done) ⊎ (s ≡ status.Memory)
+made_done : (s : Status) (n : ℕ) (src out : Change) (book : Option Ledger) → (Failed out → ⊥) → EndsSo s (Some (form.Make n)) src out book
+    → (s ≡ status.Done) ⊎ (s ≡ status.Memory)
 made_done status.Done n src out book fine h = inl refl
 made_done status.Memory n src out book fine h = inr refl
 made_done status.WriteFault n src out book fine h = absurd (fine h.fault)
@@ -152,11 +169,13 @@ made_done status.TooLong n src out book fine h = absurd cc
 made_done (status.Script r) n src out book fine h = absurd cc
 made_done status.Later n src out book fine h = absurd cc
 
-pub found_made : (asked : Option Form) (src out : Change) (f : Finished) (n : ℕ) → Ends asked src out f → asked ≡ Some (form.Make n) → (Failed out → ⊥) → (f.status ≡ status.Done) ⊎ (f.status ≡ status.Memory)
+pub found_made : (asked : Option Form) (src out : Change) (f : Finished) (n : ℕ) → Ends asked src out f → asked ≡ Some (form.Make n) → (Failed out → ⊥)
+    → (f.status ≡ status.Done) ⊎ (f.status ≡ status.Memory)
 found_made asked src out f n h e fine = made_done f.status n src out f.book fine (subst (λ (x : Option Form). EndsSo f.status x src out f.book) e h.so)
 
 -- the text of a drill is printed, or there was no memory for it
-drilled_done : (s : Status) (p f n seed : ℕ) (src out : Change) (book : Option Ledger) → (Failed out → ⊥) → EndsSo s (Some (form.Drill p f n seed)) src out book → (s ≡ status.Done) ⊎ (s ≡ status.Memory)
+drilled_done : (s : Status) (p f n seed : ℕ) (src out : Change) (book : Option Ledger) → (Failed out → ⊥)
+    → EndsSo s (Some (form.Drill p f n seed)) src out book → (s ≡ status.Done) ⊎ (s ≡ status.Memory)
 drilled_done status.Done p f n seed src out book fine h = inl refl
 drilled_done status.Memory p f n seed src out book fine h = inr refl
 drilled_done status.WriteFault p f n seed src out book fine h = absurd (fine h.fault)
@@ -166,8 +185,10 @@ drilled_done status.TooLong p f n seed src out book fine h = absurd cc
 drilled_done (status.Script r) p f n seed src out book fine h = absurd cc
 drilled_done status.Later p f n seed src out book fine h = absurd cc
 
-pub found_drilled : (asked : Option Form) (src out : Change) (f : Finished) (p frames n seed : ℕ) → Ends asked src out f → asked ≡ Some (form.Drill p frames n seed) → (Failed out → ⊥) → (f.status ≡ status.Done) ⊎ (f.status ≡ status.Memory)
-found_drilled asked src out f p frames n seed h e fine = drilled_done f.status p frames n seed src out f.book fine (subst (λ (x : Option Form). EndsSo f.status x src out f.book) e h.so)
+pub found_drilled : (asked : Option Form) (src out : Change) (f : Finished) (p frames n seed : ℕ) → Ends asked src out f
+    → asked ≡ Some (form.Drill p frames n seed) → (Failed out → ⊥) → (f.status ≡ status.Done) ⊎ (f.status ≡ status.Memory)
+found_drilled asked src out f p frames n seed h e fine =
+    drilled_done f.status p frames n seed src out f.book fine (subst (λ (x : Option Form). EndsSo f.status x src out f.book) e h.so)
 
 -- what was printed, by the form that was asked for
 pub printed_in : (asked other : Option Form) (book : Option Ledger) (P : List ℕ → Type 0) → Prints asked book P → asked ≡ other → Prints other book P

@@ -1,10 +1,13 @@
 -- What the supervisor finds where a reference goes, by the tables (Bensoussan, Clingen and Daley 1972).
-use Rattle.std.specs.Prelude.{◌≡◌, ◌≢◌, ◌<◌, ◌≤◌, ℕ, ◌+◌, ◌-◌, ◌*◌, ◌/◌, Bool, false, true, ◌==◌, nat_le, if◌then◌else◌, length, Option, Some, None, is_some, replicate, slice_index}
+use Rattle.std.specs.Prelude.{◌≡◌, ◌≢◌, ◌<◌, ◌≤◌, ℕ, ◌+◌, ◌-◌, ◌*◌, ◌/◌, Bool, false, true, ◌==◌, nat_le, if◌then◌else◌, length, Option, Some, None, is_some}
+use Rattle.std.specs.Prelude.{replicate, slice_index}
 use Rattle.book.specs.declared.replies.Reply.TheVariants as reply
 use Rattle.page_table.specs.declared.Ptw.{Ptw}
 use Rattle.page_table.specs.declared.Ptw.TheVariants.{Null, Out, Here, Leaving}
 use Rattle.known_segs.specs.Known.{uid_of}
-use Rattle.core_map.specs.CoreMap.{least_free_frame}
+use Rattle.core_map.specs.CoreMap.{frame_at, is_bound, least_free_frame}
+use Rattle.page_control.specs.Plain.{number_in, words_in}
+use Rattle.page_control.specs.Tied.{uid_in}
 use Rattle.paged_segs.specs.Shown.{picture, is_stored as is_filed}
 use Rattle.paged_segs.specs.Segs.{Segs, volume_at, word_at}
 use Rattle.paged_segs.specs.Counts.{is_full}
@@ -49,6 +52,11 @@ wants_frame (look.Through target) = false
 wants_frame (look.Bring i page) = true
 wants_frame (look.Create i page) = true
 
+-- the page is in a frame
+abbrev pub IsHere : Ptw → Type 0
+IsHere (Here f) = Unit {0}
+IsHere _ = ⊥
+
 -- a look that isn't at a page to be read in
 abbrev pub IsNotOut : Look → Type 0
 IsNotOut (look.Answer r) = Unit {0}
@@ -72,10 +80,20 @@ pub record IsBlank (t : Held) (i page : ℕ) : Type 0 where
   pub words : picture t.segs (i + 2) page ≡ replicate 1024 0
   pub unstored : is_filed t.segs (i + 2) page ≡ false
 
--- what a page table word says of a page: it isn't on its way out, and one without a record is zeros
+-- a page of segment i is in a frame, which has its words
+pub record IsInFrame (t : Held) (i page f : ℕ) : Type 0 where
+  pub bound : is_bound (frame_at t.segs.storage.core f) ≡ true
+  pub uid : uid_in (frame_at t.segs.storage.core f) ≡ i + 2
+  pub number : number_in (frame_at t.segs.storage.core f) ≡ page
+  pub words : picture t.segs (i + 2) page ≡ words_in t.segs.storage f
+  pub filed : is_filed t.segs (i + 2) page ≡ true
+
+-- what a page table word says of a page: it isn't on its way out, one without a record is zeros, and one in a frame has its
+-- words there
 pub record IsSeen (t : Held) (i page : ℕ) : Type 0 where
   pub stays : (f : ℕ) → word_at t.segs i page ≢ Leaving f
   pub null : word_at t.segs i page ≡ Null → IsBlank t i page
+  pub here : (f : ℕ) → word_at t.segs i page ≡ Here f → IsInFrame t i page f
 
 -- The segment and the page of a reference that has a page.
 pub record IsTarget (t : Held) (n offset i page : ℕ) : Type 0 where

@@ -79,7 +79,8 @@ pub record IsMade (old new : Held) (directory : ℕ) (name : List ℕ) (size vol
   pub words : picture new.segs ≡ picture old.segs
   pub filed : is_filed new.segs ≡ is_filed old.segs
   pub sizes : HasSizes old.segs.storage new.segs.storage
-  pub tree : new.tree ≡ added old.tree directory (record { name = name; dir = false; volume = volume; entry = (home_at new.segs.homes (length old.segs.homes)).entry; length = size; acl = owner_row who ∷ [] })
+  pub tree : new.tree ≡ added old.tree directory (record
+      { name = name; dir = false; volume = volume; entry = (home_at new.segs.homes (length old.segs.homes)).entry; length = size; acl = owner_row who ∷ [] })
   pub lengths : new.lengths ≡ old.lengths ++ size ∷ []
   pub known : new.known ≡ old.known
   pub count : new.stored ≡ old.stored

@@ -1,5 +1,6 @@
 -- The tables of a run, and what they are to the flat store (own).
-use Rattle.std.specs.Prelude.{◌≡◌, ◌≢◌, ◌<◌, ◌≤◌, ℕ, ◌+◌, ◌*◌, false, true, ◌==◌, if◌then◌else◌, List, [], ◌∷◌, length, map, sum, Option, Some, None, is_some, slice_index, slice_index_or}
+use Rattle.std.specs.Prelude.{◌≡◌, ◌≢◌, ◌<◌, ◌≤◌, ℕ, ◌+◌, ◌*◌, false, true, ◌==◌, if◌then◌else◌, List, [], ◌∷◌, length, map, sum, Option, Some, None, is_some}
+use Rattle.std.specs.Prelude.{slice_index, slice_index_or}
 use Rattle.mnames.specs.declared.principals.Who.{Who}
 use Rattle.script.specs.Plans.{Plan, who_of}
 use Rattle.tree_model.specs.Tree.{Node, node_in, has_directory, taken_on, entries_on}

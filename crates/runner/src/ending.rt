@@ -25,7 +25,8 @@ impl Machine {
         requires complete { IsComplete self.old.script self.old.entries }
         ensures script { self.new.script ≡ self.old.script }
         ensures complete { IsComplete self.new.script self.new.entries }
-        ensures core { OnOk result (self.new.held.segs.storage.core ≡ with_frame self.old.held.segs.storage.core f Free) }
+        ensures core { OnOk result
+            (self.new.held.segs.storage.core ≡ with_frame self.old.held.segs.storage.core f Free) }
     {
         if self.book.reserve(3).is_err() {
             return Err(NoMemory);

@@ -1,13 +1,12 @@
-ghost use Rattle.std.specs.Prelude.{◌≡◌, ◌<◌, ◌≤◌, ◌+◌, ◌/◌, ◌++◌, ◌∷◌, [], ℕ, Some, None, true, false, is_some, length};
+ghost use Rattle.std.specs.Prelude.{◌≡◌, ◌<◌, ◌≤◌, ◌+◌, ◌++◌, ◌∷◌, [], ℕ, Some, None, true, false, is_some, length};
 ghost use Rattle.book.specs.declared.replies.Reply.{Reply};
 ghost use Rattle.script.specs.Plans.{command_at};
 ghost use Rattle.script.specs.declared.commands.Command.TheVariants as command;
 ghost use Rattle.core_map.specs.CoreMap.{least_free_frame};
-ghost use Rattle.page_table.specs.declared.Ptw.TheVariants.{Here};
 ghost use Rattle.page_control.specs.Tied.{is_out};
 ghost use Rattle.paged_segs.specs.Segs.{word_at};
 ghost use Rattle.runner.specs.Effects.{IsSame};
-ghost use Rattle.runner.specs.Looks.{look_of, wants_frame, HasFree, IsNotOut, IsTarget, IsSeen};
+ghost use Rattle.runner.specs.Looks.{look_of, wants_frame, HasFree, IsHere, IsInFrame, IsNotOut, IsTarget, IsSeen};
 ghost use Rattle.runner.specs.Machines.{Holds, IsAt, IsDone, done_at, left_entries};
 ghost use Rattle.runner.specs.declared.looks.Look.TheVariants as look;
 
@@ -33,7 +32,12 @@ impl Model for Machine {
 
     ghost Value = { Run };
 
-    ghost view = { λ m. record { script = m.book.script; entries = m.book.entries; spare = m.book.spare; held = m.tables } };
+    ghost view = { λ m. record {
+      script = m.book.script;
+      entries = m.book.entries;
+      spare = m.book.spare;
+      held = m.tables;
+    } };
 
     ghost invariant = { λ m. Holds m.book.script m.book.entries m.tables };
 }
@@ -87,7 +91,8 @@ impl Machine {
         requires full { is_some (least_free_frame self.old.held.segs.storage.core) ≡ false }
         requires room { 3 ≤ self.old.spare }
         ensures script { self.new.script ≡ self.old.script }
-        ensures at { (place : ℕ) → IsAt self.old.script self.old.entries place → IsAt self.new.script self.new.entries place }
+        ensures at { (place : ℕ) → IsAt self.old.script self.old.entries place →
+            IsAt self.new.script self.new.entries place }
         ensures free { HasFree self.new.held.segs }
         ensures room { self.old.spare ≤ self.new.spare + 3 }
     {
@@ -96,17 +101,17 @@ impl Machine {
     }
 
     /// Reads the page of a reference from its record into the least free frame.
-    fn bring(&mut self, segment: u32, page: u32) -> u32
+    fn bring(&mut self, segment: u32, page: u32)
         requires there { segment < length self.old.held.segs.homes }
         requires few { page < 256 }
         requires out { is_out (word_at self.old.held.segs segment page) ≡ true }
         requires free { HasFree self.old.held.segs }
         requires room { 1 ≤ self.old.spare }
         ensures script { self.new.script ≡ self.old.script }
-        ensures at { (place : ℕ) → IsAt self.old.script self.old.entries place → IsAt self.new.script self.new.entries place }
+        ensures at { (place : ℕ) → IsAt self.old.script self.old.entries place →
+            IsAt self.new.script self.new.entries place }
         ensures same { IsSame self.old.held self.new.held }
-        ensures here { word_at self.new.held.segs segment page ≡ Here result }
-        ensures holds { Holds self.new.script self.new.entries self.new.held }
+        ensures here { IsHere (word_at self.new.held.segs segment page) }
         ensures room { self.old.spare ≤ self.new.spare + 1 }
     {
         let frame = self.tables.bring(segment, page);
@@ -115,14 +120,14 @@ impl Machine {
             uid: segment + 2,
             page,
         });
-        frame
     }
 
     /// Has a frame free, where the reference wants one.
     fn make_room(&mut self, number: u32, offset: u32, word: &Option<Word>)
         requires room { 3 ≤ self.old.spare }
         ensures script { self.new.script ≡ self.old.script }
-        ensures at { (place : ℕ) → IsAt self.old.script self.old.entries place → IsAt self.new.script self.new.entries place }
+        ensures at { (place : ℕ) → IsAt self.old.script self.old.entries place →
+            IsAt self.new.script self.new.entries place }
         ensures free { wants_frame (look_of self.new.script.quota self.new.held number offset word.now) ≡ true →
             HasFree self.new.held.segs }
         ensures room { self.old.spare ≤ self.new.spare + 3 }
@@ -138,11 +143,13 @@ impl Machine {
         }
     }
 
-    /// What a reference comes to once its page is in a frame, where it is stored. A frame is free where one is wanted.
+    /// What a reference comes to once its page is in a frame, where it is stored: it is tried again after its page was
+    /// read in. A frame is free where one is wanted.
     fn approach(&mut self, number: u32, offset: u32, word: &Option<Word>) -> Look
         requires room { 4 ≤ self.old.spare }
         ensures script { self.new.script ≡ self.old.script }
-        ensures at { (place : ℕ) → IsAt self.old.script self.old.entries place → IsAt self.new.script self.new.entries place }
+        ensures at { (place : ℕ) → IsAt self.old.script self.old.entries place →
+            IsAt self.new.script self.new.entries place }
         ensures look { result ≡ look_of self.new.script.quota self.new.held number offset word.now }
         ensures reached { IsNotOut result }
         ensures seen { (i page : ℕ) → IsTarget self.new.held number offset i page → IsSeen self.new.held i page }
@@ -156,12 +163,8 @@ impl Machine {
         self.make_room(number, offset, word);
         match self.look(number, offset, word) {
             Look::Bring { segment, page } => {
-                let frame = self.bring(segment, page);
-                Look::Through(Target {
-                    segment,
-                    page,
-                    frame,
-                })
+                self.bring(segment, page);
+                self.look(number, offset, word)
             }
             look => look,
         }
@@ -225,17 +228,12 @@ impl Machine {
         requires at { IsAt self.old.script self.old.entries place }
         requires command { command_at self.old.script 0 place ≡ Some (command.Read number offset) }
         requires target { IsTarget self.old.held number offset target.segment target.page }
-        requires here { word_at self.old.held.segs target.segment target.page ≡ Here target.frame }
+        requires frame { IsInFrame self.old.held target.segment target.page target.frame }
         requires room { 1 ≤ self.old.spare }
         ensures script { self.new.script ≡ self.old.script }
         ensures at { IsAt self.new.script self.new.entries (place + 1) }
     {
-        let word = self.tables.read(
-            target.segment,
-            target.page,
-            target.frame,
-            offset % PAGE_WORDS,
-        );
+        let word = self.tables.read(target, offset % PAGE_WORDS);
         push_answer(&mut self.book, place, Some(target.frame), Reply::Word(word));
     }
 
@@ -244,18 +242,12 @@ impl Machine {
         requires at { IsAt self.old.script self.old.entries place }
         requires command { command_at self.old.script 0 place ≡ Some (command.Write number offset word) }
         requires target { IsTarget self.old.held number offset target.segment target.page }
-        requires here { word_at self.old.held.segs target.segment target.page ≡ Here target.frame }
+        requires frame { IsInFrame self.old.held target.segment target.page target.frame }
         requires room { 1 ≤ self.old.spare }
         ensures script { self.new.script ≡ self.old.script }
         ensures at { IsAt self.new.script self.new.entries (place + 1) }
     {
-        self.tables.put(
-            target.segment,
-            target.page,
-            target.frame,
-            offset % PAGE_WORDS,
-            word,
-        );
+        self.tables.put(target, offset % PAGE_WORDS, word);
         push_answer(&mut self.book, place, Some(target.frame), Reply::Done);
     }
 
@@ -263,7 +255,9 @@ impl Machine {
     fn create(&mut self, place: u32, number: u32, offset: u32, word: Word, segment: u32, page: u32)
         requires at { IsAt self.old.script self.old.entries place }
         requires command { command_at self.old.script 0 place ≡ Some (command.Write number offset word) }
-        requires look { look_of self.old.script.quota self.old.held number offset (Some word) ≡ look.Create segment page }
+        requires look { look_of self.old.script.quota self.old.held number offset (Some word)
+            ≡ look.Create segment page }
+        requires seen { (i q : ℕ) → IsTarget self.old.held number offset i q → IsSeen self.old.held i q }
         requires free { HasFree self.old.held.segs }
         requires room { 2 ≤ self.old.spare }
         ensures script { self.new.script ≡ self.old.script }

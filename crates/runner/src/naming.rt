@@ -2,7 +2,8 @@
 
 ghost use Rattle.std.specs.Prelude.{◌≡◌, ◌<◌, ◌^◌, ◌==◌, ℕ, None, true, false, length, IfOk, IfSome};
 ghost use Rattle.dir_tree.specs.Nodes.{with_quotas, is_directory};
-ghost use Rattle.runner.specs.Places.{segment_of_path, directory_of_path, refusal_of, branch_refusal, new_branch_of, IsMade};
+ghost use Rattle.runner.specs.Places.{segment_of_path, directory_of_path, refusal_of, branch_refusal};
+ghost use Rattle.runner.specs.Places.{new_branch_of, IsMade};
 ghost use Rattle.known_segs.specs.Known.{number_for, with_number};
 ghost use Rattle.paged_segs.specs.Counts.{used, entries};
 
@@ -76,7 +77,8 @@ impl Tables {
     pub(crate) fn new_branch(&self, path: &Path) -> Result<(u32, Name), Reply>
         ensures place { (quota : ℕ → ℕ) → result ≡ new_branch_of (with_quotas quota self.now.tree.nodes) path.now }
         ensures directory { IfOk result (λ place. is_directory self.now.tree.nodes place.0 ≡ true) }
-        ensures free { IfOk result (λ place. (quota : ℕ → ℕ) → branch_refusal (with_quotas quota self.now.tree.nodes) place.0 place.1 ≡ None) }
+        ensures free { IfOk result (λ place. (quota : ℕ → ℕ) →
+            branch_refusal (with_quotas quota self.now.tree.nodes) place.0 place.1 ≡ None) }
     {
         let Some((above, name)) = path.split_last() else {
             return Err(Reply::Exists);
@@ -96,7 +98,8 @@ impl Tables {
         requires directory { is_directory self.old.tree.nodes directory ≡ true }
         requires free { (quota : ℕ → ℕ) → branch_refusal (with_quotas quota self.old.tree.nodes) directory name ≡ None }
         requires volume { volume < length self.old.segs.storage.disks }
-        requires room { (used self.old.segs.storage.vtocs volume == entries self.old.segs.storage.vtocs volume) ≡ false }
+        requires room { (used self.old.segs.storage.vtocs volume == entries self.old.segs.storage.vtocs volume)
+            ≡ false }
         requires next { self.old.tree.next < 2 ^ 31 }
         requires few { length self.old.lengths < 4096 }
         ensures { IsMade self.old self.new directory name size volume who }

@@ -27,7 +27,7 @@ pub(crate) fn without_book(status: Status) -> Finished
 }
 
 /// Writes the text of a status. A sink that fails doesn't change the status.
-#[tactic(auto, using(crate::proofs::Ends::text_whole, crate::proofs::Ends::text_cut, std::proofs::lemmas::Grind::common_steps))]
+#[tactic(auto, using(crate::proofs::Ends::text_written, std::proofs::lemmas::Grind::common_steps))]
 pub(crate) fn with_text<K: Sink>(out: &mut K, text: &[u8], status: Status) -> Finished
     ensures status { result.status ≡ status }
     ensures book { result.book ≡ None }

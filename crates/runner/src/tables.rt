@@ -1,4 +1,5 @@
-ghost use Rattle.std.specs.Prelude.{◌≡◌, ◌<◌, ◌≤◌, ◌+◌, ◌*◌, ◌/◌, ◌%◌, ℕ, Some, None, is_some, true, false, IfSome, IfNone, length, slice_index, replicate, map};
+ghost use Rattle.std.specs.Prelude.{◌≡◌, ◌<◌, ◌+◌, ◌/◌, ℕ, is_some, true, false, IfSome, IfNone};
+ghost use Rattle.std.specs.Prelude.{length, slice_index, map};
 ghost use Rattle.core_map.specs.declared.Frame.TheVariants.{Free};
 ghost use Rattle.core_map.specs.CoreMap.{frame_at, with_frame, least_free_frame};
 ghost use Rattle.core_map.specs.Clock.{IsClockChoice, unmarked};
@@ -11,7 +12,7 @@ ghost use Rattle.page_control.specs.Tied.{uid_at, is_out};
 ghost use Rattle.paged_segs.specs.Segs.{word_at, volume_at, pages_of};
 ghost use Rattle.paged_segs.specs.Kept.{AreHomed};
 ghost use Rattle.paged_segs.specs.Counts.{is_full};
-ghost use Rattle.runner.specs.Looks.{look_of, look_page, look_unstored, AreSound, HasFree, IsTarget, IsBlank, IsSeen};
+ghost use Rattle.runner.specs.Looks.{look_of, look_page, look_unstored, AreSound, HasFree, IsInFrame, IsTarget, IsSeen};
 ghost use Rattle.runner.specs.Effects.{IsSame, IsPut, IsCreated, IsGone, stored_after};
 
 use crate::looks::{Look, Target};
@@ -47,7 +48,13 @@ impl Model for Tables {
 
     ghost Value = { Held };
 
-    ghost view = { λ t. record { segs = t.segments; tree = t.tree; known = t.known; lengths = t.lengths.items; stored = t.stored } };
+    ghost view = { λ t. record {
+      segs = t.segments;
+      tree = t.tree;
+      known = t.known;
+      lengths = t.lengths.items;
+      stored = t.stored;
+    } };
 
     ghost invariant = { λ t. 4096 ≤ vec_capacity t.lengths };
 }
@@ -120,7 +127,9 @@ impl Tables {
     pub(crate) fn evict(&mut self) -> Evicted
         requires some { 0 < length self.old.segs.storage.core.frames }
         requires full { is_some (least_free_frame self.old.segs.storage.core) ≡ false }
-        ensures choice { IsClockChoice self.old.segs.storage.core (with_frame self.new.segs.storage.core result.frame (unmarked (frame_at self.old.segs.storage.core result.frame))) result.frame }
+        ensures choice { IsClockChoice self.old.segs.storage.core
+            (with_frame self.new.segs.storage.core result.frame
+            (unmarked (frame_at self.old.segs.storage.core result.frame))) result.frame }
         ensures gone { IsGone self.old self.new result }
         ensures filed { is_filed self.old.segs result.uid result.page ≡ true }
         ensures free { HasFree self.new.segs }
@@ -162,7 +171,7 @@ impl Tables {
         self.segments.into_volumes()
     }
 
-    /// Reads a page from its record into the least free frame.
+    /// Reads a page from its record into the least free frame, which it tells.
     pub(crate) fn bring(&mut self, segment: u32, page: u32) -> u32
         requires there { segment < length self.old.segs.homes }
         requires few { page < 256 }
@@ -179,29 +188,22 @@ impl Tables {
     }
 
     /// Reads a word of a page that is in a frame.
-    pub(crate) fn read(&mut self, segment: u32, page: u32, frame: u32, at: u32) -> Word
-        requires there { segment < length self.old.segs.homes }
-        requires few { page < 256 }
-        requires here { word_at self.old.segs segment page ≡ Here frame }
+    pub(crate) fn read(&mut self, target: Target, at: u32) -> Word
+        requires frame { IsInFrame self.old target.segment target.page target.frame }
         requires at { at < 1024 }
         ensures same { IsSame self.old self.new }
-        ensures word { result ≡ slice_index (picture self.old.segs (segment + 2) page) at }
+        ensures word { result ≡ slice_index (picture self.old.segs (target.segment + 2) target.page) at }
     {
-        let _here = self.segments.ptw(segment, page);
-        self.segments.word(frame, at)
+        self.segments.word(target.frame, at)
     }
 
     /// Writes a word into a page that is in a frame.
-    pub(crate) fn put(&mut self, segment: u32, page: u32, frame: u32, at: u32, word: Word)
-        requires there { segment < length self.old.segs.homes }
-        requires few { page < 256 }
-        requires here { word_at self.old.segs segment page ≡ Here frame }
+    pub(crate) fn put(&mut self, target: Target, at: u32, word: Word)
+        requires frame { IsInFrame self.old target.segment target.page target.frame }
         requires at { at < 1024 }
-        ensures put { IsPut self.old self.new segment page at word }
-        ensures filed { is_filed self.old.segs (segment + 2) page ≡ true }
+        ensures { IsPut self.old self.new target.segment target.page at word }
     {
-        let _here = self.segments.ptw(segment, page);
-        self.segments.put_word(frame, at, word);
+        self.segments.put_word(target.frame, at, word);
     }
 
     /// Makes a page of zeros but for one word in the least free frame, which it tells.
@@ -216,9 +218,7 @@ impl Tables {
         requires at { at < 1024 }
         ensures created { IsCreated self.old self.new segment page at word }
         ensures here { word_at self.new.segs segment page ≡ Here result }
-        ensures blank { IsBlank self.old segment page }
     {
-        let _null = self.segments.ptw(segment, page);
         let Some(frame) = self.segments.free_frame() else {
             unreachable!()
         };

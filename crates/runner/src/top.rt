@@ -1,4 +1,5 @@
-ghost use Rattle.std.specs.Prelude.{◌≡◌, ◌≢◌, ◌<◌, ◌≤◌, ◌↔◌, ◌⊎◌, ℕ, Some, None, Ok, Err, length, IfSome, IsSome, IsSomeAnd, true, false};
+ghost use Rattle.std.specs.Prelude.{◌≡◌, ◌≢◌, ◌<◌, ◌≤◌, ◌↔◌, ◌⊎◌, ℕ, Some, None, Ok, Err, length};
+ghost use Rattle.std.specs.Prelude.{IfSome, IsSome, IsSomeAnd, true, false};
 ghost use Rattle.std.specs.Io.KnownBytes.{Appends, Keeps};
 ghost use Rattle.site_io.specs.Faults.{Rose};
 ghost use Rattle.site_io.specs.Streams.{AppendsFront, ConsumesFront};

@@ -26,8 +26,8 @@ pub enum Form {
     Run,
     /// `make N`: the script of the day of this number is printed.
     Make(u32),
-    /// `drill P F N SEED`: so many processors make so many adds each in the pages of so many frames, as numbers are drawn
-    /// from the seed.
+    /// `drill P F N SEED`: so many processors make so many adds each in the pages of so many frames, as numbers are
+    /// drawn from the seed.
     Drill {
         processors: u32,
         frames: u32,

@@ -1,5 +1,6 @@
 -- Each clause of the top call, by what the ending says. (own)
-use Rattle.runner.proofs.Verdicts.{by_verdict, ended, fact_only, found_done, found_drilled, found_later, found_long, found_made, found_refused, front_only, of_run, printed_in, usage_there, verdict, write_failed}
+use Rattle.runner.proofs.Verdicts.{by_verdict, ended, fact_only, found_done, found_drilled, found_later, found_long, found_made, found_refused, front_only}
+use Rattle.runner.proofs.Verdicts.{of_run, printed_in, usage_there, verdict, write_failed}
 use Rattle.runner.specs.declared.finished.Status.TheVariants as status
 use Rattle.runner.proofs.top.multics.Goals as goal
 

@@ -1,33 +1,30 @@
-use Rattle.std.proofs.Common.{sym}
-use Rattle.runner.proofs.Looked.{bring_target, target_kept, seen_here, look_here}
+use Rattle.std.proofs.Common.{◌≡◌, true, false, sym, ap, subst, ◌∙◌}
+use Rattle.runner.specs.Looks.{wants_frame, IsNotOut}
+use Rattle.runner.proofs.Looked.{bring_target, target_kept, look_again}
 use Rattle.runner.proofs.Refers.{sound_of}
 use Rattle.runner.proofs.machine.Machine.approach.Goals as goal
 
-pub bring-frame-requires-clause-there : goal.bring-frame-requires-clause-there
-bring-frame-requires-clause-there c =
-    let m = c.make_room.new.self in
-    (bring_target m.script.quota m.held c.args.number c.args.offset c.args.word.now c.look.result c.in-Bring.segment c.in-Bring.page (sound_of _ _ _ c.look.ensures.holds) c.look.ensures.look c.in-Bring.is).target.there
+pub bring-requires-clause-there : goal.bring-requires-clause-there
+bring-requires-clause-there c = (bring_target _ _ _ _ _ _ _ _ (sound_of _ _ _ c.look.ensures.holds) c.look.ensures.look c.in-Bring.is).target.there
 
-pub bring-frame-requires-clause-few : goal.bring-frame-requires-clause-few
-bring-frame-requires-clause-few c =
-    let m = c.make_room.new.self in
-    (bring_target m.script.quota m.held c.args.number c.args.offset c.args.word.now c.look.result c.in-Bring.segment c.in-Bring.page (sound_of _ _ _ c.look.ensures.holds) c.look.ensures.look c.in-Bring.is).target.few
+pub bring-requires-clause-few : goal.bring-requires-clause-few
+bring-requires-clause-few c = (bring_target _ _ _ _ _ _ _ _ (sound_of _ _ _ c.look.ensures.holds) c.look.ensures.look c.in-Bring.is).target.few
 
-pub bring-frame-requires-clause-out : goal.bring-frame-requires-clause-out
-bring-frame-requires-clause-out c =
-    let m = c.make_room.new.self in
-    (bring_target m.script.quota m.held c.args.number c.args.offset c.args.word.now c.look.result c.in-Bring.segment c.in-Bring.page (sound_of _ _ _ c.look.ensures.holds) c.look.ensures.look c.in-Bring.is).out
+pub bring-requires-clause-out : goal.bring-requires-clause-out
+bring-requires-clause-out c = (bring_target _ _ _ _ _ _ _ _ (sound_of _ _ _ c.look.ensures.holds) c.look.ensures.look c.in-Bring.is).out
 
-pub returns-in-Bring-clause-look : goal.returns-in-Bring-clause-look
-returns-in-Bring-clause-look c =
-    let m = c.make_room.new.self in
-    let t = (bring_target m.script.quota m.held c.args.number c.args.offset c.args.word.now c.look.result c.in-Bring.segment c.in-Bring.page (sound_of _ _ _ c.look.ensures.holds) c.look.ensures.look c.in-Bring.is).target in
-    let now = target_kept m.held c.bring-frame.new.self.held c.args.number c.args.offset c.in-Bring.segment c.in-Bring.page c.bring-frame.ensures.same t in
-    sym (look_here c.bring-frame.new.self.script.quota c.bring-frame.new.self.held c.args.number c.args.offset c.args.word.now c.in-Bring.segment c.in-Bring.page c.bring-frame.result now c.bring-frame.ensures.here)
+-- the page is in a frame once the reference is tried again
+again : (c : goal.After-look-in-Bring) → IsNotOut c.look-in-Bring.result × (wants_frame c.look-in-Bring.result ≡ false)
+again c =
+    let m = c.bring.new.self in
+    let b = c.in-Bring in
+    let g = (bring_target _ _ _ _ _ _ b.segment b.page (sound_of _ _ _ c.look.ensures.holds) c.look.ensures.look b.is).target in
+    let now = target_kept _ m.held c.args.number c.args.offset b.segment b.page c.bring.ensures.same g in
+    let found = look_again m.script.quota m.held c.args.number c.args.offset c.args.word.now b.segment b.page now c.bring.ensures.here in
+    (subst IsNotOut (sym c.look-in-Bring.ensures.look) found.0, ap wants_frame c.look-in-Bring.ensures.look ∙ found.1)
 
-pub returns-in-Bring-clause-seen : goal.returns-in-Bring-clause-seen
-returns-in-Bring-clause-seen c =
-    let m = c.make_room.new.self in
-    let t = (bring_target m.script.quota m.held c.args.number c.args.offset c.args.word.now c.look.result c.in-Bring.segment c.in-Bring.page (sound_of _ _ _ c.look.ensures.holds) c.look.ensures.look c.in-Bring.is).target in
-    let now = target_kept m.held c.bring-frame.new.self.held c.args.number c.args.offset c.in-Bring.segment c.in-Bring.page c.bring-frame.ensures.same t in
-    seen_here c.bring-frame.new.self.held c.args.number c.args.offset c.in-Bring.segment c.in-Bring.page c.bring-frame.result now c.bring-frame.ensures.here
+pub returns-in-Bring-clause-reached : goal.returns-in-Bring-clause-reached
+returns-in-Bring-clause-reached c = (again c).0
+
+pub returns-in-Bring-clause-free : goal.returns-in-Bring-clause-free
+returns-in-Bring-clause-free c = λ wants. absurd (let both : true ≡ false = sym wants ∙ (again c).1 in cc)

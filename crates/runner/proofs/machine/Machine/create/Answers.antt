@@ -42,10 +42,11 @@ step c =
     let look = rw (← c.self.view_is) at c.requires.look in
     let at = rw (← c.self.view_is) at c.requires.at in
     let command = rw (← c.self.view_is) at c.requires.command in
-    let made = c.create-frame.ensures in
+    let seen = rw (← c.self.view_is) at c.requires.seen in
     created_on _ _ _ _ _ _ _ _ c.args.place c.args.number c.args.offset c.args.word c.args.segment c.args.page c.create-frame.result
     (record { script = c.push.ensures.script; entries = c.push.ensures.entries })
-    (record { script = c.push_answer.ensures.script; entries = c.push_answer.ensures.entries }) c.self.invariant at command look made.blank made.created
+    (record { script = c.push_answer.ensures.script; entries = c.push_answer.ensures.entries }) c.self.invariant at command look seen
+    c.create-frame.ensures.created
 
 pub invariant_of-self : goal.invariant_of-self
 invariant_of-self c = (step c).holds

@@ -17,5 +17,5 @@ pub returns-clause-disk : goal.returns-clause-disk
 returns-clause-disk c =
     let b = c.self.inside.book in
     let left = c.into_volumes-volumes.ensures in
-    on_disk b.script (store_after b.script b.entries) c.self.inside.tables c.into_volumes-volumes.result c.self.invariant.tied 
+    on_disk b.script (store_after b.script b.entries) c.self.inside.tables c.into_volumes-volumes.result c.self.invariant.tied
     (record { homed = left.homed; disks = left.disks; records = left.records; vtocs = left.vtocs; words = left.words; stored = left.stored })

@@ -12,7 +12,8 @@ step c =
     let at = rw (← c.self.view_is) at c.requires.at in
     let knowing = rw (← c.self.view_is) at c.requires.knowing in
     let k = c.know-number in
-    let done = known_done b.script b.entries c.self.inside.tables k.new.self c.args.place c.args.uid k.result c.self.invariant at knowing k.ensures.number k.ensures.known k.ensures.within in
+    let done = known_done b.script b.entries c.self.inside.tables k.new.self c.args.place c.args.uid k.result c.self.invariant at knowing k.ensures.number
+    k.ensures.known k.ensures.within in
     let entries = c.push_answer.ensures.entries ∙ ap (λ (r : Reply). b.entries ++ done_at c.args.place None r ∷ []) c.known_or_full.ensures in
     booked_step b.script _ b.entries _ _ _ c.args.place None (known_or_full k.result) c.push_answer.ensures.script entries c.self.invariant at done
 

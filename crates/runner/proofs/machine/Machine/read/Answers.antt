@@ -11,19 +11,23 @@ answer-requires-clause-done c =
     let m = c.approach.new.self in
     let a = c.approach.ensures in
     let command = ap (λ (p : Plan). command_at p 0 c.args.place) a.script ∙ c.requires.command in
-    answered_read m.script m.entries m.held c.args.place c.args.number c.args.offset c.in-Answer.reply a.holds (a.at c.args.place c.requires.at) command (sym a.look ∙ c.in-Answer.is) a.seen
+    answered_read m.script m.entries m.held c.args.place c.args.number c.args.offset c.in-Answer.reply a.holds (a.at c.args.place c.requires.at) command
+    (sym a.look ∙ c.in-Answer.is) a.seen
 
 pub read_through-requires-clause-target : goal.read_through-requires-clause-target
 read_through-requires-clause-target c =
     let m = c.approach.new.self in
     let a = c.approach.ensures in
-    (through_target m.script.quota m.held c.args.number c.args.offset None c.approach.result c.in-Through.target (sound_of _ _ _ a.holds) a.look c.in-Through.is).target
+    (through_target m.script.quota m.held c.args.number c.args.offset None c.approach.result c.in-Through.target
+    (sound_of _ _ _ a.holds) a.look c.in-Through.is).target
 
-pub read_through-requires-clause-here : goal.read_through-requires-clause-here
-read_through-requires-clause-here c =
+pub read_through-requires-clause-frame : goal.read_through-requires-clause-frame
+read_through-requires-clause-frame c =
     let m = c.approach.new.self in
     let a = c.approach.ensures in
-    (through_target m.script.quota m.held c.args.number c.args.offset None c.approach.result c.in-Through.target (sound_of _ _ _ a.holds) a.look c.in-Through.is).here
+    let x = c.in-Through.target in
+    let there = through_target m.script.quota m.held c.args.number c.args.offset None c.approach.result x (sound_of _ _ _ a.holds) a.look c.in-Through.is in
+    (a.seen x.segment x.page there.target).here x.frame there.here
 
 pub unreachable-requires : goal.unreachable-requires
 unreachable-requires c =

@@ -12,8 +12,10 @@ step c =
     let target = rw (← c.self.view_is) at c.requires.target in
     let a = c.args in
     let r = c.read-word in
-    let done = read_through b.script b.entries c.self.inside.tables r.new.self a.place a.number a.offset a.target.segment a.target.page r.result c.self.invariant at command target r.ensures.word r.ensures.same in
-    booked_step b.script _ b.entries _ _ _ a.place (Some a.target.frame) (reply.Word r.result) c.push_answer.ensures.script c.push_answer.ensures.entries c.self.invariant at done
+    let done = read_through b.script b.entries c.self.inside.tables r.new.self a.place a.number a.offset a.target.segment a.target.page r.result
+    c.self.invariant at command target r.ensures.word r.ensures.same in
+    booked_step b.script _ b.entries _ _ _ a.place (Some a.target.frame)
+    (reply.Word r.result) c.push_answer.ensures.script c.push_answer.ensures.entries c.self.invariant at done
 
 pub invariant_of-self : goal.invariant_of-self
 invariant_of-self c = (step c).holds

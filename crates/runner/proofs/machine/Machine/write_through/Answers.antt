@@ -10,9 +10,12 @@ step c =
     let at = rw (← c.self.view_is) at c.requires.at in
     let command = rw (← c.self.view_is) at c.requires.command in
     let target = rw (← c.self.view_is) at c.requires.target in
+    let frame = rw (← c.self.view_is) at c.requires.frame in
     let a = c.args in
-    let done = write_through b.script b.entries c.self.inside.tables c.put.new.self a.place a.number a.offset a.word a.target.segment a.target.page c.self.invariant at command target c.put.ensures.filed c.put.ensures.put in
-    booked_step b.script _ b.entries _ _ _ a.place (Some a.target.frame) reply.Done c.push_answer.ensures.script c.push_answer.ensures.entries c.self.invariant at done
+    let done = write_through b.script b.entries c.self.inside.tables c.put.new.self a.place a.number a.offset a.word a.target.segment a.target.page
+    c.self.invariant at command target frame.filed c.put.ensures in
+    booked_step b.script _ b.entries _ _ _ a.place
+    (Some a.target.frame) reply.Done c.push_answer.ensures.script c.push_answer.ensures.entries c.self.invariant at done
 
 pub invariant_of-self : goal.invariant_of-self
 invariant_of-self c = (step c).holds
