@@ -109,6 +109,7 @@ mkseg >b 1 alpha
 initiate >b
 initiate >a
 add 0 0 1
+read 1 0
 end
 ";
 
@@ -144,7 +145,8 @@ fn segments_are_found_by_their_names(rt: HostRuntime) -> Result<(), Fail> {
 }
 
 #[test]
-fn a_command_that_does_not_run_has_no_answer(rt: HostRuntime) -> Result<(), Fail> {
+fn an_addition_is_allowed_with_the_sum_alone(rt: HostRuntime) -> Result<(), Fail> {
+    let one = Word::new(1).expect(&rt, "a word of 36 bits");
     let script = read_script(rt.alloc(), WAITING)?;
     let mut store = FlatStore::boot(rt.alloc(), &script)?;
     store.follow(&script, done_by(0, 0, Reply::Made(2)))?;
@@ -155,5 +157,12 @@ fn a_command_that_does_not_run_has_no_answer(rt: HostRuntime) -> Result<(), Fail
     for reply in [Reply::Done, Reply::Unknown, Reply::Word(Word::ZERO)] {
         assert!(rt; !store.allows(&script, done_by(1, 3, reply)));
     }
+    assert!(rt; store.allows(&script, done_by(1, 3, Reply::Word(one))));
+    store.follow(&script, done_by(1, 3, Reply::Word(one)))?;
+    assert_eq!(rt; store.word(3, 0), one);
+    assert_eq!(rt; store.used(1), 1);
+    // the segment of another
+    assert!(rt; store.allows(&script, done_by(1, 4, Reply::NoAccess)));
+    assert!(rt; !store.allows(&script, done_by(1, 4, Reply::Word(Word::ZERO))));
     Ok(())
 }

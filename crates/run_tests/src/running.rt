@@ -1,6 +1,6 @@
 //! Scripts through the top call, with the texts that they must give.
 ghost use Rattle.std.specs.Prelude.{◌≤◌, IfSome};
-ghost use Rattle.flat_store.specs.Legal.{IsLegal};
+ghost use Rattle.flat_model.specs.Legal.{IsLegal};
 
 use book::{Book, entry_text};
 use flat_store::FlatStore;
