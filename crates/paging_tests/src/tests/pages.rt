@@ -7,7 +7,7 @@ ghost use Rattle.page_table.specs.declared.Ptw.TheVariants.{Null, Here};
 ghost use Rattle.vtoc.specs.Vtoc.{fresh_entry};
 ghost use Rattle.volumes.specs.CoreDrive.{DriveState};
 ghost use Rattle.page_control.specs.Plain.{plain};
-ghost use Rattle.page_control.specs.Tied.{IsTied};
+ghost use Rattle.page_control.specs.Ties.{IsTied};
 ghost use Rattle.paged_segs.specs.Segs.{pages_of};
 
 use super::NoMemory;
@@ -49,6 +49,7 @@ fn one_segment(
     ensures records { IfOk result (λ made. made.0.volumes.records ≡ replicate 3 false ∷ []) }
     ensures vtocs { IfOk result (λ made. made.0.volumes.vtocs ≡ (fresh_entry 7 ∷ None ∷ []) ∷ []) }
     ensures null { IfOk result (λ made. made.1 ≡ replicate 3 Null) }
+    ensures tie { IfOk result (λ made. IsTied (plain pages_of made.0) 7 (record { volume = 0; entry = 0 }) made.1) }
 {
     let mut pages = two_frames(alloc, fails)?;
     let table = PageTable::new(alloc, 3)?;
