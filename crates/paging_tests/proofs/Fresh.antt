@@ -73,6 +73,9 @@ pub tie_fresh : (old now : Plain) (table : List Ptw) (result : Option ℕ) → o
 tie_fresh old now table result free records vtocs null least tie =
     given result (least ∙ ap (λ (v : List (List (Option Entry))). least_free_entry (vtoc_in v 0)) vtocs) tie
   where
+    number : (e : ℕ) → ◌≡◌ {A = Option ℕ} (Some e) (Some 0) → e ≡ 0
+    number e is = cc
+
     given : (result : Option ℕ) → result ≡ Some 0 → IfSome result (λ e. (words : List Ptw) → IsBlank words → HasNoFrame (bindings old.core) 7 → AreFiled old.records old.vtocs
         → IsTied now 7 (record { volume = 0; entry = e }) words) → IsTied now 7 (record { volume = 0; entry = 0 }) table
     given None is tie = absurd (not_none None 0 refl is)
@@ -80,9 +83,6 @@ tie_fresh old now table result free records vtocs null least tie =
         let first : e ≡ 0 = number e is in
         subst (λ (n : ℕ). IsTied now 7 (record { volume = 0; entry = n }) table) first
         (tie table (blank table null) (none_bound old.core 7 free) (fresh_filed old.records old.vtocs records vtocs))
-
-    number : (e : ℕ) → ◌≡◌ {A = Option ℕ} (Some e) (Some 0) → e ≡ 0
-    number e is = cc
 
 all_same : (flags those : List Bool) → flags ≡ those → All (λ flag. flag ≡ true) flags → All (λ flag. flag ≡ true) those
 all_same flags those same all = rw (sym same) all
@@ -98,3 +98,7 @@ not_full records is all =
 pub own_uid : (entry : Option Entry) (uid : ℕ) → uid_of entry ≡ Some uid → uid_of entry ≡ Some (uid_or_zero entry)
 own_uid None uid used = absurd (not_none None uid refl used)
 own_uid (Some entry) uid used = refl
+
+-- the tie of a segment whose uid is given otherwise
+pub tie_for : (s : Plain) (uid n : ℕ) (home : Home) (t : List Ptw) → uid ≡ n → IsTied s uid home t → IsTied s n home t
+tie_for s uid n home t same tie = subst (λ (m : ℕ). IsTied s m home t) same tie
