@@ -1,8 +1,9 @@
 -- What becomes of the counts of each volume.
-use Rattle.std.proofs.Common.{◌≡◌, ◌≢◌, ℕ, ◌+◌, ◌-◌, ◌<◌, ◌≤◌, Bool, true, false, cond, eqb, List, [], ◌∷◌, length, Option, Some, None, is_some, refl, sym, ap, ◌∙◌, arith, inl, inr, get_or, set, map, sum, sum_by, count_by}
+use Rattle.std.proofs.Common.{◌≡◌, ◌≢◌, ℕ, ◌+◌, ◌-◌, ◌<◌, Bool, true, false, cond, eqb, List, [], length, Option, Some, None, is_some, refl, sym, ap}
+use Rattle.std.proofs.Common.{◌∙◌, arith, inl, inr, get_or, set, map, sum, sum_by, count_by}
 use Rattle.std.proofs.lemmas.Bool.Decides.{eqb_tells, leb_tells}
 use Rattle.std.proofs.lemmas.List.{get_or-set_same, get_or-set_other, length-set, set_past}
-use Rattle.std.proofs.lemmas.List.Sums.{sum_by-cons, sum_by-set, sum-map, count_by-le-length}
+use Rattle.std.proofs.lemmas.List.Sums.{sum_by-set, sum-map}
 use Rattle.std.proofs.Math.ListN.{get_or-map}
 use Rattle.std.proofs.Math.Seq.{map-set_same}
 use Rattle.bitmap.specs.Bitmap.{in_use}
@@ -18,7 +19,7 @@ use Rattle.page_table.specs.declared.Ptw.TheVariants.{Null, Out, Here, Leaving}
 use Rattle.page_control.specs.Effects.{evicted, created, brought_in, framed, dropped}
 use Rattle.page_control.proofs.Facts.{used_within}
 use Rattle.page_control.proofs.Places.{put, list_within, refile, home_within}
-use Rattle.page_control.specs.Counts.{taken, used, one_more, one_less, taken_after, KeepsCounts}
+use Rattle.page_control.specs.Counts.{taken, used, one_more, one_less, KeepsCounts}
 
 -- a count for each volume is told by the list of all
 pub by_list : {X : Type 0} (f : List X → ℕ) (xs ys : List (List X)) → map f xs ≡ map f ys → (v : ℕ) → f (get_or xs v []) ≡ f (get_or ys v [])
@@ -32,7 +33,8 @@ some_with : (entry : Option Entry) (p : ℕ) (place : Option ℕ) → is_some (w
 some_with None p place = refl
 some_with (Some entry) p place = refl
 
-count_set : (table : List (Option Entry)) (e : ℕ) (x : Option Entry) → is_some x ≡ is_some (entry_at table e) → count_by is_some (set table e x) ≡ count_by is_some table
+count_set : (table : List (Option Entry)) (e : ℕ) (x : Option Entry) → is_some x ≡ is_some (entry_at table e)
+    → count_by is_some (set table e x) ≡ count_by is_some table
 count_set table e x same = elim (leb_tells (length table) e) [
   | inl past ↦ ap (count_by is_some) (set_past table e x past.1)
   | inr lt ↦ (let all = sum_by-set (λ (y : Option Entry). cond {A = ℕ} (is_some y) 1 0) table e x None lt.1 in
@@ -40,13 +42,17 @@ count_set table e x same = elim (leb_tells (length table) e) [
       omega (arith, all, both))
 ]
 
-pub used_refiled : (vtocs : List (List (Option Entry))) (home : Home) (p : ℕ) (place : Option ℕ) → map (count_by is_some) (refile vtocs home p place) ≡ map (count_by is_some) vtocs
+pub used_refiled : (vtocs : List (List (Option Entry))) (home : Home) (p : ℕ) (place : Option ℕ)
+    → map (count_by is_some) (refile vtocs home p place) ≡ map (count_by is_some) vtocs
 used_refiled vtocs home p place =
-    map-set_same (count_by is_some) vtocs home.volume _ [] (count_set (vtoc_in vtocs home.volume) home.entry _ (some_with (entry_at (vtoc_in vtocs home.volume) home.entry) p place))
+    map-set_same (count_by is_some) vtocs home.volume _ []
+    (count_set (vtoc_in vtocs home.volume) home.entry _ (some_with (entry_at (vtoc_in vtocs home.volume) home.entry) p place))
 
-pub places_refiled : (vtocs : List (List (Option Entry))) (home : Home) (p : ℕ) (place : Option ℕ) → map (length {A = Option Entry}) (refile vtocs home p place) ≡ map length vtocs
+pub places_refiled : (vtocs : List (List (Option Entry))) (home : Home) (p : ℕ) (place : Option ℕ)
+    → map (length {A = Option Entry}) (refile vtocs home p place) ≡ map length vtocs
 places_refiled vtocs home p place =
-    map-set_same (length {A = Option Entry}) vtocs home.volume _ [] (length-set (vtoc_in vtocs home.volume) home.entry (with_record (entry_at (vtoc_in vtocs home.volume) home.entry) p place))
+    map-set_same (length {A = Option Entry}) vtocs home.volume _ []
+    (length-set (vtoc_in vtocs home.volume) home.entry (with_record (entry_at (vtoc_in vtocs home.volume) home.entry) p place))
 
 pub flags_put : (records : List (List Bool)) (v r : ℕ) (flag : Bool) → map (length {A = Bool}) (put records v r flag) ≡ map length records
 flags_put records v r flag = map-set_same (length {A = Bool}) records v _ [] (length-set (flags_in records v) r flag)
@@ -115,20 +121,23 @@ less_by old new v here others = λ i. λ w. at w i
     ]
 
 -- a flag that is turned on, and one that is turned off
-count_with : (flags : List Bool) (r : ℕ) → r < length flags → in_use flags r ≡ false → count_by (λ flag. flag) (set flags r true) ≡ count_by (λ flag. flag) flags + 1
+count_with : (flags : List Bool) (r : ℕ) → r < length flags → in_use flags r ≡ false
+    → count_by (λ flag. flag) (set flags r true) ≡ count_by (λ flag. flag) flags + 1
 count_with flags r lt free =
     let e = sum_by-set (λ flag. cond {A = ℕ} flag 1 0) flags r true false lt in
     let z : cond {A = ℕ} (in_use flags r) 1 0 ≡ 0 = rw free refl in
     omega (arith, e, z)
 
-count_without : (flags : List Bool) (r : ℕ) → r < length flags → in_use flags r ≡ true → count_by (λ flag. flag) (set flags r false) + 1 ≡ count_by (λ flag. flag) flags
+count_without : (flags : List Bool) (r : ℕ) → r < length flags → in_use flags r ≡ true
+    → count_by (λ flag. flag) (set flags r false) + 1 ≡ count_by (λ flag. flag) flags
 count_without flags r lt used =
     let e = sum_by-set (λ flag. cond {A = ℕ} flag 1 0) flags r false false lt in
     let z : cond {A = ℕ} (in_use flags r) 1 0 ≡ 1 = rw used refl in
     omega (arith, e, z)
 
 -- a record is taken into use, and one is given back
-pub taken_more : (records : List (List Bool)) (v r : ℕ) → r < length (flags_in records v) → in_use (flags_in records v) r ≡ false → taken (put records v r true) ≡ one_more (taken records) v
+pub taken_more : (records : List (List Bool)) (v r : ℕ) → r < length (flags_in records v) → in_use (flags_in records v) r ≡ false
+    → taken (put records v r true) ≡ one_more (taken records) v
 taken_more records v r rl free =
     let vl : v < length records = list_within records v r rl in
     more_by (taken records) (taken (put records v r true)) v
@@ -139,7 +148,8 @@ pub fewer_at : (records : List (List Bool)) (v r : ℕ) → in_use (flags_in rec
 fewer_at records v r is =
     let rl : r < length (flags_in records v) = used_within (flags_in records v) r is in
     let vl : v < length records = list_within records v r rl in
-    ap (λ (flags : List Bool). count_by (λ flag. flag) flags + 1) (get_or-set_same records v (set (flags_in records v) r false) [] vl) ∙ count_without (flags_in records v) r rl is
+    ap (λ (flags : List Bool). count_by (λ flag. flag) flags + 1) (get_or-set_same records v (set (flags_in records v) r false) [] vl)
+    ∙ count_without (flags_in records v) r rl is
 
 pub taken_less : (records : List (List Bool)) (v r : ℕ) → in_use (flags_in records v) r ≡ true → taken (put records v r false) ≡ one_less (taken records) v
 taken_less records v r is =
@@ -196,7 +206,8 @@ counts_dropped s now home p (Leaving f) is = rw is (record {
 })
 
 -- the counts of used entries
-pub count_more : (table : List (Option Entry)) (e uid : ℕ) → e < length table → entry_at table e ≡ None → count_by is_some (set table e (fresh_entry uid)) ≡ count_by is_some table + 1
+pub count_more : (table : List (Option Entry)) (e uid : ℕ) → e < length table → entry_at table e ≡ None
+    → count_by is_some (set table e (fresh_entry uid)) ≡ count_by is_some table + 1
 count_more table e uid el free =
     let all = sum_by-set (λ (y : Option Entry). cond {A = ℕ} (is_some y) 1 0) table e (fresh_entry uid) None el in
     let none : cond {A = ℕ} (is_some (entry_at table e)) 1 0 ≡ 0 = ap (λ (y : Option Entry). cond {A = ℕ} (is_some y) 1 0) free in
@@ -210,7 +221,8 @@ used_more vtocs v e uid el free =
     (ap (count_by is_some) (get_or-set_same vtocs v (set (vtoc_in vtocs v) e (fresh_entry uid)) [] vl) ∙ count_more (vtoc_in vtocs v) e uid el free)
     (λ w n. ap (count_by is_some) (get_or-set_other vtocs v w (set (vtoc_in vtocs v) e (fresh_entry uid)) [] n))
 
-count_fewer : (table : List (Option Entry)) (e uid : ℕ) → e < length table → uid_of (entry_at table e) ≡ Some uid → count_by is_some (set table e None) + 1 ≡ count_by is_some table
+count_fewer : (table : List (Option Entry)) (e uid : ℕ) → e < length table → uid_of (entry_at table e) ≡ Some uid
+    → count_by is_some (set table e None) + 1 ≡ count_by is_some table
 count_fewer table e uid el used =
     let all = sum_by-set (λ (y : Option Entry). cond {A = ℕ} (is_some y) 1 0) table e None None el in
     let one : cond {A = ℕ} (is_some (entry_at table e)) 1 0 ≡ 1 = ap (λ (b : Bool). cond {A = ℕ} b 1 0) (there (entry_at table e) used) in
@@ -227,6 +239,7 @@ used_erased vtocs now uid home is h =
     let el : home.entry < length (vtoc_in vtocs home.volume) = home_within vtocs uid home h in
     let vl : home.volume < length vtocs = list_within vtocs home.volume home.entry el in
     ap used is ∙ less_by (used vtocs) (used (put vtocs home.volume home.entry None)) home.volume
-    (ap (λ (table : List (Option Entry)). count_by is_some table + 1) (get_or-set_same vtocs home.volume (set (vtoc_in vtocs home.volume) home.entry None) [] vl)
+    (ap (λ (table : List (Option Entry)). count_by is_some table + 1)
+    (get_or-set_same vtocs home.volume (set (vtoc_in vtocs home.volume) home.entry None) [] vl)
     ∙ count_fewer (vtoc_in vtocs home.volume) home.entry uid el h)
     (λ w n. ap (count_by is_some) (get_or-set_other vtocs home.volume w (set (vtoc_in vtocs home.volume) home.entry None) [] n))

@@ -1,9 +1,10 @@
 -- A segment that is erased.
-use Rattle.std.proofs.Common.{◌≡◌, ◌≢◌, ℕ, ◌+◌, ◌<◌, Bool, true, false, List, [], ◌∷◌, length, Option, None, Some, refl, sym, ap, ◌∙◌, arith, get_or, set, drop, is_some, replicate, inl, inr}
+use Rattle.std.proofs.Common.{◌≡◌, ◌≢◌, ℕ, ◌+◌, ◌<◌, Bool, true, false, List, [], ◌∷◌, length, Option, None, Some, refl, sym, ap, ◌∙◌, arith, get_or, set, drop}
+use Rattle.std.proofs.Common.{is_some, replicate, inl, inr}
 use Rattle.std.proofs.lemmas.Bool.{cases_eq}
 use Rattle.std.proofs.lemmas.Bool.Decides.{leb_tells}
 use Rattle.std.proofs.lemmas.List.{get_or-set_same, get_or-set_other, get_or_past, set-set, set-get_or, at_drop_all, at_drop_more, drop-set-lt}
-use Rattle.vtoc.specs.Vtoc.{Entry, entry_at, record_at, records_in, uid_of, with_record, HasFullMaps, NamesNoRecord}
+use Rattle.vtoc.specs.Vtoc.{Entry, entry_at, records_in, uid_of, with_record, HasFullMaps, NamesNoRecord}
 use Rattle.bitmap.specs.Bitmap.{in_use}
 use Rattle.page_table.specs.declared.Ptw.{Ptw}
 use Rattle.page_control.specs.declared.Home.{Home}
@@ -21,11 +22,13 @@ use Rattle.page_control.proofs.Naming.{filed_unstored, filed_freed, maps_freed}
 use Rattle.page_control.proofs.Marks.{tie_mapped}
 use Rattle.page_control.proofs.Homes.{no_record}
 
-freed_some : (flags : List Bool) (places : List (Option ℕ)) (place : Option ℕ) (r : ℕ) → place ≡ Some r → freed flags (place ∷ places) ≡ freed (set flags r false) places
+freed_some : (flags : List Bool) (places : List (Option ℕ)) (place : Option ℕ) (r : ℕ) → place ≡ Some r
+    → freed flags (place ∷ places) ≡ freed (set flags r false) places
 freed_some flags places place r is = rw is refl
 
 -- and where it has one
-takes : (flags : List Bool) (places : List (Option ℕ)) (n r : ℕ) → get_or places n None ≡ Some r → freed (set flags r false) (drop (n + 1) places) ≡ freed flags (drop n places)
+takes : (flags : List Bool) (places : List (Option ℕ)) (n r : ℕ) → get_or places n None ≡ Some r
+    → freed (set flags r false) (drop (n + 1) places) ≡ freed flags (drop n places)
 takes flags places n r is =
     let lt : n < length places = within_from places n None (λ none. not_none (get_or places n None) r none is) in
     sym (at_drop_more (freed flags) places n None lt ∙ freed_some flags (drop (n + 1) places) (get_or places n None) r is)
@@ -38,15 +41,18 @@ put_put xs v e x y vl =
 
 -- the file map after page n has given its record back
 rest_flags : (s : Plain) (uid : ℕ) (home : Home) (n r : ℕ) → uid_at s.vtocs home ≡ Some uid → filed s home n ≡ Some r → home.volume < length s.records
-    → set (put s.records home.volume r false) home.volume (freed (get_or (put s.records home.volume r false) home.volume []) (drop (n + 1) (map_at (refile s.vtocs home n None) home)))
+    → set (put s.records home.volume r false) home.volume
+    (freed (get_or (put s.records home.volume r false) home.volume []) (drop (n + 1) (map_at (refile s.vtocs home n None) home)))
     ≡ set s.records home.volume (freed (flags_of s home.volume) (drop n (file_map_of s home)))
 rest_flags s uid home n r h is vl =
     let flags : List Bool = flags_of s home.volume in
     let places : List (Option ℕ) = file_map_of s home in
     ap (λ (bits : List Bool). set (put s.records home.volume r false) home.volume (freed bits (drop (n + 1) (map_at (refile s.vtocs home n None) home))))
     (get_or-set_same s.records home.volume (set flags r false) [] vl)
-    ∙ ap (λ (map : List (Option ℕ)). set (put s.records home.volume r false) home.volume (freed (set flags r false) (drop (n + 1) map))) (map_refiled s.vtocs uid n None home h)
-    ∙ ap (λ (map : List (Option ℕ)). set (put s.records home.volume r false) home.volume (freed (set flags r false) map)) (drop-set-lt (n + 1) places n None (omega arith))
+    ∙ ap (λ (map : List (Option ℕ)). set (put s.records home.volume r false) home.volume (freed (set flags r false) (drop (n + 1) map)))
+    (map_refiled s.vtocs uid n None home h)
+    ∙ ap (λ (map : List (Option ℕ)). set (put s.records home.volume r false) home.volume (freed (set flags r false) map))
+    (drop-set-lt (n + 1) places n None (omega arith))
     ∙ ap (set (put s.records home.volume r false) home.volume) (takes flags places n r is)
     ∙ set-set s.records home.volume (set flags r false) (freed flags (drop n places))
 
@@ -58,7 +64,8 @@ gone_refiled s uid home n q h before =
       | inr other ↦ get_or-set_other (file_map_of s home) n q None None other ∙ before other
     ]
 
-pub part_some : (old s now : Plain) (uid : ℕ) (home : Home) (n : ℕ) → now ≡ unstored s home n → filed s home n ≡ Some (record_of s home n) → IsPartErased old s uid home n
+pub part_some : (old s now : Plain) (uid : ℕ) (home : Home) (n : ℕ) → now ≡ unstored s home n → filed s home n ≡ Some (record_of s home n)
+    → IsPartErased old s uid home n
     → IsPartErased old now uid home (n + 1)
 part_some old s now uid home n is there part =
     let r : ℕ = record_of s home n in
@@ -68,8 +75,10 @@ part_some old s now uid home n is there part =
     rw is (record {
       rest = ap (λ (records : List (List Bool)). record s { records = records; vtocs = put (refile s.vtocs home n None) home.volume home.entry None })
           (rest_flags s uid home n r h there vl)
-          ∙ ap (λ (vtocs : List (List (Option Entry))). record s { records = set s.records home.volume (freed (flags_of s home.volume) (drop n (file_map_of s home))); vtocs = vtocs })
-          (put_put s.vtocs home.volume home.entry (with_record (entry_at (vtoc_in s.vtocs home.volume) home.entry) n None) None (volume_within s.vtocs uid home h))
+          ∙ ap (λ (vtocs : List (List (Option Entry))). record s
+          { records = set s.records home.volume (freed (flags_of s home.volume) (drop n (file_map_of s home))); vtocs = vtocs })
+          (put_put s.vtocs home.volume home.entry (with_record (entry_at (vtoc_in s.vtocs home.volume) home.entry) n None) None
+          (volume_within s.vtocs uid home h))
           ∙ part.rest;
       gone = λ q lt. gone_refiled s uid home n q h (λ other. part.gone q (omega (arith, lt, other)));
       at = uids_refiled s.vtocs uid n None home home h ∙ h;
@@ -129,10 +138,12 @@ zeros_erased s now uid home is h u p none =
     shown_out now u p home (λ g at. none.none g p (ap (λ (x : Plain). get_or (bindings x.core) g None) (sym is) ∙ at))
     ∙ ap (words_filed (disk_of now home.volume)) (map_erased s now uid home is h p)
 
-pub words_erased : (s now : Plain) (uid : ℕ) (home : Home) → now ≡ erased s home → uid_at s.vtocs home ≡ Some uid → (u : ℕ) (other : Home) (p : ℕ) → other ≢ home
+pub words_erased : (s now : Plain) (uid : ℕ) (home : Home) → now ≡ erased s home → uid_at s.vtocs home ≡ Some uid → (u : ℕ) (other : Home) (p : ℕ)
+    → other ≢ home
     → words_at now u other p ≡ words_at s u other p
 words_erased s now uid home is h u other p n =
-    words_by s now u other p (ap (λ (x : Plain). bindings x.core) is) (ap (λ (x : Plain). x.frames) is) (ap (λ (x : Plain). x.disks) is) (maps_erased s now uid home other is h n)
+    words_by s now u other p (ap (λ (x : Plain). bindings x.core) is) (ap (λ (x : Plain). x.frames) is) (ap (λ (x : Plain). x.disks) is)
+    (maps_erased s now uid home other is h n)
 
 pub ties_erased : (s now : Plain) (uid : ℕ) (home : Home) → now ≡ erased s home → uid_at s.vtocs home ≡ Some uid → AreFiled now.records now.vtocs
     → (u : ℕ) (other : Home) (words : List Ptw) → other ≢ home → IsTied s u other words → IsTied now u other words

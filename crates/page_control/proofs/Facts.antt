@@ -1,4 +1,5 @@
-use Rattle.std.proofs.Common.{◌≡◌, ℕ, ◌<◌, ◌≤◌, arith, Bool, true, false, List, [], ◌∷◌, ◌++◌, length, Option, None, Some, refl, sym, ap, ◌∙◌, get_or, set, replicate, take, inl, inr, All, IsSome, is_some}
+use Rattle.std.proofs.Common.{◌≡◌, ℕ, ◌<◌, arith, Bool, true, false, List, [], ◌∷◌, ◌++◌, length, Option, None, Some, refl, sym, ap, ◌∙◌, get_or, set}
+use Rattle.std.proofs.Common.{replicate, take, inl, inr, All, IsSome, is_some}
 use Rattle.std.proofs.lemmas.Bool.Decides.{leb_tells}
 use Rattle.std.proofs.lemmas.List.{get_or_past, get_or-set_same, set-set, map-set, length-map}
 use Rattle.std.proofs.Math.ListN.{get_or-map}
@@ -60,7 +61,9 @@ filed_in_use s home p r h is = h.used home.volume home.entry p r is
 
 -- where all records are in use, none is free
 pub none_free : (flags : List Bool) (r : ℕ) → All (λ flag. flag ≡ true) flags → IsLeastFree flags r → ⊥
-none_free flags r all least = (let on : get_or flags r false ≡ true = All-get_or (λ (flag : Bool). flag ≡ true) flags r false least.within all in (let off : get_or flags r false ≡ false = least.free in cc))
+none_free flags r all least =
+    (let on : get_or flags r false ≡ true = All-get_or (λ (flag : Bool). flag ≡ true) flags r false least.within all in
+    (let off : get_or flags r false ≡ false = least.free in cc))
 
 -- a page that is cleared from its start
 pub all_cleared : (words : List ℕ) → take 0 words ++ replicate 1024 0 ≡ replicate 1024 0
@@ -116,7 +119,8 @@ pub bound_and_marked : (core : Core) (f uid p : ℕ) → f < length core.frames
     → with_frame (with_frame core f (Bound uid p false false)) f (after_reference (frame_at (with_frame core f (Bound uid p false false)) f) true)
     ≡ with_frame core f (Bound uid p true true)
 bound_and_marked core f uid p lt =
-    let read : get_or (set core.frames f (Bound uid p false false)) f Free ≡ Bound uid p false false = get_or-set_same core.frames f (Bound uid p false false) Free lt in
+    let read : get_or (set core.frames f (Bound uid p false false)) f Free ≡ Bound uid p false false = get_or-set_same core.frames f (Bound uid p false false)
+    Free lt in
     ap (λ (frame : Frame). with_frame (with_frame core f (Bound uid p false false)) f (after_reference frame true)) read
     ∙ ap (λ (frames : List Frame). record core { frames = frames }) (set-set core.frames f (Bound uid p false false) (Bound uid p true true))
 
@@ -124,7 +128,8 @@ bound_and_marked core f uid p lt =
 pub starts_with : (core : Core) (f : ℕ) (frame : Frame) → reads_of (with_frame core f frame) ≡ set (reads_of core) f (started_page frame)
 starts_with core f frame = map-set started_page core.frames f frame
 
-pub starts_same : (core : Core) (f : ℕ) (frame : Frame) → started_page frame ≡ started_page (frame_at core f) → reads_of (with_frame core f frame) ≡ reads_of core
+pub starts_same : (core : Core) (f : ℕ) (frame : Frame) → started_page frame ≡ started_page (frame_at core f)
+    → reads_of (with_frame core f frame) ≡ reads_of core
 starts_same core f frame same = map-set_same started_page core.frames f frame Free same
 
 started_referred : (frame : Frame) (wrote : Bool) → started_page (after_reference frame wrote) ≡ started_page frame

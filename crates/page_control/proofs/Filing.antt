@@ -24,7 +24,8 @@ pub refiled_cases : (vtocs : List (List (Option Entry))) (uid p : ℕ) (place : 
 refiled_cases vtocs uid p place home h v e q =
     let entry : Option Entry = entry_at (vtoc_in vtocs home.volume) home.entry in
     let otherwise : (v ≡ home.volume → e ≡ home.entry → ⊥) → record_at (vtoc_in (refile vtocs home p place) v) e q ≡ record_at (vtoc_in vtocs v) e q =
-    λ n. ap (λ (x : Option Entry). get_or (records_in x) q None) (put_other vtocs home.volume home.entry (with_record entry p place) None v e (volume_within vtocs uid home h) n) in
+    λ n. ap (λ (x : Option Entry). get_or (records_in x) q None)
+    (put_other vtocs home.volume home.entry (with_record entry p place) None v e (volume_within vtocs uid home h) n) in
     elim (cases_eq v home.volume) [
       | inl i ↦ elim (cases_eq e home.entry) [
         | inl j ↦ elim (cases_eq q p) [
@@ -40,11 +41,13 @@ refiled_cases vtocs uid p place home h v e q =
 
 -- the record of page p there
 pub refiled_at : (vtocs : List (List (Option Entry))) (uid p : ℕ) (place : Option ℕ) (home : Home) (v e q : ℕ) → uid_at vtocs home ≡ Some uid
-    → (v ≡ home.volume) × (e ≡ home.entry) × (q ≡ p) → record_at (vtoc_in (refile vtocs home p place) v) e q ≡ record_at (vtoc_in (refile vtocs home p place) home.volume) home.entry p
+    → (v ≡ home.volume) × (e ≡ home.entry) × (q ≡ p)
+    → record_at (vtoc_in (refile vtocs home p place) v) e q ≡ record_at (vtoc_in (refile vtocs home p place) home.volume) home.entry p
 refiled_at vtocs uid p place home v e q h (i, j, k) = rw (i, j, k) refl
 
 -- page p at a home is stored no more, and its record r is given back
-pub used_unstored : (records : List (List Bool)) (vtocs : List (List (Option Entry))) (uid p r : ℕ) (home : Home) → AreUsed records vtocs → uid_at vtocs home ≡ Some uid
+pub used_unstored : (records : List (List Bool)) (vtocs : List (List (Option Entry))) (uid p r : ℕ) (home : Home) → AreUsed records vtocs
+    → uid_at vtocs home ≡ Some uid
     → record_at (vtoc_in vtocs home.volume) home.entry p ≡ Some r → AreUsed (put records home.volume r false) (refile vtocs home p None)
 used_unstored records vtocs uid p r home filed h there =
     let gone : record_at (vtoc_in (refile vtocs home p None) home.volume) home.entry p ≡ None =
@@ -73,7 +76,8 @@ used_unstored records vtocs uid p r home filed h there =
     }
 
 -- page p at a home gets the free record r
-pub used_stored : (records : List (List Bool)) (vtocs : List (List (Option Entry))) (uid p r : ℕ) (home : Home) → AreUsed records vtocs → uid_at vtocs home ≡ Some uid
+pub used_stored : (records : List (List Bool)) (vtocs : List (List (Option Entry))) (uid p r : ℕ) (home : Home) → AreUsed records vtocs
+    → uid_at vtocs home ≡ Some uid
     → in_use (flags_in records home.volume) r ≡ false → home.volume < length records → r < length (flags_in records home.volume)
     → AreUsed (put records home.volume r true) (refile vtocs home p (Some r))
 used_stored records vtocs uid p r home filed h free vl rl =

@@ -1,9 +1,10 @@
 -- A segment that gets a home.
-use Rattle.std.proofs.Common.{◌≡◌, ◌≢◌, ℕ, zero, suc, ◌<◌, Bool, true, false, replicate, List, [], length, Option, None, Some, refl, sym, ap, ◌∙◌, arith, get_or, set, is_some, inl, inr}
+use Rattle.std.proofs.Common.{◌≡◌, ◌≢◌, ℕ, zero, suc, ◌<◌, replicate, List, [], length, Option, None, Some, refl, sym, ap, ◌∙◌}
+use Rattle.std.proofs.Common.{get_or, set, is_some, inl, inr}
 use Rattle.std.specs.Prelude.{IfSome, IfNone}
 use Rattle.std.proofs.lemmas.List.{set-get_or}
 use Rattle.vtoc.specs.FileMap.{no_records}
-use Rattle.vtoc.specs.Vtoc.{Entry, entry_at, records_in, uid_of, fresh_entry, IsLeastFreeEntry}
+use Rattle.vtoc.specs.Vtoc.{Entry, records_in, uid_of, fresh_entry}
 use Rattle.page_table.specs.declared.Ptw.{Ptw}
 use Rattle.page_table.specs.declared.Ptw.TheVariants.{Null, Out}
 use Rattle.page_table.specs.PageTable.{ptw_at}
@@ -11,7 +12,7 @@ use Rattle.page_control.specs.declared.Home.{Home}
 use Rattle.page_control.specs.Counts.{used, one_more}
 use Rattle.page_control.specs.Effects.{after_asked}
 use Rattle.page_control.specs.Steps.{HasAsked}
-use Rattle.page_control.specs.Plain.{Plain, bindings, binding_at, disk_of, vtoc_of}
+use Rattle.page_control.specs.Plain.{Plain, bindings, binding_at, disk_of}
 use Rattle.page_control.specs.Tied.{vtoc_in, frame_of, has_record, uid_at, map_at, IsTableOf, IsMapOf, AreFiled, HasNoFrame, IsBlank}
 use Rattle.page_control.specs.Picture.{words_at, words_filed, is_filed_at, is_stored}
 use Rattle.page_control.specs.Ties.{IsTied, KeepsTies}
@@ -102,7 +103,8 @@ pub ties_asked : (result : Option ℕ) {s now : Plain} {v uid : ℕ} → HasAske
 ties_asked result {s = s} {now = now} a = record {
   ties = λ u h words tie.
       tie_mapped s now u h words (parts_asked (λ (x : Plain). x.core) result a (λ _. refl)) (parts_asked (λ (x : Plain). x.frames) result a (λ _. refl))
-      (parts_asked (λ (x : Plain). x.disks) result a (λ _. refl)) (homes_asked result a u h tie.used) (maps_asked result a h) (filed_asked result a tie.records) tie;
+      (parts_asked (λ (x : Plain). x.disks) result a (λ _. refl)) (homes_asked result a u h tie.used) (maps_asked result a h)
+      (filed_asked result a tie.records) tie;
 }
 
 -- where no frame is bound to a page of the segment, a table of no page is its table
@@ -139,7 +141,8 @@ tie_asked (Some e) {s = s} {now = now} {v = v} {uid = uid} a vl = λ words blank
       map = rw map (map_blank words blank);
       records = filed_asked (Some e) a filed;
       clean = λ g q off at. absurd (none.none g q (sym (ap (λ (those : List (Option (ℕ × ℕ))). binding_at those g) bound) ∙ at));
-      zeros = λ q on all. absurd (off_and_on (is_stored now home q) (ap (λ (places : List (Option ℕ)). is_some (get_or places q None)) map ∙ ap is_some (no_record q)) on);
+      zeros = λ q on all. absurd
+          (off_and_on (is_stored now home q) (ap (λ (places : List (Option ℕ)). is_some (get_or places q None)) map ∙ ap is_some (no_record q)) on);
     }
 
 pub zeros_asked : (result : Option ℕ) {s now : Plain} {v uid : ℕ} → HasAsked s now v uid result
@@ -149,11 +152,13 @@ zeros_asked (Some e) {s = s} {now = now} {v = v} {uid = uid} a = λ p none.
     let home : Home = record { volume = v; entry = e } in
     shown_out now uid p home
     (λ g at. none.none g p (sym (parts_asked (λ (x : Plain). binding_at (bindings x.core) g) (Some e) a (λ _. refl)) ∙ at))
-    ∙ ap (words_filed (disk_of now v)) (ap (λ (places : List (Option ℕ)). get_or places p None) (maps_asked (Some e) a home ∙ ap records_in a.least.free) ∙ no_record p)
+    ∙ ap (words_filed (disk_of now v))
+    (ap (λ (places : List (Option ℕ)). get_or places p None) (maps_asked (Some e) a home ∙ ap records_in a.least.free) ∙ no_record p)
 
 pub used_asked : (result : Option ℕ) {s now : Plain} {v uid : ℕ} → HasAsked s now v uid result → IfSome result (λ e. used now.vtocs ≡ one_more (used s.vtocs) v)
 used_asked None a = tt
-used_asked (Some e) {s = s} {v = v} {uid = uid} a = (let least = a.least in ap (λ (x : Plain). used x.vtocs) a.effect ∙ used_more s.vtocs v e uid least.within least.free)
+used_asked (Some e) {s = s} {v = v} {uid = uid} a =
+    (let least = a.least in ap (λ (x : Plain). used x.vtocs) a.effect ∙ used_more s.vtocs v e uid least.within least.free)
 
 -- what the steps give: the VTOC that was lent, as it came back
 pub asks : (s now : Plain) (v uid : ℕ) (result : Option ℕ) (table : List (Option Entry)) → now ≡ record s { vtocs = set s.vtocs v table }

@@ -1,5 +1,5 @@
 -- What a word that names a frame tells of the frame and of the page.
-use Rattle.std.proofs.Common.{◌≡◌, ℕ, ◌+◌, ◌<◌, Bool, true, false, List, Option, None, Some, refl, sym, ap, ◌∙◌, arith, is_some, subst}
+use Rattle.std.proofs.Common.{◌≡◌, ℕ, true, false, List, Option, None, Some, refl, sym, ap, ◌∙◌, arith, is_some}
 use Rattle.core_map.specs.declared.Frame.{Frame}
 use Rattle.core_map.specs.CoreMap.{Core, frame_at, bound_page}
 use Rattle.mword.specs.Words.{AreZero}
@@ -7,7 +7,7 @@ use Rattle.page_table.specs.declared.Ptw.{Ptw}
 use Rattle.page_table.specs.declared.Ptw.TheVariants.{Null, Out, Here, Leaving}
 use Rattle.page_table.specs.PageTable.{ptw_at}
 use Rattle.page_control.specs.declared.Home.{Home}
-use Rattle.page_control.specs.Plain.{Plain, bindings, binding_at, number_in, words_in, disk_of, filed, record_of}
+use Rattle.page_control.specs.Plain.{Plain, bindings, number_in, words_in, disk_of, filed, record_of}
 use Rattle.page_control.specs.Tied.{frame_of, has_record, is_out, uid_in, IsTableOf, IsBoundTo}
 use Rattle.page_control.specs.Picture.{words_at, words_filed, is_filed_at, is_stored}
 use Rattle.page_control.specs.Ties.{IsTied, IsSeen}
@@ -19,7 +19,8 @@ use Rattle.page_control.proofs.Counting.{fewer_at}
 told : (frame : Frame) (uid p : ℕ) → bound_page frame ≡ Some (uid, p) → ◌≡◌ {A = Option (ℕ × ℕ)} (Some (uid_in frame, number_in frame)) (Some (uid, p))
 told frame uid p at = sym (bound_to frame (bound_from_page frame uid p at)) ∙ at
 
-pub frame_named : (core : Core) (uid p f : ℕ) (t : List Ptw) → IsTableOf (bindings core) uid t → frame_of (ptw_at t p) ≡ Some f → IsBoundTo (frame_at core f) uid p
+pub frame_named : (core : Core) (uid p f : ℕ) (t : List Ptw) → IsTableOf (bindings core) uid t → frame_of (ptw_at t p) ≡ Some f
+    → IsBoundTo (frame_at core f) uid p
 frame_named core uid p f t table word =
     let page : bound_page (frame_at core f) ≡ Some (uid, p) = sym (binding_is core f) ∙ table.back f p word in
     record {
@@ -28,7 +29,8 @@ frame_named core uid p f t table word =
       page = ap number_of (told (frame_at core f) uid p page);
     }
 
-pub words_named : (s : Plain) (uid p f : ℕ) (home : Home) (t : List Ptw) → IsTableOf (bindings s.core) uid t → frame_of (ptw_at t p) ≡ Some f → words_at s uid home p ≡ words_in s f
+pub words_named : (s : Plain) (uid p f : ℕ) (home : Home) (t : List Ptw) → IsTableOf (bindings s.core) uid t → frame_of (ptw_at t p) ≡ Some f
+    → words_at s uid home p ≡ words_in s f
 words_named s uid p f home t table word =
     shown_in s uid p f home (table.back f p word) (λ g at. frame_same (frame_of (ptw_at t p)) g f (table.named g p at) word)
 
@@ -60,9 +62,11 @@ pub seen : (s : Plain) (uid p : ℕ) (home : Home) (t : List Ptw) (w : Ptw) → 
 unfolding is_filed_at
 seen s uid p home t w is tie = rw is (record {
   stored = tie.map.stored p;
-  null = λ null. words_away s uid p home t tie (ap frame_of null) ∙ ap (words_filed (disk_of s home.volume)) (none_from (filed s home p) (ptw_at t p) (tie.map.stored p) null);
+  null = λ null. words_away s uid p home t tie (ap frame_of null)
+      ∙ ap (words_filed (disk_of s home.volume)) (none_from (filed s home p) (ptw_at t p) (tie.map.stored p) null);
   taken = λ has.
-      let fewer = fewer_at s.records home.volume (record_of s home p) (filed_in_use s home p (record_of s home p) tie.records (tied_filed s uid home t p tie has)) in
+      let fewer = fewer_at s.records home.volume (record_of s home p)
+      (filed_in_use s home p (record_of s home p) tie.records (tied_filed s uid home t p tie has)) in
       omega (arith, fewer);
   out = λ r out. words_away s uid p home t tie (ap frame_of out) ∙ ap (words_filed (disk_of s home.volume)) (tie.map.out p r out);
   full = λ out all. out_full s uid p home t (ptw_at t p) tie refl out (tie.map.stored p ∙ stored_out (ptw_at t p) out) all;

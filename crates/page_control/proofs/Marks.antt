@@ -1,5 +1,6 @@
 -- Calls that change marks and words in frames alone, and calls that change VTOCs alone.
-use Rattle.std.proofs.Common.{◌≡◌, ◌≢◌, ℕ, ◌<◌, Bool, true, false, cond, List, [], length, Option, None, Some, refl, sym, ap, ◌∙◌, arith, get_or, set, is_some, inl, inr, subst}
+use Rattle.std.proofs.Common.{◌≡◌, ◌≢◌, ℕ, ◌<◌, Bool, true, false, cond, List, [], length, Option, None, Some, refl, sym, ap, ◌∙◌, arith, get_or, set, is_some}
+use Rattle.std.proofs.Common.{inl, inr, subst}
 use Rattle.std.specs.List.{position}
 use Rattle.std.proofs.lemmas.Bool.{cases_eq}
 use Rattle.std.proofs.lemmas.List.{get_or-set_same, get_or-set_other, length-set}
@@ -10,13 +11,13 @@ use Rattle.core_map.specs.CoreMap.{Core, frame_at, with_frame, is_bound, is_modi
 use Rattle.core_map.specs.Clock.{IsClockChoice, unmarked}
 use Rattle.mword.specs.Words.{AreZero}
 use Rattle.page_table.specs.declared.Ptw.{Ptw}
-use Rattle.page_table.specs.declared.Ptw.TheVariants.{Null, Here, Leaving}
+use Rattle.page_table.specs.declared.Ptw.TheVariants.{Here, Leaving}
 use Rattle.page_table.specs.PageTable.{ptw_at}
 use Rattle.vtoc.specs.Vtoc.{Entry, record_at}
 use Rattle.page_control.specs.declared.Home.{Home}
 use Rattle.page_control.specs.Plain.{Plain, bindings, binding_at, frame_in, words_in}
 use Rattle.page_control.specs.Tied.{vtoc_in, uid_at, map_at, IsTableOf, IsMapOf, AreFiled, IsBoundOnce}
-use Rattle.page_control.specs.Picture.{is_binding, words_held, words_of_page, words_at, words_out, is_filed_at, is_stored, changed_at, changed_page}
+use Rattle.page_control.specs.Picture.{is_binding, words_held, words_of_page, words_at, is_filed_at, is_stored, changed_at, changed_page}
 use Rattle.page_control.specs.Ties.{IsTied, KeepsTies}
 use Rattle.page_control.proofs.Facts.{binding_is}
 use Rattle.page_control.proofs.Ties.{not_none, number_of, table_taken, table_back, map_taken, map_back}
@@ -28,7 +29,8 @@ unfolding is_filed_at
 stored_by s now h q map = ap (λ (places : List (Option ℕ)). is_some (get_or places q None)) map
 
 -- VTOCs change, and neither the entry nor the file map of this segment
-pub tie_mapped : (s now : Plain) (u : ℕ) (h : Home) (t : List Ptw) → now.core ≡ s.core → now.frames ≡ s.frames → now.disks ≡ s.disks → uid_at now.vtocs h ≡ Some u
+pub tie_mapped : (s now : Plain) (u : ℕ) (h : Home) (t : List Ptw) → now.core ≡ s.core → now.frames ≡ s.frames → now.disks ≡ s.disks
+    → uid_at now.vtocs h ≡ Some u
     → map_at now.vtocs h ≡ map_at s.vtocs h → AreFiled now.records now.vtocs → IsTied s u h t → IsTied now u h t
 tie_mapped s now u h t core frames disks used map filed tie = record {
   volume = rw disks tie.volume;
@@ -79,7 +81,8 @@ pub ties_marked : (s now : Plain) → Marks s now → KeepsTies s now
 ties_marked s now m = record { ties = λ u h t tie. tie_marked s now u h t m tie }
 
 -- where no words change, all pages have the words that they had
-pub words_marked : (s now : Plain) → bindings now.core ≡ bindings s.core → now.frames ≡ s.frames → now.disks ≡ s.disks → now.vtocs ≡ s.vtocs → words_at now ≡ words_at s
+pub words_marked : (s now : Plain) → bindings now.core ≡ bindings s.core → now.frames ≡ s.frames → now.disks ≡ s.disks → now.vtocs ≡ s.vtocs
+    → words_at now ≡ words_at s
 words_marked s now bound frames disks vtocs =
     λ i. λ u h q. words_by s now u h q bound frames disks (ap (λ (v : List (List (Option Entry))). map_at v h) vtocs) i
 
@@ -119,7 +122,8 @@ marks_read s now f core bound frames disks records vtocs is = record {
       | inr n ↦ sym (ap is_modified (at_other s now f g _ core n)) ∙ off
     ]
 
-pub marks_written : (s now : Plain) (f : ℕ) (words : List ℕ) → now.core ≡ with_frame s.core f (after_reference (frame_in s f) true) → bindings now.core ≡ bindings s.core
+pub marks_written : (s now : Plain) (f : ℕ) (words : List ℕ) → now.core ≡ with_frame s.core f (after_reference (frame_in s f) true)
+    → bindings now.core ≡ bindings s.core
     → now.frames ≡ set s.frames f words → now.disks ≡ s.disks → now.records ≡ s.records → now.vtocs ≡ s.vtocs → is_bound (frame_in s f) ≡ true → Marks s now
 marks_written s now f words core bound frames disks records vtocs is = record {
   bound = bound;
@@ -137,7 +141,8 @@ marks_written s now f words core bound frames disks records vtocs is = record {
 }
 
 -- a frame that was bound to no page, and is bound to none
-pub marks_moved : (s now : Plain) (f : ℕ) (frame : Frame) → now.core ≡ with_frame s.core f frame → bindings now.core ≡ bindings s.core → bound_page (frame_in s f) ≡ None
+pub marks_moved : (s now : Plain) (f : ℕ) (frame : Frame) → now.core ≡ with_frame s.core f frame → bindings now.core ≡ bindings s.core
+    → bound_page (frame_in s f) ≡ None
     → now.frames ≡ s.frames → now.disks ≡ s.disks → now.records ≡ s.records → now.vtocs ≡ s.vtocs → Marks s now
 marks_moved s now f frame core bound none frames disks records vtocs = record {
   bound = bound;
@@ -156,7 +161,8 @@ modified_unmarked Free = refl
 modified_unmarked (Started u q) = refl
 modified_unmarked (Bound u q used modified) = refl
 
-pub marks_chosen : (s now : Plain) (f : ℕ) → IsClockChoice s.core now.core f → now.frames ≡ s.frames → now.disks ≡ s.disks → now.records ≡ s.records → now.vtocs ≡ s.vtocs
+pub marks_chosen : (s now : Plain) (f : ℕ) → IsClockChoice s.core now.core f → now.frames ≡ s.frames → now.disks ≡ s.disks → now.records ≡ s.records
+    → now.vtocs ≡ s.vtocs
     → Marks s now
 marks_chosen s now f choice frames disks records vtocs = record {
   bound = bindings_chosen s.core now.core f choice;
@@ -175,11 +181,13 @@ is_page uid p u q passes =
     let tells : page uid p ≡ page u q = binding_tells (page uid p) u q passes in
     (sym (ap uid_part tells), sym (ap number_of tells))
 
-pub words_written : (b bound : List (Option (ℕ × ℕ))) (those frames : List (List ℕ)) (drives disks : List (List (List ℕ))) (tables vtocs : List (List (Option Entry)))
+pub words_written : (b bound : List (Option (ℕ × ℕ))) (those frames : List (List ℕ)) (drives disks : List (List (List ℕ)))
+    (tables vtocs : List (List (Option Entry)))
     (uid p f : ℕ) (words : List ℕ) → bound ≡ b → frames ≡ set those f words → disks ≡ drives → vtocs ≡ tables → binding_at b f ≡ page uid p → f < length those
     → IsBoundOnce b f → words_of_page bound frames disks vtocs ≡ changed_page (words_of_page b those drives tables) uid p words
 unfolding words_of_page changed_at
-words_written b bound those frames drives disks tables vtocs uid p f words bs fr ds vs at lt once = λ i. λ u h q. point u h q (is_binding u q (page uid p)) refl i
+words_written b bound those frames drives disks tables vtocs uid p f words bs fr ds vs at lt once = λ i. λ u h q. point u h q (is_binding u q (page uid p))
+    refl i
   where
     moved : (u : ℕ) (h : Home) (q : ℕ) → words_of_page bound frames disks vtocs u h q
         ≡ words_held (set those f words) (get_or drives h.volume []) (record_at (vtoc_in tables h.volume) h.entry q) (position (is_binding u q) b)
@@ -202,7 +210,8 @@ words_written b bound those frames drives disks tables vtocs uid p f words bs fr
         ∙ ap (words_held (set those f words) (get_or drives h.volume []) (record_at (vtoc_in tables h.volume) h.entry q)) found
         ∙ get_or-set_same those f words [] lt ∙ sym (ap (λ (z : Bool). cond z words (words_of_page b those drives tables u h q)) passes)
     point u h q false passes =
-        moved u h q ∙ other u h q (position (is_binding u q) b) refl passes ∙ sym (ap (λ (z : Bool). cond z words (words_of_page b those drives tables u h q)) passes)
+        moved u h q ∙ other u h q (position (is_binding u q) b) refl passes
+        ∙ sym (ap (λ (z : Bool). cond z words (words_of_page b those drives tables u h q)) passes)
 
 -- a word changes, and says of its page what it said
 pub tie_worded : (s : Plain) (uid : ℕ) (home : Home) (t u : List Ptw) (p f : ℕ) → IsTied s uid home t → length u ≡ length t → IsTableOf (bindings s.core) uid u
@@ -220,12 +229,14 @@ tie_worded s uid home t u p f tie long table map =
       zeros = tie.zeros;
     }
 
-pub tie_taken : (s : Plain) (uid : ℕ) (home : Home) (t u : List Ptw) (p f : ℕ) → IsTied s uid home t → ptw_at t p ≡ Here f → u ≡ set t p (Leaving f) → IsTied s uid home u
+pub tie_taken : (s : Plain) (uid : ℕ) (home : Home) (t u : List Ptw) (p f : ℕ) → IsTied s uid home t → ptw_at t p ≡ Here f → u ≡ set t p (Leaving f)
+    → IsTied s uid home u
 tie_taken s uid home t u p f tie here us =
     tie_worded s uid home t u p f tie (ap length us ∙ length-set t p (Leaving f)) (table_taken (bindings s.core) uid t u p f tie.table here us)
     (map_taken (map_at s.vtocs home) t u p f tie.map here us)
 
-pub tie_back : (s : Plain) (uid : ℕ) (home : Home) (t u : List Ptw) (p f : ℕ) → IsTied s uid home t → ptw_at t p ≡ Leaving f → u ≡ set t p (Here f) → IsTied s uid home u
+pub tie_back : (s : Plain) (uid : ℕ) (home : Home) (t u : List Ptw) (p f : ℕ) → IsTied s uid home t → ptw_at t p ≡ Leaving f → u ≡ set t p (Here f)
+    → IsTied s uid home u
 tie_back s uid home t u p f tie leaving us =
     tie_worded s uid home t u p f tie (ap length us ∙ length-set t p (Here f)) (table_back (bindings s.core) uid t u p f tie.table leaving us)
     (map_back (map_at s.vtocs home) t u p f tie.map leaving us)

@@ -1,9 +1,9 @@
 -- The records in use stay those that file maps name, whatever a call does to them.
-use Rattle.std.proofs.Common.{◌≡◌, ◌≢◌, ◌⊎◌, ℕ, ◌<◌, Bool, true, false, List, length, Option, None, Some, refl, sym, ap, ◌∙◌, get_or, set, inl, inr}
+use Rattle.std.proofs.Common.{◌≡◌, ◌⊎◌, ℕ, ◌<◌, Bool, true, false, List, length, Option, None, Some, sym, ap, ◌∙◌, get_or, set, inl, inr}
 use Rattle.std.proofs.lemmas.Bool.{cases_eq}
 use Rattle.bitmap.specs.Bitmap.{IsLeastFree}
 use Rattle.record_map.specs.Bitmap.{in_use}
-use Rattle.vtoc.specs.Vtoc.{Entry, entry_at, record_at, records_in}
+use Rattle.vtoc.specs.Vtoc.{Entry, record_at, records_in}
 use Rattle.page_control.specs.declared.Home.{Home}
 use Rattle.page_control.specs.Tied.{vtoc_in, flags_in, uid_at, map_at, AreFiled, IsNamed}
 use Rattle.page_control.proofs.Facts.{used_within}
@@ -100,7 +100,8 @@ filed_mapped records vtocs now maps filed =
 -- an entry that names no record is freed
 pub maps_freed : (vtocs : List (List (Option Entry))) (uid : ℕ) (home other : Home) → uid_at vtocs home ≡ Some uid
     → (other.volume ≡ home.volume → other.entry ≡ home.entry → ⊥) → map_at (put vtocs home.volume home.entry None) other ≡ map_at vtocs other
-maps_freed vtocs uid home other h n = ap records_in (put_other vtocs home.volume home.entry None None other.volume other.entry (volume_within vtocs uid home h) n)
+maps_freed vtocs uid home other h n = ap records_in
+    (put_other vtocs home.volume home.entry None None other.volume other.entry (volume_within vtocs uid home h) n)
 
 pub filed_freed : (records : List (List Bool)) (vtocs : List (List (Option Entry))) (uid : ℕ) (home : Home) → uid_at vtocs home ≡ Some uid
     → ((q : ℕ) → get_or (map_at vtocs home) q None ≡ None) → ((q : ℕ) → get_or (records_in None) q None ≡ None) → AreFiled records vtocs

@@ -1,5 +1,5 @@
 -- What the words of a page are, where it is in a frame and where it is in none.
-use Rattle.std.proofs.Common.{◌≡◌, ◌≢◌, ◌⊎◌, ℕ, ◌<◌, Bool, true, false, List, [], length, Option, None, Some, refl, sym, ap, ◌∙◌, get_or, set, eq-eqb, inl, inr}
+use Rattle.std.proofs.Common.{◌≡◌, ◌≢◌, ◌⊎◌, ℕ, Bool, true, false, List, [], length, Option, None, Some, refl, sym, ap, ◌∙◌, get_or, set, eq-eqb, inl, inr}
 use Rattle.std.specs.List.{position}
 use Rattle.std.proofs.lemmas.Bool.Decides.{eqb_tells, leb_tells}
 use Rattle.std.proofs.lemmas.Bool.{cases_eq}
@@ -10,7 +10,7 @@ use Rattle.page_control.specs.declared.Home.{Home}
 use Rattle.page_control.specs.Plain.{Plain, bindings, binding_at, words_in, disk_of, filed}
 use Rattle.page_control.specs.Tied.{IsInFrame, map_at}
 use Rattle.page_control.specs.Picture.{is_binding, words_filed, words_out, words_held, words_of_page, words_at}
-use Rattle.page_control.proofs.Ties.{not_none, number_of, bound_within}
+use Rattle.page_control.proofs.Ties.{not_none, bound_within}
 use Rattle.page_control.proofs.Firsts.{nowhere, position_at_one}
 
 -- the picture is that of its parts
@@ -90,7 +90,8 @@ pub bound_now : (bound : List (Option (ℕ × ℕ))) (f : ℕ) (x : Option (ℕ 
 bound_now bound f x g y is = elim (cases_eq g f) [
   | inl same ↦ elim (leb_tells (length bound) f) [
     | inl past ↦ absurd (not_none (binding_at (set bound f x) g) y
-        (ap (λ (those : List (Option (ℕ × ℕ))). binding_at those g) (set_past bound f x past.1) ∙ ap (binding_at bound) same ∙ get_or_past bound f None past.1) is)
+        (ap (λ (those : List (Option (ℕ × ℕ))). binding_at those g) (set_past bound f x past.1) ∙ ap (binding_at bound) same ∙ get_or_past bound f None past.1)
+        is)
     | inr lt ↦ inl (same, sym (get_or-set_same bound f x None lt.1) ∙ ap (binding_at (set bound f x)) (sym same) ∙ is)
   ]
   | inr n ↦ inr (n, sym (get_or-set_other bound f g x None n) ∙ is)
@@ -106,9 +107,12 @@ pub words_by : (s now : Plain) (u : ℕ) (h : Home) (q : ℕ) → bindings now.c
     → map_at now.vtocs h ≡ map_at s.vtocs h → words_at now u h q ≡ words_at s u h q
 unfolding words_of_page
 words_by s now u h q bound frames disks map =
-    ap (λ (b : List (Option (ℕ × ℕ))). words_held now.frames (get_or now.disks h.volume []) (get_or (map_at now.vtocs h) q None) (position (is_binding u q) b)) bound
-    ∙ ap (λ (f : List (List ℕ)). words_held f (get_or now.disks h.volume []) (get_or (map_at now.vtocs h) q None) (position (is_binding u q) (bindings s.core))) frames
-    ∙ ap (λ (d : List (List (List ℕ))). words_held s.frames (get_or d h.volume []) (get_or (map_at now.vtocs h) q None) (position (is_binding u q) (bindings s.core))) disks
+    ap (λ (b : List (Option (ℕ × ℕ))). words_held now.frames (get_or now.disks h.volume []) (get_or (map_at now.vtocs h) q None) (position (is_binding u q) b))
+    bound
+    ∙ ap (λ (f : List (List ℕ)). words_held f (get_or now.disks h.volume []) (get_or (map_at now.vtocs h) q None)
+    (position (is_binding u q) (bindings s.core))) frames
+    ∙ ap (λ (d : List (List (List ℕ))). words_held s.frames (get_or d h.volume []) (get_or (map_at now.vtocs h) q None)
+    (position (is_binding u q) (bindings s.core))) disks
     ∙ ap (λ (m : List (Option ℕ)). words_held s.frames (get_or s.disks h.volume []) (get_or m q None) (position (is_binding u q) (bindings s.core))) map
 
 pub out_by : (s now : Plain) (h : Home) (q : ℕ) → now.disks ≡ s.disks → map_at now.vtocs h ≡ map_at s.vtocs h → words_out now h q ≡ words_out s h q

@@ -1,5 +1,5 @@
 -- A change of one place of a list of lists, and of one entry of the VTOCs.
-use Rattle.std.proofs.Common.{◌≡◌, ◌≢◌, ◌⊎◌, ℕ, ◌<◌, List, [], length, Option, None, Some, refl, sym, ap, ◌∙◌, arith, get_or, set, inl, inr}
+use Rattle.std.proofs.Common.{◌≡◌, ◌≢◌, ◌⊎◌, ℕ, ◌<◌, List, [], length, Option, None, Some, refl, ap, ◌∙◌, arith, get_or, set, inl, inr}
 use Rattle.std.proofs.lemmas.Bool.{cases_eq}
 use Rattle.std.proofs.lemmas.Bool.Decides.{leb_tells}
 use Rattle.std.proofs.lemmas.List.{get_or-set_same, get_or-set_other, get_or_past, set_past}
@@ -117,7 +117,9 @@ uids_refiled vtocs uid p place home other used =
     let entry : Option Entry = entry_at (vtoc_in vtocs home.volume) home.entry in
     elim (at_or_other home.volume home.entry other) [
       | inl at ↦ rw (at.0, at.1)
-          (ap uid_of (put_here vtocs home.volume home.entry (with_record entry p place) None (volume_within vtocs uid home used) (home_within vtocs uid home used))
+          (ap uid_of (put_here vtocs home.volume home.entry (with_record entry p place) None (volume_within vtocs uid home used)
+          (home_within vtocs uid home used))
           ∙ same_uid entry p place)
-      | inr n ↦ ap uid_of (put_other vtocs home.volume home.entry (with_record entry p place) None other.volume other.entry (volume_within vtocs uid home used) n)
+      | inr n ↦ ap uid_of (put_other vtocs home.volume home.entry (with_record entry p place) None other.volume other.entry (volume_within vtocs uid home used)
+          n)
     ]

@@ -26,7 +26,8 @@ pub not_none : {A : Type 0} (x : Option A) (a : A) → x ≡ None → x ≡ Some
 not_none x a h i = cc
 
 -- frame f, which was bound to no page, is bound to page p, whose word named no frame
-pub table_in : (old new : List (Option (ℕ × ℕ))) (uid : ℕ) (t u : List Ptw) (p f : ℕ) → IsTableOf old uid t → new ≡ set old f (Some (uid, p)) → u ≡ set t p (Here f)
+pub table_in : (old new : List (Option (ℕ × ℕ))) (uid : ℕ) (t u : List Ptw) (p f : ℕ) → IsTableOf old uid t → new ≡ set old f (Some (uid, p))
+    → u ≡ set t p (Here f)
     → frame_of (ptw_at t p) ≡ None → binding_at old f ≡ None → p < length t → f < length old → IsTableOf new uid u
 table_in old new uid t u p f h bs ws word free pl fl =
     let at : ptw_at (set t p (Here f)) p ≡ Here f = get_or-set_same t p (Here f) Null pl in
@@ -102,7 +103,8 @@ map_word places t u p w h ws same out pl =
     })
 
 -- page p gets a record, or loses it, and its word says so
-pub map_place : (places now : List (Option ℕ)) (t u : List Ptw) (p : ℕ) (w : Ptw) (place : Option ℕ) → IsMapOf places t → now ≡ set places p place → u ≡ set t p w
+pub map_place : (places now : List (Option ℕ)) (t u : List Ptw) (p : ℕ) (w : Ptw) (place : Option ℕ) → IsMapOf places t → now ≡ set places p place
+    → u ≡ set t p w
     → is_some place ≡ has_record w → ((r : ℕ) → w ≢ Out r) → p < length t → get_or (set places p place) p None ≡ place → IsMapOf now u
 map_place places now t u p w place h ps ws same out pl on =
     let at : ptw_at (set t p w) p ≡ w = get_or-set_same t p w Null pl in
@@ -133,13 +135,15 @@ frame_within core f other = rw (length-map core.frames bound_page) (within_from 
 pub bound_within : (bound : List (Option (ℕ × ℕ))) (f uid p : ℕ) → binding_at bound f ≡ Some (uid, p) → f < length bound
 bound_within bound f uid p is = within_from bound f None (λ none. not_none (binding_at bound f) (uid, p) none is)
 
-pub table_read : (core new : Core) (uid : ℕ) (t u : List Ptw) (p f r : ℕ) → IsTableOf (bindings core) uid t → frame_at core f ≡ Started uid p → ptw_at t p ≡ Out r
+pub table_read : (core new : Core) (uid : ℕ) (t u : List Ptw) (p f r : ℕ) → IsTableOf (bindings core) uid t → frame_at core f ≡ Started uid p
+    → ptw_at t p ≡ Out r
     → new ≡ with_frame core f (Bound uid p false false) → u ≡ set t p (Here f) → IsTableOf (bindings new) uid u
 table_read core new uid t u p f r h started word is ws =
     table_in (bindings core) (bindings new) uid t u p f h (ap bindings is ∙ bindings_with core f (Bound uid p false false)) ws (ap frame_of word)
     (binding_is core f ∙ ap bound_page started) (out_within t p r word) (frame_within core f (λ e. cc))
 
-pub table_lost : (core new : Core) (uid : ℕ) (t : List Ptw) (p f : ℕ) → IsTableOf (bindings core) uid t → frame_at core f ≡ Started uid p → new ≡ with_frame core f Free
+pub table_lost : (core new : Core) (uid : ℕ) (t : List Ptw) (p f : ℕ) → IsTableOf (bindings core) uid t → frame_at core f ≡ Started uid p
+    → new ≡ with_frame core f Free
     → IsTableOf (bindings new) uid t
 table_lost core new uid t p f h started is = rw (ap bindings is ∙ bindings_same core f Free (sym (ap bound_page started))) h
 

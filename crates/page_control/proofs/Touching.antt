@@ -1,5 +1,6 @@
 -- A call that concerns one page of a segment at its home, and what it leaves to all other pages.
-use Rattle.std.proofs.Common.{◌≡◌, ◌≢◌, ℕ, ◌<◌, true, false, List, [], length, Option, None, Some, refl, sym, ap, ◌∙◌, arith, get_or, set, is_some, inl, inr, subst}
+use Rattle.std.proofs.Common.{◌≡◌, ◌≢◌, ℕ, true, false, List, [], length, Option, None, Some, refl, sym, ap, ◌∙◌, arith, get_or, set, is_some, inl, inr}
+use Rattle.std.proofs.Common.{subst}
 use Rattle.std.specs.List.{position}
 use Rattle.std.proofs.lemmas.List.{get_or-set_other}
 use Rattle.std.proofs.lemmas.List.Quantifiers.{position-Some}
@@ -9,15 +10,14 @@ use Rattle.core_map.specs.declared.Frame.TheVariants.{Free}
 use Rattle.core_map.specs.CoreMap.{Core, frame_at, with_frame, is_modified, bound_page}
 use Rattle.mword.specs.Words.{AreZero}
 use Rattle.page_table.specs.declared.Ptw.{Ptw}
-use Rattle.page_table.specs.PageTable.{ptw_at}
 use Rattle.vtoc.specs.Vtoc.{Entry, record_at}
 use Rattle.page_control.specs.declared.Home.{Home}
 use Rattle.page_control.specs.Plain.{Plain, bindings, binding_at, frame_in, words_in, disk_of, filed}
-use Rattle.page_control.specs.Tied.{vtoc_in, frame_of, uid_at, map_at, IsTableOf, IsMapOf, AreFiled, IsInFrame}
-use Rattle.page_control.specs.Picture.{is_binding, words_filed, words_held, words_of_page, words_at, words_out, is_filed_at, is_stored, AreHomes, KeepsWords}
+use Rattle.page_control.specs.Tied.{vtoc_in, uid_at, map_at, IsTableOf, IsMapOf, AreFiled, IsInFrame}
+use Rattle.page_control.specs.Picture.{is_binding, words_filed, words_held, words_of_page, words_at, words_out, is_filed_at, is_stored, KeepsWords}
 use Rattle.page_control.specs.Ties.{IsTied, KeepsOthers}
-use Rattle.page_control.proofs.Facts.{binding_is, bindings_with}
-use Rattle.page_control.proofs.Ties.{not_none, number_of, frame_same}
+use Rattle.page_control.proofs.Facts.{bindings_with}
+use Rattle.page_control.proofs.Ties.{not_none, number_of}
 use Rattle.page_control.proofs.Firsts.{position_kept}
 use Rattle.page_control.proofs.Pictures.{uid_part, off_and_on, off_from, filed_same, bound_now, in_frame_kept}
 use Rattle.page_control.proofs.Places.{refile, map_refiled, maps_refiled, uids_refiled, one_home, one_uid, same_or_other}
@@ -63,7 +63,8 @@ refiles s now uid p f home frame place core was own words disks vtocs used old f
   uids = λ h. ap (λ (v : List (List (Option Entry))). uid_at v h) vtocs ∙ uids_refiled s.vtocs uid p place home h used;
   maps = λ h n. ap (λ (v : List (List (Option Entry))). map_at v h) vtocs ∙ maps_refiled s.vtocs uid p place home h used n;
   rest = λ q n. ap (λ (v : List (List (Option Entry))). get_or (map_at v home) q None) vtocs
-      ∙ ap (λ (places : List (Option ℕ)). get_or places q None) (map_refiled s.vtocs uid p place home used) ∙ get_or-set_other (map_at s.vtocs home) p q place None n;
+      ∙ ap (λ (places : List (Option ℕ)). get_or places q None) (map_refiled s.vtocs uid p place home used)
+      ∙ get_or-set_other (map_at s.vtocs home) p q place None n;
   used = used;
   old = old;
   filed = filed;
@@ -158,7 +159,8 @@ pub clean_other : {s now : Plain} {uid : ℕ} {home : Home} {p f : ℕ} {frame :
 clean_other {s = s} {now = now} {f = f} {frame = frame} t u h g q used other clean off at =
     elim (bound_now (bindings s.core) f (bound_page frame) g (u, q) (sym (ap (λ (those : List (Option (ℕ × ℕ))). binding_at those g) (binds t)) ∙ at)) [
       | inl here ↦ absurd (other (t.own u q here.1).0 (t.own u q here.1).1)
-      | inr there ↦ (let same : frame_in now g ≡ frame_in s g = ap (λ (c : Core). frame_at c g) t.core ∙ get_or-set_other s.core.frames f g frame Free there.0 in
+      | inr there ↦ (let same : frame_in now g ≡ frame_in s g = ap (λ (c : Core). frame_at c g) t.core
+          ∙ get_or-set_other s.core.frames f g frame Free there.0 in
           t.words g there.0 ∙ clean (sym (ap is_modified same) ∙ off) there.1 ∙ sym (out_other t u h q used other))
     ]
 
@@ -210,7 +212,8 @@ others_of {s = s} {uid = uid} {p = p} {f = f} {frame = frame} t = record {
 }
 
 -- where the page itself is in order, so is its segment
-pub tie_own : {s now : Plain} {uid : ℕ} {home : Home} {p f : ℕ} {frame : Frame} → Touches s now uid home p f frame → (table those : List Ptw) → IsTied s uid home table
+pub tie_own : {s now : Plain} {uid : ℕ} {home : Home} {p f : ℕ} {frame : Frame} → Touches s now uid home p f frame → (table those : List Ptw)
+    → IsTied s uid home table
     → length those ≡ length table → IsTableOf (bindings now.core) uid those → IsMapOf (map_at now.vtocs home) those
     → ((g : ℕ) → is_modified (frame_in now g) ≡ false → binding_at (bindings now.core) g ≡ Some (uid, p) → words_in now g ≡ words_out now home p)
     → (is_stored now home p ≡ true → AreZero (words_at now uid home p) → IsInFrame (bindings now.core) uid p) → IsTied now uid home those

@@ -1,11 +1,10 @@
 -- What a turn of the clock keeps of the frames.
 use Rattle.std.proofs.Common.{◌≡◌, ℕ, ◌<◌, true, false, List, length, Option, None, Some, refl, sym, ap, ◌∙◌, arith, inl, inr}
-use Rattle.std.proofs.Math.ListN.{get_or-map}
 use Rattle.std.proofs.lemmas.Bool.Decides.{leb_tells}
 use Rattle.std.proofs.lemmas.List.{ext_get_or, length-map}
 use Rattle.core_map.specs.declared.Frame.{Frame}
 use Rattle.core_map.specs.declared.Frame.TheVariants.{Free, Started, Bound}
-use Rattle.core_map.specs.CoreMap.{reads_of, Core, frame_at, is_bound, bound_page, started_page}
+use Rattle.core_map.specs.CoreMap.{Core, frame_at, is_bound, bound_page}
 use Rattle.core_map.specs.Clock.{IsClockChoice, PassesOver, frame_in, unmarked, way}
 use Rattle.page_control.specs.Plain.{bindings, binding_at}
 use Rattle.page_control.proofs.Facts.{binding_is, bound_from_page, within_from}
@@ -20,14 +19,16 @@ bound_inside core f bound = within_from core.frames f Free (λ free. bound_not_f
 pub inside_from : (core : Core) (f : ℕ) (y : ℕ × ℕ) → binding_at (bindings core) f ≡ Some y → f < length core.frames
 inside_from core f y at = bound_inside core f (bound_from_page (frame_at core f) y.0 y.1 (sym (binding_is core f) ∙ at))
 
-kept_turned : {X : Type 0} (t : Frame → X) (old : Core) (frames : List Frame) (f i : ℕ) → ((frame : Frame) → t (unmarked frame) ≡ t frame) → PassesOver old frames f
+kept_turned : {X : Type 0} (t : Frame → X) (old : Core) (frames : List Frame) (f i : ℕ) → ((frame : Frame) → t (unmarked frame) ≡ t frame)
+    → PassesOver old frames f
     → i < length old.frames → t (frame_in frames i) ≡ t (frame_at old i)
 kept_turned t old frames f i same over lt = elim (leb_tells (way (length old.frames) old.hand f) (way (length old.frames) old.hand i)) [
   | inl far ↦ ap t (over.others i lt far.1)
   | inr near ↦ ap t (over.passed i lt near.1) ∙ same (frame_at old i)
 ]
 
-pub kept_chosen : {X : Type 0} (t : Frame → X) (old new : Core) (f i : ℕ) → ((frame : Frame) → t (unmarked frame) ≡ t frame) → IsClockChoice old new f → i < length old.frames
+pub kept_chosen : {X : Type 0} (t : Frame → X) (old new : Core) (f i : ℕ) → ((frame : Frame) → t (unmarked frame) ≡ t frame) → IsClockChoice old new f
+    → i < length old.frames
     → t (frame_at new i) ≡ t (frame_at old i)
 kept_chosen t old new f i same choice lt = elim choice.turn [
   | inl over ↦ kept_turned t old new.frames f i same over lt
@@ -48,4 +49,3 @@ bindings_chosen old new f choice =
     (λ i lt. (let long : length (bindings new) ≡ length new.frames = length-map new.frames bound_page in
     let inside : i < length old.frames = omega (arith, lt, long, choice.count) in
     binding_is new i ∙ kept_chosen bound_page old new f i page_unmarked choice inside ∙ sym (binding_is old i)))
-

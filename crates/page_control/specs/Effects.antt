@@ -1,5 +1,6 @@
 -- What each call of page control does (Bensoussan, Clingen and Daley 1972).
-use Rattle.std.specs.Prelude.{◌≡◌, ◌⊎◌, ℕ, ◌-◌, List, [], ◌∷◌, ◌++◌, drop, Bool, true, false, if◌then◌else◌, Option, None, Some, Result, Ok, Err, replicate, take, slice_set}
+use Rattle.std.specs.Prelude.{◌≡◌, ◌⊎◌, ℕ, ◌-◌, List, [], ◌∷◌, ◌++◌, drop, Bool, true, false, if◌then◌else◌, Option, None, Some, Result, Ok, Err, replicate}
+use Rattle.std.specs.Prelude.{take, slice_set}
 use Rattle.bitmap.specs.Bitmap.{least_free}
 use Rattle.core_map.specs.declared.Frame.{Frame}
 use Rattle.core_map.specs.declared.Frame.TheVariants.{Free, Bound}

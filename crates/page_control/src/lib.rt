@@ -1,16 +1,17 @@
 //! Page control: pages move between the frames of core and the records of volumes.
 //!
 //! A page of a segment is in a frame, or on a record of its volume, or nowhere where all its words are 0 (Bensoussan,
-//! Clingen and Daley 1972). `Pages` has the core map, the words in the frames, and the volumes with their file maps. Page
-//! tables are the callers': a call takes the table that it concerns, and asks that it agree with the frames and with the
-//! file map.
+//! Clingen and Daley 1972). `Pages` has the core map, the words in the frames, and the volumes with their file maps.
+//! Page tables are the callers': a call takes the table that it concerns, and asks that it agree with the frames and
+//! with the file map.
 //!
-//! Costs: a call finds frames, words, records and places of file maps by their numbers, and walks over none of them but
-//! in `choose`, and in `erase`, which reads the 256 places of one file map. `end_in` costs one read of a drive, `evict`
-//! one write at most. None but `new` takes memory.
+//! Costs: a call finds frames, words, records and places of file maps by their numbers, and walks over none of them
+//! but in `choose`, and in `erase`, which reads the 256 places of one file map. `end_in` costs one read of a drive,
+//! `evict` one write at most. None but `new` takes memory.
 //!
-//! `proofs/Laws.antt` has the laws for callers: that a page is in one frame, what the picture shows of a page by its word,
-//! and which frames `evict` may be called with.
+//! The words of a page, and whether it is stored, go by the segment and its home: while a segment moves between
+//! volumes it has two homes, and a call that concerns one of them says nothing of the other. What a call asks of a
+//! segment, and keeps of all, is one record, `IsTied`.
 #![tactic(auto)]
 
 mod pages;

@@ -1,6 +1,6 @@
 ghost use Rattle.std.specs.Prelude.{◌≡◌, ◌≢◌, ◌+◌, ◌≤◌, ◌-◌, ◌++◌, ◌<◌, ◌↔◌, ℕ, true, false, List, Option, Some, None};
-ghost use Rattle.std.specs.Prelude.{Ok, length, take, replicate, slice_index, slice_set, All, IsTrue, IsSome, IsOk, IsErr};
-ghost use Rattle.std.specs.Prelude.{IfOk, IfSome, IfNone, OnOk, OnErr};
+ghost use Rattle.std.specs.Prelude.{Ok, length, take, replicate, slice_index, slice_set, All, IsTrue, IsSome};
+ghost use Rattle.std.specs.Prelude.{IsOk, IsErr, IfOk, IfSome, IfNone, OnOk, OnErr};
 ghost use Rattle.std.specs.List.{list_any};
 ghost use Rattle.core_map.specs.declared.Frame.TheVariants.{Free, Started, Bound};
 ghost use Rattle.core_map.specs.CoreMap.{reads_of, frame_at, with_frame, is_bound, is_modified};
@@ -14,16 +14,17 @@ ghost use Rattle.volumes.specs.Volumes.{KeepsTables};
 ghost use Rattle.page_control.specs.Plain.{Paging, Plain, plain, words_in, number_in, flags_of, vtoc_of, bindings};
 ghost use Rattle.page_control.specs.Plain.{disk_of, entry_of, filed, record_of, uid_of_home};
 ghost use Rattle.page_control.specs.Effects.{framed, erased, word_put, referred, cut, unstored, dropped, saved, filled};
-ghost use Rattle.page_control.specs.Effects.{after_evict, after_read, after_create, after_asked, words_left, words_here};
-ghost use Rattle.page_control.specs.Effects.{NeedsNoWrite};
+ghost use Rattle.page_control.specs.Effects.{after_evict, after_read, after_create, after_asked, words_left};
+ghost use Rattle.page_control.specs.Effects.{words_here, NeedsNoWrite};
 ghost use Rattle.page_control.specs.Steps.{HasLeft, HasRead, HasCreated, HasAsked};
 ghost use Rattle.page_control.specs.Erasing.{IsPartErased};
 ghost use Rattle.page_control.specs.Picture.{words_at, words_out, is_stored, is_kept, changed_page};
 ghost use Rattle.page_control.specs.Picture.{KeepsWords, ChangesWords, ChangesStored};
 ghost use Rattle.page_control.specs.Counts.{taken, used, one_more, one_less, taken_after, KeepsCounts};
 ghost use Rattle.page_control.specs.Drives.{CallsDrive};
-ghost use Rattle.page_control.specs.Tied.{IsTableOf, HasNoFrame, IsMapOf, AreFiled, IsNotStarted, IsBoundOnce, IsBoundTo};
-ghost use Rattle.page_control.specs.Tied.{IsInFrame, IsBlank, uid_at, map_at, frame_of, uid_in, is_away, is_out};
+ghost use Rattle.page_control.specs.Tied.{IsTableOf, HasNoFrame, IsMapOf, AreFiled, IsNotStarted, IsBoundOnce};
+ghost use Rattle.page_control.specs.Tied.{IsBoundTo, IsInFrame, IsBlank};
+ghost use Rattle.page_control.specs.Tied.{uid_at, map_at, frame_of, uid_in, is_away, is_out};
 ghost use Rattle.page_control.specs.Ties.{IsTied, IsSeen, KeepsOthers, KeepsTies};
 ghost use Rattle.page_control.specs.declared.Home.{Home};
 
@@ -59,8 +60,11 @@ impl<D: Drive> Pages<D> {
     /// As many free frames, over these volumes. `NoMemory` is want of memory. It takes 8 KiB for each frame. (Source:
     /// Bensoussan, Clingen and Daley 1972.)
     pub fn new(alloc: Global, frames: u32, volumes: Volumes<D>) -> Result<Pages<D>, NoMemory>
-        ensures { IfOk result (λ s. s ≡ record { core = record { frames = replicate frames Free; hand = 0 };
-            frames = replicate frames (replicate 1024 0); volumes = volumes }) }
+        ensures { IfOk result (λ s. s ≡ record {
+          core = record { frames = replicate frames Free; hand = 0 };
+          frames = replicate frames (replicate 1024 0);
+          volumes = volumes;
+        }) }
     {
         let core = CoreMap::new(alloc, frames)?;
         let frames = zero_pages(alloc, frames)?;
@@ -93,8 +97,8 @@ impl<D: Drive> Pages<D> {
         &self.volumes
     }
 
-    /// The word of page `p`, which tells where the page of a segment is. It reads one word. (Source: Bensoussan, Clingen
-    /// and Daley 1972.)
+    /// The word of page `p`, which tells where the page of a segment is. It reads one word. (Source: Bensoussan,
+    /// Clingen and Daley 1972.)
     pub fn look(&self, t: &PageTable, p: u32) -> Ptw
         requires { p < length t.now }
         ensures word { result ≡ ptw_at t.now p }
@@ -104,7 +108,8 @@ impl<D: Drive> Pages<D> {
         t.get(p)
     }
 
-    /// The volumes, once the frames are given up. A page that is in no frame has the words of its record. (Source: own.)
+    /// The volumes, once the frames are given up. A page that is in no frame has the words of its record. (Source:
+    /// own.)
     pub fn into_volumes(self) -> Volumes<D>
         ensures volumes { result ≡ self.volumes }
         ensures away { (uid p : ℕ) (home : Home) → (IsInFrame (bindings self.core) uid p → ⊥)
@@ -164,7 +169,7 @@ impl<D: Drive> Pages<D> {
         ensures word { plain D.pages self.new ≡ word_put (plain D.pages self.old) f at w }
         ensures words { IsBoundOnce (bindings self.old.core) f → words_at (plain D.pages self.new)
             ≡ changed_page (words_at (plain D.pages self.old)) (uid_in (frame_at self.old.core f))
-              (number_in (frame_at self.old.core f)) (slice_set (words_in (plain D.pages self.old) f) at w) }
+            (number_in (frame_at self.old.core f)) (slice_set (words_in (plain D.pages self.old) f) at w) }
         ensures ties { KeepsTies (plain D.pages self.old) (plain D.pages self.new) }
         ensures bindings { bindings self.new.core ≡ bindings self.old.core }
         ensures reads { reads_of self.new.core ≡ reads_of self.old.core }
@@ -184,8 +189,8 @@ impl<D: Drive> Pages<D> {
         ensures cut { plain D.pages self.new ≡ cut (plain D.pages self.old) f at }
         ensures words { IsBoundOnce (bindings self.old.core) f → words_at (plain D.pages self.new)
             ≡ changed_page (words_at (plain D.pages self.old)) (uid_in (frame_at self.old.core f))
-              (number_in (frame_at self.old.core f))
-              (take at (words_in (plain D.pages self.old) f) ++ replicate (1024 - at) 0) }
+            (number_in (frame_at self.old.core f))
+            (take at (words_in (plain D.pages self.old) f) ++ replicate (1024 - at) 0) }
         ensures ties { KeepsTies (plain D.pages self.old) (plain D.pages self.new) }
         ensures bindings { bindings self.new.core ≡ bindings self.old.core }
         ensures reads { reads_of self.new.core ≡ reads_of self.old.core }
@@ -228,8 +233,10 @@ impl<D: Drive> Pages<D> {
         ensures drives { self.new.volumes.drives ≡ self.old.volumes.drives }
 
         // What becomes of homes. A table of no page is that of the segment, where no frame has a page of it.
-        ensures home { IfSome result (λ e. uid_at self.new.volumes.vtocs (record { volume = volume; entry = e }) ≡ Some uid) }
-        ensures homes { (u : ℕ) (h : Home) → uid_at self.old.volumes.vtocs h ≡ Some u → uid_at self.new.volumes.vtocs h ≡ Some u }
+        ensures home { IfSome result
+            (λ e. uid_at self.new.volumes.vtocs (record { volume = volume; entry = e }) ≡ Some uid) }
+        ensures homes { (u : ℕ) (h : Home) → uid_at self.old.volumes.vtocs h ≡ Some u
+            → uid_at self.new.volumes.vtocs h ≡ Some u }
         ensures uids { (other : Home) → IfSome result (λ e. other ≢ record { volume = volume; entry = e })
             → uid_at self.new.volumes.vtocs other ≡ uid_at self.old.volumes.vtocs other }
         ensures tie { IfSome result (λ e. (words : List Ptw) → IsBlank words → HasNoFrame (bindings self.old.core) uid
@@ -245,13 +252,14 @@ impl<D: Drive> Pages<D> {
         ensures stored { is_stored (plain D.pages self.new) ≡ is_stored (plain D.pages self.old) }
         ensures zeros { IfSome result (λ e. (p : ℕ) → HasNoFrame (bindings self.old.core) uid
             → words_at (plain D.pages self.new) uid (record { volume = volume; entry = e }) p ≡ replicate 1024 0) }
-        ensures used { IfSome result (λ e. used self.new.volumes.vtocs ≡ one_more (used self.old.volumes.vtocs) volume) }
+        ensures used { IfSome result
+            (λ e. used self.new.volumes.vtocs ≡ one_more (used self.old.volumes.vtocs) volume) }
     {
         self.ask(volume, uid)
     }
 
-    /// Gives back each record that the file map at a home names, and frees the entry. It reads each of the 256 places of
-    /// the file map. (Source: Organick 1972.)
+    /// Gives back each record that the file map at a home names, and frees the entry. It reads each of the 256 places
+    /// of the file map. (Source: Organick 1972.)
     pub fn erase(&mut self, home: Home)
         requires volume { home.volume < length self.old.volumes.drives }
         requires home { uid_at self.old.volumes.vtocs home ≡ Some (uid_of_home (plain D.pages self.old) home) }
@@ -269,7 +277,7 @@ impl<D: Drive> Pages<D> {
         ensures ties { (uid : ℕ) (other : Home) (words : List Ptw) → other ≢ home
             → IsTied (plain D.pages self.old) uid other words → IsTied (plain D.pages self.new) uid other words }
 
-        // What becomes of the picture: no page is stored at this home, and those of a segment that has no frame are zeros.
+        // What becomes of the picture: no page is stored at this home, and a segment without a frame is all zeros.
         ensures stored { (p : ℕ) → is_stored (plain D.pages self.new) home p ≡ false }
         ensures zeros { (uid p : ℕ) → HasNoFrame (bindings self.old.core) uid
             → words_at (plain D.pages self.new) uid home p ≡ replicate 1024 0 }
@@ -280,7 +288,8 @@ impl<D: Drive> Pages<D> {
         self.erase_all(home);
     }
 
-    /// Notes that page `p` of segment `uid`, which is on a record, is being read into the free frame `f`. (Source: own.)
+    /// Notes that page `p` of segment `uid`, which is on a record, is being read into the free frame `f`. (Source:
+    /// own.)
     #[tactic(auto, using(crate::proofs::Facts::bindings_started, std::proofs::lemmas::Grind::common_steps))]
     pub fn start_in(&mut self, t: &PageTable, uid: u32, p: u32, f: u32)
         requires page { p < length t.now }
@@ -300,8 +309,8 @@ impl<D: Drive> Pages<D> {
     }
 
     /// Reads page `p` of segment `uid` into the frame `f` that was started for it, and binds the frame to it. `Failed`
-    /// comes only where the faults of its drive rose; `f` is free then, and the rest as before. It costs one read of the
-    /// drive. (Source: Bensoussan, Clingen and Daley 1972.)
+    /// comes only where the faults of its drive rose; `f` is free then, and the rest as before. It costs one read of
+    /// the drive. (Source: Bensoussan, Clingen and Daley 1972.)
     pub fn end_in(
         &mut self,
         t: &mut PageTable,
@@ -324,7 +333,8 @@ impl<D: Drive> Pages<D> {
         ensures reads { reads_of self.new.core ≡ slice_set (reads_of self.old.core) f None }
         ensures tables { KeepsTables self.old.volumes self.new.volumes }
         ensures counts { KeepsCounts (plain D.pages self.old) (plain D.pages self.new) }
-        ensures drives { CallsDrive D.plan D.places D.faults self.old.volumes.drives self.new.volumes.drives home.volume result }
+        ensures drives { CallsDrive D.plan D.places D.faults self.old.volumes.drives self.new.volumes.drives
+            home.volume result }
     {
         self.read_at(t, uid, p, home, f)
     }
@@ -359,7 +369,8 @@ impl<D: Drive> Pages<D> {
         ensures stored { OnOk result (ChangesStored (plain D.pages self.old) (plain D.pages self.new) home p true) }
         ensures bound { OnOk result (bindings self.new.core ≡ slice_set (bindings self.old.core) f (Some (uid, p))) }
         ensures reads { reads_of self.new.core ≡ reads_of self.old.core }
-        ensures taken { OnOk result (taken self.new.volumes.records ≡ one_more (taken self.old.volumes.records) home.volume) }
+        ensures taken { OnOk result
+            (taken self.new.volumes.records ≡ one_more (taken self.old.volumes.records) home.volume) }
         ensures counts { KeepsCounts (plain D.pages self.old) (plain D.pages self.new) }
         ensures drives { self.new.volumes.drives ≡ self.old.volumes.drives }
     {
@@ -397,8 +408,10 @@ impl<D: Drive> Pages<D> {
         ensures word { t.new ≡ words_left t.old (number_in (frame_at self.old.core f))
             (record_of (plain D.pages self.old) home (number_in (frame_at self.old.core f))) result }
         ensures tie { IsTied (plain D.pages self.new) (uid_in (frame_at self.old.core f)) home t.new }
-        ensures others { KeepsOthers (plain D.pages self.old) (plain D.pages self.new) (uid_in (frame_at self.old.core f)) home }
-        ensures words { KeepsWords (plain D.pages self.old) (plain D.pages self.new) (uid_in (frame_at self.old.core f)) home }
+        ensures others { KeepsOthers (plain D.pages self.old) (plain D.pages self.new)
+            (uid_in (frame_at self.old.core f)) home }
+        ensures words { KeepsWords (plain D.pages self.old) (plain D.pages self.new)
+            (uid_in (frame_at self.old.core f)) home }
         ensures stored { IfOk result (λ left. ChangesStored (plain D.pages self.old) (plain D.pages self.new) home
             (number_in (frame_at self.old.core f)) (is_kept left)) }
         ensures freed { OnOk result (bindings self.new.core ≡ slice_set (bindings self.old.core) f None) }
@@ -408,7 +421,8 @@ impl<D: Drive> Pages<D> {
         ensures counts { KeepsCounts (plain D.pages self.old) (plain D.pages self.new) }
         ensures no_call { NeedsNoWrite (plain D.pages self.old) f
             → IsOk result × (self.new.volumes.drives ≡ self.old.volumes.drives) }
-        ensures drives { CallsDrive D.plan D.places D.faults self.old.volumes.drives self.new.volumes.drives home.volume result }
+        ensures drives { CallsDrive D.plan D.places D.faults self.old.volumes.drives self.new.volumes.drives
+            home.volume result }
     {
         self.leave(t, home, f)
     }
@@ -495,7 +509,8 @@ impl<D: Drive> Pages<D> {
         requires tie { IsTied (plain D.pages self.old) uid home t.old }
         ensures read { HasRead (plain D.pages self.old) (plain D.pages self.new) t.old t.new uid home p f result }
         ensures tables { KeepsTables self.old.volumes self.new.volumes }
-        ensures drives { CallsDrive D.plan D.places D.faults self.old.volumes.drives self.new.volumes.drives home.volume result }
+        ensures drives { CallsDrive D.plan D.places D.faults self.old.volumes.drives self.new.volumes.drives
+            home.volume result }
     {
         let r = record_out(t, p);
         prove!(r < self.volumes.size(home.volume));
@@ -535,7 +550,8 @@ impl<D: Drive> Pages<D> {
         requires volume { home.volume < length self.old.volumes.drives }
         requires short { length (flags_of (plain D.pages self.old) home.volume) < 65536 }
         requires home { uid_at self.old.volumes.vtocs home ≡ Some uid }
-        ensures created { HasCreated (plain D.pages self.old) (plain D.pages self.new) t.old t.new uid home p f at w result }
+        ensures created { HasCreated (plain D.pages self.old) (plain D.pages self.new) t.old t.new uid home p f at w
+            result }
         ensures drives { self.new.volumes.drives ≡ self.old.volumes.drives }
     {
         match self.volumes.withdraw(home.volume) {
@@ -561,7 +577,8 @@ impl<D: Drive> Pages<D> {
             (number_in (frame_at self.old.core f)) f result }
         ensures no_call { NeedsNoWrite (plain D.pages self.old) f
             → IsOk result × (self.new.volumes.drives ≡ self.old.volumes.drives) }
-        ensures drives { CallsDrive D.plan D.places D.faults self.old.volumes.drives self.new.volumes.drives home.volume result }
+        ensures drives { CallsDrive D.plan D.places D.faults self.old.volumes.drives self.new.volumes.drives
+            home.volume result }
     {
         let p = self.page_in(f);
         let r = self.record_in(home, p);
@@ -579,8 +596,8 @@ impl<D: Drive> Pages<D> {
         Ok(Left::Kept)
     }
 
-    /// Binds the free frame `f` to page `p` of segment `uid`, all zeros but word `at`, which becomes `w`. Both marks are
-    /// on then.
+    /// Binds the free frame `f` to page `p` of segment `uid`, all zeros but word `at`, which becomes `w`. Both marks
+    /// are on then.
     #[tactic(auto, using(crate::proofs::Facts::bound_and_marked, crate::proofs::Facts::all_cleared, std::proofs::lemmas::Grind::common_steps))]
     fn fill(&mut self, uid: u32, p: u32, f: u32, at: u32, w: Word)
         requires frame { f < length self.old.core.frames }
@@ -672,8 +689,10 @@ impl<D: Drive> Pages<D> {
         ensures ok { OnOk result (plain D.pages self.new ≡ saved (plain D.pages self.old) f volume r) }
         ensures err { OnErr result (plain D.pages self.new ≡ plain D.pages self.old) }
         ensures sure { is_modified (frame_at self.old.core f) ≡ false → IsOk result }
-        ensures no_call { is_modified (frame_at self.old.core f) ≡ false → self.new.volumes.drives ≡ self.old.volumes.drives }
-        ensures drives { CallsDrive D.plan D.places D.faults self.old.volumes.drives self.new.volumes.drives volume result }
+        ensures no_call { is_modified (frame_at self.old.core f) ≡ false
+            → self.new.volumes.drives ≡ self.old.volumes.drives }
+        ensures drives { CallsDrive D.plan D.places D.faults self.old.volumes.drives self.new.volumes.drives
+            volume result }
     {
         if self.core.modified(f) {
             self.volumes

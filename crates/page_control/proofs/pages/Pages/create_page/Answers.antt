@@ -1,5 +1,6 @@
 use Rattle.page_control.proofs.Facts.{tied_volume}
-use Rattle.page_control.proofs.Calls.{Creates, tie_created, others_of_created, words_created, stored_created, bound_created, starts_created, taken_created, counts_of_created}
+use Rattle.page_control.proofs.Calls.{tie_created, others_of_created, words_created, stored_created, bound_created, starts_created, taken_created}
+use Rattle.page_control.proofs.Calls.{counts_of_created}
 use Rattle.page_control.proofs.pages.Pages.create_page.Goals as goal
 
 pub create_at-requires-clause-volume : goal.create_at-requires-clause-volume
@@ -7,40 +8,96 @@ create_at-requires-clause-volume g c = tied_volume g.D.Drive.pages c.args.self.n
 
 pub returns-clause-tie : goal.returns-clause-tie
 returns-clause-tie g c =
-    tie_created c.create_at.result (record { tie = c.requires.tie; page = c.requires.page; null = c.requires.null; frame = c.requires.frame; free = c.requires.free;
-      made = c.create_at.ensures.created })
+    tie_created c.create_at.result
+    (record {
+      tie = c.requires.tie;
+      page = c.requires.page;
+      null = c.requires.null;
+      frame = c.requires.frame;
+      free = c.requires.free;
+      made = c.create_at.ensures.created;
+    })
 
 pub returns-clause-others : goal.returns-clause-others
 returns-clause-others g c =
-    others_of_created c.create_at.result (record { tie = c.requires.tie; page = c.requires.page; null = c.requires.null; frame = c.requires.frame; free = c.requires.free;
-      made = c.create_at.ensures.created })
+    others_of_created c.create_at.result
+    (record {
+      tie = c.requires.tie;
+      page = c.requires.page;
+      null = c.requires.null;
+      frame = c.requires.frame;
+      free = c.requires.free;
+      made = c.create_at.ensures.created;
+    })
 
 pub returns-clause-words : goal.returns-clause-words
 returns-clause-words g c =
-    words_created c.create_at.result (record { tie = c.requires.tie; page = c.requires.page; null = c.requires.null; frame = c.requires.frame; free = c.requires.free;
-      made = c.create_at.ensures.created })
+    words_created c.create_at.result
+    (record {
+      tie = c.requires.tie;
+      page = c.requires.page;
+      null = c.requires.null;
+      frame = c.requires.frame;
+      free = c.requires.free;
+      made = c.create_at.ensures.created;
+    })
 
 pub returns-clause-stored : goal.returns-clause-stored
 returns-clause-stored g c =
-    stored_created c.create_at.result (record { tie = c.requires.tie; page = c.requires.page; null = c.requires.null; frame = c.requires.frame; free = c.requires.free;
-      made = c.create_at.ensures.created })
+    stored_created c.create_at.result
+    (record {
+      tie = c.requires.tie;
+      page = c.requires.page;
+      null = c.requires.null;
+      frame = c.requires.frame;
+      free = c.requires.free;
+      made = c.create_at.ensures.created;
+    })
 
 pub returns-clause-bound : goal.returns-clause-bound
 returns-clause-bound g c =
-    bound_created c.create_at.result (record { tie = c.requires.tie; page = c.requires.page; null = c.requires.null; frame = c.requires.frame; free = c.requires.free;
-      made = c.create_at.ensures.created })
+    bound_created c.create_at.result
+    (record {
+      tie = c.requires.tie;
+      page = c.requires.page;
+      null = c.requires.null;
+      frame = c.requires.frame;
+      free = c.requires.free;
+      made = c.create_at.ensures.created;
+    })
 
 pub returns-clause-reads : goal.returns-clause-reads
 returns-clause-reads g c =
-    starts_created c.create_at.result (record { tie = c.requires.tie; page = c.requires.page; null = c.requires.null; frame = c.requires.frame; free = c.requires.free;
-      made = c.create_at.ensures.created })
+    starts_created c.create_at.result
+    (record {
+      tie = c.requires.tie;
+      page = c.requires.page;
+      null = c.requires.null;
+      frame = c.requires.frame;
+      free = c.requires.free;
+      made = c.create_at.ensures.created;
+    })
 
 pub returns-clause-taken : goal.returns-clause-taken
 returns-clause-taken g c =
-    taken_created c.create_at.result (record { tie = c.requires.tie; page = c.requires.page; null = c.requires.null; frame = c.requires.frame; free = c.requires.free;
-      made = c.create_at.ensures.created })
+    taken_created c.create_at.result
+    (record {
+      tie = c.requires.tie;
+      page = c.requires.page;
+      null = c.requires.null;
+      frame = c.requires.frame;
+      free = c.requires.free;
+      made = c.create_at.ensures.created;
+    })
 
 pub returns-clause-counts : goal.returns-clause-counts
 returns-clause-counts g c =
-    counts_of_created c.create_at.result (record { tie = c.requires.tie; page = c.requires.page; null = c.requires.null; frame = c.requires.frame; free = c.requires.free;
-      made = c.create_at.ensures.created })
+    counts_of_created c.create_at.result
+    (record {
+      tie = c.requires.tie;
+      page = c.requires.page;
+      null = c.requires.null;
+      frame = c.requires.frame;
+      free = c.requires.free;
+      made = c.create_at.ensures.created;
+    })

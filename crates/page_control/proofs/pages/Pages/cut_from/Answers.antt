@@ -19,5 +19,6 @@ returns-clause-words g c = λ once.
 pub returns-clause-ties : goal.returns-clause-ties
 returns-clause-ties g c =
     ties_marked (plain g.D.Drive.pages c.args.self.now) _
-    (marks_written (plain g.D.Drive.pages c.args.self.now) _ c.args.f c.clear_from.new.self (search rules) (search (rules, bindings_referred)) (grind (arith, common_steps))
+    (marks_written (plain g.D.Drive.pages c.args.self.now) _ c.args.f c.clear_from.new.self (search rules) (search (rules, bindings_referred))
+    (grind (arith, common_steps))
     (search rules) (search rules) (search rules) c.requires.bound)

@@ -1,4 +1,4 @@
-use Rattle.std.proofs.Common.{◌≡◌, ◌≤◌, ◌∙◌, arith, ap, sym, Some, length}
+use Rattle.std.proofs.Common.{◌∙◌, arith, ap, sym, Some}
 use Rattle.page_control.specs.Plain.{plain}
 use Rattle.page_control.proofs.Facts.{tied_volume, tied_filed}
 use Rattle.page_control.proofs.Calls.{stored_away}
@@ -11,7 +11,8 @@ pub record_in-r-requires-clause-volume : goal.record_in-r-requires-clause-volume
 record_in-r-requires-clause-volume g c = tied_volume g.D.Drive.pages c.args.self.now _ _ _ c.requires.tie
 
 pub record_in-r-requires-clause-filed : goal.record_in-r-requires-clause-filed
-record_in-r-requires-clause-filed g c = tied_filed (plain g.D.Drive.pages c.args.self.now) _ c.args.home c.args.t.now c.args.p c.requires.tie (stored_away _ c.requires.away)
+record_in-r-requires-clause-filed g c = tied_filed (plain g.D.Drive.pages c.args.self.now) _ c.args.home c.args.t.now c.args.p c.requires.tie
+    (stored_away _ c.requires.away)
 
 pub unstore-requires-clause-page : goal.unstore-requires-clause-page
 unstore-requires-clause-page g c = (let pages = c.requires.tie.pages in omega (arith, pages, c.requires.page))
@@ -21,4 +22,5 @@ unstore-requires-clause-volume g c = tied_volume g.D.Drive.pages c.args.self.now
 
 pub unstore-requires-clause-filed : goal.unstore-requires-clause-filed
 unstore-requires-clause-filed g c =
-    tied_filed (plain g.D.Drive.pages c.args.self.now) _ c.args.home c.args.t.now c.args.p c.requires.tie (stored_away _ c.requires.away) ∙ ap Some (sym c.record_in-r.ensures.record)
+    tied_filed (plain g.D.Drive.pages c.args.self.now) _ c.args.home c.args.t.now c.args.p c.requires.tie (stored_away _ c.requires.away)
+    ∙ ap Some (sym c.record_in-r.ensures.record)

@@ -1,4 +1,4 @@
-use Rattle.page_control.proofs.Calls.{Evicts, tie_left, others_left, words_of_left, stored_left, freed_left, starts_left, taken_left, counts_left}
+use Rattle.page_control.proofs.Calls.{tie_left, others_left, words_of_left, stored_left, freed_left, starts_left, taken_left, counts_left}
 use Rattle.page_control.proofs.pages.Pages.evict.Goals as goal
 
 pub returns-clause-tie : goal.returns-clause-tie

@@ -1,4 +1,4 @@
-use Rattle.std.proofs.Common.{◌≡◌, ◌≤◌, ◌∙◌, List, ℕ, true, rules, arith, ap, sym, refl, Some, length, inl, inr}
+use Rattle.std.proofs.Common.{◌≡◌, ◌∙◌, List, ℕ, rules, arith, ap, refl, length, inl, inr}
 use Rattle.std.proofs.lemmas.Grind.{common_steps}
 use Rattle.page_control.specs.Plain.{plain, words_in}
 use Rattle.page_control.specs.Tied.{has_record}

@@ -1,6 +1,5 @@
-use Rattle.std.proofs.Common.{◌≡◌, ◌<◌, ◌∙◌, rules, arith, ap, sym, refl, length}
+use Rattle.std.proofs.Common.{◌≡◌, ◌<◌, rules, arith, refl, length}
 use Rattle.std.proofs.lemmas.Grind.{common_steps}
-use Rattle.page_table.specs.PageTable.{ptw_at}
 use Rattle.page_control.specs.Plain.{plain, record_of, flags_of}
 use Rattle.page_control.proofs.Facts.{tied_volume, used_within}
 use Rattle.page_control.proofs.Calls.{out_record}
@@ -25,7 +24,8 @@ read_page-requires-clause-volume g c =
 
 pub returns-in-Ok-clause-read : goal.returns-in-Ok-clause-read
 returns-in-Ok-clause-read g c =
-    let r : record_of (plain g.D.Drive.pages c.args.self.now) c.args.home c.args.p ≡ c.record_out-r.result = out_record _ _ _ _ _ _ c.requires.tie c.record_out-r.ensures in
+    let r : record_of (plain g.D.Drive.pages c.args.self.now) c.args.home c.args.p ≡ c.record_out-r.result = out_record _ _ _ _ _ _ c.requires.tie
+    c.record_out-r.ensures in
     record {
       effect = rw r (grind (arith, common_steps));
       word = search rules;
