@@ -1,6 +1,6 @@
 -- The segments as they begin.
-use Rattle.std.proofs.Common.{◌≡◌, ◌≢◌, ◌⊎◌, ℕ, zero, suc, ◌+◌, ◌-◌, ◌≤◌, ◌^◌, ◌<◌, Bool, true, false, cond, List, [], ◌∷◌, length, Option, Some, None, refl, sym, ap, ◌∙◌, arith, inl, inr, get_or, replicate, is_some, map, sum_by, count_by, subst}
-use Rattle.std.specs.Prelude.{IfSome}
+use Rattle.std.proofs.Common.{◌≡◌, ◌≢◌, ◌⊎◌, ℕ, zero, suc, ◌+◌, ◌-◌, ◌^◌, ◌<◌, Bool, true, false, cond, List, [], ◌∷◌, length, Option, Some, None, refl}
+use Rattle.std.proofs.Common.{sym, ap, ◌∙◌, arith, inl, inr, get_or, replicate, is_some, map, sum_by, count_by, subst}
 use Rattle.std.proofs.lemmas.Bool.Decides.{leb_tells}
 use Rattle.std.proofs.lemmas.Option.{same_Some}
 use Rattle.std.proofs.lemmas.List.{get_or_past, get_or-replicate, length-replicate}
@@ -21,7 +21,7 @@ use Rattle.page_control.specs.declared.Home.{Home}
 use Rattle.page_control.specs.Plain.{Plain, Paging, plain, bindings, binding_at, vtoc_of}
 use Rattle.page_control.specs.Effects.{allocated}
 use Rattle.page_control.specs.Picture.{words_at, is_filed_at, is_stored as is_filed}
-use Rattle.page_control.specs.Tied.{vtoc_in, flags_in, has_record, uid_at, AreFiled, HasNoFrame, IsBlank}
+use Rattle.page_control.specs.Tied.{vtoc_in, flags_in, uid_at, AreFiled, HasNoFrame, IsBlank}
 use Rattle.page_control.specs.Ties.{IsTied}
 use Rattle.paged_segs.specs.Segs.{Segs, segs_of, home_of, table_at, root_home, pages_of, plan_of}
 use Rattle.paged_segs.specs.Shown.{picture, is_stored, words_by, stored_by}
@@ -116,20 +116,24 @@ pub record IsRooted (v : Vols DriveState) (old now : Plain) (frames e : ℕ) : T
   pub effect : now ≡ allocated old 0 e 1
   pub home : uid_at now.vtocs (record { volume = 0; entry = e }) ≡ Some 1
   pub uids : (other : Home) → other ≢ record { volume = 0; entry = e } → uid_at now.vtocs other ≡ uid_at old.vtocs other
-  pub tie : (words : List Ptw) → IsBlank words → HasNoFrame (bindings old.core) 1 → AreFiled old.records old.vtocs → IsTied now 1 (record { volume = 0; entry = e }) words
+  pub tie : (words : List Ptw) → IsBlank words → HasNoFrame (bindings old.core) 1 → AreFiled old.records old.vtocs
+      → IsTied now 1 (record { volume = 0; entry = e }) words
   pub zeros : (p : ℕ) → HasNoFrame (bindings old.core) 1 → words_at now 1 (record { volume = 0; entry = e }) p ≡ replicate 1024 0
 
 first_entry : (v : Vols DriveState) (old now : Plain) (frames e : ℕ) → AreFresh v → IsRooted v old now frames e → e ≡ 0
 first_entry v old now frames e fresh r =
-    same_Some e 0 (r.free ∙ ap (λ (x : List (List (Option Entry))). least_free_entry (vtoc_in x 0)) r.vtocs ∙ first_free (vtoc_in v.vtocs 0) fresh.root (fresh.free 0))
+    same_Some e 0 (r.free ∙ ap (λ (x : List (List (Option Entry))). least_free_entry (vtoc_in x 0)) r.vtocs
+    ∙ first_free (vtoc_in v.vtocs 0) fresh.root (fresh.free 0))
 
 root_tie : (v : Vols DriveState) (old now : Plain) (frames e : ℕ) → AreFresh v → IsRooted v old now frames e → IsTied now 1 root_home []
 root_tie v old now frames e fresh r =
     subst (λ (n : ℕ). IsTied now 1 (record { volume = 0; entry = n }) []) (first_entry v old now frames e fresh r)
     (r.tie [] no_pages (none_bound old frames 1 r.start) (rw (r.records, r.vtocs) (fresh_filed v fresh)))
 
-pub kept_begun : (v : Vols DriveState) (old now : Plain) (plans : List (Option (List FailLine))) (tables : List (List Ptw)) (homes : List Home) (frames e places : ℕ) → AreFresh v
-    → IsRooted v old now frames e → plans ≡ map plan_of v.drives → tables ≡ replicate places (replicate 256 Null) → places ≡ sum_by length v.vtocs → places < 2 ^ 32 - 2 → homes ≡ []
+pub kept_begun : (v : Vols DriveState) (old now : Plain) (plans : List (Option (List FailLine))) (tables : List (List Ptw)) (homes : List Home)
+    (frames e places : ℕ) → AreFresh v
+    → IsRooted v old now frames e → plans ≡ map plan_of v.drives → tables ≡ replicate places (replicate 256 Null) → places ≡ sum_by length v.vtocs
+    → places < 2 ^ 32 - 2 → homes ≡ []
     → IsKept (record { storage = now; plans = plans; tables = tables; homes = homes })
 kept_begun v old now plans tables homes frames e places fresh r sound those sum few none =
     let first : e ≡ 0 = first_entry v old now frames e fresh r in
@@ -145,13 +149,16 @@ kept_begun v old now plans tables homes frames e places fresh r sound those sum 
       owners = λ home uid owner. elim (same_or_other (record { volume = 0; entry = e }) home) [
         | inl here ↦ (let mine : 1 ≡ uid = same_Some 1 uid (sym (ap (uid_at now.vtocs) here ∙ r.home) ∙ owner) in
             root_at homes uid (sym mine) ∙ ap Some (sym (here ∙ ap (λ (n : ℕ). record { volume = 0; entry = n }) first)))
-        | inr away ↦ absurd (fresh_no_uid v home uid fresh (ap (λ (x : List (List (Option Entry))). uid_at x home) (sym r.vtocs) ∙ sym (r.uids home away) ∙ owner))
+        | inr away ↦ absurd (fresh_no_uid v home uid fresh
+            (ap (λ (x : List (List (Option Entry))). uid_at x home) (sym r.vtocs) ∙ sym (r.uids home away) ∙ owner))
       ];
-      used = (let more = ap (sum_by (count_by is_some)) put_is ∙ sum_more v.vtocs 0 0 1 fresh.root (fresh.free 0 0) in let before = all_free v.vtocs fresh.free in omega (arith, more, before, nobody));
+      used = (let more = ap (sum_by (count_by is_some)) put_is
+          ∙ sum_more v.vtocs 0 0 1 fresh.root (fresh.free 0 0) in let before = all_free v.vtocs fresh.free in omega (arith, more, before, nobody));
       places = ap length those ∙ length-replicate places (replicate 256 Null) ∙ sum ∙ sym (ap (sum_by length) put_is ∙ places_same v.vtocs 0 0 1);
       few = (let count = ap length those ∙ length-replicate places (replicate 256 Null) in omega (arith, count, few));
       lengths = λ i lt. (let count = ap length those ∙ length-replicate places (replicate 256 Null) in
-          ap (λ (all : List (List Ptw)). length (table_at all i)) those ∙ ap length (get_or-replicate places i (replicate 256 Null) [] (omega (arith, lt, count))) ∙ length-replicate 256 Null);
+          ap (λ (all : List (List Ptw)). length (table_at all i)) those
+          ∙ ap length (get_or-replicate places i (replicate 256 Null) [] (omega (arith, lt, count))) ∙ length-replicate 256 Null);
       stay = λ i p f leaving. leaves (ptw_at (table_at tables i) p) f (blank i p) leaving;
       blank = λ i p past. blank i p;
       started = λ g. ap (λ (all : List Frame). is_started (get_or all g Free)) start ∙ ap is_started (alike frames g Free);
@@ -163,7 +170,8 @@ kept_begun v old now plans tables homes frames e places fresh r sound those sum 
     leaves w f null leaving = cc
 
 -- no page is stored, and each page is zeros
-pub shown_begun : (v : Vols DriveState) (old now : Plain) (s : Segs) (frames e : ℕ) → AreFresh v → IsRooted v old now frames e → s.storage ≡ now → s.homes ≡ [] → (uid p : ℕ)
+pub shown_begun : (v : Vols DriveState) (old now : Plain) (s : Segs) (frames e : ℕ) → AreFresh v → IsRooted v old now frames e → s.storage ≡ now → s.homes ≡ []
+    → (uid p : ℕ)
     → picture s uid p ≡ replicate 1024 0
 unfolding picture
 shown_begun v old now s frames e fresh r is none uid p = rw (is, none) (by (which uid))
@@ -180,7 +188,8 @@ root_filed : (now : Plain) (p : ℕ) → IsTied now 1 root_home [] → is_filed 
 unfolding is_filed_at
 root_filed now p tie = tie.map.stored p
 
-pub stored_begun : (v : Vols DriveState) (old now : Plain) (s : Segs) (frames e : ℕ) → AreFresh v → IsRooted v old now frames e → s.storage ≡ now → s.homes ≡ [] → (uid p : ℕ)
+pub stored_begun : (v : Vols DriveState) (old now : Plain) (s : Segs) (frames e : ℕ) → AreFresh v → IsRooted v old now frames e → s.storage ≡ now
+    → s.homes ≡ [] → (uid p : ℕ)
     → is_stored s uid p ≡ false
 unfolding is_stored
 stored_begun v old now s frames e fresh r is none uid p = rw (is, none) (by (which uid))
@@ -191,7 +200,8 @@ stored_begun v old now s frames e fresh r is none uid p = rw (is, none) (by (whi
     by (inr (inr (i, at))) = ap (λ (x : Option Home). stored_by now x p) (segment_at [] uid i at ∙ home_past [] i (omega arith))
 
 -- the same in the terms in which a call's steps give it
-pub rooted : (v : Vols DriveState) (pages now : Paging DriveState) (frames e : ℕ) → pages ≡ begun_pages frames v → Some e ≡ least_free_entry (vtoc_of (plain pages_of pages) 0)
+pub rooted : (v : Vols DriveState) (pages now : Paging DriveState) (frames e : ℕ) → pages ≡ begun_pages frames v
+    → Some e ≡ least_free_entry (vtoc_of (plain pages_of pages) 0)
     → plain pages_of now ≡ allocated (plain pages_of pages) 0 e 1 → uid_at now.volumes.vtocs (record { volume = 0; entry = e }) ≡ Some 1
     → ((other : Home) → other ≢ record { volume = 0; entry = e } → uid_at now.volumes.vtocs other ≡ uid_at pages.volumes.vtocs other)
     → ((words : List Ptw) → IsBlank words → HasNoFrame (bindings pages.core) 1 → AreFiled pages.volumes.records pages.volumes.vtocs
@@ -210,19 +220,22 @@ rooted v pages now frames e start free effect home uids tie zeros = record {
   zeros = zeros;
 }
 
-pub begun_is : (v : Vols DriveState) (pages now : Paging DriveState) (frames e places : ℕ) (tables : List (List Ptw)) (homes : List Home) → AreFresh v → pages ≡ begun_pages frames v
+pub begun_is : (v : Vols DriveState) (pages now : Paging DriveState) (frames e places : ℕ) (tables : List (List Ptw)) (homes : List Home) → AreFresh v
+    → pages ≡ begun_pages frames v
     → IsRooted v (plain pages_of pages) (plain pages_of now) frames e → now.volumes.drives ≡ pages.volumes.drives
     → tables ≡ replicate places (replicate 256 Null) → places ≡ sum_by length v.vtocs → homes ≡ [] → segs_of now tables homes ≡ begun frames v
 begun_is v pages now frames e places tables homes fresh start r drives those sum none =
     let first : e ≡ 0 = first_entry v (plain pages_of pages) (plain pages_of now) frames e fresh r in
     let storage : plain pages_of now ≡ allocated (plain pages_of (begun_pages frames v)) 0 0 1 =
     r.effect ∙ ap (λ (n : ℕ). allocated (plain pages_of pages) 0 n 1) first ∙ ap (λ (x : Paging DriveState). allocated (plain pages_of x) 0 0 1) start in
-    let plans : map plan_of now.volumes.drives ≡ map plan_of v.drives = ap (map plan_of) drives ∙ ap (λ (x : Paging DriveState). map plan_of x.volumes.drives) start in
+    let plans : map plan_of now.volumes.drives ≡ map plan_of v.drives = ap (map plan_of) drives
+    ∙ ap (λ (x : Paging DriveState). map plan_of x.volumes.drives) start in
     let all : tables ≡ replicate (sum_by length v.vtocs) (replicate 256 Null) = those ∙ ap (λ (n : ℕ). replicate n (replicate 256 Null)) sum in
     λ i. record { storage = storage i; plans = plans i; tables = all i; homes = none i }
 
 -- there is an entry for the root
-pub root_room : (v : Vols DriveState) (pages : Paging DriveState) → AreFresh v → pages.volumes ≡ v → None ≡ least_free_entry (vtoc_of (plain pages_of pages) 0) → ⊥
+pub root_room : (v : Vols DriveState) (pages : Paging DriveState) → AreFresh v → pages.volumes ≡ v → None ≡ least_free_entry (vtoc_of (plain pages_of pages) 0)
+    → ⊥
 root_room v pages fresh is least =
     not_none (least_free_entry (vtoc_of (plain pages_of pages) 0)) 0 (sym least)
     (ap (λ (x : Vols DriveState). least_free_entry (vtoc_in x.vtocs 0)) is ∙ first_free (vtoc_in v.vtocs 0) fresh.root (fresh.free 0))

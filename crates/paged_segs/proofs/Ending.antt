@@ -1,16 +1,17 @@
 -- The volumes once every frame is free.
-use Rattle.std.proofs.Common.{◌≡◌, ◌≢◌, ◌≤◌, ◌⊎◌, ℕ, ◌+◌, ◌-◌, ◌<◌, Bool, true, false, List, [], length, inl, inr, Option, None, Some, refl, sym, ap, ◌∙◌, subst, arith}
+use Rattle.std.proofs.Common.{◌≡◌, ◌≢◌, ◌≤◌, ◌⊎◌, ℕ, ◌+◌, ◌-◌, ◌<◌, Bool, true, false, List, [], length, inl, inr, Option, None, Some, refl, sym, ap, ◌∙◌}
+use Rattle.std.proofs.Common.{subst, arith}
 use Rattle.core_map.specs.declared.Frame.TheVariants.{Free}
 use Rattle.core_map.specs.CoreMap.{frame_at, bound_page}
 use Rattle.mword.specs.Words.{AreZero}
 use Rattle.page_control.specs.declared.Home.{Home}
 use Rattle.page_control.specs.Plain.{Plain, bindings, binding_at}
-use Rattle.page_control.specs.Picture.{words_at, words_out, is_filed_at, is_stored as is_filed}
+use Rattle.page_control.specs.Picture.{words_at, words_out, is_stored as is_filed}
 use Rattle.page_control.specs.Tied.{uid_at, IsInFrame}
 use Rattle.page_control.specs.Ties.{IsTied}
 use Rattle.page_table.specs.declared.Ptw.{Ptw}
 use Rattle.paged_segs.specs.Segs.{Segs, home_at, home_of, table_at, root_home}
-use Rattle.paged_segs.specs.Shown.{picture, is_stored, stored_by}
+use Rattle.paged_segs.specs.Shown.{picture, is_stored}
 use Rattle.paged_segs.specs.Kept.{IsKept, AreHomed}
 use Rattle.paged_segs.proofs.Located.{binding_is, same_home, which, none_at, root_at, segment_at, segment_found}
 use Rattle.paged_segs.proofs.Showing.{picture_at, stored_at, stored_none}
@@ -22,7 +23,8 @@ pub none_bound : (s : Plain) → ((f : ℕ) → frame_at s.core f ≡ Free) → 
 none_bound s free uid p (f, at) = not_none (binding_at (bindings s.core) f) (uid, p) (binding_is s.core f ∙ ap bound_page (free f)) at
 
 -- each page is on its record
-pub words_left : (s : Segs) (home : Home) (uid p : ℕ) → IsKept s → uid_at s.storage.vtocs home ≡ Some uid → words_at s.storage uid home p ≡ words_out s.storage home p
+pub words_left : (s : Segs) (home : Home) (uid p : ℕ) → IsKept s → uid_at s.storage.vtocs home ≡ Some uid
+    → words_at s.storage uid home p ≡ words_out s.storage home p
     → picture s uid p ≡ words_out s.storage home p
 words_left s home uid p k used away = picture_at s uid p home (k.owners home uid used) ∙ away
 
@@ -30,7 +32,8 @@ pub stored_left : (s : Segs) (home : Home) (uid p : ℕ) → IsKept s → uid_at
 stored_left s home uid p k used = stored_at s uid p home (k.owners home uid used)
 
 -- and one that is stored is not all zeros
-loose : (s : Segs) (uid p : ℕ) (home : Home) (t : List Ptw) → ((f : ℕ) → frame_at s.storage.core f ≡ Free) → IsTied s.storage uid home t → home_of s.homes uid ≡ Some home
+loose : (s : Segs) (uid p : ℕ) (home : Home) (t : List Ptw) → ((f : ℕ) → frame_at s.storage.core f ≡ Free) → IsTied s.storage uid home t
+    → home_of s.homes uid ≡ Some home
     → is_stored s uid p ≡ true → AreZero (picture s uid p) → ⊥
 loose s uid p home t free tie its stored all =
     none_bound s.storage free uid p (tie.zeros p (sym (stored_at s uid p home its) ∙ stored) (subst AreZero (picture_at s uid p home its) all))
@@ -41,8 +44,11 @@ tie_there s uid home k is = by (which uid)
   where
     by : (uid ≡ 0) ⊎ ((uid ≡ 1) ⊎ ((i : ℕ) × (uid ≡ i + 2))) → (t : List Ptw) × IsTied s.storage uid home t
     by (inl nobody) = absurd (not_none (home_of s.homes uid) home (none_at s.homes uid nobody) is)
-    by (inr (inl one)) = ([], subst (λ (n : ℕ). IsTied s.storage n home []) (sym one)
-        (subst (λ (h : Home). IsTied s.storage 1 h []) (same_home root_home home (sym (root_at s.homes uid one) ∙ is)) k.root))
+    by (inr (inl one)) = (
+      [],
+      subst (λ (n : ℕ). IsTied s.storage n home []) (sym one)
+          (subst (λ (h : Home). IsTied s.storage 1 h []) (same_home root_home home (sym (root_at s.homes uid one) ∙ is)) k.root),
+    )
     by (inr (inr (i, at))) =
         let found = segment_found s.homes i home (sym (segment_at s.homes uid i at) ∙ is) in (
           table_at s.tables i,
@@ -50,7 +56,8 @@ tie_there s uid home k is = by (which uid)
               (subst (λ (h : Home). IsTied s.storage (i + 2) h (table_at s.tables i)) found.1 (k.tied i found.0)),
         )
 
-owner_of : (s : Segs) (home : Home) (uid : ℕ) → home_of s.homes uid ≡ Some home → uid ≢ 1 → (2 ≤ uid) × (uid < length s.homes + 2) × (home ≡ home_at s.homes (uid - 2))
+owner_of : (s : Segs) (home : Home) (uid : ℕ) → home_of s.homes uid ≡ Some home → uid ≢ 1
+    → (2 ≤ uid) × (uid < length s.homes + 2) × (home ≡ home_at s.homes (uid - 2))
 owner_of s home uid is n = by (which uid)
   where
     by : (uid ≡ 0) ⊎ ((uid ≡ 1) ⊎ ((i : ℕ) × (uid ≡ i + 2))) → (2 ≤ uid) × (uid < length s.homes + 2) × (home ≡ home_at s.homes (uid - 2))

@@ -1,5 +1,6 @@
 -- What is true of the segments stays true.
-use Rattle.std.proofs.Common.{◌≡◌, ◌≢◌, ℕ, ◌+◌, ◌-◌, ◌<◌, ◌≤◌, Bool, false, List, [], length, Option, Some, None, refl, sym, ap, ◌∙◌, arith, inl, inr, get_or, set, ◌⊎◌, subst, map, sum, sum_by, count_by, is_some}
+use Rattle.std.proofs.Common.{◌≡◌, ◌≢◌, ℕ, ◌+◌, ◌<◌, Bool, false, List, [], length, Option, Some, None, refl, sym, ap, ◌∙◌, arith, inl, inr, get_or}
+use Rattle.std.proofs.Common.{set, ◌⊎◌, map, sum, sum_by, count_by, is_some}
 use Rattle.std.proofs.lemmas.Bool.{cases_eq}
 use Rattle.std.proofs.lemmas.Bool.Decides.{leb_tells}
 use Rattle.std.proofs.lemmas.List.{get_or-set_same, get_or-set_other, length-set, set_past}
@@ -18,7 +19,7 @@ use Rattle.volumes.specs.declared.drive.FailLine.{FailLine}
 use Rattle.page_control.specs.Plain.{Plain, Paging, plain, bindings, binding_at}
 use Rattle.page_control.specs.declared.Home.{Home}
 use Rattle.page_control.specs.Counts.{used, KeepsCounts}
-use Rattle.page_control.specs.Tied.{flags_in, uid_at}
+use Rattle.page_control.specs.Tied.{uid_at}
 use Rattle.page_control.specs.Ties.{IsTied, KeepsOthers, KeepsTies}
 use Rattle.paged_segs.specs.Segs.{Segs, segs_of, home_at, table_at, word_at, root_home, pages_of}
 use Rattle.paged_segs.specs.Effects.{HasSizes}
@@ -82,7 +83,8 @@ kept_call s now plans i p f w frame t k il same ts stays core idle own tie other
       lengths = λ j lt. (let count = length-set s.tables i t in
           let jl : j < length s.tables = omega (arith, count, lt) in
           elim (cases_eq j i) [
-            | inl e ↦ ap (λ (n : ℕ). length (table_at (set s.tables i t) n)) e ∙ ap length here ∙ ap length ts ∙ length-set (table_at s.tables i) p w ∙ k.lengths i inside
+            | inl e ↦ ap (λ (n : ℕ). length (table_at (set s.tables i t) n)) e ∙ ap length here ∙ ap length ts ∙ length-set (table_at s.tables i) p w
+                ∙ k.lengths i inside
             | inr n ↦ ap length (there j n) ∙ k.lengths j jl
           ]);
       stay = λ j q g is. elim (cases_eq j i) [
@@ -98,7 +100,8 @@ kept_call s now plans i p f w frame t k il same ts stays core idle own tie other
         | inr old ↦ ap is_started old ∙ k.started g
       ];
       bound = λ g uid q at. elim (frames g) [
-        | inl new ↦ (let mine : uid ≡ i + 2 = own uid q (sym (ap bound_page new.1) ∙ sym (binding_is now.core g) ∙ at) in (omega (arith, mine), omega (arith, mine, il)))
+        | inl new ↦ (let mine : uid ≡ i + 2 = own uid q (sym (ap bound_page new.1) ∙ sym (binding_is now.core g) ∙ at) in
+            (omega (arith, mine), omega (arith, mine, il)))
         | inr old ↦ k.bound g uid q (binding_is s.storage.core g ∙ sym (ap bound_page old) ∙ sym (binding_is now.core g) ∙ at)
       ];
       short = λ v. (let count = by_list (length {A = Bool}) now.records s.storage.records counts.flags v in let few = k.short v in omega (arith, count, few));
@@ -115,7 +118,8 @@ started_is core g = ap is_some (get_or-map started_page core.frames g Free) ∙ 
 
 -- nothing changes but marks and words in frames
 pub kept_marks : (old new : Paging DriveState) (tables : List (List Ptw)) (homes : List Home) → IsKept (segs_of old tables homes) → new.volumes ≡ old.volumes
-    → bindings new.core ≡ bindings old.core → reads_of new.core ≡ reads_of old.core → KeepsTies (plain pages_of old) (plain pages_of new) → IsKept (segs_of new tables homes)
+    → bindings new.core ≡ bindings old.core → reads_of new.core ≡ reads_of old.core → KeepsTies (plain pages_of old) (plain pages_of new)
+    → IsKept (segs_of new tables homes)
 kept_marks old new tables homes k volumes bound idle ties = record {
   sound = rw volumes k.sound;
   root = ties.ties 1 root_home [] k.root;

@@ -1,5 +1,6 @@
 -- What is known of a segment, and of the page in a bound frame.
-use Rattle.std.proofs.Common.{◌≡◌, ◌≢◌, ℕ, zero, suc, ◌+◌, ◌-◌, ◌^◌, ◌<◌, ◌≤◌, Bool, true, false, cond, eqb, ◌⊎◌, List, [], ◌∷◌, length, sum_by, count_by, get_or, is_some, Option, Some, None, refl, sym, ap, ◌∙◌, arith, inl, inr, subst}
+use Rattle.std.proofs.Common.{◌≡◌, ◌≢◌, ℕ, zero, suc, ◌+◌, ◌-◌, ◌^◌, ◌<◌, ◌≤◌, Bool, true, false, cond, eqb, ◌⊎◌, List, [], ◌∷◌, length, sum_by, count_by}
+use Rattle.std.proofs.Common.{get_or, is_some, Option, Some, None, refl, sym, ap, ◌∙◌, arith, inl, inr, subst}
 use Rattle.std.proofs.lemmas.Bool.Decides.{leb_tells}
 use Rattle.std.proofs.lemmas.Bool.{le-leb}
 use Rattle.std.proofs.lemmas.Option.{same_Some}
@@ -14,7 +15,7 @@ use Rattle.page_table.specs.declared.Ptw.TheVariants.{Null, Out, Here, Leaving}
 use Rattle.page_table.specs.PageTable.{ptw_at}
 use Rattle.vtoc.specs.Vtoc.{Entry}
 use Rattle.page_control.specs.declared.Home.{Home}
-use Rattle.page_control.specs.Plain.{Plain, bindings, binding_at, number_in}
+use Rattle.page_control.specs.Plain.{bindings, binding_at, number_in}
 use Rattle.page_control.specs.Tied.{frame_of, uid_in, uid_at, is_out}
 use Rattle.page_control.specs.Ties.{IsTied}
 use Rattle.paged_segs.specs.Segs.{Segs, home_at, home_of, segment_home, table_at, word_at, root_home}
@@ -74,7 +75,8 @@ home_of_segment : (homes : List Home) (i : ℕ) → home_of homes (i + 2) ≡ se
 unfolding home_of
 home_of_segment homes i =
     let back : (i + 2) - 2 ≡ i = omega arith in
-    ap (λ (b : Bool). cond b (segment_home homes ((i + 2) - 2)) (cond (eqb (i + 2) 1) (Some root_home) None)) (le-leb 2 (i + 2) (omega arith)) ∙ ap (segment_home homes) back
+    ap (λ (b : Bool). cond b (segment_home homes ((i + 2) - 2)) (cond (eqb (i + 2) 1) (Some root_home) None)) (le-leb 2 (i + 2) (omega arith))
+    ∙ ap (segment_home homes) back
 
 pub none_at : (homes : List Home) (uid : ℕ) → uid ≡ 0 → home_of homes uid ≡ None
 none_at homes uid is = ap (home_of homes) is ∙ home_of_zero homes

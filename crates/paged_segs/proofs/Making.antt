@@ -1,15 +1,14 @@
 -- A segment is made.
-use Rattle.std.proofs.Common.{◌≡◌, ◌≢◌, ◌⊎◌, ℕ, zero, suc, ◌+◌, ◌-◌, ◌<◌, ◌≤◌, Bool, true, false, cond, All, IsSome, List, [], ◌∷◌, ◌++◌, length, Option, Some, None, refl, sym, ap, ◌∙◌, arith, inl, inr, get_or, set, replicate, is_some, is_none, sum_by, count_by, subst}
+use Rattle.std.proofs.Common.{◌≡◌, ◌≢◌, ◌⊎◌, ℕ, suc, ◌+◌, ◌<◌, true, false, cond, All, IsSome, List, [], ◌∷◌, ◌++◌, length, Option, Some}
+use Rattle.std.proofs.Common.{None, refl, sym, ap, ◌∙◌, arith, inl, inr, set, replicate, is_some, is_none, sum_by, count_by, subst}
 use Rattle.std.proofs.lemmas.Bool.{cases_eq}
 use Rattle.std.proofs.lemmas.Bool.Decides.{leb_tells}
 use Rattle.std.proofs.lemmas.Option.{same_Some}
-use Rattle.std.proofs.lemmas.List.{get_or-set_same, get_or_past, length-set, length-append, get_or_append_left}
+use Rattle.std.proofs.lemmas.List.{get_or_past, length-set, length-append, get_or_append_left}
 use Rattle.std.proofs.lemmas.List.Sums.{sum_by-set, count_by-le-length}
 use Rattle.std.proofs.lemmas.List.Quantifiers.{position-Some}
 use Rattle.std.proofs.Math.Seq.{map-set_same, get_or-append_seam}
 use Rattle.page_table.specs.declared.Ptw.{Ptw}
-use Rattle.page_table.specs.declared.Ptw.TheVariants.{Null}
-use Rattle.page_table.specs.PageTable.{ptw_at}
 use Rattle.vtoc.specs.Vtoc.{Entry, entry_at, fresh_entry, least_free_entry}
 use Rattle.volumes.specs.declared.drive.FailLine.{FailLine}
 use Rattle.page_control.specs.declared.Home.{Home}
@@ -19,7 +18,7 @@ use Rattle.page_control.specs.Effects.{allocated}
 use Rattle.page_control.specs.Picture.{words_at, is_filed_at, is_stored as is_filed}
 use Rattle.page_control.specs.Tied.{vtoc_in, has_record, uid_at, AreFiled, HasNoFrame, IsBlank}
 use Rattle.page_control.specs.Ties.{IsTied, KeepsTies}
-use Rattle.paged_segs.specs.Segs.{Segs, home_at, home_of, segment_home, table_at, word_at, root_home}
+use Rattle.paged_segs.specs.Segs.{Segs, home_at, home_of, segment_home, table_at, root_home}
 use Rattle.paged_segs.specs.Shown.{picture, is_stored, words_by, stored_by}
 use Rattle.paged_segs.specs.Effects.{HasSizes}
 use Rattle.paged_segs.specs.Kept.{IsKept}
@@ -45,7 +44,8 @@ free_none (Some entry) free = cc
 pub free_at : (table : List (Option Entry)) (e : ℕ) → least_free_entry table ≡ Some e → (e < length table) × (entry_at table e ≡ None)
 free_at table e found = ((position-Some is_none table e None found).0, free_none _ (position-Some is_none table e None found).1)
 
-count_more : (table : List (Option Entry)) (e uid : ℕ) → e < length table → entry_at table e ≡ None → count_by is_some (set table e (fresh_entry uid)) ≡ count_by is_some table + 1
+count_more : (table : List (Option Entry)) (e uid : ℕ) → e < length table → entry_at table e ≡ None
+    → count_by is_some (set table e (fresh_entry uid)) ≡ count_by is_some table + 1
 count_more table e uid el free =
     let all = sum_by-set (λ (y : Option Entry). cond {A = ℕ} (is_some y) 1 0) table e (fresh_entry uid) None el in
     let none : cond {A = ℕ} (is_some (entry_at table e)) 1 0 ≡ 0 = ap (λ (y : Option Entry). cond {A = ℕ} (is_some y) 1 0) free in
@@ -81,7 +81,8 @@ sum_more vtocs v e uid el free =
 
 pub places_same : (vtocs : List (List (Option Entry))) (v e uid : ℕ) → sum_by length (taken_at vtocs v e uid) ≡ sum_by length vtocs
 places_same vtocs v e uid =
-    by_sum (length {A = Option Entry}) (taken_at vtocs v e uid) vtocs (map-set_same (length {A = Option Entry}) vtocs v _ [] (length-set (vtoc_in vtocs v) e (fresh_entry uid)))
+    by_sum (length {A = Option Entry}) (taken_at vtocs v e uid) vtocs
+    (map-set_same (length {A = Option Entry}) vtocs v _ [] (length-set (vtoc_in vtocs v) e (fresh_entry uid)))
 
 -- the homes after one more
 home_old : (homes : List Home) (h : Home) (i : ℕ) → i < length homes → home_at (homes ++ h ∷ []) i ≡ home_at homes i
@@ -105,7 +106,8 @@ segment_same : (homes : List Home) (h : Home) (i : ℕ) → i ≢ length homes �
 segment_same homes h i other =
     let more = count_homes homes h in
     elim (leb_tells (suc i) (length homes)) [
-      | inl lt ↦ (let under = lt.1 in segment_is (homes ++ h ∷ []) i (omega (arith, more, under)) ∙ ap Some (home_old homes h i under) ∙ sym (segment_is homes i under))
+      | inl lt ↦ (let under = lt.1 in segment_is (homes ++ h ∷ []) i (omega (arith, more, under)) ∙ ap Some (home_old homes h i under)
+          ∙ sym (segment_is homes i under))
       | inr past ↦ (let over = past.1 in home_past (homes ++ h ∷ []) i (omega (arith, more, over, other)) ∙ sym (home_past homes i (omega (arith, over))))
     ]
 
@@ -146,10 +148,12 @@ as_next s now v e uid next g = subst (IsGiven s now v e) next g
 abbrev pub made_by : Segs → Plain → List (Option (List FailLine)) → ℕ → ℕ → Segs
 made_by s now plans v e = record { storage = now; plans = plans; tables = s.tables; homes = s.homes ++ (record { volume = v; entry = e }) ∷ [] }
 
-own_tie : (s : Segs) (now : Plain) (v e : ℕ) → IsKept s → IsGiven s now v e (length s.homes + 2) → IsTied now (length s.homes + 2) (record { volume = v; entry = e }) (table_at s.tables (length s.homes))
+own_tie : (s : Segs) (now : Plain) (v e : ℕ) → IsKept s → IsGiven s now v e (length s.homes + 2)
+    → IsTied now (length s.homes + 2) (record { volume = v; entry = e }) (table_at s.tables (length s.homes))
 own_tie s now v e k g = g.tie (table_at s.tables (length s.homes)) (next_blank s k) (next_no_frame s k) k.root.records
 
-pub kept_made : (s : Segs) (now : Plain) (plans : List (Option (List FailLine))) (v e : ℕ) → IsKept s → plans ≡ s.plans → IsGiven s now v e (length s.homes + 2) → IsKept (made_by s now plans v e)
+pub kept_made : (s : Segs) (now : Plain) (plans : List (Option (List FailLine))) (v e : ℕ) → IsKept s → plans ≡ s.plans
+    → IsGiven s now v e (length s.homes + 2) → IsKept (made_by s now plans v e)
 kept_made s now plans v e k same g =
     let h : Home = record { volume = v; entry = e } in
     let n : ℕ = length s.homes in
@@ -170,14 +174,17 @@ kept_made s now plans v e k same g =
             let most = (home_there s.homes uid home old).1 in
             home_of_other s.homes h uid (λ e. omega (arith, e, most)) ∙ old)
       ];
-      used = (let sum = ap (sum_by (count_by is_some)) vtocs ∙ sum_more s.storage.vtocs v e (n + 2) at.0 at.1 in let old = k.used in omega (arith, sum, old, more));
+      used = (let sum = ap (sum_by (count_by is_some)) vtocs
+          ∙ sum_more s.storage.vtocs v e (n + 2) at.0 at.1 in let old = k.used in omega (arith, sum, old, more));
       places = k.places ∙ sym (ap (sum_by length) vtocs ∙ places_same s.storage.vtocs v e (n + 2));
       few = k.few;
       lengths = k.lengths;
       stay = k.stay;
       blank = λ i p past. k.blank i p (omega (arith, past, more));
       started = λ g. rw (ap (λ (x : Plain). x.core) effect) (k.started g);
-      bound = λ f uid p bound. (let old = k.bound f uid p (sym (ap (λ (x : Plain). binding_at (bindings x.core) f) effect) ∙ bound) in let most = old.1 in (old.0, omega (arith, most, more)));
+      bound = λ f uid p bound.
+          (let old = k.bound f uid p (sym (ap (λ (x : Plain). binding_at (bindings x.core) f) effect) ∙ bound) in let most = old.1 in
+          (old.0, omega (arith, most, more)));
       short = λ w. rw (ap (λ (x : Plain). x.records) effect) (k.short w);
     }
   where
@@ -188,7 +195,8 @@ kept_made s now plans v e k same g =
 none_next : (s : Segs) → home_of s.homes (length s.homes + 2) ≡ None
 none_next s = segment_at s.homes (length s.homes + 2) (length s.homes) refl ∙ home_past s.homes (length s.homes) (omega arith)
 
-pub shown_made : (s : Segs) (now : Plain) (plans : List (Option (List FailLine))) (v e : ℕ) → IsKept s → IsGiven s now v e (length s.homes + 2) → picture (made_by s now plans v e) ≡ picture s
+pub shown_made : (s : Segs) (now : Plain) (plans : List (Option (List FailLine))) (v e : ℕ) → IsKept s → IsGiven s now v e (length s.homes + 2)
+    → picture (made_by s now plans v e) ≡ picture s
 unfolding picture
 shown_made s now plans v e k g = λ i. λ u q. at u q (cases_eq u (length s.homes + 2)) i
   where
@@ -199,7 +207,8 @@ shown_made s now plans v e k g = λ i. λ u q. at u q (cases_eq u (length s.home
     same u q None = refl
     same u q (Some home) = λ i. g.words i u home q
 
-    at : (u q : ℕ) → (u ≡ length s.homes + 2) ⊎ (u ≢ length s.homes + 2) → words_by now u (home_of (s.homes ++ h ∷ []) u) q ≡ words_by s.storage u (home_of s.homes u) q
+    at : (u q : ℕ) → (u ≡ length s.homes + 2) ⊎ (u ≢ length s.homes + 2)
+        → words_by now u (home_of (s.homes ++ h ∷ []) u) q ≡ words_by s.storage u (home_of s.homes u) q
     at u q (inl mine) = rw mine
         (ap (λ (x : Option Home). words_by now (length s.homes + 2) x q) (home_of_new s.homes h) ∙ g.zeros q (next_no_frame s k)
         ∙ sym (ap (λ (x : Option Home). words_by s.storage (length s.homes + 2) x q) (none_next s)))
@@ -209,7 +218,8 @@ blank_filed : (now : Plain) (uid : ℕ) (home : Home) (t : List Ptw) (q : ℕ) �
 unfolding is_filed_at
 blank_filed now uid home t q tie blank = tie.map.stored q ∙ ap has_record (blank.null q)
 
-pub stored_made : (s : Segs) (now : Plain) (plans : List (Option (List FailLine))) (v e : ℕ) → IsKept s → IsGiven s now v e (length s.homes + 2) → is_stored (made_by s now plans v e) ≡ is_stored s
+pub stored_made : (s : Segs) (now : Plain) (plans : List (Option (List FailLine))) (v e : ℕ) → IsKept s → IsGiven s now v e (length s.homes + 2)
+    → is_stored (made_by s now plans v e) ≡ is_stored s
 unfolding is_stored
 stored_made s now plans v e k g = λ i. λ u q. at u q (cases_eq u (length s.homes + 2)) i
   where
@@ -220,9 +230,11 @@ stored_made s now plans v e k g = λ i. λ u q. at u q (cases_eq u (length s.hom
     same q None = refl
     same q (Some home) = λ i. g.stored i home q
 
-    at : (u q : ℕ) → (u ≡ length s.homes + 2) ⊎ (u ≢ length s.homes + 2) → stored_by now (home_of (s.homes ++ h ∷ []) u) q ≡ stored_by s.storage (home_of s.homes u) q
+    at : (u q : ℕ) → (u ≡ length s.homes + 2) ⊎ (u ≢ length s.homes + 2)
+        → stored_by now (home_of (s.homes ++ h ∷ []) u) q ≡ stored_by s.storage (home_of s.homes u) q
     at u q (inl mine) = rw mine
-        (ap (λ (x : Option Home). stored_by now x q) (home_of_new s.homes h) ∙ blank_filed now (length s.homes + 2) h _ q (own_tie s now v e k g) (next_blank s k)
+        (ap (λ (x : Option Home). stored_by now x q) (home_of_new s.homes h)
+        ∙ blank_filed now (length s.homes + 2) h _ q (own_tie s now v e k g) (next_blank s k)
         ∙ sym (ap (λ (x : Option Home). stored_by s.storage x q) (none_next s)))
     at u q (inr n) = ap (λ (x : Option Home). stored_by now x q) (home_of_other s.homes h u n) ∙ same q (home_of s.homes u)
 
@@ -232,6 +244,7 @@ sizes_made s now v e uid is = rw is (record {
   volumes = refl;
   records = refl;
   places = λ i. λ w.
-      by_list (length {A = Option Entry}) (taken_at s.vtocs v e uid) s.vtocs (map-set_same (length {A = Option Entry}) s.vtocs v _ [] (length-set (vtoc_in s.vtocs v) e (fresh_entry uid))) w i;
+      by_list (length {A = Option Entry}) (taken_at s.vtocs v e uid) s.vtocs
+      (map-set_same (length {A = Option Entry}) s.vtocs v _ [] (length-set (vtoc_in s.vtocs v) e (fresh_entry uid))) w i;
   frames = refl;
 })

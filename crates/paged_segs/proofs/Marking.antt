@@ -1,22 +1,19 @@
 -- Calls that change marks and words alone, and the clock.
-use Rattle.std.proofs.Common.{◌≡◌, ◌≢◌, ℕ, zero, suc, ◌+◌, ◌-◌, ◌<◌, ◌≤◌, Bool, true, false, not, ◌&&◌, ltb, List, [], ◌∷◌, length, Option, Some, None, is_some, refl, sym, ap, ◌∙◌, arith, inl, inr, get_or, set, subst}
+use Rattle.std.proofs.Common.{◌≡◌, ℕ, suc, ◌+◌, ◌-◌, ◌<◌, Bool, true, false, not, ◌&&◌, ltb, List, [], ◌∷◌, length, Option, Some, None, is_some}
+use Rattle.std.proofs.Common.{refl, sym, ap, ◌∙◌, arith, inl, inr, get_or, set, subst}
 use Rattle.std.specs.List.{position, position_or_len, list_any}
 use Rattle.std.proofs.lemmas.Bool.Decides.{leb_tells}
-use Rattle.std.proofs.lemmas.Bool.{cases_eq}
 use Rattle.std.proofs.lemmas.List.{get_or-set_same, get_or-set_other, length-set, set-set, set-get_or}
 use Rattle.std.proofs.lemmas.List.Sums.{position_or_len_is, fails_before_first}
 use Rattle.core_map.specs.declared.Frame.{Frame}
 use Rattle.core_map.specs.declared.Frame.TheVariants.{Free, Started, Bound}
 use Rattle.core_map.specs.CoreMap.{reads_of, Core, frame_at, with_frame, is_free, is_bound, is_started, bound_page, least_free_frame}
 use Rattle.core_map.specs.Clock.{IsClockChoice, unmarked, is_idle}
-use Rattle.page_table.specs.declared.Ptw.{Ptw}
-use Rattle.page_table.specs.PageTable.{ptw_at}
-use Rattle.page_control.specs.declared.Home.{Home}
 use Rattle.page_control.specs.Plain.{bindings, binding_at, number_in}
 use Rattle.page_control.specs.Tied.{frame_of, uid_in, IsBoundOnce}
 use Rattle.paged_segs.specs.Segs.{Segs, home_at, home_of}
 use Rattle.paged_segs.specs.Kept.{IsKept}
-use Rattle.paged_segs.proofs.Located.{IsPageOf, page_of_frame, home_is, binding_is}
+use Rattle.paged_segs.proofs.Located.{page_of_frame, home_is, binding_is}
 use Rattle.paged_segs.proofs.Keeping.{started_is}
 
 -- a page is in one frame
@@ -47,12 +44,15 @@ not_none : {A : Type 0} (x : Option A) (a : A) → x ≡ None → x ≡ Some a �
 not_none x a h i = cc
 
 -- where no frame is free and none is being read into, one is bound
-pub some_bound : (core : Core) → ((g : ℕ) → is_started (frame_at core g) ≡ false) → least_free_frame core ≡ None → 0 < length core.frames → list_any is_bound core.frames ≡ true
+pub some_bound : (core : Core) → ((g : ℕ) → is_started (frame_at core g) ≡ false) → least_free_frame core ≡ None → 0 < length core.frames
+    → list_any is_bound core.frames ≡ true
 some_bound core none full some_ = first core.frames none full some_
   where
-    first : (frames : List Frame) → ((g : ℕ) → is_started (get_or frames g Free) ≡ false) → position is_free frames ≡ None → 0 < length frames → list_any is_bound frames ≡ true
+    first : (frames : List Frame) → ((g : ℕ) → is_started (get_or frames g Free) ≡ false) → position is_free frames ≡ None → 0 < length frames
+        → list_any is_bound frames ≡ true
     first [] none full some_ = absurd (omega (arith, some_))
-    first (Free ∷ frames) none full some_ = (let found : position is_free (Free ∷ frames) ≡ Some 0 = rw (below 0 (suc (length frames)) (omega arith)) refl in cc)
+    first (Free ∷ frames) none full some_ =
+        (let found : position is_free (Free ∷ frames) ≡ Some 0 = rw (below 0 (suc (length frames)) (omega arith)) refl in cc)
     first (Started u q ∷ frames) none full some_ = (let no : true ≡ false = none 0 in cc)
     first (Bound u q used modified ∷ frames) none full some_ = refl
 
@@ -73,10 +73,12 @@ pub choice_again : (core chosen now : Core) (f g : ℕ) → IsClockChoice core c
     → IsClockChoice core (with_frame now g (unmarked (frame_at core g))) g
 choice_again core chosen now f g choice is same =
     let frames : set (set chosen.frames f Free) f (unmarked (frame_at core f)) ≡ chosen.frames =
-    set-set chosen.frames f Free (unmarked (frame_at core f)) ∙ ap (set chosen.frames f) (sym (chosen_unmarked core chosen f choice)) ∙ set-get_or chosen.frames f Free in
+    set-set chosen.frames f Free (unmarked (frame_at core f)) ∙ ap (set chosen.frames f) (sym (chosen_unmarked core chosen f choice))
+    ∙ set-get_or chosen.frames f Free in
     let back : chosen ≡ with_frame now f (unmarked (frame_at core f)) =
     sym (ap (λ (c : Core). with_frame c f (unmarked (frame_at core f))) is ∙ ap (λ (those : List Frame). record chosen { frames = those }) frames) in
-    subst (λ (n : ℕ). IsClockChoice core (with_frame now n (unmarked (frame_at core n))) n) (sym same) (subst (λ (c : Core). IsClockChoice core c f) back choice)
+    subst (λ (n : ℕ). IsClockChoice core (with_frame now n (unmarked (frame_at core n))) n) (sym same)
+    (subst (λ (c : Core). IsClockChoice core c f) back choice)
 
 pub chosen_within : (core now : Core) (f : ℕ) → IsClockChoice core now f → f < length core.frames
 chosen_within core now f choice = elim choice.turn [
@@ -116,6 +118,7 @@ least_emptied core chosen now f g choice bound idle full is same =
     let here : is_free (get_or (set chosen.frames f Free) f Free) ≡ true = ap is_free (get_or-set_same chosen.frames f Free Free (omega (arith, count, fl))) in
     let first : position_or_len is_free (set chosen.frames f Free) ≡ f =
     position_or_len_is is_free (set chosen.frames f Free) f Free (omega (arith, inside))
-    (λ k lt. ap is_free (get_or-set_other chosen.frames f k Free Free (λ e. omega (arith, e, lt))) ∙ free_same core chosen k bound idle ∙ none_free core full k (omega (arith, lt, fl)))
+    (λ k lt. ap is_free (get_or-set_other chosen.frames f k Free Free (λ e. omega (arith, e, lt))) ∙ free_same core chosen k bound idle
+    ∙ none_free core full k (omega (arith, lt, fl)))
     (λ lt. here) in
     rw (is, same) (rw (first, below f (length (set chosen.frames f Free)) inside) refl)

@@ -1,6 +1,6 @@
 -- What becomes of frames and words in a move of two calls.
-use Rattle.std.proofs.Common.{◌≡◌, ◌↔◌, ℕ, false, List, length, Option, Some, refl, sym, ap, ◌∙◌, set, map, is_some, count_by, subst}
-use Rattle.std.specs.Prelude.{Result, Ok, Err}
+use Rattle.std.proofs.Common.{◌≡◌, ◌↔◌, ℕ, false, List, length, Option, sym, ap, ◌∙◌, set, map, is_some, count_by, subst}
+use Rattle.std.specs.Prelude.{Result, Ok}
 use Rattle.std.proofs.lemmas.List.{get_or-set_same, set-set, length-set}
 use Rattle.core_map.specs.declared.Frame.{Frame}
 use Rattle.core_map.specs.declared.Frame.TheVariants.{Started, Bound}
@@ -17,7 +17,7 @@ use Rattle.page_control.specs.declared.Left.TheVariants.{Released}
 use Rattle.page_control.specs.Plain.{Plain, Paging, plain, bindings, words_on, record_of, number_in}
 use Rattle.page_control.specs.Counts.{KeepsCounts}
 use Rattle.page_control.specs.Effects.{framed, brought_in, word_of_left}
-use Rattle.page_control.specs.Picture.{words_at, AreHomes, KeepsWords}
+use Rattle.page_control.specs.Picture.{words_at, KeepsWords}
 use Rattle.page_control.specs.Tied.{uid_in, uid_at, map_at}
 use Rattle.page_control.specs.Ties.{IsTied, KeepsOthers, KeepsTies}
 use Rattle.paged_segs.specs.Segs.{pages_of}
@@ -30,7 +30,8 @@ pub word_leaving : (old now : Paging DriveState) (f : ℕ) (t u : List Ptw) → 
 word_leaving old now f t u same us here =
     rw (same, us) (get_or-set_same t (number_in (frame_at old.core f)) (Leaving f) Null (here_within t (number_in (frame_at old.core f)) f here))
 
-pub tie_moved : (old now : Paging DriveState) (f : ℕ) (home : Home) (u : List Ptw) → now ≡ old → IsTied (plain pages_of now) (uid_in (frame_at old.core f)) home u
+pub tie_moved : (old now : Paging DriveState) (f : ℕ) (home : Home) (u : List Ptw) → now ≡ old
+    → IsTied (plain pages_of now) (uid_in (frame_at old.core f)) home u
     → IsTied (plain pages_of now) (uid_in (frame_at now.core f)) home u
 tie_moved old now f home u same tie = subst (λ (s : Paging DriveState). IsTied (plain pages_of now) (uid_in (frame_at s.core f)) home u) (sym same) tie
 
@@ -41,12 +42,14 @@ zeros_left {E = E} left words zeros = (λ same. zeros.0 (ap Ok same), λ all. in
     inside e = cc
 
 -- a page whose word was leaving in between has left its frame
-pub put_out : (old mid now : Paging DriveState) (home : Home) (f : ℕ) (t u v : List Ptw) (left : Left) → mid ≡ old → u ≡ set t (number_in (frame_at old.core f)) (Leaving f)
+pub put_out : (old mid now : Paging DriveState) (home : Home) (f : ℕ) (t u v : List Ptw) (left : Left) → mid ≡ old
+    → u ≡ set t (number_in (frame_at old.core f)) (Leaving f)
     → IsPutOut (plain pages_of mid) (plain pages_of now) home (uid_in (frame_at mid.core f)) (number_in (frame_at mid.core f)) f u v left
     → IsPutOut (plain pages_of old) (plain pages_of now) home (uid_in (frame_at old.core f)) (number_in (frame_at old.core f)) f t v left
 put_out old mid now home f t u v left same us out =
     let o : IsPutOut (plain pages_of old) (plain pages_of now) home (uid_in (frame_at old.core f)) (number_in (frame_at old.core f)) f u v left =
-    subst (λ (s : Paging DriveState). IsPutOut (plain pages_of s) (plain pages_of now) home (uid_in (frame_at s.core f)) (number_in (frame_at s.core f)) f u v left) same out in
+    subst (λ (s : Paging DriveState). IsPutOut (plain pages_of s) (plain pages_of now) home (uid_in (frame_at s.core f)) (number_in (frame_at s.core f)) f u v
+    left) same out in
     let w : Ptw = word_of_left left (record_of (plain pages_of old) home (number_in (frame_at old.core f))) in
     record {
       zeros = o.zeros;
@@ -69,7 +72,8 @@ brought_same s mid now uid p v r f started is =
     (set-set s.core.frames f (Started uid p) (Bound uid p false false))
 
 -- what is kept from the frame's start on is kept
-pub others_started : (s mid now : Plain) (uid : ℕ) (home : Home) → bindings mid.core ≡ bindings s.core → mid.vtocs ≡ s.vtocs → KeepsTies s mid → KeepsOthers mid now uid home
+pub others_started : (s mid now : Plain) (uid : ℕ) (home : Home) → bindings mid.core ≡ bindings s.core → mid.vtocs ≡ s.vtocs → KeepsTies s mid
+    → KeepsOthers mid now uid home
     → KeepsOthers s now uid home
 others_started s mid now uid home bound vtocs ties k = record {
   uids = λ other. k.uids other ∙ ap (λ (v : List (List (Option Entry))). uid_at v other) vtocs;
@@ -78,7 +82,8 @@ others_started s mid now uid home bound vtocs ties k = record {
   ties = λ segment other table n t. k.ties segment other table n (ties.ties segment other table t);
 }
 
-pub words_started : (s mid now : Plain) (uid : ℕ) (home : Home) → mid.vtocs ≡ s.vtocs → words_at mid ≡ words_at s → KeepsWords mid now uid home → KeepsWords s now uid home
+pub words_started : (s mid now : Plain) (uid : ℕ) (home : Home) → mid.vtocs ≡ s.vtocs → words_at mid ≡ words_at s → KeepsWords mid now uid home
+    → KeepsWords s now uid home
 words_started s mid now uid home vtocs words k = record {
   words = λ u h q homes.
       k.words u h q (record { used = ap (λ (v : List (List (Option Entry))). uid_at v h) vtocs ∙ homes.used; own = homes.own })

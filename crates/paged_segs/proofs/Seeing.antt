@@ -1,11 +1,11 @@
 -- What the word of a page tells a user of the segments.
-use Rattle.std.proofs.Common.{◌≡◌, ◌≢◌, ℕ, ◌+◌, ◌<◌, true, List, length, Option, Some, refl, sym, ap, ◌∙◌, get_or, replicate, subst}
+use Rattle.std.proofs.Common.{◌≡◌, ◌≢◌, ℕ, ◌+◌, ◌<◌, true, List, length, Some, sym, ap, ◌∙◌, get_or, replicate, subst}
 use Rattle.core_map.specs.CoreMap.{frame_at, is_bound}
 use Rattle.page_table.specs.declared.Ptw.{Ptw}
 use Rattle.page_table.specs.declared.Ptw.TheVariants.{Null, Here, Leaving}
 use Rattle.page_table.specs.PageTable.{ptw_at}
 use Rattle.page_control.specs.declared.Home.{Home}
-use Rattle.page_control.specs.Plain.{Plain, bindings, binding_at, number_in, words_in}
+use Rattle.page_control.specs.Plain.{bindings, binding_at, number_in, words_in}
 use Rattle.page_control.specs.Tied.{frame_of, has_record, uid_in}
 use Rattle.page_control.specs.Ties.{IsTied, IsSeen}
 use Rattle.paged_segs.specs.Segs.{Segs, home_at, table_at, word_at}
@@ -45,6 +45,7 @@ seen_by s i page table w k il is at look =
     }
 
 -- the same in the terms in which a call's steps give it
-pub seen_from : (s now : Segs) (i page : ℕ) (table : List Ptw) (w : Ptw) → s ≡ now → IsKept s → i < length s.homes → table ≡ get_or s.tables i table → w ≡ ptw_at table page
+pub seen_from : (s now : Segs) (i page : ℕ) (table : List Ptw) (w : Ptw) → s ≡ now → IsKept s → i < length s.homes → table ≡ get_or s.tables i table
+    → w ≡ ptw_at table page
     → ((uid : ℕ) (home : Home) → IsTied s.storage uid home table → IsSeen s.storage uid home page w) → IsWordOf now i page w
 seen_from s now i page table w same k il is at look = subst (λ (x : Segs). IsWordOf x i page w) same (seen_by s i page table w k il is at look)

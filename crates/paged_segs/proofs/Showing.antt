@@ -1,20 +1,21 @@
 -- What a user sees of the segments after a call, by what page control says of each home.
-use Rattle.std.proofs.Common.{◌≡◌, ◌≢◌, ℕ, zero, suc, ◌+◌, ◌-◌, ◌<◌, ◌≤◌, ◌&&◌, Bool, true, false, cond, eqb, List, [], length, Option, None, Some, refl, sym, ap, ◌∙◌, arith, replicate, inl, inr, subst, eq-eqb}
-use Rattle.std.proofs.lemmas.Bool.{cases_eq}
+use Rattle.std.proofs.Common.{◌≡◌, ℕ, ◌&&◌, Bool, false, cond, eqb, List, Option, None, Some, refl, sym}
+use Rattle.std.proofs.Common.{ap, ◌∙◌, replicate, inl, inr, subst, eq-eqb}
 use Rattle.std.proofs.lemmas.Bool.Decides.{eqb_tells}
 use Rattle.std.proofs.lemmas.Option.{same_Some}
 use Rattle.vtoc.specs.Vtoc.{Entry}
 use Rattle.page_control.specs.declared.Home.{Home}
-use Rattle.page_control.specs.Plain.{Plain}
 use Rattle.page_control.specs.Tied.{uid_at}
-use Rattle.page_control.specs.Picture.{words_at, is_filed_at, is_stored as is_filed, changed_at, changed_page, AreHomes, KeepsWords, ChangesWords, ChangesStored}
-use Rattle.paged_segs.specs.Segs.{Segs, home_at, home_of}
+use Rattle.page_control.specs.Picture.{words_at, is_filed_at, is_stored as is_filed, changed_at, changed_page, AreHomes, KeepsWords, ChangesWords}
+use Rattle.page_control.specs.Picture.{ChangesStored}
+use Rattle.paged_segs.specs.Segs.{Segs, home_of}
 use Rattle.paged_segs.specs.Shown.{picture, is_stored, words_by, stored_by}
 use Rattle.paged_segs.specs.Kept.{IsKept}
 use Rattle.paged_segs.proofs.Located.{home_used}
 
 -- where each home has the words that it had
-shown_by : (s new : Segs) → new.homes ≡ s.homes → ((u : ℕ) (h : Home) (q : ℕ) → home_of s.homes u ≡ Some h → words_at new.storage u h q ≡ words_at s.storage u h q)
+shown_by : (s new : Segs) → new.homes ≡ s.homes
+    → ((u : ℕ) (h : Home) (q : ℕ) → home_of s.homes u ≡ Some h → words_at new.storage u h q ≡ words_at s.storage u h q)
     → picture new ≡ picture s
 unfolding picture
 shown_by s new homes same = λ i. λ u q. (ap (λ (those : List Home). words_by new.storage u (home_of those u) q) homes ∙ at u q (home_of s.homes u) refl) i
@@ -23,7 +24,8 @@ shown_by s new homes same = λ i. λ u q. (ap (λ (those : List Home). words_by 
     at u q None is = refl
     at u q (Some h) is = same u h q is
 
-stored_same_by : (s new : Segs) → new.homes ≡ s.homes → ((u : ℕ) (h : Home) (q : ℕ) → home_of s.homes u ≡ Some h → is_filed new.storage h q ≡ is_filed s.storage h q)
+stored_same_by : (s new : Segs) → new.homes ≡ s.homes
+    → ((u : ℕ) (h : Home) (q : ℕ) → home_of s.homes u ≡ Some h → is_filed new.storage h q ≡ is_filed s.storage h q)
     → is_stored new ≡ is_stored s
 unfolding is_stored
 stored_same_by s new homes same = λ i. λ u q. (ap (λ (those : List Home). stored_by new.storage (home_of those u) q) homes ∙ at u q (home_of s.homes u) refl) i
@@ -40,7 +42,8 @@ pub stored_same : (s new : Segs) → new.homes ≡ s.homes → new.storage.vtocs
 stored_same s new homes same = stored_same_by s new homes (λ u h q is. ap (λ (those : List (List (Option Entry))). is_filed_at those h q) same)
 
 -- the homes that a call speaks of
-homes_of : (s : Segs) (uid u : ℕ) (home h : Home) → IsKept s → home_of s.homes uid ≡ Some home → home_of s.homes u ≡ Some h → AreHomes s.storage.vtocs uid home u h
+homes_of : (s : Segs) (uid u : ℕ) (home h : Home) → IsKept s → home_of s.homes uid ≡ Some home → home_of s.homes u ≡ Some h
+    → AreHomes s.storage.vtocs uid home u h
 homes_of s uid u home h k its is = record {
   used = home_used s u h k is;
   own = λ same. (let one : Some h ≡ Some home = sym is ∙ ap (home_of s.homes) same ∙ its in one_home one);
@@ -49,12 +52,14 @@ homes_of s uid u home h k its is = record {
     one_home : Some h ≡ Some home → h ≡ home
     one_home e = cc
 
-pub shown_kept : (s new : Segs) (uid : ℕ) (home : Home) → IsKept s → new.homes ≡ s.homes → home_of s.homes uid ≡ Some home → KeepsWords s.storage new.storage uid home
+pub shown_kept : (s new : Segs) (uid : ℕ) (home : Home) → IsKept s → new.homes ≡ s.homes → home_of s.homes uid ≡ Some home
+    → KeepsWords s.storage new.storage uid home
     → picture new ≡ picture s
 shown_kept s new uid home k homes its keeps = shown_by s new homes (λ u h q is. keeps.words u h q (homes_of s uid u home h k its is))
 
 -- one page is others, and all others are as before
-changed_by : {X : Type 0} (old now : ℕ → ℕ → X) (uid p : ℕ) (x : X) → now uid p ≡ x → ((u q : ℕ) → (u ≡ uid → q ≡ p → ⊥) → now u q ≡ old u q) → now ≡ changed_at old uid p x
+changed_by : {X : Type 0} (old now : ℕ → ℕ → X) (uid p : ℕ) (x : X) → now uid p ≡ x → ((u q : ℕ) → (u ≡ uid → q ≡ p → ⊥) → now u q ≡ old u q)
+    → now ≡ changed_at old uid p x
 unfolding changed_at
 changed_by old now uid p x here others = λ i. λ u q. at u q i
   where

@@ -60,7 +60,8 @@ pub record IsEmptied (old new : Segs) (gone : Evicted) : Type 0 where
   pub here : word_at old (gone.uid - 2) gone.page ≡ Here gone.frame
   -- the frame and the word of the page
   pub freed : bindings new.storage.core ≡ slice_set (bindings old.storage.core) gone.frame None
-  pub words : new.tables ≡ with_word old.tables (gone.uid - 2) gone.page (word_of_left gone.left (record_of old.storage (home_at old.homes (gone.uid - 2)) gone.page))
+  pub words : new.tables ≡ with_word old.tables (gone.uid - 2) gone.page
+      (word_of_left gone.left (record_of old.storage (home_at old.homes (gone.uid - 2)) gone.page))
   pub homes : new.homes ≡ old.homes
   -- what is stored
   pub filed : is_stored old gone.uid gone.page ≡ true

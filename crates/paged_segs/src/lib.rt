@@ -5,9 +5,9 @@
 //! core goes to the least free frame; where none is free, the clock's choice is emptied first (Bensoussan, Clingen and
 //! Daley 1972; Corbató 1968; Organick 1972). The drives have no line that names a failing call, and never fail.
 //!
-//! Costs: a call finds segments, tables, words and frames by their numbers, and walks over none of them but in `evict`,
-//! where the clock looks for its choice. `page_in` costs one read of a drive, and `evict` and `visit` one write at most.
-//! None but `new` takes memory.
+//! Costs: a call finds segments, tables, words and frames by their numbers, and walks over none of them but in
+//! `evict`, where the clock looks for its choice. `page_in` costs one read of a drive, and `evict` and `visit` one
+//! write at most. None but `new` takes memory.
 #![tactic(auto)]
 
 mod moves;

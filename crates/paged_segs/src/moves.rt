@@ -47,7 +47,8 @@ pub(crate) fn put_out(
     requires bound { is_bound (frame_at pages.old.core f) ≡ true }
     requires here { ptw_at table.old (number_in (frame_at pages.old.core f)) ≡ Here f }
     requires tie { IsTied (plain pages_of pages.old) (uid_in (frame_at pages.old.core f)) home table.old }
-    ensures out { IsPutOut (plain pages_of pages.old) (plain pages_of pages.new) home (uid_in (frame_at pages.old.core f)) (number_in (frame_at pages.old.core f)) f table.old table.new result }
+    ensures out { IsPutOut (plain pages_of pages.old) (plain pages_of pages.new) home
+        (uid_in (frame_at pages.old.core f)) (number_in (frame_at pages.old.core f)) f table.old table.new result }
     ensures plans { map plan_of pages.new.volumes.drives ≡ map plan_of pages.old.volumes.drives }
 {
     pages.take(table, f);

@@ -1,5 +1,5 @@
-ghost use Rattle.std.specs.Prelude.{◌≡◌, ◌≢◌, ◌+◌, ◌<◌, ◌↔◌, ◌==◌, ℕ, All, IsSome, None, Some, true, false, length, map, replicate, sum_by};
-ghost use Rattle.std.specs.Prelude.{slice_index, slice_set, IfOk, IfSome, IfNone, IsTrue};
+ghost use Rattle.std.specs.Prelude.{◌≡◌, ◌≢◌, ◌+◌, ◌<◌, ◌↔◌, ◌==◌, ℕ, All, IsSome, None, Some, true, false, length};
+ghost use Rattle.std.specs.Prelude.{map, replicate, sum_by, slice_index, slice_set, IfOk, IfSome, IfNone, IsTrue};
 ghost use Rattle.core_map.specs.declared.Frame.TheVariants.{Free, Bound};
 ghost use Rattle.core_map.specs.CoreMap.{frame_at, with_frame, is_bound, reads_of, least_free_frame, IsLeastFreeFrame};
 ghost use Rattle.core_map.specs.Clock.{IsClockChoice, clock_choice, unmarked};
@@ -45,13 +45,15 @@ impl Model for Segments {
 
     ghost view = { λ s. segs_of s.pages s.tables.items s.homes.items };
 
-    ghost invariant = { λ s. IsKept (segs_of s.pages s.tables.items s.homes.items) × (length s.tables.items ≤ vec_capacity s.homes) };
+    ghost invariant = { λ s. IsKept (segs_of s.pages s.tables.items s.homes.items)
+        × (length s.tables.items ≤ vec_capacity s.homes) };
 }
 
 impl Segments {
     /// No segment yet, over as many free frames and over fresh volumes, of which the first gives the root an entry.
-    /// `NoMemory` is want of memory, which 2^32 - 2 VTOC entries and more always are. It takes 8 KiB for each frame, and
-    /// a page table of 256 words and room for a home for each VTOC entry. (Source: Bensoussan, Clingen and Daley 1972.)
+    /// `NoMemory` is want of memory, which 2^32 - 2 VTOC entries and more always are. It takes 8 KiB for each frame,
+    /// and a page table of 256 words and room for a home for each VTOC entry. (Source: Bensoussan, Clingen and Daley
+    /// 1972.)
     pub fn new(
         alloc: Global,
         frames: u32,
@@ -158,7 +160,8 @@ impl Segments {
         requires bound { is_bound (frame_at self.old.storage.core f) ≡ true }
         requires at { at < 1024 }
         ensures effect { self.new ≡ record self.old { storage = word_put self.old.storage f at w } }
-        ensures picture { picture self.new ≡ changed_at (picture self.old) (uid_in (frame_at self.old.storage.core f)) (number_in (frame_at self.old.storage.core f)) (slice_set (words_in self.old.storage f) at w) }
+        ensures picture { picture self.new ≡ changed_at (picture self.old) (uid_in (frame_at self.old.storage.core f))
+            (number_in (frame_at self.old.storage.core f)) (slice_set (words_in self.old.storage f) at w) }
         ensures stored { is_stored self.new ≡ is_stored self.old }
         ensures bindings { bindings self.new.storage.core ≡ bindings self.old.storage.core }
     {
@@ -177,7 +180,8 @@ impl Segments {
         ensures some { IfSome result (λ i. used self.old.storage.vtocs volume < entries self.old.storage.vtocs volume) }
         ensures place { IfSome result (λ i. i ≡ length self.old.homes) }
         ensures made { IfSome result (λ i. self.new ≡ made self.old volume) }
-        ensures used { IfSome result (λ i. used self.new.storage.vtocs ≡ one_more (used self.old.storage.vtocs) volume) }
+        ensures used { IfSome result
+            (λ i. used self.new.storage.vtocs ≡ one_more (used self.old.storage.vtocs) volume) }
         ensures picture { picture self.new ≡ picture self.old }
         ensures stored { is_stored self.new ≡ is_stored self.old }
         ensures sizes { HasSizes self.old.storage self.new.storage }
@@ -199,7 +203,8 @@ impl Segments {
         ensures here { word_at self.new i page ≡ Here f }
         ensures picture { picture self.new ≡ picture self.old }
         ensures stored { is_stored self.new ≡ is_stored self.old }
-        ensures binding { bindings self.new.storage.core ≡ slice_set (bindings self.old.storage.core) f (Some (i + 2, page)) }
+        ensures binding { bindings self.new.storage.core
+            ≡ slice_set (bindings self.old.storage.core) f (Some (i + 2, page)) }
         ensures sizes { HasSizes self.old.storage self.new.storage }
     {
         let home = home_of(&self.homes, i as usize);
@@ -225,11 +230,14 @@ impl Segments {
         requires room { is_full self.old.storage.records (volume_at self.old i) ≡ false }
         ensures effect { self.new ≡ made_page self.old i page f at w }
         ensures here { word_at self.new i page ≡ Here f }
-        ensures picture { picture self.new ≡ changed_at (picture self.old) (i + 2) page (slice_set (replicate 1024 0) at w) }
+        ensures picture { picture self.new
+            ≡ changed_at (picture self.old) (i + 2) page (slice_set (replicate 1024 0) at w) }
         ensures stored { is_stored self.new ≡ changed_at (is_stored self.old) (i + 2) page true }
-        ensures taken { taken self.new.storage.records ≡ one_more (taken self.old.storage.records) (volume_at self.old i) }
+        ensures taken { taken self.new.storage.records
+            ≡ one_more (taken self.old.storage.records) (volume_at self.old i) }
         ensures used { used self.new.storage.vtocs ≡ used self.old.storage.vtocs }
-        ensures binding { bindings self.new.storage.core ≡ slice_set (bindings self.old.storage.core) f (Some (i + 2, page)) }
+        ensures binding { bindings self.new.storage.core
+            ≡ slice_set (bindings self.old.storage.core) f (Some (i + 2, page)) }
         ensures sizes { HasSizes self.old.storage self.new.storage }
     {
         let home = home_of(&self.homes, i as usize);
@@ -241,12 +249,13 @@ impl Segments {
     }
 
     /// Empties the frame that the clock chooses, where none is free. The clock reads the frames from its hand to its
-    /// choice, and goes round once more where every page was referred to. It costs one write of a drive at most. (Source:
-    /// Corbató 1968; Organick 1972.)
+    /// choice, and goes round once more where every page was referred to. It costs one write of a drive at most.
+    /// (Source: Corbató 1968; Organick 1972.)
     pub fn evict(&mut self) -> Evicted
         requires some { 0 < length self.old.storage.core.frames }
         requires full { least_free_frame self.old.storage.core ≡ None }
-        ensures choice { IsClockChoice self.old.storage.core (with_frame self.new.storage.core result.frame (unmarked (frame_at self.old.storage.core result.frame))) result.frame }
+        ensures choice { IsClockChoice self.old.storage.core (with_frame self.new.storage.core result.frame
+            (unmarked (frame_at self.old.storage.core result.frame))) result.frame }
         ensures chosen { clock_choice self.old.storage.core ≡ Some result.frame }
         ensures emptied { IsEmptied self.old self.new result }
         ensures least { least_free_frame self.new.storage.core ≡ Some result.frame }
@@ -296,7 +305,8 @@ impl Segments {
         requires full { least_free_frame self.old.storage.core ≡ None }
         ensures choice { IsClockChoice self.old.storage.core self.new.storage.core result }
         ensures chosen { clock_choice self.old.storage.core ≡ Some result }
-        ensures rest { self.new ≡ record self.old { storage = record self.old.storage { core = self.new.storage.core } } }
+        ensures rest { self.new
+            ≡ record self.old { storage = record self.old.storage { core = self.new.storage.core } } }
         ensures bound { is_bound (frame_at self.new.storage.core result) ≡ true }
         ensures reads { reads_of self.new.storage.core ≡ reads_of self.old.storage.core }
         ensures bindings { bindings self.new.storage.core ≡ bindings self.old.storage.core }

@@ -1,6 +1,5 @@
-use Rattle.std.proofs.Common.{◌≡◌, ℕ, ◌+◌, ◌<◌, List, ap, ◌∙◌, sym, rules, subst, Some, length, vec_capacity, ◌≤◌, map}
-use Rattle.page_control.specs.Plain.{Plain, plain, vtoc_of}
-use Rattle.vtoc.specs.Vtoc.{least_free_entry}
+use Rattle.std.proofs.Common.{◌≡◌, ℕ, ◌+◌, ◌<◌, List, ap, sym, rules, subst, length, vec_capacity, ◌≤◌, map}
+use Rattle.page_control.specs.Plain.{plain}
 use Rattle.paged_segs.specs.Segs.{Segs, segs_of, pages_of, plan_of}
 use Rattle.page_control.specs.Counts.{used, entries, one_more}
 use Rattle.paged_segs.specs.Kept.{IsKept}
@@ -43,7 +42,8 @@ returns-clause-some c =
     (used_room c.self.inside.pages.volumes.vtocs c.args.volume c.in_ok-entry.entry (sym c.in_ok-entry.ensures.least))
 
 pub returns-clause-used : goal.returns-clause-used
-returns-clause-used c = subst (λ (s : Segs). used c.new_home.new.self.volumes.vtocs ≡ one_more (used s.storage.vtocs) c.args.volume) c.self.view_is c.in_ok-entry.ensures.used
+returns-clause-used c = subst (λ (s : Segs). used c.new_home.new.self.volumes.vtocs ≡ one_more (used s.storage.vtocs) c.args.volume) c.self.view_is
+    c.in_ok-entry.ensures.used
 
 pub returns-clause-picture : goal.returns-clause-picture
 returns-clause-picture c =
@@ -61,9 +61,13 @@ returns-clause-picture c =
       stored = c.new_home.ensures.stored;
       zeros = c.in_ok-entry.ensures.zeros;
     }) in
-    subst (λ (homes : List Home). picture (segs_of c.new_home.new.self c.self.inside.tables.items homes) ≡ picture c.args.self.now) (sym c.push_reserved.ensures.items)
-    (subst (λ (old : Segs). picture (made_by s (plain pages_of c.new_home.new.self) (map plan_of c.new_home.new.self.volumes.drives) c.args.volume c.in_ok-entry.entry) ≡ picture old) c.self.view_is
-    (shown_made s (plain pages_of c.new_home.new.self) (map plan_of c.new_home.new.self.volumes.drives) c.args.volume c.in_ok-entry.entry c.self.invariant.0 given))
+    subst (λ (homes : List Home). picture (segs_of c.new_home.new.self c.self.inside.tables.items homes) ≡ picture c.args.self.now)
+    (sym c.push_reserved.ensures.items)
+    (subst (λ (old : Segs). picture
+    (made_by s (plain pages_of c.new_home.new.self) (map plan_of c.new_home.new.self.volumes.drives) c.args.volume c.in_ok-entry.entry) ≡ picture old)
+    c.self.view_is
+    (shown_made s (plain pages_of c.new_home.new.self) (map plan_of c.new_home.new.self.volumes.drives) c.args.volume c.in_ok-entry.entry c.self.invariant.0
+    given))
 
 pub returns-clause-stored : goal.returns-clause-stored
 returns-clause-stored c =
@@ -81,9 +85,13 @@ returns-clause-stored c =
       stored = c.new_home.ensures.stored;
       zeros = c.in_ok-entry.ensures.zeros;
     }) in
-    subst (λ (homes : List Home). is_stored (segs_of c.new_home.new.self c.self.inside.tables.items homes) ≡ is_stored c.args.self.now) (sym c.push_reserved.ensures.items)
-    (subst (λ (old : Segs). is_stored (made_by s (plain pages_of c.new_home.new.self) (map plan_of c.new_home.new.self.volumes.drives) c.args.volume c.in_ok-entry.entry) ≡ is_stored old) c.self.view_is
-    (stored_made s (plain pages_of c.new_home.new.self) (map plan_of c.new_home.new.self.volumes.drives) c.args.volume c.in_ok-entry.entry c.self.invariant.0 given))
+    subst (λ (homes : List Home). is_stored (segs_of c.new_home.new.self c.self.inside.tables.items homes) ≡ is_stored c.args.self.now)
+    (sym c.push_reserved.ensures.items)
+    (subst (λ (old : Segs). is_stored
+    (made_by s (plain pages_of c.new_home.new.self) (map plan_of c.new_home.new.self.volumes.drives) c.args.volume c.in_ok-entry.entry) ≡ is_stored old)
+    c.self.view_is
+    (stored_made s (plain pages_of c.new_home.new.self) (map plan_of c.new_home.new.self.volumes.drives) c.args.volume c.in_ok-entry.entry c.self.invariant.0
+    given))
 
 pub invariant_of-self-2 : goal.invariant_of-self-2
 invariant_of-self-2 c =
@@ -102,11 +110,13 @@ invariant_of-self-2 c =
       zeros = c.in_ok-entry.ensures.zeros;
     }) in
     let room : length c.self.inside.tables.items ≤ vec_capacity c.push_reserved.new.self = rw c.push_reserved.ensures.capacity c.self.invariant.1 in
-    let kept = kept_made s (plain pages_of c.new_home.new.self) (map plan_of c.new_home.new.self.volumes.drives) c.args.volume c.in_ok-entry.entry c.self.invariant.0
+    let kept = kept_made s (plain pages_of c.new_home.new.self) (map plan_of c.new_home.new.self.volumes.drives) c.args.volume c.in_ok-entry.entry
+    c.self.invariant.0
     (ap (map plan_of) c.new_home.ensures.drives) given in
     (subst (λ (homes : List Home). IsKept (segs_of c.new_home.new.self c.self.inside.tables.items homes)) (sym c.push_reserved.ensures.items) kept, room)
 
 pub returns-clause-sizes : goal.returns-clause-sizes
 returns-clause-sizes c =
     subst (λ (s : Segs). HasSizes s.storage (plain pages_of c.new_home.new.self)) c.self.view_is
-    (sizes_made (plain pages_of c.self.inside.pages) (plain pages_of c.new_home.new.self) c.args.volume c.in_ok-entry.entry (c.len-i.result + 2) c.in_ok-entry.ensures.effect)
+    (sizes_made (plain pages_of c.self.inside.pages) (plain pages_of c.new_home.new.self) c.args.volume c.in_ok-entry.entry (c.len-i.result + 2)
+    c.in_ok-entry.ensures.effect)
