@@ -1,5 +1,6 @@
 -- A segment that was just given its home, where no page is stored and none is in a frame.
-use Rattle.std.proofs.Common.{◌≡◌, ℕ, zero, suc, ◌<◌, ◌≤◌, length, arith, Bool, true, false, All, List, [], ◌∷◌, Option, None, Some, refl, sym, ap, ◌∙◌, get_or, replicate, subst}
+use Rattle.std.proofs.Common.{◌≡◌, ℕ, zero, suc, length, arith, Bool, true, false, All, List, [], ◌∷◌, Option, None, Some, refl, sym, ap, ◌∙◌, get_or}
+use Rattle.std.proofs.Common.{replicate, subst}
 use Rattle.std.specs.Prelude.{IfSome}
 use Rattle.std.proofs.Math.ListN.{get_or-map}
 use Rattle.std.proofs.lemmas.List.Elements.{All-get_or}
@@ -58,7 +59,8 @@ none_used : (v r : ℕ) → in_use (flags_in (replicate 3 false ∷ []) v) r ≡
 none_used zero r = alike 3 r false
 none_used (suc v) r = refl
 
-fresh_filed : (records : List (List Bool)) (vtocs : List (List (Option Entry))) → records ≡ replicate 3 false ∷ [] → vtocs ≡ (None ∷ None ∷ []) ∷ [] → AreFiled records vtocs
+fresh_filed : (records : List (List Bool)) (vtocs : List (List (Option Entry))) → records ≡ replicate 3 false ∷ [] → vtocs ≡ (None ∷ None ∷ []) ∷ []
+    → AreFiled records vtocs
 fresh_filed records vtocs r v = rw (r, v) (record {
   used = λ w e p k at. absurd (not_none _ k (none_named w e p) at);
   once = λ w e p g q k at those. absurd (not_none _ k (none_named w e p) at);
@@ -76,7 +78,8 @@ tie_fresh old now table result free records vtocs null least tie =
     number : (e : ℕ) → ◌≡◌ {A = Option ℕ} (Some e) (Some 0) → e ≡ 0
     number e is = cc
 
-    given : (result : Option ℕ) → result ≡ Some 0 → IfSome result (λ e. (words : List Ptw) → IsBlank words → HasNoFrame (bindings old.core) 7 → AreFiled old.records old.vtocs
+    given : (result : Option ℕ) → result ≡ Some 0
+        → IfSome result (λ e. (words : List Ptw) → IsBlank words → HasNoFrame (bindings old.core) 7 → AreFiled old.records old.vtocs
         → IsTied now 7 (record { volume = 0; entry = e }) words) → IsTied now 7 (record { volume = 0; entry = 0 }) table
     given None is tie = absurd (not_none None 0 refl is)
     given (Some e) is tie =

@@ -1,4 +1,4 @@
-use Rattle.std.proofs.Common.{rules, sym}
+use Rattle.std.proofs.Common.{rules}
 use Rattle.paging_tests.proofs.Fresh.{tie_for}
 use Rattle.paging_tests.proofs.tests.pages.evicts_a_page_to_its_record_and_reads_it_back.Goals as goal
 

@@ -1,4 +1,4 @@
-use Rattle.std.proofs.Common.{rules, sym}
+use Rattle.std.proofs.Common.{rules}
 use Rattle.paging_tests.proofs.Fresh.{tie_for}
 use Rattle.paging_tests.proofs.tests.pages.gives_the_record_of_a_page_of_zeros_back.Goals as goal
 

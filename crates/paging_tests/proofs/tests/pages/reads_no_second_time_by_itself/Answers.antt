@@ -1,4 +1,4 @@
-use Rattle.std.proofs.Common.{rules, sym}
+use Rattle.std.proofs.Common.{rules}
 use Rattle.paging_tests.proofs.Fresh.{tie_for}
 use Rattle.paging_tests.proofs.tests.pages.reads_no_second_time_by_itself.Goals as goal
 
