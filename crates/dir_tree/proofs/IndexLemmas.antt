@@ -19,6 +19,7 @@ use Rattle.dir_tree.specs.Shape.{shape}
 use Rattle.dir_tree.specs.Index.{Key, HasPlace, IsSorted, node_at, key_of, key_at, key_cmp}
 use Rattle.dir_tree.proofs.EditLemmas.{was, was_other, was_up, at_was, fewer, was_within}
 use Rattle.tree_model.proofs.TreeLaws.{lies, is_below}
+use Rattle.dir_tree.specs.Laws.{Where, Before, Here, After, where_is}
 
 -- ---- the order of keys
 
@@ -75,18 +76,6 @@ key_branch d name n e =
     and_from (is_inferior d (shape n)) (bytes_eq n.name name) (is_below d (shape n) up) ((bytes_eq-Decides n.name name).1 same)
 
 -- ---- one place more
-
--- where a place of the longer list stands
-data Where (k i : ℕ) : Type 0 where
-  Before : k < i → Where k i
-  Here : k ≡ i → Where k i
-  After : (j : ℕ) → k ≡ j + 1 → i ≤ j → Where k i
-
-where_is : (k i : ℕ) → Where k i
-where_is k i = elim (cases_order k i) [
-  | inl same ↦ Here same
-  | inr differ ↦ elim differ [ inl lt ↦ Before lt | inr gt ↦ After (k - 1) (omega arith) (omega arith) ]
-]
 
 module _ (ps : List ℕ) (i place : ℕ) (within : i ≤ length ps) where
   abbrev longer : List ℕ

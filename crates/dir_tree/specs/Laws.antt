@@ -1,7 +1,7 @@
 -- Laws of uids and kinds, for the proofs of the crates above too.
-use Rattle.std.specs.Prelude.{◌≡◌, ℕ, Bool, true, false, ◌||◌, ◌&&◌, not, is_some, List, [], ◌∷◌, map}
-use Rattle.std.proofs.Common.{cond, eqb, refl, sym, ap, ◌∙◌, inl, inr}
-use Rattle.std.proofs.lemmas.Bool.{cases_Bool, or_left, or_right, or_parts}
+use Rattle.std.specs.Prelude.{◌≡◌, ◌<◌, ◌≤◌, ◌+◌, ◌-◌, ℕ, Bool, true, false, ◌||◌, ◌&&◌, not, is_some, List, [], ◌∷◌, map}
+use Rattle.std.proofs.Common.{arith, cond, eqb, refl, sym, ap, ◌∙◌, inl, inr}
+use Rattle.std.proofs.lemmas.Bool.{cases_Bool, cases_order, or_left, or_right, or_parts}
 use Rattle.tree_model.specs.Tree.{Node as Term, above, step_up, node_in, has_directory}
 use Rattle.tree_model.specs.Trees.{has_segment}
 use Rattle.dir_tree.specs.declared.node.Node.{Node}
@@ -73,3 +73,17 @@ directory_not ns u is = rw is at (kinds_apart ns u)
 pub above_any : (q : ℕ → ℕ) (ns : List Node) (u : ℕ) → above (with_quotas q ns) u ≡ above (shapes ns) u
 above_any q [] u = refl
 above_any q (n ∷ ns) u = ap (λ (f : ℕ → List ℕ). cond (eqb n.uid u) (step_up f n.superior) (f u)) (λ i. λ v. above_any q ns v i)
+
+-- ---- lists that one more comes into
+
+-- where a place of the longer list stands: before the new one, on it, or after it, where it is one further
+pub data Where (k i : ℕ) : Type 0 where
+  Before : k < i → Where k i
+  Here : k ≡ i → Where k i
+  After : (j : ℕ) → k ≡ j + 1 → i ≤ j → Where k i
+
+pub where_is : (k i : ℕ) → Where k i
+where_is k i = elim (cases_order k i) [
+  | inl same ↦ Here same
+  | inr differ ↦ elim differ [ inl lt ↦ Before lt | inr gt ↦ After (k - 1) (omega arith) (omega arith) ]
+]

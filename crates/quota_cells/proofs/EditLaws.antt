@@ -1,13 +1,14 @@
 -- One more value beside a uid, 0, and one less.
-use Rattle.std.proofs.Common.{◌≡◌, ◌≢◌, ℕ, suc, zero, ◌+◌, ◌-◌, ◌<◌, ◌≤◌, Bool, true, false, eqb, not, ◌&&◌, ◌||◌, if◌then◌else◌, List, [], ◌∷◌, length, refl, sym, ap, ◌∙◌, arith, get_or, inl, inr}
+use Rattle.std.proofs.Common.{◌≡◌, ◌≢◌, ℕ, suc, zero, ◌+◌, ◌<◌, ◌≤◌, Bool, true, false, eqb, not, ◌&&◌, ◌||◌, if◌then◌else◌, List, [], ◌∷◌, length, refl, sym, ap, ◌∙◌, arith, get_or, inl, inr}
 use Rattle.std.specs.List.{insert, remove}
-use Rattle.std.proofs.lemmas.Bool.{cases_Bool, cases_eq, cases_lt, cases_order, eq-eqb, ne_eqb}
+use Rattle.std.proofs.lemmas.Bool.{cases_Bool, cases_eq, cases_lt, eq-eqb, ne_eqb}
 use Rattle.std.proofs.lemmas.List.Edits.{length-insert, get_or-insert_below, get_or-insert_at, get_or-insert_above, length-remove, get_or-remove_below, get_or-remove_above}
 use Rattle.quota_cells.specs.Accounts.{look, has, weigh}
 use Rattle.quota_cells.specs.Cells.{IsRising}
 use Rattle.quota_cells.specs.Columns.{IsGap}
 use Rattle.quota_cells.proofs.PlaceLaws.{absent}
 use Rattle.quota_cells.specs.Laws.{look_absent}
+use Rattle.dir_tree.specs.Laws.{Where, Before, Here, After, where_is}
 
 pub has_insert : (ks : List ℕ) (i u v : ℕ) → has (insert ks i u) v ≡ (eqb u v || has ks v)
 has_insert ks zero u v = refl
@@ -73,17 +74,6 @@ weigh_remove t (k ∷ ks) (w ∷ ws) zero len lt none = rw none (elim (cases_Boo
 weigh_remove t (k ∷ ks) (w ∷ ws) (suc i) len lt none = ap (λ n. (if t k then w else 0) + n) (weigh_remove t ks ws i (omega arith) (omega arith) none)
 
 -- ---- rising
-
-data Where (k i : ℕ) : Type 0 where
-  Before : k < i → Where k i
-  Here : k ≡ i → Where k i
-  After : (j : ℕ) → k ≡ j + 1 → i ≤ j → Where k i
-
-where_is : (k i : ℕ) → Where k i
-where_is k i = elim (cases_order k i) [
-  | inl same ↦ Here same
-  | inr differ ↦ elim differ [ inl lt ↦ Before lt | inr gt ↦ After (k - 1) (omega arith) (omega arith) ]
-]
 
 module _ (ks : List ℕ) (u i : ℕ) (up : IsRising ks) (gap : IsGap ks u i) where
   at_before : (k : ℕ) → k < i → get_or (insert ks i u) k 0 ≡ get_or ks k 0
