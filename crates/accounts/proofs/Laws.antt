@@ -1,5 +1,6 @@
 -- What the tree and its cells show, said of the nodes with their quotas.
-use Rattle.std.proofs.Common.{◌≡◌, ◌≢◌, ◌≤◌, ℕ, true, false, cond, eqb, not, List, [], ◌∷◌, map, Option, Some, None, Result, Ok, Err, refl, sym, ap, subst, ◌∙◌, arith, inl, inr, is_some, if◌then◌else◌, ◌<◌}
+use Rattle.std.proofs.Common.{◌≡◌, ◌≢◌, ◌≤◌, ℕ, true, false, cond, eqb, not, List, [], ◌∷◌, map, Option, Some, None, Result, Ok, Err, refl, sym, ap, subst}
+use Rattle.std.proofs.Common.{◌∙◌, arith, inl, inr, is_some, if◌then◌else◌, ◌<◌}
 use Rattle.std.specs.Prelude.{IfSome, IfNone, IfOk, OnOk, OnErr}
 use Rattle.std.proofs.lemmas.Bool.{cases_Bool, cases_eq, eq-eqb, ne_eqb}
 use Rattle.tree_model.specs.Access.{Row, with_row}
@@ -7,13 +8,15 @@ use Rattle.tree_model.specs.Tree.{Node as Term, has_directory, node_in, quota_in
 use Rattle.tree_model.specs.Trees.{has_segment, HasChains, IsTree, Joins, AreBelow}
 use Rattle.dir_tree.specs.declared.node.Node.{Node}
 use Rattle.dir_tree.specs.declared.node.NewNode.{NewNode}
-use Rattle.dir_tree.specs.Nodes.{Branches, as_term, with_quotas, node_of, is_in, is_directory, is_segment, added, removed, without, unless, with_length, with_changed, with_acl, with_home, acl_of}
+use Rattle.dir_tree.specs.Nodes.{Branches, as_term, with_quotas, node_of, is_in, is_directory, is_segment, added, removed, without, unless, with_length}
+use Rattle.dir_tree.specs.Nodes.{with_changed, with_acl, with_home, acl_of}
 use Rattle.dir_tree.specs.Shape.{shape, shapes}
 use Rattle.quota_cells.specs.Accounts.{look, has, is_an_account}
 use Rattle.quota_cells.specs.Cells.{CellMaps, quota_in, stored_in, used_in, AreWithin, Fits, Enters, Leaves}
 use Rattle.dir_tree.specs.Laws.{directory_shown as kind_of_directory, segment_shown as kind_of_segment, uid_shown, segment_in, not_in_directory}
 use Rattle.quota_cells.specs.Laws.{look_absent, on_directories, on_segments}
-use Rattle.accounts.specs.Maps.{AccountMaps, accounts_of, entry_of, branch_of, Recounts, Changes, Gains, Loses, Rehomes, rows_in, with_row_in}
+use Rattle.accounts.specs.Maps.{AccountMaps, accounts_of, entry_of, branch_of, Recounts, Changes, Gains, Loses, Rehomes, rows_in}
+use Rattle.accounts.specs.Maps.{with_row_in}
 
 -- ---- uids of the tree
 
@@ -30,7 +33,8 @@ none_there : {X : Type 0} (o : Option X) → is_some o ≡ false → o ≡ None
 none_there None e = refl
 none_there (Some x) e = cc
 
-pub walked : {E : Type 0} (q : ℕ → ℕ) (ns : List Node) (r : Result ℕ E) → IfOk r (λ u. is_in ns u ≡ true) → IfOk r (λ u. is_some (node_in (with_quotas q ns) u) ≡ true)
+pub walked : {E : Type 0} (q : ℕ → ℕ) (ns : List Node) (r : Result ℕ E) → IfOk r (λ u. is_in ns u ≡ true)
+    → IfOk r (λ u. is_some (node_in (with_quotas q ns) u) ≡ true)
 walked q ns (Ok u) h = there_any q ns u ∙ h
 walked q ns (Err e) h = tt
 
@@ -45,7 +49,8 @@ module _ (t : Branches) (c : CellMaps) (a : AccountMaps) (shown : accounts_of t 
   there_of u h = sym (there_any (quota_in c) t.nodes u) ∙ ap (λ (x : AccountMaps). is_some (node_in x.nodes u)) shown ∙ h
 
   pub fresh_of : is_in t.nodes t.next ≡ false → node_in a.nodes a.next ≡ None
-  fresh_of h = subst (λ (x : AccountMaps). node_in x.nodes x.next ≡ None) shown (none_there (node_in (with_quotas (quota_in c) t.nodes) t.next) (there_any (quota_in c) t.nodes t.next ∙ h))
+  fresh_of h = subst (λ (x : AccountMaps). node_in x.nodes x.next ≡ None) shown
+      (none_there (node_in (with_quotas (quota_in c) t.nodes) t.next) (there_any (quota_in c) t.nodes t.next ∙ h))
 
   module _ (fits : Fits t.nodes c) where
     pub directory_cell : (u : ℕ) → has_directory a.nodes u ≡ true → has c.directories u ≡ true
@@ -65,7 +70,8 @@ pub segment_found : {X : Type 0} (ns : List Node) (u : ℕ) (r : Option X) → i
 segment_found ns u None isnt none seg = no_segment ns u none seg
 segment_found ns u (Some x) isnt none seg = cc
 
-kind_is : (q : ℕ → ℕ) (ns : List Node) (u : ℕ) (n : Node) → node_of ns u ≡ Some n → (has_directory (with_quotas q ns) u ≡ n.dir) × (has_segment (with_quotas q ns) u ≡ not n.dir)
+kind_is : (q : ℕ → ℕ) (ns : List Node) (u : ℕ) (n : Node) → node_of ns u ≡ Some n
+    → (has_directory (with_quotas q ns) u ≡ n.dir) × (has_segment (with_quotas q ns) u ≡ not n.dir)
 kind_is q [] u n e = cc
 kind_is q (m ∷ ns) u n e = elim (cases_Bool (eqb m.uid u)) [
   | inl is ↦ (let z : Some m ≡ Some n = rw is at e in let same : m ≡ n = cc in rw is (ap (λ (x : Node). x.dir) same, ap (λ (x : Node). not x.dir) same))
@@ -92,7 +98,8 @@ quota_node q (n ∷ ns) u none = elim (cases_eq n.uid u) [
 ]
 
 pub quota_shown : (t : Branches) (c : CellMaps) → Fits t.nodes c → (u : ℕ) → quota_at (accounts_of t c).nodes u ≡ quota_in c u
-quota_shown t c fits u = quota_node (quota_in c) t.nodes u (λ e. look_absent c.directories c.quotas u (on_directories t.nodes fits u ∙ not_in_directory t.nodes u e))
+quota_shown t c fits u = quota_node (quota_in c) t.nodes u
+    (λ e. look_absent c.directories c.quotas u (on_directories t.nodes fits u ∙ not_in_directory t.nodes u e))
 
 pub node_shown : {X : Type 0} (f : X → Node) (t : Branches) (c : CellMaps) → Fits t.nodes c → (u : ℕ) (r : Option X)
     → IfSome r (λ x. node_in (with_quotas (quota_in c) t.nodes) u ≡ Some (as_term (quota_in c) (f x)))
@@ -116,7 +123,8 @@ entry_is (m ∷ ns) u n e = elim (cases_Bool (eqb m.uid u)) [
   | inr isnt ↦ rw isnt (entry_is ns u n (rw isnt at e))
 ]
 
-pub entry_shown : {X : Type 0} (f : X → Node) (t : Branches) (c : CellMaps) (u : ℕ) (r : Option X) → IfSome r (λ x. node_of t.nodes u ≡ Some (f x)) → IfSome r (λ x. entry_of (accounts_of t c) u ≡ (f x).entry)
+pub entry_shown : {X : Type 0} (f : X → Node) (t : Branches) (c : CellMaps) (u : ℕ) (r : Option X) → IfSome r (λ x. node_of t.nodes u ≡ Some (f x))
+    → IfSome r (λ x. entry_of (accounts_of t c) u ≡ (f x).entry)
 entry_shown f t c u None h = tt
 entry_shown f t c u (Some x) h = entry_any (quota_in c) t.nodes u ∙ entry_is t.nodes u (f x) h
 
@@ -139,15 +147,18 @@ used_within t c fits within a = rw (quota_shown t c fits a) (elim (cases_Bool (i
 
 -- ---- changes
 
-pub recounted : (t : Branches) (c d : CellMaps) (seg n : ℕ) → quota_in d ≡ quota_in c → ((s : ℕ) → stored_in d s ≡ (if eqb seg s then n else stored_in c s)) → Recounts (accounts_of t c) (accounts_of t d) seg n
+pub recounted : (t : Branches) (c d : CellMaps) (seg n : ℕ) → quota_in d ≡ quota_in c → ((s : ℕ) → stored_in d s ≡ (if eqb seg s then n else stored_in c s))
+    → Recounts (accounts_of t c) (accounts_of t d) seg n
 recounted t c d seg n quotas counts = record { nodes = ap (λ (q : ℕ → ℕ). with_quotas q t.nodes) quotas; entries = refl; next = refl; counts = counts }
 
-pub charged_shown : {E : Type 0} (t : Branches) (c d : CellMaps) (seg n : ℕ) (r : Result (Unit {0}) E) → quota_in d ≡ quota_in c → OnOk r ((s : ℕ) → stored_in d s ≡ (if eqb seg s then n else stored_in c s))
+pub charged_shown : {E : Type 0} (t : Branches) (c d : CellMaps) (seg n : ℕ) (r : Result (Unit {0}) E) → quota_in d ≡ quota_in c
+    → OnOk r ((s : ℕ) → stored_in d s ≡ (if eqb seg s then n else stored_in c s))
     → OnOk r (Recounts (accounts_of t c) (accounts_of t d) seg n)
 charged_shown t c d seg n (Ok x) quotas counts = recounted t c d seg n quotas counts
 charged_shown t c d seg n (Err e) quotas counts = tt
 
-pub moved_shown : {E : Type 0} (t : Branches) (c d : CellMaps) (nodes : List Term) (r : Result (Unit {0}) E) → OnOk r (with_quotas (quota_in d) t.nodes ≡ nodes) → ((s : ℕ) → stored_in d s ≡ stored_in c s)
+pub moved_shown : {E : Type 0} (t : Branches) (c d : CellMaps) (nodes : List Term) (r : Result (Unit {0}) E)
+    → OnOk r (with_quotas (quota_in d) t.nodes ≡ nodes) → ((s : ℕ) → stored_in d s ≡ stored_in c s)
     → OnOk r (Changes (accounts_of t c) (accounts_of t d) nodes)
 moved_shown t c d nodes (Ok x) is counts = record { nodes = is; entries = refl; next = refl; counts = counts }
 moved_shown t c d nodes (Err e) is counts = tt
@@ -160,16 +171,21 @@ unless_ok (Some f) x y e = cc
 abbrev pub node_for : ℕ → ℕ → NewNode → Node
 node_for uid s n = record { uid = uid; superior = Some s; name = n.name; dir = n.dir; volume = n.volume; entry = n.entry; length = n.length; acl = n.acl }
 
-pub enters_fit : (old new : Branches) (s : ℕ) (n : NewNode) (uid : ℕ) (before after : CellMaps) → new ≡ added old s n → uid ≡ old.next → is_in old.nodes old.next ≡ false → HasChains (shapes old.nodes) → Fits old.nodes before
-    → ((nodes : List Node) (m : Node) → m.uid ≡ uid → m.dir ≡ n.dir → is_in nodes uid ≡ false → HasChains (shapes nodes) → Fits nodes before → Fits (m ∷ nodes) after) → Fits new.nodes after
+pub enters_fit : (old new : Branches) (s : ℕ) (n : NewNode) (uid : ℕ) (before after : CellMaps) → new ≡ added old s n → uid ≡ old.next
+    → is_in old.nodes old.next ≡ false → HasChains (shapes old.nodes) → Fits old.nodes before
+    → ((nodes : List Node) (m : Node) → m.uid ≡ uid → m.dir ≡ n.dir → is_in nodes uid ≡ false → HasChains (shapes nodes) → Fits nodes before
+    → Fits (m ∷ nodes) after) → Fits new.nodes after
 enters_fit old new s n uid before after is next fresh chains fits enters =
-    subst (λ (t : Branches). Fits t.nodes after) (sym is) (enters old.nodes (node_for old.next s n) (sym next) refl (subst (λ u. is_in old.nodes u ≡ false) (sym next) fresh) chains fits)
+    subst (λ (t : Branches). Fits t.nodes after) (sym is)
+    (enters old.nodes (node_for old.next s n) (sym next) refl (subst (λ u. is_in old.nodes u ≡ false) (sym next) fresh) chains fits)
 
-pub gained : (old new : Branches) (s : ℕ) (n : NewNode) (uid : ℕ) (before after : CellMaps) → new ≡ added old s n → uid ≡ old.next → is_in old.nodes old.next ≡ false → Fits old.nodes before → Enters before after uid n.dir
+pub gained : (old new : Branches) (s : ℕ) (n : NewNode) (uid : ℕ) (before after : CellMaps) → new ≡ added old s n → uid ≡ old.next
+    → is_in old.nodes old.next ≡ false → Fits old.nodes before → Enters before after uid n.dir
     → Gains (accounts_of old before) (accounts_of new after) (branch_of old.next s n) n.entry
 gained old new s n uid before after is next fresh fits enters =
     let same : quota_in after ≡ quota_in before = λ i d. enters.quotas d i in
-    let none : quota_in before old.next ≡ 0 = look_absent before.directories before.quotas old.next (on_directories old.nodes fits old.next ∙ not_in_directory old.nodes old.next fresh) in
+    let none : quota_in before old.next ≡ 0 =
+    look_absent before.directories before.quotas old.next (on_directories old.nodes fits old.next ∙ not_in_directory old.nodes old.next fresh) in
     record {
       nodes =
           ap (λ (t : Branches). with_quotas (quota_in after) t.nodes) is ∙ ap (λ (q : ℕ → ℕ). with_quotas q (node_for old.next s n ∷ old.nodes)) same
@@ -179,39 +195,51 @@ gained old new s n uid before after is next fresh fits enters =
       counts = enters.stored;
     }
 
-pub lost : (old new : Branches) (before after : CellMaps) (uid : ℕ) → new ≡ removed old uid → Leaves before after uid → Loses (accounts_of old before) (accounts_of new after) uid
+pub lost : (old new : Branches) (before after : CellMaps) (uid : ℕ) → new ≡ removed old uid → Leaves before after uid
+    → Loses (accounts_of old before) (accounts_of new after) uid
 lost old new before after uid is leaves =
     let same : quota_in after ≡ quota_in before = λ i d. leaves.quotas d i in
     record {
-      nodes = ap (λ (t : Branches). with_quotas (quota_in after) t.nodes) is ∙ ap (λ (q : ℕ → ℕ). with_quotas q (without uid old.nodes)) same ∙ filtered (quota_in before) old.nodes;
-      entries = λ u other. entry_any (quota_in after) new.nodes u ∙ ap (λ (t : Branches). entry_in t.nodes u) is ∙ entry_left old.nodes uid u other ∙ sym (entry_any (quota_in before) old.nodes u);
+      nodes = ap (λ (t : Branches). with_quotas (quota_in after) t.nodes) is ∙ ap (λ (q : ℕ → ℕ). with_quotas q (without uid old.nodes)) same
+          ∙ filtered (quota_in before) old.nodes;
+      entries = λ u other. entry_any (quota_in after) new.nodes u ∙ ap (λ (t : Branches). entry_in t.nodes u) is ∙ entry_left old.nodes uid u other
+          ∙ sym (entry_any (quota_in before) old.nodes u);
       next = ap (λ (t : Branches). t.next) is;
       counts = leaves.stored;
     }
   where
     filtered : (q : ℕ → ℕ) (ns : List Node) → with_quotas q (without uid ns) ≡ without_node (with_quotas q ns) uid
     filtered q [] = refl
-    filtered q (n ∷ ns) = elim (cases_Bool (eqb n.uid uid)) [ inl is ↦ rw is (filtered q ns) | inr isnt ↦ rw isnt (ap (λ (ms : List Term). as_term q n ∷ ms) (filtered q ns)) ]
+    filtered q (n ∷ ns) = elim (cases_Bool (eqb n.uid uid)) [
+      | inl is ↦ rw is (filtered q ns)
+      | inr isnt ↦
+          rw isnt (ap (λ (ms : List Term). as_term q n ∷ ms) (filtered q ns))
+    ]
 
 -- nodes of one uid changed
 module _ (q : ℕ → ℕ) (uid : ℕ) (change : Node → Node) (shown : Term → Term) (same : (n : Node) → as_term q (change n) ≡ shown (as_term q n)) where
   changed_nodes : (ns : List Node) → with_quotas q (with_changed uid change ns) ≡ with_node (with_quotas q ns) uid shown
   changed_nodes [] = refl
   changed_nodes (n ∷ ns) = elim (cases_Bool (eqb n.uid uid)) [
-    | inl is ↦ rw is (ap (λ (m : Term). m ∷ with_quotas q (with_changed uid change ns)) (same n) ∙ ap (λ (ms : List Term). shown (as_term q n) ∷ ms) (changed_nodes ns))
+    | inl is ↦ rw is (ap (λ (m : Term). m ∷ with_quotas q (with_changed uid change ns)) (same n)
+        ∙ ap (λ (ms : List Term). shown (as_term q n) ∷ ms) (changed_nodes ns))
     | inr isnt ↦ rw isnt (ap (λ (ms : List Term). as_term q n ∷ ms) (changed_nodes ns))
   ]
 
-same_entries : (uid : ℕ) (change : Node → Node) → ((n : Node) → (change n).entry ≡ n.entry) → (ns : List Node) → map (λ n. n.entry) (with_changed uid change ns) ≡ map (λ n. n.entry) ns
+same_entries : (uid : ℕ) (change : Node → Node) → ((n : Node) → (change n).entry ≡ n.entry) → (ns : List Node)
+    → map (λ n. n.entry) (with_changed uid change ns) ≡ map (λ n. n.entry) ns
 same_entries uid change same [] = refl
 same_entries uid change same (n ∷ ns) = elim (cases_Bool (eqb n.uid uid)) [
-  | inl is ↦ rw is (ap (λ (e : ℕ). e ∷ map (λ n. n.entry) (with_changed uid change ns)) (same n) ∙ ap (λ (es : List ℕ). n.entry ∷ es) (same_entries uid change same ns))
+  | inl is ↦ rw is (ap (λ (e : ℕ). e ∷ map (λ n. n.entry) (with_changed uid change ns)) (same n)
+      ∙ ap (λ (es : List ℕ). n.entry ∷ es) (same_entries uid change same ns))
   | inr isnt ↦ rw isnt (ap (λ (es : List ℕ). n.entry ∷ es) (same_entries uid change same ns))
 ]
 
-pub length_shown : (old new : Branches) (c : CellMaps) (uid pages : ℕ) → new ≡ with_length old uid pages → Changes (accounts_of old c) (accounts_of new c) (with_node (accounts_of old c).nodes uid (λ n. record n { pages = pages }))
+pub length_shown : (old new : Branches) (c : CellMaps) (uid pages : ℕ) → new ≡ with_length old uid pages
+    → Changes (accounts_of old c) (accounts_of new c) (with_node (accounts_of old c).nodes uid (λ n. record n { pages = pages }))
 length_shown old new c uid pages is = record {
-  nodes = ap (λ (t : Branches). with_quotas (quota_in c) t.nodes) is ∙ changed_nodes (quota_in c) uid (λ n. record n { length = pages }) (λ n. record n { pages = pages }) (λ n. refl) old.nodes;
+  nodes = ap (λ (t : Branches). with_quotas (quota_in c) t.nodes) is
+      ∙ changed_nodes (quota_in c) uid (λ n. record n { length = pages }) (λ n. record n { pages = pages }) (λ n. refl) old.nodes;
   entries = ap (λ (t : Branches). map (λ n. n.entry) t.nodes) is ∙ same_entries uid (λ n. record n { length = pages }) (λ n. refl) old.nodes;
   next = ap (λ (t : Branches). t.next) is;
   counts = λ s. refl;
@@ -230,18 +258,22 @@ below_all ns (Some s) n j = j.later
 
 none_changed : (ns : List Node) (uid : ℕ) (change : Node → Node) → AreBelow uid (shapes ns) → with_changed uid change ns ≡ ns
 none_changed [] uid change below = refl
-none_changed (n ∷ ns) uid change below = (let lt : n.uid < uid = below.0 in rw (ne_eqb n.uid uid (λ e. omega arith)) (ap (λ (ms : List Node). n ∷ ms) (none_changed ns uid change below.1)))
+none_changed (n ∷ ns) uid change below =
+    (let lt : n.uid < uid = below.0 in rw (ne_eqb n.uid uid (λ e. omega arith)) (ap (λ (ms : List Node). n ∷ ms) (none_changed ns uid change below.1)))
 
 -- no two nodes of a tree have the same uid, so a list that is set is that of the node
-own_list : (f : List Row → List Row) (ns : List Node) → IsTree (shapes ns) → (uid : ℕ) (rows : List Row) → acl_of ns uid ≡ rows → with_changed uid (λ n. record n { acl = f rows }) ns ≡ with_changed uid (λ n. record n { acl = f n.acl }) ns
+own_list : (f : List Row → List Row) (ns : List Node) → IsTree (shapes ns) → (uid : ℕ) (rows : List Row) → acl_of ns uid ≡ rows
+    → with_changed uid (λ n. record n { acl = f rows }) ns ≡ with_changed uid (λ n. record n { acl = f n.acl }) ns
 own_list f [] tree uid rows is = refl
 own_list f (n ∷ ns) tree uid rows is = elim (cases_eq n.uid uid) [
   | inl same ↦
       (let below : AreBelow uid (shapes ns) = subst (λ u. AreBelow u (shapes ns)) same (below_all (shapes ns) n.superior (shape n) tree.0) in
       let own : n.acl ≡ rows = rw (eq-eqb n.uid uid same) at is in
       rw (eq-eqb n.uid uid same)
-      (ap (λ (m : Node). m ∷ with_changed uid (λ n. record n { acl = f rows }) ns) (ap (λ (xs : List Row). record n { acl = f xs }) (sym own)) ∙ ap (λ (ms : List Node). record n { acl = f n.acl } ∷ ms) (none_changed ns uid _ below ∙ sym (none_changed ns uid _ below))))
-  | inr other ↦ (let own = rw (ne_eqb n.uid uid other) at is in rw (ne_eqb n.uid uid other) (ap (λ (ms : List Node). n ∷ ms) (own_list f ns tree.1 uid rows own)))
+      (ap (λ (m : Node). m ∷ with_changed uid (λ n. record n { acl = f rows }) ns) (ap (λ (xs : List Row). record n { acl = f xs }) (sym own))
+      ∙ ap (λ (ms : List Node). record n { acl = f n.acl } ∷ ms) (none_changed ns uid _ below ∙ sym (none_changed ns uid _ below))))
+  | inr other ↦ (let own = rw (ne_eqb n.uid uid other) at is in
+      rw (ne_eqb n.uid uid other) (ap (λ (ms : List Node). n ∷ ms) (own_list f ns tree.1 uid rows own)))
 ]
 
 list_kept : (ns : List Node) (uid : ℕ) → with_changed uid (λ n. record n { acl = n.acl }) ns ≡ ns
@@ -251,25 +283,32 @@ list_kept (n ∷ ns) uid = elim (cases_Bool (eqb n.uid uid)) [
   | inr isnt ↦ rw isnt (ap (λ (ms : List Node). n ∷ ms) (list_kept ns uid))
 ]
 
-pub row_set : {E : Type 0} (t : Branches) (c : CellMaps) → IsTree (shapes t.nodes) → (uid : ℕ) (row : Row) (rows acl : List Row) (r : Result (Unit {0}) E) → acl ≡ acl_of t.nodes uid → OnOk r (rows ≡ with_row row acl)
+pub row_set : {E : Type 0} (t : Branches) (c : CellMaps) → IsTree (shapes t.nodes) → (uid : ℕ) (row : Row) (rows acl : List Row) (r : Result (Unit {0}) E)
+    → acl ≡ acl_of t.nodes uid → OnOk r (rows ≡ with_row row acl)
     → OnOk r (Changes (accounts_of t c) (accounts_of (with_acl t uid rows) c) (with_row_in (accounts_of t c).nodes uid row))
 row_set t c tree uid row rows acl (Err e) was is = tt
 row_set t c tree uid row rows acl (Ok x) was is =
     let own : with_acl t uid rows ≡ record { nodes = with_changed uid (λ n. record n { acl = with_row row n.acl }) t.nodes; next = t.next } =
-    ap (with_acl t uid) (is ∙ ap (with_row row) was) ∙ ap (λ (ns : List Node). record { nodes = ns; next = t.next }) (own_list (with_row row) t.nodes tree uid (acl_of t.nodes uid) refl)
+    ap (with_acl t uid) (is ∙ ap (with_row row) was)
+    ∙ ap (λ (ns : List Node). record { nodes = ns; next = t.next }) (own_list (with_row row) t.nodes tree uid (acl_of t.nodes uid) refl)
     in record {
-      nodes = ap (λ (t : Branches). with_quotas (quota_in c) t.nodes) own ∙ changed_nodes (quota_in c) uid (λ n. record n { acl = with_row row n.acl }) (λ n. record n { rows = with_row row n.rows }) (λ n. refl) t.nodes;
+      nodes = ap (λ (t : Branches). with_quotas (quota_in c) t.nodes) own
+          ∙ changed_nodes (quota_in c) uid (λ n. record n { acl = with_row row n.acl }) (λ n. record n { rows = with_row row n.rows }) (λ n. refl) t.nodes;
       entries = same_entries uid (λ n. record n { acl = rows }) (λ n. refl) t.nodes;
       next = refl;
       counts = λ s. refl;
     }
 
-pub row_refused : {E : Type 0} (t : Branches) (c : CellMaps) → IsTree (shapes t.nodes) → (uid : ℕ) (rows acl : List Row) (r : Result (Unit {0}) E) → acl ≡ acl_of t.nodes uid → OnErr r (rows ≡ acl) → OnErr r (accounts_of (with_acl t uid rows) c ≡ accounts_of t c)
+pub row_refused : {E : Type 0} (t : Branches) (c : CellMaps) → IsTree (shapes t.nodes) → (uid : ℕ) (rows acl : List Row) (r : Result (Unit {0}) E)
+    → acl ≡ acl_of t.nodes uid → OnErr r (rows ≡ acl) → OnErr r (accounts_of (with_acl t uid rows) c ≡ accounts_of t c)
 row_refused t c tree uid rows acl (Ok x) was is = tt
 row_refused t c tree uid rows acl (Err e) was is =
-    ap (λ (xs : List Row). accounts_of (with_acl t uid xs) c) (is ∙ was) ∙ ap (λ (ns : List Node). accounts_of (record { nodes = ns; next = t.next }) c) (own_list (λ xs. xs) t.nodes tree uid (acl_of t.nodes uid) refl ∙ list_kept t.nodes uid)
+    ap (λ (xs : List Row). accounts_of (with_acl t uid xs) c) (is ∙ was)
+    ∙ ap (λ (ns : List Node). accounts_of (record { nodes = ns; next = t.next }) c)
+    (own_list (λ xs. xs) t.nodes tree uid (acl_of t.nodes uid) refl ∙ list_kept t.nodes uid)
 
-entry_changed : (ns : List Node) (uid volume entry u : ℕ) → is_in ns uid ≡ true → entry_in (with_changed uid (λ n. record n { volume = volume; entry = entry }) ns) u ≡ (if eqb uid u then entry else entry_in ns u)
+entry_changed : (ns : List Node) (uid volume entry u : ℕ) → is_in ns uid ≡ true
+    → entry_in (with_changed uid (λ n. record n { volume = volume; entry = entry }) ns) u ≡ (if eqb uid u then entry else entry_in ns u)
 entry_changed [] uid volume entry u there = cc
 entry_changed (n ∷ ns) uid volume entry u there = elim (cases_eq n.uid uid) [
   | inl same ↦ rw (eq-eqb n.uid uid same) (elim (cases_eq uid u) [
@@ -282,18 +321,22 @@ entry_changed (n ∷ ns) uid volume entry u there = elim (cases_eq n.uid uid) [
   ]))
 ]
   where
-    entry_kept : (ns : List Node) (uid volume entry u : ℕ) → uid ≢ u → entry_in (with_changed uid (λ n. record n { volume = volume; entry = entry }) ns) u ≡ entry_in ns u
+    entry_kept : (ns : List Node) (uid volume entry u : ℕ) → uid ≢ u
+        → entry_in (with_changed uid (λ n. record n { volume = volume; entry = entry }) ns) u ≡ entry_in ns u
     entry_kept [] uid volume entry u off = refl
     entry_kept (n ∷ ns) uid volume entry u off = elim (cases_eq n.uid uid) [
       | inl same ↦ rw (eq-eqb n.uid uid same, ne_eqb n.uid u (λ e. off (omega arith))) (entry_kept ns uid volume entry u off)
       | inr far ↦ rw (ne_eqb n.uid uid far) (ap (cond (eqb n.uid u) n.entry) (entry_kept ns uid volume entry u off))
     ]
 
-pub home_shown : (old new : Branches) (c : CellMaps) (uid volume entry : ℕ) → is_segment old.nodes uid ≡ true → new ≡ with_home old uid volume entry → Rehomes (accounts_of old c) (accounts_of new c) uid volume entry
+pub home_shown : (old new : Branches) (c : CellMaps) (uid volume entry : ℕ) → is_segment old.nodes uid ≡ true → new ≡ with_home old uid volume entry
+    → Rehomes (accounts_of old c) (accounts_of new c) uid volume entry
 home_shown old new c uid volume entry seg is = record {
-  nodes = ap (λ (t : Branches). with_quotas (quota_in c) t.nodes) is ∙ changed_nodes (quota_in c) uid (λ n. record n { volume = volume; entry = entry }) (λ n. record n { volume = volume }) (λ n. refl) old.nodes;
+  nodes = ap (λ (t : Branches). with_quotas (quota_in c) t.nodes) is
+      ∙ changed_nodes (quota_in c) uid (λ n. record n { volume = volume; entry = entry }) (λ n. record n { volume = volume }) (λ n. refl) old.nodes;
   entries = λ u.
-      entry_any (quota_in c) new.nodes u ∙ ap (λ (t : Branches). entry_in t.nodes u) is ∙ entry_changed old.nodes uid volume entry u (segment_in old.nodes uid seg)
+      entry_any (quota_in c) new.nodes u ∙ ap (λ (t : Branches). entry_in t.nodes u) is
+      ∙ entry_changed old.nodes uid volume entry u (segment_in old.nodes uid seg)
       ∙ ap (λ (e : ℕ). if eqb uid u then entry else e) (sym (entry_any (quota_in c) old.nodes u));
   next = ap (λ (t : Branches). t.next) is;
   counts = λ s. refl;

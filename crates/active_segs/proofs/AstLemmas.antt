@@ -1,5 +1,6 @@
 -- What each call keeps, over plain fields.
-use Rattle.std.proofs.Common.{◌≡◌, ◌≢◌, ℕ, ◌+◌, ◌-◌, ◌<◌, ◌≤◌, Bool, true, false, List, length, Option, Some, None, IsSome, IfSome, All, is_some, refl, sym, ap, subst, ◌∙◌, arith, get_or, set, sum, take, drop, []}
+use Rattle.std.proofs.Common.{◌≡◌, ◌≢◌, ℕ, ◌+◌, ◌-◌, ◌<◌, ◌≤◌, Bool, true, false, List, length, Option, Some, None, IsSome, IfSome, All, is_some, refl, sym}
+use Rattle.std.proofs.Common.{ap, subst, ◌∙◌, arith, get_or, set, sum, take, drop, []}
 use Rattle.std.proofs.lemmas.Bool.{both_ways}
 use Rattle.std.proofs.lemmas.List.{length-set, length-drop, length-take-le, get_or-take, get_or-drop, get_or_read}
 use Rattle.bitmap.specs.Bitmap.{in_use, IsLeastFree as IsFirstFree}
@@ -90,7 +91,8 @@ module _ (sizes hands : List ℕ) (used : List (List Bool)) (xs : List (Option E
 -- ---- the free places of a pool
 
 -- the map of a pool, as it is read
-pub marked_map : {sizes : List ℕ} {used : List (List Bool)} {entries : List (Option Entry)} → IsMarked sizes used entries → (pool : ℕ) (map : List Bool) → pool < 4 → map ≡ get_or used pool map → map ≡ map_of used pool
+pub marked_map : {sizes : List ℕ} {used : List (List Bool)} {entries : List (Option Entry)} → IsMarked sizes used entries → (pool : ℕ) (map : List Bool)
+    → pool < 4 → map ≡ get_or used pool map → map ≡ map_of used pool
 marked_map {sizes} {used} {entries} marked pool map lt read = (let maps : length used ≡ 4 = marked.maps in get_or_read used pool map (omega arith) read [])
 
 pub full_since_marked : (s : ActiveSegs) (used : List (List Bool)) (pool : ℕ) → pool < 4 → IsMarked s.sizes used s.entries

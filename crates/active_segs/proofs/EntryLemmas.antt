@@ -4,7 +4,8 @@ use Rattle.std.proofs.lemmas.Bool.{cases_eq, cases_lt, eq-eqb, ne_eqb}
 use Rattle.std.proofs.lemmas.List.{get_or-set_same, get_or-set_other, get_or_past}
 use Rattle.std.proofs.lemmas.Option.{none-some, same_Some}
 use Rattle.active_segs.specs.declared.Entry.{Entry}
-use Rattle.active_segs.specs.Active.{entry_at, uid_in, superior_in, uid_at, superior_at, IsActive, HasNoInferior, IsOneToOne, SuperiorsAreActive, IsGrounded, IsTree}
+use Rattle.active_segs.specs.Active.{entry_at, uid_in, superior_in, uid_at, superior_at, IsActive, HasNoInferior, IsOneToOne, SuperiorsAreActive, IsGrounded}
+use Rattle.active_segs.specs.Active.{IsTree}
 
 pub entry_set : (xs : List (Option Entry)) (p : ℕ) (e : Option Entry) → p < length xs → entry_at (set xs p e) p ≡ e
 entry_set xs p e lt = get_or-set_same xs p e None lt

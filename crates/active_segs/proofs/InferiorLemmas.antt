@@ -1,5 +1,6 @@
 -- The maps of inferiors after a segment has become active or is so no more, and what their least free number is.
-use Rattle.std.proofs.Common.{◌≡◌, ◌≢◌, ℕ, suc, ◌+◌, ◌-◌, ◌<◌, ◌↔◌, Bool, true, false, List, [], ◌∷◌, ◌++◌, length, replicate, Option, Some, None, IfSome, All, refl, sym, ap, subst, ◌∙◌, arith, set, inl, inr, get_or}
+use Rattle.std.proofs.Common.{◌≡◌, ◌≢◌, ℕ, suc, ◌+◌, ◌-◌, ◌<◌, ◌↔◌, Bool, true, false, List, [], ◌∷◌, ◌++◌, length, replicate, Option, Some, None, IfSome}
+use Rattle.std.proofs.Common.{All, refl, sym, ap, subst, ◌∙◌, arith, set, inl, inr, get_or}
 use Rattle.std.proofs.lemmas.Bool.{cases_eq, cases_Bool, both_ways}
 use Rattle.std.proofs.lemmas.List.{get_or-set_same, get_or-set_other, length-set, length-replicate, replicate-append-replicate, append_assoc, get_or_read}
 use Rattle.std.proofs.Math.Seq.{get_or-append_seam, set-append_seam}

@@ -1,5 +1,6 @@
 -- The leaf below a place as a function: the least inferior, and steps down.
-use Rattle.std.proofs.Common.{◌≡◌, ◌≢◌, ℕ, zero, suc, ◌<◌, ◌≤◌, Bool, true, false, cond, not, List, length, Option, Some, None, refl, ap, ◌∙◌, arith, get_or, inl, inr, position, ltb}
+use Rattle.std.proofs.Common.{◌≡◌, ◌≢◌, ℕ, zero, suc, ◌<◌, ◌≤◌, Bool, true, false, cond, not, List, length, Option, Some, None, refl, ap, ◌∙◌, arith, get_or}
+use Rattle.std.proofs.Common.{inl, inr, position, ltb}
 use Rattle.std.specs.List.{position_or_len}
 use Rattle.std.proofs.lemmas.Bool.{cases_order, eqb-true, eq-eqb, ne_eqb, ltb-false, not-true, both_ways}
 use Rattle.std.proofs.lemmas.List.Quantifiers.{position-Some}

@@ -16,10 +16,13 @@
 ghost use Rattle.std.specs.Prelude.{◌≡◌, ◌≢◌, ◌<◌, ◌≤◌, ◌↔◌, ℕ, Some, None, length, sum, All, IsNone, IfOk, IfSome};
 ghost use Rattle.std.specs.Option.{ForSome};
 ghost use Rattle.std.specs.Borrow.{sem};
-ghost use Rattle.active_segs.specs.Active.{entry_at, uid_at, table_at, used_in, no_segments, activated, deactivated, HasShape, IsActive, HasNoInferior, IsAway, IsTree, IsLeastFree, IsFull, AreNullTables};
+ghost use Rattle.active_segs.specs.Active.{entry_at, uid_at, table_at, used_in, no_segments, activated, deactivated};
+ghost use Rattle.active_segs.specs.Active.{HasShape, IsActive, HasNoInferior, IsAway, IsTree, IsLeastFree, IsFull};
+ghost use Rattle.active_segs.specs.Active.{AreNullTables};
 ghost use Rattle.active_segs.specs.Kept.{IsActiveAt};
 ghost use Rattle.active_segs.specs.Pool.{size_of, IsInPool};
-ghost use Rattle.active_segs.specs.Victim.{first_off_chain, hand_moved, victim_of, IsVictim, IsOffChain, HasOneOffChain, HasItsSuperiors};
+ghost use Rattle.active_segs.specs.Victim.{first_off_chain, hand_moved, victim_of, IsVictim, IsOffChain};
+ghost use Rattle.active_segs.specs.Victim.{HasOneOffChain, HasItsSuperiors};
 
 mod index;
 mod inferiors;

@@ -3,7 +3,8 @@
 ghost use Rattle.std.specs.Prelude.{◌≡◌, ◌<◌, ◌≤◌, ◌++◌, Some, IsSome, length};
 ghost use Rattle.active_segs.specs.Active.{IsGrounded};
 ghost use Rattle.active_segs.specs.Kept.{AreNoted, IsActiveAt};
-ghost use Rattle.active_segs.specs.Victim.{leaf_below, off_chain, first_of_places, offset_after, places_from, StandsFor};
+ghost use Rattle.active_segs.specs.Victim.{leaf_below, off_chain, first_of_places, offset_after, places_from};
+ghost use Rattle.active_segs.specs.Victim.{StandsFor};
 
 use crate::Entry;
 use bitmap::Bitmap;

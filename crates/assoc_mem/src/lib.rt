@@ -8,7 +8,8 @@
 ghost use Rattle.std.specs.Prelude.{◌≡◌, ◌≢◌, ◌≤◌, ◌↔◌, None, length, All, IsNone, filter, not};
 ghost use Rattle.std.specs.List.{find};
 ghost use Rattle.std.specs.Option.{option_map};
-ghost use Rattle.assoc_mem.specs.Held.{nothing_held, is_number, is_page, seg_of, page_of, frame_of, with_seg, with_page, cleared, names_seg, names_page};
+ghost use Rattle.assoc_mem.specs.Held.{nothing_held, is_number, is_page, seg_of, page_of, frame_of, with_seg};
+ghost use Rattle.assoc_mem.specs.Held.{with_page, cleared, names_seg, names_page};
 
 use arrayvec::ArrayVec;
 use mnames::Mode;

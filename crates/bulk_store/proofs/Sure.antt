@@ -1,5 +1,6 @@
 -- A drive in core without lines never fails.
-use Rattle.std.proofs.Common.{◌≡◌, ℕ, zero, suc, Bool, false, true, [], refl, ◌⊎◌, Option, None, Some, Result, Ok, Err, IsOk, IfSome, IfNone, OnErr, inl, inr, arith}
+use Rattle.std.proofs.Common.{◌≡◌, ℕ, zero, suc, Bool, false, true, [], refl, ◌⊎◌, Option, None, Some, Result, Ok, Err, IsOk, IfSome, IfNone, OnErr, inl, inr}
+use Rattle.std.proofs.Common.{arith}
 use Rattle.site_io.specs.Faults.{Rose}
 use Rattle.volumes.specs.FailLine.{named_calls}
 use Rattle.volumes.specs.CoreDrive.{DriveState, faults_of}

@@ -1,4 +1,5 @@
-ghost use Rattle.std.specs.Prelude.{◌≡◌, ◌≤◌, ◌<◌, ◌+◌, false, true, [], Some, length, slice_index_or, slice_set, OnOk, OnErr};
+ghost use Rattle.std.specs.Prelude.{◌≡◌, ◌≤◌, ◌<◌, ◌+◌, false, true, [], Some, length, slice_index_or, slice_set, OnOk};
+ghost use Rattle.std.specs.Prelude.{OnErr};
 ghost use Rattle.site_io.specs.Faults.{Rose};
 ghost use Rattle.volumes.specs.FailLine.{named_calls, HasFewFaults};
 ghost use Rattle.volumes.specs.CoreDrive.{faults_of};

@@ -1,8 +1,10 @@
-use Rattle.std.proofs.Common.{◌≡◌, ℕ, zero, suc, ◌+◌, ◌<◌, ◌≤◌, ◌^◌, Bool, true, false, not, cond, List, [], ◌∷◌, length, Option, None, Some, refl, sym, ap, ◌∙◌, arith, get_or, set, replicate, map, inl, inr, ◌⊎◌, All, IfSome, IfNone}
+use Rattle.std.proofs.Common.{◌≡◌, ℕ, zero, suc, ◌+◌, ◌<◌, ◌≤◌, ◌^◌, Bool, true, false, not, cond, List, [], ◌∷◌, length, Option, None, Some, refl, sym, ap}
+use Rattle.std.proofs.Common.{◌∙◌, arith, get_or, set, replicate, map, inl, inr, ◌⊎◌, All, IfSome, IfNone}
 use Rattle.std.specs.List.{prefix_len, list_any}
 use Rattle.std.proofs.lemmas.Bool.{cases_eq}
 use Rattle.std.proofs.lemmas.Bool.Decides.{leb_tells}
-use Rattle.std.proofs.lemmas.List.{map-set, get_or-map, get_or_past, length-map, length-set, length-replicate, get_or-set_same, get_or-set_other, set-get_or, get_or_read, set_past}
+use Rattle.std.proofs.lemmas.List.{map-set, get_or-map, get_or_past, length-map, length-set, length-replicate, get_or-set_same, get_or-set_other, set-get_or}
+use Rattle.std.proofs.lemmas.List.{get_or_read, set_past}
 use Rattle.std.proofs.lemmas.List.Elements.{All-get_or, All-from_get_or}
 use Rattle.bitmap.specs.Bitmap.{in_use, least_free, IsLeastFree}
 use Rattle.core_map.specs.declared.Frame.{Frame}
@@ -94,7 +96,8 @@ tied_with taken ts frames hand f x h is = record {
 }
 
 -- the marks of a frame are written
-pub kept_by : {X : Type 0} (t : Frame → X) (frames : List Frame) (f : ℕ) (x y : Frame) → x ≡ get_or frames f x → t y ≡ t x → map t (set frames f y) ≡ map t frames
+pub kept_by : {X : Type 0} (t : Frame → X) (frames : List Frame) (f : ℕ) (x y : Frame) → x ≡ get_or frames f x → t y ≡ t x
+    → map t (set frames f y) ≡ map t frames
 kept_by t frames f x y read same = elim (below_or_past f (length frames)) [
   | inl lt ↦ same_with t frames f y (same ∙ ap t (get_or_read frames f x lt read Free))
   | inr past ↦ ap (map t) (set_past frames f y past)
@@ -144,7 +147,8 @@ least_same taken frames hand core h view =
     let long = ap length h.bits ∙ length-map frames is_taken in
     rw (← view, first, long) refl
 
-pub least_frame : (taken : List Bool) (frames : List Frame) (hand f : ℕ) (core : Core) → IsTied taken frames hand → record { frames = frames; hand = hand } ≡ core
+pub least_frame : (taken : List Bool) (frames : List Frame) (hand f : ℕ) (core : Core) → IsTied taken frames hand
+    → record { frames = frames; hand = hand } ≡ core
     → IsLeastFree taken f → IsLeastFreeFrame core f
 least_frame taken frames hand f core h view least = rw (← view) (record {
   within = omega (arith, least.within, ap length h.bits, length-map frames is_taken);
@@ -178,6 +182,7 @@ least_if None taken frames hand core h view least = tt
 least_if (Some f) taken frames hand core h view least = least_frame taken frames hand f core h view least
 
 pub none_if : (answer : Option ℕ) (taken : List Bool) (frames : List Frame) (hand : ℕ) (core : Core) → IsTied taken frames hand
-    → record { frames = frames; hand = hand } ≡ core → IfNone answer (All (λ flag. flag ≡ true) taken) → IfNone answer (All (λ x. is_free x ≡ false) core.frames)
+    → record { frames = frames; hand = hand } ≡ core → IfNone answer (All (λ flag. flag ≡ true) taken)
+    → IfNone answer (All (λ x. is_free x ≡ false) core.frames)
 none_if None taken frames hand core h view all = none_free taken frames hand core h view all
 none_if (Some f) taken frames hand core h view all = tt

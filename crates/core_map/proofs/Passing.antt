@@ -1,5 +1,6 @@
 -- The clock as a function: what it finds and leaves, by what the code does with ranges of frames.
-use Rattle.std.proofs.Common.{◌≡◌, ◌≢◌, ℕ, zero, suc, ◌+◌, ◌-◌, ◌<◌, ◌≤◌, Bool, true, false, List, ◌∷◌, ◌++◌, length, Some, refl, sym, ap, ◌∙◌, arith, set, inl, inr, append_assoc}
+use Rattle.std.proofs.Common.{◌≡◌, ◌≢◌, ℕ, zero, suc, ◌+◌, ◌-◌, ◌<◌, ◌≤◌, Bool, true, false, List, ◌∷◌, ◌++◌, length, Some, refl, sym, ap, ◌∙◌, arith, set}
+use Rattle.std.proofs.Common.{inl, inr, append_assoc}
 use Rattle.std.specs.List.{range_with_len, find}
 use Rattle.std.proofs.lemmas.Bool.{cases_eq}
 use Rattle.std.proofs.lemmas.List.{length-set, get_or-set_same, get_or-set_other, ext_get_or}
@@ -58,7 +59,8 @@ none_unmarked old new low high empty marks = ext_get_or Free old new (sym marks.
 unmarked_next : (old new : List Frame) (low high : ℕ) → low < high → low < length old → IsUnmarked old new low high
     → IsUnmarked (set old low (unmarked (frame_in old low))) new (low + 1) high
 unmarked_next old new low high some inside marks =
-    let other : (k : ℕ) → k ≢ low → frame_in (set old low (unmarked (frame_in old low))) k ≡ frame_in old k = λ k ne. get_or-set_other old low k (unmarked (frame_in old low)) Free ne in
+    let other : (k : ℕ) → k ≢ low → frame_in (set old low (unmarked (frame_in old low))) k ≡ frame_in old k =
+    λ k ne. get_or-set_other old low k (unmarked (frame_in old low)) Free ne in
     record {
       count = marks.count ∙ sym (length-set old low (unmarked (frame_in old low)));
       inside = λ k over under. marks.inside k (omega (arith, over)) under ∙ sym (ap unmarked (other k (omega (arith, over))));
@@ -73,11 +75,13 @@ unmarked_next old new low high some inside marks =
 passed_range : (n low high : ℕ) (old new : List Frame) (rest : List ℕ) → high ≡ low + n → high ≤ length old → IsUnmarked old new low high
     → ((i : ℕ) → low ≤ i → i < high → is_idle (frame_in old i) ≡ false) → passed_over old (range_with_len low n ++ rest) ≡ passed_over new rest
 unfolding passed_over
-passed_range zero low high old new rest long fits marks busy = ap (λ (fs : List Frame). passed_over fs rest) (none_unmarked old new low high (omega (arith, long)) marks)
+passed_range zero low high old new rest long fits marks busy =
+    ap (λ (fs : List Frame). passed_over fs rest) (none_unmarked old new low high (omega (arith, long)) marks)
 passed_range (suc n) low high old new rest long fits marks busy =
     let here : is_idle (frame_in old low) ≡ false = busy low (omega arith) (omega (arith, long)) in
     let inside : low < length old = omega (arith, long, fits) in
-    rw here (passed_range n (low + 1) high (set old low (unmarked (frame_in old low))) new rest (omega (arith, long)) (rw (length-set old low (unmarked (frame_in old low))) fits)
+    rw here (passed_range n (low + 1) high (set old low (unmarked (frame_in old low))) new rest (omega (arith, long))
+    (rw (length-set old low (unmarked (frame_in old low))) fits)
     (unmarked_next old new low high (omega (arith, long)) inside marks)
     (λ i over under. ap is_idle (get_or-set_other old low i (unmarked (frame_in old low)) Free (omega (arith, over))) ∙ busy i (omega (arith, over)) under))
 
@@ -93,5 +97,6 @@ pub passed_to : (old new : List Frame) (low high f : ℕ) (rest : List ℕ) → 
     → passed_over old (range_with_len low (high - low) ++ rest) ≡ new
 passed_to old new low high f rest fits h =
     ap (passed_over old) (split_at low high f rest h.first.above h.first.below)
-    ∙ passed_range (f - low) low f old new (f ∷ (range_with_len (f + 1) (high - f - 1) ++ rest)) (omega (arith, h.first.above)) (omega (arith, fits, h.first.below)) h.marks h.first.before
+    ∙ passed_range (f - low) low f old new (f ∷ (range_with_len (f + 1) (high - f - 1) ++ rest)) (omega (arith, h.first.above))
+    (omega (arith, fits, h.first.below)) h.marks h.first.before
     ∙ stops_here new f (range_with_len (f + 1) (high - f - 1) ++ rest) (ap is_idle (h.marks.after f (omega arith)) ∙ h.first.here)

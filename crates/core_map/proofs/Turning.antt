@@ -1,12 +1,14 @@
 -- What a turn of the clock comes to, by how it ends.
-use Rattle.std.proofs.Common.{◌≡◌, ℕ, ◌+◌, ◌-◌, ◌<◌, ◌≤◌, Bool, true, List, [], ◌∷◌, ◌++◌, length, Option, None, Some, refl, sym, ap, ◌∙◌, arith, map, inl, inr, ◌||◌, cond, ◌==◌}
+use Rattle.std.proofs.Common.{◌≡◌, ℕ, ◌+◌, ◌-◌, ◌<◌, ◌≤◌, Bool, true, List, [], ◌∷◌, ◌++◌, length, Option, None, Some, refl, sym, ap, ◌∙◌, arith, map, inl}
+use Rattle.std.proofs.Common.{inr, ◌||◌, cond, ◌==◌}
 use Rattle.std.specs.List.{range_with_len, find, list_any}
 use Rattle.std.proofs.lemmas.Bool.{le-leb, lt-leb}
 use Rattle.std.proofs.lemmas.List.{append-nil, ext_get_or, get_or-map, length-map}
 use Rattle.core_map.specs.declared.Frame.{Frame}
 use Rattle.core_map.specs.declared.Frame.TheVariants.{Free, Started, Bound}
 use Rattle.core_map.specs.CoreMap.{Core, is_bound}
-use Rattle.core_map.specs.Clock.{frame_in, is_idle, unmarked, way, IsFirstFromHand, PassesOver, GoesRound, IsTurn, round_frames, or_else, clock_choice, passed_over, after_choice}
+use Rattle.core_map.specs.Clock.{frame_in, is_idle, unmarked, way, IsFirstFromHand, PassesOver, GoesRound, IsTurn, round_frames, or_else, clock_choice}
+use Rattle.core_map.specs.Clock.{passed_over, after_choice}
 use Rattle.core_map.specs.Turns.{IsFirst, HasNone, IsUnmarked, PassesTo, PassesAll, IsFirstBound, StopsBehind, GoesAround, IsTurned}
 use Rattle.core_map.proofs.Frames.{below_or_past, none_bound}
 use Rattle.core_map.proofs.Passing.{found_none, found_first, passed_all, passed_to}
@@ -30,7 +32,8 @@ same_all : {X : Type 0} (t : Frame → X) → ((x : Frame) → t (unmarked x) �
 same_all t same old new low high marks =
     ext_get_or (t Free) (map t new) (map t old) (length-map new t ∙ marks.count ∙ sym (length-map old t))
     (λ k lt. let inside : k < length new = omega (arith, lt, length-map new t) in
-    get_or-map t new k Free (t Free) inside ∙ same_at t same old new low high k marks ∙ sym (get_or-map t old k Free (t Free) (omega (arith, inside, marks.count))))
+    get_or-map t new k Free (t Free) inside ∙ same_at t same old new low high k marks
+    ∙ sym (get_or-map t old k Free (t Free) (omega (arith, inside, marks.count))))
 
 pub turned_same : {X : Type 0} (t : Frame → X) → ((x : Frame) → t (unmarked x) ≡ t x) → (old new : List Frame) (hand f : ℕ) → IsTurned old new hand f
     → map t new ≡ map t old
@@ -99,7 +102,8 @@ bound_alike : (old new : List Frame) (hand f : ℕ) (h : GoesAround old new hand
 bound_alike old new hand f h k =
     same_at is_bound bound_unmarked h.middle new 0 hand k h.behind.marks ∙ same_at is_bound bound_unmarked old h.middle hand (length old) k h.ahead.marks
 
-first_bound_alike : (xs ys : List Frame) (hand f : ℕ) → length ys ≡ length xs → ((k : ℕ) → is_bound (frame_in ys k) ≡ is_bound (frame_in xs k)) → IsFirstBound ys hand f
+first_bound_alike : (xs ys : List Frame) (hand f : ℕ) → length ys ≡ length xs → ((k : ℕ) → is_bound (frame_in ys k) ≡ is_bound (frame_in xs k))
+    → IsFirstBound ys hand f
     → IsFirstBound xs hand f
 first_bound_alike xs ys hand f long alike (inl h) = inl (first_alike is_bound xs ys hand (length xs) f (λ k _. alike k) (rw long at h))
 first_bound_alike xs ys hand f long alike (inr h) =
@@ -112,7 +116,8 @@ way_ahead n hand f le = rw (le-leb hand f le) refl
 way_behind : (n hand f : ℕ) → f < hand → way n hand f ≡ n + f - hand
 way_behind n hand f lt = rw (lt-leb hand f lt) refl
 
-first_ahead : (p : Frame → Bool) (frames : List Frame) (hand f : ℕ) → hand ≤ length frames → IsFirst p frames hand (length frames) f → IsFirstFromHand (core_of frames hand) p f
+first_ahead : (p : Frame → Bool) (frames : List Frame) (hand f : ℕ) → hand ≤ length frames → IsFirst p frames hand (length frames) f
+    → IsFirstFromHand (core_of frames hand) p f
 first_ahead p frames hand f fits h = record {
   within = h.below;
   here = h.here;
@@ -141,7 +146,16 @@ passes_ahead : (old new : List Frame) (hand f : ℕ) → hand ≤ length old →
 passes_ahead old new hand f fits h = record {
   first = first_ahead is_idle old hand f fits h.first;
   passed = λ i lt near. elim (below_or_past i hand) [
-    | inl under ↦ absurd (omega (arith, near, lt, fits, h.first.above, h.first.below, way_ahead (length old) hand f h.first.above, way_behind (length old) hand i under))
+    | inl under ↦ absurd (omega (
+      arith,
+      near,
+      lt,
+      fits,
+      h.first.above,
+      h.first.below,
+      way_ahead (length old) hand f h.first.above,
+      way_behind (length old) hand i under,
+    ))
     | inr over ↦ h.marks.inside i over (omega (arith, near, h.first.above, way_ahead (length old) hand f h.first.above, way_ahead (length old) hand i over))
   ];
   others = λ i lt far. elim (below_or_past i hand) [
@@ -162,7 +176,16 @@ passes_behind old new hand f fits h = record {
   others = λ i lt far. elim (below_or_past i hand) [
     | inl under ↦ h.behind.marks.after i (omega (arith, far, fits, way_behind (length old) hand f h.behind.first.below, way_behind (length old) hand i under))
         ∙ h.ahead.marks.before i under
-    | inr over ↦ absurd (omega (arith, far, lt, over, fits, h.behind.first.below, way_behind (length old) hand f h.behind.first.below, way_ahead (length old) hand i over))
+    | inr over ↦ absurd (omega (
+      arith,
+      far,
+      lt,
+      over,
+      fits,
+      h.behind.first.below,
+      way_behind (length old) hand f h.behind.first.below,
+      way_ahead (length old) hand i over,
+    ))
   ];
 }
 
@@ -191,7 +214,8 @@ last_range hand =
     let same : hand - 0 ≡ hand = omega arith in
     rw same (sym (append-nil (range_with_len 0 hand)))
 
-found_last : (p : Frame → Bool) (frames : List Frame) (hand f : ℕ) → IsFirst p frames 0 hand f → find (λ i. p (frame_in frames i)) (range_with_len 0 hand) ≡ Some f
+found_last : (p : Frame → Bool) (frames : List Frame) (hand f : ℕ) → IsFirst p frames 0 hand f
+    → find (λ i. p (frame_in frames i)) (range_with_len 0 hand) ≡ Some f
 found_last p frames hand f h = ap (find (λ i. p (frame_in frames i))) (last_range hand) ∙ found_first p frames 0 hand f [] h
 
 found_no_last : (p : Frame → Bool) (frames : List Frame) (hand : ℕ) → HasNone p frames 0 hand → find (λ i. p (frame_in frames i)) (range_with_len 0 hand) ≡ None
@@ -243,7 +267,8 @@ pub bound_after : (old middle new : List Frame) (hand end : ℕ) → list_any is
     → list_any is_bound new ≡ true
 bound_after old middle new hand end some ahead behind =
     any_of_map new
-    ∙ ap (list_any (λ flag. flag)) (same_all is_bound bound_unmarked middle new 0 hand behind.marks ∙ same_all is_bound bound_unmarked old middle hand end ahead.marks)
+    ∙ ap (list_any (λ flag. flag)) (same_all is_bound bound_unmarked middle new 0 hand behind.marks
+    ∙ same_all is_bound bound_unmarked old middle hand end ahead.marks)
     ∙ sym (any_of_map old) ∙ some
 
 pub some_is_bound : (frames : List Frame) (hand end : ℕ) → end ≡ length frames → list_any is_bound frames ≡ true → HasNone is_bound frames hand end

@@ -14,11 +14,14 @@
 
 mod clock;
 
-ghost use Rattle.std.specs.Prelude.{◌≡◌, ◌<◌, ◌≢◌, ℕ, Bool, true, false, List, Option, None, Some, length, replicate, slice_set, All, IfOk, IfSome, IfNone};
+ghost use Rattle.std.specs.Prelude.{◌≡◌, ◌<◌, ◌≢◌, ℕ, Bool, true, false, List, Option, None, Some, length, replicate};
+ghost use Rattle.std.specs.Prelude.{slice_set, All, IfOk, IfSome, IfNone};
 ghost use Rattle.std.specs.List.{list_any};
 ghost use Rattle.core_map.specs.declared.Frame.{Frame};
 ghost use Rattle.core_map.specs.declared.Frame.TheVariants.{Free, Started, Bound};
-ghost use Rattle.core_map.specs.CoreMap.{Core, frame_at, with_frame, is_free, is_started, is_bound, bound_page, started_page, reads_of, is_modified, after_reference, with_modified, CanBind, least_free_frame, IsLeastFreeFrame};
+ghost use Rattle.core_map.specs.CoreMap.{Core, frame_at, with_frame, is_free, is_started, is_bound, bound_page};
+ghost use Rattle.core_map.specs.CoreMap.{started_page, reads_of, is_modified, after_reference, with_modified, CanBind};
+ghost use Rattle.core_map.specs.CoreMap.{least_free_frame, IsLeastFreeFrame};
 ghost use Rattle.core_map.specs.Clock.{IsClockChoice, clock_choice, after_choice};
 
 use bitmap::Bitmap;

@@ -1,5 +1,6 @@
 -- What a new branch leaves of the tables behind a tree.
-use Rattle.std.proofs.Common.{◌≡◌, ◌≢◌, ℕ, ◌+◌, ◌-◌, ◌<◌, ◌≤◌, true, eqb, if◌then◌else◌, List, [], ◌∷◌, ◌++◌, length, take, Option, Some, None, refl, sym, ap, subst, ◌∙◌, arith, get_or, inl, inr, ◌⊎◌}
+use Rattle.std.proofs.Common.{◌≡◌, ◌≢◌, ℕ, ◌+◌, ◌-◌, ◌<◌, ◌≤◌, true, eqb, if◌then◌else◌, List, [], ◌∷◌, ◌++◌, length, take, Option, Some, None, refl, sym, ap}
+use Rattle.std.proofs.Common.{subst, ◌∙◌, arith, get_or, inl, inr, ◌⊎◌}
 use Rattle.std.specs.Prelude.{◌↔◌}
 use Rattle.std.proofs.lemmas.Bool.{cases_eq, cases_lt, eq-eqb, ne_eqb}
 use Rattle.std.proofs.lemmas.List.{length-map, length_push, get_or_append_left, get_or_push, get_or-take, length-take-le}
@@ -17,7 +18,8 @@ use Rattle.dir_tree.specs.Laws.{directory_shape}
 use Rattle.dir_tree.proofs.IndexLemmas.{key_branch}
 use Rattle.tree_model.specs.Tree.{branch_in}
 
-module _ {nodes : List Node} {es : List Entry} {free : List ℕ} {index : Places} {next : ℕ} (k : IsKept nodes es free index next) (place : ℕ) (is_place : place ≡ place_for nodes free) where
+module _ {nodes : List Node} {es : List Entry} {free : List ℕ} {index : Places} {next : ℕ} (k : IsKept nodes es free index next) (place : ℕ)
+    (is_place : place ≡ place_for nodes free) where
   -- the place of a new node is no entry's
   pub place_unused : (j : ℕ) → j < length es → (entry_at es j).place ≢ place
   place_unused j lt e = elim (cases_eq (length free) 0) [
@@ -47,7 +49,8 @@ module _ {nodes : List Node} {es : List Entry} {free : List ℕ} {index : Places
   no_place_yet there = (let p = k.places place there in place_unused p.i p.within p.place_is)
 
   -- what the index asks for, once the new node stands in its place
-  module _ (nodes' : List Node) (others : (p : ℕ) → p ≢ place → node_at nodes' p ≡ node_at nodes p) (grown : length nodes' ≡ (if eqb (length free) 0 then length nodes + 1 else length nodes)) where
+  module _ (nodes' : List Node) (others : (p : ℕ) → p ≢ place → node_at nodes' p ≡ node_at nodes p)
+      (grown : length nodes' ≡ (if eqb (length free) 0 then length nodes + 1 else length nodes)) where
     old_key : (i : ℕ) → i < length index.places → key_at nodes' index.places i ≡ key_at nodes index.places i
     old_key i lt = ap key_of (others (get_or index.places i 0) (λ e. no_place_yet (record { at = i; within = lt; is = e })))
 
@@ -78,9 +81,11 @@ module _ {nodes : List Node} {es : List Entry} {free : List ℕ} {index : Places
         → (i : ℕ) → i < length index.places → key_at nodes' index.places i ≢ key_of (node_at nodes' place)
     new_key s n here up none i lt e =
         (let same : key_at nodes index.places i ≡ (Some s, n.name) = sym (old_key i lt) ∙ e ∙ ap key_of here ∙ ap (λ (o : Option ℕ). (o, n.name)) up in
-        no_place k s n.name none (get_or index.places i 0) (record { at = i; within = lt; is = refl }) (key_branch s n.name (node_at nodes (get_or index.places i 0)) same))
+        no_place k s n.name none (get_or index.places i 0) (record { at = i; within = lt; is = refl })
+        (key_branch s n.name (node_at nodes (get_or index.places i 0)) same))
 
-module _ {nodes : List Node} {es : List Entry} {free : List ℕ} {index : Places} {next : ℕ} (k : IsKept nodes es free index next) (s : ℕ) (n : Node) (nodes' : List Node) (free' : List ℕ) (index' : Places) (place : ℕ)
+module _ {nodes : List Node} {es : List Entry} {free : List ℕ} {index : Places} {next : ℕ} (k : IsKept nodes es free index next) (s : ℕ) (n : Node)
+    (nodes' : List Node) (free' : List ℕ) (index' : Places) (place : ℕ)
     (n_uid : n.uid ≡ next) (n_superior : n.superior ≡ Some s)
     (directory : is_directory (newest nodes es) s ≡ true) (may : add_fault_of (shapes (newest nodes es)) s n.name n.dir ≡ None)
     (is_place : place ≡ place_for nodes free) (here : node_at nodes' place ≡ n) (others : (p : ℕ) → p ≢ place → node_at nodes' p ≡ node_at nodes p)
@@ -109,7 +114,8 @@ module _ {nodes : List Node} {es : List Entry} {free : List ℕ} {index : Places
   view_added = newest_push nodes' es entry ∙ ap (λ x. x ∷ newest nodes' es) here ∙ ap (λ xs. n ∷ xs) old_nodes
 
   few_es : length es < 4097
-  few_es = (let a : length (shapes (newest nodes es)) < 4097 = may_add.room in let b = length-map (newest nodes es) shape in let c = length_newest nodes es in omega arith)
+  few_es = (let a : length (shapes (newest nodes es)) < 4097 = may_add.room in let b = length-map (newest nodes es) shape in let c = length_newest nodes es in
+      omega arith)
 
   branch : IsBranch (shapes (newest nodes es)) s (shape n)
   branch = record {
@@ -185,14 +191,26 @@ module _ {nodes : List Node} {es : List Entry} {free : List ℕ} {index : Places
 
   places' : (p : ℕ) → HasPlace index'.places p → IsPlace es' p
   places' p there = (let m = size in elim ((places p).0 there) [
-    | inl old ↦ (let q = k.places p old in record { i = q.i; within = omega (arith, q.within); place_is = ap (λ (d : Entry). d.place) (old_entry q.i q.within) ∙ q.place_is })
-    | inr new ↦ record { i = length es; within = omega arith; place_is = ap (λ (d : Entry). d.place) (new_entry (length es) (omega arith) (omega arith)) ∙ sym new }
+    | inl old ↦ (let q = k.places p old in record {
+      i = q.i;
+      within = omega (arith, q.within);
+      place_is = ap (λ (d : Entry). d.place) (old_entry q.i q.within)
+          ∙ q.place_is;
+    })
+    | inr new ↦ record {
+      i = length es;
+      within = omega arith;
+      place_is = ap (λ (d : Entry). d.place) (new_entry (length es) (omega arith) (omega arith))
+          ∙ sym new;
+    }
   ])
 
   pub kept_added : IsKept nodes' es' free' index' (next + 1)
   kept_added = record {
-    uids = each_pushed es entry no_entry (λ e. (node_at nodes' e.place).uid ≡ e.uid) (λ i lt. ap (λ (x : Node). x.uid) (old_node i lt) ∙ k.uids i lt) (ap (λ (x : Node). x.uid) here ∙ n_uid);
-    superiors = each_pushed es entry no_entry (λ e. (node_at nodes' e.place).superior ≡ e.superior) (λ i lt. ap (λ (x : Node). x.superior) (old_node i lt) ∙ k.superiors i lt) (ap (λ (x : Node). x.superior) here ∙ n_superior);
+    uids = each_pushed es entry no_entry (λ e. (node_at nodes' e.place).uid ≡ e.uid) (λ i lt. ap (λ (x : Node). x.uid) (old_node i lt) ∙ k.uids i lt)
+        (ap (λ (x : Node). x.uid) here ∙ n_uid);
+    superiors = each_pushed es entry no_entry (λ e. (node_at nodes' e.place).superior ≡ e.superior)
+        (λ i lt. ap (λ (x : Node). x.superior) (old_node i lt) ∙ k.superiors i lt) (ap (λ (x : Node). x.superior) here ∙ n_superior);
     within = each_pushed es entry no_entry (λ e. e.place < length nodes') (λ i lt. more _ (k.within i lt)) in_place;
     rising = rising';
     below = each_pushed es entry no_entry (λ e. e.uid < next + 1) (λ i lt. omega (arith, k.below i lt)) (omega arith);

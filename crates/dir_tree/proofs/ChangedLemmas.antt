@@ -1,5 +1,6 @@
 -- What a change of a node, which keeps its shape, leaves of the tables behind a tree.
-use Rattle.std.proofs.Common.{◌≡◌, ◌≢◌, ℕ, suc, ◌<◌, false, [], ◌∷◌, ◌++◌, arith, eqb, if◌then◌else◌, List, length, Some, refl, sym, ap, subst, ◌∙◌, get_or, set, inl, inr}
+use Rattle.std.proofs.Common.{◌≡◌, ◌≢◌, ℕ, suc, ◌<◌, false, [], ◌∷◌, ◌++◌, arith, eqb, if◌then◌else◌, List, length, Some, refl, sym, ap, subst, ◌∙◌, get_or}
+use Rattle.std.proofs.Common.{set, inl, inr}
 use Rattle.std.proofs.lemmas.Bool.{cases_Bool, cases_eq, eq-eqb, ne_eqb}
 use Rattle.std.proofs.lemmas.List.{get_or-set_same, get_or-set_other, length-set, map-append, get_or_read}
 use Rattle.tree_model.specs.Tree.{Node as Term}
@@ -13,7 +14,8 @@ use Rattle.dir_tree.specs.Kept.{entry_at, newest, IsKept, HasEntry}
 use Rattle.dir_tree.proofs.NewestLemmas.{node_of_entry, newest_changed}
 use Rattle.dir_tree.proofs.KeptLemmas.{apart_places, not_of, node_read}
 
-shapes_newest : (ms ns : List Node) (es : List Entry) → ((j : ℕ) → j < length es → shape (node_of_entry ms es j) ≡ shape (node_of_entry ns es j)) → shapes (newest ms es) ≡ shapes (newest ns es)
+shapes_newest : (ms ns : List Node) (es : List Entry) → ((j : ℕ) → j < length es → shape (node_of_entry ms es j) ≡ shape (node_of_entry ns es j))
+    → shapes (newest ms es) ≡ shapes (newest ns es)
 shapes_newest ms ns [] same = refl
 shapes_newest ms ns (e ∷ es) same =
     map-append shape (newest ms es) (node_at ms e.place ∷ [])
@@ -24,7 +26,8 @@ shapes_newest ms ns (e ∷ es) same =
 abbrev shape_key : Term → Key
 shape_key t = (t.superior, t.name)
 
-module _ {nodes : List Node} {es : List Entry} {free : List ℕ} {index : Places} {next : ℕ} (k : IsKept nodes es free index next) (uid i : ℕ) (within : i < length es) (is_uid : (entry_at es i).uid ≡ uid) (h : Node → Node) (m : Node)
+module _ {nodes : List Node} {es : List Entry} {free : List ℕ} {index : Places} {next : ℕ} (k : IsKept nodes es free index next) (uid i : ℕ)
+    (within : i < length es) (is_uid : (entry_at es i).uid ≡ uid) (h : Node → Node) (m : Node)
     (is : m ≡ h (node_of_entry nodes es i)) (keeps : shape m ≡ shape (node_of_entry nodes es i)) where
   abbrev nodes' : List Node
   nodes' = set nodes (entry_at es i).place m
@@ -47,7 +50,8 @@ module _ {nodes : List Node} {es : List Entry} {free : List ℕ} {index : Places
       let same : shape (node_of_entry nodes' es p.i) ≡ shape (node_of_entry nodes es p.i) = same_shape p.i p.within in
       subst (λ q. shape_key (shape (node_at nodes' q)) ≡ shape_key (shape (node_at nodes q))) p.place_is (ap shape_key same))
 
-  changed : (j : ℕ) → j < length es → node_of_entry nodes' es j ≡ (if eqb (node_of_entry nodes es j).uid uid then h (node_of_entry nodes es j) else node_of_entry nodes es j)
+  changed : (j : ℕ) → j < length es → node_of_entry nodes' es
+      j ≡ (if eqb (node_of_entry nodes es j).uid uid then h (node_of_entry nodes es j) else node_of_entry nodes es j)
   changed j lt = elim (cases_eq j i) [
     | inl same ↦ rw (same, eq-eqb (node_of_entry nodes es i).uid uid (k.uids i within ∙ is_uid)) (here ∙ is)
     | inr other ↦ rw (not_of k uid i j within is_uid lt other) (there j lt other)
@@ -76,7 +80,8 @@ module _ {nodes : List Node} {es : List Entry} {free : List ℕ} {index : Places
     tree = subst IsTree (sym (shapes_newest nodes' nodes es same_shape)) k.tree;
   }
 
-pub set_kept : {nodes : List Node} {es : List Entry} {free : List ℕ} {index : Places} {next : ℕ} → IsKept nodes es free index next → (uid place : ℕ) → (i : ℕ) × (i < length es) × ((entry_at es i).uid ≡ uid) × ((entry_at es i).place ≡ place)
+pub set_kept : {nodes : List Node} {es : List Entry} {free : List ℕ} {index : Places} {next : ℕ} → IsKept nodes es free index next → (uid place : ℕ)
+    → (i : ℕ) × (i < length es) × ((entry_at es i).uid ≡ uid) × ((entry_at es i).place ≡ place)
     → (h : Node → Node) → ((n : Node) → shape (h n) ≡ shape n) → (x : Node) → x ≡ get_or nodes place x
     → IsKept (set nodes place (h x)) es free index next × (newest (set nodes place (h x)) es ≡ with_changed uid h (newest nodes es))
 set_kept {nodes} {es} {free} {index} {next} k uid place at h keeps x read =
@@ -86,7 +91,8 @@ set_kept {nodes} {es} {free} {index} {next} k uid place at h keeps x read =
     subst (λ q. IsKept (set nodes q (h x)) es free index next × (newest (set nodes q (h x)) es ≡ with_changed uid h (newest nodes es))) at.3
     (kept_changed k uid at.0 at.1 at.2 h (h x) (ap h node) same, view_changed k uid at.0 at.1 at.2 h (h x) (ap h node) same)
 
-pub acl_read : {nodes : List Node} {es : List Entry} {free : List ℕ} {index : Places} {next : ℕ} → IsKept nodes es free index next → (uid place : ℕ) → (i : ℕ) × (i < length es) × ((entry_at es i).uid ≡ uid) × ((entry_at es i).place ≡ place)
+pub acl_read : {nodes : List Node} {es : List Entry} {free : List ℕ} {index : Places} {next : ℕ} → IsKept nodes es free index next → (uid place : ℕ)
+    → (i : ℕ) × (i < length es) × ((entry_at es i).uid ≡ uid) × ((entry_at es i).place ≡ place)
     → (x : Node) → x ≡ get_or nodes place x → x.acl ≡ acl_of (newest nodes es) uid
 acl_read {nodes} {es} {free} {index} {next} k uid place at x read =
     let entry : HasEntry es uid (entry_at es at.0) = record { i = at.0; within = at.1; entry_is = refl; uid_is = at.2 } in
@@ -102,7 +108,8 @@ shapes_changed u h keeps (n ∷ ns) = elim (cases_Bool (eqb n.uid u)) [
 ]
 
 -- and of one uid, which leaves the nodes of others as they were
-pub others_kept : (u : ℕ) (h : Node → Node) → ((n : Node) → (h n).uid ≡ n.uid) → (ns : List Node) (v : ℕ) → v ≢ u → node_of (with_changed u h ns) v ≡ node_of ns v
+pub others_kept : (u : ℕ) (h : Node → Node) → ((n : Node) → (h n).uid ≡ n.uid) → (ns : List Node) (v : ℕ) → v ≢ u
+    → node_of (with_changed u h ns) v ≡ node_of ns v
 others_kept u h keeps [] v other = refl
 others_kept u h keeps (n ∷ ns) v other = elim (cases_eq n.uid u) [
   | inl same ↦

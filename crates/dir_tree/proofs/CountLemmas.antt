@@ -1,9 +1,11 @@
 -- How many nodes lie in each directory.
-use Rattle.std.proofs.Common.{◌≡◌, ◌≢◌, ℕ, suc, ◌+◌, ◌-◌, ◌<◌, ◌≤◌, Bool, true, false, eqb, if◌then◌else◌, List, [], ◌∷◌, ◌++◌, length, Option, Some, None, refl, sym, ap, subst, ◌∙◌, arith, get_or, set, take, drop, inl, inr}
+use Rattle.std.proofs.Common.{◌≡◌, ◌≢◌, ℕ, suc, ◌+◌, ◌-◌, ◌<◌, ◌≤◌, Bool, true, false, eqb, if◌then◌else◌, List, [], ◌∷◌, ◌++◌, length, Option, Some, None}
+use Rattle.std.proofs.Common.{refl, sym, ap, subst, ◌∙◌, arith, get_or, set, take, drop, inl, inr}
 use Rattle.std.specs.Prelude.{count_by, ◌^◌, ◌↔◌}
 use Rattle.std.specs.List.{remove}
 use Rattle.std.proofs.lemmas.Bool.{cases_Bool, cases_eq, eq-eqb, ne_eqb, eqb-true, false_from_ne_true}
-use Rattle.std.proofs.lemmas.List.{ext_get_or, get_or-map, get_or-set_same, get_or-set_other, get_or_append_left, length-map, length-set, length_push, append-nil, drop_all, take_all}
+use Rattle.std.proofs.lemmas.List.{ext_get_or, get_or-map, get_or-set_same, get_or-set_other, get_or_append_left, length-map, length-set, length_push}
+use Rattle.std.proofs.lemmas.List.{append-nil, drop_all, take_all}
 use Rattle.std.proofs.lemmas.List.Sums.{sum_by-cons, sum_by_push, sum_by-remove, count_by-le-length}
 use Rattle.std.proofs.lemmas.Option.{same_Some}
 use Rattle.dir_tree.specs.declared.node.Node.{Node}
@@ -50,12 +52,14 @@ count_cons u e es = sum_by-cons (λ e. one_if (lies_in u e)) e es
 count_push : (u : ℕ) (es : List Entry) (e : Entry) → count_by (lies_in u) (es ++ e ∷ []) ≡ count_by (lies_in u) es + one_if (lies_in u e)
 count_push u es e = sum_by_push (λ e. one_if (lies_in u e)) es e
 
-count_remove : (u : ℕ) (es : List Entry) (i : ℕ) → i < length es → count_by (lies_in u) (remove es i) + one_if (lies_in u (entry_at es i)) ≡ count_by (lies_in u) es
+count_remove : (u : ℕ) (es : List Entry) (i : ℕ) → i < length es
+    → count_by (lies_in u) (remove es i) + one_if (lies_in u (entry_at es i)) ≡ count_by (lies_in u) es
 count_remove u es i lt = sum_by-remove (λ e. one_if (lies_in u e)) es i no_entry lt
 
 -- some are counted where there is one
 counted_one : (u : ℕ) (es : List Entry) (i : ℕ) → i < length es → lies_in u (entry_at es i) ≡ true → 0 < count_by (lies_in u) es
-counted_one u es i lt is = (let m : count_by (lies_in u) (remove es i) + 1 ≡ count_by (lies_in u) es = ap (λ b. count_by (lies_in u) (remove es i) + one_if b) (sym is) ∙ count_remove u es i lt in omega arith)
+counted_one u es i lt is = (let m : count_by (lies_in u) (remove es i) + 1 ≡ count_by (lies_in u) es =
+    ap (λ b. count_by (lies_in u) (remove es i) + one_if b) (sym is) ∙ count_remove u es i lt in omega arith)
 
 one_counted : (u : ℕ) (es : List Entry) → 0 < count_by (lies_in u) es → (i : ℕ) × (i < length es) × (lies_in u (entry_at es i) ≡ true)
 one_counted u [] lt = absurd (omega arith)
@@ -84,7 +88,8 @@ module _ (v : ℕ) (g : ℕ → ℕ) where
   entry_recounted : (es : List Entry) (i : ℕ) → i < length es → entry_at (recounted v g es) i ≡ recount v g (entry_at es i)
   entry_recounted es i lt = get_or-map (recount v g) es i no_entry no_entry lt
 
-  pub each_recounted : (es : List Entry) (P : Entry → Type 0) → ((i : ℕ) → i < length es → P (recount v g (entry_at es i))) → (i : ℕ) → i < length (recounted v g es) → P (entry_at (recounted v g es) i)
+  pub each_recounted : (es : List Entry) (P : Entry → Type 0) → ((i : ℕ) → i < length es → P (recount v g (entry_at es i))) → (i : ℕ)
+      → i < length (recounted v g es) → P (entry_at (recounted v g es) i)
   each_recounted es P all i lt = (let n = length_recounted es in subst P (sym (entry_recounted es i (omega arith))) (all i (omega arith)))
 
   count_recounted : (u : ℕ) (es : List Entry) → count_by (lies_in u) (recounted v g es) ≡ count_by (lies_in u) es
@@ -96,12 +101,14 @@ module _ (v : ℕ) (g : ℕ → ℕ) where
   newest_recounted ns [] = refl
   newest_recounted ns (e ∷ es) = ap (λ xs. xs ++ node_at ns e.place ∷ []) (newest_recounted ns es)
 
-  pub kept_recounted : {nodes : List Node} {es : List Entry} {free : List ℕ} {index : Places} {next : ℕ} → IsKept nodes es free index next → IsKept nodes (recounted v g es) free index next
+  pub kept_recounted : {nodes : List Node} {es : List Entry} {free : List ℕ} {index : Places} {next : ℕ} → IsKept nodes es free index next
+      → IsKept nodes (recounted v g es) free index next
   kept_recounted {nodes} {es} {free} {index} {next} k = record {
     uids = each_recounted es (λ e. (node_at nodes e.place).uid ≡ e.uid) k.uids;
     superiors = each_recounted es (λ e. (node_at nodes e.place).superior ≡ e.superior) k.superiors;
     within = each_recounted es (λ e. e.place < length nodes) k.within;
-    rising = λ i j lt in_j. (let n = length_recounted es in rw (entry_recounted es i (omega arith), entry_recounted es j (omega arith)) (k.rising i j lt (omega arith)));
+    rising = λ i j lt in_j. (let n = length_recounted es in
+        rw (entry_recounted es i (omega arith), entry_recounted es j (omega arith)) (k.rising i j lt (omega arith)));
     below = each_recounted es (λ e. e.uid < next) k.below;
     free_within = k.free_within;
     free_apart = k.free_apart;
@@ -109,7 +116,13 @@ module _ (v : ℕ) (g : ℕ → ℕ) where
     count = (let n = length_recounted es in let c : length nodes ≡ length es + length free = k.count in omega arith);
     few = k.few;
     named = each_recounted es (λ e. IsNamed index.places e.superior e.place) k.named;
-    places = λ p pair. (let q = k.places p pair in record { i = q.i; within = (let n = length_recounted es in omega (arith, q.within)); place_is = ap (λ (e : Entry). e.place) (entry_recounted es q.i q.within) ∙ q.place_is });
+    places = λ p pair. (let q = k.places p pair in
+        record {
+          i = q.i;
+          within = (let n = length_recounted es in omega (arith, q.within));
+          place_is =
+              ap (λ (e : Entry). e.place) (entry_recounted es q.i q.within) ∙ q.place_is;
+        });
     sorted = k.sorted;
     branches = (let n = length_recounted es in let p : length index.places + 1 ≡ length es = k.branches in omega arith);
     room = k.room;
@@ -117,8 +130,10 @@ module _ (v : ℕ) (g : ℕ → ℕ) where
   }
 
   -- the one entry of a uid written
-  pub set_recounted : (es : List Entry) → IsAscending es → (i : ℕ) → i < length es → (entry_at es i).uid ≡ v → (e : Entry) → e ≡ recount v g (entry_at es i) → set es i e ≡ recounted v g es
-  set_recounted es rising i within is e e_is = ext_get_or no_entry _ _ (length-set es i e ∙ sym (length_recounted es)) (λ j lt. at j (let n = length-set es i e in omega arith))
+  pub set_recounted : (es : List Entry) → IsAscending es → (i : ℕ) → i < length es → (entry_at es i).uid ≡ v → (e : Entry) → e ≡ recount v g (entry_at es i)
+      → set es i e ≡ recounted v g es
+  set_recounted es rising i within is e e_is =
+      ext_get_or no_entry _ _ (length-set es i e ∙ sym (length_recounted es)) (λ j lt. at j (let n = length-set es i e in omega arith))
     where
       other : (j : ℕ) → j < length es → j ≢ i → (entry_at es j).uid ≢ v
       other j lt ne same = grind (arith, rising i j, rising j i)
@@ -135,35 +150,45 @@ module _ (v : ℕ) (g : ℕ → ℕ) where
 -- ---- one inferior more, one less
 
 -- a directory is older than what lies in it
-pub superior_older : {nodes : List Node} {es : List Entry} {free : List ℕ} {index : Places} {next : ℕ} → IsKept nodes es free index next → (s i : ℕ) → i < length es → (entry_at es i).superior ≡ Some s → (s < (entry_at es i).uid) × (is_directory (newest nodes es) s ≡ true)
+pub superior_older : {nodes : List Node} {es : List Entry} {free : List ℕ} {index : Places} {next : ℕ} → IsKept nodes es free index next → (s i : ℕ)
+    → i < length es → (entry_at es i).superior ≡ Some s → (s < (entry_at es i).uid) × (is_directory (newest nodes es) s ≡ true)
 superior_older {nodes} {es} {free} {index} {next} k s i lt is =
     let entry : HasEntry es (entry_at es i).uid (entry_at es i) = record { i = i; within = lt; entry_is = refl; uid_is = refl } in
     let up : superior_in (shapes (newest nodes es)) (entry_at es i).uid ≡ Some s = superior_read k (entry_at es i).uid (entry_at es i) entry ∙ is in
-    let older : IsUp (shapes (newest nodes es)) (entry_at es i).uid (Some s) = subst (IsUp (shapes (newest nodes es)) (entry_at es i).uid) up (superior_up (shapes (newest nodes es)) k.tree (entry_at es i).uid) in
+    let older : IsUp (shapes (newest nodes es)) (entry_at es i).uid (Some s) =
+    subst (IsUp (shapes (newest nodes es)) (entry_at es i).uid) up (superior_up (shapes (newest nodes es)) k.tree (entry_at es i).uid) in
     (older.0, sym (directory_shape (newest nodes es) s) ∙ older.1)
 
 pub few_counted : (es : List Entry) → IsCounted es → length es ≤ 4097 → (i : ℕ) → i < length es → (entry_at es i).inferiors ≤ 4097
-few_counted es counted few i lt = (let is : (entry_at es i).inferiors ≡ count_by (lies_in (entry_at es i).uid) es = counted i lt in let le = count_by-le-length (lies_in (entry_at es i).uid) es in omega arith)
+few_counted es counted few i lt = (let is : (entry_at es i).inferiors ≡ count_by (lies_in (entry_at es i).uid) es = counted i lt in
+    let le = count_by-le-length (lies_in (entry_at es i).uid) es in omega arith)
 
 module _ (es : List Entry) (counted : IsCounted es) (e : Entry) (s : ℕ) (up : e.superior ≡ Some s) where
   -- what lies in a node once there is one more entry
   count_pushed : (u : ℕ) → count_by (lies_in u) (es ++ e ∷ []) ≡ count_by (lies_in u) es + one_if (eqb s u)
   count_pushed u = count_push u es e ∙ ap (λ b. count_by (lies_in u) es + one_if b) (lies_eq u s e up)
 
-  pub counted_added : e.inferiors ≡ 0 → s < e.uid → ((i : ℕ) → i < length es → (t : ℕ) → (entry_at es i).superior ≡ Some t → t < e.uid) → IsCounted (recounted s (λ n. n + 1) (es ++ e ∷ []))
-  counted_added none older all = each_recounted s (λ n. n + 1) (es ++ e ∷ []) (λ d. d.inferiors ≡ count_by (lies_in d.uid) (recounted s (λ n. n + 1) (es ++ e ∷ [])))
-      (each_pushed es e no_entry (λ d. (recount s (λ n. n + 1) d).inferiors ≡ count_by (lies_in d.uid) (recounted s (λ n. n + 1) (es ++ e ∷ []))) (λ i lt. at (entry_at es i) (counted i lt)) (at e (none ∙ sym empty)))
+  pub counted_added : e.inferiors ≡ 0 → s < e.uid → ((i : ℕ) → i < length es → (t : ℕ) → (entry_at es i).superior ≡ Some t → t < e.uid)
+      → IsCounted (recounted s (λ n. n + 1) (es ++ e ∷ []))
+  counted_added none older all = each_recounted s (λ n. n + 1) (es ++ e ∷ [])
+      (λ d. d.inferiors ≡ count_by (lies_in d.uid) (recounted s (λ n. n + 1) (es ++ e ∷ [])))
+      (each_pushed es e no_entry (λ d. (recount s (λ n. n + 1) d).inferiors ≡ count_by (lies_in d.uid) (recounted s (λ n. n + 1) (es ++ e ∷ [])))
+      (λ i lt. at (entry_at es i) (counted i lt)) (at e (none ∙ sym empty)))
     where
       empty : count_by (lies_in e.uid) es ≡ 0
-      empty = none_counted e.uid es (λ i lt. false_from_ne_true _ (λ is. (let less : e.uid < e.uid = all i lt e.uid (lies_of e.uid (entry_at es i) is) in omega arith)))
+      empty = none_counted e.uid es (λ i lt. false_from_ne_true _
+          (λ is. (let less : e.uid < e.uid = all i lt e.uid (lies_of e.uid (entry_at es i) is) in omega arith)))
 
-      at : (d : Entry) → d.inferiors ≡ count_by (lies_in d.uid) es → (recount s (λ n. n + 1) d).inferiors ≡ count_by (lies_in d.uid) (recounted s (λ n. n + 1) (es ++ e ∷ []))
+      at : (d : Entry) → d.inferiors ≡ count_by (lies_in d.uid) es
+          → (recount s (λ n. n + 1) d).inferiors ≡ count_by (lies_in d.uid) (recounted s (λ n. n + 1) (es ++ e ∷ []))
       at d is =
           (let same = count_recounted s (λ n. n + 1) d.uid (es ++ e ∷ []) in
           let more = count_pushed d.uid in
           elim (cases_eq d.uid s) [
-            | inl here ↦ (let a : eqb s d.uid ≡ true = eq-eqb s d.uid (sym here) in let m : count_by (lies_in d.uid) (es ++ e ∷ []) ≡ count_by (lies_in d.uid) es + 1 = rw a at more in rw (eq-eqb d.uid s here) (omega arith))
-            | inr there ↦ (let a : eqb s d.uid ≡ false = ne_eqb s d.uid (λ q. there (sym q)) in let m : count_by (lies_in d.uid) (es ++ e ∷ []) ≡ count_by (lies_in d.uid) es + 0 = rw a at more in rw (ne_eqb d.uid s there) (omega arith))
+            | inl here ↦ (let a : eqb s d.uid ≡ true = eq-eqb s d.uid (sym here) in
+                let m : count_by (lies_in d.uid) (es ++ e ∷ []) ≡ count_by (lies_in d.uid) es + 1 = rw a at more in rw (eq-eqb d.uid s here) (omega arith))
+            | inr there ↦ (let a : eqb s d.uid ≡ false = ne_eqb s d.uid (λ q. there (sym q)) in
+                let m : count_by (lies_in d.uid) (es ++ e ∷ []) ≡ count_by (lies_in d.uid) es + 0 = rw a at more in rw (ne_eqb d.uid s there) (omega arith))
           ])
 
 module _ (es : List Entry) (counted : IsCounted es) (i : ℕ) (within : i < length es) (s : ℕ) (up : (entry_at es i).superior ≡ Some s) where
@@ -173,32 +198,44 @@ module _ (es : List Entry) (counted : IsCounted es) (i : ℕ) (within : i < leng
 
   pub counted_removed : IsCounted (recounted s (λ n. n - 1) (remove es i))
   counted_removed = each_recounted s (λ n. n - 1) (remove es i) (λ d. d.inferiors ≡ count_by (lies_in d.uid) (recounted s (λ n. n - 1) (remove es i)))
-      (each_left es i within no_entry (λ d. (recount s (λ n. n - 1) d).inferiors ≡ count_by (lies_in d.uid) (recounted s (λ n. n - 1) (remove es i))) (λ j lt ne. at (entry_at es j) (counted j lt)))
+      (each_left es i within no_entry (λ d. (recount s (λ n. n - 1) d).inferiors ≡ count_by (lies_in d.uid) (recounted s (λ n. n - 1) (remove es i)))
+      (λ j lt ne. at (entry_at es j) (counted j lt)))
     where
-      at : (d : Entry) → d.inferiors ≡ count_by (lies_in d.uid) es → (recount s (λ n. n - 1) d).inferiors ≡ count_by (lies_in d.uid) (recounted s (λ n. n - 1) (remove es i))
+      at : (d : Entry) → d.inferiors ≡ count_by (lies_in d.uid) es
+          → (recount s (λ n. n - 1) d).inferiors ≡ count_by (lies_in d.uid) (recounted s (λ n. n - 1) (remove es i))
       at d is =
           (let same = count_recounted s (λ n. n - 1) d.uid (remove es i) in
           let less = count_left d.uid in
           elim (cases_eq d.uid s) [
-            | inl here ↦ (let a : eqb s d.uid ≡ true = eq-eqb s d.uid (sym here) in let m : count_by (lies_in d.uid) (remove es i) + 1 ≡ count_by (lies_in d.uid) es = rw a at less in rw (eq-eqb d.uid s here) (omega arith))
-            | inr there ↦ (let a : eqb s d.uid ≡ false = ne_eqb s d.uid (λ q. there (sym q)) in let m : count_by (lies_in d.uid) (remove es i) + 0 ≡ count_by (lies_in d.uid) es = rw a at less in rw (ne_eqb d.uid s there) (omega arith))
+            | inl here ↦ (let a : eqb s d.uid ≡ true = eq-eqb s d.uid (sym here) in
+                let m : count_by (lies_in d.uid) (remove es i) + 1 ≡ count_by (lies_in d.uid) es = rw a at less in rw (eq-eqb d.uid s here) (omega arith))
+            | inr there ↦ (let a : eqb s d.uid ≡ false = ne_eqb s d.uid (λ q. there (sym q)) in
+                let m : count_by (lies_in d.uid) (remove es i) + 0 ≡ count_by (lies_in d.uid) es = rw a at less in rw (ne_eqb d.uid s there) (omega arith))
           ])
 
   -- the entry that comes out was counted
   pub some_left : (j : ℕ) → j < length (remove es i) → (entry_at (remove es i) j).uid ≡ s → 0 < (entry_at (remove es i) j).inferiors
-  some_left = each_left es i within no_entry (λ d. d.uid ≡ s → 0 < d.inferiors) (λ j lt ne is. (let c : (entry_at es j).inferiors ≡ count_by (lies_in s) es = rw is at (counted j lt) in let one = counted_one s es i within (lies_since s (entry_at es i) up) in omega arith))
+  some_left = each_left es i within no_entry (λ d. d.uid ≡ s → 0 < d.inferiors)
+      (λ j lt ne is. (let c : (entry_at es j).inferiors ≡ count_by (lies_in s) es = rw is at (counted j lt) in
+      let one = counted_one s es i within (lies_since s (entry_at es i) up) in omega arith))
 
 -- a directory stays when one that lies in it comes out
-pub superior_left : {nodes : List Node} {es : List Entry} {free : List ℕ} {index : Places} {next : ℕ} → IsKept nodes es free index next → (s i : ℕ) → i < length es → (entry_at es i).superior ≡ Some s → (j : ℕ) × (j < length (remove es i)) × ((entry_at (remove es i) j).uid ≡ s)
+pub superior_left : {nodes : List Node} {es : List Entry} {free : List ℕ} {index : Places} {next : ℕ} → IsKept nodes es free index next → (s i : ℕ)
+    → i < length es → (entry_at es i).superior ≡ Some s → (j : ℕ) × (j < length (remove es i)) × ((entry_at (remove es i) j).uid ≡ s)
 superior_left {nodes} {es} {free} {index} {next} k s i lt is =
     let older = superior_older k s i lt is in
     let less : s < (entry_at es i).uid = older.0 in
     let there : (j : ℕ) × (j < length es) × ((entry_at es j).uid ≡ s) = entry_present k s (directory_in (newest nodes es) s older.1) in
-    let other : there.0 ≢ i = λ q. (let same : (entry_at es i).uid ≡ s = rw q at there.2 in omega arith) in
-    (now i there.0, now_within es i lt there.0 there.1 other, ap (λ (e : Entry). e.uid) (at_was es i lt (now i there.0) no_entry) ∙ ap (λ j. (entry_at es j).uid) (was_now i there.0 other) ∙ there.2)
+    let other : there.0 ≢ i = λ q. (let same : (entry_at es i).uid ≡ s = rw q at there.2 in omega arith) in (
+      now i there.0,
+      now_within es i lt there.0 there.1 other,
+      ap (λ (e : Entry). e.uid) (at_was es i lt (now i there.0) no_entry)
+          ∙ ap (λ j. (entry_at es j).uid) (was_now i there.0 other) ∙ there.2,
+    )
 
 -- whether an entry of a uid counts some tells whether there are some
-pub counts_some : (es : List Entry) → IsCounted es → (u i : ℕ) → i < length es → (entry_at es i).uid ≡ u → (0 < (entry_at es i).inferiors) ↔ ((j : ℕ) × (j < length es) × ((entry_at es j).superior ≡ Some u))
+pub counts_some : (es : List Entry) → IsCounted es → (u i : ℕ) → i < length es → (entry_at es i).uid ≡ u
+    → (0 < (entry_at es i).inferiors) ↔ ((j : ℕ) × (j < length es) × ((entry_at es j).superior ≡ Some u))
 counts_some es counted u i lt is =
     let c : (entry_at es i).inferiors ≡ count_by (lies_in u) es = rw is at (counted i lt) in (
       λ some. (let one = one_counted u es (omega arith) in (one.0, one.1, lies_of u (entry_at es one.0) one.2)),
@@ -207,25 +244,35 @@ counts_some es counted u i lt is =
 
 -- ---- as the calls leave them
 
-pub seamed : {X : Type 0} (new old target : List X) (n : ℕ) → new ≡ target → length target ≡ length old → n ≡ length old → take n (new ++ drop (length new) old) ≡ target
+pub seamed : {X : Type 0} (new old target : List X) (n : ℕ) → new ≡ target → length target ≡ length old → n ≡ length old
+    → take n (new ++ drop (length new) old) ≡ target
 seamed new old target n is size len =
     let whole : drop (length new) old ≡ [] = drop_all (length new) old (let a : length new ≡ length target = ap length is in omega arith) in
     rw (whole, append-nil new) (take_all n new (let a : length new ≡ length target = ap length is in omega arith) ∙ is)
 
-pub superior_there : {nodes : List Node} {es : List Entry} {free : List ℕ} {index : Places} {next : ℕ} → IsKept nodes es free index next → (s : ℕ) → is_directory (newest nodes es) s ≡ true → (e : Entry) → (j : ℕ) × (j < length (es ++ e ∷ [])) × ((entry_at (es ++ e ∷ []) j).uid ≡ s)
+pub superior_there : {nodes : List Node} {es : List Entry} {free : List ℕ} {index : Places} {next : ℕ} → IsKept nodes es free index next → (s : ℕ)
+    → is_directory (newest nodes es) s ≡ true → (e : Entry) → (j : ℕ) × (j < length (es ++ e ∷ [])) × ((entry_at (es ++ e ∷ []) j).uid ≡ s)
 superior_there {nodes} {es} {free} {index} {next} k s is e =
     let there : (j : ℕ) × (j < length es) × ((entry_at es j).uid ≡ s) = entry_present k s (directory_in (newest nodes es) s is) in
     let n = length_push es e in
     (there.0, omega (arith, there.1), ap (λ (d : Entry). d.uid) (get_or_append_left es (e ∷ []) no_entry there.0 there.1) ∙ there.2)
 
-pub pushed_few : (es : List Entry) (e : Entry) → IsCounted es → length es ≤ 4097 → e.inferiors ≡ 0 → (i : ℕ) → i < length (es ++ e ∷ []) → (entry_at (es ++ e ∷ []) i).inferiors + 1 < 2 ^ 32
-pushed_few es e counted few none = each_pushed es e no_entry (λ d. d.inferiors + 1 < 2 ^ 32) (λ i lt. (let le = few_counted es counted few i lt in omega arith)) (omega arith)
+pub pushed_few : (es : List Entry) (e : Entry) → IsCounted es → length es ≤ 4097 → e.inferiors ≡ 0 → (i : ℕ) → i < length (es ++ e ∷ [])
+    → (entry_at (es ++ e ∷ []) i).inferiors + 1 < 2 ^ 32
+pushed_few es e counted few none = each_pushed es e no_entry (λ d. d.inferiors + 1 < 2 ^ 32)
+    (λ i lt. (let le = few_counted es counted few i lt in omega arith)) (omega arith)
 
-pub counted_with : {nodes : List Node} {es : List Entry} {free : List ℕ} {index : Places} {next : ℕ} → IsKept nodes es free index next → IsCounted es → (s : ℕ) → is_directory (newest nodes es) s ≡ true → (e : Entry) → e.uid ≡ next → e.superior ≡ Some s → e.inferiors ≡ 0 → IsCounted (recounted s (λ n. n + 1) (es ++ e ∷ []))
+pub counted_with : {nodes : List Node} {es : List Entry} {free : List ℕ} {index : Places} {next : ℕ} → IsKept nodes es free index next → IsCounted es
+    → (s : ℕ) → is_directory (newest nodes es) s ≡ true → (e : Entry) → e.uid ≡ next → e.superior ≡ Some s → e.inferiors ≡ 0
+    → IsCounted (recounted s (λ n. n + 1) (es ++ e ∷ []))
 counted_with {nodes} {es} {free} {index} {next} k counted s is e new up none =
     let there : (j : ℕ) × (j < length es) × ((entry_at es j).uid ≡ s) = entry_present k s (directory_in (newest nodes es) s is) in
-    counted_added es counted e s up none (let b : (entry_at es there.0).uid < next = k.below there.0 there.1 in let same : (entry_at es there.0).uid ≡ s = there.2 in omega arith)
-    (λ i lt t lies. (let older = superior_older k t i lt lies in let a : t < (entry_at es i).uid = older.0 in let b : (entry_at es i).uid < next = k.below i lt in omega arith))
+    counted_added es counted e s up none (let b : (entry_at es there.0).uid < next = k.below there.0 there.1 in
+    let same : (entry_at es there.0).uid ≡ s = there.2 in omega arith)
+    (λ i lt t lies. (let older = superior_older k t i lt lies in let a : t < (entry_at es i).uid = older.0 in
+    let b : (entry_at es i).uid < next = k.below i lt in omega arith))
 
-pub removed_rising : {nodes : List Node} {es : List Entry} {free : List ℕ} {index : Places} {next : ℕ} → IsKept nodes es free index next → (i : ℕ) → i < length es → IsAscending (remove es i)
-removed_rising {nodes} {es} {free} {index} {next} k i within a b lt in_b = rw (at_was es i within a no_entry, at_was es i within b no_entry) (k.rising (was i a) (was i b) (was_up i a b lt) (was_within es i within b in_b))
+pub removed_rising : {nodes : List Node} {es : List Entry} {free : List ℕ} {index : Places} {next : ℕ} → IsKept nodes es free index next → (i : ℕ)
+    → i < length es → IsAscending (remove es i)
+removed_rising {nodes} {es} {free} {index} {next} k i within a b lt in_b =
+    rw (at_was es i within a no_entry, at_was es i within b no_entry) (k.rising (was i a) (was i b) (was_up i a b lt) (was_within es i within b in_b))

@@ -5,7 +5,8 @@ use Rattle.std.proofs.lemmas.Bool.{cases_lt, le-leb, lt-leb}
 use Rattle.std.proofs.lemmas.List.{get_or_append_left, get_or_push, length_push}
 use Rattle.std.proofs.lemmas.List.Edits.{length-remove, get_or-remove_below, get_or-remove_above}
 
-pub each_pushed : {X : Type 0} (xs : List X) (y d : X) (P : X → Type 0) → ((i : ℕ) → i < length xs → P (get_or xs i d)) → P y → (i : ℕ) → i < length (xs ++ y ∷ []) → P (get_or (xs ++ y ∷ []) i d)
+pub each_pushed : {X : Type 0} (xs : List X) (y d : X) (P : X → Type 0) → ((i : ℕ) → i < length xs → P (get_or xs i d)) → P y → (i : ℕ)
+    → i < length (xs ++ y ∷ []) → P (get_or (xs ++ y ∷ []) i d)
 each_pushed xs y d P old new i lt =
     let n : length (xs ++ y ∷ []) ≡ length xs + 1 = length_push xs y in
     elim (cases_lt i (length xs)) [
@@ -55,5 +56,6 @@ module _ {X : Type 0} (xs : List X) (i : ℕ) (within : i < length xs) where
   pub now_within : (j : ℕ) → j < length xs → j ≢ i → now i j < length (remove xs i)
   now_within j lt ne = (let n = fewer in elim (cases_lt j i) [ inl x ↦ rw (lt-leb i j x) (omega arith) | inr x ↦ rw (le-leb i j x) (omega arith) ])
 
-  pub each_left : (d : X) (P : X → Type 0) → ((j : ℕ) → j < length xs → j ≢ i → P (get_or xs j d)) → (k : ℕ) → k < length (remove xs i) → P (get_or (remove xs i) k d)
+  pub each_left : (d : X) (P : X → Type 0) → ((j : ℕ) → j < length xs → j ≢ i → P (get_or xs j d)) → (k : ℕ) → k < length (remove xs i)
+      → P (get_or (remove xs i) k d)
   each_left d P all k lt = subst P (sym (at_was k d)) (all (was i k) (was_within k lt) (was_other i k))

@@ -29,7 +29,8 @@ key_total = then_total (on_total (λ (k : Key). k.0) (options_total nat_cmp_tota
 
 -- no key is before itself
 pub not_itself : (x y : Key) → x ≡ y → key_cmp x y ≢ Less
-not_itself x y same is = (let tied : key_cmp x x ≡ Equal = tied_itself key_total x in let less : key_cmp x x ≡ Less = subst (λ (k : Key). key_cmp x k ≡ Less) (sym same) is in cc)
+not_itself x y same is = (let tied : key_cmp x x ≡ Equal = tied_itself key_total x in
+    let less : key_cmp x x ≡ Less = subst (λ (k : Key). key_cmp x k ≡ Less) (sym same) is in cc)
 
 pub less_through : (x y z : Key) → key_cmp x y ≡ Less → key_cmp y z ≡ Less → key_cmp x z ≡ Less
 less_through = key_total.trans
@@ -38,7 +39,8 @@ superiors_tied : (a b : Option ℕ) → option_cmp nat_cmp a b ≡ Equal → a �
 superiors_tied None None e = refl
 superiors_tied None (Some y) e = cc
 superiors_tied (Some x) None e = cc
-superiors_tied (Some x) (Some y) e = (let same : x ≡ y = subst (λ o. MatchOrdering o (x < y) (x ≡ y) (y < x)) e (ranked x y (nat_cmp x y) refl) in ap (λ (n : ℕ). Some n) same)
+superiors_tied (Some x) (Some y) e = (let same : x ≡ y = subst (λ o. MatchOrdering o (x < y) (x ≡ y) (y < x)) e (ranked x y (nat_cmp x y) refl) in
+    ap (λ (n : ℕ). Some n) same)
 
 names_tied : (a b : List ℕ) → slice_cmp nat_cmp a b ≡ Equal → a ≡ b
 names_tied a b e = (let same : bytes_eq a b ≡ true = sym (is_eq-slice_cmp a b) ∙ ap is_eq e in (bytes_eq-Decides a b).0 same)
@@ -52,7 +54,8 @@ then_tied Greater p e = cc
 tied_same : (x y : Key) → key_cmp x y ≡ Equal → x ≡ y
 unfolding key_cmp
 tied_same x y e =
-    let both : (option_cmp nat_cmp x.0 y.0 ≡ Equal) × (slice_cmp nat_cmp x.1 y.1 ≡ Equal) = then_tied (option_cmp nat_cmp x.0 y.0) (slice_cmp nat_cmp x.1 y.1) e in
+    let both : (option_cmp nat_cmp x.0 y.0 ≡ Equal) × (slice_cmp nat_cmp x.1 y.1 ≡ Equal) =
+    then_tied (option_cmp nat_cmp x.0 y.0) (slice_cmp nat_cmp x.1 y.1) e in
     let up : x.0 ≡ y.0 = superiors_tied x.0 y.0 both.0 in
     let name : x.1 ≡ y.1 = names_tied x.1 y.1 both.1 in
     ap (λ (s : Option ℕ). (s, x.1)) up ∙ ap (λ (n : List ℕ). (y.0, n)) name
@@ -67,7 +70,8 @@ pub after_other : (x y : Key) → key_cmp x y ≢ Less → x ≢ y → key_cmp y
 after_other x y isnt other = after_by x y (key_cmp x y) (key_cmp y x) refl refl isnt other
 
 pub branch_key : (d : ℕ) (name : List ℕ) (n : Node) → is_branch d name (shape n) ≡ true → key_of n ≡ (Some d, name)
-branch_key d name n is = (let h : (n.superior ≡ Some d) × (n.name ≡ name) = lies d name (shape n) is in ap (λ (s : Option ℕ). (s, n.name)) h.0 ∙ ap (λ (m : List ℕ). (Some d, m)) h.1)
+branch_key d name n is = (let h : (n.superior ≡ Some d) × (n.name ≡ name) = lies d name (shape n) is in ap (λ (s : Option ℕ). (s, n.name)) h.0
+    ∙ ap (λ (m : List ℕ). (Some d, m)) h.1)
 
 pub key_branch : (d : ℕ) (name : List ℕ) (n : Node) → key_of n ≡ (Some d, name) → is_branch d name (shape n) ≡ true
 key_branch d name n e =
@@ -96,7 +100,8 @@ module _ (ps : List ℕ) (i place : ℕ) (within : i ≤ length ps) where
   old_or_new : (p k : ℕ) → k < length longer → get_or longer k 0 ≡ p → Where k i → HasPlace ps p ⊎ (p ≡ place)
   old_or_new p k lt e (Before before) = inl (record { at = k; within = omega arith; is = sym (at_before k before) ∙ e })
   old_or_new p k lt e (Here same) = inr (sym e ∙ ap (λ j. get_or longer j 0) same ∙ at_here)
-  old_or_new p k lt e (After j is le) = (let n : length longer ≡ length ps + 1 = size in inl (record { at = j; within = omega arith; is = sym (at_after k j is le) ∙ e }))
+  old_or_new p k lt e (After j is le) = (let n : length longer ≡ length ps + 1 = size in
+      inl (record { at = j; within = omega arith; is = sym (at_after k j is le) ∙ e }))
 
   still_there : (p : ℕ) → HasPlace ps p → HasPlace longer p
   still_there p x =
@@ -157,7 +162,11 @@ module _ (nodes : List Node) (ps : List ℕ) (i : ℕ) (within : i < length ps) 
       let same : get_or ps (was i k) 0 ≡ get_or ps i 0 = sym (at_was ps i within k 0) ∙ e in
       elim (cases_order (was i k) i) [
         | inl z ↦ was_other i k z
-        | inr differ ↦ elim differ [ inl below ↦ apart (was i k) i below within same | inr above ↦ apart i (was i k) above (was_within ps i within k lt) (sym same) ]
+        | inr differ ↦ elim differ [
+          | inl below ↦ apart (was i k) i below within same
+          | inr above ↦
+              apart i (was i k) above (was_within ps i within k lt) (sym same)
+        ]
       ]
 
   pub place_removed : (place p : ℕ) → get_or ps i 0 ≡ place → HasPlace (remove ps i) p ↔ (HasPlace ps p × (p ≢ place))
@@ -172,20 +181,23 @@ module _ (nodes : List Node) (ps : List ℕ) (i : ℕ) (within : i < length ps) 
 -- ---- the search
 
 -- what stands after one that is before a key's place can't be before it
-pub halved_below : (nodes : List Node) (ps : List ℕ) (m : ℕ) (key : Key) → IsSorted nodes ps → m < length ps → key_cmp (key_at nodes ps m) key ≡ Less → (k : ℕ) → k < m + 1 → key_cmp (key_at nodes ps k) key ≡ Less
+pub halved_below : (nodes : List Node) (ps : List ℕ) (m : ℕ) (key : Key) → IsSorted nodes ps → m < length ps → key_cmp (key_at nodes ps m) key ≡ Less
+    → (k : ℕ) → k < m + 1 → key_cmp (key_at nodes ps k) key ≡ Less
 halved_below nodes ps m key sorted within less k lt = elim (cases_eq k m) [
   | inl same ↦ subst (λ (j : ℕ). key_cmp (key_at nodes ps j) key ≡ Less) (sym same) less
   | inr other ↦ less_through _ _ _ (sorted k m (omega arith) within) less
 ]
 
-pub halved_above : (nodes : List Node) (ps : List ℕ) (m : ℕ) (key : Key) → IsSorted nodes ps → key_cmp (key_at nodes ps m) key ≢ Less → (k : ℕ) → m ≤ k → k < length ps → key_cmp (key_at nodes ps k) key ≢ Less
+pub halved_above : (nodes : List Node) (ps : List ℕ) (m : ℕ) (key : Key) → IsSorted nodes ps → key_cmp (key_at nodes ps m) key ≢ Less → (k : ℕ) → m ≤ k
+    → k < length ps → key_cmp (key_at nodes ps k) key ≢ Less
 halved_above nodes ps m key sorted isnt k le within less = elim (cases_eq k m) [
   | inl same ↦ isnt (subst (λ (j : ℕ). key_cmp (key_at nodes ps j) key ≡ Less) same less)
   | inr other ↦ isnt (less_through _ _ _ (sorted m k (omega arith) within) less)
 ]
 
 -- the branch of a key can only stand in the first place that isn't before it
-pub first_is : (nodes : List Node) (ps : List ℕ) (at : ℕ) (key : Key) → IsSorted nodes ps → ((k : ℕ) → k < at → key_cmp (key_at nodes ps k) key ≡ Less) → ((k : ℕ) → at ≤ k → k < length ps → key_cmp (key_at nodes ps k) key ≢ Less)
+pub first_is : (nodes : List Node) (ps : List ℕ) (at : ℕ) (key : Key) → IsSorted nodes ps → ((k : ℕ) → k < at → key_cmp (key_at nodes ps k) key ≡ Less)
+    → ((k : ℕ) → at ≤ k → k < length ps → key_cmp (key_at nodes ps k) key ≢ Less)
     → (k : ℕ) → k < length ps → key_at nodes ps k ≡ key → k ≡ at
 first_is nodes ps at key sorted below from k within is = elim (cases_order k at) [
   | inl same ↦ same
@@ -195,7 +207,10 @@ first_is nodes ps at key sorted below from k within is = elim (cases_order k at)
   ]
 ]
 
-pub branch_at_first : (nodes : List Node) (ps : List ℕ) (at superior : ℕ) (name : List ℕ) → IsSorted nodes ps → ((k : ℕ) → k < at → key_cmp (key_at nodes ps k) (Some superior, name) ≡ Less)
-    → ((k : ℕ) → at ≤ k → k < length ps → key_cmp (key_at nodes ps k) (Some superior, name) ≢ Less) → (place : ℕ) → (there : HasPlace ps place) → is_branch superior name (shape (node_at nodes place)) ≡ true → there.at ≡ at
+pub branch_at_first : (nodes : List Node) (ps : List ℕ) (at superior : ℕ) (name : List ℕ) → IsSorted nodes ps
+    → ((k : ℕ) → k < at → key_cmp (key_at nodes ps k) (Some superior, name) ≡ Less)
+    → ((k : ℕ) → at ≤ k → k < length ps → key_cmp (key_at nodes ps k) (Some superior, name) ≢ Less) → (place : ℕ) → (there : HasPlace ps place)
+    → is_branch superior name (shape (node_at nodes place)) ≡ true → there.at ≡ at
 branch_at_first nodes ps at superior name sorted below from place there is =
-    first_is nodes ps at (Some superior, name) sorted below from there.at there.within (ap (λ p. key_of (node_at nodes p)) there.is ∙ branch_key superior name (node_at nodes place) is)
+    first_is nodes ps at (Some superior, name) sorted below from there.at there.within
+    (ap (λ p. key_of (node_at nodes p)) there.is ∙ branch_key superior name (node_at nodes place) is)

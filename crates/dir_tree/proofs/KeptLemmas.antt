@@ -1,5 +1,6 @@
 -- What a new branch, a branch less, and a change of a node leave of the tables behind a tree.
-use Rattle.std.proofs.Common.{◌≡◌, ◌≢◌, ℕ, suc, ◌<◌, Bool, true, false, eqb, leb, ◌&&◌, List, [], ◌∷◌, ◌++◌, length, Option, Some, None, refl, sym, ap, subst, ◌∙◌, arith, get_or, inl, inr, is_some, IfSome}
+use Rattle.std.proofs.Common.{◌≡◌, ◌≢◌, ℕ, suc, ◌<◌, Bool, true, false, eqb, leb, ◌&&◌, List, [], ◌∷◌, ◌++◌, length, Option, Some, None, refl, sym, ap, subst}
+use Rattle.std.proofs.Common.{◌∙◌, arith, get_or, inl, inr, is_some, IfSome}
 use Rattle.std.specs.List.{find, list_any}
 use Rattle.std.specs.Option.{option_map, option_and_then}
 use Rattle.std.proofs.lemmas.Bool.{cases_Bool, cases_lt, cases_order, both_ways, le-leb, eq-eqb, ne_eqb, eqb-true, leb-false, and_from}
@@ -28,7 +29,8 @@ pub below_newest : (v : ℕ) (ns : List Node) (es : List Entry) → ((i : ℕ) �
 below_newest v ns [] all = tt
 below_newest v ns (e ∷ es) all =
     rw (map-append shape (newest ns es) (node_at ns e.place ∷ []))
-    (below_append v (shapes (newest ns es)) (shape (node_at ns e.place) ∷ []) (below_newest v ns es (λ i lt. all (suc i) (omega arith))) (all 0 (omega arith), tt))
+    (below_append v (shapes (newest ns es)) (shape (node_at ns e.place) ∷ []) (below_newest v ns es (λ i lt. all (suc i) (omega arith)))
+    (all 0 (omega arith), tt))
 
 -- what keeps no branch from being added
 pub record MayAdd (ns : List Term) (s : ℕ) (name : List ℕ) (dir : Bool) : Type 0 where
@@ -36,8 +38,10 @@ pub record MayAdd (ns : List Term) (s : ℕ) (name : List ℕ) (dir : Bool) : Ty
   pub shallow : dir ≡ true → length (above ns s) < 8
   pub room : length ns < 4097
 
-no_fault_at : (ns : List Term) (s : ℕ) (name : List ℕ) (dir : Bool) → add_fault_of ns s name dir ≡ None → (o : Option Term) → branch_in ns s name ≡ o → MayAdd ns s name dir
-no_fault_at ns s name dir e (Some n) is = (let z : is_some (branch_in ns s name) ≡ true = ap is_some is in let y : Some add_fault.Exists ≡ None = rw z at e in cc)
+no_fault_at : (ns : List Term) (s : ℕ) (name : List ℕ) (dir : Bool) → add_fault_of ns s name dir ≡ None → (o : Option Term) → branch_in ns s name ≡ o
+    → MayAdd ns s name dir
+no_fault_at ns s name dir e (Some n) is =
+    (let z : is_some (branch_in ns s name) ≡ true = ap is_some is in let y : Some add_fault.Exists ≡ None = rw z at e in cc)
 no_fault_at ns s name dir e None is =
     let z : is_some (branch_in ns s name) ≡ false = ap is_some is in
     elim (cases_Bool (dir && leb 8 (length (above ns s)))) [
@@ -46,7 +50,11 @@ no_fault_at ns s name dir e None is =
         | inl full ↦ (let y : Some add_fault.Room ≡ None = rw (z, isnt, full) at e in cc)
         | inr room ↦ record {
           new = is;
-          shallow = λ d. elim (cases_lt (length (above ns s)) 8) [ inl lt ↦ lt | inr le ↦ absurd (both_ways _ isnt (and_from dir (leb 8 (length (above ns s))) d (le-leb 8 (length (above ns s)) le))) ];
+          shallow = λ d. elim (cases_lt (length (above ns s)) 8) [
+            | inl lt ↦ lt
+            | inr le ↦
+                absurd (both_ways _ isnt (and_from dir (leb 8 (length (above ns s))) d (le-leb 8 (length (above ns s)) le)))
+          ];
           room = leb-false 4097 (length ns) room;
         }
       ]
@@ -62,7 +70,11 @@ module _ {nodes : List Node} {es : List Entry} {free : List ℕ} {index : Places
   apart_uids : (i j : ℕ) → i < length es → j < length es → j ≢ i → (entry_at es j).uid ≢ (entry_at es i).uid
   apart_uids i j lt_i lt_j ne e = elim (cases_order j i) [
     | inl same ↦ ne same
-    | inr differ ↦ elim differ [ inl less ↦ (let x : (entry_at es j).uid < (entry_at es i).uid = k.rising j i less lt_i in omega arith) | inr more ↦ (let x : (entry_at es i).uid < (entry_at es j).uid = k.rising i j more lt_j in omega arith) ]
+    | inr differ ↦ elim differ [
+      | inl less ↦ (let x : (entry_at es j).uid < (entry_at es i).uid = k.rising j i less lt_i in omega arith)
+      | inr more ↦
+          (let x : (entry_at es i).uid < (entry_at es j).uid = k.rising i j more lt_j in omega arith)
+    ]
   ]
 
   pub apart_places : (i j : ℕ) → i < length es → j < length es → j ≢ i → (entry_at es j).place ≢ (entry_at es i).place
@@ -89,10 +101,12 @@ some_of : {X : Type 0} (o : Option X) → is_some o ≡ true → (x : X) × (o �
 some_of None e = cc
 some_of (Some x) e = (x, refl)
 
-pub entry_present : {nodes : List Node} {es : List Entry} {free : List ℕ} {index : Places} {next : ℕ} → IsKept nodes es free index next → (uid : ℕ) → is_in (newest nodes es) uid ≡ true → (i : ℕ) × (i < length es) × ((entry_at es i).uid ≡ uid)
+pub entry_present : {nodes : List Node} {es : List Entry} {free : List ℕ} {index : Places} {next : ℕ} → IsKept nodes es free index next → (uid : ℕ)
+    → is_in (newest nodes es) uid ≡ true → (i : ℕ) × (i < length es) × ((entry_at es i).uid ≡ uid)
 entry_present {nodes} {es} {free} {index} {next} k uid e =
     let n : (n : Node) × (node_of (newest nodes es) uid ≡ Some n) = some_of (node_of (newest nodes es) uid) e in
-    let m : (i : ℕ) × (i < length es) × (node_of_entry nodes es i ≡ n.0) = member_entry nodes es n.0 (found_member (λ n. eqb n.uid uid) (newest nodes es) n.0 n.1) in
+    let m : (i : ℕ) × (i < length es) × (node_of_entry nodes es i ≡ n.0) =
+    member_entry nodes es n.0 (found_member (λ n. eqb n.uid uid) (newest nodes es) n.0 n.1) in
     let is : eqb n.0.uid uid ≡ true = found_passes (λ n. eqb n.uid uid) (newest nodes es) n.0 n.1 in
     (m.0, m.1, sym (k.uids m.0 m.1) ∙ ap (λ (n : Node). n.uid) m.2 ∙ eqb-true n.0.uid uid is)
 
@@ -102,7 +116,8 @@ up_in ns u (Some s) up = (up.0, directory_in ns s (sym (directory_shape ns s) �
 
 -- ---- what a look-up reads
 
-pub node_read : {nodes : List Node} {es : List Entry} {free : List ℕ} {index : Places} {next : ℕ} → IsKept nodes es free index next → (uid : ℕ) (e : Entry) → HasEntry es uid e → (x : Node) → x ≡ get_or nodes e.place x → node_of (newest nodes es) uid ≡ Some x
+pub node_read : {nodes : List Node} {es : List Entry} {free : List ℕ} {index : Places} {next : ℕ} → IsKept nodes es free index next → (uid : ℕ) (e : Entry)
+    → HasEntry es uid e → (x : Node) → x ≡ get_or nodes e.place x → node_of (newest nodes es) uid ≡ Some x
 node_read {nodes} {es} {free} {index} {next} k uid e h x read =
     let within : e.place < length nodes = subst (λ (d : Entry). d.place < length nodes) h.entry_is (k.within h.i h.within) in
     let node : x ≡ node_at nodes e.place = get_or_read nodes e.place x within read no_node in
@@ -110,65 +125,87 @@ node_read {nodes} {es} {free} {index} {next} k uid e h x read =
     ∙ ap (λ (d : Entry). Some (node_at nodes d.place)) h.entry_is ∙ ap (λ (n : Node). Some n) (sym node)
 
 -- the superior of a node is its entry's
-pub superior_read : {nodes : List Node} {es : List Entry} {free : List ℕ} {index : Places} {next : ℕ} → IsKept nodes es free index next → (uid : ℕ) (e : Entry) → HasEntry es uid e → superior_in (shapes (newest nodes es)) uid ≡ e.superior
+pub superior_read : {nodes : List Node} {es : List Entry} {free : List ℕ} {index : Places} {next : ℕ} → IsKept nodes es free index next
+    → (uid : ℕ) (e : Entry) → HasEntry es uid e → superior_in (shapes (newest nodes es)) uid ≡ e.superior
 superior_read {nodes} {es} {free} {index} {next} k uid e h =
-    let found : node_of (newest nodes es) uid ≡ Some (node_of_entry nodes es h.i) = node_found k uid h.i h.within (ap (λ (d : Entry). d.uid) h.entry_is ∙ h.uid_is) in
-    let shaped : find (λ n. eqb n.uid uid) (shapes (newest nodes es)) ≡ Some (shape (node_of_entry nodes es h.i)) = find_map (λ n. eqb n.uid uid) shape (newest nodes es) ∙ ap (option_map shape) found in
+    let found : node_of (newest nodes es) uid ≡ Some (node_of_entry nodes es h.i) =
+    node_found k uid h.i h.within (ap (λ (d : Entry). d.uid) h.entry_is ∙ h.uid_is) in
+    let shaped : find (λ n. eqb n.uid uid) (shapes (newest nodes es)) ≡ Some (shape (node_of_entry nodes es h.i)) =
+    find_map (λ n. eqb n.uid uid) shape (newest nodes es) ∙ ap (option_map shape) found in
     ap (option_and_then (λ n. n.superior)) shaped ∙ k.superiors h.i h.within ∙ ap (λ (d : Entry). d.superior) h.entry_is
 
 -- the branch of a name is the node that the index finds
-pub branch_read : {nodes : List Node} {es : List Entry} {free : List ℕ} {index : Places} {next : ℕ} → IsKept nodes es free index next → (d : ℕ) (name : List ℕ) (place : ℕ)
-    → HasPlace index.places place → is_branch d name (shape (node_at nodes place)) ≡ true → branch_in (shapes (newest nodes es)) d name ≡ Some (shape (node_at nodes place))
+pub branch_read : {nodes : List Node} {es : List Entry} {free : List ℕ} {index : Places} {next : ℕ} → IsKept nodes es free index next
+    → (d : ℕ) (name : List ℕ) (place : ℕ)
+    → HasPlace index.places place → is_branch d name (shape (node_at nodes place)) ≡ true
+    → branch_in (shapes (newest nodes es)) d name ≡ Some (shape (node_at nodes place))
 branch_read {nodes} {es} {free} {index} {next} k d name place there is = branch_at (branch_in (shapes (newest nodes es)) d name) refl
   where
     member : IsMember (shape (node_at nodes place)) (shapes (newest nodes es))
-    member = (let p = k.places place there in subst (λ q. IsMember (shape (node_at nodes q)) (shapes (newest nodes es))) p.place_is (member_map shape _ (newest nodes es) (member_newest nodes es p.i p.within)))
+    member = (let p = k.places place there in
+        subst (λ q. IsMember (shape (node_at nodes q)) (shapes (newest nodes es))) p.place_is
+        (member_map shape _ (newest nodes es) (member_newest nodes es p.i p.within)))
 
-    branch_at : (o : Option Term) → branch_in (shapes (newest nodes es)) d name ≡ o → branch_in (shapes (newest nodes es)) d name ≡ Some (shape (node_at nodes place))
-    branch_at None e = absurd (member_found (is_branch d name) (shapes (newest nodes es)) _ member is (sym (branch_found d name (shapes (newest nodes es))) ∙ e))
+    branch_at : (o : Option Term) → branch_in (shapes (newest nodes es)) d name ≡ o
+        → branch_in (shapes (newest nodes es)) d name ≡ Some (shape (node_at nodes place))
+    branch_at None e = absurd (member_found (is_branch d name) (shapes (newest nodes es)) _ member is
+        (sym (branch_found d name (shapes (newest nodes es))) ∙ e))
     branch_at (Some x) e = e ∙ ap (λ (n : Term). Some n) (only_branch (shapes (newest nodes es)) k.tree d name x _ e member is)
 
-no_branch : (n : Node) (d : ℕ) (name : List ℕ) (places : List ℕ) (place : ℕ) → IsNamed places n.superior place → (HasPlace places place → is_branch d name (shape n) ≡ false) → is_branch d name (shape n) ≡ false
+no_branch : (n : Node) (d : ℕ) (name : List ℕ) (places : List ℕ) (place : ℕ) → IsNamed places n.superior place
+    → (HasPlace places place → is_branch d name (shape n) ≡ false) → is_branch d name (shape n) ≡ false
 no_branch n d name places place named none = elim (cases_Bool (is_branch d name (shape n))) [
   | inr isnt ↦ isnt
   | inl is ↦ none (subst (λ o. IsNamed places o place) (lies d name (shape n) is).0 named)
 ]
 
-pub branch_missing : {nodes : List Node} {es : List Entry} {free : List ℕ} {index : Places} {next : ℕ} → IsKept nodes es free index next → (d : ℕ) (name : List ℕ)
+pub branch_missing : {nodes : List Node} {es : List Entry} {free : List ℕ} {index : Places} {next : ℕ} → IsKept nodes es free index next
+    → (d : ℕ) (name : List ℕ)
     → ((place : ℕ) → HasPlace index.places place → is_branch d name (shape (node_at nodes place)) ≡ false) → branch_in (shapes (newest nodes es)) d name ≡ None
 branch_missing {nodes} {es} {free} {index} {next} k d name none =
     branch_found d name (shapes (newest nodes es)) ∙ find_map (is_branch d name) shape (newest nodes es)
     ∙ ap (option_map shape) (none_newest (λ n. is_branch d name (shape n)) nodes es (λ j lt.
-    no_branch (node_of_entry nodes es j) d name index.places (entry_at es j).place (subst (λ o. IsNamed index.places o (entry_at es j).place) (sym (k.superiors j lt)) (k.named j lt)) (none (entry_at es j).place)))
+    no_branch (node_of_entry nodes es j) d name index.places (entry_at es j).place
+    (subst (λ o. IsNamed index.places o (entry_at es j).place) (sym (k.superiors j lt)) (k.named j lt)) (none (entry_at es j).place)))
 
 -- where no branch of a name is there, no place of the index is that of one
-pub no_place : {nodes : List Node} {es : List Entry} {free : List ℕ} {index : Places} {next : ℕ} → IsKept nodes es free index next → (d : ℕ) (name : List ℕ) → branch_in (shapes (newest nodes es)) d name ≡ None
+pub no_place : {nodes : List Node} {es : List Entry} {free : List ℕ} {index : Places} {next : ℕ} → IsKept nodes es free index next → (d : ℕ) (name : List ℕ)
+    → branch_in (shapes (newest nodes es)) d name ≡ None
     → (place : ℕ) → HasPlace index.places place → is_branch d name (shape (node_at nodes place)) ≡ true → ⊥
 no_place {nodes} {es} {free} {index} {next} k d name none place there is =
     let found : branch_in (shapes (newest nodes es)) d name ≡ Some (shape (node_at nodes place)) = branch_read k d name place there is in
     let no : None ≡ Some (shape (node_at nodes place)) = sym none ∙ found in
     cc
 
-pub places_within : {nodes : List Node} {es : List Entry} {free : List ℕ} {index : Places} {next : ℕ} → IsKept nodes es free index next → AreWithin nodes index.places
-places_within {nodes} {es} {free} {index} {next} k i lt = (let p = k.places (get_or index.places i 0) (record { at = i; within = lt; is = refl }) in subst (λ q. q < length nodes) p.place_is (k.within p.i p.within))
+pub places_within : {nodes : List Node} {es : List Entry} {free : List ℕ} {index : Places} {next : ℕ} → IsKept nodes es free index next
+    → AreWithin nodes index.places
+places_within {nodes} {es} {free} {index} {next} k i lt =
+    (let p = k.places (get_or index.places i 0) (record { at = i; within = lt; is = refl }) in subst (λ q. q < length nodes) p.place_is (k.within p.i p.within))
 
-pub place_within : {nodes : List Node} {es : List Entry} {free : List ℕ} {index : Places} {next : ℕ} → IsKept nodes es free index next → (place : ℕ) → HasPlace index.places place → place < length nodes
+pub place_within : {nodes : List Node} {es : List Entry} {free : List ℕ} {index : Places} {next : ℕ} → IsKept nodes es free index next → (place : ℕ)
+    → HasPlace index.places place → place < length nodes
 place_within {nodes} {es} {free} {index} {next} k place there = subst (λ q. q < length nodes) there.is (places_within k there.at there.within)
 
 -- what stands in the index is a node of the tree
-pub place_there : {nodes : List Node} {es : List Entry} {free : List ℕ} {index : Places} {next : ℕ} → IsKept nodes es free index next → (place : ℕ) → HasPlace index.places place
+pub place_there : {nodes : List Node} {es : List Entry} {free : List ℕ} {index : Places} {next : ℕ} → IsKept nodes es free index next → (place : ℕ)
+    → HasPlace index.places place
     → is_in (newest nodes es) (node_at nodes place).uid ≡ true
 place_there {nodes} {es} {free} {index} {next} k place there =
     let p = k.places place there in
-    subst (λ q. is_in (newest nodes es) (node_at nodes q).uid ≡ true) p.place_is (ap is_some (node_found k (node_of_entry nodes es p.i).uid p.i p.within (sym (k.uids p.i p.within))))
+    subst (λ q. is_in (newest nodes es) (node_at nodes q).uid ≡ true) p.place_is
+    (ap is_some (node_found k (node_of_entry nodes es p.i).uid p.i p.within (sym (k.uids p.i p.within))))
 
 -- a node has an inferior where an entry has it as superior
-pub inferior_since : {nodes : List Node} {es : List Entry} {free : List ℕ} {index : Places} {next : ℕ} → IsKept nodes es free index next → (u i : ℕ) → i < length es → (entry_at es i).superior ≡ Some u → list_any (is_inferior u) (shapes (newest nodes es)) ≡ true
+pub inferior_since : {nodes : List Node} {es : List Entry} {free : List ℕ} {index : Places} {next : ℕ} → IsKept nodes es free index next → (u i : ℕ)
+    → i < length es → (entry_at es i).superior ≡ Some u → list_any (is_inferior u) (shapes (newest nodes es)) ≡ true
 inferior_since {nodes} {es} {free} {index} {next} k u i lt is =
     let up : (node_of_entry nodes es i).superior ≡ Some u = k.superiors i lt ∙ is in
-    any_member (is_inferior u) (shapes (newest nodes es)) (shape (node_of_entry nodes es i)) (member_map shape _ (newest nodes es) (member_newest nodes es i lt)) (is_below u (shape (node_of_entry nodes es i)) up)
+    any_member (is_inferior u) (shapes (newest nodes es)) (shape (node_of_entry nodes es i))
+    (member_map shape _ (newest nodes es) (member_newest nodes es i lt)) (is_below u (shape (node_of_entry nodes es i)) up)
 
-pub no_inferior : {nodes : List Node} {es : List Entry} {free : List ℕ} {index : Places} {next : ℕ} → IsKept nodes es free index next → (u : ℕ) → ((i : ℕ) → i < length es → (entry_at es i).superior ≢ Some u) → list_any (is_inferior u) (shapes (newest nodes es)) ≡ false
+pub no_inferior : {nodes : List Node} {es : List Entry} {free : List ℕ} {index : Places} {next : ℕ} → IsKept nodes es free index next → (u : ℕ)
+    → ((i : ℕ) → i < length es → (entry_at es i).superior ≢ Some u) → list_any (is_inferior u) (shapes (newest nodes es)) ≡ false
 no_inferior {nodes} {es} {free} {index} {next} k u none =
-    any_found (is_inferior u) (shapes (newest nodes es)) ∙ ap is_some (find_map (is_inferior u) shape (newest nodes es) ∙ ap (option_map shape) (none_newest (λ n. is_inferior u (shape n)) nodes es (λ j lt.
+    any_found (is_inferior u) (shapes (newest nodes es))
+    ∙ ap is_some (find_map (is_inferior u) shape (newest nodes es) ∙ ap (option_map shape) (none_newest (λ n. is_inferior u (shape n)) nodes es (λ j lt.
     not_below u (shape (node_of_entry nodes es j)) (λ e. none j lt (sym (k.superiors j lt) ∙ e)))))

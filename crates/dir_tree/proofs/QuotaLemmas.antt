@@ -1,6 +1,7 @@
 -- Where a path leads, what is above a node and what keeps a branch from being added don't depend on quotas, nor on
 -- anything but uids, superiors, names and kinds.
-use Rattle.std.proofs.Common.{◌≡◌, ℕ, ◌+◌, Bool, true, false, eqb, List, [], ◌∷◌, length, ◌||◌, Option, Some, None, Ok, refl, sym, ap, ◌∙◌, is_some, get_or, drop, ◌<◌, ◌≤◌, arith, inl, inr}
+use Rattle.std.proofs.Common.{◌≡◌, ℕ, ◌+◌, Bool, true, false, eqb, List, [], ◌∷◌, length, ◌||◌, Option, Some, None, Ok, refl, sym, ap, ◌∙◌, is_some, get_or}
+use Rattle.std.proofs.Common.{drop, ◌<◌, ◌≤◌, arith, inl, inr}
 use Rattle.std.specs.List.{find}
 use Rattle.std.specs.Option.{option_map, option_and_then}
 use Rattle.std.proofs.lemmas.Bool.{cases_Bool, eq-eqb}
@@ -32,13 +33,15 @@ root_there (n ∷ []) t some = first n.superior t.0
     first (Some s) branch = (let no : false ≡ true = branch.below in cc)
 root_there (n ∷ m ∷ ms) t some = elim (cases_Bool (eqb n.uid 1)) [ inl is ↦ rw is refl | inr isnt ↦ rw isnt (root_there (m ∷ ms) t.1 (omega arith)) ]
 
-branch_any : (q : ℕ → ℕ) (ns : List Node) (d : ℕ) (name : List ℕ) → branch_in (with_quotas q ns) d name ≡ option_map (as_term q) (find (λ n. is_branch d name (shape n)) ns)
+branch_any : (q : ℕ → ℕ) (ns : List Node) (d : ℕ) (name : List ℕ)
+    → branch_in (with_quotas q ns) d name ≡ option_map (as_term q) (find (λ n. is_branch d name (shape n)) ns)
 branch_any q ns d name = branch_found d name (with_quotas q ns) ∙ find_map (is_branch d name) (as_term q) ns
 
 pub branch_shape : (ns : List Node) (d : ℕ) (name : List ℕ) → branch_in (shapes ns) d name ≡ option_map shape (find (λ n. is_branch d name (shape n)) ns)
 branch_shape ns d name = branch_found d name (shapes ns) ∙ find_map (is_branch d name) shape ns
 
-onward_any : (q : ℕ → ℕ) (f g : Term → Walk) → ((n : Node) → f (as_term q n) ≡ g (shape n)) → (b : Bool) (o : Option Node) → onward f b (option_map (as_term q) o) ≡ onward g b (option_map shape o)
+onward_any : (q : ℕ → ℕ) (f g : Term → Walk) → ((n : Node) → f (as_term q n) ≡ g (shape n)) → (b : Bool) (o : Option Node)
+    → onward f b (option_map (as_term q) o) ≡ onward g b (option_map shape o)
 onward_any q f g same false o = refl
 onward_any q f g same true None = refl
 onward_any q f g same true (Some n) = same n
@@ -47,7 +50,8 @@ walk_any_from : (q : ℕ → ℕ) (ns : List Node) (u : ℕ) (b : Bool) (path : 
 walk_any_from q ns u b [] = refl
 walk_any_from q ns u b (name ∷ names) =
     rw (branch_any q ns u name, branch_shape ns u name)
-    (onward_any q (λ n. walk_from (with_quotas q ns) n.uid n.directory names) (λ n. walk_from (shapes ns) n.uid n.directory names) (λ n. walk_any_from q ns n.uid n.dir names) b (find (λ n. is_branch u name (shape n)) ns))
+    (onward_any q (λ n. walk_from (with_quotas q ns) n.uid n.directory names) (λ n. walk_from (shapes ns) n.uid n.directory names)
+    (λ n. walk_any_from q ns n.uid n.dir names) b (find (λ n. is_branch u name (shape n)) ns))
 
 pub walk_any : (q : ℕ → ℕ) (ns : List Node) (path : List (List ℕ)) → walk_in (with_quotas q ns) path ≡ walk_in (shapes ns) path
 walk_any q ns path = walk_any_from q ns 1 true path
@@ -71,7 +75,8 @@ inferior_any q (n ∷ ns) u = ap (λ b. is_inferior u (shape n) || b) (inferior_
 -- one more name of a path
 pub walk_next : (ns : List Term) (u : ℕ) (b : Bool) (names : List (List ℕ)) (i : ℕ) (name : List ℕ) → i < length names → name ≡ get_or names i name
     → walk_from ns u b (drop i names) ≡ onward (λ n. walk_from ns n.uid n.directory (drop (i + 1) names)) b (branch_in ns u name)
-walk_next ns u b names i name lt read = at_drop_more (λ (path : List (List ℕ)). walk_from ns u b path) names i name lt ∙ ap (λ (x : List ℕ). onward (λ n. walk_from ns n.uid n.directory (drop (i + 1) names)) b (branch_in ns u x)) (sym read)
+walk_next ns u b names i name lt read = at_drop_more (λ (path : List (List ℕ)). walk_from ns u b path) names i name lt
+    ∙ ap (λ (x : List ℕ). onward (λ n. walk_from ns n.uid n.directory (drop (i + 1) names)) b (branch_in ns u x)) (sym read)
 
 pub walk_ends : (ns : List Term) (u : ℕ) (b : Bool) (names : List (List ℕ)) (i : ℕ) → length names ≤ i → walk_from ns u b (drop i names) ≡ LeadsTo u
 walk_ends ns u b names i le = at_drop_all (λ (path : List (List ℕ)). walk_from ns u b path) names i le

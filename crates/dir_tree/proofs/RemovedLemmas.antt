@@ -1,5 +1,6 @@
 -- What a branch less leaves of the tables behind a tree.
-use Rattle.std.proofs.Common.{◌≡◌, ◌≢◌, ℕ, ◌+◌, ◌<◌, ◌≤◌, false, eqb, not, List, [], ◌∷◌, ◌++◌, length, Option, Some, None, refl, sym, ap, subst, ◌∙◌, arith, get_or, inl, inr}
+use Rattle.std.proofs.Common.{◌≡◌, ◌≢◌, ℕ, ◌+◌, ◌<◌, ◌≤◌, false, eqb, not, List, [], ◌∷◌, ◌++◌, length, Option, Some, None, refl, sym, ap, subst, ◌∙◌, arith}
+use Rattle.std.proofs.Common.{get_or, inl, inr}
 use Rattle.std.specs.Prelude.{◌↔◌}
 use Rattle.std.specs.List.{find, remove, list_any}
 use Rattle.std.specs.Option.{option_map}
@@ -19,7 +20,8 @@ use Rattle.dir_tree.proofs.NewestLemmas.{node_of_entry, newest_remove}
 use Rattle.tree_model.proofs.TreeLaws.{tree_left, root_only}
 use Rattle.dir_tree.proofs.KeptLemmas.{apart_places, not_of, node_found}
 
-module _ {nodes : List Node} {es : List Entry} {free : List ℕ} {index : Places} {next : ℕ} (k : IsKept nodes es free index next) (i : ℕ) (within : i < length es) (index' : Places)
+module _ {nodes : List Node} {es : List Entry} {free : List ℕ} {index : Places} {next : ℕ} (k : IsKept nodes es free index next) (i : ℕ)
+    (within : i < length es) (index' : Places)
     (leaf : list_any (is_inferior (entry_at es i).uid) (shapes (newest nodes es)) ≡ false)
     (sorted : IsSorted nodes index'.places) (places : (p : ℕ) → HasPlace index'.places p ↔ (HasPlace index.places p × (p ≢ (entry_at es i).place)))
     (count : length index'.places + 1 ≡ length index.places) (room : index'.room ≡ index.room) where
@@ -36,7 +38,8 @@ module _ {nodes : List Node} {es : List Entry} {free : List ℕ} {index : Places
   free' = free ++ place ∷ []
 
   pub view_removed : newest nodes es' ≡ without uid (newest nodes es)
-  view_removed = newest_remove (λ n. not (eqb n.uid uid)) nodes es i within (not_from_true _ (eq-eqb _ _ (k.uids i within))) (λ j lt ne. not_from_false _ (not_of k uid i j within refl lt ne))
+  view_removed = newest_remove (λ n. not (eqb n.uid uid)) nodes es i within (not_from_true _ (eq-eqb _ _ (k.uids i within)))
+      (λ j lt ne. not_from_false _ (not_of k uid i j within refl lt ne))
 
   size : length es' + 1 ≡ length es
   size = fewer es i within
@@ -82,7 +85,12 @@ module _ {nodes : List Node} {es : List Entry} {free : List ℕ} {index : Places
       (let both : HasPlace index.places p × (p ≢ place) = (places p).0 there in
       let q = k.places p both.0 in
       let other : q.i ≢ i = λ e. both.1 (sym q.place_is ∙ ap (λ j. (entry_at es j).place) e) in
-      record { i = now i q.i; within = now_within es i within q.i q.within other; place_is = ap (λ (d : Entry). d.place) (old (now i q.i)) ∙ ap (λ j. (entry_at es j).place) (was_now i q.i other) ∙ q.place_is })
+      record {
+        i = now i q.i;
+        within = now_within es i within q.i q.within other;
+        place_is = ap (λ (d : Entry). d.place) (old (now i q.i))
+            ∙ ap (λ j. (entry_at es j).place) (was_now i q.i other) ∙ q.place_is;
+      })
 
   pub kept_removed : IsKept nodes es' free' index' next
   kept_removed = record {
@@ -102,29 +110,38 @@ module _ {nodes : List Node} {es : List Entry} {free : List ℕ} {index : Places
     sorted = sorted;
     branches = (let m = size in let p : length index.places + 1 ≡ length es = k.branches in omega arith);
     room = room ∙ k.room;
-    tree = subst (λ ns. IsTree (shapes ns)) (sym view_removed) (subst IsTree (sym (filter_map_same (λ n. not (eqb n.uid uid)) shape (newest nodes es))) (tree_left uid (shapes (newest nodes es)) leaf k.tree));
+    tree = subst (λ ns. IsTree (shapes ns)) (sym view_removed)
+        (subst IsTree (sym (filter_map_same (λ n. not (eqb n.uid uid)) shape (newest nodes es))) (tree_left uid (shapes (newest nodes es)) leaf k.tree));
   }
 
-pub removed_at : {nodes : List Node} {es : List Entry} {free : List ℕ} {index : Places} {next : ℕ} → IsKept nodes es free index next → (uid i : ℕ) (e : Entry) → i < length es → e ≡ entry_at es i → (entry_at es i).uid ≡ uid
-    → list_any (is_inferior uid) (shapes (newest nodes es)) ≡ false → (index' : Places) → IsSorted nodes index'.places → ((p : ℕ) → HasPlace index'.places p ↔ (HasPlace index.places p × (p ≢ e.place)))
+pub removed_at : {nodes : List Node} {es : List Entry} {free : List ℕ} {index : Places} {next : ℕ} → IsKept nodes es free index next → (uid i : ℕ) (e : Entry)
+    → i < length es → e ≡ entry_at es i → (entry_at es i).uid ≡ uid
+    → list_any (is_inferior uid) (shapes (newest nodes es)) ≡ false → (index' : Places) → IsSorted nodes index'.places
+    → ((p : ℕ) → HasPlace index'.places p ↔ (HasPlace index.places p × (p ≢ e.place)))
     → length index'.places + 1 ≡ length index.places → index'.room ≡ index.room
     → IsKept nodes (remove es i) (free ++ e.place ∷ []) index' next × (newest nodes (remove es i) ≡ without uid (newest nodes es))
 removed_at {nodes} {es} {free} {index} {next} k uid i e within same is_uid leaf index' sorted places count room =
     let leaf' : list_any (is_inferior (entry_at es i).uid) (shapes (newest nodes es)) ≡ false = rw is_uid leaf in
-    let places' : (p : ℕ) → HasPlace index'.places p ↔ (HasPlace index.places p × (p ≢ (entry_at es i).place)) = subst (λ (d : Entry). (p : ℕ) → HasPlace index'.places p ↔ (HasPlace index.places p × (p ≢ d.place))) same places in (
-      subst (λ (d : Entry). IsKept nodes (remove es i) (free ++ d.place ∷ []) index' next) (sym same) (kept_removed k i within index' leaf' sorted places' count room),
+    let places' : (p : ℕ) → HasPlace index'.places p ↔ (HasPlace index.places p × (p ≢ (entry_at es i).place)) =
+    subst (λ (d : Entry). (p : ℕ) → HasPlace index'.places p ↔ (HasPlace index.places p × (p ≢ d.place))) same places in (
+      subst (λ (d : Entry). IsKept nodes (remove es i) (free ++ d.place ∷ []) index' next) (sym same)
+          (kept_removed k i within index' leaf' sorted places' count room),
       subst (λ u. newest nodes (remove es i) ≡ without u (newest nodes es)) is_uid (view_removed k i within index' leaf' sorted places' count room),
     )
 
 -- the root is the only node without a superior
-pub not_root : {nodes : List Node} {es : List Entry} {free : List ℕ} {index : Places} {next : ℕ} → IsKept nodes es free index next → (uid i : ℕ) (e : Entry) → i < length es → e ≡ entry_at es i → (entry_at es i).uid ≡ uid → e.superior ≡ None → uid ≡ 1
+pub not_root : {nodes : List Node} {es : List Entry} {free : List ℕ} {index : Places} {next : ℕ} → IsKept nodes es free index next → (uid i : ℕ) (e : Entry)
+    → i < length es → e ≡ entry_at es i → (entry_at es i).uid ≡ uid → e.superior ≡ None → uid ≡ 1
 not_root {nodes} {es} {free} {index} {next} k uid i e within same is_uid none =
     let found : node_of (newest nodes es) uid ≡ Some (node_of_entry nodes es i) = node_found k uid i within is_uid in
-    let shaped : find (λ n. eqb n.uid uid) (shapes (newest nodes es)) ≡ Some (shape (node_of_entry nodes es i)) = find_map (λ n. eqb n.uid uid) shape (newest nodes es) ∙ ap (option_map shape) found in
-    root_only (shapes (newest nodes es)) k.tree uid (shape (node_of_entry nodes es i)) shaped (k.superiors i within ∙ ap (λ (d : Entry). d.superior) (sym same) ∙ none)
+    let shaped : find (λ n. eqb n.uid uid) (shapes (newest nodes es)) ≡ Some (shape (node_of_entry nodes es i)) =
+    find_map (λ n. eqb n.uid uid) shape (newest nodes es) ∙ ap (option_map shape) found in
+    root_only (shapes (newest nodes es)) k.tree uid (shape (node_of_entry nodes es i)) shaped
+    (k.superiors i within ∙ ap (λ (d : Entry). d.superior) (sym same) ∙ none)
 
 -- a node with a superior stands in the index
-pub named_at : {nodes : List Node} {es : List Entry} {free : List ℕ} {index : Places} {next : ℕ} → IsKept nodes es free index next → (i : ℕ) (e : Entry) → i < length es → e ≡ entry_at es i
+pub named_at : {nodes : List Node} {es : List Entry} {free : List ℕ} {index : Places} {next : ℕ} → IsKept nodes es free index next → (i : ℕ) (e : Entry)
+    → i < length es → e ≡ entry_at es i
     → (s : ℕ) → e.superior ≡ Some s → HasPlace index.places e.place
 named_at {nodes} {es} {free} {index} {next} k i e within same s up =
     let named : IsNamed index.places e.superior e.place = subst (λ (d : Entry). IsNamed index.places d.superior d.place) (sym same) (k.named i within) in

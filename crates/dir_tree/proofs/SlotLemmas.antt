@@ -2,7 +2,8 @@
 use Rattle.std.proofs.Common.{◌≡◌, ◌≢◌, ℕ, ◌+◌, ◌<◌, ◌≤◌, List, [], ◌∷◌, ◌++◌, length, set, get_or, sym, ap, subst, ◌∙◌, arith, inl, inr}
 use Rattle.std.specs.List.{remove}
 use Rattle.std.proofs.lemmas.Bool.{cases_eq, cases_lt}
-use Rattle.std.proofs.lemmas.List.{ext_get_or, get_or_read, get_or-map, get_or-set_same, get_or-set_other, get_or_append_left, get_or_push, length-map, length-set, length_push, map-append}
+use Rattle.std.proofs.lemmas.List.{ext_get_or, get_or_read, get_or-map, get_or-set_same, get_or-set_other, get_or_append_left, get_or_push, length-map}
+use Rattle.std.proofs.lemmas.List.{length-set, length_push, map-append}
 use Rattle.dir_tree.specs.declared.entries.Entry.{Entry}
 use Rattle.dir_tree.specs.Kept.{no_entry, entry_at, listed, IsListed, IsAscending}
 use Rattle.dir_tree.proofs.EditLemmas.{was, was_up, was_within, at_was, each_left, fewer}
@@ -14,7 +15,8 @@ pub length_listed : (slots : List Entry) (order : List ℕ) → length (listed s
 length_listed slots order = length-map order (entry_at slots)
 
 -- the place of an entry is that which stands there
-pub place_listed : {slots : List Entry} {order : List ℕ} → IsListed slots order → (i : ℕ) → i < length order → (entry_at (listed slots order) i).place ≡ get_or order i 0
+pub place_listed : {slots : List Entry} {order : List ℕ} → IsListed slots order → (i : ℕ) → i < length order
+    → (entry_at (listed slots order) i).place ≡ get_or order i 0
 place_listed {slots} {order} l i lt = ap (λ (e : Entry). e.place) (listed_at slots order i lt) ∙ l.places i lt
 
 -- an entry changed, but for its place
@@ -35,9 +37,11 @@ module _ {slots : List Entry} {order : List ℕ} (l : IsListed slots order) (i :
       at : (j : ℕ) → j < length order → entry_at (listed (set slots p e) order) j ≡ entry_at (set (listed slots order) i e) j
       at j in_j = elim (cases_eq j i) [
         | inl here ↦
-            rw here (listed_at (set slots p e) order i lt ∙ get_or-set_same slots p e no_entry slot ∙ sym (get_or-set_same (listed slots order) i e no_entry (let n = length_listed slots order in omega arith)))
+            rw here (listed_at (set slots p e) order i lt ∙ get_or-set_same slots p e no_entry slot
+            ∙ sym (get_or-set_same (listed slots order) i e no_entry (let n = length_listed slots order in omega arith)))
         | inr there ↦
-            listed_at (set slots p e) order j in_j ∙ elsewhere j in_j there ∙ sym (listed_at slots order j in_j) ∙ sym (get_or-set_other (listed slots order) i j e no_entry there)
+            listed_at (set slots p e) order j in_j ∙ elsewhere j in_j there ∙ sym (listed_at slots order j in_j)
+            ∙ sym (get_or-set_other (listed slots order) i j e no_entry there)
       ]
 
   pub still_listed : IsListed (set slots p e) order
@@ -53,7 +57,8 @@ module _ {slots : List Entry} {order : List ℕ} (l : IsListed slots order) (i :
 
 -- how many nodes lie in that of an entry, set
 pub inferiors_set : {slots : List Entry} {order : List ℕ} → IsListed slots order → (now : List Entry) → listed slots order ≡ now → (i : ℕ) → i < length now
-    → (p : ℕ) → p ≡ get_or order i p → (x : Entry) → x ≡ get_or slots p x → (n : ℕ) → listed (set slots p (record x { inferiors = n })) order ≡ set now i (record (entry_at now i) { inferiors = n })
+    → (p : ℕ) → p ≡ get_or order i p → (x : Entry) → x ≡ get_or slots p x → (n : ℕ)
+    → listed (set slots p (record x { inferiors = n })) order ≡ set now i (record (entry_at now i) { inferiors = n })
 inferiors_set {slots} {order} l now view i within p is_p x is_x n =
     let lt : i < length order = (let m = length_listed slots order in let v : length (listed slots order) ≡ length now = ap length view in omega arith) in
     let place : p ≡ get_or order i 0 = get_or_read order i p lt is_p 0 in
@@ -78,7 +83,8 @@ module _ {slots : List Entry} {order : List ℕ} (l : IsListed slots order) (e :
 
   rest : listed (set slots e.place e) order ≡ listed slots order
   rest = ext_get_or no_entry _ _ (length_listed (set slots e.place e) order ∙ sym (length_listed slots order))
-      (λ i in_i. (let n = length_listed (set slots e.place e) order in let lt : i < length order = omega arith in listed_at (set slots e.place e) order i lt ∙ unmoved i lt ∙ sym (listed_at slots order i lt)))
+      (λ i in_i. (let n = length_listed (set slots e.place e) order in let lt : i < length order = omega arith in listed_at (set slots e.place e) order i lt
+      ∙ unmoved i lt ∙ sym (listed_at slots order i lt)))
 
   pub push_listed : listed (set slots e.place e) (order ++ e.place ∷ []) ≡ listed slots order ++ e ∷ []
   push_listed = map-append (entry_at (set slots e.place e)) order (e.place ∷ [])
@@ -123,7 +129,8 @@ module _ {slots : List Entry} {order : List ℕ} (l : IsListed slots order) (e :
 -- one entry less
 module _ {slots : List Entry} {order : List ℕ} (l : IsListed slots order) (i : ℕ) (lt : i < length order) where
   pub remove_listed : listed slots (remove order i) ≡ remove (listed slots order) i
-  remove_listed = ext_get_or no_entry _ _ (let a = length_listed slots (remove order i) in let b = length_listed slots order in let c = fewer order i lt in let d = fewer (listed slots order) i (omega arith) in omega arith)
+  remove_listed = ext_get_or no_entry _ _ (let a = length_listed slots (remove order i) in let b = length_listed slots order in let c = fewer order i lt in
+      let d = fewer (listed slots order) i (omega arith) in omega arith)
       (λ j in_j. at j (let a = length_listed slots (remove order i) in omega arith))
     where
       at : (j : ℕ) → j < length (remove order i) → entry_at (listed slots (remove order i)) j ≡ entry_at (remove (listed slots order) i) j
@@ -136,7 +143,8 @@ module _ {slots : List Entry} {order : List ℕ} (l : IsListed slots order) (i :
     size = l.size;
     within = each_left order i lt 0 (λ q. q < 4097) (λ j in_j ne. l.within j in_j);
     places = each_left order i lt 0 (λ q. (entry_at slots q).place ≡ q) (λ j in_j ne. l.places j in_j);
-    apart = λ a b in_a in_b ne same. l.apart (was i a) (was i b) (was_within order i lt a in_a) (was_within order i lt b in_b) (was_apart a b ne) (sym (at_was order i lt a 0) ∙ same ∙ at_was order i lt b 0);
+    apart = λ a b in_a in_b ne same. l.apart (was i a) (was i b) (was_within order i lt a in_a) (was_within order i lt b in_b) (was_apart a b ne)
+        (sym (at_was order i lt a 0) ∙ same ∙ at_was order i lt b 0);
   }
     where
       was_apart : (a b : ℕ) → a ≢ b → was i a ≢ was i b
@@ -147,7 +155,8 @@ module _ {slots : List Entry} {order : List ℕ} (l : IsListed slots order) (i :
 
 -- ---- the search
 
-pub halved_below : (es : List Entry) → IsAscending es → (m uid : ℕ) → m < length es → (entry_at es m).uid < uid → (k : ℕ) → k < m + 1 → (entry_at es k).uid < uid
+pub halved_below : (es : List Entry) → IsAscending es → (m uid : ℕ) → m < length es → (entry_at es m).uid < uid → (k : ℕ) → k < m + 1
+    → (entry_at es k).uid < uid
 halved_below es rising m uid within less k lt = elim (cases_lt k m) [
   | inl before ↦ (let up : (entry_at es k).uid < (entry_at es m).uid = rising k m before within in omega arith)
   | inr here ↦ (let same : k ≡ m = omega arith in rw same less)
@@ -160,12 +169,14 @@ halved_from es rising m uid more k le lt = elim (cases_lt m k) [
 ]
 
 -- past those that are below a uid there is none of it where the first one isn't
-pub none_there : (es : List Entry) → IsAscending es → (at uid : ℕ) → ((k : ℕ) → k < at → (entry_at es k).uid < uid) → ((k : ℕ) → at ≤ k → k < length es → uid ≤ (entry_at es k).uid)
+pub none_there : (es : List Entry) → IsAscending es → (at uid : ℕ) → ((k : ℕ) → k < at → (entry_at es k).uid < uid)
+    → ((k : ℕ) → at ≤ k → k < length es → uid ≤ (entry_at es k).uid)
     → (at < length es → (entry_at es at).uid ≢ uid) → (i : ℕ) → i < length es → (entry_at es i).uid ≢ uid
 none_there es rising at uid below from isnt i lt same = elim (cases_lt i at) [
   | inl before ↦ (let less : (entry_at es i).uid < uid = below i before in omega arith)
   | inr after ↦ elim (cases_eq i at) [
     | inl here ↦ isnt (omega arith) (subst (λ k. (entry_at es k).uid ≡ uid) here same)
-    | inr later ↦ (let up : (entry_at es at).uid < (entry_at es i).uid = rising at i (omega arith) lt in let le : uid ≤ (entry_at es at).uid = from at (omega arith) (omega arith) in omega arith)
+    | inr later ↦ (let up : (entry_at es at).uid < (entry_at es i).uid = rising at i (omega arith) lt in
+        let le : uid ≤ (entry_at es at).uid = from at (omega arith) (omega arith) in omega arith)
   ]
 ]

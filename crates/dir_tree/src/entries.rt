@@ -33,8 +33,8 @@ const NO_ENTRY: Entry = Entry {
     inferiors: 0,
 };
 
-/// Entries in the order of uids: one for each of at most 4097 nodes. An entry stays in the slot of its node's place, and
-/// only the places stand in the order of uids.
+/// Entries in the order of uids: one for each of at most 4097 nodes. An entry stays in the slot of its node's place,
+/// and only the places stand in the order of uids.
 #[derive(Debug, Drop)]
 pub(crate) struct Entries {
     slots: Vec<Entry>,

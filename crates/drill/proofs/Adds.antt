@@ -1,5 +1,6 @@
 -- Touches that add to the first word of a frame's page.
-use Rattle.std.proofs.Common.{◌≡◌, ℕ, zero, suc, ◌+◌, ◌/◌, ◌%◌, ◌^◌, ◌<◌, Bool, true, false, cond, eqb, List, [], ◌∷◌, ◌++◌, map, reverse, length, get_or, sym, ap, subst, refl, ◌∙◌, arith, mod-lt, get_or-set_same, length-set}
+use Rattle.std.proofs.Common.{◌≡◌, ℕ, zero, suc, ◌+◌, ◌/◌, ◌%◌, ◌^◌, ◌<◌, Bool, true, false, cond, eqb, List, [], ◌∷◌, ◌++◌, map, reverse, length, get_or}
+use Rattle.std.proofs.Common.{sym, ap, subst, refl, ◌∙◌, arith, mod-lt, get_or-set_same, length-set}
 use Rattle.std.proofs.lemmas.Bool.{eq-eqb}
 use Rattle.std.proofs.lemmas.List.{reverse-append}
 use Rattle.draws.specs.Draws.{next_state, drawn}

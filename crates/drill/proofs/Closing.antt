@@ -1,8 +1,10 @@
 -- What is known once the pages are closed: each processor's touches are the first ones of its work, and the total is right.
-use Rattle.std.proofs.Common.{◌≡◌, ◌≢◌, ℕ, zero, suc, ◌+◌, ◌%◌, ◌^◌, ◌<◌, ◌≤◌, Bool, true, false, cond, eqb, ◌&&◌, List, [], ◌∷◌, ◌++◌, map, reverse, take, replicate, length, get_or, All, sum, sym, ap, subst, refl, ◌∙◌, arith}
+use Rattle.std.proofs.Common.{◌≡◌, ◌≢◌, ℕ, zero, suc, ◌+◌, ◌%◌, ◌^◌, ◌<◌, ◌≤◌, Bool, true, false, cond, eqb, ◌&&◌, List, [], ◌∷◌, ◌++◌, map, reverse, take}
+use Rattle.std.proofs.Common.{replicate, length, get_or, All, sum, sym, ap, subst, refl, ◌∙◌, arith}
 use mathlib.Core.Logic.{dite}
 use native.Mathlib.Decide.{ℕ_discrete}
-use Rattle.std.proofs.lemmas.List.{length-reverse, reverse-append, length-append, get_or_append_left, get_or-append-add, take-append-le, take_all, length-replicate, get_or-replicate}
+use Rattle.std.proofs.lemmas.List.{length-reverse, reverse-append, length-append, get_or_append_left, get_or-append-add, take-append-le, take_all}
+use Rattle.std.proofs.lemmas.List.{length-replicate, get_or-replicate}
 use Rattle.live_pages.specs.declared.touch.Touch.{Touch}
 use Rattle.live_pages.specs.declared.touch.Made.{Made}
 use Rattle.live_pages.specs.declared.touch.Bound.{Bound}

@@ -1,5 +1,6 @@
 -- The rows of roles and passes, from which the last one is taken and to which one is added.
-use Rattle.std.proofs.Common.{◌≡◌, ◌≢◌, ℕ, zero, suc, ◌+◌, ◌-◌, ◌<◌, ◌≤◌, List, [], ◌∷◌, ◌++◌, reverse, length, get_or, All, Option, Some, option_to_list, sym, ap, subst, refl, ◌∙◌, arith, add-one}
+use Rattle.std.proofs.Common.{◌≡◌, ◌≢◌, ℕ, zero, suc, ◌+◌, ◌-◌, ◌<◌, ◌≤◌, List, [], ◌∷◌, ◌++◌, reverse, length, get_or, All, Option, Some, option_to_list}
+use Rattle.std.proofs.Common.{sym, ap, subst, refl, ◌∙◌, arith, add-one}
 use mathlib.Core.Logic.{dite}
 use native.Mathlib.Decide.{ℕ_discrete}
 use Rattle.std.proofs.Math.Seq.{get_or-append_seam}

@@ -1,5 +1,6 @@
 -- What the number of a uid and the least free number are, place by place.
-use Rattle.std.proofs.Common.{◌≡◌, ℕ, suc, zero, ◌+◌, ◌<◌, ◌≤◌, Bool, true, false, cond, ltb, not, List, [], ◌∷◌, length, Option, Some, None, refl, sym, ap, subst, ◌∙◌, arith, get_or, set, inl, inr, is_some, is_none, position, IsSome, IsNone, IsTrue}
+use Rattle.std.proofs.Common.{◌≡◌, ℕ, suc, zero, ◌+◌, ◌<◌, ◌≤◌, Bool, true, false, cond, ltb, not, List, [], ◌∷◌, length, Option, Some, None, refl, sym, ap}
+use Rattle.std.proofs.Common.{subst, ◌∙◌, arith, get_or, set, inl, inr, is_some, is_none, position, IsSome, IsNone, IsTrue}
 use Rattle.std.specs.Prelude.{◌↔◌}
 use Rattle.std.specs.List.{position_or_len}
 use Rattle.std.proofs.lemmas.Bool.{eqb-true, eq-eqb, ltb-false, not-true, both_ways, cases_eq, cases_lt}
@@ -28,14 +29,23 @@ is_stands_for uid None e = cc
 is_stands_for uid (Some u) e = let same : u ≡ uid = cc in eq-eqb u uid same
 
 pub within_since_known : (kst : List (Option ℕ)) (n uid : ℕ) → uid_of kst n ≡ Some uid → n < length kst
-within_since_known kst n uid e = elim (cases_lt n (length kst)) [ inl lt ↦ lt | inr past ↦ (let none : uid_of kst n ≡ None = get_or_past kst n None past in cc) ]
+within_since_known kst n uid e = elim (cases_lt n (length kst)) [
+  | inl lt ↦ lt
+  | inr past ↦
+      (let none : uid_of kst n ≡ None = get_or_past kst n None past in cc)
+]
 
 pub within_since_some : (kst : List (Option ℕ)) (n : ℕ) → IsSome (uid_of kst n) → n < length kst
-within_since_some kst n h = elim (cases_lt n (length kst)) [ inl lt ↦ lt | inr past ↦ (let none : uid_of kst n ≡ None = get_or_past kst n None past in let yet : is_some (uid_of kst n) ≡ false = ap is_some none in absurd (both_ways _ yet h)) ]
+within_since_some kst n h = elim (cases_lt n (length kst)) [
+  | inl lt ↦ lt
+  | inr past ↦
+      (let none : uid_of kst n ≡ None = get_or_past kst n None past in let yet : is_some (uid_of kst n) ≡ false = ap is_some none in absurd (both_ways _ yet h))
+]
 
 pub number_some : (kst : List (Option ℕ)) (uid n : ℕ) → number_of kst uid ≡ Some n → (n < length kst) × (uid_of kst n ≡ Some uid)
 number_some kst uid n e =
-    let h : (n < length kst) × (stands_for uid (get_or kst n None) ≡ true) × ((k : ℕ) → k < n → stands_for uid (get_or kst k None) ≡ false) = position-Some (stands_for uid) kst n None e in
+    let h : (n < length kst) × (stands_for uid (get_or kst n None) ≡ true) × ((k : ℕ) → k < n → stands_for uid (get_or kst k None) ≡ false) =
+    position-Some (stands_for uid) kst n None e in
     (h.0, stands_for_is uid _ h.1)
 
 pub number_none : (kst : List (Option ℕ)) (uid : ℕ) → number_of kst uid ≡ None → IsUnknown kst uid
@@ -43,7 +53,8 @@ number_none kst uid e n known =
     both_ways _ (position_none (stands_for uid) kst e n None (within_since_known kst n uid known)) (is_stands_for uid _ known)
 
 -- a number stands for the uid exactly where it is the uid's number
-pub numbered : (kst : List (Option ℕ)) (uid : ℕ) (r : Option ℕ) → HasOneNumberEach kst → r ≡ number_of kst uid → (n : ℕ) → (r ≡ Some n) ↔ (uid_of kst n ≡ Some uid)
+pub numbered : (kst : List (Option ℕ)) (uid : ℕ) (r : Option ℕ) → HasOneNumberEach kst → r ≡ number_of kst uid → (n : ℕ)
+    → (r ≡ Some n) ↔ (uid_of kst n ≡ Some uid)
 numbered kst uid None once e n = (λ h. absurd (none-some n h), λ h. absurd (number_none kst uid (sym e) n h))
 numbered kst uid (Some m) once e n =
     let h : (m < length kst) × (uid_of kst m ≡ Some uid) = number_some kst uid m (sym e) in
@@ -59,7 +70,8 @@ free_is (Some u) e = cc
 
 pub free_some : (kst : List (Option ℕ)) (n : ℕ) → least_free kst ≡ Some n → (n < length kst) × (uid_of kst n ≡ None)
 free_some kst n e =
-    let h : (n < length kst) × (is_none (get_or kst n None) ≡ true) × ((k : ℕ) → k < n → is_none (get_or kst k None) ≡ false) = position-Some is_none kst n None e in
+    let h : (n < length kst) × (is_none (get_or kst n None) ≡ true) × ((k : ℕ) → k < n → is_none (get_or kst k None) ≡ false) =
+    position-Some is_none kst n None e in
     (h.0, free_is _ h.1)
 
 all_known : (xs : List (Option ℕ)) → ((k : ℕ) → k < length xs → is_none (get_or xs k None) ≡ false) → known_count xs ≡ length xs
@@ -97,12 +109,14 @@ known_stays kst uid n e =
 pub known_is_some : (kst : List (Option ℕ)) (uid n size : ℕ) → Some n ≡ number_of kst uid → IsNone (Some n) ↔ ((known_count kst ≡ size) × IsUnknown kst uid)
 known_is_some kst uid n size e = (λ h. cc, λ h. absurd (h.1 n (number_some kst uid n (sym e)).1))
 
-pub given_is_some : (kst : List (Option ℕ)) (uid n : ℕ) → length kst ≡ 256 → Some n ≡ least_free kst → IsNone (Some n) ↔ ((known_count kst ≡ 256) × IsUnknown kst uid)
+pub given_is_some : (kst : List (Option ℕ)) (uid n : ℕ) → length kst ≡ 256 → Some n ≡ least_free kst
+    → IsNone (Some n) ↔ ((known_count kst ≡ 256) × IsUnknown kst uid)
 given_is_some kst uid n size e =
     let free : (n < length kst) × (uid_of kst n ≡ None) = free_some kst n (sym e) in
     let less : known_count kst < length kst = some_free kst n free.0 free.1 in (λ h. cc, λ h. absurd (let full : known_count kst ≡ 256 = h.0 in omega arith))
 
-pub none_is_full : (kst : List (Option ℕ)) (uid : ℕ) (r : Option ℕ) → r ≡ None → length kst ≡ 256 → None ≡ number_of kst uid → None ≡ least_free kst → IsNone r ↔ ((known_count kst ≡ 256) × IsUnknown kst uid)
+pub none_is_full : (kst : List (Option ℕ)) (uid : ℕ) (r : Option ℕ) → r ≡ None → length kst ≡ 256 → None ≡ number_of kst uid → None ≡ least_free kst
+    → IsNone r ↔ ((known_count kst ≡ 256) × IsUnknown kst uid)
 none_is_full kst uid r none size unknown full = (λ h. (count_full kst (sym full) ∙ size, number_none kst uid (sym unknown)), λ h. ap is_some none)
 
 -- a new number for a uid that has none

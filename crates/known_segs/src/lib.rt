@@ -2,8 +2,10 @@
 //! stand for.
 #![tactic(auto)]
 
-ghost use Rattle.std.specs.Prelude.{◌≡◌, ◌<◌, ◌↔◌, ℕ, Some, None, length, replicate, IsTrue, IsNone, IsSome, IfOk, IfSome};
-ghost use Rattle.known_segs.specs.Known.{uid_of, number_of, least_free, number_for, with_number, without_number, known_count, IsUnknown, HasOneNumberEach};
+ghost use Rattle.std.specs.Prelude.{◌≡◌, ◌<◌, ◌↔◌, ℕ, Some, None, length, replicate, IsTrue, IsNone, IsSome, IfOk};
+ghost use Rattle.std.specs.Prelude.{IfSome};
+ghost use Rattle.known_segs.specs.Known.{uid_of, number_of, least_free, number_for, with_number, without_number};
+ghost use Rattle.known_segs.specs.Known.{known_count, IsUnknown, HasOneNumberEach};
 
 use std::alloc::{AllocError, Global};
 use std::marker::Model;

@@ -1,5 +1,6 @@
 -- Each kind of step keeps the rule, and the laws that rest on it.
-use Rattle.std.proofs.Common.{◌≡◌, ◌≢◌, ℕ, suc, zero, ◌+◌, ◌%◌, ◌<◌, ◌≤◌, ◌⊎◌, Bool, true, false, cond, eqb, List, [], ◌∷◌, ◌++◌, length, replicate, Option, Some, None, refl, sym, ap, subst, ◌∙◌, arith, get_or, set, inl, inr, ⊎_elim}
+use Rattle.std.proofs.Common.{◌≡◌, ◌≢◌, ℕ, suc, zero, ◌+◌, ◌%◌, ◌<◌, ◌≤◌, ◌⊎◌, Bool, true, false, cond, eqb, List, [], ◌∷◌, ◌++◌, length, replicate, Option}
+use Rattle.std.proofs.Common.{Some, None, refl, sym, ap, subst, ◌∙◌, arith, get_or, set, inl, inr, ⊎_elim}
 use mathlib.Core.Option.{some, none, some-injective, some-ne-none}
 use lib.ListN.{get_elem?}
 use Rattle.std.proofs.lemmas.List.{set-get_or, length-replicate, length-append, get_or-replicate, get_or_append_left, get_or-append-add, ext_get_or}
@@ -11,9 +12,11 @@ use Rattle.live_doors.specs.declared.views.Watch.{Watch}
 use Rattle.live_doors.specs.declared.views.View.{View}
 use Rattle.live_doors.specs.declared.views.View.TheVariants.{Walking, Keeping, Spent}
 use Rattle.live_doors.specs.Doors.{IsShut, blank, first_watch, forgotten, acknowledged, shut, raised, having_noted}
-use Rattle.live_doors.specs.Steps.{door_at, ack_at, first_words, filled_if, filled, walk_of, watch_of, Fills, Forgets, Acknowledges, Closes, Raises, Looks, keeper_with_pass, pass_of_keeper}
+use Rattle.live_doors.specs.Steps.{door_at, ack_at, first_words, filled_if, filled, walk_of, watch_of, Fills, Forgets, Acknowledges, Closes, Raises, Looks}
+use Rattle.live_doors.specs.Steps.{keeper_with_pass, pass_of_keeper}
 use Rattle.live_doors.specs.Kept.{PlanOk, PassOk, SeatOk, Kept, NotedIsClear, NeverBoundHasNoHolder, MayBindHasNoHolder}
-use Rattle.live_doors.specs.Laws.{filled_ok, forgotten_ok, plan_acknowledged, acknowledged_ok, pass_stays, plan_shut, pass_shut, plan_raised, pass_raised, plan_noted, pass_noted, plan_admits, pass_admits, blank_ok, entry_gone, entry_never, seats_stay}
+use Rattle.live_doors.specs.Laws.{filled_ok, forgotten_ok, plan_acknowledged, acknowledged_ok, pass_stays, plan_shut, pass_shut, plan_raised, pass_raised}
+use Rattle.live_doors.specs.Laws.{plan_noted, pass_noted, plan_admits, pass_admits, blank_ok, entry_gone, entry_never, seats_stay}
 
 abbrev Board : Type 0
 Board = State (Unit {0}) View

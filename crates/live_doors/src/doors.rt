@@ -1,10 +1,13 @@
 //! The doors, which passes and the keeper step on.
-ghost use Rattle.std.specs.Prelude.{◌≡◌, ℕ, ◌+◌, ◌*◌, ◌%◌, ◌^◌, ◌<◌, ◌≤◌, All, max, length, slice_index, OnOk, OnErr, IfOk, IfErr};
+ghost use Rattle.std.specs.Prelude.{◌≡◌, ℕ, ◌+◌, ◌*◌, ◌%◌, ◌^◌, ◌<◌, ◌≤◌, All, max, length, slice_index, OnOk, OnErr};
+ghost use Rattle.std.specs.Prelude.{IfOk, IfErr};
 ghost use Rattle.std.specs.Mem.Slots.{slots_items, slots_len, IsFull};
 ghost use mathlib.Core.Option.{some};
 ghost use lib.ListN.{get_elem?};
 ghost use Rattle.live_doors.specs.Kept.{IsClearOf};
-ghost use Rattle.live_doors.specs.Doors.{IsPassOf, IsKeeperOf, IsAdmitted, OnlyNoted, HasNoted, having_read, holding, forgotten, acknowledged, shut, raised, having_noted, opening_watch, first_passes};
+ghost use Rattle.live_doors.specs.Doors.{IsPassOf, IsKeeperOf, IsAdmitted, OnlyNoted, HasNoted, having_read, holding};
+ghost use Rattle.live_doors.specs.Doors.{forgotten, acknowledged, shut, raised, having_noted, opening_watch};
+ghost use Rattle.live_doors.specs.Doors.{first_passes};
 
 use crate::errors::{Behind, Closed, NoMemory};
 use crate::keeper::Keeper;

@@ -1,5 +1,6 @@
 -- What the end hands out.
-use Rattle.std.proofs.Common.{◌≡◌, ◌≢◌, ℕ, suc, zero, ◌+◌, ◌<◌, ◌≤◌, List, [], ◌∷◌, ◌++◌, length, Option, Some, None, refl, sym, ap, subst, ◌∙◌, arith, get_or, set, Bool, false, IsTrue, option_to_list, All}
+use Rattle.std.proofs.Common.{◌≡◌, ◌≢◌, ℕ, suc, zero, ◌+◌, ◌<◌, ◌≤◌, List, [], ◌∷◌, ◌++◌, length, Option, Some, None, refl, sym, ap, subst, ◌∙◌, arith}
+use Rattle.std.proofs.Common.{get_or, set, Bool, false, IsTrue, option_to_list, All}
 use mathlib.Core.Logic.{dite}
 use mathlib.Core.Option as M
 use native.Mathlib.Decide.{ℕ_discrete}

@@ -1,5 +1,6 @@
 -- The steps at seats that are known to be a pass's or the keeper's, and what a call leaves.
-use Rattle.std.proofs.Common.{◌≡◌, ◌≢◌, ℕ, suc, zero, ◌+◌, ◌*◌, ◌%◌, ◌^◌, ◌<◌, ◌≤◌, eqb, List, [], ◌∷◌, ◌++◌, length, replicate, Option, Some, None, refl, sym, ap, subst, ◌∙◌, arith, get_or, All, map, ◌/◌}
+use Rattle.std.proofs.Common.{◌≡◌, ◌≢◌, ℕ, suc, zero, ◌+◌, ◌*◌, ◌%◌, ◌^◌, ◌<◌, ◌≤◌, eqb, List, [], ◌∷◌, ◌++◌, length, replicate, Option, Some, None, refl}
+use Rattle.std.proofs.Common.{sym, ap, subst, ◌∙◌, arith, get_or, All, map, ◌/◌}
 use mathlib.Core.Option as M
 use mathlib.Core.Logic.{dite}
 use native.Mathlib.Decide.{ℕ_discrete}
@@ -23,8 +24,11 @@ use Rattle.live_pages.specs.declared.views.Holder.{Holder}
 use Rattle.live_pages.specs.declared.views.View.{View}
 use Rattle.live_pages.specs.declared.views.View.TheVariants.{Passing, Keeping}
 use Rattle.live_pages.specs.Touches.{touched, answer}
-use Rattle.live_pages.specs.Turns.{Seat, opening_words, first_holder, first_walker, keeper_with_pass, pass_of_keeper, bound_anew, having_made, turn_at, ticket_at, current, watching, walker_of, holder_of, Fills, Forgets, Acknowledges, Closes, Raises, Looks, Takes, Draws, Gives, KeeperTakes, Binds, KeeperGives, walking}
-use Rattle.live_pages.specs.Models.{PassFits, KeeperFits, PagesModel, PassModel, KeeperModel, IsPassOf, IsKeeperOf, SameButWatch, HasInHand, touched_in_hand, rebound, HaveZeroPages, first_passes, AreAll}
+use Rattle.live_pages.specs.Turns.{Seat, opening_words, first_holder, first_walker, keeper_with_pass, pass_of_keeper, bound_anew, having_made, turn_at}
+use Rattle.live_pages.specs.Turns.{ticket_at, current, watching, walker_of, holder_of, Fills, Forgets, Acknowledges, Closes, Raises, Looks, Takes, Draws}
+use Rattle.live_pages.specs.Turns.{Gives, KeeperTakes, Binds, KeeperGives, walking}
+use Rattle.live_pages.specs.Models.{PassFits, KeeperFits, PagesModel, PassModel, KeeperModel, IsPassOf, IsKeeperOf, SameButWatch, HasInHand, touched_in_hand}
+use Rattle.live_pages.specs.Models.{rebound, HaveZeroPages, first_passes, AreAll}
 use Rattle.live_pages.proofs.Quiet.{InOrder, fills, forgets, acknowledges, closes, raises, looks}
 use Rattle.live_pages.proofs.Turning.{with_hand, takes_turn, gives_turn, keeper_takes, keeper_gives}
 use Rattle.live_pages.proofs.Changing.{draws, binds}
@@ -240,11 +244,13 @@ told_with {m} {m'} {v} {w} {x} is told = told ∙ ap (λ cs. (w, x ∷ cs)) (ap 
 -- a fill's look at a door that is closed, and at an open one
 pub closed_read : {m m' : Seat} (f word : ℕ) → m ≡ (Passing (walker_of m.0), []) → m' ≡ (Passing (walking (filled f word) (walker_of m.0)), m.1) → word % 2 ≡ 1
     → m' ≡ (Passing (walking (having_read word) (walker_of m.0)), [])
-closed_read {m} {m'} f word is told odd = told_alone is told ∙ ap (λ q. (Passing (record (walker_of m.0) { walk = q }), [])) (filled_odd f word (walker_of m.0).walk odd)
+closed_read {m} {m'} f word is told odd = told_alone is told
+    ∙ ap (λ q. (Passing (record (walker_of m.0) { walk = q }), [])) (filled_odd f word (walker_of m.0).walk odd)
 
 pub open_read : {m m' : Seat} (f word : ℕ) → m ≡ (Passing (walker_of m.0), []) → m' ≡ (Passing (walking (filled f word) (walker_of m.0)), m.1) → word % 2 ≢ 1
     → m' ≡ (Passing (walking (λ p. holding f (word / 2) (having_read (2 * (word / 2)) p)) (walker_of m.0)), [])
-open_read {m} {m'} f word is told even = told_alone is told ∙ ap (λ q. (Passing (record (walker_of m.0) { walk = q }), [])) (filled_even f word (walker_of m.0).walk even)
+open_read {m} {m'} f word is told even = told_alone is told
+    ∙ ap (λ q. (Passing (record (walker_of m.0) { walk = q }), [])) (filled_even f word (walker_of m.0).walk even)
 
 -- what lies in the slot in hand after two exchanges
 pub exchanged_twice : {m m1 m2 : Seat} {v : View} {f : ℕ} {h new : Option Held} → m ≡ (v, (f, h) ∷ []) → m1 ≡ (m.0, (f, None) ∷ rest m.1)

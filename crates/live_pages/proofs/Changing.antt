@@ -1,5 +1,6 @@
 -- The steps that change a page: a touch draws its ticket, and a frame is bound anew.
-use Rattle.std.proofs.Common.{◌≡◌, ◌≢◌, ℕ, suc, ◌+◌, ◌*◌, ◌/◌, ◌%◌, ◌^◌, ◌<◌, ◌≤◌, cond, eqb, ◌&&◌, List, [], ◌∷◌, length, Option, Some, None, refl, sym, ap, subst, ◌∙◌, arith, get_or, set, inl, inr, ⊎_elim}
+use Rattle.std.proofs.Common.{◌≡◌, ◌≢◌, ℕ, suc, ◌+◌, ◌*◌, ◌/◌, ◌%◌, ◌^◌, ◌<◌, ◌≤◌, cond, eqb, ◌&&◌, List, [], ◌∷◌, length, Option, Some, None, refl, sym, ap}
+use Rattle.std.proofs.Common.{subst, ◌∙◌, arith, get_or, set, inl, inr, ⊎_elim}
 use mathlib.Core.Logic.{dite}
 use mathlib.Core.Option as M
 use native.Mathlib.Decide.{ℕ_discrete}
@@ -28,7 +29,8 @@ use Rattle.live_pages.specs.declared.views.View.TheVariants.{Passing, Keeping, S
 use Rattle.live_pages.specs.Touches.{touched, answer, Given, ended_of, after, mine}
 use Rattle.live_pages.specs.Turns.{turn_at, ticket_at, current, hand_of, binding_in, binding_at, having_made, page_of, admitted, bound_anew, Draws, Binds}
 use Rattle.live_pages.specs.Kept.{BookOk, HandOk, HoldsHand, SeatOk}
-use Rattle.live_pages.proofs.Replay.{own_below, regiven_here, after_here, after_frame, after_else, after_next, regiven, regiven_binding, legal_next, left_next, bindings_stay, left_stays, left_touched, mine_here, mine_else, tickets_fit}
+use Rattle.live_pages.proofs.Replay.{own_below, regiven_here, after_here, after_frame, after_else, after_next, regiven, regiven_binding, legal_next}
+use Rattle.live_pages.proofs.Replay.{left_next, bindings_stay, left_stays, left_touched, mine_here, mine_else, tickets_fit}
 use Rattle.live_pages.proofs.Quiet.{set_at, InOrder}
 use Rattle.live_pages.proofs.Turning.{has_frame, plan_above, pass_above, holder_stands}
 

@@ -1,10 +1,12 @@
 -- The start, the making of passes, and the end.
-use Rattle.std.proofs.Common.{◌≡◌, ◌≢◌, ℕ, suc, zero, ◌+◌, ◌/◌, ◌<◌, ◌≤◌, ◌⊎◌, List, [], ◌∷◌, ◌++◌, length, replicate, Option, Some, None, refl, sym, ap, subst, ◌∙◌, arith, get_or, set, inl, inr, ⊎_elim, map}
+use Rattle.std.proofs.Common.{◌≡◌, ◌≢◌, ℕ, suc, zero, ◌+◌, ◌/◌, ◌<◌, ◌≤◌, ◌⊎◌, List, [], ◌∷◌, ◌++◌, length, replicate, Option, Some, None, refl, sym, ap}
+use Rattle.std.proofs.Common.{subst, ◌∙◌, arith, get_or, set, inl, inr, ⊎_elim, map}
 use mathlib.Core.Logic.{dite}
 use mathlib.Core.Option as M
 use native.Mathlib.Decide.{ℕ_discrete}
 use lib.ListN.{get_elem?}
-use Rattle.std.proofs.lemmas.List.{length-replicate, length-append, get_or-replicate, get_or_append_left, get_or-append-add, get_or-set_same, get_or-set_other, length-set}
+use Rattle.std.proofs.lemmas.List.{length-replicate, length-append, get_or-replicate, get_or_append_left, get_or-append-add, get_or-set_same}
+use Rattle.std.proofs.lemmas.List.{get_or-set_other, length-set}
 use Rattle.atomic_table.specs.Table.{Splits, Joins}
 use Rattle.atomic_table.proofs.Lists.{set_again, at_set, set_else, at_map}
 use Rattle.live_doors.specs.Doors.{blank, first_watch, HasNoted, HoldsEntry, MayBind}
@@ -23,7 +25,8 @@ use Rattle.live_pages.specs.declared.views.Holder.{Holder}
 use Rattle.live_pages.specs.declared.views.View.{View}
 use Rattle.live_pages.specs.declared.views.View.TheVariants.{Passing, Keeping, Spent}
 use Rattle.live_pages.specs.Touches.{Given, page_given, after, mine}
-use Rattle.live_pages.specs.Turns.{first_holder, opening_words, keeper_with_pass, pass_of_keeper, taken_in, turn_at, current, hand_of, watching, binding_in, binding_at}
+use Rattle.live_pages.specs.Turns.{first_holder, opening_words, keeper_with_pass, pass_of_keeper, taken_in, turn_at, current, hand_of, watching, binding_in}
+use Rattle.live_pages.specs.Turns.{binding_at}
 use Rattle.live_pages.specs.Kept.{IsClearOf, BookOk, SlotsOk, HandOk, SeatOk, Kept, AllIn, IsCurrent, EntryIsCurrent, MayBindHasNoHolder}
 use Rattle.live_pages.specs.Ending.{AllInIsLegal}
 use Rattle.live_pages.proofs.Replay.{bindings_stay, left_stays}

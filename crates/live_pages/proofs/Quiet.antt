@@ -1,5 +1,6 @@
 -- The steps that leave turns, tickets and pages alone: they keep the rule as they keep that of the doors.
-use Rattle.std.proofs.Common.{◌≡◌, ◌≢◌, ℕ, suc, zero, ◌+◌, ◌/◌, ◌%◌, ◌<◌, ◌≤◌, Bool, true, false, eqb, List, [], ◌∷◌, length, Option, refl, sym, ap, subst, ◌∙◌, arith, get_or, set}
+use Rattle.std.proofs.Common.{◌≡◌, ◌≢◌, ℕ, suc, zero, ◌+◌, ◌/◌, ◌%◌, ◌<◌, ◌≤◌, Bool, true, false, eqb, List, [], ◌∷◌, length, Option, refl, sym, ap, subst}
+use Rattle.std.proofs.Common.{◌∙◌, arith, get_or, set}
 use mathlib.Core.Logic.{dite}
 use mathlib.Core.Option as M
 use native.Mathlib.Decide.{ℕ_discrete}
@@ -12,7 +13,8 @@ use Rattle.live_doors.specs.declared.views.Watch.{Watch}
 use Rattle.live_doors.specs.Doors.{having_noted, forgotten, acknowledged, shut, raised}
 use Rattle.live_doors.specs.Steps.{door_at, ack_at, filled_if, filled}
 use Rattle.live_doors.specs.Kept.{PlanOk, PassOk}
-use Rattle.live_doors.specs.Laws.{filled_ok, forgotten_ok, plan_acknowledged, acknowledged_ok, pass_stays, plan_shut, pass_shut, plan_raised, pass_raised, plan_noted, pass_noted, seats_stay}
+use Rattle.live_doors.specs.Laws.{filled_ok, forgotten_ok, plan_acknowledged, acknowledged_ok, pass_stays, plan_shut, pass_shut, plan_raised, pass_raised}
+use Rattle.live_doors.specs.Laws.{plan_noted, pass_noted, seats_stay}
 use Rattle.live_pages.specs.declared.rule.Held.{Held}
 use Rattle.live_pages.specs.declared.rule.Size.{Size}
 use Rattle.live_pages.specs.declared.touch.Made.{Made}

@@ -1,11 +1,14 @@
 //! The pages behind doors, which passes and the keeper step on.
-ghost use Rattle.std.specs.Prelude.{◌≡◌, ◌≢◌, [], ℕ, ◌+◌, ◌*◌, ◌%◌, ◌^◌, ◌<◌, ◌≤◌, All, max, length, slice_index, OnOk, OnErr, IfOk, IfErr};
-ghost use Rattle.live_doors.specs.Doors.{HoldsEntry, IsAdmitted, OnlyNoted, HasNoted, MayBind, having_read, holding, forgotten, acknowledged, shut, raised, having_noted};
+ghost use Rattle.std.specs.Prelude.{◌≡◌, ◌≢◌, [], ℕ, ◌+◌, ◌*◌, ◌%◌, ◌^◌, ◌<◌, ◌≤◌, All, max, length, slice_index, OnOk};
+ghost use Rattle.std.specs.Prelude.{OnErr, IfOk, IfErr};
+ghost use Rattle.live_doors.specs.Doors.{HoldsEntry, IsAdmitted, OnlyNoted, HasNoted, MayBind, having_read, holding};
+ghost use Rattle.live_doors.specs.Doors.{forgotten, acknowledged, shut, raised, having_noted};
 ghost use Rattle.live_pages.specs.Kept.{IsClearOf, IsCurrent, HasNoHolder};
 ghost use Rattle.live_pages.specs.Touches.{place_of, AreBelow};
 ghost use Rattle.live_pages.specs.Turns.{walking, watching, walker_of, current, binding_at, turn_at, ticket_at};
 ghost use Rattle.live_pages.specs.declared.views.View.TheVariants.{Passing};
-ghost use Rattle.live_pages.specs.Models.{HasInHand, touched_in_hand, IsPassOf, IsKeeperOf, SameButWatch, having_touched, rebound, opening_holder, first_passes, AreAll};
+ghost use Rattle.live_pages.specs.Models.{HasInHand, touched_in_hand, IsPassOf, IsKeeperOf, SameButWatch};
+ghost use Rattle.live_pages.specs.Models.{having_touched, rebound, opening_holder, first_passes, AreAll};
 
 use crate::errors::{Busy, NoMemory};
 use crate::keeper::Keeper;

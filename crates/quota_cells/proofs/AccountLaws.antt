@@ -66,7 +66,8 @@ covers_above q r x (y ∷ ys) e same a =
 
 module _ (f : ℕ → List ℕ) (q r : ℕ → ℕ) (x : ℕ) (same : (y : ℕ) → y ≢ x → r y ≡ q y) (none : q x ≡ 0) (some : r x ≢ 0) (under : AreUnder x (f x)) where
   -- where x becomes an account, what covers x loses what x covers: for one chain
-  appears_on : (e w : ℕ) (xs : List ℕ) → IsChain f xs → cond (covers r xs e) w 0 + cond (covers q (f x) e) (cond (covers q xs x) w 0) 0 ≡ cond (covers q xs e) w 0
+  appears_on : (e w : ℕ) (xs : List ℕ) → IsChain f xs
+      → cond (covers r xs e) w 0 + cond (covers q (f x) e) (cond (covers q xs x) w 0) 0 ≡ cond (covers q xs e) w 0
   appears_on e w [] c = elim (cases_Bool (covers q (f x) e)) [ inl t ↦ rw t refl | inr u ↦ rw u refl ]
   appears_on e w (y ∷ ys) c = elim (cases_eq y x) [
     | inl here ↦
@@ -110,7 +111,8 @@ module _ (f : ℕ → List ℕ) (q r : ℕ → ℕ) (x : ℕ) (same : (y : ℕ) 
   appears chains (k ∷ ks) [] e = elim (cases_Bool (covers q (f x) e)) [ inl t ↦ rw t refl | inr u ↦ rw u refl ]
   appears chains (k ∷ ks) (w ∷ ws) e =
       let ih : load f r ks ws e + cond (covers q (f x) e) (load f q ks ws x) 0 ≡ load f q ks ws e = appears chains ks ws e in
-      let here : cond (covers r (f k) e) w 0 + cond (covers q (f x) e) (cond (covers q (f k) x) w 0) 0 ≡ cond (covers q (f k) e) w 0 = appears_on e w (f k) (chains k) in
+      let here : cond (covers r (f k) e) w 0 + cond (covers q (f x) e) (cond (covers q (f k) x) w 0) 0 ≡ cond (covers q (f k) e) w 0 =
+      appears_on e w (f k) (chains k) in
       elim (cases_Bool (covers q (f x) e)) [
         | inl t ↦ (let ih' = rw t at ih in let here' = rw t at here in rw t (omega (arith, ih', here')))
         | inr u ↦ (let ih' = rw u at ih in let here' = rw u at here in rw u (omega (arith, ih', here')))
@@ -118,7 +120,8 @@ module _ (f : ℕ → List ℕ) (q r : ℕ → ℕ) (x : ℕ) (same : (y : ℕ) 
 
   -- its own load stays
   pub appears_own : ((k : ℕ) → IsChain f (f k)) → (ks ws : List ℕ) → load f r ks ws x ≡ load f q ks ws x
-  appears_own chains ks ws = (let h = appears chains ks ws x in let off : covers q (f x) x ≡ false = covers_not q x (f x) under in let h' = rw off at h in omega (arith, h'))
+  appears_own chains ks ws = (let h = appears chains ks ws x in let off : covers q (f x) x ≡ false = covers_not q x (f x) under in let h' = rw off at h in
+      omega (arith, h'))
 
 pub load_same : (f : ℕ → List ℕ) (q r : ℕ → ℕ) → ((y : ℕ) → eqb (r y) 0 ≡ eqb (q y) 0) → (ks ws : List ℕ) (e : ℕ) → load f r ks ws e ≡ load f q ks ws e
 load_same f q r same ks ws e = weigh_same (λ k. covers r (f k) e) (λ k. covers q (f k) e) ks ws (λ k h. covers_same q r (f k) e same)

@@ -1,12 +1,14 @@
 -- Values beside uids: one set, all of some changed, one more and one less.
-use Rattle.std.proofs.Common.{◌≡◌, ◌≢◌, ℕ, suc, zero, ◌+◌, ◌<◌, ◌≤◌, Bool, true, false, eqb, if◌then◌else◌, List, [], ◌∷◌, length, refl, ap, arith, get_or, inl, inr}
+use Rattle.std.proofs.Common.{◌≡◌, ◌≢◌, ℕ, suc, zero, ◌+◌, ◌<◌, ◌≤◌, Bool, true, false, eqb, if◌then◌else◌, List, [], ◌∷◌, length, refl, ap, arith, get_or}
+use Rattle.std.proofs.Common.{inl, inr}
 use Rattle.std.specs.List.{sum}
 use Rattle.std.proofs.lemmas.Bool.{cases_Bool, cases_eq, eq-eqb, ne_eqb, or_right, or_left}
 use Rattle.std.proofs.lemmas.List.Sums.{sum_by-cons}
 use Rattle.quota_cells.specs.Accounts.{look, has, with_value, weigh, changed_where}
 
 -- one value set
-pub look_with : (ks vs : List ℕ) (u v w : ℕ) → length vs ≡ length ks → has ks u ≡ true → look ks (with_value ks vs u v) w ≡ (if eqb u w then v else look ks vs w)
+pub look_with : (ks vs : List ℕ) (u v w : ℕ) → length vs ≡ length ks → has ks u ≡ true
+    → look ks (with_value ks vs u v) w ≡ (if eqb u w then v else look ks vs w)
 look_with [] vs u v w len e = cc
 look_with (k ∷ ks) [] u v w len e = absurd (omega arith)
 look_with (k ∷ ks) (x ∷ vs) u v w len e = elim (cases_eq k u) [
@@ -30,7 +32,8 @@ look_with_other [] vs u v w ne = refl
 look_with_other (k ∷ ks) [] u v w ne = refl
 look_with_other (k ∷ ks) (x ∷ vs) u v w ne = elim (cases_eq k u) [
   | inl same ↦ rw (eq-eqb k u same, ne_eqb k w (λ q. ne (omega arith))) refl
-  | inr other ↦ rw (ne_eqb k u other) (elim (cases_eq k w) [ inl here ↦ rw (eq-eqb k w here) refl | inr there ↦ rw (ne_eqb k w there) (look_with_other ks vs u v w ne) ])
+  | inr other ↦ rw (ne_eqb k u other) (elim
+      (cases_eq k w) [ inl here ↦ rw (eq-eqb k w here) refl | inr there ↦ rw (ne_eqb k w there) (look_with_other ks vs u v w ne) ])
 ]
 
 pub length_with : (ks vs : List ℕ) (u v : ℕ) → length (with_value ks vs u v) ≡ length vs
@@ -69,7 +72,8 @@ two_le_sum (k ∷ ks) (x ∷ vs) u w ne = (let b = sum_by-cons (λ (y : ℕ). y)
 ])
 
 -- all of some changed
-pub look_changed : (g : ℕ → ℕ) (t : ℕ → Bool) (ks ws : List ℕ) (u : ℕ) → length ws ≡ length ks → has ks u ≡ true → look ks (changed_where g t ks ws) u ≡ (if t u then g (look ks ws u) else look ks ws u)
+pub look_changed : (g : ℕ → ℕ) (t : ℕ → Bool) (ks ws : List ℕ) (u : ℕ) → length ws ≡ length ks → has ks u ≡ true
+    → look ks (changed_where g t ks ws) u ≡ (if t u then g (look ks ws u) else look ks ws u)
 look_changed g t [] ws u len e = cc
 look_changed g t (k ∷ ks) [] u len e = absurd (omega arith)
 look_changed g t (k ∷ ks) (w ∷ ws) u len e = elim (cases_eq k u) [
@@ -82,14 +86,16 @@ length_changed g t [] ws len = refl
 length_changed g t (k ∷ ks) [] len = refl
 length_changed g t (k ∷ ks) (w ∷ ws) len = ap suc (length_changed g t ks ws (omega arith))
 
-pub get_changed : (g : ℕ → ℕ) (t : ℕ → Bool) (ks ws : List ℕ) (i : ℕ) → length ws ≡ length ks → i < length ks → get_or (changed_where g t ks ws) i 0 ≡ (if t (get_or ks i 0) then g (get_or ws i 0) else get_or ws i 0)
+pub get_changed : (g : ℕ → ℕ) (t : ℕ → Bool) (ks ws : List ℕ) (i : ℕ) → length ws ≡ length ks → i < length ks
+    → get_or (changed_where g t ks ws) i 0 ≡ (if t (get_or ks i 0) then g (get_or ws i 0) else get_or ws i 0)
 get_changed g t [] ws i len lt = absurd (omega arith)
 get_changed g t (k ∷ ks) [] i len lt = absurd (omega arith)
 get_changed g t (k ∷ ks) (w ∷ ws) zero len lt = refl
 get_changed g t (k ∷ ks) (w ∷ ws) (suc i) len lt = get_changed g t ks ws i (omega arith) (omega arith)
 
 -- a weight where one value is set
-pub weigh_with : (t : ℕ → Bool) (ks ws : List ℕ) (u v : ℕ) → length ws ≡ length ks → has ks u ≡ true → weigh t ks (with_value ks ws u v) + (if t u then look ks ws u else 0) ≡ weigh t ks ws + (if t u then v else 0)
+pub weigh_with : (t : ℕ → Bool) (ks ws : List ℕ) (u v : ℕ) → length ws ≡ length ks → has ks u ≡ true
+    → weigh t ks (with_value ks ws u v) + (if t u then look ks ws u else 0) ≡ weigh t ks ws + (if t u then v else 0)
 weigh_with t [] ws u v len e = cc
 weigh_with t (k ∷ ks) [] u v len e = absurd (omega arith)
 weigh_with t (k ∷ ks) (w ∷ ws) u v len e = elim (cases_eq k u) [
@@ -117,7 +123,8 @@ look_le_weigh t (k ∷ ks) (w ∷ ws) u is = elim (cases_eq k u) [
 pub weigh_le_on : (s t : ℕ → Bool) (ks ws : List ℕ) → ((k : ℕ) → has ks k ≡ true → s k ≡ true → t k ≡ true) → weigh s ks ws ≤ weigh t ks ws
 weigh_le_on s t [] ws le = omega arith
 weigh_le_on s t (k ∷ ks) [] le = omega arith
-weigh_le_on s t (k ∷ ks) (w ∷ ws) le = (let ih : weigh s ks ws ≤ weigh t ks ws = weigh_le_on s t ks ws (λ j h. le j (or_right (eqb k j) (has ks j) h)) in elim (cases_Bool (s k)) [
-  | inl is ↦ (let also : t k ≡ true = le k (or_left (eqb k k) (has ks k) (eq-eqb k k refl)) is in rw (is, also) (omega arith))
-  | inr isnt ↦ rw isnt (omega arith)
-])
+weigh_le_on s t (k ∷ ks) (w ∷ ws) le = (let ih : weigh s ks ws ≤ weigh t ks ws = weigh_le_on s t ks ws (λ j h. le j (or_right (eqb k j) (has ks j) h)) in
+    elim (cases_Bool (s k)) [
+      | inl is ↦ (let also : t k ≡ true = le k (or_left (eqb k k) (has ks k) (eq-eqb k k refl)) is in rw (is, also) (omega arith))
+      | inr isnt ↦ rw isnt (omega arith)
+    ])

@@ -1,8 +1,10 @@
 -- One more value beside a uid, 0, and one less.
-use Rattle.std.proofs.Common.{◌≡◌, ◌≢◌, ℕ, suc, zero, ◌+◌, ◌<◌, ◌≤◌, Bool, true, false, eqb, not, ◌&&◌, ◌||◌, if◌then◌else◌, List, [], ◌∷◌, length, refl, sym, ap, ◌∙◌, arith, get_or, inl, inr}
+use Rattle.std.proofs.Common.{◌≡◌, ◌≢◌, ℕ, suc, zero, ◌+◌, ◌<◌, ◌≤◌, Bool, true, false, eqb, not, ◌&&◌, ◌||◌, if◌then◌else◌, List, [], ◌∷◌, length, refl, sym}
+use Rattle.std.proofs.Common.{ap, ◌∙◌, arith, get_or, inl, inr}
 use Rattle.std.specs.List.{insert, remove}
 use Rattle.std.proofs.lemmas.Bool.{cases_Bool, cases_eq, cases_lt, eq-eqb, ne_eqb}
-use Rattle.std.proofs.lemmas.List.Edits.{length-insert, get_or-insert_below, get_or-insert_at, get_or-insert_above, length-remove, get_or-remove_below, get_or-remove_above}
+use Rattle.std.proofs.lemmas.List.Edits.{length-insert, get_or-insert_below, get_or-insert_at, get_or-insert_above, length-remove, get_or-remove_below}
+use Rattle.std.proofs.lemmas.List.Edits.{get_or-remove_above}
 use Rattle.quota_cells.specs.Accounts.{look, has, weigh}
 use Rattle.quota_cells.specs.Cells.{IsRising}
 use Rattle.quota_cells.specs.Columns.{IsGap}
@@ -58,16 +60,21 @@ has_remove (k ∷ ks) (suc i) v up lt =
       | inr other ↦ rw (ne_eqb k v other) ih
     ]
 
-pub look_remove : (ks vs : List ℕ) (i v : ℕ) → length vs ≡ length ks → IsRising ks → i < length ks → v ≢ get_or ks i 0 → look (remove ks i) (remove vs i) v ≡ look ks vs v
+pub look_remove : (ks vs : List ℕ) (i v : ℕ) → length vs ≡ length ks → IsRising ks → i < length ks → v ≢ get_or ks i 0
+    → look (remove ks i) (remove vs i) v ≡ look ks vs v
 look_remove [] vs i v len up lt ne = absurd (omega arith)
 look_remove (k ∷ ks) [] i v len up lt ne = absurd (omega arith)
 look_remove (k ∷ ks) (w ∷ vs) zero v len up lt ne = rw (ne_eqb k v (λ q. ne (sym q))) refl
-look_remove (k ∷ ks) (w ∷ vs) (suc i) v len up lt ne = elim (cases_Bool (eqb k v)) [ inl t ↦ rw t refl | inr f ↦ rw f (look_remove ks vs i v (omega arith) (rising_rest k ks up) (omega arith) ne) ]
+look_remove (k ∷ ks) (w ∷ vs) (suc i) v len up lt ne =
+    elim (cases_Bool (eqb k v)) [ inl t ↦ rw t refl | inr f ↦ rw f (look_remove ks vs i v (omega arith) (rising_rest k ks up) (omega arith) ne) ]
 
 pub look_gone : (ks vs : List ℕ) (i : ℕ) → IsRising ks → i < length ks → look (remove ks i) (remove vs i) (get_or ks i 0) ≡ 0
-look_gone ks vs i up lt = look_absent (remove ks i) (remove vs i) (get_or ks i 0) (has_remove ks i (get_or ks i 0) up lt ∙ rw (eq-eqb (get_or ks i 0) (get_or ks i 0) refl) (elim (cases_Bool (has ks (get_or ks i 0))) [ inl t ↦ rw t refl | inr f ↦ rw f refl ]))
+look_gone ks vs i up lt = look_absent (remove ks i) (remove vs i) (get_or ks i 0)
+    (has_remove ks i (get_or ks i 0) up lt ∙ rw (eq-eqb (get_or ks i 0) (get_or ks i 0) refl)
+    (elim (cases_Bool (has ks (get_or ks i 0))) [ inl t ↦ rw t refl | inr f ↦ rw f refl ]))
 
-pub weigh_remove : (t : ℕ → Bool) (ks ws : List ℕ) (i : ℕ) → length ws ≡ length ks → i < length ks → get_or ws i 0 ≡ 0 → weigh t (remove ks i) (remove ws i) ≡ weigh t ks ws
+pub weigh_remove : (t : ℕ → Bool) (ks ws : List ℕ) (i : ℕ) → length ws ≡ length ks → i < length ks → get_or ws i 0 ≡ 0
+    → weigh t (remove ks i) (remove ws i) ≡ weigh t ks ws
 weigh_remove t [] ws i len lt none = absurd (omega arith)
 weigh_remove t (k ∷ ks) [] i len lt none = absurd (omega arith)
 weigh_remove t (k ∷ ks) (w ∷ ws) zero len lt none = rw none (elim (cases_Bool (t k)) [ inl is ↦ rw is (omega arith) | inr isnt ↦ rw isnt (omega arith) ])
@@ -94,7 +101,8 @@ module _ (ks : List ℕ) (u i : ℕ) (up : IsRising ks) (gap : IsGap ks u i) whe
   rises a b lt w (Here x) (After j e g) = rw (at_here a x, at_after b j e g) (let n = length-insert ks i u gap.within in gap.above j g (omega arith))
   rises a b lt w (After h d f) (Before y) = absurd (omega arith)
   rises a b lt w (After h d f) (Here y) = absurd (omega arith)
-  rises a b lt w (After h d f) (After j e g) = rw (at_after a h d f, at_after b j e g) (let n = length-insert ks i u gap.within in up h j (omega arith) (omega arith))
+  rises a b lt w (After h d f) (After j e g) =
+      rw (at_after a h d f, at_after b j e g) (let n = length-insert ks i u gap.within in up h j (omega arith) (omega arith))
 
   pub rising_insert : IsRising (insert ks i u)
   rising_insert a b lt w = rises a b lt w (where_is a i) (where_is b i)

@@ -97,18 +97,22 @@ module _ (nodes : List Node) (c : CellMaps) (table : IsTable c) (fits : Fits nod
   load_bound s e ends_s covered =
       let a : ℕ = account (quota_in c) (f s) in
       let up : load_in c e ≤ load_in c a = load_up_from s e ends_s covered in
-      let le : load_in c a ≤ quota_in c a = table.within a (account_there (quota_in c) c.directories (f s) (there s) ends_s) (account_of_chain (quota_in c) (f s)) in
+      let le : load_in c a ≤ quota_in c a = table.within a (account_there (quota_in c) c.directories (f s) (there s) ends_s)
+      (account_of_chain (quota_in c) (f s)) in
       let most : quota_in c a ≤ sum c.quotas = look_le_sum c.directories c.quotas a in
       let total : sum c.quotas < 2 ^ 32 = table.total in omega arith
 
   -- where the account isn't full there is room for a page
-  pub below_quota : (s : ℕ) → is_segment nodes s ≡ true → load_in c (account (quota_in c) (f s)) ≢ quota_in c (account (quota_in c) (f s)) → load_in c (account (quota_in c) (f s)) < quota_in c (account (quota_in c) (f s))
+  pub below_quota : (s : ℕ) → is_segment nodes s ≡ true → load_in c (account (quota_in c) (f s)) ≢ quota_in c (account (quota_in c) (f s))
+      → load_in c (account (quota_in c) (f s)) < quota_in c (account (quota_in c) (f s))
   below_quota s is ne =
       let a : ℕ = account (quota_in c) (f s) in
-      let le : load_in c a ≤ quota_in c a = table.within a (account_there (quota_in c) c.directories (f s) (there s) (ends s is)) (account_of_chain (quota_in c) (f s)) in
+      let le : load_in c a ≤ quota_in c a = table.within a (account_there (quota_in c) c.directories (f s) (there s) (ends s is))
+      (account_of_chain (quota_in c) (f s)) in
       omega (arith, ne)
 
-  pub room_charged : (s : ℕ) → is_segment nodes s ≡ true → load_in c (account (quota_in c) (f s)) ≢ quota_in c (account (quota_in c) (f s)) → (e : ℕ) → covers (quota_in c) (f s) e ≡ true → load_in c e + 1 < 2 ^ 32
+  pub room_charged : (s : ℕ) → is_segment nodes s ≡ true → load_in c (account (quota_in c) (f s)) ≢ quota_in c (account (quota_in c) (f s)) → (e : ℕ)
+      → covers (quota_in c) (f s) e ≡ true → load_in c e + 1 < 2 ^ 32
   room_charged s is ne e covered =
       let a : ℕ = account (quota_in c) (f s) in
       let up : load_in c e ≤ load_in c a = load_up s e is covered in
@@ -116,14 +120,16 @@ module _ (nodes : List Node) (c : CellMaps) (table : IsTable c) (fits : Fits nod
       let most : quota_in c a ≤ sum c.quotas = look_le_sum c.directories c.quotas a in
       let total : sum c.quotas < 2 ^ 32 = table.total in omega arith
 
-  pub stored_room : (s : ℕ) → is_segment nodes s ≡ true → load_in c (account (quota_in c) (f s)) ≢ quota_in c (account (quota_in c) (f s)) → stored_in c s + 1 < 2 ^ 32
+  pub stored_room : (s : ℕ) → is_segment nodes s ≡ true → load_in c (account (quota_in c) (f s)) ≢ quota_in c (account (quota_in c) (f s))
+      → stored_in c s + 1 < 2 ^ 32
   stored_room s is ne =
       let a : ℕ = account (quota_in c) (f s) in
       let covered : covers (quota_in c) (f s) a ≡ true = account_covers (quota_in c) (f s) (ends s is) in
       let le : stored_in c s ≤ load_in c a = stored_below s a (account_there (quota_in c) c.directories (f s) (there s) (ends s is)) covered in
       let room : load_in c a + 1 < 2 ^ 32 = room_charged s is ne a covered in omega arith
 
-  pub table_charged : (s : ℕ) → is_segment nodes s ≡ true → load_in c (account (quota_in c) (f s)) ≢ quota_in c (account (quota_in c) (f s)) → IsTable (charged c (f s) s)
+  pub table_charged : (s : ℕ) → is_segment nodes s ≡ true → load_in c (account (quota_in c) (f s)) ≢ quota_in c (account (quota_in c) (f s))
+      → IsTable (charged c (f s) s)
   table_charged s is ne = record {
     rising = table.rising;
     segments_rise = table.segments_rise;
@@ -165,17 +171,22 @@ module _ (nodes : List Node) (c : CellMaps) (table : IsTable c) (fits : Fits nod
   }
 
   pub room_credited : (s n : ℕ) → is_segment nodes s ≡ true → n ≤ stored_in c s → (e : ℕ) → covers (quota_in c) (f s) e ≡ true → n ≤ load_in c e
-  room_credited s n is some e covered = (let le : stored_in c s ≤ load_in c e = stored_below s e (covered_there (quota_in c) c.directories (f s) e (there s) covered) covered in omega arith)
+  room_credited s n is some e covered = (let le : stored_in c s ≤ load_in c e =
+      stored_below s e (covered_there (quota_in c) c.directories (f s) e (there s) covered) covered in omega arith)
 
 pub counts_used : (nodes : List Node) (c : CellMaps) → Fits nodes c → HasChains (shapes nodes) → CountsUsed nodes c
 counts_used nodes c fits chains a a_there = elim (cases_Bool (is_an_account (quota_in c) a)) [
   | inr isnt ↦ rw isnt refl
   | inl is ↦
-      rw is (fits.loads a a_there ∙ weigh_same (λ k. covers (quota_in c) (above (shapes nodes) k) a) (λ k. eqb (account (quota_in c) (above (shapes nodes) k)) a) c.segments c.stored
-      (λ k h. (let seg : is_segment nodes k ≡ true = sym (on_segments nodes fits k) ∙ h in account_is (quota_in c) (above (shapes nodes) k) a (chains.segments k (uid_shape nodes k ∙ segment_in nodes k seg) (directory_shape nodes k ∙ segment_not nodes k seg)) is)))
+      rw is (fits.loads a a_there ∙ weigh_same (λ k. covers (quota_in c) (above (shapes nodes) k) a)
+      (λ k. eqb (account (quota_in c) (above (shapes nodes) k)) a) c.segments c.stored
+      (λ k h. (let seg : is_segment nodes k ≡ true = sym (on_segments nodes fits k) ∙ h in
+      account_is (quota_in c) (above (shapes nodes) k) a
+      (chains.segments k (uid_shape nodes k ∙ segment_in nodes k seg) (directory_shape nodes k ∙ segment_not nodes k seg)) is)))
 ]
 
 -- ---- what the code leaves
 
 pub not_full : (c : CellMaps) (up : List ℕ) → charge_fault c up ≡ Ok tt → load_in c (account (quota_in c) up) ≢ quota_in c (account (quota_in c) up)
-not_full c up e same = (let full : eqb (load_in c (account (quota_in c) up)) (quota_in c (account (quota_in c) up)) ≡ true = eq-eqb _ _ same in let z = rw full at e in cc)
+not_full c up e same = (let full : eqb (load_in c (account (quota_in c) up)) (quota_in c (account (quota_in c) up)) ≡ true = eq-eqb _ _ same in
+    let z = rw full at e in cc)

@@ -16,7 +16,8 @@ pub record AreEven (c : CellMaps) : Type 0 where
   pub quotas : length c.quotas ≡ length c.directories
   pub loads : length c.loads ≡ length c.directories
 
-module _ (nodes : List Node) (c : CellMaps) (even : AreEven c) (fits : Fits nodes c) (chains : HasChains (shapes nodes)) (d v : ℕ) (here : has c.directories d ≡ true) where
+module _ (nodes : List Node) (c : CellMaps) (even : AreEven c) (fits : Fits nodes c) (chains : HasChains (shapes nodes)) (d v : ℕ)
+    (here : has c.directories d ≡ true) where
   abbrev f : ℕ → List ℕ
   f = above (shapes nodes)
 
@@ -45,12 +46,15 @@ module _ (nodes : List Node) (c : CellMaps) (even : AreEven c) (fits : Fits node
   ]
 
   -- how the loads change
-  pub load_then : (e : ℕ) → has c.directories e ≡ true → (b w : Bool) → eqb (q d) 0 ≡ b → eqb v 0 ≡ w → load_in c' e ≡ look c.directories (loads_then c (f d) d b w) e
+  pub load_then : (e : ℕ) → has c.directories e ≡ true → (b w : Bool) → eqb (q d) 0 ≡ b → eqb v 0 ≡ w
+      → load_in c' e ≡ look c.directories (loads_then c (f d) d b w) e
   load_then e there b w is_b is_w = rw (is_b, is_w) refl
 
   fits_at : (e : ℕ) → has c.directories e ≡ true → (b w : Bool) → eqb (q d) 0 ≡ b → eqb v 0 ≡ w → load_in c' e ≡ load f r c.segments c.stored e
-  fits_at e there true true is_b is_w = load_then e there true true is_b is_w ∙ fits.loads e there ∙ sym (load_same f q r (same_zero true is_b is_w) c.segments c.stored e)
-  fits_at e there false false is_b is_w = load_then e there false false is_b is_w ∙ fits.loads e there ∙ sym (load_same f q r (same_zero false is_b is_w) c.segments c.stored e)
+  fits_at e there true true is_b is_w = load_then e there true true is_b is_w ∙ fits.loads e there
+      ∙ sym (load_same f q r (same_zero true is_b is_w) c.segments c.stored e)
+  fits_at e there false false is_b is_w = load_then e there false false is_b is_w ∙ fits.loads e there
+      ∙ sym (load_same f q r (same_zero false is_b is_w) c.segments c.stored e)
   fits_at e there true false is_b is_w =
       let none : q d ≡ 0 = eqb-true (q d) 0 is_b in
       let some : r d ≢ 0 = λ z. eqb-false v 0 is_w (sym quota_own ∙ z) in
@@ -68,7 +72,8 @@ module _ (nodes : List Node) (c : CellMaps) (even : AreEven c) (fits : Fits node
       let back : (y : ℕ) → y ≢ d → q y ≡ r y = λ y ne. sym (quota_other y ne) in
       let law = appears f r q d back none some (chains.under d) chains.chain c.segments c.stored e in
       let cover : covers r (f d) e ≡ covers q (f d) e = covers_above q r d (f d) e quota_other (chains.under d) in
-      let own' : load f q c.segments c.stored d ≡ load f r c.segments c.stored d = appears_own f r q d back none some (chains.under d) chains.chain c.segments c.stored in
+      let own' : load f q c.segments c.stored d ≡ load f r c.segments c.stored d =
+      appears_own f r q d back none some (chains.under d) chains.chain c.segments c.stored in
       let own : load_in c d ≡ load f q c.segments c.stored d = fits.loads d here in
       let old : load_in c e ≡ load f q c.segments c.stored e = fits.loads e there in
       let l = look_changed (λ w. w + load_in c d) (covers q (f d)) c.directories c.loads e even.loads there in
@@ -78,7 +83,13 @@ module _ (nodes : List Node) (c : CellMaps) (even : AreEven c) (fits : Fits node
       ]
 
   pub fits_quota : Fits nodes c'
-  fits_quota = record { directories = fits.directories; segments = fits.segments; count = fits.count; loads = λ e there. fits_at e there (eqb (q d) 0) (eqb v 0) refl refl }
+  fits_quota = record {
+    directories = fits.directories;
+    segments = fits.segments;
+    count = fits.count;
+    loads =
+        λ e there. fits_at e there (eqb (q d) 0) (eqb v 0) refl refl;
+  }
 
   loads_length : (b w : Bool) → length (loads_then c (f d) d b w) ≡ length c.loads
   loads_length true true = refl
@@ -94,10 +105,12 @@ module _ (nodes : List Node) (c : CellMaps) (even : AreEven c) (fits : Fits node
 
   -- a load falls where the directory becomes an account, and rises where it is one no more
   pub load_falls : q d ≡ 0 → v ≢ 0 → (e : ℕ) → has c.directories e ≡ true → load_in c' e ≡ (if covers q (f d) e then load_in c e - load_in c d else load_in c e)
-  load_falls none some e there = load_then e there true false (eq-eqb (q d) 0 none) (ne_eqb v 0 some) ∙ look_changed (λ w. w - load_in c d) (covers q (f d)) c.directories c.loads e even.loads there
+  load_falls none some e there = load_then e there true false (eq-eqb (q d) 0 none) (ne_eqb v 0 some)
+      ∙ look_changed (λ w. w - load_in c d) (covers q (f d)) c.directories c.loads e even.loads there
 
   pub load_rises : q d ≢ 0 → v ≡ 0 → (e : ℕ) → has c.directories e ≡ true → load_in c' e ≡ (if covers q (f d) e then load_in c e + load_in c d else load_in c e)
-  load_rises some none e there = load_then e there false true (ne_eqb (q d) 0 some) (eq-eqb v 0 none) ∙ look_changed (λ w. w + load_in c d) (covers q (f d)) c.directories c.loads e even.loads there
+  load_rises some none e there = load_then e there false true (ne_eqb (q d) 0 some) (eq-eqb v 0 none)
+      ∙ look_changed (λ w. w + load_in c d) (covers q (f d)) c.directories c.loads e even.loads there
 
   pub load_stays : q d ≢ 0 → v ≢ 0 → (e : ℕ) → has c.directories e ≡ true → load_in c' e ≡ load_in c e
   load_stays some some_v e there = load_then e there false false (ne_eqb (q d) 0 some) (ne_eqb v 0 some_v)
@@ -106,7 +119,8 @@ module _ (nodes : List Node) (c : CellMaps) (even : AreEven c) (fits : Fits node
   pub covers_more : q d ≡ 0 → (e : ℕ) → has c.directories e ≡ true → covers q (f d) e ≡ true → load_in c d ≤ load_in c e
   covers_more none e there is =
       let one : (y : ℕ) → ℕ = λ y. if eqb d y then 1 else q y in
-      let law = appears f q one d (λ y ne. rw (ne_eqb d y (λ e. ne (sym e))) refl) none (λ z. (let o : one d ≡ 1 = rw (eq-eqb d d refl) refl in omega (arith, z, o))) (chains.under d) chains.chain c.segments c.stored e in
+      let law = appears f q one d (λ y ne. rw (ne_eqb d y (λ e. ne (sym e))) refl) none
+      (λ z. (let o : one d ≡ 1 = rw (eq-eqb d d refl) refl in omega (arith, z, o))) (chains.under d) chains.chain c.segments c.stored e in
       let own : load_in c d ≡ load f q c.segments c.stored d = fits.loads d here in
       let old : load_in c e ≡ load f q c.segments c.stored e = fits.loads e there in
       let law' = rw is at law in omega (arith, law', own, old)

@@ -1,7 +1,9 @@
 -- Which accounts can be above their quotas once quota has moved.
-use Rattle.std.proofs.Common.{◌≡◌, ◌≢◌, ℕ, suc, ◌+◌, ◌-◌, ◌<◌, ◌≤◌, ◌^◌, Bool, true, false, cond, eqb, ltb, not, ◌||◌, if◌then◌else◌, List, [], ◌∷◌, length, Some, None, refl, sym, ap, subst, ◌∙◌, arith, get_or, inl, inr, ◌⊎◌}
+use Rattle.std.proofs.Common.{◌≡◌, ◌≢◌, ℕ, suc, ◌+◌, ◌-◌, ◌<◌, ◌≤◌, ◌^◌, Bool, true, false, cond, eqb, ltb, not, ◌||◌, if◌then◌else◌, List, [], ◌∷◌, length}
+use Rattle.std.proofs.Common.{Some, None, refl, sym, ap, subst, ◌∙◌, arith, get_or, inl, inr, ◌⊎◌}
 use Rattle.std.specs.List.{sum, find}
-use Rattle.std.proofs.lemmas.Bool.{cases_Bool, cases_eq, cases_lt, both_ways, eqb-true, eq-eqb, ne_eqb, or_cases, and_parts, or_right, or_left, and_from, lt-ltb, ltb-true, false_from_ne_true}
+use Rattle.std.proofs.lemmas.Bool.{cases_Bool, cases_eq, cases_lt, both_ways, eqb-true, eq-eqb, ne_eqb, or_cases, and_parts, or_right, or_left, and_from}
+use Rattle.std.proofs.lemmas.Bool.{lt-ltb, ltb-true, false_from_ne_true}
 use Rattle.tree_model.specs.Tree.{above}
 use Rattle.dir_tree.specs.declared.node.Node.{Node}
 use Rattle.dir_tree.specs.Shape.{shapes}
@@ -32,7 +34,8 @@ later_than k (j ∷ js) all b h = elim (or_cases (eqb j b) (has js b) h) [
 pub later : (k : ℕ) (ks : List ℕ) → IsRising (k ∷ ks) → (b : ℕ) → has ks b ≡ true → k < b
 later k ks up b h = later_than k ks (λ i lt. up 0 (suc i) (omega arith) (omega arith)) b h
 
-pub first_passes : (p : ℕ → Bool) (ks : List ℕ) (a : ℕ) → IsRising ks → has ks a ≡ true → p a ≡ true → ((b : ℕ) → has ks b ≡ true → b < a → p b ≡ false) → find p ks ≡ Some a
+pub first_passes : (p : ℕ → Bool) (ks : List ℕ) (a : ℕ) → IsRising ks → has ks a ≡ true → p a ≡ true → ((b : ℕ) → has ks b ≡ true → b < a → p b ≡ false)
+    → find p ks ≡ Some a
 first_passes p [] a up h is none = cc
 first_passes p (k ∷ ks) a up h is none = elim (cases_eq k a) [
   | inl same ↦ (let here : p k ≡ true = rw same is in rw here (ap (λ (x : ℕ). Some x) same))
@@ -40,7 +43,8 @@ first_passes p (k ∷ ks) a up h is none = elim (cases_eq k a) [
       (let rest : has ks a ≡ true = rw (ne_eqb k a other) at h in
       let before : k < a = later k ks up a rest in
       let isnt : p k ≡ false = none k (or_left (eqb k k) (has ks k) (eq-eqb k k refl)) before in
-      rw isnt (first_passes p ks a (λ i j lt w. up (suc i) (suc j) (omega arith) (omega arith)) rest is (λ b hb lt. none b (or_right (eqb k b) (has ks b) hb) lt)))
+      rw isnt (first_passes p ks a (λ i j lt w. up (suc i) (suc j) (omega arith) (omega arith)) rest is
+      (λ b hb lt. none b (or_right (eqb k b) (has ks b) hb) lt)))
 ]
 
 pub passes : (p : ℕ → Bool) (ks : List ℕ) (b : ℕ) → has ks b ≡ true → p b ≡ true → find p ks ≢ None
@@ -55,7 +59,8 @@ passes p (k ∷ ks) b h is none = elim (cases_Bool (p k)) [
 
 -- ---- two changes
 
-module _ (nodes : List Node) (c : CellMaps) (table : IsTable c) (fits : Fits nodes c) (chains : HasChains (shapes nodes)) (g v n : ℕ) (other : g ≢ v) (here_g : has c.directories g ≡ true) (here_v : has c.directories v ≡ true) (some : 0 < n) (enough : n ≤ quota_in c v) where
+module _ (nodes : List Node) (c : CellMaps) (table : IsTable c) (fits : Fits nodes c) (chains : HasChains (shapes nodes)) (g v n : ℕ) (other : g ≢ v)
+    (here_g : has c.directories g ≡ true) (here_v : has c.directories v ≡ true) (some : 0 < n) (enough : n ≤ quota_in c v) where
   abbrev f : ℕ → List ℕ
   f = above (shapes nodes)
 
@@ -106,39 +111,48 @@ module _ (nodes : List Node) (c : CellMaps) (table : IsTable c) (fits : Fits nod
 
   load1_le : (b : ℕ) → has c.directories b ≡ true → load_in c1 b ≤ load_in c b
   load1_le b h = elim (cases_eq (q g) 0) [
-    | inl none ↦ (let l = load1_falls none b h in elim (cases_Bool (covers q (f g) b)) [ inl t ↦ (let l' = rw t at l in omega (arith, l')) | inr u ↦ (let l' = rw u at l in omega (arith, l')) ])
+    | inl none ↦ (let l = load1_falls none b h in
+        elim (cases_Bool (covers q (f g) b)) [ inl t ↦ (let l' = rw t at l in omega (arith, l')) | inr u ↦ (let l' = rw u at l in omega (arith, l')) ])
     | inr is ↦ (let l : load_in c1 b ≡ load_in c b = load1_stays is b h in omega arith)
   ]
 
   q1_v : quota_in c1 v ≡ q v
   q1_v = q1_other v (λ e. other (sym e))
 
-  pub load2_rises : q v ≡ n → (b : ℕ) → has c.directories b ≡ true → load_in c2 b ≡ (if covers (quota_in c1) (f v) b then load_in c1 b + load_in c1 v else load_in c1 b)
+  pub load2_rises : q v ≡ n → (b : ℕ) → has c.directories b ≡ true
+      → load_in c2 b ≡ (if covers (quota_in c1) (f v) b then load_in c1 b + load_in c1 v else load_in c1 b)
   load2_rises all b h = load_rises nodes c1 even1 fits1 chains v (q v - n) here_v (λ e. (let z : quota_in c1 v ≡ q v = q1_v in omega arith)) (omega arith) b h
 
   pub load2_stays : q v ≢ n → (b : ℕ) → has c.directories b ≡ true → load_in c2 b ≡ load_in c1 b
-  load2_stays part b h = load_stays nodes c1 even1 fits1 chains v (q v - n) here_v (λ e. (let z : quota_in c1 v ≡ q v = q1_v in omega arith)) (λ e. part (omega arith)) b h
+  load2_stays part b h = load_stays nodes c1 even1 fits1 chains v (q v - n) here_v (λ e. (let z : quota_in c1 v ≡ q v = q1_v in omega arith))
+      (λ e. part (omega arith)) b h
 
   account_then : (b : ℕ) → b ≢ g → b ≢ v → is_an_account (quota_in c2) b ≡ is_an_account q b
   account_then b ne_g ne_v = ap (λ z. eqb b 1 || not (eqb z 0)) (q2_other b ne_g ne_v)
 
   within_still : (b : ℕ) → has c.directories b ≡ true → b ≢ g → b ≢ v → load_in c2 b ≤ load_in c b → is_over c2 b ≡ false
   within_still b h ne_g ne_v le = false_from_ne_true _ (λ over.
-      (let both : (is_an_account (quota_in c2) b ≡ true) × (ltb (quota_in c2 b) (load_in c2 b) ≡ true) = and_parts (is_an_account (quota_in c2) b) (ltb (quota_in c2 b) (load_in c2 b)) over in
+      (let both : (is_an_account (quota_in c2) b ≡ true) × (ltb (quota_in c2 b) (load_in c2 b) ≡ true) =
+      and_parts (is_an_account (quota_in c2) b) (ltb (quota_in c2 b) (load_in c2 b)) over in
       let was : is_an_account q b ≡ true = sym (account_then b ne_g ne_v) ∙ both.0 in
       let in_quota : load_in c b ≤ q b = table.within b h was in
       let same : quota_in c2 b ≡ q b = q2_other b ne_g ne_v in
       let above : quota_in c2 b < load_in c2 b = ltb-true (quota_in c2 b) (load_in c2 b) both.1 in omega arith))
 
-  pub over_who : (b : ℕ) → has c.directories b ≡ true → is_over c2 b ≡ true → (b ≡ g) ⊎ ((b ≡ v) ⊎ ((q v ≡ n) × (covers (quota_in c1) (f v) b ≡ true) × (is_an_account (quota_in c1) b ≡ true)))
+  pub over_who : (b : ℕ) → has c.directories b ≡ true → is_over c2 b ≡ true
+      → (b ≡ g) ⊎ ((b ≡ v) ⊎ ((q v ≡ n) × (covers (quota_in c1) (f v) b ≡ true) × (is_an_account (quota_in c1) b ≡ true)))
   over_who b h over = elim (cases_eq b g) [
     | inl is_g ↦ inl is_g
     | inr ne_g ↦ elim (cases_eq b v) [
       | inl is_v ↦ inr (inl is_v)
       | inr ne_v ↦ elim (cases_eq (q v) n) [
-        | inr part ↦ absurd (both_ways (is_over c2 b) (within_still b h ne_g ne_v (let l : load_in c2 b ≡ load_in c1 b = load2_stays part b h in let le : load_in c1 b ≤ load_in c b = load1_le b h in omega arith)) over)
+        | inr part ↦ absurd (both_ways (is_over c2 b)
+            (within_still b h ne_g ne_v (let l : load_in c2 b ≡ load_in c1 b = load2_stays part b h in let le : load_in c1 b ≤ load_in c b = load1_le b h in
+            omega arith)) over)
         | inl all ↦ elim (cases_Bool (covers (quota_in c1) (f v) b)) [
-          | inr off ↦ absurd (both_ways (is_over c2 b) (within_still b h ne_g ne_v (let l = load2_rises all b h in let l' = rw off at l in let le : load_in c1 b ≤ load_in c b = load1_le b h in omega (arith, l'))) over)
+          | inr off ↦ absurd (both_ways (is_over c2 b)
+              (within_still b h ne_g ne_v (let l = load2_rises all b h in let l' = rw off at l in let le : load_in c1 b ≤ load_in c b = load1_le b h in
+              omega (arith, l'))) over)
           | inl on ↦
               (let both = and_parts (is_an_account (quota_in c2) b) (ltb (quota_in c2 b) (load_in c2 b)) over in
               let same : quota_in c2 b ≡ quota_in c1 b = q2_other b ne_g ne_v ∙ sym (q1_other b ne_g) in
@@ -168,7 +182,8 @@ module _ (nodes : List Node) (c : CellMaps) (table : IsTable c) (fits : Fits nod
     apart = table.apart;
     within = λ b h is. elim (cases_lt (quota_in c2 b) (load_in c2 b)) [
       | inr le ↦ le
-      | inl over ↦ absurd (passes (is_over c2) c.directories b h (and_from (is_an_account (quota_in c2) b) (ltb (quota_in c2 b) (load_in c2 b)) is (lt-ltb _ _ over)) none)
+      | inl over ↦ absurd (passes (is_over c2) c.directories b h
+          (and_from (is_an_account (quota_in c2) b) (ltb (quota_in c2 b) (load_in c2 b)) is (lt-ltb _ _ over)) none)
     ];
     total = rw total2 table.total;
   }
@@ -179,9 +194,11 @@ module _ (nodes : List Node) (c : CellMaps) (table : IsTable c) (fits : Fits nod
       let root_no : v ≢ 1 = λ z. both_ways (covers (quota_in c1) (f v) e) (rw (z, chains.root) refl) is in
       let ends : EndsAtRoot (f v) = chains.rooted v (uid_shape nodes v ∙ directory_in nodes v (sym (on_directories nodes fits v) ∙ here_v)) root_no in
       let there_e : has c.directories e ≡ true = covered_there (quota_in c1) c.directories (f v) e (all_there nodes c fits (f v) (chains.directories v)) is in
-      let same : covers (quota_in c2) (f v) e ≡ covers (quota_in c1) (f v) e = covers_above (quota_in c1) (quota_in c2) v (f v) e (quota_other nodes c1 even1 fits1 chains v (q v - n) here_v) (chains.under v) in
+      let same : covers (quota_in c2) (f v) e ≡ covers (quota_in c1) (f v) e =
+      covers_above (quota_in c1) (quota_in c2) v (f v) e (quota_other nodes c1 even1 fits1 chains v (q v - n) here_v) (chains.under v) in
       let bound : load_in c2 e < 2 ^ 32 = load_bound nodes c2 (table2 none) fits2 chains v e ends (same ∙ is) in
-      let rises : load_in c2 e ≡ load_in c1 e + load_in c1 v = load2_rises all e there_e ∙ ap (λ (t : Bool). cond t (load_in c1 e + load_in c1 v) (load_in c1 e)) is in
+      let rises : load_in c2 e ≡ load_in c1 e + load_in c1 v = load2_rises all e there_e
+      ∙ ap (λ (t : Bool). cond t (load_in c1 e + load_in c1 v) (load_in c1 e)) is in
       omega arith
 
   pub room1 : q g + n < 2 ^ 32
@@ -198,6 +215,7 @@ module _ (nodes : List Node) (c : CellMaps) (table : IsTable c) (fits : Fits nod
     some = some;
     enough = enough;
     fits = room1;
-    appears = λ zero e is. covers_more nodes c even fits chains g 0 here_g zero e (covered_there q c.directories (f g) e (all_there nodes c fits (f g) (chains.directories g)) is) is;
+    appears = λ zero e is. covers_more nodes c even fits chains g 0 here_g zero e
+        (covered_there q c.directories (f g) e (all_there nodes c fits (f g) (chains.directories g)) is) is;
     vanishes = λ all e is. room2 none all e is;
   }

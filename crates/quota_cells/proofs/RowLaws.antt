@@ -1,5 +1,6 @@
 -- Rows of cells in the order of uids, and their columns.
-use Rattle.std.proofs.Common.{◌≡◌, ◌≢◌, ℕ, suc, zero, ◌+◌, ◌<◌, ◌≤◌, true, false, eqb, List, [], ◌∷◌, length, map, drop, Result, Ok, Err, IfOk, IfErr, is_ok, refl, sym, ap, subst, ◌∙◌, arith, get_or, set, inl, inr}
+use Rattle.std.proofs.Common.{◌≡◌, ◌≢◌, ℕ, suc, zero, ◌+◌, ◌<◌, ◌≤◌, true, false, eqb, List, [], ◌∷◌, length, map, drop, Result, Ok, Err, IfOk, IfErr, is_ok}
+use Rattle.std.proofs.Common.{refl, sym, ap, subst, ◌∙◌, arith, get_or, set, inl, inr}
 use Rattle.std.specs.List.{insert, remove}
 use Rattle.std.specs.List.Sorted.{IsSearchInRange, IsBinarySearchResult, IsNonDecreasingBy}
 use Rattle.std.specs.Ordering.{nat_cmp, ordering_index}
@@ -12,7 +13,8 @@ use Rattle.std.proofs.Math.Seq.{map-set_same}
 use Rattle.quota_cells.specs.declared.directories.Cell.{Cell}
 use Rattle.quota_cells.specs.declared.segments.Count.{Count}
 use Rattle.quota_cells.specs.Accounts.{has, with_beside, without_beside, covers, changed_where}
-use Rattle.quota_cells.specs.Cells.{CellMaps, IsRising, quota_in, load_in, stored_in, with_loads, with_directory, without_directory, with_segment, without_segment}
+use Rattle.quota_cells.specs.Cells.{CellMaps, IsRising, quota_in, load_in, stored_in, with_loads, with_directory, without_directory, with_segment}
+use Rattle.quota_cells.specs.Cells.{without_segment}
 use Rattle.quota_cells.specs.Columns.{IsGap, directory_maps, segment_maps, cell_from}
 use Rattle.quota_cells.specs.Moves.{cell_in}
 use Rattle.quota_cells.proofs.PlaceLaws.{Going, going_here, going_next, going_ends, changed_none, look_at, has_at, gap_absent}
@@ -38,14 +40,21 @@ module _ {X : Type 0} (key : X → ℕ) (l : List X) (d : X) (rising : IsRising 
   -- a binary search ends at the uid, or where it would stand
   pub searched_by : (r : Result ℕ ℕ) → IsSearchInRange r (length l) → IsBinarySearchResult (λ x. nat_cmp (key x) uid) l r
       → record { found : IfOk r (λ i. i < length (map key l)); is : IfOk r (λ i. get_or (map key l) i 0 ≡ uid); gap : IfErr r (λ i. IsGap (map key l) uid i) }
-  searched_by (Ok at) within equal = record { found = (let n = size in omega (arith, within)); is = at_key at within ∙ ranked _ uid _ (sym (equal d)); gap = tt }
+  searched_by (Ok at) within equal = record {
+    found = (let n = size in omega (arith, within));
+    is = at_key at within
+        ∙ ranked _ uid _ (sym (equal d));
+    gap = tt;
+  }
   searched_by (Err at) within parted = record {
     found = tt;
     is = tt;
     gap = record {
       within = (let n = size in omega (arith, within));
-      below = λ j lt. (let n = size in let less : key (get_or l j d) < uid = ranked _ uid _ (sym ((parted comparisons_rise).0 j d (omega (arith, within)) lt)) in rw (at_key j (omega (arith, within))) less);
-      above = λ j le lt. (let n = size in let more : uid < key (get_or l j d) = ranked _ uid _ (sym ((parted comparisons_rise).1 j d le (omega arith))) in rw (at_key j (omega arith)) more);
+      below = λ j lt. (let n = size in let less : key (get_or l j d) < uid =
+          ranked _ uid _ (sym ((parted comparisons_rise).0 j d (omega (arith, within)) lt)) in rw (at_key j (omega (arith, within))) less);
+      above = λ j le lt. (let n = size in let more : uid < key (get_or l j d) = ranked _ uid _ (sym ((parted comparisons_rise).1 j d le (omega arith))) in
+          rw (at_key j (omega arith)) more);
     };
   }
 
@@ -131,50 +140,64 @@ uids_of cells = map (λ c. c.uid) cells
 abbrev counted : List Count → List ℕ
 counted counts = map (λ c. c.uid) counts
 
-pub entered_row : (cells : List Cell) (at uid : ℕ) → IsGap (map (λ c. c.uid) cells) uid at → directory_maps (insert cells at (record { uid = uid; quota = 0; load = 0 })) ≡ with_directory (directory_maps cells) uid
+pub entered_row : (cells : List Cell) (at uid : ℕ) → IsGap (map (λ c. c.uid) cells) uid at
+    → directory_maps (insert cells at (record { uid = uid; quota = 0; load = 0 })) ≡ with_directory (directory_maps cells) uid
 entered_row cells at uid gap =
     let n = length-map cells (λ c. c.uid) in
-    let quotas = map-insert (λ c. c.quota) cells at (record { uid = uid; quota = 0; load = 0 }) ∙ insert_beside (uids_of cells) (map (λ c. c.quota) cells) uid at 0 (length-map cells (λ c. c.quota) ∙ sym n) gap in
-    let loads = map-insert (λ c. c.load) cells at (record { uid = uid; quota = 0; load = 0 }) ∙ insert_beside (uids_of cells) (map (λ c. c.load) cells) uid at 0 (length-map cells (λ c. c.load) ∙ sym n) gap in
-    let uids = map-insert (λ c. c.uid) cells at (record { uid = uid; quota = 0; load = 0 }) ∙ insert_beside (uids_of cells) (uids_of cells) uid at uid refl gap in
+    let quotas = map-insert (λ c. c.quota) cells at (record { uid = uid; quota = 0; load = 0 })
+    ∙ insert_beside (uids_of cells) (map (λ c. c.quota) cells) uid at 0 (length-map cells (λ c. c.quota) ∙ sym n) gap in
+    let loads = map-insert (λ c. c.load) cells at (record { uid = uid; quota = 0; load = 0 })
+    ∙ insert_beside (uids_of cells) (map (λ c. c.load) cells) uid at 0 (length-map cells (λ c. c.load) ∙ sym n) gap in
+    let uids = map-insert (λ c. c.uid) cells at (record { uid = uid; quota = 0; load = 0 })
+    ∙ insert_beside (uids_of cells) (uids_of cells) uid at uid refl gap in
     λ i. record { directories = uids i; quotas = quotas i; loads = loads i; segments = []; stored = [] }
 
-pub left_row : (cells : List Cell) (at : ℕ) → IsRising (map (λ c. c.uid) cells) → at < length (map (λ c. c.uid) cells) → directory_maps (remove cells at) ≡ without_directory (directory_maps cells) (get_or (map (λ c. c.uid) cells) at 0)
+pub left_row : (cells : List Cell) (at : ℕ) → IsRising (map (λ c. c.uid) cells) → at < length (map (λ c. c.uid) cells)
+    → directory_maps (remove cells at) ≡ without_directory (directory_maps cells) (get_or (map (λ c. c.uid) cells) at 0)
 left_row cells at rising lt =
     let n = length-map cells (λ c. c.uid) in
-    let quotas = map-remove (λ c. c.quota) cells at ∙ remove_beside (uids_of cells) (map (λ c. c.quota) cells) at (length-map cells (λ c. c.quota) ∙ sym n) rising lt in
-    let loads = map-remove (λ c. c.load) cells at ∙ remove_beside (uids_of cells) (map (λ c. c.load) cells) at (length-map cells (λ c. c.load) ∙ sym n) rising lt in
+    let quotas = map-remove (λ c. c.quota) cells at
+    ∙ remove_beside (uids_of cells) (map (λ c. c.quota) cells) at (length-map cells (λ c. c.quota) ∙ sym n) rising lt in
+    let loads = map-remove (λ c. c.load) cells at
+    ∙ remove_beside (uids_of cells) (map (λ c. c.load) cells) at (length-map cells (λ c. c.load) ∙ sym n) rising lt in
     let uids = map-remove (λ c. c.uid) cells at ∙ remove_beside (uids_of cells) (uids_of cells) at refl rising lt in
     λ i. record { directories = uids i; quotas = quotas i; loads = loads i; segments = []; stored = [] }
 
-pub entered_counts : (counts : List Count) (at uid : ℕ) → IsGap (map (λ c. c.uid) counts) uid at → segment_maps (insert counts at (record { uid = uid; pages = 0 })) ≡ with_segment (segment_maps counts) uid
+pub entered_counts : (counts : List Count) (at uid : ℕ) → IsGap (map (λ c. c.uid) counts) uid at
+    → segment_maps (insert counts at (record { uid = uid; pages = 0 })) ≡ with_segment (segment_maps counts) uid
 entered_counts counts at uid gap =
-    let pages = map-insert (λ c. c.pages) counts at (record { uid = uid; pages = 0 }) ∙ insert_beside (counted counts) (map (λ c. c.pages) counts) uid at 0 (length-map counts (λ c. c.pages) ∙ sym (length-map counts (λ c. c.uid))) gap in
+    let pages = map-insert (λ c. c.pages) counts at (record { uid = uid; pages = 0 })
+    ∙ insert_beside (counted counts) (map (λ c. c.pages) counts) uid at 0 (length-map counts (λ c. c.pages) ∙ sym (length-map counts (λ c. c.uid))) gap in
     let uids = map-insert (λ c. c.uid) counts at (record { uid = uid; pages = 0 }) ∙ insert_beside (counted counts) (counted counts) uid at uid refl gap in
     λ i. record { directories = []; quotas = []; loads = []; segments = uids i; stored = pages i }
 
-pub left_counts : (counts : List Count) (at : ℕ) → IsRising (map (λ c. c.uid) counts) → at < length (map (λ c. c.uid) counts) → segment_maps (remove counts at) ≡ without_segment (segment_maps counts) (get_or (map (λ c. c.uid) counts) at 0)
+pub left_counts : (counts : List Count) (at : ℕ) → IsRising (map (λ c. c.uid) counts) → at < length (map (λ c. c.uid) counts)
+    → segment_maps (remove counts at) ≡ without_segment (segment_maps counts) (get_or (map (λ c. c.uid) counts) at 0)
 left_counts counts at rising lt =
-    let pages = map-remove (λ c. c.pages) counts at ∙ remove_beside (counted counts) (map (λ c. c.pages) counts) at (length-map counts (λ c. c.pages) ∙ sym (length-map counts (λ c. c.uid))) rising lt in
+    let pages = map-remove (λ c. c.pages) counts at
+    ∙ remove_beside (counted counts) (map (λ c. c.pages) counts) at (length-map counts (λ c. c.pages) ∙ sym (length-map counts (λ c. c.uid))) rising lt in
     let uids = map-remove (λ c. c.uid) counts at ∙ remove_beside (counted counts) (counted counts) at refl rising lt in
     λ i. record { directories = []; quotas = []; loads = []; segments = uids i; stored = pages i }
 
 -- a number of one cell set
-pub load_set : (cells : List Cell) (at n : ℕ) (x : Cell) → x ≡ get_or cells at x → directory_maps (set cells at (record x { load = n })) ≡ record (directory_maps cells) { loads = set (map (λ c. c.load) cells) at n }
+pub load_set : (cells : List Cell) (at n : ℕ) (x : Cell) → x ≡ get_or cells at x
+    → directory_maps (set cells at (record x { load = n })) ≡ record (directory_maps cells) { loads = set (map (λ c. c.load) cells) at n }
 load_set cells at n x read =
     let uids = map-set_same (λ c. c.uid) cells at (record x { load = n }) x (ap (λ (c : Cell). c.uid) read) in
     let quotas = map-set_same (λ c. c.quota) cells at (record x { load = n }) x (ap (λ (c : Cell). c.quota) read) in
     let loads = map-set (λ c. c.load) cells at (record x { load = n }) in
     λ i. record (directory_maps cells) { directories = uids i; quotas = quotas i; loads = loads i }
 
-pub quota_set : (cells : List Cell) (at n : ℕ) (x : Cell) → x ≡ get_or cells at x → directory_maps (set cells at (record x { quota = n })) ≡ record (directory_maps cells) { quotas = set (map (λ c. c.quota) cells) at n }
+pub quota_set : (cells : List Cell) (at n : ℕ) (x : Cell) → x ≡ get_or cells at x
+    → directory_maps (set cells at (record x { quota = n })) ≡ record (directory_maps cells) { quotas = set (map (λ c. c.quota) cells) at n }
 quota_set cells at n x read =
     let uids = map-set_same (λ c. c.uid) cells at (record x { quota = n }) x (ap (λ (c : Cell). c.uid) read) in
     let quotas = map-set (λ c. c.quota) cells at (record x { quota = n }) in
     let loads = map-set_same (λ c. c.load) cells at (record x { quota = n }) x (ap (λ (c : Cell). c.load) read) in
     λ i. record (directory_maps cells) { directories = uids i; quotas = quotas i; loads = loads i }
 
-pub pages_set : (counts : List Count) (at n : ℕ) (x : Count) → x ≡ get_or counts at x → segment_maps (set counts at (record x { pages = n })) ≡ record (segment_maps counts) { stored = set (map (λ c. c.pages) counts) at n }
+pub pages_set : (counts : List Count) (at n : ℕ) (x : Count) → x ≡ get_or counts at x
+    → segment_maps (set counts at (record x { pages = n })) ≡ record (segment_maps counts) { stored = set (map (λ c. c.pages) counts) at n }
 pages_set counts at n x read =
     let uids = map-set_same (λ c. c.uid) counts at (record x { pages = n }) x (ap (λ (c : Count). c.uid) read) in
     let stored = map-set (λ c. c.pages) counts at (record x { pages = n }) in
@@ -182,19 +205,22 @@ pages_set counts at n x read =
 
 -- ---- what a search tells
 
-pub pages_read : (counts : List Count) → IsRising (map (λ c. c.uid) counts) → (at uid : ℕ) → at < length (map (λ c. c.uid) counts) → get_or (map (λ c. c.uid) counts) at 0 ≡ uid → (x : Count) → x ≡ get_or counts at x
+pub pages_read : (counts : List Count) → IsRising (map (λ c. c.uid) counts) → (at uid : ℕ) → at < length (map (λ c. c.uid) counts)
+    → get_or (map (λ c. c.uid) counts) at 0 ≡ uid → (x : Count) → x ≡ get_or counts at x
     → x.pages ≡ stored_in (segment_maps counts) uid
 pages_read counts rising at uid lt is x read =
     ap (λ (c : Count). c.pages) read ∙ sym (get_or-map (λ c. c.pages) counts at x 0 (let n = length-map counts (λ c. c.uid) in omega arith))
     ∙ sym (look_at (map (λ c. c.uid) counts) (map (λ c. c.pages) counts) at rising lt) ∙ ap (stored_in (segment_maps counts)) is
 
-pub cell_found : (c : CellMaps) → IsRising c.directories → (at uid : ℕ) → at < length c.directories → get_or c.directories at 0 ≡ uid → cell_from c at ≡ cell_in c uid
+pub cell_found : (c : CellMaps) → IsRising c.directories → (at uid : ℕ) → at < length c.directories → get_or c.directories at 0 ≡ uid
+    → cell_from c at ≡ cell_in c uid
 cell_found c rising at uid lt is =
     let quota = sym (look_at c.directories c.quotas at rising lt) ∙ ap (quota_in c) is in
     let load = sym (look_at c.directories c.loads at rising lt) ∙ ap (load_in c) is in
     λ i. record { uid = is i; quota = quota i; load = load i }
 
-pub decided : (ks : List ℕ) (uid : ℕ) (r : Result ℕ ℕ) → IfOk r (λ i. i < length ks) → IfOk r (λ i. get_or ks i 0 ≡ uid) → IfErr r (λ i. IsGap ks uid i) → is_ok r ≡ has ks uid
+pub decided : (ks : List ℕ) (uid : ℕ) (r : Result ℕ ℕ) → IfOk r (λ i. i < length ks) → IfOk r (λ i. get_or ks i 0 ≡ uid) → IfErr r (λ i. IsGap ks uid i)
+    → is_ok r ≡ has ks uid
 decided ks uid (Ok i) lt is gap = sym (subst (λ u. has ks u ≡ true) is (has_at ks i lt))
 decided ks uid (Err i) lt is gap = sym (gap_absent ks uid i gap)
 
@@ -204,7 +230,8 @@ pub record Walks (g : ℕ → ℕ) (P : ℕ → Type 0) (start now : CellMaps) (
   pub kept : now ≡ with_loads start now.loads
   pub going : Going g P start.directories (quota_in start) left now.loads (changed_where g (covers (quota_in start) up) start.directories start.loads)
 
-module _ (g : ℕ → ℕ) (P : ℕ → Type 0) (start now : CellMaps) (rising : IsRising start.directories) (up : List ℕ) (i : ℕ) (lt : i < length up) (walks : Walks g P start now up (drop i up))
+module _ (g : ℕ → ℕ) (P : ℕ → Type 0) (start now : CellMaps) (rising : IsRising start.directories) (up : List ℕ) (i : ℕ) (lt : i < length up)
+    (walks : Walks g P start now up (drop i up))
     (p : ℕ) (within : p < length now.directories) (is : get_or now.directories p 0 ≡ get_or up i 0) where
   abbrev x : ℕ
   x = get_or up i 0
@@ -232,7 +259,8 @@ module _ (g : ℕ → ℕ) (P : ℕ → Type 0) (start now : CellMaps) (rising :
 
   pub walk_ends : get_or now.quotas p 0 ≢ 0 → with_loads now after ≡ with_loads start target
   walk_ends some = ap (λ (c : CellMaps). with_loads c after) walks.kept
-      ∙ ap (with_loads start) (going_ends g P start.directories rising (quota_in start) x (drop (i + 1) up) now.loads target going p in_start at_start (λ e. some (quota ∙ e)))
+      ∙ ap (with_loads start) (going_ends g P start.directories rising (quota_in start) x (drop (i + 1) up) now.loads target going p in_start at_start
+      (λ e. some (quota ∙ e)))
 
   pub walk_next : get_or now.quotas p 0 ≡ 0 → Walks g P start (with_loads now after) up (drop (i + 1) up)
   walk_next none = record {
@@ -240,5 +268,6 @@ module _ (g : ℕ → ℕ) (P : ℕ → Type 0) (start now : CellMaps) (rising :
     going = going_next g P start.directories rising (quota_in start) x (drop (i + 1) up) now.loads target going p in_start at_start (sym quota ∙ none);
   }
 
-pub walk_done : (g : ℕ → ℕ) (P : ℕ → Type 0) (start now : CellMaps) (up : List ℕ) → Walks g P start now up [] → now ≡ with_loads start (changed_where g (covers (quota_in start) up) start.directories start.loads)
+pub walk_done : (g : ℕ → ℕ) (P : ℕ → Type 0) (start now : CellMaps) (up : List ℕ) → Walks g P start now up []
+    → now ≡ with_loads start (changed_where g (covers (quota_in start) up) start.directories start.loads)
 walk_done g P start now up walks = walks.kept ∙ ap (with_loads start) (sym (changed_none g (quota_in start) start.directories now.loads) ∙ walks.going.so_far)

@@ -51,4 +51,5 @@ pub record CanGive (c : CellMaps) (getter : ℕ) (above_getter : List ℕ) (give
   pub appears : quota_in c getter ≡ 0 → (e : ℕ) → covers (quota_in c) above_getter e ≡ true → load_in c getter ≤ load_in c e
   pub vanishes : quota_in c giver ≡ pages
       → (e : ℕ) → covers (quota_in (with_quota c above_getter getter (quota_in c getter + pages))) above_giver e ≡ true
-      → load_in (with_quota c above_getter getter (quota_in c getter + pages)) e + load_in (with_quota c above_getter getter (quota_in c getter + pages)) giver < 2 ^ 32
+      → load_in (with_quota c above_getter getter (quota_in c getter + pages)) e + load_in
+      (with_quota c above_getter getter (quota_in c getter + pages)) giver < 2 ^ 32

@@ -4,7 +4,8 @@ ghost use Rattle.std.specs.Prelude.{◌≡◌, ◌≢◌, ℕ, ◌<◌, ◌≤�
 ghost use Rattle.std.specs.Prelude.{slice_index, slice_set, IfOk, IfErr};
 ghost use Rattle.tree_model.specs.Tree.{account};
 ghost use Rattle.quota_cells.specs.Accounts.{has, covers};
-ghost use Rattle.quota_cells.specs.Cells.{IsRising, quota_in, load_in, root_cell, with_loads, lifted, lowered, loads_then};
+ghost use Rattle.quota_cells.specs.Cells.{IsRising, quota_in, load_in, root_cell, with_loads, lifted, lowered};
+ghost use Rattle.quota_cells.specs.Cells.{loads_then};
 ghost use Rattle.quota_cells.specs.Cells.{with_quota, given, with_directory, without_directory};
 ghost use Rattle.quota_cells.specs.Columns.{IsGap, AreThere, IsFalling, CanGive, cell_from};
 ghost use Rattle.quota_cells.specs.Moves.{cell_in};

@@ -6,13 +6,14 @@
 //! becomes an account or is one no more, its load is taken from the directories above it up to the nearest account,
 //! or added there, and no page is counted again.
 //!
-//! Costs: `new` takes all memory, once: 12 bytes for the cell of each of 4097 directories, and 8 for the count of each of
-//! 4097 segments. A look-up halves one of the lists: at most 13 looks. To go up is to read the directories above a node from the tree, at most 9 with one look-up
-//! each, and to look their cells up to the first account. `credit` goes up once from the segment, for one page or for
-//! many, and `charge` reads what is above it once, and looks it up twice: to see whether the account is full, and to
-//! count. `move_quota` reads what is above the directory, and then what is above its superior to see whether the quota
-//! may move, where it looks at no more than three accounts for one that would be above its quota; then it goes up from
-//! each of the two directories. `enter` and `leave` move a part of a list by one place. None but `new` takes memory.
+//! Costs: `new` takes all memory, once: 12 bytes for the cell of each of 4097 directories, and 8 for the count of each
+//! of 4097 segments. A look-up halves one of the lists: at most 13 looks. To go up is to read the directories above a
+//! node from the tree, at most 9 with one look-up each, and to look their cells up to the first account. `credit` goes
+//! up once from the segment, for one page or for many, and `charge` reads what is above it once, and looks it up twice:
+//! to see whether the account is full, and to count. `move_quota` reads what is above the directory, and then what is
+//! above its superior to see whether the quota may move, where it looks at no more than three accounts for one that
+//! would be above its quota; then it goes up from each of the two directories. `enter` and `leave` move a part of a
+//! list by one place. None but `new` takes memory.
 #![tactic(auto)]
 
 ghost use Rattle.std.specs.Prelude.{◌≡◌, ◌≢◌, ◌<◌, ◌≤◌, ◌+◌, ◌-◌, ◌^◌, ◌==◌, ◌&&◌, ◌||◌, not, ℕ, Bool, true, false};
@@ -26,7 +27,8 @@ ghost use Rattle.tree_model.specs.Trees.{HasChains};
 ghost use Rattle.quota_cells.specs.Accounts.{has, covers, is_an_account};
 ghost use Rattle.quota_cells.specs.Columns.{AreThere, IsFalling, CanGive};
 ghost use Rattle.quota_cells.specs.Cells.{IsTable, quota_in, load_in, stored_in, used_in, Fits, AreWithin, root_cell};
-ghost use Rattle.quota_cells.specs.Cells.{charged, credited, charge_fault, has_cell, entered, left, Enters, Leaves, moved};
+ghost use Rattle.quota_cells.specs.Cells.{charged, credited, charge_fault, has_cell, entered, left, Enters, Leaves};
+ghost use Rattle.quota_cells.specs.Cells.{moved};
 ghost use Rattle.quota_cells.specs.Cells.{move_answer, first_over, given, CountsUsed};
 ghost use Rattle.tree_model.specs.Quotas.{superior_of, tree_moved};
 ghost use Rattle.quota_cells.specs.Moves.{LiesIn, cell_in};

@@ -1,5 +1,6 @@
 -- A trailer that is in a list has a place there.
-use Rattle.std.proofs.Common.{◌≡◌, ℕ, ◌<◌, ◌≤◌, Bool, true, false, cond, ltb, not, List, length, Some, None, refl, arith, get_or, Contains, IsSome, position, ap, ◌∙◌}
+use Rattle.std.proofs.Common.{◌≡◌, ℕ, ◌<◌, ◌≤◌, Bool, true, false, cond, ltb, not, List, length, Some, None, refl, arith, get_or, Contains, IsSome, position}
+use Rattle.std.proofs.Common.{ap, ◌∙◌}
 use Rattle.std.specs.List.{position_or_len}
 use Rattle.std.proofs.lemmas.Bool.{ltb-false, not-true, both_ways, eq-eqb, and_from}
 use Rattle.std.proofs.lemmas.List.Sums.{prefix_len_passes}

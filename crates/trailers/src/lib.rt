@@ -2,7 +2,8 @@
 //! table, so that all of them can be cut when the segment changes or goes.
 #![tactic(auto)]
 
-ghost use Rattle.std.specs.Prelude.{◌≡◌, ◌<◌, ◌≤◌, ◌++◌, ◌∷◌, [], Some, IsSome, length, replicate, slice_get, IfOk, Contains};
+ghost use Rattle.std.specs.Prelude.{◌≡◌, ◌<◌, ◌≤◌, ◌++◌, ◌∷◌, [], Some, IsSome, length, replicate, slice_get, IfOk};
+ghost use Rattle.std.specs.Prelude.{Contains};
 ghost use Rattle.trailers.specs.Trailer.{trailers_of, place_in, without_trailer, connected, cut_off};
 
 use arrayvec::ArrayVec;

@@ -1,4 +1,5 @@
-use Rattle.std.proofs.Common.{◌≡◌, ◌≢◌, ℕ, zero, suc, ◌+◌, ◌<◌, ◌≤◌, ◌^◌, Bool, true, false, ◌||◌, ◌&&◌, cond, eqb, List, [], ◌∷◌, length, refl, sym, ap, ◌∙◌, arith, inl, inr, ◌⊎◌}
+use Rattle.std.proofs.Common.{◌≡◌, ◌≢◌, ℕ, zero, suc, ◌+◌, ◌<◌, ◌≤◌, ◌^◌, Bool, true, false, ◌||◌, ◌&&◌, cond, eqb, List, [], ◌∷◌, length, refl, sym, ap, ◌∙◌}
+use Rattle.std.proofs.Common.{arith, inl, inr, ◌⊎◌}
 use Rattle.std.specs.Bool.{beq}
 use Rattle.std.specs.List.{list_any}
 use Rattle.std.proofs.lemmas.Bool.{lt-ltb, le-ltb}
@@ -67,7 +68,8 @@ unfolding named_calls
 named_one line write zero single = record { most = omega arith; early = λ lt. refl }
 named_one line write (suc n) single = go (eqb_tells line.number (suc n)) (beq line.write write) refl (named_one line write n single)
   where
-    go : ((eqb line.number (suc n) ≡ true) × (line.number ≡ suc n)) ⊎ ((eqb line.number (suc n) ≡ false) × (line.number ≢ suc n)) → (k : Bool) → beq line.write write ≡ k
+    go : ((eqb line.number (suc n) ≡ true) × (line.number ≡ suc n)) ⊎ ((eqb line.number (suc n) ≡ false) × (line.number ≢ suc n)) → (k : Bool)
+        → beq line.write write ≡ k
         → NamesOne line write n → NamesOne line write (suc n)
     go (inl h) true kind ih = let add = names_at line write (suc n) true true single kind h.0 in let zero_before = ih.early (omega (arith, h.1)) in
         record { most = omega (arith, add, zero_before); early = λ lt. absurd (omega (arith, h.1)) }

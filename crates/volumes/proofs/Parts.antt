@@ -1,4 +1,5 @@
-use Rattle.std.proofs.Common.{◌≡◌, ◌≢◌, ℕ, zero, suc, ◌≤◌, ◌<◌, ◌^◌, Bool, true, false, List, [], ◌∷◌, ◌++◌, length, Option, None, Some, Result, Ok, Err, refl, sym, ap, ◌∙◌, arith, get_or, set, replicate, map, slice_get, IfSome, IfNone, OnOk, OnErr, sum_by}
+use Rattle.std.proofs.Common.{◌≡◌, ◌≢◌, ℕ, zero, suc, ◌≤◌, ◌<◌, ◌^◌, Bool, true, false, List, [], ◌∷◌, ◌++◌, length, Option, None, Some, Result, Ok, Err}
+use Rattle.std.proofs.Common.{refl, sym, ap, ◌∙◌, arith, get_or, set, replicate, map, slice_get, IfSome, IfNone, OnOk, OnErr, sum_by}
 use Rattle.site_io.specs.Faults.{Rose}
 use Rattle.std.proofs.lemmas.List.Sums.{sum_by-set, get_or-le-sum_by}
 use Rattle.std.proofs.lemmas.List.{get_or-set_same, map-set, get_or-map, map-append, length-map, length-set, length-replicate, set-get_or}
@@ -27,8 +28,10 @@ parts_with_records disks records vtocs v x y h read long = record {
   tables = h.tables;
 }
 
-pub parts_with_drive : {D : Type 0} (pages : D → List (List ℕ)) (drives : List D) (records : List (List Bool)) (vtocs : List (List (Option Entry))) (v : ℕ) (x y : D)
-    → HasParts (map pages drives) records vtocs → x ≡ get_or drives v x → length (pages y) ≡ length (pages x) → HasParts (map pages (set drives v y)) records vtocs
+pub parts_with_drive : {D : Type 0} (pages : D → List (List ℕ)) (drives : List D) (records : List (List Bool)) (vtocs : List (List (Option Entry))) (v : ℕ)
+    (x y : D)
+    → HasParts (map pages drives) records vtocs → x ≡ get_or drives v x → length (pages y) ≡ length (pages x)
+    → HasParts (map pages (set drives v y)) records vtocs
 parts_with_drive pages drives records vtocs v x y h read long =
     let count : length (map pages (set drives v y)) ≡ length (map pages drives) =
     length-map (set drives v y) pages ∙ length-set drives v y ∙ sym (length-map drives pages) in
@@ -45,7 +48,8 @@ pub length_after_withdraw : (result : Option ℕ) (x y : List Bool) → IfSome r
 length_after_withdraw None x y some none = ap length none
 length_after_withdraw (Some r) x y some none = ap length some ∙ length-set x r true
 
-pub length_after_write : (result : Result (Unit {0}) Failed) (x y : List (List ℕ)) (r : ℕ) (words : List ℕ) → OnOk result (y ≡ set x r words) → OnErr result (y ≡ x)
+pub length_after_write : (result : Result (Unit {0}) Failed) (x y : List (List ℕ)) (r : ℕ) (words : List ℕ) → OnOk result (y ≡ set x r words)
+    → OnErr result (y ≡ x)
     → length y ≡ length x
 length_after_write (Ok u) x y r words ok err = ap length ok ∙ length-set x r words
 length_after_write (Err e) x y r words ok err = ap length err
@@ -62,10 +66,12 @@ pub keeps_others : {D : Type 0} (drives : List D) (v : ℕ) (y : D) → KeepsOth
 keeps_others drives v y = record { same = λ w ne. get_other drives v w y ne }
 
 -- a volume has as many flags as its drive has pages
-pub size_of_records : {D : Type 0} (pages : D → List (List ℕ)) (drives : List D) (records : List (List Bool)) (vtocs : List (List (Option Entry))) (v : ℕ) (x : D)
+pub size_of_records : {D : Type 0} (pages : D → List (List ℕ)) (drives : List D) (records : List (List Bool)) (vtocs : List (List (Option Entry))) (v : ℕ)
+    (x : D)
     → HasParts (map pages drives) records vtocs → v < length drives → x ≡ get_or drives v x → length (pages x) ≡ length (get_or records v [])
 size_of_records pages drives records vtocs v x h lt read =
-    let many : length records ≡ length drives = sym (length-map records length) ∙ ap length h.sizes ∙ length-map (map pages drives) length ∙ length-map drives pages in
+    let many : length records ≡ length drives = sym (length-map records length) ∙ ap length h.sizes ∙ length-map (map pages drives) length
+    ∙ length-map drives pages in
     let there : v < length records = omega (arith, many) in
     let disk : v < length (map pages drives) = omega (arith, length-map drives pages) in
     ap (λ (d : _). length (pages d)) read ∙ sym (ap length (get_or-map pages drives v x [] lt))
@@ -73,11 +79,13 @@ size_of_records pages drives records vtocs v x h lt read =
 
 -- volumes that were just made
 sizes_made : {D : Type 0} (pages : D → List (List ℕ)) (parts : List (Part D))
-    → map length (map (λ (part : Part D). replicate (length (pages part.drive)) false) parts) ≡ map length (map pages (map (λ (part : Part D). part.drive) parts))
+    → map length (map (λ (part : Part D). replicate (length (pages part.drive)) false) parts) ≡ map length
+    (map pages (map (λ (part : Part D). part.drive) parts))
 sizes_made pages [] = refl
 sizes_made pages (part ∷ parts) = rw (length-replicate (length (pages part.drive)) false, sizes_made pages parts) refl
 
-pub parts_made : {D : Type 0} (pages : D → List (List ℕ)) (parts : List (Part D)) (drives : List D) (records : List (List Bool)) (vtocs : List (List (Option Entry)))
+pub parts_made : {D : Type 0} (pages : D → List (List ℕ)) (parts : List (Part D)) (drives : List D) (records : List (List Bool))
+    (vtocs : List (List (Option Entry)))
     → length parts < 2 ^ 32 → drives ≡ map (λ (part : Part D). part.drive) parts
     → records ≡ map (λ (part : Part D). replicate (length (pages part.drive)) false) parts
     → vtocs ≡ map (λ (part : Part D). replicate part.entries None) parts → HasParts (map pages drives) records vtocs
@@ -126,7 +134,8 @@ pub few_with : {D : Type 0} (plan : D → Option (List FailLine)) (faults : D �
     → HasFewFaults (plan y) (faults y) → HaveFewFaults plan faults (set drives v y)
 few_with plan faults drives v y all few = All-set (λ d. HasFewFaults (plan d) (faults d)) drives v y few all
 
-pub few_more : {D : Type 0} (plan : D → Option (List FailLine)) (faults : D → ℕ) (drives now : List D) (d : D) → now ≡ drives ++ d ∷ [] → HaveFewFaults plan faults drives
+pub few_more : {D : Type 0} (plan : D → Option (List FailLine)) (faults : D → ℕ) (drives now : List D) (d : D) → now ≡ drives ++ d ∷ []
+    → HaveFewFaults plan faults drives
     → HasFewFaults (plan d) (faults d) → HaveFewFaults plan faults now
 few_more plan faults drives now d is all few = rw is (All-push (λ d. HasFewFaults (plan d) (faults d)) drives d all few)
 

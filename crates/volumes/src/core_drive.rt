@@ -1,4 +1,5 @@
-ghost use Rattle.std.specs.Prelude.{◌≡◌, ◌≤◌, ◌<◌, ◌↔◌, ℕ, Bool, true, false, List, [], Option, Some, length, replicate, slice_index_or, slice_set, vec_len, IfOk, OnOk, OnErr, IsTrue, IsErr};
+ghost use Rattle.std.specs.Prelude.{◌≡◌, ◌≤◌, ◌<◌, ◌↔◌, ℕ, Bool, true, false, List, [], Option, Some, length};
+ghost use Rattle.std.specs.Prelude.{replicate, slice_index_or, slice_set, vec_len, IfOk, OnOk, OnErr, IsTrue, IsErr};
 ghost use Rattle.std.specs.List.{list_any};
 ghost use Rattle.site_io.specs.Faults.{Rose};
 ghost use Rattle.volumes.specs.FailLine.{names, names_next, HasFewFaults};

@@ -1,4 +1,6 @@
-ghost use Rattle.std.specs.Prelude.{◌≡◌, ◌≤◌, ◌<◌, ◌+◌, ℕ, Bool, true, false, List, [], ◌∷◌, ◌++◌, Option, Some, length, map, sum_by, All, slice_get, slice_index_or, IfOk, IfSome, IfNone, OnOk, OnErr};
+ghost use Rattle.std.specs.Prelude.{◌≡◌, ◌≤◌, ◌<◌, ◌+◌, ℕ, Bool, true, false, List, [], ◌∷◌, ◌++◌, Option, Some};
+ghost use Rattle.std.specs.Prelude.{length, map, sum_by, All, slice_get, slice_index_or, IfOk, IfSome, IfNone, OnOk};
+ghost use Rattle.std.specs.Prelude.{OnErr};
 ghost use Rattle.std.specs.Borrow.{sem};
 ghost use Rattle.site_io.specs.Faults.{Rose};
 ghost use Rattle.record_map.specs.Bitmap.{in_use, least_free, IsLeastFree};
@@ -142,8 +144,8 @@ impl<D: Drive> Volumes<D> {
         &mut self.vtocs[v as usize]
     }
 
-    /// Reads record `r` of volume `v` into `to`. After `Failed`, `to` is as before; it comes only where the count of that
-    /// drive's faults rose, and so the sum of all. It costs one read of the drive. (Source: Organick 1972.)
+    /// Reads record `r` of volume `v` into `to`. After `Failed`, `to` is as before; it comes only where the count of
+    /// that drive's faults rose, and so the sum of all. It costs one read of the drive. (Source: Organick 1972.)
     #[tactic(auto, using(crate::proofs::Drives::one_drive))]
     pub fn read_page(&mut self, v: u32, r: u32, to: &mut Page) -> Result<(), Failed>
         requires volume { v < length self.old.drives }
@@ -154,7 +156,8 @@ impl<D: Drive> Volumes<D> {
 
         // What becomes of the rest.
         ensures rose { OnErr result (Rose (sum_by D.faults self.old.drives) (sum_by D.faults self.new.drives)) }
-        ensures its { OnErr result (Rose (faults_at D.faults self.old.drives v) (faults_at D.faults self.new.drives v)) }
+        ensures its { OnErr result
+            (Rose (faults_at D.faults self.old.drives v) (faults_at D.faults self.new.drives v)) }
         ensures grows { sum_by D.faults self.old.drives ≤ sum_by D.faults self.new.drives }
         ensures plans { map D.plan self.new.drives ≡ map D.plan self.old.drives }
         ensures places { map D.places self.new.drives ≡ map D.places self.old.drives }
@@ -165,8 +168,8 @@ impl<D: Drive> Volumes<D> {
         self.drives[v as usize].read_page(r, to)
     }
 
-    /// Makes record `r` of volume `v` the page `from`. After `Failed` no page has changed; it comes only where the count
-    /// of that drive's faults rose, and so the sum of all. It costs one write of the drive. (Source: Organick 1972.)
+    /// Makes record `r` of volume `v` the page `from`. After `Failed` no page has changed; it comes only where the
+    /// count of that drive's faults rose, and so the sum of all. It costs one write of the drive. (Source: Organick 1972.)
     #[tactic(auto, using(crate::proofs::Drives::one_drive))]
     pub fn write_page(&mut self, v: u32, r: u32, from: &Page) -> Result<(), Failed>
         requires volume { v < length self.old.drives }
@@ -176,7 +179,8 @@ impl<D: Drive> Volumes<D> {
 
         // What becomes of the rest.
         ensures rose { OnErr result (Rose (sum_by D.faults self.old.drives) (sum_by D.faults self.new.drives)) }
-        ensures its { OnErr result (Rose (faults_at D.faults self.old.drives v) (faults_at D.faults self.new.drives v)) }
+        ensures its { OnErr result
+            (Rose (faults_at D.faults self.old.drives v) (faults_at D.faults self.new.drives v)) }
         ensures grows { sum_by D.faults self.old.drives ≤ sum_by D.faults self.new.drives }
         ensures plans { map D.plan self.new.drives ≡ map D.plan self.old.drives }
         ensures places { map D.places self.new.drives ≡ map D.places self.old.drives }

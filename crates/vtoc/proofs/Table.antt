@@ -1,8 +1,10 @@
-use Rattle.std.proofs.Common.{◌≡◌, ℕ, zero, suc, ◌+◌, ◌<◌, ◌≤◌, ◌^◌, Bool, true, false, not, cond, List, [], ◌∷◌, length, Option, None, Some, refl, sym, ap, ◌∙◌, arith, get_or, set, replicate, map, inl, inr, ◌⊎◌, IsSome, is_some, is_none, count_by, All}
+use Rattle.std.proofs.Common.{◌≡◌, ℕ, zero, suc, ◌+◌, ◌<◌, ◌≤◌, ◌^◌, Bool, true, false, not, cond, List, [], ◌∷◌, length, Option, None, Some, refl, sym, ap}
+use Rattle.std.proofs.Common.{◌∙◌, arith, get_or, set, replicate, map, inl, inr, ◌⊎◌, IsSome, is_some, is_none, count_by, All}
 use Rattle.std.specs.List.{prefix_len}
 use Rattle.std.proofs.lemmas.Bool.{cases_eq}
 use Rattle.std.proofs.lemmas.Bool.Decides.{leb_tells}
-use Rattle.std.proofs.lemmas.List.{map-set, get_or-map, get_or_past, length-map, length-set, length-replicate, get_or-set_same, get_or-set_other, set-get_or, get_or_read, get_or-replicate, ext_get_or}
+use Rattle.std.proofs.lemmas.List.{map-set, get_or-map, get_or_past, length-map, length-set, length-replicate, get_or-set_same, get_or-set_other, set-get_or}
+use Rattle.std.proofs.lemmas.List.{get_or_read, get_or-replicate, ext_get_or}
 use Rattle.std.proofs.lemmas.List.Elements.{All-get_or, All-from_get_or}
 use Rattle.std.proofs.lemmas.List.Sums.{sum_by-cons, sum_by-set}
 use Rattle.bitmap.specs.Bitmap.{in_use, least_free, IsLeastFree}
@@ -61,7 +63,8 @@ pub none_from : (uid : Option ℕ) → is_some uid ≡ false → uid ≡ None
 none_from None h = refl
 none_from (Some uid) h = cc
 
-pub with_record_seen : (uid : Option ℕ) (records : List (Option ℕ)) (p : ℕ) (r : Option ℕ) → seen_as uid (set records p r) ≡ with_record (seen_as uid records) p r
+pub with_record_seen : (uid : Option ℕ) (records : List (Option ℕ)) (p : ℕ) (r : Option ℕ)
+    → seen_as uid (set records p r) ≡ with_record (seen_as uid records) p r
 with_record_seen None records p r = refl
 with_record_seen (Some uid) records p r = refl
 
@@ -70,7 +73,8 @@ pub bit_is : (in_use_ : List Bool) (slots : List Slot) (e : ℕ) → IsMarked in
 bit_is flags slots e h = ap (λ (fs : List Bool). in_use fs e) h.marks ∙ elim (below_or_past e (length slots)) [
   | inl lt ↦ get_or-map (λ (slot : Slot). is_some slot.uid) slots e free_slot false lt
   | inr past ↦ (let long : length (map (λ (slot : Slot). is_some slot.uid) slots) ≤ e = omega (arith, length-map slots (λ (slot : Slot). is_some slot.uid)) in
-      get_or_past (map (λ (slot : Slot). is_some slot.uid) slots) e false long ∙ sym (ap (λ (slot : Slot). is_some slot.uid) (get_or_past slots e free_slot past)))
+      get_or_past (map (λ (slot : Slot). is_some slot.uid) slots) e false long
+      ∙ sym (ap (λ (slot : Slot). is_some slot.uid) (get_or_past slots e free_slot past)))
 ]
 
 pub length_bits : (flags : List Bool) (slots : List Slot) → IsMarked flags slots → length flags ≡ length slots
@@ -82,7 +86,8 @@ pub record IsKept (flags : List Bool) (slots : List Slot) (table : List (Option 
   pub records : records_in (entry_at table e) ≡ (slot_at slots e).map
   pub uid : uid_of (entry_at table e) ≡ (slot_at slots e).uid
 
-pub kept : (flags : List Bool) (slots : List Slot) (table : List (Option Entry)) (e : ℕ) → IsMarked flags slots → table_of slots ≡ table → IsKept flags slots table e
+pub kept : (flags : List Bool) (slots : List Slot) (table : List (Option Entry)) (e : ℕ) → IsMarked flags slots → table_of slots ≡ table
+    → IsKept flags slots table e
 kept flags slots table e h view =
     let entry : entry_at table e ≡ entry_of (slot_at slots e) = ap (λ (t : List (Option Entry)). entry_at t e) (sym view) ∙ entry_is slots e in
     record {
@@ -160,7 +165,8 @@ first_step : (uid : Option ℕ) (records : List (Option ℕ)) (a b : ℕ) → a 
 first_step None records a b e = refl
 first_step (Some uid) records a b e = ap (λ n. 1 + n) e
 
-first_same : (slots : List Slot) → prefix_len (λ flag. not (not flag)) (map (λ (slot : Slot). is_some slot.uid) slots) ≡ prefix_len (λ entry. not (is_none entry)) (map entry_of slots)
+first_same : (slots : List Slot) → prefix_len (λ flag. not (not flag)) (map (λ (slot : Slot). is_some slot.uid) slots) ≡ prefix_len
+    (λ entry. not (is_none entry)) (map entry_of slots)
 first_same [] = refl
 first_same (slot ∷ slots) = first_step slot.uid slot.map _ _ (first_same slots)
 
@@ -284,7 +290,8 @@ put_table flags slots table e p x m r h view used read is =
     (ap (seen_as x.uid) is ∙ with_record_seen x.uid x.map p r
     ∙ ap (λ (entry : Option Entry). with_record entry p r) (ap entry_of slot ∙ sym (kept flags slots table e h view).entry))
 
-placed_in : (entry : Option Entry) (p : ℕ) (r : Option ℕ) → IsSome entry → p < length (records_in entry) → get_or (records_in (with_record entry p r)) p None ≡ r
+placed_in : (entry : Option Entry) (p : ℕ) (r : Option ℕ) → IsSome entry → p < length (records_in entry)
+    → get_or (records_in (with_record entry p r)) p None ≡ r
 placed_in None p r used lt = cc
 placed_in (Some entry) p r used lt = get_or-set_same entry.records p r None lt
 
@@ -304,7 +311,8 @@ allocate_marked flags fs slots e uid x h least read is =
     let slot = slot_read slots e x lt read in
     rw is (marked_with flags slots e _ h lt (λ none. used_uid (Some uid) x.map refl none) (ap (λ (s : Slot). length s.map) slot ∙ h.places e))
 
-pub allocate_table : (flags : List Bool) (slots : List Slot) (table : List (Option Entry)) (e uid : ℕ) (x : Slot) → IsMarked flags slots → table_of slots ≡ table
+pub allocate_table : (flags : List Bool) (slots : List Slot) (table : List (Option Entry)) (e uid : ℕ) (x : Slot) → IsMarked flags slots
+    → table_of slots ≡ table
     → IsLeastFree flags e → x ≡ get_or slots e x → table_of (set slots e (record { uid = Some uid; map = x.map })) ≡ set table e (fresh_entry uid)
 allocate_table flags slots table e uid x h view least read =
     let lt : e < length slots = omega (arith, least.within, length_bits flags slots h) in

@@ -11,9 +11,11 @@
 
 mod file_map;
 
-ghost use Rattle.std.specs.Prelude.{◌≡◌, ◌<◌, ◌^◌, ◌+◌, ◌-◌, List, Option, None, Some, length, replicate, slice_set, count_by, is_some, All, IsSome, IfOk, IfSome, IfNone};
+ghost use Rattle.std.specs.Prelude.{◌≡◌, ◌<◌, ◌^◌, ◌+◌, ◌-◌, List, Option, None, Some, length, replicate, slice_set};
+ghost use Rattle.std.specs.Prelude.{count_by, is_some, All, IsSome, IfOk, IfSome, IfNone};
 ghost use Rattle.std.specs.Option.{ForSome};
-ghost use Rattle.vtoc.specs.Vtoc.{Entry, entry_at, uid_of, record_at, fresh_entry, with_record, least_free_entry, IsLeastFreeEntry, HasFullMaps, NamesNoRecord};
+ghost use Rattle.vtoc.specs.Vtoc.{Entry, entry_at, uid_of, record_at, fresh_entry, with_record, least_free_entry};
+ghost use Rattle.vtoc.specs.Vtoc.{IsLeastFreeEntry, HasFullMaps, NamesNoRecord};
 ghost use Rattle.vtoc.specs.Slots.{free_slot};
 
 use bitmap::Bitmap;

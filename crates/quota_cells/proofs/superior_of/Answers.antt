@@ -9,13 +9,16 @@ pub superiors-up-requires : goal.superiors-up-requires
 superiors-up-requires c = directory_in c.args.t.now.nodes c.args.dir c.requires.directory
 
 pub bounds-as_slice-0 : goal.bounds-as_slice-0
-bounds-as_slice-0 c = rw (c.as_slice.ensures.value, c.superiors-up.ensures.plain) (not_empty c.args.t.now.nodes c.superiors-up.ensures.chains c.args.dir c.requires.directory c.requires.branch)
+bounds-as_slice-0 c = rw (c.as_slice.ensures.value, c.superiors-up.ensures.plain)
+    (not_empty c.args.t.now.nodes c.superiors-up.ensures.chains c.args.dir c.requires.directory c.requires.branch)
 
 pub returns : goal.returns
 returns c =
     let up : c.as_slice.result.now ≡ above (shapes c.args.t.now.nodes) c.args.dir = c.as_slice.ensures.value ∙ c.superiors-up.ensures.plain in
-    let first : IsBelow c.args.t.now.nodes c.args.dir (get_or (above (shapes c.args.t.now.nodes) c.args.dir) 0 0) = top c.args.t.now.nodes c.superiors-up.ensures.chains c.args.dir c.requires.directory c.requires.branch in
-    let below : IsBelow c.args.t.now.nodes c.args.dir (get_or c.as_slice.result.now 0 0) = subst (λ (xs : List ℕ). IsBelow c.args.t.now.nodes c.args.dir (get_or xs 0 0)) (sym up) first in
+    let first : IsBelow c.args.t.now.nodes c.args.dir (get_or (above (shapes c.args.t.now.nodes) c.args.dir) 0 0) =
+    top c.args.t.now.nodes c.superiors-up.ensures.chains c.args.dir c.requires.directory c.requires.branch in
+    let below : IsBelow c.args.t.now.nodes c.args.dir (get_or c.as_slice.result.now 0 0) =
+    subst (λ (xs : List ℕ). IsBelow c.args.t.now.nodes c.args.dir (get_or xs 0 0)) (sym up) first in
     record {
       lies = record {
         directory = c.requires.directory;

@@ -11,15 +11,19 @@ add_branch-requires-clause-directory c = directory_of c.self.inside.tree c.self.
 pub enter-requires-clause-absent : goal.enter-requires-clause-absent
 enter-requires-clause-absent c =
     let next : c.in_ok-uid.uid ≡ c.self.inside.tree.next = unless_ok _ _ _ (c.in_ok-uid.ensures.answer (λ u. 0)) in
-    on_nodes c.self.inside.tree.nodes c.self.invariant c.in_ok-uid.uid ∙ (subst (λ u. is_in c.self.inside.tree.nodes u ≡ false) (sym next) c.add_branch.ensures.fresh)
+    on_nodes c.self.inside.tree.nodes c.self.invariant c.in_ok-uid.uid
+    ∙ (subst (λ u. is_in c.self.inside.tree.nodes u ≡ false) (sym next) c.add_branch.ensures.fresh)
 
 pub invariant_of-self-2 : goal.invariant_of-self-2
 invariant_of-self-2 c =
     let next : c.in_ok-uid.uid ≡ c.self.inside.tree.next = unless_ok _ _ _ (c.in_ok-uid.ensures.answer (λ u. 0)) in
-    enters_fit c.self.inside.tree c.add_branch.new.self c.args.superior c.args.new c.in_ok-uid.uid c.self.inside.cells c.enter.new.self c.in_ok-uid.ensures.ok next c.add_branch.ensures.fresh c.add_branch.ensures.chains c.self.invariant c.enter.ensures.fits
+    enters_fit c.self.inside.tree c.add_branch.new.self c.args.superior c.args.new c.in_ok-uid.uid c.self.inside.cells c.enter.new.self c.in_ok-uid.ensures.ok
+    next c.add_branch.ensures.fresh c.add_branch.ensures.chains c.self.invariant c.enter.ensures.fits
 
 pub returns-clause-ok : goal.returns-clause-ok
 returns-clause-ok c =
     let next : c.in_ok-uid.uid ≡ c.self.inside.tree.next = unless_ok _ _ _ (c.in_ok-uid.ensures.answer (λ u. 0)) in
-    subst (λ (a : AccountMaps). Gains a (accounts_of c.add_branch.new.self c.enter.new.self) (branch_of a.next c.args.superior c.args.new) c.args.new.entry) c.self.view_is
-    (gained c.self.inside.tree c.add_branch.new.self c.args.superior c.args.new c.in_ok-uid.uid c.self.inside.cells c.enter.new.self c.in_ok-uid.ensures.ok next c.add_branch.ensures.fresh c.self.invariant c.enter.ensures.enters)
+    subst (λ (a : AccountMaps). Gains a (accounts_of c.add_branch.new.self c.enter.new.self) (branch_of a.next c.args.superior c.args.new) c.args.new.entry)
+    c.self.view_is
+    (gained c.self.inside.tree c.add_branch.new.self c.args.superior c.args.new c.in_ok-uid.uid c.self.inside.cells c.enter.new.self c.in_ok-uid.ensures.ok
+    next c.add_branch.ensures.fresh c.self.invariant c.enter.ensures.enters)

@@ -9,5 +9,7 @@ credit_pages-requires-clause-segment c = segment_of c.self.inside.tree c.self.in
 
 pub returns : goal.returns
 returns c =
-    subst (λ (a : AccountMaps). Recounts a (accounts_of c.self.inside.tree c.credit_pages.new.self) c.args.seg (count_of a c.args.seg - c.args.pages)) c.self.view_is
-    (recounted c.self.inside.tree c.self.inside.cells c.credit_pages.new.self c.args.seg (stored_in c.self.inside.cells c.args.seg - c.args.pages) c.credit_pages.ensures.quotas c.credit_pages.ensures.stored)
+    subst (λ (a : AccountMaps). Recounts a (accounts_of c.self.inside.tree c.credit_pages.new.self) c.args.seg (count_of a c.args.seg - c.args.pages))
+    c.self.view_is
+    (recounted c.self.inside.tree c.self.inside.cells c.credit_pages.new.self c.args.seg
+    (stored_in c.self.inside.cells c.args.seg - c.args.pages) c.credit_pages.ensures.quotas c.credit_pages.ensures.stored)

@@ -9,7 +9,8 @@ pub remove-requires-clause-there : goal.remove-requires-clause-there
 remove-requires-clause-there c = there_of c.self.inside.tree c.self.inside.cells c.args.self.now c.self.view_is c.args.uid c.requires.there
 
 pub leave-requires-clause-cell : goal.leave-requires-clause-cell
-leave-requires-clause-cell c = on_nodes c.self.inside.tree.nodes c.self.invariant c.args.uid ∙ (there_of c.self.inside.tree c.self.inside.cells c.args.self.now c.self.view_is c.args.uid c.requires.there)
+leave-requires-clause-cell c = on_nodes c.self.inside.tree.nodes c.self.invariant c.args.uid
+    ∙ (there_of c.self.inside.tree c.self.inside.cells c.args.self.now c.self.view_is c.args.uid c.requires.there)
 
 pub leave-requires-clause-quota : goal.leave-requires-clause-quota
 leave-requires-clause-quota c =

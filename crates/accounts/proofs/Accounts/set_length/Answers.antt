@@ -9,5 +9,6 @@ set_length-requires c = segment_of c.self.inside.tree c.self.inside.cells c.args
 
 pub returns : goal.returns
 returns c =
-    subst (λ (a : AccountMaps). Changes a (accounts_of c.set_length.new.self c.self.inside.cells) (with_node a.nodes c.args.seg (λ n. record n { pages = c.args.pages }))) c.self.view_is
+    subst (λ (a : AccountMaps). Changes a (accounts_of c.set_length.new.self c.self.inside.cells)
+    (with_node a.nodes c.args.seg (λ n. record n { pages = c.args.pages }))) c.self.view_is
     (length_shown c.self.inside.tree c.set_length.new.self c.self.inside.cells c.args.seg c.args.pages c.set_length.ensures.tree)

@@ -8,4 +8,5 @@ invariant_of-self c = tied_with _ _ _ _ c.args.f _ c.self.invariant c.give_back.
 
 pub returns-clause-started : goal.returns-clause-started
 returns-clause-started c =
-    rw (← c.self.view_is) (same_with started_page c.self.inside.frames.items c.args.f _ (started_of_bound _ (ap (λ (core : Core). is_bound (frame_at core c.args.f)) c.self.view_is ∙ c.requires)))
+    rw (← c.self.view_is) (same_with started_page c.self.inside.frames.items c.args.f _
+    (started_of_bound _ (ap (λ (core : Core). is_bound (frame_at core c.args.f)) c.self.view_is ∙ c.requires)))

@@ -9,23 +9,31 @@ use Rattle.dir_tree.proofs.Tree.add_branch.Goals as goal
 
 pub attach-requires-clause-may : goal.attach-requires-clause-may
 attach-requires-clause-may c =
-    sym (fault_any (λ _. 0) c.args.self.now.nodes c.args.superior c.args.new.name c.args.new.dir) ∙ unless_none _ _ _ (sym (c.may_add.ensures (λ _. 0)) ∙ c.in_ok-may_add.was)
+    sym (fault_any (λ _. 0) c.args.self.now.nodes c.args.superior c.args.new.name c.args.new.dir)
+    ∙ unless_none _ _ _ (sym (c.may_add.ensures (λ _. 0)) ∙ c.in_ok-may_add.was)
 
 pub returns-in_err-may_add-clause-fresh : goal.returns-in_err-may_add-clause-fresh
-returns-in_err-may_add-clause-fresh c = rw (← c.self.view_is) (ap is_some (node_missing c.self.invariant.0 c.self.inside.next (λ i lt e. (let less : (entry_at c.self.inside.entries i).uid < c.self.inside.next = c.self.invariant.0.below i lt in omega arith))))
+returns-in_err-may_add-clause-fresh c = rw (← c.self.view_is)
+    (ap is_some (node_missing c.self.invariant.0 c.self.inside.next
+    (λ i lt e. (let less : (entry_at c.self.inside.entries i).uid < c.self.inside.next = c.self.invariant.0.below i lt in omega arith))))
 
 pub returns-clause-fresh : goal.returns-clause-fresh
-returns-clause-fresh c = rw (← c.self.view_is) (ap is_some (node_missing c.self.invariant.0 c.self.inside.next (λ i lt e. (let less : (entry_at c.self.inside.entries i).uid < c.self.inside.next = c.self.invariant.0.below i lt in omega arith))))
+returns-clause-fresh c = rw (← c.self.view_is)
+    (ap is_some (node_missing c.self.invariant.0 c.self.inside.next
+    (λ i lt e. (let less : (entry_at c.self.inside.entries i).uid < c.self.inside.next = c.self.invariant.0.below i lt in omega arith))))
 
 pub returns-clause-room : goal.returns-clause-room
 returns-clause-room c =
-    let none = sym (fault_any (λ _. 0) c.args.self.now.nodes c.args.superior c.args.new.name c.args.new.dir) ∙ unless_none _ _ _ (sym (c.may_add.ensures (λ _. 0)) ∙ c.in_ok-may_add.was) in
-    let may : MayAdd (shapes c.args.self.now.nodes) c.args.superior c.args.new.name c.args.new.dir = no_fault (shapes c.args.self.now.nodes) c.args.superior c.args.new.name c.args.new.dir none in
+    let none = sym (fault_any (λ _. 0) c.args.self.now.nodes c.args.superior c.args.new.name c.args.new.dir)
+    ∙ unless_none _ _ _ (sym (c.may_add.ensures (λ _. 0)) ∙ c.in_ok-may_add.was) in
+    let may : MayAdd (shapes c.args.self.now.nodes) c.args.superior c.args.new.name c.args.new.dir =
+    no_fault (shapes c.args.self.now.nodes) c.args.superior c.args.new.name c.args.new.dir none in
     let room : length (shapes c.args.self.now.nodes) < 4097 = may.room in
     omega (arith, length-map c.args.self.now.nodes shape)
 
 pub returns-in_err-may_add-clause-chains : goal.returns-in_err-may_add-clause-chains
-returns-in_err-may_add-clause-chains c = rw (← c.self.view_is) (has_chains (shapes (newest c.self.inside.nodes.items c.self.inside.entries)) c.self.invariant.0.tree)
+returns-in_err-may_add-clause-chains c =
+    rw (← c.self.view_is) (has_chains (shapes (newest c.self.inside.nodes.items c.self.inside.entries)) c.self.invariant.0.tree)
 
 pub returns-clause-chains : goal.returns-clause-chains
 returns-clause-chains c = rw (← c.self.view_is) (has_chains (shapes (newest c.self.inside.nodes.items c.self.inside.entries)) c.self.invariant.0.tree)

@@ -13,7 +13,17 @@ use Rattle.dir_tree.proofs.NewestLemmas.{length_newest}
 use Rattle.dir_tree.proofs.Tree.attach.Goals as goal
 
 abbrev new_node : ℕ → ℕ → NewNode → Node
-new_node next superior new = record { uid = next; superior = Some superior; name = new.name; dir = new.dir; volume = new.volume; entry = new.entry; length = new.length; acl = new.acl }
+new_node next superior new = record {
+  uid = next;
+  superior = Some superior;
+  name = new.name;
+  dir = new.dir;
+  volume = new.volume;
+  entry = new.entry;
+  length =
+      new.length;
+  acl = new.acl;
+}
 
 abbrev new_entry : ℕ → ℕ → ℕ → Entry
 new_entry next superior place = record { uid = next; superior = Some superior; place = place; inferiors = 0 }
@@ -21,15 +31,18 @@ new_entry next superior place = record { uid = next; superior = Some superior; p
 directory_at : (u : ℕ) {s t : Branches} → s ≡ t → is_directory t.nodes u ≡ true → is_directory s.nodes u ≡ true
 directory_at u {s} {t} e h = subst (λ (x : Branches). is_directory x.nodes u ≡ true) (sym e) h
 
-may_at : (u : ℕ) (name : List ℕ) (dir : Bool) {s t : Branches} → s ≡ t → add_fault_of (shapes t.nodes) u name dir ≡ None → add_fault_of (shapes s.nodes) u name dir ≡ None
+may_at : (u : ℕ) (name : List ℕ) (dir : Bool) {s t : Branches} → s ≡ t → add_fault_of (shapes t.nodes) u name dir ≡ None
+    → add_fault_of (shapes s.nodes) u name dir ≡ None
 may_at u name dir {s} {t} e h = subst (λ (x : Branches). add_fault_of (shapes x.nodes) u name dir ≡ None) (sym e) h
 
 few : (nodes : List Node) (es : List Entry) (s : ℕ) (name : List ℕ) (dir : Bool) → add_fault_of (shapes (newest nodes es)) s name dir ≡ None → length es < 4097
-few nodes es s name dir e = (let m = no_fault (shapes (newest nodes es)) s name dir e in let r : length (shapes (newest nodes es)) < 4097 = m.room in let a = length-map (newest nodes es) shape in let b = length_newest nodes es in omega arith)
+few nodes es s name dir e = (let m = no_fault (shapes (newest nodes es)) s name dir e in let r : length (shapes (newest nodes es)) < 4097 = m.room in
+    let a = length-map (newest nodes es) shape in let b = length_newest nodes es in omega arith)
 
 pub store-place-requires-clause-room : goal.store-place-requires-clause-room
 store-place-requires-clause-room c none =
-    let lt = few c.self.inside.nodes.items c.self.inside.entries c.args.superior c.args.new.name c.args.new.dir (may_at c.args.superior c.args.new.name c.args.new.dir c.self.view_is c.requires.may) in
+    let lt = few c.self.inside.nodes.items c.self.inside.entries c.args.superior c.args.new.name c.args.new.dir
+    (may_at c.args.superior c.args.new.name c.args.new.dir c.self.view_is c.requires.may) in
     omega (arith, c.self.invariant.0.count, c.self.invariant.1, c.self.inside.nodes.ok.0)
 
 pub store-place-requires-clause-count : goal.store-place-requires-clause-count
@@ -37,49 +50,71 @@ store-place-requires-clause-count c = omega (arith, c.self.invariant.0.few)
 
 pub insert-requires-clause-room : goal.insert-requires-clause-room
 insert-requires-clause-room c =
-    let lt = few c.self.inside.nodes.items c.self.inside.entries c.args.superior c.args.new.name c.args.new.dir (may_at c.args.superior c.args.new.name c.args.new.dir c.self.view_is c.requires.may) in
+    let lt = few c.self.inside.nodes.items c.self.inside.entries c.args.superior c.args.new.name c.args.new.dir
+    (may_at c.args.superior c.args.new.name c.args.new.dir c.self.view_is c.requires.may) in
     omega (arith, c.self.invariant.0.branches, c.self.invariant.0.room)
 
 pub insert-requires-clause-sorted : goal.insert-requires-clause-sorted
-insert-requires-clause-sorted c = rw c.deref.ensures.value (sorted_still c.self.invariant.0 c.store-place.result c.store-place.ensures.place c.store-place.new.nodes.items c.store-place.ensures.others c.store-place.ensures.count)
+insert-requires-clause-sorted c = rw c.deref.ensures.value
+    (sorted_still c.self.invariant.0 c.store-place.result c.store-place.ensures.place c.store-place.new.nodes.items c.store-place.ensures.others
+    c.store-place.ensures.count)
 
 pub insert-requires-clause-within : goal.insert-requires-clause-within
-insert-requires-clause-within c = rw c.deref.ensures.value (within_still c.self.invariant.0 c.store-place.result c.store-place.ensures.place c.store-place.new.nodes.items c.store-place.ensures.others c.store-place.ensures.count)
+insert-requires-clause-within c = rw c.deref.ensures.value
+    (within_still c.self.invariant.0 c.store-place.result c.store-place.ensures.place c.store-place.new.nodes.items c.store-place.ensures.others
+    c.store-place.ensures.count)
 
 pub insert-requires-clause-node : goal.insert-requires-clause-node
-insert-requires-clause-node c = rw c.deref.ensures.value (new_within c.self.invariant.0 c.store-place.result c.store-place.ensures.place c.store-place.new.nodes.items c.store-place.ensures.others c.store-place.ensures.count)
+insert-requires-clause-node c = rw c.deref.ensures.value
+    (new_within c.self.invariant.0 c.store-place.result c.store-place.ensures.place c.store-place.new.nodes.items c.store-place.ensures.others
+    c.store-place.ensures.count)
 
 pub insert-requires-clause-new : goal.insert-requires-clause-new
 insert-requires-clause-new c =
-    let may = no_fault (shapes (newest c.self.inside.nodes.items c.self.inside.entries)) c.args.superior c.args.new.name c.args.new.dir (may_at c.args.superior c.args.new.name c.args.new.dir c.self.view_is c.requires.may) in
-    rw c.deref.ensures.value (new_key c.self.invariant.0 c.store-place.result c.store-place.ensures.place c.store-place.new.nodes.items c.store-place.ensures.others c.store-place.ensures.count c.args.superior (new_node c.self.inside.next c.args.superior c.args.new) c.store-place.ensures.here refl may.new)
+    let may = no_fault (shapes (newest c.self.inside.nodes.items c.self.inside.entries)) c.args.superior c.args.new.name c.args.new.dir
+    (may_at c.args.superior c.args.new.name c.args.new.dir c.self.view_is c.requires.may) in
+    rw c.deref.ensures.value (new_key c.self.invariant.0 c.store-place.result c.store-place.ensures.place c.store-place.new.nodes.items
+    c.store-place.ensures.others c.store-place.ensures.count c.args.superior
+    (new_node c.self.inside.next c.args.superior c.args.new) c.store-place.ensures.here refl may.new)
 
 pub push-requires-clause-few : goal.push-requires-clause-few
-push-requires-clause-few c = few c.self.inside.nodes.items c.self.inside.entries c.args.superior c.args.new.name c.args.new.dir (may_at c.args.superior c.args.new.name c.args.new.dir c.self.view_is c.requires.may)
+push-requires-clause-few c = few c.self.inside.nodes.items c.self.inside.entries c.args.superior c.args.new.name c.args.new.dir
+    (may_at c.args.superior c.args.new.name c.args.new.dir c.self.view_is c.requires.may)
 
 pub push-requires-clause-place : goal.push-requires-clause-place
 push-requires-clause-place c =
     place_room c.self.invariant.0 c.store-place.result c.store-place.ensures.place
-    (few c.self.inside.nodes.items c.self.inside.entries c.args.superior c.args.new.name c.args.new.dir (may_at c.args.superior c.args.new.name c.args.new.dir c.self.view_is c.requires.may))
+    (few c.self.inside.nodes.items c.self.inside.entries c.args.superior c.args.new.name c.args.new.dir
+    (may_at c.args.superior c.args.new.name c.args.new.dir c.self.view_is c.requires.may))
 
 pub push-requires-clause-new : goal.push-requires-clause-new
 push-requires-clause-new c = place_unused c.self.invariant.0 c.store-place.result c.store-place.ensures.place
 
 pub gain-requires-clause-there : goal.gain-requires-clause-there
-gain-requires-clause-there c = rw c.push.ensures (superior_there c.self.invariant.0 c.args.superior (directory_at c.args.superior c.self.view_is c.requires.directory) _)
+gain-requires-clause-there c = rw c.push.ensures
+    (superior_there c.self.invariant.0 c.args.superior (directory_at c.args.superior c.self.view_is c.requires.directory) _)
 
 pub gain-requires-clause-room : goal.gain-requires-clause-room
 gain-requires-clause-room c =
-    let lt = few c.self.inside.nodes.items c.self.inside.entries c.args.superior c.args.new.name c.args.new.dir (may_at c.args.superior c.args.new.name c.args.new.dir c.self.view_is c.requires.may) in
+    let lt = few c.self.inside.nodes.items c.self.inside.entries c.args.superior c.args.new.name c.args.new.dir
+    (may_at c.args.superior c.args.new.name c.args.new.dir c.self.view_is c.requires.may) in
     rw c.push.ensures (pushed_few c.self.inside.entries _ c.self.invariant.3 (omega (arith, lt)) refl)
 
 pub invariant_of-self : goal.invariant_of-self
 invariant_of-self c =
     let more : List Entry = c.self.inside.entries ++ new_entry c.self.inside.next c.args.superior c.store-place.result ∷ [] in
     let gained : c.gain.new.self ≡ recounted c.args.superior (λ n. n + 1) more = rw c.push.ensures at c.gain.ensures in
-    let kept : IsKept c.store-place.new.nodes.items more c.store-place.new.free.items c.insert.new.self (c.self.inside.next + 1) = kept_added c.self.invariant.0 c.args.superior (new_node c.self.inside.next c.args.superior c.args.new) c.store-place.new.nodes.items c.store-place.new.free.items c.insert.new.self c.store-place.result
-    refl refl (directory_at c.args.superior c.self.view_is c.requires.directory) (may_at c.args.superior c.args.new.name c.args.new.dir c.self.view_is c.requires.may) c.store-place.ensures.place c.store-place.ensures.here c.store-place.ensures.others c.store-place.ensures.rest c.store-place.ensures.count (rw c.deref.ensures.value at c.insert.ensures.sorted) c.insert.ensures.places c.insert.ensures.count c.insert.ensures.room in
-    let counted : IsCounted (recounted c.args.superior (λ n. n + 1) more) = counted_with c.self.invariant.0 c.self.invariant.3 c.args.superior (directory_at c.args.superior c.self.view_is c.requires.directory) (new_entry c.self.inside.next c.args.superior c.store-place.result) refl refl refl in (
+    let kept : IsKept c.store-place.new.nodes.items more c.store-place.new.free.items c.insert.new.self (c.self.inside.next + 1) =
+    kept_added c.self.invariant.0 c.args.superior
+    (new_node c.self.inside.next c.args.superior c.args.new) c.store-place.new.nodes.items c.store-place.new.free.items c.insert.new.self
+    c.store-place.result
+    refl refl (directory_at c.args.superior c.self.view_is c.requires.directory)
+    (may_at c.args.superior c.args.new.name c.args.new.dir c.self.view_is c.requires.may) c.store-place.ensures.place c.store-place.ensures.here
+    c.store-place.ensures.others c.store-place.ensures.rest c.store-place.ensures.count
+    (rw c.deref.ensures.value at c.insert.ensures.sorted) c.insert.ensures.places c.insert.ensures.count c.insert.ensures.room in
+    let counted : IsCounted (recounted c.args.superior (λ n. n + 1) more) =
+    counted_with c.self.invariant.0 c.self.invariant.3 c.args.superior (directory_at c.args.superior c.self.view_is c.requires.directory)
+    (new_entry c.self.inside.next c.args.superior c.store-place.result) refl refl refl in (
       rw gained (kept_recounted c.args.superior (λ n. n + 1) kept),
       omega (arith, c.self.invariant.1, c.store-place.ensures.nodes_room),
       omega (arith, c.self.invariant.2, c.store-place.ensures.free_room),
@@ -90,6 +125,12 @@ pub returns : goal.returns
 returns c =
     let more : List Entry = c.self.inside.entries ++ new_entry c.self.inside.next c.args.superior c.store-place.result ∷ [] in
     let gained : c.gain.new.self ≡ recounted c.args.superior (λ n. n + 1) more = rw c.push.ensures at c.gain.ensures in
-    let view = view_added c.self.invariant.0 c.args.superior (new_node c.self.inside.next c.args.superior c.args.new) c.store-place.new.nodes.items c.store-place.new.free.items c.insert.new.self c.store-place.result
-    refl refl (directory_at c.args.superior c.self.view_is c.requires.directory) (may_at c.args.superior c.args.new.name c.args.new.dir c.self.view_is c.requires.may) c.store-place.ensures.place c.store-place.ensures.here c.store-place.ensures.others c.store-place.ensures.rest c.store-place.ensures.count (rw c.deref.ensures.value at c.insert.ensures.sorted) c.insert.ensures.places c.insert.ensures.count c.insert.ensures.room in
-    rw (← c.self.view_is) (ap (λ (ns : List Node). record { nodes = ns; next = c.self.inside.next + 1 }) (rw gained (newest_recounted c.args.superior (λ n. n + 1) c.store-place.new.nodes.items more ∙ view)))
+    let view = view_added c.self.invariant.0 c.args.superior
+    (new_node c.self.inside.next c.args.superior c.args.new) c.store-place.new.nodes.items c.store-place.new.free.items c.insert.new.self
+    c.store-place.result
+    refl refl (directory_at c.args.superior c.self.view_is c.requires.directory)
+    (may_at c.args.superior c.args.new.name c.args.new.dir c.self.view_is c.requires.may) c.store-place.ensures.place c.store-place.ensures.here
+    c.store-place.ensures.others c.store-place.ensures.rest c.store-place.ensures.count
+    (rw c.deref.ensures.value at c.insert.ensures.sorted) c.insert.ensures.places c.insert.ensures.count c.insert.ensures.room in
+    rw (← c.self.view_is) (ap (λ (ns : List Node). record { nodes = ns; next = c.self.inside.next + 1 })
+    (rw gained (newest_recounted c.args.superior (λ n. n + 1) c.store-place.new.nodes.items more ∙ view)))

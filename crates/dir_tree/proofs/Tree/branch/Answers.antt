@@ -14,19 +14,25 @@ find-requires c = rw c.deref.ensures.value (record { sorted = c.self.invariant.0
 
 pub returns-in_err-place-clause-none : goal.returns-in_err-place-clause-none
 returns-in_err-place-clause-none c =
-    rw (c.from_residual.ensures, ← c.self.view_is) (branch_missing c.self.invariant.0 c.args.directory c.args.name.now (rw c.deref.ensures.value at c.in_err-place.ensures.none))
+    rw (c.from_residual.ensures, ← c.self.view_is)
+    (branch_missing c.self.invariant.0 c.args.directory c.args.name.now (rw c.deref.ensures.value at c.in_err-place.ensures.none))
 
 pub returns-clause-some : goal.returns-clause-some
 returns-clause-some c =
     let found = rw c.deref.ensures.value at c.in_ok-place.ensures.some in
     let within : c.in_ok-place.place < length c.self.inside.nodes.items = place_within c.self.invariant.0 _ found.0 in
-    let node : c.index.result.now ≡ node_at c.self.inside.nodes.items c.in_ok-place.place = get_or_read c.self.inside.nodes.items c.in_ok-place.place c.index.result.now within c.index.ensures no_node in
-    let is : branch_in (shapes (newest c.self.inside.nodes.items c.self.inside.entries)) c.args.directory c.args.name.now ≡ Some (shape (node_at c.self.inside.nodes.items c.in_ok-place.place)) = branch_read c.self.invariant.0 c.args.directory c.args.name.now c.in_ok-place.place found.0 found.1 in
+    let node : c.index.result.now ≡ node_at c.self.inside.nodes.items c.in_ok-place.place =
+    get_or_read c.self.inside.nodes.items c.in_ok-place.place c.index.result.now within c.index.ensures no_node in
+    let is : branch_in (shapes (newest c.self.inside.nodes.items c.self.inside.entries)) c.args.directory c.args.name.now ≡ Some
+    (shape (node_at c.self.inside.nodes.items c.in_ok-place.place)) =
+    branch_read c.self.invariant.0 c.args.directory c.args.name.now c.in_ok-place.place found.0 found.1 in
     rw (← c.self.view_is) (is ∙ ap (λ (n : Node). Some (shape n)) (sym node))
 
 pub returns-clause-there : goal.returns-clause-there
 returns-clause-there c =
     let found = rw c.deref.ensures.value at c.in_ok-place.ensures.some in
     let within : c.in_ok-place.place < length c.self.inside.nodes.items = place_within c.self.invariant.0 _ found.0 in
-    let node : c.index.result.now ≡ node_at c.self.inside.nodes.items c.in_ok-place.place = get_or_read c.self.inside.nodes.items c.in_ok-place.place c.index.result.now within c.index.ensures no_node in
-    rw (← c.self.view_is) (ap (λ (n : Node). is_in (newest c.self.inside.nodes.items c.self.inside.entries) n.uid) node ∙ place_there c.self.invariant.0 c.in_ok-place.place found.0)
+    let node : c.index.result.now ≡ node_at c.self.inside.nodes.items c.in_ok-place.place =
+    get_or_read c.self.inside.nodes.items c.in_ok-place.place c.index.result.now within c.index.ensures no_node in
+    rw (← c.self.view_is) (ap (λ (n : Node). is_in (newest c.self.inside.nodes.items c.self.inside.entries) n.uid) node
+    ∙ place_there c.self.invariant.0 c.in_ok-place.place found.0)

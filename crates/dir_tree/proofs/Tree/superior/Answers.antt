@@ -10,8 +10,10 @@ use Rattle.dir_tree.proofs.Tree.superior.Goals as goal
 
 pub unreachable-requires : goal.unreachable-requires
 unreachable-requires c =
-    let missing : node_of (newest c.self.inside.nodes.items c.self.inside.entries) c.args.uid ≡ None = node_missing c.self.invariant.0 c.args.uid c.in-None.ensures.none in
-    let there : is_in (newest c.self.inside.nodes.items c.self.inside.entries) c.args.uid ≡ true = subst (λ (t : Branches). is_in t.nodes c.args.uid ≡ true) (sym c.self.view_is) c.requires in
+    let missing : node_of (newest c.self.inside.nodes.items c.self.inside.entries) c.args.uid ≡ None =
+    node_missing c.self.invariant.0 c.args.uid c.in-None.ensures.none in
+    let there : is_in (newest c.self.inside.nodes.items c.self.inside.entries) c.args.uid ≡ true =
+    subst (λ (t : Branches). is_in t.nodes c.args.uid ≡ true) (sym c.self.view_is) c.requires in
     both_ways _ (ap is_some missing) there
 
 pub returns-clause-above : goal.returns-clause-above
@@ -24,4 +26,5 @@ pub returns-clause-falls : goal.returns-clause-falls
 returns-clause-falls c =
     let ns = shapes (newest c.self.inside.nodes.items c.self.inside.entries) in
     let up : superior_in ns c.args.uid ≡ c.in-Some.entry.superior = superior_read c.self.invariant.0 c.args.uid c.in-Some.entry c.in-Some.ensures.some in
-    rw (← c.self.view_is) (up_in (newest c.self.inside.nodes.items c.self.inside.entries) c.args.uid c.in-Some.entry.superior (subst (IsUp ns c.args.uid) up (superior_up ns c.self.invariant.0.tree c.args.uid)))
+    rw (← c.self.view_is) (up_in (newest c.self.inside.nodes.items c.self.inside.entries) c.args.uid c.in-Some.entry.superior
+    (subst (IsUp ns c.args.uid) up (superior_up ns c.self.invariant.0.tree c.args.uid)))

@@ -11,8 +11,10 @@ loop-low-preserved-in-Less c =
     let key : Key = (c.args.superior, c.args.name.now) in
     let m : ℕ = c.loop-low.low + (c.loop-low.high - c.loop-low.low) / 2 in
     let within : m < length c.args.places.now = omega arith in
-    let node : c.index-nodes-places.result ≡ node_at c.args.nodes.now (get_or c.args.places.now m 0) = get_or_read c.args.nodes.now (get_or c.args.places.now m 0) c.index-nodes-places.result (c.requires.within m within) c.index-nodes-places.is no_node in
-    let less : key_cmp (key_at c.args.nodes.now c.args.places.now m) key ≡ Less = ap (λ (n : Node). key_cmp (key_of n) key) (sym node) ∙ sym c.compare.ensures ∙ c.in-Less.is in
+    let node : c.index-nodes-places.result ≡ node_at c.args.nodes.now (get_or c.args.places.now m 0) =
+    get_or_read c.args.nodes.now (get_or c.args.places.now m 0) c.index-nodes-places.result (c.requires.within m within) c.index-nodes-places.is no_node in
+    let less : key_cmp (key_at c.args.nodes.now c.args.places.now m) key ≡ Less = ap (λ (n : Node). key_cmp (key_of n) key) (sym node) ∙ sym c.compare.ensures
+    ∙ c.in-Less.is in
     record {
       within = c.loop-low.invariant.within;
       order = omega arith;
@@ -25,9 +27,16 @@ loop-low-preserved c =
     let key : Key = (c.args.superior, c.args.name.now) in
     let m : ℕ = c.loop-low.low + (c.loop-low.high - c.loop-low.low) / 2 in
     let within : m < length c.args.places.now = omega arith in
-    let node : c.index-nodes-places.result ≡ node_at c.args.nodes.now (get_or c.args.places.now m 0) = get_or_read c.args.nodes.now (get_or c.args.places.now m 0) c.index-nodes-places.result (c.requires.within m within) c.index-nodes-places.is no_node in
-    let here : key_cmp (key_at c.args.nodes.now c.args.places.now m) key ≡ c.compare.result = ap (λ (n : Node). key_cmp (key_of n) key) (sym node) ∙ sym c.compare.ensures in
-    let isnt : key_cmp (key_at c.args.nodes.now c.args.places.now m) key ≢ Less = λ less. elim c.in-Equal.is [ inl e ↦ (let z : Less ≡ Equal = sym less ∙ here ∙ e in cc) | inr e ↦ (let z : Less ≡ Greater = sym less ∙ here ∙ e in cc) ] in
+    let node : c.index-nodes-places.result ≡ node_at c.args.nodes.now (get_or c.args.places.now m 0) =
+    get_or_read c.args.nodes.now (get_or c.args.places.now m 0) c.index-nodes-places.result (c.requires.within m within) c.index-nodes-places.is no_node in
+    let here : key_cmp (key_at c.args.nodes.now c.args.places.now m) key ≡ c.compare.result = ap (λ (n : Node). key_cmp (key_of n) key) (sym node)
+    ∙ sym c.compare.ensures in
+    let isnt : key_cmp (key_at c.args.nodes.now c.args.places.now m) key ≢ Less =
+    λ less. elim c.in-Equal.is [
+      | inl e ↦ (let z : Less ≡ Equal = sym less ∙ here ∙ e in cc)
+      | inr e ↦
+          (let z : Less ≡ Greater = sym less ∙ here ∙ e in cc)
+    ] in
     record {
       within = omega arith;
       order = omega arith;

@@ -5,13 +5,24 @@ use Rattle.quota_cells.proofs.Cells.give.Goals as goal
 
 pub give-requires : goal.give-requires
 give-requires c =
-    let can = subst (λ (m : CellMaps). CanGive m c.args.getter.directory c.args.getter.above.now c.args.giver.directory c.args.giver.above.now c.args.pages) (sym c.self.view_is) c.requires.can in
-    record { getter_placed = can.getter_placed; giver_placed = can.giver_placed; other = can.other; some = can.some; enough = can.enough; fits = can.fits; appears = can.appears; vanishes = can.vanishes }
+    let can = subst (λ (m : CellMaps). CanGive m c.args.getter.directory c.args.getter.above.now c.args.giver.directory c.args.giver.above.now c.args.pages)
+    (sym c.self.view_is) c.requires.can in
+    record {
+      getter_placed = can.getter_placed;
+      giver_placed = can.giver_placed;
+      other = can.other;
+      some = can.some;
+      enough = can.enough;
+      fits = can.fits;
+      appears = can.appears;
+      vanishes = can.vanishes;
+    }
 
 pub invariant_of-self : goal.invariant_of-self
 invariant_of-self c =
     subst (λ (m : CellMaps). IsTable (both_maps m c.self.inside.segments)) (sym c.give.ensures)
-    (subst (λ (m : CellMaps). IsTable (given m c.args.getter.directory c.args.getter.above.now c.args.giver.directory c.args.giver.above.now c.args.pages)) (sym c.self.view_is) c.requires.table)
+    (subst (λ (m : CellMaps). IsTable (given m c.args.getter.directory c.args.getter.above.now c.args.giver.directory c.args.giver.above.now c.args.pages))
+    (sym c.self.view_is) c.requires.table)
 
 pub returns : goal.returns
 returns c =

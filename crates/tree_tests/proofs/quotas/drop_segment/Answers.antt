@@ -6,7 +6,9 @@ use Rattle.quota_cells.specs.Laws.{look_absent, on_directories, on_segments}
 use Rattle.tree_tests.proofs.quotas.drop_segment.Goals as goal
 
 pub leave-requires-clause-cell : goal.leave-requires-clause-cell
-leave-requires-clause-cell g c = or_right (has c.args.cells.now.directories c.args.seg) _ (on_segments c.args.tree.now.nodes c.requires c.args.seg ∙ c.stored.ensures.segment)
+leave-requires-clause-cell g c = or_right (has c.args.cells.now.directories c.args.seg) _
+    (on_segments c.args.tree.now.nodes c.requires c.args.seg ∙ c.stored.ensures.segment)
 
 pub leave-requires-clause-quota : goal.leave-requires-clause-quota
-leave-requires-clause-quota g c = look_absent c.args.cells.now.directories c.args.cells.now.quotas c.args.seg (on_directories c.args.tree.now.nodes c.requires c.args.seg ∙ segment_not c.args.tree.now.nodes c.args.seg c.stored.ensures.segment)
+leave-requires-clause-quota g c = look_absent c.args.cells.now.directories c.args.cells.now.quotas c.args.seg
+    (on_directories c.args.tree.now.nodes c.requires c.args.seg ∙ segment_not c.args.tree.now.nodes c.args.seg c.stored.ensures.segment)

@@ -6,8 +6,10 @@ use Rattle.dir_tree.proofs.entries.Entries.push.Goals as goal
 
 pub invariant_of-self : goal.invariant_of-self
 invariant_of-self c =
-    let new = subst (λ (es : List Entry). (i : ℕ) → i < length es → (entry_at es i).place ≢ c.args.entry.place) (sym c.self.view_is) c.requires.new in
-    (rw c.push_reserved.ensures.items (more_listed c.self.invariant.0 c.args.entry c.requires.place new), omega (arith, c.self.invariant.1, c.push_reserved.ensures.capacity))
+    let new = subst (λ (es : List Entry). (i : ℕ) → i < length es → (entry_at es i).place ≢ c.args.entry.place) (sym c.self.view_is) c.requires.new in (
+      rw c.push_reserved.ensures.items (more_listed c.self.invariant.0 c.args.entry c.requires.place new),
+      omega (arith, c.self.invariant.1, c.push_reserved.ensures.capacity),
+    )
 
 pub returns : goal.returns
 returns c =

@@ -8,7 +8,8 @@ use Rattle.live_pages.specs.Turns.{bound_anew, current, holder_of}
 use Rattle.live_pages.specs.Models.{rebound}
 use Rattle.live_pages.proofs.Turning.{with_hand}
 use Rattle.live_pages.proofs.Ends.{may_bind_is_free}
-use Rattle.live_pages.proofs.Calls.{told_with, keeper_takes_at, slot_in_hand, none_is, exchanged_twice, found_in_slot, same_held, binds_in_hand, keeper_gives_in_hand, bound_now, rebound_now, keeper_fits, keeper_stays_of}
+use Rattle.live_pages.proofs.Calls.{told_with, keeper_takes_at, slot_in_hand, none_is, exchanged_twice, found_in_slot, same_held, binds_in_hand}
+use Rattle.live_pages.proofs.Calls.{keeper_gives_in_hand, bound_now, rebound_now, keeper_fits, keeper_stays_of}
 use Rattle.live_pages.proofs.pages.LivePages.bind.Goals as goal
 
 pub compare_exchange-requires : goal.compare_exchange-requires

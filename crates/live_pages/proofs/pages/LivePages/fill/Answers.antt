@@ -14,7 +14,9 @@ load-word-requires c = (
 )
 
 pub invariant_of-pass : goal.invariant_of-pass
-invariant_of-pass c = pass_fits c.load-word.new.seat.me _ _ _ _ (closed_read c.args.f c.load-word.result c.pass.invariant.seat (c.load-word.ensures.2 c.args.f c.door_word.ensures).1 (search rules)) c.pass.invariant.hand c.pass.invariant.cpu
+invariant_of-pass c = pass_fits c.load-word.new.seat.me _ _ _ _
+    (closed_read c.args.f c.load-word.result c.pass.invariant.seat (c.load-word.ensures.2 c.args.f c.door_word.ensures).1 (search rules))
+    c.pass.invariant.hand c.pass.invariant.cpu
     c.pass.invariant.held c.pass.invariant.stamp
 
 pub returns-then-word-eq1-clause-pass : goal.returns-then-word-eq1-clause-pass
@@ -32,17 +34,21 @@ returns-then-word-eq1-clause-closed c = (
 )
 
 pub invariant_of-pass-2 : goal.invariant_of-pass-2
-invariant_of-pass-2 c = pass_fits c.load-word.new.seat.me _ _ _ _ (open_read c.args.f c.load-word.result c.pass.invariant.seat (c.load-word.ensures.2 c.args.f c.door_word.ensures).1 (search rules)) c.pass.invariant.hand c.pass.invariant.cpu
+invariant_of-pass-2 c = pass_fits c.load-word.new.seat.me _ _ _ _
+    (open_read c.args.f c.load-word.result c.pass.invariant.seat (c.load-word.ensures.2 c.args.f c.door_word.ensures).1 (search rules)) c.pass.invariant.hand
+    c.pass.invariant.cpu
     (ap (λ h. set h c.args.f (Some (c.load-word.result / 2))) c.pass.invariant.held) c.pass.invariant.stamp
 
 pub returns-clause-pass : goal.returns-clause-pass
 returns-clause-pass c =
     pass_stays_of c.args.self.now c.args.pass.now _ c.load-word.new.seat.table_id c.pass.inside.seat.me c.load-word.new.seat.me _ c.pass.view_is c.requires.pass
     c.load-word.ensures.0
-    (open_read c.args.f c.load-word.result c.pass.invariant.seat (c.load-word.ensures.2 c.args.f c.door_word.ensures).1 (search rules)) (length-set _ _ _) refl refl
+    (open_read c.args.f c.load-word.result c.pass.invariant.seat (c.load-word.ensures.2 c.args.f c.door_word.ensures).1 (search rules))
+    (length-set _ _ _) refl refl
 
 pub returns-clause-admitted : goal.returns-clause-admitted
-returns-clause-admitted c = ap (λ x. walker_of x.0) (open_read c.args.f c.load-word.result c.pass.invariant.seat (c.load-word.ensures.2 c.args.f c.door_word.ensures).1 (search rules))
+returns-clause-admitted c = ap (λ x. walker_of x.0)
+    (open_read c.args.f c.load-word.result c.pass.invariant.seat (c.load-word.ensures.2 c.args.f c.door_word.ensures).1 (search rules))
     ∙ ap (λ v. walking (λ p. holding c.args.f (c.load-word.result / 2) (having_read (2 * (c.load-word.result / 2)) p)) v.walker) c.pass.view_is
 
 pub returns-clause-bound : goal.returns-clause-bound

@@ -17,13 +17,15 @@ compare_exchange-word-requires c = (
 )
 
 pub invariant_of-pass : goal.invariant_of-pass
-invariant_of-pass c = pass_fits c.compare_exchange-word.new.seat.me _ _ _ _ (told_alone c.pass.invariant.seat ((c.compare_exchange-word.ensures.2 c.args.f (search rules)).1 c.if-word-ne0.true))
+invariant_of-pass c = pass_fits c.compare_exchange-word.new.seat.me _ _ _ _
+    (told_alone c.pass.invariant.seat ((c.compare_exchange-word.ensures.2 c.args.f (search rules)).1 c.if-word-ne0.true))
     c.pass.invariant.hand c.pass.invariant.cpu c.pass.invariant.held c.pass.invariant.stamp
 
 pub returns-then-word-ne0-clause-pass : goal.returns-then-word-ne0-clause-pass
 returns-then-word-ne0-clause-pass c =
     pass_stays_of c.args.self.now c.args.pass.now _ c.compare_exchange-word.new.seat.table_id c.pass.inside.seat.me c.compare_exchange-word.new.seat.me _
-    c.pass.view_is c.requires.pass c.compare_exchange-word.ensures.0 (told_alone c.pass.invariant.seat ((c.compare_exchange-word.ensures.2 c.args.f (search rules)).1 c.if-word-ne0.true)) refl refl refl
+    c.pass.view_is c.requires.pass c.compare_exchange-word.ensures.0
+    (told_alone c.pass.invariant.seat ((c.compare_exchange-word.ensures.2 c.args.f (search rules)).1 c.if-word-ne0.true)) refl refl refl
 
 pub returns-then-word-ne0-clause-busy : goal.returns-then-word-ne0-clause-busy
 returns-then-word-ne0-clause-busy c = (

@@ -9,17 +9,23 @@ use Rattle.quota_cells.proofs.RowLaws.{map-insert, entered_counts}
 use Rattle.quota_cells.proofs.segments.Segments.enter.Goals as goal
 
 pub unreachable-requires : goal.unreachable-requires
-unreachable-requires c = both_ways _ c.requires.absent (subst (λ u. has c.args.self.now.segments u ≡ true) c.in_default.ensures.is (has_at c.args.self.now.segments c.in_default.field-0 c.in_default.ensures.found))
+unreachable-requires c = both_ways _ c.requires.absent
+    (subst (λ u. has c.args.self.now.segments u ≡ true) c.in_default.ensures.is
+    (has_at c.args.self.now.segments c.in_default.field-0 c.in_default.ensures.found))
 
 pub invariant_of-self : goal.invariant_of-self
 invariant_of-self c =
-    let gap : IsGap (segment_maps c.self.inside.counts.items).segments c.args.uid c.in-Err.at = subst (λ (m : CellMaps). IsGap m.segments c.args.uid c.in-Err.at) (sym c.self.view_is) c.in-Err.ensures.gap in (
-      subst IsRising (sym (ap (map (λ x. x.uid)) c.in-Ok.ensures.items ∙ map-insert (λ x. x.uid) c.self.inside.counts.items c.in-Err.at (record { uid = c.args.uid; pages = 0 })))
+    let gap : IsGap (segment_maps c.self.inside.counts.items).segments c.args.uid c.in-Err.at =
+    subst (λ (m : CellMaps). IsGap m.segments c.args.uid c.in-Err.at) (sym c.self.view_is) c.in-Err.ensures.gap in (
+      subst IsRising (sym (ap (map (λ x. x.uid)) c.in-Ok.ensures.items
+          ∙ map-insert (λ x. x.uid) c.self.inside.counts.items c.in-Err.at (record { uid = c.args.uid; pages = 0 })))
           (rising_insert (segment_maps c.self.inside.counts.items).segments c.args.uid c.in-Err.at c.self.invariant.0 gap),
       omega (arith, c.self.invariant.1, c.in-Ok.ensures.capacity),
     )
 
 pub returns : goal.returns
 returns c =
-    let gap : IsGap (segment_maps c.self.inside.counts.items).segments c.args.uid c.in-Err.at = subst (λ (m : CellMaps). IsGap m.segments c.args.uid c.in-Err.at) (sym c.self.view_is) c.in-Err.ensures.gap in
-    ap segment_maps c.in-Ok.ensures.items ∙ entered_counts c.self.inside.counts.items c.in-Err.at c.args.uid gap ∙ ap (λ (m : CellMaps). with_segment m c.args.uid) c.self.view_is
+    let gap : IsGap (segment_maps c.self.inside.counts.items).segments c.args.uid c.in-Err.at =
+    subst (λ (m : CellMaps). IsGap m.segments c.args.uid c.in-Err.at) (sym c.self.view_is) c.in-Err.ensures.gap in
+    ap segment_maps c.in-Ok.ensures.items ∙ entered_counts c.self.inside.counts.items c.in-Err.at c.args.uid gap
+    ∙ ap (λ (m : CellMaps). with_segment m c.args.uid) c.self.view_is

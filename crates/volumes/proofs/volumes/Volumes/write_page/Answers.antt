@@ -11,17 +11,20 @@ invariant_of-self g c = (
 pub returns-clause-rose : goal.returns-clause-rose
 returns-clause-rose g c =
     rw (← c.self.view_is)
-    (sum_rose g.D.Drive.faults c.write_page.result _ c.args.v _ c.write_page.new.self (drives_within _ _ _ _ _ c.self.view_is c.requires.volume) c.index_mut.ensures.value c.write_page.ensures.rose)
+    (sum_rose g.D.Drive.faults c.write_page.result _ c.args.v _ c.write_page.new.self
+    (drives_within _ _ _ _ _ c.self.view_is c.requires.volume) c.index_mut.ensures.value c.write_page.ensures.rose)
 
 pub returns-clause-its : goal.returns-clause-its
 returns-clause-its g c =
     rw (← c.self.view_is)
-    (its_rose g.D.Drive.faults c.write_page.result _ c.args.v _ c.write_page.new.self (drives_within _ _ _ _ _ c.self.view_is c.requires.volume) c.index_mut.ensures.value c.write_page.ensures.rose)
+    (its_rose g.D.Drive.faults c.write_page.result _ c.args.v _ c.write_page.new.self
+    (drives_within _ _ _ _ _ c.self.view_is c.requires.volume) c.index_mut.ensures.value c.write_page.ensures.rose)
 
 pub returns-clause-grows : goal.returns-clause-grows
 returns-clause-grows g c =
     rw (← c.self.view_is)
-    (sum_grows g.D.Drive.faults _ c.args.v _ c.write_page.new.self (drives_within _ _ _ _ _ c.self.view_is c.requires.volume) c.index_mut.ensures.value c.write_page.ensures.grows)
+    (sum_grows g.D.Drive.faults _ c.args.v _ c.write_page.new.self
+    (drives_within _ _ _ _ _ c.self.view_is c.requires.volume) c.index_mut.ensures.value c.write_page.ensures.grows)
 
 pub returns-clause-plans : goal.returns-clause-plans
 returns-clause-plans g c =
