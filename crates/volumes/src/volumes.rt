@@ -169,7 +169,8 @@ impl<D: Drive> Volumes<D> {
     }
 
     /// Makes record `r` of volume `v` the page `from`. After `Failed` no page has changed; it comes only where the
-    /// count of that drive's faults rose, and so the sum of all. It costs one write of the drive. (Source: Organick 1972.)
+    /// count of that drive's faults rose, and so the sum of all. It costs one write of the drive. (Source: Organick
+    /// 1972.)
     #[tactic(auto, using(crate::proofs::Drives::one_drive))]
     pub fn write_page(&mut self, v: u32, r: u32, from: &Page) -> Result<(), Failed>
         requires volume { v < length self.old.drives }
