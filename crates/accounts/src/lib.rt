@@ -14,7 +14,7 @@ ghost use Rattle.std.specs.Int.{is_positive};
 ghost use Rattle.std.specs.Int.RustNames.{unsigned_abs};
 ghost use Rattle.tree_model.specs.Access.{takes_row};
 ghost use Rattle.tree_model.specs.Tree.{above, has_directory, node_in, quota_in, used_by, walk_in, with_node};
-ghost use Rattle.tree_model.specs.Trees.{has_segment};
+ghost use Rattle.tree_model.specs.Trees.{has_segment, IsTree};
 ghost use Rattle.tree_model.specs.Quotas.{tree_moved};
 ghost use Rattle.dir_tree.specs.Nodes.{add_fault_of, as_term, chain_of, has_inferior, path_answer, unless};
 ghost use Rattle.quota_cells.specs.Scratch.{charge_answer, scratch_answer};
@@ -91,6 +91,15 @@ impl Accounts {
         ensures none { IfNone result (node_in self.now.nodes uid ≡ None) }
     {
         self.tree.node(uid)
+    }
+
+    /// The uid of the root, below which each other node lies. A caller that asks for it learns that the nodes are a tree.
+    pub fn root(&self) -> u32
+        ensures uid { result ≡ 1 }
+        ensures tree { IsTree self.now.nodes }
+    {
+        prove!(self.tree.node(self.tree.next_uid()).is_none());
+        dir_tree::ROOT
     }
 
     /// The uid that the next new branch gets. No node has or had it.
