@@ -93,12 +93,16 @@ impl Accounts {
         self.tree.node(uid)
     }
 
-    /// The uid of the root, below which each other node lies. A caller that asks for it learns that the nodes are a tree.
+    /// The uid of the root, below which each other node lies. A caller that asks for it learns that the nodes are a tree,
+    /// and that each account is within its quota.
     pub fn root(&self) -> u32
         ensures uid { result ≡ 1 }
         ensures tree { IsTree self.now.nodes }
+        ensures within { (stored : List (ℕ × ℕ)) → Counts self.now stored → (account : ℕ)
+            → used_by self.now.nodes stored account ≤ quota_in self.now.nodes account }
     {
         prove!(self.tree.node(self.tree.next_uid()).is_none());
+        let _used = self.cells.used(dir_tree::ROOT);
         dir_tree::ROOT
     }
 

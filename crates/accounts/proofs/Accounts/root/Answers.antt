@@ -1,9 +1,19 @@
-use Rattle.std.proofs.Common.{ap}
+use Rattle.std.proofs.Common.{◌≡◌, ◌≤◌, ℕ, List, ap, subst}
+use Rattle.tree_model.specs.Tree.{used_by, quota_in as quota_at}
 use Rattle.quota_cells.specs.Cells.{quota_in}
-use Rattle.accounts.specs.Maps.{AccountMaps}
+use Rattle.quota_cells.proofs.ScratchLaws.{used_same}
+use Rattle.accounts.specs.Maps.{AccountMaps, Counts, accounts_of}
+use Rattle.accounts.proofs.Laws.{used_within}
 use Rattle.accounts.proofs.TreeLaws.{tree_shown}
 use Rattle.accounts.proofs.Accounts.root.Goals as goal
 
 pub returns-clause-tree : goal.returns-clause-tree
 returns-clause-tree c =
     tree_shown (quota_in c.self.inside.cells) c.self.inside.tree.nodes c.args.self.now.nodes (ap (λ (a : AccountMaps). a.nodes) c.self.view_is) c.node.ensures.tree
+
+pub returns-clause-within : goal.returns-clause-within
+returns-clause-within c =
+    subst (λ (a : AccountMaps). (stored : List (ℕ × ℕ)) → Counts a stored → (account : ℕ) → used_by a.nodes stored account ≤ quota_at a.nodes account) c.self.view_is
+    (λ stored holds account. subst (λ n. n ≤ quota_at (accounts_of c.self.inside.tree c.self.inside.cells).nodes account)
+    (used_same c.self.inside.tree.nodes c.self.inside.cells c.self.invariant c.node.ensures.chains c.used-used.ensures.table.segments_rise c.used-used.ensures.table.stored_count stored holds account)
+    (used_within c.self.inside.tree c.self.inside.cells c.self.invariant c.used-used.ensures.within account))
