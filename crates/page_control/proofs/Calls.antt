@@ -692,8 +692,5 @@ pub starts_dropped : {s now : Plain} {t u : List Ptw} {uid : ℕ} {home : Home} 
 starts_dropped {s = s} {now = now} {t = t} {uid = uid} {home = home} {p = p} e = starts_by s now uid home p t (ptw_at t p) refl e.tie.table e.effect
 
 -- what the frame's page tells of the words that it is seen as
-pub zeros_same : (words those : List ℕ) → words ≡ those → AreZero those → AreZero words
-zeros_same words those same all = rw same all
-
-pub not_zero : (b : Bool) (words those : List ℕ) → words ≡ those → (IsTrue b) ↔ (AreZero those) → b ≡ false → AreZero words → ⊥
-not_zero b words those same zero off all = (let on : b ≡ true = zero.1 (zeros_same those words (sym same) all) in cc)
+pub not_zero : (b : Bool) (words : List ℕ) → (IsTrue b) ↔ (AreZero words) → b ≡ false → AreZero words → ⊥
+not_zero b words zero off all = (let on : b ≡ true = zero.1 all in cc)

@@ -121,7 +121,8 @@ impl<D: Drive> Pages<D> {
     /// Whether all words of frame `f` are 0. It reads words up to the first that isn't. (Source: own.)
     pub fn is_zero(&self, f: u32) -> bool
         requires { f < length self.now.core.frames }
-        ensures { IsTrue result ↔ AreZero (words_in (plain D.pages self.now) f) }
+        ensures zero { IsTrue result ↔ AreZero (words_in (plain D.pages self.now) f) }
+        ensures size { length (words_in (plain D.pages self.now) f) ≡ 1024 }
     {
         self.frames[f as usize].is_zero()
     }
@@ -582,7 +583,7 @@ impl<D: Drive> Pages<D> {
     {
         let p = self.page_in(f);
         let r = self.record_in(home, p);
-        if self.frames[f as usize].is_zero() {
+        if self.is_zero(f) {
             self.unstore(home, p, r);
             self.core.release(f);
             t.set(p, Ptw::Null);

@@ -1,9 +1,8 @@
-use Rattle.std.proofs.Common.{◌≡◌, ◌∙◌, List, ℕ, rules, arith, ap, refl, length, inl, inr}
-use Rattle.std.proofs.lemmas.Grind.{common_steps}
-use Rattle.page_control.specs.Plain.{plain, words_in}
+use Rattle.std.proofs.Common.{rules, arith, ap, refl, inl, inr}
+use Rattle.page_control.specs.Plain.{plain}
 use Rattle.page_control.specs.Tied.{has_record}
 use Rattle.page_control.proofs.Facts.{tied_volume, tied_filed, leaving_within}
-use Rattle.page_control.proofs.Calls.{zeros_same, not_zero}
+use Rattle.page_control.proofs.Calls.{not_zero}
 use Rattle.page_control.proofs.pages.Pages.leave.Goals as goal
 
 pub record_in-r-requires-clause-page : goal.record_in-r-requires-clause-page
@@ -38,49 +37,44 @@ save-requires-clause-volume g c = tied_volume g.D.Drive.pages c.args.self.now _ 
 
 pub returns-then-is_zero-clause-left : goal.returns-then-is_zero-clause-left
 returns-then-is_zero-clause-left g c =
-    let here : words_in (plain g.D.Drive.pages c.args.self.now) c.args.f ≡ c.index.result.now = grind (arith, common_steps) in
     record {
-      zeros = (λ _. zeros_same _ c.index.result.now here (c.is_zero.ensures.zero.0 c.if-is_zero.true), λ _. refl);
+      zeros = (λ _. c.is_zero.ensures.zero.0 c.if-is_zero.true, λ _. refl);
       effect = search rules;
       word = search rules;
-      long = ap (λ (words : List ℕ). length words) here ∙ c.is_zero.ensures.size;
+      long = c.is_zero.ensures.size;
       within = search rules;
     }
 
 pub returns-in-Err-clause-left : goal.returns-in-Err-clause-left
 returns-in-Err-clause-left g c =
-    let here : words_in (plain g.D.Drive.pages c.args.self.now) c.args.f ≡ c.index.result.now = grind (arith, common_steps) in
     record {
-      zeros = (λ same. cc, λ all. absurd (not_zero c.is_zero.result _ c.index.result.now here c.is_zero.ensures.zero c.if-is_zero.false all));
+      zeros = (λ same. cc, λ all. absurd (not_zero c.is_zero.result _ c.is_zero.ensures.zero c.if-is_zero.false all));
       effect = search rules;
       word = refl;
-      long = ap (λ (words : List ℕ). length words) here ∙ c.is_zero.ensures.size;
+      long = c.is_zero.ensures.size;
       within = search rules;
     }
 
 pub returns-clause-left : goal.returns-clause-left
 returns-clause-left g c =
-    let here : words_in (plain g.D.Drive.pages c.args.self.now) c.args.f ≡ c.index.result.now = grind (arith, common_steps) in
     record {
-      zeros = (λ same. cc, λ all. absurd (not_zero c.is_zero.result _ c.index.result.now here c.is_zero.ensures.zero c.if-is_zero.false all));
+      zeros = (λ same. cc, λ all. absurd (not_zero c.is_zero.result _ c.is_zero.ensures.zero c.if-is_zero.false all));
       effect = search rules;
       word = search rules;
-      long = ap (λ (words : List ℕ). length words) here ∙ c.is_zero.ensures.size;
+      long = c.is_zero.ensures.size;
       within = search rules;
     }
 
 pub returns-in-Err-clause-no_call : goal.returns-in-Err-clause-no_call
 returns-in-Err-clause-no_call g c = λ need.
-    let here : words_in (plain g.D.Drive.pages c.args.self.now) c.args.f ≡ c.index.result.now = grind (arith, common_steps) in
     elim need [
-      | inl all ↦ absurd (not_zero c.is_zero.result _ c.index.result.now here c.is_zero.ensures.zero c.if-is_zero.false all)
+      | inl all ↦ absurd (not_zero c.is_zero.result _ c.is_zero.ensures.zero c.if-is_zero.false all)
       | inr off ↦ (let sure = c.save.ensures.sure off in search rules)
     ]
 
 pub returns-clause-no_call : goal.returns-clause-no_call
 returns-clause-no_call g c = λ need.
-    let here : words_in (plain g.D.Drive.pages c.args.self.now) c.args.f ≡ c.index.result.now = grind (arith, common_steps) in
     elim need [
-      | inl all ↦ absurd (not_zero c.is_zero.result _ c.index.result.now here c.is_zero.ensures.zero c.if-is_zero.false all)
+      | inl all ↦ absurd (not_zero c.is_zero.result _ c.is_zero.ensures.zero c.if-is_zero.false all)
       | inr off ↦ (let same = c.save.ensures.no_call off in search rules)
     ]
