@@ -1,5 +1,5 @@
 -- What becomes of the counts of each volume.
-use Rattle.std.proofs.Common.{◌≡◌, ◌≢◌, ℕ, ◌+◌, ◌-◌, ◌<◌, Bool, true, false, cond, eqb, List, [], length, Option, Some, None, is_some, refl, sym, ap}
+use Rattle.std.proofs.Common.{◌≡◌, ◌≢◌, ℕ, suc, ◌+◌, ◌-◌, ◌<◌, Bool, true, false, cond, eqb, List, [], ◌∷◌, length, Option, Some, None, is_some, refl, sym, ap}
 use Rattle.std.proofs.Common.{◌∙◌, arith, inl, inr, get_or, set, map, sum, sum_by, count_by}
 use Rattle.std.proofs.lemmas.Bool.Decides.{eqb_tells, leb_tells}
 use Rattle.std.proofs.lemmas.List.{get_or-set_same, get_or-set_other, length-set, set_past}
@@ -8,18 +8,18 @@ use Rattle.std.proofs.Math.ListN.{get_or-map}
 use Rattle.std.proofs.Math.Seq.{map-set_same}
 use Rattle.bitmap.specs.Bitmap.{in_use}
 use Rattle.vtoc.specs.Vtoc.{Entry, entry_at, uid_of, with_record, fresh_entry}
-use Rattle.page_control.specs.Tied.{flags_in, vtoc_in, uid_at}
-use Rattle.page_control.specs.Plain.{Plain}
+use Rattle.page_control.specs.Tied.{flags_in, vtoc_in, uid_at, map_at}
+use Rattle.page_control.specs.Plain.{Plain, flags_of, file_map_of}
 use Rattle.page_control.specs.declared.Home.{Home}
 use Rattle.page_control.specs.declared.Left.{Left}
 use Rattle.page_control.specs.declared.Left.TheVariants.{Released, Kept}
 use Rattle.core_map.specs.declared.Frame.TheVariants.{Free}
 use Rattle.page_table.specs.declared.Ptw.{Ptw}
 use Rattle.page_table.specs.declared.Ptw.TheVariants.{Null, Out, Here, Leaving}
-use Rattle.page_control.specs.Effects.{evicted, created, brought_in, framed, dropped}
+use Rattle.page_control.specs.Effects.{erased, freed, evicted, created, brought_in, framed, dropped}
 use Rattle.page_control.proofs.Facts.{used_within}
 use Rattle.page_control.proofs.Places.{put, list_within, refile, home_within}
-use Rattle.page_control.specs.Counts.{taken, used, one_more, one_less, KeepsCounts}
+use Rattle.page_control.specs.Counts.{taken, used, named_on, one_more, one_less, KeepsCounts}
 
 -- a count for each volume is told by the list of all
 pub by_list : {X : Type 0} (f : List X → ℕ) (xs ys : List (List X)) → map f xs ≡ map f ys → (v : ℕ) → f (get_or xs v []) ≡ f (get_or ys v [])
@@ -231,6 +231,39 @@ count_fewer table e uid el used =
     there : (entry : Option Entry) → uid_of entry ≡ Some uid → is_some entry ≡ true
     there None is = cc
     there (Some entry) is = refl
+
+-- a page that gives its record back is named no more
+pub named_less : (places : List (Option ℕ)) (n : ℕ) → n < length places → is_some (get_or places n None) ≡ true
+    → count_by is_some (set places n None) + 1 ≡ count_by is_some places
+named_less places n lt there =
+    let all = sum_by-set (λ (y : Option ℕ). cond {A = ℕ} (is_some y) 1 0) places n None None lt in
+    let one : cond {A = ℕ} (is_some (get_or places n None)) 1 0 ≡ 1 = rw there refl in
+    omega (arith, all, one)
+
+pub none_named : (places : List (Option ℕ)) → ((q : ℕ) → get_or places q None ≡ None) → count_by is_some places ≡ 0
+none_named [] none = refl
+none_named (place ∷ places) none = ap (λ (first : Option ℕ). count_by is_some (first ∷ places)) (none 0) ∙ none_named places (λ q. none (suc q))
+
+-- the records of a home are given back: on its volume, and on any
+pub named_here : (vtocs : List (List (Option Entry))) (home : Home) → named_on vtocs home home.volume ≡ count_by is_some (map_at vtocs home)
+unfolding named_on
+named_here vtocs home = elim (eqb_tells home.volume home.volume) [
+  | inl same ↦ rw same.0 refl
+  | inr other ↦ absurd (other.1 refl)
+]
+
+pub taken_erased : (s now : Plain) (home : Home) → now ≡ erased s home
+    → taken now.records home.volume + named_on s.vtocs home home.volume ≡ taken s.records home.volume
+    → (v : ℕ) → taken now.records v + named_on s.vtocs home v ≡ taken s.records v
+unfolding named_on
+taken_erased s now home is here v = elim (eqb_tells v home.volume) [
+  | inl same ↦ rw same.1 here
+  | inr other ↦ (
+      let before : taken now.records v ≡ taken s.records v = ap (λ (x : Plain). taken x.records v) is
+      ∙ ap (count_by (λ flag. flag)) (get_or-set_other s.records home.volume v (freed (flags_of s home.volume) (file_map_of s home)) [] other.1) in
+      rw (other.0, before) (omega arith)
+      )
+]
 
 -- a home that is given back
 pub used_erased : (vtocs now : List (List (Option Entry))) (uid : ℕ) (home : Home) → now ≡ put vtocs home.volume home.entry None → uid_at vtocs home ≡ Some uid

@@ -1,6 +1,6 @@
 -- A segment that is erased.
 use Rattle.std.proofs.Common.{◌≡◌, ◌≢◌, ℕ, ◌+◌, ◌<◌, Bool, true, false, List, [], ◌∷◌, length, Option, None, Some, refl, sym, ap, ◌∙◌, arith, get_or, set, drop}
-use Rattle.std.proofs.Common.{is_some, replicate, inl, inr}
+use Rattle.std.proofs.Common.{is_some, count_by, replicate, inl, inr}
 use Rattle.std.proofs.lemmas.Bool.{cases_eq}
 use Rattle.std.proofs.lemmas.Bool.Decides.{leb_tells}
 use Rattle.std.proofs.lemmas.List.{get_or-set_same, get_or-set_other, get_or_past, set-set, set-get_or, at_drop_all, at_drop_more, drop-set-lt}
@@ -21,6 +21,8 @@ use Rattle.page_control.proofs.Places.{put, put_other, put_here, volume_within, 
 use Rattle.page_control.proofs.Naming.{filed_unstored, filed_freed, maps_freed}
 use Rattle.page_control.proofs.Marks.{tie_mapped}
 use Rattle.page_control.proofs.Homes.{no_record}
+use Rattle.page_control.proofs.Counting.{fewer_at, named_less, none_named, named_here}
+use Rattle.page_control.specs.Counts.{taken, named_on}
 
 freed_some : (flags : List Bool) (places : List (Option ℕ)) (place : Option ℕ) (r : ℕ) → place ≡ Some r
     → freed flags (place ∷ places) ≡ freed (set flags r false) places
@@ -64,6 +66,20 @@ gone_refiled s uid home n q h before =
       | inr other ↦ get_or-set_other (file_map_of s home) n q None None other ∙ before other
     ]
 
+-- a record less is in use, and one less is named
+count_some : (old s : Plain) (uid : ℕ) (home : Home) (n r : ℕ) → uid_at s.vtocs home ≡ Some uid → filed s home n ≡ Some r
+    → in_use (flags_in s.records home.volume) r ≡ true
+    → taken old.records home.volume + count_by is_some (map_at s.vtocs home) ≡ taken s.records home.volume + count_by is_some (map_at old.vtocs home)
+    → taken old.records home.volume + count_by is_some (map_at (refile s.vtocs home n None) home)
+    ≡ taken (put s.records home.volume r false) home.volume + count_by is_some (map_at old.vtocs home)
+count_some old s uid home n r h there on before =
+    let places : List (Option ℕ) = file_map_of s home in
+    let lt : n < length places = within_from places n None (λ none. not_none (get_or places n None) r none there) in
+    let less : taken (put s.records home.volume r false) home.volume + 1 ≡ taken s.records home.volume = fewer_at s.records home.volume r on in
+    let fewer : count_by is_some (map_at (refile s.vtocs home n None) home) + 1 ≡ count_by is_some (map_at s.vtocs home) =
+    ap (λ (map : List (Option ℕ)). count_by is_some map + 1) (map_refiled s.vtocs uid n None home h) ∙ named_less places n lt (ap is_some there) in
+    omega (arith, less, fewer, before)
+
 pub part_some : (old s now : Plain) (uid : ℕ) (home : Home) (n : ℕ) → now ≡ unstored s home n → filed s home n ≡ Some (record_of s home n)
     → IsPartErased old s uid home n
     → IsPartErased old now uid home (n + 1)
@@ -83,6 +99,7 @@ part_some old s now uid home n is there part =
       gone = λ q lt. gone_refiled s uid home n q h (λ other. part.gone q (omega (arith, lt, other)));
       at = uids_refiled s.vtocs uid n None home home h ∙ h;
       records = filed_unstored s.records s.vtocs uid n r home part.records h there;
+      count = count_some old s uid home n r h there on part.count;
     })
 
 -- all pages have given their records back, and the entry is freed
@@ -101,6 +118,14 @@ names_none s uid home old part full = record {
     | inr lt ↦ part.gone q lt.1
   ];
 }
+
+pub count_end : (old s : Plain) (records : List (List Bool)) (uid : ℕ) (home : Home) → records ≡ s.records → IsPartErased old s uid home 256
+    → HasFullMaps (vtoc_in s.vtocs home.volume)
+    → taken records home.volume + named_on old.vtocs home home.volume ≡ taken old.records home.volume
+count_end old s records uid home same part full =
+    let none : count_by is_some (map_at s.vtocs home) ≡ 0 = none_named (map_at s.vtocs home) (names_none s uid home old part full).none in
+    let all = part.count in
+    rw (same, named_here old.vtocs home) (omega (arith, none, all))
 
 -- what erasing leaves to other homes
 abbrev pub erased_vtocs : Plain → Home → List (List (Option Entry))

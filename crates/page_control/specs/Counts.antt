@@ -4,7 +4,8 @@ use Rattle.vtoc.specs.Vtoc.{Entry}
 use Rattle.page_control.specs.declared.Left.{Left}
 use Rattle.page_control.specs.declared.Left.TheVariants.{Released, Kept}
 use Rattle.page_control.specs.Plain.{Plain}
-use Rattle.page_control.specs.Tied.{flags_in, vtoc_in}
+use Rattle.page_control.specs.Tied.{flags_in, vtoc_in, map_at}
+use Rattle.page_control.specs.declared.Home.{Home}
 
 -- how many records of volume v are in use, and how many it has
 abbrev pub taken : List (List Bool) → ℕ → ℕ
@@ -22,6 +23,10 @@ used vtocs v = count_by is_some (vtoc_in vtocs v)
 
 abbrev pub entries : List (List (Option Entry)) → ℕ → ℕ
 entries vtocs v = length (vtoc_in vtocs v)
+
+-- how many records of volume v the file map at a home names
+unfoldable pub named_on : List (List (Option Entry)) → Home → ℕ → ℕ
+named_on vtocs home v = if v == home.volume then count_by is_some (map_at vtocs home) else 0
 
 -- a count for each volume, after one more of volume v, and after one less
 unfoldable pub one_more : (ℕ → ℕ) → ℕ → ℕ → ℕ

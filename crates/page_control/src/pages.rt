@@ -20,7 +20,7 @@ ghost use Rattle.page_control.specs.Steps.{HasLeft, HasRead, HasCreated, HasAske
 ghost use Rattle.page_control.specs.Erasing.{IsPartErased};
 ghost use Rattle.page_control.specs.Picture.{words_at, words_out, is_stored, is_kept, changed_page};
 ghost use Rattle.page_control.specs.Picture.{KeepsWords, ChangesWords, ChangesStored};
-ghost use Rattle.page_control.specs.Counts.{taken, used, one_more, one_less, taken_after, KeepsCounts};
+ghost use Rattle.page_control.specs.Counts.{taken, used, named_on, one_more, one_less, taken_after, KeepsCounts};
 ghost use Rattle.page_control.specs.Drives.{CallsDrive};
 ghost use Rattle.page_control.specs.Tied.{IsTableOf, HasNoFrame, IsMapOf, AreFiled, IsNotStarted, IsBoundOnce};
 ghost use Rattle.page_control.specs.Tied.{IsBoundTo, IsInFrame, IsBlank};
@@ -285,6 +285,8 @@ impl<D: Drive> Pages<D> {
         ensures words { (uid : ℕ) (other : Home) (p : ℕ) → other ≢ home
             → words_at (plain D.pages self.new) uid other p ≡ words_at (plain D.pages self.old) uid other p }
         ensures used { used self.new.volumes.vtocs ≡ one_less (used self.old.volumes.vtocs) home.volume }
+        ensures taken { (v : ℕ) → taken self.new.volumes.records v + named_on self.old.volumes.vtocs home v
+            ≡ taken self.old.volumes.records v }
     {
         self.erase_all(home);
     }
@@ -484,6 +486,8 @@ impl<D: Drive> Pages<D> {
         requires records { AreFiled self.old.volumes.records self.old.volumes.vtocs }
         ensures erased { plain D.pages self.new ≡ erased (plain D.pages self.old) home }
         ensures records { AreFiled self.new.volumes.records self.new.volumes.vtocs }
+        ensures taken { taken self.new.volumes.records home.volume + named_on self.old.volumes.vtocs home home.volume
+            ≡ taken self.old.volumes.records home.volume }
         ensures core { self.new.core ≡ self.old.core }
         ensures drives { self.new.volumes.drives ≡ self.old.volumes.drives }
     {

@@ -1,7 +1,7 @@
 use Rattle.page_control.specs.Plain.{Plain, plain}
 use Rattle.std.proofs.Common.{ap}
 use Rattle.page_control.proofs.Erasing.{uid_erased, uids_erased, maps_erased, stored_erased, zeros_erased, words_erased, ties_erased}
-use Rattle.page_control.proofs.Counting.{used_erased}
+use Rattle.page_control.proofs.Counting.{used_erased, taken_erased}
 use Rattle.page_control.proofs.pages.Pages.erase.Goals as goal
 
 pub returns-clause-home : goal.returns-clause-home
@@ -29,3 +29,6 @@ returns-clause-words g c = words_erased (plain g.D.Drive.pages c.args.self.now) 
 pub returns-clause-used : goal.returns-clause-used
 returns-clause-used g c =
     used_erased c.args.self.now.volumes.vtocs _ _ c.args.home (ap (λ (s : Plain). s.vtocs) c.erase_all.ensures.erased) c.requires.home
+
+pub returns-clause-taken : goal.returns-clause-taken
+returns-clause-taken g c = taken_erased (plain g.D.Drive.pages c.args.self.now) _ c.args.home c.erase_all.ensures.erased c.erase_all.ensures.taken

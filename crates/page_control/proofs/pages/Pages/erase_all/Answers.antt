@@ -4,7 +4,7 @@ use Rattle.volumes.specs.Volumes.{with_vtoc}
 use Rattle.page_control.specs.Plain.{Plain, plain, vtoc_of, uid_of_home}
 use Rattle.page_control.specs.Effects.{erased}
 use Rattle.page_control.specs.Erasing.{IsPartErased}
-use Rattle.page_control.proofs.Erasing.{part_at, full_same, names_same, names_none, all_erased, filed_erased}
+use Rattle.page_control.proofs.Erasing.{part_at, full_same, names_same, names_none, all_erased, filed_erased, count_end}
 use Rattle.page_control.proofs.pages.Pages.erase_all.Goals as goal
 
 pub loop-p-preserved : goal.loop-p-preserved
@@ -53,3 +53,14 @@ returns-clause-records g c =
     (uid_of_home (plain g.D.Drive.pages c.args.self.now) c.args.home) c.args.home (search rules) (search rules) part.at
     (names_none (plain g.D.Drive.pages c.loop-p.self) (uid_of_home (plain g.D.Drive.pages c.args.self.now) c.args.home) c.args.home
     (plain g.D.Drive.pages c.args.self.now) part full) part.records
+
+pub returns-clause-taken : goal.returns-clause-taken
+returns-clause-taken g c =
+    let part : IsPartErased (plain g.D.Drive.pages c.args.self.now) (plain g.D.Drive.pages c.loop-p.self)
+    (uid_of_home (plain g.D.Drive.pages c.args.self.now) c.args.home) c.args.home 256 = part_at (plain g.D.Drive.pages c.args.self.now)
+    (plain g.D.Drive.pages c.loop-p.self) (uid_of_home (plain g.D.Drive.pages c.args.self.now) c.args.home) c.args.home c.loop-p.p 256 (search rules)
+    c.loop-p.invariant.0 in
+    let full : HasFullMaps (vtoc_of (plain g.D.Drive.pages c.loop-p.self) c.args.home.volume) = full_same
+    (vtoc_of (plain g.D.Drive.pages c.loop-p.self) c.args.home.volume) c.vtoc.result.now (search rules) c.size.ensures.places in
+    count_end (plain g.D.Drive.pages c.args.self.now) (plain g.D.Drive.pages c.loop-p.self) c.self.inside.volumes.records
+    (uid_of_home (plain g.D.Drive.pages c.args.self.now) c.args.home) c.args.home (search rules) part full
