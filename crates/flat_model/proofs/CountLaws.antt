@@ -30,16 +30,16 @@ count_without test (x ∷ xs) u p once on = found (is_page u p x) refl (λ rest.
         let second : x.1 ≡ p = grind (arith, nat_tests) in
         let gone : is_stored xs u p ≡ false = sym (ap (λ a. is_stored xs a x.1) first ∙ ap (λ b. is_stored xs u b) second) ∙ once.0 in
         let same : cond {A = ℕ} (test x) 1 0 ≡ cond {A = ℕ} (test (u, p)) 1 0 = ap (λ (a : ℕ). cond {A = ℕ} (test (a, x.1)) 1 0) first
-            ∙ ap (λ (b : ℕ). cond {A = ℕ} (test (u, b)) 1 0) second in
+        ∙ ap (λ (b : ℕ). cond {A = ℕ} (test (u, b)) 1 0) second in
         ap (λ (t : List (ℕ × ℕ)). count_by test t + cond {A = ℕ} (test (u, p)) 1 0) (without_first x xs u (λ q. eqb q p) true e
-            ∙ without_absent xs u p gone) ∙ omega (arith, here, same)
+        ∙ without_absent xs u p gone) ∙ omega (arith, here, same)
     found false e ih =
         let rest : is_stored xs u p ≡ true = grind (arith, nat_tests) in
         let less : count_by test (left xs) + cond {A = ℕ} (test (u, p)) 1 0 ≡ count_by test xs = ih rest in
         let kept : count_by test (x ∷ left xs) ≡ cond {A = ℕ} (test x) 1 0 + count_by test (left xs) =
-            sum_by-cons (λ (y : ℕ × ℕ). cond (test y) 1 0) x (left xs) in
+        sum_by-cons (λ (y : ℕ × ℕ). cond (test y) 1 0) x (left xs) in
         ap (λ (t : List (ℕ × ℕ)). count_by test t + cond {A = ℕ} (test (u, p)) 1 0) (without_first x xs u (λ q. eqb q p) false e)
-            ∙ omega (arith, here, less, kept)
+        ∙ omega (arith, here, less, kept)
 
 -- a new node changes no count of the pages of others
 pub taken_new : (n : Node) (ns : List Node) (xs : List (ℕ × ℕ)) (v : ℕ) → ((page : ℕ) → is_stored xs n.uid page ≡ false)
