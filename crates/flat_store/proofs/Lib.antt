@@ -1,16 +1,1 @@
-pub mod Allowed
-pub mod BookLaws
-pub mod Booted
-pub mod PageLaws
-pub mod Named
-pub mod Numbers
-pub mod Replies
-pub mod Scripts
-pub mod Shallow
-pub mod Stored
-pub mod Changes
-pub mod Followed
-pub mod Charged
-pub mod Known
-pub mod Made
-pub mod WordLaws
+pub mod PagedLaws

@@ -1,56 +1,107 @@
--- Which flat store the program's tables show (own).
-use Rattle.std.specs.Prelude.{◌≡◌, ◌<◌, ◌≤◌, ℕ, ◌+◌, ◌*◌, false, List, [], ◌∷◌, length, Option, Some, None, is_some, slice_index_or}
-use Rattle.script.specs.Plans.{Plan, command_at}
-use Rattle.script.specs.declared.commands.Command.TheVariants as command
+-- What the program of the flat store keeps, and which flat store that shows (own).
+use Rattle.std.specs.Prelude.{◌≡◌, ◌<◌, ◌≤◌, ℕ, ◌+◌, ◌/◌, ◌%◌, Bool, true, false, ◌==◌, if◌then◌else◌, is_some, length, replicate, take, ◌-◌, ◌++◌, slice_index_or, List, [], ◌∷◌, ◌&&◌, Option, Some, None}
+use Rattle.std.specs.Ordering.{nat_cmp, ordering_then}
+use Rattle.std.specs.Map.{lookup}
+use Rattle.std.specs.BTreeMap.{is_at}
+use Rattle.accounts.specs.Maps.{AccountMaps, Counts}
+use Rattle.script.specs.Plans.{Plan}
 use Rattle.tree_model.specs.Tree.{Node, taken_on, entries_on}
-use Rattle.flat_store.specs.Words.{word_at}
-use Rattle.flat_store.specs.Pages.{is_stored, IsOnce}
-use Rattle.flat_store.specs.Flat.{Store, root_of, known_uid, records_of, entries_of}
-use Rattle.flat_store.specs.Kept.{Seg, Kept, gauge_at, seg_at, slot_at, word_of_slot, known_at}
+use Rattle.tree_model.specs.Trees.{has_segment}
+use Rattle.flat_model.specs.Pages.{Words, is_page, is_stored, without_stored, IsOnce}
+use Rattle.flat_model.specs.Store.{Store, records_of, entries_of}
 
--- a node is a segment right below the root
-pub record IsSegment (seg : Seg) (uid : ℕ) (n : Node) : Type 0 where
-  pub named : n.uid ≡ uid
-  pub above : n.superior ≡ Some 1
-  pub name : n.name ≡ seg.name
-  pub kind : n.directory ≡ false
-  pub place : n.volume ≡ seg.volume
-  pub size : n.pages ≡ length seg.slots
-  pub quota : n.quota ≡ 0
+-- How much of something is used, and how much there is.
+pub record Gauge : Type 0 where
+  pub used : ℕ
+  pub most : ℕ
 
--- the nodes are these segments, the newest first, and the root; the segment in place i has uid i + 2
-abbrev pub AreNodes : Plan → List Seg → List Node → Type 0
-AreNodes p segments [] = ⊥
-AreNodes p segments (n ∷ []) = n ≡ root_of p
-AreNodes p segments (n ∷ m ∷ ns) = IsSegment (seg_at segments (length ns)) (length ns + 2) n × AreNodes p segments (m ∷ ns)
+abbrev pub gauge_at : List Gauge → ℕ → Gauge
+gauge_at gauges v = slice_index_or gauges v (record { used = 0; most = 0 })
 
-abbrev pub uid_of_place : Option ℕ → Option ℕ
-uid_of_place None = None
-uid_of_place (Some i) = Some (i + 2)
+abbrev pub is_full : Gauge → Bool
+is_full g = g.used == g.most
 
--- what is kept shows a flat store
-pub record Shows (p : Plan) (k : Kept) (s : Store) : Type 0 where
-  pub nodes : AreNodes p k.segments s.nodes
-  pub count : length s.nodes ≡ length k.segments + 1
-  pub next : s.next ≡ length k.segments + 2
-  pub most : (i : ℕ) → length (seg_at k.segments i).slots ≤ 256
-  pub words : (i page o : ℕ) → page < 256 → o < 1024 → word_at s.words (i + 2) (1024 * page + o) ≡ word_of_slot (slot_at k.segments i page) o
-  pub sizes : (i page : ℕ) (words : List ℕ) → slot_at k.segments i page ≡ Some words → length words ≡ 1024
-  pub stored : (i page : ℕ) → is_stored s.stored (i + 2) page ≡ is_some (slot_at k.segments i page)
-  pub none : (page : ℕ) → (is_stored s.stored 0 page ≡ false) × (is_stored s.stored 1 page ≡ false)
-  pub once : IsOnce s.stored
-  pub quota : k.quota ≡ record { used = length s.stored; most = p.quota }
-  pub records : (v : ℕ) → gauge_at k.records v ≡ record { used = taken_on s.nodes s.stored v; most = records_of p v }
-  pub entries : (v : ℕ) → gauge_at k.entries v ≡ record { used = entries_on s.nodes v; most = entries_of p v }
-  pub within : (v : ℕ) → entries_on s.nodes v ≤ entries_of p v
-  pub volumes : (length k.records ≡ length p.volumes) × (length k.entries ≡ length p.volumes)
-  pub processes : (length k.known ≡ length p.processes) × (length k.places ≡ length p.processes) × (length k.ended ≡ length p.processes)
-  pub numbers : (process number : ℕ) → known_uid s.known process number ≡ uid_of_place (known_at k process number)
-  pub few : (process : ℕ) → length (slice_index_or k.known process []) ≤ 256
-  pub there : (process number i : ℕ) → known_at k process number ≡ Some i → i < length k.segments
-  pub places : k.places ≡ s.places
-  pub ended : k.ended ≡ s.ended
+-- one more, unless all is used; one less
+abbrev pub filled : Gauge → Gauge
+filled g = if g.used == g.most then g else record { used = g.used + 1; most = g.most }
 
--- each segment that a script makes has at most 256 pages
-abbrev pub AreSmall : Plan → Type 0
-AreSmall p = (process place : ℕ) (path : List (List ℕ)) (pages volume : ℕ) → command_at p process place ≡ Some (command.MkSeg path pages volume) → pages ≤ 256
+abbrev pub drained : Gauge → Gauge
+drained g = record { used = g.used - 1; most = g.most }
+
+-- The words of each stored page, by the uid of its segment and its number there.
+abbrev pub Paged : Type 0
+Paged = List ((ℕ × ℕ) × List ℕ)
+
+-- whether a key is that of this page
+abbrev pub is_key : ℕ → ℕ → ℕ × ℕ → Bool
+is_key uid page = is_at (λ y. ordering_then (nat_cmp uid y.0) (nat_cmp page y.1))
+
+abbrev pub page_at : Paged → ℕ → ℕ → Option (List ℕ)
+page_at pages uid page = lookup (is_key uid page) pages
+
+-- the word at a place of a page, 0 where the page isn't there
+abbrev pub word_in : Option (List ℕ) → ℕ → ℕ
+word_in None at = 0
+word_in (Some words) at = slice_index_or words at 0
+
+-- the words of a page, zeros where it isn't there
+abbrev pub words_in : Option (List ℕ) → List ℕ
+words_in None = replicate 1024 0
+words_in (Some words) = words
+
+-- the words of a page are others from now on, or it isn't there any more; all other pages are as they were
+pub record Puts (old new : Paged) (uid page : ℕ) (words : Option (List ℕ)) : Type 0 where
+  pub at : (u q : ℕ) → page_at new u q ≡ (if is_page u q (uid, page) then words else page_at old u q)
+
+-- the words of a page, 0 from a place on
+abbrev pub cut_at : ℕ → List ℕ → List ℕ
+cut_at at words = take at words ++ replicate (1024 - at) 0
+
+abbrev pub Cuts : Paged → Paged → ℕ → ℕ → ℕ → List ℕ → Type 0
+Cuts old new uid page at words = Puts old new uid page (Some (cut_at at words))
+
+-- ---- the holdings, and the flat store that they show
+
+-- the tree with its accounts; the stored pages; for each volume its records, and its VTOC entries
+pub record Held : Type 0 where
+  pub accounts : AccountMaps
+  pub pages : Paged
+  pub records : List Gauge
+  pub entries : List Gauge
+
+-- the length of a node, in pages
+abbrev pub pages_in : List Node → ℕ → ℕ
+pages_in [] u = 0
+pages_in (n ∷ ns) u = if n.uid == u then n.pages else pages_in ns u
+
+-- the pages hold the words, and are those that are stored
+pub record HoldPages (pages : Paged) (words : Words) (stored : List (ℕ × ℕ)) : Type 0 where
+  pub there : (u q : ℕ) → is_stored stored u q ≡ is_some (page_at pages u q)
+  pub once : IsOnce stored
+  pub values : (u o : ℕ) → words u o ≡ word_in (page_at pages u (o / 1024)) (o % 1024)
+  pub sizes : (u q : ℕ) (words : List ℕ) → page_at pages u q ≡ Some words → length words ≡ 1024
+
+-- each stored page is one of a segment that is there, and below its length
+abbrev pub AreInside : List Node → List (ℕ × ℕ) → Type 0
+AreInside nodes stored = (u q : ℕ) → is_stored stored u q ≡ true → (has_segment nodes u ≡ true) × (q < pages_in nodes u)
+
+-- the holdings show the tree, the words and the stored pages, on the volumes of the script
+pub record Holds (p : Plan) (h : Held) (s : Store) : Type 0 where
+  pub nodes : s.nodes ≡ h.accounts.nodes
+  pub next : s.next ≡ h.accounts.next
+  pub counts : Counts h.accounts s.stored
+  pub pages : HoldPages h.pages s.words s.stored
+  pub inside : AreInside s.nodes s.stored
+  pub records : (v : ℕ) → gauge_at h.records v ≡ record { used = taken_on s.nodes s.stored v; most = records_of p v }
+  pub entries : (v : ℕ) → gauge_at h.entries v ≡ record { used = entries_on s.nodes v; most = entries_of p v }
+
+-- holdings that show some flat store
+abbrev pub IsHeld : Held → Type 0
+IsHeld h = (p : Plan) × (s : Store) × Holds p h s
+
+-- the store once the pages of a segment that pass a test are stored no more, and their words are 0
+abbrev pub without_pages : Store → ℕ → (ℕ → Bool) → Store
+without_pages s uid test = record s {
+  words = λ u o. if u == uid && test (o / 1024) then 0 else s.words u o;
+  stored = without_stored s.stored uid test;
+}

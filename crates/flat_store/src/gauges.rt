@@ -1,9 +1,9 @@
-ghost use Rattle.std.specs.Prelude.{◌≡◌, ◌<◌};
-ghost use Rattle.flat_store.specs.Kept.{is_full, filled, drained};
+ghost use Rattle.std.specs.Prelude.{◌≡◌, slice_set};
+ghost use Rattle.flat_store.specs.Shown.{gauge_at, is_full, filled, drained};
 
 use std::marker::Model;
 
-/// How much of something is used, and how much there is: pages of a quota, records of a volume, entries of its VTOC.
+/// How much of something is used, and how much there is: records of a volume, entries of its VTOC.
 #[derive(Drop)]
 pub(crate) struct Gauge {
     used: u32,
@@ -12,9 +12,9 @@ pub(crate) struct Gauge {
 
 impl Model for Gauge {
     ghost use Rattle.std.specs.Prelude.{◌≤◌};
-    ghost use Rattle.flat_store.specs.Kept.{Gauge as Kept};
+    ghost use Rattle.flat_store.specs.Shown.{Gauge as Gauged};
 
-    ghost Value = { Kept };
+    ghost Value = { Gauged };
 
     ghost view = { λ g. record { used = g.used; most = g.most } };
 
@@ -57,5 +57,43 @@ impl Gauge {
         ensures { self.new ≡ drained self.old }
     {
         self.used = self.used.saturating_sub(1);
+    }
+}
+
+/// How much is used of the gauge of that number.
+pub(crate) fn used_at(gauges: &[Gauge], i: u32) -> u32
+    ensures { result ≡ (gauge_at gauges.now i).used }
+{
+    match gauges.get(i as usize) {
+        Some(gauge) => gauge.used(),
+        None => 0,
+    }
+}
+
+/// Whether all of the gauge of that number is used; where there is none, there is nothing to use.
+pub(crate) fn is_full_at(gauges: &[Gauge], i: u32) -> bool
+    ensures { result ≡ is_full (gauge_at gauges.now i) }
+{
+    match gauges.get(i as usize) {
+        Some(gauge) => gauge.is_full(),
+        None => true,
+    }
+}
+
+/// One more of the gauge of that number is used.
+pub(crate) fn fill_at(gauges: &mut Vec<Gauge>, i: u32)
+    ensures { gauges.new.items ≡ slice_set gauges.old.items i (filled (gauge_at gauges.old.items i)) }
+{
+    if let Some(gauge) = gauges.get_mut(i as usize) {
+        gauge.fill();
+    }
+}
+
+/// One less of the gauge of that number is used.
+pub(crate) fn drain_at(gauges: &mut Vec<Gauge>, i: u32)
+    ensures { gauges.new.items ≡ slice_set gauges.old.items i (drained (gauge_at gauges.old.items i)) }
+{
+    if let Some(gauge) = gauges.get_mut(i as usize) {
+        gauge.drain();
     }
 }

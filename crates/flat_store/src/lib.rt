@@ -1,17 +1,28 @@
-//! The flat store: a plain machine without frames, page tables or descriptors, which says what each
-//! command of a script is answered and what it changes. The definitions stand in `specs/`; `FlatStore`
-//! is the program of them.
+//! The flat store: a plain machine without frames, page tables or descriptors, which says what each command of a script
+//! is answered and what it changes. The definitions are those of `flat_model`; `FlatStore` is the program of them.
 #![tactic(auto)]
 
-mod follows;
 mod gauges;
-mod segment_list;
-mod segments;
-mod store;
-mod tables;
-
-pub use store::FlatStore;
+mod pages;
 
 /// There wasn't enough memory.
 #[derive(Clone, Copy, Debug, PartialEq, Eq)]
 pub struct NoMemory;
+
+impl From<accounts::NoMemory> for NoMemory {
+    fn from(_: accounts::NoMemory) -> Self {
+        NoMemory
+    }
+}
+
+impl From<known_segs::NoMemory> for NoMemory {
+    fn from(_: known_segs::NoMemory) -> Self {
+        NoMemory
+    }
+}
+
+impl From<mword::NoMemory> for NoMemory {
+    fn from(_: mword::NoMemory) -> Self {
+        NoMemory
+    }
+}

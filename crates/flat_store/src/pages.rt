@@ -1,0 +1,109 @@
+ghost use Rattle.std.specs.Prelude.{◌≡◌, ◌<◌, ◌≤◌, List, ◌+◌, ◌-◌, ◌↔◌, ◌++◌, ℕ, true, false, []};
+ghost use Rattle.std.specs.Prelude.{Some, None, IfSome, IfNone, OnOk, OnErr, IsTrue, if◌then◌else◌, length, replicate, take, slice_set, is_some};
+ghost use Rattle.mword.specs.Words.{AreZero};
+ghost use Rattle.flat_store.specs.Shown.{page_at, words_in, cut_at, Puts, Cuts};
+
+use crate::NoMemory;
+use mword::{Page, Word};
+use std::alloc::Global;
+use std::collections::BTreeMap;
+use std::marker::Model;
+
+/// The stored pages, with their words: each takes its 8 KiB only while it is stored. A contract sees them by the uid of
+/// their segment and their number there.
+#[derive(Drop)]
+pub(crate) struct Pages {
+    alloc: Global,
+    pages: BTreeMap<(u32, u32), Page>,
+}
+
+impl Model for Pages {
+    ghost use Rattle.flat_store.specs.Shown.{Paged};
+
+    ghost Value = { Paged };
+
+    ghost view = { λ p. p.pages.entries };
+}
+
+impl Pages {
+    /// No page.
+    pub(crate) fn new(alloc: Global) -> Pages
+        ensures { result ≡ [] }
+    {
+        Pages {
+            alloc,
+            pages: BTreeMap::new(alloc),
+        }
+    }
+
+    /// The words of a page. `None` exactly where it isn't stored.
+    pub(crate) fn get(&self, uid: u32, page: u32) -> Option<&Page>
+        ensures some { IfSome result (λ words. page_at self.now uid page ≡ Some words.now) }
+        ensures none { IfNone result (page_at self.now uid page ≡ None) }
+    {
+        self.pages.get(&(uid, page))
+    }
+
+    /// A page is stored no more.
+    pub(crate) fn remove(&mut self, uid: u32, page: u32)
+        ensures { Puts self.old self.new uid page None }
+    {
+        self.pages.remove(&(uid, page));
+    }
+
+    /// Writes a word into a page, which is stored from then on.
+    ///
+    /// # Errors
+    /// `NoMemory` is want of memory for a page that isn't stored; then nothing is changed.
+    pub(crate) fn put(
+        &mut self,
+        uid: u32,
+        page: u32,
+        at: u32,
+        word: Word,
+    ) -> Result<(), NoMemory>
+        requires { at < 1024 }
+        ensures ok { OnOk result (Puts self.old self.new uid page
+            (Some (slice_set (words_in (page_at self.old uid page)) at word))) }
+        ensures err { OnErr result (self.new ≡ self.old) }
+    {
+        match self.pages.get_mut(&(uid, page)) {
+            Some(words) => {
+                words.set(at, word);
+                Ok(())
+            }
+            None => self.add(uid, page, at, word),
+        }
+    }
+
+    /// A page with this one word comes.
+    fn add(&mut self, uid: u32, page: u32, at: u32, word: Word) -> Result<(), NoMemory>
+        requires { at < 1024 }
+        ensures ok { OnOk result (Puts self.old self.new uid page (Some (slice_set (replicate 1024 0) at word))) }
+        ensures err { OnErr result (self.new ≡ self.old) }
+    {
+        let mut words = Page::zero(self.alloc)?;
+        words.set(at, word);
+        match self.pages.insert((uid, page), words) {
+            Ok(_) => Ok(()),
+            Err(_) => Err(NoMemory),
+        }
+    }
+
+    /// The words of a page from a place on become 0, if it is stored. Whether each of its words is 0 then; false where it
+    /// isn't stored.
+    pub(crate) fn cut(&mut self, uid: u32, page: u32, at: u32) -> bool
+        requires { at ≤ 1024 }
+        ensures some { (words : List ℕ) → page_at self.old uid page ≡ Some words
+            → Cuts self.old self.new uid page at words × (IsTrue result ↔ AreZero (cut_at at words)) }
+        ensures none { page_at self.old uid page ≡ None → (self.new ≡ self.old) × (result ≡ false) }
+    {
+        match self.pages.get_mut(&(uid, page)) {
+            Some(words) => {
+                words.clear_from(at);
+                words.is_zero()
+            }
+            None => false,
+        }
+    }
+}
