@@ -1,1 +1,4 @@
+pub mod DropLaws
+pub mod GaugeLaws
+pub mod NodeLaws
 pub mod PagedLaws

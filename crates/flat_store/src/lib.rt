@@ -3,6 +3,7 @@
 #![tactic(auto)]
 
 mod gauges;
+mod holdings;
 mod pages;
 
 /// There wasn't enough memory.

@@ -44,6 +44,13 @@ impl Pages {
         self.pages.get(&(uid, page))
     }
 
+    /// Whether a page is stored.
+    pub(crate) fn has(&self, uid: u32, page: u32) -> bool
+        ensures { result ≡ is_some (page_at self.now uid page) }
+    {
+        self.get(uid, page).is_some()
+    }
+
     /// A page is stored no more.
     pub(crate) fn remove(&mut self, uid: u32, page: u32)
         ensures { Puts self.old self.new uid page None }
