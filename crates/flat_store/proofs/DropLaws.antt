@@ -122,6 +122,7 @@ drop_shown p s h k u q holds there drops =
       counts = counts_dropped h.accounts k.accounts s.stored u q holds.counts once on drops.accounts;
       pages = pages_dropped h.pages k.pages s.words s.stored u q holds.pages drops.pages;
       inside = inside_without s.nodes s.stored u (λ r. eqb r q) holds.inside;
+      flat = holds.flat;
       records = λ v. ap (λ (g : List Gauge). gauge_at g v) (drops.records ∙ ap (λ (ns : List Node). set h.records (volume_in ns u) (drained (gauge_at h.records (volume_in ns u)))) (sym holds.nodes))
         ∙ records_dropped h.records (records_of p) s.nodes s.stored u q once on holds.records v;
       entries = λ v. ap (λ (g : List Gauge). gauge_at g v) drops.entries ∙ holds.entries v;

@@ -1,13 +1,16 @@
 -- What the program of the flat store keeps, and which flat store that shows (own).
-use Rattle.std.specs.Prelude.{◌≡◌, ◌<◌, ◌≤◌, ℕ, ◌+◌, ◌/◌, ◌%◌, Bool, true, false, ◌==◌, if◌then◌else◌, is_some, length, replicate, take, ◌-◌, ◌++◌, slice_index_or, List, [], ◌∷◌, ◌&&◌, Option, Some, None}
+use Rattle.std.specs.Prelude.{◌≡◌, ◌<◌, ◌≤◌, ℕ, ◌+◌, ◌/◌, ◌%◌, Bool, true, false, ◌==◌, if◌then◌else◌, is_some, length, replicate, take, ◌-◌, ◌++◌, slice_index_or, List, [], ◌∷◌, ◌&&◌, ◌||◌, not, Option, Some, None}
 use Rattle.std.specs.Ordering.{nat_cmp, ordering_then}
 use Rattle.std.specs.Map.{lookup}
 use Rattle.std.specs.BTreeMap.{is_at}
 use Rattle.accounts.specs.Maps.{AccountMaps, Counts}
 use Rattle.script.specs.Plans.{Plan}
-use Rattle.tree_model.specs.Tree.{Node, taken_on, entries_on}
+use Rattle.script.specs.declared.commands.RefKind.{RefKind}
+use Rattle.book.specs.declared.replies.Reply.{Reply}
+use Rattle.tree_model.specs.Tree.{Node, has_directory, volume_in, taken_on, entries_on}
 use Rattle.tree_model.specs.Trees.{has_segment}
 use Rattle.flat_model.specs.Pages.{Words, is_page, is_stored, without_stored, IsOnce}
+use Rattle.flat_model.specs.References.{is_used_up, is_volume_full, stores_page, room_reply, word_reply}
 use Rattle.flat_model.specs.Store.{Store, records_of, entries_of}
 
 -- How much of something is used, and how much there is.
@@ -85,6 +88,10 @@ pub record HoldPages (pages : Paged) (words : Words) (stored : List (ℕ × ℕ)
 abbrev pub AreInside : List Node → List (ℕ × ℕ) → Type 0
 AreInside nodes stored = (u q : ℕ) → is_stored stored u q ≡ true → (has_segment nodes u ≡ true) × (q < pages_in nodes u)
 
+-- a directory has no pages
+abbrev pub AreFlat : List Node → Type 0
+AreFlat nodes = (u : ℕ) → has_directory nodes u ≡ true → pages_in nodes u ≡ 0
+
 -- the holdings show the tree, the words and the stored pages, on the volumes of the script
 pub record Holds (p : Plan) (h : Held) (s : Store) : Type 0 where
   pub nodes : s.nodes ≡ h.accounts.nodes
@@ -92,6 +99,7 @@ pub record Holds (p : Plan) (h : Held) (s : Store) : Type 0 where
   pub counts : Counts h.accounts s.stored
   pub pages : HoldPages h.pages s.words s.stored
   pub inside : AreInside s.nodes s.stored
+  pub flat : AreFlat s.nodes
   pub records : (v : ℕ) → gauge_at h.records v ≡ record { used = taken_on s.nodes s.stored v; most = records_of p v }
   pub entries : (v : ℕ) → gauge_at h.entries v ≡ record { used = entries_on s.nodes v; most = entries_of p v }
 
@@ -105,3 +113,17 @@ without_pages s uid test = record s {
   words = λ u o. if u == uid && test (o / 1024) then 0 else s.words u o;
   stored = without_stored s.stored uid test;
 }
+
+-- what a reference is answered that neither access nor the length of the segment refuses
+abbrev pub page_reply : Plan → Store → ℕ → RefKind → Node → Reply
+page_reply p s offset how n =
+    if stores_page s n.uid offset how then room_reply p s n (word_reply (s.words n.uid offset) how)
+    else word_reply (s.words n.uid offset) how
+
+-- there is room for a page more of a segment: in the quota of its account, and in the records of its volume
+abbrev pub has_room : Plan → Store → ℕ → Bool
+has_room p s uid = not (is_used_up s uid) && not (is_volume_full p s (volume_in s.nodes uid))
+
+-- a word may be written: it is 0, or its page is stored, or there is room for one
+abbrev pub may_write : Plan → Store → ℕ → ℕ → ℕ → Bool
+may_write p s uid offset w = w == 0 || (is_stored s.stored uid (offset / 1024) || has_room p s uid)

@@ -41,7 +41,7 @@ impl Model for Holdings {
 
 #[tactic(auto, using(crate::proofs::NodeLaws::pages_found, crate::proofs::NodeLaws::no_pages))]
 /// The length of a node, in pages; 0 where it isn't there.
-fn pages_of(accounts: &Accounts, uid: u32) -> u32
+pub(crate) fn pages_of(accounts: &Accounts, uid: u32) -> u32
     ensures { result ≡ pages_in accounts.now.nodes uid }
 {
     match accounts.node(uid) {
@@ -52,7 +52,7 @@ fn pages_of(accounts: &Accounts, uid: u32) -> u32
 
 #[tactic(auto, using(crate::proofs::NodeLaws::volume_found, crate::proofs::NodeLaws::no_volume))]
 /// The volume of a node; 0 where it isn't there.
-fn volume_of(accounts: &Accounts, uid: u32) -> u32
+pub(crate) fn volume_of(accounts: &Accounts, uid: u32) -> u32
     ensures { result ≡ volume_in accounts.now.nodes uid }
 {
     match accounts.node(uid) {

@@ -5,6 +5,7 @@
 mod gauges;
 mod holdings;
 mod pages;
+mod references;
 
 /// There wasn't enough memory.
 #[derive(Clone, Copy, Debug, PartialEq, Eq)]

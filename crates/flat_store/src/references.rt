@@ -1,0 +1,222 @@
+ghost use Rattle.std.specs.Prelude.{◌≡◌, ◌≢◌, ◌<◌, ◌/◌, ℕ, is_some, true, false, Some, OnOk, OnErr};
+ghost use Rattle.script.specs.Plans.{Plan, who_of};
+ghost use Rattle.tree_model.specs.Tree.{Node, node_in};
+ghost use Rattle.tree_model.specs.Trees.{has_segment};
+ghost use Rattle.flat_model.specs.Pages.{is_stored};
+ghost use Rattle.flat_model.specs.References.{alters, new_word, permits, reply_at, room_reply, stores_page, word_reply, written, written_by};
+ghost use Rattle.flat_model.specs.Commands.{takes_effect};
+ghost use Rattle.flat_model.specs.Store.{Store};
+ghost use Rattle.flat_store.specs.Shown.{Holds, has_room, may_write, page_at, page_reply, pages_in};
+
+use crate::NoMemory;
+use crate::gauges::{fill_at, is_full_at};
+use crate::holdings::{Holdings, pages_of, volume_of};
+use book::Reply;
+use mnames::{Mode, Who};
+use mword::{Page, Word};
+use script::RefKind;
+
+/// Whether a mode permits a reference: a read asks for the right to read, a write for that to write, an addition for
+/// both.
+fn permits(mode: Mode, kind: &RefKind) -> bool
+    ensures { result ≡ permits mode kind.now }
+{
+    match kind {
+        RefKind::Read => matches!(mode, Mode::Read | Mode::Both),
+        RefKind::Write(_) => matches!(mode, Mode::Write | Mode::Both),
+        RefKind::Add(_) => mode == Mode::Both,
+    }
+}
+
+/// Whether a reference writes the word.
+fn alters(kind: &RefKind) -> bool
+    ensures { result ≡ alters kind.now }
+{
+    match kind {
+        RefKind::Read => false,
+        RefKind::Write(_) | RefKind::Add(_) => true,
+    }
+}
+
+/// The word that stands there after a reference.
+fn new_word(old: Word, kind: &RefKind) -> Word
+    ensures { result ≡ new_word old kind.now }
+{
+    match kind {
+        RefKind::Read => old,
+        RefKind::Write(word) => *word,
+        RefKind::Add(word) => old.plus(*word),
+    }
+}
+
+/// What a reference is answered that isn't refused, where this word stood before.
+fn word_reply(old: Word, kind: &RefKind) -> Reply
+    ensures { result ≡ word_reply old kind.now }
+{
+    match kind {
+        RefKind::Read => Reply::Word(old),
+        RefKind::Write(_) => Reply::Done,
+        RefKind::Add(_) => Reply::Word(new_word(old, kind)),
+    }
+}
+
+impl Holdings {
+    /// The word at an offset of a segment; 0 where none was written.
+    pub(crate) fn word(&self, uid: u32, offset: u32) -> Word
+        ensures { (p : Plan) (s : Store) → Holds p self.now s → result ≡ s.words uid offset }
+    {
+        match self.pages.get(uid, offset / Page::WORDS) {
+            Some(page) => page.get(offset % Page::WORDS),
+            None => Word::ZERO,
+        }
+    }
+
+    /// Whether a page is stored.
+    pub(crate) fn is_stored(&self, uid: u32, page: u32) -> bool
+        ensures { (p : Plan) (s : Store) → Holds p self.now s → result ≡ is_stored s.stored uid page }
+    {
+        self.pages.has(uid, page)
+    }
+
+    /// Whether a reference brings a word other than 0 into a page that isn't stored.
+    fn stores_page(&self, uid: u32, offset: u32, kind: &RefKind) -> bool
+        ensures { (p : Plan) (s : Store) → Holds p self.now s → result ≡ stores_page s uid offset kind.now }
+    {
+        if !alters(kind) {
+            return false;
+        }
+        let word = new_word(self.word(uid, offset), kind);
+        word.value() != 0 && !self.is_stored(uid, offset / Page::WORDS)
+    }
+
+    /// What a reference is answered that stores a page more of a segment: `Quota` where its account has used up its
+    /// quota, `NoRecord` where all records of its volume are taken; else as it would be.
+    fn room_reply(&self, uid: u32, volume: u32, otherwise: Reply) -> Reply
+        requires { has_segment self.now.accounts.nodes uid ≡ true }
+        ensures { (p : Plan) (s : Store) (n : Node) → Holds p self.now s → n.uid ≡ uid → n.volume ≡ volume
+            → result ≡ room_reply p s n otherwise }
+    {
+        if self.accounts.may_charge(uid).is_err() {
+            Reply::Quota
+        } else if is_full_at(&self.records, volume) {
+            Reply::NoRecord
+        } else {
+            otherwise
+        }
+    }
+
+    /// What a principal is answered to a reference to a segment, which may have been deleted.
+    pub(crate) fn reply_at(&self, who: &Who, uid: u32, offset: u32, kind: &RefKind) -> Reply
+        ensures { (p : Plan) (s : Store) (k : ℕ) → Holds p self.now s → who.now ≡ who_of p k
+            → result ≡ reply_at p s k offset kind.now (node_in s.nodes uid) }
+    {
+        let Some(node) = self.accounts.node(uid) else {
+            return Reply::Gone;
+        };
+        if !permits(node.acl.access_of(who), kind) {
+            return Reply::NoAccess;
+        }
+        if offset / Page::WORDS >= node.length {
+            return Reply::Length;
+        }
+        self.page_reply(uid, node.volume, offset, kind)
+    }
+
+    /// What a reference is answered that neither access nor the length of the segment refuses.
+    fn page_reply(&self, uid: u32, volume: u32, offset: u32, kind: &RefKind) -> Reply
+        requires { has_segment self.now.accounts.nodes uid ≡ true }
+        ensures { (p : Plan) (s : Store) (n : Node) → Holds p self.now s → n.uid ≡ uid → n.volume ≡ volume
+            → result ≡ page_reply p s offset kind.now n }
+    {
+        let reply = word_reply(self.word(uid, offset), kind);
+        if self.stores_page(uid, offset, kind) {
+            self.room_reply(uid, volume, reply)
+        } else {
+            reply
+        }
+    }
+
+    /// Whether there is room for a page more of a segment.
+    fn has_room(&self, uid: u32) -> bool
+        requires { has_segment self.now.accounts.nodes uid ≡ true }
+        ensures { (p : Plan) (s : Store) → Holds p self.now s → result ≡ has_room p s uid }
+    {
+        let volume = volume_of(&self.accounts, uid);
+        self.accounts.may_charge(uid).is_ok() && !is_full_at(&self.records, volume)
+    }
+
+    /// Writes a word into a page that is stored.
+    fn put_word(&mut self, uid: u32, offset: u32, word: Word) -> Result<(), NoMemory>
+        requires { is_some (page_at self.old.pages uid (offset / 1024)) ≡ true }
+        ensures ok { OnOk result ((p : Plan) (s : Store) → Holds p self.old s
+            → Holds p self.new (written s uid offset word)) }
+        ensures err { OnErr result (self.new ≡ self.old) }
+    {
+        let page = offset / Page::WORDS;
+        self.pages.put(uid, page, offset % Page::WORDS, word)?;
+        Ok(())
+    }
+
+    /// Writes a word other than 0 into a page that isn't stored, and is from then on, if there is room for it.
+    fn store_word(&mut self, uid: u32, offset: u32, word: Word) -> Result<(), NoMemory>
+        requires segment { has_segment self.old.accounts.nodes uid ≡ true }
+        requires within { offset / 1024 < pages_in self.old.accounts.nodes uid }
+        requires absent { is_some (page_at self.old.pages uid (offset / 1024)) ≡ false }
+        requires other { word ≢ 0 }
+        ensures ok { OnOk result ((p : Plan) (s : Store) → Holds p self.old s → has_room p s uid ≡ true
+            → Holds p self.new (written s uid offset word)) }
+        ensures err { OnErr result (self.new ≡ self.old) }
+    {
+        if !self.has_room(uid) {
+            return Ok(());
+        }
+        let volume = volume_of(&self.accounts, uid);
+        let page = offset / Page::WORDS;
+        self.pages.put(uid, page, offset % Page::WORDS, word)?;
+        match self.accounts.charge(uid) {
+            Ok(()) => fill_at(&mut self.records, volume),
+            Err(_) => unreachable!(),
+        }
+        Ok(())
+    }
+
+    /// Writes a word of a segment. A page that gets a word other than 0 is stored from then on, if there is room for it.
+    fn write(&mut self, uid: u32, offset: u32, word: Word) -> Result<(), NoMemory>
+        requires segment { has_segment self.old.accounts.nodes uid ≡ true }
+        requires within { offset / 1024 < pages_in self.old.accounts.nodes uid }
+        ensures ok { OnOk result ((p : Plan) (s : Store) → Holds p self.old s → may_write p s uid offset word ≡ true
+            → Holds p self.new (written s uid offset word)) }
+        ensures err { OnErr result (self.new ≡ self.old) }
+    {
+        if self.pages.has(uid, offset / Page::WORDS) {
+            return self.put_word(uid, offset, word);
+        }
+        if word.value() == 0 {
+            return Ok(());
+        }
+        self.store_word(uid, offset, word)
+    }
+
+    /// Does what a reference to a segment does that isn't refused.
+    ///
+    /// # Errors
+    /// `NoMemory` is want of memory for a page; then nothing is changed.
+    pub(crate) fn refer(&mut self, uid: u32, offset: u32, kind: &RefKind) -> Result<(), NoMemory>
+        ensures ok { OnOk result ((p : Plan) (s : Store) (k : ℕ) → Holds p self.old s
+            → takes_effect (reply_at p s k offset kind.now (node_in s.nodes uid)) ≡ true
+            → Holds p self.new (written_by s offset kind.now (Some uid))) }
+        ensures err { OnErr result (self.new ≡ self.old) }
+    {
+        if !alters(kind) {
+            return Ok(());
+        }
+        let Some(node) = self.accounts.node(uid) else {
+            return Ok(());
+        };
+        if offset / Page::WORDS >= node.length {
+            return Ok(());
+        }
+        let word = new_word(self.word(uid, offset), kind);
+        self.write(uid, offset, word)
+    }
+}
