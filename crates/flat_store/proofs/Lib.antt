@@ -3,6 +3,10 @@ pub mod GaugeLaws
 pub mod NodeLaws
 pub mod OkLaws
 pub mod PagedLaws
+pub mod PathLaws
 pub mod PutLaws
 pub mod ReferLaws
 pub mod ReplyLaws
+pub mod SizeLaws
+pub mod TreeLaws
+pub mod TreeReplies

@@ -1,5 +1,5 @@
 -- What the program of the flat store keeps, and which flat store that shows (own).
-use Rattle.std.specs.Prelude.{◌≡◌, ◌<◌, ◌≤◌, ℕ, ◌+◌, ◌/◌, ◌%◌, Bool, true, false, ◌==◌, if◌then◌else◌, is_some, length, replicate, take, ◌-◌, ◌++◌, slice_index_or, List, [], ◌∷◌, ◌&&◌, ◌||◌, not, Option, Some, None}
+use Rattle.std.specs.Prelude.{◌≡◌, ◌<◌, ◌≤◌, ℕ, ◌+◌, ◌/◌, ◌%◌, Bool, true, false, ◌==◌, if◌then◌else◌, is_some, length, replicate, take, ◌-◌, ◌++◌, slice_index_or, List, [], ◌∷◌, ◌&&◌, ◌||◌, not, Option, Some, None, Result, Ok}
 use Rattle.std.specs.Ordering.{nat_cmp, ordering_then}
 use Rattle.std.specs.Map.{lookup}
 use Rattle.std.specs.BTreeMap.{is_at}
@@ -7,7 +7,9 @@ use Rattle.accounts.specs.Maps.{AccountMaps, Counts}
 use Rattle.script.specs.Plans.{Plan}
 use Rattle.script.specs.declared.commands.RefKind.{RefKind}
 use Rattle.book.specs.declared.replies.Reply.{Reply}
-use Rattle.tree_model.specs.Tree.{Node, has_directory, volume_in, taken_on, entries_on}
+use Rattle.tree_model.specs.Tree.{Node, has_directory, node_in, quota_in, volume_in, taken_on, entries_on}
+use Rattle.dir_tree.specs.declared.node.Node.{Node as Branch}
+use Rattle.dir_tree.specs.Nodes.{as_term}
 use Rattle.tree_model.specs.Trees.{has_segment}
 use Rattle.flat_model.specs.Pages.{Words, is_page, is_stored, without_stored, IsOnce}
 use Rattle.flat_model.specs.References.{is_used_up, is_volume_full, stores_page, room_reply, word_reply}
@@ -127,3 +129,11 @@ has_room p s uid = not (is_used_up s uid) && not (is_volume_full p s (volume_in 
 -- a word may be written: it is 0, or its page is stored, or there is room for one
 abbrev pub may_write : Plan → Store → ℕ → ℕ → ℕ → Bool
 may_write p s uid offset w = w == 0 || (is_stored s.stored uid (offset / 1024) || has_room p s uid)
+
+-- a path leads to this node
+abbrev pub IsFound : List Node → Result Node Reply → Branch → Type 0
+IsFound nodes found n = found ≡ Ok (as_term (quota_in nodes) n)
+
+-- a node is in the tree
+abbrev pub IsThere : List Node → Branch → Type 0
+IsThere nodes n = node_in nodes n.uid ≡ Some (as_term (quota_in nodes) n)

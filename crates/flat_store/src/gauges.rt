@@ -1,4 +1,4 @@
-ghost use Rattle.std.specs.Prelude.{◌≡◌, slice_set};
+ghost use Rattle.std.specs.Prelude.{◌≡◌, nat_le, slice_set};
 ghost use Rattle.flat_store.specs.Shown.{gauge_at, is_full, filled, drained};
 
 use std::marker::Model;
@@ -36,9 +36,10 @@ impl Gauge {
         self.used
     }
 
-    /// Whether all is used.
+    /// Whether all is used, which is never exceeded.
     pub(crate) fn is_full(&self) -> bool
-        ensures { result ≡ is_full self.now }
+        ensures used { result ≡ is_full self.now }
+        ensures most { result ≡ nat_le self.now.most self.now.used }
     {
         self.used == self.most
     }
@@ -72,7 +73,8 @@ pub(crate) fn used_at(gauges: &[Gauge], i: u32) -> u32
 
 /// Whether all of the gauge of that number is used; where there is none, there is nothing to use.
 pub(crate) fn is_full_at(gauges: &[Gauge], i: u32) -> bool
-    ensures { result ≡ is_full (gauge_at gauges.now i) }
+    ensures used { result ≡ is_full (gauge_at gauges.now i) }
+    ensures most { result ≡ nat_le (gauge_at gauges.now i).most (gauge_at gauges.now i).used }
 {
     match gauges.get(i as usize) {
         Some(gauge) => gauge.is_full(),

@@ -4,8 +4,12 @@
 
 mod gauges;
 mod holdings;
+mod making;
 mod pages;
+mod paths;
 mod references;
+mod rights;
+mod sizes;
 
 /// There wasn't enough memory.
 #[derive(Clone, Copy, Debug, PartialEq, Eq)]

@@ -1,0 +1,19 @@
+use Rattle.std.proofs.Common.{◌≡◌, ℕ, Bool, true, false, List, Ok, Err, refl, sym, ap, subst, ◌∙◌, eqb, arith}
+use Rattle.tree_model.specs.Tree.{Node, quota_in, used_by}
+use Rattle.dir_tree.specs.Nodes.{as_term}
+use Rattle.flat_store.specs.Shown.{Held, Holds}
+use Rattle.flat_store.proofs.TreeReplies.{acl_refused, acl_told}
+use Rattle.flat_store.proofs.holdings.Holdings.acl_reply.Goals as goal
+
+pub returns-then-takes : goal.returns-then-takes
+returns-then-takes c = λ p s h.
+    acl_told s c.args.self.now.accounts.nodes c.args.path.now h.nodes c.args.row.now (as_term (quota_in c.args.self.now.accounts.nodes) c.in-Ok.node.now) true c.in-Ok.ensures.ok
+    (sym c.takes.ensures ∙ c.if-takes.true)
+
+pub returns-else-takes : goal.returns-else-takes
+returns-else-takes c = λ p s h.
+    acl_told s c.args.self.now.accounts.nodes c.args.path.now h.nodes c.args.row.now (as_term (quota_in c.args.self.now.accounts.nodes) c.in-Ok.node.now) false c.in-Ok.ensures.ok
+    (sym c.takes.ensures ∙ c.if-takes.false)
+
+pub returns-in-Err : goal.returns-in-Err
+returns-in-Err c = λ p s h. acl_refused s c.args.self.now.accounts.nodes c.args.path.now h.nodes c.args.row.now c.in-Err.reply c.in-Err.ensures.err

@@ -1,0 +1,19 @@
+use Rattle.std.proofs.Common.{◌≡◌, ℕ, Bool, true, false, List, Ok, Err, refl, sym, ap, subst, ◌∙◌, eqb, arith}
+use Rattle.tree_model.specs.Tree.{Node, quota_in, used_by}
+use Rattle.dir_tree.specs.Nodes.{as_term}
+use Rattle.flat_store.specs.Shown.{Held, Holds}
+use Rattle.flat_store.proofs.TreeReplies.{length_refused, length_told}
+use Rattle.flat_store.proofs.holdings.Holdings.length_reply.Goals as goal
+
+pub returns-then-is_stored_from : goal.returns-then-is_stored_from
+returns-then-is_stored_from c = λ p s h.
+    length_told s c.args.self.now.accounts.nodes c.args.path.now h.nodes c.args.pages (as_term (quota_in c.args.self.now.accounts.nodes) c.in-Ok.node.now) true c.in-Ok.ensures.ok
+    (sym (c.is_stored_from.ensures p s h) ∙ c.if-is_stored_from.true)
+
+pub returns-else-is_stored_from : goal.returns-else-is_stored_from
+returns-else-is_stored_from c = λ p s h.
+    length_told s c.args.self.now.accounts.nodes c.args.path.now h.nodes c.args.pages (as_term (quota_in c.args.self.now.accounts.nodes) c.in-Ok.node.now) false c.in-Ok.ensures.ok
+    (sym (c.is_stored_from.ensures p s h) ∙ c.if-is_stored_from.false)
+
+pub returns-in-Err : goal.returns-in-Err
+returns-in-Err c = λ p s h. length_refused s c.args.self.now.accounts.nodes c.args.path.now h.nodes c.args.pages c.in-Err.reply c.in-Err.ensures.err

@@ -1,0 +1,13 @@
+use Rattle.std.proofs.Common.{◌≡◌, ℕ, Bool, true, false, List, Ok, Err, refl, sym, ap, subst, ◌∙◌, eqb, arith}
+use Rattle.tree_model.specs.Tree.{Node, quota_in, used_by}
+use Rattle.dir_tree.specs.Nodes.{as_term}
+use Rattle.flat_store.specs.Shown.{Held, Holds}
+use Rattle.flat_store.proofs.TreeReplies.{truncate_refused, truncate_told}
+use Rattle.flat_store.proofs.holdings.Holdings.truncate_reply.Goals as goal
+
+pub returns-in-Ok : goal.returns-in-Ok
+returns-in-Ok c = λ p s h.
+    truncate_told s c.args.self.now.accounts.nodes c.args.path.now h.nodes (as_term (quota_in c.args.self.now.accounts.nodes) c.in-Ok.field-0.now) c.in-Ok.ensures.ok
+
+pub returns-in-Err : goal.returns-in-Err
+returns-in-Err c = λ p s h. truncate_refused s c.args.self.now.accounts.nodes c.args.path.now h.nodes c.in-Err.reply c.in-Err.ensures.err

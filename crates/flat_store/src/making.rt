@@ -1,0 +1,106 @@
+ghost use Rattle.std.specs.Prelude.{◌≡◌, ◌<◌, ◌^◌, not, true};
+ghost use Rattle.tree_model.specs.Tree.{Node as Term, has_directory, quota_in};
+ghost use Rattle.tree_model.specs.Trees.{has_segment};
+ghost use Rattle.script.specs.Plans.{Plan};
+ghost use Rattle.flat_model.specs.Commands.{takes_effect};
+ghost use Rattle.flat_model.specs.Making.{make_in, make_reply, after_make, delete_reply, after_delete};
+ghost use Rattle.flat_model.specs.Naming.{status_reply};
+ghost use Rattle.flat_model.specs.Store.{Store};
+ghost use Rattle.flat_store.specs.Shown.{Holds};
+
+use crate::gauges::{is_full_at, fill_at, drain_at};
+use crate::holdings::Holdings;
+use book::Reply;
+use dir_tree::{AddFault, Node};
+use mnames::{Name, Path};
+
+impl Holdings {
+    /// What the making of a directory or a segment in a directory is answered.
+    fn make_in(&self, superior: u32, name: &Name, volume: u32, dir: bool) -> Reply
+        requires { has_directory self.now.accounts.nodes superior ≡ true }
+        ensures { (p : Plan) (s : Store) (d : Term) → Holds p self.now s → d.uid ≡ superior
+            → result ≡ make_in p s volume dir name.now d }
+    {
+        match self.accounts.may_add(superior, name, dir) {
+            Ok(()) if is_full_at(&self.entries, volume) => Reply::NoEntry,
+            Ok(()) => Reply::Made(self.accounts.next_uid()),
+            Err(AddFault::Exists) => Reply::Exists,
+            Err(AddFault::Deep) => Reply::Deep,
+            Err(AddFault::Room) => Reply::Room,
+        }
+    }
+
+    /// What the making of a directory or a segment is answered.
+    pub(crate) fn make_reply(&self, path: &Path, volume: u32, dir: bool) -> Reply
+        ensures { (p : Plan) (s : Store) → Holds p self.now s → result ≡ make_reply p s path.now volume dir }
+    {
+        let Some((above, name)) = path.split_last() else {
+            return Reply::Exists;
+        };
+        match self.node_at(&above) {
+            Ok(node) => {
+                if node.dir {
+                    self.make_in(node.uid, name, volume, dir)
+                } else {
+                    Reply::NotDir
+                }
+            }
+            Err(reply) => reply,
+        }
+    }
+
+    /// The quota of a node; 0 of a segment.
+    fn quota_of(&self, node: &Node) -> u32
+        requires directory { has_directory self.now.accounts.nodes node.now.uid ≡ node.now.dir }
+        requires segment { has_segment self.now.accounts.nodes node.now.uid ≡ not node.now.dir }
+        ensures { result ≡ quota_in self.now.accounts.nodes node.now.uid }
+    {
+        if node.dir {
+            self.accounts.quota(node.uid)
+        } else {
+            let _stored = self.accounts.stored(node.uid);
+            0
+        }
+    }
+
+    /// What the deletion of a directory or a segment is answered.
+    pub(crate) fn delete_reply(&self, path: &Path) -> Reply
+        ensures { (p : Plan) (s : Store) → Holds p self.now s → result ≡ delete_reply s path.now }
+    {
+        let node = match self.branch_at(path) {
+            Ok(node) => node,
+            Err(reply) => return reply,
+        };
+        if self.accounts.may_remove(node.uid).is_err() {
+            Reply::NotEmpty
+        } else if self.quota_of(node) == 0 {
+            Reply::Done
+        } else {
+            Reply::HasQuota
+        }
+    }
+
+    /// What is told of a directory or a segment.
+    pub(crate) fn status_reply(&self, path: &Path) -> Reply
+        ensures { (p : Plan) (s : Store) → Holds p self.now s → result ≡ status_reply s path.now }
+    {
+        let node = match self.node_at(path) {
+            Ok(node) => node,
+            Err(reply) => return reply,
+        };
+        let uid = node.uid;
+        if node.dir {
+            let quota = self.accounts.quota(uid);
+            let used = self.accounts.used(uid);
+            Reply::DirIs { uid, quota, used }
+        } else {
+            let length = node.length;
+            let stored = self.accounts.stored(uid);
+            Reply::SegIs {
+                uid,
+                length,
+                stored,
+            }
+        }
+    }
+}

@@ -1,0 +1,52 @@
+ghost use Rattle.std.specs.Prelude.{◌≡◌, true};
+ghost use Rattle.script.specs.Plans.{Plan};
+ghost use Rattle.flat_model.specs.Commands.{takes_effect};
+ghost use Rattle.flat_model.specs.Pages.{is_stored_from};
+ghost use Rattle.flat_model.specs.Sizes.{length_reply, truncate_reply, after_length, after_truncate};
+ghost use Rattle.flat_model.specs.Store.{Store};
+ghost use Rattle.flat_store.specs.Shown.{Holds};
+
+use crate::holdings::{Holdings, pages_of};
+use book::Reply;
+use mnames::Path;
+use mword::Page;
+
+impl Holdings {
+    /// Whether a page of a segment is stored whose number is this one or above.
+    fn is_stored_from(&self, uid: u32, from: u32) -> bool
+        ensures { (p : Plan) (s : Store) → Holds p self.now s → result ≡ is_stored_from s.stored uid from }
+    {
+        for page in from..pages_of(&self.accounts, uid) {
+            if self.pages.has(uid, page) {
+                return true;
+            }
+        }
+        false
+    }
+
+    /// What the change of a segment's length is answered.
+    pub(crate) fn length_reply(&self, path: &Path, pages: u32) -> Reply
+        ensures { (p : Plan) (s : Store) → Holds p self.now s → result ≡ length_reply s path.now pages }
+    {
+        match self.segment_at(path) {
+            Ok(node) => {
+                if self.is_stored_from(node.uid, pages) {
+                    Reply::Beyond
+                } else {
+                    Reply::Done
+                }
+            }
+            Err(reply) => reply,
+        }
+    }
+
+    /// What the truncation of a segment is answered.
+    pub(crate) fn truncate_reply(&self, path: &Path) -> Reply
+        ensures { (p : Plan) (s : Store) → Holds p self.now s → result ≡ truncate_reply s path.now }
+    {
+        match self.segment_at(path) {
+            Ok(_) => Reply::Done,
+            Err(reply) => reply,
+        }
+    }
+}
