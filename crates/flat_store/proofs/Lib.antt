@@ -1,3 +1,4 @@
+pub mod ChangeLaws
 pub mod DropLaws
 pub mod GaugeLaws
 pub mod NodeLaws

@@ -1,0 +1,203 @@
+-- Nodes are changed, but for where they lie and what they are.
+use Rattle.std.proofs.Common.{◌≡◌, ◌≢◌, ℕ, ◌+◌, ◌-◌, ◌<◌, Bool, true, false, cond, eqb, not, List, [], ◌∷◌, map, Option, Some, None, refl, sym, ap, subst, ◌∙◌, arith, inl, inr}
+use Rattle.std.specs.Prelude.{count_by, nat_le}
+use Rattle.std.proofs.lemmas.Bool.{cases_Bool, cases_eq, eq-eqb, ne_eqb}
+use Rattle.std.proofs.lemmas.Bool.Decides.{nat_tests}
+use Rattle.std.proofs.lemmas.List.Sums.{sum_by-cons}
+use Rattle.accounts.specs.Maps.{AccountMaps, Changes, Counts, rows_in}
+use Rattle.script.specs.Plans.{Plan}
+use Rattle.tree_model.specs.Access.{Row}
+use Rattle.tree_model.specs.Quotas.{with_quota_of, with_moved}
+use Rattle.tree_model.specs.Tree.{Node, entries_on, has_directory, node_in, taken_on, volume_in, with_node}
+use Rattle.tree_model.specs.Trees.{has_segment}
+use Rattle.flat_model.specs.Pages.{is_stored, is_stored_from}
+use Rattle.flat_model.specs.Store.{Store, records_of, entries_of}
+use Rattle.flat_model.proofs.PageLaws.{stored_from}
+use Rattle.flat_store.specs.Shown.{AreFlat, AreInside, Gauge, gauge_at, Held, Holds, pages_in}
+
+-- a change of a node keeps its uid, its volume and its kind
+pub record Keeps (change : Node → Node) : Type 0 where
+  pub uid : (n : Node) → (change n).uid ≡ n.uid
+  pub volume : (n : Node) → (change n).volume ≡ n.volume
+  pub kind : (n : Node) → (change n).directory ≡ n.directory
+
+-- nodes that lie on the same volumes and are of the same kinds
+pub record AreAlike (ns ms : List Node) : Type 0 where
+  pub volume : (u : ℕ) → volume_in ms u ≡ volume_in ns u
+  pub segment : (u : ℕ) → has_segment ms u ≡ has_segment ns u
+  pub directory : (u : ℕ) → has_directory ms u ≡ has_directory ns u
+  pub entries : (v : ℕ) → entries_on ms v ≡ entries_on ns v
+
+module _ (f : Node → Node) (keeps : Keeps f) where
+  volume_map : (ns : List Node) (u : ℕ) → volume_in (map f ns) u ≡ volume_in ns u
+  volume_map [] u = refl
+  volume_map (n ∷ ns) u = rw (keeps.uid n, keeps.volume n) (ap (cond (eqb n.uid u) n.volume) (volume_map ns u))
+
+  segment_map : (ns : List Node) (u : ℕ) → has_segment (map f ns) u ≡ has_segment ns u
+  segment_map [] u = refl
+  segment_map (n ∷ ns) u = rw (keeps.uid n, keeps.kind n) (ap (cond (eqb n.uid u) (not n.directory)) (segment_map ns u))
+
+  directory_map : (ns : List Node) (u : ℕ) → has_directory (map f ns) u ≡ has_directory ns u
+  directory_map [] u = refl
+  directory_map (n ∷ ns) u = rw (keeps.uid n, keeps.kind n) (ap (cond (eqb n.uid u) n.directory) (directory_map ns u))
+
+  entries_map : (ns : List Node) (v : ℕ) → entries_on (map f ns) v ≡ entries_on ns v
+  unfolding entries_on
+  entries_map [] v = refl
+  entries_map (n ∷ ns) v =
+      sum_by-cons (λ (x : Node). cond (eqb x.volume v) 1 0) (f n) (map f ns)
+      ∙ ap (λ (x : ℕ). cond {A = ℕ} (eqb x v) 1 0 + count_by (λ y. eqb y.volume v) (map f ns)) (keeps.volume n)
+      ∙ ap (λ (x : ℕ). cond {A = ℕ} (eqb n.volume v) 1 0 + x) (entries_map ns v)
+      ∙ sym (sum_by-cons (λ (x : Node). cond (eqb x.volume v) 1 0) n ns)
+
+  pub alike_map : (ns : List Node) → AreAlike ns (map f ns)
+  alike_map ns = record { volume = volume_map ns; segment = segment_map ns; directory = directory_map ns; entries = entries_map ns }
+
+  pub pages_map : ((n : Node) → (f n).pages ≡ n.pages) → (ns : List Node) (u : ℕ) → pages_in (map f ns) u ≡ pages_in ns u
+  pages_map same [] u = refl
+  pages_map same (n ∷ ns) u = rw (keeps.uid n, same n) (ap (cond (eqb n.uid u) n.pages) (pages_map same ns u))
+
+-- a change of one node
+pub keeps_one : (u : ℕ) (change : Node → Node) → Keeps change → Keeps (λ n. cond (eqb n.uid u) (change n) n)
+keeps_one u change keeps = record {
+  uid = λ n. here (λ (x : Node). x.uid ≡ n.uid) n (eqb n.uid u) (keeps.uid n) refl;
+  volume = λ n. here (λ (x : Node). x.volume ≡ n.volume) n (eqb n.uid u) (keeps.volume n) refl;
+  kind = λ n. here (λ (x : Node). x.directory ≡ n.directory) n (eqb n.uid u) (keeps.kind n) refl;
+}
+  where
+    here : (P : Node → Type 0) (n : Node) (z : Bool) → P (change n) → P n → P (cond z (change n) n)
+    here P n true a b = a
+    here P n false a b = b
+
+taken_same : (ns ms : List Node) (xs : List (ℕ × ℕ)) (v : ℕ) → ((u : ℕ) → volume_in ms u ≡ volume_in ns u) → taken_on ms xs v ≡ taken_on ns xs v
+unfolding taken_on
+taken_same ns ms xs v same = ap (λ (f : ℕ × ℕ → Bool). count_by f xs) (λ i. λ x. eqb (same x.0 i) v)
+
+-- the holdings once the nodes are changed
+pub changed_shown : (p : Plan) (s : Store) (h k : Held) (ms : List Node) → Holds p h s → Changes h.accounts k.accounts ms → k ≡ record h { accounts = k.accounts } → AreAlike s.nodes ms
+    → AreInside ms s.stored → AreFlat ms → Holds p k (record s { nodes = ms })
+changed_shown p s h k ms holds changes same alike inside flat = subst (λ (x : Held). Holds p x (record s { nodes = ms })) (sym same) (record {
+  nodes = sym changes.nodes;
+  next = holds.next ∙ sym changes.next;
+  counts = λ u. changes.counts u ∙ holds.counts u;
+  pages = holds.pages;
+  inside = inside;
+  flat = flat;
+  records = λ v. holds.records v ∙ ap (λ (n : ℕ). record { used = n; most = records_of p v }) (sym (taken v));
+  entries = λ v. holds.entries v ∙ ap (λ (n : ℕ). record { used = n; most = entries_of p v }) (sym (alike.entries v));
+})
+  where
+    taken : (v : ℕ) → taken_on ms s.stored v ≡ taken_on s.nodes s.stored v
+    taken v = taken_same s.nodes ms s.stored v alike.volume
+
+-- where lengths stay, what is stored stays inside
+pub inside_alike : (ns ms : List Node) (xs : List (ℕ × ℕ)) → AreAlike ns ms → ((u : ℕ) → pages_in ms u ≡ pages_in ns u) → AreInside ns xs → AreInside ms xs
+inside_alike ns ms xs alike pages inside u q on = (alike.segment u ∙ (inside u q on).0, subst (λ (n : ℕ). q < n) (sym (pages u)) (inside u q on).1)
+
+pub flat_alike : (ns ms : List Node) → AreAlike ns ms → ((u : ℕ) → pages_in ms u ≡ pages_in ns u) → AreFlat ns → AreFlat ms
+flat_alike ns ms alike pages flat u is = pages u ∙ flat u (sym (alike.directory u) ∙ is)
+
+-- ---- rows
+
+pub rows_found : (ns : List Node) (u : ℕ) (n : Node) → node_in ns u ≡ Some n → rows_in ns u ≡ n.rows
+rows_found [] u n e = cc
+rows_found (m ∷ ns) u n e = elim (cases_Bool (eqb m.uid u)) [
+  | inl is ↦ (let z : Some m ≡ Some n = rw is at e in let same : m ≡ n = cc in rw is (ap (λ (x : Node). x.rows) same))
+  | inr isnt ↦ rw isnt (rows_found ns u n (rw isnt at e))
+]
+
+pub keeps_rows : (change : List Row → List Row) → Keeps (λ n. record n { rows = change n.rows })
+keeps_rows change = record { uid = λ n. refl; volume = λ n. refl; kind = λ n. refl }
+
+-- ---- quota
+
+keeps_quota : (u : ℕ) (change : ℕ → ℕ) → Keeps (with_quota_of u change)
+keeps_quota u change = keeps_one u (λ n. record n { quota = change n.quota }) (record { uid = λ n. refl; volume = λ n. refl; kind = λ n. refl })
+
+pages_quota : (u : ℕ) (change : ℕ → ℕ) (n : Node) → (with_quota_of u change n).pages ≡ n.pages
+pages_quota u change n = here (eqb n.uid u)
+  where
+    here : (z : Bool) → (cond z (record n { quota = change n.quota }) n).pages ≡ n.pages
+    here true = refl
+    here false = refl
+
+keeps_both : (f g : Node → Node) → Keeps f → Keeps g → Keeps (λ n. f (g n))
+keeps_both f g a b = record {
+  uid = λ n. a.uid (g n) ∙ b.uid n;
+  volume = λ n. a.volume (g n) ∙ b.volume n;
+  kind = λ n. a.kind (g n) ∙ b.kind n;
+}
+
+pub moved_alike : (ns : List Node) (giver getter pages : ℕ) → AreAlike ns (with_moved ns giver getter pages)
+moved_alike ns giver getter pages =
+    alike_map (λ n. with_quota_of giver (λ q. q - pages) (with_quota_of getter (λ q. q + pages) n))
+    (keeps_both (with_quota_of giver (λ q. q - pages)) (with_quota_of getter (λ q. q + pages)) (keeps_quota giver (λ q. q - pages)) (keeps_quota getter (λ q. q + pages))) ns
+
+pub moved_pages : (ns : List Node) (giver getter pages u : ℕ) → pages_in (with_moved ns giver getter pages) u ≡ pages_in ns u
+moved_pages ns giver getter pages u =
+    pages_map (λ n. with_quota_of giver (λ q. q - pages) (with_quota_of getter (λ q. q + pages) n))
+    (keeps_both (with_quota_of giver (λ q. q - pages)) (with_quota_of getter (λ q. q + pages)) (keeps_quota giver (λ q. q - pages)) (keeps_quota getter (λ q. q + pages)))
+    (λ n. pages_quota giver (λ q. q - pages) (with_quota_of getter (λ q. q + pages) n) ∙ pages_quota getter (λ q. q + pages) n) ns u
+
+-- ---- lengths
+
+pub keeps_length : (pages : ℕ) → Keeps (λ n. record n { pages = pages })
+keeps_length pages = record { uid = λ n. refl; volume = λ n. refl; kind = λ n. refl }
+
+abbrev pub with_length : List Node → ℕ → ℕ → List Node
+with_length ns u pages = with_node ns u (λ n. record n { pages = pages })
+
+length_set : (ns : List Node) (u pages : ℕ) → has_segment ns u ≡ true → pages_in (with_length ns u pages) u ≡ pages
+length_set [] u pages is = cc
+length_set (n ∷ ns) u pages is = elim (cases_Bool (eqb n.uid u)) [
+  | inl here ↦ rw here (rw here refl)
+  | inr there ↦ rw there (rw there (length_set ns u pages (rw there at is)))
+]
+
+length_other : (ns : List Node) (u pages v : ℕ) → v ≢ u → pages_in (with_length ns u pages) v ≡ pages_in ns v
+length_other [] u pages v apart = refl
+length_other (n ∷ ns) u pages v apart = elim (cases_Bool (eqb n.uid u)) [
+  | inl here ↦
+    (let is : n.uid ≡ u = grind (arith, nat_tests) in
+    let other : eqb n.uid v ≡ false = (let ne : n.uid ≢ v = omega (arith, is, apart) in grind (arith, nat_tests)) in
+    rw (here, other) (length_other ns u pages v apart))
+  | inr there ↦ rw there (ap (cond (eqb n.uid v) n.pages) (length_other ns u pages v apart))
+]
+
+no_directory : (ns : List Node) (u : ℕ) → has_segment ns u ≡ true → has_directory ns u ≡ false
+no_directory [] u is = cc
+no_directory (n ∷ ns) u is = elim (cases_Bool (eqb n.uid u)) [
+  | inl here ↦ rw here (back n.directory (rw here at is))
+  | inr there ↦ rw there (no_directory ns u (rw there at is))
+]
+  where
+    back : (z : Bool) → not z ≡ true → z ≡ false
+    back true e = cc
+    back false e = refl
+
+pub length_inside : (ns : List Node) (xs : List (ℕ × ℕ)) (u pages : ℕ) → has_segment ns u ≡ true → is_stored_from xs u pages ≡ false → AreInside ns xs → AreInside (with_length ns u pages) xs
+length_inside ns xs u pages is none inside v q on =
+    let alike = alike_map (λ n. cond (eqb n.uid u) (record n { pages = pages }) n) (keeps_one u (λ n. record n { pages = pages }) (keeps_length pages)) ns in
+    (alike.segment v ∙ (inside v q on).0, elim (cases_eq v u) [
+      | inl same ↦
+        (let here : is_stored xs u q ≡ true = ap (λ (x : ℕ). is_stored xs x q) (sym same) ∙ on in
+        let size : pages_in (with_length ns u pages) v ≡ pages = ap (pages_in (with_length ns u pages)) same ∙ length_set ns u pages is in
+        omega (arith, size, below q here))
+      | inr apart ↦ subst (λ (n : ℕ). q < n) (sym (length_other ns u pages v apart)) (inside v q on).1
+    ])
+  where
+    below : (q : ℕ) → is_stored xs u q ≡ true → q < pages
+    below q on = elim (cases_Bool (nat_le pages q)) [
+      | inl le ↦ (let clash : true ≡ false = sym (stored_from xs u pages q on le) ∙ none in cc)
+      | inr lt ↦ grind (arith, nat_tests)
+    ]
+
+pub length_flat : (ns : List Node) (u pages : ℕ) → has_segment ns u ≡ true → AreFlat ns → AreFlat (with_length ns u pages)
+length_flat ns u pages is flat v dir =
+    let alike = alike_map (λ n. cond (eqb n.uid u) (record n { pages = pages }) n) (keeps_one u (λ n. record n { pages = pages }) (keeps_length pages)) ns in
+    elim (cases_eq v u) [
+      | inl same ↦
+        (let here : has_directory ns u ≡ true = ap (has_directory ns) (sym same) ∙ sym (alike.directory v) ∙ dir in
+        let clash : true ≡ false = sym here ∙ no_directory ns u is in cc)
+      | inr apart ↦ length_other ns u pages v apart ∙ flat v (sym (alike.directory v) ∙ dir)
+    ]
