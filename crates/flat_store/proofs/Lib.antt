@@ -1,5 +1,6 @@
 pub mod ChangeLaws
 pub mod DropLaws
+pub mod EffectLaws
 pub mod GaugeLaws
 pub mod NodeLaws
 pub mod OkLaws

@@ -43,4 +43,29 @@ impl Holdings {
             Err(MoveFault::Over { account }) => Reply::Over(account),
         }
     }
+
+    /// Sets a row of a segment's access control list, unless that is refused.
+    pub(crate) fn set_row(&mut self, path: &Path, row: &Row, mode: Mode)
+        ensures { (p : Plan) (s : Store) → Holds p self.old s → takes_effect (acl_reply s path.now row.now) ≡ true
+            → Holds p self.new (after_acl s path.now row.now mode) }
+    {
+        let uid = match self.segment_at(path) {
+            Ok(node) => node.uid,
+            Err(_) => return,
+        };
+        let _refused = self.accounts.set_row(uid, row.copied(), mode);
+    }
+
+    /// Moves an amount of quota, unless that is refused.
+    pub(crate) fn move_quota(&mut self, path: &Path, amount: i32)
+        requires { 0 < unsigned_abs amount }
+        ensures { (p : Plan) (s : Store) → Holds p self.old s → takes_effect (move_reply s path.now amount) ≡ true
+            → Holds p self.new (after_move s path.now amount) }
+    {
+        let uid = match self.directory_at(path) {
+            Ok(node) => node.uid,
+            Err(_) => return,
+        };
+        let _refused = self.accounts.move_quota(uid, amount);
+    }
 }

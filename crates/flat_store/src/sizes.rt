@@ -49,4 +49,18 @@ impl Holdings {
             Err(reply) => reply,
         }
     }
+
+    /// Changes a segment's length, unless that is refused.
+    pub(crate) fn set_length(&mut self, path: &Path, pages: u32)
+        ensures { (p : Plan) (s : Store) → Holds p self.old s → takes_effect (length_reply s path.now pages) ≡ true
+            → Holds p self.new (after_length s path.now pages) }
+    {
+        let uid = match self.segment_at(path) {
+            Ok(node) => node.uid,
+            Err(_) => return,
+        };
+        if !self.is_stored_from(uid, pages) {
+            self.accounts.set_length(uid, pages);
+        }
+    }
 }
