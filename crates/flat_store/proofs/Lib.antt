@@ -2,6 +2,7 @@ pub mod ChangeLaws
 pub mod DropLaws
 pub mod EffectLaws
 pub mod GaugeLaws
+pub mod MakeLaws
 pub mod NodeLaws
 pub mod OkLaws
 pub mod PagedLaws

@@ -3,16 +3,20 @@ ghost use Rattle.tree_model.specs.Tree.{Node as Term, has_directory, quota_in};
 ghost use Rattle.tree_model.specs.Trees.{has_segment};
 ghost use Rattle.script.specs.Plans.{Plan};
 ghost use Rattle.flat_model.specs.Commands.{takes_effect};
-ghost use Rattle.flat_model.specs.Making.{make_in, make_reply, after_make, delete_reply, after_delete};
+ghost use Rattle.flat_model.specs.Making.{made_in, make_in, make_reply, after_make, delete_reply, after_delete};
 ghost use Rattle.flat_model.specs.Naming.{status_reply};
 ghost use Rattle.flat_model.specs.Store.{Store};
 ghost use Rattle.flat_store.specs.Shown.{Holds};
 
 use crate::gauges::{is_full_at, fill_at, drain_at};
 use crate::holdings::Holdings;
+use acl::Acl;
 use book::Reply;
-use dir_tree::{AddFault, Node};
+use dir_tree::{AddFault, NewNode, Node};
 use mnames::{Name, Path};
+
+/// More uids than a tree ever gives: no script has so many commands.
+const UIDS: u32 = 1 << 31;
 
 impl Holdings {
     /// What the making of a directory or a segment in a directory is answered.
@@ -101,6 +105,50 @@ impl Holdings {
                 length,
                 stored,
             }
+        }
+    }
+
+    /// Adds a branch to a directory, unless that is refused.
+    fn add(&mut self, superior: u32, new: NewNode)
+        requires directory { has_directory self.old.accounts.nodes superior ≡ true }
+        requires flat { new.dir ≡ true → new.length ≡ 0 }
+        ensures { (p : Plan) (s : Store) (d : Term) → Holds p self.old s → d.uid ≡ superior → s.next < 2 ^ 31
+            → takes_effect (make_in p s new.volume new.dir new.name d) ≡ true
+            → Holds p self.new (made_in s new.volume new.dir new.length new.acl new.name d) }
+    {
+        let volume = new.volume;
+        if is_full_at(&self.entries, volume) || self.accounts.next_uid() >= UIDS {
+            return;
+        }
+        if self.accounts.add(superior, new).is_ok() {
+            fill_at(&mut self.entries, volume);
+        }
+    }
+
+    /// Makes a directory or a segment, unless that is refused.
+    pub(crate) fn make(&mut self, path: &Path, volume: u32, dir: bool, pages: u32, acl: Acl)
+        requires { dir ≡ true → pages ≡ 0 }
+        ensures { (p : Plan) (s : Store) → Holds p self.old s → s.next < 2 ^ 31
+            → takes_effect (make_reply p s path.now volume dir) ≡ true
+            → Holds p self.new (after_make s path.now volume dir pages acl) }
+    {
+        let Some((above, name)) = path.split_last() else {
+            return;
+        };
+        let (superior, is_directory) = match self.node_at(&above) {
+            Ok(node) => (node.uid, node.dir),
+            Err(_) => return,
+        };
+        if is_directory {
+            let new = NewNode {
+                name: name.copied(),
+                dir,
+                volume,
+                entry: 0,
+                length: pages,
+                acl,
+            };
+            self.add(superior, new);
         }
     }
 }
