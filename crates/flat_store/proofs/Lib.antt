@@ -1,4 +1,5 @@
 pub mod ChangeLaws
+pub mod CutLaws
 pub mod DropLaws
 pub mod EffectLaws
 pub mod GaugeLaws
@@ -9,6 +10,7 @@ pub mod PagedLaws
 pub mod PathLaws
 pub mod PutLaws
 pub mod ReferLaws
+pub mod RemoveLaws
 pub mod ReplyLaws
 pub mod SizeLaws
 pub mod TreeLaws

@@ -1,5 +1,5 @@
 -- What the program of the flat store keeps, and which flat store that shows (own).
-use Rattle.std.specs.Prelude.{◌≡◌, ◌<◌, ◌≤◌, ℕ, ◌+◌, ◌/◌, ◌%◌, Bool, true, false, ◌==◌, if◌then◌else◌, is_some, length, replicate, take, ◌-◌, ◌++◌, slice_index_or, List, [], ◌∷◌, ◌&&◌, ◌||◌, not, Option, Some, None, Result, Ok}
+use Rattle.std.specs.Prelude.{nat_le, ◌≡◌, ◌≢◌, ◌<◌, ◌≤◌, ℕ, ◌+◌, ◌/◌, ◌%◌, Bool, true, false, ◌==◌, if◌then◌else◌, is_some, length, replicate, take, ◌-◌, ◌++◌, slice_index_or, List, [], ◌∷◌, ◌&&◌, ◌||◌, not, Option, Some, None, Result, Ok}
 use Rattle.std.specs.Ordering.{nat_cmp, ordering_then}
 use Rattle.std.specs.Map.{lookup}
 use Rattle.std.specs.BTreeMap.{is_at}
@@ -7,11 +7,11 @@ use Rattle.accounts.specs.Maps.{AccountMaps, Counts}
 use Rattle.script.specs.Plans.{Plan}
 use Rattle.script.specs.declared.commands.RefKind.{RefKind}
 use Rattle.book.specs.declared.replies.Reply.{Reply}
-use Rattle.tree_model.specs.Tree.{Node, has_directory, node_in, quota_in, volume_in, taken_on, entries_on}
+use Rattle.tree_model.specs.Tree.{Node, has_directory, node_in, without_node, quota_in, volume_in, taken_on, entries_on}
 use Rattle.dir_tree.specs.declared.node.Node.{Node as Branch}
-use Rattle.dir_tree.specs.Nodes.{as_term}
+use Rattle.dir_tree.specs.Nodes.{as_term, has_inferior}
 use Rattle.tree_model.specs.Trees.{has_segment}
-use Rattle.flat_model.specs.Pages.{Words, is_page, is_stored, without_stored, IsOnce}
+use Rattle.flat_model.specs.Pages.{without_words, Words, is_page, is_stored, is_zero_page, without_stored, IsOnce}
 use Rattle.flat_model.specs.References.{is_used_up, is_volume_full, stores_page, room_reply, word_reply}
 use Rattle.flat_model.specs.Store.{Store, records_of, entries_of}
 
@@ -137,3 +137,33 @@ IsFound nodes found n = found ≡ Ok (as_term (quota_in nodes) n)
 -- a node is in the tree
 abbrev pub IsThere : List Node → Branch → Type 0
 IsThere nodes n = node_in nodes n.uid ≡ Some (as_term (quota_in nodes) n)
+
+-- the store once the words of a page from a place on are 0, and whether the page is stored and all zeros then
+abbrev pub cleared : Store → ℕ → ℕ → ℕ → Store
+cleared s uid page at = record s { words = λ u o. if u == uid && (o / 1024 == page && nat_le at (o % 1024)) then 0 else s.words u o }
+
+abbrev pub has_cleared : Store → ℕ → ℕ → ℕ → Bool
+has_cleared s uid page at = is_stored s.stored uid page && is_zero_page (cleared s uid page at).words uid page
+
+-- the store once the page that an offset cuts is 0 from it on, and stored no more where it is all zeros
+abbrev pub cut_once : Store → ℕ → ℕ → Store
+cut_once s uid from =
+    let page = from / 1024 in
+    let at = from % 1024 in
+    if has_cleared s uid page at then without_pages (cleared s uid page at) uid (λ q. q == page) else cleared s uid page at
+
+-- a directory or a segment other than the root that has no inferior and no quota
+pub record IsDeletable (nodes : List Node) (uid : ℕ) : Type 0 where
+  pub there : is_some (node_in nodes uid) ≡ true
+  pub branch : uid ≢ 1
+  pub empty : has_inferior nodes uid ≡ false
+  pub quota : quota_in nodes uid ≡ 0
+
+-- the store without a directory or a segment, if there is one to take out
+abbrev pub without_branch : Store → Option ℕ → Store
+without_branch s None = s
+without_branch s (Some uid) = record s {
+  nodes = without_node s.nodes uid;
+  words = without_words s.words uid 0;
+  stored = without_stored s.stored uid (λ page. true);
+}

@@ -1,15 +1,16 @@
-ghost use Rattle.std.specs.Prelude.{◌≡◌, ◌<◌, ◌^◌, not, true};
-ghost use Rattle.tree_model.specs.Tree.{Node as Term, has_directory, quota_in};
+ghost use Rattle.std.specs.Prelude.{◌≡◌, ◌≢◌, ◌<◌, ◌^◌, ℕ, is_some, IfSome, not, true, false};
+ghost use Rattle.tree_model.specs.Tree.{Node as Term, has_directory, node_in, quota_in, without_node};
 ghost use Rattle.tree_model.specs.Trees.{has_segment};
 ghost use Rattle.script.specs.Plans.{Plan};
 ghost use Rattle.flat_model.specs.Commands.{takes_effect};
 ghost use Rattle.flat_model.specs.Making.{made_in, make_in, make_reply, after_make, delete_reply, after_delete};
 ghost use Rattle.flat_model.specs.Naming.{status_reply};
 ghost use Rattle.flat_model.specs.Store.{Store};
-ghost use Rattle.flat_store.specs.Shown.{Holds};
+ghost use Rattle.flat_store.specs.Shown.{Holds, IsDeletable, page_at, without_branch};
+ghost use Rattle.dir_tree.specs.Nodes.{has_inferior};
 
 use crate::gauges::{is_full_at, fill_at, drain_at};
-use crate::holdings::Holdings;
+use crate::holdings::{Holdings, volume_of};
 use acl::Acl;
 use book::Reply;
 use dir_tree::{AddFault, NewNode, Node};
@@ -149,6 +150,53 @@ impl Holdings {
                 acl,
             };
             self.add(superior, new);
+        }
+    }
+
+    /// Takes out a node without inferior, quota and stored pages.
+    fn take_out(&mut self, uid: u32)
+        requires there { is_some (node_in self.old.accounts.nodes uid) ≡ true }
+        requires branch { uid ≢ 1 }
+        requires empty { has_inferior self.old.accounts.nodes uid ≡ false }
+        requires quota { quota_in self.old.accounts.nodes uid ≡ 0 }
+        requires pages { (page : ℕ) → is_some (page_at self.old.pages uid page) ≡ false }
+        ensures { (p : Plan) (s : Store) → Holds p self.old s
+            → Holds p self.new (record s { nodes = without_node s.nodes uid }) }
+    {
+        let _root = self.accounts.root();
+        let volume = volume_of(&self.accounts, uid);
+        self.accounts.remove(uid);
+        drain_at(&mut self.entries, volume);
+    }
+
+    /// The uid of the directory or the segment that a path leads to, where it may be deleted.
+    fn deletable(&self, path: &Path) -> Option<u32>
+        ensures some { IfSome result (λ uid. IsDeletable self.now.accounts.nodes uid) }
+        ensures effect { (s : Store) → s.nodes ≡ self.now.accounts.nodes
+            → takes_effect (delete_reply s path.now) ≡ true → after_delete s path.now ≡ without_branch s result }
+    {
+        let node = match self.branch_at(path) {
+            Ok(node) => node,
+            Err(_) => return None,
+        };
+        if self.accounts.may_remove(node.uid).is_err() {
+            return None;
+        }
+        if self.quota_of(node) != 0 {
+            return None;
+        }
+        Some(node.uid)
+    }
+
+    /// Deletes a directory or a segment, with its pages, unless that is refused.
+    pub(crate) fn delete(&mut self, path: &Path)
+        ensures { (p : Plan) (s : Store) → Holds p self.old s → takes_effect (delete_reply s path.now) ≡ true
+            → Holds p self.new (after_delete s path.now) }
+    {
+        let _ = &self.accounts;
+        if let Some(uid) = self.deletable(path) {
+            self.drop_from(uid, 0);
+            self.take_out(uid);
         }
     }
 }

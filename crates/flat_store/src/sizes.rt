@@ -1,10 +1,10 @@
-ghost use Rattle.std.specs.Prelude.{◌≡◌, true};
+ghost use Rattle.std.specs.Prelude.{◌≡◌, ◌≤◌, true};
 ghost use Rattle.script.specs.Plans.{Plan};
 ghost use Rattle.flat_model.specs.Commands.{takes_effect};
 ghost use Rattle.flat_model.specs.Pages.{is_stored_from};
 ghost use Rattle.flat_model.specs.Sizes.{length_reply, truncate_reply, after_length, after_truncate};
 ghost use Rattle.flat_model.specs.Store.{Store};
-ghost use Rattle.flat_store.specs.Shown.{Holds};
+ghost use Rattle.flat_store.specs.Shown.{Holds, cleared, cut_once, has_cleared};
 
 use crate::holdings::{Holdings, pages_of};
 use book::Reply;
@@ -62,5 +62,36 @@ impl Holdings {
         if !self.is_stored_from(uid, pages) {
             self.accounts.set_length(uid, pages);
         }
+    }
+
+    /// The words of a page from a place on become 0. Whether it is stored, and all zeros then.
+    fn clear_page(&mut self, uid: u32, page: u32, at: u32) -> bool
+        requires { at ≤ 1024 }
+        ensures page { (p : Plan) (s : Store) → Holds p self.old s → Holds p self.new (cleared s uid page at) }
+        ensures zero { (p : Plan) (s : Store) → Holds p self.old s → result ≡ has_cleared s uid page at }
+    {
+        self.pages.cut(uid, page, at)
+    }
+
+    /// The words of the page that an offset cuts become 0 from it on. A page of zeros is stored no more.
+    fn cut_page(&mut self, uid: u32, words: u32)
+        ensures { (p : Plan) (s : Store) → Holds p self.old s → Holds p self.new (cut_once s uid words) }
+    {
+        let page = words / Page::WORDS;
+        if self.clear_page(uid, page, words % Page::WORDS) {
+            self.drop_page(uid, page);
+        }
+    }
+
+    /// Truncates a segment, unless that is refused.
+    pub(crate) fn truncate(&mut self, path: &Path, words: u32)
+        ensures { (p : Plan) (s : Store) → Holds p self.old s → Holds p self.new (after_truncate s path.now words) }
+    {
+        let uid = match self.segment_at(path) {
+            Ok(node) => node.uid,
+            Err(_) => return,
+        };
+        self.drop_from(uid, words / Page::WORDS + 1);
+        self.cut_page(uid, words);
     }
 }

@@ -1,0 +1,40 @@
+use Rattle.std.proofs.Common.{◌≡◌, ℕ, true, false, List, Some, is_some, refl, sym, ap, subst, ◌∙◌}
+use Rattle.std.specs.Prelude.{nat_le}
+use Rattle.tree_model.specs.Tree.{Node, node_in, quota_in}
+use Rattle.dir_tree.specs.Nodes.{has_inferior}
+use Rattle.flat_model.specs.Store.{Store}
+use Rattle.flat_store.specs.Shown.{Held, Holds, without_pages}
+use Rattle.flat_store.proofs.RemoveLaws.{all_gone, deleted_is}
+use Rattle.flat_store.proofs.holdings.Holdings.delete.Goals as goal
+
+pub take_out-requires-clause-there : goal.take_out-requires-clause-there
+take_out-requires-clause-there c =
+    let h = c.self.invariant in
+    let now = subst (λ (x : Held). Holds h.0 x h.1) c.self.view_is h.2 in
+    let same = sym now.nodes ∙ (c.drop_from.ensures h.0 h.1 now).nodes in
+    ap (λ (ns : List Node). is_some (node_in ns c.in-Some.uid)) (sym same) ∙ c.in-Some.ensures.some.there
+
+pub take_out-requires-clause-empty : goal.take_out-requires-clause-empty
+take_out-requires-clause-empty c =
+    let h = c.self.invariant in
+    let now = subst (λ (x : Held). Holds h.0 x h.1) c.self.view_is h.2 in
+    let same = sym now.nodes ∙ (c.drop_from.ensures h.0 h.1 now).nodes in
+    ap (λ (ns : List Node). has_inferior ns c.in-Some.uid) (sym same) ∙ c.in-Some.ensures.some.empty
+
+pub take_out-requires-clause-quota : goal.take_out-requires-clause-quota
+take_out-requires-clause-quota c =
+    let h = c.self.invariant in
+    let now = subst (λ (x : Held). Holds h.0 x h.1) c.self.view_is h.2 in
+    let same = sym now.nodes ∙ (c.drop_from.ensures h.0 h.1 now).nodes in
+    ap (λ (ns : List Node). quota_in ns c.in-Some.uid) (sym same) ∙ c.in-Some.ensures.some.quota
+
+pub take_out-requires-clause-pages : goal.take_out-requires-clause-pages
+take_out-requires-clause-pages c =
+    let h = c.self.invariant in
+    let now = subst (λ (x : Held). Holds h.0 x h.1) c.self.view_is h.2 in
+    all_gone h.0 h.1 c.drop_from.new.self c.in-Some.uid (c.drop_from.ensures h.0 h.1 now)
+
+pub returns-in-Some : goal.returns-in-Some
+returns-in-Some c = λ p s h effect.
+    let done = c.take_out.ensures p (without_pages s c.in-Some.uid (λ q. nat_le 0 q)) (c.drop_from.ensures p s h) in
+    subst (λ (x : Store). Holds p c.take_out.new.self x) (deleted_is s c.in-Some.uid ∙ sym (c.in-Some.ensures.effect s h.nodes effect)) done
