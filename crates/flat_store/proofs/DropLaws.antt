@@ -137,7 +137,7 @@ same_store s u t r words stored =
     ∙ ap (λ (xs : List (ℕ × ℕ)). record s { words = λ v o. cond (eqb v u && r (o / 1024)) 0 (s.words v o); stored = xs }) stored
 
 -- the same pages are listed where two tests agree on what is stored
-stored_same : (xs : List (ℕ × ℕ)) (u : ℕ) (t r : ℕ → Bool) → ((q : ℕ) → is_stored xs u q ≡ true → t q ≡ r q) → without_stored xs u t ≡ without_stored xs u r
+pub stored_same : (xs : List (ℕ × ℕ)) (u : ℕ) (t r : ℕ → Bool) → ((q : ℕ) → is_stored xs u q ≡ true → t q ≡ r q) → without_stored xs u t ≡ without_stored xs u r
 unfolding without_stored
 stored_same [] u t r agree = refl
 stored_same (x ∷ xs) u t r agree =
@@ -184,11 +184,24 @@ agreed pages s u t r holds agree = same_store s u t r words (stored_same s.store
         ]
 
 -- two removals are one
-pub fused : (s : Store) (u : ℕ) (t r : ℕ → Bool) → without_pages (without_pages s u t) u r ≡ without_pages s u (λ q. t q || r q)
+fused_step : (u : ℕ) (t r : ℕ → Bool) (a b c : Bool) (x : ℕ × ℕ) (ys zs : List (ℕ × ℕ)) → filter (λ y. not (eqb y.0 u && r y.1)) ys ≡ zs → eqb x.0 u ≡ a → t x.1 ≡ b → r x.1 ≡ c
+    → filter (λ y. not (eqb y.0 u && r y.1)) (cond (not (a && b)) (x ∷ ys) ys) ≡ cond (not (a && (b || c))) (x ∷ zs) zs
+fused_step u t r true true c x ys zs ih e f g = ih
+fused_step u t r true false true x ys zs ih e f g = rw (e, g) ih
+fused_step u t r true false false x ys zs ih e f g = rw (e, g) (ap (λ (l : List (ℕ × ℕ)). x ∷ l) ih)
+fused_step u t r false b c x ys zs ih e f g = rw e (ap (λ (l : List (ℕ × ℕ)). x ∷ l) ih)
+
+pub stored_fused : (xs : List (ℕ × ℕ)) (u : ℕ) (t r : ℕ → Bool) → without_stored (without_stored xs u t) u r ≡ without_stored xs u (λ q. t q || r q)
 unfolding without_stored
+stored_fused [] u t r = refl
+stored_fused (x ∷ xs) u t r =
+    fused_step u t r (eqb x.0 u) (t x.1) (r x.1) x (filter (λ y. not (eqb y.0 u && t y.1)) xs) (filter (λ y. not (eqb y.0 u && (t y.1 || r y.1))) xs)
+    (stored_fused xs u t r) refl refl refl
+
+pub fused : (s : Store) (u : ℕ) (t r : ℕ → Bool) → without_pages (without_pages s u t) u r ≡ without_pages s u (λ q. t q || r q)
 fused s u t r =
     ap (λ (w : Words). record s { words = w; stored = without_stored (without_stored s.stored u t) u r }) (λ i. λ v. λ o. words (eqb v u) (t (o / 1024)) (r (o / 1024)) (s.words v o) i)
-    ∙ ap (λ (xs : List (ℕ × ℕ)). record s { words = λ v o. cond (eqb v u && (t (o / 1024) || r (o / 1024))) 0 (s.words v o); stored = xs }) (both s.stored)
+    ∙ ap (λ (xs : List (ℕ × ℕ)). record s { words = λ v o. cond (eqb v u && (t (o / 1024) || r (o / 1024))) 0 (s.words v o); stored = xs }) (stored_fused s.stored u t r)
   where
     words : (a b c : Bool) (w : ℕ) → cond (a && c) 0 (cond (a && b) 0 w) ≡ cond (a && (b || c)) 0 w
     words true true true w = refl
@@ -196,17 +209,6 @@ fused s u t r =
     words true false true w = refl
     words true false false w = refl
     words false b c w = refl
-
-    step : (a b c : Bool) (x : ℕ × ℕ) (ys zs : List (ℕ × ℕ)) → filter (λ y. not (eqb y.0 u && r y.1)) ys ≡ zs → eqb x.0 u ≡ a → t x.1 ≡ b → r x.1 ≡ c
-        → filter (λ y. not (eqb y.0 u && r y.1)) (cond (not (a && b)) (x ∷ ys) ys) ≡ cond (not (a && (b || c))) (x ∷ zs) zs
-    step true true c x ys zs ih e f g = ih
-    step true false true x ys zs ih e f g = rw (e, g) ih
-    step true false false x ys zs ih e f g = rw (e, g) (ap (λ (l : List (ℕ × ℕ)). x ∷ l) ih)
-    step false b c x ys zs ih e f g = rw e (ap (λ (l : List (ℕ × ℕ)). x ∷ l) ih)
-
-    both : (xs : List (ℕ × ℕ)) → filter (λ y. not (eqb y.0 u && r y.1)) (filter (λ y. not (eqb y.0 u && t y.1)) xs) ≡ filter (λ y. not (eqb y.0 u && (t y.1 || r y.1))) xs
-    both [] = refl
-    both (x ∷ xs) = step (eqb x.0 u) (t x.1) (r x.1) x (filter (λ y. not (eqb y.0 u && t y.1)) xs) (filter (λ y. not (eqb y.0 u && (t y.1 || r y.1))) xs) (both xs) refl refl refl
 
 all_stay : (xs : List (ℕ × ℕ)) (u : ℕ) → without_stored xs u (λ q. false) ≡ xs
 unfolding without_stored

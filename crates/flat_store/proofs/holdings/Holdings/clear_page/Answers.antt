@@ -1,20 +1,27 @@
-use Rattle.std.proofs.Common.{rules, ◌≡◌, ◌≤◌, true, ℕ, ◌+◌, ◌-◌, ◌*◌, ◌<◌, length, ◌/◌, ◌%◌, Bool, false, nat_eq, nat_lt, List, [], ◌∷◌, ◌++◌, slice_index_or, slice_set, bit_and, bit_or, Fits, w8, w32, w64, Bor, MutBor}
-use Rattle.script.specs.Plans.{Plan}
-use Rattle.flat_model.specs.Commands.{takes_effect}
-use Rattle.flat_model.specs.Pages.{is_stored_from}
-use Rattle.flat_model.specs.Sizes.{length_reply, truncate_reply, after_length, after_truncate}
-use Rattle.flat_model.specs.Store.{Store}
-use Rattle.flat_store.specs.Shown.{Holds, cleared, cut_once, has_cleared}
+use Rattle.std.proofs.Common.{◌≡◌, ◌≤◌, ℕ, Bool, true, false, List, Some, None, IsTrue, ◌↔◌, refl, sym, ap, subst, ◌∙◌}
+use Rattle.mword.specs.Words.{AreZero}
+use Rattle.flat_store.specs.Shown.{Held, Holds, cleared, cut_at, Cuts, page_at}
+use Rattle.flat_store.proofs.CutLaws.{clear_shown, clear_told}
+use Rattle.flat_store.proofs.DropLaws.{held_inside}
 use Rattle.flat_store.proofs.holdings.Holdings.clear_page.Goals as goal
 
--- src/sizes.rt:68:5
 pub invariant_of-self : goal.invariant_of-self
-invariant_of-self c = ?
+invariant_of-self c =
+    let h = c.self.invariant in
+    let before : Held = record { accounts = c.self.inside.accounts; pages = c.self.inside.pages; records = c.self.inside.records.items; entries = c.self.inside.entries.items } in
+    let after : Held = record before { pages = c.cut.new.self } in
+    (h.0, cleared h.1 c.args.uid c.args.page c.args.at,
+      clear_shown h.0 h.1 before after c.args.uid c.args.page c.args.at h.2 refl c.requires (λ ws e. (c.cut.ensures.some ws e).0) (λ e. (c.cut.ensures.none e).0))
 
--- src/sizes.rt:68:5
 pub returns-clause-page : goal.returns-clause-page
-returns-clause-page c = ?
+returns-clause-page c = λ p s h.
+    let before : Held = record { accounts = c.self.inside.accounts; pages = c.self.inside.pages; records = c.self.inside.records.items; entries = c.self.inside.entries.items } in
+    let after : Held = record before { pages = c.cut.new.self } in
+    clear_shown p s before after c.args.uid c.args.page c.args.at (held_inside p s before c.args.self.now c.self.view_is h) refl c.requires (λ ws e. (c.cut.ensures.some ws e).0)
+    (λ e. (c.cut.ensures.none e).0)
 
--- src/sizes.rt:68:5
 pub returns-clause-zero : goal.returns-clause-zero
-returns-clause-zero c = ?
+returns-clause-zero c = λ p s h.
+    let before : Held = record { accounts = c.self.inside.accounts; pages = c.self.inside.pages; records = c.self.inside.records.items; entries = c.self.inside.entries.items } in
+    let after : Held = record before { pages = c.cut.new.self } in
+    clear_told p s before after c.args.uid c.args.page c.args.at c.cut.result (held_inside p s before c.args.self.now c.self.view_is h) c.requires c.cut.ensures.some (λ e. (c.cut.ensures.none e).1)

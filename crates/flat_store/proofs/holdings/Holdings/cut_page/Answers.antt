@@ -1,16 +1,19 @@
-use Rattle.std.proofs.Common.{rules, ◌≡◌, ◌≤◌, true, ℕ, ◌+◌, ◌-◌, ◌*◌, ◌<◌, length, ◌/◌, ◌%◌, Bool, false, nat_eq, nat_lt, List, [], ◌∷◌, ◌++◌, slice_index_or, slice_set, bit_and, bit_or, Fits, w8, w32, w64, Bor, MutBor}
-use Rattle.script.specs.Plans.{Plan}
-use Rattle.flat_model.specs.Commands.{takes_effect}
-use Rattle.flat_model.specs.Pages.{is_stored_from}
-use Rattle.flat_model.specs.Sizes.{length_reply, truncate_reply, after_length, after_truncate}
+use Rattle.std.proofs.Common.{◌≡◌, ℕ, ◌/◌, ◌%◌, Bool, true, false, cond, eqb, refl, sym, ap, subst, ◌∙◌}
 use Rattle.flat_model.specs.Store.{Store}
-use Rattle.flat_store.specs.Shown.{Holds, cleared, cut_once, has_cleared}
+use Rattle.flat_store.specs.Shown.{Holds, cleared, has_cleared, without_pages}
 use Rattle.flat_store.proofs.holdings.Holdings.cut_page.Goals as goal
 
--- src/sizes.rt:77:5
 pub returns-then-clear_page : goal.returns-then-clear_page
-returns-then-clear_page c = ?
+returns-then-clear_page c = λ p s h.
+    let page : ℕ = c.args.words / 1024 in
+    let is : has_cleared s c.args.uid page (c.args.words % 1024) ≡ true = sym (c.clear_page.ensures.zero p s h) ∙ c.if-clear_page.true in
+    let done = c.drop_page.ensures p (cleared s c.args.uid page (c.args.words % 1024)) (c.clear_page.ensures.page p s h) in
+    subst (λ (z : Bool). Holds p c.drop_page.new.self
+      (cond z (without_pages (cleared s c.args.uid page (c.args.words % 1024)) c.args.uid (λ q. eqb q page)) (cleared s c.args.uid page (c.args.words % 1024)))) (sym is) done
 
--- src/sizes.rt:77:5
 pub returns-else-clear_page : goal.returns-else-clear_page
-returns-else-clear_page c = ?
+returns-else-clear_page c = λ p s h.
+    let page : ℕ = c.args.words / 1024 in
+    let is : has_cleared s c.args.uid page (c.args.words % 1024) ≡ false = sym (c.clear_page.ensures.zero p s h) ∙ c.if-clear_page.false in
+    subst (λ (z : Bool). Holds p c.clear_page.new.self
+      (cond z (without_pages (cleared s c.args.uid page (c.args.words % 1024)) c.args.uid (λ q. eqb q page)) (cleared s c.args.uid page (c.args.words % 1024)))) (sym is) (c.clear_page.ensures.page p s h)

@@ -1,16 +1,23 @@
-use Rattle.std.proofs.Common.{rules, ◌≡◌, ◌≤◌, true, ℕ, ◌+◌, ◌-◌, ◌*◌, ◌<◌, length, ◌/◌, ◌%◌, Bool, false, nat_eq, nat_lt, List, [], ◌∷◌, ◌++◌, slice_index_or, slice_set, bit_and, bit_or, Fits, w8, w32, w64, Bor, MutBor}
-use Rattle.script.specs.Plans.{Plan}
-use Rattle.flat_model.specs.Commands.{takes_effect}
-use Rattle.flat_model.specs.Pages.{is_stored_from}
-use Rattle.flat_model.specs.Sizes.{length_reply, truncate_reply, after_length, after_truncate}
+use Rattle.std.proofs.Common.{◌≡◌, ℕ, ◌+◌, ◌/◌, List, refl, sym, ap, subst, ◌∙◌}
+use Rattle.std.specs.Prelude.{nat_le}
+use Rattle.tree_model.specs.Tree.{Node, quota_in}
+use Rattle.dir_tree.specs.Nodes.{as_term}
+use Rattle.flat_model.specs.Branches.{segment_at}
 use Rattle.flat_model.specs.Store.{Store}
-use Rattle.flat_store.specs.Shown.{Holds, cleared, cut_once, has_cleared}
+use Rattle.flat_store.specs.Shown.{Holds, without_pages}
+use Rattle.flat_store.proofs.CutLaws.{truncate_done, truncate_refused, whole_cut}
 use Rattle.flat_store.proofs.holdings.Holdings.truncate.Goals as goal
 
--- src/sizes.rt:92:23
 pub returns-in-Err : goal.returns-in-Err
-returns-in-Err c = ?
+returns-in-Err c = λ p s h.
+    subst (λ (x : Store). Holds p c.args.self.now x)
+    (sym (truncate_refused s c.args.path.now c.args.words c.in-Err.field-0 (ap (λ (ns : List Node). segment_at ns c.args.path.now) h.nodes ∙ c.in-Err.ensures.err))) h
 
--- src/sizes.rt:87:5
 pub returns : goal.returns
-returns c = ?
+returns c = λ p s h.
+    let uid : ℕ = c.in-Ok.node.now.uid in
+    let n : Node = as_term (quota_in c.args.self.now.accounts.nodes) c.in-Ok.node.now in
+    let done = c.cut_page.ensures p (without_pages s uid (λ q. nat_le (c.args.words / 1024 + 1) q)) (c.drop_from.ensures p s h) in
+    subst (λ (x : Store). Holds p c.cut_page.new.self x)
+    (whole_cut c.args.self.now.pages s uid c.args.words h.pages
+      ∙ sym (truncate_done s c.args.path.now c.args.words n (ap (λ (ns : List Node). segment_at ns c.args.path.now) h.nodes ∙ c.in-Ok.ensures.ok))) done
