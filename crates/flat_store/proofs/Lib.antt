@@ -9,6 +9,7 @@ pub mod OkLaws
 pub mod PagedLaws
 pub mod PathLaws
 pub mod PutLaws
+pub mod QuotaLaws
 pub mod ReferLaws
 pub mod RemoveLaws
 pub mod ReplyLaws

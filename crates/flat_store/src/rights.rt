@@ -1,5 +1,4 @@
 ghost use Rattle.std.specs.Prelude.{◌≡◌, ◌<◌, true};
-ghost use Rattle.std.specs.Int.RustNames.{unsigned_abs};
 ghost use Rattle.script.specs.Plans.{Plan};
 ghost use Rattle.flat_model.specs.Commands.{takes_effect};
 ghost use Rattle.flat_model.specs.Rights.{acl_reply, after_acl, after_move, move_reply};
@@ -30,13 +29,16 @@ impl Holdings {
 
     /// What the move of an amount of quota is answered.
     pub(crate) fn move_reply(&self, path: &Path, amount: i32) -> Reply
-        requires { 0 < unsigned_abs amount }
         ensures { (p : Plan) (s : Store) → Holds p self.now s → result ≡ move_reply s path.now amount }
     {
         let node = match self.directory_at(path) {
             Ok(node) => node,
             Err(reply) => return reply,
         };
+        if amount == 0 {
+            let _root = self.accounts.root();
+            return Reply::Done;
+        }
         match self.accounts.may_move(node.uid, amount) {
             Ok(()) => Reply::Done,
             Err(MoveFault::TooLittle) => Reply::TooLittle,
@@ -58,7 +60,6 @@ impl Holdings {
 
     /// Moves an amount of quota, unless that is refused.
     pub(crate) fn move_quota(&mut self, path: &Path, amount: i32)
-        requires { 0 < unsigned_abs amount }
         ensures { (p : Plan) (s : Store) → Holds p self.old s → takes_effect (move_reply s path.now amount) ≡ true
             → Holds p self.new (after_move s path.now amount) }
     {
@@ -66,6 +67,8 @@ impl Holdings {
             Ok(node) => node.uid,
             Err(_) => return,
         };
-        let _refused = self.accounts.move_quota(uid, amount);
+        if amount != 0 {
+            let _refused = self.accounts.move_quota(uid, amount);
+        }
     }
 }

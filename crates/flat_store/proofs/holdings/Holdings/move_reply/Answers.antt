@@ -1,5 +1,6 @@
-use Rattle.std.proofs.Common.{◌≡◌, ℕ, Bool, true, false, List, Ok, Err, refl, sym, ap, subst, ◌∙◌, eqb, arith, w32}
+use Rattle.std.proofs.Common.{◌≡◌, ◌≤◌, ℕ, Bool, true, false, List, Ok, Err, refl, sym, ap, subst, ◌∙◌, eqb, arith, w32}
 use Rattle.std.proofs.lemmas.Int.{to_z-of_z}
+use mir.Val.{to_z}
 use Rattle.tree_model.specs.Tree.{Node, quota_in, used_by}
 use Rattle.dir_tree.specs.Nodes.{as_term}
 use Rattle.flat_store.specs.Shown.{Held, Holds}
@@ -8,6 +9,7 @@ use Rattle.std.specs.Int.RustNames.{unsigned_abs}
 use Rattle.quota_cells.specs.Scratch.{scratch_answer}
 use Rattle.quota_cells.specs.declared.MoveFault.{MoveFault}
 use Rattle.accounts.specs.Maps.{AccountMaps, Counts}
+use Rattle.flat_store.proofs.QuotaLaws.{move_of_none}
 use Rattle.flat_store.proofs.TreeReplies.{move_refused, move_answered, move_told}
 use Rattle.flat_store.proofs.holdings.Holdings.move_reply.Goals as goal
 
@@ -40,3 +42,11 @@ returns-in-Err-Over c = λ p s h.
         (let back = to_z-of_z w32 c.args.amount c.ranges.amount in (rw back at c.may_move.ensures) s.stored counts) in
     move_answered s c.args.self.now.accounts.nodes c.args.path.now h.nodes c.args.amount (as_term (quota_in c.args.self.now.accounts.nodes) c.in-Ok.node.now) c.may_move.result _
     c.in-Ok.ensures.ok answer (ap move_told (sym (c.in-Err-Over.is ∙ ap (λ (e : MoveFault). Err e) c.in-Err-Over.field-0-is)))
+
+pub returns-then-amount-eq0 : goal.returns-then-amount-eq0
+returns-then-amount-eq0 c = λ p s h.
+    let same : c.self.inside.accounts ≡ c.args.self.now.accounts = ap (λ (x : Held). x.accounts) c.self.view_is in
+    let counts = subst (λ (a : AccountMaps). Counts a s.stored) (sym same) h.counts in
+    let nodes : s.nodes ≡ c.self.inside.accounts.nodes = h.nodes ∙ ap (λ (a : AccountMaps). a.nodes) (sym same) in
+    let within = subst (λ (ns : List Node). (a : ℕ) → used_by ns s.stored a ≤ quota_in ns a) (sym nodes) (c.root-root.ensures.within s.stored counts) in
+    move_of_none s c.args.self.now.accounts.nodes c.args.path.now (as_term (quota_in c.args.self.now.accounts.nodes) c.in-Ok.node.now) c.args.amount h.nodes c.in-Ok.ensures.ok (sym (to_z-of_z w32 c.args.amount c.ranges.amount) ∙ ap (to_z w32) c.if-amount-eq0.true) within
