@@ -1,4 +1,5 @@
 pub mod ChangeLaws
+pub mod CodeLaws
 pub mod CutLaws
 pub mod DropLaws
 pub mod EffectLaws

@@ -1,10 +1,11 @@
 -- What the program of the flat store keeps, and which flat store that shows (own).
-use Rattle.std.specs.Prelude.{nat_le, ◌≡◌, ◌≢◌, ◌<◌, ◌≤◌, ℕ, ◌+◌, ◌/◌, ◌%◌, Bool, true, false, ◌==◌, if◌then◌else◌, is_some, length, replicate, take, ◌-◌, ◌++◌, slice_index_or, List, [], ◌∷◌, ◌&&◌, ◌||◌, not, Option, Some, None, Result, Ok}
+use Rattle.std.specs.Prelude.{nat_le, sum_by, ◌≡◌, ◌≢◌, ◌<◌, ◌≤◌, ℕ, ◌+◌, ◌/◌, ◌%◌, Bool, true, false, ◌==◌, if◌then◌else◌, is_some, length, replicate, take, ◌-◌, ◌++◌, slice_index_or, List, [], ◌∷◌, ◌&&◌, ◌||◌, not, Option, Some, None, Result, Ok}
 use Rattle.std.specs.Ordering.{nat_cmp, ordering_then}
 use Rattle.std.specs.Map.{lookup}
 use Rattle.std.specs.BTreeMap.{is_at}
 use Rattle.accounts.specs.Maps.{AccountMaps, Counts}
-use Rattle.script.specs.Plans.{Plan}
+use Rattle.script.specs.Plans.{Plan, ProcessPlan}
+use Rattle.script.specs.Forms.{IsPlan}
 use Rattle.script.specs.declared.commands.RefKind.{RefKind}
 use Rattle.book.specs.declared.replies.Reply.{Reply}
 use Rattle.tree_model.specs.Tree.{Node, has_directory, node_in, without_node, quota_in, volume_in, taken_on, entries_on}
@@ -13,7 +14,7 @@ use Rattle.dir_tree.specs.Nodes.{as_term, has_inferior}
 use Rattle.tree_model.specs.Trees.{has_segment}
 use Rattle.flat_model.specs.Pages.{without_words, Words, is_page, is_stored, is_zero_page, without_stored, IsOnce}
 use Rattle.flat_model.specs.References.{is_used_up, is_volume_full, stores_page, room_reply, word_reply}
-use Rattle.flat_model.specs.Store.{Store, records_of, entries_of}
+use Rattle.flat_model.specs.Store.{Store, Progress, records_of, entries_of}
 
 -- How much of something is used, and how much there is.
 pub record Gauge : Type 0 where
@@ -167,3 +168,36 @@ without_branch s (Some uid) = record s {
   words = without_words s.words uid 0;
   stored = without_stored s.stored uid (λ page. true);
 }
+
+-- ---- the whole store
+
+-- the holdings; for each process what its segment numbers stand for, and how far it has come
+pub record Kept : Type 0 where
+  pub held : Held
+  pub known : List (List (Option ℕ))
+  pub processes : List Progress
+
+-- what is kept shows the flat store
+pub record IsShown (p : Plan) (k : Kept) (s : Store) : Type 0 where
+  pub holds : Holds p k.held s
+  pub known : s.known ≡ k.known
+  pub processes : s.processes ≡ k.processes
+  pub knowers : length s.known ≡ length p.processes
+  pub runners : length s.processes ≡ length p.processes
+
+-- no process has come past its last command
+abbrev pub ArePlaces : List Progress → List ProcessPlan → Type 0
+ArePlaces [] xs = Unit {0}
+ArePlaces (q ∷ qs) [] = ⊥
+ArePlaces (q ∷ qs) (x ∷ xs) = (q.place ≤ length x.commands) × ArePlaces qs xs
+
+-- a store that the commands of a script may come to: each uid is that of a command that a process has passed
+pub record IsReached (p : Plan) (s : Store) : Type 0 where
+  pub plan : IsPlan p
+  pub places : ArePlaces s.processes p.processes
+  pub uids : s.next ≤ 2 + sum_by (λ q. q.place) s.processes
+
+-- What the program keeps shows the flat store, which is one that the script may come to.
+pub record Shows (p : Plan) (k : Kept) (s : Store) : Type 0 where
+  pub shown : IsShown p k s
+  pub reached : IsReached p s

@@ -8,6 +8,7 @@ mod making;
 mod pages;
 mod paths;
 mod references;
+mod replies;
 mod rights;
 mod sizes;
 
