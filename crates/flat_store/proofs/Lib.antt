@@ -6,6 +6,7 @@ pub mod EffectLaws
 pub mod GaugeLaws
 pub mod MakeLaws
 pub mod NodeLaws
+pub mod NumberLaws
 pub mod OkLaws
 pub mod PagedLaws
 pub mod PathLaws
@@ -15,5 +16,6 @@ pub mod ReferLaws
 pub mod RemoveLaws
 pub mod ReplyLaws
 pub mod SizeLaws
+pub mod StoreLaws
 pub mod TreeLaws
 pub mod TreeReplies

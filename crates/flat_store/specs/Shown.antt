@@ -201,3 +201,11 @@ pub record IsReached (p : Plan) (s : Store) : Type 0 where
 pub record Shows (p : Plan) (k : Kept) (s : Store) : Type 0 where
   pub shown : IsShown p k s
   pub reached : IsReached p s
+
+-- how far a process has come; one that isn't there has ended
+abbrev pub progress_at : List Progress → ℕ → Progress
+progress_at processes k = slice_index_or processes k (record { place = 0; tries = 0; ended = true; faulted = false })
+
+-- what the segment numbers of a process stand for
+abbrev pub numbers_at : List (List (Option ℕ)) → ℕ → List (Option ℕ)
+numbers_at known k = slice_index_or known k []

@@ -5,12 +5,17 @@
 mod gauges;
 mod holdings;
 mod making;
+mod numbers;
 mod pages;
 mod paths;
+mod progress;
 mod references;
 mod replies;
 mod rights;
 mod sizes;
+mod store;
+
+pub use store::FlatStore;
 
 /// There wasn't enough memory.
 #[derive(Clone, Copy, Debug, PartialEq, Eq)]

@@ -1,0 +1,53 @@
+-- The least number that stands for nothing.
+use Rattle.std.proofs.Common.{◌≡◌, ℕ, ◌<◌, ◌≤◌, Bool, true, false, cond, ltb, not, List, length, Option, Some, None, get_or, is_some, is_none, position, refl, sym, ap, ◌∙◌, arith, inl, inr}
+use Rattle.std.specs.List.{position_or_len}
+use Rattle.std.proofs.lemmas.Bool.{both_ways, cases_eq, cases_lt, ltb-false, not-true}
+use Rattle.std.proofs.lemmas.List.Sums.{prefix_len_passes}
+use Rattle.std.proofs.lemmas.List.Quantifiers.{position-Some}
+use Rattle.known_segs.specs.Known.{least_free, uid_of}
+
+free_none : (kst : List (Option ℕ)) (k : ℕ) → least_free kst ≡ None → k < length kst → is_none (uid_of kst k) ≡ false
+free_none kst k e within = none_at (ltb (position_or_len is_none kst) (length kst)) refl e
+  where
+    none_at : (b : Bool) → ltb (position_or_len is_none kst) (length kst) ≡ b → cond b (Some (position_or_len is_none kst)) None ≡ None → is_none (uid_of kst k) ≡ false
+    none_at true is e2 = cc
+    none_at false is e2 = (let past : length kst ≤ position_or_len is_none kst = ltb-false _ _ is in not-true _ (prefix_len_passes (λ x. not (is_none x)) kst k None (omega arith)))
+
+some_is : (o : Option ℕ) → is_some o ≡ true → is_none o ≡ false
+some_is None e = cc
+some_is (Some u) e = refl
+
+none_is : (o : Option ℕ) → is_some o ≡ false → is_none o ≡ true
+none_is None e = refl
+none_is (Some u) e = cc
+
+pub free_found : (kst : List (Option ℕ)) (n : ℕ) (o : Option ℕ) → o ≡ uid_of kst n → is_some o ≡ false → n < length kst → ((k : ℕ) → k < n → is_some (uid_of kst k) ≡ true) → Some n ≡ least_free kst
+free_found kst n o at empty within before = by_answer (least_free kst) refl
+  where
+    none : is_none o ≡ true
+    none = none_is o empty
+
+    by_answer : (r : Option ℕ) → least_free kst ≡ r → Some n ≡ r
+    by_answer None e = (let clash : true ≡ false = sym none ∙ ap is_none at ∙ free_none kst n e within in cc)
+    by_answer (Some i) e =
+        let h : (i < length kst) × (is_none (get_or kst i None) ≡ true) × ((k : ℕ) → k < i → is_none (get_or kst k None) ≡ false) = position-Some is_none kst i None e in
+        elim (cases_eq n i) [
+          | inl same ↦ ap (λ (x : ℕ). Some x) same
+          | inr other ↦ elim (cases_lt n i) [
+            | inl lt ↦ (let clash : true ≡ false = sym none ∙ ap is_none at ∙ h.2 n lt in cc)
+            | inr le ↦ (let clash : true ≡ false = sym h.1 ∙ some_is (uid_of kst i) (before i (omega (arith, le, other))) in cc)
+          ]
+        ]
+
+pub none_free : (kst : List (Option ℕ)) (n : ℕ) → length kst ≤ n → ((k : ℕ) → k < n → is_some (uid_of kst k) ≡ true) → None ≡ least_free kst
+none_free kst n past before = by_answer (least_free kst) refl
+  where
+    by_answer : (r : Option ℕ) → least_free kst ≡ r → None ≡ r
+    by_answer None e = refl
+    by_answer (Some i) e =
+        let h : (i < length kst) × (is_none (get_or kst i None) ≡ true) × ((k : ℕ) → k < i → is_none (get_or kst k None) ≡ false) = position-Some is_none kst i None e in
+        let clash : true ≡ false = sym h.1 ∙ some_is (uid_of kst i) (before i (omega (arith, h.0, past))) in cc
+
+pub still_known : (kst : List (Option ℕ)) (n : ℕ) (o : Option ℕ) → o ≡ uid_of kst n → is_none o ≡ false → is_some (uid_of kst n) ≡ true
+still_known kst n None at e = cc
+still_known kst n (Some u) at e = ap is_some (sym at)

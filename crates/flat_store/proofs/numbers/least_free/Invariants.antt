@@ -1,0 +1,6 @@
+use Rattle.std.proofs.Common.{◌≡◌, ℕ, ◌<◌, true, is_some}
+use Rattle.known_segs.specs.Known.{uid_of}
+use Rattle.flat_store.proofs.numbers.least_free.Given as goal
+
+abbrev pub invariant-loop-number : goal.invariant-loop-number
+invariant-loop-number l = (k : ℕ) → k < l.number → is_some (uid_of l.kst k) ≡ true

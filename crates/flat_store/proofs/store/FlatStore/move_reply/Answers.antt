@@ -1,0 +1,12 @@
+use Rattle.std.proofs.Common.{◌≡◌, ℤ, rules, refl, sym, ap, subst, ◌∙◌, w32}
+use Rattle.std.proofs.lemmas.Int.{to_z-of_z}
+use mir.Val.{SFits}
+use Rattle.flat_model.specs.Rights.{move_reply}
+use Rattle.flat_store.specs.Shown.{Kept, IsShown}
+use Rattle.flat_store.proofs.store.FlatStore.move_reply.Goals as goal
+
+pub returns : goal.returns
+returns c = λ p s h.
+    let fits : SFits w32 c.args.amount.now = search rules in
+    let shown = subst (λ (k : Kept). IsShown p k s) (sym c.self.view_is) h in
+    c.move_reply.ensures p s shown.holds ∙ ap (λ (a : ℤ). move_reply s c.args.path.now a) (to_z-of_z w32 c.args.amount.now fits)

@@ -1,0 +1,135 @@
+ghost use Rattle.std.specs.Prelude.{◌≡◌, ◌<◌, ◌^◌, ◌↔◌, ◌&&◌, ◌==◌, ℕ, true, not, length, IsTrue, IfSome, IfNone, OnOk, OnErr, Some, None};
+ghost use Rattle.known_segs.specs.Known.{uid_of};
+ghost use Rattle.script.specs.Plans.{command_at};
+ghost use Rattle.flat_model.specs.Commands.{effect_of, effect_of_tree_command, reply_to_command, reply_to_tree_command, takes_effect};
+ghost use Rattle.flat_model.specs.Legal.{IsAnswer, IsLawfulDo, MayFault, after_do};
+ghost use Rattle.flat_model.specs.Naming.{initiate_reply, after_initiate, terminate_reply, after_terminate};
+ghost use Rattle.flat_model.specs.Rights.{move_reply};
+ghost use Rattle.flat_model.specs.References.{reply_to_reference, after_reference};
+ghost use Rattle.flat_model.specs.Store.{Store, is_turn, progress_of};
+ghost use Rattle.script.specs.Plans.{Plan};
+ghost use Rattle.flat_store.specs.Shown.{IsShown, Shows, numbers_at, progress_at};
+
+use crate::NoMemory;
+use crate::holdings::Holdings;
+use crate::numbers::{forget, make_known, number_for, uid_of};
+use crate::progress::{Progress, fault, go_on};
+use crate::replies::{is_answer, takes_effect};
+use acl::Acl;
+use book::Reply;
+use known_segs::Kst;
+use mnames::Path;
+use script::{Command, Reference, Script};
+use std::marker::Model;
+
+/// The flat store (Bensoussan, Clingen and Daley 1972; Organick 1972): the tree with its accounts, the stored pages with
+/// their words, what each process knows by a number, and how far it has come.
+///
+/// Contracts speak of the flat store that it shows for a script (`Shows`). A look costs a few searches in ordered lists,
+/// and a page takes its 8 KiB only while it is stored.
+#[derive(Drop)]
+pub struct FlatStore {
+    pub(crate) holdings: Holdings,
+    pub(crate) known: Vec<Kst>,
+    pub(crate) processes: Vec<Progress>,
+}
+
+impl Model for FlatStore {
+    ghost use Rattle.flat_store.specs.Shown.{Kept};
+
+    ghost Value = { Kept };
+
+    ghost view = { λ f. record { held = f.holdings; known = f.known.items; processes = f.processes.items } };
+}
+
+/// The command at a place of a process, if there is one.
+fn command_at(script: &Script, process: u32, place: u32) -> Option<&Command>
+    ensures some { IfSome result (λ c. command_at script.now process place ≡ Some c.now) }
+    ensures none { IfNone result (command_at script.now process place ≡ None) }
+{
+    if process >= script.processes() {
+        return None;
+    }
+    script.commands(process).get(place as usize)
+}
+
+impl FlatStore {
+    /// What a process is answered that initiates the segment that a path leads to.
+    fn initiate_reply(&self, process: u32, path: &Path) -> Reply
+        ensures { (p : Plan) (s : Store) → IsShown p self.now s → result ≡ initiate_reply s process path.now }
+    {
+        match self.holdings.segment_at(path) {
+            Ok(node) => match number_for(&self.known, process, node.uid) {
+                Some(number) => Reply::Known(number),
+                None => Reply::Full,
+            },
+            Err(reply) => reply,
+        }
+    }
+
+    /// What a process is answered that gives up a number.
+    fn terminate_reply(&self, process: u32, number: u32) -> Reply
+        ensures { (p : Plan) (s : Store) → IsShown p self.now s → result ≡ terminate_reply s process number }
+    {
+        match uid_of(&self.known, process, number) {
+            Some(_) => Reply::Done,
+            None => Reply::Unknown,
+        }
+    }
+
+    /// What a process is answered to a reference.
+    fn reply_to_reference(&self, script: &Script, process: u32, reference: &Reference) -> Reply
+        ensures { (s : Store) → IsShown script.now self.now s
+            → result ≡ reply_to_reference script.now s process reference.now }
+    {
+        if process >= script.processes() {
+            return Reply::Unknown;
+        }
+        let who = script.who(process);
+        match uid_of(&self.known, process, reference.number) {
+            Some(uid) => self
+                .holdings
+                .reply_at(who, uid, reference.offset, &reference.kind),
+            None => Reply::Unknown,
+        }
+    }
+
+    /// What a move of quota is answered.
+    fn move_reply(&self, path: &Path, amount: &i32) -> Reply
+        ensures { (p : Plan) (s : Store) → IsShown p self.now s → result ≡ move_reply s path.now amount.now }
+    {
+        let amount = *amount;
+        self.holdings.move_reply(path, amount)
+    }
+
+    /// What a process is answered to a tree command; `Done` to any other.
+    fn reply_to_tree_command(&self, process: u32, command: &Command) -> Reply
+        ensures { (p : Plan) (s : Store) → IsShown p self.now s
+            → result ≡ reply_to_tree_command p s process command.now }
+    {
+        match command {
+            Command::MkDir { path, volume } => self.holdings.make_reply(path, *volume, true),
+            Command::MkSeg { path, volume, .. } => self.holdings.make_reply(path, *volume, false),
+            Command::Initiate { path } => self.initiate_reply(process, path),
+            Command::Terminate { number } => self.terminate_reply(process, *number),
+            Command::Acl { path, row, .. } => self.holdings.acl_reply(path, row),
+            Command::Length { path, pages } => self.holdings.length_reply(path, *pages),
+            Command::Truncate { path, .. } => self.holdings.truncate_reply(path),
+            Command::Delete { path } => self.holdings.delete_reply(path),
+            Command::Move { path, amount } => self.move_reply(path, amount),
+            Command::Status { path } => self.holdings.status_reply(path),
+            _ => Reply::Done,
+        }
+    }
+
+    /// What a process is answered to a command.
+    pub fn reply_to(&self, script: &Script, process: u32, command: &Command) -> Reply
+        ensures { (s : Store) → Shows script.now self.now s
+            → result ≡ reply_to_command script.now s process command.now }
+    {
+        match command.reference() {
+            Some(reference) => self.reply_to_reference(script, process, &reference),
+            None => self.reply_to_tree_command(process, command),
+        }
+    }
+}
