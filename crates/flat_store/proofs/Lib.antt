@@ -8,6 +8,7 @@ pub mod MakeLaws
 pub mod NodeLaws
 pub mod NumberLaws
 pub mod OkLaws
+pub mod OtherLaws
 pub mod PagedLaws
 pub mod PathLaws
 pub mod PutLaws

@@ -1,16 +1,19 @@
 -- What a process is answered, by what it knows.
-use Rattle.std.proofs.Common.{◌≡◌, ℕ, Bool, true, false, cond, zero, suc, ◌≤◌, [], ◌∷◌, arith, List, Option, Some, None, Result, Ok, Err, is_some, length, get_or, refl, sym, ap, ◌∙◌}
+use Rattle.std.proofs.Common.{◌≡◌, ℕ, Bool, true, false, cond, zero, suc, ◌≤◌, [], ◌∷◌, arith, List, Option, Some, None, Result, Ok, Err, is_some, length, set, get_or, refl, sym, ap, subst, ◌∙◌}
+use Rattle.std.proofs.lemmas.List.{length-set}
 use Rattle.script.specs.Plans.{Plan}
 use Rattle.script.specs.declared.commands.Reference.{Reference}
 use Rattle.book.specs.declared.replies.Reply.{Reply}
 use Rattle.book.specs.declared.replies.Reply.TheVariants as reply
-use Rattle.known_segs.specs.Known.{number_for, uid_of}
+use Rattle.known_segs.specs.Known.{number_for, uid_of, with_number, without_number}
 use Rattle.tree_model.specs.Tree.{Node, node_in}
 use Rattle.flat_model.specs.Branches.{segment_at}
-use Rattle.flat_model.specs.Naming.{initiate_of, initiate_reply, known_or_full, terminate_reply}
-use Rattle.flat_model.specs.References.{reply_at, reply_of, reply_to_reference}
-use Rattle.flat_model.specs.Store.{Store, known_uid, numbers_of}
-use Rattle.flat_store.specs.Shown.{IsShown, Kept, numbers_at}
+use Rattle.flat_model.specs.Naming.{after_initiate, after_terminate, initiated, initiate_of, initiate_reply, known_or_full, terminate_reply}
+use Rattle.flat_model.specs.References.{after_reference, reply_at, reply_of, reply_to_reference, written_by}
+use Rattle.flat_model.specs.Store.{Store, known_uid, numbers_of, with_numbers}
+use Rattle.flat_store.specs.Shown.{Holds, IsShown, Kept, numbers_at}
+use Rattle.flat_model.specs.Commands.{takes_effect}
+use Rattle.flat_store.proofs.OtherLaws.{KeepsOthers}
 
 module _ (p : Plan) (k : Kept) (s : Store) (h : IsShown p k s) where
   pub numbers_are : (process : ℕ) → numbers_of s process ≡ numbers_at k.known process
@@ -50,3 +53,65 @@ pub nobody_knows : (p : Plan) (k : Kept) (s : Store) (process number : ℕ) → 
 nobody_knows p k s process number h le =
     let size : length k.known ≡ length p.processes = ap length (sym h.known) ∙ h.knowers in
     sym (ap (λ (kst : List (Option ℕ)). uid_of kst number) (past k.known process [] (omega (arith, size, le))))
+
+-- ---- effects
+
+-- the holdings alone are changed
+pub effect_shown : (p : Plan) (k n : Kept) (s t : Store) → IsShown p k s → Holds p n.held t → KeepsOthers s t → n ≡ record k { held = n.held } → IsShown p n t
+effect_shown p k n s t h holds keeps same = subst (λ (x : Kept). IsShown p x t) (sym same) (record {
+  holds = holds;
+  known = keeps.known ∙ h.known;
+  processes = keeps.processes ∙ h.processes;
+  knowers = ap length keeps.known ∙ h.knowers;
+  runners = ap length keeps.processes ∙ h.runners;
+})
+
+-- what the numbers of a process stand for is changed alone
+pub numbers_shown : (p : Plan) (k n : Kept) (s : Store) (process : ℕ) (numbers told : List (Option ℕ)) → IsShown p k s → n ≡ record k { known = n.known } → n.known ≡ set k.known process told → told ≡ numbers
+    → IsShown p n (with_numbers s process numbers)
+numbers_shown p k n s process numbers told h same now is = subst (λ (x : Kept). IsShown p x (with_numbers s process numbers)) (sym same) (record {
+  holds = record {
+    nodes = h.holds.nodes;
+    next = h.holds.next;
+    counts = h.holds.counts;
+    pages = h.holds.pages;
+    inside = h.holds.inside;
+    flat = h.holds.flat;
+    records = h.holds.records;
+    entries = h.holds.entries;
+  };
+  known = ap (λ (known : List (List (Option ℕ))). set known process numbers) h.known ∙ ap (λ (x : List (Option ℕ)). set k.known process x) (sym is) ∙ sym now;
+  processes = h.processes;
+  knowers = length-set s.known process numbers ∙ h.knowers;
+  runners = h.runners;
+})
+
+pub after_initiate_is : (s : Store) (process : ℕ) (path : List (List ℕ)) (n : Node) → segment_at s.nodes path ≡ Ok n
+    → after_initiate s process path ≡ with_numbers s process (with_number (numbers_of s process) n.uid (number_for (numbers_of s process) n.uid))
+unfolding after_initiate
+after_initiate_is s process path n found = ap (initiated s process) found
+
+pub initiate_stays : (s : Store) (process : ℕ) (path : List (List ℕ)) (r : Reply) → segment_at s.nodes path ≡ Err r → after_initiate s process path ≡ s
+unfolding after_initiate
+initiate_stays s process path r found = ap (initiated s process) found
+
+pub after_terminate_is : (s : Store) (process number : ℕ) → with_numbers s process (without_number (numbers_of s process) number) ≡ after_terminate s process number
+unfolding after_terminate
+after_terminate_is s process number = refl
+
+pub terminate_asked : (s : Store) (process number : ℕ) → takes_effect (terminate_reply s process number) ≡ true → is_some (known_uid s process number) ≡ true
+unfolding terminate_reply
+terminate_asked s process number = here (is_some (known_uid s process number)) refl
+  where
+    here : (z : Bool) → is_some (known_uid s process number) ≡ z → takes_effect (cond z reply.Done reply.Unknown) ≡ true → is_some (known_uid s process number) ≡ true
+    here true e is = e
+    here false e is = cc
+
+pub after_reference_is : (s : Store) (process : ℕ) (r : Reference) (o : Option ℕ) → known_uid s process r.number ≡ o → written_by s r.offset r.kind o ≡ after_reference s process r
+unfolding after_reference
+after_reference_is s process r o is = sym (ap (written_by s r.offset r.kind) is)
+
+pub reference_asked : (p : Plan) (s : Store) (process : ℕ) (r : Reference) (u : ℕ) → known_uid s process r.number ≡ Some u → takes_effect (reply_to_reference p s process r) ≡ true
+    → takes_effect (reply_at p s process r.offset r.kind (node_in s.nodes u)) ≡ true
+unfolding reply_to_reference
+reference_asked p s process r u is effect = sym (ap (λ (o : Option ℕ). takes_effect (reply_of p s process r.offset r.kind o)) is) ∙ effect

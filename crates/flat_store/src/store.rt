@@ -132,4 +132,37 @@ impl FlatStore {
             None => self.reply_to_tree_command(process, command),
         }
     }
+
+    /// A process knows the segment that a path leads to by a number from now on, unless that is refused.
+    fn initiate(&mut self, process: u32, path: &Path)
+        ensures { (p : Plan) (s : Store) → IsShown p self.old s
+            → IsShown p self.new (after_initiate s process path.now) }
+    {
+        if let Ok(node) = self.holdings.segment_at(path) {
+            make_known(&mut self.known, process, node.uid);
+        }
+    }
+
+    /// A number of a process stands for nothing from now on, unless that is refused.
+    fn terminate(&mut self, process: u32, number: u32)
+        ensures { (p : Plan) (s : Store) → IsShown p self.old s
+            → takes_effect (terminate_reply s process number) ≡ true
+            → IsShown p self.new (after_terminate s process number) }
+    {
+        forget(&mut self.known, process, number);
+    }
+
+    /// Does what a reference does that isn't refused.
+    fn refer(&mut self, process: u32, reference: &Reference) -> Result<(), NoMemory>
+        ensures ok { OnOk result ((p : Plan) (s : Store) → IsShown p self.old s
+            → takes_effect (reply_to_reference p s process reference.now) ≡ true
+            → IsShown p self.new (after_reference s process reference.now)) }
+        ensures err { OnErr result (self.new ≡ self.old) }
+    {
+        if let Some(uid) = uid_of(&self.known, process, reference.number) {
+            self.holdings
+                .refer(uid, reference.offset, &reference.kind)?;
+        }
+        Ok(())
+    }
 }

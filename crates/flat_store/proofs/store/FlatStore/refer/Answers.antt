@@ -1,0 +1,31 @@
+use Rattle.std.proofs.Common.{◌≡◌, ◌<◌, ℕ, true, List, Option, Some, None, Ok, Err, is_some, length, refl, sym, ap, subst, ◌∙◌, arith}
+use Rattle.tree_model.specs.Tree.{Node, quota_in}
+use Rattle.dir_tree.specs.Nodes.{as_term}
+use Rattle.flat_model.specs.Branches.{segment_at}
+use Rattle.flat_model.specs.Store.{Store, numbers_of}
+use Rattle.known_segs.specs.Known.{number_for, uid_of, with_number, without_number}
+use Rattle.flat_store.specs.Shown.{Kept, IsShown, numbers_at}
+use Rattle.flat_model.specs.References.{written_by}
+use Rattle.flat_store.proofs.OtherLaws.{written_keeps}
+use Rattle.flat_store.proofs.StoreLaws.{after_reference_is, effect_shown, reference_asked, uid_known}
+use Rattle.flat_store.proofs.store.FlatStore.refer.Goals as goal
+
+pub returns-in_ok-refer-clause-ok : goal.returns-in_ok-refer-clause-ok
+returns-in_ok-refer-clause-ok c = λ p s h effect.
+    let inside : Kept = record { held = c.self.inside.holdings; known = c.self.inside.known.items; processes = c.self.inside.processes.items } in
+    let after : Kept = record inside { held = c.refer.new.self } in
+    let shown = subst (λ (k : Kept). IsShown p k s) (sym c.self.view_is) h in
+    let uid = c.in-Some.ensures ∙ ap (λ (known : List (List (Option ℕ))). uid_of (numbers_at known c.args.process) c.args.reference.now.number) c.deref.ensures.value in
+    let is = uid_known p inside s shown c.args.process c.args.reference.now.number (Some c.in-Some.uid) uid in
+    let done = c.in_ok-refer.ensures.ok p s c.args.process shown.holds (reference_asked p s c.args.process c.args.reference.now c.in-Some.uid is effect) in
+    subst (λ (x : Store). IsShown p after x) (after_reference_is s c.args.process c.args.reference.now (Some c.in-Some.uid) is)
+    (effect_shown p inside after s (written_by s c.args.reference.now.offset c.args.reference.now.kind (Some c.in-Some.uid)) shown done
+      (written_keeps s c.args.reference.now.offset c.args.reference.now.kind (Some c.in-Some.uid)) refl)
+
+pub returns-in_default-clause-ok : goal.returns-in_default-clause-ok
+returns-in_default-clause-ok c = λ p s h effect.
+    let inside : Kept = record { held = c.self.inside.holdings; known = c.self.inside.known.items; processes = c.self.inside.processes.items } in
+    let shown = subst (λ (k : Kept). IsShown p k s) (sym c.self.view_is) h in
+    let uid = c.in_default.ensures ∙ ap (λ (known : List (List (Option ℕ))). uid_of (numbers_at known c.args.process) c.args.reference.now.number) c.deref.ensures.value in
+    let is = uid_known p inside s shown c.args.process c.args.reference.now.number None uid in
+    subst (λ (x : Store). IsShown p c.args.self.now x) (after_reference_is s c.args.process c.args.reference.now None is) h
