@@ -14,6 +14,7 @@ pub mod PathLaws
 pub mod PutLaws
 pub mod QuotaLaws
 pub mod ReferLaws
+pub mod ReleaseLaws
 pub mod RemoveLaws
 pub mod ReplyLaws
 pub mod SizeLaws

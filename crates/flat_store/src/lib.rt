@@ -10,6 +10,7 @@ mod pages;
 mod paths;
 mod progress;
 mod references;
+mod releases;
 mod replies;
 mod rights;
 mod sizes;

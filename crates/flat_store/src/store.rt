@@ -4,7 +4,7 @@ ghost use Rattle.script.specs.Plans.{command_at};
 ghost use Rattle.flat_model.specs.Commands.{effect_of, effect_of_tree_command, reply_to_command, reply_to_tree_command, takes_effect};
 ghost use Rattle.flat_model.specs.Legal.{IsAnswer, IsLawfulDo, MayFault, after_do};
 ghost use Rattle.flat_model.specs.Naming.{initiate_reply, after_initiate, terminate_reply, after_terminate};
-ghost use Rattle.flat_model.specs.Rights.{move_reply};
+ghost use Rattle.flat_model.specs.Rights.{move_reply, after_move};
 ghost use Rattle.flat_model.specs.References.{reply_to_reference, after_reference};
 ghost use Rattle.flat_model.specs.Store.{Store, is_turn, progress_of};
 ghost use Rattle.script.specs.Plans.{Plan};
@@ -164,5 +164,71 @@ impl FlatStore {
                 .refer(uid, reference.offset, &reference.kind)?;
         }
         Ok(())
+    }
+
+    /// Moves quota, unless that is refused.
+    fn move_quota(&mut self, path: &Path, amount: &i32)
+        ensures { (p : Plan) (s : Store) → IsShown p self.old s → takes_effect (move_reply s path.now amount.now) ≡ true
+            → IsShown p self.new (after_move s path.now amount.now) }
+    {
+        let amount = *amount;
+        self.holdings.move_quota(path, amount);
+    }
+
+    /// Does what a tree command does that isn't refused.
+    fn tree_effect(&mut self, script: &Script, process: u32, command: &Command)
+        requires { process < length script.now.processes }
+        ensures { (s : Store) → IsShown script.now self.old s → s.next < 2 ^ 31
+            → takes_effect (reply_to_tree_command script.now s process command.now) ≡ true
+            → IsShown script.now self.new (effect_of_tree_command script.now s process command.now) }
+    {
+        match command {
+            Command::MkDir { path, volume } => {
+                self.holdings.make(path, *volume, true, 0, Acl::none());
+            }
+            Command::MkSeg {
+                path,
+                pages,
+                volume,
+            } => {
+                let acl = Acl::of(script.who(process).copied());
+                self.holdings.make(path, *volume, false, *pages, acl);
+            }
+            Command::Initiate { path } => self.initiate(process, path),
+            Command::Terminate { number } => self.terminate(process, *number),
+            Command::Acl { path, row, mode } => self.holdings.set_row(path, row, *mode),
+            Command::Length { path, pages } => self.holdings.set_length(path, *pages),
+            Command::Truncate { path, words } => self.holdings.truncate(path, *words),
+            Command::Delete { path } => self.holdings.delete(path),
+            Command::Move { path, amount } => self.move_quota(path, amount),
+            Command::Read { .. }
+            | Command::Write { .. }
+            | Command::Add { .. }
+            | Command::Await { .. }
+            | Command::Status { .. }
+            | Command::End => {}
+        }
+    }
+
+    /// Does what a command does that isn't refused.
+    fn take_effect(
+        &mut self,
+        script: &Script,
+        process: u32,
+        command: &Command,
+    ) -> Result<(), NoMemory>
+        requires { process < length script.now.processes }
+        ensures ok { OnOk result ((s : Store) → IsShown script.now self.old s → s.next < 2 ^ 31
+            → takes_effect (reply_to_command script.now s process command.now) ≡ true
+            → IsShown script.now self.new (effect_of script.now s process command.now)) }
+        ensures err { OnErr result (self.new ≡ self.old) }
+    {
+        match command.reference() {
+            Some(reference) => self.refer(process, &reference),
+            None => {
+                self.tree_effect(script, process, command);
+                Ok(())
+            }
+        }
     }
 }

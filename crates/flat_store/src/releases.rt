@@ -1,0 +1,43 @@
+ghost use Rattle.std.specs.Prelude.{◌≡◌, ◌/◌, ◌↔◌, ◌==◌, ℕ, IsTrue};
+ghost use Rattle.script.specs.Plans.{Plan};
+ghost use Rattle.flat_model.specs.Legal.{MayRelease};
+ghost use Rattle.flat_model.specs.Pages.{is_zero_page, without_stored, without_words};
+ghost use Rattle.flat_model.specs.Store.{Store};
+ghost use Rattle.flat_store.specs.Shown.{Holds};
+
+use crate::holdings::Holdings;
+use mword::Page;
+
+impl Holdings {
+    /// Whether a page may be given up: it is stored, and all zeros.
+    pub(crate) fn may_release(&self, uid: u32, page: u32) -> bool
+        ensures { (p : Plan) (s : Store) → Holds p self.now s → (IsTrue result ↔ MayRelease s uid page) }
+    {
+        match self.pages.get(uid, page) {
+            Some(words) => words.is_zero(),
+            None => false,
+        }
+    }
+
+    /// Gives up a page of zeros.
+    pub(crate) fn release(&mut self, uid: u32, page: u32)
+        ensures { (p : Plan) (s : Store) → Holds p self.old s → MayRelease s uid page
+            → Holds p self.new (record s { stored = without_stored s.stored uid (λ q. q == page) }) }
+    {
+        self.drop_page(uid, page);
+    }
+
+    /// Whether the page that an offset cuts is all zeros once the words from it on are 0.
+    pub(crate) fn cut_is_zero(&self, uid: u32, words: u32) -> bool
+        ensures { (p : Plan) (s : Store) → Holds p self.now s
+            → result ≡ is_zero_page (without_words s.words uid words) uid (words / 1024) }
+    {
+        let start = words / Page::WORDS * Page::WORDS;
+        for offset in start..words {
+            if self.word(uid, offset).value() != 0 {
+                return false;
+            }
+        }
+        true
+    }
+}
