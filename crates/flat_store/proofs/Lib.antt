@@ -13,6 +13,7 @@ pub mod PagedLaws
 pub mod PathLaws
 pub mod PutLaws
 pub mod QuotaLaws
+pub mod ReachLaws
 pub mod ReferLaws
 pub mod ReleaseLaws
 pub mod RemoveLaws

@@ -1,0 +1,225 @@
+-- Which stores the commands of a script may come to.
+use Rattle.std.proofs.Common.{◌≡◌, ◌≢◌, ℕ, suc, zero, ◌+◌, ◌<◌, ◌≤◌, ◌^◌, Bool, true, false, cond, List, [], ◌∷◌, length, set, get_or, replicate, Option, Some, None, refl, sym, ap, subst, ◌∙◌, arith, inl, inr}
+use Rattle.std.specs.Prelude.{sum_by, slice_get}
+use Rattle.std.specs.List.{list_all}
+use Rattle.std.proofs.lemmas.Bool.{and_parts, cases_lt}
+use Rattle.std.proofs.lemmas.Bool.Decides.{nat_tests}
+use Rattle.std.proofs.lemmas.List.{get_or_past, length-set}
+use Rattle.std.proofs.lemmas.List.Sums.{sum_by-cons, sum_by-set}
+use Rattle.script.specs.Forms.{IsPlan, is_command, is_process, weight, weight_of}
+use Rattle.script.specs.Plans.{Plan, ProcessPlan, command_at, commands_of, nobody}
+use Rattle.script.specs.declared.commands.Command.{Command}
+use Rattle.script.specs.declared.commands.Command.TheVariants as command
+use Rattle.script.specs.declared.commands.RefKind.TheVariants as kind
+use Rattle.book.specs.declared.replies.Reply.{Reply}
+use Rattle.book.specs.declared.replies.Reply.TheVariants as reply
+use Rattle.flat_model.specs.Commands.{after_command, effect_of, gone_on, is_end, takes_effect, tries_on}
+use Rattle.flat_model.specs.References.{after_reference, written_by}
+use Rattle.flat_model.specs.Store.{Progress, Store, at_first, boot, known_uid, progress_of, with_progress}
+use Rattle.flat_store.specs.Shown.{ArePlaces, IsReached}
+use Rattle.flat_store.proofs.OtherLaws.{Advances, effect_advances}
+
+-- ---- few uids
+
+heavy : (volumes : ℕ) (c : Command) → is_command volumes c ≡ true → 1 ≤ weight c
+unfolding is_command
+heavy volumes (command.MkDir path volume) is = omega arith
+heavy volumes (command.MkSeg path pages volume) is = omega arith
+heavy volumes (command.Initiate path) is = omega arith
+heavy volumes (command.Terminate number) is = omega arith
+heavy volumes (command.Read number offset) is = omega arith
+heavy volumes (command.Write number offset word) is = omega arith
+heavy volumes (command.Add number offset word) is = omega arith
+heavy volumes (command.Await number offset word tries) is = grind (arith, nat_tests)
+heavy volumes (command.Acl path row m) is = omega arith
+heavy volumes (command.Length path pages) is = omega arith
+heavy volumes (command.Truncate path words) is = omega arith
+heavy volumes (command.Delete path) is = omega arith
+heavy volumes (command.Move path amount) is = omega arith
+heavy volumes (command.Status path) is = omega arith
+heavy volumes command.End is = omega arith
+
+commands_weigh : (volumes : ℕ) (cs : List Command) → list_all (is_command volumes) cs ≡ true → length cs ≤ sum_by weight cs
+commands_weigh volumes [] are = omega arith
+commands_weigh volumes (c ∷ cs) are =
+    let parts = and_parts (is_command volumes c) (list_all (is_command volumes) cs) are in
+    let one : 1 ≤ weight c = heavy volumes c parts.0 in
+    let rest : length cs ≤ sum_by weight cs = commands_weigh volumes cs parts.1 in
+    omega (arith, one, rest, sum_by-cons weight c cs)
+
+process_weighs : (volumes : ℕ) (x : ProcessPlan) → is_process volumes x ≡ true → length x.commands ≤ weight_of x
+unfolding is_process weight_of
+process_weighs volumes x is = commands_weigh volumes x.commands (and_parts _ _ (and_parts _ _ is).1).0
+
+places_weigh : (volumes : ℕ) (qs : List Progress) (xs : List ProcessPlan) → ArePlaces qs xs → list_all (is_process volumes) xs ≡ true → sum_by (λ q. q.place) qs ≤ sum_by weight_of xs
+places_weigh volumes [] xs places are = omega arith
+places_weigh volumes (q ∷ qs) [] places are = absurd places
+places_weigh volumes (q ∷ qs) (x ∷ xs) places are =
+    let parts = and_parts (is_process volumes x) (list_all (is_process volumes) xs) are in
+    let one : length x.commands ≤ weight_of x = process_weighs volumes x parts.0 in
+    let rest : sum_by (λ q. q.place) qs ≤ sum_by weight_of xs = places_weigh volumes qs xs places.1 parts.1 in
+    omega (arith, places.0, one, rest, sum_by-cons (λ (y : Progress). y.place) q qs, sum_by-cons weight_of x xs)
+
+-- a script has too few commands for many uids
+pub few_uids : (p : Plan) (s : Store) → IsReached p s → s.next < 2 ^ 31
+few_uids p s r =
+    let less : sum_by (λ q. q.place) s.processes ≤ sum_by weight_of p.processes = places_weigh (length p.volumes) s.processes p.processes r.places r.plan.each in
+    let most : sum_by weight_of p.processes ≤ 100000 = r.plan.commands in
+    omega (arith, r.uids, less, most)
+
+-- ---- places
+
+command_there : (cs : List Command) (i : ℕ) (c : Command) → slice_get cs i ≡ Some c → i < length cs
+command_there [] i c e = cc
+command_there (d ∷ cs) zero c e = omega arith
+command_there (d ∷ cs) (suc i) c e = (let lt : i < length cs = command_there cs i c e in omega (arith, lt))
+
+pub place_within : (p : Plan) (k place : ℕ) (c : Command) → command_at p k place ≡ Some c → place < length (commands_of p k)
+place_within p k place c at = command_there (commands_of p k) place c at
+
+-- a place is small
+place_small : (volumes : ℕ) (xs : List ProcessPlan) (k : ℕ) → list_all (is_process volumes) xs ≡ true → length (get_or xs k (record { who = nobody; commands = [] })).commands ≤ sum_by weight_of xs
+place_small volumes [] k are = omega arith
+place_small volumes (x ∷ xs) zero are =
+    let parts = and_parts (is_process volumes x) (list_all (is_process volumes) xs) are in
+    let one : length x.commands ≤ weight_of x = process_weighs volumes x parts.0 in
+    omega (arith, one, sum_by-cons weight_of x xs)
+place_small volumes (x ∷ xs) (suc k) are =
+    let parts = and_parts (is_process volumes x) (list_all (is_process volumes) xs) are in
+    let rest : length (get_or xs k (record { who = nobody; commands = [] })).commands ≤ sum_by weight_of xs = place_small volumes xs k parts.1 in
+    omega (arith, rest, sum_by-cons weight_of x xs)
+
+pub place_fits : (p : Plan) (k place : ℕ) → IsPlan p → place < length (commands_of p k) → place + 1 < 2 ^ 32
+place_fits p k place plan lt =
+    let few : length (commands_of p k) ≤ sum_by weight_of p.processes = place_small (length p.volumes) p.processes k plan.each in
+    let most : sum_by weight_of p.processes ≤ 100000 = plan.commands in
+    omega (arith, lt, few, most)
+
+places_set : (qs : List Progress) (xs : List ProcessPlan) (k : ℕ) (q : Progress) → ArePlaces qs xs → q.place ≤ length (get_or xs k (record { who = nobody; commands = [] })).commands → ArePlaces (set qs k q) xs
+places_set [] xs k q places le = tt
+places_set (o ∷ qs) [] k q places le = absurd places
+places_set (o ∷ qs) (x ∷ xs) zero q places le = (le, places.1)
+places_set (o ∷ qs) (x ∷ xs) (suc k) q places le = (places.0, places_set qs xs k q places.1 le)
+
+-- a process that hasn't ended is there
+pub going_there : (qs : List Progress) (k : ℕ) → (get_or qs k (record { place = 0; tries = 0; ended = true; faulted = false })).ended ≡ false → k < length qs
+going_there [] k going = cc
+going_there (q ∷ qs) zero going = omega arith
+going_there (q ∷ qs) (suc k) going = (let lt : k < length qs = going_there qs k going in omega (arith, lt))
+
+-- ---- a command was answered
+
+no_uid : (s : Store) (offset : ℕ) (o : Option ℕ) → (written_by s offset kind.Read o).next ≡ s.next
+no_uid s offset None = refl
+no_uid s offset (Some u) = refl
+
+tries_stay : (p : Plan) (s : Store) (k : ℕ) (q : Progress) (c : Command) (r : Reply) → tries_on q c r ≡ true → (effect_of p s k c).next ≡ s.next
+unfolding after_reference
+tries_stay p s k q (command.Await number offset word tries) r is = no_uid s offset (known_uid s k number)
+tries_stay p s k q (command.MkDir path volume) r is = cc
+tries_stay p s k q (command.MkSeg path pages volume) r is = cc
+tries_stay p s k q (command.Initiate path) r is = cc
+tries_stay p s k q (command.Terminate number) r is = cc
+tries_stay p s k q (command.Read number offset) r is = cc
+tries_stay p s k q (command.Write number offset word) r is = cc
+tries_stay p s k q (command.Add number offset word) r is = cc
+tries_stay p s k q (command.Acl path row m) r is = cc
+tries_stay p s k q (command.Length path pages) r is = cc
+tries_stay p s k q (command.Truncate path words) r is = cc
+tries_stay p s k q (command.Delete path) r is = cc
+tries_stay p s k q (command.Move path amount) r is = cc
+tries_stay p s k q (command.Status path) r is = cc
+tries_stay p s k q command.End r is = cc
+
+abbrev pub place_sum : List Progress → ℕ
+place_sum qs = sum_by (λ q. q.place) qs
+
+-- what an answer leaves of the tree, the words, the pages and the numbers
+abbrev pub answered : Plan → Store → ℕ → Command → Reply → Store
+answered p s k c r = cond (takes_effect r) (effect_of p s k c) s
+
+answered_advances : (p : Plan) (s : Store) (k : ℕ) (c : Command) (r : Reply) → Advances s (answered p s k c r)
+answered_advances p s k c r = here (takes_effect r) (effect_advances p s k c)
+  where
+    here : (z : Bool) → Advances s (effect_of p s k c) → Advances s (cond z (effect_of p s k c) s)
+    here true a = a
+    here false a = record { processes = refl; next = omega arith }
+
+pub reached_on : (p : Plan) (s : Store) (k place : ℕ) (c : Command) (r : Reply) → IsReached p s → (progress_of s k).ended ≡ false → (progress_of s k).place ≡ place → command_at p k place ≡ Some c
+    → IsReached p (after_command p s k c r)
+unfolding after_command
+reached_on p s k place c r h going at there = record { plan = h.plan; places = places; uids = uids }
+  where
+    q : Progress
+    q = progress_of s k
+
+    t : Store
+    t = answered p s k c r
+
+    within : k < length s.processes
+    within = going_there s.processes k going
+
+    lt : place < length (commands_of p k)
+    lt = place_within p k place c there
+
+    by_tries : (z : Bool) → tries_on (progress_of s k) c r ≡ z → (gone_on (progress_of s k) c r).place ≡ cond z (progress_of s k).place ((progress_of s k).place + 1)
+    by_tries true e = rw e refl
+    by_tries false e = rw e refl
+
+    places : ArePlaces (set (answered p s k c r).processes k (gone_on (progress_of s k) c r)) p.processes
+    places =
+        subst (λ (qs : List Progress). ArePlaces (set qs k (gone_on (progress_of s k) c r)) p.processes) (sym (answered_advances p s k c r).processes)
+        (places_set s.processes p.processes k (gone_on (progress_of s k) c r) h.places
+          (bound (tries_on (progress_of s k) c r) (by_tries (tries_on (progress_of s k) c r) refl)))
+      where
+        bound : (z : Bool) → (gone_on (progress_of s k) c r).place ≡ cond z (progress_of s k).place ((progress_of s k).place + 1) → (gone_on (progress_of s k) c r).place ≤ length (commands_of p k)
+        bound true e = omega (arith, e, at, lt)
+        bound false e = omega (arith, e, at, lt)
+
+    total : place_sum (set s.processes k (gone_on (progress_of s k) c r)) + (progress_of s k).place ≡ place_sum s.processes + (gone_on (progress_of s k) c r).place
+    total = sum_by-set (λ (x : Progress). x.place) s.processes k (gone_on (progress_of s k) c r) (record { place = 0; tries = 0; ended = true; faulted = false }) within
+
+    uids : (answered p s k c r).next ≤ 2 + place_sum (set (answered p s k c r).processes k (gone_on (progress_of s k) c r))
+    uids =
+        subst (λ (qs : List Progress). (answered p s k c r).next ≤ 2 + place_sum (set qs k (gone_on (progress_of s k) c r))) (sym (answered_advances p s k c r).processes)
+        (bound (tries_on (progress_of s k) c r) refl (by_tries (tries_on (progress_of s k) c r) refl))
+      where
+        stay : tries_on (progress_of s k) c r ≡ true → (answered p s k c r).next ≡ s.next
+        stay e = either (takes_effect r) (tries_stay p s k (progress_of s k) c r e)
+          where
+            either : (z : Bool) → (effect_of p s k c).next ≡ s.next → (cond z (effect_of p s k c) s).next ≡ s.next
+            either true f = f
+            either false f = refl
+
+        bound : (z : Bool) → tries_on (progress_of s k) c r ≡ z → (gone_on (progress_of s k) c r).place ≡ cond z (progress_of s k).place ((progress_of s k).place + 1)
+            → (answered p s k c r).next ≤ 2 + place_sum (set s.processes k (gone_on (progress_of s k) c r))
+        bound true f e = omega (arith, e, stay f, total, h.uids)
+        bound false f e = omega (arith, e, (answered_advances p s k c r).next, total, h.uids)
+
+-- ---- a failure is told
+
+pub reached_fault : (p : Plan) (s : Store) (k : ℕ) → IsReached p s → (progress_of s k).ended ≡ false → IsReached p (with_progress s k (record (progress_of s k) { faulted = true }))
+reached_fault p s k h going = record { plan = h.plan; places = places s.processes p.processes k h.places going; uids = uids }
+  where
+    places : (qs : List Progress) (xs : List ProcessPlan) (k : ℕ) → ArePlaces qs xs → (get_or qs k (record { place = 0; tries = 0; ended = true; faulted = false })).ended ≡ false
+        → ArePlaces (set qs k (record (get_or qs k (record { place = 0; tries = 0; ended = true; faulted = false })) { faulted = true })) xs
+    places [] xs k h going = tt
+    places (q ∷ qs) [] k h going = absurd h
+    places (q ∷ qs) (x ∷ xs) zero h going = (h.0, h.1)
+    places (q ∷ qs) (x ∷ xs) (suc k) h going = (h.0, places qs xs k h.1 going)
+
+    uids : s.next ≤ 2 + place_sum (set s.processes k (record (progress_of s k) { faulted = true }))
+    uids =
+        let total : place_sum (set s.processes k (record (progress_of s k) { faulted = true })) + (progress_of s k).place ≡ place_sum s.processes + (progress_of s k).place
+              = sum_by-set (λ (x : Progress). x.place) s.processes k (record (progress_of s k) { faulted = true }) (record { place = 0; tries = 0; ended = true; faulted = false }) (going_there s.processes k going) in
+        omega (arith, total, h.uids)
+
+-- ---- the boot
+
+first_places : (xs : List ProcessPlan) → ArePlaces (replicate (length xs) at_first) xs
+first_places [] = tt
+first_places (x ∷ xs) = (omega arith, first_places xs)
+
+pub reached_boot : (p : Plan) → IsPlan p → IsReached p (boot p)
+unfolding boot
+reached_boot p plan = record { plan = plan; places = first_places p.processes; uids = omega arith }
