@@ -3,6 +3,7 @@ pub mod CodeLaws
 pub mod CutLaws
 pub mod DropLaws
 pub mod EffectLaws
+pub mod FollowLaws
 pub mod GaugeLaws
 pub mod MakeLaws
 pub mod NodeLaws

@@ -16,7 +16,7 @@ use Rattle.book.specs.declared.replies.Reply.TheVariants as reply
 use Rattle.flat_model.specs.Commands.{after_command, effect_of, gone_on, is_end, takes_effect, tries_on}
 use Rattle.flat_model.specs.References.{after_reference, written_by}
 use Rattle.flat_model.specs.Store.{Progress, Store, at_first, boot, known_uid, progress_of, with_progress}
-use Rattle.flat_store.specs.Shown.{ArePlaces, IsReached}
+use Rattle.flat_store.specs.Shown.{ArePlaces, IsReached, answered}
 use Rattle.flat_store.proofs.OtherLaws.{Advances, effect_advances}
 
 -- ---- few uids
@@ -134,11 +134,7 @@ tries_stay p s k q command.End r is = cc
 abbrev pub place_sum : List Progress → ℕ
 place_sum qs = sum_by (λ q. q.place) qs
 
--- what an answer leaves of the tree, the words, the pages and the numbers
-abbrev pub answered : Plan → Store → ℕ → Command → Reply → Store
-answered p s k c r = cond (takes_effect r) (effect_of p s k c) s
-
-answered_advances : (p : Plan) (s : Store) (k : ℕ) (c : Command) (r : Reply) → Advances s (answered p s k c r)
+pub answered_advances : (p : Plan) (s : Store) (k : ℕ) (c : Command) (r : Reply) → Advances s (answered p s k c r)
 answered_advances p s k c r = here (takes_effect r) (effect_advances p s k c)
   where
     here : (z : Bool) → Advances s (effect_of p s k c) → Advances s (cond z (effect_of p s k c) s)

@@ -6,6 +6,7 @@ use Rattle.std.specs.BTreeMap.{is_at}
 use Rattle.accounts.specs.Maps.{AccountMaps, Counts}
 use Rattle.script.specs.Plans.{Plan, ProcessPlan}
 use Rattle.script.specs.Forms.{IsPlan}
+use Rattle.script.specs.declared.commands.Command.{Command}
 use Rattle.script.specs.declared.commands.RefKind.{RefKind}
 use Rattle.book.specs.declared.replies.Reply.{Reply}
 use Rattle.tree_model.specs.Tree.{Node, has_directory, node_in, without_node, quota_in, volume_in, taken_on, entries_on}
@@ -13,6 +14,7 @@ use Rattle.dir_tree.specs.declared.node.Node.{Node as Branch}
 use Rattle.dir_tree.specs.Nodes.{as_term, has_inferior}
 use Rattle.tree_model.specs.Trees.{has_segment}
 use Rattle.flat_model.specs.Pages.{without_words, Words, is_page, is_stored, is_zero_page, without_stored, IsOnce}
+use Rattle.flat_model.specs.Commands.{effect_of, takes_effect}
 use Rattle.flat_model.specs.References.{is_used_up, is_volume_full, stores_page, room_reply, word_reply}
 use Rattle.flat_model.specs.Store.{Store, Progress, records_of, entries_of}
 
@@ -209,3 +211,7 @@ progress_at processes k = slice_index_or processes k (record { place = 0; tries 
 -- what the segment numbers of a process stand for
 abbrev pub numbers_at : List (List (Option ℕ)) → ℕ → List (Option ℕ)
 numbers_at known k = slice_index_or known k []
+
+-- what an answer leaves of the tree, the words, the pages and the numbers
+abbrev pub answered : Plan → Store → ℕ → Command → Reply → Store
+answered p s k c r = if takes_effect r then effect_of p s k c else s

@@ -1,14 +1,16 @@
 ghost use Rattle.std.specs.Prelude.{◌≡◌, ◌<◌, ◌^◌, ◌↔◌, ◌&&◌, ◌==◌, ℕ, true, not, length, IsTrue, IfSome, IfNone, OnOk, OnErr, Some, None};
 ghost use Rattle.known_segs.specs.Known.{uid_of};
 ghost use Rattle.script.specs.Plans.{command_at};
-ghost use Rattle.flat_model.specs.Commands.{effect_of, effect_of_tree_command, reply_to_command, reply_to_tree_command, takes_effect};
-ghost use Rattle.flat_model.specs.Legal.{IsAnswer, IsLawfulDo, MayFault, after_do};
+ghost use Rattle.flat_model.specs.Commands.{after_command, effect_of, effect_of_tree_command, reply_to_command, reply_to_tree_command, takes_effect};
+ghost use Rattle.flat_model.specs.Legal.{IsAnswer, IsLawful, IsLawfulDo, MayFault, MayRelease, after_entry, after_fault};
+ghost use Rattle.flat_model.specs.Pages.{without_stored};
 ghost use Rattle.flat_model.specs.Naming.{initiate_reply, after_initiate, terminate_reply, after_terminate};
 ghost use Rattle.flat_model.specs.Rights.{move_reply, after_move};
 ghost use Rattle.flat_model.specs.References.{reply_to_reference, after_reference};
 ghost use Rattle.flat_model.specs.Store.{Store, is_turn, progress_of};
 ghost use Rattle.script.specs.Plans.{Plan};
-ghost use Rattle.flat_store.specs.Shown.{IsShown, Shows, numbers_at, progress_at};
+ghost use Rattle.script.specs.Forms.{IsPlan};
+ghost use Rattle.flat_store.specs.Shown.{IsShown, Shows, answered, numbers_at, progress_at};
 
 use crate::NoMemory;
 use crate::holdings::Holdings;
@@ -16,10 +18,11 @@ use crate::numbers::{forget, make_known, number_for, uid_of};
 use crate::progress::{Progress, fault, go_on};
 use crate::replies::{is_answer, takes_effect};
 use acl::Acl;
-use book::Reply;
+use book::{Book, Entry, Reply};
 use known_segs::Kst;
 use mnames::Path;
 use script::{Command, Reference, Script};
+use std::alloc::Global;
 use std::marker::Model;
 
 /// The flat store (Bensoussan, Clingen and Daley 1972; Organick 1972): the tree with its accounts, the stored pages with
@@ -45,6 +48,8 @@ impl Model for FlatStore {
 /// The command at a place of a process, if there is one.
 fn command_at(script: &Script, process: u32, place: u32) -> Option<&Command>
     ensures some { IfSome result (λ c. command_at script.now process place ≡ Some c.now) }
+    ensures within { IfSome result (λ c. process < length script.now.processes) }
+    ensures plan { IsPlan script.now }
     ensures none { IfNone result (command_at script.now process place ≡ None) }
 {
     if process >= script.processes() {
@@ -229,6 +234,96 @@ impl FlatStore {
                 self.tree_effect(script, process, command);
                 Ok(())
             }
+        }
+    }
+
+    /// Does what a command does that was answered so.
+    fn effect_of_reply(
+        &mut self,
+        script: &Script,
+        process: u32,
+        command: &Command,
+        reply: &Reply,
+    ) -> Result<(), NoMemory>
+        requires { process < length script.now.processes }
+        ensures ok { OnOk result ((s : Store) → IsShown script.now self.old s → s.next < 2 ^ 31
+            → (takes_effect reply.now ≡ true → takes_effect (reply_to_command script.now s process command.now) ≡ true)
+            → IsShown script.now self.new (answered script.now s process command.now reply.now)) }
+        ensures err { OnErr result (self.new ≡ self.old) }
+    {
+        if takes_effect(reply) {
+            self.take_effect(script, process, command)
+        } else {
+            Ok(())
+        }
+    }
+
+    /// A command of a process was answered so.
+    fn follow_do(
+        &mut self,
+        script: &Script,
+        process: u32,
+        command: &Command,
+        reply: &Reply,
+    ) -> Result<(), NoMemory>
+        requires { process < length script.now.processes }
+        ensures ok { OnOk result ((s : Store) (place : ℕ) → Shows script.now self.old s
+            → command_at script.now process place ≡ Some command.now
+            → IsLawfulDo script.now s process place reply.now
+            → Shows script.now self.new (after_command script.now s process command.now reply.now)) }
+        ensures err { OnErr result (self.new ≡ self.old) }
+    {
+        self.effect_of_reply(script, process, command, reply)?;
+        go_on(&mut self.processes, process, command, reply);
+        Ok(())
+    }
+
+    /// A drive's failure was told of a process, or of none.
+    fn follow_fault(&mut self, process: Option<u32>)
+        ensures { (p : Plan) (s : Store) → Shows p self.old s → MayFault s process
+            → Shows p self.new (after_fault s process) }
+    {
+        if let Some(process) = process {
+            fault(&mut self.processes, process);
+        }
+    }
+
+    /// A page of zeros was given up.
+    fn follow_release(&mut self, uid: u32, page: u32)
+        ensures { (p : Plan) (s : Store) → Shows p self.old s → MayRelease s uid page
+            → Shows p self.new (record s { stored = without_stored s.stored uid (λ q. q == page) }) }
+    {
+        self.holdings.release(uid, page);
+    }
+
+    /// Goes on to the flat store after an entry that is lawful in it.
+    ///
+    /// # Errors
+    /// `NoMemory` is want of memory for a page; then nothing is changed.
+    pub fn follow(&mut self, script: &Script, e: Entry) -> Result<(), NoMemory>
+        ensures ok { OnOk result ((store : Store) → Shows script.now self.old store → IsLawful script.now store e
+            → Shows script.now self.new (after_entry script.now store e)) }
+        ensures err { OnErr result (self.new ≡ self.old) }
+    {
+        match e {
+            Entry::Do {
+                process,
+                place,
+                reply,
+                ..
+            } => match command_at(script, process, place) {
+                Some(command) => self.follow_do(script, process, command, &reply),
+                None => Ok(()),
+            },
+            Entry::Release { uid, page } => {
+                self.follow_release(uid, page);
+                Ok(())
+            }
+            Entry::Fault { process } => {
+                self.follow_fault(process);
+                Ok(())
+            }
+            _ => Ok(()),
         }
     }
 }
