@@ -1,5 +1,5 @@
 -- What an entry does to the store that is shown.
-use Rattle.std.proofs.Common.{◌≡◌, ℕ, ◌+◌, ◌<◌, ◌^◌, Bool, true, false, cond, eqb, List, length, set, Option, Some, None, ◌⊎◌, refl, sym, ap, subst, ◌∙◌, arith, inl, inr}
+use Rattle.std.proofs.Common.{◌≡◌, ℕ, ◌+◌, ◌<◌, ◌^◌, Bool, true, false, cond, eqb, List, length, set, Option, Some, None, IsTrue, ◌↔◌, ◌⊎◌, refl, sym, ap, subst, ◌∙◌, arith, inl, inr}
 use Rattle.std.proofs.lemmas.List.{length-set}
 use Rattle.script.specs.Plans.{Plan, command_at}
 use Rattle.script.specs.declared.commands.Command.{Command}
@@ -133,3 +133,17 @@ quiet_lawful p s (entry.Do k place cpu frame r) no_do no_release no_fault = absu
 quiet_lawful p s (entry.Release u q) no_do no_release no_fault = absurd (no_release u q refl)
 quiet_lawful p s (entry.Fault o) no_do no_release no_fault = absurd (no_fault o refl)
 quiet_lawful p s _ no_do no_release no_fault = tt
+
+-- ---- what is allowed
+
+pub do_allowed : (p : Plan) (s : Store) (k place cpu : ℕ) (frame : Option ℕ) (r : Reply) (z : Bool) → IsTrue z ↔ IsLawfulDo p s k place r → IsTrue z ↔ IsLawful p s (entry.Do k place cpu frame r)
+unfolding IsLawful
+do_allowed p s k place cpu frame r z told = told
+
+pub release_allowed : (p : Plan) (s : Store) (u q : ℕ) (z : Bool) → IsTrue z ↔ MayRelease s u q → IsTrue z ↔ IsLawful p s (entry.Release u q)
+unfolding IsLawful
+release_allowed p s u q z told = told
+
+pub fault_allowed : (p : Plan) (s : Store) (o : Option ℕ) (z : Bool) → IsTrue z ↔ MayFault s o → IsTrue z ↔ IsLawful p s (entry.Fault o)
+unfolding IsLawful
+fault_allowed p s o z told = told

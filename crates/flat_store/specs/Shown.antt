@@ -7,6 +7,7 @@ use Rattle.accounts.specs.Maps.{AccountMaps, Counts}
 use Rattle.script.specs.Plans.{Plan, ProcessPlan}
 use Rattle.script.specs.Forms.{IsPlan}
 use Rattle.script.specs.declared.commands.Command.{Command}
+use Rattle.script.specs.declared.plan.VolumeLine.{VolumeLine}
 use Rattle.script.specs.declared.commands.RefKind.{RefKind}
 use Rattle.book.specs.declared.replies.Reply.{Reply}
 use Rattle.tree_model.specs.Tree.{Node, has_directory, node_in, without_node, quota_in, volume_in, taken_on, entries_on}
@@ -215,3 +216,10 @@ numbers_at known k = slice_index_or known k []
 -- what an answer leaves of the tree, the words, the pages and the numbers
 abbrev pub answered : Plan → Store → ℕ → Command → Reply → Store
 answered p s k c r = if takes_effect r then effect_of p s k c else s
+
+-- the gauges of a volume at the boot
+abbrev pub records_gauge : VolumeLine → Gauge
+records_gauge v = record { used = 0; most = v.records }
+
+abbrev pub entries_gauge : VolumeLine → Gauge
+entries_gauge v = record { used = 0; most = v.entries }

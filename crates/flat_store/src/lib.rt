@@ -2,8 +2,10 @@
 //! is answered and what it changes. The definitions are those of `flat_model`; `FlatStore` is the program of them.
 #![tactic(auto)]
 
+mod boot;
 mod gauges;
 mod holdings;
+mod judging;
 mod making;
 mod numbers;
 mod pages;

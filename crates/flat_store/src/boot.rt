@@ -1,0 +1,122 @@
+ghost use Rattle.std.specs.Prelude.{◌≡◌, IfOk, None, map, replicate};
+ghost use Rattle.script.specs.Plans.{Plan};
+ghost use Rattle.flat_model.specs.Legal.{IsLegal, store_after};
+ghost use Rattle.flat_model.specs.Store.{Store, at_first, boot};
+ghost use Rattle.flat_store.specs.Shown.{Holds, Shows, entries_gauge, records_gauge};
+
+use crate::NoMemory;
+use crate::gauges::{Gauge, fill_at};
+use crate::holdings::Holdings;
+use crate::pages::Pages;
+use crate::progress::Progress;
+use crate::store::FlatStore;
+use accounts::Accounts;
+use book::Book;
+use known_segs::Kst;
+use script::{Script, VolumeLine};
+use std::alloc::Global;
+
+/// A gauge for the records of each volume.
+fn records_gauges(alloc: Global, volumes: &[VolumeLine]) -> Result<Vec<Gauge>, NoMemory>
+    ensures { IfOk result (λ gauges. gauges.items ≡ map records_gauge volumes.now) }
+{
+    let mut gauges = Vec::new(alloc);
+    for volume in volumes {
+        let gauge = Gauge::new(volume.records);
+        gauges.push(gauge).map_err(|_| NoMemory)?;
+    }
+    Ok(gauges)
+}
+
+/// A gauge for the VTOC entries of each volume.
+fn entries_gauges(alloc: Global, volumes: &[VolumeLine]) -> Result<Vec<Gauge>, NoMemory>
+    ensures { IfOk result (λ gauges. gauges.items ≡ map entries_gauge volumes.now) }
+{
+    let mut gauges = Vec::new(alloc);
+    for volume in volumes {
+        let gauge = Gauge::new(volume.entries);
+        gauges.push(gauge).map_err(|_| NoMemory)?;
+    }
+    Ok(gauges)
+}
+
+/// As many processes that know nothing.
+fn knowing_nothing(alloc: Global, processes: u32) -> Result<Vec<Kst>, NoMemory>
+    ensures { IfOk result (λ known. known.items ≡ replicate processes (replicate 256 None)) }
+{
+    let mut known = Vec::new(alloc);
+    for _process in 0..processes {
+        let nothing = Kst::new(alloc)?;
+        known.push(nothing).map_err(|_| NoMemory)?;
+    }
+    Ok(known)
+}
+
+/// As many processes before their first command.
+fn at_first(alloc: Global, processes: u32) -> Result<Vec<Progress>, NoMemory>
+    ensures { IfOk result (λ places. places.items ≡ replicate processes at_first) }
+{
+    let mut places = Vec::new(alloc);
+    for _process in 0..processes {
+        places
+            .push(Progress::at_first())
+            .map_err(|_| NoMemory)?;
+    }
+    Ok(places)
+}
+
+impl Holdings {
+    /// The root alone, on the first volume.
+    fn boot(alloc: Global, script: &Script) -> Result<Holdings, NoMemory>
+        ensures { IfOk result (λ holdings. Holds script.now holdings (boot script.now)) }
+    {
+        let _processes = script.processes();
+        let accounts = Accounts::new(alloc, 0, 0, script.quota())?;
+        let records = records_gauges(alloc, script.volumes())?;
+        let mut entries = entries_gauges(alloc, script.volumes())?;
+        fill_at(&mut entries, 0);
+        let pages = Pages::new(alloc);
+        Ok(Holdings {
+            accounts,
+            pages,
+            records,
+            entries,
+        })
+    }
+}
+
+impl FlatStore {
+    /// The flat store at the boot of a script: there is the root alone, and each process is before its first command.
+    ///
+    /// # Errors
+    /// `NoMemory` is want of memory.
+    pub fn boot(alloc: Global, script: &Script) -> Result<FlatStore, NoMemory>
+        ensures { IfOk result (λ f. Shows script.now f (boot script.now)) }
+    {
+        let processes = script.processes();
+        let holdings = Holdings::boot(alloc, script)?;
+        let known = knowing_nothing(alloc, processes)?;
+        let processes = at_first(alloc, processes)?;
+        Ok(FlatStore {
+            holdings,
+            known,
+            processes,
+        })
+    }
+
+    /// The flat store after a book, which must be legal. It takes time for each entry, and memory for the stored pages.
+    ///
+    /// # Errors
+    /// `NoMemory` is want of memory.
+    pub fn after(alloc: Global, b: &Book) -> Result<FlatStore, NoMemory>
+        requires { IsLegal b.now.script b.now.entries }
+        ensures { IfOk result (λ f. Shows b.now.script f (store_after b.now.script b.now.entries)) }
+    {
+        let script = b.script();
+        let mut store = FlatStore::boot(alloc, script)?;
+        for e in b.entries() {
+            store.follow(script, *e)?;
+        }
+        Ok(store)
+    }
+}
