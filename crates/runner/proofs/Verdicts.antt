@@ -193,7 +193,3 @@ found_drilled asked src out f p frames n seed h e fine =
 -- what was printed, by the form that was asked for
 pub printed_in : (asked other : Option Form) (book : Option Ledger) (P : List ℕ → Type 0) → Prints asked book P → asked ≡ other → Prints other book P
 printed_in asked other book P h e = subst (λ (x : Option Form). Prints x book P) e h
-
--- the words asked for this
-pub asked_for : (asked words : Option Form) (src out : Change) (f : Finished) → Ends asked src out f → asked ≡ words → Ends words src out f
-asked_for asked words src out f h e = subst (λ (x : Option Form). Ends x src out f) e h
