@@ -74,13 +74,6 @@ refused_so status.ReadFault r src out h is = absurd h
 refused_so status.WriteFault r src out h is = absurd h
 refused_so status.Later r src out h is = absurd h
 
-pub ends_refused : (src out : Change) (f : Finished) (bytes : List ℕ) (r : Refusal) → Refuses f.status r out → f.book ≡ None
-    → IfSome src.before (λ all. bytes ≡ all) → length bytes ≤ 4194304 → script_of bytes ≡ Err r
-    → ConsumesFront src.before src.after 4194305 → Ends (Some form.Run) src out f
-ends_refused src out f bytes r h without told few e reads =
-    ends_without (Some form.Run) src out f f.status refl without
-    (refused_so f.status r src out h (of_told src.before bytes (λ all. (length all ≤ 4194304) × (script_of all ≡ Err r)) told (few, e))) reads
-
 -- the script of a day was printed
 made_so : (s : Status) (n : ℕ) (src out : Change) → Printed s out (made n) → EndsSo s (Some (form.Make n)) src out None
 made_so status.Done n src out h = h
@@ -155,16 +148,6 @@ is_run src p (Some b) volumes few read runs h = record {
   complete = h.complete;
   settled = h.settled;
   disk = h.disk;
-}
-
-pub ends_run : (src out : Change) (f : Finished) (bytes : List ℕ) (p : Plan) → PrintsRun f.status f.book out → IfSome f.book (λ b. RunOf p b f.volumes)
-    → IfSome src.before (λ all. bytes ≡ all) → length bytes ≤ 4194304 → script_of bytes ≡ Ok p → script_runs p ≡ true
-    → ConsumesFront src.before src.after 4194305 → Ends (Some form.Run) src out f
-ends_run src out f bytes p printed run told few e runs reads = record {
-  so = run_so f.status f.book src out printed;
-  run = is_run src p f.book f.volumes (of_told src.before bytes (λ all. length all ≤ 4194304) told few)
-      (of_told src.before bytes (λ all. script_of all ≡ Ok p) told e) runs run;
-  reads = reads;
 }
 
 -- ---- what was asked for
