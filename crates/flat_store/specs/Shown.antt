@@ -1,5 +1,5 @@
 -- What the program of the flat store keeps, and which flat store that shows (own).
-use Rattle.std.specs.Prelude.{nat_le, sum_by, ◌≡◌, ◌≢◌, ◌<◌, ◌≤◌, ℕ, ◌+◌, ◌/◌, ◌%◌, Bool, true, false, ◌==◌, if◌then◌else◌, is_some, length, replicate, take, ◌-◌, ◌++◌, slice_index_or, List, [], ◌∷◌, ◌&&◌, ◌||◌, not, Option, Some, None, Result, Ok}
+use Rattle.std.specs.Prelude.{nat_le, sum_by, ◌≡◌, ◌≢◌, ◌<◌, ◌≤◌, ℕ, ◌+◌, ◌/◌, ◌%◌, Bool, true, false, ◌==◌, if◌then◌else◌, is_some, length, replicate, take, ◌-◌, ◌++◌, slice_index_or, List, [], ◌∷◌, ◌&&◌, ◌||◌, not, Option, Some, None, Result, Ok, Err}
 use Rattle.std.specs.Ordering.{nat_cmp, ordering_then}
 use Rattle.std.specs.Map.{lookup}
 use Rattle.std.specs.BTreeMap.{is_at}
@@ -10,7 +10,7 @@ use Rattle.script.specs.declared.commands.Command.{Command}
 use Rattle.script.specs.declared.plan.VolumeLine.{VolumeLine}
 use Rattle.script.specs.declared.commands.RefKind.{RefKind}
 use Rattle.book.specs.declared.replies.Reply.{Reply}
-use Rattle.tree_model.specs.Tree.{Node, has_directory, node_in, without_node, quota_in, volume_in, taken_on, entries_on}
+use Rattle.tree_model.specs.Tree.{Node, pool_of, has_directory, node_in, without_node, quota_in, volume_in, taken_on, entries_on}
 use Rattle.dir_tree.specs.declared.node.Node.{Node as Branch}
 use Rattle.dir_tree.specs.Nodes.{as_term, has_inferior}
 use Rattle.tree_model.specs.Trees.{has_segment}
@@ -223,3 +223,20 @@ records_gauge v = record { used = 0; most = v.records }
 
 abbrev pub entries_gauge : VolumeLine → Gauge
 entries_gauge v = record { used = 0; most = v.entries }
+
+-- ---- looks
+
+-- the superior of a node that is there
+abbrev pub superior_at : Option Node → Option ℕ
+superior_at None = None
+superior_at (Some n) = n.superior
+
+-- the pool that the page table of a node belongs to
+abbrev pub pool_at : Option Node → Option ℕ
+pool_at None = None
+pool_at (Some n) = Some (pool_of n)
+
+-- the uid of what a path leads to
+abbrev pub uid_at : Result Node Reply → Option ℕ
+uid_at (Ok n) = Some n.uid
+uid_at (Err r) = None

@@ -6,6 +6,7 @@ mod boot;
 mod gauges;
 mod holdings;
 mod judging;
+mod looks;
 mod making;
 mod numbers;
 mod pages;

@@ -1,4 +1,4 @@
-ghost use Rattle.std.specs.Prelude.{◌≡◌, ◌+◌, ◌<◌, ◌^◌, true, slice_set};
+ghost use Rattle.std.specs.Prelude.{◌≡◌, ◌+◌, ◌<◌, ◌^◌, true, false, slice_set};
 ghost use Rattle.flat_model.specs.Commands.{gone_on, is_end, tries_on};
 ghost use Rattle.flat_model.specs.Store.{at_first};
 ghost use Rattle.flat_store.specs.Shown.{progress_at};
@@ -41,6 +41,18 @@ impl Progress {
             place: 0,
             tries: 0,
             ended: false,
+            faulted: false,
+        }
+    }
+
+    /// A process that isn't there: it has ended.
+    pub(crate) fn absent() -> Progress
+        ensures { result ≡ record { place = 0; tries = 0; ended = true; faulted = false } }
+    {
+        Progress {
+            place: 0,
+            tries: 0,
+            ended: true,
             faulted: false,
         }
     }
