@@ -1,10 +1,10 @@
 -- Nodes are changed, but for where they lie and what they are.
-use Rattle.std.proofs.Common.{◌≡◌, ◌≢◌, ℕ, ◌+◌, ◌-◌, ◌<◌, Bool, true, false, cond, eqb, not, List, [], ◌∷◌, map, Option, Some, None, refl, sym, ap, subst, ◌∙◌, arith, inl, inr}
+use Rattle.std.proofs.Common.{◌≡◌, ◌≢◌, ℕ, ◌+◌, ◌-◌, ◌<◌, Bool, true, false, cond, eqb, not, List, [], ◌∷◌, map, Some, refl, sym, ap, subst, ◌∙◌, arith, inl, inr}
 use Rattle.std.specs.Prelude.{count_by, nat_le}
-use Rattle.std.proofs.lemmas.Bool.{cases_Bool, cases_eq, eq-eqb, ne_eqb}
+use Rattle.std.proofs.lemmas.Bool.{cases_Bool, cases_eq}
 use Rattle.std.proofs.lemmas.Bool.Decides.{nat_tests}
 use Rattle.std.proofs.lemmas.List.Sums.{sum_by-cons}
-use Rattle.accounts.specs.Maps.{AccountMaps, Changes, Counts, rows_in}
+use Rattle.accounts.specs.Maps.{Changes, rows_in}
 use Rattle.script.specs.Plans.{Plan}
 use Rattle.tree_model.specs.Access.{Row}
 use Rattle.tree_model.specs.Quotas.{with_quota_of, with_moved}
@@ -13,7 +13,7 @@ use Rattle.tree_model.specs.Trees.{has_segment}
 use Rattle.flat_model.specs.Pages.{is_stored, is_stored_from}
 use Rattle.flat_model.specs.Store.{Store, records_of, entries_of}
 use Rattle.flat_model.proofs.PageLaws.{stored_from}
-use Rattle.flat_store.specs.Shown.{AreFlat, AreInside, Gauge, gauge_at, Held, Holds, pages_in}
+use Rattle.flat_store.specs.Shown.{AreFlat, AreInside, Held, Holds, pages_in}
 
 -- a change of a node keeps its uid, its volume and its kind
 pub record Keeps (change : Node → Node) : Type 0 where
@@ -158,9 +158,9 @@ length_other : (ns : List Node) (u pages v : ℕ) → v ≢ u → pages_in (with
 length_other [] u pages v apart = refl
 length_other (n ∷ ns) u pages v apart = elim (cases_Bool (eqb n.uid u)) [
   | inl here ↦
-    (let is : n.uid ≡ u = grind (arith, nat_tests) in
-    let other : eqb n.uid v ≡ false = (let ne : n.uid ≢ v = omega (arith, is, apart) in grind (arith, nat_tests)) in
-    rw (here, other) (length_other ns u pages v apart))
+      (let is : n.uid ≡ u = grind (arith, nat_tests) in
+      let other : eqb n.uid v ≡ false = (let ne : n.uid ≢ v = omega (arith, is, apart) in grind (arith, nat_tests)) in
+      rw (here, other) (length_other ns u pages v apart))
   | inr there ↦ rw there (ap (cond (eqb n.uid v) n.pages) (length_other ns u pages v apart))
 ]
 
@@ -177,14 +177,16 @@ no_directory (n ∷ ns) u is = elim (cases_Bool (eqb n.uid u)) [
 
 pub length_inside : (ns : List Node) (xs : List (ℕ × ℕ)) (u pages : ℕ) → has_segment ns u ≡ true → is_stored_from xs u pages ≡ false → AreInside ns xs → AreInside (with_length ns u pages) xs
 length_inside ns xs u pages is none inside v q on =
-    let alike = alike_map (λ n. cond (eqb n.uid u) (record n { pages = pages }) n) (keeps_one u (λ n. record n { pages = pages }) (keeps_length pages)) ns in
-    (alike.segment v ∙ (inside v q on).0, elim (cases_eq v u) [
-      | inl same ↦
-        (let here : is_stored xs u q ≡ true = ap (λ (x : ℕ). is_stored xs x q) (sym same) ∙ on in
-        let size : pages_in (with_length ns u pages) v ≡ pages = ap (pages_in (with_length ns u pages)) same ∙ length_set ns u pages is in
-        omega (arith, size, below q here))
-      | inr apart ↦ subst (λ (n : ℕ). q < n) (sym (length_other ns u pages v apart)) (inside v q on).1
-    ])
+    let alike = alike_map (λ n. cond (eqb n.uid u) (record n { pages = pages }) n) (keeps_one u (λ n. record n { pages = pages }) (keeps_length pages)) ns in (
+      alike.segment v ∙ (inside v q on).0,
+      elim (cases_eq v u) [
+        | inl same ↦
+            (let here : is_stored xs u q ≡ true = ap (λ (x : ℕ). is_stored xs x q) (sym same) ∙ on in
+            let size : pages_in (with_length ns u pages) v ≡ pages = ap (pages_in (with_length ns u pages)) same ∙ length_set ns u pages is in
+            omega (arith, size, below q here))
+        | inr apart ↦ subst (λ (n : ℕ). q < n) (sym (length_other ns u pages v apart)) (inside v q on).1
+      ],
+    )
   where
     below : (q : ℕ) → is_stored xs u q ≡ true → q < pages
     below q on = elim (cases_Bool (nat_le pages q)) [
@@ -197,7 +199,7 @@ length_flat ns u pages is flat v dir =
     let alike = alike_map (λ n. cond (eqb n.uid u) (record n { pages = pages }) n) (keeps_one u (λ n. record n { pages = pages }) (keeps_length pages)) ns in
     elim (cases_eq v u) [
       | inl same ↦
-        (let here : has_directory ns u ≡ true = ap (has_directory ns) (sym same) ∙ sym (alike.directory v) ∙ dir in
-        let clash : true ≡ false = sym here ∙ no_directory ns u is in cc)
+          (let here : has_directory ns u ≡ true = ap (has_directory ns) (sym same) ∙ sym (alike.directory v) ∙ dir in
+          let clash : true ≡ false = sym here ∙ no_directory ns u is in cc)
       | inr apart ↦ length_other ns u pages v apart ∙ flat v (sym (alike.directory v) ∙ dir)
     ]

@@ -1,7 +1,7 @@
 -- A segment is truncated.
-use Rattle.std.proofs.Common.{◌≡◌, ◌≢◌, ℕ, suc, zero, ◌+◌, ◌-◌, ◌*◌, ◌/◌, ◌%◌, ◌<◌, ◌≤◌, Bool, true, false, not, cond, eqb, ◌&&◌, ◌||◌, List, [], ◌∷◌, ◌++◌, length, take, replicate, get_or, Option, Some, None, Result, Ok, Err, is_some, IsTrue, ◌↔◌, refl, sym, ap, subst, ◌∙◌, arith, inl, inr}
+use Rattle.std.proofs.Common.{◌≡◌, ◌≢◌, ℕ, suc, zero, ◌+◌, ◌-◌, ◌*◌, ◌/◌, ◌%◌, ◌<◌, ◌≤◌, Bool, true, false, not, cond, eqb, ◌&&◌, ◌||◌, List, [], ◌∷◌, length, take, replicate, get_or, Option, Some, None, Ok, Err, is_some, IsTrue, ◌↔◌, refl, sym, ap, subst, ◌∙◌, arith, inl, inr}
 use Rattle.std.specs.Prelude.{nat_le, nat_lt}
-use Rattle.std.proofs.lemmas.Bool.{cases_Bool, cases_eq}
+use Rattle.std.proofs.lemmas.Bool.{cases_eq}
 use Rattle.std.proofs.lemmas.Bool.Decides.{nat_tests}
 use Rattle.std.proofs.lemmas.List.{length-append, length-take, length-replicate, get_or_append_left, get_or-append_right, get_or-take}
 use Rattle.mword.specs.Words.{AreZero}
@@ -15,7 +15,7 @@ use Rattle.flat_model.specs.Store.{Store}
 use Rattle.flat_model.proofs.PageLaws.{is_stored-without}
 use Rattle.flat_store.proofs.DropLaws.{stored_fused, stored_same}
 use Rattle.flat_model.proofs.ZeroLaws.{words_zero, zero_words}
-use Rattle.flat_store.specs.Shown.{Held, HoldPages, Holds, Paged, Puts, Cuts, cleared, cut_at, cut_once, has_cleared, page_at, word_in, without_pages}
+use Rattle.flat_store.specs.Shown.{Held, HoldPages, Holds, Paged, Cuts, cleared, cut_at, cut_once, has_cleared, page_at, word_in, without_pages}
 
 zeros : (n i : ℕ) → get_or {A = ℕ} (replicate n 0) i 0 ≡ 0
 zeros zero i = refl
@@ -170,7 +170,7 @@ clear_told p s h k u q at r holds le some none = by_page (page_at h.pages u q) r
         let on : is_stored s.stored u q ≡ true = holds.pages.there u q ∙ ap is_some e in
         let its = some ws e in
         zero_told k.pages (cleared s u q at).words s.stored u q (cut_at at ws) r (pages_cut h.pages k.pages s u q at ws holds.pages e le its.0)
-          (page_cut h.pages k.pages s u q at ws holds.pages e le its.0) its.1
+        (page_cut h.pages k.pages s u q at ws holds.pages e le its.0) its.1
         ∙ sym (rw on refl)
     by_page None e =
         let off : is_stored s.stored u q ≡ false = holds.pages.there u q ∙ ap is_some e in
@@ -197,18 +197,18 @@ past_page from o = by_order (nat_le from o) refl
         let le : from ≤ o = grind (arith, nat_tests) in
         either (eqb (o / 1024) (from / 1024)) (nat_le (from % 1024) (o % 1024)) (nat_le (from / 1024 + 1) (o / 1024))
         (λ f.
-          let lt : o / 1024 < from / 1024 + 1 = grind (arith, nat_tests) in
-          let same : o / 1024 ≡ from / 1024 = omega (arith, le, lt) in
-          let rest : from % 1024 ≤ o % 1024 = omega (arith, le, same) in
-          (grind (arith, nat_tests), grind (arith, nat_tests)))
+        let lt : o / 1024 < from / 1024 + 1 = grind (arith, nat_tests) in
+        let same : o / 1024 ≡ from / 1024 = omega (arith, le, lt) in
+        let rest : from % 1024 ≤ o % 1024 = omega (arith, le, same) in
+        (grind (arith, nat_tests), grind (arith, nat_tests)))
     by_order false e =
         let lt : o < from = grind (arith, nat_tests) in
         let below : o / 1024 < from / 1024 + 1 = omega (arith, lt) in
         neither (eqb (o / 1024) (from / 1024)) (nat_le (from % 1024) (o % 1024)) (nat_le (from / 1024 + 1) (o / 1024)) (grind (arith, nat_tests))
         (λ f.
-          let same : o / 1024 ≡ from / 1024 = grind (arith, nat_tests) in
-          let rest : o % 1024 < from % 1024 = omega (arith, lt, same) in
-          grind (arith, nat_tests))
+        let same : o / 1024 ≡ from / 1024 = grind (arith, nat_tests) in
+        let rest : o % 1024 < from % 1024 = omega (arith, lt, same) in
+        grind (arith, nat_tests))
 
 module _ (pages : Paged) (s : Store) (u from : ℕ) (h : HoldPages pages s.words s.stored) where
   abbrev later_page : ℕ → Bool
@@ -223,7 +223,7 @@ module _ (pages : Paged) (s : Store) (u from : ℕ) (h : HoldPages pages s.words
   -- the store once the cut page's words are these
   abbrev ends : Words → Store
   ends w = cond (is_stored left u page && is_zero_page w u page) (record s { words = λ v o. cond (eqb v u && eqb (o / 1024) page) 0 (w v o); stored = without_stored left u (λ q. eqb q page) })
-    (record s { words = w; stored = left })
+      (record s { words = w; stored = left })
 
   cut_words : Words
   cut_words = without_words s.words u from
@@ -274,8 +274,8 @@ module _ (pages : Paged) (s : Store) (u from : ℕ) (h : HoldPages pages s.words
   gone zero_is q on = elim (cases_eq q page) [
     | inl same ↦ (let here : eqb q page ≡ true = grind (arith, nat_tests) in let all : lost q ≡ true = ap lost same ∙ at_page ∙ zero_is in rw here (last (later_page q) ∙ sym all))
     | inr other ↦
-      (let here : eqb q page ≡ false = grind (arith, nat_tests) in
-      rw here (by_side (later_page q) refl other))
+        (let here : eqb q page ≡ false = grind (arith, nat_tests) in
+        rw here (by_side (later_page q) refl other))
   ]
     where
       last : (z : Bool) → (z || true) ≡ true
@@ -290,10 +290,10 @@ module _ (pages : Paged) (s : Store) (u from : ℕ) (h : HoldPages pages s.words
   stays : (is_stored left u page && is_zero_page (without_words s.words u from) u page) ≡ false → (q : ℕ) → is_stored s.stored u q ≡ true → later_page q ≡ lost q
   stays none q on = elim (cases_eq q page) [
     | inl same ↦
-      (let before : later_page page ≡ false = grind (arith, nat_tests) in
-      let there : is_stored left u page ≡ true = is_stored-without s.stored u later_page u page ∙ rw (before) (own (eqb u u) (is_stored s.stored u page) (ap (is_stored s.stored u) (sym same) ∙ on)) in
-      let words : is_zero_page (without_words s.words u from) u page ≡ false = second (is_stored left u page) (is_zero_page (without_words s.words u from) u page) there none in
-      ap later_page same ∙ before ∙ sym words ∙ sym at_page ∙ ap lost (sym same))
+        (let before : later_page page ≡ false = grind (arith, nat_tests) in
+        let there : is_stored left u page ≡ true = is_stored-without s.stored u later_page u page ∙ rw (before) (own (eqb u u) (is_stored s.stored u page) (ap (is_stored s.stored u) (sym same) ∙ on)) in
+        let words : is_zero_page (without_words s.words u from) u page ≡ false = second (is_stored left u page) (is_zero_page (without_words s.words u from) u page) there none in
+        ap later_page same ∙ before ∙ sym words ∙ sym at_page ∙ ap lost (sym same))
     | inr other ↦ by_side (later_page q) refl other
   ]
     where
@@ -329,12 +329,12 @@ module _ (pages : Paged) (s : Store) (u from : ℕ) (h : HoldPages pages s.words
     where
       by_zero : (z : Bool) → (is_stored left u page && is_zero_page (without_words s.words u from) u page) ≡ z
           → cond z (record s { words = λ v o. cond (eqb v u && eqb (o / 1024) page) 0 (without_words s.words u from v o); stored = without_stored left u (λ q. eqb q page) })
-            (record s { words = without_words s.words u from; stored = left }) ≡ cut_off s u from
+          (record s { words = without_words s.words u from; stored = left }) ≡ cut_off s u from
       by_zero true e =
           let zero_is = second (is_stored left u page) (is_zero_page (without_words s.words u from) u page) e in
           ap (λ (w : Words). record s { words = w; stored = without_stored left u (λ q. eqb q page) }) (λ i. λ v. λ o. zero_words_same zero_is v o i)
           ∙ ap (λ (xs : List (ℕ × ℕ)). record s { words = without_words s.words u from; stored = xs })
-            (stored_fused s.stored u later_page (λ q. eqb q page) ∙ stored_same s.stored u (λ q. later_page q || eqb q page) lost (gone zero_is))
+          (stored_fused s.stored u later_page (λ q. eqb q page) ∙ stored_same s.stored u (λ q. later_page q || eqb q page) lost (gone zero_is))
         where
           second : (a b : Bool) → (a && b) ≡ true → b ≡ true
           second true b h = h

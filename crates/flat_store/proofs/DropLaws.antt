@@ -1,5 +1,5 @@
 -- A page is stored no more.
-use Rattle.std.proofs.Common.{◌≡◌, ◌≢◌, ℕ, ◌+◌, ◌-◌, ◌/◌, ◌%◌, ◌<◌, ◌≤◌, Bool, true, false, not, cond, eqb, ◌&&◌, ◌||◌, List, [], ◌∷◌, length, set, filter, Option, Some, None, is_some, refl, sym, ap, subst, ◌∙◌, arith, inl, inr}
+use Rattle.std.proofs.Common.{◌≡◌, ℕ, ◌+◌, ◌-◌, ◌/◌, ◌%◌, ◌<◌, ◌≤◌, Bool, true, false, not, cond, eqb, ◌&&◌, ◌||◌, List, [], ◌∷◌, length, set, filter, Option, Some, None, is_some, refl, sym, ap, subst, ◌∙◌, arith, inl, inr}
 use Rattle.std.specs.Prelude.{count_by, nat_le, nat_lt}
 use Rattle.std.proofs.lemmas.Bool.{cases_eq}
 use Rattle.std.proofs.lemmas.Bool.Decides.{nat_tests}
@@ -36,14 +36,14 @@ counts_dropped a b xs u q counts once on down s =
     let was : count_of a s ≡ count_by (λ x. eqb x.0 s) xs = counts s in
     down.counts s ∙ elim (cases_eq u s) [
       | inl same ↦
-        (let own : eqb u s ≡ true = grind (arith, nat_tests) in
-        let one : count_by (λ x. eqb x.0 s) (without_stored xs u (λ r. eqb r q)) + 1 ≡ count_by (λ x. eqb x.0 s) xs = rw own at less in
-        let here : count_of a u ≡ count_of a s = ap (count_of a) same in
-        rw own (omega (arith, one, here, was)))
+          (let own : eqb u s ≡ true = grind (arith, nat_tests) in
+          let one : count_by (λ x. eqb x.0 s) (without_stored xs u (λ r. eqb r q)) + 1 ≡ count_by (λ x. eqb x.0 s) xs = rw own at less in
+          let here : count_of a u ≡ count_of a s = ap (count_of a) same in
+          rw own (omega (arith, one, here, was)))
       | inr other ↦
-        (let own : eqb u s ≡ false = grind (arith, nat_tests) in
-        let one : count_by (λ x. eqb x.0 s) (without_stored xs u (λ r. eqb r q)) + 0 ≡ count_by (λ x. eqb x.0 s) xs = rw own at less in
-        rw own (omega (arith, one, was)))
+          (let own : eqb u s ≡ false = grind (arith, nat_tests) in
+          let one : count_by (λ x. eqb x.0 s) (without_stored xs u (λ r. eqb r q)) + 0 ≡ count_by (λ x. eqb x.0 s) xs = rw own at less in
+          rw own (omega (arith, one, was)))
     ]
 
 -- two tests for the same page
@@ -124,7 +124,7 @@ drop_shown p s h k u q holds there drops =
       inside = inside_without s.nodes s.stored u (λ r. eqb r q) holds.inside;
       flat = holds.flat;
       records = λ v. ap (λ (g : List Gauge). gauge_at g v) (drops.records ∙ ap (λ (ns : List Node). set h.records (volume_in ns u) (drained (gauge_at h.records (volume_in ns u)))) (sym holds.nodes))
-        ∙ records_dropped h.records (records_of p) s.nodes s.stored u q once on holds.records v;
+          ∙ records_dropped h.records (records_of p) s.nodes s.stored u q once on holds.records v;
       entries = λ v. ap (λ (g : List Gauge). gauge_at g v) drops.entries ∙ holds.entries v;
     }
 

@@ -1,24 +1,23 @@
 -- What a tree command does to the holdings that isn't refused.
-use Rattle.std.proofs.Common.{◌≡◌, ◌≢◌, ℕ, ℤ, Bool, true, false, not, cond, eqb, List, [], ◌∷◌, map, Option, Some, None, Result, Ok, Err, OnOk, OnErr, IsOk, IsTrue, is_ok, ◌↔◌, refl, sym, ap, subst, ◌∙◌, arith}
+use Rattle.std.proofs.Common.{◌≡◌, ℕ, ℤ, Bool, true, false, cond, eqb, List, Result, Ok, Err, OnOk, OnErr, is_ok, refl, sym, ap, subst, ◌∙◌}
 use Rattle.std.specs.Int.{is_positive}
 use Rattle.std.specs.Int.RustNames.{unsigned_abs}
 use Rattle.mnames.specs.declared.modes.Mode.{Mode}
 use Rattle.mnames.specs.declared.rows.Row.{Row as Named}
-use Rattle.accounts.specs.Maps.{AccountMaps, Changes, rows_in, with_row_in}
+use Rattle.accounts.specs.Maps.{AccountMaps, Changes, with_row_in}
 use Rattle.quota_cells.specs.declared.MoveFault.{MoveFault}
 use Rattle.quota_cells.specs.declared.MoveFault.TheVariants as fault
-use Rattle.quota_cells.specs.Scratch.{scratch_answer}
 use Rattle.script.specs.Plans.{Plan}
 use Rattle.book.specs.declared.replies.Reply.{Reply}
 use Rattle.book.specs.declared.replies.Reply.TheVariants as reply
 use Rattle.tree_model.specs.Access.{Row, takes_row, with_row}
 use Rattle.tree_model.specs.Quotas.{giver_of, getter_of, tree_moved}
-use Rattle.tree_model.specs.Tree.{Node, above, with_node}
+use Rattle.tree_model.specs.Tree.{Node, above}
 use Rattle.tree_model.specs.Trees.{has_segment}
 use Rattle.flat_model.specs.Branches.{directory_at, segment_at, changed}
 use Rattle.flat_model.specs.Commands.{takes_effect}
 use Rattle.flat_model.specs.Pages.{is_stored_from}
-use Rattle.flat_model.specs.Rights.{acl_reply, after_acl, after_move, move_reply, moved, row_with}
+use Rattle.flat_model.specs.Rights.{acl_reply, after_acl, after_move, moved, row_with}
 use Rattle.flat_model.specs.Sizes.{after_length, length_reply}
 use Rattle.flat_model.specs.Store.{Store}
 use Rattle.flat_store.specs.Shown.{AreFlat, AreInside, Held, Holds, IsHeld, pages_in}

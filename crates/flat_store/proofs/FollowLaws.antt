@@ -1,5 +1,5 @@
 -- What an entry does to the store that is shown.
-use Rattle.std.proofs.Common.{◌≡◌, ℕ, ◌+◌, ◌<◌, ◌^◌, Bool, true, false, cond, eqb, List, length, set, Option, Some, None, IsTrue, ◌↔◌, ◌⊎◌, refl, sym, ap, subst, ◌∙◌, arith, inl, inr}
+use Rattle.std.proofs.Common.{◌≡◌, ℕ, ◌+◌, ◌<◌, ◌^◌, Bool, true, false, eqb, List, set, Option, Some, None, IsTrue, ◌↔◌, ◌⊎◌, refl, sym, ap, subst, ◌∙◌, inl, inr}
 use Rattle.std.proofs.lemmas.List.{length-set}
 use Rattle.script.specs.Plans.{Plan, command_at}
 use Rattle.script.specs.declared.commands.Command.{Command}
@@ -10,8 +10,7 @@ use Rattle.flat_model.specs.Commands.{after_command, gone_on, reply_to_command, 
 use Rattle.flat_model.specs.Legal.{IsAnswer, IsLawful, IsLawfulDo, MayAnswerDevice, MayFault, MayRelease, after_do, after_entry, after_fault}
 use Rattle.flat_model.specs.Pages.{without_stored}
 use Rattle.flat_model.specs.Store.{Progress, Store, progress_of, with_progress}
-use Rattle.flat_store.specs.Shown.{Held, Holds, IsReached, IsShown, Kept, Shows, answered, progress_at}
-use Rattle.flat_store.proofs.OtherLaws.{Advances}
+use Rattle.flat_store.specs.Shown.{Holds, IsReached, IsShown, Kept, Shows, answered, progress_at}
 use Rattle.flat_store.proofs.ReachLaws.{answered_advances, place_fits, place_within, reached_fault, reached_on}
 
 -- an answer that took effect is the flat store's
@@ -54,12 +53,12 @@ pub go_shown : (p : Plan) (mid after : Kept) (s : Store) (process place : ℕ) (
     → after ≡ record mid { processes = after.processes } → Shows p after (after_command p s process c r)
 go_shown p mid after s process place c r reached shown at lawful now same =
     let q : progress_at mid.processes process ≡ progress_of s process
-          = progress_is p mid (answered p s process c r) process shown ∙ ap (λ (qs : List Progress). progress_at qs process) (answered_advances p s process c r).processes in
+    = progress_is p mid (answered p s process c r) process shown ∙ ap (λ (qs : List Progress). progress_at qs process) (answered_advances p s process c r).processes in
     let fits : place + 1 < 2 ^ 32 = place_fits p process place reached.plan (place_within p process place c at) in
     let small : (progress_at mid.processes process).place + 1 < 2 ^ 32 = subst (λ (x : ℕ). x + 1 < 2 ^ 32) (sym (ap (λ (x : Progress). x.place) q ∙ lawful.next)) fits in
     record {
       shown = subst (λ (t : Store). IsShown p after t) (after_is p s process c r)
-        (progress_shown p mid after (answered p s process c r) process (gone_on (progress_of s process) c r) (gone_on (progress_at mid.processes process) c r) shown same (now small)
+          (progress_shown p mid after (answered p s process c r) process (gone_on (progress_of s process) c r) (gone_on (progress_at mid.processes process) c r) shown same (now small)
           (ap (λ (x : Progress). gone_on x c r) q));
       reached = reached_on p s process place c r reached lawful.going lawful.next at;
     }
@@ -69,7 +68,7 @@ pub fault_shown : (p : Plan) (k n : Kept) (s : Store) (process : ℕ) → Shows 
     → n.processes ≡ set k.processes process (record (progress_at k.processes process) { faulted = true }) → MayFault s (Some process) → Shows p n (after_fault s (Some process))
 fault_shown p k n s process h same now may = record {
   shown = progress_shown p k n s process (record (progress_of s process) { faulted = true }) (record (progress_at k.processes process) { faulted = true }) h.shown same now
-    (ap (λ (q : Progress). record q { faulted = true }) (progress_is p k s process h.shown));
+      (ap (λ (q : Progress). record q { faulted = true }) (progress_is p k s process h.shown));
   reached = reached_fault p s process h.reached may;
 }
 

@@ -1,8 +1,8 @@
 -- Gauges by their number.
-use Rattle.std.proofs.Common.{◌≡◌, ◌≢◌, ℕ, suc, zero, ◌+◌, ◌-◌, ◌≤◌, Bool, true, false, cond, eqb, List, [], ◌∷◌, length, set, get_or, refl, sym, ap, ◌∙◌, arith, inl, inr}
-use Rattle.std.proofs.lemmas.Bool.{cases_eq, eq-eqb, ne_eqb}
+use Rattle.std.proofs.Common.{◌≡◌, ℕ, suc, zero, ◌+◌, ◌-◌, Bool, true, false, cond, eqb, List, [], ◌∷◌, set, get_or, refl, sym, ap, ◌∙◌, arith, inl, inr}
+use Rattle.std.proofs.lemmas.Bool.{cases_eq}
 use Rattle.std.proofs.lemmas.Bool.Decides.{nat_tests}
-use Rattle.flat_store.specs.Shown.{Gauge, gauge_at, is_full, filled, drained}
+use Rattle.flat_store.specs.Shown.{Gauge, gauge_at, filled, drained}
 
 set_here : {A : Type 0} (f : A → A) (d : A) (xs : List A) (i j : ℕ) → f d ≡ d → get_or (set xs i (f (get_or xs i d))) j d ≡ cond (eqb j i) (f (get_or xs i d)) (get_or xs j d)
 set_here f d [] i j same = nothing (eqb j i)
@@ -33,33 +33,33 @@ pub counts_less : (gauges : List Gauge) (old new most : ℕ → ℕ) (i : ℕ) �
     → (v : ℕ) → gauge_at (set gauges i (drained (gauge_at gauges i))) v ≡ gauge (new v) (most v)
 counts_less gauges old new most i are less v = drained_at gauges i v ∙ elim (cases_eq i v) [
   | inl same ↦
-    (let here : eqb v i ≡ true = grind (arith, nat_tests) in
-    let own : eqb i v ≡ true = grind (arith, nat_tests) in
-    let down : new v + 1 ≡ old v = rw own at (less v) in
-    let one : old v - 1 ≡ new v = omega (arith, down) in
-    rw here (ap (λ (j : ℕ). drained (gauge_at gauges j)) same ∙ ap drained (are v) ∙ ap (λ (n : ℕ). gauge n (most v)) one))
+      (let here : eqb v i ≡ true = grind (arith, nat_tests) in
+      let own : eqb i v ≡ true = grind (arith, nat_tests) in
+      let down : new v + 1 ≡ old v = rw own at (less v) in
+      let one : old v - 1 ≡ new v = omega (arith, down) in
+      rw here (ap (λ (j : ℕ). drained (gauge_at gauges j)) same ∙ ap drained (are v) ∙ ap (λ (n : ℕ). gauge n (most v)) one))
   | inr other ↦
-    (let here : eqb v i ≡ false = grind (arith, nat_tests) in
-    let own : eqb i v ≡ false = grind (arith, nat_tests) in
-    let down : new v + 0 ≡ old v = rw own at (less v) in
-    let one : old v ≡ new v = omega (arith, down) in
-    rw here (are v ∙ ap (λ (n : ℕ). gauge n (most v)) one))
+      (let here : eqb v i ≡ false = grind (arith, nat_tests) in
+      let own : eqb i v ≡ false = grind (arith, nat_tests) in
+      let down : new v + 0 ≡ old v = rw own at (less v) in
+      let one : old v ≡ new v = omega (arith, down) in
+      rw here (are v ∙ ap (λ (n : ℕ). gauge n (most v)) one))
 ]
 
 pub counts_more : (gauges : List Gauge) (old new most : ℕ → ℕ) (i : ℕ) → ((v : ℕ) → gauge_at gauges v ≡ gauge (old v) (most v)) → eqb (old i) (most i) ≡ false
     → ((v : ℕ) → new v ≡ old v + cond {A = ℕ} (eqb i v) 1 0) → (v : ℕ) → gauge_at (set gauges i (filled (gauge_at gauges i))) v ≡ gauge (new v) (most v)
 counts_more gauges old new most i are room more v = filled_at gauges i v ∙ elim (cases_eq i v) [
   | inl same ↦
-    (let here : eqb v i ≡ true = grind (arith, nat_tests) in
-    let own : eqb i v ≡ true = grind (arith, nat_tests) in
-    let up : new v ≡ old v + 1 = rw own at (more v) in
-    let below : eqb (old v) (most v) ≡ false = ap (λ (j : ℕ). eqb (old j) (most j)) (sym same) ∙ room in
-    let step : filled (gauge (old v) (most v)) ≡ gauge (old v + 1) (most v) = rw below refl in
-    rw here (ap (λ (j : ℕ). filled (gauge_at gauges j)) same ∙ ap filled (are v) ∙ step ∙ ap (λ (n : ℕ). gauge n (most v)) (sym up)))
+      (let here : eqb v i ≡ true = grind (arith, nat_tests) in
+      let own : eqb i v ≡ true = grind (arith, nat_tests) in
+      let up : new v ≡ old v + 1 = rw own at (more v) in
+      let below : eqb (old v) (most v) ≡ false = ap (λ (j : ℕ). eqb (old j) (most j)) (sym same) ∙ room in
+      let step : filled (gauge (old v) (most v)) ≡ gauge (old v + 1) (most v) = rw below refl in
+      rw here (ap (λ (j : ℕ). filled (gauge_at gauges j)) same ∙ ap filled (are v) ∙ step ∙ ap (λ (n : ℕ). gauge n (most v)) (sym up)))
   | inr other ↦
-    (let here : eqb v i ≡ false = grind (arith, nat_tests) in
-    let own : eqb i v ≡ false = grind (arith, nat_tests) in
-    let up : new v ≡ old v + 0 = rw own at (more v) in
-    let one : old v ≡ new v = omega (arith, up) in
-    rw here (are v ∙ ap (λ (n : ℕ). gauge n (most v)) one))
+      (let here : eqb v i ≡ false = grind (arith, nat_tests) in
+      let own : eqb i v ≡ false = grind (arith, nat_tests) in
+      let up : new v ≡ old v + 0 = rw own at (more v) in
+      let one : old v ≡ new v = omega (arith, up) in
+      rw here (are v ∙ ap (λ (n : ℕ). gauge n (most v)) one))
 ]

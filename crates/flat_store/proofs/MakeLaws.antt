@@ -1,20 +1,19 @@
 -- A directory or a segment is made.
-use Rattle.std.proofs.Common.{◌≡◌, ◌≢◌, ℕ, ◌+◌, ◌<◌, Bool, true, false, cond, eqb, not, List, [], ◌∷◌, ◌++◌, set, Option, Some, None, Result, Ok, Err, is_some, refl, sym, ap, subst, ◌∙◌, arith, inl, inr}
-use Rattle.std.specs.Prelude.{count_by}
+use Rattle.std.proofs.Common.{◌≡◌, ℕ, ◌+◌, Bool, true, false, cond, eqb, List, [], ◌∷◌, ◌++◌, set, Some, None, Ok, Err, refl, sym, ap, subst, ◌∙◌, arith, inl, inr}
 use Rattle.std.proofs.lemmas.Bool.{cases_Bool}
 use Rattle.std.proofs.lemmas.Bool.Decides.{nat_tests}
 use Rattle.std.proofs.lemmas.List.Sums.{sum_by-cons}
-use Rattle.accounts.specs.Maps.{AccountMaps, Counts, Gains, branch_of}
+use Rattle.accounts.specs.Maps.{Gains, branch_of}
 use Rattle.dir_tree.specs.declared.node.NewNode.{NewNode}
 use Rattle.script.specs.Plans.{Plan}
 use Rattle.book.specs.declared.replies.Reply.{Reply}
 use Rattle.book.specs.declared.replies.Reply.TheVariants as reply
 use Rattle.tree_model.specs.Access.{Row}
-use Rattle.tree_model.specs.Tree.{Node, entries_on, has_directory, node_in, taken_on, volume_in}
+use Rattle.tree_model.specs.Tree.{Node, entries_on, has_directory, node_in}
 use Rattle.tree_model.specs.Trees.{has_segment}
 use Rattle.flat_model.specs.Branches.{node_at, parts_of}
 use Rattle.flat_model.specs.Commands.{takes_effect}
-use Rattle.flat_model.specs.Making.{after_make, made_at, made_in, made_of, make_at, make_in, make_of, make_reply}
+use Rattle.flat_model.specs.Making.{after_make, made_at, made_in, made_of, make_at, make_in, make_reply}
 use Rattle.flat_model.specs.Pages.{is_stored}
 use Rattle.flat_model.specs.Store.{Store, entries_of, records_of}
 use Rattle.flat_model.proofs.CountLaws.{taken_new}
@@ -39,8 +38,8 @@ unstored ns xs u q inside none = elim (cases_Bool (is_stored xs u q)) [
 inside_new : (n : Node) (ns : List Node) (xs : List (ℕ × ℕ)) → node_in ns n.uid ≡ None → AreInside ns xs → AreInside (n ∷ ns) xs
 inside_new n ns xs none inside v q on = elim (cases_Bool (eqb n.uid v)) [
   | inl is ↦
-    (let same : n.uid ≡ v = grind (arith, nat_tests) in
-    let clash : true ≡ false = sym on ∙ ap (λ (x : ℕ). is_stored xs x q) (sym same) ∙ unstored ns xs n.uid q inside none in cc)
+      (let same : n.uid ≡ v = grind (arith, nat_tests) in
+      let clash : true ≡ false = sym on ∙ ap (λ (x : ℕ). is_stored xs x q) (sym same) ∙ unstored ns xs n.uid q inside none in cc)
   | inr isnt ↦ rw isnt (inside v q on)
 ]
 
@@ -75,9 +74,9 @@ added_shown p s h k n entry holds adds uid fresh room flat =
       inside = inside_new n s.nodes s.stored none holds.inside;
       flat = flat_new n s.nodes flat holds.flat;
       records = λ v. ap (λ (g : List Gauge). gauge_at g v) adds.records ∙ holds.records v
-        ∙ ap (λ (x : ℕ). record { used = x; most = records_of p v }) (sym (taken_new n s.nodes s.stored v (λ q. unstored s.nodes s.stored n.uid q holds.inside none)));
+          ∙ ap (λ (x : ℕ). record { used = x; most = records_of p v }) (sym (taken_new n s.nodes s.stored v (λ q. unstored s.nodes s.stored n.uid q holds.inside none)));
       entries = λ v. ap (λ (g : List Gauge). gauge_at g v) adds.entries
-        ∙ counts_more h.entries (λ x. entries_on s.nodes x) (λ x. entries_on (n ∷ s.nodes) x) (entries_of p) n.volume holds.entries space (entries_new n s.nodes) v;
+          ∙ counts_more h.entries (λ x. entries_on s.nodes x) (λ x. entries_on (n ∷ s.nodes) x) (entries_of p) n.volume holds.entries space (entries_new n s.nodes) v;
     }
 
 -- ---- by its path

@@ -1,5 +1,5 @@
 -- What no command changes but its own.
-use Rattle.std.proofs.Common.{◌≡◌, ℕ, ℤ, ◌+◌, ◌≤◌, Bool, true, false, cond, List, Option, Some, None, Result, Ok, Err, refl, ap, arith}
+use Rattle.std.proofs.Common.{◌≡◌, ℕ, ℤ, ◌+◌, ◌≤◌, Bool, true, false, cond, List, Option, Some, None, Result, Ok, Err, refl, arith}
 use Rattle.mnames.specs.declared.modes.Mode.{Mode}
 use Rattle.mnames.specs.declared.rows.Row.{Row as Named}
 use Rattle.script.specs.Plans.{Plan}
@@ -18,7 +18,7 @@ use Rattle.flat_model.specs.Naming.{after_initiate, after_terminate, initiated}
 use Rattle.flat_model.specs.References.{after_reference, alters, new_word, written, written_by}
 use Rattle.flat_model.specs.Rights.{after_acl, after_move, moved}
 use Rattle.flat_model.specs.Sizes.{after_length, after_truncate, truncated}
-use Rattle.flat_model.specs.Store.{Progress, Store, known_uid}
+use Rattle.flat_model.specs.Store.{Store, known_uid}
 
 -- what numbers stand for, and how far processes have come, stay; at most one uid is given
 pub record KeepsOthers (s t : Store) : Type 0 where

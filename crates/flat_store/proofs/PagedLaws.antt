@@ -1,5 +1,5 @@
 -- Pages in a map by uid and number.
-use Rattle.std.proofs.Common.{◌≡◌, ℕ, Bool, true, false, cond, eqb, ◌&&◌, ◌||◌, List, [], ◌∷◌, Option, Some, None, IfSome, IsSome, IsTrue, set, replicate, ◌↔◌, Bor, MutBor, refl, sym, ap, subst, ◌∙◌}
+use Rattle.std.proofs.Common.{◌≡◌, ℕ, Bool, cond, eqb, ◌&&◌, List, Option, Some, None, IfSome, IsSome, IsTrue, set, replicate, ◌↔◌, Bor, MutBor, refl, sym, ap, subst, ◌∙◌}
 use Rattle.std.specs.Ordering.{nat_cmp, ordering_then, is_eq}
 use Rattle.std.specs.Cmp.{unsigned_tied}
 use Rattle.std.specs.Option.{option_copied, option_copied_mut}
@@ -7,7 +7,6 @@ use Rattle.std.specs.Map.{lookup}
 use Rattle.std.specs.declared.cmp.Ordering.{Ordering}
 use Rattle.std.specs.declared.cmp.Ordering.TheVariants.{Less, Equal, Greater}
 use Rattle.mword.specs.Words.{AreZero}
-use Rattle.flat_model.specs.Pages.{is_page}
 use Rattle.flat_store.specs.Shown.{Paged, is_key, page_at, words_in, cut_at, Puts, Cuts}
 
 then_eq : (a b : Ordering) → is_eq (ordering_then a b) ≡ (is_eq a && is_eq b)
@@ -63,8 +62,7 @@ pub cut_through : (old now new : Paged) (u q at : ℕ) (before after words : Lis
     → (IsTrue zero ↔ AreZero after) → result ≡ zero → page_at now u q ≡ Some words → Cuts now new u q at words × (IsTrue result ↔ AreZero (cut_at at words))
 cut_through old now new u q at before after words zero result is there change each zeros told found =
     let same : before ≡ words = cc (is, there, found) in
-    let whole : after ≡ cut_at at words = change ∙ ap (cut_at at) same in
-    (
+    let whole : after ≡ cut_at at words = change ∙ ap (cut_at at) same in (
       subst (λ (w : List ℕ). Puts now new u q (Some w)) whole (puts_from old now new u q (Some after) is (each (is_there (page_at old u q) before there))),
       subst (λ (w : List ℕ). IsTrue result ↔ AreZero w) whole (subst (λ (z : Bool). IsTrue z ↔ AreZero after) (sym told) zeros),
     )

@@ -1,9 +1,7 @@
 -- What a path leads to, by the walk along it.
-use Rattle.std.proofs.Common.{◌≡◌, ◌≢◌, ℕ, Bool, true, false, cond, not, List, [], ◌∷◌, ◌++◌, Option, Some, None, Result, Ok, Err, refl, sym, ap, ◌∙◌}
-use Rattle.book.specs.declared.replies.Reply.{Reply}
+use Rattle.std.proofs.Common.{◌≡◌, ℕ, List, Some, Ok, Err, refl, sym, ap, ◌∙◌}
 use Rattle.book.specs.declared.replies.Reply.TheVariants as reply
 use Rattle.tree_model.specs.Tree.{Node, Walk, LeadsTo, Missing, InSegment, node_in, walk_in}
-use Rattle.dir_tree.specs.declared.node.PathFault.{PathFault}
 use Rattle.dir_tree.specs.declared.node.PathFault.TheVariants as path_fault
 use Rattle.dir_tree.specs.Nodes.{path_answer}
 use Rattle.flat_model.specs.Branches.{walked, node_at, there_or}

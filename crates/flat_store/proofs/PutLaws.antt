@@ -1,5 +1,5 @@
 -- A word is written.
-use Rattle.std.proofs.Common.{◌≡◌, ◌≢◌, ℕ, suc, zero, ◌+◌, ◌*◌, ◌/◌, ◌%◌, ◌<◌, Bool, true, false, not, cond, eqb, ◌&&◌, ◌||◌, List, [], ◌∷◌, length, set, get_or, replicate, Option, Some, None, Result, Ok, Err, is_some, refl, sym, ap, subst, ◌∙◌, arith, inl, inr, ◌⊎◌}
+use Rattle.std.proofs.Common.{◌≡◌, ◌≢◌, ℕ, suc, zero, ◌+◌, ◌/◌, ◌%◌, ◌<◌, Bool, true, false, not, cond, eqb, ◌&&◌, ◌||◌, List, length, set, get_or, replicate, Option, Some, None, Result, Ok, Err, is_some, refl, sym, ap, subst, ◌∙◌, arith, inl, inr, ◌⊎◌}
 use Rattle.std.specs.Prelude.{count_by}
 use Rattle.std.proofs.lemmas.Bool.{cases_eq}
 use Rattle.std.proofs.lemmas.Bool.Decides.{nat_tests}
@@ -10,12 +10,12 @@ use Rattle.quota_cells.specs.Scratch.{charge_answer}
 use Rattle.script.specs.Plans.{Plan}
 use Rattle.tree_model.specs.Tree.{Node, volume_in, taken_on}
 use Rattle.tree_model.specs.Trees.{has_segment}
-use Rattle.flat_model.specs.Pages.{Words, is_page, is_stored, with_stored, with_word, IsOnce}
+use Rattle.flat_model.specs.Pages.{Words, is_page, is_stored, with_stored, with_word}
 use Rattle.flat_model.specs.References.{is_used_up, is_volume_full, written}
 use Rattle.flat_model.specs.Store.{Store, records_of}
 use Rattle.flat_model.proofs.PageLaws.{is_stored-with, once_with, with_old}
 use Rattle.flat_model.proofs.CountLaws.{count_with}
-use Rattle.flat_store.specs.Shown.{Gauge, gauge_at, is_full, filled, Paged, page_at, word_in, words_in, Puts, Held, pages_in, HoldPages, AreInside, Holds, has_room}
+use Rattle.flat_store.specs.Shown.{Gauge, gauge_at, filled, Paged, page_at, word_in, words_in, Puts, Held, pages_in, HoldPages, AreInside, Holds, has_room}
 use Rattle.flat_store.proofs.GaugeLaws.{counts_more}
 
 -- two tests for the same word
@@ -113,11 +113,11 @@ put_shown p s h k u o w holds there same put =
       next = holds.next;
       counts = subst (λ (xs : List (ℕ × ℕ)). Counts h.accounts xs) (sym (stored_either s.stored u (o / 1024) (eqb w 0) on)) holds.counts;
       pages = subst (λ (xs : List (ℕ × ℕ)). HoldPages k.pages (with_word s.words u o w) xs) (with_old s.stored u (o / 1024) on ∙ sym (stored_either s.stored u (o / 1024) (eqb w 0) on))
-        (pages_put h.pages k.pages s.words s.stored u o w holds.pages put);
+          (pages_put h.pages k.pages s.words s.stored u o w holds.pages put);
       inside = subst (λ (xs : List (ℕ × ℕ)). AreInside s.nodes xs) (sym (stored_either s.stored u (o / 1024) (eqb w 0) on)) holds.inside;
       flat = holds.flat;
       records = subst (λ (xs : List (ℕ × ℕ)). (v : ℕ) → gauge_at h.records v ≡ record { used = taken_on s.nodes xs v; most = records_of p v })
-        (sym (stored_either s.stored u (o / 1024) (eqb w 0) on)) holds.records;
+          (sym (stored_either s.stored u (o / 1024) (eqb w 0) on)) holds.records;
       entries = holds.entries;
     })
 
@@ -125,16 +125,16 @@ counts_stored : (a b : AccountMaps) (xs : List (ℕ × ℕ)) (u q : ℕ) → Cou
 counts_stored a b xs u q counts off up s =
     up.counts s ∙ elim (cases_eq u s) [
       | inl same ↦
-        (let own : eqb u s ≡ true = grind (arith, nat_tests) in
-        let more : count_by (λ x. eqb x.0 s) (with_stored xs u q) ≡ count_by (λ x. eqb x.0 s) xs + 1 = rw own at (count_with (λ x. eqb x.0 s) xs u q off) in
-        let here : count_of a u ≡ count_of a s = ap (count_of a) same in
-        let was : count_of a s ≡ count_by (λ x. eqb x.0 s) xs = counts s in
-        rw own (omega (arith, more, here, was)))
+          (let own : eqb u s ≡ true = grind (arith, nat_tests) in
+          let more : count_by (λ x. eqb x.0 s) (with_stored xs u q) ≡ count_by (λ x. eqb x.0 s) xs + 1 = rw own at (count_with (λ x. eqb x.0 s) xs u q off) in
+          let here : count_of a u ≡ count_of a s = ap (count_of a) same in
+          let was : count_of a s ≡ count_by (λ x. eqb x.0 s) xs = counts s in
+          rw own (omega (arith, more, here, was)))
       | inr other ↦
-        (let own : eqb u s ≡ false = grind (arith, nat_tests) in
-        let more : count_by (λ x. eqb x.0 s) (with_stored xs u q) ≡ count_by (λ x. eqb x.0 s) xs + 0 = rw own at (count_with (λ x. eqb x.0 s) xs u q off) in
-        let was : count_of a s ≡ count_by (λ x. eqb x.0 s) xs = counts s in
-        rw own (omega (arith, more, was)))
+          (let own : eqb u s ≡ false = grind (arith, nat_tests) in
+          let more : count_by (λ x. eqb x.0 s) (with_stored xs u q) ≡ count_by (λ x. eqb x.0 s) xs + 0 = rw own at (count_with (λ x. eqb x.0 s) xs u q off) in
+          let was : count_of a s ≡ count_by (λ x. eqb x.0 s) xs = counts s in
+          rw own (omega (arith, more, was)))
     ]
 
 inside_with : (nodes : List Node) (xs : List (ℕ × ℕ)) (u q : ℕ) → AreInside nodes xs → has_segment nodes u ≡ true → q < pages_in nodes u → AreInside nodes (with_stored xs u q)
@@ -189,10 +189,10 @@ store_shown p s h k u o w holds segment lt none other room stores =
       counts = counts_stored h.accounts k.accounts s.stored u (o / 1024) holds.counts off stores.accounts;
       pages = pages_put h.pages k.pages s.words s.stored u o w holds.pages stores.pages;
       inside = inside_with s.nodes s.stored u (o / 1024) holds.inside (ap (λ (ns : List Node). has_segment ns u) holds.nodes ∙ segment)
-        (subst (λ (ns : List Node). o / 1024 < pages_in ns u) (sym holds.nodes) lt);
+          (subst (λ (ns : List Node). o / 1024 < pages_in ns u) (sym holds.nodes) lt);
       flat = holds.flat;
       records = λ v. ap (λ (g : List Gauge). gauge_at g v) (stores.records ∙ ap (λ (ns : List Node). set h.records (volume_in ns u) (filled (gauge_at h.records (volume_in ns u)))) (sym holds.nodes))
-        ∙ counts_more h.records (λ x. taken_on s.nodes s.stored x) (λ x. taken_on s.nodes (with_stored s.stored u (o / 1024)) x) (records_of p) (volume_in s.nodes u) holds.records space
+          ∙ counts_more h.records (λ x. taken_on s.nodes s.stored x) (λ x. taken_on s.nodes (with_stored s.stored u (o / 1024)) x) (records_of p) (volume_in s.nodes u) holds.records space
           (taken_more s.nodes s.stored u (o / 1024) off) v;
       entries = λ v. ap (λ (g : List Gauge). gauge_at g v) stores.entries ∙ holds.entries v;
     })

@@ -1,8 +1,7 @@
 -- No quota is moved.
-use Rattle.std.proofs.Common.{◌≡◌, ℕ, ℤ, pos, ◌+◌, ◌-◌, ◌≤◌, Bool, true, false, cond, eqb, not, ◌&&◌, ◌||◌, List, [], ◌∷◌, map, Option, Some, None, Ok, refl, sym, ap, subst, ◌∙◌, arith}
+use Rattle.std.proofs.Common.{◌≡◌, ℕ, ℤ, pos, ◌+◌, ◌-◌, ◌≤◌, Bool, true, false, cond, eqb, not, ◌&&◌, ◌||◌, List, [], ◌∷◌, map, None, Ok, refl, sym, ap, ◌∙◌, arith}
 use Rattle.std.specs.Prelude.{nat_lt}
 use Rattle.std.specs.Int.{is_positive}
-use Rattle.std.specs.Int.RustNames.{unsigned_abs}
 use Rattle.std.proofs.lemmas.Bool.Decides.{nat_tests}
 use Rattle.book.specs.declared.replies.Reply.TheVariants as reply
 use Rattle.tree_model.specs.Quotas.{getter_of, giver_of, is_over, least_where, over_in, tree_moved, with_moved, with_quota_of}
@@ -53,7 +52,7 @@ unfolding move_reply
 move_of_none s nodes path n amount same found none within =
     let there = ap (λ (ns : List Node). directory_at ns path) same ∙ found in
     sym (rw (none, there) (first (nat_lt (quota_in s.nodes (giver_of (above s.nodes) n.uid (is_positive (pos 0)))) 0) (grind (arith, nat_tests))
-      ∙ ap (λ (ns : List Node). done_or_over (over_in ns s.stored)) (nothing_moved s.nodes n.uid (is_positive (pos 0))) ∙ ap done_or_over (none_over s.nodes s.stored within)))
+    ∙ ap (λ (ns : List Node). done_or_over (over_in ns s.stored)) (nothing_moved s.nodes n.uid (is_positive (pos 0))) ∙ ap done_or_over (none_over s.nodes s.stored within)))
   where
     first : (z : Bool) → z ≡ false → cond z reply.TooLittle (done_or_over (over_in (tree_moved s.nodes n.uid (is_positive (pos 0)) 0) s.stored)) ≡ done_or_over (over_in (tree_moved s.nodes n.uid (is_positive (pos 0)) 0) s.stored)
     first true e = cc

@@ -1,10 +1,9 @@
 -- Which stores the commands of a script may come to.
-use Rattle.std.proofs.Common.{◌≡◌, ◌≢◌, ℕ, suc, zero, ◌+◌, ◌<◌, ◌≤◌, ◌^◌, Bool, true, false, cond, List, [], ◌∷◌, length, set, get_or, replicate, Option, Some, None, refl, sym, ap, subst, ◌∙◌, arith, inl, inr}
+use Rattle.std.proofs.Common.{◌≡◌, ℕ, suc, zero, ◌+◌, ◌<◌, ◌≤◌, ◌^◌, Bool, true, false, cond, List, [], ◌∷◌, length, set, get_or, replicate, Option, Some, None, refl, sym, subst, arith}
 use Rattle.std.specs.Prelude.{sum_by, slice_get}
 use Rattle.std.specs.List.{list_all}
-use Rattle.std.proofs.lemmas.Bool.{and_parts, cases_lt}
+use Rattle.std.proofs.lemmas.Bool.{and_parts}
 use Rattle.std.proofs.lemmas.Bool.Decides.{nat_tests}
-use Rattle.std.proofs.lemmas.List.{get_or_past, length-set}
 use Rattle.std.proofs.lemmas.List.Sums.{sum_by-cons, sum_by-set}
 use Rattle.script.specs.Forms.{IsPlan, is_command, is_process, weight, weight_of}
 use Rattle.script.specs.Plans.{Plan, ProcessPlan, command_at, commands_of, nobody}
@@ -12,8 +11,7 @@ use Rattle.script.specs.declared.commands.Command.{Command}
 use Rattle.script.specs.declared.commands.Command.TheVariants as command
 use Rattle.script.specs.declared.commands.RefKind.TheVariants as kind
 use Rattle.book.specs.declared.replies.Reply.{Reply}
-use Rattle.book.specs.declared.replies.Reply.TheVariants as reply
-use Rattle.flat_model.specs.Commands.{after_command, effect_of, gone_on, is_end, takes_effect, tries_on}
+use Rattle.flat_model.specs.Commands.{after_command, effect_of, gone_on, takes_effect, tries_on}
 use Rattle.flat_model.specs.References.{after_reference, written_by}
 use Rattle.flat_model.specs.Store.{Progress, Store, at_first, boot, known_uid, progress_of, with_progress}
 use Rattle.flat_store.specs.Shown.{ArePlaces, IsReached, answered}
@@ -166,7 +164,7 @@ reached_on p s k place c r h going at there = record { plan = h.plan; places = p
     places =
         subst (λ (qs : List Progress). ArePlaces (set qs k (gone_on (progress_of s k) c r)) p.processes) (sym (answered_advances p s k c r).processes)
         (places_set s.processes p.processes k (gone_on (progress_of s k) c r) h.places
-          (bound (tries_on (progress_of s k) c r) (by_tries (tries_on (progress_of s k) c r) refl)))
+        (bound (tries_on (progress_of s k) c r) (by_tries (tries_on (progress_of s k) c r) refl)))
       where
         bound : (z : Bool) → (gone_on (progress_of s k) c r).place ≡ cond z (progress_of s k).place ((progress_of s k).place + 1) → (gone_on (progress_of s k) c r).place ≤ length (commands_of p k)
         bound true e = omega (arith, e, at, lt)
@@ -207,7 +205,7 @@ reached_fault p s k h going = record { plan = h.plan; places = places s.processe
     uids : s.next ≤ 2 + place_sum (set s.processes k (record (progress_of s k) { faulted = true }))
     uids =
         let total : place_sum (set s.processes k (record (progress_of s k) { faulted = true })) + (progress_of s k).place ≡ place_sum s.processes + (progress_of s k).place
-              = sum_by-set (λ (x : Progress). x.place) s.processes k (record (progress_of s k) { faulted = true }) (record { place = 0; tries = 0; ended = true; faulted = false }) (going_there s.processes k going) in
+        = sum_by-set (λ (x : Progress). x.place) s.processes k (record (progress_of s k) { faulted = true }) (record { place = 0; tries = 0; ended = true; faulted = false }) (going_there s.processes k going) in
         omega (arith, total, h.uids)
 
 -- ---- the boot

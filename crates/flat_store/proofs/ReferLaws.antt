@@ -45,7 +45,7 @@ write_asked : (p : Plan) (s : Store) (k o : ℕ) (how : RefKind) (n : Node) → 
     → may_write p s n.uid o (new_word (s.words n.uid o) how) ≡ true
 write_asked p s k o how n at alters_it is =
     let access = not_first (not (permits (access_of (who_of p k) n.rows) how)) reply.NoAccess
-          (cond (nat_le (1024 * n.pages) o) reply.Length (cond (stores_page s n.uid o how) (room_reply p s n word) word)) refl is in
+    (cond (nat_le (1024 * n.pages) o) reply.Length (cond (stores_page s n.uid o how) (room_reply p s n word) word)) refl is in
     let size = not_first (nat_le (1024 * n.pages) o) reply.Length (cond (stores_page s n.uid o how) (room_reply p s n word) word) refl access.1 in
     by_page (stores_page s n.uid o how) refl size.1
   where

@@ -1,12 +1,12 @@
 -- A page of zeros is given up; the zeros of a page that is cut.
-use Rattle.std.proofs.Common.{◌≡◌, ◌≢◌, ℕ, ◌+◌, ◌*◌, ◌/◌, ◌%◌, ◌<◌, ◌≤◌, Bool, true, false, cond, eqb, ◌&&◌, List, Option, Some, None, IsTrue, ◌↔◌, is_some, refl, sym, ap, subst, ◌∙◌, arith, inl, inr}
+use Rattle.std.proofs.Common.{◌≡◌, ◌≢◌, ℕ, ◌+◌, ◌*◌, ◌/◌, ◌%◌, ◌<◌, ◌≤◌, Bool, true, false, cond, eqb, ◌&&◌, List, Some, None, IsTrue, ◌↔◌, is_some, refl, sym, ap, ◌∙◌, arith, inl, inr}
 use Rattle.std.specs.Prelude.{nat_le}
 use Rattle.std.proofs.lemmas.Bool.{cases_Bool, cases_eq}
 use Rattle.std.proofs.lemmas.Bool.Decides.{nat_tests}
 use Rattle.mword.specs.Words.{AreZero}
 use Rattle.script.specs.Plans.{Plan}
 use Rattle.flat_model.specs.Legal.{MayRelease}
-use Rattle.flat_model.specs.Pages.{Words, is_stored, is_zero_page, without_stored, without_words}
+use Rattle.flat_model.specs.Pages.{Words, is_zero_page, without_stored, without_words}
 use Rattle.flat_model.specs.Store.{Store}
 use Rattle.flat_model.proofs.ZeroLaws.{words_zero, zero_words}
 use Rattle.flat_store.specs.Shown.{Held, Holds, page_at, without_pages}
@@ -51,14 +51,14 @@ all_zero s u from zeros = sym (words_zero (without_words s.words u from) u (from
 pub one_stays : (s : Store) (u from o w : ℕ) → from / 1024 * 1024 ≤ o → o < from → w ≡ s.words u o → w ≢ 0 → false ≡ is_zero_page (without_words s.words u from) u (from / 1024)
 one_stays s u from o w le lt is other = elim (cases_Bool (is_zero_page (without_words s.words u from) u (from / 1024))) [
   | inl zero_is ↦
-    (let place : o / 1024 ≡ from / 1024 = omega (arith, le, lt) in
-    let at : 1024 * (from / 1024) + o % 1024 ≡ o = omega (arith, place) in
-    let inside : o % 1024 < 1024 = omega arith in
-    let zero_there : without_words s.words u from u o ≡ 0 = ap (without_words s.words u from u) (sym at) ∙ zero_words (without_words s.words u from) u (from / 1024) (o % 1024) zero_is inside in
-    let own : eqb u u ≡ true = grind (arith, nat_tests) in
-    let early : nat_le from o ≡ false = grind (arith, nat_tests) in
-    let stays : without_words s.words u from u o ≡ s.words u o = rw (own, early) refl in
-    absurd (other (is ∙ sym stays ∙ zero_there)))
+      (let place : o / 1024 ≡ from / 1024 = omega (arith, le, lt) in
+      let at : 1024 * (from / 1024) + o % 1024 ≡ o = omega (arith, place) in
+      let inside : o % 1024 < 1024 = omega arith in
+      let zero_there : without_words s.words u from u o ≡ 0 = ap (without_words s.words u from u) (sym at) ∙ zero_words (without_words s.words u from) u (from / 1024) (o % 1024) zero_is inside in
+      let own : eqb u u ≡ true = grind (arith, nat_tests) in
+      let early : nat_le from o ≡ false = grind (arith, nat_tests) in
+      let stays : without_words s.words u from u o ≡ s.words u o = rw (own, early) refl in
+      absurd (other (is ∙ sym stays ∙ zero_there)))
   | inr isnt ↦ sym isnt
 ]
 

@@ -1,15 +1,15 @@
 -- A directory or a segment is deleted.
-use Rattle.std.proofs.Common.{◌≡◌, ◌≢◌, ℕ, ◌+◌, ◌/◌, ◌<◌, ◌||◌, Bool, true, false, cond, eqb, not, ◌&&◌, List, [], ◌∷◌, set, Option, Some, None, Result, Ok, Err, is_some, refl, sym, ap, subst, ◌∙◌, arith, inl, inr}
+use Rattle.std.proofs.Common.{◌≡◌, ◌≢◌, ℕ, ◌+◌, ◌/◌, ◌<◌, ◌||◌, Bool, true, false, cond, eqb, not, ◌&&◌, List, [], ◌∷◌, set, Option, Some, None, Ok, Err, is_some, refl, sym, ap, subst, ◌∙◌, arith, inl, inr}
 use Rattle.std.specs.Prelude.{count_by, nat_le}
 use Rattle.std.specs.List.{list_any}
-use Rattle.std.proofs.lemmas.Bool.{cases_Bool, cases_eq, eq-eqb, ne_eqb}
+use Rattle.std.proofs.lemmas.Bool.{cases_Bool, cases_eq, ne_eqb}
 use Rattle.std.proofs.lemmas.Bool.Decides.{nat_tests}
 use Rattle.std.proofs.lemmas.List.Sums.{sum_by-cons}
-use Rattle.accounts.specs.Maps.{AccountMaps, Counts, count_of, Loses}
+use Rattle.accounts.specs.Maps.{count_of, Loses}
 use Rattle.script.specs.Plans.{Plan}
 use Rattle.book.specs.declared.replies.Reply.{Reply}
 use Rattle.book.specs.declared.replies.Reply.TheVariants as reply
-use Rattle.tree_model.specs.Tree.{Node, entries_on, has_directory, is_inferior, node_in, quota_in, taken_on, volume_in, without_node}
+use Rattle.tree_model.specs.Tree.{Node, entries_on, has_directory, is_inferior, node_in, taken_on, volume_in, without_node}
 use Rattle.tree_model.specs.Trees.{has_segment, IsTree}
 use Rattle.flat_model.specs.Branches.{branch_at}
 use Rattle.flat_model.specs.Commands.{takes_effect}
@@ -125,7 +125,7 @@ removed_shown p s h k u v holds loses same less place tree there none =
       flat = flat_left s.nodes u holds.flat;
       records = λ x. holds.records x ∙ ap (λ (n : ℕ). record { used = n; most = records_of p x }) (sym (taken_left s.nodes s.stored u x unstored));
       entries = λ x. ap (λ (g : List Gauge). gauge_at g x) (less ∙ ap (λ (y : ℕ). set h.entries y (drained (gauge_at h.entries y))) at)
-        ∙ counts_less h.entries (λ y. entries_on s.nodes y) (λ y. entries_on (without_node s.nodes u) y) (entries_of p) found.0.volume holds.entries (entries_less s.nodes u found.0 shape own) x;
+          ∙ counts_less h.entries (λ y. entries_on s.nodes y) (λ y. entries_on (without_node s.nodes u) y) (entries_of p) found.0.volume holds.entries (entries_less s.nodes u found.0 shape own) x;
     })
 
 -- all pages are gone once those from the first on are
@@ -144,7 +144,7 @@ from_first page = grind (arith, nat_tests)
 pub deleted_is : (s : Store) (u : ℕ) → record (without_pages s u (λ q. nat_le 0 q)) { nodes = without_node s.nodes u } ≡ without_branch s (Some u)
 deleted_is s u =
     ap (λ (w : Words). record s { nodes = without_node s.nodes u; words = w; stored = without_stored s.stored u (λ q. nat_le 0 q) })
-      (λ i. λ v. λ o. ap (λ (z : Bool). cond (eqb v u && z) 0 (s.words v o)) (from_first (o / 1024) ∙ sym (from_first o)) i)
+    (λ i. λ v. λ o. ap (λ (z : Bool). cond (eqb v u && z) 0 (s.words v o)) (from_first (o / 1024) ∙ sym (from_first o)) i)
     ∙ ap (λ (t : ℕ → Bool). record s { nodes = without_node s.nodes u; words = λ v o. cond (eqb v u && nat_le 0 o) 0 (s.words v o); stored = without_stored s.stored u t }) (λ i. λ q. from_first q i)
 
 -- ---- by its path

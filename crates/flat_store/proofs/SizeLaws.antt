@@ -1,5 +1,5 @@
 -- Stored pages from one on, and the length of a segment.
-use Rattle.std.proofs.Common.{◌≡◌, ◌≢◌, ℕ, ◌<◌, ◌≤◌, Bool, true, false, eqb, List, is_some, sym, ap, ◌∙◌, arith, inl, inr}
+use Rattle.std.proofs.Common.{◌≡◌, ℕ, ◌<◌, ◌≤◌, true, false, List, is_some, sym, ap, ◌∙◌, arith, inl, inr}
 use Rattle.std.specs.Prelude.{nat_le}
 use Rattle.std.proofs.lemmas.Bool.{cases_Bool}
 use Rattle.std.proofs.lemmas.Bool.Decides.{nat_tests}
@@ -20,9 +20,9 @@ none_past p s h u from page holds past none = sym (none_from s.stored u from eac
     each : (q : ℕ) → nat_le from q ≡ true → is_stored s.stored u q ≡ false
     each q le = elim (cases_Bool (is_stored s.stored u q)) [
       | inl on ↦
-        (let lt : q < pages_in s.nodes u = (holds.inside u q on).1 in
-        let size : pages_in s.nodes u ≡ pages_in h.accounts.nodes u = ap (λ (ns : List Node). pages_in ns u) holds.nodes in
-        let start : from ≤ q = grind (arith, nat_tests) in
-        holds.pages.there u q ∙ none q start (omega (arith, lt, size, past)))
+          (let lt : q < pages_in s.nodes u = (holds.inside u q on).1 in
+          let size : pages_in s.nodes u ≡ pages_in h.accounts.nodes u = ap (λ (ns : List Node). pages_in ns u) holds.nodes in
+          let start : from ≤ q = grind (arith, nat_tests) in
+          holds.pages.there u q ∙ none q start (omega (arith, lt, size, past)))
       | inr off ↦ off
     ]

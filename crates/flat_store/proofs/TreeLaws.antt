@@ -1,12 +1,12 @@
 -- What holds of a tree: no path with a name leads to the root, and a uid is that of one node.
-use Rattle.std.proofs.Common.{◌≡◌, ◌≢◌, ℕ, ◌+◌, ◌<◌, Bool, true, false, cond, eqb, not, List, [], ◌∷◌, length, filter, Option, Some, None, Result, Ok, Err, IfOk, refl, sym, ap, subst, ◌∙◌, arith, inl, inr}
+use Rattle.std.proofs.Common.{◌≡◌, ◌≢◌, ℕ, ◌+◌, ◌<◌, Bool, true, false, cond, eqb, List, [], ◌∷◌, length, Option, Some, None, Result, Ok, Err, IfOk, refl, sym, ap, subst, ◌∙◌, arith, inl, inr}
 use Rattle.std.specs.Prelude.{count_by}
-use Rattle.std.proofs.lemmas.Bool.{cases_Bool, cases_eq}
+use Rattle.std.proofs.lemmas.Bool.{cases_Bool}
 use Rattle.std.proofs.lemmas.Bool.Decides.{nat_tests}
 use Rattle.std.proofs.lemmas.List.Sums.{sum_by-cons}
 use Rattle.book.specs.declared.replies.Reply.{Reply}
-use Rattle.tree_model.specs.Tree.{Node, Walk, LeadsTo, Missing, InSegment, branch_in, entries_on, has_directory, is_branch, node_in, onward, walk_from, walk_in, without_node}
-use Rattle.tree_model.specs.Trees.{AreBelow, IsBranch, IsRoot, IsTree, Joins}
+use Rattle.tree_model.specs.Tree.{Node, Walk, LeadsTo, Missing, InSegment, branch_in, entries_on, is_branch, node_in, onward, walk_from, walk_in, without_node}
+use Rattle.tree_model.specs.Trees.{AreBelow, IsBranch, IsTree, Joins}
 use Rattle.tree_model.proofs.TreeLaws.{lies}
 use Rattle.flat_model.specs.Branches.{node_at, walked, there_or}
 use Rattle.flat_store.proofs.NodeLaws.{uid_found}
@@ -29,11 +29,11 @@ branch_apart : (ns : List Node) (d : ℕ) (name : List ℕ) (m : Node) → IsTre
 branch_apart [] d name m t found = cc
 branch_apart (n ∷ ns) d name m t found = elim (cases_Bool (is_branch d name n)) [
   | inl is ↦
-    (let z : Some n ≡ Some m = rw is at found in
-    let same : n ≡ m = cc in
-    let up : n.superior ≡ Some d = (lies d name n is).0 in
-    let branch : IsBranch ns d n = subst (λ (o : Option ℕ). Joins ns o n) up t.0 in
-    subst (λ (x : Node). x.uid ≢ 1) same (branch_later ns n d t.1 branch))
+      (let z : Some n ≡ Some m = rw is at found in
+      let same : n ≡ m = cc in
+      let up : n.superior ≡ Some d = (lies d name n is).0 in
+      let branch : IsBranch ns d n = subst (λ (o : Option ℕ). Joins ns o n) up t.0 in
+      subst (λ (x : Node). x.uid ≢ 1) same (branch_later ns n d t.1 branch))
   | inr isnt ↦ branch_apart ns d name m t.1 (rw isnt at found)
 ]
 
@@ -83,18 +83,18 @@ unfolding entries_on
 entries_less [] u n t found v = cc
 entries_less (m ∷ ms) u n t found v = elim (cases_Bool (eqb m.uid u)) [
   | inl is ↦
-    (let z : Some m ≡ Some n = rw is at found in
-    let same : m ≡ n = cc in
-    let uid : m.uid ≡ u = grind (arith, nat_tests) in
-    let rest : without_node ms u ≡ ms = none_left ms u (subst (λ (x : ℕ). AreBelow x ms) uid (older ms m m.superior t.0)) in
-    let count : count_by (λ x. eqb x.volume v) (m ∷ ms) ≡ cond {A = ℕ} (eqb m.volume v) 1 0 + count_by (λ x. eqb x.volume v) ms = sum_by-cons (λ (x : Node). cond (eqb x.volume v) 1 0) m ms in
-    let place : cond {A = ℕ} (eqb m.volume v) 1 0 ≡ cond {A = ℕ} (eqb n.volume v) 1 0 = ap (λ (x : Node). cond {A = ℕ} (eqb x.volume v) 1 0) same in
-    rw is (ap (λ (l : List Node). count_by (λ x. eqb x.volume v) l + cond {A = ℕ} (eqb n.volume v) 1 0) rest ∙ omega (arith, count, place)))
+      (let z : Some m ≡ Some n = rw is at found in
+      let same : m ≡ n = cc in
+      let uid : m.uid ≡ u = grind (arith, nat_tests) in
+      let rest : without_node ms u ≡ ms = none_left ms u (subst (λ (x : ℕ). AreBelow x ms) uid (older ms m m.superior t.0)) in
+      let count : count_by (λ x. eqb x.volume v) (m ∷ ms) ≡ cond {A = ℕ} (eqb m.volume v) 1 0 + count_by (λ x. eqb x.volume v) ms = sum_by-cons (λ (x : Node). cond (eqb x.volume v) 1 0) m ms in
+      let place : cond {A = ℕ} (eqb m.volume v) 1 0 ≡ cond {A = ℕ} (eqb n.volume v) 1 0 = ap (λ (x : Node). cond {A = ℕ} (eqb x.volume v) 1 0) same in
+      rw is (ap (λ (l : List Node). count_by (λ x. eqb x.volume v) l + cond {A = ℕ} (eqb n.volume v) 1 0) rest ∙ omega (arith, count, place)))
   | inr isnt ↦
-    (let ih : count_by (λ x. eqb x.volume v) (without_node ms u) + cond {A = ℕ} (eqb n.volume v) 1 0 ≡ count_by (λ x. eqb x.volume v) ms = entries_less ms u n t.1 (rw isnt at found) v in
-    let count : count_by (λ x. eqb x.volume v) (m ∷ ms) ≡ cond {A = ℕ} (eqb m.volume v) 1 0 + count_by (λ x. eqb x.volume v) ms = sum_by-cons (λ (x : Node). cond (eqb x.volume v) 1 0) m ms in
-    let left : count_by (λ x. eqb x.volume v) (m ∷ without_node ms u) ≡ cond {A = ℕ} (eqb m.volume v) 1 0 + count_by (λ x. eqb x.volume v) (without_node ms u) = sum_by-cons (λ (x : Node). cond (eqb x.volume v) 1 0) m (without_node ms u) in
-    rw isnt (omega (arith, ih, count, left)))
+      (let ih : count_by (λ x. eqb x.volume v) (without_node ms u) + cond {A = ℕ} (eqb n.volume v) 1 0 ≡ count_by (λ x. eqb x.volume v) ms = entries_less ms u n t.1 (rw isnt at found) v in
+      let count : count_by (λ x. eqb x.volume v) (m ∷ ms) ≡ cond {A = ℕ} (eqb m.volume v) 1 0 + count_by (λ x. eqb x.volume v) ms = sum_by-cons (λ (x : Node). cond (eqb x.volume v) 1 0) m ms in
+      let left : count_by (λ x. eqb x.volume v) (m ∷ without_node ms u) ≡ cond {A = ℕ} (eqb m.volume v) 1 0 + count_by (λ x. eqb x.volume v) (without_node ms u) = sum_by-cons (λ (x : Node). cond (eqb x.volume v) 1 0) m (without_node ms u) in
+      rw isnt (omega (arith, ih, count, left)))
 ]
 
 -- what is found, as a node's own uid

@@ -1,11 +1,9 @@
 -- What tree commands are answered, by what the path leads to.
-use Rattle.std.proofs.Common.{◌≡◌, ◌≢◌, ℕ, ℤ, Bool, true, false, not, cond, eqb, List, [], ◌∷◌, ◌++◌, length, Option, Some, None, Result, Ok, Err, refl, sym, ap, subst, ◌∙◌, arith}
+use Rattle.std.proofs.Common.{◌≡◌, ℕ, ℤ, Bool, true, false, cond, eqb, List, [], ◌∷◌, ◌++◌, Option, Some, None, Result, Ok, Err, refl, sym, ap, ◌∙◌}
 use Rattle.std.specs.Prelude.{count_by, nat_lt}
 use Rattle.std.specs.Int.{is_positive}
 use Rattle.std.specs.Int.RustNames.{unsigned_abs}
 use Rattle.std.specs.List.{list_any}
-use Rattle.std.proofs.lemmas.Bool.{cases_Bool}
-use Rattle.std.proofs.lemmas.Bool.Decides.{nat_tests}
 use Rattle.mnames.specs.declared.rows.Row.{Row as Named}
 use Rattle.script.specs.Plans.{Plan}
 use Rattle.book.specs.declared.replies.Reply.{Reply}
@@ -17,7 +15,7 @@ use Rattle.quota_cells.specs.declared.MoveFault.{MoveFault}
 use Rattle.quota_cells.specs.declared.MoveFault.TheVariants as fault
 use Rattle.quota_cells.specs.Cells.{over_answer}
 use Rattle.quota_cells.specs.Scratch.{scratch_answer}
-use Rattle.flat_model.specs.Branches.{branch_at, directory_at, node_at, only_directory, parts_of, before_parts, segment_at}
+use Rattle.flat_model.specs.Branches.{branch_at, directory_at, node_at, parts_of, before_parts, segment_at}
 use Rattle.flat_model.specs.Making.{delete_reply, make_in, make_reply}
 use Rattle.flat_model.specs.Naming.{status_reply}
 use Rattle.flat_model.specs.Pages.{is_stored_from}

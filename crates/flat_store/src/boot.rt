@@ -58,9 +58,7 @@ fn at_first(alloc: Global, processes: u32) -> Result<Vec<Progress>, NoMemory>
 {
     let mut places = Vec::new(alloc);
     for _process in 0..processes {
-        places
-            .push(Progress::at_first())
-            .map_err(|_| NoMemory)?;
+        places.push(Progress::at_first()).map_err(|_| NoMemory)?;
     }
     Ok(places)
 }

@@ -56,13 +56,7 @@ impl FlatStore {
     }
 
     /// Whether a process may be answered so to a command.
-    fn may_answer(
-        &self,
-        script: &Script,
-        process: u32,
-        command: &Command,
-        reply: &Reply,
-    ) -> bool
+    fn may_answer(&self, script: &Script, process: u32, command: &Command, reply: &Reply) -> bool
         ensures { (s : Store) → Shows script.now self.now s
             → (IsTrue result ↔ IsAnswer script.now s process (Some command.now) reply.now) }
     {

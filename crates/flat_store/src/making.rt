@@ -9,7 +9,7 @@ ghost use Rattle.flat_model.specs.Store.{Store};
 ghost use Rattle.flat_store.specs.Shown.{Holds, IsDeletable, page_at, without_branch};
 ghost use Rattle.dir_tree.specs.Nodes.{has_inferior};
 
-use crate::gauges::{is_full_at, fill_at, drain_at};
+use crate::gauges::{drain_at, fill_at, is_full_at};
 use crate::holdings::{Holdings, volume_of};
 use acl::Acl;
 use book::Reply;

@@ -52,7 +52,7 @@ pub(crate) fn make_known(known: &mut Vec<Kst>, process: u32, uid: u32)
 pub(crate) fn forget(known: &mut Vec<Kst>, process: u32, number: u32)
     ensures { is_some (uid_of (numbers_at known.old.items process) number) ≡ true
         → known.new.items ≡ slice_set known.old.items process
-            (without_number (numbers_at known.old.items process) number) }
+        (without_number (numbers_at known.old.items process) number) }
 {
     if let Some(kst) = known.get_mut(process as usize) {
         if kst.uid_of(number).is_some() {

@@ -62,13 +62,7 @@ impl Pages {
     ///
     /// # Errors
     /// `NoMemory` is want of memory for a page that isn't stored; then nothing is changed.
-    pub(crate) fn put(
-        &mut self,
-        uid: u32,
-        page: u32,
-        at: u32,
-        word: Word,
-    ) -> Result<(), NoMemory>
+    pub(crate) fn put(&mut self, uid: u32, page: u32, at: u32, word: Word) -> Result<(), NoMemory>
         requires { at < 1024 }
         ensures ok { OnOk result (Puts self.old self.new uid page
             (Some (slice_set (words_in (page_at self.old uid page)) at word))) }

@@ -45,7 +45,11 @@ impl Holdings {
         ensures err { IfErr result (λ r. segment_at self.now.accounts.nodes path.now ≡ Err r) }
     {
         let node = self.node_at(path)?;
-        if node.dir { Err(Reply::IsDir) } else { Ok(node) }
+        if node.dir {
+            Err(Reply::IsDir)
+        } else {
+            Ok(node)
+        }
     }
 
     /// The node other than the root that a path leads to.
@@ -81,6 +85,10 @@ impl Holdings {
         ensures err { IfErr result (λ r. directory_at self.now.accounts.nodes path.now ≡ Err r) }
     {
         let node = self.branch_at(path)?;
-        if node.dir { Ok(node) } else { Err(Reply::IsSeg) }
+        if node.dir {
+            Ok(node)
+        } else {
+            Err(Reply::IsSeg)
+        }
     }
 }

@@ -101,15 +101,10 @@ impl Progress {
 }
 
 /// A process goes on once a command was answered so.
-pub(crate) fn go_on(
-    processes: &mut Vec<Progress>,
-    process: u32,
-    command: &Command,
-    reply: &Reply,
-)
+pub(crate) fn go_on(processes: &mut Vec<Progress>, process: u32, command: &Command, reply: &Reply)
     ensures { (progress_at processes.old.items process).place + 1 < 2 ^ 32
         → processes.new.items ≡ slice_set processes.old.items process
-            (gone_on (progress_at processes.old.items process) command.now reply.now) }
+        (gone_on (progress_at processes.old.items process) command.now reply.now) }
 {
     if let Some(progress) = processes.get_mut(process as usize) {
         *progress = progress.gone_on(command, reply);

@@ -165,8 +165,7 @@ impl FlatStore {
         ensures err { OnErr result (self.new ≡ self.old) }
     {
         if let Some(uid) = uid_of(&self.known, process, reference.number) {
-            self.holdings
-                .refer(uid, reference.offset, &reference.kind)?;
+            self.holdings.refer(uid, reference.offset, &reference.kind)?;
         }
         Ok(())
     }

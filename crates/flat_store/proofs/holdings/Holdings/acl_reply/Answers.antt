@@ -1,7 +1,6 @@
-use Rattle.std.proofs.Common.{◌≡◌, ℕ, Bool, true, false, List, Ok, Err, refl, sym, ap, subst, ◌∙◌, eqb, arith}
-use Rattle.tree_model.specs.Tree.{Node, quota_in, used_by}
+use Rattle.std.proofs.Common.{true, false, sym, ◌∙◌}
+use Rattle.tree_model.specs.Tree.{quota_in}
 use Rattle.dir_tree.specs.Nodes.{as_term}
-use Rattle.flat_store.specs.Shown.{Held, Holds}
 use Rattle.flat_store.proofs.TreeReplies.{acl_refused, acl_told}
 use Rattle.flat_store.proofs.holdings.Holdings.acl_reply.Goals as goal
 

@@ -1,4 +1,4 @@
-use Rattle.std.proofs.Common.{◌≡◌, ℕ, ◌+◌, ◌∷◌, List, true, false, refl, sym, ap, subst, ◌∙◌}
+use Rattle.std.proofs.Common.{◌+◌, ◌∷◌, List, refl, sym, ap, subst, ◌∙◌}
 use Rattle.tree_model.specs.Tree.{Node}
 use Rattle.accounts.specs.Maps.{Gains, branch_of}
 use Rattle.flat_model.specs.Store.{Store}
@@ -15,9 +15,11 @@ invariant_of-self c =
     let after : Held = record before { accounts = c.add.new.self; entries = c.fill_at.new.gauges.items } in
     let n : Node = branch_of c.self.inside.accounts.next c.args.superior c.args.new in
     let gains = ok_of c.add.result (Gains c.self.inside.accounts c.add.new.self n c.args.new.entry) c.add.ensures.ok (sym c.is_ok.ensures.value ∙ c.if-is_ok.true) in
-    let room = ap (λ (g : List Gauge). is_full (gauge_at g c.args.new.volume)) (sym c.deref.ensures.value) ∙ sym c.is_full_at.ensures.used ∙ c.if-is_full_at.false in
-    (h.0, record h.1 { nodes = n ∷ h.1.nodes; next = h.1.next + 1 },
-      added_shown h.0 h.1 before after n c.args.new.entry h.2 (record { accounts = gains; pages = refl; records = refl; entries = c.fill_at.ensures }) refl c.next_uid.ensures.fresh room c.requires.flat)
+    let room = ap (λ (g : List Gauge). is_full (gauge_at g c.args.new.volume)) (sym c.deref.ensures.value) ∙ sym c.is_full_at.ensures.used ∙ c.if-is_full_at.false in (
+      h.0,
+      record h.1 { nodes = n ∷ h.1.nodes; next = h.1.next + 1 },
+      added_shown h.0 h.1 before after n c.args.new.entry h.2 (record { accounts = gains; pages = refl; records = refl; entries = c.fill_at.ensures }) refl c.next_uid.ensures.fresh room c.requires.flat,
+    )
 
 pub returns-then-is_ok : goal.returns-then-is_ok
 returns-then-is_ok c = λ p s d h below few effect.

@@ -1,4 +1,4 @@
-use Rattle.std.proofs.Common.{◌≡◌, ℕ, List, length, eqb, subst, sym, ap, ◌∙◌}
+use Rattle.std.proofs.Common.{ℕ, List, length, eqb, subst, sym, ap, ◌∙◌}
 use Rattle.tree_model.specs.Tree.{quota_in}
 use Rattle.tree_model.specs.Trees.{IsTree}
 use Rattle.dir_tree.specs.Nodes.{as_term}

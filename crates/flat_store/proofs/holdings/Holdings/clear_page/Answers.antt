@@ -1,6 +1,5 @@
-use Rattle.std.proofs.Common.{◌≡◌, ◌≤◌, ℕ, Bool, true, false, List, Some, None, IsTrue, ◌↔◌, refl, sym, ap, subst, ◌∙◌}
-use Rattle.mword.specs.Words.{AreZero}
-use Rattle.flat_store.specs.Shown.{Held, Holds, cleared, cut_at, Cuts, page_at}
+use Rattle.std.proofs.Common.{refl}
+use Rattle.flat_store.specs.Shown.{Held, cleared}
 use Rattle.flat_store.proofs.CutLaws.{clear_shown, clear_told}
 use Rattle.flat_store.proofs.DropLaws.{held_inside}
 use Rattle.flat_store.proofs.holdings.Holdings.clear_page.Goals as goal
@@ -9,9 +8,11 @@ pub invariant_of-self : goal.invariant_of-self
 invariant_of-self c =
     let h = c.self.invariant in
     let before : Held = record { accounts = c.self.inside.accounts; pages = c.self.inside.pages; records = c.self.inside.records.items; entries = c.self.inside.entries.items } in
-    let after : Held = record before { pages = c.cut.new.self } in
-    (h.0, cleared h.1 c.args.uid c.args.page c.args.at,
-      clear_shown h.0 h.1 before after c.args.uid c.args.page c.args.at h.2 refl c.requires (λ ws e. (c.cut.ensures.some ws e).0) (λ e. (c.cut.ensures.none e).0))
+    let after : Held = record before { pages = c.cut.new.self } in (
+      h.0,
+      cleared h.1 c.args.uid c.args.page c.args.at,
+      clear_shown h.0 h.1 before after c.args.uid c.args.page c.args.at h.2 refl c.requires (λ ws e. (c.cut.ensures.some ws e).0) (λ e. (c.cut.ensures.none e).0),
+    )
 
 pub returns-clause-page : goal.returns-clause-page
 returns-clause-page c = λ p s h.

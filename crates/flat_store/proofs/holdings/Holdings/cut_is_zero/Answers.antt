@@ -1,5 +1,4 @@
-use Rattle.std.proofs.Common.{◌≡◌, ◌≢◌, ℕ, ◌+◌, ◌*◌, ◌/◌, ◌<◌, ◌≤◌, sym, ap, ◌∙◌, arith, below_more}
-use Rattle.std.proofs.lemmas.Bool.{cases_eq}
+use Rattle.std.proofs.Common.{◌*◌, ◌/◌, sym, ◌∙◌, arith}
 use Rattle.flat_store.proofs.ReleaseLaws.{all_zero, one_stays, zeros_more}
 use Rattle.flat_store.proofs.holdings.Holdings.cut_is_zero.Goals as goal
 
@@ -10,7 +9,7 @@ returns-then-value-ne0 c = λ p s h.
 pub loop-offset-preserved : goal.loop-offset-preserved
 loop-offset-preserved c = (
   λ p s h. zeros_more (s.words c.args.uid) (c.args.words / 1024 * 1024) c.loop-offset.offset (c.loop-offset.invariant.0 p s h)
-    (sym (c.value.ensures.value ∙ c.word.ensures p s h) ∙ c.if-value-ne0.false),
+      (sym (c.value.ensures.value ∙ c.word.ensures p s h) ∙ c.if-value-ne0.false),
   omega (arith, c.loop-offset.invariant.1),
 )
 

@@ -1,13 +1,10 @@
-use Rattle.std.proofs.Common.{◌≡◌, ◌≢◌, ℕ, Bool, true, false, List, Ok, Err, is_some, refl, sym, ap, subst, ◌∙◌, eqb}
-use Rattle.std.proofs.lemmas.Bool.{eq-eqb, ne_eqb}
-use Rattle.std.specs.List.{list_any}
-use Rattle.std.specs.Result.{is_err}
-use Rattle.tree_model.specs.Tree.{Node, is_inferior, node_in, quota_in}
+use Rattle.std.proofs.Common.{◌≡◌, ℕ, true, false, List, sym, ap, ◌∙◌, eqb}
+use Rattle.std.proofs.lemmas.Bool.{ne_eqb}
+use Rattle.tree_model.specs.Tree.{Node, quota_in}
 use Rattle.dir_tree.specs.Nodes.{as_term, has_inferior}
 use Rattle.flat_model.specs.Branches.{branch_at}
 use Rattle.flat_store.specs.Shown.{Held}
 use Rattle.flat_store.proofs.RemoveLaws.{delete_asked, delete_done, delete_refused}
-use Rattle.flat_store.proofs.TreeReplies.{from_false}
 use Rattle.flat_store.proofs.holdings.Holdings.deletable.Goals as goal
 
 pub returns-in-Err-clause-effect : goal.returns-in-Err-clause-effect
@@ -19,7 +16,7 @@ returns-then-is_err-clause-effect c = λ s same effect.
     let n : Node = as_term (quota_in c.args.self.now.accounts.nodes) c.in-Ok.node.now in
     let found = ap (λ (ns : List Node). branch_at ns c.args.path.now) same ∙ c.in-Ok.ensures.ok in
     let inferior = ap (λ (ns : List Node). has_inferior ns c.in-Ok.node.now.uid) same ∙ ap (λ (x : Held). has_inferior x.accounts.nodes c.in-Ok.node.now.uid) (sym c.self.view_is)
-        ∙ c.may_remove.ensures.0 (sym c.is_err.ensures.value ∙ c.if-is_err.true) in
+    ∙ c.may_remove.ensures.0 (sym c.is_err.ensures.value ∙ c.if-is_err.true) in
     let clash : true ≡ false = sym inferior ∙ (delete_asked s c.args.path.now n found effect).0 in
     cc
 

@@ -1,7 +1,7 @@
-use Rattle.std.proofs.Common.{◌≡◌, ℕ, Bool, true, false, List, Ok, Err, refl, sym, ap, subst, ◌∙◌, eqb, arith}
-use Rattle.tree_model.specs.Tree.{Node, quota_in, used_by}
+use Rattle.std.proofs.Common.{◌≡◌, ℕ, true, false, refl, sym, ap, ◌∙◌, eqb}
+use Rattle.tree_model.specs.Tree.{quota_in}
 use Rattle.dir_tree.specs.Nodes.{as_term}
-use Rattle.flat_store.specs.Shown.{Held, Holds}
+use Rattle.flat_store.specs.Shown.{Held}
 use Rattle.flat_store.proofs.TreeReplies.{delete_refused, delete_told, from_false}
 use Rattle.flat_store.proofs.holdings.Holdings.delete_reply.Goals as goal
 use Rattle.std.proofs.lemmas.Bool.{ne_eqb}

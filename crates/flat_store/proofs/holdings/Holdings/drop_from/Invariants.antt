@@ -1,4 +1,4 @@
-use Rattle.std.proofs.Common.{◌≡◌, ◌≤◌}
+use Rattle.std.proofs.Common.{◌≤◌}
 use Rattle.script.specs.Plans.{Plan}
 use Rattle.flat_model.specs.Store.{Store}
 use Rattle.flat_store.specs.Shown.{Holds, without_pages}

@@ -1,6 +1,6 @@
-use Rattle.std.proofs.Common.{◌≡◌, ℕ, true, false, is_some, refl, sym, ap, subst, ◌∙◌, eqb}
-use Rattle.flat_store.specs.Shown.{Held, Holds, without_pages, page_at, pages_in}
-use Rattle.flat_store.proofs.DropLaws.{Drops, held_inside, stored_held, count_there, drop_done, drop_shown, missing, segment_there}
+use Rattle.std.proofs.Common.{is_some, refl, sym, ap, ◌∙◌, eqb}
+use Rattle.flat_store.specs.Shown.{Held, without_pages, page_at}
+use Rattle.flat_store.proofs.DropLaws.{held_inside, count_there, drop_done, drop_shown, missing, segment_there}
 use Rattle.flat_store.proofs.holdings.Holdings.drop_page.Goals as goal
 
 pub credit-requires-clause-segment : goal.credit-requires-clause-segment

@@ -1,6 +1,4 @@
-use Rattle.std.proofs.Common.{◌≡◌, ◌≢◌, ◌<◌, ◌≤◌, ℕ, true, false, is_some, sym, ap, ◌∙◌, arith}
-use Rattle.std.specs.Prelude.{nat_le}
-use Rattle.std.proofs.lemmas.Bool.Decides.{nat_tests}
+use Rattle.std.proofs.Common.{◌≡◌, is_some, sym, ap, ◌∙◌, arith}
 use Rattle.flat_store.specs.Shown.{Held, page_at, pages_in}
 use Rattle.flat_store.proofs.SizeLaws.{stored_here, none_past}
 use Rattle.flat_store.proofs.holdings.Holdings.is_stored_from.Goals as goal
@@ -13,5 +11,5 @@ returns-then-has c = λ p s h.
 pub returns : goal.returns
 returns c = λ p s h.
     let size : pages_in c.args.self.now.accounts.nodes c.args.uid ≡ c.pages_of-page-end.result
-        = ap (λ (x : Held). pages_in x.accounts.nodes c.args.uid) (sym c.self.view_is) ∙ sym c.pages_of-page-end.ensures in
+    = ap (λ (x : Held). pages_in x.accounts.nodes c.args.uid) (sym c.self.view_is) ∙ sym c.pages_of-page-end.ensures in
     none_past p s c.args.self.now c.args.uid c.args.from c.loop-page.page h (omega (arith, size, c.loop-page-test.false)) c.loop-page.invariant

@@ -1,11 +1,11 @@
-use Rattle.std.proofs.Common.{◌≡◌, ℕ, true, false, List, Ok, Err, refl, sym, ap, subst, ◌∙◌}
+use Rattle.std.proofs.Common.{◌≡◌, ℕ, true, false, List, refl, sym, ap, subst, ◌∙◌}
 use Rattle.tree_model.specs.Tree.{Node, quota_in}
 use Rattle.dir_tree.specs.Nodes.{as_term}
 use Rattle.flat_model.specs.Branches.{node_at}
 use Rattle.flat_model.specs.Commands.{takes_effect}
 use Rattle.flat_model.specs.Making.{made_in, make_in}
 use Rattle.flat_model.specs.Store.{Store}
-use Rattle.flat_store.specs.Shown.{Held, Holds}
+use Rattle.flat_store.specs.Shown.{Holds}
 use Rattle.flat_store.proofs.MakeLaws.{after_make_is, make_asked, make_refused, make_stays}
 use Rattle.flat_store.proofs.holdings.Holdings.make.Goals as goal
 
@@ -27,7 +27,7 @@ returns-then-is_directory c = λ p s h few effect.
     let done = c.add.ensures p s d h refl few (subst (λ (name : List ℕ). takes_effect (make_in p s c.args.volume c.args.dir name d) ≡ true) (sym c.copied.ensures) asked.1) in
     subst (λ (x : Store). Holds p c.add.new.self x)
     (ap (λ (name : List ℕ). made_in s c.args.volume c.args.dir c.args.pages c.args.acl name d) c.copied.ensures
-      ∙ sym (after_make_is p s c.args.path.now c.in-Some.above c.in-Some.name.now c.args.volume c.args.dir c.in-Some.ensures.parts c.args.pages c.args.acl d found)) done
+    ∙ sym (after_make_is p s c.args.path.now c.in-Some.above c.in-Some.name.now c.args.volume c.args.dir c.in-Some.ensures.parts c.args.pages c.args.acl d found)) done
 
 pub returns-else-is_directory : goal.returns-else-is_directory
 returns-else-is_directory c = λ p s h few effect.

@@ -1,7 +1,6 @@
-use Rattle.std.proofs.Common.{◌≡◌, ℕ, Bool, true, false, List, Ok, Err, refl, sym, ap, subst, ◌∙◌, eqb, arith}
-use Rattle.tree_model.specs.Tree.{Node, quota_in, used_by}
+use Rattle.std.proofs.Common.{refl}
+use Rattle.tree_model.specs.Tree.{quota_in}
 use Rattle.dir_tree.specs.Nodes.{as_term}
-use Rattle.flat_store.specs.Shown.{Held, Holds}
 use Rattle.flat_store.proofs.TreeReplies.{make_root, make_refused, make_in_segment, make_told}
 use Rattle.flat_store.proofs.holdings.Holdings.make_reply.Goals as goal
 

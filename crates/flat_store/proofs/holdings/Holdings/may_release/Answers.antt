@@ -1,5 +1,4 @@
-use Rattle.std.proofs.Common.{◌≡◌, sym, ap, subst, ◌∙◌}
-use Rattle.flat_store.specs.Shown.{Held, Holds}
+use Rattle.flat_store.specs.Shown.{Held}
 use Rattle.flat_store.proofs.DropLaws.{held_inside}
 use Rattle.flat_store.proofs.ReleaseLaws.{may_release, not_there}
 use Rattle.flat_store.proofs.holdings.Holdings.may_release.Goals as goal

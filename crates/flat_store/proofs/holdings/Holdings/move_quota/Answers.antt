@@ -1,9 +1,9 @@
-use Rattle.std.proofs.Common.{◌≡◌, ℕ, ℤ, pos, ◌<◌, true, List, Ok, Err, OnOk, is_ok, refl, sym, ap, subst, ◌∙◌, w32}
+use Rattle.std.proofs.Common.{◌≡◌, ℤ, pos, List, is_ok, refl, sym, ap, subst, ◌∙◌, w32}
 use Rattle.std.proofs.lemmas.Int.{to_z-of_z}
 use mir.Val.{to_z}
 use Rattle.std.specs.Int.{is_positive}
 use Rattle.std.specs.Int.RustNames.{unsigned_abs}
-use Rattle.accounts.specs.Maps.{AccountMaps, Changes, Counts}
+use Rattle.accounts.specs.Maps.{AccountMaps, Counts}
 use Rattle.quota_cells.specs.Scratch.{scratch_answer}
 use Rattle.book.specs.declared.replies.Reply.{Reply}
 use Rattle.tree_model.specs.Quotas.{tree_moved}
@@ -11,7 +11,6 @@ use Rattle.tree_model.specs.Tree.{Node, quota_in}
 use Rattle.dir_tree.specs.Nodes.{as_term}
 use Rattle.flat_model.specs.Branches.{directory_at}
 use Rattle.flat_model.specs.Commands.{takes_effect}
-use Rattle.flat_model.specs.Rights.{after_move, move_reply}
 use Rattle.flat_model.specs.Store.{Store}
 use Rattle.flat_store.specs.Shown.{Held, Holds}
 use Rattle.flat_store.proofs.DropLaws.{held_inside}
@@ -45,11 +44,11 @@ returns-then-amount-ne0 c = λ p s h effect.
     let same : c.self.inside.accounts ≡ c.args.self.now.accounts = ap (λ (x : Held). x.accounts) c.self.view_is in
     let counts = subst (λ (a : AccountMaps). Counts a s.stored) (sym same) h.counts in
     let answer = subst (λ (a : AccountMaps). c.move_quota-refused.result ≡ scratch_answer a.nodes s.stored c.in-Ok.node.now.uid (is_positive c.args.amount) (unsigned_abs c.args.amount)) same
-        ((rw back at c.move_quota-refused.ensures.answer) s.stored counts) in
+    ((rw back at c.move_quota-refused.ensures.answer) s.stored counts) in
     let told = move_answered s nodes c.args.path.now h.nodes c.args.amount n c.move_quota-refused.result (move_told c.move_quota-refused.result) c.in-Ok.ensures.ok answer refl in
     let ok = told_ok c.move_quota-refused.result (ap (λ (r : Reply). takes_effect r) told ∙ effect) in
     let done = (move_either p s before after c.in-Ok.node.now.uid c.args.amount c.move_quota-refused.result (held_inside p s before c.args.self.now c.self.view_is h)
-        (rw back at c.move_quota-refused.ensures.ok) c.move_quota-refused.ensures.err refl).0 ok in
+    (rw back at c.move_quota-refused.ensures.ok) c.move_quota-refused.ensures.err refl).0 ok in
     subst (λ (x : Store). Holds p after x) (sym (after_move_is s c.args.path.now c.args.amount n found)) done
 
 pub returns-else-amount-ne0 : goal.returns-else-amount-ne0
@@ -59,5 +58,5 @@ returns-else-amount-ne0 c = λ p s h effect.
     let none : c.args.amount ≡ pos 0 = sym (to_z-of_z w32 c.args.amount c.ranges.amount) ∙ ap (to_z w32) c.if-amount-ne0.false in
     subst (λ (x : Store). Holds p c.args.self.now x)
     (sym (after_move_is s c.args.path.now c.args.amount n found
-      ∙ ap (λ (a : ℤ). record s { nodes = tree_moved s.nodes n.uid (is_positive a) (unsigned_abs a) }) none
-      ∙ ap (λ (ns : List Node). record s { nodes = ns }) (nothing_moved s.nodes n.uid (is_positive (pos 0))))) h
+    ∙ ap (λ (a : ℤ). record s { nodes = tree_moved s.nodes n.uid (is_positive a) (unsigned_abs a) }) none
+    ∙ ap (λ (ns : List Node). record s { nodes = ns }) (nothing_moved s.nodes n.uid (is_positive (pos 0))))) h

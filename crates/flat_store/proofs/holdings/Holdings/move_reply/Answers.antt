@@ -1,9 +1,9 @@
-use Rattle.std.proofs.Common.{◌≡◌, ◌≤◌, ℕ, Bool, true, false, List, Ok, Err, refl, sym, ap, subst, ◌∙◌, eqb, arith, w32}
+use Rattle.std.proofs.Common.{◌≡◌, ◌≤◌, ℕ, List, Err, sym, ap, subst, ◌∙◌, w32}
 use Rattle.std.proofs.lemmas.Int.{to_z-of_z}
 use mir.Val.{to_z}
 use Rattle.tree_model.specs.Tree.{Node, quota_in, used_by}
 use Rattle.dir_tree.specs.Nodes.{as_term}
-use Rattle.flat_store.specs.Shown.{Held, Holds}
+use Rattle.flat_store.specs.Shown.{Held}
 use Rattle.std.specs.Int.{is_positive}
 use Rattle.std.specs.Int.RustNames.{unsigned_abs}
 use Rattle.quota_cells.specs.Scratch.{scratch_answer}
@@ -21,7 +21,7 @@ returns-in-Ok-may_move c = λ p s h.
     let same : c.self.inside.accounts ≡ c.args.self.now.accounts = ap (λ (x : Held). x.accounts) c.self.view_is in
     let counts = subst (λ (a : AccountMaps). Counts a s.stored) (sym same) h.counts in
     let answer = subst (λ (a : AccountMaps). c.may_move.result ≡ scratch_answer a.nodes s.stored c.in-Ok.node.now.uid (is_positive c.args.amount) (unsigned_abs c.args.amount)) same
-        (let back = to_z-of_z w32 c.args.amount c.ranges.amount in (rw back at c.may_move.ensures) s.stored counts) in
+    (let back = to_z-of_z w32 c.args.amount c.ranges.amount in (rw back at c.may_move.ensures) s.stored counts) in
     move_answered s c.args.self.now.accounts.nodes c.args.path.now h.nodes c.args.amount (as_term (quota_in c.args.self.now.accounts.nodes) c.in-Ok.node.now) c.may_move.result _
     c.in-Ok.ensures.ok answer (ap move_told (sym c.in-Ok-may_move.is))
 
@@ -30,7 +30,7 @@ returns-in-Err-TooLittle c = λ p s h.
     let same : c.self.inside.accounts ≡ c.args.self.now.accounts = ap (λ (x : Held). x.accounts) c.self.view_is in
     let counts = subst (λ (a : AccountMaps). Counts a s.stored) (sym same) h.counts in
     let answer = subst (λ (a : AccountMaps). c.may_move.result ≡ scratch_answer a.nodes s.stored c.in-Ok.node.now.uid (is_positive c.args.amount) (unsigned_abs c.args.amount)) same
-        (let back = to_z-of_z w32 c.args.amount c.ranges.amount in (rw back at c.may_move.ensures) s.stored counts) in
+    (let back = to_z-of_z w32 c.args.amount c.ranges.amount in (rw back at c.may_move.ensures) s.stored counts) in
     move_answered s c.args.self.now.accounts.nodes c.args.path.now h.nodes c.args.amount (as_term (quota_in c.args.self.now.accounts.nodes) c.in-Ok.node.now) c.may_move.result _
     c.in-Ok.ensures.ok answer (ap move_told (sym (c.in-Err-TooLittle.is ∙ ap (λ (e : MoveFault). Err e) c.in-Err-TooLittle.field-0-is)))
 
@@ -39,7 +39,7 @@ returns-in-Err-Over c = λ p s h.
     let same : c.self.inside.accounts ≡ c.args.self.now.accounts = ap (λ (x : Held). x.accounts) c.self.view_is in
     let counts = subst (λ (a : AccountMaps). Counts a s.stored) (sym same) h.counts in
     let answer = subst (λ (a : AccountMaps). c.may_move.result ≡ scratch_answer a.nodes s.stored c.in-Ok.node.now.uid (is_positive c.args.amount) (unsigned_abs c.args.amount)) same
-        (let back = to_z-of_z w32 c.args.amount c.ranges.amount in (rw back at c.may_move.ensures) s.stored counts) in
+    (let back = to_z-of_z w32 c.args.amount c.ranges.amount in (rw back at c.may_move.ensures) s.stored counts) in
     move_answered s c.args.self.now.accounts.nodes c.args.path.now h.nodes c.args.amount (as_term (quota_in c.args.self.now.accounts.nodes) c.in-Ok.node.now) c.may_move.result _
     c.in-Ok.ensures.ok answer (ap move_told (sym (c.in-Err-Over.is ∙ ap (λ (e : MoveFault). Err e) c.in-Err-Over.field-0-is)))
 

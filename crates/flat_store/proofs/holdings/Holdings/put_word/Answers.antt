@@ -1,4 +1,4 @@
-use Rattle.std.proofs.Common.{◌≡◌, ℕ, ◌/◌, true, is_some, refl, sym, ap, ◌∙◌}
+use Rattle.std.proofs.Common.{◌≡◌, ◌/◌, true, is_some, refl, ap, ◌∙◌}
 use Rattle.flat_model.specs.References.{written}
 use Rattle.flat_store.specs.Shown.{Held, page_at}
 use Rattle.flat_store.proofs.DropLaws.{held_inside}

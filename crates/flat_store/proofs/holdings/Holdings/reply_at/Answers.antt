@@ -1,22 +1,22 @@
 use Rattle.flat_store.proofs.ReplyLaws.{within, node_shown}
 use Rattle.flat_store.proofs.NodeLaws.{has_pages, uid_found}
 use Rattle.flat_store.proofs.holdings.Holdings.reply_at.Goals as goal
-use Rattle.std.proofs.Common.{ap, sym, subst, ◌∙◌, ◌≡◌, ◌<◌, ℕ, List, refl, arith, true}
+use Rattle.std.proofs.Common.{ap, sym, subst, ◌∙◌, List, refl, arith}
 use Rattle.mnames.specs.declared.modes.Mode.{Mode}
-use Rattle.tree_model.specs.Tree.{Node, quota_in, node_in}
+use Rattle.tree_model.specs.Tree.{Node, quota_in}
 use Rattle.tree_model.specs.Trees.{has_segment}
 use Rattle.tree_model.specs.Access.{access_of}
 use Rattle.mnames.specs.declared.principals.Who.{Who}
 use Rattle.flat_model.specs.References.{permits}
 use Rattle.dir_tree.specs.Nodes.{as_term}
-use Rattle.flat_store.specs.Shown.{Held, AreFlat, pages_in}
+use Rattle.flat_store.specs.Shown.{Held, AreFlat}
 
 pub page_reply-requires : goal.page_reply-requires
 page_reply-requires c =
     let h = c.self.invariant in
     ap (λ (x : Held). has_segment x.accounts.nodes c.args.uid) (sym c.self.view_is)
     ∙ has_pages c.self.inside.accounts.nodes c.args.uid (as_term (quota_in c.self.inside.accounts.nodes) c.in-Some.node.now) c.in-Some.node.now.dir c.in-Some.ensures.some
-      c.in-Some.ensures.directory c.in-Some.ensures.segment (subst (λ (ns : List Node). AreFlat ns) h.2.nodes h.2.flat) (omega (arith, c.if-offset-node.false))
+    c.in-Some.ensures.directory c.in-Some.ensures.segment (subst (λ (ns : List Node). AreFlat ns) h.2.nodes h.2.flat) (omega (arith, c.if-offset-node.false))
 
 pub returns : goal.returns
 returns c = λ p s k h who.
@@ -24,5 +24,5 @@ returns c = λ p s k h who.
     let found = node_shown s c.self.inside.accounts.nodes c.args.uid c.in-Some.node.now (h.nodes ∙ ap (λ (x : Held). x.accounts.nodes) (sym c.self.view_is)) c.in-Some.ensures.some in
     within p s k c.args.uid c.args.offset c.args.kind.now n c.page_reply.result found
     (ap (λ (w : Who). permits (access_of w c.in-Some.node.now.acl) c.args.kind.now) (sym who)
-      ∙ ap (λ (m : Mode). permits m c.args.kind.now) (sym c.access_of.ensures) ∙ sym c.permits.ensures ∙ c.if-not-permits.false)
+    ∙ ap (λ (m : Mode). permits m c.args.kind.now) (sym c.access_of.ensures) ∙ sym c.permits.ensures ∙ c.if-not-permits.false)
     c.if-offset-node.false (c.page_reply.ensures p s n h (uid_found s.nodes c.args.uid n found) refl)

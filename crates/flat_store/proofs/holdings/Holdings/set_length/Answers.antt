@@ -1,5 +1,4 @@
-use Rattle.std.proofs.Common.{◌≡◌, ℕ, true, false, List, Ok, Err, refl, sym, ap, subst, ◌∙◌}
-use Rattle.accounts.specs.Maps.{Changes}
+use Rattle.std.proofs.Common.{◌≡◌, true, false, List, refl, sym, ap, subst, ◌∙◌}
 use Rattle.tree_model.specs.Tree.{Node, quota_in}
 use Rattle.tree_model.specs.Trees.{has_segment}
 use Rattle.dir_tree.specs.Nodes.{as_term}
@@ -22,9 +21,11 @@ invariant_of-self c =
     let before : Held = record { accounts = c.self.inside.accounts; pages = c.self.inside.pages; records = c.self.inside.records.items; entries = c.self.inside.entries.items } in
     let after : Held = record before { accounts = c.set_length.new.self } in
     let segment = ap (λ (x : Held). has_segment x.accounts.nodes c.in-Ok.node.now.uid) c.self.view_is ∙ c.in-Ok.ensures.segment in
-    let none = sym (c.is_stored_from.ensures h.0 h.1 (subst (λ (x : Held). Holds h.0 x h.1) c.self.view_is h.2)) ∙ c.if-not-is_stored_from.true in
-    (h.0, record h.1 { nodes = with_length h.1.nodes c.in-Ok.node.now.uid c.args.pages },
-      length_shown h.0 h.1 before after c.in-Ok.node.now.uid c.args.pages h.2 c.set_length.ensures refl segment none)
+    let none = sym (c.is_stored_from.ensures h.0 h.1 (subst (λ (x : Held). Holds h.0 x h.1) c.self.view_is h.2)) ∙ c.if-not-is_stored_from.true in (
+      h.0,
+      record h.1 { nodes = with_length h.1.nodes c.in-Ok.node.now.uid c.args.pages },
+      length_shown h.0 h.1 before after c.in-Ok.node.now.uid c.args.pages h.2 c.set_length.ensures refl segment none,
+    )
 
 pub returns-then-not-is_stored_from : goal.returns-then-not-is_stored_from
 returns-then-not-is_stored_from c = λ p s h effect.

@@ -1,7 +1,7 @@
-use Rattle.std.proofs.Common.{◌≡◌, ℕ, Bool, true, false, List, Ok, Err, refl, sym, ap, subst, ◌∙◌, eqb, arith}
+use Rattle.std.proofs.Common.{◌≡◌, List, sym, ap, subst, ◌∙◌}
 use Rattle.tree_model.specs.Tree.{Node, quota_in, used_by}
 use Rattle.dir_tree.specs.Nodes.{as_term}
-use Rattle.flat_store.specs.Shown.{Held, Holds}
+use Rattle.flat_store.specs.Shown.{Held}
 use Rattle.accounts.specs.Maps.{AccountMaps, Counts}
 use Rattle.flat_store.proofs.TreeReplies.{status_refused, status_directory, status_segment}
 use Rattle.flat_store.proofs.holdings.Holdings.status_reply.Goals as goal

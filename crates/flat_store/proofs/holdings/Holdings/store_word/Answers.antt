@@ -1,7 +1,7 @@
-use Rattle.std.proofs.Common.{◌≡◌, ◌<◌, ℕ, ◌/◌, true, false, is_some, refl, sym, ap, subst, ◌∙◌}
+use Rattle.std.proofs.Common.{◌<◌, ◌/◌, is_some, refl, sym, ap, subst, ◌∙◌}
 use Rattle.tree_model.specs.Trees.{has_segment}
 use Rattle.flat_model.specs.References.{written}
-use Rattle.flat_store.specs.Shown.{Held, Holds, page_at, pages_in, has_room}
+use Rattle.flat_store.specs.Shown.{Held, Holds, page_at, pages_in}
 use Rattle.flat_store.proofs.DropLaws.{held_inside}
 use Rattle.flat_store.proofs.PutLaws.{store_done, store_shown, never_full}
 use Rattle.flat_store.proofs.holdings.Holdings.store_word.Goals as goal
@@ -22,9 +22,11 @@ invariant_of-self-in-Ok c =
     let segment = ap (λ (x : Held). has_segment x.accounts.nodes c.args.uid) c.self.view_is ∙ c.requires.segment in
     let absent = ap (λ (x : Held). is_some (page_at x.pages c.args.uid (c.args.offset / 1024))) c.self.view_is ∙ c.requires.absent in
     let short = subst (λ (x : Held). c.args.offset / 1024 < pages_in x.accounts.nodes c.args.uid) (sym c.self.view_is) c.requires.within in
-    let stores = store_done before after c.args.uid c.args.offset c.args.word c.volume_of-volume.result c.in-Ok.ensures.ok c.in_ok-put.ensures.ok c.volume_of-volume.ensures c.fill_at.ensures refl in
-    (h.0, written h.1 c.args.uid c.args.offset c.args.word,
-      store_shown h.0 h.1 before after c.args.uid c.args.offset c.args.word h.2 segment short absent c.requires.other room stores)
+    let stores = store_done before after c.args.uid c.args.offset c.args.word c.volume_of-volume.result c.in-Ok.ensures.ok c.in_ok-put.ensures.ok c.volume_of-volume.ensures c.fill_at.ensures refl in (
+      h.0,
+      written h.1 c.args.uid c.args.offset c.args.word,
+      store_shown h.0 h.1 before after c.args.uid c.args.offset c.args.word h.2 segment short absent c.requires.other room stores,
+    )
 
 pub returns-clause-ok : goal.returns-clause-ok
 returns-clause-ok c = λ p s h room.

@@ -1,4 +1,4 @@
-use Rattle.std.proofs.Common.{◌≡◌, ℕ, ◌+◌, ◌/◌, List, refl, sym, ap, subst, ◌∙◌}
+use Rattle.std.proofs.Common.{ℕ, ◌+◌, ◌/◌, List, sym, ap, subst, ◌∙◌}
 use Rattle.std.specs.Prelude.{nat_le}
 use Rattle.tree_model.specs.Tree.{Node, quota_in}
 use Rattle.dir_tree.specs.Nodes.{as_term}
@@ -20,4 +20,4 @@ returns c = λ p s h.
     let done = c.cut_page.ensures p (without_pages s uid (λ q. nat_le (c.args.words / 1024 + 1) q)) (c.drop_from.ensures p s h) in
     subst (λ (x : Store). Holds p c.cut_page.new.self x)
     (whole_cut c.args.self.now.pages s uid c.args.words h.pages
-      ∙ sym (truncate_done s c.args.path.now c.args.words n (ap (λ (ns : List Node). segment_at ns c.args.path.now) h.nodes ∙ c.in-Ok.ensures.ok))) done
+    ∙ sym (truncate_done s c.args.path.now c.args.words n (ap (λ (ns : List Node). segment_at ns c.args.path.now) h.nodes ∙ c.in-Ok.ensures.ok))) done

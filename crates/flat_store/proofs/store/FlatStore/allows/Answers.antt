@@ -1,4 +1,4 @@
-use Rattle.std.proofs.Common.{◌≡◌, true, IsTrue, ◌↔◌, refl, sym, subst}
+use Rattle.std.proofs.Common.{IsTrue, ◌↔◌, refl, sym, subst}
 use Rattle.book.specs.declared.entries.Entry.{Entry}
 use Rattle.flat_model.specs.Legal.{IsLawful}
 use Rattle.flat_store.specs.Shown.{Kept, Shows}

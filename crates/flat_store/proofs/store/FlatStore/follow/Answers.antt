@@ -1,4 +1,4 @@
-use Rattle.std.proofs.Common.{◌≡◌, ℕ, Some, refl, sym, subst, ◌∙◌}
+use Rattle.std.proofs.Common.{◌≡◌, ℕ, Some, sym, subst}
 use Rattle.script.specs.Plans.{command_at}
 use Rattle.book.specs.declared.entries.Entry.{Entry}
 use Rattle.flat_model.specs.Commands.{after_command}
@@ -14,14 +14,14 @@ returns-in-Some-clause-ok c =
     let p = c.args.script.now in
     on_ok c.follow_do.result
     ((s : Store) (place : ℕ) → Shows p c.args.self.now s → command_at p c.in-Do.process place ≡ Some c.in-Some.command.now → IsLawfulDo p s c.in-Do.process place c.in-Do.reply
-      → Shows p c.follow_do.new.self (after_command p s c.in-Do.process c.in-Some.command.now c.in-Do.reply))
+    → Shows p c.follow_do.new.self (after_command p s c.in-Do.process c.in-Some.command.now c.in-Do.reply))
     ((s : Store) → Shows p c.args.self.now s → IsLawful p s c.args.e → Shows p c.follow_do.new.self (after_entry p s c.args.e))
     (λ f s h lawful.
-      let own = do_lawful p s c.in-Do.process c.in-Do.place c.in-Do.cpu c.in-Do.frame c.in-Do.reply (subst (λ (e : Entry). IsLawful p s e) c.in-Do.is lawful) in
-      subst (λ (e : Entry). Shows p c.follow_do.new.self (after_entry p s e)) (sym c.in-Do.is)
-      (subst (λ (t : Store). Shows p c.follow_do.new.self t)
-        (after_do_is p s c.in-Do.process c.in-Do.place c.in-Do.cpu c.in-Do.frame c.in-Do.reply c.in-Some.command.now c.in-Some.ensures.some)
-        (f s c.in-Do.place h c.in-Some.ensures.some own)))
+    let own = do_lawful p s c.in-Do.process c.in-Do.place c.in-Do.cpu c.in-Do.frame c.in-Do.reply (subst (λ (e : Entry). IsLawful p s e) c.in-Do.is lawful) in
+    subst (λ (e : Entry). Shows p c.follow_do.new.self (after_entry p s e)) (sym c.in-Do.is)
+    (subst (λ (t : Store). Shows p c.follow_do.new.self t)
+    (after_do_is p s c.in-Do.process c.in-Do.place c.in-Do.cpu c.in-Do.frame c.in-Do.reply c.in-Some.command.now c.in-Some.ensures.some)
+    (f s c.in-Do.place h c.in-Some.ensures.some own)))
     c.follow_do.ensures.ok
 
 pub returns-in-None-clause-ok : goal.returns-in-None-clause-ok
@@ -35,14 +35,14 @@ returns-in-Release-clause-ok c = λ s h lawful.
     let p = c.args.script.now in
     subst (λ (e : Entry). Shows p c.follow_release.new.self (after_entry p s e)) (sym c.in-Release.is)
     (subst (λ (t : Store). Shows p c.follow_release.new.self t) (after_release_is p s c.in-Release.uid c.in-Release.page)
-      (c.follow_release.ensures p s h (release_lawful p s c.in-Release.uid c.in-Release.page (subst (λ (e : Entry). IsLawful p s e) c.in-Release.is lawful))))
+    (c.follow_release.ensures p s h (release_lawful p s c.in-Release.uid c.in-Release.page (subst (λ (e : Entry). IsLawful p s e) c.in-Release.is lawful))))
 
 pub returns-in-Fault-clause-ok : goal.returns-in-Fault-clause-ok
 returns-in-Fault-clause-ok c = λ s h lawful.
     let p = c.args.script.now in
     subst (λ (e : Entry). Shows p c.follow_fault.new.self (after_entry p s e)) (sym c.in-Fault.is)
     (subst (λ (t : Store). Shows p c.follow_fault.new.self t) (after_fault_is p s c.in-Fault.process)
-      (c.follow_fault.ensures p s h (fault_lawful p s c.in-Fault.process (subst (λ (e : Entry). IsLawful p s e) c.in-Fault.is lawful))))
+    (c.follow_fault.ensures p s h (fault_lawful p s c.in-Fault.process (subst (λ (e : Entry). IsLawful p s e) c.in-Fault.is lawful))))
 
 pub returns-in_default : goal.returns-in_default
 returns-in_default c = record {

@@ -1,4 +1,4 @@
-use Rattle.std.proofs.Common.{◌≡◌, refl, subst, sym}
+use Rattle.std.proofs.Common.{refl, subst, sym}
 use Rattle.flat_store.specs.Shown.{IsShown, Kept, answered}
 use Rattle.flat_store.proofs.FollowLaws.{effect_due, go_shown}
 use Rattle.flat_store.proofs.ReachLaws.{few_uids}

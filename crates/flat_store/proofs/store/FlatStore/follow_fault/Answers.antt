@@ -1,4 +1,4 @@
-use Rattle.std.proofs.Common.{◌≡◌, ℕ, Option, Some, refl, subst, sym}
+use Rattle.std.proofs.Common.{ℕ, Option, refl, subst, sym}
 use Rattle.flat_model.specs.Legal.{MayFault, after_fault}
 use Rattle.flat_store.specs.Shown.{Kept, Shows}
 use Rattle.flat_store.proofs.FollowLaws.{fault_shown}

@@ -1,9 +1,9 @@
-use Rattle.std.proofs.Common.{◌≡◌, ◌<◌, ℕ, true, List, Option, Some, None, Ok, Err, is_some, length, refl, sym, ap, subst, ◌∙◌, arith}
+use Rattle.std.proofs.Common.{ℕ, List, Option, refl, sym, ap, subst, ◌∙◌}
 use Rattle.tree_model.specs.Tree.{Node, quota_in}
 use Rattle.dir_tree.specs.Nodes.{as_term}
 use Rattle.flat_model.specs.Branches.{segment_at}
 use Rattle.flat_model.specs.Store.{Store, numbers_of}
-use Rattle.known_segs.specs.Known.{number_for, uid_of, with_number, without_number}
+use Rattle.known_segs.specs.Known.{number_for, with_number}
 use Rattle.flat_store.specs.Shown.{Kept, IsShown, numbers_at}
 use Rattle.flat_store.proofs.StoreLaws.{after_initiate_is, initiate_stays, numbers_are, numbers_shown}
 use Rattle.flat_store.proofs.store.FlatStore.initiate.Goals as goal

@@ -1,10 +1,8 @@
-use Rattle.std.proofs.Common.{◌≡◌, ◌<◌, ℕ, ℤ, true, List, Ok, Err, rules, refl, sym, ap, subst, ◌∙◌, arith, w32}
+use Rattle.std.proofs.Common.{◌≡◌, ℤ, true, rules, refl, sym, subst, w32}
 use Rattle.std.proofs.lemmas.Int.{to_z-of_z}
 use mir.Val.{SFits}
-use Rattle.script.specs.declared.commands.Command.{Command}
-use Rattle.flat_model.specs.Commands.{effect_of_tree_command, reply_to_tree_command, takes_effect}
+use Rattle.flat_model.specs.Commands.{takes_effect}
 use Rattle.flat_model.specs.Rights.{after_move, move_reply}
-use Rattle.flat_model.specs.Store.{Store}
 use Rattle.flat_store.specs.Shown.{Holds, Kept, IsShown}
 use Rattle.flat_store.proofs.StoreLaws.{effect_shown}
 use Rattle.flat_store.proofs.OtherLaws.{move_keeps}
@@ -18,5 +16,5 @@ returns c = λ p s h effect.
     let fits : SFits w32 c.args.amount.now = search rules in
     let back = to_z-of_z w32 c.args.amount.now fits in
     let done = subst (λ (a : ℤ). Holds p c.move_quota.new.self (after_move s c.args.path.now a)) back
-        (c.move_quota.ensures p s shown.holds (subst (λ (a : ℤ). takes_effect (move_reply s c.args.path.now a) ≡ true) (sym back) effect)) in
+    (c.move_quota.ensures p s shown.holds (subst (λ (a : ℤ). takes_effect (move_reply s c.args.path.now a) ≡ true) (sym back) effect)) in
     effect_shown p inside after s (after_move s c.args.path.now c.args.amount.now) shown done (move_keeps s c.args.path.now c.args.amount.now) refl

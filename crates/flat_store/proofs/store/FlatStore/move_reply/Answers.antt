@@ -1,4 +1,4 @@
-use Rattle.std.proofs.Common.{◌≡◌, ℤ, rules, refl, sym, ap, subst, ◌∙◌, w32}
+use Rattle.std.proofs.Common.{ℤ, rules, sym, ap, subst, ◌∙◌, w32}
 use Rattle.std.proofs.lemmas.Int.{to_z-of_z}
 use mir.Val.{SFits}
 use Rattle.flat_model.specs.Rights.{move_reply}

@@ -1,9 +1,6 @@
-use Rattle.std.proofs.Common.{◌≡◌, ◌<◌, ℕ, true, List, Option, Some, None, Ok, Err, is_some, length, refl, sym, ap, subst, ◌∙◌, arith}
-use Rattle.tree_model.specs.Tree.{Node, quota_in}
-use Rattle.dir_tree.specs.Nodes.{as_term}
-use Rattle.flat_model.specs.Branches.{segment_at}
-use Rattle.flat_model.specs.Store.{Store, numbers_of}
-use Rattle.known_segs.specs.Known.{number_for, uid_of, with_number, without_number}
+use Rattle.std.proofs.Common.{ℕ, List, Option, Some, None, refl, sym, ap, subst, ◌∙◌}
+use Rattle.flat_model.specs.Store.{Store}
+use Rattle.known_segs.specs.Known.{uid_of}
 use Rattle.flat_store.specs.Shown.{Kept, IsShown, numbers_at}
 use Rattle.flat_model.specs.References.{written_by}
 use Rattle.flat_store.proofs.OtherLaws.{written_keeps}
@@ -20,7 +17,7 @@ returns-in_ok-refer-clause-ok c = λ p s h effect.
     let done = c.in_ok-refer.ensures.ok p s c.args.process shown.holds (reference_asked p s c.args.process c.args.reference.now c.in-Some.uid is effect) in
     subst (λ (x : Store). IsShown p after x) (after_reference_is s c.args.process c.args.reference.now (Some c.in-Some.uid) is)
     (effect_shown p inside after s (written_by s c.args.reference.now.offset c.args.reference.now.kind (Some c.in-Some.uid)) shown done
-      (written_keeps s c.args.reference.now.offset c.args.reference.now.kind (Some c.in-Some.uid)) refl)
+    (written_keeps s c.args.reference.now.offset c.args.reference.now.kind (Some c.in-Some.uid)) refl)
 
 pub returns-in_default-clause-ok : goal.returns-in_default-clause-ok
 returns-in_default-clause-ok c = λ p s h effect.

@@ -1,8 +1,5 @@
-use Rattle.std.proofs.Common.{◌≡◌, ◌<◌, ℕ, true, List, Option, Some, None, Ok, Err, length, refl, sym, ap, subst, ◌∙◌, arith}
-use Rattle.tree_model.specs.Tree.{Node, quota_in}
-use Rattle.dir_tree.specs.Nodes.{as_term}
-use Rattle.flat_model.specs.Store.{Store}
-use Rattle.flat_store.specs.Shown.{Kept, IsShown, numbers_at}
+use Rattle.std.proofs.Common.{sym, ap, subst, ◌∙◌}
+use Rattle.flat_store.specs.Shown.{Kept, IsShown}
 use Rattle.script.specs.declared.commands.Command.{Command}
 use Rattle.flat_model.specs.Commands.{reply_to_tree_command}
 use Rattle.flat_store.proofs.store.FlatStore.reply_to_tree_command.Goals as goal

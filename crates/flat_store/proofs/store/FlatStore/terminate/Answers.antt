@@ -1,9 +1,6 @@
-use Rattle.std.proofs.Common.{◌≡◌, ◌<◌, ℕ, true, List, Option, Some, None, Ok, Err, is_some, length, refl, sym, ap, subst, ◌∙◌, arith}
-use Rattle.tree_model.specs.Tree.{Node, quota_in}
-use Rattle.dir_tree.specs.Nodes.{as_term}
-use Rattle.flat_model.specs.Branches.{segment_at}
+use Rattle.std.proofs.Common.{ℕ, List, Option, is_some, refl, sym, ap, subst, ◌∙◌}
 use Rattle.flat_model.specs.Store.{Store, numbers_of}
-use Rattle.known_segs.specs.Known.{number_for, uid_of, with_number, without_number}
+use Rattle.known_segs.specs.Known.{uid_of, without_number}
 use Rattle.flat_store.specs.Shown.{Kept, IsShown, numbers_at}
 use Rattle.flat_store.proofs.StoreLaws.{after_terminate_is, numbers_are, numbers_shown, terminate_asked}
 use Rattle.flat_store.proofs.store.FlatStore.terminate.Goals as goal
@@ -17,4 +14,4 @@ returns c = λ p s h effect.
     let numbers = ap (λ (kst : List (Option ℕ)). without_number kst c.args.number) (sym (numbers_are p inside s shown c.args.process)) in
     subst (λ (x : Store). IsShown p after x) (after_terminate_is s c.args.process c.args.number)
     (numbers_shown p inside after s c.args.process (without_number (numbers_of s c.args.process) c.args.number) (without_number (numbers_at c.self.inside.known.items c.args.process) c.args.number)
-      shown refl (c.forget.ensures there) numbers)
+    shown refl (c.forget.ensures there) numbers)

@@ -1,7 +1,4 @@
-use Rattle.std.proofs.Common.{◌≡◌, ◌<◌, ℕ, true, List, Option, Some, None, Ok, Err, length, refl, sym, ap, subst, ◌∙◌, arith}
-use Rattle.tree_model.specs.Tree.{Node, quota_in}
-use Rattle.dir_tree.specs.Nodes.{as_term}
-use Rattle.flat_model.specs.Store.{Store}
+use Rattle.std.proofs.Common.{ℕ, List, Option, Some, None, sym, ap, subst, ◌∙◌}
 use Rattle.flat_store.specs.Shown.{Kept, IsShown, numbers_at}
 use Rattle.known_segs.specs.Known.{uid_of}
 use Rattle.flat_store.proofs.StoreLaws.{terminate_told}

@@ -1,4 +1,4 @@
-use Rattle.std.proofs.Common.{◌≡◌, ◌<◌, ◌∷◌, [], ℕ, true, false, List, refl, sym, ap, subst, ◌∙◌}
+use Rattle.std.proofs.Common.{◌≡◌, ◌∷◌, [], true, false, List, refl, sym, ap, subst, ◌∙◌}
 use Rattle.mnames.specs.declared.principals.Who.{Who}
 use Rattle.script.specs.Plans.{Plan, who_of}
 use Rattle.script.specs.declared.commands.Command.{Command}
@@ -7,7 +7,6 @@ use Rattle.flat_model.specs.Commands.{effect_of_tree_command, reply_to_tree_comm
 use Rattle.flat_model.specs.Making.{after_make, after_delete, owner_row}
 use Rattle.flat_model.specs.Rights.{after_acl}
 use Rattle.flat_model.specs.Sizes.{after_length, after_truncate}
-use Rattle.flat_model.specs.Store.{Store}
 use Rattle.flat_store.specs.Shown.{Holds, Kept, IsShown}
 use Rattle.flat_store.proofs.OtherLaws.{make_keeps, acl_keeps, length_keeps, truncate_keeps, delete_keeps}
 use Rattle.flat_store.proofs.StoreLaws.{effect_shown}
@@ -33,7 +32,7 @@ returns-in-MkSeg c = λ s h few effect.
     let asked = subst (λ (x : Command). takes_effect (reply_to_tree_command p s c.args.process x) ≡ true) c.in-MkSeg.is effect in
     let rows = c.of-acl.ensures ∙ ap (λ (w : Who). owner_row w ∷ []) (c.copied.ensures ∙ c.who.ensures) in
     let done = subst (λ (rows : List Row). Holds p c.make-in-MkSeg.new.self (after_make s c.in-MkSeg.path c.in-MkSeg.volume false c.in-MkSeg.pages rows)) rows
-        (c.make-in-MkSeg.ensures p s shown.holds few asked) in
+    (c.make-in-MkSeg.ensures p s shown.holds few asked) in
     subst (λ (x : Command). IsShown p after (effect_of_tree_command p s c.args.process x)) (sym c.in-MkSeg.is)
     (effect_shown p inside after s (after_make s c.in-MkSeg.path c.in-MkSeg.volume false c.in-MkSeg.pages (owner_row (who_of p c.args.process) ∷ [])) shown done (make_keeps s c.in-MkSeg.path c.in-MkSeg.volume false c.in-MkSeg.pages (owner_row (who_of p c.args.process) ∷ [])) refl)
 
