@@ -61,13 +61,15 @@ holds_first p plan =
       inside = λ u q on. absurd cc;
       flat = λ u is. no_pages p u;
       records = λ v. records_here p.volumes v ∙ ap (λ (n : ℕ). gauge n (records_of p v)) (sym (nothing_taken p v));
-      entries = λ v. counts_more (map entries_gauge p.volumes) (λ x. 0) (λ x. entries_on (root_of p ∷ []) x) (entries_of p) 0 (entries_here p.volumes) room (root_entry p) v;
+      entries = λ v. counts_more (map entries_gauge p.volumes) (λ x. 0) (λ x. entries_on (root_of p ∷ []) x) (entries_of p) 0 (entries_here p.volumes)
+          room (root_entry p) v;
     }
 
 pub held_boot : (p : Plan) (h : Held) → IsPlan p → h ≡ held_first p → Holds p h (boot p)
 held_boot p h plan same = subst (λ (x : Held). Holds p x (boot p)) (sym same) (holds_first p plan)
 
-pub shown_boot : (p : Plan) (k : Kept) → IsPlan p → Holds p k.held (boot p) → k.known ≡ replicate (length p.processes) (replicate 256 None) → k.processes ≡ replicate (length p.processes) at_first
+pub shown_boot : (p : Plan) (k : Kept) → IsPlan p → Holds p k.held (boot p) → k.known ≡ replicate (length p.processes) (replicate 256 None)
+    → k.processes ≡ replicate (length p.processes) at_first
     → Shows p k (boot p)
 unfolding boot
 shown_boot p k plan holds known processes = record {
@@ -82,11 +84,13 @@ shown_boot p k plan holds known processes = record {
 }
 
 -- what is built, part by part
-pub built : (p : Plan) (h : Held) (quota : ℕ) (one other : List VolumeLine) (entries : List Gauge) → h.accounts ≡ root_alone 0 0 quota → quota ≡ p.quota → h.pages ≡ [] → h.records ≡ map records_gauge one → one ≡ p.volumes
+pub built : (p : Plan) (h : Held) (quota : ℕ) (one other : List VolumeLine) (entries : List Gauge) → h.accounts ≡ root_alone 0 0 quota → quota ≡ p.quota
+    → h.pages ≡ [] → h.records ≡ map records_gauge one → one ≡ p.volumes
     → entries ≡ map entries_gauge other → other ≡ p.volumes → h.entries ≡ set entries 0 (filled (gauge_at entries 0)) → h ≡ held_first p
 built p h quota one other gauges accounts is pages records first entries second filled_are =
     let a : h.accounts ≡ root_alone 0 0 p.quota = accounts ∙ ap (root_alone 0 0) is in
     let r : h.records ≡ map records_gauge p.volumes = records ∙ ap (λ (vs : List VolumeLine). map records_gauge vs) first in
     let g : gauges ≡ map entries_gauge p.volumes = entries ∙ ap (λ (vs : List VolumeLine). map entries_gauge vs) second in
-    let e : h.entries ≡ set (map entries_gauge p.volumes) 0 (filled (gauge_at (map entries_gauge p.volumes) 0)) = filled_are ∙ ap (λ (x : List Gauge). set x 0 (filled (gauge_at x 0))) g in
+    let e : h.entries ≡ set (map entries_gauge p.volumes) 0 (filled (gauge_at (map entries_gauge p.volumes) 0)) = filled_are
+    ∙ ap (λ (x : List Gauge). set x 0 (filled (gauge_at x 0))) g in
     λ i. record { accounts = a i; pages = pages i; records = r i; entries = e i }

@@ -74,7 +74,8 @@ unfolding taken_on
 taken_same ns ms xs v same = ap (λ (f : ℕ × ℕ → Bool). count_by f xs) (λ i. λ x. eqb (same x.0 i) v)
 
 -- the holdings once the nodes are changed
-pub changed_shown : (p : Plan) (s : Store) (h k : Held) (ms : List Node) → Holds p h s → Changes h.accounts k.accounts ms → k ≡ record h { accounts = k.accounts } → AreAlike s.nodes ms
+pub changed_shown : (p : Plan) (s : Store) (h k : Held) (ms : List Node) → Holds p h s → Changes h.accounts k.accounts ms
+    → k ≡ record h { accounts = k.accounts } → AreAlike s.nodes ms
     → AreInside ms s.stored → AreFlat ms → Holds p k (record s { nodes = ms })
 changed_shown p s h k ms holds changes same alike inside flat = subst (λ (x : Held). Holds p x (record s { nodes = ms })) (sym same) (record {
   nodes = sym changes.nodes;
@@ -131,12 +132,14 @@ keeps_both f g a b = record {
 pub moved_alike : (ns : List Node) (giver getter pages : ℕ) → AreAlike ns (with_moved ns giver getter pages)
 moved_alike ns giver getter pages =
     alike_map (λ n. with_quota_of giver (λ q. q - pages) (with_quota_of getter (λ q. q + pages) n))
-    (keeps_both (with_quota_of giver (λ q. q - pages)) (with_quota_of getter (λ q. q + pages)) (keeps_quota giver (λ q. q - pages)) (keeps_quota getter (λ q. q + pages))) ns
+    (keeps_both (with_quota_of giver (λ q. q - pages)) (with_quota_of getter (λ q. q + pages)) (keeps_quota giver (λ q. q - pages))
+    (keeps_quota getter (λ q. q + pages))) ns
 
 pub moved_pages : (ns : List Node) (giver getter pages u : ℕ) → pages_in (with_moved ns giver getter pages) u ≡ pages_in ns u
 moved_pages ns giver getter pages u =
     pages_map (λ n. with_quota_of giver (λ q. q - pages) (with_quota_of getter (λ q. q + pages) n))
-    (keeps_both (with_quota_of giver (λ q. q - pages)) (with_quota_of getter (λ q. q + pages)) (keeps_quota giver (λ q. q - pages)) (keeps_quota getter (λ q. q + pages)))
+    (keeps_both (with_quota_of giver (λ q. q - pages)) (with_quota_of getter (λ q. q + pages)) (keeps_quota giver (λ q. q - pages))
+    (keeps_quota getter (λ q. q + pages)))
     (λ n. pages_quota giver (λ q. q - pages) (with_quota_of getter (λ q. q + pages) n) ∙ pages_quota getter (λ q. q + pages) n) ns u
 
 -- ---- lengths
@@ -175,9 +178,11 @@ no_directory (n ∷ ns) u is = elim (cases_Bool (eqb n.uid u)) [
     back true e = cc
     back false e = refl
 
-pub length_inside : (ns : List Node) (xs : List (ℕ × ℕ)) (u pages : ℕ) → has_segment ns u ≡ true → is_stored_from xs u pages ≡ false → AreInside ns xs → AreInside (with_length ns u pages) xs
+pub length_inside : (ns : List Node) (xs : List (ℕ × ℕ)) (u pages : ℕ) → has_segment ns u ≡ true → is_stored_from xs u pages ≡ false → AreInside ns xs
+    → AreInside (with_length ns u pages) xs
 length_inside ns xs u pages is none inside v q on =
-    let alike = alike_map (λ n. cond (eqb n.uid u) (record n { pages = pages }) n) (keeps_one u (λ n. record n { pages = pages }) (keeps_length pages)) ns in (
+    let alike = alike_map (λ n. cond (eqb n.uid u) (record n { pages = pages }) n) (keeps_one u (λ n. record n { pages = pages }) (keeps_length pages))
+    ns in (
       alike.segment v ∙ (inside v q on).0,
       elim (cases_eq v u) [
         | inl same ↦

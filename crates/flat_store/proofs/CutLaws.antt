@@ -38,7 +38,8 @@ get_cut at i ws size le = by_place (nat_le at i) refl
         get_or_append_left (take at ws) (replicate (1024 - at) 0) 0 i (omega (arith, short, lt)) ∙ get_or-take at ws i 0 lt
 
 cut_size : (at : ℕ) (ws : List ℕ) → length ws ≡ 1024 → at ≤ 1024 → length (cut_at at ws) ≡ 1024
-cut_size at ws size le = length-append (take at ws) (replicate (1024 - at) 0) ∙ omega (arith, length-take at ws, length-replicate {A = ℕ} (1024 - at) 0, size, le)
+cut_size at ws size le = length-append (take at ws) (replicate (1024 - at) 0)
+    ∙ omega (arith, length-take at ws, length-replicate {A = ℕ} (1024 - at) 0, size, le)
 
 -- ---- one page is cleared from a place on
 
@@ -48,7 +49,8 @@ flip_page u q v r = both (eqb u v) (eqb v u) (eqb q r) (eqb r q) (grind (arith, 
     both : (a b c d : Bool) → a ≡ b → c ≡ d → (a && c) ≡ (b && d)
     both a b c d e f = rw (e, f) refl
 
-module _ (old new : Paged) (s : Store) (u q at : ℕ) (ws : List ℕ) (h : HoldPages old s.words s.stored) (found : page_at old u q ≡ Some ws) (le : at ≤ 1024) (cut : Cuts old new u q at ws) where
+module _ (old new : Paged) (s : Store) (u q at : ℕ) (ws : List ℕ) (h : HoldPages old s.words s.stored) (found : page_at old u q ≡ Some ws)
+    (le : at ≤ 1024) (cut : Cuts old new u q at ws) where
   after : (v r : ℕ) → page_at new v r ≡ cond (eqb v u && eqb r q) (Some (cut_at at ws)) (page_at old v r)
   after v r = cut.at v r ∙ ap (λ (z : Bool). cond z (Some (cut_at at ws)) (page_at old v r)) (flip_page u q v r)
 
@@ -77,7 +79,8 @@ module _ (old new : Paged) (s : Store) (u q at : ℕ) (ws : List ℕ) (h : HoldP
       value : (v o : ℕ) (a b : Bool) → eqb v u ≡ a → eqb (o / 1024) q ≡ b
           → cond (a && (b && nat_le at (o % 1024))) 0 (s.words v o) ≡ word_in (cond (a && b) (Some (cut_at at ws)) (page_at old v (o / 1024))) (o % 1024)
       value v o true true e f =
-          ap (cond (nat_le at (o % 1024)) 0) (h.values v o ∙ ap (λ (x : Option (List ℕ)). word_in x (o % 1024)) (here v (o / 1024) e f)) ∙ sym (get_cut at (o % 1024) ws size le)
+          ap (cond (nat_le at (o % 1024)) 0) (h.values v o ∙ ap (λ (x : Option (List ℕ)). word_in x (o % 1024)) (here v (o / 1024) e f))
+          ∙ sym (get_cut at (o % 1024) ws size le)
       value v o true false e f = h.values v o
       value v o false b e f = h.values v o
 
@@ -95,7 +98,8 @@ within (w ∷ ws) zero d lt = refl
 within (w ∷ ws) (suc k) d lt = within ws k d (omega arith)
 
 -- a page is all zeros exactly where its words are
-pub zero_told : (pages : Paged) (words : Words) (xs : List (ℕ × ℕ)) (u q : ℕ) (ws : List ℕ) (r : Bool) → HoldPages pages words xs → page_at pages u q ≡ Some ws → (IsTrue r ↔ AreZero ws)
+pub zero_told : (pages : Paged) (words : Words) (xs : List (ℕ × ℕ)) (u q : ℕ) (ws : List ℕ) (r : Bool) → HoldPages pages words xs
+    → page_at pages u q ≡ Some ws → (IsTrue r ↔ AreZero ws)
     → r ≡ is_zero_page words u q
 zero_told pages words xs u q ws r h found told = agree r (is_zero_page words u q) forth back
   where
@@ -143,7 +147,8 @@ cleared_absent pages s u q at h none = ap (λ (w : Words). record s { words = w 
 
 -- the holdings once a page is cleared, and what is told of it
 pub clear_shown : (p : Plan) (s : Store) (h k : Held) (u q at : ℕ) → Holds p h s → k ≡ record h { pages = k.pages } → at ≤ 1024
-    → ((ws : List ℕ) → page_at h.pages u q ≡ Some ws → Cuts h.pages k.pages u q at ws) → (page_at h.pages u q ≡ None → k.pages ≡ h.pages) → Holds p k (cleared s u q at)
+    → ((ws : List ℕ) → page_at h.pages u q ≡ Some ws → Cuts h.pages k.pages u q at ws) → (page_at h.pages u q ≡ None → k.pages ≡ h.pages)
+    → Holds p k (cleared s u q at)
 clear_shown p s h k u q at holds same le some none = subst (λ (x : Held). Holds p x (cleared s u q at)) (sym same) (record {
   nodes = holds.nodes;
   next = holds.next;
@@ -161,7 +166,8 @@ clear_shown p s h k u q at holds same le some none = subst (λ (x : Held). Holds
         (subst (λ (x : Paged). HoldPages x s.words s.stored) (sym (none e)) holds.pages)
 
 pub clear_told : (p : Plan) (s : Store) (h k : Held) (u q at : ℕ) (r : Bool) → Holds p h s → at ≤ 1024
-    → ((ws : List ℕ) → page_at h.pages u q ≡ Some ws → Cuts h.pages k.pages u q at ws × (IsTrue r ↔ AreZero (cut_at at ws))) → (page_at h.pages u q ≡ None → r ≡ false)
+    → ((ws : List ℕ) → page_at h.pages u q ≡ Some ws → Cuts h.pages k.pages u q at ws × (IsTrue r ↔ AreZero (cut_at at ws)))
+    → (page_at h.pages u q ≡ None → r ≡ false)
     → r ≡ has_cleared s u q at
 clear_told p s h k u q at r holds le some none = by_page (page_at h.pages u q) refl
   where
@@ -222,13 +228,16 @@ module _ (pages : Paged) (s : Store) (u from : ℕ) (h : HoldPages pages s.words
 
   -- the store once the cut page's words are these
   abbrev ends : Words → Store
-  ends w = cond (is_stored left u page && is_zero_page w u page) (record s { words = λ v o. cond (eqb v u && eqb (o / 1024) page) 0 (w v o); stored = without_stored left u (λ q. eqb q page) })
+  ends w = cond (is_stored left u page && is_zero_page w u page)
+      (record s { words = λ v o. cond (eqb v u && eqb (o / 1024) page) 0 (w v o); stored = without_stored left u (λ q. eqb q page) })
       (record s { words = w; stored = left })
 
   cut_words : Words
   cut_words = without_words s.words u from
 
-  words_same : (v o : ℕ) → cond (eqb v u && (eqb (o / 1024) page && nat_le (from % 1024) (o % 1024))) 0 (cond (eqb v u && later_page (o / 1024)) 0 (s.words v o)) ≡ without_words s.words u from v o
+  words_same : (v o : ℕ)
+      → cond (eqb v u && (eqb (o / 1024) page && nat_le (from % 1024) (o % 1024))) 0 (cond (eqb v u && later_page (o / 1024)) 0 (s.words v o)) ≡
+      without_words s.words u from v o
   words_same v o = both (eqb v u) (eqb (o / 1024) page && nat_le (from % 1024) (o % 1024)) (later_page (o / 1024)) (nat_le from o) (past_page from o)
     where
       both : (a b c d : Bool) → (b || c) ≡ d → cond (a && b) 0 (cond (a && c) 0 (s.words v o)) ≡ cond (a && d) 0 (s.words v o)
@@ -265,14 +274,16 @@ module _ (pages : Paged) (s : Store) (u from : ℕ) (h : HoldPages pages s.words
       let second : nat_lt from (1024 * page + 1024) ≡ true = (let lt : from < 1024 * page + 1024 = omega arith in grind (arith, nat_tests)) in
       rw second (start (nat_le from (1024 * page)) refl)
     where
-      start : (z : Bool) → nat_le from (1024 * page) ≡ z → (z || is_zero_page (without_words s.words u from) u page) ≡ is_zero_page (without_words s.words u from) u page
+      start : (z : Bool) → nat_le from (1024 * page) ≡ z
+          → (z || is_zero_page (without_words s.words u from) u page) ≡ is_zero_page (without_words s.words u from) u page
       start true e = sym (zero_past (grind (arith, nat_tests)))
       start false e = refl
 
   -- the cut page goes with the later ones
   gone : is_zero_page (without_words s.words u from) u page ≡ true → (q : ℕ) → is_stored s.stored u q ≡ true → (later_page q || eqb q page) ≡ lost q
   gone zero_is q on = elim (cases_eq q page) [
-    | inl same ↦ (let here : eqb q page ≡ true = grind (arith, nat_tests) in let all : lost q ≡ true = ap lost same ∙ at_page ∙ zero_is in rw here (last (later_page q) ∙ sym all))
+    | inl same ↦ (let here : eqb q page ≡ true = grind (arith, nat_tests) in let all : lost q ≡ true = ap lost same ∙ at_page
+        ∙ zero_is in rw here (last (later_page q) ∙ sym all))
     | inr other ↦
         (let here : eqb q page ≡ false = grind (arith, nat_tests) in
         rw here (by_side (later_page q) refl other))
@@ -287,12 +298,15 @@ module _ (pages : Paged) (s : Store) (u from : ℕ) (h : HoldPages pages s.words
       by_side false e other = sym (below q (let lt : q < page + 1 = grind (arith, nat_tests) in omega (arith, lt, other)))
 
   -- the cut page stays, or isn't stored
-  stays : (is_stored left u page && is_zero_page (without_words s.words u from) u page) ≡ false → (q : ℕ) → is_stored s.stored u q ≡ true → later_page q ≡ lost q
+  stays : (is_stored left u page && is_zero_page (without_words s.words u from) u page) ≡ false → (q : ℕ) → is_stored s.stored u q ≡ true
+      → later_page q ≡ lost q
   stays none q on = elim (cases_eq q page) [
     | inl same ↦
         (let before : later_page page ≡ false = grind (arith, nat_tests) in
-        let there : is_stored left u page ≡ true = is_stored-without s.stored u later_page u page ∙ rw (before) (own (eqb u u) (is_stored s.stored u page) (ap (is_stored s.stored u) (sym same) ∙ on)) in
-        let words : is_zero_page (without_words s.words u from) u page ≡ false = second (is_stored left u page) (is_zero_page (without_words s.words u from) u page) there none in
+        let there : is_stored left u page ≡ true = is_stored-without s.stored u later_page u page
+        ∙ rw (before) (own (eqb u u) (is_stored s.stored u page) (ap (is_stored s.stored u) (sym same) ∙ on)) in
+        let words : is_zero_page (without_words s.words u from) u page ≡ false =
+        second (is_stored left u page) (is_zero_page (without_words s.words u from) u page) there none in
         ap later_page same ∙ before ∙ sym words ∙ sym at_page ∙ ap lost (sym same))
     | inr other ↦ by_side (later_page q) refl other
   ]
@@ -310,7 +324,8 @@ module _ (pages : Paged) (s : Store) (u from : ℕ) (h : HoldPages pages s.words
       by_side false e other = sym (below q (let lt : q < page + 1 = grind (arith, nat_tests) in omega (arith, lt, other)))
 
   -- the words of a page of zeros are 0 already
-  zero_words_same : is_zero_page (without_words s.words u from) u page ≡ true → (v o : ℕ) → cond (eqb v u && eqb (o / 1024) page) 0 (without_words s.words u from v o) ≡ without_words s.words u from v o
+  zero_words_same : is_zero_page (without_words s.words u from) u page ≡ true → (v o : ℕ)
+      → cond (eqb v u && eqb (o / 1024) page) 0 (without_words s.words u from v o) ≡ without_words s.words u from v o
   zero_words_same zero_is v o = here (eqb v u) (eqb (o / 1024) page) refl refl
     where
       here : (a b : Bool) → eqb v u ≡ a → eqb (o / 1024) page ≡ b → cond (a && b) 0 (without_words s.words u from v o) ≡ without_words s.words u from v o
@@ -319,7 +334,8 @@ module _ (pages : Paged) (s : Store) (u from : ℕ) (h : HoldPages pages s.words
           let place : o / 1024 ≡ page = grind (arith, nat_tests) in
           let at : 1024 * page + o % 1024 ≡ o = omega (arith, place) in
           let lt : o % 1024 < 1024 = omega arith in
-          sym (ap (λ (x : ℕ). without_words s.words u from x o) vu ∙ ap (without_words s.words u from u) (sym at) ∙ zero_words (without_words s.words u from) u page (o % 1024) zero_is lt)
+          sym (ap (λ (x : ℕ). without_words s.words u from x o) vu ∙ ap (without_words s.words u from u) (sym at)
+          ∙ zero_words (without_words s.words u from) u page (o % 1024) zero_is lt)
       here true false e f = refl
       here false b e f = refl
 
@@ -328,7 +344,11 @@ module _ (pages : Paged) (s : Store) (u from : ℕ) (h : HoldPages pages s.words
   ends_cut = by_zero (is_stored left u page && is_zero_page (without_words s.words u from) u page) refl
     where
       by_zero : (z : Bool) → (is_stored left u page && is_zero_page (without_words s.words u from) u page) ≡ z
-          → cond z (record s { words = λ v o. cond (eqb v u && eqb (o / 1024) page) 0 (without_words s.words u from v o); stored = without_stored left u (λ q. eqb q page) })
+          → cond z (record s {
+            words = λ v o. cond (eqb v u && eqb (o / 1024) page) 0 (without_words s.words u from v o);
+            stored =
+                without_stored left u (λ q. eqb q page);
+          })
           (record s { words = without_words s.words u from; stored = left }) ≡ cut_off s u from
       by_zero true e =
           let zero_is = second (is_stored left u page) (is_zero_page (without_words s.words u from) u page) e in
@@ -351,6 +371,7 @@ pub truncate_refused : (s : Store) (path : List (List ℕ)) (from : ℕ) (r : Re
 unfolding after_truncate
 truncate_refused s path from r found = ap (truncated s from) found
 
-pub truncate_done : (s : Store) (path : List (List ℕ)) (from : ℕ) (n : Node) → segment_at s.nodes path ≡ Ok n → after_truncate s path from ≡ cut_off s n.uid from
+pub truncate_done : (s : Store) (path : List (List ℕ)) (from : ℕ) (n : Node) → segment_at s.nodes path ≡ Ok n
+    → after_truncate s path from ≡ cut_off s n.uid from
 unfolding after_truncate
 truncate_done s path from n found = ap (truncated s from) found

@@ -25,14 +25,16 @@ stored_held p s h u q holds there = holds.pages.there u q ∙ there
 pub count_there : (a : AccountMaps) (xs : List (ℕ × ℕ)) (u q : ℕ) → Counts a xs → IsOnce xs → is_stored xs u q ≡ true → 1 ≤ count_of a u
 count_there a xs u q counts once on =
     let own : eqb u u ≡ true = grind (arith, nat_tests) in
-    let more : count_by (λ x. eqb x.0 u) (without_stored xs u (λ r. eqb r q)) + 1 ≡ count_by (λ x. eqb x.0 u) xs = rw own at (count_without (λ x. eqb x.0 u) xs u q once on) in
+    let more : count_by (λ x. eqb x.0 u) (without_stored xs u (λ r. eqb r q)) + 1 ≡ count_by (λ x. eqb x.0 u) xs =
+    rw own at (count_without (λ x. eqb x.0 u) xs u q once on) in
     let is : count_of a u ≡ count_by (λ x. eqb x.0 u) xs = counts u in
     omega (arith, more, is)
 
 pub counts_dropped : (a b : AccountMaps) (xs : List (ℕ × ℕ)) (u q : ℕ) → Counts a xs → IsOnce xs → is_stored xs u q ≡ true → Recounts a b u (count_of a u - 1)
     → Counts b (without_stored xs u (λ r. eqb r q))
 counts_dropped a b xs u q counts once on down s =
-    let less : count_by (λ x. eqb x.0 s) (without_stored xs u (λ r. eqb r q)) + cond {A = ℕ} (eqb u s) 1 0 ≡ count_by (λ x. eqb x.0 s) xs = count_without (λ x. eqb x.0 s) xs u q once on in
+    let less : count_by (λ x. eqb x.0 s) (without_stored xs u (λ r. eqb r q)) + cond {A = ℕ} (eqb u s) 1 0 ≡ count_by (λ x. eqb x.0 s) xs =
+    count_without (λ x. eqb x.0 s) xs u q once on in
     let was : count_of a s ≡ count_by (λ x. eqb x.0 s) xs = counts s in
     down.counts s ∙ elim (cases_eq u s) [
       | inl same ↦
@@ -56,9 +58,11 @@ flip_page u q v r = both (eqb u v) (eqb v u) (eqb q r) (eqb r q) (grind (arith, 
 pub pages_dropped : (old new : Paged) (words : Words) (xs : List (ℕ × ℕ)) (u q : ℕ) → HoldPages old words xs → Puts old new u q None
     → HoldPages new (λ v o. cond (eqb v u && eqb (o / 1024) q) 0 (words v o)) (without_stored xs u (λ r. eqb r q))
 pages_dropped old new words xs u q h put = record {
-  there = λ v r. is_stored-without xs u (λ x. eqb x q) v r ∙ kept (eqb v u && eqb r q) (is_stored xs v r) (page_at old v r) (h.there v r) ∙ sym (ap is_some (after v r));
+  there = λ v r. is_stored-without xs u (λ x. eqb x q) v r ∙ kept (eqb v u && eqb r q) (is_stored xs v r) (page_at old v r) (h.there v r)
+      ∙ sym (ap is_some (after v r));
   once = once_without xs u (λ r. eqb r q) h.once;
-  values = λ v o. valued (eqb v u && eqb (o / 1024) q) (words v o) (page_at old v (o / 1024)) (o % 1024) (h.values v o) ∙ sym (ap (λ (x : Option (List ℕ)). word_in x (o % 1024)) (after v (o / 1024)));
+  values = λ v o. valued (eqb v u && eqb (o / 1024) q) (words v o) (page_at old v (o / 1024)) (o % 1024) (h.values v o)
+      ∙ sym (ap (λ (x : Option (List ℕ)). word_in x (o % 1024)) (after v (o / 1024)));
   sizes = λ v r ws is. sized (eqb v u && eqb r q) (page_at old v r) ws (h.sizes v r ws) (sym (after v r) ∙ is);
 }
   where
@@ -91,9 +95,11 @@ taken_less nodes xs u q once on v = count_without (λ x. eqb (volume_in nodes x.
 
 pub records_dropped : (gauges : List Gauge) (most : ℕ → ℕ) (nodes : List Node) (xs : List (ℕ × ℕ)) (u q : ℕ) → IsOnce xs → is_stored xs u q ≡ true
     → ((v : ℕ) → gauge_at gauges v ≡ record { used = taken_on nodes xs v; most = most v })
-    → (v : ℕ) → gauge_at (set gauges (volume_in nodes u) (drained (gauge_at gauges (volume_in nodes u)))) v ≡ record { used = taken_on nodes (without_stored xs u (λ r. eqb r q)) v; most = most v }
+    → (v : ℕ) → gauge_at (set gauges (volume_in nodes u) (drained (gauge_at gauges (volume_in nodes u)))) v ≡
+    record { used = taken_on nodes (without_stored xs u (λ r. eqb r q)) v; most = most v }
 records_dropped gauges most nodes xs u q once on are =
-    counts_less gauges (λ v. taken_on nodes xs v) (λ v. taken_on nodes (without_stored xs u (λ r. eqb r q)) v) most (volume_in nodes u) are (taken_less nodes xs u q once on)
+    counts_less gauges (λ v. taken_on nodes xs v) (λ v. taken_on nodes (without_stored xs u (λ r. eqb r q)) v) most (volume_in nodes u) are
+    (taken_less nodes xs u q once on)
 
 -- what the holdings are once a stored page isn't any more
 pub record Drops (h k : Held) (u q : ℕ) : Type 0 where
@@ -102,7 +108,8 @@ pub record Drops (h k : Held) (u q : ℕ) : Type 0 where
   pub records : k.records ≡ set h.records (volume_in h.accounts.nodes u) (drained (gauge_at h.records (volume_in h.accounts.nodes u)))
   pub entries : k.entries ≡ h.entries
 
-pub drop_done : (h k : Held) (u q v : ℕ) → Recounts h.accounts k.accounts u (count_of h.accounts u - 1) → Puts h.pages k.pages u q None → v ≡ volume_in h.accounts.nodes u
+pub drop_done : (h k : Held) (u q v : ℕ) → Recounts h.accounts k.accounts u (count_of h.accounts u - 1) → Puts h.pages k.pages u q None
+    → v ≡ volume_in h.accounts.nodes u
     → k.records ≡ set h.records v (drained (gauge_at h.records v)) → k.entries ≡ h.entries → Drops h k u q
 drop_done h k u q v counts put at less same = record {
   accounts = counts;
@@ -123,26 +130,30 @@ drop_shown p s h k u q holds there drops =
       pages = pages_dropped h.pages k.pages s.words s.stored u q holds.pages drops.pages;
       inside = inside_without s.nodes s.stored u (λ r. eqb r q) holds.inside;
       flat = holds.flat;
-      records = λ v. ap (λ (g : List Gauge). gauge_at g v) (drops.records ∙ ap (λ (ns : List Node). set h.records (volume_in ns u) (drained (gauge_at h.records (volume_in ns u)))) (sym holds.nodes))
+      records = λ v. ap (λ (g : List Gauge). gauge_at g v) (drops.records
+          ∙ ap (λ (ns : List Node). set h.records (volume_in ns u) (drained (gauge_at h.records (volume_in ns u)))) (sym holds.nodes))
           ∙ records_dropped h.records (records_of p) s.nodes s.stored u q once on holds.records v;
       entries = λ v. ap (λ (g : List Gauge). gauge_at g v) drops.entries ∙ holds.entries v;
     }
 
 -- ---- several pages
 
-same_store : (s : Store) (u : ℕ) (t r : ℕ → Bool) → ((v o : ℕ) → cond (eqb v u && t (o / 1024)) 0 (s.words v o) ≡ cond (eqb v u && r (o / 1024)) 0 (s.words v o))
+same_store : (s : Store) (u : ℕ) (t r : ℕ → Bool)
+    → ((v o : ℕ) → cond (eqb v u && t (o / 1024)) 0 (s.words v o) ≡ cond (eqb v u && r (o / 1024)) 0 (s.words v o))
     → without_stored s.stored u t ≡ without_stored s.stored u r → without_pages s u t ≡ without_pages s u r
 same_store s u t r words stored =
     ap (λ (w : Words). record s { words = w; stored = without_stored s.stored u t }) (λ i. λ v. λ o. words v o i)
     ∙ ap (λ (xs : List (ℕ × ℕ)). record s { words = λ v o. cond (eqb v u && r (o / 1024)) 0 (s.words v o); stored = xs }) stored
 
 -- the same pages are listed where two tests agree on what is stored
-pub stored_same : (xs : List (ℕ × ℕ)) (u : ℕ) (t r : ℕ → Bool) → ((q : ℕ) → is_stored xs u q ≡ true → t q ≡ r q) → without_stored xs u t ≡ without_stored xs u r
+pub stored_same : (xs : List (ℕ × ℕ)) (u : ℕ) (t r : ℕ → Bool) → ((q : ℕ) → is_stored xs u q ≡ true → t q ≡ r q)
+    → without_stored xs u t ≡ without_stored xs u r
 unfolding without_stored
 stored_same [] u t r agree = refl
 stored_same (x ∷ xs) u t r agree =
     ap (λ (z : Bool). cond (not z) (x ∷ filter (λ y. not (eqb y.0 u && t y.1)) xs) (filter (λ y. not (eqb y.0 u && t y.1)) xs)) (here (eqb x.0 u) refl)
-    ∙ ap (λ (ys : List (ℕ × ℕ)). cond (not (eqb x.0 u && r x.1)) (x ∷ ys) ys) (stored_same xs u t r (λ q on. agree q (later (is_page u q x) (is_stored xs u q) on)))
+    ∙ ap (λ (ys : List (ℕ × ℕ)). cond (not (eqb x.0 u && r x.1)) (x ∷ ys) ys)
+    (stored_same xs u t r (λ q on. agree q (later (is_page u q x) (is_stored xs u q) on)))
   where
     later : (a b : Bool) → b ≡ true → (a || b) ≡ true
     later true b h = refl
@@ -176,15 +187,18 @@ agreed pages s u t r holds agree = same_store s u t r words (stored_same s.store
         all_zero a b w false true e = e
         all_zero a b w false false e = refl
 
-        by_page : (z : Bool) → is_stored s.stored u (o / 1024) ≡ z → cond (eqb v u && t (o / 1024)) 0 (s.words v o) ≡ cond (eqb v u && r (o / 1024)) 0 (s.words v o)
+        by_page : (z : Bool) → is_stored s.stored u (o / 1024) ≡ z
+            → cond (eqb v u && t (o / 1024)) 0 (s.words v o) ≡ cond (eqb v u && r (o / 1024)) 0 (s.words v o)
         by_page true on = ap (λ (z : Bool). cond (eqb v u && z) 0 (s.words v o)) (agree (o / 1024) on)
         by_page false off = elim (cases_eq v u) [
-          | inl same ↦ all_zero 0 0 (s.words v o) (eqb v u && t (o / 1024)) (eqb v u && r (o / 1024)) (ap (λ (x : ℕ). s.words x o) same ∙ zero_there false off)
+          | inl same ↦ all_zero 0 0 (s.words v o) (eqb v u && t (o / 1024)) (eqb v u && r (o / 1024))
+              (ap (λ (x : ℕ). s.words x o) same ∙ zero_there false off)
           | inr other ↦ (let apart : eqb v u ≡ false = grind (arith, nat_tests) in rw apart refl)
         ]
 
 -- two removals are one
-fused_step : (u : ℕ) (t r : ℕ → Bool) (a b c : Bool) (x : ℕ × ℕ) (ys zs : List (ℕ × ℕ)) → filter (λ y. not (eqb y.0 u && r y.1)) ys ≡ zs → eqb x.0 u ≡ a → t x.1 ≡ b → r x.1 ≡ c
+fused_step : (u : ℕ) (t r : ℕ → Bool) (a b c : Bool) (x : ℕ × ℕ) (ys zs : List (ℕ × ℕ)) → filter (λ y. not (eqb y.0 u && r y.1)) ys ≡ zs → eqb x.0 u ≡ a
+    → t x.1 ≡ b → r x.1 ≡ c
     → filter (λ y. not (eqb y.0 u && r y.1)) (cond (not (a && b)) (x ∷ ys) ys) ≡ cond (not (a && (b || c))) (x ∷ zs) zs
 fused_step u t r true true c x ys zs ih e f g = ih
 fused_step u t r true false true x ys zs ih e f g = rw (e, g) ih
@@ -200,8 +214,10 @@ stored_fused (x ∷ xs) u t r =
 
 pub fused : (s : Store) (u : ℕ) (t r : ℕ → Bool) → without_pages (without_pages s u t) u r ≡ without_pages s u (λ q. t q || r q)
 fused s u t r =
-    ap (λ (w : Words). record s { words = w; stored = without_stored (without_stored s.stored u t) u r }) (λ i. λ v. λ o. words (eqb v u) (t (o / 1024)) (r (o / 1024)) (s.words v o) i)
-    ∙ ap (λ (xs : List (ℕ × ℕ)). record s { words = λ v o. cond (eqb v u && (t (o / 1024) || r (o / 1024))) 0 (s.words v o); stored = xs }) (stored_fused s.stored u t r)
+    ap (λ (w : Words). record s { words = w; stored = without_stored (without_stored s.stored u t) u r })
+    (λ i. λ v. λ o. words (eqb v u) (t (o / 1024)) (r (o / 1024)) (s.words v o) i)
+    ∙ ap (λ (xs : List (ℕ × ℕ)). record s { words = λ v o. cond (eqb v u && (t (o / 1024) || r (o / 1024))) 0 (s.words v o); stored = xs })
+    (stored_fused s.stored u t r)
   where
     words : (a b c : Bool) (w : ℕ) → cond (a && c) 0 (cond (a && b) 0 w) ≡ cond (a && (b || c)) 0 w
     words true true true w = refl
@@ -221,7 +237,8 @@ all_stay (x ∷ xs) u = stays (eqb x.0 u) (all_stay xs u)
     stays false ih = ap (λ (l : List (ℕ × ℕ)). x ∷ l) ih
 
 -- nothing is removed
-pub none_removed : (pages : Paged) (s : Store) (u : ℕ) (t : ℕ → Bool) → HoldPages pages s.words s.stored → ((q : ℕ) → is_stored s.stored u q ≡ true → t q ≡ false) → without_pages s u t ≡ s
+pub none_removed : (pages : Paged) (s : Store) (u : ℕ) (t : ℕ → Bool) → HoldPages pages s.words s.stored
+    → ((q : ℕ) → is_stored s.stored u q ≡ true → t q ≡ false) → without_pages s u t ≡ s
 none_removed pages s u t holds off = agreed pages s u t (λ q. false) holds off ∙ whole
   where
     nothing : (z : Bool) (w : ℕ) → cond (z && false) 0 w ≡ w
@@ -239,7 +256,8 @@ missing p s h u q holds off = subst (λ (x : Store). Holds p h x) (sym (none_rem
   where
     only : (r : ℕ) → is_stored s.stored u r ≡ true → eqb r q ≡ false
     only r on = elim (cases_eq r q) [
-      | inl same ↦ (let here : is_stored s.stored u q ≡ true = ap (is_stored s.stored u) (sym same) ∙ on in let clash : true ≡ false = sym here ∙ holds.pages.there u q ∙ off in cc)
+      | inl same ↦ (let here : is_stored s.stored u q ≡ true = ap (is_stored s.stored u) (sym same) ∙ on in let clash : true ≡ false = sym here
+          ∙ holds.pages.there u q ∙ off in cc)
       | inr other ↦ grind (arith, nat_tests)
     ]
 
@@ -252,9 +270,11 @@ abbrev pub between : ℕ → ℕ → ℕ → Bool
 between from page q = nat_le from q && nat_lt q page
 
 pub first_none : (p : Plan) (s : Store) (h : Held) (u from : ℕ) → Holds p h s → Holds p h (without_pages s u (between from from))
-first_none p s h u from holds = subst (λ (x : Store). Holds p h x) (sym (none_removed h.pages s u (between from from) holds.pages (λ q on. grind (arith, nat_tests)))) holds
+first_none p s h u from holds = subst (λ (x : Store). Holds p h x)
+    (sym (none_removed h.pages s u (between from from) holds.pages (λ q on. grind (arith, nat_tests)))) holds
 
-pub one_more : (p : Plan) (s : Store) (h : Held) (u from page : ℕ) → from ≤ page → Holds p h (without_pages (without_pages s u (between from page)) u (λ q. eqb q page))
+pub one_more : (p : Plan) (s : Store) (h : Held) (u from page : ℕ) → from ≤ page
+    → Holds p h (without_pages (without_pages s u (between from page)) u (λ q. eqb q page))
     → Holds p h (without_pages s u (between from (page + 1)))
 one_more p s h u from page le holds =
     subst (λ (x : Store). Holds p h x) (fused s u (between from page) (λ q. eqb q page) ∙ ap (without_pages s u) (λ i. λ q. same q i)) holds
@@ -262,9 +282,11 @@ one_more p s h u from page le holds =
     same : (q : ℕ) → ((nat_le from q && nat_lt q page) || eqb q page) ≡ (nat_le from q && nat_lt q (page + 1))
     same q = grind (arith, nat_tests)
 
-pub all_done : (p : Plan) (s : Store) (g h : Held) (u from page : ℕ) → Holds p g s → pages_in g.accounts.nodes u ≤ page → Holds p h (without_pages s u (between from page))
+pub all_done : (p : Plan) (s : Store) (g h : Held) (u from page : ℕ) → Holds p g s → pages_in g.accounts.nodes u ≤ page
+    → Holds p h (without_pages s u (between from page))
     → Holds p h (without_pages s u (λ q. nat_le from q))
-all_done p s g h u from page was le holds = subst (λ (x : Store). Holds p h x) (agreed g.pages s u (between from page) (λ q. nat_le from q) was.pages same) holds
+all_done p s g h u from page was le holds = subst (λ (x : Store). Holds p h x)
+    (agreed g.pages s u (between from page) (λ q. nat_le from q) was.pages same) holds
   where
     same : (q : ℕ) → is_stored s.stored u q ≡ true → between from page q ≡ nat_le from q
     same q on =

@@ -4,7 +4,8 @@ use Rattle.std.proofs.lemmas.Bool.{cases_eq}
 use Rattle.std.proofs.lemmas.Bool.Decides.{nat_tests}
 use Rattle.flat_store.specs.Shown.{Gauge, gauge_at, filled, drained}
 
-set_here : {A : Type 0} (f : A → A) (d : A) (xs : List A) (i j : ℕ) → f d ≡ d → get_or (set xs i (f (get_or xs i d))) j d ≡ cond (eqb j i) (f (get_or xs i d)) (get_or xs j d)
+set_here : {A : Type 0} (f : A → A) (d : A) (xs : List A) (i j : ℕ) → f d ≡ d
+    → get_or (set xs i (f (get_or xs i d))) j d ≡ cond (eqb j i) (f (get_or xs i d)) (get_or xs j d)
 set_here f d [] i j same = nothing (eqb j i)
   where
     nothing : (z : Bool) → d ≡ cond z (f d) d
@@ -19,17 +20,20 @@ set_here f d (x ∷ xs) (suc i) (suc j) same = set_here f d xs i j same ∙ ap (
     both i j = grind (arith, nat_tests)
 
 -- one less at a number, also where there is no gauge
-pub drained_at : (gauges : List Gauge) (i j : ℕ) → gauge_at (set gauges i (drained (gauge_at gauges i))) j ≡ cond (eqb j i) (drained (gauge_at gauges i)) (gauge_at gauges j)
+pub drained_at : (gauges : List Gauge) (i j : ℕ)
+    → gauge_at (set gauges i (drained (gauge_at gauges i))) j ≡ cond (eqb j i) (drained (gauge_at gauges i)) (gauge_at gauges j)
 drained_at gauges i j = set_here drained (record { used = 0; most = 0 }) gauges i j refl
 
-pub filled_at : (gauges : List Gauge) (i j : ℕ) → gauge_at (set gauges i (filled (gauge_at gauges i))) j ≡ cond (eqb j i) (filled (gauge_at gauges i)) (gauge_at gauges j)
+pub filled_at : (gauges : List Gauge) (i j : ℕ)
+    → gauge_at (set gauges i (filled (gauge_at gauges i))) j ≡ cond (eqb j i) (filled (gauge_at gauges i)) (gauge_at gauges j)
 filled_at gauges i j = set_here filled (record { used = 0; most = 0 }) gauges i j refl
 
 abbrev pub gauge : ℕ → ℕ → Gauge
 gauge used most = record { used = used; most = most }
 
 -- a gauge that counts what one more or less of changes
-pub counts_less : (gauges : List Gauge) (old new most : ℕ → ℕ) (i : ℕ) → ((v : ℕ) → gauge_at gauges v ≡ gauge (old v) (most v)) → ((v : ℕ) → new v + cond {A = ℕ} (eqb i v) 1 0 ≡ old v)
+pub counts_less : (gauges : List Gauge) (old new most : ℕ → ℕ) (i : ℕ) → ((v : ℕ) → gauge_at gauges v ≡ gauge (old v) (most v))
+    → ((v : ℕ) → new v + cond {A = ℕ} (eqb i v) 1 0 ≡ old v)
     → (v : ℕ) → gauge_at (set gauges i (drained (gauge_at gauges i))) v ≡ gauge (new v) (most v)
 counts_less gauges old new most i are less v = drained_at gauges i v ∙ elim (cases_eq i v) [
   | inl same ↦

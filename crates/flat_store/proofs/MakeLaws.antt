@@ -61,7 +61,8 @@ pub record Adds (h k : Held) (n : Node) (entry : ℕ) : Type 0 where
   pub records : k.records ≡ h.records
   pub entries : k.entries ≡ set h.entries n.volume (filled (gauge_at h.entries n.volume))
 
-pub added_shown : (p : Plan) (s : Store) (h k : Held) (n : Node) (entry : ℕ) → Holds p h s → Adds h k n entry → n.uid ≡ h.accounts.next → node_in h.accounts.nodes h.accounts.next ≡ None
+pub added_shown : (p : Plan) (s : Store) (h k : Held) (n : Node) (entry : ℕ) → Holds p h s → Adds h k n entry → n.uid ≡ h.accounts.next
+    → node_in h.accounts.nodes h.accounts.next ≡ None
     → is_full (gauge_at h.entries n.volume) ≡ false → (n.directory ≡ true → n.pages ≡ 0) → Holds p k (record s { nodes = n ∷ s.nodes; next = s.next + 1 })
 added_shown p s h k n entry holds adds uid fresh room flat =
     let none : node_in s.nodes n.uid ≡ None = ap (λ (ns : List Node). node_in ns n.uid) holds.nodes ∙ ap (node_in h.accounts.nodes) uid ∙ fresh in
@@ -74,14 +75,17 @@ added_shown p s h k n entry holds adds uid fresh room flat =
       inside = inside_new n s.nodes s.stored none holds.inside;
       flat = flat_new n s.nodes flat holds.flat;
       records = λ v. ap (λ (g : List Gauge). gauge_at g v) adds.records ∙ holds.records v
-          ∙ ap (λ (x : ℕ). record { used = x; most = records_of p v }) (sym (taken_new n s.nodes s.stored v (λ q. unstored s.nodes s.stored n.uid q holds.inside none)));
+          ∙ ap (λ (x : ℕ). record { used = x; most = records_of p v }) (sym
+          (taken_new n s.nodes s.stored v (λ q. unstored s.nodes s.stored n.uid q holds.inside none)));
       entries = λ v. ap (λ (g : List Gauge). gauge_at g v) adds.entries
-          ∙ counts_more h.entries (λ x. entries_on s.nodes x) (λ x. entries_on (n ∷ s.nodes) x) (entries_of p) n.volume holds.entries space (entries_new n s.nodes) v;
+          ∙ counts_more h.entries (λ x. entries_on s.nodes x) (λ x. entries_on (n ∷ s.nodes) x) (entries_of p) n.volume holds.entries space
+          (entries_new n s.nodes) v;
     }
 
 -- ---- by its path
 
-pub make_stays : (s : Store) (path : List (List ℕ)) (volume : ℕ) (dir : Bool) (pages : ℕ) (rows : List Row) → path ≡ [] → after_make s path volume dir pages rows ≡ s
+pub make_stays : (s : Store) (path : List (List ℕ)) (volume : ℕ) (dir : Bool) (pages : ℕ) (rows : List Row) → path ≡ []
+    → after_make s path volume dir pages rows ≡ s
 unfolding after_make
 make_stays s path volume dir pages rows is = ap (λ (names : List (List ℕ)). made_of s volume dir pages rows (parts_of names)) is
 
@@ -90,15 +94,18 @@ module _ (p : Plan) (s : Store) (path names : List (List ℕ)) (name : List ℕ)
   unfolding after_make
   make_refused pages rows r found = ap (made_of s volume dir pages rows) (parts_are path names name parts) ∙ ap (made_at s volume dir pages rows name) found
 
-  pub after_make_is : (pages : ℕ) (rows : List Row) (d : Node) → node_at s.nodes names ≡ Ok d → after_make s path volume dir pages rows ≡ made_in s volume dir pages rows name d
+  pub after_make_is : (pages : ℕ) (rows : List Row) (d : Node) → node_at s.nodes names ≡ Ok d
+      → after_make s path volume dir pages rows ≡ made_in s volume dir pages rows name d
   unfolding after_make
   after_make_is pages rows d found = ap (made_of s volume dir pages rows) (parts_are path names name parts) ∙ ap (made_at s volume dir pages rows name) found
 
-  pub make_asked : (d : Node) → node_at s.nodes names ≡ Ok d → takes_effect (make_reply p s path volume dir) ≡ true → (d.directory ≡ true) × (takes_effect (make_in p s volume dir name d) ≡ true)
+  pub make_asked : (d : Node) → node_at s.nodes names ≡ Ok d → takes_effect (make_reply p s path volume dir) ≡ true
+      → (d.directory ≡ true) × (takes_effect (make_in p s volume dir name d) ≡ true)
   unfolding make_reply
   make_asked d found effect = here d.directory refl (rw (parts_are path names name parts, found) at effect)
     where
-      here : (z : Bool) → d.directory ≡ z → takes_effect (make_at p s volume dir name (cond z (Ok d) (Err reply.NotDir))) ≡ true → (d.directory ≡ true) × (takes_effect (make_in p s volume dir name d) ≡ true)
+      here : (z : Bool) → d.directory ≡ z → takes_effect (make_at p s volume dir name (cond z (Ok d) (Err reply.NotDir))) ≡ true
+          → (d.directory ≡ true) × (takes_effect (make_in p s volume dir name d) ≡ true)
       here true e is = (e, is)
       here false e is = cc
 

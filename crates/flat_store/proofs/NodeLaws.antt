@@ -35,7 +35,8 @@ no_pages (m ∷ ns) u e = elim (cases_Bool (eqb m.uid u)) [
 ]
 
 -- a node with pages is a segment
-pub has_pages : (ns : List Node) (u : ℕ) (n : Node) (dir : Bool) → node_in ns u ≡ Some n → has_directory ns u ≡ dir → has_segment ns u ≡ not dir → AreFlat ns → 0 < n.pages
+pub has_pages : (ns : List Node) (u : ℕ) (n : Node) (dir : Bool) → node_in ns u ≡ Some n → has_directory ns u ≡ dir → has_segment ns u ≡ not dir
+    → AreFlat ns → 0 < n.pages
     → has_segment ns u ≡ true
 has_pages ns u n true found is isnt flat some = (let none : n.pages ≡ 0 = pages_found ns u n found ∙ flat u is in absurd (omega (arith, none, some)))
 has_pages ns u n false found is isnt flat some = isnt
@@ -43,6 +44,7 @@ has_pages ns u n false found is isnt flat some = isnt
 pub uid_found : (ns : List Node) (u : ℕ) (n : Node) → node_in ns u ≡ Some n → n.uid ≡ u
 uid_found [] u n e = cc
 uid_found (m ∷ ns) u n e = elim (cases_Bool (eqb m.uid u)) [
-  | inl is ↦ (let z : Some m ≡ Some n = rw is at e in let same : m ≡ n = cc in let own : m.uid ≡ u = grind (arith, nat_tests) in ap (λ (x : Node). x.uid) (sym same) ∙ own)
+  | inl is ↦ (let z : Some m ≡ Some n = rw is at e in let same : m ≡ n = cc in let own : m.uid ≡ u = grind (arith, nat_tests) in
+      ap (λ (x : Node). x.uid) (sym same) ∙ own)
   | inr isnt ↦ uid_found ns u n (rw isnt at e)
 ]

@@ -9,9 +9,11 @@ use Rattle.known_segs.specs.Known.{least_free, uid_of}
 free_none : (kst : List (Option ℕ)) (k : ℕ) → least_free kst ≡ None → k < length kst → is_none (uid_of kst k) ≡ false
 free_none kst k e within = none_at (ltb (position_or_len is_none kst) (length kst)) refl e
   where
-    none_at : (b : Bool) → ltb (position_or_len is_none kst) (length kst) ≡ b → cond b (Some (position_or_len is_none kst)) None ≡ None → is_none (uid_of kst k) ≡ false
+    none_at : (b : Bool) → ltb (position_or_len is_none kst) (length kst) ≡ b → cond b (Some (position_or_len is_none kst)) None ≡ None
+        → is_none (uid_of kst k) ≡ false
     none_at true is e2 = cc
-    none_at false is e2 = (let past : length kst ≤ position_or_len is_none kst = ltb-false _ _ is in not-true _ (prefix_len_passes (λ x. not (is_none x)) kst k None (omega arith)))
+    none_at false is e2 = (let past : length kst ≤ position_or_len is_none kst = ltb-false _ _ is in
+        not-true _ (prefix_len_passes (λ x. not (is_none x)) kst k None (omega arith)))
 
 some_is : (o : Option ℕ) → is_some o ≡ true → is_none o ≡ false
 some_is None e = cc
@@ -21,7 +23,8 @@ none_is : (o : Option ℕ) → is_some o ≡ false → is_none o ≡ true
 none_is None e = refl
 none_is (Some u) e = cc
 
-pub free_found : (kst : List (Option ℕ)) (n : ℕ) (o : Option ℕ) → o ≡ uid_of kst n → is_some o ≡ false → n < length kst → ((k : ℕ) → k < n → is_some (uid_of kst k) ≡ true) → Some n ≡ least_free kst
+pub free_found : (kst : List (Option ℕ)) (n : ℕ) (o : Option ℕ) → o ≡ uid_of kst n → is_some o ≡ false → n < length kst
+    → ((k : ℕ) → k < n → is_some (uid_of kst k) ≡ true) → Some n ≡ least_free kst
 free_found kst n o at empty within before = by_answer (least_free kst) refl
   where
     none : is_none o ≡ true
@@ -30,7 +33,8 @@ free_found kst n o at empty within before = by_answer (least_free kst) refl
     by_answer : (r : Option ℕ) → least_free kst ≡ r → Some n ≡ r
     by_answer None e = (let clash : true ≡ false = sym none ∙ ap is_none at ∙ free_none kst n e within in cc)
     by_answer (Some i) e =
-        let h : (i < length kst) × (is_none (get_or kst i None) ≡ true) × ((k : ℕ) → k < i → is_none (get_or kst k None) ≡ false) = position-Some is_none kst i None e in
+        let h : (i < length kst) × (is_none (get_or kst i None) ≡ true) × ((k : ℕ) → k < i → is_none (get_or kst k None) ≡ false) =
+        position-Some is_none kst i None e in
         elim (cases_eq n i) [
           | inl same ↦ ap (λ (x : ℕ). Some x) same
           | inr other ↦ elim (cases_lt n i) [
@@ -45,7 +49,8 @@ none_free kst n past before = by_answer (least_free kst) refl
     by_answer : (r : Option ℕ) → least_free kst ≡ r → None ≡ r
     by_answer None e = refl
     by_answer (Some i) e =
-        let h : (i < length kst) × (is_none (get_or kst i None) ≡ true) × ((k : ℕ) → k < i → is_none (get_or kst k None) ≡ false) = position-Some is_none kst i None e in
+        let h : (i < length kst) × (is_none (get_or kst i None) ≡ true) × ((k : ℕ) → k < i → is_none (get_or kst k None) ≡ false) =
+        position-Some is_none kst i None e in
         let clash : true ≡ false = sym h.1 ∙ some_is (uid_of kst i) (before i (omega (arith, h.0, past))) in cc
 
 pub still_known : (kst : List (Option ℕ)) (n : ℕ) (o : Option ℕ) → o ≡ uid_of kst n → is_none o ≡ false → is_some (uid_of kst n) ≡ true

@@ -29,15 +29,18 @@ pub record KeepsOthers (s t : Store) : Type 0 where
 kept : (s : Store) → KeepsOthers s s
 kept s = record { known = refl; processes = refl; next = omega arith }
 
-made_keeps : (s : Store) (volume : ℕ) (dir : Bool) (pages : ℕ) (rows : List Row) (name : List ℕ) (r : Result Node Reply) → KeepsOthers s (made_at s volume dir pages rows name r)
+made_keeps : (s : Store) (volume : ℕ) (dir : Bool) (pages : ℕ) (rows : List Row) (name : List ℕ) (r : Result Node Reply)
+    → KeepsOthers s (made_at s volume dir pages rows name r)
 made_keeps s volume dir pages rows name (Ok d) = record { known = refl; processes = refl; next = omega arith }
 made_keeps s volume dir pages rows name (Err r) = kept s
 
-parts_keep : (s : Store) (volume : ℕ) (dir : Bool) (pages : ℕ) (rows : List Row) (o : Option (List (List ℕ) × List ℕ)) → KeepsOthers s (made_of s volume dir pages rows o)
+parts_keep : (s : Store) (volume : ℕ) (dir : Bool) (pages : ℕ) (rows : List Row) (o : Option (List (List ℕ) × List ℕ))
+    → KeepsOthers s (made_of s volume dir pages rows o)
 parts_keep s volume dir pages rows None = kept s
 parts_keep s volume dir pages rows (Some parts) = made_keeps s volume dir pages rows parts.1 (node_at s.nodes parts.0)
 
-pub make_keeps : (s : Store) (path : List (List ℕ)) (volume : ℕ) (dir : Bool) (pages : ℕ) (rows : List Row) → KeepsOthers s (after_make s path volume dir pages rows)
+pub make_keeps : (s : Store) (path : List (List ℕ)) (volume : ℕ) (dir : Bool) (pages : ℕ) (rows : List Row)
+    → KeepsOthers s (after_make s path volume dir pages rows)
 unfolding after_make
 make_keeps s path volume dir pages rows = parts_keep s volume dir pages rows (parts_of path)
 

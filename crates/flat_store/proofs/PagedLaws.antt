@@ -20,7 +20,8 @@ key_is u q v r =
     ∙ ap (λ (a : Bool). a && is_eq (nat_cmp q r)) (unsigned_tied u v)
     ∙ ap (λ (b : Bool). eqb u v && b) (unsigned_tied q r)
 
-pub puts : (old new : Paged) (u q : ℕ) (w : Option (List ℕ)) → ((y : ℕ × ℕ) → lookup (is_key y.0 y.1) new ≡ cond (is_key u q y) w (lookup (is_key y.0 y.1) old)) → Puts old new u q w
+pub puts : (old new : Paged) (u q : ℕ) (w : Option (List ℕ))
+    → ((y : ℕ × ℕ) → lookup (is_key y.0 y.1) new ≡ cond (is_key u q y) w (lookup (is_key y.0 y.1) old)) → Puts old new u q w
 puts old new u q w each = record { at = λ v r. each (v, r) ∙ ap (λ (z : Bool). cond z w (page_at old v r)) (key_is u q v r) }
 
 -- what a look-up lends
@@ -57,7 +58,8 @@ put_new old now new u q at word zeros after is zero change each =
     (puts_from old now new u q (Some after) is each)
 
 -- the same of a page that is cut
-pub cut_through : (old now new : Paged) (u q at : ℕ) (before after words : List ℕ) (zero result : Bool) → old ≡ now → page_at old u q ≡ Some before → after ≡ cut_at at before
+pub cut_through : (old now new : Paged) (u q at : ℕ) (before after words : List ℕ) (zero result : Bool) → old ≡ now → page_at old u q ≡ Some before
+    → after ≡ cut_at at before
     → (IsSome (page_at old u q) → (y : ℕ × ℕ) → lookup (is_key y.0 y.1) new ≡ cond (is_key u q y) (Some after) (lookup (is_key y.0 y.1) old))
     → (IsTrue zero ↔ AreZero after) → result ≡ zero → page_at now u q ≡ Some words → Cuts now new u q at words × (IsTrue result ↔ AreZero (cut_at at words))
 cut_through old now new u q at before after words zero result is there change each zeros told found =

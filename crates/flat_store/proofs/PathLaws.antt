@@ -11,7 +11,8 @@ leads nodes (LeadsTo v) u n e found = (let same : u ≡ v = cc in ap (λ (x : �
 leads nodes Missing u n e found = cc
 leads nodes InSegment u n e found = cc
 
-pub walked_to : (nodes : List Node) (path : List (List ℕ)) (u : ℕ) (n : Node) → Ok u ≡ path_answer (walk_in nodes path) → node_in nodes u ≡ Some n → node_at nodes path ≡ Ok n
+pub walked_to : (nodes : List Node) (path : List (List ℕ)) (u : ℕ) (n : Node) → Ok u ≡ path_answer (walk_in nodes path) → node_in nodes u ≡ Some n
+    → node_at nodes path ≡ Ok n
 unfolding node_at
 walked_to nodes path u n e found = leads nodes (walk_in nodes path) u n e found
 
@@ -20,7 +21,8 @@ missing nodes (LeadsTo v) e = cc
 missing nodes Missing e = refl
 missing nodes InSegment e = cc
 
-pub walked_nowhere : (nodes : List Node) (path : List (List ℕ)) → Err path_fault.NoPath ≡ path_answer (walk_in nodes path) → node_at nodes path ≡ Err reply.NoPath
+pub walked_nowhere : (nodes : List Node) (path : List (List ℕ)) → Err path_fault.NoPath ≡ path_answer (walk_in nodes path)
+    → node_at nodes path ≡ Err reply.NoPath
 unfolding node_at
 walked_nowhere nodes path e = missing nodes (walk_in nodes path) e
 
@@ -29,6 +31,7 @@ in_segment nodes (LeadsTo v) e = cc
 in_segment nodes Missing e = cc
 in_segment nodes InSegment e = refl
 
-pub walked_past : (nodes : List Node) (path : List (List ℕ)) → Err path_fault.NotDir ≡ path_answer (walk_in nodes path) → node_at nodes path ≡ Err reply.NotDir
+pub walked_past : (nodes : List Node) (path : List (List ℕ)) → Err path_fault.NotDir ≡ path_answer (walk_in nodes path)
+    → node_at nodes path ≡ Err reply.NotDir
 unfolding node_at
 walked_past nodes path e = in_segment nodes (walk_in nodes path) e

@@ -70,12 +70,15 @@ module _ (old new : Paged) (words : Words) (xs : List (ℕ × ℕ)) (u o w : ℕ
 
   written_at : (v x : ℕ) → with_word words u o w v x ≡ word_in (page_at new v (x / 1024)) (x % 1024)
   unfolding before
-  written_at v x = ap (λ (z : Bool). cond z w (words v x)) (flip_word u o v x) ∙ here (eqb u v) (eqb o x) refl refl ∙ sym (ap (λ (p : Option (List ℕ)). word_in p (x % 1024)) (put.at v (x / 1024)))
+  written_at v x = ap (λ (z : Bool). cond z w (words v x)) (flip_word u o v x) ∙ here (eqb u v) (eqb o x) refl refl
+      ∙ sym (ap (λ (p : Option (List ℕ)). word_in p (x % 1024)) (put.at v (x / 1024)))
     where
       here : (a b : Bool) → eqb u v ≡ a → eqb o x ≡ b
-          → cond (a && b) w (words v x) ≡ word_in (cond (eqb u v && eqb (o / 1024) (x / 1024)) (Some (set before (o % 1024) w)) (page_at old v (x / 1024))) (x % 1024)
+          → cond (a && b) w (words v x) ≡ word_in (cond (eqb u v && eqb (o / 1024) (x / 1024)) (Some (set before (o % 1024) w))
+          (page_at old v (x / 1024))) (x % 1024)
       here true true e f =
-          let page : eqb (o / 1024) (x / 1024) ≡ true = (let is : o ≡ x = grind (arith, nat_tests) in let pages : o / 1024 ≡ x / 1024 = omega (arith, is) in grind (arith, nat_tests)) in
+          let page : eqb (o / 1024) (x / 1024) ≡ true = (let is : o ≡ x = grind (arith, nat_tests) in
+          let pages : o / 1024 ≡ x / 1024 = omega (arith, is) in grind (arith, nat_tests)) in
           let place : x % 1024 ≡ o % 1024 = (let is : o ≡ x = grind (arith, nat_tests) in omega (arith, is)) in
           let lt : o % 1024 < length before = omega (arith, size) in
           rw (e, page) (sym (ap (λ (i : ℕ). get_or (set before (o % 1024) w) i 0) place ∙ get_or-set_same before (o % 1024) w 0 lt))
@@ -85,7 +88,8 @@ module _ (old new : Paged) (words : Words) (xs : List (ℕ × ℕ)) (u o w : ℕ
   pub pages_put : HoldPages new (with_word words u o w) (with_stored xs u (o / 1024))
   unfolding before
   pages_put = record {
-    there = λ v r. is_stored-with xs u (o / 1024) v r ∙ there (is_page v r (u, o / 1024)) (is_stored xs v r) (page_at old v r) (h.there v r) ∙ sym (ap is_some (put.at v r));
+    there = λ v r. is_stored-with xs u (o / 1024) v r ∙ there (is_page v r (u, o / 1024)) (is_stored xs v r) (page_at old v r) (h.there v r)
+        ∙ sym (ap is_some (put.at v r));
     once = once_with xs u (o / 1024) h.once;
     values = written_at;
     sizes = λ v r ws is. sized (is_page v r (u, o / 1024)) (page_at old v r) ws (h.sizes v r ws) (sym (put.at v r) ∙ is);
@@ -95,7 +99,8 @@ module _ (old new : Paged) (words : Words) (xs : List (ℕ × ℕ)) (u o w : ℕ
       there true b p e = refl
       there false b p e = e
 
-      sized : (z : Bool) (p : Option (List ℕ)) (ws : List ℕ) → (p ≡ Some ws → length ws ≡ 1024) → cond z (Some (set before (o % 1024) w)) p ≡ Some ws → length ws ≡ 1024
+      sized : (z : Bool) (p : Option (List ℕ)) (ws : List ℕ) → (p ≡ Some ws → length ws ≡ 1024) → cond z (Some (set before (o % 1024) w)) p ≡ Some ws
+          → length ws ≡ 1024
       sized true p ws was is = (let same : set before (o % 1024) w ≡ ws = cc in ap length (sym same) ∙ length-set before (o % 1024) w ∙ size)
       sized false p ws was is = was is
 
@@ -105,14 +110,16 @@ stored_either xs u q false on = with_old xs u q on
 
 -- a word is written into a page that is stored
 pub put_shown : (p : Plan) (s : Store) (h k : Held) (u o w : ℕ) → Holds p h s → is_some (page_at h.pages u (o / 1024)) ≡ true
-    → k ≡ record h { pages = k.pages } → Puts h.pages k.pages u (o / 1024) (Some (set (words_in (page_at h.pages u (o / 1024))) (o % 1024) w)) → Holds p k (written s u o w)
+    → k ≡ record h { pages = k.pages } → Puts h.pages k.pages u (o / 1024) (Some (set (words_in (page_at h.pages u (o / 1024))) (o % 1024) w))
+    → Holds p k (written s u o w)
 put_shown p s h k u o w holds there same put =
     let on : is_stored s.stored u (o / 1024) ≡ true = holds.pages.there u (o / 1024) ∙ there in
     subst (λ (x : Held). Holds p x (written s u o w)) (sym same) (record {
       nodes = holds.nodes;
       next = holds.next;
       counts = subst (λ (xs : List (ℕ × ℕ)). Counts h.accounts xs) (sym (stored_either s.stored u (o / 1024) (eqb w 0) on)) holds.counts;
-      pages = subst (λ (xs : List (ℕ × ℕ)). HoldPages k.pages (with_word s.words u o w) xs) (with_old s.stored u (o / 1024) on ∙ sym (stored_either s.stored u (o / 1024) (eqb w 0) on))
+      pages = subst (λ (xs : List (ℕ × ℕ)). HoldPages k.pages (with_word s.words u o w) xs)
+          (with_old s.stored u (o / 1024) on ∙ sym (stored_either s.stored u (o / 1024) (eqb w 0) on))
           (pages_put h.pages k.pages s.words s.stored u o w holds.pages put);
       inside = subst (λ (xs : List (ℕ × ℕ)). AreInside s.nodes xs) (sym (stored_either s.stored u (o / 1024) (eqb w 0) on)) holds.inside;
       flat = holds.flat;
@@ -121,7 +128,8 @@ put_shown p s h k u o w holds there same put =
       entries = holds.entries;
     })
 
-counts_stored : (a b : AccountMaps) (xs : List (ℕ × ℕ)) (u q : ℕ) → Counts a xs → is_stored xs u q ≡ false → Recounts a b u (count_of a u + 1) → Counts b (with_stored xs u q)
+counts_stored : (a b : AccountMaps) (xs : List (ℕ × ℕ)) (u q : ℕ) → Counts a xs → is_stored xs u q ≡ false → Recounts a b u (count_of a u + 1)
+    → Counts b (with_stored xs u q)
 counts_stored a b xs u q counts off up s =
     up.counts s ∙ elim (cases_eq u s) [
       | inl same ↦
@@ -137,7 +145,8 @@ counts_stored a b xs u q counts off up s =
           rw own (omega (arith, more, was)))
     ]
 
-inside_with : (nodes : List Node) (xs : List (ℕ × ℕ)) (u q : ℕ) → AreInside nodes xs → has_segment nodes u ≡ true → q < pages_in nodes u → AreInside nodes (with_stored xs u q)
+inside_with : (nodes : List Node) (xs : List (ℕ × ℕ)) (u q : ℕ) → AreInside nodes xs → has_segment nodes u ≡ true → q < pages_in nodes u
+    → AreInside nodes (with_stored xs u q)
 inside_with nodes xs u q inside segment lt v r on = here (eqb u v) (eqb q r) refl refl (sym (is_stored-with xs u q v r) ∙ on)
   where
     here : (a b : Bool) → eqb u v ≡ a → eqb q r ≡ b → ((a && b) || is_stored xs v r) ≡ true → (has_segment nodes v ≡ true) × (r < pages_in nodes v)
@@ -175,7 +184,8 @@ store_done h k u o w v counts put at more same = record {
   entries = same;
 }
 
-pub store_shown : (p : Plan) (s : Store) (h k : Held) (u o w : ℕ) → Holds p h s → has_segment h.accounts.nodes u ≡ true → o / 1024 < pages_in h.accounts.nodes u
+pub store_shown : (p : Plan) (s : Store) (h k : Held) (u o w : ℕ) → Holds p h s → has_segment h.accounts.nodes u ≡ true
+    → o / 1024 < pages_in h.accounts.nodes u
     → is_some (page_at h.pages u (o / 1024)) ≡ false → w ≢ 0 → has_room p s u ≡ true → Stores h k u o w → Holds p k (written s u o w)
 store_shown p s h k u o w holds segment lt none other room stores =
     let off : is_stored s.stored u (o / 1024) ≡ false = holds.pages.there u (o / 1024) ∙ none in
@@ -191,14 +201,17 @@ store_shown p s h k u o w holds segment lt none other room stores =
       inside = inside_with s.nodes s.stored u (o / 1024) holds.inside (ap (λ (ns : List Node). has_segment ns u) holds.nodes ∙ segment)
           (subst (λ (ns : List Node). o / 1024 < pages_in ns u) (sym holds.nodes) lt);
       flat = holds.flat;
-      records = λ v. ap (λ (g : List Gauge). gauge_at g v) (stores.records ∙ ap (λ (ns : List Node). set h.records (volume_in ns u) (filled (gauge_at h.records (volume_in ns u)))) (sym holds.nodes))
-          ∙ counts_more h.records (λ x. taken_on s.nodes s.stored x) (λ x. taken_on s.nodes (with_stored s.stored u (o / 1024)) x) (records_of p) (volume_in s.nodes u) holds.records space
+      records = λ v. ap (λ (g : List Gauge). gauge_at g v) (stores.records
+          ∙ ap (λ (ns : List Node). set h.records (volume_in ns u) (filled (gauge_at h.records (volume_in ns u)))) (sym holds.nodes))
+          ∙ counts_more h.records (λ x. taken_on s.nodes s.stored x) (λ x. taken_on s.nodes (with_stored s.stored u (o / 1024)) x) (records_of p)
+          (volume_in s.nodes u) holds.records space
           (taken_more s.nodes s.stored u (o / 1024) off) v;
       entries = λ v. ap (λ (g : List Gauge). gauge_at g v) stores.entries ∙ holds.entries v;
     })
 
 -- a 0 is written where nothing is stored
-pub nothing_written : (p : Plan) (s : Store) (h : Held) (u o w : ℕ) → Holds p h s → is_some (page_at h.pages u (o / 1024)) ≡ false → w ≡ 0 → Holds p h (written s u o w)
+pub nothing_written : (p : Plan) (s : Store) (h : Held) (u o w : ℕ) → Holds p h s → is_some (page_at h.pages u (o / 1024)) ≡ false → w ≡ 0
+    → Holds p h (written s u o w)
 nothing_written p s h u o w holds none is =
     let here : eqb w 0 ≡ true = grind (arith, nat_tests) in
     subst (λ (x : Store). Holds p h x) (sym (same here)) holds
@@ -230,7 +243,8 @@ clash : (e : Full) (r : Result (Unit {0}) Full) → r ≡ Err e → r ≡ Ok tt 
 clash e r refused charged = cc
 
 -- a charge that is refused tells that the account is full
-pub never_full : (p : Plan) (s : Store) (h : Held) (u : ℕ) (e : Full) → has_room p s u ≡ true → s.nodes ≡ h.accounts.nodes → Err e ≡ charge_answer h.accounts.nodes s.stored u → ⊥
+pub never_full : (p : Plan) (s : Store) (h : Held) (u : ℕ) (e : Full) → has_room p s u ≡ true → s.nodes ≡ h.accounts.nodes
+    → Err e ≡ charge_answer h.accounts.nodes s.stored u → ⊥
 never_full p s h u e room same answer =
     let free : is_used_up s u ≡ false = (both_not (is_used_up s u) (is_volume_full p s (volume_in s.nodes u)) room).0 in
     clash e (charge_answer s.nodes s.stored u) (sym (answer ∙ ap (λ (ns : List Node). charge_answer ns s.stored u) (sym same))) (rw free refl)

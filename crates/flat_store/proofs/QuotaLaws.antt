@@ -44,16 +44,21 @@ none_over ns xs within = least_none (is_over ns xs) (map (λ n. n.uid) ns) each
     each u =
         let le : used_by ns xs u ≤ quota_in ns u = within u in
         let below : nat_lt (quota_in ns u) (used_by ns xs u) ≡ false = grind (arith, nat_tests) in
-        ap (λ (z : Bool). has_directory ns u && ((eqb u 1 || not (eqb (quota_in ns u) 0)) && z)) below ∙ both (has_directory ns u) (eqb u 1 || not (eqb (quota_in ns u) 0))
+        ap (λ (z : Bool). has_directory ns u && ((eqb u 1 || not (eqb (quota_in ns u) 0)) && z)) below
+        ∙ both (has_directory ns u) (eqb u 1 || not (eqb (quota_in ns u) 0))
 
-pub move_of_none : (s : Store) (nodes : List Node) (path : List (List ℕ)) (n : Node) (amount : ℤ) → s.nodes ≡ nodes → directory_at nodes path ≡ Ok n → amount ≡ pos 0
+pub move_of_none : (s : Store) (nodes : List Node) (path : List (List ℕ)) (n : Node) (amount : ℤ) → s.nodes ≡ nodes → directory_at nodes path ≡ Ok n
+    → amount ≡ pos 0
     → ((a : ℕ) → used_by s.nodes s.stored a ≤ quota_in s.nodes a) → reply.Done ≡ move_reply s path amount
 unfolding move_reply
 move_of_none s nodes path n amount same found none within =
     let there = ap (λ (ns : List Node). directory_at ns path) same ∙ found in
     sym (rw (none, there) (first (nat_lt (quota_in s.nodes (giver_of (above s.nodes) n.uid (is_positive (pos 0)))) 0) (grind (arith, nat_tests))
-    ∙ ap (λ (ns : List Node). done_or_over (over_in ns s.stored)) (nothing_moved s.nodes n.uid (is_positive (pos 0))) ∙ ap done_or_over (none_over s.nodes s.stored within)))
+    ∙ ap (λ (ns : List Node). done_or_over (over_in ns s.stored)) (nothing_moved s.nodes n.uid (is_positive (pos 0)))
+    ∙ ap done_or_over (none_over s.nodes s.stored within)))
   where
-    first : (z : Bool) → z ≡ false → cond z reply.TooLittle (done_or_over (over_in (tree_moved s.nodes n.uid (is_positive (pos 0)) 0) s.stored)) ≡ done_or_over (over_in (tree_moved s.nodes n.uid (is_positive (pos 0)) 0) s.stored)
+    first : (z : Bool) → z ≡ false
+        → cond z reply.TooLittle (done_or_over (over_in (tree_moved s.nodes n.uid (is_positive (pos 0)) 0) s.stored)) ≡ done_or_over
+        (over_in (tree_moved s.nodes n.uid (is_positive (pos 0)) 0) s.stored)
     first true e = cc
     first false e = refl

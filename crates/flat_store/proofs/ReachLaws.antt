@@ -49,7 +49,8 @@ process_weighs : (volumes : ℕ) (x : ProcessPlan) → is_process volumes x ≡ 
 unfolding is_process weight_of
 process_weighs volumes x is = commands_weigh volumes x.commands (and_parts _ _ (and_parts _ _ is).1).0
 
-places_weigh : (volumes : ℕ) (qs : List Progress) (xs : List ProcessPlan) → ArePlaces qs xs → list_all (is_process volumes) xs ≡ true → sum_by (λ q. q.place) qs ≤ sum_by weight_of xs
+places_weigh : (volumes : ℕ) (qs : List Progress) (xs : List ProcessPlan) → ArePlaces qs xs → list_all (is_process volumes) xs ≡ true
+    → sum_by (λ q. q.place) qs ≤ sum_by weight_of xs
 places_weigh volumes [] xs places are = omega arith
 places_weigh volumes (q ∷ qs) [] places are = absurd places
 places_weigh volumes (q ∷ qs) (x ∷ xs) places are =
@@ -61,7 +62,8 @@ places_weigh volumes (q ∷ qs) (x ∷ xs) places are =
 -- a script has too few commands for many uids
 pub few_uids : (p : Plan) (s : Store) → IsReached p s → s.next < 2 ^ 31
 few_uids p s r =
-    let less : sum_by (λ q. q.place) s.processes ≤ sum_by weight_of p.processes = places_weigh (length p.volumes) s.processes p.processes r.places r.plan.each in
+    let less : sum_by (λ q. q.place) s.processes ≤ sum_by weight_of p.processes =
+    places_weigh (length p.volumes) s.processes p.processes r.places r.plan.each in
     let most : sum_by weight_of p.processes ≤ 100000 = r.plan.commands in
     omega (arith, r.uids, less, most)
 
@@ -76,7 +78,8 @@ pub place_within : (p : Plan) (k place : ℕ) (c : Command) → command_at p k p
 place_within p k place c at = command_there (commands_of p k) place c at
 
 -- a place is small
-place_small : (volumes : ℕ) (xs : List ProcessPlan) (k : ℕ) → list_all (is_process volumes) xs ≡ true → length (get_or xs k (record { who = nobody; commands = [] })).commands ≤ sum_by weight_of xs
+place_small : (volumes : ℕ) (xs : List ProcessPlan) (k : ℕ) → list_all (is_process volumes) xs ≡ true
+    → length (get_or xs k (record { who = nobody; commands = [] })).commands ≤ sum_by weight_of xs
 place_small volumes [] k are = omega arith
 place_small volumes (x ∷ xs) zero are =
     let parts = and_parts (is_process volumes x) (list_all (is_process volumes) xs) are in
@@ -93,7 +96,8 @@ place_fits p k place plan lt =
     let most : sum_by weight_of p.processes ≤ 100000 = plan.commands in
     omega (arith, lt, few, most)
 
-places_set : (qs : List Progress) (xs : List ProcessPlan) (k : ℕ) (q : Progress) → ArePlaces qs xs → q.place ≤ length (get_or xs k (record { who = nobody; commands = [] })).commands → ArePlaces (set qs k q) xs
+places_set : (qs : List Progress) (xs : List ProcessPlan) (k : ℕ) (q : Progress) → ArePlaces qs xs
+    → q.place ≤ length (get_or xs k (record { who = nobody; commands = [] })).commands → ArePlaces (set qs k q) xs
 places_set [] xs k q places le = tt
 places_set (o ∷ qs) [] k q places le = absurd places
 places_set (o ∷ qs) (x ∷ xs) zero q places le = (le, places.1)
@@ -139,7 +143,8 @@ answered_advances p s k c r = here (takes_effect r) (effect_advances p s k c)
     here true a = a
     here false a = record { processes = refl; next = omega arith }
 
-pub reached_on : (p : Plan) (s : Store) (k place : ℕ) (c : Command) (r : Reply) → IsReached p s → (progress_of s k).ended ≡ false → (progress_of s k).place ≡ place → command_at p k place ≡ Some c
+pub reached_on : (p : Plan) (s : Store) (k place : ℕ) (c : Command) (r : Reply) → IsReached p s → (progress_of s k).ended ≡ false
+    → (progress_of s k).place ≡ place → command_at p k place ≡ Some c
     → IsReached p (after_command p s k c r)
 unfolding after_command
 reached_on p s k place c r h going at there = record { plan = h.plan; places = places; uids = uids }
@@ -156,7 +161,8 @@ reached_on p s k place c r h going at there = record { plan = h.plan; places = p
     lt : place < length (commands_of p k)
     lt = place_within p k place c there
 
-    by_tries : (z : Bool) → tries_on (progress_of s k) c r ≡ z → (gone_on (progress_of s k) c r).place ≡ cond z (progress_of s k).place ((progress_of s k).place + 1)
+    by_tries : (z : Bool) → tries_on (progress_of s k) c r ≡ z
+        → (gone_on (progress_of s k) c r).place ≡ cond z (progress_of s k).place ((progress_of s k).place + 1)
     by_tries true e = rw e refl
     by_tries false e = rw e refl
 
@@ -166,16 +172,20 @@ reached_on p s k place c r h going at there = record { plan = h.plan; places = p
         (places_set s.processes p.processes k (gone_on (progress_of s k) c r) h.places
         (bound (tries_on (progress_of s k) c r) (by_tries (tries_on (progress_of s k) c r) refl)))
       where
-        bound : (z : Bool) → (gone_on (progress_of s k) c r).place ≡ cond z (progress_of s k).place ((progress_of s k).place + 1) → (gone_on (progress_of s k) c r).place ≤ length (commands_of p k)
+        bound : (z : Bool) → (gone_on (progress_of s k) c r).place ≡ cond z (progress_of s k).place ((progress_of s k).place + 1)
+            → (gone_on (progress_of s k) c r).place ≤ length (commands_of p k)
         bound true e = omega (arith, e, at, lt)
         bound false e = omega (arith, e, at, lt)
 
-    total : place_sum (set s.processes k (gone_on (progress_of s k) c r)) + (progress_of s k).place ≡ place_sum s.processes + (gone_on (progress_of s k) c r).place
-    total = sum_by-set (λ (x : Progress). x.place) s.processes k (gone_on (progress_of s k) c r) (record { place = 0; tries = 0; ended = true; faulted = false }) within
+    total : place_sum (set s.processes k (gone_on (progress_of s k) c r)) + (progress_of s k).place ≡ place_sum s.processes +
+        (gone_on (progress_of s k) c r).place
+    total = sum_by-set (λ (x : Progress). x.place) s.processes k (gone_on (progress_of s k) c r)
+        (record { place = 0; tries = 0; ended = true; faulted = false }) within
 
     uids : (answered p s k c r).next ≤ 2 + place_sum (set (answered p s k c r).processes k (gone_on (progress_of s k) c r))
     uids =
-        subst (λ (qs : List Progress). (answered p s k c r).next ≤ 2 + place_sum (set qs k (gone_on (progress_of s k) c r))) (sym (answered_advances p s k c r).processes)
+        subst (λ (qs : List Progress). (answered p s k c r).next ≤ 2 + place_sum (set qs k (gone_on (progress_of s k) c r)))
+        (sym (answered_advances p s k c r).processes)
         (bound (tries_on (progress_of s k) c r) refl (by_tries (tries_on (progress_of s k) c r) refl))
       where
         stay : tries_on (progress_of s k) c r ≡ true → (answered p s k c r).next ≡ s.next
@@ -185,17 +195,20 @@ reached_on p s k place c r h going at there = record { plan = h.plan; places = p
             either true f = f
             either false f = refl
 
-        bound : (z : Bool) → tries_on (progress_of s k) c r ≡ z → (gone_on (progress_of s k) c r).place ≡ cond z (progress_of s k).place ((progress_of s k).place + 1)
+        bound : (z : Bool) → tries_on (progress_of s k) c r ≡ z
+            → (gone_on (progress_of s k) c r).place ≡ cond z (progress_of s k).place ((progress_of s k).place + 1)
             → (answered p s k c r).next ≤ 2 + place_sum (set s.processes k (gone_on (progress_of s k) c r))
         bound true f e = omega (arith, e, stay f, total, h.uids)
         bound false f e = omega (arith, e, (answered_advances p s k c r).next, total, h.uids)
 
 -- ---- a failure is told
 
-pub reached_fault : (p : Plan) (s : Store) (k : ℕ) → IsReached p s → (progress_of s k).ended ≡ false → IsReached p (with_progress s k (record (progress_of s k) { faulted = true }))
+pub reached_fault : (p : Plan) (s : Store) (k : ℕ) → IsReached p s → (progress_of s k).ended ≡ false
+    → IsReached p (with_progress s k (record (progress_of s k) { faulted = true }))
 reached_fault p s k h going = record { plan = h.plan; places = places s.processes p.processes k h.places going; uids = uids }
   where
-    places : (qs : List Progress) (xs : List ProcessPlan) (k : ℕ) → ArePlaces qs xs → (get_or qs k (record { place = 0; tries = 0; ended = true; faulted = false })).ended ≡ false
+    places : (qs : List Progress) (xs : List ProcessPlan) (k : ℕ) → ArePlaces qs xs
+        → (get_or qs k (record { place = 0; tries = 0; ended = true; faulted = false })).ended ≡ false
         → ArePlaces (set qs k (record (get_or qs k (record { place = 0; tries = 0; ended = true; faulted = false })) { faulted = true })) xs
     places [] xs k h going = tt
     places (q ∷ qs) [] k h going = absurd h
@@ -204,8 +217,10 @@ reached_fault p s k h going = record { plan = h.plan; places = places s.processe
 
     uids : s.next ≤ 2 + place_sum (set s.processes k (record (progress_of s k) { faulted = true }))
     uids =
-        let total : place_sum (set s.processes k (record (progress_of s k) { faulted = true })) + (progress_of s k).place ≡ place_sum s.processes + (progress_of s k).place
-        = sum_by-set (λ (x : Progress). x.place) s.processes k (record (progress_of s k) { faulted = true }) (record { place = 0; tries = 0; ended = true; faulted = false }) (going_there s.processes k going) in
+        let total : place_sum (set s.processes k (record (progress_of s k) { faulted = true })) + (progress_of s k).place ≡ place_sum s.processes +
+        (progress_of s k).place
+        = sum_by-set (λ (x : Progress). x.place) s.processes k (record (progress_of s k) { faulted = true })
+        (record { place = 0; tries = 0; ended = true; faulted = false }) (going_there s.processes k going) in
         omega (arith, total, h.uids)
 
 -- ---- the boot

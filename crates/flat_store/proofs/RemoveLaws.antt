@@ -28,34 +28,42 @@ use Rattle.flat_store.proofs.TreeLaws.{entries_less}
 segment_left : (ns : List Node) (u v : ℕ) → v ≢ u → has_segment (without_node ns u) v ≡ has_segment ns v
 segment_left [] u v apart = refl
 segment_left (n ∷ ns) u v apart = elim (cases_Bool (eqb n.uid u)) [
-  | inl here ↦ (let is : n.uid ≡ u = grind (arith, nat_tests) in let other : eqb n.uid v ≡ false = ne_eqb n.uid v (omega (arith, is, apart)) in rw (here, other) (segment_left ns u v apart))
+  | inl here ↦ (let is : n.uid ≡ u = grind (arith, nat_tests) in let other : eqb n.uid v ≡ false = ne_eqb n.uid v (omega (arith, is, apart)) in
+      rw (here, other) (segment_left ns u v apart))
   | inr there ↦ rw there (ap (cond (eqb n.uid v) (not n.directory)) (segment_left ns u v apart))
 ]
 
 pages_left : (ns : List Node) (u v : ℕ) → v ≢ u → pages_in (without_node ns u) v ≡ pages_in ns v
 pages_left [] u v apart = refl
 pages_left (n ∷ ns) u v apart = elim (cases_Bool (eqb n.uid u)) [
-  | inl here ↦ (let is : n.uid ≡ u = grind (arith, nat_tests) in let other : eqb n.uid v ≡ false = ne_eqb n.uid v (omega (arith, is, apart)) in rw (here, other) (pages_left ns u v apart))
+  | inl here ↦ (let is : n.uid ≡ u = grind (arith, nat_tests) in let other : eqb n.uid v ≡ false = ne_eqb n.uid v (omega (arith, is, apart)) in
+      rw (here, other) (pages_left ns u v apart))
   | inr there ↦ rw there (ap (cond (eqb n.uid v) n.pages) (pages_left ns u v apart))
 ]
 
 volume_left : (ns : List Node) (u v : ℕ) → v ≢ u → volume_in (without_node ns u) v ≡ volume_in ns v
 volume_left [] u v apart = refl
 volume_left (n ∷ ns) u v apart = elim (cases_Bool (eqb n.uid u)) [
-  | inl here ↦ (let is : n.uid ≡ u = grind (arith, nat_tests) in let other : eqb n.uid v ≡ false = ne_eqb n.uid v (omega (arith, is, apart)) in rw (here, other) (volume_left ns u v apart))
+  | inl here ↦ (let is : n.uid ≡ u = grind (arith, nat_tests) in let other : eqb n.uid v ≡ false = ne_eqb n.uid v (omega (arith, is, apart)) in
+      rw (here, other) (volume_left ns u v apart))
   | inr there ↦ rw there (ap (cond (eqb n.uid v) n.volume) (volume_left ns u v apart))
 ]
 
 directory_left : (ns : List Node) (u v : ℕ) → v ≢ u → has_directory (without_node ns u) v ≡ has_directory ns v
 directory_left [] u v apart = refl
 directory_left (n ∷ ns) u v apart = elim (cases_Bool (eqb n.uid u)) [
-  | inl here ↦ (let is : n.uid ≡ u = grind (arith, nat_tests) in let other : eqb n.uid v ≡ false = ne_eqb n.uid v (omega (arith, is, apart)) in rw (here, other) (directory_left ns u v apart))
+  | inl here ↦ (let is : n.uid ≡ u = grind (arith, nat_tests) in let other : eqb n.uid v ≡ false = ne_eqb n.uid v (omega (arith, is, apart)) in
+      rw (here, other) (directory_left ns u v apart))
   | inr there ↦ rw there (ap (cond (eqb n.uid v) n.directory) (directory_left ns u v apart))
 ]
 
 directory_gone : (ns : List Node) (u : ℕ) → has_directory (without_node ns u) u ≡ false
 directory_gone [] u = refl
-directory_gone (n ∷ ns) u = elim (cases_Bool (eqb n.uid u)) [ inl here ↦ rw here (directory_gone ns u) | inr there ↦ rw there (rw there (directory_gone ns u)) ]
+directory_gone (n ∷ ns) u = elim (cases_Bool (eqb n.uid u)) [
+  | inl here ↦ rw here (directory_gone ns u)
+  | inr there ↦ rw there
+      (rw there (directory_gone ns u))
+]
 
 -- a stored page is of another segment
 stored_apart : (xs : List (ℕ × ℕ)) (u v q : ℕ) → ((page : ℕ) → is_stored xs u page ≡ false) → is_stored xs v q ≡ true → v ≢ u
@@ -76,7 +84,8 @@ later : (a b : Bool) → (a || b) ≡ false → (a ≡ false) × (b ≡ false)
 later true b h = cc
 later false b h = (refl, h)
 
-taken_left : (ns : List Node) (xs : List (ℕ × ℕ)) (u v : ℕ) → ((page : ℕ) → is_stored xs u page ≡ false) → taken_on (without_node ns u) xs v ≡ taken_on ns xs v
+taken_left : (ns : List Node) (xs : List (ℕ × ℕ)) (u v : ℕ) → ((page : ℕ) → is_stored xs u page ≡ false)
+    → taken_on (without_node ns u) xs v ≡ taken_on ns xs v
 unfolding taken_on
 taken_left ns [] u v none = refl
 taken_left ns (x ∷ xs) u v none =
@@ -84,7 +93,8 @@ taken_left ns (x ∷ xs) u v none =
     let apart : x.0 ≢ u = grind (arith, nat_tests) in
     sum_by-cons (λ (y : ℕ × ℕ). cond (eqb (volume_in (without_node ns u) y.0) v) 1 0) x xs
     ∙ ap (λ (n : ℕ). cond {A = ℕ} (eqb n v) 1 0 + count_by (λ y. eqb (volume_in (without_node ns u) y.0) v) xs) (volume_left ns u x.0 apart)
-    ∙ ap (λ (n : ℕ). cond {A = ℕ} (eqb (volume_in ns x.0) v) 1 0 + n) (taken_left ns xs u v (λ page. (later (is_page u page x) (is_stored xs u page) (none page)).1))
+    ∙ ap (λ (n : ℕ). cond {A = ℕ} (eqb (volume_in ns x.0) v) 1 0 + n)
+    (taken_left ns xs u v (λ page. (later (is_page u page x) (is_stored xs u page) (none page)).1))
     ∙ sym (sum_by-cons (λ (y : ℕ × ℕ). cond (eqb (volume_in ns y.0) v) 1 0) x xs)
 
 none_counted : (xs : List (ℕ × ℕ)) (u : ℕ) → ((page : ℕ) → is_stored xs u page ≡ false) → count_by (λ x. eqb x.0 u) xs ≡ 0
@@ -101,14 +111,17 @@ some_there : (o : Option Node) → is_some o ≡ true → (n : Node) × (o ≡ S
 some_there None e = cc
 some_there (Some n) e = (n, refl)
 
-none_stored : (p : Plan) (s : Store) (h : Held) (u : ℕ) → Holds p h s → ((page : ℕ) → is_some (page_at h.pages u page) ≡ false) → (page : ℕ) → is_stored s.stored u page ≡ false
+none_stored : (p : Plan) (s : Store) (h : Held) (u : ℕ) → Holds p h s → ((page : ℕ) → is_some (page_at h.pages u page) ≡ false) → (page : ℕ)
+    → is_stored s.stored u page ≡ false
 none_stored p s h u holds none page = holds.pages.there u page ∙ none page
 
 pub no_count : (p : Plan) (s : Store) (h : Held) (u : ℕ) → Holds p h s → ((page : ℕ) → is_some (page_at h.pages u page) ≡ false) → count_of h.accounts u ≡ 0
 no_count p s h u holds none = holds.counts u ∙ none_counted s.stored u (none_stored p s h u holds none)
 
-pub removed_shown : (p : Plan) (s : Store) (h k : Held) (u v : ℕ) → Holds p h s → Loses h.accounts k.accounts u → k ≡ record h { accounts = k.accounts; entries = k.entries }
-    → k.entries ≡ set h.entries v (drained (gauge_at h.entries v)) → v ≡ volume_in h.accounts.nodes u → IsTree h.accounts.nodes → is_some (node_in h.accounts.nodes u) ≡ true
+pub removed_shown : (p : Plan) (s : Store) (h k : Held) (u v : ℕ) → Holds p h s → Loses h.accounts k.accounts u
+    → k ≡ record h { accounts = k.accounts; entries = k.entries }
+    → k.entries ≡ set h.entries v (drained (gauge_at h.entries v)) → v ≡ volume_in h.accounts.nodes u → IsTree h.accounts.nodes
+    → is_some (node_in h.accounts.nodes u) ≡ true
     → ((page : ℕ) → is_some (page_at h.pages u page) ≡ false) → Holds p k (record s { nodes = without_node s.nodes u })
 removed_shown p s h k u v holds loses same less place tree there none =
     let unstored = none_stored p s h u holds none in
@@ -125,11 +138,13 @@ removed_shown p s h k u v holds loses same less place tree there none =
       flat = flat_left s.nodes u holds.flat;
       records = λ x. holds.records x ∙ ap (λ (n : ℕ). record { used = n; most = records_of p x }) (sym (taken_left s.nodes s.stored u x unstored));
       entries = λ x. ap (λ (g : List Gauge). gauge_at g x) (less ∙ ap (λ (y : ℕ). set h.entries y (drained (gauge_at h.entries y))) at)
-          ∙ counts_less h.entries (λ y. entries_on s.nodes y) (λ y. entries_on (without_node s.nodes u) y) (entries_of p) found.0.volume holds.entries (entries_less s.nodes u found.0 shape own) x;
+          ∙ counts_less h.entries (λ y. entries_on s.nodes y) (λ y. entries_on (without_node s.nodes u) y) (entries_of p) found.0.volume holds.entries
+          (entries_less s.nodes u found.0 shape own) x;
     })
 
 -- all pages are gone once those from the first on are
-pub all_gone : (p : Plan) (s : Store) (h : Held) (u : ℕ) → Holds p h (without_pages s u (λ q. nat_le 0 q)) → (page : ℕ) → is_some (page_at h.pages u page) ≡ false
+pub all_gone : (p : Plan) (s : Store) (h : Held) (u : ℕ) → Holds p h (without_pages s u (λ q. nat_le 0 q)) → (page : ℕ)
+    → is_some (page_at h.pages u page) ≡ false
 all_gone p s h u holds page =
     sym (holds.pages.there u page) ∙ is_stored-without s.stored u (λ q. nat_le 0 q) u page
     ∙ gone (eqb u u && nat_le 0 page) (is_stored s.stored u page) (grind (arith, nat_tests))
@@ -145,7 +160,12 @@ pub deleted_is : (s : Store) (u : ℕ) → record (without_pages s u (λ q. nat_
 deleted_is s u =
     ap (λ (w : Words). record s { nodes = without_node s.nodes u; words = w; stored = without_stored s.stored u (λ q. nat_le 0 q) })
     (λ i. λ v. λ o. ap (λ (z : Bool). cond (eqb v u && z) 0 (s.words v o)) (from_first (o / 1024) ∙ sym (from_first o)) i)
-    ∙ ap (λ (t : ℕ → Bool). record s { nodes = without_node s.nodes u; words = λ v o. cond (eqb v u && nat_le 0 o) 0 (s.words v o); stored = without_stored s.stored u t }) (λ i. λ q. from_first q i)
+    ∙ ap (λ (t : ℕ → Bool). record s {
+      nodes = without_node s.nodes u;
+      words = λ v o. cond (eqb v u && nat_le 0 o) 0 (s.words v o);
+      stored =
+          without_stored s.stored u t;
+    }) (λ i. λ q. from_first q i)
 
 -- ---- by its path
 

@@ -14,7 +14,8 @@ use Rattle.flat_model.specs.References.{alters, new_word, permits, reply_at, roo
 use Rattle.flat_model.specs.Store.{Store}
 use Rattle.flat_store.specs.Shown.{page_reply}
 
-pub stores_new : (s : Store) (u o : ℕ) (how : RefKind) (old w : ℕ) (b : Bool) → alters how ≡ true → old ≡ s.words u o → w ≡ new_word old how → b ≡ is_stored s.stored u (o / 1024) → w ≢ 0
+pub stores_new : (s : Store) (u o : ℕ) (how : RefKind) (old w : ℕ) (b : Bool) → alters how ≡ true → old ≡ s.words u o → w ≡ new_word old how
+    → b ≡ is_stored s.stored u (o / 1024) → w ≢ 0
     → not b ≡ stores_page s u o how
 stores_new s u o how old w b alters_it was is stored other =
     let whole : new_word (s.words u o) how ≡ w = ap (λ (x : ℕ). new_word x how) (sym was) ∙ sym is in
@@ -30,7 +31,8 @@ stores_none s u o how old w was is zero_is =
     none true = refl
     none false = refl
 
-pub crowded : (p : Plan) (s : Store) (n : Node) (u o : ℕ) (how : RefKind) (test : Bool) (otherwise r : Reply) → n.uid ≡ u → test ≡ stores_page s u o how → test ≡ true
+pub crowded : (p : Plan) (s : Store) (n : Node) (u o : ℕ) (how : RefKind) (test : Bool) (otherwise r : Reply) → n.uid ≡ u → test ≡ stores_page s u o how
+    → test ≡ true
     → otherwise ≡ word_reply (s.words u o) how → r ≡ room_reply p s n otherwise → r ≡ page_reply p s o how n
 crowded p s n u o how test otherwise r at is yes_is word answer =
     let stores : stores_page s n.uid o how ≡ true = ap (λ (x : ℕ). stores_page s x o how) at ∙ sym is ∙ yes_is in
@@ -43,12 +45,14 @@ roomy p s n u o how test r at is no_is word =
     word ∙ ap (λ (x : ℕ). word_reply (s.words x o) how) (sym at) ∙ sym (rw stores refl)
 
 -- a segment that is there, where neither access nor its length refuses
-pub within : (p : Plan) (s : Store) (k u o : ℕ) (how : RefKind) (n : Node) (r : Reply) → node_in s.nodes u ≡ Some n → permits (access_of (who_of p k) n.rows) how ≡ true → o / 1024 < n.pages
+pub within : (p : Plan) (s : Store) (k u o : ℕ) (how : RefKind) (n : Node) (r : Reply) → node_in s.nodes u ≡ Some n
+    → permits (access_of (who_of p k) n.rows) how ≡ true → o / 1024 < n.pages
     → r ≡ page_reply p s o how n → r ≡ reply_at p s k o how (node_in s.nodes u)
 within p s k u o how n r found may lt answer =
     let inside : nat_le (1024 * n.pages) o ≡ false = grind (arith, nat_tests) in
     answer ∙ sym (rw (found, may, inside) refl)
 
 -- the node of a uid, as the flat store has it
-pub node_shown : (s : Store) (nodes : List Node) (u : ℕ) (n : Branch) → s.nodes ≡ nodes → node_in nodes u ≡ Some (as_term (quota_in nodes) n) → node_in s.nodes u ≡ Some (as_term (quota_in s.nodes) n)
+pub node_shown : (s : Store) (nodes : List Node) (u : ℕ) (n : Branch) → s.nodes ≡ nodes → node_in nodes u ≡ Some (as_term (quota_in nodes) n)
+    → node_in s.nodes u ≡ Some (as_term (quota_in s.nodes) n)
 node_shown s nodes u n same found = ap (λ (ns : List Node). node_in ns u) same ∙ found ∙ ap (λ (ns : List Node). Some (as_term (quota_in ns) n)) (sym same)

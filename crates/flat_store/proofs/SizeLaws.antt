@@ -10,7 +10,8 @@ use Rattle.flat_model.specs.Store.{Store}
 use Rattle.flat_model.proofs.PageLaws.{stored_from, none_from}
 use Rattle.flat_store.specs.Shown.{Held, Holds, page_at, pages_in}
 
-pub stored_here : (p : Plan) (s : Store) (h : Held) (u from q : ℕ) → Holds p h s → from ≤ q → is_some (page_at h.pages u q) ≡ true → true ≡ is_stored_from s.stored u from
+pub stored_here : (p : Plan) (s : Store) (h : Held) (u from q : ℕ) → Holds p h s → from ≤ q → is_some (page_at h.pages u q) ≡ true
+    → true ≡ is_stored_from s.stored u from
 stored_here p s h u from q holds le there = sym (stored_from s.stored u from q (holds.pages.there u q ∙ there) (grind (arith, nat_tests)))
 
 pub none_past : (p : Plan) (s : Store) (h : Held) (u from page : ℕ) → Holds p h s → pages_in h.accounts.nodes u ≤ page

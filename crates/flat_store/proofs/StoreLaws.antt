@@ -29,17 +29,21 @@ module _ (p : Plan) (k : Kept) (s : Store) (h : IsShown p k s) where
   unfolding initiate_reply
   initiate_refused process path r e = sym (ap (initiate_of (numbers_of s process)) (segment_is path (Err r) e))
 
-  pub initiate_told : (process : ℕ) (path : List (List ℕ)) (n : Node) (o : Option ℕ) → segment_at k.held.accounts.nodes path ≡ Ok n → o ≡ number_for (numbers_at k.known process) n.uid
+  pub initiate_told : (process : ℕ) (path : List (List ℕ)) (n : Node) (o : Option ℕ) → segment_at k.held.accounts.nodes path ≡ Ok n
+      → o ≡ number_for (numbers_at k.known process) n.uid
       → known_or_full o ≡ initiate_reply s process path
   unfolding initiate_reply
   initiate_told process path n o e is =
-      ap known_or_full (is ∙ ap (λ (kst : List (Option ℕ)). number_for kst n.uid) (sym (numbers_are process))) ∙ sym (ap (initiate_of (numbers_of s process)) (segment_is path (Ok n) e))
+      ap known_or_full (is ∙ ap (λ (kst : List (Option ℕ)). number_for kst n.uid) (sym (numbers_are process)))
+      ∙ sym (ap (initiate_of (numbers_of s process)) (segment_is path (Ok n) e))
 
-  pub terminate_told : (process number : ℕ) (o : Option ℕ) → o ≡ uid_of (numbers_at k.known process) number → cond (is_some o) reply.Done reply.Unknown ≡ terminate_reply s process number
+  pub terminate_told : (process number : ℕ) (o : Option ℕ) → o ≡ uid_of (numbers_at k.known process) number
+      → cond (is_some o) reply.Done reply.Unknown ≡ terminate_reply s process number
   unfolding terminate_reply
   terminate_told process number o is = sym (ap (λ (x : Option ℕ). cond (is_some x) reply.Done reply.Unknown) (uid_known process number o is))
 
-  pub reference_told : (process : ℕ) (r : Reference) (o : Option ℕ) → o ≡ uid_of (numbers_at k.known process) r.number → reply_of p s process r.offset r.kind o ≡ reply_to_reference p s process r
+  pub reference_told : (process : ℕ) (r : Reference) (o : Option ℕ) → o ≡ uid_of (numbers_at k.known process) r.number
+      → reply_of p s process r.offset r.kind o ≡ reply_to_reference p s process r
   unfolding reply_to_reference
   reference_told process r o is = sym (ap (reply_of p s process r.offset r.kind) (uid_known process r.number o is))
 
@@ -49,7 +53,8 @@ past (x ∷ xs) zero d le = absurd (omega arith)
 past (x ∷ xs) (suc i) d le = past xs i d (omega arith)
 
 -- a process that the script hasn't knows nothing
-pub nobody_knows : (p : Plan) (k : Kept) (s : Store) (process number : ℕ) → IsShown p k s → length p.processes ≤ process → None ≡ uid_of (numbers_at k.known process) number
+pub nobody_knows : (p : Plan) (k : Kept) (s : Store) (process number : ℕ) → IsShown p k s → length p.processes ≤ process
+    → None ≡ uid_of (numbers_at k.known process) number
 nobody_knows p k s process number h le =
     let size : length k.known ≡ length p.processes = ap length (sym h.known) ∙ h.knowers in
     sym (ap (λ (kst : List (Option ℕ)). uid_of kst number) (past k.known process [] (omega (arith, size, le))))
@@ -67,7 +72,8 @@ effect_shown p k n s t h holds keeps same = subst (λ (x : Kept). IsShown p x t)
 })
 
 -- what the numbers of a process stand for is changed alone
-pub numbers_shown : (p : Plan) (k n : Kept) (s : Store) (process : ℕ) (numbers told : List (Option ℕ)) → IsShown p k s → n ≡ record k { known = n.known } → n.known ≡ set k.known process told → told ≡ numbers
+pub numbers_shown : (p : Plan) (k n : Kept) (s : Store) (process : ℕ) (numbers told : List (Option ℕ)) → IsShown p k s
+    → n ≡ record k { known = n.known } → n.known ≡ set k.known process told → told ≡ numbers
     → IsShown p n (with_numbers s process numbers)
 numbers_shown p k n s process numbers told h same now is = subst (λ (x : Kept). IsShown p x (with_numbers s process numbers)) (sym same) (record {
   holds = record {
@@ -95,7 +101,8 @@ pub initiate_stays : (s : Store) (process : ℕ) (path : List (List ℕ)) (r : R
 unfolding after_initiate
 initiate_stays s process path r found = ap (initiated s process) found
 
-pub after_terminate_is : (s : Store) (process number : ℕ) → with_numbers s process (without_number (numbers_of s process) number) ≡ after_terminate s process number
+pub after_terminate_is : (s : Store) (process number : ℕ)
+    → with_numbers s process (without_number (numbers_of s process) number) ≡ after_terminate s process number
 unfolding after_terminate
 after_terminate_is s process number = refl
 
@@ -103,15 +110,18 @@ pub terminate_asked : (s : Store) (process number : ℕ) → takes_effect (termi
 unfolding terminate_reply
 terminate_asked s process number = here (is_some (known_uid s process number)) refl
   where
-    here : (z : Bool) → is_some (known_uid s process number) ≡ z → takes_effect (cond z reply.Done reply.Unknown) ≡ true → is_some (known_uid s process number) ≡ true
+    here : (z : Bool) → is_some (known_uid s process number) ≡ z → takes_effect (cond z reply.Done reply.Unknown) ≡ true
+        → is_some (known_uid s process number) ≡ true
     here true e is = e
     here false e is = cc
 
-pub after_reference_is : (s : Store) (process : ℕ) (r : Reference) (o : Option ℕ) → known_uid s process r.number ≡ o → written_by s r.offset r.kind o ≡ after_reference s process r
+pub after_reference_is : (s : Store) (process : ℕ) (r : Reference) (o : Option ℕ) → known_uid s process r.number ≡ o
+    → written_by s r.offset r.kind o ≡ after_reference s process r
 unfolding after_reference
 after_reference_is s process r o is = sym (ap (written_by s r.offset r.kind) is)
 
-pub reference_asked : (p : Plan) (s : Store) (process : ℕ) (r : Reference) (u : ℕ) → known_uid s process r.number ≡ Some u → takes_effect (reply_to_reference p s process r) ≡ true
+pub reference_asked : (p : Plan) (s : Store) (process : ℕ) (r : Reference) (u : ℕ) → known_uid s process r.number ≡ Some u
+    → takes_effect (reply_to_reference p s process r) ≡ true
     → takes_effect (reply_at p s process r.offset r.kind (node_in s.nodes u)) ≡ true
 unfolding reply_to_reference
 reference_asked p s process r u is effect = sym (ap (λ (o : Option ℕ). takes_effect (reply_of p s process r.offset r.kind o)) is) ∙ effect

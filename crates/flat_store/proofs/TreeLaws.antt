@@ -38,7 +38,8 @@ branch_apart (n ∷ ns) d name m t found = elim (cases_Bool (is_branch d name n)
 ]
 
 onward_apart : (ns : List Node) (o : Option Node) (dir : Bool) (names : List (List ℕ)) (v : ℕ) → ((m : Node) → o ≡ Some m → m.uid ≢ 1)
-    → ((m : Node) → m.uid ≢ 1 → walk_from ns m.uid m.directory names ≡ LeadsTo v → v ≢ 1) → onward (λ n. walk_from ns n.uid n.directory names) dir o ≡ LeadsTo v → v ≢ 1
+    → ((m : Node) → m.uid ≢ 1 → walk_from ns m.uid m.directory names ≡ LeadsTo v → v ≢ 1)
+    → onward (λ n. walk_from ns n.uid n.directory names) dir o ≡ LeadsTo v → v ≢ 1
 onward_apart ns o false names v apart go e = cc
 onward_apart ns None true names v apart go e = cc
 onward_apart ns (Some m) true names v apart go e = go m (apart m refl) e
@@ -46,18 +47,21 @@ onward_apart ns (Some m) true names v apart go e = go m (apart m refl) e
 walk_apart : (ns : List Node) (u : ℕ) (dir : Bool) (names : List (List ℕ)) (v : ℕ) → IsTree ns → u ≢ 1 → walk_from ns u dir names ≡ LeadsTo v → v ≢ 1
 walk_apart ns u dir [] v t apart e = (let same : u ≡ v = cc in subst (λ (x : ℕ). x ≢ 1) same apart)
 walk_apart ns u dir (name ∷ names) v t apart e =
-    onward_apart ns (branch_in ns u name) dir names v (λ m found. branch_apart ns u name m t found) (λ m ne step. walk_apart ns m.uid m.directory names v t ne step) e
+    onward_apart ns (branch_in ns u name) dir names v (λ m found. branch_apart ns u name m t found)
+    (λ m ne step. walk_apart ns m.uid m.directory names v t ne step) e
 
 names_apart : (ns : List Node) (name : List ℕ) (names : List (List ℕ)) (v : ℕ) → IsTree ns → walk_in ns (name ∷ names) ≡ LeadsTo v → v ≢ 1
 names_apart ns name names v t e =
-    onward_apart ns (branch_in ns 1 name) true names v (λ m found. branch_apart ns 1 name m t found) (λ m ne step. walk_apart ns m.uid m.directory names v t ne step) e
+    onward_apart ns (branch_in ns 1 name) true names v (λ m found. branch_apart ns 1 name m t found)
+    (λ m ne step. walk_apart ns m.uid m.directory names v t ne step) e
 
 found_apart : (ns : List Node) (w : Walk) (n : Node) → ((v : ℕ) → w ≡ LeadsTo v → v ≢ 1) → walked ns w ≡ Ok n → n.uid ≢ 1
 found_apart ns (LeadsTo u) n apart found = there (node_in ns u) refl found
   where
     there : (o : Option Node) → node_in ns u ≡ o → there_or o ≡ Ok n → n.uid ≢ 1
     there None e f = cc
-    there (Some m) e f = (let same : m ≡ n = cc in let uid : m.uid ≡ u = uid_found ns u m e in subst (λ (x : ℕ). x ≢ 1) (sym uid ∙ ap (λ (x : Node). x.uid) same) (apart u refl))
+    there (Some m) e f = (let same : m ≡ n = cc in let uid : m.uid ≡ u = uid_found ns u m e in
+        subst (λ (x : ℕ). x ≢ 1) (sym uid ∙ ap (λ (x : Node). x.uid) same) (apart u refl))
 found_apart ns Missing n apart found = cc
 found_apart ns InSegment n apart found = cc
 
@@ -71,14 +75,16 @@ path_apart ns (name ∷ names) n t some found = found_apart ns (walk_in ns (name
 
 none_left : (ns : List Node) (u : ℕ) → AreBelow u ns → without_node ns u ≡ ns
 none_left [] u b = refl
-none_left (n ∷ ns) u b = (let apart : eqb n.uid u ≡ false = (let lt : n.uid < u = b.0 in grind (arith, nat_tests)) in rw apart (ap (λ (l : List Node). n ∷ l) (none_left ns u b.1)))
+none_left (n ∷ ns) u b = (let apart : eqb n.uid u ≡ false = (let lt : n.uid < u = b.0 in grind (arith, nat_tests)) in
+    rw apart (ap (λ (l : List Node). n ∷ l) (none_left ns u b.1)))
 
 older : (ns : List Node) (n : Node) (o : Option ℕ) → Joins ns o n → AreBelow n.uid ns
 older ns n None root = subst (λ (l : List Node). AreBelow n.uid l) (sym root.first) tt
 older ns n (Some s) branch = branch.later
 
 -- it is one of the nodes on its volume
-pub entries_less : (ns : List Node) (u : ℕ) (n : Node) → IsTree ns → node_in ns u ≡ Some n → (v : ℕ) → entries_on (without_node ns u) v + cond {A = ℕ} (eqb n.volume v) 1 0 ≡ entries_on ns v
+pub entries_less : (ns : List Node) (u : ℕ) (n : Node) → IsTree ns → node_in ns u ≡ Some n → (v : ℕ)
+    → entries_on (without_node ns u) v + cond {A = ℕ} (eqb n.volume v) 1 0 ≡ entries_on ns v
 unfolding entries_on
 entries_less [] u n t found v = cc
 entries_less (m ∷ ms) u n t found v = elim (cases_Bool (eqb m.uid u)) [
@@ -87,13 +93,17 @@ entries_less (m ∷ ms) u n t found v = elim (cases_Bool (eqb m.uid u)) [
       let same : m ≡ n = cc in
       let uid : m.uid ≡ u = grind (arith, nat_tests) in
       let rest : without_node ms u ≡ ms = none_left ms u (subst (λ (x : ℕ). AreBelow x ms) uid (older ms m m.superior t.0)) in
-      let count : count_by (λ x. eqb x.volume v) (m ∷ ms) ≡ cond {A = ℕ} (eqb m.volume v) 1 0 + count_by (λ x. eqb x.volume v) ms = sum_by-cons (λ (x : Node). cond (eqb x.volume v) 1 0) m ms in
+      let count : count_by (λ x. eqb x.volume v) (m ∷ ms) ≡ cond {A = ℕ} (eqb m.volume v) 1 0 + count_by (λ x. eqb x.volume v) ms =
+      sum_by-cons (λ (x : Node). cond (eqb x.volume v) 1 0) m ms in
       let place : cond {A = ℕ} (eqb m.volume v) 1 0 ≡ cond {A = ℕ} (eqb n.volume v) 1 0 = ap (λ (x : Node). cond {A = ℕ} (eqb x.volume v) 1 0) same in
       rw is (ap (λ (l : List Node). count_by (λ x. eqb x.volume v) l + cond {A = ℕ} (eqb n.volume v) 1 0) rest ∙ omega (arith, count, place)))
   | inr isnt ↦
-      (let ih : count_by (λ x. eqb x.volume v) (without_node ms u) + cond {A = ℕ} (eqb n.volume v) 1 0 ≡ count_by (λ x. eqb x.volume v) ms = entries_less ms u n t.1 (rw isnt at found) v in
-      let count : count_by (λ x. eqb x.volume v) (m ∷ ms) ≡ cond {A = ℕ} (eqb m.volume v) 1 0 + count_by (λ x. eqb x.volume v) ms = sum_by-cons (λ (x : Node). cond (eqb x.volume v) 1 0) m ms in
-      let left : count_by (λ x. eqb x.volume v) (m ∷ without_node ms u) ≡ cond {A = ℕ} (eqb m.volume v) 1 0 + count_by (λ x. eqb x.volume v) (without_node ms u) = sum_by-cons (λ (x : Node). cond (eqb x.volume v) 1 0) m (without_node ms u) in
+      (let ih : count_by (λ x. eqb x.volume v) (without_node ms u) + cond {A = ℕ} (eqb n.volume v) 1 0 ≡ count_by (λ x. eqb x.volume v) ms =
+      entries_less ms u n t.1 (rw isnt at found) v in
+      let count : count_by (λ x. eqb x.volume v) (m ∷ ms) ≡ cond {A = ℕ} (eqb m.volume v) 1 0 + count_by (λ x. eqb x.volume v) ms =
+      sum_by-cons (λ (x : Node). cond (eqb x.volume v) 1 0) m ms in
+      let left : count_by (λ x. eqb x.volume v) (m ∷ without_node ms u) ≡ cond {A = ℕ} (eqb m.volume v) 1 0 + count_by (λ x. eqb x.volume v)
+      (without_node ms u) = sum_by-cons (λ (x : Node). cond (eqb x.volume v) 1 0) m (without_node ms u) in
       rw isnt (omega (arith, ih, count, left)))
 ]
 

@@ -52,7 +52,8 @@ module _ (s : Store) (nodes : List Node) (path : List (List ℕ)) (same : s.node
   unfolding acl_reply
   acl_refused row r e = sym (rw (segment_is (Err r) e) refl)
 
-  pub acl_told : (row : Named) (n : Node) (b : Bool) → segment_at nodes path ≡ Ok n → takes_row row.person row.project n.rows ≡ b → cond b reply.Done reply.AclFull ≡ acl_reply s path row
+  pub acl_told : (row : Named) (n : Node) (b : Bool) → segment_at nodes path ≡ Ok n → takes_row row.person row.project n.rows ≡ b
+      → cond b reply.Done reply.AclFull ≡ acl_reply s path row
   unfolding acl_reply
   acl_told row n b e is = sym (rw (segment_is (Ok n) e, is) refl)
 
@@ -61,7 +62,8 @@ module _ (s : Store) (nodes : List Node) (path : List (List ℕ)) (same : s.node
   unfolding length_reply
   length_refused pages r e = sym (rw (segment_is (Err r) e) refl)
 
-  pub length_told : (pages : ℕ) (n : Node) (b : Bool) → segment_at nodes path ≡ Ok n → is_stored_from s.stored n.uid pages ≡ b → cond b reply.Beyond reply.Done ≡ length_reply s path pages
+  pub length_told : (pages : ℕ) (n : Node) (b : Bool) → segment_at nodes path ≡ Ok n → is_stored_from s.stored n.uid pages ≡ b
+      → cond b reply.Beyond reply.Done ≡ length_reply s path pages
   unfolding length_reply
   length_told pages n b e is = sym (rw (segment_is (Ok n) e, is) refl)
 
@@ -81,19 +83,23 @@ module _ (s : Store) (nodes : List Node) (path : List (List ℕ)) (same : s.node
   pub delete_told : (n : Node) (b z : Bool) → branch_at nodes path ≡ Ok n → list_any (is_inferior n.uid) nodes ≡ b → eqb n.quota 0 ≡ z
       → cond b reply.NotEmpty (cond z reply.Done reply.HasQuota) ≡ delete_reply s path
   unfolding delete_reply
-  delete_told n b z e is quota = let inferior : list_any (is_inferior n.uid) s.nodes ≡ b = ap (list_any (is_inferior n.uid)) same ∙ is in sym (rw (branch_is (Ok n) e, inferior, quota) refl)
+  delete_told n b z e is quota = let inferior : list_any (is_inferior n.uid) s.nodes ≡ b = ap (list_any (is_inferior n.uid)) same
+      ∙ is in sym (rw (branch_is (Ok n) e, inferior, quota) refl)
 
   -- status
   pub status_refused : (r : Reply) → node_at nodes path ≡ Err r → r ≡ status_reply s path
   unfolding status_reply
   status_refused r e = sym (rw (node_is (Err r) e) refl)
 
-  pub status_directory : (n : Node) (quota used : ℕ) → node_at nodes path ≡ Ok n → n.directory ≡ true → quota ≡ n.quota → used ≡ used_by s.nodes s.stored n.uid
+  pub status_directory : (n : Node) (quota used : ℕ) → node_at nodes path ≡ Ok n → n.directory ≡ true → quota ≡ n.quota
+      → used ≡ used_by s.nodes s.stored n.uid
       → reply.DirIs n.uid quota used ≡ status_reply s path
   unfolding status_reply
-  status_directory n quota used e is q u = ap (λ (x : ℕ). reply.DirIs n.uid x used) q ∙ ap (reply.DirIs n.uid n.quota) u ∙ sym (rw (node_is (Ok n) e, is) refl)
+  status_directory n quota used e is q u = ap (λ (x : ℕ). reply.DirIs n.uid x used) q ∙ ap (reply.DirIs n.uid n.quota) u
+      ∙ sym (rw (node_is (Ok n) e, is) refl)
 
-  pub status_segment : (n : Node) (stored : ℕ) → node_at nodes path ≡ Ok n → n.directory ≡ false → stored ≡ count_by (λ x. eqb x.0 n.uid) s.stored → reply.SegIs n.uid n.pages stored ≡ status_reply s path
+  pub status_segment : (n : Node) (stored : ℕ) → node_at nodes path ≡ Ok n → n.directory ≡ false → stored ≡ count_by (λ x. eqb x.0 n.uid) s.stored
+      → reply.SegIs n.uid n.pages stored ≡ status_reply s path
   unfolding status_reply
   status_segment n stored e is u = ap (reply.SegIs n.uid n.pages) u ∙ sym (rw (node_is (Ok n) e, is) refl)
 
@@ -107,7 +113,8 @@ module _ (s : Store) (nodes : List Node) (path : List (List ℕ)) (same : s.node
   unfolding move_reply
   move_answered amount n r given e is told =
       told ∙ ap move_told (is ∙ ap (λ (ns : List Node). scratch_answer ns s.stored n.uid (is_positive amount) (unsigned_abs amount)) (sym same))
-      ∙ both (nat_lt (quota_in s.nodes (giver_of (above s.nodes) n.uid (is_positive amount))) (unsigned_abs amount)) (over_in (tree_moved s.nodes n.uid (is_positive amount) (unsigned_abs amount)) s.stored)
+      ∙ both (nat_lt (quota_in s.nodes (giver_of (above s.nodes) n.uid (is_positive amount))) (unsigned_abs amount))
+      (over_in (tree_moved s.nodes n.uid (is_positive amount) (unsigned_abs amount)) s.stored)
       ∙ sym (rw (directory_is (Ok n) e) refl)
     where
       over : (o : Option ℕ) → move_told (over_answer o) ≡ done_or_over o
@@ -131,7 +138,8 @@ pub make_root : (p : Plan) (s : Store) (path : List (List ℕ)) (volume : ℕ) (
 unfolding make_reply
 make_root p s path volume dir is = sym (rw is refl)
 
-module _ (p : Plan) (s : Store) (nodes : List Node) (path names : List (List ℕ)) (name : List ℕ) (volume : ℕ) (dir : Bool) (same : s.nodes ≡ nodes) (parts : path ≡ names ++ name ∷ []) where
+module _ (p : Plan) (s : Store) (nodes : List Node) (path names : List (List ℕ)) (name : List ℕ) (volume : ℕ) (dir : Bool) (same : s.nodes ≡ nodes)
+    (parts : path ≡ names ++ name ∷ []) where
   pub make_refused : (r : Reply) → node_at nodes names ≡ Err r → r ≡ make_reply p s path volume dir
   unfolding make_reply
   make_refused r e = sym (rw (parts_are path names name parts, node_is s nodes names same (Err r) e) refl)
@@ -140,6 +148,7 @@ module _ (p : Plan) (s : Store) (nodes : List Node) (path names : List (List ℕ
   unfolding make_reply
   make_in_segment n e is = sym (rw (parts_are path names name parts, node_is s nodes names same (Ok n) e, is) refl)
 
-  pub make_told : (n : Node) (r : Reply) → node_at nodes names ≡ Ok n → n.directory ≡ true → r ≡ make_in p s volume dir name n → r ≡ make_reply p s path volume dir
+  pub make_told : (n : Node) (r : Reply) → node_at nodes names ≡ Ok n → n.directory ≡ true → r ≡ make_in p s volume dir name n
+      → r ≡ make_reply p s path volume dir
   unfolding make_reply
   make_told n r e is answer = answer ∙ sym (rw (parts_are path names name parts, node_is s nodes names same (Ok n) e, is) refl)

@@ -6,12 +6,14 @@ use Rattle.flat_store.proofs.holdings.Holdings.acl_reply.Goals as goal
 
 pub returns-then-takes : goal.returns-then-takes
 returns-then-takes c = λ p s h.
-    acl_told s c.args.self.now.accounts.nodes c.args.path.now h.nodes c.args.row.now (as_term (quota_in c.args.self.now.accounts.nodes) c.in-Ok.node.now) true c.in-Ok.ensures.ok
+    acl_told s c.args.self.now.accounts.nodes c.args.path.now h.nodes c.args.row.now
+    (as_term (quota_in c.args.self.now.accounts.nodes) c.in-Ok.node.now) true c.in-Ok.ensures.ok
     (sym c.takes.ensures ∙ c.if-takes.true)
 
 pub returns-else-takes : goal.returns-else-takes
 returns-else-takes c = λ p s h.
-    acl_told s c.args.self.now.accounts.nodes c.args.path.now h.nodes c.args.row.now (as_term (quota_in c.args.self.now.accounts.nodes) c.in-Ok.node.now) false c.in-Ok.ensures.ok
+    acl_told s c.args.self.now.accounts.nodes c.args.path.now h.nodes c.args.row.now
+    (as_term (quota_in c.args.self.now.accounts.nodes) c.in-Ok.node.now) false c.in-Ok.ensures.ok
     (sym c.takes.ensures ∙ c.if-takes.false)
 
 pub returns-in-Err : goal.returns-in-Err

@@ -4,7 +4,8 @@ use Rattle.flat_store.proofs.holdings.Holdings.cut_is_zero.Goals as goal
 
 pub returns-then-value-ne0 : goal.returns-then-value-ne0
 returns-then-value-ne0 c = λ p s h.
-    one_stays s c.args.uid c.args.words c.loop-offset.offset c.value.result c.loop-offset.invariant.1 c.loop-offset-test.true (c.value.ensures.value ∙ c.word.ensures p s h) c.if-value-ne0.true
+    one_stays s c.args.uid c.args.words c.loop-offset.offset c.value.result c.loop-offset.invariant.1 c.loop-offset-test.true
+    (c.value.ensures.value ∙ c.word.ensures p s h) c.if-value-ne0.true
 
 pub loop-offset-preserved : goal.loop-offset-preserved
 loop-offset-preserved c = (

@@ -15,7 +15,8 @@ pub returns-then-is_err-clause-effect : goal.returns-then-is_err-clause-effect
 returns-then-is_err-clause-effect c = λ s same effect.
     let n : Node = as_term (quota_in c.args.self.now.accounts.nodes) c.in-Ok.node.now in
     let found = ap (λ (ns : List Node). branch_at ns c.args.path.now) same ∙ c.in-Ok.ensures.ok in
-    let inferior = ap (λ (ns : List Node). has_inferior ns c.in-Ok.node.now.uid) same ∙ ap (λ (x : Held). has_inferior x.accounts.nodes c.in-Ok.node.now.uid) (sym c.self.view_is)
+    let inferior = ap (λ (ns : List Node). has_inferior ns c.in-Ok.node.now.uid) same
+    ∙ ap (λ (x : Held). has_inferior x.accounts.nodes c.in-Ok.node.now.uid) (sym c.self.view_is)
     ∙ c.may_remove.ensures.0 (sym c.is_err.ensures.value ∙ c.if-is_err.true) in
     let clash : true ≡ false = sym inferior ∙ (delete_asked s c.args.path.now n found effect).0 in
     cc
@@ -24,10 +25,12 @@ pub returns-then-quota_of-ne0-clause-effect : goal.returns-then-quota_of-ne0-cla
 returns-then-quota_of-ne0-clause-effect c = λ s same effect.
     let n : Node = as_term (quota_in c.args.self.now.accounts.nodes) c.in-Ok.node.now in
     let found = ap (λ (ns : List Node). branch_at ns c.args.path.now) same ∙ c.in-Ok.ensures.ok in
-    let apart : eqb (quota_in c.args.self.now.accounts.nodes c.in-Ok.node.now.uid) 0 ≡ false = ap (λ (q : ℕ). eqb q 0) (sym c.quota_of.ensures) ∙ ne_eqb c.quota_of.result 0 c.if-quota_of-ne0.true in
+    let apart : eqb (quota_in c.args.self.now.accounts.nodes c.in-Ok.node.now.uid) 0 ≡ false = ap (λ (q : ℕ). eqb q 0) (sym c.quota_of.ensures)
+    ∙ ne_eqb c.quota_of.result 0 c.if-quota_of-ne0.true in
     let clash : true ≡ false = sym (delete_asked s c.args.path.now n found effect).1 ∙ apart in
     cc
 
 pub returns-clause-effect : goal.returns-clause-effect
 returns-clause-effect c = λ s same effect.
-    delete_done s c.args.path.now (as_term (quota_in c.args.self.now.accounts.nodes) c.in-Ok.node.now) (ap (λ (ns : List Node). branch_at ns c.args.path.now) same ∙ c.in-Ok.ensures.ok)
+    delete_done s c.args.path.now (as_term (quota_in c.args.self.now.accounts.nodes) c.in-Ok.node.now)
+    (ap (λ (ns : List Node). branch_at ns c.args.path.now) same ∙ c.in-Ok.ensures.ok)

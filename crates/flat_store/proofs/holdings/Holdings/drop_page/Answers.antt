@@ -1,4 +1,5 @@
 use Rattle.std.proofs.Common.{is_some, refl, sym, ap, ◌∙◌, eqb}
+use Rattle.flat_store.specs.contracts.holdings.Holdings.{the_view}
 use Rattle.flat_store.specs.Shown.{Held, without_pages, page_at}
 use Rattle.flat_store.proofs.DropLaws.{held_inside, count_there, drop_done, drop_shown, missing, segment_there}
 use Rattle.flat_store.proofs.holdings.Holdings.drop_page.Goals as goal
@@ -6,28 +7,48 @@ use Rattle.flat_store.proofs.holdings.Holdings.drop_page.Goals as goal
 pub credit-requires-clause-segment : goal.credit-requires-clause-segment
 credit-requires-clause-segment c =
     let h = c.self.invariant in
-    segment_there h.0 h.1 (record { accounts = c.self.inside.accounts; pages = c.self.inside.pages; records = c.self.inside.records.items; entries = c.self.inside.entries.items })
+    segment_there h.0 h.1 (the_view c.self.inside)
     c.args.uid c.args.page h.2 (sym c.has.ensures ∙ c.if-has.true)
 
 pub credit-requires-clause-stored : goal.credit-requires-clause-stored
 credit-requires-clause-stored c =
     let h = c.self.invariant in
-    count_there c.self.inside.accounts h.1.stored c.args.uid c.args.page h.2.counts h.2.pages.once (h.2.pages.there c.args.uid c.args.page ∙ sym c.has.ensures ∙ c.if-has.true)
+    count_there c.self.inside.accounts h.1.stored c.args.uid c.args.page h.2.counts h.2.pages.once
+    (h.2.pages.there c.args.uid c.args.page ∙ sym c.has.ensures ∙ c.if-has.true)
 
 pub invariant_of-self : goal.invariant_of-self
 invariant_of-self c =
     let h = c.self.invariant in
-    let before : Held = record { accounts = c.self.inside.accounts; pages = c.self.inside.pages; records = c.self.inside.records.items; entries = c.self.inside.entries.items } in
-    let after : Held = record { accounts = c.credit.new.self; pages = c.remove.new.self; records = c.drain_at.new.gauges.items; entries = c.self.inside.entries.items } in
-    let drops = drop_done before after c.args.uid c.args.page c.volume_of-volume.result c.credit.ensures c.remove.ensures c.volume_of-volume.ensures c.drain_at.ensures refl in
-    (h.0, without_pages h.1 c.args.uid (λ q. eqb q c.args.page), drop_shown h.0 h.1 before after c.args.uid c.args.page h.2 (sym c.has.ensures ∙ c.if-has.true) drops)
+    let before : Held = the_view c.self.inside in
+    let after : Held = record {
+      accounts = c.credit.new.self;
+      pages = c.remove.new.self;
+      records = c.drain_at.new.gauges.items;
+      entries =
+          c.self.inside.entries.items;
+    } in
+    let drops = drop_done before after c.args.uid c.args.page c.volume_of-volume.result c.credit.ensures c.remove.ensures c.volume_of-volume.ensures
+    c.drain_at.ensures refl in (
+      h.0,
+      without_pages h.1 c.args.uid (λ q. eqb q c.args.page),
+      drop_shown h.0 h.1 before after c.args.uid c.args.page h.2
+          (sym c.has.ensures ∙ c.if-has.true) drops,
+    )
 
 pub returns-then-has : goal.returns-then-has
 returns-then-has c = λ p s h.
-    let before : Held = record { accounts = c.self.inside.accounts; pages = c.self.inside.pages; records = c.self.inside.records.items; entries = c.self.inside.entries.items } in
-    let after : Held = record { accounts = c.credit.new.self; pages = c.remove.new.self; records = c.drain_at.new.gauges.items; entries = c.self.inside.entries.items } in
-    let drops = drop_done before after c.args.uid c.args.page c.volume_of-volume.result c.credit.ensures c.remove.ensures c.volume_of-volume.ensures c.drain_at.ensures refl in
+    let before : Held = the_view c.self.inside in
+    let after : Held = record {
+      accounts = c.credit.new.self;
+      pages = c.remove.new.self;
+      records = c.drain_at.new.gauges.items;
+      entries =
+          c.self.inside.entries.items;
+    } in
+    let drops = drop_done before after c.args.uid c.args.page c.volume_of-volume.result c.credit.ensures c.remove.ensures c.volume_of-volume.ensures
+    c.drain_at.ensures refl in
     drop_shown p s before after c.args.uid c.args.page (held_inside p s before c.args.self.now c.self.view_is h) (sym c.has.ensures ∙ c.if-has.true) drops
 
 pub returns-else-has : goal.returns-else-has
-returns-else-has c = λ p s h. missing p s c.args.self.now c.args.uid c.args.page h (ap (λ (x : Held). is_some (page_at x.pages c.args.uid c.args.page)) (sym c.self.view_is) ∙ sym c.has.ensures ∙ c.if-has.false)
+returns-else-has c = λ p s h. missing p s c.args.self.now c.args.uid c.args.page h
+    (ap (λ (x : Held). is_some (page_at x.pages c.args.uid c.args.page)) (sym c.self.view_is) ∙ sym c.has.ensures ∙ c.if-has.false)

@@ -6,12 +6,14 @@ use Rattle.flat_store.proofs.holdings.Holdings.length_reply.Goals as goal
 
 pub returns-then-is_stored_from : goal.returns-then-is_stored_from
 returns-then-is_stored_from c = λ p s h.
-    length_told s c.args.self.now.accounts.nodes c.args.path.now h.nodes c.args.pages (as_term (quota_in c.args.self.now.accounts.nodes) c.in-Ok.node.now) true c.in-Ok.ensures.ok
+    length_told s c.args.self.now.accounts.nodes c.args.path.now h.nodes c.args.pages
+    (as_term (quota_in c.args.self.now.accounts.nodes) c.in-Ok.node.now) true c.in-Ok.ensures.ok
     (sym (c.is_stored_from.ensures p s h) ∙ c.if-is_stored_from.true)
 
 pub returns-else-is_stored_from : goal.returns-else-is_stored_from
 returns-else-is_stored_from c = λ p s h.
-    length_told s c.args.self.now.accounts.nodes c.args.path.now h.nodes c.args.pages (as_term (quota_in c.args.self.now.accounts.nodes) c.in-Ok.node.now) false c.in-Ok.ensures.ok
+    length_told s c.args.self.now.accounts.nodes c.args.path.now h.nodes c.args.pages
+    (as_term (quota_in c.args.self.now.accounts.nodes) c.in-Ok.node.now) false c.in-Ok.ensures.ok
     (sym (c.is_stored_from.ensures p s h) ∙ c.if-is_stored_from.false)
 
 pub returns-in-Err : goal.returns-in-Err

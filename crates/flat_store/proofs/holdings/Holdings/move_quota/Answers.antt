@@ -12,6 +12,7 @@ use Rattle.dir_tree.specs.Nodes.{as_term}
 use Rattle.flat_model.specs.Branches.{directory_at}
 use Rattle.flat_model.specs.Commands.{takes_effect}
 use Rattle.flat_model.specs.Store.{Store}
+use Rattle.flat_store.specs.contracts.holdings.Holdings.{the_view}
 use Rattle.flat_store.specs.Shown.{Held, Holds}
 use Rattle.flat_store.proofs.DropLaws.{held_inside}
 use Rattle.flat_store.proofs.EffectLaws.{after_move_is, either_held, move_either, move_stays, told_ok}
@@ -28,26 +29,31 @@ pub invariant_of-self : goal.invariant_of-self
 invariant_of-self c =
     let h = c.self.invariant in
     let back = to_z-of_z w32 c.args.amount c.ranges.amount in
-    let before : Held = record { accounts = c.self.inside.accounts; pages = c.self.inside.pages; records = c.self.inside.records.items; entries = c.self.inside.entries.items } in
+    let before : Held = the_view c.self.inside in
     let after : Held = record before { accounts = c.move_quota-refused.new.self } in
-    either_held h.0 h.1 after (tree_moved h.1.nodes c.in-Ok.node.now.uid (is_positive c.args.amount) (unsigned_abs c.args.amount)) (is_ok c.move_quota-refused.result)
-    (move_either h.0 h.1 before after c.in-Ok.node.now.uid c.args.amount c.move_quota-refused.result h.2 (rw back at c.move_quota-refused.ensures.ok) c.move_quota-refused.ensures.err refl)
+    either_held h.0 h.1 after (tree_moved h.1.nodes c.in-Ok.node.now.uid (is_positive c.args.amount) (unsigned_abs c.args.amount))
+    (is_ok c.move_quota-refused.result)
+    (move_either h.0 h.1 before after c.in-Ok.node.now.uid c.args.amount c.move_quota-refused.result h.2 (rw back at c.move_quota-refused.ensures.ok)
+    c.move_quota-refused.ensures.err refl)
 
 pub returns-then-amount-ne0 : goal.returns-then-amount-ne0
 returns-then-amount-ne0 c = λ p s h effect.
     let back = to_z-of_z w32 c.args.amount c.ranges.amount in
-    let before : Held = record { accounts = c.self.inside.accounts; pages = c.self.inside.pages; records = c.self.inside.records.items; entries = c.self.inside.entries.items } in
+    let before : Held = the_view c.self.inside in
     let after : Held = record before { accounts = c.move_quota-refused.new.self } in
     let nodes : List Node = c.args.self.now.accounts.nodes in
     let n : Node = as_term (quota_in nodes) c.in-Ok.node.now in
     let found = ap (λ (ns : List Node). directory_at ns c.args.path.now) h.nodes ∙ c.in-Ok.ensures.ok in
     let same : c.self.inside.accounts ≡ c.args.self.now.accounts = ap (λ (x : Held). x.accounts) c.self.view_is in
     let counts = subst (λ (a : AccountMaps). Counts a s.stored) (sym same) h.counts in
-    let answer = subst (λ (a : AccountMaps). c.move_quota-refused.result ≡ scratch_answer a.nodes s.stored c.in-Ok.node.now.uid (is_positive c.args.amount) (unsigned_abs c.args.amount)) same
+    let answer = subst (λ (a : AccountMaps). c.move_quota-refused.result ≡ scratch_answer a.nodes s.stored c.in-Ok.node.now.uid
+    (is_positive c.args.amount) (unsigned_abs c.args.amount)) same
     ((rw back at c.move_quota-refused.ensures.answer) s.stored counts) in
-    let told = move_answered s nodes c.args.path.now h.nodes c.args.amount n c.move_quota-refused.result (move_told c.move_quota-refused.result) c.in-Ok.ensures.ok answer refl in
+    let told = move_answered s nodes c.args.path.now h.nodes c.args.amount n c.move_quota-refused.result (move_told c.move_quota-refused.result)
+    c.in-Ok.ensures.ok answer refl in
     let ok = told_ok c.move_quota-refused.result (ap (λ (r : Reply). takes_effect r) told ∙ effect) in
-    let done = (move_either p s before after c.in-Ok.node.now.uid c.args.amount c.move_quota-refused.result (held_inside p s before c.args.self.now c.self.view_is h)
+    let done = (move_either p s before after c.in-Ok.node.now.uid c.args.amount c.move_quota-refused.result
+    (held_inside p s before c.args.self.now c.self.view_is h)
     (rw back at c.move_quota-refused.ensures.ok) c.move_quota-refused.ensures.err refl).0 ok in
     subst (λ (x : Store). Holds p after x) (sym (after_move_is s c.args.path.now c.args.amount n found)) done
 

@@ -4,6 +4,7 @@ use Rattle.tree_model.specs.Trees.{has_segment}
 use Rattle.dir_tree.specs.Nodes.{as_term}
 use Rattle.flat_model.specs.Branches.{segment_at}
 use Rattle.flat_model.specs.Store.{Store}
+use Rattle.flat_store.specs.contracts.holdings.Holdings.{the_view}
 use Rattle.flat_store.specs.Shown.{Held, Holds}
 use Rattle.flat_store.proofs.ChangeLaws.{with_length}
 use Rattle.flat_store.proofs.DropLaws.{held_inside}
@@ -18,7 +19,7 @@ returns-in-Err c = λ p s h effect.
 pub invariant_of-self : goal.invariant_of-self
 invariant_of-self c =
     let h = c.self.invariant in
-    let before : Held = record { accounts = c.self.inside.accounts; pages = c.self.inside.pages; records = c.self.inside.records.items; entries = c.self.inside.entries.items } in
+    let before : Held = the_view c.self.inside in
     let after : Held = record before { accounts = c.set_length.new.self } in
     let segment = ap (λ (x : Held). has_segment x.accounts.nodes c.in-Ok.node.now.uid) c.self.view_is ∙ c.in-Ok.ensures.segment in
     let none = sym (c.is_stored_from.ensures h.0 h.1 (subst (λ (x : Held). Holds h.0 x h.1) c.self.view_is h.2)) ∙ c.if-not-is_stored_from.true in (
@@ -29,18 +30,20 @@ invariant_of-self c =
 
 pub returns-then-not-is_stored_from : goal.returns-then-not-is_stored_from
 returns-then-not-is_stored_from c = λ p s h effect.
-    let before : Held = record { accounts = c.self.inside.accounts; pages = c.self.inside.pages; records = c.self.inside.records.items; entries = c.self.inside.entries.items } in
+    let before : Held = the_view c.self.inside in
     let after : Held = record before { accounts = c.set_length.new.self } in
     let n : Node = as_term (quota_in c.args.self.now.accounts.nodes) c.in-Ok.node.now in
     let found = ap (λ (ns : List Node). segment_at ns c.args.path.now) h.nodes ∙ c.in-Ok.ensures.ok in
     let segment = ap (λ (x : Held). has_segment x.accounts.nodes c.in-Ok.node.now.uid) c.self.view_is ∙ c.in-Ok.ensures.segment in
     let none = sym (c.is_stored_from.ensures p s h) ∙ c.if-not-is_stored_from.true in
     subst (λ (x : Store). Holds p after x) (sym (after_length_is s c.args.path.now c.args.pages n found))
-    (length_shown p s before after c.in-Ok.node.now.uid c.args.pages (held_inside p s before c.args.self.now c.self.view_is h) c.set_length.ensures refl segment none)
+    (length_shown p s before after c.in-Ok.node.now.uid c.args.pages (held_inside p s before c.args.self.now c.self.view_is h) c.set_length.ensures refl
+    segment none)
 
 pub returns-else-not-is_stored_from : goal.returns-else-not-is_stored_from
 returns-else-not-is_stored_from c = λ p s h effect.
     let n : Node = as_term (quota_in c.args.self.now.accounts.nodes) c.in-Ok.node.now in
     let found = ap (λ (ns : List Node). segment_at ns c.args.path.now) h.nodes ∙ c.in-Ok.ensures.ok in
-    let clash : true ≡ false = sym c.if-not-is_stored_from.false ∙ c.is_stored_from.ensures p s h ∙ length_asked s c.args.path.now c.args.pages n found effect in
+    let clash : true ≡ false = sym c.if-not-is_stored_from.false ∙ c.is_stored_from.ensures p s h
+    ∙ length_asked s c.args.path.now c.args.pages n found effect in
     cc

@@ -7,6 +7,7 @@ use Rattle.dir_tree.specs.Nodes.{as_term}
 use Rattle.flat_model.specs.Branches.{segment_at}
 use Rattle.flat_model.specs.Rights.{row_with}
 use Rattle.flat_model.specs.Store.{Store}
+use Rattle.flat_store.specs.contracts.holdings.Holdings.{the_view}
 use Rattle.flat_store.specs.Shown.{Held, Holds}
 use Rattle.flat_store.proofs.ChangeLaws.{rows_found}
 use Rattle.flat_store.proofs.DropLaws.{held_inside}
@@ -21,7 +22,7 @@ returns-in-Err c = λ p s h effect.
 pub invariant_of-self : goal.invariant_of-self
 invariant_of-self c =
     let h = c.self.invariant in
-    let before : Held = record { accounts = c.self.inside.accounts; pages = c.self.inside.pages; records = c.self.inside.records.items; entries = c.self.inside.entries.items } in
+    let before : Held = the_view c.self.inside in
     let after : Held = record before { accounts = c.set_row-refused.new.self } in
     let row = row_with c.copied.result c.args.mode in
     either_held h.0 h.1 after (with_row_in h.1.nodes c.in-Ok.node.now.uid row) (is_ok c.set_row-refused.result)
@@ -29,7 +30,7 @@ invariant_of-self c =
 
 pub returns : goal.returns
 returns c = λ p s h effect.
-    let before : Held = record { accounts = c.self.inside.accounts; pages = c.self.inside.pages; records = c.self.inside.records.items; entries = c.self.inside.entries.items } in
+    let before : Held = the_view c.self.inside in
     let after : Held = record before { accounts = c.set_row-refused.new.self } in
     let nodes : List Node = c.args.self.now.accounts.nodes in
     let uid : ℕ = c.in-Ok.node.now.uid in
@@ -41,7 +42,8 @@ returns c = λ p s h effect.
     ∙ ap (λ rs. takes_row c.copied.result.person c.copied.result.project rs) rows
     ∙ ap (λ (r : Named). takes_row r.person r.project c.in-Ok.node.now.acl) c.copied.ensures
     ∙ acl_asked s c.args.path.now c.args.row.now n found effect in
-    let done = (rows_either p s before after uid (row_with c.copied.result c.args.mode) c.set_row-refused.result (held_inside p s before c.args.self.now c.self.view_is h)
+    let done = (rows_either p s before after uid (row_with c.copied.result c.args.mode) c.set_row-refused.result
+    (held_inside p s before c.args.self.now c.self.view_is h)
     c.set_row-refused.ensures.ok c.set_row-refused.ensures.err refl).0 (c.set_row-refused.ensures.full.1 asked) in
     subst (λ (x : Store). Holds p after x)
     (ap (λ (r : Named). record s { nodes = with_row_in s.nodes uid (row_with r c.args.mode) }) c.copied.ensures

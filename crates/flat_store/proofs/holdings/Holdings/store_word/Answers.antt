@@ -1,6 +1,7 @@
 use Rattle.std.proofs.Common.{◌<◌, ◌/◌, is_some, refl, sym, ap, subst, ◌∙◌}
 use Rattle.tree_model.specs.Trees.{has_segment}
 use Rattle.flat_model.specs.References.{written}
+use Rattle.flat_store.specs.contracts.holdings.Holdings.{the_view}
 use Rattle.flat_store.specs.Shown.{Held, Holds, page_at, pages_in}
 use Rattle.flat_store.proofs.DropLaws.{held_inside}
 use Rattle.flat_store.proofs.PutLaws.{store_done, store_shown, never_full}
@@ -9,20 +10,28 @@ use Rattle.flat_store.proofs.holdings.Holdings.store_word.Goals as goal
 pub unreachable-requires : goal.unreachable-requires
 unreachable-requires c =
     let h = c.self.invariant in
-    let before : Held = record { accounts = c.self.inside.accounts; pages = c.self.inside.pages; records = c.self.inside.records.items; entries = c.self.inside.entries.items } in
-    never_full h.0 h.1 before c.args.uid c.in-Err.field-0 (sym (c.has_room.ensures h.0 h.1 (subst (λ (x : Held). Holds h.0 x h.1) c.self.view_is h.2)) ∙ c.if-not-has_room.false) h.2.nodes
+    let before : Held = the_view c.self.inside in
+    never_full h.0 h.1 before c.args.uid c.in-Err.field-0 (sym (c.has_room.ensures h.0 h.1 (subst (λ (x : Held). Holds h.0 x h.1) c.self.view_is h.2))
+    ∙ c.if-not-has_room.false) h.2.nodes
     (c.in-Err.ensures.answer h.1.stored h.2.counts)
 
 pub invariant_of-self-in-Ok : goal.invariant_of-self-in-Ok
 invariant_of-self-in-Ok c =
     let h = c.self.invariant in
-    let before : Held = record { accounts = c.self.inside.accounts; pages = c.self.inside.pages; records = c.self.inside.records.items; entries = c.self.inside.entries.items } in
-    let after : Held = record { accounts = c.charge.new.self; pages = c.put.new.self; records = c.fill_at.new.gauges.items; entries = c.self.inside.entries.items } in
+    let before : Held = the_view c.self.inside in
+    let after : Held = record {
+      accounts = c.charge.new.self;
+      pages = c.put.new.self;
+      records = c.fill_at.new.gauges.items;
+      entries =
+          c.self.inside.entries.items;
+    } in
     let room = sym (c.has_room.ensures h.0 h.1 (subst (λ (x : Held). Holds h.0 x h.1) c.self.view_is h.2)) ∙ c.if-not-has_room.false in
     let segment = ap (λ (x : Held). has_segment x.accounts.nodes c.args.uid) c.self.view_is ∙ c.requires.segment in
     let absent = ap (λ (x : Held). is_some (page_at x.pages c.args.uid (c.args.offset / 1024))) c.self.view_is ∙ c.requires.absent in
     let short = subst (λ (x : Held). c.args.offset / 1024 < pages_in x.accounts.nodes c.args.uid) (sym c.self.view_is) c.requires.within in
-    let stores = store_done before after c.args.uid c.args.offset c.args.word c.volume_of-volume.result c.in-Ok.ensures.ok c.in_ok-put.ensures.ok c.volume_of-volume.ensures c.fill_at.ensures refl in (
+    let stores = store_done before after c.args.uid c.args.offset c.args.word c.volume_of-volume.result c.in-Ok.ensures.ok c.in_ok-put.ensures.ok
+    c.volume_of-volume.ensures c.fill_at.ensures refl in (
       h.0,
       written h.1 c.args.uid c.args.offset c.args.word,
       store_shown h.0 h.1 before after c.args.uid c.args.offset c.args.word h.2 segment short absent c.requires.other room stores,
@@ -30,10 +39,18 @@ invariant_of-self-in-Ok c =
 
 pub returns-clause-ok : goal.returns-clause-ok
 returns-clause-ok c = λ p s h room.
-    let before : Held = record { accounts = c.self.inside.accounts; pages = c.self.inside.pages; records = c.self.inside.records.items; entries = c.self.inside.entries.items } in
-    let after : Held = record { accounts = c.charge.new.self; pages = c.put.new.self; records = c.fill_at.new.gauges.items; entries = c.self.inside.entries.items } in
+    let before : Held = the_view c.self.inside in
+    let after : Held = record {
+      accounts = c.charge.new.self;
+      pages = c.put.new.self;
+      records = c.fill_at.new.gauges.items;
+      entries =
+          c.self.inside.entries.items;
+    } in
     let segment = ap (λ (x : Held). has_segment x.accounts.nodes c.args.uid) c.self.view_is ∙ c.requires.segment in
     let absent = ap (λ (x : Held). is_some (page_at x.pages c.args.uid (c.args.offset / 1024))) c.self.view_is ∙ c.requires.absent in
     let short = subst (λ (x : Held). c.args.offset / 1024 < pages_in x.accounts.nodes c.args.uid) (sym c.self.view_is) c.requires.within in
-    let stores = store_done before after c.args.uid c.args.offset c.args.word c.volume_of-volume.result c.in-Ok.ensures.ok c.in_ok-put.ensures.ok c.volume_of-volume.ensures c.fill_at.ensures refl in
-    store_shown p s before after c.args.uid c.args.offset c.args.word (held_inside p s before c.args.self.now c.self.view_is h) segment short absent c.requires.other room stores
+    let stores = store_done before after c.args.uid c.args.offset c.args.word c.volume_of-volume.result c.in-Ok.ensures.ok c.in_ok-put.ensures.ok
+    c.volume_of-volume.ensures c.fill_at.ensures refl in
+    store_shown p s before after c.args.uid c.args.offset c.args.word (held_inside p s before c.args.self.now c.self.view_is h) segment short absent
+    c.requires.other room stores

@@ -11,7 +11,8 @@ use Rattle.flat_store.proofs.holdings.Holdings.truncate.Goals as goal
 pub returns-in-Err : goal.returns-in-Err
 returns-in-Err c = λ p s h.
     subst (λ (x : Store). Holds p c.args.self.now x)
-    (sym (truncate_refused s c.args.path.now c.args.words c.in-Err.field-0 (ap (λ (ns : List Node). segment_at ns c.args.path.now) h.nodes ∙ c.in-Err.ensures.err))) h
+    (sym (truncate_refused s c.args.path.now c.args.words c.in-Err.field-0
+    (ap (λ (ns : List Node). segment_at ns c.args.path.now) h.nodes ∙ c.in-Err.ensures.err))) h
 
 pub returns : goal.returns
 returns c = λ p s h.

@@ -8,6 +8,8 @@ use Rattle.flat_store.proofs.holdings.Holdings.write.Goals as goal
 
 pub returns-then-has-clause-ok : goal.returns-then-has-clause-ok
 returns-then-has-clause-ok c =
-    on_ok c.put_word.result ((p : Plan) (s : Store) → Holds p c.args.self.now s → Holds p c.put_word.new.self (written s c.args.uid c.args.offset c.args.word))
-    ((p : Plan) (s : Store) → Holds p c.args.self.now s → may_write p s c.args.uid c.args.offset c.args.word ≡ true → Holds p c.put_word.new.self (written s c.args.uid c.args.offset c.args.word))
+    on_ok c.put_word.result ((p : Plan) (s : Store) → Holds p c.args.self.now s
+    → Holds p c.put_word.new.self (written s c.args.uid c.args.offset c.args.word))
+    ((p : Plan) (s : Store) → Holds p c.args.self.now s → may_write p s c.args.uid c.args.offset c.args.word ≡ true
+    → Holds p c.put_word.new.self (written s c.args.uid c.args.offset c.args.word))
     (λ f p s h may. f p s h) c.put_word.ensures.ok

@@ -18,6 +18,7 @@ loop-e-preserved c =
     let i = c.loop-e.e-index in
     let there : slice_get es i ≡ Some c.e-item.result = entry_there es i c.e-item.result (omega (arith, c.loop-e-test.true)) c.e-item.is in
     let legal : IsLegal p es
-    = subst (λ (q : Plan). IsLegal q es) (sym c.script-script.ensures) (subst (λ (xs : List Entry). IsLegal c.args.b.now.script xs) (sym c.entries-e-items.ensures) c.requires) in
+    = subst (λ (q : Plan). IsLegal q es) (sym c.script-script.ensures)
+    (subst (λ (xs : List Entry). IsLegal c.args.b.now.script xs) (sym c.entries-e-items.ensures) c.requires) in
     subst (λ (s : Store). Shows p c.follow.new.self s) (sym (store_next p es i c.e-item.result there))
     (c.in_ok-follow.ensures.ok (store_after p (take i es)) c.loop-e.invariant (legal_at p es i c.e-item.result legal there))

@@ -14,7 +14,8 @@ pub returns-in-Release : goal.returns-in-Release
 returns-in-Release c = λ s h.
     let shown = subst (λ (k : Kept). Shows c.args.script.now k s) (sym c.self.view_is) h in
     subst (λ (e : Entry). IsTrue c.may_release.result ↔ IsLawful c.args.script.now s e) (sym c.in-Release.is)
-    (release_allowed c.args.script.now s c.in-Release.uid c.in-Release.page c.may_release.result (c.may_release.ensures c.args.script.now s shown.shown.holds))
+    (release_allowed c.args.script.now s c.in-Release.uid c.in-Release.page c.may_release.result
+    (c.may_release.ensures c.args.script.now s shown.shown.holds))
 
 pub returns-in-Fault : goal.returns-in-Fault
 returns-in-Fault c = λ s h.

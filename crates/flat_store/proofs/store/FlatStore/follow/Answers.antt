@@ -13,7 +13,8 @@ pub returns-in-Some-clause-ok : goal.returns-in-Some-clause-ok
 returns-in-Some-clause-ok c =
     let p = c.args.script.now in
     on_ok c.follow_do.result
-    ((s : Store) (place : ℕ) → Shows p c.args.self.now s → command_at p c.in-Do.process place ≡ Some c.in-Some.command.now → IsLawfulDo p s c.in-Do.process place c.in-Do.reply
+    ((s : Store) (place : ℕ) → Shows p c.args.self.now s → command_at p c.in-Do.process place ≡ Some c.in-Some.command.now
+    → IsLawfulDo p s c.in-Do.process place c.in-Do.reply
     → Shows p c.follow_do.new.self (after_command p s c.in-Do.process c.in-Some.command.now c.in-Do.reply))
     ((s : Store) → Shows p c.args.self.now s → IsLawful p s c.args.e → Shows p c.follow_do.new.self (after_entry p s c.args.e))
     (λ f s h lawful.
@@ -28,7 +29,8 @@ pub returns-in-None-clause-ok : goal.returns-in-None-clause-ok
 returns-in-None-clause-ok c = λ s h lawful.
     let p = c.args.script.now in
     subst (λ (e : Entry). Shows p c.args.self.now (after_entry p s e)) (sym c.in-Do.is)
-    (subst (λ (t : Store). Shows p c.args.self.now t) (no_command p s c.in-Do.process c.in-Do.place c.in-Do.cpu c.in-Do.frame c.in-Do.reply c.in-None.ensures.none) h)
+    (subst (λ (t : Store). Shows p c.args.self.now t) (no_command p s c.in-Do.process c.in-Do.place c.in-Do.cpu c.in-Do.frame c.in-Do.reply
+    c.in-None.ensures.none) h)
 
 pub returns-in-Release-clause-ok : goal.returns-in-Release-clause-ok
 returns-in-Release-clause-ok c = λ s h lawful.
@@ -46,6 +48,7 @@ returns-in-Fault-clause-ok c = λ s h lawful.
 
 pub returns-in_default : goal.returns-in_default
 returns-in_default c = record {
-  ok = λ s h lawful. subst (λ (t : Store). Shows c.args.script.now c.args.self.now t) (quiet c.args.script.now s c.args.e c.in_default.not-Do c.in_default.not-Release c.in_default.not-Fault) h;
+  ok = λ s h lawful. subst (λ (t : Store). Shows c.args.script.now c.args.self.now t)
+      (quiet c.args.script.now s c.args.e c.in_default.not-Do c.in_default.not-Release c.in_default.not-Fault) h;
   err = tt;
 }

@@ -1,4 +1,5 @@
 use Rattle.std.proofs.Common.{refl, subst, sym}
+use Rattle.flat_store.specs.contracts.store.FlatStore.{the_view}
 use Rattle.flat_store.specs.Shown.{IsShown, Kept, answered}
 use Rattle.flat_store.proofs.FollowLaws.{effect_due, go_shown}
 use Rattle.flat_store.proofs.ReachLaws.{few_uids}
@@ -7,8 +8,10 @@ use Rattle.flat_store.proofs.store.FlatStore.follow_do.Goals as goal
 pub returns-clause-ok : goal.returns-clause-ok
 returns-clause-ok c = λ s place h at lawful.
     let p = c.args.script.now in
-    let mid : Kept = record { held = c.self.inside.holdings; known = c.self.inside.known.items; processes = c.self.inside.processes.items } in
+    let mid : Kept = the_view c.self.inside in
     let after : Kept = record mid { processes = c.go_on.new.processes.items } in
-    let shown = c.in_ok-effect_of_reply.ensures.ok s h.shown (few_uids p s h.reached) (effect_due p s c.args.process place c.args.command.now c.args.reply.now at lawful) in
+    let shown = c.in_ok-effect_of_reply.ensures.ok s h.shown (few_uids p s h.reached)
+    (effect_due p s c.args.process place c.args.command.now c.args.reply.now at lawful) in
     go_shown p mid after s c.args.process place c.args.command.now c.args.reply.now h.reached
-    (subst (λ (k : Kept). IsShown p k (answered p s c.args.process c.args.command.now c.args.reply.now)) (sym c.self.view_is) shown) at lawful c.go_on.ensures refl
+    (subst (λ (k : Kept). IsShown p k (answered p s c.args.process c.args.command.now c.args.reply.now)) (sym c.self.view_is) shown) at lawful
+    c.go_on.ensures refl

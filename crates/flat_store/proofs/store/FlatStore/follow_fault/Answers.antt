@@ -1,12 +1,13 @@
 use Rattle.std.proofs.Common.{ℕ, Option, refl, subst, sym}
 use Rattle.flat_model.specs.Legal.{MayFault, after_fault}
+use Rattle.flat_store.specs.contracts.store.FlatStore.{the_view}
 use Rattle.flat_store.specs.Shown.{Kept, Shows}
 use Rattle.flat_store.proofs.FollowLaws.{fault_shown}
 use Rattle.flat_store.proofs.store.FlatStore.follow_fault.Goals as goal
 
 pub returns-in-Some : goal.returns-in-Some
 returns-in-Some c = λ p s h may.
-    let inside : Kept = record { held = c.self.inside.holdings; known = c.self.inside.known.items; processes = c.self.inside.processes.items } in
+    let inside : Kept = the_view c.self.inside in
     let after : Kept = record inside { processes = c.fault.new.processes.items } in
     let shown = subst (λ (k : Kept). Shows p k s) (sym c.self.view_is) h in
     subst (λ (o : Option ℕ). Shows p after (after_fault s o)) (sym c.in-Some.is)

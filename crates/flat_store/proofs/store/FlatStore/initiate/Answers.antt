@@ -4,13 +4,14 @@ use Rattle.dir_tree.specs.Nodes.{as_term}
 use Rattle.flat_model.specs.Branches.{segment_at}
 use Rattle.flat_model.specs.Store.{Store, numbers_of}
 use Rattle.known_segs.specs.Known.{number_for, with_number}
+use Rattle.flat_store.specs.contracts.store.FlatStore.{the_view}
 use Rattle.flat_store.specs.Shown.{Kept, IsShown, numbers_at}
 use Rattle.flat_store.proofs.StoreLaws.{after_initiate_is, initiate_stays, numbers_are, numbers_shown}
 use Rattle.flat_store.proofs.store.FlatStore.initiate.Goals as goal
 
 pub returns-in-Ok : goal.returns-in-Ok
 returns-in-Ok c = λ p s h.
-    let inside : Kept = record { held = c.self.inside.holdings; known = c.self.inside.known.items; processes = c.self.inside.processes.items } in
+    let inside : Kept = the_view c.self.inside in
     let after : Kept = record inside { known = c.make_known.new.known.items } in
     let shown = subst (λ (k : Kept). IsShown p k s) (sym c.self.view_is) h in
     let uid : ℕ = c.in-Ok.node.now.uid in
@@ -19,9 +20,11 @@ returns-in-Ok c = λ p s h.
     let change : List (Option ℕ) → List (Option ℕ) = λ kst. with_number kst uid (number_for kst uid) in
     let numbers = ap change (sym (numbers_are p inside s shown c.args.process)) in
     subst (λ (x : Store). IsShown p after x) (sym (after_initiate_is s c.args.process c.args.path.now n found))
-    (numbers_shown p inside after s c.args.process (change (numbers_of s c.args.process)) (change (numbers_at c.self.inside.known.items c.args.process)) shown refl c.make_known.ensures numbers)
+    (numbers_shown p inside after s c.args.process (change (numbers_of s c.args.process)) (change (numbers_at c.self.inside.known.items c.args.process))
+    shown refl c.make_known.ensures numbers)
 
 pub returns-in_default : goal.returns-in_default
 returns-in_default c = λ p s h.
-    let found = ap (λ (ns : List Node). segment_at ns c.args.path.now) (h.holds.nodes ∙ ap (λ (k : Kept). k.held.accounts.nodes) (sym c.self.view_is)) ∙ c.in_default.ensures.err in
+    let found = ap (λ (ns : List Node). segment_at ns c.args.path.now) (h.holds.nodes ∙ ap (λ (k : Kept). k.held.accounts.nodes) (sym c.self.view_is))
+    ∙ c.in_default.ensures.err in
     subst (λ (x : Store). IsShown p c.args.self.now x) (sym (initiate_stays s c.args.process c.args.path.now c.in_default.field-0 found)) h

@@ -1,6 +1,7 @@
 use Rattle.std.proofs.Common.{ℕ, List, Option, Some, None, sym, ap, subst, ◌∙◌}
 use Rattle.tree_model.specs.Tree.{quota_in}
 use Rattle.dir_tree.specs.Nodes.{as_term}
+use Rattle.flat_store.specs.contracts.store.FlatStore.{the_view}
 use Rattle.flat_store.specs.Shown.{Kept, IsShown, numbers_at}
 use Rattle.known_segs.specs.Known.{number_for}
 use Rattle.flat_store.proofs.StoreLaws.{initiate_refused, initiate_told}
@@ -8,21 +9,23 @@ use Rattle.flat_store.proofs.store.FlatStore.initiate_reply.Goals as goal
 
 pub returns-in-Some : goal.returns-in-Some
 returns-in-Some c = λ p s h.
-    let inside : Kept = record { held = c.self.inside.holdings; known = c.self.inside.known.items; processes = c.self.inside.processes.items } in
+    let inside : Kept = the_view c.self.inside in
     let shown = subst (λ (k : Kept). IsShown p k s) (sym c.self.view_is) h in
     let numbers = ap (λ (known : List (List (Option ℕ))). number_for (numbers_at known c.args.process) c.in-Ok.node.now.uid) c.deref.ensures.value in
-    initiate_told p inside s shown c.args.process c.args.path.now (as_term (quota_in c.self.inside.holdings.accounts.nodes) c.in-Ok.node.now) (Some c.in-Some.number) c.in-Ok.ensures.ok
+    initiate_told p inside s shown c.args.process c.args.path.now (as_term (quota_in c.self.inside.holdings.accounts.nodes) c.in-Ok.node.now)
+    (Some c.in-Some.number) c.in-Ok.ensures.ok
     (c.in-Some.ensures ∙ numbers)
 
 pub returns-in-None : goal.returns-in-None
 returns-in-None c = λ p s h.
-    let inside : Kept = record { held = c.self.inside.holdings; known = c.self.inside.known.items; processes = c.self.inside.processes.items } in
+    let inside : Kept = the_view c.self.inside in
     let shown = subst (λ (k : Kept). IsShown p k s) (sym c.self.view_is) h in
     let numbers = ap (λ (known : List (List (Option ℕ))). number_for (numbers_at known c.args.process) c.in-Ok.node.now.uid) c.deref.ensures.value in
-    initiate_told p inside s shown c.args.process c.args.path.now (as_term (quota_in c.self.inside.holdings.accounts.nodes) c.in-Ok.node.now) None c.in-Ok.ensures.ok (c.in-None.ensures ∙ numbers)
+    initiate_told p inside s shown c.args.process c.args.path.now (as_term (quota_in c.self.inside.holdings.accounts.nodes) c.in-Ok.node.now) None
+    c.in-Ok.ensures.ok (c.in-None.ensures ∙ numbers)
 
 pub returns-in-Err : goal.returns-in-Err
 returns-in-Err c = λ p s h.
-    let inside : Kept = record { held = c.self.inside.holdings; known = c.self.inside.known.items; processes = c.self.inside.processes.items } in
+    let inside : Kept = the_view c.self.inside in
     let shown = subst (λ (k : Kept). IsShown p k s) (sym c.self.view_is) h in
     initiate_refused p inside s shown c.args.process c.args.path.now c.in-Err.reply c.in-Err.ensures.err

@@ -3,6 +3,7 @@ use Rattle.std.proofs.lemmas.Int.{to_z-of_z}
 use mir.Val.{SFits}
 use Rattle.flat_model.specs.Commands.{takes_effect}
 use Rattle.flat_model.specs.Rights.{after_move, move_reply}
+use Rattle.flat_store.specs.contracts.store.FlatStore.{the_view}
 use Rattle.flat_store.specs.Shown.{Holds, Kept, IsShown}
 use Rattle.flat_store.proofs.StoreLaws.{effect_shown}
 use Rattle.flat_store.proofs.OtherLaws.{move_keeps}
@@ -10,7 +11,7 @@ use Rattle.flat_store.proofs.store.FlatStore.move_quota.Goals as goal
 
 pub returns : goal.returns
 returns c = λ p s h effect.
-    let inside : Kept = record { held = c.self.inside.holdings; known = c.self.inside.known.items; processes = c.self.inside.processes.items } in
+    let inside : Kept = the_view c.self.inside in
     let after : Kept = record inside { held = c.move_quota.new.self } in
     let shown = subst (λ (k : Kept). IsShown p k s) (sym c.self.view_is) h in
     let fits : SFits w32 c.args.amount.now = search rules in

@@ -1,6 +1,7 @@
 use Rattle.std.proofs.Common.{ℕ, List, Option, Some, None, refl, sym, ap, subst, ◌∙◌}
 use Rattle.flat_model.specs.Store.{Store}
 use Rattle.known_segs.specs.Known.{uid_of}
+use Rattle.flat_store.specs.contracts.store.FlatStore.{the_view}
 use Rattle.flat_store.specs.Shown.{Kept, IsShown, numbers_at}
 use Rattle.flat_model.specs.References.{written_by}
 use Rattle.flat_store.proofs.OtherLaws.{written_keeps}
@@ -9,10 +10,11 @@ use Rattle.flat_store.proofs.store.FlatStore.refer.Goals as goal
 
 pub returns-in_ok-refer-clause-ok : goal.returns-in_ok-refer-clause-ok
 returns-in_ok-refer-clause-ok c = λ p s h effect.
-    let inside : Kept = record { held = c.self.inside.holdings; known = c.self.inside.known.items; processes = c.self.inside.processes.items } in
+    let inside : Kept = the_view c.self.inside in
     let after : Kept = record inside { held = c.refer.new.self } in
     let shown = subst (λ (k : Kept). IsShown p k s) (sym c.self.view_is) h in
-    let uid = c.in-Some.ensures ∙ ap (λ (known : List (List (Option ℕ))). uid_of (numbers_at known c.args.process) c.args.reference.now.number) c.deref.ensures.value in
+    let uid = c.in-Some.ensures
+    ∙ ap (λ (known : List (List (Option ℕ))). uid_of (numbers_at known c.args.process) c.args.reference.now.number) c.deref.ensures.value in
     let is = uid_known p inside s shown c.args.process c.args.reference.now.number (Some c.in-Some.uid) uid in
     let done = c.in_ok-refer.ensures.ok p s c.args.process shown.holds (reference_asked p s c.args.process c.args.reference.now c.in-Some.uid is effect) in
     subst (λ (x : Store). IsShown p after x) (after_reference_is s c.args.process c.args.reference.now (Some c.in-Some.uid) is)
@@ -21,8 +23,9 @@ returns-in_ok-refer-clause-ok c = λ p s h effect.
 
 pub returns-in_default-clause-ok : goal.returns-in_default-clause-ok
 returns-in_default-clause-ok c = λ p s h effect.
-    let inside : Kept = record { held = c.self.inside.holdings; known = c.self.inside.known.items; processes = c.self.inside.processes.items } in
+    let inside : Kept = the_view c.self.inside in
     let shown = subst (λ (k : Kept). IsShown p k s) (sym c.self.view_is) h in
-    let uid = c.in_default.ensures ∙ ap (λ (known : List (List (Option ℕ))). uid_of (numbers_at known c.args.process) c.args.reference.now.number) c.deref.ensures.value in
+    let uid = c.in_default.ensures
+    ∙ ap (λ (known : List (List (Option ℕ))). uid_of (numbers_at known c.args.process) c.args.reference.now.number) c.deref.ensures.value in
     let is = uid_known p inside s shown c.args.process c.args.reference.now.number None uid in
     subst (λ (x : Store). IsShown p c.args.self.now x) (after_reference_is s c.args.process c.args.reference.now None is) h
