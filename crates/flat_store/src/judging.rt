@@ -92,8 +92,8 @@ impl FlatStore {
     }
 
     /// Whether an entry is lawful in the flat store that is shown: a command that is answered as the flat store answers
-    /// it, by a process that has come to it and whose turn it is; a page that is given up when it is all zeros; a drive's
-    /// failure of a process that hasn't ended, or of none where all have; each entry that tells who holds what.
+    /// it, by a process that has come to it and whose turn it is; a page that is given up when it is all zeros; a
+    /// drive's failure of a process that hasn't ended, or of none where all have; each entry that tells who holds what.
     pub fn allows(&self, script: &Script, e: Entry) -> bool
         ensures { (store : Store) → Shows script.now self.now store → (IsTrue result ↔ IsLawful script.now store e) }
     {

@@ -1,5 +1,5 @@
-ghost use Rattle.std.specs.Prelude.{◌≡◌, ◌<◌, ◌≤◌, List, ◌+◌, ◌-◌, ◌↔◌, ◌++◌, ℕ, true, false, []};
-ghost use Rattle.std.specs.Prelude.{Some, None, IfSome, IfNone, OnOk, OnErr, IsTrue, if◌then◌else◌, length, replicate, take, slice_set, is_some};
+ghost use Rattle.std.specs.Prelude.{◌≡◌, ◌<◌, ◌≤◌, ◌↔◌, List, [], ℕ, false};
+ghost use Rattle.std.specs.Prelude.{Some, None, IfSome, IfNone, OnOk, OnErr, IsTrue, replicate, slice_set, is_some};
 ghost use Rattle.mword.specs.Words.{AreZero};
 ghost use Rattle.flat_store.specs.Shown.{page_at, words_in, cut_at, Puts, Cuts};
 
@@ -91,8 +91,8 @@ impl Pages {
         }
     }
 
-    /// The words of a page from a place on become 0, if it is stored. Whether each of its words is 0 then; false where it
-    /// isn't stored.
+    /// The words of a page from a place on become 0, if it is stored. Whether each of its words is 0 then; false where
+    /// it isn't stored.
     pub(crate) fn cut(&mut self, uid: u32, page: u32, at: u32) -> bool
         requires { at ≤ 1024 }
         ensures some { (words : List ℕ) → page_at self.old uid page ≡ Some words

@@ -15,9 +15,10 @@ impl Holdings {
     ///
     /// # Errors
     /// `NoPath` or `NotDir`, by the first name from the left that can't be followed.
-    #[tactic(auto, using(crate::proofs::PathLaws::walked_to, crate::proofs::PathLaws::walked_nowhere, crate::proofs::PathLaws::walked_past, crate::proofs::NodeLaws::uid_found))]
+    #[tactic(auto, using(crate::proofs::PathLaws::walk_laws))]
     pub(crate) fn node_at(&self, path: &Path) -> Result<&Node, Reply>
-        ensures ok { IfOk result (λ n. IsFound self.now.accounts.nodes (node_at self.now.accounts.nodes path.now) n.now) }
+        ensures ok { IfOk result (λ n. IsFound self.now.accounts.nodes (node_at self.now.accounts.nodes path.now)
+            n.now) }
         ensures there { IfOk result (λ n. IsThere self.now.accounts.nodes n.now) }
         ensures directory { IfOk result (λ n. has_directory self.now.accounts.nodes n.now.uid ≡ n.now.dir) }
         ensures segment { IfOk result (λ n. has_segment self.now.accounts.nodes n.now.uid ≡ not n.now.dir) }

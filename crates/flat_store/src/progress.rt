@@ -57,8 +57,8 @@ impl Progress {
         }
     }
 
-    /// Whether a try of an `await` that was answered so doesn't end it: its word isn't the awaited one, and it isn't the
-    /// last try.
+    /// Whether a try of an `await` that was answered so doesn't end it: its word isn't the awaited one, and it isn't
+    /// the last try.
     pub(crate) fn tries_on(&self, command: &Command, reply: &Reply) -> bool
         ensures answer { result ≡ tries_on self.now command.now reply.now }
         ensures few { result ≡ true → self.now.tries + 1 < 2 ^ 32 }

@@ -3,7 +3,8 @@ ghost use Rattle.script.specs.Plans.{Plan, who_of};
 ghost use Rattle.tree_model.specs.Tree.{Node, node_in};
 ghost use Rattle.tree_model.specs.Trees.{has_segment};
 ghost use Rattle.flat_model.specs.Pages.{is_stored};
-ghost use Rattle.flat_model.specs.References.{alters, new_word, permits, reply_at, room_reply, stores_page, word_reply, written, written_by};
+ghost use Rattle.flat_model.specs.References.{alters, new_word, permits, reply_at, room_reply};
+ghost use Rattle.flat_model.specs.References.{stores_page, word_reply, written, written_by};
 ghost use Rattle.flat_model.specs.Commands.{takes_effect};
 ghost use Rattle.flat_model.specs.Store.{Store};
 ghost use Rattle.flat_store.specs.Shown.{Holds, has_room, may_write, page_at, page_reply, pages_in};
@@ -180,7 +181,7 @@ impl Holdings {
         Ok(())
     }
 
-    /// Writes a word of a segment. A page that gets a word other than 0 is stored from then on, if there is room for it.
+    /// Writes a word of a segment. A page that gets a word other than 0 is stored from then on, if there is room.
     fn write(&mut self, uid: u32, offset: u32, word: Word) -> Result<(), NoMemory>
         requires segment { has_segment self.old.accounts.nodes uid ≡ true }
         requires within { offset / 1024 < pages_in self.old.accounts.nodes uid }

@@ -1,8 +1,9 @@
-ghost use Rattle.std.specs.Prelude.{◌≡◌, ◌<◌, ◌^◌, ◌↔◌, ◌&&◌, ◌==◌, ℕ, true, not, length, IsTrue, IfSome, IfNone, OnOk, OnErr, Some, None};
+ghost use Rattle.std.specs.Prelude.{◌≡◌, ◌<◌, ◌^◌, ◌==◌, ℕ, true, length, IfSome, IfNone, OnOk, OnErr, Some, None};
 ghost use Rattle.known_segs.specs.Known.{uid_of};
 ghost use Rattle.script.specs.Plans.{command_at};
-ghost use Rattle.flat_model.specs.Commands.{after_command, effect_of, effect_of_tree_command, reply_to_command, reply_to_tree_command, takes_effect};
-ghost use Rattle.flat_model.specs.Legal.{IsAnswer, IsLawful, IsLawfulDo, MayFault, MayRelease, after_entry, after_fault};
+ghost use Rattle.flat_model.specs.Commands.{after_command, effect_of, effect_of_tree_command};
+ghost use Rattle.flat_model.specs.Commands.{reply_to_command, reply_to_tree_command, takes_effect};
+ghost use Rattle.flat_model.specs.Legal.{IsLawful, IsLawfulDo, MayFault, MayRelease, after_entry, after_fault};
 ghost use Rattle.flat_model.specs.Pages.{without_stored};
 ghost use Rattle.flat_model.specs.Naming.{initiate_reply, after_initiate, terminate_reply, after_terminate};
 ghost use Rattle.flat_model.specs.Rights.{move_reply, after_move};
@@ -25,11 +26,11 @@ use script::{Command, Reference, Script};
 use std::alloc::Global;
 use std::marker::Model;
 
-/// The flat store (Bensoussan, Clingen and Daley 1972; Organick 1972): the tree with its accounts, the stored pages with
-/// their words, what each process knows by a number, and how far it has come.
+/// The flat store (Bensoussan, Clingen and Daley 1972; Organick 1972): the tree with its accounts, the stored pages
+/// with their words, what each process knows by a number, and how far it has come.
 ///
-/// Contracts speak of the flat store that it shows for a script (`Shows`). A look costs a few searches in ordered lists,
-/// and a page takes its 8 KiB only while it is stored.
+/// Contracts speak of the flat store that it shows for a script (`Shows`). A look costs a few searches in ordered
+/// lists, and a page takes its 8 KiB only while it is stored.
 #[derive(Drop)]
 pub struct FlatStore {
     pub(crate) holdings: Holdings,
