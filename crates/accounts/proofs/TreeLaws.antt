@@ -14,7 +14,7 @@ directory_any : (q : ℕ → ℕ) (ns : List Node) (u : ℕ) → has_directory (
 directory_any q [] u = refl
 directory_any q (n ∷ ns) u = ap (cond (eqb n.uid u) n.dir) (directory_any q ns u)
 
-later_any : (q : ℕ → ℕ) (ns : List Node) (u : ℕ) → AreBelow u (shapes ns) → AreBelow u (with_quotas q ns)
+pub later_any : (q : ℕ → ℕ) (ns : List Node) (u : ℕ) → AreBelow u (shapes ns) → AreBelow u (with_quotas q ns)
 later_any q [] u h = tt
 later_any q (n ∷ ns) u h = (h.0, later_any q ns u h.1)
 

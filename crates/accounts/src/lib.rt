@@ -14,7 +14,7 @@ ghost use Rattle.std.specs.Int.{is_positive};
 ghost use Rattle.std.specs.Int.RustNames.{unsigned_abs};
 ghost use Rattle.tree_model.specs.Access.{takes_row};
 ghost use Rattle.tree_model.specs.Tree.{above, has_directory, node_in, quota_in, used_by, walk_in, with_node};
-ghost use Rattle.tree_model.specs.Trees.{has_segment, IsTree};
+ghost use Rattle.tree_model.specs.Trees.{AreBelow, has_segment, IsTree};
 ghost use Rattle.tree_model.specs.Quotas.{tree_moved};
 ghost use Rattle.dir_tree.specs.Nodes.{add_fault_of, as_term, chain_of, has_inferior, path_answer, unless};
 ghost use Rattle.quota_cells.specs.Scratch.{charge_answer, scratch_answer};
@@ -110,6 +110,7 @@ impl Accounts {
     pub fn next_uid(&self) -> u32
         ensures uid { result ≡ self.now.next }
         ensures fresh { node_in self.now.nodes self.now.next ≡ None }
+        ensures below { AreBelow self.now.next self.now.nodes }
     {
         self.tree.next_uid()
     }

@@ -20,7 +20,7 @@ ghost use Rattle.dir_tree.specs.Nodes.{acl_of, as_term, with_quotas, node_of, is
 ghost use Rattle.dir_tree.specs.Nodes.{root_alone, path_answer, add_fault_of, unless, added, removed, has_inferior};
 ghost use Rattle.dir_tree.specs.Nodes.{with_length, with_home, with_acl, chain_of};
 ghost use Rattle.dir_tree.specs.Shape.{shape, shapes};
-ghost use Rattle.tree_model.specs.Trees.{IsTree, HasChains};
+ghost use Rattle.tree_model.specs.Trees.{AreBelow, IsTree, HasChains};
 
 mod entries;
 mod index;
@@ -137,6 +137,7 @@ impl Tree {
         ensures uid { result ≡ self.now.next }
         ensures fresh { is_in self.now.nodes self.now.next ≡ false }
         ensures chains { HasChains (shapes self.now.nodes) }
+        ensures below { AreBelow self.now.next (shapes self.now.nodes) }
     {
         self.next
     }

@@ -1,5 +1,15 @@
+use Rattle.std.proofs.Common.{subst}
+use Rattle.quota_cells.specs.Cells.{quota_in}
+use Rattle.tree_model.specs.Trees.{AreBelow}
+use Rattle.accounts.specs.Maps.{AccountMaps}
 use Rattle.accounts.proofs.Laws.{fresh_of}
+use Rattle.accounts.proofs.TreeLaws.{later_any}
 use Rattle.accounts.proofs.Accounts.next_uid.Goals as goal
 
 pub returns-clause-fresh : goal.returns-clause-fresh
 returns-clause-fresh c = fresh_of c.self.inside.tree c.self.inside.cells c.args.self.now c.self.view_is c.next_uid.ensures.fresh
+
+pub returns-clause-below : goal.returns-clause-below
+returns-clause-below c =
+    subst (λ (a : AccountMaps). AreBelow a.next a.nodes) c.self.view_is
+    (later_any (quota_in c.self.inside.cells) c.self.inside.tree.nodes c.self.inside.tree.next c.next_uid.ensures.below)
