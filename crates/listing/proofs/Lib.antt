@@ -1,2 +1,3 @@
 pub mod LineLaws
-pub mod SummaryLaws
+pub mod TrailLaws
+pub mod CountLaws

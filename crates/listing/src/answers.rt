@@ -1,6 +1,6 @@
 ghost use Rattle.std.specs.Prelude.{◌≡◌, ◌++◌, ◌<◌, OnOk, length, Some, string_bytes};
 ghost use Rattle.std.specs.List.{flat_map};
-ghost use Rattle.flat_store.specs.Legal.{part};
+ghost use Rattle.flat_model.specs.Legal.{part};
 ghost use Rattle.listing.specs.Listings.{answer_line, entry_line, own_line, process_line, processes_lines, full_line, body_of};
 
 use book::{Book, Entry, Reply};

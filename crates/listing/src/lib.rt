@@ -2,9 +2,66 @@
 //! two, then the accounts and the volumes.
 #![tactic(auto)]
 
+ghost use Rattle.std.specs.Prelude.{◌≡◌, ◌++◌, IfOk, string_bytes};
+ghost use Rattle.flat_model.specs.Legal.{IsLegal};
+ghost use Rattle.listing.specs.Listings.{body_of, summary_text, listing_of};
+
 mod answers;
-mod summary;
+mod counts;
+mod lines;
+mod summing;
 #[cfg(test)]
 mod tests;
 
-pub use summary::{NoMemory, listing_text};
+use answers::push_body;
+use book::Book;
+pub use counts::{AccountCount, Summary, VolumeCount};
+use flat_store::FlatStore;
+use lines::push_summary;
+pub use lines::summary_text;
+use std::alloc::{AllocError, Global};
+pub use summing::{account_counts, summary};
+
+/// There wasn't enough memory.
+#[derive(Clone, Copy, Debug, PartialEq, Eq)]
+pub struct NoMemory;
+
+impl From<AllocError> for NoMemory {
+    fn from(_: AllocError) -> Self {
+        NoMemory
+    }
+}
+
+impl From<flat_store::NoMemory> for NoMemory {
+    fn from(_: flat_store::NoMemory) -> Self {
+        NoMemory
+    }
+}
+
+/// The listing of the book of a run, which must be legal (own): what its script prints, which is what each process was
+/// answered, or each entry, or nothing; then the accounts and the volumes, as they are in the flat store after the book.
+/// It takes memory for the text and for that store, and goes through the book once for that store, and at most once
+/// more for each process.
+///
+/// # Errors
+/// `NoMemory` is want of memory.
+pub fn listing_text(alloc: Global, book: &Book) -> Result<Vec<u8>, NoMemory>
+    requires { IsLegal book.now.script book.now.entries }
+    ensures { IfOk result (λ text. text.items ≡ listing_of book.now.script book.now.entries) }
+{
+    let store = FlatStore::after(alloc, book)?;
+    let summary = summary(alloc, book.script(), &store)?;
+    let text = listing_string(alloc, book, &summary)?;
+    Ok(text.into_bytes())
+}
+
+/// What the script prints, and these accounts and volumes.
+fn listing_string(alloc: Global, book: &Book, summary: &Summary) -> Result<String, AllocError>
+    ensures { IfOk result (λ text. string_bytes text
+        ≡ body_of book.now.script.print book.now.script book.now.entries ++ summary_text summary.now) }
+{
+    let mut text = String::new(alloc);
+    push_body(&mut text, book)?;
+    push_summary(&mut text, summary)?;
+    Ok(text)
+}

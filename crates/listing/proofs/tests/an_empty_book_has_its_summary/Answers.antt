@@ -1,7 +1,7 @@
 use Rattle.std.proofs.Common.{List, sym, subst}
 use Rattle.book.specs.declared.entries.Entry.{Entry}
-use Rattle.flat_store.specs.Legal.{IsLegal}
-use Rattle.flat_store.proofs.BookLaws.{legal_nil}
+use Rattle.flat_model.specs.Legal.{IsLegal}
+use Rattle.flat_model.proofs.BookLaws.{legal_nil}
 use Rattle.listing.proofs.tests.an_empty_book_has_its_summary.Goals as goal
 
 pub listing_text-requires : goal.listing_text-requires
