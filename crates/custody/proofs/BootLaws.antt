@@ -1,0 +1,81 @@
+-- Custody before the first entry.
+use Rattle.std.proofs.Common.{◌≡◌, ◌≤◌, ◌+◌, ℕ, suc, zero, List, [], ◌∷◌, ◌++◌, get_or, replicate, refl, sym, ap, subst, ◌∙◌, arith}
+use Rattle.std.specs.Prelude.{sum_by, None, is_some}
+use Rattle.std.proofs.lemmas.List.{length-replicate}
+use Rattle.std.proofs.lemmas.List.Sums.{sum_by-cons}
+use Rattle.script.specs.Plans.{Plan}
+use Rattle.custody_model.specs.Custody.{Seat, nothing_held, offline, range, ready_at_first}
+use Rattle.custody_model.specs.declared.FrameUse.{FrameUse}
+use Rattle.custody_model.specs.declared.FrameUse.TheVariants as frame
+use Rattle.custody_model.specs.declared.DescriptorUse.{DescriptorUse}
+use Rattle.custody_model.specs.declared.DescriptorUse.TheVariants as descriptor
+use Rattle.custody.specs.Counts.{Counted, key_bit}
+use Rattle.custody.specs.Uses.{UseCounted, AreDescriptors, AreFrames, descriptor_at, descriptor_mark, frame_at, going_key, kind_key, uid_key}
+use Rattle.custody.specs.Tables.{Tables, custody_of, row_at, seat_at}
+
+none_counted : {X : Type 0} (f : X → ℕ) (d : X) (n : ℕ) → f d ≡ 0 → sum_by f (replicate n d) ≡ 0
+none_counted f d zero e = refl
+none_counted f d (suc n) e =
+    let c =
+    sum_by-cons f d (replicate n d) in let r =
+    none_counted f d n e in let w : sum_by f (replicate (suc n) d) ≡ f d + sum_by f (replicate n d) = c in omega (arith, w, r, e)
+
+pub frames_free : (n : ℕ) → n ≤ 1024 → AreFrames (replicate n frame.Free) (record { uids = []; going = []; kinds = [] }) []
+frames_free n few = record {
+  few = let l = length-replicate n frame.Free in omega (arith, l, few);
+  uids = λ a b. sym (none_counted _ frame.Free n refl);
+  going = λ a b. sym (none_counted _ frame.Free n refl);
+  kinds = λ a b. sym (none_counted _ frame.Free n refl);
+  pages = λ a b. sym (none_counted _ frame.Free n refl);
+}
+
+pub descriptors_free : AreDescriptors (replicate 256 descriptor.Free) (record { uids = []; going = []; kinds = [] })
+descriptors_free = record {
+  few = let l = length-replicate 256 descriptor.Free in omega (arith, l);
+  uids = λ a b. sym (none_counted (λ x. key_bit (uid_key (descriptor_mark x)) a b) descriptor.Free 256 refl);
+  going = λ a b. sym (none_counted (λ x. key_bit (going_key (descriptor_mark x)) a b) descriptor.Free 256 refl);
+  kinds = λ a b. sym (none_counted (λ x. key_bit (kind_key (descriptor_mark x)) a b) descriptor.Free 256 refl);
+}
+
+-- each of many that are the same is that one, and so is each past them
+pub all_same : {X : Type 0} (n i : ℕ) (d : X) → get_or (replicate n d) i d ≡ d
+all_same zero i d = refl
+all_same (suc n) zero d = refl
+all_same (suc n) (suc i) d = all_same n i d
+
+free_row : (n k i : ℕ) → descriptor_at (row_at (replicate n (replicate 256 descriptor.Free)) k) i ≡ descriptor.Free
+free_row zero k i = refl
+free_row (suc n) zero i = all_same 256 i descriptor.Free
+free_row (suc n) (suc k) i = free_row n k i
+
+pub booted : (p : Plan) (t : Tables) (f d s : ℕ) → t.active ≡ [] → t.frames ≡ replicate f frame.Free
+    → t.descriptors ≡ replicate d (replicate 256 descriptor.Free)
+    → t.ready ≡ ready_at_first p → t.seats ≡ replicate s offline → custody_of t ≡ nothing_held p
+booted p t f d s a fs ds r ss = λ i. record {
+  active = λ u. (ap (λ (xs : List _). is_some (get_or xs u None)) a) i;
+  frame = λ g. (ap (λ (xs : List FrameUse). frame_at xs g) fs ∙ all_same f g frame.Free) i;
+  descriptor = λ k n. (ap (λ (xs : List (List DescriptorUse)). descriptor_at (row_at xs k) n) ds ∙ free_row d k n) i;
+  ready = r i;
+  seat = λ e. (ap (λ (xs : List Seat). seat_at xs e) ss ∙ all_same s e offline) i;
+}
+
+pub frames_made : (n : ℕ) (uses : List FrameUse) (c : UseCounted) (p : Counted) → uses ≡ replicate n frame.Free
+    → c ≡ record { uids = []; going = []; kinds = [] } → p ≡ []
+    → n ≤ 1024 → AreFrames uses c p
+frames_made n uses c p u e f few =
+    subst (λ (q : Counted). AreFrames uses c q) (sym f)
+    (subst (λ (d : UseCounted). AreFrames uses d []) (sym e) (subst (λ (xs : List FrameUse). AreFrames xs (record { uids = []; going = []; kinds = [] })
+    []) (sym u) (frames_free n few)))
+
+range_end : (from n : ℕ) → range from (suc n) ≡ range from n ++ (from + n) ∷ []
+range_end from zero = let e : from ≡ from + 0 = omega arith in ap (λ (x : ℕ). x ∷ []) e
+range_end from (suc n) =
+    let r = range_end (from + 1) n in
+    let e : from + 1 + n ≡ from + suc n = omega arith in
+    ap (λ (xs : List ℕ). from ∷ xs) (r ∙ ap (λ (x : ℕ). range (from + 1) n ++ x ∷ []) e)
+
+pub range_more : (n : ℕ) (xs ys : List ℕ) → xs ≡ range 0 n → ys ≡ xs ++ n ∷ [] → ys ≡ range 0 (n + 1)
+range_more n xs ys e f =
+    let s : suc n ≡ n + 1 = omega arith in
+    let z : 0 + n ≡ n = omega arith in
+    f ∙ ap (λ (zs : List ℕ). zs ++ n ∷ []) e ∙ sym (range_end 0 n ∙ ap (λ (x : ℕ). range 0 n ++ x ∷ []) z) ∙ ap (range 0) s

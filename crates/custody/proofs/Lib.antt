@@ -1,0 +1,8 @@
+pub mod CountLaws
+pub mod TallyLaws
+pub mod LookLaws
+pub mod ScanLaws
+pub mod ActiveLaws
+pub mod NodeLaws
+pub mod CutLaws
+pub mod BootLaws

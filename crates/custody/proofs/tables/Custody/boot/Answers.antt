@@ -1,0 +1,13 @@
+use Rattle.custody.proofs.BootLaws.{booted}
+use Rattle.custody.proofs.tables.Custody.boot.Goals as goal
+
+pub returns-clause-custody : goal.returns-clause-custody
+returns-clause-custody c = booted c.args.script.now
+    (record {
+      active = c.new-2.result;
+      frames = c.in_ok-frames.frames;
+      descriptors = c.in_ok-descriptors.descriptors.items;
+      ready = c.in_ok-ready.ready.items;
+      seats = c.in_ok-seats.seats.items;
+    }) c.frames.result c.processes-processes.result c.processors.result c.new-2.ensures c.in_ok-frames.ensures c.in_ok-descriptors.ensures c.in_ok-ready.ensures
+    c.in_ok-seats.ensures

@@ -1,0 +1,8 @@
+use Rattle.std.proofs.Common.{subst}
+use Rattle.std.specs.Bool.{Decides}
+use Rattle.custody.specs.Tables.{Tables, custody_of}
+use Rattle.custody_model.specs.Effects.{HasNoPage}
+use Rattle.custody.proofs.tables.Custody.has_no_page.Goals as goal
+
+pub returns : goal.returns
+returns c = subst (λ (v : Tables). Decides c.has_none_of.result (HasNoPage (custody_of v) c.args.uid)) c.self.view_is c.has_none_of.ensures

@@ -1,0 +1,148 @@
+ghost use Rattle.std.specs.Prelude.{◌≡◌, ◌≢◌, ◌==◌, ◌<◌, ℕ, true, slice_set, replicate, ◌≤◌, IfOk, OnOk, OnErr, Some};
+ghost use Rattle.custody_model.specs.declared.FrameUse.TheVariants as frame;
+ghost use Rattle.std.specs.Bool.{Decides};
+ghost use Rattle.custody_model.specs.Custody.{bound_page, is_going_frame, is_uid, page_of, uid_of_page};
+ghost use Rattle.custody.specs.Counts.{key_bit};
+ghost use Rattle.custody.specs.Uses.{frame_at, frame_mark, kind_key};
+
+use crate::NoMemory;
+use crate::counts::Counts;
+use crate::uses::{UseCounts, frame_mark, page_of};
+use custody_model::FrameUse;
+use std::alloc::Global;
+use std::marker::Model;
+
+/// What the frames of core are used for. A contract sees the list of their uses.
+///
+/// Beside it stand counts of them, so that nothing is looked for among all frames.
+#[derive(Drop)]
+pub(crate) struct Frames {
+    uses: Vec<FrameUse>,
+    counts: UseCounts,
+    pages: Counts,
+}
+
+impl Model for Frames {
+    ghost use Rattle.std.specs.Prelude.{List};
+    ghost use Rattle.custody.specs.Uses.{AreFrames};
+    ghost use Rattle.custody_model.specs.declared.FrameUse.{FrameUse as Use};
+
+    ghost Value = { List Use };
+
+    ghost view = { λ f. f.uses.items };
+
+    ghost invariant = { λ f. AreFrames f.uses.items f.counts f.pages };
+}
+
+impl Frames {
+    /// So many frames, used for nothing.
+    ///
+    /// # Errors
+    /// `NoMemory` is want of memory.
+    #[tactic(auto, using(crate::proofs::BootLaws::frames_free))]
+    pub(crate) fn new(alloc: Global, frames: u32) -> Result<Frames, NoMemory>
+        requires { frames ≤ 1024 }
+        ensures { IfOk result (λ f. f ≡ replicate frames frame.Free) }
+    {
+        let uses = vec![in alloc; FrameUse::Free; frames as usize].map_err(|_| NoMemory)?;
+        Ok(Frames {
+            uses,
+            counts: UseCounts::new(alloc),
+            pages: Counts::new(alloc),
+        })
+    }
+
+    /// What a frame is used for; nothing, where there is no such frame.
+    pub(crate) fn at(&self, f: u32) -> FrameUse
+        ensures { result ≡ frame_at self.now f }
+    {
+        match self.uses.get(f as usize) {
+            Some(of) => *of,
+            None => FrameUse::Free,
+        }
+    }
+
+    /// A frame is used for this from now on; nothing changes where there is no such frame.
+    ///
+    /// # Errors
+    /// `NoMemory` is want of memory; then nothing is changed.
+    #[tactic(auto, using(crate::proofs::TallyLaws::frames_counted))]
+    pub(crate) fn put(&mut self, f: u32, to: FrameUse) -> Result<(), NoMemory>
+        ensures ok { OnOk result (self.new ≡ slice_set self.old f to) }
+        ensures err { OnErr result (self.new ≡ self.old) }
+    {
+        let at = f as usize;
+        if at >= self.uses.len() {
+            return Ok(());
+        }
+        self.counts.reserve(frame_mark(to))?;
+        self.pages.reserve_key(page_of(to))?;
+        let from = self.uses[at];
+        self.counts.shift(frame_mark(from), frame_mark(to));
+        self.pages.shift(page_of(from), page_of(to));
+        self.uses[at] = to;
+        Ok(())
+    }
+
+    /// Whether a page is in no frame, and being read into none.
+    pub(crate) fn is_in_none(&self, uid: u32, page: u32) -> bool
+        ensures { Decides result ((f : ℕ) → page_of (frame_at self.now f) ≢ Some (uid, page)) }
+    {
+        let count = self.pages.at(uid, page);
+        count == 0
+    }
+
+    /// Whether no page of a segment is in a frame, or being read into one.
+    pub(crate) fn has_none_of(&self, uid: u32) -> bool
+        ensures { Decides result ((f : ℕ) → uid_of_page (page_of (frame_at self.now f)) ≢ Some uid) }
+    {
+        let count = self.counts.of(uid);
+        count == 0
+    }
+
+    /// Whether a page is on its way out.
+    pub(crate) fn some_goes(&self) -> bool
+        ensures { Decides result ((f : ℕ) × (is_going_frame (frame_at self.now f) ≡ true)) }
+    {
+        let count = self.counts.going();
+        count > 0
+    }
+
+    /// Whether the pages that are on their way out are all of this segment.
+    pub(crate) fn all_go_of(&self, uid: u32) -> bool
+        ensures { Decides result ((f : ℕ) → is_going_frame (frame_at self.now f) ≡ true
+            → is_uid uid (uid_of_page (bound_page (frame_at self.now f))) ≡ true) }
+    {
+        let count = self.counts.going_of(uid);
+        let all = self.counts.going();
+        count == all
+    }
+
+    /// Whether no page is on its way out but the one in this frame.
+    pub(crate) fn all_go_in(&self, frame: u32) -> bool
+        ensures { Decides result ((f : ℕ) → is_going_frame (frame_at self.now f) ≡ true → (f == frame) ≡ true) }
+    {
+        let all = self.counts.going();
+        let here = going_count(self.at(frame));
+        all == here
+    }
+
+    /// Whether the pages of a segment that are in frames, or being read into them, are all below a number.
+    pub(crate) fn all_are_below(&self, uid: u32, pages: u32) -> bool
+        ensures { Decides result ((f q : ℕ) → page_of (frame_at self.now f) ≡ Some (uid, q) → q < pages) }
+    {
+        let below = self.pages.below(uid, pages);
+        let all = self.counts.of(uid) as u64;
+        below == all
+    }
+}
+
+/// How many pages are on their way out of a frame with this use, 1 or 0.
+fn going_count(of: FrameUse) -> u32
+    ensures { result ≡ key_bit (kind_key (frame_mark of)) 1 0 }
+{
+    match of {
+        FrameUse::Going { .. } => 1,
+        _ => 0,
+    }
+}

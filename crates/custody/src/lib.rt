@@ -1,0 +1,25 @@
+//! Custody: who holds which entry while a book goes on, as a program that judges each entry (Bensoussan, Clingen and Daley
+//! 1972). The definitions stand in `custody_model`; what the program keeps besides are counts by which no row of them walks
+//! over all frames, segments or descriptors.
+//!
+//! `Custody` is what holds before the first entry, and judges an entry by a look at the flat store before it. How custody
+//! goes on after an entry is defined, and there is no call for it yet.
+#![tactic(auto)]
+
+mod active;
+mod boot;
+mod commands;
+mod counts;
+mod descriptors;
+mod frames;
+mod judging;
+mod seats;
+mod store_rows;
+mod tables;
+mod uses;
+
+pub use tables::Custody;
+
+/// There wasn't enough memory.
+#[derive(Clone, Copy, Debug, PartialEq, Eq)]
+pub struct NoMemory;
