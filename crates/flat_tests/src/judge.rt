@@ -27,7 +27,7 @@ const REPLIES: [Reply; 14] = [
 ];
 
 /// Whether no other reply of the list is lawful in place of an entry's own.
-fn refuses_others(store: &FlatStore, script: &Script, entry: Entry) -> bool {
+fn refuses_others(store: &FlatStore, script: &Script, entry: &Entry) -> bool {
     let Entry::Do {
         process,
         place,
@@ -38,18 +38,18 @@ fn refuses_others(store: &FlatStore, script: &Script, entry: Entry) -> bool {
     else {
         return true;
     };
-    if reply == Reply::Device {
+    if *reply == Reply::Device {
         return true;
     }
     REPLIES.iter().all(|other| {
         let instead = Entry::Do {
-            process,
-            place,
-            cpu,
-            frame,
+            process: *process,
+            place: *place,
+            cpu: *cpu,
+            frame: *frame,
             reply: *other,
         };
-        *other == reply || !store.allows(script, instead)
+        *other == *reply || !store.allows(script, instead)
     })
 }
 
@@ -61,7 +61,7 @@ fn after(alloc: Global, script: &Script, entries: &str) -> Result<FlatStore, Fai
         if !store.allows(script, entry) {
             return Err("a lawful entry is refused")?;
         }
-        if !refuses_others(&store, script, entry) {
+        if !refuses_others(&store, script, &entry) {
             return Err("another reply is allowed")?;
         }
         store.follow(script, entry)?;
