@@ -1,4 +1,4 @@
-ghost use Rattle.std.specs.Prelude.{◌≡◌, ◌/◌, ℕ, is_some};
+ghost use Rattle.std.specs.Prelude.{◌≡◌, ◌/◌, ℕ, is_some, None};
 ghost use Rattle.script.specs.Plans.{Plan};
 ghost use Rattle.tree_model.specs.Tree.{entries_on, node_in, taken_on, used_by};
 ghost use Rattle.accounts.specs.Maps.{Counts};
@@ -48,6 +48,15 @@ impl FlatStore {
         ensures counts { (p : Plan) (store : Store) → Shows p self.now store → Counts result.now store.stored }
     {
         &self.holdings.accounts
+    }
+
+    /// The uid that the next new directory or segment gets. No node has it.
+    pub fn next_uid(&self) -> u32
+        ensures uid { (p : Plan) (store : Store) → Shows p self.now store → result ≡ store.next }
+        ensures fresh { (p : Plan) (store : Store) → Shows p self.now store
+            → node_in store.nodes store.next ≡ None }
+    {
+        self.holdings.accounts.next_uid()
     }
 
     /// How many stored pages the account of this uid is charged for; 0 where it is no account.
