@@ -1,2 +1,3 @@
 pub mod CleanLaws
 pub mod FineLaws
+pub mod TurnLaws
