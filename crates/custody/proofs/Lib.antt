@@ -6,3 +6,4 @@ pub mod ActiveLaws
 pub mod NodeLaws
 pub mod CutLaws
 pub mod BootLaws
+pub mod KeptNodes
