@@ -5,17 +5,22 @@ use flat_store::FlatStore;
 use listing::{summary, summary_text};
 use mword::Word;
 use script::{Script, read_script};
-use std::alloc::Global;
+use std::alloc::{AllocError, Global};
+use std::process::Abort;
 use std::test::Fail;
 
+/// The root, which has the least uid.
+const ROOT: u32 = 1;
+
 /// Replies of which an entry has at most one.
-const REPLIES: [Reply; 14] = [
+const REPLIES: [Reply; 15] = [
     Reply::Unknown,
     Reply::Gone,
     Reply::NoAccess,
     Reply::Length,
     Reply::Quota,
     Reply::NoRecord,
+    Reply::Device,
     Reply::Word(Word::ZERO),
     Reply::Done,
     Reply::Made(99),
@@ -25,6 +30,11 @@ const REPLIES: [Reply; 14] = [
     Reply::Over(99),
     Reply::NotEmpty,
 ];
+
+/// Whether another reply is lawful beside an entry's own: a drive's failure is told in place of `done`.
+fn is_lawful_too(reply: &Reply, other: &Reply) -> bool {
+    *other == *reply || (*reply == Reply::Device && *other == Reply::Done)
+}
 
 /// Whether no other reply of the list is lawful in place of an entry's own.
 fn refuses_others(store: &FlatStore, script: &Script, entry: &Entry) -> bool {
@@ -38,9 +48,6 @@ fn refuses_others(store: &FlatStore, script: &Script, entry: &Entry) -> bool {
     else {
         return true;
     };
-    if *reply == Reply::Device {
-        return true;
-    }
     REPLIES.iter().all(|other| {
         let instead = Entry::Do {
             process: *process,
@@ -49,7 +56,7 @@ fn refuses_others(store: &FlatStore, script: &Script, entry: &Entry) -> bool {
             frame: *frame,
             reply: *other,
         };
-        *other == *reply || !store.allows(script, instead)
+        is_lawful_too(reply, other) || !store.allows(script, instead)
     })
 }
 
@@ -69,14 +76,54 @@ fn after(alloc: Global, script: &Script, entries: &str) -> Result<FlatStore, Fai
     Ok(store)
 }
 
-/// The accounts and the volumes after some entries of a script.
-pub(crate) fn judged(alloc: Global, text: &[u8], entries: &str) -> Result<String, Fail>
+/// Appends how many pages each account is charged for that is charged, and the words at some offsets of some segments.
+fn push_looks(out: &mut String, store: &FlatStore, words: &[(u32, u32)]) -> Result<(), AllocError> {
+    for uid in ROOT..store.accounts().next_uid() {
+        let used = store.used(uid);
+        if used != 0 {
+            write!(out, "used {uid} {used}\n")?;
+        }
+    }
+    for (uid, offset) in words {
+        let word = store.word(*uid, *offset);
+        write!(out, "word {uid} {offset} {word}\n")?;
+    }
+    Ok(())
+}
+
+/// The accounts and the volumes after some entries of a script, what the accounts are charged for, and some words, each
+/// by its segment's uid and its offset.
+fn ends_after(
+    alloc: Global,
+    text: &[u8],
+    entries: &str,
+    words: &[(u32, u32)],
+) -> Result<String, Fail>
     requires { length text.now < 2 ^ 31 }
 {
     let script = read_script(alloc, text)?;
     let store = after(alloc, &script, entries)?;
     let summary = summary(alloc, &script, &store)?;
-    Ok(summary_text(alloc, &summary)?)
+    let mut ends = summary_text(alloc, &summary)?;
+    push_looks(&mut ends, &store, words)?;
+    Ok(ends)
+}
+
+/// Judges some entries of a script, and looks at the accounts, the volumes and some words after them.
+pub(crate) fn expect_ends(
+    rt: &(impl Abort + AllocGlobal),
+    text: &[u8],
+    entries: &str,
+    words: &[(u32, u32)],
+    ends: &str,
+) -> Result<(), Fail>
+    requires { length text.now < 2 ^ 31 }
+{
+    assert_eq!(rt;
+        ends_after(rt.alloc(), text, entries, words)?.as_str(),
+        ends
+    );
+    Ok(())
 }
 
 /// Whether an entry is lawful after some others.

@@ -1,4 +1,4 @@
-use crate::judge::{is_lawful_after, judged};
+use crate::judge::{expect_ends, is_lawful_after};
 use std::test::Fail;
 
 #[test]
@@ -37,16 +37,28 @@ do 0.9 0 - done
 do 0.10 0 - done
 do 0.11 0 - done
 do 0.12 0 - done
-do 0.13 0 - done
 release 3 1
+do 0.13 0 - done
 do 0.14 0 - done
 do 0.15 0 - done";
     let ends = "> quota 8 used 4
 >a quota 2 used 2
 volume alpha records 16 taken 6 entries 8 taken 4
+used 1 4
+used 2 2
+word 3 0 000000000001
+word 3 1024 000000000000
+word 3 2048 000000000001
+word 4 0 000000000001
+word 4 3072 000000000001
 ";
-    assert_eq!(rt; judged(rt.alloc(), script, entries)?.as_str(), ends);
-    Ok(())
+    expect_ends(
+        &rt,
+        script,
+        entries,
+        &[(3, 0), (3, 1024), (3, 2048), (4, 0), (4, 3072)],
+        ends,
+    )
 }
 
 #[test]
@@ -82,9 +94,10 @@ do 0.5 0 - done
 do 1.4 1 - done";
     let ends = "> quota 4 used 1
 volume alpha records 8 taken 1 entries 4 taken 2
+used 1 1
+word 2 0 000000000005
 ";
-    assert_eq!(rt; judged(rt.alloc(), script, entries)?.as_str(), ends);
-    Ok(())
+    expect_ends(&rt, script, entries, &[(2, 0)], ends)
 }
 
 #[test]
@@ -126,89 +139,26 @@ do 0.8 0 - done
 do 0.9 0 - done
 take 0
 do 1.2 1 0 done
+gone page 0
 do 0.10 0 - done
 do 1.3 1 0 word 000000000007
 do 0.11 0 - done
 do 1.4 1 - done";
     let ends = "> quota 9 used 5
 volume alpha records 16 taken 5 entries 8 taken 3
+used 1 5
+word 2 0 000000000000
+word 2 5 000000000007
+word 3 0 000000000001
+word 3 3072 000000000001
 ";
-    assert_eq!(rt; judged(rt.alloc(), script, entries)?.as_str(), ends);
-    Ok(())
-}
-
-#[test]
-fn a_drives_failure_is_told_once(rt: HostRuntime) -> Result<(), Fail> {
-    let script = b"machine 1 4 12 1 1 1
-quota 9
-volume alpha 16 4
-print all
-fail alpha write 1
-process Smith
-mkseg >s 6 alpha
-initiate >s
-write 0 0 1
-write 0 1024 1
-write 0 2048 1
-write 0 3072 1
-write 0 4096 1
-write 0 4096 1
-read 0 0
-end
-";
-    let entries = "do 0.0 0 - made 2
-do 0.1 0 - known 0
-do 0.2 0 - done
-do 0.3 0 - done
-do 0.4 0 - done
-do 0.5 0 - done
-take 0
-fault 0
-back page 0
-do 0.6 0 - device
-do 0.7 0 - done
-do 0.8 0 0 word 000000000001
-do 0.9 0 - done
-fault -";
-    let ends = "> quota 9 used 5
-volume alpha records 16 taken 5 entries 4 taken 2
-";
-    assert_eq!(rt; judged(rt.alloc(), script, entries)?.as_str(), ends);
-    Ok(())
-}
-
-// A failure is told of a process whose drive call failed, once.
-#[test]
-fn a_failure_that_no_drive_had_is_refused(rt: HostRuntime) -> Result<(), Fail> {
-    let script = b"machine 1 4 12 1 1 1
-quota 9
-volume alpha 16 4
-print all
-fail alpha write 1
-process Smith
-mkseg >s 6 alpha
-initiate >s
-write 0 0 1
-write 0 1024 1
-write 0 2048 1
-write 0 3072 1
-write 0 4096 1
-write 0 4096 1
-read 0 0
-end
-";
-    let before = "do 0.0 0 - made 2
-do 0.1 0 - known 0
-do 0.2 0 - done
-do 0.3 0 - done
-do 0.4 0 - done
-do 0.5 0 - done";
-    let device = "do 0.6 0 - device";
-    assert!(rt; !is_lawful_after(rt.alloc(), script, before, device)?);
-    assert!(rt; !is_lawful_after(rt.alloc(), script, before, "fault 1")?);
-    assert!(rt; !is_lawful_after(rt.alloc(), script, before, "fault -")?);
-    assert!(rt; is_lawful_after(rt.alloc(), script, before, "fault 0")?);
-    Ok(())
+    expect_ends(
+        &rt,
+        script,
+        entries,
+        &[(2, 0), (2, 5), (3, 0), (3, 3072)],
+        ends,
+    )
 }
 
 #[test]

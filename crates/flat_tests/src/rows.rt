@@ -1,4 +1,4 @@
-use crate::judge::judged;
+use crate::judge::expect_ends;
 use std::test::Fail;
 
 #[test]
@@ -25,9 +25,9 @@ do 0.6 0 - done
 release 2 0";
     let ends = "> quota 4 used 0
 volume alpha records 8 taken 0 entries 4 taken 2
+word 2 0 000000000000
 ";
-    assert_eq!(rt; judged(rt.alloc(), script, entries)?.as_str(), ends);
-    Ok(())
+    expect_ends(&rt, script, entries, &[(2, 0)], ends)
 }
 
 #[test]
@@ -49,9 +49,9 @@ do 0.3 0 - seg 2 length 1 stored 0
 do 0.4 0 - done";
     let ends = "> quota 4 used 0
 volume alpha records 8 taken 0 entries 4 taken 2
+word 2 9 000000000000
 ";
-    assert_eq!(rt; judged(rt.alloc(), script, entries)?.as_str(), ends);
-    Ok(())
+    expect_ends(&rt, script, entries, &[(2, 9)], ends)
 }
 
 #[test]
@@ -77,9 +77,11 @@ do 0.5 0 - seg 2 length 2 stored 1
 do 0.6 0 - done";
     let ends = "> quota 1 used 1
 volume alpha records 8 taken 1 entries 4 taken 2
+used 1 1
+word 2 0 000000000001
+word 2 1024 000000000000
 ";
-    assert_eq!(rt; judged(rt.alloc(), script, entries)?.as_str(), ends);
-    Ok(())
+    expect_ends(&rt, script, entries, &[(2, 0), (2, 1024)], ends)
 }
 
 #[test]
@@ -105,9 +107,19 @@ do 0.5 0 - done
 do 0.6 0 - done";
     let ends = "> quota 2 used 2
 volume alpha records 8 taken 2 entries 4 taken 2
+used 1 2
+word 2 0 000000000001
+word 2 1024 000000000001
+word 2 1025 000000000001
+word 2 2048 000000000000
 ";
-    assert_eq!(rt; judged(rt.alloc(), script, entries)?.as_str(), ends);
-    Ok(())
+    expect_ends(
+        &rt,
+        script,
+        entries,
+        &[(2, 0), (2, 1024), (2, 1025), (2, 2048)],
+        ends,
+    )
 }
 
 #[test]
@@ -131,9 +143,12 @@ do 0.4 0 - norecord
 do 0.5 0 - done";
     let ends = "> quota 9 used 2
 volume alpha records 2 taken 2 entries 4 taken 2
+used 1 2
+word 2 0 000000000001
+word 2 1024 000000000001
+word 2 2048 000000000000
 ";
-    assert_eq!(rt; judged(rt.alloc(), script, entries)?.as_str(), ends);
-    Ok(())
+    expect_ends(&rt, script, entries, &[(2, 0), (2, 1024), (2, 2048)], ends)
 }
 
 #[test]
@@ -157,9 +172,12 @@ do 0.4 0 - quota
 do 0.5 0 - done";
     let ends = "> quota 2 used 2
 volume alpha records 2 taken 2 entries 4 taken 2
+used 1 2
+word 2 0 000000000001
+word 2 1024 000000000001
+word 2 2048 000000000000
 ";
-    assert_eq!(rt; judged(rt.alloc(), script, entries)?.as_str(), ends);
-    Ok(())
+    expect_ends(&rt, script, entries, &[(2, 0), (2, 1024), (2, 2048)], ends)
 }
 
 #[test]
@@ -201,9 +219,11 @@ do 0.13 0 - dir 2 quota 0 used 0
 do 0.14 0 - done";
     let ends = "> quota 4 used 2
 volume alpha records 8 taken 2 entries 4 taken 3
+used 1 2
+word 3 0 000000000001
+word 3 1024 000000000001
 ";
-    assert_eq!(rt; judged(rt.alloc(), script, entries)?.as_str(), ends);
-    Ok(())
+    expect_ends(&rt, script, entries, &[(3, 0), (3, 1024)], ends)
 }
 
 #[test]
@@ -243,9 +263,9 @@ do 0.12 0 - nopath
 do 0.13 0 - done";
     let ends = "> quota 4 used 0
 volume alpha records 8 taken 0 entries 4 taken 1
+word 3 0 000000000000
 ";
-    assert_eq!(rt; judged(rt.alloc(), script, entries)?.as_str(), ends);
-    Ok(())
+    expect_ends(&rt, script, entries, &[(3, 0)], ends)
 }
 
 #[test]
@@ -285,9 +305,19 @@ do 0.12 0 - seg 2 length 3 stored 1
 do 0.13 0 - done";
     let ends = "> quota 4 used 1
 volume alpha records 8 taken 1 entries 4 taken 2
+used 1 1
+word 2 0 000000000001
+word 2 1499 000000000000
+word 2 1500 000000000000
+word 2 2048 000000000000
 ";
-    assert_eq!(rt; judged(rt.alloc(), script, entries)?.as_str(), ends);
-    Ok(())
+    expect_ends(
+        &rt,
+        script,
+        entries,
+        &[(2, 0), (2, 1499), (2, 1500), (2, 2048)],
+        ends,
+    )
 }
 
 #[test]
@@ -314,8 +344,7 @@ do 0.6 0 - done";
     let ends = "> quota 4 used 0
 volume alpha records 8 taken 0 entries 4 taken 2
 ";
-    assert_eq!(rt; judged(rt.alloc(), script, entries)?.as_str(), ends);
-    Ok(())
+    expect_ends(&rt, script, entries, &[], ends)
 }
 
 #[test]
@@ -341,9 +370,9 @@ do 0.5 0 - done
 do 0.6 0 - done";
     let ends = "> quota 4 used 0
 volume alpha records 8 taken 0 entries 4 taken 2
+word 2 1024 000000000000
 ";
-    assert_eq!(rt; judged(rt.alloc(), script, entries)?.as_str(), ends);
-    Ok(())
+    expect_ends(&rt, script, entries, &[(2, 1024)], ends)
 }
 
 #[test]
@@ -362,8 +391,7 @@ do 0.2 0 - done";
     let ends = "> quota 4 used 0
 volume alpha records 8 taken 0 entries 2 taken 2
 ";
-    assert_eq!(rt; judged(rt.alloc(), script, entries)?.as_str(), ends);
-    Ok(())
+    expect_ends(&rt, script, entries, &[], ends)
 }
 
 #[test]
@@ -386,36 +414,7 @@ do 0.4 0 - done";
     let ends = "> quota 4 used 0
 volume alpha records 8 taken 0 entries 2 taken 2
 ";
-    assert_eq!(rt; judged(rt.alloc(), script, entries)?.as_str(), ends);
-    Ok(())
-}
-
-#[test]
-fn a_row_names_a_person_on_a_project(rt: HostRuntime) -> Result<(), Fail> {
-    let script = b"machine 1 4 12 1 1 1
-quota 4
-volume alpha 8 4
-process Smith.Dev
-mkseg >s 1 alpha
-initiate >s
-acl >s Smith n
-read 0 0
-acl >s Smith.Dev n
-read 0 0
-end
-";
-    let entries = "do 0.0 0 - made 2
-do 0.1 0 - known 0
-do 0.2 0 - done
-do 0.3 0 - word 000000000000
-do 0.4 0 - done
-do 0.5 0 - noaccess
-do 0.6 0 - done";
-    let ends = "> quota 4 used 0
-volume alpha records 8 taken 0 entries 4 taken 2
-";
-    assert_eq!(rt; judged(rt.alloc(), script, entries)?.as_str(), ends);
-    Ok(())
+    expect_ends(&rt, script, entries, &[], ends)
 }
 
 #[test]
@@ -444,7 +443,8 @@ do 0.7 0 - done
 release 2 0";
     let ends = "> quota 4 used 0
 volume alpha records 8 taken 0 entries 4 taken 2
+word 2 0 000000000000
+word 2 1024 000000000000
 ";
-    assert_eq!(rt; judged(rt.alloc(), script, entries)?.as_str(), ends);
-    Ok(())
+    expect_ends(&rt, script, entries, &[(2, 0), (2, 1024)], ends)
 }
