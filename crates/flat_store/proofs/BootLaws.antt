@@ -1,5 +1,6 @@
 -- What is kept at the boot shows the flat store at the boot.
-use Rattle.std.proofs.Common.{◌≡◌, ℕ, suc, zero, ◌+◌, ◌≤◌, Bool, true, false, cond, eqb, List, [], ◌∷◌, length, map, set, replicate, Option, None, refl, sym, ap, subst, ◌∙◌, arith}
+use Rattle.std.proofs.Common.{◌≡◌, ℕ, suc, zero, ◌+◌, ◌≤◌, Bool, true, false, cond, eqb, List, [], ◌∷◌, length, map}
+use Rattle.std.proofs.Common.{set, replicate, Option, None, refl, sym, ap, subst, ◌∙◌, arith}
 use Rattle.std.specs.Prelude.{slice_get}
 use Rattle.std.proofs.lemmas.Bool.Decides.{nat_tests}
 use Rattle.std.proofs.lemmas.List.{length-replicate}
@@ -10,16 +11,19 @@ use Rattle.script.specs.declared.plan.VolumeLine.{VolumeLine}
 use Rattle.tree_model.specs.Tree.{entries_on, taken_on}
 use Rattle.flat_model.specs.Store.{Progress, at_first, boot, entries_in, entries_of, records_in, records_of, root_of}
 use Rattle.flat_model.proofs.ScriptLaws.{root_there}
-use Rattle.flat_store.specs.Shown.{Gauge, gauge_at, filled, entries_gauge, records_gauge, Held, Holds, Kept, Shows, pages_in}
+use Rattle.flat_store.specs.Shown.{Gauge, gauge_at, filled, entries_gauge, records_gauge, Held, Holds, Kept, Shows}
+use Rattle.flat_store.specs.Shown.{pages_in}
 use Rattle.flat_store.proofs.GaugeLaws.{counts_more, gauge}
 use Rattle.flat_store.proofs.ReachLaws.{reached_boot}
 
-records_here : (vs : List VolumeLine) (v : ℕ) → gauge_at (map records_gauge vs) v ≡ gauge 0 (records_in (slice_get vs v))
+records_here : (vs : List VolumeLine) (v : ℕ)
+    → gauge_at (map records_gauge vs) v ≡ gauge 0 (records_in (slice_get vs v))
 records_here [] v = refl
 records_here (x ∷ xs) zero = refl
 records_here (x ∷ xs) (suc v) = records_here xs v
 
-entries_here : (vs : List VolumeLine) (v : ℕ) → gauge_at (map entries_gauge vs) v ≡ gauge 0 (entries_in (slice_get vs v))
+entries_here : (vs : List VolumeLine) (v : ℕ)
+    → gauge_at (map entries_gauge vs) v ≡ gauge 0 (entries_in (slice_get vs v))
 entries_here [] v = refl
 entries_here (x ∷ xs) zero = refl
 entries_here (x ∷ xs) (suc v) = entries_here xs v
@@ -61,14 +65,16 @@ holds_first p plan =
       inside = λ u q on. absurd cc;
       flat = λ u is. no_pages p u;
       records = λ v. records_here p.volumes v ∙ ap (λ (n : ℕ). gauge n (records_of p v)) (sym (nothing_taken p v));
-      entries = λ v. counts_more (map entries_gauge p.volumes) (λ x. 0) (λ x. entries_on (root_of p ∷ []) x) (entries_of p) 0 (entries_here p.volumes)
+      entries = λ v. counts_more (map entries_gauge p.volumes) (λ x. 0) (λ x. entries_on (root_of p ∷ []) x)
+          (entries_of p) 0 (entries_here p.volumes)
           room (root_entry p) v;
     }
 
 pub held_boot : (p : Plan) (h : Held) → IsPlan p → h ≡ held_first p → Holds p h (boot p)
 held_boot p h plan same = subst (λ (x : Held). Holds p x (boot p)) (sym same) (holds_first p plan)
 
-pub shown_boot : (p : Plan) (k : Kept) → IsPlan p → Holds p k.held (boot p) → k.known ≡ replicate (length p.processes) (replicate 256 None)
+pub shown_boot : (p : Plan) (k : Kept) → IsPlan p → Holds p k.held (boot p)
+    → k.known ≡ replicate (length p.processes) (replicate 256 None)
     → k.processes ≡ replicate (length p.processes) at_first
     → Shows p k (boot p)
 unfolding boot
@@ -84,13 +90,18 @@ shown_boot p k plan holds known processes = record {
 }
 
 -- what is built, part by part
-pub built : (p : Plan) (h : Held) (quota : ℕ) (one other : List VolumeLine) (entries : List Gauge) → h.accounts ≡ root_alone 0 0 quota → quota ≡ p.quota
+pub built : (p : Plan) (h : Held) (quota : ℕ) (one other : List VolumeLine) (entries : List Gauge)
+    → h.accounts ≡ root_alone 0 0 quota → quota ≡ p.quota
     → h.pages ≡ [] → h.records ≡ map records_gauge one → one ≡ p.volumes
-    → entries ≡ map entries_gauge other → other ≡ p.volumes → h.entries ≡ set entries 0 (filled (gauge_at entries 0)) → h ≡ held_first p
+    → entries ≡ map entries_gauge other → other ≡ p.volumes → h.entries ≡ set entries 0 (filled (gauge_at entries 0))
+    → h ≡ held_first p
 built p h quota one other gauges accounts is pages records first entries second filled_are =
     let a : h.accounts ≡ root_alone 0 0 p.quota = accounts ∙ ap (root_alone 0 0) is in
-    let r : h.records ≡ map records_gauge p.volumes = records ∙ ap (λ (vs : List VolumeLine). map records_gauge vs) first in
-    let g : gauges ≡ map entries_gauge p.volumes = entries ∙ ap (λ (vs : List VolumeLine). map entries_gauge vs) second in
-    let e : h.entries ≡ set (map entries_gauge p.volumes) 0 (filled (gauge_at (map entries_gauge p.volumes) 0)) = filled_are
+    let r : h.records ≡ map records_gauge p.volumes = records
+    ∙ ap (λ (vs : List VolumeLine). map records_gauge vs) first in
+    let g : gauges ≡ map entries_gauge p.volumes = entries
+    ∙ ap (λ (vs : List VolumeLine). map entries_gauge vs) second in
+    let e : h.entries ≡ set (map entries_gauge p.volumes) 0 (filled (gauge_at (map entries_gauge p.volumes) 0)) =
+    filled_are
     ∙ ap (λ (x : List Gauge). set x 0 (filled (gauge_at x 0))) g in
     λ i. record { accounts = a i; pages = pages i; records = r i; entries = e i }

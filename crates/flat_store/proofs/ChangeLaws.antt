@@ -1,5 +1,6 @@
 -- Nodes are changed, but for where they lie and what they are.
-use Rattle.std.proofs.Common.{◌≡◌, ◌≢◌, ℕ, ◌+◌, ◌-◌, ◌<◌, Bool, true, false, cond, eqb, not, List, [], ◌∷◌, map, Some, refl, sym, ap, subst, ◌∙◌, arith, inl, inr}
+use Rattle.std.proofs.Common.{◌≡◌, ◌≢◌, ℕ, ◌+◌, ◌-◌, ◌<◌, Bool, true, false, cond, eqb, not, List, [], ◌∷◌, map, Some}
+use Rattle.std.proofs.Common.{refl, sym, ap, subst, ◌∙◌, arith, inl, inr}
 use Rattle.std.specs.Prelude.{count_by, nat_le}
 use Rattle.std.proofs.lemmas.Bool.{cases_Bool, cases_eq}
 use Rattle.std.proofs.lemmas.Bool.Decides.{nat_tests}
@@ -51,9 +52,15 @@ module _ (f : Node → Node) (keeps : Keeps f) where
       ∙ sym (sum_by-cons (λ (x : Node). cond (eqb x.volume v) 1 0) n ns)
 
   pub alike_map : (ns : List Node) → AreAlike ns (map f ns)
-  alike_map ns = record { volume = volume_map ns; segment = segment_map ns; directory = directory_map ns; entries = entries_map ns }
+  alike_map ns = record {
+    volume = volume_map ns;
+    segment = segment_map ns;
+    directory = directory_map ns;
+    entries = entries_map ns;
+  }
 
-  pub pages_map : ((n : Node) → (f n).pages ≡ n.pages) → (ns : List Node) (u : ℕ) → pages_in (map f ns) u ≡ pages_in ns u
+  pub pages_map : ((n : Node) → (f n).pages ≡ n.pages) → (ns : List Node) (u : ℕ)
+      → pages_in (map f ns) u ≡ pages_in ns u
   pages_map same [] u = refl
   pages_map same (n ∷ ns) u = rw (keeps.uid n, same n) (ap (cond (eqb n.uid u) n.pages) (pages_map same ns u))
 
@@ -69,33 +76,43 @@ keeps_one u change keeps = record {
     here P n true a b = a
     here P n false a b = b
 
-taken_same : (ns ms : List Node) (xs : List (ℕ × ℕ)) (v : ℕ) → ((u : ℕ) → volume_in ms u ≡ volume_in ns u) → taken_on ms xs v ≡ taken_on ns xs v
+taken_same : (ns ms : List Node) (xs : List (ℕ × ℕ)) (v : ℕ) → ((u : ℕ) → volume_in ms u ≡ volume_in ns u)
+    → taken_on ms xs v ≡ taken_on ns xs v
 unfolding taken_on
 taken_same ns ms xs v same = ap (λ (f : ℕ × ℕ → Bool). count_by f xs) (λ i. λ x. eqb (same x.0 i) v)
 
 -- the holdings once the nodes are changed
-pub changed_shown : (p : Plan) (s : Store) (h k : Held) (ms : List Node) → Holds p h s → Changes h.accounts k.accounts ms
+pub changed_shown : (p : Plan) (s : Store) (h k : Held) (ms : List Node) → Holds p h s
+    → Changes h.accounts k.accounts ms
     → k ≡ record h { accounts = k.accounts } → AreAlike s.nodes ms
     → AreInside ms s.stored → AreFlat ms → Holds p k (record s { nodes = ms })
-changed_shown p s h k ms holds changes same alike inside flat = subst (λ (x : Held). Holds p x (record s { nodes = ms })) (sym same) (record {
-  nodes = sym changes.nodes;
-  next = holds.next ∙ sym changes.next;
-  counts = λ u. changes.counts u ∙ holds.counts u;
-  pages = holds.pages;
-  inside = inside;
-  flat = flat;
-  records = λ v. holds.records v ∙ ap (λ (n : ℕ). record { used = n; most = records_of p v }) (sym (taken v));
-  entries = λ v. holds.entries v ∙ ap (λ (n : ℕ). record { used = n; most = entries_of p v }) (sym (alike.entries v));
-})
+changed_shown p s h k ms holds changes same alike inside flat =
+    subst (λ (x : Held). Holds p x (record s { nodes = ms })) (sym same) (record {
+      nodes = sym changes.nodes;
+      next = holds.next ∙ sym changes.next;
+      counts = λ u. changes.counts u ∙ holds.counts u;
+      pages = holds.pages;
+      inside = inside;
+      flat = flat;
+      records = λ v. holds.records v ∙ ap (λ (n : ℕ). record { used = n; most = records_of p v }) (sym (taken v));
+      entries = λ v. holds.entries v
+          ∙ ap (λ (n : ℕ). record { used = n; most = entries_of p v }) (sym (alike.entries v));
+    })
   where
     taken : (v : ℕ) → taken_on ms s.stored v ≡ taken_on s.nodes s.stored v
     taken v = taken_same s.nodes ms s.stored v alike.volume
 
 -- where lengths stay, what is stored stays inside
-pub inside_alike : (ns ms : List Node) (xs : List (ℕ × ℕ)) → AreAlike ns ms → ((u : ℕ) → pages_in ms u ≡ pages_in ns u) → AreInside ns xs → AreInside ms xs
-inside_alike ns ms xs alike pages inside u q on = (alike.segment u ∙ (inside u q on).0, subst (λ (n : ℕ). q < n) (sym (pages u)) (inside u q on).1)
+pub inside_alike : (ns ms : List Node) (xs : List (ℕ × ℕ)) → AreAlike ns ms → ((u : ℕ) → pages_in ms u ≡ pages_in ns u)
+    → AreInside ns xs → AreInside ms xs
+inside_alike ns ms xs alike pages inside u q on = (
+  alike.segment u
+      ∙ (inside u q on).0,
+  subst (λ (n : ℕ). q < n) (sym (pages u)) (inside u q on).1,
+)
 
-pub flat_alike : (ns ms : List Node) → AreAlike ns ms → ((u : ℕ) → pages_in ms u ≡ pages_in ns u) → AreFlat ns → AreFlat ms
+pub flat_alike : (ns ms : List Node) → AreAlike ns ms → ((u : ℕ) → pages_in ms u ≡ pages_in ns u) → AreFlat ns
+    → AreFlat ms
 flat_alike ns ms alike pages flat u is = pages u ∙ flat u (sym (alike.directory u) ∙ is)
 
 -- ---- rows
@@ -113,7 +130,8 @@ keeps_rows change = record { uid = λ n. refl; volume = λ n. refl; kind = λ n.
 -- ---- quota
 
 keeps_quota : (u : ℕ) (change : ℕ → ℕ) → Keeps (with_quota_of u change)
-keeps_quota u change = keeps_one u (λ n. record n { quota = change n.quota }) (record { uid = λ n. refl; volume = λ n. refl; kind = λ n. refl })
+keeps_quota u change = keeps_one u (λ n. record n { quota = change n.quota })
+    (record { uid = λ n. refl; volume = λ n. refl; kind = λ n. refl })
 
 pages_quota : (u : ℕ) (change : ℕ → ℕ) (n : Node) → (with_quota_of u change n).pages ≡ n.pages
 pages_quota u change n = here (eqb n.uid u)
@@ -132,15 +150,19 @@ keeps_both f g a b = record {
 pub moved_alike : (ns : List Node) (giver getter pages : ℕ) → AreAlike ns (with_moved ns giver getter pages)
 moved_alike ns giver getter pages =
     alike_map (λ n. with_quota_of giver (λ q. q - pages) (with_quota_of getter (λ q. q + pages) n))
-    (keeps_both (with_quota_of giver (λ q. q - pages)) (with_quota_of getter (λ q. q + pages)) (keeps_quota giver (λ q. q - pages))
+    (keeps_both (with_quota_of giver (λ q. q - pages)) (with_quota_of getter (λ q. q + pages))
+    (keeps_quota giver (λ q. q - pages))
     (keeps_quota getter (λ q. q + pages))) ns
 
-pub moved_pages : (ns : List Node) (giver getter pages u : ℕ) → pages_in (with_moved ns giver getter pages) u ≡ pages_in ns u
+pub moved_pages : (ns : List Node) (giver getter pages u : ℕ)
+    → pages_in (with_moved ns giver getter pages) u ≡ pages_in ns u
 moved_pages ns giver getter pages u =
     pages_map (λ n. with_quota_of giver (λ q. q - pages) (with_quota_of getter (λ q. q + pages) n))
-    (keeps_both (with_quota_of giver (λ q. q - pages)) (with_quota_of getter (λ q. q + pages)) (keeps_quota giver (λ q. q - pages))
+    (keeps_both (with_quota_of giver (λ q. q - pages)) (with_quota_of getter (λ q. q + pages))
+    (keeps_quota giver (λ q. q - pages))
     (keeps_quota getter (λ q. q + pages)))
-    (λ n. pages_quota giver (λ q. q - pages) (with_quota_of getter (λ q. q + pages) n) ∙ pages_quota getter (λ q. q + pages) n) ns u
+    (λ n. pages_quota giver (λ q. q - pages) (with_quota_of getter (λ q. q + pages) n)
+    ∙ pages_quota getter (λ q. q + pages) n) ns u
 
 -- ---- lengths
 
@@ -178,16 +200,19 @@ no_directory (n ∷ ns) u is = elim (cases_Bool (eqb n.uid u)) [
     back true e = cc
     back false e = refl
 
-pub length_inside : (ns : List Node) (xs : List (ℕ × ℕ)) (u pages : ℕ) → has_segment ns u ≡ true → is_stored_from xs u pages ≡ false → AreInside ns xs
+pub length_inside : (ns : List Node) (xs : List (ℕ × ℕ)) (u pages : ℕ) → has_segment ns u ≡ true
+    → is_stored_from xs u pages ≡ false → AreInside ns xs
     → AreInside (with_length ns u pages) xs
 length_inside ns xs u pages is none inside v q on =
-    let alike = alike_map (λ n. cond (eqb n.uid u) (record n { pages = pages }) n) (keeps_one u (λ n. record n { pages = pages }) (keeps_length pages))
+    let alike = alike_map (λ n. cond (eqb n.uid u) (record n { pages = pages }) n)
+    (keeps_one u (λ n. record n { pages = pages }) (keeps_length pages))
     ns in (
       alike.segment v ∙ (inside v q on).0,
       elim (cases_eq v u) [
         | inl same ↦
             (let here : is_stored xs u q ≡ true = ap (λ (x : ℕ). is_stored xs x q) (sym same) ∙ on in
-            let size : pages_in (with_length ns u pages) v ≡ pages = ap (pages_in (with_length ns u pages)) same ∙ length_set ns u pages is in
+            let size : pages_in (with_length ns u pages) v ≡ pages = ap (pages_in (with_length ns u pages)) same
+            ∙ length_set ns u pages is in
             omega (arith, size, below q here))
         | inr apart ↦ subst (λ (n : ℕ). q < n) (sym (length_other ns u pages v apart)) (inside v q on).1
       ],
@@ -199,9 +224,11 @@ length_inside ns xs u pages is none inside v q on =
       | inr lt ↦ grind (arith, nat_tests)
     ]
 
-pub length_flat : (ns : List Node) (u pages : ℕ) → has_segment ns u ≡ true → AreFlat ns → AreFlat (with_length ns u pages)
+pub length_flat : (ns : List Node) (u pages : ℕ) → has_segment ns u ≡ true → AreFlat ns
+    → AreFlat (with_length ns u pages)
 length_flat ns u pages is flat v dir =
-    let alike = alike_map (λ n. cond (eqb n.uid u) (record n { pages = pages }) n) (keeps_one u (λ n. record n { pages = pages }) (keeps_length pages)) ns in
+    let alike = alike_map (λ n. cond (eqb n.uid u) (record n { pages = pages }) n)
+    (keeps_one u (λ n. record n { pages = pages }) (keeps_length pages)) ns in
     elim (cases_eq v u) [
       | inl same ↦
           (let here : has_directory ns u ≡ true = ap (has_directory ns) (sym same) ∙ sym (alike.directory v) ∙ dir in

@@ -69,6 +69,7 @@ code_back (reply.SegIs u l s) = refl
 code_back (reply.DirIs u q d) = refl
 
 -- two replies of one code are one
-pub same_code : (r d : Reply) → (reply_code r).0 ≡ (reply_code d).0 → (reply_code r).1 ≡ (reply_code d).1 → (reply_code r).2 ≡ (reply_code d).2
+pub same_code : (r d : Reply) → (reply_code r).0 ≡ (reply_code d).0 → (reply_code r).1 ≡ (reply_code d).1
+    → (reply_code r).2 ≡ (reply_code d).2
     → (reply_code r).3 ≡ (reply_code d).3 → r ≡ d
 same_code r d a b c e = sym (code_back r) ∙ ap reply_of (λ i. (a i, b i, c i, e i)) ∙ code_back d

@@ -1,5 +1,6 @@
 -- What an entry does to the store that is shown.
-use Rattle.std.proofs.Common.{◌≡◌, ℕ, ◌+◌, ◌<◌, ◌^◌, Bool, true, false, eqb, List, set, Option, Some, None, IsTrue, ◌↔◌, ◌⊎◌, refl, sym, ap, subst, ◌∙◌, inl, inr}
+use Rattle.std.proofs.Common.{◌≡◌, ℕ, ◌+◌, ◌<◌, ◌^◌, Bool, true, false, eqb, List, set, Option, Some, None, IsTrue, ◌↔◌}
+use Rattle.std.proofs.Common.{◌⊎◌, refl, sym, ap, subst, ◌∙◌, inl, inr}
 use Rattle.std.proofs.lemmas.List.{length-set}
 use Rattle.script.specs.Plans.{Plan, command_at}
 use Rattle.script.specs.declared.commands.Command.{Command}
@@ -7,44 +8,52 @@ use Rattle.book.specs.declared.entries.Entry.{Entry}
 use Rattle.book.specs.declared.entries.Entry.TheVariants as entry
 use Rattle.book.specs.declared.replies.Reply.{Reply}
 use Rattle.flat_model.specs.Commands.{after_command, gone_on, reply_to_command, takes_effect}
-use Rattle.flat_model.specs.Legal.{IsAnswer, IsLawful, IsLawfulDo, MayAnswerDevice, MayFault, MayRelease, after_do, after_entry, after_fault}
+use Rattle.flat_model.specs.Legal.{IsAnswer, IsLawful, IsLawfulDo, MayAnswerDevice, MayFault, MayRelease, after_do}
+use Rattle.flat_model.specs.Legal.{after_entry, after_fault}
 use Rattle.flat_model.specs.Pages.{without_stored}
 use Rattle.flat_model.specs.Store.{Progress, Store, progress_of, with_progress}
 use Rattle.flat_store.specs.Shown.{Holds, IsReached, IsShown, Kept, Shows, answered, progress_at}
 use Rattle.flat_store.proofs.ReachLaws.{answered_advances, place_fits, place_within, reached_fault, reached_on}
 
 -- an answer that took effect is the flat store's
-pub effect_due : (p : Plan) (s : Store) (k place : ℕ) (c : Command) (r : Reply) → command_at p k place ≡ Some c → IsLawfulDo p s k place r
+pub effect_due : (p : Plan) (s : Store) (k place : ℕ) (c : Command) (r : Reply) → command_at p k place ≡ Some c
+    → IsLawfulDo p s k place r
     → takes_effect r ≡ true → takes_effect (reply_to_command p s k c) ≡ true
-effect_due p s k place c r at lawful effect = by_answer (subst (λ (o : Option Command). IsAnswer p s k o r) at lawful.answer)
+effect_due p s k place c r at lawful effect =
+    by_answer (subst (λ (o : Option Command). IsAnswer p s k o r) at lawful.answer)
   where
-    by_answer : (r ≡ reply_to_command p s k c) ⊎ MayAnswerDevice (progress_of s k).faulted c (reply_to_command p s k c) r
+    by_answer : (r ≡ reply_to_command p s k c)
+        ⊎ MayAnswerDevice (progress_of s k).faulted c (reply_to_command p s k c) r
         → takes_effect (reply_to_command p s k c) ≡ true
     by_answer (inl same) = ap takes_effect (sym same) ∙ effect
     by_answer (inr told) = (let clash : true ≡ false = sym effect ∙ ap takes_effect told.device in cc)
 
 -- how far a process has come is changed alone
-progress_shown : (p : Plan) (k n : Kept) (s : Store) (process : ℕ) (q told : Progress) → IsShown p k s → n ≡ record k { processes = n.processes }
+progress_shown : (p : Plan) (k n : Kept) (s : Store) (process : ℕ) (q told : Progress) → IsShown p k s
+    → n ≡ record k { processes = n.processes }
     → n.processes ≡ set k.processes process told → told ≡ q
     → IsShown p n (with_progress s process q)
-progress_shown p k n s process q told h same now is = subst (λ (x : Kept). IsShown p x (with_progress s process q)) (sym same) (record {
-  holds = record {
-    nodes = h.holds.nodes;
-    next = h.holds.next;
-    counts = h.holds.counts;
-    pages = h.holds.pages;
-    inside = h.holds.inside;
-    flat = h.holds.flat;
-    records = h.holds.records;
-    entries = h.holds.entries;
-  };
-  known = h.known;
-  processes = ap (λ (qs : List Progress). set qs process q) h.processes ∙ ap (λ (x : Progress). set k.processes process x) (sym is) ∙ sym now;
-  knowers = h.knowers;
-  runners = length-set s.processes process q ∙ h.runners;
-})
+progress_shown p k n s process q told h same now is =
+    subst (λ (x : Kept). IsShown p x (with_progress s process q)) (sym same) (record {
+      holds = record {
+        nodes = h.holds.nodes;
+        next = h.holds.next;
+        counts = h.holds.counts;
+        pages = h.holds.pages;
+        inside = h.holds.inside;
+        flat = h.holds.flat;
+        records = h.holds.records;
+        entries = h.holds.entries;
+      };
+      known = h.known;
+      processes = ap (λ (qs : List Progress). set qs process q) h.processes
+          ∙ ap (λ (x : Progress). set k.processes process x) (sym is) ∙ sym now;
+      knowers = h.knowers;
+      runners = length-set s.processes process q ∙ h.runners;
+    })
 
-progress_is : (p : Plan) (k : Kept) (s : Store) (process : ℕ) → IsShown p k s → progress_at k.processes process ≡ progress_of s process
+progress_is : (p : Plan) (k : Kept) (s : Store) (process : ℕ) → IsShown p k s
+    → progress_at k.processes process ≡ progress_of s process
 progress_is p k s process h = ap (λ (qs : List Progress). progress_at qs process) (sym h.processes)
 
 after_is : (p : Plan) (s : Store) (k : ℕ) (c : Command) (r : Reply)
@@ -74,8 +83,10 @@ go_shown p mid after s process place c r reached shown at lawful now same =
     }
 
 -- a failure is told of a process
-pub fault_shown : (p : Plan) (k n : Kept) (s : Store) (process : ℕ) → Shows p k s → n ≡ record k { processes = n.processes }
-    → n.processes ≡ set k.processes process (record (progress_at k.processes process) { faulted = true }) → MayFault s (Some process)
+pub fault_shown : (p : Plan) (k n : Kept) (s : Store) (process : ℕ) → Shows p k s
+    → n ≡ record k { processes = n.processes }
+    → n.processes ≡ set k.processes process (record (progress_at k.processes process) { faulted = true })
+    → MayFault s (Some process)
     → Shows p n (after_fault s (Some process))
 fault_shown p k n s process h same now may = record {
   shown = progress_shown p k n s process (record (progress_of s process) { faulted = true })
@@ -89,24 +100,27 @@ pub release_shown : (p : Plan) (k n : Kept) (s : Store) (u q : ℕ) → Shows p 
     → Holds p n.held (record s { stored = without_stored s.stored u (λ r. eqb r q) })
     → Shows p n (record s { stored = without_stored s.stored u (λ r. eqb r q) })
 release_shown p k n s u q h same holds = record {
-  shown = subst (λ (x : Kept). IsShown p x (record s { stored = without_stored s.stored u (λ r. eqb r q) })) (sym same) (record {
-    holds = holds;
-    known = h.shown.known;
-    processes = h.shown.processes;
-    knowers = h.shown.knowers;
-    runners = h.shown.runners;
-  });
+  shown = subst (λ (x : Kept). IsShown p x (record s { stored = without_stored s.stored u (λ r. eqb r q) })) (sym same)
+      (record {
+        holds = holds;
+        known = h.shown.known;
+        processes = h.shown.processes;
+        knowers = h.shown.knowers;
+        runners = h.shown.runners;
+      });
   reached = record { plan = h.reached.plan; places = h.reached.places; uids = h.reached.uids };
 }
 
 -- ---- by entry
 
-pub do_lawful : (p : Plan) (s : Store) (k place cpu : ℕ) (frame : Option ℕ) (r : Reply) → IsLawful p s (entry.Do k place cpu frame r)
+pub do_lawful : (p : Plan) (s : Store) (k place cpu : ℕ) (frame : Option ℕ) (r : Reply)
+    → IsLawful p s (entry.Do k place cpu frame r)
     → IsLawfulDo p s k place r
 unfolding IsLawful
 do_lawful p s k place cpu frame r lawful = lawful
 
-pub after_do_is : (p : Plan) (s : Store) (k place cpu : ℕ) (frame : Option ℕ) (r : Reply) (c : Command) → command_at p k place ≡ Some c
+pub after_do_is : (p : Plan) (s : Store) (k place cpu : ℕ) (frame : Option ℕ) (r : Reply) (c : Command)
+    → command_at p k place ≡ Some c
     → after_command p s k c r ≡ after_entry p s (entry.Do k place cpu frame r)
 unfolding after_entry
 after_do_is p s k place cpu frame r c at = sym (ap (λ (o : Option Command). after_do p s k o r) at)
@@ -120,7 +134,8 @@ pub release_lawful : (p : Plan) (s : Store) (u q : ℕ) → IsLawful p s (entry.
 unfolding IsLawful
 release_lawful p s u q lawful = lawful
 
-pub after_release_is : (p : Plan) (s : Store) (u q : ℕ) → record s { stored = without_stored s.stored u (λ r. eqb r q) } ≡ after_entry p s (entry.Release u q)
+pub after_release_is : (p : Plan) (s : Store) (u q : ℕ)
+    → record s { stored = without_stored s.stored u (λ r. eqb r q) } ≡ after_entry p s (entry.Release u q)
 unfolding after_entry
 after_release_is p s u q = refl
 
@@ -133,7 +148,8 @@ unfolding after_entry
 after_fault_is p s o = refl
 
 -- an entry that tells who holds what leaves the flat store alone
-pub quiet : (p : Plan) (s : Store) (e : Entry) → ((k place cpu : ℕ) (frame : Option ℕ) (r : Reply) → e ≡ entry.Do k place cpu frame r → ⊥)
+pub quiet : (p : Plan) (s : Store) (e : Entry)
+    → ((k place cpu : ℕ) (frame : Option ℕ) (r : Reply) → e ≡ entry.Do k place cpu frame r → ⊥)
     → ((u q : ℕ) → e ≡ entry.Release u q → ⊥)
     → ((o : Option ℕ) → e ≡ entry.Fault o → ⊥) → s ≡ after_entry p s e
 unfolding after_entry
@@ -142,7 +158,8 @@ quiet p s (entry.Release u q) no_do no_release no_fault = absurd (no_release u q
 quiet p s (entry.Fault o) no_do no_release no_fault = absurd (no_fault o refl)
 quiet p s _ no_do no_release no_fault = refl
 
-pub quiet_lawful : (p : Plan) (s : Store) (e : Entry) → ((k place cpu : ℕ) (frame : Option ℕ) (r : Reply) → e ≡ entry.Do k place cpu frame r → ⊥)
+pub quiet_lawful : (p : Plan) (s : Store) (e : Entry)
+    → ((k place cpu : ℕ) (frame : Option ℕ) (r : Reply) → e ≡ entry.Do k place cpu frame r → ⊥)
     → ((u q : ℕ) → e ≡ entry.Release u q → ⊥)
     → ((o : Option ℕ) → e ≡ entry.Fault o → ⊥) → IsLawful p s e
 unfolding IsLawful
@@ -153,15 +170,18 @@ quiet_lawful p s _ no_do no_release no_fault = tt
 
 -- ---- what is allowed
 
-pub do_allowed : (p : Plan) (s : Store) (k place cpu : ℕ) (frame : Option ℕ) (r : Reply) (z : Bool) → IsTrue z ↔ IsLawfulDo p s k place r
+pub do_allowed : (p : Plan) (s : Store) (k place cpu : ℕ) (frame : Option ℕ) (r : Reply) (z : Bool)
+    → IsTrue z ↔ IsLawfulDo p s k place r
     → IsTrue z ↔ IsLawful p s (entry.Do k place cpu frame r)
 unfolding IsLawful
 do_allowed p s k place cpu frame r z told = told
 
-pub release_allowed : (p : Plan) (s : Store) (u q : ℕ) (z : Bool) → IsTrue z ↔ MayRelease s u q → IsTrue z ↔ IsLawful p s (entry.Release u q)
+pub release_allowed : (p : Plan) (s : Store) (u q : ℕ) (z : Bool) → IsTrue z ↔ MayRelease s u q
+    → IsTrue z ↔ IsLawful p s (entry.Release u q)
 unfolding IsLawful
 release_allowed p s u q z told = told
 
-pub fault_allowed : (p : Plan) (s : Store) (o : Option ℕ) (z : Bool) → IsTrue z ↔ MayFault s o → IsTrue z ↔ IsLawful p s (entry.Fault o)
+pub fault_allowed : (p : Plan) (s : Store) (o : Option ℕ) (z : Bool) → IsTrue z ↔ MayFault s o
+    → IsTrue z ↔ IsLawful p s (entry.Fault o)
 unfolding IsLawful
 fault_allowed p s o z told = told

@@ -1,5 +1,6 @@
 -- What is read of a node that is there.
-use Rattle.std.proofs.Common.{◌≡◌, ℕ, Bool, true, false, eqb, List, [], ◌∷◌, Some, None, not, ◌<◌, arith, refl, sym, ap, ◌∙◌, inl, inr}
+use Rattle.std.proofs.Common.{◌≡◌, ℕ, Bool, true, false, eqb, List, [], ◌∷◌, Some, None, not, ◌<◌, arith, refl, sym, ap}
+use Rattle.std.proofs.Common.{◌∙◌, inl, inr}
 use Rattle.std.proofs.lemmas.Bool.{cases_Bool}
 use Rattle.std.proofs.lemmas.Bool.Decides.{nat_tests}
 use Rattle.tree_model.specs.Tree.{Node, has_directory, node_in, volume_in}
@@ -9,7 +10,8 @@ use Rattle.flat_store.specs.Shown.{AreFlat, pages_in}
 pub volume_found : (ns : List Node) (u : ℕ) (n : Node) → node_in ns u ≡ Some n → n.volume ≡ volume_in ns u
 volume_found [] u n e = cc
 volume_found (m ∷ ns) u n e = elim (cases_Bool (eqb m.uid u)) [
-  | inl is ↦ (let z : Some m ≡ Some n = rw is at e in let same : m ≡ n = cc in rw is (ap (λ (x : Node). x.volume) (sym same)))
+  | inl is ↦ (let z : Some m ≡ Some n = rw is at e in let same : m ≡ n = cc in
+      rw is (ap (λ (x : Node). x.volume) (sym same)))
   | inr isnt ↦ rw isnt (volume_found ns u n (rw isnt at e))
 ]
 
@@ -23,7 +25,8 @@ no_volume (m ∷ ns) u e = elim (cases_Bool (eqb m.uid u)) [
 pub pages_found : (ns : List Node) (u : ℕ) (n : Node) → node_in ns u ≡ Some n → n.pages ≡ pages_in ns u
 pages_found [] u n e = cc
 pages_found (m ∷ ns) u n e = elim (cases_Bool (eqb m.uid u)) [
-  | inl is ↦ (let z : Some m ≡ Some n = rw is at e in let same : m ≡ n = cc in rw is (ap (λ (x : Node). x.pages) (sym same)))
+  | inl is ↦ (let z : Some m ≡ Some n = rw is at e in let same : m ≡ n = cc in
+      rw is (ap (λ (x : Node). x.pages) (sym same)))
   | inr isnt ↦ rw isnt (pages_found ns u n (rw isnt at e))
 ]
 
@@ -35,16 +38,19 @@ no_pages (m ∷ ns) u e = elim (cases_Bool (eqb m.uid u)) [
 ]
 
 -- a node with pages is a segment
-pub has_pages : (ns : List Node) (u : ℕ) (n : Node) (dir : Bool) → node_in ns u ≡ Some n → has_directory ns u ≡ dir → has_segment ns u ≡ not dir
+pub has_pages : (ns : List Node) (u : ℕ) (n : Node) (dir : Bool) → node_in ns u ≡ Some n → has_directory ns u ≡ dir
+    → has_segment ns u ≡ not dir
     → AreFlat ns → 0 < n.pages
     → has_segment ns u ≡ true
-has_pages ns u n true found is isnt flat some = (let none : n.pages ≡ 0 = pages_found ns u n found ∙ flat u is in absurd (omega (arith, none, some)))
+has_pages ns u n true found is isnt flat some = (let none : n.pages ≡ 0 = pages_found ns u n found ∙ flat u is in
+    absurd (omega (arith, none, some)))
 has_pages ns u n false found is isnt flat some = isnt
 
 pub uid_found : (ns : List Node) (u : ℕ) (n : Node) → node_in ns u ≡ Some n → n.uid ≡ u
 uid_found [] u n e = cc
 uid_found (m ∷ ns) u n e = elim (cases_Bool (eqb m.uid u)) [
-  | inl is ↦ (let z : Some m ≡ Some n = rw is at e in let same : m ≡ n = cc in let own : m.uid ≡ u = grind (arith, nat_tests) in
+  | inl is ↦ (let z : Some m ≡ Some n = rw is at e in let same : m ≡ n = cc in
+      let own : m.uid ≡ u = grind (arith, nat_tests) in
       ap (λ (x : Node). x.uid) (sym same) ∙ own)
   | inr isnt ↦ uid_found ns u n (rw isnt at e)
 ]

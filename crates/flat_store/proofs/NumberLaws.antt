@@ -1,5 +1,6 @@
 -- The least number that stands for nothing.
-use Rattle.std.proofs.Common.{◌≡◌, ℕ, ◌<◌, ◌≤◌, Bool, true, false, cond, ltb, not, List, length, Option, Some, None, get_or, is_some, is_none, refl, sym, ap, ◌∙◌, arith, inl, inr}
+use Rattle.std.proofs.Common.{◌≡◌, ℕ, ◌<◌, ◌≤◌, Bool, true, false, cond, ltb, not, List, length, Option, Some, None}
+use Rattle.std.proofs.Common.{get_or, is_some, is_none, refl, sym, ap, ◌∙◌, arith, inl, inr}
 use Rattle.std.specs.List.{position_or_len}
 use Rattle.std.proofs.lemmas.Bool.{cases_eq, cases_lt, ltb-false, not-true}
 use Rattle.std.proofs.lemmas.List.Sums.{prefix_len_passes}
@@ -9,7 +10,8 @@ use Rattle.known_segs.specs.Known.{least_free, uid_of}
 free_none : (kst : List (Option ℕ)) (k : ℕ) → least_free kst ≡ None → k < length kst → is_none (uid_of kst k) ≡ false
 free_none kst k e within = none_at (ltb (position_or_len is_none kst) (length kst)) refl e
   where
-    none_at : (b : Bool) → ltb (position_or_len is_none kst) (length kst) ≡ b → cond b (Some (position_or_len is_none kst)) None ≡ None
+    none_at : (b : Bool) → ltb (position_or_len is_none kst) (length kst) ≡ b
+        → cond b (Some (position_or_len is_none kst)) None ≡ None
         → is_none (uid_of kst k) ≡ false
     none_at true is e2 = cc
     none_at false is e2 = (let past : length kst ≤ position_or_len is_none kst = ltb-false _ _ is in
@@ -33,26 +35,31 @@ free_found kst n o at empty within before = by_answer (least_free kst) refl
     by_answer : (r : Option ℕ) → least_free kst ≡ r → Some n ≡ r
     by_answer None e = (let clash : true ≡ false = sym none ∙ ap is_none at ∙ free_none kst n e within in cc)
     by_answer (Some i) e =
-        let h : (i < length kst) × (is_none (get_or kst i None) ≡ true) × ((k : ℕ) → k < i → is_none (get_or kst k None) ≡ false) =
+        let h : (i < length kst) × (is_none (get_or kst i None) ≡ true)
+        × ((k : ℕ) → k < i → is_none (get_or kst k None) ≡ false) =
         position-Some is_none kst i None e in
         elim (cases_eq n i) [
           | inl same ↦ ap (λ (x : ℕ). Some x) same
           | inr other ↦ elim (cases_lt n i) [
             | inl lt ↦ (let clash : true ≡ false = sym none ∙ ap is_none at ∙ h.2 n lt in cc)
-            | inr le ↦ (let clash : true ≡ false = sym h.1 ∙ some_is (uid_of kst i) (before i (omega (arith, le, other))) in cc)
+            | inr le ↦ (let clash : true ≡ false = sym h.1
+                ∙ some_is (uid_of kst i) (before i (omega (arith, le, other))) in cc)
           ]
         ]
 
-pub none_free : (kst : List (Option ℕ)) (n : ℕ) → length kst ≤ n → ((k : ℕ) → k < n → is_some (uid_of kst k) ≡ true) → None ≡ least_free kst
+pub none_free : (kst : List (Option ℕ)) (n : ℕ) → length kst ≤ n → ((k : ℕ) → k < n → is_some (uid_of kst k) ≡ true)
+    → None ≡ least_free kst
 none_free kst n past before = by_answer (least_free kst) refl
   where
     by_answer : (r : Option ℕ) → least_free kst ≡ r → None ≡ r
     by_answer None e = refl
     by_answer (Some i) e =
-        let h : (i < length kst) × (is_none (get_or kst i None) ≡ true) × ((k : ℕ) → k < i → is_none (get_or kst k None) ≡ false) =
+        let h : (i < length kst) × (is_none (get_or kst i None) ≡ true)
+        × ((k : ℕ) → k < i → is_none (get_or kst k None) ≡ false) =
         position-Some is_none kst i None e in
         let clash : true ≡ false = sym h.1 ∙ some_is (uid_of kst i) (before i (omega (arith, h.0, past))) in cc
 
-pub still_known : (kst : List (Option ℕ)) (n : ℕ) (o : Option ℕ) → o ≡ uid_of kst n → is_none o ≡ false → is_some (uid_of kst n) ≡ true
+pub still_known : (kst : List (Option ℕ)) (n : ℕ) (o : Option ℕ) → o ≡ uid_of kst n → is_none o ≡ false
+    → is_some (uid_of kst n) ≡ true
 still_known kst n None at e = cc
 still_known kst n (Some u) at e = ap is_some (sym at)

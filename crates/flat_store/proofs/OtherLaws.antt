@@ -1,5 +1,6 @@
 -- What no command changes but its own.
-use Rattle.std.proofs.Common.{◌≡◌, ℕ, ℤ, ◌+◌, ◌≤◌, Bool, true, false, cond, List, Option, Some, None, Result, Ok, Err, refl, arith}
+use Rattle.std.proofs.Common.{◌≡◌, ℕ, ℤ, ◌+◌, ◌≤◌, Bool, true, false, cond, List, Option, Some, None, Result, Ok, Err}
+use Rattle.std.proofs.Common.{refl, arith}
 use Rattle.mnames.specs.declared.modes.Mode.{Mode}
 use Rattle.mnames.specs.declared.rows.Row.{Row as Named}
 use Rattle.script.specs.Plans.{Plan}

@@ -7,12 +7,15 @@ use Rattle.dir_tree.specs.Nodes.{path_answer}
 use Rattle.flat_model.specs.Branches.{walked, node_at, there_or}
 use Rattle.flat_store.proofs.NodeLaws.{uid_found}
 
-leads : (nodes : List Node) (w : Walk) (u : ℕ) (n : Node) → Ok u ≡ path_answer w → node_in nodes u ≡ Some n → walked nodes w ≡ Ok n
-leads nodes (LeadsTo v) u n e found = (let same : u ≡ v = cc in ap (λ (x : ℕ). there_or (node_in nodes x)) (sym same) ∙ ap there_or found)
+leads : (nodes : List Node) (w : Walk) (u : ℕ) (n : Node) → Ok u ≡ path_answer w → node_in nodes u ≡ Some n
+    → walked nodes w ≡ Ok n
+leads nodes (LeadsTo v) u n e found = (let same : u ≡ v = cc in
+    ap (λ (x : ℕ). there_or (node_in nodes x)) (sym same) ∙ ap there_or found)
 leads nodes Missing u n e found = cc
 leads nodes InSegment u n e found = cc
 
-pub walked_to : (nodes : List Node) (path : List (List ℕ)) (u : ℕ) (n : Node) → Ok u ≡ path_answer (walk_in nodes path) → node_in nodes u ≡ Some n
+pub walked_to : (nodes : List Node) (path : List (List ℕ)) (u : ℕ) (n : Node) → Ok u ≡ path_answer (walk_in nodes path)
+    → node_in nodes u ≡ Some n
     → node_at nodes path ≡ Ok n
 unfolding node_at
 walked_to nodes path u n e found = leads nodes (walk_in nodes path) u n e found
@@ -22,7 +25,8 @@ missing nodes (LeadsTo v) e = cc
 missing nodes Missing e = refl
 missing nodes InSegment e = cc
 
-pub walked_nowhere : (nodes : List Node) (path : List (List ℕ)) → Err path_fault.NoPath ≡ path_answer (walk_in nodes path)
+pub walked_nowhere : (nodes : List Node) (path : List (List ℕ))
+    → Err path_fault.NoPath ≡ path_answer (walk_in nodes path)
     → node_at nodes path ≡ Err reply.NoPath
 unfolding node_at
 walked_nowhere nodes path e = missing nodes (walk_in nodes path) e

@@ -1,5 +1,6 @@
 -- Which stores the commands of a script may come to.
-use Rattle.std.proofs.Common.{◌≡◌, ℕ, suc, zero, ◌+◌, ◌<◌, ◌≤◌, ◌^◌, Bool, true, false, cond, List, [], ◌∷◌, length, set, get_or, replicate, Option, Some, None, refl, sym, subst, arith}
+use Rattle.std.proofs.Common.{◌≡◌, ℕ, suc, zero, ◌+◌, ◌<◌, ◌≤◌, ◌^◌, Bool, true, false, cond, List, [], ◌∷◌, length}
+use Rattle.std.proofs.Common.{set, get_or, replicate, Option, Some, None, refl, sym, subst, arith}
 use Rattle.std.specs.Prelude.{sum_by, slice_get}
 use Rattle.std.specs.List.{list_all}
 use Rattle.std.proofs.lemmas.Bool.{and_parts}
@@ -37,7 +38,8 @@ heavy volumes (command.Move path amount) is = omega arith
 heavy volumes (command.Status path) is = omega arith
 heavy volumes command.End is = omega arith
 
-commands_weigh : (volumes : ℕ) (cs : List Command) → list_all (is_command volumes) cs ≡ true → length cs ≤ sum_by weight cs
+commands_weigh : (volumes : ℕ) (cs : List Command) → list_all (is_command volumes) cs ≡ true
+    → length cs ≤ sum_by weight cs
 commands_weigh volumes [] are = omega arith
 commands_weigh volumes (c ∷ cs) are =
     let parts = and_parts (is_command volumes c) (list_all (is_command volumes) cs) are in
@@ -49,7 +51,8 @@ process_weighs : (volumes : ℕ) (x : ProcessPlan) → is_process volumes x ≡ 
 unfolding is_process weight_of
 process_weighs volumes x is = commands_weigh volumes x.commands (and_parts _ _ (and_parts _ _ is).1).0
 
-places_weigh : (volumes : ℕ) (qs : List Progress) (xs : List ProcessPlan) → ArePlaces qs xs → list_all (is_process volumes) xs ≡ true
+places_weigh : (volumes : ℕ) (qs : List Progress) (xs : List ProcessPlan) → ArePlaces qs xs
+    → list_all (is_process volumes) xs ≡ true
     → sum_by (λ q. q.place) qs ≤ sum_by weight_of xs
 places_weigh volumes [] xs places are = omega arith
 places_weigh volumes (q ∷ qs) [] places are = absurd places
@@ -74,7 +77,8 @@ command_there [] i c e = cc
 command_there (d ∷ cs) zero c e = omega arith
 command_there (d ∷ cs) (suc i) c e = (let lt : i < length cs = command_there cs i c e in omega (arith, lt))
 
-pub place_within : (p : Plan) (k place : ℕ) (c : Command) → command_at p k place ≡ Some c → place < length (commands_of p k)
+pub place_within : (p : Plan) (k place : ℕ) (c : Command) → command_at p k place ≡ Some c
+    → place < length (commands_of p k)
 place_within p k place c at = command_there (commands_of p k) place c at
 
 -- a place is small
@@ -87,12 +91,14 @@ place_small volumes (x ∷ xs) zero are =
     omega (arith, one, sum_by-cons weight_of x xs)
 place_small volumes (x ∷ xs) (suc k) are =
     let parts = and_parts (is_process volumes x) (list_all (is_process volumes) xs) are in
-    let rest : length (get_or xs k (record { who = nobody; commands = [] })).commands ≤ sum_by weight_of xs = place_small volumes xs k parts.1 in
+    let rest : length (get_or xs k (record { who = nobody; commands = [] })).commands ≤ sum_by weight_of xs =
+    place_small volumes xs k parts.1 in
     omega (arith, rest, sum_by-cons weight_of x xs)
 
 pub place_fits : (p : Plan) (k place : ℕ) → IsPlan p → place < length (commands_of p k) → place + 1 < 2 ^ 32
 place_fits p k place plan lt =
-    let few : length (commands_of p k) ≤ sum_by weight_of p.processes = place_small (length p.volumes) p.processes k plan.each in
+    let few : length (commands_of p k) ≤ sum_by weight_of p.processes =
+    place_small (length p.volumes) p.processes k plan.each in
     let most : sum_by weight_of p.processes ≤ 100000 = plan.commands in
     omega (arith, lt, few, most)
 
@@ -104,7 +110,8 @@ places_set (o ∷ qs) (x ∷ xs) zero q places le = (le, places.1)
 places_set (o ∷ qs) (x ∷ xs) (suc k) q places le = (places.0, places_set qs xs k q places.1 le)
 
 -- a process that hasn't ended is there
-pub going_there : (qs : List Progress) (k : ℕ) → (get_or qs k (record { place = 0; tries = 0; ended = true; faulted = false })).ended ≡ false → k < length qs
+pub going_there : (qs : List Progress) (k : ℕ)
+    → (get_or qs k (record { place = 0; tries = 0; ended = true; faulted = false })).ended ≡ false → k < length qs
 going_there [] k going = cc
 going_there (q ∷ qs) zero going = omega arith
 going_there (q ∷ qs) (suc k) going = (let lt : k < length qs = going_there qs k going in omega (arith, lt))
@@ -115,7 +122,8 @@ no_uid : (s : Store) (offset : ℕ) (o : Option ℕ) → (written_by s offset ki
 no_uid s offset None = refl
 no_uid s offset (Some u) = refl
 
-tries_stay : (p : Plan) (s : Store) (k : ℕ) (q : Progress) (c : Command) (r : Reply) → tries_on q c r ≡ true → (effect_of p s k c).next ≡ s.next
+tries_stay : (p : Plan) (s : Store) (k : ℕ) (q : Progress) (c : Command) (r : Reply) → tries_on q c r ≡ true
+    → (effect_of p s k c).next ≡ s.next
 unfolding after_reference
 tries_stay p s k q (command.Await number offset word tries) r is = no_uid s offset (known_uid s k number)
 tries_stay p s k q (command.MkDir path volume) r is = cc
@@ -143,7 +151,8 @@ answered_advances p s k c r = here (takes_effect r) (effect_advances p s k c)
     here true a = a
     here false a = record { processes = refl; next = omega arith }
 
-pub reached_on : (p : Plan) (s : Store) (k place : ℕ) (c : Command) (r : Reply) → IsReached p s → (progress_of s k).ended ≡ false
+pub reached_on : (p : Plan) (s : Store) (k place : ℕ) (c : Command) (r : Reply) → IsReached p s
+    → (progress_of s k).ended ≡ false
     → (progress_of s k).place ≡ place → command_at p k place ≡ Some c
     → IsReached p (after_command p s k c r)
 unfolding after_command
@@ -168,23 +177,28 @@ reached_on p s k place c r h going at there = record { plan = h.plan; places = p
 
     places : ArePlaces (set (answered p s k c r).processes k (gone_on (progress_of s k) c r)) p.processes
     places =
-        subst (λ (qs : List Progress). ArePlaces (set qs k (gone_on (progress_of s k) c r)) p.processes) (sym (answered_advances p s k c r).processes)
+        subst (λ (qs : List Progress). ArePlaces (set qs k (gone_on (progress_of s k) c r)) p.processes)
+        (sym (answered_advances p s k c r).processes)
         (places_set s.processes p.processes k (gone_on (progress_of s k) c r) h.places
         (bound (tries_on (progress_of s k) c r) (by_tries (tries_on (progress_of s k) c r) refl)))
       where
-        bound : (z : Bool) → (gone_on (progress_of s k) c r).place ≡ cond z (progress_of s k).place ((progress_of s k).place + 1)
+        bound : (z : Bool) → (gone_on (progress_of s k) c r).place
+            ≡ cond z (progress_of s k).place ((progress_of s k).place + 1)
             → (gone_on (progress_of s k) c r).place ≤ length (commands_of p k)
         bound true e = omega (arith, e, at, lt)
         bound false e = omega (arith, e, at, lt)
 
-    total : place_sum (set s.processes k (gone_on (progress_of s k) c r)) + (progress_of s k).place ≡ place_sum s.processes +
+    total : place_sum (set s.processes k (gone_on (progress_of s k) c r)) + (progress_of s k).place
+        ≡ place_sum s.processes +
         (gone_on (progress_of s k) c r).place
     total = sum_by-set (λ (x : Progress). x.place) s.processes k (gone_on (progress_of s k) c r)
         (record { place = 0; tries = 0; ended = true; faulted = false }) within
 
-    uids : (answered p s k c r).next ≤ 2 + place_sum (set (answered p s k c r).processes k (gone_on (progress_of s k) c r))
+    uids : (answered p s k c r).next
+        ≤ 2 + place_sum (set (answered p s k c r).processes k (gone_on (progress_of s k) c r))
     uids =
-        subst (λ (qs : List Progress). (answered p s k c r).next ≤ 2 + place_sum (set qs k (gone_on (progress_of s k) c r)))
+        subst (λ (qs : List Progress). (answered p s k c r).next
+        ≤ 2 + place_sum (set qs k (gone_on (progress_of s k) c r)))
         (sym (answered_advances p s k c r).processes)
         (bound (tries_on (progress_of s k) c r) refl (by_tries (tries_on (progress_of s k) c r) refl))
       where
@@ -205,11 +219,13 @@ reached_on p s k place c r h going at there = record { plan = h.plan; places = p
 
 pub reached_fault : (p : Plan) (s : Store) (k : ℕ) → IsReached p s → (progress_of s k).ended ≡ false
     → IsReached p (with_progress s k (record (progress_of s k) { faulted = true }))
-reached_fault p s k h going = record { plan = h.plan; places = places s.processes p.processes k h.places going; uids = uids }
+reached_fault p s k h going =
+    record { plan = h.plan; places = places s.processes p.processes k h.places going; uids = uids }
   where
     places : (qs : List Progress) (xs : List ProcessPlan) (k : ℕ) → ArePlaces qs xs
         → (get_or qs k (record { place = 0; tries = 0; ended = true; faulted = false })).ended ≡ false
-        → ArePlaces (set qs k (record (get_or qs k (record { place = 0; tries = 0; ended = true; faulted = false })) { faulted = true })) xs
+        → ArePlaces (set qs k (record (get_or qs k (record { place = 0; tries = 0; ended = true; faulted = false }))
+        { faulted = true })) xs
     places [] xs k h going = tt
     places (q ∷ qs) [] k h going = absurd h
     places (q ∷ qs) (x ∷ xs) zero h going = (h.0, h.1)
@@ -217,7 +233,8 @@ reached_fault p s k h going = record { plan = h.plan; places = places s.processe
 
     uids : s.next ≤ 2 + place_sum (set s.processes k (record (progress_of s k) { faulted = true }))
     uids =
-        let total : place_sum (set s.processes k (record (progress_of s k) { faulted = true })) + (progress_of s k).place ≡ place_sum s.processes +
+        let total : place_sum (set s.processes k (record (progress_of s k) { faulted = true }))
+        + (progress_of s k).place ≡ place_sum s.processes +
         (progress_of s k).place
         = sum_by-set (λ (x : Progress). x.place) s.processes k (record (progress_of s k) { faulted = true })
         (record { place = 0; tries = 0; ended = true; faulted = false }) (going_there s.processes k going) in

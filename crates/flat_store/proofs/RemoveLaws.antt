@@ -1,5 +1,6 @@
 -- A directory or a segment is deleted.
-use Rattle.std.proofs.Common.{◌≡◌, ◌≢◌, ℕ, ◌+◌, ◌/◌, ◌<◌, ◌||◌, Bool, true, false, cond, eqb, not, ◌&&◌, List, [], ◌∷◌, set, Option, Some, None, Ok, Err, is_some, refl, sym, ap, subst, ◌∙◌, arith, inl, inr}
+use Rattle.std.proofs.Common.{◌≡◌, ◌≢◌, ℕ, ◌+◌, ◌/◌, ◌<◌, ◌||◌, Bool, true, false, cond, eqb, not, ◌&&◌, List, [], ◌∷◌}
+use Rattle.std.proofs.Common.{set, Option, Some, None, Ok, Err, is_some, refl, sym, ap, subst, ◌∙◌, arith, inl, inr}
 use Rattle.std.specs.Prelude.{count_by, nat_le}
 use Rattle.std.specs.List.{list_any}
 use Rattle.std.proofs.lemmas.Bool.{cases_Bool, cases_eq, ne_eqb}
@@ -9,7 +10,8 @@ use Rattle.accounts.specs.Maps.{count_of, Loses}
 use Rattle.script.specs.Plans.{Plan}
 use Rattle.book.specs.declared.replies.Reply.{Reply}
 use Rattle.book.specs.declared.replies.Reply.TheVariants as reply
-use Rattle.tree_model.specs.Tree.{Node, entries_on, has_directory, is_inferior, node_in, taken_on, volume_in, without_node}
+use Rattle.tree_model.specs.Tree.{Node, entries_on, has_directory, is_inferior, node_in, taken_on, volume_in}
+use Rattle.tree_model.specs.Tree.{without_node}
 use Rattle.tree_model.specs.Trees.{has_segment, IsTree}
 use Rattle.flat_model.specs.Branches.{branch_at}
 use Rattle.flat_model.specs.Commands.{takes_effect}
@@ -17,7 +19,8 @@ use Rattle.flat_model.specs.Making.{after_delete, delete_reply, deleted}
 use Rattle.flat_model.specs.Pages.{Words, is_page, is_stored, without_stored}
 use Rattle.flat_model.specs.Store.{Store, entries_of, records_of}
 use Rattle.flat_model.proofs.PageLaws.{is_stored-without}
-use Rattle.flat_store.specs.Shown.{AreFlat, AreInside, Gauge, gauge_at, drained, Held, Holds, page_at, pages_in, without_branch, without_pages}
+use Rattle.flat_store.specs.Shown.{AreFlat, AreInside, Gauge, gauge_at, drained, Held, Holds, page_at, pages_in}
+use Rattle.flat_store.specs.Shown.{without_branch, without_pages}
 use Rattle.flat_store.proofs.GaugeLaws.{counts_less}
 use Rattle.flat_store.proofs.NodeLaws.{volume_found}
 use Rattle.flat_store.proofs.ReferLaws.{not_first}
@@ -28,7 +31,8 @@ use Rattle.flat_store.proofs.TreeLaws.{entries_less}
 segment_left : (ns : List Node) (u v : ℕ) → v ≢ u → has_segment (without_node ns u) v ≡ has_segment ns v
 segment_left [] u v apart = refl
 segment_left (n ∷ ns) u v apart = elim (cases_Bool (eqb n.uid u)) [
-  | inl here ↦ (let is : n.uid ≡ u = grind (arith, nat_tests) in let other : eqb n.uid v ≡ false = ne_eqb n.uid v (omega (arith, is, apart)) in
+  | inl here ↦ (let is : n.uid ≡ u = grind (arith, nat_tests) in
+      let other : eqb n.uid v ≡ false = ne_eqb n.uid v (omega (arith, is, apart)) in
       rw (here, other) (segment_left ns u v apart))
   | inr there ↦ rw there (ap (cond (eqb n.uid v) (not n.directory)) (segment_left ns u v apart))
 ]
@@ -36,7 +40,8 @@ segment_left (n ∷ ns) u v apart = elim (cases_Bool (eqb n.uid u)) [
 pages_left : (ns : List Node) (u v : ℕ) → v ≢ u → pages_in (without_node ns u) v ≡ pages_in ns v
 pages_left [] u v apart = refl
 pages_left (n ∷ ns) u v apart = elim (cases_Bool (eqb n.uid u)) [
-  | inl here ↦ (let is : n.uid ≡ u = grind (arith, nat_tests) in let other : eqb n.uid v ≡ false = ne_eqb n.uid v (omega (arith, is, apart)) in
+  | inl here ↦ (let is : n.uid ≡ u = grind (arith, nat_tests) in
+      let other : eqb n.uid v ≡ false = ne_eqb n.uid v (omega (arith, is, apart)) in
       rw (here, other) (pages_left ns u v apart))
   | inr there ↦ rw there (ap (cond (eqb n.uid v) n.pages) (pages_left ns u v apart))
 ]
@@ -44,7 +49,8 @@ pages_left (n ∷ ns) u v apart = elim (cases_Bool (eqb n.uid u)) [
 volume_left : (ns : List Node) (u v : ℕ) → v ≢ u → volume_in (without_node ns u) v ≡ volume_in ns v
 volume_left [] u v apart = refl
 volume_left (n ∷ ns) u v apart = elim (cases_Bool (eqb n.uid u)) [
-  | inl here ↦ (let is : n.uid ≡ u = grind (arith, nat_tests) in let other : eqb n.uid v ≡ false = ne_eqb n.uid v (omega (arith, is, apart)) in
+  | inl here ↦ (let is : n.uid ≡ u = grind (arith, nat_tests) in
+      let other : eqb n.uid v ≡ false = ne_eqb n.uid v (omega (arith, is, apart)) in
       rw (here, other) (volume_left ns u v apart))
   | inr there ↦ rw there (ap (cond (eqb n.uid v) n.volume) (volume_left ns u v apart))
 ]
@@ -52,7 +58,8 @@ volume_left (n ∷ ns) u v apart = elim (cases_Bool (eqb n.uid u)) [
 directory_left : (ns : List Node) (u v : ℕ) → v ≢ u → has_directory (without_node ns u) v ≡ has_directory ns v
 directory_left [] u v apart = refl
 directory_left (n ∷ ns) u v apart = elim (cases_Bool (eqb n.uid u)) [
-  | inl here ↦ (let is : n.uid ≡ u = grind (arith, nat_tests) in let other : eqb n.uid v ≡ false = ne_eqb n.uid v (omega (arith, is, apart)) in
+  | inl here ↦ (let is : n.uid ≡ u = grind (arith, nat_tests) in
+      let other : eqb n.uid v ≡ false = ne_eqb n.uid v (omega (arith, is, apart)) in
       rw (here, other) (directory_left ns u v apart))
   | inr there ↦ rw there (ap (cond (eqb n.uid v) n.directory) (directory_left ns u v apart))
 ]
@@ -66,17 +73,24 @@ directory_gone (n ∷ ns) u = elim (cases_Bool (eqb n.uid u)) [
 ]
 
 -- a stored page is of another segment
-stored_apart : (xs : List (ℕ × ℕ)) (u v q : ℕ) → ((page : ℕ) → is_stored xs u page ≡ false) → is_stored xs v q ≡ true → v ≢ u
-stored_apart xs u v q none on same = let clash : true ≡ false = sym on ∙ ap (λ (x : ℕ). is_stored xs x q) same ∙ none q in cc
+stored_apart : (xs : List (ℕ × ℕ)) (u v q : ℕ) → ((page : ℕ) → is_stored xs u page ≡ false) → is_stored xs v q ≡ true
+    → v ≢ u
+stored_apart xs u v q none on same = let clash : true ≡ false = sym on ∙ ap (λ (x : ℕ). is_stored xs x q) same
+    ∙ none q in cc
 
-inside_left : (ns : List Node) (xs : List (ℕ × ℕ)) (u : ℕ) → ((page : ℕ) → is_stored xs u page ≡ false) → AreInside ns xs → AreInside (without_node ns u) xs
+inside_left : (ns : List Node) (xs : List (ℕ × ℕ)) (u : ℕ) → ((page : ℕ) → is_stored xs u page ≡ false)
+    → AreInside ns xs → AreInside (without_node ns u) xs
 inside_left ns xs u none inside v q on =
-    let apart : v ≢ u = stored_apart xs u v q none on in
-    (segment_left ns u v apart ∙ (inside v q on).0, subst (λ (n : ℕ). q < n) (sym (pages_left ns u v apart)) (inside v q on).1)
+    let apart : v ≢ u = stored_apart xs u v q none on in (
+      segment_left ns u v apart
+          ∙ (inside v q on).0,
+      subst (λ (n : ℕ). q < n) (sym (pages_left ns u v apart)) (inside v q on).1,
+    )
 
 flat_left : (ns : List Node) (u : ℕ) → AreFlat ns → AreFlat (without_node ns u)
 flat_left ns u flat v is = elim (cases_eq v u) [
-  | inl same ↦ (let clash : true ≡ false = sym is ∙ ap (has_directory (without_node ns u)) same ∙ directory_gone ns u in cc)
+  | inl same ↦ (let clash : true ≡ false = sym is ∙ ap (has_directory (without_node ns u)) same ∙ directory_gone ns u in
+      cc)
   | inr apart ↦ pages_left ns u v apart ∙ flat v (sym (directory_left ns u v apart) ∙ is)
 ]
 
@@ -92,17 +106,20 @@ taken_left ns (x ∷ xs) u v none =
     let first : (eqb x.0 u && eqb x.1 x.1) ≡ false = (later (is_page u x.1 x) (is_stored xs u x.1) (none x.1)).0 in
     let apart : x.0 ≢ u = grind (arith, nat_tests) in
     sum_by-cons (λ (y : ℕ × ℕ). cond (eqb (volume_in (without_node ns u) y.0) v) 1 0) x xs
-    ∙ ap (λ (n : ℕ). cond {A = ℕ} (eqb n v) 1 0 + count_by (λ y. eqb (volume_in (without_node ns u) y.0) v) xs) (volume_left ns u x.0 apart)
+    ∙ ap (λ (n : ℕ). cond {A = ℕ} (eqb n v) 1 0 + count_by (λ y. eqb (volume_in (without_node ns u) y.0) v) xs)
+    (volume_left ns u x.0 apart)
     ∙ ap (λ (n : ℕ). cond {A = ℕ} (eqb (volume_in ns x.0) v) 1 0 + n)
     (taken_left ns xs u v (λ page. (later (is_page u page x) (is_stored xs u page) (none page)).1))
     ∙ sym (sum_by-cons (λ (y : ℕ × ℕ). cond (eqb (volume_in ns y.0) v) 1 0) x xs)
 
-none_counted : (xs : List (ℕ × ℕ)) (u : ℕ) → ((page : ℕ) → is_stored xs u page ≡ false) → count_by (λ x. eqb x.0 u) xs ≡ 0
+none_counted : (xs : List (ℕ × ℕ)) (u : ℕ) → ((page : ℕ) → is_stored xs u page ≡ false)
+    → count_by (λ x. eqb x.0 u) xs ≡ 0
 none_counted [] u none = refl
 none_counted (x ∷ xs) u none =
     let first : (eqb x.0 u && eqb x.1 x.1) ≡ false = (later (is_page u x.1 x) (is_stored xs u x.1) (none x.1)).0 in
     let apart : eqb x.0 u ≡ false = grind (arith, nat_tests) in
-    let rest : count_by (λ y. eqb y.0 u) xs ≡ 0 = none_counted xs u (λ page. (later (is_page u page x) (is_stored xs u page) (none page)).1) in
+    let rest : count_by (λ y. eqb y.0 u) xs ≡ 0 =
+    none_counted xs u (λ page. (later (is_page u page x) (is_stored xs u page) (none page)).1) in
     sum_by-cons (λ (y : ℕ × ℕ). cond (eqb y.0 u) 1 0) x xs ∙ rw apart (omega (arith, rest))
 
 -- ---- the holdings
@@ -111,16 +128,19 @@ some_there : (o : Option Node) → is_some o ≡ true → (n : Node) × (o ≡ S
 some_there None e = cc
 some_there (Some n) e = (n, refl)
 
-none_stored : (p : Plan) (s : Store) (h : Held) (u : ℕ) → Holds p h s → ((page : ℕ) → is_some (page_at h.pages u page) ≡ false) → (page : ℕ)
+none_stored : (p : Plan) (s : Store) (h : Held) (u : ℕ) → Holds p h s
+    → ((page : ℕ) → is_some (page_at h.pages u page) ≡ false) → (page : ℕ)
     → is_stored s.stored u page ≡ false
 none_stored p s h u holds none page = holds.pages.there u page ∙ none page
 
-pub no_count : (p : Plan) (s : Store) (h : Held) (u : ℕ) → Holds p h s → ((page : ℕ) → is_some (page_at h.pages u page) ≡ false) → count_of h.accounts u ≡ 0
+pub no_count : (p : Plan) (s : Store) (h : Held) (u : ℕ) → Holds p h s
+    → ((page : ℕ) → is_some (page_at h.pages u page) ≡ false) → count_of h.accounts u ≡ 0
 no_count p s h u holds none = holds.counts u ∙ none_counted s.stored u (none_stored p s h u holds none)
 
 pub removed_shown : (p : Plan) (s : Store) (h k : Held) (u v : ℕ) → Holds p h s → Loses h.accounts k.accounts u
     → k ≡ record h { accounts = k.accounts; entries = k.entries }
-    → k.entries ≡ set h.entries v (drained (gauge_at h.entries v)) → v ≡ volume_in h.accounts.nodes u → IsTree h.accounts.nodes
+    → k.entries ≡ set h.entries v (drained (gauge_at h.entries v)) → v ≡ volume_in h.accounts.nodes u
+    → IsTree h.accounts.nodes
     → is_some (node_in h.accounts.nodes u) ≡ true
     → ((page : ℕ) → is_some (page_at h.pages u page) ≡ false) → Holds p k (record s { nodes = without_node s.nodes u })
 removed_shown p s h k u v holds loses same less place tree there none =
@@ -136,9 +156,12 @@ removed_shown p s h k u v holds loses same less place tree there none =
       pages = holds.pages;
       inside = inside_left s.nodes s.stored u unstored holds.inside;
       flat = flat_left s.nodes u holds.flat;
-      records = λ x. holds.records x ∙ ap (λ (n : ℕ). record { used = n; most = records_of p x }) (sym (taken_left s.nodes s.stored u x unstored));
-      entries = λ x. ap (λ (g : List Gauge). gauge_at g x) (less ∙ ap (λ (y : ℕ). set h.entries y (drained (gauge_at h.entries y))) at)
-          ∙ counts_less h.entries (λ y. entries_on s.nodes y) (λ y. entries_on (without_node s.nodes u) y) (entries_of p) found.0.volume holds.entries
+      records = λ x. holds.records x
+          ∙ ap (λ (n : ℕ). record { used = n; most = records_of p x }) (sym (taken_left s.nodes s.stored u x unstored));
+      entries = λ x. ap (λ (g : List Gauge). gauge_at g x) (less
+          ∙ ap (λ (y : ℕ). set h.entries y (drained (gauge_at h.entries y))) at)
+          ∙ counts_less h.entries (λ y. entries_on s.nodes y) (λ y. entries_on (without_node s.nodes u) y)
+          (entries_of p) found.0.volume holds.entries
           (entries_less s.nodes u found.0 shape own) x;
     })
 
@@ -156,10 +179,16 @@ all_gone p s h u holds page =
 from_first : (page : ℕ) → nat_le 0 page ≡ true
 from_first page = grind (arith, nat_tests)
 
-pub deleted_is : (s : Store) (u : ℕ) → record (without_pages s u (λ q. nat_le 0 q)) { nodes = without_node s.nodes u } ≡ without_branch s (Some u)
+pub deleted_is : (s : Store) (u : ℕ)
+    → record (without_pages s u (λ q. nat_le 0 q)) { nodes = without_node s.nodes u } ≡ without_branch s (Some u)
 deleted_is s u =
-    ap (λ (w : Words). record s { nodes = without_node s.nodes u; words = w; stored = without_stored s.stored u (λ q. nat_le 0 q) })
-    (λ i. λ v. λ o. ap (λ (z : Bool). cond (eqb v u && z) 0 (s.words v o)) (from_first (o / 1024) ∙ sym (from_first o)) i)
+    ap (λ (w : Words). record s {
+      nodes = without_node s.nodes u;
+      words = w;
+      stored = without_stored s.stored u (λ q. nat_le 0 q);
+    })
+    (λ i. λ v. λ o. ap (λ (z : Bool). cond (eqb v u && z) 0 (s.words v o)) (from_first (o / 1024)
+    ∙ sym (from_first o)) i)
     ∙ ap (λ (t : ℕ → Bool). record s {
       nodes = without_node s.nodes u;
       words = λ v o. cond (eqb v u && nat_le 0 o) 0 (s.words v o);
@@ -169,21 +198,26 @@ deleted_is s u =
 
 -- ---- by its path
 
-pub delete_refused : (s : Store) (path : List (List ℕ)) (r : Reply) → branch_at s.nodes path ≡ Err r → after_delete s path ≡ s
+pub delete_refused : (s : Store) (path : List (List ℕ)) (r : Reply) → branch_at s.nodes path ≡ Err r
+    → after_delete s path ≡ s
 unfolding after_delete
 delete_refused s path r found = ap (deleted s) found
 
-pub delete_done : (s : Store) (path : List (List ℕ)) (n : Node) → branch_at s.nodes path ≡ Ok n → after_delete s path ≡ without_branch s (Some n.uid)
+pub delete_done : (s : Store) (path : List (List ℕ)) (n : Node) → branch_at s.nodes path ≡ Ok n
+    → after_delete s path ≡ without_branch s (Some n.uid)
 unfolding after_delete
 delete_done s path n found = ap (deleted s) found
 
-pub delete_asked : (s : Store) (path : List (List ℕ)) (n : Node) → branch_at s.nodes path ≡ Ok n → takes_effect (delete_reply s path) ≡ true
+pub delete_asked : (s : Store) (path : List (List ℕ)) (n : Node) → branch_at s.nodes path ≡ Ok n
+    → takes_effect (delete_reply s path) ≡ true
     → (list_any (is_inferior n.uid) s.nodes ≡ false) × (eqb n.quota 0 ≡ true)
 unfolding delete_reply
 delete_asked s path n found effect =
-    let first = not_first (list_any (is_inferior n.uid) s.nodes) reply.NotEmpty (cond (eqb n.quota 0) reply.Done reply.HasQuota) refl (rw found at effect) in
+    let first = not_first (list_any (is_inferior n.uid) s.nodes) reply.NotEmpty
+    (cond (eqb n.quota 0) reply.Done reply.HasQuota) refl (rw found at effect) in
     (first.0, here (eqb n.quota 0) refl first.1)
   where
-    here : (z : Bool) → eqb n.quota 0 ≡ z → takes_effect (cond z reply.Done reply.HasQuota) ≡ true → eqb n.quota 0 ≡ true
+    here : (z : Bool) → eqb n.quota 0 ≡ z → takes_effect (cond z reply.Done reply.HasQuota) ≡ true
+        → eqb n.quota 0 ≡ true
     here true e is = e
     here false e is = cc

@@ -1,5 +1,6 @@
 -- What a reference is answered.
-use Rattle.std.proofs.Common.{◌≡◌, ◌≢◌, ℕ, ◌*◌, ◌/◌, ◌<◌, Bool, true, false, not, eqb, ◌&&◌, Some, List, refl, sym, ap, ◌∙◌, arith}
+use Rattle.std.proofs.Common.{◌≡◌, ◌≢◌, ℕ, ◌*◌, ◌/◌, ◌<◌, Bool, true, false, not, eqb, ◌&&◌, Some, List, refl, sym, ap}
+use Rattle.std.proofs.Common.{◌∙◌, arith}
 use Rattle.std.specs.Prelude.{nat_le}
 use Rattle.std.proofs.lemmas.Bool.Decides.{nat_tests}
 use Rattle.script.specs.Plans.{Plan, who_of}
@@ -14,7 +15,8 @@ use Rattle.flat_model.specs.References.{alters, new_word, permits, reply_at, roo
 use Rattle.flat_model.specs.Store.{Store}
 use Rattle.flat_store.specs.Shown.{page_reply}
 
-pub stores_new : (s : Store) (u o : ℕ) (how : RefKind) (old w : ℕ) (b : Bool) → alters how ≡ true → old ≡ s.words u o → w ≡ new_word old how
+pub stores_new : (s : Store) (u o : ℕ) (how : RefKind) (old w : ℕ) (b : Bool) → alters how ≡ true → old ≡ s.words u o
+    → w ≡ new_word old how
     → b ≡ is_stored s.stored u (o / 1024) → w ≢ 0
     → not b ≡ stores_page s u o how
 stores_new s u o how old w b alters_it was is stored other =
@@ -22,7 +24,8 @@ stores_new s u o how old w b alters_it was is stored other =
     let apart : eqb w 0 ≡ false = grind (arith, nat_tests) in
     ap not stored ∙ sym (rw (alters_it, whole, apart) refl)
 
-pub stores_none : (s : Store) (u o : ℕ) (how : RefKind) (old w : ℕ) → old ≡ s.words u o → w ≡ new_word old how → w ≡ 0 → false ≡ stores_page s u o how
+pub stores_none : (s : Store) (u o : ℕ) (how : RefKind) (old w : ℕ) → old ≡ s.words u o → w ≡ new_word old how → w ≡ 0
+    → false ≡ stores_page s u o how
 stores_none s u o how old w was is zero_is =
     let whole : new_word (s.words u o) how ≡ 0 = ap (λ (x : ℕ). new_word x how) (sym was) ∙ sym is ∙ zero_is in
     rw whole (sym (none (alters how)))
@@ -31,14 +34,17 @@ stores_none s u o how old w was is zero_is =
     none true = refl
     none false = refl
 
-pub crowded : (p : Plan) (s : Store) (n : Node) (u o : ℕ) (how : RefKind) (test : Bool) (otherwise r : Reply) → n.uid ≡ u → test ≡ stores_page s u o how
+pub crowded : (p : Plan) (s : Store) (n : Node) (u o : ℕ) (how : RefKind) (test : Bool) (otherwise r : Reply)
+    → n.uid ≡ u → test ≡ stores_page s u o how
     → test ≡ true
     → otherwise ≡ word_reply (s.words u o) how → r ≡ room_reply p s n otherwise → r ≡ page_reply p s o how n
 crowded p s n u o how test otherwise r at is yes_is word answer =
     let stores : stores_page s n.uid o how ≡ true = ap (λ (x : ℕ). stores_page s x o how) at ∙ sym is ∙ yes_is in
-    answer ∙ ap (λ (x : Reply). room_reply p s n x) (word ∙ ap (λ (x : ℕ). word_reply (s.words x o) how) (sym at)) ∙ sym (rw stores refl)
+    answer ∙ ap (λ (x : Reply). room_reply p s n x) (word ∙ ap (λ (x : ℕ). word_reply (s.words x o) how) (sym at))
+    ∙ sym (rw stores refl)
 
-pub roomy : (p : Plan) (s : Store) (n : Node) (u o : ℕ) (how : RefKind) (test : Bool) (r : Reply) → n.uid ≡ u → test ≡ stores_page s u o how → test ≡ false
+pub roomy : (p : Plan) (s : Store) (n : Node) (u o : ℕ) (how : RefKind) (test : Bool) (r : Reply) → n.uid ≡ u
+    → test ≡ stores_page s u o how → test ≡ false
     → r ≡ word_reply (s.words u o) how → r ≡ page_reply p s o how n
 roomy p s n u o how test r at is no_is word =
     let stores : stores_page s n.uid o how ≡ false = ap (λ (x : ℕ). stores_page s x o how) at ∙ sym is ∙ no_is in
@@ -53,6 +59,8 @@ within p s k u o how n r found may lt answer =
     answer ∙ sym (rw (found, may, inside) refl)
 
 -- the node of a uid, as the flat store has it
-pub node_shown : (s : Store) (nodes : List Node) (u : ℕ) (n : Branch) → s.nodes ≡ nodes → node_in nodes u ≡ Some (as_term (quota_in nodes) n)
+pub node_shown : (s : Store) (nodes : List Node) (u : ℕ) (n : Branch) → s.nodes ≡ nodes
+    → node_in nodes u ≡ Some (as_term (quota_in nodes) n)
     → node_in s.nodes u ≡ Some (as_term (quota_in s.nodes) n)
-node_shown s nodes u n same found = ap (λ (ns : List Node). node_in ns u) same ∙ found ∙ ap (λ (ns : List Node). Some (as_term (quota_in ns) n)) (sym same)
+node_shown s nodes u n same found = ap (λ (ns : List Node). node_in ns u) same ∙ found
+    ∙ ap (λ (ns : List Node). Some (as_term (quota_in ns) n)) (sym same)

@@ -1,5 +1,6 @@
 -- What a process is answered, by what it knows.
-use Rattle.std.proofs.Common.{◌≡◌, ℕ, Bool, true, false, cond, zero, suc, ◌≤◌, [], ◌∷◌, arith, List, Option, Some, None, Result, Ok, Err, is_some, length, set, get_or, refl, sym, ap, subst, ◌∙◌}
+use Rattle.std.proofs.Common.{◌≡◌, ℕ, Bool, true, false, cond, zero, suc, ◌≤◌, [], ◌∷◌, arith, List, Option, Some, None}
+use Rattle.std.proofs.Common.{Result, Ok, Err, is_some, length, set, get_or, refl, sym, ap, subst, ◌∙◌}
 use Rattle.std.proofs.lemmas.List.{length-set}
 use Rattle.script.specs.Plans.{Plan}
 use Rattle.script.specs.declared.commands.Reference.{Reference}
@@ -8,7 +9,8 @@ use Rattle.book.specs.declared.replies.Reply.TheVariants as reply
 use Rattle.known_segs.specs.Known.{number_for, uid_of, with_number, without_number}
 use Rattle.tree_model.specs.Tree.{Node, node_in}
 use Rattle.flat_model.specs.Branches.{segment_at}
-use Rattle.flat_model.specs.Naming.{after_initiate, after_terminate, initiated, initiate_of, initiate_reply, known_or_full, terminate_reply}
+use Rattle.flat_model.specs.Naming.{after_initiate, after_terminate, initiated, initiate_of, initiate_reply}
+use Rattle.flat_model.specs.Naming.{known_or_full, terminate_reply}
 use Rattle.flat_model.specs.References.{after_reference, reply_at, reply_of, reply_to_reference, written_by}
 use Rattle.flat_model.specs.Store.{Store, known_uid, numbers_of, with_numbers}
 use Rattle.flat_store.specs.Shown.{Holds, IsShown, Kept, numbers_at}
@@ -19,17 +21,21 @@ module _ (p : Plan) (k : Kept) (s : Store) (h : IsShown p k s) where
   pub numbers_are : (process : ℕ) → numbers_of s process ≡ numbers_at k.known process
   numbers_are process = ap (λ (known : List (List (Option ℕ))). numbers_at known process) h.known
 
-  pub uid_known : (process number : ℕ) (o : Option ℕ) → o ≡ uid_of (numbers_at k.known process) number → known_uid s process number ≡ o
+  pub uid_known : (process number : ℕ) (o : Option ℕ) → o ≡ uid_of (numbers_at k.known process) number
+      → known_uid s process number ≡ o
   uid_known process number o is = ap (λ (kst : List (Option ℕ)). uid_of kst number) (numbers_are process) ∙ sym is
 
-  segment_is : (path : List (List ℕ)) (r : Result Node Reply) → segment_at k.held.accounts.nodes path ≡ r → segment_at s.nodes path ≡ r
+  segment_is : (path : List (List ℕ)) (r : Result Node Reply) → segment_at k.held.accounts.nodes path ≡ r
+      → segment_at s.nodes path ≡ r
   segment_is path r e = ap (λ (ns : List Node). segment_at ns path) h.holds.nodes ∙ e
 
-  pub initiate_refused : (process : ℕ) (path : List (List ℕ)) (r : Reply) → segment_at k.held.accounts.nodes path ≡ Err r → r ≡ initiate_reply s process path
+  pub initiate_refused : (process : ℕ) (path : List (List ℕ)) (r : Reply)
+      → segment_at k.held.accounts.nodes path ≡ Err r → r ≡ initiate_reply s process path
   unfolding initiate_reply
   initiate_refused process path r e = sym (ap (initiate_of (numbers_of s process)) (segment_is path (Err r) e))
 
-  pub initiate_told : (process : ℕ) (path : List (List ℕ)) (n : Node) (o : Option ℕ) → segment_at k.held.accounts.nodes path ≡ Ok n
+  pub initiate_told : (process : ℕ) (path : List (List ℕ)) (n : Node) (o : Option ℕ)
+      → segment_at k.held.accounts.nodes path ≡ Ok n
       → o ≡ number_for (numbers_at k.known process) n.uid
       → known_or_full o ≡ initiate_reply s process path
   unfolding initiate_reply
@@ -40,7 +46,8 @@ module _ (p : Plan) (k : Kept) (s : Store) (h : IsShown p k s) where
   pub terminate_told : (process number : ℕ) (o : Option ℕ) → o ≡ uid_of (numbers_at k.known process) number
       → cond (is_some o) reply.Done reply.Unknown ≡ terminate_reply s process number
   unfolding terminate_reply
-  terminate_told process number o is = sym (ap (λ (x : Option ℕ). cond (is_some x) reply.Done reply.Unknown) (uid_known process number o is))
+  terminate_told process number o is =
+      sym (ap (λ (x : Option ℕ). cond (is_some x) reply.Done reply.Unknown) (uid_known process number o is))
 
   pub reference_told : (process : ℕ) (r : Reference) (o : Option ℕ) → o ≡ uid_of (numbers_at k.known process) r.number
       → reply_of p s process r.offset r.kind o ≡ reply_to_reference p s process r
@@ -62,7 +69,8 @@ nobody_knows p k s process number h le =
 -- ---- effects
 
 -- the holdings alone are changed
-pub effect_shown : (p : Plan) (k n : Kept) (s t : Store) → IsShown p k s → Holds p n.held t → KeepsOthers s t → n ≡ record k { held = n.held } → IsShown p n t
+pub effect_shown : (p : Plan) (k n : Kept) (s t : Store) → IsShown p k s → Holds p n.held t → KeepsOthers s t
+    → n ≡ record k { held = n.held } → IsShown p n t
 effect_shown p k n s t h holds keeps same = subst (λ (x : Kept). IsShown p x t) (sym same) (record {
   holds = holds;
   known = keeps.known ∙ h.known;
@@ -75,29 +83,33 @@ effect_shown p k n s t h holds keeps same = subst (λ (x : Kept). IsShown p x t)
 pub numbers_shown : (p : Plan) (k n : Kept) (s : Store) (process : ℕ) (numbers told : List (Option ℕ)) → IsShown p k s
     → n ≡ record k { known = n.known } → n.known ≡ set k.known process told → told ≡ numbers
     → IsShown p n (with_numbers s process numbers)
-numbers_shown p k n s process numbers told h same now is = subst (λ (x : Kept). IsShown p x (with_numbers s process numbers)) (sym same) (record {
-  holds = record {
-    nodes = h.holds.nodes;
-    next = h.holds.next;
-    counts = h.holds.counts;
-    pages = h.holds.pages;
-    inside = h.holds.inside;
-    flat = h.holds.flat;
-    records = h.holds.records;
-    entries = h.holds.entries;
-  };
-  known = ap (λ (known : List (List (Option ℕ))). set known process numbers) h.known ∙ ap (λ (x : List (Option ℕ)). set k.known process x) (sym is) ∙ sym now;
-  processes = h.processes;
-  knowers = length-set s.known process numbers ∙ h.knowers;
-  runners = h.runners;
-})
+numbers_shown p k n s process numbers told h same now is =
+    subst (λ (x : Kept). IsShown p x (with_numbers s process numbers)) (sym same) (record {
+      holds = record {
+        nodes = h.holds.nodes;
+        next = h.holds.next;
+        counts = h.holds.counts;
+        pages = h.holds.pages;
+        inside = h.holds.inside;
+        flat = h.holds.flat;
+        records = h.holds.records;
+        entries = h.holds.entries;
+      };
+      known = ap (λ (known : List (List (Option ℕ))). set known process numbers) h.known
+          ∙ ap (λ (x : List (Option ℕ)). set k.known process x) (sym is) ∙ sym now;
+      processes = h.processes;
+      knowers = length-set s.known process numbers ∙ h.knowers;
+      runners = h.runners;
+    })
 
 pub after_initiate_is : (s : Store) (process : ℕ) (path : List (List ℕ)) (n : Node) → segment_at s.nodes path ≡ Ok n
-    → after_initiate s process path ≡ with_numbers s process (with_number (numbers_of s process) n.uid (number_for (numbers_of s process) n.uid))
+    → after_initiate s process path
+    ≡ with_numbers s process (with_number (numbers_of s process) n.uid (number_for (numbers_of s process) n.uid))
 unfolding after_initiate
 after_initiate_is s process path n found = ap (initiated s process) found
 
-pub initiate_stays : (s : Store) (process : ℕ) (path : List (List ℕ)) (r : Reply) → segment_at s.nodes path ≡ Err r → after_initiate s process path ≡ s
+pub initiate_stays : (s : Store) (process : ℕ) (path : List (List ℕ)) (r : Reply) → segment_at s.nodes path ≡ Err r
+    → after_initiate s process path ≡ s
 unfolding after_initiate
 initiate_stays s process path r found = ap (initiated s process) found
 
@@ -106,7 +118,8 @@ pub after_terminate_is : (s : Store) (process number : ℕ)
 unfolding after_terminate
 after_terminate_is s process number = refl
 
-pub terminate_asked : (s : Store) (process number : ℕ) → takes_effect (terminate_reply s process number) ≡ true → is_some (known_uid s process number) ≡ true
+pub terminate_asked : (s : Store) (process number : ℕ) → takes_effect (terminate_reply s process number) ≡ true
+    → is_some (known_uid s process number) ≡ true
 unfolding terminate_reply
 terminate_asked s process number = here (is_some (known_uid s process number)) refl
   where
@@ -120,8 +133,10 @@ pub after_reference_is : (s : Store) (process : ℕ) (r : Reference) (o : Option
 unfolding after_reference
 after_reference_is s process r o is = sym (ap (written_by s r.offset r.kind) is)
 
-pub reference_asked : (p : Plan) (s : Store) (process : ℕ) (r : Reference) (u : ℕ) → known_uid s process r.number ≡ Some u
+pub reference_asked : (p : Plan) (s : Store) (process : ℕ) (r : Reference) (u : ℕ)
+    → known_uid s process r.number ≡ Some u
     → takes_effect (reply_to_reference p s process r) ≡ true
     → takes_effect (reply_at p s process r.offset r.kind (node_in s.nodes u)) ≡ true
 unfolding reply_to_reference
-reference_asked p s process r u is effect = sym (ap (λ (o : Option ℕ). takes_effect (reply_of p s process r.offset r.kind o)) is) ∙ effect
+reference_asked p s process r u is effect =
+    sym (ap (λ (o : Option ℕ). takes_effect (reply_of p s process r.offset r.kind o)) is) ∙ effect

@@ -1,5 +1,7 @@
 -- What the program of the flat store keeps, and which flat store that shows (own).
-use Rattle.std.specs.Prelude.{nat_le, sum_by, ◌≡◌, ◌≢◌, ◌<◌, ◌≤◌, ℕ, ◌+◌, ◌/◌, ◌%◌, Bool, true, false, ◌==◌, if◌then◌else◌, is_some, length, replicate, take, ◌-◌, ◌++◌, slice_index_or, List, [], ◌∷◌, ◌&&◌, ◌||◌, not, Option, Some, None, Result, Ok, Err}
+use Rattle.std.specs.Prelude.{nat_le, sum_by, ◌≡◌, ◌≢◌, ◌<◌, ◌≤◌, ℕ, ◌+◌, ◌/◌, ◌%◌, Bool, true, false, ◌==◌}
+use Rattle.std.specs.Prelude.{if◌then◌else◌, is_some, length, replicate, take, ◌-◌, ◌++◌, slice_index_or, List, [], ◌∷◌}
+use Rattle.std.specs.Prelude.{◌&&◌, ◌||◌, not, Option, Some, None, Result, Ok, Err}
 use Rattle.std.specs.Ordering.{nat_cmp, ordering_then}
 use Rattle.std.specs.Map.{lookup}
 use Rattle.std.specs.BTreeMap.{is_at}
@@ -10,7 +12,8 @@ use Rattle.script.specs.declared.commands.Command.{Command}
 use Rattle.script.specs.declared.plan.VolumeLine.{VolumeLine}
 use Rattle.script.specs.declared.commands.RefKind.{RefKind}
 use Rattle.book.specs.declared.replies.Reply.{Reply}
-use Rattle.tree_model.specs.Tree.{Node, pool_of, has_directory, node_in, without_node, quota_in, volume_in, taken_on, entries_on}
+use Rattle.tree_model.specs.Tree.{Node, pool_of, has_directory, node_in, without_node, quota_in, volume_in, taken_on}
+use Rattle.tree_model.specs.Tree.{entries_on}
 use Rattle.dir_tree.specs.declared.node.Node.{Node as Branch}
 use Rattle.dir_tree.specs.Nodes.{as_term, has_inferior}
 use Rattle.tree_model.specs.Trees.{has_segment}
@@ -144,7 +147,9 @@ IsThere nodes n = node_in nodes n.uid ≡ Some (as_term (quota_in nodes) n)
 
 -- the store once the words of a page from a place on are 0, and whether the page is stored and all zeros then
 abbrev pub cleared : Store → ℕ → ℕ → ℕ → Store
-cleared s uid page at = record s { words = λ u o. if u == uid && (o / 1024 == page && nat_le at (o % 1024)) then 0 else s.words u o }
+cleared s uid page at = record s {
+  words = λ u o. if u == uid && (o / 1024 == page && nat_le at (o % 1024)) then 0 else s.words u o;
+}
 
 abbrev pub has_cleared : Store → ℕ → ℕ → ℕ → Bool
 has_cleared s uid page at = is_stored s.stored uid page && is_zero_page (cleared s uid page at).words uid page
@@ -154,7 +159,8 @@ abbrev pub cut_once : Store → ℕ → ℕ → Store
 cut_once s uid from =
     let page = from / 1024 in
     let at = from % 1024 in
-    if has_cleared s uid page at then without_pages (cleared s uid page at) uid (λ q. q == page) else cleared s uid page at
+    if has_cleared s uid page at then without_pages (cleared s uid page at) uid (λ q. q == page)
+    else cleared s uid page at
 
 -- a directory or a segment other than the root that has no inferior and no quota
 pub record IsDeletable (nodes : List Node) (uid : ℕ) : Type 0 where

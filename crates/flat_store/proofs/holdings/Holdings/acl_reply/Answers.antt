@@ -17,4 +17,5 @@ returns-else-takes c = λ p s h.
     (sym c.takes.ensures ∙ c.if-takes.false)
 
 pub returns-in-Err : goal.returns-in-Err
-returns-in-Err c = λ p s h. acl_refused s c.args.self.now.accounts.nodes c.args.path.now h.nodes c.args.row.now c.in-Err.reply c.in-Err.ensures.err
+returns-in-Err c = λ p s h. acl_refused s c.args.self.now.accounts.nodes c.args.path.now h.nodes c.args.row.now
+    c.in-Err.reply c.in-Err.ensures.err

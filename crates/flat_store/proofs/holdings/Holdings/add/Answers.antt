@@ -17,11 +17,13 @@ invariant_of-self c =
     let n : Node = branch_of c.self.inside.accounts.next c.args.superior c.args.new in
     let gains = ok_of c.add.result (Gains c.self.inside.accounts c.add.new.self n c.args.new.entry) c.add.ensures.ok
     (sym c.is_ok.ensures.value ∙ c.if-is_ok.true) in
-    let room = ap (λ (g : List Gauge). is_full (gauge_at g c.args.new.volume)) (sym c.deref.ensures.value) ∙ sym c.is_full_at.ensures.used
+    let room = ap (λ (g : List Gauge). is_full (gauge_at g c.args.new.volume)) (sym c.deref.ensures.value)
+    ∙ sym c.is_full_at.ensures.used
     ∙ c.if-is_full_at.false in (
       h.0,
       record h.1 { nodes = n ∷ h.1.nodes; next = h.1.next + 1 },
-      added_shown h.0 h.1 before after n c.args.new.entry h.2 (record { accounts = gains; pages = refl; records = refl; entries = c.fill_at.ensures })
+      added_shown h.0 h.1 before after n c.args.new.entry h.2
+          (record { accounts = gains; pages = refl; records = refl; entries = c.fill_at.ensures })
           refl c.next_uid.ensures.fresh room c.requires.flat,
     )
 
@@ -32,9 +34,12 @@ returns-then-is_ok c = λ p s d h below few effect.
     let n : Node = branch_of c.self.inside.accounts.next c.args.superior c.args.new in
     let gains = ok_of c.add.result (Gains c.self.inside.accounts c.add.new.self n c.args.new.entry) c.add.ensures.ok
     (sym c.is_ok.ensures.value ∙ c.if-is_ok.true) in
-    let room = ap (λ (g : List Gauge). is_full (gauge_at g c.args.new.volume)) (sym c.deref.ensures.value) ∙ sym c.is_full_at.ensures.used
+    let room = ap (λ (g : List Gauge). is_full (gauge_at g c.args.new.volume)) (sym c.deref.ensures.value)
+    ∙ sym c.is_full_at.ensures.used
     ∙ c.if-is_full_at.false in
     let holds = held_inside p s before c.args.self.now c.self.view_is h in
-    subst (λ (x : Store). Holds p after x) (branch_same s c.args.new d c.self.inside.accounts.next c.args.superior holds.next below)
-    (added_shown p s before after n c.args.new.entry holds (record { accounts = gains; pages = refl; records = refl; entries = c.fill_at.ensures }) refl
+    subst (λ (x : Store). Holds p after x)
+    (branch_same s c.args.new d c.self.inside.accounts.next c.args.superior holds.next below)
+    (added_shown p s before after n c.args.new.entry holds
+    (record { accounts = gains; pages = refl; records = refl; entries = c.fill_at.ensures }) refl
     c.next_uid.ensures.fresh room c.requires.flat)

@@ -16,7 +16,8 @@ invariant_of-result c =
       p,
       boot p,
       held_boot p held c.processes-processes.ensures.plan
-          (built p held c.quota.result c.volumes.result.now c.volumes-2.result.now c.in_ok-entries.entries.items c.in_ok-accounts.ensures
+          (built p held c.quota.result c.volumes.result.now c.volumes-2.result.now c.in_ok-entries.entries.items
+          c.in_ok-accounts.ensures
           c.quota.ensures c.new-pages.ensures c.in_ok-records.ensures
           c.volumes.ensures c.in_ok-entries.ensures c.volumes-2.ensures c.fill_at.ensures),
     )
@@ -32,6 +33,7 @@ returns c =
           c.fill_at.new.gauges.items;
     } in
     held_boot p held c.processes-processes.ensures.plan
-    (built p held c.quota.result c.volumes.result.now c.volumes-2.result.now c.in_ok-entries.entries.items c.in_ok-accounts.ensures c.quota.ensures
+    (built p held c.quota.result c.volumes.result.now c.volumes-2.result.now c.in_ok-entries.entries.items
+    c.in_ok-accounts.ensures c.quota.ensures
     c.new-pages.ensures c.in_ok-records.ensures
     c.volumes.ensures c.in_ok-entries.ensures c.volumes-2.ensures c.fill_at.ensures)

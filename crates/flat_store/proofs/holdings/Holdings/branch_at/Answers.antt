@@ -8,7 +8,9 @@ use Rattle.flat_store.proofs.holdings.Holdings.branch_at.Goals as goal
 
 pub returns-clause-branch : goal.returns-clause-branch
 returns-clause-branch c =
-    apart_shown c.args.self.now.accounts.nodes c.args.path.now (λ n. as_term (quota_in c.args.self.now.accounts.nodes) n.now) c.node_at.result
+    apart_shown c.args.self.now.accounts.nodes c.args.path.now
+    (λ n. as_term (quota_in c.args.self.now.accounts.nodes) n.now) c.node_at.result
     (subst (λ (x : Held). IsTree x.accounts.nodes) c.self.view_is c.root-root.ensures.tree)
-    (ap (λ (ns : List (List ℕ)). eqb (length ns) 0) (sym c.names.ensures.names) ∙ sym c.is_empty.ensures ∙ c.if-is_empty.false)
+    (ap (λ (ns : List (List ℕ)). eqb (length ns) 0) (sym c.names.ensures.names) ∙ sym c.is_empty.ensures
+    ∙ c.if-is_empty.false)
     c.node_at.ensures.ok

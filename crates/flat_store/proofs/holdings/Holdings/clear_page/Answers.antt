@@ -12,7 +12,8 @@ invariant_of-self c =
     let after : Held = record before { pages = c.cut.new.self } in (
       h.0,
       cleared h.1 c.args.uid c.args.page c.args.at,
-      clear_shown h.0 h.1 before after c.args.uid c.args.page c.args.at h.2 refl c.requires (λ ws e. (c.cut.ensures.some ws e).0)
+      clear_shown h.0 h.1 before after c.args.uid c.args.page c.args.at h.2 refl c.requires
+          (λ ws e. (c.cut.ensures.some ws e).0)
           (λ e. (c.cut.ensures.none e).0),
     )
 
@@ -20,7 +21,8 @@ pub returns-clause-page : goal.returns-clause-page
 returns-clause-page c = λ p s h.
     let before : Held = the_view c.self.inside in
     let after : Held = record before { pages = c.cut.new.self } in
-    clear_shown p s before after c.args.uid c.args.page c.args.at (held_inside p s before c.args.self.now c.self.view_is h) refl c.requires
+    clear_shown p s before after c.args.uid c.args.page c.args.at
+    (held_inside p s before c.args.self.now c.self.view_is h) refl c.requires
     (λ ws e. (c.cut.ensures.some ws e).0)
     (λ e. (c.cut.ensures.none e).0)
 
@@ -28,5 +30,6 @@ pub returns-clause-zero : goal.returns-clause-zero
 returns-clause-zero c = λ p s h.
     let before : Held = the_view c.self.inside in
     let after : Held = record before { pages = c.cut.new.self } in
-    clear_told p s before after c.args.uid c.args.page c.args.at c.cut.result (held_inside p s before c.args.self.now c.self.view_is h) c.requires
+    clear_told p s before after c.args.uid c.args.page c.args.at c.cut.result
+    (held_inside p s before c.args.self.now c.self.view_is h) c.requires
     c.cut.ensures.some (λ e. (c.cut.ensures.none e).1)

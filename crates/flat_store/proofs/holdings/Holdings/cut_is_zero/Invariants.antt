@@ -5,5 +5,6 @@ use Rattle.flat_store.specs.Shown.{Holds}
 use Rattle.flat_store.proofs.holdings.Holdings.cut_is_zero.Given as goal
 
 abbrev pub invariant-loop-offset : goal.invariant-loop-offset
-invariant-loop-offset l = ((p : Plan) (s : Store) → Holds p l.self s → (o : ℕ) → l.words / 1024 * 1024 ≤ o → o < l.offset → s.words l.uid o ≡ 0) ×
+invariant-loop-offset l = ((p : Plan) (s : Store) → Holds p l.self s → (o : ℕ) → l.words / 1024 * 1024 ≤ o
+    → o < l.offset → s.words l.uid o ≡ 0) ×
     (l.words / 1024 * 1024 ≤ l.offset)

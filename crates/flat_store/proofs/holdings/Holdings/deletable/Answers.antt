@@ -9,7 +9,8 @@ use Rattle.flat_store.proofs.holdings.Holdings.deletable.Goals as goal
 
 pub returns-in-Err-clause-effect : goal.returns-in-Err-clause-effect
 returns-in-Err-clause-effect c = λ s same effect.
-    delete_refused s c.args.path.now c.in-Err.field-0 (ap (λ (ns : List Node). branch_at ns c.args.path.now) same ∙ c.in-Err.ensures.err)
+    delete_refused s c.args.path.now c.in-Err.field-0 (ap (λ (ns : List Node). branch_at ns c.args.path.now) same
+    ∙ c.in-Err.ensures.err)
 
 pub returns-then-is_err-clause-effect : goal.returns-then-is_err-clause-effect
 returns-then-is_err-clause-effect c = λ s same effect.
@@ -25,7 +26,8 @@ pub returns-then-quota_of-ne0-clause-effect : goal.returns-then-quota_of-ne0-cla
 returns-then-quota_of-ne0-clause-effect c = λ s same effect.
     let n : Node = as_term (quota_in c.args.self.now.accounts.nodes) c.in-Ok.node.now in
     let found = ap (λ (ns : List Node). branch_at ns c.args.path.now) same ∙ c.in-Ok.ensures.ok in
-    let apart : eqb (quota_in c.args.self.now.accounts.nodes c.in-Ok.node.now.uid) 0 ≡ false = ap (λ (q : ℕ). eqb q 0) (sym c.quota_of.ensures)
+    let apart : eqb (quota_in c.args.self.now.accounts.nodes c.in-Ok.node.now.uid) 0 ≡ false =
+    ap (λ (q : ℕ). eqb q 0) (sym c.quota_of.ensures)
     ∙ ne_eqb c.quota_of.result 0 c.if-quota_of-ne0.true in
     let clash : true ≡ false = sym (delete_asked s c.args.path.now n found effect).1 ∙ apart in
     cc

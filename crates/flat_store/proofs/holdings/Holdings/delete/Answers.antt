@@ -37,4 +37,5 @@ take_out-requires-clause-pages c =
 pub returns-in-Some : goal.returns-in-Some
 returns-in-Some c = λ p s h effect.
     let done = c.take_out.ensures p (without_pages s c.in-Some.uid (λ q. nat_le 0 q)) (c.drop_from.ensures p s h) in
-    subst (λ (x : Store). Holds p c.take_out.new.self x) (deleted_is s c.in-Some.uid ∙ sym (c.in-Some.ensures.effect s h.nodes effect)) done
+    subst (λ (x : Store). Holds p c.take_out.new.self x) (deleted_is s c.in-Some.uid
+    ∙ sym (c.in-Some.ensures.effect s h.nodes effect)) done

@@ -9,30 +9,36 @@ use Rattle.std.specs.Result.{is_err}
 use Rattle.dir_tree.specs.Nodes.{has_inferior}
 
 pub returns-in-Err : goal.returns-in-Err
-returns-in-Err c = λ p s h. delete_refused s c.args.self.now.accounts.nodes c.args.path.now h.nodes c.in-Err.reply c.in-Err.ensures.err
+returns-in-Err c = λ p s h. delete_refused s c.args.self.now.accounts.nodes c.args.path.now h.nodes c.in-Err.reply
+    c.in-Err.ensures.err
 
 pub returns-then-is_err : goal.returns-then-is_err
 returns-then-is_err c = λ p s h.
     let inferior = ap (λ (x : Held). has_inferior x.accounts.nodes c.in-Ok.node.now.uid) (sym c.self.view_is)
     ∙ c.may_remove.ensures.0 (sym c.is_err.ensures.value ∙ c.if-is_err.true) in
-    delete_told s c.args.self.now.accounts.nodes c.args.path.now h.nodes (as_term (quota_in c.args.self.now.accounts.nodes) c.in-Ok.node.now) true
+    delete_told s c.args.self.now.accounts.nodes c.args.path.now h.nodes
+    (as_term (quota_in c.args.self.now.accounts.nodes) c.in-Ok.node.now) true
     (eqb (quota_in c.args.self.now.accounts.nodes c.in-Ok.node.now.uid) 0) c.in-Ok.ensures.ok inferior refl
 
 pub returns-then-quota_of-eq0 : goal.returns-then-quota_of-eq0
 returns-then-quota_of-eq0 c = λ p s h.
-    let none = from_false (is_err c.may_remove.result) (has_inferior c.self.inside.accounts.nodes c.in-Ok.node.now.uid) c.may_remove.ensures.1
+    let none = from_false (is_err c.may_remove.result) (has_inferior c.self.inside.accounts.nodes c.in-Ok.node.now.uid)
+    c.may_remove.ensures.1
     (sym c.is_err.ensures.value ∙ c.if-is_err.false) in
     let inferior = ap (λ (x : Held). has_inferior x.accounts.nodes c.in-Ok.node.now.uid) (sym c.self.view_is) ∙ none in
-    delete_told s c.args.self.now.accounts.nodes c.args.path.now h.nodes (as_term (quota_in c.args.self.now.accounts.nodes) c.in-Ok.node.now) false true
+    delete_told s c.args.self.now.accounts.nodes c.args.path.now h.nodes
+    (as_term (quota_in c.args.self.now.accounts.nodes) c.in-Ok.node.now) false true
     c.in-Ok.ensures.ok inferior
     (ap (λ (q : ℕ). eqb q 0) (sym c.quota_of.ensures ∙ c.if-quota_of-eq0.true))
 
 pub returns-else-quota_of-eq0 : goal.returns-else-quota_of-eq0
 returns-else-quota_of-eq0 c = λ p s h.
-    let none = from_false (is_err c.may_remove.result) (has_inferior c.self.inside.accounts.nodes c.in-Ok.node.now.uid) c.may_remove.ensures.1
+    let none = from_false (is_err c.may_remove.result) (has_inferior c.self.inside.accounts.nodes c.in-Ok.node.now.uid)
+    c.may_remove.ensures.1
     (sym c.is_err.ensures.value ∙ c.if-is_err.false) in
     let inferior = ap (λ (x : Held). has_inferior x.accounts.nodes c.in-Ok.node.now.uid) (sym c.self.view_is) ∙ none in
     let apart : eqb c.quota_of.result 0 ≡ false = ne_eqb c.quota_of.result 0 c.if-quota_of-eq0.false in
-    delete_told s c.args.self.now.accounts.nodes c.args.path.now h.nodes (as_term (quota_in c.args.self.now.accounts.nodes) c.in-Ok.node.now) false
+    delete_told s c.args.self.now.accounts.nodes c.args.path.now h.nodes
+    (as_term (quota_in c.args.self.now.accounts.nodes) c.in-Ok.node.now) false
     false c.in-Ok.ensures.ok inferior
     (ap (λ (q : ℕ). eqb q 0) (sym c.quota_of.ensures) ∙ apart)

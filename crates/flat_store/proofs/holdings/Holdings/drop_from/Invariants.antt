@@ -6,5 +6,6 @@ use Rattle.flat_store.proofs.DropLaws.{between}
 use Rattle.flat_store.proofs.holdings.Holdings.drop_from.Given as goal
 
 abbrev pub invariant-loop-page : goal.invariant-loop-page
-invariant-loop-page l = ((p : Plan) (s : Store) → Holds p l.fn.self s → Holds p l.self (without_pages s l.fn.uid (between l.fn.from l.page))) ×
+invariant-loop-page l = ((p : Plan) (s : Store) → Holds p l.fn.self s
+    → Holds p l.self (without_pages s l.fn.uid (between l.fn.from l.page))) ×
     (l.fn.from ≤ l.page)

@@ -27,7 +27,8 @@ invariant_of-self c =
       entries =
           c.self.inside.entries.items;
     } in
-    let drops = drop_done before after c.args.uid c.args.page c.volume_of-volume.result c.credit.ensures c.remove.ensures c.volume_of-volume.ensures
+    let drops = drop_done before after c.args.uid c.args.page c.volume_of-volume.result c.credit.ensures
+    c.remove.ensures c.volume_of-volume.ensures
     c.drain_at.ensures refl in (
       h.0,
       without_pages h.1 c.args.uid (λ q. eqb q c.args.page),
@@ -45,10 +46,13 @@ returns-then-has c = λ p s h.
       entries =
           c.self.inside.entries.items;
     } in
-    let drops = drop_done before after c.args.uid c.args.page c.volume_of-volume.result c.credit.ensures c.remove.ensures c.volume_of-volume.ensures
+    let drops = drop_done before after c.args.uid c.args.page c.volume_of-volume.result c.credit.ensures
+    c.remove.ensures c.volume_of-volume.ensures
     c.drain_at.ensures refl in
-    drop_shown p s before after c.args.uid c.args.page (held_inside p s before c.args.self.now c.self.view_is h) (sym c.has.ensures ∙ c.if-has.true) drops
+    drop_shown p s before after c.args.uid c.args.page (held_inside p s before c.args.self.now c.self.view_is h)
+    (sym c.has.ensures ∙ c.if-has.true) drops
 
 pub returns-else-has : goal.returns-else-has
 returns-else-has c = λ p s h. missing p s c.args.self.now c.args.uid c.args.page h
-    (ap (λ (x : Held). is_some (page_at x.pages c.args.uid c.args.page)) (sym c.self.view_is) ∙ sym c.has.ensures ∙ c.if-has.false)
+    (ap (λ (x : Held). is_some (page_at x.pages c.args.uid c.args.page)) (sym c.self.view_is) ∙ sym c.has.ensures
+    ∙ c.if-has.false)

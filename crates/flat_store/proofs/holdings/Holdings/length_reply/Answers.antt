@@ -17,4 +17,5 @@ returns-else-is_stored_from c = λ p s h.
     (sym (c.is_stored_from.ensures p s h) ∙ c.if-is_stored_from.false)
 
 pub returns-in-Err : goal.returns-in-Err
-returns-in-Err c = λ p s h. length_refused s c.args.self.now.accounts.nodes c.args.path.now h.nodes c.args.pages c.in-Err.reply c.in-Err.ensures.err
+returns-in-Err c = λ p s h. length_refused s c.args.self.now.accounts.nodes c.args.path.now h.nodes c.args.pages
+    c.in-Err.reply c.in-Err.ensures.err

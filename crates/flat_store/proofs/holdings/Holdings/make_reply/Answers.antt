@@ -9,18 +9,22 @@ returns-in_default c = λ p s h. make_root p s c.args.path.now c.args.volume c.a
 
 pub returns-then-node : goal.returns-then-node
 returns-then-node c = λ p s h.
-    make_told p s c.args.self.now.accounts.nodes c.args.path.now c.in-Some.above c.in-Some.name.now c.args.volume c.args.dir h.nodes c.in-Some.ensures.parts
-    (as_term (quota_in c.args.self.now.accounts.nodes) c.in-Ok.node.now) c.make_in.result c.in-Ok.ensures.ok c.if-node.true
+    make_told p s c.args.self.now.accounts.nodes c.args.path.now c.in-Some.above c.in-Some.name.now c.args.volume
+    c.args.dir h.nodes c.in-Some.ensures.parts
+    (as_term (quota_in c.args.self.now.accounts.nodes) c.in-Ok.node.now) c.make_in.result c.in-Ok.ensures.ok
+    c.if-node.true
     (c.make_in.ensures p s (as_term (quota_in c.args.self.now.accounts.nodes) c.in-Ok.node.now) h refl)
 
 pub returns-else-node : goal.returns-else-node
 returns-else-node c = λ p s h.
-    make_in_segment p s c.args.self.now.accounts.nodes c.args.path.now c.in-Some.above c.in-Some.name.now c.args.volume c.args.dir h.nodes
+    make_in_segment p s c.args.self.now.accounts.nodes c.args.path.now c.in-Some.above c.in-Some.name.now c.args.volume
+    c.args.dir h.nodes
     c.in-Some.ensures.parts
     (as_term (quota_in c.args.self.now.accounts.nodes) c.in-Ok.node.now) c.in-Ok.ensures.ok c.if-node.false
 
 pub returns-in-Err : goal.returns-in-Err
 returns-in-Err c = λ p s h.
-    make_refused p s c.args.self.now.accounts.nodes c.args.path.now c.in-Some.above c.in-Some.name.now c.args.volume c.args.dir h.nodes
+    make_refused p s c.args.self.now.accounts.nodes c.args.path.now c.in-Some.above c.in-Some.name.now c.args.volume
+    c.args.dir h.nodes
     c.in-Some.ensures.parts
     c.in-Err.reply c.in-Err.ensures.err

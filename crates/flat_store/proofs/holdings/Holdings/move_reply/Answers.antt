@@ -14,13 +14,15 @@ use Rattle.flat_store.proofs.TreeReplies.{move_refused, move_answered, move_told
 use Rattle.flat_store.proofs.holdings.Holdings.move_reply.Goals as goal
 
 pub returns-in-Err : goal.returns-in-Err
-returns-in-Err c = λ p s h. move_refused s c.args.self.now.accounts.nodes c.args.path.now h.nodes c.args.amount c.in-Err.reply c.in-Err.ensures.err
+returns-in-Err c = λ p s h. move_refused s c.args.self.now.accounts.nodes c.args.path.now h.nodes c.args.amount
+    c.in-Err.reply c.in-Err.ensures.err
 
 pub returns-in-Ok-may_move : goal.returns-in-Ok-may_move
 returns-in-Ok-may_move c = λ p s h.
     let same : c.self.inside.accounts ≡ c.args.self.now.accounts = ap (λ (x : Held). x.accounts) c.self.view_is in
     let counts = subst (λ (a : AccountMaps). Counts a s.stored) (sym same) h.counts in
-    let answer = subst (λ (a : AccountMaps). c.may_move.result ≡ scratch_answer a.nodes s.stored c.in-Ok.node.now.uid (is_positive c.args.amount)
+    let answer = subst (λ (a : AccountMaps). c.may_move.result
+    ≡ scratch_answer a.nodes s.stored c.in-Ok.node.now.uid (is_positive c.args.amount)
     (unsigned_abs c.args.amount)) same
     (let back = to_z-of_z w32 c.args.amount c.ranges.amount in (rw back at c.may_move.ensures) s.stored counts) in
     move_answered s c.args.self.now.accounts.nodes c.args.path.now h.nodes c.args.amount
@@ -31,29 +33,36 @@ pub returns-in-Err-TooLittle : goal.returns-in-Err-TooLittle
 returns-in-Err-TooLittle c = λ p s h.
     let same : c.self.inside.accounts ≡ c.args.self.now.accounts = ap (λ (x : Held). x.accounts) c.self.view_is in
     let counts = subst (λ (a : AccountMaps). Counts a s.stored) (sym same) h.counts in
-    let answer = subst (λ (a : AccountMaps). c.may_move.result ≡ scratch_answer a.nodes s.stored c.in-Ok.node.now.uid (is_positive c.args.amount)
+    let answer = subst (λ (a : AccountMaps). c.may_move.result
+    ≡ scratch_answer a.nodes s.stored c.in-Ok.node.now.uid (is_positive c.args.amount)
     (unsigned_abs c.args.amount)) same
     (let back = to_z-of_z w32 c.args.amount c.ranges.amount in (rw back at c.may_move.ensures) s.stored counts) in
     move_answered s c.args.self.now.accounts.nodes c.args.path.now h.nodes c.args.amount
     (as_term (quota_in c.args.self.now.accounts.nodes) c.in-Ok.node.now) c.may_move.result _
-    c.in-Ok.ensures.ok answer (ap move_told (sym (c.in-Err-TooLittle.is ∙ ap (λ (e : MoveFault). Err e) c.in-Err-TooLittle.field-0-is)))
+    c.in-Ok.ensures.ok answer (ap move_told (sym (c.in-Err-TooLittle.is
+    ∙ ap (λ (e : MoveFault). Err e) c.in-Err-TooLittle.field-0-is)))
 
 pub returns-in-Err-Over : goal.returns-in-Err-Over
 returns-in-Err-Over c = λ p s h.
     let same : c.self.inside.accounts ≡ c.args.self.now.accounts = ap (λ (x : Held). x.accounts) c.self.view_is in
     let counts = subst (λ (a : AccountMaps). Counts a s.stored) (sym same) h.counts in
-    let answer = subst (λ (a : AccountMaps). c.may_move.result ≡ scratch_answer a.nodes s.stored c.in-Ok.node.now.uid (is_positive c.args.amount)
+    let answer = subst (λ (a : AccountMaps). c.may_move.result
+    ≡ scratch_answer a.nodes s.stored c.in-Ok.node.now.uid (is_positive c.args.amount)
     (unsigned_abs c.args.amount)) same
     (let back = to_z-of_z w32 c.args.amount c.ranges.amount in (rw back at c.may_move.ensures) s.stored counts) in
     move_answered s c.args.self.now.accounts.nodes c.args.path.now h.nodes c.args.amount
     (as_term (quota_in c.args.self.now.accounts.nodes) c.in-Ok.node.now) c.may_move.result _
-    c.in-Ok.ensures.ok answer (ap move_told (sym (c.in-Err-Over.is ∙ ap (λ (e : MoveFault). Err e) c.in-Err-Over.field-0-is)))
+    c.in-Ok.ensures.ok answer (ap move_told (sym (c.in-Err-Over.is
+    ∙ ap (λ (e : MoveFault). Err e) c.in-Err-Over.field-0-is)))
 
 pub returns-then-amount-eq0 : goal.returns-then-amount-eq0
 returns-then-amount-eq0 c = λ p s h.
     let same : c.self.inside.accounts ≡ c.args.self.now.accounts = ap (λ (x : Held). x.accounts) c.self.view_is in
     let counts = subst (λ (a : AccountMaps). Counts a s.stored) (sym same) h.counts in
     let nodes : s.nodes ≡ c.self.inside.accounts.nodes = h.nodes ∙ ap (λ (a : AccountMaps). a.nodes) (sym same) in
-    let within = subst (λ (ns : List Node). (a : ℕ) → used_by ns s.stored a ≤ quota_in ns a) (sym nodes) (c.root-root.ensures.within s.stored counts) in
-    move_of_none s c.args.self.now.accounts.nodes c.args.path.now (as_term (quota_in c.args.self.now.accounts.nodes) c.in-Ok.node.now) c.args.amount
-    h.nodes c.in-Ok.ensures.ok (sym (to_z-of_z w32 c.args.amount c.ranges.amount) ∙ ap (to_z w32) c.if-amount-eq0.true) within
+    let within = subst (λ (ns : List Node). (a : ℕ)
+    → used_by ns s.stored a ≤ quota_in ns a) (sym nodes) (c.root-root.ensures.within s.stored counts) in
+    move_of_none s c.args.self.now.accounts.nodes c.args.path.now
+    (as_term (quota_in c.args.self.now.accounts.nodes) c.in-Ok.node.now) c.args.amount
+    h.nodes c.in-Ok.ensures.ok (sym (to_z-of_z w32 c.args.amount c.ranges.amount)
+    ∙ ap (to_z w32) c.if-amount-eq0.true) within

@@ -25,5 +25,6 @@ returns-clause-ok c = λ p s h.
     let after : Held = record before { pages = c.put.new.self } in
     let there : is_some (page_at c.self.inside.pages c.args.uid (c.args.offset / 1024)) ≡ true =
     ap (λ (x : Held). is_some (page_at x.pages c.args.uid (c.args.offset / 1024))) c.self.view_is ∙ c.requires in
-    put_shown p s before after c.args.uid c.args.offset c.args.word (held_inside p s before c.args.self.now c.self.view_is h) there refl
+    put_shown p s before after c.args.uid c.args.offset c.args.word
+    (held_inside p s before c.args.self.now c.self.view_is h) there refl
     c.in_ok-put.ensures.ok

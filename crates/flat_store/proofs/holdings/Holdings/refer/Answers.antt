@@ -17,20 +17,25 @@ pub write-requires-clause-segment : goal.write-requires-clause-segment
 write-requires-clause-segment c =
     let h = c.self.invariant in
     ap (λ (x : Held). has_segment x.accounts.nodes c.args.uid) (sym c.self.view_is)
-    ∙ has_pages c.self.inside.accounts.nodes c.args.uid (as_term (quota_in c.self.inside.accounts.nodes) c.in-Some.node.now) c.in-Some.node.now.dir
+    ∙ has_pages c.self.inside.accounts.nodes c.args.uid
+    (as_term (quota_in c.self.inside.accounts.nodes) c.in-Some.node.now) c.in-Some.node.now.dir
     c.in-Some.ensures.some
-    c.in-Some.ensures.directory c.in-Some.ensures.segment (subst (λ (ns : List Node). AreFlat ns) h.2.nodes h.2.flat) (omega (arith, c.if-offset-node.false))
+    c.in-Some.ensures.directory c.in-Some.ensures.segment (subst (λ (ns : List Node). AreFlat ns) h.2.nodes h.2.flat)
+    (omega (arith, c.if-offset-node.false))
 
 pub write-requires-clause-within : goal.write-requires-clause-within
 write-requires-clause-within c =
-    let size = pages_found c.self.inside.accounts.nodes c.args.uid (as_term (quota_in c.self.inside.accounts.nodes) c.in-Some.node.now)
+    let size = pages_found c.self.inside.accounts.nodes c.args.uid
+    (as_term (quota_in c.self.inside.accounts.nodes) c.in-Some.node.now)
     c.in-Some.ensures.some in
-    subst (λ (x : Held). c.args.offset / 1024 < pages_in x.accounts.nodes c.args.uid) c.self.view_is (omega (arith, size, c.if-offset-node.false))
+    subst (λ (x : Held). c.args.offset / 1024 < pages_in x.accounts.nodes c.args.uid) c.self.view_is
+    (omega (arith, size, c.if-offset-node.false))
 
 pub returns-clause-ok : goal.returns-clause-ok
 returns-clause-ok c =
     on_ok c.write.result
-    ((p : Plan) (s : Store) → Holds p c.args.self.now s → may_write p s c.args.uid c.args.offset c.new_word-word.result ≡ true
+    ((p : Plan) (s : Store) → Holds p c.args.self.now s
+    → may_write p s c.args.uid c.args.offset c.new_word-word.result ≡ true
     → Holds p c.write.new.self (written s c.args.uid c.args.offset c.new_word-word.result))
     ((p : Plan) (s : Store) (k : ℕ) → Holds p c.args.self.now s
     → takes_effect (reply_at p s k c.args.offset c.args.kind.now (node_in s.nodes c.args.uid)) ≡ true
@@ -42,5 +47,6 @@ returns-clause-ok c =
     let alters_it = sym c.alters.ensures ∙ c.if-not-alters.false in
     let is = c.new_word-word.ensures ∙ ap (λ (w : ℕ). new_word w c.args.kind.now) (c.word.ensures p s h) in
     refer_shown p s c.write.new.self c.args.uid c.args.offset c.new_word-word.result c.args.kind.now alters_it is
-    (f p s h (may_refer p s k c.args.uid c.args.offset c.new_word-word.result c.args.kind.now n found alters_it is effect)))
+    (f p s h (may_refer p s k c.args.uid c.args.offset c.new_word-word.result c.args.kind.now n found alters_it is
+    effect)))
     c.write.ensures.ok

@@ -15,9 +15,11 @@ pub page_reply-requires : goal.page_reply-requires
 page_reply-requires c =
     let h = c.self.invariant in
     ap (λ (x : Held). has_segment x.accounts.nodes c.args.uid) (sym c.self.view_is)
-    ∙ has_pages c.self.inside.accounts.nodes c.args.uid (as_term (quota_in c.self.inside.accounts.nodes) c.in-Some.node.now) c.in-Some.node.now.dir
+    ∙ has_pages c.self.inside.accounts.nodes c.args.uid
+    (as_term (quota_in c.self.inside.accounts.nodes) c.in-Some.node.now) c.in-Some.node.now.dir
     c.in-Some.ensures.some
-    c.in-Some.ensures.directory c.in-Some.ensures.segment (subst (λ (ns : List Node). AreFlat ns) h.2.nodes h.2.flat) (omega (arith, c.if-offset-node.false))
+    c.in-Some.ensures.directory c.in-Some.ensures.segment (subst (λ (ns : List Node). AreFlat ns) h.2.nodes h.2.flat)
+    (omega (arith, c.if-offset-node.false))
 
 pub returns : goal.returns
 returns c = λ p s k h who.
@@ -26,5 +28,6 @@ returns c = λ p s k h who.
     (h.nodes ∙ ap (λ (x : Held). x.accounts.nodes) (sym c.self.view_is)) c.in-Some.ensures.some in
     within p s k c.args.uid c.args.offset c.args.kind.now n c.page_reply.result found
     (ap (λ (w : Who). permits (access_of w c.in-Some.node.now.acl) c.args.kind.now) (sym who)
-    ∙ ap (λ (m : Mode). permits m c.args.kind.now) (sym c.access_of.ensures) ∙ sym c.permits.ensures ∙ c.if-not-permits.false)
+    ∙ ap (λ (m : Mode). permits m c.args.kind.now) (sym c.access_of.ensures) ∙ sym c.permits.ensures
+    ∙ c.if-not-permits.false)
     c.if-offset-node.false (c.page_reply.ensures p s n h (uid_found s.nodes c.args.uid n found) refl)

@@ -14,15 +14,18 @@ use Rattle.flat_store.proofs.holdings.Holdings.set_length.Goals as goal
 pub returns-in-Err : goal.returns-in-Err
 returns-in-Err c = λ p s h effect.
     let refused = ap (λ (ns : List Node). segment_at ns c.args.path.now) h.nodes ∙ c.in-Err.ensures.err in
-    subst (λ (x : Store). Holds p c.args.self.now x) (sym (length_stays s c.args.path.now c.args.pages c.in-Err.field-0 refused)) h
+    subst (λ (x : Store). Holds p c.args.self.now x)
+    (sym (length_stays s c.args.path.now c.args.pages c.in-Err.field-0 refused)) h
 
 pub invariant_of-self : goal.invariant_of-self
 invariant_of-self c =
     let h = c.self.invariant in
     let before : Held = the_view c.self.inside in
     let after : Held = record before { accounts = c.set_length.new.self } in
-    let segment = ap (λ (x : Held). has_segment x.accounts.nodes c.in-Ok.node.now.uid) c.self.view_is ∙ c.in-Ok.ensures.segment in
-    let none = sym (c.is_stored_from.ensures h.0 h.1 (subst (λ (x : Held). Holds h.0 x h.1) c.self.view_is h.2)) ∙ c.if-not-is_stored_from.true in (
+    let segment = ap (λ (x : Held). has_segment x.accounts.nodes c.in-Ok.node.now.uid) c.self.view_is
+    ∙ c.in-Ok.ensures.segment in
+    let none = sym (c.is_stored_from.ensures h.0 h.1 (subst (λ (x : Held). Holds h.0 x h.1) c.self.view_is h.2))
+    ∙ c.if-not-is_stored_from.true in (
       h.0,
       record h.1 { nodes = with_length h.1.nodes c.in-Ok.node.now.uid c.args.pages },
       length_shown h.0 h.1 before after c.in-Ok.node.now.uid c.args.pages h.2 c.set_length.ensures refl segment none,
@@ -34,10 +37,12 @@ returns-then-not-is_stored_from c = λ p s h effect.
     let after : Held = record before { accounts = c.set_length.new.self } in
     let n : Node = as_term (quota_in c.args.self.now.accounts.nodes) c.in-Ok.node.now in
     let found = ap (λ (ns : List Node). segment_at ns c.args.path.now) h.nodes ∙ c.in-Ok.ensures.ok in
-    let segment = ap (λ (x : Held). has_segment x.accounts.nodes c.in-Ok.node.now.uid) c.self.view_is ∙ c.in-Ok.ensures.segment in
+    let segment = ap (λ (x : Held). has_segment x.accounts.nodes c.in-Ok.node.now.uid) c.self.view_is
+    ∙ c.in-Ok.ensures.segment in
     let none = sym (c.is_stored_from.ensures p s h) ∙ c.if-not-is_stored_from.true in
     subst (λ (x : Store). Holds p after x) (sym (after_length_is s c.args.path.now c.args.pages n found))
-    (length_shown p s before after c.in-Ok.node.now.uid c.args.pages (held_inside p s before c.args.self.now c.self.view_is h) c.set_length.ensures refl
+    (length_shown p s before after c.in-Ok.node.now.uid c.args.pages
+    (held_inside p s before c.args.self.now c.self.view_is h) c.set_length.ensures refl
     segment none)
 
 pub returns-else-not-is_stored_from : goal.returns-else-not-is_stored_from

@@ -17,7 +17,8 @@ use Rattle.flat_store.proofs.holdings.Holdings.set_row.Goals as goal
 pub returns-in-Err : goal.returns-in-Err
 returns-in-Err c = λ p s h effect.
     let refused = ap (λ (ns : List Node). segment_at ns c.args.path.now) h.nodes ∙ c.in-Err.ensures.err in
-    subst (λ (x : Store). Holds p c.args.self.now x) (sym (acl_stays s c.args.path.now c.args.row.now c.args.mode c.in-Err.field-0 refused)) h
+    subst (λ (x : Store). Holds p c.args.self.now x)
+    (sym (acl_stays s c.args.path.now c.args.row.now c.args.mode c.in-Err.field-0 refused)) h
 
 pub invariant_of-self : goal.invariant_of-self
 invariant_of-self c =
@@ -26,7 +27,8 @@ invariant_of-self c =
     let after : Held = record before { accounts = c.set_row-refused.new.self } in
     let row = row_with c.copied.result c.args.mode in
     either_held h.0 h.1 after (with_row_in h.1.nodes c.in-Ok.node.now.uid row) (is_ok c.set_row-refused.result)
-    (rows_either h.0 h.1 before after c.in-Ok.node.now.uid row c.set_row-refused.result h.2 c.set_row-refused.ensures.ok c.set_row-refused.ensures.err refl)
+    (rows_either h.0 h.1 before after c.in-Ok.node.now.uid row c.set_row-refused.result h.2 c.set_row-refused.ensures.ok
+    c.set_row-refused.ensures.err refl)
 
 pub returns : goal.returns
 returns c = λ p s h effect.
@@ -37,8 +39,10 @@ returns c = λ p s h effect.
     let n : Node = as_term (quota_in nodes) c.in-Ok.node.now in
     let found = ap (λ (ns : List Node). segment_at ns c.args.path.now) h.nodes ∙ c.in-Ok.ensures.ok in
     let rows = rows_found nodes uid n c.in-Ok.ensures.there in
-    let asked : takes_row c.copied.result.person c.copied.result.project (rows_in c.self.inside.accounts.nodes uid) ≡ true
-    = ap (λ (x : Held). takes_row c.copied.result.person c.copied.result.project (rows_in x.accounts.nodes uid)) c.self.view_is
+    let asked : takes_row c.copied.result.person c.copied.result.project (rows_in c.self.inside.accounts.nodes uid)
+    ≡ true
+    = ap (λ (x : Held). takes_row c.copied.result.person c.copied.result.project (rows_in x.accounts.nodes uid))
+    c.self.view_is
     ∙ ap (λ rs. takes_row c.copied.result.person c.copied.result.project rs) rows
     ∙ ap (λ (r : Named). takes_row r.person r.project c.in-Ok.node.now.acl) c.copied.ensures
     ∙ acl_asked s c.args.path.now c.args.row.now n found effect in

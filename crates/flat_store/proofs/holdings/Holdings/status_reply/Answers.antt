@@ -7,22 +7,27 @@ use Rattle.flat_store.proofs.TreeReplies.{status_refused, status_directory, stat
 use Rattle.flat_store.proofs.holdings.Holdings.status_reply.Goals as goal
 
 pub returns-in-Err : goal.returns-in-Err
-returns-in-Err c = λ p s h. status_refused s c.args.self.now.accounts.nodes c.args.path.now h.nodes c.in-Err.reply c.in-Err.ensures.err
+returns-in-Err c = λ p s h. status_refused s c.args.self.now.accounts.nodes c.args.path.now h.nodes c.in-Err.reply
+    c.in-Err.ensures.err
 
 pub returns-then-node : goal.returns-then-node
 returns-then-node c = λ p s h.
     let same : c.self.inside.accounts ≡ c.args.self.now.accounts = ap (λ (x : Held). x.accounts) c.self.view_is in
     let counts = subst (λ (a : AccountMaps). Counts a s.stored) (sym same) h.counts in
-    status_directory s c.args.self.now.accounts.nodes c.args.path.now h.nodes (as_term (quota_in c.args.self.now.accounts.nodes) c.in-Ok.node.now)
+    status_directory s c.args.self.now.accounts.nodes c.args.path.now h.nodes
+    (as_term (quota_in c.args.self.now.accounts.nodes) c.in-Ok.node.now)
     c.quota-quota.result c.used-used.result
-    c.in-Ok.ensures.ok c.if-node.true (c.quota-quota.ensures.quota ∙ ap (λ (a : AccountMaps). quota_in a.nodes c.in-Ok.node.now.uid) same)
+    c.in-Ok.ensures.ok c.if-node.true (c.quota-quota.ensures.quota
+    ∙ ap (λ (a : AccountMaps). quota_in a.nodes c.in-Ok.node.now.uid) same)
     (c.used-used.ensures.scratch s.stored counts
-    ∙ ap (λ (ns : List Node). used_by ns s.stored c.in-Ok.node.now.uid) (ap (λ (a : AccountMaps). a.nodes) same ∙ sym h.nodes))
+    ∙ ap (λ (ns : List Node). used_by ns s.stored c.in-Ok.node.now.uid) (ap (λ (a : AccountMaps). a.nodes) same
+    ∙ sym h.nodes))
 
 pub returns-else-node : goal.returns-else-node
 returns-else-node c = λ p s h.
     let same : c.self.inside.accounts ≡ c.args.self.now.accounts = ap (λ (x : Held). x.accounts) c.self.view_is in
     let counts = subst (λ (a : AccountMaps). Counts a s.stored) (sym same) h.counts in
-    status_segment s c.args.self.now.accounts.nodes c.args.path.now h.nodes (as_term (quota_in c.args.self.now.accounts.nodes) c.in-Ok.node.now)
+    status_segment s c.args.self.now.accounts.nodes c.args.path.now h.nodes
+    (as_term (quota_in c.args.self.now.accounts.nodes) c.in-Ok.node.now)
     c.stored-stored.result
     c.in-Ok.ensures.ok c.if-node.false (c.stored-stored.ensures.stored ∙ counts c.in-Ok.node.now.uid)

@@ -11,7 +11,8 @@ pub unreachable-requires : goal.unreachable-requires
 unreachable-requires c =
     let h = c.self.invariant in
     let before : Held = the_view c.self.inside in
-    never_full h.0 h.1 before c.args.uid c.in-Err.field-0 (sym (c.has_room.ensures h.0 h.1 (subst (λ (x : Held). Holds h.0 x h.1) c.self.view_is h.2))
+    never_full h.0 h.1 before c.args.uid c.in-Err.field-0
+    (sym (c.has_room.ensures h.0 h.1 (subst (λ (x : Held). Holds h.0 x h.1) c.self.view_is h.2))
     ∙ c.if-not-has_room.false) h.2.nodes
     (c.in-Err.ensures.answer h.1.stored h.2.counts)
 
@@ -26,15 +27,20 @@ invariant_of-self-in-Ok c =
       entries =
           c.self.inside.entries.items;
     } in
-    let room = sym (c.has_room.ensures h.0 h.1 (subst (λ (x : Held). Holds h.0 x h.1) c.self.view_is h.2)) ∙ c.if-not-has_room.false in
+    let room = sym (c.has_room.ensures h.0 h.1 (subst (λ (x : Held). Holds h.0 x h.1) c.self.view_is h.2))
+    ∙ c.if-not-has_room.false in
     let segment = ap (λ (x : Held). has_segment x.accounts.nodes c.args.uid) c.self.view_is ∙ c.requires.segment in
-    let absent = ap (λ (x : Held). is_some (page_at x.pages c.args.uid (c.args.offset / 1024))) c.self.view_is ∙ c.requires.absent in
-    let short = subst (λ (x : Held). c.args.offset / 1024 < pages_in x.accounts.nodes c.args.uid) (sym c.self.view_is) c.requires.within in
-    let stores = store_done before after c.args.uid c.args.offset c.args.word c.volume_of-volume.result c.in-Ok.ensures.ok c.in_ok-put.ensures.ok
+    let absent = ap (λ (x : Held). is_some (page_at x.pages c.args.uid (c.args.offset / 1024))) c.self.view_is
+    ∙ c.requires.absent in
+    let short = subst (λ (x : Held). c.args.offset / 1024 < pages_in x.accounts.nodes c.args.uid) (sym c.self.view_is)
+    c.requires.within in
+    let stores = store_done before after c.args.uid c.args.offset c.args.word c.volume_of-volume.result
+    c.in-Ok.ensures.ok c.in_ok-put.ensures.ok
     c.volume_of-volume.ensures c.fill_at.ensures refl in (
       h.0,
       written h.1 c.args.uid c.args.offset c.args.word,
-      store_shown h.0 h.1 before after c.args.uid c.args.offset c.args.word h.2 segment short absent c.requires.other room stores,
+      store_shown h.0 h.1 before after c.args.uid c.args.offset c.args.word h.2 segment short absent c.requires.other
+          room stores,
     )
 
 pub returns-clause-ok : goal.returns-clause-ok
@@ -48,9 +54,13 @@ returns-clause-ok c = λ p s h room.
           c.self.inside.entries.items;
     } in
     let segment = ap (λ (x : Held). has_segment x.accounts.nodes c.args.uid) c.self.view_is ∙ c.requires.segment in
-    let absent = ap (λ (x : Held). is_some (page_at x.pages c.args.uid (c.args.offset / 1024))) c.self.view_is ∙ c.requires.absent in
-    let short = subst (λ (x : Held). c.args.offset / 1024 < pages_in x.accounts.nodes c.args.uid) (sym c.self.view_is) c.requires.within in
-    let stores = store_done before after c.args.uid c.args.offset c.args.word c.volume_of-volume.result c.in-Ok.ensures.ok c.in_ok-put.ensures.ok
+    let absent = ap (λ (x : Held). is_some (page_at x.pages c.args.uid (c.args.offset / 1024))) c.self.view_is
+    ∙ c.requires.absent in
+    let short = subst (λ (x : Held). c.args.offset / 1024 < pages_in x.accounts.nodes c.args.uid) (sym c.self.view_is)
+    c.requires.within in
+    let stores = store_done before after c.args.uid c.args.offset c.args.word c.volume_of-volume.result
+    c.in-Ok.ensures.ok c.in_ok-put.ensures.ok
     c.volume_of-volume.ensures c.fill_at.ensures refl in
-    store_shown p s before after c.args.uid c.args.offset c.args.word (held_inside p s before c.args.self.now c.self.view_is h) segment short absent
+    store_shown p s before after c.args.uid c.args.offset c.args.word
+    (held_inside p s before c.args.self.now c.self.view_is h) segment short absent
     c.requires.other room stores

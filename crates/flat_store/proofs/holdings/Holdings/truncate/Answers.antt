@@ -18,7 +18,9 @@ pub returns : goal.returns
 returns c = λ p s h.
     let uid : ℕ = c.in-Ok.node.now.uid in
     let n : Node = as_term (quota_in c.args.self.now.accounts.nodes) c.in-Ok.node.now in
-    let done = c.cut_page.ensures p (without_pages s uid (λ q. nat_le (c.args.words / 1024 + 1) q)) (c.drop_from.ensures p s h) in
+    let done = c.cut_page.ensures p (without_pages s uid (λ q. nat_le (c.args.words / 1024 + 1) q))
+    (c.drop_from.ensures p s h) in
     subst (λ (x : Store). Holds p c.cut_page.new.self x)
     (whole_cut c.args.self.now.pages s uid c.args.words h.pages
-    ∙ sym (truncate_done s c.args.path.now c.args.words n (ap (λ (ns : List Node). segment_at ns c.args.path.now) h.nodes ∙ c.in-Ok.ensures.ok))) done
+    ∙ sym (truncate_done s c.args.path.now c.args.words n
+    (ap (λ (ns : List Node). segment_at ns c.args.path.now) h.nodes ∙ c.in-Ok.ensures.ok))) done

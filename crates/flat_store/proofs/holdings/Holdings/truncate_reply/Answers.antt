@@ -5,8 +5,10 @@ use Rattle.flat_store.proofs.holdings.Holdings.truncate_reply.Goals as goal
 
 pub returns-in-Ok : goal.returns-in-Ok
 returns-in-Ok c = λ p s h.
-    truncate_told s c.args.self.now.accounts.nodes c.args.path.now h.nodes (as_term (quota_in c.args.self.now.accounts.nodes) c.in-Ok.field-0.now)
+    truncate_told s c.args.self.now.accounts.nodes c.args.path.now h.nodes
+    (as_term (quota_in c.args.self.now.accounts.nodes) c.in-Ok.field-0.now)
     c.in-Ok.ensures.ok
 
 pub returns-in-Err : goal.returns-in-Err
-returns-in-Err c = λ p s h. truncate_refused s c.args.self.now.accounts.nodes c.args.path.now h.nodes c.in-Err.reply c.in-Err.ensures.err
+returns-in-Err c = λ p s h. truncate_refused s c.args.self.now.accounts.nodes c.args.path.now h.nodes c.in-Err.reply
+    c.in-Err.ensures.err

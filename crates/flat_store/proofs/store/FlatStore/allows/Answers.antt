@@ -8,7 +8,8 @@ use Rattle.flat_store.proofs.store.FlatStore.allows.Goals as goal
 pub returns-in-Do : goal.returns-in-Do
 returns-in-Do c = λ s h.
     subst (λ (e : Entry). IsTrue c.allows_do.result ↔ IsLawful c.args.script.now s e) (sym c.in-Do.is)
-    (do_allowed c.args.script.now s c.in-Do.process c.in-Do.place c.in-Do.cpu c.in-Do.frame c.in-Do.reply c.allows_do.result (c.allows_do.ensures s h))
+    (do_allowed c.args.script.now s c.in-Do.process c.in-Do.place c.in-Do.cpu c.in-Do.frame c.in-Do.reply
+    c.allows_do.result (c.allows_do.ensures s h))
 
 pub returns-in-Release : goal.returns-in-Release
 returns-in-Release c = λ s h.
@@ -20,8 +21,12 @@ returns-in-Release c = λ s h.
 pub returns-in-Fault : goal.returns-in-Fault
 returns-in-Fault c = λ s h.
     subst (λ (e : Entry). IsTrue c.allows_fault.result ↔ IsLawful c.args.script.now s e) (sym c.in-Fault.is)
-    (fault_allowed c.args.script.now s c.in-Fault.process c.allows_fault.result (c.allows_fault.ensures c.args.script.now s h))
+    (fault_allowed c.args.script.now s c.in-Fault.process c.allows_fault.result
+    (c.allows_fault.ensures c.args.script.now s h))
 
 pub returns-in_default : goal.returns-in_default
-returns-in_default c = λ s h.
-    (λ is. quiet_lawful c.args.script.now s c.args.e c.in_default.not-Do c.in_default.not-Release c.in_default.not-Fault, λ lawful. refl)
+returns-in_default c = λ s h. (
+  λ is. quiet_lawful c.args.script.now s c.args.e c.in_default.not-Do c.in_default.not-Release
+      c.in_default.not-Fault,
+  λ lawful. refl,
+)

@@ -7,7 +7,11 @@ use Rattle.flat_store.proofs.store.FlatStore.boot.Goals as goal
 pub returns : goal.returns
 returns c =
     let p = c.args.script.now in
-    let kept : Kept = record { held = c.in_ok-holdings.holdings; known = c.in_ok-known.known.items; processes = c.in_ok-processes.processes.items } in
+    let kept : Kept = record {
+      held = c.in_ok-holdings.holdings;
+      known = c.in_ok-known.known.items;
+      processes = c.in_ok-processes.processes.items;
+    } in
     shown_boot p kept c.processes-processes.ensures.plan c.in_ok-holdings.ensures
     (c.in_ok-known.ensures ∙ ap (λ (n : ℕ). replicate n (replicate 256 None)) c.processes-processes.ensures.count)
     (c.in_ok-processes.ensures ∙ ap (λ (n : ℕ). replicate n at_first) c.processes-processes.ensures.count)

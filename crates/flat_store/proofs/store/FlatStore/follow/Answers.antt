@@ -5,7 +5,8 @@ use Rattle.flat_model.specs.Commands.{after_command}
 use Rattle.flat_model.specs.Legal.{IsLawful, IsLawfulDo, after_entry}
 use Rattle.flat_model.specs.Store.{Store}
 use Rattle.flat_store.specs.Shown.{Shows}
-use Rattle.flat_store.proofs.FollowLaws.{after_do_is, after_fault_is, after_release_is, do_lawful, fault_lawful, no_command, quiet, release_lawful}
+use Rattle.flat_store.proofs.FollowLaws.{after_do_is, after_fault_is, after_release_is, do_lawful, fault_lawful}
+use Rattle.flat_store.proofs.FollowLaws.{no_command, quiet, release_lawful}
 use Rattle.flat_store.proofs.OkLaws.{on_ok}
 use Rattle.flat_store.proofs.store.FlatStore.follow.Goals as goal
 
@@ -13,15 +14,19 @@ pub returns-in-Some-clause-ok : goal.returns-in-Some-clause-ok
 returns-in-Some-clause-ok c =
     let p = c.args.script.now in
     on_ok c.follow_do.result
-    ((s : Store) (place : ℕ) → Shows p c.args.self.now s → command_at p c.in-Do.process place ≡ Some c.in-Some.command.now
+    ((s : Store) (place : ℕ) → Shows p c.args.self.now s
+    → command_at p c.in-Do.process place ≡ Some c.in-Some.command.now
     → IsLawfulDo p s c.in-Do.process place c.in-Do.reply
     → Shows p c.follow_do.new.self (after_command p s c.in-Do.process c.in-Some.command.now c.in-Do.reply))
-    ((s : Store) → Shows p c.args.self.now s → IsLawful p s c.args.e → Shows p c.follow_do.new.self (after_entry p s c.args.e))
+    ((s : Store) → Shows p c.args.self.now s → IsLawful p s c.args.e
+    → Shows p c.follow_do.new.self (after_entry p s c.args.e))
     (λ f s h lawful.
-    let own = do_lawful p s c.in-Do.process c.in-Do.place c.in-Do.cpu c.in-Do.frame c.in-Do.reply (subst (λ (e : Entry). IsLawful p s e) c.in-Do.is lawful) in
+    let own = do_lawful p s c.in-Do.process c.in-Do.place c.in-Do.cpu c.in-Do.frame c.in-Do.reply
+    (subst (λ (e : Entry). IsLawful p s e) c.in-Do.is lawful) in
     subst (λ (e : Entry). Shows p c.follow_do.new.self (after_entry p s e)) (sym c.in-Do.is)
     (subst (λ (t : Store). Shows p c.follow_do.new.self t)
-    (after_do_is p s c.in-Do.process c.in-Do.place c.in-Do.cpu c.in-Do.frame c.in-Do.reply c.in-Some.command.now c.in-Some.ensures.some)
+    (after_do_is p s c.in-Do.process c.in-Do.place c.in-Do.cpu c.in-Do.frame c.in-Do.reply c.in-Some.command.now
+    c.in-Some.ensures.some)
     (f s c.in-Do.place h c.in-Some.ensures.some own)))
     c.follow_do.ensures.ok
 
@@ -29,22 +34,27 @@ pub returns-in-None-clause-ok : goal.returns-in-None-clause-ok
 returns-in-None-clause-ok c = λ s h lawful.
     let p = c.args.script.now in
     subst (λ (e : Entry). Shows p c.args.self.now (after_entry p s e)) (sym c.in-Do.is)
-    (subst (λ (t : Store). Shows p c.args.self.now t) (no_command p s c.in-Do.process c.in-Do.place c.in-Do.cpu c.in-Do.frame c.in-Do.reply
+    (subst (λ (t : Store). Shows p c.args.self.now t)
+    (no_command p s c.in-Do.process c.in-Do.place c.in-Do.cpu c.in-Do.frame c.in-Do.reply
     c.in-None.ensures.none) h)
 
 pub returns-in-Release-clause-ok : goal.returns-in-Release-clause-ok
 returns-in-Release-clause-ok c = λ s h lawful.
     let p = c.args.script.now in
     subst (λ (e : Entry). Shows p c.follow_release.new.self (after_entry p s e)) (sym c.in-Release.is)
-    (subst (λ (t : Store). Shows p c.follow_release.new.self t) (after_release_is p s c.in-Release.uid c.in-Release.page)
-    (c.follow_release.ensures p s h (release_lawful p s c.in-Release.uid c.in-Release.page (subst (λ (e : Entry). IsLawful p s e) c.in-Release.is lawful))))
+    (subst (λ (t : Store). Shows p c.follow_release.new.self t)
+    (after_release_is p s c.in-Release.uid c.in-Release.page)
+    (c.follow_release.ensures p s h
+    (release_lawful p s c.in-Release.uid c.in-Release.page
+    (subst (λ (e : Entry). IsLawful p s e) c.in-Release.is lawful))))
 
 pub returns-in-Fault-clause-ok : goal.returns-in-Fault-clause-ok
 returns-in-Fault-clause-ok c = λ s h lawful.
     let p = c.args.script.now in
     subst (λ (e : Entry). Shows p c.follow_fault.new.self (after_entry p s e)) (sym c.in-Fault.is)
     (subst (λ (t : Store). Shows p c.follow_fault.new.self t) (after_fault_is p s c.in-Fault.process)
-    (c.follow_fault.ensures p s h (fault_lawful p s c.in-Fault.process (subst (λ (e : Entry). IsLawful p s e) c.in-Fault.is lawful))))
+    (c.follow_fault.ensures p s h
+    (fault_lawful p s c.in-Fault.process (subst (λ (e : Entry). IsLawful p s e) c.in-Fault.is lawful))))
 
 pub returns-in_default : goal.returns-in_default
 returns-in_default c = record {

@@ -13,5 +13,6 @@ returns-clause-ok c = λ s place h at lawful.
     let shown = c.in_ok-effect_of_reply.ensures.ok s h.shown (few_uids p s h.reached)
     (effect_due p s c.args.process place c.args.command.now c.args.reply.now at lawful) in
     go_shown p mid after s c.args.process place c.args.command.now c.args.reply.now h.reached
-    (subst (λ (k : Kept). IsShown p k (answered p s c.args.process c.args.command.now c.args.reply.now)) (sym c.self.view_is) shown) at lawful
+    (subst (λ (k : Kept). IsShown p k (answered p s c.args.process c.args.command.now c.args.reply.now))
+    (sym c.self.view_is) shown) at lawful
     c.go_on.ensures refl

@@ -11,4 +11,5 @@ returns-in-Some c = λ p s h may.
     let after : Kept = record inside { processes = c.fault.new.processes.items } in
     let shown = subst (λ (k : Kept). Shows p k s) (sym c.self.view_is) h in
     subst (λ (o : Option ℕ). Shows p after (after_fault s o)) (sym c.in-Some.is)
-    (fault_shown p inside after s c.in-Some.process shown refl c.fault.ensures (subst (λ (o : Option ℕ). MayFault s o) c.in-Some.is may))
+    (fault_shown p inside after s c.in-Some.process shown refl c.fault.ensures
+    (subst (λ (o : Option ℕ). MayFault s o) c.in-Some.is may))

@@ -20,11 +20,14 @@ returns-in-Ok c = λ p s h.
     let change : List (Option ℕ) → List (Option ℕ) = λ kst. with_number kst uid (number_for kst uid) in
     let numbers = ap change (sym (numbers_are p inside s shown c.args.process)) in
     subst (λ (x : Store). IsShown p after x) (sym (after_initiate_is s c.args.process c.args.path.now n found))
-    (numbers_shown p inside after s c.args.process (change (numbers_of s c.args.process)) (change (numbers_at c.self.inside.known.items c.args.process))
+    (numbers_shown p inside after s c.args.process (change (numbers_of s c.args.process))
+    (change (numbers_at c.self.inside.known.items c.args.process))
     shown refl c.make_known.ensures numbers)
 
 pub returns-in_default : goal.returns-in_default
 returns-in_default c = λ p s h.
-    let found = ap (λ (ns : List Node). segment_at ns c.args.path.now) (h.holds.nodes ∙ ap (λ (k : Kept). k.held.accounts.nodes) (sym c.self.view_is))
+    let found = ap (λ (ns : List Node). segment_at ns c.args.path.now) (h.holds.nodes
+    ∙ ap (λ (k : Kept). k.held.accounts.nodes) (sym c.self.view_is))
     ∙ c.in_default.ensures.err in
-    subst (λ (x : Store). IsShown p c.args.self.now x) (sym (initiate_stays s c.args.process c.args.path.now c.in_default.field-0 found)) h
+    subst (λ (x : Store). IsShown p c.args.self.now x)
+    (sym (initiate_stays s c.args.process c.args.path.now c.in_default.field-0 found)) h

@@ -11,8 +11,10 @@ pub returns-in-Some : goal.returns-in-Some
 returns-in-Some c = λ p s h.
     let inside : Kept = the_view c.self.inside in
     let shown = subst (λ (k : Kept). IsShown p k s) (sym c.self.view_is) h in
-    let numbers = ap (λ (known : List (List (Option ℕ))). number_for (numbers_at known c.args.process) c.in-Ok.node.now.uid) c.deref.ensures.value in
-    initiate_told p inside s shown c.args.process c.args.path.now (as_term (quota_in c.self.inside.holdings.accounts.nodes) c.in-Ok.node.now)
+    let numbers = ap (λ (known : List (List (Option ℕ))). number_for (numbers_at known c.args.process)
+    c.in-Ok.node.now.uid) c.deref.ensures.value in
+    initiate_told p inside s shown c.args.process c.args.path.now
+    (as_term (quota_in c.self.inside.holdings.accounts.nodes) c.in-Ok.node.now)
     (Some c.in-Some.number) c.in-Ok.ensures.ok
     (c.in-Some.ensures ∙ numbers)
 
@@ -20,8 +22,10 @@ pub returns-in-None : goal.returns-in-None
 returns-in-None c = λ p s h.
     let inside : Kept = the_view c.self.inside in
     let shown = subst (λ (k : Kept). IsShown p k s) (sym c.self.view_is) h in
-    let numbers = ap (λ (known : List (List (Option ℕ))). number_for (numbers_at known c.args.process) c.in-Ok.node.now.uid) c.deref.ensures.value in
-    initiate_told p inside s shown c.args.process c.args.path.now (as_term (quota_in c.self.inside.holdings.accounts.nodes) c.in-Ok.node.now) None
+    let numbers = ap (λ (known : List (List (Option ℕ))). number_for (numbers_at known c.args.process)
+    c.in-Ok.node.now.uid) c.deref.ensures.value in
+    initiate_told p inside s shown c.args.process c.args.path.now
+    (as_term (quota_in c.self.inside.holdings.accounts.nodes) c.in-Ok.node.now) None
     c.in-Ok.ensures.ok (c.in-None.ensures ∙ numbers)
 
 pub returns-in-Err : goal.returns-in-Err

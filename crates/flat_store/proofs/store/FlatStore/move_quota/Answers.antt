@@ -17,5 +17,7 @@ returns c = λ p s h effect.
     let fits : SFits w32 c.args.amount.now = search rules in
     let back = to_z-of_z w32 c.args.amount.now fits in
     let done = subst (λ (a : ℤ). Holds p c.move_quota.new.self (after_move s c.args.path.now a)) back
-    (c.move_quota.ensures p s shown.holds (subst (λ (a : ℤ). takes_effect (move_reply s c.args.path.now a) ≡ true) (sym back) effect)) in
-    effect_shown p inside after s (after_move s c.args.path.now c.args.amount.now) shown done (move_keeps s c.args.path.now c.args.amount.now) refl
+    (c.move_quota.ensures p s shown.holds
+    (subst (λ (a : ℤ). takes_effect (move_reply s c.args.path.now a) ≡ true) (sym back) effect)) in
+    effect_shown p inside after s (after_move s c.args.path.now c.args.amount.now) shown done
+    (move_keeps s c.args.path.now c.args.amount.now) refl

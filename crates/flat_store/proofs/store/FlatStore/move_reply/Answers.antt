@@ -9,4 +9,5 @@ pub returns : goal.returns
 returns c = λ p s h.
     let fits : SFits w32 c.args.amount.now = search rules in
     let shown = subst (λ (k : Kept). IsShown p k s) (sym c.self.view_is) h in
-    c.move_reply.ensures p s shown.holds ∙ ap (λ (a : ℤ). move_reply s c.args.path.now a) (to_z-of_z w32 c.args.amount.now fits)
+    c.move_reply.ensures p s shown.holds
+    ∙ ap (λ (a : ℤ). move_reply s c.args.path.now a) (to_z-of_z w32 c.args.amount.now fits)

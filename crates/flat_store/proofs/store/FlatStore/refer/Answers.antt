@@ -14,11 +14,15 @@ returns-in_ok-refer-clause-ok c = λ p s h effect.
     let after : Kept = record inside { held = c.refer.new.self } in
     let shown = subst (λ (k : Kept). IsShown p k s) (sym c.self.view_is) h in
     let uid = c.in-Some.ensures
-    ∙ ap (λ (known : List (List (Option ℕ))). uid_of (numbers_at known c.args.process) c.args.reference.now.number) c.deref.ensures.value in
+    ∙ ap (λ (known : List (List (Option ℕ))). uid_of (numbers_at known c.args.process) c.args.reference.now.number)
+    c.deref.ensures.value in
     let is = uid_known p inside s shown c.args.process c.args.reference.now.number (Some c.in-Some.uid) uid in
-    let done = c.in_ok-refer.ensures.ok p s c.args.process shown.holds (reference_asked p s c.args.process c.args.reference.now c.in-Some.uid is effect) in
-    subst (λ (x : Store). IsShown p after x) (after_reference_is s c.args.process c.args.reference.now (Some c.in-Some.uid) is)
-    (effect_shown p inside after s (written_by s c.args.reference.now.offset c.args.reference.now.kind (Some c.in-Some.uid)) shown done
+    let done = c.in_ok-refer.ensures.ok p s c.args.process shown.holds
+    (reference_asked p s c.args.process c.args.reference.now c.in-Some.uid is effect) in
+    subst (λ (x : Store). IsShown p after x)
+    (after_reference_is s c.args.process c.args.reference.now (Some c.in-Some.uid) is)
+    (effect_shown p inside after s
+    (written_by s c.args.reference.now.offset c.args.reference.now.kind (Some c.in-Some.uid)) shown done
     (written_keeps s c.args.reference.now.offset c.args.reference.now.kind (Some c.in-Some.uid)) refl)
 
 pub returns-in_default-clause-ok : goal.returns-in_default-clause-ok
@@ -26,6 +30,8 @@ returns-in_default-clause-ok c = λ p s h effect.
     let inside : Kept = the_view c.self.inside in
     let shown = subst (λ (k : Kept). IsShown p k s) (sym c.self.view_is) h in
     let uid = c.in_default.ensures
-    ∙ ap (λ (known : List (List (Option ℕ))). uid_of (numbers_at known c.args.process) c.args.reference.now.number) c.deref.ensures.value in
+    ∙ ap (λ (known : List (List (Option ℕ))). uid_of (numbers_at known c.args.process) c.args.reference.now.number)
+    c.deref.ensures.value in
     let is = uid_known p inside s shown c.args.process c.args.reference.now.number None uid in
-    subst (λ (x : Store). IsShown p c.args.self.now x) (after_reference_is s c.args.process c.args.reference.now None is) h
+    subst (λ (x : Store). IsShown p c.args.self.now x)
+    (after_reference_is s c.args.process c.args.reference.now None is) h

@@ -15,13 +15,16 @@ pub returns-in-Some : goal.returns-in-Some
 returns-in-Some c = λ s h.
     let inside : Kept = the_view c.self.inside in
     let shown = subst (λ (k : Kept). IsShown c.args.script.now k s) (sym c.self.view_is) h in
-    let uid = ap (λ (known : List (List (Option ℕ))). uid_of (numbers_at known c.args.process) c.args.reference.now.number) c.deref.ensures.value in
+    let uid = ap (λ (known : List (List (Option ℕ))). uid_of (numbers_at known c.args.process)
+    c.args.reference.now.number) c.deref.ensures.value in
     c.reply_at.ensures c.args.script.now s c.args.process shown.holds c.who-who.ensures
-    ∙ reference_told c.args.script.now inside s shown c.args.process c.args.reference.now (Some c.in-Some.uid) (c.in-Some.ensures ∙ uid)
+    ∙ reference_told c.args.script.now inside s shown c.args.process c.args.reference.now (Some c.in-Some.uid)
+    (c.in-Some.ensures ∙ uid)
 
 pub returns-in-None : goal.returns-in-None
 returns-in-None c = λ s h.
     let inside : Kept = the_view c.self.inside in
     let shown = subst (λ (k : Kept). IsShown c.args.script.now k s) (sym c.self.view_is) h in
-    let uid = ap (λ (known : List (List (Option ℕ))). uid_of (numbers_at known c.args.process) c.args.reference.now.number) c.deref.ensures.value in
+    let uid = ap (λ (known : List (List (Option ℕ))). uid_of (numbers_at known c.args.process)
+    c.args.reference.now.number) c.deref.ensures.value in
     reference_told c.args.script.now inside s shown c.args.process c.args.reference.now None (c.in-None.ensures ∙ uid)

@@ -30,4 +30,5 @@ returns-in-Status c = λ p s h.
     ∙ ap (λ (x : Command). reply_to_tree_command p s c.args.process x) (sym c.in-Status.is)
 
 pub returns-in-Move : goal.returns-in-Move
-returns-in-Move c = λ p s h. c.move_reply.ensures p s h ∙ ap (λ (x : Command). reply_to_tree_command p s c.args.process x) (sym c.in-Move.is)
+returns-in-Move c = λ p s h. c.move_reply.ensures p s h
+    ∙ ap (λ (x : Command). reply_to_tree_command p s c.args.process x) (sym c.in-Move.is)

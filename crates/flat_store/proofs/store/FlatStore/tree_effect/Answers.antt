@@ -19,8 +19,10 @@ returns-in-MkDir c = λ s h few effect.
     let inside : Kept = the_view c.self.inside in
     let after : Kept = record inside { held = c.make.new.self } in
     let shown = subst (λ (k : Kept). IsShown p k s) (sym c.self.view_is) h in
-    let asked = subst (λ (x : Command). takes_effect (reply_to_tree_command p s c.args.process x) ≡ true) c.in-MkDir.is effect in
-    let done = subst (λ (rows : List Row). Holds p c.make.new.self (after_make s c.in-MkDir.path c.in-MkDir.volume true 0 rows)) c.none.ensures
+    let asked = subst (λ (x : Command). takes_effect (reply_to_tree_command p s c.args.process x) ≡ true) c.in-MkDir.is
+    effect in
+    let done = subst (λ (rows : List Row). Holds p c.make.new.self
+    (after_make s c.in-MkDir.path c.in-MkDir.volume true 0 rows)) c.none.ensures
     (c.make.ensures p s shown.holds few asked) in
     subst (λ (x : Command). IsShown p after (effect_of_tree_command p s c.args.process x)) (sym c.in-MkDir.is)
     (effect_shown p inside after s (after_make s c.in-MkDir.path c.in-MkDir.volume true 0 []) shown done
@@ -32,13 +34,18 @@ returns-in-MkSeg c = λ s h few effect.
     let inside : Kept = the_view c.self-in-MkSeg.inside in
     let after : Kept = record inside { held = c.make-in-MkSeg.new.self } in
     let shown = subst (λ (k : Kept). IsShown p k s) (sym c.self-in-MkSeg.view_is) h in
-    let asked = subst (λ (x : Command). takes_effect (reply_to_tree_command p s c.args.process x) ≡ true) c.in-MkSeg.is effect in
+    let asked = subst (λ (x : Command). takes_effect (reply_to_tree_command p s c.args.process x) ≡ true) c.in-MkSeg.is
+    effect in
     let rows = c.of-acl.ensures ∙ ap (λ (w : Who). owner_row w ∷ []) (c.copied.ensures ∙ c.who.ensures) in
-    let done = subst (λ (rows : List Row). Holds p c.make-in-MkSeg.new.self (after_make s c.in-MkSeg.path c.in-MkSeg.volume false c.in-MkSeg.pages rows)) rows
+    let done = subst (λ (rows : List Row). Holds p c.make-in-MkSeg.new.self
+    (after_make s c.in-MkSeg.path c.in-MkSeg.volume false c.in-MkSeg.pages rows)) rows
     (c.make-in-MkSeg.ensures p s shown.holds few asked) in
     subst (λ (x : Command). IsShown p after (effect_of_tree_command p s c.args.process x)) (sym c.in-MkSeg.is)
-    (effect_shown p inside after s (after_make s c.in-MkSeg.path c.in-MkSeg.volume false c.in-MkSeg.pages (owner_row (who_of p c.args.process) ∷ []))
-    shown done (make_keeps s c.in-MkSeg.path c.in-MkSeg.volume false c.in-MkSeg.pages (owner_row (who_of p c.args.process) ∷ [])) refl)
+    (effect_shown p inside after s
+    (after_make s c.in-MkSeg.path c.in-MkSeg.volume false c.in-MkSeg.pages
+    (owner_row (who_of p c.args.process) ∷ []))
+    shown done (make_keeps s c.in-MkSeg.path c.in-MkSeg.volume false c.in-MkSeg.pages
+    (owner_row (who_of p c.args.process) ∷ [])) refl)
 
 pub returns-in-Acl : goal.returns-in-Acl
 returns-in-Acl c = λ s h few effect.
@@ -46,9 +53,11 @@ returns-in-Acl c = λ s h few effect.
     let inside : Kept = the_view c.self-in-Acl.inside in
     let after : Kept = record inside { held = c.set_row.new.self } in
     let shown = subst (λ (k : Kept). IsShown p k s) (sym c.self-in-Acl.view_is) h in
-    let asked = subst (λ (x : Command). takes_effect (reply_to_tree_command p s c.args.process x) ≡ true) c.in-Acl.is effect in
+    let asked = subst (λ (x : Command). takes_effect (reply_to_tree_command p s c.args.process x) ≡ true) c.in-Acl.is
+    effect in
     subst (λ (x : Command). IsShown p after (effect_of_tree_command p s c.args.process x)) (sym c.in-Acl.is)
-    (effect_shown p inside after s (after_acl s c.in-Acl.path c.in-Acl.row c.in-Acl.mode) shown (c.set_row.ensures p s shown.holds asked)
+    (effect_shown p inside after s (after_acl s c.in-Acl.path c.in-Acl.row c.in-Acl.mode) shown
+    (c.set_row.ensures p s shown.holds asked)
     (acl_keeps s c.in-Acl.path c.in-Acl.row c.in-Acl.mode) refl)
 
 pub returns-in-Length : goal.returns-in-Length
@@ -57,9 +66,11 @@ returns-in-Length c = λ s h few effect.
     let inside : Kept = the_view c.self-in-Length.inside in
     let after : Kept = record inside { held = c.set_length.new.self } in
     let shown = subst (λ (k : Kept). IsShown p k s) (sym c.self-in-Length.view_is) h in
-    let asked = subst (λ (x : Command). takes_effect (reply_to_tree_command p s c.args.process x) ≡ true) c.in-Length.is effect in
+    let asked = subst (λ (x : Command). takes_effect (reply_to_tree_command p s c.args.process x) ≡ true) c.in-Length.is
+    effect in
     subst (λ (x : Command). IsShown p after (effect_of_tree_command p s c.args.process x)) (sym c.in-Length.is)
-    (effect_shown p inside after s (after_length s c.in-Length.path c.in-Length.pages) shown (c.set_length.ensures p s shown.holds asked)
+    (effect_shown p inside after s (after_length s c.in-Length.path c.in-Length.pages) shown
+    (c.set_length.ensures p s shown.holds asked)
     (length_keeps s c.in-Length.path c.in-Length.pages) refl)
 
 pub returns-in-Truncate : goal.returns-in-Truncate
@@ -68,9 +79,11 @@ returns-in-Truncate c = λ s h few effect.
     let inside : Kept = the_view c.self-in-Truncate.inside in
     let after : Kept = record inside { held = c.truncate.new.self } in
     let shown = subst (λ (k : Kept). IsShown p k s) (sym c.self-in-Truncate.view_is) h in
-    let asked = subst (λ (x : Command). takes_effect (reply_to_tree_command p s c.args.process x) ≡ true) c.in-Truncate.is effect in
+    let asked = subst (λ (x : Command). takes_effect (reply_to_tree_command p s c.args.process x) ≡ true)
+    c.in-Truncate.is effect in
     subst (λ (x : Command). IsShown p after (effect_of_tree_command p s c.args.process x)) (sym c.in-Truncate.is)
-    (effect_shown p inside after s (after_truncate s c.in-Truncate.path c.in-Truncate.words) shown (c.truncate.ensures p s shown.holds)
+    (effect_shown p inside after s (after_truncate s c.in-Truncate.path c.in-Truncate.words) shown
+    (c.truncate.ensures p s shown.holds)
     (truncate_keeps s c.in-Truncate.path c.in-Truncate.words) refl)
 
 pub returns-in-Delete : goal.returns-in-Delete
@@ -79,6 +92,8 @@ returns-in-Delete c = λ s h few effect.
     let inside : Kept = the_view c.self-in-Delete.inside in
     let after : Kept = record inside { held = c.delete.new.self } in
     let shown = subst (λ (k : Kept). IsShown p k s) (sym c.self-in-Delete.view_is) h in
-    let asked = subst (λ (x : Command). takes_effect (reply_to_tree_command p s c.args.process x) ≡ true) c.in-Delete.is effect in
+    let asked = subst (λ (x : Command). takes_effect (reply_to_tree_command p s c.args.process x) ≡ true) c.in-Delete.is
+    effect in
     subst (λ (x : Command). IsShown p after (effect_of_tree_command p s c.args.process x)) (sym c.in-Delete.is)
-    (effect_shown p inside after s (after_delete s c.in-Delete.path) shown (c.delete.ensures p s shown.holds asked) (delete_keeps s c.in-Delete.path) refl)
+    (effect_shown p inside after s (after_delete s c.in-Delete.path) shown (c.delete.ensures p s shown.holds asked)
+    (delete_keeps s c.in-Delete.path) refl)
