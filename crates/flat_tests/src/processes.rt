@@ -193,3 +193,53 @@ do 0.1 0 - done",
     );
     Ok(())
 }
+
+#[test]
+fn a_right_is_asked_for_before_the_length(rt: HostRuntime) -> Result<(), Fail> {
+    let script = b"machine 1 4 12 1 1 1
+quota 4
+volume alpha 8 4
+process Smith
+mkseg >s 1 alpha
+end
+process Jones
+initiate >s
+read 0 1024
+read 1 1024
+end
+";
+    let entries = "do 0.0 0 - made 2
+do 1.0 0 - known 0
+do 1.1 0 - noaccess
+do 1.2 0 - unknown";
+    let ends = "> quota 4 used 0
+volume alpha records 8 taken 0 entries 4 taken 2
+";
+    expect_ends(&rt, script, entries, &[], ends)
+}
+
+#[test]
+fn an_await_has_an_answer_for_each_try(rt: HostRuntime) -> Result<(), Fail> {
+    let script = b"machine 1 4 12 1 1 1
+quota 4
+volume alpha 8 4
+process Smith
+mkseg >s 1 alpha
+initiate >s
+await 0 0 5 2
+await 0 0 0 2
+await 0 1024 0 2
+end
+";
+    let entries = "do 0.0 0 - made 2
+do 0.1 0 - known 0
+do 0.2 0 - word 000000000000
+do 0.2 0 - word 000000000000
+do 0.3 0 - word 000000000000
+do 0.4 0 - length
+do 0.5 0 - done";
+    let ends = "> quota 4 used 0
+volume alpha records 8 taken 0 entries 4 taken 2
+";
+    expect_ends(&rt, script, entries, &[], ends)
+}

@@ -227,6 +227,39 @@ word 3 1024 000000000001
 }
 
 #[test]
+fn no_quota_is_given_that_is_used(rt: HostRuntime) -> Result<(), Fail> {
+    let script = b"machine 1 4 12 1 1 1
+quota 4
+volume alpha 8 4
+process Smith
+mkdir >a alpha
+mkseg >s 2 alpha
+initiate >s
+write 0 0 1
+write 0 1024 1
+move >a +3
+move >a +2
+end
+";
+    let entries = "do 0.0 0 - made 2
+do 0.1 0 - made 3
+do 0.2 0 - known 0
+do 0.3 0 - done
+do 0.4 0 - done
+do 0.5 0 - over 1
+do 0.6 0 - done
+do 0.7 0 - done";
+    let ends = "> quota 2 used 2
+>a quota 2 used 0
+volume alpha records 8 taken 2 entries 4 taken 3
+used 1 2
+word 3 0 000000000001
+word 3 1024 000000000001
+";
+    expect_ends(&rt, script, entries, &[(3, 0), (3, 1024)], ends)
+}
+
+#[test]
 fn what_has_an_inferior_or_quota_is_not_deleted(rt: HostRuntime) -> Result<(), Fail> {
     let script = b"machine 1 4 12 1 1 1
 quota 4
