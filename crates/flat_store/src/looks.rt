@@ -1,4 +1,4 @@
-ghost use Rattle.std.specs.Prelude.{◌≡◌, ◌/◌, ℕ, is_some, None};
+ghost use Rattle.std.specs.Prelude.{◌≡◌, ◌/◌, ◌<◌, ℕ, is_some, IsSome, None};
 ghost use Rattle.script.specs.Plans.{Plan};
 ghost use Rattle.tree_model.specs.Tree.{entries_on, node_in, taken_on, used_by};
 ghost use Rattle.accounts.specs.Maps.{Counts};
@@ -146,9 +146,10 @@ impl FlatStore {
         }
     }
 
-    /// The uid of the segment that a number of a process stands for. `None` where it stands for none.
+    /// The uid of the segment that a number of a process stands for. `None` where it stands for none, as from 256 on.
     pub fn known(&self, process: u32, number: u32) -> Option<u32>
-        ensures { (p : Plan) (store : Store) → Shows p self.now store → result ≡ known_uid store process number }
+        ensures known { (p : Plan) (store : Store) → Shows p self.now store → result ≡ known_uid store process number }
+        ensures within { IsSome result → number < 256 }
     {
         uid_of(&self.known, process, number)
     }

@@ -1,4 +1,4 @@
-ghost use Rattle.std.specs.Prelude.{◌≡◌, ◌<◌, ℕ, is_some, true, slice_set, slice_index_or, IfSome};
+ghost use Rattle.std.specs.Prelude.{◌≡◌, ◌<◌, ℕ, is_some, true, slice_set, slice_index_or, IfSome, IsSome};
 ghost use Rattle.known_segs.specs.Known.{least_free, number_for, uid_of, with_number, without_number};
 ghost use Rattle.flat_store.specs.Shown.{numbers_at};
 
@@ -17,9 +17,10 @@ fn least_free(kst: &Kst) -> Option<u32>
     None
 }
 
-/// The uid that a number of a process stands for.
+/// The uid that a number of a process stands for. `None` from number 256 on.
 pub(crate) fn uid_of(known: &[Kst], process: u32, number: u32) -> Option<u32>
-    ensures { result ≡ uid_of (numbers_at known.now process) number }
+    ensures uid { result ≡ uid_of (numbers_at known.now process) number }
+    ensures within { IsSome result → number < 256 }
 {
     match known.get(process as usize) {
         Some(kst) => kst.uid_of(number),

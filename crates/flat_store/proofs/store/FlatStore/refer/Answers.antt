@@ -13,7 +13,7 @@ returns-in_ok-refer-clause-ok c = λ p s h effect.
     let inside : Kept = the_view c.self.inside in
     let after : Kept = record inside { held = c.refer.new.self } in
     let shown = subst (λ (k : Kept). IsShown p k s) (sym c.self.view_is) h in
-    let uid = c.in-Some.ensures
+    let uid = c.in-Some.ensures.uid
     ∙ ap (λ (known : List (List (Option ℕ))). uid_of (numbers_at known c.args.process) c.args.reference.now.number)
     c.deref.ensures.value in
     let is = uid_known p inside s shown c.args.process c.args.reference.now.number (Some c.in-Some.uid) uid in
@@ -29,7 +29,7 @@ pub returns-in_default-clause-ok : goal.returns-in_default-clause-ok
 returns-in_default-clause-ok c = λ p s h effect.
     let inside : Kept = the_view c.self.inside in
     let shown = subst (λ (k : Kept). IsShown p k s) (sym c.self.view_is) h in
-    let uid = c.in_default.ensures
+    let uid = c.in_default.ensures.uid
     ∙ ap (λ (known : List (List (Option ℕ))). uid_of (numbers_at known c.args.process) c.args.reference.now.number)
     c.deref.ensures.value in
     let is = uid_known p inside s shown c.args.process c.args.reference.now.number None uid in

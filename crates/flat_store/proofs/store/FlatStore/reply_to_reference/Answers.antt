@@ -19,7 +19,7 @@ returns-in-Some c = λ s h.
     c.args.reference.now.number) c.deref.ensures.value in
     c.reply_at.ensures c.args.script.now s c.args.process shown.holds c.who-who.ensures
     ∙ reference_told c.args.script.now inside s shown c.args.process c.args.reference.now (Some c.in-Some.uid)
-    (c.in-Some.ensures ∙ uid)
+    (c.in-Some.ensures.uid ∙ uid)
 
 pub returns-in-None : goal.returns-in-None
 returns-in-None c = λ s h.
@@ -27,4 +27,4 @@ returns-in-None c = λ s h.
     let shown = subst (λ (k : Kept). IsShown c.args.script.now k s) (sym c.self.view_is) h in
     let uid = ap (λ (known : List (List (Option ℕ))). uid_of (numbers_at known c.args.process)
     c.args.reference.now.number) c.deref.ensures.value in
-    reference_told c.args.script.now inside s shown c.args.process c.args.reference.now None (c.in-None.ensures ∙ uid)
+    reference_told c.args.script.now inside s shown c.args.process c.args.reference.now None (c.in-None.ensures.uid ∙ uid)

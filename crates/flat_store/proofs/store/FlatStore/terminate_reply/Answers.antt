@@ -11,7 +11,7 @@ returns-in-Some c = λ p s h.
     let shown = subst (λ (k : Kept). IsShown p k s) (sym c.self.view_is) h in
     let uid = ap (λ (known : List (List (Option ℕ))). uid_of (numbers_at known c.args.process) c.args.number)
     c.deref.ensures.value in
-    terminate_told p inside s shown c.args.process c.args.number (Some c.in-Some.field-0) (c.in-Some.ensures ∙ uid)
+    terminate_told p inside s shown c.args.process c.args.number (Some c.in-Some.field-0) (c.in-Some.ensures.uid ∙ uid)
 
 pub returns-in-None : goal.returns-in-None
 returns-in-None c = λ p s h.
@@ -19,4 +19,4 @@ returns-in-None c = λ p s h.
     let shown = subst (λ (k : Kept). IsShown p k s) (sym c.self.view_is) h in
     let uid = ap (λ (known : List (List (Option ℕ))). uid_of (numbers_at known c.args.process) c.args.number)
     c.deref.ensures.value in
-    terminate_told p inside s shown c.args.process c.args.number None (c.in-None.ensures ∙ uid)
+    terminate_told p inside s shown c.args.process c.args.number None (c.in-None.ensures.uid ∙ uid)
