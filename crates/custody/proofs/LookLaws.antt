@@ -351,14 +351,39 @@ sum_both f g (x ∷ xs) =
     sum_by-cons (λ y. f y + g y) x xs in let b =
     sum_by-cons f x xs in let c = sum_by-cons g x xs in let r = sum_both f g xs in omega (arith, a, b, c, r)
 
+both_zero : (n m : ℕ) → eqb (n + m) 0 ≡ (eqb n 0 && eqb m 0)
+both_zero n m = elim (eqb_tells n 0) [
+  | inl e ↦ let s : n + m ≡ m = omega (arith, e.1) in rw e.0 (ap (λ (x : ℕ). eqb x 0) s)
+  | inr e ↦ elim (eqb_tells (n + m) 0) [
+    | inl h ↦ let z : n ≡ 0 = omega (arith, h.1) in absurd (e.1 z)
+    | inr h ↦ rw e.0 h.0
+  ]
+]
+
 pub row_free_decides : (uses now : List DescriptorUse) (c : UseCounted) → uses ≡ now → AreDescriptors uses c → (n m : ℕ)
-    → n ≡ count_at c.kinds 0 0 → m ≡ count_at c.kinds 1 0 → Decides (eqb (n + m) 0) ((i : ℕ) → descriptor_at now i ≡ descriptor.Free)
-row_free_decides uses now c is t n m e g = subst (λ (xs : List DescriptorUse). Decides (eqb (n + m) 0) ((i : ℕ) → descriptor_at xs i ≡ descriptor.Free)) is
+    → n ≡ count_at c.kinds 0 0 → m ≡ count_at c.kinds 1 0 → Decides (eqb n 0 && eqb m 0) ((i : ℕ) → descriptor_at now i ≡ descriptor.Free)
+row_free_decides uses now c is t n m e g =
+    subst (λ (b : Bool). Decides b ((i : ℕ) → descriptor_at now i ≡ descriptor.Free)) (both_zero n m)
+    (subst (λ (xs : List DescriptorUse). Decides (eqb (n + m) 0) ((i : ℕ) → descriptor_at xs i ≡ descriptor.Free)) is
     (zero_decides (λ x. key_bit (kind_key (descriptor_mark x)) 0 0 + key_bit (kind_key (descriptor_mark x)) 1 0) (λ x. x ≡ descriptor.Free) uses
     descriptor.Free (n + m)
     (let s = sum_both (λ x. key_bit (kind_key (descriptor_mark x)) 0 0) (λ x. key_bit (kind_key (descriptor_mark x)) 1 0) uses in
     let a = t.kinds 0 0 in let b = t.kinds 1 0 in omega (arith, s, a, b, e, g)) refl row_free_to
-    (λ x free. ap (λ (y : DescriptorUse). key_bit (kind_key (descriptor_mark y)) 0 0 + key_bit (kind_key (descriptor_mark y)) 1 0) free))
+    (λ x free. ap (λ (y : DescriptorUse). key_bit (kind_key (descriptor_mark y)) 0 0 + key_bit (kind_key (descriptor_mark y)) 1 0) free)))
+
+pub row_free_last : (uses now : List DescriptorUse) (c : UseCounted) → uses ≡ now → AreDescriptors uses c → (n m : ℕ) → n ≡ count_at c.kinds 0 0
+    → m ≡ count_at c.kinds 1 0 → n ≡ 0 → Decides (eqb m 0) ((i : ℕ) → descriptor_at now i ≡ descriptor.Free)
+row_free_last uses now c is t n m e g z = subst (λ (k : ℕ). Decides (eqb k 0 && eqb m 0) ((i : ℕ) → descriptor_at now i ≡ descriptor.Free)) z
+    (row_free_decides uses now c is t n m e g)
+
+pub row_not_free : (uses now : List DescriptorUse) (c : UseCounted) → uses ≡ now → AreDescriptors uses c → (n m : ℕ) → n ≡ count_at c.kinds 0 0
+    → m ≡ count_at c.kinds 1 0 → n ≢ 0 → Decides (eqb n 0) ((i : ℕ) → descriptor_at now i ≡ descriptor.Free)
+row_not_free uses now c is t n m e g z = elim (eqb_tells n 0) [
+  | inl h ↦ absurd (z h.1)
+  | inr h ↦
+      (let same : (eqb n 0 && eqb m 0) ≡ eqb n 0 = ap (λ (b : Bool). b && eqb m 0) h.0 ∙ sym h.0 in
+      subst (λ (b : Bool). Decides b ((i : ℕ) → descriptor_at now i ≡ descriptor.Free)) same (row_free_decides uses now c is t n m e g))
+]
 
 -- ---- active segments
 

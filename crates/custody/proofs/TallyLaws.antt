@@ -1,12 +1,12 @@
 -- What is counted of a list, as one element after the other changes.
-use Rattle.std.proofs.Common.{◌<◌, ◌≤◌, ℕ, suc, zero, Bool, true, false, cond, eqb, ◌&&◌, List, [], ◌∷◌, Option, Some, None, length, get_or, set, length-set}
+use Rattle.std.proofs.Common.{◌<◌, ◌≤◌, ◌^◌, ℕ, suc, zero, Bool, true, false, cond, eqb, ◌&&◌, List, [], ◌∷◌, Option, Some, None, length, get_or, set, length-set}
 use Rattle.std.proofs.Common.{◌∙◌, arith}
 use Rattle.std.specs.Prelude.{sum_by}
 use Rattle.std.proofs.lemmas.List.Sums.{sum_by-set, sum_by-cons}
 use Rattle.custody_model.specs.Custody.{page_of}
 use Rattle.custody_model.specs.declared.FrameUse.{FrameUse}
 use Rattle.custody_model.specs.declared.DescriptorUse.{DescriptorUse}
-use Rattle.custody.specs.Counts.{Counted, Keeps, Shifts, AreFew, key_bit}
+use Rattle.custody.specs.Counts.{Counted, Keeps, Shifts, AreFew, count_at, key_bit}
 use Rattle.custody.specs.Uses.{UseCounted, IsTally, AreFrames, AreDescriptors, KeepUses, ShiftUses, AreFewUses, frame_mark, descriptor_mark, uid_key, going_key}
 use Rattle.custody.specs.Uses.{kind_key}
 
@@ -44,7 +44,7 @@ tally_set {X} key xs old new i x d l t s = λ a b.
 pub tally_kept : {X : Type 0} (key : X → Option (ℕ × ℕ)) (xs : List X) (old new : Counted) → IsTally key xs old → Keeps old new → IsTally key xs new
 tally_kept key xs old new t k = λ a b. k.at a b ∙ t a b
 
-pub tally_few : {X : Type 0} (key : X → Option (ℕ × ℕ)) (xs : List X) (c : Counted) → length xs ≤ 1024 → IsTally key xs c → AreFew c
+pub tally_few : {X : Type 0} (key : X → Option (ℕ × ℕ)) (xs : List X) (c : Counted) → length xs ≤ 2 ^ 32 → IsTally key xs c → AreFew c
 tally_few {X} key xs c l t = λ a b.
     let f : X → ℕ = λ y. key_bit (key y) a b in
     let s = sum_small f (λ y. bit_small (key y) a b) xs in
@@ -63,14 +63,23 @@ frames_kept uses c e p q t k j = record {
 }
 
 pub frames_few : (uses : List FrameUse) (c : UseCounted) (p : Counted) → AreFrames uses c p → AreFewUses c × AreFew p
-frames_few uses c p t = (
-  record {
-    uids = tally_few (λ x. uid_key (frame_mark x)) uses c.uids t.few t.uids;
-    going = tally_few (λ x. going_key (frame_mark x)) uses c.going t.few t.going;
-    kinds = tally_few (λ x. kind_key (frame_mark x)) uses c.kinds t.few t.kinds;
-  },
-  tally_few page_of uses p t.few t.pages,
-)
+frames_few uses c p t =
+    let l : length uses ≤ 2 ^ 32 = let h = t.few in omega (arith, h) in (
+      record {
+        uids = tally_few (λ x. uid_key (frame_mark x)) uses c.uids l t.uids;
+        going = tally_few (λ x. going_key (frame_mark x)) uses c.going l t.going;
+        kinds = tally_few (λ x. kind_key (frame_mark x)) uses c.kinds l t.kinds;
+      },
+      tally_few page_of uses p l t.pages,
+    )
+
+-- no more pages are in frames, or being read into them, than there are frames
+pub pages_few : (uses : List FrameUse) (c : UseCounted) (p : Counted) → AreFrames uses c p → (a b : ℕ) → count_at p a b ≤ 1024
+pages_few uses c p t a b =
+    let s = sum_small (λ y. key_bit (page_of y) a b) (λ y. bit_small (page_of y) a b) uses in
+    let g = t.pages a b in
+    let l = t.few in
+    omega (arith, l, s, g)
 
 pub frames_put : (uses : List FrameUse) (c e : UseCounted) (p q : Counted) (f : ℕ) (x d : FrameUse) → f < length uses → AreFrames uses c p
     → ShiftUses c e (frame_mark (get_or uses f d)) (frame_mark x) → Shifts p q (page_of (get_or uses f d)) (page_of x) → AreFrames (set uses f x) e q
@@ -92,7 +101,7 @@ descriptors_kept uses c e t k = record {
 
 pub descriptors_few : (uses : List DescriptorUse) (c : UseCounted) → AreDescriptors uses c → AreFewUses c
 descriptors_few uses c t =
-    let l : length uses ≤ 1024 = let h = t.few in omega (arith, h) in
+    let l : length uses ≤ 2 ^ 32 = let h = t.few in omega (arith, h) in
     record {
       uids = tally_few (λ x. uid_key (descriptor_mark x)) uses c.uids l t.uids;
       going = tally_few (λ x. going_key (descriptor_mark x)) uses c.going l t.going;

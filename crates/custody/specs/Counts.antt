@@ -56,4 +56,4 @@ pub record Shifts (old new : Counted) (from to : Option (ℕ × ℕ)) : Type 0 w
 
 -- no count is near the most that one takes
 abbrev pub AreFew : Counted → Type 0
-AreFew counts = (x y : ℕ) → count_at counts x y < 2 ^ 31
+AreFew counts = (x y : ℕ) → count_at counts x y < 2 ^ 33

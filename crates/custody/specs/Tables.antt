@@ -1,5 +1,5 @@
 -- What the program of custody keeps, and the custody that this is (own).
-use Rattle.std.specs.Prelude.{◌≡◌, ◌<◌, ◌^◌, ℕ, Bool, true, false, ◌==◌, is_some, slice_index_or, length, List, [], ◌∷◌, Option, Some, None, IfSome, IsSomeAnd}
+use Rattle.std.specs.Prelude.{◌≡◌, ◌<◌, ◌≤◌, ◌^◌, ℕ, Bool, true, false, ◌==◌, is_some, slice_index_or, length, List, [], ◌∷◌, Option, Some, None, IfSome, IsSomeAnd}
 use Rattle.std.specs.Prelude.{count_by}
 use Rattle.assoc_mem.specs.declared.What.{What}
 use Rattle.tree_model.specs.Tree.{Node, node_in, pool_of}
@@ -41,7 +41,7 @@ abbrev pub superior_key : Option ActiveUse → Option (ℕ × ℕ)
 superior_key x = key_of (superior_of x)
 
 pub record AreActive (uses : List (Option ActiveUse)) (pools inferiors : Counted) : Type 0 where
-  pub few : length uses < 2 ^ 31
+  pub few : length uses ≤ 2 ^ 32
   pub in_pools : IsTally pool_key uses pools
   pub below : IsTally superior_key uses inferiors
 

@@ -58,7 +58,7 @@ impl Active {
     }
 
     /// How many places of a pool are taken.
-    pub(crate) fn in_pool(&self, pool: u32) -> u32
+    pub(crate) fn in_pool(&self, pool: u32) -> u64
         ensures { result ≡ count_by (is_in_pool pool) self.now }
     {
         let count = self.pools.at(pool, 0);

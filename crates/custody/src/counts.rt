@@ -1,4 +1,4 @@
-ghost use Rattle.std.specs.Prelude.{◌≡◌, ◌+◌, ◌-◌, ◌<◌, ◌^◌, true, OnOk, [], Some, None};
+ghost use Rattle.std.specs.Prelude.{◌≡◌, ◌+◌, ◌-◌, ◌<◌, ◌≤◌, ◌^◌, ℕ, true, OnOk, [], Some, None};
 ghost use Rattle.custody.specs.Counts.{AreFew, HasPlace, Keeps, Recounts, Shifts, count_at, count_below, has_place};
 
 use crate::NoMemory;
@@ -9,7 +9,7 @@ use std::marker::Model;
 /// How many there are of what two numbers name.
 #[derive(Drop)]
 pub(crate) struct Counts {
-    entries: BTreeMap<(u32, u32), u32>,
+    entries: BTreeMap<(u32, u32), u64>,
 }
 
 impl Model for Counts {
@@ -31,7 +31,7 @@ impl Counts {
     }
 
     /// How many there are of it.
-    pub(crate) fn at(&self, a: u32, b: u32) -> u32
+    pub(crate) fn at(&self, a: u32, b: u32) -> u64
         ensures { result ≡ count_at self.now a b }
     {
         match self.entries.get(&(a, b)) {
@@ -42,11 +42,12 @@ impl Counts {
 
     /// How many there are with a first number and with a second number below this.
     pub(crate) fn below(&self, a: u32, bound: u32) -> u64
+        requires { (b : ℕ) → count_at self.now a b ≤ 1024 }
         ensures { result ≡ count_below self.now a bound }
     {
         let mut count: u64 = 0;
         for b in 0..bound {
-            count += self.at(a, b) as u64;
+            count += self.at(a, b);
         }
         count
     }
@@ -69,7 +70,7 @@ impl Counts {
     }
 
     /// The count of what has its place is this from now on.
-    fn set(&mut self, a: u32, b: u32, to: u32)
+    fn set(&mut self, a: u32, b: u32, to: u64)
         requires { has_place self.old a b ≡ true }
         ensures { Recounts self.old self.new a b to }
     {
@@ -81,7 +82,7 @@ impl Counts {
     /// There is one more of it.
     pub(crate) fn add(&mut self, a: u32, b: u32)
         requires place { has_place self.old a b ≡ true }
-        requires few { count_at self.old a b + 1 < 2 ^ 32 }
+        requires few { count_at self.old a b + 1 < 2 ^ 64 }
         ensures { Recounts self.old self.new a b (count_at self.old a b + 1) }
     {
         let count = self.at(a, b);

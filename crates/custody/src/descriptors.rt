@@ -93,7 +93,7 @@ impl Descriptors {
     {
         let staying = self.counts.staying();
         let going = self.counts.going();
-        staying as u64 + going as u64 == 0
+        staying == 0 && going == 0
     }
 
     /// Whether a descriptor is on its way out.

@@ -132,13 +132,13 @@ impl Frames {
         ensures { Decides result ((f q : ℕ) → page_of (frame_at self.now f) ≡ Some (uid, q) → q < pages) }
     {
         let below = self.pages.below(uid, pages);
-        let all = self.counts.of(uid) as u64;
+        let all = self.counts.of(uid);
         below == all
     }
 }
 
 /// How many pages are on their way out of a frame with this use, 1 or 0.
-fn going_count(of: FrameUse) -> u32
+fn going_count(of: FrameUse) -> u64
     ensures { result ≡ key_bit (kind_key (frame_mark of)) 1 0 }
 {
     match of {

@@ -81,7 +81,7 @@ impl Custody {
             Some(superior) => self.active.has(superior),
             None => true,
         };
-        above && self.active.in_pool(of.pool) < pool_size(script, of.pool)
+        above && self.active.in_pool(of.pool) < pool_size(script, of.pool) as u64
     }
 
     /// Whether a segment or directory is active.

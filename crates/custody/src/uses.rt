@@ -114,28 +114,28 @@ impl UseCounts {
     }
 
     /// How many uses there are of a segment.
-    pub(crate) fn of(&self, uid: u32) -> u32
+    pub(crate) fn of(&self, uid: u32) -> u64
         ensures { result ≡ count_at self.now.uids uid 0 }
     {
         self.uids.at(uid, 0)
     }
 
     /// How many uses of a segment are on their way out.
-    pub(crate) fn going_of(&self, uid: u32) -> u32
+    pub(crate) fn going_of(&self, uid: u32) -> u64
         ensures { result ≡ count_at self.now.going uid 0 }
     {
         self.going.at(uid, 0)
     }
 
     /// How many uses are on their way out.
-    pub(crate) fn going(&self) -> u32
+    pub(crate) fn going(&self) -> u64
         ensures { result ≡ count_at self.now.kinds 1 0 }
     {
         self.kinds.at(1, 0)
     }
 
     /// How many uses aren't.
-    pub(crate) fn staying(&self) -> u32
+    pub(crate) fn staying(&self) -> u64
         ensures { result ≡ count_at self.now.kinds 0 0 }
     {
         self.kinds.at(0, 0)
