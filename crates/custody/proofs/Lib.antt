@@ -7,3 +7,7 @@ pub mod NodeLaws
 pub mod CutLaws
 pub mod BootLaws
 pub mod KeptNodes
+pub mod PutLaws
+pub mod AdvanceLaws
+pub mod RowLaws
+pub mod FollowLaws

@@ -1,3 +1,4 @@
 pub mod Counts
 pub mod Uses
 pub mod Tables
+pub mod Changes

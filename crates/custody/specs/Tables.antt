@@ -1,5 +1,5 @@
 -- What the program of custody keeps, and the custody that this is (own).
-use Rattle.std.specs.Prelude.{◌≡◌, ◌<◌, ◌≤◌, ◌^◌, ℕ, Bool, true, false, ◌==◌, is_some, slice_index_or, length, List, [], ◌∷◌, Option, Some, None, IfSome, IsSomeAnd}
+use Rattle.std.specs.Prelude.{◌≡◌, ◌<◌, ◌≤◌, ◌^◌, ◌+◌, ℕ, Bool, true, false, ◌==◌, is_some, slice_index_or, length, List, [], ◌∷◌, Option, Some, None, IfSome, IsSomeAnd}
 use Rattle.std.specs.Prelude.{count_by}
 use Rattle.assoc_mem.specs.declared.What.{What}
 use Rattle.tree_model.specs.Tree.{Node, node_in, pool_of}
@@ -115,3 +115,16 @@ pub record CanJoin (p : Plan) (t : Tables) (a : ActiveUse) : Type 0 where
 -- a truncation at this word keeps exactly the pages below a number
 abbrev pub AreKept : Words → ℕ → ℕ → ℕ → Type 0
 AreKept words u from kept = (q : ℕ) → (q < kept → is_lost words u from q ≡ false) × (is_lost words u from q ≡ false → q < kept)
+
+-- ---- what is asked of the tables
+
+-- The tables are those of a script: it has so many frames and processors, and each of its processes 256 descriptors.
+pub record AreTablesOf (p : Plan) (t : Tables) : Type 0 where
+  pub frames : length t.frames ≡ p.frames
+  pub processes : length t.descriptors ≡ length p.processes
+  pub numbers : (k : ℕ) → k < length t.descriptors → length (row_at t.descriptors k) ≡ 256
+  pub processors : length t.seats ≡ p.processors
+
+-- the count of each processor's command entries has room for one more
+abbrev pub HaveRoom : List Seat → Type 0
+HaveRoom seats = (d : ℕ) → (seat_at seats d).count + 1 < 2 ^ 64

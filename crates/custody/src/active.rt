@@ -1,7 +1,9 @@
-ghost use Rattle.std.specs.Prelude.{◌≡◌, ◌≢◌, ℕ, is_some, count_by, [], Some};
+ghost use Rattle.std.specs.Prelude.{◌≡◌, ◌≢◌, ℕ, is_some, count_by, OnOk, OnErr, [], Some};
 ghost use Rattle.std.specs.Bool.{Decides};
-ghost use Rattle.custody.specs.Tables.{active_at, is_in_pool, superior_of};
+ghost use Rattle.custody.specs.Changes.{put_active, with_place};
+ghost use Rattle.custody.specs.Tables.{active_at, is_in_pool, pool_key, superior_key, superior_of};
 
+use crate::NoMemory;
 use crate::counts::Counts;
 use std::alloc::Global;
 use std::marker::Model;
@@ -72,4 +74,60 @@ impl Active {
         let count = self.inferiors.at(uid, 0);
         count == 0
     }
+    /// A segment or directory is active so from now on, or it isn't.
+    ///
+    /// # Errors
+    /// `NoMemory` is want of memory; then nothing is changed.
+    #[tactic(auto, using(crate::proofs::PutLaws::active_counted))]
+    pub(crate) fn put(&mut self, uid: u32, to: Option<ActiveUse>) -> Result<(), NoMemory>
+        ensures ok { OnOk result (self.new ≡ put_active self.old uid to) }
+        ensures err { OnErr result (self.new ≡ self.old) }
+    {
+        self.pools.reserve_key(pool_key(to))?;
+        self.inferiors.reserve_key(superior_key(to))?;
+        make_place(&mut self.uses, uid)?;
+        let at = uid as usize;
+        let from = self.uses[at];
+        self.pools.shift(pool_key(from), pool_key(to));
+        self.inferiors.shift(superior_key(from), superior_key(to));
+        self.uses[at] = to;
+        Ok(())
+    }
+}
+
+/// The key of its pool.
+fn pool_key(of: Option<ActiveUse>) -> Option<(u32, u32)>
+    ensures { result ≡ pool_key of }
+{
+    match of {
+        Some(of) => Some((of.pool, 0)),
+        None => None,
+    }
+}
+
+/// The key of its superior.
+fn superior_key(of: Option<ActiveUse>) -> Option<(u32, u32)>
+    ensures { result ≡ superior_key of }
+{
+    match of {
+        Some(
+            ActiveUse {
+                superior: Some(superior),
+                ..
+            },
+        ) => Some((superior, 0)),
+        _ => None,
+    }
+}
+
+/// The list has a place for a uid from now on.
+fn make_place(uses: &mut Vec<Option<ActiveUse>>, uid: u32) -> Result<(), NoMemory>
+    ensures ok { OnOk result (uses.new.items ≡ with_place uses.old.items uid) }
+    ensures err { OnErr result (uses.new.items ≡ uses.old.items) }
+{
+    let places = uid as usize + 1;
+    if uses.len() >= places {
+        return Ok(());
+    }
+    uses.resize(places, None).map_err(|_| NoMemory)
 }

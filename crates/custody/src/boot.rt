@@ -1,7 +1,7 @@
 ghost use Rattle.std.specs.Prelude.{◌≡◌, replicate, IfOk, []};
 ghost use Rattle.custody_model.specs.Custody.{nothing_held, offline, range, ready_at_first};
 ghost use Rattle.custody_model.specs.declared.DescriptorUse.TheVariants as descriptor;
-ghost use Rattle.custody.specs.Tables.{custody_of};
+ghost use Rattle.custody.specs.Tables.{AreTablesOf, custody_of};
 
 use crate::NoMemory;
 use crate::active::Active;
@@ -67,6 +67,7 @@ impl Custody {
     pub fn boot(alloc: Global, script: &Script) -> Result<Custody, NoMemory>
         ensures active { IfOk result (λ c. c.active ≡ []) }
         ensures custody { IfOk result (λ c. custody_of c ≡ nothing_held script.now) }
+        ensures tables { IfOk result (λ c. AreTablesOf script.now c) }
     {
         let processes = script.processes();
         let frames = Frames::new(alloc, script.frames())?;

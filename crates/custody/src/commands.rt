@@ -26,7 +26,7 @@ use mword::Page;
 use script::{Command, Reference, Script};
 
 /// The command at a place of a process, if there is one.
-fn command_at(script: &Script, process: u32, place: u32) -> Option<&Command>
+pub(crate) fn command_at(script: &Script, process: u32, place: u32) -> Option<&Command>
     ensures some { IfSome result (λ c. command_at script.now process place ≡ Some c.now) }
     ensures none { IfNone result (command_at script.now process place ≡ None) }
 {
@@ -61,7 +61,7 @@ fn is_device(reply: &Reply) -> bool
 }
 
 /// The page that is in a frame.
-fn bound_page(of: FrameUse) -> Option<(u32, u32)>
+pub(crate) fn bound_page(of: FrameUse) -> Option<(u32, u32)>
     ensures { result ≡ bound_page of }
 {
     match of {

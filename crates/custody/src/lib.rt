@@ -2,8 +2,8 @@
 //! 1972). The definitions stand in `custody_model`; what the program keeps besides are counts by which no row of them walks
 //! over all frames, segments or descriptors.
 //!
-//! `Custody` is what holds before the first entry, and judges an entry by a look at the flat store before it. How custody
-//! goes on after an entry is defined, and there is no call for it yet.
+//! `Custody` is what holds before the first entry, judges an entry by a look at the flat store before it, and goes on after
+//! one that is allowed.
 #![tactic(auto)]
 
 mod active;
@@ -11,8 +11,11 @@ mod boot;
 mod commands;
 mod counts;
 mod descriptors;
+mod following;
 mod frames;
 mod judging;
+mod naming;
+mod rows;
 mod seats;
 mod store_rows;
 mod tables;

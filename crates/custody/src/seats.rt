@@ -1,8 +1,12 @@
-ghost use Rattle.std.specs.Prelude.{◌≡◌, ◌&&◌, is_some};
+ghost use Rattle.std.specs.Prelude.{◌≡◌, ◌&&◌, ◌+◌, ◌<◌, ◌^◌, is_some, true, false, [], Some, None};
 ghost use Rattle.std.specs.Bool.{Decides};
-ghost use Rattle.custody_model.specs.Custody.{has, is_uid, offline};
+ghost use Rattle.custody_model.specs.Custody.{filled, has, is_uid, offline};
+ghost use Rattle.custody.specs.Changes.{dropped, warned};
 ghost use Rattle.custody_model.specs.Allowed.{HasHadItsTurn};
 
+use crate::descriptors::Descriptors;
+use crate::frames::Frames;
+use crate::naming::{drop_pages, drop_segs};
 use arrayvec::ArrayVec;
 use assoc_mem::What;
 use std::marker::Model;
@@ -109,4 +113,89 @@ impl SeatRow {
             None => false,
         }
     }
+    /// It takes part from now on.
+    pub(crate) fn come_online(&mut self)
+        ensures { self.new ≡ record self.old { online = true } }
+    {
+        self.online = true;
+    }
+
+    /// It loads a process, and holds nothing.
+    pub(crate) fn load(&mut self, process: u32)
+        ensures { self.new ≡ record self.old { process = Some process; count = 0; tried = false; segs = []; pages = [] } }
+    {
+        self.process = Some(process);
+        self.count = 0;
+        self.tried = false;
+        self.segs.clear();
+        self.pages.clear();
+    }
+
+    /// It leaves its process, and holds nothing.
+    pub(crate) fn leave(&mut self)
+        ensures { self.new ≡ record self.old { process = None; segs = []; pages = [] } }
+    {
+        self.process = None;
+        self.segs.clear();
+        self.pages.clear();
+    }
+
+    /// Its process's next command was answered, which may be a try that didn't end an `await`.
+    pub(crate) fn answer(&mut self, tried: bool)
+        requires { self.old.count + 1 < 2 ^ 64 }
+        ensures { self.new ≡ record self.old { count = self.old.count + 1; tried = tried } }
+    {
+        self.count += 1;
+        self.tried = tried;
+    }
+
+    /// It holds the descriptor of a number, as the newest; of sixteen the oldest goes.
+    pub(crate) fn fill_seg(&mut self, number: u32)
+        ensures { self.new ≡ record self.old { segs = filled self.old.segs number } }
+    {
+        fill(&mut self.segs, number);
+    }
+
+    /// It holds the page table word of a frame, as the newest; of sixteen the oldest goes.
+    pub(crate) fn fill_page(&mut self, frame: u32)
+        ensures { self.new ≡ record self.old { pages = filled self.old.pages frame } }
+    {
+        fill(&mut self.pages, frame);
+    }
+
+    /// It is to drop this, where it takes part.
+    pub(crate) fn warn(&mut self, what: What)
+        ensures { self.new ≡ warned what self.old }
+    {
+        if self.online {
+            self.due = Some(what);
+        }
+    }
+
+    /// It drops what is named.
+    pub(crate) fn drop_named(&mut self, frames: &Frames, rows: &Vec<Descriptors>, what: What)
+        ensures { self.new ≡ dropped frames.now rows.now.items what self.old }
+    {
+        drop_pages(&mut self.pages, frames, what);
+        if let Some(process) = self.process {
+            drop_segs(&mut self.segs, rows, process, what);
+        }
+    }
+
+    /// It isn't to drop anything any more.
+    pub(crate) fn settle(&mut self)
+        ensures { self.new ≡ record self.old { due = None } }
+    {
+        self.due = None;
+    }
+}
+
+/// Puts a number behind those that are held; of sixteen the oldest goes.
+fn fill(held: &mut ArrayVec<u32, 16>, number: u32)
+    ensures { held.new.items ≡ filled held.old.items number }
+{
+    if held.len() >= 16 {
+        held.remove(0);
+    }
+    held.push(number);
 }

@@ -15,7 +15,7 @@ use flat_store::FlatStore;
 use script::Script;
 
 /// The superior and the pool of a segment or directory; `None` exactly where it isn't there.
-fn node(store: &FlatStore, uid: u32) -> Option<ActiveUse>
+pub(crate) fn node(store: &FlatStore, uid: u32) -> Option<ActiveUse>
     ensures { (p : Plan) (s : Store) → Shows p store.now s → result ≡ use_in (node_in s.nodes uid) }
 {
     let superior = store.superior(uid);

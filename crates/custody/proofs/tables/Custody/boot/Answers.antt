@@ -1,4 +1,4 @@
-use Rattle.custody.proofs.BootLaws.{booted}
+use Rattle.custody.proofs.BootLaws.{booted, booted_sizes}
 use Rattle.custody.proofs.tables.Custody.boot.Goals as goal
 
 pub returns-clause-custody : goal.returns-clause-custody
@@ -11,3 +11,14 @@ returns-clause-custody c = booted c.args.script.now
       seats = c.in_ok-seats.seats.items;
     }) c.frames.result c.processes-processes.result c.processors.result c.new-2.ensures c.in_ok-frames.ensures c.in_ok-descriptors.ensures c.in_ok-ready.ensures
     c.in_ok-seats.ensures
+
+pub returns-clause-tables : goal.returns-clause-tables
+returns-clause-tables c = booted_sizes c.args.script.now
+    (record {
+      active = c.new-2.result;
+      frames = c.in_ok-frames.frames;
+      descriptors = c.in_ok-descriptors.descriptors.items;
+      ready = c.in_ok-ready.ready.items;
+      seats = c.in_ok-seats.seats.items;
+    }) c.frames.result c.processes-processes.result c.processors.result c.frames.ensures
+    c.processes-processes.ensures.count c.processors.ensures c.in_ok-frames.ensures c.in_ok-descriptors.ensures c.in_ok-seats.ensures
