@@ -24,3 +24,4 @@ pub mod SizeLaws
 pub mod StoreLaws
 pub mod TreeLaws
 pub mod TreeReplies
+pub mod ZeroPages

@@ -6,6 +6,8 @@ ghost use Rattle.flat_model.specs.Branches.{branch_at, node_at, segment_at};
 ghost use Rattle.flat_model.specs.Commands.{tries_on};
 ghost use Rattle.flat_model.specs.Pages.{is_stored, is_zero_page, without_words};
 ghost use Rattle.flat_model.specs.Store.{Store, known_uid, progress_of};
+ghost use Rattle.std.specs.Bool.{Decides};
+ghost use Rattle.flat_store.specs.Zeros.{HasZeroPage};
 ghost use Rattle.flat_store.specs.Shown.{Holds, Shows, numbers_at, pool_at, progress_at, superior_at, uid_at};
 
 use crate::gauges::used_at;
@@ -32,6 +34,13 @@ impl FlatStore {
         ensures { (p : Plan) (store : Store) → Shows p self.now store → result ≡ is_stored store.stored uid page }
     {
         self.holdings.is_stored(uid, page)
+    }
+
+    /// Whether a stored page is all zeros. It looks at each stored page up to the first such one.
+    pub fn has_zero_page(&self) -> bool
+        ensures { (p : Plan) (store : Store) → Shows p self.now store → Decides result (HasZeroPage store) }
+    {
+        self.holdings.has_zero_page()
     }
 
     /// Whether the page that an offset of the segment of a uid cuts is all zeros once the words from it on are 0.

@@ -1,7 +1,9 @@
 ghost use Rattle.std.specs.Prelude.{◌≡◌, ◌<◌, ◌≤◌, ◌↔◌, List, [], ℕ, false};
 ghost use Rattle.std.specs.Prelude.{Some, None, IfSome, IfNone, OnOk, OnErr, IsTrue, replicate, slice_set, is_some};
 ghost use Rattle.mword.specs.Words.{AreZero};
+ghost use Rattle.std.specs.Bool.{Decides};
 ghost use Rattle.flat_store.specs.Shown.{page_at, words_in, cut_at, Puts, Cuts};
+ghost use Rattle.flat_store.specs.Zeros.{KeepsZeroPage};
 
 use crate::NoMemory;
 use mword::{Page, Word};
@@ -49,6 +51,20 @@ impl Pages {
         ensures { result ≡ is_some (page_at self.now uid page) }
     {
         self.get(uid, page).is_some()
+    }
+
+    /// Whether a page is all zeros. It looks at each page up to the first such one, and there up to the first word that
+    /// isn't 0.
+    #[tactic(auto, using(crate::proofs::ZeroPages::all_to_come, crate::proofs::ZeroPages::passed_over, crate::proofs::ZeroPages::none_left, std::proofs::lemmas::Grind::common_steps))]
+    pub(crate) fn has_zero_page(&self) -> bool
+        ensures { Decides result (KeepsZeroPage self.now) }
+    {
+        for (_, words) in self.pages.iter() {
+            if words.is_zero() {
+                return true;
+            }
+        }
+        false
     }
 
     /// A page is stored no more.

@@ -3,7 +3,9 @@ ghost use Rattle.script.specs.Plans.{Plan};
 ghost use Rattle.flat_model.specs.Legal.{MayRelease};
 ghost use Rattle.flat_model.specs.Pages.{is_zero_page, without_stored, without_words};
 ghost use Rattle.flat_model.specs.Store.{Store};
+ghost use Rattle.std.specs.Bool.{Decides};
 ghost use Rattle.flat_store.specs.Shown.{Holds};
+ghost use Rattle.flat_store.specs.Zeros.{HasZeroPage};
 
 use crate::holdings::Holdings;
 use mword::Page;
@@ -17,6 +19,13 @@ impl Holdings {
             Some(words) => words.is_zero(),
             None => false,
         }
+    }
+
+    /// Whether a stored page is all zeros.
+    pub(crate) fn has_zero_page(&self) -> bool
+        ensures { (p : Plan) (s : Store) → Holds p self.now s → Decides result (HasZeroPage s) }
+    {
+        self.pages.has_zero_page()
     }
 
     /// Gives up a page of zeros.
