@@ -1,0 +1,63 @@
+-- What frames are bound to, and what is being read into them.
+use Rattle.std.proofs.Common.{◌≡◌, ◌≢◌, ℕ, Bool, true, false, List, Option, Some, None, refl, sym, ap, subst, ◌∙◌}
+use Rattle.std.proofs.Math.ListN.{get_or-map}
+use Rattle.std.proofs.lemmas.Option.{none-some, same_Some}
+use Rattle.core_map.specs.CoreMap.{Core, reads_of, frame_at, is_bound, bound_page, started_page}
+use Rattle.core_map.specs.declared.Frame.{Frame}
+use Rattle.core_map.specs.declared.Frame.TheVariants.{Free, Started, Bound}
+use Rattle.volumes.specs.Volumes.{Vols}
+use Rattle.vtoc.specs.Vtoc.{Entry as VtocEntry}
+use Rattle.active_segs.specs.declared.Entry.{Entry}
+use Rattle.active_segs.specs.Active.{IsActive}
+use Rattle.page_table.specs.declared.Ptw.{Ptw}
+use Rattle.page_control.specs.Plain.{Plain, bindings, binding_at, number_in}
+use Rattle.page_control.specs.Tied.{IsBoundOnce, IsNotStarted, uid_in}
+use Rattle.seg_control.specs.Kept.{read_at, ArePaged}
+
+pub binding_is : (core : Core) (f : ℕ) → binding_at (bindings core) f ≡ bound_page (frame_at core f)
+binding_is core f = get_or-map bound_page core.frames f Free
+
+pub read_is : (core : Core) (f : ℕ) → read_at (reads_of core) f ≡ started_page (frame_at core f)
+read_is core f = get_or-map started_page core.frames f Free
+
+page_of_bound : (frame : Frame) → is_bound frame ≡ true → bound_page frame ≡ Some (uid_in frame, number_in frame)
+page_of_bound Free e = cc
+page_of_bound (Started u q) e = cc
+page_of_bound (Bound u q used modified) e = refl
+
+-- a bound frame has its page
+pub bound_to : (core : Core) (f : ℕ) → is_bound (frame_at core f) ≡ true → binding_at (bindings core) f ≡ Some (uid_in (frame_at core f), number_in (frame_at core f))
+bound_to core f e = binding_is core f ∙ page_of_bound (frame_at core f) e
+
+-- no other frame has it
+pub bound_once : (now : Plain) (entries : List (Option Entry)) (ptws : List (List Ptw)) (f : ℕ) → ArePaged now entries ptws → is_bound (frame_at now.core f) ≡ true
+    → IsBoundOnce (bindings now.core) f
+bound_once now entries ptws f k e =
+    let u : ℕ = uid_in (frame_at now.core f) in
+    let p : ℕ = number_in (frame_at now.core f) in
+    let at : binding_at (bindings now.core) f ≡ Some (u, p) = bound_to now.core f e in
+    let active : IsActive entries u = k.bound f u p at in
+    let table = k.tables active.0 u active.1 in
+    record { only = λ g same. same_Some _ _ (sym (table.named g p (same ∙ at)) ∙ table.named f p at) }
+
+started_from : (frame : Frame) (uid p : ℕ) → started_page frame ≡ Some (uid, p) → frame ≡ Started uid p
+started_from Free uid p e = cc
+started_from (Started u q) uid p e = same_page u q (same_Some _ _ e)
+  where
+    same_page : (u q : ℕ) → ◌≡◌ {A = ℕ × ℕ} (u, q) (uid, p) → Started u q ≡ Started uid p
+    same_page u q e = ap (λ (x : ℕ × ℕ). Started x.0 x.1) e
+started_from (Bound u q used modified) uid p e = cc
+
+-- a page that no frame is started for is being read into none
+pub none_started : (core : Core) (uid p : ℕ) → IsNotStarted core uid p → (f : ℕ) → read_at (reads_of core) f ≢ Some (uid, p)
+none_started core uid p h f e = h.none f (started_from (frame_at core f) uid p (sym (read_is core f) ∙ e))
+
+-- a frame that is started for a page
+pub started_for : (core : Core) (f uid p : ℕ) → frame_at core f ≡ Started uid p → read_at (reads_of core) f ≡ Some (uid, p)
+started_for core f uid p e = read_is core f ∙ ap started_page e
+
+pub same_vtocs : {D : Type 0} (new old : Vols D) → new ≡ old → new.vtocs ≡ old.vtocs
+same_vtocs new old e = ap (λ (v : Vols _). v.vtocs) e
+
+pub same_records : {D : Type 0} (new old : Vols D) → new ≡ old → new.records ≡ old.records
+same_records new old e = ap (λ (v : Vols _). v.records) e

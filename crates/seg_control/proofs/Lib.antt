@@ -1,0 +1,9 @@
+pub mod Places
+pub mod Frames
+pub mod Paged
+pub mod Calls
+pub mod Moving
+pub mod Homes
+pub mod Counts
+pub mod Linked
+pub mod Connected

@@ -1,0 +1,46 @@
+-- The place in which a segment is active.
+use Rattle.std.proofs.Common.{◌≡◌, ℕ, ◌<◌, Bool, true, false, List, [], ◌∷◌, length, Option, None, Some, refl, sym, ap, ◌∙◌, arith, get_or, inl, inr, suc, zero}
+use Rattle.std.specs.List.{position_or_len}
+use Rattle.std.proofs.lemmas.Bool.{eqb-true, eq-eqb, cases_lt, not-true, both_ways}
+use Rattle.std.proofs.lemmas.List.{get_or_past}
+use Rattle.std.proofs.lemmas.List.Sums.{prefix_len_passes}
+use Rattle.std.proofs.lemmas.Option.{none-some, same_Some}
+use Rattle.std.proofs.lemmas.Grind.{common_steps}
+use Rattle.active_segs.specs.declared.Entry.{Entry}
+use Rattle.active_segs.specs.Active.{uid_in, uid_at, entry_at, IsTree}
+use Rattle.seg_control.specs.Control.{is_for, place_of}
+
+-- the first element that passes
+first_is : {X : Type 0} (p : X → Bool) (xs : List X) (k : ℕ) (d : X) → k < length xs → p (get_or xs k d) ≡ true
+    → ((j : ℕ) → j < k → p (get_or xs j d) ≡ false) → position_or_len p xs ≡ k
+first_is p [] k d lt holds before = omega arith
+first_is p (x ∷ xs) zero d lt holds before = grind (arith, common_steps)
+first_is p (x ∷ xs) (suc k) d lt holds before =
+    let no : p x ≡ false = before 0 (omega arith) in
+    let ih : position_or_len p xs ≡ k = first_is p xs k d (omega arith) holds (λ j l. before (suc j) (omega arith)) in
+    grind (arith, common_steps)
+
+is_for_uid : (uid : ℕ) (e : Option Entry) → uid_in e ≡ Some uid → is_for uid e ≡ true
+is_for_uid uid None h = cc
+is_for_uid uid (Some e) h = eq-eqb e.uid uid (same_Some _ _ h)
+
+uid_from : (uid : ℕ) (e : Option Entry) → is_for uid e ≡ true → uid_in e ≡ Some uid
+uid_from uid None h = cc
+uid_from uid (Some e) h = ap (λ (n : ℕ). Some n) (eqb-true e.uid uid h)
+
+-- where something is active the place is one of the table's
+pub used_within : (xs : List (Option Entry)) (p uid : ℕ) → uid_at xs p ≡ Some uid → p < length xs
+used_within xs p uid e = elim (cases_lt p (length xs)) [ inl lt ↦ lt | inr past ↦ absurd (none-some uid (sym (ap uid_in (get_or_past xs p None past)) ∙ e)) ]
+
+pub place_is : (xs : List (Option Entry)) (uid place : ℕ) → IsTree xs → uid_at xs place ≡ Some uid → place_of xs uid ≡ place
+unfolding place_of
+place_is xs uid place tree at =
+    first_is (is_for uid) xs place None (used_within xs place uid at) (is_for_uid uid (entry_at xs place) at)
+    (λ j l. not_before j l)
+  where
+    not_yet : (j : ℕ) (b : Bool) → j < place → is_for uid (entry_at xs j) ≡ b → b ≡ false
+    not_yet j false l e = refl
+    not_yet j true l e = absurd (let same : j ≡ place = tree.once j place uid (uid_from uid (entry_at xs j) e) at in omega (arith, same))
+
+    not_before : (j : ℕ) → j < place → is_for uid (entry_at xs j) ≡ false
+    not_before j l = not_yet j (is_for uid (entry_at xs j)) l refl

@@ -1,0 +1,11 @@
+use Rattle.std.proofs.Common.{◌≡◌, ◌≤◌, replicate, vec_len, vec_capacity}
+use Rattle.descriptor_seg.specs.Descriptors.{all_faults}
+use Rattle.seg_control.proofs.links.faulting.Given as goal
+
+abbrev pub invariant-loop-process : goal.invariant-loop-process
+invariant-loop-process l = record {
+  made : l.descriptors.items ≡ replicate l._process all_faults;
+  count : vec_len l.descriptors ≡ l._process;
+  within : l._process ≤ l.fn.processes;
+  room : vec_capacity l.descriptors ≡ l.fn.processes;
+}

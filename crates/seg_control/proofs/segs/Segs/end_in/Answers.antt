@@ -1,0 +1,32 @@
+use Rattle.std.proofs.Common.{◌≡◌, ◌∙◌, ap, sym, rules, true, ℕ, List}
+use Rattle.page_table.specs.declared.Ptw.{Ptw}
+use Rattle.page_table.specs.PageTable.{ptw_at}
+use Rattle.core_map.specs.CoreMap.{frame_at}
+use Rattle.core_map.specs.declared.Frame.TheVariants.{Started}
+use Rattle.active_segs.specs.Active.{table_at}
+use Rattle.page_control.specs.Plain.{plain}
+use Rattle.page_control.specs.Tied.{is_out}
+use Rattle.seg_control.specs.Control.{table_of}
+use Rattle.seg_control.specs.Kept.{IsHomeFor}
+use Rattle.seg_control.proofs.Frames.{started_for}
+use Rattle.seg_control.proofs.Calls.{tie_of, out_of, kept_read, home_here}
+use Rattle.seg_control.proofs.segs.Segs.end_in.Goals as goal
+
+pub end_in-requires-clause-out : goal.end_in-requires-clause-out
+end_in-requires-clause-out g c =
+    let started : frame_at c.self.inside.pages.core c.args.f ≡ Started c.args.uid c.args.p = search rules in
+    out_of (plain g.D.Drive.pages c.self.inside.pages) c.self.inside.ast c.self.inside.links c.place_in-place.result c.args.uid c.args.p c.args.f _ c.self.invariant c.place_in-place.ensures.at c.table_mut.ensures.value
+    (started_for c.self.inside.pages.core c.args.f c.args.uid c.args.p started)
+
+pub end_in-requires-clause-tie : goal.end_in-requires-clause-tie
+end_in-requires-clause-tie g c =
+    let home : IsHomeFor (plain g.D.Drive.pages c.self.inside.pages) c.args.uid c.args.home (table_of c.self.inside.ast c.args.uid) = search rules in
+    tie_of (plain g.D.Drive.pages c.self.inside.pages) c.self.inside.ast c.self.inside.links c.place_in-place.result c.args.uid c.args.home _ c.self.invariant c.place_in-place.ensures.at c.table_mut.ensures.value
+    (home_here (plain g.D.Drive.pages c.self.inside.pages) c.self.inside.ast c.place_in-place.result c.args.uid c.args.home _ c.place_in-place.ensures.is c.table_mut.ensures.value home)
+
+pub invariant_of-self : goal.invariant_of-self
+invariant_of-self g c =
+    let started : frame_at c.self.inside.pages.core c.args.f ≡ Started c.args.uid c.args.p = search rules in
+    kept_read c.end_in.result (plain g.D.Drive.pages c.self.inside.pages) (plain g.D.Drive.pages c.end_in.new.self) c.self.inside.ast c.self.inside.links c.place_in-place.result c.args.uid c.args.p c.args.f c.args.home _ _ c.self.invariant c.place_in-place.ensures.at
+    c.place_in-place.ensures.within c.table_mut.ensures.value (started_for c.self.inside.pages.core c.args.f c.args.uid c.args.p started) c.end_in.ensures.tie c.end_in.ensures.others c.end_in.ensures.word
+    c.end_in.ensures.bound c.end_in.ensures.lost c.end_in.ensures.reads

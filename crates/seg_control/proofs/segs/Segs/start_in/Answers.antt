@@ -1,0 +1,19 @@
+use Rattle.std.proofs.Common.{◌≡◌, ◌∙◌, ap, sym, rules, true, ℕ}
+use Rattle.page_table.specs.PageTable.{ptw_at}
+use Rattle.active_segs.specs.Active.{table_at}
+use Rattle.page_control.specs.Tied.{is_out, IsNotStarted}
+use Rattle.seg_control.specs.Control.{word_of}
+use Rattle.seg_control.proofs.Paged.{paged_started}
+use Rattle.seg_control.proofs.Frames.{same_vtocs, same_records, none_started}
+use Rattle.seg_control.proofs.Calls.{kept_paged}
+use Rattle.seg_control.proofs.segs.Segs.start_in.Goals as goal
+
+pub invariant_of-self : goal.invariant_of-self
+invariant_of-self g c =
+    let out : is_out (word_of c.self.inside.ast c.args.uid c.args.p) ≡ true = search rules in
+    let first : IsNotStarted c.self.inside.pages.core c.args.uid c.args.p = search rules in
+    kept_paged _ _ _ _ c.self.invariant
+    (paged_started _ _ _ _ c.self.invariant.paged c.start_in.ensures.bindings (same_vtocs _ _ c.start_in.ensures.volumes)
+    (same_records _ _ c.start_in.ensures.volumes) c.start_in.ensures.ties c.args.f c.place_in-place.result c.args.uid c.args.p c.place_in-place.ensures.at
+    (ap (λ (place : ℕ). is_out (ptw_at (table_at c.self.inside.ast.tables place) c.args.p)) c.place_in-place.ensures.is ∙ out)
+    (none_started c.self.inside.pages.core c.args.uid c.args.p first) c.start_in.ensures.reads)

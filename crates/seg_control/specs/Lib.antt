@@ -1,0 +1,4 @@
+pub mod Control
+pub mod Effects
+pub mod Kept
+pub mod Next
