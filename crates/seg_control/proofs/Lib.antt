@@ -4,6 +4,10 @@ pub mod Paged
 pub mod Calls
 pub mod Moving
 pub mod Homes
+pub mod Becoming
+pub mod Chains
+pub mod New
+pub mod Taking
 pub mod Counts
 pub mod Linked
 pub mod Connected

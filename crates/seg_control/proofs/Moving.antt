@@ -97,9 +97,10 @@ kept_dropped old now ast links place uid p home word t u k at within table idle 
 -- ---- a page is taken, or given back
 
 -- words of one table change, and no page that is on its record alone
-module _ (now : Plain) (entries : List (Option Entry)) (ptws : List (List Ptw)) (place uid : ℕ) (u : List Ptw) (k : ArePaged now entries ptws) (tree : IsTree entries)
-    (at : uid_at entries place ≡ Some uid) (within : place < length ptws) (table : IsTableOf (bindings now.core) uid u)
-    (tie : (home : Home) → IsTied now uid home (table_at ptws place) → IsTied now uid home u)
+module _ (now : Plain) (entries : List (Option Entry)) (ptws : List (List Ptw)) (place : ℕ) (u : List Ptw) (k : ArePaged now entries ptws)
+    (within : place < length ptws) (table : (uid : ℕ) → uid_at entries place ≡ Some uid → IsTableOf (bindings now.core) uid u)
+    (tie : (uid : ℕ) (home : Home) → uid_at entries place ≡ Some uid → IsTied now uid home (table_at ptws place) → IsTied now uid home u)
+    (null : (q : ℕ) → entry_at entries place ≡ None → ptw_at u q ≡ Null)
     (out : (q : ℕ) → is_out (ptw_at (table_at ptws place) q) ≡ true → is_out (ptw_at u q) ≡ true) where
   here : (q : ℕ) → q ≡ place → u ≡ table_at (set ptws place u) q
   here q same = sym (ap (table_at (set ptws place u)) same ∙ table_same ptws place u within)
@@ -107,27 +108,26 @@ module _ (now : Plain) (entries : List (Option Entry)) (ptws : List (List Ptw)) 
   there : (q : ℕ) → q ≢ place → table_at ptws q ≡ table_at (set ptws place u) q
   there q ne = sym (table_other ptws place q u ne)
 
-  its : (q v : ℕ) → uid_at entries q ≡ Some v → q ≡ place → uid ≡ v
-  its q v e same = same_Some _ _ (sym at ∙ ap (uid_at entries) (sym same) ∙ e)
+  its : (q v : ℕ) → uid_at entries q ≡ Some v → q ≡ place → uid_at entries place ≡ Some v
+  its q v e same = ap (uid_at entries) (sym same) ∙ e
 
   pub paged_words : ArePaged now entries (set ptws place u)
   paged_words = record {
     tables = λ q v e. elim (cases_eq q place) [
-      | inl same ↦ subst (IsTableOf (bindings now.core) v) (here q same) (subst (λ (n : ℕ). IsTableOf (bindings now.core) n u) (its q v e same) table)
+      | inl same ↦ subst (IsTableOf (bindings now.core) v) (here q same) (table v (its q v e same))
       | inr ne ↦ subst (IsTableOf (bindings now.core) v) (there q ne) (k.tables q v e)
     ];
     ties = λ q v h e is. elim (cases_eq q place) [
       | inl same ↦
-          (let old : IsTied now uid h (table_at ptws place) =
-          subst (λ (n : ℕ). IsTied now n h (table_at ptws place)) (sym (its q v e same))
-          (subst (λ (n : ℕ). IsTied now v h (table_at ptws n)) same (k.ties q v h e is)) in
-          subst (IsTied now v h) (here q same) (subst (λ (n : ℕ). IsTied now n h u) (its q v e same) (tie h old)))
+          subst (IsTied now v h) (here q same)
+          (tie v h (its q v e same) (subst (λ (n : ℕ). IsTied now v h (table_at ptws n)) same (k.ties q v h e is)))
       | inr ne ↦ subst (IsTied now v h) (there q ne) (k.ties q v h e is)
     ];
     rest = k.rest;
-    blank = λ q n e.
-        (let ne : q ≢ place = λ same. none-some uid (sym (ap uid_in e) ∙ ap (uid_at entries) same ∙ at) in
-        ap (λ (those : List Ptw). ptw_at those n) (sym (there q ne)) ∙ k.blank q n e);
+    blank = λ q n e. elim (cases_eq q place) [
+      | inl same ↦ ap (λ (those : List Ptw). ptw_at those n) (sym (here q same)) ∙ null n (ap (entry_at entries) (sym same) ∙ e)
+      | inr ne ↦ ap (λ (those : List Ptw). ptw_at those n) (sym (there q ne)) ∙ k.blank q n e
+    ];
     bound = k.bound;
     started = λ f v p e.
         (let was : IsOutAt entries ptws v p = k.started f v p e in
@@ -158,8 +158,11 @@ kept_words old now ast links place uid p w t u k' same at within table off is ti
     let k : IsKept now ast links = subst (λ (s : Plain). IsKept s ast links) (sym same) k' in
     let lt : place < length ast.tables = (let long : length ast.tables ≡ length ast.entries = k.places in omega (arith, long, within)) in
     record {
-      paged = paged_words now ast.entries ast.tables place uid u k.paged k.tree at lt tied
-          (λ h e. tie h (subst (λ (s : Plain). IsTied s uid h t) same (subst (IsTied now uid h) (sym table) e)))
+      paged = paged_words now ast.entries ast.tables place u k.paged lt (λ v e. subst (λ (n : ℕ). IsTableOf (bindings now.core) n u) (same_Some _ _ (sym at ∙ e)) tied)
+          (λ v h e old. subst (λ (n : ℕ). IsTied now n h u) (same_Some _ _ (sym at ∙ e))
+          (tie h (subst (λ (s : Plain). IsTied s uid h t) same (subst (IsTied now uid h) (sym table)
+          (subst (λ (n : ℕ). IsTied now n h (table_at ast.tables place)) (sym (same_Some _ _ (sym at ∙ e))) old)))))
+          (λ q e. absurd (none-some uid (sym (ap uid_in e) ∙ at)))
           (λ q out. out_kept t u p w is off q (ap (λ (those : List Ptw). is_out (ptw_at those q)) table ∙ out));
       tree = k.tree;
       places = length-set ast.tables place u ∙ k.places;

@@ -129,3 +129,15 @@ AreFree core = (f : ℕ) → frame_at core f ≡ Free
 -- each segment that has just one home could have a page table there
 abbrev pub AreAtRest : Plain → Type 0
 AreAtRest now = (uid : ℕ) (home : Home) → IsHomeOf now.vtocs uid home → HasTable now uid home
+
+-- pair i of a list of processes with their numbers
+abbrev pub pair_at : List (ℕ × ℕ) → ℕ → ℕ × ℕ
+pair_at list i = slice_index_or list i (0, 0)
+
+-- numbers of processes that may be connected to the place of a segment: each is known for it and leads nowhere, and none
+-- comes twice
+pub record MayReconnect (links : Links) (uid : Option ℕ) (list : List (ℕ × ℕ)) : Type 0 where
+  pub processes : (i : ℕ) → i < length list → (pair_at list i).0 < length links.known
+  pub known : (i : ℕ) → i < length list → uid_of (kst_at links.known (pair_at list i).0) (pair_at list i).1 ≡ uid
+  pub cut : (i : ℕ) → i < length list → leads_at links.descriptors (pair_at list i).0 (pair_at list i).1 ≡ None
+  pub once : (i j : ℕ) → i < j → j < length list → pair_at list i ≢ pair_at list j

@@ -1,0 +1,155 @@
+-- Segment control where nothing is active, known or connected.
+use Rattle.std.proofs.Common.{◌≡◌, ◌≢◌, ℕ, suc, zero, ◌<◌, ◌≤◌, ◌+◌, ◌^◌, List, [], ◌∷◌, ◌++◌, length, Option, None, Some, sum, replicate, count_by}
+use Rattle.std.proofs.Common.{refl, sym, ap, subst, ◌∙◌, arith, get_or, inl, inr}
+use Rattle.std.proofs.lemmas.Bool.{cases_lt}
+use Rattle.std.proofs.lemmas.List.{get_or-replicate, get_or_past, length-append, length-replicate}
+use Rattle.std.proofs.lemmas.List.Sums.{sum_by-cons}
+use Rattle.std.proofs.lemmas.Option.{none-some}
+use Rattle.std.proofs.lemmas.Grind.{common_steps}
+use Rattle.core_map.specs.CoreMap.{Core, reads_of, bound_page, started_page}
+use Rattle.page_table.specs.declared.Ptw.{Ptw}
+use Rattle.page_table.specs.declared.Ptw.TheVariants.{Null}
+use Rattle.page_table.specs.PageTable.{ptw_at}
+use Rattle.trailers.specs.Trailer.{trailers_of, leads_to}
+use Rattle.descriptor_seg.specs.declared.Sdw.{Sdw}
+use Rattle.descriptor_seg.specs.declared.Sdw.TheVariants.{Fault}
+use Rattle.descriptor_seg.specs.Descriptors.{sdw_at, all_faults}
+use Rattle.known_segs.specs.Known.{uid_of}
+use Rattle.active_segs.specs.declared.Entry.{Entry}
+use Rattle.active_segs.specs.Active.{ActiveSegs, uid_in, superior_in, entry_at, uid_at, superior_at, table_at, null_tables, no_segments, IsActive, IsTree, AreNullTables}
+use Rattle.active_segs.specs.Pool.{size_of}
+use Rattle.page_control.specs.Plain.{Plain, bindings, binding_at}
+use Rattle.page_control.specs.Tied.{AreFiled}
+use Rattle.seg_control.specs.Control.{Links, kst_at, sdws_at, leads, leads_at}
+use Rattle.seg_control.specs.Effects.{no_links}
+use Rattle.seg_control.specs.Kept.{read_at, times, AreFree, AreAtRest, AreLinked, IsKept}
+use Rattle.seg_control.proofs.Frames.{binding_is, read_is}
+
+-- one of many equal ones, or the default past their end
+one_of : {X : Type 0} (n i : ℕ) (x d : X) (P : X → Type 0) → P x → P d → P (get_or (replicate n x) i d)
+one_of {X} n i x d P px pd = elim (cases_lt i n) [
+  | inl lt ↦ subst P (sym (get_or-replicate n i x d lt)) px
+  | inr past ↦ subst P (sym (get_or_past (replicate n x) i d (let long : length (replicate n x) ≡ n = length-replicate n x in omega (arith, long, past)))) pd
+]
+
+empty_at : (n place : ℕ) → entry_at (replicate n None) place ≡ None
+empty_at n place = one_of n place None None (λ (e : Option Entry). e ≡ None) refl refl
+
+none_at : (n place uid : ℕ) → uid_at (replicate n None) place ≢ Some uid
+none_at n place uid e = none-some uid (sym (ap uid_in (empty_at n place)) ∙ e)
+
+none_above : (n place uid : ℕ) → superior_at (replicate n None) place ≢ Some uid
+none_above n place uid e = none-some uid (sym (ap superior_in (empty_at n place)) ∙ e)
+
+tree_empty : (n : ℕ) → IsTree (replicate n None)
+tree_empty n = record {
+  once = λ p q uid e e'. absurd (none_at n p uid e);
+  superiors = λ place superior e. absurd (none_above n place superior e);
+  grounded = (λ _. 0, λ place uid superior e e'. absurd (none_at n place uid e));
+}
+
+-- ---- page tables
+
+AreBlank : List (List Ptw) → Type 0
+AreBlank tables = (place p : ℕ) → ptw_at (table_at tables place) p ≡ Null
+
+blank_same : (n m : ℕ) → AreBlank (replicate n (replicate m Null))
+unfolding AreBlank
+blank_same n m place p =
+    one_of n place (replicate m Null) [] (λ (t : List Ptw). ptw_at t p ≡ Null) (one_of m p Null Null (λ (w : Ptw). w ≡ Null) refl refl) refl
+
+blank_both : (xs ys : List (List Ptw)) → AreBlank xs → AreBlank ys → AreBlank (xs ++ ys)
+unfolding AreBlank
+blank_both [] ys one two place p = two place p
+blank_both (x ∷ xs) ys one two zero p = one 0 p
+blank_both (x ∷ xs) ys one two (suc place) p = blank_both xs ys (λ q n. one (suc q) n) two place p
+
+blank_null : (pools : List ℕ) → AreBlank (null_tables pools)
+blank_null pools =
+    blank_both _ _ (blank_both _ _ (blank_both _ _ (blank_same (size_of pools 0) 4) (blank_same (size_of pools 1) 16)) (blank_same (size_of pools 2) 64))
+    (blank_same (size_of pools 3) 256)
+
+word_null : (pools : List ℕ) (place p : ℕ) → ptw_at (table_at (null_tables pools) place) p ≡ Null
+unfolding AreBlank
+word_null pools place p = blank_null pools place p
+
+sum_of_four : (pools : List ℕ) → length pools ≡ 4 → sum pools ≡ size_of pools 0 + size_of pools 1 + size_of pools 2 + size_of pools 3
+sum_of_four [] four = absurd (omega (arith, four))
+sum_of_four (a ∷ []) four = absurd (omega (arith, four))
+sum_of_four (a ∷ b ∷ []) four = absurd (omega (arith, four))
+sum_of_four (a ∷ b ∷ c ∷ []) four = absurd (omega (arith, four))
+sum_of_four (a ∷ b ∷ c ∷ d ∷ []) four = grind (arith, common_steps)
+sum_of_four (a ∷ b ∷ c ∷ d ∷ e ∷ rest) four = absurd (omega (arith, four))
+
+length_null : (pools : List ℕ) → length pools ≡ 4 → length (null_tables pools) ≡ sum pools
+length_null pools four = let all = sum_of_four pools four in simp (length-append, length-replicate) (omega (arith, all))
+
+-- ---- descriptors, trailers and known segment tables
+
+unled : (n q number : ℕ) → leads_at (replicate n all_faults) q number ≡ None
+unled n q number =
+    one_of n q all_faults [] (λ (words : List Sdw). leads (sdw_at words number) ≡ None) (one_of 256 number Fault Fault (λ (w : Sdw). leads w ≡ None) refl refl) refl
+
+unknown : (n q number : ℕ) → uid_of (kst_at (replicate n (replicate 256 None)) q) number ≡ None
+unknown n q number =
+    one_of n q (replicate 256 None) [] (λ (kst : List (Option ℕ)). uid_of kst number ≡ None) (one_of 256 number None None (λ (u : Option ℕ). u ≡ None) refl refl) refl
+
+abbrev no_number : Option ℕ
+no_number = None
+
+linked_none : (n places processes : ℕ) → places ≡ n → processes ≤ 32 → AreLinked (replicate n None) (no_links places processes)
+linked_none n places processes same few = record {
+  exact = λ place q number.
+      ap (count_by (leads_to q number)) (one_of places place [] [] (λ (xs : List (ℕ × ℕ)). xs ≡ []) refl refl)
+      ∙ sym (ap (λ (at : Option ℕ). times at place) (unled processes q number));
+  known = λ q number place e. absurd (none-some place (sym (unled processes q number) ∙ e));
+  each = λ q a b uid e e'. absurd (none-some uid (sym (unknown processes q a) ∙ e));
+  lists = record {
+    places = length-replicate places [] ∙ same ∙ sym (length-replicate n None);
+    processes = length-replicate processes all_faults ∙ sym (length-replicate processes (replicate 256 None));
+    few = (let long : length (replicate processes (replicate 256 no_number)) ≡ processes = length-replicate processes (replicate 256 None) in
+        omega (arith, long, few));
+    numbers = λ q lt. ap length (get_or-replicate processes q (replicate 256 no_number) [] (below processes q lt)) ∙ length-replicate 256 no_number;
+    words = λ q lt. ap length (get_or-replicate processes q all_faults [] (below processes q lt)) ∙ length-replicate 256 Fault;
+  };
+}
+  where
+    below : (processes q : ℕ) → q < length (replicate processes (replicate 256 no_number)) → q < processes
+    below processes q lt =
+        let long : length (replicate processes (replicate 256 no_number)) ≡ processes = length-replicate processes (replicate 256 None) in
+        omega (arith, long, lt)
+
+-- ---- the whole
+
+pub kept_new : (now : Plain) (pools : List ℕ) (places processes : ℕ) (ast : ActiveSegs) (links : Links) → length pools ≡ 4 → processes ≤ 32 → AreFree now.core
+    → AreFiled now.records now.vtocs → AreAtRest now → ast ≡ no_segments pools → AreNullTables pools ast.tables → places ≡ sum pools
+    → links ≡ no_links places processes → IsKept now ast links
+kept_new now pools places processes ast links four few free filed rest is_ast null same is_links =
+    subst (λ (a : ActiveSegs). IsKept now a links) (sym is_ast)
+    (subst (λ (l : Links). IsKept now (no_segments pools) l) (sym is_links)
+    (record {
+      paged = record {
+        tables = λ place uid e. absurd (none_at (sum pools) place uid e);
+        ties = λ place uid home e is. absurd (none_at (sum pools) place uid e);
+        rest = λ uid home off is. rest uid home is;
+        blank = λ place p e. word_null pools place p;
+        bound = λ f uid p e. absurd (not_bound f (uid, p) e);
+        started = λ f uid p e. absurd (not_read f (uid, p) e);
+        once = λ f g uid p e e'. absurd (not_read f (uid, p) e);
+        filed = filed;
+      };
+      tree = tree_empty (sum pools);
+      places = length_null pools four ∙ sym (length-replicate (sum pools) None);
+      sized = λ pool place lt in_pool.
+          ap length (subst (λ (a : ActiveSegs). AreNullTables pools a.tables) is_ast null pool place lt in_pool) ∙ length-replicate (4 ^ (pool + 1)) Null;
+      linked = linked_none (sum pools) places processes same few;
+    }))
+  where
+    some_page : {X : Type 0} (x : X) → ◌≡◌ {A = Option X} None (Some x) → ⊥
+    some_page x e = cc
+
+    not_bound : (f : ℕ) (x : ℕ × ℕ) → binding_at (bindings now.core) f ≡ Some x → ⊥
+    not_bound f x e = some_page x (sym (binding_is now.core f ∙ ap bound_page (free f)) ∙ e)
+
+    not_read : (f : ℕ) (x : ℕ × ℕ) → read_at (reads_of now.core) f ≡ Some x → ⊥
+    not_read f x e = some_page x (sym (read_is now.core f ∙ ap started_page (free f)) ∙ e)

@@ -1,0 +1,7 @@
+use Rattle.std.proofs.Common.{ℕ, ◌<◌}
+use Rattle.active_segs.specs.Active.{IsActive}
+use Rattle.seg_control.specs.Next.{link_at}
+use Rattle.seg_control.proofs.activating.first_inactive.Given as goal
+
+abbrev pub invariant-loop-i : goal.invariant-loop-i
+invariant-loop-i l = record { before : (j : ℕ) → j < l.i → IsActive l.ast.entries (link_at l.chain j).uid }

@@ -1,0 +1,20 @@
+use Rattle.std.proofs.Common.{◌≡◌, ◌<◌, ◌∙◌, None, Some, refl, sym, ap, rules, get_or, length, arith}
+use Rattle.page_table.specs.declared.Ptw.TheVariants.{Null, Out}
+use Rattle.vtoc.specs.Vtoc.{entry_at, records_in}
+use Rattle.seg_control.specs.Next.{filed_word}
+use Rattle.seg_control.proofs.Becoming.{table_zero}
+use Rattle.seg_control.proofs.Chains.{load_step}
+use Rattle.seg_control.proofs.activating.load.Goals as goal
+use Rattle.seg_control.proofs.activating.load.Goals.{in-Some, in-None}
+
+pub loop-p-init : goal.loop-p-init
+loop-p-init c = record { filled = sym (table_zero (records_in (entry_at c.args.vtoc.now c.args.entry))); long = refl }
+
+pub loop-p-preserved : goal.loop-p-preserved
+loop-p-preserved c =
+    let word : c.match-file_map.word ≡ filed_word (get_or (records_in (entry_at c.args.vtoc.now c.args.entry)) c.loop-p.p None) =
+    elim c.match-file_map.branch [
+      | in-Some w ↦ w.word-is ∙ ap filed_word (sym w.in-Some.is ∙ c.file_map.ensures)
+      | in-None w ↦ w.word-is ∙ ap filed_word (sym w.in-None.is ∙ c.file_map.ensures)
+    ] in
+    record { filled = rw c.set.ensures (load_step _ c.loop-p.table c.loop-p.p c.match-file_map.word (search rules) c.loop-p.invariant.filled word); long = search rules }

@@ -1,0 +1,10 @@
+use Rattle.std.proofs.Common.{◌≡◌, take, length}
+use Rattle.vtoc.specs.Vtoc.{entry_at, records_in}
+use Rattle.seg_control.specs.Next.{table_for}
+use Rattle.seg_control.proofs.activating.load.Given as goal
+
+abbrev pub invariant-loop-p : goal.invariant-loop-p
+invariant-loop-p l = record {
+  filled : take l.p l.table ≡ table_for (records_in (entry_at l.vtoc l.entry)) l.p;
+  long : length l.table ≡ length l.fn.table;
+}

@@ -1,0 +1,24 @@
+use Rattle.std.proofs.Common.{◌≡◌, ◌∙◌, ℕ, List, Option, length, ap, subst, sym, rules}
+use Rattle.active_segs.specs.Active.{IsFull}
+use Rattle.active_segs.specs.Victim.{HasItsSuperiors}
+use Rattle.page_control.specs.Plain.{plain}
+use Rattle.seg_control.specs.Next.{MayActivate, link_at, IsStuck}
+use Rattle.seg_control.proofs.Chains.{its_superiors, not_stuck_active, not_stuck_free, if_none}
+use Rattle.seg_control.proofs.segs.Segs.next_victim.Goals as goal
+
+pub next_victim-requires-clause-superiors : goal.next_victim-requires-clause-superiors
+next_victim-requires-clause-superiors g c =
+    let may : MayActivate c.self.inside.ast c.self.inside.pages.volumes.vtocs (length c.self.inside.pages.volumes.drives) c.args.chain.now = search rules in
+    subst (HasItsSuperiors c.self.inside.ast.entries) (sym (c.deref.ensures.0 ∙ c.uids_in.ensures))
+    (its_superiors c.self.inside.ast c.self.inside.pages.volumes.vtocs (length c.self.inside.pages.volumes.drives) c.args.chain.now may)
+
+pub returns-in_err-i-clause-none : goal.returns-in_err-i-clause-none
+returns-in_err-i-clause-none g c =
+    if_none c.from_residual.result
+    (λ i. rw (← c.self.view_is) (not_stuck_active c.self.inside.ast c.args.chain.now c.in_err-i.ensures.none i))
+
+pub returns-in-Some-clause-none : goal.returns-in-Some-clause-none
+returns-in-Some-clause-none g c =
+    λ i. rw (← c.self.view_is)
+    (not_stuck_free c.self.inside.ast c.args.chain.now i c.in_ok-i.i c.in_ok-i.ensures.some
+    (λ full. (let none = c.in-Some.ensures.full.1 full in cc)))
