@@ -3,6 +3,7 @@ use Rattle.std.proofs.Common.{◌≡◌, ◌≢◌, ◌⊎◌, ℕ, ◌<◌, ◌
 use Rattle.std.proofs.Common.{ap, subst, ◌∙◌, arith, set, get_or, inl, inr, count_by, Contains, position, remove}
 use Rattle.std.proofs.lemmas.Bool.{cases_eq, cases_lt, eq-eqb, ne_eqb}
 use Rattle.std.proofs.lemmas.List.{get_or-set_same, get_or-set_other, get_or_past, length-set, length-append}
+use Rattle.std.proofs.lemmas.List.Edits.{length-remove}
 use Rattle.std.proofs.lemmas.List.Quantifiers.{position-Some}
 use Rattle.std.proofs.lemmas.Option.{none-some, same_Some}
 use Rattle.mnames.specs.declared.modes.Mode.{Mode}
@@ -146,6 +147,11 @@ module _ (entries : List (Option Entry)) (links : Links) (process number place u
     };
   }
 
+  -- what other numbers lead to stays
+  pub others_connected : (q n : ℕ) → (q ≡ process → n ≢ number)
+      → leads_at (linked links process number place mode pages).descriptors q n ≡ leads_at links.descriptors q n
+  others_connected q n other = leads_other links.descriptors process number (Present place mode pages) in_descriptors in_words q n other
+
   -- there was room for one more trailer
   pub room : length (trailers_of links.trailers place) < 32
   room =
@@ -190,7 +196,7 @@ module _ (entries : List (Option Entry)) (links : Links) (process number place :
       ]
 
   -- its trailer
-  found : (i : ℕ) × (i < length (trailers_of links.trailers place)) × (leads_to process number (get_or (trailers_of links.trailers place) i (process, number)) ≡ true)
+  pub found : (i : ℕ) × (i < length (trailers_of links.trailers place)) × (leads_to process number (get_or (trailers_of links.trailers place) i (process, number)) ≡ true)
   found =
       let count = k.exact place process number in
       let one : times (leads_at links.descriptors process number) place ≡ 1 = ap (λ (at : Option ℕ). times at place) leading ∙ times_same place in
@@ -253,6 +259,27 @@ module _ (entries : List (Option Entry)) (links : Links) (process number place :
         where
           weight_of : (q n : ℕ) (x : ℕ × ℕ) → x.0 ≡ process → x.1 ≡ number → weight (leads_to q n x) ≡ weight (leads_to q n (process, number))
           weight_of q n x e f = ap (λ (a : ℕ). weight (leads_to q n (a, x.1))) e ∙ ap (λ (b : ℕ). weight (leads_to q n (process, b))) f
+
+  -- the list is shorter then
+  pub without_shorter : length (trailers_of (unlinked links process number (Some place)).trailers place) < length (trailers_of links.trailers place)
+  without_shorter =
+      let some : IsSome (place_in (trailers_of links.trailers place) process number) =
+      position_there (leads_to process number) (trailers_of links.trailers place) found.0 (process, number) found.1 found.2 in
+      let list : trailers_of (unlinked links process number (Some place)).trailers place ≡ without_trailer (trailers_of links.trailers place) process number =
+      list_same links.trailers place (without_trailer (trailers_of links.trailers place) process number) cut_place in
+      let less = shorter (place_in (trailers_of links.trailers place) process number) refl some in
+      let same = ap length list in
+      omega (arith, less, same)
+    where
+      shorter : (at : Option ℕ) → place_in (trailers_of links.trailers place) process number ≡ at → IsSome at
+          → length (without_trailer (trailers_of links.trailers place) process number) < length (trailers_of links.trailers place)
+      shorter None e some = cc
+      shorter (Some i) e some =
+          let those : List (ℕ × ℕ) = trailers_of links.trailers place in
+          let at = position-Some (leads_to process number) those i (process, number) e in
+          let long = length-remove those i at.0 in
+          let is : length (without_trailer those process number) ≡ length (remove those i) = ap (λ (o : Option ℕ). length (without_place those o)) e in
+          omega (arith, long, is)
 
   exact_cut : AreExact (unlinked links process number (Some place)).trailers (unlinked links process number (Some place)).descriptors
   exact_cut pl q n = elim (pair_cases q n process number) [

@@ -11,3 +11,4 @@ pub mod Taking
 pub mod Counts
 pub mod Linked
 pub mod Connected
+pub mod Cutting

@@ -108,7 +108,7 @@ times_some (Some aste) place le = elim (cases_eq place aste) [
 ]
 
 -- a trailer leads to a descriptor that leads back
-trailer_leads : (trailers : List (List (ℕ × ℕ))) (descriptors : List (List Sdw)) (place i : ℕ) → AreExact trailers descriptors → i < length (trailers_of trailers place)
+pub trailer_leads : (trailers : List (List (ℕ × ℕ))) (descriptors : List (List Sdw)) (place i : ℕ) → AreExact trailers descriptors → i < length (trailers_of trailers place)
     → leads_at descriptors (get_or (trailers_of trailers place) i (0, 0)).0 (get_or (trailers_of trailers place) i (0, 0)).1 ≡ Some place
 trailer_leads trailers descriptors place i exact lt =
     let x : ℕ × ℕ = get_or (trailers_of trailers place) i (0, 0) in

@@ -1,10 +1,9 @@
-ghost use Rattle.std.specs.Prelude.{◌≡◌, ◌<◌, ◌↔◌, Some, None, length, IsSome, IsNone, IfSome};
+ghost use Rattle.std.specs.Prelude.{◌≡◌, ◌≢◌, ◌<◌, ◌↔◌, ℕ, Some, None, length, IsSome, IsNone, IfSome, IfNone};
 ghost use Rattle.known_segs.specs.Known.{uid_of, number_for, known_count, IsUnknown};
-ghost use Rattle.active_segs.specs.Active.{IsActive};
-ghost use Rattle.page_control.specs.Plain.{plain};
+ghost use Rattle.active_segs.specs.Active.{uid_at, IsActive};
 ghost use Rattle.seg_control.specs.Control.{kst_at, sdws_at, leads_at, place_of};
-ghost use Rattle.seg_control.specs.Kept.{IsKept, AreLinked};
-ghost use Rattle.seg_control.specs.Effects.{linked, cut_one, made_known, forgotten};
+ghost use Rattle.seg_control.specs.Kept.{AreLinked, MayReconnect};
+ghost use Rattle.seg_control.specs.Effects.{linked, cut_one, all_cut, reconnected, made_known, forgotten};
 
 use crate::segs::{Segs, place_in};
 use descriptor_seg::{DescSeg, Sdw};
@@ -77,7 +76,7 @@ impl<D: Drive> Segs<D> {
         } }
     {
         let place = place_in(&self.ast, uid);
-        self.links.connect(place, process, number, mode, pages);
+        self.connect_to(place, process, number, mode, pages);
     }
 
     /// A number of a process that leads to an active segment faults from now on, and its trailer is taken out. It costs
@@ -91,5 +90,62 @@ impl<D: Drive> Segs<D> {
             Sdw::Present { aste, .. } => self.links.cut(aste, process, number),
             Sdw::Fault => unreachable!(),
         }
+    }
+
+    /// Cuts every descriptor that leads to a place: each of those numbers faults from now on, and the place has no
+    /// trailer. It goes through the trailers of that place alone. (Source: Bensoussan, Clingen and Daley 1972; Organick
+    /// 1972.)
+    pub fn cut_all(&mut self, aste: u32)
+        requires { aste < length self.old.ast.entries }
+        ensures effect { self.new ≡ record self.old { links = all_cut self.old.links aste } }
+    {
+        while let Some((process, number)) = self.first_trailer(aste) {
+            self.cut_one(process, number);
+        }
+    }
+
+    /// Connects numbers of processes to the place of the segment that they stand for, in this order, each with its mode
+    /// and all with one length. The list is what `cut_all` took, and undoes it. (Source: Bensoussan, Clingen and Daley
+    /// 1972; Organick 1972.)
+    pub fn reconnect_all(&mut self, aste: u32, list: &[(u32, u32)], modes: &[Mode], pages: u32)
+        requires active { IsSome (uid_at self.old.ast.entries aste) }
+        requires modes { length modes.now ≡ length list.now }
+        requires list { MayReconnect self.old.links (uid_at self.old.ast.entries aste) list.now }
+        ensures effect { self.new ≡ record self.old {
+          links = reconnected self.old.links aste list.now modes.now pages;
+        } }
+    {
+        for i in 0..list.len() {
+            let (process, number) = list[i];
+            self.connect_to(aste, process, number, modes[i], pages);
+        }
+    }
+
+    /// The oldest trailer of a place.
+    fn first_trailer(&self, aste: u32) -> Option<(u32, u32)>
+        requires { aste < length self.now.ast.entries }
+        ensures first { IfSome result (λ pair. leads_at self.now.links.descriptors pair.0 pair.1 ≡ Some aste) }
+        ensures within { IfSome result (λ pair. pair.0 < length self.now.links.known) }
+        ensures none { IfNone result (all_cut self.now.links aste ≡ self.now.links) }
+        ensures linked { AreLinked self.now.ast.entries self.now.links }
+    {
+        let trailers = self.links.trailers();
+        if trailers.count(aste) == 0 {
+            return None;
+        }
+        Some(trailers.at(aste, 0))
+    }
+
+    /// A number of a process leads to the place of the segment that it stands for.
+    fn connect_to(&mut self, aste: u32, process: u32, number: u32, mode: Mode, pages: u32)
+        requires process { process < length self.old.links.known }
+        requires active { IsSome (uid_at self.old.ast.entries aste) }
+        requires known { uid_of (kst_at self.old.links.known process) number ≡ uid_at self.old.ast.entries aste }
+        requires cut { leads_at self.old.links.descriptors process number ≡ None }
+        ensures effect { self.new ≡ record self.old { links = linked self.old.links process number aste mode pages } }
+        ensures others { (q n : ℕ) → (q ≡ process → n ≢ number)
+            → leads_at self.new.links.descriptors q n ≡ leads_at self.old.links.descriptors q n }
+    {
+        self.links.connect(aste, process, number, mode, pages);
     }
 }

@@ -22,12 +22,13 @@ ghost use Rattle.page_control.specs.Drives.{CallsDrive};
 ghost use Rattle.page_control.specs.Tied.{uid_in, is_out, is_away, map_at, IsNotStarted, HasNoFrame, uid_at as uid_homed};
 ghost use Rattle.seg_control.specs.Control.{place_of, table_of, word_of};
 ghost use Rattle.seg_control.specs.Kept.{IsKept, IsHomeFor, IsHomeOf, HasHomeIfActive};
-ghost use Rattle.seg_control.specs.Effects.{worded, table_here, table_left};
+ghost use Rattle.seg_control.specs.Effects.{worded, table_here, table_left, taken_from, all_taken};
 
 use crate::links::Links;
 use active_segs::Ast;
 use mword::Word;
 use page_control::{Home, Left, NoRecord, Pages};
+use page_table::{PageTable, Ptw};
 use site_io::Failed;
 use std::marker::Model;
 use volumes::Drive;
@@ -325,6 +326,15 @@ impl<D: Drive> Segs<D> {
         self.pages.back(self.ast.table_mut(place), f);
     }
 
+    /// Lets no more references go through the words of those pages of a place that are in a frame and have number `from`
+    /// or above: all of them are on their way out from now on. It looks at each word from there on. (Source: own.)
+    pub fn take_all(&mut self, aste: u32, from: u32)
+        requires { aste < length self.old.ast.entries }
+        ensures effect { self.new ≡ record self.old { ast = all_taken self.old.ast aste from } }
+    {
+        take_from(self.ast.table_mut(aste), from);
+    }
+
     /// Takes the least free VTOC entry of a volume for a segment, with an empty file map. None exactly where all of its
     /// entries are used; nothing has changed then. A segment that is active has a home already. (Source: Organick
     /// 1972.)
@@ -378,6 +388,17 @@ impl<D: Drive> Segs<D> {
         ensures links { self.new.links ≡ self.old.links }
     {
         self.pages.erase(home);
+    }
+}
+
+/// Takes each page in a frame from number `from` on.
+fn take_from(table: &mut PageTable, from: u32)
+    ensures { table.new ≡ taken_from from table.old }
+{
+    for p in from..table.size() {
+        if let Ptw::Here(f) = table.get(p) {
+            table.set(p, Ptw::Leaving(f));
+        }
     }
 }
 

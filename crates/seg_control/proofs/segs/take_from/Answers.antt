@@ -1,0 +1,26 @@
+use Rattle.std.proofs.Common.{◌≡◌, ◌<◌, ◌≤◌, ◌∙◌, ℕ, List, length, ap, sym, set, rules, arith}
+use Rattle.std.proofs.lemmas.List.{length-set}
+use Rattle.page_table.specs.declared.Ptw.{Ptw}
+use Rattle.page_table.specs.PageTable.{ptw_at}
+use Rattle.seg_control.specs.Effects.{gone, taken_from}
+use Rattle.seg_control.proofs.Taking.{taken_step, taken_skip, taken_end}
+use Rattle.seg_control.proofs.segs.take_from.Goals as goal
+use Rattle.seg_control.proofs.segs.take_from.Goals.{in-Here, in_default}
+
+pub loop-p-preserved : goal.loop-p-preserved
+loop-p-preserved c =
+    let within : c.loop-p.p < length c.loop-p.table = search rules in
+    let step : c.match-get.table ≡ set c.loop-p.table c.loop-p.p (gone (ptw_at c.loop-p.table c.loop-p.p)) =
+    elim c.match-get.branch [
+      | in-Here w ↦ w.table-is ∙ w.set.ensures ∙ ap (set c.loop-p.table c.loop-p.p) (ap gone (sym w.in-Here.is ∙ c.get.ensures))
+      | in_default w ↦ w.table-is ∙ taken_skip c.loop-p.p c.loop-p.table (search rules)
+    ] in
+    record {
+      all = taken_step c.loop-p.p c.loop-p.table c.match-get.table within step ∙ c.loop-p.invariant.all;
+      long = ap length step ∙ length-set c.loop-p.table c.loop-p.p (gone (ptw_at c.loop-p.table c.loop-p.p)) ∙ c.loop-p.invariant.long;
+    }
+
+pub returns : goal.returns
+returns c =
+    let past : length c.loop-p.table ≤ c.loop-p.p = search rules in
+    sym (taken_end c.loop-p.p c.loop-p.table past) ∙ c.loop-p.invariant.all
