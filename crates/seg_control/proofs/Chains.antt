@@ -1,18 +1,18 @@
 -- A chain of superiors, and its first segment that is not active.
-use Rattle.std.proofs.Common.{◌≡◌, ◌≢◌, ℕ, suc, zero, ◌<◌, ◌≤◌, ◌+◌, ◌^◌, Bool, true, false, List, [], ◌∷◌, ◌++◌, length, Option, None, Some, is_some, IfNone, Contains}
-use Rattle.std.proofs.Common.{refl, sym, ap, subst, ◌∙◌, arith, set, get_or, inl, inr, map, take}
+use Rattle.std.proofs.Common.{◌≡◌, ℕ, suc, zero, ◌<◌, ◌≤◌, ◌+◌, true, List, [], ◌∷◌, ◌++◌, length, Option, None, Some, is_some, IfNone, Contains}
+use Rattle.std.proofs.Common.{refl, sym, ap, subst, ◌∙◌, arith, set, get_or, inl, inr, take}
 use Rattle.std.specs.Prelude.{◌↔◌}
 use Rattle.std.proofs.Math.Seq.{take-suc-set}
 use Rattle.std.proofs.lemmas.Bool.{cases_eq, cases_lt}
 use Rattle.std.proofs.lemmas.List.{get_or-map, length-map}
-use Rattle.std.proofs.lemmas.Option.{none-some, same_Some}
+use Rattle.std.proofs.lemmas.Option.{same_Some}
 use Rattle.page_table.specs.declared.Ptw.{Ptw}
 use Rattle.vtoc.specs.Vtoc.{Entry as VtocEntry}
 use Rattle.active_segs.specs.declared.Entry.{Entry}
-use Rattle.active_segs.specs.Active.{ActiveSegs, uid_at, superior_at, IsActive, IsFull}
-use Rattle.active_segs.specs.Victim.{HasItsSuperiors}
+use Rattle.active_segs.specs.Active.{ActiveSegs, uid_at, IsActive, IsFull}
+use Rattle.active_segs.specs.Victim.{IsVictim, HasItsSuperiors}
 use Rattle.seg_control.specs.declared.Link.{Link}
-use Rattle.seg_control.specs.Next.{uids_of, no_link, link_at, superior_of, words_in, filed_word, table_for, IsFirstInactive, AreActive, MayActivate, IsStuck}
+use Rattle.seg_control.specs.Next.{uids_of, no_link, link_at, superior_of, words_in, filed_word, table_for, IsFirstInactive, AreActive, MayActivate, IsStuck, IsGoing}
 use Rattle.seg_control.proofs.Becoming.{table_suc}
 
 -- ---- superiors
@@ -99,3 +99,18 @@ load_step places table p w lt filled is =
     let e : p + 1 ≡ suc p = omega arith in
     subst (λ (n : ℕ). take n (set table p w) ≡ table_for places n) (sym e)
     (take-suc-set table p w lt ∙ ap (λ (t : List Ptw). t ++ w ∷ []) filled ∙ ap (λ (x : Ptw). table_for places p ++ x ∷ []) is ∙ sym (table_suc places p))
+
+-- ---- the victim
+
+pub going_free : {X : Type 0} (ast : ActiveSegs) (chain : List Link) (place j : ℕ) → IsFirstInactive ast.entries chain j → (IsFull ast (link_at chain j).pool → ⊥)
+    → IsGoing ast chain place → X
+going_free ast chain place j first room going = absurd (not_stuck_free ast chain going.link j first room going.stuck)
+
+pub going_whole : {X : Type 0} (ast : ActiveSegs) (chain : List Link) (place : ℕ) → AreActive ast.entries chain → IsGoing ast chain place → X
+going_whole ast chain place all going = absurd (not_stuck_active ast chain all going.link going.stuck)
+
+pub going_is : (ast : ActiveSegs) (chain : List Link) (place victim j : ℕ) → IsFirstInactive ast.entries chain j
+    → ((q : ℕ) → IsVictim ast (link_at chain j).pool (uids_of chain) q → q ≡ victim) → IsGoing ast chain place → place ≡ victim
+going_is ast chain place victim j first only going =
+    only place
+    (subst (λ (k : ℕ). IsVictim ast (link_at chain k).pool (uids_of chain) place) (first_once ast.entries chain going.link j going.stuck.first first) going.victim)

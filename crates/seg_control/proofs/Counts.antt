@@ -1,11 +1,9 @@
 -- How often a list has an element that passes a test.
-use Rattle.std.proofs.Common.{◌≡◌, ◌≢◌, ℕ, suc, zero, ◌<◌, ◌≤◌, ◌+◌, Bool, true, false, cond, eqb, ltb, not, List, [], ◌∷◌, ◌++◌, length, Option, None, Some, IsSome, refl}
+use Rattle.std.proofs.Common.{◌≡◌, ℕ, suc, zero, ◌<◌, ◌≤◌, ◌+◌, Bool, true, false, cond, eqb, ltb, not, List, [], ◌∷◌, ◌++◌, length, None, Some, IsSome, refl}
 use Rattle.std.proofs.Common.{sym, ap, ◌∙◌, ◌||◌, arith, get_or, count_by, position, map, remove}
 use Rattle.std.specs.List.{position_or_len, list_any}
-use Rattle.std.proofs.lemmas.Bool.{eqb-true, eq-eqb, ltb-false, not-true, both_ways}
+use Rattle.std.proofs.lemmas.Bool.{eqb-true, ltb-false, not-true, both_ways}
 use Rattle.std.proofs.lemmas.List.Sums.{sum_by_push, sum_by-remove, sum_by-cons, prefix_len_passes}
-use Rattle.std.proofs.lemmas.Grind.{common_steps}
-use Rattle.trailers.specs.Trailer.{leads_to}
 
 abbrev pub weight : Bool → ℕ
 weight b = cond b 1 0

@@ -1,24 +1,25 @@
 -- All descriptors of a place are cut, or connected again.
-use Rattle.std.proofs.Common.{◌≡◌, ◌≢◌, ℕ, suc, zero, ◌<◌, ◌≤◌, ◌+◌, Bool, true, false, cond, eqb, List, [], ◌∷◌, length, Option, None, Some, map, drop, remove, count_by}
-use Rattle.std.proofs.Common.{refl, sym, ap, subst, ◌∙◌, arith, set, get_or, inl, inr, IsSome, slice_get}
+use Rattle.std.proofs.Common.{◌≡◌, ◌≢◌, ℕ, suc, zero, ◌<◌, ◌≤◌, ◌+◌, Bool, cond, List, [], ◌∷◌, ◌++◌, length, Option, None, Some, map, drop, count_by}
+use Rattle.std.proofs.Common.{refl, sym, ap, subst, ◌∙◌, arith, set, get_or, slice_get}
 use Rattle.std.proofs.Math.Seq.{map-set_same, drop-cons}
-use Rattle.std.proofs.lemmas.Bool.{cases_eq, cases_lt, eq-eqb, ne_eqb, eqb-true}
-use Rattle.std.proofs.lemmas.List.{set-set, set-get_or, get_or_past}
-use Rattle.std.proofs.lemmas.List.Edits.{length-remove}
-use Rattle.std.proofs.lemmas.List.Quantifiers.{position-Some}
-use Rattle.std.proofs.lemmas.Option.{none-some, get_or_from_slice_get}
+use Rattle.std.proofs.Math.ListN.{get_or-map}
+use Rattle.std.proofs.lemmas.Bool.{eq-eqb, ne_eqb}
+use Rattle.std.proofs.lemmas.List.{set-set, set-get_or, get_or-set_same, length-set, append-nil, append_assoc}
+use Rattle.std.proofs.lemmas.Option.{get_or_from_slice_get}
 use Rattle.mnames.specs.declared.modes.Mode.{Mode}
 use Rattle.descriptor_seg.specs.declared.Sdw.{Sdw}
 use Rattle.descriptor_seg.specs.declared.Sdw.TheVariants.{Fault, Present}
 use Rattle.descriptor_seg.specs.Descriptors.{sdw_at}
-use Rattle.trailers.specs.Trailer.{trailers_of, leads_to, place_in, without_place, without_trailer}
+use Rattle.trailers.specs.Trailer.{trailers_of, leads_to, without_trailer}
 use Rattle.known_segs.specs.Known.{uid_of}
 use Rattle.active_segs.specs.declared.Entry.{Entry}
+use Rattle.active_segs.specs.Active.{uid_at}
 use Rattle.seg_control.specs.Control.{Links, Control, kst_at, sdws_at, leads, leads_at}
 use Rattle.seg_control.specs.Effects.{linked, unlinked, cut_one, faulting, all_cut, reconnected}
 use Rattle.seg_control.specs.Kept.{times, AreLinked, pair_at, MayReconnect}
-use Rattle.seg_control.proofs.Linked.{trailer_leads, times_same}
-use Rattle.seg_control.proofs.Connected.{cut_place, found, without_shorter}
+use Rattle.seg_control.proofs.Counts.{count_two}
+use Rattle.seg_control.proofs.Linked.{trailer_leads, leads_within, leads_to_itself, times_same, times_most}
+use Rattle.seg_control.proofs.Connected.{without_shorter}
 
 -- ---- the oldest trailer
 
@@ -192,3 +193,71 @@ may_next links now uid list i lt may known others =
   where
     same_pair : (x y : ℕ × ℕ) → x.0 ≡ y.0 → x.1 ≡ y.1 → ◌≡◌ {A = ℕ × ℕ} x y
     same_pair x y e f = ap (λ (a : ℕ). (a, x.1)) e ∙ ap (λ (b : ℕ). (y.0, b)) f
+
+-- ---- what was cut may be connected again, and has its trailers then
+
+cut_there_leads : (links : Links) (place q n : ℕ) → leads_at links.descriptors q n ≡ Some place → leads_at (all_cut links place).descriptors q n ≡ None
+unfolding all_cut
+cut_there_leads links place q n e =
+    ap (λ (words : List Sdw). leads (sdw_at words n)) (get_or-map (map (faulting place)) links.descriptors q [])
+    ∙ ap leads (get_or-map (faulting place) (sdws_at links.descriptors q) n Fault)
+    ∙ ap leads (faulting_led place (sdw_at (sdws_at links.descriptors q) n) e)
+
+known_cut_all : (links : Links) (place : ℕ) → (all_cut links place).known ≡ links.known
+unfolding all_cut
+known_cut_all links place = refl
+
+trailers_cut_all : (links : Links) (place : ℕ) → (all_cut links place).trailers ≡ set links.trailers place []
+unfolding all_cut
+trailers_cut_all links place = refl
+
+pub may_again : (entries : List (Option Entry)) (links : Links) (place : ℕ) → AreLinked entries links
+    → MayReconnect (all_cut links place) (uid_at entries place) (trailers_of links.trailers place)
+may_again entries links place k =
+    let xs : List (ℕ × ℕ) = trailers_of links.trailers place in
+    record {
+      processes = λ i lt.
+          (let within = leads_within links.descriptors (pair_at xs i).0 (pair_at xs i).1 place (trailer_leads links.trailers links.descriptors place i k.exact lt) in
+          let same = k.lists.processes in
+          subst (λ (known : List (List (Option ℕ))). (pair_at xs i).0 < length known) (sym (known_cut_all links place)) (omega (arith, within, same)));
+      known = λ i lt.
+          (let was = k.known (pair_at xs i).0 (pair_at xs i).1 place (trailer_leads links.trailers links.descriptors place i k.exact lt) in
+          ap (λ (known : List (List (Option ℕ))). uid_of (kst_at known (pair_at xs i).0) (pair_at xs i).1) (known_cut_all links place)
+          ∙ was.known_as ∙ sym was.active);
+      cut = λ i lt. cut_there_leads links place (pair_at xs i).0 (pair_at xs i).1 (trailer_leads links.trailers links.descriptors place i k.exact lt);
+      once = λ i j less lt same.
+          (let twice =
+          count_two (leads_to (pair_at xs i).0 (pair_at xs i).1) xs i j (0, 0) less lt (leads_to_itself (pair_at xs i).0 (pair_at xs i).1)
+          (ap (leads_to (pair_at xs i).0 (pair_at xs i).1) (sym same) ∙ leads_to_itself (pair_at xs i).0 (pair_at xs i).1) in
+          let is = k.exact place (pair_at xs i).0 (pair_at xs i).1 in
+          let most = times_most (leads_at links.descriptors (pair_at xs i).0 (pair_at xs i).1) place in
+          omega (arith, twice, is, most));
+    }
+
+-- the trailers of the place after some pairs are connected
+trailers_again : (list : List (ℕ × ℕ)) (links : Links) (place pages : ℕ) (modes : List Mode) → length modes ≡ length list → place < length links.trailers
+    → (reconnected links place list modes pages).trailers ≡ set links.trailers place (trailers_of links.trailers place ++ list)
+trailers_again [] links place pages modes long lt =
+    ap (λ (l : Links). l.trailers) (again_none links place pages modes)
+    ∙ sym (ap (set links.trailers place) (append-nil (trailers_of links.trailers place)) ∙ set-get_or links.trailers place [])
+trailers_again (pair ∷ list) links place pages [] long lt = absurd (omega (arith, long))
+trailers_again (pair ∷ list) links place pages (mode ∷ modes) long lt =
+    let those : List (ℕ × ℕ) = trailers_of links.trailers place in
+    let one : List (List (ℕ × ℕ)) = set links.trailers place (those ++ (pair.0, pair.1) ∷ []) in
+    let size : length one ≡ length links.trailers = length-set links.trailers place (those ++ (pair.0, pair.1) ∷ []) in
+    ap (λ (l : Links). l.trailers) (again_more links place pages pair list mode modes)
+    ∙ trailers_again list (linked links pair.0 pair.1 place mode pages) place pages modes (omega (arith, long)) (omega (arith, lt, size))
+    ∙ ap (λ (xs : List (ℕ × ℕ)). set one place (xs ++ list)) (get_or-set_same links.trailers place (those ++ (pair.0, pair.1) ∷ []) [] lt)
+    ∙ set-set links.trailers place (those ++ (pair.0, pair.1) ∷ []) ((those ++ (pair.0, pair.1) ∷ []) ++ list)
+    ∙ ap (set links.trailers place) (append_assoc those ((pair.0, pair.1) ∷ []) list)
+
+pub trailers_back : (links : Links) (place pages : ℕ) (modes : List Mode) → place < length links.trailers → length modes ≡ length (trailers_of links.trailers place)
+    → (reconnected (all_cut links place) place (trailers_of links.trailers place) modes pages).trailers ≡ links.trailers
+trailers_back links place pages modes lt long =
+    let xs : List (ℕ × ℕ) = trailers_of links.trailers place in
+    let cut : (all_cut links place).trailers ≡ set links.trailers place [] = trailers_cut_all links place in
+    let size : length (all_cut links place).trailers ≡ length links.trailers = ap length cut ∙ length-set links.trailers place [] in
+    trailers_again xs (all_cut links place) place pages modes long (omega (arith, lt, size))
+    ∙ ap (λ (t : List (List (ℕ × ℕ))). set t place (trailers_of t place ++ xs)) cut
+    ∙ ap (λ (ys : List (ℕ × ℕ)). set (set links.trailers place []) place (ys ++ xs)) (get_or-set_same links.trailers place [] [] lt)
+    ∙ set-set links.trailers place [] xs ∙ set-get_or links.trailers place []

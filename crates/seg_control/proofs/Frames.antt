@@ -1,12 +1,11 @@
 -- What frames are bound to, and what is being read into them.
-use Rattle.std.proofs.Common.{◌≡◌, ◌≢◌, ℕ, Bool, true, false, List, Option, Some, None, refl, sym, ap, subst, ◌∙◌}
+use Rattle.std.proofs.Common.{◌≡◌, ◌≢◌, ℕ, true, List, Option, Some, refl, sym, ap, ◌∙◌}
 use Rattle.std.proofs.Math.ListN.{get_or-map}
-use Rattle.std.proofs.lemmas.Option.{none-some, same_Some}
+use Rattle.std.proofs.lemmas.Option.{same_Some}
 use Rattle.core_map.specs.CoreMap.{Core, reads_of, frame_at, is_bound, bound_page, started_page}
 use Rattle.core_map.specs.declared.Frame.{Frame}
 use Rattle.core_map.specs.declared.Frame.TheVariants.{Free, Started, Bound}
 use Rattle.volumes.specs.Volumes.{Vols}
-use Rattle.vtoc.specs.Vtoc.{Entry as VtocEntry}
 use Rattle.active_segs.specs.declared.Entry.{Entry}
 use Rattle.active_segs.specs.Active.{IsActive}
 use Rattle.page_table.specs.declared.Ptw.{Ptw}

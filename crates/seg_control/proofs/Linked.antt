@@ -1,26 +1,21 @@
 -- Descriptors, trailers and known segment tables after a call.
-use Rattle.std.proofs.Common.{◌≡◌, ◌≢◌, ◌⊎◌, ℕ, suc, zero, ◌<◌, ◌≤◌, ◌+◌, Bool, true, false, cond, eqb, List, [], ◌∷◌, ◌++◌, length, Option, None, Some, IsSome, refl, sym}
-use Rattle.std.proofs.Common.{ap, subst, ◌∙◌, arith, set, get_or, inl, inr, count_by, ◌&&◌, Contains, position, map, remove}
+use Rattle.std.proofs.Common.{◌≡◌, ◌≢◌, ◌⊎◌, ℕ, suc, zero, ◌<◌, ◌≤◌, Bool, true, false, eqb, List, [], ◌∷◌, length, Option, None, Some, refl, sym}
+use Rattle.std.proofs.Common.{ap, ◌∙◌, arith, set, get_or, inl, inr, ◌&&◌, map}
 use Rattle.std.proofs.lemmas.Bool.{cases_eq, cases_lt, eq-eqb, eqb-true, ne_eqb, and_from}
-use Rattle.std.proofs.lemmas.List.{get_or-set_same, get_or-set_other, get_or_past, length-set, length-map, length-append}
-use Rattle.std.proofs.lemmas.List.Quantifiers.{position-Some}
+use Rattle.std.proofs.lemmas.List.{get_or-set_same, get_or-set_other, get_or_past, length-set, length-map}
 use Rattle.std.proofs.lemmas.Map.Keys.{IsDistinct-from_apart}
 use Rattle.std.proofs.lemmas.Map.Steps.{length-le_from_distinct_below}
 use Rattle.std.proofs.lemmas.Option.{none-some, same_Some}
 use Rattle.std.proofs.Math.ListN.{get_or-map}
-use Rattle.std.specs.List.{list_any}
-use Rattle.mnames.specs.declared.modes.Mode.{Mode}
 use Rattle.descriptor_seg.specs.declared.Sdw.{Sdw}
-use Rattle.descriptor_seg.specs.declared.Sdw.TheVariants.{Fault, Present}
+use Rattle.descriptor_seg.specs.declared.Sdw.TheVariants.{Fault}
 use Rattle.descriptor_seg.specs.Descriptors.{sdw_at}
-use Rattle.trailers.specs.Trailer.{trailers_of, leads_to, place_in, without_place, without_trailer}
-use Rattle.known_segs.specs.Known.{uid_of, HasOneNumberEach}
+use Rattle.trailers.specs.Trailer.{trailers_of, leads_to}
+use Rattle.known_segs.specs.Known.{uid_of}
 use Rattle.active_segs.specs.declared.Entry.{Entry}
-use Rattle.active_segs.specs.Active.{uid_at}
 use Rattle.seg_control.specs.Control.{Links, kst_at, sdws_at, leads, leads_at}
-use Rattle.seg_control.specs.Effects.{linked, unlinked, cut_one, with_kst}
-use Rattle.seg_control.specs.Kept.{times, AreExact, IsKnownAt, HaveLists, AreLinked}
-use Rattle.seg_control.proofs.Counts.{weight, count_push, count_remove, count_one, count_two, count_some, position_there, any_at}
+use Rattle.seg_control.specs.Kept.{times, AreExact, AreLinked}
+use Rattle.seg_control.proofs.Counts.{weight, count_one, count_two, any_at}
 
 -- ---- descriptors
 
@@ -92,7 +87,7 @@ times_same place = ap weight (eq-eqb place place refl)
 pub times_other : (place q : ℕ) → q ≢ place → times (Some place) q ≡ 0
 times_other place q ne = ap weight (ne_eqb place q (λ e. ne (sym e)))
 
-times_most : (at : Option ℕ) (place : ℕ) → times at place ≤ 1
+pub times_most : (at : Option ℕ) (place : ℕ) → times at place ≤ 1
 times_most None place = omega arith
 times_most (Some aste) place = by_test (eqb aste place) refl
   where

@@ -1,5 +1,5 @@
 -- What is kept after a page is made, dropped, taken or given back.
-use Rattle.std.proofs.Common.{◌≡◌, ◌≢◌, ◌⊎◌, ℕ, ◌<◌, Bool, true, false, List, [], length, Option, None, Some, Result, Ok, Err, refl, sym, ap, subst, ◌∙◌}
+use Rattle.std.proofs.Common.{◌≡◌, ◌≢◌, ℕ, ◌<◌, true, false, List, length, Option, None, Some, Result, Ok, Err, sym, ap, subst, ◌∙◌}
 use Rattle.std.proofs.Common.{arith, set, inl, inr, OnOk, OnErr}
 use Rattle.std.proofs.lemmas.Bool.{cases_eq}
 use Rattle.std.proofs.lemmas.List.{get_or-set_other, length-set, map-set}
@@ -11,18 +11,17 @@ use Rattle.page_table.specs.declared.Ptw.TheVariants.{Null, Out, Here, Leaving}
 use Rattle.page_table.specs.PageTable.{ptw_at}
 use Rattle.vtoc.specs.Vtoc.{Entry as VtocEntry, uid_of}
 use Rattle.active_segs.specs.declared.Entry.{Entry}
-use Rattle.active_segs.specs.Active.{ActiveSegs, uid_in, entry_at, uid_at, table_at, with_table, IsTree}
+use Rattle.active_segs.specs.Active.{ActiveSegs, uid_in, entry_at, uid_at, table_at, with_table}
 use Rattle.page_control.specs.declared.Home.{Home}
 use Rattle.page_control.specs.Plain.{Plain, bindings, binding_at, uid_or_zero, uid_of_home}
 use Rattle.page_control.specs.Tied.{IsTableOf, IsNotStarted, is_out, uid_at as uid_homed}
 use Rattle.page_control.specs.Ties.{IsTied, KeepsOthers}
 use Rattle.page_control.specs.Effects.{words_here, after_create, dropped}
-use Rattle.seg_control.specs.Control.{Links, place_of, table_of}
-use Rattle.seg_control.specs.Effects.{worded}
-use Rattle.seg_control.specs.Kept.{read_at, IsHomeOf, HasTable, IsOutAt, ArePaged, IsKept}
+use Rattle.seg_control.specs.Control.{Links}
+use Rattle.seg_control.specs.Kept.{read_at, IsOutAt, ArePaged, IsKept}
 use Rattle.seg_control.proofs.Frames.{none_started}
-use Rattle.seg_control.proofs.Paged.{set_cases, none_read, table_same, table_other, IsCall}
-use Rattle.seg_control.proofs.Calls.{sizes_kept, kept_call, kept_paged, length_here, words_here_other, marks_here}
+use Rattle.seg_control.proofs.Paged.{set_cases, none_read, table_same, table_other}
+use Rattle.seg_control.proofs.Calls.{sizes_kept, kept_call, length_here, words_here_other, marks_here}
 
 -- ---- a page is made
 

@@ -3,24 +3,23 @@ use Rattle.std.proofs.Common.{◌≡◌, ◌≢◌, ℕ, suc, zero, ◌<◌, ◌
 use Rattle.std.proofs.Common.{refl, sym, ap, subst, ◌∙◌, arith, get_or, inl, inr}
 use Rattle.std.proofs.lemmas.Bool.{cases_lt}
 use Rattle.std.proofs.lemmas.List.{get_or-replicate, get_or_past, length-append, length-replicate}
-use Rattle.std.proofs.lemmas.List.Sums.{sum_by-cons}
 use Rattle.std.proofs.lemmas.Option.{none-some}
 use Rattle.std.proofs.lemmas.Grind.{common_steps}
-use Rattle.core_map.specs.CoreMap.{Core, reads_of, bound_page, started_page}
+use Rattle.core_map.specs.CoreMap.{reads_of, bound_page, started_page}
 use Rattle.page_table.specs.declared.Ptw.{Ptw}
 use Rattle.page_table.specs.declared.Ptw.TheVariants.{Null}
 use Rattle.page_table.specs.PageTable.{ptw_at}
-use Rattle.trailers.specs.Trailer.{trailers_of, leads_to}
+use Rattle.trailers.specs.Trailer.{leads_to}
 use Rattle.descriptor_seg.specs.declared.Sdw.{Sdw}
 use Rattle.descriptor_seg.specs.declared.Sdw.TheVariants.{Fault}
 use Rattle.descriptor_seg.specs.Descriptors.{sdw_at, all_faults}
 use Rattle.known_segs.specs.Known.{uid_of}
 use Rattle.active_segs.specs.declared.Entry.{Entry}
-use Rattle.active_segs.specs.Active.{ActiveSegs, uid_in, superior_in, entry_at, uid_at, superior_at, table_at, null_tables, no_segments, IsActive, IsTree, AreNullTables}
+use Rattle.active_segs.specs.Active.{ActiveSegs, uid_in, superior_in, entry_at, uid_at, superior_at, table_at, null_tables, no_segments, IsTree, AreNullTables}
 use Rattle.active_segs.specs.Pool.{size_of}
 use Rattle.page_control.specs.Plain.{Plain, bindings, binding_at}
 use Rattle.page_control.specs.Tied.{AreFiled}
-use Rattle.seg_control.specs.Control.{Links, kst_at, sdws_at, leads, leads_at}
+use Rattle.seg_control.specs.Control.{Links, kst_at, leads, leads_at}
 use Rattle.seg_control.specs.Effects.{no_links}
 use Rattle.seg_control.specs.Kept.{read_at, times, AreFree, AreAtRest, AreLinked, IsKept}
 use Rattle.seg_control.proofs.Frames.{binding_is, read_is}

@@ -56,7 +56,8 @@ impl<D: Drive> Segs<D> {
     pub fn activate_next(&mut self, chain: &[Link]) -> Next
         requires { MayActivate self.old.ast self.old.pages.volumes.vtocs (length self.old.pages.volumes.drives)
             chain.now }
-        ensures { IsNext self.old self.new chain.now result }
+        ensures next { IsNext self.old self.new chain.now result }
+        ensures victim { (place : ℕ) → IsGoing self.old.ast chain.now place → result ≡ Next.Victim place }
     {
         let Some(i) = first_inactive(&self.ast, chain) else {
             return Next::Whole;

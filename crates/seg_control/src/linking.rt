@@ -1,5 +1,7 @@
-ghost use Rattle.std.specs.Prelude.{◌≡◌, ◌≢◌, ◌<◌, ◌↔◌, ℕ, Some, None, length, IsSome, IsNone, IfSome, IfNone};
+ghost use Rattle.std.specs.Prelude.{◌≡◌, ◌≢◌, ◌<◌, ◌↔◌, ℕ, List, Some, None, length, IsSome, IsNone, IfSome, IfNone};
 ghost use Rattle.known_segs.specs.Known.{uid_of, number_for, known_count, IsUnknown};
+ghost use Rattle.mnames.specs.declared.modes.Mode.{Mode};
+ghost use Rattle.trailers.specs.Trailer.{trailers_of};
 ghost use Rattle.active_segs.specs.Active.{uid_at, IsActive};
 ghost use Rattle.seg_control.specs.Control.{kst_at, sdws_at, leads_at, place_of};
 ghost use Rattle.seg_control.specs.Kept.{AreLinked, MayReconnect};
@@ -13,10 +15,17 @@ use trailers::Trailers;
 use volumes::Drive;
 
 impl<D: Drive> Segs<D> {
-    /// The trailers. (Source: Bensoussan, Clingen and Daley 1972.)
+    /// The trailers. Those of a place may be connected again once they are cut, and stand there as before then. (Source:
+    /// Bensoussan, Clingen and Daley 1972.)
     pub fn trailers(&self) -> &Trailers
         ensures trailers { result.now ≡ self.now.links.trailers }
         ensures linked { AreLinked self.now.ast.entries self.now.links }
+        ensures again { (aste : ℕ) → MayReconnect (all_cut self.now.links aste) (uid_at self.now.ast.entries aste)
+            (trailers_of self.now.links.trailers aste) }
+        ensures back { (aste pages : ℕ) (modes : List Mode) → aste < length self.now.links.trailers
+            → length modes ≡ length (trailers_of self.now.links.trailers aste)
+            → (reconnected (all_cut self.now.links aste) aste (trailers_of self.now.links.trailers aste) modes
+            pages).trailers ≡ self.now.links.trailers }
     {
         self.links.trailers()
     }

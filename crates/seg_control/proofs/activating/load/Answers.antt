@@ -1,5 +1,4 @@
-use Rattle.std.proofs.Common.{◌≡◌, ◌<◌, ◌∙◌, None, Some, refl, sym, ap, rules, get_or, length, arith}
-use Rattle.page_table.specs.declared.Ptw.TheVariants.{Null, Out}
+use Rattle.std.proofs.Common.{◌≡◌, ◌∙◌, None, refl, sym, ap, rules, get_or}
 use Rattle.vtoc.specs.Vtoc.{entry_at, records_in}
 use Rattle.seg_control.specs.Next.{filed_word}
 use Rattle.seg_control.proofs.Becoming.{table_zero}

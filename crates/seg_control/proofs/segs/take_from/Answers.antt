@@ -1,8 +1,7 @@
-use Rattle.std.proofs.Common.{◌≡◌, ◌<◌, ◌≤◌, ◌∙◌, ℕ, List, length, ap, sym, set, rules, arith}
+use Rattle.std.proofs.Common.{◌≡◌, ◌<◌, ◌≤◌, ◌∙◌, length, ap, sym, set, rules}
 use Rattle.std.proofs.lemmas.List.{length-set}
-use Rattle.page_table.specs.declared.Ptw.{Ptw}
 use Rattle.page_table.specs.PageTable.{ptw_at}
-use Rattle.seg_control.specs.Effects.{gone, taken_from}
+use Rattle.seg_control.specs.Effects.{gone}
 use Rattle.seg_control.proofs.Taking.{taken_step, taken_skip, taken_end}
 use Rattle.seg_control.proofs.segs.take_from.Goals as goal
 use Rattle.seg_control.proofs.segs.take_from.Goals.{in-Here, in_default}

@@ -1,8 +1,9 @@
-use Rattle.std.proofs.Common.{◌≡◌, ◌∙◌, ℕ, List, Option, length, ap, subst, sym, rules}
-use Rattle.active_segs.specs.Victim.{HasItsSuperiors}
-use Rattle.page_control.specs.Plain.{plain}
-use Rattle.seg_control.specs.Next.{MayActivate, superior_of}
-use Rattle.seg_control.proofs.Chains.{superior_active, its_superiors}
+use Rattle.std.proofs.Common.{◌≡◌, ◌∙◌, ℕ, List, length, ap, subst, sym, rules}
+use Rattle.active_segs.specs.Victim.{IsVictim, HasItsSuperiors}
+use Rattle.seg_control.specs.Next.{MayActivate}
+use Rattle.seg_control.specs.declared.Next.TheVariants.{Victim}
+use Rattle.seg_control.specs.Next.{link_at}
+use Rattle.seg_control.proofs.Chains.{superior_active, its_superiors, going_whole, going_free, going_is}
 use Rattle.seg_control.proofs.segs.Segs.activate_next.Goals as goal
 
 pub make_active-requires-clause-superior : goal.make_active-requires-clause-superior
@@ -15,3 +16,21 @@ victim-requires-clause-superiors g c =
     let may : MayActivate c.self.inside.ast c.self.inside.pages.volumes.vtocs (length c.self.inside.pages.volumes.drives) c.args.chain.now = search rules in
     subst (HasItsSuperiors c.self.inside.ast.entries) (sym (c.deref.ensures.0 ∙ c.uids_in.ensures))
     (its_superiors c.self.inside.ast c.self.inside.pages.volumes.vtocs (length c.self.inside.pages.volumes.drives) c.args.chain.now may)
+
+pub returns-in_default-clause-victim : goal.returns-in_default-clause-victim
+returns-in_default-clause-victim g c =
+    λ place. rw (← c.self.view_is) (λ going. going_whole c.self.inside.ast c.args.chain.now place c.in_default.ensures.none going)
+
+pub returns-in-Some-free_in-clause-victim : goal.returns-in-Some-free_in-clause-victim
+returns-in-Some-free_in-clause-victim g c =
+    λ place. rw (← c.self.view_is)
+    (λ going. going_free c.self.inside.ast c.args.chain.now place c.in-Some.i c.in-Some.ensures.some
+    (λ full. (let none = c.in-Some-free_in.ensures.full.1 full in cc)) going)
+
+pub returns-in-None-clause-victim : goal.returns-in-None-clause-victim
+returns-in-None-clause-victim g c =
+    λ place. rw (← c.self.view_is)
+    (λ going. ap (λ (q : ℕ). Victim q)
+    (sym (going_is c.self.inside.ast c.args.chain.now place c.victim.result c.in-Some.i c.in-Some.ensures.some
+    (subst (λ (uids : List ℕ). (q : ℕ) → IsVictim c.self.inside.ast (link_at c.args.chain.now c.in-Some.i).pool uids q → q ≡ c.victim.result)
+    (c.deref.ensures.0 ∙ c.uids_in.ensures) c.victim.ensures.only) going)))

@@ -1,9 +1,8 @@
-use Rattle.std.proofs.Common.{◌≡◌, ◌<◌, ◌∙◌, sym, rules, ℕ, Option, Some, None, IsSome, length, arith}
+use Rattle.std.proofs.Common.{◌≡◌, ◌<◌, ◌∙◌, rules, None, IsSome, length, arith}
 use Rattle.known_segs.specs.Known.{uid_of}
 use Rattle.active_segs.specs.Active.{uid_at}
 use Rattle.page_control.specs.Plain.{plain}
 use Rattle.seg_control.specs.Control.{kst_at, leads_at}
-use Rattle.seg_control.specs.Effects.{linked}
 use Rattle.seg_control.proofs.Places.{some_uid, used_within}
 use Rattle.seg_control.proofs.Calls.{kept_links}
 use Rattle.seg_control.proofs.Connected.{linked_connected, others_connected, room, number_within}

@@ -1,4 +1,3 @@
-use Rattle.seg_control.specs.Control.{Control}
 use Rattle.seg_control.proofs.Cutting.{cut_step, cut_smaller}
 use Rattle.seg_control.proofs.segs.Segs.cut_all.Goals as goal
 

@@ -1,4 +1,4 @@
-use Rattle.std.proofs.Common.{◌≡◌, ◌<◌, List, [], All, length, rules}
+use Rattle.std.proofs.Common.{◌≡◌, ◌<◌, [], All, length, rules}
 use Rattle.trailers.specs.Trailer.{trailers_of}
 use Rattle.active_segs.specs.Active.{table_at, deactivated, IsAway, IsTree}
 use Rattle.page_control.specs.Plain.{plain}

@@ -1,5 +1,4 @@
-use Rattle.std.proofs.Common.{◌≡◌, ◌∙◌, ap, sym, rules, ℕ, List, subst, inl, inr}
-use Rattle.page_table.specs.declared.Ptw.{Ptw}
+use Rattle.std.proofs.Common.{◌≡◌, sym, rules, ℕ, subst}
 use Rattle.page_table.specs.PageTable.{ptw_at}
 use Rattle.page_control.specs.Plain.{plain, uid_of_home}
 use Rattle.page_control.specs.Tied.{IsNotStarted}

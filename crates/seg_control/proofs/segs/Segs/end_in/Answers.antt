@@ -1,11 +1,7 @@
-use Rattle.std.proofs.Common.{◌≡◌, ◌∙◌, ap, sym, rules, true, ℕ, List}
-use Rattle.page_table.specs.declared.Ptw.{Ptw}
-use Rattle.page_table.specs.PageTable.{ptw_at}
+use Rattle.std.proofs.Common.{◌≡◌, rules}
 use Rattle.core_map.specs.CoreMap.{frame_at}
 use Rattle.core_map.specs.declared.Frame.TheVariants.{Started}
-use Rattle.active_segs.specs.Active.{table_at}
 use Rattle.page_control.specs.Plain.{plain}
-use Rattle.page_control.specs.Tied.{is_out}
 use Rattle.seg_control.specs.Control.{table_of}
 use Rattle.seg_control.specs.Kept.{IsHomeFor}
 use Rattle.seg_control.proofs.Frames.{started_for}

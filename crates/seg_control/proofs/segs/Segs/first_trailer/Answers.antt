@@ -1,6 +1,5 @@
-use Rattle.std.proofs.Common.{◌≡◌, ◌<◌, ◌∙◌, ℕ, List, Some, length, ap, sym, rules, arith, slice_get}
+use Rattle.std.proofs.Common.{◌≡◌, ◌<◌, ℕ, Some, length, rules, arith, slice_get}
 use Rattle.trailers.specs.Trailer.{trailers_of}
-use Rattle.seg_control.specs.Control.{leads_at}
 use Rattle.seg_control.proofs.Linked.{leads_within}
 use Rattle.seg_control.proofs.Cutting.{first_leads, none_left}
 use Rattle.seg_control.proofs.segs.Segs.first_trailer.Goals as goal

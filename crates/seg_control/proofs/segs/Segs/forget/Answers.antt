@@ -1,8 +1,7 @@
-use Rattle.std.proofs.Common.{◌≡◌, ◌<◌, ◌∙◌, ap, sym, rules, ℕ, List, Option, Some, None, length, arith}
-use Rattle.known_segs.specs.Known.{uid_of, with_number, without_number}
+use Rattle.std.proofs.Common.{◌≡◌, ◌<◌, ◌∙◌, rules, None, length}
+use Rattle.known_segs.specs.Known.{without_number}
 use Rattle.page_control.specs.Plain.{plain}
 use Rattle.seg_control.specs.Control.{kst_at, leads_at}
-use Rattle.seg_control.specs.Effects.{linked, unlinked, made_known, forgotten}
 use Rattle.seg_control.proofs.Calls.{kept_links}
 use Rattle.seg_control.proofs.Connected.{linked_known, size_without, known_without}
 use Rattle.seg_control.proofs.segs.Segs.forget.Goals as goal

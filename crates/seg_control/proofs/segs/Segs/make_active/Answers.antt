@@ -1,8 +1,7 @@
-use Rattle.std.proofs.Common.{◌≡◌, ◌<◌, ◌∙◌, ℕ, List, Option, None, Some, length, ap, subst, sym, rules}
+use Rattle.std.proofs.Common.{◌≡◌, ◌<◌, ◌∙◌, List, Option, Some, length, ap, subst, sym, rules}
 use Rattle.page_table.specs.declared.Ptw.{Ptw}
 use Rattle.vtoc.specs.Vtoc.{Entry as VtocEntry, entry_at as vtoc_entry, records_in}
-use Rattle.volumes.specs.Volumes.{vtoc_at}
-use Rattle.active_segs.specs.Active.{ActiveSegs, entry_at, table_at, with_table, activated, IsTree, IsLeastFree}
+use Rattle.active_segs.specs.Active.{ActiveSegs, table_at, with_table, activated, IsTree, IsLeastFree}
 use Rattle.page_control.specs.Plain.{plain}
 use Rattle.page_control.specs.Tied.{map_at, vtoc_in, uid_at as uid_homed}
 use Rattle.seg_control.specs.Kept.{IsInactive, IsKept}

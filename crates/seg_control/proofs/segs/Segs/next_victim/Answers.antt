@@ -1,8 +1,6 @@
-use Rattle.std.proofs.Common.{◌≡◌, ◌∙◌, ℕ, List, Option, length, ap, subst, sym, rules}
-use Rattle.active_segs.specs.Active.{IsFull}
+use Rattle.std.proofs.Common.{◌∙◌, length, subst, sym, rules}
 use Rattle.active_segs.specs.Victim.{HasItsSuperiors}
-use Rattle.page_control.specs.Plain.{plain}
-use Rattle.seg_control.specs.Next.{MayActivate, link_at, IsStuck}
+use Rattle.seg_control.specs.Next.{MayActivate}
 use Rattle.seg_control.proofs.Chains.{its_superiors, not_stuck_active, not_stuck_free, if_none}
 use Rattle.seg_control.proofs.segs.Segs.next_victim.Goals as goal
 

@@ -1,4 +1,4 @@
-use Rattle.std.proofs.Common.{rules, sym}
+use Rattle.std.proofs.Common.{rules}
 use Rattle.seg_control.proofs.Paged.{paged_same}
 use Rattle.seg_control.proofs.Frames.{same_vtocs, same_records, bound_once}
 use Rattle.seg_control.proofs.Calls.{kept_paged}

@@ -1,4 +1,4 @@
-use Rattle.std.proofs.Common.{◌≡◌, ◌∙◌, ap, sym, rules, true, ℕ}
+use Rattle.std.proofs.Common.{◌≡◌, ◌∙◌, ap, rules, true, ℕ}
 use Rattle.page_table.specs.PageTable.{ptw_at}
 use Rattle.active_segs.specs.Active.{table_at}
 use Rattle.page_control.specs.Tied.{is_out, IsNotStarted}

@@ -1,10 +1,10 @@
-use Rattle.std.proofs.Common.{◌≡◌, ◌∙◌, ap, sym, rules, false, ℕ, List, subst}
+use Rattle.std.proofs.Common.{◌≡◌, ◌∙◌, ap, rules, ℕ, List, subst}
 use Rattle.page_table.specs.declared.Ptw.{Ptw}
 use Rattle.page_table.specs.declared.Ptw.TheVariants.{Here, Leaving}
 use Rattle.page_table.specs.PageTable.{ptw_at}
 use Rattle.core_map.specs.CoreMap.{frame_at}
 use Rattle.active_segs.specs.Active.{table_at}
-use Rattle.page_control.specs.Plain.{Paging, plain, number_in, bindings}
+use Rattle.page_control.specs.Plain.{plain, number_in, bindings}
 use Rattle.page_control.specs.Tied.{IsTableOf, uid_in, is_out}
 use Rattle.seg_control.specs.Control.{word_of}
 use Rattle.seg_control.proofs.Calls.{same_plain}

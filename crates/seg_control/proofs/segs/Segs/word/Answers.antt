@@ -1,5 +1,5 @@
 use Rattle.seg_control.proofs.Paged.{paged_same}
-use Rattle.seg_control.proofs.Frames.{same_vtocs, same_records, bound_once}
+use Rattle.seg_control.proofs.Frames.{same_vtocs, same_records}
 use Rattle.seg_control.proofs.Calls.{kept_paged}
 use Rattle.seg_control.proofs.segs.Segs.word.Goals as goal
 
