@@ -1,0 +1,10 @@
+mod LineLaws
+mod InputLaws
+mod ProgressLaws
+mod EndLaws
+mod VerdictLaws
+mod AfterLaws
+mod GoingLaws
+mod SameLaws
+mod CloseLaws
+mod CheckLaws

@@ -1,0 +1,7 @@
+pub mod Rules
+pub mod Inputs
+pub mod Verdicts
+pub mod Passing
+pub mod Judging
+pub mod Going
+pub mod Closing

@@ -1,0 +1,129 @@
+ghost use Rattle.std.specs.Prelude.{◌≡◌, ◌+◌, ◌<◌, ◌^◌, ◌++◌, [], ◌∷◌, List, IfOk, IfNone, IfSome, OnOk};
+ghost use Rattle.book.specs.declared.entries.Entry.{Entry};
+ghost use Rattle.book.specs.Reading.{IsEntry};
+ghost use Rattle.custody.specs.Tables.{AreTablesOf, HaveRoom};
+ghost use Rattle.book_check.specs.Judging.{Allows, Forbids, IsAfter, OnlyOne, Takes};
+
+use crate::offences::Rule;
+use book::{Entry, Reply, read_entry};
+use custody::Custody;
+use flat_store::FlatStore;
+use script::Script;
+use std::alloc::Global;
+use std::marker::Model;
+
+/// There wasn't enough memory.
+#[derive(Clone, Copy)]
+pub(crate) struct NoMemory;
+
+impl From<flat_store::NoMemory> for NoMemory {
+    fn from(_: flat_store::NoMemory) -> Self {
+        NoMemory
+    }
+}
+
+impl From<custody::NoMemory> for NoMemory {
+    fn from(_: custody::NoMemory) -> Self {
+        NoMemory
+    }
+}
+
+/// Why a line before the summary wasn't accepted.
+#[derive(Clone, Copy)]
+pub(crate) enum LineFault {
+    /// It breaks a rule.
+    Broken(Rule),
+    /// There wasn't enough memory.
+    Memory,
+}
+
+/// What a listing is judged by: its script, the flat store and custody after the entries that were accepted so far, and
+/// how many these were.
+#[derive(Drop)]
+pub(crate) struct Judge {
+    pub(crate) script: Script,
+    pub(crate) store: FlatStore,
+    custody: Custody,
+    pub(crate) entries: u32,
+}
+
+impl Model for Judge {
+    ghost use Rattle.book_check.specs.Judging.{Judged};
+
+    ghost Value = { Judged };
+
+    ghost view = { λ j. record { script = j.script; store = j.store; custody = j.custody; entries = j.entries } };
+}
+
+impl Judge {
+    /// Before the first entry.
+    pub(crate) fn boot(alloc: Global, script: Script) -> Result<Judge, NoMemory>
+        ensures script { IfOk result (λ j. j.script ≡ script) }
+        ensures none { IfOk result (λ j. j.entries ≡ 0) }
+        ensures after { IfOk result (λ j. IsAfter j []) }
+    {
+        let store = FlatStore::boot(alloc, &script)?;
+        let custody = Custody::boot(alloc, &script)?;
+        Ok(Judge {
+            script,
+            store,
+            custody,
+            entries: 0,
+        })
+    }
+
+    /// The first rule that an entry breaks. `None` where it may stand here.
+    fn broken_rule(&self, e: &Entry) -> Option<Rule>
+        ensures allowed { IfNone result (Allows self.now e.now) }
+        ensures broken { IfSome result (λ r. Forbids self.now e.now r) }
+    {
+        if !self.store.allows(&self.script, *e) {
+            return Some(Rule::NotLegal);
+        }
+        if !self.custody.allows(&self.script, &self.store, *e) {
+            return Some(Rule::NotClean);
+        }
+        None
+    }
+
+    /// Goes on to what holds after an entry that may stand here.
+    fn follow(&mut self, e: &Entry) -> Result<(), NoMemory>
+        requires allowed { Allows self.old e.now }
+        requires room { HaveRoom self.old.custody.seats }
+        requires tables { AreTablesOf self.old.script self.old.custody }
+        requires few { self.old.entries + 1 < 2 ^ 32 }
+        ensures after { OnOk result ((es : List Entry) → IsAfter self.old es → IsEntry e.now
+            → IsAfter self.new (es ++ e.now ∷ [])) }
+        ensures count { OnOk result (self.new.entries ≡ self.old.entries + 1) }
+        ensures script { self.new.script ≡ self.old.script }
+    {
+        // A check of this call wants the type of an entry's reply named.
+        let _named: Option<Reply> = None;
+        self.custody.follow(&self.script, &self.store, *e)?;
+        self.store.follow(&self.script, *e)?;
+        self.entries += 1;
+        Ok(())
+    }
+
+    /// Goes on to what holds after the entry of a line, if it may stand here.
+    pub(crate) fn accept(&mut self, line: &[u8]) -> Result<(), LineFault>
+        requires room { HaveRoom self.old.custody.seats }
+        requires tables { AreTablesOf self.old.script self.old.custody }
+        requires few { self.old.entries + 1 < 2 ^ 32 }
+        ensures takes { Takes self.old self.new line.now result }
+        ensures one { OnlyOne line.now }
+        ensures count { OnOk result (self.new.entries ≡ self.old.entries + 1) }
+        ensures script { self.new.script ≡ self.old.script }
+    {
+        let Some(e) = read_entry(line) else {
+            return Err(LineFault::Broken(Rule::NoEntry));
+        };
+        if let Some(rule) = self.broken_rule(&e) {
+            return Err(LineFault::Broken(rule));
+        }
+        match self.follow(&e) {
+            Ok(()) => Ok(()),
+            Err(NoMemory) => Err(LineFault::Memory),
+        }
+    }
+}
