@@ -297,6 +297,7 @@ impl Accounts {
     {
         self.tree.set_length(seg, pages);
     }
+
     /// Sets the home of a segment: its volume, and its entry in the VTOC of that volume.
     pub fn set_home(&mut self, seg: u32, volume: u32, entry: u32)
         requires { has_segment self.old.nodes seg ≡ true }

@@ -74,6 +74,7 @@ impl Active {
         let count = self.inferiors.at(uid, 0);
         count == 0
     }
+
     /// A segment or directory is active so from now on, or it isn't.
     ///
     /// # Errors

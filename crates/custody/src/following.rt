@@ -80,6 +80,7 @@ impl Custody {
             Entry::BackSeg { process, number } => self.reconnect(process, number),
         }
     }
+
     /// Goes on to the custody after an entry that is allowed in the flat store before it.
     ///
     /// The tables must be those of the script, and each processor's count of command entries must have room for one more.

@@ -113,6 +113,7 @@ impl SeatRow {
             None => false,
         }
     }
+
     /// It takes part from now on.
     pub(crate) fn come_online(&mut self)
         ensures { self.new ≡ record self.old { online = true } }
