@@ -1,5 +1,5 @@
-//! Judges a listing of all entries against its script, whoever made it: with the flat store, which says what each command
-//! is answered, and with custody, which says who may hold what.
+//! Judges a listing of all entries against its script, whoever made it: with the flat store, which says what each
+//! command is answered, and with custody, which says who may hold what.
 #![tactic(auto)]
 
 mod check;
