@@ -1,8 +1,8 @@
 //! Segment control: the active segments over page control, and what leads to them.
 //!
 //! An active segment has a page table in a place of the active segment table, which agrees with the frames of core and
-//! with the file map of its home. Descriptors of processes lead to that place, and a trailer for each leads back, so that
-//! all can be cut before the segment changes or goes (Bensoussan, Clingen and Daley 1972; Organick 1972).
+//! with the file map of its home. Descriptors of processes lead to that place, and a trailer for each leads back, so
+//! that all can be cut before the segment changes or goes (Bensoussan, Clingen and Daley 1972; Organick 1972).
 //!
 //! Costs: a segment is found among the active ones by halving; pages, frames, words, descriptors and numbers by their
 //! places. Page tables are lent, and none is copied. What costs more stands at its call. None but `new` takes memory.

@@ -15,8 +15,8 @@ use trailers::Trailers;
 use volumes::Drive;
 
 impl<D: Drive> Segs<D> {
-    /// The trailers. Those of a place may be connected again once they are cut, and stand there as before then. (Source:
-    /// Bensoussan, Clingen and Daley 1972.)
+    /// The trailers. Those of a place may be connected again once they are cut, and stand there as before then.
+    /// (Source: Bensoussan, Clingen and Daley 1972.)
     pub fn trailers(&self) -> &Trailers
         ensures trailers { result.now ≡ self.now.links.trailers }
         ensures linked { AreLinked self.now.ast.entries self.now.links }

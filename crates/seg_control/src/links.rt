@@ -1,6 +1,7 @@
 //! Trailers, known segment tables and descriptor segments, with the exact effect of each write.
 
-ghost use Rattle.std.specs.Prelude.{◌≡◌, ◌<◌, ◌↔◌, ℕ, IsNone, length, IfOk, IfSome, IsSome, Contains, Some, None, replicate};
+ghost use Rattle.std.specs.Prelude.{◌≡◌, ◌<◌, ◌↔◌, ℕ, IsNone, length, IfOk, IfSome, IsSome, Contains, Some, None};
+ghost use Rattle.std.specs.Prelude.{replicate};
 ghost use Rattle.known_segs.specs.Known.{uid_of, number_for, known_count, with_number, without_number};
 ghost use Rattle.known_segs.specs.Known.{IsUnknown, HasOneNumberEach};
 ghost use Rattle.descriptor_seg.specs.Descriptors.{sdw_at, all_faults};

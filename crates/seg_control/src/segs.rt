@@ -1,4 +1,5 @@
-ghost use Rattle.std.specs.Prelude.{◌≡◌, ◌≢◌, ◌<◌, ◌≤◌, ◌↔◌, ◌+◌, ◌-◌, ◌++◌, ℕ, List, Option, Some, None, true, false, length};
+ghost use Rattle.std.specs.Prelude.{◌≡◌, ◌≢◌, ◌<◌, ◌≤◌, ◌↔◌, ◌+◌, ◌-◌, ◌++◌, ℕ, List, Option, Some, None, true};
+ghost use Rattle.std.specs.Prelude.{false, length};
 ghost use Rattle.std.specs.Prelude.{All, IsTrue, IsSome, IsOk, IsErr, IfSome, IfNone, IfOk, OnOk, OnErr, Ok, map};
 ghost use Rattle.std.specs.Prelude.{take, replicate, slice_index, slice_set};
 ghost use Rattle.std.specs.List.{list_any};
@@ -19,7 +20,8 @@ ghost use Rattle.page_control.specs.Picture.{words_at, is_stored, is_kept, chang
 ghost use Rattle.page_control.specs.Picture.{KeepsWords, ChangesWords, ChangesStored};
 ghost use Rattle.page_control.specs.Counts.{taken, used, named_on, one_more, one_less, taken_after, KeepsCounts};
 ghost use Rattle.page_control.specs.Drives.{CallsDrive};
-ghost use Rattle.page_control.specs.Tied.{uid_in, is_out, is_away, map_at, IsNotStarted, HasNoFrame, uid_at as uid_homed};
+ghost use Rattle.page_control.specs.Tied.{uid_in, is_out, is_away, map_at, IsNotStarted, HasNoFrame};
+ghost use Rattle.page_control.specs.Tied.{uid_at as uid_homed};
 ghost use Rattle.seg_control.specs.Control.{place_of, table_of, word_of};
 ghost use Rattle.seg_control.specs.Kept.{IsKept, IsHomeFor, IsHomeOf, HasHomeIfActive};
 ghost use Rattle.seg_control.specs.Effects.{worded, table_here, table_left, taken_from, all_taken};
@@ -326,8 +328,9 @@ impl<D: Drive> Segs<D> {
         self.pages.back(self.ast.table_mut(place), f);
     }
 
-    /// Lets no more references go through the words of those pages of a place that are in a frame and have number `from`
-    /// or above: all of them are on their way out from now on. It looks at each word from there on. (Source: own.)
+    /// Lets no more references go through the words of those pages of a place that are in a frame and have number
+    /// `from` or above: all of them are on their way out from now on. It looks at each word from there on. (Source:
+    /// own.)
     pub fn take_all(&mut self, aste: u32, from: u32)
         requires { aste < length self.old.ast.entries }
         ensures effect { self.new ≡ record self.old { ast = all_taken self.old.ast aste from } }

@@ -1,0 +1,5 @@
+//! Tests of segment control, through its public calls alone.
+#![tactic(auto)]
+
+#[cfg(test)]
+mod tests;
