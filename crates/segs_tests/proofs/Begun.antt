@@ -1,12 +1,11 @@
 -- What tests begin with.
-use Rattle.std.proofs.Common.{◌≡◌, ℕ, zero, suc, ◌<◌, ◌≤◌, length, arith, Bool, true, false, List, [], ◌∷◌, Option, None, Some, refl, sym, ap, ◌∙◌, get_or, replicate, subst, IsSome}
+use Rattle.std.proofs.Common.{◌≡◌, ℕ, zero, suc, ◌<◌, length, arith, Bool, true, false, List, [], ◌∷◌, Option, None, Some, refl, sym, ap, ◌∙◌, get_or, replicate, subst, IsSome}
 use Rattle.core_map.specs.declared.Frame.{Frame}
 use Rattle.core_map.specs.declared.Frame.TheVariants.{Free}
 use Rattle.core_map.specs.CoreMap.{Core}
 use Rattle.record_map.specs.Bitmap.{in_use}
 use Rattle.vtoc.specs.FileMap.{no_records}
 use Rattle.vtoc.specs.Vtoc.{Entry, record_at, fresh_entry}
-use Rattle.page_control.specs.declared.Home.{Home}
 use Rattle.page_control.specs.Plain.{Plain}
 use Rattle.page_control.specs.Tied.{vtoc_in, flags_in, map_at, uid_at, AreFiled}
 use Rattle.volumes.specs.CoreDrive.{DriveState}
@@ -15,7 +14,7 @@ use Rattle.seg_control.specs.declared.Link.{Link}
 use Rattle.seg_control.specs.Control.{Control}
 use Rattle.seg_control.specs.Next.{link_at, words_in, FitsIn, MayActivate}
 use Rattle.segs_tests.specs.Begun.{HasBegun}
-use Rattle.seg_control.specs.Kept.{AreFree, AreAtRest, IsHomeOf, HasTable}
+use Rattle.seg_control.specs.Kept.{AreFree, AreAtRest}
 
 alike : {X : Type 0} (n q : ℕ) (x : X) → get_or (replicate n x) q x ≡ x
 alike zero q x = refl

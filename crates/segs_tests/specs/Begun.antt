@@ -1,5 +1,5 @@
 -- The segment control that tests begin with (own).
-use Rattle.std.specs.Prelude.{◌≡◌, ℕ, List, [], ◌∷◌, Option, None, length, replicate, false}
+use Rattle.std.specs.Prelude.{◌≡◌, List, [], ◌∷◌, Option, length, replicate, false}
 use Rattle.core_map.specs.declared.Frame.TheVariants.{Free}
 use Rattle.vtoc.specs.Vtoc.{Entry}
 use Rattle.volumes.specs.CoreDrive.{DriveState}

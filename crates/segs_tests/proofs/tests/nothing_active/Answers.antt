@@ -1,6 +1,5 @@
 use Rattle.std.proofs.Common.{[], ◌∷◌, None, refl, sym, subst}
 use Rattle.volumes.specs.CoreDrive.{DriveState}
-use Rattle.page_control.specs.Plain.{plain}
 use Rattle.seg_control.specs.Control.{Control}
 use Rattle.segs_tests.specs.Begun.{HasBegun}
 use Rattle.segs_tests.proofs.Begun.{all_free, none_filed, none_at_rest}
