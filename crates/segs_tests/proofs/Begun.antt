@@ -21,7 +21,7 @@ alike zero q x = refl
 alike (suc n) zero x = refl
 alike (suc n) (suc q) x = alike n q x
 
-no_record : (q : ℕ) → get_or no_records q None ≡ None
+pub no_record : (q : ℕ) → get_or no_records q None ≡ None
 unfolding no_records
 no_record q = (let none : Option ℕ = None in alike 256 q none)
 
@@ -31,19 +31,21 @@ not_none x a h i = cc
 off_and_on : (b : Bool) → b ≡ false → b ≡ true → ⊥
 off_and_on b off on = cc
 
-abbrev two_entries : List (List (Option Entry))
-two_entries = (None ∷ None ∷ []) ∷ []
+abbrev three_entries : List (List (Option Entry))
+three_entries = (None ∷ None ∷ None ∷ []) ∷ []
 
-none_named : (v e p : ℕ) → record_at (vtoc_in two_entries v) e p ≡ None
+none_named : (v e p : ℕ) → record_at (vtoc_in three_entries v) e p ≡ None
 none_named zero zero p = no_record p
 none_named zero (suc zero) p = no_record p
-none_named zero (suc (suc e)) p = no_record p
+none_named zero (suc (suc zero)) p = no_record p
+none_named zero (suc (suc (suc e))) p = no_record p
 none_named (suc v) e p = no_record p
 
-none_homed_at : (v e : ℕ) → uid_at two_entries (record { volume = v; entry = e }) ≡ None
+none_homed_at : (v e : ℕ) → uid_at three_entries (record { volume = v; entry = e }) ≡ None
 none_homed_at zero zero = refl
 none_homed_at zero (suc zero) = refl
-none_homed_at zero (suc (suc e)) = refl
+none_homed_at zero (suc (suc zero)) = refl
+none_homed_at zero (suc (suc (suc e))) = refl
 none_homed_at (suc v) e = refl
 
 none_used : (v r : ℕ) → in_use (flags_in (replicate 3 false ∷ []) v) r ≡ false
@@ -53,7 +55,7 @@ none_used (suc v) r = refl
 pub all_free : (core : Core) → core.frames ≡ replicate 2 Free → AreFree core
 all_free core free f = ap (λ (frames : List Frame). get_or frames f Free) free ∙ alike 2 f Free
 
-pub none_filed : (records : List (List Bool)) (vtocs : List (List (Option Entry))) → records ≡ replicate 3 false ∷ [] → vtocs ≡ (None ∷ None ∷ []) ∷ []
+pub none_filed : (records : List (List Bool)) (vtocs : List (List (Option Entry))) → records ≡ replicate 3 false ∷ [] → vtocs ≡ (None ∷ None ∷ None ∷ []) ∷ []
     → AreFiled records vtocs
 none_filed records vtocs r v = rw (r, v) (record {
   used = λ w e p k at. absurd (not_none _ k (none_named w e p) at);
@@ -61,17 +63,14 @@ none_filed records vtocs r v = rw (r, v) (record {
   named = λ w k on. absurd (off_and_on (in_use (flags_in (replicate 3 false ∷ []) w) k) (none_used w k) on);
 })
 
-pub none_at_rest : (now : Plain) → now.vtocs ≡ (None ∷ None ∷ []) ∷ [] → AreAtRest now
+pub none_at_rest : (now : Plain) → now.vtocs ≡ (None ∷ None ∷ None ∷ []) ∷ [] → AreAtRest now
 none_at_rest now vtocs uid home is =
-    absurd (not_none (uid_at two_entries home) uid (none_homed_at home.volume home.entry) (ap (λ (v : List (List (Option Entry))). uid_at v home) (sym vtocs) ∙ is.used))
+    absurd (not_none (uid_at three_entries home) uid (none_homed_at home.volume home.entry) (ap (λ (v : List (List (Option Entry))). uid_at v home) (sym vtocs) ∙ is.used))
 
 -- ---- the root may become active
 
 abbrev places : ActiveSegs
 places = no_segments (1 ∷ 1 ∷ 0 ∷ 0 ∷ [])
-
-abbrev root_entry : List (List (Option Entry))
-root_entry = (fresh_entry 1 ∷ None ∷ []) ∷ []
 
 abbrev root : Link
 root = record { uid = 1; pool = 0; home = record { volume = 0; entry = 0 } }
@@ -80,8 +79,9 @@ not_some : {A : Type 0} (x : Option A) → x ≡ None → IsSome x → ⊥
 not_some None e h = cc
 not_some (Some a) e h = cc
 
-may_root : (n : ℕ) → n ≡ 1 → MayActivate places root_entry n (root ∷ [])
-may_root n one = record {
+may_root : (vtocs : List (List (Option Entry))) (n : ℕ) → n ≡ 1 → uid_at vtocs root.home ≡ Some 1 → ((p : ℕ) → get_or (map_at vtocs root.home) p None ≡ None)
+    → MayActivate places vtocs n (root ∷ [])
+may_root vtocs n one used empty = record {
   few = omega arith;
   pools = λ i lt. pools i lt;
   superiors = λ i place lt at. absurd (not_none (uid_at_place places.entries place) (link_at (root ∷ []) i).uid (ap uid_in (alike 2 place None)) at);
@@ -99,21 +99,26 @@ may_root n one = record {
     volumes zero lt = omega (arith, one)
     volumes (suc i) lt = absurd (omega (arith, lt))
 
-    homes : (i : ℕ) → i < 1 → uid_at root_entry (link_at (root ∷ []) i).home ≡ Some (link_at (root ∷ []) i).uid
-    homes zero lt = refl
+    homes : (i : ℕ) → i < 1 → uid_at vtocs (link_at (root ∷ []) i).home ≡ Some (link_at (root ∷ []) i).uid
+    homes zero lt = used
     homes (suc i) lt = absurd (omega (arith, lt))
 
-    fits : (i : ℕ) → i < 1 → FitsIn (map_at root_entry (link_at (root ∷ []) i).home) (words_in (link_at (root ∷ []) i).pool)
-    fits zero lt = record { none = λ p le. no_record p }
+    fits : (i : ℕ) → i < 1 → FitsIn (map_at vtocs (link_at (root ∷ []) i).home) (words_in (link_at (root ∷ []) i).pool)
+    fits zero lt = record { none = λ p le. empty p }
     fits (suc i) lt = absurd (omega (arith, lt))
 
     room : (i : ℕ) → i < 1 → IsFull places (link_at (root ∷ []) i).pool → ⊥
     room zero lt full = not_some (place_entry places.entries 0) refl (full 0 (record { from = omega arith; to = omega arith }))
     room (suc i) lt full = absurd (omega (arith, lt))
 
-pub root_may : (s : Control DriveState) → HasBegun s (fresh_entry 1 ∷ None ∷ [])
+pub root_may_by : (s : Control DriveState) (vtoc : List (Option Entry)) → HasBegun s vtoc → uid_at (vtoc ∷ []) root.home ≡ Some 1
+    → ((p : ℕ) → get_or (map_at (vtoc ∷ []) root.home) p None ≡ None)
     → MayActivate s.ast s.pages.volumes.vtocs (length s.pages.volumes.drives) (root ∷ [])
-root_may s begun =
+root_may_by s vtoc begun used empty =
     subst (λ (a : ActiveSegs). MayActivate a s.pages.volumes.vtocs (length s.pages.volumes.drives) (root ∷ [])) (sym begun.ast)
     (subst (λ (v : List (List (Option Entry))). MayActivate places v (length s.pages.volumes.drives) (root ∷ [])) (sym begun.vtocs)
-    (may_root (length s.pages.volumes.drives) begun.drives))
+    (may_root (vtoc ∷ []) (length s.pages.volumes.drives) begun.drives used empty))
+
+pub root_may : (s : Control DriveState) → HasBegun s (fresh_entry 1 ∷ None ∷ None ∷ [])
+    → MayActivate s.ast s.pages.volumes.vtocs (length s.pages.volumes.drives) (root ∷ [])
+root_may s begun = root_may_by s (fresh_entry 1 ∷ None ∷ None ∷ []) begun refl (λ p. no_record p)

@@ -16,7 +16,7 @@ new-requires-clause-rest c = none_at_rest _ c.in_ok-pages.ensures.vtocs
 
 pub returns : goal.returns
 returns c =
-    subst (λ (s : Control DriveState). HasBegun s (None ∷ None ∷ [])) (sym c.in_ok-new.ensures)
+    subst (λ (s : Control DriveState). HasBegun s (None ∷ None ∷ None ∷ [])) (sym c.in_ok-new.ensures)
     (record {
       frames = c.in_ok-pages.ensures.frames;
       drives = c.in_ok-pages.ensures.drives;
