@@ -7,23 +7,22 @@ use Rattle.std.proofs.lemmas.List.Elements.{All-replicate, All-push}
 use Rattle.std.proofs.lemmas.Grind.{common_steps}
 use Rattle.core_map.specs.declared.Frame.{Frame}
 use Rattle.core_map.specs.declared.Frame.TheVariants.{Free}
-use Rattle.core_map.specs.CoreMap.{Core, reads_of, started_page}
+use Rattle.core_map.specs.CoreMap.{reads_of}
 use Rattle.page_table.specs.declared.Ptw.{Ptw}
 use Rattle.page_table.specs.declared.Ptw.TheVariants.{Null}
 use Rattle.vtoc.specs.Vtoc.{Entry as VtocEntry}
-use Rattle.page_control.specs.declared.Home.{Home}
 use Rattle.page_control.specs.Tied.{map_at, uid_at as uid_homed}
 use Rattle.volumes.specs.CoreDrive.{DriveState}
 use Rattle.trailers.specs.Trailer.{trailers_of}
 use Rattle.active_segs.specs.declared.Entry.{Entry}
 use Rattle.active_segs.specs.Active.{ActiveSegs, uid_at, superior_at, entry_at, table_at, deactivated, IsAway, IsFull, HasNoInferior}
 use Rattle.active_segs.specs.Pool.{IsInPool}
-use Rattle.active_segs.specs.Victim.{off_chain, hand_past, hand_moved, first_off_chain, HasOneOffChain}
+use Rattle.active_segs.specs.Victim.{off_chain, hand_past, first_off_chain, HasOneOffChain}
 use Rattle.seg_control.specs.declared.Link.{Link}
 use Rattle.seg_control.specs.declared.Next.TheVariants.{Activated, Victim}
 use Rattle.seg_control.specs.Control.{Control, Links}
 use Rattle.seg_control.specs.Kept.{IsNotRead, read_at}
-use Rattle.seg_control.specs.Next.{link_at, superior_of, uids_of, words_in, filed_word, table_for, FitsIn, MayActivate, IsNext, IsActivated, IsToGo, IsFirstInactive}
+use Rattle.seg_control.specs.Next.{link_at, superior_of, uids_of, words_in, filed_word, table_for, MayActivate, IsNext, IsActivated, IsToGo, IsFirstInactive}
 use Rattle.segs_tests.specs.Begun.{HasBegun}
 use Rattle.segs_tests.specs.Tree.{three_homes, below, HasTree, IsBelow}
 use Rattle.segs_tests.proofs.Begun.{no_record, root_may_by}

@@ -1,4 +1,4 @@
-use Rattle.std.proofs.Common.{Some, ◌≡◌}
+use Rattle.std.proofs.Common.{Some}
 use Rattle.segs_tests.proofs.Growing.{leaf_below, idle_below, cut_below, root_alone}
 use Rattle.segs_tests.proofs.tests.chains.deactivate.Goals as goal
 
