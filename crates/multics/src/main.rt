@@ -1,4 +1,5 @@
-//! `multics run` reads a script from standard input, runs it, and prints its listing.
+//! `multics run` reads a script from standard input, runs it, and prints its listing; `multics check` judges anybody's
+//! listing of a script.
 #![tactic(auto)]
 
 use runner::{Finished, Status, Words, multics};
@@ -26,6 +27,7 @@ fn number_of(status: Status) -> u8 {
         Status::ReadFault => 3,
         Status::WriteFault => 4,
         Status::Memory => 5,
+        Status::Refused(_) => 6,
     }
 }
 

@@ -1,18 +1,15 @@
 -- How each way out of a call ends. (own)
-use Rattle.std.proofs.Common.{◌≡◌, ℕ, ◌≤◌, true, false, List, [], length, Option, Some, None, Ok, Err, IfSome, refl, sym, ap, subst, ◌∙◌, arith}
+use Rattle.std.proofs.Common.{◌≡◌, ℕ, ◌+◌, ◌≤◌, false, List, [], length, Option, Some, None, Ok, IfSome, refl, sym, ap, subst, arith}
 use Rattle.std.specs.Io.KnownBytes.{Appends, Keeps}
 use Rattle.std.proofs.KnownBytes.{Keeps-refl, Consumes-nil}
 use Rattle.site_io.specs.Streams.{AppendsFront, ConsumesFront}
-use Rattle.volumes.specs.CoreDrive.{DriveState}
-use Rattle.volumes.specs.Volumes.{Vols}
 use Rattle.script.specs.Grammar.{script_of}
 use Rattle.script.specs.Plans.{Plan}
-use Rattle.script.specs.declared.refusals.Refusal.{Refusal}
 use Rattle.book.specs.Books.{Ledger}
 use Rattle.listing.specs.Listings.{listing_of}
 use Rattle.make_work.specs.Day.{made}
 use Rattle.drill.specs.Texts.{drill_text}
-use Rattle.runner.specs.Endings.{Change, Ends, EndsSo, Failed, IsRun, Printed, PrintsRun, Refuses, RunOf, Writes, whole, cut}
+use Rattle.runner.specs.Endings.{Change, Ends, EndsSo, Failed, IsRun, Printed, PrintsRun, Writes, limit_of, whole, cut}
 use Rattle.runner.specs.Runs.{IsLater, script_runs, usage_text}
 use Rattle.runner.specs.declared.finished.Finished.{Finished}
 use Rattle.runner.specs.declared.finished.Status.{Status}
@@ -37,7 +34,7 @@ writes_nothing a = Keeps-refl a
 
 -- a call ended so, without a book
 pub ends_without : (asked : Option Form) (src out : Change) (f : Finished) (s : Status) → f.status ≡ s → f.book ≡ None
-    → EndsSo s asked src out None → ConsumesFront src.before src.after 4194305 → Ends asked src out f
+    → EndsSo s asked src out None → ConsumesFront src.before src.after (limit_of asked + 1) → Ends asked src out f
 ends_without asked src out f s is without so reads = record {
   so = subst (λ (x : Status). EndsSo x asked src out f.book) (sym is) (subst (λ (b : Option Ledger). EndsSo s asked src out b) (sym without) so);
   run = subst (λ (b : Option Ledger). IfSome b (λ k. IsRun src k f.volumes)) (sym without) tt;
@@ -57,23 +54,6 @@ pub told_later : (left : Option (List ℕ)) (bytes : List ℕ) (p : Plan) → If
     → IfSome left (λ all. (length all ≤ 4194304) × IsLater (script_of all))
 told_later left bytes p told few e h = of_told left bytes (λ all. (length all ≤ 4194304) × IsLater (script_of all)) told (few, later_is bytes p e h)
 
--- a refusal was written
-refused_so : (s : Status) (r : Refusal) (src out : Change) → Refuses s r out
-    → IfSome src.before (λ bytes. (length bytes ≤ 4194304) × (script_of bytes ≡ Err r)) → EndsSo s (Some form.Run) src out None
-refused_so (status.Script q) r src out h is = (
-  refl,
-  subst (λ (x : Refusal). IfSome src.before (λ bytes. (length bytes ≤ 4194304) × (script_of bytes ≡ Err x))) (sym h.0) is,
-  subst
-      (λ (x : Refusal). Writes out (Rattle.runner.specs.Runs.refusal_text x)) (sym h.0) h.1,
-)
-refused_so status.Memory r src out h is = (refl, h)
-refused_so status.Done r src out h is = absurd h
-refused_so status.TooLong r src out h is = absurd h
-refused_so status.Usage r src out h is = absurd h
-refused_so status.ReadFault r src out h is = absurd h
-refused_so status.WriteFault r src out h is = absurd h
-refused_so status.Later r src out h is = absurd h
-
 -- the script of a day was printed
 made_so : (s : Status) (n : ℕ) (src out : Change) → Printed s out (made n) → EndsSo s (Some (form.Make n)) src out None
 made_so status.Done n src out h = h
@@ -84,6 +64,7 @@ made_so status.TooLong n src out h = absurd h
 made_so status.Usage n src out h = absurd h
 made_so status.ReadFault n src out h = absurd h
 made_so status.Later n src out h = absurd h
+made_so (status.Refused o) n src out h = absurd h
 
 pub ends_made : (src out : Change) (f : Finished) (n : ℕ) → Printed f.status out (made n) → f.book ≡ None → ConsumesFront src.before src.after 4194305
     → Ends (Some (form.Make n)) src out f
@@ -99,29 +80,12 @@ drilled_so status.TooLong p f n seed src out h = absurd h
 drilled_so status.Usage p f n seed src out h = absurd h
 drilled_so status.ReadFault p f n seed src out h = absurd h
 drilled_so status.Later p f n seed src out h = absurd h
+drilled_so (status.Refused o) p f n seed src out h = absurd h
 
 pub ends_drilled : (src out : Change) (f : Finished) (p frames n seed : ℕ) → Printed f.status out (drill_text p frames n seed) → f.book ≡ None
     → ConsumesFront src.before src.after 4194305 → Ends (Some (form.Drill p frames n seed)) src out f
 ends_drilled src out f p frames n seed h without reads =
     ends_without (Some (form.Drill p frames n seed)) src out f f.status refl without (drilled_so f.status p frames n seed src out h) reads
-
--- a run's listing was printed
-run_so : (s : Status) (book : Option Ledger) (src out : Change) → PrintsRun s book out → EndsSo s (Some form.Run) src out book
-run_so status.Memory book src out h = (refl, h)
-run_so status.Done (Some b) src out h = h
-run_so status.WriteFault (Some b) src out h = h
-run_so (status.Script r) (Some b) src out h = absurd h
-run_so status.TooLong (Some b) src out h = absurd h
-run_so status.Usage (Some b) src out h = absurd h
-run_so status.ReadFault (Some b) src out h = absurd h
-run_so status.Later (Some b) src out h = absurd h
-run_so status.Done None src out h = absurd h
-run_so status.WriteFault None src out h = absurd h
-run_so (status.Script r) None src out h = absurd h
-run_so status.TooLong None src out h = absurd h
-run_so status.Usage None src out h = absurd h
-run_so status.ReadFault None src out h = absurd h
-run_so status.Later None src out h = absurd h
 
 printed_run : (s : Status) (b : Ledger) (out : Change) → Printed s out (listing_of b.script b.entries) → PrintsRun s (Some b) out
 printed_run status.Memory b out h = h
@@ -132,23 +96,10 @@ printed_run status.TooLong b out h = h
 printed_run status.Usage b out h = h
 printed_run status.ReadFault b out h = h
 printed_run status.Later b out h = h
+printed_run (status.Refused o) b out h = h
 
 pub prints_run : (s : Status) (b : Ledger) (out : Change) (text : List ℕ) → Printed s out text → text ≡ listing_of b.script b.entries → PrintsRun s (Some b) out
 prints_run s b out text h e = printed_run s b out (subst (Printed s out) e h)
-
-is_run : (src : Change) (p : Plan) (book : Option Ledger) (volumes : Option (Vols DriveState)) → IfSome src.before (λ all. length all ≤ 4194304)
-    → IfSome src.before (λ all. script_of all ≡ Ok p) → script_runs p ≡ true
-    → IfSome book (λ b. RunOf p b volumes) → IfSome book (λ b. IsRun src b volumes)
-is_run src p None volumes few read runs h = tt
-is_run src p (Some b) volumes few read runs h = record {
-  within = few;
-  script = subst (λ (x : Plan). IfSome src.before (λ all. script_of all ≡ Ok x)) (sym h.script) read;
-  runs = ap script_runs h.script ∙ runs;
-  legal = h.legal;
-  complete = h.complete;
-  settled = h.settled;
-  disk = h.disk;
-}
 
 -- ---- what was asked for
 

@@ -1,5 +1,5 @@
 -- What an ending says of its cause. (own)
-use Rattle.std.proofs.Common.{◌≡◌, ℕ, ◌<◌, ◌≤◌, ◌⊎◌, inl, inr, true, false, List, length, Option, Some, None, Ok, Err, IfSome, refl, sym, ap, subst, ◌∙◌, arith}
+use Rattle.std.proofs.Common.{◌≡◌, ℕ, ◌<◌, ◌≤◌, ◌⊎◌, inl, inr, true, false, List, length, Option, Some, None, Result, Ok, Err, IfSome, refl, sym, ap, subst, ◌∙◌, arith}
 use Rattle.std.specs.Prelude.{IsSomeAnd}
 use Rattle.site_io.specs.Streams.{AppendsFront}
 use Rattle.volumes.specs.CoreDrive.{DriveState}
@@ -9,7 +9,11 @@ use Rattle.script.specs.Plans.{Plan}
 use Rattle.script.specs.declared.refusals.Refusal.{Refusal}
 use Rattle.book.specs.Books.{Ledger}
 use Rattle.listing.specs.Listings.{listing_of}
-use Rattle.runner.specs.Endings.{Change, Ends, EndsSo, Failed, IsRun, Prints, WritesAll, WritesFront}
+use Rattle.book_check.specs.Closing.{IsTheVerdict}
+use Rattle.book_check.specs.Verdicts.{IsVerdict}
+use Rattle.book_check.specs.declared.offences.CheckFault.{CheckFault}
+use Rattle.book_check.specs.declared.offences.CheckFault.TheVariants as fault
+use Rattle.runner.specs.Endings.{Change, Ends, EndsSo, Failed, IsJudgedSo, IsRun, IsStatusOf, Prints, WritesAll, WritesFront}
 use Rattle.runner.specs.Runs.{IsLater, script_runs}
 use Rattle.runner.specs.declared.finished.Finished.{Finished}
 use Rattle.runner.specs.declared.finished.Status.{Status}
@@ -24,9 +28,10 @@ ended asked src out f s h e = subst (λ (x : Status). EndsSo x asked src out f.b
 -- words that are no form have no other ending
 only_usage : (s : Status) (src out : Change) (book : Option Ledger) → EndsSo s None src out book → s ≡ status.Usage
 only_usage status.Usage src out book h = refl
-only_usage status.ReadFault src out book h = absurd cc
-only_usage status.TooLong src out book h = absurd cc
-only_usage (status.Script r) src out book h = absurd cc
+only_usage status.ReadFault src out book h = absurd h.0
+only_usage status.TooLong src out book h = absurd h.0
+only_usage (status.Script r) src out book h = absurd h.0
+only_usage (status.Refused o) src out book h = absurd cc
 only_usage status.Later src out book h = absurd cc
 only_usage status.Done src out book h = absurd h
 only_usage status.WriteFault src out book h = absurd h
@@ -56,12 +61,13 @@ front_only None out h = h
 front_only (Some b) out h = h.front
 
 -- a write failed
-pub write_failed : (asked : Option Form) (book : Option Ledger) (out : Change) → Prints asked book (WritesFront out) → Failed out
-write_failed (Some form.Run) (Some b) out h = h.fault
-write_failed (Some form.Run) None out h = absurd h
-write_failed (Some (form.Make n)) book out h = h.fault
-write_failed (Some (form.Drill p f n seed)) book out h = h.fault
-write_failed None book out h = absurd h
+pub write_failed : (asked : Option Form) (src : Change) (book : Option Ledger) (out : Change) → Prints asked src book (WritesFront out) → Failed out
+write_failed (Some form.Run) src (Some b) out h = h.fault
+write_failed (Some form.Run) src None out h = absurd h
+write_failed (Some form.Check) src book out h = h.2.fault
+write_failed (Some (form.Make n)) src book out h = h.fault
+write_failed (Some (form.Drill p f n seed)) src book out h = h.fault
+write_failed None src book out h = absurd h
 
 -- what a run's ending says of the bytes
 pub data Verdict (s : Status) (bytes : List ℕ) (out : Change) : Type 0 where
@@ -94,6 +100,7 @@ verdict_of status.TooLong book bytes src out volumes fine told h run =
     long refl (subst (λ (x : Option (List ℕ)). IfSome x (λ all. 4194304 < length all)) told h.1)
 verdict_of (status.Script r) book bytes src out volumes fine told h run = let is =
     subst (λ (x : Option (List ℕ)). IfSome x (λ all. (length all ≤ 4194304) × (script_of all ≡ Err r))) told h.1 in refused r refl is.0 is.1
+verdict_of (status.Refused o) book bytes src out volumes fine told h run = absurd cc
 verdict_of status.Later book bytes src out volumes fine told h run = let is =
     subst (λ (x : Option (List ℕ)). IfSome x (λ all. (length all ≤ 4194304) × IsLater (script_of all))) told h.1 in late refl is.0 is.1
 verdict_of status.Done book bytes src out volumes fine told h run = done_verdict book bytes src out volumes told h run
@@ -164,9 +171,10 @@ made_done status.Done n src out book fine h = inl refl
 made_done status.Memory n src out book fine h = inr refl
 made_done status.WriteFault n src out book fine h = absurd (fine h.fault)
 made_done status.Usage n src out book fine h = absurd cc
-made_done status.ReadFault n src out book fine h = absurd cc
-made_done status.TooLong n src out book fine h = absurd cc
-made_done (status.Script r) n src out book fine h = absurd cc
+made_done status.ReadFault n src out book fine h = absurd h.0
+made_done status.TooLong n src out book fine h = absurd h.0
+made_done (status.Script r) n src out book fine h = absurd h.0
+made_done (status.Refused o) n src out book fine h = absurd cc
 made_done status.Later n src out book fine h = absurd cc
 
 pub found_made : (asked : Option Form) (src out : Change) (f : Finished) (n : ℕ) → Ends asked src out f → asked ≡ Some (form.Make n) → (Failed out → ⊥)
@@ -180,9 +188,10 @@ drilled_done status.Done p f n seed src out book fine h = inl refl
 drilled_done status.Memory p f n seed src out book fine h = inr refl
 drilled_done status.WriteFault p f n seed src out book fine h = absurd (fine h.fault)
 drilled_done status.Usage p f n seed src out book fine h = absurd cc
-drilled_done status.ReadFault p f n seed src out book fine h = absurd cc
-drilled_done status.TooLong p f n seed src out book fine h = absurd cc
-drilled_done (status.Script r) p f n seed src out book fine h = absurd cc
+drilled_done status.ReadFault p f n seed src out book fine h = absurd h.0
+drilled_done status.TooLong p f n seed src out book fine h = absurd h.0
+drilled_done (status.Script r) p f n seed src out book fine h = absurd h.0
+drilled_done (status.Refused o) p f n seed src out book fine h = absurd cc
 drilled_done status.Later p f n seed src out book fine h = absurd cc
 
 pub found_drilled : (asked : Option Form) (src out : Change) (f : Finished) (p frames n seed : ℕ) → Ends asked src out f
@@ -191,5 +200,130 @@ found_drilled asked src out f p frames n seed h e fine =
     drilled_done f.status p frames n seed src out f.book fine (subst (λ (x : Option Form). EndsSo f.status x src out f.book) e h.so)
 
 -- what was printed, by the form that was asked for
-pub printed_in : (asked other : Option Form) (book : Option Ledger) (P : List ℕ → Type 0) → Prints asked book P → asked ≡ other → Prints other book P
-printed_in asked other book P h e = subst (λ (x : Option Form). Prints x book P) e h
+pub printed_in : (asked other : Option Form) (src : Change) (book : Option Ledger) (P : List ℕ → Type 0) → Prints asked src book P → asked ≡ other
+    → Prints other src book P
+printed_in asked other src book P h e = subst (λ (x : Option Form). Prints x src book P) e h
+
+-- ---- a listing that was judged
+
+-- the bytes that the source tells were judged so
+judged_here : (src : Change) (bytes : List ℕ) (v : Result ℕ CheckFault) → src.before ≡ Some bytes → IsJudgedSo src v
+    → (length bytes ≤ 134217728) × IsTheVerdict bytes v
+judged_here src bytes v told h =
+    subst (λ (x : Option (List ℕ)). IfSome x (λ all. (length all ≤ 134217728) × IsTheVerdict all v)) told h
+
+-- another verdict is none
+one_verdict : (bytes : List ℕ) (given v : Result ℕ CheckFault) → IsTheVerdict bytes given → IsVerdict bytes v
+    → v ≡ given
+unfolding IsTheVerdict
+one_verdict bytes given v one is = (one v).0 is
+
+-- a fault of the input comes to its status, or there was no memory
+fault_so : (s : Status) (bytes : List ℕ) (src out : Change) (book : Option Ledger) → (Failed src → ⊥)
+    → src.before ≡ Some bytes → EndsSo s (Some form.Check) src out book
+    → (e : CheckFault) → length bytes ≤ 134217728 → IsVerdict bytes (Err e)
+    → IsStatusOf e s ⊎ (s ≡ status.Memory)
+fault_so s bytes src out book fine told so e few is = each s so
+  where
+    accepted_not : (n : ℕ) → IsJudgedSo src (Ok n) → ⊥
+    accepted_not n judged =
+        let same = one_verdict bytes (Ok n) (Err e) (judged_here src bytes (Ok n) told judged).1 is in cc
+
+    here : (given : CheckFault) (x : Status) → IsJudgedSo src (Err given) → IsStatusOf given x
+        → IsStatusOf e x ⊎ (x ≡ status.Memory)
+    here given x judged comes =
+        let same = one_verdict bytes (Err given) (Err e) (judged_here src bytes (Err given) told judged).1 is in
+        let one : e ≡ given = cc in inl (subst (λ (f : CheckFault). IsStatusOf f x) (sym one) comes)
+
+    each : (x : Status) → EndsSo x (Some form.Check) src out book → IsStatusOf e x ⊎ (x ≡ status.Memory)
+    each (status.Script r) h = here (fault.Script r) (status.Script r) h.1 refl
+    each (status.Refused o) h = here (fault.Refused o) (status.Refused o) h.1 refl
+    each status.Memory h = inr refl
+    each status.Done h = absurd (accepted_not h.0 h.1)
+    each status.WriteFault h = absurd (accepted_not h.0 h.1)
+    each status.TooLong h =
+        let more = subst (λ (l : Option (List ℕ)). IfSome l (λ all. 134217728 < length all)) told h.1 in
+        absurd (omega (arith, more, few))
+    each status.ReadFault h = absurd (fine h.1)
+    each status.Usage h = absurd cc
+    each status.Later h = absurd cc
+
+pub found_fault : (asked : Option Form) (src out : Change) (f : Finished) → Ends asked src out f
+    → asked ≡ Some form.Check → (Failed src → ⊥)
+    → IfSome src.before (λ bytes. (e : CheckFault) → length bytes ≤ 134217728 → IsVerdict bytes (Err e)
+    → IsStatusOf e f.status ⊎ (f.status ≡ status.Memory))
+found_fault asked src out f h check fine = each src.before refl
+  where
+    each : (left : Option (List ℕ)) → src.before ≡ left
+        → IfSome left (λ bytes. (e : CheckFault) → length bytes ≤ 134217728 → IsVerdict bytes (Err e)
+        → IsStatusOf e f.status ⊎ (f.status ≡ status.Memory))
+    each None told = tt
+    each (Some bytes) told = fault_so f.status bytes src out f.book fine told
+        (subst (λ (x : Option Form). EndsSo f.status x src out f.book) check h.so)
+
+-- an input that is accepted is answered so, or there was no memory
+accepted_so : (s : Status) (bytes : List ℕ) (src out : Change) (book : Option Ledger) → (Failed src → ⊥)
+    → (Failed out → ⊥) → src.before ≡ Some bytes → EndsSo s (Some form.Check) src out book
+    → (n : ℕ) → length bytes ≤ 134217728 → IsVerdict bytes (Ok n) → (s ≡ status.Done) ⊎ (s ≡ status.Memory)
+accepted_so s bytes src out book fine whole told so n few is = each s so
+  where
+    fault_not : (e : CheckFault) → IsJudgedSo src (Err e) → ⊥
+    fault_not e judged =
+        let same = one_verdict bytes (Err e) (Ok n) (judged_here src bytes (Err e) told judged).1 is in cc
+
+    each : (x : Status) → EndsSo x (Some form.Check) src out book → (x ≡ status.Done) ⊎ (x ≡ status.Memory)
+    each status.Done h = inl refl
+    each status.Memory h = inr refl
+    each (status.Script r) h = absurd (fault_not (fault.Script r) h.1)
+    each (status.Refused o) h = absurd (fault_not (fault.Refused o) h.1)
+    each status.TooLong h =
+        let more = subst (λ (l : Option (List ℕ)). IfSome l (λ all. 134217728 < length all)) told h.1 in
+        absurd (omega (arith, more, few))
+    each status.ReadFault h = absurd (fine h.1)
+    each status.WriteFault h = absurd (whole h.2.fault)
+    each status.Usage h = absurd cc
+    each status.Later h = absurd cc
+
+pub found_accepted : (asked : Option Form) (src out : Change) (f : Finished) → Ends asked src out f
+    → asked ≡ Some form.Check → (Failed src → ⊥) → (Failed out → ⊥)
+    → IfSome src.before (λ bytes. (n : ℕ) → length bytes ≤ 134217728 → IsVerdict bytes (Ok n)
+    → (f.status ≡ status.Done) ⊎ (f.status ≡ status.Memory))
+found_accepted asked src out f h check fine whole = each src.before refl
+  where
+    each : (left : Option (List ℕ)) → src.before ≡ left
+        → IfSome left (λ bytes. (n : ℕ) → length bytes ≤ 134217728 → IsVerdict bytes (Ok n)
+        → (f.status ≡ status.Done) ⊎ (f.status ≡ status.Memory))
+    each None told = tt
+    each (Some bytes) told = accepted_so f.status bytes src out f.book fine whole told
+        (subst (λ (x : Option Form). EndsSo f.status x src out f.book) check h.so)
+
+-- more bytes than a script with its listing may have are told, or there was no memory
+checked_long : (s : Status) (bytes : List ℕ) (src out : Change) (book : Option Ledger) → (Failed src → ⊥)
+    → src.before ≡ Some bytes
+    → EndsSo s (Some form.Check) src out book → 134217728 < length bytes → (s ≡ status.TooLong) ⊎ (s ≡ status.Memory)
+checked_long s bytes src out book fine told so many = each s so
+  where
+    few_not : (given : Result ℕ CheckFault) → IsJudgedSo src given → ⊥
+    few_not given judged = omega (arith, (judged_here src bytes given told judged).0, many)
+
+    each : (x : Status) → EndsSo x (Some form.Check) src out book → (x ≡ status.TooLong) ⊎ (x ≡ status.Memory)
+    each status.TooLong h = inl refl
+    each status.Memory h = inr refl
+    each status.Done h = absurd (few_not (Ok h.0) h.1)
+    each status.WriteFault h = absurd (few_not (Ok h.0) h.1)
+    each (status.Script r) h = absurd (few_not (Err (fault.Script r)) h.1)
+    each (status.Refused o) h = absurd (few_not (Err (fault.Refused o)) h.1)
+    each status.ReadFault h = absurd (fine h.1)
+    each status.Usage h = absurd cc
+    each status.Later h = absurd cc
+
+pub found_checked_long : (asked : Option Form) (src out : Change) (f : Finished) → Ends asked src out f
+    → asked ≡ Some form.Check → (Failed src → ⊥)
+    → IfSome src.before (λ bytes. 134217728 < length bytes → (f.status ≡ status.TooLong) ⊎ (f.status ≡ status.Memory))
+found_checked_long asked src out f h check fine = each src.before refl
+  where
+    each : (left : Option (List ℕ)) → src.before ≡ left
+        → IfSome left (λ bytes. 134217728 < length bytes → (f.status ≡ status.TooLong) ⊎ (f.status ≡ status.Memory))
+    each None told = tt
+    each (Some bytes) told = checked_long f.status bytes src out f.book fine told
+        (subst (λ (x : Option Form). EndsSo f.status x src out f.book) check h.so)

@@ -1,5 +1,6 @@
 -- How a call of the program may end, and what it leaves then. (own)
-use Rattle.std.specs.Prelude.{◌≡◌, ℕ, ◌<◌, ◌≤◌, true, List, length, Option, Some, None, is_some, IfSome, IsSomeAnd, Ok, Err}
+use Rattle.std.specs.Prelude.{◌≡◌, ℕ, ◌+◌, ◌<◌, ◌≤◌, true, List, length}
+use Rattle.std.specs.Prelude.{Option, Some, None, is_some, IfSome, IsSomeAnd, Result, Ok, Err}
 use Rattle.std.specs.Io.KnownBytes.{Appends, Keeps}
 use Rattle.site_io.specs.Faults.{Rose}
 use Rattle.site_io.specs.Streams.{AppendsFront, ConsumesFront}
@@ -13,8 +14,13 @@ use Rattle.flat_model.specs.Legal.{IsComplete, IsLegal, IsSettled, store_after}
 use Rattle.listing.specs.Listings.{listing_of}
 use Rattle.make_work.specs.Day.{made}
 use Rattle.drill.specs.Texts.{drill_text}
+use Rattle.book_check.specs.Closing.{IsTheVerdict}
+use Rattle.book_check.specs.declared.offences.CheckFault.{CheckFault}
+use Rattle.book_check.specs.declared.offences.CheckFault.TheVariants as fault
+use Rattle.book_check.specs.declared.offences.Offence.{Offence}
 use Rattle.runner.specs.OnDisk.{IsOnDisk}
-use Rattle.runner.specs.Runs.{IsLater, script_runs, refusal_text, too_long_text, later_text, usage_text}
+use Rattle.runner.specs.Runs.{IsLater, script_runs, accepted_text, offence_text}
+use Rattle.runner.specs.Runs.{refusal_text, too_long_text, later_text, usage_text}
 use Rattle.runner.specs.declared.finished.Finished.{Finished}
 use Rattle.runner.specs.declared.finished.Status.{Status}
 use Rattle.runner.specs.declared.finished.Status.TheVariants as status
@@ -64,6 +70,32 @@ pub record IsRun (src : Change) (book : Ledger) (volumes : Option (Vols DriveSta
   pub settled : IsSettled book.script (store_after book.script book.entries)
   pub disk : IsSomeAnd volumes (λ v. IsOnDisk v (store_after book.script book.entries))
 
+-- the forms that read the source: `run` a script, `check` a script with its listing
+abbrev pub IsReading : Option Form → Type 0
+IsReading (Some form.Run) = Unit {0}
+IsReading (Some form.Check) = Unit {0}
+IsReading _ = ⊥
+
+-- the most bytes that they may have
+abbrev pub limit_of : Option Form → ℕ
+limit_of (Some form.Check) = 134217728
+limit_of _ = 4194304
+
+-- the script in the bytes is refused: of `check` the lines before the line `book`
+abbrev pub IsRefused : Option Form → List ℕ → Refusal → Type 0
+IsRefused (Some form.Check) bytes r = IsTheVerdict bytes (Err (fault.Script r))
+IsRefused _ bytes r = script_of bytes ≡ Err r
+
+-- the status that a fault of a listing comes to
+abbrev pub IsStatusOf : CheckFault → Status → Type 0
+IsStatusOf (fault.Script r) s = s ≡ status.Script r
+IsStatusOf (fault.Refused o) s = s ≡ status.Refused o
+IsStatusOf fault.Memory s = ⊥
+
+-- a listing within the limit is judged so, and in no other way
+abbrev pub IsJudgedSo : Change → Result ℕ CheckFault → Type 0
+IsJudgedSo src v = IfSome src.before (λ bytes. (length bytes ≤ 134217728) × IsTheVerdict bytes v)
+
 -- an output was printed: whole, a front of it where a write failed, or nothing for want of memory
 abbrev pub Printed : Status → Change → List ℕ → Type 0
 Printed status.Done out text = WritesAll out text
@@ -76,6 +108,12 @@ abbrev pub Refuses : Status → Refusal → Change → Type 0
 Refuses (status.Script s) r out = (s ≡ r) × Writes out (refusal_text r)
 Refuses status.Memory r out = WritesNothing out
 Refuses _ r out = ⊥
+
+-- a line at fault was written, or nothing for want of memory
+abbrev pub Offends : Status → Offence → Change → Type 0
+Offends (status.Refused p) o out = (p ≡ o) × Writes out (offence_text o)
+Offends status.Memory o out = WritesNothing out
+Offends _ o out = ⊥
 
 -- the run of a script is right, and the volumes hold what it stored
 pub record RunOf (p : Plan) (book : Ledger) (volumes : Option (Vols DriveState)) : Type 0 where
@@ -92,30 +130,33 @@ PrintsRun s None out = ⊥
 PrintsRun s (Some b) out = Printed s out (listing_of b.script b.entries)
 
 -- what the program prints in each of its forms
-abbrev pub Prints : Option Form → Option Ledger → (List ℕ → Type 0) → Type 0
-Prints (Some form.Run) book P = IsSomeAnd book (λ b. P (listing_of b.script b.entries))
-Prints (Some (form.Make n)) book P = P (made n)
-Prints (Some (form.Drill p f n seed)) book P = P (drill_text p f n seed)
-Prints None book P = ⊥
+abbrev pub Prints : Option Form → Change → Option Ledger → (List ℕ → Type 0) → Type 0
+Prints (Some form.Run) src book P = IsSomeAnd book (λ b. P (listing_of b.script b.entries))
+Prints (Some form.Check) src book P = (entries : ℕ) × IsJudgedSo src (Ok entries) × P (accepted_text entries)
+Prints (Some (form.Make n)) src book P = P (made n)
+Prints (Some (form.Drill p f n seed)) src book P = P (drill_text p f n seed)
+Prints None src book P = ⊥
 
 -- why a call ended so, and what it wrote
 abbrev pub EndsSo : Status → Option Form → Change → Change → Option Ledger → Type 0
 EndsSo status.Usage asked src out book = (asked ≡ None) × Writes out usage_text
-EndsSo status.ReadFault asked src out book = (asked ≡ Some form.Run) × Failed src × WritesNothing out
+EndsSo status.ReadFault asked src out book = IsReading asked × Failed src × WritesNothing out
 EndsSo status.TooLong asked src out book =
-    (asked ≡ Some form.Run) × IfSome src.before (λ bytes. 4194304 < length bytes) × Writes out too_long_text
+    IsReading asked × IfSome src.before (λ bytes. limit_of asked < length bytes) × Writes out too_long_text
 EndsSo (status.Script r) asked src out book =
-    (asked ≡ Some form.Run) × IfSome src.before (λ bytes. (length bytes ≤ 4194304) × (script_of bytes ≡ Err r))
+    IsReading asked × IfSome src.before (λ bytes. (length bytes ≤ limit_of asked) × IsRefused asked bytes r)
     × Writes out (refusal_text r)
+EndsSo (status.Refused o) asked src out book =
+    (asked ≡ Some form.Check) × IsJudgedSo src (Err (fault.Refused o)) × Writes out (offence_text o)
 EndsSo status.Later asked src out book =
     (asked ≡ Some form.Run) × IfSome src.before (λ bytes. (length bytes ≤ 4194304) × IsLater (script_of bytes))
     × Writes out later_text
-EndsSo status.Done asked src out book = Prints asked book (WritesAll out)
-EndsSo status.WriteFault asked src out book = Prints asked book (WritesFront out)
+EndsSo status.Done asked src out book = Prints asked src book (WritesAll out)
+EndsSo status.WriteFault asked src out book = Prints asked src book (WritesFront out)
 EndsSo status.Memory asked src out book = (is_some asked ≡ true) × WritesNothing out
 
 -- how a call ended that was asked for this
 pub record Ends (asked : Option Form) (src out : Change) (f : Finished) : Type 0 where
   pub so : EndsSo f.status asked src out f.book
   pub run : IfSome f.book (λ b. IsRun src b f.volumes)
-  pub reads : ConsumesFront src.before src.after 4194305
+  pub reads : ConsumesFront src.before src.after (limit_of asked + 1)

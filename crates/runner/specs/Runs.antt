@@ -2,6 +2,8 @@
 use Rattle.std.specs.Prelude.{◌≡◌, ℕ, Bool, true, false, not, ◌&&◌, ◌==◌, List, [], ◌∷◌, ◌++◌, length, Result, Ok, Err, codes}
 use Rattle.std.specs.List.{list_all}
 use Rattle.std.specs.Fmt.{decimal}
+use Rattle.book_check.specs.Rules.{rule_text}
+use Rattle.book_check.specs.declared.offences.Offence.{Offence}
 use Rattle.script.specs.Causes.{cause_text}
 use Rattle.script.specs.Plans.{Plan, ProcessPlan}
 use Rattle.script.specs.declared.commands.Command.{Command}
@@ -49,6 +51,14 @@ too_long_text = codes "script too long\n"
 
 abbrev pub later_text : List ℕ
 later_text = codes "script refused at line 0: later\n"
+
+-- a listing is accepted, with so many entries
+unfoldable pub accepted_text : ℕ → List ℕ
+accepted_text entries = codes "accepted " ++ (decimal entries ++ codes " entries\n")
+
+-- a line of it is at fault
+unfoldable pub offence_text : Offence → List ℕ
+offence_text o = codes "refused at line " ++ (decimal o.line ++ (codes ": " ++ (rule_text o.rule ++ codes "\n")))
 
 unfoldable pub refusal_text : Refusal → List ℕ
 refusal_text r = codes "script refused at line " ++ (decimal r.line ++ (codes ": " ++ (cause_text r.cause ++ codes "\n")))

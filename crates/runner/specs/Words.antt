@@ -22,7 +22,10 @@ drill_of _ _ _ _ = None
 
 -- what the words ask for; None where they are no form of the program
 unfoldable pub form_of : List (List ℕ) → Option Form
-form_of (word ∷ []) = if bytes_eq word (codes "run") then Some form.Run else None
+form_of (word ∷ []) =
+    if bytes_eq word (codes "run")
+    then Some form.Run
+    else if bytes_eq word (codes "check") then Some form.Check else None
 form_of (word ∷ number ∷ []) = if bytes_eq word (codes "make") then make_of (number_of number) else None
 form_of (word ∷ p ∷ f ∷ n ∷ seed ∷ []) =
     if bytes_eq word (codes "drill")

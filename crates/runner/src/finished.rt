@@ -1,4 +1,5 @@
 use book::Book;
+use book_check::Offence;
 use script::Refusal;
 use volumes::{CoreDrive, Volumes};
 
@@ -21,6 +22,8 @@ pub enum Status {
     Memory,
     /// The script doesn't run so far.
     Later,
+    /// A line of the listing is at fault, and breaks a rule.
+    Refused(Offence),
 }
 
 /// What a call leaves.

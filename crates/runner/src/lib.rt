@@ -1,6 +1,7 @@
 //! Runs scripts: the machine, and the program's top call.
 #![tactic(auto)]
 
+mod checking;
 mod commands;
 mod drives;
 mod ending;
@@ -18,6 +19,7 @@ mod tables;
 mod top;
 mod words;
 
+pub use checking::LISTING_BYTES;
 pub use drives::drive_of;
 pub use finished::{Finished, Status};
 pub use reading::SCRIPT_BYTES;

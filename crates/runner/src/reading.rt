@@ -19,7 +19,7 @@ use std::alloc::Global;
 pub const SCRIPT_BYTES: usize = 4_194_304;
 
 /// What is written where the source has too many bytes.
-const TOO_LONG: &[u8] = b"script too long\n";
+pub(crate) const TOO_LONG: &[u8] = b"script too long\n";
 
 /// What is written where the script doesn't run so far.
 const LATER: &[u8] = b"script refused at line 0: later\n";

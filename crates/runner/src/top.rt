@@ -1,4 +1,4 @@
-ghost use Rattle.std.specs.Prelude.{◌≡◌, ◌≢◌, ◌<◌, ◌≤◌, ◌↔◌, ◌⊎◌, ℕ, Some, None, Ok, Err, length};
+ghost use Rattle.std.specs.Prelude.{◌≡◌, ◌<◌, ◌+◌, ◌≤◌, ◌↔◌, ◌⊎◌, ℕ, Some, None, Ok, Err, length};
 ghost use Rattle.std.specs.Prelude.{IfSome, IsSome, IsSomeAnd, true, false};
 ghost use Rattle.std.specs.Io.KnownBytes.{Appends, Keeps};
 ghost use Rattle.site_io.specs.Faults.{Rose};
@@ -10,12 +10,19 @@ ghost use Rattle.flat_model.specs.Legal.{IsLegal, IsComplete, IsSettled, store_a
 ghost use Rattle.listing.specs.Listings.{listing_of};
 ghost use Rattle.drill.specs.Texts.{drill_text};
 ghost use Rattle.make_work.specs.Day.{made};
-ghost use Rattle.runner.specs.Endings.{change, Ends, Writes};
+ghost use Rattle.runner.specs.Endings.{change, Ends, IsReading, IsRefused, IsStatusOf, Writes, limit_of};
+ghost use Rattle.book_check.specs.Closing.{IsTheVerdict};
+ghost use Rattle.book_check.specs.Verdicts.{IsVerdict};
+ghost use Rattle.book_check.specs.declared.offences.CheckFault.{CheckFault};
+ghost use Rattle.book_check.specs.declared.offences.CheckFault.TheVariants as fault;
+ghost use Rattle.book_check.specs.declared.offences.Offence.{Offence};
 ghost use Rattle.runner.specs.OnDisk.{IsOnDisk};
 ghost use Rattle.runner.specs.Runs.{script_runs, IsLater, usage_text, too_long_text, later_text, refusal_text};
+ghost use Rattle.runner.specs.Runs.{accepted_text, offence_text};
 ghost use Rattle.runner.specs.Words.{form_of, IsInRange};
 ghost use Rattle.runner.specs.declared.words.Form.TheVariants as form;
 
+use crate::checking::read_and_check;
 use crate::finished::{Finished, Status};
 use crate::printing::{make, run_drill, with_text};
 use crate::reading::read_and_run;
@@ -40,10 +47,11 @@ fn serve<R: Threads + Wait + Sync, S: Source, K: Sink, G: Gate + Sync>(
     requires { IsInRange asked }
     ensures ends { Ends (Some asked) (change (S.left src.old) (S.left src.new) (S.faults src.old) (S.faults src.new))
         (change (K.held out.old) (K.held out.new) (K.faults out.old) (K.faults out.new)) result }
-    ensures source { asked ≢ form.Run → src.new ≡ src.old }
+    ensures source { (IsReading (Some asked) → ⊥) → src.new ≡ src.old }
 {
     match asked {
         Form::Run => read_and_run(alloc, src, out),
+        Form::Check => read_and_check(alloc, src, out),
         Form::Make(n) => make(alloc, n, out),
         Form::Drill {
             processors,
@@ -65,7 +73,7 @@ fn answer<R: Threads + Wait + Sync, S: Source, K: Sink, G: Gate + Sync>(
 ) -> Finished
     ensures ends { Ends (form_of words) (change (S.left src.old) (S.left src.new) (S.faults src.old) (S.faults src.new))
         (change (K.held out.old) (K.held out.new) (K.faults out.old) (K.faults out.new)) result }
-    ensures source { form_of words ≢ Some form.Run → src.new ≡ src.old }
+    ensures source { (IsReading (form_of words) → ⊥) → src.new ≡ src.old }
 {
     match words.form() {
         None => with_text(out, USAGE, Status::Usage),
@@ -73,12 +81,14 @@ fn answer<R: Threads + Wait + Sync, S: Source, K: Sink, G: Gate + Sync>(
     }
 }
 
-/// Runs the program: `run` reads a script from the source to its end, runs it, and writes its listing; `make N` writes
-/// the script of the day of a number, and `drill` lets threads add to pages; neither reads anything.
+/// Runs the program: `run` reads a script from the source to its end, runs it, and writes its listing; `check` reads a
+/// script with anybody's listing of it, and writes how many entries it accepts, or the first line at fault; `make N`
+/// writes the script of the day of a number, and `drill` lets threads add to pages; neither reads anything.
 ///
 /// The causes are looked at in this order: the words (`Usage`), a read that fails (`ReadFault`), a source that is too
-/// long (`TooLong`), a script that is refused (`Script`), one that doesn't run so far (`Later`), a write that fails
-/// (`WriteFault`). Want of memory (`Memory`) may stand in place of any but the first, and nothing was written then.
+/// long (`TooLong`), a script that is refused (`Script`), one that doesn't run so far (`Later`, of `run`), a listing at
+/// fault (`Refused`, of `check`), a write that fails (`WriteFault`). Want of memory (`Memory`) may stand in place of
+/// any but the first, and nothing was written then.
 /// The runtime and the gate are for the drill, whose threads call the gate where they stand between two tries; a run of
 /// one process on one processor needs neither so far.
 pub fn multics<R: Threads + Wait + Sync, S: Source, K: Sink, G: Gate + Sync>(
@@ -94,24 +104,31 @@ pub fn multics<R: Threads + Wait + Sync, S: Source, K: Sink, G: Gate + Sync>(
     ensures usage_text { result.status ≡ Status.Usage →
         Writes (change (K.held out.old) (K.held out.new) (K.faults out.old) (K.faults out.new)) usage_text }
 
-    // But for `run` the source is as it was.
-    ensures source { form_of words ≢ Some form.Run → src.new ≡ src.old }
+    // But for `run` and `check` the source is as it was.
+    ensures source { (IsReading (form_of words) → ⊥) → src.new ≡ src.old }
 
     // A read failed, and nothing was written.
     ensures read_fault { result.status ≡ Status.ReadFault → Rose (S.faults src.old) (S.faults src.new) }
     ensures read_fault_text { result.status ≡ Status.ReadFault → Keeps (K.held out.old) (K.held out.new) }
 
-    // There are more bytes than a script may have. At most one more than that is read.
-    ensures too_long { result.status ≡ Status.TooLong → IfSome (S.left src.old) (λ bytes. 4194304 < length bytes) }
+    // There are more bytes than a script may have, or a script with its listing. At most one more than that is read.
+    ensures too_long { result.status ≡ Status.TooLong →
+        IfSome (S.left src.old) (λ bytes. limit_of (form_of words) < length bytes) }
     ensures too_long_text { result.status ≡ Status.TooLong →
         Writes (change (K.held out.old) (K.held out.new) (K.faults out.old) (K.faults out.new)) too_long_text }
-    ensures reads { ConsumesFront (S.left src.old) (S.left src.new) 4194305 }
+    ensures reads { ConsumesFront (S.left src.old) (S.left src.new) (limit_of (form_of words) + 1) }
 
     // The script is refused, at its first line that is and for that line's first cause.
     ensures refused { (r : Refusal) → result.status ≡ Status.Script r →
-        IfSome (S.left src.old) (λ bytes. script_of bytes ≡ Err r) }
+        IfSome (S.left src.old) (λ bytes. IsRefused (form_of words) bytes r) }
     ensures refused_text { (r : Refusal) → result.status ≡ Status.Script r →
         Writes (change (K.held out.old) (K.held out.new) (K.faults out.old) (K.faults out.new)) (refusal_text r) }
+
+    // A line of the listing is the first at fault, and breaks that rule first.
+    ensures offence { (o : Offence) → result.status ≡ Status.Refused o →
+        IfSome (S.left src.old) (λ bytes. IsTheVerdict bytes (Err (fault.Refused o))) }
+    ensures offence_text { (o : Offence) → result.status ≡ Status.Refused o →
+        Writes (change (K.held out.old) (K.held out.new) (K.faults out.old) (K.faults out.new)) (offence_text o) }
 
     // The bytes are a script that doesn't run so far.
     ensures later { result.status ≡ Status.Later → IfSome (S.left src.old) (λ bytes. IsLater (script_of bytes)) }
@@ -139,6 +156,12 @@ pub fn multics<R: Threads + Wait + Sync, S: Source, K: Sink, G: Gate + Sync>(
         Appends (K.held out.old) (K.held out.new) (drill_text p f n seed) }
     ensures drilled_front { (p f n seed : ℕ) → form_of words ≡ Some (form.Drill p f n seed) →
         result.status ≡ Status.WriteFault → AppendsFront (K.held out.old) (K.held out.new) (drill_text p f n seed) }
+    ensures accepted { form_of words ≡ Some form.Check → result.status ≡ Status.Done → (entries : ℕ)
+        × IfSome (S.left src.old) (λ bytes. (length bytes ≤ 134217728) × IsTheVerdict bytes (Ok entries))
+        × Appends (K.held out.old) (K.held out.new) (accepted_text entries) }
+    ensures accepted_front { form_of words ≡ Some form.Check → result.status ≡ Status.WriteFault → (entries : ℕ)
+        × IfSome (S.left src.old) (λ bytes. (length bytes ≤ 134217728) × IsTheVerdict bytes (Ok entries))
+        × AppendsFront (K.held out.old) (K.held out.new) (accepted_text entries) }
     ensures write_fault { result.status ≡ Status.WriteFault → Rose (K.faults out.old) (K.faults out.new) }
 
     // Want of memory: nothing was written.
@@ -158,6 +181,16 @@ pub fn multics<R: Threads + Wait + Sync, S: Source, K: Sink, G: Gate + Sync>(
         (Rose (K.faults out.old) (K.faults out.new) → ⊥) →
         IfSome (S.left src.old) (λ bytes. (p : Plan) → length bytes ≤ 4194304 → script_of bytes ≡ Ok p →
         script_runs p ≡ true → (result.status ≡ Status.Done) ⊎ (result.status ≡ Status.Memory)) }
+    ensures finds_long_listing { form_of words ≡ Some form.Check → (Rose (S.faults src.old) (S.faults src.new) → ⊥) →
+        IfSome (S.left src.old) (λ bytes. 134217728 < length bytes →
+        (result.status ≡ Status.TooLong) ⊎ (result.status ≡ Status.Memory)) }
+    ensures finds_fault { form_of words ≡ Some form.Check → (Rose (S.faults src.old) (S.faults src.new) → ⊥) →
+        IfSome (S.left src.old) (λ bytes. (f : CheckFault) → length bytes ≤ 134217728 → IsVerdict bytes (Err f) →
+        IsStatusOf f result.status ⊎ (result.status ≡ Status.Memory)) }
+    ensures accepts { form_of words ≡ Some form.Check → (Rose (S.faults src.old) (S.faults src.new) → ⊥) →
+        (Rose (K.faults out.old) (K.faults out.new) → ⊥) →
+        IfSome (S.left src.old) (λ bytes. (entries : ℕ) → length bytes ≤ 134217728 → IsVerdict bytes (Ok entries) →
+        (result.status ≡ Status.Done) ⊎ (result.status ≡ Status.Memory)) }
     ensures makes { (n : ℕ) → form_of words ≡ Some (form.Make n) → (Rose (K.faults out.old) (K.faults out.new) → ⊥) →
         (result.status ≡ Status.Done) ⊎ (result.status ≡ Status.Memory) }
     ensures drills { (p f n seed : ℕ) → form_of words ≡ Some (form.Drill p f n seed) →

@@ -24,6 +24,8 @@ impl Model for Words {
 pub enum Form {
     /// `run`: a script is read and run.
     Run,
+    /// `check`: a listing is judged against its script.
+    Check,
     /// `make N`: the script of the day of this number is printed.
     Make(u32),
     /// `drill P F N SEED`: so many processors make so many adds each in the pages of so many frames, as numbers are
@@ -61,6 +63,7 @@ impl Words {
     {
         match self.texts.as_slice() {
             [word] if word.as_bytes() == b"run".as_slice() => Some(Form::Run),
+            [word] if word.as_bytes() == b"check".as_slice() => Some(Form::Check),
             [word, number] if word.as_bytes() == b"make".as_slice() => {
                 Some(Form::Make(read_number(number.as_bytes())?))
             }

@@ -1,5 +1,5 @@
-use Rattle.std.proofs.Common.{sym, ap, ◌∙◌, Some}
-use Rattle.runner.specs.declared.words.Form.{Form}
+use Rattle.std.proofs.Common.{sym, subst, ◌∙◌}
+use Rattle.runner.specs.Endings.{IsReading}
 use Rattle.runner.proofs.Ends.{asked_none, asks, reads_nothing}
 use Rattle.runner.proofs.top.answer.Goals as goal
 
@@ -11,4 +11,6 @@ pub returns-clause-ends : goal.returns-clause-ends
 returns-clause-ends g c = asks _ _ _ _ _ (sym c.form.ensures.form ∙ c.in-Some.is) c.serve.ensures.ends
 
 pub returns-clause-source : goal.returns-clause-source
-returns-clause-source g c = λ other. c.serve.ensures.source (λ run. other (sym c.form.ensures.form ∙ c.in-Some.is ∙ ap (λ (x : Form). Some x) run))
+returns-clause-source g c =
+    let asked = sym c.in-Some.is ∙ c.form.ensures.form in
+    λ other. c.serve.ensures.source (λ reads. other (subst IsReading asked reads))

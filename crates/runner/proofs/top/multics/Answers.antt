@@ -1,5 +1,6 @@
 -- Each clause of the top call, by what the ending says. (own)
-use Rattle.runner.proofs.Verdicts.{by_verdict, ended, fact_only, found_done, found_drilled, found_later, found_long, found_made, found_refused, front_only}
+use Rattle.runner.proofs.Verdicts.{by_verdict, ended, fact_only, found_accepted, found_checked_long, found_done, found_drilled}
+use Rattle.runner.proofs.Verdicts.{found_fault, found_later, found_long, found_made, found_refused, front_only}
 use Rattle.runner.proofs.Verdicts.{of_run, printed_in, usage_there, verdict, write_failed}
 use Rattle.runner.specs.declared.finished.Status.TheVariants as status
 use Rattle.runner.proofs.top.multics.Goals as goal
@@ -34,6 +35,28 @@ returns-clause-refused g c = λ r e. fact_only _ _ _ (ended _ _ _ _ (status.Scri
 pub returns-clause-refused_text : goal.returns-clause-refused_text
 returns-clause-refused_text g c = λ r e. (ended _ _ _ _ (status.Script r) c.answer.ensures.ends e).2
 
+pub returns-clause-offence : goal.returns-clause-offence
+returns-clause-offence g c = λ o e. fact_only _ _ _ (ended _ _ _ _ (status.Refused o) c.answer.ensures.ends e).1
+
+pub returns-clause-offence_text : goal.returns-clause-offence_text
+returns-clause-offence_text g c = λ o e. (ended _ _ _ _ (status.Refused o) c.answer.ensures.ends e).2
+
+pub returns-clause-accepted : goal.returns-clause-accepted
+returns-clause-accepted g c = λ asks e. printed_in _ _ _ _ _ (ended _ _ _ _ status.Done c.answer.ensures.ends e) asks
+
+pub returns-clause-accepted_front : goal.returns-clause-accepted_front
+returns-clause-accepted_front g c = λ asks e.
+    let h = printed_in _ _ _ _ _ (ended _ _ _ _ status.WriteFault c.answer.ensures.ends e) asks in (h.0, h.1, h.2.front)
+
+pub returns-clause-finds_long_listing : goal.returns-clause-finds_long_listing
+returns-clause-finds_long_listing g c = λ asks fine. found_checked_long _ _ _ _ c.answer.ensures.ends asks fine
+
+pub returns-clause-finds_fault : goal.returns-clause-finds_fault
+returns-clause-finds_fault g c = λ asks fine. found_fault _ _ _ _ c.answer.ensures.ends asks fine
+
+pub returns-clause-accepts : goal.returns-clause-accepts
+returns-clause-accepts g c = λ asks fine whole. found_accepted _ _ _ _ c.answer.ensures.ends asks fine whole
+
 pub returns-clause-later : goal.returns-clause-later
 returns-clause-later g c = λ e. fact_only _ _ _ (ended _ _ _ _ status.Later c.answer.ensures.ends e).1
 
@@ -56,25 +79,25 @@ pub returns-clause-disk : goal.returns-clause-disk
 returns-clause-disk g c = of_run _ c.answer.result _ (λ b r. r.disk) c.answer.ensures.ends.run
 
 pub returns-clause-listing : goal.returns-clause-listing
-returns-clause-listing g c = λ asks e. printed_in _ _ _ _ (ended _ _ _ _ status.Done c.answer.ensures.ends e) asks
+returns-clause-listing g c = λ asks e. printed_in _ _ _ _ _ (ended _ _ _ _ status.Done c.answer.ensures.ends e) asks
 
 pub returns-clause-front : goal.returns-clause-front
-returns-clause-front g c = λ asks e. front_only _ _ (printed_in _ _ _ _ (ended _ _ _ _ status.WriteFault c.answer.ensures.ends e) asks)
+returns-clause-front g c = λ asks e. front_only _ _ (printed_in _ _ _ _ _ (ended _ _ _ _ status.WriteFault c.answer.ensures.ends e) asks)
 
 pub returns-clause-made : goal.returns-clause-made
-returns-clause-made g c = λ n asks e. printed_in _ _ _ _ (ended _ _ _ _ status.Done c.answer.ensures.ends e) asks
+returns-clause-made g c = λ n asks e. printed_in _ _ _ _ _ (ended _ _ _ _ status.Done c.answer.ensures.ends e) asks
 
 pub returns-clause-made_front : goal.returns-clause-made_front
-returns-clause-made_front g c = λ n asks e. (printed_in _ _ _ _ (ended _ _ _ _ status.WriteFault c.answer.ensures.ends e) asks).front
+returns-clause-made_front g c = λ n asks e. (printed_in _ _ _ _ _ (ended _ _ _ _ status.WriteFault c.answer.ensures.ends e) asks).front
 
 pub returns-clause-drilled : goal.returns-clause-drilled
-returns-clause-drilled g c = λ p f n seed asks e. printed_in _ _ _ _ (ended _ _ _ _ status.Done c.answer.ensures.ends e) asks
+returns-clause-drilled g c = λ p f n seed asks e. printed_in _ _ _ _ _ (ended _ _ _ _ status.Done c.answer.ensures.ends e) asks
 
 pub returns-clause-drilled_front : goal.returns-clause-drilled_front
-returns-clause-drilled_front g c = λ p f n seed asks e. (printed_in _ _ _ _ (ended _ _ _ _ status.WriteFault c.answer.ensures.ends e) asks).front
+returns-clause-drilled_front g c = λ p f n seed asks e. (printed_in _ _ _ _ _ (ended _ _ _ _ status.WriteFault c.answer.ensures.ends e) asks).front
 
 pub returns-clause-write_fault : goal.returns-clause-write_fault
-returns-clause-write_fault g c = λ e. write_failed _ _ _ (ended _ _ _ _ status.WriteFault c.answer.ensures.ends e)
+returns-clause-write_fault g c = λ e. write_failed _ _ _ _ (ended _ _ _ _ status.WriteFault c.answer.ensures.ends e)
 
 pub returns-clause-memory_text : goal.returns-clause-memory_text
 returns-clause-memory_text g c = λ e. (ended _ _ _ _ status.Memory c.answer.ensures.ends e).1
