@@ -1,0 +1,249 @@
+-- A store whose nodes are changed, but for where they lie and what they are.
+use Rattle.std.proofs.Common.{◌≡◌, ℕ, ℤ, ◌/◌, ◌%◌, Bool, true, false, cond, eqb, List, [], ◌∷◌, map, Option, Some}
+use Rattle.std.proofs.Common.{None, Result}
+use Rattle.std.proofs.Common.{Ok, Err, get_or, refl, sym, ap, subst, ◌∙◌, ◌<◌, arith, inl, inr}
+use Rattle.std.proofs.lemmas.Bool.{cases_Bool}
+use Rattle.std.proofs.lemmas.Bool.Decides.{nat_tests}
+use Rattle.std.specs.Int.{is_positive}
+use Rattle.std.specs.Int.RustNames.{unsigned_abs}
+use Rattle.mnames.specs.declared.modes.Mode.{Mode}
+use Rattle.mnames.specs.declared.principals.Who.{Who}
+use Rattle.mnames.specs.declared.rows.Row.{Row as Named}
+use Rattle.script.specs.Plans.{Plan}
+use Rattle.book.specs.declared.replies.Reply.{Reply}
+use Rattle.book.specs.declared.replies.Reply.TheVariants as reply
+use Rattle.accounts.specs.Maps.{AccountMaps, Changes, Counts}
+use Rattle.tree_model.specs.Access.{Row, with_row}
+use Rattle.tree_model.specs.Quotas.{getter_of, giver_of}
+use Rattle.tree_model.specs.Tree.{Node, Walk, LeadsTo, Missing, InSegment, above, node_in, pool_for, pool_of, walk_in}
+use Rattle.flat_model.specs.Branches.{branch_at, changed, directory_at, node_at, only_directory, only_segment}
+use Rattle.flat_model.specs.Branches.{segment_at}
+use Rattle.flat_model.specs.Branches.{there_or, walked}
+use Rattle.flat_model.specs.Commands.{takes_effect}
+use Rattle.flat_model.specs.Rights.{after_acl, after_move, moved, nodes_moved, row_with}
+use Rattle.flat_model.specs.Store.{Store}
+use Rattle.descriptor_seg.specs.declared.Sdw.TheVariants.{Present}
+use Rattle.descriptor_seg.specs.Descriptors.{sdw_at}
+use Rattle.active_segs.specs.Active.{ActiveSegs, uid_at as uid_in_place}
+use Rattle.page_control.specs.Plain.{Plain, plain}
+use Rattle.page_control.specs.Picture.{words_at}
+use Rattle.seg_control.specs.Control.{Links, leads, leads_at, sdws_at}
+use Rattle.storage_ops.specs.Shown.{HasMoved, HasRowSet, IsCut, IsStore, Shows, Storage}
+use Rattle.storage_ops.specs.Shown.{answered, is_filed, pages_in, pages_of, picture}
+use Rattle.flat_model.specs.Pages.{is_stored}
+use Rattle.storage_ops.proofs.Alike.{Keeps, active_alike, alike_changed, counted_alike, filed_alike}
+use Rattle.storage_ops.proofs.Alike.{housed_alike, keeps_moved, keeps_one, keeps_rows, map_node, moved_else, node_map}
+use Rattle.storage_ops.proofs.Alike.{picture_alike, quota_moved, rights_alike, taken_alike}
+use Rattle.storage_ops.proofs.NodeLaws.{uid_found}
+
+-- ---- what refuses a path takes no effect
+
+walk_refuses : (nodes : List Node) (w : Walk) (r : Reply) → walked nodes w ≡ Err r → takes_effect r ≡ false
+walk_refuses nodes (LeadsTo u) r e = there (node_in nodes u) e
+  where
+    there : (o : Option Node) → there_or o ≡ Err r → takes_effect r ≡ false
+    there None e = (let is : reply.NoPath ≡ r = cc in ap takes_effect (sym is))
+    there (Some n) e = cc
+walk_refuses nodes Missing r e = (let is : reply.NoPath ≡ r = cc in ap takes_effect (sym is))
+walk_refuses nodes InSegment r e = (let is : reply.NotDir ≡ r = cc in ap takes_effect (sym is))
+
+pub node_refuses : (nodes : List Node) (path : List (List ℕ)) (r : Reply) → node_at nodes path ≡ Err r
+    → takes_effect r ≡ false
+unfolding node_at
+node_refuses nodes path r e = walk_refuses nodes (walk_in nodes path) r e
+
+pub segment_refuses : (nodes : List Node) (path : List (List ℕ)) (r : Reply) → segment_at nodes path ≡ Err r
+    → takes_effect r ≡ false
+segment_refuses nodes path r e = by (node_at nodes path) refl e
+  where
+    kind : (z : Bool) (n : Node) → cond z (Err reply.IsDir) (Ok n) ≡ Err r → takes_effect r ≡ false
+    kind true n e = (let is : reply.IsDir ≡ r = cc in ap takes_effect (sym is))
+    kind false n e = cc
+
+    by : (o : Result Node Reply) → node_at nodes path ≡ o → only_segment o ≡ Err r → takes_effect r ≡ false
+    by (Ok n) at e = kind n.directory n e
+    by (Err q) at e = (let is : q ≡ r = cc in node_refuses nodes path r (at ∙ ap Err is))
+
+pub branch_refuses : (nodes : List Node) (path : List (List ℕ)) (r : Reply) → branch_at nodes path ≡ Err r
+    → takes_effect r ≡ false
+branch_refuses nodes [] r e = (let is : reply.Root ≡ r = cc in ap takes_effect (sym is))
+branch_refuses nodes (name ∷ names) r e = node_refuses nodes (name ∷ names) r e
+
+pub directory_refuses : (nodes : List Node) (path : List (List ℕ)) (r : Reply) → directory_at nodes path ≡ Err r
+    → takes_effect r ≡ false
+directory_refuses nodes path r e = by (branch_at nodes path) refl e
+  where
+    kind : (z : Bool) (n : Node) → cond z (Ok n) (Err reply.IsSeg) ≡ Err r → takes_effect r ≡ false
+    kind true n e = cc
+    kind false n e = (let is : reply.IsSeg ≡ r = cc in ap takes_effect (sym is))
+
+    by : (o : Result Node Reply) → branch_at nodes path ≡ o → only_directory reply.IsSeg o ≡ Err r
+        → takes_effect r ≡ false
+    by (Ok n) at e = kind n.directory n e
+    by (Err q) at e = (let is : q ≡ r = cc in branch_refuses nodes path r (at ∙ ap Err is))
+
+-- ---- a change of all nodes
+
+module _ (f : Node → Node) (keeps : Keeps f) (a b : AccountMaps) (changes : Changes a b (map f a.nodes)) where
+  pages_map : ((n : Node) → (f n).pages ≡ n.pages) → (u : ℕ) → pages_in b.nodes u ≡ pages_in a.nodes u
+  pages_map same u = ap (λ (ns : List Node). pages_in ns u) changes.nodes ∙ ap pages_of (node_map f keeps a.nodes u)
+      ∙ here (node_in a.nodes u)
+    where
+      here : (o : Option Node) → pages_of (map_node f o) ≡ pages_of o
+      here None = refl
+      here (Some n) = same n
+
+  pool_map : ((n : Node) → (f n).pages ≡ n.pages) → (n : Node) → pool_of (f n) ≡ pool_of n
+  pool_map same n = ap (λ (z : Bool). cond z 0 (pool_for (f n).pages)) (keeps.kind n)
+      ∙ ap (λ (m : ℕ). cond n.directory 0 (pool_for m)) (same n)
+
+  -- where lengths stay, and the rows of what is connected
+  pub store_changed : (now : Plain) (ast : ActiveSegs) (links : Links) (whos : List Who)
+      → ((n : Node) → (f n).pages ≡ n.pages)
+      → ((process number place pages u : ℕ) (mode : Mode) (m : Node)
+      → sdw_at (sdws_at links.descriptors process) number ≡ Present place mode pages
+      → uid_in_place ast.entries place ≡ Some u → node_in a.nodes u ≡ Some m → (f m).rows ≡ m.rows)
+      → IsStore now ast links a whos → IsStore now ast links b whos
+  store_changed now ast links whos pages rows h = (let alike = alike_changed f keeps a b changes in record {
+    housed = housed_alike a b alike now.vtocs h.housed;
+    counted = counted_alike a b alike now.vtocs h.counted (pages_map pages);
+    taken = taken_alike a b alike now.records now.vtocs h.taken;
+    active = active_alike f keeps a b changes ast h.active (λ place u m e found. pool_map pages m);
+    rights = rights_alike f keeps a b changes ast.entries links whos h.rights
+        (λ process number place n u mode m d e found. (rows process number place n u mode m d e found, pages m));
+    known = record {
+      older = λ process number u e. subst (λ (x : ℕ). u < x) (sym changes.next) (h.known.older process number u e);
+      processes = h.known.processes;
+    };
+  })
+
+  pub shown_changed : {D : Type 0} (drive : D → List (List ℕ)) (p : Plan) (s : Store) (t : Storage D) → t.accounts ≡ a
+      → Shows drive p s t → Shows drive p (record s { nodes = map f s.nodes }) (record t { accounts = b })
+  shown_changed drive p s t is h = (let alike = alike_changed f keeps a b changes in record {
+    tree = record {
+      nodes = ap (map f) (h.tree.nodes ∙ ap (λ (x : AccountMaps). x.nodes) is) ∙ sym changes.nodes;
+      next = h.tree.next ∙ ap (λ (x : AccountMaps). x.next) is ∙ sym changes.next;
+      counts = λ u. changes.counts u ∙ subst (λ (x : AccountMaps). Counts x s.stored) is h.tree.counts u;
+    };
+    known = h.known;
+    pages = record {
+      stored = λ u q. subst (λ (x : AccountMaps). is_stored s.stored u q ≡ is_filed x t.segs.pages.volumes.vtocs u q)
+          is (h.pages.stored u q)
+          ∙ sym (filed_alike a b alike t.segs.pages.volumes.vtocs u q);
+      once = h.pages.once;
+      words = λ u o. subst (λ (x : AccountMaps). s.words u o ≡ get_or (picture x (words_at
+          (plain drive t.segs.pages)) u (o / 1024)) (o % 1024) 0) is (h.pages.words u o)
+          ∙ ap (λ (ws : List ℕ). get_or ws (o % 1024) 0) (sym (picture_alike a b alike (words_at
+          (plain drive t.segs.pages)) u (o / 1024)));
+    };
+    script = h.script;
+  })
+
+-- ---- a row is set
+
+-- a descriptor that is there leads to its place
+pub leads_there : (links : Links) (process number place pages : ℕ) (mode : Mode)
+    → sdw_at (sdws_at links.descriptors process) number ≡ Present place mode pages
+    → leads_at links.descriptors process number ≡ Some place
+leads_there links process number place pages mode e = ap leads e
+
+abbrev row_change : ℕ → Row → Node → Node
+row_change u row n = cond (eqb n.uid u) (record n { rows = with_row row n.rows }) n
+
+keeps_row : (u : ℕ) (row : Row) → Keeps (row_change u row)
+keeps_row u row = keeps_one u (λ n. record n { rows = with_row row n.rows }) (keeps_rows (with_row row))
+
+row_pages : (u : ℕ) (row : Row) (n : Node) → (row_change u row n).pages ≡ n.pages
+row_pages u row n = here (eqb n.uid u)
+  where
+    here : (z : Bool) → (cond z (record n { rows = with_row row n.rows }) n).pages ≡ n.pages
+    here true = refl
+    here false = refl
+
+pub acl_store : (now : Plain) (ast : ActiveSegs) (links : Links) (a b : AccountMaps) (whos : List Who) (path : List
+    (List ℕ)) (row : Row) (r : Reply)
+    → ((n : Node) → segment_at a.nodes path ≡ Ok n → IsCut ast.entries links n.uid) → IsStore now ast links a whos
+    → (takes_effect r ≡ true → HasRowSet a b path row) → (takes_effect r ≡ false → b ≡ a) → IsStore now ast links b whos
+acl_store now ast links a b whos path row r cut h done refused = elim (cases_Bool (takes_effect r)) [
+  | inr off ↦ subst (λ (x : AccountMaps). IsStore now ast links x whos) (sym (refused off)) h
+  | inl on ↦
+      (let set = done on in
+      let u : ℕ = set.node.uid in
+      store_changed (row_change u row) (keeps_row u row) a b set.effect now ast links whos (row_pages u row)
+      (λ process number place pages v mode m d e found. elim (cases_Bool (eqb m.uid u)) [
+        | inl is ↦
+            (let same : m.uid ≡ u = grind (arith, nat_tests) in
+            absurd ((cut set.node set.found).none process number place
+            (leads_there links process number place pages mode d)
+            (e ∙ ap (λ (x : ℕ). Some x) (sym (uid_found a.nodes v m found) ∙ same))))
+        | inr isnt ↦ rw isnt refl
+      ]) h)
+]
+
+acl_is : (s : Store) (path : List (List ℕ)) (row : Named) (m : Mode) (n : Node) → segment_at s.nodes path ≡ Ok n
+    → record s { nodes = map (row_change n.uid (row_with row m)) s.nodes } ≡ after_acl s path row m
+unfolding after_acl
+acl_is s path row m n found = sym (ap (changed s (λ x. record x { rows = with_row (row_with row m) x.rows })) found)
+
+pub acl_shown : {D : Type 0} (drive : D → List (List ℕ)) (p : Plan) (s : Store) (t : Storage D) (b : AccountMaps)
+    (path : List (List ℕ)) (row : Named) (m : Mode)
+    (r : Reply) → Shows drive p s t → (takes_effect r ≡ true → HasRowSet t.accounts b path (row_with row m))
+    → (takes_effect r ≡ false → b ≡ t.accounts) → Shows drive p (answered r s (after_acl s path row m))
+    (record t { accounts = b })
+acl_shown drive p s t b path row m r h done refused = elim (cases_Bool (takes_effect r)) [
+  | inr off ↦ rw off (subst (λ (x : AccountMaps). Shows drive p s (record t { accounts = x })) (sym (refused off)) h)
+  | inl on ↦
+      (let set = done on in
+      let u : ℕ = set.node.uid in
+      rw on (subst (λ (x : Store). Shows drive p x (record t { accounts = b }))
+      (acl_is s path row m set.node (ap (λ (ns : List Node). segment_at ns path) h.tree.nodes ∙ set.found))
+      (shown_changed (row_change u (row_with row m)) (keeps_row u
+      (row_with row m)) t.accounts b set.effect drive p s t refl h)))
+]
+
+-- ---- quota is moved
+
+pub move_store : (now : Plain) (ast : ActiveSegs) (links : Links) (a b : AccountMaps) (whos : List Who) (path : List
+    (List ℕ)) (amount : ℤ) (r : Reply)
+    → IsStore now ast links a whos → (takes_effect r ≡ true → HasMoved a b path amount) → (takes_effect r ≡ false
+    → b ≡ a)
+    → IsStore now ast links b whos
+move_store now ast links a b whos path amount r h done refused = elim (cases_Bool (takes_effect r)) [
+  | inr off ↦ subst (λ (x : AccountMaps). IsStore now ast links x whos) (sym (refused off)) h
+  | inl on ↦
+      (let has = done on in
+      let giver : ℕ = giver_of (above a.nodes) has.node.uid (is_positive amount) in
+      let getter : ℕ = getter_of (above a.nodes) has.node.uid (is_positive amount) in
+      store_changed (quota_moved giver getter (unsigned_abs amount)) (keeps_moved giver getter
+      (unsigned_abs amount)) a b has.effect now ast links whos
+      (λ n. moved_else (λ (x : Node). x.pages) (λ n q. refl) giver getter (unsigned_abs amount) n)
+      (λ process number place pages v mode m d e found. moved_else (λ (x : Node). x.rows) (λ n q. refl) giver getter
+      (unsigned_abs amount) m) h)
+]
+
+move_is : (s : Store) (path : List (List ℕ)) (amount : ℤ) (n : Node) → directory_at s.nodes path ≡ Ok n
+    → record s { nodes = nodes_moved s.nodes n.uid amount } ≡ after_move s path amount
+unfolding after_move
+move_is s path amount n found = sym (ap (moved s amount) found)
+
+pub move_shown : {D : Type 0} (drive : D → List (List ℕ)) (p : Plan) (s : Store) (t : Storage D) (b : AccountMaps)
+    (path : List (List ℕ)) (amount : ℤ) (r : Reply)
+    → Shows drive p s t → (takes_effect r ≡ true → HasMoved t.accounts b path amount) → (takes_effect r ≡ false
+    → b ≡ t.accounts)
+    → Shows drive p (answered r s (after_move s path amount)) (record t { accounts = b })
+move_shown drive p s t b path amount r h done refused = elim (cases_Bool (takes_effect r)) [
+  | inr off ↦ rw off (subst (λ (x : AccountMaps). Shows drive p s (record t { accounts = x })) (sym (refused off)) h)
+  | inl on ↦
+      (let has = done on in
+      let giver : ℕ = giver_of (above t.accounts.nodes) has.node.uid (is_positive amount) in
+      let getter : ℕ = getter_of (above t.accounts.nodes) has.node.uid (is_positive amount) in
+      rw on (subst (λ (x : Store). Shows drive p x (record t { accounts = b }))
+      (ap (λ (ns : List Node). record s {
+        nodes = map (quota_moved (giver_of (above ns) has.node.uid
+            (is_positive amount)) (getter_of (above ns) has.node.uid (is_positive amount))
+            (unsigned_abs amount)) s.nodes;
+      }) (sym h.tree.nodes)
+      ∙ move_is s path amount has.node (ap (λ (ns : List Node). directory_at ns path) h.tree.nodes ∙ has.found))
+      (shown_changed (quota_moved giver getter (unsigned_abs amount)) (keeps_moved giver getter
+      (unsigned_abs amount)) t.accounts b has.effect drive p s t refl h)))
+]

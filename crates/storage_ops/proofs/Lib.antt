@@ -1,0 +1,9 @@
+pub mod Alike
+pub mod Changed
+pub mod Known
+pub mod NamingLaws
+pub mod NodeLaws
+pub mod PathLaws
+pub mod QuotaLaws
+pub mod TreeLaws
+pub mod TreeReplies

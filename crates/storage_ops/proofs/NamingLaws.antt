@@ -1,0 +1,123 @@
+-- What a process knows by numbers, and whether there is a number for one segment more.
+use Rattle.std.proofs.Common.{◌≡◌, ◌↔◌, ℕ, zero, suc, ◌+◌, ◌<◌, ◌≤◌, Bool, true, false, cond, ltb, not, List, [], ◌∷◌}
+use Rattle.std.proofs.Common.{length, Option, Some, None, Ok, Err, get_or, is_some, is_none, IsTrue, refl, sym, ap}
+use Rattle.std.proofs.Common.{◌∙◌, arith}
+use Rattle.std.specs.List.{position_or_len}
+use Rattle.std.proofs.lemmas.Bool.{ltb-false, not-true}
+use Rattle.std.proofs.lemmas.List.Sums.{prefix_len_passes, sum_by-cons}
+use Rattle.std.proofs.lemmas.List.Quantifiers.{position-Some}
+use Rattle.known_segs.specs.Known.{first_of_two, known_count, least_free, number_for, number_of, uid_of}
+use Rattle.book.specs.declared.replies.Reply.{Reply}
+use Rattle.book.specs.declared.replies.Reply.TheVariants as reply
+use Rattle.tree_model.specs.Tree.{Node}
+use Rattle.flat_model.specs.Branches.{segment_at}
+use Rattle.flat_model.specs.Naming.{initiate_of, initiate_reply, known_or_full, terminate_reply}
+use Rattle.flat_model.specs.Store.{Store, numbers_of}
+use Rattle.seg_control.specs.Control.{kst_at}
+use Rattle.storage_ops.specs.Shown.{refusal}
+
+-- ---- the least free number
+
+free_none : (kst : List (Option ℕ)) (k : ℕ) → least_free kst ≡ None → k < length kst → is_none (uid_of kst k) ≡ false
+free_none kst k e within = none_at (ltb (position_or_len is_none kst) (length kst)) refl e
+  where
+    none_at : (b : Bool) → ltb (position_or_len is_none kst) (length kst) ≡ b
+        → cond b (Some (position_or_len is_none kst)) None ≡ None
+        → is_none (uid_of kst k) ≡ false
+    none_at true is e2 = cc
+    none_at false is e2 = (let past : length kst ≤ position_or_len is_none kst = ltb-false _ _ is in
+        not-true _ (prefix_len_passes (λ x. not (is_none x)) kst k None (omega arith)))
+
+count_first : (o : Option ℕ) (kst : List (Option ℕ)) → known_count (o ∷ kst) ≡ cond {A = ℕ}
+    (is_some o) 1 0 + known_count kst
+count_first o kst = sum_by-cons (λ (x : Option ℕ). cond (is_some x) 1 0) o kst
+
+count_most : (kst : List (Option ℕ)) → known_count kst ≤ length kst
+count_most [] = omega arith
+count_most (None ∷ kst) = (let first = count_first None kst in let rest = count_most kst in omega (arith, first, rest))
+count_most (Some u ∷ kst) = (let first = count_first (Some u) kst in let rest = count_most kst in omega
+    (arith, first, rest))
+
+count_less : (kst : List (Option ℕ)) (i : ℕ) → i < length kst → is_none (get_or kst i None) ≡ true
+    → known_count kst < length kst
+count_less [] i lt none = absurd (omega (arith, lt))
+count_less (None ∷ kst) zero lt none = (let first = count_first None kst in let rest = count_most kst in
+    omega (arith, first, rest))
+count_less (Some u ∷ kst) zero lt none = cc
+count_less (None ∷ kst) (suc i) lt none = (let first = count_first None kst in
+    let rest = count_less kst i (omega (arith, lt)) none in omega (arith, first, rest))
+count_less (Some u ∷ kst) (suc i) lt none = (let first = count_first (Some u) kst in
+    let rest = count_less kst i (omega (arith, lt)) none in omega (arith, first, rest))
+
+count_all : (kst : List (Option ℕ)) → ((k : ℕ) → k < length kst → is_none (uid_of kst k) ≡ false)
+    → known_count kst ≡ length kst
+count_all [] each = refl
+count_all (None ∷ kst) each = (let none : true ≡ false = each 0 (omega arith) in cc)
+count_all (Some u ∷ kst) each = (let first = count_first (Some u) kst in
+    let rest = count_all kst (λ k lt. each (suc k) (omega (arith, lt))) in omega (arith, first, rest))
+
+-- ---- a number for a segment
+
+-- a segment that isn't known gets a number where fewer than 256 are known
+pub room_told : (kst : List (Option ℕ)) (uid : ℕ) (o : Option ℕ) (b : Bool) → length kst ≡ 256 → o ≡ number_of kst uid
+    → is_some o ≡ false → (IsTrue b ↔ (known_count kst < 256)) → b ≡ is_some (number_for kst uid)
+room_told kst uid o b long is none tells =
+    by (least_free kst) refl
+    ∙ ap (λ (x : Option ℕ). is_some (first_of_two x (least_free kst))) (sym (none_is o none) ∙ is)
+  where
+    none_is : (o : Option ℕ) → is_some o ≡ false → o ≡ None
+    none_is None e = refl
+    none_is (Some n) e = cc
+
+    by_room : (z : Bool) → (z ≡ true → known_count kst < 256) → known_count kst ≡ 256 → z ≡ false
+    by_room true few all = (let lt = few refl in absurd (omega (arith, lt, all)))
+    by_room false few all = refl
+
+    by : (o : Option ℕ) → least_free kst ≡ o → b ≡ is_some o
+    by None e = (let all : known_count kst ≡ length kst = count_all kst (λ k lt. free_none kst k e lt) in
+        by_room b tells.0 (all ∙ long))
+    by (Some i) e = (let h = position-Some is_none kst i None e in
+        let less : known_count kst < length kst = count_less kst i h.0 h.1 in
+        tells.1 (omega (arith, less, long)))
+
+pub number_told : (kst : List (Option ℕ)) (uid : ℕ) (o : Option ℕ) → o ≡ number_of kst uid → is_some o ≡ true
+    → true ≡ is_some (number_for kst uid)
+number_told kst uid None is some = cc
+number_told kst uid (Some n) is some = ap (λ (o : Option ℕ). is_some (first_of_two o (least_free kst))) is
+
+-- ---- replies
+
+module _ (s : Store) (nodes : List Node) (known : List (List (Option ℕ))) (nodes_are : s.nodes ≡ nodes)
+    (known_is : s.known ≡ known) where
+  pub initiate_refused : (process : ℕ) (path : List (List ℕ)) (r : Reply) → segment_at nodes path ≡ Err r
+      → r ≡ initiate_reply s process path
+  unfolding initiate_reply
+  initiate_refused process path r e = sym (ap (initiate_of (numbers_of s process))
+      (ap (λ (ns : List Node). segment_at ns path) nodes_are ∙ e))
+
+  pub initiate_told : (process : ℕ) (path : List (List ℕ)) (n : Node) (o : Option ℕ) → segment_at nodes path ≡ Ok n
+      → o ≡ number_for (kst_at known process) n.uid → known_or_full o ≡ initiate_reply s process path
+  unfolding initiate_reply
+  initiate_told process path n o e is =
+      ap known_or_full (is ∙ ap (λ (k : List (List (Option ℕ))). number_for (kst_at k process) n.uid) (sym known_is))
+      ∙ sym (ap (initiate_of (numbers_of s process)) (ap (λ (ns : List Node). segment_at ns path) nodes_are ∙ e))
+
+  pub terminate_told : (process number : ℕ) (o : Option ℕ) → o ≡ uid_of (kst_at known process) number
+      → cond (is_some o) reply.Done reply.Unknown ≡ terminate_reply s process number
+  unfolding terminate_reply
+  terminate_told process number o is =
+      ap (λ (x : Option ℕ). cond (is_some x) reply.Done reply.Unknown)
+      (is ∙ ap (λ (k : List (List (Option ℕ))). uid_of (kst_at k process) number) (sym known_is))
+
+  -- where there is a number for the segment, and where there is none
+  pub initiate_free : (process : ℕ) (path : List (List ℕ)) (n : Node) (b : Bool) → segment_at nodes path ≡ Ok n
+      → b ≡ is_some (number_for (kst_at known process) n.uid)
+      → cond b None (Some reply.Full) ≡ refusal (initiate_reply s process path)
+  initiate_free process path n b e is =
+      ap (λ (z : Bool). cond {A = Option Reply} z None (Some reply.Full)) is
+      ∙ told (number_for (kst_at known process) n.uid)
+      ∙ ap refusal (initiate_told process path n (number_for (kst_at known process) n.uid) e refl)
+    where
+      told : (o : Option ℕ) → cond {A = Option Reply} (is_some o) None (Some reply.Full) ≡ refusal (known_or_full o)
+      told None = refl
+      told (Some i) = refl

@@ -1,0 +1,70 @@
+-- No quota is moved.
+use Rattle.std.proofs.Common.{◌≡◌, ℕ, ℤ, pos, ◌+◌, ◌-◌, ◌≤◌, Bool, true, false, cond, eqb, not, ◌&&◌, ◌||◌, List, []}
+use Rattle.std.proofs.Common.{◌∷◌, map, None, Ok, refl, sym, ap, ◌∙◌, arith}
+use Rattle.std.specs.Prelude.{nat_lt}
+use Rattle.std.specs.Int.{is_positive}
+use Rattle.std.proofs.lemmas.Bool.Decides.{nat_tests}
+use Rattle.book.specs.declared.replies.Reply.TheVariants as reply
+use Rattle.tree_model.specs.Quotas.{getter_of, giver_of, is_over, least_where, over_in, tree_moved, with_moved}
+use Rattle.tree_model.specs.Quotas.{with_quota_of}
+use Rattle.tree_model.specs.Tree.{Node, above, has_directory, quota_in, used_by}
+use Rattle.flat_model.specs.Branches.{directory_at}
+use Rattle.flat_model.specs.Rights.{done_or_over, move_reply}
+use Rattle.flat_model.specs.Store.{Store}
+
+quota_same : (u : ℕ) (change : ℕ → ℕ) (n : Node) → ((q : ℕ) → change q ≡ q) → with_quota_of u change n ≡ n
+quota_same u change n same = here (eqb n.uid u)
+  where
+    here : (z : Bool) → cond z (record n { quota = change n.quota }) n ≡ n
+    here true = ap (λ (q : ℕ). record n { quota = q }) (same n.quota)
+    here false = refl
+
+nodes_same : (ns : List Node) (giver getter : ℕ) → with_moved ns giver getter 0 ≡ ns
+nodes_same [] giver getter = refl
+nodes_same (n ∷ ns) giver getter =
+    ap (λ (x : Node). x ∷ with_moved ns giver getter 0)
+    (quota_same giver (λ q. q - 0) (with_quota_of getter (λ q. q + 0) n) (λ q. omega arith)
+    ∙ quota_same getter (λ q. q + 0) n (λ q. omega arith))
+    ∙ ap (λ (xs : List Node). n ∷ xs) (nodes_same ns giver getter)
+
+pub nothing_moved : (ns : List Node) (d : ℕ) (down : Bool) → tree_moved ns d down 0 ≡ ns
+nothing_moved ns d down = nodes_same ns (giver_of (above ns) d down) (getter_of (above ns) d down)
+
+least_none : (test : ℕ → Bool) (us : List ℕ) → ((u : ℕ) → test u ≡ false) → least_where test us ≡ None
+least_none test [] none = refl
+least_none test (u ∷ us) none = rw (none u) (least_none test us none)
+
+none_over : (ns : List Node) (xs : List (ℕ × ℕ)) → ((a : ℕ) → used_by ns xs a ≤ quota_in ns a) → over_in ns xs ≡ None
+unfolding over_in
+none_over ns xs within = least_none (is_over ns xs) (map (λ n. n.uid) ns) each
+  where
+    both : (a b : Bool) → (a && (b && false)) ≡ false
+    both true true = refl
+    both true false = refl
+    both false b = refl
+
+    each : (u : ℕ) → is_over ns xs u ≡ false
+    each u =
+        let le : used_by ns xs u ≤ quota_in ns u = within u in
+        let below : nat_lt (quota_in ns u) (used_by ns xs u) ≡ false = grind (arith, nat_tests) in
+        ap (λ (z : Bool). has_directory ns u && ((eqb u 1 || not (eqb (quota_in ns u) 0)) && z)) below
+        ∙ both (has_directory ns u) (eqb u 1 || not (eqb (quota_in ns u) 0))
+
+pub move_of_none : (s : Store) (nodes : List Node) (path : List (List ℕ)) (n : Node) (amount : ℤ) → s.nodes ≡ nodes
+    → directory_at nodes path ≡ Ok n
+    → amount ≡ pos 0
+    → ((a : ℕ) → used_by s.nodes s.stored a ≤ quota_in s.nodes a) → reply.Done ≡ move_reply s path amount
+unfolding move_reply
+move_of_none s nodes path n amount same found none within =
+    let there = ap (λ (ns : List Node). directory_at ns path) same ∙ found in
+    sym (rw (none, there) (first (nat_lt (quota_in s.nodes (giver_of (above s.nodes) n.uid (is_positive (pos 0)))) 0)
+    (grind (arith, nat_tests))
+    ∙ ap (λ (ns : List Node). done_or_over (over_in ns s.stored)) (nothing_moved s.nodes n.uid (is_positive (pos 0)))
+    ∙ ap done_or_over (none_over s.nodes s.stored within)))
+  where
+    first : (z : Bool) → z ≡ false
+        → cond z reply.TooLittle (done_or_over (over_in (tree_moved s.nodes n.uid (is_positive (pos 0)) 0) s.stored))
+        ≡ done_or_over
+        (over_in (tree_moved s.nodes n.uid (is_positive (pos 0)) 0) s.stored)
+    first true e = cc
+    first false e = refl

@@ -1,0 +1,132 @@
+-- What holds of a tree: no path with a name leads to the root, and a uid is that of one node.
+use Rattle.std.proofs.Common.{◌≡◌, ◌≢◌, ℕ, ◌+◌, ◌<◌, Bool, true, false, cond, eqb, List, [], ◌∷◌, length, Option, Some}
+use Rattle.std.proofs.Common.{None, Result, Ok, Err, IfOk, refl, sym, ap, subst, ◌∙◌, arith, inl, inr}
+use Rattle.std.specs.Prelude.{count_by}
+use Rattle.std.proofs.lemmas.Bool.{cases_Bool}
+use Rattle.std.proofs.lemmas.Bool.Decides.{nat_tests}
+use Rattle.std.proofs.lemmas.List.Sums.{sum_by-cons}
+use Rattle.book.specs.declared.replies.Reply.{Reply}
+use Rattle.tree_model.specs.Tree.{Node, Walk, LeadsTo, Missing, InSegment, branch_in, entries_on, is_branch, node_in}
+use Rattle.tree_model.specs.Tree.{onward, walk_from, walk_in, without_node}
+use Rattle.tree_model.specs.Trees.{AreBelow, IsBranch, IsTree, Joins}
+use Rattle.tree_model.proofs.TreeLaws.{lies}
+use Rattle.flat_model.specs.Branches.{node_at, walked, there_or}
+use Rattle.storage_ops.proofs.NodeLaws.{uid_found}
+
+-- the oldest node is the root
+above_one : (m : Node) (ms : List Node) (u : ℕ) → IsTree (m ∷ ms) → AreBelow u (m ∷ ms) → 1 < u
+above_one m [] u t b = first m.superior t.0
+  where
+    first : (o : Option ℕ) → Joins [] o m → 1 < u
+    first None root = (let one : m.uid ≡ 1 = root.one in omega (arith, one, b.0))
+    first (Some s) branch = (let no : false ≡ true = branch.below in cc)
+above_one m (n ∷ ns) u t b = above_one n ns u t.1 b.1
+
+-- a node below another isn't the root
+branch_later : (ns : List Node) (n : Node) (d : ℕ) → IsTree ns → IsBranch ns d n → n.uid ≢ 1
+branch_later [] n d t branch is = cc (branch.below)
+branch_later (m ∷ ms) n d t branch is = (let lt : 1 < n.uid = above_one m ms n.uid t branch.later in
+    absurd (omega (arith, lt, is)))
+
+branch_apart : (ns : List Node) (d : ℕ) (name : List ℕ) (m : Node) → IsTree ns → branch_in ns d name ≡ Some m
+    → m.uid ≢ 1
+branch_apart [] d name m t found = cc
+branch_apart (n ∷ ns) d name m t found = elim (cases_Bool (is_branch d name n)) [
+  | inl is ↦
+      (let z : Some n ≡ Some m = rw is at found in
+      let same : n ≡ m = cc in
+      let up : n.superior ≡ Some d = (lies d name n is).0 in
+      let branch : IsBranch ns d n = subst (λ (o : Option ℕ). Joins ns o n) up t.0 in
+      subst (λ (x : Node). x.uid ≢ 1) same (branch_later ns n d t.1 branch))
+  | inr isnt ↦ branch_apart ns d name m t.1 (rw isnt at found)
+]
+
+onward_apart : (ns : List Node) (o : Option Node) (dir : Bool) (names : List (List ℕ)) (v : ℕ)
+    → ((m : Node) → o ≡ Some m → m.uid ≢ 1)
+    → ((m : Node) → m.uid ≢ 1 → walk_from ns m.uid m.directory names ≡ LeadsTo v → v ≢ 1)
+    → onward (λ n. walk_from ns n.uid n.directory names) dir o ≡ LeadsTo v → v ≢ 1
+onward_apart ns o false names v apart go e = cc
+onward_apart ns None true names v apart go e = cc
+onward_apart ns (Some m) true names v apart go e = go m (apart m refl) e
+
+walk_apart : (ns : List Node) (u : ℕ) (dir : Bool) (names : List (List ℕ)) (v : ℕ) → IsTree ns → u ≢ 1
+    → walk_from ns u dir names ≡ LeadsTo v → v ≢ 1
+walk_apart ns u dir [] v t apart e = (let same : u ≡ v = cc in subst (λ (x : ℕ). x ≢ 1) same apart)
+walk_apart ns u dir (name ∷ names) v t apart e =
+    onward_apart ns (branch_in ns u name) dir names v (λ m found. branch_apart ns u name m t found)
+    (λ m ne step. walk_apart ns m.uid m.directory names v t ne step) e
+
+names_apart : (ns : List Node) (name : List ℕ) (names : List (List ℕ)) (v : ℕ) → IsTree ns
+    → walk_in ns (name ∷ names) ≡ LeadsTo v → v ≢ 1
+names_apart ns name names v t e =
+    onward_apart ns (branch_in ns 1 name) true names v (λ m found. branch_apart ns 1 name m t found)
+    (λ m ne step. walk_apart ns m.uid m.directory names v t ne step) e
+
+found_apart : (ns : List Node) (w : Walk) (n : Node) → ((v : ℕ) → w ≡ LeadsTo v → v ≢ 1) → walked ns w ≡ Ok n
+    → n.uid ≢ 1
+found_apart ns (LeadsTo u) n apart found = there (node_in ns u) refl found
+  where
+    there : (o : Option Node) → node_in ns u ≡ o → there_or o ≡ Ok n → n.uid ≢ 1
+    there None e f = cc
+    there (Some m) e f = (let same : m ≡ n = cc in let uid : m.uid ≡ u = uid_found ns u m e in
+        subst (λ (x : ℕ). x ≢ 1) (sym uid ∙ ap (λ (x : Node). x.uid) same) (apart u refl))
+found_apart ns Missing n apart found = cc
+found_apart ns InSegment n apart found = cc
+
+-- a path with a name doesn't lead to the root
+pub path_apart : (ns : List Node) (path : List (List ℕ)) (n : Node) → IsTree ns → eqb (length path) 0 ≡ false
+    → node_at ns path ≡ Ok n → n.uid ≢ 1
+unfolding node_at
+path_apart ns [] n t some found = cc
+path_apart ns (name ∷ names) n t some found =
+    found_apart ns (walk_in ns (name ∷ names)) n (λ v e. names_apart ns name names v t e) found
+
+-- ---- a node is taken out
+
+none_left : (ns : List Node) (u : ℕ) → AreBelow u ns → without_node ns u ≡ ns
+none_left [] u b = refl
+none_left (n ∷ ns) u b = (let apart : eqb n.uid u ≡ false = (let lt : n.uid < u = b.0 in grind (arith, nat_tests)) in
+    rw apart (ap (λ (l : List Node). n ∷ l) (none_left ns u b.1)))
+
+older : (ns : List Node) (n : Node) (o : Option ℕ) → Joins ns o n → AreBelow n.uid ns
+older ns n None root = subst (λ (l : List Node). AreBelow n.uid l) (sym root.first) tt
+older ns n (Some s) branch = branch.later
+
+-- it is one of the nodes on its volume
+pub entries_less : (ns : List Node) (u : ℕ) (n : Node) → IsTree ns → node_in ns u ≡ Some n → (v : ℕ)
+    → entries_on (without_node ns u) v + cond {A = ℕ} (eqb n.volume v) 1 0 ≡ entries_on ns v
+unfolding entries_on
+entries_less [] u n t found v = cc
+entries_less (m ∷ ms) u n t found v = elim (cases_Bool (eqb m.uid u)) [
+  | inl is ↦
+      (let z : Some m ≡ Some n = rw is at found in
+      let same : m ≡ n = cc in
+      let uid : m.uid ≡ u = grind (arith, nat_tests) in
+      let rest : without_node ms u ≡ ms =
+      none_left ms u (subst (λ (x : ℕ). AreBelow x ms) uid (older ms m m.superior t.0)) in
+      let count : count_by (λ x. eqb x.volume v) (m ∷ ms)
+      ≡ cond {A = ℕ} (eqb m.volume v) 1 0 + count_by (λ x. eqb x.volume v) ms =
+      sum_by-cons (λ (x : Node). cond (eqb x.volume v) 1 0) m ms in
+      let place : cond {A = ℕ} (eqb m.volume v) 1 0 ≡ cond {A = ℕ} (eqb n.volume v) 1 0 =
+      ap (λ (x : Node). cond {A = ℕ} (eqb x.volume v) 1 0) same in
+      rw is (ap (λ (l : List Node). count_by (λ x. eqb x.volume v) l + cond {A = ℕ} (eqb n.volume v) 1 0) rest
+      ∙ omega (arith, count, place)))
+  | inr isnt ↦
+      (let ih : count_by (λ x. eqb x.volume v) (without_node ms u) + cond {A = ℕ} (eqb n.volume v) 1 0
+      ≡ count_by (λ x. eqb x.volume v) ms =
+      entries_less ms u n t.1 (rw isnt at found) v in
+      let count : count_by (λ x. eqb x.volume v) (m ∷ ms)
+      ≡ cond {A = ℕ} (eqb m.volume v) 1 0 + count_by (λ x. eqb x.volume v) ms =
+      sum_by-cons (λ (x : Node). cond (eqb x.volume v) 1 0) m ms in
+      let left : count_by (λ x. eqb x.volume v) (m ∷ without_node ms u)
+      ≡ cond {A = ℕ} (eqb m.volume v) 1 0 + count_by (λ x. eqb x.volume v)
+      (without_node ms u) = sum_by-cons (λ (x : Node). cond (eqb x.volume v) 1 0) m (without_node ms u) in
+      rw isnt (omega (arith, ih, count, left)))
+]
+
+-- what is found, as a node's own uid
+pub apart_shown : {X : Type 0} (ns : List Node) (path : List (List ℕ)) (f : X → Node) (r : Result X Reply) → IsTree ns
+    → eqb (length path) 0 ≡ false
+    → IfOk r (λ x. node_at ns path ≡ Ok (f x)) → IfOk r (λ x. (f x).uid ≢ 1)
+apart_shown ns path f (Ok x) t some found = path_apart ns path (f x) t some found
+apart_shown ns path f (Err e) t some found = tt

@@ -1,0 +1,170 @@
+-- What tree commands are answered, by what the path leads to.
+use Rattle.std.proofs.Common.{◌≡◌, ℕ, ℤ, Bool, true, false, cond, eqb, List, [], ◌∷◌, ◌++◌, Option, Some, None, Result}
+use Rattle.std.proofs.Common.{Ok, Err, refl, sym, ap, ◌∙◌}
+use Rattle.std.specs.Prelude.{count_by, nat_lt}
+use Rattle.std.specs.Int.{is_positive}
+use Rattle.std.specs.Int.RustNames.{unsigned_abs}
+use Rattle.std.specs.List.{list_any}
+use Rattle.mnames.specs.declared.rows.Row.{Row as Named}
+use Rattle.script.specs.Plans.{Plan}
+use Rattle.book.specs.declared.replies.Reply.{Reply}
+use Rattle.book.specs.declared.replies.Reply.TheVariants as reply
+use Rattle.tree_model.specs.Access.{takes_row}
+use Rattle.tree_model.specs.Quotas.{giver_of, over_in, tree_moved}
+use Rattle.tree_model.specs.Tree.{Node, above, is_inferior, quota_in, used_by}
+use Rattle.quota_cells.specs.declared.MoveFault.{MoveFault}
+use Rattle.quota_cells.specs.declared.MoveFault.TheVariants as fault
+use Rattle.quota_cells.specs.Cells.{over_answer}
+use Rattle.quota_cells.specs.Scratch.{scratch_answer}
+use Rattle.flat_model.specs.Branches.{branch_at, directory_at, node_at, parts_of, before_parts, segment_at}
+use Rattle.flat_model.specs.Making.{delete_reply, make_in, make_reply}
+use Rattle.flat_model.specs.Naming.{status_reply}
+use Rattle.flat_model.specs.Pages.{is_stored_from}
+use Rattle.flat_model.specs.Rights.{acl_reply, done_or_over, move_reply}
+use Rattle.flat_model.specs.Sizes.{length_reply, truncate_reply}
+use Rattle.flat_model.specs.Store.{Store}
+
+-- the way back of a test
+pub from_false : (a b : Bool) → (b ≡ true → a ≡ true) → a ≡ false → b ≡ false
+from_false a true back none = sym (back refl) ∙ none
+from_false a false back none = refl
+
+-- what the move of quota is answered
+abbrev pub move_told : Result (Unit {0}) MoveFault → Reply
+move_told (Ok x) = reply.Done
+move_told (Err fault.TooLittle) = reply.TooLittle
+move_told (Err (fault.Over u)) = reply.Over u
+
+module _ (s : Store) (nodes : List Node) (path : List (List ℕ)) (same : s.nodes ≡ nodes) where
+  segment_is : (r : Result Node Reply) → segment_at nodes path ≡ r → segment_at s.nodes path ≡ r
+  segment_is r e = ap (λ (ns : List Node). segment_at ns path) same ∙ e
+
+  branch_is : (r : Result Node Reply) → branch_at nodes path ≡ r → branch_at s.nodes path ≡ r
+  branch_is r e = ap (λ (ns : List Node). branch_at ns path) same ∙ e
+
+  directory_is : (r : Result Node Reply) → directory_at nodes path ≡ r → directory_at s.nodes path ≡ r
+  directory_is r e = ap (λ (ns : List Node). directory_at ns path) same ∙ e
+
+  node_is : (r : Result Node Reply) → node_at nodes path ≡ r → node_at s.nodes path ≡ r
+  node_is r e = ap (λ (ns : List Node). node_at ns path) same ∙ e
+
+  -- access control lists
+  pub acl_refused : (row : Named) (r : Reply) → segment_at nodes path ≡ Err r → r ≡ acl_reply s path row
+  unfolding acl_reply
+  acl_refused row r e = sym (rw (segment_is (Err r) e) refl)
+
+  pub acl_told : (row : Named) (n : Node) (b : Bool) → segment_at nodes path ≡ Ok n
+      → takes_row row.person row.project n.rows ≡ b
+      → cond b reply.Done reply.AclFull ≡ acl_reply s path row
+  unfolding acl_reply
+  acl_told row n b e is = sym (rw (segment_is (Ok n) e, is) refl)
+
+  -- lengths
+  pub length_refused : (pages : ℕ) (r : Reply) → segment_at nodes path ≡ Err r → r ≡ length_reply s path pages
+  unfolding length_reply
+  length_refused pages r e = sym (rw (segment_is (Err r) e) refl)
+
+  pub length_told : (pages : ℕ) (n : Node) (b : Bool) → segment_at nodes path ≡ Ok n
+      → is_stored_from s.stored n.uid pages ≡ b
+      → cond b reply.Beyond reply.Done ≡ length_reply s path pages
+  unfolding length_reply
+  length_told pages n b e is = sym (rw (segment_is (Ok n) e, is) refl)
+
+  pub truncate_refused : (r : Reply) → segment_at nodes path ≡ Err r → r ≡ truncate_reply s path
+  unfolding truncate_reply
+  truncate_refused r e = sym (rw (segment_is (Err r) e) refl)
+
+  pub truncate_told : (n : Node) → segment_at nodes path ≡ Ok n → reply.Done ≡ truncate_reply s path
+  unfolding truncate_reply
+  truncate_told n e = sym (rw (segment_is (Ok n) e) refl)
+
+  -- deletions
+  pub delete_refused : (r : Reply) → branch_at nodes path ≡ Err r → r ≡ delete_reply s path
+  unfolding delete_reply
+  delete_refused r e = sym (rw (branch_is (Err r) e) refl)
+
+  pub delete_told : (n : Node) (b z : Bool) → branch_at nodes path ≡ Ok n → list_any (is_inferior n.uid) nodes ≡ b
+      → eqb n.quota 0 ≡ z
+      → cond b reply.NotEmpty (cond z reply.Done reply.HasQuota) ≡ delete_reply s path
+  unfolding delete_reply
+  delete_told n b z e is quota = let inferior : list_any (is_inferior n.uid) s.nodes ≡ b =
+      ap (list_any (is_inferior n.uid)) same
+      ∙ is in sym (rw (branch_is (Ok n) e, inferior, quota) refl)
+
+  -- status
+  pub status_refused : (r : Reply) → node_at nodes path ≡ Err r → r ≡ status_reply s path
+  unfolding status_reply
+  status_refused r e = sym (rw (node_is (Err r) e) refl)
+
+  pub status_directory : (n : Node) (quota used : ℕ) → node_at nodes path ≡ Ok n → n.directory ≡ true → quota ≡ n.quota
+      → used ≡ used_by s.nodes s.stored n.uid
+      → reply.DirIs n.uid quota used ≡ status_reply s path
+  unfolding status_reply
+  status_directory n quota used e is q u = ap (λ (x : ℕ). reply.DirIs n.uid x used) q ∙ ap (reply.DirIs n.uid n.quota) u
+      ∙ sym (rw (node_is (Ok n) e, is) refl)
+
+  pub status_segment : (n : Node) (stored : ℕ) → node_at nodes path ≡ Ok n → n.directory ≡ false
+      → stored ≡ count_by (λ x. eqb x.0 n.uid) s.stored
+      → reply.SegIs n.uid n.pages stored ≡ status_reply s path
+  unfolding status_reply
+  status_segment n stored e is u = ap (reply.SegIs n.uid n.pages) u ∙ sym (rw (node_is (Ok n) e, is) refl)
+
+  -- quota
+  pub move_refused : (amount : ℤ) (r : Reply) → directory_at nodes path ≡ Err r → r ≡ move_reply s path amount
+  unfolding move_reply
+  move_refused amount r e = sym (rw (directory_is (Err r) e) refl)
+
+  pub move_answered : (amount : ℤ) (n : Node) (r : Result (Unit {0}) MoveFault) (given : Reply)
+      → directory_at nodes path ≡ Ok n
+      → r ≡ scratch_answer nodes s.stored n.uid (is_positive amount) (unsigned_abs amount) → given ≡ move_told r
+      → given ≡ move_reply s path amount
+  unfolding move_reply
+  move_answered amount n r given e is told =
+      told ∙ ap move_told (is ∙ ap
+      (λ (ns : List Node). scratch_answer ns s.stored n.uid (is_positive amount) (unsigned_abs amount)) (sym same))
+      ∙ both (nat_lt (quota_in s.nodes (giver_of (above s.nodes) n.uid (is_positive amount))) (unsigned_abs amount))
+      (over_in (tree_moved s.nodes n.uid (is_positive amount) (unsigned_abs amount)) s.stored)
+      ∙ sym (rw (directory_is (Ok n) e) refl)
+    where
+      over : (o : Option ℕ) → move_told (over_answer o) ≡ done_or_over o
+      over None = refl
+      over (Some u) = refl
+
+      both : (z : Bool) (o : Option ℕ)
+          → move_told (cond z (Err fault.TooLittle) (over_answer o)) ≡ cond z reply.TooLittle (done_or_over o)
+      both true o = refl
+      both false o = over o
+
+-- ---- making
+
+parts_appended : (names : List (List ℕ)) (name : List ℕ) → parts_of (names ++ name ∷ []) ≡ Some (names, name)
+parts_appended [] name = refl
+parts_appended (x ∷ names) name = ap (before_parts x) (parts_appended names name)
+
+pub parts_are : (path names : List (List ℕ)) (name : List ℕ) → path ≡ names ++ name ∷ []
+    → parts_of path ≡ Some (names, name)
+parts_are path names name is = ap parts_of is ∙ parts_appended names name
+
+pub make_root : (p : Plan) (s : Store) (path : List (List ℕ)) (volume : ℕ) (dir : Bool) → path ≡ []
+    → reply.Exists ≡ make_reply p s path volume dir
+unfolding make_reply
+make_root p s path volume dir is = sym (rw is refl)
+
+module _ (p : Plan) (s : Store) (nodes : List Node) (path names : List (List ℕ)) (name : List ℕ) (volume : ℕ)
+    (dir : Bool) (same : s.nodes ≡ nodes)
+    (parts : path ≡ names ++ name ∷ []) where
+  pub make_refused : (r : Reply) → node_at nodes names ≡ Err r → r ≡ make_reply p s path volume dir
+  unfolding make_reply
+  make_refused r e = sym (rw (parts_are path names name parts, node_is s nodes names same (Err r) e) refl)
+
+  pub make_in_segment : (n : Node) → node_at nodes names ≡ Ok n → n.directory ≡ false
+      → reply.NotDir ≡ make_reply p s path volume dir
+  unfolding make_reply
+  make_in_segment n e is = sym (rw (parts_are path names name parts, node_is s nodes names same (Ok n) e, is) refl)
+
+  pub make_told : (n : Node) (r : Reply) → node_at nodes names ≡ Ok n → n.directory ≡ true
+      → r ≡ make_in p s volume dir name n
+      → r ≡ make_reply p s path volume dir
+  unfolding make_reply
+  make_told n r e is answer = answer
+      ∙ sym (rw (parts_are path names name parts, node_is s nodes names same (Ok n) e, is) refl)

@@ -1,0 +1,73 @@
+use Rattle.std.proofs.Common.{◌≡◌, ◌≤◌, ℕ, ℤ, pos, List, Err, true, false, refl, sym, ap, subst, ◌∙◌, w32}
+use Rattle.std.proofs.lemmas.Int.{to_z-of_z}
+use mir.Val.{to_z}
+use Rattle.std.specs.Int.{is_positive}
+use Rattle.tree_model.specs.Tree.{Node, quota_in, used_by}
+use Rattle.dir_tree.specs.Nodes.{as_term}
+use Rattle.quota_cells.specs.declared.MoveFault.{MoveFault}
+use Rattle.flat_model.specs.Rights.{nodes_moved}
+use Rattle.storage_ops.proofs.Changed.{directory_refuses}
+use Rattle.storage_ops.proofs.QuotaLaws.{move_of_none, nothing_moved}
+use Rattle.storage_ops.proofs.TreeReplies.{move_refused, move_answered, move_told}
+use Rattle.storage_ops.proofs.rights.move_quota.Goals as goal
+
+pub returns-in-Err-clause-answer : goal.returns-in-Err-clause-answer
+returns-in-Err-clause-answer c = λ s h. move_refused s c.args.accounts.now.nodes c.args.path.now h.nodes c.args.amount
+    c.in-Err.reply c.in-Err.ensures.err
+
+pub returns-in-Err-clause-done : goal.returns-in-Err-clause-done
+returns-in-Err-clause-done c = λ on.
+    let clash : true ≡ false = sym on ∙ directory_refuses c.args.accounts.now.nodes c.args.path.now c.in-Err.reply
+    c.in-Err.ensures.err in cc
+
+pub returns-then-amount-eq0-clause-answer : goal.returns-then-amount-eq0-clause-answer
+returns-then-amount-eq0-clause-answer c = λ s h.
+    let within = subst (λ (ns : List Node). (a : ℕ)
+    → used_by ns s.stored a ≤ quota_in ns a) (sym h.nodes) (c.root-root.ensures.within s.stored h.counts) in
+    move_of_none s c.args.accounts.now.nodes c.args.path.now
+    (as_term (quota_in c.args.accounts.now.nodes) c.in-Ok.node.now) c.args.amount
+    h.nodes c.in-Ok.ensures.ok (sym (to_z-of_z w32 c.args.amount c.ranges.amount)
+    ∙ ap (to_z w32) c.if-amount-eq0.true) within
+
+pub returns-then-amount-eq0-clause-done : goal.returns-then-amount-eq0-clause-done
+returns-then-amount-eq0-clause-done c = λ on.
+    let n : Node = as_term (quota_in c.args.accounts.now.nodes) c.in-Ok.node.now in
+    let none : c.args.amount ≡ pos 0 = sym (to_z-of_z w32 c.args.amount c.ranges.amount)
+    ∙ ap (to_z w32) c.if-amount-eq0.true in
+    record {
+      node = n;
+      found = c.in-Ok.ensures.ok;
+      effect = record {
+        nodes = sym (ap (λ (a : ℤ). nodes_moved c.args.accounts.now.nodes n.uid a) none
+            ∙ nothing_moved c.args.accounts.now.nodes n.uid (is_positive (pos 0)));
+        entries = refl;
+        next = refl;
+        counts = λ u. refl;
+      };
+    }
+
+pub returns-in-Ok-move_quota-clause-answer : goal.returns-in-Ok-move_quota-clause-answer
+returns-in-Ok-move_quota-clause-answer c = λ s h.
+    let answer = (let back = to_z-of_z w32 c.args.amount c.ranges.amount in
+    (rw back at c.move_quota.ensures.answer) s.stored h.counts) in
+    move_answered s c.args.accounts.now.nodes c.args.path.now h.nodes c.args.amount
+    (as_term (quota_in c.args.accounts.now.nodes) c.in-Ok.node.now) c.move_quota.result _
+    c.in-Ok.ensures.ok answer (ap move_told (sym c.in-Ok-move_quota.is))
+
+pub returns-in-Err-TooLittle-clause-answer : goal.returns-in-Err-TooLittle-clause-answer
+returns-in-Err-TooLittle-clause-answer c = λ s h.
+    let answer = (let back = to_z-of_z w32 c.args.amount c.ranges.amount in
+    (rw back at c.move_quota.ensures.answer) s.stored h.counts) in
+    move_answered s c.args.accounts.now.nodes c.args.path.now h.nodes c.args.amount
+    (as_term (quota_in c.args.accounts.now.nodes) c.in-Ok.node.now) c.move_quota.result _
+    c.in-Ok.ensures.ok answer (ap move_told (sym (c.in-Err-TooLittle.is
+    ∙ ap (λ (e : MoveFault). Err e) c.in-Err-TooLittle.field-0-is)))
+
+pub returns-in-Err-Over-clause-answer : goal.returns-in-Err-Over-clause-answer
+returns-in-Err-Over-clause-answer c = λ s h.
+    let answer = (let back = to_z-of_z w32 c.args.amount c.ranges.amount in
+    (rw back at c.move_quota.ensures.answer) s.stored h.counts) in
+    move_answered s c.args.accounts.now.nodes c.args.path.now h.nodes c.args.amount
+    (as_term (quota_in c.args.accounts.now.nodes) c.in-Ok.node.now) c.move_quota.result _
+    c.in-Ok.ensures.ok answer (ap move_told (sym (c.in-Err-Over.is
+    ∙ ap (λ (e : MoveFault). Err e) c.in-Err-Over.field-0-is)))

@@ -1,0 +1,48 @@
+use Rattle.std.proofs.Common.{◌≤◌, ℕ, List, Err, sym, ap, subst, ◌∙◌, w32}
+use Rattle.std.proofs.lemmas.Int.{to_z-of_z}
+use mir.Val.{to_z}
+use Rattle.tree_model.specs.Tree.{Node, quota_in, used_by}
+use Rattle.dir_tree.specs.Nodes.{as_term}
+use Rattle.quota_cells.specs.declared.MoveFault.{MoveFault}
+use Rattle.storage_ops.proofs.QuotaLaws.{move_of_none}
+use Rattle.storage_ops.proofs.TreeReplies.{move_refused, move_answered, move_told}
+use Rattle.storage_ops.proofs.rights.move_reply.Goals as goal
+
+pub returns-in-Err : goal.returns-in-Err
+returns-in-Err c = λ s h. move_refused s c.args.accounts.now.nodes c.args.path.now h.nodes c.args.amount
+    c.in-Err.reply c.in-Err.ensures.err
+
+pub returns-in-Ok-may_move : goal.returns-in-Ok-may_move
+returns-in-Ok-may_move c = λ s h.
+    let answer = (let back = to_z-of_z w32 c.args.amount c.ranges.amount in
+    (rw back at c.may_move.ensures) s.stored h.counts) in
+    move_answered s c.args.accounts.now.nodes c.args.path.now h.nodes c.args.amount
+    (as_term (quota_in c.args.accounts.now.nodes) c.in-Ok.node.now) c.may_move.result _
+    c.in-Ok.ensures.ok answer (ap move_told (sym c.in-Ok-may_move.is))
+
+pub returns-in-Err-TooLittle : goal.returns-in-Err-TooLittle
+returns-in-Err-TooLittle c = λ s h.
+    let answer = (let back = to_z-of_z w32 c.args.amount c.ranges.amount in
+    (rw back at c.may_move.ensures) s.stored h.counts) in
+    move_answered s c.args.accounts.now.nodes c.args.path.now h.nodes c.args.amount
+    (as_term (quota_in c.args.accounts.now.nodes) c.in-Ok.node.now) c.may_move.result _
+    c.in-Ok.ensures.ok answer (ap move_told (sym (c.in-Err-TooLittle.is
+    ∙ ap (λ (e : MoveFault). Err e) c.in-Err-TooLittle.field-0-is)))
+
+pub returns-in-Err-Over : goal.returns-in-Err-Over
+returns-in-Err-Over c = λ s h.
+    let answer = (let back = to_z-of_z w32 c.args.amount c.ranges.amount in
+    (rw back at c.may_move.ensures) s.stored h.counts) in
+    move_answered s c.args.accounts.now.nodes c.args.path.now h.nodes c.args.amount
+    (as_term (quota_in c.args.accounts.now.nodes) c.in-Ok.node.now) c.may_move.result _
+    c.in-Ok.ensures.ok answer (ap move_told (sym (c.in-Err-Over.is
+    ∙ ap (λ (e : MoveFault). Err e) c.in-Err-Over.field-0-is)))
+
+pub returns-then-amount-eq0 : goal.returns-then-amount-eq0
+returns-then-amount-eq0 c = λ s h.
+    let within = subst (λ (ns : List Node). (a : ℕ)
+    → used_by ns s.stored a ≤ quota_in ns a) (sym h.nodes) (c.root-root.ensures.within s.stored h.counts) in
+    move_of_none s c.args.accounts.now.nodes c.args.path.now
+    (as_term (quota_in c.args.accounts.now.nodes) c.in-Ok.node.now) c.args.amount
+    h.nodes c.in-Ok.ensures.ok (sym (to_z-of_z w32 c.args.amount c.ranges.amount)
+    ∙ ap (to_z w32) c.if-amount-eq0.true) within

@@ -1,0 +1,62 @@
+use Rattle.std.proofs.Common.{ℕ, List, Option, sym, subst, ◌∙◌}
+use Rattle.known_segs.specs.Known.{with_number}
+use Rattle.tree_model.specs.Tree.{quota_in}
+use Rattle.dir_tree.specs.Nodes.{as_term}
+use Rattle.page_control.specs.Plain.{plain}
+use Rattle.seg_control.specs.Control.{Control, kst_at}
+use Rattle.storage_ops.specs.Shown.{IsStore, Shows, Storage, answered}
+use Rattle.flat_model.specs.Naming.{after_initiate}
+use Rattle.storage_ops.proofs.Changed.{segment_refuses}
+use Rattle.storage_ops.proofs.Known.{initiate_answered, known_store, uid_below, under_with}
+use Rattle.storage_ops.proofs.NamingLaws.{initiate_refused, initiate_told}
+use Rattle.storage_ops.proofs.store.Store.initiate.Goals as goal
+
+pub returns-in-Err-clause-answer : goal.returns-in-Err-clause-answer
+returns-in-Err-clause-answer g c = λ p s h.
+    let before = subst (λ (x : Storage g.row.D.Denot). Shows g.D.Drive.pages p s x) (sym c.self.view_is) h in
+    initiate_refused s c.self.inside.accounts.nodes c.self.inside.segs.links.known before.tree.nodes before.known
+    c.args.process c.args.path.now c.in-Err.reply c.in-Err.ensures.err
+
+pub returns-in-Err-clause-effect : goal.returns-in-Err-clause-effect
+returns-in-Err-clause-effect g c = λ p s h.
+    rw (segment_refuses c.self.inside.accounts.nodes c.args.path.now c.in-Err.reply c.in-Err.ensures.err) h
+
+pub invariant_of-self : goal.invariant_of-self
+invariant_of-self g c =
+    let uid : ℕ = c.in-Ok.node.now.uid in
+    let kst : List (Option ℕ) = kst_at c.self.inside.segs.links.known c.args.process in
+    subst (λ (x : Control g.row.D.Denot). IsStore (plain g.D.Drive.pages x.pages) x.ast x.links
+    c.self.inside.accounts c.self.inside.whos.items)
+    (sym c.make_known.ensures.effect)
+    (known_store (plain g.D.Drive.pages c.self.inside.segs.pages) c.self.inside.segs.ast c.self.inside.segs.links
+    c.self.inside.accounts
+    c.self.inside.whos.items c.args.process (with_number kst uid c.make_known.result) c.self.invariant
+    (under_with c.self.inside.accounts.next kst uid c.make_known.result
+    (uid_below c.self.inside.accounts.next c.self.inside.accounts.nodes uid _ c.next_uid-next.ensures.below
+    c.in-Ok.ensures.there)
+    (c.self.invariant.known.older c.args.process)))
+
+pub returns-clause-answer : goal.returns-clause-answer
+returns-clause-answer g c = λ p s h.
+    let before = subst (λ (x : Storage g.row.D.Denot). Shows g.D.Drive.pages p s x) (sym c.self.view_is) h in
+    c.known_or_full.ensures
+    ∙ initiate_told s c.self.inside.accounts.nodes c.self.inside.segs.links.known before.tree.nodes before.known
+    c.args.process c.args.path.now (as_term (quota_in c.self.inside.accounts.nodes) c.in-Ok.node.now)
+    c.make_known.result
+    c.in-Ok.ensures.ok c.make_known.ensures.number
+
+pub returns-clause-effect : goal.returns-clause-effect
+returns-clause-effect g c = λ p s h.
+    let t : Storage g.row.D.Denot = record {
+      accounts = c.self.inside.accounts;
+      segs = c.self.inside.segs;
+      whos =
+          c.self.inside.whos.items;
+    } in
+    let before = subst (λ (x : Storage g.row.D.Denot). Shows g.D.Drive.pages p s x) (sym c.self.view_is) h in
+    subst (λ (x : Control g.row.D.Denot). Shows g.D.Drive.pages p (answered c.known_or_full.result s
+    (after_initiate s c.args.process c.args.path.now)) (record t { segs = x })) (sym c.make_known.ensures.effect)
+    (initiate_answered g.D.Drive.pages p s t c.args.process c.args.path.now
+    (as_term (quota_in c.self.inside.accounts.nodes) c.in-Ok.node.now) c.make_known.result c.known_or_full.result
+    before c.in-Ok.ensures.ok
+    c.make_known.ensures.number c.known_or_full.ensures)

@@ -1,0 +1,29 @@
+use Rattle.std.proofs.Common.{sym, subst, w32}
+use Rattle.std.proofs.lemmas.Int.{to_z-of_z}
+use Rattle.page_control.specs.Plain.{plain}
+use Rattle.storage_ops.specs.Shown.{Shows, Storage}
+use Rattle.storage_ops.proofs.Changed.{move_shown, move_store}
+use Rattle.storage_ops.proofs.store.Store.move_quota.Goals as goal
+
+pub invariant_of-self : goal.invariant_of-self
+invariant_of-self g c =
+    let back = to_z-of_z w32 c.args.amount c.ranges.amount in
+    move_store (plain g.D.Drive.pages c.self.inside.segs.pages) c.self.inside.segs.ast c.self.inside.segs.links
+    c.self.inside.accounts
+    c.move_quota.new.accounts c.self.inside.whos.items c.args.path.now c.args.amount c.move_quota.result
+    c.self.invariant
+    (rw back at c.move_quota.ensures.done) c.move_quota.ensures.refused
+
+pub returns-clause-effect : goal.returns-clause-effect
+returns-clause-effect g c = λ p s h.
+    let back = to_z-of_z w32 c.args.amount c.ranges.amount in
+    let before : Storage g.row.D.Denot = record {
+      accounts = c.self.inside.accounts;
+      segs = c.self.inside.segs;
+      whos
+          = c.self.inside.whos.items;
+    } in
+    move_shown g.D.Drive.pages p s before c.move_quota.new.accounts c.args.path.now c.args.amount c.move_quota.result
+    (subst (λ (x : Storage g.row.D.Denot). Shows g.D.Drive.pages p s x) (sym c.self.view_is) h)
+    (rw back at c.move_quota.ensures.done)
+    c.move_quota.ensures.refused

@@ -1,0 +1,29 @@
+use Rattle.std.proofs.Common.{sym, subst}
+use Rattle.flat_model.specs.Rights.{row_with}
+use Rattle.page_control.specs.Plain.{plain}
+use Rattle.storage_ops.specs.Shown.{IsCutAt, Shows, Storage}
+use Rattle.storage_ops.proofs.Changed.{acl_shown, acl_store}
+use Rattle.storage_ops.proofs.store.Store.set_acl.Goals as goal
+
+pub invariant_of-self : goal.invariant_of-self
+invariant_of-self g c =
+    let cut = subst (λ (x : Storage g.row.D.Denot). IsCutAt x.accounts x.segs c.args.path.now)
+    (sym c.self.view_is) c.requires in
+    acl_store (plain g.D.Drive.pages c.self.inside.segs.pages) c.self.inside.segs.ast c.self.inside.segs.links
+    c.self.inside.accounts
+    c.set_row.new.accounts c.self.inside.whos.items c.args.path.now
+    (row_with c.args.row.now c.args.mode) c.set_row.result cut c.self.invariant
+    c.set_row.ensures.done c.set_row.ensures.refused
+
+pub returns-clause-effect : goal.returns-clause-effect
+returns-clause-effect g c = λ p s h.
+    let before : Storage g.row.D.Denot = record {
+      accounts = c.self.inside.accounts;
+      segs = c.self.inside.segs;
+      whos
+          = c.self.inside.whos.items;
+    } in
+    acl_shown g.D.Drive.pages p s before c.set_row.new.accounts c.args.path.now c.args.row.now c.args.mode
+    c.set_row.result
+    (subst (λ (x : Storage g.row.D.Denot). Shows g.D.Drive.pages p s x)
+    (sym c.self.view_is) h) c.set_row.ensures.done c.set_row.ensures.refused

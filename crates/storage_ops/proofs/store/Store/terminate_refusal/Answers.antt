@@ -1,0 +1,19 @@
+use Rattle.std.proofs.Common.{List, Option, Some, None, ℕ, refl, sym, ap, ◌∙◌}
+use Rattle.known_segs.specs.Known.{uid_of}
+use Rattle.storage_ops.specs.Shown.{Storage, refusal}
+use Rattle.storage_ops.proofs.NamingLaws.{terminate_told}
+use Rattle.storage_ops.proofs.store.Store.terminate_refusal.Goals as goal
+
+pub returns-in-Some : goal.returns-in-Some
+returns-in-Some g c = λ p s h.
+    ap refusal (terminate_told s s.nodes c.self.inside.segs.links.known refl
+    (h.known ∙ ap (λ (x : Storage g.row.D.Denot). x.segs.links.known) (sym c.self.view_is)) c.args.process c.args.number
+    (Some c.in-Some.field-0) (c.in-Some.ensures.uid
+    ∙ ap (λ (kst : List (Option ℕ)). uid_of kst c.args.number) c.kst.ensures.kst))
+
+pub returns-in-None : goal.returns-in-None
+returns-in-None g c = λ p s h.
+    ap refusal (terminate_told s s.nodes c.self.inside.segs.links.known refl
+    (h.known ∙ ap (λ (x : Storage g.row.D.Denot). x.segs.links.known) (sym c.self.view_is)) c.args.process c.args.number
+    None (c.in-None.ensures.uid
+    ∙ ap (λ (kst : List (Option ℕ)). uid_of kst c.args.number) c.kst.ensures.kst))

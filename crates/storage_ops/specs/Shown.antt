@@ -1,0 +1,214 @@
+-- What a store has between calls, what is true of it, and which flat store it shows (Bensoussan, Clingen and Daley 1972;
+-- Organick 1972; the picture and the counts from scratch are own).
+use Rattle.std.specs.Prelude.{◌≡◌, ◌≢◌, ℕ, ℤ, ◌<◌, ◌≤◌, ◌/◌, ◌%◌, Bool, true, false, ◌&&◌, if◌then◌else◌, is_some}
+use Rattle.std.specs.Prelude.{map, replicate, length}
+use Rattle.std.specs.Prelude.{slice_index_or, count_by, List, Option, None, Some, Result, Ok}
+use Rattle.mnames.specs.declared.principals.Who.{Who}
+use Rattle.mnames.specs.declared.modes.Mode.{Mode}
+use Rattle.script.specs.Plans.{Plan, nobody}
+use Rattle.book.specs.declared.replies.Reply.{Reply}
+use Rattle.book.specs.declared.replies.Reply.TheVariants as reply
+use Rattle.tree_model.specs.Access.{Row, access_of}
+use Rattle.tree_model.specs.Tree.{Node, entries_on, has_directory, node_in, pool_of, quota_in, taken_on, volume_in}
+use Rattle.dir_tree.specs.declared.node.Node.{Node as Branch}
+use Rattle.dir_tree.specs.Nodes.{as_term}
+use Rattle.known_segs.specs.Known.{uid_of}
+use Rattle.accounts.specs.Maps.{AccountMaps, Changes, Counts, count_of, entry_of, with_row_in}
+use Rattle.flat_model.specs.Branches.{directory_at, segment_at}
+use Rattle.flat_model.specs.Commands.{takes_effect}
+use Rattle.flat_model.specs.Rights.{nodes_moved}
+use Rattle.flat_model.specs.Pages.{is_stored, IsOnce}
+use Rattle.flat_model.specs.Store.{Store, records_of, entries_of}
+use Rattle.descriptor_seg.specs.declared.Sdw.TheVariants.{Present}
+use Rattle.descriptor_seg.specs.Descriptors.{sdw_at}
+use Rattle.vtoc.specs.Vtoc.{Entry as VtocEntry}
+use Rattle.active_segs.specs.declared.Entry.{Entry}
+use Rattle.active_segs.specs.Active.{ActiveSegs, superior_at, uid_at as uid_in_place}
+use Rattle.active_segs.specs.Pool.{IsInPool}
+use Rattle.page_control.specs.declared.Home.{Home}
+use Rattle.page_control.specs.Plain.{Plain, plain}
+use Rattle.page_control.specs.Tied.{uid_at, map_at}
+use Rattle.page_control.specs.Counts.{taken, used, size, entries}
+use Rattle.page_control.specs.Picture.{is_filed_at, words_at}
+use Rattle.seg_control.specs.Control.{Control, Links, kst_at, leads_at, sdws_at}
+
+-- the tree with its accounts, segment control over drives of type D, and for whom each process runs
+pub record Storage (D : Type 0) : Type 0 where
+  pub accounts : AccountMaps
+  pub segs : Control D
+  pub whos : List Who
+
+-- ---- nodes
+
+-- a node is in the tree
+abbrev pub is_there : List Node → ℕ → Bool
+is_there nodes u = is_some (node_in nodes u)
+
+-- the length of a node, in pages; 0 where it isn't there
+abbrev pub pages_of : Option Node → ℕ
+pages_of None = 0
+pages_of (Some n) = n.pages
+
+abbrev pub pages_in : List Node → ℕ → ℕ
+pages_in nodes u = pages_of (node_in nodes u)
+
+-- the home of a node: the VTOC entry that it has on its volume
+abbrev pub home_of : AccountMaps → ℕ → Home
+home_of a u = record { volume = volume_in a.nodes u; entry = entry_of a u }
+
+-- how many pages the file map at a home names
+abbrev pub named_at : List (List (Option VtocEntry)) → Home → ℕ
+named_at vtocs home = count_by is_some (map_at vtocs home)
+
+-- for whom a process runs
+abbrev pub who_at : List Who → ℕ → Who
+who_at whos process = slice_index_or whos process nobody
+
+-- ---- what is true between calls
+
+-- Each node's home is used for it, and no entry is used for anything else.
+pub record AreHoused (a : AccountMaps) (vtocs : List (List (Option VtocEntry))) : Type 0 where
+  pub homes : (u : ℕ) → is_there a.nodes u ≡ true → uid_at vtocs (home_of a u) ≡ Some u
+  pub there : (home : Home) (u : ℕ) → uid_at vtocs home ≡ Some u → is_there a.nodes u ≡ true
+  pub only : (home : Home) (u : ℕ) → uid_at vtocs home ≡ Some u → home ≡ home_of a u
+
+-- The file map at a node's home names as many pages as the accounts count, each below the node's length. A node has 256
+-- pages at most, and a directory none.
+pub record AreCounted (a : AccountMaps) (vtocs : List (List (Option VtocEntry))) : Type 0 where
+  pub counts : (u : ℕ) → is_there a.nodes u ≡ true → named_at vtocs (home_of a u) ≡ count_of a u
+  pub inside : (u q : ℕ) → is_there a.nodes u ≡ true → is_filed_at vtocs (home_of a u) q ≡ true → q < pages_in a.nodes u
+  pub most : (u : ℕ) → pages_in a.nodes u ≤ 256
+  pub flat : (u : ℕ) → has_directory a.nodes u ≡ true → pages_in a.nodes u ≡ 0
+
+-- The records in use of a volume are as many as the stored pages of the segments on it, and its used entries as many as
+-- the nodes on it. A file map can name each of its records.
+pub record AreTaken (a : AccountMaps) (flags : List (List Bool)) (vtocs : List (List (Option VtocEntry))) : Type 0 where
+  pub records : (stored : List (ℕ × ℕ)) (v : ℕ) → Counts a stored → taken flags v ≡ taken_on a.nodes stored v
+  pub entries : (v : ℕ) → used vtocs v ≡ entries_on a.nodes v
+  pub short : (v : ℕ) → size flags v < 65536
+
+-- What is active is in the tree, with its superior there, in a place of the pool that its length asks for.
+pub record AreInTree (nodes : List Node) (ast : ActiveSegs) : Type 0 where
+  pub there : (place u : ℕ) → uid_in_place ast.entries place ≡ Some u → is_there nodes u ≡ true
+  pub superiors : (place u : ℕ) (n : Node) → uid_in_place ast.entries place ≡ Some u → node_in nodes u ≡ Some n
+      → superior_at ast.entries place ≡ n.superior
+  pub pools : (place u : ℕ) (n : Node) → uid_in_place ast.entries place ≡ Some u → node_in nodes u ≡ Some n
+      → IsInPool ast.sizes (pool_of n) place
+
+-- A connected descriptor has the mode of its process's access, and the length of its segment.
+pub record HaveRights (nodes : List Node) (entries : List (Option Entry)) (links : Links)
+    (whos : List Who) : Type 0 where
+  pub modes : (process number place pages u : ℕ) (mode : Mode) (n : Node)
+      → sdw_at (sdws_at links.descriptors process) number ≡ Present place mode pages
+      → uid_in_place entries place ≡ Some u → node_in nodes u ≡ Some n → mode ≡ access_of (who_at whos process) n.rows
+  pub lengths : (process number place pages u : ℕ) (mode : Mode) (n : Node)
+      → sdw_at (sdws_at links.descriptors process) number ≡ Present place mode pages
+      → uid_in_place entries place ≡ Some u → node_in nodes u ≡ Some n → pages ≡ n.pages
+
+-- A number stands for what is in the tree, or was. Each process has a known segment table.
+pub record AreKnown (next : ℕ) (known : List (List (Option ℕ))) (whos : List Who) : Type 0 where
+  pub older : (process number u : ℕ) → uid_of (kst_at known process) number ≡ Some u → u < next
+  pub processes : length whos ≡ length known
+
+-- What is true of a store between calls.
+pub record IsStore (now : Plain) (ast : ActiveSegs) (links : Links) (a : AccountMaps) (whos : List Who) : Type 0 where
+  pub housed : AreHoused a now.vtocs
+  pub counted : AreCounted a now.vtocs
+  pub taken : AreTaken a now.records now.vtocs
+  pub active : AreInTree a.nodes ast
+  pub rights : HaveRights a.nodes ast.entries links whos
+  pub known : AreKnown a.next links.known whos
+
+-- ---- the flat store that a store shows
+
+-- a page is stored where the file map at the home of its segment names a record for it
+unfoldable pub is_filed : AccountMaps → List (List (Option VtocEntry)) → ℕ → ℕ → Bool
+is_filed a vtocs u q = is_there a.nodes u && is_filed_at vtocs (home_of a u) q
+
+-- the words of a page, by the words of each page at each home; zeros where the segment isn't there
+unfoldable pub picture : AccountMaps → (ℕ → Home → ℕ → List ℕ) → ℕ → ℕ → List ℕ
+picture a words u q = if is_there a.nodes u then words u (home_of a u) q else replicate 1024 0
+
+-- The flat store has these nodes and this next uid, and the accounts count its stored pages.
+pub record ShowsTree (s : Store) (a : AccountMaps) : Type 0 where
+  pub nodes : s.nodes ≡ a.nodes
+  pub next : s.next ≡ a.next
+  pub counts : Counts a s.stored
+
+-- Its stored pages are those that the file maps name, each listed once, and its words are those of the picture.
+pub record ShowsPages (s : Store) (a : AccountMaps) (vtocs : List (List (Option VtocEntry))) (image : ℕ → Home → ℕ
+    → List ℕ) : Type 0 where
+  pub stored : (u q : ℕ) → is_stored s.stored u q ≡ is_filed a vtocs u q
+  pub once : IsOnce s.stored
+  pub words : (u o : ℕ) → s.words u o ≡ slice_index_or (picture a image u (o / 1024)) (o % 1024) 0
+
+-- The volumes of the script have the sizes of the tables, and its processes run for these principals.
+pub record ShowsScript (p : Plan) (now : Plain) (people : List Who) : Type 0 where
+  pub records : (v : ℕ) → records_of p v ≡ size now.records v
+  pub entries : (v : ℕ) → entries_of p v ≡ entries now.vtocs v
+  pub whos : people ≡ map (λ x. x.who) p.processes
+
+-- A store shows a flat store: its tree, what numbers stand for, its stored pages and its words, on the volumes of the
+-- script. How far the processes have come isn't shown.
+pub record Shows {D : Type 0} (drive : D → List (List ℕ)) (p : Plan) (s : Store) (t : Storage D) : Type 0 where
+  pub tree : ShowsTree s t.accounts
+  pub known : s.known ≡ t.segs.links.known
+  pub pages : ShowsPages s t.accounts t.segs.pages.volumes.vtocs (words_at (plain drive t.segs.pages))
+  pub script : ShowsScript p (plain drive t.segs.pages) t.whos
+
+-- ---- answers
+
+-- whether a reply says why a command did nothing: all do but those that are answered where it was done or told
+abbrev pub is_refusal : Reply → Bool
+is_refusal (reply.Word w) = false
+is_refusal reply.Done = false
+is_refusal (reply.Made uid) = false
+is_refusal (reply.Known number) = false
+is_refusal (reply.SegIs uid length stored) = false
+is_refusal (reply.DirIs uid quota used) = false
+is_refusal _ = true
+
+-- a reply, where it is a refusal
+abbrev pub refusal : Reply → Option Reply
+refusal r = if is_refusal r then Some r else None
+
+-- a path leads to this node
+abbrev pub IsFound : List Node → Result Node Reply → Branch → Type 0
+IsFound nodes found n = found ≡ Ok (as_term (quota_in nodes) n)
+
+-- a node of the directory tree is in the tree
+abbrev pub IsThere : List Node → Branch → Type 0
+IsThere nodes n = node_in nodes n.uid ≡ Some (as_term (quota_in nodes) n)
+
+-- ---- effects
+
+-- a flat store once a command was answered so: its effect, unless it is refused
+abbrev pub answered : Reply → Store → Store → Store
+answered r before after = if takes_effect r then after else before
+
+-- a row of the access control list of the segment that a path leads to is set
+pub record HasRowSet (old new : AccountMaps) (path : List (List ℕ)) (row : Row) : Type 0 where
+  pub node : Node
+  pub found : segment_at old.nodes path ≡ Ok node
+  pub effect : Changes old new (with_row_in old.nodes node.uid row)
+
+-- an amount of quota is moved between the directory that a path leads to and its superior
+pub record HasMoved (old new : AccountMaps) (path : List (List ℕ)) (amount : ℤ) : Type 0 where
+  pub node : Node
+  pub found : directory_at old.nodes path ≡ Ok node
+  pub effect : Changes old new (nodes_moved old.nodes node.uid amount)
+
+-- a store whose processes know these segments by their numbers
+abbrev pub with_known : {D : Type 0} → Storage D → List (List (Option ℕ)) → Storage D
+with_known t known = record t { segs = record t.segs { links = record t.segs.links { known = known } } }
+
+-- ---- what calls ask
+
+-- no descriptor leads to the segment
+pub record IsCut (entries : List (Option Entry)) (links : Links) (uid : ℕ) : Type 0 where
+  pub none : (process number place : ℕ) → leads_at links.descriptors process number ≡ Some place
+      → uid_in_place entries place ≢ Some uid
+
+-- none leads to the segment that a path leads to
+abbrev pub IsCutAt : {D : Type 0} → AccountMaps → Control D → List (List ℕ) → Type 0
+IsCutAt a segs path = (n : Node) → segment_at a.nodes path ≡ Ok n → IsCut segs.ast.entries segs.links n.uid

@@ -1,0 +1,60 @@
+ghost use Rattle.std.specs.Prelude.{◌≡◌};
+ghost use Rattle.page_control.specs.Plain.{plain};
+ghost use Rattle.storage_ops.specs.Shown.{IsStore};
+
+use accounts::Accounts;
+use mnames::Who;
+use seg_control::Segs;
+use std::marker::Model;
+use volumes::Drive;
+
+/// The directory tree with its accounts, over segment control on drives of one kind, and for whom each process runs
+/// (Bensoussan, Clingen and Daley 1972; Organick 1972).
+///
+/// Between calls each node has a VTOC entry of its own, the file maps name as many pages as the accounts count, the
+/// records and entries in use are those of the nodes, what is active is in the tree, and a connected descriptor has the
+/// mode of its process's access (`IsStore`).
+#[derive(Drop)]
+pub struct Store<D: Drive> {
+    pub(crate) accounts: Accounts,
+    pub(crate) segs: Segs<D>,
+    pub(crate) whos: Vec<Who>,
+}
+
+impl<D: Drive> Model for Store<D> {
+    ghost use Rattle.page_control.specs.Plain.{plain};
+    ghost use Rattle.storage_ops.specs.Shown.{Storage, IsStore};
+
+    ghost Value = { Storage D };
+
+    ghost view = { λ s. record { accounts = s.accounts; segs = s.segs; whos = s.whos.items } };
+
+    ghost invariant = { λ s. IsStore (plain D.pages s.segs.pages) s.segs.ast s.segs.links s.accounts s.whos.items };
+}
+
+impl<D: Drive> Store<D> {
+    /// The directory tree with its accounts. What is true of the store between calls is told here. (Source: own.)
+    pub fn accounts(&self) -> &Accounts
+        ensures accounts { result.now ≡ self.now.accounts }
+        ensures store { IsStore (plain D.pages self.now.segs.pages) self.now.segs.ast self.now.segs.links
+            self.now.accounts self.now.whos }
+    {
+        &self.accounts
+    }
+
+    /// Segment control. (Source: own.)
+    pub fn segs(&self) -> &Segs<D>
+        ensures segs { result.now ≡ self.now.segs }
+        ensures store { IsStore (plain D.pages self.now.segs.pages) self.now.segs.ast self.now.segs.links
+            self.now.accounts self.now.whos }
+    {
+        &self.segs
+    }
+
+    /// For whom each process runs, in their order. (Source: own.)
+    pub fn whos(&self) -> &[Who]
+        ensures whos { result.now ≡ self.now.whos }
+    {
+        &self.whos
+    }
+}
