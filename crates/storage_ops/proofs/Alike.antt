@@ -112,6 +112,7 @@ module _ (a b : AccountMaps) (alike : AreAlike a b) where
     inside = λ u q t on. subst (λ (n : ℕ). q < n) (sym (pages u))
         (h.inside u q (sym (alike.there u) ∙ t) (ap (λ (home : Home). is_filed_at vtocs home q) (sym
         (alike.homes u)) ∙ on));
+    absent = λ u off. alike.counts u ∙ h.absent u (sym (alike.there u) ∙ off);
     most = λ u. subst (λ (n : ℕ). n ≤ 256) (sym (pages u)) (h.most u);
     flat = λ u d. pages u ∙ h.flat u (sym (alike.kinds u) ∙ d);
   }

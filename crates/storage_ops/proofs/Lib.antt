@@ -1,9 +1,14 @@
 pub mod Alike
 pub mod Changed
+pub mod Homes
 pub mod Known
+pub mod Lengths
+pub mod Made
 pub mod NamingLaws
 pub mod NodeLaws
 pub mod PathLaws
 pub mod QuotaLaws
+pub mod Still
+pub mod Tables
 pub mod TreeLaws
 pub mod TreeReplies

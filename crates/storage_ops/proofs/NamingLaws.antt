@@ -2,6 +2,7 @@
 use Rattle.std.proofs.Common.{◌≡◌, ◌↔◌, ℕ, zero, suc, ◌+◌, ◌<◌, ◌≤◌, Bool, true, false, cond, ltb, not, List, [], ◌∷◌}
 use Rattle.std.proofs.Common.{length, Option, Some, None, Ok, Err, get_or, is_some, is_none, IsTrue, refl, sym, ap}
 use Rattle.std.proofs.Common.{◌∙◌, arith}
+use Rattle.std.specs.Prelude.{count_by}
 use Rattle.std.specs.List.{position_or_len}
 use Rattle.std.proofs.lemmas.Bool.{ltb-false, not-true}
 use Rattle.std.proofs.lemmas.List.Sums.{prefix_len_passes, sum_by-cons}
@@ -28,26 +29,35 @@ free_none kst k e within = none_at (ltb (position_or_len is_none kst) (length ks
     none_at false is e2 = (let past : length kst ≤ position_or_len is_none kst = ltb-false _ _ is in
         not-true _ (prefix_len_passes (λ x. not (is_none x)) kst k None (omega arith)))
 
-count_first : (o : Option ℕ) (kst : List (Option ℕ)) → known_count (o ∷ kst) ≡ cond {A = ℕ}
-    (is_some o) 1 0 + known_count kst
-count_first o kst = sum_by-cons (λ (x : Option ℕ). cond (is_some x) 1 0) o kst
+count_first : {X : Type 0} (o : Option X) (xs : List (Option X))
+    → count_by is_some (o ∷ xs) ≡ cond {A = ℕ} (is_some o) 1 0 + count_by is_some xs
+count_first {X} o xs = sum_by-cons (λ (x : Option X). cond (is_some x) 1 0) o xs
 
-count_most : (kst : List (Option ℕ)) → known_count kst ≤ length kst
+count_most : {X : Type 0} (xs : List (Option X)) → count_by is_some xs ≤ length xs
 count_most [] = omega arith
-count_most (None ∷ kst) = (let first = count_first None kst in let rest = count_most kst in omega (arith, first, rest))
-count_most (Some u ∷ kst) = (let first = count_first (Some u) kst in let rest = count_most kst in omega
+count_most (None ∷ xs) = (let first = count_first None xs in let rest = count_most xs in omega (arith, first, rest))
+count_most (Some u ∷ xs) = (let first = count_first (Some u) xs in let rest = count_most xs in omega
     (arith, first, rest))
 
-count_less : (kst : List (Option ℕ)) (i : ℕ) → i < length kst → is_none (get_or kst i None) ≡ true
-    → known_count kst < length kst
+-- where one is missing, fewer are there than places
+pub count_less : {X : Type 0} (xs : List (Option X)) (i : ℕ) → i < length xs → is_none (get_or xs i None) ≡ true
+    → count_by is_some xs < length xs
 count_less [] i lt none = absurd (omega (arith, lt))
-count_less (None ∷ kst) zero lt none = (let first = count_first None kst in let rest = count_most kst in
+count_less (None ∷ xs) zero lt none = (let first = count_first None xs in let rest = count_most xs in
     omega (arith, first, rest))
-count_less (Some u ∷ kst) zero lt none = cc
-count_less (None ∷ kst) (suc i) lt none = (let first = count_first None kst in
-    let rest = count_less kst i (omega (arith, lt)) none in omega (arith, first, rest))
-count_less (Some u ∷ kst) (suc i) lt none = (let first = count_first (Some u) kst in
-    let rest = count_less kst i (omega (arith, lt)) none in omega (arith, first, rest))
+count_less (Some u ∷ xs) zero lt none = cc
+count_less (None ∷ xs) (suc i) lt none = (let first = count_first None xs in
+    let rest = count_less xs i (omega (arith, lt)) none in omega (arith, first, rest))
+count_less (Some u ∷ xs) (suc i) lt none = (let first = count_first (Some u) xs in
+    let rest = count_less xs i (omega (arith, lt)) none in omega (arith, first, rest))
+
+-- where all are there, they are as many as places
+pub count_full : {X : Type 0} (xs : List (Option X)) → ((k : ℕ) → k < length xs → is_some (get_or xs k None) ≡ true)
+    → count_by is_some xs ≡ length xs
+count_full [] each = refl
+count_full (None ∷ xs) each = (let none : false ≡ true = each 0 (omega arith) in cc)
+count_full (Some u ∷ xs) each = (let first = count_first (Some u) xs in
+    let rest = count_full xs (λ k lt. each (suc k) (omega (arith, lt))) in omega (arith, first, rest))
 
 count_all : (kst : List (Option ℕ)) → ((k : ℕ) → k < length kst → is_none (uid_of kst k) ≡ false)
     → known_count kst ≡ length kst

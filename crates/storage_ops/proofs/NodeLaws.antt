@@ -1,9 +1,10 @@
 -- What is read of a node that is there.
-use Rattle.std.proofs.Common.{◌≡◌, ℕ, eqb, List, [], ◌∷◌, Some, None, arith, refl, sym, ap}
+use Rattle.std.proofs.Common.{Option, is_some, true, ◌≡◌, ℕ, eqb, List, [], ◌∷◌, Some, None, arith, refl, sym, ap}
 use Rattle.std.proofs.Common.{◌∙◌, inl, inr}
 use Rattle.std.proofs.lemmas.Bool.{cases_Bool}
 use Rattle.std.proofs.lemmas.Bool.Decides.{nat_tests}
 use Rattle.accounts.specs.Maps.{rows_in}
+use Rattle.storage_ops.specs.Shown.{is_there, pages_in, pages_of}
 use Rattle.tree_model.specs.Tree.{Node, node_in, volume_in}
 
 pub volume_found : (ns : List Node) (u : ℕ) (n : Node) → node_in ns u ≡ Some n → n.volume ≡ volume_in ns u
@@ -36,3 +37,17 @@ rows_found (m ∷ ns) u n e = elim (cases_Bool (eqb m.uid u)) [
   | inl is ↦ (let z : Some m ≡ Some n = rw is at e in let same : m ≡ n = cc in rw is (ap (λ (x : Node). x.rows) same))
   | inr isnt ↦ rw isnt (rows_found ns u n (rw isnt at e))
 ]
+
+pub pages_found : (ns : List Node) (u : ℕ) (n : Node) → node_in ns u ≡ Some n → n.pages ≡ pages_in ns u
+pages_found ns u n e = ap pages_of (sym e)
+
+pub no_pages : (ns : List Node) (u : ℕ) → node_in ns u ≡ None → pages_in ns u ≡ 0
+no_pages ns u e = ap pages_of e
+
+-- where a node lies that is there
+pub found_there : (ns : List Node) (u : ℕ) → is_there ns u ≡ true → (n : Node) × (node_in ns u ≡ Some n)
+found_there ns u t = by (node_in ns u) refl t
+  where
+    by : (o : Option Node) → node_in ns u ≡ o → is_some o ≡ true → (n : Node) × (node_in ns u ≡ Some n)
+    by None e t = cc
+    by (Some n) e t = (n, e)

@@ -30,6 +30,7 @@ use Rattle.page_control.specs.Plain.{Plain, plain}
 use Rattle.page_control.specs.Tied.{uid_at, map_at}
 use Rattle.page_control.specs.Counts.{taken, used, size, entries}
 use Rattle.page_control.specs.Picture.{is_filed_at, words_at}
+use Rattle.seg_control.specs.Kept.{IsInactive}
 use Rattle.seg_control.specs.Control.{Control, Links, kst_at, leads_at, sdws_at}
 
 -- the tree with its accounts, segment control over drives of type D, and for whom each process runs
@@ -72,11 +73,12 @@ pub record AreHoused (a : AccountMaps) (vtocs : List (List (Option VtocEntry))) 
   pub there : (home : Home) (u : ℕ) → uid_at vtocs home ≡ Some u → is_there a.nodes u ≡ true
   pub only : (home : Home) (u : ℕ) → uid_at vtocs home ≡ Some u → home ≡ home_of a u
 
--- The file map at a node's home names as many pages as the accounts count, each below the node's length. A node has 256
--- pages at most, and a directory none.
+-- The file map at a node's home names as many pages as the accounts count, each below the node's length. They count none
+-- of what isn't there. A node has 256 pages at most, and a directory none.
 pub record AreCounted (a : AccountMaps) (vtocs : List (List (Option VtocEntry))) : Type 0 where
   pub counts : (u : ℕ) → is_there a.nodes u ≡ true → named_at vtocs (home_of a u) ≡ count_of a u
   pub inside : (u q : ℕ) → is_there a.nodes u ≡ true → is_filed_at vtocs (home_of a u) q ≡ true → q < pages_in a.nodes u
+  pub absent : (u : ℕ) → is_there a.nodes u ≡ false → count_of a u ≡ 0
   pub most : (u : ℕ) → pages_in a.nodes u ≤ 256
   pub flat : (u : ℕ) → has_directory a.nodes u ≡ true → pages_in a.nodes u ≡ 0
 
@@ -202,6 +204,12 @@ pub record HasMoved (old new : AccountMaps) (path : List (List ℕ)) (amount : �
 abbrev pub with_known : {D : Type 0} → Storage D → List (List (Option ℕ)) → Storage D
 with_known t known = record t { segs = record t.segs { links = record t.segs.links { known = known } } }
 
+-- a store whose VTOCs are these
+abbrev pub with_vtocs : {D : Type 0} → Control D → List (List (Option VtocEntry)) → Control D
+with_vtocs segs vtocs = record segs {
+  pages = record segs.pages { volumes = record segs.pages.volumes { vtocs = vtocs } };
+}
+
 -- ---- what calls ask
 
 -- no descriptor leads to the segment
@@ -212,3 +220,7 @@ pub record IsCut (entries : List (Option Entry)) (links : Links) (uid : ℕ) : T
 -- none leads to the segment that a path leads to
 abbrev pub IsCutAt : {D : Type 0} → AccountMaps → Control D → List (List ℕ) → Type 0
 IsCutAt a segs path = (n : Node) → segment_at a.nodes path ≡ Ok n → IsCut segs.ast.entries segs.links n.uid
+
+-- the segment that a path leads to isn't active
+abbrev pub IsInactiveAt : {D : Type 0} → AccountMaps → Control D → List (List ℕ) → Type 0
+IsInactiveAt a segs path = (n : Node) → segment_at a.nodes path ≡ Ok n → IsInactive segs.ast.entries n.uid

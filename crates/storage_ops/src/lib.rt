@@ -12,6 +12,7 @@
 mod deleting;
 mod making;
 mod naming;
+mod pages;
 mod paths;
 mod replies;
 mod rights;

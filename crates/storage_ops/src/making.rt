@@ -1,18 +1,19 @@
 //! Directories and segments are made.
 
-ghost use Rattle.std.specs.Prelude.{◌≡◌, ◌<◌, ℕ, true, false, nat_le, length};
+ghost use Rattle.std.specs.Prelude.{◌≡◌, ◌<◌, ◌≤◌, ◌^◌, ℕ, true, false, nat_le, length, ◌∷◌, []};
 ghost use Rattle.tree_model.specs.Tree.{Node as Term, has_directory, entries_on};
-ghost use Rattle.script.specs.Plans.{Plan};
-ghost use Rattle.flat_model.specs.Making.{make_in, make_reply};
+ghost use Rattle.script.specs.Plans.{Plan, who_of};
+ghost use Rattle.flat_model.specs.Making.{after_make, made_in, make_in, make_reply, owner_row};
 ghost use Rattle.flat_model.specs.Store.{Store as Flat, entries_of};
-ghost use Rattle.storage_ops.specs.Shown.{Shows, ShowsTree, refusal};
+ghost use Rattle.storage_ops.specs.Shown.{Shows, ShowsTree, answered, refusal, with_vtocs};
 
 use crate::paths::node_at;
 use crate::replies::refusal;
 use crate::store::Store;
 use accounts::Accounts;
+use acl::Acl;
 use book::Reply;
-use dir_tree::AddFault;
+use dir_tree::{AddFault, NewNode};
 use mnames::{Name, Path};
 use volumes::Drive;
 
@@ -88,5 +89,115 @@ impl<D: Drive> Store<D> {
     {
         let full = self.has_no_entry(volume);
         refusal(make_reply(&self.accounts, path, false, full))
+    }
+
+    /// Makes a directory or a segment in a directory, unless that is refused.
+    fn make_branch(&mut self, superior: u32, new: NewNode) -> Reply
+        requires directory { has_directory self.old.accounts.nodes superior ≡ true }
+        requires volume { new.volume < length self.old.segs.pages.volumes.drives }
+        requires uids { self.old.accounts.next < 2 ^ 31 }
+        requires most { new.length ≤ 256 }
+        requires flat { new.dir ≡ true → new.length ≡ 0 }
+        ensures answer { (p : Plan) (s : Flat) (d : Term) → Shows D.pages p s self.old → d.uid ≡ superior
+            → result ≡ make_in p s new.volume new.dir new.name d }
+        ensures effect { (p : Plan) (s : Flat) (d : Term) → Shows D.pages p s self.old → d.uid ≡ superior
+            → Shows D.pages p (answered result s (made_in s new.volume new.dir new.length new.acl new.name d)) self.new }
+        ensures rest { self.new ≡ record self.old {
+          accounts = self.new.accounts;
+          segs = with_vtocs self.old.segs self.new.segs.pages.volumes.vtocs;
+        } }
+    {
+        let _kept = self.segs.pages();
+        match self.accounts.may_add(superior, &new.name, new.dir) {
+            Ok(()) => {}
+            Err(AddFault::Exists) => return Reply::Exists,
+            Err(AddFault::Deep) => return Reply::Deep,
+            Err(AddFault::Room) => return Reply::Room,
+        }
+        let uid = self.accounts.next_uid();
+        let Some(entry) = self.segs.new_home(new.volume, uid) else {
+            return Reply::NoEntry;
+        };
+        match self.accounts.add(superior, NewNode { entry, ..new }) {
+            Ok(uid) => Reply::Made(uid),
+            Err(_) => unreachable!(),
+        }
+    }
+
+    /// Makes a directory or a segment, and gives `Made` with its uid, or what refuses it.
+    fn make(&mut self, path: &Path, volume: u32, dir: bool, pages: u32, acl: Acl) -> Reply
+        requires volume { volume < length self.old.segs.pages.volumes.drives }
+        requires uids { self.old.accounts.next < 2 ^ 31 }
+        requires most { pages ≤ 256 }
+        requires flat { dir ≡ true → pages ≡ 0 }
+        ensures answer { (p : Plan) (s : Flat) → Shows D.pages p s self.old
+            → result ≡ make_reply p s path.now volume dir }
+        ensures effect { (p : Plan) (s : Flat) → Shows D.pages p s self.old
+            → Shows D.pages p (answered result s (after_make s path.now volume dir pages acl)) self.new }
+        ensures rest { self.new ≡ record self.old {
+          accounts = self.new.accounts;
+          segs = with_vtocs self.old.segs self.new.segs.pages.volumes.vtocs;
+        } }
+    {
+        let Some((above, name)) = path.split_last() else {
+            return Reply::Exists;
+        };
+        let superior = match node_at(&self.accounts, &above) {
+            Ok(node) => {
+                if !node.dir {
+                    return Reply::NotDir;
+                }
+                node.uid
+            }
+            Err(reply) => return reply,
+        };
+        let new = NewNode {
+            name: name.copied(),
+            dir,
+            volume,
+            entry: 0,
+            length: pages,
+            acl,
+        };
+        self.make_branch(superior, new)
+    }
+
+    /// Makes a directory with quota 0 on a volume, and gives `Made` with its uid, or what refuses it. (Source:
+    /// Bensoussan, Clingen and Daley 1972; Organick 1972.)
+    pub fn make_dir(&mut self, path: &Path, volume: u32) -> Reply
+        requires volume { volume < length self.old.segs.pages.volumes.drives }
+        requires uids { self.old.accounts.next < 2 ^ 31 }
+        ensures answer { (p : Plan) (s : Flat) → Shows D.pages p s self.old
+            → result ≡ make_reply p s path.now volume true }
+        ensures effect { (p : Plan) (s : Flat) → Shows D.pages p s self.old
+            → Shows D.pages p (answered result s (after_make s path.now volume true 0 [])) self.new }
+        ensures rest { self.new ≡ record self.old {
+          accounts = self.new.accounts;
+          segs = with_vtocs self.old.segs self.new.segs.pages.volumes.vtocs;
+        } }
+    {
+        self.make(path, volume, true, 0, Acl::none())
+    }
+
+    /// Makes a segment of so many pages on a volume, of which none is stored, and which the process's principal may read
+    /// and write. It gives `Made` with its uid, or what refuses it. (Source: Bensoussan, Clingen and Daley 1972; Organick
+    /// 1972.)
+    pub fn make_seg(&mut self, process: u32, path: &Path, pages: u32, volume: u32) -> Reply
+        requires process { process < length self.old.whos }
+        requires volume { volume < length self.old.segs.pages.volumes.drives }
+        requires uids { self.old.accounts.next < 2 ^ 31 }
+        requires most { pages ≤ 256 }
+        ensures answer { (p : Plan) (s : Flat) → Shows D.pages p s self.old
+            → result ≡ make_reply p s path.now volume false }
+        ensures effect { (p : Plan) (s : Flat) → Shows D.pages p s self.old
+            → Shows D.pages p (answered result s
+            (after_make s path.now volume false pages (owner_row (who_of p process) ∷ []))) self.new }
+        ensures rest { self.new ≡ record self.old {
+          accounts = self.new.accounts;
+          segs = with_vtocs self.old.segs self.new.segs.pages.volumes.vtocs;
+        } }
+    {
+        let acl = Acl::of(self.whos[process as usize].copied());
+        self.make(path, volume, false, pages, acl)
     }
 }

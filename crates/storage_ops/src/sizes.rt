@@ -1,12 +1,12 @@
 //! The length of a segment is changed, and its words are cut off.
 
-ghost use Rattle.std.specs.Prelude.{◌≡◌, true};
-ghost use Rattle.tree_model.specs.Trees.{has_segment};
+ghost use Rattle.std.specs.Prelude.{◌≡◌, ◌≤◌, ◌<◌, ℕ, IsSome, is_some, true, false};
+ghost use Rattle.vtoc.specs.Vtoc.{entry_at, record_at};
 ghost use Rattle.script.specs.Plans.{Plan};
 ghost use Rattle.flat_model.specs.Pages.{is_stored_from};
-ghost use Rattle.flat_model.specs.Sizes.{length_reply, truncate_reply};
+ghost use Rattle.flat_model.specs.Sizes.{after_length, length_reply, truncate_reply};
 ghost use Rattle.flat_model.specs.Store.{Store as Flat};
-ghost use Rattle.storage_ops.specs.Shown.{Shows, ShowsTree, refusal};
+ghost use Rattle.storage_ops.specs.Shown.{IsInactiveAt, Shows, ShowsTree, answered, is_filed, is_there, pages_in, refusal};
 
 use crate::paths::segment_at;
 use crate::replies::refusal;
@@ -15,6 +15,7 @@ use accounts::Accounts;
 use book::Reply;
 use mnames::Path;
 use volumes::Drive;
+use vtoc::Vtoc;
 
 /// What the truncation of a segment is answered.
 fn truncate_reply(accounts: &Accounts, path: &Path) -> Reply
@@ -26,11 +27,95 @@ fn truncate_reply(accounts: &Accounts, path: &Path) -> Reply
     }
 }
 
+/// Whether a file map names a record for a page from one number on, below another.
+fn names_from(vtoc: &Vtoc, entry: u32, from: u32, to: u32) -> bool
+    requires used { IsSome (entry_at vtoc.now entry) }
+    requires most { to ≤ 256 }
+    ensures some { result ≡ true → (q : ℕ) × (from ≤ q) × (is_some (record_at vtoc.now entry q) ≡ true) }
+    ensures none { result ≡ false → (q : ℕ) → from ≤ q → q < to → is_some (record_at vtoc.now entry q) ≡ false }
+{
+    for page in from..to {
+        if vtoc.file_map(entry, page).is_some() {
+            return true;
+        }
+    }
+    false
+}
+
+/// The length of a node, in pages; 0 where it isn't there.
+#[tactic(auto, using(crate::proofs::NodeLaws::pages_found, crate::proofs::NodeLaws::no_pages))]
+fn pages_of(accounts: &Accounts, uid: u32) -> u32
+    ensures { result ≡ pages_in accounts.now.nodes uid }
+{
+    match accounts.node(uid) {
+        Some(node) => node.length,
+        None => 0,
+    }
+}
+
 impl<D: Drive> Store<D> {
+    /// Whether a page of a node is stored whose number is this one or above. It looks at the pages of that node alone.
+    fn stores_from(&self, uid: u32, from: u32) -> bool
+        requires { is_there self.now.accounts.nodes uid ≡ true }
+        ensures answer { (p : Plan) (s : Flat) → Shows D.pages p s self.now
+            → result ≡ is_stored_from s.stored uid from }
+        ensures none { result ≡ false → (q : ℕ) → is_filed self.now.accounts self.now.segs.pages.volumes.vtocs uid q
+            ≡ true → q < from }
+    {
+        let home = self.home(uid);
+        let length = pages_of(&self.accounts, uid);
+        names_from(
+            self.segs.pages().volumes().vtoc(home.volume),
+            home.entry,
+            from,
+            length,
+        )
+    }
+
     /// What refuses the truncation of a segment: what the path leads to. (Source: Bensoussan, Clingen and Daley 1972.)
     pub fn truncate_refusal(&self, path: &Path) -> Option<Reply>
         ensures { (p : Plan) (s : Flat) → Shows D.pages p s self.now → result ≡ refusal (truncate_reply s path.now) }
     {
         refusal(truncate_reply(&self.accounts, path))
+    }
+
+    /// What refuses the change of a segment's length: what the path leads to; else `Beyond` exactly where a page is
+    /// stored whose number is the new length or above. (Source: Bensoussan, Clingen and Daley 1972.)
+    pub fn length_refusal(&self, path: &Path, pages: u32) -> Option<Reply>
+        ensures { (p : Plan) (s : Flat) → Shows D.pages p s self.now
+            → result ≡ refusal (length_reply s path.now pages) }
+    {
+        match segment_at(&self.accounts, path) {
+            Ok(node) => {
+                if self.stores_from(node.uid, pages) {
+                    Some(Reply::Beyond)
+                } else {
+                    None
+                }
+            }
+            Err(reply) => refusal(reply),
+        }
+    }
+
+    /// Sets the length of a segment, in pages, and gives `Done`, or what refuses it. The segment must not be active.
+    /// (Source: Bensoussan, Clingen and Daley 1972.)
+    pub fn set_length(&mut self, path: &Path, pages: u32) -> Reply
+        requires inactive { IsInactiveAt self.old.accounts self.old.segs path.now }
+        requires most { pages ≤ 256 }
+        ensures answer { (p : Plan) (s : Flat) → Shows D.pages p s self.old
+            → result ≡ length_reply s path.now pages }
+        ensures effect { (p : Plan) (s : Flat) → Shows D.pages p s self.old
+            → Shows D.pages p (answered result s (after_length s path.now pages)) self.new }
+        ensures rest { self.new ≡ record self.old { accounts = self.new.accounts } }
+    {
+        let uid = match segment_at(&self.accounts, path) {
+            Ok(node) => node.uid,
+            Err(reply) => return reply,
+        };
+        if self.stores_from(uid, pages) {
+            return Reply::Beyond;
+        }
+        self.accounts.set_length(uid, pages);
+        Reply::Done
     }
 }

@@ -1,9 +1,11 @@
-ghost use Rattle.std.specs.Prelude.{◌≡◌};
+ghost use Rattle.std.specs.Prelude.{◌≡◌, ◌<◌, length, true};
 ghost use Rattle.page_control.specs.Plain.{plain};
-ghost use Rattle.storage_ops.specs.Shown.{IsStore};
+ghost use Rattle.seg_control.specs.Kept.{IsHomeOf};
+ghost use Rattle.storage_ops.specs.Shown.{IsStore, home_of, is_there};
 
 use accounts::Accounts;
 use mnames::Who;
+use page_control::Home;
 use seg_control::Segs;
 use std::marker::Model;
 use volumes::Drive;
@@ -56,5 +58,23 @@ impl<D: Drive> Store<D> {
         ensures whos { result.now ≡ self.now.whos }
     {
         &self.whos
+    }
+
+    /// The home of a node.
+    #[tactic(auto, using(crate::proofs::NodeLaws::volume_found))]
+    pub(crate) fn home(&self, uid: u32) -> Home
+        requires { is_there self.now.accounts.nodes uid ≡ true }
+        ensures home { result ≡ home_of self.now.accounts uid }
+        ensures volume { result.volume < length self.now.segs.pages.volumes.drives }
+        ensures own { IsHomeOf self.now.segs.pages.volumes.vtocs uid result }
+    {
+        let _count = self.segs.pages().volumes().count();
+        match self.accounts.node(uid) {
+            Some(node) => Home {
+                volume: node.volume,
+                entry: node.entry,
+            },
+            None => unreachable!(),
+        }
     }
 }

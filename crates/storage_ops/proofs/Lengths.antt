@@ -1,0 +1,200 @@
+-- Stored pages from one on, and the length of a segment.
+use Rattle.std.proofs.Common.{◌≡◌, ◌≢◌, ℕ, ◌<◌, ◌≤◌, Bool, true, false, cond, eqb, not, ◌&&◌, List, [], ◌∷◌, map}
+use Rattle.std.proofs.Common.{Option, Some, None, Ok, Err, is_some}
+use Rattle.std.proofs.Common.{refl, sym, ap, subst, ◌∙◌, arith, inl, inr, ◌⊎◌}
+use Rattle.std.specs.Prelude.{nat_le}
+use Rattle.std.proofs.lemmas.Bool.{cases_Bool, cases_eq, cases_lt, ne_eqb}
+use Rattle.std.proofs.lemmas.Bool.Decides.{nat_tests}
+use Rattle.mnames.specs.declared.modes.Mode.{Mode}
+use Rattle.mnames.specs.declared.principals.Who.{Who}
+use Rattle.script.specs.Plans.{Plan}
+use Rattle.book.specs.declared.replies.Reply.{Reply}
+use Rattle.book.specs.declared.replies.Reply.TheVariants as reply
+use Rattle.accounts.specs.Maps.{AccountMaps, Changes}
+use Rattle.tree_model.specs.Tree.{Node, has_directory, node_in, pool_of, with_node}
+use Rattle.tree_model.specs.Trees.{has_segment}
+use Rattle.flat_model.specs.Branches.{changed, segment_at}
+use Rattle.flat_model.specs.Pages.{is_stored, is_stored_from}
+use Rattle.flat_model.specs.Sizes.{after_length}
+use Rattle.flat_model.specs.Store.{Store}
+use Rattle.flat_model.proofs.PageLaws.{none_from, stored_from}
+use Rattle.vtoc.specs.Vtoc.{Entry, record_at}
+use Rattle.descriptor_seg.specs.declared.Sdw.TheVariants.{Present}
+use Rattle.descriptor_seg.specs.Descriptors.{sdw_at}
+use Rattle.active_segs.specs.Active.{ActiveSegs, uid_at as uid_in_place}
+use Rattle.page_control.specs.declared.Home.{Home}
+use Rattle.page_control.specs.Plain.{Plain}
+use Rattle.page_control.specs.Picture.{is_filed_at}
+use Rattle.page_control.specs.Tied.{vtoc_in}
+use Rattle.seg_control.specs.Control.{Links, sdws_at}
+use Rattle.seg_control.specs.Kept.{IsInactive}
+use Rattle.storage_ops.specs.Shown.{AreCounted, IsStore, Shows, ShowsPages, Storage, home_of, is_filed, is_there}
+use Rattle.storage_ops.specs.Shown.{named_at, pages_in, pages_of}
+use Rattle.storage_ops.proofs.Alike.{Keeps, active_alike, alike_changed, housed_alike, keeps_length, keeps_one}
+use Rattle.storage_ops.proofs.Alike.{map_node}
+use Rattle.storage_ops.proofs.Alike.{node_map, rights_alike, taken_alike}
+use Rattle.storage_ops.proofs.Changed.{shown_changed}
+use Rattle.storage_ops.proofs.NodeLaws.{uid_found}
+
+-- whether a page is filed, of a node that is there
+pub filed_there : (a : AccountMaps) (vtocs : List (List (Option Entry))) (u q : ℕ) → is_there a.nodes u ≡ true
+    → is_filed a vtocs u q ≡ is_filed_at vtocs (home_of a u) q
+unfolding is_filed
+filed_there a vtocs u q t = ap (λ (z : Bool). z && is_filed_at vtocs (home_of a u) q) t
+
+filed_is : (vtocs : List (List (Option Entry))) (home : Home) (q : ℕ)
+    → is_some (record_at (vtoc_in vtocs home.volume) home.entry q) ≡ is_filed_at vtocs home q
+unfolding is_filed_at
+filed_is vtocs home q = refl
+
+module _ (a : AccountMaps) (vtocs : List (List (Option Entry))) (u : ℕ) (home : Home) (table : List (Option Entry))
+    (there : is_there a.nodes u ≡ true) (home_is : home ≡ home_of a u)
+    (table_is : table ≡ vtoc_in vtocs home.volume) where
+  record_told : (q : ℕ) → is_some (record_at table home.entry q) ≡ is_filed a vtocs u q
+  record_told q = ap (λ (t : List (Option Entry)). is_some (record_at t home.entry q)) table_is ∙ filed_is vtocs home q
+      ∙ ap (λ (h : Home). is_filed_at vtocs h q) home_is ∙ sym (filed_there a vtocs u q there)
+
+  pub from_told : (stored : List (ℕ × ℕ)) (from : ℕ) (b : Bool) → ((v q : ℕ)
+      → is_stored stored v q ≡ is_filed a vtocs v q)
+      → AreCounted a vtocs → (b ≡ true → (q : ℕ) × (from ≤ q) × (is_some (record_at table home.entry q) ≡ true))
+      → (b ≡ false → (q : ℕ) → from ≤ q → q < pages_in a.nodes u → is_some (record_at table home.entry q) ≡ false)
+      → b ≡ is_stored_from stored u from
+  from_told stored from true shown counted some none =
+      let at = some refl in
+      sym (stored_from stored u from at.0 (shown u at.0 ∙ sym (record_told at.0) ∙ at.2)
+      (let le : from ≤ at.0 = at.1 in grind (arith, nat_tests)))
+  from_told stored from false shown counted some none = sym (none_from stored u from each)
+    where
+      each : (q : ℕ) → nat_le from q ≡ true → is_stored stored u q ≡ false
+      each q le = elim (cases_Bool (is_stored stored u q)) [
+        | inr off ↦ off
+        | inl on ↦
+            (let start : from ≤ q = grind (arith, nat_tests) in
+            let lt = counted.inside u q there (sym (filed_there a vtocs u q there) ∙ sym (shown u q) ∙ on) in
+            shown u q ∙ sym (record_told q) ∙ none refl q start lt)
+      ]
+
+module _ (a : AccountMaps) (vtocs : List (List (Option Entry))) (u : ℕ) (home : Home) (table : List (Option Entry))
+    (there : is_there a.nodes u ≡ true) (home_is : home ≡ home_of a u)
+    (table_is : table ≡ vtoc_in vtocs home.volume) where
+  pub within_told : (from : ℕ) (b : Bool) → AreCounted a vtocs
+      → (b ≡ false → (q : ℕ) → from ≤ q → q < pages_in a.nodes u → is_some (record_at table home.entry q) ≡ false)
+      → b ≡ false → (q : ℕ) → is_filed a vtocs u q ≡ true → q < from
+  within_told from b counted none off q on = elim (cases_lt q from) [
+    | inl lt ↦ lt
+    | inr le ↦
+        (let lt = counted.inside u q there (sym (filed_there a vtocs u q there) ∙ on) in
+        let clash : true ≡ false = sym on ∙ sym (record_told a vtocs u home table there home_is table_is q)
+        ∙ none off q le lt in cc)
+  ]
+
+-- ---- the length is set
+
+abbrev pub length_change : ℕ → ℕ → Node → Node
+length_change u pages n = cond (eqb n.uid u) (record n { pages = pages }) n
+
+keeps_change : (u pages : ℕ) → Keeps (length_change u pages)
+keeps_change u pages = keeps_one u (λ n. record n { pages = pages }) (keeps_length pages)
+
+no_directory : (ns : List Node) (u : ℕ) → has_segment ns u ≡ true → has_directory ns u ≡ false
+no_directory [] u is = cc
+no_directory (n ∷ ns) u is = elim (cases_Bool (eqb n.uid u)) [
+  | inl here ↦ rw here (back n.directory (rw here at is))
+  | inr there ↦ rw there (no_directory ns u (rw there at is))
+]
+  where
+    back : (z : Bool) → not z ≡ true → z ≡ false
+    back true e = cc
+    back false e = refl
+
+-- a change of one node leaves those of other uids
+other_same : (u pages : ℕ) (n : Node) → n.uid ≢ u → length_change u pages n ≡ n
+other_same u pages n ne = ap (λ (z : Bool). cond z (record n { pages = pages }) n) (ne_eqb n.uid u ne)
+
+module _ (a b : AccountMaps) (u pages : ℕ) (segment : has_segment a.nodes u ≡ true)
+    (changes : Changes a b (with_node a.nodes u (λ n. record n { pages = pages }))) where
+  pages_other : (v : ℕ) → v ≢ u → pages_in b.nodes v ≡ pages_in a.nodes v
+  pages_other v ne =
+      ap (λ (ns : List Node). pages_in ns v) changes.nodes ∙ ap pages_of (node_map (length_change u pages)
+      (keeps_change u pages) a.nodes v)
+      ∙ by (node_in a.nodes v) refl
+    where
+      by : (o : Option Node) → node_in a.nodes v ≡ o → pages_of (map_node (length_change u pages) o) ≡ pages_of o
+      by None e = refl
+      by (Some n) e = ap (λ (x : Node). x.pages) (other_same u pages n (λ is. ne (sym (uid_found a.nodes v n e) ∙ is)))
+
+  pages_here : (n : Node) → node_in a.nodes u ≡ Some n → pages_in b.nodes u ≡ pages
+  pages_here n e =
+      ap (λ (ns : List Node). pages_in ns u) changes.nodes ∙ ap pages_of (node_map (length_change u pages)
+      (keeps_change u pages) a.nodes u)
+      ∙ ap (λ (o : Option Node). pages_of (map_node (length_change u pages) o)) e
+      ∙ ap (λ (z : Bool). (cond z (record n { pages = pages }) n).pages) own
+    where
+      own : eqb n.uid u ≡ true
+      own = (let is : n.uid ≡ u = uid_found a.nodes u n e in grind (arith, nat_tests))
+
+  -- the segment isn't active, and stores no page from the new length on
+  pub length_store : (now : Plain) (ast : ActiveSegs) (links : Links) (whos : List Who) (n : Node)
+      → node_in a.nodes u ≡ Some n
+      → pages ≤ 256 → IsInactive ast.entries u → ((q : ℕ) → is_filed a now.vtocs u q ≡ true → q < pages)
+      → IsStore now ast links a whos → IsStore now ast links b whos
+  length_store now ast links whos n found most inactive within h = (
+      let alike = alike_changed (length_change u pages) (keeps_change u pages) a b changes in record {
+        housed = housed_alike a b alike now.vtocs h.housed;
+        counted = record {
+          counts = λ v t. ap (named_at now.vtocs) (alike.homes v) ∙ h.counted.counts v (sym (alike.there v) ∙ t)
+              ∙ sym (alike.counts v);
+          inside = λ v q t on. (let was = ap (λ (home : Home). is_filed_at now.vtocs home q) (sym (alike.homes v))
+              ∙ on in elim (cases_eq v u) [
+                | inl is ↦
+                    (let here : pages_in b.nodes v ≡ pages = ap (pages_in b.nodes) is ∙ pages_here n found in
+                    let lt : q < pages = within q (filed_there a now.vtocs u q (ap (λ (x : ℕ). is_there a.nodes x)
+                    (sym is) ∙ sym (alike.there v) ∙ t)
+                    ∙ ap (λ (x : ℕ). is_filed_at now.vtocs (home_of a x) q) (sym is) ∙ was) in
+                    omega (arith, here, lt))
+                | inr ne ↦ subst (λ (m : ℕ). q < m) (sym (pages_other v ne)) (h.counted.inside v q (sym (alike.there v)
+                    ∙ t) was)
+              ]);
+          absent = λ v off. alike.counts v ∙ h.counted.absent v (sym (alike.there v) ∙ off);
+          most = λ v. elim (cases_eq v u) [
+            | inl is ↦ (let here : pages_in b.nodes v ≡ pages = ap (pages_in b.nodes) is
+                ∙ pages_here n found in omega (arith, here, most))
+            | inr ne ↦ subst (λ (m : ℕ). m ≤ 256) (sym (pages_other v ne)) (h.counted.most v)
+          ];
+          flat = λ v d. elim (cases_eq v u) [
+            | inl is ↦ (let clash : true ≡ false = sym (sym (alike.kinds v) ∙ d) ∙ ap (has_directory a.nodes) is
+                ∙ no_directory a.nodes u segment in cc)
+            | inr ne ↦ pages_other v ne ∙ h.counted.flat v (sym (alike.kinds v) ∙ d)
+          ];
+        };
+        taken = taken_alike a b alike now.records now.vtocs h.taken;
+        active = active_alike (length_change u pages) (keeps_change u pages) a b changes ast h.active
+            (λ place v m e here. ap pool_of (unchanged place v m e here));
+        rights = rights_alike (length_change u pages) (keeps_change u pages) a b changes ast.entries links whos h.rights
+            (λ process number place k v mode m d e here. (
+              ap (λ (x : Node). x.rows) (unchanged place v m e here),
+              ap
+                  (λ (x : Node). x.pages) (unchanged place v m e here),
+            ));
+        known = record {
+          older = λ process number v e. subst (λ (x : ℕ). v < x) (sym changes.next) (h.known.older process number v e);
+          processes = h.known.processes;
+        };
+      })
+    where
+      unchanged : (place v : ℕ) (m : Node) → uid_in_place ast.entries place ≡ Some v → node_in a.nodes v ≡ Some m
+          → length_change u pages m ≡ m
+      unchanged place v m e here = other_same u pages m
+          (λ is. inactive.nowhere place (e ∙ ap (λ (x : ℕ). Some x) (sym (uid_found a.nodes v m here) ∙ is)))
+
+  pub length_shown : {D : Type 0} (drive : D → List (List ℕ)) (p : Plan) (s : Store) (t : Storage D) (path : List
+      (List ℕ)) (n : Node) → t.accounts ≡ a
+      → segment_at a.nodes path ≡ Ok n → n.uid ≡ u → Shows drive p s t
+      → Shows drive p (after_length s path pages) (record t { accounts = b })
+  unfolding after_length
+  length_shown drive p s t path n is found uid h =
+      subst (λ (x : Store). Shows drive p x (record t { accounts = b }))
+      (ap (λ (v : ℕ). record s { nodes = with_node s.nodes v (λ x. record x { pages = pages }) }) (sym uid)
+      ∙ sym (ap (changed s (λ x. record x { pages = pages }))
+      (ap (λ (ns : List Node). segment_at ns path) (h.tree.nodes ∙ ap (λ (x : AccountMaps). x.nodes) is) ∙ found)))
+      (shown_changed (length_change u pages) (keeps_change u pages) a b changes drive p s t is h)

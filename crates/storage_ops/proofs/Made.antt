@@ -1,0 +1,112 @@
+-- What the making of a directory or a segment in a directory is answered, and what it leaves.
+use Rattle.std.proofs.Common.{◌≡◌, ◌≢◌, ℕ, ◌+◌, ◌<◌, Bool, true, false, cond, List, [], ◌∷◌, ◌++◌, is_none, Option}
+use Rattle.std.proofs.Common.{Some, None, Result, Ok, Err, All, IsSome}
+use Rattle.std.proofs.Common.{set, get_or, is_some, ◌&&◌, length, refl, sym, ap, subst, ◌∙◌, arith, inl, inr}
+use Rattle.std.specs.Prelude.{count_by, nat_le}
+use Rattle.std.proofs.lemmas.Bool.{cases_eq, cases_lt}
+use Rattle.std.proofs.lemmas.Bool.Decides.{nat_tests}
+use Rattle.std.proofs.lemmas.List.{get_or-set_other, get_or-set_same, get_or_past, length-set}
+use Rattle.std.proofs.lemmas.List.Quantifiers.{position-Some}
+use Rattle.script.specs.Plans.{Plan}
+use Rattle.book.specs.declared.replies.Reply.{Reply}
+use Rattle.book.specs.declared.replies.Reply.TheVariants as reply
+use Rattle.accounts.specs.Maps.{branch_of}
+use Rattle.dir_tree.specs.declared.node.AddFault.{AddFault}
+use Rattle.dir_tree.specs.declared.node.AddFault.TheVariants as add_fault
+use Rattle.dir_tree.specs.declared.node.NewNode.{NewNode}
+use Rattle.dir_tree.specs.Nodes.{add_fault_of, unless}
+use Rattle.tree_model.specs.Tree.{Node, above, branch_in, entries_on}
+use Rattle.flat_model.specs.Branches.{node_at}
+use Rattle.flat_model.specs.Making.{after_make, made_at, made_in, made_of, make_in}
+use Rattle.tree_model.specs.Access.{Row}
+use Rattle.storage_ops.proofs.TreeReplies.{parts_are}
+use Rattle.flat_model.specs.Store.{Store, entries_of}
+use Rattle.vtoc.specs.Vtoc.{Entry, least_free_entry}
+use Rattle.page_control.specs.Counts.{entries, used}
+use Rattle.page_control.specs.Tied.{vtoc_in}
+use Rattle.storage_ops.proofs.NamingLaws.{count_full, count_less}
+
+told : (x y z w full : Bool) (n : ℕ)
+    → ◌≡◌ {A = Result (Unit {0}) AddFault} (Ok tt) (unless (cond x (Some add_fault.Exists) (cond y
+    (Some add_fault.Deep) (cond z (Some add_fault.Room) None))) tt)
+    → full ≡ w
+    → cond full reply.NoEntry (reply.Made n) ≡ cond x reply.Exists (cond y reply.Deep (cond z reply.Room
+    (cond w reply.NoEntry (reply.Made n))))
+told true y z w full n ok is = cc
+told false true z w full n ok is = cc
+told false false true w full n ok is = cc
+told false false false w full n ok is = ap (λ (b : Bool). cond b reply.NoEntry (reply.Made n)) is
+
+-- where nothing but the want of a VTOC entry can refuse it
+pub made_told : (p : Plan) (s : Store) (volume : ℕ) (dir : Bool) (name : List ℕ) (d : Node) (nodes : List Node)
+    (superior next : ℕ) (r : Result (Unit {0}) AddFault)
+    (full : Bool) → s.nodes ≡ nodes → s.next ≡ next → d.uid ≡ superior
+    → r ≡ unless (add_fault_of nodes superior name dir) tt → Ok tt ≡ r
+    → full ≡ nat_le (entries_of p volume) (entries_on s.nodes volume)
+    → cond full reply.NoEntry (reply.Made next) ≡ make_in p s volume dir name d
+made_told p s volume dir name d nodes superior next r full same at below answer ok is =
+    ap (λ (n : ℕ). cond full reply.NoEntry (reply.Made n)) (sym at)
+    ∙ told (is_some (branch_in s.nodes d.uid name)) (dir && nat_le 8 (length (above s.nodes d.uid))) (nat_le 4097
+    (length s.nodes))
+    (nat_le (entries_of p volume) (entries_on s.nodes volume)) full s.next
+    (ok ∙ answer ∙ ap (λ (ns : List Node). unless (add_fault_of ns superior name dir) tt) (sym same)
+    ∙ ap (λ (u : ℕ). unless (add_fault_of s.nodes u name dir) tt) (sym below)) is
+
+-- all entries of a volume are used, and not all
+pub all_used : (vtocs : List (List (Option Entry))) (v most count : ℕ)
+    → All (λ entry. IsSome entry) (vtoc_in vtocs v) → most ≡ entries vtocs v
+    → count ≡ used vtocs v → true ≡ nat_le most count
+all_used vtocs v most count all is counted =
+    let full : used vtocs v ≡ entries vtocs v = count_full (vtoc_in vtocs v) (λ k lt. all k None lt) in
+    let same : most ≡ count = is ∙ sym full ∙ sym counted in
+    grind (arith, nat_tests)
+
+pub some_free : (vtocs : List (List (Option Entry))) (v e most count : ℕ)
+    → Some e ≡ least_free_entry (vtoc_in vtocs v) → most ≡ entries vtocs v
+    → count ≡ used vtocs v → false ≡ nat_le most count
+some_free vtocs v e most count least is counted =
+    let at = position-Some is_none (vtoc_in vtocs v) e None (sym least) in
+    let less : used vtocs v < entries vtocs v = count_less (vtoc_in vtocs v) e at.0 at.1 in
+    let fewer : count < most = omega (arith, less, is, counted) in
+    grind (arith, nat_tests)
+
+-- the new branch is that of the flat store
+pub branch_same : (s : Store) (new : NewNode) (d : Node) (next superior : ℕ) → s.next ≡ next → d.uid ≡ superior
+    → record s { nodes = branch_of next superior new ∷ s.nodes; next = s.next + 1 }
+    ≡ made_in s new.volume new.dir new.length new.acl new.name d
+branch_same s new d next superior at below =
+    ap (λ (u : ℕ). record s { nodes = branch_of u superior new ∷ s.nodes; next = s.next + 1 }) (sym at)
+    ∙ ap (λ (u : ℕ). record s { nodes = branch_of s.next u new ∷ s.nodes; next = s.next + 1 }) (sym below)
+
+-- each table of tables is as long as before, once an element of one is changed
+pub length_inside : {X : Type 0} (vtocs : List (List X)) (v e w : ℕ) (x : X) (now : List (List X))
+    → now ≡ set vtocs v (set (get_or vtocs v []) e x)
+    → length (get_or now w []) ≡ length (get_or vtocs w [])
+length_inside {X} vtocs v e w x now is =
+    ap (λ (t : List (List X)). length (get_or t w [])) is
+    ∙ elim (cases_eq w v) [
+      | inr ne ↦ ap length (get_or-set_other vtocs v w (set (get_or vtocs v []) e x) [] ne)
+      | inl same ↦ elim (cases_lt v (length vtocs)) [
+        | inl lt ↦ ap (λ (n : ℕ). length (get_or (set vtocs v (set (get_or vtocs v []) e x)) n [])) same
+            ∙ ap length (get_or-set_same vtocs v (set (get_or vtocs v []) e x) [] lt)
+            ∙ length-set (get_or vtocs v []) e x ∙ ap (λ (n : ℕ). length (get_or vtocs n [])) (sym same)
+        | inr past ↦
+            (let long : length (set vtocs v (set (get_or vtocs v []) e x)) ≡ length vtocs = length-set vtocs v _ in
+            ap length (get_or_past (set vtocs v (set (get_or vtocs v []) e x)) w [] (omega (arith, long, past, same)))
+            ∙ sym (ap length (get_or_past vtocs w [] (omega (arith, past, same)))))
+      ]
+    ]
+
+pub added_uid : (o : Option AddFault) (u next : ℕ) → ◌≡◌ {A = Result ℕ AddFault} (Ok u) (unless o next) → u ≡ next
+added_uid None u next e = cc
+added_uid (Some x) u next e = cc
+
+-- ---- by its path
+
+module _ (s : Store) (nodes : List Node) (path names : List (List ℕ)) (name : List ℕ) (volume : ℕ) (dir : Bool)
+    (same : s.nodes ≡ nodes) (parts : path ≡ names ++ name ∷ []) where
+  pub after_make_is : (pages : ℕ) (rows : List Row) (d : Node) → node_at nodes names ≡ Ok d
+      → made_in s volume dir pages rows name d ≡ after_make s path volume dir pages rows
+  unfolding after_make
+  after_make_is pages rows d found = sym (ap (made_of s volume dir pages rows) (parts_are path names name parts)
+      ∙ ap (made_at s volume dir pages rows name) (ap (λ (ns : List Node). node_at ns names) same ∙ found))

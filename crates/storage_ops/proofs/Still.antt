@@ -1,0 +1,66 @@
+-- A store of which frames, marks or words of page tables alone have changed.
+use Rattle.std.proofs.Common.{◌≡◌, ℕ, ◌<◌, ◌/◌, ◌%◌, Bool, List, Option, get_or, refl, sym, ap, subst, ◌∙◌}
+use Rattle.mnames.specs.declared.principals.Who.{Who}
+use Rattle.script.specs.Plans.{Plan}
+use Rattle.accounts.specs.Maps.{AccountMaps}
+use Rattle.flat_model.specs.Store.{Store}
+use Rattle.vtoc.specs.Vtoc.{Entry as VtocEntry}
+use Rattle.active_segs.specs.declared.Entry.{Entry}
+use Rattle.active_segs.specs.Active.{ActiveSegs}
+use Rattle.page_control.specs.declared.Home.{Home}
+use Rattle.page_control.specs.Plain.{Plain, plain}
+use Rattle.page_control.specs.Counts.{entries, size, taken, used}
+use Rattle.page_control.specs.Picture.{words_at}
+use Rattle.seg_control.specs.Control.{Links}
+use Rattle.storage_ops.specs.Shown.{AreCounted, AreHoused, AreInTree, HaveRights, IsStore, Shows, Storage, is_filed}
+use Rattle.storage_ops.specs.Shown.{picture}
+
+-- records, VTOCs and what is active are as before
+pub store_still : (old now : Plain) (ast next : ActiveSegs) (links : Links) (a : AccountMaps) (whos : List Who)
+    → now.vtocs ≡ old.vtocs
+    → now.records ≡ old.records → next.entries ≡ ast.entries → next.sizes ≡ ast.sizes
+    → IsStore old ast links a whos → IsStore now next links a whos
+store_still old now ast next links a whos vtocs records entries_same sizes h = record {
+  housed = subst (λ (v : List (List (Option VtocEntry))). AreHoused a v) (sym vtocs) h.housed;
+  counted = subst (λ (v : List (List (Option VtocEntry))). AreCounted a v) (sym vtocs) h.counted;
+  taken = record {
+    records = λ stored v counts. ap (λ (f : List (List Bool)). taken f v) records ∙ h.taken.records stored v counts;
+    entries = λ v. ap (λ (t : List (List (Option VtocEntry))). used t v) vtocs ∙ h.taken.entries v;
+    short = λ v. subst (λ (f : List (List Bool)). size f v < 65536) (sym records) (h.taken.short v);
+  };
+  active = still_active;
+  rights = subst (λ (e : List (Option Entry)). HaveRights a.nodes e links whos) (sym entries_same) h.rights;
+  known = h.known;
+}
+  where
+    still_active : AreInTree a.nodes next
+    still_active = record {
+      there = λ place u e. h.active.there place u (rw (← entries_same) e);
+      superiors = λ place u n e found. rw entries_same (h.active.superiors place u n (rw (← entries_same) e) found);
+      pools = λ place u n e found. rw sizes (h.active.pools place u n (rw (← entries_same) e) found);
+    }
+
+-- and so is the picture
+pub shown_still : {D : Type 0} (drive : D → List (List ℕ)) (p : Plan) (s : Store) (t u : Storage D)
+    → u.accounts ≡ t.accounts → u.whos ≡ t.whos
+    → u.segs.links ≡ t.segs.links → u.segs.pages.volumes.vtocs ≡ t.segs.pages.volumes.vtocs
+    → u.segs.pages.volumes.records ≡ t.segs.pages.volumes.records
+    → words_at (plain drive u.segs.pages) ≡ words_at (plain drive t.segs.pages) → Shows drive p s t → Shows drive p s u
+shown_still drive p s t u accounts whos links vtocs records words h = record {
+  tree = rw accounts h.tree;
+  known = h.known ∙ ap (λ (l : Links). l.known) (sym links);
+  pages = record {
+    stored = λ v q. h.pages.stored v q ∙ ap (λ (x : List (List (Option VtocEntry))). is_filed t.accounts x v q)
+        (sym vtocs)
+        ∙ ap (λ (x : AccountMaps). is_filed x u.segs.pages.volumes.vtocs v q) (sym accounts);
+    once = h.pages.once;
+    words = λ v o. h.pages.words v o ∙ ap (λ (ws : List ℕ). get_or ws (o % 1024) 0)
+        (ap (λ (x : ℕ → Home → ℕ → List ℕ). picture t.accounts x v (o / 1024)) (sym words)
+        ∙ ap (λ (x : AccountMaps). picture x (words_at (plain drive u.segs.pages)) v (o / 1024)) (sym accounts));
+  };
+  script = record {
+    records = λ v. h.script.records v ∙ ap (λ (f : List (List Bool)). size f v) (sym records);
+    entries = λ v. h.script.entries v ∙ ap (λ (x : List (List (Option VtocEntry))). entries x v) (sym vtocs);
+    whos = whos ∙ h.script.whos;
+  };
+}

@@ -1,0 +1,40 @@
+-- Tables of tables: what stands at a volume and a place there, once one is changed.
+use Rattle.std.proofs.Common.{◌≡◌, ◌≢◌, ℕ, ◌<◌, ◌≤◌, ◌+◌, Bool, true, false, cond, eqb, List, [], ◌∷◌, length, map}
+use Rattle.std.proofs.Common.{Option, Some, None}
+use Rattle.std.proofs.Common.{set, get_or, is_some, refl, sym, ap, subst, ◌∙◌, arith, inl, inr}
+use Rattle.std.proofs.lemmas.Bool.{cases_eq, cases_lt}
+use Rattle.std.proofs.lemmas.List.{get_or-set_same, get_or-set_other, get_or_past, length-set, length-map}
+use Rattle.vtoc.specs.Vtoc.{Entry, entry_at, uid_of, with_record}
+use Rattle.volumes.specs.Volumes.{HasParts, Vols}
+use Rattle.page_control.specs.declared.Home.{Home}
+use Rattle.page_control.specs.Tied.{uid_at, vtoc_in}
+
+-- a home that is used is on a volume that is there
+pub homed_volume : (vtocs : List (List (Option Entry))) (home : Home) (u : ℕ) → uid_at vtocs home ≡ Some u
+    → home.volume < length vtocs
+homed_volume vtocs home u e = elim (cases_lt home.volume (length vtocs)) [
+  | inl lt ↦ lt
+  | inr past ↦
+      (let none : uid_at vtocs home ≡ None = ap (λ (t : List (Option Entry)). uid_of (entry_at t home.entry))
+      (get_or_past vtocs home.volume [] past) in
+      let clash : ◌≡◌ {A = Option ℕ} None (Some u) = sym none ∙ e in cc)
+]
+
+-- and in a place of its table
+pub homed_entry : (vtocs : List (List (Option Entry))) (home : Home) (u : ℕ) → uid_at vtocs home ≡ Some u
+    → home.entry < length (vtoc_in vtocs home.volume)
+homed_entry vtocs home u e = elim (cases_lt home.entry (length (vtoc_in vtocs home.volume))) [
+  | inl lt ↦ lt
+  | inr past ↦
+      (let none : uid_at vtocs home ≡ None = ap uid_of (get_or_past (vtoc_in vtocs home.volume) home.entry None past) in
+      let clash : ◌≡◌ {A = Option ℕ} None (Some u) = sym none ∙ e in cc)
+]
+
+pub drives_there : {D : Type 0} (pages : D → List (List ℕ)) (v w : Vols D) (n : ℕ) → w ≡ v
+    → HasParts (map pages w.drives) w.records w.vtocs → n < length v.vtocs → n < length v.drives
+drives_there pages v w n same parts lt =
+    let those : HasParts (map pages v.drives) v.records v.vtocs = subst (λ (x : Vols _). HasParts
+    (map pages x.drives) x.records x.vtocs) same parts in
+    let long : length (map pages v.drives) ≡ length v.drives = length-map v.drives pages in
+    let tables : length v.vtocs ≡ length (map pages v.drives) = those.tables in
+    omega (arith, lt, long, tables)

@@ -1,0 +1,19 @@
+use Rattle.std.proofs.Common.{◌<◌, length, is_some, sym, ap, subst, ◌∙◌, ℕ}
+use Rattle.page_control.specs.Plain.{Paging}
+use Rattle.storage_ops.specs.Shown.{Storage, home_of, is_there}
+use Rattle.storage_ops.proofs.NodeLaws.{volume_found}
+use Rattle.storage_ops.proofs.Tables.{drives_there, homed_volume}
+use Rattle.storage_ops.proofs.store.Store.home.Goals as goal
+
+pub returns-clause-volume : goal.returns-clause-volume
+returns-clause-volume g c =
+    let there = ap (λ (x : Storage g.row.D.Denot). is_there x.accounts.nodes c.args.uid) c.self.view_is ∙ c.requires in
+    let lt = homed_volume c.self.inside.segs.pages.volumes.vtocs (home_of c.self.inside.accounts c.args.uid) c.args.uid
+    (c.self.invariant.housed.homes c.args.uid there) in
+    let within = drives_there g.D.Drive.pages c.self.inside.segs.pages.volumes c.volumes.result.now _
+    (c.volumes.ensures.volumes ∙ ap (λ (x : Paging g.row.D.Denot). x.volumes) c.pages.ensures.pages)
+    c.count-count.ensures.parts lt in
+    subst (λ (n : ℕ). n < length c.args.self.now.segs.pages.volumes.drives)
+    (sym (volume_found c.self.inside.accounts.nodes c.args.uid _ c.in-Some.ensures.some))
+    (subst (λ (x : Storage g.row.D.Denot). (home_of c.self.inside.accounts c.args.uid).volume < length
+    x.segs.pages.volumes.drives) c.self.view_is within)

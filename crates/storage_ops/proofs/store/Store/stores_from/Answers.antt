@@ -1,0 +1,50 @@
+use Rattle.std.proofs.Common.{◌≡◌, ◌≤◌, ◌<◌, ℕ, List, Option, is_some, true, false, sym, ap, subst, ◌∙◌}
+use Rattle.vtoc.specs.Vtoc.{Entry, record_at}
+use Rattle.volumes.specs.Volumes.{Vols, vtoc_at}
+use Rattle.page_control.specs.Plain.{Paging}
+use Rattle.storage_ops.specs.Shown.{Shows, Storage, home_of, is_filed, is_there}
+use Rattle.storage_ops.proofs.Lengths.{from_told, within_told}
+use Rattle.storage_ops.proofs.store.Store.stores_from.Goals as goal
+
+pub returns-clause-answer : goal.returns-clause-answer
+returns-clause-answer g c = λ p s h.
+    let here : Storage g.row.D.Denot = record {
+      accounts = c.self.inside.accounts;
+      segs = c.self.inside.segs;
+      whos =
+          c.self.inside.whos.items;
+    } in
+    let there = ap (λ (x : Storage g.row.D.Denot). is_there x.accounts.nodes c.args.uid) c.self.view_is ∙ c.requires in
+    let home = c.home-home.ensures.home ∙ ap (λ (x : Storage g.row.D.Denot). home_of x.accounts c.args.uid)
+    (sym c.self.view_is) in
+    let shown = subst (λ (x : Storage g.row.D.Denot). Shows g.D.Drive.pages p s x) (sym c.self.view_is) h in
+    let table = c.vtoc.ensures ∙ ap (λ (x : Vols g.row.D.Denot). vtoc_at x c.home-home.result.volume)
+    (c.volumes.ensures.volumes ∙ ap (λ (x : Paging g.row.D.Denot). x.volumes) c.pages.ensures.pages) in
+    from_told here.accounts here.segs.pages.volumes.vtocs c.args.uid c.home-home.result c.vtoc.result.now there home
+    table
+    s.stored c.args.from c.names_from.result shown.pages.stored c.self.invariant.counted c.names_from.ensures.some
+    (subst (λ (n : ℕ). c.names_from.result ≡ false → (q : ℕ) → c.args.from ≤ q → q < n
+    → is_some (record_at c.vtoc.result.now c.home-home.result.entry q) ≡ false) c.pages_of-length.ensures
+    c.names_from.ensures.none)
+
+pub returns-clause-none : goal.returns-clause-none
+returns-clause-none g c = λ off q on.
+    let here : Storage g.row.D.Denot = record {
+      accounts = c.self.inside.accounts;
+      segs = c.self.inside.segs;
+      whos =
+          c.self.inside.whos.items;
+    } in
+    let there = ap (λ (x : Storage g.row.D.Denot). is_there x.accounts.nodes c.args.uid) c.self.view_is ∙ c.requires in
+    let home = c.home-home.ensures.home ∙ ap (λ (x : Storage g.row.D.Denot). home_of x.accounts c.args.uid)
+    (sym c.self.view_is) in
+    let table = c.vtoc.ensures ∙ ap (λ (x : Vols g.row.D.Denot). vtoc_at x c.home-home.result.volume)
+    (c.volumes.ensures.volumes ∙ ap (λ (x : Paging g.row.D.Denot). x.volumes) c.pages.ensures.pages) in
+    within_told here.accounts here.segs.pages.volumes.vtocs c.args.uid c.home-home.result c.vtoc.result.now there
+    home table
+    c.args.from c.names_from.result c.self.invariant.counted
+    (subst (λ (n : ℕ). c.names_from.result ≡ false → (q : ℕ) → c.args.from ≤ q → q < n
+    → is_some (record_at c.vtoc.result.now c.home-home.result.entry q) ≡ false) c.pages_of-length.ensures
+    c.names_from.ensures.none) off q
+    (ap (λ (x : Storage g.row.D.Denot). is_filed x.accounts x.segs.pages.volumes.vtocs c.args.uid q) c.self.view_is
+    ∙ on)

@@ -1,0 +1,121 @@
+//! The calls of segment control that leave what is shown as it is.
+
+ghost use Rattle.std.specs.Prelude.{◌≡◌, ◌<◌, Some, true, false, length, slice_index, slice_set};
+ghost use Rattle.std.specs.List.{list_any};
+ghost use Rattle.core_map.specs.declared.Frame.TheVariants.{Free, Started};
+ghost use Rattle.core_map.specs.CoreMap.{frame_at, is_bound, reads_of};
+ghost use Rattle.core_map.specs.Clock.{IsClockChoice, after_choice, clock_choice};
+ghost use Rattle.page_table.specs.declared.Ptw.TheVariants.{Here, Leaving};
+ghost use Rattle.active_segs.specs.Active.{IsActive};
+ghost use Rattle.page_control.specs.Plain.{number_in, plain, words_in};
+ghost use Rattle.page_control.specs.Effects.{framed, referred};
+ghost use Rattle.page_control.specs.Tied.{IsNotStarted, is_out, uid_in};
+ghost use Rattle.seg_control.specs.Control.{table_of, word_of};
+ghost use Rattle.seg_control.specs.Effects.{all_taken, worded};
+ghost use Rattle.script.specs.Plans.{Plan};
+ghost use Rattle.flat_model.specs.Store.{Store as Flat};
+ghost use Rattle.storage_ops.specs.Shown.{Shows};
+
+use crate::store::Store;
+use mword::Word;
+use volumes::Drive;
+
+impl<D: Drive> Store<D> {
+    /// The frame that the clock chooses among the bound ones, of which there is one. What is shown stays. (Source:
+    /// Corbató 1968.)
+    pub fn choose(&mut self) -> u32
+        requires { list_any is_bound self.old.segs.pages.core.frames ≡ true }
+        ensures choice { IsClockChoice self.old.segs.pages.core self.new.segs.pages.core result }
+        ensures chosen { clock_choice self.old.segs.pages.core ≡ Some result }
+        ensures effect { self.new ≡ record self.old {
+          segs = record self.old.segs {
+            pages = record self.old.segs.pages { core = after_choice self.old.segs.pages.core result };
+          };
+        } }
+        ensures bound { is_bound (frame_at self.new.segs.pages.core result) ≡ true }
+        ensures shown { (p : Plan) (s : Flat) → Shows D.pages p s self.old → Shows D.pages p s self.new }
+    {
+        self.segs.choose()
+    }
+
+    /// Reads word `at` through the bound frame `f`, whose used mark is on then. What is shown stays. (Source: Bensoussan,
+    /// Clingen and Daley 1972.)
+    pub fn word(&mut self, f: u32, at: u32) -> Word
+        requires bound { is_bound (frame_at self.old.segs.pages.core f) ≡ true }
+        requires at { at < 1024 }
+        ensures word { result ≡ slice_index (words_in (plain D.pages self.old.segs.pages) f) at }
+        ensures marks { plain D.pages self.new.segs.pages ≡ referred (plain D.pages self.old.segs.pages) f false }
+        ensures rest { self.new ≡ record self.old { segs = record self.old.segs { pages = self.new.segs.pages } } }
+        ensures volumes { self.new.segs.pages.volumes ≡ self.old.segs.pages.volumes }
+        ensures shown { (p : Plan) (s : Flat) → Shows D.pages p s self.old → Shows D.pages p s self.new }
+    {
+        self.segs.word(f, at)
+    }
+
+    /// Notes that page `p` of an active segment, which is on its record alone, is being read into the free frame `f`.
+    /// What is shown stays. (Source: own.)
+    pub fn start_in(&mut self, uid: u32, p: u32, f: u32)
+        requires active { IsActive self.old.segs.ast.entries uid }
+        requires page { p < length (table_of self.old.segs.ast uid) }
+        requires out { is_out (word_of self.old.segs.ast uid p) ≡ true }
+        requires frame { f < length self.old.segs.pages.core.frames }
+        requires free { frame_at self.old.segs.pages.core f ≡ Free }
+        requires first { IsNotStarted self.old.segs.pages.core uid p }
+        ensures started { plain D.pages self.new.segs.pages
+            ≡ framed (plain D.pages self.old.segs.pages) f (Started uid p) }
+        ensures rest { self.new ≡ record self.old { segs = record self.old.segs { pages = self.new.segs.pages } } }
+        ensures volumes { self.new.segs.pages.volumes ≡ self.old.segs.pages.volumes }
+        ensures shown { (plan : Plan) (s : Flat) → Shows D.pages plan s self.old → Shows D.pages plan s self.new }
+    {
+        self.segs.start_in(uid, p, f);
+    }
+
+    /// Lets no more references go through the word of the page in frame `f`, which is on its way out from now on. What
+    /// is shown stays. (Source: own.)
+    pub fn take(&mut self, uid: u32, f: u32)
+        requires active { IsActive self.old.segs.ast.entries uid }
+        requires bound { is_bound (frame_at self.old.segs.pages.core f) ≡ true }
+        requires own { uid_in (frame_at self.old.segs.pages.core f) ≡ uid }
+        requires here { word_of self.old.segs.ast uid (number_in (frame_at self.old.segs.pages.core f)) ≡ Here f }
+        ensures effect { self.new ≡ record self.old {
+          segs = record self.old.segs {
+            ast = worded self.old.segs.ast uid (number_in (frame_at self.old.segs.pages.core f)) (Leaving f);
+          };
+        } }
+        ensures shown { (p : Plan) (s : Flat) → Shows D.pages p s self.old → Shows D.pages p s self.new }
+    {
+        self.segs.take(uid, f);
+    }
+
+    /// Lets references go through the word of the page in frame `f` again, which was on its way out. What is shown stays.
+    /// (Source: own.)
+    pub fn back(&mut self, uid: u32, f: u32)
+        requires active { IsActive self.old.segs.ast.entries uid }
+        requires bound { is_bound (frame_at self.old.segs.pages.core f) ≡ true }
+        requires own { uid_in (frame_at self.old.segs.pages.core f) ≡ uid }
+        requires leaving { word_of self.old.segs.ast uid (number_in (frame_at self.old.segs.pages.core f))
+            ≡ Leaving f }
+        ensures effect { self.new ≡ record self.old {
+          segs = record self.old.segs {
+            ast = worded self.old.segs.ast uid (number_in (frame_at self.old.segs.pages.core f)) (Here f);
+          };
+        } }
+        ensures shown { (p : Plan) (s : Flat) → Shows D.pages p s self.old → Shows D.pages p s self.new }
+    {
+        self.segs.back(uid, f);
+    }
+
+    /// Lets no more references go through the words of those pages of a place that are in a frame and have number `from`
+    /// or above. What is shown stays. It looks at each word from there on. (Source: own.)
+    pub fn take_all(&mut self, aste: u32, from: u32)
+        requires { aste < length self.old.segs.ast.entries }
+        ensures effect { self.new ≡ record self.old {
+          segs = record self.old.segs {
+            ast = all_taken self.old.segs.ast aste from;
+          };
+        } }
+        ensures shown { (p : Plan) (s : Flat) → Shows D.pages p s self.old → Shows D.pages p s self.new }
+    {
+        self.segs.take_all(aste, from);
+    }
+}
