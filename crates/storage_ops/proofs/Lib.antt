@@ -1,5 +1,6 @@
 pub mod Alike
 pub mod Changed
+pub mod Fresh
 pub mod Homes
 pub mod Known
 pub mod Lengths

@@ -21,13 +21,14 @@ use Rattle.flat_model.specs.Pages.{is_stored, IsOnce}
 use Rattle.flat_model.specs.Store.{Store, records_of, entries_of}
 use Rattle.descriptor_seg.specs.declared.Sdw.TheVariants.{Present}
 use Rattle.descriptor_seg.specs.Descriptors.{sdw_at}
-use Rattle.vtoc.specs.Vtoc.{Entry as VtocEntry}
+use Rattle.vtoc.specs.Vtoc.{Entry as VtocEntry, entry_at}
 use Rattle.active_segs.specs.declared.Entry.{Entry}
 use Rattle.active_segs.specs.Active.{ActiveSegs, superior_at, uid_at as uid_in_place}
 use Rattle.active_segs.specs.Pool.{IsInPool}
 use Rattle.page_control.specs.declared.Home.{Home}
 use Rattle.page_control.specs.Plain.{Plain, plain}
-use Rattle.page_control.specs.Tied.{uid_at, map_at}
+use Rattle.page_control.specs.Tied.{flags_in, map_at, uid_at, vtoc_in}
+use Rattle.record_map.specs.Bitmap.{in_use}
 use Rattle.page_control.specs.Counts.{taken, used, size, entries}
 use Rattle.page_control.specs.Picture.{is_filed_at, words_at}
 use Rattle.seg_control.specs.Kept.{IsInactive}
@@ -224,3 +225,10 @@ IsCutAt a segs path = (n : Node) → segment_at a.nodes path ≡ Ok n → IsCut 
 -- the segment that a path leads to isn't active
 abbrev pub IsInactiveAt : {D : Type 0} → AccountMaps → Control D → List (List ℕ) → Type 0
 IsInactiveAt a segs path = (n : Node) → segment_at a.nodes path ≡ Ok n → IsInactive segs.ast.entries n.uid
+
+-- The volumes have the sizes that the script says, and no record of them and no VTOC entry is in use.
+pub record AreFresh (p : Plan) (flags : List (List Bool)) (vtocs : List (List (Option VtocEntry))) : Type 0 where
+  pub records : (v : ℕ) → records_of p v ≡ size flags v
+  pub entries : (v : ℕ) → entries_of p v ≡ length (vtoc_in vtocs v)
+  pub unused : (v r : ℕ) → in_use (flags_in flags v) r ≡ false
+  pub free : (v e : ℕ) → entry_at (vtoc_in vtocs v) e ≡ None

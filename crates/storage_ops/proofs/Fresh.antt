@@ -1,0 +1,288 @@
+-- Volumes of which nothing is in use, and a store of nothing at all.
+use Rattle.std.proofs.Common.{◌≡◌, ◌≢◌, ℕ, zero, suc, ◌+◌, ◌<◌, ◌≤◌, ◌/◌, ◌%◌, Bool, true, false, cond, eqb, ◌&&◌}
+use Rattle.std.proofs.Common.{List, [], ◌∷◌, length, map}
+use Rattle.std.proofs.Common.{Option, Some, None, get_or, is_some, replicate, sum, refl, sym, ap, subst, ◌∙◌, arith}
+use Rattle.std.proofs.Common.{inl, inr}
+use Rattle.std.specs.Prelude.{count_by, codes, nat_le, slice_get}
+use Rattle.std.specs.List.{list_all}
+use Rattle.std.proofs.lemmas.Bool.{cases_Bool, cases_lt}
+use Rattle.std.proofs.lemmas.Bool.Decides.{nat_tests}
+use Rattle.std.proofs.lemmas.Grind.{common_steps}
+use Rattle.std.proofs.lemmas.List.{get_or-replicate, get_or_past, length-replicate}
+use Rattle.std.proofs.lemmas.List.Sums.{sum_by-cons}
+use Rattle.mnames.specs.declared.principals.Who.{Who}
+use Rattle.script.specs.Plans.{Plan}
+use Rattle.script.specs.Forms.{ArePools, is_from, is_volume}
+use Rattle.script.specs.declared.plan.VolumeLine.{VolumeLine}
+use Rattle.mnames.specs.Names.{is_name}
+use Rattle.accounts.specs.Maps.{AccountMaps, Gains, count_of, root_alone}
+use Rattle.tree_model.specs.Tree.{Node, entries_on, taken_on, volume_in}
+use Rattle.flat_model.specs.Store.{Store, at_first, boot, entries_in, records_in as sizes_in}
+use Rattle.vtoc.specs.Vtoc.{Entry as VtocEntry, entry_at, record_at, records_in, uid_of}
+use Rattle.vtoc.specs.FileMap.{no_records}
+use Rattle.record_map.specs.Bitmap.{in_use}
+use Rattle.core_map.specs.declared.Frame.TheVariants.{Free}
+use Rattle.active_segs.specs.Active.{ActiveSegs, entry_at as place_at, no_segments, uid_at as uid_in_place, uid_in}
+use Rattle.known_segs.specs.Known.{uid_of as known_uid}
+use Rattle.page_control.specs.declared.Home.{Home}
+use Rattle.page_control.specs.Plain.{Plain, plain}
+use Rattle.page_control.specs.Tied.{AreFiled, flags_in, uid_at, vtoc_in}
+use Rattle.page_control.specs.Counts.{entries, size, taken, used}
+use Rattle.page_control.specs.Picture.{words_at}
+use Rattle.seg_control.specs.Control.{Links, kst_at}
+use Rattle.seg_control.specs.Effects.{no_links}
+use Rattle.seg_control.specs.Kept.{AreAtRest, HasTable, IsHomeOf}
+use Rattle.storage_ops.specs.Shown.{AreFresh, IsStore, Shows, Storage, is_filed, picture}
+
+pub pools_few : (pools : List ℕ) → ArePools pools → sum pools ≤ 1024
+pools_few [] h = absurd h
+pools_few (a ∷ []) h = absurd h
+pools_few (a ∷ b ∷ []) h = absurd h
+pools_few (a ∷ b ∷ c ∷ []) h = absurd h
+pools_few (a ∷ b ∷ c ∷ d ∷ []) h = (let few : a + b + c + d ≤ 1024 = h.4 in grind (arith, common_steps))
+pools_few (a ∷ b ∷ c ∷ d ∷ e ∷ rest) h = absurd h
+
+pub one_of : {X : Type 0} (n i : ℕ) (x : X) → get_or (replicate n x) i x ≡ x
+one_of n i x = elim (cases_lt i n) [
+  | inl lt ↦ get_or-replicate n i x x lt
+  | inr past ↦ get_or_past (replicate n x) i x (let long : length
+      (replicate n x) ≡ n = length-replicate n x in omega (arith, long, past))
+]
+
+-- ---- volumes of which nothing is used
+
+module _ (now : Plain) (free : (v e : ℕ) → entry_at (vtoc_in now.vtocs v) e ≡ None) (unused : (v r : ℕ)
+    → in_use (flags_in now.records v) r ≡ false) where
+  pub none_used : (home : Home) (u : ℕ) → uid_at now.vtocs home ≢ Some u
+  none_used home u e = (let clash : ◌≡◌ {A = Option ℕ} None (Some u) = sym (ap uid_of
+      (free home.volume home.entry)) ∙ e in cc)
+
+  none_recorded : (v e q r : ℕ) → record_at (vtoc_in now.vtocs v) e q ≢ Some r
+  unfolding no_records
+  none_recorded v e q r is =
+      let at : record_at (vtoc_in now.vtocs v) e q ≡ None = ap (λ (o : Option VtocEntry). get_or
+      (records_in o) q None) (free v e) ∙ blank q in
+      let clash : ◌≡◌ {A = Option ℕ} None (Some r) = sym at ∙ is in cc
+    where
+      blank : (q : ℕ) → get_or no_records q None ≡ None
+      blank q = one_of 256 q None
+
+  pub filed_fresh : AreFiled now.records now.vtocs
+  filed_fresh = record {
+    used = λ v e q r is. absurd (none_recorded v e q r is);
+    once = λ v e q g q' r is. absurd (none_recorded v e q r is);
+    named = λ v r is. (let clash : false ≡ true = sym (unused v r) ∙ is in cc);
+  }
+
+  pub rest_fresh : AreAtRest now
+  rest_fresh uid home is = absurd (none_used home uid is.used)
+
+-- ---- the volumes of a script
+
+both : (a b : Bool) → (a && b) ≡ true → (a ≡ true) × (b ≡ true)
+both true true h = (refl, refl)
+both true false h = cc
+both false b h = cc
+
+volume_sizes : (v : VolumeLine) → is_volume v ≡ true → (v.records ≤ 16384) × (1 ≤ v.entries)
+unfolding is_volume
+volume_sizes v h =
+    let named = both (is_name v.name) (is_from 1 16384 v.records && is_from 1 4097 v.entries) h in
+    let sized = both (is_from 1 16384 v.records) (is_from 1 4097 v.entries) named.1 in
+    let records = both (nat_le 1 v.records) (nat_le v.records 16384) sized.0 in
+    let entries = both (nat_le 1 v.entries) (nat_le v.entries 4097) sized.1 in
+    (le v.records 16384 records.1, le 1 v.entries entries.0)
+  where
+    le : (a b : ℕ) → nat_le a b ≡ true → a ≤ b
+    le a b h = grind (arith, nat_tests)
+
+pub records_most : (vs : List VolumeLine) (v : ℕ) → list_all is_volume vs ≡ true → sizes_in (slice_get vs v) < 65536
+records_most [] v h = omega arith
+records_most (x ∷ vs) zero h = (let few = (volume_sizes x (both (is_volume x)
+    (list_all is_volume vs) h).0).0 in omega (arith, few))
+records_most (x ∷ vs) (suc v) h = records_most vs v (both (is_volume x) (list_all is_volume vs) h).1
+
+pub entries_some : (vs : List VolumeLine) → list_all is_volume vs ≡ true → 1 ≤ length vs
+    → 1 ≤ entries_in (slice_get vs 0)
+entries_some [] h some = absurd (omega (arith, some))
+entries_some (x ∷ vs) h some = (volume_sizes x (both (is_volume x) (list_all is_volume vs) h).0).1
+
+-- ---- nothing at all
+
+pub none_active : (n place u : ℕ) → uid_in_place (replicate n None) place ≢ Some u
+none_active n place u e = (let clash : ◌≡◌ {A = Option ℕ} None (Some u) = sym (ap uid_in (one_of n place None))
+    ∙ e in cc)
+
+pub none_known : (n process number u : ℕ) → known_uid (kst_at (replicate n
+    (replicate 256 None)) process) number ≢ Some u
+none_known n process number u e = elim (cases_lt process n) [
+  | inl lt ↦ (let clash : ◌≡◌ {A = Option ℕ} None (Some u) = sym (ap (λ (kst : List (Option ℕ)). known_uid kst number)
+      (get_or-replicate n process (replicate 256 none) [] lt) ∙ one_of 256 number none) ∙ e in cc)
+  | inr past ↦ (let clash : ◌≡◌ {A = Option ℕ} None (Some u) = sym (ap (λ (kst : List (Option ℕ)). known_uid kst number)
+      (get_or_past (replicate n (replicate 256 none)) process [] (let long : length (replicate n
+      (replicate 256 none)) ≡ n = length-replicate n (replicate 256 none) in
+      omega (arith, long, past)))) ∙ e in cc)
+]
+  where
+    none : Option ℕ
+    none = None
+
+-- no node at all
+abbrev pub nothing : AccountMaps
+nothing = record { nodes = []; entries = []; next = 1; segments = []; counts = [] }
+
+no_pairs : (xs : List (ℕ × ℕ)) → ((u : ℕ) → 0 ≡ count_by (λ x. eqb x.0 u) xs) → xs ≡ []
+no_pairs [] none = refl
+no_pairs (x ∷ xs) none =
+    let first : count_by (λ y. eqb y.0 x.0) (x ∷ xs) ≡ cond {A = ℕ} (eqb x.0 x.0) 1 0 + count_by (λ y. eqb y.0 x.0) xs =
+    sum_by-cons (λ (y : ℕ × ℕ). cond (eqb y.0 x.0) 1 0) x xs in
+    let own : cond {A = ℕ} (eqb x.0 x.0) 1 0 ≡ 1 = ap (λ (z : Bool). cond {A = ℕ} z 1 0) (same x.0) in
+    let zero_count = none x.0 in
+    absurd (omega (arith, first, own, zero_count))
+  where
+    same : (n : ℕ) → eqb n n ≡ true
+    same n = grind (arith, nat_tests)
+
+taken_none : (stored : List (ℕ × ℕ)) (v : ℕ) → stored ≡ [] → taken_on [] stored v ≡ 0
+unfolding taken_on
+taken_none stored v is = ap (λ (xs : List (ℕ × ℕ)). count_by (λ x. eqb (volume_in [] x.0) v) xs) is
+
+entries_none : (v : ℕ) → entries_on [] v ≡ 0
+unfolding entries_on
+entries_none v = refl
+
+flags_none : (xs : List Bool) → ((r : ℕ) → in_use xs r ≡ false) → count_by (λ flag. flag) xs ≡ 0
+flags_none [] none = refl
+flags_none (true ∷ xs) none = (let clash : true ≡ false = none 0 in cc)
+flags_none (false ∷ xs) none = (let first : count_by (λ flag. flag) (false ∷ xs) ≡ 0 + count_by
+    (λ flag. flag) xs = sum_by-cons (λ (x : Bool). cond x 1 0) false xs in
+    let rest = flags_none xs (λ r. none (suc r)) in omega (arith, first, rest))
+
+places_none : (xs : List (Option VtocEntry)) → ((e : ℕ) → entry_at xs e ≡ None) → count_by is_some xs ≡ 0
+places_none [] none = refl
+places_none (Some x ∷ xs) none = (let clash : ◌≡◌ {A = Option VtocEntry} (Some x) None = none 0 in cc)
+places_none (None ∷ xs) none = (let first : count_by is_some (None ∷ xs) ≡ 0 + count_by is_some xs = sum_by-cons (λ
+    (x : Option VtocEntry). cond (is_some x) 1 0) None xs in
+    let rest = places_none xs (λ e. none (suc e)) in omega (arith, first, rest))
+
+module _ (now : Plain) (free : (v e : ℕ) → entry_at (vtoc_in now.vtocs v) e ≡ None) (unused : (v r : ℕ)
+    → in_use (flags_in now.records v) r ≡ false)
+    (ast : ActiveSegs) (links : Links) (whos : List Who) (inactive : (place u : ℕ)
+    → uid_in_place ast.entries place ≢ Some u)
+    (unknown : (process number u : ℕ) → known_uid (kst_at links.known process) number ≢ Some u)
+    (processes : length whos ≡ length links.known)
+    (short : (v : ℕ) → size now.records v < 65536) where
+  pub store_nothing : IsStore now ast links nothing whos
+  store_nothing = record {
+    housed = record {
+      homes = λ u t. cc;
+      there = λ home u e. absurd (none_used now free unused home u e);
+      only = λ home u e. absurd (none_used now free unused home u e);
+    };
+    counted = record {
+      counts = λ u t. cc;
+      inside = λ u q t on. cc;
+      absent = λ u off. refl;
+      most = λ u. omega arith;
+      flat = λ u d. refl;
+    };
+    taken = record {
+      records = λ stored v counts. flags_none (flags_in now.records v) (unused v)
+          ∙ sym (taken_none stored v (no_pairs stored counts));
+      entries = λ v. places_none (vtoc_in now.vtocs v) (free v) ∙ sym (entries_none v);
+      short = short;
+    };
+    active = record {
+      there = λ place u e. absurd (inactive place u e);
+      superiors = λ place u n e found. absurd (inactive place u e);
+      pools = λ place u n e found. absurd (inactive place u e);
+    };
+    rights = record {
+      modes = λ process number place pages u mode n d e found. absurd (inactive place u e);
+      lengths = λ process number place pages u mode n d e found. absurd (inactive place u e);
+    };
+    known = record { older = λ process number u e. absurd (unknown process number u e); processes = processes };
+  }
+
+-- the flat store of nothing at all
+abbrev pub blank : Plan → Store
+blank p = record {
+  nodes = [];
+  next = 1;
+  words = λ uid offset. 0;
+  stored = [];
+  known = replicate (length p.processes) (replicate 256 None);
+  processes = replicate (length p.processes) at_first;
+}
+
+pub shown_nothing : {D : Type 0} (drive : D → List (List ℕ)) (p : Plan) (t : Storage D) → t.accounts ≡ nothing
+    → AreFresh p t.segs.pages.volumes.records t.segs.pages.volumes.vtocs
+    → t.segs.links.known ≡ replicate (length p.processes) (replicate 256 None)
+    → t.whos ≡ map (λ x. x.who) p.processes → Shows drive p (blank p) t
+unfolding is_filed picture
+shown_nothing drive p t is fresh known whos = record {
+  tree = record {
+    nodes = ap (λ (x : AccountMaps). x.nodes) (sym is);
+    next = ap (λ (x : AccountMaps). x.next) (sym is);
+    counts = λ u. ap (λ (x : AccountMaps). count_of x u) is;
+  };
+  known = sym known;
+  pages = record {
+    stored = λ u q. ap (λ (x : AccountMaps). is_filed x t.segs.pages.volumes.vtocs u q) (sym is);
+    once = tt;
+    words = λ u o. sym (one_of 1024 (o % 1024) 0)
+        ∙ ap (λ (x : AccountMaps). get_or (picture x (words_at (plain drive t.segs.pages)) u (o / 1024))
+        (o % 1024) 0) (sym is);
+  };
+  script = record { records = fresh.records; entries = fresh.entries; whos = whos };
+}
+
+-- the root is the first node
+pub root_gains : (a : AccountMaps) (entry quota : ℕ) → a ≡ root_alone 0 entry quota
+    → Gains nothing a (record {
+      uid = 1;
+      superior = None;
+      name = codes "root";
+      directory = true;
+      volume = 0;
+      pages =
+          0;
+      quota = quota;
+      rows = [];
+    }) entry
+root_gains a entry quota is = record {
+  nodes = ap (λ (x : AccountMaps). x.nodes) is;
+  entries = ap (λ (x : AccountMaps). x.entries) is;
+  next = ap (λ (x : AccountMaps). x.next) is;
+  counts = λ u. ap (λ (x : AccountMaps). count_of x u) is;
+}
+
+pub boot_is : (p : Plan) (quota : ℕ) → quota ≡ p.quota
+    → record (blank p) {
+      nodes = record {
+        uid = 1;
+        superior = None;
+        name = codes "root";
+        directory = true;
+        volume = 0;
+        pages = 0;
+        quota
+            = quota;
+        rows = [];
+      } ∷ [];
+      next = 1 + 1;
+    } ≡ boot p
+unfolding boot
+boot_is p quota is = ap (λ (q : ℕ). record (blank p) {
+  nodes = record {
+    uid = 1;
+    superior = None;
+    name = codes "root";
+    directory = true;
+    volume = 0;
+    pages = 0;
+    quota = q;
+    rows = [];
+  } ∷ [];
+  next = 2;
+}) is

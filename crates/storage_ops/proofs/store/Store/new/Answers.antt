@@ -1,0 +1,121 @@
+use Rattle.std.proofs.Common.{◌≡◌, ℕ, Some, None, Option, Bool, true, false, List, length, map, is_some, replicate}
+use Rattle.std.proofs.Common.{refl, sym, ap, subst, ◌∙◌, arith, ◌<◌, ◌≤◌}
+use Rattle.std.proofs.lemmas.List.{length-replicate, length-map}
+use Rattle.script.specs.Plans.{Plan, ProcessPlan}
+use Rattle.mnames.specs.declared.principals.Who.{Who}
+use Rattle.volumes.specs.Volumes.{Vols}
+use Rattle.vtoc.specs.Vtoc.{Entry as VtocEntry, entry_at}
+use Rattle.active_segs.specs.Active.{ActiveSegs, uid_at as uid_in_place, no_segments}
+use Rattle.flat_model.specs.Store.{Store as Flat, boot}
+use Rattle.page_control.specs.Plain.{Paging, Plain, plain}
+use Rattle.page_control.specs.Tied.{flags_in, vtoc_in}
+use Rattle.seg_control.specs.Control.{Control, Links}
+use Rattle.storage_ops.specs.Shown.{AreFresh, IsStore, Shows, Storage}
+use Rattle.storage_ops.proofs.Fresh.{blank, boot_is, entries_some, filed_fresh, none_active, none_known, nothing}
+use Rattle.storage_ops.proofs.Fresh.{records_most, rest_fresh}
+use Rattle.storage_ops.proofs.Fresh.{root_gains, shown_nothing, store_nothing}
+use Rattle.storage_ops.proofs.Homes.{shown_new, store_new}
+use Rattle.storage_ops.proofs.Made.{length_inside}
+use Rattle.storage_ops.proofs.store.Store.new.Goals as goal
+
+pub new-requires-2-clause-records : goal.new-requires-2-clause-records
+new-requires-2-clause-records g c =
+    let fresh = subst (λ (x : Paging g.row.D.Denot). AreFresh c.args.script.now x.volumes.records x.volumes.vtocs)
+    (sym c.in_ok-pages.ensures) c.requires.fresh in
+    filed_fresh (plain g.D.Drive.pages c.in_ok-pages.pages) fresh.free fresh.unused
+
+pub new-requires-2-clause-rest : goal.new-requires-2-clause-rest
+new-requires-2-clause-rest g c =
+    let fresh = subst (λ (x : Paging g.row.D.Denot). AreFresh c.args.script.now x.volumes.records x.volumes.vtocs)
+    (sym c.in_ok-pages.ensures) c.requires.fresh in
+    rest_fresh (plain g.D.Drive.pages c.in_ok-pages.pages) fresh.free fresh.unused
+
+pub new_home-requires-clause-homed : goal.new_home-requires-clause-homed
+new_home-requires-clause-homed g c = record {
+  home = λ active. absurd (none_active _ active.0 1
+      (ap (λ (x : Control g.row.D.Denot). uid_in_place x.ast.entries active.0) (sym c.in_ok-segs.ensures) ∙ active.1));
+}
+
+pub unreachable-requires : goal.unreachable-requires
+unreachable-requires g c =
+    let first = subst (λ (x : Paging g.row.D.Denot). AreFresh c.args.script.now x.volumes.records x.volumes.vtocs)
+    (sym c.in_ok-pages.ensures) c.requires.fresh in
+    let fresh = subst (λ (x : Control g.row.D.Denot). AreFresh c.args.script.now x.pages.volumes.records
+    x.pages.volumes.vtocs) (sym c.in_ok-segs.ensures) first in
+    let plan = c.processes-processes.ensures.plan in
+    let some = entries_some c.args.script.now.volumes plan.volumes plan.some in
+    let size = fresh.entries 0 in
+    let on = c.in_default.ensures.none 0 None (omega (arith, some, size)) in
+    let clash : true ≡ false = sym on ∙ ap is_some (fresh.free 0 0) in cc
+
+pub invariant_of-result : goal.invariant_of-result
+invariant_of-result g c =
+    let first = subst (λ (x : Paging g.row.D.Denot). AreFresh c.args.script.now x.volumes.records x.volumes.vtocs)
+    (sym c.in_ok-pages.ensures) c.requires.fresh in
+    let fresh = subst (λ (x : Control g.row.D.Denot). AreFresh c.args.script.now x.pages.volumes.records
+    x.pages.volumes.vtocs) (sym c.in_ok-segs.ensures) first in
+    let plan = c.processes-processes.ensures.plan in
+    let old : Plain = plain g.D.Drive.pages c.in_ok-segs.segs.pages in
+    let now : Plain = plain g.D.Drive.pages c.new_home.new.self.pages in
+    let count : length c.in_ok-whos.whos.items ≡ length c.in_ok-segs.segs.links.known =
+    ap length c.in_ok-whos.ensures ∙ length-map c.args.script.now.processes (λ (x : ProcessPlan). x.who)
+    ∙ sym c.processes-processes.ensures.count
+    ∙ sym (length-replicate c.processes-processes.result (replicate 256 None))
+    ∙ ap (λ (x : Control g.row.D.Denot). length x.links.known) (sym c.in_ok-segs.ensures) in
+    let start = store_nothing old fresh.free fresh.unused c.in_ok-segs.segs.ast c.in_ok-segs.segs.links
+    c.in_ok-whos.whos.items
+    (λ place u e. none_active _ place u (ap (λ (x : Control g.row.D.Denot). uid_in_place x.ast.entries place)
+    (sym c.in_ok-segs.ensures) ∙ e))
+    (λ process number u e. none_known _ process number u (ap (λ
+    (x : Control g.row.D.Denot). Rattle.known_segs.specs.Known.uid_of
+    (Rattle.seg_control.specs.Control.kst_at x.links.known process) number) (sym c.in_ok-segs.ensures) ∙ e))
+    count (λ v. subst (λ (n : ℕ). n < 65536) (fresh.records v)
+    (records_most c.args.script.now.volumes v plan.volumes)) in
+    subst (λ (x : ActiveSegs). IsStore now x c.new_home.new.self.links c.in_ok-accounts.accounts
+    c.in_ok-whos.whos.items) (sym c.new_home.ensures.ast)
+    (subst (λ (x : Links). IsStore now c.in_ok-segs.segs.ast x c.in_ok-accounts.accounts c.in_ok-whos.whos.items)
+    (sym c.new_home.ensures.links)
+    (store_new nothing c.in_ok-accounts.accounts _ c.in-Some.entry
+    (root_gains c.in_ok-accounts.accounts c.in-Some.entry c.quota.result c.in_ok-accounts.ensures)
+    old now c.in_ok-segs.segs.ast c.in_ok-segs.segs.links refl refl tt c.in-Some.ensures.home c.in-Some.ensures.least
+    c.in-Some.ensures.uids
+    c.new_home.ensures.maps (ap (λ (x : Plain). x.records) c.in-Some.ensures.effect) c.in-Some.ensures.used
+    c.in_ok-whos.whos.items
+    (omega arith) (λ d. refl) start))
+
+pub returns-clause-shown : goal.returns-clause-shown
+returns-clause-shown g c =
+    let first = subst (λ (x : Paging g.row.D.Denot). AreFresh c.args.script.now x.volumes.records x.volumes.vtocs)
+    (sym c.in_ok-pages.ensures) c.requires.fresh in
+    let fresh = subst (λ (x : Control g.row.D.Denot). AreFresh c.args.script.now x.pages.volumes.records
+    x.pages.volumes.vtocs) (sym c.in_ok-segs.ensures) first in
+    let p : Plan = c.args.script.now in
+    let old : Plain = plain g.D.Drive.pages c.in_ok-segs.segs.pages in
+    let now : Plain = plain g.D.Drive.pages c.new_home.new.self.pages in
+    let t : Storage g.row.D.Denot = record {
+      accounts = nothing;
+      segs = c.in_ok-segs.segs;
+      whos =
+          c.in_ok-whos.whos.items;
+    } in
+    let u : Storage g.row.D.Denot = record {
+      accounts = c.in_ok-accounts.accounts;
+      segs = c.new_home.new.self;
+      whos =
+          c.in_ok-whos.whos.items;
+    } in
+    let known = ap (λ (x : Control g.row.D.Denot). x.links.known) c.in_ok-segs.ensures
+    ∙ ap (λ (n : ℕ). replicate n (replicate 256 None)) c.processes-processes.ensures.count in
+    subst (λ (x : Flat). Shows g.D.Drive.pages p x u) (boot_is p c.quota.result c.quota.ensures)
+    (shown_new nothing c.in_ok-accounts.accounts _ c.in-Some.entry
+    (root_gains c.in_ok-accounts.accounts c.in-Some.entry c.quota.result c.in_ok-accounts.ensures)
+    old now c.in_ok-segs.segs.ast c.in_ok-segs.segs.links refl refl tt c.in-Some.ensures.home c.in-Some.ensures.least
+    c.in-Some.ensures.uids
+    c.new_home.ensures.maps (ap (λ (x : Plain). x.records) c.in-Some.ensures.effect) c.in-Some.ensures.used
+    g.D.Drive.pages p (blank p) t u refl refl refl refl c.new_home.ensures.links refl refl refl c.new_home.ensures.words
+    (λ v. length_inside c.in_ok-segs.segs.pages.volumes.vtocs 0 c.in-Some.entry v _ _ (ap (λ
+    (x : Plain). x.vtocs) c.in-Some.ensures.effect))
+    c.pages-kept.ensures.kept
+    (λ place e. none_active _ place 1 (ap (λ (x : Control g.row.D.Denot). uid_in_place x.ast.entries place)
+    (sym c.in_ok-segs.ensures) ∙ e))
+    (shown_nothing g.D.Drive.pages p t refl fresh known c.in_ok-whos.ensures))

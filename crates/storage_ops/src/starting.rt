@@ -1,0 +1,60 @@
+//! The root alone.
+
+ghost use Rattle.std.specs.Prelude.{◌≡◌, IfOk, length, map};
+ghost use Rattle.active_segs.specs.Active.{no_segments};
+ghost use Rattle.seg_control.specs.Kept.{AreFree};
+ghost use Rattle.flat_model.specs.Store.{boot};
+ghost use Rattle.storage_ops.specs.Shown.{AreFresh, Shows};
+
+use crate::NoMemory;
+use crate::store::Store;
+use accounts::Accounts;
+use mnames::Who;
+use page_control::Pages;
+use script::Script;
+use seg_control::Segs;
+use std::alloc::Global;
+use volumes::{Drive, Volumes};
+
+/// For whom each process of a script runs, in their order.
+fn whos_of(alloc: Global, script: &Script) -> Result<Vec<Who>, NoMemory>
+    ensures { IfOk result (λ whos. whos.items ≡ map (λ x. x.who) script.now.processes) }
+{
+    let mut whos = Vec::new(alloc);
+    for process in 0..script.processes() {
+        whos.push(script.who(process).copied())
+            .map_err(|_| NoMemory)?;
+    }
+    Ok(whos)
+}
+
+impl<D: Drive> Store<D> {
+    /// A store of the root alone, on the first volume: nothing is active, known, connected or stored. The volumes must
+    /// have the script's sizes, with nothing of them in use. It takes all the memory that the store ever has.
+    ///
+    /// # Errors
+    /// `NoMemory` is want of memory.
+    pub fn new(alloc: Global, script: &Script, volumes: Volumes<D>) -> Result<Store<D>, NoMemory>
+        requires count { length volumes.drives ≡ length script.now.volumes }
+        requires fresh { AreFresh script.now volumes.records volumes.vtocs }
+        ensures shown { IfOk result (λ t. Shows D.pages script.now (boot script.now) t) }
+        ensures free { IfOk result (λ t. AreFree t.segs.pages.core) }
+        ensures inactive { IfOk result (λ t. t.segs.ast ≡ no_segments script.now.pools) }
+        ensures drives { IfOk result (λ t. t.segs.pages.volumes.drives ≡ volumes.drives) }
+    {
+        let processes = script.processes();
+        let whos = whos_of(alloc, script)?;
+        let pages = Pages::new(alloc, script.frames(), volumes)?;
+        let mut segs = Segs::new(alloc, pages, script.pools(), processes)?;
+        let _kept = segs.pages();
+        let Some(entry) = segs.new_home(0, 1) else {
+            unreachable!();
+        };
+        let accounts = Accounts::new(alloc, 0, entry, script.quota())?;
+        Ok(Store {
+            accounts,
+            segs,
+            whos,
+        })
+    }
+}
