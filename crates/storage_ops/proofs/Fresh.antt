@@ -3,7 +3,7 @@ use Rattle.std.proofs.Common.{◌≡◌, ◌≢◌, ℕ, zero, suc, ◌+◌, ◌
 use Rattle.std.proofs.Common.{List, [], ◌∷◌, length, map}
 use Rattle.std.proofs.Common.{Option, Some, None, get_or, is_some, replicate, sum, refl, sym, ap, subst, ◌∙◌, arith}
 use Rattle.std.proofs.Common.{inl, inr}
-use Rattle.std.specs.Prelude.{count_by, codes, nat_le, slice_get}
+use Rattle.std.specs.Prelude.{count_by, codes, nat_le, nat_lt, slice_get}
 use Rattle.std.specs.List.{list_all}
 use Rattle.std.proofs.lemmas.Bool.{cases_Bool, cases_lt}
 use Rattle.std.proofs.lemmas.Bool.Decides.{nat_tests}
@@ -12,7 +12,8 @@ use Rattle.std.proofs.lemmas.List.{get_or-replicate, get_or_past, length-replica
 use Rattle.std.proofs.lemmas.List.Sums.{sum_by-cons}
 use Rattle.mnames.specs.declared.principals.Who.{Who}
 use Rattle.script.specs.Plans.{Plan}
-use Rattle.script.specs.Forms.{ArePools, is_from, is_volume}
+use Rattle.script.specs.Forms.{ArePools, is_command, is_from, is_path, is_volume}
+use Rattle.script.specs.declared.commands.Command.TheVariants as command
 use Rattle.script.specs.declared.plan.VolumeLine.{VolumeLine}
 use Rattle.mnames.specs.Names.{is_name}
 use Rattle.accounts.specs.Maps.{AccountMaps, Gains, count_of, root_alone}
@@ -286,3 +287,19 @@ boot_is p quota is = ap (λ (q : ℕ). record (blank p) {
   } ∷ [];
   next = 2;
 }) is
+
+-- the volume of a command is one of so many
+pub dir_volume : (volumes : ℕ) (path : List (List ℕ)) (volume : ℕ)
+    → is_command volumes (command.MkDir path volume) ≡ true → volume < volumes
+unfolding is_command
+dir_volume volumes path volume h = (let lt = (both (is_path path) (nat_lt volume volumes) h).1 in grind
+    (arith, nat_tests))
+
+pub seg_volume : (volumes : ℕ) (path : List (List ℕ)) (pages volume : ℕ)
+    → is_command volumes (command.MkSeg path pages volume) ≡ true → volume < volumes
+unfolding is_command
+seg_volume volumes path pages volume h =
+    (let lt = (both (is_from 1 256 pages) (nat_lt volume volumes) (both (is_path path)
+    (is_from 1 256 pages && nat_lt volume volumes) h).1).1 in grind (arith, nat_tests))
+
+pub ruleset volume_there = (dir_volume, seg_volume)

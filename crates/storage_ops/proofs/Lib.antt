@@ -4,6 +4,7 @@ pub mod Fresh
 pub mod Homes
 pub mod Known
 pub mod Lengths
+pub mod Less
 pub mod Made
 pub mod NamingLaws
 pub mod NodeLaws

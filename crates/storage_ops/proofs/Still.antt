@@ -1,5 +1,7 @@
 -- A store of which frames, marks or words of page tables alone have changed.
-use Rattle.std.proofs.Common.{◌≡◌, ℕ, ◌<◌, ◌/◌, ◌%◌, Bool, List, Option, get_or, refl, sym, ap, subst, ◌∙◌}
+use Rattle.std.proofs.Common.{◌≡◌, ℕ, ◌<◌, ◌/◌, ◌%◌, Bool, true, false, cond, List, Option, Result, Ok, Err, get_or}
+use Rattle.std.proofs.Common.{replicate, refl, sym}
+use Rattle.std.proofs.Common.{ap, subst, ◌∙◌, inl, inr}
 use Rattle.mnames.specs.declared.principals.Who.{Who}
 use Rattle.script.specs.Plans.{Plan}
 use Rattle.accounts.specs.Maps.{AccountMaps}
@@ -10,8 +12,13 @@ use Rattle.active_segs.specs.Active.{ActiveSegs}
 use Rattle.page_control.specs.declared.Home.{Home}
 use Rattle.page_control.specs.Plain.{Plain, plain}
 use Rattle.page_control.specs.Counts.{entries, size, taken, used}
-use Rattle.page_control.specs.Picture.{words_at}
+use Rattle.page_control.specs.Picture.{KeepsWords, words_at}
 use Rattle.seg_control.specs.Control.{Links}
+use Rattle.storage_ops.specs.Shown.{home_of, is_there}
+use Rattle.seg_control.specs.Effects.{table_here}
+use Rattle.seg_control.specs.Kept.{IsHomeFor}
+use Rattle.page_table.specs.declared.Ptw.{Ptw}
+use Rattle.volumes.specs.Volumes.{KeepsTables}
 use Rattle.storage_ops.specs.Shown.{AreCounted, AreHoused, AreInTree, HaveRights, IsStore, Shows, Storage, is_filed}
 use Rattle.storage_ops.specs.Shown.{picture}
 
@@ -61,6 +68,60 @@ shown_still drive p s t u accounts whos links vtocs records words h = record {
   script = record {
     records = λ v. h.script.records v ∙ ap (λ (f : List (List Bool)). size f v) (sym records);
     entries = λ v. h.script.entries v ∙ ap (λ (x : List (List (Option VtocEntry))). entries x v) (sym vtocs);
+    whos = whos ∙ h.script.whos;
+  };
+}
+
+-- ---- a call that concerns one segment at its home, and keeps all words
+
+-- a home that a call takes for a segment is the node's
+pub own_home : (now : Plain) (a : AccountMaps) (uid : ℕ) (home : Home) (table : List Ptw) → AreHoused a now.vtocs
+    → IsHomeFor now uid home table
+    → home ≡ home_of a uid
+own_home now a uid home table h is = elim is [
+  | inl only ↦ h.only home uid only.used
+  | inr tie ↦ h.only home uid tie.used
+]
+
+pub picture_kept : (old now : Plain) (a : AccountMaps) (uid : ℕ) (home : Home) → AreHoused a old.vtocs
+    → home ≡ home_of a uid → KeepsWords old now uid home
+    → (u q : ℕ) → picture a (words_at now) u q ≡ picture a (words_at old) u q
+unfolding picture
+picture_kept old now a uid home h own kept u q = by (is_there a.nodes u) refl
+  where
+    by : (z : Bool) → is_there a.nodes u ≡ z
+        → cond z (words_at now u (home_of a u) q) (replicate 1024 0) ≡ cond z (words_at old u (home_of a u) q)
+        (replicate 1024 0)
+    by true t = kept.words u (home_of a u) q (record { used = h.homes u t; own = λ is. ap (home_of a) is ∙ sym own })
+    by false t = refl
+
+pub here_entries : {T E : Type 0} (ast : ActiveSegs) (uid p f : ℕ) (r : Result T E)
+    → ((table_here ast uid p f r).entries ≡ ast.entries) × ((table_here ast uid p f r).sizes ≡ ast.sizes)
+here_entries ast uid p f (Ok x) = (refl, refl)
+here_entries ast uid p f (Err e) = (refl, refl)
+
+pub shown_kept : {D : Type 0} (drive : D → List (List ℕ)) (p : Plan) (s : Store) (t u : Storage D) (uid : ℕ)
+    (home : Home) → u.accounts ≡ t.accounts → u.whos ≡ t.whos
+    → u.segs.links ≡ t.segs.links → KeepsTables t.segs.pages.volumes u.segs.pages.volumes
+    → AreHoused t.accounts t.segs.pages.volumes.vtocs
+    → home ≡ home_of t.accounts uid → KeepsWords (plain drive t.segs.pages) (plain drive u.segs.pages) uid home
+    → Shows drive p s t → Shows drive p s u
+shown_kept drive p s t u uid home accounts whos links tables housed own kept h = record {
+  tree = rw accounts h.tree;
+  known = h.known ∙ ap (λ (l : Links). l.known) (sym links);
+  pages = record {
+    stored = λ v q. h.pages.stored v q ∙ ap (λ (x : List (List (Option VtocEntry))). is_filed t.accounts x v q)
+        (sym tables.vtocs)
+        ∙ ap (λ (x : AccountMaps). is_filed x u.segs.pages.volumes.vtocs v q) (sym accounts);
+    once = h.pages.once;
+    words = λ v o. h.pages.words v o ∙ ap (λ (ws : List ℕ). get_or ws (o % 1024) 0)
+        (sym (picture_kept (plain drive t.segs.pages) (plain drive u.segs.pages) t.accounts uid home housed own kept
+        v (o / 1024))
+        ∙ ap (λ (x : AccountMaps). picture x (words_at (plain drive u.segs.pages)) v (o / 1024)) (sym accounts));
+  };
+  script = record {
+    records = λ v. h.script.records v ∙ ap (λ (f : List (List Bool)). size f v) (sym tables.records);
+    entries = λ v. h.script.entries v ∙ ap (λ (x : List (List (Option VtocEntry))). entries x v) (sym tables.vtocs);
     whos = whos ∙ h.script.whos;
   };
 }

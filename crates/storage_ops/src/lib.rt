@@ -19,6 +19,7 @@ mod rights;
 mod sizes;
 mod starting;
 mod store;
+mod testing;
 
 pub use store::Store;
 

@@ -1,23 +1,29 @@
 //! The calls of segment control that leave what is shown as it is.
 
-ghost use Rattle.std.specs.Prelude.{◌≡◌, ◌<◌, Some, true, false, length, slice_index, slice_set};
+ghost use Rattle.std.specs.Prelude.{◌≡◌, ◌<◌, All, IsSome, Some, [], true, false, length, slice_index};
 ghost use Rattle.std.specs.List.{list_any};
 ghost use Rattle.core_map.specs.declared.Frame.TheVariants.{Free, Started};
 ghost use Rattle.core_map.specs.CoreMap.{frame_at, is_bound, reads_of};
 ghost use Rattle.core_map.specs.Clock.{IsClockChoice, after_choice, clock_choice};
 ghost use Rattle.page_table.specs.declared.Ptw.TheVariants.{Here, Leaving};
-ghost use Rattle.active_segs.specs.Active.{IsActive};
+ghost use Rattle.active_segs.specs.Active.{HasNoInferior, IsActive, IsAway, deactivated, table_at};
+ghost use Rattle.trailers.specs.Trailer.{trailers_of};
+ghost use Rattle.seg_control.specs.Kept.{IsHomeFor, IsNotRead};
 ghost use Rattle.page_control.specs.Plain.{number_in, plain, words_in};
-ghost use Rattle.page_control.specs.Effects.{framed, referred};
+ghost use Rattle.page_control.specs.Effects.{after_read, framed, referred};
+ghost use Rattle.page_control.specs.Drives.{CallsDrive};
+ghost use Rattle.volumes.specs.Volumes.{KeepsTables};
 ghost use Rattle.page_control.specs.Tied.{IsNotStarted, is_out, uid_in};
-ghost use Rattle.seg_control.specs.Control.{table_of, word_of};
-ghost use Rattle.seg_control.specs.Effects.{all_taken, worded};
+ghost use Rattle.seg_control.specs.Control.{leads_at, table_of, word_of};
+ghost use Rattle.seg_control.specs.Effects.{all_cut, all_taken, cut_one, table_here, worded};
 ghost use Rattle.script.specs.Plans.{Plan};
 ghost use Rattle.flat_model.specs.Store.{Store as Flat};
 ghost use Rattle.storage_ops.specs.Shown.{Shows};
 
 use crate::store::Store;
 use mword::Word;
+use page_control::Home;
+use site_io::Failed;
 use volumes::Drive;
 
 impl<D: Drive> Store<D> {
@@ -117,5 +123,80 @@ impl<D: Drive> Store<D> {
         ensures shown { (p : Plan) (s : Flat) → Shows D.pages p s self.old → Shows D.pages p s self.new }
     {
         self.segs.take_all(aste, from);
+    }
+
+    /// Cuts one connected descriptor, and takes its trailer out. What is shown stays. (Source: Bensoussan, Clingen and
+    /// Daley 1972.)
+    pub fn cut_one(&mut self, process: u32, number: u32)
+        requires process { process < length self.old.segs.links.known }
+        requires connected { IsSome (leads_at self.old.segs.links.descriptors process number) }
+        ensures effect { self.new ≡ record self.old {
+          segs = record self.old.segs {
+            links = cut_one self.old.segs.links process number;
+          };
+        } }
+        ensures shown { (p : Plan) (s : Flat) → Shows D.pages p s self.old → Shows D.pages p s self.new }
+    {
+        self.segs.cut_one(process, number);
+    }
+
+    /// Cuts every descriptor that leads to a place. What is shown stays. It goes through the trailers of that place
+    /// alone. (Source: Bensoussan, Clingen and Daley 1972; Organick 1972.)
+    pub fn cut_all(&mut self, aste: u32)
+        requires { aste < length self.old.segs.ast.entries }
+        ensures effect { self.new ≡ record self.old {
+          segs = record self.old.segs {
+            links = all_cut self.old.segs.links aste;
+          };
+        } }
+        ensures shown { (p : Plan) (s : Flat) → Shows D.pages p s self.old → Shows D.pages p s self.new }
+    {
+        self.segs.cut_all(aste);
+    }
+
+    /// Makes the segment of a place inactive. No active segment is below it, no page of it is in a frame, on its way out
+    /// or being read, and no descriptor leads there. What is shown stays. (Source: Bensoussan, Clingen and Daley 1972;
+    /// Organick 1972.)
+    pub fn deactivate(&mut self, place: u32)
+        requires place { place < length self.old.segs.ast.entries }
+        requires leaf { HasNoInferior self.old.segs.ast.entries place }
+        requires away { All IsAway (table_at self.old.segs.ast.tables place) }
+        requires idle { IsNotRead self.old.segs.pages.core self.old.segs.ast.entries place }
+        requires cut { trailers_of self.old.segs.links.trailers place ≡ [] }
+        ensures effect { self.new ≡ record self.old {
+          segs = record self.old.segs {
+            ast = deactivated self.old.segs.ast place;
+          };
+        } }
+        ensures shown { (p : Plan) (s : Flat) → Shows D.pages p s self.old → Shows D.pages p s self.new }
+    {
+        self.segs.deactivate(place);
+    }
+
+    /// Reads page `p` of an active segment into the frame `f` that was started for it, and binds the frame to it. What is
+    /// shown stays. It costs one read of the drive. (Source: Bensoussan, Clingen and Daley 1972.)
+    ///
+    /// # Errors
+    /// `Failed` only where the faults of its drive rose; `f` is free then, and the rest as before.
+    pub fn end_in(&mut self, uid: u32, p: u32, home: Home, f: u32) -> Result<(), Failed>
+        requires active { IsActive self.old.segs.ast.entries uid }
+        requires page { p < length (table_of self.old.segs.ast uid) }
+        requires started { frame_at self.old.segs.pages.core f ≡ Started uid p }
+        requires home { IsHomeFor (plain D.pages self.old.segs.pages) uid home (table_of self.old.segs.ast uid) }
+        ensures effect { plain D.pages self.new.segs.pages
+            ≡ after_read (plain D.pages self.old.segs.pages) uid p home f result }
+        ensures word { self.new.segs.ast ≡ table_here self.old.segs.ast uid p f result }
+        ensures rest { self.new ≡ record self.old {
+          segs = record self.old.segs {
+            pages = self.new.segs.pages;
+            ast = self.new.segs.ast;
+          };
+        } }
+        ensures tables { KeepsTables self.old.segs.pages.volumes self.new.segs.pages.volumes }
+        ensures drives { CallsDrive D.plan D.places D.faults self.old.segs.pages.volumes.drives
+            self.new.segs.pages.volumes.drives home.volume result }
+        ensures shown { (plan : Plan) (s : Flat) → Shows D.pages plan s self.old → Shows D.pages plan s self.new }
+    {
+        self.segs.end_in(uid, p, home, f)
     }
 }

@@ -1,0 +1,150 @@
+-- A store of which fewer descriptors are connected, or fewer segments active.
+use Rattle.std.proofs.Common.{◌≡◌, ◌≢◌, ℕ, Bool, true, false, cond, eqb, List, [], map, Option, Some, None, set}
+use Rattle.std.proofs.Common.{get_or, refl, sym, ap, subst, ◌∙◌}
+use Rattle.std.proofs.Common.{inl, inr}
+use Rattle.std.proofs.lemmas.Bool.{cases_eq}
+use Rattle.std.proofs.lemmas.List.{get_or-set_other}
+use Rattle.std.proofs.Math.ListN.{get_or-map}
+use Rattle.mnames.specs.declared.modes.Mode.{Mode}
+use Rattle.mnames.specs.declared.principals.Who.{Who}
+use Rattle.script.specs.Plans.{Plan}
+use Rattle.accounts.specs.Maps.{AccountMaps}
+use Rattle.flat_model.specs.Store.{Store}
+use Rattle.tree_model.specs.Tree.{Node, node_in}
+use Rattle.descriptor_seg.specs.declared.Sdw.{Sdw}
+use Rattle.descriptor_seg.specs.declared.Sdw.TheVariants.{Fault, Present}
+use Rattle.descriptor_seg.specs.Descriptors.{sdw_at}
+use Rattle.active_segs.specs.declared.Entry.{Entry}
+use Rattle.active_segs.specs.Active.{ActiveSegs, deactivated, superior_in, uid_at as uid_in_place, uid_in}
+use Rattle.page_control.specs.Plain.{Plain}
+use Rattle.seg_control.specs.Control.{Links, sdws_at}
+use Rattle.seg_control.specs.Effects.{all_cut, faulting, unlinked}
+use Rattle.storage_ops.specs.Shown.{IsStore, Shows, Storage}
+use Rattle.storage_ops.proofs.Known.{set_told}
+
+-- each descriptor that is connected was so before
+AreFewer : Links → Links → Type 0
+AreFewer old new = (process number place pages : ℕ) (mode : Mode)
+    → sdw_at (sdws_at new.descriptors process) number ≡ Present place mode pages
+    → sdw_at (sdws_at old.descriptors process) number ≡ Present place mode pages
+
+store_less : (now : Plain) (ast : ActiveSegs) (links new : Links) (a : AccountMaps) (whos : List Who)
+    → new.known ≡ links.known → AreFewer links new
+    → IsStore now ast links a whos → IsStore now ast new a whos
+unfolding AreFewer
+store_less now ast links new a whos known fewer h = record {
+  housed = h.housed;
+  counted = h.counted;
+  taken = h.taken;
+  active = h.active;
+  rights = record {
+    modes = λ process number place pages u mode n d e found. h.rights.modes process number place pages u mode n
+        (fewer process number place pages mode d) e found;
+    lengths = λ process number place pages u mode n d e found. h.rights.lengths process number place pages u mode n
+        (fewer process number place pages mode d) e found;
+  };
+  known = rw known h.known;
+}
+
+shown_less : {D : Type 0} (drive : D → List (List ℕ)) (p : Plan) (s : Store) (t : Storage D) (new : Links)
+    → new.known ≡ t.segs.links.known
+    → Shows drive p s t → Shows drive p s (record t { segs = record t.segs { links = new } })
+shown_less drive p s t new known h = record {
+  tree = h.tree;
+  known = h.known
+      ∙ sym known;
+  pages = h.pages;
+  script = h.script;
+}
+
+-- ---- one descriptor is cut
+
+one_known : (links : Links) (process number : ℕ) (o : Option ℕ) → (unlinked links process number o).known ≡ links.known
+one_known links process number None = refl
+one_known links process number (Some place) = refl
+
+one_fewer : (links : Links) (process number : ℕ) (o : Option ℕ) → AreFewer links (unlinked links process number o)
+unfolding AreFewer
+one_fewer links process number None q n place pages mode e = e
+one_fewer links process number (Some x) q n place pages mode e = elim (cases_eq q process) [
+  | inr ne ↦ sym (ap (λ (words : List Sdw). sdw_at words n) (get_or-set_other links.descriptors process q (set
+      (sdws_at links.descriptors process) number Fault) [] ne)) ∙ e
+  | inl same ↦
+      set_told (λ (words : List Sdw). sdw_at words n ≡ Present place mode pages
+      → sdw_at (sdws_at links.descriptors q) n ≡ Present place mode pages)
+      links.descriptors process q (set (sdws_at links.descriptors process) number Fault) []
+      (λ is. ap (λ (k : ℕ). sdw_at (sdws_at links.descriptors k) n) same
+      ∙ set_told (λ (w : Sdw). w ≡ Present place mode pages → sdw_at
+      (sdws_at links.descriptors process) n ≡ Present place mode pages)
+      (sdws_at links.descriptors process) number n Fault Fault (λ no. cc) (λ at. at) is)
+      (λ is. is) e
+]
+
+pub store_cut : (now : Plain) (ast : ActiveSegs) (links : Links) (a : AccountMaps) (whos : List Who)
+    (process number : ℕ) (o : Option ℕ)
+    → IsStore now ast links a whos → IsStore now ast (unlinked links process number o) a whos
+store_cut now ast links a whos process number o h =
+    store_less now ast links (unlinked links process number o) a whos (one_known links process number o)
+    (one_fewer links process number o) h
+
+-- ---- all descriptors of a place are cut
+
+still_there : (place : ℕ) (w : Sdw) (x pages : ℕ) (mode : Mode) → faulting place w ≡ Present x mode pages
+    → w ≡ Present x mode pages
+still_there place Fault x pages mode e = cc
+still_there place (Present y m n) x pages mode e = here (eqb y place) e
+  where
+    here : (z : Bool) → cond z Fault (Present y m n) ≡ Present x mode pages → Present y m n ≡ Present x mode pages
+    here true e = cc
+    here false e = e
+
+all_known : (links : Links) (place : ℕ) → (all_cut links place).known ≡ links.known
+unfolding all_cut
+all_known links place = refl
+
+all_fewer : (links : Links) (place : ℕ) → AreFewer links (all_cut links place)
+unfolding AreFewer all_cut
+all_fewer links place q n x pages mode e =
+    still_there place (sdw_at (sdws_at links.descriptors q) n) x pages mode
+    (sym (ap (λ (words : List Sdw). sdw_at words n) (get_or-map (map (faulting place)) links.descriptors q [])
+    ∙ get_or-map (faulting place) (sdws_at links.descriptors q) n Fault) ∙ e)
+
+pub store_all_cut : (now : Plain) (ast : ActiveSegs) (links : Links) (a : AccountMaps) (whos : List Who) (place : ℕ)
+    → IsStore now ast links a whos → IsStore now ast (all_cut links place) a whos
+store_all_cut now ast links a whos place h = store_less now ast links (all_cut links place) a whos
+    (all_known links place) (all_fewer links place) h
+
+pub shown_all_cut : {D : Type 0} (drive : D → List (List ℕ)) (p : Plan) (s : Store) (t : Storage D) (place : ℕ)
+    → Shows drive p s t
+    → Shows drive p s (record t { segs = record t.segs { links = all_cut t.segs.links place } })
+shown_all_cut drive p s t place h = shown_less drive p s t (all_cut t.segs.links place) (all_known t.segs.links place) h
+
+-- ---- a segment becomes inactive
+
+was_active : (entries : List (Option Entry)) (place q u : ℕ) → uid_in_place (set entries place None) q ≡ Some u
+    → uid_in_place entries q ≡ Some u
+was_active entries place q u =
+    set_told (λ (o : Option Entry). uid_in o ≡ Some u → uid_in_place entries q ≡ Some u) entries place q None None
+    (λ e. cc) (λ e. e)
+
+pub store_inactive : (now : Plain) (ast : ActiveSegs) (links : Links) (a : AccountMaps) (whos : List Who) (place : ℕ)
+    → IsStore now ast links a whos → IsStore now (deactivated ast place) links a whos
+store_inactive now ast links a whos place h = record {
+  housed = h.housed;
+  counted = h.counted;
+  taken = h.taken;
+  active = record {
+    there = λ q u e. h.active.there q u (was_active ast.entries place q u e);
+    superiors = λ q u n e found. set_told (λ (o : Option Entry). uid_in o ≡ Some u
+        → superior_in o ≡ n.superior) ast.entries place q None None
+        (λ no. cc) (λ at. h.active.superiors q u n at found) e;
+    pools = λ q u n e found. h.active.pools q u n (was_active ast.entries place q u e) found;
+  };
+  rights = record {
+    modes = λ process number q pages u mode n d e found. h.rights.modes process number q pages u mode n d
+        (was_active ast.entries place q u e) found;
+    lengths = λ process number q pages u mode n d e found. h.rights.lengths process number q pages u mode n d
+        (was_active ast.entries place q u e) found;
+  };
+  known = h.known;
+}
