@@ -1,11 +1,11 @@
 -- Volumes of which nothing is in use, and a store of nothing at all.
 use Rattle.std.proofs.Common.{◌≡◌, ◌≢◌, ℕ, zero, suc, ◌+◌, ◌<◌, ◌≤◌, ◌/◌, ◌%◌, Bool, true, false, cond, eqb, ◌&&◌}
 use Rattle.std.proofs.Common.{List, [], ◌∷◌, length, map}
-use Rattle.std.proofs.Common.{Option, Some, None, get_or, is_some, replicate, sum, refl, sym, ap, subst, ◌∙◌, arith}
+use Rattle.std.proofs.Common.{Option, Some, None, get_or, is_some, replicate, sum, refl, sym, ap, ◌∙◌, arith}
 use Rattle.std.proofs.Common.{inl, inr}
 use Rattle.std.specs.Prelude.{count_by, codes, nat_le, nat_lt, slice_get}
 use Rattle.std.specs.List.{list_all}
-use Rattle.std.proofs.lemmas.Bool.{cases_Bool, cases_lt}
+use Rattle.std.proofs.lemmas.Bool.{cases_lt}
 use Rattle.std.proofs.lemmas.Bool.Decides.{nat_tests}
 use Rattle.std.proofs.lemmas.Grind.{common_steps}
 use Rattle.std.proofs.lemmas.List.{get_or-replicate, get_or_past, length-replicate}
@@ -17,22 +17,20 @@ use Rattle.script.specs.declared.commands.Command.TheVariants as command
 use Rattle.script.specs.declared.plan.VolumeLine.{VolumeLine}
 use Rattle.mnames.specs.Names.{is_name}
 use Rattle.accounts.specs.Maps.{AccountMaps, Gains, count_of, root_alone}
-use Rattle.tree_model.specs.Tree.{Node, entries_on, taken_on, volume_in}
+use Rattle.tree_model.specs.Tree.{entries_on, taken_on, volume_in}
 use Rattle.flat_model.specs.Store.{Store, at_first, boot, entries_in, records_in as sizes_in}
 use Rattle.vtoc.specs.Vtoc.{Entry as VtocEntry, entry_at, record_at, records_in, uid_of}
 use Rattle.vtoc.specs.FileMap.{no_records}
 use Rattle.record_map.specs.Bitmap.{in_use}
-use Rattle.core_map.specs.declared.Frame.TheVariants.{Free}
-use Rattle.active_segs.specs.Active.{ActiveSegs, entry_at as place_at, no_segments, uid_at as uid_in_place, uid_in}
+use Rattle.active_segs.specs.Active.{ActiveSegs, uid_at as uid_in_place, uid_in}
 use Rattle.known_segs.specs.Known.{uid_of as known_uid}
 use Rattle.page_control.specs.declared.Home.{Home}
 use Rattle.page_control.specs.Plain.{Plain, plain}
 use Rattle.page_control.specs.Tied.{AreFiled, flags_in, uid_at, vtoc_in}
-use Rattle.page_control.specs.Counts.{entries, size, taken, used}
+use Rattle.page_control.specs.Counts.{size}
 use Rattle.page_control.specs.Picture.{words_at}
 use Rattle.seg_control.specs.Control.{Links, kst_at}
-use Rattle.seg_control.specs.Effects.{no_links}
-use Rattle.seg_control.specs.Kept.{AreAtRest, HasTable, IsHomeOf}
+use Rattle.seg_control.specs.Kept.{AreAtRest}
 use Rattle.storage_ops.specs.Shown.{AreFresh, IsStore, Shows, Storage, is_filed, picture}
 
 pub pools_few : (pools : List ℕ) → ArePools pools → sum pools ≤ 1024

@@ -1,15 +1,12 @@
 -- Stored pages from one on, and the length of a segment.
-use Rattle.std.proofs.Common.{◌≡◌, ◌≢◌, ℕ, ◌<◌, ◌≤◌, Bool, true, false, cond, eqb, not, ◌&&◌, List, [], ◌∷◌, map}
-use Rattle.std.proofs.Common.{Option, Some, None, Ok, Err, is_some}
-use Rattle.std.proofs.Common.{refl, sym, ap, subst, ◌∙◌, arith, inl, inr, ◌⊎◌}
+use Rattle.std.proofs.Common.{◌≡◌, ◌≢◌, ℕ, ◌<◌, ◌≤◌, Bool, true, false, cond, eqb, not, ◌&&◌, List, [], ◌∷◌}
+use Rattle.std.proofs.Common.{Option, Some, None, Ok, is_some}
+use Rattle.std.proofs.Common.{refl, sym, ap, subst, ◌∙◌, arith, inl, inr}
 use Rattle.std.specs.Prelude.{nat_le}
 use Rattle.std.proofs.lemmas.Bool.{cases_Bool, cases_eq, cases_lt, ne_eqb}
 use Rattle.std.proofs.lemmas.Bool.Decides.{nat_tests}
-use Rattle.mnames.specs.declared.modes.Mode.{Mode}
 use Rattle.mnames.specs.declared.principals.Who.{Who}
 use Rattle.script.specs.Plans.{Plan}
-use Rattle.book.specs.declared.replies.Reply.{Reply}
-use Rattle.book.specs.declared.replies.Reply.TheVariants as reply
 use Rattle.accounts.specs.Maps.{AccountMaps, Changes}
 use Rattle.tree_model.specs.Tree.{Node, has_directory, node_in, pool_of, with_node}
 use Rattle.tree_model.specs.Trees.{has_segment}
@@ -19,16 +16,14 @@ use Rattle.flat_model.specs.Sizes.{after_length}
 use Rattle.flat_model.specs.Store.{Store}
 use Rattle.flat_model.proofs.PageLaws.{none_from, stored_from}
 use Rattle.vtoc.specs.Vtoc.{Entry, record_at}
-use Rattle.descriptor_seg.specs.declared.Sdw.TheVariants.{Present}
-use Rattle.descriptor_seg.specs.Descriptors.{sdw_at}
 use Rattle.active_segs.specs.Active.{ActiveSegs, uid_at as uid_in_place}
 use Rattle.page_control.specs.declared.Home.{Home}
 use Rattle.page_control.specs.Plain.{Plain}
 use Rattle.page_control.specs.Picture.{is_filed_at}
 use Rattle.page_control.specs.Tied.{vtoc_in}
-use Rattle.seg_control.specs.Control.{Links, sdws_at}
+use Rattle.seg_control.specs.Control.{Links}
 use Rattle.seg_control.specs.Kept.{IsInactive}
-use Rattle.storage_ops.specs.Shown.{AreCounted, IsStore, Shows, ShowsPages, Storage, home_of, is_filed, is_there}
+use Rattle.storage_ops.specs.Shown.{AreCounted, IsStore, Shows, Storage, home_of, is_filed, is_there}
 use Rattle.storage_ops.specs.Shown.{named_at, pages_in, pages_of}
 use Rattle.storage_ops.proofs.Alike.{Keeps, active_alike, alike_changed, housed_alike, keeps_length, keeps_one}
 use Rattle.storage_ops.proofs.Alike.{map_node}

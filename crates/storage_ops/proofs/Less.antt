@@ -1,6 +1,6 @@
 -- A store of which fewer descriptors are connected, or fewer segments active.
-use Rattle.std.proofs.Common.{◌≡◌, ◌≢◌, ℕ, Bool, true, false, cond, eqb, List, [], map, Option, Some, None, set}
-use Rattle.std.proofs.Common.{get_or, refl, sym, ap, subst, ◌∙◌}
+use Rattle.std.proofs.Common.{◌≡◌, ℕ, Bool, true, false, cond, eqb, List, [], map, Option, Some, None, set}
+use Rattle.std.proofs.Common.{refl, sym, ap, ◌∙◌}
 use Rattle.std.proofs.Common.{inl, inr}
 use Rattle.std.proofs.lemmas.Bool.{cases_eq}
 use Rattle.std.proofs.lemmas.List.{get_or-set_other}
@@ -10,7 +10,6 @@ use Rattle.mnames.specs.declared.principals.Who.{Who}
 use Rattle.script.specs.Plans.{Plan}
 use Rattle.accounts.specs.Maps.{AccountMaps}
 use Rattle.flat_model.specs.Store.{Store}
-use Rattle.tree_model.specs.Tree.{Node, node_in}
 use Rattle.descriptor_seg.specs.declared.Sdw.{Sdw}
 use Rattle.descriptor_seg.specs.declared.Sdw.TheVariants.{Fault, Present}
 use Rattle.descriptor_seg.specs.Descriptors.{sdw_at}

@@ -1,14 +1,13 @@
 -- What the making of a directory or a segment in a directory is answered, and what it leaves.
-use Rattle.std.proofs.Common.{◌≡◌, ◌≢◌, ℕ, ◌+◌, ◌<◌, Bool, true, false, cond, List, [], ◌∷◌, ◌++◌, is_none, Option}
-use Rattle.std.proofs.Common.{Some, None, Result, Ok, Err, All, IsSome}
-use Rattle.std.proofs.Common.{set, get_or, is_some, ◌&&◌, length, refl, sym, ap, subst, ◌∙◌, arith, inl, inr}
-use Rattle.std.specs.Prelude.{count_by, nat_le}
+use Rattle.std.proofs.Common.{◌≡◌, ℕ, ◌+◌, ◌<◌, Bool, true, false, cond, List, [], ◌∷◌, ◌++◌, is_none, Option}
+use Rattle.std.proofs.Common.{Some, None, Result, Ok, All, IsSome}
+use Rattle.std.proofs.Common.{set, get_or, is_some, ◌&&◌, length, sym, ap, ◌∙◌, arith, inl, inr}
+use Rattle.std.specs.Prelude.{nat_le}
 use Rattle.std.proofs.lemmas.Bool.{cases_eq, cases_lt}
 use Rattle.std.proofs.lemmas.Bool.Decides.{nat_tests}
 use Rattle.std.proofs.lemmas.List.{get_or-set_other, get_or-set_same, get_or_past, length-set}
 use Rattle.std.proofs.lemmas.List.Quantifiers.{position-Some}
 use Rattle.script.specs.Plans.{Plan}
-use Rattle.book.specs.declared.replies.Reply.{Reply}
 use Rattle.book.specs.declared.replies.Reply.TheVariants as reply
 use Rattle.accounts.specs.Maps.{branch_of}
 use Rattle.dir_tree.specs.declared.node.AddFault.{AddFault}

@@ -1,5 +1,5 @@
--- What a store has between calls, what is true of it, and which flat store it shows (Bensoussan, Clingen and Daley 1972;
--- Organick 1972; the picture and the counts from scratch are own).
+-- What a store has between calls, what is true of it, and which flat store it shows (Bensoussan, Clingen and Daley
+-- 1972; Organick 1972; the picture and the counts from scratch are own).
 use Rattle.std.specs.Prelude.{◌≡◌, ◌≢◌, ℕ, ℤ, ◌<◌, ◌≤◌, ◌/◌, ◌%◌, Bool, true, false, ◌&&◌, if◌then◌else◌, is_some}
 use Rattle.std.specs.Prelude.{map, replicate, length}
 use Rattle.std.specs.Prelude.{slice_index_or, count_by, List, Option, None, Some, Result, Ok}
@@ -74,8 +74,8 @@ pub record AreHoused (a : AccountMaps) (vtocs : List (List (Option VtocEntry))) 
   pub there : (home : Home) (u : ℕ) → uid_at vtocs home ≡ Some u → is_there a.nodes u ≡ true
   pub only : (home : Home) (u : ℕ) → uid_at vtocs home ≡ Some u → home ≡ home_of a u
 
--- The file map at a node's home names as many pages as the accounts count, each below the node's length. They count none
--- of what isn't there. A node has 256 pages at most, and a directory none.
+-- The file map at a node's home names as many pages as the accounts count, each below the node's length. They count
+-- none of what isn't there. A node has 256 pages at most, and a directory none.
 pub record AreCounted (a : AccountMaps) (vtocs : List (List (Option VtocEntry))) : Type 0 where
   pub counts : (u : ℕ) → is_there a.nodes u ≡ true → named_at vtocs (home_of a u) ≡ count_of a u
   pub inside : (u q : ℕ) → is_there a.nodes u ≡ true → is_filed_at vtocs (home_of a u) q ≡ true → q < pages_in a.nodes u

@@ -1,8 +1,8 @@
 //! Storage operations: the directory tree with its accounts over segment control, as every command looks at them and
 //! changes them (Bensoussan, Clingen and Daley 1972; Organick 1972).
 //!
-//! A `Store` has the tree, the active segments with their pages and descriptors, and the principals of the processes. It
-//! shows flat stores (`Shows`): those of its tree, its numbers and its stored pages, with the words of its picture.
+//! A `Store` has the tree, the active segments with their pages and descriptors, and the principals of the processes.
+//! It shows flat stores (`Shows`): those of its tree, its numbers and its stored pages, with the words of its picture.
 //! What a command is refused, and what it changes, is said of each flat store that is shown.
 //!
 //! Costs: a path is walked by a look-up for each name, and a uid is found by halving. No call walks all branches,

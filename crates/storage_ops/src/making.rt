@@ -69,8 +69,8 @@ impl<D: Drive> Store<D> {
 
     /// What refuses the making of a directory: `Exists` for the root, which is there; what the path above leads to,
     /// which must be a directory; `Exists` where it has a branch of this name; `Deep` where a directory would lie below
-    /// eight others and the root; `Room` where there are 4096 branches; else `NoEntry` exactly where the VTOC entries of
-    /// the volume are all in use. (Source: Bensoussan, Clingen and Daley 1972; Organick 1972.)
+    /// eight others and the root; `Room` where there are 4096 branches; else `NoEntry` exactly where the VTOC entries
+    /// of the volume are all in use. (Source: Bensoussan, Clingen and Daley 1972; Organick 1972.)
     pub fn make_dir_refusal(&self, path: &Path, volume: u32) -> Option<Reply>
         requires { volume < length self.now.segs.pages.volumes.drives }
         ensures { (p : Plan) (s : Flat) → Shows D.pages p s self.now
@@ -101,7 +101,8 @@ impl<D: Drive> Store<D> {
         ensures answer { (p : Plan) (s : Flat) (d : Term) → Shows D.pages p s self.old → d.uid ≡ superior
             → result ≡ make_in p s new.volume new.dir new.name d }
         ensures effect { (p : Plan) (s : Flat) (d : Term) → Shows D.pages p s self.old → d.uid ≡ superior
-            → Shows D.pages p (answered result s (made_in s new.volume new.dir new.length new.acl new.name d)) self.new }
+            → Shows D.pages p
+            (answered result s (made_in s new.volume new.dir new.length new.acl new.name d)) self.new }
         ensures rest { self.new ≡ record self.old {
           accounts = self.new.accounts;
           segs = with_vtocs self.old.segs self.new.segs.pages.volumes.vtocs;
@@ -179,9 +180,9 @@ impl<D: Drive> Store<D> {
         self.make(path, volume, true, 0, Acl::none())
     }
 
-    /// Makes a segment of so many pages on a volume, of which none is stored, and which the process's principal may read
-    /// and write. It gives `Made` with its uid, or what refuses it. (Source: Bensoussan, Clingen and Daley 1972; Organick
-    /// 1972.)
+    /// Makes a segment of so many pages on a volume, of which none is stored, and which the process's principal may
+    /// read and write. It gives `Made` with its uid, or what refuses it. (Source: Bensoussan, Clingen and Daley 1972;
+    /// Organick 1972.)
     pub fn make_seg(&mut self, process: u32, path: &Path, pages: u32, volume: u32) -> Reply
         requires process { process < length self.old.whos }
         requires volume { volume < length self.old.segs.pages.volumes.drives }

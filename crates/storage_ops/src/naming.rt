@@ -4,7 +4,8 @@ ghost use Rattle.std.specs.Prelude.{◌≡◌, ◌<◌, length, is_some, None};
 ghost use Rattle.seg_control.specs.Control.{leads_at};
 ghost use Rattle.known_segs.specs.Known.{number_for};
 ghost use Rattle.script.specs.Plans.{Plan};
-ghost use Rattle.flat_model.specs.Naming.{after_initiate, after_terminate, initiate_reply, known_or_full, terminate_reply};
+ghost use Rattle.flat_model.specs.Naming.{after_initiate, after_terminate};
+ghost use Rattle.flat_model.specs.Naming.{initiate_reply, known_or_full, terminate_reply};
 ghost use Rattle.flat_model.specs.Store.{Store as Flat};
 ghost use Rattle.storage_ops.specs.Shown.{Shows, answered, refusal, with_known};
 

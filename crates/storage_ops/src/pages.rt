@@ -44,8 +44,8 @@ impl<D: Drive> Store<D> {
         self.segs.choose()
     }
 
-    /// Reads word `at` through the bound frame `f`, whose used mark is on then. What is shown stays. (Source: Bensoussan,
-    /// Clingen and Daley 1972.)
+    /// Reads word `at` through the bound frame `f`, whose used mark is on then. What is shown stays. (Source:
+    /// Bensoussan, Clingen and Daley 1972.)
     pub fn word(&mut self, f: u32, at: u32) -> Word
         requires bound { is_bound (frame_at self.old.segs.pages.core f) ≡ true }
         requires at { at < 1024 }
@@ -93,8 +93,8 @@ impl<D: Drive> Store<D> {
         self.segs.take(uid, f);
     }
 
-    /// Lets references go through the word of the page in frame `f` again, which was on its way out. What is shown stays.
-    /// (Source: own.)
+    /// Lets references go through the word of the page in frame `f` again, which was on its way out. What is shown
+    /// stays. (Source: own.)
     pub fn back(&mut self, uid: u32, f: u32)
         requires active { IsActive self.old.segs.ast.entries uid }
         requires bound { is_bound (frame_at self.old.segs.pages.core f) ≡ true }
@@ -111,8 +111,8 @@ impl<D: Drive> Store<D> {
         self.segs.back(uid, f);
     }
 
-    /// Lets no more references go through the words of those pages of a place that are in a frame and have number `from`
-    /// or above. What is shown stays. It looks at each word from there on. (Source: own.)
+    /// Lets no more references go through the words of those pages of a place that are in a frame and have number
+    /// `from` or above. What is shown stays. It looks at each word from there on. (Source: own.)
     pub fn take_all(&mut self, aste: u32, from: u32)
         requires { aste < length self.old.segs.ast.entries }
         ensures effect { self.new ≡ record self.old {
@@ -154,9 +154,9 @@ impl<D: Drive> Store<D> {
         self.segs.cut_all(aste);
     }
 
-    /// Makes the segment of a place inactive. No active segment is below it, no page of it is in a frame, on its way out
-    /// or being read, and no descriptor leads there. What is shown stays. (Source: Bensoussan, Clingen and Daley 1972;
-    /// Organick 1972.)
+    /// Makes the segment of a place inactive. No active segment is below it, no page of it is in a frame, on its way
+    /// out or being read, and no descriptor leads there. What is shown stays. (Source: Bensoussan, Clingen and Daley
+    /// 1972; Organick 1972.)
     pub fn deactivate(&mut self, place: u32)
         requires place { place < length self.old.segs.ast.entries }
         requires leaf { HasNoInferior self.old.segs.ast.entries place }
@@ -173,8 +173,8 @@ impl<D: Drive> Store<D> {
         self.segs.deactivate(place);
     }
 
-    /// Reads page `p` of an active segment into the frame `f` that was started for it, and binds the frame to it. What is
-    /// shown stays. It costs one read of the drive. (Source: Bensoussan, Clingen and Daley 1972.)
+    /// Reads page `p` of an active segment into the frame `f` that was started for it, and binds the frame to it. What
+    /// is shown stays. It costs one read of the drive. (Source: Bensoussan, Clingen and Daley 1972.)
     ///
     /// # Errors
     /// `Failed` only where the faults of its drive rose; `f` is free then, and the rest as before.

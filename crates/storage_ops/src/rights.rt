@@ -109,8 +109,8 @@ impl<D: Drive> Store<D> {
         refusal(move_reply(&self.accounts, path, amount))
     }
 
-    /// Sets what a row of a segment's access control list allows, and gives `Done`, or what refuses it. Descriptors that
-    /// lead to the segment must have been cut. (Source: Bensoussan, Clingen and Daley 1972.)
+    /// Sets what a row of a segment's access control list allows, and gives `Done`, or what refuses it. Descriptors
+    /// that lead to the segment must have been cut. (Source: Bensoussan, Clingen and Daley 1972.)
     pub fn set_acl(&mut self, path: &Path, row: &Row, mode: Mode) -> Reply
         requires { IsCutAt self.old.accounts self.old.segs path.now }
         ensures answer { (p : Plan) (s : Flat) → Shows D.pages p s self.old → result ≡ acl_reply s path.now row.now }

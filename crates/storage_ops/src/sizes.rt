@@ -6,7 +6,8 @@ ghost use Rattle.script.specs.Plans.{Plan};
 ghost use Rattle.flat_model.specs.Pages.{is_stored_from};
 ghost use Rattle.flat_model.specs.Sizes.{after_length, length_reply, truncate_reply};
 ghost use Rattle.flat_model.specs.Store.{Store as Flat};
-ghost use Rattle.storage_ops.specs.Shown.{IsInactiveAt, Shows, ShowsTree, answered, is_filed, is_there, pages_in, refusal};
+ghost use Rattle.storage_ops.specs.Shown.{IsInactiveAt, Shows, ShowsTree, answered};
+ghost use Rattle.storage_ops.specs.Shown.{is_filed, is_there, pages_in, refusal};
 
 use crate::paths::segment_at;
 use crate::replies::refusal;

@@ -1,4 +1,4 @@
-use Rattle.std.proofs.Common.{◌≡◌, refl, sym, ap, subst, ◌∙◌}
+use Rattle.std.proofs.Common.{refl, sym, ap, subst, ◌∙◌}
 use Rattle.active_segs.specs.Active.{ActiveSegs}
 use Rattle.page_control.specs.Plain.{plain}
 use Rattle.seg_control.specs.Control.{Links, table_of}

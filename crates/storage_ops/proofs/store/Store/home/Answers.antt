@@ -1,4 +1,4 @@
-use Rattle.std.proofs.Common.{◌<◌, length, is_some, sym, ap, subst, ◌∙◌, ℕ}
+use Rattle.std.proofs.Common.{◌<◌, length, sym, ap, subst, ◌∙◌, ℕ}
 use Rattle.page_control.specs.Plain.{Paging}
 use Rattle.storage_ops.specs.Shown.{Storage, home_of, is_there}
 use Rattle.storage_ops.proofs.NodeLaws.{volume_found}

@@ -1,14 +1,13 @@
-use Rattle.std.proofs.Common.{◌≡◌, ◌≢◌, ℕ, Ok, Some, Bool, true, false, List, is_some, refl, sym, ap, subst, ◌∙◌, set}
+use Rattle.std.proofs.Common.{◌≡◌, ℕ, Some, true, false, List, is_some, refl, sym, ap, subst, ◌∙◌}
 use Rattle.book.specs.declared.replies.Reply.TheVariants as reply
 use Rattle.accounts.specs.Maps.{branch_of}
 use Rattle.dir_tree.specs.declared.node.NewNode.{NewNode}
-use Rattle.flat_model.specs.Making.{made_in}
 use Rattle.flat_model.specs.Store.{Store as Flat}
 use Rattle.tree_model.specs.Tree.{Node, entries_on}
-use Rattle.active_segs.specs.Active.{ActiveSegs, uid_at as uid_in_place}
+use Rattle.active_segs.specs.Active.{ActiveSegs}
 use Rattle.page_control.specs.Plain.{Plain, plain}
-use Rattle.seg_control.specs.Control.{Control, Links}
-use Rattle.storage_ops.specs.Shown.{IsStore, Shows, Storage, is_there}
+use Rattle.seg_control.specs.Control.{Links}
+use Rattle.storage_ops.specs.Shown.{IsStore, Shows, Storage}
 use Rattle.storage_ops.proofs.Homes.{shown_new, store_new}
 use Rattle.storage_ops.proofs.Made.{added_uid, all_used, branch_same, length_inside, made_told, some_free}
 use Rattle.storage_ops.proofs.store.Store.make_branch.Goals as goal

@@ -1,14 +1,10 @@
-use Rattle.std.proofs.Common.{◌≡◌, ℕ, Some, None, Option, Bool, true, false, List, length, map, is_some, replicate}
-use Rattle.std.proofs.Common.{refl, sym, ap, subst, ◌∙◌, arith, ◌<◌, ◌≤◌}
+use Rattle.std.proofs.Common.{◌≡◌, ℕ, None, true, false, length, is_some, replicate}
+use Rattle.std.proofs.Common.{refl, sym, ap, subst, ◌∙◌, arith, ◌<◌}
 use Rattle.std.proofs.lemmas.List.{length-replicate, length-map}
 use Rattle.script.specs.Plans.{Plan, ProcessPlan}
-use Rattle.mnames.specs.declared.principals.Who.{Who}
-use Rattle.volumes.specs.Volumes.{Vols}
-use Rattle.vtoc.specs.Vtoc.{Entry as VtocEntry, entry_at}
-use Rattle.active_segs.specs.Active.{ActiveSegs, uid_at as uid_in_place, no_segments}
-use Rattle.flat_model.specs.Store.{Store as Flat, boot}
+use Rattle.active_segs.specs.Active.{ActiveSegs, uid_at as uid_in_place}
+use Rattle.flat_model.specs.Store.{Store as Flat}
 use Rattle.page_control.specs.Plain.{Paging, Plain, plain}
-use Rattle.page_control.specs.Tied.{flags_in, vtoc_in}
 use Rattle.seg_control.specs.Control.{Control, Links}
 use Rattle.storage_ops.specs.Shown.{AreFresh, IsStore, Shows, Storage}
 use Rattle.storage_ops.proofs.Fresh.{blank, boot_is, entries_some, filed_fresh, none_active, none_known, nothing}

@@ -1,7 +1,6 @@
-use Rattle.std.proofs.Common.{◌≡◌, ℕ, Ok, Bool, true, false, refl, sym, ap, subst, ◌∙◌}
+use Rattle.std.proofs.Common.{true, false, refl, sym, ap, subst, ◌∙◌}
 use Rattle.tree_model.specs.Tree.{Node, quota_in}
 use Rattle.dir_tree.specs.Nodes.{as_term}
-use Rattle.flat_model.specs.Branches.{segment_at}
 use Rattle.page_control.specs.Plain.{plain}
 use Rattle.storage_ops.specs.Shown.{IsInactiveAt, Shows, ShowsTree, Storage, is_filed}
 use Rattle.storage_ops.proofs.Changed.{segment_refuses}

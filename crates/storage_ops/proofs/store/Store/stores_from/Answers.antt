@@ -1,5 +1,5 @@
-use Rattle.std.proofs.Common.{◌≡◌, ◌≤◌, ◌<◌, ℕ, List, Option, is_some, true, false, sym, ap, subst, ◌∙◌}
-use Rattle.vtoc.specs.Vtoc.{Entry, record_at}
+use Rattle.std.proofs.Common.{◌≡◌, ◌≤◌, ◌<◌, ℕ, is_some, false, sym, ap, subst, ◌∙◌}
+use Rattle.vtoc.specs.Vtoc.{record_at}
 use Rattle.volumes.specs.Volumes.{Vols, vtoc_at}
 use Rattle.page_control.specs.Plain.{Paging}
 use Rattle.storage_ops.specs.Shown.{Shows, Storage, home_of, is_filed, is_there}
