@@ -1,6 +1,7 @@
 //! The calls of segment control that leave what is shown as it is.
 
-ghost use Rattle.std.specs.Prelude.{◌≡◌, ◌<◌, All, IsSome, Some, [], true, false, length, slice_index};
+ghost use Rattle.std.specs.Prelude.{◌≡◌, ◌<◌, All, IsSome, OnOk, OnErr, None, Some, [], true, false, length};
+ghost use Rattle.std.specs.Prelude.{slice_index, slice_set};
 ghost use Rattle.std.specs.List.{list_any};
 ghost use Rattle.core_map.specs.declared.Frame.TheVariants.{Free, Started};
 ghost use Rattle.core_map.specs.CoreMap.{frame_at, is_bound, reads_of};
@@ -9,7 +10,8 @@ ghost use Rattle.page_table.specs.declared.Ptw.TheVariants.{Here, Leaving};
 ghost use Rattle.active_segs.specs.Active.{HasNoInferior, IsActive, IsAway, deactivated, table_at};
 ghost use Rattle.trailers.specs.Trailer.{trailers_of};
 ghost use Rattle.seg_control.specs.Kept.{IsHomeFor, IsNotRead};
-ghost use Rattle.page_control.specs.Plain.{number_in, plain, words_in};
+ghost use Rattle.page_control.specs.Counts.{KeepsCounts};
+ghost use Rattle.page_control.specs.Plain.{bindings, number_in, plain, words_in};
 ghost use Rattle.page_control.specs.Effects.{after_read, framed, referred};
 ghost use Rattle.page_control.specs.Drives.{CallsDrive};
 ghost use Rattle.volumes.specs.Volumes.{KeepsTables};
@@ -39,6 +41,8 @@ impl<D: Drive> Store<D> {
           };
         } }
         ensures bound { is_bound (frame_at self.new.segs.pages.core result) ≡ true }
+        ensures bindings { bindings self.new.segs.pages.core ≡ bindings self.old.segs.pages.core }
+        ensures reads { reads_of self.new.segs.pages.core ≡ reads_of self.old.segs.pages.core }
         ensures shown { (p : Plan) (s : Flat) → Shows D.pages p s self.old → Shows D.pages p s self.new }
     {
         self.segs.choose()
@@ -52,6 +56,8 @@ impl<D: Drive> Store<D> {
         ensures word { result ≡ slice_index (words_in (plain D.pages self.old.segs.pages) f) at }
         ensures marks { plain D.pages self.new.segs.pages ≡ referred (plain D.pages self.old.segs.pages) f false }
         ensures rest { self.new ≡ record self.old { segs = record self.old.segs { pages = self.new.segs.pages } } }
+        ensures bindings { bindings self.new.segs.pages.core ≡ bindings self.old.segs.pages.core }
+        ensures reads { reads_of self.new.segs.pages.core ≡ reads_of self.old.segs.pages.core }
         ensures volumes { self.new.segs.pages.volumes ≡ self.old.segs.pages.volumes }
         ensures shown { (p : Plan) (s : Flat) → Shows D.pages p s self.old → Shows D.pages p s self.new }
     {
@@ -70,6 +76,9 @@ impl<D: Drive> Store<D> {
         ensures started { plain D.pages self.new.segs.pages
             ≡ framed (plain D.pages self.old.segs.pages) f (Started uid p) }
         ensures rest { self.new ≡ record self.old { segs = record self.old.segs { pages = self.new.segs.pages } } }
+        ensures bindings { bindings self.new.segs.pages.core ≡ bindings self.old.segs.pages.core }
+        ensures reads { reads_of self.new.segs.pages.core
+            ≡ slice_set (reads_of self.old.segs.pages.core) f (Some (uid, p)) }
         ensures volumes { self.new.segs.pages.volumes ≡ self.old.segs.pages.volumes }
         ensures shown { (plan : Plan) (s : Flat) → Shows D.pages plan s self.old → Shows D.pages plan s self.new }
     {
@@ -192,6 +201,11 @@ impl<D: Drive> Store<D> {
             ast = self.new.segs.ast;
           };
         } }
+        ensures bound { OnOk result (bindings self.new.segs.pages.core
+            ≡ slice_set (bindings self.old.segs.pages.core) f (Some (uid, p))) }
+        ensures lost { OnErr result (bindings self.new.segs.pages.core ≡ bindings self.old.segs.pages.core) }
+        ensures reads { reads_of self.new.segs.pages.core ≡ slice_set (reads_of self.old.segs.pages.core) f None }
+        ensures counts { KeepsCounts (plain D.pages self.old.segs.pages) (plain D.pages self.new.segs.pages) }
         ensures tables { KeepsTables self.old.segs.pages.volumes self.new.segs.pages.volumes }
         ensures drives { CallsDrive D.plan D.places D.faults self.old.segs.pages.volumes.drives
             self.new.segs.pages.volumes.drives home.volume result }
