@@ -713,7 +713,7 @@ fn other_words_have_the_usage_text(rt: HostRuntime) -> Result<(), Fail> {
         &["run", "x"],
         &["make"],
         &["make", "7", "7"],
-        &["check"],
+        &["check", "x"],
     ];
     for words in words {
         for (failing, room, text) in [(0, 65536, usage), (1, 65536, ""), (0, 5, "usage")] {
