@@ -1,6 +1,8 @@
 -- How many stored pages pass a test, once one is stored or is stored no more.
-use Rattle.std.proofs.Common.{◌≡◌, ℕ, ◌+◌, Bool, true, false, cond, eqb, ◌||◌, List, [], ◌∷◌, refl, sym, ap, ◌∙◌, arith}
+use Rattle.std.proofs.Common.{◌≡◌, ℕ, ◌+◌, ◌-◌, ◌≤◌, Bool, true, false, cond, eqb, ◌||◌, List, [], ◌∷◌, refl, sym, ap}
+use Rattle.std.proofs.Common.{◌∙◌, arith, inl, inr}
 use Rattle.std.specs.Prelude.{count_by}
+use Rattle.std.proofs.lemmas.Bool.{cases_eq}
 use Rattle.std.proofs.lemmas.Bool.Decides.{nat_tests}
 use Rattle.std.proofs.lemmas.List.Sums.{sum_by-cons}
 use Rattle.tree_model.specs.Tree.{Node, volume_in, taken_on}
@@ -59,3 +61,35 @@ taken_new n ns (x ∷ xs) v none =
     later : (z b : Bool) → (z || b) ≡ false → b ≡ false
     later true b h = absurd cc
     later false b h = h
+
+-- a stored page counts
+pub count_some : (xs : List (ℕ × ℕ)) (u q n : ℕ) → n ≡ count_by (λ x. eqb x.0 u) xs → IsOnce xs
+    → is_stored xs u q ≡ true → 1 ≤ n
+count_some xs u q n is once on =
+    let own : eqb u u ≡ true = grind (arith, nat_tests) in
+    let more : count_by (λ x. eqb x.0 u) (without_stored xs u (λ r. eqb r q)) + 1 ≡ count_by (λ x. eqb x.0 u) xs =
+    rw own at (count_without (λ x. eqb x.0 u) xs u q once on) in
+    omega (arith, more, is)
+
+-- where the pages of each segment are counted, one less of a segment leaves those without that page
+pub counted_less : (c d : ℕ → ℕ) (xs : List (ℕ × ℕ)) (u q : ℕ) → ((s : ℕ) → c s ≡ count_by (λ x. eqb x.0 s) xs)
+    → IsOnce xs → is_stored xs u q ≡ true → ((s : ℕ) → d s ≡ cond (eqb u s) (c u - 1) (c s)) → (s : ℕ)
+    → d s ≡ count_by (λ x. eqb x.0 s) (without_stored xs u (λ r. eqb r q))
+counted_less c d xs u q counts once on down s =
+    let less : count_by (λ x. eqb x.0 s) (without_stored xs u (λ r. eqb r q)) + cond {A = ℕ} (eqb u s) 1 0
+    ≡ count_by (λ x. eqb x.0 s) xs =
+    count_without (λ x. eqb x.0 s) xs u q once on in
+    let was : c s ≡ count_by (λ x. eqb x.0 s) xs = counts s in
+    down s ∙ elim (cases_eq u s) [
+      | inl same ↦
+          (let own : eqb u s ≡ true = grind (arith, nat_tests) in
+          let one : count_by (λ x. eqb x.0 s) (without_stored xs u (λ r. eqb r q)) + 1 ≡ count_by (λ x. eqb x.0 s) xs =
+          rw own at less in
+          let here : c u ≡ c s = ap c same in
+          rw own (omega (arith, one, here, was)))
+      | inr other ↦
+          (let own : eqb u s ≡ false = grind (arith, nat_tests) in
+          let one : count_by (λ x. eqb x.0 s) (without_stored xs u (λ r. eqb r q)) + 0 ≡ count_by (λ x. eqb x.0 s) xs =
+          rw own at less in
+          rw own (omega (arith, one, was)))
+    ]

@@ -1,5 +1,12 @@
 pub mod BookLaws
 pub mod CountLaws
+pub mod CutLaws
+pub mod DropLaws
+pub mod NodeLaws
 pub mod PageLaws
+pub mod QuotaLaws
+pub mod RemoveLaws
 pub mod ScriptLaws
+pub mod TreeLaws
+pub mod TreeReplies
 pub mod ZeroLaws

@@ -1,5 +1,6 @@
 pub mod Branches
 pub mod Commands
+pub mod Cuts
 pub mod Legal
 pub mod Making
 pub mod Naming

@@ -25,8 +25,8 @@ use Rattle.flat_store.specs.Shown.{AreFlat, AreInside, Held, Holds, IsHeld, page
 use Rattle.flat_store.proofs.ChangeLaws.{AreAlike, alike_map, changed_shown, flat_alike, inside_alike, keeps_length}
 use Rattle.flat_store.proofs.ChangeLaws.{keeps_one, keeps_rows, length_flat, length_inside, moved_alike, moved_pages}
 use Rattle.flat_store.proofs.ChangeLaws.{pages_map, with_length}
-use Rattle.flat_store.proofs.ReferLaws.{not_first}
-use Rattle.flat_store.proofs.TreeReplies.{move_told}
+use Rattle.flat_model.proofs.TreeReplies.{not_first}
+use Rattle.flat_store.proofs.MoveReplies.{move_told}
 
 -- the holdings show the changed nodes, or are as they were
 abbrev pub Either : Plan → Store → Held → List Node → Bool → Type 0

@@ -7,6 +7,7 @@ pub mod EffectLaws
 pub mod FollowLaws
 pub mod GaugeLaws
 pub mod MakeLaws
+pub mod MoveReplies
 pub mod NodeLaws
 pub mod NumberLaws
 pub mod OkLaws
@@ -14,7 +15,6 @@ pub mod OtherLaws
 pub mod PagedLaws
 pub mod PathLaws
 pub mod PutLaws
-pub mod QuotaLaws
 pub mod ReachLaws
 pub mod ReferLaws
 pub mod ReleaseLaws
@@ -22,6 +22,4 @@ pub mod RemoveLaws
 pub mod ReplyLaws
 pub mod SizeLaws
 pub mod StoreLaws
-pub mod TreeLaws
-pub mod TreeReplies
 pub mod ZeroPages

@@ -21,7 +21,7 @@ use Rattle.flat_model.proofs.CountLaws.{taken_new}
 use Rattle.flat_store.specs.Shown.{AreFlat, AreInside, Gauge, gauge_at, filled, is_full, Held, HoldPages, Holds}
 use Rattle.flat_store.specs.Shown.{pages_in}
 use Rattle.flat_store.proofs.GaugeLaws.{counts_more}
-use Rattle.flat_store.proofs.TreeReplies.{parts_are}
+use Rattle.flat_model.proofs.TreeReplies.{parts_are}
 
 no_segment : (ns : List Node) (u : ℕ) → node_in ns u ≡ None → has_segment ns u ≡ false
 no_segment [] u e = refl

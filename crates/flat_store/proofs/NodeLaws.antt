@@ -2,25 +2,9 @@
 use Rattle.std.proofs.Common.{◌≡◌, ℕ, Bool, true, false, eqb, List, [], ◌∷◌, Some, None, not, ◌<◌, arith, refl, sym, ap}
 use Rattle.std.proofs.Common.{◌∙◌, inl, inr}
 use Rattle.std.proofs.lemmas.Bool.{cases_Bool}
-use Rattle.std.proofs.lemmas.Bool.Decides.{nat_tests}
-use Rattle.tree_model.specs.Tree.{Node, has_directory, node_in, volume_in}
+use Rattle.tree_model.specs.Tree.{Node, has_directory, node_in}
 use Rattle.tree_model.specs.Trees.{has_segment}
 use Rattle.flat_store.specs.Shown.{AreFlat, pages_in}
-
-pub volume_found : (ns : List Node) (u : ℕ) (n : Node) → node_in ns u ≡ Some n → n.volume ≡ volume_in ns u
-volume_found [] u n e = cc
-volume_found (m ∷ ns) u n e = elim (cases_Bool (eqb m.uid u)) [
-  | inl is ↦ (let z : Some m ≡ Some n = rw is at e in let same : m ≡ n = cc in
-      rw is (ap (λ (x : Node). x.volume) (sym same)))
-  | inr isnt ↦ rw isnt (volume_found ns u n (rw isnt at e))
-]
-
-pub no_volume : (ns : List Node) (u : ℕ) → node_in ns u ≡ None → volume_in ns u ≡ 0
-no_volume [] u e = refl
-no_volume (m ∷ ns) u e = elim (cases_Bool (eqb m.uid u)) [
-  | inl is ↦ (let z : Some m ≡ None = rw is at e in cc)
-  | inr isnt ↦ rw isnt (no_volume ns u (rw isnt at e))
-]
 
 pub pages_found : (ns : List Node) (u : ℕ) (n : Node) → node_in ns u ≡ Some n → n.pages ≡ pages_in ns u
 pages_found [] u n e = cc
@@ -45,12 +29,3 @@ pub has_pages : (ns : List Node) (u : ℕ) (n : Node) (dir : Bool) → node_in n
 has_pages ns u n true found is isnt flat some = (let none : n.pages ≡ 0 = pages_found ns u n found ∙ flat u is in
     absurd (omega (arith, none, some)))
 has_pages ns u n false found is isnt flat some = isnt
-
-pub uid_found : (ns : List Node) (u : ℕ) (n : Node) → node_in ns u ≡ Some n → n.uid ≡ u
-uid_found [] u n e = cc
-uid_found (m ∷ ns) u n e = elim (cases_Bool (eqb m.uid u)) [
-  | inl is ↦ (let z : Some m ≡ Some n = rw is at e in let same : m ≡ n = cc in
-      let own : m.uid ≡ u = grind (arith, nat_tests) in
-      ap (λ (x : Node). x.uid) (sym same) ∙ own)
-  | inr isnt ↦ uid_found ns u n (rw isnt at e)
-]

@@ -8,7 +8,8 @@ use Rattle.std.specs.Map.{lookup}
 use Rattle.std.specs.declared.cmp.Ordering.{Ordering}
 use Rattle.std.specs.declared.cmp.Ordering.TheVariants.{Less, Equal, Greater}
 use Rattle.mword.specs.Words.{AreZero}
-use Rattle.flat_store.specs.Shown.{Paged, is_key, page_at, words_in, cut_at, Puts, Cuts}
+use Rattle.flat_model.specs.Cuts.{cut_at}
+use Rattle.flat_store.specs.Shown.{Paged, is_key, page_at, words_in, Puts, Cuts}
 
 then_eq : (a b : Ordering) → is_eq (ordering_then a b) ≡ (is_eq a && is_eq b)
 then_eq Less b = refl

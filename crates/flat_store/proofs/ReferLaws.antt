@@ -14,16 +14,8 @@ use Rattle.flat_model.specs.References.{alters, is_used_up, is_volume_full, new_
 use Rattle.flat_model.specs.References.{room_reply, stores_page, word_reply, written, written_by}
 use Rattle.flat_model.specs.Store.{Store}
 use Rattle.flat_store.specs.Shown.{Held, Holds, has_room, may_write}
-use Rattle.flat_store.proofs.NodeLaws.{uid_found, volume_found}
-
--- a command that takes effect wasn't refused
-pub not_first : (b : Bool) (x y : Reply) → takes_effect x ≡ false → takes_effect (cond b x y) ≡ true
-    → (b ≡ false) × (takes_effect y ≡ true)
-not_first true x y none is = absurd (clash (sym is ∙ none))
-  where
-    clash : true ≡ false → ⊥
-    clash z = cc
-not_first false x y none is = (refl, is)
+use Rattle.flat_model.proofs.NodeLaws.{uid_found, volume_found}
+use Rattle.flat_model.proofs.TreeReplies.{not_first}
 
 -- what a page asks for that a reference stores
 room_asked : (p : Plan) (s : Store) (n : Node) (otherwise : Reply) → n.volume ≡ volume_in s.nodes n.uid

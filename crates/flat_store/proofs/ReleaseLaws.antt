@@ -10,7 +10,8 @@ use Rattle.flat_model.specs.Legal.{MayRelease}
 use Rattle.flat_model.specs.Pages.{Words, is_zero_page, without_stored, without_words}
 use Rattle.flat_model.specs.Store.{Store}
 use Rattle.flat_model.proofs.ZeroLaws.{words_zero, zero_words}
-use Rattle.flat_store.specs.Shown.{Held, Holds, page_at, without_pages}
+use Rattle.flat_model.specs.Cuts.{without_pages}
+use Rattle.flat_store.specs.Shown.{Held, Holds, page_at}
 use Rattle.flat_store.proofs.CutLaws.{zero_told}
 
 pub may_release : (p : Plan) (s : Store) (h : Held) (u q : ℕ) (ws : List ℕ) (r : Bool) → Holds p h s

@@ -1,6 +1,6 @@
 -- What the program of the flat store keeps, and which flat store that shows (own).
-use Rattle.std.specs.Prelude.{nat_le, sum_by, ◌≡◌, ◌≢◌, ◌<◌, ◌≤◌, ℕ, ◌+◌, ◌/◌, ◌%◌, Bool, true, false, ◌==◌}
-use Rattle.std.specs.Prelude.{if◌then◌else◌, is_some, length, replicate, take, ◌-◌, ◌++◌, slice_index_or, List, [], ◌∷◌}
+use Rattle.std.specs.Prelude.{sum_by, ◌≡◌, ◌≢◌, ◌<◌, ◌≤◌, ℕ, ◌+◌, ◌/◌, ◌%◌, Bool, true, false, ◌==◌}
+use Rattle.std.specs.Prelude.{if◌then◌else◌, is_some, length, replicate, ◌-◌, slice_index_or, List, [], ◌∷◌}
 use Rattle.std.specs.Prelude.{◌&&◌, ◌||◌, not, Option, Some, None, Result, Ok, Err}
 use Rattle.std.specs.Ordering.{nat_cmp, ordering_then}
 use Rattle.std.specs.Map.{lookup}
@@ -12,12 +12,13 @@ use Rattle.script.specs.declared.commands.Command.{Command}
 use Rattle.script.specs.declared.plan.VolumeLine.{VolumeLine}
 use Rattle.script.specs.declared.commands.RefKind.{RefKind}
 use Rattle.book.specs.declared.replies.Reply.{Reply}
-use Rattle.tree_model.specs.Tree.{Node, pool_of, has_directory, node_in, without_node, quota_in, volume_in, taken_on}
+use Rattle.tree_model.specs.Tree.{Node, pool_of, has_directory, node_in, quota_in, volume_in, taken_on}
 use Rattle.tree_model.specs.Tree.{entries_on}
 use Rattle.dir_tree.specs.declared.node.Node.{Node as Branch}
 use Rattle.dir_tree.specs.Nodes.{as_term, has_inferior}
 use Rattle.tree_model.specs.Trees.{has_segment}
-use Rattle.flat_model.specs.Pages.{without_words, Words, is_page, is_stored, is_zero_page, without_stored, IsOnce}
+use Rattle.flat_model.specs.Pages.{Words, is_page, is_stored, IsOnce}
+use Rattle.flat_model.specs.Cuts.{cut_at}
 use Rattle.flat_model.specs.Commands.{effect_of, takes_effect}
 use Rattle.flat_model.specs.References.{is_used_up, is_volume_full, stores_page, room_reply, word_reply}
 use Rattle.flat_model.specs.Store.{Store, Progress, records_of, entries_of}
@@ -64,10 +65,6 @@ words_in (Some words) = words
 -- the words of a page are others from now on, or it isn't there any more; all other pages are as they were
 pub record Puts (old new : Paged) (uid page : ℕ) (words : Option (List ℕ)) : Type 0 where
   pub at : (u q : ℕ) → page_at new u q ≡ (if is_page u q (uid, page) then words else page_at old u q)
-
--- the words of a page, 0 from a place on
-abbrev pub cut_at : ℕ → List ℕ → List ℕ
-cut_at at words = take at words ++ replicate (1024 - at) 0
 
 abbrev pub Cuts : Paged → Paged → ℕ → ℕ → ℕ → List ℕ → Type 0
 Cuts old new uid page at words = Puts old new uid page (Some (cut_at at words))
@@ -116,13 +113,6 @@ pub record Holds (p : Plan) (h : Held) (s : Store) : Type 0 where
 abbrev pub IsHeld : Held → Type 0
 IsHeld h = (p : Plan) × (s : Store) × Holds p h s
 
--- the store once the pages of a segment that pass a test are stored no more, and their words are 0
-abbrev pub without_pages : Store → ℕ → (ℕ → Bool) → Store
-without_pages s uid test = record s {
-  words = λ u o. if u == uid && test (o / 1024) then 0 else s.words u o;
-  stored = without_stored s.stored uid test;
-}
-
 -- what a reference is answered that neither access nor the length of the segment refuses
 abbrev pub page_reply : Plan → Store → ℕ → RefKind → Node → Reply
 page_reply p s offset how n =
@@ -145,38 +135,12 @@ IsFound nodes found n = found ≡ Ok (as_term (quota_in nodes) n)
 abbrev pub IsThere : List Node → Branch → Type 0
 IsThere nodes n = node_in nodes n.uid ≡ Some (as_term (quota_in nodes) n)
 
--- the store once the words of a page from a place on are 0, and whether the page is stored and all zeros then
-abbrev pub cleared : Store → ℕ → ℕ → ℕ → Store
-cleared s uid page at = record s {
-  words = λ u o. if u == uid && (o / 1024 == page && nat_le at (o % 1024)) then 0 else s.words u o;
-}
-
-abbrev pub has_cleared : Store → ℕ → ℕ → ℕ → Bool
-has_cleared s uid page at = is_stored s.stored uid page && is_zero_page (cleared s uid page at).words uid page
-
--- the store once the page that an offset cuts is 0 from it on, and stored no more where it is all zeros
-abbrev pub cut_once : Store → ℕ → ℕ → Store
-cut_once s uid from =
-    let page = from / 1024 in
-    let at = from % 1024 in
-    if has_cleared s uid page at then without_pages (cleared s uid page at) uid (λ q. q == page)
-    else cleared s uid page at
-
 -- a directory or a segment other than the root that has no inferior and no quota
 pub record IsDeletable (nodes : List Node) (uid : ℕ) : Type 0 where
   pub there : is_some (node_in nodes uid) ≡ true
   pub branch : uid ≢ 1
   pub empty : has_inferior nodes uid ≡ false
   pub quota : quota_in nodes uid ≡ 0
-
--- the store without a directory or a segment, if there is one to take out
-abbrev pub without_branch : Store → Option ℕ → Store
-without_branch s None = s
-without_branch s (Some uid) = record s {
-  nodes = without_node s.nodes uid;
-  words = without_words s.words uid 0;
-  stored = without_stored s.stored uid (λ page. true);
-}
 
 -- ---- the whole store
 

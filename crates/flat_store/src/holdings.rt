@@ -2,7 +2,8 @@ ghost use Rattle.std.specs.Prelude.{◌≡◌, ◌==◌, ℕ, true, nat_le};
 ghost use Rattle.script.specs.Plans.{Plan};
 ghost use Rattle.tree_model.specs.Tree.{volume_in};
 ghost use Rattle.flat_model.specs.Store.{Store};
-ghost use Rattle.flat_store.specs.Shown.{Holds, pages_in, without_pages};
+ghost use Rattle.flat_model.specs.Cuts.{without_pages};
+ghost use Rattle.flat_store.specs.Shown.{Holds, pages_in};
 
 use crate::gauges::{Gauge, drain_at};
 use crate::pages::Pages;
@@ -50,7 +51,7 @@ pub(crate) fn pages_of(accounts: &Accounts, uid: u32) -> u32
     }
 }
 
-#[tactic(auto, using(crate::proofs::NodeLaws::volume_found, crate::proofs::NodeLaws::no_volume))]
+#[tactic(auto, using(flat_model::proofs::NodeLaws::volume_found, flat_model::proofs::NodeLaws::no_volume))]
 /// The volume of a node; 0 where it isn't there.
 pub(crate) fn volume_of(accounts: &Accounts, uid: u32) -> u32
     ensures { result ≡ volume_in accounts.now.nodes uid }

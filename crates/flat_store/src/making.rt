@@ -6,7 +6,8 @@ ghost use Rattle.flat_model.specs.Commands.{takes_effect};
 ghost use Rattle.flat_model.specs.Making.{made_in, make_in, make_reply, after_make, delete_reply, after_delete};
 ghost use Rattle.flat_model.specs.Naming.{status_reply};
 ghost use Rattle.flat_model.specs.Store.{Store};
-ghost use Rattle.flat_store.specs.Shown.{Holds, IsDeletable, page_at, without_branch};
+ghost use Rattle.flat_model.specs.Cuts.{without_branch};
+ghost use Rattle.flat_store.specs.Shown.{Holds, IsDeletable, page_at};
 ghost use Rattle.dir_tree.specs.Nodes.{has_inferior};
 
 use crate::gauges::{drain_at, fill_at, is_full_at};

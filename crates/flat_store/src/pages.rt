@@ -2,7 +2,8 @@ ghost use Rattle.std.specs.Prelude.{◌≡◌, ◌<◌, ◌≤◌, ◌↔◌, Li
 ghost use Rattle.std.specs.Prelude.{Some, None, IfSome, IfNone, OnOk, OnErr, IsTrue, replicate, slice_set, is_some};
 ghost use Rattle.mword.specs.Words.{AreZero};
 ghost use Rattle.std.specs.Bool.{Decides};
-ghost use Rattle.flat_store.specs.Shown.{page_at, words_in, cut_at, Puts, Cuts};
+ghost use Rattle.flat_model.specs.Cuts.{cut_at};
+ghost use Rattle.flat_store.specs.Shown.{page_at, words_in, Puts, Cuts};
 ghost use Rattle.flat_store.specs.Zeros.{KeepsZeroPage};
 
 use crate::NoMemory;

@@ -4,7 +4,8 @@ ghost use Rattle.flat_model.specs.Commands.{takes_effect};
 ghost use Rattle.flat_model.specs.Pages.{is_stored_from};
 ghost use Rattle.flat_model.specs.Sizes.{length_reply, truncate_reply, after_length, after_truncate};
 ghost use Rattle.flat_model.specs.Store.{Store};
-ghost use Rattle.flat_store.specs.Shown.{Holds, cleared, cut_once, has_cleared};
+ghost use Rattle.flat_model.specs.Cuts.{cleared, cut_once, has_cleared};
+ghost use Rattle.flat_store.specs.Shown.{Holds};
 
 use crate::holdings::{Holdings, pages_of};
 use book::Reply;

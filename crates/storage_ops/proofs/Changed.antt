@@ -34,7 +34,7 @@ use Rattle.flat_model.specs.Pages.{is_stored}
 use Rattle.storage_ops.proofs.Alike.{Keeps, active_alike, alike_changed, counted_alike, filed_alike}
 use Rattle.storage_ops.proofs.Alike.{housed_alike, keeps_moved, keeps_one, keeps_rows, map_node, moved_else, node_map}
 use Rattle.storage_ops.proofs.Alike.{picture_alike, quota_moved, rights_alike, taken_alike}
-use Rattle.storage_ops.proofs.NodeLaws.{uid_found}
+use Rattle.flat_model.proofs.NodeLaws.{uid_found}
 
 -- ---- what refuses a path takes no effect
 

@@ -29,7 +29,7 @@ use Rattle.storage_ops.proofs.Alike.{Keeps, active_alike, alike_changed, housed_
 use Rattle.storage_ops.proofs.Alike.{map_node}
 use Rattle.storage_ops.proofs.Alike.{node_map, rights_alike, taken_alike}
 use Rattle.storage_ops.proofs.Changed.{shown_changed}
-use Rattle.storage_ops.proofs.NodeLaws.{uid_found}
+use Rattle.flat_model.proofs.NodeLaws.{uid_found}
 
 -- whether a page is filed, of a node that is there
 pub filed_there : (a : AccountMaps) (vtocs : List (List (Option Entry))) (u q : ℕ) → is_there a.nodes u ≡ true

@@ -6,11 +6,9 @@ pub mod Known
 pub mod Lengths
 pub mod Less
 pub mod Made
+pub mod MoveReplies
 pub mod NamingLaws
 pub mod NodeLaws
 pub mod PathLaws
-pub mod QuotaLaws
 pub mod Still
 pub mod Tables
-pub mod TreeLaws
-pub mod TreeReplies

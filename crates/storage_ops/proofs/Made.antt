@@ -18,7 +18,7 @@ use Rattle.tree_model.specs.Tree.{Node, above, branch_in, entries_on}
 use Rattle.flat_model.specs.Branches.{node_at}
 use Rattle.flat_model.specs.Making.{after_make, made_at, made_in, made_of, make_in}
 use Rattle.tree_model.specs.Access.{Row}
-use Rattle.storage_ops.proofs.TreeReplies.{parts_are}
+use Rattle.flat_model.proofs.TreeReplies.{parts_are}
 use Rattle.flat_model.specs.Store.{Store, entries_of}
 use Rattle.vtoc.specs.Vtoc.{Entry, least_free_entry}
 use Rattle.page_control.specs.Counts.{entries, used}

@@ -5,7 +5,7 @@ use Rattle.tree_model.specs.Tree.{Node, Walk, LeadsTo, Missing, InSegment, node_
 use Rattle.dir_tree.specs.declared.node.PathFault.TheVariants as path_fault
 use Rattle.dir_tree.specs.Nodes.{path_answer}
 use Rattle.flat_model.specs.Branches.{walked, node_at, there_or}
-use Rattle.storage_ops.proofs.NodeLaws.{uid_found}
+use Rattle.flat_model.proofs.NodeLaws.{uid_found}
 
 leads : (nodes : List Node) (w : Walk) (u : ℕ) (n : Node) → Ok u ≡ path_answer w → node_in nodes u ≡ Some n
     → walked nodes w ≡ Ok n

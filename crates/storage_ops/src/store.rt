@@ -61,7 +61,7 @@ impl<D: Drive> Store<D> {
     }
 
     /// The home of a node.
-    #[tactic(auto, using(crate::proofs::NodeLaws::volume_found))]
+    #[tactic(auto, using(flat_model::proofs::NodeLaws::volume_found))]
     pub(crate) fn home(&self, uid: u32) -> Home
         requires { is_there self.now.accounts.nodes uid ≡ true }
         ensures home { result ≡ home_of self.now.accounts uid }

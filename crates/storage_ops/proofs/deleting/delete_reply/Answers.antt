@@ -3,7 +3,7 @@ use Rattle.std.proofs.lemmas.Bool.{ne_eqb}
 use Rattle.std.specs.Result.{is_err}
 use Rattle.tree_model.specs.Tree.{quota_in}
 use Rattle.dir_tree.specs.Nodes.{as_term, has_inferior}
-use Rattle.storage_ops.proofs.TreeReplies.{delete_refused, delete_told, from_false}
+use Rattle.flat_model.proofs.TreeReplies.{delete_refused, delete_told, from_false}
 use Rattle.storage_ops.proofs.deleting.delete_reply.Goals as goal
 
 pub returns-in-Err : goal.returns-in-Err

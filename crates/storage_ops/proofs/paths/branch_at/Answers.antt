@@ -1,7 +1,7 @@
 use Rattle.std.proofs.Common.{ℕ, List, length, eqb, sym, ap, ◌∙◌}
 use Rattle.tree_model.specs.Tree.{quota_in}
 use Rattle.dir_tree.specs.Nodes.{as_term}
-use Rattle.storage_ops.proofs.TreeLaws.{apart_shown}
+use Rattle.flat_model.proofs.TreeLaws.{apart_shown}
 use Rattle.storage_ops.proofs.paths.branch_at.Goals as goal
 
 pub returns-clause-branch : goal.returns-clause-branch

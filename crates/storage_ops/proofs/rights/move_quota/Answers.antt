@@ -7,8 +7,9 @@ use Rattle.dir_tree.specs.Nodes.{as_term}
 use Rattle.quota_cells.specs.declared.MoveFault.{MoveFault}
 use Rattle.flat_model.specs.Rights.{nodes_moved}
 use Rattle.storage_ops.proofs.Changed.{directory_refuses}
-use Rattle.storage_ops.proofs.QuotaLaws.{move_of_none, nothing_moved}
-use Rattle.storage_ops.proofs.TreeReplies.{move_refused, move_answered, move_told}
+use Rattle.flat_model.proofs.QuotaLaws.{move_of_none, nothing_moved}
+use Rattle.flat_model.proofs.TreeReplies.{move_refused}
+use Rattle.storage_ops.proofs.MoveReplies.{move_answered, move_told}
 use Rattle.storage_ops.proofs.rights.move_quota.Goals as goal
 
 pub returns-in-Err-clause-answer : goal.returns-in-Err-clause-answer

@@ -4,8 +4,9 @@ use mir.Val.{to_z}
 use Rattle.tree_model.specs.Tree.{Node, quota_in, used_by}
 use Rattle.dir_tree.specs.Nodes.{as_term}
 use Rattle.quota_cells.specs.declared.MoveFault.{MoveFault}
-use Rattle.storage_ops.proofs.QuotaLaws.{move_of_none}
-use Rattle.storage_ops.proofs.TreeReplies.{move_refused, move_answered, move_told}
+use Rattle.flat_model.proofs.QuotaLaws.{move_of_none}
+use Rattle.flat_model.proofs.TreeReplies.{move_refused}
+use Rattle.storage_ops.proofs.MoveReplies.{move_answered, move_told}
 use Rattle.storage_ops.proofs.rights.move_reply.Goals as goal
 
 pub returns-in-Err : goal.returns-in-Err

@@ -6,7 +6,7 @@ use Rattle.tree_model.specs.Tree.{Node, quota_in}
 use Rattle.dir_tree.specs.Nodes.{as_term}
 use Rattle.storage_ops.proofs.Changed.{segment_refuses}
 use Rattle.storage_ops.proofs.NodeLaws.{rows_found}
-use Rattle.storage_ops.proofs.TreeReplies.{acl_refused, acl_told, from_false}
+use Rattle.flat_model.proofs.TreeReplies.{acl_refused, acl_told, from_false}
 use Rattle.storage_ops.proofs.rights.set_row.Goals as goal
 
 pub returns-in-Err-clause-answer : goal.returns-in-Err-clause-answer

@@ -1,7 +1,7 @@
 use Rattle.std.proofs.Common.{true, false, sym, ◌∙◌}
 use Rattle.tree_model.specs.Tree.{quota_in}
 use Rattle.dir_tree.specs.Nodes.{as_term}
-use Rattle.flat_store.proofs.TreeReplies.{acl_refused, acl_told}
+use Rattle.flat_model.proofs.TreeReplies.{acl_refused, acl_told}
 use Rattle.flat_store.proofs.holdings.Holdings.acl_reply.Goals as goal
 
 pub returns-then-takes : goal.returns-then-takes

@@ -3,7 +3,7 @@ use Rattle.tree_model.specs.Tree.{quota_in}
 use Rattle.tree_model.specs.Trees.{IsTree}
 use Rattle.dir_tree.specs.Nodes.{as_term}
 use Rattle.flat_store.specs.Shown.{Held}
-use Rattle.flat_store.proofs.TreeLaws.{apart_shown}
+use Rattle.flat_model.proofs.TreeLaws.{apart_shown}
 use Rattle.flat_store.proofs.holdings.Holdings.branch_at.Goals as goal
 
 pub returns-clause-branch : goal.returns-clause-branch

@@ -4,7 +4,7 @@ use Rattle.tree_model.specs.Tree.{Node, quota_in}
 use Rattle.dir_tree.specs.Nodes.{as_term, has_inferior}
 use Rattle.flat_model.specs.Branches.{branch_at}
 use Rattle.flat_store.specs.Shown.{Held}
-use Rattle.flat_store.proofs.RemoveLaws.{delete_asked, delete_done, delete_refused}
+use Rattle.flat_model.proofs.RemoveLaws.{delete_asked, delete_done, delete_refused}
 use Rattle.flat_store.proofs.holdings.Holdings.deletable.Goals as goal
 
 pub returns-in-Err-clause-effect : goal.returns-in-Err-clause-effect

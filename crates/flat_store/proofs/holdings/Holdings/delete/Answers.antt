@@ -3,8 +3,10 @@ use Rattle.std.specs.Prelude.{nat_le}
 use Rattle.tree_model.specs.Tree.{Node, node_in, quota_in}
 use Rattle.dir_tree.specs.Nodes.{has_inferior}
 use Rattle.flat_model.specs.Store.{Store}
-use Rattle.flat_store.specs.Shown.{Held, Holds, without_pages}
-use Rattle.flat_store.proofs.RemoveLaws.{all_gone, deleted_is}
+use Rattle.flat_model.specs.Cuts.{without_pages}
+use Rattle.flat_store.specs.Shown.{Held, Holds}
+use Rattle.flat_model.proofs.RemoveLaws.{deleted_is}
+use Rattle.flat_store.proofs.RemoveLaws.{all_gone}
 use Rattle.flat_store.proofs.holdings.Holdings.delete.Goals as goal
 
 pub take_out-requires-clause-there : goal.take_out-requires-clause-there

@@ -2,7 +2,7 @@ use Rattle.std.proofs.Common.{◌≡◌, ℕ, true, false, refl, sym, ap, ◌∙
 use Rattle.tree_model.specs.Tree.{quota_in}
 use Rattle.dir_tree.specs.Nodes.{as_term}
 use Rattle.flat_store.specs.Shown.{Held}
-use Rattle.flat_store.proofs.TreeReplies.{delete_refused, delete_told, from_false}
+use Rattle.flat_model.proofs.TreeReplies.{delete_refused, delete_told, from_false}
 use Rattle.flat_store.proofs.holdings.Holdings.delete_reply.Goals as goal
 use Rattle.std.proofs.lemmas.Bool.{ne_eqb}
 use Rattle.std.specs.Result.{is_err}

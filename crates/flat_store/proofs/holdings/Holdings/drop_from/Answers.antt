@@ -1,6 +1,8 @@
 use Rattle.std.proofs.Common.{◌≡◌, ◌≤◌, arith, ap, sym, ◌∙◌}
-use Rattle.flat_store.specs.Shown.{Held, without_pages, pages_in}
-use Rattle.flat_store.proofs.DropLaws.{between, first_none, one_more, all_done}
+use Rattle.flat_model.specs.Cuts.{without_pages}
+use Rattle.flat_store.specs.Shown.{Held, pages_in}
+use Rattle.flat_model.proofs.DropLaws.{between}
+use Rattle.flat_store.proofs.DropLaws.{first_none, one_more, all_done}
 use Rattle.flat_store.proofs.holdings.Holdings.drop_from.Goals as goal
 
 pub loop-page-init : goal.loop-page-init

@@ -1,8 +1,9 @@
 use Rattle.std.proofs.Common.{◌≤◌}
 use Rattle.script.specs.Plans.{Plan}
 use Rattle.flat_model.specs.Store.{Store}
-use Rattle.flat_store.specs.Shown.{Holds, without_pages}
-use Rattle.flat_store.proofs.DropLaws.{between}
+use Rattle.flat_model.specs.Cuts.{without_pages}
+use Rattle.flat_store.specs.Shown.{Holds}
+use Rattle.flat_model.proofs.DropLaws.{between}
 use Rattle.flat_store.proofs.holdings.Holdings.drop_from.Given as goal
 
 abbrev pub invariant-loop-page : goal.invariant-loop-page

@@ -1,7 +1,7 @@
 use Rattle.std.proofs.Common.{true, false, sym, ◌∙◌}
 use Rattle.tree_model.specs.Tree.{quota_in}
 use Rattle.dir_tree.specs.Nodes.{as_term}
-use Rattle.flat_store.proofs.TreeReplies.{length_refused, length_told}
+use Rattle.flat_model.proofs.TreeReplies.{length_refused, length_told}
 use Rattle.flat_store.proofs.holdings.Holdings.length_reply.Goals as goal
 
 pub returns-then-is_stored_from : goal.returns-then-is_stored_from

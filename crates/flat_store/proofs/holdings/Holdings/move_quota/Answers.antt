@@ -16,8 +16,8 @@ use Rattle.flat_store.specs.contracts.holdings.Holdings.{the_view}
 use Rattle.flat_store.specs.Shown.{Held, Holds}
 use Rattle.flat_store.proofs.DropLaws.{held_inside}
 use Rattle.flat_store.proofs.EffectLaws.{after_move_is, either_held, move_either, move_stays, told_ok}
-use Rattle.flat_store.proofs.QuotaLaws.{nothing_moved}
-use Rattle.flat_store.proofs.TreeReplies.{move_answered, move_told}
+use Rattle.flat_model.proofs.QuotaLaws.{nothing_moved}
+use Rattle.flat_store.proofs.MoveReplies.{move_answered, move_told}
 use Rattle.flat_store.proofs.holdings.Holdings.move_quota.Goals as goal
 
 pub returns-in-Err : goal.returns-in-Err

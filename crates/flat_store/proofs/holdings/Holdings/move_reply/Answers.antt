@@ -9,8 +9,9 @@ use Rattle.std.specs.Int.RustNames.{unsigned_abs}
 use Rattle.quota_cells.specs.Scratch.{scratch_answer}
 use Rattle.quota_cells.specs.declared.MoveFault.{MoveFault}
 use Rattle.accounts.specs.Maps.{AccountMaps, Counts}
-use Rattle.flat_store.proofs.QuotaLaws.{move_of_none}
-use Rattle.flat_store.proofs.TreeReplies.{move_refused, move_answered, move_told}
+use Rattle.flat_model.proofs.QuotaLaws.{move_of_none}
+use Rattle.flat_model.proofs.TreeReplies.{move_refused}
+use Rattle.flat_store.proofs.MoveReplies.{move_answered, move_told}
 use Rattle.flat_store.proofs.holdings.Holdings.move_reply.Goals as goal
 
 pub returns-in-Err : goal.returns-in-Err

@@ -1,5 +1,6 @@
 use Rattle.flat_store.proofs.ReplyLaws.{within, node_shown}
-use Rattle.flat_store.proofs.NodeLaws.{has_pages, uid_found}
+use Rattle.flat_model.proofs.NodeLaws.{uid_found}
+use Rattle.flat_store.proofs.NodeLaws.{has_pages}
 use Rattle.flat_store.proofs.holdings.Holdings.reply_at.Goals as goal
 use Rattle.std.proofs.Common.{ap, sym, subst, ◌∙◌, List, refl, arith}
 use Rattle.mnames.specs.declared.modes.Mode.{Mode}

@@ -3,7 +3,7 @@ use Rattle.tree_model.specs.Tree.{Node, quota_in, used_by}
 use Rattle.dir_tree.specs.Nodes.{as_term}
 use Rattle.flat_store.specs.Shown.{Held}
 use Rattle.accounts.specs.Maps.{AccountMaps, Counts}
-use Rattle.flat_store.proofs.TreeReplies.{status_refused, status_directory, status_segment}
+use Rattle.flat_model.proofs.TreeReplies.{status_refused, status_directory, status_segment}
 use Rattle.flat_store.proofs.holdings.Holdings.status_reply.Goals as goal
 
 pub returns-in-Err : goal.returns-in-Err

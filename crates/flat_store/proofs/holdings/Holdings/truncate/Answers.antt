@@ -4,8 +4,9 @@ use Rattle.tree_model.specs.Tree.{Node, quota_in}
 use Rattle.dir_tree.specs.Nodes.{as_term}
 use Rattle.flat_model.specs.Branches.{segment_at}
 use Rattle.flat_model.specs.Store.{Store}
-use Rattle.flat_store.specs.Shown.{Holds, without_pages}
-use Rattle.flat_store.proofs.CutLaws.{truncate_done, truncate_refused, whole_cut}
+use Rattle.flat_model.specs.Cuts.{without_pages}
+use Rattle.flat_store.specs.Shown.{Holds}
+use Rattle.flat_model.proofs.CutLaws.{truncate_done, truncate_refused, whole_cut}
 use Rattle.flat_store.proofs.holdings.Holdings.truncate.Goals as goal
 
 pub returns-in-Err : goal.returns-in-Err
@@ -21,6 +22,6 @@ returns c = λ p s h.
     let done = c.cut_page.ensures p (without_pages s uid (λ q. nat_le (c.args.words / 1024 + 1) q))
     (c.drop_from.ensures p s h) in
     subst (λ (x : Store). Holds p c.cut_page.new.self x)
-    (whole_cut c.args.self.now.pages s uid c.args.words h.pages
+    (whole_cut s uid c.args.words
     ∙ sym (truncate_done s c.args.path.now c.args.words n
     (ap (λ (ns : List Node). segment_at ns c.args.path.now) h.nodes ∙ c.in-Ok.ensures.ok))) done

@@ -1,6 +1,6 @@
 use Rattle.tree_model.specs.Tree.{quota_in}
 use Rattle.dir_tree.specs.Nodes.{as_term}
-use Rattle.flat_store.proofs.TreeReplies.{truncate_refused, truncate_told}
+use Rattle.flat_model.proofs.TreeReplies.{truncate_refused, truncate_told}
 use Rattle.flat_store.proofs.holdings.Holdings.truncate_reply.Goals as goal
 
 pub returns-in-Ok : goal.returns-in-Ok

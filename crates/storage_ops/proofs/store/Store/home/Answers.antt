@@ -1,7 +1,7 @@
 use Rattle.std.proofs.Common.{◌<◌, length, sym, ap, subst, ◌∙◌, ℕ}
 use Rattle.page_control.specs.Plain.{Paging}
 use Rattle.storage_ops.specs.Shown.{Storage, home_of, is_there}
-use Rattle.storage_ops.proofs.NodeLaws.{volume_found}
+use Rattle.flat_model.proofs.NodeLaws.{volume_found}
 use Rattle.storage_ops.proofs.Tables.{drives_there, homed_volume}
 use Rattle.storage_ops.proofs.store.Store.home.Goals as goal
 

@@ -2,7 +2,7 @@ use Rattle.std.proofs.Common.{true, false, sym, ap, subst, ◌∙◌}
 use Rattle.tree_model.specs.Tree.{quota_in}
 use Rattle.dir_tree.specs.Nodes.{as_term}
 use Rattle.storage_ops.specs.Shown.{ShowsTree, Storage, refusal}
-use Rattle.storage_ops.proofs.TreeReplies.{length_refused, length_told}
+use Rattle.flat_model.proofs.TreeReplies.{length_refused, length_told}
 use Rattle.storage_ops.proofs.store.Store.length_refusal.Goals as goal
 
 pub returns-then-stores_from : goal.returns-then-stores_from

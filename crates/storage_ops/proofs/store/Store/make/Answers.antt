@@ -6,7 +6,7 @@ use Rattle.flat_model.specs.Store.{Store as Flat}
 use Rattle.storage_ops.specs.Shown.{Shows, ShowsTree, Storage, answered}
 use Rattle.storage_ops.proofs.Changed.{node_refuses}
 use Rattle.storage_ops.proofs.Made.{after_make_is}
-use Rattle.storage_ops.proofs.TreeReplies.{make_in_segment, make_refused, make_root, make_told}
+use Rattle.flat_model.proofs.TreeReplies.{make_in_segment, make_refused, make_root, make_told}
 use Rattle.storage_ops.proofs.store.Store.make.Goals as goal
 
 pub returns-in_default-clause-answer : goal.returns-in_default-clause-answer

@@ -5,7 +5,7 @@ use Rattle.page_control.specs.Plain.{plain}
 use Rattle.storage_ops.specs.Shown.{IsInactiveAt, Shows, ShowsTree, Storage, is_filed}
 use Rattle.storage_ops.proofs.Changed.{segment_refuses}
 use Rattle.storage_ops.proofs.Lengths.{length_shown, length_store}
-use Rattle.storage_ops.proofs.TreeReplies.{length_refused, length_told}
+use Rattle.flat_model.proofs.TreeReplies.{length_refused, length_told}
 use Rattle.storage_ops.proofs.store.Store.set_length.Goals as goal
 
 pub returns-in-Err-clause-answer : goal.returns-in-Err-clause-answer

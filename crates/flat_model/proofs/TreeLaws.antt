@@ -11,7 +11,7 @@ use Rattle.tree_model.specs.Tree.{onward, walk_from, walk_in, without_node}
 use Rattle.tree_model.specs.Trees.{AreBelow, IsBranch, IsTree, Joins}
 use Rattle.tree_model.proofs.TreeLaws.{lies}
 use Rattle.flat_model.specs.Branches.{node_at, walked, there_or}
-use Rattle.storage_ops.proofs.NodeLaws.{uid_found}
+use Rattle.flat_model.proofs.NodeLaws.{uid_found}
 
 -- the oldest node is the root
 above_one : (m : Node) (ms : List Node) (u : ℕ) → IsTree (m ∷ ms) → AreBelow u (m ∷ ms) → 1 < u

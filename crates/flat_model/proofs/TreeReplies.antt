@@ -1,5 +1,5 @@
 -- What tree commands are answered, by what the path leads to.
-use Rattle.std.proofs.Common.{◌≡◌, ℕ, ℤ, Bool, true, false, cond, eqb, List, [], ◌∷◌, ◌++◌, Option, Some, None, Result}
+use Rattle.std.proofs.Common.{◌≡◌, ℕ, ℤ, Bool, true, false, cond, eqb, List, [], ◌∷◌, ◌++◌, Some, Result}
 use Rattle.std.proofs.Common.{Ok, Err, refl, sym, ap, ◌∙◌}
 use Rattle.std.specs.Prelude.{count_by, nat_lt}
 use Rattle.std.specs.Int.{is_positive}
@@ -12,10 +12,7 @@ use Rattle.book.specs.declared.replies.Reply.TheVariants as reply
 use Rattle.tree_model.specs.Access.{takes_row}
 use Rattle.tree_model.specs.Quotas.{giver_of, over_in, tree_moved}
 use Rattle.tree_model.specs.Tree.{Node, above, is_inferior, quota_in, used_by}
-use Rattle.quota_cells.specs.declared.MoveFault.{MoveFault}
-use Rattle.quota_cells.specs.declared.MoveFault.TheVariants as fault
-use Rattle.quota_cells.specs.Cells.{over_answer}
-use Rattle.quota_cells.specs.Scratch.{scratch_answer}
+use Rattle.flat_model.specs.Commands.{takes_effect}
 use Rattle.flat_model.specs.Branches.{branch_at, directory_at, node_at, parts_of, before_parts, segment_at}
 use Rattle.flat_model.specs.Making.{delete_reply, make_in, make_reply}
 use Rattle.flat_model.specs.Naming.{status_reply}
@@ -24,16 +21,19 @@ use Rattle.flat_model.specs.Rights.{acl_reply, done_or_over, move_reply}
 use Rattle.flat_model.specs.Sizes.{length_reply, truncate_reply}
 use Rattle.flat_model.specs.Store.{Store}
 
+-- a command that takes effect wasn't refused
+pub not_first : (b : Bool) (x y : Reply) → takes_effect x ≡ false → takes_effect (cond b x y) ≡ true
+    → (b ≡ false) × (takes_effect y ≡ true)
+not_first true x y none is = absurd (clash (sym is ∙ none))
+  where
+    clash : true ≡ false → ⊥
+    clash z = cc
+not_first false x y none is = (refl, is)
+
 -- the way back of a test
 pub from_false : (a b : Bool) → (b ≡ true → a ≡ true) → a ≡ false → b ≡ false
 from_false a true back none = sym (back refl) ∙ none
 from_false a false back none = refl
-
--- what the move of quota is answered
-abbrev pub move_told : Result (Unit {0}) MoveFault → Reply
-move_told (Ok x) = reply.Done
-move_told (Err fault.TooLittle) = reply.TooLittle
-move_told (Err (fault.Over u)) = reply.Over u
 
 module _ (s : Store) (nodes : List Node) (path : List (List ℕ)) (same : s.nodes ≡ nodes) where
   segment_is : (r : Result Node Reply) → segment_at nodes path ≡ r → segment_at s.nodes path ≡ r
@@ -114,26 +114,16 @@ module _ (s : Store) (nodes : List Node) (path : List (List ℕ)) (same : s.node
   unfolding move_reply
   move_refused amount r e = sym (rw (directory_is (Err r) e) refl)
 
-  pub move_answered : (amount : ℤ) (n : Node) (r : Result (Unit {0}) MoveFault) (given : Reply)
-      → directory_at nodes path ≡ Ok n
-      → r ≡ scratch_answer nodes s.stored n.uid (is_positive amount) (unsigned_abs amount) → given ≡ move_told r
+  pub move_told : (amount : ℤ) (n : Node) (given : Reply) → directory_at nodes path ≡ Ok n
+      → given ≡ cond (nat_lt (quota_in nodes (giver_of (above nodes) n.uid (is_positive amount))) (unsigned_abs amount))
+      reply.TooLittle (done_or_over
+      (over_in (tree_moved nodes n.uid (is_positive amount) (unsigned_abs amount)) s.stored))
       → given ≡ move_reply s path amount
   unfolding move_reply
-  move_answered amount n r given e is told =
-      told ∙ ap move_told (is ∙ ap
-      (λ (ns : List Node). scratch_answer ns s.stored n.uid (is_positive amount) (unsigned_abs amount)) (sym same))
-      ∙ both (nat_lt (quota_in s.nodes (giver_of (above s.nodes) n.uid (is_positive amount))) (unsigned_abs amount))
-      (over_in (tree_moved s.nodes n.uid (is_positive amount) (unsigned_abs amount)) s.stored)
+  move_told amount n given e is = is ∙ ap (λ (ns : List Node). cond
+      (nat_lt (quota_in ns (giver_of (above ns) n.uid (is_positive amount))) (unsigned_abs amount)) reply.TooLittle
+      (done_or_over (over_in (tree_moved ns n.uid (is_positive amount) (unsigned_abs amount)) s.stored))) (sym same)
       ∙ sym (rw (directory_is (Ok n) e) refl)
-    where
-      over : (o : Option ℕ) → move_told (over_answer o) ≡ done_or_over o
-      over None = refl
-      over (Some u) = refl
-
-      both : (z : Bool) (o : Option ℕ)
-          → move_told (cond z (Err fault.TooLittle) (over_answer o)) ≡ cond z reply.TooLittle (done_or_over o)
-      both true o = refl
-      both false o = over o
 
 -- ---- making
 

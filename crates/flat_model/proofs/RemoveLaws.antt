@@ -1,0 +1,146 @@
+-- A directory or a segment is taken out.
+use Rattle.std.proofs.Common.{◌≡◌, ◌≢◌, ℕ, ◌+◌, ◌/◌, ◌||◌, Bool, true, false, cond, eqb, not, ◌&&◌, List, [], ◌∷◌}
+use Rattle.std.proofs.Common.{Some, None, Ok, Err, refl, sym, ap, ◌∙◌, arith, inl, inr}
+use Rattle.std.specs.Prelude.{count_by, nat_le}
+use Rattle.std.specs.List.{list_any}
+use Rattle.std.proofs.lemmas.Bool.{cases_Bool, ne_eqb}
+use Rattle.std.proofs.lemmas.Bool.Decides.{nat_tests}
+use Rattle.std.proofs.lemmas.List.Sums.{sum_by-cons}
+use Rattle.book.specs.declared.replies.Reply.{Reply}
+use Rattle.book.specs.declared.replies.Reply.TheVariants as reply
+use Rattle.tree_model.specs.Tree.{Node, has_directory, is_inferior, node_in, taken_on, volume_in, without_node}
+use Rattle.tree_model.specs.Trees.{has_segment}
+use Rattle.flat_model.specs.Branches.{branch_at}
+use Rattle.flat_model.specs.Commands.{takes_effect}
+use Rattle.flat_model.specs.Cuts.{without_branch, without_pages}
+use Rattle.flat_model.specs.Making.{after_delete, delete_reply, deleted}
+use Rattle.flat_model.specs.Pages.{Words, is_page, is_stored, without_stored}
+use Rattle.flat_model.specs.Store.{Store}
+use Rattle.flat_model.proofs.TreeReplies.{not_first}
+
+-- ---- what is left of the nodes
+
+pub node_left : (ns : List Node) (u v : ℕ) → v ≢ u → node_in (without_node ns u) v ≡ node_in ns v
+node_left [] u v apart = refl
+node_left (n ∷ ns) u v apart = elim (cases_Bool (eqb n.uid u)) [
+  | inl here ↦ (let is : n.uid ≡ u = grind (arith, nat_tests) in
+      let other : eqb n.uid v ≡ false = ne_eqb n.uid v (omega (arith, is, apart)) in
+      rw (here, other) (node_left ns u v apart))
+  | inr there ↦ rw there (ap (cond (eqb n.uid v) (Some n)) (node_left ns u v apart))
+]
+
+pub node_gone : (ns : List Node) (u : ℕ) → node_in (without_node ns u) u ≡ None
+node_gone [] u = refl
+node_gone (n ∷ ns) u = elim (cases_Bool (eqb n.uid u)) [
+  | inl here ↦ rw here (node_gone ns u)
+  | inr there ↦ rw there (rw there (node_gone ns u))
+]
+
+pub segment_left : (ns : List Node) (u v : ℕ) → v ≢ u → has_segment (without_node ns u) v ≡ has_segment ns v
+segment_left [] u v apart = refl
+segment_left (n ∷ ns) u v apart = elim (cases_Bool (eqb n.uid u)) [
+  | inl here ↦ (let is : n.uid ≡ u = grind (arith, nat_tests) in
+      let other : eqb n.uid v ≡ false = ne_eqb n.uid v (omega (arith, is, apart)) in
+      rw (here, other) (segment_left ns u v apart))
+  | inr there ↦ rw there (ap (cond (eqb n.uid v) (not n.directory)) (segment_left ns u v apart))
+]
+
+pub volume_left : (ns : List Node) (u v : ℕ) → v ≢ u → volume_in (without_node ns u) v ≡ volume_in ns v
+volume_left [] u v apart = refl
+volume_left (n ∷ ns) u v apart = elim (cases_Bool (eqb n.uid u)) [
+  | inl here ↦ (let is : n.uid ≡ u = grind (arith, nat_tests) in
+      let other : eqb n.uid v ≡ false = ne_eqb n.uid v (omega (arith, is, apart)) in
+      rw (here, other) (volume_left ns u v apart))
+  | inr there ↦ rw there (ap (cond (eqb n.uid v) n.volume) (volume_left ns u v apart))
+]
+
+pub directory_left : (ns : List Node) (u v : ℕ) → v ≢ u → has_directory (without_node ns u) v ≡ has_directory ns v
+directory_left [] u v apart = refl
+directory_left (n ∷ ns) u v apart = elim (cases_Bool (eqb n.uid u)) [
+  | inl here ↦ (let is : n.uid ≡ u = grind (arith, nat_tests) in
+      let other : eqb n.uid v ≡ false = ne_eqb n.uid v (omega (arith, is, apart)) in
+      rw (here, other) (directory_left ns u v apart))
+  | inr there ↦ rw there (ap (cond (eqb n.uid v) n.directory) (directory_left ns u v apart))
+]
+
+pub directory_gone : (ns : List Node) (u : ℕ) → has_directory (without_node ns u) u ≡ false
+directory_gone [] u = refl
+directory_gone (n ∷ ns) u = elim (cases_Bool (eqb n.uid u)) [
+  | inl here ↦ rw here (directory_gone ns u)
+  | inr there ↦ rw there
+      (rw there (directory_gone ns u))
+]
+
+later : (a b : Bool) → (a || b) ≡ false → (a ≡ false) × (b ≡ false)
+later true b h = cc
+later false b h = (refl, h)
+
+pub taken_left : (ns : List Node) (xs : List (ℕ × ℕ)) (u v : ℕ) → ((page : ℕ) → is_stored xs u page ≡ false)
+    → taken_on (without_node ns u) xs v ≡ taken_on ns xs v
+unfolding taken_on
+taken_left ns [] u v none = refl
+taken_left ns (x ∷ xs) u v none =
+    let first : (eqb x.0 u && eqb x.1 x.1) ≡ false = (later (is_page u x.1 x) (is_stored xs u x.1) (none x.1)).0 in
+    let apart : x.0 ≢ u = grind (arith, nat_tests) in
+    sum_by-cons (λ (y : ℕ × ℕ). cond (eqb (volume_in (without_node ns u) y.0) v) 1 0) x xs
+    ∙ ap (λ (n : ℕ). cond {A = ℕ} (eqb n v) 1 0 + count_by (λ y. eqb (volume_in (without_node ns u) y.0) v) xs)
+    (volume_left ns u x.0 apart)
+    ∙ ap (λ (n : ℕ). cond {A = ℕ} (eqb (volume_in ns x.0) v) 1 0 + n)
+    (taken_left ns xs u v (λ page. (later (is_page u page x) (is_stored xs u page) (none page)).1))
+    ∙ sym (sum_by-cons (λ (y : ℕ × ℕ). cond (eqb (volume_in ns y.0) v) 1 0) x xs)
+
+pub none_counted : (xs : List (ℕ × ℕ)) (u : ℕ) → ((page : ℕ) → is_stored xs u page ≡ false)
+    → count_by (λ x. eqb x.0 u) xs ≡ 0
+none_counted [] u none = refl
+none_counted (x ∷ xs) u none =
+    let first : (eqb x.0 u && eqb x.1 x.1) ≡ false = (later (is_page u x.1 x) (is_stored xs u x.1) (none x.1)).0 in
+    let apart : eqb x.0 u ≡ false = grind (arith, nat_tests) in
+    let rest : count_by (λ y. eqb y.0 u) xs ≡ 0 =
+    none_counted xs u (λ page. (later (is_page u page x) (is_stored xs u page) (none page)).1) in
+    sum_by-cons (λ (y : ℕ × ℕ). cond (eqb y.0 u) 1 0) x xs ∙ rw apart (omega (arith, rest))
+
+-- ---- by its path
+
+from_first : (page : ℕ) → nat_le 0 page ≡ true
+from_first page = grind (arith, nat_tests)
+
+pub deleted_is : (s : Store) (u : ℕ)
+    → record (without_pages s u (λ q. nat_le 0 q)) { nodes = without_node s.nodes u } ≡ without_branch s (Some u)
+deleted_is s u =
+    ap (λ (w : Words). record s {
+      nodes = without_node s.nodes u;
+      words = w;
+      stored = without_stored s.stored u (λ q. nat_le 0 q);
+    })
+    (λ i. λ v. λ o. ap (λ (z : Bool). cond (eqb v u && z) 0 (s.words v o)) (from_first (o / 1024)
+    ∙ sym (from_first o)) i)
+    ∙ ap (λ (t : ℕ → Bool). record s {
+      nodes = without_node s.nodes u;
+      words = λ v o. cond (eqb v u && nat_le 0 o) 0 (s.words v o);
+      stored =
+          without_stored s.stored u t;
+    }) (λ i. λ q. from_first q i)
+
+pub delete_refused : (s : Store) (path : List (List ℕ)) (r : Reply) → branch_at s.nodes path ≡ Err r
+    → after_delete s path ≡ s
+unfolding after_delete
+delete_refused s path r found = ap (deleted s) found
+
+pub delete_done : (s : Store) (path : List (List ℕ)) (n : Node) → branch_at s.nodes path ≡ Ok n
+    → after_delete s path ≡ without_branch s (Some n.uid)
+unfolding after_delete
+delete_done s path n found = ap (deleted s) found
+
+pub delete_asked : (s : Store) (path : List (List ℕ)) (n : Node) → branch_at s.nodes path ≡ Ok n
+    → takes_effect (delete_reply s path) ≡ true
+    → (list_any (is_inferior n.uid) s.nodes ≡ false) × (eqb n.quota 0 ≡ true)
+unfolding delete_reply
+delete_asked s path n found effect =
+    let first = not_first (list_any (is_inferior n.uid) s.nodes) reply.NotEmpty
+    (cond (eqb n.quota 0) reply.Done reply.HasQuota) refl (rw found at effect) in
+    (first.0, here (eqb n.quota 0) refl first.1)
+  where
+    here : (z : Bool) → eqb n.quota 0 ≡ z → takes_effect (cond z reply.Done reply.HasQuota) ≡ true
+        → eqb n.quota 0 ≡ true
+    here true e is = e
+    here false e is = cc

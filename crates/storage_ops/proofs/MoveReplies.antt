@@ -1,0 +1,43 @@
+-- What the move of quota is answered, by the answer of the quota cells.
+use Rattle.std.proofs.Common.{◌≡◌, ℕ, ℤ, Bool, true, false, cond, List, Option, Some, None, Result, Ok, Err, refl, ◌∙◌}
+use Rattle.std.proofs.Common.{ap}
+use Rattle.std.specs.Prelude.{nat_lt}
+use Rattle.std.specs.Int.{is_positive}
+use Rattle.std.specs.Int.RustNames.{unsigned_abs}
+use Rattle.book.specs.declared.replies.Reply.{Reply}
+use Rattle.book.specs.declared.replies.Reply.TheVariants as reply
+use Rattle.tree_model.specs.Quotas.{giver_of, over_in, tree_moved}
+use Rattle.tree_model.specs.Tree.{Node, above, quota_in}
+use Rattle.quota_cells.specs.declared.MoveFault.{MoveFault}
+use Rattle.quota_cells.specs.declared.MoveFault.TheVariants as fault
+use Rattle.quota_cells.specs.Cells.{over_answer}
+use Rattle.quota_cells.specs.Scratch.{scratch_answer}
+use Rattle.flat_model.specs.Branches.{directory_at}
+use Rattle.flat_model.specs.Rights.{done_or_over, move_reply}
+use Rattle.flat_model.specs.Store.{Store}
+use Rattle.flat_model.proofs.TreeReplies as replies
+
+abbrev pub move_told : Result (Unit {0}) MoveFault → Reply
+move_told (Ok x) = reply.Done
+move_told (Err fault.TooLittle) = reply.TooLittle
+move_told (Err (fault.Over u)) = reply.Over u
+
+pub move_answered : (s : Store) (nodes : List Node) (path : List (List ℕ)) (same : s.nodes ≡ nodes) (amount : ℤ) (n :
+    Node)
+    (r : Result (Unit {0}) MoveFault) (given : Reply)
+    → directory_at nodes path ≡ Ok n
+    → r ≡ scratch_answer nodes s.stored n.uid (is_positive amount) (unsigned_abs amount) → given ≡ move_told r
+    → given ≡ move_reply s path amount
+move_answered s nodes path same amount n r given e is told =
+    replies.move_told s nodes path same amount n given e (told ∙ ap move_told is
+    ∙ both (nat_lt (quota_in nodes (giver_of (above nodes) n.uid (is_positive amount))) (unsigned_abs amount))
+    (over_in (tree_moved nodes n.uid (is_positive amount) (unsigned_abs amount)) s.stored))
+  where
+    over : (o : Option ℕ) → move_told (over_answer o) ≡ done_or_over o
+    over None = refl
+    over (Some u) = refl
+
+    both : (z : Bool) (o : Option ℕ)
+        → move_told (cond z (Err fault.TooLittle) (over_answer o)) ≡ cond z reply.TooLittle (done_or_over o)
+    both true o = refl
+    both false o = over o
