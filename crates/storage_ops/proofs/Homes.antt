@@ -45,7 +45,7 @@ home_cases a b = elim (cases_eq a.volume b.volume) [
 
 -- ---- words of pages that aren't stored
 
-bound_of : (bound : List (Option (ℕ × ℕ))) (u q f : ℕ) → position (is_binding u q) bound ≡ Some f
+pub bound_of : (bound : List (Option (ℕ × ℕ))) (u q f : ℕ) → position (is_binding u q) bound ≡ Some f
     → binding_at bound f ≡ Some (u, q)
 bound_of bound u q f e = by (binding_at bound f) refl
     (let h = position-Some (is_binding u q) bound f None e in h.1)

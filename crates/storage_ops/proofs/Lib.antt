@@ -1,5 +1,7 @@
 pub mod Alike
 pub mod Changed
+pub mod Dropped
+pub mod Entries
 pub mod Fresh
 pub mod Homes
 pub mod Known
@@ -9,6 +11,9 @@ pub mod Made
 pub mod MoveReplies
 pub mod NamingLaws
 pub mod NodeLaws
+pub mod Paged
+pub mod PagesLess
 pub mod PathLaws
 pub mod Still
 pub mod Tables
+pub mod Unstored

@@ -45,7 +45,7 @@ fn names_from(vtoc: &Vtoc, entry: u32, from: u32, to: u32) -> bool
 
 /// The length of a node, in pages; 0 where it isn't there.
 #[tactic(auto, using(crate::proofs::NodeLaws::pages_found, crate::proofs::NodeLaws::no_pages))]
-fn pages_of(accounts: &Accounts, uid: u32) -> u32
+pub(crate) fn pages_of(accounts: &Accounts, uid: u32) -> u32
     ensures { result ≡ pages_in accounts.now.nodes uid }
 {
     match accounts.node(uid) {

@@ -1,0 +1,93 @@
+-- A VTOC entry at a home is changed.
+use Rattle.std.proofs.Common.{◌≡◌, ◌≢◌, ℕ, zero, suc, ◌+◌, Bool, true, cond, List, [], ◌∷◌, set, get_or, Option}
+use Rattle.std.proofs.Common.{Some, None, is_some, refl, sym, ap, subst, ◌∙◌, arith, inl, inr}
+use Rattle.std.specs.Prelude.{count_by}
+use Rattle.std.proofs.lemmas.Bool.{cases_eq}
+use Rattle.std.proofs.lemmas.List.{get_or-set_other, get_or-set_same}
+use Rattle.std.proofs.lemmas.List.Sums.{sum_by-cons}
+use Rattle.vtoc.specs.Vtoc.{Entry, entry_at, records_in, uid_of, with_record}
+use Rattle.page_control.specs.declared.Home.{Home}
+use Rattle.page_control.specs.Tied.{map_at, uid_at, vtoc_in}
+use Rattle.storage_ops.proofs.Tables.{homed_entry, homed_volume}
+
+-- the entry at a home becomes this
+abbrev pub entry_put : List (List (Option Entry)) → Home → Option Entry → List (List (Option Entry))
+entry_put vtocs home x = set vtocs home.volume (set (vtoc_in vtocs home.volume) home.entry x)
+
+abbrev pub entry_there : List (List (Option Entry)) → Home → Option Entry
+entry_there vtocs home = entry_at (vtoc_in vtocs home.volume) home.entry
+
+both_same : (a b : Home) → a.volume ≡ b.volume → a.entry ≡ b.entry → a ≡ b
+both_same a b v e = ap (λ (n : ℕ). record { volume = n; entry = a.entry }) v
+    ∙ ap (λ (n : ℕ). record { volume = b.volume; entry = n }) e
+
+-- what is told of each entry, once one is changed
+pub entry_told : (vtocs : List (List (Option Entry))) (home : Home) (u : ℕ) (x : Option Entry)
+    (P : Option Entry → Type 0) (other : Home) → uid_at vtocs home ≡ Some u → (other ≡ home → P x)
+    → (other ≢ home → P (entry_there vtocs other))
+    → P (entry_there (entry_put vtocs home x) other)
+entry_told vtocs home u x P other used here there = elim (cases_eq other.volume home.volume) [
+  | inr ne ↦ subst (λ (t : List (Option Entry)). P (entry_at t other.entry))
+      (sym (get_or-set_other vtocs home.volume other.volume (set (vtoc_in vtocs home.volume) home.entry x) [] ne))
+      (there (λ same. ne (ap (λ (h : Home). h.volume) same)))
+  | inl v ↦ subst (λ (t : List (Option Entry)). P (entry_at t other.entry))
+      (sym (ap (vtoc_in (entry_put vtocs home x)) v
+      ∙ get_or-set_same vtocs home.volume (set (vtoc_in vtocs home.volume) home.entry x) []
+      (homed_volume vtocs home u used)))
+      (elim (cases_eq other.entry home.entry) [
+        | inr ne ↦ subst P (sym (get_or-set_other (vtoc_in vtocs home.volume) home.entry other.entry x None ne))
+            (subst (λ (n : ℕ). P (entry_at (vtoc_in vtocs n) other.entry)) v
+            (there (λ same. ne (ap (λ (h : Home). h.entry) same))))
+        | inl e ↦ subst P (sym (ap (entry_at (set (vtoc_in vtocs home.volume) home.entry x)) e
+            ∙ get_or-set_same (vtoc_in vtocs home.volume) home.entry x None (homed_entry vtocs home u used)))
+            (here (both_same other home v e))
+      ])
+]
+
+record_uid : (o : Option Entry) (q : ℕ) (r : Option ℕ) → uid_of (with_record o q r) ≡ uid_of o
+record_uid None q r = refl
+record_uid (Some x) q r = refl
+
+record_map : (o : Option Entry) (q u : ℕ) (r : Option ℕ) → uid_of o ≡ Some u
+    → records_in (with_record o q r) ≡ set (records_in o) q r
+record_map None q u r e = cc
+record_map (Some x) q u r e = refl
+
+-- the file map at a home names another record for a page, or none
+abbrev pub map_put : List (List (Option Entry)) → Home → ℕ → Option ℕ → List (List (Option Entry))
+map_put vtocs home q r = entry_put vtocs home (with_record (entry_there vtocs home) q r)
+
+module _ (vtocs : List (List (Option Entry))) (home : Home) (u q : ℕ) (r : Option ℕ)
+    (used : uid_at vtocs home ≡ Some u) where
+  pub put_uid : (other : Home) → uid_at (map_put vtocs home q r) other ≡ uid_at vtocs other
+  put_uid other = entry_told vtocs home u (with_record (entry_there vtocs home) q r)
+      (λ (o : Option Entry). uid_of o ≡ uid_at vtocs other) other used
+      (λ same. record_uid (entry_there vtocs home) q r ∙ sym (ap (uid_at vtocs) same)) (λ ne. refl)
+
+  pub put_other : (other : Home) → other ≢ home → map_at (map_put vtocs home q r) other ≡ map_at vtocs other
+  put_other other apart = entry_told vtocs home u (with_record (entry_there vtocs home) q r)
+      (λ (o : Option Entry). records_in o ≡ map_at vtocs other) other used (λ same. absurd (apart same)) (λ ne. refl)
+
+  pub put_here : map_at (map_put vtocs home q r) home ≡ set (map_at vtocs home) q r
+  put_here = entry_told vtocs home u (with_record (entry_there vtocs home) q r)
+      (λ (o : Option Entry). records_in o ≡ set (map_at vtocs home) q r) home used
+      (λ same. record_map (entry_there vtocs home) q u r used) (λ ne. absurd (ne refl))
+
+-- a record named less
+pub one_named : (xs : List (Option ℕ)) (q : ℕ) → is_some (get_or xs q None) ≡ true
+    → count_by is_some (set xs q None) + 1 ≡ count_by is_some xs
+one_named [] q on = cc
+one_named (x ∷ xs) zero on =
+    let old : count_by is_some (x ∷ xs) ≡ cond {A = ℕ} (is_some x) 1 0 + count_by is_some xs =
+    sum_by-cons (λ (y : Option ℕ). cond (is_some y) 1 0) x xs in
+    let new : count_by is_some (None ∷ xs) ≡ 0 + count_by is_some xs =
+    sum_by-cons (λ (y : Option ℕ). cond (is_some y) 1 0) None xs in
+    let one : cond {A = ℕ} (is_some x) 1 0 ≡ 1 = ap (λ (z : Bool). cond {A = ℕ} z 1 0) on in
+    omega (arith, old, new, one)
+one_named (x ∷ xs) (suc q) on =
+    let ih : count_by is_some (set xs q None) + 1 ≡ count_by is_some xs = one_named xs q on in
+    let old : count_by is_some (x ∷ xs) ≡ cond {A = ℕ} (is_some x) 1 0 + count_by is_some xs =
+    sum_by-cons (λ (y : Option ℕ). cond (is_some y) 1 0) x xs in
+    let new : count_by is_some (x ∷ set xs q None) ≡ cond {A = ℕ} (is_some x) 1 0 + count_by is_some (set xs q None) =
+    sum_by-cons (λ (y : Option ℕ). cond (is_some y) 1 0) x (set xs q None) in
+    omega (arith, ih, old, new)

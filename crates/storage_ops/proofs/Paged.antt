@@ -1,0 +1,155 @@
+-- An active segment: its home, its page table, and which of its pages are stored.
+use Rattle.std.proofs.Common.{◌≡◌, ◌≢◌, ℕ, zero, suc, ◌/◌, ◌%◌, ◌<◌, ◌≤◌, Bool, true, false, cond, ◌&&◌, ◌↔◌, List, []}
+use Rattle.std.proofs.Common.{◌∷◌, get_or, Option}
+use Rattle.std.proofs.Common.{Some, None, replicate, refl, sym, ap, ◌∙◌, arith, inl, inr}
+use Rattle.std.specs.List.{position_or_len}
+use Rattle.std.proofs.lemmas.Bool.{cases_Bool}
+use Rattle.std.proofs.lemmas.Bool.Decides.{nat_tests}
+use Rattle.std.proofs.lemmas.Grind.{common_steps}
+use Rattle.std.proofs.lemmas.Option.{same_Some}
+use Rattle.mnames.specs.declared.principals.Who.{Who}
+use Rattle.script.specs.Plans.{Plan}
+use Rattle.accounts.specs.Maps.{AccountMaps}
+use Rattle.flat_model.specs.Store.{Store}
+use Rattle.flat_model.proofs.DropLaws.{IsBlank}
+use Rattle.vtoc.specs.Vtoc.{Entry as VtocEntry}
+use Rattle.active_segs.specs.declared.Entry.{Entry}
+use Rattle.active_segs.specs.Active.{ActiveSegs, IsActive, uid_at as uid_in_place, uid_in}
+use Rattle.page_table.specs.declared.Ptw.{Ptw}
+use Rattle.page_table.specs.declared.Ptw.TheVariants.{Here, Leaving, Null, Out}
+use Rattle.page_control.specs.declared.Home.{Home}
+use Rattle.page_control.specs.Plain.{Plain, binding_at, bindings, plain}
+use Rattle.page_control.specs.Tied.{frame_of, has_record}
+use Rattle.page_control.specs.Ties.{IsTied}
+use Rattle.page_control.specs.Picture.{is_filed_at, words_at}
+use Rattle.seg_control.specs.Control.{Links, is_for, place_of, table_of, word_of}
+use Rattle.seg_control.specs.Kept.{IsHomeOf, IsKept}
+use Rattle.storage_ops.specs.Shown.{IsStore, Shows, Storage, home_of, is_filed, is_there, pages_in, picture}
+use Rattle.storage_ops.proofs.Fresh.{one_of}
+use Rattle.storage_ops.proofs.Homes.{filed_map, words_none}
+use Rattle.storage_ops.proofs.Lengths.{filed_there}
+
+uid_from : (u : ℕ) (e : Option Entry) → is_for u e ≡ true → uid_in e ≡ Some u
+uid_from u None h = cc
+uid_from u (Some e) h = (let same : e.uid ≡ u = grind (arith, nat_tests) in ap (λ (n : ℕ). Some n) same)
+
+not_for : (u : ℕ) (e : Option Entry) → is_for u e ≡ false → uid_in e ≢ Some u
+not_for u None h is = cc
+not_for u (Some e) h is = (let same : e.uid ≡ u = cc in
+    let on : is_for u (Some e) ≡ true = grind (arith, nat_tests) in
+    let clash : true ≡ false = sym on ∙ h in cc)
+
+-- an active segment is in the place that is found for it
+found_at : (xs : List (Option Entry)) (u place : ℕ) → uid_in_place xs place ≡ Some u
+    → uid_in_place xs (position_or_len (is_for u) xs) ≡ Some u
+found_at [] u place at = cc
+found_at (x ∷ xs) u place at = elim (cases_Bool (is_for u x)) [
+  | inl is ↦ (let first : position_or_len (is_for u) (x ∷ xs) ≡ 0 = grind (arith, common_steps) in
+      ap (uid_in_place (x ∷ xs)) first ∙ uid_from u x is)
+  | inr isnt ↦
+      (let next : position_or_len (is_for u) (x ∷ xs) ≡ suc (position_or_len (is_for u) xs) =
+      grind (arith, common_steps) in
+      ap (uid_in_place (x ∷ xs)) next ∙ later (λ n e. found_at xs u n e) place at isnt)
+]
+  where
+    later : ((n : ℕ) → uid_in_place xs n ≡ Some u → uid_in_place xs (position_or_len (is_for u) xs) ≡ Some u)
+        → (place : ℕ) → uid_in_place (x ∷ xs) place ≡ Some u → is_for u x ≡ false
+        → uid_in_place xs (position_or_len (is_for u) xs) ≡ Some u
+    later ih zero at isnt = absurd (not_for u x isnt at)
+    later ih (suc n) at isnt = ih n at
+
+pub active_place : (entries : List (Option Entry)) (u : ℕ) → IsActive entries u
+    → uid_in_place entries (place_of entries u) ≡ Some u
+unfolding place_of
+active_place entries u active = found_at entries u active.0 active.1
+
+module _ (now : Plain) (ast : ActiveSegs) (links : Links) (a : AccountMaps) (whos : List Who) (k : IsKept now ast links)
+    (h : IsStore now ast links a whos) (u : ℕ) (active : IsActive ast.entries u) where
+  pub active_there : is_there a.nodes u ≡ true
+  active_there = h.active.there active.0 u active.1
+
+  pub active_home : IsHomeOf now.vtocs u (home_of a u)
+  active_home = record { used = h.housed.homes u active_there; only = λ other e. h.housed.only other u e }
+
+  pub active_tie : IsTied now u (home_of a u) (table_of ast u)
+  active_tie = k.paged.ties (place_of ast.entries u) u (home_of a u) (active_place ast.entries u active) active_home
+
+  -- a page of it is stored where its word says so
+  pub word_filed : (q : ℕ) → is_filed a now.vtocs u q ≡ has_record (word_of ast u q)
+  word_filed q = filed_there a now.vtocs u q active_there ∙ filed_map now.vtocs (home_of a u) q
+      ∙ active_tie.map.stored q
+
+framed_recorded : (w : Ptw) (f : ℕ) → frame_of w ≡ Some f → has_record w ≡ true
+framed_recorded Null f e = cc
+framed_recorded (Out r) f e = cc
+framed_recorded (Here g) f e = refl
+framed_recorded (Leaving g) f e = refl
+
+-- a page that isn't stored is in no frame
+pub unfiled_unframed : (now : Plain) (ast : ActiveSegs) (links : Links) (a : AccountMaps) (whos : List Who)
+    → IsKept now ast links → IsStore now ast links a whos → (u q : ℕ) → is_filed a now.vtocs u q ≡ false → (f : ℕ)
+    → binding_at (bindings now.core) f ≢ Some (u, q)
+unfiled_unframed now ast links a whos k h u q off f e =
+    let active = k.paged.bound f u q e in
+    let named = (active_tie now ast links a whos k h u active).table.named f q e in
+    let clash : true ≡ false = sym (framed_recorded (word_of ast u q) f named)
+    ∙ sym (word_filed now ast links a whos k h u active q) ∙ off in cc
+
+-- a page that isn't stored is all zeros
+pub picture_none : (now : Plain) (ast : ActiveSegs) (links : Links) (a : AccountMaps) (whos : List Who)
+    → IsKept now ast links → IsStore now ast links a whos → (u q : ℕ) → is_filed a now.vtocs u q ≡ false
+    → picture a (words_at now) u q ≡ replicate 1024 0
+unfolding picture
+picture_none now ast links a whos k h u q off = by (is_there a.nodes u) refl
+  where
+    by : (z : Bool) → is_there a.nodes u ≡ z
+        → cond z (words_at now u (home_of a u) q) (replicate 1024 0) ≡ replicate 1024 0
+    by true t = words_none now u q (home_of a u) (unfiled_unframed now ast links a whos k h u q off)
+        (sym (filed_there a now.vtocs u q t) ∙ off)
+    by false t = refl
+
+-- the words of what isn't stored are 0 in each flat store that is shown
+pub blank_shown : {D : Type 0} (drive : D → List (List ℕ)) (p : Plan) (s : Store) (t : Storage D)
+    → IsKept (plain drive t.segs.pages) t.segs.ast t.segs.links
+    → IsStore (plain drive t.segs.pages) t.segs.ast t.segs.links t.accounts t.whos
+    → Shows drive p s t → IsBlank s
+blank_shown drive p s t k h shown u o off = shown.pages.words u o
+    ∙ ap (λ (ws : List ℕ). get_or ws (o % 1024) 0)
+    (picture_none (plain drive t.segs.pages) t.segs.ast t.segs.links t.accounts t.whos k h u (o / 1024)
+    (sym (shown.pages.stored u (o / 1024)) ∙ off))
+    ∙ one_of 1024 (o % 1024) 0
+
+-- ---- what is there, and what isn't
+
+pub picture_there : (a : AccountMaps) (image : ℕ → Home → ℕ → List ℕ) (u q : ℕ) → is_there a.nodes u ≡ true
+    → picture a image u q ≡ image u (home_of a u) q
+unfolding picture
+picture_there a image u q t = ap (λ (z : Bool). cond z (image u (home_of a u) q) (replicate 1024 0)) t
+
+pub picture_absent : (a : AccountMaps) (image : ℕ → Home → ℕ → List ℕ) (u q : ℕ) → is_there a.nodes u ≡ false
+    → picture a image u q ≡ replicate 1024 0
+unfolding picture
+picture_absent a image u q t = ap (λ (z : Bool). cond z (image u (home_of a u) q) (replicate 1024 0)) t
+
+pub filed_absent : (a : AccountMaps) (vtocs : List (List (Option VtocEntry))) (u q : ℕ) → is_there a.nodes u ≡ false
+    → is_filed a vtocs u q ≡ false
+unfolding is_filed
+filed_absent a vtocs u q t = ap (λ (z : Bool). z && is_filed_at vtocs (home_of a u) q) t
+
+-- no page from the length of a segment on is stored
+pub past_unfiled : (now : Plain) (ast : ActiveSegs) (links : Links) (a : AccountMaps) (whos : List Who)
+    → IsKept now ast links → IsStore now ast links a whos → (u : ℕ) → IsActive ast.entries u → (page : ℕ)
+    → pages_in a.nodes u ≤ page → (q : ℕ) → page ≤ q → is_filed a now.vtocs u q ≡ false
+past_unfiled now ast links a whos k h u active page past q le = elim (cases_Bool (is_filed a now.vtocs u q)) [
+  | inr off ↦ off
+  | inl on ↦
+      (let there = active_there now ast links a whos k h u active in
+      let lt : q < pages_in a.nodes u = h.counted.inside u q there
+      (sym (filed_there a now.vtocs u q there) ∙ on) in absurd (omega (arith, lt, past, le)))
+]
+
+-- the place that is found for an active segment is its place
+pub place_found : (entries : List (Option Entry)) (u place : ℕ) (r : Option ℕ) → IsActive entries u
+    → ((n : ℕ) → (r ≡ Some n) ↔ (uid_in_place entries n ≡ Some u)) → r ≡ Some place → place_of entries u ≡ place
+place_found entries u place r active only is = same_Some (place_of entries u) place
+    (sym ((only (place_of entries u)).1 (active_place entries u active)) ∙ is)

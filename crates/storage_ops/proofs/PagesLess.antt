@@ -1,0 +1,540 @@
+-- What is shown once a page is stored no more, and once one is cut.
+use Rattle.std.proofs.Common.{◌≡◌, ℕ, zero, suc, ◌+◌, ◌-◌, ◌*◌, ◌/◌, ◌%◌, ◌<◌, ◌≤◌, Bool, true, false, cond, eqb}
+use Rattle.std.proofs.Common.{not}
+use Rattle.std.proofs.Common.{◌&&◌, ◌++◌, ◌↔◌, IsTrue, List, [], ◌∷◌, get_or, length, take, Option, Some, None}
+use Rattle.std.proofs.Common.{is_some}
+use Rattle.std.proofs.Common.{All, replicate, set, refl, sym, ap, subst, ◌∙◌, arith, inl, inr}
+use Rattle.std.specs.Prelude.{count_by, nat_le, position}
+use Rattle.std.specs.List.{position_or_len}
+use Rattle.std.proofs.lemmas.Bool.{cases_Bool, cases_lt, eq-eqb, eqb-true}
+use Rattle.std.proofs.lemmas.Grind.{common_steps}
+use Rattle.std.proofs.lemmas.List.{get_or-replicate, get_or_past, length-append, length-replicate, length-take}
+use Rattle.std.proofs.lemmas.List.Sums.{fails_before_first}
+use Rattle.std.proofs.lemmas.Option.{same_Some}
+use Rattle.std.proofs.Math.ListN.{get_or-map}
+use Rattle.mword.specs.Words.{AreZero}
+use Rattle.script.specs.Plans.{Plan}
+use Rattle.mnames.specs.declared.principals.Who.{Who}
+use Rattle.accounts.specs.Maps.{AccountMaps, Recounts, count_of}
+use Rattle.tree_model.specs.Tree.{Node, has_directory}
+use Rattle.tree_model.specs.Trees.{has_segment}
+use Rattle.flat_model.specs.Cuts.{cleared, has_cleared, without_pages}
+use Rattle.flat_model.specs.Pages.{is_stored, is_zero_page}
+use Rattle.flat_model.specs.Store.{Store}
+use Rattle.flat_model.proofs.CountLaws.{counted_less}
+use Rattle.flat_model.proofs.CutLaws.{get_cut, zero_words_told}
+use Rattle.flat_model.proofs.PageLaws.{is_stored-without, once_without}
+use Rattle.core_map.specs.CoreMap.{Core, bound_page, frame_at, is_bound, reads_of}
+use Rattle.core_map.specs.declared.Frame.{Frame}
+use Rattle.core_map.specs.declared.Frame.TheVariants.{Bound, Free, Started}
+use Rattle.vtoc.specs.Vtoc.{Entry as VtocEntry, record_at}
+use Rattle.page_control.specs.declared.Home.{Home}
+use Rattle.active_segs.specs.Active.{ActiveSegs, IsActive, table_at}
+use Rattle.page_control.specs.Counts.{KeepsCounts, entries, one_less, size, taken}
+use Rattle.page_control.specs.Effects.{cut, dropped, unstored}
+use Rattle.volumes.specs.Volumes.{Vols}
+use Rattle.page_control.specs.Picture.{ChangesStored, ChangesWords, changed_at, changed_page, is_binding, is_filed_at}
+use Rattle.page_control.specs.Picture.{words_at, words_held, words_of_page}
+use Rattle.page_control.specs.Plain.{Plain, binding_at, bindings, number_in, plain, words_in}
+use Rattle.page_control.specs.Tied.{IsTableOf, frame_of, has_record, is_away, is_out, map_at, uid_at, uid_in, vtoc_in}
+use Rattle.page_table.specs.declared.Ptw.{Ptw}
+use Rattle.page_table.specs.declared.Ptw.TheVariants.{Here, Leaving, Null, Out}
+use Rattle.seg_control.specs.Control.{Links, table_of, word_of}
+use Rattle.seg_control.specs.Effects.{worded}
+use Rattle.seg_control.specs.Kept.{IsHomeOf, IsKept}
+use Rattle.storage_ops.specs.Cut.{Unstores, is_here, leaves}
+use Rattle.storage_ops.specs.Shown.{AreHoused, IsStore, ShowsPages, ShowsTree, Shows, Storage, home_of, is_filed}
+use Rattle.storage_ops.specs.Shown.{is_there}
+use Rattle.storage_ops.specs.Shown.{named_at, pages_in, picture}
+use Rattle.storage_ops.proofs.Entries.{one_named}
+use Rattle.storage_ops.proofs.Dropped.{HasDropped, dropped_vtocs, recount_homes, recount_there, same_entries}
+use Rattle.storage_ops.proofs.Dropped.{same_sizes}
+use Rattle.storage_ops.proofs.Fresh.{one_of}
+use Rattle.storage_ops.proofs.Homes.{bound_of, filed_map}
+use Rattle.storage_ops.proofs.Lengths.{filed_there}
+use Rattle.storage_ops.proofs.Paged.{active_home, active_there, active_tie, filed_absent, picture_absent, picture_there}
+use Rattle.storage_ops.proofs.Paged.{word_filed}
+use Rattle.storage_ops.proofs.Unstored.{bound_dropped, bound_none, none_bound, word_within, worded_here, worded_other}
+use Rattle.storage_ops.proofs.Unstored.{worded_table}
+
+-- ---- a page is stored no more
+
+module _ (old now : Plain) (a b : AccountMaps) (u q : ℕ) (d : HasDropped old now a b u q)
+    (housed : AreHoused a old.vtocs) where
+  no_other : (v : ℕ) → is_there a.nodes v ≡ true → home_of a v ≡ home_of a u → v ≡ u
+  no_other v t homes = the_uid (sym (housed.homes v t) ∙ ap (uid_at old.vtocs) homes ∙ housed.homes u d.there)
+    where
+      the_uid : ◌≡◌ {A = Option ℕ} (Some v) (Some u) → v ≡ u
+      the_uid e = cc
+
+  filed_else : (v r : ℕ) → (v ≡ u → r ≡ q → ⊥) → is_filed b now.vtocs v r ≡ is_filed a old.vtocs v r
+  filed_else v r apart = elim (cases_Bool (is_there a.nodes v)) [
+    | inl t ↦ filed_there b now.vtocs v r (recount_there a b u _ d.accounts v ∙ t)
+        ∙ ap (λ (h : Home). is_filed_at now.vtocs h r) (recount_homes a b u _ d.accounts v)
+        ∙ d.stored.others (home_of a v) r (λ homes at. apart (no_other v t homes) at)
+        ∙ sym (filed_there a old.vtocs v r t)
+    | inr t ↦ filed_absent b now.vtocs v r (recount_there a b u _ d.accounts v ∙ t)
+        ∙ sym (filed_absent a old.vtocs v r t)
+  ]
+
+  filed_gone : is_filed b now.vtocs u q ≡ false
+  filed_gone = filed_there b now.vtocs u q (recount_there a b u _ d.accounts u ∙ d.there)
+      ∙ ap (λ (h : Home). is_filed_at now.vtocs h q) (recount_homes a b u _ d.accounts u) ∙ d.stored.here
+
+  words_else : (v r : ℕ) → (v ≡ u → r ≡ q → ⊥) → picture b (words_at now) v r ≡ picture a (words_at old) v r
+  words_else v r apart = elim (cases_Bool (is_there a.nodes v)) [
+    | inl t ↦ picture_there b (words_at now) v r (recount_there a b u _ d.accounts v ∙ t)
+        ∙ ap (λ (h : Home). words_at now v h r) (recount_homes a b u _ d.accounts v)
+        ∙ d.words.others v (home_of a v) r (record { used = housed.homes v t; own = λ is. ap (home_of a) is }) apart
+        ∙ sym (picture_there a (words_at old) v r t)
+    | inr t ↦ picture_absent b (words_at now) v r (recount_there a b u _ d.accounts v ∙ t)
+        ∙ sym (picture_absent a (words_at old) v r t)
+  ]
+
+  words_gone : picture b (words_at now) u q ≡ replicate 1024 0
+  words_gone = picture_there b (words_at now) u q (recount_there a b u _ d.accounts u ∙ d.there)
+      ∙ ap (λ (h : Home). words_at now u h q) (recount_homes a b u _ d.accounts u) ∙ d.words.here
+
+  pub pages_dropped : (s : Store) → ShowsPages s a old.vtocs (words_at old)
+      → ShowsPages (without_pages s u (λ r. eqb r q)) b now.vtocs (words_at now)
+  pages_dropped s h = record {
+    stored = λ v r. is_stored-without s.stored u (λ x. eqb x q) v r ∙ stored v r (eqb v u) (eqb r q) refl refl;
+    once = once_without s.stored u (λ r. eqb r q) h.once;
+    words = λ v o. words v o (eqb v u) (eqb (o / 1024) q) refl refl;
+  }
+    where
+      stored : (v r : ℕ) (x y : Bool) → eqb v u ≡ x → eqb r q ≡ y
+          → (not (x && y) && is_stored s.stored v r) ≡ is_filed b now.vtocs v r
+      stored v r true true e f = sym (ap (λ (n : ℕ). is_filed b now.vtocs n r) (eqb-true v u e)
+          ∙ ap (is_filed b now.vtocs u) (eqb-true r q f) ∙ filed_gone)
+      stored v r true false e f = h.stored v r ∙ sym (filed_else v r (λ same at. (let clash : true ≡ false =
+          sym (eq-eqb r q at) ∙ f in cc)))
+      stored v r false y e f = h.stored v r ∙ sym (filed_else v r (λ same at. (let clash : true ≡ false =
+          sym (eq-eqb v u same) ∙ e in cc)))
+
+      words : (v o : ℕ) (x y : Bool) → eqb v u ≡ x → eqb (o / 1024) q ≡ y
+          → cond (x && y) 0 (s.words v o) ≡ get_or (picture b (words_at now) v (o / 1024)) (o % 1024) 0
+      words v o true true e f = sym (ap (λ (n : ℕ). get_or (picture b (words_at now) n (o / 1024)) (o % 1024) 0)
+          (eqb-true v u e)
+          ∙ ap (λ (n : ℕ). get_or (picture b (words_at now) u n) (o % 1024) 0) (eqb-true (o / 1024) q f)
+          ∙ ap (λ (ws : List ℕ). get_or ws (o % 1024) 0) words_gone ∙ one_of 1024 (o % 1024) 0)
+      words v o true false e f = h.words v o ∙ ap (λ (ws : List ℕ). get_or ws (o % 1024) 0)
+          (sym (words_else v (o / 1024) (λ same at. (let clash : true ≡ false = sym (eq-eqb (o / 1024) q at)
+          ∙ f in cc))))
+      words v o false y e f = h.words v o ∙ ap (λ (ws : List ℕ). get_or ws (o % 1024) 0)
+          (sym (words_else v (o / 1024) (λ same at. (let clash : true ≡ false = sym (eq-eqb v u same) ∙ e in cc))))
+
+pub shown_dropped : {D : Type 0} (drive : D → List (List ℕ)) (p : Plan) (s : Store) (t n : Storage D) (u q : ℕ)
+    → HasDropped (plain drive t.segs.pages) (plain drive n.segs.pages) t.accounts n.accounts u q
+    → AreHoused t.accounts t.segs.pages.volumes.vtocs → n.segs.links.known ≡ t.segs.links.known → n.whos ≡ t.whos
+    → Shows drive p s t → Shows drive p (without_pages s u (λ r. eqb r q)) n
+shown_dropped drive p s t n u q d housed known whos h =
+    let old : Plain = plain drive t.segs.pages in
+    let now : Plain = plain drive n.segs.pages in
+    let on : is_stored s.stored u q ≡ true = h.pages.stored u q ∙ d.filed in
+    record {
+      tree = record {
+        nodes = h.tree.nodes ∙ sym d.accounts.nodes;
+        next = h.tree.next ∙ sym d.accounts.next;
+        counts = counted_less (count_of t.accounts) (count_of n.accounts) s.stored u q h.tree.counts h.pages.once on
+            d.accounts.counts;
+      };
+      known = h.known ∙ sym known;
+      pages = pages_dropped old now t.accounts n.accounts u q d housed s h.pages;
+      script = record {
+        records = λ v. h.script.records v ∙ sym (same_sizes old now v d.counts);
+        entries = λ v. h.script.entries v ∙ sym (same_entries old now v d.counts);
+        whos = whos ∙ h.script.whos;
+      };
+    }
+
+-- ---- the words of a page in a frame
+
+bound_frame : (frame : Frame) (u q : ℕ) → bound_page frame ≡ Some (u, q) → (uid_in frame ≡ u) × (number_in frame ≡ q)
+bound_frame Free u q e = cc
+bound_frame (Started v r) u q e = cc
+bound_frame (Bound v r used modified) u q e = (first, second)
+  where
+    same : ◌≡◌ {A = ℕ × ℕ} (v, r) (u, q)
+    same = same_Some (v, r) (u, q) e
+
+    first : v ≡ u
+    first = ap (λ (x : ℕ × ℕ). x.0) same
+
+    second : r ≡ q
+    second = ap (λ (x : ℕ × ℕ). x.1) same
+
+pub frame_bound : (core : Core) (u q f : ℕ) → binding_at (bindings core) f ≡ Some (u, q)
+    → (uid_in (frame_at core f) ≡ u) × (number_in (frame_at core f) ≡ q)
+frame_bound core u q f e = bound_frame (frame_at core f) u q (sym (get_or-map bound_page core.frames f Free) ∙ e)
+
+is_its_binding : (u q : ℕ) → is_binding u q (Some (u, q)) ≡ true
+is_its_binding u q = rw (eq-eqb u u refl, eq-eqb q q refl) refl
+
+-- where no element passes, each place is before the first that does
+none_passes : {X : Type 0} (p : X → Bool) (xs : List X) (f : ℕ) → position p xs ≡ None → f < length xs
+    → f < position_or_len p xs
+none_passes p xs f none lt = grind (arith, common_steps)
+
+-- a page that one frame is bound to has the words there
+pub words_bound : (now : Plain) (u q f : ℕ) (home : Home) → binding_at (bindings now.core) f ≡ Some (u, q)
+    → ((g : ℕ) → binding_at (bindings now.core) g ≡ Some (u, q) → g ≡ f)
+    → words_at now u home q ≡ words_in now f
+unfolding words_of_page
+words_bound now u q f home e only = by (position (is_binding u q) (bindings now.core)) refl
+  where
+    passes : is_binding u q (get_or (bindings now.core) f None) ≡ true
+    passes = ap (is_binding u q) e ∙ is_its_binding u q
+
+    short : f < length (bindings now.core)
+    short = elim (cases_lt f (length (bindings now.core))) [
+      | inl lt ↦ lt
+      | inr past ↦ (let none : binding_at (bindings now.core) f ≡ None = get_or_past (bindings now.core) f None past in
+          let clash : ◌≡◌ {A = Option (ℕ × ℕ)} None (Some (u, q)) = sym none ∙ e in cc)
+    ]
+
+    by : (o : Option ℕ) → position (is_binding u q) (bindings now.core) ≡ o
+        → words_held now.frames (get_or now.disks home.volume []) (record_at (vtoc_in now.vtocs home.volume)
+        home.entry q) o
+        ≡ words_in now f
+    by (Some g) is = ap (words_in now) (only g (bound_of (bindings now.core) u q g is))
+    by None is =
+        let lt : f < position_or_len (is_binding u q) (bindings now.core) =
+        none_passes (is_binding u q) (bindings now.core) f is short in
+        let clash : true ≡ false = sym passes ∙ fails_before_first (is_binding u q) (bindings now.core) f None lt in cc
+
+-- ---- a page is cut
+
+module _ (a : AccountMaps) (vtocs : List (List (Option VtocEntry))) (image next : ℕ → Home → ℕ → List ℕ) (u q at : ℕ)
+    (ws : List ℕ) (there : is_there a.nodes u ≡ true) (has : picture a image u q ≡ ws)
+    (cut : next ≡ changed_page image u q (take at ws ++ replicate (1024 - at) 0)) where
+  next_else : (v r : ℕ) → (v ≡ u → r ≡ q → ⊥) → picture a next v r ≡ picture a image v r
+  unfolding changed_at
+  next_else v r apart = elim (cases_Bool (is_there a.nodes v)) [
+    | inl t ↦ picture_there a next v r t
+        ∙ ap (λ (x : ℕ → Home → ℕ → List ℕ). x v (home_of a v) r) cut
+        ∙ by (eqb u v) (eqb q r) refl refl ∙ sym (picture_there a image v r t)
+    | inr t ↦ picture_absent a next v r t ∙ sym (picture_absent a image v r t)
+  ]
+    where
+      by : (x y : Bool) → eqb u v ≡ x → eqb q r ≡ y
+          → cond (x && y) (take at ws ++ replicate (1024 - at) 0) (image v (home_of a v) r) ≡ image v (home_of a v) r
+      by true true e f = absurd (apart (sym (eqb-true u v e)) (sym (eqb-true q r f)))
+      by true false e f = refl
+      by false y e f = refl
+
+  next_here : picture a next u q ≡ take at ws ++ replicate (1024 - at) 0
+  unfolding changed_at
+  next_here = picture_there a next u q there
+      ∙ ap (λ (x : ℕ → Home → ℕ → List ℕ). x u (home_of a u) q) cut
+      ∙ rw (eq-eqb u u refl, eq-eqb q q refl) refl
+
+  pub pages_cut : (s : Store) → ShowsPages s a vtocs image → ShowsPages (cleared s u q at) a vtocs next
+  pages_cut s h = record {
+    stored = h.stored;
+    once = h.once;
+    words = λ v o. words v o (eqb v u) (eqb (o / 1024) q) refl refl;
+  }
+    where
+      words : (v o : ℕ) (x y : Bool) → eqb v u ≡ x → eqb (o / 1024) q ≡ y
+          → cond (x && (y && nat_le at (o % 1024))) 0 (s.words v o)
+          ≡ get_or (picture a next v (o / 1024)) (o % 1024) 0
+      words v o true true e f =
+          ap (cond (nat_le at (o % 1024)) 0) (h.words v o
+          ∙ ap (λ (n : ℕ). get_or (picture a image n (o / 1024)) (o % 1024) 0) (eqb-true v u e)
+          ∙ ap (λ (n : ℕ). get_or (picture a image u n) (o % 1024) 0) (eqb-true (o / 1024) q f)
+          ∙ ap (λ (x : List ℕ). get_or x (o % 1024) 0) has)
+          ∙ sym (get_cut at (o % 1024) (1024 - at) ws)
+          ∙ sym (ap (λ (n : ℕ). get_or (picture a next n (o / 1024)) (o % 1024) 0) (eqb-true v u e)
+          ∙ ap (λ (n : ℕ). get_or (picture a next u n) (o % 1024) 0) (eqb-true (o / 1024) q f)
+          ∙ ap (λ (x : List ℕ). get_or x (o % 1024) 0) next_here)
+      words v o true false e f = h.words v o ∙ ap (λ (x : List ℕ). get_or x (o % 1024) 0)
+          (sym (next_else v (o / 1024) (λ same page. (let clash : true ≡ false = sym (eq-eqb (o / 1024) q page)
+          ∙ f in cc))))
+      words v o false y e f = h.words v o ∙ ap (λ (x : List ℕ). get_or x (o % 1024) 0)
+          (sym (next_else v (o / 1024) (λ same page. (let clash : true ≡ false = sym (eq-eqb v u same) ∙ e in cc))))
+
+  -- whether the page is all zeros then
+  pub cut_told : (s : Store) (r : Bool) → ShowsPages s a vtocs image → is_filed a vtocs u q ≡ true → at ≤ 1024
+      → (IsTrue r ↔ All (λ word. word ≡ 0) (take at ws ++ replicate (1024 - at) 0)) → r ≡ has_cleared s u q at
+  cut_told s r h on le told =
+      zero_words_told (cleared s u q at).words u q (take at ws ++ replicate (1024 - at) 0) r size word told
+      ∙ sym (ap (λ (z : Bool). z && is_zero_page (cleared s u q at).words u q) (h.stored u q ∙ on))
+    where
+      size : length (take at ws ++ replicate (1024 - at) 0) ≤ 1024
+      size = (let all = length-append (take at ws) (replicate (1024 - at) 0) in
+          let front = length-take at ws in
+          let back = length-replicate {A = ℕ} (1024 - at) 0 in omega (arith, all, front, back, le))
+
+      word : (i : ℕ) → i < 1024
+          → (cleared s u q at).words u (1024 * q + i) ≡ get_or (take at ws ++ replicate (1024 - at) 0) i 0
+      word i lt =
+          let page : (1024 * q + i) / 1024 ≡ q = omega (arith, lt) in
+          let place : (1024 * q + i) % 1024 ≡ i = omega (arith, lt) in
+          (pages_cut s h).words u (1024 * q + i)
+          ∙ ap (λ (n : ℕ). get_or (picture a next u n) ((1024 * q + i) % 1024) 0) page
+          ∙ ap (λ (n : ℕ). get_or (picture a next u q) n 0) place
+          ∙ ap (λ (x : List ℕ). get_or x i 0) next_here
+
+-- the words of a frame that is cut are zeros where those that it is cut to are
+pub zeros_cut : (frames : List (List ℕ)) (f at n : ℕ)
+    → AreZero (get_or (set frames f (take at (get_or frames f []) ++ replicate n 0)) f [])
+    ↔ AreZero (take at (get_or frames f []) ++ replicate n 0)
+zeros_cut [] f at n = (λ h. all_zeros at n, λ h k d lt. absurd (omega (arith, lt)))
+  where
+    all_zeros : (at n : ℕ) → AreZero (take at [] ++ replicate n 0)
+    all_zeros zero n k d lt = get_or-replicate n k 0 d (let long = length-replicate {A = ℕ} n 0 in omega (
+      arith,
+      lt,
+      long,
+    ))
+    all_zeros (suc at) n k d lt = get_or-replicate n k 0 d (let long = length-replicate {A = ℕ} n 0 in
+        omega (arith, lt, long))
+zeros_cut (x ∷ frames) zero at n = (λ h. h, λ h. h)
+zeros_cut (x ∷ frames) (suc f) at n = zeros_cut frames f at n
+
+-- ---- a page that may be stored no more
+
+pub record MayDrop (now : Plain) (ast : ActiveSegs) (a : AccountMaps) (u q : ℕ) : Type 0 where
+  pub within : q < length (table_of ast u)
+  pub there : is_there a.nodes u ≡ true
+  pub filed : is_filed a now.vtocs u q ≡ true
+  pub segment : has_segment a.nodes u ≡ true
+  pub some : 1 ≤ count_of a u
+  pub home : IsHomeOf now.vtocs u (home_of a u)
+  pub table : IsTableOf (bindings now.core) u (table_of ast u)
+
+away_recorded : (w : Ptw) → is_away w ≡ true → has_record w ≡ true
+away_recorded Null e = cc
+away_recorded (Out r) e = refl
+away_recorded (Here f) e = cc
+away_recorded (Leaving f) e = refl
+
+pub away_isnt_here : (w : Ptw) → is_away w ≡ true → is_here w ≡ false
+away_isnt_here Null e = cc
+away_isnt_here (Out r) e = refl
+away_isnt_here (Here f) e = cc
+away_isnt_here (Leaving f) e = refl
+
+segment_of : (ns : List Node) (u : ℕ) → is_there ns u ≡ true → has_directory ns u ≡ false → has_segment ns u ≡ true
+segment_of [] u t off = cc
+segment_of (n ∷ ns) u t off = elim (cases_Bool (eqb n.uid u)) [
+  | inl is ↦ rw is (back n.directory (rw is at off))
+  | inr isnt ↦ rw isnt (segment_of ns u (rw isnt at t) (rw isnt at off))
+]
+  where
+    back : (z : Bool) → z ≡ false → not z ≡ true
+    back true e = cc
+    back false e = refl
+
+pub may_drop : (now : Plain) (ast : ActiveSegs) (links : Links) (a : AccountMaps) (whos : List Who) (u q : ℕ)
+    → IsKept now ast links → IsStore now ast links a whos → IsActive ast.entries u
+    → is_away (word_of ast u q) ≡ true → MayDrop now ast a u q
+may_drop now ast links a whos u q k h active away = record {
+  within = word_within (table_of ast u) q record_there;
+  there = there;
+  filed = filed;
+  segment = elim (cases_Bool (has_directory a.nodes u)) [
+    | inr off ↦ segment_of a.nodes u there off
+    | inl on ↦ (let none : pages_in a.nodes u ≡ 0 = h.counted.flat u on in
+        let lt : q < pages_in a.nodes u = h.counted.inside u q there filed_at in absurd (omega (arith, none, lt)))
+  ];
+  some = (let one : count_by is_some (set (map_at now.vtocs (home_of a u)) q None) + 1
+      ≡ named_at now.vtocs (home_of a u) = one_named (map_at now.vtocs (home_of a u)) q
+      (sym (filed_map now.vtocs (home_of a u) q) ∙ filed_at) in
+      let all : named_at now.vtocs (home_of a u) ≡ count_of a u = h.counted.counts u there in omega (arith, one, all));
+  home = active_home now ast links a whos k h u active;
+  table = (active_tie now ast links a whos k h u active).table;
+}
+  where
+    record_there : has_record (word_of ast u q) ≡ true
+    record_there = away_recorded (word_of ast u q) away
+
+    there : is_there a.nodes u ≡ true
+    there = active_there now ast links a whos k h u active
+
+    filed : is_filed a now.vtocs u q ≡ true
+    filed = word_filed now ast links a whos k h u active q ∙ record_there
+
+    filed_at : is_filed_at now.vtocs (home_of a u) q ≡ true
+    filed_at = sym (filed_there a now.vtocs u q there) ∙ filed
+
+pub drop_done : (old now : Plain) (a b : AccountMaps) (u q : ℕ) (home : Home) (w : Ptw) → home ≡ home_of a u
+    → is_there a.nodes u ≡ true → is_filed a old.vtocs u q ≡ true → now ≡ dropped old home q w
+    → ChangesWords old now u home q (replicate 1024 0) → ChangesStored old now home q false
+    → taken now.records ≡ one_less (taken old.records) home.volume → KeepsCounts old now
+    → Recounts a b u (count_of a u - 1) → HasDropped old now a b u q
+drop_done old now a b u q home w is there filed effect words stored less counts re = record {
+  accounts = re;
+  there = there;
+  filed = filed;
+  vtocs = ap (λ (x : Plain). x.vtocs) effect ∙ dropped_vtocs old home q w
+      ∙ ap (λ (h : Home). (unstored old h q).vtocs) is;
+  words = subst (λ (h : Home). ChangesWords old now u h q (replicate 1024 0)) is words;
+  stored = subst (λ (h : Home). ChangesStored old now h q false) is stored;
+  taken = less ∙ ap (λ (h : Home). one_less (taken old.records) h.volume) is;
+  counts = counts;
+}
+
+pub unstores_one : {D : Type 0} (drive : D → List (List ℕ)) (t n : Storage D) (u q : ℕ) (home : Home)
+    → IsActive t.segs.ast.entries u → length t.segs.ast.tables ≡ length t.segs.ast.entries
+    → MayDrop (plain drive t.segs.pages) t.segs.ast t.accounts u q → is_away (word_of t.segs.ast u q) ≡ true
+    → Recounts t.accounts n.accounts u (count_of t.accounts u - 1)
+    → n.segs.ast ≡ worded t.segs.ast u q Null
+    → plain drive n.segs.pages ≡ dropped (plain drive t.segs.pages) home q (word_of t.segs.ast u q)
+    → reads_of n.segs.pages.core ≡ reads_of t.segs.pages.core → n.segs.links ≡ t.segs.links → n.whos ≡ t.whos
+    → n.segs.pages.volumes.drives ≡ t.segs.pages.volumes.drives
+    → Unstores t n u (λ r. eqb r q)
+unstores_one drive t n u q home active places may away re word effect reads links whos drives = record {
+  nodes = re.nodes;
+  entries = re.entries;
+  next = re.next;
+  places = ap (λ (x : ActiveSegs). x.entries) word;
+  sizes = ap (λ (x : ActiveSegs). x.sizes) word;
+  hands = ap (λ (x : ActiveSegs). x.hands) word;
+  tables = λ place apart. ap (λ (x : ActiveSegs). table_at x.tables place) word
+      ∙ worded_table t.segs.ast u q Null place active apart;
+  kept = λ r off. ap (λ (x : ActiveSegs). word_of x u r) word ∙ worded_other t.segs.ast u q Null r
+      (λ same. (let clash : true ≡ false = sym (eq-eqb r q same) ∙ off in cc));
+  gone = λ r on. ap (λ (x : ActiveSegs). word_of x u r) word
+      ∙ ap (word_of (worded t.segs.ast u q Null) u) (eqb-true r q on)
+      ∙ worded_here t.segs.ast u q Null active places may.within;
+  bound = bound_dropped (plain drive t.segs.pages) (plain drive n.segs.pages) u q home (table_of t.segs.ast u)
+      (word_of t.segs.ast u q) may.table refl (away_isnt_here (word_of t.segs.ast u q) away) effect;
+  reads = reads;
+  links = links;
+  whos = whos;
+  drives = drives;
+}
+
+-- a page that isn't stored is in no frame
+pub unstores_null : {D : Type 0} (drive : D → List (List ℕ)) (t : Storage D) (u q : ℕ)
+    → IsTableOf (bindings t.segs.pages.core) u (table_of t.segs.ast u) → word_of t.segs.ast u q ≡ Null
+    → Unstores t t u (λ r. eqb r q)
+unstores_null drive t u q table null = record {
+  nodes = refl;
+  entries = refl;
+  next = refl;
+  places = refl;
+  sizes = refl;
+  hands = refl;
+  tables = λ place apart. refl;
+  kept = λ r off. refl;
+  gone = λ r on. ap (word_of t.segs.ast u) (eqb-true r q on) ∙ null;
+  bound = bound_none t.segs.pages.core u q (table_of t.segs.ast u) table (ap frame_of null);
+  reads = refl;
+  links = refl;
+  whos = refl;
+  drives = refl;
+}
+
+pub null_of : (w : Ptw) → is_here w ≡ false → is_away w ≡ false → w ≡ Null
+null_of Null e f = refl
+null_of (Out r) e f = cc
+null_of (Here g) e f = cc
+null_of (Leaving g) e f = cc
+
+-- ---- a page is cut through its frame
+
+pub shown_cut : {D : Type 0} (drive : D → List (List ℕ)) (p : Plan) (s : Store) (t n : Storage D) (u q f at : ℕ)
+    → n.accounts ≡ t.accounts → n.whos ≡ t.whos → n.segs.links ≡ t.segs.links
+    → n.segs.pages.volumes ≡ t.segs.pages.volumes → is_there t.accounts.nodes u ≡ true
+    → picture t.accounts (words_at (plain drive t.segs.pages)) u q ≡ words_in (plain drive t.segs.pages) f
+    → words_at (plain drive n.segs.pages) ≡ changed_page (words_at (plain drive t.segs.pages)) u q
+    (take at (words_in (plain drive t.segs.pages) f) ++ replicate (1024 - at) 0)
+    → Shows drive p s t → Shows drive p (cleared s u q at) n
+shown_cut drive p s t n u q f at accounts whos links volumes there has words h = record {
+  tree = subst (λ (a : AccountMaps). ShowsTree (cleared s u q at) a) (sym accounts)
+      (record { nodes = h.tree.nodes; next = h.tree.next; counts = h.tree.counts });
+  known = h.known ∙ ap (λ (l : Links). l.known) (sym links);
+  pages = subst (λ (a : AccountMaps). ShowsPages (cleared s u q at) a n.segs.pages.volumes.vtocs
+      (words_at (plain drive n.segs.pages))) (sym accounts)
+      (subst (λ (v : List (List (Option VtocEntry))). ShowsPages (cleared s u q at) t.accounts v
+      (words_at (plain drive n.segs.pages))) (sym (ap (λ (v : Vols _). v.vtocs) volumes))
+      (pages_cut t.accounts t.segs.pages.volumes.vtocs (words_at (plain drive t.segs.pages))
+      (words_at (plain drive n.segs.pages)) u q at (words_in (plain drive t.segs.pages) f) there has words s h.pages));
+  script = record {
+    records = λ v. h.script.records v ∙ ap (λ (x : Vols _). size x.records v) (sym volumes);
+    entries = λ v. h.script.entries v ∙ ap (λ (x : Vols _). entries x.vtocs v) (sym volumes);
+    whos = whos ∙ h.script.whos;
+  };
+}
+
+-- an active segment's page in a frame has the words there
+pub picture_bound : (now : Plain) (ast : ActiveSegs) (links : Links) (a : AccountMaps) (whos : List Who)
+    → IsKept now ast links → IsStore now ast links a whos → (u q f : ℕ) → IsActive ast.entries u
+    → word_of ast u q ≡ Leaving f → picture a (words_at now) u q ≡ words_in now f
+picture_bound now ast links a whos k h u q f active word =
+    picture_there a (words_at now) u q (active_there now ast links a whos k h u active)
+    ∙ words_bound now u q f (home_of a u) (tie.back f q (ap frame_of word))
+    (λ g e. the_frame g (sym (tie.named g q e) ∙ ap frame_of word))
+  where
+    tie : IsTableOf (bindings now.core) u (table_of ast u)
+    tie = (active_tie now ast links a whos k h u active).table
+
+    the_frame : (g : ℕ) → ◌≡◌ {A = Option ℕ} (Some g) (Some f) → g ≡ f
+    the_frame g e = cc
+
+pub leaving_bound : (now : Plain) (ast : ActiveSegs) (links : Links) (a : AccountMaps) (whos : List Who)
+    → IsKept now ast links → IsStore now ast links a whos → (u q f : ℕ) → IsActive ast.entries u
+    → word_of ast u q ≡ Leaving f → binding_at (bindings now.core) f ≡ Some (u, q)
+leaving_bound now ast links a whos k h u q f active word =
+    (active_tie now ast links a whos k h u active).table.back f q (ap frame_of word)
+
+bound_is : (frame : Frame) (u q : ℕ) → bound_page frame ≡ Some (u, q) → is_bound frame ≡ true
+bound_is Free u q e = cc
+bound_is (Started v r) u q e = cc
+bound_is (Bound v r used modified) u q e = refl
+
+pub frame_is_bound : (core : Core) (u q f : ℕ) → binding_at (bindings core) f ≡ Some (u, q)
+    → is_bound (frame_at core f) ≡ true
+frame_is_bound core u q f e = bound_is (frame_at core f) u q (sym (get_or-map bound_page core.frames f Free) ∙ e)
+
+-- what is told of a page that is cut through its frame
+pub frame_told : (now : Plain) (f at : ℕ) (r : Bool) (next : Plain) → next ≡ cut now f at
+    → (IsTrue r ↔ AreZero (words_in next f)) → IsTrue r ↔ AreZero (take at (words_in now f) ++ replicate (1024 - at) 0)
+frame_told now f at r next is told =
+    let both = zeros_cut now.frames f at (1024 - at) in
+    let here = subst (λ (x : Plain). IsTrue r ↔ AreZero (words_in x f)) is told in
+    (λ t. both.0 (here.0 t), λ z. here.1 (both.1 z))
+
+-- a word that isn't that of a page on its way out
+pub not_leaving : (w : Ptw) → is_here w ≡ false → is_out w ≡ false → leaves w ≡ None → w ≡ Null
+not_leaving Null e f none = refl
+not_leaving (Out r) e f none = cc
+not_leaving (Here g) e f none = cc
+not_leaving (Leaving g) e f none = cc
+
+pub leaving_is : (w : Ptw) (f : ℕ) → leaves w ≡ Some f → w ≡ Leaving f
+leaving_is Null f e = cc
+leaving_is (Out r) f e = cc
+leaving_is (Here g) f e = cc
+leaving_is (Leaving g) f e = ap Leaving (same_Some g f e)
+
+-- nothing but the words and the marks of a frame is changed
+pub unstores_cut : {D : Type 0} (t n : Storage D) (u : ℕ) → n.accounts ≡ t.accounts → n.segs.ast ≡ t.segs.ast
+    → bindings n.segs.pages.core ≡ bindings t.segs.pages.core → reads_of n.segs.pages.core ≡ reads_of t.segs.pages.core
+    → n.segs.links ≡ t.segs.links → n.whos ≡ t.whos → n.segs.pages.volumes ≡ t.segs.pages.volumes
+    → Unstores t n u (λ q. false)
+unstores_cut t n u accounts ast bound reads links whos volumes = record {
+  nodes = ap (λ (x : AccountMaps). x.nodes) accounts;
+  entries = ap (λ (x : AccountMaps). x.entries) accounts;
+  next = ap (λ (x : AccountMaps). x.next) accounts;
+  places = ap (λ (x : ActiveSegs). x.entries) ast;
+  sizes = ap (λ (x : ActiveSegs). x.sizes) ast;
+  hands = ap (λ (x : ActiveSegs). x.hands) ast;
+  tables = λ place apart. ap (λ (x : ActiveSegs). table_at x.tables place) ast;
+  kept = λ q off. ap (λ (x : ActiveSegs). word_of x u q) ast;
+  gone = λ q on. cc;
+  bound = λ f. ap (λ (b : List (Option (ℕ × ℕ))). binding_at b f) bound
+      ∙ none_bound u (binding_at (bindings t.segs.pages.core) f);
+  reads = reads;
+  links = links;
+  whos = whos;
+  drives = ap (λ (v : Vols _). v.drives) volumes;
+}
+
+pub page_words : (image next : ℕ → Home → ℕ → List ℕ) (v r u q : ℕ) (ws : List ℕ) → v ≡ u → r ≡ q
+    → next ≡ changed_page image v r ws → next ≡ changed_page image u q ws
+page_words image next v r u q ws same at is =
+    is ∙ ap (λ (n : ℕ). changed_page image n r ws) same ∙ ap (λ (n : ℕ). changed_page image u n ws) at

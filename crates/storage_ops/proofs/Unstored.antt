@@ -1,0 +1,351 @@
+-- What stays where pages of an active segment are stored no more.
+use Rattle.std.proofs.Common.{◌≡◌, ◌≢◌, ℕ, ◌+◌, ◌/◌, ◌<◌, ◌≤◌, Bool, true, false, cond, eqb, ◌&&◌, ◌||◌, List, []}
+use Rattle.std.proofs.Common.{get_or, length, map}
+use Rattle.std.proofs.Common.{nat_le, nat_lt, set, Option, Some, None, refl, sym, ap, subst, ◌∙◌, arith, inl, inr}
+use Rattle.std.proofs.lemmas.Bool.{cases_eq, cases_lt, eq-eqb, eqb-true, ne_eqb}
+use Rattle.std.proofs.lemmas.Bool.Decides.{nat_tests}
+use Rattle.std.proofs.lemmas.List.{get_or-set_other, get_or-set_same, get_or_past, length-set}
+use Rattle.std.proofs.lemmas.Option.{same_Some}
+use Rattle.std.proofs.Math.ListN.{get_or-map}
+use Rattle.core_map.specs.CoreMap.{Core, bound_page, frame_at, reads_of, started_page, with_frame}
+use Rattle.core_map.specs.declared.Frame.{Frame}
+use Rattle.core_map.specs.declared.Frame.TheVariants.{Bound, Free, Started}
+use Rattle.page_table.specs.declared.Ptw.{Ptw}
+use Rattle.page_table.specs.declared.Ptw.TheVariants.{Here, Leaving, Null, Out}
+use Rattle.page_table.specs.PageTable.{ptw_at}
+use Rattle.active_segs.specs.declared.Entry.{Entry}
+use Rattle.active_segs.specs.Active.{ActiveSegs, IsActive, table_at, uid_at as uid_in_place, uid_in}
+use Rattle.page_control.specs.Effects.{dropped}
+use Rattle.page_control.specs.declared.Home.{Home}
+use Rattle.page_control.specs.Plain.{Plain, binding_at, bindings}
+use Rattle.page_control.specs.Tied.{IsNotStarted, IsTableOf, frame_of, has_record, is_out}
+use Rattle.seg_control.specs.Control.{Control, place_of, table_of, word_of}
+use Rattle.seg_control.specs.Effects.{worded}
+use Rattle.accounts.specs.Maps.{entry_of}
+use Rattle.quota_cells.specs.Accounts.{look}
+use Rattle.tree_model.specs.Tree.{Node, volume_in}
+use Rattle.flat_model.proofs.DropLaws.{between}
+use Rattle.storage_ops.specs.Shown.{Storage, home_of}
+use Rattle.storage_ops.specs.Cut.{IsTakenFrom, IsTakenPast, Unstores, is_here, unbound}
+use Rattle.storage_ops.proofs.Known.{set_told}
+use Rattle.storage_ops.proofs.Paged.{active_place}
+
+-- ---- the words of a segment's page table
+
+used_within : (xs : List (Option Entry)) (place u : ℕ) → uid_in_place xs place ≡ Some u → place < length xs
+used_within xs place u e = elim (cases_lt place (length xs)) [
+  | inl lt ↦ lt
+  | inr past ↦ (let none : uid_in_place xs place ≡ None = ap uid_in (get_or_past xs place None past) in
+      let clash : ◌≡◌ {A = Option ℕ} None (Some u) = sym none ∙ e in cc)
+]
+
+-- a word that says that the page has a record is one of the table's
+pub word_within : (table : List Ptw) (q : ℕ) → has_record (ptw_at table q) ≡ true → q < length table
+word_within table q on = elim (cases_lt q (length table)) [
+  | inl lt ↦ lt
+  | inr past ↦ (let none : has_record (ptw_at table q) ≡ false = ap has_record (get_or_past table q Null past) in
+      let clash : true ≡ false = sym on ∙ none in cc)
+]
+
+module _ (ast : ActiveSegs) (u q : ℕ) (w : Ptw) where
+  pub worded_other : (r : ℕ) → r ≢ q → word_of (worded ast u q w) u r ≡ word_of ast u r
+  worded_other r apart = set_told (λ (t : List Ptw). ptw_at t r ≡ word_of ast u r) ast.tables
+      (place_of ast.entries u) (place_of ast.entries u) (set (table_of ast u) q w) []
+      (get_or-set_other (table_of ast u) q r w Null apart) refl
+
+  pub worded_here : IsActive ast.entries u → length ast.tables ≡ length ast.entries → q < length (table_of ast u)
+      → word_of (worded ast u q w) u q ≡ w
+  worded_here active places within =
+      let at : place_of ast.entries u < length ast.entries =
+      used_within ast.entries (place_of ast.entries u) u (active_place ast.entries u active) in
+      ap (λ (t : List Ptw). ptw_at t q) (get_or-set_same ast.tables (place_of ast.entries u)
+      (set (table_of ast u) q w) [] (omega (arith, at, places)))
+      ∙ get_or-set_same (table_of ast u) q w Null within
+
+  pub worded_table : (place : ℕ) → IsActive ast.entries u → uid_in_place ast.entries place ≢ Some u
+      → table_at (worded ast u q w).tables place ≡ table_at ast.tables place
+  worded_table place active apart = get_or-set_other ast.tables (place_of ast.entries u) place
+      (set (table_of ast u) q w) []
+      (λ same. apart (ap (uid_in_place ast.entries) same ∙ active_place ast.entries u active))
+
+-- ---- what frames are bound to
+
+freed_here : (frames : List Frame) (f : ℕ) → get_or (set frames f Free) f Free ≡ Free
+freed_here frames f = elim (cases_lt f (length frames)) [
+  | inl lt ↦ get_or-set_same frames f Free Free lt
+  | inr past ↦ get_or_past (set frames f Free) f Free (let long : length (set frames f Free) ≡ length frames =
+      length-set frames f Free in omega (arith, long, past))
+]
+
+freed_at : (core : Core) (f g : ℕ) → binding_at (bindings (with_frame core f Free)) g
+    ≡ cond (eqb g f) None (binding_at (bindings core) g)
+freed_at core f g = get_or-map bound_page (set core.frames f Free) g Free ∙ elim (cases_eq g f) [
+  | inl same ↦ ap (λ (n : ℕ). bound_page (get_or (set core.frames f Free) n Free)) same
+      ∙ ap bound_page (freed_here core.frames f)
+      ∙ ap (λ (z : Bool). cond z None (binding_at (bindings core) g)) (sym (eq-eqb g f same))
+  | inr apart ↦ ap bound_page (get_or-set_other core.frames f g Free Free apart)
+      ∙ sym (get_or-map bound_page core.frames g Free)
+      ∙ ap (λ (z : Bool). cond z None (binding_at (bindings core) g)) (sym (ne_eqb g f apart))
+]
+
+-- a binding that isn't that of a page stays
+pub binding_stays : (u q : ℕ) (o : Option (ℕ × ℕ)) → o ≢ Some (u, q) → unbound u (λ r. eqb r q) o ≡ o
+binding_stays u q None apart = refl
+binding_stays u q (Some x) apart = by (eqb x.0 u) (eqb x.1 q) refl refl
+  where
+    by : (y z : Bool) → eqb x.0 u ≡ y → eqb x.1 q ≡ z → cond {A = Option (ℕ × ℕ)} (y && z) None (Some x) ≡ Some x
+    by true true e f = absurd (apart (ap (λ (n : ℕ). Some (n, x.1)) (eqb-true x.0 u e)
+        ∙ ap (λ (n : ℕ). Some (u, n)) (eqb-true x.1 q f)))
+    by true false e f = refl
+    by false z e f = refl
+
+pub binding_goes : (u q : ℕ) → unbound u (λ r. eqb r q) (Some (u, q)) ≡ None
+binding_goes u q = rw (eq-eqb u u refl, eq-eqb q q refl) refl
+
+module _ (core : Core) (u q : ℕ) (table : List Ptw) (t : IsTableOf (bindings core) u table) where
+  -- no frame is bound to a page whose word names none
+  pub bound_none : frame_of (ptw_at table q) ≡ None → (g : ℕ)
+      → binding_at (bindings core) g ≡ unbound u (λ r. eqb r q) (binding_at (bindings core) g)
+  bound_none none g = sym (binding_stays u q (binding_at (bindings core) g) (λ is.
+      (let clash : ◌≡◌ {A = Option ℕ} None (Some g) = sym none ∙ t.named g q is in cc)))
+
+  -- the one frame that is bound to a page is free now
+  pub bound_free : (f : ℕ) → frame_of (ptw_at table q) ≡ Some f → (g : ℕ)
+      → binding_at (bindings (with_frame core f Free)) g ≡ unbound u (λ r. eqb r q) (binding_at (bindings core) g)
+  bound_free f at g = freed_at core f g ∙ elim (cases_eq g f) [
+    | inl same ↦ ap (λ (z : Bool). cond z None (binding_at (bindings core) g)) (eq-eqb g f same)
+        ∙ sym (ap (unbound u (λ r. eqb r q)) (ap (binding_at (bindings core)) same ∙ t.back f q at)
+        ∙ binding_goes u q)
+    | inr apart ↦ ap (λ (z : Bool). cond z None (binding_at (bindings core) g)) (ne_eqb g f apart)
+        ∙ sym (binding_stays u q (binding_at (bindings core) g) (λ is. apart
+        (the_frame g (sym (t.named g q is) ∙ at))))
+  ]
+    where
+      the_frame : (g : ℕ) → ◌≡◌ {A = Option ℕ} (Some g) (Some f) → g ≡ f
+      the_frame g e = cc
+
+pub bound_dropped : (old now : Plain) (u q : ℕ) (home : Home) (table : List Ptw) (w : Ptw)
+    → IsTableOf (bindings old.core) u table → w ≡ ptw_at table q → is_here w ≡ false
+    → now ≡ dropped old home q w → (g : ℕ)
+    → binding_at (bindings now.core) g ≡ unbound u (λ r. eqb r q) (binding_at (bindings old.core) g)
+bound_dropped old now u q home table Null t is off effect g =
+    ap (λ (s : Plain). binding_at (bindings s.core) g) effect ∙ bound_none old.core u q table t (ap frame_of (sym is)) g
+bound_dropped old now u q home table (Out r) t is off effect g =
+    ap (λ (s : Plain). binding_at (bindings s.core) g) effect ∙ bound_none old.core u q table t (ap frame_of (sym is)) g
+bound_dropped old now u q home table (Leaving f) t is off effect g =
+    ap (λ (s : Plain). binding_at (bindings s.core) g) effect
+    ∙ bound_free old.core u q table t f (ap frame_of (sym is)) g
+bound_dropped old now u q home table (Here f) t is off effect g = cc
+
+-- ---- one after the other
+
+fused_bound : (u : ℕ) (t r : ℕ → Bool) (o : Option (ℕ × ℕ))
+    → unbound u r (unbound u t o) ≡ unbound u (λ q. t q || r q) o
+fused_bound u t r None = refl
+fused_bound u t r (Some x) = by (eqb x.0 u) (t x.1) (r x.1) refl refl refl
+  where
+    by : (a b c : Bool) → eqb x.0 u ≡ a → t x.1 ≡ b → r x.1 ≡ c
+        → unbound u r (cond {A = Option (ℕ × ℕ)} (a && b) None (Some x))
+        ≡ cond {A = Option (ℕ × ℕ)} (a && (b || c)) None (Some x)
+    by true true c e f g = refl
+    by true false true e f g = rw (e, g) refl
+    by true false false e f g = rw (e, g) refl
+    by false b c e f g = rw e refl
+
+pub none_bound : (u : ℕ) (o : Option (ℕ × ℕ)) → o ≡ unbound u (λ q. false) o
+none_bound u None = refl
+none_bound u (Some x) = by (eqb x.0 u)
+  where
+    by : (a : Bool) → ◌≡◌ {A = Option (ℕ × ℕ)} (Some x) (cond (a && false) None (Some x))
+    by true = refl
+    by false = refl
+
+pub unstores_none : {D : Type 0} (t : Storage D) (u : ℕ) → Unstores t t u (λ q. false)
+unstores_none t u = record {
+  nodes = refl;
+  entries = refl;
+  next = refl;
+  places = refl;
+  sizes = refl;
+  hands = refl;
+  tables = λ place apart. refl;
+  kept = λ q off. refl;
+  gone = λ q on. cc;
+  bound = λ f. none_bound u (binding_at (bindings t.segs.pages.core) f);
+  reads = refl;
+  links = refl;
+  whos = refl;
+  drives = refl;
+}
+
+pub unstores_both : {D : Type 0} (old mid new : Storage D) (u : ℕ) (t r : ℕ → Bool) → Unstores old mid u t
+    → Unstores mid new u r → Unstores old new u (λ q. t q || r q)
+unstores_both old mid new u t r x y = record {
+  nodes = y.nodes ∙ x.nodes;
+  entries = y.entries ∙ x.entries;
+  next = y.next ∙ x.next;
+  places = y.places ∙ x.places;
+  sizes = y.sizes ∙ x.sizes;
+  hands = y.hands ∙ x.hands;
+  tables = λ place apart. y.tables place (λ is. apart (ap (λ (e : List (Option Entry)). uid_in_place e place)
+      (sym x.places) ∙ is)) ∙ x.tables place apart;
+  kept = λ q off. y.kept q (right (t q) (r q) off) ∙ x.kept q (left (t q) (r q) off);
+  gone = λ q on. by q (t q) (r q) refl refl on;
+  bound = λ f. y.bound f ∙ ap (unbound u r) (x.bound f)
+      ∙ fused_bound u t r (binding_at (bindings old.segs.pages.core) f);
+  reads = y.reads ∙ x.reads;
+  links = y.links ∙ x.links;
+  whos = y.whos ∙ x.whos;
+  drives = y.drives ∙ x.drives;
+}
+  where
+    left : (a b : Bool) → (a || b) ≡ false → a ≡ false
+    left true b e = cc
+    left false b e = refl
+
+    right : (a b : Bool) → (a || b) ≡ false → b ≡ false
+    right true b e = cc
+    right false b e = e
+
+    by : (q : ℕ) (a b : Bool) → t q ≡ a → r q ≡ b → (a || b) ≡ true → word_of new.segs.ast u q ≡ Null
+    by q a true e f on = y.gone q f
+    by q true false e f on = y.kept q f ∙ x.gone q e
+    by q false false e f on = cc
+
+pub unstores_same : {D : Type 0} (old new : Storage D) (u : ℕ) (t r : ℕ → Bool) → ((q : ℕ) → t q ≡ r q)
+    → Unstores old new u t → Unstores old new u r
+unstores_same old new u t r same x = subst (λ (k : ℕ → Bool). Unstores old new u k) (λ i. λ q. same q i) x
+
+-- the pages past the last one are in no frame, and their words are `Null` already
+pub unstores_past : {D : Type 0} (old new : Storage D) (u from page : ℕ) → Unstores old new u (between from page)
+    → ((q : ℕ) → page ≤ q → word_of old.segs.ast u q ≡ Null)
+    → ((q : ℕ) → page ≤ q → (f : ℕ) → binding_at (bindings old.segs.pages.core) f ≢ Some (u, q))
+    → Unstores old new u (λ q. nat_le from q)
+unstores_past old new u from page x null unframed = record {
+  nodes = x.nodes;
+  entries = x.entries;
+  next = x.next;
+  places = x.places;
+  sizes = x.sizes;
+  hands = x.hands;
+  tables = x.tables;
+  kept = λ q off. x.kept q (ap (λ (z : Bool). z && nat_lt q page) off);
+  gone = λ q on. elim (cases_lt q page) [
+    | inl lt ↦ x.gone q (ap (λ (z : Bool). z && nat_lt q page) on ∙ below q lt)
+    | inr past ↦ x.kept q (ap (λ (z : Bool). z && nat_lt q page) on ∙ beyond q past) ∙ null q past
+  ];
+  bound = λ f. x.bound f ∙ by f (binding_at (bindings old.segs.pages.core) f) refl;
+  reads = x.reads;
+  links = x.links;
+  whos = x.whos;
+  drives = x.drives;
+}
+  where
+    below : (q : ℕ) → q < page → nat_lt q page ≡ true
+    below q lt = grind (arith, nat_tests)
+
+    beyond : (q : ℕ) → page ≤ q → nat_lt q page ≡ false
+    beyond q past = grind (arith, nat_tests)
+
+    by : (f : ℕ) (o : Option (ℕ × ℕ)) → binding_at (bindings old.segs.pages.core) f ≡ o
+        → unbound u (between from page) o ≡ unbound u (λ q. nat_le from q) o
+    by f None e = refl
+    by f (Some y) e = elim (cases_lt y.1 page) [
+      | inl lt ↦ ap (λ (z : Bool). cond {A = Option (ℕ × ℕ)} (eqb y.0 u && (nat_le from y.1 && z)) None (Some y))
+          (below y.1 lt)
+          ∙ ap (λ (z : Bool). cond {A = Option (ℕ × ℕ)} (eqb y.0 u && z) None (Some y)) (whole (nat_le from y.1))
+      | inr past ↦ apart (eqb y.0 u) refl past
+    ]
+      where
+        whole : (z : Bool) → (z && true) ≡ z
+        whole true = refl
+        whole false = refl
+
+        apart : (z : Bool) → eqb y.0 u ≡ z → page ≤ y.1
+            → cond {A = Option (ℕ × ℕ)} (z && (nat_le from y.1 && nat_lt y.1 page)) None (Some y)
+            ≡ cond {A = Option (ℕ × ℕ)} (z && nat_le from y.1) None (Some y)
+        apart true is past = absurd (unframed y.1 past f (e ∙ ap (λ (n : ℕ). Some (n, y.1)) (eqb-true y.0 u is)))
+        apart false is past = refl
+
+pub home_still : {D : Type 0} (old new : Storage D) (u : ℕ) (test : ℕ → Bool) (v : ℕ) → Unstores old new u test
+    → home_of new.accounts v ≡ home_of old.accounts v
+home_still old new u test v x =
+    ap (λ (n : ℕ). record { volume = n; entry = entry_of new.accounts v })
+    (ap (λ (ns : List Node). volume_in ns v) x.nodes)
+    ∙ ap (λ (n : ℕ). record { volume = volume_in old.accounts.nodes v; entry = n })
+    (ap (λ (ns : List Node). look (map (λ m. m.uid) ns) new.accounts.entries v) x.nodes
+    ∙ ap (λ (es : List ℕ). look (map (λ m. m.uid) old.accounts.nodes) es v) x.entries)
+
+pub active_still : {D : Type 0} (old new : Storage D) (u : ℕ) (test : ℕ → Bool) → Unstores old new u test
+    → IsActive old.segs.ast.entries u → IsActive new.segs.ast.entries u
+active_still old new u test x active =
+    (active.0, ap (λ (e : List (Option Entry)). uid_in_place e active.0) x.places ∙ active.1)
+
+pub unrecorded : (w : Ptw) → has_record w ≡ false → w ≡ Null
+unrecorded Null e = refl
+unrecorded (Out r) e = cc
+unrecorded (Here f) e = cc
+unrecorded (Leaving f) e = cc
+
+pub between_none : (from q : ℕ) → false ≡ between from from q
+between_none from q = grind (arith, nat_tests)
+
+pub between_more : (from page q : ℕ) → from ≤ page → (between from page q || eqb q page) ≡ between from (page + 1) q
+between_more from page q le = grind (arith, nat_tests)
+
+pub between_past : (from page : ℕ) → between from page page ≡ false
+between_past from page = grind (arith, nat_tests)
+
+-- ---- what is being read
+
+pub started_is : (frame : Frame) (u q : ℕ) → started_page frame ≡ Some (u, q) → frame ≡ Started u q
+started_is Free u q e = cc
+started_is (Started v r) u q e = ap (λ (n : ℕ). Started n r) first ∙ ap (λ (n : ℕ). Started u n) second
+  where
+    same : ◌≡◌ {A = ℕ × ℕ} (v, r) (u, q)
+    same = same_Some (v, r) (u, q) e
+
+    first : v ≡ u
+    first = ap (λ (x : ℕ × ℕ). x.0) same
+
+    second : r ≡ q
+    second = ap (λ (x : ℕ × ℕ). x.1) same
+started_is (Bound v r on wrote) u q e = cc
+
+-- the same where the reads are as they were
+pub idle_still : (old now : Core) (u q : ℕ) → reads_of now ≡ reads_of old → IsNotStarted old u q → IsNotStarted now u q
+idle_still old now u q same idle = record {
+  none = λ f is. idle.none f (started_is (frame_at old f) u q
+      (sym (get_or-map started_page old.frames f Free)
+      ∙ ap (λ (xs : List (Option (ℕ × ℕ))). get_or xs f None) (sym same)
+      ∙ get_or-map started_page now.frames f Free ∙ ap started_page is));
+}
+
+-- what is taken stays so, where later pages are stored no more
+pub taken_later : {D : Type 0} (segs : Control D) (u from later : ℕ) → from ≤ later → IsTakenFrom segs u from
+    → IsTakenFrom segs u later
+taken_later segs u from later le h = record {
+  taken = λ q at. h.taken q (omega (arith, le, at));
+  idle = λ q at. h.idle q (omega (arith, le, at));
+}
+
+pub taken_past : {D : Type 0} (old new : Storage D) (u words : ℕ)
+    → Unstores old new u (λ q. nat_le (words / 1024 + 1) q)
+    → IsTakenPast old.segs u words → IsTakenPast new.segs u words
+taken_past old new u words x h = record {
+  active = active_still old new u (λ q. nat_le (words / 1024 + 1) q) x h.active;
+  past = record {
+    taken = λ q le. elim (cases_lt q (words / 1024 + 1)) [
+      | inl lt ↦ ap is_here (x.kept q (before q lt)) ∙ h.past.taken q le
+      | inr past ↦ ap is_here (x.gone q (beyond q past))
+    ];
+    idle = λ q le. idle_still old.segs.pages.core new.segs.pages.core u q x.reads (h.past.idle q le);
+  };
+  cut = λ some. ap is_out (x.kept (words / 1024) (before (words / 1024) (omega arith))) ∙ h.cut some;
+}
+  where
+    before : (q : ℕ) → q < words / 1024 + 1 → nat_le (words / 1024 + 1) q ≡ false
+    before q lt = grind (arith, nat_tests)
+
+    beyond : (q : ℕ) → words / 1024 + 1 ≤ q → nat_le (words / 1024 + 1) q ≡ true
+    beyond q past = grind (arith, nat_tests)

@@ -1,0 +1,159 @@
+use Rattle.std.proofs.Common.{◌&&◌, Bool, false, refl, sym}
+use Rattle.std.proofs.Common.{ap, subst, ◌∙◌}
+use Rattle.flat_model.specs.Cuts.{cleared}
+use Rattle.flat_model.specs.Pages.{is_stored, is_zero_page}
+use Rattle.flat_model.specs.Store.{Store as Flat}
+use Rattle.flat_model.proofs.CutLaws.{cleared_absent}
+use Rattle.active_segs.specs.Active.{ActiveSegs, IsActive}
+use Rattle.page_control.specs.Picture.{words_at}
+use Rattle.page_control.specs.Plain.{plain, words_in}
+use Rattle.page_control.specs.Tied.{has_record, is_out}
+use Rattle.seg_control.specs.Control.{word_of}
+use Rattle.storage_ops.specs.Cut.{Unstores, is_here, leaves}
+use Rattle.storage_ops.specs.Shown.{Shows, Storage}
+use Rattle.storage_ops.proofs.PagesLess.{cut_told, frame_bound, frame_is_bound, frame_told, leaving_bound}
+use Rattle.storage_ops.proofs.PagesLess.{picture_bound}
+use Rattle.storage_ops.proofs.PagesLess.{leaving_is, not_leaving, page_words, shown_cut, unstores_cut}
+use Rattle.storage_ops.proofs.Paged.{active_there, blank_shown, word_filed}
+use Rattle.storage_ops.proofs.Unstored.{unstores_none}
+use Rattle.storage_ops.proofs.store.Store.clear_page.Goals as goal
+
+pub cut_from-requires-clause-bound : goal.cut_from-requires-clause-bound
+cut_from-requires-clause-bound g c =
+    let active = subst (λ (x : Storage g.row.D.Denot). IsActive x.segs.ast.entries c.args.uid) (sym c.self.view_is)
+    c.requires.active in
+    let word = leaving_is (word_of c.self.inside.segs.ast c.args.uid c.args.page) c.in-Some.f
+    (ap (λ (x : ActiveSegs). leaves (word_of x c.args.uid c.args.page)) (sym c.ast.ensures.ast)
+    ∙ ap leaves (sym c.word_of.ensures) ∙ sym c.leaves.ensures ∙ c.in-Some.is) in
+    frame_is_bound c.self.inside.segs.pages.core c.args.uid c.args.page c.in-Some.f
+    (leaving_bound (plain g.D.Drive.pages c.self.inside.segs.pages) c.self.inside.segs.ast c.self.inside.segs.links
+    c.self.inside.accounts c.self.inside.whos.items c.pages-kept.ensures.kept c.self.invariant c.args.uid c.args.page
+    c.in-Some.f active word)
+
+pub returns-in-Some-clause-rest : goal.returns-in-Some-clause-rest
+returns-in-Some-clause-rest g c =
+    let t : Storage g.row.D.Denot = record {
+      accounts = c.self.inside.accounts;
+      segs = c.self.inside.segs;
+      whos = c.self.inside.whos.items;
+    } in
+    let n : Storage g.row.D.Denot = record {
+      accounts = c.self.inside.accounts;
+      segs = c.cut_from.new.self;
+      whos = c.self.inside.whos.items;
+    } in
+    subst (λ (x : Storage g.row.D.Denot). Unstores x n c.args.uid (λ q. false)) c.self.view_is
+    (unstores_cut t n c.args.uid refl c.cut_from.ensures.ast c.cut_from.ensures.bindings c.cut_from.ensures.reads
+    c.cut_from.ensures.links refl c.cut_from.ensures.volumes)
+
+pub returns-in-Some-clause-shown : goal.returns-in-Some-clause-shown
+returns-in-Some-clause-shown g c = λ p s h.
+    let t : Storage g.row.D.Denot = record {
+      accounts = c.self.inside.accounts;
+      segs = c.self.inside.segs;
+      whos = c.self.inside.whos.items;
+    } in
+    let n : Storage g.row.D.Denot = record {
+      accounts = c.self.inside.accounts;
+      segs = c.cut_from.new.self;
+      whos = c.self.inside.whos.items;
+    } in
+    let now = plain g.D.Drive.pages t.segs.pages in
+    let active = subst (λ (x : Storage g.row.D.Denot). IsActive x.segs.ast.entries c.args.uid) (sym c.self.view_is)
+    c.requires.active in
+    let word = leaving_is (word_of t.segs.ast c.args.uid c.args.page) c.in-Some.f
+    (ap (λ (x : ActiveSegs). leaves (word_of x c.args.uid c.args.page)) (sym c.ast.ensures.ast)
+    ∙ ap leaves (sym c.word_of.ensures) ∙ sym c.leaves.ensures ∙ c.in-Some.is) in
+    let frame = frame_bound t.segs.pages.core c.args.uid c.args.page c.in-Some.f
+    (leaving_bound now t.segs.ast t.segs.links t.accounts t.whos c.pages-kept.ensures.kept c.self.invariant c.args.uid
+    c.args.page c.in-Some.f active word) in
+    shown_cut g.D.Drive.pages p s t n c.args.uid c.args.page c.in-Some.f c.args.at refl refl c.cut_from.ensures.links
+    c.cut_from.ensures.volumes
+    (active_there now t.segs.ast t.segs.links t.accounts t.whos c.pages-kept.ensures.kept c.self.invariant c.args.uid
+    active)
+    (picture_bound now t.segs.ast t.segs.links t.accounts t.whos c.pages-kept.ensures.kept c.self.invariant c.args.uid
+    c.args.page c.in-Some.f active word)
+    (page_words (words_at now) _ _ _ c.args.uid c.args.page _ frame.0 frame.1 c.cut_from.ensures.words)
+    (subst (λ (x : Storage g.row.D.Denot). Shows g.D.Drive.pages p s x) (sym c.self.view_is) h)
+
+pub returns-in-Some-clause-zero : goal.returns-in-Some-clause-zero
+returns-in-Some-clause-zero g c = λ p s h.
+    let t : Storage g.row.D.Denot = record {
+      accounts = c.self.inside.accounts;
+      segs = c.self.inside.segs;
+      whos = c.self.inside.whos.items;
+    } in
+    let now = plain g.D.Drive.pages t.segs.pages in
+    let active = subst (λ (x : Storage g.row.D.Denot). IsActive x.segs.ast.entries c.args.uid) (sym c.self.view_is)
+    c.requires.active in
+    let word = leaving_is (word_of t.segs.ast c.args.uid c.args.page) c.in-Some.f
+    (ap (λ (x : ActiveSegs). leaves (word_of x c.args.uid c.args.page)) (sym c.ast.ensures.ast)
+    ∙ ap leaves (sym c.word_of.ensures) ∙ sym c.leaves.ensures ∙ c.in-Some.is) in
+    let frame = frame_bound t.segs.pages.core c.args.uid c.args.page c.in-Some.f
+    (leaving_bound now t.segs.ast t.segs.links t.accounts t.whos c.pages-kept.ensures.kept c.self.invariant c.args.uid
+    c.args.page c.in-Some.f active word) in
+    let shown = subst (λ (x : Storage g.row.D.Denot). Shows g.D.Drive.pages p s x) (sym c.self.view_is) h in
+    cut_told t.accounts t.segs.pages.volumes.vtocs (words_at now) _ c.args.uid c.args.page c.args.at
+    (words_in now c.in-Some.f)
+    (active_there now t.segs.ast t.segs.links t.accounts t.whos c.pages-kept.ensures.kept c.self.invariant c.args.uid
+    active)
+    (picture_bound now t.segs.ast t.segs.links t.accounts t.whos c.pages-kept.ensures.kept c.self.invariant c.args.uid
+    c.args.page c.in-Some.f active word)
+    (page_words (words_at now) _ _ _ c.args.uid c.args.page _ frame.0 frame.1 c.cut_from.ensures.words)
+    s c.cut_from.result shown.pages
+    (word_filed now t.segs.ast t.segs.links t.accounts t.whos c.pages-kept.ensures.kept c.self.invariant c.args.uid
+    active c.args.page ∙ ap has_record word) c.requires.at
+    (frame_told now c.in-Some.f c.args.at c.cut_from.result _ c.cut_from.ensures.cut c.cut_from.ensures.zero)
+
+pub returns-in-None-clause-rest : goal.returns-in-None-clause-rest
+returns-in-None-clause-rest g c = unstores_none c.args.self.now c.args.uid
+
+pub returns-in-None-clause-shown : goal.returns-in-None-clause-shown
+returns-in-None-clause-shown g c = λ p s h.
+    let t : Storage g.row.D.Denot = record {
+      accounts = c.self.inside.accounts;
+      segs = c.self.inside.segs;
+      whos = c.self.inside.whos.items;
+    } in
+    let now = plain g.D.Drive.pages t.segs.pages in
+    let active = subst (λ (x : Storage g.row.D.Denot). IsActive x.segs.ast.entries c.args.uid) (sym c.self.view_is)
+    c.requires.active in
+    let taken = ap (λ (x : Storage g.row.D.Denot). is_here (word_of x.segs.ast c.args.uid c.args.page)) c.self.view_is
+    ∙ c.requires.taken in
+    let out = ap (λ (x : Storage g.row.D.Denot). is_out (word_of x.segs.ast c.args.uid c.args.page)) c.self.view_is
+    ∙ c.requires.out in
+    let null = not_leaving (word_of t.segs.ast c.args.uid c.args.page) taken out
+    (ap (λ (x : ActiveSegs). leaves (word_of x c.args.uid c.args.page)) (sym c.ast.ensures.ast)
+    ∙ ap leaves (sym c.word_of.ensures) ∙ sym c.leaves.ensures ∙ c.in-None.is) in
+    let shown = subst (λ (x : Storage g.row.D.Denot). Shows g.D.Drive.pages p s x) (sym c.self.view_is) h in
+    let off = shown.pages.stored c.args.uid c.args.page
+    ∙ word_filed now t.segs.ast t.segs.links t.accounts t.whos c.pages-kept.ensures.kept c.self.invariant c.args.uid
+    active c.args.page ∙ ap has_record null in
+    subst (λ (x : Flat). Shows g.D.Drive.pages p x c.args.self.now)
+    (sym (cleared_absent s c.args.uid c.args.page c.args.at (λ o at.
+    blank_shown g.D.Drive.pages p s t c.pages-kept.ensures.kept c.self.invariant shown c.args.uid o
+    (ap (is_stored s.stored c.args.uid) at ∙ off)))) h
+
+pub returns-in-None-clause-zero : goal.returns-in-None-clause-zero
+returns-in-None-clause-zero g c = λ p s h.
+    let t : Storage g.row.D.Denot = record {
+      accounts = c.self.inside.accounts;
+      segs = c.self.inside.segs;
+      whos = c.self.inside.whos.items;
+    } in
+    let now = plain g.D.Drive.pages t.segs.pages in
+    let active = subst (λ (x : Storage g.row.D.Denot). IsActive x.segs.ast.entries c.args.uid) (sym c.self.view_is)
+    c.requires.active in
+    let taken = ap (λ (x : Storage g.row.D.Denot). is_here (word_of x.segs.ast c.args.uid c.args.page)) c.self.view_is
+    ∙ c.requires.taken in
+    let out = ap (λ (x : Storage g.row.D.Denot). is_out (word_of x.segs.ast c.args.uid c.args.page)) c.self.view_is
+    ∙ c.requires.out in
+    let null = not_leaving (word_of t.segs.ast c.args.uid c.args.page) taken out
+    (ap (λ (x : ActiveSegs). leaves (word_of x c.args.uid c.args.page)) (sym c.ast.ensures.ast)
+    ∙ ap leaves (sym c.word_of.ensures) ∙ sym c.leaves.ensures ∙ c.in-None.is) in
+    let shown = subst (λ (x : Storage g.row.D.Denot). Shows g.D.Drive.pages p s x) (sym c.self.view_is) h in
+    let off = shown.pages.stored c.args.uid c.args.page
+    ∙ word_filed now t.segs.ast t.segs.links t.accounts t.whos c.pages-kept.ensures.kept c.self.invariant c.args.uid
+    active c.args.page ∙ ap has_record null in
+    sym (ap (λ (z : Bool). z && is_zero_page (cleared s c.args.uid c.args.page c.args.at).words c.args.uid c.args.page)
+    off)

@@ -1,0 +1,57 @@
+use Rattle.std.proofs.Common.{◌≡◌, ℕ, ◌/◌, ◌%◌, Bool, true, false, cond, eqb, refl, sym, ap, subst, ◌∙◌, arith}
+use Rattle.flat_model.specs.Cuts.{cleared, has_cleared, without_pages}
+use Rattle.active_segs.specs.Active.{IsActive}
+use Rattle.page_control.specs.Plain.{plain}
+use Rattle.page_control.specs.Tied.{is_away}
+use Rattle.storage_ops.specs.Shown.{Shows, Storage, is_there}
+use Rattle.storage_ops.proofs.Paged.{active_there}
+use Rattle.storage_ops.proofs.Unstored.{idle_still}
+use Rattle.storage_ops.proofs.Unstored.{active_still, home_still}
+use Rattle.storage_ops.proofs.store.Store.cut_page.Goals as goal
+
+pub home-home-requires : goal.home-home-requires
+home-home-requires g c =
+    let active = subst (λ (x : Storage g.row.D.Denot). IsActive x.segs.ast.entries c.args.uid) (sym c.self.view_is)
+    c.requires.past.active in
+    ap (λ (x : Storage g.row.D.Denot). is_there x.accounts.nodes c.args.uid) (sym c.self.view_is)
+    ∙ active_there (plain g.D.Drive.pages c.self.inside.segs.pages) c.self.inside.segs.ast c.self.inside.segs.links
+    c.self.inside.accounts c.self.inside.whos.items c.pages-kept.ensures.kept c.self.invariant c.args.uid active
+
+pub drop_page-requires-clause-home : goal.drop_page-requires-clause-home
+drop_page-requires-clause-home g c = c.home-home.ensures.home
+    ∙ sym (home_still c.args.self.now c.clear_page.new.self c.args.uid (λ q. false) c.args.uid
+    c.clear_page.ensures.rest)
+
+pub drop_page-requires-clause-active : goal.drop_page-requires-clause-active
+drop_page-requires-clause-active g c = active_still c.args.self.now c.clear_page.new.self c.args.uid (λ q. false)
+    c.clear_page.ensures.rest c.requires.past.active
+
+pub drop_page-requires-clause-away : goal.drop_page-requires-clause-away
+drop_page-requires-clause-away g c = ap is_away (c.clear_page.ensures.rest.kept (c.args.words / 1024) refl)
+    ∙ c.clear_page.ensures.away c.if-clear_page.true
+
+pub drop_page-requires-clause-idle : goal.drop_page-requires-clause-idle
+drop_page-requires-clause-idle g c = idle_still c.args.self.now.segs.pages.core c.clear_page.new.self.segs.pages.core
+    c.args.uid (c.args.words / 1024) c.clear_page.ensures.rest.reads
+    (c.requires.past.past.idle (c.args.words / 1024) (omega arith))
+
+pub returns-then-clear_page : goal.returns-then-clear_page
+returns-then-clear_page g c = λ p s h.
+    let page : ℕ = c.args.words / 1024 in
+    let is : has_cleared s c.args.uid page (c.args.words % 1024) ≡ true = sym (c.clear_page.ensures.zero p s h)
+    ∙ c.if-clear_page.true in
+    let done = c.drop_page.ensures.shown p (cleared s c.args.uid page (c.args.words % 1024))
+    (c.clear_page.ensures.shown p s h) in
+    subst (λ (z : Bool). Shows g.D.Drive.pages p
+    (cond z (without_pages (cleared s c.args.uid page (c.args.words % 1024)) c.args.uid (λ q. eqb q page))
+    (cleared s c.args.uid page (c.args.words % 1024))) c.drop_page.new.self) (sym is) done
+
+pub returns-else-clear_page : goal.returns-else-clear_page
+returns-else-clear_page g c = λ p s h.
+    let page : ℕ = c.args.words / 1024 in
+    let is : has_cleared s c.args.uid page (c.args.words % 1024) ≡ false = sym (c.clear_page.ensures.zero p s h)
+    ∙ c.if-clear_page.false in
+    subst (λ (z : Bool). Shows g.D.Drive.pages p
+    (cond z (without_pages (cleared s c.args.uid page (c.args.words % 1024)) c.args.uid (λ q. eqb q page))
+    (cleared s c.args.uid page (c.args.words % 1024))) c.clear_page.new.self) (sym is)
+    (c.clear_page.ensures.shown p s h)

@@ -1,0 +1,122 @@
+use Rattle.std.proofs.Common.{◌≡◌, ◌≤◌, ◌<◌, ◌≢◌, ◌+◌, ℕ, Some, false, eqb, sym, ap, subst, ◌∙◌, arith}
+use Rattle.flat_model.specs.Cuts.{without_pages}
+use Rattle.flat_model.specs.Store.{Store as Flat}
+use Rattle.flat_model.proofs.DropLaws.{all_between, between, more_between, none_between}
+use Rattle.active_segs.specs.Active.{IsActive}
+use Rattle.page_control.specs.Plain.{binding_at, bindings, plain}
+use Rattle.seg_control.specs.Control.{word_of}
+use Rattle.storage_ops.specs.Cut.{is_here}
+use Rattle.storage_ops.specs.Shown.{Shows, Storage, is_there, pages_in}
+use Rattle.storage_ops.proofs.Lengths.{filed_there}
+use Rattle.storage_ops.proofs.Paged.{active_there, blank_shown, past_unfiled, unfiled_unframed, word_filed}
+use Rattle.storage_ops.proofs.Unstored.{idle_still}
+use Rattle.storage_ops.proofs.Unstored.{active_still, between_more, between_none, between_past, home_still}
+use Rattle.storage_ops.proofs.Unstored.{unrecorded, unstores_both, unstores_none, unstores_past, unstores_same}
+use Rattle.storage_ops.proofs.store.Store.drop_from.Goals as goal
+
+pub home-home-requires : goal.home-home-requires
+home-home-requires g c =
+    let active = subst (λ (x : Storage g.row.D.Denot). IsActive x.segs.ast.entries c.args.uid) (sym c.self.view_is)
+    c.requires.active in
+    ap (λ (x : Storage g.row.D.Denot). is_there x.accounts.nodes c.args.uid) (sym c.self.view_is)
+    ∙ active_there (plain g.D.Drive.pages c.self.inside.segs.pages) c.self.inside.segs.ast c.self.inside.segs.links
+    c.self.inside.accounts c.self.inside.whos.items c.pages-kept.ensures.kept c.self.invariant c.args.uid active
+
+pub loop-page-init : goal.loop-page-init
+loop-page-init g c =
+    let t : Storage g.row.D.Denot = record {
+      accounts = c.self.inside.accounts;
+      segs = c.self.inside.segs;
+      whos = c.self.inside.whos.items;
+    } in (
+      λ p s h.
+          let shown = subst (λ (x : Storage g.row.D.Denot). Shows g.D.Drive.pages p s x) (sym c.self.view_is) h in
+          subst (λ (x : Flat). Shows g.D.Drive.pages p x c.args.self.now)
+          (sym (none_between s c.args.uid c.args.from
+          (blank_shown g.D.Drive.pages p s t c.pages-kept.ensures.kept c.self.invariant shown))) h,
+      unstores_same c.args.self.now c.args.self.now c.args.uid (λ q. false) (between c.args.from c.args.from)
+          (λ q. between_none c.args.from q) (unstores_none c.args.self.now c.args.uid),
+      omega arith,
+    )
+
+pub unstore-requires-clause-home : goal.unstore-requires-clause-home
+unstore-requires-clause-home g c = c.home-home.ensures.home
+    ∙ sym (home_still c.args.self.now c.loop-page.self c.args.uid (between c.args.from c.loop-page.page) c.args.uid
+    c.loop-page.invariant.1)
+
+pub unstore-requires-clause-active : goal.unstore-requires-clause-active
+unstore-requires-clause-active g c = active_still c.args.self.now c.loop-page.self c.args.uid
+    (between c.args.from c.loop-page.page) c.loop-page.invariant.1 c.requires.active
+
+pub unstore-requires-clause-taken : goal.unstore-requires-clause-taken
+unstore-requires-clause-taken g c =
+    ap is_here (c.loop-page.invariant.1.kept c.loop-page.page (between_past c.args.from c.loop-page.page))
+    ∙ c.requires.taken.taken c.loop-page.page c.loop-page.invariant.2
+
+pub unstore-requires-clause-idle : goal.unstore-requires-clause-idle
+unstore-requires-clause-idle g c = idle_still c.args.self.now.segs.pages.core c.loop-page.self.segs.pages.core
+    c.args.uid c.loop-page.page c.loop-page.invariant.1.reads
+    (c.requires.taken.idle c.loop-page.page c.loop-page.invariant.2)
+
+pub loop-page-preserved : goal.loop-page-preserved
+loop-page-preserved g c = (
+  λ p s h. subst (λ (x : Flat). Shows g.D.Drive.pages p x c.unstore.new.self)
+      (more_between s c.args.uid c.args.from c.loop-page.page c.loop-page.invariant.2)
+      (c.unstore.ensures.shown p (without_pages s c.args.uid (between c.args.from c.loop-page.page))
+      (c.loop-page.invariant.0 p s h)),
+  unstores_same c.args.self.now c.unstore.new.self c.args.uid _ (between c.args.from (c.loop-page.page + 1))
+      (λ q. between_more c.args.from c.loop-page.page q c.loop-page.invariant.2)
+      (unstores_both c.args.self.now c.loop-page.self c.unstore.new.self c.args.uid
+      (between c.args.from c.loop-page.page) (λ q. eqb q c.loop-page.page) c.loop-page.invariant.1
+      c.unstore.ensures.rest),
+  omega arith,
+)
+
+pub returns-clause-shown : goal.returns-clause-shown
+returns-clause-shown g c = λ p s h.
+    let t : Storage g.row.D.Denot = record {
+      accounts = c.self.inside.accounts;
+      segs = c.self.inside.segs;
+      whos = c.self.inside.whos.items;
+    } in
+    let now = plain g.D.Drive.pages t.segs.pages in
+    let active = subst (λ (x : Storage g.row.D.Denot). IsActive x.segs.ast.entries c.args.uid) (sym c.self.view_is)
+    c.requires.active in
+    let there = active_there now t.segs.ast t.segs.links t.accounts t.whos c.pages-kept.ensures.kept c.self.invariant
+    c.args.uid active in
+    let shown = subst (λ (x : Storage g.row.D.Denot). Shows g.D.Drive.pages p s x) (sym c.self.view_is) h in
+    let size : pages_in t.accounts.nodes c.args.uid ≡ c.pages_of-page-end.result = sym c.pages_of-page-end.ensures in
+    let past : pages_in t.accounts.nodes c.args.uid ≤ c.loop-page.page =
+    omega (arith, size, c.loop-page-test.false) in
+    subst (λ (x : Flat). Shows g.D.Drive.pages p x c.loop-page.self)
+    (all_between s c.args.uid c.args.from c.loop-page.page
+    (blank_shown g.D.Drive.pages p s t c.pages-kept.ensures.kept c.self.invariant shown)
+    (λ q on. (let lt : q < pages_in t.accounts.nodes c.args.uid =
+    c.self.invariant.counted.inside c.args.uid q there
+    (sym (filed_there t.accounts t.segs.pages.volumes.vtocs c.args.uid q there) ∙ sym (shown.pages.stored c.args.uid q)
+    ∙ on) in omega (arith, lt, past))))
+    (c.loop-page.invariant.0 p s h)
+
+pub returns-clause-rest : goal.returns-clause-rest
+returns-clause-rest g c =
+    let t : Storage g.row.D.Denot = record {
+      accounts = c.self.inside.accounts;
+      segs = c.self.inside.segs;
+      whos = c.self.inside.whos.items;
+    } in
+    let now = plain g.D.Drive.pages t.segs.pages in
+    let active = subst (λ (x : Storage g.row.D.Denot). IsActive x.segs.ast.entries c.args.uid) (sym c.self.view_is)
+    c.requires.active in
+    let size : pages_in t.accounts.nodes c.args.uid ≡ c.pages_of-page-end.result = sym c.pages_of-page-end.ensures in
+    let past : pages_in t.accounts.nodes c.args.uid ≤ c.loop-page.page =
+    omega (arith, size, c.loop-page-test.false) in
+    let off = past_unfiled now t.segs.ast t.segs.links t.accounts t.whos c.pages-kept.ensures.kept c.self.invariant
+    c.args.uid active c.loop-page.page past in
+    unstores_past c.args.self.now c.loop-page.self c.args.uid c.args.from c.loop-page.page c.loop-page.invariant.1
+    (λ q le. ap (λ (x : Storage g.row.D.Denot). word_of x.segs.ast c.args.uid q) (sym c.self.view_is)
+    ∙ unrecorded (word_of t.segs.ast c.args.uid q) (sym (word_filed now t.segs.ast t.segs.links t.accounts t.whos
+    c.pages-kept.ensures.kept c.self.invariant c.args.uid active q) ∙ off q le))
+    (λ q le. subst (λ (x : Storage g.row.D.Denot). (f : ℕ) → binding_at (bindings x.segs.pages.core) f
+    ≢ Some (c.args.uid, q)) c.self.view_is
+    (unfiled_unframed now t.segs.ast t.segs.links t.accounts t.whos c.pages-kept.ensures.kept c.self.invariant
+    c.args.uid q (off q le)))

@@ -1,0 +1,14 @@
+use Rattle.std.proofs.Common.{◌≤◌}
+use Rattle.script.specs.Plans.{Plan}
+use Rattle.flat_model.specs.Cuts.{without_pages}
+use Rattle.flat_model.specs.Store.{Store as Flat}
+use Rattle.flat_model.proofs.DropLaws.{between}
+use Rattle.storage_ops.specs.Cut.{Unstores}
+use Rattle.storage_ops.specs.Shown.{Shows}
+use Rattle.storage_ops.proofs.store.Store.drop_from.Given as goal
+
+-- the pages before the next one are stored no more
+abbrev pub invariant-loop-page : goal.invariant-loop-page
+invariant-loop-page g l = ((p : Plan) (s : Flat) → Shows g.D.Drive.pages p s l.fn.self
+    → Shows g.D.Drive.pages p (without_pages s l.fn.uid (between l.fn.from l.page)) l.self) ×
+    (Unstores l.fn.self l.self l.fn.uid (between l.fn.from l.page)) × (l.fn.from ≤ l.page)

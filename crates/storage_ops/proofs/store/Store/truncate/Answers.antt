@@ -1,0 +1,42 @@
+use Rattle.std.proofs.Common.{List, sym, ap, subst, ◌∙◌}
+use Rattle.tree_model.specs.Tree.{Node, quota_in}
+use Rattle.dir_tree.specs.Nodes.{as_term}
+use Rattle.flat_model.specs.Branches.{segment_at}
+use Rattle.flat_model.specs.Store.{Store as Flat}
+use Rattle.flat_model.proofs.CutLaws.{truncate_done}
+use Rattle.flat_model.proofs.TreeReplies.{truncate_refused, truncate_told}
+use Rattle.storage_ops.specs.Cut.{IsTakenPast, IsTakenPastAt}
+use Rattle.storage_ops.specs.Shown.{Shows, ShowsTree, Storage}
+use Rattle.storage_ops.proofs.Changed.{segment_refuses}
+use Rattle.storage_ops.proofs.store.Store.truncate.Goals as goal
+
+pub returns-in-Err-clause-answer : goal.returns-in-Err-clause-answer
+returns-in-Err-clause-answer g c = λ p s h.
+    let tree = subst (λ (x : Storage g.row.D.Denot). ShowsTree s x.accounts) (sym c.self.view_is) h.tree in
+    truncate_refused s c.self.inside.accounts.nodes c.args.path.now tree.nodes c.in-Err.reply c.in-Err.ensures.err
+
+pub returns-in-Err-clause-effect : goal.returns-in-Err-clause-effect
+returns-in-Err-clause-effect g c = λ p s h.
+    rw (segment_refuses c.self.inside.accounts.nodes c.args.path.now c.in-Err.reply c.in-Err.ensures.err) h
+
+pub cut_off-requires : goal.cut_off-requires
+cut_off-requires g c =
+    let past = subst (λ (x : Storage g.row.D.Denot). IsTakenPastAt x.accounts x.segs c.args.path.now c.args.words)
+    (sym c.self.view_is) c.requires in
+    subst (λ (x : Storage g.row.D.Denot). IsTakenPast x.segs c.in-Ok.node.now.uid c.args.words) c.self.view_is
+    (past (as_term (quota_in c.self.inside.accounts.nodes) c.in-Ok.node.now) c.in-Ok.ensures.ok)
+
+pub returns-clause-answer : goal.returns-clause-answer
+returns-clause-answer g c = λ p s h.
+    let tree = subst (λ (x : Storage g.row.D.Denot). ShowsTree s x.accounts) (sym c.self.view_is) h.tree in
+    truncate_told s c.self.inside.accounts.nodes c.args.path.now tree.nodes
+    (as_term (quota_in c.self.inside.accounts.nodes) c.in-Ok.node.now) c.in-Ok.ensures.ok
+
+pub returns-clause-effect : goal.returns-clause-effect
+returns-clause-effect g c = λ p s h.
+    let tree = subst (λ (x : Storage g.row.D.Denot). ShowsTree s x.accounts) (sym c.self.view_is) h.tree in
+    subst (λ (x : Flat). Shows g.D.Drive.pages p x c.cut_off.new.self)
+    (sym (truncate_done s c.args.path.now c.args.words
+    (as_term (quota_in c.self.inside.accounts.nodes) c.in-Ok.node.now)
+    (ap (λ (ns : List Node). segment_at ns c.args.path.now) tree.nodes ∙ c.in-Ok.ensures.ok)))
+    (c.cut_off.ensures p s h)

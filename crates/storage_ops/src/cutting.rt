@@ -1,0 +1,173 @@
+//! Pages are stored no more, and segments are truncated.
+
+ghost use Rattle.std.specs.Prelude.{◌≡◌, ◌<◌, ◌≤◌, ◌/◌, ◌%◌, nat_le, true, false, ◌==◌, ℕ};
+ghost use Rattle.page_table.specs.declared.Ptw.TheVariants.{Null};
+ghost use Rattle.active_segs.specs.Active.{IsActive};
+ghost use Rattle.page_control.specs.Tied.{IsNotStarted, is_away, is_out};
+ghost use Rattle.seg_control.specs.Control.{word_of};
+ghost use Rattle.script.specs.Plans.{Plan};
+ghost use Rattle.flat_model.specs.Cuts.{cleared, cut_once, has_cleared, without_pages};
+ghost use Rattle.flat_model.specs.Sizes.{after_truncate, cut_off, truncate_reply};
+ghost use Rattle.flat_model.specs.Store.{Store as Flat};
+ghost use Rattle.storage_ops.specs.Shown.{Shows, answered, home_of};
+ghost use Rattle.storage_ops.specs.Cut.{IsTakenFrom, IsTakenPast, IsTakenPastAt, Unstores, is_here, leaves};
+
+use crate::paths::segment_at;
+use crate::sizes::pages_of;
+use crate::store::Store;
+use active_segs::Ast;
+use book::Reply;
+use mnames::Path;
+use page_control::Home;
+use page_table::Ptw;
+use volumes::Drive;
+
+/// The words of a page.
+const PAGE: u32 = 1024;
+
+/// The word of a page of an active segment; `Null` past the end of its page table.
+fn word_of(ast: &Ast, uid: u32, page: u32) -> Ptw
+    requires { IsActive ast.now.entries uid }
+    ensures { result ≡ word_of ast.now uid page }
+{
+    let Some(place) = ast.search(uid) else {
+        unreachable!();
+    };
+    let table = ast.table(place);
+    if page < table.size() {
+        table.get(page)
+    } else {
+        Ptw::Null
+    }
+}
+
+/// Whether no reference goes through the word of a stored page.
+fn is_away(word: Ptw) -> bool
+    ensures { result ≡ is_away word }
+{
+    matches!(word, Ptw::Out(_) | Ptw::Leaving(_))
+}
+
+/// The frame that a page is on its way out of.
+fn leaves(word: Ptw) -> Option<u32>
+    ensures { result ≡ leaves word }
+{
+    match word {
+        Ptw::Leaving(f) => Some(f),
+        _ => None,
+    }
+}
+
+impl<D: Drive> Store<D> {
+    /// A stored page of an active segment is stored no more, and its account is credited.
+    fn drop_page(&mut self, uid: u32, page: u32, home: Home)
+        requires home { home ≡ home_of self.old.accounts uid }
+        requires active { IsActive self.old.segs.ast.entries uid }
+        requires away { is_away (word_of self.old.segs.ast uid page) ≡ true }
+        requires idle { IsNotStarted self.old.segs.pages.core uid page }
+        ensures rest { Unstores self.old self.new uid (λ q. q == page) }
+        ensures shown { (p : Plan) (s : Flat) → Shows D.pages p s self.old
+            → Shows D.pages p (without_pages s uid (λ q. q == page)) self.new }
+    {
+        let _kept = self.segs.pages();
+        self.segs.drop_page(uid, page, home);
+        self.accounts.credit(uid, 1);
+    }
+
+    /// A page of an active segment is stored no more, if it was.
+    fn unstore(&mut self, uid: u32, page: u32, home: Home)
+        requires home { home ≡ home_of self.old.accounts uid }
+        requires active { IsActive self.old.segs.ast.entries uid }
+        requires taken { is_here (word_of self.old.segs.ast uid page) ≡ false }
+        requires idle { IsNotStarted self.old.segs.pages.core uid page }
+        ensures rest { Unstores self.old self.new uid (λ q. q == page) }
+        ensures shown { (p : Plan) (s : Flat) → Shows D.pages p s self.old
+            → Shows D.pages p (without_pages s uid (λ q. q == page)) self.new }
+    {
+        let _kept = self.segs.pages();
+        if is_away(word_of(self.segs.ast(), uid, page)) {
+            self.drop_page(uid, page, home);
+        }
+    }
+
+    /// The pages of an active segment from one on are stored no more. It looks at the words of those pages alone.
+    pub(crate) fn drop_from(&mut self, uid: u32, from: u32)
+        requires active { IsActive self.old.segs.ast.entries uid }
+        requires taken { IsTakenFrom self.old.segs uid from }
+        ensures rest { Unstores self.old self.new uid (λ q. nat_le from q) }
+        ensures shown { (p : Plan) (s : Flat) → Shows D.pages p s self.old
+            → Shows D.pages p (without_pages s uid (λ q. nat_le from q)) self.new }
+    {
+        let _kept = self.segs.pages();
+        let home = self.home(uid);
+        for page in from..pages_of(&self.accounts, uid) {
+            self.unstore(uid, page, home);
+        }
+    }
+
+    /// The words of a page that isn't on its record alone become 0 from a place on. Whether it is stored, and all zeros
+    /// then.
+    fn clear_page(&mut self, uid: u32, page: u32, at: u32) -> bool
+        requires at { at ≤ 1024 }
+        requires active { IsActive self.old.segs.ast.entries uid }
+        requires taken { is_here (word_of self.old.segs.ast uid page) ≡ false }
+        requires out { is_out (word_of self.old.segs.ast uid page) ≡ false }
+        ensures rest { Unstores self.old self.new uid (λ q. false) }
+        ensures away { result ≡ true → is_away (word_of self.old.segs.ast uid page) ≡ true }
+        ensures shown { (p : Plan) (s : Flat) → Shows D.pages p s self.old
+            → Shows D.pages p (cleared s uid page at) self.new }
+        ensures zero { (p : Plan) (s : Flat) → Shows D.pages p s self.old → result ≡ has_cleared s uid page at }
+    {
+        let _kept = self.segs.pages();
+        match leaves(word_of(self.segs.ast(), uid, page)) {
+            Some(f) => self.segs.cut_from(f, at),
+            None => false,
+        }
+    }
+
+    /// The words of the page that an offset cuts become 0 from it on. A page of zeros is stored no more.
+    fn cut_page(&mut self, uid: u32, words: u32)
+        requires past { IsTakenPast self.old.segs uid words }
+        requires out { is_out (word_of self.old.segs.ast uid (words / 1024)) ≡ false }
+        ensures { (p : Plan) (s : Flat) → Shows D.pages p s self.old → Shows D.pages p (cut_once s uid words) self.new }
+    {
+        let _kept = self.segs.pages();
+        let home = self.home(uid);
+        let page = words / PAGE;
+        if self.clear_page(uid, page, words % PAGE) {
+            self.drop_page(uid, page, home);
+        }
+    }
+
+    /// The words of an active segment from an offset on become 0, and the pages that are lost by it are stored no more.
+    fn cut_off(&mut self, uid: u32, words: u32)
+        requires { IsTakenPast self.old.segs uid words }
+        ensures { (p : Plan) (s : Flat) → Shows D.pages p s self.old → Shows D.pages p (cut_off s uid words) self.new }
+    {
+        let page = words / PAGE;
+        if words % PAGE == 0 {
+            self.drop_from(uid, page);
+        } else {
+            self.drop_from(uid, page + 1);
+            self.cut_page(uid, words);
+        }
+    }
+
+    /// Makes the words of a segment from an offset on 0, and gives `Done`, or what refuses it. Its pages that lie past
+    /// the offset, and the one that is cut where then all zeros, are stored no more, and are credited. The segment must
+    /// be active, no reference must go through the words of those pages, and the one that is cut must not be on its
+    /// record alone. (Source: Bensoussan, Clingen and Daley 1972.)
+    pub fn truncate(&mut self, path: &Path, words: u32) -> Reply
+        requires { IsTakenPastAt self.old.accounts self.old.segs path.now words }
+        ensures answer { (p : Plan) (s : Flat) → Shows D.pages p s self.old → result ≡ truncate_reply s path.now }
+        ensures effect { (p : Plan) (s : Flat) → Shows D.pages p s self.old
+            → Shows D.pages p (answered result s (after_truncate s path.now words)) self.new }
+    {
+        let uid = match segment_at(&self.accounts, path) {
+            Ok(node) => node.uid,
+            Err(reply) => return reply,
+        };
+        self.cut_off(uid, words);
+        Reply::Done
+    }
+}
