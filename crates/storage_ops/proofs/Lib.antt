@@ -14,6 +14,7 @@ pub mod NodeLaws
 pub mod Paged
 pub mod PagesLess
 pub mod PathLaws
+pub mod Removed
 pub mod Still
 pub mod Tables
 pub mod Unstored

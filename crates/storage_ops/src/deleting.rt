@@ -1,13 +1,18 @@
 //! Directories and segments are deleted, and told of.
 
-ghost use Rattle.std.specs.Prelude.{◌≡◌, not};
+ghost use Rattle.std.specs.Prelude.{◌≡◌, ◌≢◌, not, true, false, Some};
 ghost use Rattle.tree_model.specs.Tree.{has_directory, quota_in};
 ghost use Rattle.tree_model.specs.Trees.{has_segment};
 ghost use Rattle.script.specs.Plans.{Plan};
-ghost use Rattle.flat_model.specs.Making.{delete_reply};
+ghost use Rattle.dir_tree.specs.Nodes.{has_inferior};
+ghost use Rattle.accounts.specs.Maps.{Recounts};
+ghost use Rattle.seg_control.specs.Kept.{IsInactive};
+ghost use Rattle.flat_model.specs.Cuts.{without_branch};
+ghost use Rattle.flat_model.specs.Making.{after_delete, delete_reply};
 ghost use Rattle.flat_model.specs.Naming.{status_reply};
 ghost use Rattle.flat_model.specs.Store.{Store as Flat};
-ghost use Rattle.storage_ops.specs.Shown.{Shows, ShowsTree, refusal};
+ghost use Rattle.storage_ops.specs.Shown.{Shows, ShowsTree, answered, is_there, refusal};
+ghost use Rattle.storage_ops.specs.Cut.{IsRemovable, IsRemovableAt};
 
 use crate::paths::{branch_at, node_at};
 use crate::replies::refusal;
@@ -73,6 +78,23 @@ fn status_reply(accounts: &Accounts, path: &Path) -> Reply
     }
 }
 
+/// Counts no stored page of a node any more, to the credit of its account.
+fn uncount(accounts: &mut Accounts, uid: u32)
+    requires { is_there accounts.old.nodes uid ≡ true }
+    ensures { Recounts accounts.old accounts.new uid 0 }
+{
+    let dir = match accounts.node(uid) {
+        Some(node) => node.dir,
+        None => unreachable!(),
+    };
+    if dir {
+        let _quota = accounts.quota(uid);
+    } else {
+        let pages = accounts.stored(uid);
+        accounts.credit(uid, pages);
+    }
+}
+
 impl<D: Drive> Store<D> {
     /// What refuses the deletion of a directory or a segment: `Root` for the root; what the path leads to; `NotEmpty`
     /// exactly where it has an inferior; else `HasQuota` exactly where it has quota. (Source: Organick 1972.)
@@ -95,5 +117,65 @@ impl<D: Drive> Store<D> {
         ensures { (p : Plan) (s : Flat) → Shows D.pages p s self.now → result ≡ refusal (status_reply s path.now) }
     {
         refusal(status_reply(&self.accounts, path))
+    }
+
+    /// Makes a node without inferior inactive, if it was active; its pages are stored no more then.
+    fn make_inactive(&mut self, uid: u32)
+        requires empty { has_inferior self.old.accounts.nodes uid ≡ false }
+        requires ready { IsRemovable self.old.segs uid }
+        ensures nodes { self.new.accounts.nodes ≡ self.old.accounts.nodes }
+        ensures inactive { IsInactive self.new.segs.ast.entries uid }
+        ensures shown { (p : Plan) (s : Flat) → Shows D.pages p s self.old → (t : Flat) × (Shows D.pages p t self.new)
+            × (without_branch t (Some uid) ≡ without_branch s (Some uid)) }
+    {
+        let _kept = self.segs.pages();
+        let Some(place) = self.segs.ast().search(uid) else {
+            return;
+        };
+        self.drop_from(uid, 0);
+        self.deactivate(place);
+    }
+
+    /// Takes a node out that isn't active and has neither inferior nor quota, with its home and its stored pages.
+    fn remove(&mut self, uid: u32)
+        requires there { is_there self.old.accounts.nodes uid ≡ true }
+        requires branch { uid ≢ 1 }
+        requires empty { has_inferior self.old.accounts.nodes uid ≡ false }
+        requires quota { quota_in self.old.accounts.nodes uid ≡ 0 }
+        requires inactive { IsInactive self.old.segs.ast.entries uid }
+        ensures { (p : Plan) (s : Flat) → Shows D.pages p s self.old
+            → Shows D.pages p (without_branch s (Some uid)) self.new }
+    {
+        let _root = self.accounts.root();
+        let _kept = self.segs.pages();
+        let home = self.home(uid);
+        uncount(&mut self.accounts, uid);
+        self.segs.erase(home);
+        self.accounts.remove(uid);
+    }
+
+    /// Deletes a directory or a segment, and gives `Done`, or what refuses it. Its stored pages are credited, and its
+    /// records and its VTOC entry are free. No descriptor must lead to it, and no reference go through the words of its
+    /// pages. (Source: Bensoussan, Clingen and Daley 1972; Organick 1972.)
+    pub fn delete(&mut self, path: &Path) -> Reply
+        requires { IsRemovableAt self.old.accounts self.old.segs path.now }
+        ensures answer { (p : Plan) (s : Flat) → Shows D.pages p s self.old → result ≡ delete_reply s path.now }
+        ensures effect { (p : Plan) (s : Flat) → Shows D.pages p s self.old
+            → Shows D.pages p (answered result s (after_delete s path.now)) self.new }
+    {
+        let node = match branch_at(&self.accounts, path) {
+            Ok(node) => node,
+            Err(reply) => return reply,
+        };
+        let uid = node.uid;
+        if self.accounts.may_remove(uid).is_err() {
+            return Reply::NotEmpty;
+        }
+        if quota_of(&self.accounts, node) > 0 {
+            return Reply::HasQuota;
+        }
+        self.make_inactive(uid);
+        self.remove(uid);
+        Reply::Done
     }
 }

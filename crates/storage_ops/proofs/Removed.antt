@@ -1,0 +1,598 @@
+-- A node is taken out, with its home and its pages.
+use Rattle.std.proofs.Common.{◌≡◌, ◌≢◌, ℕ, zero, suc, ◌+◌, ◌-◌, ◌/◌, ◌%◌, ◌<◌, ◌≤◌, Bool, true, false, cond, eqb, not}
+use Rattle.std.proofs.Common.{◌&&◌, ◌||◌}
+use Rattle.std.proofs.Common.{List, [], ◌∷◌, get_or, length, set, Option, Some, None, is_some}
+use Rattle.std.proofs.Common.{refl, sym, ap}
+use Rattle.std.proofs.Common.{All, subst, ◌∙◌, arith, inl, inr}
+use Rattle.std.specs.Prelude.{count_by, nat_le}
+use Rattle.std.specs.List.{list_any}
+use Rattle.std.proofs.lemmas.Bool.{cases_Bool, cases_eq, cases_lt, eq-eqb, eqb-true, ne_eqb}
+use Rattle.std.proofs.lemmas.Bool.Decides.{nat_tests}
+use Rattle.std.proofs.lemmas.List.{get_or-set_other, get_or-set_same, get_or_past, length-set}
+use Rattle.std.proofs.lemmas.List.Sums.{sum_by-cons}
+use Rattle.std.proofs.Math.ListN.{get_or-map}
+use Rattle.mnames.specs.declared.principals.Who.{Who}
+use Rattle.script.specs.Plans.{Plan}
+use Rattle.accounts.specs.Maps.{AccountMaps, Loses, Recounts, count_of, entry_of}
+use Rattle.tree_model.specs.Tree.{Node, entries_on, has_directory, is_inferior, node_in, taken_on, volume_in}
+use Rattle.tree_model.specs.Tree.{without_node}
+use Rattle.tree_model.specs.Trees.{IsTree}
+use Rattle.flat_model.specs.Cuts.{without_branch, without_pages}
+use Rattle.flat_model.specs.Pages.{Words, is_stored, without_stored}
+use Rattle.flat_model.specs.Store.{Store}
+use Rattle.flat_model.proofs.DropLaws.{stored_fused}
+use Rattle.flat_model.proofs.NodeLaws.{volume_found}
+use Rattle.flat_model.proofs.PageLaws.{is_stored-without, once_without, without_first, without_none}
+use Rattle.flat_model.proofs.RemoveLaws.{directory_left, node_gone, node_left, taken_left, volume_left}
+use Rattle.flat_model.proofs.TreeLaws.{entries_less}
+use Rattle.vtoc.specs.Vtoc.{Entry as VtocEntry, entry_at, uid_of}
+use Rattle.core_map.specs.CoreMap.{Core, frame_at, started_page}
+use Rattle.core_map.specs.declared.Frame.TheVariants.{Free, Started}
+use Rattle.page_table.specs.declared.Ptw.TheVariants.{Null}
+use Rattle.page_table.specs.PageTable.{ptw_at}
+use Rattle.trailers.specs.Trailer.{leads_to, trailers_of}
+use Rattle.active_segs.specs.declared.Entry.{Entry}
+use Rattle.active_segs.specs.Active.{ActiveSegs, HasNoInferior, IsAway, IsOneToOne, entry_at as entry_in_place}
+use Rattle.active_segs.specs.Active.{superior_in}
+use Rattle.active_segs.specs.Active.{table_at, uid_at as uid_in_place, uid_in}
+use Rattle.page_control.specs.declared.Home.{Home}
+use Rattle.page_control.specs.Counts.{entries, named_on, one_less, size, taken, used}
+use Rattle.page_control.specs.Picture.{is_filed_at, words_at}
+use Rattle.page_control.specs.Effects.{erased, freed}
+use Rattle.page_control.specs.Plain.{Plain, file_map_of, flags_of, plain, uid_of_home, uid_or_zero}
+use Rattle.page_control.specs.Tied.{IsNotStarted, map_at, uid_at, vtoc_in}
+use Rattle.seg_control.specs.Control.{Links, leads_at, place_of, word_of}
+use Rattle.seg_control.specs.Kept.{AreExact, IsInactive, IsNotRead, times}
+use Rattle.storage_ops.specs.Shown.{AreCounted, AreHoused, AreInTree, AreTaken, IsCut, IsStore, Shows, Storage, home_of}
+use Rattle.storage_ops.specs.Shown.{is_filed}
+use Rattle.storage_ops.specs.Shown.{is_there, named_at, pages_in, pages_of, picture}
+use Rattle.storage_ops.proofs.Dropped.{counts_more, recount_here, recount_homes, recount_other, taken_more, with_more}
+use Rattle.storage_ops.proofs.Fresh.{one_of}
+use Rattle.storage_ops.proofs.Homes.{filed_map, none_counted}
+use Rattle.storage_ops.proofs.Lengths.{filed_there}
+use Rattle.storage_ops.proofs.Made.{length_inside}
+use Rattle.storage_ops.proofs.NodeLaws.{found_there}
+use Rattle.storage_ops.proofs.Unstored.{started_is}
+use Rattle.storage_ops.proofs.Paged.{active_place, filed_absent, picture_absent, picture_there}
+
+-- a node is taken out whose pages are counted no more and whose home is free
+pub record HasRemoved (old now : Plain) (a mid b : AccountMaps) (u : ℕ) : Type 0 where
+  pub there : is_there a.nodes u ≡ true
+  pub counted : Recounts a mid u 0
+  pub loses : Loses mid b u
+  pub free : uid_at now.vtocs (home_of a u) ≡ None
+  pub uids : (other : Home) → other ≢ home_of a u → uid_at now.vtocs other ≡ uid_at old.vtocs other
+  pub maps : (other : Home) → other ≢ home_of a u → map_at now.vtocs other ≡ map_at old.vtocs other
+  pub words : (v : ℕ) (other : Home) (q : ℕ) → other ≢ home_of a u → words_at now v other q ≡ words_at old v other q
+  pub used_less : used now.vtocs ≡ one_less (used old.vtocs) (home_of a u).volume
+  pub taken_less : (v : ℕ) → taken now.records v + named_on old.vtocs (home_of a u) v ≡ taken old.records v
+  pub sizes : (v : ℕ) → size now.records v ≡ size old.records v
+  pub places : (v : ℕ) → entries now.vtocs v ≡ entries old.vtocs v
+
+module _ (old now : Plain) (a mid b : AccountMaps) (u : ℕ) (d : HasRemoved old now a mid b u)
+    (housed : AreHoused a old.vtocs) where
+  nodes_left : b.nodes ≡ without_node a.nodes u
+  nodes_left = d.loses.nodes ∙ ap (λ (ns : List Node). without_node ns u) d.counted.nodes
+
+  there_left : (v : ℕ) → v ≢ u → is_there b.nodes v ≡ is_there a.nodes v
+  there_left v ne = ap (λ (ns : List Node). is_there ns v) nodes_left ∙ ap is_some (node_left a.nodes u v ne)
+
+  there_gone : is_there b.nodes u ≡ false
+  there_gone = ap (λ (ns : List Node). is_there ns u) nodes_left ∙ ap is_some (node_gone a.nodes u)
+
+  found_left : (v : ℕ) → v ≢ u → node_in b.nodes v ≡ node_in a.nodes v
+  found_left v ne = ap (λ (ns : List Node). node_in ns v) nodes_left ∙ node_left a.nodes u v ne
+
+  pages_left : (v : ℕ) → v ≢ u → pages_in b.nodes v ≡ pages_in a.nodes v
+  pages_left v ne = ap pages_of (found_left v ne)
+
+  home_left : (v : ℕ) → v ≢ u → home_of b v ≡ home_of a v
+  home_left v ne =
+      ap (λ (x : ℕ). record { volume = x; entry = entry_of b v })
+      (ap (λ (ns : List Node). volume_in ns v) nodes_left ∙ volume_left a.nodes u v ne)
+      ∙ ap (λ (x : ℕ). record { volume = volume_in a.nodes v; entry = x })
+      (d.loses.entries v ne ∙ ap (λ (h : Home). h.entry) (recount_homes a mid u 0 d.counted v))
+
+  own : uid_at old.vtocs (home_of a u) ≡ Some u
+  own = housed.homes u d.there
+
+  apart : (v : ℕ) → v ≢ u → is_there a.nodes v ≡ true → home_of a v ≢ home_of a u
+  apart v ne t same = ne (the_uid v (sym (housed.homes v t) ∙ ap (uid_at old.vtocs) same ∙ own))
+    where
+      the_uid : (v : ℕ) → ◌≡◌ {A = Option ℕ} (Some v) (Some u) → v ≡ u
+      the_uid v e = cc
+
+  other_home : (home : Home) (v : ℕ) → uid_at now.vtocs home ≡ Some v → home ≢ home_of a u
+  other_home home v e same = (let clash : ◌≡◌ {A = Option ℕ} None (Some v) = sym d.free
+      ∙ ap (uid_at now.vtocs) (sym same)
+      ∙ e in cc)
+
+  other_uid : (home : Home) (v : ℕ) → uid_at now.vtocs home ≡ Some v → v ≢ u
+  other_uid home v e same = other_home home v e (housed.only home v (sym (d.uids home (other_home home v e)) ∙ e)
+      ∙ ap (home_of a) same)
+
+  remaining : (v : ℕ) → is_there b.nodes v ≡ true → v ≢ u
+  remaining v t same = (let clash : true ≡ false = sym t ∙ ap (is_there b.nodes) same ∙ there_gone in cc)
+
+  removed_housed : AreHoused b now.vtocs
+  removed_housed = record {
+    homes = λ v t.
+        let ne = remaining v t in
+        let was = sym (there_left v ne) ∙ t in
+        ap (uid_at now.vtocs) (home_left v ne) ∙ d.uids (home_of a v) (apart v ne was) ∙ housed.homes v was;
+    there = λ home v e. there_left v (other_uid home v e)
+        ∙ housed.there home v (sym (d.uids home (other_home home v e)) ∙ e);
+    only = λ home v e. housed.only home v (sym (d.uids home (other_home home v e)) ∙ e)
+        ∙ sym (home_left v (other_uid home v e));
+  }
+
+  counts_left : (v : ℕ) → v ≢ u → count_of b v ≡ count_of a v
+  counts_left v ne = d.loses.counts v ∙ recount_other a mid u 0 d.counted v ne
+
+  counts_gone : count_of b u ≡ 0
+  counts_gone = d.loses.counts u ∙ recount_here a mid u 0 d.counted
+
+  removed_counted : AreCounted a old.vtocs → AreCounted b now.vtocs
+  removed_counted h = record {
+    counts = λ v t.
+        let ne = remaining v t in
+        let was = sym (there_left v ne) ∙ t in
+        ap (named_at now.vtocs) (home_left v ne) ∙ ap (count_by is_some) (d.maps (home_of a v) (apart v ne was))
+        ∙ h.counts v was ∙ sym (counts_left v ne);
+    inside = λ v q t on.
+        let ne = remaining v t in
+        let was = sym (there_left v ne) ∙ t in
+        subst (λ (n : ℕ). q < n) (sym (pages_left v ne)) (h.inside v q was
+        (filed_map old.vtocs (home_of a v) q
+        ∙ ap (λ (m : List (Option ℕ)). is_some (get_or m q None)) (sym (d.maps (home_of a v) (apart v ne was)))
+        ∙ sym (filed_map now.vtocs (home_of a v) q)
+        ∙ ap (λ (x : Home). is_filed_at now.vtocs x q) (sym (home_left v ne)) ∙ on));
+    absent = λ v off. elim (cases_eq v u) [
+      | inl same ↦ ap (count_of b) same ∙ counts_gone
+      | inr ne ↦ counts_left v ne ∙ h.absent v (sym (there_left v ne) ∙ off)
+    ];
+    most = λ v. elim (cases_eq v u) [
+      | inl same ↦ (let none : pages_in b.nodes v ≡ 0 = ap (pages_in b.nodes) same
+          ∙ no_pages_left in omega (arith, none))
+      | inr ne ↦ subst (λ (n : ℕ). n ≤ 256) (sym (pages_left v ne)) (h.most v)
+    ];
+    flat = λ v is. elim (cases_eq v u) [
+      | inl same ↦ ap (pages_in b.nodes) same ∙ no_pages_left
+      | inr ne ↦ pages_left v ne ∙ h.flat v (sym (ap (λ (ns : List Node). has_directory ns v) nodes_left
+          ∙ directory_left a.nodes u v ne) ∙ is)
+    ];
+  }
+    where
+      no_pages_left : pages_in b.nodes u ≡ 0
+      no_pages_left = ap (λ (ns : List Node). pages_in ns u) nodes_left ∙ ap pages_of (node_gone a.nodes u)
+
+  removed_taken : (n : Node) → IsTree a.nodes → node_in a.nodes u ≡ Some n → AreCounted a old.vtocs
+      → AreTaken a old.records old.vtocs → AreTaken b now.records now.vtocs
+  unfolding one_less named_on
+  removed_taken n tree found counted h = record {
+    records = λ stored v counts.
+        let pages : ℕ = count_of a u in
+        let all : taken old.records v ≡ taken_on a.nodes (with_more u pages stored) v =
+        h.records (with_more u pages stored) v (counts_more a b u pages stored counts more) in
+        let sum = taken_more a.nodes u pages stored v in
+        let less = d.taken_less v in
+        let named : named_at old.vtocs (home_of a u) ≡ count_of a u = counted.counts u d.there in
+        let same : taken_on b.nodes stored v ≡ taken_on a.nodes stored v =
+        ap (λ (ns : List Node). taken_on ns stored v) nodes_left
+        ∙ taken_left a.nodes stored u v (λ page. none_counted stored u page (sym (counts u) ∙ counts_gone)) in
+        by_volume v stored (eqb v (volume_in a.nodes u)) (eqb (volume_in a.nodes u) v) refl refl less named (all ∙ sum)
+        ∙ sym same;
+    entries = λ v.
+        let less : used now.vtocs v ≡ cond (eqb v (volume_in a.nodes u)) (used old.vtocs v - 1) (used old.vtocs v) =
+        ap (λ (f : ℕ → ℕ). f v) d.used_less in
+        let all : used old.vtocs v ≡ entries_on a.nodes v = h.entries v in
+        let rest : entries_on (without_node a.nodes u) v + cond {A = ℕ} (eqb n.volume v) 1 0 ≡ entries_on a.nodes v =
+        entries_less a.nodes u n tree found v in
+        by_entry v (eqb v (volume_in a.nodes u)) (eqb n.volume v) refl refl less all rest
+        ∙ ap (λ (ns : List Node). entries_on ns v) (sym nodes_left);
+    short = λ v. subst (λ (x : ℕ). x < 65536) (sym (d.sizes v)) (h.short v);
+  }
+    where
+      more : (s : ℕ) → count_of a s ≡ cond {A = ℕ} (eqb u s) (count_of a u) 0 + count_of b s
+      more s = elim (cases_eq s u) [
+        | inr ne ↦ (let off : eqb u s ≡ false = ne_eqb u s (λ e. ne (sym e)) in
+            let rest : count_of b s ≡ count_of a s = counts_left s ne in rw off (omega (arith, rest)))
+        | inl same ↦ (let on : eqb u s ≡ true = eq-eqb u s (sym same) in
+            let here : count_of b u ≡ 0 = counts_gone in
+            let at : count_of b s ≡ count_of b u = ap (count_of b) same in
+            let was : count_of a s ≡ count_of a u = ap (count_of a) same in
+            rw on (omega (arith, here, at, was)))
+      ]
+
+      by_volume : (v : ℕ) (stored : List (ℕ × ℕ)) (z y : Bool) → eqb v (volume_in a.nodes u) ≡ z
+          → eqb (volume_in a.nodes u) v ≡ y
+          → taken now.records v + cond {A = ℕ} z (named_at old.vtocs (home_of a u)) 0 ≡ taken old.records v
+          → named_at old.vtocs (home_of a u) ≡ count_of a u
+          → taken old.records v ≡ cond {A = ℕ} y (count_of a u) 0 + taken_on a.nodes stored v
+          → taken now.records v ≡ taken_on a.nodes stored v
+      by_volume v stored true true e f less named all = omega (arith, less, named, all)
+      by_volume v stored false false e f less named all = omega (arith, less, named, all)
+      by_volume v stored true false e f less named all =
+          (let clash : true ≡ false = sym (eq-eqb (volume_in a.nodes u) v (sym (eqb-true v (volume_in a.nodes u) e)))
+          ∙ f
+          in cc)
+      by_volume v stored false true e f less named all =
+          (let clash : true ≡ false = sym (eq-eqb v (volume_in a.nodes u) (sym (eqb-true (volume_in a.nodes u) v f)))
+          ∙ e
+          in cc)
+
+      at : n.volume ≡ volume_in a.nodes u
+      at = volume_found a.nodes u n found
+
+      by_entry : (v : ℕ) (z y : Bool) → eqb v (volume_in a.nodes u) ≡ z → eqb n.volume v ≡ y
+          → used now.vtocs v ≡ cond z (used old.vtocs v - 1) (used old.vtocs v)
+          → used old.vtocs v ≡ entries_on a.nodes v
+          → entries_on (without_node a.nodes u) v + cond {A = ℕ} y 1 0 ≡ entries_on a.nodes v
+          → used now.vtocs v ≡ entries_on (without_node a.nodes u) v
+      by_entry v true true e f less all rest = omega (arith, less, all, rest)
+      by_entry v false false e f less all rest = omega (arith, less, all, rest)
+      by_entry v true false e f less all rest =
+          (let clash : true ≡ false = sym (eq-eqb n.volume v (at ∙ sym (eqb-true v (volume_in a.nodes u) e))) ∙ f in cc)
+      by_entry v false true e f less all rest =
+          (let clash : true ≡ false = sym (eq-eqb v (volume_in a.nodes u) (sym (eqb-true n.volume v f) ∙ at)) ∙ e in cc)
+
+  pub store_removed : (ast : ActiveSegs) (links : Links) (whos : List Who) (n : Node) → IsTree a.nodes
+      → node_in a.nodes u ≡ Some n → IsInactive ast.entries u → IsStore old ast links a whos
+      → IsStore now ast links b whos
+  store_removed ast links whos n tree found inactive h = record {
+    housed = removed_housed;
+    counted = removed_counted h.counted;
+    taken = removed_taken n tree found h.counted h.taken;
+    active = record {
+      there = λ place v e. there_left v (else place v e) ∙ h.active.there place v e;
+      superiors = λ place v m e at. h.active.superiors place v m e (sym (found_left v (else place v e)) ∙ at);
+      pools = λ place v m e at. h.active.pools place v m e (sym (found_left v (else place v e)) ∙ at);
+    };
+    rights = record {
+      modes = λ process number place pages v mode m w e at. h.rights.modes process number place pages v mode m w e
+          (sym (found_left v (else place v e)) ∙ at);
+      lengths = λ process number place pages v mode m w e at. h.rights.lengths process number place pages v mode m w e
+          (sym (found_left v (else place v e)) ∙ at);
+    };
+    known = record {
+      older = λ process number v e. subst (λ (x : ℕ). v < x) (sym (d.loses.next ∙ d.counted.next))
+          (h.known.older process number v e);
+      processes = h.known.processes;
+    };
+  }
+    where
+      else : (place v : ℕ) → uid_in_place ast.entries place ≡ Some v → v ≢ u
+      else place v e same = inactive.nowhere place (e ∙ ap (λ (x : ℕ). Some x) same)
+
+-- the pages of one segment, once those of another are taken out
+count_left : (xs : List (ℕ × ℕ)) (u v : ℕ) → v ≢ u
+    → count_by (λ x. eqb x.0 v) (without_stored xs u (λ page. true)) ≡ count_by (λ x. eqb x.0 v) xs
+count_left [] u v ne = ap (count_by (λ x. eqb x.0 v)) (without_none u (λ page. true))
+count_left (x ∷ xs) u v ne = ap (count_by (λ y. eqb y.0 v)) (without_first x xs u (λ page. true) (eqb x.0 u)
+    (always (eqb x.0 u))) ∙ by (count_left xs u v ne) (eqb x.0 u) refl
+  where
+    always : (z : Bool) → (z && true) ≡ z
+    always true = refl
+    always false = refl
+
+    by : count_by (λ y. eqb y.0 v) (without_stored xs u (λ page. true)) ≡ count_by (λ y. eqb y.0 v) xs
+        → (z : Bool) → eqb x.0 u ≡ z
+        → count_by (λ y. eqb y.0 v) (cond z (without_stored xs u (λ page. true)) (x ∷ without_stored xs u (λ page.
+        true)))
+        ≡ count_by (λ y. eqb y.0 v) (x ∷ xs)
+    by ih true e = ih ∙ sym (sum_by-cons (λ (y : ℕ × ℕ). cond (eqb y.0 v) 1 0) x xs
+        ∙ ap (λ (z : Bool). cond {A = ℕ} z 1 0 + count_by (λ y. eqb y.0 v) xs)
+        (ne_eqb x.0 v (λ same. ne (sym same ∙ eqb-true x.0 u e))) ∙ omega arith)
+    by ih false e = sum_by-cons (λ (y : ℕ × ℕ). cond (eqb y.0 v) 1 0) x (without_stored xs u (λ page. true))
+        ∙ ap (λ (n : ℕ). cond {A = ℕ} (eqb x.0 v) 1 0 + n) ih
+        ∙ sym (sum_by-cons (λ (y : ℕ × ℕ). cond (eqb y.0 v) 1 0) x xs)
+
+count_gone : (xs : List (ℕ × ℕ)) (u : ℕ) → count_by (λ x. eqb x.0 u) (without_stored xs u (λ page. true)) ≡ 0
+count_gone [] u = ap (count_by (λ x. eqb x.0 u)) (without_none u (λ page. true))
+count_gone (x ∷ xs) u = ap (count_by (λ y. eqb y.0 u)) (without_first x xs u (λ page. true) (eqb x.0 u)
+    (always (eqb x.0 u))) ∙ by (count_gone xs u) (eqb x.0 u) refl
+  where
+    always : (z : Bool) → (z && true) ≡ z
+    always true = refl
+    always false = refl
+
+    by : count_by (λ y. eqb y.0 u) (without_stored xs u (λ page. true)) ≡ 0 → (z : Bool) → eqb x.0 u ≡ z
+        → count_by (λ y. eqb y.0 u) (cond z (without_stored xs u (λ page. true)) (x ∷ without_stored xs u (λ page.
+        true)))
+        ≡ 0
+    by ih true e = ih
+    by ih false e = sum_by-cons (λ (y : ℕ × ℕ). cond (eqb y.0 u) 1 0) x (without_stored xs u (λ page. true))
+        ∙ ap (λ (z : Bool). cond {A = ℕ} z 1 0 + count_by (λ y. eqb y.0 u) (without_stored xs u (λ page. true))) e
+        ∙ omega (arith, ih)
+
+pub shown_removed : {D : Type 0} (drive : D → List (List ℕ)) (p : Plan) (s : Store) (t n : Storage D)
+    (mid : AccountMaps) (u : ℕ)
+    → HasRemoved (plain drive t.segs.pages) (plain drive n.segs.pages) t.accounts mid n.accounts u
+    → AreHoused t.accounts t.segs.pages.volumes.vtocs → n.segs.links ≡ t.segs.links → n.whos ≡ t.whos
+    → Shows drive p s t → Shows drive p (without_branch s (Some u)) n
+shown_removed {D} drive p s t n mid u d housed links whos h = record {
+  tree = record {
+    nodes = ap (λ (ns : List Node). without_node ns u) h.tree.nodes ∙ sym (nodes_left old now a mid b u d housed);
+    next = h.tree.next ∙ sym (d.loses.next ∙ d.counted.next);
+    counts = λ v. elim (cases_eq v u) [
+      | inl same ↦ ap (count_of b) same ∙ counts_gone old now a mid b u d housed ∙ sym (count_gone s.stored u)
+          ∙ ap (λ (x : ℕ). count_by (λ y. eqb y.0 x) (without_stored s.stored u (λ page. true))) (sym same)
+      | inr ne ↦ counts_left old now a mid b u d housed v ne ∙ h.tree.counts v ∙ sym (count_left s.stored u v ne)
+    ];
+  };
+  known = h.known ∙ ap (λ (l : Links). l.known) (sym links);
+  pages = record {
+    stored = λ v r. is_stored-without s.stored u (λ page. true) v r ∙ stored v r (eqb v u) refl;
+    once = once_without s.stored u (λ page. true) h.pages.once;
+    words = λ v o. words v o (eqb v u) refl;
+  };
+  script = record {
+    records = λ v. h.script.records v ∙ sym (d.sizes v);
+    entries = λ v. h.script.entries v ∙ sym (d.places v);
+    whos = whos ∙ h.script.whos;
+  };
+}
+  where
+    old : Plain
+    old = plain drive t.segs.pages
+
+    now : Plain
+    now = plain drive n.segs.pages
+
+    a : AccountMaps
+    a = t.accounts
+
+    b : AccountMaps
+    b = n.accounts
+
+    filed_else : (v r : ℕ) → v ≢ u → is_filed b now.vtocs v r ≡ is_filed a old.vtocs v r
+    filed_else v r ne = elim (cases_Bool (is_there a.nodes v)) [
+      | inl on ↦ filed_there b now.vtocs v r (there_left old now a mid b u d housed v ne ∙ on)
+          ∙ ap (λ (x : Home). is_filed_at now.vtocs x r) (home_left old now a mid b u d housed v ne)
+          ∙ filed_map now.vtocs (home_of a v) r
+          ∙ ap (λ (m : List (Option ℕ)). is_some (get_or m r None))
+          (d.maps (home_of a v) (apart old now a mid b u d housed v ne on))
+          ∙ sym (filed_map old.vtocs (home_of a v) r) ∙ sym (filed_there a old.vtocs v r on)
+      | inr off ↦ filed_absent b now.vtocs v r (there_left old now a mid b u d housed v ne ∙ off)
+          ∙ sym (filed_absent a old.vtocs v r off)
+    ]
+
+    words_else : (v r : ℕ) → v ≢ u → picture b (words_at now) v r ≡ picture a (words_at old) v r
+    words_else v r ne = elim (cases_Bool (is_there a.nodes v)) [
+      | inl on ↦ picture_there b (words_at now) v r (there_left old now a mid b u d housed v ne ∙ on)
+          ∙ ap (λ (x : Home). words_at now v x r) (home_left old now a mid b u d housed v ne)
+          ∙ d.words v (home_of a v) r (apart old now a mid b u d housed v ne on)
+          ∙ sym (picture_there a (words_at old) v r on)
+      | inr off ↦ picture_absent b (words_at now) v r (there_left old now a mid b u d housed v ne ∙ off)
+          ∙ sym (picture_absent a (words_at old) v r off)
+    ]
+
+    stored : (v r : ℕ) (z : Bool) → eqb v u ≡ z
+        → (not (z && true) && is_stored s.stored v r) ≡ is_filed b now.vtocs v r
+    stored v r true e = sym (ap (λ (x : ℕ). is_filed b now.vtocs x r) (eqb-true v u e)
+        ∙ filed_absent b now.vtocs u r (there_gone old now a mid b u d housed))
+    stored v r false e = h.pages.stored v r ∙ sym (filed_else v r (λ same. (let clash : true ≡ false =
+        sym (eq-eqb v u same) ∙ e in cc)))
+
+    words : (v o : ℕ) (z : Bool) → eqb v u ≡ z
+        → cond (z && nat_le 0 o) 0 (s.words v o) ≡ get_or (picture b (words_at now) v (o / 1024)) (o % 1024) 0
+    words v o true e = ap (λ (y : Bool). cond y 0 (s.words v o)) (first o)
+        ∙ sym (ap (λ (x : ℕ). get_or (picture b (words_at now) x (o / 1024)) (o % 1024) 0) (eqb-true v u e)
+        ∙ ap (λ (ws : List ℕ). get_or ws (o % 1024) 0)
+        (picture_absent b (words_at now) u (o / 1024) (there_gone old now a mid b u d housed))
+        ∙ one_of 1024 (o % 1024) 0)
+      where
+        first : (o : ℕ) → nat_le 0 o ≡ true
+        first o = grind (arith, nat_tests)
+    words v o false e = h.pages.words v o ∙ ap (λ (ws : List ℕ). get_or ws (o % 1024) 0)
+        (sym (words_else v (o / 1024) (λ same. (let clash : true ≡ false = sym (eq-eqb v u same) ∙ e in cc))))
+
+-- ---- a node without inferior becomes inactive
+
+inferior_is : (u : ℕ) (n : Node) → n.superior ≡ Some u → is_inferior u n ≡ true
+inferior_is u n e = rw e (eq-eqb u u refl)
+
+inferior_any : (ns : List Node) (u v : ℕ) (n : Node) → node_in ns v ≡ Some n → n.superior ≡ Some u
+    → list_any (is_inferior u) ns ≡ true
+inferior_any [] u v n found e = cc
+inferior_any (m ∷ ns) u v n found e = elim (cases_Bool (eqb m.uid v)) [
+  | inl is ↦
+      (let z : Some m ≡ Some n = rw is at found in
+      let same : m ≡ n = cc in
+      first (is_inferior u m) (list_any (is_inferior u) ns) (ap (is_inferior u) same ∙ inferior_is u n e))
+  | inr isnt ↦ second (is_inferior u m) (list_any (is_inferior u) ns) (inferior_any ns u v n (rw isnt at found) e)
+]
+  where
+    first : (x y : Bool) → x ≡ true → (x || y) ≡ true
+    first true y h = refl
+    first false y h = cc
+
+    second : (x y : Bool) → y ≡ true → (x || y) ≡ true
+    second true y h = refl
+    second false y h = h
+
+pub leaf_place : (a : AccountMaps) (ast : ActiveSegs) (place u : ℕ) → AreInTree a.nodes ast
+    → list_any (is_inferior u) a.nodes ≡ false → uid_in_place ast.entries place ≡ Some u
+    → HasNoInferior ast.entries place
+leaf_place a ast place u h none at q v is up = by (entry_in_place ast.entries q) refl
+  where
+    the_uid : ◌≡◌ {A = Option ℕ} (Some u) (Some v) → u ≡ v
+    the_uid e = cc
+
+    by : (o : Option Entry) → entry_in_place ast.entries q ≡ o → ⊥
+    by None e = (let clash : ◌≡◌ {A = Option ℕ} None (Some v) = sym (ap superior_in e) ∙ up in cc)
+    by (Some x) e =
+        let here : uid_in_place ast.entries q ≡ Some x.uid = ap uid_in e in
+        let found = found_there a.nodes x.uid (h.there q x.uid here) in
+        let above : found.0.superior ≡ Some u = sym (h.superiors q x.uid found.0 here found.1) ∙ up
+        ∙ ap (λ (n : ℕ). Some n) (sym (the_uid (sym at ∙ is))) in
+        let clash : true ≡ false = sym (inferior_any a.nodes u x.uid found.0 found.1 above) ∙ none in cc
+
+within_any : {X : Type 0} (xs : List X) (k : ℕ) (d e : X) → k < length xs → get_or xs k d ≡ get_or xs k e
+within_any [] k d e lt = absurd (omega arith)
+within_any (x ∷ xs) zero d e lt = refl
+within_any (x ∷ xs) (suc k) d e lt = within_any xs k d e (omega arith)
+
+pub place_away : (ast : ActiveSegs) (place u : ℕ) → IsOneToOne ast.entries → uid_in_place ast.entries place ≡ Some u
+    → ((q : ℕ) → word_of ast u q ≡ Null) → All IsAway (table_at ast.tables place)
+place_away ast place u once at null k d lt =
+    let same : place_of ast.entries u ≡ place = once (place_of ast.entries u) place u
+    (active_place ast.entries u (place, at)) at in
+    let word : get_or (table_at ast.tables place) k d ≡ Null = within_any (table_at ast.tables place) k d Null lt
+    ∙ sym (ap (λ (n : ℕ). ptw_at (table_at ast.tables n) k) same) ∙ null k in
+    subst IsAway (sym word) tt
+
+pub place_idle : (core : Core) (entries : List (Option Entry)) (place u : ℕ) → uid_in_place entries place ≡ Some u
+    → ((q : ℕ) → IsNotStarted core u q) → IsNotRead core entries place
+place_idle core entries place u at idle = record {
+  none = λ f v q is read.
+      let same : v ≡ u = the_uid v (sym is ∙ at) in
+      let frame : frame_at core f ≡ Started v q =
+      started_is (frame_at core f) v q (sym (get_or-map started_page core.frames f Free) ∙ read) in
+      (idle q).none f (frame ∙ ap (λ (n : ℕ). Started n q) same);
+}
+  where
+    the_uid : (v : ℕ) → ◌≡◌ {A = Option ℕ} (Some v) (Some u) → v ≡ u
+    the_uid v e = cc
+
+no_trailer : (xs : List (ℕ × ℕ)) → ((process number : ℕ) → count_by (leads_to process number) xs ≡ 0) → xs ≡ []
+no_trailer [] none = refl
+no_trailer (x ∷ xs) none =
+    let first : count_by (leads_to x.0 x.1) (x ∷ xs)
+    ≡ cond {A = ℕ} (leads_to x.0 x.1 x) 1 0 + count_by (leads_to x.0 x.1) xs =
+    sum_by-cons (λ (y : ℕ × ℕ). cond (leads_to x.0 x.1 y) 1 0) x xs in
+    let own : cond {A = ℕ} (leads_to x.0 x.1 x) 1 0 ≡ 1 = rw (eq-eqb x.0 x.0 refl, eq-eqb x.1 x.1 refl) refl in
+    let zero_count = none x.0 x.1 in
+    absurd (omega (arith, first, own, zero_count))
+
+pub place_cut : (entries : List (Option Entry)) (links : Links) (place u : ℕ)
+    → AreExact links.trailers links.descriptors
+    → IsCut entries links u → uid_in_place entries place ≡ Some u → trailers_of links.trailers place ≡ []
+place_cut entries links place u exact cut at = no_trailer (trailers_of links.trailers place)
+    (λ process number. exact place process number
+    ∙ by process number (leads_at links.descriptors process number) refl)
+  where
+    by : (process number : ℕ) (o : Option ℕ) → leads_at links.descriptors process number ≡ o → times o place ≡ 0
+    by process number None e = refl
+    by process number (Some x) e = elim (cases_eq x place) [
+      | inl same ↦ absurd (cut.none process number place (e ∙ ap (λ (n : ℕ). Some n) same) at)
+      | inr apart ↦ ap (λ (z : Bool). cond {A = ℕ} z 1 0) (ne_eqb x place apart)
+    ]
+
+pub inactive_now : (entries : List (Option Entry)) (place u : ℕ) → IsOneToOne entries
+    → uid_in_place entries place ≡ Some u → IsInactive (set entries place None) u
+inactive_now entries place u once at = record {
+  nowhere = λ q e. elim (cases_eq q place) [
+    | inl same ↦ (let none : uid_in_place (set entries place None) place ≡ None = ap uid_in (here entries place) in
+        let clash : ◌≡◌ {A = Option ℕ} None (Some u) = sym none ∙ ap (uid_in_place (set entries place None)) (sym same)
+        ∙ e in cc)
+    | inr apart ↦ apart (once q place u (ap uid_in (sym (get_or-set_other entries place q None None apart)) ∙ e) at)
+  ];
+}
+  where
+    here : (xs : List (Option Entry)) (k : ℕ) → get_or (set xs k None) k None ≡ None
+    here [] k = refl
+    here (x ∷ xs) zero = refl
+    here (x ∷ xs) (suc k) = here xs k
+
+-- what is taken out is the same, whether its pages went before or not
+pub branch_same : (s : Store) (u : ℕ)
+    → without_branch (without_pages s u (λ q. nat_le 0 q)) (Some u) ≡ without_branch s (Some u)
+branch_same s u =
+    ap (λ (w : Words). record s {
+      nodes = without_node s.nodes u;
+      words = w;
+      stored = without_stored (without_stored s.stored u (λ q. nat_le 0 q)) u (λ page. true);
+    })
+    (λ i. λ v. λ o. words (eqb v u) (nat_le 0 (o / 1024)) (nat_le 0 o) (s.words v o) (first o) i)
+    ∙ ap (λ (xs : List (ℕ × ℕ)). record s {
+      nodes = without_node s.nodes u;
+      words = λ v o. cond (eqb v u && nat_le 0 o) 0 (s.words v o);
+      stored = xs;
+    })
+    (stored_fused s.stored u (λ q. nat_le 0 q) (λ page. true)
+    ∙ ap (without_stored s.stored u) (λ i. λ q. any (nat_le 0 q) i))
+  where
+    first : (o : ℕ) → nat_le 0 o ≡ true
+    first o = grind (arith, nat_tests)
+
+    any : (z : Bool) → (z || true) ≡ true
+    any true = refl
+    any false = refl
+
+    words : (x y z : Bool) (w : ℕ) → z ≡ true → cond (x && z) 0 (cond (x && y) 0 w) ≡ cond (x && z) 0 w
+    words true y z w e = rw e refl
+    words false y z w e = refl
+
+pub from_zero : (q : ℕ) → nat_le 0 q ≡ true
+from_zero q = grind (arith, nat_tests)
+
+-- ---- an entry that is freed
+
+freed_length : (flags : List Bool) (places : List (Option ℕ)) → length (freed flags places) ≡ length flags
+freed_length flags [] = refl
+freed_length flags (None ∷ places) = freed_length flags places
+freed_length flags (Some r ∷ places) = freed_length (set flags r false) places ∙ length-set flags r false
+
+pub erased_sizes : (old now : Plain) (home : Home) (v : ℕ) → now ≡ erased old home
+    → size now.records v ≡ size old.records v
+erased_sizes old now home v is = ap (λ (x : Plain). size x.records v) is ∙ elim (cases_eq v home.volume) [
+  | inr ne ↦ ap length (get_or-set_other old.records home.volume v _ [] ne)
+  | inl same ↦ elim (cases_lt home.volume (length old.records)) [
+    | inl lt ↦ ap (λ (n : ℕ). length (get_or (erased old home).records n [])) same
+        ∙ ap length (get_or-set_same old.records home.volume _ [] lt)
+        ∙ freed_length (flags_of old home.volume) (file_map_of old home)
+        ∙ ap (λ (n : ℕ). length (get_or old.records n [])) (sym same)
+    | inr past ↦
+        (let long : length (erased old home).records ≡ length old.records = length-set old.records home.volume _ in
+        ap length (get_or_past (erased old home).records v [] (omega (arith, long, past, same)))
+        ∙ sym (ap length (get_or_past old.records v [] (omega (arith, past, same)))))
+  ]
+]
+
+pub erased_entries : (old now : Plain) (home : Home) (v : ℕ) → now ≡ erased old home
+    → entries now.vtocs v ≡ entries old.vtocs v
+erased_entries old now home v is =
+    length_inside old.vtocs home.volume home.entry v None now.vtocs (ap (λ (x : Plain). x.vtocs) is)
+
+pub homed_uid : (now : Plain) (home : Home) (u : ℕ) → uid_at now.vtocs home ≡ Some u → uid_of_home now home ≡ u
+homed_uid now home u e = by (entry_at (vtoc_in now.vtocs home.volume) home.entry) e
+  where
+    by : (o : Option VtocEntry) → uid_of o ≡ Some u → uid_or_zero o ≡ u
+    by None e = cc
+    by (Some x) e = cc
+
+-- a node's pages are counted no more, where none are counted
+pub none_recounted : (a : AccountMaps) (u : ℕ) → count_of a u ≡ 0 → Recounts a a u 0
+none_recounted a u none = record {
+  nodes = refl;
+  entries = refl;
+  next = refl;
+  counts = λ s. elim (cases_eq u s) [
+    | inl same ↦ ap (count_of a) (sym same) ∙ none ∙ ap (λ (z : Bool). cond z 0 (count_of a s)) (sym (eq-eqb u s same))
+    | inr apart ↦ ap (λ (z : Bool). cond z 0 (count_of a s)) (sym (ne_eqb u s apart))
+  ];
+}
+
+pub removed_done : (old now : Plain) (a mid b : AccountMaps) (u : ℕ) (home : Home) → home ≡ home_of a u
+    → is_there a.nodes u ≡ true → Recounts a mid u 0 → Loses mid b u → now ≡ erased old home
+    → uid_at now.vtocs home ≡ None
+    → ((other : Home) → other ≢ home → uid_at now.vtocs other ≡ uid_at old.vtocs other)
+    → ((other : Home) → other ≢ home → map_at now.vtocs other ≡ map_at old.vtocs other)
+    → ((v : ℕ) (other : Home) (q : ℕ) → other ≢ home → words_at now v other q ≡ words_at old v other q)
+    → used now.vtocs ≡ one_less (used old.vtocs) home.volume
+    → ((v : ℕ) → taken now.records v + named_on old.vtocs home v ≡ taken old.records v)
+    → HasRemoved old now a mid b u
+removed_done old now a mid b u home is there counted loses effect free uids maps words used_less taken_less = record {
+  there = there;
+  counted = counted;
+  loses = loses;
+  free = ap (uid_at now.vtocs) (sym is) ∙ free;
+  uids = λ other ne. uids other (λ same. ne (same ∙ is));
+  maps = λ other ne. maps other (λ same. ne (same ∙ is));
+  words = λ v other q ne. words v other q (λ same. ne (same ∙ is));
+  used_less = used_less ∙ ap (λ (h : Home). one_less (used old.vtocs) h.volume) is;
+  taken_less = λ v. ap (λ (h : Home). taken now.records v + named_on old.vtocs h v) (sym is) ∙ taken_less v;
+  sizes = λ v. erased_sizes old now home v effect;
+  places = λ v. erased_entries old now home v effect;
+}

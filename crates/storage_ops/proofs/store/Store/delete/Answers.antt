@@ -1,0 +1,95 @@
+use Rattle.std.proofs.Common.{◌≡◌, ◌<◌, ℕ, is_some, List, true, false, eqb, refl, sym, ap, subst, ◌∙◌}
+use Rattle.std.proofs.Common.{arith}
+use Rattle.std.specs.Result.{is_err}
+use Rattle.std.proofs.lemmas.Bool.{ne_eqb}
+use Rattle.tree_model.specs.Tree.{Node, quota_in}
+use Rattle.dir_tree.specs.Nodes.{as_term, has_inferior}
+use Rattle.flat_model.specs.Branches.{branch_at}
+use Rattle.flat_model.specs.Store.{Store as Flat}
+use Rattle.flat_model.proofs.RemoveLaws.{delete_done}
+use Rattle.flat_model.proofs.TreeReplies.{delete_refused, delete_told, from_false}
+use Rattle.storage_ops.specs.Cut.{IsRemovable, IsRemovableAt}
+use Rattle.storage_ops.specs.Shown.{Shows, ShowsTree, Storage, is_there}
+use Rattle.storage_ops.proofs.Changed.{branch_refuses}
+use Rattle.storage_ops.proofs.store.Store.delete.Goals as goal
+
+pub returns-in-Err-clause-answer : goal.returns-in-Err-clause-answer
+returns-in-Err-clause-answer g c = λ p s h.
+    let tree = subst (λ (x : Storage g.row.D.Denot). ShowsTree s x.accounts) (sym c.self.view_is) h.tree in
+    delete_refused s c.self.inside.accounts.nodes c.args.path.now tree.nodes c.in-Err.reply c.in-Err.ensures.err
+
+pub returns-in-Err-clause-effect : goal.returns-in-Err-clause-effect
+returns-in-Err-clause-effect g c = λ p s h.
+    rw (branch_refuses c.self.inside.accounts.nodes c.args.path.now c.in-Err.reply c.in-Err.ensures.err) h
+
+pub returns-then-is_err-clause-answer : goal.returns-then-is_err-clause-answer
+returns-then-is_err-clause-answer g c = λ p s h.
+    let tree = subst (λ (x : Storage g.row.D.Denot). ShowsTree s x.accounts) (sym c.self.view_is) h.tree in
+    delete_told s c.self.inside.accounts.nodes c.args.path.now tree.nodes
+    (as_term (quota_in c.self.inside.accounts.nodes) c.in-Ok.node.now) true
+    (eqb (quota_in c.self.inside.accounts.nodes c.in-Ok.node.now.uid) 0) c.in-Ok.ensures.ok
+    (c.may_remove.ensures.0 (sym c.is_err.ensures.value ∙ c.if-is_err.true)) refl
+
+pub returns-then-quota_of-gt0-clause-answer : goal.returns-then-quota_of-gt0-clause-answer
+returns-then-quota_of-gt0-clause-answer g c = λ p s h.
+    let tree = subst (λ (x : Storage g.row.D.Denot). ShowsTree s x.accounts) (sym c.self.view_is) h.tree in
+    let none = from_false (is_err c.may_remove.result) (has_inferior c.self.inside.accounts.nodes c.in-Ok.node.now.uid)
+    c.may_remove.ensures.1 (sym c.is_err.ensures.value ∙ c.if-is_err.false) in
+    let some : 0 < c.quota_of.result = c.if-quota_of-gt0.true in
+    let apart : eqb c.quota_of.result 0 ≡ false = ne_eqb c.quota_of.result 0 (λ is. absurd (omega (arith, some, is))) in
+    delete_told s c.self.inside.accounts.nodes c.args.path.now tree.nodes
+    (as_term (quota_in c.self.inside.accounts.nodes) c.in-Ok.node.now) false false c.in-Ok.ensures.ok none
+    (ap (λ (q : ℕ). eqb q 0) (sym c.quota_of.ensures) ∙ apart)
+
+pub make_inactive-requires-clause-ready : goal.make_inactive-requires-clause-ready
+make_inactive-requires-clause-ready g c =
+    let ready = subst (λ (x : Storage g.row.D.Denot). IsRemovableAt x.accounts x.segs c.args.path.now)
+    (sym c.self.view_is) c.requires in
+    subst (λ (x : Storage g.row.D.Denot). IsRemovable x.segs c.in-Ok.node.now.uid) c.self.view_is
+    (ready (as_term (quota_in c.self.inside.accounts.nodes) c.in-Ok.node.now) c.in-Ok.ensures.ok)
+
+pub returns-clause-answer : goal.returns-clause-answer
+returns-clause-answer g c = λ p s h.
+    let tree = subst (λ (x : Storage g.row.D.Denot). ShowsTree s x.accounts) (sym c.self.view_is) h.tree in
+    let none = from_false (is_err c.may_remove.result) (has_inferior c.self.inside.accounts.nodes c.in-Ok.node.now.uid)
+    c.may_remove.ensures.1 (sym c.is_err.ensures.value ∙ c.if-is_err.false) in
+    let zero_quota : c.quota_of.result ≡ 0 = omega (arith, c.if-quota_of-gt0.false) in
+    delete_told s c.self.inside.accounts.nodes c.args.path.now tree.nodes
+    (as_term (quota_in c.self.inside.accounts.nodes) c.in-Ok.node.now) false true c.in-Ok.ensures.ok none
+    (ap (λ (q : ℕ). eqb q 0) (sym c.quota_of.ensures ∙ zero_quota))
+
+pub returns-clause-effect : goal.returns-clause-effect
+returns-clause-effect g c = λ p s h.
+    let tree = subst (λ (x : Storage g.row.D.Denot). ShowsTree s x.accounts) (sym c.self.view_is) h.tree in
+    let left = c.make_inactive.ensures.shown p s h in
+    subst (λ (x : Flat). Shows g.D.Drive.pages p x c.remove.new.self)
+    (left.2 ∙ sym (delete_done s c.args.path.now
+    (as_term (quota_in c.self.inside.accounts.nodes) c.in-Ok.node.now)
+    (ap (λ (ns : List Node). branch_at ns c.args.path.now) tree.nodes ∙ c.in-Ok.ensures.ok)))
+    (c.remove.ensures p left.0 left.1)
+
+pub remove-requires-clause-there : goal.remove-requires-clause-there
+remove-requires-clause-there g c =
+    ap (λ (ns : List Node). is_there ns c.in-Ok.node.now.uid) (c.make_inactive.ensures.nodes
+    ∙ ap (λ (x : Storage g.row.D.Denot). x.accounts.nodes) (sym c.self.view_is))
+    ∙ ap is_some c.in-Ok.ensures.there
+
+pub remove-requires-clause-quota : goal.remove-requires-clause-quota
+remove-requires-clause-quota g c =
+    let zero_quota : c.quota_of.result ≡ 0 = omega (arith, c.if-quota_of-gt0.false) in
+    ap (λ (ns : List Node). quota_in ns c.in-Ok.node.now.uid) (c.make_inactive.ensures.nodes
+    ∙ ap (λ (x : Storage g.row.D.Denot). x.accounts.nodes) (sym c.self.view_is))
+    ∙ sym c.quota_of.ensures ∙ zero_quota
+
+pub remove-requires-clause-empty : goal.remove-requires-clause-empty
+remove-requires-clause-empty g c =
+    ap (λ (ns : List Node). has_inferior ns c.in-Ok.node.now.uid) (c.make_inactive.ensures.nodes
+    ∙ ap (λ (x : Storage g.row.D.Denot). x.accounts.nodes) (sym c.self.view_is))
+    ∙ from_false (is_err c.may_remove.result) (has_inferior c.self.inside.accounts.nodes c.in-Ok.node.now.uid)
+    c.may_remove.ensures.1 (sym c.is_err.ensures.value ∙ c.if-is_err.false)
+
+pub make_inactive-requires-clause-empty : goal.make_inactive-requires-clause-empty
+make_inactive-requires-clause-empty g c =
+    ap (λ (x : Storage g.row.D.Denot). has_inferior x.accounts.nodes c.in-Ok.node.now.uid) (sym c.self.view_is)
+    ∙ from_false (is_err c.may_remove.result) (has_inferior c.self.inside.accounts.nodes c.in-Ok.node.now.uid)
+    c.may_remove.ensures.1 (sym c.is_err.ensures.value ∙ c.if-is_err.false)

@@ -1,0 +1,64 @@
+use Rattle.std.proofs.Common.{List, Option, sym, ap, subst, ◌∙◌, arith}
+use Rattle.std.specs.Prelude.{nat_le}
+use Rattle.dir_tree.specs.Nodes.{has_inferior}
+use Rattle.flat_model.specs.Cuts.{without_pages}
+use Rattle.trailers.specs.Trailer.{trailers_of}
+use Rattle.active_segs.specs.declared.Entry.{Entry}
+use Rattle.active_segs.specs.Active.{ActiveSegs, HasNoInferior, IsOneToOne, uid_at as uid_in_place}
+use Rattle.seg_control.specs.Control.{Links}
+use Rattle.storage_ops.specs.Shown.{IsCut, Storage}
+use Rattle.storage_ops.proofs.Removed.{branch_same, from_zero, leaf_place, place_away, place_cut, place_idle}
+use Rattle.storage_ops.proofs.Unstored.{idle_still}
+use Rattle.storage_ops.proofs.store.Store.make_inactive.Goals as goal
+
+pub deactivate-requires-clause-leaf : goal.deactivate-requires-clause-leaf
+deactivate-requires-clause-leaf g c =
+    let same = c.drop_from.ensures.rest.places
+    ∙ ap (λ (x : Storage g.row.D.Denot). x.segs.ast.entries) (sym c.self.view_is) in
+    let at = ap (λ (x : ActiveSegs). uid_in_place x.entries c.in-Some.place) (sym c.ast.ensures.ast)
+    ∙ (c.search.ensures.only c.in-Some.place).0 c.in-Some.is in
+    let none = ap (λ (x : Storage g.row.D.Denot). has_inferior x.accounts.nodes c.args.uid) c.self.view_is
+    ∙ c.requires.empty in
+    subst (λ (e : List (Option Entry)). HasNoInferior e c.in-Some.place) (sym same)
+    (leaf_place c.self.inside.accounts c.self.inside.segs.ast c.in-Some.place c.args.uid c.self.invariant.active none
+    at)
+
+pub deactivate-requires-clause-away : goal.deactivate-requires-clause-away
+deactivate-requires-clause-away g c =
+    let same = c.drop_from.ensures.rest.places
+    ∙ ap (λ (x : Storage g.row.D.Denot). x.segs.ast.entries) (sym c.self.view_is) in
+    let at = ap (λ (x : ActiveSegs). uid_in_place x.entries c.in-Some.place) (sym c.ast.ensures.ast)
+    ∙ (c.search.ensures.only c.in-Some.place).0 c.in-Some.is in
+    place_away c.drop_from.new.self.segs.ast c.in-Some.place c.args.uid
+    (subst (λ (e : List (Option Entry)). IsOneToOne e) (sym same) c.pages-kept.ensures.kept.tree.once)
+    (ap (λ (e : List (Option Entry)). uid_in_place e c.in-Some.place) same ∙ at)
+    (λ q. c.drop_from.ensures.rest.gone q (from_zero q))
+
+pub deactivate-requires-clause-idle : goal.deactivate-requires-clause-idle
+deactivate-requires-clause-idle g c =
+    let same = c.drop_from.ensures.rest.places
+    ∙ ap (λ (x : Storage g.row.D.Denot). x.segs.ast.entries) (sym c.self.view_is) in
+    let at = ap (λ (x : ActiveSegs). uid_in_place x.entries c.in-Some.place) (sym c.ast.ensures.ast)
+    ∙ (c.search.ensures.only c.in-Some.place).0 c.in-Some.is in
+    place_idle c.drop_from.new.self.segs.pages.core c.drop_from.new.self.segs.ast.entries c.in-Some.place c.args.uid
+    (ap (λ (e : List (Option Entry)). uid_in_place e c.in-Some.place) same ∙ at)
+    (λ q. idle_still c.args.self.now.segs.pages.core c.drop_from.new.self.segs.pages.core c.args.uid q
+    c.drop_from.ensures.rest.reads (c.requires.ready.taken.idle q (omega arith)))
+
+pub deactivate-requires-clause-cut : goal.deactivate-requires-clause-cut
+deactivate-requires-clause-cut g c =
+    let at = ap (λ (x : ActiveSegs). uid_in_place x.entries c.in-Some.place) (sym c.ast.ensures.ast)
+    ∙ (c.search.ensures.only c.in-Some.place).0 c.in-Some.is in
+    let cut = subst (λ (x : Storage g.row.D.Denot). IsCut x.segs.ast.entries x.segs.links c.args.uid)
+    (sym c.self.view_is) c.requires.ready.cut in
+    ap (λ (l : Links). trailers_of l.trailers c.in-Some.place) (c.drop_from.ensures.rest.links
+    ∙ ap (λ (x : Storage g.row.D.Denot). x.segs.links) (sym c.self.view_is))
+    ∙ place_cut c.self.inside.segs.ast.entries c.self.inside.segs.links c.in-Some.place c.args.uid
+    c.pages-kept.ensures.kept.linked.exact cut at
+
+pub returns-clause-shown : goal.returns-clause-shown
+returns-clause-shown g c = λ p s h. (
+  without_pages s c.args.uid (λ q. nat_le 0 q),
+  c.deactivate.ensures.shown p (without_pages s c.args.uid (λ q. nat_le 0 q)) (c.drop_from.ensures.shown p s h),
+  branch_same s c.args.uid,
+)

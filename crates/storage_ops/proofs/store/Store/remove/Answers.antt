@@ -1,0 +1,56 @@
+use Rattle.std.proofs.Common.{refl, sym, ap, subst, ◌∙◌}
+use Rattle.active_segs.specs.Active.{ActiveSegs}
+use Rattle.page_control.specs.Plain.{plain}
+use Rattle.seg_control.specs.Control.{Links}
+use Rattle.seg_control.specs.Kept.{IsInactive}
+use Rattle.storage_ops.specs.Shown.{IsStore, Shows, Storage, home_of, is_there}
+use Rattle.storage_ops.proofs.NodeLaws.{found_there}
+use Rattle.storage_ops.proofs.Removed.{removed_done, shown_removed, store_removed}
+use Rattle.storage_ops.proofs.store.Store.remove.Goals as goal
+
+pub invariant_of-self : goal.invariant_of-self
+invariant_of-self g c =
+    let there = ap (λ (x : Storage g.row.D.Denot). is_there x.accounts.nodes c.args.uid) c.self.view_is
+    ∙ c.requires.there in
+    let home = c.home-home.ensures.home ∙ ap (λ (x : Storage g.row.D.Denot). home_of x.accounts c.args.uid)
+    (sym c.self.view_is) in
+    let inactive = subst (λ (x : Storage g.row.D.Denot). IsInactive x.segs.ast.entries c.args.uid)
+    (sym c.self.view_is) c.requires.inactive in
+    let old = plain g.D.Drive.pages c.self.inside.segs.pages in
+    let now = plain g.D.Drive.pages c.erase.new.self.pages in
+    let found = found_there c.self.inside.accounts.nodes c.args.uid there in
+    let done = removed_done old now c.self.inside.accounts c.uncount.new.accounts c.remove.new.self c.args.uid
+    c.home-home.result home there c.uncount.ensures c.remove.ensures c.erase.ensures.effect c.erase.ensures.home
+    c.erase.ensures.uids c.erase.ensures.maps c.erase.ensures.words c.erase.ensures.used c.erase.ensures.taken in
+    subst (λ (x : ActiveSegs). IsStore now x c.erase.new.self.links c.remove.new.self c.self.inside.whos.items)
+    (sym c.erase.ensures.ast)
+    (subst (λ (x : Links). IsStore now c.self.inside.segs.ast x c.remove.new.self c.self.inside.whos.items)
+    (sym c.erase.ensures.links)
+    (store_removed old now c.self.inside.accounts c.uncount.new.accounts c.remove.new.self c.args.uid done
+    c.self.invariant.housed c.self.inside.segs.ast c.self.inside.segs.links c.self.inside.whos.items found.0
+    c.root-root.ensures.tree found.1 inactive c.self.invariant))
+
+pub returns : goal.returns
+returns g c = λ p s h.
+    let there = ap (λ (x : Storage g.row.D.Denot). is_there x.accounts.nodes c.args.uid) c.self.view_is
+    ∙ c.requires.there in
+    let home = c.home-home.ensures.home ∙ ap (λ (x : Storage g.row.D.Denot). home_of x.accounts c.args.uid)
+    (sym c.self.view_is) in
+    let t : Storage g.row.D.Denot = record {
+      accounts = c.self.inside.accounts;
+      segs = c.self.inside.segs;
+      whos = c.self.inside.whos.items;
+    } in
+    let n : Storage g.row.D.Denot = record {
+      accounts = c.remove.new.self;
+      segs = c.erase.new.self;
+      whos = c.self.inside.whos.items;
+    } in
+    let old = plain g.D.Drive.pages t.segs.pages in
+    let now = plain g.D.Drive.pages n.segs.pages in
+    let done = removed_done old now t.accounts c.uncount.new.accounts n.accounts c.args.uid
+    c.home-home.result home there c.uncount.ensures c.remove.ensures c.erase.ensures.effect c.erase.ensures.home
+    c.erase.ensures.uids c.erase.ensures.maps c.erase.ensures.words c.erase.ensures.used c.erase.ensures.taken in
+    shown_removed g.D.Drive.pages p s t n c.uncount.new.accounts c.args.uid done c.self.invariant.housed
+    c.erase.ensures.links refl (subst (λ (x : Storage g.row.D.Denot). Shows g.D.Drive.pages p s x) (sym
+    c.self.view_is) h)
