@@ -300,4 +300,19 @@ seg_volume volumes path pages volume h =
     (let lt = (both (is_from 1 256 pages) (nat_lt volume volumes) (both (is_path path)
     (is_from 1 256 pages && nat_lt volume volumes) h).1).1 in grind (arith, nat_tests))
 
+-- and its number of pages is 256 at most
+pub seg_pages : (volumes : ℕ) (path : List (List ℕ)) (pages volume : ℕ)
+    → is_command volumes (command.MkSeg path pages volume) ≡ true → pages ≤ 256
+unfolding is_command
+seg_pages volumes path pages volume h =
+    (let few = (both (nat_le 1 pages) (nat_le pages 256) (both (is_from 1 256 pages) (nat_lt volume volumes)
+    (both (is_path path) (is_from 1 256 pages && nat_lt volume volumes) h).1).0).1 in grind (arith, nat_tests))
+
+pub new_length : (volumes : ℕ) (path : List (List ℕ)) (pages : ℕ)
+    → is_command volumes (command.Length path pages) ≡ true → pages ≤ 256
+unfolding is_command
+new_length volumes path pages h =
+    (let few = (both (nat_le 1 pages) (nat_le pages 256) (both (is_path path) (is_from 1 256 pages) h).1).1 in
+    grind (arith, nat_tests))
+
 pub ruleset volume_there = (dir_volume, seg_volume)

@@ -9,6 +9,7 @@
 //! records, descriptors or active segments. None but `new` takes memory.
 #![tactic(auto)]
 
+mod commands;
 mod cutting;
 mod deleting;
 mod making;
