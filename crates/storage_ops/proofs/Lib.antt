@@ -13,6 +13,8 @@ pub mod NamingLaws
 pub mod NodeLaws
 pub mod Paged
 pub mod PagesLess
+pub mod PageFacts
+pub mod PageWords
 pub mod PathLaws
 pub mod Removed
 pub mod Still

@@ -1,4 +1,4 @@
-//! The calls of segment control that leave what is shown as it is.
+//! The calls of segment control that leave what is stored as it is.
 
 ghost use Rattle.std.specs.Prelude.{◌≡◌, ◌<◌, All, IsSome, OnOk, OnErr, None, Some, [], true, false, length};
 ghost use Rattle.std.specs.Prelude.{slice_index, slice_set};
@@ -12,7 +12,8 @@ ghost use Rattle.trailers.specs.Trailer.{trailers_of};
 ghost use Rattle.seg_control.specs.Kept.{IsHomeFor, IsNotRead};
 ghost use Rattle.page_control.specs.Counts.{KeepsCounts};
 ghost use Rattle.page_control.specs.Plain.{bindings, number_in, plain, words_in};
-ghost use Rattle.page_control.specs.Effects.{after_read, framed, referred};
+ghost use Rattle.page_control.specs.Effects.{after_read, framed, referred, word_put};
+ghost use Rattle.page_control.specs.Picture.{KeepsWords, changed_page, words_at};
 ghost use Rattle.page_control.specs.Drives.{CallsDrive};
 ghost use Rattle.volumes.specs.Volumes.{KeepsTables};
 ghost use Rattle.page_control.specs.Tied.{IsNotStarted, is_out, uid_in};
@@ -20,6 +21,7 @@ ghost use Rattle.seg_control.specs.Control.{leads_at, table_of, word_of};
 ghost use Rattle.seg_control.specs.Effects.{all_cut, all_taken, cut_one, table_here, worded};
 ghost use Rattle.script.specs.Plans.{Plan};
 ghost use Rattle.flat_model.specs.Store.{Store as Flat};
+ghost use Rattle.storage_ops.specs.Paged.{word_written};
 ghost use Rattle.storage_ops.specs.Shown.{Shows};
 
 use crate::store::Store;
@@ -41,6 +43,7 @@ impl<D: Drive> Store<D> {
           };
         } }
         ensures bound { is_bound (frame_at self.new.segs.pages.core result) ≡ true }
+        ensures words { words_at (plain D.pages self.new.segs.pages) ≡ words_at (plain D.pages self.old.segs.pages) }
         ensures bindings { bindings self.new.segs.pages.core ≡ bindings self.old.segs.pages.core }
         ensures reads { reads_of self.new.segs.pages.core ≡ reads_of self.old.segs.pages.core }
         ensures shown { (p : Plan) (s : Flat) → Shows D.pages p s self.old → Shows D.pages p s self.new }
@@ -55,6 +58,7 @@ impl<D: Drive> Store<D> {
         requires at { at < 1024 }
         ensures word { result ≡ slice_index (words_in (plain D.pages self.old.segs.pages) f) at }
         ensures marks { plain D.pages self.new.segs.pages ≡ referred (plain D.pages self.old.segs.pages) f false }
+        ensures words { words_at (plain D.pages self.new.segs.pages) ≡ words_at (plain D.pages self.old.segs.pages) }
         ensures rest { self.new ≡ record self.old { segs = record self.old.segs { pages = self.new.segs.pages } } }
         ensures bindings { bindings self.new.segs.pages.core ≡ bindings self.old.segs.pages.core }
         ensures reads { reads_of self.new.segs.pages.core ≡ reads_of self.old.segs.pages.core }
@@ -62,6 +66,30 @@ impl<D: Drive> Store<D> {
         ensures shown { (p : Plan) (s : Flat) → Shows D.pages p s self.old → Shows D.pages p s self.new }
     {
         self.segs.word(f, at)
+    }
+
+    /// Writes `w` at word `at` through the bound frame `f`, whose marks are both on then. That word of what is shown is
+    /// `w` from now on, and all else stays. (Source: Bensoussan, Clingen and Daley 1972.)
+    pub fn put_word(&mut self, f: u32, at: u32, w: Word)
+        requires bound { is_bound (frame_at self.old.segs.pages.core f) ≡ true }
+        requires at { at < 1024 }
+        ensures word { plain D.pages self.new.segs.pages ≡ word_put (plain D.pages self.old.segs.pages) f at w }
+        ensures words { words_at (plain D.pages self.new.segs.pages) ≡ changed_page
+            (words_at (plain D.pages self.old.segs.pages)) (uid_in (frame_at self.old.segs.pages.core f))
+            (number_in (frame_at self.old.segs.pages.core f))
+            (slice_set (words_in (plain D.pages self.old.segs.pages) f) at w) }
+        ensures rest { self.new ≡ record self.old { segs = record self.old.segs { pages = self.new.segs.pages } } }
+        ensures bindings { bindings self.new.segs.pages.core ≡ bindings self.old.segs.pages.core }
+        ensures reads { reads_of self.new.segs.pages.core ≡ reads_of self.old.segs.pages.core }
+        ensures volumes { self.new.segs.pages.volumes ≡ self.old.segs.pages.volumes }
+        ensures shown { (p : Plan) (s : Flat) → Shows D.pages p s self.old
+            → Shows D.pages p (word_written s (uid_in (frame_at self.old.segs.pages.core f))
+            (number_in (frame_at self.old.segs.pages.core f)) at w) self.new }
+    {
+        let pages = self.segs.pages();
+        let _core = pages.frames();
+        prove!(pages.is_zero(f) || at < 1024);
+        self.segs.put_word(f, at, w);
     }
 
     /// Notes that page `p` of an active segment, which is on its record alone, is being read into the free frame `f`.
@@ -75,6 +103,7 @@ impl<D: Drive> Store<D> {
         requires first { IsNotStarted self.old.segs.pages.core uid p }
         ensures started { plain D.pages self.new.segs.pages
             ≡ framed (plain D.pages self.old.segs.pages) f (Started uid p) }
+        ensures words { words_at (plain D.pages self.new.segs.pages) ≡ words_at (plain D.pages self.old.segs.pages) }
         ensures rest { self.new ≡ record self.old { segs = record self.old.segs { pages = self.new.segs.pages } } }
         ensures bindings { bindings self.new.segs.pages.core ≡ bindings self.old.segs.pages.core }
         ensures reads { reads_of self.new.segs.pages.core
@@ -195,6 +224,7 @@ impl<D: Drive> Store<D> {
         ensures effect { plain D.pages self.new.segs.pages
             ≡ after_read (plain D.pages self.old.segs.pages) uid p home f result }
         ensures word { self.new.segs.ast ≡ table_here self.old.segs.ast uid p f result }
+        ensures words { KeepsWords (plain D.pages self.old.segs.pages) (plain D.pages self.new.segs.pages) uid home }
         ensures rest { self.new ≡ record self.old {
           segs = record self.old.segs {
             pages = self.new.segs.pages;

@@ -1,0 +1,182 @@
+-- One word of a page in a frame is written.
+use Rattle.std.proofs.Common.{◌≡◌, ◌≢◌, ℕ, ◌+◌, ◌*◌, ◌<◌, ◌/◌, ◌%◌, Bool, true, false, cond, eqb, ◌&&◌, List, []}
+use Rattle.std.proofs.Common.{length, get_or, set, replicate, Some, refl, sym, ap, subst, ◌∙◌, arith, inl, inr}
+use Rattle.std.proofs.lemmas.Bool.{cases_eq, ne_eqb, eq-eqb}
+use Rattle.std.proofs.lemmas.Bool.Decides.{nat_tests}
+use Rattle.std.proofs.lemmas.List.{get_or-set_other, get_or-set_same}
+use Rattle.std.proofs.Math.ListN.{get_or-map}
+use Rattle.script.specs.Plans.{Plan}
+use Rattle.accounts.specs.Maps.{AccountMaps}
+use Rattle.flat_model.specs.Store.{Store}
+use Rattle.core_map.specs.declared.Frame.{Frame}
+use Rattle.core_map.specs.declared.Frame.TheVariants.{Free, Started, Bound}
+use Rattle.core_map.specs.CoreMap.{bound_page, frame_at, is_bound}
+use Rattle.page_table.specs.PageTable.{ptw_at}
+use Rattle.active_segs.specs.Active.{ActiveSegs, IsActive, table_at}
+use Rattle.page_control.specs.declared.Home.{Home}
+use Rattle.page_control.specs.Plain.{Plain, binding_at, bindings, number_in, plain}
+use Rattle.page_control.specs.Picture.{changed_at, changed_page, words_at}
+use Rattle.page_control.specs.Tied.{IsTableOf, frame_of, uid_in}
+use Rattle.seg_control.specs.Control.{Links}
+use Rattle.seg_control.specs.Kept.{IsKept}
+use Rattle.volumes.specs.Volumes.{Vols}
+use Rattle.storage_ops.specs.Shown.{Shows, ShowsTree, Storage, home_of, is_filed, is_there, picture}
+use Rattle.storage_ops.specs.Paged.{word_written}
+
+-- what a bound frame is bound to
+pub bound_told : (frame : Frame) → is_bound frame ≡ true → bound_page frame ≡ Some (uid_in frame, number_in frame)
+bound_told Free b = cc
+bound_told (Started u p) b = cc
+bound_told (Bound u p x y) b = refl
+
+-- a bound frame has the page of an active segment, whose page table names the frame
+module _ (now : Plain) (ast : ActiveSegs) (links : Links) (kept : IsKept now ast links) (f : ℕ)
+    (bound : is_bound (frame_at now.core f) ≡ true) where
+  binding : binding_at (bindings now.core) f ≡ Some (uid_in (frame_at now.core f), number_in (frame_at now.core f))
+  binding = get_or-map bound_page now.core.frames f Free ∙ bound_told (frame_at now.core f) bound
+
+  pub bound_active : IsActive ast.entries (uid_in (frame_at now.core f))
+  bound_active = kept.paged.bound f (uid_in (frame_at now.core f)) (number_in (frame_at now.core f)) binding
+
+  pub bound_table : IsTableOf (bindings now.core) (uid_in (frame_at now.core f)) (table_at ast.tables bound_active.0)
+  bound_table = kept.paged.tables bound_active.0 (uid_in (frame_at now.core f)) bound_active.1
+
+  pub bound_named : frame_of (ptw_at (table_at ast.tables bound_active.0) (number_in (frame_at now.core f))) ≡ Some f
+  bound_named = bound_table.named f (number_in (frame_at now.core f)) binding
+
+pub at_page : (a : AccountMaps) (image : ℕ → Home → ℕ → List ℕ) (u q : ℕ) → is_there a.nodes u ≡ true
+    → picture a image u q ≡ image u (home_of a u) q
+unfolding picture
+at_page a image u q t = ap (λ (z : Bool). cond z (image u (home_of a u) q) (replicate 1024 0)) t
+
+pub same_page : (a : AccountMaps) (image next : ℕ → Home → ℕ → List ℕ) (u q : ℕ)
+    → next u (home_of a u) q ≡ image u (home_of a u) q → picture a next u q ≡ picture a image u q
+unfolding picture
+same_page a image next u q e = ap (λ (ws : List ℕ). cond (is_there a.nodes u) ws (replicate 1024 0)) e
+
+changed_here : (old : ℕ → ℕ → List ℕ) (u p : ℕ) (ws : List ℕ) → changed_at old u p ws u p ≡ ws
+unfolding changed_at
+changed_here old u p ws =
+    let first : eqb u u ≡ true = own u in
+    let second : eqb p p ≡ true = own p in
+    rw (first, second) refl
+  where
+    own : (x : ℕ) → eqb x x ≡ true
+    own x = grind (arith, nat_tests)
+
+changed_uid : (old : ℕ → ℕ → List ℕ) (u p : ℕ) (ws : List ℕ) (v q : ℕ) → v ≢ u → changed_at old u p ws v q ≡ old v q
+unfolding changed_at
+changed_uid old u p ws v q ne = (let off : eqb u v ≡ false = ne_eqb u v (λ e. ne (sym e)) in rw off refl)
+
+changed_number : (old : ℕ → ℕ → List ℕ) (u p : ℕ) (ws : List ℕ) (v q : ℕ) → q ≢ p → changed_at old u p ws v q ≡ old v q
+unfolding changed_at
+changed_number old u p ws v q ne = by (eqb u v)
+  where
+    off : eqb p q ≡ false
+    off = ne_eqb p q (λ e. ne (sym e))
+
+    by : (z : Bool) → cond (z && eqb p q) ws (old v q) ≡ old v q
+    by true = rw off refl
+    by false = refl
+
+-- the words of one page are others, and those of each other page as before
+pub record IsPageChanged (a : AccountMaps) (image next : ℕ → Home → ℕ → List ℕ) (uid p : ℕ)
+    (old new : List ℕ) : Type 0 where
+  pub before : picture a image uid p ≡ old
+  pub here : picture a next uid p ≡ new
+  pub pages : (q : ℕ) → q ≢ p → picture a next uid q ≡ picture a image uid q
+  pub others : (u q : ℕ) → u ≢ uid → picture a next u q ≡ picture a image u q
+
+-- by a change of what all pages at all homes have
+pub page_changed : (a : AccountMaps) (image next : ℕ → Home → ℕ → List ℕ) (uid p : ℕ) (old new : List ℕ)
+    → is_there a.nodes uid ≡ true → next ≡ changed_page image uid p new → image uid (home_of a uid) p ≡ old
+    → IsPageChanged a image next uid p old new
+page_changed a image next uid p old new there change held = record {
+  before = at_page a image uid p there ∙ held;
+  here = at_page a next uid p there ∙ next_at uid (home_of a uid) p
+      ∙ changed_here (λ v. image v (home_of a uid)) uid p new;
+  pages = λ q ne. same_page a image next uid q (next_at uid (home_of a uid) q
+      ∙ changed_number (λ v. image v (home_of a uid)) uid p new uid q ne);
+  others = λ u q ne. same_page a image next u q (next_at u (home_of a u) q
+      ∙ changed_uid (λ v. image v (home_of a u)) uid p new u q ne);
+}
+  where
+    next_at : (u : ℕ) (h : Home) (q : ℕ) → next u h q ≡ changed_at (λ v. image v h) uid p new u q
+    next_at u h q = ap (λ (f : ℕ → Home → ℕ → List ℕ). f u h q) change
+
+module _ (a : AccountMaps) (image next : ℕ → Home → ℕ → List ℕ) (uid p at w : ℕ) (words : List ℕ)
+    (change : IsPageChanged a image next uid p words (set words at w))
+    (long : length words ≡ 1024) (within : at < 1024) where
+  -- the word itself, and each other one
+  word_here : get_or (picture a next uid p) at 0 ≡ w
+  word_here = ap (λ (ws : List ℕ). get_or ws at 0) change.here
+      ∙ get_or-set_same words at w 0 (omega (arith, long, within))
+
+  word_else : (i : ℕ) → i ≢ at → get_or (picture a next uid p) i 0 ≡ get_or (picture a image uid p) i 0
+  word_else i ne = ap (λ (ws : List ℕ). get_or ws i 0) change.here ∙ get_or-set_other words at i w 0 ne
+      ∙ ap (λ (ws : List ℕ). get_or ws i 0) (sym change.before)
+
+  pub words_told : (old : ℕ → ℕ → ℕ) → ((u o : ℕ) → old u o ≡ get_or (picture a image u (o / 1024)) (o % 1024) 0)
+      → (u o : ℕ) → cond (eqb u uid && eqb o (1024 * p + at)) w (old u o)
+      ≡ get_or (picture a next u (o / 1024)) (o % 1024) 0
+  words_told old shown u o = elim (cases_eq u uid) [
+    | inr ne ↦ (let off : eqb u uid ≡ false = ne_eqb u uid ne in
+        ap (λ (z : Bool). cond (z && eqb o (1024 * p + at)) w (old u o)) off ∙ shown u o
+        ∙ ap (λ (ws : List ℕ). get_or ws (o % 1024) 0) (sym (change.others u (o / 1024) ne)))
+    | inl is ↦ (let on : eqb u uid ≡ true = eq-eqb u uid is in
+        ap (λ (z : Bool). cond (z && eqb o (1024 * p + at)) w (old u o)) on
+        ∙ ap (λ (x : ℕ). cond (eqb o (1024 * p + at)) w (old x o)) is ∙ of_page
+        ∙ ap (λ (x : ℕ). get_or (picture a next x (o / 1024)) (o % 1024) 0) (sym is))
+  ]
+    where
+      of_page : cond (eqb o (1024 * p + at)) w (old uid o) ≡ get_or (picture a next uid (o / 1024)) (o % 1024) 0
+      of_page = elim (cases_eq (o / 1024) p) [
+        | inr ne ↦
+            (let off : eqb o (1024 * p + at) ≡ false
+            = ne_eqb o (1024 * p + at) (λ e. ne (omega (arith, e, within))) in
+            ap (λ (z : Bool). cond z w (old uid o)) off ∙ shown uid o
+            ∙ ap (λ (ws : List ℕ). get_or ws (o % 1024) 0) (sym (change.pages (o / 1024) ne)))
+        | inl page ↦ elim (cases_eq (o % 1024) at) [
+          | inr ne ↦
+              (let off : eqb o (1024 * p + at) ≡ false
+              = ne_eqb o (1024 * p + at) (λ e. ne (omega (arith, e, within))) in
+              ap (λ (z : Bool). cond z w (old uid o)) off ∙ shown uid o
+              ∙ ap (λ (q : ℕ). get_or (picture a image uid q) (o % 1024) 0) page ∙ sym (word_else (o % 1024) ne)
+              ∙ ap (λ (q : ℕ). get_or (picture a next uid q) (o % 1024) 0) (sym page))
+          | inl place ↦
+              (let same : o ≡ 1024 * p + at = omega (arith, page, place) in
+              let on : eqb o (1024 * p + at) ≡ true = eq-eqb o (1024 * p + at) same in
+              ap (λ (z : Bool). cond z w (old uid o)) on ∙ sym word_here
+              ∙ ap (λ (q : ℕ). get_or (picture a next uid q) at 0) (sym page)
+              ∙ ap (λ (i : ℕ). get_or (picture a next uid (o / 1024)) i 0) (sym place))
+        ]
+      ]
+
+-- a store that shows a flat store shows it with the word
+pub shown_put : {D : Type 0} (drive : D → List (List ℕ)) (plan : Plan) (s : Store) (t u : Storage D)
+    (uid p at w : ℕ) (words : List ℕ) → u.accounts ≡ t.accounts → u.whos ≡ t.whos → u.segs.links ≡ t.segs.links
+    → u.segs.pages.volumes ≡ t.segs.pages.volumes → is_there t.accounts.nodes uid ≡ true
+    → words_at (plain drive u.segs.pages) ≡ changed_page (words_at (plain drive t.segs.pages)) uid p (set words at w)
+    → words_at (plain drive t.segs.pages) uid (home_of t.accounts uid) p ≡ words → length words ≡ 1024 → at < 1024
+    → Shows drive plan s t → Shows drive plan (word_written s uid p at w) u
+shown_put {D} drive plan s t u uid p at w words accounts whos links volumes there change held long within h = record {
+  tree = subst (λ (a : AccountMaps). ShowsTree (word_written s uid p at w) a) (sym accounts)
+      (record { nodes = h.tree.nodes; next = h.tree.next; counts = h.tree.counts });
+  known = h.known ∙ ap (λ (l : Links). l.known) (sym links);
+  pages = record {
+    stored = λ v q. h.pages.stored v q ∙ ap (λ (x : Vols D). is_filed t.accounts x.vtocs v q) (sym volumes)
+        ∙ ap (λ (a : AccountMaps). is_filed a u.segs.pages.volumes.vtocs v q) (sym accounts);
+    once = h.pages.once;
+    words = λ v o. words_told t.accounts (words_at (plain drive t.segs.pages)) (words_at (plain drive u.segs.pages))
+        uid p at w words (page_changed t.accounts (words_at (plain drive t.segs.pages))
+        (words_at (plain drive u.segs.pages)) uid p words (set words at w) there change held) long within s.words
+        h.pages.words v o
+        ∙ ap (λ (a : AccountMaps). get_or (picture a (words_at (plain drive u.segs.pages)) v (o / 1024)) (o % 1024) 0)
+        (sym accounts);
+  };
+  script = record {
+    records = λ v. h.script.records v ∙ ap (λ (x : Vols D). length (get_or x.records v [])) (sym volumes);
+    entries = λ v. h.script.entries v ∙ ap (λ (x : Vols D). length (get_or x.vtocs v [])) (sym volumes);
+    whos = whos ∙ h.script.whos;
+  };
+}
