@@ -14,6 +14,10 @@ pub mod NodeLaws
 pub mod Paged
 pub mod PagesLess
 pub mod PageFacts
+pub mod PageLeft
+pub mod PageMade
+pub mod PageMoves
+pub mod PageRoom
 pub mod PageWords
 pub mod PathLaws
 pub mod Removed

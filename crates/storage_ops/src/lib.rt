@@ -21,6 +21,7 @@ mod rights;
 mod sizes;
 mod starting;
 mod store;
+mod storing;
 mod testing;
 
 pub use store::Store;

@@ -1,0 +1,245 @@
+-- A page has left its frame: it is on its record, or it was all zeros and is stored no more.
+use Rattle.std.proofs.Common.{◌≡◌, ◌≢◌, ℕ, ◌+◌, ◌-◌, ◌<◌, ◌≤◌, ◌/◌, ◌%◌, Bool, true, false, cond, eqb, ◌&&◌, not}
+use Rattle.std.proofs.Common.{List, Option, Some, None, Result, Ok, Err, IfOk, get_or, refl, replicate, sym, ap, subst}
+use Rattle.std.proofs.Common.{◌∙◌, arith, inl, inr}
+use Rattle.std.specs.Prelude.{count_by}
+use Rattle.std.proofs.lemmas.Bool.{cases_eq, eq-eqb, ne_eqb}
+use Rattle.mnames.specs.declared.principals.Who.{Who}
+use Rattle.script.specs.Plans.{Plan}
+use Rattle.accounts.specs.Maps.{AccountMaps, Counts, Recounts, count_of}
+use Rattle.flat_model.specs.Pages.{IsOnce, is_stored, without_stored}
+use Rattle.flat_model.specs.Store.{Store}
+use Rattle.flat_model.proofs.CountLaws.{count_without}
+use Rattle.flat_model.proofs.PageLaws.{is_stored-without, once_without}
+use Rattle.vtoc.specs.Vtoc.{Entry as VtocEntry}
+use Rattle.active_segs.specs.Active.{ActiveSegs, IsActive}
+use Rattle.page_control.specs.declared.Home.{Home}
+use Rattle.page_control.specs.declared.Left.{Left}
+use Rattle.page_control.specs.declared.Left.TheVariants.{Released, Kept}
+use Rattle.page_control.specs.Plain.{Plain, plain}
+use Rattle.page_control.specs.Counts.{KeepsCounts, taken, taken_after}
+use Rattle.page_control.specs.Effects.{after_evict}
+use Rattle.page_control.specs.Picture.{ChangesStored, KeepsWords, is_filed_at, is_kept, words_at}
+use Rattle.page_control.specs.Tied.{has_record, map_at, uid_at}
+use Rattle.seg_control.specs.Control.{Links, word_of}
+use Rattle.seg_control.specs.Effects.{table_left}
+use Rattle.seg_control.specs.Kept.{IsKept}
+use Rattle.storage_ops.specs.Paged.{IsSettled, page_left}
+use Rattle.storage_ops.specs.Shown.{AreHoused, IsStore, Shows, Storage, home_of, is_filed, is_there, named_at, pages_in}
+use Rattle.storage_ops.specs.Shown.{picture}
+use Rattle.storage_ops.proofs.Lengths.{filed_there}
+use Rattle.storage_ops.proofs.PageFacts.{active_there, filed_word, home_own, page_counted}
+use Rattle.storage_ops.proofs.PageMoves.{count_here, count_other, entries_same, home_same, maps_refiled, named_less}
+use Rattle.storage_ops.proofs.PageMoves.{records_less, refiled, size_same, store_recounted, there_same, uids_refiled}
+use Rattle.storage_ops.proofs.PageMoves.{weight}
+use Rattle.storage_ops.proofs.Still.{picture_kept, shown_kept, store_still}
+
+-- ---- what is stored
+
+-- what is filed, where one page is or isn't from now on
+pub filed_changed : (a : AccountMaps) (old now : Plain) (uid p : ℕ) (flag : Bool) → AreHoused a old.vtocs
+    → is_there a.nodes uid ≡ true → ChangesStored old now (home_of a uid) p flag
+    → (v q : ℕ) → is_filed a now.vtocs v q ≡ cond (eqb v uid && eqb q p) flag (is_filed a old.vtocs v q)
+unfolding is_filed
+filed_changed a old now uid p flag housed there change v q = by (is_there a.nodes v) refl
+  where
+    the_uid : ◌≡◌ {A = Option ℕ} (Some v) (Some uid) → v ≡ uid
+    the_uid e = cc
+
+    apart : is_there a.nodes v ≡ true → v ≢ uid → home_of a v ≢ home_of a uid
+    apart t ne same = ne (the_uid (sym (housed.homes v t) ∙ ap (uid_at old.vtocs) same ∙ housed.homes uid there))
+
+    by : (z : Bool) → is_there a.nodes v ≡ z → (z && is_filed_at now.vtocs (home_of a v) q)
+        ≡ cond (eqb v uid && eqb q p) flag (z && is_filed_at old.vtocs (home_of a v) q)
+    by false t = (let off : eqb v uid ≡ false = ne_eqb v uid (λ e. (let clash : true ≡ false = sym there
+        ∙ ap (is_there a.nodes) (sym e) ∙ t in cc)) in
+        sym (ap (λ (z : Bool). cond (z && eqb q p) flag false) off))
+    by true t = elim (cases_eq v uid) [
+      | inr ne ↦ change.others (home_of a v) q (λ same page. apart t ne same)
+          ∙ sym (ap (λ (z : Bool). cond (z && eqb q p) flag (is_filed_at old.vtocs (home_of a v) q)) (ne_eqb v uid ne))
+      | inl is ↦ elim (cases_eq q p) [
+        | inr ne ↦ change.others (home_of a v) q (λ same page. ne page)
+            ∙ sym (ap (λ (z : Bool). cond (z && eqb q p) flag (is_filed_at old.vtocs (home_of a v) q))
+            (eq-eqb v uid is)
+            ∙ ap (λ (z : Bool). cond z flag (is_filed_at old.vtocs (home_of a v) q)) (ne_eqb q p ne))
+        | inl same ↦ ap (λ (x : ℕ). is_filed_at now.vtocs (home_of a x) q) is
+            ∙ ap (λ (x : ℕ). is_filed_at now.vtocs (home_of a uid) x) same ∙ change.here
+            ∙ sym (ap (λ (z : Bool). cond (z && eqb q p) flag (is_filed_at old.vtocs (home_of a v) q))
+            (eq-eqb v uid is)
+            ∙ ap (λ (z : Bool). cond z flag (is_filed_at old.vtocs (home_of a v) q)) (eq-eqb q p same))
+      ]
+    ]
+
+-- nodes and homes are as before
+pub filed_recounted : (a b : AccountMaps) (uid count : ℕ) → Recounts a b uid count
+    → (vtocs : List (List (Option VtocEntry))) (u q : ℕ) → is_filed b vtocs u q ≡ is_filed a vtocs u q
+unfolding is_filed
+filed_recounted a b uid count change vtocs u q =
+    ap (λ (z : Bool). z && is_filed_at vtocs (home_of b u) q) (there_same a b uid count change u)
+    ∙ ap (λ (h : Home). is_there a.nodes u && is_filed_at vtocs h q) (home_same a b uid count change u)
+
+pub picture_recounted : (a b : AccountMaps) (uid count : ℕ) → Recounts a b uid count
+    → (image : ℕ → Home → ℕ → List ℕ) (u q : ℕ) → picture b image u q ≡ picture a image u q
+unfolding picture
+picture_recounted a b uid count change image u q =
+    ap (λ (z : Bool). cond z (image u (home_of b u) q) (replicate 1024 0)) (there_same a b uid count change u)
+    ∙ ap (λ (h : Home). cond (is_there a.nodes u) (image u h q) (replicate 1024 0))
+    (home_same a b uid count change u)
+
+-- the pages without one are as many as the accounts count then
+counts_less : (a b : AccountMaps) (uid p : ℕ) (stored : List (ℕ × ℕ)) → Recounts a b uid (count_of a uid - 1)
+    → IsOnce stored → is_stored stored uid p ≡ true → Counts a stored
+    → Counts b (without_stored stored uid (λ q. eqb q p))
+counts_less a b uid p stored change once on counts v =
+    let sum : count_by (λ x. eqb x.0 v) (without_stored stored uid (λ q. eqb q p)) + weight (eqb uid v)
+    ≡ count_by (λ x. eqb x.0 v) stored = count_without (λ x. eqb x.0 v) stored uid p once on in
+    let was : count_of a v ≡ count_by (λ x. eqb x.0 v) stored = counts v in
+    elim (cases_eq v uid) [
+      | inl is ↦
+          (let one : weight (eqb uid v) ≡ 1 = ap weight (eq-eqb uid v (sym is)) in
+          let here : count_of b v ≡ count_of a uid - 1 = ap (count_of b) is
+          ∙ count_here a b uid (count_of a uid - 1) change in
+          let from : count_of a v ≡ count_of a uid = ap (count_of a) is in
+          omega (arith, sum, was, one, here, from))
+      | inr ne ↦
+          (let none : weight (eqb uid v) ≡ 0 = ap weight (ne_eqb uid v (λ e. ne (sym e))) in
+          let same = count_other a b uid (count_of a uid - 1) change v ne in
+          omega (arith, sum, was, none, same))
+    ]
+
+-- ---- the whole
+
+module _ (old now : Plain) (ast next : ActiveSegs) (links : Links) (a b : AccountMaps) (whos : List Who) (uid : ℕ)
+    (home : Home) (p f : ℕ) (kept : IsKept old ast links) (h : IsStore old ast links a whos)
+    (active : IsActive ast.entries uid) (own : home ≡ home_of a uid)
+    (on : has_record (word_of ast uid p) ≡ true) (keeps : KeepsCounts old now) where
+  was_filed : is_filed_at old.vtocs home p ≡ true
+  was_filed = ap (λ (x : Home). is_filed_at old.vtocs x p) own
+      ∙ filed_word old ast links a whos kept h uid active p ∙ on
+
+  was_used : uid_at old.vtocs home ≡ Some uid
+  was_used = ap (uid_at old.vtocs) own ∙ (home_own old ast links a whos kept h uid active).used
+
+  less : 1 ≤ count_of a uid
+  less = page_counted old ast links a whos kept h uid active p on
+
+  pub store_left : {E : Type 0} (r : Result Left E) (record_was : ℕ) → now ≡ after_evict old home p f r
+      → next ≡ table_left ast uid p record_was r
+      → IfOk r (λ left. ChangesStored old now home p (is_kept left))
+      → IfOk r (λ left. taken now.records ≡ taken_after (taken old.records) home.volume left)
+      → IsSettled a b uid r → IsStore now next links b whos
+  store_left (Err e) record_was effect word stored count settled =
+      subst (λ (x : AccountMaps). IsStore now next links x whos) (sym settled)
+      (store_still old now ast next links a whos (ap (λ (x : Plain). x.vtocs) effect)
+      (ap (λ (x : Plain). x.records) effect) (ap (λ (x : ActiveSegs). x.entries) word)
+      (ap (λ (x : ActiveSegs). x.sizes) word) h)
+  store_left (Ok Kept) record_was effect word stored count settled =
+      subst (λ (x : AccountMaps). IsStore now next links x whos) (sym settled)
+      (store_still old now ast next links a whos (ap (λ (x : Plain). x.vtocs) effect)
+      (ap (λ (x : Plain). x.records) effect) (ap (λ (x : ActiveSegs). x.entries) word)
+      (ap (λ (x : ActiveSegs). x.sizes) word) h)
+  store_left (Ok Released) record_was effect word stored count settled =
+      let vtocs : now.vtocs ≡ refiled old.vtocs home p None = ap (λ (x : Plain). x.vtocs) effect in
+      let there = active_there old ast links a whos kept h uid active in
+      let named : named_at now.vtocs home + 1 ≡ named_at old.vtocs home
+      = ap (λ (t : List (List (Option VtocEntry))). named_at t home + 1) vtocs
+      ∙ named_less old.vtocs home uid p was_used was_filed in
+      let counted : named_at old.vtocs home ≡ count_of a uid = ap (named_at old.vtocs) own
+      ∙ h.counted.counts uid there in
+      let sum : named_at now.vtocs home ≡ count_of a uid - 1 = omega (arith, named, counted) in
+      store_recounted old now a b uid (count_of a uid - 1) settled there
+      (λ other. ap (λ (t : List (List (Option VtocEntry))). uid_at t other) vtocs
+      ∙ uids_refiled old.vtocs home uid was_used p None other)
+      (λ other ne. ap (λ (t : List (List (Option VtocEntry))). map_at t other) vtocs
+      ∙ maps_refiled old.vtocs home uid was_used p None other (λ e. ne (e ∙ own)))
+      h.housed ast next links whos (ap (λ (x : ActiveSegs). x.entries) word) (ap (λ (x : ActiveSegs). x.sizes) word)
+      keeps (ap (named_at now.vtocs) (sym own) ∙ sum)
+      (λ q filed. still_within q (ap (λ (x : Home). is_filed_at now.vtocs x q) own ∙ filed))
+      (records_less a b uid old.records now.records settled less
+      (count ∙ ap (λ (x : Home). taken_after (taken old.records) x.volume Released) own) h.taken.records) h
+    where
+      still_within : (q : ℕ) → is_filed_at now.vtocs home q ≡ true → q < pages_in a.nodes uid
+      still_within q filed = elim (cases_eq q p) [
+        | inl same ↦ (let clash : false ≡ true = sym stored.here
+            ∙ ap (is_filed_at now.vtocs home) (sym same) ∙ filed in cc)
+        | inr ne ↦ h.counted.inside uid q (active_there old ast links a whos kept h uid active)
+            (ap (λ (x : Home). is_filed_at old.vtocs x q) (sym own) ∙ sym (stored.others home q (λ s e. ne e)) ∙ filed)
+      ]
+
+-- one page less is shown
+shown_less : {D : Type 0} (drive : D → List (List ℕ)) (plan : Plan) (s : Store) (t u : Storage D) (uid p : ℕ)
+    → Recounts t.accounts u.accounts uid (count_of t.accounts uid - 1) → is_there t.accounts.nodes uid ≡ true
+    → is_filed t.accounts t.segs.pages.volumes.vtocs uid p ≡ true
+    → u.whos ≡ t.whos → u.segs.links ≡ t.segs.links → AreHoused t.accounts t.segs.pages.volumes.vtocs
+    → ChangesStored (plain drive t.segs.pages) (plain drive u.segs.pages) (home_of t.accounts uid) p false
+    → KeepsWords (plain drive t.segs.pages) (plain drive u.segs.pages) uid (home_of t.accounts uid)
+    → KeepsCounts (plain drive t.segs.pages) (plain drive u.segs.pages)
+    → Shows drive plan s t
+    → Shows drive plan (record s { stored = without_stored s.stored uid (λ q. eqb q p) }) u
+shown_less drive plan s t u uid p change there on whos links housed stored words keeps h = record {
+  tree = record {
+    nodes = h.tree.nodes ∙ sym change.nodes;
+    next = h.tree.next ∙ sym change.next;
+    counts = counts_less t.accounts u.accounts uid p s.stored change h.pages.once (h.pages.stored uid p ∙ on)
+        h.tree.counts;
+  };
+  known = h.known ∙ ap (λ (l : Links). l.known) (sym links);
+  pages = record {
+    stored = λ v q. is_stored-without s.stored uid (λ x. eqb x p) v q
+        ∙ ap (λ (z : Bool). not (eqb v uid && eqb q p) && z) (h.pages.stored v q)
+        ∙ not_or (eqb v uid && eqb q p) (is_filed t.accounts t.segs.pages.volumes.vtocs v q)
+        ∙ sym (filed_changed t.accounts (plain drive t.segs.pages) (plain drive u.segs.pages) uid p false housed there
+        stored v q)
+        ∙ sym (filed_recounted t.accounts u.accounts uid _ change u.segs.pages.volumes.vtocs v q);
+    once = once_without s.stored uid (λ x. eqb x p) h.pages.once;
+    words = λ v o. h.pages.words v o ∙ ap (λ (ws : List ℕ). get_or ws (o % 1024) 0)
+        (sym (picture_kept (plain drive t.segs.pages) (plain drive u.segs.pages) t.accounts uid (home_of t.accounts uid)
+        housed refl words v (o / 1024))
+        ∙ sym (picture_recounted t.accounts u.accounts uid _ change (words_at (plain drive u.segs.pages)) v
+        (o / 1024)));
+  };
+  script = record {
+    records = λ v. h.script.records v ∙ sym (size_same (plain drive t.segs.pages) (plain drive u.segs.pages) keeps v);
+    entries = λ v. h.script.entries v
+        ∙ sym (entries_same (plain drive t.segs.pages) (plain drive u.segs.pages) keeps v);
+    whos = whos ∙ h.script.whos;
+  };
+}
+  where
+    not_or : (x y : Bool) → (not x && y) ≡ cond x false y
+    not_or true y = refl
+    not_or false y = refl
+
+pub shown_left : {D E : Type 0} (drive : D → List (List ℕ)) (plan : Plan) (s : Store) (t u : Storage D) (uid : ℕ)
+    (home : Home) (p f : ℕ) (r : Result Left E)
+    → IsKept (plain drive t.segs.pages) t.segs.ast t.segs.links
+    → IsStore (plain drive t.segs.pages) t.segs.ast t.segs.links t.accounts t.whos
+    → IsActive t.segs.ast.entries uid → home ≡ home_of t.accounts uid
+    → has_record (word_of t.segs.ast uid p) ≡ true
+    → u.whos ≡ t.whos → u.segs.links ≡ t.segs.links
+    → plain drive u.segs.pages ≡ after_evict (plain drive t.segs.pages) home p f r
+    → IfOk r (λ left. ChangesStored (plain drive t.segs.pages) (plain drive u.segs.pages) home p (is_kept left))
+    → KeepsWords (plain drive t.segs.pages) (plain drive u.segs.pages) uid home
+    → KeepsCounts (plain drive t.segs.pages) (plain drive u.segs.pages)
+    → IsSettled t.accounts u.accounts uid r
+    → Shows drive plan s t → Shows drive plan (page_left s uid p r) u
+shown_left drive plan s t u uid home p f (Err e) kept store active own on whos links effect stored words keeps settled
+    h =
+    shown_kept drive plan s t u uid home settled whos links
+    (record { records = ap (λ (x : Plain). x.records) effect; vtocs = ap (λ (x : Plain). x.vtocs) effect })
+    store.housed own words h
+shown_left drive plan s t u uid home p f (Ok Kept) kept store active own on whos links effect stored words keeps settled
+    h =
+    shown_kept drive plan s t u uid home settled whos links
+    (record { records = ap (λ (x : Plain). x.records) effect; vtocs = ap (λ (x : Plain). x.vtocs) effect })
+    store.housed own words h
+shown_left drive plan s t u uid home p f (Ok Released) kept store active own on whos links effect stored words keeps
+    settled h =
+    let there = active_there (plain drive t.segs.pages) t.segs.ast t.segs.links t.accounts t.whos kept store uid active
+    in
+    shown_less drive plan s t u uid p settled there
+    (filed_there t.accounts t.segs.pages.volumes.vtocs uid p there
+    ∙ filed_word (plain drive t.segs.pages) t.segs.ast t.segs.links t.accounts t.whos kept store uid active p ∙ on)
+    whos links store.housed
+    (subst (λ (x : Home). ChangesStored (plain drive t.segs.pages) (plain drive u.segs.pages) x p false) own stored)
+    (subst (λ (x : Home). KeepsWords (plain drive t.segs.pages) (plain drive u.segs.pages) uid x) own words) keeps h

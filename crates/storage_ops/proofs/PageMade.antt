@@ -1,0 +1,207 @@
+-- A page of a segment is made, with one word in it, and is stored from then on.
+use Rattle.std.proofs.Common.{◌≡◌, ℕ, ◌+◌, ◌<◌, ◌/◌, ◌%◌, Bool, true, false, cond, eqb, ◌&&◌, ◌||◌}
+use Rattle.std.proofs.Common.{List, Option, Some, get_or, refl, replicate, set, sym, ap, subst}
+use Rattle.std.proofs.Common.{◌∙◌, arith, inl, inr}
+use Rattle.std.specs.Prelude.{count_by}
+use Rattle.std.proofs.lemmas.Bool.{cases_eq, eq-eqb, ne_eqb}
+use Rattle.std.proofs.lemmas.List.{length-replicate}
+use Rattle.mnames.specs.declared.principals.Who.{Who}
+use Rattle.script.specs.Plans.{Plan}
+use Rattle.accounts.specs.Maps.{AccountMaps, Counts, Recounts, count_of}
+use Rattle.flat_model.specs.Pages.{is_page, is_stored, with_stored}
+use Rattle.flat_model.specs.Store.{Store}
+use Rattle.flat_model.proofs.CountLaws.{count_with}
+use Rattle.flat_model.proofs.PageLaws.{is_stored-with, once_with}
+use Rattle.vtoc.specs.Vtoc.{Entry as VtocEntry}
+use Rattle.active_segs.specs.Active.{ActiveSegs, IsActive}
+use Rattle.page_table.specs.declared.Ptw.TheVariants.{Here, Null}
+use Rattle.page_control.specs.declared.Home.{Home}
+use Rattle.page_control.specs.Plain.{Plain, plain}
+use Rattle.page_control.specs.Counts.{KeepsCounts, one_more, taken}
+use Rattle.page_control.specs.Effects.{created, next_record}
+use Rattle.page_control.specs.Picture.{ChangesStored, ChangesWords, is_filed_at, words_at}
+use Rattle.page_control.specs.Tied.{frame_of, has_record, map_at, uid_at}
+use Rattle.seg_control.specs.Control.{Links, word_of}
+use Rattle.seg_control.specs.Effects.{worded}
+use Rattle.seg_control.specs.Kept.{IsKept}
+use Rattle.storage_ops.specs.Paged.{page_made}
+use Rattle.storage_ops.specs.Shown.{AreHoused, IsStore, Shows, Storage, home_of, is_filed, is_there, named_at, pages_in}
+use Rattle.storage_ops.specs.Shown.{picture}
+use Rattle.storage_ops.proofs.Homes.{words_none}
+use Rattle.storage_ops.proofs.Lengths.{filed_there}
+use Rattle.storage_ops.proofs.PageFacts.{active_there, filed_word, home_own, tied_own}
+use Rattle.storage_ops.proofs.PageLeft.{filed_changed, filed_recounted, picture_recounted}
+use Rattle.storage_ops.proofs.PageMoves.{count_here, count_other, entries_same, maps_refiled, named_more}
+use Rattle.storage_ops.proofs.PageMoves.{records_more, refiled, size_same, store_recounted, uids_refiled}
+use Rattle.storage_ops.proofs.PageMoves.{weight}
+use Rattle.storage_ops.proofs.PageWords.{IsPageChanged, at_page, words_told}
+
+-- ---- what is stored
+
+counts_more : (a b : AccountMaps) (uid p : ℕ) (stored : List (ℕ × ℕ)) → Recounts a b uid (count_of a uid + 1)
+    → is_stored stored uid p ≡ false → Counts a stored → Counts b (with_stored stored uid p)
+counts_more a b uid p stored change off counts v =
+    let sum : count_by (λ x. eqb x.0 v) (with_stored stored uid p)
+    ≡ count_by (λ x. eqb x.0 v) stored + weight (eqb uid v) = count_with (λ x. eqb x.0 v) stored uid p off in
+    let was : count_of a v ≡ count_by (λ x. eqb x.0 v) stored = counts v in
+    elim (cases_eq v uid) [
+      | inl is ↦
+          (let one : weight (eqb uid v) ≡ 1 = ap weight (eq-eqb uid v (sym is)) in
+          let here : count_of b v ≡ count_of a uid + 1 = ap (count_of b) is
+          ∙ count_here a b uid (count_of a uid + 1) change in
+          let from : count_of a v ≡ count_of a uid = ap (count_of a) is in
+          omega (arith, sum, was, one, here, from))
+      | inr ne ↦
+          (let none : weight (eqb uid v) ≡ 0 = ap weight (ne_eqb uid v (λ e. ne (sym e))) in
+          let same = count_other a b uid (count_of a uid + 1) change v ne in
+          omega (arith, sum, was, none, same))
+    ]
+
+turned : (a b : ℕ) → eqb a b ≡ eqb b a
+turned a b = elim (cases_eq a b) [
+  | inl is ↦ eq-eqb a b is ∙ sym (eq-eqb b a (sym is))
+  | inr ne ↦ ne_eqb a b ne ∙ sym (ne_eqb b a (λ e. ne (sym e)))
+]
+
+-- ---- the whole
+
+module _ (old now : Plain) (ast next : ActiveSegs) (links : Links) (a b : AccountMaps) (whos : List Who) (uid : ℕ)
+    (home : Home) (p f at w : ℕ) (kept : IsKept old ast links) (h : IsStore old ast links a whos)
+    (active : IsActive ast.entries uid) (own : home ≡ home_of a uid)
+    (off : word_of ast uid p ≡ Null) (keeps : KeepsCounts old now) (lt : p < pages_in a.nodes uid)
+    (effect : now ≡ created old uid p home (next_record old home) f at w) (word : next ≡ worded ast uid p (Here f))
+    (stored : ChangesStored old now home p true)
+    (count : taken now.records ≡ one_more (taken old.records) home.volume)
+    (change : Recounts a b uid (count_of a uid + 1)) where
+  not_filed : is_filed_at old.vtocs home p ≡ false
+  not_filed = ap (λ (x : Home). is_filed_at old.vtocs x p) own ∙ filed_word old ast links a whos kept h uid active p
+      ∙ ap has_record off
+
+  was_used : uid_at old.vtocs home ≡ Some uid
+  was_used = ap (uid_at old.vtocs) own ∙ (home_own old ast links a whos kept h uid active).used
+
+  pub store_made : IsStore now next links b whos
+  store_made =
+      let vtocs : now.vtocs ≡ refiled old.vtocs home p (Some (next_record old home))
+      = ap (λ (x : Plain). x.vtocs) effect in
+      let there = active_there old ast links a whos kept h uid active in
+      let named : named_at now.vtocs home ≡ named_at old.vtocs home + 1
+      = ap (λ (t : List (List (Option VtocEntry))). named_at t home) vtocs
+      ∙ named_more old.vtocs home uid p (next_record old home) was_used not_filed
+      (ap (λ (t : List (List (Option VtocEntry))). is_filed_at t home p) (sym vtocs) ∙ stored.here) in
+      let counted : named_at old.vtocs home ≡ count_of a uid = ap (named_at old.vtocs) own
+      ∙ h.counted.counts uid there in
+      let sum : named_at now.vtocs home ≡ count_of a uid + 1 = omega (arith, named, counted) in
+      store_recounted old now a b uid (count_of a uid + 1) change there
+      (λ other. ap (λ (t : List (List (Option VtocEntry))). uid_at t other) vtocs
+      ∙ uids_refiled old.vtocs home uid was_used p (Some (next_record old home)) other)
+      (λ other ne. ap (λ (t : List (List (Option VtocEntry))). map_at t other) vtocs
+      ∙ maps_refiled old.vtocs home uid was_used p (Some (next_record old home)) other (λ e. ne (e ∙ own)))
+      h.housed ast next links whos (ap (λ (x : ActiveSegs). x.entries) word) (ap (λ (x : ActiveSegs). x.sizes) word)
+      keeps (ap (named_at now.vtocs) (sym own) ∙ sum)
+      (λ q filed. still_within q (ap (λ (x : Home). is_filed_at now.vtocs x q) own ∙ filed))
+      (records_more a b uid old.records now.records change
+      (count ∙ ap (λ (x : Home). one_more (taken old.records) x.volume) own) h.taken.records) h
+    where
+      still_within : (q : ℕ) → is_filed_at now.vtocs home q ≡ true → q < pages_in a.nodes uid
+      still_within q filed = elim (cases_eq q p) [
+        | inl same ↦ subst (λ (x : ℕ). x < pages_in a.nodes uid) (sym same) lt
+        | inr ne ↦ h.counted.inside uid q (active_there old ast links a whos kept h uid active)
+            (ap (λ (x : Home). is_filed_at old.vtocs x q) (sym own) ∙ sym (stored.others home q (λ s e. ne e)) ∙ filed)
+      ]
+
+-- ---- the words
+
+-- a page whose word is `Null` is in no frame, and all zeros
+zeros_null : (old : Plain) (ast : ActiveSegs) (links : Links) (a : AccountMaps) (whos : List Who) (uid p : ℕ)
+    → IsKept old ast links → IsStore old ast links a whos → IsActive ast.entries uid → word_of ast uid p ≡ Null
+    → words_at old uid (home_of a uid) p ≡ replicate 1024 0
+zeros_null old ast links a whos uid p kept h active off =
+    words_none old uid p (home_of a uid)
+    (λ f bound. (let named = (tied_own old ast links a whos kept h uid active).table.named f p bound in
+    no_frame f (ap frame_of (sym off) ∙ named)))
+    (filed_word old ast links a whos kept h uid active p ∙ ap has_record off)
+  where
+    no_frame : (f : ℕ) → frame_of Null ≡ Some f → ⊥
+    no_frame f e = cc
+
+other_words : (old now : Plain) (a : AccountMaps) (uid p : ℕ) (new : List ℕ) → AreHoused a old.vtocs
+    → ChangesWords old now uid (home_of a uid) p new → (u q : ℕ) → (u ≡ uid → q ≡ p → ⊥)
+    → picture a (words_at now) u q ≡ picture a (words_at old) u q
+unfolding picture
+other_words old now a uid p new housed change u q apart = by (is_there a.nodes u) refl
+  where
+    by : (z : Bool) → is_there a.nodes u ≡ z
+        → cond z (words_at now u (home_of a u) q) (replicate 1024 0)
+        ≡ cond z (words_at old u (home_of a u) q) (replicate 1024 0)
+    by true t = change.others u (home_of a u) q
+        (record { used = housed.homes u t; own = λ is. ap (home_of a) is }) apart
+    by false t = refl
+
+changed_words : (old now : Plain) (a : AccountMaps) (uid p : ℕ) (words new : List ℕ) → AreHoused a old.vtocs
+    → is_there a.nodes uid ≡ true → words_at old uid (home_of a uid) p ≡ words
+    → ChangesWords old now uid (home_of a uid) p new
+    → IsPageChanged a (words_at old) (words_at now) uid p words new
+changed_words old now a uid p words new housed there held change = record {
+  before = at_page a (words_at old) uid p there ∙ held;
+  here = at_page a (words_at now) uid p there ∙ change.here;
+  pages = λ q ne. other_words old now a uid p new housed change uid q (λ is page. ne page);
+  others = λ u q ne. other_words old now a uid p new housed change u q (λ is page. ne is);
+}
+
+-- one page more is shown
+pub shown_made : {D : Type 0} (drive : D → List (List ℕ)) (plan : Plan) (s : Store) (t u : Storage D)
+    (uid p at w : ℕ) → IsKept (plain drive t.segs.pages) t.segs.ast t.segs.links
+    → IsStore (plain drive t.segs.pages) t.segs.ast t.segs.links t.accounts t.whos
+    → IsActive t.segs.ast.entries uid → word_of t.segs.ast uid p ≡ Null → at < 1024
+    → Recounts t.accounts u.accounts uid (count_of t.accounts uid + 1) → u.whos ≡ t.whos → u.segs.links ≡ t.segs.links
+    → ChangesStored (plain drive t.segs.pages) (plain drive u.segs.pages) (home_of t.accounts uid) p true
+    → ChangesWords (plain drive t.segs.pages) (plain drive u.segs.pages) uid (home_of t.accounts uid) p
+    (set (replicate 1024 0) at w)
+    → KeepsCounts (plain drive t.segs.pages) (plain drive u.segs.pages)
+    → Shows drive plan s t → Shows drive plan (page_made s uid p at w) u
+shown_made drive plan s t u uid p at w kept store active off within change whos links stored words keeps h = (
+    let old = plain drive t.segs.pages in
+    let there = active_there old t.segs.ast t.segs.links t.accounts t.whos kept store uid active in
+    let unfiled : is_filed t.accounts t.segs.pages.volumes.vtocs uid p ≡ false
+    = filed_there t.accounts t.segs.pages.volumes.vtocs uid p there
+    ∙ filed_word old t.segs.ast t.segs.links t.accounts t.whos kept store uid active p ∙ ap has_record off in
+    let zeros = zeros_null old t.segs.ast t.segs.links t.accounts t.whos uid p kept store active off in
+    record {
+      tree = record {
+        nodes = h.tree.nodes ∙ sym change.nodes;
+        next = h.tree.next ∙ sym change.next;
+        counts = counts_more t.accounts u.accounts uid p s.stored change (h.pages.stored uid p ∙ unfiled) h.tree.counts;
+      };
+      known = h.known ∙ ap (λ (l : Links). l.known) (sym links);
+      pages = record {
+        stored = λ v q. is_stored-with s.stored uid p v q
+            ∙ ap (λ (z : Bool). is_page v q (uid, p) || z) (h.pages.stored v q)
+            ∙ or_cond (eqb uid v) (eqb v uid) (eqb p q) (eqb q p) (is_filed t.accounts t.segs.pages.volumes.vtocs v q)
+            (turned uid v) (turned p q)
+            ∙ sym (filed_changed t.accounts old (plain drive u.segs.pages) uid p true store.housed there stored v q)
+            ∙ sym (filed_recounted t.accounts u.accounts uid _ change u.segs.pages.volumes.vtocs v q);
+        once = once_with s.stored uid p h.pages.once;
+        words = λ v o. words_told t.accounts (words_at old) (words_at (plain drive u.segs.pages)) uid p at w
+            (replicate 1024 0)
+            (changed_words old (plain drive u.segs.pages) t.accounts uid p (replicate 1024 0)
+            (set (replicate 1024 0) at w) store.housed there zeros words)
+            (length-replicate {A = ℕ} 1024 0) within s.words h.pages.words v o
+            ∙ ap (λ (ws : List ℕ). get_or ws (o % 1024) 0)
+            (sym (picture_recounted t.accounts u.accounts uid _ change (words_at (plain drive u.segs.pages)) v
+            (o / 1024)));
+      };
+      script = record {
+        records = λ v. h.script.records v ∙ sym (size_same old (plain drive u.segs.pages) keeps v);
+        entries = λ v. h.script.entries v ∙ sym (entries_same old (plain drive u.segs.pages) keeps v);
+        whos = whos ∙ h.script.whos;
+      };
+    })
+  where
+    or_cond : (x y z v filed : Bool) → x ≡ y → z ≡ v → ((x && z) || filed) ≡ cond (y && v) true filed
+    or_cond x y z v filed e d = ap (λ (k : Bool). (k && z) || filed) e ∙ ap (λ (k : Bool). (y && k) || filed) d
+        ∙ by (y && v)
+      where
+        by : (k : Bool) → (k || filed) ≡ cond k true filed
+        by true = refl
+        by false = refl

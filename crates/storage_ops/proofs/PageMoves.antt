@@ -1,0 +1,395 @@
+-- A page of a segment is stored, or is stored no more.
+use Rattle.std.proofs.Common.{◌≡◌, ◌≢◌, ℕ, ◌+◌, ◌-◌, ◌<◌, ◌≤◌, Bool, true, false, cond, eqb}
+use Rattle.std.proofs.Common.{List, [], ◌∷◌, length, map, Option, Some, None, get_or, set, is_some, refl, sym}
+use Rattle.std.proofs.Common.{ap, subst, ◌∙◌, arith, inl, inr}
+use Rattle.std.specs.Prelude.{count_by}
+use Rattle.std.proofs.lemmas.Bool.{cases_eq, eqb-true, ne_eqb}
+use Rattle.std.proofs.lemmas.Bool.Decides.{nat_tests}
+use Rattle.std.proofs.lemmas.List.{get_or-set_other, get_or-set_same, length-set}
+use Rattle.std.proofs.lemmas.List.Sums.{sum_by-cons, sum_by-set}
+use Rattle.std.proofs.Math.ListN.{get_or-map}
+use Rattle.mnames.specs.declared.principals.Who.{Who}
+use Rattle.accounts.specs.Maps.{AccountMaps, Counts, Recounts, count_of, entry_of}
+use Rattle.quota_cells.specs.Accounts.{look}
+use Rattle.tree_model.specs.Tree.{Node, entries_on, has_directory, taken_on, volume_in}
+use Rattle.vtoc.specs.Vtoc.{Entry as VtocEntry, entry_at, records_in, uid_of, with_record}
+use Rattle.active_segs.specs.declared.Entry.{Entry}
+use Rattle.active_segs.specs.Active.{ActiveSegs}
+use Rattle.page_control.specs.declared.Home.{Home}
+use Rattle.page_control.specs.Plain.{Plain}
+use Rattle.page_control.specs.Counts.{KeepsCounts, entries, one_less, one_more, size, taken, used}
+use Rattle.page_control.specs.Picture.{is_filed_at}
+use Rattle.page_control.specs.Tied.{map_at, uid_at, vtoc_in}
+use Rattle.seg_control.specs.Control.{Links}
+use Rattle.storage_ops.specs.Shown.{AreCounted, AreHoused, AreInTree, HaveRights, IsStore, home_of, is_there}
+use Rattle.storage_ops.specs.Shown.{named_at, pages_in}
+use Rattle.storage_ops.proofs.Homes.{filed_map, home_cases}
+use Rattle.storage_ops.proofs.Tables.{homed_entry, homed_volume}
+use Rattle.storage_ops.proofs.PageFacts.{within_some}
+
+-- ---- lists of stored pages, by their uids
+
+abbrev pub weight : Bool → ℕ
+weight b = cond b 1 0
+
+abbrev pub pages_by : (ℕ → Bool) → List (ℕ × ℕ) → ℕ
+pages_by test xs = count_by (λ x. test x.0) xs
+
+-- some pages are these and one more of a segment
+pub record IsOneMore (small large : List (ℕ × ℕ)) (uid : ℕ) : Type 0 where
+  pub each : (test : ℕ → Bool) → pages_by test large ≡ weight (test uid) + pages_by test small
+
+pub one_first : (x : ℕ × ℕ) (xs : List (ℕ × ℕ)) (uid : ℕ) → x.0 ≡ uid → IsOneMore xs (x ∷ xs) uid
+one_first x xs uid is = record {
+  each = λ test. sum_by-cons (λ (y : ℕ × ℕ). weight (test y.0)) x xs
+      ∙ ap (λ (n : ℕ). weight (test n) + pages_by test xs) is;
+}
+
+-- one of a segment is left out
+pub one_out : (xs : List (ℕ × ℕ)) (uid : ℕ) → 1 ≤ pages_by (λ n. eqb n uid) xs
+    → (ys : List (ℕ × ℕ)) × IsOneMore ys xs uid
+one_out [] uid some = absurd (omega (arith, some))
+one_out (x ∷ xs) uid some = by (eqb x.0 uid) refl (λ rest. one_out xs uid rest)
+  where
+    first : pages_by (λ n. eqb n uid) (x ∷ xs) ≡ weight (eqb x.0 uid) + pages_by (λ n. eqb n uid) xs
+    first = sum_by-cons (λ (y : ℕ × ℕ). weight (eqb y.0 uid)) x xs
+
+    by : (z : Bool) → eqb x.0 uid ≡ z
+        → (1 ≤ pages_by (λ n. eqb n uid) xs → (ys : List (ℕ × ℕ)) × IsOneMore ys xs uid)
+        → (ys : List (ℕ × ℕ)) × IsOneMore ys (x ∷ xs) uid
+    by true is ih = (xs, one_first x xs uid (eqb-true x.0 uid is))
+    by false is ih =
+        let none : weight (eqb x.0 uid) ≡ 0 = ap weight is in
+        let sum = first in
+        let out = ih (omega (arith, some, none, sum)) in (
+          x ∷ out.0,
+          record {
+            each = λ test. (
+                let here : pages_by test (x ∷ xs) ≡ weight (test x.0) + pages_by test xs
+                = sum_by-cons (λ (y : ℕ × ℕ). weight (test y.0)) x xs in
+                let left : pages_by test (x ∷ out.0) ≡ weight (test x.0) + pages_by test out.0
+                = sum_by-cons (λ (y : ℕ × ℕ). weight (test y.0)) x out.0 in
+                let rest = out.1.each test in
+                omega (arith, here, left, rest));
+          },
+        )
+
+-- ---- a file map names a record more, or one less
+
+abbrev pub refiled : List (List (Option VtocEntry)) → Home → ℕ → Option ℕ → List (List (Option VtocEntry))
+refiled vtocs home p place = set vtocs home.volume (set (vtoc_in vtocs home.volume) home.entry
+    (with_record (entry_at (vtoc_in vtocs home.volume) home.entry) p place))
+
+module _ (vtocs : List (List (Option VtocEntry))) (home : Home) (u : ℕ) (used_for : uid_at vtocs home ≡ Some u)
+    (p : ℕ) (place : Option ℕ) where
+  now : List (List (Option VtocEntry))
+  now = refiled vtocs home p place
+
+  entry_here : entry_at (vtoc_in (refiled vtocs home p place) home.volume) home.entry
+      ≡ with_record (entry_at (vtoc_in vtocs home.volume) home.entry) p place
+  entry_here =
+      ap (λ (t : List (Option VtocEntry)). entry_at t home.entry)
+      (get_or-set_same vtocs home.volume _ [] (homed_volume vtocs home u used_for))
+      ∙ get_or-set_same (vtoc_in vtocs home.volume) home.entry _ None (homed_entry vtocs home u used_for)
+
+  entry_other : (other : Home) → other ≢ home
+      → entry_at (vtoc_in (refiled vtocs home p place) other.volume) other.entry
+      ≡ entry_at (vtoc_in vtocs other.volume) other.entry
+  entry_other other ne = elim (cases_eq other.volume home.volume) [
+    | inr apart ↦ ap (λ (t : List (Option VtocEntry)). entry_at t other.entry)
+        (get_or-set_other vtocs home.volume other.volume _ [] apart)
+    | inl same ↦
+        ap (λ (v : ℕ). entry_at (vtoc_in (refiled vtocs home p place) v) other.entry) same
+        ∙ ap (λ (t : List (Option VtocEntry)). entry_at t other.entry)
+        (get_or-set_same vtocs home.volume _ [] (homed_volume vtocs home u used_for))
+        ∙ get_or-set_other (vtoc_in vtocs home.volume) home.entry other.entry _ None (λ e. ne
+        (ap (λ (v : ℕ). record { volume = v; entry = other.entry }) same
+        ∙ ap (λ (k : ℕ). record { volume = home.volume; entry = k }) e))
+        ∙ ap (λ (v : ℕ). entry_at (vtoc_in vtocs v) other.entry) (sym same)
+  ]
+
+  same_uid : (o : Option VtocEntry) → uid_of (with_record o p place) ≡ uid_of o
+  same_uid None = refl
+  same_uid (Some e) = refl
+
+  pub uids_refiled : (other : Home) → uid_at (refiled vtocs home p place) other ≡ uid_at vtocs other
+  uids_refiled other = elim (home_cases other home) [
+    | inl is ↦ ap (uid_at (refiled vtocs home p place)) is ∙ ap uid_of entry_here
+        ∙ same_uid (entry_at (vtoc_in vtocs home.volume) home.entry) ∙ ap (uid_at vtocs) (sym is)
+    | inr ne ↦ ap uid_of (entry_other other ne)
+  ]
+
+  pub maps_refiled : (other : Home) → other ≢ home → map_at (refiled vtocs home p place) other ≡ map_at vtocs other
+  maps_refiled other ne = ap records_in (entry_other other ne)
+
+  used_map : (o : Option VtocEntry) → uid_of o ≡ Some u
+      → records_in (with_record o p place) ≡ set (records_in o) p place
+  used_map None e = cc
+  used_map (Some x) e = refl
+
+  pub map_refiled : map_at (refiled vtocs home p place) home ≡ set (map_at vtocs home) p place
+  map_refiled = ap records_in entry_here ∙ used_map (entry_at (vtoc_in vtocs home.volume) home.entry) used_for
+
+  recounted : p < length (map_at vtocs home)
+      → named_at (refiled vtocs home p place) home + weight (is_some (get_or (map_at vtocs home) p None))
+      ≡ named_at vtocs home + weight (is_some place)
+  recounted lt = ap (λ (m : List (Option ℕ)). count_by is_some m + weight (is_some (get_or (map_at vtocs home) p None)))
+      map_refiled ∙ sum_by-set (λ (o : Option ℕ). weight (is_some o)) (map_at vtocs home) p place None lt
+
+-- a page was filed, and is no more
+pub named_less : (vtocs : List (List (Option VtocEntry))) (home : Home) (u p : ℕ) → uid_at vtocs home ≡ Some u
+    → is_filed_at vtocs home p ≡ true → named_at (refiled vtocs home p None) home + 1 ≡ named_at vtocs home
+named_less vtocs home u p used_for on =
+    let filed = sym (filed_map vtocs home p) ∙ on in
+    let sum = recounted vtocs home u used_for p None (within_some (map_at vtocs home) p filed) in
+    let one : weight (is_some (get_or (map_at vtocs home) p None)) ≡ 1 = ap weight filed in
+    omega (arith, sum, one)
+
+-- a page wasn't filed, and is now
+pub named_more : (vtocs : List (List (Option VtocEntry))) (home : Home) (u p r : ℕ) → uid_at vtocs home ≡ Some u
+    → is_filed_at vtocs home p ≡ false → is_filed_at (refiled vtocs home p (Some r)) home p ≡ true
+    → named_at (refiled vtocs home p (Some r)) home ≡ named_at vtocs home + 1
+named_more vtocs home u p r used_for off on =
+    let filed = sym (filed_map (refiled vtocs home p (Some r)) home p) ∙ on in
+    let lt = within_some (map_at (refiled vtocs home p (Some r)) home) p filed in
+    let long : length (map_at (refiled vtocs home p (Some r)) home) ≡ length (map_at vtocs home)
+    = ap length (map_refiled vtocs home u used_for p (Some r)) ∙ length-set (map_at vtocs home) p (Some r) in
+    let sum = recounted vtocs home u used_for p (Some r) (omega (arith, lt, long)) in
+    let none : weight (is_some (get_or (map_at vtocs home) p None)) ≡ 0
+    = ap weight (sym (filed_map vtocs home p) ∙ off) in
+    omega (arith, sum, none)
+
+-- ---- the records in use, by the accounts before and after
+
+flip : (a b : ℕ) → weight (eqb a b) ≡ weight (eqb b a)
+flip a b = by (eqb a b) refl
+  where
+    by : (z : Bool) → eqb a b ≡ z → weight z ≡ weight (eqb b a)
+    by true e = (let same : a ≡ b = eqb-true a b e in
+        ap weight (sym (ap (λ (x : ℕ). eqb b x) same ∙ own b)))
+      where
+        own : (x : ℕ) → eqb x x ≡ true
+        own x = grind (arith, nat_tests)
+    by false e = (let ne : a ≢ b = grind (arith, nat_tests) in ap weight (sym (ne_eqb b a (λ x. ne (sym x)))))
+
+module _ (a b : AccountMaps) (uid count : ℕ) (change : Recounts a b uid count) where
+  pub count_here : count_of b uid ≡ count
+  count_here = change.counts uid ∙ ap (λ (z : Bool). cond z count (count_of a uid)) (own uid)
+    where
+      own : (x : ℕ) → eqb x x ≡ true
+      own x = grind (arith, nat_tests)
+
+  pub count_other : (u : ℕ) → u ≢ uid → count_of b u ≡ count_of a u
+  count_other u ne = change.counts u
+      ∙ ap (λ (z : Bool). cond z count (count_of a u)) (ne_eqb uid u (λ e. ne (sym e)))
+
+  pub home_same : (u : ℕ) → home_of b u ≡ home_of a u
+  home_same u =
+      ap (λ (v : ℕ). record { volume = v; entry = entry_of b u })
+      (ap (λ (ns : List Node). volume_in ns u) change.nodes)
+      ∙ ap (λ (e : ℕ). record { volume = volume_in a.nodes u; entry = e })
+      (ap (λ (es : List ℕ). look (map (λ n. n.uid) b.nodes) es u) change.entries
+      ∙ ap (λ (ns : List Node). look (map (λ n. n.uid) ns) a.entries u) change.nodes)
+
+  pub there_same : (u : ℕ) → is_there b.nodes u ≡ is_there a.nodes u
+  there_same u = ap (λ (ns : List Node). is_there ns u) change.nodes
+
+-- the stored pages that the accounts count on a volume, with one of a segment there and without it
+taken_one : (ns : List Node) (small large : List (ℕ × ℕ)) (uid v : ℕ) → IsOneMore small large uid
+    → taken_on ns large v ≡ weight (eqb (volume_in ns uid) v) + taken_on ns small v
+unfolding taken_on
+taken_one ns small large uid v more = more.each (λ n. eqb (volume_in ns n) v)
+
+more_taken : (count : ℕ → ℕ) (volume v : ℕ) → one_more count volume v ≡ weight (eqb v volume) + count v
+unfolding one_more
+more_taken count volume v = by (eqb v volume)
+  where
+    by : (z : Bool) → cond z (count v + 1) (count v) ≡ weight z + count v
+    by true = omega arith
+    by false = omega arith
+
+less_taken : (count : ℕ → ℕ) (volume v n : ℕ) → count v ≡ weight (eqb v volume) + n → one_less count volume v ≡ n
+unfolding one_less
+less_taken count volume v n = by (eqb v volume)
+  where
+    by : (z : Bool) → count v ≡ weight z + n → cond z (count v - 1) (count v) ≡ n
+    by true e = omega (arith, e)
+    by false e = omega (arith, e)
+
+module _ (a b : AccountMaps) (uid : ℕ) (old now : List (List Bool)) where
+  -- a page more
+  pub records_more : Recounts a b uid (count_of a uid + 1)
+      → taken now ≡ one_more (taken old) (volume_in a.nodes uid)
+      → ((stored : List (ℕ × ℕ)) (v : ℕ) → Counts a stored → taken old v ≡ taken_on a.nodes stored v)
+      → (stored : List (ℕ × ℕ)) (v : ℕ) → Counts b stored → taken now v ≡ taken_on b.nodes stored v
+  records_more change counted was stored v counts =
+      let here : count_of b uid ≡ count_of a uid + 1 = count_here a b uid (count_of a uid + 1) change in
+      let all : count_of b uid ≡ pages_by (λ n. eqb n uid) stored = counts uid in
+      let out = one_out stored uid (omega (arith, here, all)) in
+      let each : Counts a out.0 = λ u. (
+      let one : pages_by (λ n. eqb n u) stored ≡ weight (eqb uid u) + pages_by (λ n. eqb n u) out.0
+      = out.1.each (λ n. eqb n u) in
+      let told : count_of b u ≡ pages_by (λ n. eqb n u) stored = counts u in
+      before u (pages_by (λ n. eqb n u) out.0) change (told ∙ one)) in
+      let rest : taken old v ≡ taken_on a.nodes out.0 v = was out.0 v each in
+      let sum : taken_on a.nodes stored v ≡ weight (eqb (volume_in a.nodes uid) v) + taken_on a.nodes out.0 v
+      = taken_one a.nodes out.0 stored uid v out.1 in
+      let same = flip v (volume_in a.nodes uid) in
+      ap (λ (f : ℕ → ℕ). f v) counted ∙ more_taken (taken old) (volume_in a.nodes uid) v
+      ∙ omega (arith, rest, sum, same)
+      ∙ ap (λ (ns : List Node). taken_on ns stored v) (sym change.nodes)
+    where
+      before : (u n : ℕ) → Recounts a b uid (count_of a uid + 1) → count_of b u ≡ weight (eqb uid u) + n
+          → count_of a u ≡ n
+      before u n change e = elim (cases_eq u uid) [
+        | inl is ↦ (let here = count_here a b uid (count_of a uid + 1) change in
+            let one : weight (eqb uid u) ≡ 1 = ap (λ (x : ℕ). weight (eqb uid x)) is ∙ ap weight (own uid) in
+            let at : count_of b u ≡ count_of b uid = ap (count_of b) is in
+            let from : count_of a u ≡ count_of a uid = ap (count_of a) is in
+            omega (arith, here, one, at, from, e))
+        | inr ne ↦ (let none : weight (eqb uid u) ≡ 0 = ap weight (ne_eqb uid u (λ x. ne (sym x))) in
+            let same = count_other a b uid (count_of a uid + 1) change u ne in omega (arith, none, same, e))
+      ]
+        where
+          own : (x : ℕ) → eqb x x ≡ true
+          own x = grind (arith, nat_tests)
+
+  -- a page less
+  pub records_less : Recounts a b uid (count_of a uid - 1) → 1 ≤ count_of a uid
+      → taken now ≡ one_less (taken old) (volume_in a.nodes uid)
+      → ((stored : List (ℕ × ℕ)) (v : ℕ) → Counts a stored → taken old v ≡ taken_on a.nodes stored v)
+      → (stored : List (ℕ × ℕ)) (v : ℕ) → Counts b stored → taken now v ≡ taken_on b.nodes stored v
+  records_less change some counted was stored v counts =
+      let one = one_first (uid, 0) stored uid refl in
+      let each : Counts a ((uid, 0) ∷ stored) = λ u. after u change (counts u) ∙ sym (one.each (λ n. eqb n u)) in
+      let large : taken old v ≡ taken_on a.nodes ((uid, 0) ∷ stored) v = was ((uid, 0) ∷ stored) v each in
+      let sum : taken_on a.nodes ((uid, 0) ∷ stored) v
+      ≡ weight (eqb (volume_in a.nodes uid) v) + taken_on a.nodes stored v
+      = taken_one a.nodes stored ((uid, 0) ∷ stored) uid v one in
+      let same = flip v (volume_in a.nodes uid) in
+      ap (λ (f : ℕ → ℕ). f v) counted
+      ∙ less_taken (taken old) (volume_in a.nodes uid) v (taken_on a.nodes stored v) (omega (arith, large, sum, same))
+      ∙ ap (λ (ns : List Node). taken_on ns stored v) (sym change.nodes)
+    where
+      after : (u : ℕ) → Recounts a b uid (count_of a uid - 1) → count_of b u ≡ pages_by (λ n. eqb n u) stored
+          → count_of a u ≡ weight (eqb uid u) + pages_by (λ n. eqb n u) stored
+      after u change e = elim (cases_eq u uid) [
+        | inl is ↦ (let here = count_here a b uid (count_of a uid - 1) change in
+            let one : weight (eqb uid u) ≡ 1 = ap (λ (x : ℕ). weight (eqb uid x)) is ∙ ap weight (own uid) in
+            let at : count_of b u ≡ count_of b uid = ap (count_of b) is in
+            let from : count_of a u ≡ count_of a uid = ap (count_of a) is in
+            omega (arith, here, one, at, from, e, some))
+        | inr ne ↦ (let none : weight (eqb uid u) ≡ 0 = ap weight (ne_eqb uid u (λ x. ne (sym x))) in
+            let same = count_other a b uid (count_of a uid - 1) change u ne in omega (arith, none, same, e))
+      ]
+        where
+          own : (x : ℕ) → eqb x x ≡ true
+          own x = grind (arith, nat_tests)
+
+-- ---- sizes
+
+module _ (old now : Plain) (counts : KeepsCounts old now) where
+  pub used_same : (v : ℕ) → used now.vtocs v ≡ used old.vtocs v
+  used_same v = sym (get_or-map (count_by is_some) now.vtocs v [])
+      ∙ ap (λ (ns : List ℕ). get_or ns v 0) counts.used ∙ get_or-map (count_by is_some) old.vtocs v []
+
+  pub entries_same : (v : ℕ) → entries now.vtocs v ≡ entries old.vtocs v
+  entries_same v = sym (get_or-map (length {A = Option VtocEntry}) now.vtocs v [])
+      ∙ ap (λ (ns : List ℕ). get_or ns v 0) counts.places
+      ∙ get_or-map (length {A = Option VtocEntry}) old.vtocs v []
+
+  pub size_same : (v : ℕ) → size now.records v ≡ size old.records v
+  size_same v = sym (get_or-map (length {A = Bool}) now.records v [])
+      ∙ ap (λ (ns : List ℕ). get_or ns v 0) counts.flags ∙ get_or-map (length {A = Bool}) old.records v []
+
+-- ---- the whole
+
+-- the file map of one segment has changed, and its count with it
+module _ (old now : Plain) (a b : AccountMaps) (uid count : ℕ) (change : Recounts a b uid count)
+    (there : is_there a.nodes uid ≡ true)
+    (uids : (other : Home) → uid_at now.vtocs other ≡ uid_at old.vtocs other)
+    (maps : (other : Home) → other ≢ home_of a uid → map_at now.vtocs other ≡ map_at old.vtocs other)
+    (housed : AreHoused a old.vtocs) where
+  pub housed_recounted : AreHoused b now.vtocs
+  housed_recounted = record {
+    homes = λ u t. ap (uid_at now.vtocs) (home_same a b uid count change u) ∙ uids (home_of a u)
+        ∙ housed.homes u (sym (there_same a b uid count change u) ∙ t);
+    there = λ home u e. there_same a b uid count change u ∙ housed.there home u (sym (uids home) ∙ e);
+    only = λ home u e. housed.only home u (sym (uids home) ∙ e) ∙ sym (home_same a b uid count change u);
+  }
+
+  -- another node has another home
+  pub other_home : (u : ℕ) → is_there a.nodes u ≡ true → u ≢ uid → home_of a u ≢ home_of a uid
+  other_home u t ne same = (let both : ◌≡◌ {A = Option ℕ} (Some u) (Some uid) = sym (housed.homes u t)
+      ∙ ap (uid_at old.vtocs) same ∙ housed.homes uid there in ne (the_uid both))
+    where
+      the_uid : ◌≡◌ {A = Option ℕ} (Some u) (Some uid) → u ≡ uid
+      the_uid e = cc
+
+  filed_other : (u q : ℕ) → is_there a.nodes u ≡ true → u ≢ uid
+      → is_filed_at now.vtocs (home_of a u) q ≡ is_filed_at old.vtocs (home_of a u) q
+  filed_other u q t ne = filed_map now.vtocs (home_of a u) q
+      ∙ ap (λ (m : List (Option ℕ)). is_some (get_or m q None)) (maps (home_of a u) (other_home u t ne))
+      ∙ sym (filed_map old.vtocs (home_of a u) q)
+
+  pub counted_recounted : named_at now.vtocs (home_of a uid) ≡ count
+      → ((q : ℕ) → is_filed_at now.vtocs (home_of a uid) q ≡ true → q < pages_in a.nodes uid)
+      → AreCounted a old.vtocs → AreCounted b now.vtocs
+  counted_recounted named inside h = record {
+    counts = λ u t. elim (cases_eq u uid) [
+      | inl is ↦ ap (λ (x : ℕ). named_at now.vtocs (home_of b x)) is
+          ∙ ap (named_at now.vtocs) (home_same a b uid count change uid) ∙ named
+          ∙ sym (ap (count_of b) is ∙ count_here a b uid count change)
+      | inr ne ↦ (let was = sym (there_same a b uid count change u) ∙ t in
+          ap (named_at now.vtocs) (home_same a b uid count change u)
+          ∙ ap (count_by is_some) (maps (home_of a u) (other_home u was ne))
+          ∙ h.counts u was ∙ sym (count_other a b uid count change u ne))
+    ];
+    inside = λ u q t on. (
+        let was = sym (there_same a b uid count change u) ∙ t in
+        let filed = ap (λ (home : Home). is_filed_at now.vtocs home q) (sym (home_same a b uid count change u)) ∙ on in
+        subst (λ (ns : List Node). q < pages_in ns u) (sym change.nodes) (elim (cases_eq u uid) [
+          | inl is ↦ subst (λ (x : ℕ). q < pages_in a.nodes x) (sym is)
+              (inside q (ap (λ (x : ℕ). is_filed_at now.vtocs (home_of a x) q) (sym is) ∙ filed))
+          | inr ne ↦ h.inside u q was (sym (filed_other u q was ne) ∙ filed)
+        ]));
+    absent = λ u off. elim (cases_eq u uid) [
+      | inl is ↦ (let clash : true ≡ false = sym there ∙ ap (is_there a.nodes) (sym is)
+          ∙ sym (there_same a b uid count change u) ∙ off in cc)
+      | inr ne ↦ count_other a b uid count change u ne ∙ h.absent u (sym (there_same a b uid count change u) ∙ off)
+    ];
+    most = λ u. subst (λ (ns : List Node). pages_in ns u ≤ 256) (sym change.nodes) (h.most u);
+    flat = λ u d. ap (λ (ns : List Node). pages_in ns u) change.nodes
+        ∙ h.flat u (ap (λ (ns : List Node). has_directory ns u) (sym change.nodes) ∙ d);
+  }
+
+  pub store_recounted : (ast next : ActiveSegs) (links : Links) (whos : List Who)
+      → next.entries ≡ ast.entries → next.sizes ≡ ast.sizes → KeepsCounts old now
+      → named_at now.vtocs (home_of a uid) ≡ count
+      → ((q : ℕ) → is_filed_at now.vtocs (home_of a uid) q ≡ true → q < pages_in a.nodes uid)
+      → ((stored : List (ℕ × ℕ)) (v : ℕ) → Counts b stored → taken now.records v ≡ taken_on b.nodes stored v)
+      → IsStore old ast links a whos → IsStore now next links b whos
+  store_recounted ast next links whos entries sizes keeps named inside records h = record {
+    housed = housed_recounted;
+    counted = counted_recounted named inside h.counted;
+    taken = record {
+      records = records;
+      entries = λ v. used_same old now keeps v ∙ h.taken.entries v
+          ∙ ap (λ (ns : List Node). entries_on ns v) (sym change.nodes);
+      short = λ v. subst (λ (n : ℕ). n < 65536) (sym (size_same old now keeps v)) (h.taken.short v);
+    };
+    active = subst (λ (ns : List Node). AreInTree ns next) (sym change.nodes) still;
+    rights = subst (λ (ns : List Node). HaveRights ns next.entries links whos) (sym change.nodes)
+        (subst (λ (e : List (Option Entry)). HaveRights a.nodes e links whos) (sym entries) h.rights);
+    known = record {
+      older = λ process number u e. subst (λ (n : ℕ). u < n) (sym change.next) (h.known.older process number u e);
+      processes = h.known.processes;
+    };
+  }
+    where
+      still : AreInTree a.nodes next
+      still = record {
+        there = λ place u e. h.active.there place u (rw (← entries) e);
+        superiors = λ place u n e found. rw entries (h.active.superiors place u n (rw (← entries) e) found);
+        pools = λ place u n e found. rw sizes (h.active.pools place u n (rw (← entries) e) found);
+      }

@@ -1,0 +1,106 @@
+-- Whether there is room for a page more of a segment: quota of its account, and a record of its volume.
+use Rattle.std.proofs.Common.{◌≡◌, ◌≢◌, ℕ, suc, ◌+◌, ◌*◌, ◌/◌, ◌%◌, Bool, true, false, cond, eqb, List, []}
+use Rattle.std.proofs.Common.{◌∷◌, All, OnOk, length, Some, Result, Ok, Err, is_err, refl, sym, ap, ◌∙◌, arith}
+use Rattle.std.specs.Prelude.{count_by}
+use Rattle.std.proofs.lemmas.Bool.{ne_eqb}
+use Rattle.std.proofs.lemmas.List.Sums.{sum_by-cons}
+use Rattle.script.specs.Plans.{Plan}
+use Rattle.script.specs.declared.commands.RefKind.TheVariants as kind
+use Rattle.book.specs.declared.replies.Reply.TheVariants as reply
+use Rattle.accounts.specs.Maps.{AccountMaps, Counts}
+use Rattle.quota_cells.specs.declared.Full.{Full}
+use Rattle.quota_cells.specs.Scratch.{charge_answer}
+use Rattle.tree_model.specs.Tree.{Node, account_of, quota_in, taken_on, used_by}
+use Rattle.flat_model.specs.Pages.{with_stored, with_word}
+use Rattle.flat_model.specs.References.{after_reference, is_used_up, is_volume_full, room_reply, written_by}
+use Rattle.flat_model.specs.Store.{Store, known_uid}
+use Rattle.page_control.specs.Plain.{plain}
+use Rattle.page_control.specs.Counts.{is_full, size}
+use Rattle.storage_ops.specs.Paged.{done_or, page_made}
+use Rattle.storage_ops.specs.Shown.{IsStore, Shows, ShowsTree, Storage}
+
+pub on_ok : {E P : Type 0} (r : Result (Unit {0}) E) → false ≡ is_err r → OnOk r P → P
+on_ok (Ok x) e p = p
+on_ok (Err x) e p = cc
+
+pub ok_then : {E P Q : Type 0} (r : Result (Unit {0}) E) → (P → Q) → OnOk r P → OnOk r Q
+ok_then (Ok x) f p = f p
+ok_then (Err x) f p = p
+
+-- all are in use exactly where they are as many as there are
+pub all_taken : (flags : List Bool) → All (λ flag. flag ≡ true) flags → count_by (λ flag. flag) flags ≡ length flags
+all_taken [] all = refl
+all_taken (flag ∷ flags) all =
+    let first = sum_by-cons (λ (x : Bool). cond {A = ℕ} x 1 0) flag flags in
+    let here : flag ≡ true = all 0 true (omega arith) in
+    let one : cond {A = ℕ} flag 1 0 ≡ 1 = ap (λ (x : Bool). cond {A = ℕ} x 1 0) here in
+    let rest = all_taken flags (λ k d lt. all (suc k) d (omega (arith, lt))) in
+    omega (arith, first, one, rest)
+
+-- the account of a segment has used up its quota exactly where it can't be charged
+pub used_told : (s : Store) (a : AccountMaps) (uid : ℕ) (r : Result (Unit {0}) Full) → ShowsTree s a
+    → ((stored : List (ℕ × ℕ)) → Counts a stored → r ≡ charge_answer a.nodes stored uid)
+    → is_err r ≡ is_used_up s uid
+used_told s a uid r h answer =
+    ap is_err (answer s.stored h.counts) ∙ ap (λ (ns : List Node). is_err (charge_answer ns s.stored uid)) (sym h.nodes)
+    ∙ by (eqb (used_by s.nodes s.stored (account_of s.nodes uid)) (quota_in s.nodes (account_of s.nodes uid)))
+  where
+    by : (z : Bool)
+        → is_err (cond {A = Result (Unit {0}) Full} z (Err (record { account = account_of s.nodes uid })) (Ok tt)) ≡ z
+    by true = refl
+    by false = refl
+
+-- a volume is full exactly where its records are all in use
+pub full_told : {D : Type 0} (drive : D → List (List ℕ)) (p : Plan) (s : Store) (t : Storage D) (v : ℕ)
+    → IsStore (plain drive t.segs.pages) t.segs.ast t.segs.links t.accounts t.whos → Shows drive p s t
+    → is_full t.segs.pages.volumes.records v ≡ is_volume_full p s v
+full_told drive p s t v store h =
+    ap (λ (n : ℕ). eqb n (size t.segs.pages.volumes.records v))
+    (store.taken.records s.stored v h.tree.counts
+    ∙ ap (λ (ns : List Node). taken_on ns s.stored v) (sym h.tree.nodes))
+    ∙ ap (λ (n : ℕ). eqb (taken_on s.nodes s.stored v) n) (sym (h.script.records v))
+
+-- ---- the answers
+
+module _ (p : Plan) (s : Store) (n : Node) where
+  -- no record is left
+  pub no_record : (used full : Bool) → is_used_up s n.uid ≡ used → is_volume_full p s n.volume ≡ full → full ≡ true
+      → Err (cond used reply.Quota reply.NoRecord) ≡ done_or (room_reply p s n reply.Done)
+  no_record true full at_used at_full on = sym (ap (λ (z : Bool). done_or (cond z reply.Quota (cond (is_volume_full p s
+      n.volume) reply.NoRecord reply.Done))) at_used)
+  no_record false full at_used at_full on =
+      sym (ap (λ (z : Bool). done_or (cond z reply.Quota (cond (is_volume_full p s n.volume)
+      reply.NoRecord reply.Done)))
+      at_used ∙ ap (λ (z : Bool). done_or (cond z reply.NoRecord reply.Done)) (at_full ∙ on))
+
+  -- no quota is left
+  pub no_quota : is_used_up s n.uid ≡ true → Err reply.Quota ≡ done_or (room_reply p s n reply.Done)
+  no_quota at_used = sym (ap (λ (z : Bool). done_or (cond z reply.Quota (cond (is_volume_full p s n.volume)
+      reply.NoRecord reply.Done))) at_used)
+
+  -- both are
+  pub room : is_used_up s n.uid ≡ false → is_volume_full p s n.volume ≡ false
+      → Ok tt ≡ done_or (room_reply p s n reply.Done)
+  room at_used at_full =
+      sym (ap (λ (z : Bool). done_or (cond z reply.Quota (cond (is_volume_full p s n.volume)
+      reply.NoRecord reply.Done)))
+      at_used ∙ ap (λ (z : Bool). done_or (cond z reply.NoRecord reply.Done)) at_full)
+
+-- ---- by process and number
+
+-- what the flat store has once a word other than 0 is written into a page
+pub written_made : (s : Store) (process number offset w uid : ℕ) → known_uid s process number ≡ Some uid → w ≢ 0
+    → page_made s uid (offset / 1024) (offset % 1024) w
+    ≡ after_reference s process (record { number = number; offset = offset; kind = kind.Write w })
+unfolding after_reference
+written_made s process number offset w uid known full =
+    let same : 1024 * (offset / 1024) + offset % 1024 ≡ offset = omega arith in
+    ap (λ (o : ℕ). record s {
+      words = with_word s.words uid o w;
+      stored = with_stored s.stored uid (offset / 1024);
+    }) same
+    ∙ ap (λ (z : Bool). record s {
+      words = with_word s.words uid offset w;
+      stored = cond z s.stored (with_stored s.stored uid (offset / 1024));
+    }) (sym (ne_eqb w 0 full))
+    ∙ ap (written_by s offset (kind.Write w)) (sym known)
