@@ -1,4 +1,5 @@
 pub mod Alike
+pub mod ChainDown
 pub mod Changed
 pub mod Dropped
 pub mod Entries
@@ -7,6 +8,7 @@ pub mod Homes
 pub mod Known
 pub mod Lengths
 pub mod Less
+pub mod LinkLaws
 pub mod Made
 pub mod MoveReplies
 pub mod NamingLaws

@@ -1,3 +1,4 @@
 pub mod Cut
+pub mod Connecting
 pub mod Paged
 pub mod Shown

@@ -11,6 +11,7 @@
 
 mod commands;
 mod cutting;
+mod connecting;
 mod deleting;
 mod making;
 mod naming;

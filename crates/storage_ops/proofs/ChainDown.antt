@@ -1,0 +1,312 @@
+-- The chain of a node, and the next segment of it that becomes active.
+use Rattle.std.proofs.Common.{◌≡◌, ◌≢◌, ℕ, zero, suc, ◌-◌, ◌<◌, ◌≤◌, true, eqb, List, []}
+use Rattle.std.proofs.Common.{◌∷◌, length, map, Option, Some, None, get_or, set, is_some, refl, sym, ap, subst}
+use Rattle.std.proofs.Common.{◌∙◌, arith, inl, inr}
+use Rattle.std.proofs.lemmas.Bool.{cases_Bool, cases_eq}
+use Rattle.std.proofs.lemmas.List.{get_or-map, get_or-reverse, get_or-set_other, length-map, length-reverse}
+use Rattle.accounts.specs.Maps.{AccountMaps}
+use Rattle.dir_tree.specs.Nodes.{chain_of}
+use Rattle.mnames.specs.declared.modes.Mode.{Mode}
+use Rattle.mnames.specs.declared.principals.Who.{Who}
+use Rattle.script.specs.Plans.{Plan}
+use Rattle.flat_model.specs.Store.{Store}
+use Rattle.tree_model.specs.Tree.{Node, above, has_directory, node_in, pool_of, step_up}
+use Rattle.tree_model.specs.Trees.{IsTree}
+use Rattle.tree_model.proofs.TreeLaws.{IsUp, above_once, depth, superior_in, superior_up}
+use Rattle.descriptor_seg.specs.declared.Sdw.TheVariants.{Present}
+use Rattle.descriptor_seg.specs.Descriptors.{sdw_at}
+use Rattle.volumes.specs.Volumes.{HasParts, Vols}
+use Rattle.active_segs.specs.declared.Entry.{Entry}
+use Rattle.active_segs.specs.Active.{ActiveSegs, entry_at, superior_in as superior_of_entry}
+use Rattle.active_segs.specs.Active.{uid_at as uid_in_place, uid_in}
+use Rattle.active_segs.specs.Pool.{IsInPool}
+use Rattle.active_segs.specs.Victim.{first_off_chain, hand_past}
+use Rattle.page_control.specs.declared.Home.{Home}
+use Rattle.page_control.specs.Plain.{Plain, plain}
+use Rattle.page_control.specs.Picture.{is_filed_at}
+use Rattle.page_control.specs.Tied.{map_at, uid_at as uid_homed}
+use Rattle.seg_control.specs.declared.Link.{Link}
+use Rattle.seg_control.specs.declared.Next.{Next}
+use Rattle.seg_control.specs.declared.Next.TheVariants.{Activated, Victim, Whole}
+use Rattle.seg_control.specs.Control.{Control, Links, leads, sdws_at}
+use Rattle.seg_control.specs.Kept.{AreLinked}
+use Rattle.seg_control.specs.Next.{IsNext, MayActivate, link_at, no_link, superior_of, uids_of}
+use Rattle.seg_control.specs.Next.{words_in}
+use Rattle.storage_ops.specs.Connecting.{HasOneToGo, IsChainDown}
+use Rattle.storage_ops.specs.Shown.{AreInTree, IsStore, Shows, Storage, home_of, is_there, pages_in}
+use Rattle.storage_ops.specs.Shown.{pages_of}
+use Rattle.storage_ops.proofs.Homes.{filed_map}
+use Rattle.storage_ops.proofs.Known.{set_told}
+use Rattle.storage_ops.proofs.NodeLaws.{found_there}
+use Rattle.storage_ops.proofs.PageFacts.{directory_found, room_of}
+use Rattle.storage_ops.proofs.Still.{store_still}
+use Rattle.storage_ops.proofs.Tables.{homed_volume}
+
+-- ---- what lies above each
+
+some_first : (f : ℕ → List ℕ) (o : Option ℕ) (y : ℕ) (ys : List ℕ) → step_up f o ≡ y ∷ ys → (o ≡ Some y) × (f y ≡ ys)
+some_first f None y ys e = cc
+some_first f (Some s) y ys e =
+    let first : s ≡ y = cc in
+    let rest : f s ≡ ys = cc in
+    (ap (λ (n : ℕ). Some n) first, ap f (sym first) ∙ rest)
+
+none_first : (f : ℕ → List ℕ) (o : Option ℕ) → step_up f o ≡ [] → o ≡ None
+none_first f None e = refl
+none_first f (Some s) e = cc
+
+module _ (ns : List Node) (t : IsTree ns) where
+  step : (x : ℕ) (xs : List ℕ) → above ns x ≡ xs → step_up (above ns) (superior_in ns x) ≡ xs
+  step x xs e = sym (above_once ns t x) ∙ e
+
+  -- each superior is the next one up, and there is none above the last
+  next_up : (x : ℕ) (xs : List ℕ) → above ns x ≡ xs → (j : ℕ) → j < length xs
+      → superior_in ns (get_or (x ∷ xs) j 0) ≡ Some (get_or xs j 0)
+  next_up x [] e j lt = absurd (omega (arith, lt))
+  next_up x (y ∷ ys) e zero lt = (some_first (above ns) (superior_in ns x) y ys (step x (y ∷ ys) e)).0
+  next_up x (y ∷ ys) e (suc j) lt = next_up y ys (some_first (above ns) (superior_in ns x) y ys (step x (y ∷ ys) e)).1
+      j (omega (arith, lt))
+
+  last_up : (x : ℕ) (xs : List ℕ) → above ns x ≡ xs → superior_in ns (get_or (x ∷ xs) (length xs) 0) ≡ None
+  last_up x [] e = none_first (above ns) (superior_in ns x) (step x [] e)
+  last_up x (y ∷ ys) e = last_up y ys (some_first (above ns) (superior_in ns x) y ys (step x (y ∷ ys) e)).1
+
+  -- from the root down
+  pub chain_length : (u : ℕ) → length (chain_of ns u) ≤ 10
+  chain_length u = (let long : length (chain_of ns u) ≡ length (u ∷ above ns u) = length-reverse (u ∷ above ns u) in
+      let most = depth ns t u in omega (arith, long, most))
+
+  pub chain_first : (u : ℕ) → superior_in ns (get_or (chain_of ns u) 0 0) ≡ None
+  chain_first u = ap (superior_in ns) (get_or-reverse (u ∷ above ns u) 0 0 (omega arith)
+      ∙ ap (λ (k : ℕ). get_or (u ∷ above ns u) k 0) (omega arith))
+      ∙ last_up u (above ns u) refl
+
+  pub chain_next : (u i : ℕ) → suc i < length (chain_of ns u)
+      → superior_in ns (get_or (chain_of ns u) (suc i) 0) ≡ Some (get_or (chain_of ns u) i 0)
+  chain_next u i lt =
+      let long : length (chain_of ns u) ≡ length (u ∷ above ns u) = length-reverse (u ∷ above ns u) in
+      let here : suc i < length (u ∷ above ns u) = omega (arith, lt, long) in
+      let place : length (u ∷ above ns u) - 1 - i ≡ suc (length (u ∷ above ns u) - 1 - suc i) = omega (arith, here) in
+      ap (superior_in ns) (get_or-reverse (u ∷ above ns u) (suc i) 0 here)
+      ∙ next_up u (above ns u) refl (length (u ∷ above ns u) - 1 - suc i) (omega (arith, here))
+      ∙ ap (λ (n : ℕ). Some n) (sym (get_or-reverse (u ∷ above ns u) i 0 (omega (arith, here))
+      ∙ ap (λ (k : ℕ). get_or (u ∷ above ns u) k 0) place))
+
+  -- each is there
+  directory_there : (ms : List Node) (u : ℕ) → has_directory ms u ≡ true → is_there ms u ≡ true
+  directory_there [] u e = cc
+  directory_there (n ∷ ms) u e = elim (cases_Bool (eqb n.uid u)) [
+    | inl is ↦ rw is refl
+    | inr isnt ↦ rw isnt (directory_there ms u (rw isnt at e))
+  ]
+
+  there_up : (x : ℕ) (xs : List ℕ) → above ns x ≡ xs → is_there ns x ≡ true → (j : ℕ) → j < length (x ∷ xs)
+      → is_there ns (get_or (x ∷ xs) j 0) ≡ true
+  there_up x xs e there zero lt = there
+  there_up x [] e there (suc j) lt = absurd (omega (arith, lt))
+  there_up x (y ∷ ys) e there (suc j) lt =
+      let first = some_first (above ns) (superior_in ns x) y ys (step x (y ∷ ys) e) in
+      let up : IsUp ns x (Some y) = subst (IsUp ns x) first.0 (superior_up ns t x) in
+      there_up y ys first.1 (directory_there ns y up.1) j (omega (arith, lt))
+
+  pub chain_there : (u : ℕ) → is_there ns u ≡ true → (i : ℕ) → i < length (chain_of ns u)
+      → is_there ns (get_or (chain_of ns u) i 0) ≡ true
+  chain_there u there i lt =
+      let long : length (chain_of ns u) ≡ length (u ∷ above ns u) = length-reverse (u ∷ above ns u) in
+      let here : i < length (u ∷ above ns u) = omega (arith, lt, long) in
+      ap (is_there ns) (get_or-reverse (u ∷ above ns u) i 0 here)
+      ∙ there_up u (above ns u) refl there (length (u ∷ above ns u) - 1 - i) (omega (arith, here))
+
+superior_found : (ns : List Node) (u : ℕ) (n : Node) → node_in ns u ≡ Some n → superior_in ns u ≡ n.superior
+superior_found [] u n e = cc
+superior_found (m ∷ ns) u n e = elim (cases_Bool (eqb m.uid u)) [
+  | inl is ↦ (let z : Some m ≡ Some n = rw is at e in let same : m ≡ n = cc in
+      rw is (ap (λ (x : Node). x.superior) same))
+  | inr isnt ↦ rw isnt (superior_found ns u n (rw isnt at e))
+]
+
+-- ---- a chain of a node
+
+module _ (now : Plain) (ast : ActiveSegs) (links : Links) (a : AccountMaps) (whos : List Who) (chain : List Link)
+    (h : IsStore now ast links a whos) (t : IsTree a.nodes) (down : IsChainDown a chain) where
+  chain_uid : (i : ℕ) → i < length chain → (link_at chain i).uid ≡ get_or (chain_of a.nodes down.uid) i 0
+  chain_uid i lt = sym (get_or-map (λ (link : Link). link.uid) chain i no_link 0 lt)
+      ∙ ap (λ (us : List ℕ). get_or us i 0) down.links
+
+  same_length : length chain ≡ length (chain_of a.nodes down.uid)
+  same_length = sym (length-map chain (λ link. link.uid)) ∙ ap length down.links
+
+  pub link_there : (i : ℕ) → i < length chain → is_there a.nodes (link_at chain i).uid ≡ true
+  link_there i lt = ap (is_there a.nodes) (chain_uid i lt)
+      ∙ chain_there a.nodes t down.uid down.there i (omega (arith, lt, same_length))
+
+  pub link_superior : (i : ℕ) (n : Node) → i < length chain → node_in a.nodes (link_at chain i).uid ≡ Some n
+      → n.superior ≡ superior_of chain i
+  link_superior zero n lt e = sym (superior_found a.nodes (link_at chain 0).uid n e)
+      ∙ ap (superior_in a.nodes) (chain_uid 0 lt) ∙ chain_first a.nodes t down.uid
+  link_superior (suc i) n lt e = sym (superior_found a.nodes (link_at chain (suc i)).uid n e)
+      ∙ ap (superior_in a.nodes) (chain_uid (suc i) lt)
+      ∙ chain_next a.nodes t down.uid i (omega (arith, lt, same_length))
+      ∙ ap (λ (u : ℕ). Some u) (sym (chain_uid i (omega (arith, lt))))
+
+  pub link_room : (i : ℕ) → i < length chain
+      → (pages_in a.nodes (link_at chain i).uid ≤ words_in (link_at chain i).pool) × ((link_at chain i).pool < 4)
+  link_room i lt =
+      let found = found_there a.nodes (link_at chain i).uid (link_there i lt) in
+      let pages : pages_in a.nodes (link_at chain i).uid ≡ found.0.pages = ap pages_of found.1 in
+      let room = room_of found.0 (subst (λ (n : ℕ). n ≤ 256) pages (h.counted.most (link_at chain i).uid))
+      (λ d. sym pages ∙ h.counted.flat (link_at chain i).uid
+      (directory_found a.nodes (link_at chain i).uid found.0 found.1 ∙ d)) in
+      let pool = down.pools i found.0 lt found.1 in (
+        subst (λ (k : ℕ). pages_in a.nodes (link_at chain i).uid ≤ words_in k) (sym pool)
+            (subst (λ (n : ℕ). n ≤ words_in (pool_of found.0)) (sym pages) room.0),
+        subst (λ (k : ℕ). k < 4) (sym pool) room.1,
+      )
+
+  pub may_activate : (volumes : ℕ) → length now.vtocs ≤ volumes → HasOneToGo ast chain
+      → MayActivate ast now.vtocs volumes chain
+  may_activate volumes all go = record {
+    few = (let most = chain_length a.nodes t down.uid in omega (arith, most, same_length));
+    pools = λ i lt. (link_room i lt).1;
+    superiors = λ i place lt e. (let found = found_there a.nodes (link_at chain i).uid (link_there i lt) in
+        h.active.superiors place (link_at chain i).uid found.0 e found.1 ∙ link_superior i found.0 lt found.1);
+    volumes_are = λ i lt. (let least = homed_volume now.vtocs (link_at chain i).home (link_at chain i).uid (homed i lt)
+        in omega (arith, least, all));
+    homes = λ i lt. homed i lt;
+    fits = λ i lt. record {
+      none = λ p le. fit i lt p le (get_or (map_at now.vtocs (link_at chain i).home) p None) refl;
+    };
+    off = go.off;
+  }
+    where
+      homed : (i : ℕ) → i < length chain
+          → uid_homed now.vtocs (link_at chain i).home ≡ Some (link_at chain i).uid
+      homed i lt = ap (uid_homed now.vtocs) (down.homes i lt)
+          ∙ h.housed.homes (link_at chain i).uid (link_there i lt)
+
+      fit : (i : ℕ) → i < length chain → (p : ℕ) → words_in (link_at chain i).pool ≤ p → (o : Option ℕ)
+          → get_or (map_at now.vtocs (link_at chain i).home) p None ≡ o → o ≡ None
+      fit i lt p le None e = refl
+      fit i lt p le (Some r) e =
+          let on : is_filed_at now.vtocs (home_of a (link_at chain i).uid) p ≡ true
+          = ap (λ (x : Home). is_filed_at now.vtocs x p) (sym (down.homes i lt))
+          ∙ filed_map now.vtocs (link_at chain i).home p ∙ ap is_some e in
+          let within = h.counted.inside (link_at chain i).uid p (link_there i lt) on in
+          let room = (link_room i lt).0 in
+          absurd (omega (arith, within, room, le))
+
+-- there are as many VTOCs as drives
+pub all_drives : {D : Type 0} (pages : D → List (List ℕ)) (v w : Vols D) → w ≡ v
+    → HasParts (map pages w.drives) w.records w.vtocs → length v.vtocs ≤ length v.drives
+all_drives {D} pages v w same parts =
+    let those : HasParts (map pages v.drives) v.records v.vtocs = subst (λ (x : Vols D). HasParts
+    (map pages x.drives) x.records x.vtocs) same parts in
+    let long : length (map pages v.drives) ≡ length v.drives = length-map v.drives pages in
+    let tables : length v.vtocs ≡ length (map pages v.drives) = those.tables in
+    omega (arith, long, tables)
+
+-- ---- what has become of it
+
+same_entries : (s : ActiveSegs) (pool : ℕ) (o : Option ℕ)
+    → ((hand_past s pool o).entries ≡ s.entries) × ((hand_past s pool o).sizes ≡ s.sizes)
+same_entries s pool None = (refl, refl)
+same_entries s pool (Some found) = (refl, refl)
+
+-- a segment of the chain is active now
+module _ (now : Plain) (ast : ActiveSegs) (links : Links) (a : AccountMaps) (whos : List Who) (chain : List Link)
+    (h : IsStore now ast links a whos) (t : IsTree a.nodes) (down : IsChainDown a chain)
+    (linked : AreLinked ast.entries links) (next : ActiveSegs) (place i : ℕ) (lt : i < length chain)
+    (free : entry_at ast.entries place ≡ None) (in_pool : IsInPool ast.sizes (link_at chain i).pool place)
+    (entries : next.entries ≡ set ast.entries place (Some (record {
+      uid = (link_at chain i).uid;
+      superior = superior_of chain i;
+    })))
+    (sizes : next.sizes ≡ ast.sizes) where
+  now_at : (q : ℕ) → q ≢ place → entry_at next.entries q ≡ entry_at ast.entries q
+  now_at q ne = ap (λ (es : List (Option Entry)). entry_at es q) entries
+      ∙ get_or-set_other ast.entries place q _ None ne
+
+  -- of what is active there, once it is known what was or is there
+  told : (P : Option Entry → Type 0) (q : ℕ)
+      → P (Some (record { uid = (link_at chain i).uid; superior = superior_of chain i })) → P (entry_at ast.entries q)
+      → P (entry_at next.entries q)
+  told P q new old = subst (λ (es : List (Option Entry)). P (entry_at es q)) (sym entries)
+      (set_told P ast.entries place q _ None new old)
+
+  own_uid : (u : ℕ) → ◌≡◌ {A = Option ℕ} (Some (link_at chain i).uid) (Some u) → (link_at chain i).uid ≡ u
+  own_uid u e = cc
+
+  active_next : AreInTree a.nodes next
+  active_next = record {
+    there = λ q u. told (λ o. uid_in o ≡ Some u → is_there a.nodes u ≡ true) q
+        (λ e. ap (is_there a.nodes) (sym (own_uid u e)) ∙ link_there now ast links a whos chain h t down i lt)
+        (λ e. h.active.there q u e);
+    superiors = λ q u n e found. told (λ o. uid_in o ≡ Some u → superior_of_entry o ≡ n.superior) q
+        (λ same. sym (link_superior now ast links a whos chain h t down i n lt
+        (ap (node_in a.nodes) (own_uid u same) ∙ found)))
+        (λ was. h.active.superiors q u n was found) e;
+    pools = λ q u n e found. subst (λ (s : List ℕ). IsInPool s (pool_of n) q) (sym sizes) (elim (cases_eq q place) [
+      | inr ne ↦ h.active.pools q u n (ap uid_in (sym (now_at q ne)) ∙ e) found
+      | inl is ↦ told (λ o. uid_in o ≡ Some u → IsInPool ast.sizes (pool_of n) q) q
+          (λ same. subst (IsInPool ast.sizes (pool_of n)) (sym is)
+          (subst (λ (k : ℕ). IsInPool ast.sizes k place)
+          (down.pools i n lt (ap (node_in a.nodes) (own_uid u same) ∙ found)) in_pool))
+          (λ was. h.active.pools q u n was found) e
+    ]);
+  }
+
+  -- no descriptor led to the place
+  never : (process number q pages u : ℕ) (m : Mode)
+      → sdw_at (sdws_at links.descriptors process) number ≡ Present q m pages → uid_in_place next.entries q ≡ Some u
+      → uid_in_place ast.entries q ≡ Some u
+  never process number q pages u m d e = elim (cases_eq q place) [
+    | inr ne ↦ ap uid_in (sym (now_at q ne)) ∙ e
+    | inl is ↦ (let at = linked.known process number q (ap leads d) in
+        let clash : ◌≡◌ {A = Option ℕ} None (Some at.uid) = ap uid_in (sym free)
+        ∙ ap (uid_in_place ast.entries) (sym is) ∙ at.active in cc)
+  ]
+
+  store_active : IsStore now next links a whos
+  store_active = record {
+    housed = h.housed;
+    counted = h.counted;
+    taken = h.taken;
+    active = active_next;
+    rights = record {
+      modes = λ process number q pages u m n d e found. h.rights.modes process number q pages u m n d
+          (never process number q pages u m d e) found;
+      lengths = λ process number q pages u m n d e found. h.rights.lengths process number q pages u m n d
+          (never process number q pages u m d e) found;
+    };
+    known = h.known;
+  }
+
+pub store_next : {D : Type 0} (drive : D → List (List ℕ)) (old new : Control D) (a : AccountMaps) (whos : List Who)
+    (chain : List Link) (r : Next) → IsNext old new chain r → IsTree a.nodes → IsChainDown a chain
+    → AreLinked old.ast.entries old.links → IsStore (plain drive old.pages) old.ast old.links a whos
+    → IsStore (plain drive new.pages) new.ast new.links a whos
+store_next {D} drive old new a whos chain (Activated place) next t down linked h =
+    subst (λ (x : Control D). IsStore (plain drive x.pages) x.ast x.links a whos) (sym next.1.effect)
+    (store_active (plain drive old.pages) old.ast old.links a whos chain h t down linked _ place next.0
+    next.1.first.within next.1.least.free next.1.least.in_pool refl refl)
+store_next {D} drive old new a whos chain (Victim place) next t down linked h =
+    let same = same_entries old.ast (link_at chain next.0).pool
+    (first_off_chain old.ast (link_at chain next.0).pool (uids_of chain)) in
+    subst (λ (x : Control D). IsStore (plain drive x.pages) x.ast x.links a whos) (sym next.1.effect)
+    (store_still (plain drive old.pages) (plain drive old.pages) old.ast _ old.links a whos refl refl same.0 same.1 h)
+store_next {D} drive old new a whos chain Whole next t down linked h =
+    subst (λ (x : Control D). IsStore (plain drive x.pages) x.ast x.links a whos) (sym next.1) h
+
+shown_ast : {D : Type 0} (drive : D → List (List ℕ)) (p : Plan) (s : Store) (t : Storage D) (ast : ActiveSegs)
+    → Shows drive p s t → Shows drive p s (record t { segs = record t.segs { ast = ast } })
+shown_ast drive p s t ast h = record { tree = h.tree; known = h.known; pages = h.pages; script = h.script }
+
+pub shown_next : {D : Type 0} (drive : D → List (List ℕ)) (p : Plan) (s : Store) (t : Storage D) (new : Control D)
+    (chain : List Link) (r : Next) → IsNext t.segs new chain r → Shows drive p s t
+    → Shows drive p s (record t { segs = new })
+shown_next {D} drive p s t new chain (Activated place) next h =
+    subst (λ (x : Control D). Shows drive p s (record t { segs = x })) (sym next.1.effect) (shown_ast drive p s t _ h)
+shown_next {D} drive p s t new chain (Victim place) next h =
+    subst (λ (x : Control D). Shows drive p s (record t { segs = x })) (sym next.1.effect) (shown_ast drive p s t _ h)
+shown_next {D} drive p s t new chain Whole next h =
+    subst (λ (x : Control D). Shows drive p s (record t { segs = x })) (sym next.1) h

@@ -1,0 +1,115 @@
+-- Descriptors are connected, with the rights of their processes.
+use Rattle.std.proofs.Common.{◌≡◌, ℕ, suc, ◌<◌, List, [], ◌∷◌, length}
+use Rattle.std.proofs.Common.{IsSome, Option, Some, None, get_or, set, refl, sym, ap, subst, ◌∙◌, arith, inl, inr}
+use Rattle.std.proofs.lemmas.Bool.{cases_eq}
+use Rattle.std.proofs.lemmas.List.{get_or-set_other}
+use Rattle.mnames.specs.declared.modes.Mode.{Mode}
+use Rattle.mnames.specs.declared.modes.Mode.TheVariants as mode
+use Rattle.mnames.specs.declared.principals.Who.{Who}
+use Rattle.script.specs.Plans.{Plan}
+use Rattle.accounts.specs.Maps.{AccountMaps}
+use Rattle.tree_model.specs.Access.{access_of}
+use Rattle.tree_model.specs.Tree.{Node, node_in}
+use Rattle.flat_model.specs.Store.{Store}
+use Rattle.descriptor_seg.specs.declared.Sdw.{Sdw}
+use Rattle.descriptor_seg.specs.declared.Sdw.TheVariants.{Fault, Present}
+use Rattle.descriptor_seg.specs.Descriptors.{sdw_at}
+use Rattle.active_segs.specs.Active.{ActiveSegs, uid_at as uid_in_place}
+use Rattle.page_control.specs.Plain.{Plain}
+use Rattle.seg_control.specs.Control.{Links, sdws_at}
+use Rattle.seg_control.specs.Effects.{linked, reconnected}
+use Rattle.seg_control.specs.Kept.{pair_at}
+use Rattle.storage_ops.specs.Connecting.{IsRight}
+use Rattle.storage_ops.specs.Shown.{IsStore, Shows, Storage, who_at}
+use Rattle.storage_ops.proofs.Known.{set_told}
+
+same_place : (p q m n : ℕ) (x y : Mode) → ◌≡◌ {A = Sdw} (Present p x m) (Present q y n)
+    → (p ≡ q) × (x ≡ y) × (m ≡ n)
+same_place p q m n x y e =
+    let first : p ≡ q = cc in
+    let second : x ≡ y = cc in
+    let third : m ≡ n = cc in
+    (first, second, third)
+
+the_uid : (u v : ℕ) → ◌≡◌ {A = Option ℕ} (Some u) (Some v) → u ≡ v
+the_uid u v e = cc
+
+pub some_uid : (o : Option ℕ) → IsSome o → (uid : ℕ) × (o ≡ Some uid)
+some_uid None e = cc
+some_uid (Some uid) e = (uid, refl)
+
+-- what a descriptor of a store is, once one more is connected: as it was, or the new one
+told_linked : (links : Links) (process number place pages : ℕ) (m : Mode) (P : ℕ → Sdw → Type 0)
+    → P process (Present place m pages) → ((q k : ℕ) → P q (sdw_at (sdws_at links.descriptors q) k)) → (q k : ℕ)
+    → P q (sdw_at (sdws_at (linked links process number place m pages).descriptors q) k)
+told_linked links process number place pages m P new old q k = elim (cases_eq q process) [
+  | inr ne ↦ subst (λ (words : List Sdw). P q (sdw_at words k))
+      (sym (get_or-set_other links.descriptors process q (set (sdws_at links.descriptors process) number
+      (Present place m pages)) [] ne)) (old q k)
+  | inl is ↦ set_told (λ (words : List Sdw). P q (sdw_at words k)) links.descriptors process q
+      (set (sdws_at links.descriptors process) number (Present place m pages)) []
+      (set_told (λ (w : Sdw). P q w) (sdws_at links.descriptors process) number k (Present place m pages) Fault
+      (subst (λ (x : ℕ). P x (Present place m pages)) (sym is) new)
+      (subst (λ (x : ℕ). P q (sdw_at (sdws_at links.descriptors x) k)) is (old q k))) (old q k)
+]
+
+module _ (now : Plain) (ast : ActiveSegs) (a : AccountMaps) (whos : List Who) where
+  pub store_linked : (links : Links) (process number place pages uid : ℕ) (m : Mode)
+      → uid_in_place ast.entries place ≡ Some uid → IsRight a.nodes whos process uid m pages
+      → IsStore now ast links a whos → IsStore now ast (linked links process number place m pages) a whos
+  store_linked links process number place pages uid m at right h = record {
+    housed = h.housed;
+    counted = h.counted;
+    taken = h.taken;
+    active = h.active;
+    rights = record {
+      modes = λ q k x count u y n d e found. told_linked links process number place pages m
+          (λ (j : ℕ) (w : Sdw). w ≡ Present x y count → y ≡ access_of (who_at whos j) n.rows)
+          (λ same. (let is = same_place place x pages count m y same in
+          sym is.1 ∙ right.mode_is n (own x u n is.0 e found)))
+          (λ j i w. h.rights.modes j i x count u y n w e found) q k d;
+      lengths = λ q k x count u y n d e found. told_linked links process number place pages m
+          (λ (j : ℕ) (w : Sdw). w ≡ Present x y count → count ≡ n.pages)
+          (λ same. (let is = same_place place x pages count m y same in
+          sym is.2 ∙ right.pages_are n (own x u n is.0 e found)))
+          (λ j i w. h.rights.lengths j i x count u y n w e found) q k d;
+    };
+    known = h.known;
+  }
+    where
+      own : (x u : ℕ) (n : Node) → place ≡ x → uid_in_place ast.entries x ≡ Some u → node_in a.nodes u ≡ Some n
+          → node_in a.nodes uid ≡ Some n
+      own x u n is e found = ap (node_in a.nodes) (the_uid uid u (sym at ∙ ap (uid_in_place ast.entries) is ∙ e))
+          ∙ found
+
+  -- one after the other
+  pub store_reconnected : (place pages uid : ℕ) → uid_in_place ast.entries place ≡ Some uid
+      → (list : List (ℕ × ℕ)) (modes : List Mode) (links : Links)
+      → ((i : ℕ) → i < length list → IsRight a.nodes whos (pair_at list i).0 uid (get_or modes i mode.Null) pages)
+      → IsStore now ast links a whos → IsStore now ast (reconnected links place list modes pages) a whos
+  unfolding reconnected
+  store_reconnected place pages uid at [] modes links each h = h
+  store_reconnected place pages uid at (pair ∷ list) [] links each h = h
+  store_reconnected place pages uid at (pair ∷ list) (m ∷ modes) links each h =
+      store_reconnected place pages uid at list modes (linked links pair.0 pair.1 place m pages)
+      (λ i lt. each (suc i) (omega (arith, lt)))
+      (store_linked links pair.0 pair.1 place pages uid m at (each 0 (omega arith)) h)
+
+pub known_reconnected : (place pages : ℕ) (list : List (ℕ × ℕ)) (modes : List Mode) (links : Links)
+    → (reconnected links place list modes pages).known ≡ links.known
+unfolding reconnected
+known_reconnected place pages [] modes links = refl
+known_reconnected place pages (pair ∷ list) [] links = refl
+known_reconnected place pages (pair ∷ list) (m ∷ modes) links =
+    known_reconnected place pages list modes (linked links pair.0 pair.1 place m pages)
+
+-- what is shown has no descriptor
+pub shown_linked : {D : Type 0} (drive : D → List (List ℕ)) (p : Plan) (s : Store) (t : Storage D) (links : Links)
+    → links.known ≡ t.segs.links.known → Shows drive p s t
+    → Shows drive p s (record t { segs = record t.segs { links = links } })
+shown_linked drive p s t links known h = record {
+  tree = h.tree;
+  known = h.known ∙ sym known;
+  pages = h.pages;
+  script = h.script;
+}

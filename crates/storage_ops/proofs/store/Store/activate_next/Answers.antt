@@ -1,0 +1,59 @@
+use Rattle.std.proofs.Common.{◌≡◌, ℕ, length, sym, ap, subst, ◌∙◌}
+use Rattle.page_control.specs.Plain.{Paging, plain}
+use Rattle.seg_control.specs.declared.Next.TheVariants as Next
+use Rattle.seg_control.specs.Next.{IsGoing, IsNext}
+use Rattle.storage_ops.specs.Connecting.{HasOneToGo, IsChainDown}
+use Rattle.storage_ops.specs.Shown.{Shows, Storage}
+use Rattle.storage_ops.proofs.ChainDown.{all_drives, may_activate, shown_next, store_next}
+use Rattle.storage_ops.proofs.store.Store.activate_next.Goals as goal
+
+pub activate_next-requires : goal.activate_next-requires
+activate_next-requires g c =
+    let t : Storage g.row.D.Denot = record {
+      accounts = c.self.inside.accounts;
+      segs = c.self.inside.segs;
+      whos = c.self.inside.whos.items;
+    } in
+    let down = subst (λ (x : Storage g.row.D.Denot). IsChainDown x.accounts c.args.chain.now) (sym c.self.view_is)
+    c.requires.chain in
+    let off = subst (λ (x : Storage g.row.D.Denot). HasOneToGo x.segs.ast c.args.chain.now) (sym c.self.view_is)
+    c.requires.off in
+    may_activate (plain g.D.Drive.pages t.segs.pages) t.segs.ast t.segs.links t.accounts t.whos c.args.chain.now
+    c.self.invariant c.root-root.ensures.tree down (length t.segs.pages.volumes.drives)
+    (all_drives g.D.Drive.pages t.segs.pages.volumes c.volumes.result.now
+    (c.volumes.ensures.volumes ∙ ap (λ (x : Paging g.row.D.Denot). x.volumes) c.pages.ensures.pages)
+    c.count-count.ensures.parts) off
+
+pub returns-clause-next : goal.returns-clause-next
+returns-clause-next g c =
+    subst (λ (x : Storage g.row.D.Denot). IsNext x.segs c.activate_next.new.self c.args.chain.now
+    c.activate_next.result) c.self.view_is c.activate_next.ensures.next
+
+pub returns-clause-victim : goal.returns-clause-victim
+returns-clause-victim g c =
+    subst (λ (x : Storage g.row.D.Denot). (place : ℕ) → IsGoing x.segs.ast c.args.chain.now place
+    → c.activate_next.result ≡ Next.Victim place) c.self.view_is c.activate_next.ensures.victim
+
+pub invariant_of-self : goal.invariant_of-self
+invariant_of-self g c =
+    let t : Storage g.row.D.Denot = record {
+      accounts = c.self.inside.accounts;
+      segs = c.self.inside.segs;
+      whos = c.self.inside.whos.items;
+    } in
+    let down = subst (λ (x : Storage g.row.D.Denot). IsChainDown x.accounts c.args.chain.now) (sym c.self.view_is)
+    c.requires.chain in
+    store_next g.D.Drive.pages t.segs c.activate_next.new.self t.accounts t.whos c.args.chain.now
+    c.activate_next.result c.activate_next.ensures.next c.root-root.ensures.tree down c.trailers-kst.ensures.linked
+    c.self.invariant
+
+pub returns-clause-shown : goal.returns-clause-shown
+returns-clause-shown g c = λ p s h.
+    let t : Storage g.row.D.Denot = record {
+      accounts = c.self.inside.accounts;
+      segs = c.self.inside.segs;
+      whos = c.self.inside.whos.items;
+    } in
+    shown_next g.D.Drive.pages p s t c.activate_next.new.self c.args.chain.now c.activate_next.result
+    c.activate_next.ensures.next
+    (subst (λ (x : Storage g.row.D.Denot). Shows g.D.Drive.pages p s x) (sym c.self.view_is) h)
