@@ -1,2 +1,11 @@
+pub mod Actions
+pub mod After
+pub mod Boot
+pub mod Commits
+pub mod Jobs
 pub mod Reads
+pub mod Refusal
+pub mod Shutdown
 pub mod State
+pub mod Steps
+pub mod Turns

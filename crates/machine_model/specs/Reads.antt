@@ -1,15 +1,15 @@
 -- What is read of a machine: of its processors and processes, its frames, its active segments and its descriptors.
-use Rattle.std.specs.Prelude.{ℕ, ◌+◌, Bool, true, false, not, ◌&&◌, ◌==◌, nat_le, is_some, is_none, map, filter, position, slice_index_or, List, [], ◌∷◌, ◌++◌, drop, Option, Some, None}
+use Rattle.std.specs.Prelude.{ℕ, ◌+◌, Bool, true, false, not, ◌&&◌, ◌==◌, if◌then◌else◌, is_some, is_none, map, filter}
+use Rattle.std.specs.Prelude.{position, slice_index_or, List, [], ◌∷◌, ◌++◌, drop, Option, Some, None}
 use Rattle.std.specs.List.{find, list_any, range_with_len}
 use Rattle.mnames.specs.declared.modes.Mode.{Mode}
-use Rattle.script.specs.Plans.{command_at, nobody}
+use Rattle.script.specs.Plans.{command_at}
 use Rattle.script.specs.declared.commands.Command.{Command}
 use Rattle.tree_model.specs.Access.{access_of}
-use Rattle.tree_model.specs.Tree.{Node, node_in}
+use Rattle.tree_model.specs.Tree.{Node}
 use Rattle.accounts.specs.Maps.{rows_in}
 use Rattle.flat_model.specs.Legal.{store_after}
 use Rattle.flat_model.specs.Store.{Store}
-use Rattle.core_map.specs.declared.Frame.{Frame}
 use Rattle.core_map.specs.CoreMap.{Core, started_page}
 use Rattle.page_table.specs.declared.Ptw.{Ptw}
 use Rattle.page_table.specs.declared.Ptw.TheVariants as ptw

@@ -1,5 +1,6 @@
--- What the machine has between two steps: the book, the store with its tables, marks and hands, the processors, and the
--- owner of the supervisor with its job (Bensoussan, Clingen and Daley 1972; Corbató 1968; the phases of a job are own).
+-- What the machine has between two steps: the book, the store with its tables, marks and hands, the processors, and
+-- the owner of the supervisor with its job (Bensoussan, Clingen and Daley 1972; Corbató 1968; the phases of a job are
+-- own).
 use Rattle.std.specs.Prelude.{ℕ, Bool, List, Option}
 use Rattle.mnames.specs.declared.modes.Mode.{Mode}
 use Rattle.mnames.specs.declared.principals.Who.{Who}
@@ -28,14 +29,15 @@ pub record Processor : Type 0 where
   pub count : ℕ
   pub tried : Bool
 
--- The place of a process's next command; how often it has tried it, where it is an `await`; whether the process has ended.
+-- The place of a process's next command; how often it has tried it, where it is an `await`; whether the process has
+-- ended.
 pub record Run : Type 0 where
   pub place : ℕ
   pub tries : ℕ
   pub ended : Bool
 
--- A descriptor that the owner's job has cut: its process and number, the segment that it led to, and the mode and length
--- that it had.
+-- A descriptor that the owner's job has cut: its process and number, the segment that it led to, and the mode and
+-- length that it had.
 pub record CutDescriptor : Type 0 where
   pub process : ℕ
   pub number : ℕ
@@ -43,17 +45,17 @@ pub record CutDescriptor : Type 0 where
   pub mode : Mode
   pub pages : ℕ
 
--- The processor that owns the supervisor; how far its job has come; the frames that the job took, and the descriptors that
--- it cut, in the order in which it came to them.
+-- The processor that owns the supervisor; how far its job has come; the frames that the job took, and the descriptors
+-- that it cut, in the order in which it came to them.
 pub record Owner : Type 0 where
   pub cpu : ℕ
   pub phase : Phase
   pub frames : List ℕ
   pub cut : List CutDescriptor
 
--- The script; the entries of the book so far, and how many more it has room for; the store; how far each process has come;
--- the ready processes, the first to run in front; the processors; the owner of the supervisor; whether the machine was
--- stopped; how many frames the shutdown has visited; how many calls of the drives have failed.
+-- The script; the entries of the book so far, and how many more it has room for; the store; how far each process has
+-- come; the ready processes, the first to run in front; the processors; the owner of the supervisor; whether the
+-- machine was stopped; how many frames the shutdown has visited; how many calls of the drives have failed.
 pub record State : Type 0 where
   pub plan : Plan
   pub entries : List Entry

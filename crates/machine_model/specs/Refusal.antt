@@ -1,0 +1,73 @@
+-- What the owner of the supervisor answers its process at once: what the flat store after the book refuses the next
+-- command (Bensoussan, Clingen and Daley 1972; Organick 1972).
+use Rattle.std.specs.Prelude.{ℕ, Bool, true, false, if◌then◌else◌, List, Option, Some, None, Result, Ok, Err}
+use Rattle.script.specs.declared.commands.Command.{Command}
+use Rattle.script.specs.declared.commands.Command.TheVariants as command
+use Rattle.script.specs.declared.commands.Reference.{Reference}
+use Rattle.book.specs.declared.replies.Reply.{Reply}
+use Rattle.book.specs.declared.replies.Reply.TheVariants as reply
+use Rattle.tree_model.specs.Tree.{Node}
+use Rattle.known_segs.specs.Known.{uid_of}
+use Rattle.flat_model.specs.Branches.{node_at}
+use Rattle.flat_model.specs.Commands.{reply_to_tree_command}
+use Rattle.flat_model.specs.References.{reply_to_reference}
+use Rattle.seg_control.specs.Control.{kst_at}
+use Rattle.storage_ops.specs.Shown.{refusal}
+use Rattle.machine_model.specs.State.{State, Storage}
+use Rattle.machine_model.specs.Reads.{flat_of, or_zero}
+
+-- a reply that passes a test
+abbrev pub only : (Reply → Bool) → Reply → Option Reply
+only test r = if test r then Some r else None
+
+-- the refusals of a reference that come before its page is looked at
+abbrev pub is_outside : Reply → Bool
+is_outside reply.Unknown = true
+is_outside reply.Gone = true
+is_outside reply.NoAccess = true
+is_outside reply.Length = true
+is_outside _ = false
+
+-- those of a page that can't be made: the account has used up its quota, or the volume's records are all in use
+abbrev pub is_of_room : Reply → Bool
+is_of_room reply.Quota = true
+is_of_room reply.NoRecord = true
+is_of_room _ = false
+
+unfoldable pub outside_refusal : State → ℕ → Reference → Option Reply
+outside_refusal s k r = only is_outside (reply_to_reference s.plan (flat_of s) k r)
+
+unfoldable pub room_refusal : State → ℕ → Reference → Option Reply
+room_refusal s k r = only is_of_room (reply_to_reference s.plan (flat_of s) k r)
+
+-- the refusal of a tree command, where one holds
+unfoldable pub refusal_of : State → ℕ → Command → Option Reply
+refusal_of s k c = refusal (reply_to_tree_command s.plan (flat_of s) k c)
+
+-- what a tree command is answered where it takes effect
+unfoldable pub reply_of : State → ℕ → Command → Reply
+reply_of s k c = reply_to_tree_command s.plan (flat_of s) k c
+
+-- ---- which segment or directory a command is about, and 0 where it is about none
+
+abbrev pub uid_of_node : Result Node Reply → ℕ
+uid_of_node (Ok n) = n.uid
+uid_of_node (Err r) = 0
+
+abbrev pub uid_at_path : Storage → List (List ℕ) → ℕ
+uid_at_path st path = uid_of_node (node_at st.accounts.nodes path)
+
+-- what a number of a process stands for
+abbrev pub uid_of_number : Storage → ℕ → ℕ → ℕ
+uid_of_number st k n = or_zero (uid_of (kst_at st.links.known k) n)
+
+abbrev pub uid_of_command : Storage → ℕ → Command → ℕ
+uid_of_command st k (command.Initiate path) = uid_at_path st path
+uid_of_command st k (command.Terminate n) = uid_of_number st k n
+uid_of_command st k (command.Acl path row m) = uid_at_path st path
+uid_of_command st k (command.Length path pages) = uid_at_path st path
+uid_of_command st k (command.Truncate path words) = uid_at_path st path
+uid_of_command st k (command.Delete path) = uid_at_path st path
+uid_of_command st k (command.Move path amount) = uid_at_path st path
+uid_of_command st k (command.Status path) = uid_at_path st path
+uid_of_command st k _ = 0
