@@ -5,6 +5,7 @@ pub mod Commits
 pub mod Jobs
 pub mod Reads
 pub mod Refusal
+pub mod Runs
 pub mod Shutdown
 pub mod State
 pub mod Steps

@@ -1,0 +1,13 @@
+pub mod AccessTakenAway
+pub mod Accounts
+pub mod CutPages
+pub mod Deletions
+pub mod Evictions
+pub mod FailedDeactivation
+pub mod FailedEviction
+pub mod LateWord
+pub mod OneProcess
+pub mod Truncation
+pub mod TwoTransfers
+pub mod Victims
+pub mod WaitForTransfer
