@@ -2,7 +2,12 @@ pub mod Actions
 pub mod After
 pub mod Boot
 pub mod Commits
+pub mod Finishing
 pub mod Jobs
+pub mod Measures
+pub mod Outline
+pub mod OutlineKept
+pub mod Outlined
 pub mod Reads
 pub mod Refusal
 pub mod Runs
