@@ -1,13 +1,16 @@
 -- Short runs of the machine over one volume, which the rows of `proofs/` speak of: one processor after another makes
 -- its steps until the book has so many entries.
-use Rattle.std.specs.Prelude.{ℕ, zero, suc, ◌+◌, true, false, nat_le, if◌then◌else◌, length, replicate, codes, List}
-use Rattle.std.specs.Prelude.{[], ◌∷◌, Some}
+use Rattle.std.specs.Prelude.{ℕ, zero, suc, ◌+◌, true, false, nat_le, if◌then◌else◌, length, map, replicate, codes}
+use Rattle.std.specs.Prelude.{List}
+use Rattle.std.specs.Prelude.{[], ◌∷◌, None, Some}
 use Rattle.mnames.specs.Principals.{default_project}
 use Rattle.mnames.specs.declared.rows.Row.{Row}
 use Rattle.script.specs.Plans.{Plan, ProcessPlan}
 use Rattle.script.specs.declared.commands.Command.{Command}
 use Rattle.script.specs.declared.plan.Print.TheVariants as print
 use Rattle.book.specs.declared.entries.Entry.{Entry}
+use Rattle.book.specs.declared.entries.Entry.TheVariants as entry
+use Rattle.book.specs.declared.replies.Reply.{Reply}
 use Rattle.vtoc.specs.FileMap.{no_records}
 use Rattle.tree_model.specs.Access.{access_of}
 use Rattle.tree_model.specs.Quotas.{over_in}
@@ -28,9 +31,10 @@ use Rattle.seg_control.specs.Control.{place_of}
 use Rattle.seg_control.specs.Next.{table_for}
 use Rattle.machine_model.specs.State.{State}
 use Rattle.machine_model.specs.Refusal.{refusal_of, outside_refusal, room_refusal, reply_of}
-use Rattle.machine_model.specs.Actions.{action_of}
+use Rattle.machine_model.specs.Actions.{action_of, is_over}
 use Rattle.machine_model.specs.After.{after, no_call}
 use Rattle.machine_model.specs.Boot.{booted}
+use Rattle.machine_model.specs.Shutdown.{after_visit}
 
 -- ---- scripts
 
@@ -60,11 +64,17 @@ plan_with processors frames quota records entries processes = record {
   processes = processes;
 }
 
--- the machine of such a script at first
+-- the row that names anyone
+abbrev pub anyone : Row
+anyone = record { person = None; project = None }
+
+-- the machine of a script at first
+abbrev pub machine_of : Plan → State
+machine_of p = booted p (replicate p.frames []) (map (λ v. replicate v.records []) p.volumes)
+
 abbrev pub machine_with : ℕ → ℕ → ℕ → ℕ → ℕ → List ProcessPlan → State
 machine_with processors frames quota records entries processes =
-    booted (plan_with processors frames quota records entries processes) (replicate frames [])
-    (replicate records [] ∷ [])
+    machine_of (plan_with processors frames quota records entries processes)
 
 -- ---- steps
 
@@ -90,6 +100,25 @@ abbrev pub ran : List (ℕ × ℕ) → State → State
 ran [] s = s
 ran (turn ∷ turns) s = ran turns (until turn.0 turn.1 s)
 
+-- a processor makes its steps until no process is ready or running, and so many steps at most
+abbrev pub finished : ℕ → ℕ → State → State
+finished c zero s = s
+finished c (suc most) s = if is_over s then s else finished c most (stepped c s)
+
+-- the shutdown visits so many frames, and no drive fails; or the drive fails at the next one
+abbrev pub visited : ℕ → State → State
+visited zero s = s
+visited (suc frames) s = visited frames (after_visit s (no_call s))
+
+abbrev pub visit_failed : State → State
+visit_failed s = after_visit s (record { failed = true; faults = s.faults + 1 })
+
+-- what commands were answered
+abbrev pub replies_in : List Entry → List Reply
+replies_in [] = []
+replies_in (entry.Do k place cpu frame r ∷ es) = r ∷ replies_in es
+replies_in (e ∷ es) = replies_in es
+
 -- The entries of a book. A row unfolds this name, and computes what its line names.
 unfoldable pub book_of : State → List Entry
 unfolding action_of after refusal_of outside_refusal room_refusal reply_of store_after store_from after_entry boot
@@ -98,3 +127,7 @@ unfolding action_of after refusal_of outside_refusal room_refusal reply_of store
     after_length truncate_reply after_truncate node_at is_zero_page with_stored without_stored access_of over_in used_by
     taken_on entries_on passed_over leaf_below place_of table_for no_records
 book_of s = s.entries
+
+-- the same of the replies alone
+abbrev pub replies_of : State → List Reply
+replies_of s = replies_in (book_of s)
