@@ -1,6 +1,7 @@
 pub mod AccessTakenAway
 pub mod Accounts
 pub mod ChangesUnderUse
+pub mod CountLaws
 pub mod CutPages
 pub mod Deletions
 pub mod Evictions
@@ -9,8 +10,10 @@ pub mod FailedEviction
 pub mod FailedRead
 pub mod FailedShutdown
 pub mod FirstSteps
+pub mod JobLaws
 pub mod LateWord
 pub mod OneProcess
+pub mod RankLaws
 pub mod Replies
 pub mod SharedSegment
 pub mod Truncation

@@ -1,0 +1,201 @@
+-- Each step of the owner makes the measure of its job fall.
+use Rattle.std.proofs.Common.{◌≡◌, ◌≤◌, ◌<◌, ℕ, ◌+◌, Bool, true, false, cond, List, [], ◌∷◌, length, Option, Some, None, is_some, set, get_or, refl, sym, ap, subst, ◌∙◌, le_refl, le_of_eq, arith}
+use Rattle.std.proofs.lemmas.List.{get_or-set_same}
+use Rattle.core_map.specs.declared.Frame.{Frame}
+use Rattle.core_map.specs.declared.Frame.TheVariants as frame
+use Rattle.active_segs.specs.declared.Entry.{Entry}
+use Rattle.machine_model.specs.Outline.{Want, Refer, Truncate, Length, Other, Runner, no_runner, Work, EvictFrame, EmptyPlace, CommitCommand, Stage, Look, Taken, Waiting, Keeper, Outline, runner_at, want_at, at_stage, with_entry, with_frame}
+use Rattle.machine_model.specs.Measures.{Parts, IsSmall, chain_of, idle_links, off_links, readers, dues, has_free, unlinked, frame_lack, work_left, stage_left, parts_of, rank_of, job_left, job_rank}
+use Rattle.machine_model.specs.Finishing.{IsIn, JobStep, activates, connects, takes_segment, takes_frame, takes_for_commit, signals, frees_frame, frees_page, empties, empties_at_once, gives_up, starts, answers, AreAlike, with_link, with_runners, with_stored, entry_for}
+use Rattle.machine_model.specs.OutlineKept.{IsKept, FitsStage, FitsWork}
+use Rattle.machine_model.proofs.CountLaws.{activation_falls, emptying_off, emptying_idle, freed_is_free, readers_like, readers_set, readers_few, dues_few, idle_few, off_few}
+use Rattle.machine_model.proofs.RankLaws.{falls_reading, falls_idle, falls_off, falls_link, falls_frame, falls_stage, falls_due}
+
+-- the measure of a job by its owner and stage
+pub ranked : (s : Outline) (c : ℕ) (stage : Stage) → IsIn s c stage
+    → job_rank s ≡ rank_of (parts_of s (runner_at s.runners c) stage) + 1
+unfolding job_rank
+ranked s c stage h = ap (λ (o : Option Keeper). job_left s o) h
+
+pub ranked_none : (s : Outline) → s.owner ≡ None → job_rank s ≡ 0
+unfolding job_rank
+ranked_none s h = ap (λ (o : Option Keeper). job_left s o) h
+
+link_small : (w : Want) (b : Bool) → unlinked w b < 2
+link_small (Refer chain uid page makes) true = omega arith
+link_small (Refer chain uid page makes) false = omega arith
+link_small (Truncate chain uid cut) b = omega arith
+link_small (Length uid) b = omega arith
+link_small Other b = omega arith
+
+bit_small : (b : Bool) → cond {A = ℕ} b 0 1 < 2
+bit_small true = omega arith
+bit_small false = omega arith
+
+pub frame_small : (stage : Stage) (frames : List Frame) → frame_lack stage frames < 2
+frame_small Look frames = bit_small (has_free frames)
+frame_small (Taken (EvictFrame f)) frames = omega arith
+frame_small (Taken (EmptyPlace place rest)) frames = bit_small (has_free frames)
+frame_small (Taken CommitCommand) frames = bit_small (has_free frames)
+frame_small (Waiting (EvictFrame f)) frames = omega arith
+frame_small (Waiting (EmptyPlace place rest)) frames = bit_small (has_free frames)
+frame_small (Waiting CommitCommand) frames = bit_small (has_free frames)
+
+work_small : (s : Outline) (w : Want) (work : Work) → FitsWork s w work → work_left work ≤ 257
+work_small s w (EvictFrame f) fits = omega arith
+work_small s w (EmptyPlace place rest) fits = let few : length rest ≤ 256 = fits.1 in omega (arith, few)
+work_small s w CommitCommand fits = omega arith
+
+stage_small : (s : Outline) (w : Want) (stage : Stage) → FitsStage s w stage → stage_left stage < 512
+stage_small s w Look fits = omega arith
+stage_small s w (Taken work) fits = let few = work_small s w work fits in omega (arith, few)
+stage_small s w (Waiting work) fits = let few = work_small s w work fits in omega (arith, few)
+
+pub small_of : (t : Outline) (c : ℕ) (stage : Stage) → IsKept t → IsIn t c stage
+    → IsSmall (parts_of t (runner_at t.runners c) stage)
+small_of t c stage kept owner =
+    let chain : List ℕ = chain_of (want_at t c) in
+    let idle = idle_few t.entries chain in
+    let links = kept.sizes.few_links c in
+    let off = off_few t.entries chain in
+    let entries = kept.sizes.few_entries in
+    let due = dues_few t.runners in
+    let runners = kept.sizes.few_runners in
+    record {
+      idle = omega (arith, idle, links);
+      off = omega (arith, off, entries);
+      link = link_small (want_at t c) (runner_at t.runners c).linked;
+      frame = frame_small stage t.frames;
+      stage = stage_small t (want_at t c) stage (kept.job.fits c stage owner);
+      due = omega (arith, due, runners);
+    }
+
+-- ---- one step
+
+-- a job that goes on, and one that is over
+between : (s t : Outline) (c : ℕ) (a b : Stage) → IsIn s c a → IsIn t c b
+    → rank_of (parts_of t (runner_at t.runners c) b) < rank_of (parts_of s (runner_at s.runners c) a)
+    → job_rank t < job_rank s
+between s t c a b owner now less = let was = ranked s c a owner in let is = ranked t c b now in omega (arith, was, is, less)
+
+pub over_falls : (s t : Outline) (c : ℕ) (a : Stage) → IsIn s c a → t.owner ≡ None → job_rank t < job_rank s
+over_falls s t c a owner none = let was = ranked s c a owner in let is = ranked_none t none in omega (arith, was, is)
+
+link_like : (x y : Runner) → y.want ≡ x.want → y.linked ≡ x.linked → unlinked y.want y.linked ≤ unlinked x.want x.linked
+link_like x y want linked = rw (want, linked) (le_refl _)
+
+link_falls : (w : Want) (b : Bool) (chain : List ℕ) (uid page : ℕ) (makes : Bool) → w ≡ Refer chain uid page makes
+    → b ≡ false → unlinked w true < unlinked w b
+link_falls w b chain uid page makes is off = rw (is, off) (omega arith)
+
+idle_like : (entries : List (Option Entry)) (v w : Want) → v ≡ w
+    → idle_links entries (chain_of v) ≤ idle_links entries (chain_of w)
+idle_like entries v w h = rw h (le_refl _)
+
+off_like : (entries : List (Option Entry)) (v w : Want) → v ≡ w
+    → off_links entries (chain_of v) ≤ off_links entries (chain_of w)
+off_like entries v w h = rw h (le_refl _)
+
+pub alike_self : (xs : List Runner) (c : ℕ) → AreAlike xs xs c
+alike_self xs c = record {
+  count = refl;
+  online = λ d. refl;
+  running = λ d. refl;
+  reading = λ d. refl;
+  since = λ d. refl;
+  tried = λ d. refl;
+  want = refl;
+  linked = refl;
+  due = refl;
+}
+
+-- a job comes to a later stage, and nothing but what others hold changes
+stage_falls : (s : Outline) (c : ℕ) (runners : List Runner) (a b : Stage) → IsIn s c a → AreAlike s.runners runners c
+    → IsKept (with_runners (at_stage s c b) runners) → frame_lack b s.frames ≤ frame_lack a s.frames
+    → stage_left b < stage_left a → job_rank (with_runners (at_stage s c b) runners) < job_rank s
+stage_falls s c runners a b owner alike kept frame less =
+    between s (with_runners (at_stage s c b) runners) c a b owner refl
+    (falls_stage _ _ (small_of (with_runners (at_stage s c b) runners) c b kept refl)
+    (le_of_eq (readers_like s.runners runners alike.count alike.reading))
+    (idle_like s.entries _ _ alike.want) (off_like s.entries _ _ alike.want)
+    (link_like (runner_at s.runners c) (runner_at runners c) alike.want alike.linked) frame less)
+
+full_lacks : (frames : List Frame) → has_free frames ≡ false → 1 ≤ frame_lack Look frames
+full_lacks frames full = rw full (omega arith)
+
+freed_lacks : (frames : List Frame) (f : ℕ) → f < length frames → frame_lack Look (set frames f frame.Free) ≡ 0
+freed_lacks frames f lt = ap (λ (b : Bool). cond {A = ℕ} b 0 1) (freed_is_free frames f lt)
+
+connect_falls : (s : Outline) (c : ℕ) (chain : List ℕ) (uid page : ℕ) (makes : Bool) → IsKept s → IsKept (with_link s c)
+    → IsIn s c Look → want_at s c ≡ Refer chain uid page makes → (runner_at s.runners c).linked ≡ false
+    → job_rank (with_link s c) < job_rank s
+connect_falls s c chain uid page makes kept now owner want off =
+    between s (with_link s c) c Look Look owner owner (subst (λ (y : Runner).
+    rank_of (parts_of (with_link s c) y Look) < rank_of (parts_of s (runner_at s.runners c) Look)) (sym same) less)
+  where
+    linked : Runner
+    linked = record (runner_at s.runners c) { linked = true }
+    within : c < length s.runners
+    within = (kept.job.at_work c Look owner).within
+    same : runner_at (with_link s c).runners c ≡ record (runner_at s.runners c) { linked = true }
+    same = get_or-set_same s.runners c (record (runner_at s.runners c) { linked = true }) no_runner within
+    small : IsSmall (parts_of (with_link s c) (record (runner_at s.runners c) { linked = true }) Look)
+    small = subst (λ (y : Runner). IsSmall (parts_of (with_link s c) y Look)) same (small_of (with_link s c) c Look now owner)
+    reading : readers (with_link s c).runners ≤ readers s.runners
+    reading = let count = readers_set s.runners c (record (runner_at s.runners c) { linked = true }) within in omega (arith, count)
+    less : rank_of (parts_of (with_link s c) (record (runner_at s.runners c) { linked = true }) Look)
+        < rank_of (parts_of s (runner_at s.runners c) Look)
+    less = falls_link _ _ small reading (le_refl _) (le_refl _)
+        (link_falls (want_at s c) (runner_at s.runners c).linked chain uid page makes want off)
+
+-- Each step of the owner makes the measure of its job fall.
+pub job_falls : (s : Outline) (c : ℕ) (t : Outline) → IsKept s → IsKept t → JobStep s c t → job_rank t < job_rank s
+job_falls s c t k l (activates place uid superior can) =
+    between s _ c Look Look can.look can.look
+    (falls_idle _ _ (small_of _ c Look l can.look) (le_refl _)
+    (activation_falls s.entries place uid superior (chain_of (want_at s c)) can.member can.idle can.free can.within))
+job_falls s c t k l (connects chain uid page makes owner want off) =
+    connect_falls s c chain uid page makes k l owner want off
+job_falls s c t k l (takes_segment place frames runners can of few alike) =
+    stage_falls s c runners Look (Taken (EmptyPlace place frames)) can.look alike l (le_refl _) (omega (arith, few))
+job_falls s c t k l (takes_frame f can) =
+    stage_falls s c s.runners Look (Taken (EvictFrame f)) can.look (alike_self s.runners c) l
+    (full_lacks s.frames can.full) (omega arith)
+job_falls s c t k l (takes_for_commit runners owner alike) =
+    stage_falls s c runners Look (Taken CommitCommand) owner alike l (le_refl _) (omega arith)
+job_falls s c t k l (signals (EvictFrame f) runners owner alike) =
+    stage_falls s c runners (Taken (EvictFrame f)) (Waiting (EvictFrame f)) owner alike l (le_refl _) (omega arith)
+job_falls s c t k l (signals (EmptyPlace place rest) runners owner alike) =
+    stage_falls s c runners (Taken (EmptyPlace place rest)) (Waiting (EmptyPlace place rest)) owner alike l (le_refl _)
+    (omega arith)
+job_falls s c t k l (signals CommitCommand runners owner alike) =
+    stage_falls s c runners (Taken CommitCommand) (Waiting CommitCommand) owner alike l (le_refl _) (omega arith)
+job_falls s c t k l (frees_frame f stored owner due may) =
+    let within : f < length s.frames = (k.job.fits c (Waiting (EvictFrame f)) owner).0.0 in
+    let lacks = freed_lacks s.frames f within in
+    between s _ c (Waiting (EvictFrame f)) Look owner refl
+    (falls_frame _ _ (small_of _ c Look l refl) (le_refl _) (le_refl _) (le_refl _) (le_refl _) (omega (arith, lacks)))
+job_falls s c t k l (frees_page place f rest stored owner due may) =
+    let within : f < length s.frames = (k.job.fits c (Waiting (EmptyPlace place (f ∷ rest))) owner).0.0.0 in
+    let lacks = freed_lacks s.frames f within in
+    between s _ c (Waiting (EmptyPlace place (f ∷ rest))) (Waiting (EmptyPlace place rest)) owner refl
+    (falls_stage _ _ (small_of _ c (Waiting (EmptyPlace place rest)) l refl) (le_refl _) (le_refl _) (le_refl _)
+    (le_refl _) (omega (arith, lacks)) (omega arith))
+job_falls s c t k l (empties place runners owner due alike none) =
+    let fits = k.job.fits c (Waiting (EmptyPlace place [])) owner in
+    let chain : List ℕ = chain_of (want_at s c) in
+    let idle = emptying_idle s.entries place chain fits.3 fits.2 in
+    let off = emptying_off s.entries place chain fits.3 fits.2 in
+    let like_idle = idle_like (set s.entries place None) (runner_at runners c).want (want_at s c) alike.want in
+    let like_off = off_like (set s.entries place None) (runner_at runners c).want (want_at s c) alike.want in
+    between s _ c (Waiting (EmptyPlace place [])) Look owner refl
+    (falls_off _ _ (small_of _ c Look l refl) (le_of_eq (readers_like s.runners runners alike.count alike.reading))
+    (omega (arith, idle, like_idle)) (omega (arith, off, like_off)))
+job_falls s c t k l (empties_at_once place can) =
+    let chain : List ℕ = chain_of (want_at s c) in
+    between s _ c Look Look can.look can.look
+    (falls_off _ _ (small_of _ c Look l can.look) (le_refl _) (emptying_idle s.entries place chain can.off can.within)
+    (emptying_off s.entries place chain can.off can.within))
+job_falls s c t k l (gives_up chain uid page makes owner want fits) = over_falls s _ c Look owner refl
+job_falls s c t k l (starts f uid page can) = over_falls s _ c Look can.look refl
+job_falls s c t k l (answers stage _ owner due given) = over_falls s t c stage owner given.owner
