@@ -10,11 +10,15 @@ pub mod FailedEviction
 pub mod FailedRead
 pub mod FailedShutdown
 pub mod FirstSteps
+pub mod GoesLaws
 pub mod JobLaws
+pub mod LackLaws
 pub mod LateWord
 pub mod OneProcess
+pub mod OuterLaws
 pub mod RankLaws
 pub mod Replies
+pub mod RuleLaws
 pub mod SharedSegment
 pub mod Truncation
 pub mod TwoTransfers

@@ -4,6 +4,7 @@ pub mod Boot
 pub mod Commits
 pub mod Finishing
 pub mod Jobs
+pub mod Looping
 pub mod Measures
 pub mod Outline
 pub mod OutlineKept

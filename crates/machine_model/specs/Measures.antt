@@ -1,6 +1,6 @@
 -- The measures of the loop that makes the machine end: of a job in the supervisor, of a command of a processor, and of
 -- all commands. Each is one number (own).
-use Rattle.std.specs.Prelude.{ℕ, ◌+◌, ◌*◌, ◌<◌, Bool, false, not, ◌&&◌, ◌||◌, ◌==◌, nat_le, if◌then◌else◌, is_some}
+use Rattle.std.specs.Prelude.{ℕ, ◌+◌, ◌*◌, ◌<◌, Bool, true, false, not, ◌&&◌, ◌||◌, ◌==◌, nat_le, if◌then◌else◌, is_some}
 use Rattle.std.specs.Prelude.{count_by, length, List, [], Option, Some, None}
 use Rattle.std.specs.List.{list_any}
 use Rattle.core_map.specs.declared.Frame.{Frame}
@@ -128,12 +128,23 @@ abbrev pub page_fits : Outline → Option Transfer → ℕ → ℕ → Bool → 
 page_fits s reading uid page makes =
     is_here s.frames uid page || (reads_page reading uid page || (not (s.stored uid page) && not makes))
 
+-- the same for the page that a command wants; a command that wants none lacks none
+abbrev pub wanted_fits : Outline → Want → Option Transfer → Bool
+wanted_fits s (Refer chain uid page makes) reading = page_fits s reading uid page makes
+wanted_fits s (Truncate chain uid None) reading = true
+wanted_fits s (Truncate chain uid (Some page)) reading = page_fits s reading uid page false
+wanted_fits s (Length uid) reading = true
+wanted_fits s Other reading = true
+
+-- whether what leads to the segment is there, of a reference
+abbrev pub wanted_link : Want → Bool → Bool
+wanted_link (Refer chain uid page makes) linked = linked
+wanted_link (Truncate chain uid cut) linked = true
+wanted_link (Length uid) linked = true
+wanted_link Other linked = true
+
 abbrev pub want_lack : Outline → Want → Bool → Option Transfer → ℕ
-want_lack s (Refer chain uid page makes) linked reading = if linked && page_fits s reading uid page makes then 0 else 1
-want_lack s (Truncate chain uid None) linked reading = 0
-want_lack s (Truncate chain uid (Some page)) linked reading = if page_fits s reading uid page false then 0 else 1
-want_lack s (Length uid) linked reading = 0
-want_lack s Other linked reading = 0
+want_lack s w linked reading = if wanted_link w linked && wanted_fits s w reading then 0 else 1
 
 -- whether the tables lack something that the command wants
 abbrev pub lack : Outline → Runner → ℕ

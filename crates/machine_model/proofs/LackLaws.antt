@@ -1,0 +1,176 @@
+-- What the tables lack for a command, as frames, transfers and stored pages change.
+use Rattle.std.proofs.Common.{◌≡◌, ◌≢◌, ◌≤◌, ◌<◌, ℕ, Bool, true, false, not, cond, ◌||◌, ◌&&◌, eqb, List, length, Option, Some, None, set, get_or, refl, sym, ap, ◌∙◌, ◌⊎◌, inl, inr, le_refl, arith}
+use Rattle.std.specs.List.{list_any}
+use Rattle.std.proofs.lemmas.Bool.Decides.{eqb_tells}
+use Rattle.core_map.specs.declared.Frame.{Frame}
+use Rattle.core_map.specs.declared.Frame.TheVariants as frame
+use Rattle.processor.specs.declared.Transfer.{Transfer}
+use Rattle.machine_model.specs.Jobs.{page_or_zero}
+use Rattle.machine_model.specs.Outline.{Want, Refer, Truncate, Length, Other, Outline, Runner, frame_in, with_frame}
+use Rattle.machine_model.specs.Measures.{is_of, is_here, reads_page, page_fits, wanted_fits, wanted_link, want_lack, lack}
+use Rattle.machine_model.specs.Finishing.{MayRelease, page_of, with_stored}
+use Rattle.machine_model.specs.OutlineKept.{is_wanted, is_spared}
+use Rattle.machine_model.proofs.CountLaws.{any_set}
+
+-- ---- less lacks where more fits
+
+if_le : (p q : Bool) → (p ≡ true → q ≡ true) → cond {A = ℕ} q 0 1 ≤ cond {A = ℕ} p 0 1
+if_le true q h = rw (h refl) (le_refl _)
+if_le false true h = omega arith
+if_le false false h = omega arith
+
+both_true : (a b : Bool) → (a && b) ≡ true → (a ≡ true) × (b ≡ true)
+both_true true true h = (refl, refl)
+both_true true false h = let no : false ≡ true = h in absurd cc
+both_true false b h = let no : false ≡ true = h in absurd cc
+
+both_from : (a b : Bool) → a ≡ true → b ≡ true → (a && b) ≡ true
+both_from a b g h = rw (g, h) refl
+
+link_more : (w : Want) (a b : Bool) → (a ≡ true → b ≡ true) → wanted_link w a ≡ true → wanted_link w b ≡ true
+link_more (Refer chain uid page makes) a b h is = h is
+link_more (Truncate chain uid cut) a b h is = refl
+link_more (Length uid) a b h is = refl
+link_more Other a b h is = refl
+
+pub lack_le : (s t : Outline) (w : Want) (a b : Bool) (r q : Option Transfer) → (a ≡ true → b ≡ true)
+    → (wanted_fits s w r ≡ true → wanted_fits t w q ≡ true) → want_lack t w b q ≤ want_lack s w a r
+lack_le s t w a b r q link fits =
+    if_le (wanted_link w a && wanted_fits s w r) (wanted_link w b && wanted_fits t w q) (λ h.
+    let both = both_true (wanted_link w a) (wanted_fits s w r) h in
+    both_from (wanted_link w b) (wanted_fits t w q) (link_more w a b link both.0) (fits both.1))
+
+pub lack_few : (s : Outline) (x : Runner) → lack s x ≤ 1
+lack_few s x = by (wanted_link x.want x.linked && wanted_fits s x.want x.reading)
+  where
+    by : (b : Bool) → cond {A = ℕ} b 0 1 ≤ 1
+    by true = omega arith
+    by false = omega arith
+
+-- ---- a page that fits goes on to
+
+or_left : (a b : Bool) → a ≡ true → (a || b) ≡ true
+or_left a b h = rw h refl
+
+-- where it was in a frame or read by this processor it is in a frame, and it stays unstored
+pub fits_more : (s t : Outline) (r q : Option Transfer) (uid page : ℕ) (makes : Bool)
+    → (is_here s.frames uid page ≡ true → is_here t.frames uid page ≡ true)
+    → (reads_page r uid page ≡ true → (is_here t.frames uid page ≡ true) ⊎ (reads_page q uid page ≡ true))
+    → (s.stored uid page ≡ false → t.stored uid page ≡ false)
+    → page_fits s r uid page makes ≡ true → page_fits t q uid page makes ≡ true
+fits_more s t r q uid page makes here reads stored h =
+    by (is_here s.frames uid page) (reads_page r uid page) (s.stored uid page) refl refl refl h
+  where
+    at : Bool → Bool → Bool → Type 0
+    at a b c = (a || (b || (not c && not makes))) ≡ true
+    by : (a b c : Bool) → is_here s.frames uid page ≡ a → reads_page r uid page ≡ b → s.stored uid page ≡ c
+        → (a || (b || (not c && not makes))) ≡ true → page_fits t q uid page makes ≡ true
+    by true b c i j k g = or_left _ _ (here i)
+    by false true c i j k g = elim (reads j) [
+      | inl e ↦ or_left _ _ e
+      | inr e ↦ rw e (or_true (is_here t.frames uid page))
+    ]
+      where
+        or_true : (x : Bool) → (x || true) ≡ true
+        or_true true = refl
+        or_true false = refl
+    by false false true i j k g = let no : false ≡ true = g in absurd cc
+    by false false false i j k g = rw (stored k) (last (is_here t.frames uid page) (reads_page q uid page) (not makes) g)
+      where
+        last : (x y z : Bool) → z ≡ true → (x || (y || z)) ≡ true
+        last true y z e = refl
+        last false true z e = refl
+        last false false z e = e
+
+-- the same for the page that a command wants
+pub wanted_more : (s t : Outline) (w : Want) (r q : Option Transfer)
+    → ((uid page : ℕ) (makes : Bool) → (is_here s.frames uid page ≡ true → is_here t.frames uid page ≡ true))
+    → ((uid page : ℕ) → reads_page r uid page ≡ true → (is_here t.frames uid page ≡ true) ⊎ (reads_page q uid page ≡ true))
+    → ((uid page : ℕ) → s.stored uid page ≡ false → t.stored uid page ≡ false)
+    → wanted_fits s w r ≡ true → wanted_fits t w q ≡ true
+wanted_more s t (Refer chain uid page makes) r q here reads stored h =
+    fits_more s t r q uid page makes (here uid page makes) (reads uid page) (stored uid page) h
+wanted_more s t (Truncate chain uid None) r q here reads stored h = refl
+wanted_more s t (Truncate chain uid (Some page)) r q here reads stored h =
+    fits_more s t r q uid page false (here uid page false) (reads uid page) (stored uid page) h
+wanted_more s t (Length uid) r q here reads stored h = refl
+wanted_more s t Other r q here reads stored h = refl
+
+-- ---- frames
+
+-- a frame that isn't of a page becomes another that isn't
+pub here_same : (frames : List Frame) (f uid page : ℕ) (x : Frame) → f < length frames
+    → is_of uid page (frame_in frames f) ≡ false → is_of uid page x ≡ false
+    → is_here (set frames f x) uid page ≡ is_here frames uid page
+unfolding is_here
+here_same frames f uid page x lt was now =
+    any_set (is_of uid page) frames f x frame.Free lt was
+    ∙ ap (λ (b : Bool). b || list_any (is_of uid page) frames) now
+
+-- a frame that wasn't of a page becomes any other
+pub here_more : (frames : List Frame) (f uid page : ℕ) (x : Frame) → f < length frames
+    → is_of uid page (frame_in frames f) ≡ false → is_here frames uid page ≡ true
+    → is_here (set frames f x) uid page ≡ true
+unfolding is_here
+here_more frames f uid page x lt was h =
+    any_set (is_of uid page) frames f x frame.Free lt was ∙ or_last (is_of uid page x) (list_any (is_of uid page) frames) h
+  where
+    or_last : (a b : Bool) → b ≡ true → (a || b) ≡ true
+    or_last true b e = refl
+    or_last false b e = e
+
+pub here_now : (frames : List Frame) (f uid page : ℕ) (x : Frame) → f < length frames
+    → is_of uid page (frame_in frames f) ≡ false → is_of uid page x ≡ true → is_here (set frames f x) uid page ≡ true
+unfolding is_here
+here_now frames f uid page x lt was now =
+    any_set (is_of uid page) frames f x frame.Free lt was ∙ or_left (is_of uid page x) _ now
+
+-- ---- a page leaves its frame
+
+pub spared_not : (w : Want) (x : Frame) → is_spared w x ≡ true → is_wanted w x ≡ false
+spared_not (Refer chain uid page makes) frame.Free h = refl
+spared_not (Truncate chain uid None) frame.Free h = refl
+spared_not (Truncate chain uid (Some page)) frame.Free h = refl
+spared_not (Length uid) frame.Free h = refl
+spared_not Other frame.Free h = refl
+spared_not w (frame.Started uid page) h = let no : false ≡ true = h in absurd cc
+spared_not w (frame.Bound uid page used modified) h = by (is_wanted w (frame.Bound uid page used modified)) h
+  where
+    by : (b : Bool) → not b ≡ true → b ≡ false
+    by true e = let no : false ≡ true = e in absurd cc
+    by false e = refl
+
+not_page : (x : Frame) (uid page : ℕ) → is_of uid page x ≡ false → page_of x ≢ Some (uid, page)
+not_page frame.Free uid page out h = let no : None ≡ Some (uid, page) = h in absurd cc
+not_page (frame.Started u q) uid page out h = let no : None ≡ Some (uid, page) = h in absurd cc
+not_page (frame.Bound u q used modified) uid page out h =
+    let a : u ≡ uid = ap (λ (o : Option (ℕ × ℕ)). (page_or_zero o).0) h in
+    let b : q ≡ page = ap (λ (o : Option (ℕ × ℕ)). (page_or_zero o).1) h in
+    let is : (eqb u uid && eqb q page) ≡ true = both_from (eqb u uid) (eqb q page) (same u uid a) (same q page b) in
+    let no : true ≡ false = sym is ∙ out in
+    absurd cc
+  where
+    same : (i j : ℕ) → i ≡ j → eqb i j ≡ true
+    same i j e = elim (eqb_tells i j) [ inl x ↦ x.0 | inr x ↦ absurd (x.1 e) ]
+
+pub freed_fits : (s : Outline) (f : ℕ) (stored : ℕ → ℕ → Bool) (w : Want) (r : Option Transfer) → f < length s.frames
+    → is_spared w (frame_in s.frames f) ≡ true → MayRelease s f stored
+    → wanted_fits s w r ≡ true → wanted_fits (with_stored (with_frame s f frame.Free) stored) w r ≡ true
+freed_fits s f stored (Refer chain uid page makes) r lt spared may h =
+    page_same s f stored uid page makes r lt (spared_not (Refer chain uid page makes) (frame_in s.frames f) spared) may ∙ h
+  where
+    page_same : (s : Outline) (f : ℕ) (stored : ℕ → ℕ → Bool) (uid page : ℕ) (makes : Bool) (r : Option Transfer)
+        → f < length s.frames → is_of uid page (frame_in s.frames f) ≡ false → MayRelease s f stored
+        → page_fits (with_stored (with_frame s f frame.Free) stored) r uid page makes ≡ page_fits s r uid page makes
+    page_same s f stored uid page makes r lt out may =
+        let here = here_same s.frames f uid page frame.Free lt out refl in
+        let kept = may.others uid page (not_page (frame_in s.frames f) uid page out) in
+        rw (here, kept) refl
+freed_fits s f stored (Truncate chain uid None) r lt spared may h = refl
+freed_fits s f stored (Truncate chain uid (Some page)) r lt spared may h =
+    let out = spared_not (Truncate chain uid (Some page)) (frame_in s.frames f) spared in
+    let here = here_same s.frames f uid page frame.Free lt out refl in
+    let kept = may.others uid page (not_page (frame_in s.frames f) uid page out) in
+    rw (here, kept) h
+freed_fits s f stored (Length uid) r lt spared may h = refl
+freed_fits s f stored Other r lt spared may h = refl
