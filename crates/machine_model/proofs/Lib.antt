@@ -1,6 +1,7 @@
 pub mod AccessTakenAway
 pub mod Accounts
 pub mod ChangesUnderUse
+pub mod CommandLaws
 pub mod CountLaws
 pub mod CutPages
 pub mod Deletions
@@ -17,9 +18,11 @@ pub mod LateWord
 pub mod OneProcess
 pub mod OuterLaws
 pub mod RankLaws
+pub mod ReadLaws
 pub mod Replies
 pub mod RuleLaws
 pub mod SharedSegment
+pub mod StepLaws
 pub mod Truncation
 pub mod TwoTransfers
 pub mod Victims

@@ -1,0 +1,213 @@
+-- What a step of a processor brings that has a process while nobody owns the supervisor, and of one that has none while no
+-- processor has.
+use Rattle.std.proofs.Common.{◌≡◌, ◌≢◌, ◌≤◌, ◌<◌, ℕ, zero, suc, ◌+◌, ◌-◌, Bool, true, false, not, cond, ◌||◌, ◌&&◌, eqb, nat_lt, List, [], ◌∷◌, length, Option, Some, None, is_some, set, get_or, refl, sym, ap, subst, ◌∙◌, ◌⊎◌, inl, inr, le_refl, le_of_eq, arith}
+use Rattle.std.proofs.lemmas.Bool.Decides.{eqb_tells}
+use Rattle.std.proofs.lemmas.List.{get_or-set_same, get_or-set_other}
+use Rattle.core_map.specs.declared.Frame.{Frame}
+use Rattle.core_map.specs.declared.Frame.TheVariants as frame
+use Rattle.processor.specs.declared.Transfer.{Transfer}
+use Rattle.machine_model.specs.Actions.{ForOwner, ForClear, ForTransfer, WhileIdle}
+use Rattle.machine_model.specs.Outline.{Want, Refer, Truncate, Length, Other, Runner, no_runner, Work, Stage, Look, Taken, Waiting, Keeper, Outline, Turn, Moved, WaitsFor, Ended, runner_at, want_at, at_stage, with_runner, with_frame, frame_in}
+use Rattle.machine_model.specs.Measures.{Parts, IsSmall, rank_of, parts_of, is_of, is_here, reads_page, wanted_fits, want_lack, lack, missing, over, offline, dues, readers, all_rank, job_rank, command_rank, command_left, is_over}
+use Rattle.machine_model.specs.Finishing.{Rule, Comes, Clears, Reads, Works, Loads, Leaves, Commands, rule_by, rule_of, owns, IsIn, JobStep, Step, ends, comes, clears, reads, loses, works, awaits_clear, awaits_transfer, loads, idles, leaves, fills, replies, faults, enters, waits, IsEnded, IsCleared, HasLost, HasLoaded, HasLeft, IsFilled, IsReplied, with_bound, not_reading}
+use Rattle.machine_model.specs.OutlineKept.{IsKept}
+use Rattle.machine_model.specs.Looping.{lack_at, is_at, IsReference, IsSameCommand, IsUnderWay, IsPast, IsNearer, JobFell, AwaitsClear, AwaitsTransfer, IsReader, OwnerStep, CommandDone, HasTaken, CommandStep}
+use Rattle.machine_model.proofs.CountLaws.{readers_set, dues_set}
+use Rattle.machine_model.proofs.RankLaws.{falls_reading, falls_due}
+use Rattle.machine_model.proofs.JobLaws.{ranked, small_of, job_falls}
+use Rattle.machine_model.proofs.LackLaws.{lack_le, wanted_more, here_same, here_more, here_now}
+use Rattle.machine_model.proofs.OuterLaws.{over_set, offline_set, over_same, over_few, all_le, all_fewer, all_turn, all_loaded, all_online}
+use Rattle.machine_model.proofs.GoesLaws.{goes, all_set, gone_from}
+use Rattle.machine_model.proofs.RuleLaws.{tells}
+
+use Rattle.machine_model.proofs.StepLaws.{no_both, inside, none_due}
+
+-- nothing is due while nobody owns the supervisor, so a processor that has a process neither comes online nor clears
+not_comes : (s : Outline) (c : ℕ) → IsKept s → (runner_at s.runners c).running ≡ true → rule_of s c ≡ Comes → ⊥
+not_comes s c k running h = no_both (k.tied.runners_online c running) (tells s c Comes h)
+
+not_clears : (s : Outline) (c : ℕ) → IsKept s → s.owner ≡ None → rule_of s c ≡ Clears → ⊥
+not_clears s c k none h =
+    let told = tells s c Clears h in
+    no_both told.1 (none_due s.runners c (inside s.runners c told.0) (k.job.quiet none))
+
+not_works : (s : Outline) (c : ℕ) → s.owner ≡ None → rule_of s c ≡ Works → ⊥
+not_works s c none h = no_both (tells s c Works h).2 (ap (λ (o : Option Keeper). owns o c) none)
+
+not_loads : (s : Outline) (c : ℕ) → (runner_at s.runners c).running ≡ true → rule_of s c ≡ Loads → ⊥
+not_loads s c running h = no_both running (tells s c Loads h).3
+
+-- ---- the command goes on
+
+nearer_by : (s t : Outline) (c : ℕ) (x : Runner) → c < length s.runners → t.owner ≡ None → t.runners ≡ set s.runners c x
+    → t.left ≡ s.left → t.ready ≡ s.ready → x.online ≡ (runner_at s.runners c).online
+    → x.running ≡ (runner_at s.runners c).running → x.since ≡ (runner_at s.runners c).since
+    → x.tried ≡ (runner_at s.runners c).tried → x.want ≡ want_at s c
+    → command_left t x < command_left s (runner_at s.runners c) → IsNearer s t c
+unfolding command_rank
+nearer_by s t c x within owner runners left ready online running since tried want less =
+    let same : runner_at t.runners c ≡ x =
+        ap (λ (xs : List Runner). runner_at xs c) runners ∙ get_or-set_same s.runners c x no_runner within in
+    record {
+      owner = owner;
+      same = record {
+        want = ap (λ (y : Runner). y.want) same ∙ want;
+        since = ap (λ (y : Runner). y.since) same ∙ since;
+        running = ap (λ (y : Runner). y.running) same ∙ running;
+        all = all_set s t c x within runners left ready online (over_same (runner_at s.runners c) x running since tried);
+      };
+      rank = subst (λ (y : Runner). command_left t y < command_left s (runner_at s.runners c)) (sym same) less;
+    }
+
+-- a page that the processor read in is in a frame
+read_fits : (s t : Outline) (r : Transfer) (used modified : Bool) (w : Want) → r.frame < length s.frames
+    → frame_in s.frames r.frame ≡ frame.Started r.uid r.page
+    → t.frames ≡ set s.frames r.frame (frame.Bound r.uid r.page used modified) → t.stored ≡ s.stored
+    → wanted_fits s w (Some r) ≡ true → wanted_fits t w None ≡ true
+read_fits s t r used modified w lt started frames stored h =
+    wanted_more s t w (Some r) None
+    (λ uid page makes there. ap (λ (fs : List Frame). is_here fs uid page) frames
+    ∙ here_more s.frames r.frame uid page (frame.Bound r.uid r.page used modified) lt (ap (is_of uid page) started) there)
+    (λ uid page read. inl (ap (λ (fs : List Frame). is_here fs uid page) frames
+    ∙ here_now s.frames r.frame uid page (frame.Bound r.uid r.page used modified) lt (ap (is_of uid page) started) read))
+    (λ uid page out. ap (λ (f : ℕ → ℕ → Bool). f uid page) stored ∙ out) h
+
+read_nearer : (s : Outline) (c : ℕ) (r : Transfer) (used modified : Bool) → IsKept s → s.owner ≡ None
+    → (runner_at s.runners c).reading ≡ Some r → IsNearer s (not_reading (with_bound s r used modified) c) c
+read_nearer s c r used modified k none reading =
+    let online = k.tied.runners_online c (k.tied.readers_run c r reading) in
+    let tie = k.tied.read c r reading in
+    let x : Runner = runner_at s.runners c in
+    let lacks = lack_le s (not_reading (with_bound s r used modified) c) x.want x.linked x.linked (Some r) None (λ h. h)
+        (read_fits s (not_reading (with_bound s r used modified) c) r used modified x.want tie.1 tie.0 refl refl) in
+    let was : lack s x ≡ want_lack s x.want x.linked (Some r) = ap (λ (o : Option Transfer). want_lack s x.want x.linked o) reading in
+    let bit : cond {A = ℕ} (is_some x.reading) 1 0 ≡ 1 = ap (λ (o : Option Transfer). cond {A = ℕ} (is_some o) 1 0) reading in
+    nearer_by s (not_reading (with_bound s r used modified) c) c (record (runner_at s.runners c) { reading = None })
+    (inside s.runners c online) none refl refl refl refl refl refl refl refl (omega (arith, lacks, was, bit))
+
+fill_nearer : (s : Outline) (c : ℕ) (x : Runner) → c < length s.runners → s.owner ≡ None
+    → IsFilled (runner_at s.runners c) x → IsNearer s (with_runner s c x) c
+fill_nearer s c x within none filled =
+    let lacks : lack (with_runner s c x) x ≡ lack s (runner_at s.runners c) =
+        rw (filled.want, filled.linked, filled.reading) refl in
+    let bit : cond {A = ℕ} (is_some x.reading) 1 0 ≡ cond (is_some (runner_at s.runners c).reading) 1 0 =
+        ap (λ (o : Option Transfer). cond {A = ℕ} (is_some o) 1 0) filled.reading in
+    nearer_by s (with_runner s c x) c x within none refl refl refl filled.online filled.running filled.since filled.tried
+    filled.want (omega (arith, lacks, bit, filled.missing))
+
+-- ---- the command is past
+
+-- a processor that left its process isn't over its turn any more
+left_past : (s : Outline) (c : ℕ) (x : Runner) → IsKept (record (with_runner s c x) { ready = s.ready + 1 })
+    → c < length s.runners → s.owner ≡ None → is_over (runner_at s.runners c) ≡ true → HasLeft x
+    → IsPast s (record (with_runner s c x) { ready = s.ready + 1 }) c
+left_past s c x l within none turn left =
+    let same : runner_at (set s.runners c x) c ≡ x = get_or-set_same s.runners c x no_runner within in
+    let count = over_set s.runners c x within in
+    let was : cond {A = ℕ} (is_over (runner_at s.runners c)) 1 0 ≡ 1 = ap (λ (b : Bool). cond {A = ℕ} b 1 0) turn in
+    let now : cond {A = ℕ} (is_over x) 1 0 ≡ 0 = rw (left.running) refl in
+    record {
+      owner = none;
+      gone = gone_from (runner_at (set s.runners c x) c) (runner_at s.runners c).since (λ h.
+          absurd (no_both h (ap (λ (y : Runner). y.running) same ∙ left.running)));
+      all = all_turn s (record (with_runner s c x) { ready = s.ready + 1 }) l.sizes refl (omega (arith, count, was, now));
+    }
+
+lost_past : (s : Outline) (c : ℕ) (r : Transfer) (x : Runner) (left : ℕ) → IsKept s
+    → IsKept (record (with_runner (with_frame s r.frame frame.Free) c x) { left = left }) → s.owner ≡ None
+    → (runner_at s.runners c).reading ≡ Some r → HasLost (runner_at s.runners c) x → left < s.left
+    → IsPast s (record (with_runner (with_frame s r.frame frame.Free) c x) { left = left }) c
+lost_past s c r x left k l none reading lost fewer =
+    let online = k.tied.runners_online c (k.tied.readers_run c r reading) in
+    let same : runner_at (set s.runners c x) c ≡ x = get_or-set_same s.runners c x no_runner (inside s.runners c online) in
+    record {
+      owner = none;
+      gone = gone_from (runner_at (set s.runners c x) c) (runner_at s.runners c).since (λ h.
+          ap (λ (y : Runner). y.since) same ∙ lost.since);
+      all = all_fewer s (record (with_runner (with_frame s r.frame frame.Free) c x) { left = left }) l.sizes fewer;
+    }
+
+replied_past : (s t : Outline) (c : ℕ) → IsKept t → s.owner ≡ None → IsReplied s c t → IsPast s t c
+replied_past s t c l none replied = record {
+  owner = replied.owner ∙ none;
+  gone = gone_from (runner_at t.runners c) (runner_at s.runners c).since (λ h. replied.since);
+  all = all_fewer s t l.sizes replied.fewer;
+}
+
+is_no_reference : (w : Want) → ((chain : List ℕ) (uid page : ℕ) (makes : Bool) → w ≢ Refer chain uid page makes)
+    → IsReference w → ⊥
+is_no_reference (Refer chain uid page makes) h is = h chain uid page makes refl
+is_no_reference (Truncate chain uid cut) h is = is
+is_no_reference (Length uid) h is = is
+is_no_reference Other h is = is
+
+-- a processor leaves a process that has had its turn
+turn_over : (s : Outline) (c : ℕ) → rule_of s c ≡ Leaves → is_over (runner_at s.runners c) ≡ true
+turn_over s c h = first (is_over (runner_at s.runners c)) (nat_lt 0 s.ready) (tells s c Leaves h).4
+  where
+    first : (a b : Bool) → (a && b) ≡ true → a ≡ true
+    first true b e = refl
+    first false b e = e
+
+-- ---- a step
+
+pub command_step : (s : Outline) (c : ℕ) (turn : Turn) (t : Outline) → IsKept s → IsKept t → s.owner ≡ None
+    → (runner_at s.runners c).running ≡ true → Step s c turn t → CommandStep turn s t c
+command_step s c turn t k l none running (ends ended) = no_both running (ended.running c)
+command_step s c turn t k l none running (comes h) = absurd (not_comes s c k running h)
+command_step s c turn t k l none running (clears x h cleared) = absurd (not_clears s c k none h)
+command_step s c turn t k l none running (reads r used modified h is) = inr (inr (read_nearer s c r used modified k none is))
+command_step s c turn t k l none running (loses r x left h is lost fewer) = inr (inl (lost_past s c r x left k l none is lost fewer))
+command_step s c turn t k l none running (works _ h step) = absurd (not_works s c none h)
+command_step s c turn t k l none running (awaits_clear w e h waiting online due) = not_works s c none h
+command_step s c turn t k l none running (awaits_transfer g uid page h look started) = not_works s c none h
+command_step s c turn t k l none running (loads x h some loaded) = absurd (not_loads s c running h)
+command_step s c turn t k l none running (idles busy h zero_ready) = not_loads s c running h
+command_step s c turn t k l none running (leaves x h left) =
+    inr (inl (left_past s c x l (inside s.runners c (k.tied.runners_online c running)) none (turn_over s c h) left))
+command_step s c turn t k l none running (fills x h filled) =
+    inr (inr (fill_nearer s c x (inside s.runners c (k.tied.runners_online c running)) none filled))
+command_step s c turn t k l none running (replies _ h replied) = inr (inl (replied_past s t c l none replied))
+command_step s c turn t k l none running (faults chain uid page makes h free want lacks) = inl (record { now = refl; why = inl lacks })
+command_step s c turn t k l none running (enters h free want) = inl (record { now = refl; why = inr (is_no_reference (want_at s c) want) })
+command_step s c turn t k l none running (waits o h some) = let no : None ≡ Some o = sym none ∙ some in absurd cc
+
+-- ---- no processor has a process
+
+loaded_round : (s : Outline) (c : ℕ) (x : Runner) → IsKept (record (with_runner s c x) { ready = s.ready - 1 })
+    → c < length s.runners → 0 < s.ready → (runner_at s.runners c).running ≡ false → HasLoaded x
+    → all_rank (record (with_runner s c x) { ready = s.ready - 1 }) < all_rank s
+loaded_round s c x l within some idle loaded =
+    let count = over_set s.runners c x within in
+    let now : cond {A = ℕ} (is_over x) 1 0 ≡ 0 = rw (loaded.running, loaded.since, loaded.tried) refl in
+    all_loaded s (record (with_runner s c x) { ready = s.ready - 1 }) l.sizes refl (omega (arith, count, now))
+    (omega (arith, some))
+
+online_round : (s : Outline) (c : ℕ) → c < length s.runners → (runner_at s.runners c).online ≡ false
+    → all_rank (with_runner s c (record (runner_at s.runners c) { online = true })) < all_rank s
+online_round s c within off =
+    let turns = over_set s.runners c (record (runner_at s.runners c) { online = true }) within in
+    let offs = offline_set s.runners c (record (runner_at s.runners c) { online = true }) within in
+    let was : cond {A = ℕ} (not (runner_at s.runners c).online) 1 0 ≡ 1 = ap (λ (b : Bool). cond {A = ℕ} (not b) 1 0) off in
+    all_online s (with_runner s c (record (runner_at s.runners c) { online = true })) refl (omega (arith, turns)) refl
+    (omega (arith, offs, was))
+
+pub idle_step : (s : Outline) (c : ℕ) (turn : Turn) (t : Outline) → IsKept s → IsKept t → c < length s.runners
+    → s.owner ≡ None → ((d : ℕ) → (runner_at s.runners d).running ≡ false) → (IsEnded s → ⊥) → Step s c turn t
+    → (t.owner ≡ None) × (all_rank t < all_rank s)
+idle_step s c turn t k l within none idle more (ends ended) = absurd (more ended)
+idle_step s c turn t k l within none idle more (comes h) = (none, online_round s c within (tells s c Comes h))
+idle_step s c turn t k l within none idle more (clears x h cleared) = absurd (not_clears s c k none h)
+idle_step s c turn t k l within none idle more (reads r used modified h is) = absurd (no_both (k.tied.readers_run c r is) (idle c))
+idle_step s c turn t k l within none idle more (loses r x left h is lost fewer) = absurd (no_both (k.tied.readers_run c r is) (idle c))
+idle_step s c turn t k l within none idle more (works _ h step) = absurd (not_works s c none h)
+idle_step s c turn t k l within none idle more (awaits_clear w e h waiting online due) = absurd (not_works s c none h)
+idle_step s c turn t k l within none idle more (awaits_transfer g uid page h look started) = absurd (not_works s c none h)
+idle_step s c turn t k l within none idle more (loads x h some loaded) = (none, loaded_round s c x l within some (idle c) loaded)
+idle_step s c turn t k l within none idle more (idles busy h zero_ready) = absurd (more (record { ready = zero_ready; running = idle }))
+idle_step s c turn t k l within none idle more (leaves x h left) = absurd (no_both (tells s c Leaves h).3 (idle c))
+idle_step s c turn t k l within none idle more (fills x h filled) = absurd (no_both (tells s c Commands h).3 (idle c))
+idle_step s c turn t k l within none idle more (replies _ h replied) = absurd (no_both (tells s c Commands h).3 (idle c))
+idle_step s c turn t k l within none idle more (faults chain uid page makes h free want lacks) = absurd (no_both (tells s c Commands h).3 (idle c))
+idle_step s c turn t k l within none idle more (enters h free want) = absurd (no_both (tells s c Commands h).3 (idle c))
+idle_step s c turn t k l within none idle more (waits o h some) = absurd (no_both (tells s c Commands h).3 (idle c))

@@ -1,0 +1,178 @@
+-- What each step brings while the loop waits for it: a step of the owner, of a processor that is to clear, of one that
+-- reads a page in, and of one that has a process while nobody owns the supervisor.
+use Rattle.std.proofs.Common.{◌≡◌, ◌≢◌, ◌≤◌, ◌<◌, ℕ, zero, suc, ◌+◌, ◌-◌, Bool, true, false, not, cond, ◌||◌, ◌&&◌, eqb, nat_lt, List, [], ◌∷◌, length, Option, Some, None, is_some, set, get_or, refl, sym, ap, subst, ◌∙◌, ◌⊎◌, inl, inr, le_refl, le_of_eq, arith}
+use Rattle.std.proofs.lemmas.Bool.Decides.{eqb_tells}
+use Rattle.std.proofs.lemmas.List.{get_or-set_same, get_or-set_other}
+use Rattle.core_map.specs.declared.Frame.{Frame}
+use Rattle.core_map.specs.declared.Frame.TheVariants as frame
+use Rattle.processor.specs.declared.Transfer.{Transfer}
+use Rattle.machine_model.specs.Actions.{ForOwner, ForClear, ForTransfer, WhileIdle}
+use Rattle.machine_model.specs.Outline.{Want, Refer, Truncate, Length, Other, Runner, no_runner, Work, Stage, Look, Taken, Waiting, Keeper, Outline, Turn, Moved, WaitsFor, Ended, runner_at, want_at, at_stage, with_runner, with_frame, frame_in}
+use Rattle.machine_model.specs.Measures.{Parts, IsSmall, rank_of, parts_of, is_of, is_here, reads_page, wanted_fits, want_lack, lack, missing, over, offline, dues, readers, all_rank, job_rank, command_rank, command_left, is_over}
+use Rattle.machine_model.specs.Finishing.{Rule, Comes, Clears, Reads, Works, Loads, Leaves, Commands, rule_by, rule_of, owns, IsIn, JobStep, Step, ends, comes, clears, reads, loses, works, awaits_clear, awaits_transfer, loads, idles, leaves, fills, replies, faults, enters, waits, IsEnded, IsCleared, HasLost, HasLoaded, HasLeft, IsFilled, IsReplied, with_bound, not_reading}
+use Rattle.machine_model.specs.OutlineKept.{IsKept}
+use Rattle.machine_model.specs.Looping.{lack_at, is_at, IsReference, IsSameCommand, IsUnderWay, IsPast, IsNearer, JobFell, AwaitsClear, AwaitsTransfer, IsReader, OwnerStep, CommandDone, HasTaken, CommandStep}
+use Rattle.machine_model.proofs.CountLaws.{readers_set, dues_set}
+use Rattle.machine_model.proofs.RankLaws.{falls_reading, falls_due}
+use Rattle.machine_model.proofs.JobLaws.{ranked, small_of, job_falls}
+use Rattle.machine_model.proofs.LackLaws.{lack_le, wanted_more, here_same, here_more, here_now}
+use Rattle.machine_model.proofs.OuterLaws.{over_set, offline_set, over_same, over_few, all_le, all_fewer, all_turn, all_loaded, all_online}
+use Rattle.machine_model.proofs.GoesLaws.{goes, all_set, gone_from}
+use Rattle.machine_model.proofs.RuleLaws.{tells}
+
+-- ---- processors
+
+pub no_both : {b : Bool} → b ≡ true → b ≡ false → ⊥
+no_both t f = let no : true ≡ false = sym t ∙ f in cc
+
+-- a processor that takes part is there
+pub inside : (xs : List Runner) (c : ℕ) → (runner_at xs c).online ≡ true → c < length xs
+inside [] c h = let no : false ≡ true = h in absurd cc
+inside (x ∷ xs) zero h = omega arith
+inside (x ∷ xs) (suc c) h = let rest = inside xs c h in omega (arith, rest)
+
+-- where nothing is due, it is so at each processor
+pub none_due : (xs : List Runner) (d : ℕ) → d < length xs → dues xs ≡ 0 → (runner_at xs d).due ≡ false
+none_due xs d lt none = by (runner_at xs d).due refl
+  where
+    by : (b : Bool) → (runner_at xs d).due ≡ b → b ≡ false
+    by false h = refl
+    by true h =
+        let count = dues_set xs d no_runner lt in
+        let one : cond {A = ℕ} (runner_at xs d).due 1 0 ≡ 1 = ap (λ (b : Bool). cond {A = ℕ} b 1 0) h in
+        absurd (omega (arith, count, one, none))
+
+-- ---- the owner
+
+-- the rule that applies to the owner is its job's
+pub works_rule : (s : Outline) (c : ℕ) (stage : Stage) → IsKept s → IsIn s c stage → rule_of s c ≡ Works
+unfolding rule_of
+works_rule s c stage k owner =
+    let work = k.job.at_work c stage owner in
+    let online = k.tied.runners_online c work.running in
+    let idle : is_some (runner_at s.runners c).reading ≡ false = ap (λ (o : Option Transfer). is_some o) work.idle in
+    let own : owns s.owner c ≡ true = ap (λ (o : Option Keeper). owns o c) owner ∙ own_self c in
+    rw (online, work.clear, idle, own) refl
+  where
+    own_self : (i : ℕ) → eqb i i ≡ true
+    own_self i = elim (eqb_tells i i) [ inl x ↦ x.0 | inr x ↦ absurd (x.1 refl) ]
+
+pub owner_step : (s : Outline) (c : ℕ) (stage : Stage) (turn : Turn) (t : Outline) → IsKept s → IsKept t
+    → IsIn s c stage → Step s c turn t → OwnerStep turn s t c
+owner_step s c stage turn t k l owner (ends ended) =
+    no_both (k.job.at_work c stage owner).running (ended.running c)
+owner_step s c stage turn t k l owner (comes h) =
+    let no : Works ≡ Comes = sym (works_rule s c stage k owner) ∙ h in absurd cc
+owner_step s c stage turn t k l owner (clears x h cleared) =
+    let no : Works ≡ Clears = sym (works_rule s c stage k owner) ∙ h in absurd cc
+owner_step s c stage turn t k l owner (reads r used modified h is) =
+    let no : Works ≡ Reads = sym (works_rule s c stage k owner) ∙ h in absurd cc
+owner_step s c stage turn t k l owner (loses r x left h is lost fewer) =
+    let no : Works ≡ Reads = sym (works_rule s c stage k owner) ∙ h in absurd cc
+owner_step s c stage turn t k l owner (works _ h step) =
+    record { rank = job_falls s c t k l step; goes = goes s c t k l step }
+owner_step s c stage turn t k l owner (awaits_clear w d h waiting online due) =
+    (refl, record { work = w; waiting = waiting; online = online; due = due })
+owner_step s c stage turn t k l owner (awaits_transfer f uid page h look started) =
+    (refl, record { uid = uid; page = page; look = look; started = started })
+owner_step s c stage turn t k l owner (loads x h some loaded) =
+    let no : Works ≡ Loads = sym (works_rule s c stage k owner) ∙ h in absurd cc
+owner_step s c stage turn t k l owner (idles busy h none) =
+    let no : Works ≡ Loads = sym (works_rule s c stage k owner) ∙ h in absurd cc
+owner_step s c stage turn t k l owner (leaves x h left) =
+    let no : Works ≡ Leaves = sym (works_rule s c stage k owner) ∙ h in absurd cc
+owner_step s c stage turn t k l owner (fills x h filled) =
+    let no : Works ≡ Commands = sym (works_rule s c stage k owner) ∙ h in absurd cc
+owner_step s c stage turn t k l owner (replies _ h replied) =
+    let no : Works ≡ Commands = sym (works_rule s c stage k owner) ∙ h in absurd cc
+owner_step s c stage turn t k l owner (faults chain uid page makes h none want lacks) =
+    let no : Works ≡ Commands = sym (works_rule s c stage k owner) ∙ h in absurd cc
+owner_step s c stage turn t k l owner (enters h none want) =
+    let no : Works ≡ Commands = sym (works_rule s c stage k owner) ∙ h in absurd cc
+owner_step s c stage turn t k l owner (waits o h some) =
+    let no : Works ≡ Commands = sym (works_rule s c stage k owner) ∙ h in absurd cc
+
+-- ---- a processor that is to clear
+
+clears_rule : (s : Outline) (d : ℕ) → (runner_at s.runners d).online ≡ true → (runner_at s.runners d).due ≡ true
+    → rule_of s d ≡ Clears
+unfolding rule_of
+clears_rule s d online due = rw (online, due) refl
+
+pub other_than : (s : Outline) (c d : ℕ) (P : Runner → Bool) → P (runner_at s.runners c) ≡ false
+    → P (runner_at s.runners d) ≡ true → c ≢ d
+other_than s c d P out is same = no_both (ap (λ (i : ℕ). P (runner_at s.runners i)) same ∙ is) out
+
+cleared_falls : (s : Outline) (c d : ℕ) (x : Runner) → IsKept s → AwaitsClear s c d → IsCleared (runner_at s.runners d) x
+    → (job_rank (with_runner s d x) < job_rank s) × IsUnderWay s (with_runner s d x) c
+cleared_falls s c d x k awaits cleared =
+    let stage : Stage = Waiting awaits.work in
+    let work = k.job.at_work c stage awaits.waiting in
+    let within = inside s.runners d awaits.online in
+    let apart = other_than s c d (λ r. r.due) work.clear awaits.due in
+    let same : runner_at (with_runner s d x).runners c ≡ runner_at s.runners c =
+        get_or-set_other s.runners d c x no_runner apart in
+    let count = dues_set s.runners d x within in
+    let was : cond {A = ℕ} (runner_at s.runners d).due 1 0 ≡ 1 = ap (λ (b : Bool). cond {A = ℕ} b 1 0) awaits.due in
+    let now : cond {A = ℕ} x.due 1 0 ≡ 0 = ap (λ (b : Bool). cond {A = ℕ} b 1 0) cleared.due in
+    let read = readers_set s.runners d x within in
+    let read_same : cond {A = ℕ} (is_some x.reading) 1 0 ≡ cond (is_some (runner_at s.runners d).reading) 1 0 =
+        ap (λ (o : Option Transfer). cond {A = ℕ} (is_some o) 1 0) cleared.reading in
+    let rank_s = ranked s c stage awaits.waiting in
+    let rank_t = ranked (with_runner s d x) c stage awaits.waiting in
+    let less : rank_of (parts_of (with_runner s d x) (runner_at (with_runner s d x).runners c) stage)
+        < rank_of (parts_of s (runner_at s.runners c) stage) =
+        subst (λ (y : Runner). rank_of (parts_of (with_runner s d x) y stage) < rank_of (parts_of s (runner_at s.runners c) stage))
+        (sym same)
+        (falls_due (parts_of s (runner_at s.runners c) stage) (parts_of (with_runner s d x) (runner_at s.runners c) stage)
+        (omega (arith, read, read_same)) (le_refl _) (le_refl _) (le_refl _) (le_refl _) (le_refl _)
+        (omega (arith, count, was, now))) in
+    (
+      omega (arith, rank_s, rank_t, less),
+      record {
+        stage = stage;
+        in_job = awaits.waiting;
+        same = record {
+          want = ap (λ (r : Runner). r.want) same;
+          since = ap (λ (r : Runner). r.since) same;
+          running = ap (λ (r : Runner). r.running) same;
+          all = all_set s (with_runner s d x) d x within refl refl refl cleared.online
+              (over_same (runner_at s.runners d) x cleared.running cleared.since cleared.tried);
+        };
+        lack = le_of_eq (ap (λ (r : Runner). lack s r) same);
+      },
+    )
+
+pub clear_step : (s : Outline) (c d : ℕ) (turn : Turn) (t : Outline) → IsKept s → AwaitsClear s c d → Step s d turn t
+    → (job_rank t < job_rank s) × IsUnderWay s t c
+clear_step s c d turn t k awaits (ends ended) =
+    absurd (no_both (k.job.at_work c (Waiting awaits.work) awaits.waiting).running (ended.running c))
+clear_step s c d turn t k awaits (comes h) =
+    let no : Clears ≡ Comes = sym (clears_rule s d awaits.online awaits.due) ∙ h in absurd cc
+clear_step s c d turn t k awaits (clears x h cleared) = cleared_falls s c d x k awaits cleared
+clear_step s c d turn t k awaits (reads r used modified h is) =
+    let no : Clears ≡ Reads = sym (clears_rule s d awaits.online awaits.due) ∙ h in absurd cc
+clear_step s c d turn t k awaits (loses r x left h is lost fewer) =
+    let no : Clears ≡ Reads = sym (clears_rule s d awaits.online awaits.due) ∙ h in absurd cc
+clear_step s c d turn t k awaits (works _ h step) =
+    let no : Clears ≡ Works = sym (clears_rule s d awaits.online awaits.due) ∙ h in absurd cc
+clear_step s c d turn t k awaits (awaits_clear w e h waiting online due) =
+    let no : Clears ≡ Works = sym (clears_rule s d awaits.online awaits.due) ∙ h in absurd cc
+clear_step s c d turn t k awaits (awaits_transfer f uid page h look started) =
+    let no : Clears ≡ Works = sym (clears_rule s d awaits.online awaits.due) ∙ h in absurd cc
+clear_step s c d turn t k awaits (loads x h some loaded) =
+    let no : Clears ≡ Loads = sym (clears_rule s d awaits.online awaits.due) ∙ h in absurd cc
+clear_step s c d turn t k awaits (idles busy h none) =
+    let no : Clears ≡ Loads = sym (clears_rule s d awaits.online awaits.due) ∙ h in absurd cc
+clear_step s c d turn t k awaits (leaves x h left) =
+    let no : Clears ≡ Leaves = sym (clears_rule s d awaits.online awaits.due) ∙ h in absurd cc
+clear_step s c d turn t k awaits (fills x h filled) =
+    let no : Clears ≡ Commands = sym (clears_rule s d awaits.online awaits.due) ∙ h in absurd cc
+clear_step s c d turn t k awaits (replies _ h replied) =
+    let no : Clears ≡ Commands = sym (clears_rule s d awaits.online awaits.due) ∙ h in absurd cc
+clear_step s c d turn t k awaits (faults chain uid page makes h none want lacks) =
+    let no : Clears ≡ Commands = sym (clears_rule s d awaits.online awaits.due) ∙ h in absurd cc
+clear_step s c d turn t k awaits (enters h none want) =
+    let no : Clears ≡ Commands = sym (clears_rule s d awaits.online awaits.due) ∙ h in absurd cc
+clear_step s c d turn t k awaits (waits o h some) =
+    let no : Clears ≡ Commands = sym (clears_rule s d awaits.online awaits.due) ∙ h in absurd cc
