@@ -1,7 +1,9 @@
 pub mod Actions
 pub mod After
 pub mod Boot
+pub mod Changes
 pub mod Commits
+pub mod Custodial
 pub mod Finishing
 pub mod Jobs
 pub mod Looping
@@ -12,6 +14,7 @@ pub mod Outlined
 pub mod Reads
 pub mod Refusal
 pub mod Runs
+pub mod Seen
 pub mod Shutdown
 pub mod State
 pub mod Steps

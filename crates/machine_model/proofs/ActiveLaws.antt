@@ -1,0 +1,148 @@
+-- A segment becomes active, or is it no more.
+use Rattle.std.proofs.Common.{◌≡◌, ◌≢◌, ℕ, true, false, Option, Some, None, inl, inr, refl, sym, ap, ◌∙◌}
+use Rattle.std.proofs.lemmas.Bool.Decides.{eqb_tells}
+use Rattle.book.specs.declared.entries.Entry.TheVariants as entry
+use Rattle.page_table.specs.declared.Ptw.{Ptw}
+use Rattle.page_table.specs.declared.Ptw.TheVariants as ptw
+use Rattle.flat_model.specs.Legal.{IsLawful, after_entry}
+use Rattle.custody_model.specs.Allowed.{MayActivate, MayDeactivate}
+use Rattle.custody_model.specs.Custody.{page_of, uid_of_page}
+use Rattle.custody_model.specs.Effects.{HasNoPage}
+use Rattle.custody_model.specs.Next.{at_put, custody_next}
+use Rattle.machine_model.specs.Changes.{activated, deactivated}
+use Rattle.machine_model.specs.Custodial.{KeepsBook, IsTied, names, is_out}
+use Rattle.machine_model.specs.Seen.{Seen, flat, shown, frame_use, bound_use, read_use}
+use Rattle.machine_model.proofs.BookNext.{book_next}
+use Rattle.machine_model.proofs.OwnedLaws.{like_active, owned_like}
+use Rattle.machine_model.proofs.TieLaws.{not_there}
+
+-- The words of one segment are others, which name no frame, as those before didn't; no page of it is being read.
+pub record ChangesSegment (v : Seen) (u : ℕ) (words : ℕ → ℕ → Ptw) : Type 0 where
+  pub others : (w q : ℕ) → w ≢ u → words w q ≡ v.words w q
+  pub before : (q : ℕ) → names (v.words u q) ≡ None
+  pub after : (q : ℕ) → names (words u q) ≡ None
+  pub unread : (f q : ℕ) → v.reads f ≢ Some (u, q)
+
+module _ (v : Seen) (u : ℕ) (words : ℕ → ℕ → Ptw) (k : KeepsBook v) (change : ChangesSegment v u words) where
+  -- a page of another segment has the word that it had
+  kept : (f w q : ℕ) → v.bound f ≡ Some (w, q) → words w q ≡ v.words w q
+  kept f w q h = change.others w q (λ e. not_there f
+      (sym (change.before q) ∙ (ap (λ (x : ℕ). names (v.words x q)) (sym e) ∙ k.tied.named f w q h)))
+
+  tied_segment : IsTied v.bound v.reads words
+  tied_segment = record {
+    named = λ f w q h. ap names (kept f w q h) ∙ k.tied.named f w q h;
+    back = λ f w q h. elim (eqb_tells w u) [
+      | inl e ↦ absurd (not_there f (sym (change.after q) ∙ (ap (λ (x : ℕ). names (words x q)) (sym e.1) ∙ h)))
+      | inr n ↦ k.tied.back f w q (sym (ap names (change.others w q n.1)) ∙ h)
+    ];
+    out = λ f w q h. elim (eqb_tells w u) [
+      | inl e ↦ absurd (change.unread f q (h ∙ ap (λ (x : ℕ). Some (x, q)) e.1))
+      | inr n ↦ ap is_out (change.others w q n.1) ∙ k.tied.out f w q h
+    ];
+    alone = k.tied.alone;
+    unbound = k.tied.unbound;
+  }
+
+  uses_same : (f : ℕ) → frame_use words (v.bound f) (v.reads f) ≡ (shown v).frame f
+  uses_same f = by (v.bound f) refl
+    where
+      by : (x : Option (ℕ × ℕ)) → v.bound f ≡ x → frame_use words x (v.reads f) ≡ frame_use v.words x (v.reads f)
+      by None e = refl
+      by (Some page) e = ap (bound_use page) (kept f page.0 page.1 e)
+
+-- a segment whose words all said that it has no page
+abbrev pub IsBlank : (ℕ → ℕ → Ptw) → ℕ → Type 0
+IsBlank words u = (q : ℕ) → words u q ≡ ptw.Null
+
+-- a segment that may become active, with words that name no frame
+pub record CanActivate (v : Seen) (u : ℕ) (words : ℕ → ℕ → Ptw) : Type 0 where
+  pub may : MayActivate v.plan (flat v) (shown v) u
+  pub blank : IsBlank v.words u
+  pub others : (w q : ℕ) → w ≢ u → words w q ≡ v.words w q
+  pub nowhere : (q : ℕ) → names (words u q) ≡ None
+
+pub activate_keeps : (v : Seen) (u : ℕ) (words : ℕ → ℕ → Ptw) → KeepsBook v → CanActivate v u words
+    → KeepsBook (activated v u words)
+unfolding IsLawful after_entry custody_next
+activate_keeps v u words k can = book_next v (entry.Activate u) (activated v u words) k (record {
+  plan = refl;
+  entries = refl;
+  lawful = tt;
+  allowed = can.may;
+  online = tt;
+  next = λ i. record (shown v) { active = at_put v.active u true; frame = λ f. uses_same v u words k change f i };
+  pending = refl;
+  going_owned = owned_like (shown v) (record (shown v) { active = at_put v.active u true })
+      (like_active (shown v) (at_put v.active u true))
+      v.owner k.going_owned;
+  tied = tied_segment v u words k change;
+  holding_right = k.holding_right;
+  under_way = k.under_way;
+  runs = k.runs;
+})
+  where
+    change : ChangesSegment v u words
+    change = record {
+      others = can.others;
+      before = λ q. ap names (can.blank q);
+      after = can.nowhere;
+      unread = λ f q h. (let no : false ≡ true = sym (ap is_out (can.blank q)) ∙ k.tied.out f u q h in cc);
+    }
+
+-- a segment that may become inactive, whose words all say then that it has no page
+pub record CanDeactivate (v : Seen) (u : ℕ) (words : ℕ → ℕ → Ptw) : Type 0 where
+  pub may : MayDeactivate (flat v) (shown v) u
+  pub others : (w q : ℕ) → w ≢ u → words w q ≡ v.words w q
+  pub blank : IsBlank words u
+
+module _ (v : Seen) (u : ℕ) (k : KeepsBook v) (pages : HasNoPage (shown v) u) where
+  uid_bound : (f q : ℕ) → v.bound f ≡ Some (u, q) → uid_of_page (page_of ((shown v).frame f)) ≡ Some u
+  uid_bound f q h = ap (λ (o : Option (ℕ × ℕ)). uid_of_page (page_of (frame_use v.words o (v.reads f)))) h
+      ∙ by (v.words u q)
+    where
+      by : (w : Ptw) → uid_of_page (page_of (bound_use (u, q) w)) ≡ Some u
+      by ptw.Null = refl
+      by (ptw.Out r) = refl
+      by (ptw.Here g) = refl
+      by (ptw.Leaving g) = refl
+
+  uid_read : (f q : ℕ) → v.reads f ≡ Some (u, q) → uid_of_page (page_of ((shown v).frame f)) ≡ Some u
+  uid_read f q h = ap (λ (o : Option (ℕ × ℕ)). uid_of_page (page_of (frame_use v.words o (v.reads f))))
+      (k.tied.unbound f u q h)
+      ∙ ap (λ (o : Option (ℕ × ℕ)). uid_of_page (page_of (read_use o))) h
+
+  nowhere_before : (q : ℕ) → names (v.words u q) ≡ None
+  nowhere_before q = by (names (v.words u q)) refl
+    where
+      by : (x : Option ℕ) → names (v.words u q) ≡ x → x ≡ None
+      by None e = refl
+      by (Some f) e = absurd (pages f (uid_bound f q (k.tied.back f u q e)))
+
+pub deactivate_keeps : (v : Seen) (u : ℕ) (words : ℕ → ℕ → Ptw) → KeepsBook v → CanDeactivate v u words
+    → KeepsBook (deactivated v u words)
+unfolding IsLawful after_entry custody_next
+deactivate_keeps v u words k can = book_next v (entry.Deactivate u) (deactivated v u words) k (record {
+  plan = refl;
+  entries = refl;
+  lawful = tt;
+  allowed = can.may;
+  online = tt;
+  next = λ i. record (shown v) { active = at_put v.active u false; frame = λ f. uses_same v u words k change f i };
+  pending = refl;
+  going_owned = owned_like (shown v) (record (shown v) { active = at_put v.active u false })
+      (like_active (shown v) (at_put v.active u false))
+      v.owner k.going_owned;
+  tied = tied_segment v u words k change;
+  holding_right = k.holding_right;
+  under_way = k.under_way;
+  runs = k.runs;
+})
+  where
+    change : ChangesSegment v u words
+    change = record {
+      others = can.others;
+      before = nowhere_before v u k can.may.pages;
+      after = λ q. ap names (can.blank q);
+      unread = λ f q h. can.may.pages f (uid_read v u k can.may.pages f q h);
+    }

@@ -1,0 +1,113 @@
+-- A command is answered, a drive's failure is told, or the owner of the supervisor changes.
+use Rattle.std.proofs.Common.{◌≡◌, ℕ, List, ◌++◌, Option, Some, refl, sym, ap, subst, ◌∙◌}
+use Rattle.script.specs.Plans.{command_at}
+use Rattle.script.specs.declared.commands.Command.{Command}
+use Rattle.book.specs.declared.entries.Entry.TheVariants as entry
+use Rattle.book.specs.declared.replies.Reply.{Reply}
+use Rattle.flat_model.specs.Commands.{gone_on}
+use Rattle.flat_model.specs.Legal.{IsLawful, IsLawfulDo, MayFault, after_entry, after_do}
+use Rattle.flat_model.specs.Store.{progress_of}
+use Rattle.custody_model.specs.Allowed.{MayDo, next_command}
+use Rattle.custody_model.specs.Custody.{Custody}
+use Rattle.custody_model.specs.Fine.{Fine}
+use Rattle.custody_model.specs.Next.{at_put, custody_next, is_try, released_by, with_seat}
+use Rattle.machine_model.specs.Changes.{answered, counted, failed}
+use Rattle.machine_model.specs.Custodial.{KeepsBook, HoldsRight, IsOwned, IsRun, is_pending}
+use Rattle.machine_model.specs.Seen.{Seen, flat, shown, seat_of, descriptor_use, cut_uid}
+use Rattle.machine_model.specs.Reads.{cut_of_owner}
+use Rattle.machine_model.specs.State.{Processor, Run, Owner}
+use Rattle.machine_model.proofs.BookNext.{book_next}
+use Rattle.machine_model.proofs.HeldLaws.{under_way_alike}
+use Rattle.machine_model.proofs.OwnedLaws.{IsIdle, like_seat, owned_like, owned_idle}
+use Rattle.machine_model.proofs.Places.{by_place, put_map}
+use Rattle.machine_model.proofs.RunLaws.{runs_answered, runs_failed}
+
+-- ---- a command
+
+-- The flat store and custody allow the answer, and the process has come as far as the flat store says.
+pub record CanAnswer (v : Seen) (c k place : ℕ) (f : Option ℕ) (r : Reply) (run : Run) : Type 0 where
+  pub command : Command
+  pub there : command_at v.plan k place ≡ Some command
+  pub lawful : IsLawfulDo v.plan (flat v) k place r
+  pub allowed : MayDo v.plan (flat v) (shown v) k c f r
+  pub come : IsRun (gone_on (progress_of (flat v) k) command r) run
+
+pub answer_keeps : (v : Seen) (c k place : ℕ) (f : Option ℕ) (r : Reply) (run : Run) → KeepsBook v
+    → CanAnswer v c k place f r run
+    → KeepsBook (answered v c k place f r run)
+unfolding IsLawful after_entry custody_next
+answer_keeps v c k place f r run keeps can =
+    book_next v (entry.Do k place c f r) (answered v c k place f r run) keeps (record {
+      plan = refl;
+      entries = refl;
+      lawful = can.lawful;
+      allowed = can.allowed;
+      online = tt;
+      next = λ i. record (shown v) { seat = λ d. put_map seat_of v.processors c p d i; ready = ready };
+      pending = refl;
+      going_owned = owned_like (shown v) (record (with_seat (shown v) c (seat_of p)) { ready = ready })
+          (like_seat (shown v) c (seat_of p) ready refl)
+          v.owner keeps.going_owned;
+      tied = keeps.tied;
+      holding_right = λ d. by_place (λ (x : Processor). HoldsRight v.bound (shown v).descriptor x) v.processors c p d
+          (λ i. (let was = keeps.holding_right c in
+          record { pages = was.pages; segs = was.segs; few_pages = was.few_pages; few_segs = was.few_segs }))
+          (λ n. keeps.holding_right d);
+      under_way = under_way_alike v.reads v.processors (at_put v.processors c p)
+          (λ d. by_place (λ (x : Processor). x.cpu.transfer ≡ (v.processors d).cpu.transfer) v.processors c p d
+          (λ i. ap (λ (j : ℕ). (v.processors j).cpu.transfer) (sym i)) (λ n. refl)) keeps.under_way;
+      runs = λ j. subst (λ (o : Option Command). IsRun (progress_of (after_do v.plan (flat v) k o r) j)
+          (at_put v.runs k run j)) (sym can.there)
+          (runs_answered v.plan (flat v) k can.command r run v.runs can.lawful.going can.come keeps.runs j);
+    })
+  where
+    p : Processor
+    p = counted (v.processors c) (is_try (flat v) k (next_command v.plan (flat v) k) r)
+
+    ready : List ℕ
+    ready = v.ready ++ released_by v.plan k (next_command v.plan (flat v) k)
+
+-- ---- a failure
+
+pub fault_keeps : (v : Seen) (o : Option ℕ) → KeepsBook v → MayFault (flat v) o → KeepsBook (failed v o)
+unfolding IsLawful after_entry custody_next
+fault_keeps v o k may = book_next v (entry.Fault o) (failed v o) k (record {
+  plan = refl;
+  entries = refl;
+  lawful = may;
+  allowed = tt;
+  online = tt;
+  next = refl;
+  pending = refl;
+  going_owned = k.going_owned;
+  tied = k.tied;
+  holding_right = k.holding_right;
+  under_way = k.under_way;
+  runs = runs_failed (flat v) o v.runs k.runs;
+})
+
+-- ---- the owner
+
+-- the supervisor is taken or given up, where nothing goes
+pub owner_keeps : (v : Seen) (owner : Option Owner) → KeepsBook v → IsIdle v.owner → IsIdle owner
+    → is_pending v.owner ≡ is_pending owner
+    → KeepsBook (record v { owner = owner })
+owner_keeps v owner k was now pending = record {
+  legal = k.legal;
+  clean = k.clean;
+  held = sym same ∙ k.held;
+  stale_due = subst (λ (c : Custody). Fine c (is_pending owner)) same (subst (Fine (shown v)) pending k.stale_due);
+  going_owned = subst (λ (c : Custody). IsOwned c owner) same
+      (owned_idle (shown v) v.owner owner k.going_owned was now);
+  tied = k.tied;
+  holding_right = λ d. subst (λ (c : Custody). HoldsRight v.bound c.descriptor (v.processors d)) same
+      (k.holding_right d);
+  under_way = k.under_way;
+  runs = k.runs;
+}
+  where
+    cut_same : cut_of_owner v.owner ≡ cut_of_owner owner
+    cut_same = was.cut ∙ sym now.cut
+
+    same : shown v ≡ shown (record v { owner = owner })
+    same = λ i. record (shown v) { descriptor = λ j n. descriptor_use (v.linked j n) (cut_uid (cut_same i) j n) }

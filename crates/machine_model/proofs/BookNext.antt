@@ -1,0 +1,48 @@
+-- One more entry: what of the machine's promise it keeps by the laws of books and custody alone.
+use Rattle.std.proofs.Common.{◌≡◌, ℕ, [], ◌∷◌, ◌++◌, sym, ap, subst, ◌∙◌}
+use Rattle.book.specs.declared.entries.Entry.{Entry}
+use Rattle.flat_model.specs.Legal.{IsLawful, after_entry}
+use Rattle.flat_model.specs.Store.{Store, progress_of}
+use Rattle.flat_model.proofs.BookLaws.{legal_push, store_after-push}
+use Rattle.custody_model.specs.Allowed.{IsAllowed}
+use Rattle.custody_model.specs.Custody.{Custody}
+use Rattle.custody_model.specs.Fine.{FillsOnline, pending_after}
+use Rattle.custody_model.specs.Next.{custody_next}
+use Rattle.custody_model.proofs.CleanLaws.{clean_push, custody_after-push}
+use Rattle.custody_model.proofs.FineLaws.{fine_next}
+use Rattle.machine_model.specs.Custodial.{KeepsBook, IsOwned, IsTied, HoldsRight, AreUnderWay, IsRun, is_pending}
+use Rattle.machine_model.specs.Seen.{Seen, flat, shown}
+
+-- A machine after one more entry, by what the entry is and what its tables show then.
+pub record Books (v : Seen) (e : Entry) (now : Seen) : Type 0 where
+  pub plan : now.plan ≡ v.plan
+  pub entries : now.entries ≡ v.entries ++ e ∷ []
+  pub lawful : IsLawful v.plan (flat v) e
+  pub allowed : IsAllowed v.plan (flat v) (shown v) e
+  pub online : FillsOnline (shown v) e
+  pub next : shown now ≡ custody_next v.plan (flat v) (shown v) e
+  pub pending : is_pending now.owner ≡ pending_after (is_pending v.owner) e
+  pub going_owned : IsOwned (custody_next v.plan (flat v) (shown v) e) now.owner
+  pub tied : IsTied now.bound now.reads now.words
+  pub holding_right : (d : ℕ) → HoldsRight now.bound (shown now).descriptor (now.processors d)
+  pub under_way : AreUnderWay now.reads now.processors
+  pub runs : (k : ℕ) → IsRun (progress_of (after_entry v.plan (flat v) e) k) (now.runs k)
+
+pub book_next : (v : Seen) (e : Entry) (now : Seen) → KeepsBook v → Books v e now → KeepsBook now
+book_next v e now k b = record {
+  legal = rw (b.plan, b.entries) (legal_push v.plan v.entries e k.legal b.lawful);
+  clean = rw (b.plan, b.entries) (clean_push v.plan v.entries e k.clean
+      (subst (λ (c : Custody). IsAllowed v.plan (flat v) c e) k.held b.allowed));
+  held = b.next ∙ (ap (λ (c : Custody). custody_next v.plan (flat v) c e) k.held ∙
+      rw (b.plan, b.entries) (sym (custody_after-push v.plan v.entries e)));
+  stale_due = rw (b.next, b.pending) (fine_next v.plan (flat v) (shown v)
+      (is_pending v.owner) e k.stale_due b.allowed b.online);
+  going_owned = rw b.next b.going_owned;
+  tied = b.tied;
+  holding_right = b.holding_right;
+  under_way = b.under_way;
+  runs = λ j. subst (λ (s : Store). IsRun (progress_of s j) (now.runs j)) (sym flat_is) (b.runs j);
+}
+  where
+    flat_is : flat now ≡ after_entry v.plan (flat v) e
+    flat_is = rw (b.plan, b.entries) (store_after-push v.plan v.entries e)

@@ -1,0 +1,227 @@
+-- The signal of what was taken is given, and a processor clears.
+use Rattle.std.proofs.Common.{◌≡◌, ℕ, Bool, true, false, cond, not, eqb, List, [], ◌∷◌, map, filter, Option, Some, None}
+use Rattle.std.proofs.Common.{refl, sym, ap, subst, ◌∙◌, arith}
+use Rattle.assoc_mem.specs.declared.HeldPage.{HeldPage}
+use Rattle.assoc_mem.specs.declared.HeldSeg.{HeldSeg}
+use Rattle.assoc_mem.specs.declared.What.{What}
+use Rattle.assoc_mem.specs.declared.What.TheVariants as what
+use Rattle.assoc_mem.specs.Held.{names_seg, names_page}
+use Rattle.book.specs.declared.entries.Entry.TheVariants as entry
+use Rattle.page_table.specs.declared.Ptw.{Ptw}
+use Rattle.page_table.specs.declared.Ptw.TheVariants as ptw
+use Rattle.flat_model.specs.Legal.{IsLawful, after_entry}
+use Rattle.custody_model.specs.declared.DescriptorUse.{DescriptorUse}
+use Rattle.custody_model.specs.Allowed.{SomethingGoes, NamesAllGoing}
+use Rattle.custody_model.specs.Fine.{NoneDue}
+use Rattle.custody_model.specs.Custody.{Seat, bound_page, uid_of_page, leads_to, is_uid, names_frame, names_descriptor}
+use Rattle.custody_model.specs.Custody.{names_number, cleared}
+use Rattle.custody_model.specs.Next.{at_put, custody_next, told}
+use Rattle.machine_model.specs.Changes.{signalled, cleared_at, told_at, dropped, warned, done_dropping}
+use Rattle.machine_model.specs.declared.Phase.{Phase}
+use Rattle.machine_model.specs.declared.Phase.TheVariants as phase
+use Rattle.machine_model.specs.Custodial.{KeepsBook, HoldsRight, AreHeldPages, AreHeldSegs, AreOfProcess, is_pending}
+use Rattle.machine_model.specs.Custodial.{says, waits_for}
+use Rattle.machine_model.specs.Seen.{Seen, shown, seat_of, frame_use, bound_use, descriptor_use, cut_uid}
+use Rattle.machine_model.specs.State.{Processor, Owner}
+use Rattle.machine_model.proofs.BookNext.{book_next}
+use Rattle.machine_model.proofs.DueLaws.{HasSaid, none_due, owned_signal, owned_clear}
+use Rattle.machine_model.proofs.HeldLaws.{pages_kept, segs_kept, few_kept, under_way_alike, kept_step}
+use Rattle.machine_model.proofs.Places.{by_place, put_map}
+use Rattle.machine_model.proofs.TieLaws.{none_some}
+
+-- ---- what custody sees of what is dropped
+
+bound_in_use : (page : ℕ × ℕ) (w : Ptw) → bound_page (bound_use page w) ≡ Some page
+bound_in_use page ptw.Null = refl
+bound_in_use page (ptw.Out r) = refl
+bound_in_use page (ptw.Here f) = refl
+bound_in_use page (ptw.Leaving f) = refl
+
+-- the page in a frame that is bound
+pub page_in_use : (v : Seen) (f : ℕ) (page : ℕ × ℕ) → v.bound f ≡ Some page → bound_page ((shown v).frame f) ≡ Some page
+page_in_use v f page h = ap (λ (o : Option (ℕ × ℕ)). bound_page (frame_use v.words o (v.reads f))) h
+    ∙ bound_in_use page (v.words page.0 page.1)
+
+page_named : (v : Seen) (w : What) (e : HeldPage) → v.bound e.frame ≡ Some (e.uid, e.page)
+    → names_frame (shown v) w e.frame ≡ names_page w e
+page_named v what.All e h = refl
+page_named v (what.Page g) e h = refl
+page_named v (what.Seg u) e h = ap (λ (o : Option (ℕ × ℕ)). is_uid u (uid_of_page o))
+    (page_in_use v e.frame (e.uid, e.page) h)
+
+seg_named : (v : Seen) (w : What) (k : ℕ) (e : HeldSeg) → leads_to ((shown v).descriptor k e.number) ≡ Some e.uid
+    → names_descriptor (shown v) w k e.number ≡ names_seg w e
+seg_named v what.All k e h = refl
+seg_named v (what.Page g) k e h = refl
+seg_named v (what.Seg u) k e h = ap (is_uid u) h
+
+pages_dropped : (v : Seen) (w : What) (es : List HeldPage) → AreHeldPages v.bound es
+    → map (λ e. e.frame) (filter (λ e. not (names_page w e)) es)
+    ≡ filter (λ f. not (names_frame (shown v) w f)) (map (λ e. e.frame) es)
+pages_dropped v w [] held = refl
+pages_dropped v w (e ∷ es) held = kept_step (λ x. x.frame) (λ x. not (names_page w x))
+    (λ f. not (names_frame (shown v) w f)) e es
+    (pages_dropped v w es held.1) (not (names_page w e)) (not (names_frame (shown v) w e.frame))
+    (ap not (page_named v w e held.0))
+
+segs_dropped : (v : Seen) (w : What) (k : ℕ) (es : List HeldSeg) → AreHeldSegs (shown v).descriptor k es
+    → map (λ e. e.number) (filter (λ e. not (names_seg w e)) es)
+    ≡ filter (λ n. not (names_number (shown v) w (Some k) n)) (map (λ e. e.number) es)
+segs_dropped v w k [] held = refl
+segs_dropped v w k (e ∷ es) held = kept_step (λ x. x.number) (λ x. not (names_seg w x))
+    (λ n. not (names_number (shown v) w (Some k) n)) e es
+    (segs_dropped v w k es held.1) (not (names_seg w e)) (not (names_descriptor (shown v) w k e.number))
+    (ap not (seg_named v w k e held.0))
+
+segs_of_process : (v : Seen) (w : What) (o : Option ℕ) (es : List HeldSeg) → AreOfProcess (shown v).descriptor o es
+    → map (λ e. e.number) (filter (λ e. not (names_seg w e)) es)
+    ≡ filter (λ n. not (names_number (shown v) w o n)) (map (λ e. e.number) es)
+segs_of_process v w None es held = rw held refl
+segs_of_process v w (Some k) es held = segs_dropped v w k es held
+
+dropped_seat : (v : Seen) (w : What) (p : Processor) → HoldsRight v.bound (shown v).descriptor p
+    → seat_of (dropped p w) ≡ cleared (shown v) w (seat_of p)
+dropped_seat v w p right = λ i. record (seat_of p) {
+  segs = segs_of_process v w p.cpu.process p.cpu.assoc.segs right.segs i;
+  pages = pages_dropped v w p.cpu.assoc.pages right.pages i;
+}
+
+told_seat : (v : Seen) (c : ℕ) (w : What) (d : ℕ) → HoldsRight v.bound (shown v).descriptor (v.processors d)
+    → seat_of (told_at c w d (v.processors d)) ≡ told (shown v) c w d ((shown v).seat d)
+told_seat v c w d right = by (eqb d c) (v.processors d).cpu.online
+  where
+    by : (b online : Bool) → seat_of (cond b (dropped (v.processors d) w)
+        (cond online (warned (v.processors d) w) (v.processors d)))
+        ≡ cond b (cleared (shown v) w ((shown v).seat d))
+        (cond online (record ((shown v).seat d) { due = Some w }) ((shown v).seat d))
+    by true online = dropped_seat v w (v.processors d) right
+    by false true = refl
+    by false false = refl
+
+segs_right : (descriptor : ℕ → ℕ → DescriptorUse) (w : What) (o : Option ℕ) (es : List HeldSeg)
+    → AreOfProcess descriptor o es
+    → AreOfProcess descriptor o (filter (λ e. not (names_seg w e)) es)
+segs_right descriptor w None es held = rw held refl
+segs_right descriptor w (Some k) es held = segs_kept descriptor k (λ e. not (names_seg w e)) es held
+
+dropped_right : (bound : ℕ → Option (ℕ × ℕ)) (descriptor : ℕ → ℕ → DescriptorUse) (w : What) (p : Processor)
+    → HoldsRight bound descriptor p
+    → HoldsRight bound descriptor (dropped p w)
+dropped_right bound descriptor w p right = record {
+  pages = pages_kept bound (λ e. not (names_page w e)) p.cpu.assoc.pages right.pages;
+  segs = segs_right descriptor w p.cpu.process p.cpu.assoc.segs right.segs;
+  few_pages = let kept = few_kept (λ e. not (names_page w e)) p.cpu.assoc.pages in let few =
+      right.few_pages in omega (arith, kept, few);
+  few_segs = let kept = few_kept (λ e. not (names_seg w e)) p.cpu.assoc.segs in let few =
+      right.few_segs in omega (arith, kept, few);
+}
+
+told_right : (bound : ℕ → Option (ℕ × ℕ)) (descriptor : ℕ → ℕ → DescriptorUse) (c : ℕ) (w : What) (d : ℕ)
+    (p : Processor) → HoldsRight bound descriptor p
+    → HoldsRight bound descriptor (told_at c w d p)
+told_right bound descriptor c w d p right = by (eqb d c) p.cpu.online
+  where
+    by : (b online : Bool) → HoldsRight bound descriptor (cond b (dropped p w) (cond online (warned p w) p))
+    by true online = dropped_right bound descriptor w p right
+    by false true = record {
+      pages = right.pages;
+      segs = right.segs;
+      few_pages = right.few_pages;
+      few_segs =
+          right.few_segs;
+    }
+    by false false = right
+
+told_transfer : (c : ℕ) (w : What) (d : ℕ) (p : Processor) → (told_at c w d p).cpu.transfer ≡ p.cpu.transfer
+told_transfer c w d p = by (eqb d c) p.cpu.online
+  where
+    by : (b online : Bool) → (cond b (dropped p w) (cond online (warned p w) p)).cpu.transfer ≡ p.cpu.transfer
+    by true online = refl
+    by false true = refl
+    by false false = refl
+
+-- ---- the entries
+
+-- an owner that is to say something waits for nothing yet
+pub says_waits : (o : Option Owner) (w : What) → says o ≡ Some w → waits_for o ≡ None
+says_waits None w h = refl
+says_waits (Some o) w h = by o.phase h
+  where
+    by : (x : Phase) → says (Some (record o { phase = x })) ≡ Some w → waits_for (Some (record o { phase = x })) ≡ None
+    by phase.Looking h = refl
+    by (phase.Taken aim w) h = refl
+    by (phase.Waiting aim w) h = absurd (none_some h)
+
+-- the owner is to signal this, and waits for it afterwards
+pub record CanSignal (v : Seen) (c : ℕ) (w : What) (owner : Option Owner) : Type 0 where
+  pub online : (v.processors c).cpu.online ≡ true
+  pub says : says v.owner ≡ Some w
+  pub said : HasSaid v.owner owner w
+  pub still : is_pending owner ≡ false
+
+pub signal_keeps : (v : Seen) (c : ℕ) (w : What) (owner : Option Owner) → KeepsBook v → CanSignal v c w owner
+    → KeepsBook (signalled v c w owner)
+unfolding IsLawful after_entry custody_next
+signal_keeps v c w owner k can = book_next v (entry.Signal c w) (signalled v c w owner) k (record {
+  plan = refl;
+  entries = refl;
+  lawful = tt;
+  allowed = record { online = can.online; none_due = none; something = goes.0; all = goes.1 };
+  online = tt;
+  next = λ i. record {
+    active = v.active;
+    frame = (shown v).frame;
+    descriptor = λ j n. descriptor_use (v.linked j n) (cut_uid (can.said.cut i) j n);
+    ready = v.ready;
+    seat = λ d. told_seat v c w d (k.holding_right d) i;
+  };
+  pending = can.still;
+  going_owned = owned_signal (shown v) v.owner owner c w k.going_owned none goes.0 can.said;
+  tied = k.tied;
+  holding_right = λ d. subst (λ (x : ℕ → ℕ → DescriptorUse). HoldsRight v.bound x (told_at c w d (v.processors d)))
+      (λ i. λ j n. descriptor_use (v.linked j n) (cut_uid (sym can.said.cut i) j n))
+      (told_right v.bound (shown v).descriptor c w d (v.processors d) (k.holding_right d));
+  under_way = under_way_alike v.reads v.processors (λ d. told_at c w d (v.processors d))
+      (λ d. told_transfer c w d (v.processors d)) k.under_way;
+  runs = k.runs;
+})
+  where
+    goes : SomethingGoes (shown v) × NamesAllGoing (shown v) w
+    goes = k.going_owned.says w can.says
+
+    none : NoneDue (shown v)
+    none = none_due (shown v) v.owner k.going_owned (says_waits v.owner w can.says)
+
+pub clear_keeps : (v : Seen) (c : ℕ) (w : What) → KeepsBook v → (v.processors c).cpu.due ≡ Some w
+    → KeepsBook (cleared_at v c w)
+unfolding IsLawful after_entry custody_next
+clear_keeps v c w k due = book_next v (entry.Clear c w) (cleared_at v c w) k (record {
+  plan = refl;
+  entries = refl;
+  lawful = tt;
+  allowed = due;
+  online = tt;
+  next = λ i. record (shown v) {
+    seat = λ d. (put_map seat_of v.processors c (done_dropping (v.processors c) w) d
+        ∙ ap (λ (x : Seat). at_put (shown v).seat c x d) seat_is) i;
+  };
+  pending = refl;
+  going_owned = owned_clear (shown v) v.owner c w k.going_owned;
+  tied = k.tied;
+  holding_right = λ d. by_place (λ (x : Processor). HoldsRight v.bound (shown v).descriptor x) v.processors c
+      (done_dropping (v.processors c) w) d
+      (λ i. right) (λ n. k.holding_right d);
+  under_way = under_way_alike v.reads v.processors (at_put v.processors c (done_dropping (v.processors c) w))
+      (λ d. by_place (λ (x : Processor). x.cpu.transfer ≡ (v.processors d).cpu.transfer) v.processors c
+      (done_dropping (v.processors c) w) d
+      (λ i. ap (λ (j : ℕ). (v.processors j).cpu.transfer) (sym i)) (λ n. refl)) k.under_way;
+  runs = k.runs;
+})
+  where
+    seat_is : seat_of (done_dropping (v.processors c) w)
+        ≡ record (cleared (shown v) w ((shown v).seat c)) { due = None }
+    seat_is = ap (λ (x : Seat). record x { due = None }) (dropped_seat v w (v.processors c) (k.holding_right c))
+
+    right : HoldsRight v.bound (shown v).descriptor (done_dropping (v.processors c) w)
+    right = let right = dropped_right v.bound (shown v).descriptor w (v.processors c) (k.holding_right c) in
+        record { pages = right.pages; segs = right.segs; few_pages = right.few_pages; few_segs = right.few_segs }

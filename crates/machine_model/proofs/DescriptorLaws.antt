@@ -1,0 +1,317 @@
+-- A descriptor is connected, cut, gone, or back.
+use Rattle.std.proofs.Common.{◌≡◌, ℕ, Bool, true, false, cond, ◌||◌, List, [], ◌∷◌, ◌++◌, Option, Some, None, refl, sym}
+use Rattle.std.proofs.Common.{ap, subst, ◌∙◌}
+use Rattle.assoc_mem.specs.declared.What.{What}
+use Rattle.book.specs.declared.entries.Entry.TheVariants as entry
+use Rattle.flat_model.specs.Legal.{IsLawful, after_entry}
+use Rattle.flat_model.specs.Store.{known_uid}
+use Rattle.custody_model.specs.declared.DescriptorUse.{DescriptorUse}
+use Rattle.custody_model.specs.declared.DescriptorUse.TheVariants as descriptor
+use Rattle.custody_model.specs.Allowed.{NamesAllGoing, NobodyHoldsSeg}
+use Rattle.custody_model.specs.Custody.{is_current_descriptor, is_going_descriptor, names_descriptor, leads_to}
+use Rattle.custody_model.specs.Custody.{cut as descriptor_cut, reconnected}
+use Rattle.custody_model.specs.Fine.{Fine, NoneDue}
+use Rattle.custody_model.specs.Next.{at_put_two, custody_next}
+use Rattle.custody_model.proofs.FineLaws.{nobody_holds_seg, nobody_holds_going_seg}
+use Rattle.machine_model.specs.Changes.{cut, gone_seg, back_seg, connected}
+use Rattle.machine_model.specs.declared.Aim.{Aim}
+use Rattle.machine_model.specs.Custodial.{KeepsBook, HoldsRight, IsAimed, AreApart, has_cut, is_pending, waits_for}
+use Rattle.machine_model.specs.Seen.{Seen, flat, shown, descriptor_use, cut_uid, cut_use, is_cut_at}
+use Rattle.machine_model.specs.Reads.{frames_of_owner, cut_of_owner}
+use Rattle.machine_model.specs.State.{Owner, CutDescriptor}
+use Rattle.machine_model.proofs.BookNext.{book_next}
+use Rattle.machine_model.proofs.DueLaws.{HasLeftCut, owned_left_cut}
+use Rattle.machine_model.proofs.HeldLaws.{right_alike, right_descriptor}
+use Rattle.machine_model.proofs.OwnedLaws.{owned_cut, owned_like, like_descriptor, cut_at_same, cut_at_other}
+use Rattle.machine_model.proofs.OwnedLaws.{current_descriptor_is_not_going}
+use Rattle.machine_model.proofs.Places.{by_places, one_place_of_two, put_two_here}
+
+-- ---- what was cut
+
+or_parts : (a b : Bool) → (a || b) ≡ false → (a ≡ false) × (b ≡ false)
+or_parts false b h = (refl, h)
+or_parts true b h = absurd (let no : true ≡ false = h in cc)
+
+cut_none : (ds : List CutDescriptor) (k n : ℕ) → has_cut ds k n ≡ false → cut_uid ds k n ≡ None
+cut_none [] k n h = refl
+cut_none (d ∷ ds) k n h = let parts = or_parts (is_cut_at k n d) (has_cut ds k n) h in
+    rw parts.0 (cut_none ds k n parts.1)
+
+cut_head : (d : CutDescriptor) (ds : List CutDescriptor) → cut_uid (d ∷ ds) d.process d.number ≡ Some d.uid
+cut_head d ds = ap (λ (b : Bool). cond b (Some d.uid) (cut_uid ds d.process d.number)) (cut_at_same d)
+
+cut_rest : (d : CutDescriptor) (ds : List CutDescriptor) (k n : ℕ) → (k ≡ d.process → n ≡ d.number → ⊥)
+    → cut_uid (d ∷ ds) k n ≡ cut_uid ds k n
+cut_rest d ds k n h = ap (λ (b : Bool). cond b (Some d.uid) (cut_uid ds k n)) (cut_at_other k n d h)
+
+cut_pushed : (ds : List CutDescriptor) (d : CutDescriptor) → has_cut ds d.process d.number ≡ false
+    → cut_uid (ds ++ d ∷ []) d.process d.number ≡ Some d.uid
+cut_pushed [] d h = cut_head d []
+cut_pushed (x ∷ xs) d h = let parts = or_parts (is_cut_at d.process d.number x) (has_cut xs d.process d.number) h in
+    ap (λ (b : Bool). cond b (Some x.uid) (cut_uid (xs ++ d ∷ []) d.process d.number)) parts.0 ∙ cut_pushed xs d parts.1
+
+cut_kept : (ds : List CutDescriptor) (d : CutDescriptor) (k n : ℕ) → (k ≡ d.process → n ≡ d.number → ⊥)
+    → cut_uid (ds ++ d ∷ []) k n ≡ cut_uid ds k n
+cut_kept [] d k n h = cut_rest d [] k n h
+cut_kept (x ∷ xs) d k n h = ap (λ (o : Option ℕ). cond (is_cut_at k n x) (Some x.uid) o) (cut_kept xs d k n h)
+
+unlinked_going : (x y : Option ℕ) → is_going_descriptor (descriptor_use x y) ≡ true → x ≡ None
+unlinked_going None y h = refl
+unlinked_going (Some u) y h = absurd (let no : false ≡ true = h in cc)
+
+-- a descriptor's use by the segment that it leads to
+use_linked : (v : Seen) (k n u : ℕ) → v.linked k n ≡ Some u → (shown v).descriptor k n ≡ descriptor.Current u
+use_linked v k n u h = ap (λ (o : Option ℕ). descriptor_use o (cut_uid (cut_of_owner v.owner) k n)) h
+
+-- ---- cut
+
+-- A descriptor is connected, and the owner waits for nothing. What the owner is to signal names it, and all that goes
+-- already.
+pub record CanCut (v : Seen) (aim : Aim) (w : What) (d : CutDescriptor) : Type 0 where
+  pub linked : v.linked d.process d.number ≡ Some d.uid
+  pub still : waits_for v.owner ≡ None
+  pub others : NamesAllGoing (shown v) w
+  pub this : names_descriptor (shown v) w d.process d.number ≡ true
+  pub aimed : IsAimed aim w (frames_of_owner v.owner) (cut_of_owner v.owner ++ d ∷ [])
+
+leads_cut : (x : DescriptorUse) → leads_to (descriptor_cut x) ≡ leads_to x
+leads_cut descriptor.Free = refl
+leads_cut (descriptor.Current u) = refl
+leads_cut (descriptor.Going u) = refl
+
+pub cut_keeps : (v : Seen) (c : ℕ) (aim : Aim) (w : What) (d : CutDescriptor) → KeepsBook v → CanCut v aim w d
+    → KeepsBook (cut v c aim w d)
+unfolding IsLawful after_entry custody_next
+cut_keeps v c aim w d k can = book_next v (entry.Cut d.process d.number) (cut v c aim w d) k (record {
+  plan = refl;
+  entries = refl;
+  lawful = tt;
+  allowed = current;
+  online = tt;
+  next = λ i. record (shown v) { descriptor = λ j n. next_at j n i };
+  pending = refl;
+  going_owned = owned_cut (shown v) v.owner c d aim w k.going_owned current can.still can.others can.this can.aimed;
+  tied = k.tied;
+  holding_right = λ e. right_alike v.bound (shown v).descriptor now (v.processors e) (λ j n. ap leads_to (next_at j n)
+      ∙ by_places (λ (x : DescriptorUse). leads_to x ≡ leads_to ((shown v).descriptor j n))
+      (shown v).descriptor d.process d.number made j n
+      (λ a b. leads_cut ((shown v).descriptor d.process d.number) ∙ rw (a, b) refl) (λ m. refl)) (k.holding_right e);
+  under_way = k.under_way;
+  runs = k.runs;
+})
+  where
+    ds : List CutDescriptor
+    ds = cut_of_owner v.owner
+
+    is : (shown v).descriptor d.process d.number ≡ descriptor.Current d.uid
+    is = use_linked v d.process d.number d.uid can.linked
+
+    current : is_current_descriptor ((shown v).descriptor d.process d.number) ≡ true
+    current = ap is_current_descriptor is
+
+    made : DescriptorUse
+    made = descriptor_cut ((shown v).descriptor d.process d.number)
+
+    linked : ℕ → ℕ → Option ℕ
+    linked = at_put_two v.linked d.process d.number None
+
+    now : ℕ → ℕ → DescriptorUse
+    now j n = descriptor_use (linked j n) (cut_uid (ds ++ d ∷ []) j n)
+
+    new : has_cut ds d.process d.number ≡ false
+    new = sym (k.going_owned.cuts d.process d.number)
+        ∙ current_descriptor_is_not_going ((shown v).descriptor d.process d.number) current
+
+    here : now d.process d.number ≡ made
+    here = ap (λ (o : Option ℕ). descriptor_use o (cut_uid (ds ++ d ∷ []) d.process d.number))
+        (put_two_here v.linked d.process d.number None)
+        ∙ (ap cut_use (cut_pushed ds d new) ∙ sym (ap descriptor_cut is))
+
+    other : (j n : ℕ) → (j ≡ d.process → n ≡ d.number → ⊥) → now j n ≡ (shown v).descriptor j n
+    other j n m = by_places (λ (o : Option ℕ). descriptor_use o (cut_uid (ds ++ d ∷ []) j n)
+        ≡ (shown v).descriptor j n) v.linked d.process d.number None j n
+        (λ a b. absurd (m a b)) (λ x. ap (descriptor_use (v.linked j n)) (cut_kept ds d j n m))
+
+    next_at : (j n : ℕ) → now j n ≡ at_put_two (shown v).descriptor d.process d.number made j n
+    next_at = one_place_of_two (shown v).descriptor now d.process d.number made here other
+
+-- ---- gone, or back
+
+-- A descriptor is on its way out, every processor has cleared, and the owner goes on without its first descriptor,
+-- which this
+-- is.
+pub record CanFinishSeg (v : Seen) (d : CutDescriptor) (owner : Option Owner) : Type 0 where
+  pub none : NoneDue (shown v)
+  pub still : is_pending v.owner ≡ false
+  pub after : is_pending owner ≡ false
+  pub first : HasLeftCut v.owner owner d
+
+module _ (v : Seen) (d : CutDescriptor) (owner : Option Owner) (k : KeepsBook v) (can : CanFinishSeg v d owner) where
+  cut_going : is_going_descriptor ((shown v).descriptor d.process d.number) ≡ true
+  cut_going = k.going_owned.cuts d.process d.number
+      ∙ (ap (λ (ds : List CutDescriptor). has_cut ds d.process d.number) can.first.cut
+      ∙ ap (λ (b : Bool). b || has_cut can.first.rest d.process d.number) (cut_at_same d))
+
+  cut_unlinked : v.linked d.process d.number ≡ None
+  cut_unlinked = unlinked_going (v.linked d.process d.number)
+      (cut_uid (cut_of_owner v.owner) d.process d.number) cut_going
+
+  cut_nobody : NobodyHoldsSeg (shown v) d.process d.number
+  cut_nobody = nobody_holds_going_seg (shown v) d.process d.number
+      (subst (Fine (shown v)) can.still k.stale_due) can.none
+      (ap (λ (o : Option ℕ). is_current_descriptor
+      (descriptor_use o (cut_uid (cut_of_owner v.owner) d.process d.number))) cut_unlinked
+      ∙ not_current (cut_uid (cut_of_owner v.owner) d.process d.number))
+    where
+      not_current : (y : Option ℕ) → is_current_descriptor (cut_use y) ≡ false
+      not_current None = refl
+      not_current (Some u) = refl
+
+  cut_apart : (has_cut can.first.rest d.process d.number ≡ false) × AreApart can.first.rest
+  cut_apart = subst AreApart can.first.cut k.going_owned.apart
+
+  -- every other descriptor is used as before
+  others_uncut : (linked : ℕ → ℕ → Option ℕ)
+      → ((j n : ℕ) → (j ≡ d.process → n ≡ d.number → ⊥) → linked j n ≡ v.linked j n)
+      → (j n : ℕ) → (j ≡ d.process → n ≡ d.number → ⊥)
+      → descriptor_use (linked j n) (cut_uid (cut_of_owner owner) j n) ≡ (shown v).descriptor j n
+  others_uncut linked same j n m = ap (λ (o : Option ℕ). descriptor_use o (cut_uid (cut_of_owner owner) j n))
+      (same j n m)
+      ∙ ap (descriptor_use (v.linked j n)) (ap (λ (ds : List CutDescriptor). cut_uid ds j n) can.first.left
+      ∙ (sym (cut_rest d can.first.rest j n m) ∙ ap (λ (ds : List CutDescriptor). cut_uid ds j n) (sym can.first.cut)))
+
+  pub gone_seg_keeps : KeepsBook (gone_seg v d owner)
+  unfolding IsLawful after_entry custody_next
+  gone_seg_keeps = book_next v (entry.GoneSeg d.process d.number) (gone_seg v d owner) k (record {
+    plan = refl;
+    entries = refl;
+    lawful = tt;
+    allowed = record { going = cut_going; nobody = cut_nobody };
+    online = tt;
+    next = λ i. record (shown v) { descriptor = λ j n. next_at j n i };
+    pending = can.after ∙ sym can.still;
+    going_owned = owned_left_cut (shown v) v.owner owner d descriptor.Free k.going_owned can.none can.first refl;
+    tied = k.tied;
+    holding_right = λ e. subst (λ (x : ℕ → ℕ → DescriptorUse). HoldsRight v.bound x (v.processors e))
+        (λ i. λ j n. sym (next_at j n) i)
+        (right_descriptor v.bound (shown v).descriptor d.process d.number descriptor.Free (v.processors e)
+        (cut_nobody e) (k.holding_right e));
+    under_way = k.under_way;
+    runs = k.runs;
+  })
+    where
+      now : ℕ → ℕ → DescriptorUse
+      now j n = descriptor_use (v.linked j n) (cut_uid (cut_of_owner owner) j n)
+
+      here : now d.process d.number ≡ descriptor.Free
+      here = ap (λ (o : Option ℕ). descriptor_use o (cut_uid (cut_of_owner owner) d.process d.number)) cut_unlinked
+          ∙ ap cut_use (ap (λ (ds : List CutDescriptor). cut_uid ds d.process d.number) can.first.left
+          ∙ cut_none can.first.rest d.process d.number cut_apart.0)
+
+      next_at : (j n : ℕ) → now j n ≡ at_put_two (shown v).descriptor d.process d.number descriptor.Free j n
+      next_at = one_place_of_two (shown v).descriptor now d.process d.number descriptor.Free here
+          (others_uncut v.linked (λ j n m. refl))
+
+  pub back_seg_keeps : KeepsBook (back_seg v d owner)
+  unfolding IsLawful after_entry custody_next
+  back_seg_keeps = book_next v (entry.BackSeg d.process d.number) (back_seg v d owner) k (record {
+    plan = refl;
+    entries = refl;
+    lawful = tt;
+    allowed = record { going = cut_going; nobody = cut_nobody };
+    online = tt;
+    next = λ i. record (shown v) { descriptor = λ j n. next_at j n i };
+    pending = can.after ∙ sym can.still;
+    going_owned = owned_left_cut (shown v) v.owner owner d made k.going_owned can.none can.first
+        (ap is_going_descriptor made_is);
+    tied = k.tied;
+    holding_right = λ e. subst (λ (x : ℕ → ℕ → DescriptorUse). HoldsRight v.bound x (v.processors e))
+        (λ i. λ j n. sym (next_at j n) i)
+        (right_descriptor v.bound (shown v).descriptor d.process d.number made (v.processors e) (cut_nobody e)
+        (k.holding_right e));
+    under_way = k.under_way;
+    runs = k.runs;
+  })
+    where
+      made : DescriptorUse
+      made = reconnected ((shown v).descriptor d.process d.number)
+
+      linked : ℕ → ℕ → Option ℕ
+      linked = at_put_two v.linked d.process d.number (Some d.uid)
+
+      now : ℕ → ℕ → DescriptorUse
+      now j n = descriptor_use (linked j n) (cut_uid (cut_of_owner owner) j n)
+
+      was : (shown v).descriptor d.process d.number ≡ descriptor.Going d.uid
+      was = ap (λ (o : Option ℕ). descriptor_use o (cut_uid (cut_of_owner v.owner) d.process d.number)) cut_unlinked
+          ∙ ap cut_use (ap (λ (ds : List CutDescriptor). cut_uid ds d.process d.number) can.first.cut
+          ∙ cut_head d can.first.rest)
+
+      made_is : made ≡ descriptor.Current d.uid
+      made_is = ap reconnected was
+
+      here : now d.process d.number ≡ made
+      here = ap (λ (o : Option ℕ). descriptor_use o (cut_uid (cut_of_owner owner) d.process d.number))
+          (put_two_here v.linked d.process d.number (Some d.uid)) ∙ sym made_is
+
+      next_at : (j n : ℕ) → now j n ≡ at_put_two (shown v).descriptor d.process d.number made j n
+      next_at = one_place_of_two (shown v).descriptor now d.process d.number made here (others_uncut linked (λ j n m.
+          by_places (λ (o : Option ℕ). o ≡ v.linked j n) v.linked d.process d.number (Some d.uid) j n
+          (λ a b. absurd (m a b)) (λ x. refl)))
+
+-- ---- connected
+
+-- A number stands for an active segment, and its descriptor is neither connected nor cut.
+pub record CanConnect (v : Seen) (k n u : ℕ) : Type 0 where
+  pub known : known_uid (flat v) k n ≡ Some u
+  pub active : v.active u ≡ true
+  pub unlinked : v.linked k n ≡ None
+  pub uncut : has_cut (cut_of_owner v.owner) k n ≡ false
+
+pub connect_keeps : (v : Seen) (j n u : ℕ) → KeepsBook v → CanConnect v j n u → KeepsBook (connected v j n u)
+unfolding IsLawful after_entry custody_next
+connect_keeps v j n u k can = book_next v (entry.Connect j n u) (connected v j n u) k (record {
+  plan = refl;
+  entries = refl;
+  lawful = tt;
+  allowed = record { known = can.known; active = can.active; free = is };
+  online = tt;
+  next = λ i. record (shown v) { descriptor = λ x y. next_at x y i };
+  pending = refl;
+  going_owned = owned_like (shown v) (record
+      (shown v) { descriptor = at_put_two (shown v).descriptor j n (descriptor.Current u) })
+      (like_descriptor (shown v) j n (descriptor.Current u) (ap is_going_descriptor is) refl) v.owner k.going_owned;
+  tied = k.tied;
+  holding_right = λ e. subst (λ (x : ℕ → ℕ → DescriptorUse). HoldsRight v.bound x (v.processors e))
+      (λ i. λ x y. sym (next_at x y) i)
+      (right_descriptor v.bound (shown v).descriptor j n (descriptor.Current u) (v.processors e) (nobody e)
+      (k.holding_right e));
+  under_way = k.under_way;
+  runs = k.runs;
+})
+  where
+    linked : ℕ → ℕ → Option ℕ
+    linked = at_put_two v.linked j n (Some u)
+
+    now : ℕ → ℕ → DescriptorUse
+    now x y = descriptor_use (linked x y) (cut_uid (cut_of_owner v.owner) x y)
+
+    is : (shown v).descriptor j n ≡ descriptor.Free
+    is = ap (λ (o : Option ℕ). descriptor_use o (cut_uid (cut_of_owner v.owner) j n)) can.unlinked
+        ∙ ap cut_use (cut_none (cut_of_owner v.owner) j n can.uncut)
+
+    nobody : NobodyHoldsSeg (shown v) j n
+    nobody = nobody_holds_seg (shown v) (is_pending v.owner) j n k.stale_due (ap is_current_descriptor is)
+        (ap is_going_descriptor is)
+
+    here : now j n ≡ descriptor.Current u
+    here = ap (λ (o : Option ℕ). descriptor_use o (cut_uid (cut_of_owner v.owner) j n))
+        (put_two_here v.linked j n (Some u))
+
+    other : (x y : ℕ) → (x ≡ j → y ≡ n → ⊥) → now x y ≡ (shown v).descriptor x y
+    other x y m = by_places (λ (o : Option ℕ). descriptor_use o (cut_uid (cut_of_owner v.owner) x y)
+        ≡ (shown v).descriptor x y) v.linked j n (Some u) x y
+        (λ a b. absurd (m a b)) (λ z. refl)
+
+    next_at : (x y : ℕ) → now x y ≡ at_put_two (shown v).descriptor j n (descriptor.Current u) x y
+    next_at = one_place_of_two (shown v).descriptor now j n (descriptor.Current u) here other

@@ -1,0 +1,179 @@
+-- What goes is the owner's alone where its signal is given, a processor clears, and what went is gone or back.
+use Rattle.std.proofs.Common.{◌≡◌, ◌≢◌, ℕ, Bool, true, false, cond, ◌||◌, eqb, List, ◌∷◌, Option, Some, None, inl, inr}
+use Rattle.std.proofs.Common.{refl, sym, ap, subst, ◌∙◌}
+use Rattle.std.proofs.lemmas.Bool.Decides.{eqb_tells}
+use Rattle.assoc_mem.specs.declared.What.{What}
+use Rattle.assoc_mem.specs.declared.What.TheVariants as what
+use Rattle.custody_model.specs.declared.FrameUse.{FrameUse}
+use Rattle.custody_model.specs.declared.DescriptorUse.{DescriptorUse}
+use Rattle.custody_model.specs.Allowed.{SomethingGoes}
+use Rattle.custody_model.specs.Custody.{Custody, Seat, has, is_going_frame, is_going_descriptor, names_frame}
+use Rattle.custody_model.specs.Custody.{names_descriptor, cleared}
+use Rattle.custody_model.specs.Fine.{NoneDue}
+use Rattle.custody_model.specs.Next.{with_frame, with_descriptor, signalled, answered_clear}
+use Rattle.machine_model.specs.Custodial.{IsOwned, IsShaped, AreDistinct, AreApart, has_cut, says, waits_for}
+use Rattle.machine_model.specs.Seen.{is_cut_at}
+use Rattle.machine_model.specs.Reads.{frames_of_owner, cut_of_owner}
+use Rattle.machine_model.specs.State.{Owner, CutDescriptor}
+use Rattle.machine_model.proofs.Places.{by_place, by_places}
+use Rattle.machine_model.proofs.TieLaws.{none_some}
+use Rattle.machine_model.proofs.OwnedLaws.{cut_at_tells}
+
+-- nothing is due where the owner waits for nothing
+pub none_due : (c : Custody) (o : Option Owner) → IsOwned c o → waits_for o ≡ None → NoneDue c
+none_due c o k still d = by (c.seat d).due refl
+  where
+    by : (x : Option What) → (c.seat d).due ≡ x → x ≡ None
+    by None e = refl
+    by (Some w) e = absurd (none_some (sym still ∙ k.due d w e))
+
+-- what a processor is to drop changes nothing of what goes
+goes_same : (c e : Custody) → e.frame ≡ c.frame → e.descriptor ≡ c.descriptor → SomethingGoes c → SomethingGoes e
+goes_same c e f d (inl g) = inl (record {
+  at = g.at;
+  going = ap (λ (h : ℕ → FrameUse). is_going_frame (h g.at)) f
+      ∙ g.going;
+})
+goes_same c e f d (inr g) = inr (record {
+  process = g.process;
+  number = g.number;
+  going = ap (λ (h : ℕ → ℕ → DescriptorUse). is_going_descriptor (h g.process g.number)) d ∙ g.going;
+})
+
+-- an owner that has said what it was to say, and waits for it
+pub record HasSaid (o q : Option Owner) (w : What) : Type 0 where
+  pub frames : frames_of_owner q ≡ frames_of_owner o
+  pub cut : cut_of_owner q ≡ cut_of_owner o
+  pub waits : waits_for q ≡ Some w
+  pub says : says q ≡ None
+  pub shaped : IsShaped q
+
+-- the signal is given
+pub owned_signal : (c : Custody) (o q : Option Owner) (d : ℕ) (w : What) → IsOwned c o → NoneDue c → SomethingGoes c
+    → HasSaid o q w
+    → IsOwned (signalled c d w) q
+owned_signal c o q d w k none goes said = record {
+  frames = λ f. k.frames f ∙ ap (λ (fs : List ℕ). has fs f) (sym said.frames);
+  cuts = λ j n. k.cuts j n ∙ ap (λ (ds : List CutDescriptor). has_cut ds j n) (sym said.cut);
+  once = subst AreDistinct (sym said.frames) k.once;
+  apart = subst AreApart (sym said.cut) k.apart;
+  due = λ e v h. said.waits ∙ ap (λ (x : What). Some x) (due_is e v (eqb e d) (c.seat e).online h);
+  alive = λ e v h. goes_same c (signalled c d w) refl refl goes;
+  says = λ v h. absurd (none_some (sym said.says ∙ h));
+  shaped = said.shaped;
+}
+  where
+    due_is : (e : ℕ) (v : What) (b online : Bool)
+        → (cond b (cleared c w (c.seat e)) (cond online (record (c.seat e) { due = Some w }) (c.seat e))).due ≡ Some v
+        → w ≡ v
+    due_is e v true online h = absurd (none_some (sym (none e) ∙ h))
+    due_is e v false true h = cc
+    due_is e v false false h = absurd (none_some (sym (none e) ∙ h))
+
+-- a processor clears
+pub owned_clear : (c : Custody) (o : Option Owner) (d : ℕ) (w : What) → IsOwned c o → IsOwned (answered_clear c d w) o
+owned_clear c o d w k = record {
+  frames = k.frames;
+  cuts = k.cuts;
+  once = k.once;
+  apart = k.apart;
+  due = λ e v h. k.due e v (was e v h);
+  alive = λ e v h. goes_same c (answered_clear c d w) refl refl (k.alive e v (was e v h));
+  says = λ v h. (let both = k.says v h in (
+    goes_same c (answered_clear c d w) refl refl both.0,
+    record {
+      frames = λ f g. names_same v f ∙ both.1.frames f g;
+      descriptors = λ j n g. names_descriptor_same v j n ∙ both.1.descriptors j n g;
+    },
+  ));
+  shaped = k.shaped;
+}
+  where
+    was : (e : ℕ) (v : What) → ((answered_clear c d w).seat e).due ≡ Some v → (c.seat e).due ≡ Some v
+    was e v = by_place (λ (x : Seat). x.due ≡ Some v → (c.seat e).due ≡ Some v) c.seat d
+        (record (cleared c w (c.seat d)) { due = None }) e
+        (λ i h. absurd (none_some h)) (λ n h. h)
+
+    names_same : (v : What) (f : ℕ) → names_frame (answered_clear c d w) v f ≡ names_frame c v f
+    names_same what.All f = refl
+    names_same (what.Page g) f = refl
+    names_same (what.Seg u) f = refl
+
+    names_descriptor_same : (v : What) (j n : ℕ)
+        → names_descriptor (answered_clear c d w) v j n ≡ names_descriptor c v j n
+    names_descriptor_same what.All j n = refl
+    names_descriptor_same (what.Page g) j n = refl
+    names_descriptor_same (what.Seg u) j n = refl
+
+-- ---- gone, or back
+
+-- the owner goes on without the first frame that it took
+pub record HasLeft (o q : Option Owner) (f : ℕ) : Type 0 where
+  pub rest : List ℕ
+  pub frames : frames_of_owner o ≡ f ∷ rest
+  pub left : frames_of_owner q ≡ rest
+  pub cut : cut_of_owner q ≡ cut_of_owner o
+  pub says : says q ≡ None
+  pub shaped : IsShaped q
+
+head_not : (fs : List ℕ) (f g : ℕ) → g ≢ f → has (f ∷ fs) g ≡ has fs g
+head_not fs f g h = elim (eqb_tells f g) [ inl e ↦ absurd (h (sym e.1)) | inr n ↦ ap (λ (b : Bool). b || has fs g) n.0 ]
+
+-- the first frame is gone or back
+pub owned_left : (c : Custody) (o q : Option Owner) (f : ℕ) (x : FrameUse) → IsOwned c o → NoneDue c → HasLeft o q f
+    → is_going_frame x ≡ false
+    → IsOwned (with_frame c f x) q
+owned_left c o q f x k none left still = record {
+  frames = λ g. by_place (λ (y : FrameUse). is_going_frame y ≡ has (frames_of_owner q) g) c.frame f x g
+      (λ e. still ∙ sym (ap (has (frames_of_owner q)) e ∙ (ap (λ (fs : List ℕ). has fs f) left.left ∙ once.0)))
+      (λ n. k.frames g ∙ (ap (λ (fs : List ℕ). has fs g) left.frames
+      ∙ (head_not left.rest f g n ∙ ap (λ (fs : List ℕ). has fs g) (sym left.left))));
+  cuts = λ j n. k.cuts j n ∙ ap (λ (ds : List CutDescriptor). has_cut ds j n) (sym left.cut);
+  once = subst AreDistinct (sym left.left) once.1;
+  apart = subst AreApart (sym left.cut) k.apart;
+  due = λ e w h. absurd (none_some (sym (none e) ∙ h));
+  alive = λ e w h. absurd (none_some (sym (none e) ∙ h));
+  says = λ w h. absurd (none_some (sym left.says ∙ h));
+  shaped = left.shaped;
+}
+  where
+    once : (has left.rest f ≡ false) × AreDistinct left.rest
+    once = subst AreDistinct left.frames k.once
+
+-- the owner goes on without the first descriptor that it cut
+pub record HasLeftCut (o q : Option Owner) (d : CutDescriptor) : Type 0 where
+  pub rest : List CutDescriptor
+  pub cut : cut_of_owner o ≡ d ∷ rest
+  pub left : cut_of_owner q ≡ rest
+  pub frames : frames_of_owner q ≡ frames_of_owner o
+  pub says : says q ≡ None
+  pub shaped : IsShaped q
+
+head_cut_not : (ds : List CutDescriptor) (d : CutDescriptor) (k n : ℕ) → (k ≡ d.process → n ≡ d.number → ⊥)
+    → has_cut (d ∷ ds) k n ≡ has_cut ds k n
+head_cut_not ds d k n h = by (is_cut_at k n d) refl
+  where
+    by : (b : Bool) → is_cut_at k n d ≡ b → (b || has_cut ds k n) ≡ has_cut ds k n
+    by false e = refl
+    by true e = let both = cut_at_tells k n d e in absurd (h both.0 both.1)
+
+pub owned_left_cut : (c : Custody) (o q : Option Owner) (d : CutDescriptor) (x : DescriptorUse) → IsOwned c o
+    → NoneDue c → HasLeftCut o q d
+    → is_going_descriptor x ≡ false → IsOwned (with_descriptor c d.process d.number x) q
+owned_left_cut c o q d x k none left still = record {
+  frames = λ g. k.frames g ∙ ap (λ (fs : List ℕ). has fs g) (sym left.frames);
+  cuts = λ i j. by_places (λ (y : DescriptorUse). is_going_descriptor y
+      ≡ has_cut (cut_of_owner q) i j) c.descriptor d.process d.number x i j
+      (λ a b. still ∙ sym (ap (λ (ds : List CutDescriptor). has_cut ds i j) left.left ∙ rw (a, b) apart.0))
+      (λ m. k.cuts i j ∙ (ap (λ (ds : List CutDescriptor). has_cut ds i j) left.cut ∙
+      (head_cut_not left.rest d i j m ∙ ap (λ (ds : List CutDescriptor). has_cut ds i j) (sym left.left))));
+  once = subst AreDistinct (sym left.frames) k.once;
+  apart = subst AreApart (sym left.left) apart.1;
+  due = λ e w h. absurd (none_some (sym (none e) ∙ h));
+  alive = λ e w h. absurd (none_some (sym (none e) ∙ h));
+  says = λ w h. absurd (none_some (sym left.says ∙ h));
+  shaped = left.shaped;
+}
+  where
+    apart : (has_cut left.rest d.process d.number ≡ false) × AreApart left.rest
+    apart = subst AreApart left.cut k.apart

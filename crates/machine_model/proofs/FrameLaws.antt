@@ -1,0 +1,222 @@
+-- A page is taken, has left its frame, is stored no more, or is back.
+use Rattle.std.proofs.Common.{◌≡◌, ◌≢◌, ℕ, true, false, [], ◌∷◌, ◌++◌, Option, Some, None, refl, sym, ap, subst, ◌∙◌}
+use Rattle.assoc_mem.specs.declared.What.{What}
+use Rattle.book.specs.declared.entries.Entry.TheVariants as entry
+use Rattle.page_table.specs.declared.Ptw.{Ptw}
+use Rattle.page_table.specs.declared.Ptw.TheVariants as ptw
+use Rattle.flat_model.specs.Legal.{IsLawful, after_entry, MayRelease}
+use Rattle.custody_model.specs.declared.DescriptorUse.{DescriptorUse}
+use Rattle.custody_model.specs.declared.FrameUse.{FrameUse}
+use Rattle.custody_model.specs.declared.FrameUse.TheVariants as frame
+use Rattle.custody_model.specs.Allowed.{NamesAllGoing, NobodyHoldsPage}
+use Rattle.custody_model.specs.Custody.{is_current_frame, is_going_frame, names_frame, page_of, taken as page_taken}
+use Rattle.custody_model.specs.Custody.{given_back}
+use Rattle.custody_model.specs.Effects.{IsInNoFrame}
+use Rattle.custody_model.specs.Fine.{Fine, NoneDue}
+use Rattle.custody_model.specs.Next.{at_put, at_put_two, custody_next}
+use Rattle.custody_model.proofs.FineLaws.{nobody_holds_going_page}
+use Rattle.machine_model.specs.Changes.{taken, gone, released, back}
+use Rattle.machine_model.specs.declared.Aim.{Aim}
+use Rattle.machine_model.specs.Custodial.{KeepsBook, HoldsRight, IsAimed, names, is_pending, waits_for}
+use Rattle.machine_model.specs.Seen.{Seen, flat, shown, frame_use, bound_use, read_use, descriptor_use, cut_uid}
+use Rattle.machine_model.specs.Reads.{frames_of_owner, cut_of_owner}
+use Rattle.machine_model.specs.State.{Owner}
+use Rattle.machine_model.proofs.BookNext.{book_next}
+use Rattle.machine_model.proofs.DueLaws.{HasLeft, owned_left}
+use Rattle.machine_model.proofs.HeldLaws.{right_frame}
+use Rattle.machine_model.proofs.OwnedLaws.{owned_take}
+use Rattle.machine_model.proofs.Places.{one_place, put_here, put_other, put_two_here}
+use Rattle.machine_model.proofs.TieLaws.{none_some, use_bound, other_use, tied_word, tied_gone}
+
+-- A page is here, and the owner waits for nothing. What the owner is to signal names its frame, and all that goes
+-- already.
+pub record CanTake (v : Seen) (aim : Aim) (w : What) (f u p : ℕ) : Type 0 where
+  pub here : v.words u p ≡ ptw.Here f
+  pub still : waits_for v.owner ≡ None
+  pub others : NamesAllGoing (shown v) w
+  pub this : names_frame (shown v) w f ≡ true
+  pub aimed : IsAimed aim w (frames_of_owner v.owner ++ f ∷ []) (cut_of_owner v.owner)
+
+pub take_keeps : (v : Seen) (c : ℕ) (aim : Aim) (w : What) (f u p : ℕ) → KeepsBook v → CanTake v aim w f u p
+    → KeepsBook (taken v c aim w f u p)
+unfolding IsLawful after_entry custody_next
+take_keeps v c aim w f u p k can = book_next v (entry.Take f) (taken v c aim w f u p) k (record {
+  plan = refl;
+  entries = refl;
+  lawful = tt;
+  allowed = current;
+  online = tt;
+  next = λ i. record (shown v) {
+    frame = λ g. one_place (shown v).frame (λ h. frame_use words (v.bound h) (v.reads h)) f
+        (page_taken ((shown v).frame f)) here
+        (λ h n. other_use v.bound v.reads v.words k.tied f u p (ptw.Leaving f) named h n) g i;
+  };
+  pending = refl;
+  going_owned = owned_take (shown v) v.owner c f aim w k.going_owned current can.still can.others can.this can.aimed;
+  tied = tied_word v.bound v.reads v.words k.tied f u p (ptw.Leaving f) named refl;
+  holding_right = k.holding_right;
+  under_way = k.under_way;
+  runs = k.runs;
+})
+  where
+    words : ℕ → ℕ → Ptw
+    words = at_put_two v.words u p (ptw.Leaving f)
+
+    named : names (v.words u p) ≡ Some f
+    named = ap names can.here
+
+    bound : v.bound f ≡ Some (u, p)
+    bound = k.tied.back f u p named
+
+    is : (shown v).frame f ≡ frame.Current u p
+    is = use_bound v.bound v.reads v.words k.tied f u p (ptw.Here f) bound can.here
+
+    current : is_current_frame ((shown v).frame f) ≡ true
+    current = ap is_current_frame is
+
+    here : frame_use words (v.bound f) (v.reads f) ≡ page_taken ((shown v).frame f)
+    here = ap (λ (o : Option (ℕ × ℕ)). frame_use words o (v.reads f)) bound
+        ∙ (ap (bound_use (u, p)) (put_two_here v.words u p (ptw.Leaving f)) ∙ sym (ap page_taken is))
+
+-- ---- gone, or back
+
+-- A page is on its way out, every processor has cleared, and the owner goes on without its first frame, which this is.
+pub record CanFinish (v : Seen) (f u p : ℕ) (owner : Option Owner) : Type 0 where
+  pub leaving : v.words u p ≡ ptw.Leaving f
+  pub none : NoneDue (shown v)
+  pub still : is_pending v.owner ≡ false
+  pub after : is_pending owner ≡ false
+  pub first : HasLeft v.owner owner f
+
+module _ (v : Seen) (f u p : ℕ) (owner : Option Owner) (k : KeepsBook v) (can : CanFinish v f u p owner) where
+  leaving_named : names (v.words u p) ≡ Some f
+  leaving_named = ap names can.leaving
+
+  leaving_bound : v.bound f ≡ Some (u, p)
+  leaving_bound = k.tied.back f u p leaving_named
+
+  leaving_is : (shown v).frame f ≡ frame.Going u p
+  leaving_is = use_bound v.bound v.reads v.words k.tied f u p (ptw.Leaving f) leaving_bound can.leaving
+
+  leaving_nobody : NobodyHoldsPage (shown v) f
+  leaving_nobody = nobody_holds_going_page (shown v) f (subst (Fine (shown v)) can.still k.stale_due) can.none
+      (ap is_current_frame leaving_is)
+
+  not_read : v.reads f ≡ None
+  not_read = by (v.reads f) refl
+    where
+      by : (x : Option (ℕ × ℕ)) → v.reads f ≡ x → x ≡ None
+      by None e = refl
+      by (Some page) e = absurd (none_some (sym (k.tied.unbound f page.0 page.1 e) ∙ leaving_bound))
+
+  -- the page has left its frame, and its word is one that names no frame
+  pub gone_keeps : (word : Ptw) → names word ≡ None → KeepsBook (gone v f u p word owner)
+  unfolding IsLawful after_entry custody_next
+  gone_keeps word nowhere = book_next v (entry.GonePage f) (gone v f u p word owner) k (record {
+    plan = refl;
+    entries = refl;
+    lawful = tt;
+    allowed = record { going = ap is_going_frame leaving_is; nobody = leaving_nobody };
+    online = tt;
+    next = λ i. record {
+      active = v.active;
+      frame = λ g. one_place (shown v).frame
+          (λ h. frame_use words (at_put v.bound f None h) (v.reads h)) f frame.Free here other g i;
+      descriptor = λ j n. descriptor_use (v.linked j n) (cut_uid (can.first.cut i) j n);
+      ready = v.ready;
+      seat = (shown v).seat;
+    };
+    pending = can.after ∙ sym can.still;
+    going_owned = owned_left (shown v) v.owner owner f frame.Free k.going_owned can.none can.first refl;
+    tied = tied_gone v.bound v.reads v.words k.tied f u p word leaving_named nowhere;
+    holding_right = λ d. right_frame v.bound
+        (λ j n. descriptor_use (v.linked j n) (cut_uid (cut_of_owner owner) j n)) f None (v.processors d)
+        (leaving_nobody d)
+        (subst (λ (x : ℕ → ℕ → DescriptorUse). HoldsRight v.bound x (v.processors d))
+        (λ i. λ j n. descriptor_use (v.linked j n) (cut_uid (sym can.first.cut i) j n)) (k.holding_right d));
+    under_way = k.under_way;
+    runs = k.runs;
+  })
+    where
+      words : ℕ → ℕ → Ptw
+      words = at_put_two v.words u p word
+
+      here : frame_use words (at_put v.bound f None f) (v.reads f) ≡ frame.Free
+      here = ap (λ (o : Option (ℕ × ℕ)). frame_use words o (v.reads f)) (put_here v.bound f None) ∙ ap read_use not_read
+
+      other : (h : ℕ) → h ≢ f → frame_use words (at_put v.bound f None h) (v.reads h) ≡ (shown v).frame h
+      other h n = ap (λ (o : Option (ℕ × ℕ)). frame_use words o (v.reads h)) (put_other v.bound f None h n)
+          ∙ other_use v.bound v.reads v.words k.tied f u p word leaving_named h n
+
+  -- it stays
+  pub back_keeps : KeepsBook (back v f u p owner)
+  unfolding IsLawful after_entry custody_next
+  back_keeps = book_next v (entry.BackPage f) (back v f u p owner) k (record {
+    plan = refl;
+    entries = refl;
+    lawful = tt;
+    allowed = record { going = ap is_going_frame leaving_is; nobody = leaving_nobody };
+    online = tt;
+    next = λ i. record {
+      active = v.active;
+      frame = λ g. one_place (shown v).frame (λ h. frame_use words (v.bound h) (v.reads h)) f
+          (given_back ((shown v).frame f)) here
+          (λ h n. other_use v.bound v.reads v.words k.tied f u p (ptw.Here f) leaving_named h n) g i;
+      descriptor = λ j n. descriptor_use (v.linked j n) (cut_uid (can.first.cut i) j n);
+      ready = v.ready;
+      seat = (shown v).seat;
+    };
+    pending = can.after ∙ sym can.still;
+    going_owned = owned_left (shown v) v.owner owner f (given_back ((shown v).frame f)) k.going_owned can.none can.first
+        (ap (λ (x : FrameUse). is_going_frame (given_back x)) leaving_is);
+    tied = tied_word v.bound v.reads v.words k.tied f u p (ptw.Here f) leaving_named refl;
+    holding_right = λ d. subst (λ (x : ℕ → ℕ → DescriptorUse). HoldsRight v.bound x (v.processors d))
+        (λ i. λ j n. descriptor_use (v.linked j n) (cut_uid (sym can.first.cut i) j n)) (k.holding_right d);
+    under_way = k.under_way;
+    runs = k.runs;
+  })
+    where
+      words : ℕ → ℕ → Ptw
+      words = at_put_two v.words u p (ptw.Here f)
+
+      here : frame_use words (v.bound f) (v.reads f) ≡ given_back ((shown v).frame f)
+      here = ap (λ (o : Option (ℕ × ℕ)). frame_use words o (v.reads f)) leaving_bound
+          ∙ (ap (bound_use (u, p)) (put_two_here v.words u p (ptw.Here f)) ∙ sym (ap given_back leaving_is))
+
+-- ---- stored no more
+
+-- a page in no frame, which is all zeros, is given up
+pub release_keeps : (v : Seen) (u p : ℕ) → KeepsBook v → MayRelease (flat v) u p → IsInNoFrame (shown v) u p
+    → KeepsBook (released v u p)
+unfolding IsLawful after_entry custody_next
+release_keeps v u p k may nowhere = book_next v (entry.Release u p) (released v u p) k (record {
+  plan = refl;
+  entries = refl;
+  lawful = may;
+  allowed = nowhere;
+  online = tt;
+  next = refl;
+  pending = refl;
+  going_owned = k.going_owned;
+  tied = k.tied;
+  holding_right = k.holding_right;
+  under_way = k.under_way;
+  runs = k.runs;
+})
+
+-- a page whose word names no frame and isn't on its record alone is in none
+pub in_no_frame : (v : Seen) (u p : ℕ) → KeepsBook v → names (v.words u p) ≡ None → ((g : ℕ) → v.reads g ≢ Some (u, p))
+    → IsInNoFrame (shown v) u p
+in_no_frame v u p k nowhere unread f h = by (v.bound f) (v.reads f) refl refl h
+  where
+    used : (page : ℕ × ℕ) (w : Ptw) → page_of (bound_use page w) ≡ Some page
+    used page ptw.Null = refl
+    used page (ptw.Out r) = refl
+    used page (ptw.Here g) = refl
+    used page (ptw.Leaving g) = refl
+
+    by : (x y : Option (ℕ × ℕ)) → v.bound f ≡ x → v.reads f ≡ y → page_of (frame_use v.words x y) ≡ Some (u, p) → ⊥
+    by (Some page) y e r g = none_some (sym nowhere
+        ∙ k.tied.named f u p (e ∙ (sym (used page (v.words page.0 page.1)) ∙ g)))
+    by None (Some page) e r g = unread f (r ∙ g)
+    by None None e r g = none_some g

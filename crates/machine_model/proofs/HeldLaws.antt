@@ -1,0 +1,228 @@
+-- What processors hold agrees with frames and descriptors, where an entry is filled in or dropped, and where a frame or
+-- a
+-- descriptor that nobody holds is used otherwise.
+use Rattle.std.proofs.Common.{◌≡◌, ◌≢◌, ℕ, suc, ◌+◌, ◌≤◌, Bool, true, false, cond, ◌||◌, eqb, leb, List, [], ◌∷◌, ◌++◌}
+use Rattle.std.proofs.Common.{map, filter, length, drop, Option, Some, None, inl, inr, refl, sym, ap, subst, ◌∙◌, arith}
+use Rattle.std.proofs.lemmas.Bool.Decides.{eqb_tells, nat_tests}
+use Rattle.assoc_mem.specs.declared.HeldPage.{HeldPage}
+use Rattle.assoc_mem.specs.declared.HeldSeg.{HeldSeg}
+use Rattle.assoc_mem.specs.Held.{filled}
+use Rattle.custody_model.specs.declared.DescriptorUse.{DescriptorUse}
+use Rattle.custody_model.specs.Custody.{has, leads_to}
+use Rattle.custody_model.specs.Custody.{filled as filled_in}
+use Rattle.custody_model.specs.Next.{at_put, at_put_two}
+use Rattle.machine_model.specs.Custodial.{AreHeldPages, AreHeldSegs, AreOfProcess, HoldsRight, AreUnderWay}
+use Rattle.machine_model.specs.State.{Processor}
+use Rattle.machine_model.proofs.Places.{by_place, by_places}
+
+-- ---- a fill
+
+module _ {A : Type 0} where
+  map_push : (g : A → ℕ) (xs : List A) (x : A) → map g (xs ++ x ∷ []) ≡ map g xs ++ g x ∷ []
+  map_push g [] x = refl
+  map_push g (y ∷ ys) x = ap (λ (t : List ℕ). g y ∷ t) (map_push g ys x)
+
+  map_rest : (g : A → ℕ) (xs : List A) → map g (drop 1 xs) ≡ drop 1 (map g xs)
+  map_rest g [] = refl
+  map_rest g (x ∷ xs) = refl
+
+  map_length : (g : A → ℕ) (xs : List A) → length (map g xs) ≡ length xs
+  map_length g [] = refl
+  map_length g (x ∷ xs) = ap (λ (n : ℕ). suc n) (map_length g xs)
+
+  -- what custody sees of a fill into at most 16 places
+  pub map_filled : (g : A → ℕ) (xs : List A) (x : A) → length xs ≤ 16 → map g (filled xs x) ≡ filled_in (map g xs) (g x)
+  map_filled g xs x few = elim (eqb_tells (length xs) 16) [
+    | inl e ↦ ap (λ (b : Bool). map g (cond b (drop 1 xs) xs ++ x ∷ [])) e.0 ∙ (map_push g (drop 1 xs) x
+        ∙ (ap (λ (t : List ℕ). t ++ g x ∷ []) (map_rest g xs)
+        ∙ ap (λ (b : Bool). cond b (drop 1 (map g xs)) (map g xs) ++ g x ∷ []) (sym (full e.1))))
+    | inr n ↦ ap (λ (b : Bool). map g (cond b (drop 1 xs) xs ++ x ∷ [])) n.0 ∙ (map_push g xs x
+        ∙ ap (λ (b : Bool). cond b (drop 1 (map g xs)) (map g xs) ++ g x ∷ []) (sym (room n.1)))
+  ]
+    where
+      full : length xs ≡ 16 → leb 16 (length (map g xs)) ≡ true
+      full e = let same = map_length g xs in grind (arith, nat_tests)
+
+      room : length xs ≢ 16 → leb 16 (length (map g xs)) ≡ false
+      room n = let same = map_length g xs in grind (arith, nat_tests)
+
+  length_push : (xs : List A) (x : A) → length (xs ++ x ∷ []) ≡ length xs + 1
+  length_push [] x = refl
+  length_push (y ∷ ys) x = let ih = length_push ys x in omega (arith, ih)
+
+  length_rest : (xs : List A) → length xs ≡ 16 → length (drop 1 xs) ≡ 15
+  length_rest [] e = omega (arith, e)
+  length_rest (x ∷ xs) e = let is : suc (length xs) ≡ 16 = e in omega (arith, is)
+
+  pub filled_few : (xs : List A) (x : A) → length xs ≤ 16 → length (filled xs x) ≤ 16
+  filled_few xs x few = elim (eqb_tells (length xs) 16) [
+    | inl e ↦ let long = length_push (drop 1 xs) x in let rest = length_rest xs e.1 in
+        subst (λ (b : Bool). length (cond b (drop 1 xs) xs ++ x ∷ []) ≤ 16) (sym e.0) (omega (arith, long, rest))
+    | inr n ↦ let long = length_push xs x in let no = n.1 in
+        subst (λ (b : Bool). length (cond b (drop 1 xs) xs ++ x ∷ []) ≤ 16) (sym n.0) (omega (arith, long, few, no))
+  ]
+
+pages_push : (bound : ℕ → Option (ℕ × ℕ)) (es : List HeldPage) (e : HeldPage) → AreHeldPages bound es
+    → bound e.frame ≡ Some (e.uid, e.page)
+    → AreHeldPages bound (es ++ e ∷ [])
+pages_push bound [] e held is = (is, tt)
+pages_push bound (x ∷ xs) e held is = (held.0, pages_push bound xs e held.1 is)
+
+pages_rest : (bound : ℕ → Option (ℕ × ℕ)) (es : List HeldPage) → AreHeldPages bound es → AreHeldPages bound (drop 1 es)
+pages_rest bound [] held = tt
+pages_rest bound (x ∷ xs) held = held.1
+
+pub pages_filled : (bound : ℕ → Option (ℕ × ℕ)) (es : List HeldPage) (e : HeldPage) → AreHeldPages bound es
+    → bound e.frame ≡ Some (e.uid, e.page)
+    → AreHeldPages bound (filled es e)
+pages_filled bound es e held is = by (eqb (length es) 16)
+  where
+    by : (b : Bool) → AreHeldPages bound (cond b (drop 1 es) es ++ e ∷ [])
+    by true = pages_push bound (drop 1 es) e (pages_rest bound es held) is
+    by false = pages_push bound es e held is
+
+segs_push : (descriptor : ℕ → ℕ → DescriptorUse) (k : ℕ) (es : List HeldSeg) (e : HeldSeg) → AreHeldSegs descriptor k es
+    → leads_to (descriptor k e.number) ≡ Some e.uid → AreHeldSegs descriptor k (es ++ e ∷ [])
+segs_push descriptor k [] e held is = (is, tt)
+segs_push descriptor k (x ∷ xs) e held is = (held.0, segs_push descriptor k xs e held.1 is)
+
+segs_rest : (descriptor : ℕ → ℕ → DescriptorUse) (k : ℕ) (es : List HeldSeg) → AreHeldSegs descriptor k es
+    → AreHeldSegs descriptor k (drop 1 es)
+segs_rest descriptor k [] held = tt
+segs_rest descriptor k (x ∷ xs) held = held.1
+
+pub segs_filled : (descriptor : ℕ → ℕ → DescriptorUse) (k : ℕ) (es : List HeldSeg) (e : HeldSeg)
+    → AreHeldSegs descriptor k es
+    → leads_to (descriptor k e.number) ≡ Some e.uid → AreHeldSegs descriptor k (filled es e)
+segs_filled descriptor k es e held is = by (eqb (length es) 16)
+  where
+    by : (b : Bool) → AreHeldSegs descriptor k (cond b (drop 1 es) es ++ e ∷ [])
+    by true = segs_push descriptor k (drop 1 es) e (segs_rest descriptor k es held) is
+    by false = segs_push descriptor k es e held is
+
+-- ---- what is dropped
+
+pub few_kept : {A : Type 0} (p : A → Bool) (xs : List A) → length (filter p xs) ≤ length xs
+few_kept p [] = omega arith
+few_kept p (x ∷ xs) = by (few_kept p xs) (p x)
+  where
+    by : length (filter p xs) ≤ length xs → (b : Bool)
+        → length (cond b (x ∷ filter p xs) (filter p xs)) ≤ suc (length xs)
+    by ih true = omega (arith, ih)
+    by ih false = omega (arith, ih)
+
+pub pages_kept : (bound : ℕ → Option (ℕ × ℕ)) (p : HeldPage → Bool) (es : List HeldPage) → AreHeldPages bound es
+    → AreHeldPages bound (filter p es)
+pages_kept bound p [] held = tt
+pages_kept bound p (e ∷ es) held = by (pages_kept bound p es held.1) (p e)
+  where
+    by : AreHeldPages bound (filter p es) → (b : Bool) → AreHeldPages bound (cond b (e ∷ filter p es) (filter p es))
+    by rest true = (held.0, rest)
+    by rest false = rest
+
+pub segs_kept : (descriptor : ℕ → ℕ → DescriptorUse) (k : ℕ) (p : HeldSeg → Bool) (es : List HeldSeg)
+    → AreHeldSegs descriptor k es
+    → AreHeldSegs descriptor k (filter p es)
+segs_kept descriptor k p [] held = tt
+segs_kept descriptor k p (e ∷ es) held = by (segs_kept descriptor k p es held.1) (p e)
+  where
+    by : AreHeldSegs descriptor k (filter p es) → (b : Bool)
+        → AreHeldSegs descriptor k (cond b (e ∷ filter p es) (filter p es))
+    by rest true = (held.0, rest)
+    by rest false = rest
+
+-- what custody sees of one entry more that is kept or not
+pub kept_step : {A : Type 0} (g : A → ℕ) (p : A → Bool) (q : ℕ → Bool) (x : A) (xs : List A)
+    → map g (filter p xs) ≡ filter q (map g xs) → (a b : Bool)
+    → b ≡ a → map g (cond a (x ∷ filter p xs) (filter p xs)) ≡ cond b (g x ∷ filter q (map g xs)) (filter q (map g xs))
+kept_step g p q x xs rest true true e = ap (λ (t : List ℕ). g x ∷ t) rest
+kept_step g p q x xs rest false false e = rest
+kept_step g p q x xs rest true false e = absurd (let no : false ≡ true = e in cc)
+kept_step g p q x xs rest false true e = absurd (let no : true ≡ false = e in cc)
+
+-- ---- a frame or a descriptor that nobody holds
+
+or_parts : (a b : Bool) → (a || b) ≡ false → (a ≡ false) × (b ≡ false)
+or_parts false b h = (refl, h)
+or_parts true b h = absurd (let no : true ≡ false = h in cc)
+
+pub pages_elsewhere : (bound : ℕ → Option (ℕ × ℕ)) (f : ℕ) (x : Option (ℕ × ℕ)) (es : List HeldPage)
+    → has (map (λ e. e.frame) es) f ≡ false
+    → AreHeldPages bound es → AreHeldPages (at_put bound f x) es
+pages_elsewhere bound f x [] none held = tt
+pages_elsewhere bound f x (e ∷ es) none held =
+    let parts = or_parts (eqb e.frame f) (has (map (λ e. e.frame) es) f) none in (
+      by_place (λ (y : Option (ℕ × ℕ)). y ≡ Some (e.uid, e.page)) bound f x e.frame
+          (λ i. absurd (let no : eqb e.frame f ≡ false = parts.0 in grind (arith, nat_tests))) (λ n. held.0),
+      pages_elsewhere bound f x es parts.1 held.1,
+    )
+
+pub segs_elsewhere : (descriptor : ℕ → ℕ → DescriptorUse) (k n : ℕ) (x : DescriptorUse) (j : ℕ) (es : List HeldSeg)
+    → (j ≡ k → has (map (λ e. e.number) es) n ≡ false) → AreHeldSegs descriptor j es
+    → AreHeldSegs (at_put_two descriptor k n x) j es
+segs_elsewhere descriptor k n x j [] none held = tt
+segs_elsewhere descriptor k n x j (e ∷ es) none held = (
+  by_places (λ (y : DescriptorUse). leads_to y ≡ Some e.uid) descriptor k n x j e.number
+      (λ a b. absurd (let no : eqb e.number n
+      ≡ false = (or_parts (eqb e.number n) (has (map (λ e. e.number) es) n) (none a)).0 in
+      grind (arith, nat_tests))) (λ m. held.0),
+  segs_elsewhere descriptor k n x j es (λ i.
+      (or_parts (eqb e.number n) (has (map (λ e. e.number) es) n) (none i)).1) held.1,
+)
+
+-- the same descriptors as far as what they lead to
+segs_alike : (old new : ℕ → ℕ → DescriptorUse) (k : ℕ) (es : List HeldSeg)
+    → ((n : ℕ) → leads_to (new k n) ≡ leads_to (old k n))
+    → AreHeldSegs old k es → AreHeldSegs new k es
+segs_alike old new k [] same held = tt
+segs_alike old new k (e ∷ es) same held = (same e.number ∙ held.0, segs_alike old new k es same held.1)
+
+pub right_alike : (bound : ℕ → Option (ℕ × ℕ)) (old new : ℕ → ℕ → DescriptorUse) (p : Processor)
+    → ((k n : ℕ) → leads_to (new k n) ≡ leads_to (old k n)) → HoldsRight bound old p → HoldsRight bound new p
+right_alike bound old new p same right = record {
+  pages = right.pages;
+  segs = by p.cpu.process right.segs;
+  few_pages = right.few_pages;
+  few_segs = right.few_segs;
+}
+  where
+    by : (o : Option ℕ) → AreOfProcess old o p.cpu.assoc.segs → AreOfProcess new o p.cpu.assoc.segs
+    by None h = h
+    by (Some k) h = segs_alike old new k p.cpu.assoc.segs (same k) h
+
+pub right_frame : (bound : ℕ → Option (ℕ × ℕ)) (descriptor : ℕ → ℕ → DescriptorUse) (f : ℕ) (x : Option (ℕ × ℕ))
+    (p : Processor)
+    → has (map (λ e. e.frame) p.cpu.assoc.pages) f ≡ false → HoldsRight bound descriptor p
+    → HoldsRight (at_put bound f x) descriptor p
+right_frame bound descriptor f x p none right = record {
+  pages = pages_elsewhere bound f x p.cpu.assoc.pages none right.pages;
+  segs = right.segs;
+  few_pages = right.few_pages;
+  few_segs = right.few_segs;
+}
+
+pub right_descriptor : (bound : ℕ → Option (ℕ × ℕ)) (descriptor : ℕ → ℕ → DescriptorUse) (k n : ℕ) (x : DescriptorUse)
+    (p : Processor)
+    → (p.cpu.process ≡ Some k → has (map (λ e. e.number) p.cpu.assoc.segs) n ≡ false) → HoldsRight bound descriptor p
+    → HoldsRight bound (at_put_two descriptor k n x) p
+right_descriptor bound descriptor k n x p none right = record {
+  pages = right.pages;
+  segs = by p.cpu.process refl right.segs;
+  few_pages = right.few_pages;
+  few_segs = right.few_segs;
+}
+  where
+    by : (o : Option ℕ) → p.cpu.process ≡ o → AreOfProcess descriptor o p.cpu.assoc.segs
+        → AreOfProcess (at_put_two descriptor k n x) o p.cpu.assoc.segs
+    by None e h = h
+    by (Some j) e h = segs_elsewhere descriptor k n x j p.cpu.assoc.segs (λ i. none (e ∙ ap (λ (y : ℕ). Some y) i)) h
+
+-- transfers are under way as before
+pub under_way_alike : (reads : ℕ → Option (ℕ × ℕ)) (old new : ℕ → Processor)
+    → ((d : ℕ) → (new d).cpu.transfer ≡ (old d).cpu.transfer)
+    → AreUnderWay reads old → AreUnderWay reads new
+under_way_alike reads old new same k = record {
+  reading = λ d t h. k.reading d t (sym (same d) ∙ h);
+  reader = λ f u p h. (let r = k.reader f u p h in (r.0, same r.0 ∙ r.1));
+  alone = λ d e t v h i. k.alone d e t v (sym (same d) ∙ h) (sym (same e) ∙ i);
+}

@@ -1,0 +1,394 @@
+-- What goes is the owner's alone, entry by entry.
+use Rattle.std.proofs.Common.{◌≡◌, ◌≢◌, ℕ, Bool, true, false, ◌||◌, eqb, List, [], ◌∷◌, ◌++◌, Option, Some, None, ◌⊎◌}
+use Rattle.std.proofs.Common.{inl, inr, refl, sym, ap, subst, ◌∙◌}
+use Rattle.std.proofs.lemmas.Bool.Decides.{eqb_tells}
+use Rattle.std.proofs.lemmas.List.Folds.{list_any-append}
+use Rattle.assoc_mem.specs.declared.What.{What}
+use Rattle.assoc_mem.specs.declared.What.TheVariants as what
+use Rattle.custody_model.specs.declared.FrameUse.{FrameUse}
+use Rattle.custody_model.specs.declared.FrameUse.TheVariants as frame
+use Rattle.custody_model.specs.declared.DescriptorUse.{DescriptorUse}
+use Rattle.custody_model.specs.declared.DescriptorUse.TheVariants as descriptor
+use Rattle.custody_model.specs.Allowed.{SomethingGoes, NamesAllGoing}
+use Rattle.custody_model.specs.Custody.{Custody, Seat, has, bound_page, leads_to, is_uid, uid_of_page, is_going_frame}
+use Rattle.custody_model.specs.Custody.{is_current_frame, is_going_descriptor, is_current_descriptor, taken, cut}
+use Rattle.custody_model.specs.Custody.{names_frame, names_descriptor}
+use Rattle.custody_model.specs.Next.{with_frame, with_descriptor, with_seat}
+use Rattle.machine_model.specs.declared.Aim.{Aim}
+use Rattle.machine_model.specs.declared.Phase.TheVariants as phase
+use Rattle.machine_model.specs.Custodial.{IsOwned, IsShaped, IsAimed, AreDistinct, AreApart, has_cut, says, waits_for}
+use Rattle.machine_model.specs.Seen.{is_cut_at}
+use Rattle.machine_model.specs.Reads.{frames_of_owner, cut_of_owner}
+use Rattle.machine_model.specs.State.{Owner, CutDescriptor}
+use Rattle.machine_model.proofs.Places.{by_place, by_places, put_here, put_two_here}
+use Rattle.machine_model.proofs.TieLaws.{none_some}
+
+no_and : {b : Bool} → b ≡ true → b ≡ false → ⊥
+no_and t f = let no : true ≡ false = sym t ∙ f in cc
+
+-- ---- what goes stays as it is
+
+-- Each frame and each descriptor is used as before, or was not going and isn't; each processor is to drop what it was.
+pub record IsLike (c e : Custody) : Type 0 where
+  pub frames : (f : ℕ) → (e.frame f ≡ c.frame f)
+      ⊎ ((is_going_frame (e.frame f) ≡ false) × (is_going_frame (c.frame f) ≡ false))
+  pub descriptors : (k n : ℕ) → (e.descriptor k n ≡ c.descriptor k n)
+      ⊎ ((is_going_descriptor (e.descriptor k n) ≡ false) × (is_going_descriptor (c.descriptor k n) ≡ false))
+  pub due : (d : ℕ) → (e.seat d).due ≡ (c.seat d).due
+
+module _ (c e : Custody) (like : IsLike c e) where
+  frame_like : (f : ℕ) → is_going_frame (e.frame f) ≡ is_going_frame (c.frame f)
+  frame_like f = elim (like.frames f) [ inl i ↦ ap is_going_frame i | inr i ↦ i.0 ∙ sym i.1 ]
+
+  descriptor_like : (k n : ℕ) → is_going_descriptor (e.descriptor k n) ≡ is_going_descriptor (c.descriptor k n)
+  descriptor_like k n = elim (like.descriptors k n) [ inl i ↦ ap is_going_descriptor i | inr i ↦ i.0 ∙ sym i.1 ]
+
+  going_like : SomethingGoes c → SomethingGoes e
+  going_like (inl g) = inl (record { at = g.at; going = frame_like g.at ∙ g.going })
+  going_like (inr g) = inr (record {
+    process = g.process;
+    number = g.number;
+    going = descriptor_like g.process g.number
+        ∙ g.going;
+  })
+
+  names_frame_like : (w : What) (f : ℕ) → e.frame f ≡ c.frame f → names_frame e w f ≡ names_frame c w f
+  names_frame_like what.All f h = refl
+  names_frame_like (what.Page g) f h = refl
+  names_frame_like (what.Seg u) f h = ap (λ (x : FrameUse). is_uid u (uid_of_page (bound_page x))) h
+
+  names_descriptor_like : (w : What) (k n : ℕ) → e.descriptor k n ≡ c.descriptor k n
+      → names_descriptor e w k n ≡ names_descriptor c w k n
+  names_descriptor_like what.All k n h = refl
+  names_descriptor_like (what.Page g) k n h = refl
+  names_descriptor_like (what.Seg u) k n h = ap (λ (x : DescriptorUse). is_uid u (leads_to x)) h
+
+  pub all_like : (w : What) → NamesAllGoing c w → NamesAllGoing e w
+  all_like w all = record {
+    frames = λ f h. elim (like.frames f) [
+      | inl i ↦
+          names_frame_like w f i ∙ all.frames f (sym (frame_like f) ∙ h)
+      | inr i ↦ absurd (no_and h i.0)
+    ];
+    descriptors = λ k n h. elim (like.descriptors k n) [
+      | inl i ↦ names_descriptor_like w k n i ∙ all.descriptors k n (sym (descriptor_like k n) ∙ h)
+      | inr i ↦ absurd (no_and h i.0)
+    ];
+  }
+
+  pub owned_like : (o : Option Owner) → IsOwned c o → IsOwned e o
+  owned_like o k = record {
+    frames = λ f. frame_like f ∙ k.frames f;
+    cuts = λ p n. descriptor_like p n ∙ k.cuts p n;
+    once = k.once;
+    apart = k.apart;
+    due = λ d w h. k.due d w (sym (like.due d) ∙ h);
+    alive = λ d w h. going_like (k.alive d w (sym (like.due d) ∙ h));
+    says = λ w h. (let both = k.says w h in (going_like both.0, all_like w both.1));
+    shaped = k.shaped;
+  }
+
+-- one frame that wasn't going is used otherwise, and isn't going
+pub like_frame : (c : Custody) (f : ℕ) (x : FrameUse) → is_going_frame (c.frame f) ≡ false → is_going_frame x ≡ false
+    → IsLike c (with_frame c f x)
+like_frame c f x was now = record {
+  frames = λ g. by_place (λ (y : FrameUse). (y ≡ c.frame g)
+      ⊎ ((is_going_frame y ≡ false) × (is_going_frame (c.frame g) ≡ false))) c.frame f x g
+      (λ e. inr (now, subst (λ (i : ℕ). is_going_frame (c.frame i) ≡ false) (sym e) was)) (λ n. inl refl);
+  descriptors = λ k n. inl refl;
+  due = λ d. refl;
+}
+
+pub like_descriptor : (c : Custody) (k n : ℕ) (x : DescriptorUse) → is_going_descriptor (c.descriptor k n) ≡ false
+    → is_going_descriptor x ≡ false
+    → IsLike c (with_descriptor c k n x)
+like_descriptor c k n x was now = record {
+  frames = λ g. inl refl;
+  descriptors = λ i j. by_places (λ (y : DescriptorUse). (y ≡ c.descriptor i j) ⊎ ((is_going_descriptor y ≡ false)
+      × (is_going_descriptor (c.descriptor i j) ≡ false))) c.descriptor k n x i j
+      (λ a b. inr (now, rw (a, b) was)) (λ m. inl refl);
+  due = λ d. refl;
+}
+
+-- one processor is otherwise, and is to drop the same; so is the ready list, and what is active
+pub like_seat : (c : Custody) (d : ℕ) (s : Seat) (ready : List ℕ) → s.due ≡ (c.seat d).due
+    → IsLike c (record (with_seat c d s) { ready = ready })
+like_seat c d s ready same = record {
+  frames = λ g. inl refl;
+  descriptors = λ k n. inl refl;
+  due = λ e. by_place (λ (x : Seat). x.due ≡ (c.seat e).due) c.seat d s e
+      (λ i. same ∙ ap (λ (j : ℕ). (c.seat j).due) (sym i)) (λ n. refl);
+}
+
+pub like_active : (c : Custody) (active : ℕ → Bool) → IsLike c (record c { active = active })
+like_active c active = record { frames = λ g. inl refl; descriptors = λ k n. inl refl; due = λ d. refl }
+
+-- ---- the owner alone changes
+
+-- an owner, or none, that has taken nothing and waits for nothing
+pub record IsIdle (o : Option Owner) : Type 0 where
+  pub frames : frames_of_owner o ≡ []
+  pub cut : cut_of_owner o ≡ []
+  pub waits : waits_for o ≡ None
+  pub says : says o ≡ None
+  pub shaped : IsShaped o
+
+pub owned_idle : (c : Custody) (o q : Option Owner) → IsOwned c o → IsIdle o → IsIdle q → IsOwned c q
+owned_idle c o q k was now = record {
+  frames = λ f. k.frames f ∙ ap (λ (fs : List ℕ). has fs f) (was.frames ∙ sym now.frames);
+  cuts = λ p n. k.cuts p n ∙ ap (λ (ds : List CutDescriptor). has_cut ds p n) (was.cut ∙ sym now.cut);
+  once = rw now.frames tt;
+  apart = rw now.cut tt;
+  due = λ d w h. absurd (none_some (sym was.waits ∙ k.due d w h));
+  alive = λ d w h. absurd (none_some (sym was.waits ∙ k.due d w h));
+  says = λ w h. absurd (none_some (sym now.says ∙ h));
+  shaped = now.shaped;
+}
+
+-- ---- something is taken
+
+or_true : (b : Bool) → (b || (true || false)) ≡ true
+or_true true = refl
+or_true false = refl
+
+or_false : (b : Bool) → (b || (false || false)) ≡ b
+or_false true = refl
+or_false false = refl
+
+-- a list with one more
+pub has_push : (fs : List ℕ) (f g : ℕ) → has (fs ++ f ∷ []) g ≡ (has fs g || (eqb f g || false))
+has_push fs f g = list_any-append (λ y. eqb y g) fs (f ∷ [])
+
+pub push_same : (fs : List ℕ) (f : ℕ) → has (fs ++ f ∷ []) f ≡ true
+push_same fs f = elim (eqb_tells f f) [
+  | inl e ↦ has_push fs f f ∙ ap (λ (b : Bool). has fs f || (b || false)) e.0 ∙ or_true (has fs f)
+  | inr n ↦ absurd (n.1 refl)
+]
+
+pub push_other : (fs : List ℕ) (f g : ℕ) → g ≢ f → has (fs ++ f ∷ []) g ≡ has fs g
+push_other fs f g h = elim (eqb_tells f g) [
+  | inl e ↦ absurd (h (sym e.1))
+  | inr n ↦ has_push fs f g ∙ ap (λ (b : Bool). has fs g || (b || false)) n.0 ∙ or_false (has fs g)
+]
+
+pub distinct_push : (fs : List ℕ) (f : ℕ) → AreDistinct fs → has fs f ≡ false → AreDistinct (fs ++ f ∷ [])
+distinct_push [] f once new = (refl, tt)
+distinct_push (g ∷ gs) f once new = elim (eqb_tells g f) [
+  | inl e ↦ absurd (no_and (ap (λ (b : Bool). b || has gs f) e.0) new)
+  | inr n ↦ (
+    push_other gs f g n.1 ∙ once.0,
+    distinct_push gs f once.1 (ap (λ (b : Bool). b || has gs f) (sym n.0) ∙ new),
+  )
+]
+
+going_taken : (x : FrameUse) → is_current_frame x ≡ true → is_going_frame (taken x) ≡ true
+going_taken frame.Free h = absurd (let no : false ≡ true = h in cc)
+going_taken (frame.Started u p) h = absurd (let no : false ≡ true = h in cc)
+going_taken (frame.Current u p) h = refl
+going_taken (frame.Going u p) h = absurd (let no : false ≡ true = h in cc)
+
+bound_taken : (x : FrameUse) → bound_page (taken x) ≡ bound_page x
+bound_taken frame.Free = refl
+bound_taken (frame.Started u p) = refl
+bound_taken (frame.Current u p) = refl
+bound_taken (frame.Going u p) = refl
+
+pub current_is_not_going : (x : FrameUse) → is_current_frame x ≡ true → is_going_frame x ≡ false
+current_is_not_going frame.Free h = refl
+current_is_not_going (frame.Started u p) h = refl
+current_is_not_going (frame.Current u p) h = refl
+current_is_not_going (frame.Going u p) h = absurd (let no : false ≡ true = h in cc)
+
+names_taken : (c : Custody) (f : ℕ) (w : What) (g : ℕ)
+    → names_frame (with_frame c f (taken (c.frame f))) w g ≡ names_frame c w g
+names_taken c f what.All g = refl
+names_taken c f (what.Page h) g = refl
+names_taken c f (what.Seg u) g = ap (λ (o : Option (ℕ × ℕ)). is_uid u (uid_of_page o))
+    (by_place (λ (y : FrameUse). bound_page y ≡ bound_page (c.frame g)) c.frame f (taken (c.frame f)) g
+    (λ e. bound_taken (c.frame f) ∙ ap (λ (i : ℕ). bound_page (c.frame i)) (sym e)) (λ n. refl))
+
+names_of_descriptor : (c e : Custody) (w : What) (k n : ℕ) → e.descriptor k n ≡ c.descriptor k n
+    → names_descriptor e w k n ≡ names_descriptor c w k n
+names_of_descriptor c e what.All k n h = refl
+names_of_descriptor c e (what.Page g) k n h = refl
+names_of_descriptor c e (what.Seg u) k n h = ap (λ (x : DescriptorUse). is_uid u (leads_to x)) h
+
+-- a page is taken: the owner is to signal something that names it, and all that went before
+pub owned_take : (c : Custody) (o : Option Owner) (cpu f : ℕ) (aim : Aim) (w : What) → IsOwned c o
+    → is_current_frame (c.frame f) ≡ true
+    → waits_for o ≡ None → NamesAllGoing c w → names_frame c w f ≡ true
+    → IsAimed aim w (frames_of_owner o ++ f ∷ []) (cut_of_owner o)
+    → IsOwned (with_frame c f (taken (c.frame f)))
+    (Some (record { cpu = cpu; phase = phase.Taken aim w; frames = frames_of_owner o ++ f ∷ []; cut = cut_of_owner o }))
+owned_take c o cpu f aim w k current still others this aimed = record {
+  frames = λ g. by_place (λ (x : FrameUse). is_going_frame x ≡ has (fs ++ f ∷ []) g) c.frame f (taken (c.frame f)) g
+      (λ e. going_taken (c.frame f) current ∙ sym (ap (has (fs ++ f ∷ [])) e ∙ push_same fs f))
+      (λ n. k.frames g ∙ sym (push_other fs f g n));
+  cuts = k.cuts;
+  once = distinct_push fs f k.once (sym (k.frames f) ∙ current_is_not_going (c.frame f) current);
+  apart = k.apart;
+  due = λ d v h. absurd (none_some (sym still ∙ k.due d v h));
+  alive = λ d v h. absurd (none_some (sym still ∙ k.due d v h));
+  says = λ v h. (let same : w ≡ v = cc in subst (λ (x : What). SomethingGoes made × NamesAllGoing made x) same
+      (goes, all));
+  shaped = aimed;
+}
+  where
+    fs : List ℕ
+    fs = frames_of_owner o
+
+    made : Custody
+    made = with_frame c f (taken (c.frame f))
+
+    here : is_going_frame (made.frame f) ≡ true
+    here = ap is_going_frame (put_here c.frame f (taken (c.frame f))) ∙ going_taken (c.frame f) current
+
+    goes : SomethingGoes made
+    goes = inl (record { at = f; going = here })
+
+    named : (g : ℕ) → is_going_frame (made.frame g) ≡ true → names_frame c w g ≡ true
+    named g = by_place (λ (x : FrameUse). is_going_frame x ≡ true → names_frame c w g ≡ true) c.frame f
+        (taken (c.frame f)) g
+        (λ e h. ap (names_frame c w) e ∙ this) (λ n h. others.frames g h)
+
+    all : NamesAllGoing made w
+    all = record {
+      frames = λ g h. names_taken c f w g ∙ named g h;
+      descriptors = λ j n h. names_of_descriptor c made w j n refl ∙ others.descriptors j n h;
+    }
+
+-- ---- descriptors
+
+cut_push : (ds : List CutDescriptor) (d : CutDescriptor) (k n : ℕ)
+    → has_cut (ds ++ d ∷ []) k n ≡ (has_cut ds k n || (is_cut_at k n d || false))
+cut_push ds d k n = list_any-append (is_cut_at k n) ds (d ∷ [])
+
+pub cut_at_same : (d : CutDescriptor) → is_cut_at d.process d.number d ≡ true
+cut_at_same d = elim (eqb_tells d.process d.process) [
+  | inl e ↦ elim (eqb_tells d.number d.number) [ inl i ↦ rw (e.0, i.0) refl | inr n ↦ absurd (n.1 refl) ]
+  | inr n ↦ absurd (n.1 refl)
+]
+
+pub cut_at_tells : (k n : ℕ) (d : CutDescriptor) → is_cut_at k n d ≡ true → (k ≡ d.process) × (n ≡ d.number)
+cut_at_tells k n d h = elim (eqb_tells d.process k) [
+  | inl e ↦ elim (eqb_tells d.number n) [ inl i ↦ (sym e.1, sym i.1) | inr m ↦ absurd (no_and h (rw (e.0, m.0) refl)) ]
+  | inr m ↦ absurd (no_and h (rw m.0 refl))
+]
+
+pub cut_at_other : (k n : ℕ) (d : CutDescriptor) → (k ≡ d.process → n ≡ d.number → ⊥) → is_cut_at k n d ≡ false
+cut_at_other k n d h = by (is_cut_at k n d) refl
+  where
+    by : (b : Bool) → is_cut_at k n d ≡ b → b ≡ false
+    by false e = refl
+    by true e = let both = cut_at_tells k n d e in absurd (h both.0 both.1)
+
+cut_push_same : (ds : List CutDescriptor) (d : CutDescriptor) → has_cut (ds ++ d ∷ []) d.process d.number ≡ true
+cut_push_same ds d = cut_push ds d d.process d.number
+    ∙ ap (λ (b : Bool). has_cut ds d.process d.number || (b || false)) (cut_at_same d)
+    ∙ or_true (has_cut ds d.process d.number)
+
+cut_push_other : (ds : List CutDescriptor) (d : CutDescriptor) (k n : ℕ) → (k ≡ d.process → n ≡ d.number → ⊥)
+    → has_cut (ds ++ d ∷ []) k n ≡ has_cut ds k n
+cut_push_other ds d k n h = cut_push ds d k n
+    ∙ ap (λ (b : Bool). has_cut ds k n || (b || false)) (cut_at_other k n d h) ∙ or_false (has_cut ds k n)
+
+apart_push : (ds : List CutDescriptor) (d : CutDescriptor) → AreApart ds → has_cut ds d.process d.number ≡ false
+    → AreApart (ds ++ d ∷ [])
+apart_push [] d apart new = (refl, tt)
+apart_push (x ∷ xs) d apart new = (
+  cut_push_other xs d x.process x.number not_it
+      ∙ apart.0,
+  apart_push xs d apart.1 later,
+)
+  where
+    by : (b : Bool) → is_cut_at d.process d.number x ≡ b → (b || has_cut xs d.process d.number) ≡ false
+        → (is_cut_at d.process d.number x ≡ false) × (has_cut xs d.process d.number ≡ false)
+    by true e h = absurd (let no : true ≡ false = h in cc)
+    by false e h = (e, h)
+
+    both : (is_cut_at d.process d.number x ≡ false) × (has_cut xs d.process d.number ≡ false)
+    both = by (is_cut_at d.process d.number x) refl new
+
+    later : has_cut xs d.process d.number ≡ false
+    later = both.1
+
+    not_it : x.process ≡ d.process → x.number ≡ d.number → ⊥
+    not_it a b = no_and (ap (λ (k : ℕ). is_cut_at k d.number x) (sym a)
+        ∙ ap (λ (n : ℕ). is_cut_at x.process n x) (sym b) ∙ cut_at_same x) both.0
+
+going_cut : (x : DescriptorUse) → is_current_descriptor x ≡ true → is_going_descriptor (cut x) ≡ true
+going_cut descriptor.Free h = absurd (let no : false ≡ true = h in cc)
+going_cut (descriptor.Current u) h = refl
+going_cut (descriptor.Going u) h = absurd (let no : false ≡ true = h in cc)
+
+leads_cut : (x : DescriptorUse) → leads_to (cut x) ≡ leads_to x
+leads_cut descriptor.Free = refl
+leads_cut (descriptor.Current u) = refl
+leads_cut (descriptor.Going u) = refl
+
+pub current_descriptor_is_not_going : (x : DescriptorUse) → is_current_descriptor x ≡ true
+    → is_going_descriptor x ≡ false
+current_descriptor_is_not_going descriptor.Free h = refl
+current_descriptor_is_not_going (descriptor.Current u) h = refl
+current_descriptor_is_not_going (descriptor.Going u) h = absurd (let no : false ≡ true = h in cc)
+
+names_cut : (c : Custody) (k n : ℕ) (w : What) (i j : ℕ)
+    → names_descriptor (with_descriptor c k n (cut (c.descriptor k n))) w i j ≡ names_descriptor c w i j
+names_cut c k n what.All i j = refl
+names_cut c k n (what.Page h) i j = refl
+names_cut c k n (what.Seg u) i j = ap (is_uid u)
+    (by_places (λ (y : DescriptorUse). leads_to y ≡ leads_to (c.descriptor i j)) c.descriptor k n
+    (cut (c.descriptor k n)) i j
+    (λ a b. leads_cut (c.descriptor k n) ∙ rw (a, b) refl) (λ m. refl))
+
+names_of_frame : (c e : Custody) (w : What) (f : ℕ) → e.frame f ≡ c.frame f → names_frame e w f ≡ names_frame c w f
+names_of_frame c e what.All f h = refl
+names_of_frame c e (what.Page g) f h = refl
+names_of_frame c e (what.Seg u) f h = ap (λ (x : FrameUse). is_uid u (uid_of_page (bound_page x))) h
+
+-- a descriptor is cut
+pub owned_cut : (c : Custody) (o : Option Owner) (cpu : ℕ) (d : CutDescriptor) (aim : Aim) (w : What) → IsOwned c o
+    → is_current_descriptor (c.descriptor d.process d.number) ≡ true → waits_for o ≡ None → NamesAllGoing c w
+    → names_descriptor c w d.process d.number ≡ true → IsAimed aim w (frames_of_owner o) (cut_of_owner o ++ d ∷ [])
+    → IsOwned (with_descriptor c d.process d.number (cut (c.descriptor d.process d.number)))
+    (Some (record { cpu = cpu; phase = phase.Taken aim w; frames = frames_of_owner o; cut = cut_of_owner o ++ d ∷ [] }))
+owned_cut c o cpu d aim w k current still others this aimed = record {
+  frames = k.frames;
+  cuts = λ i j. by_places (λ (x : DescriptorUse). is_going_descriptor x
+      ≡ has_cut (ds ++ d ∷ []) i j) c.descriptor d.process d.number
+      (cut (c.descriptor d.process d.number)) i j
+      (λ a b. going_cut (c.descriptor d.process d.number) current ∙ sym (rw (a, b) (cut_push_same ds d)))
+      (λ m. k.cuts i j ∙ sym (cut_push_other ds d i j m));
+  once = k.once;
+  apart = apart_push ds d k.apart (sym (k.cuts d.process d.number)
+      ∙ current_descriptor_is_not_going (c.descriptor d.process d.number) current);
+  due = λ e v h. absurd (none_some (sym still ∙ k.due e v h));
+  alive = λ e v h. absurd (none_some (sym still ∙ k.due e v h));
+  says = λ v h. (let same : w ≡ v = cc in subst (λ (x : What). SomethingGoes made × NamesAllGoing made x) same
+      (goes, all));
+  shaped = aimed;
+}
+  where
+    ds : List CutDescriptor
+    ds = cut_of_owner o
+
+    made : Custody
+    made = with_descriptor c d.process d.number (cut (c.descriptor d.process d.number))
+
+    here : is_going_descriptor (made.descriptor d.process d.number) ≡ true
+    here = ap is_going_descriptor (put_two_here c.descriptor d.process d.number (cut (c.descriptor d.process d.number)))
+        ∙ going_cut (c.descriptor d.process d.number) current
+
+    goes : SomethingGoes made
+    goes = inr (record { process = d.process; number = d.number; going = here })
+
+    named : (i j : ℕ) → is_going_descriptor (made.descriptor i j) ≡ true → names_descriptor c w i j ≡ true
+    named i j = by_places (λ (x : DescriptorUse). is_going_descriptor x ≡ true
+        → names_descriptor c w i j ≡ true) c.descriptor d.process d.number
+        (cut (c.descriptor d.process d.number)) i j (λ a b h. rw (a, b) this) (λ m h. others.descriptors i j h)
+
+    all : NamesAllGoing made w
+    all = record {
+      frames = λ g h. names_of_frame c made w g refl ∙ others.frames g h;
+      descriptors = λ i j h. names_cut c d.process d.number w i j ∙ named i j h;
+    }

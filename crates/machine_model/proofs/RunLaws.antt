@@ -1,0 +1,167 @@
+-- How far each process has come by the flat store, once a command was answered or a drive's failure was told.
+use Rattle.std.proofs.Common.{◌≡◌, ◌<◌, ◌≤◌, ℕ, zero, suc, ℤ, Bool, true, false, cond, List, [], ◌∷◌, length, set}
+use Rattle.std.proofs.Common.{get_or, Option, Some, None, Result, Ok, Err, inl, inr, if◌then◌else◌, refl, sym, ap}
+use Rattle.std.proofs.Common.{subst, ◌∙◌, arith}
+use Rattle.std.proofs.lemmas.Bool.Decides.{eqb_tells, leb_tells}
+use Rattle.std.proofs.lemmas.List.{get_or-set_same, get_or-set_other, get_or_past}
+use Rattle.script.specs.Plans.{Plan}
+use Rattle.script.specs.References.{reference_of}
+use Rattle.script.specs.declared.commands.Command.{Command}
+use Rattle.script.specs.declared.commands.Command.TheVariants as command
+use Rattle.script.specs.declared.commands.Reference.{Reference}
+use Rattle.book.specs.declared.replies.Reply.{Reply}
+use Rattle.tree_model.specs.Tree.{Node}
+use Rattle.tree_model.specs.Access.{Row}
+use Rattle.flat_model.specs.Branches.{changed, node_at, segment_at, branch_at, directory_at, parts_of}
+use Rattle.flat_model.specs.Commands.{effect_of, effect_by, effect_of_tree_command, after_command, gone_on}
+use Rattle.flat_model.specs.Commands.{takes_effect}
+use Rattle.flat_model.specs.Legal.{after_fault}
+use Rattle.flat_model.specs.Making.{after_make, made_of, made_at, after_delete, deleted}
+use Rattle.flat_model.specs.Naming.{after_initiate, initiated, after_terminate}
+use Rattle.flat_model.specs.References.{after_reference, written, written_by, alters, new_word}
+use Rattle.flat_model.specs.Rights.{after_acl, after_move, moved}
+use Rattle.flat_model.specs.Sizes.{after_length, after_truncate, truncated}
+use Rattle.flat_model.specs.Store.{Store, Progress, progress_of, with_progress, known_uid}
+use Rattle.custody_model.specs.Next.{at_put}
+use Rattle.machine_model.specs.Custodial.{IsRun}
+use Rattle.machine_model.specs.State.{Run}
+use Rattle.machine_model.proofs.Places.{by_place}
+
+-- ---- no command moves a process by its effect
+
+changed_same : (s : Store) (change : Node → Node) (r : Result Node Reply) → (changed s change r).processes ≡ s.processes
+changed_same s change (Ok n) = refl
+changed_same s change (Err e) = refl
+
+made_at_same : (s : Store) (volume : ℕ) (directory : Bool) (pages : ℕ) (rows : List Row) (name : List ℕ)
+    (r : Result Node Reply)
+    → (made_at s volume directory pages rows name r).processes ≡ s.processes
+made_at_same s volume directory pages rows name (Ok n) = refl
+made_at_same s volume directory pages rows name (Err e) = refl
+
+made_same : (s : Store) (volume : ℕ) (directory : Bool) (pages : ℕ) (rows : List Row)
+    (o : Option (List (List ℕ) × List ℕ))
+    → (made_of s volume directory pages rows o).processes ≡ s.processes
+made_same s volume directory pages rows None = refl
+made_same s volume directory pages rows (Some parts) =
+    made_at_same s volume directory pages rows parts.1 (node_at s.nodes parts.0)
+
+initiated_same : (s : Store) (k : ℕ) (r : Result Node Reply) → (initiated s k r).processes ≡ s.processes
+initiated_same s k (Ok n) = refl
+initiated_same s k (Err e) = refl
+
+truncated_same : (s : Store) (from : ℕ) (r : Result Node Reply) → (truncated s from r).processes ≡ s.processes
+truncated_same s from (Ok n) = refl
+truncated_same s from (Err e) = refl
+
+deleted_same : (s : Store) (r : Result Node Reply) → (deleted s r).processes ≡ s.processes
+deleted_same s (Ok n) = refl
+deleted_same s (Err e) = refl
+
+tree_effect_same : (p : Plan) (s : Store) (k : ℕ) (c : Command)
+    → (effect_of_tree_command p s k c).processes ≡ s.processes
+unfolding after_make after_initiate after_terminate after_acl after_length after_truncate after_delete after_move
+tree_effect_same p s k (command.MkDir path volume) = made_same s volume true 0 [] (parts_of path)
+tree_effect_same p s k (command.MkSeg path pages volume) = made_same s volume false pages _ (parts_of path)
+tree_effect_same p s k (command.Initiate path) = initiated_same s k (segment_at s.nodes path)
+tree_effect_same p s k (command.Terminate number) = refl
+tree_effect_same p s k (command.Acl path row m) = changed_same s _ (segment_at s.nodes path)
+tree_effect_same p s k (command.Length path pages) = changed_same s _ (segment_at s.nodes path)
+tree_effect_same p s k (command.Truncate path words) = truncated_same s words (segment_at s.nodes path)
+tree_effect_same p s k (command.Delete path) = deleted_same s (branch_at s.nodes path)
+tree_effect_same p s k (command.Move path amount) = moved_same s amount (directory_at s.nodes path)
+  where
+    moved_same : (x : Store) (n : ℤ) (r : Result Node Reply) → (moved x n r).processes ≡ x.processes
+    moved_same x n (Ok d) = refl
+    moved_same x n (Err e) = refl
+tree_effect_same p s k _ = refl
+
+reference_same : (s : Store) (k : ℕ) (r : Reference) → (after_reference s k r).processes ≡ s.processes
+unfolding after_reference
+reference_same s k r = by (known_uid s k r.number)
+  where
+    wrote : (u : ℕ) (b : Bool) → (cond b (written s u r.offset (new_word (s.words u r.offset) r.kind)) s).processes
+        ≡ s.processes
+    wrote u true = refl
+    wrote u false = refl
+
+    by : (o : Option ℕ) → (written_by s r.offset r.kind o).processes ≡ s.processes
+    by None = refl
+    by (Some u) = wrote u (alters r.kind)
+
+effect_same : (p : Plan) (s : Store) (k : ℕ) (c : Command) → (effect_of p s k c).processes ≡ s.processes
+effect_same p s k c = by (reference_of c)
+  where
+    by : (o : Option Reference) → (effect_by p s k c o).processes ≡ s.processes
+    by None = tree_effect_same p s k c
+    by (Some r) = reference_same s k r
+
+-- ---- one process has come to another place
+
+abbrev ended : Progress
+ended = record { place = 0; tries = 0; ended = true; faulted = false }
+
+put_progress : (ps : List Progress) (k : ℕ) (q : Progress) (j : ℕ) → k < length ps
+    → get_or (set ps k q) j ended ≡ at_put (λ i. get_or ps i ended) k q j
+put_progress ps k q j within = by_place (λ (x : Progress). get_or (set ps k q) j ended ≡ x)
+    (λ i. get_or ps i ended) k q j
+    (λ e. ap (λ (i : ℕ). get_or (set ps k q) i ended) e ∙ get_or-set_same ps k q ended within)
+    (λ n. get_or-set_other ps k j q ended n)
+
+-- a process that hasn't ended is there
+pub is_there : (s : Store) (k : ℕ) → (progress_of s k).ended ≡ false → k < length s.processes
+is_there s k h = elim (leb_tells (length s.processes) k) [
+  | inl e ↦ absurd (let no : true ≡ false = sym (ap (λ (q : Progress). q.ended) (get_or_past s.processes k ended e.1))
+      ∙ h in cc)
+  | inr n ↦ n.1
+]
+
+-- a command was answered
+pub runs_answered : (p : Plan) (s : Store) (k : ℕ) (c : Command) (r : Reply) (run : Run) (runs : ℕ → Run)
+    → (progress_of s k).ended ≡ false
+    → IsRun (gone_on (progress_of s k) c r) run → ((j : ℕ) → IsRun (progress_of s j) (runs j)) → (j : ℕ)
+    → IsRun (progress_of (after_command p s k c r) j) (at_put runs k run j)
+unfolding after_command
+runs_answered p s k c r run runs going is others j =
+    subst (λ (q : Progress). IsRun q (at_put runs k run j)) (sym moved_to) cases
+  where
+    base : Store
+    base = if takes_effect r then effect_of p s k c else s
+
+    base_is : (b : Bool) → (cond b (effect_of p s k c) s).processes ≡ s.processes
+    base_is true = effect_same p s k c
+    base_is false = refl
+
+    moved_to : progress_of (with_progress base k (gone_on (progress_of s k) c r)) j
+        ≡ at_put (progress_of s) k (gone_on (progress_of s k) c r) j
+    moved_to = ap (λ (ps : List Progress). get_or (set ps k (gone_on (progress_of s k) c r)) j ended)
+        (base_is (takes_effect r))
+        ∙ put_progress s.processes k (gone_on (progress_of s k) c r) j (is_there s k going)
+
+    cases : IsRun (at_put (progress_of s) k (gone_on (progress_of s k) c r) j) (at_put runs k run j)
+    cases = elim (eqb_tells j k) [ inl e ↦ rw e.0 is | inr n ↦ rw n.0 (others j) ]
+
+set_past : (ps : List Progress) (k : ℕ) (q : Progress) → length ps ≤ k → set ps k q ≡ ps
+set_past [] k q h = refl
+set_past (x ∷ xs) zero q h = absurd (omega arith)
+set_past (x ∷ xs) (suc k) q h = ap (λ (t : List Progress). x ∷ t) (set_past xs k q (omega arith))
+
+-- a drive's failure was told
+pub runs_failed : (s : Store) (o : Option ℕ) (runs : ℕ → Run) → ((j : ℕ) → IsRun (progress_of s j) (runs j)) → (j : ℕ)
+    → IsRun (progress_of (after_fault s o) j) (runs j)
+runs_failed s None runs others j = others j
+runs_failed s (Some k) runs others j = elim (leb_tells (length s.processes) k) [
+  | inl e ↦ subst (λ (q : Progress). IsRun q (runs j)) (sym (past e.1)) (others j)
+  | inr n ↦ subst (λ (q : Progress). IsRun q (runs j)) (sym (put_progress s.processes k _ j n.1)) (cases)
+]
+  where
+    told : Progress
+    told = record (progress_of s k) { faulted = true }
+
+    past : length s.processes ≤ k → get_or (set s.processes k told) j ended ≡ progress_of s j
+    past h = ap (λ (ps : List Progress). get_or ps j ended) (set_past s.processes k told h)
+
+    cases : IsRun (at_put (progress_of s) k told j) (runs j)
+    cases = by_place (λ (q : Progress). IsRun q (runs j)) (progress_of s) k told j
+        (λ e. (let was = subst (λ (i : ℕ). IsRun (progress_of s i) (runs j)) e (others j) in
+        record { place = was.place; tries = was.tries; ended = was.ended })) (λ n. others j)

@@ -1,0 +1,215 @@
+-- A processor takes part, loads a process, loses it, or fills in a descriptor or a page table word.
+use Rattle.std.proofs.Common.{◌≡◌, ℕ, ◌<◌, true, false, List, [], drop, Option, Some, None, refl, sym, ap, subst, ◌∙◌}
+use Rattle.std.proofs.Common.{arith}
+use Rattle.std.specs.Prelude.{IsSomeAnd}
+use Rattle.assoc_mem.specs.declared.HeldPage.{HeldPage}
+use Rattle.assoc_mem.specs.declared.HeldSeg.{HeldSeg}
+use Rattle.book.specs.declared.entries.Entry.{Entry}
+use Rattle.book.specs.declared.entries.Entry.TheVariants as entry
+use Rattle.page_table.specs.declared.Ptw.TheVariants as ptw
+use Rattle.flat_model.specs.Legal.{IsLawful, after_entry}
+use Rattle.flat_model.specs.Store.{progress_of}
+use Rattle.custody_model.specs.declared.DescriptorUse.TheVariants as descriptor
+use Rattle.custody_model.specs.Allowed.{IsAllowed, MayLeave, MayTakeSeg, IsFront}
+use Rattle.custody_model.specs.Custody.{Custody, has, is_current_frame, is_current_descriptor, leads_to}
+use Rattle.custody_model.specs.Fine.{FillsOnline, pending_after}
+use Rattle.custody_model.specs.Next.{at_put, custody_next, with_seat, queued}
+use Rattle.machine_model.specs.Changes.{reseated, came_online, taking_part, loaded, running, left, emptied, seg_filled}
+use Rattle.machine_model.specs.Changes.{with_held_seg, page_filled, with_held_page}
+use Rattle.machine_model.specs.Custodial.{KeepsBook, IsOwned, HoldsRight, IsRun, AreOfProcess, names, is_pending}
+use Rattle.machine_model.specs.Seen.{Seen, flat, shown, seat_of, descriptor_use, cut_uid}
+use Rattle.machine_model.specs.Reads.{cut_of_owner}
+use Rattle.machine_model.specs.State.{Processor}
+use Rattle.machine_model.proofs.BookNext.{book_next}
+use Rattle.machine_model.proofs.HeldLaws.{map_filled, filled_few, pages_filled, segs_filled, under_way_alike}
+use Rattle.machine_model.proofs.OwnedLaws.{like_seat, owned_like}
+use Rattle.machine_model.proofs.Places.{by_place, put_map}
+use Rattle.machine_model.proofs.TieLaws.{none_some, use_bound}
+
+-- one processor changes, with the ready list and the book
+pub record Reseats (v : Seen) (c : ℕ) (p : Processor) (ready : List ℕ) (e : Entry) : Type 0 where
+  pub lawful : IsLawful v.plan (flat v) e
+  pub allowed : IsAllowed v.plan (flat v) (shown v) e
+  pub online : FillsOnline (shown v) e
+  pub next : custody_next v.plan (flat v) (shown v) e ≡ record (with_seat (shown v) c (seat_of p)) { ready = ready }
+  pub pending : pending_after (is_pending v.owner) e ≡ is_pending v.owner
+  pub due : p.cpu.due ≡ (v.processors c).cpu.due
+  pub transfer : p.cpu.transfer ≡ (v.processors c).cpu.transfer
+  pub right : HoldsRight v.bound (shown v).descriptor p
+  pub runs : (k : ℕ) → IsRun (progress_of (after_entry v.plan (flat v) e) k) (v.runs k)
+
+pub reseat_keeps : (v : Seen) (c : ℕ) (p : Processor) (ready : List ℕ) (e : Entry) → KeepsBook v → Reseats v c p ready e
+    → KeepsBook (reseated v c p ready e)
+reseat_keeps v c p ready e k r = book_next v e (reseated v c p ready e) k (record {
+  plan = refl;
+  entries = refl;
+  lawful = r.lawful;
+  allowed = r.allowed;
+  online = r.online;
+  next = seats ∙ sym r.next;
+  pending = sym r.pending;
+  going_owned = subst (λ (x : Custody). IsOwned x v.owner) (sym r.next)
+      (owned_like (shown v) (record (with_seat (shown v) c (seat_of p)) { ready = ready })
+      (like_seat (shown v) c (seat_of p) ready r.due) v.owner k.going_owned);
+  tied = k.tied;
+  holding_right = λ d. by_place (λ (x : Processor). HoldsRight v.bound (shown v).descriptor x) v.processors c p d
+      (λ i. r.right) (λ n. k.holding_right d);
+  under_way = under_way_alike v.reads v.processors (at_put v.processors c p)
+      (λ d. by_place (λ (x : Processor). x.cpu.transfer ≡ (v.processors d).cpu.transfer) v.processors c p d
+      (λ i. r.transfer ∙ ap (λ (j : ℕ). (v.processors j).cpu.transfer) (sym i)) (λ n. refl)) k.under_way;
+  runs = r.runs;
+})
+  where
+    seats : shown (reseated v c p ready e) ≡ record (with_seat (shown v) c (seat_of p)) { ready = ready }
+    seats = λ i. record (shown v) { seat = λ d. put_map seat_of v.processors c p d i; ready = ready }
+
+-- a processor that holds nothing
+right_empty : (v : Seen) (p : Processor) (process : Option ℕ)
+    → HoldsRight v.bound (shown v).descriptor
+    (record p { cpu = record p.cpu { process = process; assoc = record { segs = []; pages = [] } } })
+right_empty v p process = record { pages = tt; segs = none process; few_pages = omega arith; few_segs = omega arith }
+  where
+    none : (o : Option ℕ) → AreOfProcess (shown v).descriptor o []
+    none None = refl
+    none (Some k) = tt
+
+pub online_keeps : (v : Seen) (c : ℕ) → KeepsBook v → c < v.plan.processors → (v.processors c).cpu.online ≡ false
+    → KeepsBook (came_online v c)
+unfolding IsLawful after_entry custody_next
+online_keeps v c k inside off = reseat_keeps v c (taking_part (v.processors c)) v.ready (entry.Online c) k (record {
+  lawful = tt;
+  allowed = record { processor = inside; offline = off };
+  online = tt;
+  next = refl;
+  pending = refl;
+  due = refl;
+  transfer = refl;
+  right = let right = k.holding_right c in record
+      { pages = right.pages; segs = right.segs; few_pages = right.few_pages; few_segs = right.few_segs };
+  runs = k.runs;
+})
+
+pub load_keeps : (v : Seen) (c n : ℕ) → KeepsBook v → (v.processors c).cpu.online ≡ true
+    → (v.processors c).cpu.process ≡ None
+    → IsFront v.ready n → KeepsBook (loaded v c n)
+unfolding IsLawful after_entry custody_next
+load_keeps v c n k on none front = reseat_keeps v c (running (v.processors c) n) (drop 1 v.ready) (entry.Load c n) k
+    (record {
+      lawful = tt;
+      allowed = record { online = on; empty = none; front = front };
+      online = tt;
+      next = refl;
+      pending = refl;
+      due = refl;
+      transfer = refl;
+      right = right_empty v (running (v.processors c) n) (Some n);
+      runs = k.runs;
+    })
+
+pub leave_keeps : (v : Seen) (c : ℕ) → KeepsBook v → MayLeave (flat v) (shown v) c → KeepsBook (left v c)
+unfolding IsLawful after_entry custody_next
+leave_keeps v c k may = reseat_keeps v c (emptied (v.processors c))
+    (queued (flat v) v.ready (v.processors c).cpu.process) (entry.Leave c) k (record {
+      lawful = tt;
+      allowed = may;
+      online = tt;
+      next = refl;
+      pending = refl;
+      due = refl;
+      transfer = refl;
+      right = right_empty v (emptied (v.processors c)) None;
+      runs = k.runs;
+    })
+
+-- a descriptor that is connected, and that the processor doesn't hold
+pub record CanFillSeg (v : Seen) (c n : ℕ) (e : HeldSeg) : Type 0 where
+  pub online : (v.processors c).cpu.online ≡ true
+  pub process : (v.processors c).cpu.process ≡ Some n
+  pub linked : v.linked n e.number ≡ Some e.uid
+  pub new : has ((shown v).seat c).segs e.number ≡ false
+
+pub fill_seg_keeps : (v : Seen) (c n : ℕ) (e : HeldSeg) → KeepsBook v → CanFillSeg v c n e
+    → KeepsBook (seg_filled v c e)
+unfolding IsLawful after_entry custody_next
+fill_seg_keeps v c n e k can = reseat_keeps v c (with_held_seg (v.processors c) e) v.ready (entry.FillSeg c e.number) k
+    (record {
+      lawful = tt;
+      allowed = may (v.processors c).cpu.process can.process;
+      online = can.online;
+      next = λ i. record (with_seat (shown v) c (record
+          (seat_of (v.processors c)) {
+            segs = sym
+                (map_filled (λ x. x.number) (v.processors c).cpu.assoc.segs e right.few_segs) i;
+          })) { ready = v.ready };
+      pending = refl;
+      due = refl;
+      transfer = refl;
+      right = record {
+        pages = right.pages;
+        segs = subst (λ (o : Option ℕ). AreOfProcess (shown v).descriptor o
+            ((with_held_seg (v.processors c) e).cpu.assoc.segs)) (sym can.process)
+            (segs_filled (shown v).descriptor n (v.processors c).cpu.assoc.segs e
+            (subst (λ (o : Option ℕ). AreOfProcess (shown v).descriptor o
+            (v.processors c).cpu.assoc.segs) can.process right.segs) (ap leads_to is));
+        few_pages = right.few_pages;
+        few_segs = filled_few (v.processors c).cpu.assoc.segs e right.few_segs;
+      };
+      runs = k.runs;
+    })
+  where
+    right : HoldsRight v.bound (shown v).descriptor (v.processors c)
+    right = k.holding_right c
+
+    is : (shown v).descriptor n e.number ≡ descriptor.Current e.uid
+    is = ap (λ (o : Option ℕ). descriptor_use o (cut_uid (cut_of_owner v.owner) n e.number)) can.linked
+
+    may : (o : Option ℕ) → o ≡ Some n → IsSomeAnd o (λ j. MayTakeSeg (shown v) ((shown v).seat c) e.number j)
+    may None h = absurd (none_some h)
+    may (Some j) h = record {
+      current = let same : j ≡ n = cc in ap (λ (i : ℕ). is_current_descriptor ((shown v).descriptor i e.number)) same
+          ∙ ap is_current_descriptor is;
+      new = can.new;
+    }
+
+-- a page that is in a frame and not on its way out, of which the processor doesn't hold the word
+pub record CanFillPage (v : Seen) (c : ℕ) (e : HeldPage) : Type 0 where
+  pub inside : c < v.plan.processors
+  pub online : (v.processors c).cpu.online ≡ true
+  pub word : v.words e.uid e.page ≡ ptw.Here e.frame
+  pub new : has ((shown v).seat c).pages e.frame ≡ false
+
+pub fill_page_keeps : (v : Seen) (c : ℕ) (e : HeldPage) → KeepsBook v → CanFillPage v c e
+    → KeepsBook (page_filled v c e)
+unfolding IsLawful after_entry custody_next
+fill_page_keeps v c e k can = reseat_keeps v c (with_held_page (v.processors c) e) v.ready (entry.FillPage c e.frame) k
+    (record {
+      lawful = tt;
+      allowed = record {
+        processor = can.inside;
+        current = ap is_current_frame (use_bound v.bound v.reads v.words k.tied e.frame e.uid e.page
+            (ptw.Here e.frame) is can.word);
+        new = can.new;
+      };
+      online = can.online;
+      next = λ i. record (with_seat (shown v) c (record
+          (seat_of (v.processors c)) {
+            pages = sym
+                (map_filled (λ x. x.frame) (v.processors c).cpu.assoc.pages e right.few_pages) i;
+          })) { ready = v.ready };
+      pending = refl;
+      due = refl;
+      transfer = refl;
+      right = record {
+        pages = pages_filled v.bound (v.processors c).cpu.assoc.pages e right.pages is;
+        segs = right.segs;
+        few_pages = filled_few (v.processors c).cpu.assoc.pages e right.few_pages;
+        few_segs = right.few_segs;
+      };
+      runs = k.runs;
+    })
+  where
+    right : HoldsRight v.bound (shown v).descriptor (v.processors c)
+    right = k.holding_right c
+
+    is : v.bound e.frame ≡ Some (e.uid, e.page)
+    is = k.tied.back e.frame e.uid e.page (ap names can.word)
