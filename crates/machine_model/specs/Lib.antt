@@ -5,8 +5,10 @@ pub mod Changes
 pub mod Commits
 pub mod Custodial
 pub mod Finishing
+pub mod Holding
 pub mod Jobs
 pub mod Looping
+pub mod Keeps
 pub mod Measures
 pub mod Outline
 pub mod OutlineKept

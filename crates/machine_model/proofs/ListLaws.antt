@@ -1,0 +1,43 @@
+-- Lists that are changed in place, read as functions.
+use Rattle.std.proofs.Common.{◌≡◌, ◌≢◌, ◌<◌, ℕ, zero, suc, cond, eqb, List, [], ◌∷◌, map, length, set, get_or, inl, inr}
+use Rattle.std.proofs.Common.{refl, sym, ap, ◌∙◌}
+use Rattle.std.proofs.lemmas.Bool.Decides.{eqb_tells, leb_tells}
+use Rattle.std.proofs.lemmas.List.{get_or-set_same, get_or-set_other, get_or_past}
+use Rattle.custody_model.specs.Next.{at_put, at_put_two}
+use Rattle.machine_model.proofs.Places.{by_place, put_map}
+
+module _ {A : Type 0} where
+  pub put_list : (xs : List A) (i : ℕ) (x d : A) (j : ℕ) → i < length xs
+      → get_or (set xs i x) j d ≡ at_put (λ k. get_or xs k d) i x j
+  put_list xs i x d j within = by_place (λ (y : A). get_or (set xs i x) j d ≡ y) (λ k. get_or xs k d) i x j
+      (λ e. ap (λ (k : ℕ). get_or (set xs i x) k d) e ∙ get_or-set_same xs i x d within)
+      (λ n. get_or-set_other xs i j x d n)
+
+  pub within_by : (xs : List A) (i : ℕ) (d : A) → get_or xs i d ≢ d → i < length xs
+  within_by xs i d n = elim (leb_tells (length xs) i) [ inl e ↦ absurd (n (get_or_past xs i d e.1)) | inr m ↦ m.1 ]
+
+module _ {A B : Type 0} where
+  pub map_list : (f : A → B) (xs : List A) (i : ℕ) (d : A) → get_or (map f xs) i (f d) ≡ f (get_or xs i d)
+  map_list f [] i d = refl
+  map_list f (x ∷ xs) zero d = refl
+  map_list f (x ∷ xs) (suc i) d = map_list f xs i d
+
+  -- a mapped list of which one element is changed
+  pub put_mapped : (f : A → B) (xs : List A) (i : ℕ) (x d : A) (j : ℕ) → i < length xs
+      → get_or (map f (set xs i x)) j (f d) ≡ at_put (λ k. get_or (map f xs) k (f d)) i (f x) j
+  put_mapped f xs i x d j within = map_list f (set xs i x) j d
+      ∙ (ap f (put_list xs i x d j within) ∙ (put_map f (λ k. get_or xs k d) i x j
+      ∙ (λ t. at_put (λ k. sym (map_list f xs k d) t) i (f x) j)))
+
+module _ {A : Type 0} where
+  -- a list of lists of which one element is changed
+  pub put_lists : (xss : List (List A)) (k n : ℕ) (x d : A) (i j : ℕ) → k < length xss → n < length (get_or xss k [])
+      → get_or (get_or (set xss k (set (get_or xss k []) n x)) i []) j d
+      ≡ at_put_two (λ a b. get_or (get_or xss a []) b d) k n x i j
+  put_lists xss k n x d i j outer inner = ap (λ (ys : List A). get_or ys j d)
+      (put_list xss k (set (get_or xss k []) n x) [] i outer)
+      ∙ elim (eqb_tells i k) [
+        | inl e ↦ rw e.0 (put_list (get_or xss k []) n x d j inner
+            ∙ ap (λ (y : A). cond (eqb j n) x y) (ap (λ (a : ℕ). get_or (get_or xss a []) j d) (sym e.1)))
+        | inr m ↦ rw m.0 refl
+      ]
