@@ -6,6 +6,7 @@ pub mod CountLaws
 pub mod ActiveLaws
 pub mod AnswerLaws
 pub mod BookNext
+pub mod ChainLaws
 pub mod ClearLaws
 pub mod CutPages
 pub mod Deletions

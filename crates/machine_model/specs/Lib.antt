@@ -1,6 +1,7 @@
 pub mod Actions
 pub mod After
 pub mod Boot
+pub mod Chains
 pub mod Changes
 pub mod Commits
 pub mod Custodial

@@ -1,0 +1,384 @@
+-- Pages are taken and descriptors cut one after the other; what was taken is back, or gone.
+use Rattle.std.proofs.Common.{◌≡◌, ℕ, Bool, true, false, ◌||◌, eqb, List, [], ◌∷◌, ◌++◌, Option, Some, None, inl}
+use Rattle.std.proofs.Common.{inr, refl, sym, ap, subst, ◌∙◌}
+use Rattle.std.proofs.lemmas.Bool.Decides.{eqb_tells}
+use Rattle.assoc_mem.specs.declared.What.{What}
+use Rattle.assoc_mem.specs.declared.What.TheVariants as what
+use Rattle.page_table.specs.declared.Ptw.{Ptw}
+use Rattle.page_table.specs.declared.Ptw.TheVariants as ptw
+use Rattle.custody_model.specs.Allowed.{NamesAllGoing}
+use Rattle.custody_model.specs.Custody.{bound_page, has, is_going_frame, is_uid, names_descriptor, names_frame}
+use Rattle.custody_model.specs.Custody.{uid_of_page, leads_to}
+use Rattle.custody_model.specs.Fine.{NoneDue}
+use Rattle.custody_model.specs.Next.{at_put_two}
+use Rattle.machine_model.specs.declared.Aim.{Aim}
+use Rattle.machine_model.specs.Chains.{page_at, page_or_zero, takes, cuts, backs, back_segs, gone_segs, gones}
+use Rattle.machine_model.specs.Chains.{without_frame, without_cut, frames_after, cut_after}
+use Rattle.machine_model.specs.Changes.{taken, cut, back, back_seg, gone, gone_seg}
+use Rattle.machine_model.specs.Custodial.{AreApart, AreDistinct, IsAimed, IsShaped, FitsPhase, KeepsBook, has_cut}
+use Rattle.machine_model.specs.Custodial.{is_pending, names, says, waits_for}
+use Rattle.machine_model.specs.Reads.{cut_of_owner, frames_of_owner}
+use Rattle.machine_model.specs.Seen.{Seen, bound_use, cut_uid, descriptor_use, frame_use, is_cut_at, read_use, shown}
+use Rattle.machine_model.specs.State.{CutDescriptor, Owner}
+use Rattle.machine_model.proofs.DescriptorLaws.{CanFinishSeg, back_seg_keeps, cut_keeps, gone_seg_keeps}
+use Rattle.machine_model.proofs.DueLaws.{HasLeft, HasLeftCut}
+use Rattle.machine_model.proofs.FrameLaws.{CanFinish, back_keeps, gone_keeps, take_keeps}
+use Rattle.machine_model.proofs.OwnedLaws.{cut_at_same}
+use Rattle.machine_model.proofs.Places.{by_places}
+
+no_and : {b : Bool} → b ≡ true → b ≡ false → ⊥
+no_and t f = let no : true ≡ false = sym t ∙ f in cc
+
+-- ---- what is named, by the page in a frame
+
+-- the page in a frame, as custody sees it
+pub bound_shown : (v : Seen) (f : ℕ) → bound_page ((shown v).frame f) ≡ v.bound f
+bound_shown v f = by (v.bound f)
+  where
+    read : (y : Option (ℕ × ℕ)) → bound_page (read_use y) ≡ None
+    read None = refl
+    read (Some page) = refl
+
+    used : (page : ℕ × ℕ) (w : Ptw) → bound_page (bound_use page w) ≡ Some page
+    used page ptw.Null = refl
+    used page (ptw.Out r) = refl
+    used page (ptw.Here g) = refl
+    used page (ptw.Leaving g) = refl
+
+    by : (x : Option (ℕ × ℕ)) → bound_page (frame_use v.words x (v.reads f)) ≡ x
+    by None = read (v.reads f)
+    by (Some page) = used page (v.words page.0 page.1)
+
+-- what is named of a frame doesn't depend on the words
+pub names_shown : (v now : Seen) (w : What) (f : ℕ) → now.bound f ≡ v.bound f
+    → names_frame (shown now) w f ≡ names_frame (shown v) w f
+names_shown v now what.All f same = refl
+names_shown v now (what.Page g) f same = refl
+names_shown v now (what.Seg u) f same = ap (λ (o : Option (ℕ × ℕ)). is_uid u (uid_of_page o))
+    (bound_shown now f ∙ (same ∙ sym (bound_shown v f)))
+
+-- ---- pages are taken
+
+pub record CanTakeAll (v : Seen) (aim : Aim) (w : What) (fs : List ℕ) : Type 0 where
+  pub here : (f : ℕ) → has fs f ≡ true → v.words (page_at v f).0 (page_at v f).1 ≡ ptw.Here f
+  pub once : AreDistinct fs
+  pub named : (f : ℕ) → has fs f ≡ true → names_frame (shown v) w f ≡ true
+  pub others : NamesAllGoing (shown v) w
+  pub still : waits_for v.owner ≡ None
+  pub aimed : (gs : List ℕ) (ds : List CutDescriptor) → IsAimed aim w gs ds
+
+has_head : (f : ℕ) (fs : List ℕ) → has (f ∷ fs) f ≡ true
+has_head f fs = elim (eqb_tells f f) [ inl e ↦ ap (λ (b : Bool). b || has fs f) e.0 | inr n ↦ absurd (n.1 refl) ]
+
+has_tail : (f : ℕ) (fs : List ℕ) (g : ℕ) → has fs g ≡ true → has (f ∷ fs) g ≡ true
+has_tail f fs g h = by (eqb f g)
+  where
+    by : (b : Bool) → (b || has fs g) ≡ true
+    by true = refl
+    by false = h
+
+-- the machine keeps what it keeps, the owner waits for nothing still, and what goes is named
+pub record HasTaken (v : Seen) (w : What) : Type 0 where
+  pub book : KeepsBook v
+  pub others : NamesAllGoing (shown v) w
+  pub still : waits_for v.owner ≡ None
+
+pub takes_keep : (v : Seen) (c : ℕ) (aim : Aim) (w : What) (fs : List ℕ) → KeepsBook v → CanTakeAll v aim w fs
+    → HasTaken (takes v c aim w fs) w
+takes_keep v c aim w [] k can = record { book = k; others = can.others; still = can.still }
+takes_keep v c aim w (f ∷ fs) k can = takes_keep now c aim w fs book (record {
+  here = here;
+  once = can.once.1;
+  named = λ g h. names_shown v now w g refl ∙ can.named g (has_tail f fs g h);
+  others = (book.going_owned.says w refl).1;
+  still = refl;
+  aimed = can.aimed;
+})
+  where
+    u : ℕ
+    u = (page_at v f).0
+
+    p : ℕ
+    p = (page_at v f).1
+
+    now : Seen
+    now = taken v c aim w f u p
+
+    book : KeepsBook now
+    book = take_keeps v c aim w f u p k (record {
+      here = can.here f (has_head f fs);
+      still = can.still;
+      others = can.others;
+      this = can.named f (has_head f fs);
+      aimed = can.aimed (frames_of_owner v.owner ++ f ∷ []) (cut_of_owner v.owner);
+    })
+
+    here : (g : ℕ) → has fs g ≡ true → now.words (page_at v g).0 (page_at v g).1 ≡ ptw.Here g
+    here g h = by_places (λ (x : Ptw). x ≡ ptw.Here g) v.words u p (ptw.Leaving f) (page_at v g).0 (page_at v g).1
+        (λ a b. absurd (no_and (subst (λ (i : ℕ). has fs i ≡ true) (same a b) h) can.once.0))
+        (λ n. can.here g (has_tail f fs g h))
+      where
+        same : (page_at v g).0 ≡ u → (page_at v g).1 ≡ p → g ≡ f
+        same a b = let one = can.here g (has_tail f fs g h) in let two = can.here f (has_head f fs) in
+            let both : ptw.Here g ≡ ptw.Here f =
+            sym one ∙ (ap (λ (x : ℕ). v.words x (page_at v g).1) a ∙ (ap (λ (x : ℕ). v.words u x) b ∙ two)) in
+            cc
+
+-- ---- descriptors are cut
+
+-- ---- descriptors are cut
+
+-- whether a signal names the descriptors of a segment
+abbrev pub names_uid : What → ℕ → Bool
+names_uid what.All u = true
+names_uid (what.Page g) u = false
+names_uid (what.Seg v) u = is_uid v (Some u)
+
+pub names_linked : (v : Seen) (w : What) (k n u : ℕ) → v.linked k n ≡ Some u
+    → names_descriptor (shown v) w k n ≡ names_uid w u
+names_linked v what.All k n u h = refl
+names_linked v (what.Page g) k n u h = refl
+names_linked v (what.Seg x) k n u h = ap (λ (o : Option ℕ). is_uid x
+    (leads_to (descriptor_use o (cut_uid (cut_of_owner v.owner) k n)))) h
+
+-- some descriptors are connected, and named
+abbrev pub AreLinked : (ℕ → ℕ → Option ℕ) → What → List CutDescriptor → Type 0
+AreLinked linked w [] = Unit {0}
+AreLinked linked w (d ∷ ds) = ((linked d.process d.number ≡ Some d.uid) ×
+    (names_uid w d.uid ≡ true)) × AreLinked linked w ds
+
+linked_kept : (linked : ℕ → ℕ → Option ℕ) (w : What) (k n : ℕ) (ds : List CutDescriptor) → has_cut ds k n ≡ false
+    → AreLinked linked w ds
+    → AreLinked (at_put_two linked k n None) w ds
+linked_kept linked w k n [] none are = tt
+linked_kept linked w k n (d ∷ ds) none are = (
+  (
+    by_places (λ (o : Option ℕ). o ≡ Some d.uid) linked k n None d.process d.number
+        (λ a b. absurd (no_and (ap (λ (x : ℕ). is_cut_at x n d) (sym a)
+        ∙ (ap (λ (y : ℕ). is_cut_at d.process y d) (sym b) ∙ cut_at_same d)) parts.0))
+        (λ m. are.0.0),
+    are.0.1,
+  ),
+  linked_kept linked w k n ds parts.1 are.1,
+)
+  where
+    or_parts : (a b : Bool) → (a || b) ≡ false → (a ≡ false) × (b ≡ false)
+    or_parts false b h = (refl, h)
+    or_parts true b h = absurd (let no : true ≡ false = h in cc)
+
+    parts : (is_cut_at k n d ≡ false) × (has_cut ds k n ≡ false)
+    parts = or_parts (is_cut_at k n d) (has_cut ds k n) none
+
+pub record CanCutAll (v : Seen) (aim : Aim) (w : What) (ds : List CutDescriptor) : Type 0 where
+  pub linked : AreLinked v.linked w ds
+  pub apart : AreApart ds
+  pub others : NamesAllGoing (shown v) w
+  pub still : waits_for v.owner ≡ None
+  pub aimed : (gs : List ℕ) (cs : List CutDescriptor) → IsAimed aim w gs cs
+
+pub cuts_keep : (v : Seen) (c : ℕ) (aim : Aim) (w : What) (ds : List CutDescriptor) → KeepsBook v
+    → CanCutAll v aim w ds → HasTaken (cuts v c aim w ds) w
+cuts_keep v c aim w [] k can = record { book = k; others = can.others; still = can.still }
+cuts_keep v c aim w (d ∷ ds) k can = cuts_keep (cut v c aim w d) c aim w ds book (record {
+  linked = linked_kept v.linked w d.process d.number ds can.apart.0 can.linked.1;
+  apart = can.apart.1;
+  others = (book.going_owned.says w refl).1;
+  still = refl;
+  aimed = can.aimed;
+})
+  where
+    book : KeepsBook (cut v c aim w d)
+    book = cut_keeps v c aim w d k (record {
+      linked = can.linked.0.0;
+      still = can.still;
+      others = can.others;
+      this = names_linked v w d.process d.number d.uid can.linked.0.0 ∙ can.linked.0.1;
+      aimed = can.aimed (frames_of_owner v.owner) (cut_of_owner v.owner ++ d ∷ []);
+    })
+
+-- ---- what was taken goes, or comes back
+
+-- an owner whose job may have taken anything
+abbrev pub IsSteady : Option Owner → Type 0
+IsSteady None = Unit {0}
+IsSteady (Some o) = (gs : List ℕ) (ds : List CutDescriptor) → FitsPhase o.phase gs ds
+
+-- every processor has cleared, and these frames and descriptors are still to go
+pub record GoesOn (v : Seen) (fs : List ℕ) (ds : List CutDescriptor) : Type 0 where
+  pub frames : frames_of_owner v.owner ≡ fs
+  pub cut : cut_of_owner v.owner ≡ ds
+  pub none : NoneDue (shown v)
+  pub still : is_pending v.owner ≡ false
+  pub quiet : says v.owner ≡ None
+  pub steady : IsSteady v.owner
+
+-- an owner goes on without its first frame
+pending_without : (o : Option Owner) → is_pending (without_frame o) ≡ is_pending o
+pending_without None = refl
+pending_without (Some o) = refl
+
+says_without : (o : Option Owner) → says (without_frame o) ≡ says o
+says_without None = refl
+says_without (Some o) = refl
+
+cut_without : (o : Option Owner) → cut_of_owner (without_frame o) ≡ cut_of_owner o
+cut_without None = refl
+cut_without (Some o) = refl
+
+frames_without : (o : Option Owner) → frames_of_owner (without_frame o) ≡ frames_after (frames_of_owner o)
+frames_without None = refl
+frames_without (Some o) = refl
+
+steady_without : (o : Option Owner) → IsSteady o → IsSteady (without_frame o)
+steady_without None h = tt
+steady_without (Some o) h = h
+
+shaped_steady : (o : Option Owner) → IsSteady o → IsShaped o
+shaped_steady None h = tt
+shaped_steady (Some o) h = h o.frames o.cut
+
+left_first : (o : Option Owner) (f : ℕ) (fs : List ℕ) → frames_of_owner o ≡ f ∷ fs → says o ≡ None → IsSteady o
+    → HasLeft o (without_frame o) f
+left_first o f fs frames quiet steady = record {
+  rest = fs;
+  frames = frames;
+  left = frames_without o ∙ ap frames_after frames;
+  cut = cut_without o;
+  says = says_without o ∙ quiet;
+  shaped = shaped_steady (without_frame o) (steady_without o steady);
+}
+
+-- the same without its first descriptor
+pending_uncut : (o : Option Owner) → is_pending (without_cut o) ≡ is_pending o
+pending_uncut None = refl
+pending_uncut (Some o) = refl
+
+says_uncut : (o : Option Owner) → says (without_cut o) ≡ says o
+says_uncut None = refl
+says_uncut (Some o) = refl
+
+frames_uncut : (o : Option Owner) → frames_of_owner (without_cut o) ≡ frames_of_owner o
+frames_uncut None = refl
+frames_uncut (Some o) = refl
+
+cut_uncut : (o : Option Owner) → cut_of_owner (without_cut o) ≡ cut_after (cut_of_owner o)
+cut_uncut None = refl
+cut_uncut (Some o) = refl
+
+steady_uncut : (o : Option Owner) → IsSteady o → IsSteady (without_cut o)
+steady_uncut None h = tt
+steady_uncut (Some o) h = h
+
+left_first_cut : (o : Option Owner) (d : CutDescriptor) (ds : List CutDescriptor) → cut_of_owner o ≡ d ∷ ds
+    → says o ≡ None → IsSteady o
+    → HasLeftCut o (without_cut o) d
+left_first_cut o d ds cut quiet steady = record {
+  rest = ds;
+  cut = cut;
+  left = cut_uncut o ∙ ap cut_after cut;
+  frames = frames_uncut o;
+  says = says_uncut o ∙ quiet;
+  shaped = shaped_steady (without_cut o) (steady_uncut o steady);
+}
+
+-- a frame that is going has a page whose word says so
+pub going_word : (v : Seen) (f : ℕ) → KeepsBook v → is_going_frame ((shown v).frame f) ≡ true
+    → v.words (page_at v f).0 (page_at v f).1 ≡ ptw.Leaving f
+going_word v f k going = by (v.bound f) refl going
+  where
+    word : (page : ℕ × ℕ) (w : Ptw) → names w ≡ Some f → is_going_frame (bound_use page w) ≡ true → w ≡ ptw.Leaving f
+    word page ptw.Null n h = absurd (let no : false ≡ true = h in cc)
+    word page (ptw.Out r) n h = absurd (let no : false ≡ true = h in cc)
+    word page (ptw.Here g) n h = absurd (let no : false ≡ true = h in cc)
+    word page (ptw.Leaving g) n h = cc
+
+    read : (y : Option (ℕ × ℕ)) → is_going_frame (read_use y) ≡ false
+    read None = refl
+    read (Some page) = refl
+
+    by : (x : Option (ℕ × ℕ)) → v.bound f ≡ x → is_going_frame (frame_use v.words x (v.reads f)) ≡ true
+        → v.words (page_or_zero x).0 (page_or_zero x).1 ≡ ptw.Leaving f
+    by None e h = absurd (no_and h (read (v.reads f)))
+    by (Some page) e h = word page (v.words page.0 page.1) (k.tied.named f page.0 page.1 e) h
+
+pub record HasGone (v : Seen) (fs : List ℕ) (ds : List CutDescriptor) : Type 0 where
+  pub book : KeepsBook v
+  pub on : GoesOn v fs ds
+
+module _ (v : Seen) (f : ℕ) (fs : List ℕ) (ds : List CutDescriptor) (k : KeepsBook v) (on : GoesOn v (f ∷ fs) ds) where
+  first_going : is_going_frame ((shown v).frame f) ≡ true
+  first_going = k.going_owned.frames f ∙ (ap (λ (gs : List ℕ). has gs f) on.frames ∙ has_head f fs)
+
+  pub first_finish : CanFinish v f (page_at v f).0 (page_at v f).1 (without_frame v.owner)
+  first_finish = record {
+    leaving = going_word v f k first_going;
+    none = on.none;
+    still = on.still;
+    after = pending_without v.owner ∙ on.still;
+    first = left_first v.owner f fs on.frames on.quiet on.steady;
+  }
+
+pub backs_keep : (v : Seen) (fs : List ℕ) (ds : List CutDescriptor) → KeepsBook v → GoesOn v fs ds
+    → HasGone (backs v fs) [] ds
+backs_keep v [] ds k on = record { book = k; on = on }
+backs_keep v (f ∷ fs) ds k on = backs_keep (back v f (page_at v f).0 (page_at v f).1 (without_frame v.owner)) fs ds
+    (back_keeps v f (page_at v f).0 (page_at v f).1 (without_frame v.owner) k (first_finish v f fs ds k on))
+    (record {
+      frames = frames_without v.owner ∙ ap frames_after on.frames;
+      cut = cut_without v.owner ∙ on.cut;
+      none = on.none;
+      still = pending_without v.owner ∙ on.still;
+      quiet = says_without v.owner ∙ on.quiet;
+      steady = steady_without v.owner on.steady;
+    })
+
+pub gones_keep : (v : Seen) (fs : List ℕ) (ds : List CutDescriptor) → KeepsBook v → GoesOn v fs ds
+    → HasGone (gones v fs) [] ds
+gones_keep v [] ds k on = record { book = k; on = on }
+gones_keep v (f ∷ fs) ds k on = gones_keep (gone v f (page_at v f).0 (page_at v f).1 ptw.Null
+    (without_frame v.owner)) fs ds
+    (gone_keeps v f (page_at v f).0 (page_at v f).1 (without_frame v.owner) k
+    (first_finish v f fs ds k on) ptw.Null refl)
+    (record {
+      frames = frames_without v.owner ∙ ap frames_after on.frames;
+      cut = cut_without v.owner ∙ on.cut;
+      none = on.none;
+      still = pending_without v.owner ∙ on.still;
+      quiet = says_without v.owner ∙ on.quiet;
+      steady = steady_without v.owner on.steady;
+    })
+
+first_finish_seg : (v : Seen) (fs : List ℕ) (d : CutDescriptor) (ds : List CutDescriptor) → GoesOn v fs (d ∷ ds)
+    → CanFinishSeg v d (without_cut v.owner)
+first_finish_seg v fs d ds on = record {
+  none = on.none;
+  still = on.still;
+  after = pending_uncut v.owner ∙ on.still;
+  first = left_first_cut v.owner d ds on.cut on.quiet on.steady;
+}
+
+uncut_on : (v now : Seen) (fs : List ℕ) (d : CutDescriptor) (ds : List CutDescriptor) → GoesOn v fs (d ∷ ds)
+    → NoneDue (shown now)
+    → now.owner ≡ without_cut v.owner → GoesOn now fs ds
+uncut_on v now fs d ds on none same = record {
+  frames = ap frames_of_owner same ∙ (frames_uncut v.owner ∙ on.frames);
+  cut = ap cut_of_owner same ∙ (cut_uncut v.owner ∙ ap cut_after on.cut);
+  none = none;
+  still = ap is_pending same ∙ (pending_uncut v.owner ∙ on.still);
+  quiet = ap says same ∙ (says_uncut v.owner ∙ on.quiet);
+  steady = subst IsSteady (sym same) (steady_uncut v.owner on.steady);
+}
+
+pub back_segs_keep : (v : Seen) (fs : List ℕ) (ds : List CutDescriptor) → KeepsBook v → GoesOn v fs ds
+    → HasGone (back_segs v ds) fs []
+back_segs_keep v fs [] k on = record { book = k; on = on }
+back_segs_keep v fs (d ∷ ds) k on = back_segs_keep (back_seg v d (without_cut v.owner)) fs ds
+    (back_seg_keeps v d (without_cut v.owner) k (first_finish_seg v fs d ds on))
+    (uncut_on v (back_seg v d (without_cut v.owner)) fs d ds on on.none refl)
+
+pub gone_segs_keep : (v : Seen) (fs : List ℕ) (ds : List CutDescriptor) → KeepsBook v → GoesOn v fs ds
+    → HasGone (gone_segs v ds) fs []
+gone_segs_keep v fs [] k on = record { book = k; on = on }
+gone_segs_keep v fs (d ∷ ds) k on = gone_segs_keep (gone_seg v d (without_cut v.owner)) fs ds
+    (gone_seg_keeps v d (without_cut v.owner) k (first_finish_seg v fs d ds on))
+    (uncut_on v (gone_seg v d (without_cut v.owner)) fs d ds on on.none refl)

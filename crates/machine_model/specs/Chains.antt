@@ -1,0 +1,63 @@
+-- What lists of entries change in what custody sees of a machine: pages that are taken one after the other, descriptors
+-- that
+-- are cut, and what comes back or is gone.
+use Rattle.std.specs.Prelude.{ℕ, List, [], ◌∷◌, Option, Some, None}
+use Rattle.assoc_mem.specs.declared.What.{What}
+use Rattle.page_table.specs.declared.Ptw.TheVariants as ptw
+use Rattle.machine_model.specs.declared.Aim.{Aim}
+use Rattle.machine_model.specs.Changes.{taken, cut, back, back_seg, gone, gone_seg}
+use Rattle.machine_model.specs.State.{CutDescriptor, Owner}
+use Rattle.machine_model.specs.Seen.{Seen}
+
+-- the page that is in a frame; page 0 of segment 0 where none is
+abbrev pub page_or_zero : Option (ℕ × ℕ) → ℕ × ℕ
+page_or_zero None = (0, 0)
+page_or_zero (Some page) = page
+
+abbrev pub page_at : Seen → ℕ → ℕ × ℕ
+page_at v f = page_or_zero (v.bound f)
+
+-- the pages in some frames are taken
+abbrev pub takes : Seen → ℕ → Aim → What → List ℕ → Seen
+takes v c aim w [] = v
+takes v c aim w (f ∷ fs) = takes (taken v c aim w f (page_at v f).0 (page_at v f).1) c aim w fs
+
+-- some descriptors are cut
+abbrev pub cuts : Seen → ℕ → Aim → What → List CutDescriptor → Seen
+cuts v c aim w [] = v
+cuts v c aim w (d ∷ ds) = cuts (cut v c aim w d) c aim w ds
+
+abbrev pub frames_after : List ℕ → List ℕ
+frames_after [] = []
+frames_after (f ∷ fs) = fs
+
+abbrev pub cut_after : List CutDescriptor → List CutDescriptor
+cut_after [] = []
+cut_after (d ∷ ds) = ds
+
+-- an owner without the first frame that it took, and without the first descriptor that it cut
+abbrev pub without_frame : Option Owner → Option Owner
+without_frame None = None
+without_frame (Some o) = Some (record o { frames = frames_after o.frames })
+
+abbrev pub without_cut : Option Owner → Option Owner
+without_cut None = None
+without_cut (Some o) = Some (record o { cut = cut_after o.cut })
+
+-- the pages in some frames are back, in the order in which they were taken; so are some descriptors; or these are gone
+abbrev pub backs : Seen → List ℕ → Seen
+backs v [] = v
+backs v (f ∷ fs) = backs (back v f (page_at v f).0 (page_at v f).1 (without_frame v.owner)) fs
+
+abbrev pub back_segs : Seen → List CutDescriptor → Seen
+back_segs v [] = v
+back_segs v (d ∷ ds) = back_segs (back_seg v d (without_cut v.owner)) ds
+
+abbrev pub gone_segs : Seen → List CutDescriptor → Seen
+gone_segs v [] = v
+gone_segs v (d ∷ ds) = gone_segs (gone_seg v d (without_cut v.owner)) ds
+
+-- the pages in some frames have left them, and are stored no more
+abbrev pub gones : Seen → List ℕ → Seen
+gones v [] = v
+gones v (f ∷ fs) = gones (gone v f (page_at v f).0 (page_at v f).1 ptw.Null (without_frame v.owner)) fs
