@@ -67,15 +67,33 @@ pub record CanTakeAll (v : Seen) (aim : Aim) (w : What) (fs : List ℕ) : Type 0
   pub still : waits_for v.owner ≡ None
   pub aimed : (gs : List ℕ) (ds : List CutDescriptor) → IsAimed aim w gs ds
 
-has_head : (f : ℕ) (fs : List ℕ) → has (f ∷ fs) f ≡ true
+pub has_head : (f : ℕ) (fs : List ℕ) → has (f ∷ fs) f ≡ true
 has_head f fs = elim (eqb_tells f f) [ inl e ↦ ap (λ (b : Bool). b || has fs f) e.0 | inr n ↦ absurd (n.1 refl) ]
 
-has_tail : (f : ℕ) (fs : List ℕ) (g : ℕ) → has fs g ≡ true → has (f ∷ fs) g ≡ true
+pub has_tail : (f : ℕ) (fs : List ℕ) (g : ℕ) → has fs g ≡ true → has (f ∷ fs) g ≡ true
 has_tail f fs g h = by (eqb f g)
   where
     by : (b : Bool) → (b || has fs g) ≡ true
     by true = refl
     by false = h
+
+-- the other pages are here still once one of them is taken
+pub here_after : (v : Seen) (c : ℕ) (aim : Aim) (w : What) (f : ℕ) (fs : List ℕ)
+    → v.words (page_at v f).0 (page_at v f).1 ≡ ptw.Here f → has fs f ≡ false
+    → ((g : ℕ) → has (f ∷ fs) g ≡ true → v.words (page_at v g).0 (page_at v g).1 ≡ ptw.Here g) → (g : ℕ)
+    → has fs g ≡ true
+    → (taken v c aim w f (page_at v f).0 (page_at v f).1).words (page_at v g).0 (page_at v g).1 ≡ ptw.Here g
+here_after v c aim w f fs first once here g h =
+    by_places (λ (x : Ptw). x ≡ ptw.Here g) v.words (page_at v f).0 (page_at v f).1
+    (ptw.Leaving f) (page_at v g).0 (page_at v g).1
+    (λ a b. absurd (no_and (subst (λ (i : ℕ). has fs i ≡ true) (same a b) h) once))
+    (λ n. here g (has_tail f fs g h))
+  where
+    same : (page_at v g).0 ≡ (page_at v f).0 → (page_at v g).1 ≡ (page_at v f).1 → g ≡ f
+    same a b = let one = here g (has_tail f fs g h) in
+        let both : ptw.Here g ≡ ptw.Here f = sym one ∙ (ap (λ (x : ℕ). v.words x (page_at v g).1) a
+        ∙ (ap (λ (x : ℕ). v.words (page_at v f).0 x) b ∙ first)) in
+        cc
 
 -- the machine keeps what it keeps, the owner waits for nothing still, and what goes is named
 pub record HasTaken (v : Seen) (w : What) : Type 0 where
@@ -114,15 +132,7 @@ takes_keep v c aim w (f ∷ fs) k can = takes_keep now c aim w fs book (record {
     })
 
     here : (g : ℕ) → has fs g ≡ true → now.words (page_at v g).0 (page_at v g).1 ≡ ptw.Here g
-    here g h = by_places (λ (x : Ptw). x ≡ ptw.Here g) v.words u p (ptw.Leaving f) (page_at v g).0 (page_at v g).1
-        (λ a b. absurd (no_and (subst (λ (i : ℕ). has fs i ≡ true) (same a b) h) can.once.0))
-        (λ n. can.here g (has_tail f fs g h))
-      where
-        same : (page_at v g).0 ≡ u → (page_at v g).1 ≡ p → g ≡ f
-        same a b = let one = can.here g (has_tail f fs g h) in let two = can.here f (has_head f fs) in
-            let both : ptw.Here g ≡ ptw.Here f =
-            sym one ∙ (ap (λ (x : ℕ). v.words x (page_at v g).1) a ∙ (ap (λ (x : ℕ). v.words u x) b ∙ two)) in
-            cc
+    here = here_after v c aim w f fs (can.here f (has_head f fs)) can.once.0 can.here
 
 -- ---- descriptors are cut
 

@@ -34,6 +34,7 @@ pub mod FrameLaws
 pub mod HeldLaws
 pub mod KeepLaws
 pub mod LateWord
+pub mod LeaveSeen
 pub mod ListLaws
 pub mod OneProcess
 pub mod OwnedLaws
@@ -41,6 +42,8 @@ pub mod Places
 pub mod RunLaws
 pub mod SeatLaws
 pub mod SeenLaws
+pub mod TakeSeen
+pub mod TellKept
 pub mod TieLaws
 pub mod TransferLaws
 pub mod Truncation

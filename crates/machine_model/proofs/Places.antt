@@ -1,5 +1,5 @@
 -- A function that is changed at one place.
-use Rattle.std.proofs.Common.{◌≡◌, ◌≢◌, ℕ, Bool, true, false, cond, eqb, refl, sym, subst, inl, inr}
+use Rattle.std.proofs.Common.{◌≡◌, ◌≢◌, ℕ, Bool, true, false, ◌&&◌, cond, eqb, refl, sym, subst, inl, inr}
 use Rattle.std.proofs.lemmas.Bool.Decides.{eqb_tells}
 use Rattle.custody_model.specs.Next.{at_put, at_put_two}
 
@@ -47,3 +47,11 @@ pub one_place_of_two : {A : Type 0} (old new : ℕ → ℕ → A) (k n : ℕ) (x
     → (i j : ℕ) → new i j ≡ at_put_two old k n x i j
 one_place_of_two old new k n x here other i j =
     by_places (λ y. new i j ≡ y) old k n x i j (λ e d. rw (e, d) here) (λ m. other i j m)
+
+pub put_two_map : {A B : Type 0} (g : A → B) (f : ℕ → ℕ → A) (k n : ℕ) (x : A) (i j : ℕ)
+    → g (at_put_two f k n x i j) ≡ at_put_two (λ a b. g (f a b)) k n (g x) i j
+put_two_map g f k n x i j = by (eqb i k && eqb j n)
+  where
+    by : (z : Bool) → g (cond z x (f i j)) ≡ cond z (g x) (g (f i j))
+    by true = refl
+    by false = refl

@@ -62,6 +62,14 @@ pub record HasSizes (s : State) : Type 0 where
   pub processors : length s.processors ≡ s.plan.processors
   pub processes : length s.runs ≡ length s.plan.processes
 
+-- What the store says of a machine: its own promise, and that it shows the flat store after the book.
+pub record StoreSays (s : State) : Type 0 where
+  pub store : StoreKept s.store
+  pub faithful : IsFaithful s.plan (flat_of s) s.store
+  pub rights : HadRights s.store.accounts.nodes s.store.whos (cut_of_owner s.owner)
+  pub conserved : IsConserved s.plan (flat_of s)
+  pub frames : length s.store.pages.core.frames ≡ s.plan.frames
+
 -- The whole promise. The book is legal and clean, what the tables show is the custody after it, what processors hold is
 -- current or they are warned, and what goes is the owner's alone (`book`); the store keeps its own promise and shows
 -- the flat

@@ -1,0 +1,130 @@
+-- What custody sees of a machine whose job signals, and where a page leaves its frame or stays.
+use Rattle.std.proofs.Common.{◌≡◌, ◌<◌, ℕ, zero, suc, ◌+◌, Bool, true, false, cond, eqb, List, [], ◌∷◌, ◌++◌, length}
+use Rattle.std.proofs.Common.{Option, Some, None, inr, refl, sym, ap, ◌∙◌, arith}
+use Rattle.assoc_mem.specs.declared.What.{What}
+use Rattle.book.specs.declared.entries.Entry.TheVariants as entry
+use Rattle.core_map.specs.declared.Frame.TheVariants as frame
+use Rattle.core_map.specs.CoreMap.{Core, bound_page, reads_of, with_frame}
+use Rattle.page_table.specs.declared.Ptw.TheVariants as ptw
+use Rattle.page_control.specs.declared.Left.{Left}
+use Rattle.page_control.specs.declared.Left.TheVariants as left
+use Rattle.page_control.specs.Effects.{evicted, word_of_left}
+use Rattle.page_control.specs.Plain.{Plain, binding_at, bindings, frame_in, record_of}
+use Rattle.seg_control.specs.Kept.{read_at}
+use Rattle.custody_model.specs.Next.{at_put}
+use Rattle.machine_model.specs.Changes.{back, dropped, gone, signalled as signal_given, told_at}
+use Rattle.machine_model.specs.Custodial.{KeepsBook, names}
+use Rattle.machine_model.specs.Holding.{seen}
+use Rattle.machine_model.specs.Jobs.{here_if, told_from, with_left}
+use Rattle.machine_model.specs.Reads.{home_in, no_processor, processor_at}
+use Rattle.machine_model.specs.State.{Owner, Processor, State}
+use Rattle.machine_model.specs.Steps.{with_word}
+use Rattle.machine_model.proofs.Places.{by_place}
+use Rattle.machine_model.proofs.SeenLaws.{bound_put, reads_put}
+use Rattle.machine_model.proofs.TakeSeen.{HasTables, binding_is, not_null, words_put}
+use Rattle.machine_model.proofs.TieLaws.{none_some}
+
+-- ---- the signal
+
+told_nobody : (c : ℕ) (w : What) (d : ℕ) → told_at c w d no_processor ≡ no_processor
+told_nobody c w d = by (eqb d c)
+  where
+    by : (b : Bool) → cond b (dropped no_processor w) no_processor ≡ no_processor
+    by true = refl
+    by false = refl
+
+told_reads : (c : ℕ) (w : What) (ps : List Processor) (from d : ℕ)
+    → processor_at (told_from c w from ps) d ≡ told_at c w (from + d) (processor_at ps d)
+told_reads c w [] from d = sym (told_nobody c w (from + d))
+told_reads c w (p ∷ ps) from zero = ap (λ (n : ℕ). told_at c w n p) (let same : from ≡ from + 0 = omega arith in same)
+told_reads c w (p ∷ ps) from (suc d) = told_reads c w ps (from + 1) d
+    ∙ ap (λ (n : ℕ). told_at c w n (processor_at ps d)) (let same : from + 1 + d ≡ from + suc d = omega arith in same)
+
+pub signal_seen : (s : State) (c : ℕ) (w : What) (owner : Option Owner)
+    → seen (record s {
+      processors = told_from c w 0 s.processors;
+      owner = owner;
+      entries = s.entries ++ entry.Signal c
+          w ∷ [];
+    })
+    ≡ signal_given (seen s) c w owner
+signal_seen s c w owner = λ i. record (seen s) {
+  processors = λ d. (told_reads c w s.processors 0 d
+      ∙ ap (λ (n : ℕ). told_at c w n (processor_at s.processors d)) (plus d)) i;
+  owner = owner;
+  entries = s.entries ++ entry.Signal c w ∷ [];
+}
+  where
+    plus : (d : ℕ) → 0 + d ≡ d
+    plus d = omega arith
+
+-- ---- a page leaves its frame
+
+evicted_core : (pages : Plain) (st : State) (f : ℕ) (how : Left) (u p : ℕ)
+    → (evicted pages (home_in st.store u) p f how).core ≡ with_frame pages.core f frame.Free
+evicted_core pages st f left.Released u p = refl
+evicted_core pages st f left.Kept u p = refl
+
+-- nothing was being read into a frame, and isn't then
+unread_put : (reads : ℕ → Option (ℕ × ℕ)) (f : ℕ) → reads f ≡ None → (g : ℕ) → at_put reads f None g ≡ reads g
+unread_put reads f none g = by_place (λ (x : Option (ℕ × ℕ)). x ≡ reads g) reads f None g
+    (λ e. sym (ap reads e ∙ none)) (λ n. refl)
+
+pub gone_seen : (s : State) (f u p : ℕ) (how : Left) (owner : Option Owner) → HasTables s → KeepsBook (seen s)
+    → f < length s.store.pages.core.frames → (seen s).words u p ≡ ptw.Leaving f
+    → seen (record s {
+      store = with_left s.store f how
+          (u, p);
+      owner = owner;
+      entries = s.entries ++ entry.GonePage f ∷ [];
+    })
+    ≡ gone (seen s) f u p (word_of_left how (record_of s.store.pages (home_in s.store u) p)) owner
+gone_seen s f u p how owner tables book there leaving = λ i. record (seen s) {
+  bound = λ g. (ap (λ (x : Core). binding_at (bindings x) g) (evicted_core s.store.pages s f how u p)
+      ∙ bound_put s.store.pages.core f frame.Free there g) i;
+  reads = λ g. (ap (λ (x : Core). read_at (reads_of x) g) (evicted_core s.store.pages s f how u p)
+      ∙ (reads_put s.store.pages.core f frame.Free there g ∙ unread_put (seen s).reads f unread g)) i;
+  words = λ v q. words_put s.store.ast u p (word_of_left how (record_of s.store.pages (home_in s.store u) p)) tables
+      (not_null ((seen s).words u p) (ptw.Leaving f) f leaving (inr refl)) v q i;
+  owner = owner;
+  entries = s.entries ++ entry.GonePage f ∷ [];
+}
+  where
+    bound : (seen s).bound f ≡ Some (u, p)
+    bound = book.tied.back f u p (ap names leaving)
+
+    unread : (seen s).reads f ≡ None
+    unread = by ((seen s).reads f) refl
+      where
+        by : (x : Option (ℕ × ℕ)) → (seen s).reads f ≡ x → x ≡ None
+        by None e = refl
+        by (Some page) e = absurd (none_some (sym (book.tied.unbound f page.0 page.1 e) ∙ bound))
+
+-- ---- it stays
+
+pub back_seen : (s : State) (f u p : ℕ) (owner : Option Owner) → HasTables s → KeepsBook (seen s)
+    → (seen s).words u p ≡ ptw.Leaving f
+    → seen (record s {
+      store = here_if s.store f
+          (bound_page (frame_in s.store.pages f));
+      owner = owner;
+      entries = s.entries ++ entry.BackPage f ∷ [];
+    })
+    ≡ back (seen s) f u p owner
+back_seen s f u p owner tables book leaving = ap (λ (o : Option (ℕ × ℕ)). seen (record s {
+  store = here_if s.store f o;
+  owner = owner;
+  entries = s.entries ++ entry.BackPage f ∷ [];
+})) (sym (binding_is s f) ∙ book.tied.back f u p (ap names leaving)) ∙ words
+  where
+    words : seen (record s {
+      store = with_word s.store u p
+          (ptw.Here f);
+      owner = owner;
+      entries = s.entries ++ entry.BackPage f ∷ [];
+    })
+        ≡ back (seen s) f u p owner
+    words = λ i. record (back (seen s) f u p owner) {
+      words = λ v q. words_put s.store.ast u p (ptw.Here f) tables
+          (not_null ((seen s).words u p) (ptw.Leaving f) f leaving (inr refl)) v q i;
+    }

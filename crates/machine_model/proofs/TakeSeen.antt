@@ -1,0 +1,177 @@
+-- What custody sees of a machine whose job takes pages and cuts descriptors.
+use Rattle.std.proofs.Common.{◌≡◌, ◌≢◌, ◌<◌, ℕ, true, List, [], ◌∷◌, ◌++◌, length, set, get_or, Option, Some, None, ◌⊎◌}
+use Rattle.std.proofs.Common.{inl, inr, refl, sym, ap, subst, ◌∙◌}
+use Rattle.std.proofs.lemmas.Bool.Decides.{leb_tells}
+use Rattle.std.proofs.lemmas.List.{get_or_past, length-set}
+use Rattle.assoc_mem.specs.declared.What.{What}
+use Rattle.book.specs.declared.entries.Entry.TheVariants as entry
+use Rattle.core_map.specs.declared.Frame.TheVariants as frame
+use Rattle.core_map.specs.CoreMap.{bound_page}
+use Rattle.page_table.specs.declared.Ptw.{Ptw}
+use Rattle.page_table.specs.declared.Ptw.TheVariants as ptw
+use Rattle.page_control.specs.Plain.{frame_in}
+use Rattle.active_segs.specs.Active.{ActiveSegs}
+use Rattle.descriptor_seg.specs.declared.Sdw.{Sdw}
+use Rattle.descriptor_seg.specs.declared.Sdw.TheVariants as sdw
+use Rattle.seg_control.specs.Control.{Links, leads, place_of, sdws_at, word_of}
+use Rattle.seg_control.specs.Effects.{unlinked, worded}
+use Rattle.custody_model.specs.Custody.{has}
+use Rattle.custody_model.specs.Next.{at_put_two}
+use Rattle.machine_model.specs.declared.Aim.{Aim}
+use Rattle.machine_model.specs.Chains.{page_at, page_or_zero, takes}
+use Rattle.machine_model.specs.Changes.{cut, taken, with_descriptor_cut, with_frame_taken}
+use Rattle.machine_model.specs.Custodial.{AreDistinct}
+use Rattle.machine_model.specs.Holding.{led_to, seen}
+use Rattle.machine_model.specs.Jobs.{cut_one, leaving_if, note_of, take_all, take_one}
+use Rattle.machine_model.specs.Reads.{descriptor_of}
+use Rattle.machine_model.specs.Seen.{Seen}
+use Rattle.machine_model.specs.State.{State}
+use Rattle.machine_model.specs.Steps.{with_word}
+use Rattle.machine_model.proofs.ChainLaws.{has_head, has_tail, here_after}
+use Rattle.machine_model.proofs.ListLaws.{map_list, put_lists, within_by}
+use Rattle.machine_model.proofs.Places.{put_two_map}
+use Rattle.machine_model.proofs.TieLaws.{none_some}
+use Rattle.machine_model.proofs.WordLaws.{word_put, word_within}
+
+-- ---- pages
+
+-- what a frame is bound to, by the core map
+pub binding_is : (s : State) (f : ℕ) → (seen s).bound f ≡ bound_page (frame_in s.store.pages f)
+binding_is s f = map_list bound_page s.store.pages.core.frames f frame.Free
+
+-- there are as many page tables as places
+abbrev pub HasTables : State → Type 0
+HasTables s = length s.store.ast.tables ≡ length s.store.ast.entries
+
+-- the word of one page that isn't `Null` becomes another
+pub words_put : (ast : ActiveSegs) (u p : ℕ) (w : Ptw) → length ast.tables ≡ length ast.entries
+    → word_of ast u p ≢ ptw.Null → (v q : ℕ)
+    → word_of (worded ast u p w) v q ≡ at_put_two (λ x y. word_of ast x y) u p w v q
+words_put ast u p w tables some = let within = word_within ast u p some in
+    word_put ast u p w (subst (λ (n : ℕ). place_of ast.entries u < n) tables within.0) within.0 within.1
+
+pub not_null : (w x : Ptw) (f : ℕ) → w ≡ x → (x ≡ ptw.Here f) ⊎ (x ≡ ptw.Leaving f) → w ≢ ptw.Null
+not_null w x f e (inl h) n = let no : ptw.Here f ≡ ptw.Null = sym h ∙ (sym e ∙ n) in cc
+not_null w x f e (inr h) n = let no : ptw.Leaving f ≡ ptw.Null = sym h ∙ (sym e ∙ n) in cc
+
+pub take_one_seen : (s : State) (c : ℕ) (a : Aim) (w : What) (f u p : ℕ) → HasTables s → (seen s).bound f ≡ Some (u, p)
+    → (seen s).words u p ≡ ptw.Here f → seen (take_one s c a w f) ≡ taken (seen s) c a w f u p
+take_one_seen s c a w f u p tables bound here = ap (λ (o : Option (ℕ × ℕ)). seen (record s {
+  store = leaving_if s.store f o;
+  owner = with_frame_taken s.owner c a w f;
+  entries = s.entries ++ entry.Take f ∷ [];
+})) (sym (binding_is s f) ∙ bound) ∙ words
+  where
+    words : seen (record s {
+      store = with_word s.store u p (ptw.Leaving f);
+      owner = with_frame_taken s.owner c a w f;
+      entries = s.entries ++ entry.Take f ∷ [];
+    }) ≡ taken (seen s) c a w f u p
+    words = λ i. record (taken (seen s) c a w f u p) {
+      words = λ v q. words_put s.store.ast u p (ptw.Leaving f) tables
+          (not_null (word_of s.store.ast u p) (ptw.Here f) f here (inl refl)) v q i;
+    }
+
+-- the tables are as many after a word has changed
+tables_kept : (s : State) (f : ℕ) (o : Option (ℕ × ℕ)) → HasTables s
+    → length (leaving_if s.store f o).ast.tables ≡ length (leaving_if s.store f o).ast.entries
+tables_kept s f None tables = tables
+tables_kept s f (Some page) tables = length-set s.store.ast.tables (place_of s.store.ast.entries page.0) _ ∙ tables
+
+page_is_bound : (x : Option (ℕ × ℕ)) (page : ℕ × ℕ) → page_or_zero x ≡ page → (x ≡ None → ⊥) → x ≡ Some page
+page_is_bound None page e n = absurd (n refl)
+page_is_bound (Some y) page e n = ap (λ (z : ℕ × ℕ). Some z) e
+
+pub take_all_seen : (s : State) (c : ℕ) (a : Aim) (w : What) (fs : List ℕ) → HasTables s
+    → ((f : ℕ) → has fs f ≡ true → (seen s).words (page_at (seen s) f).0 (page_at (seen s) f).1 ≡ ptw.Here f)
+    → ((f : ℕ) → has fs f ≡ true → (seen s).bound f ≡ Some (page_at (seen s) f))
+    → AreDistinct fs → seen (take_all s c a w fs) ≡ takes (seen s) c a w fs
+take_all_seen s c a w [] tables here bound once = refl
+take_all_seen s c a w (f ∷ fs) tables here bound once = take_all_seen now c a w fs
+    (tables_kept s f (bound_page (frame_in s.store.pages f)) tables) here_still bound_still once.1
+    ∙ ap (λ (v : Seen). takes v c a w fs) one
+  where
+    now : State
+    now = take_one s c a w f
+
+    u : ℕ
+    u = (page_at (seen s) f).0
+
+    p : ℕ
+    p = (page_at (seen s) f).1
+
+    one : seen now ≡ taken (seen s) c a w f u p
+    one = take_one_seen s c a w f u p tables (bound f (has_head f fs)) (here f (has_head f fs))
+
+    bound_still : (g : ℕ) → has fs g ≡ true → (seen now).bound g ≡ Some (page_at (seen now) g)
+    bound_still g h = subst (λ (v : Seen). v.bound g ≡ Some (page_at v g)) (sym one) (bound g (has_tail f fs g h))
+
+    here_still : (g : ℕ) → has fs g ≡ true → (seen now).words (page_at (seen now) g).0 (page_at (seen now) g).1
+        ≡ ptw.Here g
+    here_still g h = subst (λ (v : Seen). v.words (page_at v g).0 (page_at v g).1 ≡ ptw.Here g) (sym one)
+        (here_after (seen s) c a w f fs (here f (has_head f fs)) once.0 here g h)
+
+-- ---- descriptors
+
+-- the place that a descriptor leads to, where it leads to a segment
+led_place : (s : State) (k n u : ℕ) → (seen s).linked k n ≡ Some u → descriptor_of s.store.links k n ≢ sdw.Fault
+led_place s k n u h e = none_some (sym (ap (led_to s.store.ast.entries) e) ∙ h)
+
+-- a descriptor that leads somewhere is in its lists
+pub linked_within : (links : Links) (k n : ℕ) → descriptor_of links k n ≢ sdw.Fault
+    → (k < length links.descriptors) × (n < length (sdws_at links.descriptors k))
+linked_within links k n h = (
+  within_by_words links.descriptors k n h,
+  within_by (sdws_at links.descriptors k) n sdw.Fault h,
+)
+  where
+    within_by_words : (dss : List (List Sdw)) (i j : ℕ) → get_or (get_or dss i []) j sdw.Fault ≢ sdw.Fault
+        → i < length dss
+    within_by_words dss i j x = elim (leb_tells (length dss) i) [
+      | inl e ↦ absurd (x (ap (λ (ds : List Sdw). get_or ds j sdw.Fault) (get_or_past dss i [] e.1)))
+      | inr m ↦ m.1
+    ]
+
+-- one descriptor of one process is otherwise
+pub descriptors_put : (links : Links) (trailers : List (List (ℕ × ℕ))) (k n : ℕ) (x : Sdw)
+    → k < length links.descriptors
+    → n < length (sdws_at links.descriptors k) → (i j : ℕ)
+    → descriptor_of (record links {
+      trailers = trailers;
+      descriptors = set links.descriptors k
+          (set (sdws_at links.descriptors k) n x);
+    }) i j
+    ≡ at_put_two (λ a b. descriptor_of links a b) k n x i j
+descriptors_put links trailers k n x outer inner i j = put_lists links.descriptors k n x sdw.Fault i j outer inner
+
+pub cut_one_seen : (s : State) (c : ℕ) (a : Aim) (w : What) (pair : ℕ × ℕ) (u : ℕ)
+    → (seen s).linked pair.0 pair.1 ≡ Some u
+    → seen (cut_one s c a w pair) ≡ cut (seen s) c a w
+    (note_of s.store pair.0 pair.1 (descriptor_of s.store.links pair.0 pair.1))
+cut_one_seen s c a w pair u linked = by (descriptor_of s.store.links pair.0 pair.1) refl
+  where
+    by : (x : Sdw) → descriptor_of s.store.links pair.0 pair.1 ≡ x
+        → seen (cut_one s c a w pair) ≡ cut (seen s) c a w (note_of s.store pair.0 pair.1 x)
+    by sdw.Fault e = absurd (led_place s pair.0 pair.1 u linked e)
+    by (sdw.Present aste m pages) e = ap (λ (y : Sdw). seen (record s {
+      store = record s.store { links = unlinked s.store.links pair.0 pair.1 (leads y) };
+      owner = with_descriptor_cut s.owner c a w (note_of s.store pair.0 pair.1 y);
+      entries = s.entries ++ entry.Cut pair.0 pair.1 ∷ [];
+    })) e ∙ links
+      where
+        links : seen (record s {
+          store = record s.store { links = unlinked s.store.links pair.0 pair.1 (Some aste) };
+          owner = with_descriptor_cut s.owner c a w (note_of s.store pair.0 pair.1 (sdw.Present aste m pages));
+          entries = s.entries ++ entry.Cut pair.0 pair.1 ∷ [];
+        }) ≡ cut (seen s) c a w (note_of s.store pair.0 pair.1 (sdw.Present aste m pages))
+        links = λ i. record (cut (seen s) c a w (note_of s.store pair.0 pair.1 (sdw.Present aste m pages))) {
+          linked = λ j n. (ap (led_to s.store.ast.entries)
+              (descriptors_put s.store.links (unlinked s.store.links pair.0 pair.1 (Some aste)).trailers
+              pair.0 pair.1 sdw.Fault within.0 within.1 j n)
+              ∙ put_two_map (led_to s.store.ast.entries)
+              (λ x y. descriptor_of s.store.links x y) pair.0 pair.1 sdw.Fault j n) i;
+        }
+          where
+            within : (pair.0 < length s.store.links.descriptors) ×
+                (pair.1 < length (sdws_at s.store.links.descriptors pair.0))
+            within = linked_within s.store.links pair.0 pair.1 (led_place s pair.0 pair.1 u linked)

@@ -1,0 +1,167 @@
+-- A command is answered, with what the store says of it, and the owner of the supervisor changes.
+use Rattle.std.proofs.Common.{◌≡◌, ◌<◌, ℕ, ◌+◌, Bool, true, false, cond, List, [], ◌∷◌, ◌++◌, length, set, Option, Some}
+use Rattle.std.proofs.Common.{None, inl, inr, refl, sym, ap, subst, ◌∙◌, arith}
+use Rattle.std.specs.Prelude.{slice_get}
+use Rattle.std.proofs.lemmas.List.{length-set}
+use Rattle.std.proofs.lemmas.Bool.Decides.{eqb_tells}
+use Rattle.script.specs.Plans.{command_at}
+use Rattle.script.specs.declared.commands.Command.{Command}
+use Rattle.script.specs.declared.commands.Command.TheVariants as command
+use Rattle.book.specs.declared.entries.Entry.TheVariants as entry
+use Rattle.book.specs.declared.replies.Reply.{Reply}
+use Rattle.book.specs.declared.replies.Reply.TheVariants as reply
+use Rattle.flat_model.specs.Commands.{gone_on, is_end, tries_on}
+use Rattle.flat_model.specs.Legal.{IsLawfulDo}
+use Rattle.flat_model.specs.Store.{Progress, Store, progress_of}
+use Rattle.custody_model.specs.Allowed.{MayDo, next_command as next_of}
+use Rattle.custody_model.specs.Next.{at_put, is_try, released_by}
+use Rattle.machine_model.specs.Changes.{answered, counted}
+use Rattle.machine_model.specs.Custodial.{IsRun, KeepsBook, is_pending}
+use Rattle.machine_model.specs.Holding.{seen}
+use Rattle.machine_model.specs.Keeps.{IsAtWork, Keeps, StoreSays}
+use Rattle.machine_model.specs.Reads.{cut_of_owner, flat_of, next_command, no_processor, no_run, processor_at, run_at}
+use Rattle.machine_model.specs.Seen.{shown}
+use Rattle.machine_model.specs.State.{CutDescriptor, Owner, Processor, Run, State}
+use Rattle.machine_model.specs.Steps.{goes_on, progress_of_run, run_after, told_by, with_owner}
+use Rattle.machine_model.proofs.AnswerLaws.{answer_keeps, owner_keeps}
+use Rattle.machine_model.proofs.KeepLaws.{faults_push}
+use Rattle.machine_model.proofs.ListLaws.{put_list}
+use Rattle.machine_model.proofs.OwnedLaws.{IsIdle}
+
+-- ---- how far a process has come
+
+-- whether a try goes on depends on the tries alone
+tries_alike : (q r : Progress) (c : Command) (x : Reply) → q.tries ≡ r.tries → tries_on q c x ≡ tries_on r c x
+tries_alike q r (command.Await number offset word tries) (reply.Word w) same = rw same refl
+tries_alike q r _ _ same = refl
+
+pub tries_of_run : (q : Progress) (run : Run) (c : Option Command) (x : Reply) → IsRun q run → (s : Store) (k : ℕ)
+    → progress_of s k ≡ q
+    → is_try s k c x ≡ goes_on run c x
+tries_of_run q run None x is s k e = refl
+tries_of_run q run (Some c) x is s k e = ap (λ (y : Progress). tries_on y c x) e
+    ∙ tries_alike q (progress_of_run run) c x is.tries
+
+pub run_is : (q : Progress) (run : Run) (c : Command) (x : Reply) → IsRun q run
+    → IsRun (gone_on q c x) (run_after run (Some c) x)
+run_is q run c x is = by (tries_on q c x) (goes_on run (Some c) x) (tries_alike q (progress_of_run run) c x is.tries)
+  where
+    by : (a b : Bool) → a ≡ b
+        → IsRun (cond a (record q { tries = q.tries + 1; faulted = false })
+        (record { place = q.place + 1; tries = 0; ended = is_end c; faulted = false }))
+        (cond b (record run { tries = run.tries + 1 }) (record { place = run.place + 1; tries = 0; ended = is_end c }))
+    by true true e = record { place = is.place; tries = ap (λ (n : ℕ). n + 1) is.tries; ended = is.ended }
+    by false false e = record { place = ap (λ (n : ℕ). n + 1) is.place; tries = refl; ended = refl }
+    by true false e = absurd (let no : true ≡ false = e in cc)
+    by false true e = absurd (let no : false ≡ true = e in cc)
+
+-- ---- what custody sees of an answer
+
+module _ (s : State) (c k : ℕ) (f : Option ℕ) (r : Reply) (book : KeepsBook (seen s)) where
+  abbrev place : ℕ
+  place = (run_at s.runs k).place
+
+  -- the next command by the runs is that by the flat store
+  pub next_same : next_of s.plan (flat_of s) k ≡ next_command s k
+  next_same = ap (command_at s.plan k) (book.runs k).place
+
+  pub told_seen : c < length s.processors → k < length s.runs
+      → seen (told_by s c k f r) ≡ answered (seen s) c k place f r (run_after (run_at s.runs k) (next_command s k) r)
+  told_seen there known = λ i. record (seen s) {
+    processors = λ d. (put_list s.processors c now no_processor d there
+        ∙ ap (λ (p : Processor). at_put (processor_at s.processors) c p d)
+        (ap (counted (processor_at s.processors c)) (sym tried))) i;
+    ready = s.ready ++ released_by s.plan k (sym next_same i);
+    runs = λ j. put_list s.runs k (run_after (run_at s.runs k) (next_command s k) r) no_run j known i;
+    entries = s.entries ++ entry.Do k place c f r ∷ [];
+  }
+    where
+      now : Processor
+      now = counted (processor_at s.processors c) (goes_on (run_at s.runs k) (next_command s k) r)
+
+      tried : is_try (flat_of s) k (next_of s.plan (flat_of s) k) r ≡ goes_on (run_at s.runs k) (next_command s k) r
+      tried = ap (λ (o : Option Command). is_try (flat_of s) k o r) next_same
+          ∙ tries_of_run (progress_of (flat_of s) k) (run_at s.runs k) (next_command s k) r (book.runs k)
+          (flat_of s) k refl
+
+-- The next command of a process may be answered so at a processor: the flat store and custody allow it.
+pub record CanTell (s : State) (c k : ℕ) (f : Option ℕ) (r : Reply) : Type 0 where
+  pub there : c < length s.processors
+  pub known : k < length s.runs
+  pub command : Command
+  pub next : next_command s k ≡ Some command
+  pub lawful : IsLawfulDo s.plan (flat_of s) k (run_at s.runs k).place r
+  pub allowed : MayDo s.plan (flat_of s) (shown (seen s)) k c f r
+
+pub told_keeps : (s : State) (c k : ℕ) (f : Option ℕ) (r : Reply) → KeepsBook (seen s) → CanTell s c k f r
+    → KeepsBook (seen (told_by s c k f r))
+told_keeps s c k f r book can = subst KeepsBook (sym (told_seen s c k f r book can.there can.known))
+    (answer_keeps (seen s) c k (run_at s.runs k).place f r (run_after (run_at s.runs k) (next_command s k) r) book
+    (record {
+      command = can.command;
+      there = can.next;
+      lawful = can.lawful;
+      allowed = can.allowed;
+      come = subst (λ (o : Option Command). IsRun (gone_on (progress_of (flat_of s) k) can.command r)
+          (run_after (run_at s.runs k) o r)) (sym can.next)
+          (run_is (progress_of (flat_of s) k) (run_at s.runs k) can.command r (book.runs k));
+    }))
+
+-- ---- the whole promise, after an answer
+
+-- counting a command leaves a processor at work
+counted_works : (p : Processor) (tried : Bool) → IsAtWork p → IsAtWork (counted p tried)
+counted_works p tried w = record { online = w.online; busy = w.busy; clear = w.clear; idle = w.idle }
+
+-- one processor has counted a command, the others are as they were
+pub works_counted : (ps : List Processor) (c : ℕ) (tried : Bool) (d : ℕ) → c < length ps → IsAtWork (processor_at ps d)
+    → IsAtWork (processor_at (set ps c (counted (processor_at ps c) tried)) d)
+works_counted ps c tried d there w = subst IsAtWork
+    (sym (put_list ps c (counted (processor_at ps c) tried) no_processor d there))
+    (elim (eqb_tells d c) [
+      | inl e ↦ rw e.0 (counted_works (processor_at ps c) tried (subst (λ (i : ℕ). IsAtWork (processor_at ps i)) e.1 w))
+      | inr n ↦ rw n.0 w
+    ])
+
+pub tell_kept : (s : State) (c k : ℕ) (f : Option ℕ) (r : Reply) → Keeps s → CanTell s c k f r
+    → StoreSays (told_by s c k f r) → Keeps (told_by s c k f r)
+tell_kept s c k f r keeps can says = record {
+  book = told_keeps s c k f r keeps.book can;
+  store = says.store;
+  faithful = says.faithful;
+  rights = says.rights;
+  conserved = says.conserved;
+  few_faults = let count = faults_push s.entries (entry.Do k (run_at s.runs k).place c f r) in let few =
+      keeps.few_faults in omega (arith, count, few);
+  sizes = record {
+    frames = says.frames;
+    processors = length-set s.processors c _ ∙ keeps.sizes.processors;
+    processes = length-set s.runs k _ ∙ keeps.sizes.processes;
+  };
+  at_work = λ o h. works_counted s.processors c (goes_on (run_at s.runs k) (next_command s k) r) o.cpu can.there
+      (keeps.at_work o h);
+}
+
+-- ---- the owner
+
+-- the supervisor is taken by a processor at work, or given up, where nothing goes
+pub owner_kept : (s : State) (owner : Option Owner) → Keeps s → IsIdle s.owner → IsIdle owner
+    → is_pending s.owner ≡ is_pending owner
+    → ((o : Owner) → owner ≡ Some o → IsAtWork (processor_at s.processors o.cpu)) → Keeps (with_owner s owner)
+owner_kept s owner k was now pending works = record {
+  book = owner_keeps (seen s) owner k.book was now pending;
+  store = k.store;
+  faithful = k.faithful;
+  rights = record {
+    modes = λ i d n at. k.rights.modes i d n (same i d at);
+    lengths = λ i d n at. k.rights.lengths i d n (same i d at);
+  };
+  conserved = k.conserved;
+  few_faults = k.few_faults;
+  sizes = record { frames = k.sizes.frames; processors = k.sizes.processors; processes = k.sizes.processes };
+  at_work = works;
+}
+  where
+    same : (i : ℕ) (d : CutDescriptor) → slice_get (cut_of_owner owner) i ≡ Some d
+        → slice_get (cut_of_owner s.owner) i ≡ Some d
+    same i d at = ap (λ (ds : List CutDescriptor). slice_get ds i) (was.cut ∙ sym now.cut) ∙ at
