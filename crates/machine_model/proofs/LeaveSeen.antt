@@ -66,7 +66,7 @@ evicted_core pages st f left.Released u p = refl
 evicted_core pages st f left.Kept u p = refl
 
 -- nothing was being read into a frame, and isn't then
-unread_put : (reads : ℕ → Option (ℕ × ℕ)) (f : ℕ) → reads f ≡ None → (g : ℕ) → at_put reads f None g ≡ reads g
+pub unread_put : (reads : ℕ → Option (ℕ × ℕ)) (f : ℕ) → reads f ≡ None → (g : ℕ) → at_put reads f None g ≡ reads g
 unread_put reads f none g = by_place (λ (x : Option (ℕ × ℕ)). x ≡ reads g) reads f None g
     (λ e. sym (ap reads e ∙ none)) (λ n. refl)
 

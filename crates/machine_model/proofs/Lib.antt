@@ -4,6 +4,7 @@ pub mod ChangesUnderUse
 pub mod CommandLaws
 pub mod CountLaws
 pub mod ActiveLaws
+pub mod ActiveSeen
 pub mod AnswerLaws
 pub mod BookNext
 pub mod ChainLaws
@@ -36,6 +37,7 @@ pub mod KeepLaws
 pub mod LateWord
 pub mod LeaveSeen
 pub mod ListLaws
+pub mod MoveSeen
 pub mod OneProcess
 pub mod OwnedLaws
 pub mod Places
@@ -45,6 +47,7 @@ pub mod SeenLaws
 pub mod TakeSeen
 pub mod TellKept
 pub mod TieLaws
+pub mod TransferKept
 pub mod TransferLaws
 pub mod Truncation
 pub mod TwoTransfers

@@ -22,6 +22,10 @@ module _ {A B : Type 0} where
   map_list f (x ∷ xs) zero d = refl
   map_list f (x ∷ xs) (suc i) d = map_list f xs i d
 
+  pub map_length : (f : A → B) (xs : List A) → length (map f xs) ≡ length xs
+  map_length f [] = refl
+  map_length f (x ∷ xs) = ap (λ (n : ℕ). suc n) (map_length f xs)
+
   -- a mapped list of which one element is changed
   pub put_mapped : (f : A → B) (xs : List A) (i : ℕ) (x d : A) (j : ℕ) → i < length xs
       → get_or (map f (set xs i x)) j (f d) ≡ at_put (λ k. get_or (map f xs) k (f d)) i (f x) j

@@ -133,6 +133,9 @@ pub record IsIdle (o : Option Owner) : Type 0 where
   pub says : says o ≡ None
   pub shaped : IsShaped o
 
+pub nobody : IsIdle None
+nobody = record { frames = refl; cut = refl; waits = refl; says = refl; shaped = tt }
+
 pub owned_idle : (c : Custody) (o q : Option Owner) → IsOwned c o → IsIdle o → IsIdle q → IsOwned c q
 owned_idle c o q k was now = record {
   frames = λ f. k.frames f ∙ ap (λ (fs : List ℕ). has fs f) (was.frames ∙ sym now.frames);

@@ -20,7 +20,7 @@ by_not true h = refl
 by_not false h = absurd (let no : true ≡ false = h in cc)
 
 -- what is found passes the test
-found : {X : Type 0} (p : X → Bool) (xs : List X) (d : X) → position_or_len p xs < length xs
+pub found : {X : Type 0} (p : X → Bool) (xs : List X) (d : X) → position_or_len p xs < length xs
     → p (get_or xs (position_or_len p xs) d) ≡ true
 found p xs d h = by_not (p (get_or xs (position_or_len p xs) d)) (prefix_len_stops (λ x. not (p x)) xs d h)
 

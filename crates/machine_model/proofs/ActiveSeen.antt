@@ -1,0 +1,202 @@
+-- What custody sees of a machine where a segment becomes active, or is it no more.
+use Rattle.std.proofs.Common.{◌≡◌, ◌≢◌, ◌<◌, ℕ, zero, suc, ◌+◌, Bool, true, false, not, ◌||◌, cond, eqb, List, [], ◌∷◌}
+use Rattle.std.proofs.Common.{◌++◌, length, set, get_or, Option, Some, None, inl, inr, refl, sym, ap, subst, ◌∙◌, arith}
+use Rattle.std.specs.List.{list_any, position_or_len}
+use Rattle.std.proofs.lemmas.Bool.{cases_Bool}
+use Rattle.std.proofs.lemmas.Bool.Decides.{eqb_tells, leb_tells}
+use Rattle.std.proofs.lemmas.List.{get_or_past, get_or-set_same, get_or-set_other}
+use Rattle.std.proofs.lemmas.List.Folds.{position_or_len-set}
+use Rattle.page_table.specs.declared.Ptw.{Ptw}
+use Rattle.page_table.specs.declared.Ptw.TheVariants as ptw
+use Rattle.active_segs.specs.declared.Entry.{Entry}
+use Rattle.active_segs.specs.Active.{ActiveSegs, entry_at, uid_at, uid_in}
+use Rattle.seg_control.specs.Control.{is_for, place_of, word_of}
+use Rattle.seg_control.specs.Next.{filed_word, made_active, table_for}
+use Rattle.custody_model.specs.Next.{at_put}
+use Rattle.machine_model.specs.Custodial.{names}
+use Rattle.machine_model.specs.Reads.{is_active}
+use Rattle.machine_model.proofs.Places.{by_place}
+use Rattle.machine_model.proofs.WordLaws.{found}
+
+or_parts : (a b : Bool) → (a || b) ≡ false → (a ≡ false) × (b ≡ false)
+or_parts false b h = (refl, h)
+or_parts true b h = absurd (let no : true ≡ false = h in cc)
+
+-- ---- where something is found
+
+module _ {X : Type 0} (p : X → Bool) where
+  none_length : (xs : List X) → list_any p xs ≡ false → position_or_len p xs ≡ length xs
+  none_length [] h = refl
+  none_length (x ∷ xs) h = let parts = or_parts (p x) (list_any p xs) h in let ih = none_length xs parts.1 in
+      ap (λ (b : Bool). cond (not b) (1 + position_or_len p xs) 0) parts.0
+      ∙ (let one : 1 + position_or_len p xs ≡ suc (length xs) = omega (arith, ih) in one)
+
+  some_within : (xs : List X) → list_any p xs ≡ true → position_or_len p xs < length xs
+  some_within [] h = absurd (let no : false ≡ true = h in cc)
+  some_within (x ∷ xs) h = by (p x) (some_within xs) h
+    where
+      by : (b : Bool) → (list_any p xs ≡ true → position_or_len p xs < length xs) → (b || list_any p xs) ≡ true
+          → cond (not b) (1 + position_or_len p xs) 0 < length (x ∷ xs)
+      by true rest e = omega arith
+      by false rest e = let ih = rest e in omega (arith, ih)
+
+  within_some : (xs : List X) → position_or_len p xs < length xs → list_any p xs ≡ true
+  within_some xs h = by (list_any p xs) refl
+    where
+      by : (b : Bool) → list_any p xs ≡ b → b ≡ true
+      by true e = refl
+      by false e = absurd (let same = none_length xs e in omega (arith, same, h))
+
+  -- one element that doesn't pass is another one
+  any_set : (xs : List X) (i : ℕ) (y d : X) → i < length xs → p (get_or xs i d) ≡ false
+      → list_any p (set xs i y) ≡ (p y || list_any p xs)
+  any_set [] i y d within h = absurd (omega (arith, within))
+  any_set (x ∷ xs) zero y d within h = ap (λ (b : Bool). p y || list_any p xs) h
+      ∙ ap (λ (b : Bool). p y || (b || list_any p xs)) (sym h)
+  any_set (x ∷ xs) (suc i) y d within h = ap (λ (b : Bool). p x || b) (any_set xs i y d (omega (arith, within)) h)
+      ∙ swap (p x) (p y) (list_any p xs)
+    where
+      swap : (a b c : Bool) → (a || (b || c)) ≡ (b || (a || c))
+      swap true true c = refl
+      swap true false c = refl
+      swap false true c = refl
+      swap false false c = refl
+
+  -- an element stands for one that passes where it does
+  any_same : (xs : List X) (i : ℕ) (y d : X) → p y ≡ p (get_or xs i d) → list_any p (set xs i y) ≡ list_any p xs
+  any_same [] i y d h = refl
+  any_same (x ∷ xs) zero y d h = ap (λ (b : Bool). b || list_any p xs) h
+  any_same (x ∷ xs) (suc i) y d h = ap (λ (b : Bool). p x || b) (any_same xs i y d h)
+
+  -- what passes is found
+  pub any_at : (xs : List X) (i : ℕ) (d : X) → p (get_or xs i d) ≡ true → p d ≡ false → list_any p xs ≡ true
+  any_at [] i d h none = absurd (let no : true ≡ false = sym h ∙ none in cc)
+  any_at (x ∷ xs) zero d h none = ap (λ (b : Bool). b || list_any p xs) h
+  any_at (x ∷ xs) (suc i) d h none = or_right (p x) (any_at xs i d h none)
+    where
+      or_right : (a : Bool) {b : Bool} → b ≡ true → (a || b) ≡ true
+      or_right true e = refl
+      or_right false e = e
+
+-- ---- active segments
+
+-- whether an entry is a segment's
+for_uid : (u : ℕ) (o : Option Entry) → is_for u o ≡ true → uid_in o ≡ Some u
+for_uid u None h = absurd (let no : false ≡ true = h in cc)
+for_uid u (Some e) h = elim (eqb_tells e.uid u) [
+  | inl a ↦ ap (λ (x : ℕ). Some x) a.1
+  | inr n ↦
+      absurd (let no : true ≡ false = sym h ∙ n.0 in cc)
+]
+
+not_for : (u : ℕ) (o : Option Entry) → uid_in o ≢ Some u → is_for u o ≡ false
+not_for u None h = refl
+not_for u (Some e) h = elim (eqb_tells e.uid u) [ inl a ↦ absurd (h (ap (λ (x : ℕ). Some x) a.1)) | inr n ↦ n.0 ]
+
+-- the place of an active segment has it
+pub active_place : (ast : ActiveSegs) (u : ℕ) → is_active ast u ≡ true
+    → (place_of ast.entries u < length ast.entries) × (uid_at ast.entries (place_of ast.entries u) ≡ Some u)
+unfolding place_of
+active_place ast u h = let within = some_within (is_for u) ast.entries h in (
+  within,
+  for_uid u (entry_at ast.entries (position_or_len (is_for u) ast.entries))
+      (found (is_for u) ast.entries None within),
+)
+
+-- a segment that isn't active has no words
+pub inactive_blank : (ast : ActiveSegs) (u : ℕ) → length ast.tables ≡ length ast.entries → is_active ast u ≡ false
+    → (q : ℕ) → word_of ast u q ≡ ptw.Null
+unfolding place_of
+inactive_blank ast u tables h q = ap (λ (t : List Ptw). get_or t q ptw.Null)
+    (get_or_past ast.tables (position_or_len (is_for u) ast.entries) []
+    (let none = none_length (is_for u) ast.entries h in omega (arith, none, tables)))
+
+-- ---- a segment becomes active
+
+names_filed : (o : Option ℕ) → names (filed_word o) ≡ None
+names_filed None = refl
+names_filed (Some r) = refl
+
+names_pushed : (ws : List Ptw) (w : Ptw) → ((q : ℕ) → names (get_or ws q ptw.Null) ≡ None) → names w ≡ None → (q : ℕ)
+    → names (get_or (ws ++ w ∷ []) q ptw.Null) ≡ None
+names_pushed [] w before here zero = here
+names_pushed [] w before here (suc q) = refl
+names_pushed (x ∷ xs) w before here zero = before zero
+names_pushed (x ∷ xs) w before here (suc q) = names_pushed xs w (λ r. before (suc r)) here q
+
+-- no word of a page table by a file map names a frame
+names_table : (places : List (Option ℕ)) (n q : ℕ) → names (get_or (table_for places n) q ptw.Null) ≡ None
+unfolding table_for
+names_table places zero q = refl
+names_table places (suc n) q = names_pushed (table_for places n) (filed_word (get_or places n None))
+    (names_table places n) (names_filed (get_or places n None)) q
+
+module _ (ast : ActiveSegs) (u place : ℕ) (superior : Option ℕ) (table : List Ptw)
+    (free : entry_at ast.entries place ≡ None)
+    (within : place < length ast.entries) (tables : length ast.tables ≡ length ast.entries)
+    (inactive : is_active ast u ≡ false) where
+  abbrev now : ActiveSegs
+  now = made_active ast place u superior table
+
+  for_new : (v : ℕ) → v ≢ u → is_for v (Some (record { uid = u; superior = superior }))
+      ≡ is_for v (entry_at ast.entries place)
+  for_new v n = not_for v (Some (record { uid = u; superior = superior })) (λ e. n (let same : u ≡ v = cc in sym same))
+      ∙ sym (ap (is_for v) free)
+
+  pub active_more : (v : ℕ) → is_active now v ≡ at_put (λ x. is_active ast x) u true v
+  active_more v = by_place (λ (b : Bool). is_active now v ≡ b) (λ x. is_active ast x) u true v
+      (λ e. any_set (is_for v) ast.entries place (Some (record { uid = u; superior = superior })) None within
+      (ap (is_for v) free)
+      ∙ ap (λ (b : Bool). b || list_any (is_for v) ast.entries) (own e))
+      (λ n. any_same (is_for v) ast.entries place (Some (record { uid = u; superior = superior })) None (for_new v n))
+    where
+      own : v ≡ u → eqb u v ≡ true
+      own e = elim (eqb_tells u v) [ inl a ↦ a.0 | inr n ↦ absurd (n.1 (sym e)) ]
+
+  -- another segment has the words that it had
+  pub words_more : (v q : ℕ) → v ≢ u → word_of now v q ≡ word_of ast v q
+  unfolding place_of
+  words_more v q n = ap (λ (i : ℕ). get_or (get_or (set ast.tables place table) i []) q ptw.Null)
+      (position_or_len-set (is_for v) ast.entries place (Some (record { uid = u; superior = superior })) None
+      (for_new v n))
+      ∙ ap (λ (t : List Ptw). get_or t q ptw.Null)
+      (get_or-set_other ast.tables place (position_or_len (is_for v) ast.entries) table [] other)
+    where
+      other : position_or_len (is_for v) ast.entries ≢ place
+      other e = elim (cases_Bool (list_any (is_for v) ast.entries)) [
+        | inl is ↦ (let no : false ≡ true = sym (ap (is_for v) free)
+            ∙ (ap (λ (i : ℕ). is_for v (entry_at ast.entries i)) (sym e)
+            ∙ found (is_for v) ast.entries None (some_within (is_for v) ast.entries is)) in cc)
+        | inr isnt ↦ (let long = none_length (is_for v) ast.entries isnt in omega (arith, long, e, within))
+      ]
+
+  -- its own words name no frame, where those of its table don't
+  pub words_new : ((q : ℕ) → names (get_or table q ptw.Null) ≡ None) → (q : ℕ) → names (word_of now u q) ≡ None
+  unfolding place_of
+  words_new none q = elim (leb_tells (length (set ast.tables place table)) (position_or_len (is_for u) now.entries)) [
+    | inl e ↦ ap (λ (t : List Ptw). names (get_or t q ptw.Null))
+        (get_or_past (set ast.tables place table) (position_or_len (is_for u) now.entries) [] e.1)
+    | inr m ↦ ap (λ (i : ℕ). names (get_or (get_or (set ast.tables place table) i []) q ptw.Null)) at
+        ∙ (ap (λ (t : List Ptw). names (get_or t q ptw.Null))
+        (get_or-set_same ast.tables place table [] (subst (λ (n : ℕ). place < n) (sym tables) within))
+        ∙ none q)
+  ]
+    where
+      there : is_for u (entry_at now.entries (position_or_len (is_for u) now.entries)) ≡ true
+      there = found (is_for u) now.entries None (some_within (is_for u) now.entries (active_more u ∙
+          by_place (λ (b : Bool). b ≡ true) (λ x. is_active ast x) u true u (λ e. refl) (λ n. absurd (n refl))))
+
+      at : position_or_len (is_for u) now.entries ≡ place
+      at = elim (eqb_tells (position_or_len (is_for u) now.entries) place) [
+        | inl e ↦ e.1
+        | inr n ↦ absurd (elsewhere n.1)
+      ]
+        where
+          no_other : (i : ℕ) → is_for u (entry_at ast.entries i) ≡ true → ⊥
+          no_other i h = let no : true ≡ false = sym (any_at (is_for u) ast.entries i None h refl) ∙ inactive in cc
+
+          elsewhere : position_or_len (is_for u) now.entries ≢ place → ⊥
+          elsewhere n = let old : is_for u (entry_at ast.entries (position_or_len (is_for u) now.entries)) ≡ true =
+              ap (is_for u) (sym (get_or-set_other ast.entries place
+              (position_or_len (is_for u) now.entries) _ None n)) ∙ there in
+              no_other (position_or_len (is_for u) now.entries) old
