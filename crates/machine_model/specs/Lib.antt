@@ -8,8 +8,8 @@ pub mod Custodial
 pub mod Finishing
 pub mod Holding
 pub mod Jobs
-pub mod Looping
 pub mod Keeps
+pub mod Looping
 pub mod Measures
 pub mod Outline
 pub mod OutlineKept

@@ -13,14 +13,14 @@ pub mod Made
 pub mod MoveReplies
 pub mod NamingLaws
 pub mod NodeLaws
-pub mod Paged
-pub mod PagesLess
 pub mod PageFacts
 pub mod PageLeft
 pub mod PageMade
 pub mod PageMoves
 pub mod PageRoom
 pub mod PageWords
+pub mod Paged
+pub mod PagesLess
 pub mod PathLaws
 pub mod Removed
 pub mod Still

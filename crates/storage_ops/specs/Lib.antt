@@ -1,4 +1,4 @@
-pub mod Cut
 pub mod Connecting
+pub mod Cut
 pub mod Paged
 pub mod Shown

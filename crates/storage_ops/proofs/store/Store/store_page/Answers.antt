@@ -13,7 +13,7 @@ use Rattle.page_control.specs.Picture.{ChangesStored, ChangesWords}
 use Rattle.seg_control.specs.Control.{Links, word_of}
 use Rattle.storage_ops.specs.Paged.{IsPageMade}
 use Rattle.storage_ops.specs.Shown.{IsStore, Shows, Storage, home_of, pages_in}
-use Rattle.storage_ops.proofs.NodeLaws.{uid_found, volume_found}
+use Rattle.flat_model.proofs.NodeLaws.{uid_found, volume_found}
 use Rattle.storage_ops.proofs.PageFacts.{node_segment, word_within}
 use Rattle.storage_ops.proofs.PageMade.{shown_made, store_made}
 use Rattle.storage_ops.proofs.PageRoom.{all_taken, full_told, no_quota, no_record, on_ok, room, used_told}
