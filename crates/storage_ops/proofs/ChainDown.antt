@@ -32,7 +32,7 @@ use Rattle.seg_control.specs.Control.{Control, Links, leads, sdws_at}
 use Rattle.seg_control.specs.Kept.{AreLinked}
 use Rattle.seg_control.specs.Next.{IsNext, MayActivate, link_at, no_link, superior_of, uids_of}
 use Rattle.seg_control.specs.Next.{words_in}
-use Rattle.storage_ops.specs.Connecting.{HasOneToGo, IsChainDown}
+use Rattle.storage_ops.specs.Connecting.{HasOneToGo, IsChainDown, link_of, pool_in}
 use Rattle.storage_ops.specs.Shown.{AreInTree, IsStore, Shows, Storage, home_of, is_there, pages_in}
 use Rattle.storage_ops.specs.Shown.{pages_of}
 use Rattle.storage_ops.proofs.Homes.{filed_map}
@@ -129,12 +129,23 @@ superior_found (m ∷ ns) u n e = elim (cases_Bool (eqb m.uid u)) [
 
 module _ (now : Plain) (ast : ActiveSegs) (links : Links) (a : AccountMaps) (whos : List Who) (chain : List Link)
     (h : IsStore now ast links a whos) (t : IsTree a.nodes) (down : IsChainDown a chain) where
-  chain_uid : (i : ℕ) → i < length chain → (link_at chain i).uid ≡ get_or (chain_of a.nodes down.uid) i 0
-  chain_uid i lt = sym (get_or-map (λ (link : Link). link.uid) chain i no_link 0 lt)
-      ∙ ap (λ (us : List ℕ). get_or us i 0) down.links
-
   same_length : length chain ≡ length (chain_of a.nodes down.uid)
-  same_length = sym (length-map chain (λ link. link.uid)) ∙ ap length down.links
+  same_length = ap length down.links ∙ length-map (chain_of a.nodes down.uid) (link_of a)
+
+  link_is : (i : ℕ) → i < length chain → link_at chain i ≡ link_of a (get_or (chain_of a.nodes down.uid) i 0)
+  link_is i lt = ap (λ (ls : List Link). link_at ls i) down.links
+      ∙ get_or-map (link_of a) (chain_of a.nodes down.uid) i 0 no_link (omega (arith, lt, same_length))
+
+  chain_uid : (i : ℕ) → i < length chain → (link_at chain i).uid ≡ get_or (chain_of a.nodes down.uid) i 0
+  chain_uid i lt = ap (λ (l : Link). l.uid) (link_is i lt)
+
+  link_home : (i : ℕ) → i < length chain → (link_at chain i).home ≡ home_of a (link_at chain i).uid
+  link_home i lt = ap (λ (l : Link). l.home) (link_is i lt) ∙ ap (home_of a) (sym (chain_uid i lt))
+
+  pub link_pool : (i : ℕ) (n : Node) → i < length chain → node_in a.nodes (link_at chain i).uid ≡ Some n
+      → (link_at chain i).pool ≡ pool_of n
+  link_pool i n lt found = ap (λ (l : Link). l.pool) (link_is i lt)
+      ∙ ap (λ (u : ℕ). pool_in (node_in a.nodes u)) (sym (chain_uid i lt)) ∙ ap pool_in found
 
   pub link_there : (i : ℕ) → i < length chain → is_there a.nodes (link_at chain i).uid ≡ true
   link_there i lt = ap (is_there a.nodes) (chain_uid i lt)
@@ -157,7 +168,7 @@ module _ (now : Plain) (ast : ActiveSegs) (links : Links) (a : AccountMaps) (who
       let room = room_of found.0 (subst (λ (n : ℕ). n ≤ 256) pages (h.counted.most (link_at chain i).uid))
       (λ d. sym pages ∙ h.counted.flat (link_at chain i).uid
       (directory_found a.nodes (link_at chain i).uid found.0 found.1 ∙ d)) in
-      let pool = down.pools i found.0 lt found.1 in (
+      let pool = link_pool i found.0 lt found.1 in (
         subst (λ (k : ℕ). pages_in a.nodes (link_at chain i).uid ≤ words_in k) (sym pool)
             (subst (λ (n : ℕ). n ≤ words_in (pool_of found.0)) (sym pages) room.0),
         subst (λ (k : ℕ). k < 4) (sym pool) room.1,
@@ -181,7 +192,7 @@ module _ (now : Plain) (ast : ActiveSegs) (links : Links) (a : AccountMaps) (who
     where
       homed : (i : ℕ) → i < length chain
           → uid_homed now.vtocs (link_at chain i).home ≡ Some (link_at chain i).uid
-      homed i lt = ap (uid_homed now.vtocs) (down.homes i lt)
+      homed i lt = ap (uid_homed now.vtocs) (link_home i lt)
           ∙ h.housed.homes (link_at chain i).uid (link_there i lt)
 
       fit : (i : ℕ) → i < length chain → (p : ℕ) → words_in (link_at chain i).pool ≤ p → (o : Option ℕ)
@@ -189,7 +200,7 @@ module _ (now : Plain) (ast : ActiveSegs) (links : Links) (a : AccountMaps) (who
       fit i lt p le None e = refl
       fit i lt p le (Some r) e =
           let on : is_filed_at now.vtocs (home_of a (link_at chain i).uid) p ≡ true
-          = ap (λ (x : Home). is_filed_at now.vtocs x p) (sym (down.homes i lt))
+          = ap (λ (x : Home). is_filed_at now.vtocs x p) (sym (link_home i lt))
           ∙ filed_map now.vtocs (link_at chain i).home p ∙ ap is_some e in
           let within = h.counted.inside (link_at chain i).uid p (link_there i lt) on in
           let room = (link_room i lt).0 in
@@ -250,7 +261,8 @@ module _ (now : Plain) (ast : ActiveSegs) (links : Links) (a : AccountMaps) (who
       | inl is ↦ told (λ o. uid_in o ≡ Some u → IsInPool ast.sizes (pool_of n) q) q
           (λ same. subst (IsInPool ast.sizes (pool_of n)) (sym is)
           (subst (λ (k : ℕ). IsInPool ast.sizes k place)
-          (down.pools i n lt (ap (node_in a.nodes) (own_uid u same) ∙ found)) in_pool))
+          (link_pool now ast links a whos chain h t down i n lt
+          (ap (node_in a.nodes) (own_uid u same) ∙ found)) in_pool))
           (λ was. h.active.pools q u n was found) e
     ]);
   }

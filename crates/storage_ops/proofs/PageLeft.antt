@@ -1,16 +1,20 @@
 -- A page has left its frame: it is on its record, or it was all zeros and is stored no more.
-use Rattle.std.proofs.Common.{◌≡◌, ◌≢◌, ℕ, ◌+◌, ◌-◌, ◌<◌, ◌≤◌, ◌/◌, ◌%◌, Bool, true, false, cond, eqb, ◌&&◌, not}
+use Rattle.std.proofs.Common.{◌≡◌, ◌≢◌, ℕ, ◌+◌, ◌-◌, ◌*◌, ◌<◌, ◌≤◌, ◌/◌, ◌%◌, Bool, true, false, cond, eqb, ◌&&◌, not}
 use Rattle.std.proofs.Common.{List, Option, Some, None, Result, Ok, Err, IfOk, get_or, refl, replicate, sym, ap, subst}
-use Rattle.std.proofs.Common.{◌∙◌, arith, inl, inr}
+use Rattle.std.proofs.Common.{◌∙◌, arith, inl, inr, length}
 use Rattle.std.specs.Prelude.{count_by}
-use Rattle.std.proofs.lemmas.Bool.{cases_eq, eq-eqb, ne_eqb}
+use Rattle.std.proofs.lemmas.Bool.{cases_eq, cases_lt, eq-eqb, ne_eqb}
+use Rattle.std.proofs.lemmas.List.{get_or_past}
 use Rattle.mnames.specs.declared.principals.Who.{Who}
 use Rattle.script.specs.Plans.{Plan}
 use Rattle.accounts.specs.Maps.{AccountMaps, Counts, Recounts, count_of}
 use Rattle.flat_model.specs.Pages.{IsOnce, is_stored, without_stored}
+use Rattle.flat_model.specs.Legal.{MayRelease}
 use Rattle.flat_model.specs.Store.{Store}
 use Rattle.flat_model.proofs.CountLaws.{count_without}
 use Rattle.flat_model.proofs.PageLaws.{is_stored-without, once_without}
+use Rattle.flat_model.proofs.ZeroLaws.{words_zero}
+use Rattle.mword.specs.Words.{AreZero}
 use Rattle.vtoc.specs.Vtoc.{Entry as VtocEntry}
 use Rattle.active_segs.specs.Active.{ActiveSegs, IsActive}
 use Rattle.page_control.specs.declared.Home.{Home}
@@ -32,6 +36,7 @@ use Rattle.storage_ops.proofs.PageFacts.{active_there, filed_word, home_own, pag
 use Rattle.storage_ops.proofs.PageMoves.{count_here, count_other, entries_same, home_same, maps_refiled, named_less}
 use Rattle.storage_ops.proofs.PageMoves.{records_less, refiled, size_same, store_recounted, there_same, uids_refiled}
 use Rattle.storage_ops.proofs.PageMoves.{weight}
+use Rattle.storage_ops.proofs.PageWords.{at_page}
 use Rattle.storage_ops.proofs.Still.{picture_kept, shown_kept, store_still}
 
 -- ---- what is stored
@@ -243,3 +248,36 @@ shown_left drive plan s t u uid home p f (Ok Released) kept store active own on 
     whos links store.housed
     (subst (λ (x : Home). ChangesStored (plain drive t.segs.pages) (plain drive u.segs.pages) x p false) own stored)
     (subst (λ (x : Home). KeepsWords (plain drive t.segs.pages) (plain drive u.segs.pages) uid x) own words) keeps h
+
+-- ---- a page that is given up
+
+zero_at : (words : List ℕ) → AreZero words → (i : ℕ) → get_or words i 0 ≡ 0
+zero_at words zero i = elim (cases_lt i (length words)) [
+  | inl lt ↦ zero i 0 lt
+  | inr past ↦ get_or_past words i 0 past
+]
+
+-- a page with a record whose words are all 0 may be given up
+pub may_release : {D : Type 0} (drive : D → List (List ℕ)) (plan : Plan) (s : Store) (t : Storage D) (uid p : ℕ)
+    (words : List ℕ) → IsKept (plain drive t.segs.pages) t.segs.ast t.segs.links
+    → IsStore (plain drive t.segs.pages) t.segs.ast t.segs.links t.accounts t.whos
+    → IsActive t.segs.ast.entries uid → has_record (word_of t.segs.ast uid p) ≡ true
+    → words_at (plain drive t.segs.pages) uid (home_of t.accounts uid) p ≡ words → AreZero words
+    → Shows drive plan s t → MayRelease s uid p
+may_release drive plan s t uid p words kept store active on held zero h =
+    let there = active_there (plain drive t.segs.pages) t.segs.ast t.segs.links t.accounts t.whos kept store uid active
+    in
+    record {
+      there = h.pages.stored uid p ∙ filed_there t.accounts t.segs.pages.volumes.vtocs uid p there
+          ∙ filed_word (plain drive t.segs.pages) t.segs.ast t.segs.links t.accounts t.whos kept store uid active p
+          ∙ on;
+      zeros = words_zero s.words uid p (λ i lt. (
+          let page : (1024 * p + i) / 1024 ≡ p = omega (arith, lt) in
+          let place : (1024 * p + i) % 1024 ≡ i = omega (arith, lt) in
+          h.pages.words uid (1024 * p + i)
+          ∙ ap (λ (q : ℕ). get_or (picture t.accounts (words_at (plain drive t.segs.pages)) uid q)
+          ((1024 * p + i) % 1024) 0) page
+          ∙ ap (λ (k : ℕ). get_or (picture t.accounts (words_at (plain drive t.segs.pages)) uid p) k 0) place
+          ∙ ap (λ (ws : List ℕ). get_or ws i 0)
+          (at_page t.accounts (words_at (plain drive t.segs.pages)) uid p there ∙ held) ∙ zero_at words zero i));
+    }

@@ -1,5 +1,5 @@
 -- What the calls ask that connect descriptors, and that make segments active (Bensoussan, Clingen and Daley 1972).
-use Rattle.std.specs.Prelude.{◌≡◌, ℕ, ◌<◌, true, List, Option, Some, length, slice_index_or}
+use Rattle.std.specs.Prelude.{◌≡◌, ℕ, ◌<◌, true, map, List, Option, None, Some, length, slice_index_or}
 use Rattle.mnames.specs.declared.modes.Mode.{Mode}
 use Rattle.mnames.specs.declared.modes.Mode.TheVariants as mode
 use Rattle.mnames.specs.declared.principals.Who.{Who}
@@ -26,15 +26,20 @@ pub record AreRights (nodes : List Node) (whos : List Who) (entries : List (Opti
   pub each : (i uid : ℕ) → i < length list → uid_at entries place ≡ Some uid
       → IsRight nodes whos (pair_at list i).0 uid (slice_index_or modes i mode.Null) pages
 
--- The chain is that of a node: the directories from the root down to it, and the node, each with its home, and with the
--- pool that its page table is of.
+-- the pool of a node, 0 where it isn't there
+abbrev pub pool_in : Option Node → ℕ
+pool_in None = 0
+pool_in (Some n) = pool_of n
+
+-- a node as a link of a chain: with its home, and with the pool that its page table is of
+abbrev pub link_of : AccountMaps → ℕ → Link
+link_of a u = record { uid = u; pool = pool_in (node_in a.nodes u); home = home_of a u }
+
+-- The chain is that of a node: the directories from the root down to it, and the node.
 pub record IsChainDown (a : AccountMaps) (chain : List Link) : Type 0 where
   pub uid : ℕ
   pub there : is_there a.nodes uid ≡ true
-  pub links : uids_of chain ≡ chain_of a.nodes uid
-  pub homes : (i : ℕ) → i < length chain → (link_at chain i).home ≡ home_of a (link_at chain i).uid
-  pub pools : (i : ℕ) (n : Node) → i < length chain → node_in a.nodes (link_at chain i).uid ≡ Some n
-      → (link_at chain i).pool ≡ pool_of n
+  pub links : chain ≡ map (link_of a) (chain_of a.nodes uid)
 
 -- Where the pool of the first segment of a chain that isn't active is full, something there is not of the chain.
 pub record HasOneToGo (ast : ActiveSegs) (chain : List Link) : Type 0 where

@@ -1,6 +1,6 @@
 -- What the calls on pages ask and leave: a word is written, a page is stored or is stored no more (Organick 1972).
 use Rattle.std.specs.Prelude.{◌≡◌, ℕ, ◌+◌, ◌-◌, ◌*◌, ◌/◌, ◌<◌, ◌==◌, if◌then◌else◌, List, Some}
-use Rattle.std.specs.Prelude.{Result, Ok, Err, length, slice_set}
+use Rattle.std.specs.Prelude.{Result, Ok, Err, length, replicate, slice_set, true}
 use Rattle.known_segs.specs.Known.{uid_of}
 use Rattle.core_map.specs.declared.Frame.TheVariants.{Free}
 use Rattle.core_map.specs.CoreMap.{frame_at, reads_of}
@@ -14,8 +14,9 @@ use Rattle.flat_model.specs.Store.{Store, known_uid}
 use Rattle.page_control.specs.declared.Left.{Left}
 use Rattle.page_control.specs.declared.Left.TheVariants.{Released, Kept}
 use Rattle.page_control.specs.Plain.{bindings, plain}
-use Rattle.page_control.specs.Counts.{KeepsCounts}
+use Rattle.page_control.specs.Counts.{KeepsCounts, one_more, taken}
 use Rattle.page_control.specs.Effects.{created, next_record}
+use Rattle.page_control.specs.Picture.{ChangesStored, ChangesWords}
 use Rattle.seg_control.specs.Control.{kst_at, word_of}
 use Rattle.seg_control.specs.Effects.{worded}
 use Rattle.storage_ops.specs.Shown.{Storage, home_of, is_refusal, pages_in}
@@ -69,6 +70,11 @@ pub record IsPageMade {D : Type 0} (drive : D → List (List ℕ)) (old new : St
   pub pages : plain drive new.segs.pages ≡ created (plain drive old.segs.pages) uid p (home_of old.accounts uid)
       (next_record (plain drive old.segs.pages) (home_of old.accounts uid)) f at w
   pub word : new.segs.ast ≡ worded old.segs.ast uid p (Here f)
+  pub words : ChangesWords (plain drive old.segs.pages) (plain drive new.segs.pages) uid (home_of old.accounts uid) p
+      (slice_set (replicate 1024 0) at w)
+  pub stored : ChangesStored (plain drive old.segs.pages) (plain drive new.segs.pages) (home_of old.accounts uid) p true
+  pub taken_more : taken new.segs.pages.volumes.records
+      ≡ one_more (taken old.segs.pages.volumes.records) (home_of old.accounts uid).volume
   pub bound : bindings new.segs.pages.core ≡ slice_set (bindings old.segs.pages.core) f (Some (uid, p))
   pub reads : reads_of new.segs.pages.core ≡ reads_of old.segs.pages.core
   pub counts : KeepsCounts (plain drive old.segs.pages) (plain drive new.segs.pages)

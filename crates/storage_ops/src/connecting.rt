@@ -1,6 +1,6 @@
 //! Segments become active, and descriptors are connected to them.
 
-ghost use Rattle.std.specs.Prelude.{◌≡◌, ◌<◌, ℕ, IsSome, None, Some, length};
+ghost use Rattle.std.specs.Prelude.{◌≡◌, ◌<◌, ℕ, IsSome, None, Some, true, length};
 ghost use Rattle.known_segs.specs.Known.{uid_of};
 ghost use Rattle.active_segs.specs.Active.{IsActive, uid_at};
 ghost use Rattle.seg_control.specs.Control.{kst_at, leads_at, place_of};
@@ -10,7 +10,7 @@ ghost use Rattle.seg_control.specs.Next.{IsGoing, IsNext};
 ghost use Rattle.script.specs.Plans.{Plan};
 ghost use Rattle.flat_model.specs.Store.{Store as Flat};
 ghost use Rattle.storage_ops.specs.Connecting.{AreRights, HasOneToGo, IsChainDown, IsRight};
-ghost use Rattle.storage_ops.specs.Shown.{Shows};
+ghost use Rattle.storage_ops.specs.Shown.{Shows, is_there};
 
 use crate::store::Store;
 use mnames::Mode;
@@ -18,6 +18,20 @@ use seg_control::{Link, Next};
 use volumes::Drive;
 
 impl<D: Drive> Store<D> {
+    /// The mode of a process's access to a node, and the length of the node, in pages: what its descriptor of that node
+    /// gets. (Source: Bensoussan, Clingen and Daley 1972.)
+    pub fn right(&self, process: u32, uid: u32) -> (Mode, u32)
+        requires process { process < length self.now.segs.links.known }
+        requires there { is_there self.now.accounts.nodes uid ≡ true }
+        ensures { IsRight self.now.accounts.nodes self.now.whos process uid result.0 result.1 }
+    {
+        let Some(node) = self.accounts.node(uid) else {
+            unreachable!();
+        };
+        let who = &self.whos[process as usize];
+        (node.acl.access_of(who), node.length)
+    }
+
     /// A number of a process leads to the page table of the active segment that it stands for, with the mode of the
     /// process's access and the length of the segment, and a trailer leads back. What is shown stays. (Source:
     /// Bensoussan, Clingen and Daley 1972; Organick 1972.)

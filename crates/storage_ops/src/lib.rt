@@ -9,9 +9,10 @@
 //! records, descriptors or active segments. None but `new` takes memory.
 #![tactic(auto)]
 
+mod chains;
 mod commands;
-mod cutting;
 mod connecting;
+mod cutting;
 mod deleting;
 mod making;
 mod naming;

@@ -1,6 +1,7 @@
 //! A page is stored, or is stored no more, and its account is charged or credited.
 
-ghost use Rattle.std.specs.Prelude.{◌≡◌, ◌≢◌, ◌<◌, ◌≤◌, ◌/◌, ◌%◌, ◌↔◌, ℕ, if◌then◌else◌, IsOk, Ok, OnOk, OnErr};
+ghost use Rattle.std.specs.Prelude.{◌≡◌, ◌≢◌, ◌<◌, ◌≤◌, ◌/◌, ◌%◌, ◌↔◌, ℕ, if◌then◌else◌, IsOk, Ok, IfOk};
+ghost use Rattle.std.specs.Prelude.{OnOk, OnErr};
 ghost use Rattle.std.specs.Prelude.{None, Some, true, length, slice_set};
 ghost use Rattle.known_segs.specs.Known.{uid_of};
 ghost use Rattle.core_map.specs.declared.Frame.TheVariants.{Free};
@@ -12,16 +13,17 @@ ghost use Rattle.active_segs.specs.Active.{IsActive};
 ghost use Rattle.mword.specs.Words.{AreZero};
 ghost use Rattle.accounts.specs.Maps.{count_of};
 ghost use Rattle.tree_model.specs.Trees.{has_segment};
-ghost use Rattle.page_control.specs.Counts.{KeepsCounts, is_full};
+ghost use Rattle.page_control.specs.Counts.{KeepsCounts, is_full, taken, taken_after};
 ghost use Rattle.page_control.specs.Plain.{bindings, number_in, plain, record_of, words_in};
 ghost use Rattle.page_control.specs.Effects.{NeedsNoWrite, after_evict};
-ghost use Rattle.page_control.specs.Picture.{KeepsWords};
+ghost use Rattle.page_control.specs.Picture.{ChangesStored, KeepsWords, is_kept};
 ghost use Rattle.page_control.specs.Drives.{CallsDrive};
 ghost use Rattle.page_control.specs.Tied.{uid_in};
 ghost use Rattle.seg_control.specs.Control.{kst_at, table_of, word_of};
 ghost use Rattle.seg_control.specs.Effects.{table_left};
 ghost use Rattle.seg_control.specs.Kept.{IsHomeFor};
 ghost use Rattle.script.specs.Plans.{Plan};
+ghost use Rattle.flat_model.specs.Legal.{MayRelease};
 ghost use Rattle.flat_model.specs.Store.{Store as Flat};
 ghost use Rattle.storage_ops.specs.Paged.{IsKnownAs, IsPageMade, IsSettled, MayCreate, done_or, page_left, page_made};
 ghost use Rattle.storage_ops.specs.Shown.{Shows, ShowsTree, pages_in};
@@ -67,6 +69,11 @@ impl<D: Drive> Store<D> {
             (number_in (frame_at self.old.segs.pages.core f)) (record_of (plain D.pages self.old.segs.pages) home
             (number_in (frame_at self.old.segs.pages.core f))) result }
         ensures words { KeepsWords (plain D.pages self.old.segs.pages) (plain D.pages self.new.segs.pages) uid home }
+        ensures stored { IfOk result (λ left. ChangesStored (plain D.pages self.old.segs.pages)
+            (plain D.pages self.new.segs.pages) home (number_in (frame_at self.old.segs.pages.core f))
+            (is_kept left)) }
+        ensures taken { IfOk result (λ left. taken self.new.segs.pages.volumes.records
+            ≡ taken_after (taken self.old.segs.pages.volumes.records) home.volume left) }
         ensures freed { OnOk result (bindings self.new.segs.pages.core
             ≡ slice_set (bindings self.old.segs.pages.core) f None) }
         ensures reads { reads_of self.new.segs.pages.core ≡ reads_of self.old.segs.pages.core }
@@ -83,10 +90,13 @@ impl<D: Drive> Store<D> {
             ast = self.new.segs.ast;
           };
         } }
+        ensures may { (p : Plan) (s : Flat) → Shows D.pages p s self.old → result ≡ Ok Left.Released
+            → MayRelease s uid (number_in (frame_at self.old.segs.pages.core f)) }
         ensures shown { (p : Plan) (s : Flat) → Shows D.pages p s self.old
             → Shows D.pages p (page_left s uid (number_in (frame_at self.old.segs.pages.core f)) result) self.new }
     {
-        let _kept = self.segs.pages();
+        let pages = self.segs.pages();
+        let _core = pages.frames();
         let left = self.segs.evict(uid, home, f);
         settle(&mut self.accounts, uid, &left);
         left

@@ -7,7 +7,7 @@ use Rattle.page_table.specs.declared.Ptw.TheVariants.{Null}
 use Rattle.active_segs.specs.Active.{IsActive}
 use Rattle.page_control.specs.declared.Home.{Home}
 use Rattle.page_control.specs.Plain.{plain}
-use Rattle.page_control.specs.Counts.{is_full, size, taken}
+use Rattle.page_control.specs.Counts.{is_full, one_more, size, taken}
 use Rattle.page_control.specs.Effects.{created, next_record}
 use Rattle.page_control.specs.Picture.{ChangesStored, ChangesWords}
 use Rattle.seg_control.specs.Control.{Links, word_of}
@@ -174,6 +174,14 @@ returns-clause-made g c =
       pages = c.in-Ok.ensures.effect ∙ ap (λ (x : Home). created (plain g.D.Drive.pages t.segs.pages) c.args.uid
           c.args.page x (next_record (plain g.D.Drive.pages t.segs.pages) x) c.args.f c.args.at c.args.w) home;
       word = c.in-Ok.ensures.word;
+      words = subst (λ (x : Home). ChangesWords (plain g.D.Drive.pages t.segs.pages)
+          (plain g.D.Drive.pages u.segs.pages) c.args.uid x c.args.page (set (replicate 1024 0) c.args.at c.args.w))
+          home
+          c.in-Ok.ensures.words;
+      stored = subst (λ (x : Home). ChangesStored (plain g.D.Drive.pages t.segs.pages)
+          (plain g.D.Drive.pages u.segs.pages) x c.args.page true) home c.in-Ok.ensures.stored;
+      taken_more = c.in-Ok.ensures.taken
+          ∙ ap (λ (x : Home). one_more (taken t.segs.pages.volumes.records) x.volume) home;
       bound = c.in-Ok.ensures.bound;
       reads = c.create_page.ensures.reads;
       counts = c.create_page.ensures.counts;

@@ -1,0 +1,13 @@
+use Rattle.std.proofs.Common.{ℕ, sym, ap, ◌∙◌}
+use Rattle.tree_model.specs.Tree.{node_in, quota_in}
+use Rattle.page_control.specs.declared.Home.{Home}
+use Rattle.storage_ops.specs.Connecting.{pool_in}
+use Rattle.storage_ops.specs.Shown.{Storage, home_of}
+use Rattle.storage_ops.proofs.store.Store.link.Goals as goal
+
+pub returns : goal.returns
+returns g c =
+    ap (λ (h : Home). record { uid = c.args.uid; pool = c.pool_of.result; home = h }) c.home-home.ensures.home
+    ∙ ap (λ (k : ℕ). record { uid = c.args.uid; pool = k; home = home_of c.args.self.now.accounts c.args.uid })
+    (c.pool_of.ensures (quota_in c.self.inside.accounts.nodes) ∙ sym (ap pool_in c.in-Some.ensures.some)
+    ∙ ap (λ (x : Storage g.row.D.Denot). pool_in (node_in x.accounts.nodes c.args.uid)) c.self.view_is)
