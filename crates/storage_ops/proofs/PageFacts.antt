@@ -71,6 +71,14 @@ pub place_active : (xs : List (Option Entry)) (uid : ℕ) → IsTree xs → IsAc
     → uid_in_place xs (place_of xs uid) ≡ Some uid
 place_active xs uid tree active = ap (uid_in_place xs) (place_told xs uid active.0 tree active.1) ∙ active.1
 
+-- a table that was found by its place
+pub table_told : (ast found : ActiveSegs) (uid place : ℕ) (table : List Ptw) → found ≡ ast → IsTree ast.entries
+    → uid_in_place found.entries place ≡ Some uid → table ≡ table_at found.tables place → table ≡ table_of ast uid
+table_told ast found uid place table same tree at is =
+    is ∙ ap (λ (x : ActiveSegs). table_at x.tables place) same
+    ∙ ap (table_at ast.tables) (sym (place_told ast.entries uid place tree
+    (ap (λ (x : ActiveSegs). uid_in_place x.entries place) (sym same) ∙ at)))
+
 -- ---- what stands in a list
 
 pub within_some : {X : Type 0} (xs : List (Option X)) (i : ℕ) → is_some (get_or xs i None) ≡ true → i < length xs

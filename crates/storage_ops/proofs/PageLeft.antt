@@ -1,5 +1,5 @@
 -- A page has left its frame: it is on its record, or it was all zeros and is stored no more.
-use Rattle.std.proofs.Common.{◌≡◌, ◌≢◌, ℕ, ◌+◌, ◌-◌, ◌*◌, ◌<◌, ◌≤◌, ◌/◌, ◌%◌, Bool, true, false, cond, eqb, ◌&&◌, not}
+use Rattle.std.proofs.Common.{◌≡◌, ◌≢◌, ℕ, ◌+◌, ◌-◌, ◌<◌, ◌≤◌, ◌/◌, ◌%◌, Bool, true, false, cond, eqb, ◌&&◌, not}
 use Rattle.std.proofs.Common.{List, Option, Some, None, Result, Ok, Err, IfOk, get_or, refl, replicate, sym, ap, subst}
 use Rattle.std.proofs.Common.{◌∙◌, arith, inl, inr, length}
 use Rattle.std.specs.Prelude.{count_by}
@@ -36,7 +36,7 @@ use Rattle.storage_ops.proofs.PageFacts.{active_there, filed_word, home_own, pag
 use Rattle.storage_ops.proofs.PageMoves.{count_here, count_other, entries_same, home_same, maps_refiled, named_less}
 use Rattle.storage_ops.proofs.PageMoves.{records_less, refiled, size_same, store_recounted, there_same, uids_refiled}
 use Rattle.storage_ops.proofs.PageMoves.{weight}
-use Rattle.storage_ops.proofs.PageWords.{at_page}
+use Rattle.storage_ops.proofs.PageWords.{word_at}
 use Rattle.storage_ops.proofs.Still.{picture_kept, shown_kept, store_still}
 
 -- ---- what is stored
@@ -271,13 +271,6 @@ may_release drive plan s t uid p words kept store active on held zero h =
       there = h.pages.stored uid p ∙ filed_there t.accounts t.segs.pages.volumes.vtocs uid p there
           ∙ filed_word (plain drive t.segs.pages) t.segs.ast t.segs.links t.accounts t.whos kept store uid active p
           ∙ on;
-      zeros = words_zero s.words uid p (λ i lt. (
-          let page : (1024 * p + i) / 1024 ≡ p = omega (arith, lt) in
-          let place : (1024 * p + i) % 1024 ≡ i = omega (arith, lt) in
-          h.pages.words uid (1024 * p + i)
-          ∙ ap (λ (q : ℕ). get_or (picture t.accounts (words_at (plain drive t.segs.pages)) uid q)
-          ((1024 * p + i) % 1024) 0) page
-          ∙ ap (λ (k : ℕ). get_or (picture t.accounts (words_at (plain drive t.segs.pages)) uid p) k 0) place
-          ∙ ap (λ (ws : List ℕ). get_or ws i 0)
-          (at_page t.accounts (words_at (plain drive t.segs.pages)) uid p there ∙ held) ∙ zero_at words zero i));
+      zeros = words_zero s.words uid p (λ i lt. word_at drive plan s t uid p i words there held lt h
+          ∙ zero_at words zero i);
     }

@@ -113,7 +113,7 @@ module _ (old now : Plain) (ast next : ActiveSegs) (links : Links) (a b : Accoun
 -- ---- the words
 
 -- a page whose word is `Null` is in no frame, and all zeros
-zeros_null : (old : Plain) (ast : ActiveSegs) (links : Links) (a : AccountMaps) (whos : List Who) (uid p : ℕ)
+pub zeros_null : (old : Plain) (ast : ActiveSegs) (links : Links) (a : AccountMaps) (whos : List Who) (uid p : ℕ)
     → IsKept old ast links → IsStore old ast links a whos → IsActive ast.entries uid → word_of ast uid p ≡ Null
     → words_at old uid (home_of a uid) p ≡ replicate 1024 0
 zeros_null old ast links a whos uid p kept h active off =

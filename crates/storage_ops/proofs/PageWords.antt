@@ -152,6 +152,20 @@ module _ (a : AccountMaps) (image next : ℕ → Home → ℕ → List ℕ) (uid
         ]
       ]
 
+-- a word of the flat store that is shown
+pub word_at : {D : Type 0} (drive : D → List (List ℕ)) (plan : Plan) (s : Store) (t : Storage D) (uid p at : ℕ)
+    (words : List ℕ) → is_there t.accounts.nodes uid ≡ true
+    → words_at (plain drive t.segs.pages) uid (home_of t.accounts uid) p ≡ words → at < 1024
+    → Shows drive plan s t → s.words uid (1024 * p + at) ≡ get_or words at 0
+word_at drive plan s t uid p at words there held within h =
+    let page : (1024 * p + at) / 1024 ≡ p = omega (arith, within) in
+    let place : (1024 * p + at) % 1024 ≡ at = omega (arith, within) in
+    let image = words_at (plain drive t.segs.pages) in
+    h.pages.words uid (1024 * p + at)
+    ∙ ap (λ (q : ℕ). get_or (picture t.accounts image uid q) ((1024 * p + at) % 1024) 0) page
+    ∙ ap (λ (k : ℕ). get_or (picture t.accounts image uid p) k 0) place
+    ∙ ap (λ (ws : List ℕ). get_or ws at 0) (at_page t.accounts image uid p there ∙ held)
+
 -- a store that shows a flat store shows it with the word
 pub shown_put : {D : Type 0} (drive : D → List (List ℕ)) (plan : Plan) (s : Store) (t u : Storage D)
     (uid p at w : ℕ) (words : List ℕ) → u.accounts ≡ t.accounts → u.whos ≡ t.whos → u.segs.links ≡ t.segs.links

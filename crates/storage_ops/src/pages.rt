@@ -1,12 +1,12 @@
 //! The calls of segment control that leave what is stored as it is.
 
-ghost use Rattle.std.specs.Prelude.{◌≡◌, ◌<◌, All, IsSome, OnOk, OnErr, None, Some, [], true, false, length};
-ghost use Rattle.std.specs.Prelude.{slice_index, slice_set};
+ghost use Rattle.std.specs.Prelude.{◌≡◌, ◌<◌, ◌+◌, ◌*◌, ℕ, All, IsSome, OnOk, OnErr, None, Some, [], true, false};
+ghost use Rattle.std.specs.Prelude.{length, slice_index, slice_set};
 ghost use Rattle.std.specs.List.{list_any};
 ghost use Rattle.core_map.specs.declared.Frame.TheVariants.{Free, Started};
 ghost use Rattle.core_map.specs.CoreMap.{frame_at, is_bound, reads_of};
 ghost use Rattle.core_map.specs.Clock.{IsClockChoice, after_choice, clock_choice};
-ghost use Rattle.page_table.specs.declared.Ptw.TheVariants.{Here, Leaving};
+ghost use Rattle.page_table.specs.declared.Ptw.TheVariants.{Here, Leaving, Null};
 ghost use Rattle.active_segs.specs.Active.{HasNoInferior, IsActive, IsAway, deactivated, table_at};
 ghost use Rattle.trailers.specs.Trailer.{trailers_of};
 ghost use Rattle.seg_control.specs.Kept.{IsHomeFor, IsNotRead};
@@ -16,17 +16,19 @@ ghost use Rattle.page_control.specs.Effects.{after_read, framed, referred, word_
 ghost use Rattle.page_control.specs.Picture.{KeepsWords, changed_page, words_at};
 ghost use Rattle.page_control.specs.Drives.{CallsDrive};
 ghost use Rattle.volumes.specs.Volumes.{KeepsTables};
-ghost use Rattle.page_control.specs.Tied.{IsNotStarted, is_out, uid_in};
+ghost use Rattle.page_control.specs.Tied.{IsNotStarted, has_record, is_out, uid_in};
 ghost use Rattle.seg_control.specs.Control.{leads_at, table_of, word_of};
 ghost use Rattle.seg_control.specs.Effects.{all_cut, all_taken, cut_one, table_here, worded};
 ghost use Rattle.script.specs.Plans.{Plan};
+ghost use Rattle.flat_model.specs.Pages.{is_stored};
 ghost use Rattle.flat_model.specs.Store.{Store as Flat};
 ghost use Rattle.storage_ops.specs.Paged.{word_written};
-ghost use Rattle.storage_ops.specs.Shown.{Shows};
+ghost use Rattle.storage_ops.specs.Shown.{Shows, pages_in};
 
 use crate::store::Store;
 use mword::Word;
 use page_control::Home;
+use page_table::Ptw;
 use site_io::Failed;
 use volumes::Drive;
 
@@ -51,8 +53,8 @@ impl<D: Drive> Store<D> {
         self.segs.choose()
     }
 
-    /// Reads word `at` through the bound frame `f`, whose used mark is on then. What is shown stays. (Source:
-    /// Bensoussan, Clingen and Daley 1972.)
+    /// Reads word `at` through the bound frame `f`, whose used mark is on then: the word of what is shown, which stays.
+    /// (Source: Bensoussan, Clingen and Daley 1972.)
     pub fn word(&mut self, f: u32, at: u32) -> Word
         requires bound { is_bound (frame_at self.old.segs.pages.core f) ≡ true }
         requires at { at < 1024 }
@@ -63,9 +65,34 @@ impl<D: Drive> Store<D> {
         ensures bindings { bindings self.new.segs.pages.core ≡ bindings self.old.segs.pages.core }
         ensures reads { reads_of self.new.segs.pages.core ≡ reads_of self.old.segs.pages.core }
         ensures volumes { self.new.segs.pages.volumes ≡ self.old.segs.pages.volumes }
+        ensures told { (p : Plan) (s : Flat) → Shows D.pages p s self.old
+            → result ≡ s.words (uid_in (frame_at self.old.segs.pages.core f))
+            (1024 * number_in (frame_at self.old.segs.pages.core f) + at) }
         ensures shown { (p : Plan) (s : Flat) → Shows D.pages p s self.old → Shows D.pages p s self.new }
     {
+        let pages = self.segs.pages();
+        let _core = pages.frames();
         self.segs.word(f, at)
+    }
+
+    /// The word of page `p` of an active segment, which tells where the page is. A page whose word is `Null` isn't
+    /// stored in what is shown, and is all zeros there; every other is stored. (Source: Bensoussan, Clingen and Daley
+    /// 1972.)
+    pub fn look(&self, uid: u32, p: u32) -> Ptw
+        requires active { IsActive self.now.segs.ast.entries uid }
+        requires page { p < pages_in self.now.accounts.nodes uid }
+        ensures word { result ≡ word_of self.now.segs.ast uid p }
+        ensures stored { (plan : Plan) (s : Flat) → Shows D.pages plan s self.now
+            → is_stored s.stored uid p ≡ has_record result }
+        ensures zeros { (plan : Plan) (s : Flat) → Shows D.pages plan s self.now → result ≡ Null → (at : ℕ) → at < 1024
+            → s.words uid (1024 * p + at) ≡ 0 }
+    {
+        let _kept = self.segs.pages();
+        let ast = self.segs.ast();
+        match ast.search(uid) {
+            Some(place) => ast.table(place).get(p),
+            None => unreachable!(),
+        }
     }
 
     /// Writes `w` at word `at` through the bound frame `f`, whose marks are both on then. That word of what is shown is
