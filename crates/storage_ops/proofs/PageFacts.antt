@@ -3,73 +3,33 @@ use Rattle.std.proofs.Common.{◌≡◌, ℕ, zero, suc, ◌+◌, ◌^◌, ◌<�
 use Rattle.std.proofs.Common.{◌∷◌, length, Option, Some, None, get_or, is_some, refl, sym, ap, subst, ◌∙◌, arith}
 use Rattle.std.proofs.Common.{inl, inr}
 use Rattle.std.specs.Prelude.{count_by, nat_le}
-use Rattle.std.specs.List.{position_or_len}
-use Rattle.std.proofs.lemmas.Bool.{cases_Bool, cases_lt, eq-eqb, eqb-true}
+use Rattle.std.proofs.lemmas.Bool.{cases_Bool, cases_lt}
 use Rattle.std.proofs.lemmas.Bool.Decides.{nat_tests}
-use Rattle.std.proofs.lemmas.Grind.{common_steps}
 use Rattle.std.proofs.lemmas.List.{get_or_past}
 use Rattle.std.proofs.lemmas.List.Sums.{sum_by-cons}
-use Rattle.std.proofs.lemmas.Option.{none-some, same_Some}
 use Rattle.mnames.specs.declared.principals.Who.{Who}
 use Rattle.accounts.specs.Maps.{AccountMaps, count_of}
 use Rattle.tree_model.specs.Tree.{Node, has_directory, node_in, pool_for, pool_of}
 use Rattle.tree_model.specs.Trees.{has_segment}
 use Rattle.page_table.specs.declared.Ptw.{Ptw}
 use Rattle.active_segs.specs.declared.Entry.{Entry}
-use Rattle.active_segs.specs.Active.{ActiveSegs, IsActive, IsTree, entry_at, table_at, uid_at as uid_in_place, uid_in}
+use Rattle.active_segs.specs.Active.{ActiveSegs, IsActive, IsTree, table_at, uid_at as uid_in_place}
 use Rattle.page_control.specs.Plain.{Plain}
 use Rattle.page_control.specs.Picture.{is_filed_at}
 use Rattle.page_control.specs.Tied.{has_record, map_at}
-use Rattle.page_control.specs.Ties.{IsTied}
-use Rattle.seg_control.specs.Control.{Links, is_for, place_of, table_of, word_of}
-use Rattle.seg_control.specs.Kept.{IsHomeOf, IsKept}
+use Rattle.seg_control.specs.Control.{Links, place_of, table_of, word_of}
+use Rattle.seg_control.specs.Kept.{IsKept}
 use Rattle.storage_ops.specs.Shown.{IsStore, home_of, is_there, pages_in, pages_of}
 use Rattle.storage_ops.proofs.Homes.{filed_map}
+use Rattle.storage_ops.proofs.Lengths.{filed_there}
 use Rattle.storage_ops.proofs.NodeLaws.{found_there}
+use Rattle.storage_ops.proofs.Paged.{active_place, active_there, word_filed}
 
 -- ---- the place in which a segment is active
 
-first_is : {X : Type 0} (p : X → Bool) (xs : List X) (k : ℕ) (d : X) → k < length xs → p (get_or xs k d) ≡ true
-    → ((j : ℕ) → j < k → p (get_or xs j d) ≡ false) → position_or_len p xs ≡ k
-first_is p [] k d lt holds before = omega arith
-first_is p (x ∷ xs) zero d lt holds before = grind (arith, common_steps)
-first_is p (x ∷ xs) (suc k) d lt holds before =
-    let no : p x ≡ false = before 0 (omega arith) in
-    let ih : position_or_len p xs ≡ k = first_is p xs k d (omega arith) holds (λ j l. before (suc j) (omega arith)) in
-    grind (arith, common_steps)
-
-is_for_uid : (uid : ℕ) (e : Option Entry) → uid_in e ≡ Some uid → is_for uid e ≡ true
-is_for_uid uid None h = cc
-is_for_uid uid (Some e) h = eq-eqb e.uid uid (same_Some _ _ h)
-
-uid_from : (uid : ℕ) (e : Option Entry) → is_for uid e ≡ true → uid_in e ≡ Some uid
-uid_from uid None h = cc
-uid_from uid (Some e) h = ap (λ (n : ℕ). Some n) (eqb-true e.uid uid h)
-
-pub used_within : (xs : List (Option Entry)) (p uid : ℕ) → uid_in_place xs p ≡ Some uid → p < length xs
-used_within xs p uid e = elim (cases_lt p (length xs)) [
-  | inl lt ↦ lt
-  | inr past ↦ absurd (none-some uid (sym (ap uid_in (get_or_past xs p None past)) ∙ e))
-]
-
 pub place_told : (xs : List (Option Entry)) (uid place : ℕ) → IsTree xs → uid_in_place xs place ≡ Some uid
     → place_of xs uid ≡ place
-unfolding place_of
-place_told xs uid place tree at =
-    first_is (is_for uid) xs place None (used_within xs place uid at) (is_for_uid uid (entry_at xs place) at)
-    (λ j l. not_before j l)
-  where
-    not_yet : (j : ℕ) (b : Bool) → j < place → is_for uid (entry_at xs j) ≡ b → b ≡ false
-    not_yet j false l e = refl
-    not_yet j true l e = absurd (let same : j ≡ place = tree.once j place uid (uid_from uid (entry_at xs j) e) at in
-        omega (arith, same, l))
-
-    not_before : (j : ℕ) → j < place → is_for uid (entry_at xs j) ≡ false
-    not_before j l = not_yet j (is_for uid (entry_at xs j)) l refl
-
-pub place_active : (xs : List (Option Entry)) (uid : ℕ) → IsTree xs → IsActive xs uid
-    → uid_in_place xs (place_of xs uid) ≡ Some uid
-place_active xs uid tree active = ap (uid_in_place xs) (place_told xs uid active.0 tree active.1) ∙ active.1
+place_told xs uid place tree at = tree.once (place_of xs uid) place uid (active_place xs uid (place, at)) at
 
 -- a table that was found by its place
 pub table_told : (ast found : ActiveSegs) (uid place : ℕ) (table : List Ptw) → found ≡ ast → IsTree ast.entries
@@ -147,53 +107,43 @@ room_of n most flat = by n.directory refl
 
 module _ (now : Plain) (ast : ActiveSegs) (links : Links) (a : AccountMaps) (whos : List Who)
     (kept : IsKept now ast links) (h : IsStore now ast links a whos) (uid : ℕ) (active : IsActive ast.entries uid) where
-  pub active_there : is_there a.nodes uid ≡ true
-  active_there = h.active.there active.0 uid active.1
-
-  pub home_own : IsHomeOf now.vtocs uid (home_of a uid)
-  home_own = record {
-    used = h.housed.homes uid active_there;
-    only = λ other e. h.housed.only other uid e;
-  }
-
   table_is : table_of ast uid ≡ table_at ast.tables active.0
   table_is = ap (table_at ast.tables) (place_told ast.entries uid active.0 kept.tree active.1)
 
-  pub tied_own : IsTied now uid (home_of a uid) (table_of ast uid)
-  tied_own = subst (λ (t : List Ptw). IsTied now uid (home_of a uid) t) (sym table_is)
-      (kept.paged.ties active.0 uid (home_of a uid) active.1 home_own)
+  there : is_there a.nodes uid ≡ true
+  there = active_there now ast links a whos kept h uid active
 
   -- a page has a record exactly where its word says so
   pub filed_word : (p : ℕ) → is_filed_at now.vtocs (home_of a uid) p ≡ has_record (word_of ast uid p)
-  filed_word p = filed_map now.vtocs (home_of a uid) p ∙ tied_own.map.stored p
+  filed_word p = sym (filed_there a now.vtocs uid p there) ∙ word_filed now ast links a whos kept h uid active p
 
   -- a segment with a stored page is no directory, and has it counted
   module _ (p : ℕ) (on : has_record (word_of ast uid p) ≡ true) where
     pub page_within : p < pages_in a.nodes uid
-    page_within = h.counted.inside uid p active_there (filed_word p ∙ on)
+    page_within = h.counted.inside uid p there (filed_word p ∙ on)
 
     pub page_segment : has_segment a.nodes uid ≡ true
-    page_segment = segment_of a.nodes uid active_there (elim (cases_Bool (has_directory a.nodes uid)) [
+    page_segment = segment_of a.nodes uid there (elim (cases_Bool (has_directory a.nodes uid)) [
       | inr off ↦ off
       | inl is ↦ (let none = h.counted.flat uid is in let lt = page_within in absurd (omega (arith, none, lt)))
     ])
 
     pub page_counted : 1 ≤ count_of a uid
-    page_counted = subst (λ (n : ℕ). 1 ≤ n) (h.counted.counts uid active_there)
+    page_counted = subst (λ (n : ℕ). 1 ≤ n) (h.counted.counts uid there)
         (count_some (map_at now.vtocs (home_of a uid)) p (sym (filed_map now.vtocs (home_of a uid) p)
         ∙ filed_word p ∙ on))
 
   -- a page below the length is of a segment, and has a word in its page table
   module _ (p : ℕ) (lt : p < pages_in a.nodes uid) where
     pub node_segment : has_segment a.nodes uid ≡ true
-    node_segment = segment_of a.nodes uid active_there (elim (cases_Bool (has_directory a.nodes uid)) [
+    node_segment = segment_of a.nodes uid there (elim (cases_Bool (has_directory a.nodes uid)) [
       | inr off ↦ off
       | inl is ↦ (let none = h.counted.flat uid is in absurd (omega (arith, none, lt)))
     ])
 
     pub word_within : p < length (table_of ast uid)
     word_within =
-        let found = found_there a.nodes uid active_there in
+        let found = found_there a.nodes uid there in
         let pages : pages_in a.nodes uid ≡ found.0.pages = ap pages_of found.1 in
         let room = room_of found.0 (subst (λ (n : ℕ). n ≤ 256) pages (h.counted.most uid))
         (λ d. sym pages ∙ h.counted.flat uid (directory_found a.nodes uid found.0 found.1 ∙ d)) in

@@ -31,11 +31,13 @@ use Rattle.seg_control.specs.Kept.{IsKept}
 use Rattle.storage_ops.specs.Paged.{IsSettled, page_left}
 use Rattle.storage_ops.specs.Shown.{AreHoused, IsStore, Shows, Storage, home_of, is_filed, is_there, named_at, pages_in}
 use Rattle.storage_ops.specs.Shown.{picture}
+use Rattle.storage_ops.proofs.Dropped.{recount_here, recount_homes, recount_other, recount_there, same_entries}
+use Rattle.storage_ops.proofs.Dropped.{same_sizes}
+use Rattle.storage_ops.proofs.Entries.{map_put, put_other, put_uid}
+use Rattle.storage_ops.proofs.PageFacts.{filed_word, page_counted}
+use Rattle.storage_ops.proofs.PageMoves.{named_less, records_less, store_recounted, weight}
+use Rattle.storage_ops.proofs.Paged.{active_home, active_there}
 use Rattle.storage_ops.proofs.Lengths.{filed_there}
-use Rattle.storage_ops.proofs.PageFacts.{active_there, filed_word, home_own, page_counted}
-use Rattle.storage_ops.proofs.PageMoves.{count_here, count_other, entries_same, home_same, maps_refiled, named_less}
-use Rattle.storage_ops.proofs.PageMoves.{records_less, refiled, size_same, store_recounted, there_same, uids_refiled}
-use Rattle.storage_ops.proofs.PageMoves.{weight}
 use Rattle.storage_ops.proofs.PageWords.{word_at}
 use Rattle.storage_ops.proofs.Still.{picture_kept, shown_kept, store_still}
 
@@ -80,16 +82,16 @@ pub filed_recounted : (a b : AccountMaps) (uid count : ℕ) → Recounts a b uid
     → (vtocs : List (List (Option VtocEntry))) (u q : ℕ) → is_filed b vtocs u q ≡ is_filed a vtocs u q
 unfolding is_filed
 filed_recounted a b uid count change vtocs u q =
-    ap (λ (z : Bool). z && is_filed_at vtocs (home_of b u) q) (there_same a b uid count change u)
-    ∙ ap (λ (h : Home). is_there a.nodes u && is_filed_at vtocs h q) (home_same a b uid count change u)
+    ap (λ (z : Bool). z && is_filed_at vtocs (home_of b u) q) (recount_there a b uid count change u)
+    ∙ ap (λ (h : Home). is_there a.nodes u && is_filed_at vtocs h q) (recount_homes a b uid count change u)
 
 pub picture_recounted : (a b : AccountMaps) (uid count : ℕ) → Recounts a b uid count
     → (image : ℕ → Home → ℕ → List ℕ) (u q : ℕ) → picture b image u q ≡ picture a image u q
 unfolding picture
 picture_recounted a b uid count change image u q =
-    ap (λ (z : Bool). cond z (image u (home_of b u) q) (replicate 1024 0)) (there_same a b uid count change u)
+    ap (λ (z : Bool). cond z (image u (home_of b u) q) (replicate 1024 0)) (recount_there a b uid count change u)
     ∙ ap (λ (h : Home). cond (is_there a.nodes u) (image u h q) (replicate 1024 0))
-    (home_same a b uid count change u)
+    (recount_homes a b uid count change u)
 
 -- the pages without one are as many as the accounts count then
 counts_less : (a b : AccountMaps) (uid p : ℕ) (stored : List (ℕ × ℕ)) → Recounts a b uid (count_of a uid - 1)
@@ -103,12 +105,12 @@ counts_less a b uid p stored change once on counts v =
       | inl is ↦
           (let one : weight (eqb uid v) ≡ 1 = ap weight (eq-eqb uid v (sym is)) in
           let here : count_of b v ≡ count_of a uid - 1 = ap (count_of b) is
-          ∙ count_here a b uid (count_of a uid - 1) change in
+          ∙ recount_here a b uid (count_of a uid - 1) change in
           let from : count_of a v ≡ count_of a uid = ap (count_of a) is in
           omega (arith, sum, was, one, here, from))
       | inr ne ↦
           (let none : weight (eqb uid v) ≡ 0 = ap weight (ne_eqb uid v (λ e. ne (sym e))) in
-          let same = count_other a b uid (count_of a uid - 1) change v ne in
+          let same = recount_other a b uid (count_of a uid - 1) change v ne in
           omega (arith, sum, was, none, same))
     ]
 
@@ -123,7 +125,7 @@ module _ (old now : Plain) (ast next : ActiveSegs) (links : Links) (a b : Accoun
       ∙ filed_word old ast links a whos kept h uid active p ∙ on
 
   was_used : uid_at old.vtocs home ≡ Some uid
-  was_used = ap (uid_at old.vtocs) own ∙ (home_own old ast links a whos kept h uid active).used
+  was_used = ap (uid_at old.vtocs) own ∙ (active_home old ast links a whos kept h uid active).used
 
   less : 1 ≤ count_of a uid
   less = page_counted old ast links a whos kept h uid active p on
@@ -144,7 +146,7 @@ module _ (old now : Plain) (ast next : ActiveSegs) (links : Links) (a b : Accoun
       (ap (λ (x : Plain). x.records) effect) (ap (λ (x : ActiveSegs). x.entries) word)
       (ap (λ (x : ActiveSegs). x.sizes) word) h)
   store_left (Ok Released) record_was effect word stored count settled =
-      let vtocs : now.vtocs ≡ refiled old.vtocs home p None = ap (λ (x : Plain). x.vtocs) effect in
+      let vtocs : now.vtocs ≡ map_put old.vtocs home p None = ap (λ (x : Plain). x.vtocs) effect in
       let there = active_there old ast links a whos kept h uid active in
       let named : named_at now.vtocs home + 1 ≡ named_at old.vtocs home
       = ap (λ (t : List (List (Option VtocEntry))). named_at t home + 1) vtocs
@@ -154,9 +156,9 @@ module _ (old now : Plain) (ast next : ActiveSegs) (links : Links) (a b : Accoun
       let sum : named_at now.vtocs home ≡ count_of a uid - 1 = omega (arith, named, counted) in
       store_recounted old now a b uid (count_of a uid - 1) settled there
       (λ other. ap (λ (t : List (List (Option VtocEntry))). uid_at t other) vtocs
-      ∙ uids_refiled old.vtocs home uid was_used p None other)
+      ∙ put_uid old.vtocs home uid p None was_used other)
       (λ other ne. ap (λ (t : List (List (Option VtocEntry))). map_at t other) vtocs
-      ∙ maps_refiled old.vtocs home uid was_used p None other (λ e. ne (e ∙ own)))
+      ∙ put_other old.vtocs home uid p None was_used other (λ e. ne (e ∙ own)))
       h.housed ast next links whos (ap (λ (x : ActiveSegs). x.entries) word) (ap (λ (x : ActiveSegs). x.sizes) word)
       keeps (ap (named_at now.vtocs) (sym own) ∙ sum)
       (λ q filed. still_within q (ap (λ (x : Home). is_filed_at now.vtocs x q) own ∙ filed))
@@ -204,9 +206,9 @@ shown_less drive plan s t u uid p change there on whos links housed stored words
         (o / 1024)));
   };
   script = record {
-    records = λ v. h.script.records v ∙ sym (size_same (plain drive t.segs.pages) (plain drive u.segs.pages) keeps v);
+    records = λ v. h.script.records v ∙ sym (same_sizes (plain drive t.segs.pages) (plain drive u.segs.pages) v keeps);
     entries = λ v. h.script.entries v
-        ∙ sym (entries_same (plain drive t.segs.pages) (plain drive u.segs.pages) keeps v);
+        ∙ sym (same_entries (plain drive t.segs.pages) (plain drive u.segs.pages) v keeps);
     whos = whos ∙ h.script.whos;
   };
 }

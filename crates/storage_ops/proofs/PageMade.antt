@@ -20,21 +20,21 @@ use Rattle.page_control.specs.Plain.{Plain, plain}
 use Rattle.page_control.specs.Counts.{KeepsCounts, one_more, taken}
 use Rattle.page_control.specs.Effects.{created, next_record}
 use Rattle.page_control.specs.Picture.{ChangesStored, ChangesWords, is_filed_at, words_at}
-use Rattle.page_control.specs.Tied.{frame_of, has_record, map_at, uid_at}
+use Rattle.page_control.specs.Tied.{has_record, map_at, uid_at}
 use Rattle.seg_control.specs.Control.{Links, word_of}
 use Rattle.seg_control.specs.Effects.{worded}
 use Rattle.seg_control.specs.Kept.{IsKept}
 use Rattle.storage_ops.specs.Paged.{page_made}
 use Rattle.storage_ops.specs.Shown.{AreHoused, IsStore, Shows, Storage, home_of, is_filed, is_there, named_at, pages_in}
 use Rattle.storage_ops.specs.Shown.{picture}
-use Rattle.storage_ops.proofs.Homes.{words_none}
+use Rattle.storage_ops.proofs.Dropped.{recount_here, recount_other, same_entries, same_sizes}
+use Rattle.storage_ops.proofs.Entries.{map_put, put_other, put_uid}
+use Rattle.storage_ops.proofs.PageFacts.{filed_word}
+use Rattle.storage_ops.proofs.PageMoves.{named_more, records_more, store_recounted, weight}
+use Rattle.storage_ops.proofs.Paged.{active_home, active_there, picture_none, picture_there, word_filed}
 use Rattle.storage_ops.proofs.Lengths.{filed_there}
-use Rattle.storage_ops.proofs.PageFacts.{active_there, filed_word, home_own, tied_own}
 use Rattle.storage_ops.proofs.PageLeft.{filed_changed, filed_recounted, picture_recounted}
-use Rattle.storage_ops.proofs.PageMoves.{count_here, count_other, entries_same, maps_refiled, named_more}
-use Rattle.storage_ops.proofs.PageMoves.{records_more, refiled, size_same, store_recounted, uids_refiled}
-use Rattle.storage_ops.proofs.PageMoves.{weight}
-use Rattle.storage_ops.proofs.PageWords.{IsPageChanged, at_page, words_told}
+use Rattle.storage_ops.proofs.PageWords.{IsPageChanged, words_told}
 
 -- ---- what is stored
 
@@ -48,12 +48,12 @@ counts_more a b uid p stored change off counts v =
       | inl is ↦
           (let one : weight (eqb uid v) ≡ 1 = ap weight (eq-eqb uid v (sym is)) in
           let here : count_of b v ≡ count_of a uid + 1 = ap (count_of b) is
-          ∙ count_here a b uid (count_of a uid + 1) change in
+          ∙ recount_here a b uid (count_of a uid + 1) change in
           let from : count_of a v ≡ count_of a uid = ap (count_of a) is in
           omega (arith, sum, was, one, here, from))
       | inr ne ↦
           (let none : weight (eqb uid v) ≡ 0 = ap weight (ne_eqb uid v (λ e. ne (sym e))) in
-          let same = count_other a b uid (count_of a uid + 1) change v ne in
+          let same = recount_other a b uid (count_of a uid + 1) change v ne in
           omega (arith, sum, was, none, same))
     ]
 
@@ -78,11 +78,11 @@ module _ (old now : Plain) (ast next : ActiveSegs) (links : Links) (a b : Accoun
       ∙ ap has_record off
 
   was_used : uid_at old.vtocs home ≡ Some uid
-  was_used = ap (uid_at old.vtocs) own ∙ (home_own old ast links a whos kept h uid active).used
+  was_used = ap (uid_at old.vtocs) own ∙ (active_home old ast links a whos kept h uid active).used
 
   pub store_made : IsStore now next links b whos
   store_made =
-      let vtocs : now.vtocs ≡ refiled old.vtocs home p (Some (next_record old home))
+      let vtocs : now.vtocs ≡ map_put old.vtocs home p (Some (next_record old home))
       = ap (λ (x : Plain). x.vtocs) effect in
       let there = active_there old ast links a whos kept h uid active in
       let named : named_at now.vtocs home ≡ named_at old.vtocs home + 1
@@ -94,9 +94,9 @@ module _ (old now : Plain) (ast next : ActiveSegs) (links : Links) (a b : Accoun
       let sum : named_at now.vtocs home ≡ count_of a uid + 1 = omega (arith, named, counted) in
       store_recounted old now a b uid (count_of a uid + 1) change there
       (λ other. ap (λ (t : List (List (Option VtocEntry))). uid_at t other) vtocs
-      ∙ uids_refiled old.vtocs home uid was_used p (Some (next_record old home)) other)
+      ∙ put_uid old.vtocs home uid p (Some (next_record old home)) was_used other)
       (λ other ne. ap (λ (t : List (List (Option VtocEntry))). map_at t other) vtocs
-      ∙ maps_refiled old.vtocs home uid was_used p (Some (next_record old home)) other (λ e. ne (e ∙ own)))
+      ∙ put_other old.vtocs home uid p (Some (next_record old home)) was_used other (λ e. ne (e ∙ own)))
       h.housed ast next links whos (ap (λ (x : ActiveSegs). x.entries) word) (ap (λ (x : ActiveSegs). x.sizes) word)
       keeps (ap (named_at now.vtocs) (sym own) ∙ sum)
       (λ q filed. still_within q (ap (λ (x : Home). is_filed_at now.vtocs x q) own ∙ filed))
@@ -117,13 +117,9 @@ pub zeros_null : (old : Plain) (ast : ActiveSegs) (links : Links) (a : AccountMa
     → IsKept old ast links → IsStore old ast links a whos → IsActive ast.entries uid → word_of ast uid p ≡ Null
     → words_at old uid (home_of a uid) p ≡ replicate 1024 0
 zeros_null old ast links a whos uid p kept h active off =
-    words_none old uid p (home_of a uid)
-    (λ f bound. (let named = (tied_own old ast links a whos kept h uid active).table.named f p bound in
-    no_frame f (ap frame_of (sym off) ∙ named)))
-    (filed_word old ast links a whos kept h uid active p ∙ ap has_record off)
-  where
-    no_frame : (f : ℕ) → frame_of Null ≡ Some f → ⊥
-    no_frame f e = cc
+    sym (picture_there a (words_at old) uid p (active_there old ast links a whos kept h uid active))
+    ∙ picture_none old ast links a whos kept h uid p
+    (word_filed old ast links a whos kept h uid active p ∙ ap has_record off)
 
 other_words : (old now : Plain) (a : AccountMaps) (uid p : ℕ) (new : List ℕ) → AreHoused a old.vtocs
     → ChangesWords old now uid (home_of a uid) p new → (u q : ℕ) → (u ≡ uid → q ≡ p → ⊥)
@@ -143,8 +139,8 @@ changed_words : (old now : Plain) (a : AccountMaps) (uid p : ℕ) (words new : L
     → ChangesWords old now uid (home_of a uid) p new
     → IsPageChanged a (words_at old) (words_at now) uid p words new
 changed_words old now a uid p words new housed there held change = record {
-  before = at_page a (words_at old) uid p there ∙ held;
-  here = at_page a (words_at now) uid p there ∙ change.here;
+  before = picture_there a (words_at old) uid p there ∙ held;
+  here = picture_there a (words_at now) uid p there ∙ change.here;
   pages = λ q ne. other_words old now a uid p new housed change uid q (λ is page. ne page);
   others = λ u q ne. other_words old now a uid p new housed change u q (λ is page. ne is);
 }
@@ -192,8 +188,8 @@ shown_made drive plan s t u uid p at w kept store active off within change whos 
             (o / 1024)));
       };
       script = record {
-        records = λ v. h.script.records v ∙ sym (size_same old (plain drive u.segs.pages) keeps v);
-        entries = λ v. h.script.entries v ∙ sym (entries_same old (plain drive u.segs.pages) keeps v);
+        records = λ v. h.script.records v ∙ sym (same_sizes old (plain drive u.segs.pages) v keeps);
+        entries = λ v. h.script.entries v ∙ sym (same_entries old (plain drive u.segs.pages) v keeps);
         whos = whos ∙ h.script.whos;
       };
     })

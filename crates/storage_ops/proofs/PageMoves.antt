@@ -1,30 +1,30 @@
 -- A page of a segment is stored, or is stored no more.
 use Rattle.std.proofs.Common.{◌≡◌, ◌≢◌, ℕ, ◌+◌, ◌-◌, ◌<◌, ◌≤◌, Bool, true, false, cond, eqb}
-use Rattle.std.proofs.Common.{List, [], ◌∷◌, length, map, Option, Some, None, get_or, set, is_some, refl, sym}
+use Rattle.std.proofs.Common.{List, [], ◌∷◌, length, Option, Some, None, get_or, is_some, refl, sym}
 use Rattle.std.proofs.Common.{ap, subst, ◌∙◌, arith, inl, inr}
 use Rattle.std.specs.Prelude.{count_by}
 use Rattle.std.proofs.lemmas.Bool.{cases_eq, eqb-true, ne_eqb}
 use Rattle.std.proofs.lemmas.Bool.Decides.{nat_tests}
-use Rattle.std.proofs.lemmas.List.{get_or-set_other, get_or-set_same, length-set}
+use Rattle.std.proofs.lemmas.List.{length-set}
 use Rattle.std.proofs.lemmas.List.Sums.{sum_by-cons, sum_by-set}
-use Rattle.std.proofs.Math.ListN.{get_or-map}
 use Rattle.mnames.specs.declared.principals.Who.{Who}
-use Rattle.accounts.specs.Maps.{AccountMaps, Counts, Recounts, count_of, entry_of}
-use Rattle.quota_cells.specs.Accounts.{look}
+use Rattle.accounts.specs.Maps.{AccountMaps, Counts, Recounts, count_of}
 use Rattle.tree_model.specs.Tree.{Node, entries_on, has_directory, taken_on, volume_in}
-use Rattle.vtoc.specs.Vtoc.{Entry as VtocEntry, entry_at, records_in, uid_of, with_record}
+use Rattle.vtoc.specs.Vtoc.{Entry as VtocEntry}
 use Rattle.active_segs.specs.declared.Entry.{Entry}
 use Rattle.active_segs.specs.Active.{ActiveSegs}
 use Rattle.page_control.specs.declared.Home.{Home}
 use Rattle.page_control.specs.Plain.{Plain}
-use Rattle.page_control.specs.Counts.{KeepsCounts, entries, one_less, one_more, size, taken, used}
+use Rattle.page_control.specs.Counts.{KeepsCounts, entries, one_less, one_more, taken}
 use Rattle.page_control.specs.Picture.{is_filed_at}
-use Rattle.page_control.specs.Tied.{map_at, uid_at, vtoc_in}
+use Rattle.page_control.specs.Tied.{map_at, uid_at}
 use Rattle.seg_control.specs.Control.{Links}
 use Rattle.storage_ops.specs.Shown.{AreCounted, AreHoused, AreInTree, HaveRights, IsStore, home_of, is_there}
 use Rattle.storage_ops.specs.Shown.{named_at, pages_in}
-use Rattle.storage_ops.proofs.Homes.{filed_map, home_cases}
-use Rattle.storage_ops.proofs.Tables.{homed_entry, homed_volume}
+use Rattle.storage_ops.proofs.Dropped.{recount_here, recount_homes, recount_other, recount_there, same_sizes}
+use Rattle.storage_ops.proofs.Dropped.{same_used}
+use Rattle.storage_ops.proofs.Entries.{map_put, put_here}
+use Rattle.storage_ops.proofs.Homes.{filed_map}
 use Rattle.storage_ops.proofs.PageFacts.{within_some}
 
 -- ---- lists of stored pages, by their uids
@@ -76,69 +76,18 @@ one_out (x ∷ xs) uid some = by (eqb x.0 uid) refl (λ rest. one_out xs uid res
 
 -- ---- a file map names a record more, or one less
 
-abbrev pub refiled : List (List (Option VtocEntry)) → Home → ℕ → Option ℕ → List (List (Option VtocEntry))
-refiled vtocs home p place = set vtocs home.volume (set (vtoc_in vtocs home.volume) home.entry
-    (with_record (entry_at (vtoc_in vtocs home.volume) home.entry) p place))
-
 module _ (vtocs : List (List (Option VtocEntry))) (home : Home) (u : ℕ) (used_for : uid_at vtocs home ≡ Some u)
     (p : ℕ) (place : Option ℕ) where
-  now : List (List (Option VtocEntry))
-  now = refiled vtocs home p place
-
-  entry_here : entry_at (vtoc_in (refiled vtocs home p place) home.volume) home.entry
-      ≡ with_record (entry_at (vtoc_in vtocs home.volume) home.entry) p place
-  entry_here =
-      ap (λ (t : List (Option VtocEntry)). entry_at t home.entry)
-      (get_or-set_same vtocs home.volume _ [] (homed_volume vtocs home u used_for))
-      ∙ get_or-set_same (vtoc_in vtocs home.volume) home.entry _ None (homed_entry vtocs home u used_for)
-
-  entry_other : (other : Home) → other ≢ home
-      → entry_at (vtoc_in (refiled vtocs home p place) other.volume) other.entry
-      ≡ entry_at (vtoc_in vtocs other.volume) other.entry
-  entry_other other ne = elim (cases_eq other.volume home.volume) [
-    | inr apart ↦ ap (λ (t : List (Option VtocEntry)). entry_at t other.entry)
-        (get_or-set_other vtocs home.volume other.volume _ [] apart)
-    | inl same ↦
-        ap (λ (v : ℕ). entry_at (vtoc_in (refiled vtocs home p place) v) other.entry) same
-        ∙ ap (λ (t : List (Option VtocEntry)). entry_at t other.entry)
-        (get_or-set_same vtocs home.volume _ [] (homed_volume vtocs home u used_for))
-        ∙ get_or-set_other (vtoc_in vtocs home.volume) home.entry other.entry _ None (λ e. ne
-        (ap (λ (v : ℕ). record { volume = v; entry = other.entry }) same
-        ∙ ap (λ (k : ℕ). record { volume = home.volume; entry = k }) e))
-        ∙ ap (λ (v : ℕ). entry_at (vtoc_in vtocs v) other.entry) (sym same)
-  ]
-
-  same_uid : (o : Option VtocEntry) → uid_of (with_record o p place) ≡ uid_of o
-  same_uid None = refl
-  same_uid (Some e) = refl
-
-  pub uids_refiled : (other : Home) → uid_at (refiled vtocs home p place) other ≡ uid_at vtocs other
-  uids_refiled other = elim (home_cases other home) [
-    | inl is ↦ ap (uid_at (refiled vtocs home p place)) is ∙ ap uid_of entry_here
-        ∙ same_uid (entry_at (vtoc_in vtocs home.volume) home.entry) ∙ ap (uid_at vtocs) (sym is)
-    | inr ne ↦ ap uid_of (entry_other other ne)
-  ]
-
-  pub maps_refiled : (other : Home) → other ≢ home → map_at (refiled vtocs home p place) other ≡ map_at vtocs other
-  maps_refiled other ne = ap records_in (entry_other other ne)
-
-  used_map : (o : Option VtocEntry) → uid_of o ≡ Some u
-      → records_in (with_record o p place) ≡ set (records_in o) p place
-  used_map None e = cc
-  used_map (Some x) e = refl
-
-  pub map_refiled : map_at (refiled vtocs home p place) home ≡ set (map_at vtocs home) p place
-  map_refiled = ap records_in entry_here ∙ used_map (entry_at (vtoc_in vtocs home.volume) home.entry) used_for
-
   recounted : p < length (map_at vtocs home)
-      → named_at (refiled vtocs home p place) home + weight (is_some (get_or (map_at vtocs home) p None))
+      → named_at (map_put vtocs home p place) home + weight (is_some (get_or (map_at vtocs home) p None))
       ≡ named_at vtocs home + weight (is_some place)
   recounted lt = ap (λ (m : List (Option ℕ)). count_by is_some m + weight (is_some (get_or (map_at vtocs home) p None)))
-      map_refiled ∙ sum_by-set (λ (o : Option ℕ). weight (is_some o)) (map_at vtocs home) p place None lt
+      (put_here vtocs home u p place used_for)
+      ∙ sum_by-set (λ (o : Option ℕ). weight (is_some o)) (map_at vtocs home) p place None lt
 
 -- a page was filed, and is no more
 pub named_less : (vtocs : List (List (Option VtocEntry))) (home : Home) (u p : ℕ) → uid_at vtocs home ≡ Some u
-    → is_filed_at vtocs home p ≡ true → named_at (refiled vtocs home p None) home + 1 ≡ named_at vtocs home
+    → is_filed_at vtocs home p ≡ true → named_at (map_put vtocs home p None) home + 1 ≡ named_at vtocs home
 named_less vtocs home u p used_for on =
     let filed = sym (filed_map vtocs home p) ∙ on in
     let sum = recounted vtocs home u used_for p None (within_some (map_at vtocs home) p filed) in
@@ -147,13 +96,13 @@ named_less vtocs home u p used_for on =
 
 -- a page wasn't filed, and is now
 pub named_more : (vtocs : List (List (Option VtocEntry))) (home : Home) (u p r : ℕ) → uid_at vtocs home ≡ Some u
-    → is_filed_at vtocs home p ≡ false → is_filed_at (refiled vtocs home p (Some r)) home p ≡ true
-    → named_at (refiled vtocs home p (Some r)) home ≡ named_at vtocs home + 1
+    → is_filed_at vtocs home p ≡ false → is_filed_at (map_put vtocs home p (Some r)) home p ≡ true
+    → named_at (map_put vtocs home p (Some r)) home ≡ named_at vtocs home + 1
 named_more vtocs home u p r used_for off on =
-    let filed = sym (filed_map (refiled vtocs home p (Some r)) home p) ∙ on in
-    let lt = within_some (map_at (refiled vtocs home p (Some r)) home) p filed in
-    let long : length (map_at (refiled vtocs home p (Some r)) home) ≡ length (map_at vtocs home)
-    = ap length (map_refiled vtocs home u used_for p (Some r)) ∙ length-set (map_at vtocs home) p (Some r) in
+    let filed = sym (filed_map (map_put vtocs home p (Some r)) home p) ∙ on in
+    let lt = within_some (map_at (map_put vtocs home p (Some r)) home) p filed in
+    let long : length (map_at (map_put vtocs home p (Some r)) home) ≡ length (map_at vtocs home)
+    = ap length (put_here vtocs home u p (Some r) used_for) ∙ length-set (map_at vtocs home) p (Some r) in
     let sum = recounted vtocs home u used_for p (Some r) (omega (arith, lt, long)) in
     let none : weight (is_some (get_or (map_at vtocs home) p None)) ≡ 0
     = ap weight (sym (filed_map vtocs home p) ∙ off) in
@@ -171,28 +120,6 @@ flip a b = by (eqb a b) refl
         own : (x : ℕ) → eqb x x ≡ true
         own x = grind (arith, nat_tests)
     by false e = (let ne : a ≢ b = grind (arith, nat_tests) in ap weight (sym (ne_eqb b a (λ x. ne (sym x)))))
-
-module _ (a b : AccountMaps) (uid count : ℕ) (change : Recounts a b uid count) where
-  pub count_here : count_of b uid ≡ count
-  count_here = change.counts uid ∙ ap (λ (z : Bool). cond z count (count_of a uid)) (own uid)
-    where
-      own : (x : ℕ) → eqb x x ≡ true
-      own x = grind (arith, nat_tests)
-
-  pub count_other : (u : ℕ) → u ≢ uid → count_of b u ≡ count_of a u
-  count_other u ne = change.counts u
-      ∙ ap (λ (z : Bool). cond z count (count_of a u)) (ne_eqb uid u (λ e. ne (sym e)))
-
-  pub home_same : (u : ℕ) → home_of b u ≡ home_of a u
-  home_same u =
-      ap (λ (v : ℕ). record { volume = v; entry = entry_of b u })
-      (ap (λ (ns : List Node). volume_in ns u) change.nodes)
-      ∙ ap (λ (e : ℕ). record { volume = volume_in a.nodes u; entry = e })
-      (ap (λ (es : List ℕ). look (map (λ n. n.uid) b.nodes) es u) change.entries
-      ∙ ap (λ (ns : List Node). look (map (λ n. n.uid) ns) a.entries u) change.nodes)
-
-  pub there_same : (u : ℕ) → is_there b.nodes u ≡ is_there a.nodes u
-  there_same u = ap (λ (ns : List Node). is_there ns u) change.nodes
 
 -- the stored pages that the accounts count on a volume, with one of a segment there and without it
 taken_one : (ns : List Node) (small large : List (ℕ × ℕ)) (uid v : ℕ) → IsOneMore small large uid
@@ -223,7 +150,7 @@ module _ (a b : AccountMaps) (uid : ℕ) (old now : List (List Bool)) where
       → ((stored : List (ℕ × ℕ)) (v : ℕ) → Counts a stored → taken old v ≡ taken_on a.nodes stored v)
       → (stored : List (ℕ × ℕ)) (v : ℕ) → Counts b stored → taken now v ≡ taken_on b.nodes stored v
   records_more change counted was stored v counts =
-      let here : count_of b uid ≡ count_of a uid + 1 = count_here a b uid (count_of a uid + 1) change in
+      let here : count_of b uid ≡ count_of a uid + 1 = recount_here a b uid (count_of a uid + 1) change in
       let all : count_of b uid ≡ pages_by (λ n. eqb n uid) stored = counts uid in
       let out = one_out stored uid (omega (arith, here, all)) in
       let each : Counts a out.0 = λ u. (
@@ -242,13 +169,13 @@ module _ (a b : AccountMaps) (uid : ℕ) (old now : List (List Bool)) where
       before : (u n : ℕ) → Recounts a b uid (count_of a uid + 1) → count_of b u ≡ weight (eqb uid u) + n
           → count_of a u ≡ n
       before u n change e = elim (cases_eq u uid) [
-        | inl is ↦ (let here = count_here a b uid (count_of a uid + 1) change in
+        | inl is ↦ (let here = recount_here a b uid (count_of a uid + 1) change in
             let one : weight (eqb uid u) ≡ 1 = ap (λ (x : ℕ). weight (eqb uid x)) is ∙ ap weight (own uid) in
             let at : count_of b u ≡ count_of b uid = ap (count_of b) is in
             let from : count_of a u ≡ count_of a uid = ap (count_of a) is in
             omega (arith, here, one, at, from, e))
         | inr ne ↦ (let none : weight (eqb uid u) ≡ 0 = ap weight (ne_eqb uid u (λ x. ne (sym x))) in
-            let same = count_other a b uid (count_of a uid + 1) change u ne in omega (arith, none, same, e))
+            let same = recount_other a b uid (count_of a uid + 1) change u ne in omega (arith, none, same, e))
       ]
         where
           own : (x : ℕ) → eqb x x ≡ true
@@ -274,33 +201,17 @@ module _ (a b : AccountMaps) (uid : ℕ) (old now : List (List Bool)) where
       after : (u : ℕ) → Recounts a b uid (count_of a uid - 1) → count_of b u ≡ pages_by (λ n. eqb n u) stored
           → count_of a u ≡ weight (eqb uid u) + pages_by (λ n. eqb n u) stored
       after u change e = elim (cases_eq u uid) [
-        | inl is ↦ (let here = count_here a b uid (count_of a uid - 1) change in
+        | inl is ↦ (let here = recount_here a b uid (count_of a uid - 1) change in
             let one : weight (eqb uid u) ≡ 1 = ap (λ (x : ℕ). weight (eqb uid x)) is ∙ ap weight (own uid) in
             let at : count_of b u ≡ count_of b uid = ap (count_of b) is in
             let from : count_of a u ≡ count_of a uid = ap (count_of a) is in
             omega (arith, here, one, at, from, e, some))
         | inr ne ↦ (let none : weight (eqb uid u) ≡ 0 = ap weight (ne_eqb uid u (λ x. ne (sym x))) in
-            let same = count_other a b uid (count_of a uid - 1) change u ne in omega (arith, none, same, e))
+            let same = recount_other a b uid (count_of a uid - 1) change u ne in omega (arith, none, same, e))
       ]
         where
           own : (x : ℕ) → eqb x x ≡ true
           own x = grind (arith, nat_tests)
-
--- ---- sizes
-
-module _ (old now : Plain) (counts : KeepsCounts old now) where
-  pub used_same : (v : ℕ) → used now.vtocs v ≡ used old.vtocs v
-  used_same v = sym (get_or-map (count_by is_some) now.vtocs v [])
-      ∙ ap (λ (ns : List ℕ). get_or ns v 0) counts.used ∙ get_or-map (count_by is_some) old.vtocs v []
-
-  pub entries_same : (v : ℕ) → entries now.vtocs v ≡ entries old.vtocs v
-  entries_same v = sym (get_or-map (length {A = Option VtocEntry}) now.vtocs v [])
-      ∙ ap (λ (ns : List ℕ). get_or ns v 0) counts.places
-      ∙ get_or-map (length {A = Option VtocEntry}) old.vtocs v []
-
-  pub size_same : (v : ℕ) → size now.records v ≡ size old.records v
-  size_same v = sym (get_or-map (length {A = Bool}) now.records v [])
-      ∙ ap (λ (ns : List ℕ). get_or ns v 0) counts.flags ∙ get_or-map (length {A = Bool}) old.records v []
 
 -- ---- the whole
 
@@ -312,10 +223,10 @@ module _ (old now : Plain) (a b : AccountMaps) (uid count : ℕ) (change : Recou
     (housed : AreHoused a old.vtocs) where
   pub housed_recounted : AreHoused b now.vtocs
   housed_recounted = record {
-    homes = λ u t. ap (uid_at now.vtocs) (home_same a b uid count change u) ∙ uids (home_of a u)
-        ∙ housed.homes u (sym (there_same a b uid count change u) ∙ t);
-    there = λ home u e. there_same a b uid count change u ∙ housed.there home u (sym (uids home) ∙ e);
-    only = λ home u e. housed.only home u (sym (uids home) ∙ e) ∙ sym (home_same a b uid count change u);
+    homes = λ u t. ap (uid_at now.vtocs) (recount_homes a b uid count change u) ∙ uids (home_of a u)
+        ∙ housed.homes u (sym (recount_there a b uid count change u) ∙ t);
+    there = λ home u e. recount_there a b uid count change u ∙ housed.there home u (sym (uids home) ∙ e);
+    only = λ home u e. housed.only home u (sym (uids home) ∙ e) ∙ sym (recount_homes a b uid count change u);
   }
 
   -- another node has another home
@@ -338,16 +249,17 @@ module _ (old now : Plain) (a b : AccountMaps) (uid count : ℕ) (change : Recou
   counted_recounted named inside h = record {
     counts = λ u t. elim (cases_eq u uid) [
       | inl is ↦ ap (λ (x : ℕ). named_at now.vtocs (home_of b x)) is
-          ∙ ap (named_at now.vtocs) (home_same a b uid count change uid) ∙ named
-          ∙ sym (ap (count_of b) is ∙ count_here a b uid count change)
-      | inr ne ↦ (let was = sym (there_same a b uid count change u) ∙ t in
-          ap (named_at now.vtocs) (home_same a b uid count change u)
+          ∙ ap (named_at now.vtocs) (recount_homes a b uid count change uid) ∙ named
+          ∙ sym (ap (count_of b) is ∙ recount_here a b uid count change)
+      | inr ne ↦ (let was = sym (recount_there a b uid count change u) ∙ t in
+          ap (named_at now.vtocs) (recount_homes a b uid count change u)
           ∙ ap (count_by is_some) (maps (home_of a u) (other_home u was ne))
-          ∙ h.counts u was ∙ sym (count_other a b uid count change u ne))
+          ∙ h.counts u was ∙ sym (recount_other a b uid count change u ne))
     ];
     inside = λ u q t on. (
-        let was = sym (there_same a b uid count change u) ∙ t in
-        let filed = ap (λ (home : Home). is_filed_at now.vtocs home q) (sym (home_same a b uid count change u)) ∙ on in
+        let was = sym (recount_there a b uid count change u) ∙ t in
+        let filed = ap (λ (home : Home). is_filed_at now.vtocs home q) (sym (recount_homes a b uid count change u))
+        ∙ on in
         subst (λ (ns : List Node). q < pages_in ns u) (sym change.nodes) (elim (cases_eq u uid) [
           | inl is ↦ subst (λ (x : ℕ). q < pages_in a.nodes x) (sym is)
               (inside q (ap (λ (x : ℕ). is_filed_at now.vtocs (home_of a x) q) (sym is) ∙ filed))
@@ -355,8 +267,8 @@ module _ (old now : Plain) (a b : AccountMaps) (uid count : ℕ) (change : Recou
         ]));
     absent = λ u off. elim (cases_eq u uid) [
       | inl is ↦ (let clash : true ≡ false = sym there ∙ ap (is_there a.nodes) (sym is)
-          ∙ sym (there_same a b uid count change u) ∙ off in cc)
-      | inr ne ↦ count_other a b uid count change u ne ∙ h.absent u (sym (there_same a b uid count change u) ∙ off)
+          ∙ sym (recount_there a b uid count change u) ∙ off in cc)
+      | inr ne ↦ recount_other a b uid count change u ne ∙ h.absent u (sym (recount_there a b uid count change u) ∙ off)
     ];
     most = λ u. subst (λ (ns : List Node). pages_in ns u ≤ 256) (sym change.nodes) (h.most u);
     flat = λ u d. ap (λ (ns : List Node). pages_in ns u) change.nodes
@@ -374,9 +286,9 @@ module _ (old now : Plain) (a b : AccountMaps) (uid count : ℕ) (change : Recou
     counted = counted_recounted named inside h.counted;
     taken = record {
       records = records;
-      entries = λ v. used_same old now keeps v ∙ h.taken.entries v
+      entries = λ v. same_used old now v keeps ∙ h.taken.entries v
           ∙ ap (λ (ns : List Node). entries_on ns v) (sym change.nodes);
-      short = λ v. subst (λ (n : ℕ). n < 65536) (sym (size_same old now keeps v)) (h.taken.short v);
+      short = λ v. subst (λ (n : ℕ). n < 65536) (sym (same_sizes old now v keeps)) (h.taken.short v);
     };
     active = subst (λ (ns : List Node). AreInTree ns next) (sym change.nodes) still;
     rights = subst (λ (ns : List Node). HaveRights ns next.entries links whos) (sym change.nodes)

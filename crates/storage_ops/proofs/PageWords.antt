@@ -21,6 +21,7 @@ use Rattle.seg_control.specs.Control.{Links}
 use Rattle.seg_control.specs.Kept.{IsKept}
 use Rattle.volumes.specs.Volumes.{Vols}
 use Rattle.storage_ops.specs.Shown.{Shows, ShowsTree, Storage, home_of, is_filed, is_there, picture}
+use Rattle.storage_ops.proofs.Paged.{picture_there}
 use Rattle.storage_ops.specs.Paged.{word_written}
 
 -- what a bound frame is bound to
@@ -43,11 +44,6 @@ module _ (now : Plain) (ast : ActiveSegs) (links : Links) (kept : IsKept now ast
 
   pub bound_named : frame_of (ptw_at (table_at ast.tables bound_active.0) (number_in (frame_at now.core f))) ≡ Some f
   bound_named = bound_table.named f (number_in (frame_at now.core f)) binding
-
-pub at_page : (a : AccountMaps) (image : ℕ → Home → ℕ → List ℕ) (u q : ℕ) → is_there a.nodes u ≡ true
-    → picture a image u q ≡ image u (home_of a u) q
-unfolding picture
-at_page a image u q t = ap (λ (z : Bool). cond z (image u (home_of a u) q) (replicate 1024 0)) t
 
 pub same_page : (a : AccountMaps) (image next : ℕ → Home → ℕ → List ℕ) (u q : ℕ)
     → next u (home_of a u) q ≡ image u (home_of a u) q → picture a next u q ≡ picture a image u q
@@ -92,8 +88,8 @@ pub page_changed : (a : AccountMaps) (image next : ℕ → Home → ℕ → List
     → is_there a.nodes uid ≡ true → next ≡ changed_page image uid p new → image uid (home_of a uid) p ≡ old
     → IsPageChanged a image next uid p old new
 page_changed a image next uid p old new there change held = record {
-  before = at_page a image uid p there ∙ held;
-  here = at_page a next uid p there ∙ next_at uid (home_of a uid) p
+  before = picture_there a image uid p there ∙ held;
+  here = picture_there a next uid p there ∙ next_at uid (home_of a uid) p
       ∙ changed_here (λ v. image v (home_of a uid)) uid p new;
   pages = λ q ne. same_page a image next uid q (next_at uid (home_of a uid) q
       ∙ changed_number (λ v. image v (home_of a uid)) uid p new uid q ne);
@@ -164,7 +160,7 @@ word_at drive plan s t uid p at words there held within h =
     h.pages.words uid (1024 * p + at)
     ∙ ap (λ (q : ℕ). get_or (picture t.accounts image uid q) ((1024 * p + at) % 1024) 0) page
     ∙ ap (λ (k : ℕ). get_or (picture t.accounts image uid p) k 0) place
-    ∙ ap (λ (ws : List ℕ). get_or ws at 0) (at_page t.accounts image uid p there ∙ held)
+    ∙ ap (λ (ws : List ℕ). get_or ws at 0) (picture_there t.accounts image uid p there ∙ held)
 
 -- a store that shows a flat store shows it with the word
 pub shown_put : {D : Type 0} (drive : D → List (List ℕ)) (plan : Plan) (s : Store) (t u : Storage D)

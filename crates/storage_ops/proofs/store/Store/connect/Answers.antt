@@ -6,7 +6,7 @@ use Rattle.seg_control.specs.Effects.{linked}
 use Rattle.storage_ops.specs.Connecting.{IsRight}
 use Rattle.storage_ops.specs.Shown.{IsStore, Shows, Storage}
 use Rattle.storage_ops.proofs.LinkLaws.{shown_linked, store_linked}
-use Rattle.storage_ops.proofs.PageFacts.{place_active}
+use Rattle.storage_ops.proofs.Paged.{active_place}
 use Rattle.storage_ops.proofs.store.Store.connect.Goals as goal
 
 pub invariant_of-self : goal.invariant_of-self
@@ -24,7 +24,7 @@ invariant_of-self g c =
     (sym c.connect.ensures.effect)
     (store_linked (plain g.D.Drive.pages t.segs.pages) t.segs.ast t.accounts t.whos t.segs.links c.args.process
     c.args.number (place_of t.segs.ast.entries c.args.uid) c.args.pages c.args.uid c.args.mode
-    (place_active t.segs.ast.entries c.args.uid c.pages-kept.ensures.kept.tree active) right c.self.invariant)
+    (active_place t.segs.ast.entries c.args.uid active) right c.self.invariant)
 
 pub returns-clause-shown : goal.returns-clause-shown
 returns-clause-shown g c = λ p s h.

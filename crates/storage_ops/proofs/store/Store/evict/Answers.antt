@@ -11,8 +11,9 @@ use Rattle.seg_control.specs.Kept.{IsHomeFor}
 use Rattle.flat_model.specs.Legal.{MayRelease}
 use Rattle.storage_ops.specs.Paged.{page_left}
 use Rattle.storage_ops.specs.Shown.{IsStore, Shows, Storage, home_of}
-use Rattle.storage_ops.proofs.PageFacts.{page_counted, page_segment, tied_own}
+use Rattle.storage_ops.proofs.PageFacts.{page_counted, page_segment}
 use Rattle.storage_ops.proofs.PageLeft.{may_release, shown_left, store_left}
+use Rattle.storage_ops.proofs.Paged.{active_tie}
 use Rattle.storage_ops.proofs.Still.{own_home}
 use Rattle.storage_ops.proofs.store.Store.evict.Goals as goal
 
@@ -121,7 +122,7 @@ returns-clause-may g c = λ p s h is.
     let leaving : word_of t.segs.ast c.args.uid number ≡ Leaving c.args.f
     = subst (λ (x : Storage g.row.D.Denot). word_of x.segs.ast c.args.uid
     (number_in (frame_at x.segs.pages.core c.args.f)) ≡ Leaving c.args.f) (sym c.self.view_is) c.requires.leaving in
-    let tied = tied_own old t.segs.ast t.segs.links t.accounts t.whos c.pages-pages.ensures.kept c.self.invariant
+    let tied = active_tie old t.segs.ast t.segs.links t.accounts t.whos c.pages-pages.ensures.kept c.self.invariant
     c.args.uid active in
     let own = subst (λ (x : Paging g.row.D.Denot). IsTableOf (bindings x.core) c.args.uid
     (table_of t.segs.ast c.args.uid)) (sym c.pages-pages.ensures.pages) tied.table in

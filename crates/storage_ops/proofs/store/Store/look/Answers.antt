@@ -7,8 +7,8 @@ use Rattle.page_control.specs.Plain.{plain}
 use Rattle.page_control.specs.Tied.{has_record}
 use Rattle.seg_control.specs.Control.{word_of}
 use Rattle.storage_ops.specs.Shown.{Shows, Storage, pages_in}
-use Rattle.storage_ops.proofs.Lengths.{filed_there}
-use Rattle.storage_ops.proofs.PageFacts.{active_there, filed_word, table_told, word_within}
+use Rattle.storage_ops.proofs.PageFacts.{table_told, word_within}
+use Rattle.storage_ops.proofs.Paged.{active_there, word_filed}
 use Rattle.storage_ops.proofs.PageMade.{zeros_null}
 use Rattle.storage_ops.proofs.PageWords.{word_at}
 use Rattle.storage_ops.proofs.store.Store.look.Goals as goal
@@ -64,8 +64,7 @@ returns-clause-stored g c = λ p s h.
     let there = active_there old t.segs.ast t.segs.links t.accounts t.whos c.pages-kept.ensures.kept c.self.invariant
     c.args.uid active in
     shown.pages.stored c.args.uid c.args.p
-    ∙ filed_there t.accounts t.segs.pages.volumes.vtocs c.args.uid c.args.p there
-    ∙ filed_word old t.segs.ast t.segs.links t.accounts t.whos c.pages-kept.ensures.kept c.self.invariant c.args.uid
+    ∙ word_filed old t.segs.ast t.segs.links t.accounts t.whos c.pages-kept.ensures.kept c.self.invariant c.args.uid
     active c.args.p ∙ ap has_record (sym word)
 
 pub returns-clause-zeros : goal.returns-clause-zeros

@@ -6,7 +6,7 @@ use Rattle.page_control.specs.Picture.{words_at}
 use Rattle.page_control.specs.Tied.{IsTableOf, uid_in}
 use Rattle.storage_ops.specs.Paged.{word_written}
 use Rattle.storage_ops.specs.Shown.{Shows, Storage, home_of}
-use Rattle.storage_ops.proofs.PageFacts.{active_there}
+use Rattle.storage_ops.proofs.Paged.{active_there}
 use Rattle.storage_ops.proofs.PageWords.{bound_active, bound_named, bound_table, shown_put}
 use Rattle.storage_ops.proofs.store.Store.put_word.Goals as goal
 

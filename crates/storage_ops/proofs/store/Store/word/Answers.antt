@@ -5,7 +5,7 @@ use Rattle.page_control.specs.Plain.{Paging, bindings, number_in, plain, words_i
 use Rattle.page_control.specs.Picture.{words_at}
 use Rattle.page_control.specs.Tied.{IsTableOf, uid_in}
 use Rattle.storage_ops.specs.Shown.{Shows, Storage, home_of}
-use Rattle.storage_ops.proofs.PageFacts.{active_there}
+use Rattle.storage_ops.proofs.Paged.{active_there}
 use Rattle.storage_ops.proofs.PageWords.{bound_active, bound_named, bound_table, word_at}
 use Rattle.storage_ops.proofs.store.Store.word.Goals as goal
 
