@@ -7,22 +7,27 @@ use Rattle.std.proofs.lemmas.List.{get_or-set_other, get_or-set_same}
 use Rattle.std.proofs.Math.ListN.{get_or-map}
 use Rattle.script.specs.Plans.{Plan}
 use Rattle.accounts.specs.Maps.{AccountMaps}
+use Rattle.flat_model.specs.Pages.{is_stored, with_stored, with_word}
+use Rattle.flat_model.specs.References.{written}
 use Rattle.flat_model.specs.Store.{Store}
+use Rattle.flat_model.proofs.PageLaws.{with_old}
 use Rattle.core_map.specs.declared.Frame.{Frame}
 use Rattle.core_map.specs.declared.Frame.TheVariants.{Free, Started, Bound}
 use Rattle.core_map.specs.CoreMap.{bound_page, frame_at, is_bound}
+use Rattle.mnames.specs.declared.principals.Who.{Who}
+use Rattle.page_table.specs.declared.Ptw.{Ptw}
+use Rattle.page_table.specs.declared.Ptw.TheVariants.{Here, Leaving, Null, Out}
 use Rattle.page_table.specs.PageTable.{ptw_at}
 use Rattle.active_segs.specs.Active.{ActiveSegs, IsActive, table_at}
 use Rattle.page_control.specs.declared.Home.{Home}
 use Rattle.page_control.specs.Plain.{Plain, binding_at, bindings, number_in, plain}
 use Rattle.page_control.specs.Picture.{changed_at, changed_page, words_at}
-use Rattle.page_control.specs.Tied.{IsTableOf, frame_of, uid_in}
-use Rattle.seg_control.specs.Control.{Links}
+use Rattle.page_control.specs.Tied.{IsTableOf, frame_of, has_record, uid_in}
+use Rattle.seg_control.specs.Control.{Links, word_of}
 use Rattle.seg_control.specs.Kept.{IsKept}
 use Rattle.volumes.specs.Volumes.{Vols}
-use Rattle.storage_ops.specs.Shown.{Shows, ShowsTree, Storage, home_of, is_filed, is_there, picture}
-use Rattle.storage_ops.proofs.Paged.{picture_there}
-use Rattle.storage_ops.specs.Paged.{word_written}
+use Rattle.storage_ops.specs.Shown.{IsStore, Shows, ShowsTree, Storage, home_of, is_filed, is_there, picture}
+use Rattle.storage_ops.proofs.Paged.{active_tie, picture_there, word_filed}
 
 -- what a bound frame is bound to
 pub bound_told : (frame : Frame) → is_bound frame ≡ true → bound_page frame ≡ Some (uid_in frame, number_in frame)
@@ -44,6 +49,24 @@ module _ (now : Plain) (ast : ActiveSegs) (links : Links) (kept : IsKept now ast
 
   pub bound_named : frame_of (ptw_at (table_at ast.tables bound_active.0) (number_in (frame_at now.core f))) ≡ Some f
   bound_named = bound_table.named f (number_in (frame_at now.core f)) binding
+
+framed_recorded : (w : Ptw) (f : ℕ) → frame_of w ≡ Some f → has_record w ≡ true
+framed_recorded Null f e = cc
+framed_recorded (Out r) f e = cc
+framed_recorded (Here g) f e = refl
+framed_recorded (Leaving g) f e = refl
+
+-- and the page is stored
+pub bound_filed : (now : Plain) (ast : ActiveSegs) (links : Links) (a : AccountMaps) (whos : List Who)
+    → IsKept now ast links → IsStore now ast links a whos → (f : ℕ) → is_bound (frame_at now.core f) ≡ true
+    → is_filed a now.vtocs (uid_in (frame_at now.core f)) (number_in (frame_at now.core f)) ≡ true
+bound_filed now ast links a whos kept h f bound =
+    let uid = uid_in (frame_at now.core f) in
+    let number = number_in (frame_at now.core f) in
+    let active = bound_active now ast links kept f bound in
+    let named = (active_tie now ast links a whos kept h uid active).table.named f number
+    (binding now ast links kept f bound) in
+    word_filed now ast links a whos kept h uid active number ∙ framed_recorded (word_of ast uid number) f named
 
 pub same_page : (a : AccountMaps) (image next : ℕ → Home → ℕ → List ℕ) (u q : ℕ)
     → next u (home_of a u) q ≡ image u (home_of a u) q → picture a next u q ≡ picture a image u q
@@ -161,6 +184,25 @@ word_at drive plan s t uid p at words there held within h =
     ∙ ap (λ (q : ℕ). get_or (picture t.accounts image uid q) ((1024 * p + at) % 1024) 0) page
     ∙ ap (λ (k : ℕ). get_or (picture t.accounts image uid p) k 0) place
     ∙ ap (λ (ws : List ℕ). get_or ws at 0) (picture_there t.accounts image uid p there ∙ held)
+
+-- a flat store once word `at` of a page is written
+abbrev pub word_written : Store → ℕ → ℕ → ℕ → ℕ → Store
+word_written s uid page at w = record s { words = with_word s.words uid (1024 * page + at) w }
+
+-- where the page is stored, no more than the word changes
+pub written_there : (s : Store) (uid p at w : ℕ) → at < 1024 → is_stored s.stored uid p ≡ true
+    → word_written s uid p at w ≡ written s uid (1024 * p + at) w
+written_there s uid p at w within on =
+    ap (λ (xs : List (ℕ × ℕ)). record s { words = with_word s.words uid (1024 * p + at) w; stored = xs })
+    (sym (ap (λ (q : ℕ). cond (eqb w 0) s.stored (with_stored s.stored uid q)) page
+    ∙ ap (cond (eqb w 0) s.stored) (with_old s.stored uid p on) ∙ either (eqb w 0)))
+  where
+    page : (1024 * p + at) / 1024 ≡ p
+    page = omega (arith, within)
+
+    either : (z : Bool) → cond z s.stored s.stored ≡ s.stored
+    either true = refl
+    either false = refl
 
 -- a store that shows a flat store shows it with the word
 pub shown_put : {D : Type 0} (drive : D → List (List ℕ)) (plan : Plan) (s : Store) (t u : Storage D)

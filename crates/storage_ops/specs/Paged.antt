@@ -21,10 +21,6 @@ use Rattle.seg_control.specs.Control.{kst_at, word_of}
 use Rattle.seg_control.specs.Effects.{worded}
 use Rattle.storage_ops.specs.Shown.{Storage, home_of, is_refusal, pages_in}
 
--- a flat store once word `at` of a page is written
-abbrev pub word_written : Store → ℕ → ℕ → ℕ → ℕ → Store
-word_written s uid page at w = record s { words = with_word s.words uid (1024 * page + at) w }
-
 -- a flat store once a page has left its frame: one that was all zeros is stored no more
 abbrev pub page_left : {E : Type 0} → Store → ℕ → ℕ → Result Left E → Store
 page_left s uid page (Ok Released) = record s { stored = without_stored s.stored uid (λ q. q == page) }

@@ -21,8 +21,8 @@ ghost use Rattle.seg_control.specs.Control.{leads_at, table_of, word_of};
 ghost use Rattle.seg_control.specs.Effects.{all_cut, all_taken, cut_one, table_here, worded};
 ghost use Rattle.script.specs.Plans.{Plan};
 ghost use Rattle.flat_model.specs.Pages.{is_stored};
+ghost use Rattle.flat_model.specs.References.{written};
 ghost use Rattle.flat_model.specs.Store.{Store as Flat};
-ghost use Rattle.storage_ops.specs.Paged.{word_written};
 ghost use Rattle.storage_ops.specs.Shown.{Shows, pages_in};
 
 use crate::store::Store;
@@ -96,7 +96,7 @@ impl<D: Drive> Store<D> {
     }
 
     /// Writes `w` at word `at` through the bound frame `f`, whose marks are both on then. That word of what is shown is
-    /// `w` from now on, and all else stays. (Source: Bensoussan, Clingen and Daley 1972.)
+    /// written, and all else stays: its page is stored already. (Source: Bensoussan, Clingen and Daley 1972.)
     pub fn put_word(&mut self, f: u32, at: u32, w: Word)
         requires bound { is_bound (frame_at self.old.segs.pages.core f) ≡ true }
         requires at { at < 1024 }
@@ -110,8 +110,8 @@ impl<D: Drive> Store<D> {
         ensures reads { reads_of self.new.segs.pages.core ≡ reads_of self.old.segs.pages.core }
         ensures volumes { self.new.segs.pages.volumes ≡ self.old.segs.pages.volumes }
         ensures shown { (p : Plan) (s : Flat) → Shows D.pages p s self.old
-            → Shows D.pages p (word_written s (uid_in (frame_at self.old.segs.pages.core f))
-            (number_in (frame_at self.old.segs.pages.core f)) at w) self.new }
+            → Shows D.pages p (written s (uid_in (frame_at self.old.segs.pages.core f))
+            (1024 * number_in (frame_at self.old.segs.pages.core f) + at) w) self.new }
     {
         let pages = self.segs.pages();
         let _core = pages.frames();
