@@ -1,8 +1,8 @@
 -- What the cutting of a segment and the deletion of a node ask, and what they leave as it is (own).
 use Rattle.std.specs.Prelude.{◌≡◌, ◌≢◌, ◌<◌, ◌≤◌, ℕ, ◌/◌, ◌%◌, Bool, true, false, ◌&&◌, ◌==◌}
 use Rattle.std.specs.Prelude.{if◌then◌else◌, List, Option, None, Some, Ok}
-use Rattle.tree_model.specs.Tree.{Node}
-use Rattle.accounts.specs.Maps.{AccountMaps}
+use Rattle.tree_model.specs.Tree.{Node, with_node}
+use Rattle.accounts.specs.Maps.{AccountMaps, Changes}
 use Rattle.script.specs.Plans.{Plan}
 use Rattle.script.specs.declared.commands.Command.{Command}
 use Rattle.script.specs.declared.commands.Command.TheVariants as command
@@ -18,6 +18,12 @@ use Rattle.page_control.specs.Plain.{binding_at, bindings}
 use Rattle.page_control.specs.Tied.{IsNotStarted, is_out}
 use Rattle.seg_control.specs.Control.{Control, leads_at, word_of}
 use Rattle.storage_ops.specs.Shown.{IsCut, IsCutAt, IsInactiveAt, Shows, Storage, answered}
+
+-- the length of the segment that a path leads to is set
+pub record HasLengthSet (old new : AccountMaps) (path : List (List ℕ)) (pages : ℕ) : Type 0 where
+  pub node : Node
+  pub found : segment_at old.nodes path ≡ Ok node
+  pub effect : Changes old new (with_node old.nodes node.uid (λ n. record n { pages = pages }))
 
 -- whether references go through a word to a frame
 abbrev pub is_here : Ptw → Bool

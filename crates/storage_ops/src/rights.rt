@@ -116,6 +116,9 @@ impl<D: Drive> Store<D> {
         ensures answer { (p : Plan) (s : Flat) → Shows D.pages p s self.old → result ≡ acl_reply s path.now row.now }
         ensures effect { (p : Plan) (s : Flat) → Shows D.pages p s self.old
             → Shows D.pages p (answered result s (after_acl s path.now row.now mode)) self.new }
+        ensures done { takes_effect result ≡ true
+            → HasRowSet self.old.accounts self.new.accounts path.now (row_with row.now mode) }
+        ensures refused { takes_effect result ≡ false → self.new ≡ self.old }
         ensures rest { self.new ≡ record self.old { accounts = self.new.accounts } }
     {
         set_row(&mut self.accounts, path, row, mode)
@@ -127,6 +130,9 @@ impl<D: Drive> Store<D> {
         ensures answer { (p : Plan) (s : Flat) → Shows D.pages p s self.old → result ≡ move_reply s path.now amount }
         ensures effect { (p : Plan) (s : Flat) → Shows D.pages p s self.old
             → Shows D.pages p (answered result s (after_move s path.now amount)) self.new }
+        ensures done { takes_effect result ≡ true
+            → HasMoved self.old.accounts self.new.accounts path.now amount }
+        ensures refused { takes_effect result ≡ false → self.new ≡ self.old }
         ensures rest { self.new ≡ record self.old { accounts = self.new.accounts } }
     {
         move_quota(&mut self.accounts, path, amount)

@@ -6,6 +6,8 @@ ghost use Rattle.script.specs.Plans.{Plan};
 ghost use Rattle.flat_model.specs.Pages.{is_stored_from};
 ghost use Rattle.flat_model.specs.Sizes.{after_length, length_reply, truncate_reply};
 ghost use Rattle.flat_model.specs.Store.{Store as Flat};
+ghost use Rattle.flat_model.specs.Commands.{takes_effect};
+ghost use Rattle.storage_ops.specs.Cut.{HasLengthSet};
 ghost use Rattle.storage_ops.specs.Shown.{IsInactiveAt, Shows, ShowsTree, answered};
 ghost use Rattle.storage_ops.specs.Shown.{is_filed, is_there, pages_in, refusal};
 
@@ -107,6 +109,9 @@ impl<D: Drive> Store<D> {
             → result ≡ length_reply s path.now pages }
         ensures effect { (p : Plan) (s : Flat) → Shows D.pages p s self.old
             → Shows D.pages p (answered result s (after_length s path.now pages)) self.new }
+        ensures done { takes_effect result ≡ true
+            → HasLengthSet self.old.accounts self.new.accounts path.now pages }
+        ensures refused { takes_effect result ≡ false → self.new ≡ self.old }
         ensures rest { self.new ≡ record self.old { accounts = self.new.accounts } }
     {
         let uid = match segment_at(&self.accounts, path) {

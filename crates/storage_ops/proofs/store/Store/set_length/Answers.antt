@@ -1,7 +1,8 @@
-use Rattle.std.proofs.Common.{true, false, refl, sym, ap, subst, ◌∙◌}
+use Rattle.std.proofs.Common.{◌≡◌, true, false, refl, sym, ap, subst, ◌∙◌}
 use Rattle.tree_model.specs.Tree.{Node, quota_in}
 use Rattle.dir_tree.specs.Nodes.{as_term}
 use Rattle.page_control.specs.Plain.{plain}
+use Rattle.storage_ops.specs.Cut.{HasLengthSet}
 use Rattle.storage_ops.specs.Shown.{IsInactiveAt, Shows, ShowsTree, Storage, is_filed}
 use Rattle.storage_ops.proofs.Changed.{segment_refuses}
 use Rattle.storage_ops.proofs.Lengths.{length_shown, length_store}
@@ -60,3 +61,18 @@ invariant_of-self g c =
     (ap (λ (x : Storage g.row.D.Denot). is_filed x.accounts x.segs.pages.volumes.vtocs c.in-Ok.node.now.uid q)
     (sym c.self.view_is) ∙ on))
     c.self.invariant
+
+pub returns-in-Err-clause-done : goal.returns-in-Err-clause-done
+returns-in-Err-clause-done g c = λ on.
+    let clash : true ≡ false = sym on ∙ segment_refuses c.self.inside.accounts.nodes c.args.path.now c.in-Err.reply
+    c.in-Err.ensures.err in cc
+
+pub returns-clause-done : goal.returns-clause-done
+returns-clause-done g c = λ on.
+    subst (λ (x : Storage g.row.D.Denot). HasLengthSet x.accounts c.set_length.new.self c.args.path.now c.args.pages)
+    c.self.view_is
+    (record {
+      node = as_term (quota_in c.self.inside.accounts.nodes) c.in-Ok.node.now;
+      found = c.in-Ok.ensures.ok;
+      effect = c.set_length.ensures;
+    })
