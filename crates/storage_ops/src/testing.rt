@@ -1,9 +1,10 @@
 //! What refuses a command.
 
-ghost use Rattle.std.specs.Prelude.{◌≡◌, ◌<◌, length, true};
+ghost use Rattle.std.specs.Prelude.{◌≡◌, ◌<◌, length, true, None};
 ghost use Rattle.script.specs.Plans.{Plan};
 ghost use Rattle.script.specs.Forms.{is_command};
-ghost use Rattle.flat_model.specs.Commands.{reply_to_tree_command};
+ghost use Rattle.script.specs.References.{reference_of};
+ghost use Rattle.flat_model.specs.Commands.{reply_to_command, reply_to_tree_command};
 ghost use Rattle.flat_model.specs.Rights.{move_reply};
 ghost use Rattle.flat_model.specs.Store.{Store as Flat};
 ghost use Rattle.storage_ops.specs.Shown.{Shows, refusal};
@@ -24,10 +25,9 @@ impl<D: Drive> Store<D> {
         self.move_refusal(path, amount)
     }
 
-    /// What refuses a tree command of a process now; None exactly where nothing does, as for a reference and the end.
-    /// (Source: Bensoussan, Clingen and Daley 1972; Organick 1972.)
+    /// What refuses a command that makes no reference; None for a reference, as for the end.
     #[tactic(auto, using(crate::proofs::Fresh::volume_there))]
-    pub fn tree_refusal(&self, process: u32, command: &Command) -> Option<Reply>
+    fn tree_refusal(&self, process: u32, command: &Command) -> Option<Reply>
         requires process { process < length self.now.segs.links.known }
         requires ranges { is_command (length self.now.segs.pages.volumes.drives) command.now ≡ true }
         ensures { (p : Plan) (s : Flat) → Shows D.pages p s self.now
@@ -46,5 +46,18 @@ impl<D: Drive> Store<D> {
             Command::Status { path } => self.status_refusal(path),
             _ => None,
         }
+    }
+
+    /// What refuses a tree command of a process now, the first of its refusals that holds; None exactly where none does,
+    /// as always for the end. A reference isn't refused here. (Source: Bensoussan, Clingen and Daley 1972; Organick 1972.)
+    pub fn test(&self, process: u32, command: &Command) -> Option<Reply>
+        requires process { process < length self.now.segs.links.known }
+        requires ranges { is_command (length self.now.segs.pages.volumes.drives) command.now ≡ true }
+        ensures tree { (p : Plan) (s : Flat) → Shows D.pages p s self.now
+            → result ≡ refusal (reply_to_tree_command p s process command.now) }
+        ensures command { reference_of command.now ≡ None → (p : Plan) (s : Flat) → Shows D.pages p s self.now
+            → result ≡ refusal (reply_to_command p s process command.now) }
+    {
+        self.tree_refusal(process, command)
     }
 }
