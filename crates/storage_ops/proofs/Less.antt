@@ -120,7 +120,7 @@ shown_all_cut drive p s t place h = shown_less drive p s t (all_cut t.segs.links
 
 -- ---- a segment becomes inactive
 
-was_active : (entries : List (Option Entry)) (place q u : ℕ) → uid_in_place (set entries place None) q ≡ Some u
+pub was_active : (entries : List (Option Entry)) (place q u : ℕ) → uid_in_place (set entries place None) q ≡ Some u
     → uid_in_place entries q ≡ Some u
 was_active entries place q u =
     set_told (λ (o : Option Entry). uid_in o ≡ Some u → uid_in_place entries q ≡ Some u) entries place q None None

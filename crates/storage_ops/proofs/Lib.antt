@@ -23,6 +23,7 @@ pub mod Paged
 pub mod PagesLess
 pub mod PathLaws
 pub mod Removed
+pub mod Rest
 pub mod Still
 pub mod Tables
 pub mod Unstored

@@ -105,6 +105,21 @@ IsReady t process (command.Delete path) = IsRemovableAt t.accounts t.segs path
 IsReady t process command.End = (number : ℕ) → leads_at t.segs.links.descriptors process number ≡ None
 IsReady t process _ = Unit {0}
 
+-- What no tree command changes: descriptors and trailers, for whom processes run, the drives, what is being read into
+-- frames, and the pools. Nothing becomes active by it, and no frame is bound to another page.
+pub record KeepsRest {D : Type 0} (old new : Storage D) : Type 0 where
+  pub descriptors : new.segs.links.descriptors ≡ old.segs.links.descriptors
+  pub trailers : new.segs.links.trailers ≡ old.segs.links.trailers
+  pub whos : new.whos ≡ old.whos
+  pub drives : new.segs.pages.volumes.drives ≡ old.segs.pages.volumes.drives
+  pub reads : reads_of new.segs.pages.core ≡ reads_of old.segs.pages.core
+  pub sizes : new.segs.ast.sizes ≡ old.segs.ast.sizes
+  pub hands : new.segs.ast.hands ≡ old.segs.ast.hands
+  pub active : (place u : ℕ) → uid_in_place new.segs.ast.entries place ≡ Some u
+      → uid_in_place old.segs.ast.entries place ≡ Some u
+  pub bound : (f u q : ℕ) → binding_at (bindings new.segs.pages.core) f ≡ Some (u, q)
+      → binding_at (bindings old.segs.pages.core) f ≡ Some (u, q)
+
 -- A tree command of a process is answered as in each flat store that is shown, and changes what is shown as there.
 pub record Commits {D : Type 0} (drive : D → List (List ℕ)) (old new : Storage D) (process : ℕ) (c : Command)
     (r : Reply) : Type 0 where

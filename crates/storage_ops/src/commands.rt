@@ -7,7 +7,7 @@ ghost use Rattle.script.specs.References.{reference_of};
 ghost use Rattle.flat_model.specs.Commands.{effect_of, reply_to_command};
 ghost use Rattle.flat_model.specs.Rights.{after_move, move_reply};
 ghost use Rattle.flat_model.specs.Store.{Store as Flat};
-ghost use Rattle.storage_ops.specs.Cut.{Commits, IsReady};
+ghost use Rattle.storage_ops.specs.Cut.{Commits, IsReady, KeepsRest};
 ghost use Rattle.storage_ops.specs.Shown.{Shows, answered};
 
 use crate::store::Store;
@@ -21,6 +21,7 @@ impl<D: Drive> Store<D> {
     fn commit_move(&mut self, path: &Path, amount: &i32) -> Reply
         ensures answer { (p : Plan) (s : Flat) → Shows D.pages p s self.old
             → result ≡ move_reply s path.now amount.now }
+        ensures rest { self.new ≡ record self.old { accounts = self.new.accounts } }
         ensures effect { (p : Plan) (s : Flat) → Shows D.pages p s self.old
             → Shows D.pages p (answered result s (after_move s path.now amount.now)) self.new }
     {
@@ -34,7 +35,8 @@ impl<D: Drive> Store<D> {
         requires ranges { is_command (length self.old.segs.pages.volumes.drives) command.now ≡ true }
         requires uids { self.old.accounts.next < 2 ^ 31 }
         requires ready { IsReady self.old process command.now }
-        ensures { Commits D.pages self.old self.new process command.now result }
+        ensures does { Commits D.pages self.old self.new process command.now result }
+        ensures rest { KeepsRest self.old self.new }
     {
         let _accounts = self.accounts();
         match command {
@@ -74,6 +76,7 @@ impl<D: Drive> Store<D> {
             → result ≡ reply_to_command p s process command.now }
         ensures effect { (p : Plan) (s : Flat) → Shows D.pages p s self.old
             → Shows D.pages p (answered result s (effect_of p s process command.now)) self.new }
+        ensures rest { KeepsRest self.old self.new }
     {
         self.commit_tree(process, command)
     }

@@ -10,7 +10,7 @@ ghost use Rattle.flat_model.specs.Cuts.{cleared, cut_once, has_cleared, without_
 ghost use Rattle.flat_model.specs.Sizes.{after_truncate, cut_off, truncate_reply};
 ghost use Rattle.flat_model.specs.Store.{Store as Flat};
 ghost use Rattle.storage_ops.specs.Shown.{Shows, answered, home_of};
-ghost use Rattle.storage_ops.specs.Cut.{IsTakenFrom, IsTakenPast, IsTakenPastAt, Unstores, is_here, leaves};
+ghost use Rattle.storage_ops.specs.Cut.{IsTakenFrom, IsTakenPast, IsTakenPastAt, KeepsRest, Unstores, is_here, leaves};
 
 use crate::paths::segment_at;
 use crate::sizes::pages_of;
@@ -129,7 +129,9 @@ impl<D: Drive> Store<D> {
     fn cut_page(&mut self, uid: u32, words: u32)
         requires past { IsTakenPast self.old.segs uid words }
         requires out { is_out (word_of self.old.segs.ast uid (words / 1024)) ≡ false }
-        ensures { (p : Plan) (s : Flat) → Shows D.pages p s self.old → Shows D.pages p (cut_once s uid words) self.new }
+        ensures rest { KeepsRest self.old self.new }
+        ensures shown { (p : Plan) (s : Flat) → Shows D.pages p s self.old
+            → Shows D.pages p (cut_once s uid words) self.new }
     {
         let _kept = self.segs.pages();
         let home = self.home(uid);
@@ -142,7 +144,9 @@ impl<D: Drive> Store<D> {
     /// The words of an active segment from an offset on become 0, and the pages that are lost by it are stored no more.
     fn cut_off(&mut self, uid: u32, words: u32)
         requires { IsTakenPast self.old.segs uid words }
-        ensures { (p : Plan) (s : Flat) → Shows D.pages p s self.old → Shows D.pages p (cut_off s uid words) self.new }
+        ensures rest { KeepsRest self.old self.new }
+        ensures shown { (p : Plan) (s : Flat) → Shows D.pages p s self.old
+            → Shows D.pages p (cut_off s uid words) self.new }
     {
         let page = words / PAGE;
         if words % PAGE == 0 {
@@ -162,6 +166,7 @@ impl<D: Drive> Store<D> {
         ensures answer { (p : Plan) (s : Flat) → Shows D.pages p s self.old → result ≡ truncate_reply s path.now }
         ensures effect { (p : Plan) (s : Flat) → Shows D.pages p s self.old
             → Shows D.pages p (answered result s (after_truncate s path.now words)) self.new }
+        ensures rest { KeepsRest self.old self.new }
     {
         let uid = match segment_at(&self.accounts, path) {
             Ok(node) => node.uid,

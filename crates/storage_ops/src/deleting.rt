@@ -12,7 +12,7 @@ ghost use Rattle.flat_model.specs.Making.{after_delete, delete_reply};
 ghost use Rattle.flat_model.specs.Naming.{status_reply};
 ghost use Rattle.flat_model.specs.Store.{Store as Flat};
 ghost use Rattle.storage_ops.specs.Shown.{Shows, ShowsTree, answered, is_there, refusal};
-ghost use Rattle.storage_ops.specs.Cut.{IsRemovable, IsRemovableAt};
+ghost use Rattle.storage_ops.specs.Cut.{IsRemovable, IsRemovableAt, KeepsRest};
 
 use crate::paths::{branch_at, node_at};
 use crate::replies::refusal;
@@ -127,6 +127,7 @@ impl<D: Drive> Store<D> {
         ensures inactive { IsInactive self.new.segs.ast.entries uid }
         ensures shown { (p : Plan) (s : Flat) → Shows D.pages p s self.old → (t : Flat) × (Shows D.pages p t self.new)
             × (without_branch t (Some uid) ≡ without_branch s (Some uid)) }
+        ensures rest { KeepsRest self.old self.new }
     {
         let _kept = self.segs.pages();
         let Some(place) = self.segs.ast().search(uid) else {
@@ -143,8 +144,9 @@ impl<D: Drive> Store<D> {
         requires empty { has_inferior self.old.accounts.nodes uid ≡ false }
         requires quota { quota_in self.old.accounts.nodes uid ≡ 0 }
         requires inactive { IsInactive self.old.segs.ast.entries uid }
-        ensures { (p : Plan) (s : Flat) → Shows D.pages p s self.old
+        ensures shown { (p : Plan) (s : Flat) → Shows D.pages p s self.old
             → Shows D.pages p (without_branch s (Some uid)) self.new }
+        ensures rest { KeepsRest self.old self.new }
     {
         let _root = self.accounts.root();
         let _kept = self.segs.pages();
@@ -162,6 +164,7 @@ impl<D: Drive> Store<D> {
         ensures answer { (p : Plan) (s : Flat) → Shows D.pages p s self.old → result ≡ delete_reply s path.now }
         ensures effect { (p : Plan) (s : Flat) → Shows D.pages p s self.old
             → Shows D.pages p (answered result s (after_delete s path.now)) self.new }
+        ensures rest { KeepsRest self.old self.new }
     {
         let node = match branch_at(&self.accounts, path) {
             Ok(node) => node,

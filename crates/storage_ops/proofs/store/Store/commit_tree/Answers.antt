@@ -3,6 +3,7 @@ use Rattle.script.specs.Forms.{is_command}
 use Rattle.script.specs.declared.commands.Command.{Command}
 use Rattle.storage_ops.specs.Cut.{IsReady}
 use Rattle.storage_ops.proofs.Fresh.{dir_volume, new_length, seg_pages, seg_volume}
+use Rattle.storage_ops.proofs.Rest.{rest_accounts, rest_known, rest_made, rest_none}
 use Rattle.storage_ops.proofs.store.Store.commit_tree.Goals as goal
 
 pub make_dir-requires-clause-volume : goal.make_dir-requires-clause-volume
@@ -36,3 +37,33 @@ set_length-requires-clause-most g c =
 pub truncate-requires : goal.truncate-requires
 truncate-requires g c = subst (λ (x : Command). IsReady c.args.self.now c.args.process x) c.in-Truncate.is
     c.requires.ready
+
+pub returns-in-MkDir-clause-rest : goal.returns-in-MkDir-clause-rest
+returns-in-MkDir-clause-rest g c = rest_made c.args.self.now c.make_dir.new.self _ _ c.make_dir.ensures.rest
+
+pub returns-in-MkSeg-clause-rest : goal.returns-in-MkSeg-clause-rest
+returns-in-MkSeg-clause-rest g c = rest_made c.args.self.now c.make_seg.new.self _ _ c.make_seg.ensures.rest
+
+pub returns-in-Initiate-clause-rest : goal.returns-in-Initiate-clause-rest
+returns-in-Initiate-clause-rest g c = rest_known c.args.self.now c.initiate.new.self _ c.initiate.ensures.rest
+
+pub returns-in-Terminate-clause-rest : goal.returns-in-Terminate-clause-rest
+returns-in-Terminate-clause-rest g c = rest_known c.args.self.now c.terminate.new.self _ c.terminate.ensures.rest
+
+pub returns-in-Acl-clause-rest : goal.returns-in-Acl-clause-rest
+returns-in-Acl-clause-rest g c = rest_accounts c.args.self.now c.set_acl.new.self _ c.set_acl.ensures.rest
+
+pub returns-in-Length-clause-rest : goal.returns-in-Length-clause-rest
+returns-in-Length-clause-rest g c = rest_accounts c.args.self.now c.set_length.new.self _ c.set_length.ensures.rest
+
+pub returns-in-Truncate-clause-rest : goal.returns-in-Truncate-clause-rest
+returns-in-Truncate-clause-rest g c = c.truncate.ensures.rest
+
+pub returns-in-Delete-clause-rest : goal.returns-in-Delete-clause-rest
+returns-in-Delete-clause-rest g c = c.delete.ensures.rest
+
+pub returns-in-Move-clause-rest : goal.returns-in-Move-clause-rest
+returns-in-Move-clause-rest g c = rest_accounts c.args.self.now c.commit_move.new.self _ c.commit_move.ensures.rest
+
+pub returns-in-Status-clause-rest : goal.returns-in-Status-clause-rest
+returns-in-Status-clause-rest g c = rest_none c.args.self.now

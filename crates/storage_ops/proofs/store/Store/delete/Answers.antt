@@ -11,6 +11,7 @@ use Rattle.flat_model.proofs.TreeReplies.{delete_refused, delete_told, from_fals
 use Rattle.storage_ops.specs.Cut.{IsRemovable, IsRemovableAt}
 use Rattle.storage_ops.specs.Shown.{Shows, ShowsTree, Storage, is_there}
 use Rattle.storage_ops.proofs.Changed.{branch_refuses}
+use Rattle.storage_ops.proofs.Rest.{rest_both, rest_none}
 use Rattle.storage_ops.proofs.store.Store.delete.Goals as goal
 
 pub returns-in-Err-clause-answer : goal.returns-in-Err-clause-answer
@@ -66,7 +67,7 @@ returns-clause-effect g c = λ p s h.
     (left.2 ∙ sym (delete_done s c.args.path.now
     (as_term (quota_in c.self.inside.accounts.nodes) c.in-Ok.node.now)
     (ap (λ (ns : List Node). branch_at ns c.args.path.now) tree.nodes ∙ c.in-Ok.ensures.ok)))
-    (c.remove.ensures p left.0 left.1)
+    (c.remove.ensures.shown p left.0 left.1)
 
 pub remove-requires-clause-there : goal.remove-requires-clause-there
 remove-requires-clause-there g c =
@@ -93,3 +94,16 @@ make_inactive-requires-clause-empty g c =
     ap (λ (x : Storage g.row.D.Denot). has_inferior x.accounts.nodes c.in-Ok.node.now.uid) (sym c.self.view_is)
     ∙ from_false (is_err c.may_remove.result) (has_inferior c.self.inside.accounts.nodes c.in-Ok.node.now.uid)
     c.may_remove.ensures.1 (sym c.is_err.ensures.value ∙ c.if-is_err.false)
+
+pub returns-in-Err-clause-rest : goal.returns-in-Err-clause-rest
+returns-in-Err-clause-rest g c = rest_none c.args.self.now
+
+pub returns-then-is_err-clause-rest : goal.returns-then-is_err-clause-rest
+returns-then-is_err-clause-rest g c = rest_none c.args.self.now
+
+pub returns-then-quota_of-gt0-clause-rest : goal.returns-then-quota_of-gt0-clause-rest
+returns-then-quota_of-gt0-clause-rest g c = rest_none c.args.self.now
+
+pub returns-clause-rest : goal.returns-clause-rest
+returns-clause-rest g c = rest_both c.args.self.now c.make_inactive.new.self c.remove.new.self
+    c.make_inactive.ensures.rest c.remove.ensures.rest

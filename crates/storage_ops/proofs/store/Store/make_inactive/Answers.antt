@@ -8,6 +8,7 @@ use Rattle.active_segs.specs.Active.{ActiveSegs, HasNoInferior, IsOneToOne, uid_
 use Rattle.seg_control.specs.Control.{Links}
 use Rattle.storage_ops.specs.Shown.{IsCut, Storage}
 use Rattle.storage_ops.proofs.Removed.{branch_same, from_zero, leaf_place, place_away, place_cut, place_idle}
+use Rattle.storage_ops.proofs.Rest.{rest_both, rest_inactive, rest_none, rest_unstored}
 use Rattle.storage_ops.proofs.Unstored.{idle_still}
 use Rattle.storage_ops.proofs.store.Store.make_inactive.Goals as goal
 
@@ -62,3 +63,11 @@ returns-clause-shown g c = λ p s h. (
   c.deactivate.ensures.shown p (without_pages s c.args.uid (λ q. nat_le 0 q)) (c.drop_from.ensures.shown p s h),
   branch_same s c.args.uid,
 )
+
+pub returns-clause-rest : goal.returns-clause-rest
+returns-clause-rest g c = rest_both c.args.self.now c.drop_from.new.self c.deactivate.new.self
+    (rest_unstored c.args.self.now c.drop_from.new.self c.args.uid (λ q. nat_le 0 q) c.drop_from.ensures.rest)
+    (rest_inactive c.drop_from.new.self c.deactivate.new.self c.in-Some.place c.deactivate.ensures.effect)
+
+pub returns-in_default-clause-rest : goal.returns-in_default-clause-rest
+returns-in_default-clause-rest g c = rest_none c.args.self.now

@@ -3,9 +3,11 @@ use Rattle.active_segs.specs.Active.{ActiveSegs}
 use Rattle.page_control.specs.Plain.{plain}
 use Rattle.seg_control.specs.Control.{Links}
 use Rattle.seg_control.specs.Kept.{IsInactive}
+use Rattle.storage_ops.specs.Cut.{KeepsRest}
 use Rattle.storage_ops.specs.Shown.{IsStore, Shows, Storage, home_of, is_there}
 use Rattle.storage_ops.proofs.NodeLaws.{found_there}
 use Rattle.storage_ops.proofs.Removed.{removed_done, shown_removed, store_removed}
+use Rattle.storage_ops.proofs.Rest.{rest_erased}
 use Rattle.storage_ops.proofs.store.Store.remove.Goals as goal
 
 pub invariant_of-self : goal.invariant_of-self
@@ -30,8 +32,24 @@ invariant_of-self g c =
     c.self.invariant.housed c.self.inside.segs.ast c.self.inside.segs.links c.self.inside.whos.items found.0
     c.root-root.ensures.tree found.1 inactive c.self.invariant))
 
-pub returns : goal.returns
-returns g c = λ p s h.
+pub returns-clause-rest : goal.returns-clause-rest
+returns-clause-rest g c =
+    let t : Storage g.row.D.Denot = record {
+      accounts = c.self.inside.accounts;
+      segs = c.self.inside.segs;
+      whos = c.self.inside.whos.items;
+    } in
+    let n : Storage g.row.D.Denot = record {
+      accounts = c.remove.new.self;
+      segs = c.erase.new.self;
+      whos = c.self.inside.whos.items;
+    } in
+    subst (λ (x : Storage g.row.D.Denot). KeepsRest x n) c.self.view_is
+    (rest_erased g.D.Drive.pages t n c.home-home.result c.erase.ensures.effect c.erase.ensures.ast
+    c.erase.ensures.links refl c.erase.ensures.drives)
+
+pub returns-clause-shown : goal.returns-clause-shown
+returns-clause-shown g c = λ p s h.
     let there = ap (λ (x : Storage g.row.D.Denot). is_there x.accounts.nodes c.args.uid) c.self.view_is
     ∙ c.requires.there in
     let home = c.home-home.ensures.home ∙ ap (λ (x : Storage g.row.D.Denot). home_of x.accounts c.args.uid)

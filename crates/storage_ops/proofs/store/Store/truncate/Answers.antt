@@ -8,6 +8,7 @@ use Rattle.flat_model.proofs.TreeReplies.{truncate_refused, truncate_told}
 use Rattle.storage_ops.specs.Cut.{IsTakenPast, IsTakenPastAt}
 use Rattle.storage_ops.specs.Shown.{Shows, ShowsTree, Storage}
 use Rattle.storage_ops.proofs.Changed.{segment_refuses}
+use Rattle.storage_ops.proofs.Rest.{rest_none}
 use Rattle.storage_ops.proofs.store.Store.truncate.Goals as goal
 
 pub returns-in-Err-clause-answer : goal.returns-in-Err-clause-answer
@@ -39,4 +40,10 @@ returns-clause-effect g c = λ p s h.
     (sym (truncate_done s c.args.path.now c.args.words
     (as_term (quota_in c.self.inside.accounts.nodes) c.in-Ok.node.now)
     (ap (λ (ns : List Node). segment_at ns c.args.path.now) tree.nodes ∙ c.in-Ok.ensures.ok)))
-    (c.cut_off.ensures p s h)
+    (c.cut_off.ensures.shown p s h)
+
+pub returns-in-Err-clause-rest : goal.returns-in-Err-clause-rest
+returns-in-Err-clause-rest g c = rest_none c.args.self.now
+
+pub returns-clause-rest : goal.returns-clause-rest
+returns-clause-rest g c = c.cut_off.ensures.rest
