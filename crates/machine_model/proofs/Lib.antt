@@ -29,6 +29,7 @@ pub mod LateWord
 pub mod LeaveSeen
 pub mod ListLaws
 pub mod MoveSeen
+pub mod LoopLaws
 pub mod OneProcess
 pub mod OuterLaws
 pub mod OwnedLaws

@@ -1,0 +1,193 @@
+-- How the turns of the loop that makes the machine end join: turns of a job, of a command, and rounds.
+use Rattle.std.proofs.Common.{◌≡◌, ◌≢◌, ◌≤◌, ◌<◌, ℕ, ◌+◌, Bool, true, false, cond, ◌&&◌, eqb, Option, Some, None, is_some, refl, sym, ap, subst, ◌∙◌, ◌⊎◌, inl, inr, le_refl, le_of_eq, le_trans, arith}
+use Rattle.std.proofs.lemmas.Bool.Decides.{eqb_tells}
+use Rattle.core_map.specs.declared.Frame.TheVariants as frame
+use Rattle.machine_model.specs.Outline.{Want, Runner, Stage, Look, Keeper, Outline, runner_at, want_at, at_stage, frame_in}
+use Rattle.machine_model.specs.Measures.{lack, missing, all_rank, job_rank, command_rank, command_left}
+use Rattle.machine_model.specs.Finishing.{IsIn}
+use Rattle.machine_model.specs.OutlineKept.{IsKept}
+use Rattle.machine_model.specs.Looping.{lack_at, is_at, IsReference, IsSameCommand, IsUnderWay, IsPast, IsMended, Goes, JobFell, JobDone, AwaitsTransfer, IsReader, IsNearer, CommandDone, HasTaken, command_gauge, RoundDone}
+use Rattle.machine_model.proofs.OuterLaws.{all_le}
+
+-- ---- a job
+
+-- at its start a job is under way
+pub goes_self : (s : Outline) (c : ℕ) (stage : Stage) → IsIn s c stage → Goes s s c
+goes_self s c stage owner = inl (record {
+  stage = stage;
+  in_job = owner;
+  same = record { want = refl; since = refl; running = refl; all = le_refl _ };
+  lack = le_refl _;
+})
+
+past_on : (a b d : Outline) (c : ℕ) → IsUnderWay a b c → IsPast b d c → IsPast a d c
+past_on a b d c under past = record {
+  owner = past.owner;
+  gone = subst (λ (n : ℕ). is_at (runner_at d.runners c) n ≡ false) under.same.since past.gone;
+  all = let one = past.all in let two = under.same.all in omega (arith, one, two);
+}
+
+same_on : (a b d : Outline) (c : ℕ) → IsSameCommand a b c → IsSameCommand b d c → IsSameCommand a d c
+same_on a b d c one two = record {
+  want = two.want ∙ one.want;
+  since = two.since ∙ one.since;
+  running = two.running ∙ one.running;
+  all = le_trans two.all one.all;
+}
+
+-- what a job lacks that lacked no more before, or the kind of its command
+before_on : (a b : Outline) (c : ℕ) → IsUnderWay a b c → lack_at a c ≤ 1
+    → (lack_at b c ≡ 1) ⊎ IsReference (want_at b c) → (lack_at a c ≡ 1) ⊎ IsReference (want_at a c)
+before_on a b c under few (inl h) = let more = under.lack in inl (omega (arith, few, h, more))
+before_on a b c under few (inr h) = inr (subst IsReference under.same.want h)
+
+-- a job that is under way goes on with its next turn
+pub goes_on : (a b d : Outline) (c : ℕ) → lack_at a c ≤ 1 → IsUnderWay a b c → Goes b d c → Goes a d c
+goes_on a b d c few under (inl more) = inl (record {
+  stage = more.stage;
+  in_job = more.in_job;
+  same = same_on a b d c under.same more.same;
+  lack = le_trans more.lack under.lack;
+})
+goes_on a b d c few under (inr (inl past)) = inr (inl (past_on a b d c under past))
+goes_on a b d c few under (inr (inr mended)) = inr (inr (record {
+  owner = mended.owner;
+  same = same_on a b d c under.same mended.same;
+  now = mended.now;
+  before = before_on a b c under few mended.before;
+}))
+
+-- while somebody owns the supervisor the job is under way; once nobody does it is done
+pub job_goes : (a b : Outline) (c d : ℕ) (stage : Stage) → IsIn b d stage → Goes a b c → IsUnderWay a b c
+job_goes a b c d stage owner (inl under) = under
+job_goes a b c d stage owner (inr (inl past)) =
+    let no : None ≡ Some (record { cpu = d; stage = stage }) = sym past.owner ∙ owner in absurd cc
+job_goes a b c d stage owner (inr (inr mended)) =
+    let no : None ≡ Some (record { cpu = d; stage = stage }) = sym mended.owner ∙ owner in absurd cc
+
+pub job_over : (a b : Outline) (c : ℕ) → b.owner ≡ None → Goes a b c → JobDone a b c
+job_over a b c none (inl under) =
+    let no : None ≡ Some (record { cpu = c; stage = under.stage }) = sym none ∙ under.in_job in absurd cc
+job_over a b c none (inr done) = done
+
+-- a turn in which another processor cleared, or read a page in
+pub waited_fell : (s t : Outline) (c : ℕ) → (job_rank t < job_rank s) × IsUnderWay s t c → JobFell s t c
+waited_fell s t c fell = record { rank = fell.0; goes = inl fell.1 }
+
+-- somebody reads into the frame that the owner waits for
+pub reader_there : (s : Outline) (c f : ℕ) → IsKept s → AwaitsTransfer s c f → (d : ℕ) × IsReader s f d
+reader_there s c f k awaits =
+    let there = k.tied.started f awaits.uid awaits.page awaits.started in
+    (there.0, record { uid = awaits.uid; page = awaits.page; within = there.1; reading = there.2 })
+
+-- ---- a command
+
+missing_few : (x : Runner) → missing x ≤ 2
+missing_few x = by x.has_seg x.has_page
+  where
+    by : (a b : Bool) → cond {A = ℕ} a (cond b 0 1) 2 ≤ 2
+    by true true = omega arith
+    by true false = omega arith
+    by false b = omega arith
+
+bit_few : (b : Bool) → cond {A = ℕ} b 1 0 ≤ 1
+bit_few true = omega arith
+bit_few false = omega arith
+
+-- what lacked is there: that outweighs what the processor doesn't hold
+lacks_less : (s t : Outline) (c : ℕ) → lack_at s c ≡ 1 → lack_at t c ≡ 0 → command_rank t c < command_rank s c
+unfolding command_rank
+lacks_less s t c was now =
+    let held = missing_few (runner_at t.runners c) in
+    let reads = bit_few (is_some (runner_at t.runners c).reading) in
+    omega (arith, was, now, held, reads)
+
+all_owner : (s : Outline) (c : ℕ) → all_rank (at_stage s c Look) ≡ all_rank s
+unfolding all_rank
+all_owner s c = refl
+
+lacked : (s b : Outline) (c : ℕ) → HasTaken s b c → (lack_at b c ≡ 1) ⊎ IsReference (want_at b c) → lack_at s c ≡ 1
+lacked s b c taken before = by taken.why before
+  where
+    same : lack_at b c ≡ lack_at s c
+    same = ap (λ (x : Outline). lack_at x c) taken.now
+    by : (lack_at s c ≡ 1) ⊎ (IsReference (want_at s c) → ⊥) → (lack_at b c ≡ 1) ⊎ IsReference (want_at b c) → lack_at s c ≡ 1
+    by (inl h) any = h
+    by (inr h) (inl i) = sym same ∙ i
+    by (inr h) (inr i) = absurd (h (subst (λ (x : Outline). IsReference (want_at x c)) taken.now i))
+
+-- a processor took the supervisor, and the job that it began is done
+pub taken_done : (s b t : Outline) (c : ℕ) → HasTaken s b c → JobDone b t c → CommandDone s t c
+taken_done s b t c taken (inl past) = inl (record {
+  owner = past.owner;
+  gone = subst (λ (x : Outline). is_at (runner_at t.runners c) (runner_at x.runners c).since ≡ false) taken.now past.gone;
+  all = let less = past.all in let same = ap all_rank taken.now ∙ all_owner s c in omega (arith, less, same);
+})
+taken_done s b t c taken (inr mended) = inr (record {
+  owner = mended.owner;
+  same = record {
+    want = mended.same.want ∙ ap (λ (x : Outline). want_at x c) taken.now;
+    since = mended.same.since ∙ ap (λ (x : Outline). (runner_at x.runners c).since) taken.now;
+    running = mended.same.running ∙ ap (λ (x : Outline). (runner_at x.runners c).running) taken.now;
+    all = let le = mended.same.all in let same = ap all_rank taken.now ∙ all_owner s c in omega (arith, le, same);
+  };
+  rank = lacks_less s t c (lacked s b c taken mended.before) mended.now;
+})
+
+-- ---- the loop over a command
+
+is_at_same : (x y : Runner) (since : ℕ) → y.running ≡ x.running → y.since ≡ x.since → is_at y since ≡ is_at x since
+is_at_same x y since running count = rw (running, count) refl
+
+at_since : (x : Runner) (since : ℕ) → is_at x since ≡ true → x.since ≡ since
+at_since x since h = by x.running h
+  where
+    by : (b : Bool) → (b && eqb x.since since) ≡ true → x.since ≡ since
+    by true e = elim (eqb_tells x.since since) [ inl i ↦ i.1 | inr n ↦ (let no : true ≡ false = sym e ∙ n.0 in absurd cc) ]
+    by false e = let no : false ≡ true = e in absurd cc
+
+-- the measure of the loop falls with each turn
+pub way_falls : (s t : Outline) (c since : ℕ) → is_at (runner_at s.runners c) since ≡ true → CommandDone s t c
+    → command_gauge t c since < command_gauge s c since
+way_falls s t c since is (inl past) =
+    let gone : is_at (runner_at t.runners c) since ≡ false =
+        subst (λ (n : ℕ). is_at (runner_at t.runners c) n ≡ false) (at_since (runner_at s.runners c) since is) past.gone in
+    let a : command_gauge t c since ≡ 0 = ap (λ (b : Bool). cond {A = ℕ} b (command_rank t c + 1) 0) gone in
+    let b : command_gauge s c since ≡ command_rank s c + 1 = ap (λ (b : Bool). cond {A = ℕ} b (command_rank s c + 1) 0) is in
+    omega (arith, a, b)
+way_falls s t c since is (inr nearer) =
+    let still : is_at (runner_at t.runners c) since ≡ true =
+        is_at_same (runner_at s.runners c) (runner_at t.runners c) since nearer.same.running nearer.same.since ∙ is in
+    let a : command_gauge t c since ≡ command_rank t c + 1 = ap (λ (b : Bool). cond {A = ℕ} b (command_rank t c + 1) 0) still in
+    let b : command_gauge s c since ≡ command_rank s c + 1 = ap (λ (b : Bool). cond {A = ℕ} b (command_rank s c + 1) 0) is in
+    let less = nearer.rank in
+    omega (arith, a, b, less)
+
+-- the measure of all commands is less once the command is past, and no more before
+pub way_next : (s t : Outline) (c since all : ℕ) → is_at (runner_at s.runners c) since ≡ true
+    → all_rank s + cond (is_at (runner_at s.runners c) since) 0 1 ≤ all → CommandDone s t c
+    → all_rank t + cond (is_at (runner_at t.runners c) since) 0 1 ≤ all
+way_next s t c since all is way (inl past) =
+    let less = past.all in
+    let bit = bit_few_other (is_at (runner_at t.runners c) since) in
+    omega (arith, way, less, bit)
+  where
+    bit_few_other : (b : Bool) → cond {A = ℕ} b 0 1 ≤ 1
+    bit_few_other true = omega arith
+    bit_few_other false = omega arith
+way_next s t c since all is way (inr nearer) =
+    let le = nearer.same.all in
+    let still : cond {A = ℕ} (is_at (runner_at t.runners c) since) 0 1 ≡ cond (is_at (runner_at s.runners c) since) 0 1 =
+        ap (λ (b : Bool). cond {A = ℕ} b 0 1)
+        (is_at_same (runner_at s.runners c) (runner_at t.runners c) since nearer.same.running nearer.same.since) in
+    omega (arith, way, le, still)
+
+-- the loop over a command is over: a round is done
+pub round_done : (s t : Outline) (c since : ℕ) → t.owner ≡ None
+    → all_rank t + cond (is_at (runner_at t.runners c) since) 0 1 ≤ all_rank s
+    → is_at (runner_at t.runners c) since ≡ false → RoundDone s t
+round_done s t c since none way gone = record {
+  owner = none;
+  all = let bit : cond {A = ℕ} (is_at (runner_at t.runners c) since) 0 1 ≡ 1 = ap (λ (b : Bool). cond {A = ℕ} b 0 1) gone in
+      omega (arith, way, bit);
+}
