@@ -48,6 +48,7 @@ pub mod TellKept
 pub mod TieLaws
 pub mod TransferKept
 pub mod TransferLaws
+pub mod TiedLaws
 pub mod Truncation
 pub mod TwoTransfers
 pub mod Victims
