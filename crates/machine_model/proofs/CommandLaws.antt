@@ -1,25 +1,26 @@
--- What a step of a processor brings that has a process while nobody owns the supervisor, and of one that has none while no
--- processor has.
-use Rattle.std.proofs.Common.{◌≡◌, ◌≢◌, ◌≤◌, ◌<◌, ℕ, zero, suc, ◌+◌, ◌-◌, Bool, true, false, not, cond, ◌||◌, ◌&&◌, eqb, nat_lt, List, [], ◌∷◌, length, Option, Some, None, is_some, set, get_or, refl, sym, ap, subst, ◌∙◌, ◌⊎◌, inl, inr, le_refl, le_of_eq, arith}
-use Rattle.std.proofs.lemmas.Bool.Decides.{eqb_tells}
-use Rattle.std.proofs.lemmas.List.{get_or-set_same, get_or-set_other}
+-- What a step of a processor brings that has a process while nobody owns the supervisor, and of one that has none
+-- while no processor has.
+use Rattle.std.proofs.Common.{◌≡◌, ◌≢◌, ◌<◌, ℕ, ◌+◌, ◌-◌, Bool, true, false, not, cond, ◌&&◌, nat_lt, List, length}
+use Rattle.std.proofs.Common.{Option, Some, None, is_some, set, refl, sym, ap, subst, ◌∙◌, inl, inr, arith}
+use Rattle.std.proofs.lemmas.List.{get_or-set_same}
 use Rattle.core_map.specs.declared.Frame.{Frame}
 use Rattle.core_map.specs.declared.Frame.TheVariants as frame
 use Rattle.processor.specs.declared.Transfer.{Transfer}
-use Rattle.machine_model.specs.Actions.{ForOwner, ForClear, ForTransfer, WhileIdle}
-use Rattle.machine_model.specs.Outline.{Want, Refer, Truncate, Length, Other, Runner, no_runner, Work, Stage, Look, Taken, Waiting, Keeper, Outline, Turn, Moved, WaitsFor, Ended, runner_at, want_at, at_stage, with_runner, with_frame, frame_in}
-use Rattle.machine_model.specs.Measures.{Parts, IsSmall, rank_of, parts_of, is_of, is_here, reads_page, wanted_fits, want_lack, lack, missing, over, offline, dues, readers, all_rank, job_rank, command_rank, command_left, is_over}
-use Rattle.machine_model.specs.Finishing.{Rule, Comes, Clears, Reads, Works, Loads, Leaves, Commands, rule_by, rule_of, owns, IsIn, JobStep, Step, ends, comes, clears, reads, loses, works, awaits_clear, awaits_transfer, loads, idles, leaves, fills, replies, faults, enters, waits, IsEnded, IsCleared, HasLost, HasLoaded, HasLeft, IsFilled, IsReplied, with_bound, not_reading}
+use Rattle.machine_model.specs.Outline.{Want, Refer, Truncate, Length, Other, Runner, no_runner, Keeper, Outline, Turn}
+use Rattle.machine_model.specs.Outline.{runner_at, want_at, with_runner, with_frame, frame_in}
+use Rattle.machine_model.specs.Measures.{is_of, is_here, wanted_fits, want_lack, lack, all_rank, command_rank}
+use Rattle.machine_model.specs.Measures.{command_left, is_over}
+use Rattle.machine_model.specs.Finishing.{Comes, Clears, Works, Loads, Leaves, Commands, rule_of, owns, Step, ends}
+use Rattle.machine_model.specs.Finishing.{comes, clears, reads, loses, works, awaits_clear, awaits_transfer, loads}
+use Rattle.machine_model.specs.Finishing.{idles, leaves, fills, replies, faults, enters, waits, IsEnded, HasLost}
+use Rattle.machine_model.specs.Finishing.{HasLoaded, HasLeft, IsFilled, IsReplied, with_bound, not_reading}
 use Rattle.machine_model.specs.OutlineKept.{IsKept}
-use Rattle.machine_model.specs.Looping.{lack_at, is_at, IsReference, IsSameCommand, IsUnderWay, IsPast, IsNearer, JobFell, AwaitsClear, AwaitsTransfer, IsReader, OwnerStep, CommandDone, HasTaken, CommandStep}
-use Rattle.machine_model.proofs.CountLaws.{readers_set, dues_set}
-use Rattle.machine_model.proofs.RankLaws.{falls_reading, falls_due}
-use Rattle.machine_model.proofs.JobLaws.{ranked, small_of, job_falls}
-use Rattle.machine_model.proofs.LackLaws.{lack_le, wanted_more, here_same, here_more, here_now}
-use Rattle.machine_model.proofs.OuterLaws.{over_set, offline_set, over_same, over_few, all_le, all_fewer, all_turn, all_loaded, all_online}
-use Rattle.machine_model.proofs.GoesLaws.{goes, all_set, gone_from}
+use Rattle.machine_model.specs.Looping.{IsReference, IsPast, IsNearer, CommandStep}
+use Rattle.machine_model.proofs.LackLaws.{lack_le, wanted_more, here_more, here_now}
+use Rattle.machine_model.proofs.OuterLaws.{over_set, offline_set, over_same, all_fewer, all_turn, all_loaded}
+use Rattle.machine_model.proofs.OuterLaws.{all_online}
+use Rattle.machine_model.proofs.GoesLaws.{all_set, gone_from}
 use Rattle.machine_model.proofs.RuleLaws.{tells}
-
 use Rattle.machine_model.proofs.StepLaws.{no_both, inside, none_due}
 
 -- nothing is due while nobody owns the supervisor, so a processor that has a process neither comes online nor clears
@@ -47,14 +48,15 @@ nearer_by : (s t : Outline) (c : ℕ) (x : Runner) → c < length s.runners → 
 unfolding command_rank
 nearer_by s t c x within owner runners left ready online running since tried want less =
     let same : runner_at t.runners c ≡ x =
-        ap (λ (xs : List Runner). runner_at xs c) runners ∙ get_or-set_same s.runners c x no_runner within in
+    ap (λ (xs : List Runner). runner_at xs c) runners ∙ get_or-set_same s.runners c x no_runner within in
     record {
       owner = owner;
       same = record {
         want = ap (λ (y : Runner). y.want) same ∙ want;
         since = ap (λ (y : Runner). y.since) same ∙ since;
         running = ap (λ (y : Runner). y.running) same ∙ running;
-        all = all_set s t c x within runners left ready online (over_same (runner_at s.runners c) x running since tried);
+        all = all_set s t c x within runners left ready online
+            (over_same (runner_at s.runners c) x running since tried);
       };
       rank = subst (λ (y : Runner). command_left t y < command_left s (runner_at s.runners c)) (sym same) less;
     }
@@ -67,9 +69,11 @@ read_fits : (s t : Outline) (r : Transfer) (used modified : Bool) (w : Want) →
 read_fits s t r used modified w lt started frames stored h =
     wanted_more s t w (Some r) None
     (λ uid page makes there. ap (λ (fs : List Frame). is_here fs uid page) frames
-    ∙ here_more s.frames r.frame uid page (frame.Bound r.uid r.page used modified) lt (ap (is_of uid page) started) there)
+    ∙ here_more s.frames r.frame uid page (frame.Bound r.uid r.page used modified) lt (ap (is_of uid page) started)
+    there)
     (λ uid page read. inl (ap (λ (fs : List Frame). is_here fs uid page) frames
-    ∙ here_now s.frames r.frame uid page (frame.Bound r.uid r.page used modified) lt (ap (is_of uid page) started) read))
+    ∙ here_now s.frames r.frame uid page (frame.Bound r.uid r.page used modified) lt (ap (is_of uid page) started)
+    read))
     (λ uid page out. ap (λ (f : ℕ → ℕ → Bool). f uid page) stored ∙ out) h
 
 read_nearer : (s : Outline) (c : ℕ) (r : Transfer) (used modified : Bool) → IsKept s → s.owner ≡ None
@@ -79,9 +83,11 @@ read_nearer s c r used modified k none reading =
     let tie = k.tied.read c r reading in
     let x : Runner = runner_at s.runners c in
     let lacks = lack_le s (not_reading (with_bound s r used modified) c) x.want x.linked x.linked (Some r) None (λ h. h)
-        (read_fits s (not_reading (with_bound s r used modified) c) r used modified x.want tie.1 tie.0 refl refl) in
-    let was : lack s x ≡ want_lack s x.want x.linked (Some r) = ap (λ (o : Option Transfer). want_lack s x.want x.linked o) reading in
-    let bit : cond {A = ℕ} (is_some x.reading) 1 0 ≡ 1 = ap (λ (o : Option Transfer). cond {A = ℕ} (is_some o) 1 0) reading in
+    (read_fits s (not_reading (with_bound s r used modified) c) r used modified x.want tie.1 tie.0 refl refl) in
+    let was : lack s x ≡ want_lack s x.want x.linked (Some r) =
+    ap (λ (o : Option Transfer). want_lack s x.want x.linked o) reading in
+    let bit : cond {A = ℕ} (is_some x.reading) 1 0 ≡ 1 =
+    ap (λ (o : Option Transfer). cond {A = ℕ} (is_some o) 1 0) reading in
     nearer_by s (not_reading (with_bound s r used modified) c) c (record (runner_at s.runners c) { reading = None })
     (inside s.runners c online) none refl refl refl refl refl refl refl refl (omega (arith, lacks, was, bit))
 
@@ -89,10 +95,11 @@ fill_nearer : (s : Outline) (c : ℕ) (x : Runner) → c < length s.runners → 
     → IsFilled (runner_at s.runners c) x → IsNearer s (with_runner s c x) c
 fill_nearer s c x within none filled =
     let lacks : lack (with_runner s c x) x ≡ lack s (runner_at s.runners c) =
-        rw (filled.want, filled.linked, filled.reading) refl in
+    rw (filled.want, filled.linked, filled.reading) refl in
     let bit : cond {A = ℕ} (is_some x.reading) 1 0 ≡ cond (is_some (runner_at s.runners c).reading) 1 0 =
-        ap (λ (o : Option Transfer). cond {A = ℕ} (is_some o) 1 0) filled.reading in
-    nearer_by s (with_runner s c x) c x within none refl refl refl filled.online filled.running filled.since filled.tried
+    ap (λ (o : Option Transfer). cond {A = ℕ} (is_some o) 1 0) filled.reading in
+    nearer_by s (with_runner s c x) c x within none refl refl refl filled.online filled.running filled.since
+    filled.tried
     filled.want (omega (arith, lacks, bit, filled.missing))
 
 -- ---- the command is past
@@ -110,7 +117,8 @@ left_past s c x l within none turn left =
       owner = none;
       gone = gone_from (runner_at (set s.runners c x) c) (runner_at s.runners c).since (λ h.
           absurd (no_both h (ap (λ (y : Runner). y.running) same ∙ left.running)));
-      all = all_turn s (record (with_runner s c x) { ready = s.ready + 1 }) l.sizes refl (omega (arith, count, was, now));
+      all = all_turn s (record (with_runner s c x) { ready = s.ready + 1 }) l.sizes refl
+          (omega (arith, count, was, now));
     }
 
 lost_past : (s : Outline) (c : ℕ) (r : Transfer) (x : Runner) (left : ℕ) → IsKept s
@@ -119,7 +127,8 @@ lost_past : (s : Outline) (c : ℕ) (r : Transfer) (x : Runner) (left : ℕ) →
     → IsPast s (record (with_runner (with_frame s r.frame frame.Free) c x) { left = left }) c
 lost_past s c r x left k l none reading lost fewer =
     let online = k.tied.runners_online c (k.tied.readers_run c r reading) in
-    let same : runner_at (set s.runners c x) c ≡ x = get_or-set_same s.runners c x no_runner (inside s.runners c online) in
+    let same : runner_at (set s.runners c x) c ≡ x =
+    get_or-set_same s.runners c x no_runner (inside s.runners c online) in
     record {
       owner = none;
       gone = gone_from (runner_at (set s.runners c x) c) (runner_at s.runners c).since (λ h.
@@ -156,8 +165,10 @@ pub command_step : (s : Outline) (c : ℕ) (turn : Turn) (t : Outline) → IsKep
 command_step s c turn t k l none running (ends ended) = no_both running (ended.running c)
 command_step s c turn t k l none running (comes h) = absurd (not_comes s c k running h)
 command_step s c turn t k l none running (clears x h cleared) = absurd (not_clears s c k none h)
-command_step s c turn t k l none running (reads r used modified h is) = inr (inr (read_nearer s c r used modified k none is))
-command_step s c turn t k l none running (loses r x left h is lost fewer) = inr (inl (lost_past s c r x left k l none is lost fewer))
+command_step s c turn t k l none running (reads r used modified h is) =
+    inr (inr (read_nearer s c r used modified k none is))
+command_step s c turn t k l none running (loses r x left h is lost fewer) =
+    inr (inl (lost_past s c r x left k l none is lost fewer))
 command_step s c turn t k l none running (works _ h step) = absurd (not_works s c none h)
 command_step s c turn t k l none running (awaits_clear w e h waiting online due) = not_works s c none h
 command_step s c turn t k l none running (awaits_transfer g uid page h look started) = not_works s c none h
@@ -168,8 +179,10 @@ command_step s c turn t k l none running (leaves x h left) =
 command_step s c turn t k l none running (fills x h filled) =
     inr (inr (fill_nearer s c x (inside s.runners c (k.tied.runners_online c running)) none filled))
 command_step s c turn t k l none running (replies _ h replied) = inr (inl (replied_past s t c l none replied))
-command_step s c turn t k l none running (faults chain uid page makes h free want lacks) = inl (record { now = refl; why = inl lacks })
-command_step s c turn t k l none running (enters h free want) = inl (record { now = refl; why = inr (is_no_reference (want_at s c) want) })
+command_step s c turn t k l none running (faults chain uid page makes h free want lacks) =
+    inl (record { now = refl; why = inl lacks })
+command_step s c turn t k l none running (enters h free want) =
+    inl (record { now = refl; why = inr (is_no_reference (want_at s c) want) })
 command_step s c turn t k l none running (waits o h some) = let no : None ≡ Some o = sym none ∙ some in absurd cc
 
 -- ---- no processor has a process
@@ -188,7 +201,8 @@ online_round : (s : Outline) (c : ℕ) → c < length s.runners → (runner_at s
 online_round s c within off =
     let turns = over_set s.runners c (record (runner_at s.runners c) { online = true }) within in
     let offs = offline_set s.runners c (record (runner_at s.runners c) { online = true }) within in
-    let was : cond {A = ℕ} (not (runner_at s.runners c).online) 1 0 ≡ 1 = ap (λ (b : Bool). cond {A = ℕ} (not b) 1 0) off in
+    let was : cond {A = ℕ} (not (runner_at s.runners c).online) 1 0 ≡ 1 =
+    ap (λ (b : Bool). cond {A = ℕ} (not b) 1 0) off in
     all_online s (with_runner s c (record (runner_at s.runners c) { online = true })) refl (omega (arith, turns)) refl
     (omega (arith, offs, was))
 
@@ -198,16 +212,23 @@ pub idle_step : (s : Outline) (c : ℕ) (turn : Turn) (t : Outline) → IsKept s
 idle_step s c turn t k l within none idle more (ends ended) = absurd (more ended)
 idle_step s c turn t k l within none idle more (comes h) = (none, online_round s c within (tells s c Comes h))
 idle_step s c turn t k l within none idle more (clears x h cleared) = absurd (not_clears s c k none h)
-idle_step s c turn t k l within none idle more (reads r used modified h is) = absurd (no_both (k.tied.readers_run c r is) (idle c))
-idle_step s c turn t k l within none idle more (loses r x left h is lost fewer) = absurd (no_both (k.tied.readers_run c r is) (idle c))
+idle_step s c turn t k l within none idle more (reads r used modified h is) =
+    absurd (no_both (k.tied.readers_run c r is) (idle c))
+idle_step s c turn t k l within none idle more (loses r x left h is lost fewer) =
+    absurd (no_both (k.tied.readers_run c r is) (idle c))
 idle_step s c turn t k l within none idle more (works _ h step) = absurd (not_works s c none h)
 idle_step s c turn t k l within none idle more (awaits_clear w e h waiting online due) = absurd (not_works s c none h)
-idle_step s c turn t k l within none idle more (awaits_transfer g uid page h look started) = absurd (not_works s c none h)
-idle_step s c turn t k l within none idle more (loads x h some loaded) = (none, loaded_round s c x l within some (idle c) loaded)
-idle_step s c turn t k l within none idle more (idles busy h zero_ready) = absurd (more (record { ready = zero_ready; running = idle }))
+idle_step s c turn t k l within none idle more (awaits_transfer g uid page h look started) =
+    absurd (not_works s c none h)
+idle_step s c turn t k l within none idle more (loads x h some loaded) =
+    (none, loaded_round s c x l within some (idle c) loaded)
+idle_step s c turn t k l within none idle more (idles busy h zero_ready) =
+    absurd (more (record { ready = zero_ready; running = idle }))
 idle_step s c turn t k l within none idle more (leaves x h left) = absurd (no_both (tells s c Leaves h).3 (idle c))
 idle_step s c turn t k l within none idle more (fills x h filled) = absurd (no_both (tells s c Commands h).3 (idle c))
-idle_step s c turn t k l within none idle more (replies _ h replied) = absurd (no_both (tells s c Commands h).3 (idle c))
-idle_step s c turn t k l within none idle more (faults chain uid page makes h free want lacks) = absurd (no_both (tells s c Commands h).3 (idle c))
+idle_step s c turn t k l within none idle more (replies _ h replied) =
+    absurd (no_both (tells s c Commands h).3 (idle c))
+idle_step s c turn t k l within none idle more (faults chain uid page makes h free want lacks) =
+    absurd (no_both (tells s c Commands h).3 (idle c))
 idle_step s c turn t k l within none idle more (enters h free want) = absurd (no_both (tells s c Commands h).3 (idle c))
 idle_step s c turn t k l within none idle more (waits o h some) = absurd (no_both (tells s c Commands h).3 (idle c))

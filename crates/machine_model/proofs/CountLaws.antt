@@ -1,8 +1,10 @@
 -- How counts over the lists of an outline change as one element changes.
-use Rattle.std.proofs.Common.{◌≡◌, ◌≢◌, ◌≤◌, ◌<◌, ℕ, ◌+◌, zero, suc, Bool, true, false, not, cond, ◌||◌, ◌&&◌, eqb, List, [], ◌∷◌, length, Option, Some, None, is_some, slice_index_or, slice_set, set, get_or, count_by, Contains, refl, sym, ap, subst, ◌∙◌, inl, inr, arith}
+use Rattle.std.proofs.Common.{◌≡◌, ◌≤◌, ◌<◌, ℕ, ◌+◌, zero, suc, Bool, true, false, not, cond, ◌||◌, eqb, List, [], ◌∷◌}
+use Rattle.std.proofs.Common.{length, Option, Some, None, is_some, set, get_or, count_by, Contains, refl, sym, ap, ◌∙◌}
+use Rattle.std.proofs.Common.{inl, inr, arith}
 use Rattle.std.specs.List.{list_any}
 use Rattle.std.proofs.lemmas.Bool.Decides.{nat_tests, eqb_tells}
-use Rattle.std.proofs.lemmas.List.{get_or-set_same, get_or-set_other, length-set}
+use Rattle.std.proofs.lemmas.List.{get_or-set_same, length-set}
 use Rattle.std.proofs.lemmas.List.Elements.{Contains-get_or}
 use Rattle.std.proofs.lemmas.List.Folds.{list_any_at}
 use Rattle.std.proofs.lemmas.List.Sums.{sum_by-set, sum_by-cons, count_by-le-length}
@@ -14,7 +16,7 @@ use Rattle.active_segs.specs.Active.{entry_at}
 use Rattle.active_segs.specs.Victim.{off_chain, IsOffChain}
 use Rattle.seg_control.specs.Control.{is_for}
 use Rattle.processor.specs.declared.Transfer.{Transfer}
-use Rattle.machine_model.specs.Outline.{Runner, runner_at, no_runner, frame_in}
+use Rattle.machine_model.specs.Outline.{Runner, runner_at, no_runner}
 use Rattle.machine_model.specs.Measures.{is_active, idle_links, off_links, readers, dues, has_free}
 
 -- ---- any list
@@ -76,7 +78,8 @@ any_set p (x ∷ xs) zero y d lt h = by (p x) (p y) (list_any p xs) h
     by : (a b c : Bool) → a ≡ false → (b || c) ≡ (b || (a || c))
     by true b c e = let no : true ≡ false = e in absurd cc
     by false b c e = refl
-any_set p (x ∷ xs) (suc i) y d lt h = ap (λ b. p x || b) (any_set p xs i y d (omega arith) h) ∙ swap (p x) (p y) (list_any p xs)
+any_set p (x ∷ xs) (suc i) y d lt h = ap (λ b. p x || b) (any_set p xs i y d (omega arith) h)
+    ∙ swap (p x) (p y) (list_any p xs)
   where
     swap : (a b c : Bool) → (a || (b || c)) ≡ (b || (a || c))
     swap true true c = refl
@@ -99,10 +102,14 @@ activation_falls entries place uid superior chain there idle free lt =
     (rw (there.2) (ap not idle)) (rw (there.2) (ap not itself))
   where
     changed : (v : ℕ) → is_active (with_active entries place uid superior) v ≡ (eqb uid v || is_active entries v)
-    changed v = any_set (is_for v) entries place (Some (record { uid = uid; superior = superior })) None lt (ap (is_for v) free)
+    changed v = any_set (is_for v) entries place (Some (record { uid = uid; superior = superior })) None lt
+        (ap (is_for v) free)
+
     itself : is_active (with_active entries place uid superior) uid ≡ true
     itself = changed uid ∙ ap (λ (b : Bool). b || is_active entries uid) (eqb_self uid)
-    kept : (k d : ℕ) → k < length chain → not (is_active (with_active entries place uid superior) (get_or chain k d)) ≡ true
+
+    kept : (k d : ℕ) → k < length chain → not (is_active (with_active entries place uid superior) (get_or chain k d))
+        ≡ true
         → not (is_active entries (get_or chain k d)) ≡ true
     kept k d l h = by (eqb uid (get_or chain k d)) (is_active entries (get_or chain k d))
         (sym (ap not (changed (get_or chain k d))) ∙ h)
@@ -111,7 +118,8 @@ activation_falls entries place uid superior chain there idle free lt =
         by true b e = let no : false ≡ true = e in absurd cc
         by false b e = e
 
-off_now : (chain : List ℕ) (o : Option Entry) → off_chain chain o ≡ true → (v : ℕ) → Contains chain v → is_for v o ≡ false
+off_now : (chain : List ℕ) (o : Option Entry) → off_chain chain o ≡ true → (v : ℕ) → Contains chain v
+    → is_for v o ≡ false
 off_now chain None off v there = refl
 off_now chain (Some e) off v there = by (eqb e.uid v) refl
   where
@@ -120,6 +128,7 @@ off_now chain (Some e) off v there = by (eqb e.uid v) refl
         let same : e.uid ≡ v = grind (arith, nat_tests) in
         let at : eqb (get_or chain there.0 v) e.uid ≡ true = rw (there.2, same) (eqb_self v) in
         list_any_at (λ u. eqb u e.uid) chain there.0 v there.1 at
+
     by : (b : Bool) → eqb e.uid v ≡ b → b ≡ false
     by false h = refl
     by true h = let no : not true ≡ true = sym (ap not (other h)) ∙ off in absurd cc
@@ -144,7 +153,7 @@ emptying_idle entries place chain off lt =
     kept k d l h =
         let v : ℕ = get_or chain k d in
         let gone : is_for v (get_or entries place None) ≡ false =
-            off_now chain (get_or entries place None) off v (Contains-get_or chain k d l) in
+        off_now chain (get_or entries place None) off v (Contains-get_or chain k d l) in
         sym (ap not (any_set (is_for v) entries place None None lt gone)) ∙ h
 
 -- ---- frames

@@ -1,22 +1,26 @@
 -- What each step of the owner brings: the job goes on with the same command, the command is past, or what it lacked is
 -- there.
-use Rattle.std.proofs.Common.{◌≡◌, ◌≢◌, ◌≤◌, ◌<◌, ℕ, ◌+◌, Bool, true, false, not, cond, ◌||◌, ◌&&◌, eqb, List, [], ◌∷◌, length, Option, Some, None, is_some, set, get_or, refl, sym, ap, subst, ◌∙◌, ◌⊎◌, inl, inr, le_refl, le_of_eq, arith}
+use Rattle.std.proofs.Common.{◌≡◌, ◌≤◌, ◌<◌, ℕ, ◌+◌, Bool, true, false, not, cond, ◌||◌, ◌&&◌, eqb, ◌∷◌, length, Some}
+use Rattle.std.proofs.Common.{None, set, refl, sym, ap, subst, ◌∙◌, inl, inr, le_refl, le_of_eq, arith}
 use Rattle.std.proofs.lemmas.Bool.Decides.{eqb_tells}
-use Rattle.std.proofs.lemmas.List.{get_or-set_same, get_or-set_other}
-use Rattle.core_map.specs.declared.Frame.{Frame}
+use Rattle.std.proofs.lemmas.List.{get_or-set_same}
 use Rattle.core_map.specs.declared.Frame.TheVariants as frame
-use Rattle.active_segs.specs.declared.Entry.{Entry}
 use Rattle.processor.specs.declared.Transfer.{Transfer}
-use Rattle.machine_model.specs.Actions.{ForOwner, ForClear, ForTransfer, WhileIdle}
-use Rattle.machine_model.specs.Outline.{Want, Refer, Truncate, Length, Other, Runner, no_runner, Work, EvictFrame, EmptyPlace, CommitCommand, Stage, Look, Taken, Waiting, Keeper, Outline, Turn, Moved, WaitsFor, Ended, runner_at, want_at, at_stage, with_entry, with_frame, frame_in}
-use Rattle.machine_model.specs.Measures.{is_of, is_here, reads_page, page_fits, wanted_fits, wanted_link, want_lack, lack, over, offline, all_rank, job_rank, is_over}
-use Rattle.machine_model.specs.Finishing.{IsIn, JobStep, activates, connects, takes_segment, takes_frame, takes_for_commit, signals, frees_frame, frees_page, empties, empties_at_once, gives_up, starts, answers, AreAlike, CanStart, IsWantedPage, IsAnswered, MayRelease, with_link, with_runners, with_stored, without_owner, now_reading, entry_for}
+use Rattle.machine_model.specs.Outline.{Want, Refer, Truncate, Length, Other, Runner, no_runner, EvictFrame}
+use Rattle.machine_model.specs.Outline.{EmptyPlace, CommitCommand, Stage, Look, Taken, Waiting, Outline, runner_at}
+use Rattle.machine_model.specs.Outline.{want_at, at_stage, with_entry, with_frame}
+use Rattle.machine_model.specs.Measures.{is_here, page_fits, wanted_fits, wanted_link, want_lack, lack, over, offline}
+use Rattle.machine_model.specs.Measures.{all_rank, is_over}
+use Rattle.machine_model.specs.Finishing.{IsIn, JobStep, activates, connects, takes_segment, takes_frame}
+use Rattle.machine_model.specs.Finishing.{takes_for_commit, signals, frees_frame, frees_page, empties, empties_at_once}
+use Rattle.machine_model.specs.Finishing.{gives_up, starts, answers, AreAlike, CanStart, IsWantedPage, IsAnswered}
+use Rattle.machine_model.specs.Finishing.{with_link, with_runners, with_stored, without_owner, now_reading, entry_for}
 use Rattle.machine_model.specs.OutlineKept.{IsKept}
-use Rattle.machine_model.specs.Looping.{lack_at, is_at, IsReference, IsSameCommand, IsUnderWay, IsPast, IsMended, Goes}
-use Rattle.machine_model.proofs.CountLaws.{any_set}
+use Rattle.machine_model.specs.Looping.{lack_at, is_at, IsReference, IsSameCommand, IsPast, IsMended, Goes}
 use Rattle.machine_model.proofs.JobLaws.{alike_self}
-use Rattle.machine_model.proofs.LackLaws.{lack_le, lack_few, wanted_more, here_same, here_now, freed_fits}
-use Rattle.machine_model.proofs.OuterLaws.{over_set, offline_set, over_same, over_like, offline_like, all_le, all_fewer}
+use Rattle.machine_model.proofs.LackLaws.{lack_le, freed_fits}
+use Rattle.machine_model.proofs.OuterLaws.{over_set, offline_set, over_same, over_like, offline_like, all_le}
+use Rattle.machine_model.proofs.OuterLaws.{all_fewer}
 
 -- ---- the same command
 
@@ -46,20 +50,22 @@ same_alike s t c alike left ready = record {
 }
 
 lack_alike : (s t : Outline) (c : ℕ) → AreAlike s.runners t.runners c
-    → wanted_fits t (want_at s c) (runner_at s.runners c).reading ≡ wanted_fits s (want_at s c) (runner_at s.runners c).reading
+    → wanted_fits t (want_at s c) (runner_at s.runners c).reading ≡ wanted_fits s (want_at s c)
+    (runner_at s.runners c).reading
     → lack_at t c ≤ lack_at s c
 lack_alike s t c alike fits =
     let w : Want = want_at s c in
     let same : lack_at t c ≡ want_lack t w (runner_at s.runners c).linked (runner_at s.runners c).reading =
-        rw (alike.want, alike.linked, alike.reading c) refl in
+    rw (alike.want, alike.linked, alike.reading c) refl in
     let le = lack_le s t w (runner_at s.runners c).linked (runner_at s.runners c).linked (runner_at s.runners c).reading
-        (runner_at s.runners c).reading (λ h. h) (λ h. fits ∙ h) in
+    (runner_at s.runners c).reading (λ h. h) (λ h. fits ∙ h) in
     omega (arith, same, le)
 
 -- the job goes on: nothing but what others hold, and what it took, changes
 under_way : (s t : Outline) (c : ℕ) (stage : Stage) → IsIn t c stage → AreAlike s.runners t.runners c → t.left ≡ s.left
     → t.ready ≡ s.ready
-    → wanted_fits t (want_at s c) (runner_at s.runners c).reading ≡ wanted_fits s (want_at s c) (runner_at s.runners c).reading
+    → wanted_fits t (want_at s c) (runner_at s.runners c).reading ≡ wanted_fits s (want_at s c)
+    (runner_at s.runners c).reading
     → Goes s t c
 under_way s t c stage owner alike left ready fits = inl (record {
   stage = stage;
@@ -76,7 +82,8 @@ freed : (s : Outline) (c f : ℕ) (stored : ℕ → ℕ → Bool) (stage : Stage
 freed s c f stored stage fits = inl (record {
   stage = stage;
   in_job = refl;
-  same = same_alike s (with_stored (at_stage (with_frame s f frame.Free) c stage) stored) c (alike_self s.runners c) refl refl;
+  same = same_alike s (with_stored (at_stage (with_frame s f frame.Free) c stage) stored) c (alike_self s.runners c)
+      refl refl;
   lack = lack_le s (with_stored (with_frame s f frame.Free) stored) (want_at s c) (runner_at s.runners c).linked
       (runner_at s.runners c).linked (runner_at s.runners c).reading (runner_at s.runners c).reading (λ h. h) fits;
 })
@@ -90,9 +97,10 @@ pub all_set : (s t : Outline) (c : ℕ) (x : Runner) → c < length s.runners �
 all_set s t c x within is left ready online turn =
     let turns = over_set s.runners c x within in
     let offs = offline_set s.runners c x within in
-    let a : cond {A = ℕ} (is_over x) 1 0 ≡ cond (is_over (runner_at s.runners c)) 1 0 = ap (λ (b : Bool). cond {A = ℕ} b 1 0) turn in
+    let a : cond {A = ℕ} (is_over x) 1 0 ≡ cond (is_over (runner_at s.runners c)) 1 0 =
+    ap (λ (b : Bool). cond {A = ℕ} b 1 0) turn in
     let b : cond {A = ℕ} (not x.online) 1 0 ≡ cond (not (runner_at s.runners c).online) 1 0 =
-        ap (λ (b : Bool). cond {A = ℕ} (not b) 1 0) online in
+    ap (λ (b : Bool). cond {A = ℕ} (not b) 1 0) online in
     let i : over t.runners ≡ over (set s.runners c x) = ap over is in
     let j : offline t.runners ≡ offline (set s.runners c x) = ap offline is in
     all_le s t left (omega (arith, turns, a, i)) ready (omega (arith, offs, b, j))
@@ -105,9 +113,11 @@ connects_goes s c within owner = inl (record {
     want = ap (λ (x : Runner). x.want) same;
     since = ap (λ (x : Runner). x.since) same;
     running = ap (λ (x : Runner). x.running) same;
-    all = all_set s (with_link s c) c (record (runner_at s.runners c) { linked = true }) within refl refl refl refl refl;
+    all = all_set s (with_link s c) c (record (runner_at s.runners c) { linked = true }) within refl refl refl refl
+        refl;
   };
-  lack = subst (λ (y : Runner). lack (with_link s c) y ≤ lack_at s c) (sym same) (lack_le s (with_link s c) (want_at s c)
+  lack = subst (λ (y : Runner). lack (with_link s c) y ≤ lack_at s c) (sym same)
+      (lack_le s (with_link s c) (want_at s c)
       (runner_at s.runners c).linked true (runner_at s.runners c).reading (runner_at s.runners c).reading (λ h. refl)
       (λ h. h));
 })
@@ -152,12 +162,15 @@ starts_goes s c f uid page within can = record {
   };
   now = ap (λ (y : Runner). lack (without_owner (now_reading s c f uid page)) y) same
       ∙ ap (λ (b : Bool). cond {A = ℕ} b 0 1)
-      (started_fits (without_owner (now_reading s c f uid page)) (want_at s c) (runner_at s.runners c).linked f uid page can.wants);
+      (started_fits (without_owner (now_reading s c f uid page)) (want_at s c) (runner_at s.runners c).linked f uid
+      page can.wants);
   before = inl can.lacks;
 }
   where
-    same : runner_at (now_reading s c f uid page).runners c ≡ record (runner_at s.runners c) { reading = Some (reading f uid page) }
-    same = get_or-set_same s.runners c (record (runner_at s.runners c) { reading = Some (reading f uid page) }) no_runner within
+    same : runner_at (now_reading s c f uid page).runners c ≡ record (runner_at s.runners c)
+        { reading = Some (reading f uid page) }
+    same = get_or-set_same s.runners c (record (runner_at s.runners c) { reading = Some (reading f uid page) })
+        no_runner within
 
 -- ---- a command is past
 
@@ -168,7 +181,8 @@ gone_from x since h = by x.running refl
     by : (b : Bool) → x.running ≡ b → (b && eqb x.since since) ≡ false
     by false e = refl
     by true e = elim (eqb_tells x.since since) [
-      | inl i ↦ (let more : x.since ≡ since + 1 = h e in let same : x.since ≡ since = i.1 in absurd (omega (arith, more, same)))
+      | inl i ↦ (let more : x.since ≡ since + 1 = h e in let same : x.since ≡ since = i.1 in
+          absurd (omega (arith, more, same)))
       | inr n ↦ n.0
     ]
 
@@ -190,12 +204,15 @@ goes s c t k l (activates place uid superior can) =
 goes s c t k l (connects chain uid page makes owner want off) =
     connects_goes s c (k.job.at_work c Look owner).within owner
 goes s c t k l (takes_segment place frames runners can of few alike) =
-    under_way s (with_runners (at_stage s c (Taken (EmptyPlace place frames))) runners) c (Taken (EmptyPlace place frames))
+    under_way s (with_runners (at_stage s c (Taken (EmptyPlace place frames))) runners) c
+    (Taken (EmptyPlace place frames))
     refl alike refl refl refl
 goes s c t k l (takes_frame f can) =
-    under_way s (at_stage s c (Taken (EvictFrame f))) c (Taken (EvictFrame f)) refl (alike_self s.runners c) refl refl refl
+    under_way s (at_stage s c (Taken (EvictFrame f))) c (Taken (EvictFrame f)) refl (alike_self s.runners c) refl refl
+    refl
 goes s c t k l (takes_for_commit runners owner alike) =
-    under_way s (with_runners (at_stage s c (Taken CommitCommand)) runners) c (Taken CommitCommand) refl alike refl refl refl
+    under_way s (with_runners (at_stage s c (Taken CommitCommand)) runners) c (Taken CommitCommand) refl alike refl
+    refl refl
 goes s c t k l (signals w runners owner alike) =
     under_way s (with_runners (at_stage s c (Waiting w)) runners) c (Waiting w) refl alike refl refl refl
 goes s c t k l (frees_frame f stored owner due may) =
@@ -215,5 +232,6 @@ goes s c t k l (gives_up chain uid page makes owner want fits) = inr (inr (recor
   now = fits;
   before = inr (subst IsReference (sym want) tt);
 }))
-goes s c t k l (starts f uid page can) = inr (inr (starts_goes s c f uid page (k.job.at_work c Look can.look).within can))
+goes s c t k l (starts f uid page can) = inr (inr (starts_goes s c f uid page (k.job.at_work c Look can.look).within
+    can))
 goes s c t k l (answers stage _ owner due given) = inr (inl (answers_goes s t c l given))

@@ -1,15 +1,22 @@
 -- Each step of the owner makes the measure of its job fall.
-use Rattle.std.proofs.Common.{◌≡◌, ◌≤◌, ◌<◌, ℕ, ◌+◌, Bool, true, false, cond, List, [], ◌∷◌, length, Option, Some, None, is_some, set, get_or, refl, sym, ap, subst, ◌∙◌, le_refl, le_of_eq, arith}
+use Rattle.std.proofs.Common.{◌≡◌, ◌≤◌, ◌<◌, ℕ, ◌+◌, Bool, true, false, cond, List, [], ◌∷◌, length, Option, None, set}
+use Rattle.std.proofs.Common.{refl, sym, ap, subst, le_refl, le_of_eq, arith}
 use Rattle.std.proofs.lemmas.List.{get_or-set_same}
 use Rattle.core_map.specs.declared.Frame.{Frame}
 use Rattle.core_map.specs.declared.Frame.TheVariants as frame
 use Rattle.active_segs.specs.declared.Entry.{Entry}
-use Rattle.machine_model.specs.Outline.{Want, Refer, Truncate, Length, Other, Runner, no_runner, Work, EvictFrame, EmptyPlace, CommitCommand, Stage, Look, Taken, Waiting, Keeper, Outline, runner_at, want_at, at_stage, with_entry, with_frame}
-use Rattle.machine_model.specs.Measures.{Parts, IsSmall, chain_of, idle_links, off_links, readers, dues, has_free, unlinked, frame_lack, work_left, stage_left, parts_of, rank_of, job_left, job_rank}
-use Rattle.machine_model.specs.Finishing.{IsIn, JobStep, activates, connects, takes_segment, takes_frame, takes_for_commit, signals, frees_frame, frees_page, empties, empties_at_once, gives_up, starts, answers, AreAlike, with_link, with_runners, with_stored, entry_for}
+use Rattle.machine_model.specs.Outline.{Want, Refer, Truncate, Length, Other, Runner, no_runner, Work, EvictFrame}
+use Rattle.machine_model.specs.Outline.{EmptyPlace, CommitCommand, Stage, Look, Taken, Waiting, Keeper, Outline}
+use Rattle.machine_model.specs.Outline.{runner_at, want_at, at_stage}
+use Rattle.machine_model.specs.Measures.{IsSmall, chain_of, idle_links, off_links, readers, has_free, unlinked}
+use Rattle.machine_model.specs.Measures.{frame_lack, work_left, stage_left, parts_of, rank_of, job_left, job_rank}
+use Rattle.machine_model.specs.Finishing.{IsIn, JobStep, activates, connects, takes_segment, takes_frame}
+use Rattle.machine_model.specs.Finishing.{takes_for_commit, signals, frees_frame, frees_page, empties, empties_at_once}
+use Rattle.machine_model.specs.Finishing.{gives_up, starts, answers, AreAlike, with_link, with_runners}
 use Rattle.machine_model.specs.OutlineKept.{IsKept, FitsStage, FitsWork}
-use Rattle.machine_model.proofs.CountLaws.{activation_falls, emptying_off, emptying_idle, freed_is_free, readers_like, readers_set, readers_few, dues_few, idle_few, off_few}
-use Rattle.machine_model.proofs.RankLaws.{falls_reading, falls_idle, falls_off, falls_link, falls_frame, falls_stage, falls_due}
+use Rattle.machine_model.proofs.CountLaws.{activation_falls, emptying_off, emptying_idle, freed_is_free, readers_like}
+use Rattle.machine_model.proofs.CountLaws.{readers_set, dues_few, idle_few, off_few}
+use Rattle.machine_model.proofs.RankLaws.{falls_idle, falls_off, falls_link, falls_frame, falls_stage}
 
 -- the measure of a job by its owner and stage
 pub ranked : (s : Outline) (c : ℕ) (stage : Stage) → IsIn s c stage
@@ -76,7 +83,8 @@ small_of t c stage kept owner =
 between : (s t : Outline) (c : ℕ) (a b : Stage) → IsIn s c a → IsIn t c b
     → rank_of (parts_of t (runner_at t.runners c) b) < rank_of (parts_of s (runner_at s.runners c) a)
     → job_rank t < job_rank s
-between s t c a b owner now less = let was = ranked s c a owner in let is = ranked t c b now in omega (arith, was, is, less)
+between s t c a b owner now less = let was = ranked s c a owner in let is = ranked t c b now in
+    omega (arith, was, is, less)
 
 pub over_falls : (s t : Outline) (c : ℕ) (a : Stage) → IsIn s c a → t.owner ≡ None → job_rank t < job_rank s
 over_falls s t c a owner none = let was = ranked s c a owner in let is = ranked_none t none in omega (arith, was, is)
@@ -135,14 +143,21 @@ connect_falls s c chain uid page makes kept now owner want off =
   where
     linked : Runner
     linked = record (runner_at s.runners c) { linked = true }
+
     within : c < length s.runners
     within = (kept.job.at_work c Look owner).within
+
     same : runner_at (with_link s c).runners c ≡ record (runner_at s.runners c) { linked = true }
     same = get_or-set_same s.runners c (record (runner_at s.runners c) { linked = true }) no_runner within
+
     small : IsSmall (parts_of (with_link s c) (record (runner_at s.runners c) { linked = true }) Look)
-    small = subst (λ (y : Runner). IsSmall (parts_of (with_link s c) y Look)) same (small_of (with_link s c) c Look now owner)
+    small = subst (λ (y : Runner). IsSmall (parts_of (with_link s c) y Look)) same
+        (small_of (with_link s c) c Look now owner)
+
     reading : readers (with_link s c).runners ≤ readers s.runners
-    reading = let count = readers_set s.runners c (record (runner_at s.runners c) { linked = true }) within in omega (arith, count)
+    reading = let count = readers_set s.runners c (record (runner_at s.runners c) { linked = true }) within in
+        omega (arith, count)
+
     less : rank_of (parts_of (with_link s c) (record (runner_at s.runners c) { linked = true }) Look)
         < rank_of (parts_of s (runner_at s.runners c) Look)
     less = falls_link _ _ small reading (le_refl _) (le_refl _)

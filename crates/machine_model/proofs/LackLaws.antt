@@ -1,5 +1,6 @@
 -- What the tables lack for a command, as frames, transfers and stored pages change.
-use Rattle.std.proofs.Common.{◌≡◌, ◌≢◌, ◌≤◌, ◌<◌, ℕ, Bool, true, false, not, cond, ◌||◌, ◌&&◌, eqb, List, length, Option, Some, None, set, get_or, refl, sym, ap, ◌∙◌, ◌⊎◌, inl, inr, le_refl, arith}
+use Rattle.std.proofs.Common.{◌≡◌, ◌≢◌, ◌≤◌, ◌<◌, ℕ, Bool, true, false, not, cond, ◌||◌, ◌&&◌, eqb, List, length}
+use Rattle.std.proofs.Common.{Option, Some, None, set, refl, sym, ap, ◌∙◌, ◌⊎◌, inl, inr, le_refl, arith}
 use Rattle.std.specs.List.{list_any}
 use Rattle.std.proofs.lemmas.Bool.Decides.{eqb_tells}
 use Rattle.core_map.specs.declared.Frame.{Frame}
@@ -7,7 +8,8 @@ use Rattle.core_map.specs.declared.Frame.TheVariants as frame
 use Rattle.processor.specs.declared.Transfer.{Transfer}
 use Rattle.machine_model.specs.Jobs.{page_or_zero}
 use Rattle.machine_model.specs.Outline.{Want, Refer, Truncate, Length, Other, Outline, Runner, frame_in, with_frame}
-use Rattle.machine_model.specs.Measures.{is_of, is_here, reads_page, page_fits, wanted_fits, wanted_link, want_lack, lack}
+use Rattle.machine_model.specs.Measures.{is_of, is_here, reads_page, page_fits, wanted_fits, wanted_link, want_lack}
+use Rattle.machine_model.specs.Measures.{lack}
 use Rattle.machine_model.specs.Finishing.{MayRelease, page_of, with_stored}
 use Rattle.machine_model.specs.OutlineKept.{is_wanted, is_spared}
 use Rattle.machine_model.proofs.CountLaws.{any_set}
@@ -63,6 +65,7 @@ fits_more s t r q uid page makes here reads stored h =
   where
     at : Bool → Bool → Bool → Type 0
     at a b c = (a || (b || (not c && not makes))) ≡ true
+
     by : (a b c : Bool) → is_here s.frames uid page ≡ a → reads_page r uid page ≡ b → s.stored uid page ≡ c
         → (a || (b || (not c && not makes))) ≡ true → page_fits t q uid page makes ≡ true
     by true b c i j k g = or_left _ _ (here i)
@@ -75,7 +78,8 @@ fits_more s t r q uid page makes here reads stored h =
         or_true true = refl
         or_true false = refl
     by false false true i j k g = let no : false ≡ true = g in absurd cc
-    by false false false i j k g = rw (stored k) (last (is_here t.frames uid page) (reads_page q uid page) (not makes) g)
+    by false false false i j k g = rw (stored k) (last (is_here t.frames uid page) (reads_page q uid page) (not makes)
+        g)
       where
         last : (x y z : Bool) → z ≡ true → (x || (y || z)) ≡ true
         last true y z e = refl
@@ -85,7 +89,8 @@ fits_more s t r q uid page makes here reads stored h =
 -- the same for the page that a command wants
 pub wanted_more : (s t : Outline) (w : Want) (r q : Option Transfer)
     → ((uid page : ℕ) (makes : Bool) → (is_here s.frames uid page ≡ true → is_here t.frames uid page ≡ true))
-    → ((uid page : ℕ) → reads_page r uid page ≡ true → (is_here t.frames uid page ≡ true) ⊎ (reads_page q uid page ≡ true))
+    → ((uid page : ℕ) → reads_page r uid page ≡ true → (is_here t.frames uid page ≡ true)
+    ⊎ (reads_page q uid page ≡ true))
     → ((uid page : ℕ) → s.stored uid page ≡ false → t.stored uid page ≡ false)
     → wanted_fits s w r ≡ true → wanted_fits t w q ≡ true
 wanted_more s t (Refer chain uid page makes) r q here reads stored h =
@@ -113,7 +118,8 @@ pub here_more : (frames : List Frame) (f uid page : ℕ) (x : Frame) → f < len
     → is_here (set frames f x) uid page ≡ true
 unfolding is_here
 here_more frames f uid page x lt was h =
-    any_set (is_of uid page) frames f x frame.Free lt was ∙ or_last (is_of uid page x) (list_any (is_of uid page) frames) h
+    any_set (is_of uid page) frames f x frame.Free lt was
+    ∙ or_last (is_of uid page x) (list_any (is_of uid page) frames) h
   where
     or_last : (a b : Bool) → b ≡ true → (a || b) ≡ true
     or_last true b e = refl
@@ -157,7 +163,8 @@ pub freed_fits : (s : Outline) (f : ℕ) (stored : ℕ → ℕ → Bool) (w : Wa
     → is_spared w (frame_in s.frames f) ≡ true → MayRelease s f stored
     → wanted_fits s w r ≡ true → wanted_fits (with_stored (with_frame s f frame.Free) stored) w r ≡ true
 freed_fits s f stored (Refer chain uid page makes) r lt spared may h =
-    page_same s f stored uid page makes r lt (spared_not (Refer chain uid page makes) (frame_in s.frames f) spared) may ∙ h
+    page_same s f stored uid page makes r lt (spared_not (Refer chain uid page makes) (frame_in s.frames f) spared)
+    may ∙ h
   where
     page_same : (s : Outline) (f : ℕ) (stored : ℕ → ℕ → Bool) (uid page : ℕ) (makes : Bool) (r : Option Transfer)
         → f < length s.frames → is_of uid page (frame_in s.frames f) ≡ false → MayRelease s f stored

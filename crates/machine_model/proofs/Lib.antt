@@ -24,6 +24,7 @@ pub mod GoesLaws
 pub mod HeldLaws
 pub mod JobLaws
 pub mod KeepLaws
+pub mod KeptLaws
 pub mod LackLaws
 pub mod LateWord
 pub mod LeaveSeen

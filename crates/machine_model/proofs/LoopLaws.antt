@@ -1,13 +1,14 @@
 -- How the turns of the loop that makes the machine end join: turns of a job, of a command, and rounds.
-use Rattle.std.proofs.Common.{◌≡◌, ◌≢◌, ◌≤◌, ◌<◌, ℕ, ◌+◌, Bool, true, false, cond, ◌&&◌, eqb, Option, Some, None, is_some, refl, sym, ap, subst, ◌∙◌, ◌⊎◌, inl, inr, le_refl, le_of_eq, le_trans, arith}
+use Rattle.std.proofs.Common.{◌≡◌, ◌≤◌, ◌<◌, ℕ, ◌+◌, Bool, true, false, cond, ◌&&◌, eqb, Some, None, is_some, refl}
+use Rattle.std.proofs.Common.{sym, ap, subst, ◌∙◌, ◌⊎◌, inl, inr, le_refl, le_trans, arith}
 use Rattle.std.proofs.lemmas.Bool.Decides.{eqb_tells}
-use Rattle.core_map.specs.declared.Frame.TheVariants as frame
-use Rattle.machine_model.specs.Outline.{Want, Runner, Stage, Look, Keeper, Outline, runner_at, want_at, at_stage, frame_in}
-use Rattle.machine_model.specs.Measures.{lack, missing, all_rank, job_rank, command_rank, command_left}
+use Rattle.machine_model.specs.Outline.{Runner, Stage, Look, Outline, runner_at, want_at, at_stage}
+use Rattle.machine_model.specs.Measures.{missing, all_rank, job_rank, command_rank}
 use Rattle.machine_model.specs.Finishing.{IsIn}
 use Rattle.machine_model.specs.OutlineKept.{IsKept}
-use Rattle.machine_model.specs.Looping.{lack_at, is_at, IsReference, IsSameCommand, IsUnderWay, IsPast, IsMended, Goes, JobFell, JobDone, AwaitsTransfer, IsReader, IsNearer, CommandDone, HasTaken, command_gauge, RoundDone}
-use Rattle.machine_model.proofs.OuterLaws.{all_le}
+use Rattle.machine_model.specs.Looping.{lack_at, is_at, IsReference, IsSameCommand, IsUnderWay, IsPast, Goes, JobFell}
+use Rattle.machine_model.specs.Looping.{JobDone, AwaitsTransfer, IsReader, CommandDone, HasTaken, command_gauge}
+use Rattle.machine_model.specs.Looping.{RoundDone}
 
 -- ---- a job
 
@@ -111,7 +112,9 @@ lacked s b c taken before = by taken.why before
   where
     same : lack_at b c ≡ lack_at s c
     same = ap (λ (x : Outline). lack_at x c) taken.now
-    by : (lack_at s c ≡ 1) ⊎ (IsReference (want_at s c) → ⊥) → (lack_at b c ≡ 1) ⊎ IsReference (want_at b c) → lack_at s c ≡ 1
+
+    by : (lack_at s c ≡ 1) ⊎ (IsReference (want_at s c) → ⊥) → (lack_at b c ≡ 1) ⊎ IsReference (want_at b c)
+        → lack_at s c ≡ 1
     by (inl h) any = h
     by (inr h) (inl i) = sym same ∙ i
     by (inr h) (inr i) = absurd (h (subst (λ (x : Outline). IsReference (want_at x c)) taken.now i))
@@ -120,7 +123,8 @@ lacked s b c taken before = by taken.why before
 pub taken_done : (s b t : Outline) (c : ℕ) → HasTaken s b c → JobDone b t c → CommandDone s t c
 taken_done s b t c taken (inl past) = inl (record {
   owner = past.owner;
-  gone = subst (λ (x : Outline). is_at (runner_at t.runners c) (runner_at x.runners c).since ≡ false) taken.now past.gone;
+  gone = subst (λ (x : Outline). is_at (runner_at t.runners c) (runner_at x.runners c).since ≡ false) taken.now
+      past.gone;
   all = let less = past.all in let same = ap all_rank taken.now ∙ all_owner s c in omega (arith, less, same);
 })
 taken_done s b t c taken (inr mended) = inr (record {
@@ -143,7 +147,11 @@ at_since : (x : Runner) (since : ℕ) → is_at x since ≡ true → x.since ≡
 at_since x since h = by x.running h
   where
     by : (b : Bool) → (b && eqb x.since since) ≡ true → x.since ≡ since
-    by true e = elim (eqb_tells x.since since) [ inl i ↦ i.1 | inr n ↦ (let no : true ≡ false = sym e ∙ n.0 in absurd cc) ]
+    by true e = elim (eqb_tells x.since since) [
+      | inl i ↦ i.1
+      | inr n ↦
+          (let no : true ≡ false = sym e ∙ n.0 in absurd cc)
+    ]
     by false e = let no : false ≡ true = e in absurd cc
 
 -- the measure of the loop falls with each turn
@@ -151,15 +159,18 @@ pub way_falls : (s t : Outline) (c since : ℕ) → is_at (runner_at s.runners c
     → command_gauge t c since < command_gauge s c since
 way_falls s t c since is (inl past) =
     let gone : is_at (runner_at t.runners c) since ≡ false =
-        subst (λ (n : ℕ). is_at (runner_at t.runners c) n ≡ false) (at_since (runner_at s.runners c) since is) past.gone in
+    subst (λ (n : ℕ). is_at (runner_at t.runners c) n ≡ false) (at_since (runner_at s.runners c) since is) past.gone in
     let a : command_gauge t c since ≡ 0 = ap (λ (b : Bool). cond {A = ℕ} b (command_rank t c + 1) 0) gone in
-    let b : command_gauge s c since ≡ command_rank s c + 1 = ap (λ (b : Bool). cond {A = ℕ} b (command_rank s c + 1) 0) is in
+    let b : command_gauge s c since ≡ command_rank s c + 1 =
+    ap (λ (b : Bool). cond {A = ℕ} b (command_rank s c + 1) 0) is in
     omega (arith, a, b)
 way_falls s t c since is (inr nearer) =
     let still : is_at (runner_at t.runners c) since ≡ true =
-        is_at_same (runner_at s.runners c) (runner_at t.runners c) since nearer.same.running nearer.same.since ∙ is in
-    let a : command_gauge t c since ≡ command_rank t c + 1 = ap (λ (b : Bool). cond {A = ℕ} b (command_rank t c + 1) 0) still in
-    let b : command_gauge s c since ≡ command_rank s c + 1 = ap (λ (b : Bool). cond {A = ℕ} b (command_rank s c + 1) 0) is in
+    is_at_same (runner_at s.runners c) (runner_at t.runners c) since nearer.same.running nearer.same.since ∙ is in
+    let a : command_gauge t c since ≡ command_rank t c + 1 =
+    ap (λ (b : Bool). cond {A = ℕ} b (command_rank t c + 1) 0) still in
+    let b : command_gauge s c since ≡ command_rank s c + 1 =
+    ap (λ (b : Bool). cond {A = ℕ} b (command_rank s c + 1) 0) is in
     let less = nearer.rank in
     omega (arith, a, b, less)
 
@@ -177,9 +188,10 @@ way_next s t c since all is way (inl past) =
     bit_few_other false = omega arith
 way_next s t c since all is way (inr nearer) =
     let le = nearer.same.all in
-    let still : cond {A = ℕ} (is_at (runner_at t.runners c) since) 0 1 ≡ cond (is_at (runner_at s.runners c) since) 0 1 =
-        ap (λ (b : Bool). cond {A = ℕ} b 0 1)
-        (is_at_same (runner_at s.runners c) (runner_at t.runners c) since nearer.same.running nearer.same.since) in
+    let still : cond {A = ℕ} (is_at (runner_at t.runners c) since) 0 1 ≡ cond (is_at (runner_at s.runners c) since) 0
+    1 =
+    ap (λ (b : Bool). cond {A = ℕ} b 0 1)
+    (is_at_same (runner_at s.runners c) (runner_at t.runners c) since nearer.same.running nearer.same.since) in
     omega (arith, way, le, still)
 
 -- the loop over a command is over: a round is done
@@ -188,6 +200,7 @@ pub round_done : (s t : Outline) (c since : ℕ) → t.owner ≡ None
     → is_at (runner_at t.runners c) since ≡ false → RoundDone s t
 round_done s t c since none way gone = record {
   owner = none;
-  all = let bit : cond {A = ℕ} (is_at (runner_at t.runners c) since) 0 1 ≡ 1 = ap (λ (b : Bool). cond {A = ℕ} b 0 1) gone in
+  all = let bit : cond {A = ℕ} (is_at (runner_at t.runners c) since) 0 1 ≡ 1 =
+      ap (λ (b : Bool). cond {A = ℕ} b 0 1) gone in
       omega (arith, way, bit);
 }

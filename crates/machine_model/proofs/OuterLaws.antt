@@ -1,5 +1,5 @@
 -- The measure of all commands, as one processor or all of them change.
-use Rattle.std.proofs.Common.{◌≡◌, ◌≤◌, ◌<◌, ℕ, ◌+◌, Bool, true, false, not, cond, ◌||◌, ◌&&◌, List, length, count_by, nat_le, set, refl, sym, ap, ◌∙◌, arith}
+use Rattle.std.proofs.Common.{◌≡◌, ◌≤◌, ◌<◌, ℕ, ◌+◌, not, cond, List, length, set, refl, ap, arith}
 use Rattle.std.proofs.lemmas.List.Sums.{count_by-le-length}
 use Rattle.machine_model.specs.Outline.{Outline, Runner, no_runner, runner_at}
 use Rattle.machine_model.specs.Measures.{is_over, over, offline, all_rank}
@@ -54,7 +54,8 @@ all_fewer s t sizes fewer =
     omega (arith, fewer, turns, off, sizes.few_runners, sizes.few_ready)
 
 -- a process has had its turn less
-pub all_turn : (s t : Outline) → HasSizes t → t.left ≡ s.left → over t.runners < over s.runners → all_rank t < all_rank s
+pub all_turn : (s t : Outline) → HasSizes t → t.left ≡ s.left → over t.runners < over s.runners
+    → all_rank t < all_rank s
 unfolding all_rank
 all_turn s t sizes left turn =
     let off = offline_few t.runners in

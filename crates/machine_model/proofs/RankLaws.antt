@@ -1,5 +1,5 @@
 -- The measure of a job falls where one of its parts falls and none before it rises.
-use Rattle.std.proofs.Common.{◌≡◌, ◌≤◌, ◌<◌, ℕ, arith}
+use Rattle.std.proofs.Common.{◌≤◌, ◌<◌, arith}
 use Rattle.machine_model.specs.Measures.{Parts, IsSmall, rank_of}
 
 pub falls_reading : (p q : Parts) → IsSmall q → q.reading < p.reading → rank_of q < rank_of p
@@ -10,7 +10,8 @@ pub falls_idle : (p q : Parts) → IsSmall q → q.reading ≤ p.reading → q.i
 falls_idle p q small reading less =
     omega (arith, small.off, small.link, small.frame, small.stage, small.due, reading, less)
 
-pub falls_off : (p q : Parts) → IsSmall q → q.reading ≤ p.reading → q.idle ≤ p.idle → q.off < p.off → rank_of q < rank_of p
+pub falls_off : (p q : Parts) → IsSmall q → q.reading ≤ p.reading → q.idle ≤ p.idle → q.off < p.off
+    → rank_of q < rank_of p
 falls_off p q small reading idle less =
     omega (arith, small.link, small.frame, small.stage, small.due, reading, idle, less)
 

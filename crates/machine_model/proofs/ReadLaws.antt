@@ -1,24 +1,24 @@
 -- What a step of a processor brings that reads a page in, while the owner waits for that.
-use Rattle.std.proofs.Common.{◌≡◌, ◌≢◌, ◌≤◌, ◌<◌, ℕ, zero, suc, ◌+◌, ◌-◌, Bool, true, false, not, cond, ◌||◌, ◌&&◌, eqb, nat_lt, List, [], ◌∷◌, length, Option, Some, None, is_some, set, get_or, refl, sym, ap, subst, ◌∙◌, ◌⊎◌, inl, inr, le_refl, le_of_eq, arith}
-use Rattle.std.proofs.lemmas.Bool.Decides.{eqb_tells}
-use Rattle.std.proofs.lemmas.List.{get_or-set_same, get_or-set_other}
-use Rattle.core_map.specs.declared.Frame.{Frame}
+use Rattle.std.proofs.Common.{◌≡◌, ◌≢◌, ◌≤◌, ◌<◌, ℕ, Bool, true, false, cond, List, Option, Some, None, is_some, set}
+use Rattle.std.proofs.Common.{refl, sym, ap, subst, ◌∙◌, inr, arith}
+use Rattle.std.proofs.lemmas.List.{get_or-set_other}
 use Rattle.core_map.specs.declared.Frame.TheVariants as frame
 use Rattle.processor.specs.declared.Transfer.{Transfer}
-use Rattle.machine_model.specs.Actions.{ForOwner, ForClear, ForTransfer, WhileIdle}
-use Rattle.machine_model.specs.Outline.{Want, Refer, Truncate, Length, Other, Runner, no_runner, Work, Stage, Look, Taken, Waiting, Keeper, Outline, Turn, Moved, WaitsFor, Ended, runner_at, want_at, at_stage, with_runner, with_frame, frame_in}
-use Rattle.machine_model.specs.Measures.{Parts, IsSmall, rank_of, parts_of, is_of, is_here, reads_page, wanted_fits, want_lack, lack, missing, over, offline, dues, readers, all_rank, job_rank, command_rank, command_left, is_over}
-use Rattle.machine_model.specs.Finishing.{Rule, Comes, Clears, Reads, Works, Loads, Leaves, Commands, rule_by, rule_of, owns, IsIn, JobStep, Step, ends, comes, clears, reads, loses, works, awaits_clear, awaits_transfer, loads, idles, leaves, fills, replies, faults, enters, waits, IsEnded, IsCleared, HasLost, HasLoaded, HasLeft, IsFilled, IsReplied, with_bound, not_reading}
+use Rattle.machine_model.specs.Outline.{Want, Runner, no_runner, Look, Outline, Turn, runner_at, want_at, with_runner}
+use Rattle.machine_model.specs.Outline.{with_frame, frame_in}
+use Rattle.machine_model.specs.Measures.{parts_of, is_of, wanted_fits, lack, over, dues, readers, all_rank, job_rank}
+use Rattle.machine_model.specs.Finishing.{Comes, Clears, Reads, Works, Loads, Leaves, Commands, rule_of, IsIn, Step}
+use Rattle.machine_model.specs.Finishing.{ends, comes, clears, reads, loses, works, awaits_clear, awaits_transfer}
+use Rattle.machine_model.specs.Finishing.{loads, idles, leaves, fills, replies, faults, enters, waits, HasLost}
+use Rattle.machine_model.specs.Finishing.{with_bound, not_reading}
 use Rattle.machine_model.specs.OutlineKept.{IsKept}
-use Rattle.machine_model.specs.Looping.{lack_at, is_at, IsReference, IsSameCommand, IsUnderWay, IsPast, IsNearer, JobFell, AwaitsClear, AwaitsTransfer, IsReader, OwnerStep, CommandDone, HasTaken, CommandStep}
-use Rattle.machine_model.proofs.CountLaws.{readers_set, dues_set}
-use Rattle.machine_model.proofs.RankLaws.{falls_reading, falls_due}
-use Rattle.machine_model.proofs.JobLaws.{ranked, small_of, job_falls}
-use Rattle.machine_model.proofs.LackLaws.{lack_le, wanted_more, here_same, here_more, here_now}
-use Rattle.machine_model.proofs.OuterLaws.{over_set, offline_set, over_same, over_few, all_le, all_fewer, all_turn, all_loaded, all_online}
-use Rattle.machine_model.proofs.GoesLaws.{goes, all_set, gone_from}
-use Rattle.machine_model.proofs.RuleLaws.{tells}
-
+use Rattle.machine_model.specs.Looping.{lack_at, IsUnderWay, AwaitsTransfer, IsReader}
+use Rattle.machine_model.proofs.CountLaws.{readers_set}
+use Rattle.machine_model.proofs.RankLaws.{falls_reading}
+use Rattle.machine_model.proofs.JobLaws.{ranked, small_of}
+use Rattle.machine_model.proofs.LackLaws.{lack_le, wanted_more, here_same, here_more}
+use Rattle.machine_model.proofs.OuterLaws.{all_fewer}
+use Rattle.machine_model.proofs.GoesLaws.{all_set}
 use Rattle.machine_model.proofs.StepLaws.{no_both, inside, none_due, other_than}
 
 -- the rule that applies to a processor that reads, while the owner looks
@@ -46,20 +46,20 @@ ended_falls s t c d x k l look owner idle r reading runners over all fits =
     let online = k.tied.runners_online d (k.tied.readers_run d r reading) in
     let within = inside s.runners d online in
     let apart : c ≢ d = other_than s c d (λ y. is_some y.reading) (ap (λ (o : Option Transfer). is_some o) idle)
-        (ap (λ (o : Option Transfer). is_some o) reading) in
+    (ap (λ (o : Option Transfer). is_some o) reading) in
     let same : runner_at t.runners c ≡ runner_at s.runners c =
-        ap (λ (xs : List Runner). runner_at xs c) runners ∙ get_or-set_other s.runners d c x no_runner apart in
+    ap (λ (xs : List Runner). runner_at xs c) runners ∙ get_or-set_other s.runners d c x no_runner apart in
     let count = readers_set s.runners d x within in
     let was : cond {A = ℕ} (is_some (runner_at s.runners d).reading) 1 0 ≡ 1 =
-        ap (λ (o : Option Transfer). cond {A = ℕ} (is_some o) 1 0) reading in
-    let now : cond {A = ℕ} (is_some x.reading) 1 0 ≡ 0 = ap (λ (o : Option Transfer). cond {A = ℕ} (is_some o) 1 0) over in
+    ap (λ (o : Option Transfer). cond {A = ℕ} (is_some o) 1 0) reading in
+    let now : cond {A = ℕ} (is_some x.reading) 1 0 ≡ 0 =
+    ap (λ (o : Option Transfer). cond {A = ℕ} (is_some o) 1 0) over in
     let list : readers t.runners ≡ readers (set s.runners d x) = ap readers runners in
     let looks : IsIn t c Look = owner ∙ look in
     let rank_s = ranked s c Look look in
     let rank_t = ranked t c Look looks in
     let less = falls_reading (parts_of s (runner_at s.runners c) Look) (parts_of t (runner_at t.runners c) Look)
-        (small_of t c Look l looks) (omega (arith, count, was, now, list)) in
-    (
+    (small_of t c Look l looks) (omega (arith, count, was, now, list)) in (
       omega (arith, rank_s, rank_t, less),
       record {
         stage = Look;
@@ -87,11 +87,13 @@ bound_falls s c d r used modified k l look idle reading =
     let t : Outline = not_reading (with_bound s r used modified) d in
     ended_falls s (not_reading (with_bound s r used modified) d) c d (record (runner_at s.runners d) { reading = None })
     k l look refl idle r reading refl refl
-    (all_set s (not_reading (with_bound s r used modified) d) d (record (runner_at s.runners d) { reading = None }) within
+    (all_set s (not_reading (with_bound s r used modified) d) d (record (runner_at s.runners d) { reading = None })
+    within
     refl refl refl refl refl)
     (λ w q h. wanted_more s (not_reading (with_bound s r used modified) d) w q q
     (λ uid page makes there. here_more s.frames r.frame uid page (frame.Bound r.uid r.page used modified)
-    (k.tied.read d r reading).1 (not_of s d r k reading uid page) there) (λ uid page there. inr there) (λ uid page out. out) h)
+    (k.tied.read d r reading).1 (not_of s d r k reading uid page) there) (λ uid page there. inr there)
+    (λ uid page out. out) h)
 
 lost_falls : (s : Outline) (c d : ℕ) (r : Transfer) (x : Runner) (left : ℕ) → IsKept s
     → IsKept (record (with_runner (with_frame s r.frame frame.Free) d x) { left = left }) → IsIn s c Look
@@ -101,7 +103,8 @@ lost_falls : (s : Outline) (c d : ℕ) (r : Transfer) (x : Runner) (left : ℕ) 
     × IsUnderWay s (record (with_runner (with_frame s r.frame frame.Free) d x) { left = left }) c
 lost_falls s c d r x left k l look idle reading lost fewer =
     let all = all_fewer s (record (with_runner (with_frame s r.frame frame.Free) d x) { left = left }) l.sizes fewer in
-    ended_falls s (record (with_runner (with_frame s r.frame frame.Free) d x) { left = left }) c d x k l look refl idle r
+    ended_falls s (record (with_runner (with_frame s r.frame frame.Free) d x) { left = left }) c d x k l look refl
+    idle r
     reading refl lost.reading (omega (arith, all))
     (λ w q h. wanted_more s (record (with_runner (with_frame s r.frame frame.Free) d x) { left = left }) w q q
     (λ uid page makes there. here_same s.frames r.frame uid page frame.Free (k.tied.read d r reading).1

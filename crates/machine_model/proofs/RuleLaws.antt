@@ -1,8 +1,9 @@
 -- Which rule applies to a processor, and what it tells of it.
-use Rattle.std.proofs.Common.{◌≡◌, ℕ, Bool, true, false, ◌&&◌, Option, Some, None, is_some, refl, sym, ap, subst, ◌∙◌, nat_lt}
-use Rattle.machine_model.specs.Outline.{Runner, Keeper, Outline, runner_at}
+use Rattle.std.proofs.Common.{◌≡◌, ℕ, Bool, true, false, ◌&&◌, is_some, refl, subst, nat_lt}
+use Rattle.machine_model.specs.Outline.{Runner, Outline, runner_at}
 use Rattle.machine_model.specs.Measures.{is_over}
-use Rattle.machine_model.specs.Finishing.{Rule, Comes, Clears, Reads, Works, Loads, Leaves, Commands, rule_by, rule_of, owns}
+use Rattle.machine_model.specs.Finishing.{Rule, Comes, Clears, Reads, Works, Loads, Leaves, Commands, rule_by, rule_of}
+use Rattle.machine_model.specs.Finishing.{owns}
 
 -- what the rules ask of six facts
 abbrev pub Tells : Rule → Bool → Bool → Bool → Bool → Bool → Bool → Type 0
@@ -10,7 +11,8 @@ Tells Comes online due reading own running leaves = online ≡ false
 Tells Clears online due reading own running leaves = (online ≡ true) × (due ≡ true)
 Tells Reads online due reading own running leaves = (online ≡ true) × (due ≡ false) × (reading ≡ true)
 Tells Works online due reading own running leaves = (due ≡ false) × (reading ≡ false) × (own ≡ true)
-Tells Loads online due reading own running leaves = (due ≡ false) × (reading ≡ false) × (own ≡ false) × (running ≡ false)
+Tells Loads online due reading own running leaves =
+    (due ≡ false) × (reading ≡ false) × (own ≡ false) × (running ≡ false)
 Tells Leaves online due reading own running leaves =
     (due ≡ false) × (reading ≡ false) × (own ≡ false) × (running ≡ true) × (leaves ≡ true)
 Tells Commands online due reading own running leaves =
@@ -32,5 +34,6 @@ pub tells : (s : Outline) (c : ℕ) (rule : Rule) → rule_of s c ≡ rule
 unfolding rule_of
 tells s c rule h =
     let x : Runner = runner_at s.runners c in
-    subst (λ (r : Rule). Tells r x.online x.due (is_some x.reading) (owns s.owner c) x.running (is_over x && nat_lt 0 s.ready))
+    subst (λ (r : Rule). Tells r x.online x.due (is_some x.reading) (owns s.owner c) x.running
+    (is_over x && nat_lt 0 s.ready))
     h (told x.online x.due (is_some x.reading) (owns s.owner c) x.running (is_over x && nat_lt 0 s.ready))

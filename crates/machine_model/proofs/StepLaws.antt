@@ -1,24 +1,24 @@
 -- What each step brings while the loop waits for it: a step of the owner, of a processor that is to clear, of one that
 -- reads a page in, and of one that has a process while nobody owns the supervisor.
-use Rattle.std.proofs.Common.{◌≡◌, ◌≢◌, ◌≤◌, ◌<◌, ℕ, zero, suc, ◌+◌, ◌-◌, Bool, true, false, not, cond, ◌||◌, ◌&&◌, eqb, nat_lt, List, [], ◌∷◌, length, Option, Some, None, is_some, set, get_or, refl, sym, ap, subst, ◌∙◌, ◌⊎◌, inl, inr, le_refl, le_of_eq, arith}
+use Rattle.std.proofs.Common.{◌≡◌, ◌≢◌, ◌<◌, ℕ, zero, suc, Bool, true, false, cond, eqb, List, [], ◌∷◌, length, Option}
+use Rattle.std.proofs.Common.{is_some, refl, sym, ap, subst, ◌∙◌, inl, inr, le_refl, le_of_eq, arith}
 use Rattle.std.proofs.lemmas.Bool.Decides.{eqb_tells}
-use Rattle.std.proofs.lemmas.List.{get_or-set_same, get_or-set_other}
-use Rattle.core_map.specs.declared.Frame.{Frame}
-use Rattle.core_map.specs.declared.Frame.TheVariants as frame
+use Rattle.std.proofs.lemmas.List.{get_or-set_other}
 use Rattle.processor.specs.declared.Transfer.{Transfer}
-use Rattle.machine_model.specs.Actions.{ForOwner, ForClear, ForTransfer, WhileIdle}
-use Rattle.machine_model.specs.Outline.{Want, Refer, Truncate, Length, Other, Runner, no_runner, Work, Stage, Look, Taken, Waiting, Keeper, Outline, Turn, Moved, WaitsFor, Ended, runner_at, want_at, at_stage, with_runner, with_frame, frame_in}
-use Rattle.machine_model.specs.Measures.{Parts, IsSmall, rank_of, parts_of, is_of, is_here, reads_page, wanted_fits, want_lack, lack, missing, over, offline, dues, readers, all_rank, job_rank, command_rank, command_left, is_over}
-use Rattle.machine_model.specs.Finishing.{Rule, Comes, Clears, Reads, Works, Loads, Leaves, Commands, rule_by, rule_of, owns, IsIn, JobStep, Step, ends, comes, clears, reads, loses, works, awaits_clear, awaits_transfer, loads, idles, leaves, fills, replies, faults, enters, waits, IsEnded, IsCleared, HasLost, HasLoaded, HasLeft, IsFilled, IsReplied, with_bound, not_reading}
+use Rattle.machine_model.specs.Outline.{Runner, no_runner, Stage, Waiting, Keeper, Outline, Turn, runner_at}
+use Rattle.machine_model.specs.Outline.{with_runner}
+use Rattle.machine_model.specs.Measures.{rank_of, parts_of, lack, dues, job_rank}
+use Rattle.machine_model.specs.Finishing.{Comes, Clears, Reads, Works, Loads, Leaves, Commands, rule_of, owns, IsIn}
+use Rattle.machine_model.specs.Finishing.{Step, ends, comes, clears, reads, loses, works, awaits_clear}
+use Rattle.machine_model.specs.Finishing.{awaits_transfer, loads, idles, leaves, fills, replies, faults, enters, waits}
+use Rattle.machine_model.specs.Finishing.{IsCleared}
 use Rattle.machine_model.specs.OutlineKept.{IsKept}
-use Rattle.machine_model.specs.Looping.{lack_at, is_at, IsReference, IsSameCommand, IsUnderWay, IsPast, IsNearer, JobFell, AwaitsClear, AwaitsTransfer, IsReader, OwnerStep, CommandDone, HasTaken, CommandStep}
+use Rattle.machine_model.specs.Looping.{IsUnderWay, AwaitsClear, OwnerStep}
 use Rattle.machine_model.proofs.CountLaws.{readers_set, dues_set}
-use Rattle.machine_model.proofs.RankLaws.{falls_reading, falls_due}
-use Rattle.machine_model.proofs.JobLaws.{ranked, small_of, job_falls}
-use Rattle.machine_model.proofs.LackLaws.{lack_le, wanted_more, here_same, here_more, here_now}
-use Rattle.machine_model.proofs.OuterLaws.{over_set, offline_set, over_same, over_few, all_le, all_fewer, all_turn, all_loaded, all_online}
-use Rattle.machine_model.proofs.GoesLaws.{goes, all_set, gone_from}
-use Rattle.machine_model.proofs.RuleLaws.{tells}
+use Rattle.machine_model.proofs.RankLaws.{falls_due}
+use Rattle.machine_model.proofs.JobLaws.{ranked, job_falls}
+use Rattle.machine_model.proofs.OuterLaws.{over_same}
+use Rattle.machine_model.proofs.GoesLaws.{goes, all_set}
 
 -- ---- processors
 
@@ -103,7 +103,8 @@ pub other_than : (s : Outline) (c d : ℕ) (P : Runner → Bool) → P (runner_a
     → P (runner_at s.runners d) ≡ true → c ≢ d
 other_than s c d P out is same = no_both (ap (λ (i : ℕ). P (runner_at s.runners i)) same ∙ is) out
 
-cleared_falls : (s : Outline) (c d : ℕ) (x : Runner) → IsKept s → AwaitsClear s c d → IsCleared (runner_at s.runners d) x
+cleared_falls : (s : Outline) (c d : ℕ) (x : Runner) → IsKept s → AwaitsClear s c d
+    → IsCleared (runner_at s.runners d) x
     → (job_rank (with_runner s d x) < job_rank s) × IsUnderWay s (with_runner s d x) c
 cleared_falls s c d x k awaits cleared =
     let stage : Stage = Waiting awaits.work in
@@ -111,23 +112,23 @@ cleared_falls s c d x k awaits cleared =
     let within = inside s.runners d awaits.online in
     let apart = other_than s c d (λ r. r.due) work.clear awaits.due in
     let same : runner_at (with_runner s d x).runners c ≡ runner_at s.runners c =
-        get_or-set_other s.runners d c x no_runner apart in
+    get_or-set_other s.runners d c x no_runner apart in
     let count = dues_set s.runners d x within in
     let was : cond {A = ℕ} (runner_at s.runners d).due 1 0 ≡ 1 = ap (λ (b : Bool). cond {A = ℕ} b 1 0) awaits.due in
     let now : cond {A = ℕ} x.due 1 0 ≡ 0 = ap (λ (b : Bool). cond {A = ℕ} b 1 0) cleared.due in
     let read = readers_set s.runners d x within in
     let read_same : cond {A = ℕ} (is_some x.reading) 1 0 ≡ cond (is_some (runner_at s.runners d).reading) 1 0 =
-        ap (λ (o : Option Transfer). cond {A = ℕ} (is_some o) 1 0) cleared.reading in
+    ap (λ (o : Option Transfer). cond {A = ℕ} (is_some o) 1 0) cleared.reading in
     let rank_s = ranked s c stage awaits.waiting in
     let rank_t = ranked (with_runner s d x) c stage awaits.waiting in
     let less : rank_of (parts_of (with_runner s d x) (runner_at (with_runner s d x).runners c) stage)
-        < rank_of (parts_of s (runner_at s.runners c) stage) =
-        subst (λ (y : Runner). rank_of (parts_of (with_runner s d x) y stage) < rank_of (parts_of s (runner_at s.runners c) stage))
-        (sym same)
-        (falls_due (parts_of s (runner_at s.runners c) stage) (parts_of (with_runner s d x) (runner_at s.runners c) stage)
-        (omega (arith, read, read_same)) (le_refl _) (le_refl _) (le_refl _) (le_refl _) (le_refl _)
-        (omega (arith, count, was, now))) in
-    (
+    < rank_of (parts_of s (runner_at s.runners c) stage) =
+    subst (λ (y : Runner). rank_of (parts_of (with_runner s d x) y stage) < rank_of
+    (parts_of s (runner_at s.runners c) stage))
+    (sym same)
+    (falls_due (parts_of s (runner_at s.runners c) stage) (parts_of (with_runner s d x) (runner_at s.runners c) stage)
+    (omega (arith, read, read_same)) (le_refl _) (le_refl _) (le_refl _) (le_refl _) (le_refl _)
+    (omega (arith, count, was, now))) in (
       omega (arith, rank_s, rank_t, less),
       record {
         stage = stage;

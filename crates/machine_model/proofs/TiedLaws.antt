@@ -1,5 +1,6 @@
 -- What ties processors and frames together goes on as they change.
-use Rattle.std.proofs.Common.{◌≡◌, ◌≢◌, ◌≤◌, ◌<◌, ℕ, Bool, true, false, cond, eqb, List, length, Option, Some, None, is_some, set, get_or, refl, sym, ap, subst, ◌∙◌, ◌⊎◌, inl, inr, arith}
+use Rattle.std.proofs.Common.{◌≡◌, ◌≢◌, ◌<◌, ℕ, Bool, true, false, List, length, Option, Some, None, is_some, set}
+use Rattle.std.proofs.Common.{refl, sym, ap, subst, ◌∙◌, ◌⊎◌, inl, inr}
 use Rattle.std.proofs.lemmas.Bool.{cases_eq}
 use Rattle.std.proofs.lemmas.List.{get_or-set_same, get_or-set_other, length-set}
 use Rattle.core_map.specs.declared.Frame.{Frame}
@@ -54,8 +55,39 @@ tied_same xs ys frames same tied = record {
   started = λ f uid page h. (let x = tied.started f uid page h in
       (x.0, subst (λ (n : ℕ). x.0 < n) (sym same.count) x.1, same.reading x.0 ∙ x.2));
   read = λ d r h. tied.read d r (sym (same.reading d) ∙ h);
-  one_reader = λ d e r q h i together. tied.one_reader d e r q (sym (same.reading d) ∙ h) (sym (same.reading e) ∙ i) together;
+  one_reader = λ d e r q h i together. tied.one_reader d e r q (sym (same.reading d) ∙ h) (sym (same.reading e) ∙ i)
+      together;
 }
+
+-- a processor that doesn't read takes up, or gives up, a process
+pub tied_quiet : (xs : List Runner) (c : ℕ) (x : Runner) (frames : List Frame) → c < length xs → x.online ≡ true
+    → x.reading ≡ None → (runner_at xs c).reading ≡ None → AreTied xs frames → AreTied (set xs c x) frames
+tied_quiet xs c x frames lt online reading idle tied = record {
+  runners_online = λ d. at_set xs c x d lt (λ y. y.running ≡ true → y.online ≡ true) (λ e h. online)
+      (λ n h. tied.runners_online d h);
+  readers_run = λ d r h. at_set xs c x d lt (λ y. y.running ≡ true)
+      (λ e. absurd (quiet (runner_at xs d).reading r (ap (λ (i : ℕ). (runner_at xs i).reading) e ∙ idle)
+      (before d r h)))
+      (λ n. tied.readers_run d r (before d r h));
+  started = λ f uid page h. (let old = tied.started f uid page h in (
+    old.0,
+    subst (λ (n : ℕ). old.0 < n) (sym (length-set xs c x)) old.1,
+    same old.0 ∙ old.2,
+  ));
+  read = λ d r h. tied.read d r (before d r h);
+  one_reader = λ d e r q h i together. tied.one_reader d e r q (before d r h) (before e q i) together;
+}
+  where
+    same : (d : ℕ) → (runner_at (set xs c x) d).reading ≡ (runner_at xs d).reading
+    same d = at_set xs c x d lt (λ y. y.reading ≡ (runner_at xs d).reading)
+        (λ e. reading ∙ sym (ap (λ (i : ℕ). (runner_at xs i).reading) e ∙ idle)) (λ n. refl)
+
+    before : (d : ℕ) (r : Transfer) → (runner_at (set xs c x) d).reading ≡ Some r → (runner_at xs d).reading ≡ Some r
+    before d r h = sym (same d) ∙ h
+
+    quiet : (o : Option Transfer) (r : Transfer) → o ≡ None → o ≢ Some r
+    quiet o r none h = let no : true ≡ false = sym (ap (λ (x : Option Transfer). is_some x) h)
+        ∙ ap (λ (x : Option Transfer). is_some x) none in cc
 
 -- ---- frames
 
@@ -67,10 +99,11 @@ is_started (frame.Bound uid page used modified) = false
 not_started : (x : Frame) (uid page : ℕ) → is_started x ≡ false → x ≢ frame.Started uid page
 not_started x uid page out h = let no : true ≡ false = sym (ap is_started h) ∙ out in cc
 
-frame_at_set : (frames : List Frame) (f : ℕ) (x : Frame) (g : ℕ) → f < length frames → (P : Frame → Type 0)
+pub frame_at_set : (frames : List Frame) (f : ℕ) (x : Frame) (g : ℕ) → f < length frames → (P : Frame → Type 0)
     → (g ≡ f → P x) → (g ≢ f → P (frame_in frames g)) → P (frame_in (set frames f x) g)
 frame_at_set frames f x g lt P here other = elim (cases_eq g f) [
-  | inl e ↦ subst P (sym (ap (λ (i : ℕ). frame_in (set frames f x) i) e ∙ get_or-set_same frames f x frame.Free lt)) (here e)
+  | inl e ↦ subst P (sym (ap (λ (i : ℕ). frame_in (set frames f x) i) e ∙ get_or-set_same frames f x frame.Free lt))
+      (here e)
   | inr n ↦ subst P (sym (get_or-set_other frames f g x frame.Free n)) (other n)
 ]
 
@@ -83,14 +116,17 @@ tied_frame xs frames f x lt was now tied = record {
   started = λ g uid page h. tied.started g uid page (before g uid page h);
   read = λ d r h. (let tie = tied.read d r h in (
     frame_at_set frames f x r.frame lt (λ y. y ≡ frame.Started r.uid r.page)
-        (λ e. absurd (not_started (frame_in frames f) r.uid r.page was (ap (frame_in frames) (sym e) ∙ tie.0))) (λ n. tie.0),
+        (λ e. absurd (not_started (frame_in frames f) r.uid r.page was (ap (frame_in frames) (sym e) ∙ tie.0)))
+        (λ n. tie.0),
     subst (λ (n : ℕ). r.frame < n) (sym (length-set frames f x)) tie.1,
   ));
   one_reader = tied.one_reader;
 }
   where
-    before : (g uid page : ℕ) → frame_in (set frames f x) g ≡ frame.Started uid page → frame_in frames g ≡ frame.Started uid page
-    before g uid page = frame_at_set frames f x g lt (λ y. y ≡ frame.Started uid page → frame_in frames g ≡ frame.Started uid page)
+    before : (g uid page : ℕ) → frame_in (set frames f x) g ≡ frame.Started uid page
+        → frame_in frames g ≡ frame.Started uid page
+    before g uid page = frame_at_set frames f x g lt
+        (λ y. y ≡ frame.Started uid page → frame_in frames g ≡ frame.Started uid page)
         (λ e h. absurd (not_started x uid page now h)) (λ n h. h)
 
 -- ---- a transfer begins
@@ -103,20 +139,19 @@ some_same r q h = ap (λ (o : Option Transfer). or_this r o) h
     or_this d (Some x) = x
 
 started_same : (u q uid page : ℕ) → frame.Started u q ≡ frame.Started uid page → (u ≡ uid) × (q ≡ page)
-started_same u q uid page h =
-    (
-      ap (λ (x : Frame). (page_or_zero (started_page x)).0) h,
-      ap (λ (x : Frame). (page_or_zero (started_page x)).1) h,
-    )
+started_same u q uid page h = (
+  ap (λ (x : Frame). (page_or_zero (started_page x)).0) h,
+  ap (λ (x : Frame). (page_or_zero (started_page x)).1) h,
+)
 
 none_some : (r : Transfer) (o : Option Transfer) → o ≡ None → o ≢ Some r
-none_some r o none h = let no : true ≡ false = sym (ap (λ (x : Option Transfer). is_some x) h) ∙ ap (λ (x : Option Transfer). is_some x) none in cc
+none_some r o none h = let no : true ≡ false = sym (ap (λ (x : Option Transfer). is_some x) h)
+    ∙ ap (λ (x : Option Transfer). is_some x) none in cc
 
 module _ (xs : List Runner) (frames : List Frame) (c f uid page : ℕ) (x : Runner) (within : c < length xs)
-  (room : f < length frames) (free : frame_in frames f ≡ frame.Free) (idle : (runner_at xs c).reading ≡ None)
-  (online : x.online ≡ true) (running : x.running ≡ true)
-  (reading : x.reading ≡ Some (record { frame = f; uid = uid; page = page })) (tied : AreTied xs frames) where
-
+    (room : f < length frames) (free : frame_in frames f ≡ frame.Free) (idle : (runner_at xs c).reading ≡ None)
+    (online : x.online ≡ true) (running : x.running ≡ true)
+    (reading : x.reading ≡ Some (record { frame = f; uid = uid; page = page })) (tied : AreTied xs frames) where
   apart : (d : ℕ) (r : Transfer) → (runner_at xs d).reading ≡ Some r → d ≢ c
   apart d r h e = none_some r (runner_at xs d).reading (ap (λ (i : ℕ). (runner_at xs i).reading) e ∙ idle) h
 
@@ -129,7 +164,8 @@ module _ (xs : List Runner) (frames : List Frame) (c f uid page : ℕ) (x : Runn
   reads_now : (d : ℕ) (r : Transfer) → (runner_at (set xs c x) d).reading ≡ Some r
       → ((d ≡ c) × (r ≡ record { frame = f; uid = uid; page = page })) ⊎ ((runner_at xs d).reading ≡ Some r)
   reads_now d r = at_set xs c x d within
-      (λ y. y.reading ≡ Some r → ((d ≡ c) × (r ≡ record { frame = f; uid = uid; page = page })) ⊎ ((runner_at xs d).reading ≡ Some r))
+      (λ y. y.reading ≡ Some r → ((d ≡ c) × (r ≡ record { frame = f; uid = uid; page = page }))
+      ⊎ ((runner_at xs d).reading ≡ Some r))
       (λ e h. inl (e, some_same r (record { frame = f; uid = uid; page = page }) (sym h ∙ reading)))
       (λ n h. inr h)
 
@@ -181,11 +217,12 @@ module _ (xs : List Runner) (frames : List Frame) (c f uid page : ℕ) (x : Runn
 
 -- ---- a transfer ends
 
-module _ (xs : List Runner) (frames : List Frame) (c : ℕ) (r : Transfer) (x : Runner) (y : Frame) (within : c < length xs)
-  (was : (runner_at xs c).reading ≡ Some r) (online : x.online ≡ true) (reading : x.reading ≡ None)
-  (now : is_started y ≡ false) (tied : AreTied xs frames) where
-
-  still : (d : ℕ) (q : Transfer) → (runner_at (set xs c x) d).reading ≡ Some q → (d ≢ c) × ((runner_at xs d).reading ≡ Some q)
+module _ (xs : List Runner) (frames : List Frame) (c : ℕ) (r : Transfer) (x : Runner) (y : Frame)
+    (within : c < length xs)
+    (was : (runner_at xs c).reading ≡ Some r) (online : x.online ≡ true) (reading : x.reading ≡ None)
+    (now : is_started y ≡ false) (tied : AreTied xs frames) where
+  still : (d : ℕ) (q : Transfer) → (runner_at (set xs c x) d).reading ≡ Some q → (d ≢ c)
+      × ((runner_at xs d).reading ≡ Some q)
   still d q = at_set xs c x d within (λ z. z.reading ≡ Some q → (d ≢ c) × ((runner_at xs d).reading ≡ Some q))
       (λ e h. absurd (none_some q x.reading reading h)) (λ n h. (n, h))
 

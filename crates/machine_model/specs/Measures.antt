@@ -1,6 +1,7 @@
 -- The measures of the loop that makes the machine end: of a job in the supervisor, of a command of a processor, and of
 -- all commands. Each is one number (own).
-use Rattle.std.specs.Prelude.{ℕ, ◌+◌, ◌*◌, ◌<◌, Bool, true, false, not, ◌&&◌, ◌||◌, ◌==◌, nat_le, if◌then◌else◌, is_some}
+use Rattle.std.specs.Prelude.{ℕ, ◌+◌, ◌*◌, ◌<◌, Bool, true, false, not, ◌&&◌, ◌||◌, ◌==◌, nat_le, if◌then◌else◌}
+use Rattle.std.specs.Prelude.{is_some}
 use Rattle.std.specs.Prelude.{count_by, length, List, [], Option, Some, None}
 use Rattle.std.specs.List.{list_any}
 use Rattle.core_map.specs.declared.Frame.{Frame}

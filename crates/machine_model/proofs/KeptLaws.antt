@@ -1,0 +1,485 @@
+-- Each step keeps what is true of an outline, where its sizes stay, and where what a command's effect leaves is kept.
+use Rattle.std.proofs.Common.{◌≡◌, ◌≢◌, ◌≤◌, ◌<◌, ℕ, zero, suc, ◌+◌, ◌-◌, Bool, true, false, not, cond, ◌||◌, ◌&&◌}
+use Rattle.std.proofs.Common.{eqb, List, [], ◌∷◌, length, Option, Some, None, is_some, set, get_or, Contains, refl}
+use Rattle.std.proofs.Common.{sym, ap, subst, ◌∙◌, inl, inr, arith}
+use Rattle.std.specs.List.{list_any}
+use Rattle.std.proofs.lemmas.Bool.Decides.{eqb_tells}
+use Rattle.std.proofs.lemmas.List.{get_or-set_other, length-set}
+use Rattle.std.proofs.lemmas.List.Folds.{list_any_at}
+use Rattle.core_map.specs.declared.Frame.{Frame}
+use Rattle.core_map.specs.declared.Frame.TheVariants as frame
+use Rattle.active_segs.specs.declared.Entry.{Entry}
+use Rattle.active_segs.specs.Active.{entry_at, uid_in}
+use Rattle.active_segs.specs.Victim.{off_chain, IsOffChain}
+use Rattle.processor.specs.declared.Transfer.{Transfer}
+use Rattle.machine_model.specs.Outline.{Want, Refer, Truncate, Length, Other, Runner, no_runner, Work, EvictFrame}
+use Rattle.machine_model.specs.Outline.{EmptyPlace, CommitCommand, Stage, Look, Taken, Waiting, Keeper, Outline, Turn}
+use Rattle.machine_model.specs.Outline.{runner_at, want_at, at_stage, with_runner, with_frame, with_entry, frame_in}
+use Rattle.machine_model.specs.Measures.{chain_of, is_of, is_here, dues}
+use Rattle.machine_model.specs.Finishing.{Comes, Clears, Loads, Leaves, Commands, rule_of, owns, IsIn, JobStep}
+use Rattle.machine_model.specs.Finishing.{activates, connects, takes_segment, takes_frame, takes_for_commit, signals}
+use Rattle.machine_model.specs.Finishing.{frees_frame, frees_page, empties, empties_at_once, gives_up, starts, answers}
+use Rattle.machine_model.specs.Finishing.{AreAlike, AreOf, CanStart, is_bound, is_wanted_here, page_of, uid_of}
+use Rattle.machine_model.specs.Finishing.{with_link, with_runners, with_stored, without_owner, now_reading, entry_for}
+use Rattle.machine_model.specs.Finishing.{IsAnswered, Step, ends, comes, clears, reads, loses, works, awaits_clear}
+use Rattle.machine_model.specs.Finishing.{awaits_transfer, loads, idles, leaves, fills, replies, faults, enters, waits}
+use Rattle.machine_model.specs.Finishing.{IsReplied, with_bound, not_reading}
+use Rattle.machine_model.specs.OutlineKept.{IsKept, HasSizes, AreTied, HasJob, IsAtWork, FitsStage, FitsWork}
+use Rattle.machine_model.specs.OutlineKept.{AreSpared, EndsChain, is_wanted, is_spared}
+use Rattle.machine_model.proofs.CountLaws.{dues_set}
+use Rattle.machine_model.proofs.RuleLaws.{tells}
+use Rattle.machine_model.proofs.StepLaws.{no_both, inside, none_due}
+use Rattle.machine_model.proofs.TiedLaws.{ties_alike, ties_set, at_set, tied_same, tied_frame, tied_started}
+use Rattle.machine_model.proofs.TiedLaws.{tied_ended, tied_quiet, is_started, frame_at_set}
+
+-- ---- the owner
+
+keeper_cpu : Option Keeper → ℕ
+keeper_cpu None = 0
+keeper_cpu (Some o) = o.cpu
+
+keeper_stage : Option Keeper → Stage
+keeper_stage None = Look
+keeper_stage (Some o) = o.stage
+
+same_cpu : (t : Outline) (c d : ℕ) (a b : Stage) → IsIn t c a → IsIn t d b → c ≡ d
+unfolding keeper_cpu
+same_cpu t c d a b h i = ap keeper_cpu (sym h ∙ i)
+
+same_stage : (t : Outline) (c d : ℕ) (a b : Stage) → IsIn t c a → IsIn t d b → a ≡ b
+unfolding keeper_stage
+same_stage t c d a b h i = ap keeper_stage (sym h ∙ i)
+
+-- a job of one owner in one stage
+job_of : (t : Outline) (c : ℕ) (stage : Stage) → IsIn t c stage → IsAtWork t.runners c → FitsStage t (want_at t c) stage
+    → HasJob t
+job_of t c stage owner work fits = record {
+  at_work = λ d b h. subst (λ (i : ℕ). IsAtWork t.runners i) (same_cpu t c d stage b owner h) work;
+  fits = λ d b h. subst (λ (i : ℕ). FitsStage t (want_at t i) b) (same_cpu t c d stage b owner h)
+      (subst (λ (x : Stage). FitsStage t (want_at t c) x) (same_stage t c d stage b owner h) fits);
+  quiet = λ none. (let no : None ≡ Some (record { cpu = c; stage = stage }) = sym none ∙ owner in absurd cc);
+}
+
+-- nobody owns the supervisor, and nothing is due
+job_none : (t : Outline) → t.owner ≡ None → dues t.runners ≡ 0 → HasJob t
+job_none t none quiet = record {
+  at_work = λ d b h. (let no : None ≡ Some (record { cpu = d; stage = b }) = sym none ∙ h in absurd cc);
+  fits = λ d b h. (let no : None ≡ Some (record { cpu = d; stage = b }) = sym none ∙ h in absurd cc);
+  quiet = λ n. quiet;
+}
+
+work_alike : (xs ys : List Runner) (c : ℕ) → AreAlike xs ys c → IsAtWork xs c → IsAtWork ys c
+work_alike xs ys c alike work = record {
+  within = subst (λ (n : ℕ). c < n) (sym alike.count) work.within;
+  running = alike.running c ∙ work.running;
+  clear = alike.due ∙ work.clear;
+  idle = alike.reading c ∙ work.idle;
+}
+
+-- ---- frames that were taken
+
+first_false : (a b : Bool) → (a || b) ≡ false → a ≡ false
+first_false true b h = h
+first_false false b h = refl
+
+rest_false : (a b : Bool) → (a || b) ≡ false → b ≡ false
+rest_false true b h = let no : true ≡ false = h in absurd cc
+rest_false false b h = h
+
+none_of : (frames : List Frame) (f uid page : ℕ) → is_here frames uid page ≡ false
+    → is_of uid page (frame_in frames f) ≡ false
+unfolding is_here
+none_of [] f uid page h = refl
+none_of (x ∷ xs) zero uid page h = first_false (is_of uid page x) (list_any (is_of uid page) xs) h
+none_of (x ∷ xs) (suc f) uid page h = none_of xs f uid page
+    (rest_false (is_of uid page x) (list_any (is_of uid page) xs) h)
+
+spared_by : (w : Want) (x : Frame) → is_bound x ≡ true → is_wanted w x ≡ false → is_spared w x ≡ true
+spared_by w frame.Free bound out = refl
+spared_by w (frame.Started uid page) bound out = let no : false ≡ true = bound in absurd cc
+spared_by w (frame.Bound uid page used modified) bound out = ap not out
+
+unwanted : (frames : List Frame) (f : ℕ) (w : Want) → is_wanted_here frames w ≡ false
+    → is_wanted w (frame_in frames f) ≡ false
+unwanted frames f (Refer chain uid page makes) h = none_of frames f uid page h
+unwanted frames f (Truncate chain uid None) h = refl
+unwanted frames f (Truncate chain uid (Some page)) h = none_of frames f uid page h
+unwanted frames f (Length uid) h = refl
+unwanted frames f Other h = refl
+
+-- a segment of the chain isn't at a place that is off it
+apart_from : (chain : List ℕ) (o : Option Entry) (uid : ℕ) → Contains chain uid → off_chain chain o ≡ true
+    → uid_in o ≢ Some uid
+apart_from chain None uid there off h = let no : None ≡ Some uid = h in absurd cc
+apart_from chain (Some e) uid there off h =
+    let same : e.uid ≡ uid = ap (λ (o : Option ℕ). or_this e.uid o) h in
+    let at : eqb (get_or chain there.0 uid) e.uid ≡ true = rw (there.2, same) (eqb_self uid) in
+    let has : list_any (λ u. eqb u e.uid) chain ≡ true = list_any_at (λ u. eqb u e.uid) chain there.0 uid there.1 at in
+    let no : false ≡ true = sym (ap not has) ∙ off in
+    cc
+  where
+    or_this : ℕ → Option ℕ → ℕ
+    or_this d None = d
+    or_this d (Some n) = n
+
+    eqb_self : (n : ℕ) → eqb n n ≡ true
+    eqb_self n = elim (eqb_tells n n) [ inl i ↦ i.0 | inr i ↦ absurd (i.1 refl) ]
+
+of_uid : (x : Frame) (uid page : ℕ) → is_of uid page x ≡ true → uid_of (page_of x) ≡ Some uid
+of_uid frame.Free uid page h = let no : false ≡ true = h in absurd cc
+of_uid (frame.Started u q) uid page h = let no : false ≡ true = h in absurd cc
+of_uid (frame.Bound u q used modified) uid page h = elim (eqb_tells u uid) [
+  | inl e ↦ ap (λ (n : ℕ). Some n) e.1
+  | inr n ↦ (let no : false ≡ true = sym (ap (λ (b : Bool). b && eqb q page) n.0) ∙ h in absurd cc)
+]
+
+not_wanted_uid : (x : Frame) (uid page : ℕ) → uid_of (page_of x) ≢ Some uid → is_of uid page x ≡ false
+not_wanted_uid x uid page other = by (is_of uid page x) refl
+  where
+    by : (b : Bool) → is_of uid page x ≡ b → b ≡ false
+    by false h = refl
+    by true h = absurd (other (of_uid x uid page h))
+
+unwanted_uid : (w : Want) (x : Frame) (o : Option Entry) → EndsChain w → off_chain (chain_of w) o ≡ true
+    → uid_of (page_of x) ≡ uid_in o → is_wanted w x ≡ false
+unwanted_uid (Refer chain uid page makes) x o there off of_it =
+    not_wanted_uid x uid page (λ h. apart_from chain o uid there off (sym of_it ∙ h))
+unwanted_uid (Truncate chain uid None) x o there off of_it = refl
+unwanted_uid (Truncate chain uid (Some page)) x o there off of_it =
+    not_wanted_uid x uid page (λ h. apart_from chain o uid there off (sym of_it ∙ h))
+unwanted_uid (Length uid) x o there off of_it = refl
+unwanted_uid Other x o there off of_it = refl
+
+-- the frames of a segment off the chain may be taken
+spared_all : (s : Outline) (w : Want) (place : ℕ) (frames : List ℕ) → EndsChain w
+    → IsOffChain s.entries (chain_of w) place
+    → AreOf s place frames → AreSpared s.frames w frames
+spared_all s w place [] there off of_it = tt
+spared_all s w place (f ∷ fs) there off of_it = (
+  (
+    of_it.0.0,
+    spared_by w (frame_in s.frames f) of_it.0.1
+        (unwanted_uid w (frame_in s.frames f) (entry_at s.entries place) there off of_it.0.2),
+  ),
+  spared_all s w place fs there off of_it.1,
+)
+
+spared_started : (w : Want) (x : Frame) → is_spared w x ≡ true → is_started x ≡ false
+spared_started w frame.Free h = refl
+spared_started w (frame.Started uid page) h = let no : false ≡ true = h in absurd cc
+spared_started w (frame.Bound uid page used modified) h = refl
+
+-- frames that were taken stay so while another frame changes to one that may be taken too
+spared_set : (frames : List Frame) (w : Want) (fs : List ℕ) (f : ℕ) (x : Frame) → f < length frames
+    → is_spared w x ≡ true
+    → AreSpared frames w fs → AreSpared (set frames f x) w fs
+spared_set frames w [] f x lt spared h = tt
+spared_set frames w (g ∷ gs) f x lt spared h = (
+  (
+    subst (λ (n : ℕ). g < n) (sym (length-set frames f x)) h.0.0,
+    frame_at_set frames f x g lt (λ y. is_spared w y ≡ true) (λ e. spared) (λ n. h.0.1),
+  ),
+  spared_set frames w gs f x lt spared h.1,
+)
+
+-- the same where the frame that changes is one that is being read into, and so none of them
+spared_started_set : (frames : List Frame) (w : Want) (fs : List ℕ) (f : ℕ) (x : Frame) → f < length frames
+    → is_started (frame_in frames f) ≡ true → AreSpared frames w fs → AreSpared (set frames f x) w fs
+spared_started_set frames w [] f x lt started h = tt
+spared_started_set frames w (g ∷ gs) f x lt started h = (
+  (
+    subst (λ (n : ℕ). g < n) (sym (length-set frames f x)) h.0.0,
+    frame_at_set frames f x g lt (λ y. is_spared w y ≡ true)
+        (λ e. absurd (no_both started (ap (λ (i : ℕ). is_started (frame_in frames i)) (sym e)
+        ∙ spared_started w (frame_in frames g) h.0.1))) (λ n. h.0.1),
+  ),
+  spared_started_set frames w gs f x lt started h.1,
+)
+
+-- ---- stages
+
+fits_alike : (s t : Outline) (w v : Want) (work : Work) → v ≡ w → t.frames ≡ s.frames → t.entries ≡ s.entries
+    → FitsWork s w work → FitsWork t v work
+fits_alike s t w v (EvictFrame f) want frames entries h = rw (want, frames) h
+fits_alike s t w v (EmptyPlace place rest) want frames entries h = rw (want, frames, entries) h
+fits_alike s t w v CommitCommand want frames entries h = tt
+
+-- what the owner took, while a frame that is being read into changes
+fits_read_work : (s t : Outline) (w : Want) (work : Work) (f : ℕ) (x : Frame) → f < length s.frames
+    → is_started (frame_in s.frames f) ≡ true → t.frames ≡ set s.frames f x → t.entries ≡ s.entries
+    → FitsWork s w work → FitsWork t w work
+fits_read_work s t w (EvictFrame g) f x lt started frames entries h =
+    rw (frames) (spared_started_set s.frames w (g ∷ []) f x lt started h)
+fits_read_work s t w (EmptyPlace place rest) f x lt started frames entries h =
+    rw (frames, entries) (spared_started_set s.frames w rest f x lt started h.0, h.1, h.2, h.3)
+fits_read_work s t w CommitCommand f x lt started frames entries h = tt
+
+fits_read : (s t : Outline) (w : Want) (stage : Stage) (f : ℕ) (x : Frame) → f < length s.frames
+    → is_started (frame_in s.frames f) ≡ true → t.frames ≡ set s.frames f x → t.entries ≡ s.entries
+    → (dues s.runners ≡ 0 → dues t.runners ≡ 0) → FitsStage s w stage → FitsStage t w stage
+fits_read s t w Look f x lt started frames entries due h = due h
+fits_read s t w (Taken work) f x lt started frames entries due h =
+    fits_read_work s t w work f x lt started frames entries h
+fits_read s t w (Waiting work) f x lt started frames entries due h =
+    fits_read_work s t w work f x lt started frames entries h
+
+fits_still : (s t : Outline) (w : Want) (stage : Stage) → t.frames ≡ s.frames → t.entries ≡ s.entries
+    → (dues s.runners ≡ 0 → dues t.runners ≡ 0) → FitsStage s w stage → FitsStage t w stage
+fits_still s t w Look frames entries due h = due h
+fits_still s t w (Taken work) frames entries due h = fits_alike s t w w work refl frames entries h
+fits_still s t w (Waiting work) frames entries due h = fits_alike s t w w work refl frames entries h
+
+-- ---- a processor other than the owner changes
+
+job_other : (s t : Outline) (c : ℕ) (x : Runner) → HasJob s → t.owner ≡ s.owner → t.runners ≡ set s.runners c x
+    → ((b : Stage) → IsIn s c b → ⊥) → (dues s.runners ≡ 0 → dues t.runners ≡ 0)
+    → ((w : Want) (b : Stage) → FitsStage s w b → FitsStage t w b) → HasJob t
+job_other s t c x job owner runners other due fits = record {
+  at_work = λ d b h. (let was = sym owner ∙ h in let work = job.at_work d b was in let same = at d b was in record {
+    within = subst (λ (n : ℕ). d < n) (sym (ap (λ (xs : List Runner). length xs) runners ∙ length-set s.runners c x))
+        work.within;
+    running = ap (λ (y : Runner). y.running) same ∙ work.running;
+    clear = ap (λ (y : Runner). y.due) same ∙ work.clear;
+    idle = ap (λ (y : Runner). y.reading) same ∙ work.idle;
+  });
+  fits = λ d b h. (let was = sym owner ∙ h in
+      subst (λ (w : Want). FitsStage t w b) (sym (ap (λ (y : Runner). y.want) (at d b was)))
+      (fits (want_at s d) b (job.fits d b was)));
+  quiet = λ none. due (job.quiet (sym owner ∙ none));
+}
+  where
+    at : (d : ℕ) (b : Stage) → IsIn s d b → runner_at t.runners d ≡ runner_at s.runners d
+    at d b was = ap (λ (xs : List Runner). runner_at xs d) runners
+        ∙ get_or-set_other s.runners c d x no_runner (λ e. other b (subst (λ (i : ℕ). IsIn s i b) e was))
+
+-- nothing more is due
+due_set : (s : Outline) (c : ℕ) (x : Runner) → c < length s.runners
+    → ((runner_at s.runners c).due ≡ false → x.due ≡ false)
+    → dues s.runners ≡ 0 → dues (set s.runners c x) ≡ 0
+due_set s c x lt still none =
+    let count = dues_set s.runners c x lt in
+    let now : cond {A = ℕ} x.due 1 0 ≡ 0 = ap (λ (b : Bool). cond {A = ℕ} b 1 0)
+    (still (none_due s.runners c lt none)) in
+    omega (arith, count, none, now)
+
+-- ---- a step of the owner
+
+kept : (t : Outline) → HasSizes t → AreTied t.runners t.frames → HasJob t → IsKept t
+kept t sizes tied job = record { sizes = sizes; tied = tied; job = job }
+
+-- the frames that were taken, without the first, which is free
+rest_spared : (frames : List Frame) (w : Want) (f : ℕ) (rest : List ℕ) → AreSpared frames w (f ∷ rest)
+    → AreSpared (set frames f frame.Free) w rest
+rest_spared frames w f rest h = spared_set frames w rest f frame.Free h.0.0 refl h.1
+
+freed_tied : (s : Outline) (w : Want) (f : ℕ) → IsKept s → f < length s.frames
+    → is_spared w (frame_in s.frames f) ≡ true
+    → AreTied s.runners (set s.frames f frame.Free)
+freed_tied s w f k lt spared =
+    tied_frame s.runners s.frames f frame.Free lt (spared_started w (frame_in s.frames f) spared) refl k.tied
+
+link_kept : (s : Outline) (c : ℕ) → IsKept s → HasSizes (with_link s c) → IsIn s c Look → IsKept (with_link s c)
+link_kept s c k sizes owner =
+    let work = k.job.at_work c Look owner in
+    let x : Runner = record (runner_at s.runners c) { linked = true } in
+    let same = at_set s.runners c (record (runner_at s.runners c) { linked = true }) c work.within in
+    kept (with_link s c) sizes
+    (tied_same s.runners (set s.runners c (record (runner_at s.runners c) { linked = true })) s.frames
+    (ties_set s.runners c (record (runner_at s.runners c) { linked = true }) work.within (λ h. h) refl refl) k.tied)
+    (job_of (with_link s c) c Look owner (record {
+      within = subst (λ (n : ℕ). c < n) (sym (length-set s.runners c
+          (record (runner_at s.runners c) { linked = true }))) work.within;
+      running = same (λ y. y.running ≡ true) (λ e. work.running) (λ n. absurd (n refl));
+      clear = same (λ y. y.due ≡ false) (λ e. work.clear) (λ n. absurd (n refl));
+      idle = same (λ y. y.reading ≡ None) (λ e. work.idle) (λ n. absurd (n refl));
+    }) (due_set s c (record (runner_at s.runners c) { linked = true }) work.within (λ h. h) (k.job.fits c Look owner)))
+
+start_kept : (s : Outline) (c f uid page : ℕ) → IsKept s → HasSizes (without_owner (now_reading s c f uid page))
+    → CanStart s c f uid page → IsKept (without_owner (now_reading s c f uid page))
+start_kept s c f uid page k sizes can =
+    let work = k.job.at_work c Look can.look in
+    kept (without_owner (now_reading s c f uid page)) sizes
+    (tied_started s.runners s.frames c f uid page
+    (record (runner_at s.runners c) { reading = Some (record { frame = f; uid = uid; page = page }) }) work.within
+    can.within
+    can.free work.idle (k.tied.runners_online c work.running) work.running refl k.tied)
+    (job_none (without_owner (now_reading s c f uid page)) refl
+    (due_set s c (record (runner_at s.runners c) { reading = Some (record { frame = f; uid = uid; page = page }) })
+    work.within
+    (λ h. h) (k.job.fits c Look can.look)))
+
+job_keeps : (s : Outline) (c : ℕ) (t : Outline) → IsKept s → HasSizes t → (IsAnswered s c t → IsKept t) → JobStep s c t
+    → IsKept t
+job_keeps s c t k sizes given (activates place uid superior can) =
+    kept (with_entry s place (entry_for uid superior)) sizes k.tied
+    (job_of (with_entry s place (entry_for uid superior)) c Look can.look (k.job.at_work c Look can.look)
+    (k.job.fits c Look can.look))
+job_keeps s c t k sizes given (connects chain uid page makes owner want off) = link_kept s c k sizes owner
+job_keeps s c t k sizes given (takes_segment place frames runners can of few alike) =
+    let back : want_at s c ≡ (runner_at runners c).want = sym alike.want in
+    let spared : AreSpared s.frames (want_at s c) frames =
+    spared_all s (want_at s c) place frames (k.sizes.chains c) can.off of in
+    kept (with_runners (at_stage s c (Taken (EmptyPlace place frames))) runners) sizes
+    (tied_same s.runners runners s.frames (ties_alike s.runners runners c alike) k.tied)
+    (job_of (with_runners (at_stage s c (Taken (EmptyPlace place frames))) runners) c
+    (Taken (EmptyPlace place frames)) refl
+    (work_alike s.runners runners c alike (k.job.at_work c Look can.look)) (
+      subst (λ (w : Want). AreSpared s.frames w frames) back spared,
+      few,
+      can.within,
+      subst (λ (w : Want). IsOffChain s.entries (chain_of w) place) back can.off,
+    ))
+job_keeps s c t k sizes given (takes_frame f can) =
+    kept (at_stage s c (Taken (EvictFrame f))) sizes k.tied
+    (job_of (at_stage s c (Taken (EvictFrame f))) c (Taken (EvictFrame f)) refl (k.job.at_work c Look can.look) (
+      (
+        can.within,
+        spared_by (want_at s c) (frame_in s.frames f) can.bound
+            (unwanted s.frames f (want_at s c) can.away),
+      ),
+      tt,
+    ))
+job_keeps s c t k sizes given (takes_for_commit runners owner alike) =
+    kept (with_runners (at_stage s c (Taken CommitCommand)) runners) sizes
+    (tied_same s.runners runners s.frames (ties_alike s.runners runners c alike) k.tied)
+    (job_of (with_runners (at_stage s c (Taken CommitCommand)) runners) c (Taken CommitCommand) refl
+    (work_alike s.runners runners c alike (k.job.at_work c Look owner)) tt)
+job_keeps s c t k sizes given (signals w runners owner alike) =
+    kept (with_runners (at_stage s c (Waiting w)) runners) sizes
+    (tied_same s.runners runners s.frames (ties_alike s.runners runners c alike) k.tied)
+    (job_of (with_runners (at_stage s c (Waiting w)) runners) c (Waiting w) refl
+    (work_alike s.runners runners c alike (k.job.at_work c (Taken w) owner))
+    (fits_alike s (with_runners (at_stage s c (Waiting w)) runners) (want_at s c) (runner_at runners c).want w
+    alike.want refl
+    refl (k.job.fits c (Taken w) owner)))
+job_keeps s c t k sizes given (frees_frame f stored owner due may) =
+    let taken = (k.job.fits c (Waiting (EvictFrame f)) owner).0 in
+    kept (with_stored (at_stage (with_frame s f frame.Free) c Look) stored) sizes
+    (freed_tied s (want_at s c) f k taken.0 taken.1)
+    (job_of (with_stored (at_stage (with_frame s f frame.Free) c Look) stored) c Look refl
+    (k.job.at_work c (Waiting (EvictFrame f)) owner) due)
+job_keeps s c t k sizes given (frees_page place f rest stored owner due may) =
+    let fits = k.job.fits c (Waiting (EmptyPlace place (f ∷ rest))) owner in
+    let few : suc (length rest) ≤ 256 = fits.1 in
+    kept (with_stored (at_stage (with_frame s f frame.Free) c (Waiting (EmptyPlace place rest))) stored) sizes
+    (freed_tied s (want_at s c) f k fits.0.0.0 fits.0.0.1)
+    (job_of (with_stored (at_stage (with_frame s f frame.Free) c (Waiting (EmptyPlace place rest))) stored) c
+    (Waiting (EmptyPlace place rest)) refl (k.job.at_work c (Waiting (EmptyPlace place (f ∷ rest))) owner)
+    (rest_spared s.frames (want_at s c) f rest fits.0, omega (arith, few), fits.2, fits.3))
+job_keeps s c t k sizes given (empties place runners owner due alike none) =
+    kept (with_runners (at_stage (with_entry s place None) c Look) runners) sizes
+    (tied_same s.runners runners s.frames (ties_alike s.runners runners c alike) k.tied)
+    (job_of (with_runners (at_stage (with_entry s place None) c Look) runners) c Look refl
+    (work_alike s.runners runners c alike (k.job.at_work c (Waiting (EmptyPlace place [])) owner)) none)
+job_keeps s c t k sizes given (empties_at_once place can) =
+    kept (with_entry s place None) sizes k.tied
+    (job_of (with_entry s place None) c Look can.look (k.job.at_work c Look can.look) (k.job.fits c Look can.look))
+job_keeps s c t k sizes given (gives_up chain uid page makes owner want fits) =
+    kept (without_owner s) sizes k.tied (job_none (without_owner s) refl (k.job.fits c Look owner))
+job_keeps s c t k sizes given (starts f uid page can) = start_kept s c f uid page k sizes can
+job_keeps s c t k sizes given (answers stage _ owner due answered) = given answered
+
+-- ---- a step of a processor
+
+not_owner : (s : Outline) (c : ℕ) (b : Stage) → owns s.owner c ≡ false → IsIn s c b → ⊥
+not_owner s c b out owner = no_both (ap (λ (o : Option Keeper). owns o c) owner ∙ own_self c) out
+  where
+    own_self : (i : ℕ) → eqb i i ≡ true
+    own_self i = elim (eqb_tells i i) [ inl x ↦ x.0 | inr x ↦ absurd (x.1 refl) ]
+
+read_none : (o : Option Transfer) → is_some o ≡ false → o ≡ None
+read_none None h = refl
+read_none (Some r) h = let no : true ≡ false = h in absurd cc
+
+-- one processor changes that isn't the owner, and keeps what ties it to the frames
+one_kept : (s t : Outline) (c : ℕ) (x : Runner) → IsKept s → HasSizes t → c < length s.runners → t.owner ≡ s.owner
+    → t.runners ≡ set s.runners c x → t.frames ≡ s.frames → t.entries ≡ s.entries → ((b : Stage) → IsIn s c b → ⊥)
+    → ((runner_at s.runners c).due ≡ false → x.due ≡ false) → AreTied (set s.runners c x) s.frames → IsKept t
+one_kept s t c x k sizes lt owner runners frames entries other due tied =
+    kept t sizes (subst (λ (xs : List Runner). AreTied xs t.frames) (sym runners)
+    (subst (λ (fs : List Frame). AreTied (set s.runners c x) fs) (sym frames) tied))
+    (job_other s t c x k.job owner runners other
+    (λ none. ap dues runners ∙ due_set s c x lt due none)
+    (λ w b h. fits_still s t w b frames entries (λ none. ap dues runners ∙ due_set s c x lt due none) h))
+
+-- a transfer ends, and its frame changes
+ended_kept : (s t : Outline) (c : ℕ) (r : Transfer) (x : Runner) (y : Frame) → IsKept s → HasSizes t
+    → (runner_at s.runners c).reading ≡ Some r → t.owner ≡ s.owner → t.runners ≡ set s.runners c x
+    → t.frames ≡ set s.frames r.frame y → t.entries ≡ s.entries → x.online ≡ true → x.reading ≡ None
+    → x.due ≡ (runner_at s.runners c).due → is_started y ≡ false → IsKept t
+ended_kept s t c r x y k sizes reading owner runners frames entries online over due now =
+    let lt = inside s.runners c (k.tied.runners_online c (k.tied.readers_run c r reading)) in
+    let tie = k.tied.read c r reading in
+    let still : (runner_at s.runners c).due ≡ false → x.due ≡ false = λ h. due ∙ h in
+    kept t sizes (subst (λ (xs : List Runner). AreTied xs t.frames) (sym runners)
+    (subst (λ (fs : List Frame). AreTied (set s.runners c x) fs) (sym frames)
+    (tied_ended s.runners s.frames c r x y lt reading online over now k.tied)))
+    (job_other s t c x k.job owner runners
+    (λ b h. no_both (ap (λ (o : Option Transfer). is_some o) reading)
+    (ap (λ (o : Option Transfer). is_some o) (k.job.at_work c b h).idle))
+    (λ none. ap dues runners ∙ due_set s c x lt still none)
+    (λ w b h. fits_read s t w b r.frame y tie.1 (ap is_started tie.0) frames entries
+    (λ none. ap dues runners ∙ due_set s c x lt still none) h))
+
+look_kept : (s : Outline) (c : ℕ) → IsKept s → HasSizes (at_stage s c Look) → c < length s.runners
+    → rule_of s c ≡ Commands → s.owner ≡ None → IsKept (at_stage s c Look)
+look_kept s c k sizes lt h none =
+    let told = tells s c Commands h in
+    kept (at_stage s c Look) sizes k.tied (job_of (at_stage s c Look) c Look refl (record {
+      within = lt;
+      running = told.3;
+      clear = told.0;
+      idle = read_none (runner_at s.runners c).reading told.1;
+    }) (k.job.quiet none))
+
+-- Each step keeps what is true of an outline. That the sizes stay, and that what a command's effect leaves is kept, is
+-- the machine's to say.
+pub step_keeps : (s : Outline) (c : ℕ) (turn : Turn) (t : Outline) → IsKept s → c < length s.runners → HasSizes t
+    → (IsAnswered s c t → IsKept t) → (IsReplied s c t → IsKept t) → Step s c turn t → IsKept t
+step_keeps s c turn t k lt sizes given told (ends ended) = k
+step_keeps s c turn t k lt sizes given told (comes h) =
+    one_kept s (with_runner s c (record (runner_at s.runners c) { online = true })) c
+    (record (runner_at s.runners c) { online = true }) k sizes lt refl refl refl refl
+    (λ b i. no_both (k.tied.runners_online c (k.job.at_work c b i).running) (tells s c Comes h)) (λ d. d)
+    (tied_same s.runners (set s.runners c (record (runner_at s.runners c) { online = true })) s.frames
+    (ties_set s.runners c (record (runner_at s.runners c) { online = true }) lt (λ d. refl) refl refl) k.tied)
+step_keeps s c turn t k lt sizes given told (clears x h cleared) =
+    one_kept s (with_runner s c x) c x k sizes lt refl refl refl refl
+    (λ b i. no_both (tells s c Clears h).1 (k.job.at_work c b i).clear) (λ d. cleared.due)
+    (tied_same s.runners (set s.runners c x) s.frames
+    (ties_set s.runners c x lt (λ d. cleared.online ∙ d) cleared.running cleared.reading) k.tied)
+step_keeps s c turn t k lt sizes given told (reads r used modified h is) =
+    ended_kept s (not_reading (with_bound s r used modified) c) c r (record (runner_at s.runners c) { reading = None })
+    (frame.Bound r.uid r.page used modified) k sizes is refl refl refl refl
+    (k.tied.runners_online c (k.tied.readers_run c r is)) refl refl refl
+step_keeps s c turn t k lt sizes given told (loses r x left h is lost fewer) =
+    ended_kept s (record (with_runner (with_frame s r.frame frame.Free) c x) { left = left }) c r x frame.Free k sizes
+    is refl
+    refl refl refl (lost.online ∙ k.tied.runners_online c (k.tied.readers_run c r is)) lost.reading lost.due refl
+step_keeps s c turn t k lt sizes given told (works _ h step) = job_keeps s c t k sizes given step
+step_keeps s c turn t k lt sizes given told (awaits_clear w d h waiting online due) = k
+step_keeps s c turn t k lt sizes given told (awaits_transfer f uid page h look started) = k
+step_keeps s c turn t k lt sizes given told (loads x h some loaded) =
+    let rule = tells s c Loads h in
+    one_kept s (record (with_runner s c x) { ready = s.ready - 1 }) c x k sizes lt refl refl refl refl
+    (λ b i. not_owner s c b rule.2 i) (λ d. loaded.due)
+    (tied_quiet s.runners c x s.frames lt loaded.online loaded.reading
+    (read_none (runner_at s.runners c).reading rule.1) k.tied)
+step_keeps s c turn t k lt sizes given told (idles busy h none) = k
+step_keeps s c turn t k lt sizes given told (leaves x h left) =
+    let rule = tells s c Leaves h in
+    one_kept s (record (with_runner s c x) { ready = s.ready + 1 }) c x k sizes lt refl refl refl refl
+    (λ b i. not_owner s c b rule.2 i) (λ d. left.due)
+    (tied_quiet s.runners c x s.frames lt left.online left.reading (read_none (runner_at s.runners c).reading rule.1)
+    k.tied)
+step_keeps s c turn t k lt sizes given told (fills x h filled) =
+    let rule = tells s c Commands h in
+    one_kept s (with_runner s c x) c x k sizes lt refl refl refl refl (λ b i. not_owner s c b rule.2 i)
+    (λ d. filled.due ∙ d)
+    (tied_same s.runners (set s.runners c x) s.frames
+    (ties_set s.runners c x lt (λ d. filled.online ∙ d) filled.running filled.reading) k.tied)
+step_keeps s c turn t k lt sizes given told (replies _ h replied) = told replied
+step_keeps s c turn t k lt sizes given told (faults chain uid page makes h none want lacks) =
+    look_kept s c k sizes lt h none
+step_keeps s c turn t k lt sizes given told (enters h none want) = look_kept s c k sizes lt h none
+step_keeps s c turn t k lt sizes given told (waits o h some) = k
