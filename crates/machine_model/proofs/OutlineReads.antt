@@ -1,0 +1,126 @@
+-- What is read of the outline of a machine.
+use Rattle.std.proofs.Common.{◌≡◌, ◌≢◌, ◌<◌, ℕ, zero, suc, Bool, true, false, not, cond, ◌&&◌, ◌||◌, eqb, nat_lt, nat_le, List, [], ◌∷◌, length, map, Option, Some, None, is_some, set, get_or, refl, sym, ap, subst, ◌∙◌, arith}
+use Rattle.processor.specs.declared.Transfer.{Transfer}
+use Rattle.machine_model.specs.State.{State, Processor, Owner}
+use Rattle.machine_model.specs.Reads.{no_processor, processor_at}
+use Rattle.machine_model.specs.Steps.{booked, with_processor}
+use Rattle.machine_model.specs.Actions.{has_had_its_turn}
+use Rattle.book.specs.declared.entries.Entry.{Entry}
+use Rattle.active_segs.specs.declared.Entry.{Entry as Active}
+use Rattle.machine_model.specs.Outline.{Runner, no_runner, Keeper, Outline, runner_at, with_runner}
+use Rattle.machine_model.specs.Measures.{is_over}
+use Rattle.machine_model.specs.Finishing.{Rule, Comes, Clears, Reads, Works, Loads, Leaves, Commands, rule_by, rule_of, owns}
+use Rattle.machine_model.specs.Outlined.{Around, around, runner_by, runner_of, keeper_of, outline_of}
+
+-- ---- lists
+
+pub map_at : {A B : Type 0} (f : A → B) (xs : List A) (i : ℕ) (d : A) → get_or (map f xs) i (f d) ≡ f (get_or xs i d)
+map_at f [] i d = refl
+map_at f (x ∷ xs) zero d = refl
+map_at f (x ∷ xs) (suc i) d = map_at f xs i d
+
+pub set_map : {A B : Type 0} (f : A → B) (xs : List A) (i : ℕ) (y : A) → map f (set xs i y) ≡ set (map f xs) i (f y)
+set_map f [] i y = refl
+set_map f (x ∷ xs) zero y = refl
+set_map f (x ∷ xs) (suc i) y = ap (λ ys. f x ∷ ys) (set_map f xs i y)
+
+long_map : {A B : Type 0} (f : A → B) (xs : List A) → length (map f xs) ≡ length xs
+long_map f [] = refl
+long_map f (x ∷ xs) = ap suc (long_map f xs)
+
+-- ---- processors
+
+pub seen_online : (a : Around) (p : Processor) → (runner_of a p).online ≡ p.cpu.online
+seen_online a p = by p.cpu.process
+  where
+    by : (o : Option ℕ) → (runner_by a p o).online ≡ p.cpu.online
+    by None = refl
+    by (Some k) = refl
+
+pub seen_running : (a : Around) (p : Processor) → (runner_of a p).running ≡ is_some p.cpu.process
+seen_running a p = by p.cpu.process
+  where
+    by : (o : Option ℕ) → (runner_by a p o).running ≡ is_some o
+    by None = refl
+    by (Some k) = refl
+
+pub seen_due : (a : Around) (p : Processor) → (runner_of a p).due ≡ is_some p.cpu.due
+seen_due a p = by p.cpu.process
+  where
+    by : (o : Option ℕ) → (runner_by a p o).due ≡ is_some p.cpu.due
+    by None = refl
+    by (Some k) = refl
+
+pub seen_reading : (a : Around) (p : Processor) → (runner_of a p).reading ≡ p.cpu.transfer
+seen_reading a p = by p.cpu.process
+  where
+    by : (o : Option ℕ) → (runner_by a p o).reading ≡ p.cpu.transfer
+    by None = refl
+    by (Some k) = refl
+
+pub seen_since : (a : Around) (p : Processor) → (runner_of a p).since ≡ p.count
+seen_since a p = by p.cpu.process
+  where
+    by : (o : Option ℕ) → (runner_by a p o).since ≡ p.count
+    by None = refl
+    by (Some k) = refl
+
+pub seen_tried : (a : Around) (p : Processor) → (runner_of a p).tried ≡ p.tried
+seen_tried a p = by p.cpu.process
+  where
+    by : (o : Option ℕ) → (runner_by a p o).tried ≡ p.tried
+    by None = refl
+    by (Some k) = refl
+
+-- ---- the outline
+
+-- the outline of a processor that isn't there is that of none
+pub at_outline : (s : State) (c : ℕ) → runner_at (outline_of s).runners c ≡ runner_of (around s) (processor_at s.processors c)
+unfolding outline_of
+at_outline s c = map_at (runner_of (around s)) s.processors c no_processor
+
+pub long_outline : (s : State) → length (outline_of s).runners ≡ length s.processors
+unfolding outline_of
+long_outline s = long_map (runner_of (around s)) s.processors
+
+-- a step that changes one processor alone
+pub one_outlined : (s : State) (c : ℕ) (p : Processor) (es : List Entry)
+    → outline_of (booked (with_processor s c p) es) ≡ with_runner (outline_of s) c (runner_of (around s) p)
+unfolding outline_of
+one_outlined s c p es =
+    ap (λ (rs : List Runner). record (outline_of s) { runners = rs }) (set_map (runner_of (around s)) s.processors c p)
+
+-- ---- rules
+
+abbrev pub is_owner : Option Owner → ℕ → Bool
+is_owner None c = false
+is_owner (Some o) c = eqb o.cpu c
+
+owns_seen : (entries : List (Option Active)) (o : Option Owner) (c : ℕ) → owns (keeper_of entries o) c ≡ is_owner o c
+owns_seen entries None c = refl
+owns_seen entries (Some o) c = refl
+
+pub seen_owns : (s : State) (c : ℕ) → owns (outline_of s).owner c ≡ is_owner s.owner c
+unfolding outline_of
+seen_owns s c = owns_seen s.store.ast.entries s.owner c
+
+ready_seen : (s : State) → (outline_of s).ready ≡ length s.ready
+unfolding outline_of
+ready_seen s = refl
+
+-- the rule that applies, by the machine's own processor
+pub rule_seen : (s : State) (c : ℕ) → rule_of (outline_of s) c ≡ rule_by (processor_at s.processors c).cpu.online
+    (is_some (processor_at s.processors c).cpu.due) (is_some (processor_at s.processors c).cpu.transfer)
+    (is_owner s.owner c) (is_some (processor_at s.processors c).cpu.process)
+    ((is_some (processor_at s.processors c).cpu.process && has_had_its_turn (processor_at s.processors c))
+    && nat_lt 0 (length s.ready))
+unfolding rule_of
+rule_seen s c =
+    let a : Around = around s in
+    let p : Processor = processor_at s.processors c in
+    rw (
+      at_outline s c, seen_online (around s) (processor_at s.processors c), seen_due (around s) (processor_at s.processors c),
+      seen_reading (around s) (processor_at s.processors c), seen_owns s c,
+      seen_running (around s) (processor_at s.processors c), seen_since (around s) (processor_at s.processors c),
+      seen_tried (around s) (processor_at s.processors c), ready_seen s,
+    ) refl
