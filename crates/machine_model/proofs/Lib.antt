@@ -35,6 +35,7 @@ pub mod OneProcess
 pub mod OuterLaws
 pub mod OwnedLaws
 pub mod Places
+pub mod OutlineAlone
 pub mod OutlineReads
 pub mod RankLaws
 pub mod ReadLaws

@@ -1,0 +1,349 @@
+-- In the outline of the machine, the steps that a processor makes without the supervisor are steps of the outline.
+use Rattle.std.proofs.Common.{◌≡◌, ◌≢◌, ◌<◌, ℕ, zero, suc, ◌+◌, ◌-◌, ◌/◌, Bool, true, false, not, cond, ◌&&◌, ◌||◌, eqb, nat_lt, nat_le, List, [], ◌∷◌, ◌++◌, length, map, drop, filter, Option, Some, None, is_some, option_map, set, get_or, refl, sym, ap, subst, ◌∙◌, inl, inr, ◌⊎◌, arith}
+use Rattle.std.specs.List.{find}
+use Rattle.std.proofs.lemmas.Bool.Decides.{eqb_tells}
+use Rattle.script.specs.declared.commands.Reference.{Reference}
+use Rattle.assoc_mem.specs.declared.What.{What}
+use Rattle.assoc_mem.specs.declared.HeldSeg.{HeldSeg}
+use Rattle.assoc_mem.specs.declared.HeldPage.{HeldPage}
+use Rattle.assoc_mem.specs.Held.{Held, cleared, filled, frame_of, is_number, is_page, nothing_held, page_of, seg_of, with_page, with_seg}
+use Rattle.processor.specs.declared.Transfer.{Transfer}
+use Rattle.descriptor_seg.specs.declared.Sdw.{Sdw}
+use Rattle.descriptor_seg.specs.declared.Sdw.TheVariants as sdw
+use Rattle.core_map.specs.declared.Frame.TheVariants as frame
+use Rattle.machine_model.specs.Actions.{ForOwner, WhileIdle}
+use Rattle.machine_model.specs.State.{State, Processor, Run, Owner}
+use Rattle.machine_model.specs.Reads.{or_zero, processor_at, cpu_at, process_at, run_at, descriptor_of}
+use Rattle.machine_model.specs.Steps.{came_online, cleared_at, held_page, held_seg, left_at, loaded, looking, page_filled, queued, seg_filled, transferred, uid_of_held, with_faults, with_owner}
+use Rattle.machine_model.specs.Outline.{Refer, Runner, no_runner, Keeper, Look, Outline, Turn, Moved, WaitsFor, runner_at, want_at, with_runner, at_stage}
+use Rattle.machine_model.specs.Measures.{lack, missing}
+use Rattle.machine_model.specs.Finishing.{Comes, Clears, Reads, Loads, Leaves, Commands, rule_of, Step, comes, clears, reads, loads, idles, leaves, fills, faults, enters, waits, IsCleared, HasLoaded, HasLeft, IsFilled, with_bound, not_reading}
+use Rattle.machine_model.specs.Outlined.{Around, around, reference_in, holds_seg, holds_page, runner_by, runner_of, keeper_of, stage_of, outline_of}
+use Rattle.machine_model.proofs.OutlineReads.{at_outline, one_outlined, set_map, seen_online, seen_running, seen_due, seen_reading, seen_since, seen_tried}
+
+-- a step to an outline that is the same
+pub step_to : (s t u : Outline) (c : ℕ) (turn : Turn) → t ≡ u → Step s c turn t → Step s c turn u
+step_to s t u c turn same step = subst (λ (x : Outline). Step s c turn x) same step
+
+-- ---- a processor comes online, or clears
+
+online_runner : (a : Around) (p : Processor) → runner_of a (record p { cpu = record p.cpu { online = true } }) ≡ record (runner_of a p) { online = true }
+online_runner a p = by p.cpu.process
+  where
+    by : (o : Option ℕ) → runner_by a (record p { cpu = record p.cpu { online = true } }) o ≡ record (runner_by a p o) { online = true }
+    by None = refl
+    by (Some k) = refl
+
+pub online_outlined : (s : State) (c : ℕ) → rule_of (outline_of s) c ≡ Comes
+    → Step (outline_of s) c Moved (outline_of (came_online s c))
+online_outlined s c h =
+    let p : Processor = processor_at s.processors c in
+    step_to (outline_of s) (with_runner (outline_of s) c (record (runner_at (outline_of s).runners c) { online = true }))
+    (outline_of (came_online s c)) c Moved
+    (ap (λ (x : Runner). with_runner (outline_of s) c (record x { online = true })) (at_outline s c)
+    ∙ ap (λ (x : Runner). with_runner (outline_of s) c x) (sym (online_runner (around s) (processor_at s.processors c)))
+    ∙ sym (one_outlined s c (record (processor_at s.processors c) { cpu = record (cpu_at s.processors c) { online = true } }) _))
+    (comes h)
+
+-- two processors of which the outlines read the same but for what is due
+cleared_runner : (a : Around) (p : Processor) (held : Held)
+    → IsCleared (runner_of a p) (runner_of a (record p { cpu = record p.cpu { due = None; assoc = held } }))
+cleared_runner a p held =
+    let q : Processor = record p { cpu = record p.cpu { due = None; assoc = held } } in
+    record {
+      due = seen_due a (record p { cpu = record p.cpu { due = None; assoc = held } });
+      online = seen_online a (record p { cpu = record p.cpu { due = None; assoc = held } }) ∙ sym (seen_online a p);
+      running = seen_running a (record p { cpu = record p.cpu { due = None; assoc = held } }) ∙ sym (seen_running a p);
+      reading = seen_reading a (record p { cpu = record p.cpu { due = None; assoc = held } }) ∙ sym (seen_reading a p);
+      since = seen_since a (record p { cpu = record p.cpu { due = None; assoc = held } }) ∙ sym (seen_since a p);
+      tried = seen_tried a (record p { cpu = record p.cpu { due = None; assoc = held } }) ∙ sym (seen_tried a p);
+    }
+
+pub clear_outlined : (s : State) (c : ℕ) (w : What) → rule_of (outline_of s) c ≡ Clears
+    → Step (outline_of s) c Moved (outline_of (cleared_at s c w))
+clear_outlined s c w h =
+    let cpu = cpu_at s.processors c in
+    step_to (outline_of s) _ (outline_of (cleared_at s c w)) c Moved
+    (sym (one_outlined s c (record (processor_at s.processors c) { cpu = record (cpu_at s.processors c) {
+      due = None;
+      assoc = cleared (cpu_at s.processors c).assoc w;
+    } }) _))
+    (clears (runner_of (around s) (record (processor_at s.processors c) { cpu = record (cpu_at s.processors c) {
+      due = None;
+      assoc = cleared (cpu_at s.processors c).assoc w;
+    } })) h
+    (subst (λ (x : Runner). IsCleared x (runner_of (around s) (record (processor_at s.processors c) { cpu = record (cpu_at s.processors c) {
+      due = None;
+      assoc = cleared (cpu_at s.processors c).assoc w;
+    } }))) (sym (at_outline s c))
+    (cleared_runner (around s) (processor_at s.processors c) (cleared (cpu_at s.processors c).assoc w))))
+
+-- ---- processes are loaded, and leave
+
+drop_one : (xs : List ℕ) → length (drop 1 xs) ≡ length xs - 1
+drop_one [] = refl
+drop_one (x ∷ xs) = omega arith
+
+-- what a processor has that is neither to drop anything nor reading
+pub record IsFree (p : Processor) : Type 0 where
+  pub online : p.cpu.online ≡ true
+  pub due : p.cpu.due ≡ None
+  pub transfer : p.cpu.transfer ≡ None
+
+abbrev loaded_processor : Processor → ℕ → Processor
+loaded_processor p k = record { cpu = record p.cpu { process = Some k; assoc = nothing_held }; count = 0; tried = false }
+
+loaded_runner : (a : Around) (p : Processor) (k : ℕ) → IsFree p → HasLoaded (runner_of a (loaded_processor p k))
+loaded_runner a p k free = record {
+  online = free.online;
+  running = refl;
+  due = ap (λ (o : Option What). is_some o) free.due;
+  reading = free.transfer;
+  since = refl;
+  tried = refl;
+}
+
+loaded_outline : (s : State) (c k : ℕ) → outline_of (loaded s c k) ≡ record (with_runner (outline_of s) c
+    (runner_of (around s) (loaded_processor (processor_at s.processors c) k))) { ready = (outline_of s).ready - 1 }
+unfolding outline_of
+loaded_outline s c k =
+    ap (λ (rs : List Runner). record (outline_of s) { runners = rs; ready = length (drop 1 s.ready) })
+    (set_map (runner_of (around s)) s.processors c (loaded_processor (processor_at s.processors c) k))
+    ∙ ap (λ (n : ℕ). record (with_runner (outline_of s) c
+    (runner_of (around s) (loaded_processor (processor_at s.processors c) k))) { ready = n }) (drop_one s.ready)
+
+ready_is : (s : State) → (outline_of s).ready ≡ length s.ready
+unfolding outline_of
+ready_is s = refl
+
+pub load_outlined : (s : State) (c k : ℕ) → rule_of (outline_of s) c ≡ Loads → 0 < length s.ready
+    → IsFree (processor_at s.processors c) → Step (outline_of s) c Moved (outline_of (loaded s c k))
+load_outlined s c k h some free =
+    step_to (outline_of s) _ (outline_of (loaded s c k)) c Moved (sym (loaded_outline s c k))
+    (loads (runner_of (around s) (loaded_processor (processor_at s.processors c) k)) h
+    (subst (λ (n : ℕ). 0 < n) (sym (ready_is s)) some) (loaded_runner (around s) (processor_at s.processors c) k free))
+
+pub idle_outlined : (s : State) (c busy : ℕ) → rule_of (outline_of s) c ≡ Loads → s.ready ≡ []
+    → Step (outline_of s) c (WaitsFor (WhileIdle busy)) (outline_of s)
+idle_outlined s c busy h none = idles busy h (ready_is s ∙ ap (λ (xs : List ℕ). length xs) none)
+
+abbrev left_processor : Processor → Processor
+left_processor p = record p { cpu = record p.cpu { process = None; assoc = nothing_held } }
+
+left_runner : (a : Around) (p : Processor) → IsFree p → HasLeft (runner_of a (left_processor p))
+left_runner a p free = record {
+  online = free.online;
+  running = refl;
+  due = ap (λ (o : Option What). is_some o) free.due;
+  reading = free.transfer;
+}
+
+one_more : (xs : List ℕ) (k : ℕ) → length (xs ++ k ∷ []) ≡ length xs + 1
+one_more [] k = refl
+one_more (x ∷ xs) k = let rest = one_more xs k in omega (arith, rest)
+
+queued_long : (run : Run) (ready : List ℕ) (k : ℕ) → run.ended ≡ false → length (queued run ready k) ≡ length ready + 1
+queued_long run ready k going =
+    ap (λ (b : Bool). length (cond b ready (ready ++ k ∷ []))) going ∙ one_more ready k
+
+left_outline : (s : State) (c : ℕ) → (run_at s.runs (process_at s c)).ended ≡ false
+    → outline_of (left_at s c) ≡ record (with_runner (outline_of s) c
+    (runner_of (around s) (left_processor (processor_at s.processors c)))) { ready = (outline_of s).ready + 1 }
+unfolding outline_of
+left_outline s c going =
+    ap (λ (rs : List Runner). record (outline_of s) {
+      runners = rs;
+      ready = length (queued (run_at s.runs (process_at s c)) s.ready (process_at s c));
+    }) (set_map (runner_of (around s)) s.processors c (left_processor (processor_at s.processors c)))
+    ∙ ap (λ (n : ℕ). record (with_runner (outline_of s) c
+    (runner_of (around s) (left_processor (processor_at s.processors c)))) { ready = n })
+    (queued_long (run_at s.runs (process_at s c)) s.ready (process_at s c) going)
+
+pub leave_outlined : (s : State) (c : ℕ) → rule_of (outline_of s) c ≡ Leaves
+    → (run_at s.runs (process_at s c)).ended ≡ false → IsFree (processor_at s.processors c)
+    → Step (outline_of s) c Moved (outline_of (left_at s c))
+leave_outlined s c h going free =
+    step_to (outline_of s) _ (outline_of (left_at s c)) c Moved (sym (left_outline s c going))
+    (leaves (runner_of (around s) (left_processor (processor_at s.processors c))) h
+    (left_runner (around s) (processor_at s.processors c) free))
+
+-- ---- associative memories
+
+abbrev held_processor : Processor → Held → Processor
+held_processor p held = record p { cpu = record p.cpu { assoc = held } }
+
+-- what a processor with a process lacks in its associative memories
+abbrev lacking : Held → Option Reference → ℕ
+lacking held r = cond (holds_seg held r) (cond (holds_page held r) 0 1) 2
+
+filled_runner : (a : Around) (p : Processor) (held : Held) (k : ℕ) → p.cpu.process ≡ Some k
+    → lacking held (reference_in (a.next k)) < lacking p.cpu.assoc (reference_in (a.next k))
+    → IsFilled (runner_of a p) (runner_of a (held_processor p held))
+filled_runner a p held k process less = record {
+  online = seen_online a (held_processor p held) ∙ sym (seen_online a p);
+  running = seen_running a (held_processor p held) ∙ sym (seen_running a p);
+  due = seen_due a (held_processor p held) ∙ sym (seen_due a p);
+  reading = seen_reading a (held_processor p held) ∙ sym (seen_reading a p);
+  since = seen_since a (held_processor p held) ∙ sym (seen_since a p);
+  tried = seen_tried a (held_processor p held) ∙ sym (seen_tried a p);
+  want = want p.cpu.process;
+  linked = linked p.cpu.process;
+  missing = subst (λ (o : Option ℕ). missing (runner_by a (held_processor p held) o) < missing (runner_by a p o)) (sym process) less;
+}
+  where
+    want : (o : Option ℕ) → (runner_by a (held_processor p held) o).want ≡ (runner_by a p o).want
+    want None = refl
+    want (Some k) = refl
+    linked : (o : Option ℕ) → (runner_by a (held_processor p held) o).linked ≡ (runner_by a p o).linked
+    linked None = refl
+    linked (Some k) = refl
+
+pub fill_outlined : (s : State) (c k : ℕ) (held : Held) → rule_of (outline_of s) c ≡ Commands
+    → (cpu_at s.processors c).process ≡ Some k
+    → lacking held (reference_in ((around s).next k)) < lacking (cpu_at s.processors c).assoc (reference_in ((around s).next k))
+    → Step (outline_of s) c Moved
+    (with_runner (outline_of s) c (runner_of (around s) (held_processor (processor_at s.processors c) held)))
+fill_outlined s c k held h process less =
+    fills (runner_of (around s) (held_processor (processor_at s.processors c) held)) h
+    (subst (λ (x : Runner). IsFilled x (runner_of (around s) (held_processor (processor_at s.processors c) held)))
+    (sym (at_outline s c)) (filled_runner (around s) (processor_at s.processors c) held k process less))
+
+-- what is found once one more stands at the end
+found_last : {A : Type 0} (test : A → Bool) (xs : List A) (x : A) → test x ≡ true → is_some (find test (xs ++ x ∷ [])) ≡ true
+found_last test [] x h = ap (λ (b : Bool). is_some (cond b (Some x) None)) h
+found_last test (y ∷ ys) x h = by (test y) (found_last test ys x h)
+  where
+    by : (b : Bool) → is_some (find test (ys ++ x ∷ [])) ≡ true → is_some (cond b (Some y) (find test (ys ++ x ∷ []))) ≡ true
+    by true i = refl
+    by false i = i
+
+eqb_self : (n : ℕ) → eqb n n ≡ true
+eqb_self n = elim (eqb_tells n n) [ inl e ↦ e.0 | inr e ↦ absurd (e.1 refl) ]
+
+holds_filled_seg : (held : Held) (e : HeldSeg) (n : ℕ) → e.number ≡ n → is_some (seg_of (with_seg held e) n) ≡ true
+holds_filled_seg held e n same =
+    found_last (is_number n) (cond (eqb (length held.segs) 16) (drop 1 held.segs) held.segs) e
+    (subst (λ (i : ℕ). eqb e.number i ≡ true) same (eqb_self e.number))
+
+number_held : (s : State) (n : ℕ) (w : Sdw) → (held_seg s.store n w).number ≡ n
+number_held s n sdw.Fault = refl
+number_held s n (sdw.Present aste m pages) = refl
+
+pub fill_seg_outlined : (s : State) (c k : ℕ) (r : Reference) → rule_of (outline_of s) c ≡ Commands
+    → (cpu_at s.processors c).process ≡ Some k → reference_in ((around s).next k) ≡ Some r
+    → is_some (seg_of (cpu_at s.processors c).assoc r.number) ≡ false
+    → Step (outline_of s) c Moved (outline_of (seg_filled s c r.number))
+fill_seg_outlined s c k r h process next none =
+    let cpu = cpu_at s.processors c in
+    let e : HeldSeg = held_seg s.store r.number (descriptor_of s.store.links (process_at s c) r.number) in
+    step_to (outline_of s) _ (outline_of (seg_filled s c r.number)) c Moved
+    (sym (one_outlined s c (held_processor (processor_at s.processors c) (with_seg (cpu_at s.processors c).assoc
+    (held_seg s.store r.number (descriptor_of s.store.links (process_at s c) r.number)))) _))
+    (fill_outlined s c k (with_seg (cpu_at s.processors c).assoc
+    (held_seg s.store r.number (descriptor_of s.store.links (process_at s c) r.number))) h process
+    (rw (next, none, holds_filled_seg (cpu_at s.processors c).assoc
+    (held_seg s.store r.number (descriptor_of s.store.links (process_at s c) r.number)) r.number
+    (number_held s r.number (descriptor_of s.store.links (process_at s c) r.number)))
+    (few (holds_page (with_seg (cpu_at s.processors c).assoc
+    (held_seg s.store r.number (descriptor_of s.store.links (process_at s c) r.number))) (Some r)))))
+  where
+    few : (b : Bool) → cond {A = ℕ} b 0 1 < 2
+    few true = omega arith
+    few false = omega arith
+
+holds_filled_page : (held : Held) (e : HeldPage) (uid page : ℕ) → e.uid ≡ uid → e.page ≡ page
+    → is_some (frame_of (with_page held e) uid page) ≡ true
+holds_filled_page held e uid page a b =
+    mapped (page_of (with_page held e) uid page)
+    (found_last (is_page uid page) (cond (eqb (length held.pages) 16) (drop 1 held.pages) held.pages) e
+    (rw (a, b) (both (eqb_self uid) (eqb_self page))))
+  where
+    mapped : (o : Option HeldPage) → is_some o ≡ true → is_some (option_map (λ x. x.frame) o) ≡ true
+    mapped None h = h
+    mapped (Some x) h = refl
+    both : {x y : Bool} → x ≡ true → y ≡ true → (x && y) ≡ true
+    both g h = rw (g, h) refl
+
+pub fill_page_outlined : (s : State) (c k f : ℕ) (r : Reference) → rule_of (outline_of s) c ≡ Commands
+    → (cpu_at s.processors c).process ≡ Some k → reference_in ((around s).next k) ≡ Some r
+    → is_some (seg_of (cpu_at s.processors c).assoc r.number) ≡ true
+    → holds_page (cpu_at s.processors c).assoc (Some r) ≡ false
+    → Step (outline_of s) c Moved (outline_of (page_filled s c f r))
+fill_page_outlined s c k f r h process next seg none =
+    let cpu = cpu_at s.processors c in
+    step_to (outline_of s) _ (outline_of (page_filled s c f r)) c Moved
+    (sym (one_outlined s c (held_processor (processor_at s.processors c)
+    (with_page (cpu_at s.processors c).assoc (held_page (cpu_at s.processors c) f r))) _))
+    (fill_outlined s c k (with_page (cpu_at s.processors c).assoc (held_page (cpu_at s.processors c) f r)) h process
+    (rw (next, seg, none, now) (omega arith)))
+  where
+    now : holds_page (with_page (cpu_at s.processors c).assoc (held_page (cpu_at s.processors c) f r)) (Some r) ≡ true
+    now = holds_filled_page (cpu_at s.processors c).assoc (held_page (cpu_at s.processors c) f r)
+        (uid_of_held (seg_of (cpu_at s.processors c).assoc r.number)) (r.offset / 1024) refl refl
+
+-- ---- a transfer ends
+
+abbrev idle_processor : Processor → Processor
+idle_processor p = record p { cpu = record p.cpu { transfer = None } }
+
+idle_runner : (a : Around) (p : Processor) → runner_of a (idle_processor p) ≡ record (runner_of a p) { reading = None }
+idle_runner a p = by p.cpu.process
+  where
+    by : (o : Option ℕ) → runner_by a (idle_processor p) o ≡ record (runner_by a p o) { reading = None }
+    by None = refl
+    by (Some k) = refl
+
+transferred_outline : (s : State) (c count : ℕ) (t : Transfer) → outline_of (transferred (with_faults s count) c t)
+    ≡ with_runner (with_bound (outline_of s) t false false) c (runner_of (around s) (idle_processor (processor_at s.processors c)))
+unfolding outline_of
+transferred_outline s c count t =
+    ap (λ (rs : List Runner). record (with_bound (outline_of s) t false false) { runners = rs })
+    (set_map (runner_of (around s)) s.processors c (idle_processor (processor_at s.processors c)))
+
+pub transfer_outlined : (s : State) (c count : ℕ) (t : Transfer) → rule_of (outline_of s) c ≡ Reads
+    → (cpu_at s.processors c).transfer ≡ Some t
+    → Step (outline_of s) c Moved (outline_of (transferred (with_faults s count) c t))
+transfer_outlined s c count t h reading =
+    step_to (outline_of s) (not_reading (with_bound (outline_of s) t false false) c)
+    (outline_of (transferred (with_faults s count) c t)) c Moved
+    (ap (λ (x : Runner). with_runner (with_bound (outline_of s) t false false) c (record x { reading = None })) (at_outline s c)
+    ∙ ap (λ (x : Runner). with_runner (with_bound (outline_of s) t false false) c x)
+    (sym (idle_runner (around s) (processor_at s.processors c))) ∙ sym (transferred_outline s c count t))
+    (reads t false false h
+    (ap (λ (x : Runner). x.reading) (at_outline s c) ∙ seen_reading (around s) (processor_at s.processors c) ∙ reading))
+
+-- ---- the supervisor
+
+owner_none : (s : State) → s.owner ≡ None → (outline_of s).owner ≡ None
+unfolding outline_of
+owner_none s none = ap (λ (o : Option Owner). keeper_of s.store.ast.entries o) none
+
+looking_outline : (s : State) (c : ℕ) → outline_of (with_owner s (Some (looking c))) ≡ at_stage (outline_of s) c Look
+unfolding outline_of
+looking_outline s c = refl
+
+-- a tree command, or a reference that the look refuses, needs the supervisor
+pub enter_outlined : (s : State) (c : ℕ) → rule_of (outline_of s) c ≡ Commands → s.owner ≡ None
+    → ((chain : List ℕ) (uid page : ℕ) (makes : Bool) → want_at (outline_of s) c ≢ Refer chain uid page makes)
+    → Step (outline_of s) c Moved (outline_of (with_owner s (Some (looking c))))
+enter_outlined s c h none want =
+    step_to (outline_of s) (at_stage (outline_of s) c Look) (outline_of (with_owner s (Some (looking c)))) c Moved
+    (sym (looking_outline s c)) (enters h (owner_none s none) want)
+
+-- so does a reference for which the tables lack something
+pub fault_outlined : (s : State) (c : ℕ) (chain : List ℕ) (uid page : ℕ) (makes : Bool)
+    → rule_of (outline_of s) c ≡ Commands → s.owner ≡ None → want_at (outline_of s) c ≡ Refer chain uid page makes
+    → lack (outline_of s) (runner_at (outline_of s).runners c) ≡ 1
+    → Step (outline_of s) c Moved (outline_of (with_owner s (Some (looking c))))
+fault_outlined s c chain uid page makes h none want lacks =
+    step_to (outline_of s) (at_stage (outline_of s) c Look) (outline_of (with_owner s (Some (looking c)))) c Moved
+    (sym (looking_outline s c)) (faults chain uid page makes h (owner_none s none) want lacks)
+
+owner_some : (s : State) (o : Owner) → s.owner ≡ Some o → (outline_of s).owner ≡ keeper_of s.store.ast.entries (Some o)
+unfolding outline_of
+owner_some s o some = ap (λ (x : Option Owner). keeper_of s.store.ast.entries x) some
+
+pub owned_outlined : (s : State) (c : ℕ) (o : Owner) → rule_of (outline_of s) c ≡ Commands → s.owner ≡ Some o
+    → Step (outline_of s) c (WaitsFor (ForOwner o.cpu)) (outline_of s)
+owned_outlined s c o h some =
+    waits (record { cpu = o.cpu; stage = stage_of s.store.ast.entries o.frames o.phase }) h (owner_some s o some)
