@@ -36,6 +36,7 @@ pub mod OuterLaws
 pub mod OwnedLaws
 pub mod Places
 pub mod OutlineAlone
+pub mod OutlineJob
 pub mod OutlineReads
 pub mod RankLaws
 pub mod ReadLaws

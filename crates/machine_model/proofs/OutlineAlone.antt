@@ -10,6 +10,7 @@ use Rattle.assoc_mem.specs.Held.{Held, cleared, filled, frame_of, is_number, is_
 use Rattle.processor.specs.declared.Transfer.{Transfer}
 use Rattle.descriptor_seg.specs.declared.Sdw.{Sdw}
 use Rattle.descriptor_seg.specs.declared.Sdw.TheVariants as sdw
+use Rattle.core_map.specs.declared.Frame.{Frame}
 use Rattle.core_map.specs.declared.Frame.TheVariants as frame
 use Rattle.machine_model.specs.Actions.{ForOwner, WhileIdle}
 use Rattle.machine_model.specs.State.{State, Processor, Run, Owner}
@@ -18,7 +19,7 @@ use Rattle.machine_model.specs.Steps.{came_online, cleared_at, held_page, held_s
 use Rattle.machine_model.specs.Outline.{Refer, Runner, no_runner, Keeper, Look, Outline, Turn, Moved, WaitsFor, runner_at, want_at, with_runner, at_stage}
 use Rattle.machine_model.specs.Measures.{lack, missing}
 use Rattle.machine_model.specs.Finishing.{Comes, Clears, Reads, Loads, Leaves, Commands, rule_of, Step, comes, clears, reads, loads, idles, leaves, fills, faults, enters, waits, IsCleared, HasLoaded, HasLeft, IsFilled, with_bound, not_reading}
-use Rattle.machine_model.specs.Outlined.{Around, around, reference_in, holds_seg, holds_page, runner_by, runner_of, keeper_of, stage_of, outline_of}
+use Rattle.machine_model.specs.Outlined.{Around, around, reference_in, holds_seg, holds_page, bare, runner_by, runner_of, keeper_of, stage_of, outline_of}
 use Rattle.machine_model.proofs.OutlineReads.{at_outline, one_outlined, set_map, seen_online, seen_running, seen_due, seen_reading, seen_since, seen_tried}
 
 -- a step to an outline that is the same
@@ -297,8 +298,13 @@ transferred_outline : (s : State) (c count : ℕ) (t : Transfer) → outline_of 
     ≡ with_runner (with_bound (outline_of s) t false false) c (runner_of (around s) (idle_processor (processor_at s.processors c)))
 unfolding outline_of
 transferred_outline s c count t =
-    ap (λ (rs : List Runner). record (with_bound (outline_of s) t false false) { runners = rs })
-    (set_map (runner_of (around s)) s.processors c (idle_processor (processor_at s.processors c)))
+    ap (λ (rs : List Runner). record (outline_of s) {
+      runners = rs;
+      frames = map bare (set s.store.pages.core.frames t.frame (frame.Bound t.uid t.page false false));
+    }) (set_map (runner_of (around s)) s.processors c (idle_processor (processor_at s.processors c)))
+    ∙ ap (λ (fs : List Frame). record (with_runner (outline_of s) c
+    (runner_of (around s) (idle_processor (processor_at s.processors c)))) { frames = fs })
+    (set_map bare s.store.pages.core.frames t.frame (frame.Bound t.uid t.page false false))
 
 pub transfer_outlined : (s : State) (c count : ℕ) (t : Transfer) → rule_of (outline_of s) c ≡ Reads
     → (cpu_at s.processors c).transfer ≡ Some t

@@ -17,6 +17,8 @@ use Rattle.known_segs.specs.Known.{uid_of}
 use Rattle.flat_model.specs.Branches.{segment_at}
 use Rattle.flat_model.specs.References.{new_word, permits}
 use Rattle.active_segs.specs.declared.Entry.{Entry}
+use Rattle.core_map.specs.declared.Frame.{Frame}
+use Rattle.core_map.specs.declared.Frame.TheVariants as frame
 use Rattle.seg_control.specs.Control.{Links, kst_at, place_of}
 use Rattle.storage_ops.specs.Shown.{is_filed, who_at}
 use Rattle.machine_model.specs.declared.Aim.{Aim}
@@ -161,10 +163,16 @@ left_in (x ∷ xs) (run ∷ runs) = left_of x.commands run + left_in xs runs
 
 -- ---- the whole
 
+-- a frame without its marks, which no measure reads
+abbrev pub bare : Frame → Frame
+bare frame.Free = frame.Free
+bare (frame.Started uid page) = frame.Started uid page
+bare (frame.Bound uid page used modified) = frame.Bound uid page false false
+
 unfoldable pub outline_of : State → Outline
 outline_of s = record {
   runners = map (runner_of (around s)) s.processors;
-  frames = s.store.pages.core.frames;
+  frames = map bare s.store.pages.core.frames;
   entries = s.store.ast.entries;
   stored = is_filed s.store.accounts s.store.pages.vtocs;
   owner = keeper_of s.store.ast.entries s.owner;

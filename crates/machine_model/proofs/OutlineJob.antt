@@ -1,0 +1,201 @@
+-- In the outline of the machine, what the owner of the supervisor does is a step of its job in the outline.
+use Rattle.std.proofs.Common.{◌≡◌, ◌≢◌, ◌≤◌, ◌<◌, ℕ, zero, suc, ◌+◌, ◌-◌, Bool, true, false, not, cond, ◌&&◌, ◌||◌, eqb, List, [], ◌∷◌, ◌++◌, length, map, Option, Some, None, is_some, set, get_or, Contains, refl, sym, ap, subst, ◌∙◌, inl, inr, ◌⊎◌, append_assoc, append-nil, arith}
+use Rattle.std.proofs.lemmas.List.{get_or-set_same, get_or-set_other, length-set}
+use Rattle.book.specs.declared.entries.Entry.TheVariants as entry
+use Rattle.mnames.specs.declared.modes.Mode.{Mode}
+use Rattle.script.specs.declared.commands.Reference.{Reference}
+use Rattle.assoc_mem.specs.declared.What.{What}
+use Rattle.assoc_mem.specs.declared.What.TheVariants as what
+use Rattle.core_map.specs.declared.Frame.{Frame}
+use Rattle.core_map.specs.declared.Frame.TheVariants as frame
+use Rattle.core_map.specs.CoreMap.{Core, bound_page}
+use Rattle.core_map.specs.Clock.{frame_in as core_frame, is_idle, unmarked, round_frames, passed_over, after_choice}
+use Rattle.page_control.specs.declared.Left.{Left}
+use Rattle.page_control.specs.declared.Left.TheVariants as left
+use Rattle.page_control.specs.Plain.{frame_in as plain_frame}
+use Rattle.active_segs.specs.declared.Entry.{Entry as Active}
+use Rattle.active_segs.specs.Active.{entry_at}
+use Rattle.active_segs.specs.Victim.{IsOffChain}
+use Rattle.descriptor_seg.specs.declared.Sdw.{Sdw}
+use Rattle.descriptor_seg.specs.declared.Sdw.TheVariants as sdw
+use Rattle.descriptor_seg.specs.Descriptors.{sdw_at}
+use Rattle.seg_control.specs.Control.{Links, is_for, place_of, sdws_at}
+use Rattle.seg_control.specs.Effects.{cut_one as descriptor_cut}
+use Rattle.processor.specs.declared.Transfer.{Transfer}
+use Rattle.storage_ops.specs.Shown.{is_filed}
+use Rattle.machine_model.specs.declared.Aim.{Aim}
+use Rattle.machine_model.specs.declared.Aim.TheVariants as aim
+use Rattle.machine_model.specs.declared.Phase.{Phase}
+use Rattle.machine_model.specs.declared.Phase.TheVariants as phase
+use Rattle.machine_model.specs.State.{State, Storage, Processor, Owner, CutDescriptor}
+use Rattle.tree_model.specs.Tree.{node_in}
+use Rattle.machine_model.specs.Reads.{or_zero, no_processor, superior_of_node, mode_in, length_in, processor_at, cpu_at, process_at, descriptor_of, is_connected, frames_of_owner, cut_of_owner}
+use Rattle.machine_model.specs.Steps.{with_link as with_link_of, activated_at, booked, connected_to, looking, started, with_faults, with_owner, with_store}
+use Rattle.machine_model.specs.Jobs.{cut_all, cut_one, deactivated_one, emptied, eviction_begun, eviction_done, leaving_if, left_of, owner_signalled, page_done, page_gone, page_in, phase_signalled, seg_gone, segs_gone, signalled, take_all, take_one, told_at, told_from, took, with_choice, with_leaving, with_left}
+use Rattle.machine_model.specs.Outline.{Want, Refer, Runner, no_runner, Work, EvictFrame, EmptyPlace, CommitCommand, Stage, Look, Taken, Waiting, Keeper, Outline, runner_at, frame_in, want_at, with_runner, with_frame, with_entry, at_stage}
+use Rattle.machine_model.specs.Measures.{chain_of, dues, has_free, lack}
+use Rattle.machine_model.specs.Finishing.{IsIn, JobStep, activates, connects, takes_segment, takes_frame, takes_for_commit, signals, frees_frame, frees_page, empties, empties_at_once, gives_up, starts, CanActivate, CanEmpty, CanEvict, CanStart, AreAlike, AreOf, MayRelease, with_link, with_runners, with_stored, without_owner, now_reading, entry_for}
+use Rattle.machine_model.specs.Outlined.{Around, around, reference_in, is_linked, holds_seg, holds_page, want_of, bare, runner_by, runner_of, first_frame, work_of, stage_of, keeper_of, outline_of}
+use Rattle.machine_model.proofs.OutlineReads.{at_outline, long_outline, map_at, set_map, seen_online, seen_running, seen_due, seen_reading, seen_since, seen_tried}
+
+-- a step of a job to an outline that is the same
+job_to : (s t u : Outline) (c : ℕ) → t ≡ u → JobStep s c t → JobStep s c u
+job_to s t u c same step = subst (λ (x : Outline). JobStep s c x) same step
+
+-- ---- the owner
+
+pub in_job : (s : State) (o : Owner) → s.owner ≡ Some o
+    → IsIn (outline_of s) o.cpu (stage_of s.store.ast.entries o.frames o.phase)
+unfolding outline_of
+in_job s o h = ap (λ (x : Option Owner). keeper_of s.store.ast.entries x) h
+
+look_of_keeper : (entries : List (Option Active)) (o : Owner) → o.phase ≡ phase.Looking
+    → keeper_of entries (Some o) ≡ Some (record { cpu = o.cpu; stage = Look })
+look_of_keeper entries o looks =
+    ap (λ (x : Phase). Some (record { cpu = o.cpu; stage = stage_of entries o.frames x })) looks
+
+pub in_look : (s : State) (o : Owner) → s.owner ≡ Some o → o.phase ≡ phase.Looking → IsIn (outline_of s) o.cpu Look
+unfolding outline_of
+in_look s o h looks =
+    ap (λ (x : Option Owner). keeper_of s.store.ast.entries x) h ∙ look_of_keeper s.store.ast.entries o looks
+
+-- an owner that looks is the same whatever is active
+keep_look : (es fs : List (Option Active)) (x : Option Owner) (o : Owner) → x ≡ Some o → o.phase ≡ phase.Looking
+    → keeper_of es x ≡ keeper_of fs x
+keep_look es fs x o h looks =
+    ap (λ (y : Option Owner). keeper_of es y) h ∙ look_of_keeper es o looks
+    ∙ sym (ap (λ (y : Option Owner). keeper_of fs y) h ∙ look_of_keeper fs o looks)
+
+-- ---- a look that brings a segment nearer
+
+abbrev superior_in : State → ℕ → Option ℕ
+superior_in s uid = superior_of_node (node_in s.store.accounts.nodes uid)
+
+pub activate_outlined : (s : State) (o : Owner) (uid place : ℕ) → s.owner ≡ Some o → o.phase ≡ phase.Looking
+    → CanActivate (outline_of s) o.cpu place uid → JobStep (outline_of s) o.cpu (outline_of (activated_at s uid place))
+unfolding outline_of
+activate_outlined s o uid place owner looks can =
+    job_to (outline_of s) (with_entry (outline_of s) place (entry_for uid (superior_in s uid))) (outline_of (activated_at s uid place)) o.cpu
+    (ap (λ (k : Option Keeper). record (with_entry (outline_of s) place (entry_for uid (superior_in s uid))) { owner = k })
+    (keep_look s.store.ast.entries (activated_at s uid place).store.ast.entries s.owner o owner looks))
+    (activates place uid (superior_in s uid) can)
+
+-- a list in which one element is seen otherwise
+map_like : {A B : Type 0} (f g : A → B) (xs : List A) (d : A) → ((i : ℕ) → g (get_or xs i d) ≡ f (get_or xs i d)) → map g xs ≡ map f xs
+map_like f g [] d same = refl
+map_like {B = B} f g (x ∷ xs) d same =
+    ap (λ (y : B). y ∷ map g xs) (same zero) ∙ ap (λ (ys : List B). f x ∷ ys) (map_like f g xs d (λ i. same (suc i)))
+
+map_change : {A B : Type 0} (f g : A → B) (xs : List A) (c : ℕ) (y : B) (d : A) → c < length xs → g (get_or xs c d) ≡ y
+    → ((i : ℕ) → i ≢ c → g (get_or xs i d) ≡ f (get_or xs i d)) → map g xs ≡ set (map f xs) c y
+map_change f g [] c y d lt here other = absurd (omega arith)
+map_change {B = B} f g (x ∷ xs) zero y d lt here other =
+    ap (λ (z : B). z ∷ map g xs) here
+    ∙ ap (λ (ys : List B). y ∷ ys) (map_like f g xs d (λ i. other (suc i) (λ e. absurd (omega (arith, e)))))
+map_change {B = B} f g (x ∷ xs) (suc c) y d lt here other =
+    ap (λ (z : B). z ∷ map g xs) (other zero (λ e. absurd (omega (arith, e))))
+    ∙ ap (λ (ys : List B). f x ∷ ys) (map_change f g xs c y d (omega arith) here (λ i n. other (suc i) (λ e. n (omega (arith, e)))))
+
+-- ---- a look that connects
+
+abbrev linked_around : Around → Links → Around
+linked_around a links = record a { links = links }
+
+-- the runner of a process whose next command's descriptor is connected now
+linked_runner : (a : Around) (links : Links) (p : Processor) (k : ℕ) (r : Reference) → p.cpu.process ≡ Some k
+    → reference_in (a.next k) ≡ Some r → links.known ≡ a.links.known → is_connected (descriptor_of links k r.number) ≡ true
+    → runner_of (linked_around a links) p ≡ record (runner_of a p) { linked = true }
+linked_runner a links p k r process next known now =
+    subst (λ (o : Option ℕ). runner_by (linked_around a links) p o ≡ record (runner_by a p o) { linked = true }) (sym process)
+    (λ i. record {
+      online = p.cpu.online;
+      running = true;
+      due = is_some p.cpu.due;
+      reading = p.cpu.transfer;
+      since = p.count;
+      tried = p.tried;
+      want = want_same i;
+      linked = linked_now i;
+      has_seg = holds_seg p.cpu.assoc (reference_in (a.next k));
+      has_page = holds_page p.cpu.assoc (reference_in (a.next k));
+    })
+  where
+    want_same : want_of (linked_around a links) k (a.next k) ≡ want_of a k (a.next k)
+    want_same = ap (λ (known : List (List (Option ℕ))). want_of (record a { links = record links { known = known } }) k (a.next k)) known
+    linked_now : is_linked (linked_around a links) k (reference_in (a.next k)) ≡ true
+    linked_now = ap (λ (x : Option Reference). is_linked (linked_around a links) k x) next ∙ now
+
+-- the runner of a processor whose process has the same descriptors as before
+other_runner : (a : Around) (links : Links) (p : Processor) → links.known ≡ a.links.known
+    → ((k : ℕ) → p.cpu.process ≡ Some k → sdws_at links.descriptors k ≡ sdws_at a.links.descriptors k)
+    → runner_of (linked_around a links) p ≡ runner_of a p
+other_runner a links p known same = by p.cpu.process same
+  where
+    by : (o : Option ℕ) → ((k : ℕ) → o ≡ Some k → sdws_at links.descriptors k ≡ sdws_at a.links.descriptors k)
+        → runner_by (linked_around a links) p o ≡ runner_by a p o
+    by None h = refl
+    by (Some k) h = λ i. record {
+      online = p.cpu.online;
+      running = true;
+      due = is_some p.cpu.due;
+      reading = p.cpu.transfer;
+      since = p.count;
+      tried = p.tried;
+      want = want_of (record a { links = record links { known = known i } }) k (a.next k);
+      linked = linked_same (reference_in (a.next k)) (h k refl) i;
+      has_seg = holds_seg p.cpu.assoc (reference_in (a.next k));
+      has_page = holds_page p.cpu.assoc (reference_in (a.next k));
+    }
+      where
+        linked_same : (r : Option Reference) → sdws_at links.descriptors k ≡ sdws_at a.links.descriptors k
+            → is_linked (linked_around a links) k r ≡ is_linked a k r
+        linked_same None e = refl
+        linked_same (Some r) e = ap (λ (ws : List Sdw). is_connected (sdw_at ws r.number)) e
+
+-- each process is at one processor at most
+pub record IsPlaced (processors : List Processor) (c k : ℕ) : Type 0 where
+  pub here : (cpu_at processors c).process ≡ Some k
+  pub only : (d : ℕ) → d ≢ c → (cpu_at processors d).process ≢ Some k
+
+-- the descriptor that is connected is there
+pub record HasDescriptor (links : Links) (k n : ℕ) : Type 0 where
+  pub process : k < length links.descriptors
+  pub number : n < length (sdws_at links.descriptors k)
+
+now_connected : (s : State) (k n uid : ℕ) → HasDescriptor s.store.links k n
+    → is_connected (descriptor_of (with_link_of s.store k n uid).links k n) ≡ true
+now_connected s k n uid there =
+    ap (λ (ws : List Sdw). is_connected (sdw_at ws n))
+    (get_or-set_same s.store.links.descriptors k (set (sdws_at s.store.links.descriptors k) n
+    (sdw.Present (place_of s.store.ast.entries uid) (mode_in s.store k uid) (length_in s.store uid))) [] there.process)
+    ∙ ap is_connected (get_or-set_same (sdws_at s.store.links.descriptors k) n
+    (sdw.Present (place_of s.store.ast.entries uid) (mode_in s.store k uid) (length_in s.store uid)) sdw.Fault there.number)
+
+connected_outline : (s : State) (c k n uid : ℕ) (r : Reference) → c < length s.processors → IsPlaced s.processors c k
+    → reference_in ((around s).next k) ≡ Some r → r.number ≡ n → HasDescriptor s.store.links k n
+    → outline_of (connected_to s c n uid) ≡ with_link (outline_of s) c
+unfolding outline_of
+connected_outline s c k n uid r lt placed next number there =
+    ap (λ (j : ℕ). outline_of (booked (with_store s (with_link_of s.store j n uid)) (entry.Connect j n uid ∷ [])))
+    (ap or_zero placed.here)
+    ∙ ap (λ (rs : List Runner). record (outline_of s) { runners = rs })
+    (map_change (runner_of (around s)) (runner_of (linked_around (around s) (with_link_of s.store k n uid).links)) s.processors c
+    (record (runner_at (outline_of s).runners c) { linked = true }) no_processor lt
+    (linked_runner (around s) (with_link_of s.store k n uid).links (processor_at s.processors c) k r placed.here next refl
+    (subst (λ (m : ℕ). is_connected (descriptor_of (with_link_of s.store k n uid).links k m) ≡ true) (sym number)
+    (now_connected s k n uid there))
+    ∙ ap (λ (x : Runner). record x { linked = true }) (sym (at_outline s c)))
+    (λ d apart. other_runner (around s) (with_link_of s.store k n uid).links (processor_at s.processors d) refl
+    (λ j h. get_or-set_other s.store.links.descriptors k j (set (sdws_at s.store.links.descriptors k) n
+    (sdw.Present (place_of s.store.ast.entries uid) (mode_in s.store k uid) (length_in s.store uid))) []
+    (λ e. placed.only d apart (h ∙ ap (λ (i : ℕ). Some i) e)))))
+
+pub connect_outlined : (s : State) (o : Owner) (k uid : ℕ) (r : Reference) (chain : List ℕ) (u page : ℕ) (makes : Bool)
+    → s.owner ≡ Some o → o.phase ≡ phase.Looking → o.cpu < length s.processors → IsPlaced s.processors o.cpu k
+    → reference_in ((around s).next k) ≡ Some r → HasDescriptor s.store.links k r.number
+    → want_at (outline_of s) o.cpu ≡ Refer chain u page makes → (runner_at (outline_of s).runners o.cpu).linked ≡ false
+    → JobStep (outline_of s) o.cpu (outline_of (connected_to s o.cpu r.number uid))
+connect_outlined s o k uid r chain u page makes owner looks lt placed next there want off =
+    job_to (outline_of s) (with_link (outline_of s) o.cpu) (outline_of (connected_to s o.cpu r.number uid)) o.cpu
+    (sym (connected_outline s o.cpu k r.number uid r lt placed next refl there))
+    (connects chain u page makes (in_look s o owner looks) want off)
