@@ -38,6 +38,7 @@ pub mod Places
 pub mod OutlineAlone
 pub mod OutlineJob
 pub mod OutlineReads
+pub mod OutlineTake
 pub mod RankLaws
 pub mod ReadLaws
 pub mod Replies

@@ -39,7 +39,7 @@ use Rattle.machine_model.specs.Outlined.{Around, around, reference_in, is_linked
 use Rattle.machine_model.proofs.OutlineReads.{at_outline, long_outline, map_at, set_map, seen_online, seen_running, seen_due, seen_reading, seen_since, seen_tried}
 
 -- a step of a job to an outline that is the same
-job_to : (s t u : Outline) (c : ℕ) → t ≡ u → JobStep s c t → JobStep s c u
+pub job_to : (s t u : Outline) (c : ℕ) → t ≡ u → JobStep s c t → JobStep s c u
 job_to s t u c same step = subst (λ (x : Outline). JobStep s c x) same step
 
 -- ---- the owner

@@ -1,0 +1,382 @@
+-- In the outline of the machine, taking, signalling and finishing are steps of the owner's job.
+use Rattle.std.proofs.Common.{◌≡◌, ◌≢◌, ◌≤◌, ◌<◌, ℕ, zero, suc, ◌+◌, ◌-◌, Bool, true, false, not, cond, ◌&&◌, ◌||◌, eqb, List, [], ◌∷◌, ◌++◌, length, map, Option, Some, None, is_some, set, get_or, Contains, refl, sym, ap, subst, ◌∙◌, inl, inr, ◌⊎◌, append_assoc, append-nil, add-zero, arith}
+use Rattle.std.proofs.lemmas.List.{get_or-set_same, get_or-set_other, length-set}
+use Rattle.book.specs.declared.entries.Entry.{Entry}
+use Rattle.book.specs.declared.entries.Entry.TheVariants as entry
+use Rattle.assoc_mem.specs.declared.What.{What}
+use Rattle.assoc_mem.specs.declared.What.TheVariants as what
+use Rattle.core_map.specs.declared.Frame.{Frame}
+use Rattle.core_map.specs.declared.Frame.TheVariants as frame
+use Rattle.core_map.specs.CoreMap.{Core, bound_page}
+use Rattle.core_map.specs.Clock.{frame_in as core_frame, is_idle, unmarked, round_frames, passed_over, after_choice}
+use Rattle.page_control.specs.declared.Left.{Left}
+use Rattle.page_control.specs.declared.Left.TheVariants as left
+use Rattle.script.specs.Plans.{command_at}
+use Rattle.accounts.specs.Maps.{AccountMaps}
+use Rattle.page_control.specs.Plain.{Plain, words_in}
+use Rattle.assoc_mem.specs.Held.{cleared}
+use Rattle.active_segs.specs.declared.Entry.{Entry as Active}
+use Rattle.active_segs.specs.Active.{ActiveSegs}
+use Rattle.active_segs.specs.Victim.{first_off_chain, hand_past}
+use Rattle.seg_control.specs.Control.{Links, leads_at, place_of}
+use Rattle.seg_control.specs.Effects.{unlinked}
+use Rattle.processor.specs.declared.Transfer.{Transfer}
+use Rattle.storage_ops.specs.Shown.{is_filed}
+use Rattle.machine_model.specs.declared.Aim.{Aim}
+use Rattle.machine_model.specs.declared.Aim.TheVariants as aim
+use Rattle.machine_model.specs.declared.Phase.{Phase}
+use Rattle.machine_model.specs.declared.Phase.TheVariants as phase
+use Rattle.machine_model.specs.State.{State, Storage, Processor, Owner, CutDescriptor}
+use Rattle.machine_model.specs.Reads.{next_command, no_processor, or_zero, run_at, processor_at, cpu_at, process_at, frames_of_owner, cut_of_owner}
+use Rattle.machine_model.specs.Steps.{booked, looking, started, with_faults, with_owner, with_store}
+use Rattle.machine_model.specs.Jobs.{cut_all, cut_one, deactivated_one, emptied, eviction_begun, eviction_done, leaving_if, left_of, owner_signalled, page_done, page_gone, page_in, phase_signalled, seg_gone, segs_gone, signalled, take_all, take_one, told_at, told_from, took, with_choice, with_hand_moved, with_leaving, with_left}
+use Rattle.machine_model.specs.Outline.{Want, Refer, Runner, no_runner, Work, EvictFrame, EmptyPlace, CommitCommand, Stage, Look, Taken, Waiting, Keeper, Outline, runner_at, frame_in, want_at, with_runner, with_frame, with_entry, at_stage}
+use Rattle.machine_model.specs.Measures.{chain_of, dues, has_free, lack}
+use Rattle.machine_model.specs.Finishing.{IsIn, JobStep, takes_segment, takes_frame, takes_for_commit, signals, frees_frame, frees_page, empties, empties_at_once, gives_up, starts, CanEmpty, CanEvict, CanStart, AreAlike, AreOf, MayRelease, with_runners, with_stored, without_owner, now_reading}
+use Rattle.machine_model.specs.Outlined.{Around, around, bare, left_in, want_of, runner_by, runner_of, first_frame, work_of, stage_of, keeper_of, outline_of}
+use Rattle.machine_model.proofs.JobLaws.{alike_self}
+use Rattle.machine_model.proofs.OutlineReads.{at_outline, long_outline, map_at, set_map, seen_online, seen_running, seen_due, seen_reading, seen_since, seen_tried}
+use Rattle.machine_model.proofs.OutlineJob.{job_to, in_job, in_look}
+
+-- ---- the clock's choice
+
+bare_unmarked : (x : Frame) → bare (unmarked x) ≡ bare x
+bare_unmarked frame.Free = refl
+bare_unmarked (frame.Started uid page) = refl
+bare_unmarked (frame.Bound uid page used modified) = refl
+
+-- a list with an element changed to one that is seen alike
+set_same : {A B : Type 0} (f : A → B) (xs : List A) (i : ℕ) (y d : A) → f y ≡ f (get_or xs i d) → map f (set xs i y) ≡ map f xs
+set_same f [] i y d h = refl
+set_same {B = B} f (x ∷ xs) zero y d h = ap (λ (z : B). z ∷ map f xs) h
+set_same {B = B} f (x ∷ xs) (suc i) y d h = ap (λ (zs : List B). f x ∷ zs) (set_same f xs i y d h)
+
+passed_bare : (frames : List Frame) (fs : List ℕ) → map bare (passed_over frames fs) ≡ map bare frames
+unfolding passed_over
+passed_bare frames [] = refl
+passed_bare frames (f ∷ fs) =
+    by (is_idle (core_frame frames f)) (passed_bare (set frames f (unmarked (core_frame frames f))) fs)
+  where
+    by : (b : Bool)
+        → map bare (passed_over (set frames f (unmarked (core_frame frames f))) fs) ≡ map bare (set frames f (unmarked (core_frame frames f)))
+        → map bare (cond b frames (passed_over (set frames f (unmarked (core_frame frames f))) fs)) ≡ map bare frames
+    by true rest = refl
+    by false rest = rest
+        ∙ set_same bare frames f (unmarked (core_frame frames f)) frame.Free (bare_unmarked (core_frame frames f))
+
+-- ---- what taking leaves
+
+leaving_frames : (st : Storage) (f : ℕ) (o : Option (ℕ × ℕ)) → (leaving_if st f o).pages ≡ st.pages
+leaving_frames st f None = refl
+leaving_frames st f (Some page) = refl
+
+leaving_entries : (st : Storage) (f : ℕ) (o : Option (ℕ × ℕ)) → (leaving_if st f o).ast.entries ≡ st.ast.entries
+leaving_entries st f None = refl
+leaving_entries st f (Some page) = refl
+
+leaving_links : (st : Storage) (f : ℕ) (o : Option (ℕ × ℕ)) → (leaving_if st f o).links ≡ st.links
+leaving_links st f None = refl
+leaving_links st f (Some page) = refl
+
+leaving_accounts : (st : Storage) (f : ℕ) (o : Option (ℕ × ℕ)) → (leaving_if st f o).accounts ≡ st.accounts
+leaving_accounts st f None = refl
+leaving_accounts st f (Some page) = refl
+
+leaving_whos : (st : Storage) (f : ℕ) (o : Option (ℕ × ℕ)) → (leaving_if st f o).whos ≡ st.whos
+leaving_whos st f None = refl
+leaving_whos st f (Some page) = refl
+
+-- the outline of a machine whose store has the same but for page tables, and whose owner is this
+pub record LooksLike (s t : State) : Type 0 where
+  pub plan : t.plan ≡ s.plan
+  pub runs : t.runs ≡ s.runs
+  pub ready : t.ready ≡ s.ready
+  pub processors : t.processors ≡ s.processors
+  pub pages : t.store.pages ≡ s.store.pages
+  pub entries : t.store.ast.entries ≡ s.store.ast.entries
+  pub accounts : t.store.accounts ≡ s.store.accounts
+  pub whos : t.store.whos ≡ s.store.whos
+  pub known : t.store.links.known ≡ s.store.links.known
+
+take_one_like : (s : State) (c : ℕ) (a : Aim) (w : What) (f : ℕ) → LooksLike s (take_one s c a w f)
+take_one_like s c a w f = record {
+  plan = refl;
+  runs = refl;
+  ready = refl;
+  processors = refl;
+  pages = leaving_frames s.store f (bound_page (core_frame s.store.pages.core.frames f));
+  entries = leaving_entries s.store f (bound_page (core_frame s.store.pages.core.frames f));
+  accounts = leaving_accounts s.store f (bound_page (core_frame s.store.pages.core.frames f));
+  whos = leaving_whos s.store f (bound_page (core_frame s.store.pages.core.frames f));
+  known = ap (λ (l : Links). l.known) (leaving_links s.store f (bound_page (core_frame s.store.pages.core.frames f)));
+}
+
+like_self : (s : State) → LooksLike s s
+like_self s = record {
+  plan = refl;
+  runs = refl;
+  ready = refl;
+  processors = refl;
+  pages = refl;
+  entries = refl;
+  accounts = refl;
+  whos = refl;
+  known = refl;
+}
+
+like_on : (s t u : State) → LooksLike s t → LooksLike t u → LooksLike s u
+like_on s t u one two = record {
+  plan = two.plan ∙ one.plan;
+  runs = two.runs ∙ one.runs;
+  ready = two.ready ∙ one.ready;
+  processors = two.processors ∙ one.processors;
+  pages = two.pages ∙ one.pages;
+  entries = two.entries ∙ one.entries;
+  accounts = two.accounts ∙ one.accounts;
+  whos = two.whos ∙ one.whos;
+  known = two.known ∙ one.known;
+}
+
+take_all_like : (s : State) (c : ℕ) (a : Aim) (w : What) (fs : List ℕ) → LooksLike s (take_all s c a w fs)
+take_all_like s c a w [] = like_self s
+take_all_like s c a w (f ∷ fs) =
+    like_on s (take_one s c a w f) (take_all (take_one s c a w f) c a w fs) (take_one_like s c a w f)
+    (take_all_like (take_one s c a w f) c a w fs)
+
+cut_known : (links : Links) (k n : ℕ) (o : Option ℕ) → (unlinked links k n o).known ≡ links.known
+cut_known links k n None = refl
+cut_known links k n (Some place) = refl
+
+cut_one_like : (s : State) (c : ℕ) (a : Aim) (w : What) (pair : ℕ × ℕ) → LooksLike s (cut_one s c a w pair)
+cut_one_like s c a w pair = record {
+  plan = refl;
+  runs = refl;
+  ready = refl;
+  processors = refl;
+  pages = refl;
+  entries = refl;
+  accounts = refl;
+  whos = refl;
+  known = cut_known s.store.links pair.0 pair.1 (leads_at s.store.links.descriptors pair.0 pair.1);
+}
+
+cut_all_like : (s : State) (c : ℕ) (a : Aim) (w : What) (pairs : List (ℕ × ℕ)) → LooksLike s (cut_all s c a w pairs)
+cut_all_like s c a w [] = like_self s
+cut_all_like s c a w (pair ∷ pairs) =
+    like_on s (cut_one s c a w pair) (cut_all (cut_one s c a w pair) c a w pairs) (cut_one_like s c a w pair)
+    (cut_all_like (cut_one s c a w pair) c a w pairs)
+
+pub took_like : (s : State) (c : ℕ) (a : Aim) (w : What) (fs : List ℕ) (pairs : List (ℕ × ℕ))
+    → LooksLike s (took s c a w fs pairs)
+took_like s c a w fs pairs =
+    like_on s (take_all s c a w fs) (cut_all (take_all s c a w fs) c a w pairs) (take_all_like s c a w fs)
+    (cut_all_like (take_all s c a w fs) c a w pairs)
+
+-- the owner once frames were taken and descriptors were cut, one at least
+take_owner : (s : State) (c : ℕ) (a : Aim) (w : What) (f : ℕ) (fs : List ℕ) → (take_all s c a w (f ∷ fs)).owner
+    ≡ Some (record { cpu = c; phase = phase.Taken a w; frames = frames_of_owner s.owner ++ (f ∷ fs); cut = cut_of_owner s.owner })
+take_owner s c a w f [] = refl
+take_owner s c a w f (g ∷ gs) =
+    take_owner (take_one s c a w f) c a w g gs
+    ∙ ap (λ (xs : List ℕ). Some (record { cpu = c; phase = phase.Taken a w; frames = xs; cut = cut_of_owner s.owner }))
+    (append_assoc (frames_of_owner s.owner) (f ∷ []) (g ∷ gs))
+
+-- who the owner is once something was taken: the processor, having taken these frames
+pub record HasTakenFrames (s : State) (c : ℕ) (a : Aim) (w : What) (frames : List ℕ) : Type 0 where
+  pub cut : List CutDescriptor
+  pub owner : s.owner ≡ Some (record { cpu = c; phase = phase.Taken a w; frames = frames; cut = cut })
+
+cut_owner : (s : State) (c : ℕ) (a : Aim) (w : What) (pair : ℕ × ℕ) (pairs : List (ℕ × ℕ))
+    → HasTakenFrames (cut_all s c a w (pair ∷ pairs)) c a w (frames_of_owner s.owner)
+cut_owner s c a w pair [] = record { cut = _; owner = refl }
+cut_owner s c a w pair (next ∷ rest) = cut_owner (cut_one s c a w pair) c a w next rest
+
+pub took_owner : (s : State) (c : ℕ) (a : Aim) (w : What) (fs : List ℕ) (pairs : List (ℕ × ℕ))
+    → frames_of_owner s.owner ≡ [] → (fs ≢ []) ⊎ (pairs ≢ []) → HasTakenFrames (took s c a w fs pairs) c a w fs
+took_owner s c a w [] [] none (inl some) = absurd (some refl)
+took_owner s c a w [] [] none (inr some) = absurd (some refl)
+took_owner s c a w [] (pair ∷ pairs) none some =
+    subst (λ (xs : List ℕ). HasTakenFrames (cut_all s c a w (pair ∷ pairs)) c a w xs) none (cut_owner s c a w pair pairs)
+took_owner s c a w (f ∷ fs) [] none some = record {
+  cut = cut_of_owner s.owner;
+  owner = take_owner s c a w f fs ∙ ap (λ (xs : List ℕ). Some (record {
+    cpu = c;
+    phase = phase.Taken a w;
+    frames = xs ++ (f ∷ fs);
+    cut = cut_of_owner s.owner;
+  })) none;
+}
+took_owner s c a w (f ∷ fs) (pair ∷ pairs) none some =
+    subst (λ (xs : List ℕ). HasTakenFrames (cut_all (take_all s c a w (f ∷ fs)) c a w (pair ∷ pairs)) c a w xs)
+    (ap frames_of_owner (take_owner s c a w f fs) ∙ ap (λ (xs : List ℕ). xs ++ (f ∷ fs)) none)
+    (cut_owner (take_all s c a w (f ∷ fs)) c a w pair pairs)
+
+-- ---- the outline then
+
+like_outline : (s t : State) → LooksLike s t → outline_of t ≡ record (outline_of s) {
+  runners = map (runner_of (around t)) s.processors;
+  owner = keeper_of s.store.ast.entries t.owner;
+}
+unfolding outline_of
+like_outline s t like = λ i. record {
+  runners = map (runner_of (around t)) (like.processors i);
+  frames = map bare (like.pages i).core.frames;
+  entries = like.entries i;
+  stored = is_filed (like.accounts i) (like.pages i).vtocs;
+  owner = keeper_of (like.entries i) t.owner;
+  ready = length (like.ready i);
+  left = left_in (like.plan i).processes (like.runs i);
+}
+
+want_like : (a b : Around) (p : Processor) → b.nodes ≡ a.nodes → b.whos ≡ a.whos → b.links.known ≡ a.links.known
+    → b.next ≡ a.next → (runner_of b p).want ≡ (runner_of a p).want
+want_like a b p nodes whos known next = by p.cpu.process
+  where
+    by : (o : Option ℕ) → (runner_by b p o).want ≡ (runner_by a p o).want
+    by None = refl
+    by (Some k) = λ i. want_of (record {
+      nodes = nodes i;
+      whos = whos i;
+      links = record { trailers = b.links.trailers; known = known i; descriptors = b.links.descriptors };
+      next = next i;
+    }) k (next i k)
+
+next_like : (s t : State) → LooksLike s t → (around t).next ≡ (around s).next
+next_like s t like = λ i. λ k. command_at (like.plan i) k (run_at (like.runs i) k).place
+
+-- all but what is due, connected and held stands
+pub like_alike : (s t : State) (c : ℕ) → LooksLike s t
+    → (runner_of (around t) (processor_at s.processors c)).linked ≡ (runner_of (around s) (processor_at s.processors c)).linked
+    → AreAlike (outline_of s).runners (map (runner_of (around t)) s.processors) c
+unfolding outline_of
+like_alike s t c like linked = record {
+  count = same_long (runner_of (around s)) (runner_of (around t)) s.processors;
+  online = λ d. at t d (λ x. x.online) ∙ seen_online (around t) (processor_at s.processors d)
+      ∙ sym (at s d (λ x. x.online) ∙ seen_online (around s) (processor_at s.processors d));
+  running = λ d. at t d (λ x. x.running) ∙ seen_running (around t) (processor_at s.processors d)
+      ∙ sym (at s d (λ x. x.running) ∙ seen_running (around s) (processor_at s.processors d));
+  reading = λ d. at t d (λ x. x.reading) ∙ seen_reading (around t) (processor_at s.processors d)
+      ∙ sym (at s d (λ x. x.reading) ∙ seen_reading (around s) (processor_at s.processors d));
+  since = λ d. at t d (λ x. x.since) ∙ seen_since (around t) (processor_at s.processors d)
+      ∙ sym (at s d (λ x. x.since) ∙ seen_since (around s) (processor_at s.processors d));
+  tried = λ d. at t d (λ x. x.tried) ∙ seen_tried (around t) (processor_at s.processors d)
+      ∙ sym (at s d (λ x. x.tried) ∙ seen_tried (around s) (processor_at s.processors d));
+  want = at t c (λ x. x.want) ∙ want_like (around s) (around t) (processor_at s.processors c)
+      (ap (λ (a : AccountMaps). a.nodes) like.accounts) like.whos like.known (next_like s t like) ∙ sym (at s c (λ x. x.want));
+  linked = at t c (λ x. x.linked) ∙ linked ∙ sym (at s c (λ x. x.linked));
+  due = at t c (λ x. x.due) ∙ seen_due (around t) (processor_at s.processors c)
+      ∙ sym (at s c (λ x. x.due) ∙ seen_due (around s) (processor_at s.processors c));
+}
+  where
+    at : {B : Type 0} (u : State) (d : ℕ) (P : Runner → B)
+        → P (runner_at (map (runner_of (around u)) s.processors) d) ≡ P (runner_of (around u) (processor_at s.processors d))
+    at u d P = ap P (map_at (runner_of (around u)) s.processors d no_processor)
+    same_long : (f g : Processor → Runner) (xs : List Processor) → length (map g xs) ≡ length (map f xs)
+    same_long f g [] = refl
+    same_long f g (x ∷ xs) = ap suc (same_long f g xs)
+
+taken_outline : (s t : State) (c : ℕ) (a : Aim) (w : What) (fs : List ℕ) → LooksLike s t → HasTakenFrames t c a w fs
+    → with_runners (at_stage (outline_of s) c (Taken (work_of s.store.ast.entries fs a))) (map (runner_of (around t)) s.processors)
+    ≡ outline_of t
+taken_outline s t c a w fs like took =
+    ap (λ (k : Option Keeper). record (outline_of s) { runners = map (runner_of (around t)) s.processors; owner = k })
+    (sym (ap (λ (x : Option Owner). keeper_of s.store.ast.entries x) took.owner))
+    ∙ sym (like_outline s t like)
+
+-- a segment is taken: for its length, or as a victim
+pub take_segment_outlined : (s t : State) (c uid : ℕ) (w : What) (fs : List ℕ) → LooksLike s t
+    → HasTakenFrames t c (aim.Deactivating uid) w fs
+    → CanEmpty (outline_of s) c (place_of s.store.ast.entries uid)
+    → AreOf (outline_of s) (place_of s.store.ast.entries uid) fs → length fs ≤ 256
+    → (runner_of (around t) (processor_at s.processors c)).linked ≡ (runner_of (around s) (processor_at s.processors c)).linked
+    → JobStep (outline_of s) c (outline_of t)
+take_segment_outlined s t c uid w fs like took can of_it few linked =
+    job_to (outline_of s) _ (outline_of t) c (taken_outline s t c (aim.Deactivating uid) w fs like took)
+    (takes_segment (place_of s.store.ast.entries uid) fs (map (runner_of (around t)) s.processors) can of_it few
+    (like_alike s t c like linked))
+
+-- what a tree command must have out of use is taken
+pub take_away_outlined : (s t : State) (c : ℕ) (w : What) (fs : List ℕ) → LooksLike s t
+    → HasTakenFrames t c aim.Committing w fs → IsIn (outline_of s) c Look
+    → (runner_of (around t) (processor_at s.processors c)).linked ≡ (runner_of (around s) (processor_at s.processors c)).linked
+    → JobStep (outline_of s) c (outline_of t)
+take_away_outlined s t c w fs like took look linked =
+    job_to (outline_of s) _ (outline_of t) c (taken_outline s t c aim.Committing w fs like took)
+    (takes_for_commit (map (runner_of (around t)) s.processors) look (like_alike s t c like linked))
+
+-- a frame's page is taken
+evicted_outline : (s : State) (c f : ℕ) → frames_of_owner s.owner ≡ []
+    → at_stage (outline_of s) c (Taken (EvictFrame f)) ≡ outline_of (eviction_begun s c f)
+unfolding outline_of
+evicted_outline s c f none = λ i. record {
+  runners = (sym (λ j. map (runner_of (record {
+    nodes = (leaving_accounts (with_choice s.store f) f (taken_page s f) j).nodes;
+    whos = leaving_whos (with_choice s.store f) f (taken_page s f) j;
+    links = leaving_links (with_choice s.store f) f (taken_page s f) j;
+    next = next_command s;
+  })) s.processors)) i;
+  frames = (sym (ap (λ (x : Plain). map bare x.core.frames) (pages s f)
+      ∙ passed_bare s.store.pages.core.frames (round_frames s.store.pages.core))) i;
+  entries = (sym (leaving_entries (with_choice s.store f) f (taken_page s f))) i;
+  stored = (sym (λ j. is_filed (leaving_accounts (with_choice s.store f) f (taken_page s f) j)
+      (pages s f j).vtocs)) i;
+  owner = (sym (owner s c f none)) i;
+  ready = length s.ready;
+  left = left_in s.plan.processes s.runs;
+}
+  where
+    taken_page : State → ℕ → Option (ℕ × ℕ)
+    taken_page s f = bound_page (core_frame (with_choice s.store f).pages.core.frames f)
+    pages : (s : State) (f : ℕ) → (with_leaving (with_choice s.store f) f).pages ≡ (with_choice s.store f).pages
+    pages s f = leaving_frames (with_choice s.store f) f (bound_page (core_frame (with_choice s.store f).pages.core.frames f))
+    owner : (s : State) (c f : ℕ) → frames_of_owner s.owner ≡ []
+        → keeper_of (eviction_begun s c f).store.ast.entries (eviction_begun s c f).owner
+        ≡ Some (record { cpu = c; stage = Taken (EvictFrame f) })
+    owner s c f none = ap (λ (xs : List ℕ). Some (record { cpu = c; stage = Taken (EvictFrame (first_frame (xs ++ f ∷ []))) })) none
+
+pub evict_outlined : (s : State) (o : Owner) (f : ℕ) → s.owner ≡ Some o → o.frames ≡ []
+    → CanEvict (outline_of s) o.cpu f → JobStep (outline_of s) o.cpu (outline_of (eviction_begun s o.cpu f))
+evict_outlined s o f owner none can =
+    job_to (outline_of s) (at_stage (outline_of s) o.cpu (Taken (EvictFrame f))) (outline_of (eviction_begun s o.cpu f)) o.cpu
+    (evicted_outline s o.cpu f (ap frames_of_owner owner ∙ none)) (takes_frame f can)
+
+-- the hand of a full pool moves besides
+hand_like : (s : State) (pool : ℕ) (chain : List ℕ) → LooksLike s (with_store s (with_hand_moved s.store pool chain))
+hand_like s pool chain = record {
+  plan = refl;
+  runs = refl;
+  ready = refl;
+  processors = refl;
+  pages = refl;
+  entries = past s.store.ast pool (first_off_chain s.store.ast pool chain);
+  accounts = refl;
+  whos = refl;
+  known = refl;
+}
+  where
+    past : (ast : ActiveSegs) (pool : ℕ) (o : Option ℕ) → (hand_past ast pool o).entries ≡ ast.entries
+    past ast pool None = refl
+    past ast pool (Some place) = refl
+
+pub victim_like : (s : State) (c pool : ℕ) (chain : List ℕ) (a : Aim) (w : What) (fs : List ℕ) (pairs : List (ℕ × ℕ))
+    → LooksLike s (took (with_store s (with_hand_moved s.store pool chain)) c a w fs pairs)
+victim_like s c pool chain a w fs pairs =
+    like_on s (with_store s (with_hand_moved s.store pool chain))
+    (took (with_store s (with_hand_moved s.store pool chain)) c a w fs pairs) (hand_like s pool chain)
+    (took_like (with_store s (with_hand_moved s.store pool chain)) c a w fs pairs)
+
+-- ---- the signal
+
+told_at_map : (c : ℕ) (w : What) (d : ℕ) (ps : List Processor) (i : ℕ)
+    → processor_at (told_from c w d ps) i ≡ told_at c w (d + i) (processor_at ps i)
+told_at_map c w d [] i = absent c w (d + i)
+  where
+    absent : (c : ℕ) (w : What) (e : ℕ) → no_processor ≡ told_at c w e no_processor
+    absent c w e = by (eqb e c)
+      where
+        by : (b : Bool) → no_processor ≡ cond b (record no_processor { cpu = record no_processor.cpu { assoc = cleared no_processor.cpu.assoc w } }) no_processor
+        by true = refl
+        by false = refl
+told_at_map c w d (p ∷ ps) zero = ap (λ (e : ℕ). told_at c w e p) (sym (add-zero d))
+told_at_map c w d (p ∷ ps) (suc i) =
+    told_at_map c w (d + 1) ps i ∙ ap (λ (e : ℕ). told_at c w e (processor_at ps i)) (omega arith)
