@@ -1,5 +1,6 @@
 -- In the outline of the machine, taking, signalling and finishing are steps of the owner's job.
-use Rattle.std.proofs.Common.{◌≡◌, ◌≢◌, ◌≤◌, ◌<◌, ℕ, zero, suc, ◌+◌, ◌-◌, Bool, true, false, not, cond, ◌&&◌, ◌||◌, eqb, List, [], ◌∷◌, ◌++◌, length, map, Option, Some, None, is_some, set, get_or, Contains, refl, sym, ap, subst, ◌∙◌, inl, inr, ◌⊎◌, append_assoc, append-nil, add-zero, arith}
+use Rattle.std.proofs.Common.{◌≡◌, ◌≢◌, ◌≤◌, ◌<◌, ℕ, zero, suc, ◌+◌, ◌-◌, Bool, true, false, not, cond, ◌&&◌, ◌||◌, eqb, List, [], ◌∷◌, ◌++◌, length, map, Option, Some, None, is_some, set, get_or, Contains, refl, sym, ap, subst, ◌∙◌, inl, inr, ◌⊎◌, append_assoc, append-nil, add-zero, zero-add, arith}
+use Rattle.std.proofs.lemmas.Bool.Decides.{eqb_tells}
 use Rattle.std.proofs.lemmas.List.{get_or-set_same, get_or-set_other, length-set}
 use Rattle.book.specs.declared.entries.Entry.{Entry}
 use Rattle.book.specs.declared.entries.Entry.TheVariants as entry
@@ -30,10 +31,10 @@ use Rattle.machine_model.specs.State.{State, Storage, Processor, Owner, CutDescr
 use Rattle.machine_model.specs.Reads.{next_command, no_processor, or_zero, run_at, processor_at, cpu_at, process_at, frames_of_owner, cut_of_owner}
 use Rattle.machine_model.specs.Steps.{booked, looking, started, with_faults, with_owner, with_store}
 use Rattle.machine_model.specs.Jobs.{cut_all, cut_one, deactivated_one, emptied, eviction_begun, eviction_done, leaving_if, left_of, owner_signalled, page_done, page_gone, page_in, phase_signalled, seg_gone, segs_gone, signalled, take_all, take_one, told_at, told_from, took, with_choice, with_hand_moved, with_leaving, with_left}
-use Rattle.machine_model.specs.Outline.{Want, Refer, Runner, no_runner, Work, EvictFrame, EmptyPlace, CommitCommand, Stage, Look, Taken, Waiting, Keeper, Outline, runner_at, frame_in, want_at, with_runner, with_frame, with_entry, at_stage}
+use Rattle.machine_model.specs.Outline.{Want, Refer, Other, Runner, no_runner, Work, EvictFrame, EmptyPlace, CommitCommand, Stage, Look, Taken, Waiting, Keeper, Outline, runner_at, frame_in, want_at, with_runner, with_frame, with_entry, at_stage}
 use Rattle.machine_model.specs.Measures.{chain_of, dues, has_free, lack}
 use Rattle.machine_model.specs.Finishing.{IsIn, JobStep, takes_segment, takes_frame, takes_for_commit, signals, frees_frame, frees_page, empties, empties_at_once, gives_up, starts, CanEmpty, CanEvict, CanStart, AreAlike, AreOf, MayRelease, with_runners, with_stored, without_owner, now_reading}
-use Rattle.machine_model.specs.Outlined.{Around, around, bare, left_in, want_of, runner_by, runner_of, first_frame, work_of, stage_of, keeper_of, outline_of}
+use Rattle.machine_model.specs.Outlined.{Around, around, bare, left_in, want_of, reference_in, is_linked, runner_by, runner_of, first_frame, work_of, stage_of, keeper_of, outline_of}
 use Rattle.machine_model.proofs.JobLaws.{alike_self}
 use Rattle.machine_model.proofs.OutlineReads.{at_outline, long_outline, map_at, set_map, seen_online, seen_running, seen_due, seen_reading, seen_since, seen_tried}
 use Rattle.machine_model.proofs.OutlineJob.{job_to, in_job, in_look}
@@ -380,3 +381,146 @@ told_at_map c w d [] i = absent c w (d + i)
 told_at_map c w d (p ∷ ps) zero = ap (λ (e : ℕ). told_at c w e p) (sym (add-zero d))
 told_at_map c w d (p ∷ ps) (suc i) =
     told_at_map c w (d + 1) ps i ∙ ap (λ (e : ℕ). told_at c w e (processor_at ps i)) (omega arith)
+
+told_online : (c : ℕ) (w : What) (e : ℕ) (p : Processor) → (told_at c w e p).cpu.online ≡ p.cpu.online
+told_online c w e p = by (eqb e c) p.cpu.online
+  where
+    by : (b n : Bool) → (cond b (record p { cpu = record p.cpu { assoc = cleared p.cpu.assoc w } })
+        (cond n (record p { cpu = record p.cpu { due = Some w } }) p)).cpu.online ≡ p.cpu.online
+    by true n = refl
+    by false true = refl
+    by false false = refl
+
+told_process : (c : ℕ) (w : What) (e : ℕ) (p : Processor) → (told_at c w e p).cpu.process ≡ p.cpu.process
+told_process c w e p = by (eqb e c) p.cpu.online
+  where
+    by : (b n : Bool) → (cond b (record p { cpu = record p.cpu { assoc = cleared p.cpu.assoc w } })
+        (cond n (record p { cpu = record p.cpu { due = Some w } }) p)).cpu.process ≡ p.cpu.process
+    by true n = refl
+    by false true = refl
+    by false false = refl
+
+told_transfer : (c : ℕ) (w : What) (e : ℕ) (p : Processor) → (told_at c w e p).cpu.transfer ≡ p.cpu.transfer
+told_transfer c w e p = by (eqb e c) p.cpu.online
+  where
+    by : (b n : Bool) → (cond b (record p { cpu = record p.cpu { assoc = cleared p.cpu.assoc w } })
+        (cond n (record p { cpu = record p.cpu { due = Some w } }) p)).cpu.transfer ≡ p.cpu.transfer
+    by true n = refl
+    by false true = refl
+    by false false = refl
+
+told_count : (c : ℕ) (w : What) (e : ℕ) (p : Processor) → (told_at c w e p).count ≡ p.count
+told_count c w e p = by (eqb e c) p.cpu.online
+  where
+    by : (b n : Bool) → (cond b (record p { cpu = record p.cpu { assoc = cleared p.cpu.assoc w } })
+        (cond n (record p { cpu = record p.cpu { due = Some w } }) p)).count ≡ p.count
+    by true n = refl
+    by false true = refl
+    by false false = refl
+
+told_tried : (c : ℕ) (w : What) (e : ℕ) (p : Processor) → (told_at c w e p).tried ≡ p.tried
+told_tried c w e p = by (eqb e c) p.cpu.online
+  where
+    by : (b n : Bool) → (cond b (record p { cpu = record p.cpu { assoc = cleared p.cpu.assoc w } })
+        (cond n (record p { cpu = record p.cpu { due = Some w } }) p)).tried ≡ p.tried
+    by true n = refl
+    by false true = refl
+    by false false = refl
+
+told_itself : (c : ℕ) (w : What) (p : Processor) → (told_at c w c p).cpu.due ≡ p.cpu.due
+told_itself c w p =
+    ap (λ (b : Bool). (cond b (record p { cpu = record p.cpu { assoc = cleared p.cpu.assoc w } })
+    (cond p.cpu.online (record p { cpu = record p.cpu { due = Some w } }) p)).cpu.due) (self c)
+  where
+    self : (n : ℕ) → eqb n n ≡ true
+    self n = elim (eqb_tells n n) [ inl e ↦ e.0 | inr e ↦ absurd (e.1 refl) ]
+
+-- what a runner's outline has by its process alone
+want_by_process : (a : Around) (p q : Processor) → q.cpu.process ≡ p.cpu.process → (runner_of a q).want ≡ (runner_of a p).want
+want_by_process a p q same = sym (is q q.cpu.process) ∙ ap wanted same ∙ is p p.cpu.process
+  where
+    wanted : Option ℕ → Want
+    wanted None = Other
+    wanted (Some k) = want_of a k (a.next k)
+    is : (p : Processor) (o : Option ℕ) → wanted o ≡ (runner_by a p o).want
+    is p None = refl
+    is p (Some k) = refl
+
+linked_by_process : (a : Around) (p q : Processor) → q.cpu.process ≡ p.cpu.process → (runner_of a q).linked ≡ (runner_of a p).linked
+linked_by_process a p q same = sym (is q q.cpu.process) ∙ ap leads same ∙ is p p.cpu.process
+  where
+    leads : Option ℕ → Bool
+    leads None = false
+    leads (Some k) = is_linked a k (reference_in (a.next k))
+    is : (p : Processor) (o : Option ℕ) → leads o ≡ (runner_by a p o).linked
+    is p None = refl
+    is p (Some k) = refl
+
+told_alike : (s : State) (c : ℕ) (w : What)
+    → AreAlike (outline_of s).runners (map (runner_of (around s)) (told_from c w 0 s.processors)) c
+unfolding outline_of
+told_alike s c w = record {
+  count = told_long (runner_of (around s)) c w 0 s.processors;
+  online = λ d. now d (λ x. x.online) ∙ seen_online (around s) (told_at c w (0 + d) (processor_at s.processors d))
+      ∙ told_online c w (0 + d) (processor_at s.processors d)
+      ∙ sym (was d (λ x. x.online) ∙ seen_online (around s) (processor_at s.processors d));
+  running = λ d. now d (λ x. x.running) ∙ seen_running (around s) (told_at c w (0 + d) (processor_at s.processors d))
+      ∙ ap (λ (o : Option ℕ). is_some o) (told_process c w (0 + d) (processor_at s.processors d))
+      ∙ sym (was d (λ x. x.running) ∙ seen_running (around s) (processor_at s.processors d));
+  reading = λ d. now d (λ x. x.reading) ∙ seen_reading (around s) (told_at c w (0 + d) (processor_at s.processors d))
+      ∙ told_transfer c w (0 + d) (processor_at s.processors d)
+      ∙ sym (was d (λ x. x.reading) ∙ seen_reading (around s) (processor_at s.processors d));
+  since = λ d. now d (λ x. x.since) ∙ seen_since (around s) (told_at c w (0 + d) (processor_at s.processors d))
+      ∙ told_count c w (0 + d) (processor_at s.processors d)
+      ∙ sym (was d (λ x. x.since) ∙ seen_since (around s) (processor_at s.processors d));
+  tried = λ d. now d (λ x. x.tried) ∙ seen_tried (around s) (told_at c w (0 + d) (processor_at s.processors d))
+      ∙ told_tried c w (0 + d) (processor_at s.processors d)
+      ∙ sym (was d (λ x. x.tried) ∙ seen_tried (around s) (processor_at s.processors d));
+  want = now c (λ x. x.want) ∙ want_by_process (around s) (processor_at s.processors c)
+      (told_at c w (0 + c) (processor_at s.processors c)) (told_process c w (0 + c) (processor_at s.processors c))
+      ∙ sym (was c (λ x. x.want));
+  linked = now c (λ x. x.linked) ∙ linked_by_process (around s) (processor_at s.processors c)
+      (told_at c w (0 + c) (processor_at s.processors c)) (told_process c w (0 + c) (processor_at s.processors c))
+      ∙ sym (was c (λ x. x.linked));
+  due = now c (λ x. x.due) ∙ seen_due (around s) (told_at c w (0 + c) (processor_at s.processors c))
+      ∙ ap (λ (e : ℕ). is_some (told_at c w e (processor_at s.processors c)).cpu.due) (zero-add c)
+      ∙ ap (λ (o : Option What). is_some o) (told_itself c w (processor_at s.processors c))
+      ∙ sym (was c (λ x. x.due) ∙ seen_due (around s) (processor_at s.processors c));
+}
+  where
+    was : {B : Type 0} (d : ℕ) (P : Runner → B)
+        → P (runner_at (map (runner_of (around s)) s.processors) d) ≡ P (runner_of (around s) (processor_at s.processors d))
+    was d P = ap P (map_at (runner_of (around s)) s.processors d no_processor)
+    now : {B : Type 0} (d : ℕ) (P : Runner → B)
+        → P (runner_at (map (runner_of (around s)) (told_from c w 0 s.processors)) d)
+        ≡ P (runner_of (around s) (told_at c w (0 + d) (processor_at s.processors d)))
+    now d P = ap P (map_at (runner_of (around s)) (told_from c w 0 s.processors) d no_processor)
+        ∙ ap (λ (p : Processor). P (runner_of (around s) p)) (told_at_map c w 0 s.processors d)
+    told_long : (f : Processor → Runner) (c : ℕ) (w : What) (d : ℕ) (ps : List Processor)
+        → length (map f (told_from c w d ps)) ≡ length (map f ps)
+    told_long f c w d [] = refl
+    told_long f c w d (p ∷ ps) = ap suc (told_long f c w (d + 1) ps)
+
+signalled_keeper : (entries : List (Option Active)) (o : Owner) (a : Aim) (w : What) → o.phase ≡ phase.Taken a w
+    → keeper_of entries (owner_signalled (Some o)) ≡ Some (record { cpu = o.cpu; stage = Waiting (work_of entries o.frames a) })
+signalled_keeper entries o a w h =
+    ap (λ (x : Phase). Some (record { cpu = o.cpu; stage = stage_of entries o.frames (phase_signalled x) })) h
+
+signalled_outline : (s : State) (o : Owner) (a : Aim) (w v : What) → s.owner ≡ Some o → o.phase ≡ phase.Taken a w
+    → with_runners (at_stage (outline_of s) o.cpu (Waiting (work_of s.store.ast.entries o.frames a)))
+    (map (runner_of (around s)) (told_from o.cpu v 0 s.processors)) ≡ outline_of (signalled s o.cpu v)
+unfolding outline_of
+signalled_outline s o a w v owner h =
+    ap (λ (k : Option Keeper). record (outline_of s) {
+      runners = map (runner_of (around s)) (told_from o.cpu v 0 s.processors);
+      owner = k;
+    }) (sym (ap (λ (x : Option Owner). keeper_of s.store.ast.entries (owner_signalled x)) owner
+    ∙ signalled_keeper s.store.ast.entries o a w h))
+
+pub signal_outlined : (s : State) (o : Owner) (a : Aim) (w v : What) → s.owner ≡ Some o → o.phase ≡ phase.Taken a w
+    → JobStep (outline_of s) o.cpu (outline_of (signalled s o.cpu v))
+signal_outlined s o a w v owner h =
+    job_to (outline_of s) _ (outline_of (signalled s o.cpu v)) o.cpu (signalled_outline s o a w v owner h)
+    (signals (work_of s.store.ast.entries o.frames a) (map (runner_of (around s)) (told_from o.cpu v 0 s.processors))
+    (in_job s o owner ∙ ap (λ (x : Phase). Some (record { cpu = o.cpu; stage = stage_of s.store.ast.entries o.frames x })) h)
+    (told_alike s o.cpu v))
