@@ -36,6 +36,7 @@ pub mod OuterLaws
 pub mod OwnedLaws
 pub mod Places
 pub mod OutlineAlone
+pub mod OutlineEnd
 pub mod OutlineJob
 pub mod OutlineReads
 pub mod OutlineTake

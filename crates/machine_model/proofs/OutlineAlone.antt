@@ -1,12 +1,15 @@
 -- In the outline of the machine, the steps that a processor makes without the supervisor are steps of the outline.
-use Rattle.std.proofs.Common.{◌≡◌, ◌≢◌, ◌<◌, ℕ, zero, suc, ◌+◌, ◌-◌, ◌/◌, Bool, true, false, not, cond, ◌&&◌, ◌||◌, eqb, nat_lt, nat_le, List, [], ◌∷◌, ◌++◌, length, map, drop, filter, Option, Some, None, is_some, option_map, set, get_or, refl, sym, ap, subst, ◌∙◌, inl, inr, ◌⊎◌, arith}
+use Rattle.std.proofs.Common.{◌≡◌, ◌≢◌, ◌<◌, ℕ, ◌+◌, ◌-◌, ◌/◌, Bool, true, false, cond, ◌&&◌, eqb, List, [], ◌∷◌, ◌++◌}
+use Rattle.std.proofs.Common.{length, map, drop, Option, Some, None, is_some, option_map, set, refl, sym, ap, subst}
+use Rattle.std.proofs.Common.{◌∙◌, inl, inr, arith}
 use Rattle.std.specs.List.{find}
 use Rattle.std.proofs.lemmas.Bool.Decides.{eqb_tells}
 use Rattle.script.specs.declared.commands.Reference.{Reference}
 use Rattle.assoc_mem.specs.declared.What.{What}
 use Rattle.assoc_mem.specs.declared.HeldSeg.{HeldSeg}
 use Rattle.assoc_mem.specs.declared.HeldPage.{HeldPage}
-use Rattle.assoc_mem.specs.Held.{Held, cleared, filled, frame_of, is_number, is_page, nothing_held, page_of, seg_of, with_page, with_seg}
+use Rattle.assoc_mem.specs.Held.{Held, cleared, frame_of, is_number, is_page, nothing_held, page_of, seg_of, with_page}
+use Rattle.assoc_mem.specs.Held.{with_seg}
 use Rattle.processor.specs.declared.Transfer.{Transfer}
 use Rattle.descriptor_seg.specs.declared.Sdw.{Sdw}
 use Rattle.descriptor_seg.specs.declared.Sdw.TheVariants as sdw
@@ -14,13 +17,20 @@ use Rattle.core_map.specs.declared.Frame.{Frame}
 use Rattle.core_map.specs.declared.Frame.TheVariants as frame
 use Rattle.machine_model.specs.Actions.{ForOwner, WhileIdle}
 use Rattle.machine_model.specs.State.{State, Processor, Run, Owner}
-use Rattle.machine_model.specs.Reads.{or_zero, processor_at, cpu_at, process_at, run_at, descriptor_of}
-use Rattle.machine_model.specs.Steps.{came_online, cleared_at, held_page, held_seg, left_at, loaded, looking, page_filled, queued, seg_filled, transferred, uid_of_held, with_faults, with_owner}
-use Rattle.machine_model.specs.Outline.{Refer, Runner, no_runner, Keeper, Look, Outline, Turn, Moved, WaitsFor, runner_at, want_at, with_runner, at_stage}
+use Rattle.machine_model.specs.Reads.{processor_at, cpu_at, process_at, run_at, descriptor_of}
+use Rattle.machine_model.specs.Steps.{came_online, cleared_at, held_page, held_seg, left_at, loaded, looking}
+use Rattle.machine_model.specs.Steps.{page_filled, queued, seg_filled, transferred, uid_of_held, with_faults}
+use Rattle.machine_model.specs.Steps.{with_owner}
+use Rattle.machine_model.specs.Outline.{Refer, Runner, Look, Outline, Turn, Moved, WaitsFor, runner_at, want_at}
+use Rattle.machine_model.specs.Outline.{with_runner, at_stage}
 use Rattle.machine_model.specs.Measures.{lack, missing}
-use Rattle.machine_model.specs.Finishing.{Comes, Clears, Reads, Loads, Leaves, Commands, rule_of, Step, comes, clears, reads, loads, idles, leaves, fills, faults, enters, waits, IsCleared, HasLoaded, HasLeft, IsFilled, with_bound, not_reading}
-use Rattle.machine_model.specs.Outlined.{Around, around, reference_in, holds_seg, holds_page, bare, runner_by, runner_of, keeper_of, stage_of, outline_of}
-use Rattle.machine_model.proofs.OutlineReads.{at_outline, one_outlined, set_map, seen_online, seen_running, seen_due, seen_reading, seen_since, seen_tried}
+use Rattle.machine_model.specs.Finishing.{Comes, Clears, Reads, Loads, Leaves, Commands, rule_of, Step, comes, clears}
+use Rattle.machine_model.specs.Finishing.{reads, loads, idles, leaves, fills, faults, enters, waits, IsCleared}
+use Rattle.machine_model.specs.Finishing.{HasLoaded, HasLeft, IsFilled, with_bound, not_reading}
+use Rattle.machine_model.specs.Outlined.{Around, around, reference_in, holds_seg, holds_page, bare, runner_by}
+use Rattle.machine_model.specs.Outlined.{runner_of, keeper_of, stage_of, outline_of}
+use Rattle.machine_model.proofs.OutlineReads.{at_outline, one_outlined, set_map, seen_online, seen_running, seen_due}
+use Rattle.machine_model.proofs.OutlineReads.{seen_reading, seen_since, seen_tried}
 
 -- a step to an outline that is the same
 pub step_to : (s t u : Outline) (c : ℕ) (turn : Turn) → t ≡ u → Step s c turn t → Step s c turn u
@@ -28,10 +38,12 @@ step_to s t u c turn same step = subst (λ (x : Outline). Step s c turn x) same 
 
 -- ---- a processor comes online, or clears
 
-online_runner : (a : Around) (p : Processor) → runner_of a (record p { cpu = record p.cpu { online = true } }) ≡ record (runner_of a p) { online = true }
+online_runner : (a : Around) (p : Processor) → runner_of a (record p { cpu = record p.cpu { online = true } })
+    ≡ record (runner_of a p) { online = true }
 online_runner a p = by p.cpu.process
   where
-    by : (o : Option ℕ) → runner_by a (record p { cpu = record p.cpu { online = true } }) o ≡ record (runner_by a p o) { online = true }
+    by : (o : Option ℕ) → runner_by a (record p { cpu = record p.cpu { online = true } }) o ≡ record (runner_by a p o)
+        { online = true }
     by None = refl
     by (Some k) = refl
 
@@ -39,11 +51,13 @@ pub online_outlined : (s : State) (c : ℕ) → rule_of (outline_of s) c ≡ Com
     → Step (outline_of s) c Moved (outline_of (came_online s c))
 online_outlined s c h =
     let p : Processor = processor_at s.processors c in
-    step_to (outline_of s) (with_runner (outline_of s) c (record (runner_at (outline_of s).runners c) { online = true }))
+    step_to (outline_of s) (with_runner (outline_of s) c
+    (record (runner_at (outline_of s).runners c) { online = true }))
     (outline_of (came_online s c)) c Moved
     (ap (λ (x : Runner). with_runner (outline_of s) c (record x { online = true })) (at_outline s c)
     ∙ ap (λ (x : Runner). with_runner (outline_of s) c x) (sym (online_runner (around s) (processor_at s.processors c)))
-    ∙ sym (one_outlined s c (record (processor_at s.processors c) { cpu = record (cpu_at s.processors c) { online = true } }) _))
+    ∙ sym (one_outlined s c (record (processor_at s.processors c)
+    { cpu = record (cpu_at s.processors c) { online = true } }) _))
     (comes h)
 
 -- two processors of which the outlines read the same but for what is due
@@ -65,18 +79,24 @@ pub clear_outlined : (s : State) (c : ℕ) (w : What) → rule_of (outline_of s)
 clear_outlined s c w h =
     let cpu = cpu_at s.processors c in
     step_to (outline_of s) _ (outline_of (cleared_at s c w)) c Moved
-    (sym (one_outlined s c (record (processor_at s.processors c) { cpu = record (cpu_at s.processors c) {
-      due = None;
-      assoc = cleared (cpu_at s.processors c).assoc w;
-    } }) _))
-    (clears (runner_of (around s) (record (processor_at s.processors c) { cpu = record (cpu_at s.processors c) {
-      due = None;
-      assoc = cleared (cpu_at s.processors c).assoc w;
-    } })) h
-    (subst (λ (x : Runner). IsCleared x (runner_of (around s) (record (processor_at s.processors c) { cpu = record (cpu_at s.processors c) {
-      due = None;
-      assoc = cleared (cpu_at s.processors c).assoc w;
-    } }))) (sym (at_outline s c))
+    (sym (one_outlined s c (record (processor_at s.processors c) {
+      cpu = record (cpu_at s.processors c) {
+        due = None;
+        assoc = cleared (cpu_at s.processors c).assoc w;
+      };
+    }) _))
+    (clears (runner_of (around s) (record (processor_at s.processors c) {
+      cpu = record (cpu_at s.processors c) {
+        due = None;
+        assoc = cleared (cpu_at s.processors c).assoc w;
+      };
+    })) h
+    (subst (λ (x : Runner). IsCleared x (runner_of (around s) (record (processor_at s.processors c) {
+      cpu = record (cpu_at s.processors c) {
+        due = None;
+        assoc = cleared (cpu_at s.processors c).assoc w;
+      };
+    }))) (sym (at_outline s c))
     (cleared_runner (around s) (processor_at s.processors c) (cleared (cpu_at s.processors c).assoc w))))
 
 -- ---- processes are loaded, and leave
@@ -92,7 +112,12 @@ pub record IsFree (p : Processor) : Type 0 where
   pub transfer : p.cpu.transfer ≡ None
 
 abbrev loaded_processor : Processor → ℕ → Processor
-loaded_processor p k = record { cpu = record p.cpu { process = Some k; assoc = nothing_held }; count = 0; tried = false }
+loaded_processor p k = record {
+  cpu = record p.cpu { process = Some k; assoc = nothing_held };
+  count = 0;
+  tried =
+      false;
+}
 
 loaded_runner : (a : Around) (p : Processor) (k : ℕ) → IsFree p → HasLoaded (runner_of a (loaded_processor p k))
 loaded_runner a p k free = record {
@@ -189,19 +214,22 @@ filled_runner a p held k process less = record {
   tried = seen_tried a (held_processor p held) ∙ sym (seen_tried a p);
   want = want p.cpu.process;
   linked = linked p.cpu.process;
-  missing = subst (λ (o : Option ℕ). missing (runner_by a (held_processor p held) o) < missing (runner_by a p o)) (sym process) less;
+  missing = subst (λ (o : Option ℕ). missing (runner_by a (held_processor p held) o) < missing (runner_by a p o))
+      (sym process) less;
 }
   where
     want : (o : Option ℕ) → (runner_by a (held_processor p held) o).want ≡ (runner_by a p o).want
     want None = refl
     want (Some k) = refl
+
     linked : (o : Option ℕ) → (runner_by a (held_processor p held) o).linked ≡ (runner_by a p o).linked
     linked None = refl
     linked (Some k) = refl
 
 pub fill_outlined : (s : State) (c k : ℕ) (held : Held) → rule_of (outline_of s) c ≡ Commands
     → (cpu_at s.processors c).process ≡ Some k
-    → lacking held (reference_in ((around s).next k)) < lacking (cpu_at s.processors c).assoc (reference_in ((around s).next k))
+    → lacking held (reference_in ((around s).next k)) < lacking (cpu_at s.processors c).assoc
+    (reference_in ((around s).next k))
     → Step (outline_of s) c Moved
     (with_runner (outline_of s) c (runner_of (around s) (held_processor (processor_at s.processors c) held)))
 fill_outlined s c k held h process less =
@@ -210,11 +238,13 @@ fill_outlined s c k held h process less =
     (sym (at_outline s c)) (filled_runner (around s) (processor_at s.processors c) held k process less))
 
 -- what is found once one more stands at the end
-found_last : {A : Type 0} (test : A → Bool) (xs : List A) (x : A) → test x ≡ true → is_some (find test (xs ++ x ∷ [])) ≡ true
+found_last : {A : Type 0} (test : A → Bool) (xs : List A) (x : A) → test x ≡ true
+    → is_some (find test (xs ++ x ∷ [])) ≡ true
 found_last test [] x h = ap (λ (b : Bool). is_some (cond b (Some x) None)) h
 found_last test (y ∷ ys) x h = by (test y) (found_last test ys x h)
   where
-    by : (b : Bool) → is_some (find test (ys ++ x ∷ [])) ≡ true → is_some (cond b (Some y) (find test (ys ++ x ∷ []))) ≡ true
+    by : (b : Bool) → is_some (find test (ys ++ x ∷ [])) ≡ true
+        → is_some (cond b (Some y) (find test (ys ++ x ∷ []))) ≡ true
     by true i = refl
     by false i = i
 
@@ -242,9 +272,13 @@ fill_seg_outlined s c k r h process next none =
     (held_seg s.store r.number (descriptor_of s.store.links (process_at s c) r.number)))) _))
     (fill_outlined s c k (with_seg (cpu_at s.processors c).assoc
     (held_seg s.store r.number (descriptor_of s.store.links (process_at s c) r.number))) h process
-    (rw (next, none, holds_filled_seg (cpu_at s.processors c).assoc
-    (held_seg s.store r.number (descriptor_of s.store.links (process_at s c) r.number)) r.number
-    (number_held s r.number (descriptor_of s.store.links (process_at s c) r.number)))
+    (rw (
+      next,
+      none,
+      holds_filled_seg (cpu_at s.processors c).assoc
+          (held_seg s.store r.number (descriptor_of s.store.links (process_at s c) r.number)) r.number
+          (number_held s r.number (descriptor_of s.store.links (process_at s c) r.number)),
+    )
     (few (holds_page (with_seg (cpu_at s.processors c).assoc
     (held_seg s.store r.number (descriptor_of s.store.links (process_at s c) r.number))) (Some r)))))
   where
@@ -262,6 +296,7 @@ holds_filled_page held e uid page a b =
     mapped : (o : Option HeldPage) → is_some o ≡ true → is_some (option_map (λ x. x.frame) o) ≡ true
     mapped None h = h
     mapped (Some x) h = refl
+
     both : {x y : Bool} → x ≡ true → y ≡ true → (x && y) ≡ true
     both g h = rw (g, h) refl
 
@@ -295,7 +330,8 @@ idle_runner a p = by p.cpu.process
     by (Some k) = refl
 
 transferred_outline : (s : State) (c count : ℕ) (t : Transfer) → outline_of (transferred (with_faults s count) c t)
-    ≡ with_runner (with_bound (outline_of s) t false false) c (runner_of (around s) (idle_processor (processor_at s.processors c)))
+    ≡ with_runner (with_bound (outline_of s) t false false) c
+    (runner_of (around s) (idle_processor (processor_at s.processors c)))
 unfolding outline_of
 transferred_outline s c count t =
     ap (λ (rs : List Runner). record (outline_of s) {
@@ -312,7 +348,8 @@ pub transfer_outlined : (s : State) (c count : ℕ) (t : Transfer) → rule_of (
 transfer_outlined s c count t h reading =
     step_to (outline_of s) (not_reading (with_bound (outline_of s) t false false) c)
     (outline_of (transferred (with_faults s count) c t)) c Moved
-    (ap (λ (x : Runner). with_runner (with_bound (outline_of s) t false false) c (record x { reading = None })) (at_outline s c)
+    (ap (λ (x : Runner). with_runner (with_bound (outline_of s) t false false) c (record x { reading = None }))
+    (at_outline s c)
     ∙ ap (λ (x : Runner). with_runner (with_bound (outline_of s) t false false) c x)
     (sym (idle_runner (around s) (processor_at s.processors c))) ∙ sym (transferred_outline s c count t))
     (reads t false false h

@@ -1,42 +1,26 @@
 -- In the outline of the machine, what the owner of the supervisor does is a step of its job in the outline.
-use Rattle.std.proofs.Common.{◌≡◌, ◌≢◌, ◌≤◌, ◌<◌, ℕ, zero, suc, ◌+◌, ◌-◌, Bool, true, false, not, cond, ◌&&◌, ◌||◌, eqb, List, [], ◌∷◌, ◌++◌, length, map, Option, Some, None, is_some, set, get_or, Contains, refl, sym, ap, subst, ◌∙◌, inl, inr, ◌⊎◌, append_assoc, append-nil, arith}
-use Rattle.std.proofs.lemmas.List.{get_or-set_same, get_or-set_other, length-set}
+use Rattle.std.proofs.Common.{◌≡◌, ◌≢◌, ◌<◌, ℕ, zero, suc, Bool, true, false, List, [], ◌∷◌, length, map, Option, Some}
+use Rattle.std.proofs.Common.{None, is_some, set, get_or, refl, sym, ap, subst, ◌∙◌, arith}
+use Rattle.std.proofs.lemmas.List.{get_or-set_same, get_or-set_other}
 use Rattle.book.specs.declared.entries.Entry.TheVariants as entry
-use Rattle.mnames.specs.declared.modes.Mode.{Mode}
 use Rattle.script.specs.declared.commands.Reference.{Reference}
-use Rattle.assoc_mem.specs.declared.What.{What}
-use Rattle.assoc_mem.specs.declared.What.TheVariants as what
-use Rattle.core_map.specs.declared.Frame.{Frame}
-use Rattle.core_map.specs.declared.Frame.TheVariants as frame
-use Rattle.core_map.specs.CoreMap.{Core, bound_page}
-use Rattle.core_map.specs.Clock.{frame_in as core_frame, is_idle, unmarked, round_frames, passed_over, after_choice}
-use Rattle.page_control.specs.declared.Left.{Left}
-use Rattle.page_control.specs.declared.Left.TheVariants as left
-use Rattle.page_control.specs.Plain.{frame_in as plain_frame}
 use Rattle.active_segs.specs.declared.Entry.{Entry as Active}
-use Rattle.active_segs.specs.Active.{entry_at}
-use Rattle.active_segs.specs.Victim.{IsOffChain}
 use Rattle.descriptor_seg.specs.declared.Sdw.{Sdw}
 use Rattle.descriptor_seg.specs.declared.Sdw.TheVariants as sdw
 use Rattle.descriptor_seg.specs.Descriptors.{sdw_at}
-use Rattle.seg_control.specs.Control.{Links, is_for, place_of, sdws_at}
-use Rattle.seg_control.specs.Effects.{cut_one as descriptor_cut}
-use Rattle.processor.specs.declared.Transfer.{Transfer}
-use Rattle.storage_ops.specs.Shown.{is_filed}
-use Rattle.machine_model.specs.declared.Aim.{Aim}
-use Rattle.machine_model.specs.declared.Aim.TheVariants as aim
+use Rattle.seg_control.specs.Control.{Links, place_of, sdws_at}
 use Rattle.machine_model.specs.declared.Phase.{Phase}
 use Rattle.machine_model.specs.declared.Phase.TheVariants as phase
-use Rattle.machine_model.specs.State.{State, Storage, Processor, Owner, CutDescriptor}
+use Rattle.machine_model.specs.State.{State, Processor, Owner}
 use Rattle.tree_model.specs.Tree.{node_in}
-use Rattle.machine_model.specs.Reads.{or_zero, no_processor, superior_of_node, mode_in, length_in, processor_at, cpu_at, process_at, descriptor_of, is_connected, frames_of_owner, cut_of_owner}
-use Rattle.machine_model.specs.Steps.{with_link as with_link_of, activated_at, booked, connected_to, looking, started, with_faults, with_owner, with_store}
-use Rattle.machine_model.specs.Jobs.{cut_all, cut_one, deactivated_one, emptied, eviction_begun, eviction_done, leaving_if, left_of, owner_signalled, page_done, page_gone, page_in, phase_signalled, seg_gone, segs_gone, signalled, take_all, take_one, told_at, told_from, took, with_choice, with_leaving, with_left}
-use Rattle.machine_model.specs.Outline.{Want, Refer, Runner, no_runner, Work, EvictFrame, EmptyPlace, CommitCommand, Stage, Look, Taken, Waiting, Keeper, Outline, runner_at, frame_in, want_at, with_runner, with_frame, with_entry, at_stage}
-use Rattle.machine_model.specs.Measures.{chain_of, dues, has_free, lack}
-use Rattle.machine_model.specs.Finishing.{IsIn, JobStep, activates, connects, takes_segment, takes_frame, takes_for_commit, signals, frees_frame, frees_page, empties, empties_at_once, gives_up, starts, CanActivate, CanEmpty, CanEvict, CanStart, AreAlike, AreOf, MayRelease, with_link, with_runners, with_stored, without_owner, now_reading, entry_for}
-use Rattle.machine_model.specs.Outlined.{Around, around, reference_in, is_linked, holds_seg, holds_page, want_of, bare, runner_by, runner_of, first_frame, work_of, stage_of, keeper_of, outline_of}
-use Rattle.machine_model.proofs.OutlineReads.{at_outline, long_outline, map_at, set_map, seen_online, seen_running, seen_due, seen_reading, seen_since, seen_tried}
+use Rattle.machine_model.specs.Reads.{or_zero, no_processor, superior_of_node, mode_in, length_in, processor_at}
+use Rattle.machine_model.specs.Reads.{cpu_at, descriptor_of, is_connected}
+use Rattle.machine_model.specs.Steps.{with_link as with_link_of, activated_at, booked, connected_to, with_store}
+use Rattle.machine_model.specs.Outline.{Refer, Runner, Look, Keeper, Outline, runner_at, want_at, with_entry}
+use Rattle.machine_model.specs.Finishing.{IsIn, JobStep, activates, connects, CanActivate, with_link, entry_for}
+use Rattle.machine_model.specs.Outlined.{Around, around, reference_in, is_linked, holds_seg, holds_page, want_of}
+use Rattle.machine_model.specs.Outlined.{runner_by, runner_of, stage_of, keeper_of, outline_of}
+use Rattle.machine_model.proofs.OutlineReads.{at_outline}
 
 -- a step of a job to an outline that is the same
 pub job_to : (s t u : Outline) (c : ℕ) → t ≡ u → JobStep s c t → JobStep s c u
@@ -75,13 +59,16 @@ pub activate_outlined : (s : State) (o : Owner) (uid place : ℕ) → s.owner �
     → CanActivate (outline_of s) o.cpu place uid → JobStep (outline_of s) o.cpu (outline_of (activated_at s uid place))
 unfolding outline_of
 activate_outlined s o uid place owner looks can =
-    job_to (outline_of s) (with_entry (outline_of s) place (entry_for uid (superior_in s uid))) (outline_of (activated_at s uid place)) o.cpu
-    (ap (λ (k : Option Keeper). record (with_entry (outline_of s) place (entry_for uid (superior_in s uid))) { owner = k })
+    job_to (outline_of s) (with_entry (outline_of s) place (entry_for uid (superior_in s uid)))
+    (outline_of (activated_at s uid place)) o.cpu
+    (ap (λ (k : Option Keeper). record (with_entry (outline_of s) place (entry_for uid (superior_in s uid)))
+    { owner = k })
     (keep_look s.store.ast.entries (activated_at s uid place).store.ast.entries s.owner o owner looks))
     (activates place uid (superior_in s uid) can)
 
 -- a list in which one element is seen otherwise
-map_like : {A B : Type 0} (f g : A → B) (xs : List A) (d : A) → ((i : ℕ) → g (get_or xs i d) ≡ f (get_or xs i d)) → map g xs ≡ map f xs
+map_like : {A B : Type 0} (f g : A → B) (xs : List A) (d : A) → ((i : ℕ) → g (get_or xs i d) ≡ f (get_or xs i d))
+    → map g xs ≡ map f xs
 map_like f g [] d same = refl
 map_like {B = B} f g (x ∷ xs) d same =
     ap (λ (y : B). y ∷ map g xs) (same zero) ∙ ap (λ (ys : List B). f x ∷ ys) (map_like f g xs d (λ i. same (suc i)))
@@ -94,7 +81,8 @@ map_change {B = B} f g (x ∷ xs) zero y d lt here other =
     ∙ ap (λ (ys : List B). y ∷ ys) (map_like f g xs d (λ i. other (suc i) (λ e. absurd (omega (arith, e)))))
 map_change {B = B} f g (x ∷ xs) (suc c) y d lt here other =
     ap (λ (z : B). z ∷ map g xs) (other zero (λ e. absurd (omega (arith, e))))
-    ∙ ap (λ (ys : List B). f x ∷ ys) (map_change f g xs c y d (omega arith) here (λ i n. other (suc i) (λ e. n (omega (arith, e)))))
+    ∙ ap (λ (ys : List B). f x ∷ ys) (map_change f g xs c y d (omega arith) here
+    (λ i n. other (suc i) (λ e. n (omega (arith, e)))))
 
 -- ---- a look that connects
 
@@ -103,10 +91,12 @@ linked_around a links = record a { links = links }
 
 -- the runner of a process whose next command's descriptor is connected now
 linked_runner : (a : Around) (links : Links) (p : Processor) (k : ℕ) (r : Reference) → p.cpu.process ≡ Some k
-    → reference_in (a.next k) ≡ Some r → links.known ≡ a.links.known → is_connected (descriptor_of links k r.number) ≡ true
+    → reference_in (a.next k) ≡ Some r → links.known ≡ a.links.known
+    → is_connected (descriptor_of links k r.number) ≡ true
     → runner_of (linked_around a links) p ≡ record (runner_of a p) { linked = true }
 linked_runner a links p k r process next known now =
-    subst (λ (o : Option ℕ). runner_by (linked_around a links) p o ≡ record (runner_by a p o) { linked = true }) (sym process)
+    subst (λ (o : Option ℕ). runner_by (linked_around a links) p o ≡ record (runner_by a p o) { linked = true })
+    (sym process)
     (λ i. record {
       online = p.cpu.online;
       running = true;
@@ -121,7 +111,9 @@ linked_runner a links p k r process next known now =
     })
   where
     want_same : want_of (linked_around a links) k (a.next k) ≡ want_of a k (a.next k)
-    want_same = ap (λ (known : List (List (Option ℕ))). want_of (record a { links = record links { known = known } }) k (a.next k)) known
+    want_same = ap (λ (known : List (List (Option ℕ))). want_of (record a { links = record links { known = known } })
+        k (a.next k)) known
+
     linked_now : is_linked (linked_around a links) k (reference_in (a.next k)) ≡ true
     linked_now = ap (λ (x : Option Reference). is_linked (linked_around a links) k x) next ∙ now
 
@@ -169,7 +161,8 @@ now_connected s k n uid there =
     (get_or-set_same s.store.links.descriptors k (set (sdws_at s.store.links.descriptors k) n
     (sdw.Present (place_of s.store.ast.entries uid) (mode_in s.store k uid) (length_in s.store uid))) [] there.process)
     ∙ ap is_connected (get_or-set_same (sdws_at s.store.links.descriptors k) n
-    (sdw.Present (place_of s.store.ast.entries uid) (mode_in s.store k uid) (length_in s.store uid)) sdw.Fault there.number)
+    (sdw.Present (place_of s.store.ast.entries uid) (mode_in s.store k uid) (length_in s.store uid)) sdw.Fault
+    there.number)
 
 connected_outline : (s : State) (c k n uid : ℕ) (r : Reference) → c < length s.processors → IsPlaced s.processors c k
     → reference_in ((around s).next k) ≡ Some r → r.number ≡ n → HasDescriptor s.store.links k n
@@ -179,9 +172,11 @@ connected_outline s c k n uid r lt placed next number there =
     ap (λ (j : ℕ). outline_of (booked (with_store s (with_link_of s.store j n uid)) (entry.Connect j n uid ∷ [])))
     (ap or_zero placed.here)
     ∙ ap (λ (rs : List Runner). record (outline_of s) { runners = rs })
-    (map_change (runner_of (around s)) (runner_of (linked_around (around s) (with_link_of s.store k n uid).links)) s.processors c
+    (map_change (runner_of (around s)) (runner_of (linked_around (around s) (with_link_of s.store k n uid).links))
+    s.processors c
     (record (runner_at (outline_of s).runners c) { linked = true }) no_processor lt
-    (linked_runner (around s) (with_link_of s.store k n uid).links (processor_at s.processors c) k r placed.here next refl
+    (linked_runner (around s) (with_link_of s.store k n uid).links (processor_at s.processors c) k r placed.here next
+    refl
     (subst (λ (m : ℕ). is_connected (descriptor_of (with_link_of s.store k n uid).links k m) ≡ true) (sym number)
     (now_connected s k n uid there))
     ∙ ap (λ (x : Runner). record x { linked = true }) (sym (at_outline s c)))

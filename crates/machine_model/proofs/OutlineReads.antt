@@ -1,15 +1,14 @@
 -- What is read of the outline of a machine.
-use Rattle.std.proofs.Common.{◌≡◌, ◌≢◌, ◌<◌, ℕ, zero, suc, Bool, true, false, not, cond, ◌&&◌, ◌||◌, eqb, nat_lt, nat_le, List, [], ◌∷◌, length, map, Option, Some, None, is_some, set, get_or, refl, sym, ap, subst, ◌∙◌, arith}
-use Rattle.processor.specs.declared.Transfer.{Transfer}
+use Rattle.std.proofs.Common.{◌≡◌, ℕ, zero, suc, Bool, false, ◌&&◌, eqb, nat_lt, List, [], ◌∷◌, length, map, Option}
+use Rattle.std.proofs.Common.{Some, None, is_some, set, get_or, refl, ap}
 use Rattle.machine_model.specs.State.{State, Processor, Owner}
 use Rattle.machine_model.specs.Reads.{no_processor, processor_at}
 use Rattle.machine_model.specs.Steps.{booked, with_processor}
 use Rattle.machine_model.specs.Actions.{has_had_its_turn}
 use Rattle.book.specs.declared.entries.Entry.{Entry}
 use Rattle.active_segs.specs.declared.Entry.{Entry as Active}
-use Rattle.machine_model.specs.Outline.{Runner, no_runner, Keeper, Outline, runner_at, with_runner}
-use Rattle.machine_model.specs.Measures.{is_over}
-use Rattle.machine_model.specs.Finishing.{Rule, Comes, Clears, Reads, Works, Loads, Leaves, Commands, rule_by, rule_of, owns}
+use Rattle.machine_model.specs.Outline.{Runner, runner_at, with_runner}
+use Rattle.machine_model.specs.Finishing.{rule_by, rule_of, owns}
 use Rattle.machine_model.specs.Outlined.{Around, around, runner_by, runner_of, keeper_of, outline_of}
 
 -- ---- lists
@@ -75,7 +74,8 @@ seen_tried a p = by p.cpu.process
 -- ---- the outline
 
 -- the outline of a processor that isn't there is that of none
-pub at_outline : (s : State) (c : ℕ) → runner_at (outline_of s).runners c ≡ runner_of (around s) (processor_at s.processors c)
+pub at_outline : (s : State) (c : ℕ) → runner_at (outline_of s).runners c ≡ runner_of (around s)
+    (processor_at s.processors c)
 unfolding outline_of
 at_outline s c = map_at (runner_of (around s)) s.processors c no_processor
 
@@ -119,8 +119,13 @@ rule_seen s c =
     let a : Around = around s in
     let p : Processor = processor_at s.processors c in
     rw (
-      at_outline s c, seen_online (around s) (processor_at s.processors c), seen_due (around s) (processor_at s.processors c),
-      seen_reading (around s) (processor_at s.processors c), seen_owns s c,
-      seen_running (around s) (processor_at s.processors c), seen_since (around s) (processor_at s.processors c),
-      seen_tried (around s) (processor_at s.processors c), ready_seen s,
+      at_outline s c,
+      seen_online (around s) (processor_at s.processors c),
+      seen_due (around s) (processor_at s.processors c),
+      seen_reading (around s) (processor_at s.processors c),
+      seen_owns s c,
+      seen_running (around s) (processor_at s.processors c),
+      seen_since (around s) (processor_at s.processors c),
+      seen_tried (around s) (processor_at s.processors c),
+      ready_seen s,
     ) refl

@@ -1,43 +1,42 @@
 -- In the outline of the machine, taking, signalling and finishing are steps of the owner's job.
-use Rattle.std.proofs.Common.{◌≡◌, ◌≢◌, ◌≤◌, ◌<◌, ℕ, zero, suc, ◌+◌, ◌-◌, Bool, true, false, not, cond, ◌&&◌, ◌||◌, eqb, List, [], ◌∷◌, ◌++◌, length, map, Option, Some, None, is_some, set, get_or, Contains, refl, sym, ap, subst, ◌∙◌, inl, inr, ◌⊎◌, append_assoc, append-nil, add-zero, zero-add, arith}
+use Rattle.std.proofs.Common.{◌≡◌, ◌≢◌, ◌≤◌, ℕ, zero, suc, ◌+◌, Bool, true, false, cond, eqb, List, [], ◌∷◌, ◌++◌}
+use Rattle.std.proofs.Common.{length, map, Option, Some, None, is_some, set, get_or, refl, sym, ap, subst, ◌∙◌, inl}
+use Rattle.std.proofs.Common.{inr, ◌⊎◌, append_assoc, add-zero, zero-add, arith}
 use Rattle.std.proofs.lemmas.Bool.Decides.{eqb_tells}
-use Rattle.std.proofs.lemmas.List.{get_or-set_same, get_or-set_other, length-set}
-use Rattle.book.specs.declared.entries.Entry.{Entry}
-use Rattle.book.specs.declared.entries.Entry.TheVariants as entry
 use Rattle.assoc_mem.specs.declared.What.{What}
-use Rattle.assoc_mem.specs.declared.What.TheVariants as what
 use Rattle.core_map.specs.declared.Frame.{Frame}
 use Rattle.core_map.specs.declared.Frame.TheVariants as frame
-use Rattle.core_map.specs.CoreMap.{Core, bound_page}
-use Rattle.core_map.specs.Clock.{frame_in as core_frame, is_idle, unmarked, round_frames, passed_over, after_choice}
-use Rattle.page_control.specs.declared.Left.{Left}
-use Rattle.page_control.specs.declared.Left.TheVariants as left
+use Rattle.core_map.specs.CoreMap.{bound_page}
+use Rattle.core_map.specs.Clock.{frame_in as core_frame, is_idle, unmarked, round_frames, passed_over}
 use Rattle.script.specs.Plans.{command_at}
 use Rattle.accounts.specs.Maps.{AccountMaps}
-use Rattle.page_control.specs.Plain.{Plain, words_in}
+use Rattle.page_control.specs.Plain.{Plain}
 use Rattle.assoc_mem.specs.Held.{cleared}
 use Rattle.active_segs.specs.declared.Entry.{Entry as Active}
 use Rattle.active_segs.specs.Active.{ActiveSegs}
 use Rattle.active_segs.specs.Victim.{first_off_chain, hand_past}
 use Rattle.seg_control.specs.Control.{Links, leads_at, place_of}
 use Rattle.seg_control.specs.Effects.{unlinked}
-use Rattle.processor.specs.declared.Transfer.{Transfer}
 use Rattle.storage_ops.specs.Shown.{is_filed}
 use Rattle.machine_model.specs.declared.Aim.{Aim}
 use Rattle.machine_model.specs.declared.Aim.TheVariants as aim
 use Rattle.machine_model.specs.declared.Phase.{Phase}
 use Rattle.machine_model.specs.declared.Phase.TheVariants as phase
 use Rattle.machine_model.specs.State.{State, Storage, Processor, Owner, CutDescriptor}
-use Rattle.machine_model.specs.Reads.{next_command, no_processor, or_zero, run_at, processor_at, cpu_at, process_at, frames_of_owner, cut_of_owner}
-use Rattle.machine_model.specs.Steps.{booked, looking, started, with_faults, with_owner, with_store}
-use Rattle.machine_model.specs.Jobs.{cut_all, cut_one, deactivated_one, emptied, eviction_begun, eviction_done, leaving_if, left_of, owner_signalled, page_done, page_gone, page_in, phase_signalled, seg_gone, segs_gone, signalled, take_all, take_one, told_at, told_from, took, with_choice, with_hand_moved, with_leaving, with_left}
-use Rattle.machine_model.specs.Outline.{Want, Refer, Other, Runner, no_runner, Work, EvictFrame, EmptyPlace, CommitCommand, Stage, Look, Taken, Waiting, Keeper, Outline, runner_at, frame_in, want_at, with_runner, with_frame, with_entry, at_stage}
-use Rattle.machine_model.specs.Measures.{chain_of, dues, has_free, lack}
-use Rattle.machine_model.specs.Finishing.{IsIn, JobStep, takes_segment, takes_frame, takes_for_commit, signals, frees_frame, frees_page, empties, empties_at_once, gives_up, starts, CanEmpty, CanEvict, CanStart, AreAlike, AreOf, MayRelease, with_runners, with_stored, without_owner, now_reading}
-use Rattle.machine_model.specs.Outlined.{Around, around, bare, left_in, want_of, reference_in, is_linked, runner_by, runner_of, first_frame, work_of, stage_of, keeper_of, outline_of}
-use Rattle.machine_model.proofs.JobLaws.{alike_self}
-use Rattle.machine_model.proofs.OutlineReads.{at_outline, long_outline, map_at, set_map, seen_online, seen_running, seen_due, seen_reading, seen_since, seen_tried}
-use Rattle.machine_model.proofs.OutlineJob.{job_to, in_job, in_look}
+use Rattle.machine_model.specs.Reads.{next_command, no_processor, run_at, processor_at, frames_of_owner, cut_of_owner}
+use Rattle.machine_model.specs.Steps.{with_store}
+use Rattle.machine_model.specs.Jobs.{cut_all, cut_one, eviction_begun, leaving_if, owner_signalled, phase_signalled}
+use Rattle.machine_model.specs.Jobs.{signalled, take_all, take_one, told_at, told_from, took, with_choice}
+use Rattle.machine_model.specs.Jobs.{with_hand_moved, with_leaving}
+use Rattle.machine_model.specs.Outline.{Want, Other, Runner, EvictFrame, Look, Taken, Waiting, Keeper, runner_at}
+use Rattle.machine_model.specs.Outline.{at_stage}
+use Rattle.machine_model.specs.Finishing.{IsIn, JobStep, takes_segment, takes_frame, takes_for_commit, signals}
+use Rattle.machine_model.specs.Finishing.{CanEmpty, CanEvict, AreAlike, AreOf, with_runners}
+use Rattle.machine_model.specs.Outlined.{Around, around, bare, left_in, want_of, reference_in, is_linked, runner_by}
+use Rattle.machine_model.specs.Outlined.{runner_of, first_frame, work_of, stage_of, keeper_of, outline_of}
+use Rattle.machine_model.proofs.OutlineReads.{map_at, seen_online, seen_running, seen_due, seen_reading, seen_since}
+use Rattle.machine_model.proofs.OutlineReads.{seen_tried}
+use Rattle.machine_model.proofs.OutlineJob.{job_to, in_job}
 
 -- ---- the clock's choice
 
@@ -47,7 +46,8 @@ bare_unmarked (frame.Started uid page) = refl
 bare_unmarked (frame.Bound uid page used modified) = refl
 
 -- a list with an element changed to one that is seen alike
-set_same : {A B : Type 0} (f : A → B) (xs : List A) (i : ℕ) (y d : A) → f y ≡ f (get_or xs i d) → map f (set xs i y) ≡ map f xs
+set_same : {A B : Type 0} (f : A → B) (xs : List A) (i : ℕ) (y d : A) → f y ≡ f (get_or xs i d)
+    → map f (set xs i y) ≡ map f xs
 set_same f [] i y d h = refl
 set_same {B = B} f (x ∷ xs) zero y d h = ap (λ (z : B). z ∷ map f xs) h
 set_same {B = B} f (x ∷ xs) (suc i) y d h = ap (λ (zs : List B). f x ∷ zs) (set_same f xs i y d h)
@@ -59,7 +59,8 @@ passed_bare frames (f ∷ fs) =
     by (is_idle (core_frame frames f)) (passed_bare (set frames f (unmarked (core_frame frames f))) fs)
   where
     by : (b : Bool)
-        → map bare (passed_over (set frames f (unmarked (core_frame frames f))) fs) ≡ map bare (set frames f (unmarked (core_frame frames f)))
+        → map bare (passed_over (set frames f (unmarked (core_frame frames f))) fs) ≡ map bare
+        (set frames f (unmarked (core_frame frames f)))
         → map bare (cond b frames (passed_over (set frames f (unmarked (core_frame frames f))) fs)) ≡ map bare frames
     by true rest = refl
     by false rest = rest
@@ -175,7 +176,13 @@ took_like s c a w fs pairs =
 
 -- the owner once frames were taken and descriptors were cut, one at least
 take_owner : (s : State) (c : ℕ) (a : Aim) (w : What) (f : ℕ) (fs : List ℕ) → (take_all s c a w (f ∷ fs)).owner
-    ≡ Some (record { cpu = c; phase = phase.Taken a w; frames = frames_of_owner s.owner ++ (f ∷ fs); cut = cut_of_owner s.owner })
+    ≡ Some (record {
+      cpu = c;
+      phase = phase.Taken a w;
+      frames = frames_of_owner s.owner ++ (f ∷ fs);
+      cut =
+          cut_of_owner s.owner;
+    })
 take_owner s c a w f [] = refl
 take_owner s c a w f (g ∷ gs) =
     take_owner (take_one s c a w f) c a w g gs
@@ -197,7 +204,8 @@ pub took_owner : (s : State) (c : ℕ) (a : Aim) (w : What) (fs : List ℕ) (pai
 took_owner s c a w [] [] none (inl some) = absurd (some refl)
 took_owner s c a w [] [] none (inr some) = absurd (some refl)
 took_owner s c a w [] (pair ∷ pairs) none some =
-    subst (λ (xs : List ℕ). HasTakenFrames (cut_all s c a w (pair ∷ pairs)) c a w xs) none (cut_owner s c a w pair pairs)
+    subst (λ (xs : List ℕ). HasTakenFrames (cut_all s c a w (pair ∷ pairs)) c a w xs) none
+    (cut_owner s c a w pair pairs)
 took_owner s c a w (f ∷ fs) [] none some = record {
   cut = cut_of_owner s.owner;
   owner = take_owner s c a w f fs ∙ ap (λ (xs : List ℕ). Some (record {
@@ -247,7 +255,8 @@ next_like s t like = λ i. λ k. command_at (like.plan i) k (run_at (like.runs i
 
 -- all but what is due, connected and held stands
 pub like_alike : (s t : State) (c : ℕ) → LooksLike s t
-    → (runner_of (around t) (processor_at s.processors c)).linked ≡ (runner_of (around s) (processor_at s.processors c)).linked
+    → (runner_of (around t) (processor_at s.processors c)).linked
+    ≡ (runner_of (around s) (processor_at s.processors c)).linked
     → AreAlike (outline_of s).runners (map (runner_of (around t)) s.processors) c
 unfolding outline_of
 like_alike s t c like linked = record {
@@ -263,21 +272,25 @@ like_alike s t c like linked = record {
   tried = λ d. at t d (λ x. x.tried) ∙ seen_tried (around t) (processor_at s.processors d)
       ∙ sym (at s d (λ x. x.tried) ∙ seen_tried (around s) (processor_at s.processors d));
   want = at t c (λ x. x.want) ∙ want_like (around s) (around t) (processor_at s.processors c)
-      (ap (λ (a : AccountMaps). a.nodes) like.accounts) like.whos like.known (next_like s t like) ∙ sym (at s c (λ x. x.want));
+      (ap (λ (a : AccountMaps). a.nodes) like.accounts) like.whos like.known (next_like s t like)
+      ∙ sym (at s c (λ x. x.want));
   linked = at t c (λ x. x.linked) ∙ linked ∙ sym (at s c (λ x. x.linked));
   due = at t c (λ x. x.due) ∙ seen_due (around t) (processor_at s.processors c)
       ∙ sym (at s c (λ x. x.due) ∙ seen_due (around s) (processor_at s.processors c));
 }
   where
     at : {B : Type 0} (u : State) (d : ℕ) (P : Runner → B)
-        → P (runner_at (map (runner_of (around u)) s.processors) d) ≡ P (runner_of (around u) (processor_at s.processors d))
+        → P (runner_at (map (runner_of (around u)) s.processors) d) ≡ P
+        (runner_of (around u) (processor_at s.processors d))
     at u d P = ap P (map_at (runner_of (around u)) s.processors d no_processor)
+
     same_long : (f g : Processor → Runner) (xs : List Processor) → length (map g xs) ≡ length (map f xs)
     same_long f g [] = refl
     same_long f g (x ∷ xs) = ap suc (same_long f g xs)
 
 taken_outline : (s t : State) (c : ℕ) (a : Aim) (w : What) (fs : List ℕ) → LooksLike s t → HasTakenFrames t c a w fs
-    → with_runners (at_stage (outline_of s) c (Taken (work_of s.store.ast.entries fs a))) (map (runner_of (around t)) s.processors)
+    → with_runners (at_stage (outline_of s) c (Taken (work_of s.store.ast.entries fs a)))
+    (map (runner_of (around t)) s.processors)
     ≡ outline_of t
 taken_outline s t c a w fs like took =
     ap (λ (k : Option Keeper). record (outline_of s) { runners = map (runner_of (around t)) s.processors; owner = k })
@@ -289,7 +302,8 @@ pub take_segment_outlined : (s t : State) (c uid : ℕ) (w : What) (fs : List �
     → HasTakenFrames t c (aim.Deactivating uid) w fs
     → CanEmpty (outline_of s) c (place_of s.store.ast.entries uid)
     → AreOf (outline_of s) (place_of s.store.ast.entries uid) fs → length fs ≤ 256
-    → (runner_of (around t) (processor_at s.processors c)).linked ≡ (runner_of (around s) (processor_at s.processors c)).linked
+    → (runner_of (around t) (processor_at s.processors c)).linked
+    ≡ (runner_of (around s) (processor_at s.processors c)).linked
     → JobStep (outline_of s) c (outline_of t)
 take_segment_outlined s t c uid w fs like took can of_it few linked =
     job_to (outline_of s) _ (outline_of t) c (taken_outline s t c (aim.Deactivating uid) w fs like took)
@@ -299,7 +313,8 @@ take_segment_outlined s t c uid w fs like took can of_it few linked =
 -- what a tree command must have out of use is taken
 pub take_away_outlined : (s t : State) (c : ℕ) (w : What) (fs : List ℕ) → LooksLike s t
     → HasTakenFrames t c aim.Committing w fs → IsIn (outline_of s) c Look
-    → (runner_of (around t) (processor_at s.processors c)).linked ≡ (runner_of (around s) (processor_at s.processors c)).linked
+    → (runner_of (around t) (processor_at s.processors c)).linked
+    ≡ (runner_of (around s) (processor_at s.processors c)).linked
     → JobStep (outline_of s) c (outline_of t)
 take_away_outlined s t c w fs like took look linked =
     job_to (outline_of s) _ (outline_of t) c (taken_outline s t c aim.Committing w fs like took)
@@ -328,17 +343,22 @@ evicted_outline s c f none = λ i. record {
   where
     taken_page : State → ℕ → Option (ℕ × ℕ)
     taken_page s f = bound_page (core_frame (with_choice s.store f).pages.core.frames f)
+
     pages : (s : State) (f : ℕ) → (with_leaving (with_choice s.store f) f).pages ≡ (with_choice s.store f).pages
-    pages s f = leaving_frames (with_choice s.store f) f (bound_page (core_frame (with_choice s.store f).pages.core.frames f))
+    pages s f = leaving_frames (with_choice s.store f) f
+        (bound_page (core_frame (with_choice s.store f).pages.core.frames f))
+
     owner : (s : State) (c f : ℕ) → frames_of_owner s.owner ≡ []
         → keeper_of (eviction_begun s c f).store.ast.entries (eviction_begun s c f).owner
         ≡ Some (record { cpu = c; stage = Taken (EvictFrame f) })
-    owner s c f none = ap (λ (xs : List ℕ). Some (record { cpu = c; stage = Taken (EvictFrame (first_frame (xs ++ f ∷ []))) })) none
+    owner s c f none = ap (λ (xs : List ℕ). Some (record
+        { cpu = c; stage = Taken (EvictFrame (first_frame (xs ++ f ∷ []))) })) none
 
 pub evict_outlined : (s : State) (o : Owner) (f : ℕ) → s.owner ≡ Some o → o.frames ≡ []
     → CanEvict (outline_of s) o.cpu f → JobStep (outline_of s) o.cpu (outline_of (eviction_begun s o.cpu f))
 evict_outlined s o f owner none can =
-    job_to (outline_of s) (at_stage (outline_of s) o.cpu (Taken (EvictFrame f))) (outline_of (eviction_begun s o.cpu f)) o.cpu
+    job_to (outline_of s) (at_stage (outline_of s) o.cpu (Taken (EvictFrame f)))
+    (outline_of (eviction_begun s o.cpu f)) o.cpu
     (evicted_outline s o.cpu f (ap frames_of_owner owner ∙ none)) (takes_frame f can)
 
 -- the hand of a full pool moves besides
@@ -375,7 +395,8 @@ told_at_map c w d [] i = absent c w (d + i)
     absent : (c : ℕ) (w : What) (e : ℕ) → no_processor ≡ told_at c w e no_processor
     absent c w e = by (eqb e c)
       where
-        by : (b : Bool) → no_processor ≡ cond b (record no_processor { cpu = record no_processor.cpu { assoc = cleared no_processor.cpu.assoc w } }) no_processor
+        by : (b : Bool) → no_processor ≡ cond b (record no_processor
+            { cpu = record no_processor.cpu { assoc = cleared no_processor.cpu.assoc w } }) no_processor
         by true = refl
         by false = refl
 told_at_map c w d (p ∷ ps) zero = ap (λ (e : ℕ). told_at c w e p) (sym (add-zero d))
@@ -436,22 +457,26 @@ told_itself c w p =
     self n = elim (eqb_tells n n) [ inl e ↦ e.0 | inr e ↦ absurd (e.1 refl) ]
 
 -- what a runner's outline has by its process alone
-want_by_process : (a : Around) (p q : Processor) → q.cpu.process ≡ p.cpu.process → (runner_of a q).want ≡ (runner_of a p).want
+want_by_process : (a : Around) (p q : Processor) → q.cpu.process ≡ p.cpu.process
+    → (runner_of a q).want ≡ (runner_of a p).want
 want_by_process a p q same = sym (is q q.cpu.process) ∙ ap wanted same ∙ is p p.cpu.process
   where
     wanted : Option ℕ → Want
     wanted None = Other
     wanted (Some k) = want_of a k (a.next k)
+
     is : (p : Processor) (o : Option ℕ) → wanted o ≡ (runner_by a p o).want
     is p None = refl
     is p (Some k) = refl
 
-linked_by_process : (a : Around) (p q : Processor) → q.cpu.process ≡ p.cpu.process → (runner_of a q).linked ≡ (runner_of a p).linked
+linked_by_process : (a : Around) (p q : Processor) → q.cpu.process ≡ p.cpu.process
+    → (runner_of a q).linked ≡ (runner_of a p).linked
 linked_by_process a p q same = sym (is q q.cpu.process) ∙ ap leads same ∙ is p p.cpu.process
   where
     leads : Option ℕ → Bool
     leads None = false
     leads (Some k) = is_linked a k (reference_in (a.next k))
+
     is : (p : Processor) (o : Option ℕ) → leads o ≡ (runner_by a p o).linked
     is p None = refl
     is p (Some k) = refl
@@ -489,20 +514,24 @@ told_alike s c w = record {
 }
   where
     was : {B : Type 0} (d : ℕ) (P : Runner → B)
-        → P (runner_at (map (runner_of (around s)) s.processors) d) ≡ P (runner_of (around s) (processor_at s.processors d))
+        → P (runner_at (map (runner_of (around s)) s.processors) d) ≡ P
+        (runner_of (around s) (processor_at s.processors d))
     was d P = ap P (map_at (runner_of (around s)) s.processors d no_processor)
+
     now : {B : Type 0} (d : ℕ) (P : Runner → B)
         → P (runner_at (map (runner_of (around s)) (told_from c w 0 s.processors)) d)
         ≡ P (runner_of (around s) (told_at c w (0 + d) (processor_at s.processors d)))
     now d P = ap P (map_at (runner_of (around s)) (told_from c w 0 s.processors) d no_processor)
         ∙ ap (λ (p : Processor). P (runner_of (around s) p)) (told_at_map c w 0 s.processors d)
+
     told_long : (f : Processor → Runner) (c : ℕ) (w : What) (d : ℕ) (ps : List Processor)
         → length (map f (told_from c w d ps)) ≡ length (map f ps)
     told_long f c w d [] = refl
     told_long f c w d (p ∷ ps) = ap suc (told_long f c w (d + 1) ps)
 
 signalled_keeper : (entries : List (Option Active)) (o : Owner) (a : Aim) (w : What) → o.phase ≡ phase.Taken a w
-    → keeper_of entries (owner_signalled (Some o)) ≡ Some (record { cpu = o.cpu; stage = Waiting (work_of entries o.frames a) })
+    → keeper_of entries (owner_signalled (Some o)) ≡ Some
+    (record { cpu = o.cpu; stage = Waiting (work_of entries o.frames a) })
 signalled_keeper entries o a w h =
     ap (λ (x : Phase). Some (record { cpu = o.cpu; stage = stage_of entries o.frames (phase_signalled x) })) h
 
@@ -522,5 +551,6 @@ pub signal_outlined : (s : State) (o : Owner) (a : Aim) (w v : What) → s.owner
 signal_outlined s o a w v owner h =
     job_to (outline_of s) _ (outline_of (signalled s o.cpu v)) o.cpu (signalled_outline s o a w v owner h)
     (signals (work_of s.store.ast.entries o.frames a) (map (runner_of (around s)) (told_from o.cpu v 0 s.processors))
-    (in_job s o owner ∙ ap (λ (x : Phase). Some (record { cpu = o.cpu; stage = stage_of s.store.ast.entries o.frames x })) h)
+    (in_job s o owner ∙ ap (λ (x : Phase). Some (record
+    { cpu = o.cpu; stage = stage_of s.store.ast.entries o.frames x })) h)
     (told_alike s o.cpu v))

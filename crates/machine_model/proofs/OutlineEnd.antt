@@ -1,0 +1,251 @@
+-- In the outline of the machine, what ends a phase of a job is a step of it: pages leave their frames, a segment
+-- becomes inactive, a transfer begins, and the supervisor is given up.
+use Rattle.std.proofs.Common.{◌≡◌, ℕ, Bool, List, [], ◌∷◌, length, map, Option, Some, None, set, refl, sym, ap, ◌∙◌}
+use Rattle.core_map.specs.declared.Frame.{Frame}
+use Rattle.core_map.specs.declared.Frame.TheVariants as frame
+use Rattle.page_control.specs.declared.Left.{Left}
+use Rattle.page_control.specs.declared.Left.TheVariants as left
+use Rattle.page_control.specs.Plain.{words_in}
+use Rattle.active_segs.specs.declared.Entry.{Entry as Active}
+use Rattle.seg_control.specs.Control.{place_of}
+use Rattle.processor.specs.declared.Transfer.{Transfer}
+use Rattle.accounts.specs.Maps.{AccountMaps}
+use Rattle.storage_ops.specs.Shown.{is_filed}
+use Rattle.machine_model.specs.declared.Aim.TheVariants as aim
+use Rattle.machine_model.specs.declared.Phase.{Phase}
+use Rattle.machine_model.specs.declared.Phase.TheVariants as phase
+use Rattle.assoc_mem.specs.declared.What.{What}
+use Rattle.machine_model.specs.State.{State, Storage, Processor, Owner, CutDescriptor}
+use Rattle.machine_model.specs.Reads.{next_command, processor_at, cut_of_owner}
+use Rattle.machine_model.specs.Steps.{looking, started, with_faults, with_owner}
+use Rattle.machine_model.specs.Jobs.{accounts_left, deactivated_one, emptied, eviction_done, left_of, page_done}
+use Rattle.machine_model.specs.Jobs.{page_gone, page_in, seg_gone, segs_gone, with_left, without_first_frame}
+use Rattle.machine_model.specs.Outline.{Refer, Runner, EvictFrame, EmptyPlace, Look, Waiting, Keeper, runner_at}
+use Rattle.machine_model.specs.Outline.{want_at, with_runner, with_frame, with_entry, at_stage}
+use Rattle.machine_model.specs.Measures.{dues, lack}
+use Rattle.machine_model.specs.Finishing.{IsIn, JobStep, frees_frame, frees_page, empties, empties_at_once, gives_up}
+use Rattle.machine_model.specs.Finishing.{starts, CanEmpty, CanStart, MayRelease, with_runners, with_stored}
+use Rattle.machine_model.specs.Finishing.{without_owner, now_reading}
+use Rattle.machine_model.specs.Outlined.{Around, around, bare, runner_by, runner_of, first_frame, stage_of, keeper_of}
+use Rattle.machine_model.specs.Outlined.{outline_of}
+use Rattle.machine_model.proofs.JobLaws.{alike_self}
+use Rattle.machine_model.proofs.OutlineReads.{at_outline, set_map}
+use Rattle.machine_model.proofs.OutlineJob.{job_to, in_job, in_look}
+
+-- ---- a page leaves its frame
+
+left_frames : (st : Storage) (f : ℕ) (how : Left) (page : ℕ × ℕ)
+    → (with_left st f how page).pages.core.frames ≡ set st.pages.core.frames f frame.Free
+left_frames st f left.Released page = refl
+left_frames st f left.Kept page = refl
+
+left_nodes : (a : AccountMaps) (uid : ℕ) (how : Left) → (accounts_left a uid how).nodes ≡ a.nodes
+left_nodes a uid left.Released = refl
+left_nodes a uid left.Kept = refl
+
+-- which pages are stored once the page of a frame has left it
+abbrev pub stored_then : State → ℕ → ℕ → ℕ → Bool
+stored_then s f = is_filed (page_gone s f).store.accounts (page_gone s f).store.pages.vtocs
+
+-- the outline once a page has left its frame, and the owner is this
+gone_outline : (s : State) (f : ℕ) (k : Option Owner) → outline_of (with_owner (page_gone s f) k)
+    ≡ record (with_stored (with_frame (outline_of s) f frame.Free) (stored_then s f))
+    { owner = keeper_of s.store.ast.entries k }
+unfolding outline_of
+gone_outline s f k = λ i. record {
+  runners = map (runner_of (record {
+    nodes = left_nodes s.store.accounts (page_in s.store f).0 (left_of (words_in s.store.pages f)) i;
+    whos = s.store.whos;
+    links = s.store.links;
+    next = next_command s;
+  })) s.processors;
+  frames = (ap (λ (fs : List Frame). map bare fs) (left_frames s.store f (left_of (words_in s.store.pages f))
+      (page_in s.store f))
+      ∙ set_map bare s.store.pages.core.frames f frame.Free) i;
+  entries = s.store.ast.entries;
+  stored = stored_then s f;
+  owner = keeper_of s.store.ast.entries k;
+  ready = length s.ready;
+  left = (outline_of s).left;
+}
+
+in_stage : (s : State) (o : Owner) (ph : Phase) → s.owner ≡ Some o → o.phase ≡ ph
+    → IsIn (outline_of s) o.cpu (stage_of s.store.ast.entries o.frames ph)
+in_stage s o ph owner h =
+    in_job s o owner ∙ ap (λ (x : Phase). Some (record
+    { cpu = o.cpu; stage = stage_of s.store.ast.entries o.frames x })) h
+
+-- that the count of failures is noted, the outline doesn't tell
+noted_outline : (s : State) (n : ℕ) → outline_of (with_faults s n) ≡ outline_of s
+unfolding outline_of
+noted_outline s n = refl
+
+pub eviction_outlined : (s : State) (o : Owner) (w : What) (f : ℕ) (rest : List ℕ) → s.owner ≡ Some o
+    → o.phase ≡ phase.Waiting aim.Evicting w → o.frames ≡ f ∷ rest → dues (outline_of s).runners ≡ 0
+    → MayRelease (outline_of s) f (stored_then s f)
+    → JobStep (outline_of s) o.cpu (outline_of (eviction_done s o.cpu f))
+eviction_outlined s o w f rest owner h frames due may =
+    job_to (outline_of s) (with_stored (at_stage (with_frame (outline_of s) f frame.Free) o.cpu Look) (stored_then s f))
+    (outline_of (eviction_done s o.cpu f)) o.cpu (sym (gone_outline s f (Some (looking o.cpu))))
+    (frees_frame f (stored_then s f) (in_stage s o (phase.Waiting aim.Evicting w) owner h
+    ∙ ap (λ (xs : List ℕ). Some (record { cpu = o.cpu; stage = Waiting (EvictFrame (first_frame xs)) })) frames) due
+    may)
+
+rest_keeper : (entries : List (Option Active)) (o : Owner) (uid : ℕ) (w : What) (f : ℕ) (rest : List ℕ)
+    → o.phase ≡ phase.Waiting (aim.Deactivating uid) w → o.frames ≡ f ∷ rest
+    → keeper_of entries (without_first_frame (Some o)) ≡ Some
+    (record { cpu = o.cpu; stage = Waiting (EmptyPlace (place_of entries uid) rest) })
+rest_keeper entries o uid w f rest h frames =
+    ap (λ (x : Owner). keeper_of entries (without_first_frame (Some x)))
+    (λ i. record { cpu = o.cpu; phase = h i; frames = frames i; cut = o.cut })
+
+done_outline : (s : State) (f : ℕ) → outline_of (page_done s f)
+    ≡ record (with_stored (with_frame (outline_of s) f frame.Free) (stored_then s f))
+    { owner = keeper_of s.store.ast.entries (without_first_frame s.owner) }
+done_outline s f = gone_outline s f (without_first_frame s.owner)
+
+pub page_outlined : (s : State) (o : Owner) (uid : ℕ) (w : What) (f : ℕ) (rest : List ℕ) → s.owner ≡ Some o
+    → o.phase ≡ phase.Waiting (aim.Deactivating uid) w → o.frames ≡ f ∷ rest → dues (outline_of s).runners ≡ 0
+    → MayRelease (outline_of s) f (stored_then s f) → JobStep (outline_of s) o.cpu (outline_of (page_done s f))
+page_outlined s o uid w f rest owner h frames due may =
+    job_to (outline_of s) (with_stored (at_stage (with_frame (outline_of s) f frame.Free) o.cpu
+    (Waiting (EmptyPlace (place_of s.store.ast.entries uid) rest))) (stored_then s f)) (outline_of (page_done s f))
+    o.cpu
+    (ap (λ (k : Option Keeper). record (with_stored (with_frame (outline_of s) f frame.Free) (stored_then s f))
+    { owner = k })
+    (sym (ap (λ (x : Option Owner). keeper_of s.store.ast.entries (without_first_frame x)) owner
+    ∙ rest_keeper s.store.ast.entries o uid w f rest h frames)) ∙ sym (done_outline s f))
+    (frees_page (place_of s.store.ast.entries uid) f rest (stored_then s f)
+    (in_stage s o (phase.Waiting (aim.Deactivating uid) w) owner h
+    ∙ ap (λ (xs : List ℕ). Some (record {
+      cpu = o.cpu;
+      stage =
+          Waiting (EmptyPlace (place_of s.store.ast.entries uid) xs);
+    })) frames)
+    due may)
+
+-- ---- a segment becomes inactive
+
+-- descriptors that are gone change nothing but the book and the owner
+segs_store : (s : State) (ds : List CutDescriptor) → (segs_gone s ds).store ≡ s.store
+segs_store s [] = refl
+segs_store s (d ∷ ds) = segs_store (seg_gone s d) ds
+
+segs_processors : (s : State) (ds : List CutDescriptor) → (segs_gone s ds).processors ≡ s.processors
+segs_processors s [] = refl
+segs_processors s (d ∷ ds) = segs_processors (seg_gone s d) ds
+
+segs_ready : (s : State) (ds : List CutDescriptor) → (segs_gone s ds).ready ≡ s.ready
+segs_ready s [] = refl
+segs_ready s (d ∷ ds) = segs_ready (seg_gone s d) ds
+
+segs_plan : (s : State) (ds : List CutDescriptor) → (segs_gone s ds).plan ≡ s.plan
+segs_plan s [] = refl
+segs_plan s (d ∷ ds) = segs_plan (seg_gone s d) ds
+
+segs_runs : (s : State) (ds : List CutDescriptor) → (segs_gone s ds).runs ≡ s.runs
+segs_runs s [] = refl
+segs_runs s (d ∷ ds) = segs_runs (seg_gone s d) ds
+
+-- a machine of which the outline tells the same but for the owner
+same_outline : (s t : State) (k : Option Owner) → t.store ≡ s.store → t.processors ≡ s.processors → t.ready ≡ s.ready
+    → t.plan ≡ s.plan → t.runs ≡ s.runs → (uid : ℕ)
+    → outline_of (with_owner (deactivated_one t uid) k) ≡ outline_of (with_owner (deactivated_one s uid) k)
+unfolding outline_of
+same_outline s t k store processors ready plan runs uid = λ i. outline_of (with_owner (deactivated_one (record t {
+  store = store i;
+  processors = processors i;
+  ready = ready i;
+  plan = plan i;
+  runs = runs i;
+}) uid) k)
+
+emptied_outline : (s : State) (c uid : ℕ) → outline_of (emptied s c uid)
+    ≡ at_stage (with_entry (outline_of s) (place_of s.store.ast.entries uid) None) c Look
+unfolding outline_of
+emptied_outline s c uid =
+    same_outline s (segs_gone s (cut_of_owner s.owner)) (Some (looking c)) (segs_store s (cut_of_owner s.owner))
+    (segs_processors s (cut_of_owner s.owner)) (segs_ready s (cut_of_owner s.owner))
+    (segs_plan s (cut_of_owner s.owner))
+    (segs_runs s (cut_of_owner s.owner)) uid
+
+pub deactivate_outlined : (s : State) (o : Owner) (uid : ℕ) (w : What) → s.owner ≡ Some o
+    → o.phase ≡ phase.Waiting (aim.Deactivating uid) w → o.frames ≡ [] → dues (outline_of s).runners ≡ 0
+    → JobStep (outline_of s) o.cpu (outline_of (emptied s o.cpu uid))
+deactivate_outlined s o uid w owner h frames due =
+    job_to (outline_of s) (with_runners (at_stage (with_entry (outline_of s) (place_of s.store.ast.entries uid) None)
+    o.cpu Look)
+    (outline_of s).runners) (outline_of (emptied s o.cpu uid)) o.cpu (sym (emptied_outline s o.cpu uid))
+    (empties (place_of s.store.ast.entries uid) (outline_of s).runners
+    (in_stage s o (phase.Waiting (aim.Deactivating uid) w) owner h
+    ∙ ap (λ (xs : List ℕ). Some (record {
+      cpu = o.cpu;
+      stage =
+          Waiting (EmptyPlace (place_of s.store.ast.entries uid) xs);
+    })) frames)
+    due (alike_self (outline_of s).runners o.cpu) due)
+
+-- where nothing had to be taken
+pub deactivate_at_once_outlined : (s : State) (o : Owner) (uid : ℕ) → s.owner ≡ Some o → o.phase ≡ phase.Looking
+    → CanEmpty (outline_of s) o.cpu (place_of s.store.ast.entries uid)
+    → JobStep (outline_of s) o.cpu (outline_of (emptied s o.cpu uid))
+deactivate_at_once_outlined s o uid owner looks can =
+    job_to (outline_of s) (with_entry (outline_of s) (place_of s.store.ast.entries uid) None)
+    (outline_of (emptied s o.cpu uid)) o.cpu
+    (ap (λ (k : Option Keeper). record (with_entry (outline_of s) (place_of s.store.ast.entries uid) None)
+    { owner = k })
+    (in_look s o owner looks) ∙ sym (emptied_outline s o.cpu uid))
+    (empties_at_once (place_of s.store.ast.entries uid) can)
+
+-- ---- the supervisor is given up
+
+gave_up_outline : (s : State) → outline_of (with_owner s None) ≡ without_owner (outline_of s)
+unfolding outline_of
+gave_up_outline s = refl
+
+pub give_up_outlined : (s : State) (o : Owner) (chain : List ℕ) (uid page : ℕ) (makes : Bool) → s.owner ≡ Some o
+    → o.phase ≡ phase.Looking → want_at (outline_of s) o.cpu ≡ Refer chain uid page makes
+    → lack (outline_of s) (runner_at (outline_of s).runners o.cpu) ≡ 0
+    → JobStep (outline_of s) o.cpu (outline_of (with_owner s None))
+give_up_outlined s o chain uid page makes owner looks want fits =
+    job_to (outline_of s) (without_owner (outline_of s)) (outline_of (with_owner s None)) o.cpu
+    (sym (gave_up_outline s))
+    (gives_up chain uid page makes (in_look s o owner looks) want fits)
+
+-- ---- a transfer begins
+
+abbrev reading_processor : Processor → Transfer → Processor
+reading_processor p t = record p { cpu = record p.cpu { transfer = Some t } }
+
+reading_runner : (a : Around) (p : Processor) (t : Transfer)
+    → runner_of a (reading_processor p t) ≡ record (runner_of a p) { reading = Some t }
+reading_runner a p t = by p.cpu.process
+  where
+    by : (o : Option ℕ) → runner_by a (reading_processor p t) o ≡ record (runner_by a p o) { reading = Some t }
+    by None = refl
+    by (Some k) = refl
+
+started_outline : (s : State) (c f uid page : ℕ)
+    → without_owner (now_reading (outline_of s) c f uid page) ≡ outline_of (started s c f uid page)
+unfolding outline_of
+started_outline s c f uid page =
+    sym (ap (λ (fs : List Frame). record (without_owner (outline_of s)) {
+      runners = map (runner_of (around s)) (set s.processors c
+          (reading_processor (processor_at s.processors c) (record { frame = f; uid = uid; page = page })));
+      frames = fs;
+    }) (set_map bare s.store.pages.core.frames f (frame.Started uid page))
+    ∙ ap (λ (rs : List Runner). record (without_owner (with_frame (outline_of s) f (frame.Started uid page)))
+    { runners = rs })
+    (set_map (runner_of (around s)) s.processors c
+    (reading_processor (processor_at s.processors c) (record { frame = f; uid = uid; page = page })))
+    ∙ ap (λ (x : Runner). without_owner (with_runner (with_frame (outline_of s) f (frame.Started uid page)) c x))
+    (reading_runner (around s) (processor_at s.processors c) (record { frame = f; uid = uid; page = page })
+    ∙ ap (λ (x : Runner). record x { reading = Some (record { frame = f; uid = uid; page = page }) })
+    (sym (at_outline s c))))
+
+pub start_outlined : (s : State) (c f uid page : ℕ) → CanStart (outline_of s) c f uid page
+    → JobStep (outline_of s) c (outline_of (started s c f uid page))
+start_outlined s c f uid page can =
+    job_to (outline_of s) (without_owner (now_reading (outline_of s) c f uid page))
+    (outline_of (started s c f uid page)) c
+    (started_outline s c f uid page) (starts f uid page can)
