@@ -30,12 +30,14 @@ pub mod LateWord
 pub mod LeaveSeen
 pub mod ListLaws
 pub mod MoveSeen
+pub mod LeftLaws
 pub mod LoopLaws
 pub mod OneProcess
 pub mod OuterLaws
 pub mod OwnedLaws
 pub mod Places
 pub mod OutlineAlone
+pub mod OutlineAnswer
 pub mod OutlineEnd
 pub mod OutlineJob
 pub mod OutlineReads

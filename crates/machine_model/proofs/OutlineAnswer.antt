@@ -1,0 +1,258 @@
+-- In the outline of the machine, what answers a command is a step that leaves less to come.
+use Rattle.std.proofs.Common.{◌≡◌, ◌≢◌, ◌≤◌, ◌<◌, ℕ, zero, suc, ◌+◌, ◌-◌, Bool, true, false, not, cond, ◌&&◌, List, [], ◌∷◌, ◌++◌, length, map, slice_get, Option, Some, None, is_some, set, get_or, refl, sym, ap, subst, ◌∙◌, inl, inr, ◌⊎◌, append-nil, arith}
+use Rattle.std.proofs.lemmas.List.{get_or-set_same, get_or-set_other, length-set}
+use Rattle.script.specs.Forms.{weight}
+use Rattle.script.specs.Plans.{Plan, command_at, commands_of}
+use Rattle.script.specs.declared.commands.Command.{Command}
+use Rattle.script.specs.declared.commands.Command.TheVariants as command
+use Rattle.script.specs.declared.commands.Reference.{Reference}
+use Rattle.book.specs.declared.entries.Entry.{Entry}
+use Rattle.book.specs.declared.replies.Reply.{Reply}
+use Rattle.book.specs.declared.replies.Reply.TheVariants as reply
+use Rattle.core_map.specs.declared.Frame.{Frame}
+use Rattle.core_map.specs.declared.Frame.TheVariants as frame
+use Rattle.processor.specs.declared.Transfer.{Transfer}
+use Rattle.machine_model.specs.State.{State, Storage, Processor, Run, Owner, CutDescriptor}
+use Rattle.machine_model.specs.Reads.{or_zero, no_processor, next_command, processor_at, cpu_at, process_at, run_at, frames_of_owner, cut_of_owner}
+use Rattle.machine_model.specs.Steps.{answered, booked, with_store, with_pages, pages_after, fault_told, left_at, page_created, page_made, run_after, told, went_through, with_owner}
+use Rattle.machine_model.specs.Jobs.{page_back, pages_back, seg_back, segs_back, write_failed}
+use Rattle.machine_model.specs.Commits.{committed, gone_entries, left_after, with_effect}
+use Rattle.machine_model.specs.Outline.{Runner, no_runner, Stage, Outline, Turn, Moved, runner_at}
+use Rattle.machine_model.specs.Measures.{dues}
+use Rattle.machine_model.specs.Finishing.{Commands, rule_of, IsIn, IsAnswered, IsReplied, JobStep, answers, Step, replies}
+use Rattle.machine_model.specs.Outlined.{Around, around, runner_by, runner_of, left_in, left_of, keeper_of, outline_of}
+use Rattle.machine_model.proofs.LeftLaws.{GoesOn, answer_falls, left_falls, no_process}
+use Rattle.page_control.specs.Plain.{Plain}
+use Rattle.machine_model.proofs.StepLaws.{no_both}
+use Rattle.machine_model.proofs.OutlineReads.{at_outline, seen_running, seen_since}
+
+-- what an answer asks: the processor is there, and has a process that goes on
+pub record CanTell (s : State) (c k : ℕ) (command : Command) : Type 0 where
+  pub within : c < length s.processors
+  pub process : (cpu_at s.processors c).process ≡ Some k
+  pub there : k < length s.runs
+  pub planned : k < length s.plan.processes
+  pub on : GoesOn (commands_of s.plan k) (run_at s.runs k) command
+
+-- what is to come, of a machine
+abbrev left_is : State → ℕ
+left_is s = left_in s.plan.processes s.runs
+
+told_left : (u : State) (c k : ℕ) (f : Option ℕ) (r : Reply) (command : Command) → CanTell u c k command
+    → left_is (told u c f r) < left_is u
+told_left u c k f r command can =
+    subst (λ (j : ℕ). left_in u.plan.processes (set u.runs j (run_after (run_at u.runs j) (next_command u j) r)) < left_is u)
+    (sym (ap or_zero can.process))
+    (left_falls u.plan.processes u.runs k (run_after (run_at u.runs k) (next_command u k) r) can.planned can.there
+    (subst (λ (o : Option Command). left_of (commands_of u.plan k) (run_after (run_at u.runs k) o r)
+    < left_of (commands_of u.plan k) (run_at u.runs k)) (sym can.on.next)
+    (answer_falls (commands_of u.plan k) (run_at u.runs k) command r can.on)))
+
+outline_left : (s : State) → (outline_of s).left ≡ left_is s
+unfolding outline_of
+outline_left s = refl
+
+-- the count of a processor that answered
+told_count : (u : State) (c : ℕ) (f : Option ℕ) (r : Reply) → c < length u.processors
+    → (processor_at (told u c f r).processors c).count ≡ (processor_at u.processors c).count + 1
+told_count u c f r lt = ap (λ (p : Processor). p.count) (get_or-set_same u.processors c _ no_processor lt)
+
+since_at : (s : State) (c : ℕ) → (runner_at (outline_of s).runners c).since ≡ (processor_at s.processors c).count
+since_at s c = ap (λ (x : Runner). x.since) (at_outline s c) ∙ seen_since (around s) (processor_at s.processors c)
+
+running_at : (s : State) (c : ℕ) → (runner_at (outline_of s).runners c).running ≡ is_some (cpu_at s.processors c).process
+running_at s c = ap (λ (x : Runner). x.running) (at_outline s c) ∙ seen_running (around s) (processor_at s.processors c)
+
+no_owner : (t : State) → t.owner ≡ None → (outline_of t).owner ≡ None
+unfolding outline_of
+no_owner t none = ap (λ (o : Option Owner). keeper_of t.store.ast.entries o) none
+
+-- a machine in which nothing was answered since another, of these processors' counts
+pub record SameTale (s u : State) (c : ℕ) : Type 0 where
+  pub plan : u.plan ≡ s.plan
+  pub runs : u.runs ≡ s.runs
+  pub processors : u.processors ≡ s.processors
+
+tale_left : (s u : State) (c : ℕ) → SameTale s u c → left_is u ≡ left_is s
+tale_left s u c same = λ i. left_in (same.plan i).processes (same.runs i)
+
+-- the answer that ends a job
+pub ends_job : (s u t : State) (c k : ℕ) (f : Option ℕ) (r : Reply) (command : Command) → SameTale s u c
+    → CanTell u c k command → t.owner ≡ None → t.plan ≡ (told u c f r).plan → t.runs ≡ (told u c f r).runs
+    → (is_some (cpu_at t.processors c).process ≡ true
+    → (processor_at t.processors c).count ≡ (processor_at (told u c f r).processors c).count)
+    → IsAnswered (outline_of s) c (outline_of t)
+ends_job s u t c k f r command same can owner plan runs count = record {
+  owner = no_owner t owner;
+  fewer = let less = told_left u c k f r command can in
+      let a : left_is t ≡ left_is (told u c f r) = λ i. left_in (plan i).processes (runs i) in
+      let b = tale_left s u c same in
+      let x = outline_left s in
+      let y = outline_left t in
+      omega (arith, less, a, b, x, y);
+  over = λ h. (
+      since_at t c ∙ count (sym (running_at t c) ∙ h) ∙ told_count u c f r can.within
+      ∙ ap (λ (ps : List Processor). (processor_at ps c).count + 1) same.processors
+      ∙ sym (ap (λ (n : ℕ). n + 1) (since_at s c))
+  );
+}
+
+-- ---- replies of a look
+
+pub answer_outlined : (s : State) (c k : ℕ) (stage : Stage) (r : Reply) (command : Command) → IsIn (outline_of s) c stage
+    → dues (outline_of s).runners ≡ 0 → CanTell s c k command
+    → JobStep (outline_of s) c (outline_of (answered s c r))
+answer_outlined s c k stage r command owner due can =
+    answers stage (outline_of (answered s c r)) owner due
+    (ends_job s s (answered s c r) c k None r command (record { plan = refl; runs = refl; processors = refl }) can refl refl
+    refl (λ h. refl))
+
+pub create_outlined : (s : State) (c k : ℕ) (stage : Stage) (f uid p : ℕ) (r : Reference) (command : Command)
+    → IsIn (outline_of s) c stage → dues (outline_of s).runners ≡ 0 → CanTell s c k command
+    → JobStep (outline_of s) c (outline_of (page_created s c f uid p r))
+create_outlined s c k stage f uid p r command owner due can =
+    answers stage (outline_of (page_created s c f uid p r)) owner due
+    (ends_job s (page_made s f uid p r) (page_created s c f uid p r) c k None _ command
+    (record { plan = refl; runs = refl; processors = refl })
+    (record { within = can.within; process = can.process; there = can.there; planned = can.planned; on = can.on }) refl refl
+    refl (λ h. refl))
+
+-- ---- a write failed
+
+pages_tale : (s : State) (fs : List ℕ) (c : ℕ) → SameTale s (pages_back s fs) c
+pages_tale s [] c = record { plan = refl; runs = refl; processors = refl }
+pages_tale s (f ∷ fs) c = let rest = pages_tale (page_back s f) fs c in record {
+  plan = rest.plan;
+  runs = rest.runs;
+  processors = rest.processors;
+}
+
+segs_tale : (s : State) (ds : List CutDescriptor) (c : ℕ) → SameTale s (segs_back s ds) c
+segs_tale s [] c = record { plan = refl; runs = refl; processors = refl }
+segs_tale s (d ∷ ds) c = let rest = segs_tale (seg_back s d) ds c in record {
+  plan = rest.plan;
+  runs = rest.runs;
+  processors = rest.processors;
+}
+
+-- the machine once all that was still going is back
+abbrev all_back : State → ℕ → ℕ → State
+all_back s c faults =
+    segs_back (pages_back (fault_told s (Some (process_at s c)) faults) (frames_of_owner s.owner)) (cut_of_owner s.owner)
+
+back_tale : (s : State) (c n : ℕ) → SameTale s (all_back s c n) c
+back_tale s c n =
+    let one = pages_tale (fault_told s (Some (process_at s c)) n) (frames_of_owner s.owner) c in
+    let two = segs_tale (pages_back (fault_told s (Some (process_at s c)) n) (frames_of_owner s.owner)) (cut_of_owner s.owner) c in
+    record { plan = two.plan ∙ one.plan; runs = two.runs ∙ one.runs; processors = two.processors ∙ one.processors }
+
+can_tell_on : (s u : State) (c k : ℕ) (command : Command) → SameTale s u c → CanTell s c k command → CanTell u c k command
+can_tell_on s u c k command same can = record {
+  within = subst (λ (ps : List Processor). c < length ps) (sym same.processors) can.within;
+  process = ap (λ (ps : List Processor). (cpu_at ps c).process) same.processors ∙ can.process;
+  there = subst (λ (rs : List Run). k < length rs) (sym same.runs) can.there;
+  planned = subst (λ (p : Plan). k < length p.processes) (sym same.plan) can.planned;
+  on = record {
+    going = ap (λ (rs : List Run). (run_at rs k).ended) same.runs ∙ can.on.going;
+    next = (λ i. slice_get (commands_of (same.plan i) k) (run_at (same.runs i) k).place) ∙ can.on.next;
+    tries = subst (λ (rs : List Run). (run_at rs k).tries < weight command) (sym same.runs) can.on.tries;
+  };
+}
+
+pub failed_outlined : (s : State) (c k n : ℕ) (stage : Stage) (command : Command) → IsIn (outline_of s) c stage
+    → dues (outline_of s).runners ≡ 0 → CanTell s c k command
+    → JobStep (outline_of s) c (outline_of (write_failed s c n))
+failed_outlined s c k n stage command owner due can =
+    answers stage (outline_of (write_failed s c n)) owner due
+    (ends_job s (all_back s c n) (write_failed s c n) c k None reply.Device command (back_tale s c n)
+    (can_tell_on s (all_back s c n) c k command (back_tale s c n) can) refl refl refl (λ h. refl))
+
+-- ---- a tree command takes effect
+
+-- after an end the processor has no process
+left_cases : (s : State) (c : ℕ) (x : Command) → (left_after s c x ≡ s) ⊎ (left_after s c x ≡ left_at s c)
+left_cases s c (command.MkDir path volume) = inl refl
+left_cases s c (command.MkSeg path pages volume) = inl refl
+left_cases s c (command.Initiate path) = inl refl
+left_cases s c (command.Terminate n) = inl refl
+left_cases s c (command.Read n offset) = inl refl
+left_cases s c (command.Write n offset word) = inl refl
+left_cases s c (command.Add n offset word) = inl refl
+left_cases s c (command.Await n offset word tries) = inl refl
+left_cases s c (command.Acl path row m) = inl refl
+left_cases s c (command.Length path pages) = inl refl
+left_cases s c (command.Truncate path words) = inl refl
+left_cases s c (command.Delete path) = inl refl
+left_cases s c (command.Move path amount) = inl refl
+left_cases s c (command.Status path) = inl refl
+left_cases s c command.End = inr refl
+
+-- a processor that left has no process
+left_none : (s : State) (c : ℕ) → c < length s.processors → is_some (cpu_at (left_at s c).processors c).process ≡ false
+left_none s c lt = ap (λ (p : Processor). is_some p.cpu.process) (get_or-set_same s.processors c _ no_processor lt)
+
+effect_tale : (s : State) (st : Storage) (es : List Entry) (c : ℕ) → SameTale s (booked (with_store s st) es) c
+effect_tale s st es c = record { plan = refl; runs = refl; processors = refl }
+
+left_ends : (s u : State) (c k : ℕ) (r : Reply) (x : Command) → SameTale s u c → CanTell u c k x
+    → IsAnswered (outline_of s) c (outline_of (with_owner (left_after (told u c None r) c x) None))
+left_ends s u c k r x same can = by (left_cases (told u c None r) c x)
+  where
+    long : c < length (told u c None r).processors
+    long = subst (λ (n : ℕ). c < n) (sym (length-set u.processors c _)) can.within
+    by : (left_after (told u c None r) c x ≡ told u c None r) ⊎ (left_after (told u c None r) c x ≡ left_at (told u c None r) c)
+        → IsAnswered (outline_of s) c (outline_of (with_owner (left_after (told u c None r) c x) None))
+    by (inl e) = subst (λ (y : State). IsAnswered (outline_of s) c (outline_of (with_owner y None))) (sym e)
+        (ends_job s u (with_owner (told u c None r) None) c k None r x same can refl refl refl (λ h. refl))
+    by (inr e) = subst (λ (y : State). IsAnswered (outline_of s) c (outline_of (with_owner y None))) (sym e)
+        (ends_job s u (with_owner (left_at (told u c None r) c) None) c k None r x same can refl refl refl
+        (λ h. absurd (no_both h (left_none (told u c None r) c long))))
+
+pub commit_outlined : (s : State) (c k : ℕ) (stage : Stage) (x : Command) → IsIn (outline_of s) c stage
+    → dues (outline_of s).runners ≡ 0 → CanTell s c k x
+    → JobStep (outline_of s) c (outline_of (committed s c k x))
+commit_outlined s c k stage x owner due can =
+    answers stage (outline_of (committed s c k x)) owner due
+    (left_ends s _ c k _ x (record { plan = refl; runs = refl; processors = refl })
+    (record { within = can.within; process = can.process; there = can.there; planned = can.planned; on = can.on }))
+
+-- ---- replies without the supervisor
+
+replied_is : (s u : State) (c k : ℕ) (f : Option ℕ) (r : Reply) (x : Command) → SameTale s u c → CanTell u c k x
+    → (outline_of u).owner ≡ (outline_of s).owner → (outline_of (told u c f r)).owner ≡ (outline_of u).owner
+    → IsReplied (outline_of s) c (outline_of (told u c f r))
+replied_is s u c k f r x same can before owner = record {
+  owner = owner ∙ before;
+  fewer = let less = told_left u c k f r x can in
+      let b = tale_left s u c same in
+      let y = outline_left s in
+      let z = outline_left (told u c f r) in
+      omega (arith, less, b, y, z);
+  since = since_at (told u c f r) c ∙ told_count u c f r can.within
+      ∙ ap (λ (ps : List Processor). (processor_at ps c).count + 1) same.processors
+      ∙ sym (ap (λ (n : ℕ). n + 1) (since_at s c));
+}
+
+told_owner : (u : State) (c : ℕ) (f : Option ℕ) (r : Reply) → (outline_of (told u c f r)).owner ≡ (outline_of u).owner
+unfolding outline_of
+told_owner u c f r = refl
+
+through_owner : (s : State) (pages : Plain) → (outline_of (with_store s (with_pages s.store pages))).owner ≡ (outline_of s).owner
+unfolding outline_of
+through_owner s pages = refl
+
+pub plain_outlined : (s : State) (c k : ℕ) (r : Reply) (x : Command) → rule_of (outline_of s) c ≡ Commands
+    → CanTell s c k x → Step (outline_of s) c Moved (outline_of (told s c None r))
+plain_outlined s c k r x h can =
+    replies (outline_of (told s c None r)) h
+    (replied_is s s c k None r x (record { plan = refl; runs = refl; processors = refl }) can refl (told_owner s c None r))
+
+pub through_outlined : (s : State) (c k f : ℕ) (r : Reference) (x : Command) → rule_of (outline_of s) c ≡ Commands
+    → CanTell s c k x → Step (outline_of s) c Moved (outline_of (went_through s c f r))
+through_outlined s c k f r x h can =
+    replies (outline_of (went_through s c f r)) h
+    (replied_is s (with_store s (with_pages s.store (pages_after s.store.pages f r))) c k (Some f) _ x
+    (record { plan = refl; runs = refl; processors = refl })
+    (record { within = can.within; process = can.process; there = can.there; planned = can.planned; on = can.on })
+    (through_owner s (pages_after s.store.pages f r))
+    (told_owner (with_store s (with_pages s.store (pages_after s.store.pages f r))) c (Some f) _))
