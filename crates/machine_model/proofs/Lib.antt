@@ -40,6 +40,7 @@ pub mod OutlineAlone
 pub mod OutlineAnswer
 pub mod OutlineEnd
 pub mod OutlineJob
+pub mod OutlineLoss
 pub mod OutlineReads
 pub mod OutlineTake
 pub mod RankLaws

@@ -35,10 +35,10 @@ pub record CanTell (s : State) (c k : ℕ) (command : Command) : Type 0 where
   pub on : GoesOn (commands_of s.plan k) (run_at s.runs k) command
 
 -- what is to come, of a machine
-abbrev left_is : State → ℕ
+abbrev pub left_is : State → ℕ
 left_is s = left_in s.plan.processes s.runs
 
-told_left : (u : State) (c k : ℕ) (f : Option ℕ) (r : Reply) (command : Command) → CanTell u c k command
+pub told_left : (u : State) (c k : ℕ) (f : Option ℕ) (r : Reply) (command : Command) → CanTell u c k command
     → left_is (told u c f r) < left_is u
 told_left u c k f r command can =
     subst (λ (j : ℕ). left_in u.plan.processes (set u.runs j (run_after (run_at u.runs j) (next_command u j) r)) < left_is u)
@@ -48,7 +48,7 @@ told_left u c k f r command can =
     < left_of (commands_of u.plan k) (run_at u.runs k)) (sym can.on.next)
     (answer_falls (commands_of u.plan k) (run_at u.runs k) command r can.on)))
 
-outline_left : (s : State) → (outline_of s).left ≡ left_is s
+pub outline_left : (s : State) → (outline_of s).left ≡ left_is s
 unfolding outline_of
 outline_left s = refl
 

@@ -73,7 +73,7 @@ map_like f g [] d same = refl
 map_like {B = B} f g (x ∷ xs) d same =
     ap (λ (y : B). y ∷ map g xs) (same zero) ∙ ap (λ (ys : List B). f x ∷ ys) (map_like f g xs d (λ i. same (suc i)))
 
-map_change : {A B : Type 0} (f g : A → B) (xs : List A) (c : ℕ) (y : B) (d : A) → c < length xs → g (get_or xs c d) ≡ y
+pub map_change : {A B : Type 0} (f g : A → B) (xs : List A) (c : ℕ) (y : B) (d : A) → c < length xs → g (get_or xs c d) ≡ y
     → ((i : ℕ) → i ≢ c → g (get_or xs i d) ≡ f (get_or xs i d)) → map g xs ≡ set (map f xs) c y
 map_change f g [] c y d lt here other = absurd (omega arith)
 map_change {B = B} f g (x ∷ xs) zero y d lt here other =
