@@ -32,6 +32,7 @@ pub mod ListLaws
 pub mod MoveSeen
 pub mod LeftLaws
 pub mod LoopLaws
+pub mod OffChain
 pub mod OneProcess
 pub mod OuterLaws
 pub mod OwnedLaws
