@@ -44,6 +44,7 @@ pub mod OutlineJob
 pub mod OutlineLoss
 pub mod OutlineReads
 pub mod OutlineTake
+pub mod OutlineWaits
 pub mod RankLaws
 pub mod ReadLaws
 pub mod Replies

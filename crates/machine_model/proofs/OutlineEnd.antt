@@ -69,7 +69,7 @@ gone_outline s f k = λ i. record {
   left = (outline_of s).left;
 }
 
-in_stage : (s : State) (o : Owner) (ph : Phase) → s.owner ≡ Some o → o.phase ≡ ph
+pub in_stage : (s : State) (o : Owner) (ph : Phase) → s.owner ≡ Some o → o.phase ≡ ph
     → IsIn (outline_of s) o.cpu (stage_of s.store.ast.entries o.frames ph)
 in_stage s o ph owner h =
     in_job s o owner ∙ ap (λ (x : Phase). Some (record

@@ -1,0 +1,84 @@
+-- In the outline of the machine, what the owner waits for is there; and where the machine has ended, so has its outline.
+use Rattle.std.proofs.Common.{◌≡◌, ℕ, zero, suc, Bool, true, false, not, cond, ◌&&◌, ◌||◌, List, [], ◌∷◌, length, map, position, Option, Some, None, is_some, get_or, refl, sym, ap, ◌∙◌, arith}
+use Rattle.std.specs.List.{list_any}
+use Rattle.core_map.specs.declared.Frame.{Frame}
+use Rattle.core_map.specs.declared.Frame.TheVariants as frame
+use Rattle.assoc_mem.specs.declared.What.{What}
+use Rattle.machine_model.specs.declared.Aim.{Aim}
+use Rattle.machine_model.specs.declared.Phase.TheVariants as phase
+use Rattle.machine_model.specs.State.{State, Processor, Owner}
+use Rattle.machine_model.specs.Reads.{no_processor, is_due, processor_at, cpu_at}
+use Rattle.machine_model.specs.Actions.{ForClear, ForTransfer, has_process, is_empty, is_over}
+use Rattle.machine_model.specs.Outline.{Runner, Look, Waiting, Outline, Turn, Ended, WaitsFor, runner_at, frame_in}
+use Rattle.machine_model.specs.Finishing.{Works, rule_of, IsEnded, Step, ends, awaits_clear, awaits_transfer}
+use Rattle.machine_model.specs.Outlined.{around, bare, work_of, outline_of}
+use Rattle.machine_model.proofs.OutlineReads.{at_outline, map_at, seen_online, seen_running, seen_due}
+use Rattle.machine_model.proofs.OutlineJob.{in_look}
+use Rattle.machine_model.proofs.OutlineEnd.{in_stage}
+
+both : (a b : Bool) → (a && b) ≡ true → (a ≡ true) × (b ≡ true)
+both true true h = (refl, refl)
+both true false h = let no : false ≡ true = h in absurd cc
+both false b h = let no : false ≡ true = h in absurd cc
+
+-- the owner waits for a clear
+pub awaits_clear_outlined : (s : State) (o : Owner) (a : Aim) (w : What) (d : ℕ) → rule_of (outline_of s) o.cpu ≡ Works
+    → s.owner ≡ Some o → o.phase ≡ phase.Waiting a w → is_due (processor_at s.processors d) ≡ true
+    → Step (outline_of s) o.cpu (WaitsFor (ForClear d)) (outline_of s)
+awaits_clear_outlined s o a w d h owner waits due =
+    let facts = both (cpu_at s.processors d).online (is_some (cpu_at s.processors d).due) due in
+    awaits_clear (work_of s.store.ast.entries o.frames a) d h (in_stage s o (phase.Waiting a w) owner waits)
+    (ap (λ (x : Runner). x.online) (at_outline s d) ∙ seen_online (around s) (processor_at s.processors d) ∙ facts.0)
+    (ap (λ (x : Runner). x.due) (at_outline s d) ∙ seen_due (around s) (processor_at s.processors d) ∙ facts.1)
+
+-- a frame that a page is being read into
+started_at : (s : State) (f uid page : ℕ) → get_or s.store.pages.core.frames f frame.Free ≡ frame.Started uid page
+    → frame_in (outline_of s).frames f ≡ frame.Started uid page
+unfolding outline_of
+started_at s f uid page h = map_at bare s.store.pages.core.frames f frame.Free ∙ ap bare h
+
+-- the owner waits for a transfer
+pub awaits_transfer_outlined : (s : State) (o : Owner) (f uid page : ℕ) → rule_of (outline_of s) o.cpu ≡ Works
+    → s.owner ≡ Some o → o.phase ≡ phase.Looking
+    → get_or s.store.pages.core.frames f frame.Free ≡ frame.Started uid page
+    → Step (outline_of s) o.cpu (WaitsFor (ForTransfer f)) (outline_of s)
+awaits_transfer_outlined s o f uid page h owner looks started =
+    awaits_transfer f uid page h (in_look s o owner looks) (started_at s f uid page started)
+
+-- ---- the end
+
+none_has : (ps : List Processor) (d : ℕ) → list_any has_process ps ≡ false → is_some (cpu_at ps d).process ≡ false
+none_has [] d h = refl
+none_has (p ∷ ps) zero h = first (has_process p) (list_any has_process ps) h
+  where
+    first : (a b : Bool) → (a || b) ≡ false → a ≡ false
+    first true b e = e
+    first false b e = refl
+none_has (p ∷ ps) (suc d) h = none_has ps d (rest (has_process p) (list_any has_process ps) h)
+  where
+    rest : (a b : Bool) → (a || b) ≡ false → b ≡ false
+    rest true b e = let no : true ≡ false = e in absurd cc
+    rest false b e = e
+
+no_length : (xs : List ℕ) → is_empty xs ≡ true → length xs ≡ 0
+no_length [] h = refl
+no_length (x ∷ xs) h = let no : false ≡ true = h in absurd cc
+
+not_true : (b : Bool) → not b ≡ true → b ≡ false
+not_true true h = let no : false ≡ true = h in absurd cc
+not_true false h = refl
+
+ended_is : (s : State) → is_over s ≡ true → IsEnded (outline_of s)
+unfolding outline_of
+ended_is s over =
+    let facts = both (is_empty s.ready) (not (list_any has_process s.processors)) over in
+    record {
+      ready = no_length s.ready facts.0;
+      running = λ d. (
+          ap (λ (x : Runner). x.running) (at_outline s d) ∙ seen_running (around s) (processor_at s.processors d)
+          ∙ none_has s.processors d (not_true (list_any has_process s.processors) facts.1)
+      );
+    }
+
+pub end_outlined : (s : State) (c : ℕ) → is_over s ≡ true → Step (outline_of s) c Ended (outline_of s)
+end_outlined s c over = ends (ended_is s over)
