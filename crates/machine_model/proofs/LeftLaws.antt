@@ -11,12 +11,7 @@ use Rattle.machine_model.specs.State.{Run}
 use Rattle.machine_model.specs.Reads.{run_at, no_run}
 use Rattle.machine_model.specs.Steps.{goes_on, is_its_end, run_after}
 use Rattle.machine_model.specs.Outlined.{left_in, left_of}
-
--- a process that goes on comes to a command next, and has tried it less often than it may
-pub record GoesOn (commands : List Command) (run : Run) (c : Command) : Type 0 where
-  pub going : run.ended ≡ false
-  pub next : slice_get commands run.place ≡ Some c
-  pub tries : run.tries < weight c
+use Rattle.machine_model.specs.Foreseen.{GoesOn}
 
 -- what is to come begins with the next command
 rest_of : (commands : List Command) (place : ℕ) (c : Command) → slice_get commands place ≡ Some c

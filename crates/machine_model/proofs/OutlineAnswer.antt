@@ -21,18 +21,11 @@ use Rattle.machine_model.specs.Outline.{Runner, no_runner, Stage, Outline, Turn,
 use Rattle.machine_model.specs.Measures.{dues}
 use Rattle.machine_model.specs.Finishing.{Commands, rule_of, IsIn, IsAnswered, IsReplied, JobStep, answers, Step, replies}
 use Rattle.machine_model.specs.Outlined.{Around, around, runner_by, runner_of, left_in, left_of, keeper_of, outline_of}
-use Rattle.machine_model.proofs.LeftLaws.{GoesOn, answer_falls, left_falls, no_process}
+use Rattle.machine_model.specs.Foreseen.{GoesOn, CanTell}
+use Rattle.machine_model.proofs.LeftLaws.{answer_falls, left_falls, no_process}
 use Rattle.page_control.specs.Plain.{Plain}
 use Rattle.machine_model.proofs.StepLaws.{no_both}
 use Rattle.machine_model.proofs.OutlineReads.{at_outline, seen_running, seen_since}
-
--- what an answer asks: the processor is there, and has a process that goes on
-pub record CanTell (s : State) (c k : ℕ) (command : Command) : Type 0 where
-  pub within : c < length s.processors
-  pub process : (cpu_at s.processors c).process ≡ Some k
-  pub there : k < length s.runs
-  pub planned : k < length s.plan.processes
-  pub on : GoesOn (commands_of s.plan k) (run_at s.runs k) command
 
 -- what is to come, of a machine
 abbrev pub left_is : State → ℕ

@@ -28,6 +28,7 @@ use Rattle.machine_model.specs.Finishing.{starts, CanEmpty, CanStart, MayRelease
 use Rattle.machine_model.specs.Finishing.{without_owner, now_reading}
 use Rattle.machine_model.specs.Outlined.{Around, around, bare, runner_by, runner_of, first_frame, stage_of, keeper_of}
 use Rattle.machine_model.specs.Outlined.{outline_of}
+use Rattle.machine_model.specs.Foreseen.{stored_then}
 use Rattle.machine_model.proofs.JobLaws.{alike_self}
 use Rattle.machine_model.proofs.OutlineReads.{at_outline, set_map}
 use Rattle.machine_model.proofs.OutlineJob.{job_to, in_job, in_look}
@@ -42,10 +43,6 @@ left_frames st f left.Kept page = refl
 left_nodes : (a : AccountMaps) (uid : ℕ) (how : Left) → (accounts_left a uid how).nodes ≡ a.nodes
 left_nodes a uid left.Released = refl
 left_nodes a uid left.Kept = refl
-
--- which pages are stored once the page of a frame has left it
-abbrev pub stored_then : State → ℕ → ℕ → ℕ → Bool
-stored_then s f = is_filed (page_gone s f).store.accounts (page_gone s f).store.pages.vtocs
 
 -- the outline once a page has left its frame, and the owner is this
 gone_outline : (s : State) (f : ℕ) (k : Option Owner) → outline_of (with_owner (page_gone s f) k)

@@ -20,6 +20,7 @@ use Rattle.machine_model.specs.Outline.{Refer, Runner, Look, Keeper, Outline, ru
 use Rattle.machine_model.specs.Finishing.{IsIn, JobStep, activates, connects, CanActivate, with_link, entry_for}
 use Rattle.machine_model.specs.Outlined.{Around, around, reference_in, is_linked, holds_seg, holds_page, want_of}
 use Rattle.machine_model.specs.Outlined.{runner_by, runner_of, stage_of, keeper_of, outline_of}
+use Rattle.machine_model.specs.Foreseen.{IsPlaced, HasDescriptor}
 use Rattle.machine_model.proofs.OutlineReads.{at_outline}
 
 -- a step of a job to an outline that is the same
@@ -143,16 +144,6 @@ other_runner a links p known same = by p.cpu.process same
             → is_linked (linked_around a links) k r ≡ is_linked a k r
         linked_same None e = refl
         linked_same (Some r) e = ap (λ (ws : List Sdw). is_connected (sdw_at ws r.number)) e
-
--- each process is at one processor at most
-pub record IsPlaced (processors : List Processor) (c k : ℕ) : Type 0 where
-  pub here : (cpu_at processors c).process ≡ Some k
-  pub only : (d : ℕ) → d ≢ c → (cpu_at processors d).process ≢ Some k
-
--- the descriptor that is connected is there
-pub record HasDescriptor (links : Links) (k n : ℕ) : Type 0 where
-  pub process : k < length links.descriptors
-  pub number : n < length (sdws_at links.descriptors k)
 
 now_connected : (s : State) (k n uid : ℕ) → HasDescriptor s.store.links k n
     → is_connected (descriptor_of (with_link_of s.store k n uid).links k n) ≡ true

@@ -18,10 +18,11 @@ use Rattle.machine_model.specs.Steps.{fault_told, frame_lost, goes_on, run_after
 use Rattle.machine_model.specs.Outline.{Runner, no_runner, Outline, Turn, Moved, runner_at, with_runner, with_frame}
 use Rattle.machine_model.specs.Finishing.{Reads, rule_of, HasLost, Step, loses}
 use Rattle.machine_model.specs.Outlined.{Around, around, bare, reference_in, holds_seg, holds_page, is_linked, want_of, runner_by, runner_of, outline_of}
+use Rattle.machine_model.specs.Foreseen.{CanTell, IsPlaced}
 use Rattle.machine_model.proofs.OutlineReads.{at_outline, set_map, seen_online, seen_running, seen_due, seen_reading, seen_since}
 use Rattle.machine_model.proofs.OutlineAlone.{step_to}
-use Rattle.machine_model.proofs.OutlineJob.{IsPlaced, map_change}
-use Rattle.machine_model.proofs.OutlineAnswer.{CanTell, told_left, outline_left, left_is}
+use Rattle.machine_model.proofs.OutlineJob.{map_change}
+use Rattle.machine_model.proofs.OutlineAnswer.{told_left, outline_left, left_is}
 
 set_twice : {A : Type 0} (xs : List A) (i : ℕ) (x y : A) → set (set xs i x) i y ≡ set xs i y
 set_twice [] i x y = refl

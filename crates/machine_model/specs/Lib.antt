@@ -7,6 +7,7 @@ pub mod Commits
 pub mod Custodial
 pub mod Finishing
 pub mod Holding
+pub mod Foreseen
 pub mod Jobs
 pub mod Keeps
 pub mod Looping

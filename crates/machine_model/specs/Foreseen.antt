@@ -1,0 +1,129 @@
+-- What each action of a processor must find, so that its step is one of the outline. That the machine keeps its promise gives
+-- these facts; here they stand as the loop that makes it end asks for them (own).
+use Rattle.std.specs.Prelude.{◌≡◌, ◌≢◌, ◌⊎◌, ℕ, ◌<◌, ◌≤◌, Bool, true, false, length, is_some, slice_get, List, [], ◌∷◌, Option, Some}
+use Rattle.std.specs.Prelude.{None, slice_index_or}
+use Rattle.script.specs.Forms.{weight}
+use Rattle.script.specs.Plans.{commands_of}
+use Rattle.script.specs.declared.commands.Command.{Command}
+use Rattle.script.specs.declared.commands.Reference.{Reference}
+use Rattle.flat_model.specs.Commands.{is_end}
+use Rattle.assoc_mem.specs.Held.{seg_of}
+use Rattle.core_map.specs.declared.Frame.TheVariants as frame
+use Rattle.seg_control.specs.Control.{Links, place_of, sdws_at}
+use Rattle.storage_ops.specs.Shown.{is_filed}
+use Rattle.machine_model.specs.State.{State, Processor, Run, Owner}
+use Rattle.machine_model.specs.Reads.{cpu_at, processor_at, process_at, run_at, frames_from, trailers_in}
+use Rattle.machine_model.specs.Actions as act
+use Rattle.machine_model.specs.Jobs.{page_gone, took, with_hand_moved}
+use Rattle.machine_model.specs.Steps.{with_store}
+use Rattle.machine_model.specs.Outline.{Refer, Runner, Outline, runner_at, want_at}
+use Rattle.machine_model.specs.Measures.{lack}
+use Rattle.machine_model.specs.Finishing.{AreOf, CanActivate, CanEmpty, CanEvict, CanStart, MayRelease}
+use Rattle.machine_model.specs.Outlined.{around, reference_in, holds_page, runner_of, outline_of}
+
+-- a process that goes on comes to a command next, and has tried it less often than it may
+pub record GoesOn (commands : List Command) (run : Run) (c : Command) : Type 0 where
+  pub going : run.ended ≡ false
+  pub next : slice_get commands run.place ≡ Some c
+  pub tries : run.tries < weight c
+
+-- a processor has a process that goes on, and may answer its next command
+pub record CanTell (s : State) (c k : ℕ) (command : Command) : Type 0 where
+  pub within : c < length s.processors
+  pub process : (cpu_at s.processors c).process ≡ Some k
+  pub there : k < length s.runs
+  pub planned : k < length s.plan.processes
+  pub on : GoesOn (commands_of s.plan k) (run_at s.runs k) command
+
+-- a process is at this processor alone
+pub record IsPlaced (processors : List Processor) (c k : ℕ) : Type 0 where
+  pub here : (cpu_at processors c).process ≡ Some k
+  pub only : (d : ℕ) → d ≢ c → (cpu_at processors d).process ≢ Some k
+
+-- a process has a descriptor of that number
+pub record HasDescriptor (links : Links) (k n : ℕ) : Type 0 where
+  pub process : k < length links.descriptors
+  pub number : n < length (sdws_at links.descriptors k)
+
+-- ---- what actions must find
+
+pub record MayAnswer (s : State) (c : ℕ) : Type 0 where
+  pub process : ℕ
+  pub command : Command
+  pub can : CanTell s c process command
+
+-- a transfer that fails is that of a process which is here alone, and which doesn't end
+pub record MayLose (s : State) (c : ℕ) : Type 0 where
+  pub process : ℕ
+  pub command : Command
+  pub can : CanTell s c process command
+  pub placed : IsPlaced s.processors c process
+  pub more : is_end command ≡ false
+
+-- a reference is the next command of the processor's process
+pub record Refers (s : State) (c : ℕ) (r : Reference) : Type 0 where
+  pub process : ℕ
+  pub here : (cpu_at s.processors c).process ≡ Some process
+  pub next : reference_in ((around s).next process) ≡ Some r
+
+pub record MayFillSeg (s : State) (c n : ℕ) : Type 0 where
+  pub reference : Reference
+  pub refers : Refers s c reference
+  pub number : reference.number ≡ n
+  pub new : is_some (seg_of (cpu_at s.processors c).assoc n) ≡ false
+
+pub record MayFillPage (s : State) (c : ℕ) (r : Reference) : Type 0 where
+  pub refers : Refers s c r
+  pub seg : is_some (seg_of (cpu_at s.processors c).assoc r.number) ≡ true
+  pub new : holds_page (cpu_at s.processors c).assoc (Some r) ≡ false
+
+-- the next command is a reference
+pub record WantsPage (s : State) (c : ℕ) : Type 0 where
+  pub chain : List ℕ
+  pub uid : ℕ
+  pub page : ℕ
+  pub makes : Bool
+  pub want : want_at (outline_of s) c ≡ Refer chain uid page makes
+
+abbrev pub lack_of : State → ℕ → ℕ
+lack_of s c = lack (outline_of s) (runner_at (outline_of s).runners c)
+
+-- a reference for which the tables lack something, or no reference
+abbrev pub MayEnter : State → ℕ → Type 0
+MayEnter s c = (WantsPage s c × (lack_of s c ≡ 1))
+    ⊎ ((chain : List ℕ) (uid page : ℕ) (makes : Bool) → want_at (outline_of s) c ≢ Refer chain uid page makes)
+
+pub record MayConnect (s : State) (c n : ℕ) : Type 0 where
+  pub wants : WantsPage s c
+  pub reference : Reference
+  pub number : reference.number ≡ n
+  pub process : ℕ
+  pub placed : IsPlaced s.processors c process
+  pub next : reference_in ((around s).next process) ≡ Some reference
+  pub there : HasDescriptor s.store.links process n
+  pub within : c < length s.processors
+  pub off : (runner_at (outline_of s).runners c).linked ≡ false
+
+-- the descriptor of the next command is connected as before
+abbrev pub KeepsLink : State → State → ℕ → Type 0
+KeepsLink s t c =
+    (runner_of (around t) (processor_at s.processors c)).linked ≡ (runner_of (around s) (processor_at s.processors c)).linked
+
+pub record MayEmpty (s t : State) (c uid : ℕ) : Type 0 where
+  pub can : CanEmpty (outline_of s) c (place_of s.store.ast.entries uid)
+  pub of_it : AreOf (outline_of s) (place_of s.store.ast.entries uid) (frames_from s.store.ast uid 0)
+  pub few : length (frames_from s.store.ast uid 0) ≤ 256
+  pub link : KeepsLink s t c
+
+-- which pages are stored once the page of a frame has left it
+abbrev pub stored_then : State → ℕ → ℕ → ℕ → Bool
+stored_then s f = is_filed (page_gone s f).store.accounts (page_gone s f).store.pages.vtocs
+
+pub record MayLeave (s : State) (c f : ℕ) : Type 0 where
+  pub release : MayRelease (outline_of s) f (stored_then s f)
+  pub tell : MayAnswer s c
+
+pub record IsReading (s : State) (f : ℕ) : Type 0 where
+  pub uid : ℕ
+  pub page : ℕ
+  pub started : slice_index_or s.store.pages.core.frames f frame.Free ≡ frame.Started uid page
