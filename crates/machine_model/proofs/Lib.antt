@@ -43,6 +43,7 @@ pub mod OutlineEnd
 pub mod OutlineJob
 pub mod OutlineLoss
 pub mod OutlineReads
+pub mod OutlineStep
 pub mod OutlineTake
 pub mod OutlineWaits
 pub mod RankLaws

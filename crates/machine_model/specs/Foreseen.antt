@@ -12,10 +12,12 @@ use Rattle.core_map.specs.declared.Frame.TheVariants as frame
 use Rattle.seg_control.specs.Control.{Links, place_of, sdws_at}
 use Rattle.storage_ops.specs.Shown.{is_filed}
 use Rattle.machine_model.specs.State.{State, Processor, Run, Owner}
-use Rattle.machine_model.specs.Reads.{cpu_at, processor_at, process_at, run_at, frames_from, trailers_in}
+use Rattle.machine_model.specs.Reads.{next_command, cpu_at, processor_at, process_at, run_at, frames_from, trailers_in}
 use Rattle.machine_model.specs.Actions as act
-use Rattle.machine_model.specs.Jobs.{page_gone, took, with_hand_moved}
-use Rattle.machine_model.specs.Steps.{with_store}
+use Rattle.machine_model.specs.Jobs.{deactivation_begun, page_gone, took, victim_taken}
+use Rattle.machine_model.specs.OutlineKept.{IsKept}
+use Rattle.machine_model.specs.declared.Aim.TheVariants as aim
+use Rattle.machine_model.specs.declared.Phase.TheVariants as phase
 use Rattle.machine_model.specs.Outline.{Refer, Runner, Outline, runner_at, want_at}
 use Rattle.machine_model.specs.Measures.{lack}
 use Rattle.machine_model.specs.Finishing.{AreOf, CanActivate, CanEmpty, CanEvict, CanStart, MayRelease}
@@ -127,3 +129,36 @@ pub record IsReading (s : State) (f : ℕ) : Type 0 where
   pub uid : ℕ
   pub page : ℕ
   pub started : slice_index_or s.store.pages.core.frames f frame.Free ≡ frame.Started uid page
+
+-- What a look of the owner must find: each of its actions is one of a look.
+abbrev pub IsLook : State → ℕ → act.Action → Type 0
+IsLook s c (act.Waits (act.ForTransfer f)) = IsReading s f
+IsLook s c (act.Answer r) = MayAnswer s c
+IsLook s c act.GiveUp = WantsPage s c × (lack_of s c ≡ 0)
+IsLook s c (act.Activate uid place) = CanActivate (outline_of s) c place uid
+IsLook s c (act.Connect n uid) = MayConnect s c n
+IsLook s c (act.Create f uid p r) = MayAnswer s c
+IsLook s c (act.Start f uid p) = CanStart (outline_of s) c f uid p
+IsLook s c (act.Evict f) = CanEvict (outline_of s) c f
+IsLook s c (act.Empty uid) = MayEmpty s (deactivation_begun s c uid) c uid
+IsLook s c (act.EmptyVictim pool chain uid) = MayEmpty s (victim_taken s c pool chain uid) c uid
+IsLook s c (act.TakeAway fs pairs w) = ((fs ≢ []) ⊎ (pairs ≢ [])) × KeepsLink s (took s c aim.Committing w fs pairs) c
+IsLook s c act.Commit = MayAnswer s c
+IsLook s c _ = ⊥
+
+-- What a step must find of the machine.
+pub record Foresees (s : State) (c : ℕ) : Type 0 where
+  pub kept : IsKept (outline_of s)
+  -- only who takes part is to drop something, and a process that is at a processor goes on
+  pub quiet : (d : ℕ) → (cpu_at s.processors d).online ≡ false → (cpu_at s.processors d).due ≡ None
+  pub answers : is_some (cpu_at s.processors c).process ≡ true → MayAnswer s c
+  pub loses : is_some (cpu_at s.processors c).transfer ≡ true → MayLose s c
+  -- the owner's job: a look takes nothing before its action, and what was taken may leave
+  pub looking : (o : Owner) → s.owner ≡ Some o → o.phase ≡ phase.Looking → o.frames ≡ []
+  pub looks : (o : Owner) → s.owner ≡ Some o → o.phase ≡ phase.Looking → o.cpu ≡ c
+      → IsLook s c (act.look_of s (process_at s c) (next_command s (process_at s c)))
+  pub leaves : (f : ℕ) → MayRelease (outline_of s) f (stored_then s f)
+  -- a processor that takes the supervisor needs it
+  pub enters : s.owner ≡ None
+      → act.come_to s (cpu_at s.processors c) (process_at s c) (next_command s (process_at s c)) ≡ act.TakeSupervisor
+      → MayEnter s c

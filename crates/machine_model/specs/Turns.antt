@@ -5,6 +5,7 @@ use Rattle.site_io.specs.declared.gate.Point.TheVariants as point
 use Rattle.machine_model.specs.State.{State}
 use Rattle.machine_model.specs.Reads.{process_at}
 use Rattle.machine_model.specs.Actions as act
+use Rattle.machine_model.specs.Outline.{Turn, Moved, WaitsFor, Ended}
 
 -- whether something changes
 abbrev pub moves : act.Action → Bool
@@ -20,3 +21,10 @@ point_of s c (act.Load k) = point.Loaded k
 point_of s c (act.Through f r) = point.Answered (process_at s c)
 point_of s c (act.Signal w) = point.Signalled
 point_of s c _ = point.Other
+
+-- how the step ends, while the machine isn't stopped
+abbrev pub turn_of : act.Action → Turn
+turn_of act.IsStopped = Ended
+turn_of act.HasEnded = Ended
+turn_of (act.Waits why) = WaitsFor why
+turn_of _ = Moved
