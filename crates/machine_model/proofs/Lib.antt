@@ -42,6 +42,7 @@ pub mod OutlineAnswer
 pub mod OutlineEnd
 pub mod OutlineJob
 pub mod OutlineLoss
+pub mod OutlineOwner
 pub mod OutlineReads
 pub mod OutlineStep
 pub mod OutlineTake

@@ -53,7 +53,7 @@ told_count u c f r lt = ap (λ (p : Processor). p.count) (get_or-set_same u.proc
 since_at : (s : State) (c : ℕ) → (runner_at (outline_of s).runners c).since ≡ (processor_at s.processors c).count
 since_at s c = ap (λ (x : Runner). x.since) (at_outline s c) ∙ seen_since (around s) (processor_at s.processors c)
 
-running_at : (s : State) (c : ℕ) → (runner_at (outline_of s).runners c).running ≡ is_some (cpu_at s.processors c).process
+pub running_at : (s : State) (c : ℕ) → (runner_at (outline_of s).runners c).running ≡ is_some (cpu_at s.processors c).process
 running_at s c = ap (λ (x : Runner). x.running) (at_outline s c) ∙ seen_running (around s) (processor_at s.processors c)
 
 no_owner : (t : State) → t.owner ≡ None → (outline_of t).owner ≡ None

@@ -49,14 +49,14 @@ not_empty : (xs : List ℕ) → not (is_empty xs) ≡ nat_lt 0 (length xs)
 not_empty [] = refl
 not_empty (x ∷ xs) = sym ((Decides-ltb 0 (length (x ∷ xs))).1 (omega arith))
 
-comes_rule : (s : State) (c : ℕ) → (cpu_at s.processors c).online ≡ false → rule_of (outline_of s) c ≡ Comes
+pub comes_rule : (s : State) (c : ℕ) → (cpu_at s.processors c).online ≡ false → rule_of (outline_of s) c ≡ Comes
 comes_rule s c off = rule_seen s c ∙ rw (off) refl
 
-clears_rule : (s : State) (c : ℕ) (w : What) → (cpu_at s.processors c).online ≡ true → (cpu_at s.processors c).due ≡ Some w
+pub clears_rule : (s : State) (c : ℕ) (w : What) → (cpu_at s.processors c).online ≡ true → (cpu_at s.processors c).due ≡ Some w
     → rule_of (outline_of s) c ≡ Clears
 clears_rule s c w on due = rule_seen s c ∙ rw (on, due) refl
 
-reads_rule : (s : State) (c : ℕ) (t : Transfer) → (cpu_at s.processors c).online ≡ true → (cpu_at s.processors c).due ≡ None
+pub reads_rule : (s : State) (c : ℕ) (t : Transfer) → (cpu_at s.processors c).online ≡ true → (cpu_at s.processors c).due ≡ None
     → (cpu_at s.processors c).transfer ≡ Some t → rule_of (outline_of s) c ≡ Reads
 reads_rule s c t on due reading = rule_seen s c ∙ rw (on, due, reading) refl
 
@@ -152,10 +152,10 @@ fill_page_new held ds words r f (Some e) seg h =
 -- ---- a processor by itself
 
 -- what a step to an action is
-abbrev Goal : State → ℕ → Outcome → act.Action → Type 0
+abbrev pub Goal : State → ℕ → Outcome → act.Action → Type 0
 Goal s c o a = Step (outline_of s) c (turn_of a) (outline_of (after s c a o))
 
-transfer_goal : (s : State) (c : ℕ) (o : Outcome) (t : Transfer) → Foresees s c → rule_of (outline_of s) c ≡ Reads
+pub transfer_goal : (s : State) (c : ℕ) (o : Outcome) (t : Transfer) → Foresees s c → rule_of (outline_of s) c ≡ Reads
     → (cpu_at s.processors c).transfer ≡ Some t → Goal s c o (act.EndTransfer t)
 unfolding after
 transfer_goal s c o t f h reading = by o.failed
@@ -235,7 +235,7 @@ load_goal s c o rest h (k ∷ ks) is =
 going_on : (s : State) (c : ℕ) → MayAnswer s c → (run_at s.runs (process_at s c)).ended ≡ false
 going_on s c may = ap (λ (j : ℕ). (run_at s.runs j).ended) (ap or_zero may.can.process) ∙ may.can.on.going
 
-run_goal : (s : State) (c : ℕ) (o : Outcome) → Foresees s c → IsAtRest s c → is_owner s.owner c ≡ false
+pub run_goal : (s : State) (c : ℕ) (o : Outcome) → Foresees s c → IsAtRest s c → is_owner s.owner c ≡ false
     → (x : Option ℕ) → (cpu_at s.processors c).process ≡ x → Goal s c o (act.run_process s (processor_at s.processors c) x)
 unfolding after
 run_goal s c o f rest own None none = load_goal s c o rest (loads_rule s c rest own none) s.ready refl

@@ -7,6 +7,7 @@ use Rattle.script.specs.Plans.{commands_of}
 use Rattle.script.specs.declared.commands.Command.{Command}
 use Rattle.script.specs.declared.commands.Reference.{Reference}
 use Rattle.flat_model.specs.Commands.{is_end}
+use Rattle.assoc_mem.specs.declared.What.{What}
 use Rattle.assoc_mem.specs.Held.{seg_of}
 use Rattle.core_map.specs.declared.Frame.TheVariants as frame
 use Rattle.seg_control.specs.Control.{Links, place_of, sdws_at}
@@ -153,8 +154,9 @@ pub record Foresees (s : State) (c : ℕ) : Type 0 where
   pub quiet : (d : ℕ) → (cpu_at s.processors d).online ≡ false → (cpu_at s.processors d).due ≡ None
   pub answers : is_some (cpu_at s.processors c).process ≡ true → MayAnswer s c
   pub loses : is_some (cpu_at s.processors c).transfer ≡ true → MayLose s c
-  -- the owner's job: a look takes nothing before its action, and what was taken may leave
+  -- the owner's job: a look has taken nothing yet, an eviction has its frame, and what was taken may leave
   pub looking : (o : Owner) → s.owner ≡ Some o → o.phase ≡ phase.Looking → o.frames ≡ []
+  pub evicts : (o : Owner) (w : What) → s.owner ≡ Some o → o.phase ≡ phase.Waiting aim.Evicting w → o.frames ≢ []
   pub looks : (o : Owner) → s.owner ≡ Some o → o.phase ≡ phase.Looking → o.cpu ≡ c
       → IsLook s c (act.look_of s (process_at s c) (next_command s (process_at s c)))
   pub leaves : (f : ℕ) → MayRelease (outline_of s) f (stored_then s f)
