@@ -328,19 +328,24 @@ module _ (v : Seen) (f : ℕ) (fs : List ℕ) (ds : List CutDescriptor) (k : Kee
     first = left_first v.owner f fs on.frames on.quiet on.steady;
   }
 
+-- the owner goes on without its first frame, whatever became of that
+pub back_on : (v : Seen) (f : ℕ) (fs : List ℕ) (ds : List CutDescriptor) → GoesOn v (f ∷ fs) ds
+    → GoesOn (back v f (page_at v f).0 (page_at v f).1 (without_frame v.owner)) fs ds
+back_on v f fs ds on = record {
+  frames = frames_without v.owner ∙ ap frames_after on.frames;
+  cut = cut_without v.owner ∙ on.cut;
+  none = on.none;
+  still = pending_without v.owner ∙ on.still;
+  quiet = says_without v.owner ∙ on.quiet;
+  steady = steady_without v.owner on.steady;
+}
+
 pub backs_keep : (v : Seen) (fs : List ℕ) (ds : List CutDescriptor) → KeepsBook v → GoesOn v fs ds
     → HasGone (backs v fs) [] ds
 backs_keep v [] ds k on = record { book = k; on = on }
 backs_keep v (f ∷ fs) ds k on = backs_keep (back v f (page_at v f).0 (page_at v f).1 (without_frame v.owner)) fs ds
     (back_keeps v f (page_at v f).0 (page_at v f).1 (without_frame v.owner) k (first_finish v f fs ds k on))
-    (record {
-      frames = frames_without v.owner ∙ ap frames_after on.frames;
-      cut = cut_without v.owner ∙ on.cut;
-      none = on.none;
-      still = pending_without v.owner ∙ on.still;
-      quiet = says_without v.owner ∙ on.quiet;
-      steady = steady_without v.owner on.steady;
-    })
+    (back_on v f fs ds on)
 
 pub gones_keep : (v : Seen) (fs : List ℕ) (ds : List CutDescriptor) → KeepsBook v → GoesOn v fs ds
     → HasGone (gones v fs) [] ds
@@ -358,7 +363,7 @@ gones_keep v (f ∷ fs) ds k on = gones_keep (gone v f (page_at v f).0 (page_at 
       steady = steady_without v.owner on.steady;
     })
 
-first_finish_seg : (v : Seen) (fs : List ℕ) (d : CutDescriptor) (ds : List CutDescriptor) → GoesOn v fs (d ∷ ds)
+pub first_finish_seg : (v : Seen) (fs : List ℕ) (d : CutDescriptor) (ds : List CutDescriptor) → GoesOn v fs (d ∷ ds)
     → CanFinishSeg v d (without_cut v.owner)
 first_finish_seg v fs d ds on = record {
   none = on.none;
@@ -367,7 +372,7 @@ first_finish_seg v fs d ds on = record {
   first = left_first_cut v.owner d ds on.cut on.quiet on.steady;
 }
 
-uncut_on : (v now : Seen) (fs : List ℕ) (d : CutDescriptor) (ds : List CutDescriptor) → GoesOn v fs (d ∷ ds)
+pub uncut_on : (v now : Seen) (fs : List ℕ) (d : CutDescriptor) (ds : List CutDescriptor) → GoesOn v fs (d ∷ ds)
     → NoneDue (shown now)
     → now.owner ≡ without_cut v.owner → GoesOn now fs ds
 uncut_on v now fs d ds on none same = record {

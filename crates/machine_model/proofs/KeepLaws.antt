@@ -62,6 +62,7 @@ reseat_kept s c p ready e spare k within book still quiet other = record {
   store = k.store;
   faithful = subst (λ (t : Store). IsFaithful s.plan t s.store) (sym same) k.faithful;
   rights = k.rights;
+  cut = k.cut;
   conserved = subst (IsConserved s.plan) (sym same) k.conserved;
   few_faults = let count = faults_push s.entries e in let none =
       ap {B = ℕ} (λ (b : Bool). cond b 1 0) quiet in let few = k.few_faults in

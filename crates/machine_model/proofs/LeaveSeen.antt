@@ -33,7 +33,7 @@ told_nobody c w d = by (eqb d c)
     by true = refl
     by false = refl
 
-told_reads : (c : ℕ) (w : What) (ps : List Processor) (from d : ℕ)
+pub told_reads : (c : ℕ) (w : What) (ps : List Processor) (from d : ℕ)
     → processor_at (told_from c w from ps) d ≡ told_at c w (from + d) (processor_at ps d)
 told_reads c w [] from d = sym (told_nobody c w (from + d))
 told_reads c w (p ∷ ps) from zero = ap (λ (n : ℕ). told_at c w n p) (let same : from ≡ from + 0 = omega arith in same)

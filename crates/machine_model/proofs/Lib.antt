@@ -3,6 +3,7 @@ pub mod Accounts
 pub mod ActiveLaws
 pub mod ActiveSeen
 pub mod AnswerLaws
+pub mod BackKept
 pub mod BookNext
 pub mod ChainLaws
 pub mod ChangesUnderUse
@@ -18,10 +19,12 @@ pub mod FailedDeactivation
 pub mod FailedEviction
 pub mod FailedRead
 pub mod FailedShutdown
+pub mod FinishKept
 pub mod FirstSteps
 pub mod FrameLaws
 pub mod GoesLaws
 pub mod HeldLaws
+pub mod JobKept
 pub mod JobLaws
 pub mod KeepLaws
 pub mod KeptLaws
@@ -47,6 +50,9 @@ pub mod OutlineReads
 pub mod OutlineStep
 pub mod OutlineTake
 pub mod OutlineWaits
+pub mod OwnedLaws
+pub mod OwnerLaws
+pub mod Places
 pub mod RankLaws
 pub mod ReadLaws
 pub mod Replies

@@ -130,6 +130,7 @@ tell_kept s c k f r keeps can says = record {
   store = says.store;
   faithful = says.faithful;
   rights = says.rights;
+  cut = says.cut;
   conserved = says.conserved;
   few_faults = let count = faults_push s.entries (entry.Do k (run_at s.runs k).place c f r) in let few =
       keeps.few_faults in omega (arith, count, few);
@@ -156,6 +157,7 @@ owner_kept s owner k was now pending works = record {
     modes = λ i d n at. k.rights.modes i d n (same i d at);
     lengths = λ i d n at. k.rights.lengths i d n (same i d at);
   };
+  cut = rw now.cut tt;
   conserved = k.conserved;
   few_faults = k.few_faults;
   sizes = record { frames = k.sizes.frames; processors = k.sizes.processors; processes = k.sizes.processes };

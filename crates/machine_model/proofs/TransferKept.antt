@@ -46,6 +46,7 @@ kept_with now book says few processors processes works = record {
   store = says.store;
   faithful = says.faithful;
   rights = says.rights;
+  cut = says.cut;
   conserved = says.conserved;
   few_faults = few;
   sizes = record { frames = says.frames; processors = processors; processes = processes };

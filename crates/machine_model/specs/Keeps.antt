@@ -1,6 +1,6 @@
 -- What the machine keeps over every schedule (Bensoussan, Clingen and Daley 1972; Organick 1972; own).
-use Rattle.std.specs.Prelude.{◌≡◌, ◌≤◌, ℕ, Bool, true, false, count_by, length, map, sum, slice_get, is_some, List}
-use Rattle.std.specs.Prelude.{Some, None}
+use Rattle.std.specs.Prelude.{◌≡◌, ◌≤◌, ◌<◌, ℕ, Bool, true, false, count_by, length, map, sum, slice_get, is_some, List}
+use Rattle.std.specs.Prelude.{[], ◌∷◌, Some, None}
 use Rattle.std.specs.List.{list_all}
 use Rattle.mnames.specs.declared.principals.Who.{Who}
 use Rattle.script.specs.Plans.{Plan}
@@ -11,11 +11,12 @@ use Rattle.tree_model.specs.Tree.{Node, node_in}
 use Rattle.flat_model.specs.Legal.{is_within}
 use Rattle.flat_model.specs.Store.{Store}
 use Rattle.page_control.specs.Picture.{words_at}
+use Rattle.seg_control.specs.Control.{sdws_at}
 use Rattle.seg_control.specs.Kept.{IsKept}
 use Rattle.storage_ops.specs.Shown.{IsStore, ShowsTree, ShowsPages, ShowsScript, who_at}
 use Rattle.machine_model.specs.Custodial.{KeepsBook}
 use Rattle.machine_model.specs.Holding.{seen}
-use Rattle.machine_model.specs.Reads.{cut_of_owner, flat_of, processor_at}
+use Rattle.machine_model.specs.Reads.{cut_of_owner, flat_of, is_active, processor_at}
 use Rattle.machine_model.specs.State.{CutDescriptor, Owner, Processor, State, Storage}
 
 -- The store's own promise: page tables, frames and file maps agree, descriptors and trailers do, what is active is in
@@ -38,6 +39,13 @@ pub record HadRights (nodes : List Node) (whos : List Who) (cut : List CutDescri
       → d.mode ≡ access_of (who_at whos d.process) n.rows
   pub lengths : (i : ℕ) (d : CutDescriptor) (n : Node) → slice_get cut i ≡ Some d → node_in nodes d.uid ≡ Some n
       → d.pages ≡ n.pages
+
+-- Each descriptor that the owner's job has cut is one of a process, and its segment is active still.
+abbrev pub AreThere : Storage → List CutDescriptor → Type 0
+AreThere st [] = Unit {0}
+AreThere st (d ∷ ds) = ((d.process < length st.links.descriptors) ×
+    (d.number < length (sdws_at st.links.descriptors d.process))
+    × (is_active st.ast d.uid ≡ true)) × AreThere st ds
 
 -- The quotas sum to the root's at boot, and no account is charged for more pages than its quota.
 pub record IsConserved (p : Plan) (t : Store) : Type 0 where
@@ -67,6 +75,7 @@ pub record StoreSays (s : State) : Type 0 where
   pub store : StoreKept s.store
   pub faithful : IsFaithful s.plan (flat_of s) s.store
   pub rights : HadRights s.store.accounts.nodes s.store.whos (cut_of_owner s.owner)
+  pub cut : AreThere s.store (cut_of_owner s.owner)
   pub conserved : IsConserved s.plan (flat_of s)
   pub frames : length s.store.pages.core.frames ≡ s.plan.frames
 
@@ -79,6 +88,7 @@ pub record Keeps (s : State) : Type 0 where
   pub store : StoreKept s.store
   pub faithful : IsFaithful s.plan (flat_of s) s.store
   pub rights : HadRights s.store.accounts.nodes s.store.whos (cut_of_owner s.owner)
+  pub cut : AreThere s.store (cut_of_owner s.owner)
   pub conserved : IsConserved s.plan (flat_of s)
   pub few_faults : count_by is_fault s.entries ≤ s.faults
   pub sizes : HasSizes s

@@ -1,0 +1,172 @@
+-- The machine keeps its promise where a page leaves its frame, where a write failed, and where a segment is inactive at
+-- last.
+use Rattle.std.proofs.Common.{◌≡◌, ◌≢◌, ◌<◌, ◌≤◌, ℕ, true, false, count_by, List, [], ◌∷◌, ◌++◌, map, length, Option}
+use Rattle.std.proofs.Common.{Some, None, refl, sym, ap, subst, ◌∙◌, arith}
+use Rattle.script.specs.Plans.{Plan}
+use Rattle.book.specs.declared.entries.Entry.{Entry}
+use Rattle.book.specs.declared.entries.Entry.TheVariants as entry
+use Rattle.core_map.specs.CoreMap.{bound_page}
+use Rattle.page_table.specs.declared.Ptw.TheVariants as ptw
+use Rattle.page_control.specs.declared.Left.{Left}
+use Rattle.page_control.specs.declared.Left.TheVariants as left
+use Rattle.page_control.specs.Effects.{word_of_left}
+use Rattle.page_control.specs.Plain.{record_of, words_in}
+use Rattle.flat_model.specs.Legal.{MayRelease, after_entry}
+use Rattle.flat_model.specs.Store.{Store}
+use Rattle.custody_model.specs.Effects.{IsInNoFrame}
+use Rattle.machine_model.specs.Chains.{frames_after, page_at, page_or_zero, without_cut, without_frame}
+use Rattle.machine_model.specs.Changes.{gone, released}
+use Rattle.machine_model.specs.Custodial.{KeepsBook, is_out, names}
+use Rattle.machine_model.specs.Holding.{seen}
+use Rattle.machine_model.specs.Jobs.{entries_left, eviction_done, left_of, page_done, page_gone, page_in, with_left}
+use Rattle.machine_model.specs.Jobs.{without_first_cut, without_first_frame}
+use Rattle.machine_model.specs.Keeps.{IsAtWork, Keeps, StoreSays, is_fault}
+use Rattle.machine_model.specs.Reads.{flat_of, home_in, processor_at}
+use Rattle.machine_model.specs.Seen.{Seen, flat, shown}
+use Rattle.machine_model.specs.State.{CutDescriptor, Owner, State}
+use Rattle.machine_model.specs.Steps.{booked, looking, with_faults, with_owner, with_store}
+use Rattle.machine_model.proofs.ChainLaws.{GoesOn, first_finish}
+use Rattle.machine_model.proofs.FrameLaws.{CanFinish, gone_keeps, in_no_frame, release_keeps}
+use Rattle.machine_model.proofs.KeepLaws.{faults_push, flat_still}
+use Rattle.machine_model.proofs.LeaveSeen.{gone_seen}
+use Rattle.machine_model.proofs.ListLaws.{map_length, within_by}
+use Rattle.machine_model.proofs.Places.{put_two_here}
+use Rattle.machine_model.proofs.TakeSeen.{HasTables, binding_is}
+use Rattle.machine_model.proofs.TieLaws.{none_some}
+use Rattle.machine_model.proofs.TransferKept.{kept_with}
+
+append_two : (es : List Entry) (a b : Entry) → es ++ a ∷ b ∷ [] ≡ (es ++ a ∷ []) ++ b ∷ []
+append_two [] a b = refl
+append_two (e ∷ es) a b = ap (λ (t : List Entry). e ∷ t) (append_two es a b)
+
+gone_quiet : (p : Plan) (t : Store) (f : ℕ) → after_entry p t (entry.GonePage f) ≡ t
+unfolding after_entry
+gone_quiet p t f = refl
+
+-- a frame that is bound to a page is one of the frames
+pub bound_within : (s : State) (f : ℕ) (page : ℕ × ℕ) → (seen s).bound f ≡ Some page
+    → f < length s.store.pages.core.frames
+bound_within s f page h = subst (λ (n : ℕ). f < n) (map_length bound_page s.store.pages.core.frames)
+    (within_by (map bound_page s.store.pages.core.frames) f None (λ e. none_some (sym e ∙ h)))
+
+-- a page leaves its frame; one of zeros is released
+pub left_keeps : (s : State) (f u p : ℕ) (how : Left) (owner : Option Owner) → HasTables s → KeepsBook (seen s)
+    → CanFinish (seen s) f u p owner → (how ≡ left.Released → MayRelease (flat_of s) u p)
+    → KeepsBook (seen (with_owner (booked (with_store s (with_left s.store f how (u, p)))
+    (entries_left f how (u, p))) owner))
+left_keeps s f u p how owner tables k can zeros = by how zeros
+  where
+    within : f < length s.store.pages.core.frames
+    within = bound_within s f (u, p) (k.tied.back f u p (ap names can.leaving))
+
+    by : (x : Left) → (x ≡ left.Released → MayRelease (flat_of s) u p)
+        → KeepsBook (seen (with_owner (booked (with_store s (with_left s.store f x (u, p)))
+        (entries_left f x (u, p))) owner))
+    by left.Kept z = subst KeepsBook (sym (gone_seen s f u p left.Kept owner tables k within can.leaving))
+        (gone_keeps (seen s) f u p owner k can
+        (word_of_left left.Kept (record_of s.store.pages (home_in s.store u) p)) refl)
+    by left.Released z = subst KeepsBook (sym whole) (release_keeps now u p book may nowhere)
+      where
+        now : Seen
+        now = gone (seen s) f u p ptw.Null owner
+
+        book : KeepsBook now
+        book = gone_keeps (seen s) f u p owner k can ptw.Null refl
+
+        may : MayRelease (flat now) u p
+        may = subst (λ (t : Store). MayRelease t u p)
+            (sym (flat_still s.plan s.entries (entry.GonePage f) (gone_quiet s.plan (flat_of s) f))) (z refl)
+
+        unread : (g : ℕ) → (seen s).reads g ≢ Some (u, p)
+        unread g h = let no : false ≡ true = sym (ap is_out can.leaving) ∙ k.tied.out g u p h in cc
+
+        nowhere : IsInNoFrame (shown now) u p
+        nowhere = in_no_frame now u p book (ap names (put_two_here (seen s).words u p ptw.Null)) unread
+
+        whole : seen (with_owner (booked (with_store s (with_left s.store f left.Released (u, p)))
+            (entries_left f left.Released (u, p))) owner)
+            ≡ released now u p
+        whole = ap (λ (v : Seen). record v { entries = s.entries ++ entry.GonePage f ∷ entry.Release u p ∷ [] })
+            (gone_seen s f u p left.Released owner tables k within can.leaving)
+            ∙ (λ i. record now { entries = append_two s.entries (entry.GonePage f) (entry.Release u p) i })
+
+left_faults : (es : List Entry) (f : ℕ) (how : Left) (page : ℕ × ℕ)
+    → count_by is_fault (es ++ entries_left f how page) ≡ count_by is_fault es
+left_faults es f left.Kept page = let one = faults_push es (entry.GonePage f) in omega (arith, one)
+left_faults es f left.Released page = let one = faults_push es (entry.GonePage f) in
+    let two = faults_push (es ++ entry.GonePage f ∷ []) (entry.Release page.0 page.1) in
+    ap (count_by is_fault) (append_two es (entry.GonePage f) (entry.Release page.0 page.1))
+    ∙ (let sum : count_by is_fault ((es ++ entry.GonePage f ∷ [])
+    ++ entry.Release page.0 page.1 ∷ []) ≡ count_by is_fault es = omega (arith, one, two) in sum)
+
+module _ (s : State) (f u p faults : ℕ) (owner : Option Owner) (k : Keeps s) (can : CanFinish (seen s) f u p owner)
+    (rose : s.faults ≤ faults) where
+  abbrev how : Left
+  how = left_of (words_in s.store.pages f)
+
+  page_is : page_in s.store f ≡ (u, p)
+  page_is = ap page_or_zero (sym (binding_is s f) ∙ k.book.tied.back f u p (ap names can.leaving))
+
+  -- the page in a frame leaves it, and the owner goes on so
+  pub gone_kept : (how ≡ left.Released → MayRelease (flat_of s) u p)
+      → StoreSays (with_owner (page_gone (with_faults s faults) f) owner)
+      → ((o : Owner) → owner ≡ Some o → IsAtWork (processor_at s.processors o.cpu))
+      → Keeps (with_owner (page_gone (with_faults s faults) f) owner)
+  gone_kept zeros says works = kept_with (with_owner (page_gone (with_faults s faults) f) owner)
+      (subst (λ (page : ℕ × ℕ). KeepsBook (seen
+      (with_owner (booked (with_store (with_faults s faults) (with_left s.store f how page))
+      (entries_left f how page)) owner))) (sym page_is)
+      (left_keeps s f u p how owner k.store.kept.places k.book can zeros)) says
+      (let same = left_faults s.entries f how (page_in s.store f) in let few = k.few_faults in
+      omega (arith, same, few, rose))
+      k.sizes.processors k.sizes.processes works
+
+-- ---- the owner goes on
+
+-- after an eviction the look is made again
+pub eviction_kept : (s : State) (c f u p faults : ℕ) (o : Owner) → Keeps s → s.owner ≡ Some o → o.cpu ≡ c
+    → s.faults ≤ faults
+    → CanFinish (seen s) f u p (Some (looking c))
+    → (left_of (words_in s.store.pages f) ≡ left.Released → MayRelease (flat_of s) u p)
+    → StoreSays (eviction_done (with_faults s faults) c f) → Keeps (eviction_done (with_faults s faults) c f)
+eviction_kept s c f u p faults o k mine same rose can zeros says =
+    gone_kept s f u p faults (Some (looking c)) k can rose zeros says
+    (λ q h. subst (λ (d : ℕ). IsAtWork (processor_at s.processors d))
+    (same ∙ ap (λ (x : Owner). x.cpu) (let is : looking c ≡ q = cc in is)) (k.at_work o mine))
+
+-- an owner without its first frame
+pub frame_less : (o : Option Owner) → without_first_frame o ≡ without_frame o
+frame_less None = refl
+frame_less (Some o) = by o.frames
+  where
+    by : (fs : List ℕ) → without_first_frame (Some (record o { frames = fs }))
+        ≡ without_frame (Some (record o { frames = fs }))
+    by [] = refl
+    by (f ∷ fs) = refl
+
+pub cut_less : (o : Option Owner) → without_first_cut o ≡ without_cut o
+cut_less None = refl
+cut_less (Some o) = by o.cut
+  where
+    by : (ds : List CutDescriptor) → without_first_cut (Some (record o { cut = ds }))
+        ≡ without_cut (Some (record o { cut = ds }))
+    by [] = refl
+    by (d ∷ ds) = refl
+
+cpu_of_rest : (o q : Owner) → without_frame (Some o) ≡ Some q → o.cpu ≡ q.cpu
+cpu_of_rest o q h = ap (λ (x : Owner). x.cpu)
+    (let is : ◌≡◌ {A = Owner} (record o { frames = frames_after o.frames }) q = cc in is)
+
+-- a deactivation goes on with the next page
+pub page_kept : (s : State) (f faults : ℕ) (fs : List ℕ) (ds : List CutDescriptor) (o : Owner) → Keeps s
+    → s.owner ≡ Some o → s.faults ≤ faults
+    → GoesOn (seen s) (f ∷ fs) ds
+    → (left_of (words_in s.store.pages f) ≡ left.Released
+    → MayRelease (flat_of s) (page_at (seen s) f).0 (page_at (seen s) f).1)
+    → StoreSays (page_done (with_faults s faults) f) → Keeps (page_done (with_faults s faults) f)
+page_kept s f faults fs ds o k mine rose on zeros says =
+    gone_kept s f (page_at (seen s) f).0 (page_at (seen s) f).1 faults (without_first_frame s.owner) k
+    (subst (CanFinish (seen s) f (page_at (seen s) f).0 (page_at (seen s) f).1) (sym (frame_less s.owner))
+    (first_finish (seen s) f fs ds k.book on)) rose zeros says
+    (λ q h. subst (λ (d : ℕ). IsAtWork (processor_at s.processors d))
+    (cpu_of_rest o q (ap without_frame (sym mine) ∙ (sym (frame_less s.owner) ∙ h))) (k.at_work o mine))

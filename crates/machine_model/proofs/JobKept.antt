@@ -1,0 +1,202 @@
+-- The machine keeps its promise through the phases of a job: a page is evicted, a segment's pages and descriptors are
+-- taken, the
+-- signal is given, and what was taken goes, or comes back where a drive failed.
+use Rattle.std.proofs.Common.{◌≡◌, ℕ, zero, suc, ◌+◌, Bool, true, false, cond, eqb, List, [], ◌∷◌, ◌++◌, map, length}
+use Rattle.std.proofs.Common.{set, Option, Some, None, inl, inr, refl, sym, ap, subst, ◌∙◌, arith}
+use Rattle.std.proofs.lemmas.Bool.Decides.{eqb_tells}
+use Rattle.assoc_mem.specs.declared.What.{What}
+use Rattle.assoc_mem.specs.declared.What.TheVariants as what
+use Rattle.book.specs.declared.entries.Entry.TheVariants as entry
+use Rattle.script.specs.Plans.{Plan}
+use Rattle.flat_model.specs.Legal.{after_entry, store_after}
+use Rattle.flat_model.specs.Store.{Store}
+use Rattle.page_table.specs.declared.Ptw.TheVariants as ptw
+use Rattle.core_map.specs.declared.Frame.{Frame}
+use Rattle.core_map.specs.declared.Frame.TheVariants as frame
+use Rattle.core_map.specs.Clock.{frame_in, is_idle, passed_over, round_frames, unmarked}
+use Rattle.core_map.specs.CoreMap.{bound_page, started_page}
+use Rattle.page_control.specs.Plain.{binding_at}
+use Rattle.seg_control.specs.Kept.{read_at}
+use Rattle.machine_model.specs.declared.Aim.{Aim}
+use Rattle.machine_model.specs.declared.Aim.TheVariants as aim
+use Rattle.machine_model.specs.declared.Phase.{Phase}
+use Rattle.machine_model.specs.declared.Phase.TheVariants as phase
+use Rattle.machine_model.specs.Changes.{dropped, told_at}
+use Rattle.machine_model.specs.Custodial.{FitsPhase, IsShaped, KeepsBook, is_pending, is_pending_in, says, says_in}
+use Rattle.machine_model.specs.Custodial.{waits_in}
+use Rattle.machine_model.specs.Holding.{seen}
+use Rattle.machine_model.specs.Jobs.{eviction_begun, owner_signalled, phase_signalled, signalled, told_from}
+use Rattle.machine_model.specs.Jobs.{with_choice}
+use Rattle.machine_model.specs.Keeps.{AreThere, HadRights, IsAtWork, IsConserved, IsFaithful, Keeps, StoreSays}
+use Rattle.machine_model.specs.Reads.{cut_of_owner, frames_of_owner, processor_at}
+use Rattle.machine_model.specs.Seen.{Seen, shown}
+use Rattle.machine_model.specs.State.{Owner, Processor, State}
+use Rattle.machine_model.specs.Steps.{with_store}
+use Rattle.machine_model.proofs.ClearLaws.{signal_keeps}
+use Rattle.machine_model.proofs.DueLaws.{HasSaid}
+use Rattle.machine_model.proofs.FrameLaws.{take_keeps}
+use Rattle.machine_model.proofs.KeepLaws.{flat_still}
+use Rattle.machine_model.proofs.LeaveSeen.{signal_seen, told_reads}
+use Rattle.machine_model.proofs.OwnedLaws.{IsIdle}
+use Rattle.machine_model.proofs.OwnerLaws.{bound_here, idle_names}
+use Rattle.machine_model.proofs.TakeSeen.{take_one_seen}
+use Rattle.machine_model.proofs.TransferKept.{kept_with, quiet_faults}
+
+-- ---- the clock
+
+module _ {B : Type 0} (g : Frame → B) (same : (x : Frame) → g (unmarked x) ≡ g x) where
+  -- one element that stands for what was there
+  set_alike : (xs : List Frame) (i : ℕ) (y : Frame) → g y ≡ g (frame_in xs i) → map g (set xs i y) ≡ map g xs
+  set_alike [] i y h = refl
+  set_alike (x ∷ xs) zero y h = ap (λ (z : B). z ∷ map g xs) h
+  set_alike (x ∷ xs) (suc i) y h = ap (λ (zs : List B). g x ∷ zs) (set_alike xs i y h)
+
+  passed_alike : (xs : List Frame) (fs : List ℕ) → map g (passed_over xs fs) ≡ map g xs
+  unfolding passed_over
+  passed_alike xs [] = refl
+  passed_alike xs (f ∷ fs) = by (is_idle (frame_in xs f)) (passed_alike (set xs f (unmarked (frame_in xs f))) fs)
+    where
+      by : (b : Bool) → map g (passed_over (set xs f (unmarked (frame_in xs f))) fs)
+          ≡ map g (set xs f (unmarked (frame_in xs f)))
+          → map g (cond b xs (passed_over (set xs f (unmarked (frame_in xs f))) fs)) ≡ map g xs
+      by true rest = refl
+      by false rest = rest ∙ set_alike xs f (unmarked (frame_in xs f)) (same (frame_in xs f))
+
+bound_unmarked : (x : Frame) → bound_page (unmarked x) ≡ bound_page x
+bound_unmarked frame.Free = refl
+bound_unmarked (frame.Started u p) = refl
+bound_unmarked (frame.Bound u p used modified) = refl
+
+started_unmarked : (x : Frame) → started_page (unmarked x) ≡ started_page x
+started_unmarked frame.Free = refl
+started_unmarked (frame.Started u p) = refl
+started_unmarked (frame.Bound u p used modified) = refl
+
+-- custody doesn't see the marks and the hand
+pub choice_seen : (s : State) (f : ℕ) → seen (with_store s (with_choice s.store f)) ≡ seen s
+choice_seen s f = λ i. record (seen s) {
+  bound = λ g. binding_at (passed_alike bound_page bound_unmarked s.store.pages.core.frames
+      (round_frames s.store.pages.core) i) g;
+  reads = λ g. read_at (passed_alike started_page started_unmarked s.store.pages.core.frames
+      (round_frames s.store.pages.core) i) g;
+}
+
+-- ---- an eviction begins
+
+pub evict_kept : (s : State) (c f u p : ℕ) (o : Owner) → Keeps s → s.owner ≡ Some o → o.cpu ≡ c → IsIdle s.owner
+    → (seen s).bound f ≡ Some (u, p)
+    → StoreSays (eviction_begun s c f) → Keeps (eviction_begun s c f)
+evict_kept s c f u p o k mine same idle bound says = kept_with (eviction_begun s c f)
+    (subst KeepsBook (sym (take_one_seen now c aim.Evicting
+    (what.Page f) f u p k.store.kept.places bound_still here_still))
+    (take_keeps (seen now) c aim.Evicting (what.Page f) f u p book (record {
+      here = here_still;
+      still = idle.waits;
+      others = idle_names (shown (seen now)) s.owner (what.Page f) book.going_owned idle.frames idle.cut;
+      this = own;
+      aimed = (f, ap (λ (fs : List ℕ). fs ++ f ∷ []) idle.frames, refl, idle.cut);
+    }))) says
+    (quiet_faults s (entry.Take f) s.faults k refl (omega arith)) k.sizes.processors k.sizes.processes
+    (λ q h. subst (λ (d : ℕ). IsAtWork (processor_at s.processors d))
+    (same ∙ ap (λ (x : Owner). x.cpu) (let is : made ≡ q = cc in is)) (k.at_work o mine))
+  where
+    now : State
+    now = with_store s (with_choice s.store f)
+
+    book : KeepsBook (seen now)
+    book = subst KeepsBook (sym (choice_seen s f)) k.book
+
+    bound_still : (seen now).bound f ≡ Some (u, p)
+    bound_still = subst (λ (v : Seen). v.bound f ≡ Some (u, p)) (sym (choice_seen s f)) bound
+
+    here_still : (seen now).words u p ≡ ptw.Here f
+    here_still = bound_here (seen now) f u p book idle.frames bound_still
+
+    own : eqb f f ≡ true
+    own = elim (eqb_tells f f) [ inl e ↦ e.0 | inr n ↦ absurd (n.1 refl) ]
+
+    made : Owner
+    made = record {
+      cpu = c;
+      phase = phase.Taken aim.Evicting
+          (what.Page f);
+      frames = frames_of_owner s.owner ++ f ∷ [];
+      cut = cut_of_owner s.owner;
+    }
+
+-- ---- the signal
+
+said : (o : Owner) (a : Aim) (w : What) → o.phase ≡ phase.Taken a w → IsShaped (Some o)
+    → HasSaid (Some o) (owner_signalled (Some o)) w
+said o a w h shaped = record {
+  frames = refl;
+  cut = refl;
+  waits = ap (λ (x : Phase). waits_in (phase_signalled x)) h;
+  says = ap (λ (x : Phase). says_in (phase_signalled x)) h;
+  shaped = subst (λ (x : Phase). FitsPhase (phase_signalled x) o.frames o.cut) (sym h)
+      (subst (λ (x : Phase). FitsPhase x o.frames o.cut) h shaped);
+}
+
+signal_quiet : (p : Plan) (t : Store) (d : ℕ) (v : What) → after_entry p t (entry.Signal d v) ≡ t
+unfolding after_entry
+signal_quiet p t d v = refl
+
+told_length : (c : ℕ) (w : What) (from : ℕ) (ps : List Processor) → length (told_from c w from ps) ≡ length ps
+told_length c w from [] = refl
+told_length c w from (p ∷ ps) = ap (λ (n : ℕ). suc n) (told_length c w (from + 1) ps)
+
+pub signal_kept : (s : State) (c : ℕ) (o : Owner) (a : Aim) (w : What) → Keeps s → s.owner ≡ Some o → o.cpu ≡ c
+    → o.phase ≡ phase.Taken a w
+    → Keeps (signalled s c w)
+signal_kept s c o a w k mine same taken_phase = record {
+  book = subst KeepsBook (sym (signal_seen s c w (owner_signalled s.owner)))
+      (signal_keeps (seen s) c w (owner_signalled s.owner) k.book (record {
+        online = subst (λ (d : ℕ). (processor_at s.processors d).cpu.online ≡ true) same (k.at_work o mine).online;
+        says = ap says mine ∙ ap says_in taken_phase;
+        said = subst (λ (x : Option Owner). HasSaid x (owner_signalled x) w) (sym mine)
+            (said o a w taken_phase (subst IsShaped mine k.book.going_owned.shaped));
+        still = ap (λ (x : Option Owner). is_pending (owner_signalled x)) mine
+            ∙ ap (λ (x : Phase). is_pending_in (phase_signalled x)) taken_phase;
+      }));
+  store = k.store;
+  faithful = subst (λ (t : Store). IsFaithful s.plan t s.store) (sym flat_same) k.faithful;
+  rights = subst (HadRights s.store.accounts.nodes s.store.whos) (cut_same s.owner) k.rights;
+  cut = subst (AreThere s.store) (cut_same s.owner) k.cut;
+  conserved = subst (IsConserved s.plan) (sym flat_same) k.conserved;
+  few_faults = quiet_faults s (entry.Signal c w) s.faults k refl (omega arith);
+  sizes = record {
+    frames = k.sizes.frames;
+    processors = told_length c w 0 s.processors ∙ k.sizes.processors;
+    processes = k.sizes.processes;
+  };
+  at_work = λ q h. works q (subst (λ (x : Option Owner). owner_signalled x ≡ Some q) mine h);
+}
+  where
+    cut_same : (x : Option Owner) → cut_of_owner x ≡ cut_of_owner (owner_signalled x)
+    cut_same None = refl
+    cut_same (Some x) = refl
+
+    flat_same : store_after s.plan (s.entries ++ entry.Signal c w ∷ []) ≡ store_after s.plan s.entries
+    flat_same = flat_still s.plan s.entries (entry.Signal c w) (signal_quiet s.plan (store_after s.plan s.entries) c w)
+
+    own : (p : Processor) → told_at c w c p ≡ dropped p w
+    own p = elim (eqb_tells c c) [ inl e ↦ rw e.0 refl | inr n ↦ absurd (n.1 refl) ]
+
+    dropped_works : (p : Processor) → IsAtWork p → IsAtWork (dropped p w)
+    dropped_works p x = record { online = x.online; busy = x.busy; clear = x.clear; idle = x.idle }
+
+    works : (q : Owner) → owner_signalled (Some o) ≡ Some q
+        → IsAtWork (processor_at (told_from c w 0 s.processors) q.cpu)
+    works q h = subst (λ (d : ℕ). IsAtWork (processor_at (told_from c w 0 s.processors) d))
+        (let is : c ≡ q.cpu = sym same ∙ cpu_is in is)
+        (subst IsAtWork (sym (told_reads c w s.processors 0 c
+        ∙ (ap (λ (n : ℕ). told_at c w n (processor_at s.processors c)) plus ∙ own (processor_at s.processors c))))
+        (dropped_works (processor_at s.processors c)
+        (subst (λ (d : ℕ). IsAtWork (processor_at s.processors d)) same (k.at_work o mine))))
+      where
+        cpu_is : o.cpu ≡ q.cpu
+        cpu_is = let is : ◌≡◌ {A = Owner} (record o { phase = phase_signalled o.phase }) q =
+            cc in ap (λ (x : Owner). x.cpu) is
+
+        plus : 0 + c ≡ c
+        plus = omega arith

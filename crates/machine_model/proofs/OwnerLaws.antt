@@ -1,0 +1,88 @@
+-- The owner of the supervisor begins a job or ends one.
+use Rattle.std.proofs.Common.{◌≡◌, ℕ, true, false, List, [], Option, Some, sym, ap, subst, ◌∙◌}
+use Rattle.assoc_mem.specs.declared.What.{What}
+use Rattle.page_table.specs.declared.Ptw.{Ptw}
+use Rattle.page_table.specs.declared.Ptw.TheVariants as ptw
+use Rattle.custody_model.specs.Allowed.{NamesAllGoing}
+use Rattle.custody_model.specs.Custody.{Custody, has, is_going_frame}
+use Rattle.custody_model.specs.Fine.{Fine, NoneDue}
+use Rattle.machine_model.specs.declared.Phase.{Phase}
+use Rattle.machine_model.specs.declared.Phase.TheVariants as phase
+use Rattle.machine_model.specs.Custodial.{FitsPhase, HoldsRight, IsOwned, KeepsBook, has_cut, is_pending, names}
+use Rattle.machine_model.specs.Custodial.{says_in, waits_in}
+use Rattle.machine_model.specs.Reads.{cut_of_owner, frames_of_owner}
+use Rattle.machine_model.specs.Seen.{Seen, bound_use, cut_uid, descriptor_use, frame_use, shown}
+use Rattle.machine_model.specs.State.{CutDescriptor, Owner}
+use Rattle.machine_model.proofs.OwnedLaws.{IsIdle}
+use Rattle.machine_model.proofs.TieLaws.{none_some}
+
+-- an owner that looks has taken nothing
+pub looking_idle : (c : Custody) (o : Owner) → IsOwned c (Some o) → o.phase ≡ phase.Looking → IsIdle (Some o)
+looking_idle c o k looks = record {
+  frames = parts.0;
+  cut = parts.1;
+  waits = ap waits_in looks;
+  says = ap says_in looks;
+  shaped = k.shaped;
+}
+  where
+    parts : (o.frames ≡ []) × (o.cut ≡ [])
+    parts = subst (λ (x : Phase). FitsPhase x o.frames o.cut) looks k.shaped
+
+-- where nothing goes, anything names all that goes
+pub idle_names : (c : Custody) (o : Option Owner) (w : What) → IsOwned c o → frames_of_owner o ≡ []
+    → cut_of_owner o ≡ [] → NamesAllGoing c w
+idle_names c o w k frames cut = record {
+  frames = λ f h. absurd (let no : false ≡ true = sym (k.frames f ∙ ap (λ (fs : List ℕ). has fs f) frames) ∙ h in cc);
+  descriptors = λ j n h. absurd (let no : false
+      ≡ true = sym (k.cuts j n ∙ ap (λ (ds : List CutDescriptor). has_cut ds j n) cut) ∙ h in cc);
+}
+
+-- a page in a frame is here where nothing goes
+pub bound_here : (v : Seen) (f u p : ℕ) → KeepsBook v → frames_of_owner v.owner ≡ [] → v.bound f ≡ Some (u, p)
+    → v.words u p ≡ ptw.Here f
+bound_here v f u p k frames bound = by (v.words u p) (k.tied.named f u p bound)
+    (ap (λ (o : Option (ℕ × ℕ)). is_going_frame (frame_use v.words o (v.reads f))) (sym bound)
+    ∙ (k.going_owned.frames f ∙ ap (λ (fs : List ℕ). has fs f) frames))
+  where
+    by : (w : Ptw) → names w ≡ Some f → is_going_frame (bound_use (u, p) w) ≡ false → w ≡ ptw.Here f
+    by ptw.Null n g = absurd (none_some n)
+    by (ptw.Out r) n g = absurd (none_some n)
+    by (ptw.Here h) n g = cc
+    by (ptw.Leaving h) n g = absurd (let no : true ≡ false = g in cc)
+
+-- all that was taken is gone or back, and nothing is due: the job is over
+pub job_over : (v : Seen) (owner : Option Owner) → KeepsBook v → frames_of_owner v.owner ≡ []
+    → cut_of_owner v.owner ≡ [] → NoneDue (shown v)
+    → is_pending v.owner ≡ false → IsIdle owner → is_pending owner ≡ false → KeepsBook (record v { owner = owner })
+job_over v owner k frames cut none was now still = record {
+  legal = k.legal;
+  clean = k.clean;
+  held = sym same ∙ k.held;
+  stale_due = subst (λ (c : Custody). Fine c (is_pending owner)) same
+      (subst (Fine (shown v)) (was ∙ sym still) k.stale_due);
+  going_owned = subst (λ (c : Custody). IsOwned c owner) same owned;
+  tied = k.tied;
+  holding_right = λ d. subst (λ (c : Custody). HoldsRight v.bound c.descriptor (v.processors d)) same
+      (k.holding_right d);
+  under_way = k.under_way;
+  runs = k.runs;
+}
+  where
+    same : shown v ≡ shown (record v { owner = owner })
+    same = λ i. record (shown v) {
+      descriptor = λ j n. descriptor_use (v.linked j n)
+          (cut_uid ((cut ∙ sym now.cut) i) j n);
+    }
+
+    owned : IsOwned (shown v) owner
+    owned = record {
+      frames = λ f. k.going_owned.frames f ∙ ap (λ (fs : List ℕ). has fs f) (frames ∙ sym now.frames);
+      cuts = λ j n. k.going_owned.cuts j n ∙ ap (λ (ds : List CutDescriptor). has_cut ds j n) (cut ∙ sym now.cut);
+      once = rw now.frames tt;
+      apart = rw now.cut tt;
+      due = λ d w h. absurd (none_some (sym (none d) ∙ h));
+      alive = λ d w h. absurd (none_some (sym (none d) ∙ h));
+      says = λ w h. absurd (none_some (sym now.says ∙ h));
+      shaped = now.shaped;
+    }
