@@ -1,21 +1,29 @@
 -- What custody sees of a machine where a segment becomes active, or is it no more.
 use Rattle.std.proofs.Common.{◌≡◌, ◌≢◌, ◌<◌, ℕ, zero, suc, ◌+◌, Bool, true, false, not, ◌||◌, cond, eqb, List, [], ◌∷◌}
-use Rattle.std.proofs.Common.{◌++◌, length, set, get_or, Option, Some, None, inl, inr, refl, sym, ap, subst, ◌∙◌, arith}
+use Rattle.std.proofs.Common.{◌++◌, length, set, get_or, replicate, Option, Some, None, inl, inr, refl, sym, ap, subst}
+use Rattle.std.proofs.Common.{◌∙◌, arith}
 use Rattle.std.specs.List.{list_any, position_or_len}
 use Rattle.std.proofs.lemmas.Bool.{cases_Bool}
 use Rattle.std.proofs.lemmas.Bool.Decides.{eqb_tells, leb_tells}
-use Rattle.std.proofs.lemmas.List.{get_or_past, get_or-set_same, get_or-set_other}
+use Rattle.std.proofs.lemmas.List.{get_or_past, get_or-set_same, get_or-set_other, length-set}
 use Rattle.std.proofs.lemmas.List.Folds.{position_or_len-set}
 use Rattle.page_table.specs.declared.Ptw.{Ptw}
 use Rattle.page_table.specs.declared.Ptw.TheVariants as ptw
 use Rattle.active_segs.specs.declared.Entry.{Entry}
-use Rattle.active_segs.specs.Active.{ActiveSegs, entry_at, uid_at, uid_in}
-use Rattle.seg_control.specs.Control.{is_for, place_of, word_of}
+use Rattle.active_segs.specs.Active.{ActiveSegs, IsOneToOne, deactivated, entry_at, table_at, uid_at, uid_in}
+use Rattle.descriptor_seg.specs.declared.Sdw.{Sdw}
+use Rattle.descriptor_seg.specs.declared.Sdw.TheVariants as sdw
+use Rattle.book.specs.declared.entries.Entry.TheVariants as entry
+use Rattle.seg_control.specs.Control.{is_for, leads, leads_at, place_of, word_of}
 use Rattle.seg_control.specs.Next.{filed_word, made_active, table_for}
 use Rattle.custody_model.specs.Next.{at_put}
+use Rattle.machine_model.specs.Changes.{activated, deactivated as no_more_active}
 use Rattle.machine_model.specs.Custodial.{names}
-use Rattle.machine_model.specs.Reads.{is_active}
+use Rattle.machine_model.specs.Holding.{led_to, seen}
+use Rattle.machine_model.specs.Reads.{descriptor_of, is_active}
+use Rattle.machine_model.specs.State.{State}
 use Rattle.machine_model.proofs.Places.{by_place}
+use Rattle.machine_model.proofs.TieLaws.{none_some}
 use Rattle.machine_model.proofs.WordLaws.{found}
 
 or_parts : (a b : Bool) → (a || b) ≡ false → (a ≡ false) × (b ≡ false)
@@ -125,7 +133,7 @@ names_pushed (x ∷ xs) w before here zero = before zero
 names_pushed (x ∷ xs) w before here (suc q) = names_pushed xs w (λ r. before (suc r)) here q
 
 -- no word of a page table by a file map names a frame
-names_table : (places : List (Option ℕ)) (n q : ℕ) → names (get_or (table_for places n) q ptw.Null) ≡ None
+pub names_table : (places : List (Option ℕ)) (n q : ℕ) → names (get_or (table_for places n) q ptw.Null) ≡ None
 unfolding table_for
 names_table places zero q = refl
 names_table places (suc n) q = names_pushed (table_for places n) (filed_word (get_or places n None))
@@ -200,3 +208,130 @@ module _ (ast : ActiveSegs) (u place : ℕ) (superior : Option ℕ) (table : Lis
               ap (is_for u) (sym (get_or-set_other ast.entries place
               (position_or_len (is_for u) now.entries) _ None n)) ∙ there in
               no_other (position_or_len (is_for u) now.entries) old
+
+-- descriptors lead where they led: none led to the place
+pub links_more : (s : State) (u place : ℕ) (superior : Option ℕ) (table : List Ptw)
+    → entry_at s.store.ast.entries place ≡ None
+    → ((k n aste : ℕ) → leads_at s.store.links.descriptors k n ≡ Some aste
+    → (x : ℕ) × (uid_at s.store.ast.entries aste ≡ Some x)) → (k n : ℕ)
+    → led_to (made_active s.store.ast place u superior table).entries (descriptor_of s.store.links k n)
+    ≡ (seen s).linked k n
+links_more s u place superior table free live k n = by (descriptor_of s.store.links k n) refl
+  where
+    by : (x : Sdw) → descriptor_of s.store.links k n ≡ x
+        → led_to (made_active s.store.ast place u superior table).entries x ≡ led_to s.store.ast.entries x
+    by sdw.Fault e = refl
+    by (sdw.Present aste m pages) e = ap uid_in (get_or-set_other s.store.ast.entries place aste _ None other)
+      where
+        other : aste ≢ place
+        other same = let there = live k n aste (ap leads e) in
+            let no : None ≡ Some there.0 = sym (ap uid_in free)
+            ∙ (ap (uid_at s.store.ast.entries) (sym same) ∙ there.1) in none_some no
+
+-- what custody sees of a segment that becomes active
+pub activate_seen : (s : State) (u place : ℕ) (superior : Option ℕ) (table : List Ptw)
+    → entry_at s.store.ast.entries place ≡ None
+    → place < length s.store.ast.entries → length s.store.ast.tables ≡ length s.store.ast.entries
+    → is_active s.store.ast u ≡ false
+    → ((k n aste : ℕ) → leads_at s.store.links.descriptors k n ≡ Some aste
+    → (x : ℕ) × (uid_at s.store.ast.entries aste ≡ Some x))
+    → seen (record s {
+      store = record s.store { ast = made_active s.store.ast place u superior table };
+      entries =
+          s.entries ++ entry.Activate u ∷ [];
+    })
+    ≡ activated (seen s) u (λ v q. word_of (made_active s.store.ast place u superior table) v q)
+activate_seen s u place superior table free within tables inactive live = λ i. record (seen s) {
+  active = λ v. active_more s.store.ast u place superior table free within tables inactive v i;
+  words = λ v q. word_of (made_active s.store.ast place u superior table) v q;
+  linked = λ k n. links_more s u place superior table free live k n i;
+  entries = s.entries ++ entry.Activate u ∷ [];
+}
+
+-- ---- a segment is active no more
+
+module _ (ast : ActiveSegs) (u : ℕ) (active : is_active ast u ≡ true) (once : IsOneToOne ast.entries)
+    (tables : length ast.tables ≡ length ast.entries) where
+  abbrev less : ActiveSegs
+  less = deactivated ast (place_of ast.entries u)
+
+  its_place : (place_of ast.entries u < length ast.entries) × (uid_at ast.entries (place_of ast.entries u) ≡ Some u)
+  its_place = active_place ast u active
+
+  not_its : (v : ℕ) → v ≢ u → is_for v (entry_at ast.entries (place_of ast.entries u)) ≡ false
+  not_its v n = not_for v (entry_at ast.entries (place_of ast.entries u))
+      (λ e. n (let same : Some v ≡ Some u = sym e ∙ its_place.1 in cc))
+
+  pub active_less : (v : ℕ) → is_active less v ≡ at_put (λ x. is_active ast x) u false v
+  active_less v = by_place (λ (b : Bool). is_active less v ≡ b) (λ x. is_active ast x) u false v
+      (λ e. subst (λ (x : ℕ). is_active less x ≡ false) (sym e) (gone (is_active less u) refl))
+      (λ n. any_same (is_for v) ast.entries (place_of ast.entries u) None None (sym (not_its v n)))
+    where
+      gone : (b : Bool) → is_active less u ≡ b → b ≡ false
+      gone false e = refl
+      gone true e = absurd (elsewhere (place_of less.entries u) (active_place less u e).1)
+        where
+          elsewhere : (i : ℕ) → uid_at less.entries i ≡ Some u → ⊥
+          elsewhere i h = elim (eqb_tells i (place_of ast.entries u)) [
+            | inl a ↦ none_some (sym (ap uid_in
+                (get_or-set_same ast.entries (place_of ast.entries u) None None its_place.0))
+                ∙ (ap (uid_at less.entries) (sym a.1) ∙ h))
+            | inr n ↦ n.1 (once i (place_of ast.entries u) u
+                (sym (ap uid_in (get_or-set_other ast.entries (place_of ast.entries u) i None None n.1)) ∙ h)
+                its_place.1)
+          ]
+
+  pub words_less : (v q : ℕ) → v ≢ u → word_of less v q ≡ word_of ast v q
+  unfolding place_of
+  words_less v q n = ap (λ (i : ℕ). get_or (get_or (set ast.tables (place_of ast.entries u) blank) i []) q ptw.Null)
+      (position_or_len-set (is_for v) ast.entries (place_of ast.entries u) None None (sym (not_its v n)))
+      ∙ ap (λ (t : List Ptw). get_or t q ptw.Null)
+      (get_or-set_other ast.tables (place_of ast.entries u) (position_or_len (is_for v) ast.entries) blank [] other)
+    where
+      blank : List Ptw
+      blank = replicate (length (table_at ast.tables (place_of ast.entries u))) ptw.Null
+
+      other : position_or_len (is_for v) ast.entries ≢ place_of ast.entries u
+      other e = elim (cases_Bool (list_any (is_for v) ast.entries)) [
+        | inl is ↦ (let no : false ≡ true = sym (not_its v n)
+            ∙ (ap (λ (i : ℕ). is_for v (entry_at ast.entries i)) (sym e)
+            ∙ found (is_for v) ast.entries None (some_within (is_for v) ast.entries is)) in cc)
+        | inr isnt ↦ (let long = none_length (is_for v) ast.entries isnt in let within = its_place.0 in
+            omega (arith, long, e, within))
+      ]
+
+  pub blank_less : (q : ℕ) → word_of less u q ≡ ptw.Null
+  blank_less q = inactive_blank less u
+      (length-set ast.tables (place_of ast.entries u) _
+      ∙ (tables ∙ sym (length-set ast.entries (place_of ast.entries u) None)))
+      (active_less u ∙ by_place (λ (b : Bool). b ≡ false) (λ x. is_active ast x) u false u (λ e. refl)
+      (λ n. absurd (n refl))) q
+
+pub deactivate_seen : (s : State) (u : ℕ) → is_active s.store.ast u ≡ true → IsOneToOne s.store.ast.entries
+    → length s.store.ast.tables ≡ length s.store.ast.entries → ((k n : ℕ) → (seen s).linked k n ≢ Some u)
+    → seen (record s {
+      store = record s.store {
+        ast = deactivated s.store.ast
+            (place_of s.store.ast.entries u);
+      };
+      entries = s.entries ++ entry.Deactivate u ∷ [];
+    })
+    ≡ no_more_active (seen s) u (λ v q. word_of (deactivated s.store.ast (place_of s.store.ast.entries u)) v q)
+deactivate_seen s u active once tables none = λ i. record (seen s) {
+  active = λ v. active_less s.store.ast u active once tables v i;
+  words = λ v q. word_of (deactivated s.store.ast (place_of s.store.ast.entries u)) v q;
+  linked = λ k n. links k n i;
+  entries = s.entries ++ entry.Deactivate u ∷ [];
+}
+  where
+    links : (k n : ℕ) → led_to (deactivated s.store.ast (place_of s.store.ast.entries u)).entries
+        (descriptor_of s.store.links k n) ≡ (seen s).linked k n
+    links k n = by (descriptor_of s.store.links k n) refl
+      where
+        by : (x : Sdw) → descriptor_of s.store.links k n ≡ x
+            → led_to (deactivated s.store.ast (place_of s.store.ast.entries u)).entries x ≡ led_to s.store.ast.entries x
+        by sdw.Fault e = refl
+        by (sdw.Present aste m pages) e = ap uid_in
+            (get_or-set_other s.store.ast.entries (place_of s.store.ast.entries u) aste None None
+            (λ same. none k n (ap (led_to s.store.ast.entries) e
+            ∙ (ap (uid_at s.store.ast.entries) same ∙ (active_place s.store.ast u active).1))))

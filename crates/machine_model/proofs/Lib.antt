@@ -1,5 +1,6 @@
 pub mod AccessTakenAway
 pub mod Accounts
+pub mod ActiveKept
 pub mod ActiveLaws
 pub mod ActiveSeen
 pub mod AnswerLaws
@@ -65,6 +66,8 @@ pub mod StepLaws
 pub mod TakeSeen
 pub mod TellKept
 pub mod TieLaws
+pub mod TiedLaws
+pub mod TookKept
 pub mod TransferKept
 pub mod TransferLaws
 pub mod TiedLaws

@@ -1,0 +1,245 @@
+-- The machine keeps its promise where a segment becomes active, is connected, or is active no more, where a page is
+-- made, and
+-- where a word is reached through a frame.
+use Rattle.std.proofs.Common.{◌≡◌, ◌≢◌, ◌<◌, ℕ, ◌%◌, Bool, true, false, cond, count_by, List, [], ◌∷◌, ◌++◌, length}
+use Rattle.std.proofs.Common.{Option, Some, None, refl, sym, ap, subst, ◌∙◌, arith}
+use Rattle.std.proofs.lemmas.List.{length-set}
+use Rattle.script.specs.Plans.{Plan}
+use Rattle.script.specs.declared.commands.Reference.{Reference}
+use Rattle.book.specs.declared.entries.Entry.TheVariants as entry
+use Rattle.page_control.specs.Plain.{binding_at, frame_in}
+use Rattle.page_control.specs.Effects.{referred, word_put}
+use Rattle.core_map.specs.declared.Frame.{Frame}
+use Rattle.core_map.specs.declared.Frame.TheVariants as frame
+use Rattle.core_map.specs.CoreMap.{after_reference, bound_page, started_page}
+use Rattle.active_segs.specs.Active.{IsOneToOne, entry_at, uid_at}
+use Rattle.seg_control.specs.Control.{leads_at, place_of, sdws_at, table_of}
+use Rattle.seg_control.specs.Kept.{read_at}
+use Rattle.flat_model.specs.References.{alters, new_word, word_reply}
+use Rattle.custody_model.specs.Allowed.{MayActivate, MayDeactivate}
+use Rattle.custody_model.specs.Custody.{leads_to}
+use Rattle.custody_model.specs.Fine.{NoneDue}
+use Rattle.machine_model.specs.Chains.{without_cut}
+use Rattle.machine_model.specs.Changes.{gone_seg}
+use Rattle.machine_model.specs.Custodial.{KeepsBook, is_pending}
+use Rattle.machine_model.specs.Holding.{seen}
+use Rattle.machine_model.specs.Jobs.{deactivated_one, emptied, seg_gone, segs_gone}
+use Rattle.machine_model.specs.Keeps.{IsAtWork, Keeps, StoreSays, is_fault}
+use Rattle.machine_model.specs.Reads.{cut_of_owner, flat_of, frames_of_owner, process_at, processor_at, run_at}
+use Rattle.machine_model.specs.Seen.{Seen, cut_uid, descriptor_use, shown}
+use Rattle.machine_model.specs.State.{CutDescriptor, Owner, Processor, State, Storage}
+use Rattle.machine_model.specs.Steps.{activated_at, connected_to, looking, old_word, page_created, page_made}
+use Rattle.machine_model.specs.Steps.{pages_after, told, went_through, with_owner, with_pages, with_store}
+use Rattle.machine_model.proofs.ActiveLaws.{activate_keeps, deactivate_keeps}
+use Rattle.machine_model.proofs.ActiveSeen.{activate_seen, blank_less, deactivate_seen, inactive_blank, names_table}
+use Rattle.machine_model.proofs.ActiveSeen.{words_less, words_more, words_new}
+use Rattle.machine_model.proofs.AnswerLaws.{owner_keeps}
+use Rattle.machine_model.proofs.ChainLaws.{GoesOn, first_finish_seg, uncut_on}
+use Rattle.machine_model.proofs.DescriptorLaws.{CanConnect, connect_keeps, gone_seg_keeps}
+use Rattle.machine_model.proofs.FinishKept.{cut_less}
+use Rattle.machine_model.proofs.JobKept.{set_same}
+use Rattle.machine_model.proofs.KeepLaws.{faults_push}
+use Rattle.machine_model.proofs.MoveSeen.{connect_seen, made_seen}
+use Rattle.machine_model.proofs.OwnedLaws.{IsIdle, nobody}
+use Rattle.machine_model.proofs.OwnerLaws.{job_over}
+use Rattle.machine_model.proofs.TellKept.{CanTell, told_keeps, works_counted}
+use Rattle.machine_model.proofs.TieLaws.{none_some}
+use Rattle.machine_model.proofs.TransferKept.{kept_with, quiet_faults}
+use Rattle.machine_model.proofs.TransferLaws.{CanMake, here_keeps}
+
+-- ---- a segment becomes active
+
+pub activate_kept : (s : State) (u place : ℕ) → Keeps s → MayActivate s.plan (flat_of s) (shown (seen s)) u
+    → entry_at s.store.ast.entries place ≡ None → place < length s.store.ast.entries
+    → StoreSays (activated_at s u place) → Keeps (activated_at s u place)
+activate_kept s u place k may free within says = kept_with (activated_at s u place)
+    (subst KeepsBook (sym (activate_seen s u place _ _ free within tables may.inactive live))
+    (activate_keeps (seen s) u _ k.book (record {
+      may = may;
+      blank = inactive_blank s.store.ast u tables may.inactive;
+      others = λ w q n. words_more s.store.ast u place _ _ free within tables may.inactive w q n;
+      nowhere = words_new s.store.ast u place _ _ free within tables may.inactive (names_table _ _);
+    }))) says (quiet_faults s (entry.Activate u) s.faults k refl
+    (omega arith)) k.sizes.processors k.sizes.processes k.at_work
+  where
+    tables : length s.store.ast.tables ≡ length s.store.ast.entries
+    tables = k.store.kept.places
+
+    live : (j n aste : ℕ) → leads_at s.store.links.descriptors j n ≡ Some aste
+        → (x : ℕ) × (uid_at s.store.ast.entries aste ≡ Some x)
+    live j n aste h = let known = k.store.kept.linked.known j n aste h in (known.uid, known.active)
+
+-- ---- a descriptor is connected
+
+pub connect_kept : (s : State) (c n u : ℕ) → Keeps s → CanConnect (seen s) (process_at s c) n u
+    → process_at s c < length s.store.links.descriptors
+    → n < length (sdws_at s.store.links.descriptors (process_at s c))
+    → uid_at s.store.ast.entries (place_of s.store.ast.entries u) ≡ Some u → StoreSays (connected_to s c n u)
+    → Keeps (connected_to s c n u)
+connect_kept s c n u k can outer inner active says = kept_with (connected_to s c n u)
+    (subst KeepsBook (sym (connect_seen s (process_at s c) n u _ _ outer inner active))
+    (connect_keeps (seen s) (process_at s c) n u k.book can)) says
+    (quiet_faults s (entry.Connect (process_at s c) n u) s.faults k refl
+    (omega arith)) k.sizes.processors k.sizes.processes k.at_work
+
+-- ---- a segment is active no more
+
+segs_gone_rest : (s : State) (ds : List CutDescriptor)
+    → ((segs_gone s ds).processors ≡ s.processors) × ((segs_gone s ds).runs ≡ s.runs)
+    × ((segs_gone s ds).plan ≡ s.plan) × ((segs_gone s ds).faults ≡ s.faults) × ((segs_gone s ds).store ≡ s.store)
+segs_gone_rest s [] = (refl, refl, refl, refl, refl)
+segs_gone_rest s (d ∷ ds) = segs_gone_rest (seg_gone s d) ds
+
+segs_gone_count : (s : State) (ds : List CutDescriptor)
+    → count_by is_fault (segs_gone s ds).entries ≡ count_by is_fault s.entries
+segs_gone_count s [] = refl
+segs_gone_count s (d ∷ ds) = segs_gone_count (seg_gone s d) ds
+    ∙ (let one = faults_push s.entries (entry.GoneSeg d.process d.number) in
+    let none : count_by is_fault (s.entries ++ entry.GoneSeg d.process d.number ∷ []) ≡ count_by is_fault s.entries =
+    omega (arith, one) in none)
+
+-- all that the job has taken is gone or back, and every processor has cleared
+pub record IsOver (s : State) : Type 0 where
+  pub book : KeepsBook (seen s)
+  pub frames : frames_of_owner s.owner ≡ []
+  pub cut : cut_of_owner s.owner ≡ []
+  pub none : NoneDue (shown (seen s))
+  pub still : is_pending s.owner ≡ false
+
+pub segs_are_gone : (s : State) (ds : List CutDescriptor) → KeepsBook (seen s) → GoesOn (seen s) [] ds
+    → IsOver (segs_gone s ds)
+segs_are_gone s [] k on = record { book = k; frames = on.frames; cut = on.cut; none = on.none; still = on.still }
+segs_are_gone s (d ∷ ds) k on = segs_are_gone (seg_gone s d) ds (subst KeepsBook (sym one) book)
+    (subst (λ (v : Seen). GoesOn v [] ds) (sym one) still)
+  where
+    one : seen (seg_gone s d) ≡ gone_seg (seen s) d (without_cut s.owner)
+    one = ap (gone_seg (seen s) d) (cut_less s.owner)
+
+    book : KeepsBook (gone_seg (seen s) d (without_cut s.owner))
+    book = gone_seg_keeps (seen s) d (without_cut s.owner) k (first_finish_seg (seen s) [] d ds on)
+
+    still : GoesOn (gone_seg (seen s) d (without_cut s.owner)) [] ds
+    still = uncut_on (seen s) (gone_seg (seen s) d (without_cut s.owner)) [] d ds on on.none refl
+
+-- an owner that looks
+pub looks_idle : (c : ℕ) → IsIdle (Some (looking c))
+looks_idle c = record { frames = refl; cut = refl; waits = refl; says = refl; shaped = (refl, refl) }
+
+pub deactivate_over : (s : State) (u : ℕ) (owner : Option Owner) → IsOver s
+    → length s.store.ast.tables ≡ length s.store.ast.entries
+    → IsOneToOne s.store.ast.entries → MayDeactivate (flat_of s) (shown (seen s)) u → IsIdle owner
+    → is_pending owner ≡ false
+    → KeepsBook (seen (with_owner (deactivated_one s u) owner))
+deactivate_over s u owner over tables once may idle quiet =
+    job_over (seen (deactivated_one s u)) owner book over.frames over.cut over.none over.still idle quiet
+  where
+    none : (j n : ℕ) → (seen s).linked j n ≢ Some u
+    none j n h = may.descriptors j n (ap (λ (o : Option ℕ). leads_to
+        (descriptor_use o (cut_uid (cut_of_owner s.owner) j n))) h)
+
+    book : KeepsBook (seen (deactivated_one s u))
+    book = subst KeepsBook (sym (deactivate_seen s u may.active once tables none))
+        (deactivate_keeps (seen s) u _ over.book (record {
+          may = may;
+          others = λ w q n. words_less s.store.ast u may.active once tables w q n;
+          blank = blank_less s.store.ast u may.active once tables;
+        }))
+
+pub emptied_kept : (s : State) (c u : ℕ) (o : Owner) → Keeps s → s.owner ≡ Some o → o.cpu ≡ c
+    → IsOver (segs_gone s (cut_of_owner s.owner))
+    → MayDeactivate (flat_of (segs_gone s (cut_of_owner s.owner))) (shown (seen (segs_gone s (cut_of_owner s.owner)))) u
+    → StoreSays (emptied s c u) → Keeps (emptied s c u)
+emptied_kept s c u o k mine same over may says = kept_with (emptied s c u)
+    (deactivate_over now u (Some (looking c)) over
+    (subst (λ (st : Storage). length st.ast.tables ≡ length st.ast.entries) (sym rest.4) k.store.kept.places)
+    (subst (λ (st : Storage). IsOneToOne st.ast.entries) (sym rest.4) k.store.kept.tree.once) may
+    (looks_idle c) refl) says
+    (let one = segs_gone_count s (cut_of_owner s.owner) in let two = faults_push now.entries (entry.Deactivate u) in
+    let few = k.few_faults in
+    let three = rest.3 in omega (arith, one, two, few, three))
+    (ap length rest.0 ∙ (k.sizes.processors ∙ ap (λ (p : Plan). p.processors) (sym rest.2)))
+    (ap length rest.1 ∙ (k.sizes.processes ∙ ap (λ (p : Plan). length p.processes) (sym rest.2)))
+    (λ q h. subst (λ (ps : List Processor). IsAtWork (processor_at ps q.cpu)) (sym rest.0)
+    (subst (λ (d : ℕ). IsAtWork (processor_at s.processors d))
+    (same ∙ ap (λ (x : Owner). x.cpu) (let is : looking c ≡ q = cc in is)) (k.at_work o mine)))
+  where
+    now : State
+    now = segs_gone s (cut_of_owner s.owner)
+
+    rest : ((segs_gone s (cut_of_owner s.owner)).processors ≡ s.processors) ×
+        ((segs_gone s (cut_of_owner s.owner)).runs ≡ s.runs)
+        × ((segs_gone s (cut_of_owner s.owner)).plan ≡ s.plan) ×
+        ((segs_gone s (cut_of_owner s.owner)).faults ≡ s.faults)
+        × ((segs_gone s (cut_of_owner s.owner)).store ≡ s.store)
+    rest = segs_gone_rest s (cut_of_owner s.owner)
+
+-- ---- a page is made
+
+pub created_kept : (s : State) (c f u p : ℕ) (r : Reference) → Keeps s → CanMake (seen s) f u p
+    → f < length s.store.pages.core.frames
+    → place_of s.store.ast.entries u < length s.store.ast.entries → p < length (table_of s.store.ast u)
+    → IsIdle s.owner → is_pending s.owner ≡ false
+    → CanTell (page_made s f u p r) c (process_at s c) None (word_reply 0 r.kind)
+    → StoreSays (page_created s c f u p r) → Keeps (page_created s c f u p r)
+created_kept s c f u p r k can within active inner idle quiet tell says = kept_with (page_created s c f u p r)
+    (owner_keeps (seen (told now c None (word_reply 0 r.kind))) None
+    (told_keeps now c (process_at s c) None (word_reply 0 r.kind) book tell) idle nobody quiet) says
+    (let one = faults_push s.entries (entry.Here f u p) in
+    let two = faults_push (s.entries ++ entry.Here f u p ∷ [])
+    (entry.Do (process_at s c) (run_at s.runs (process_at s c)).place c None (word_reply 0 r.kind)) in
+    let few = k.few_faults in omega (arith, one, two, few))
+    (length-set s.processors c _ ∙ k.sizes.processors) (length-set s.runs (process_at s c) _ ∙ k.sizes.processes)
+    (λ o h. absurd (none_some h))
+  where
+    now : State
+    now = page_made s f u p r
+
+    book : KeepsBook (seen now)
+    book = subst KeepsBook (sym (made_seen s f u p (r.offset % 1024) (new_word 0 r.kind) within active
+        (subst (λ (n : ℕ). place_of s.store.ast.entries u < n) (sym k.store.kept.places) active) inner))
+        (here_keeps (seen s) f u p k.book can)
+
+-- ---- a word is reached through a frame
+
+bound_after : (x : Frame) (b : Bool) → bound_page (after_reference x b) ≡ bound_page x
+bound_after frame.Free b = refl
+bound_after (frame.Started u p) b = refl
+bound_after (frame.Bound u p used modified) b = refl
+
+started_after : (x : Frame) (b : Bool) → started_page (after_reference x b) ≡ started_page x
+started_after frame.Free b = refl
+started_after (frame.Started u p) b = refl
+started_after (frame.Bound u p used modified) b = refl
+
+-- custody doesn't see the marks of a reference, nor the words
+pub through_seen : (s : State) (f : ℕ) (r : Reference)
+    → seen (with_store s (with_pages s.store (pages_after s.store.pages f r))) ≡ seen s
+through_seen s f r = by (alters r.kind)
+  where
+    marked : (b : Bool) → seen (with_store s (with_pages s.store (referred s.store.pages f b))) ≡ seen s
+    marked b = λ i. record (seen s) {
+      bound = λ g. binding_at (set_same bound_page s.store.pages.core.frames f
+          (after_reference (frame_in s.store.pages f) b) (bound_after (frame_in s.store.pages f) b) i) g;
+      reads = λ g. read_at (set_same started_page s.store.pages.core.frames f
+          (after_reference (frame_in s.store.pages f) b) (started_after (frame_in s.store.pages f) b) i) g;
+    }
+
+    by : (b : Bool) → seen (with_store s (with_pages s.store (cond b
+        (word_put s.store.pages f (r.offset % 1024) (new_word (old_word s.store.pages f r) r.kind))
+        (referred s.store.pages f false)))) ≡ seen s
+    by true = marked true
+    by false = marked false
+
+pub through_kept : (s : State) (c f : ℕ) (r : Reference) → Keeps s
+    → CanTell (with_store s (with_pages s.store (pages_after s.store.pages f r))) c (process_at s c) (Some f)
+    (word_reply (old_word s.store.pages f r) r.kind)
+    → StoreSays (went_through s c f r) → Keeps (went_through s c f r)
+through_kept s c f r k can says = kept_with (went_through s c f r)
+    (told_keeps (with_store s (with_pages s.store (pages_after s.store.pages f r))) c (process_at s c) (Some f)
+    (word_reply (old_word s.store.pages f r) r.kind)
+    (subst KeepsBook (sym (through_seen s f r)) k.book) can) says
+    (let one = faults_push s.entries (entry.Do (process_at s c) (run_at s.runs (process_at s c)).place c (Some f)
+    (word_reply (old_word s.store.pages f r) r.kind)) in
+    let few = k.few_faults in omega (arith, one, few))
+    (length-set s.processors c _ ∙ k.sizes.processors) (length-set s.runs (process_at s c) _ ∙ k.sizes.processes)
+    (λ o h. works_counted s.processors c _ o.cpu can.there (k.at_work o h))

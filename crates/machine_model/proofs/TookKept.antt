@@ -1,0 +1,214 @@
+-- The machine keeps its promise where a job takes pages and cuts descriptors.
+use Rattle.std.proofs.Common.{◌≡◌, ℕ, Bool, true, false, ◌&&◌, ◌||◌, eqb, count_by, List, [], ◌∷◌, ◌++◌, length, Option}
+use Rattle.std.proofs.Common.{Some, None, inl, inr, refl, sym, ap, subst, ◌∙◌, arith}
+use Rattle.std.specs.List.{list_any}
+use Rattle.std.proofs.lemmas.Bool.Decides.{eqb_tells}
+use Rattle.script.specs.Plans.{Plan}
+use Rattle.assoc_mem.specs.declared.What.{What}
+use Rattle.book.specs.declared.entries.Entry.TheVariants as entry
+use Rattle.descriptor_seg.specs.declared.Sdw.{Sdw}
+use Rattle.descriptor_seg.specs.declared.Sdw.TheVariants as sdw
+use Rattle.custody_model.specs.Allowed.{NamesAllGoing}
+use Rattle.custody_model.specs.Custody.{has}
+use Rattle.custody_model.specs.Next.{at_put_two}
+use Rattle.machine_model.specs.declared.Aim.{Aim}
+use Rattle.machine_model.specs.Changes.{cut, taken}
+use Rattle.machine_model.specs.Chains.{page_at, takes}
+use Rattle.machine_model.specs.Custodial.{IsAimed, KeepsBook, waits_for}
+use Rattle.machine_model.specs.Holding.{led_to, seen}
+use Rattle.machine_model.specs.Jobs.{cut_all, cut_one, note_of, take_all, take_one, took}
+use Rattle.machine_model.specs.Keeps.{IsAtWork, Keeps, StoreSays, is_fault}
+use Rattle.machine_model.specs.Reads.{cut_of_owner, descriptor_of, frames_of_owner, or_zero, processor_at}
+use Rattle.machine_model.specs.Seen.{Seen, shown}
+use Rattle.machine_model.specs.State.{CutDescriptor, Owner, Processor, State}
+use Rattle.machine_model.proofs.ChainLaws.{CanTakeAll, HasTaken, names_linked, names_uid, takes_keep}
+use Rattle.machine_model.proofs.DescriptorLaws.{cut_keeps}
+use Rattle.machine_model.proofs.KeepLaws.{faults_push}
+use Rattle.machine_model.proofs.Places.{by_places}
+use Rattle.machine_model.proofs.TakeSeen.{HasTables, cut_one_seen, take_all_seen}
+use Rattle.machine_model.proofs.TieLaws.{none_some}
+use Rattle.machine_model.proofs.TransferKept.{kept_with}
+
+-- ---- descriptors
+
+-- a pair of a process and a number
+abbrev is_pair : ℕ → ℕ → ℕ × ℕ → Bool
+is_pair k n x = eqb x.0 k && eqb x.1 n
+
+abbrev pub has_pair : List (ℕ × ℕ) → ℕ → ℕ → Bool
+has_pair pairs k n = list_any (is_pair k n) pairs
+
+-- each of some descriptors leads to a segment that is named, and none comes twice
+abbrev pub ArePairs : (ℕ → ℕ → Option ℕ) → What → List (ℕ × ℕ) → Type 0
+ArePairs linked w [] = Unit {0}
+ArePairs linked w (x ∷ xs) = ((u : ℕ) × (linked x.0 x.1 ≡ Some u) × (names_uid w u ≡ true)) ×
+    (has_pair xs x.0 x.1 ≡ false) × ArePairs linked w xs
+
+no_and : {b : Bool} → b ≡ true → b ≡ false → ⊥
+no_and t f = let no : true ≡ false = sym t ∙ f in cc
+
+pair_same : (x : ℕ × ℕ) (k n : ℕ) → x.0 ≡ k → x.1 ≡ n → is_pair k n x ≡ true
+pair_same x k n a b = elim (eqb_tells x.0 k) [
+  | inl e ↦ elim (eqb_tells x.1 n) [ inl i ↦ rw (e.0, i.0) refl | inr m ↦ absurd (m.1 b) ]
+  | inr m ↦ absurd (m.1 a)
+]
+
+or_parts : (a b : Bool) → (a || b) ≡ false → (a ≡ false) × (b ≡ false)
+or_parts false b h = (refl, h)
+or_parts true b h = absurd (let no : true ≡ false = h in cc)
+
+pairs_kept : (linked : ℕ → ℕ → Option ℕ) (w : What) (k n : ℕ) (xs : List (ℕ × ℕ)) → has_pair xs k n ≡ false
+    → ArePairs linked w xs
+    → ArePairs (at_put_two linked k n None) w xs
+pairs_kept linked w k n [] none are = tt
+pairs_kept linked w k n (x ∷ xs) none are = (
+  (
+    are.0.0,
+    by_places (λ (o : Option ℕ). o ≡ Some are.0.0) linked k n None x.0 x.1
+        (λ a b. absurd (no_and (pair_same x k n a b) (or_parts (is_pair k n x) (has_pair xs k n) none).0))
+        (λ m. are.0.1),
+    are.0.2,
+  ),
+  are.1,
+  pairs_kept linked w k n xs (or_parts (is_pair k n x) (has_pair xs k n) none).1 are.2,
+)
+
+-- what is remembered of a descriptor that leads to a segment
+note_is : (s : State) (k n u : ℕ) (x : Sdw) → led_to s.store.ast.entries x ≡ Some u
+    → ((note_of s.store k n x).process ≡ k) × ((note_of s.store k n x).number ≡ n) × ((note_of s.store k n x).uid ≡ u)
+note_is s k n u sdw.Fault h = absurd (none_some h)
+note_is s k n u (sdw.Present aste m pages) h = (refl, refl, ap or_zero h)
+
+-- descriptors are cut one after the other
+pub cut_all_keeps : (s : State) (c : ℕ) (a : Aim) (w : What) (pairs : List (ℕ × ℕ)) → KeepsBook (seen s)
+    → NamesAllGoing (shown (seen s)) w
+    → waits_for s.owner ≡ None → ((gs : List ℕ) (cs : List CutDescriptor) → IsAimed a w gs cs)
+    → ArePairs (seen s).linked w pairs
+    → HasTaken (seen (cut_all s c a w pairs)) w
+cut_all_keeps s c a w [] k others still aimed are = record { book = k; others = others; still = still }
+cut_all_keeps s c a w (x ∷ xs) k others still aimed are =
+    cut_all_keeps (cut_one s c a w x) c a w xs book (book.going_owned.says w refl).1 refl aimed
+    (subst (λ (v : Seen). ArePairs v.linked w xs) (sym one)
+    (subst (λ (l : ℕ → ℕ → Option ℕ). ArePairs l w xs)
+    (λ i. at_put_two (seen s).linked (sym note.0 i) (sym note.1 i) None)
+    (pairs_kept (seen s).linked w x.0 x.1 xs are.1 are.2)))
+  where
+    u : ℕ
+    u = are.0.0
+
+    d : CutDescriptor
+    d = note_of s.store x.0 x.1 (descriptor_of s.store.links x.0 x.1)
+
+    note : (d.process ≡ x.0) × (d.number ≡ x.1) × (d.uid ≡ u)
+    note = note_is s x.0 x.1 u (descriptor_of s.store.links x.0 x.1) are.0.1
+
+    one : seen (cut_one s c a w x) ≡ cut (seen s) c a w d
+    one = cut_one_seen s c a w x u are.0.1
+
+    linked : (seen s).linked d.process d.number ≡ Some d.uid
+    linked = ap (λ (j : ℕ). (seen s).linked j d.number) note.0 ∙ (ap (λ (j : ℕ). (seen s).linked x.0 j) note.1
+        ∙ (are.0.1 ∙ ap (λ (j : ℕ). Some j) (sym note.2)))
+
+    book : KeepsBook (seen (cut_one s c a w x))
+    book = subst KeepsBook (sym one) (cut_keeps (seen s) c a w d k (record {
+      linked = linked;
+      still = still;
+      others = others;
+      this = names_linked (seen s) w d.process d.number d.uid linked ∙ (ap (names_uid w) note.2 ∙ are.0.2);
+      aimed = aimed (frames_of_owner s.owner) (cut_of_owner s.owner ++ d ∷ []);
+    }))
+
+-- ---- pages, and then descriptors
+
+takes_linked : (v : Seen) (c : ℕ) (a : Aim) (w : What) (fs : List ℕ) → (takes v c a w fs).linked ≡ v.linked
+takes_linked v c a w [] = refl
+takes_linked v c a w (f ∷ fs) = takes_linked (taken v c a w f (page_at v f).0 (page_at v f).1) c a w fs
+
+-- What a job may take: pages that are here, and descriptors that lead to segments, all named by what it is to signal.
+pub record CanTook (s : State) (a : Aim) (w : What) (fs : List ℕ) (pairs : List (ℕ × ℕ)) : Type 0 where
+  pub pages : CanTakeAll (seen s) a w fs
+  pub bound : (f : ℕ) → has fs f ≡ true → (seen s).bound f ≡ Some (page_at (seen s) f)
+  pub pairs_are : ArePairs (seen s).linked w pairs
+
+pub took_keeps : (s : State) (c : ℕ) (a : Aim) (w : What) (fs : List ℕ) (pairs : List (ℕ × ℕ)) → HasTables s
+    → KeepsBook (seen s) → CanTook s a w fs pairs
+    → HasTaken (seen (took s c a w fs pairs)) w
+took_keeps s c a w fs pairs tables k can = cut_all_keeps
+    (take_all s c a w fs) c a w pairs first.book first.others first.still can.pages.aimed
+    (subst (λ (l : ℕ → ℕ → Option ℕ). ArePairs l w pairs)
+    (sym (ap (λ (v : Seen). v.linked) taken_is ∙ takes_linked (seen s) c a w fs)) can.pairs_are)
+  where
+    taken_is : seen (take_all s c a w fs) ≡ takes (seen s) c a w fs
+    taken_is = take_all_seen s c a w fs tables can.pages.here can.bound can.pages.once
+
+    first : HasTaken (seen (take_all s c a w fs)) w
+    first = subst (λ (v : Seen). HasTaken v w) (sym taken_is) (takes_keep (seen s) c a w fs k can.pages)
+
+-- taking changes the store, the owner and the book alone
+record IsRest (s now : State) : Type 0 where
+  pub processors : now.processors ≡ s.processors
+  pub runs : now.runs ≡ s.runs
+  pub plan : now.plan ≡ s.plan
+  pub faults : now.faults ≡ s.faults
+  pub count : count_by is_fault now.entries ≡ count_by is_fault s.entries
+
+take_rest : (s : State) (c : ℕ) (a : Aim) (w : What) (fs : List ℕ) → IsRest s (take_all s c a w fs)
+take_rest s c a w [] = record { processors = refl; runs = refl; plan = refl; faults = refl; count = refl }
+take_rest s c a w (f ∷ fs) = let rest = take_rest (take_one s c a w f) c a w fs in record {
+  processors = rest.processors;
+  runs = rest.runs;
+  plan = rest.plan;
+  faults = rest.faults;
+  count = rest.count ∙ (let one = faults_push s.entries (entry.Take f) in
+      let none : count_by is_fault (s.entries ++ entry.Take f ∷ []) ≡ count_by is_fault s.entries =
+      omega (arith, one) in none);
+}
+
+cut_rest : (s : State) (c : ℕ) (a : Aim) (w : What) (pairs : List (ℕ × ℕ)) → IsRest s (cut_all s c a w pairs)
+cut_rest s c a w [] = record { processors = refl; runs = refl; plan = refl; faults = refl; count = refl }
+cut_rest s c a w (x ∷ xs) = let rest = cut_rest (cut_one s c a w x) c a w xs in record {
+  processors = rest.processors;
+  runs = rest.runs;
+  plan = rest.plan;
+  faults = rest.faults;
+  count = rest.count ∙ (let one = faults_push s.entries (entry.Cut x.0 x.1) in
+      let none : count_by is_fault (s.entries ++ entry.Cut x.0 x.1 ∷ []) ≡ count_by is_fault s.entries =
+      omega (arith, one) in none);
+}
+
+-- the owner is this processor
+abbrev pub Owns : State → ℕ → Type 0
+Owns s c = (o : Owner) → s.owner ≡ Some o → o.cpu ≡ c
+
+own_cpu : {c : ℕ} (q o : Owner) → Some q ≡ Some o → q.cpu ≡ c → o.cpu ≡ c
+own_cpu q o h same = ap (λ (x : Owner). x.cpu) (let is : o ≡ q = cc in is) ∙ same
+
+take_owns : (s : State) (c : ℕ) (a : Aim) (w : What) (fs : List ℕ) → Owns s c → Owns (take_all s c a w fs) c
+take_owns s c a w [] own = own
+take_owns s c a w (f ∷ fs) own = take_owns (take_one s c a w f) c a w fs (λ o h. own_cpu _ o h refl)
+
+cut_owns : (s : State) (c : ℕ) (a : Aim) (w : What) (pairs : List (ℕ × ℕ)) → Owns s c → Owns (cut_all s c a w pairs) c
+cut_owns s c a w [] own = own
+cut_owns s c a w (x ∷ xs) own = cut_owns (cut_one s c a w x) c a w xs (λ o h. own_cpu _ o h refl)
+
+pub took_kept : (s : State) (c : ℕ) (a : Aim) (w : What) (fs : List ℕ) (pairs : List (ℕ × ℕ)) → Keeps s
+    → CanTook s a w fs pairs → Owns s c
+    → IsAtWork (processor_at s.processors c) → StoreSays (took s c a w fs pairs) → Keeps (took s c a w fs pairs)
+took_kept s c a w fs pairs k can own works says = kept_with (took s c a w fs pairs)
+    (took_keeps s c a w fs pairs k.store.kept.places k.book can).book says
+    (let one = first.count in let two = second.count in let f = first.faults in let g = second.faults in
+    let few = k.few_faults in omega (arith, one, two, f, g, few))
+    (ap length (second.processors ∙ first.processors)
+    ∙ (k.sizes.processors ∙ ap (λ (p : Plan). p.processors) (sym (second.plan ∙ first.plan))))
+    (ap length (second.runs ∙ first.runs) ∙ (k.sizes.processes
+    ∙ ap (λ (p : Plan). length p.processes) (sym (second.plan ∙ first.plan))))
+    (λ o h. subst (λ (ps : List Processor). IsAtWork (processor_at ps o.cpu))
+    (sym (second.processors ∙ first.processors))
+    (subst (λ (d : ℕ). IsAtWork (processor_at s.processors d))
+    (sym (cut_owns (take_all s c a w fs) c a w pairs (take_owns s c a w fs own) o h)) works))
+  where
+    first : IsRest s (take_all s c a w fs)
+    first = take_rest s c a w fs
+
+    second : IsRest (take_all s c a w fs) (took s c a w fs pairs)
+    second = cut_rest (take_all s c a w fs) c a w pairs
