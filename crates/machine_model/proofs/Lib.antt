@@ -10,6 +10,7 @@ pub mod ChainLaws
 pub mod ChangesUnderUse
 pub mod ClearLaws
 pub mod CommandLaws
+pub mod CommitKept
 pub mod CountLaws
 pub mod CutPages
 pub mod Deletions

@@ -1,0 +1,243 @@
+-- The machine keeps its promise where a tree command takes effect.
+use Rattle.std.proofs.Common.{◌≡◌, ◌<◌, ℕ, Bool, true, false, cond, count_by, List, [], ◌∷◌, ◌++◌, map, length, set}
+use Rattle.std.proofs.Common.{Option, Some, None, inl, refl, sym, ap, subst, ◌∙◌, arith}
+use Rattle.std.specs.Prelude.{IsSomeAnd}
+use Rattle.std.proofs.lemmas.List.{get_or-set_same, length-set}
+use Rattle.script.specs.declared.commands.Command.{Command}
+use Rattle.script.specs.declared.commands.Command.TheVariants as command
+use Rattle.book.specs.declared.entries.Entry.{Entry}
+use Rattle.book.specs.declared.entries.Entry.TheVariants as entry
+use Rattle.book.specs.declared.replies.Reply.{Reply}
+use Rattle.tree_model.specs.Access.{Row}
+use Rattle.flat_model.specs.Branches.{parts_of}
+use Rattle.flat_model.specs.Store.{Store, progress_of}
+use Rattle.custody_model.specs.Allowed.{MayGo, MayLeave}
+use Rattle.custody_model.specs.Next.{queued as queued_by}
+use Rattle.machine_model.specs.Chains.{gone_segs, without_cut}
+use Rattle.machine_model.specs.Changes.{counted, emptied, gone_seg, left}
+use Rattle.machine_model.specs.Commits.{committed, cut_entry, frame_entry, gone_entries, inactive_entries, left_after}
+use Rattle.machine_model.specs.Commits.{with_effect, with_made}
+use Rattle.machine_model.specs.Custodial.{IsRun, KeepsBook, is_pending}
+use Rattle.machine_model.specs.Holding.{seen}
+use Rattle.machine_model.specs.Keeps.{Keeps, StoreSays, is_fault}
+use Rattle.machine_model.specs.Reads.{cut_of_owner, flat_of, frames_of_owner, next_command, no_processor, no_run}
+use Rattle.machine_model.specs.Reads.{or_zero, process_at, processor_at, run_at}
+use Rattle.machine_model.specs.Refusal.{reply_of, uid_of_command}
+use Rattle.machine_model.specs.Seen.{Seen, shown}
+use Rattle.machine_model.specs.State.{CutDescriptor, Owner, Processor, Run, State, Storage}
+use Rattle.machine_model.specs.Steps.{booked, left_at, queued, run_after, told, told_by, with_owner, with_store}
+use Rattle.machine_model.proofs.AnswerLaws.{owner_keeps}
+use Rattle.machine_model.proofs.ChainLaws.{GoesOn, gone_segs_keep}
+use Rattle.machine_model.proofs.KeepLaws.{faults_push}
+use Rattle.machine_model.proofs.OwnedLaws.{IsIdle, nobody}
+use Rattle.machine_model.proofs.OwnerLaws.{job_over}
+use Rattle.machine_model.proofs.SeatLaws.{leave_keeps}
+use Rattle.machine_model.proofs.SeenLaws.{reseated_seen}
+use Rattle.machine_model.proofs.TellKept.{CanTell, told_keeps}
+use Rattle.machine_model.proofs.TieLaws.{none_some}
+use Rattle.machine_model.proofs.TransferKept.{kept_with}
+
+-- ---- a process leaves its processor
+
+queue_same : (t : Store) (run : Run) (ready : List ℕ) (k : ℕ) (o : Option ℕ) → o ≡ Some k → IsRun (progress_of t k) run
+    → queued_by t ready o ≡ queued run ready k
+queue_same t run ready k o h is = ap (queued_by t ready) h ∙ ap (λ (b : Bool). cond b ready (ready ++ k ∷ [])) is.ended
+
+-- what custody sees of a process that leaves its processor
+pub left_seen : (s : State) (c k : ℕ) → KeepsBook (seen s) → c < length s.processors
+    → (processor_at s.processors c).cpu.process ≡ Some k
+    → seen (left_at s c) ≡ left (seen s) c
+left_seen s c k book there process = reseated_seen s c (emptied (processor_at s.processors c))
+    (queued (run_at s.runs (process_at s c)) s.ready (process_at s c))
+    (entry.Leave c) there ∙ ap (λ (ready : List ℕ). record (left (seen s) c) { ready = ready }) ready_same
+  where
+    its : process_at s c ≡ k
+    its = ap or_zero process
+
+    ready_same : queued (run_at s.runs (process_at s c)) s.ready (process_at s c)
+        ≡ queued_by (flat_of s) s.ready (processor_at s.processors c).cpu.process
+    ready_same = ap (λ (j : ℕ). queued (run_at s.runs j) s.ready j) its
+        ∙ sym (queue_same (flat_of s) (run_at s.runs k) s.ready k (processor_at s.processors c).cpu.process process
+        (book.runs k))
+
+pub left_keeps_book : (s : State) (c k : ℕ) → KeepsBook (seen s) → c < length s.processors
+    → (processor_at s.processors c).cpu.process ≡ Some k
+    → MayLeave (flat_of s) (shown (seen s)) c → KeepsBook (seen (left_at s c))
+left_keeps_book s c k book there process may =
+    subst KeepsBook (sym (left_seen s c k book there process)) (leave_keeps (seen s) c book may)
+
+-- ---- descriptors that were cut are gone
+
+append_nil : (es : List Entry) → es ++ [] ≡ es
+append_nil [] = refl
+append_nil (e ∷ es) = ap (λ (t : List Entry). e ∷ t) (append_nil es)
+
+append_assoc : (xs ys zs : List Entry) → (xs ++ ys) ++ zs ≡ xs ++ (ys ++ zs)
+append_assoc [] ys zs = refl
+append_assoc (x ∷ xs) ys zs = ap (λ (t : List Entry). x ∷ t) (append_assoc xs ys zs)
+
+-- the book tells of each descriptor that is gone, and nothing else changes but the owner
+gone_segs_is : (v : Seen) (ds : List CutDescriptor) (owner : Option Owner)
+    → record (gone_segs v ds) { owner = owner } ≡ record v { owner = owner; entries = v.entries ++ map cut_entry ds }
+gone_segs_is v [] owner = λ i. record v { owner = owner; entries = sym (append_nil v.entries) i }
+gone_segs_is v (d ∷ ds) owner = gone_segs_is (gone_seg v d (without_cut v.owner)) ds owner
+    ∙ (λ i. record v { owner = owner; entries = append_assoc v.entries (cut_entry d ∷ []) (map cut_entry ds) i })
+
+-- A job has taken descriptors alone, or nothing: they are gone, and it is over.
+pub segs_over : (s : State) (ds : List CutDescriptor) → KeepsBook (seen s) → GoesOn (seen s) [] ds
+    → KeepsBook (record (seen s) { owner = None; entries = s.entries ++ map cut_entry ds })
+segs_over s ds k on = let gone = gone_segs_keep (seen s) [] ds k on in subst KeepsBook (gone_segs_is (seen s) ds None)
+    (job_over (gone_segs (seen s) ds) None gone.book gone.on.frames gone.on.cut gone.on.none gone.on.still nobody refl)
+
+pub idle_over : (s : State) → KeepsBook (seen s) → IsIdle s.owner → is_pending s.owner ≡ false
+    → KeepsBook (record (seen s) { owner = None; entries = s.entries ++ [] })
+idle_over s k idle still = subst (λ (es : List Entry). KeepsBook (record (seen s) { owner = None; entries = es }))
+    (sym (append_nil s.entries))
+    (owner_keeps (seen s) None k idle nobody still)
+
+-- ---- the effect on what custody sees
+
+-- a command that takes no page away
+abbrev pub TakesNoPage : Command → Type 0
+TakesNoPage (command.Truncate path words) = ⊥
+TakesNoPage (command.Delete path) = ⊥
+TakesNoPage _ = Unit {0}
+
+made_seen_same : (s : State) (directory : Bool) (pages volume : ℕ) (rows : List Row)
+    (o : Option (List (List ℕ) × List ℕ))
+    → seen (with_store s (with_made s.store directory pages volume rows o)) ≡ seen s
+made_seen_same s directory pages volume rows None = refl
+made_seen_same s directory pages volume rows (Some parts) = refl
+
+-- such a command changes the tree, the accounts, the VTOCs and the known numbers alone
+pub effect_seen : (s : State) (k u : ℕ) (frames : List ℕ) (c : Command) → TakesNoPage c
+    → seen (with_store s (with_effect s.store k u frames c)) ≡ seen s
+effect_seen s k u frames (command.MkDir path volume) h = made_seen_same s true 0 volume [] (parts_of path)
+effect_seen s k u frames (command.MkSeg path pages volume) h = made_seen_same s false pages volume _ (parts_of path)
+effect_seen s k u frames (command.Initiate path) h = refl
+effect_seen s k u frames (command.Terminate n) h = refl
+effect_seen s k u frames (command.Acl path row m) h = refl
+effect_seen s k u frames (command.Length path pages) h = refl
+effect_seen s k u frames (command.Truncate path words) h = absurd h
+effect_seen s k u frames (command.Delete path) h = absurd h
+effect_seen s k u frames (command.Move path amount) h = refl
+effect_seen s k u frames _ h = refl
+
+no_inactive : (st : Storage) (u : ℕ) (c : Command) → TakesNoPage c → inactive_entries st u c ≡ []
+no_inactive st u (command.Delete path) h = absurd h
+no_inactive st u _ h = refl
+
+-- the entries of a command that has cut descriptors alone
+gone_are : (s : State) (u : ℕ) (c : Command) → TakesNoPage c → frames_of_owner s.owner ≡ []
+    → gone_entries s u c ≡ map cut_entry (cut_of_owner s.owner)
+gone_are s u c h none = ap (λ (fs : List ℕ). map (frame_entry s.store c) fs ++
+    (map cut_entry (cut_of_owner s.owner) ++ inactive_entries s.store u c)) none
+    ∙ (ap (λ (es : List Entry). map cut_entry (cut_of_owner s.owner) ++ es) (no_inactive s.store u c h)
+    ∙ append_nil (map cut_entry (cut_of_owner s.owner)))
+
+cut_faults : (es : List Entry) (ds : List CutDescriptor)
+    → count_by is_fault (es ++ map cut_entry ds) ≡ count_by is_fault es
+cut_faults es [] = ap (count_by is_fault) (append_nil es)
+cut_faults es (d ∷ ds) = ap (count_by is_fault) (sym (append_assoc es (cut_entry d ∷ []) (map cut_entry ds)))
+    ∙ (cut_faults (es ++ cut_entry d ∷ []) ds ∙ (let one = faults_push es (cut_entry d) in
+    let none : count_by is_fault (es ++ cut_entry d ∷ []) ≡ count_by is_fault es = omega (arith, one) in none))
+
+-- ---- the command
+
+-- the machine once the effect is made and what was taken is gone
+abbrev pub effected : State → ℕ → Command → State
+effected s k c = booked (with_store s (with_effect s.store k (uid_of_command s.store k c) (frames_of_owner s.owner) c))
+    (gone_entries s (uid_of_command s.store k c) c)
+
+module _ (s : State) (c k : ℕ) (cmd : Command) (keeps : Keeps s) (pages : TakesNoPage cmd)
+    (none : frames_of_owner s.owner ≡ [])
+    (over : KeepsBook (record (seen s) { owner = None; entries = s.entries ++ map cut_entry (cut_of_owner s.owner) }))
+  where
+    abbrev now : State
+    now = effected s k cmd
+
+    gone_is : gone_entries s (uid_of_command s.store k cmd) cmd ≡ map cut_entry (cut_of_owner s.owner)
+    gone_is = gone_are s (uid_of_command s.store k cmd) cmd pages none
+
+    pub effected_book : KeepsBook (seen (with_owner now None))
+    effected_book = subst KeepsBook (sym (ap (λ
+        (v : Seen). record v { owner = None; entries = s.entries ++ gone_entries s (uid_of_command s.store k cmd) cmd })
+        (effect_seen s k (uid_of_command s.store k cmd) (frames_of_owner s.owner) cmd pages)
+        ∙ (λ i. record (seen s) { owner = None; entries = s.entries ++ gone_is i }))) over
+
+    -- the command is done, and the supervisor given up
+    pub commit_kept : ((x : State) → left_after x c cmd ≡ x) → process_at s c ≡ k
+        → CanTell (with_owner now None) c (process_at s c) None (reply_of s k cmd)
+        → StoreSays (committed s c k cmd) → Keeps (committed s c k cmd)
+    commit_kept stays its tell says = subst Keeps (sym same)
+        (kept_with (with_owner (told now c None (reply_of s k cmd)) None)
+        (told_keeps (with_owner now None) c (process_at s c) None (reply_of s k cmd) effected_book tell)
+        (subst StoreSays same says)
+        (let one = faults_push now.entries (entry.Do (process_at s c) (run_at s.runs (process_at s c)).place c None
+        (reply_of s k cmd)) in
+        let two = cut_faults s.entries (cut_of_owner s.owner) in
+        let three = ap (λ (es : List Entry). count_by is_fault (s.entries ++ es)) gone_is in
+        let few = keeps.few_faults in omega (arith, one, two, three, few))
+        (length-set s.processors c _ ∙ keeps.sizes.processors)
+        (length-set s.runs (process_at s c) _ ∙ keeps.sizes.processes) (λ o h. absurd (none_some h)))
+      where
+        same : committed s c k cmd ≡ with_owner (told now c None (reply_of s k cmd)) None
+        same = ap (λ (x : State). with_owner x None) (stays (told now c None (reply_of s k cmd)))
+
+-- ---- the end of a process
+
+process_counted : (ps : List Processor) (c : ℕ) (tried : Bool) → c < length ps
+    → (processor_at (set ps c (counted (processor_at ps c) tried)) c).cpu.process ≡ (processor_at ps c).cpu.process
+process_counted ps c tried there = ap (λ (p : Processor). p.cpu.process)
+    (get_or-set_same ps c (counted (processor_at ps c) tried) no_processor there)
+
+ended_run : (run : Run) (r : Reply) → (run_after run (Some command.End) r).ended ≡ true
+ended_run run r = refl
+
+module _ (s : State) (c k : ℕ) (keeps : Keeps s) (none : frames_of_owner s.owner ≡ [])
+    (over : KeepsBook (record (seen s) { owner = None; entries = s.entries ++ map cut_entry (cut_of_owner s.owner) }))
+    (process : (processor_at s.processors c).cpu.process ≡ Some k) (next : next_command s k ≡ Some command.End) where
+  abbrev ending : State
+  ending = with_owner (effected s k command.End) None
+
+  abbrev ended : State
+  ended = told_by ending c k None (reply_of s k command.End)
+
+  -- the process has ended, and its processor has none any more
+  pub end_kept : CanTell ending c k None (reply_of s k command.End) → StoreSays (committed s c k command.End)
+      → Keeps (committed s c k command.End)
+  end_kept tell says = subst Keeps (sym same) (kept_with (left_at ended c)
+      (left_keeps_book ended c k book there process_still may) (subst StoreSays same says)
+      (let one = faults_push (effected s k command.End).entries
+      (entry.Do k (run_at s.runs k).place c None (reply_of s k command.End)) in
+      let two = cut_faults s.entries (cut_of_owner s.owner) in
+      let three = ap (λ (es : List Entry). count_by is_fault (s.entries ++ es))
+      (gone_are s (uid_of_command s.store k command.End) command.End tt none) in
+      let four = faults_push ended.entries (entry.Leave c) in
+      let few = keeps.few_faults in omega (arith, one, two, three, four, few))
+      (length-set ended.processors c _ ∙ (length-set s.processors c _ ∙ keeps.sizes.processors))
+      (length-set s.runs k _ ∙ keeps.sizes.processes)
+      (λ o h. absurd (none_some h)))
+    where
+      same : committed s c k command.End ≡ left_at ended c
+      same = ap (λ (j : ℕ). left_at (told_by ending c j None (reply_of s k command.End)) c) (ap or_zero process)
+
+      there : c < length ended.processors
+      there = subst (λ (n : ℕ). c < n) (sym (length-set s.processors c _)) tell.there
+
+      process_still : (processor_at ended.processors c).cpu.process ≡ Some k
+      process_still = process_counted s.processors c _ tell.there ∙ process
+
+      book : KeepsBook (seen ended)
+      book = told_keeps ending c k None (reply_of s k command.End)
+          (effected_book s c k command.End keeps tt none over) tell
+
+      over_now : (progress_of (flat_of ended) k).ended ≡ true
+      over_now = (book.runs k).ended ∙ (ap (λ (r : Run). r.ended)
+          (get_or-set_same s.runs k (run_after (run_at s.runs k) (next_command s k)
+          (reply_of s k command.End)) no_run tell.known)
+          ∙ ap (λ (o : Option Command). (run_after (run_at s.runs k) o (reply_of s k command.End)).ended) next)
+
+      may : MayLeave (flat_of ended) (shown (seen ended)) c
+      may = subst (λ (o : Option ℕ). IsSomeAnd o
+          (MayGo (flat_of ended) (shown (seen ended)) ((shown (seen ended)).seat c))) (sym process_still) (inl over_now)
