@@ -6,6 +6,7 @@ pub mod ActiveSeen
 pub mod AnswerLaws
 pub mod BackKept
 pub mod BookNext
+pub mod BootKept
 pub mod ChainLaws
 pub mod ChangesUnderUse
 pub mod ClearLaws

@@ -1,0 +1,139 @@
+-- The machine keeps its promise at first, where its store does.
+use Rattle.std.proofs.Common.{◌≡◌, ℕ, zero, suc, Bool, true, false, List, [], length, get_or, replicate}
+use Rattle.std.proofs.Common.{None, refl, sym, ap, subst, ◌∙◌, arith}
+use Rattle.std.specs.Prelude.{sum}
+use Rattle.std.specs.List.{list_any}
+use Rattle.std.proofs.lemmas.List.{length-replicate}
+use Rattle.script.specs.Plans.{Plan}
+use Rattle.core_map.specs.declared.Frame.TheVariants as frame
+use Rattle.core_map.specs.CoreMap.{bound_page, started_page}
+use Rattle.page_table.specs.declared.Ptw.TheVariants as ptw
+use Rattle.active_segs.specs.Active.{no_segments}
+use Rattle.descriptor_seg.specs.declared.Sdw.TheVariants as sdw
+use Rattle.seg_control.specs.Control.{is_for}
+use Rattle.flat_model.specs.Store.{Progress, at_first, boot, progress_of}
+use Rattle.flat_model.proofs.BookLaws.{legal_nil, store_after-nil}
+use Rattle.custody_model.specs.Custody.{ready_at_first}
+use Rattle.custody_model.proofs.CleanLaws.{clean_nil, custody_after-nil}
+use Rattle.custody_model.proofs.FineLaws.{fine_first}
+use Rattle.machine_model.specs.Boot.{booted, first_run}
+use Rattle.machine_model.specs.Custodial.{IsRun, KeepsBook}
+use Rattle.machine_model.specs.Holding.{led_to, seen}
+use Rattle.machine_model.specs.Keeps.{Keeps, StoreSays}
+use Rattle.machine_model.specs.Reads.{is_active, no_processor, no_run}
+use Rattle.machine_model.specs.Seen.{Seen}
+use Rattle.machine_model.specs.State.{Run}
+use Rattle.machine_model.proofs.ActiveSeen.{inactive_blank}
+use Rattle.machine_model.proofs.ListLaws.{map_list}
+use Rattle.machine_model.proofs.TieLaws.{none_some}
+use Rattle.machine_model.proofs.TransferKept.{kept_with}
+
+-- ---- lists of one value
+
+module _ {A : Type 0} where
+  -- each element of a list of one value is that, and so is the default past its end
+  at_fill : (n : ℕ) (x : A) (i : ℕ) → get_or (replicate n x) i x ≡ x
+  at_fill zero x i = refl
+  at_fill (suc n) x zero = refl
+  at_fill (suc n) x (suc i) = at_fill n x i
+
+  none_of : (p : A → Bool) (n : ℕ) (x : A) → p x ≡ false → list_any p (replicate n x) ≡ false
+  none_of p zero x h = refl
+  none_of p (suc n) x h = rw h (none_of p n x h)
+
+-- ---- what custody sees at first
+
+-- nothing is bound, read, active or connected, and no processor takes part
+abbrev blank : Plan → (ℕ → Run) → Seen
+blank p runs = record {
+  plan = p;
+  entries = [];
+  bound = λ f. None;
+  reads = λ f. None;
+  words = λ u q. ptw.Null;
+  active = λ u. false;
+  linked = λ k n. None;
+  ready = ready_at_first p;
+  processors = λ c. no_processor;
+  owner = None;
+  runs = runs;
+}
+
+blank_keeps : (p : Plan) (runs : ℕ → Run) → ((k : ℕ) → IsRun (progress_of (boot p) k) (runs k))
+    → KeepsBook (blank p runs)
+blank_keeps p runs are = record {
+  legal = legal_nil p;
+  clean = clean_nil p;
+  held = sym (custody_after-nil p);
+  stale_due = fine_first p;
+  going_owned = record {
+    frames = λ f. refl;
+    cuts = λ k n. refl;
+    once = tt;
+    apart = tt;
+    due = λ d w h. absurd (none_some h);
+    alive = λ d w h. absurd (none_some h);
+    says = λ w h. absurd (none_some h);
+    shaped = tt;
+  };
+  tied = record {
+    named = λ f u q h. absurd (none_some h);
+    back = λ f u q h. absurd (none_some h);
+    out = λ f u q h. absurd (none_some h);
+    alone = λ f g u q h. absurd (none_some h);
+    unbound = λ f u q h. absurd (none_some h);
+  };
+  holding_right = λ d. record { pages = tt; segs = refl; few_pages = omega arith; few_segs = omega arith };
+  under_way = record {
+    reading = λ d t h. absurd (none_some h);
+    reader = λ f u q h. absurd (none_some h);
+    alone = λ d e t v h. absurd (none_some h);
+  };
+  runs = λ k. subst (λ s. IsRun (progress_of s k) (runs k)) (sym (store_after-nil p)) (are k);
+}
+
+-- ---- the machine at first
+
+faults_alone : (dss n k j : ℕ) → get_or (get_or (replicate dss (replicate n sdw.Fault)) k []) j sdw.Fault ≡ sdw.Fault
+faults_alone zero n k j = refl
+faults_alone (suc m) n zero j = at_fill n sdw.Fault j
+faults_alone (suc m) n (suc k) j = faults_alone m n k j
+
+abbrev no_progress : Progress
+no_progress = record { place = 0; tries = 0; ended = true; faulted = false }
+
+runs_alone : (n k : ℕ) → IsRun (get_or (replicate n at_first) k no_progress) (get_or (replicate n first_run) k no_run)
+runs_alone zero k = record { place = refl; tries = refl; ended = refl }
+runs_alone (suc n) zero = record { place = refl; tries = refl; ended = refl }
+runs_alone (suc n) (suc k) = runs_alone n k
+
+runs_first : (p : Plan) (k : ℕ) → IsRun (progress_of (boot p) k)
+    (get_or (replicate (length p.processes) first_run) k no_run)
+unfolding boot
+runs_first p k = runs_alone (length p.processes) k
+
+first_inactive : (p : Plan) (u : ℕ) → is_active (no_segments p.pools) u ≡ false
+first_inactive p u = none_of (is_for u) (sum p.pools) None refl
+
+first_seen : (p : Plan) (words : List (List ℕ)) (disks : List (List (List ℕ)))
+    → length (no_segments p.pools).tables ≡ length (no_segments p.pools).entries
+    → seen (booted p words disks) ≡ blank p (λ k. get_or (replicate (length p.processes) first_run) k no_run)
+first_seen p words disks tables = λ i. record
+    (blank p (λ k. get_or (replicate (length p.processes) first_run) k no_run)) {
+      bound = λ f. (map_list bound_page (replicate p.frames frame.Free) f frame.Free
+          ∙ ap bound_page (at_fill p.frames frame.Free f)) i;
+      reads = λ f. (map_list started_page (replicate p.frames frame.Free) f frame.Free
+          ∙ ap started_page (at_fill p.frames frame.Free f)) i;
+      words = λ u q. inactive_blank (no_segments p.pools) u tables (first_inactive p u) q i;
+      active = λ u. first_inactive p u i;
+      linked = λ k n. ap (led_to (no_segments p.pools).entries) (faults_alone (length p.processes) 256 k n) i;
+      processors = λ c. at_fill p.processors no_processor c i;
+    }
+
+-- The machine keeps its promise at first: what the store says of itself is all that it wants.
+pub boot_keeps : (p : Plan) (words : List (List ℕ)) (disks : List (List (List ℕ))) → StoreSays (booted p words disks)
+    → Keeps (booted p words disks)
+boot_keeps p words disks says = kept_with (booted p words disks)
+    (subst KeepsBook (sym (first_seen p words disks says.store.kept.places)) (blank_keeps p _ (runs_first p))) says
+    (omega arith) (length-replicate p.processors no_processor) (length-replicate (length p.processes) first_run)
+    (λ o h. absurd (none_some h))
