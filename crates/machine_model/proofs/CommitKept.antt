@@ -43,22 +43,20 @@ queue_same : (t : Store) (run : Run) (ready : List ℕ) (k : ℕ) (o : Option �
     → queued_by t ready o ≡ queued run ready k
 queue_same t run ready k o h is = ap (queued_by t ready) h ∙ ap (λ (b : Bool). cond b ready (ready ++ k ∷ [])) is.ended
 
+-- the ready list by the runs is that by the flat store
+pub ready_left : (s : State) (c k : ℕ) → KeepsBook (seen s) → (processor_at s.processors c).cpu.process ≡ Some k
+    → queued (run_at s.runs (process_at s c)) s.ready (process_at s c)
+    ≡ queued_by (flat_of s) s.ready (processor_at s.processors c).cpu.process
+ready_left s c k book process = ap (λ (j : ℕ). queued (run_at s.runs j) s.ready j) (ap or_zero process)
+    ∙ sym (queue_same (flat_of s) (run_at s.runs k) s.ready k (processor_at s.processors c).cpu.process process
+    (book.runs k))
+
 -- what custody sees of a process that leaves its processor
 pub left_seen : (s : State) (c k : ℕ) → KeepsBook (seen s) → c < length s.processors
-    → (processor_at s.processors c).cpu.process ≡ Some k
-    → seen (left_at s c) ≡ left (seen s) c
+    → (processor_at s.processors c).cpu.process ≡ Some k → seen (left_at s c) ≡ left (seen s) c
 left_seen s c k book there process = reseated_seen s c (emptied (processor_at s.processors c))
-    (queued (run_at s.runs (process_at s c)) s.ready (process_at s c))
-    (entry.Leave c) there ∙ ap (λ (ready : List ℕ). record (left (seen s) c) { ready = ready }) ready_same
-  where
-    its : process_at s c ≡ k
-    its = ap or_zero process
-
-    ready_same : queued (run_at s.runs (process_at s c)) s.ready (process_at s c)
-        ≡ queued_by (flat_of s) s.ready (processor_at s.processors c).cpu.process
-    ready_same = ap (λ (j : ℕ). queued (run_at s.runs j) s.ready j) its
-        ∙ sym (queue_same (flat_of s) (run_at s.runs k) s.ready k (processor_at s.processors c).cpu.process process
-        (book.runs k))
+    (queued (run_at s.runs (process_at s c)) s.ready (process_at s c)) (entry.Leave c) there
+    ∙ ap (λ (ready : List ℕ). record (left (seen s) c) { ready = ready }) (ready_left s c k book process)
 
 pub left_keeps_book : (s : State) (c k : ℕ) → KeepsBook (seen s) → c < length s.processors
     → (processor_at s.processors c).cpu.process ≡ Some k

@@ -65,6 +65,7 @@ pub mod SeatLaws
 pub mod SeenLaws
 pub mod SharedSegment
 pub mod StepLaws
+pub mod StepKept
 pub mod TakeSeen
 pub mod TellKept
 pub mod TieLaws
