@@ -35,6 +35,8 @@ pub mod LackLaws
 pub mod LateWord
 pub mod LeaveSeen
 pub mod ListLaws
+pub mod LookLaws
+pub mod LoopLaws
 pub mod MoveSeen
 pub mod LeftLaws
 pub mod LoopLaws
