@@ -83,7 +83,14 @@ blank_keeps p runs are = record {
     alone = λ f g u q h. absurd (none_some h);
     unbound = λ f u q h. absurd (none_some h);
   };
-  holding_right = λ d. record { pages = tt; segs = refl; few_pages = omega arith; few_segs = omega arith };
+  holding_right = λ d. record {
+    pages = tt;
+    segs = refl;
+    few_pages = omega arith;
+    few_segs = omega arith;
+    warned = λ w
+        h. absurd (none_some h);
+  };
   under_way = record {
     reading = λ d t h. absurd (none_some h);
     reader = λ f u q h. absurd (none_some h);

@@ -114,23 +114,24 @@ dropped_right bound descriptor w p right = record {
       right.few_pages in omega (arith, kept, few);
   few_segs = let kept = few_kept (λ e. not (names_seg w e)) p.cpu.assoc.segs in let few =
       right.few_segs in omega (arith, kept, few);
+  warned = right.warned;
 }
 
 told_right : (bound : ℕ → Option (ℕ × ℕ)) (descriptor : ℕ → ℕ → DescriptorUse) (c : ℕ) (w : What) (d : ℕ)
-    (p : Processor) → HoldsRight bound descriptor p
-    → HoldsRight bound descriptor (told_at c w d p)
-told_right bound descriptor c w d p right = by (eqb d c) p.cpu.online
+    (p : Processor) → HoldsRight bound descriptor p → HoldsRight bound descriptor (told_at c w d p)
+told_right bound descriptor c w d p right = by (eqb d c) p.cpu.online refl
   where
-    by : (b online : Bool) → HoldsRight bound descriptor (cond b (dropped p w) (cond online (warned p w) p))
-    by true online = dropped_right bound descriptor w p right
-    by false true = record {
+    by : (b online : Bool) → p.cpu.online ≡ online
+        → HoldsRight bound descriptor (cond b (dropped p w) (cond online (warned p w) p))
+    by true online e = dropped_right bound descriptor w p right
+    by false true e = record {
       pages = right.pages;
       segs = right.segs;
       few_pages = right.few_pages;
-      few_segs =
-          right.few_segs;
+      few_segs = right.few_segs;
+      warned = λ v h. e;
     }
-    by false false = right
+    by false false e = right
 
 told_transfer : (c : ℕ) (w : What) (d : ℕ) (p : Processor) → (told_at c w d p).cpu.transfer ≡ p.cpu.transfer
 told_transfer c w d p = by (eqb d c) p.cpu.online
@@ -224,4 +225,11 @@ clear_keeps v c w k due = book_next v (entry.Clear c w) (cleared_at v c w) k (re
 
     right : HoldsRight v.bound (shown v).descriptor (done_dropping (v.processors c) w)
     right = let right = dropped_right v.bound (shown v).descriptor w (v.processors c) (k.holding_right c) in
-        record { pages = right.pages; segs = right.segs; few_pages = right.few_pages; few_segs = right.few_segs }
+        record {
+          pages = right.pages;
+          segs = right.segs;
+          few_pages = right.few_pages;
+          few_segs = right.few_segs;
+          warned
+              = λ v h. absurd (none_some h);
+        }

@@ -184,6 +184,7 @@ right_alike bound old new p same right = record {
   segs = by p.cpu.process right.segs;
   few_pages = right.few_pages;
   few_segs = right.few_segs;
+  warned = right.warned;
 }
   where
     by : (o : Option ℕ) → AreOfProcess old o p.cpu.assoc.segs → AreOfProcess new o p.cpu.assoc.segs
@@ -199,6 +200,7 @@ right_frame bound descriptor f x p none right = record {
   segs = right.segs;
   few_pages = right.few_pages;
   few_segs = right.few_segs;
+  warned = right.warned;
 }
 
 pub right_descriptor : (bound : ℕ → Option (ℕ × ℕ)) (descriptor : ℕ → ℕ → DescriptorUse) (k n : ℕ) (x : DescriptorUse)
@@ -210,6 +212,7 @@ right_descriptor bound descriptor k n x p none right = record {
   segs = by p.cpu.process refl right.segs;
   few_pages = right.few_pages;
   few_segs = right.few_segs;
+  warned = right.warned;
 }
   where
     by : (o : Option ℕ) → p.cpu.process ≡ o → AreOfProcess descriptor o p.cpu.assoc.segs

@@ -4,6 +4,7 @@ use Rattle.std.proofs.Common.{arith}
 use Rattle.std.specs.Prelude.{IsSomeAnd}
 use Rattle.assoc_mem.specs.declared.HeldPage.{HeldPage}
 use Rattle.assoc_mem.specs.declared.HeldSeg.{HeldSeg}
+use Rattle.assoc_mem.specs.declared.What.{What}
 use Rattle.book.specs.declared.entries.Entry.{Entry}
 use Rattle.book.specs.declared.entries.Entry.TheVariants as entry
 use Rattle.page_table.specs.declared.Ptw.TheVariants as ptw
@@ -65,9 +66,16 @@ reseat_keeps v c p ready e k r = book_next v e (reseated v c p ready e) k (recor
 
 -- a processor that holds nothing
 right_empty : (v : Seen) (p : Processor) (process : Option ℕ)
-    → HoldsRight v.bound (shown v).descriptor
+    → ((w : What) → p.cpu.due ≡ Some w → p.cpu.online ≡ true) → HoldsRight v.bound (shown v).descriptor
     (record p { cpu = record p.cpu { process = process; assoc = record { segs = []; pages = [] } } })
-right_empty v p process = record { pages = tt; segs = none process; few_pages = omega arith; few_segs = omega arith }
+right_empty v p process warned = record {
+  pages = tt;
+  segs = none process;
+  few_pages = omega arith;
+  few_segs = omega
+      arith;
+  warned = warned;
+}
   where
     none : (o : Option ℕ) → AreOfProcess (shown v).descriptor o []
     none None = refl
@@ -84,8 +92,14 @@ online_keeps v c k inside off = reseat_keeps v c (taking_part (v.processors c)) 
   pending = refl;
   due = refl;
   transfer = refl;
-  right = let right = k.holding_right c in record
-      { pages = right.pages; segs = right.segs; few_pages = right.few_pages; few_segs = right.few_segs };
+  right = let right = k.holding_right c in record {
+    pages = right.pages;
+    segs = right.segs;
+    few_pages = right.few_pages;
+    few_segs = right.few_segs;
+    warned = λ w h.
+        refl;
+  };
   runs = k.runs;
 })
 
@@ -102,7 +116,7 @@ load_keeps v c n k on none front = reseat_keeps v c (running (v.processors c) n)
       pending = refl;
       due = refl;
       transfer = refl;
-      right = right_empty v (running (v.processors c) n) (Some n);
+      right = right_empty v (running (v.processors c) n) (Some n) (k.holding_right c).warned;
       runs = k.runs;
     })
 
@@ -117,7 +131,7 @@ leave_keeps v c k may = reseat_keeps v c (emptied (v.processors c))
       pending = refl;
       due = refl;
       transfer = refl;
-      right = right_empty v (emptied (v.processors c)) None;
+      right = right_empty v (emptied (v.processors c)) None (k.holding_right c).warned;
       runs = k.runs;
     })
 
@@ -153,6 +167,7 @@ fill_seg_keeps v c n e k can = reseat_keeps v c (with_held_seg (v.processors c) 
             (v.processors c).cpu.assoc.segs) can.process right.segs) (ap leads_to is));
         few_pages = right.few_pages;
         few_segs = filled_few (v.processors c).cpu.assoc.segs e right.few_segs;
+        warned = right.warned;
       };
       runs = k.runs;
     })
@@ -204,6 +219,7 @@ fill_page_keeps v c e k can = reseat_keeps v c (with_held_page (v.processors c) 
         segs = right.segs;
         few_pages = filled_few (v.processors c).cpu.assoc.pages e right.few_pages;
         few_segs = right.few_segs;
+        warned = right.warned;
       };
       runs = k.runs;
     })

@@ -44,6 +44,7 @@ transfer_right bound descriptor processors c t right d =
       few_pages = was.few_pages;
       few_segs =
           was.few_segs;
+      warned = was.warned;
     })) (λ n. right d)
 
 transfer_of : (processors : ℕ → Processor) (c : ℕ) (t : Option Transfer)

@@ -141,12 +141,14 @@ abbrev pub AreOfProcess : (ℕ → ℕ → DescriptorUse) → Option ℕ → Lis
 AreOfProcess descriptor None es = es ≡ []
 AreOfProcess descriptor (Some k) es = AreHeldSegs descriptor k es
 
--- What a processor holds, at most 16 of each kind, agrees with the frames and the descriptors.
+-- What a processor holds, at most 16 of each kind, agrees with the frames and the descriptors. One that is to drop something
+-- takes part.
 pub record HoldsRight (bound : ℕ → Option (ℕ × ℕ)) (descriptor : ℕ → ℕ → DescriptorUse) (p : Processor) : Type 0 where
   pub pages : AreHeldPages bound p.cpu.assoc.pages
   pub segs : AreOfProcess descriptor p.cpu.process p.cpu.assoc.segs
   pub few_pages : length p.cpu.assoc.pages ≤ 16
   pub few_segs : length p.cpu.assoc.segs ≤ 16
+  pub warned : (w : What) → p.cpu.due ≡ Some w → p.cpu.online ≡ true
 
 -- A transfer that a processor has under way reads its page into its frame, and each page that is being read into a
 -- frame is
