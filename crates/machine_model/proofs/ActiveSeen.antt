@@ -39,7 +39,7 @@ module _ {X : Type 0} (p : X → Bool) where
       ap (λ (b : Bool). cond (not b) (1 + position_or_len p xs) 0) parts.0
       ∙ (let one : 1 + position_or_len p xs ≡ suc (length xs) = omega (arith, ih) in one)
 
-  some_within : (xs : List X) → list_any p xs ≡ true → position_or_len p xs < length xs
+  pub some_within : (xs : List X) → list_any p xs ≡ true → position_or_len p xs < length xs
   some_within [] h = absurd (let no : false ≡ true = h in cc)
   some_within (x ∷ xs) h = by (p x) (some_within xs) h
     where

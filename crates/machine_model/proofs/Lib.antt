@@ -22,6 +22,7 @@ pub mod FailedDeactivation
 pub mod FailedEviction
 pub mod FailedRead
 pub mod FailedShutdown
+pub mod FindLaws
 pub mod FinishKept
 pub mod FirstSteps
 pub mod FrameLaws

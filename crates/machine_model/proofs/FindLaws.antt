@@ -1,0 +1,155 @@
+-- What is found in lists of frames, of places and of what a processor holds.
+use Rattle.std.proofs.Common.{◌≡◌, ◌≢◌, ◌<◌, ℕ, suc, Bool, true, false, ◌||◌, cond, eqb, List, [], ◌∷◌, map, length}
+use Rattle.std.proofs.Common.{get_or, position, Option, Some, None, inl, inr, refl, sym, ap, subst, ◌∙◌, arith}
+use Rattle.std.specs.List.{find, list_any, position_or_len}
+use Rattle.std.proofs.lemmas.Bool.Decides.{eqb_tells, leb_tells, nat_tests}
+use Rattle.assoc_mem.specs.declared.HeldPage.{HeldPage}
+use Rattle.assoc_mem.specs.declared.HeldSeg.{HeldSeg}
+use Rattle.assoc_mem.specs.Held.{is_number, is_page}
+use Rattle.core_map.specs.declared.Frame.{Frame}
+use Rattle.core_map.specs.declared.Frame.TheVariants as frame
+use Rattle.core_map.specs.CoreMap.{Core, bound_page, frame_at, is_bound, is_free, least_free_frame, reads_of}
+use Rattle.core_map.specs.CoreMap.{started_page}
+use Rattle.core_map.specs.Clock.{clock_choice, is_idle, or_else, round_frames}
+use Rattle.page_control.specs.Plain.{binding_at, bindings}
+use Rattle.seg_control.specs.Kept.{read_at}
+use Rattle.custody_model.specs.Custody.{has}
+use Rattle.machine_model.specs.Custodial.{AreHeldPages}
+use Rattle.machine_model.specs.Reads.{frame_reading, is_page_of}
+use Rattle.machine_model.proofs.ActiveSeen.{any_at, some_within}
+use Rattle.machine_model.proofs.ListLaws.{map_list}
+use Rattle.machine_model.proofs.TieLaws.{none_some, page_is}
+use Rattle.machine_model.proofs.WordLaws.{found}
+
+no_and : {b : Bool} → b ≡ true → b ≡ false → ⊥
+no_and t f = let no : true ≡ false = sym t ∙ f in cc
+
+module _ {X : Type 0} (p : X → Bool) where
+  -- what is found passes
+  pub find_true : (xs : List X) (x : X) → find p xs ≡ Some x → p x ≡ true
+  find_true [] x h = absurd (let no : None ≡ Some x = h in cc)
+  find_true (y ∷ ys) x h = by (p y) refl (find_true ys x) h
+    where
+      by : (b : Bool) → p y ≡ b → (find p ys ≡ Some x → p x ≡ true) → cond b (Some y) (find p ys) ≡ Some x → p x ≡ true
+      by true e rest i = let same : y ≡ x = cc in subst (λ (z : X). p z ≡ true) same e
+      by false e rest i = rest i
+
+  pub position_at : (xs : List X) (d : X) (i : ℕ) → position p xs ≡ Some i
+      → (i < length xs) × (p (get_or xs i d) ≡ true)
+  position_at xs d i h = elim (leb_tells (suc (position_or_len p xs)) (length xs)) [
+    | inl e ↦ (let same : position_or_len p xs
+        ≡ i = is_some (sym (ap (λ (b : Bool). cond b (Some (position_or_len p xs)) None) e.0) ∙ h) in (
+          subst (λ (j : ℕ). j < length xs) same e.1,
+          subst (λ (j : ℕ). p (get_or xs j d) ≡ true) same (found p xs d e.1),
+        ))
+    | inr n ↦ absurd (none_some (sym (ap (λ (b : Bool). cond b (Some (position_or_len p xs)) None) n.0) ∙ h))
+  ]
+    where
+      is_some : Some (position_or_len p xs) ≡ Some i → position_or_len p xs ≡ i
+      is_some e = cc
+
+  -- where nothing is found, nothing passes
+  pub position_none : (xs : List X) (d : X) (i : ℕ) → position p xs ≡ None → p d ≡ false → p (get_or xs i d) ≡ false
+  position_none xs d i h past = by (p (get_or xs i d)) refl
+    where
+      some_none : (n : ℕ) → Some n ≡ None → ⊥
+      some_none n e = cc
+
+      by : (b : Bool) → p (get_or xs i d) ≡ b → b ≡ false
+      by false e = refl
+      by true e = elim (leb_tells (suc (position_or_len p xs)) (length xs)) [
+        | inl y ↦ absurd (some_none (position_or_len p xs)
+            (sym (ap (λ (b : Bool). cond b (Some (position_or_len p xs)) None) y.0) ∙ h))
+        | inr n ↦ absurd (past_end n.1 (any_at p xs i d e past))
+      ]
+        where
+          past_end : length xs < suc (position_or_len p xs) → list_any p xs ≡ true → ⊥
+          past_end far any = let near = some_within p xs any in omega (arith, far, near)
+
+-- ---- frames
+
+free_is : (x : Frame) → is_free x ≡ true → x ≡ frame.Free
+free_is frame.Free h = refl
+free_is (frame.Started u p) h = absurd (let no : false ≡ true = h in cc)
+free_is (frame.Bound u p used modified) h = absurd (let no : false ≡ true = h in cc)
+
+-- the least free frame is there, bound to nothing, and nothing is being read into it
+pub free_frame : (core : Core) (f : ℕ) → least_free_frame core ≡ Some f
+    → (f < length core.frames) × (binding_at (bindings core) f ≡ None) × (read_at (reads_of core) f ≡ None)
+free_frame core f h = let at = position_at is_free core.frames frame.Free f h in let is =
+    free_is (frame_at core f) at.1 in (
+      at.0,
+      map_list bound_page core.frames f frame.Free
+          ∙ ap bound_page is,
+      map_list started_page core.frames f frame.Free ∙ ap started_page is,
+    )
+
+-- a page that no frame is being read into for
+pub unread_page : (core : Core) (u p : ℕ) → frame_reading core u (λ q. eqb q p) ≡ None → (g : ℕ)
+    → read_at (reads_of core) g ≢ Some (u, p)
+unread_page core u p h g e = no_and passes (position_none
+    (λ x. is_page_of u (λ q. eqb q p) (started_page x)) core.frames frame.Free g h refl)
+  where
+    own : (n : ℕ) → eqb n n ≡ true
+    own n = elim (eqb_tells n n) [ inl y ↦ y.0 | inr m ↦ absurd (m.1 refl) ]
+
+    passes : is_page_of u (λ q. eqb q p) (started_page (frame_at core g)) ≡ true
+    passes = ap (is_page_of u (λ q. eqb q p)) (sym (map_list started_page core.frames g frame.Free) ∙ e)
+        ∙ rw (own u, own p) refl
+
+-- the clock's choice is bound
+pub choice_bound : (core : Core) (f : ℕ) → clock_choice core ≡ Some f
+    → (page : ℕ × ℕ) × (binding_at (bindings core) f ≡ Some page)
+choice_bound core f h = by (find (λ g. is_idle (frame_at core g)) (round_frames core))
+    (find (λ g. is_bound (frame_at core g)) (round_frames core)) refl refl h
+  where
+    bound_of : (x : Frame) → is_bound x ≡ true → (page : ℕ × ℕ) × (bound_page x ≡ Some page)
+    bound_of frame.Free e = absurd (let no : false ≡ true = e in cc)
+    bound_of (frame.Started u p) e = absurd (let no : false ≡ true = e in cc)
+    bound_of (frame.Bound u p used modified) e = ((u, p), refl)
+
+    idle_bound : (x : Frame) → is_idle x ≡ true → is_bound x ≡ true
+    idle_bound frame.Free e = e
+    idle_bound (frame.Started u p) e = e
+    idle_bound (frame.Bound u p used modified) e = refl
+
+    bound_at : is_bound (frame_at core f) ≡ true → (page : ℕ × ℕ) × (binding_at (bindings core) f ≡ Some page)
+    bound_at e = let b = bound_of (frame_at core f) e in (b.0, map_list bound_page core.frames f frame.Free ∙ b.1)
+
+    by : (x y : Option ℕ) → find (λ g. is_idle (frame_at core g)) (round_frames core) ≡ x
+        → find (λ g. is_bound (frame_at core g)) (round_frames core) ≡ y
+        → or_else x y ≡ Some f → (page : ℕ × ℕ) × (binding_at (bindings core) f ≡ Some page)
+    by (Some g) y a b e = bound_at (idle_bound (frame_at core f)
+        (find_true (λ g. is_idle (frame_at core g)) (round_frames core) f (a ∙ e)))
+    by None y a b e = bound_at (find_true (λ g. is_bound (frame_at core g)) (round_frames core) f (b ∙ e))
+
+-- ---- what is held
+
+-- a descriptor that isn't held
+pub number_new : (es : List HeldSeg) (n : ℕ) → find (is_number n) es ≡ None → has (map (λ e. e.number) es) n ≡ false
+number_new [] n h = refl
+number_new (e ∷ es) n h = by (eqb e.number n) (number_new es n) h
+  where
+    by : (b : Bool) → (find (is_number n) es ≡ None → has (map (λ x. x.number) es) n ≡ false)
+        → cond b (Some e) (find (is_number n) es) ≡ None
+        → (b || has (map (λ x. x.number) es) n) ≡ false
+    by true rest i = absurd (let no : Some e ≡ None = i in cc)
+    by false rest i = rest i
+
+-- a page table word of a frame that isn't held, where the page in it isn't
+pub page_new : (bound : ℕ → Option (ℕ × ℕ)) (es : List HeldPage) (f u p : ℕ) → AreHeldPages bound es
+    → bound f ≡ Some (u, p)
+    → find (is_page u p) es ≡ None → has (map (λ e. e.frame) es) f ≡ false
+page_new bound [] f u p held is h = refl
+page_new bound (e ∷ es) f u p held is h = by (is_page u p e) refl (page_new bound es f u p held.1 is) h
+  where
+    its : e.frame ≡ f → is_page u p e ≡ true
+    its same = let page = page_is e.uid e.page u p (sym held.0 ∙ (ap bound same ∙ is)) in grind (arith, nat_tests)
+
+    by : (b : Bool) → is_page u p e ≡ b → (find (is_page u p) es ≡ None → has (map (λ x. x.frame) es) f ≡ false)
+        → cond b (Some e) (find (is_page u p) es) ≡ None → (eqb e.frame f || has (map (λ x. x.frame) es) f) ≡ false
+    by true a rest i = absurd (let no : Some e ≡ None = i in cc)
+    by false a rest i = elim (eqb_tells e.frame f) [
+      | inl y ↦ absurd (no_and (its y.1) a)
+      | inr n ↦ ap (λ (b : Bool). b || has (map (λ x. x.frame) es) f) n.0 ∙ rest i
+    ]
