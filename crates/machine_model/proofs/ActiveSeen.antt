@@ -48,7 +48,7 @@ module _ {X : Type 0} (p : X → Bool) where
       by true rest e = omega arith
       by false rest e = let ih = rest e in omega (arith, ih)
 
-  within_some : (xs : List X) → position_or_len p xs < length xs → list_any p xs ≡ true
+  pub within_some : (xs : List X) → position_or_len p xs < length xs → list_any p xs ≡ true
   within_some xs h = by (list_any p xs) refl
     where
       by : (b : Bool) → list_any p xs ≡ b → b ≡ true

@@ -63,6 +63,7 @@ pub mod RankLaws
 pub mod ReadLaws
 pub mod Replies
 pub mod RuleLaws
+pub mod RuleKept
 pub mod RunLaws
 pub mod SeatLaws
 pub mod SeenLaws

@@ -1,0 +1,392 @@
+-- Each step of each processor keeps the machine's promise: along the rules in their order, what an action asks follows
+-- from
+-- the promise, but for what the store says and for what the flat store answers.
+use Rattle.std.proofs.Common.{◌≡◌, ◌<◌, ◌≤◌, ℕ, Bool, true, false, is_some, List, [], ◌∷◌, ◌++◌, map, length, position}
+use Rattle.std.proofs.Common.{Option, Some, None, refl, sym, ap, subst, ◌∙◌}
+use Rattle.assoc_mem.specs.declared.What.{What}
+use Rattle.assoc_mem.specs.declared.What.TheVariants as what
+use Rattle.script.specs.declared.commands.Command.{Command}
+use Rattle.script.specs.declared.commands.Command.TheVariants as command
+use Rattle.script.specs.declared.commands.Reference.{Reference}
+use Rattle.page_control.specs.declared.Left.TheVariants as left
+use Rattle.page_control.specs.Plain.{words_in}
+use Rattle.processor.specs.declared.Transfer.{Transfer}
+use Rattle.seg_control.specs.Control.{is_for, place_of, table_of, word_of}
+use Rattle.flat_model.specs.Legal.{MayRelease}
+use Rattle.flat_model.specs.References.{word_reply}
+use Rattle.custody_model.specs.Custody.{has, is_going_frame}
+use Rattle.custody_model.specs.Fine.{NoneDue}
+use Rattle.custody_model.specs.Allowed.{MayDeactivate}
+use Rattle.machine_model.specs.declared.Aim.{Aim}
+use Rattle.machine_model.specs.declared.Aim.TheVariants as aim
+use Rattle.machine_model.specs.declared.Phase.{Phase}
+use Rattle.machine_model.specs.declared.Phase.TheVariants as phase
+use Rattle.machine_model.specs.Actions as act
+use Rattle.machine_model.specs.Actions.{action_of, by_move, clear_or, come_to, finish_of, go_on_with, has_had_its_turn}
+use Rattle.machine_model.specs.Actions.{is_empty, is_over, load_or_idle, look_of, once_cleared, own_or_run}
+use Rattle.machine_model.specs.Actions.{refer_or_take, run_process, take_or_wait, transfer_or}
+use Rattle.machine_model.specs.After.{Outcome}
+use Rattle.machine_model.specs.Chains.{page_at}
+use Rattle.machine_model.specs.Commits.{committed, cut_entry}
+use Rattle.machine_model.specs.Custodial.{FitsPhase, IsOwned, IsShaped, KeepsBook, is_out, is_pending, is_pending_in}
+use Rattle.machine_model.specs.Custodial.{says, says_in}
+use Rattle.machine_model.specs.Holding.{seen}
+use Rattle.machine_model.specs.Jobs.{eviction_begun, eviction_done, emptied, left_of, page_done, segs_gone, took}
+use Rattle.machine_model.specs.Keeps.{IsAtWork, Keeps, StoreSays}
+use Rattle.machine_model.specs.Reads.{cut_of_owner, flat_of, frames_of_owner, is_due, next_command, no_processor}
+use Rattle.machine_model.specs.Reads.{or_zero, process_at, processor_at}
+use Rattle.machine_model.specs.Refusal.{reply_of}
+use Rattle.machine_model.specs.Seen.{shown}
+use Rattle.machine_model.specs.State.{CutDescriptor, Owner, State}
+use Rattle.machine_model.specs.Steps.{page_created, page_made, started, transferred, with_faults, with_owner}
+use Rattle.machine_model.proofs.ActiveKept.{segs_are_gone}
+use Rattle.machine_model.proofs.ActiveSeen.{within_some}
+use Rattle.machine_model.proofs.ChainLaws.{GoesOn, IsSteady, going_word, has_head}
+use Rattle.machine_model.proofs.CommitKept.{effected, idle_over, segs_over}
+use Rattle.machine_model.proofs.FindLaws.{choice_bound, free_frame, position_none, unread_page}
+use Rattle.machine_model.proofs.LookLaws.{IsLook}
+use Rattle.machine_model.proofs.OwnedLaws.{IsIdle}
+use Rattle.machine_model.proofs.OwnerLaws.{looking_idle}
+use Rattle.machine_model.proofs.StepKept.{CanActivateAt, CanCommit, CanDo, CanEmpty, CanEmptyVictim, CanConnectTo}
+use Rattle.machine_model.proofs.StepKept.{CanFailWrite, CanGoThrough, CanLose, CanReply, IsCommitted, IsMine}
+use Rattle.machine_model.proofs.TellKept.{CanTell}
+use Rattle.machine_model.proofs.TookKept.{CanTook, Owns}
+use Rattle.machine_model.proofs.WordLaws.{word_within}
+
+no_and : {b : Bool} → b ≡ true → b ≡ false → ⊥
+no_and t f = let no : true ≡ false = sym t ∙ f in cc
+
+head_same : (x y : ℕ) (xs ys : List ℕ) → x ∷ xs ≡ y ∷ ys → x ≡ y
+head_same x y xs ys h = cc
+
+-- ---- what is left to ask
+
+pub record AsksEnd (s : State) (c : ℕ) (t : Transfer) (o : Outcome) : Type 0 where
+  pub well : o.failed ≡ false → (s.faults ≤ o.faults) × StoreSays (transferred (with_faults s o.faults) c t)
+  pub ill : o.failed ≡ true → CanLose s c t o.faults
+
+pub record AsksCreate (s : State) (c f u p : ℕ) (r : Reference) : Type 0 where
+  pub active : place_of s.store.ast.entries u < length s.store.ast.entries
+  pub inner : p < length (table_of s.store.ast u)
+  pub tell : CanTell (page_made s f u p r) c (process_at s c) None (word_reply 0 r.kind)
+  pub says : StoreSays (page_created s c f u p r)
+
+pub record AsksTake (s : State) (c : ℕ) (w : What) (fs : List ℕ) (pairs : List (ℕ × ℕ)) : Type 0 where
+  pub can : CanTook s aim.Committing w fs pairs
+  pub says : StoreSays (took s c aim.Committing w fs pairs)
+
+-- a page leaves its frame: one that is released is all zeros and stored
+pub record AsksFinish (s : State) (c f : ℕ) (o : Outcome) (done : State) : Type 0 where
+  pub well : o.failed ≡ false → (s.faults ≤ o.faults)
+      × (left_of (words_in s.store.pages f) ≡ left.Released
+      → MayRelease (flat_of s) (page_at (seen s) f).0 (page_at (seen s) f).1) × StoreSays done
+  pub ill : o.failed ≡ true → CanFailWrite s c o
+
+pub record AsksEmptied (s : State) (c u : ℕ) : Type 0 where
+  pub may : MayDeactivate (flat_of (segs_gone s (cut_of_owner s.owner)))
+      (shown (seen (segs_gone s (cut_of_owner s.owner)))) u
+  pub says : StoreSays (emptied s c u)
+
+pub record AsksCommand (s : State) (c k : ℕ) (cmd : Command) : Type 0 where
+  pub none : frames_of_owner s.owner ≡ []
+  pub tell : CanTell (with_owner (effected s k cmd) None) c k None (reply_of s k cmd)
+  pub says : StoreSays (committed s c k cmd)
+
+abbrev pub AsksCommit : State → ℕ → ℕ → Option Command → Type 0
+AsksCommit s c k None = Unit {0}
+AsksCommit s c k (Some (command.Truncate path words)) = Keeps (committed s c k (command.Truncate path words))
+AsksCommit s c k (Some (command.Delete path)) = Keeps (committed s c k (command.Delete path))
+AsksCommit s c k (Some cmd) = AsksCommand s c k cmd
+
+-- What the store says of the machine after an action, and what the flat store and custody say of an answer. A reference
+-- by
+-- itself, a load, a signal and the like ask nothing.
+abbrev pub Asks : State → ℕ → Outcome → act.Action → Type 0
+Asks s c o (act.EndTransfer t) = AsksEnd s c t o
+Asks s c o (act.Through f r) = CanGoThrough s c f r
+Asks s c o (act.Plain r) = CanReply s c r
+Asks s c o (act.Answer r) = CanReply s c r
+Asks s c o (act.Activate u place) = CanActivateAt s u place
+Asks s c o (act.Connect n u) = CanConnectTo s c n u
+Asks s c o (act.Create f u p r) = AsksCreate s c f u p r
+Asks s c o (act.Start f u p) = StoreSays (started s c f u p)
+Asks s c o (act.Evict f) = StoreSays (eviction_begun s c f)
+Asks s c o (act.Empty u) = CanEmpty s c u
+Asks s c o (act.EmptyVictim pool chain u) = CanEmptyVictim s c pool chain u
+Asks s c o (act.TakeAway fs pairs w) = AsksTake s c w fs pairs
+Asks s c o (act.FinishEviction f) = AsksFinish s c f o (eviction_done (with_faults s o.faults) c f)
+Asks s c o (act.FinishPage f) = AsksFinish s c f o (page_done (with_faults s o.faults) f)
+Asks s c o (act.Deactivate u) = AsksEmptied s c u
+Asks s c o act.Commit = AsksCommit s c (process_at s c) (next_command s (process_at s c))
+Asks s c o _ = Unit {0}
+
+-- ---- the commit of a command
+
+some_of : (o : Option ℕ) → is_some o ≡ true → o ≡ Some (or_zero o)
+some_of None h = absurd (let no : false ≡ true = h in cc)
+some_of (Some n) h = refl
+
+commit_can : (s : State) (c k : ℕ) (x : Option Command) → (processor_at s.processors c).cpu.process ≡ Some k
+    → next_command s k ≡ x → IsCommitted s
+    → AsksCommit s c k x → CanCommit s c k x
+commit_can s c k None its next over asks = tt
+commit_can s c k (Some command.End) its next over asks =
+    record { none = asks.none; over = over; process = its; next = next; tell = asks.tell; says = asks.says }
+commit_can s c k (Some (command.Truncate path words)) its next over asks = asks
+commit_can s c k (Some (command.Delete path)) its next over asks = asks
+commit_can s c k (Some cmd) its next over asks = record {
+  pages = tt;
+  none = asks.none;
+  over = over;
+  stays = λ x. refl;
+  its = ap or_zero its;
+  tell = subst (λ (j : ℕ). CanTell (with_owner (effected s k cmd) None) c j None (reply_of s k cmd))
+      (sym (ap or_zero its)) asks.tell;
+  says = asks.says;
+}
+
+-- ---- the owner
+
+-- the owner looks
+record IsLooking (s : State) (c : ℕ) : Type 0 where
+  pub owner : IsMine s c
+  pub looks : owner.owner.phase ≡ phase.Looking
+
+-- the owner waits, and every processor has cleared
+record HasWaited (s : State) (c : ℕ) (a : Aim) (w : What) : Type 0 where
+  pub owner : IsMine s c
+  pub waits : owner.owner.phase ≡ phase.Waiting a w
+  pub cleared : position is_due s.processors ≡ None
+
+module _ (s : State) (c : ℕ) (o : Outcome) (k : Keeps s) (there : c < length s.processors) where
+  works_here : IsMine s c → IsAtWork (processor_at s.processors c)
+  works_here m = subst (λ (d : ℕ). IsAtWork (processor_at s.processors d)) m.same (k.at_work m.owner m.mine)
+
+  owns_here : IsMine s c → Owns s c
+  owns_here m q h = let is : m.owner ≡ q = some_same m.owner q (sym m.mine ∙ h) in
+      ap (λ (x : Owner). x.cpu) (sym is) ∙ m.same
+    where
+      some_same : (x y : Owner) → Some x ≡ Some y → x ≡ y
+      some_same x y e = cc
+
+  process_here : IsMine s c → (processor_at s.processors c).cpu.process ≡ Some (process_at s c)
+  process_here m = some_of (processor_at s.processors c).cpu.process (works_here m).busy
+
+  look_idle : IsLooking s c → IsIdle s.owner
+  look_idle l = subst IsIdle (sym l.owner.mine)
+      (looking_idle (shown (seen s)) l.owner.owner
+      (subst (IsOwned (shown (seen s))) l.owner.mine k.book.going_owned) l.looks)
+
+  look_still : IsLooking s c → is_pending s.owner ≡ false
+  look_still l = ap is_pending l.owner.mine ∙ ap is_pending_in l.looks
+
+  look_over : IsLooking s c → IsCommitted s
+  look_over l = subst (λ (ds : List CutDescriptor). KeepsBook
+      (record (seen s) { owner = None; entries = s.entries ++ map cut_entry ds }))
+      (sym (look_idle l).cut) (idle_over s k.book (look_idle l) (look_still l))
+
+  placed_active : (u : ℕ) → place_of s.store.ast.entries u < length s.store.ast.entries → (seen s).active u ≡ true
+  unfolding place_of
+  placed_active u h = within_some (is_for u) s.store.ast.entries h
+
+  -- a page that isn't `Null` is of a segment that is active
+  out_active : (u p : ℕ) → is_out (word_of s.store.ast u p) ≡ true → (seen s).active u ≡ true
+  out_active u p h = placed_active u (subst (λ (n : ℕ). place_of s.store.ast.entries u < n) k.store.kept.places
+      (word_within s.store.ast u p (λ e. (let no : false ≡ true = sym (ap is_out e) ∙ h in cc))).0)
+
+  look_can : (a : act.Action) → IsLook s a → IsLooking s c → Asks s c o a → CanDo s c o a
+  look_can (act.Waits why) h l asks = tt
+  look_can (act.Answer r) h l asks = record {
+    tell = asks.tell;
+    says = asks.says;
+    idle = look_idle l;
+    still =
+        look_still l;
+  }
+  look_can act.GiveUp h l asks = (look_idle l, look_still l)
+  look_can (act.Activate u place) h l asks = asks
+  look_can (act.Connect n u) h l asks = asks
+  look_can (act.Create f u p r) h l asks = let free = free_frame s.store.pages.core f h.0 in record {
+    can = record {
+      inside = subst (λ (n : ℕ). f < n) k.sizes.frames free.0;
+      unbound = free.1;
+      unread = free.2;
+      null = h.1;
+      active = placed_active u asks.active;
+    };
+    within = free.0;
+    active = asks.active;
+    inner = asks.inner;
+    idle = look_idle l;
+    still = look_still l;
+    tell = asks.tell;
+    says = asks.says;
+  }
+  look_can (act.Start f u p) h l asks = let free = free_frame s.store.pages.core f h.0 in record {
+    there = there;
+    within = free.0;
+    can = record {
+      inside = subst (λ (n : ℕ). f < n) k.sizes.frames free.0;
+      unbound = free.1;
+      unread = free.2;
+      idle = (works_here l.owner).idle;
+      out = h.2;
+      alone = unread_page s.store.pages.core u p h.1;
+      active = out_active u p h.2;
+    };
+    idle = look_idle l;
+    still = look_still l;
+    says = asks;
+  }
+  look_can (act.Evict f) h l asks = let bound = choice_bound s.store.pages.core f h in
+      record { owner = l.owner; idle = look_idle l; page = bound.0; bound = bound.1; says = asks }
+  look_can (act.Empty u) h l asks = asks
+  look_can (act.EmptyVictim pool chain u) h l asks = asks
+  look_can (act.TakeAway fs pairs w) h l asks =
+      record { can = asks.can; owns = owns_here l.owner; works = works_here l.owner; says = asks.says }
+  look_can act.Commit h l asks = commit_can s c (process_at s c) (next_command s (process_at s c))
+      (process_here l.owner) refl (look_over l) asks
+  look_can act.IsStopped h l asks = tt
+  look_can act.HasEnded h l asks = tt
+  look_can act.Online h l asks = absurd h
+  look_can (act.Clear w) h l asks = absurd h
+  look_can (act.EndTransfer t) h l asks = absurd h
+  look_can (act.Load n) h l asks = absurd h
+  look_can act.Leave h l asks = absurd h
+  look_can (act.FillSeg n) h l asks = absurd h
+  look_can (act.FillPage f r) h l asks = absurd h
+  look_can (act.Through f r) h l asks = absurd h
+  look_can (act.Plain r) h l asks = absurd h
+  look_can act.TakeSupervisor h l asks = absurd h
+  look_can (act.Signal w) h l asks = absurd h
+  look_can (act.FinishEviction f) h l asks = absurd h
+  look_can (act.FinishPage f) h l asks = absurd h
+  look_can (act.Deactivate u) h l asks = absurd h
+
+  -- ---- what was taken goes
+
+  none_due_now : position is_due s.processors ≡ None → NoneDue (shown (seen s))
+  none_due_now h d = by (processor_at s.processors d).cpu.due refl
+    where
+      by : (x : Option What) → (processor_at s.processors d).cpu.due ≡ x → x ≡ None
+      by None e = refl
+      by (Some w) e = absurd (no_and due (position_none is_due s.processors no_processor d h refl))
+        where
+          due : is_due (processor_at s.processors d) ≡ true
+          due = rw ((k.book.holding_right d).warned w e, e) refl
+
+  wait_shape : (a : Aim) (w : What) (x : HasWaited s c a w)
+      → FitsPhase (phase.Waiting a w) x.owner.owner.frames x.owner.owner.cut
+  wait_shape a w x = subst (λ (y : Phase). FitsPhase y x.owner.owner.frames x.owner.owner.cut) x.waits
+      (subst IsShaped x.owner.mine k.book.going_owned.shaped)
+
+  wait_still : (a : Aim) (w : What) → HasWaited s c a w → is_pending s.owner ≡ false
+  wait_still a w x = ap is_pending x.owner.mine ∙ ap is_pending_in x.waits
+
+  wait_quiet : (a : Aim) (w : What) → HasWaited s c a w → says s.owner ≡ None
+  wait_quiet a w x = ap says x.owner.mine ∙ ap says_in x.waits
+
+  -- a deactivation, or a command, may have taken anything
+  wait_goes : (a : Aim) (w : What) → HasWaited s c a w
+      → ((gs : List ℕ) (ds : List CutDescriptor) → FitsPhase (phase.Waiting a w) gs ds)
+      → GoesOn (seen s) (frames_of_owner s.owner) (cut_of_owner s.owner)
+  wait_goes a w x steady = record {
+    frames = refl;
+    cut = refl;
+    none = none_due_now x.cleared;
+    still = wait_still a w x;
+    quiet = wait_quiet a w x;
+    steady = subst IsSteady (sym x.owner.mine)
+        (λ gs ds. subst (λ (y : Phase). FitsPhase y gs ds) (sym x.waits) (steady gs ds));
+  }
+
+  frames_mine : (m : IsMine s c) → frames_of_owner s.owner ≡ m.owner.frames
+  frames_mine m = ap frames_of_owner m.mine
+
+  evict_can : (w : What) (f : ℕ) (fs : List ℕ) (x : HasWaited s c aim.Evicting w) → x.owner.owner.frames ≡ f ∷ fs
+      → AsksFinish s c f o (eviction_done (with_faults s o.faults) c f) → CanDo s c o (act.FinishEviction f)
+  evict_can w f fs x frames asks = record {
+    owner = x.owner;
+    page = page_at (seen s) f;
+    frames = frames_are;
+    cut = ap cut_of_owner x.owner.mine ∙ shape.3;
+    can = record {
+      leaving = going_word (seen s) f k.book going;
+      none = none_due_now x.cleared;
+      still = wait_still aim.Evicting w x;
+      after = refl;
+      first = record {
+        rest = [];
+        frames = frames_are;
+        left = refl;
+        cut = sym
+            (ap cut_of_owner x.owner.mine ∙ shape.3);
+        says = refl;
+        shaped = (refl, refl);
+      };
+    };
+    well = asks.well;
+    ill = asks.ill;
+  }
+    where
+      shape : (g : ℕ) × (x.owner.owner.frames ≡ g ∷ []) × (w ≡ what.Page g) × (x.owner.owner.cut ≡ [])
+      shape = wait_shape aim.Evicting w x
+
+      frames_are : frames_of_owner s.owner ≡ f ∷ []
+      frames_are = frames_mine x.owner ∙ one shape.1
+        where
+          one : x.owner.owner.frames ≡ shape.0 ∷ [] → x.owner.owner.frames ≡ f ∷ []
+          one e = let both : f ∷ fs ≡ shape.0 ∷ [] = sym frames ∙ e in let same : f ≡ shape.0 =
+              head_same f shape.0 fs [] both in
+              e ∙ ap (λ (n : ℕ). n ∷ []) (sym same)
+
+      going : is_going_frame ((shown (seen s)).frame f) ≡ true
+      going = k.book.going_owned.frames f ∙ (ap (λ (gs : List ℕ). has gs f) frames_are ∙ has_head f [])
+
+  page_can : (u : ℕ) (w : What) (f : ℕ) (fs : List ℕ) (x : HasWaited s c (aim.Deactivating u) w)
+      → x.owner.owner.frames ≡ f ∷ fs
+      → AsksFinish s c f o (page_done (with_faults s o.faults) f) → CanDo s c o (act.FinishPage f)
+  page_can u w f fs x frames asks = record {
+    owner = x.owner;
+    rest = fs;
+    on = subst (λ (gs : List ℕ). GoesOn (seen s) gs (cut_of_owner s.owner)) (frames_mine x.owner ∙ frames)
+        (wait_goes (aim.Deactivating u) w x (λ gs ds. wait_shape (aim.Deactivating u) w x));
+    well = asks.well;
+    ill = asks.ill;
+  }
+
+  empty_can : (u : ℕ) (w : What) (x : HasWaited s c (aim.Deactivating u) w) → x.owner.owner.frames ≡ []
+      → AsksEmptied s c u → CanDo s c o (act.Deactivate u)
+  empty_can u w x frames asks = record {
+    owner = x.owner;
+    over = segs_are_gone s (cut_of_owner s.owner) k.book
+        (subst (λ (gs : List ℕ). GoesOn (seen s) gs (cut_of_owner s.owner)) (frames_mine x.owner ∙ frames)
+        (wait_goes (aim.Deactivating u) w x (λ gs ds. wait_shape (aim.Deactivating u) w x)));
+    may = asks.may;
+    says = asks.says;
+  }
+
+  finish_can : (a : Aim) (w : What) (fs : List ℕ) (x : HasWaited s c a w) → x.owner.owner.frames ≡ fs
+      → Asks s c o (finish_of a fs) → CanDo s c o (finish_of a fs)
+  finish_can aim.Evicting w [] x frames asks = absurd (no_frame (wait_shape aim.Evicting w x))
+    where
+      no_frame : (g : ℕ) × (x.owner.owner.frames ≡ g ∷ []) × (w ≡ what.Page g) × (x.owner.owner.cut ≡ []) → ⊥
+      no_frame y = let no : [] ≡ y.0 ∷ [] = sym frames ∙ y.1 in cc
+  finish_can aim.Evicting w (f ∷ fs) x frames asks = evict_can w f fs x frames asks
+  finish_can (aim.Deactivating u) w [] x frames asks = empty_can u w x frames asks
+  finish_can (aim.Deactivating u) w (f ∷ fs) x frames asks = page_can u w f fs x frames asks
+  finish_can aim.Committing w fs x frames asks = commit_wait (next_command s (process_at s c)) refl asks
+    where
+      goes : GoesOn (seen s) (frames_of_owner s.owner) (cut_of_owner s.owner)
+      goes = wait_goes aim.Committing w x (λ gs ds. tt)
+
+      over : frames_of_owner s.owner ≡ [] → IsCommitted s
+      over none = segs_over s (cut_of_owner s.owner) k.book
+          (subst (λ (gs : List ℕ). GoesOn (seen s) gs (cut_of_owner s.owner)) none goes)
+
+      commit_wait : (y : Option Command) → next_command s (process_at s c) ≡ y → AsksCommit s c (process_at s c) y
+          → CanCommit s c (process_at s c) y
+      commit_wait None e q = tt
+      commit_wait (Some (command.Truncate path words)) e q = q
+      commit_wait (Some (command.Delete path)) e q = q
+      commit_wait (Some cmd) e q = commit_can s c (process_at s c) (Some cmd) (process_here x.owner) e (over q.none) q
