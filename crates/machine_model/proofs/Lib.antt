@@ -62,14 +62,15 @@ pub mod Places
 pub mod RankLaws
 pub mod ReadLaws
 pub mod Replies
-pub mod RuleLaws
 pub mod RuleKept
+pub mod RuleLaws
+pub mod RulesKept
 pub mod RunLaws
 pub mod SeatLaws
 pub mod SeenLaws
 pub mod SharedSegment
-pub mod StepLaws
 pub mod StepKept
+pub mod StepLaws
 pub mod TakeSeen
 pub mod TellKept
 pub mod TieLaws

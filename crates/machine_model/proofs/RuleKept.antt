@@ -148,12 +148,12 @@ commit_can s c k (Some cmd) its next over asks = record {
 -- ---- the owner
 
 -- the owner looks
-record IsLooking (s : State) (c : ℕ) : Type 0 where
+pub record IsLooking (s : State) (c : ℕ) : Type 0 where
   pub owner : IsMine s c
   pub looks : owner.owner.phase ≡ phase.Looking
 
 -- the owner waits, and every processor has cleared
-record HasWaited (s : State) (c : ℕ) (a : Aim) (w : What) : Type 0 where
+pub record HasWaited (s : State) (c : ℕ) (a : Aim) (w : What) : Type 0 where
   pub owner : IsMine s c
   pub waits : owner.owner.phase ≡ phase.Waiting a w
   pub cleared : position is_due s.processors ≡ None
@@ -194,7 +194,7 @@ module _ (s : State) (c : ℕ) (o : Outcome) (k : Keeps s) (there : c < length s
   out_active u p h = placed_active u (subst (λ (n : ℕ). place_of s.store.ast.entries u < n) k.store.kept.places
       (word_within s.store.ast u p (λ e. (let no : false ≡ true = sym (ap is_out e) ∙ h in cc))).0)
 
-  look_can : (a : act.Action) → IsLook s a → IsLooking s c → Asks s c o a → CanDo s c o a
+  pub look_can : (a : act.Action) → IsLook s a → IsLooking s c → Asks s c o a → CanDo s c o a
   look_can (act.Waits why) h l asks = tt
   look_can (act.Answer r) h l asks = record {
     tell = asks.tell;
@@ -366,7 +366,7 @@ module _ (s : State) (c : ℕ) (o : Outcome) (k : Keeps s) (there : c < length s
     says = asks.says;
   }
 
-  finish_can : (a : Aim) (w : What) (fs : List ℕ) (x : HasWaited s c a w) → x.owner.owner.frames ≡ fs
+  pub finish_can : (a : Aim) (w : What) (fs : List ℕ) (x : HasWaited s c a w) → x.owner.owner.frames ≡ fs
       → Asks s c o (finish_of a fs) → CanDo s c o (finish_of a fs)
   finish_can aim.Evicting w [] x frames asks = absurd (no_frame (wait_shape aim.Evicting w x))
     where
