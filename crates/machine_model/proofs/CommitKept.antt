@@ -133,7 +133,7 @@ gone_are s u c h none = ap (λ (fs : List ℕ). map (frame_entry s.store c) fs +
     ∙ (ap (λ (es : List Entry). map cut_entry (cut_of_owner s.owner) ++ es) (no_inactive s.store u c h)
     ∙ append_nil (map cut_entry (cut_of_owner s.owner)))
 
-cut_faults : (es : List Entry) (ds : List CutDescriptor)
+pub cut_faults : (es : List Entry) (ds : List CutDescriptor)
     → count_by is_fault (es ++ map cut_entry ds) ≡ count_by is_fault es
 cut_faults es [] = ap (count_by is_fault) (append_nil es)
 cut_faults es (d ∷ ds) = ap (count_by is_fault) (sym (append_assoc es (cut_entry d ∷ []) (map cut_entry ds)))

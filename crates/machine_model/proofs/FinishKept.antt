@@ -90,7 +90,7 @@ left_keeps s f u p how owner tables k can zeros = by how zeros
             (gone_seen s f u p left.Released owner tables k within can.leaving)
             ∙ (λ i. record now { entries = append_two s.entries (entry.GonePage f) (entry.Release u p) i })
 
-left_faults : (es : List Entry) (f : ℕ) (how : Left) (page : ℕ × ℕ)
+pub left_faults : (es : List Entry) (f : ℕ) (how : Left) (page : ℕ × ℕ)
     → count_by is_fault (es ++ entries_left f how page) ≡ count_by is_fault es
 left_faults es f left.Kept page = let one = faults_push es (entry.GonePage f) in omega (arith, one)
 left_faults es f left.Released page = let one = faults_push es (entry.GonePage f) in

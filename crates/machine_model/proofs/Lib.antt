@@ -14,6 +14,7 @@ pub mod CommandLaws
 pub mod CommitKept
 pub mod CountLaws
 pub mod CutPages
+pub mod DeleteKept
 pub mod Deletions
 pub mod DescriptorLaws
 pub mod DueLaws
@@ -35,17 +36,14 @@ pub mod KeptLaws
 pub mod LackLaws
 pub mod LateWord
 pub mod LeaveSeen
+pub mod LeftLaws
 pub mod ListLaws
 pub mod LookLaws
 pub mod LoopLaws
 pub mod MoveSeen
-pub mod LeftLaws
-pub mod LoopLaws
 pub mod OffChain
 pub mod OneProcess
 pub mod OuterLaws
-pub mod OwnedLaws
-pub mod Places
 pub mod OutlineAlone
 pub mod OutlineAnswer
 pub mod OutlineEnd
@@ -78,9 +76,9 @@ pub mod TiedLaws
 pub mod TookKept
 pub mod TransferKept
 pub mod TransferLaws
-pub mod TiedLaws
 pub mod Truncation
 pub mod TwoTransfers
 pub mod Victims
+pub mod VisitKept
 pub mod WaitForTransfer
 pub mod WordLaws

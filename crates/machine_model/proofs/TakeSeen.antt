@@ -73,7 +73,7 @@ take_one_seen s c a w f u p tables bound here = ap (λ (o : Option (ℕ × ℕ))
     }
 
 -- the tables are as many after a word has changed
-tables_kept : (s : State) (f : ℕ) (o : Option (ℕ × ℕ)) → HasTables s
+pub tables_kept : (s : State) (f : ℕ) (o : Option (ℕ × ℕ)) → HasTables s
     → length (leaving_if s.store f o).ast.tables ≡ length (leaving_if s.store f o).ast.entries
 tables_kept s f None tables = tables
 tables_kept s f (Some page) tables = length-set s.store.ast.tables (place_of s.store.ast.entries page.0) _ ∙ tables

@@ -6,8 +6,8 @@ pub mod Changes
 pub mod Commits
 pub mod Custodial
 pub mod Finishing
-pub mod Holding
 pub mod Foreseen
+pub mod Holding
 pub mod Jobs
 pub mod Keeps
 pub mod Looping

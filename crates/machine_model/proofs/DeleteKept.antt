@@ -1,0 +1,381 @@
+-- The machine keeps its promise where a `delete` takes effect: the pages of the node have left their frames, its
+-- descriptors are
+-- gone, and it is active no more.
+use Rattle.std.proofs.Common.{◌≡◌, ◌≢◌, ◌<◌, ℕ, Bool, true, false, cond, if◌then◌else◌, count_by, List, [], ◌∷◌, ◌++◌}
+use Rattle.std.proofs.Common.{map, length, Option, Some, None, refl, sym, ap, subst, ◌∙◌, arith}
+use Rattle.std.proofs.lemmas.List.{length-set}
+use Rattle.script.specs.declared.commands.Command.TheVariants as command
+use Rattle.mnames.specs.declared.paths.Path.{Path}
+use Rattle.book.specs.declared.entries.Entry.{Entry}
+use Rattle.book.specs.declared.entries.Entry.TheVariants as entry
+use Rattle.core_map.specs.declared.Frame.TheVariants as frame
+use Rattle.core_map.specs.CoreMap.{reads_of}
+use Rattle.page_table.specs.declared.Ptw.{Ptw}
+use Rattle.page_table.specs.declared.Ptw.TheVariants as ptw
+use Rattle.page_control.specs.Effects.{erased, framed}
+use Rattle.page_control.specs.Plain.{Plain, binding_at, bindings}
+use Rattle.seg_control.specs.Control.{word_of}
+use Rattle.seg_control.specs.Kept.{read_at}
+use Rattle.custody_model.specs.Allowed.{MayDeactivate}
+use Rattle.custody_model.specs.Custody.{has, leads_to}
+use Rattle.custody_model.specs.Next.{at_put}
+use Rattle.machine_model.specs.Chains.{gone_segs, gones, page_at, page_or_zero, without_cut, without_frame}
+use Rattle.machine_model.specs.Changes.{deactivated as no_more_active, gone, gone_seg}
+use Rattle.machine_model.specs.Commits.{committed, cut_entry, frames_freed, gone_entries, lost}
+use Rattle.machine_model.specs.Custodial.{AreDistinct, KeepsBook, is_pending, names}
+use Rattle.machine_model.specs.Holding.{seen}
+use Rattle.machine_model.specs.Jobs.{with_inactive}
+use Rattle.machine_model.specs.Keeps.{Keeps, StoreSays, is_fault}
+use Rattle.machine_model.specs.Reads.{cut_of_owner, frames_of_owner, home_in, is_active, process_at, run_at}
+use Rattle.machine_model.specs.Refusal.{reply_of, uid_of_command}
+use Rattle.machine_model.specs.Seen.{Seen, cut_uid, descriptor_use, flat, shown}
+use Rattle.machine_model.specs.State.{CutDescriptor, State, Storage}
+use Rattle.machine_model.specs.Steps.{booked, with_owner, with_pages, with_store}
+use Rattle.machine_model.proofs.ActiveLaws.{deactivate_keeps}
+use Rattle.machine_model.proofs.ActiveSeen.{active_less, blank_less, deactivate_seen, words_less}
+use Rattle.machine_model.proofs.AnswerLaws.{owner_keeps}
+use Rattle.machine_model.proofs.ChainLaws.{GoesOn, HasGone, going_word, gone_segs_keep, gones_keep, has_head, has_tail}
+use Rattle.machine_model.proofs.CommitKept.{cut_faults, effected}
+use Rattle.machine_model.proofs.FinishKept.{bound_within}
+use Rattle.machine_model.proofs.KeepLaws.{faults_push}
+use Rattle.machine_model.proofs.LeaveSeen.{unread_put}
+use Rattle.machine_model.proofs.OwnedLaws.{IsIdle, nobody}
+use Rattle.machine_model.proofs.OwnerLaws.{job_over}
+use Rattle.machine_model.proofs.Places.{by_place, by_places}
+use Rattle.machine_model.proofs.SeenLaws.{bound_put, reads_put}
+use Rattle.machine_model.proofs.TellKept.{CanTell, told_keeps}
+use Rattle.machine_model.proofs.TieLaws.{none_some}
+use Rattle.machine_model.proofs.TransferKept.{kept_with}
+
+-- ---- frames that are freed
+
+-- a function of frames, once each of some frames has None
+abbrev freed : (ℕ → Option (ℕ × ℕ)) → List ℕ → ℕ → Option (ℕ × ℕ)
+freed b [] = b
+freed b (f ∷ fs) = freed (at_put b f None) fs
+
+freed_length : (pages : Plain) (fs : List ℕ) → length (frames_freed pages fs).core.frames ≡ length pages.core.frames
+freed_length pages [] = refl
+freed_length pages (f ∷ fs) = freed_length (framed pages f frame.Free) fs ∙ length-set pages.core.frames f frame.Free
+
+freed_bound : (pages : Plain) (fs : List ℕ) → ((f : ℕ) → has fs f ≡ true → f < length pages.core.frames) → (g : ℕ)
+    → binding_at (bindings (frames_freed pages fs).core) g ≡ freed (λ h. binding_at (bindings pages.core) h) fs g
+freed_bound pages [] within g = refl
+freed_bound pages (f ∷ fs) within g = freed_bound (framed pages f frame.Free) fs
+    (λ h e. subst (λ (n : ℕ). h < n) (sym (length-set pages.core.frames f frame.Free)) (within h (has_tail f fs h e))) g
+    ∙ (λ i. freed (λ h. bound_put pages.core f frame.Free (within f (has_head f fs)) h i) fs g)
+
+freed_reads : (pages : Plain) (fs : List ℕ) → ((f : ℕ) → has fs f ≡ true → f < length pages.core.frames) → (g : ℕ)
+    → read_at (reads_of (frames_freed pages fs).core) g ≡ freed (λ h. read_at (reads_of pages.core) h) fs g
+freed_reads pages [] within g = refl
+freed_reads pages (f ∷ fs) within g = freed_reads (framed pages f frame.Free) fs
+    (λ h e. subst (λ (n : ℕ). h < n) (sym (length-set pages.core.frames f frame.Free)) (within h (has_tail f fs h e))) g
+    ∙ (λ i. freed (λ h. reads_put pages.core f frame.Free (within f (has_head f fs)) h i) fs g)
+
+-- where each of them had None already, nothing changes
+freed_none : (b : ℕ → Option (ℕ × ℕ)) (fs : List ℕ) → ((f : ℕ) → has fs f ≡ true → b f ≡ None) → (g : ℕ)
+    → freed b fs g ≡ b g
+freed_none b [] none g = refl
+freed_none b (f ∷ fs) none g = (λ i. freed (λ h. unread_put b f (none f (has_head f fs)) h i) fs g)
+    ∙ freed_none b fs (λ h e. none h (has_tail f fs h e)) g
+
+-- ---- the chain, as custody sees it
+
+gones_bound : (v : Seen) (fs : List ℕ) → (gones v fs).bound ≡ freed v.bound fs
+gones_bound v [] = refl
+gones_bound v (f ∷ fs) = gones_bound (gone v f (page_at v f).0 (page_at v f).1 ptw.Null (without_frame v.owner)) fs
+
+-- what pages that leave their frames don't change
+record IsAlike (v now : Seen) : Type 0 where
+  pub plan : now.plan ≡ v.plan
+  pub reads : now.reads ≡ v.reads
+  pub active : now.active ≡ v.active
+  pub linked : now.linked ≡ v.linked
+  pub ready : now.ready ≡ v.ready
+  pub processors : now.processors ≡ v.processors
+  pub runs : now.runs ≡ v.runs
+
+gones_alike : (v : Seen) (fs : List ℕ) → IsAlike v (gones v fs)
+gones_alike v [] = record {
+  plan = refl;
+  reads = refl;
+  active = refl;
+  linked = refl;
+  ready = refl;
+  processors = refl;
+  runs = refl;
+}
+gones_alike v (f ∷ fs) = let rest = gones_alike
+    (gone v f (page_at v f).0 (page_at v f).1 ptw.Null (without_frame v.owner)) fs in record {
+      plan = rest.plan;
+      reads = rest.reads;
+      active = rest.active;
+      linked = rest.linked;
+      ready = rest.ready;
+      processors = rest.processors;
+      runs = rest.runs;
+    }
+
+segs_alike : (v : Seen) (ds : List CutDescriptor) → IsAlike v (gone_segs v ds)
+segs_alike v [] = record {
+  plan = refl;
+  reads = refl;
+  active = refl;
+  linked = refl;
+  ready = refl;
+  processors = refl;
+  runs = refl;
+}
+segs_alike v (d ∷ ds) = let rest = segs_alike (gone_seg v d (without_cut v.owner)) ds in record {
+  plan = rest.plan;
+  reads = rest.reads;
+  active = rest.active;
+  linked = rest.linked;
+  ready = rest.ready;
+  processors = rest.processors;
+  runs = rest.runs;
+}
+
+segs_bound : (v : Seen) (ds : List CutDescriptor) → (gone_segs v ds).bound ≡ v.bound
+segs_bound v [] = refl
+segs_bound v (d ∷ ds) = segs_bound (gone_seg v d (without_cut v.owner)) ds
+
+segs_words : (v : Seen) (ds : List CutDescriptor) → (gone_segs v ds).words ≡ v.words
+segs_words v [] = refl
+segs_words v (d ∷ ds) = segs_words (gone_seg v d (without_cut v.owner)) ds
+
+append_assoc : (xs ys zs : List Entry) → (xs ++ ys) ++ zs ≡ xs ++ (ys ++ zs)
+append_assoc [] ys zs = refl
+append_assoc (x ∷ xs) ys zs = ap (λ (t : List Entry). x ∷ t) (append_assoc xs ys zs)
+
+append_nil : (es : List Entry) → es ++ [] ≡ es
+append_nil [] = refl
+append_nil (e ∷ es) = ap (λ (t : List Entry). e ∷ t) (append_nil es)
+
+abbrev gone_entry : ℕ → Entry
+gone_entry f = entry.GonePage f
+
+gones_entries : (v : Seen) (fs : List ℕ) → (gones v fs).entries ≡ v.entries ++ map gone_entry fs
+gones_entries v [] = sym (append_nil v.entries)
+gones_entries v (f ∷ fs) = gones_entries (gone v f (page_at v f).0 (page_at v f).1 ptw.Null (without_frame v.owner)) fs
+    ∙ append_assoc v.entries (entry.GonePage f ∷ []) (map gone_entry fs)
+
+segs_entries : (v : Seen) (ds : List CutDescriptor) → (gone_segs v ds).entries ≡ v.entries ++ map cut_entry ds
+segs_entries v [] = sym (append_nil v.entries)
+segs_entries v (d ∷ ds) = segs_entries (gone_seg v d (without_cut v.owner)) ds
+    ∙ append_assoc v.entries (cut_entry d ∷ []) (map cut_entry ds)
+
+-- a segment keeps its words where no page of it leaves a frame
+gones_words : (v : Seen) (fs : List ℕ) (u : ℕ) → AreDistinct fs → ((f : ℕ) → has fs f ≡ true → (page_at v f).0 ≡ u)
+    → (w q : ℕ) → w ≢ u
+    → (gones v fs).words w q ≡ v.words w q
+gones_words v [] u once its w q n = refl
+gones_words v (f ∷ fs) u once its w q n = gones_words now fs u once.1 still w q n
+    ∙ by_places (λ (x : Ptw). x ≡ v.words w q) v.words (page_at v f).0 (page_at v f).1 ptw.Null w q
+    (λ a b. absurd (n (a ∙ its f (has_head f fs)))) (λ m. refl)
+  where
+    now : Seen
+    now = gone v f (page_at v f).0 (page_at v f).1 ptw.Null (without_frame v.owner)
+
+    no_and : {b : Bool} → b ≡ true → b ≡ false → ⊥
+    no_and t e = let no : true ≡ false = sym t ∙ e in cc
+
+    still : (g : ℕ) → has fs g ≡ true → (page_at now g).0 ≡ u
+    still g h = by_place (λ (x : Option (ℕ × ℕ)). (page_or_zero x).0 ≡ u) v.bound f None g
+        (λ e. absurd (no_and (subst (λ (i : ℕ). has fs i ≡ true) e h) once.0)) (λ m. its g (has_tail f fs g h))
+
+gone_faults : (es : List Entry) (fs : List ℕ) → count_by is_fault (es ++ map gone_entry fs) ≡ count_by is_fault es
+gone_faults es [] = ap (count_by is_fault) (append_nil es)
+gone_faults es (f ∷ fs) = ap (count_by is_fault) (sym (append_assoc es (entry.GonePage f ∷ []) (map gone_entry fs)))
+    ∙ (gone_faults (es ++ entry.GonePage f ∷ []) fs ∙ (let one = faults_push es (entry.GonePage f) in
+    let none : count_by is_fault (es ++ entry.GonePage f ∷ []) ≡ count_by is_fault es = omega (arith, one) in none))
+
+-- ---- the command
+
+module _ (s : State) (c k : ℕ) (path : Path) (keeps : Keeps s) where
+  abbrev node : ℕ
+  node = uid_of_command s.store k (command.Delete path)
+
+  abbrev fs : List ℕ
+  fs = frames_of_owner s.owner
+
+  abbrev ds : List CutDescriptor
+  ds = cut_of_owner s.owner
+
+  -- what was taken is gone
+  abbrev all_gone : Seen
+  all_gone = gone_segs (gones (seen s) fs) ds
+
+  -- A deletion of an active node: the job has taken its pages alone, and no page and no descriptor of it is left.
+  pub record CanDelete : Type 0 where
+    pub active : is_active s.store.ast node ≡ true
+    pub on : GoesOn (seen s) fs ds
+    pub its : (f : ℕ) → has fs f ≡ true → (page_at (seen s) f).0 ≡ node
+    pub may : MayDeactivate (flat all_gone) (shown all_gone) node
+    pub tell : CanTell (with_owner (effected s k (command.Delete path)) None) c (process_at s c) None
+        (reply_of s k (command.Delete path))
+    pub says : StoreSays (committed s c k (command.Delete path))
+
+  module _ (can : CanDelete) where
+    abbrev words : ℕ → ℕ → Ptw
+    words = λ v q. word_of (with_inactive s.store node).ast v q
+
+    first : HasGone (gones (seen s) fs) [] ds
+    first = gones_keep (seen s) fs ds keeps.book can.on
+
+    second : HasGone all_gone [] []
+    second = gone_segs_keep (gones (seen s) fs) [] ds first.book first.on
+
+    one : IsAlike (seen s) (gones (seen s) fs)
+    one = gones_alike (seen s) fs
+
+    two : IsAlike (gones (seen s) fs) all_gone
+    two = segs_alike (gones (seen s) fs) ds
+
+    others : (w q : ℕ) → w ≢ node → words w q ≡ all_gone.words w q
+    others w q n = words_less s.store.ast node can.active keeps.store.kept.tree.once keeps.store.kept.places w q n
+        ∙ sym (ap (λ (x : ℕ → ℕ → Ptw). x w q) (segs_words (gones (seen s) fs) ds)
+        ∙ gones_words (seen s) fs node keeps.book.going_owned.once can.its w q n)
+
+    inactive : KeepsBook (no_more_active all_gone node words)
+    inactive = deactivate_keeps all_gone node words second.book (record {
+      may = can.may;
+      others = others;
+      blank = blank_less s.store.ast node can.active keeps.store.kept.tree.once keeps.store.kept.places;
+    })
+
+    over : KeepsBook (record (no_more_active all_gone node words) { owner = None })
+    over = job_over (no_more_active all_gone node words) None inactive second.on.frames second.on.cut second.on.none
+        second.on.still nobody refl
+
+    going : (f : ℕ) → has fs f ≡ true → (page : ℕ × ℕ) × ((seen s).bound f ≡ Some page)
+    going f h = by ((seen s).bound f) refl
+      where
+        word : (seen s).words (page_at (seen s) f).0 (page_at (seen s) f).1 ≡ ptw.Leaving f
+        word = going_word (seen s) f keeps.book (keeps.book.going_owned.frames f ∙ h)
+
+        by : (x : Option (ℕ × ℕ)) → (seen s).bound f ≡ x → (page : ℕ × ℕ) × ((seen s).bound f ≡ Some page)
+        by x e = (
+          page_at (seen s) f,
+          keeps.book.tied.back f (page_at (seen s) f).0 (page_at (seen s) f).1
+              (ap names word),
+        )
+
+    within : (f : ℕ) → has fs f ≡ true → f < length s.store.pages.core.frames
+    within f h = let at = going f h in bound_within s f at.0 at.1
+
+    unread : (f : ℕ) → has fs f ≡ true → (seen s).reads f ≡ None
+    unread f h = by ((seen s).reads f) refl
+      where
+        by : (x : Option (ℕ × ℕ)) → (seen s).reads f ≡ x → x ≡ None
+        by None e = refl
+        by (Some page) e = absurd (none_some (sym (keeps.book.tied.unbound f page.0 page.1 e) ∙ (going f h).1))
+
+    unlinked : (j n : ℕ) → (seen s).linked j n ≢ Some node
+    unlinked j n h = can.may.descriptors j n
+        (ap (λ (o : Option ℕ). leads_to (descriptor_use o (cut_uid (cut_of_owner all_gone.owner) j n)))
+        (ap (λ (x : ℕ → ℕ → Option ℕ). x j n) (two.linked ∙ one.linked) ∙ h))
+
+    entries_are : s.entries ++ gone_entries s node (command.Delete path)
+        ≡ all_gone.entries ++ entry.Deactivate node ∷ []
+    entries_are = ap (λ (b : Bool). s.entries ++
+        (map gone_entry fs ++ (map cut_entry ds ++ cond b (entry.Deactivate node ∷ []) []))) can.active
+        ∙ (sym (append_assoc s.entries (map gone_entry fs) (map cut_entry ds ++ entry.Deactivate node ∷ []))
+        ∙ (sym (append_assoc (s.entries ++ map gone_entry fs) (map cut_entry ds) (entry.Deactivate node ∷ []))
+        ∙ ap (λ (es : List Entry). es ++ entry.Deactivate node ∷ []) (sym (segs_entries (gones (seen s) fs) ds
+        ∙ ap (λ (es : List Entry). es ++ map cut_entry ds) (gones_entries (seen s) fs)))))
+
+    -- the store, where the node is active
+    abbrev deleted_store : Bool → Storage
+    deleted_store b = record (if b then with_inactive
+        (with_pages s.store (erased (frames_freed s.store.pages fs) (home_in s.store node))) node
+        else with_pages s.store (erased (frames_freed s.store.pages fs) (home_in s.store node))) {
+          accounts =
+              lost s.store.accounts node;
+        }
+
+    deleted_seen : seen (with_owner (effected s k (command.Delete path)) None)
+        ≡ record (no_more_active all_gone node words) { owner = None }
+    deleted_seen = ap (λ (b : Bool). seen (with_owner
+        (booked (with_store s (deleted_store b)) (gone_entries s node (command.Delete path))) None)) can.active
+        ∙ (λ i. record {
+          plan = sym (two.plan ∙ one.plan) i;
+          entries = entries_are i;
+          bound = λ g. (freed_bound s.store.pages fs within g ∙ ap (λ (x : ℕ → Option (ℕ × ℕ)). x g)
+              (sym (segs_bound (gones (seen s) fs) ds ∙ gones_bound (seen s) fs))) i;
+          reads = λ g. (freed_reads s.store.pages fs within g ∙ (freed_none (seen s).reads fs unread g
+              ∙ ap (λ (x : ℕ → Option (ℕ × ℕ)). x g) (sym (two.reads ∙ one.reads)))) i;
+          words = words;
+          active = λ v. (active_less s.store.ast node can.active keeps.store.kept.tree.once keeps.store.kept.places v
+              ∙ ap (λ (x : ℕ → Bool). at_put x node false v) (sym (two.active ∙ one.active))) i;
+          linked = λ j n. (ap (λ (v : Seen). v.linked j n)
+              (deactivate_seen s node can.active keeps.store.kept.tree.once keeps.store.kept.places unlinked)
+              ∙ ap (λ (x : ℕ → ℕ → Option ℕ). x j n) (sym (two.linked ∙ one.linked))) i;
+          ready = sym (two.ready ∙ one.ready) i;
+          processors = sym (two.processors ∙ one.processors) i;
+          owner = None;
+          runs = sym (two.runs ∙ one.runs) i;
+        })
+
+    pub delete_kept : Keeps (committed s c k (command.Delete path))
+    delete_kept = kept_with (committed s c k (command.Delete path))
+        (told_keeps (with_owner (effected s k (command.Delete path)) None) c (process_at s c) None
+        (reply_of s k (command.Delete path))
+        (subst KeepsBook (sym deleted_seen) over) can.tell) can.says
+        (let a = faults_push (s.entries ++ gone_entries s node (command.Delete path))
+        (entry.Do (process_at s c) (run_at s.runs (process_at s c)).place c None
+        (reply_of s k (command.Delete path))) in
+        let b = ap (count_by is_fault) entries_are in
+        let d = faults_push all_gone.entries (entry.Deactivate node) in
+        let e = ap (count_by is_fault) (segs_entries (gones (seen s) fs) ds) in
+        let f = cut_faults (gones (seen s) fs).entries ds in
+        let g = ap (count_by is_fault) (gones_entries (seen s) fs) in
+        let h = gone_faults s.entries fs in
+        let few = keeps.few_faults in omega (arith, a, b, d, e, f, g, h, few))
+        (length-set s.processors c _ ∙ keeps.sizes.processors)
+        (length-set s.runs (process_at s c) _ ∙ keeps.sizes.processes) (λ o h. absurd (none_some h))
+
+-- ---- a node that isn't active
+
+-- A deletion of a node that isn't active: the job has taken nothing.
+pub record CanDeleteInactive (s : State) (c k : ℕ) (path : Path) : Type 0 where
+  pub inactive : is_active s.store.ast (uid_of_command s.store k (command.Delete path)) ≡ false
+  pub idle : IsIdle s.owner
+  pub still : is_pending s.owner ≡ false
+  pub tell : CanTell (with_owner (effected s k (command.Delete path)) None) c (process_at s c) None
+      (reply_of s k (command.Delete path))
+  pub says : StoreSays (committed s c k (command.Delete path))
+
+pub delete_inactive_kept : (s : State) (c k : ℕ) (path : Path) → Keeps s → CanDeleteInactive s c k path
+    → Keeps (committed s c k (command.Delete path))
+delete_inactive_kept s c k path keeps can = kept_with (committed s c k (command.Delete path))
+    (told_keeps (with_owner (effected s k (command.Delete path)) None) c (process_at s c) None
+    (reply_of s k (command.Delete path))
+    (subst KeepsBook (sym seen_is) (owner_keeps (seen s) None keeps.book can.idle nobody can.still)) can.tell) can.says
+    (let a = faults_push (s.entries ++ gone_entries s node (command.Delete path))
+    (entry.Do (process_at s c) (run_at s.runs (process_at s c)).place c None
+    (reply_of s k (command.Delete path))) in
+    let b = ap (count_by is_fault) entries_are in let few = keeps.few_faults in omega (arith, a, b, few))
+    (length-set s.processors c _ ∙ keeps.sizes.processors)
+    (length-set s.runs (process_at s c) _ ∙ keeps.sizes.processes) (λ o h. absurd (none_some h))
+  where
+    node : ℕ
+    node = uid_of_command s.store k (command.Delete path)
+
+    entries_are : s.entries ++ gone_entries s node (command.Delete path) ≡ s.entries
+    entries_are = (λ i. s.entries ++ (map gone_entry (can.idle.frames i) ++
+        (map cut_entry (can.idle.cut i) ++ cond (can.inactive i) (entry.Deactivate node ∷ []) [])))
+        ∙ append_nil s.entries
+
+    deleted : Bool → List ℕ → Storage
+    deleted b fs = record (if b then with_inactive
+        (with_pages s.store (erased (frames_freed s.store.pages fs) (home_in s.store node))) node
+        else with_pages s.store (erased (frames_freed s.store.pages fs) (home_in s.store node))) {
+          accounts =
+              lost s.store.accounts node;
+        }
+
+    seen_is : seen (with_owner (effected s k (command.Delete path)) None) ≡ record (seen s) { owner = None }
+    seen_is = (λ i. seen (with_owner (booked (with_store s (deleted (can.inactive i) (can.idle.frames i)))
+        (gone_entries s node (command.Delete path))) None))
+        ∙ (λ i. record (seen s) { owner = None; entries = entries_are i })

@@ -1,0 +1,243 @@
+-- The machine keeps its promise where the shutdown visits a frame.
+use Rattle.std.proofs.Common.{◌≡◌, ◌<◌, ◌≤◌, ℕ, ◌+◌, Bool, true, false, cond, eqb, count_by, List, [], ◌∷◌, ◌++◌}
+use Rattle.std.proofs.Common.{map, Option, Some, None, inl, inr, refl, sym, ap, subst, ◌∙◌, arith}
+use Rattle.std.proofs.lemmas.Bool.Decides.{eqb_tells}
+use Rattle.assoc_mem.specs.declared.What.TheVariants as what
+use Rattle.assoc_mem.specs.Held.{Held, nothing_held}
+use Rattle.book.specs.declared.entries.Entry.TheVariants as entry
+use Rattle.core_map.specs.CoreMap.{bound_page}
+use Rattle.page_table.specs.declared.Ptw.TheVariants as ptw
+use Rattle.page_control.specs.declared.Left.{Left}
+use Rattle.page_control.specs.declared.Left.TheVariants as left
+use Rattle.page_control.specs.Plain.{frame_in, words_in}
+use Rattle.flat_model.specs.Legal.{MayFault, MayRelease}
+use Rattle.custody_model.specs.Custody.{Custody, has}
+use Rattle.custody_model.specs.Fine.{Fine}
+use Rattle.machine_model.specs.declared.Aim.TheVariants as aim
+use Rattle.machine_model.specs.declared.Phase.TheVariants as phase
+use Rattle.machine_model.specs.After.{Outcome}
+use Rattle.machine_model.specs.Chains.{page_or_zero}
+use Rattle.machine_model.specs.Changes.{taken}
+use Rattle.machine_model.specs.Custodial.{HoldsRight, IsOwned, KeepsBook, has_cut, names, waits_for}
+use Rattle.machine_model.specs.Holding.{seen}
+use Rattle.machine_model.specs.Jobs.{entries_left, left_of, page_back, page_gone, page_in, take_one}
+use Rattle.machine_model.specs.Jobs.{with_left, without_first_frame}
+use Rattle.machine_model.specs.Keeps.{Keeps, StoreSays, is_fault}
+use Rattle.machine_model.specs.Reads.{cut_of_owner, flat_of, frames_of_owner, processor_at}
+use Rattle.machine_model.specs.Seen.{Seen, cut_uid, descriptor_use, shown}
+use Rattle.machine_model.specs.Shutdown.{after_visit, page_taken, visited_if}
+use Rattle.machine_model.specs.State.{CutDescriptor, Owner, State}
+use Rattle.machine_model.specs.Steps.{booked, fault_told, with_faults, with_owner, with_store}
+use Rattle.machine_model.proofs.AnswerLaws.{fault_keeps}
+use Rattle.machine_model.proofs.FinishKept.{left_faults, left_keeps}
+use Rattle.machine_model.proofs.FrameLaws.{CanFinish, back_keeps, take_keeps}
+use Rattle.machine_model.proofs.KeepLaws.{faults_push}
+use Rattle.machine_model.proofs.LeaveSeen.{back_seen}
+use Rattle.machine_model.proofs.OwnerLaws.{bound_here, idle_names}
+use Rattle.machine_model.proofs.Places.{put_two_here}
+use Rattle.machine_model.proofs.TakeSeen.{HasTables, binding_is, tables_kept, take_one_seen}
+use Rattle.machine_model.proofs.TieLaws.{none_some}
+use Rattle.machine_model.proofs.TransferKept.{kept_with}
+
+-- no processor holds anything, or is to drop anything
+pub record AreBare (s : State) : Type 0 where
+  pub held : (d : ℕ) → (processor_at s.processors d).cpu.assoc ≡ nothing_held
+  pub due : (d : ℕ) → (processor_at s.processors d).cpu.due ≡ None
+
+none_has : (xs : List ℕ) (x : ℕ) → xs ≡ [] → has xs x ≡ true → ⊥
+none_has xs x e h = let no : false ≡ true = sym (ap (λ (ys : List ℕ). has ys x) e) ∙ h in cc
+
+-- where nothing is held, what is held is fine
+bare_fine : (v : Seen) (b : Bool) → ((d : ℕ) → (v.processors d).cpu.assoc ≡ nothing_held) → Fine (shown v) b
+bare_fine v b bare = record {
+  page = λ d f h. absurd (none_has ((shown v).seat d).pages f
+      (ap (λ (x : Held). map (λ e. e.frame) x.pages) (bare d)) h);
+  seg = λ d k n its h. absurd (none_has ((shown v).seat d).segs n
+      (ap (λ (x : Held). map (λ e. e.number) x.segs) (bare d)) h);
+  idle = λ d off. (
+    ap (λ (x : Held). map (λ e. e.number) x.segs) (bare d),
+    ap (λ (x : Held). map (λ e. e.frame) x.pages) (bare d),
+  );
+}
+
+module _ (s : State) (f u p : ℕ) (k : Keeps s) (none : s.owner ≡ None) (bare : AreBare s)
+    (bound : (seen s).bound f ≡ Some (u, p)) where
+  -- as if a job took the page
+  abbrev taking : State
+  taking = take_one s 0 aim.Evicting (what.Page f) f
+
+  -- and every processor had cleared
+  abbrev waiting : Owner
+  waiting = record { cpu = 0; phase = phase.Waiting aim.Evicting (what.Page f); frames = f ∷ []; cut = [] }
+
+  no_frames : frames_of_owner s.owner ≡ []
+  no_frames = ap frames_of_owner none
+
+  no_cut : cut_of_owner s.owner ≡ []
+  no_cut = ap cut_of_owner none
+
+  page_here : (seen s).words u p ≡ ptw.Here f
+  page_here = bound_here (seen s) f u p k.book no_frames bound
+
+  taking_is : seen taking ≡ taken (seen s) 0 aim.Evicting (what.Page f) f u p
+  taking_is = take_one_seen s 0 aim.Evicting (what.Page f) f u p k.store.kept.places bound page_here
+
+  taking_book : KeepsBook (seen taking)
+  taking_book = subst KeepsBook (sym taking_is) (take_keeps (seen s) 0 aim.Evicting (what.Page f) f u p k.book (record {
+    here = page_here;
+    still = ap waits_for none;
+    others = idle_names (shown (seen s)) s.owner (what.Page f) k.book.going_owned no_frames no_cut;
+    this = own;
+    aimed = (f, ap (λ (fs : List ℕ). fs ++ f ∷ []) no_frames, refl, no_cut);
+  }))
+    where
+      own : eqb f f ≡ true
+      own = elim (eqb_tells f f) [ inl e ↦ e.0 | inr n ↦ absurd (n.1 refl) ]
+
+  abbrev waited : State
+  waited = with_owner taking (Some waiting)
+
+  waited_book : KeepsBook (seen waited)
+  waited_book = record {
+    legal = taking_book.legal;
+    clean = taking_book.clean;
+    held = sym same ∙ taking_book.held;
+    stale_due = bare_fine (seen waited) false bare.held;
+    going_owned = subst (λ (c : Custody). IsOwned c (Some waiting)) same (record {
+      frames = λ g. taking_book.going_owned.frames g ∙ ap (λ (fs : List ℕ). has (fs ++ f ∷ []) g) no_frames;
+      cuts = λ j n. taking_book.going_owned.cuts j n ∙ ap (λ (ds : List CutDescriptor). has_cut ds j n) no_cut;
+      once = (refl, tt);
+      apart = tt;
+      due = λ d w h. absurd (none_some (sym (bare.due d) ∙ h));
+      alive = λ d w h. absurd (none_some (sym (bare.due d) ∙ h));
+      says = λ w h. absurd (none_some h);
+      shaped = (f, refl, refl, refl);
+    });
+    tied = taking_book.tied;
+    holding_right = λ d. subst (λ (c : Custody). HoldsRight (seen taking).bound c.descriptor
+        (processor_at s.processors d)) same (taking_book.holding_right d);
+    under_way = taking_book.under_way;
+    runs = taking_book.runs;
+  }
+    where
+      same : shown (seen taking) ≡ shown (seen waited)
+      same = λ i. record (shown (seen taking)) {
+        descriptor = λ j n. descriptor_use ((seen taking).linked j n)
+            (cut_uid (no_cut i) j n);
+      }
+
+  leaving_now : (seen waited).words u p ≡ ptw.Leaving f
+  leaving_now = ap (λ (v : Seen). v.words u p) taking_is ∙ put_two_here (seen s).words u p (ptw.Leaving f)
+
+  can_finish : CanFinish (seen waited) f u p None
+  can_finish = record {
+    leaving = leaving_now;
+    none = bare.due;
+    still = refl;
+    after = refl;
+    first = record { rest = []; frames = refl; left = refl; cut = refl; says = refl; shaped = tt };
+  }
+
+  abbrev after_take : State
+  after_take = page_taken s f
+
+  tables_still : HasTables waited
+  tables_still = tables_kept s f (bound_page (frame_in s.store.pages f)) k.store.kept.places
+
+  bound_still : (seen waited).bound f ≡ Some (u, p)
+  bound_still = waited_book.tied.back f u p (ap names leaving_now)
+
+  page_still : page_in after_take.store f ≡ (u, p)
+  page_still = ap page_or_zero (sym (binding_is waited f) ∙ bound_still)
+
+  taken_faults : count_by is_fault (s.entries ++ entry.Take f ∷ []) ≡ count_by is_fault s.entries
+  taken_faults = let one = faults_push s.entries (entry.Take f) in omega (arith, one)
+
+  -- the page leaves the frame
+  visit_gone : (faults n : ℕ) → s.faults ≤ faults
+      → (left_of (words_in after_take.store.pages f) ≡ left.Released → MayRelease (flat_of after_take) u p)
+      → StoreSays (record (page_gone (with_faults after_take faults) f) { visited = n })
+      → Keeps (record (page_gone (with_faults after_take faults) f) { visited = n })
+  visit_gone faults n rose zeros says = kept_with (record (page_gone (with_faults after_take faults) f) { visited = n })
+      (subst (λ (o : Option Owner). KeepsBook (seen (with_owner (page_gone after_take f) o))) (sym none)
+      (subst (λ (page : ℕ × ℕ). KeepsBook (seen
+      (with_owner (booked (with_store waited (with_left after_take.store f how page))
+      (entries_left f how page)) None)))
+      (sym page_still) (left_keeps waited f u p how None tables_still waited_book can_finish zeros))) says
+      (let same = left_faults (s.entries ++ entry.Take f ∷ []) f how (page_in after_take.store f) in
+      let one = taken_faults in let few = k.few_faults in omega (arith, same, one, few, rose))
+      k.sizes.processors k.sizes.processes (λ o h. absurd (none_some (sym none ∙ h)))
+    where
+      how : Left
+      how = left_of (words_in after_take.store.pages f)
+
+  -- the drive failed, and the page stays
+  visit_back : (faults n : ℕ) → s.faults < faults → MayFault (flat_of after_take) None
+      → StoreSays (record (page_back (fault_told after_take None faults) f) { visited = n })
+      → Keeps (record (page_back (fault_told after_take None faults) f) { visited = n })
+  visit_back faults n rose may says = kept_with
+      (record (page_back (fault_told after_take None faults) f) { visited = n })
+      (subst (λ (o : Option Owner). KeepsBook
+      (seen (with_owner (page_back (fault_told after_take None faults) f) (without_first_frame o)))) (sym none)
+      (subst KeepsBook (sym (back_seen told f u p None tables_still told_book leaving_now))
+      (back_keeps (seen told) f u p None told_book can_back))) says
+      (let one = taken_faults in let two = faults_push (s.entries ++ entry.Take f ∷ []) (entry.Fault None) in
+      let three = faults_push ((s.entries ++ entry.Take f ∷ []) ++ entry.Fault None ∷ []) (entry.BackPage f) in
+      let few = k.few_faults in omega (arith, one, two, three, few, rose))
+      k.sizes.processors k.sizes.processes (λ o h. absurd (none_some (sym (ap without_first_frame none) ∙ h)))
+    where
+      told : State
+      told = fault_told waited None faults
+
+      told_book : KeepsBook (seen told)
+      told_book = fault_keeps (seen waited) None waited_book may
+
+      can_back : CanFinish (seen told) f u p None
+      can_back = record {
+        leaving = leaving_now;
+        none = bare.due;
+        still = refl;
+        after = refl;
+        first = record { rest = []; frames = refl; left = refl; cut = refl; says = refl; shaped = tt };
+      }
+
+-- ---- the visit
+
+-- What a visit asks: of a frame that has a page, what the store says of the machine then.
+pub record AsksVisit (s : State) (o : Outcome) : Type 0 where
+  pub none : s.owner ≡ None
+  pub bare : AreBare s
+  pub well : o.failed ≡ false → (page : ℕ × ℕ) → (seen s).bound s.visited ≡ Some page → (s.faults ≤ o.faults)
+      × (left_of (words_in (page_taken s s.visited).store.pages s.visited) ≡ left.Released
+      → MayRelease (flat_of (page_taken s s.visited)) page.0 page.1)
+      × StoreSays (record (page_gone (with_faults
+      (page_taken s s.visited) o.faults) s.visited) { visited = s.visited + 1 })
+  pub ill : o.failed ≡ true → (s.faults < o.faults) × MayFault (flat_of (page_taken s s.visited)) None
+      × StoreSays (record (page_back (fault_told
+      (page_taken s s.visited) None o.faults) s.visited) { visited = s.visited + 1 })
+
+pub visit_keeps : (s : State) (o : Outcome) → Keeps s → AsksVisit s o → Keeps (after_visit s o)
+visit_keeps s o k asks = by (bound_page (frame_in s.store.pages s.visited)) (binding_is s s.visited)
+  where
+    ended : (page : ℕ × ℕ) → (seen s).bound s.visited ≡ Some page → (b : Bool) → o.failed ≡ b
+        → Keeps (record (cond b (page_back (fault_told (page_taken s s.visited) None o.faults) s.visited)
+        (page_gone (with_faults (page_taken s s.visited) o.faults) s.visited)) { visited = s.visited + 1 })
+    ended page h true e = let i = asks.ill e in
+        visit_back s s.visited page.0 page.1 k asks.none asks.bare h o.faults (s.visited + 1) i.0 i.1 i.2
+    ended page h false e = let w = asks.well e page h in
+        visit_gone s s.visited page.0 page.1 k asks.none asks.bare h o.faults (s.visited + 1) w.0 w.1 w.2
+
+    by : (x : Option (ℕ × ℕ)) → (seen s).bound s.visited ≡ x
+        → Keeps (record (visited_if s s.visited o x) { visited = s.visited + 1 })
+    by None h = record {
+      book = k.book;
+      store = k.store;
+      faithful = k.faithful;
+      rights = k.rights;
+      cut = k.cut;
+      conserved = k.conserved;
+      few_faults = k.few_faults;
+      sizes = record { frames = k.sizes.frames; processors = k.sizes.processors; processes = k.sizes.processes };
+      at_work = k.at_work;
+    }
+    by (Some page) h = ended page h o.failed refl
