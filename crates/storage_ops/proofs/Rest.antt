@@ -1,18 +1,25 @@
 -- What tree commands leave as it is.
+use Rattle.std.proofs.lemmas.List.{get_or-set_other}
+use Rattle.std.proofs.lemmas.Bool.Decides.{nat_tests}
+use Rattle.std.proofs.lemmas.Bool.{cases_eq, ne_eqb}
+use Rattle.std.proofs.Common.{◌≢◌, ◌+◌, ◌*◌, ◌/◌, ◌%◌, ◌≤◌, nat_le, ◌||◌, [], set, arith, inl, inr}
 use Rattle.std.proofs.Common.{◌≡◌, ℕ, Bool, true, false, cond, eqb, ◌&&◌, List, Option, Some, None, refl, sym, ap}
 use Rattle.std.proofs.Common.{subst, ◌∙◌}
 use Rattle.accounts.specs.Maps.{AccountMaps}
 use Rattle.vtoc.specs.Vtoc.{Entry as VtocEntry}
 use Rattle.core_map.specs.CoreMap.{Core, reads_of}
 use Rattle.active_segs.specs.declared.Entry.{Entry}
-use Rattle.active_segs.specs.Active.{ActiveSegs, deactivated, uid_at as uid_in_place}
+use Rattle.active_segs.specs.Active.{ActiveSegs, IsOneToOne, deactivated, entry_at, table_at, uid_at as uid_in_place}
 use Rattle.page_control.specs.declared.Home.{Home}
 use Rattle.page_control.specs.Effects.{erased}
 use Rattle.page_control.specs.Plain.{Plain, binding_at, bindings, plain}
-use Rattle.seg_control.specs.Control.{Control, Links}
-use Rattle.storage_ops.specs.Cut.{KeepsRest, Unstores, unbound}
+use Rattle.seg_control.specs.Control.{Links}
+use Rattle.seg_control.specs.Kept.{IsInactive}
+use Rattle.storage_ops.specs.Cut.{CutsPages, KeepsRest, TakesOut, Unstores, unbound}
 use Rattle.storage_ops.specs.Shown.{Storage, with_known, with_vtocs}
 use Rattle.storage_ops.proofs.Less.{was_active}
+use Rattle.storage_ops.proofs.Removed.{inactive_now}
+use Rattle.storage_ops.proofs.Unstored.{unstores_both}
 
 pub rest_none : {D : Type 0} (t : Storage D) → KeepsRest t t
 rest_none t = record {
@@ -139,4 +146,89 @@ rest_erased drive t n home effect ast links whos drives = record {
   hands = ap (λ (x : ActiveSegs). x.hands) ast;
   active = λ place u e. ap (λ (x : ActiveSegs). uid_in_place x.entries place) (sym ast) ∙ e;
   bound = λ f u q e. ap (λ (s : Plain). binding_at (bindings s.core) f) (sym effect) ∙ e;
+}
+
+-- ---- the pages that a cut takes
+
+pub cuts_even : {D : Type 0} (old new : Storage D) (u words : ℕ) → Unstores old new u (λ q. nat_le (words / 1024) q)
+    → CutsPages old new u words
+cuts_even old new u words x = record {
+  test = λ q. nat_le (words / 1024) q;
+  within = λ q on. grind (arith, nat_tests);
+  past = λ q le. (let at : words / 1024 ≤ q = omega (arith, le) in grind (arith, nat_tests));
+  unstores = x;
+}
+
+pub cuts_odd : {D : Type 0} (old mid new : Storage D) (u words : ℕ) (lost : Bool) → words % 1024 ≢ 0
+    → Unstores old mid u (λ q. nat_le (words / 1024 + 1) q)
+    → Unstores mid new u (λ q. lost && eqb q (words / 1024)) → CutsPages old new u words
+cuts_odd old mid new u words lost odd x y = record {
+  test = λ q. nat_le (words / 1024 + 1) q || (lost && eqb q (words / 1024));
+  within = λ q on. within q (nat_le (words / 1024 + 1) q) refl lost (eqb q (words / 1024)) refl on;
+  past = λ q le. past q le;
+  unstores = unstores_both old mid new u (λ q. nat_le (words / 1024 + 1) q) (λ q. lost && eqb q (words / 1024)) x y;
+}
+  where
+    within : (q : ℕ) (a : Bool) → nat_le (words / 1024 + 1) q ≡ a → (b c : Bool) → eqb q (words / 1024) ≡ c
+        → (a || (b && c)) ≡ true → words / 1024 ≤ q
+    within q true e b c f on = (let le : words / 1024 + 1 ≤ q = grind (arith, nat_tests) in omega (arith, le))
+    within q false e true true f on = (let is : q ≡ words / 1024 = grind (arith, nat_tests) in omega (arith, is))
+    within q false e true false f on = cc
+    within q false e false c f on = cc
+
+    first : (a b : Bool) → a ≡ true → (a || b) ≡ true
+    first true b e = refl
+    first false b e = cc
+
+    past : (q : ℕ) → words ≤ 1024 * q → (nat_le (words / 1024 + 1) q || (lost && eqb q (words / 1024))) ≡ true
+    past q le = first (nat_le (words / 1024 + 1) q) (lost && eqb q (words / 1024))
+        (let at : words / 1024 + 1 ≤ q = omega (arith, le, odd) in grind (arith, nat_tests))
+
+-- ---- what is taken out
+
+was_of : (u : ℕ) (o : Option (ℕ × ℕ)) → unbound u (λ q. nat_le 0 q) o ≡ unbound u (λ q. true) o
+was_of u o = ap (λ (t : ℕ → Bool). unbound u t o) (λ i. λ q. first q i)
+  where
+    first : (q : ℕ) → nat_le 0 q ≡ true
+    first q = grind (arith, nat_tests)
+
+pub out_active : {D : Type 0} (old mid new : Storage D) (place u : ℕ) → IsOneToOne old.segs.ast.entries
+    → uid_in_place old.segs.ast.entries place ≡ Some u → Unstores old mid u (λ q. nat_le 0 q)
+    → new ≡ record mid { segs = record mid.segs { ast = deactivated mid.segs.ast place } } → TakesOut old new u
+out_active {D} old mid new place u once at x is = subst (λ (n : Storage D). TakesOut old n u) (sym is) (record {
+  inactive = subst (λ (e : List (Option Entry)). IsInactive (set e place None) u) (sym x.places)
+      (inactive_now old.segs.ast.entries place u once at);
+  entries = λ p apart. get_or-set_other mid.segs.ast.entries place p None None (other p apart)
+      ∙ ap (λ (e : List (Option Entry)). entry_at e p) x.places;
+  tables = λ p apart. get_or-set_other mid.segs.ast.tables place p _ [] (other p apart) ∙ x.tables p apart;
+  bound = λ f. x.bound f ∙ was_of u (binding_at (bindings old.segs.pages.core) f);
+})
+  where
+    other : (p : ℕ) → uid_in_place old.segs.ast.entries p ≢ Some u → p ≢ place
+    other p apart same = apart (ap (uid_in_place old.segs.ast.entries) same ∙ at)
+
+-- a segment that isn't active has no page in a frame
+pub out_inactive : {D : Type 0} (t : Storage D) (u : ℕ) → IsInactive t.segs.ast.entries u
+    → ((f q : ℕ) → binding_at (bindings t.segs.pages.core) f ≢ Some (u, q)) → TakesOut t t u
+out_inactive t u inactive unframed = record {
+  inactive = inactive;
+  entries = λ p apart. refl;
+  tables = λ p apart. refl;
+  bound = λ f. by f (binding_at (bindings t.segs.pages.core) f) refl;
+}
+  where
+    by : (f : ℕ) (o : Option (ℕ × ℕ)) → binding_at (bindings t.segs.pages.core) f ≡ o → o ≡ unbound u (λ q. true) o
+    by f None e = refl
+    by f (Some x) e = elim (cases_eq x.0 u) [
+      | inl same ↦ absurd (unframed f x.1 (e ∙ ap (λ (n : ℕ). Some (n, x.1)) same))
+      | inr apart ↦ rw (ne_eqb x.0 u apart) refl
+    ]
+
+pub out_still : {D : Type 0} (old mid new : Storage D) (u : ℕ) → TakesOut old mid u → new.segs.ast ≡ mid.segs.ast
+    → new.segs.pages.core ≡ mid.segs.pages.core → TakesOut old new u
+out_still old mid new u x ast core = record {
+  inactive = subst (λ (a : ActiveSegs). IsInactive a.entries u) (sym ast) x.inactive;
+  entries = λ p apart. ap (λ (a : ActiveSegs). entry_at a.entries p) ast ∙ x.entries p apart;
+  tables = λ p apart. ap (λ (a : ActiveSegs). table_at a.tables p) ast ∙ x.tables p apart;
+  bound = λ f. ap (λ (k : Core). binding_at (bindings k) f) core ∙ x.bound f;
 }

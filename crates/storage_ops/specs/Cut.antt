@@ -1,5 +1,5 @@
 -- What the cutting of a segment and the deletion of a node ask, and what they leave as it is (own).
-use Rattle.std.specs.Prelude.{◌≡◌, ◌≢◌, ◌<◌, ◌≤◌, ℕ, ◌/◌, ◌%◌, Bool, true, false, ◌&&◌, ◌==◌}
+use Rattle.std.specs.Prelude.{◌≡◌, ◌≢◌, ◌<◌, ◌≤◌, ℕ, ◌*◌, ◌/◌, ◌%◌, Bool, true, false, ◌&&◌, ◌==◌}
 use Rattle.std.specs.Prelude.{if◌then◌else◌, List, Option, None, Some, Ok}
 use Rattle.tree_model.specs.Tree.{Node, with_node}
 use Rattle.accounts.specs.Maps.{AccountMaps, Changes}
@@ -13,10 +13,11 @@ use Rattle.flat_model.specs.Store.{Store}
 use Rattle.core_map.specs.CoreMap.{reads_of}
 use Rattle.page_table.specs.declared.Ptw.{Ptw}
 use Rattle.page_table.specs.declared.Ptw.TheVariants.{Here, Leaving, Null, Out}
-use Rattle.active_segs.specs.Active.{IsActive, table_at, uid_at as uid_in_place}
+use Rattle.active_segs.specs.Active.{IsActive, entry_at, table_at, uid_at as uid_in_place}
 use Rattle.page_control.specs.Plain.{binding_at, bindings}
 use Rattle.page_control.specs.Tied.{IsNotStarted, is_out}
 use Rattle.seg_control.specs.Control.{Control, leads_at, word_of}
+use Rattle.seg_control.specs.Kept.{IsInactive}
 use Rattle.storage_ops.specs.Shown.{IsCut, IsCutAt, IsInactiveAt, Shows, Storage, answered}
 
 -- the length of the segment that a path leads to is set
@@ -104,6 +105,26 @@ IsReady t process (command.Truncate path words) = IsTakenPastAt t.accounts t.seg
 IsReady t process (command.Delete path) = IsRemovableAt t.accounts t.segs path
 IsReady t process command.End = (number : ℕ) → leads_at t.segs.links.descriptors process number ≡ None
 IsReady t process _ = Unit {0}
+
+-- An active segment is cut at an offset: the pages wholly past it lose their words and frames, maybe the one that is
+-- cut,
+-- and no other.
+pub record CutsPages {D : Type 0} (old new : Storage D) (uid offset : ℕ) : Type 0 where
+  pub test : ℕ → Bool
+  pub within : (q : ℕ) → test q ≡ true → offset / 1024 ≤ q
+  pub past : (q : ℕ) → offset ≤ 1024 * q → test q ≡ true
+  pub unstores : Unstores old new uid test
+
+-- A segment or a directory is active no more, and none of its pages is in a frame. What else is active, and what frames
+-- are bound to else, stays.
+pub record TakesOut {D : Type 0} (old new : Storage D) (uid : ℕ) : Type 0 where
+  pub inactive : IsInactive new.segs.ast.entries uid
+  pub entries : (place : ℕ) → uid_in_place old.segs.ast.entries place ≢ Some uid
+      → entry_at new.segs.ast.entries place ≡ entry_at old.segs.ast.entries place
+  pub tables : (place : ℕ) → uid_in_place old.segs.ast.entries place ≢ Some uid
+      → table_at new.segs.ast.tables place ≡ table_at old.segs.ast.tables place
+  pub bound : (f : ℕ) → binding_at (bindings new.segs.pages.core) f
+      ≡ unbound uid (λ q. true) (binding_at (bindings old.segs.pages.core) f)
 
 -- What no tree command changes: descriptors and trailers, for whom processes run, the drives, what is being read into
 -- frames, and the pools. Nothing becomes active by it, and no frame is bound to another page.

@@ -1,6 +1,8 @@
 //! Pages are stored no more, and segments are truncated.
 
-ghost use Rattle.std.specs.Prelude.{◌≡◌, ◌<◌, ◌≤◌, ◌/◌, ◌%◌, nat_le, true, false, ◌==◌, ℕ};
+ghost use Rattle.std.specs.Prelude.{◌≡◌, ◌<◌, ◌≤◌, ◌/◌, ◌%◌, nat_le, true, false, ◌&&◌, ◌==◌, ℕ, Ok};
+ghost use Rattle.tree_model.specs.Tree.{Node};
+ghost use Rattle.flat_model.specs.Branches.{segment_at};
 ghost use Rattle.page_table.specs.declared.Ptw.TheVariants.{Null};
 ghost use Rattle.active_segs.specs.Active.{IsActive};
 ghost use Rattle.page_control.specs.Tied.{IsNotStarted, is_away, is_out};
@@ -10,7 +12,8 @@ ghost use Rattle.flat_model.specs.Cuts.{cleared, cut_once, has_cleared, without_
 ghost use Rattle.flat_model.specs.Sizes.{after_truncate, cut_off, truncate_reply};
 ghost use Rattle.flat_model.specs.Store.{Store as Flat};
 ghost use Rattle.storage_ops.specs.Shown.{Shows, answered, home_of};
-ghost use Rattle.storage_ops.specs.Cut.{IsTakenFrom, IsTakenPast, IsTakenPastAt, KeepsRest, Unstores, is_here, leaves};
+ghost use Rattle.storage_ops.specs.Cut.{CutsPages, IsTakenFrom, IsTakenPast, IsTakenPastAt, KeepsRest};
+ghost use Rattle.storage_ops.specs.Cut.{Unstores, is_here, leaves};
 
 use crate::paths::segment_at;
 use crate::sizes::pages_of;
@@ -125,11 +128,11 @@ impl<D: Drive> Store<D> {
         }
     }
 
-    /// The words of the page that an offset cuts become 0 from it on. A page of zeros is stored no more.
-    fn cut_page(&mut self, uid: u32, words: u32)
+    /// The words of the page that an offset cuts become 0 from it on. A page of zeros is stored no more, and told of.
+    fn cut_page(&mut self, uid: u32, words: u32) -> bool
         requires past { IsTakenPast self.old.segs uid words }
         requires out { is_out (word_of self.old.segs.ast uid (words / 1024)) ≡ false }
-        ensures rest { KeepsRest self.old self.new }
+        ensures rest { Unstores self.old self.new uid (λ q. result && q == words / 1024) }
         ensures shown { (p : Plan) (s : Flat) → Shows D.pages p s self.old
             → Shows D.pages p (cut_once s uid words) self.new }
     {
@@ -138,13 +141,16 @@ impl<D: Drive> Store<D> {
         let page = words / PAGE;
         if self.clear_page(uid, page, words % PAGE) {
             self.drop_page(uid, page, home);
+            true
+        } else {
+            false
         }
     }
 
     /// The words of an active segment from an offset on become 0, and the pages that are lost by it are stored no more.
     fn cut_off(&mut self, uid: u32, words: u32)
         requires { IsTakenPast self.old.segs uid words }
-        ensures rest { KeepsRest self.old self.new }
+        ensures pages { CutsPages self.old self.new uid words }
         ensures shown { (p : Plan) (s : Flat) → Shows D.pages p s self.old
             → Shows D.pages p (cut_off s uid words) self.new }
     {
@@ -167,6 +173,8 @@ impl<D: Drive> Store<D> {
         ensures effect { (p : Plan) (s : Flat) → Shows D.pages p s self.old
             → Shows D.pages p (answered result s (after_truncate s path.now words)) self.new }
         ensures rest { KeepsRest self.old self.new }
+        ensures pages { (n : Node) → segment_at self.old.accounts.nodes path.now ≡ Ok n
+            → CutsPages self.old self.new n.uid words }
     {
         let uid = match segment_at(&self.accounts, path) {
             Ok(node) => node.uid,

@@ -1,7 +1,9 @@
 //! Directories and segments are deleted, and told of.
 
-ghost use Rattle.std.specs.Prelude.{◌≡◌, ◌≢◌, not, true, false, Some};
-ghost use Rattle.tree_model.specs.Tree.{has_directory, quota_in};
+ghost use Rattle.std.specs.Prelude.{◌≡◌, ◌≢◌, not, true, false, Some, Ok};
+ghost use Rattle.tree_model.specs.Tree.{Node as Term, has_directory, quota_in};
+ghost use Rattle.flat_model.specs.Branches.{branch_at};
+ghost use Rattle.flat_model.specs.Commands.{takes_effect};
 ghost use Rattle.tree_model.specs.Trees.{has_segment};
 ghost use Rattle.script.specs.Plans.{Plan};
 ghost use Rattle.dir_tree.specs.Nodes.{has_inferior};
@@ -12,7 +14,7 @@ ghost use Rattle.flat_model.specs.Making.{after_delete, delete_reply};
 ghost use Rattle.flat_model.specs.Naming.{status_reply};
 ghost use Rattle.flat_model.specs.Store.{Store as Flat};
 ghost use Rattle.storage_ops.specs.Shown.{Shows, ShowsTree, answered, is_there, refusal};
-ghost use Rattle.storage_ops.specs.Cut.{IsRemovable, IsRemovableAt, KeepsRest};
+ghost use Rattle.storage_ops.specs.Cut.{IsRemovable, IsRemovableAt, KeepsRest, TakesOut};
 
 use crate::paths::{branch_at, node_at};
 use crate::replies::refusal;
@@ -128,6 +130,7 @@ impl<D: Drive> Store<D> {
         ensures shown { (p : Plan) (s : Flat) → Shows D.pages p s self.old → (t : Flat) × (Shows D.pages p t self.new)
             × (without_branch t (Some uid) ≡ without_branch s (Some uid)) }
         ensures rest { KeepsRest self.old self.new }
+        ensures out { TakesOut self.old self.new uid }
     {
         let _kept = self.segs.pages();
         let Some(place) = self.segs.ast().search(uid) else {
@@ -147,6 +150,8 @@ impl<D: Drive> Store<D> {
         ensures shown { (p : Plan) (s : Flat) → Shows D.pages p s self.old
             → Shows D.pages p (without_branch s (Some uid)) self.new }
         ensures rest { KeepsRest self.old self.new }
+        ensures ast { self.new.segs.ast ≡ self.old.segs.ast }
+        ensures core { self.new.segs.pages.core ≡ self.old.segs.pages.core }
     {
         let _root = self.accounts.root();
         let _kept = self.segs.pages();
@@ -165,6 +170,8 @@ impl<D: Drive> Store<D> {
         ensures effect { (p : Plan) (s : Flat) → Shows D.pages p s self.old
             → Shows D.pages p (answered result s (after_delete s path.now)) self.new }
         ensures rest { KeepsRest self.old self.new }
+        ensures out { takes_effect result ≡ true → (n : Term) → branch_at self.old.accounts.nodes path.now ≡ Ok n
+            → TakesOut self.old self.new n.uid }
     {
         let node = match branch_at(&self.accounts, path) {
             Ok(node) => node,

@@ -6,7 +6,7 @@ use Rattle.page_control.specs.Tied.{is_away}
 use Rattle.storage_ops.specs.Shown.{Shows, Storage, is_there}
 use Rattle.storage_ops.proofs.Paged.{active_there}
 use Rattle.storage_ops.proofs.Unstored.{idle_still}
-use Rattle.storage_ops.proofs.Rest.{rest_both, rest_unstored}
+use Rattle.storage_ops.proofs.Unstored.{unstores_both}
 use Rattle.storage_ops.proofs.Unstored.{active_still, home_still}
 use Rattle.storage_ops.proofs.store.Store.cut_page.Goals as goal
 
@@ -38,14 +38,12 @@ drop_page-requires-clause-idle g c = idle_still c.args.self.now.segs.pages.core 
 
 pub returns-then-clear_page-clause-rest : goal.returns-then-clear_page-clause-rest
 returns-then-clear_page-clause-rest g c =
-    rest_both c.args.self.now c.clear_page.new.self c.drop_page.new.self
-    (rest_unstored c.args.self.now c.clear_page.new.self c.args.uid (λ q. false) c.clear_page.ensures.rest)
-    (rest_unstored c.clear_page.new.self c.drop_page.new.self c.args.uid (λ q. eqb q (c.args.words / 1024))
-    c.drop_page.ensures.rest)
+    unstores_both c.args.self.now c.clear_page.new.self c.drop_page.new.self c.args.uid (λ q. false)
+    (λ q. eqb q (c.args.words / 1024)) c.clear_page.ensures.rest c.drop_page.ensures.rest
 
 pub returns-else-clear_page-clause-rest : goal.returns-else-clear_page-clause-rest
 returns-else-clear_page-clause-rest g c =
-    rest_unstored c.args.self.now c.clear_page.new.self c.args.uid (λ q. false) c.clear_page.ensures.rest
+    c.clear_page.ensures.rest
 
 pub returns-then-clear_page-clause-shown : goal.returns-then-clear_page-clause-shown
 returns-then-clear_page-clause-shown g c = λ p s h.

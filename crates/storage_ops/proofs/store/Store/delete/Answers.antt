@@ -1,17 +1,18 @@
-use Rattle.std.proofs.Common.{◌≡◌, ◌<◌, ℕ, is_some, List, true, false, eqb, refl, sym, ap, subst, ◌∙◌}
+use Rattle.std.proofs.Common.{◌≡◌, ◌<◌, ℕ, is_some, Result, Ok, List, true, false, eqb, refl, sym, ap, subst, ◌∙◌}
 use Rattle.std.proofs.Common.{arith}
 use Rattle.std.specs.Result.{is_err}
 use Rattle.std.proofs.lemmas.Bool.{ne_eqb}
+use Rattle.book.specs.declared.replies.Reply.{Reply}
 use Rattle.tree_model.specs.Tree.{Node, quota_in}
 use Rattle.dir_tree.specs.Nodes.{as_term, has_inferior}
 use Rattle.flat_model.specs.Branches.{branch_at}
 use Rattle.flat_model.specs.Store.{Store as Flat}
 use Rattle.flat_model.proofs.RemoveLaws.{delete_done}
 use Rattle.flat_model.proofs.TreeReplies.{delete_refused, delete_told, from_false}
-use Rattle.storage_ops.specs.Cut.{IsRemovable, IsRemovableAt}
+use Rattle.storage_ops.specs.Cut.{IsRemovable, IsRemovableAt, TakesOut}
 use Rattle.storage_ops.specs.Shown.{Shows, ShowsTree, Storage, is_there}
 use Rattle.storage_ops.proofs.Changed.{branch_refuses}
-use Rattle.storage_ops.proofs.Rest.{rest_both, rest_none}
+use Rattle.storage_ops.proofs.Rest.{out_still, rest_both, rest_none}
 use Rattle.storage_ops.proofs.store.Store.delete.Goals as goal
 
 pub returns-in-Err-clause-answer : goal.returns-in-Err-clause-answer
@@ -107,3 +108,20 @@ returns-then-quota_of-gt0-clause-rest g c = rest_none c.args.self.now
 pub returns-clause-rest : goal.returns-clause-rest
 returns-clause-rest g c = rest_both c.args.self.now c.make_inactive.new.self c.remove.new.self
     c.make_inactive.ensures.rest c.remove.ensures.rest
+
+pub returns-clause-out : goal.returns-clause-out
+returns-clause-out g c = λ on n found.
+    let here = ap (λ (x : Storage g.row.D.Denot). branch_at x.accounts.nodes c.args.path.now) (sym c.self.view_is)
+    ∙ c.in-Ok.ensures.ok in
+    subst (λ (u : ℕ). TakesOut c.args.self.now c.remove.new.self u)
+    (same_uid (as_term (quota_in c.self.inside.accounts.nodes) c.in-Ok.node.now) n (sym here ∙ found))
+    (out_still c.args.self.now c.make_inactive.new.self c.remove.new.self c.in-Ok.node.now.uid
+    c.make_inactive.ensures.out c.remove.ensures.ast c.remove.ensures.core)
+  where
+    same_uid : (m n : Node) → ◌≡◌ {A = Result Node Reply} (Ok m) (Ok n) → m.uid ≡ n.uid
+    same_uid m n e = (let same : m ≡ n = cc in ap (λ (x : Node). x.uid) same)
+
+pub returns-in-Err-clause-out : goal.returns-in-Err-clause-out
+returns-in-Err-clause-out g c = λ on.
+    let clash : true ≡ false = sym on ∙ branch_refuses c.self.inside.accounts.nodes c.args.path.now c.in-Err.reply
+    c.in-Err.ensures.err in cc

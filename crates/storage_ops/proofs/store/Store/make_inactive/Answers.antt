@@ -1,3 +1,4 @@
+use Rattle.std.proofs.Common.{◌≡◌, ℕ, Some, None}
 use Rattle.std.proofs.Common.{List, Option, sym, ap, subst, ◌∙◌, arith}
 use Rattle.std.specs.Prelude.{nat_le}
 use Rattle.dir_tree.specs.Nodes.{has_inferior}
@@ -6,9 +7,11 @@ use Rattle.trailers.specs.Trailer.{trailers_of}
 use Rattle.active_segs.specs.declared.Entry.{Entry}
 use Rattle.active_segs.specs.Active.{ActiveSegs, HasNoInferior, IsOneToOne, uid_at as uid_in_place}
 use Rattle.seg_control.specs.Control.{Links}
+use Rattle.storage_ops.specs.Cut.{TakesOut}
+use Rattle.seg_control.specs.Kept.{IsInactive}
 use Rattle.storage_ops.specs.Shown.{IsCut, Storage}
 use Rattle.storage_ops.proofs.Removed.{branch_same, from_zero, leaf_place, place_away, place_cut, place_idle}
-use Rattle.storage_ops.proofs.Rest.{rest_both, rest_inactive, rest_none, rest_unstored}
+use Rattle.storage_ops.proofs.Rest.{out_active, out_inactive, rest_both, rest_inactive, rest_none, rest_unstored}
 use Rattle.storage_ops.proofs.Unstored.{idle_still}
 use Rattle.storage_ops.proofs.store.Store.make_inactive.Goals as goal
 
@@ -71,3 +74,25 @@ returns-clause-rest g c = rest_both c.args.self.now c.drop_from.new.self c.deact
 
 pub returns-in_default-clause-rest : goal.returns-in_default-clause-rest
 returns-in_default-clause-rest g c = rest_none c.args.self.now
+
+pub returns-clause-out : goal.returns-clause-out
+returns-clause-out g c =
+    let at = ap (λ (x : ActiveSegs). uid_in_place x.entries c.in-Some.place) (sym c.ast.ensures.ast)
+    ∙ (c.search.ensures.only c.in-Some.place).0 c.in-Some.is in
+    let same = ap (λ (x : Storage g.row.D.Denot). x.segs.ast.entries) c.self.view_is in
+    out_active c.args.self.now c.drop_from.new.self c.deactivate.new.self c.in-Some.place c.args.uid
+    (subst (λ (e : List (Option Entry)). IsOneToOne e) same c.pages-kept.ensures.kept.tree.once)
+    (ap (λ (e : List (Option Entry)). uid_in_place e c.in-Some.place) (sym same) ∙ at) c.drop_from.ensures.rest
+    c.deactivate.ensures.effect
+
+pub returns-in_default-clause-out : goal.returns-in_default-clause-out
+returns-in_default-clause-out g c =
+    let inactive : IsInactive c.self.inside.segs.ast.entries c.args.uid = record {
+      nowhere = λ place at.
+          (let some = (c.search.ensures.only place).1
+          (ap (λ (x : ActiveSegs). uid_in_place x.entries place) c.ast.ensures.ast ∙ at) in
+          let clash : ◌≡◌ {A = Option ℕ} None (Some place) = sym c.in_default.is ∙ some in cc);
+    } in
+    subst (λ (x : Storage g.row.D.Denot). TakesOut x x c.args.uid) c.self.view_is
+    (out_inactive _ c.args.uid inactive (λ f q e.
+    (let active = c.pages-kept.ensures.kept.paged.bound f c.args.uid q e in inactive.nowhere active.0 active.1)))

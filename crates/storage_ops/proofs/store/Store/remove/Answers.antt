@@ -1,6 +1,6 @@
 use Rattle.std.proofs.Common.{refl, sym, ap, subst, ◌∙◌}
 use Rattle.active_segs.specs.Active.{ActiveSegs}
-use Rattle.page_control.specs.Plain.{plain}
+use Rattle.page_control.specs.Plain.{Plain, plain}
 use Rattle.seg_control.specs.Control.{Links}
 use Rattle.seg_control.specs.Kept.{IsInactive}
 use Rattle.storage_ops.specs.Cut.{KeepsRest}
@@ -72,3 +72,7 @@ returns-clause-shown g c = λ p s h.
     shown_removed g.D.Drive.pages p s t n c.uncount.new.accounts c.args.uid done c.self.invariant.housed
     c.erase.ensures.links refl (subst (λ (x : Storage g.row.D.Denot). Shows g.D.Drive.pages p s x) (sym
     c.self.view_is) h)
+
+pub returns-clause-core : goal.returns-clause-core
+returns-clause-core g c = ap (λ (x : Plain). x.core) c.erase.ensures.effect
+    ∙ ap (λ (x : Storage g.row.D.Denot). x.segs.pages.core) c.self.view_is
