@@ -32,7 +32,8 @@ pub count_set : {A : Type 0} (p : A → Bool) (xs : List A) (i : ℕ) (y d : A) 
     → count_by p (set xs i y) + cond (p (get_or xs i d)) 1 0 ≡ count_by p xs + cond (p y) 1 0
 count_set p xs i y d lt = sum_by-set (λ x. cond (p x) 1 0) xs i y d lt
 
-pub count_cons : {A : Type 0} (p : A → Bool) (x : A) (xs : List A) → count_by p (x ∷ xs) ≡ cond (p x) 1 0 + count_by p xs
+pub count_cons : {A : Type 0} (p : A → Bool) (x : A) (xs : List A)
+    → count_by p (x ∷ xs) ≡ cond (p x) 1 0 + count_by p xs
 count_cons p x xs = sum_by-cons (λ y. cond (p y) 1 0) x xs
 
 -- a test that passes wherever another does counts no less, and more where it passes besides

@@ -1,14 +1,15 @@
 -- Each answer leaves a command, or a try of an `await`, less to come.
-use Rattle.std.proofs.Common.{◌≡◌, ◌≤◌, ◌<◌, ℕ, zero, suc, ◌+◌, ◌-◌, Bool, true, false, cond, List, [], ◌∷◌, length, drop, sum_by, slice_get, Option, Some, None, set, get_or, refl, sym, ap, subst, ◌∙◌, arith}
+use Rattle.std.proofs.Common.{◌≡◌, ◌<◌, ℕ, zero, suc, ◌+◌, ◌-◌, Bool, true, false, cond, List, [], ◌∷◌, length, drop}
+use Rattle.std.proofs.Common.{sum_by, slice_get, Some, set, get_or, sym, ap, subst, ◌∙◌, arith}
 use Rattle.std.proofs.lemmas.List.Sums.{sum_by-drop_more}
 use Rattle.std.proofs.lemmas.Option.{get_or_from_slice_get, slice_get_within}
 use Rattle.script.specs.Forms.{weight}
-use Rattle.script.specs.Plans.{Plan, ProcessPlan, command_at, commands_of, nobody}
+use Rattle.script.specs.Plans.{ProcessPlan, nobody}
 use Rattle.script.specs.declared.commands.Command.{Command}
 use Rattle.script.specs.declared.commands.Command.TheVariants as command
 use Rattle.book.specs.declared.replies.Reply.{Reply}
 use Rattle.machine_model.specs.State.{Run}
-use Rattle.machine_model.specs.Reads.{run_at, no_run}
+use Rattle.machine_model.specs.Reads.{run_at}
 use Rattle.machine_model.specs.Steps.{goes_on, is_its_end, run_after}
 use Rattle.machine_model.specs.Outlined.{left_in, left_of}
 use Rattle.machine_model.specs.Foreseen.{GoesOn}
@@ -29,12 +30,17 @@ answer_falls commands run c r on =
   where
     was : left_of commands run ≡ sum_by weight (drop run.place commands) - run.tries
     was = ap (λ (b : Bool). cond {A = ℕ} b 0 (sum_by weight (drop run.place commands) - run.tries)) on.going
+
     rest : sum_by weight (drop run.place commands) ≡ weight c + sum_by weight (drop (run.place + 1) commands)
     rest = rest_of commands run.place c on.next
-    tried : left_of commands (record run { tries = run.tries + 1 }) ≡ sum_by weight (drop run.place commands) - (run.tries + 1)
+
+    tried : left_of commands (record run { tries = run.tries + 1 }) ≡ sum_by weight (drop run.place commands)
+        - (run.tries + 1)
     tried = ap (λ (b : Bool). cond {A = ℕ} b 0 (sum_by weight (drop run.place commands) - (run.tries + 1))) on.going
+
     by : (more ends : Bool) → left_of commands (cond more (record run { tries = run.tries + 1 })
-        (record { place = run.place + 1; tries = 0; ended = ends })) < sum_by weight (drop run.place commands) - run.tries
+        (record { place = run.place + 1; tries = 0; ended = ends })) < sum_by weight (drop run.place commands)
+        - run.tries
     by true ends = omega (arith, tried, rest, on.tries)
     by false true = omega (arith, rest, on.tries)
     by false false = omega (arith, rest, on.tries)

@@ -46,6 +46,7 @@ pub mod OneProcess
 pub mod OuterLaws
 pub mod OutlineAlone
 pub mod OutlineAnswer
+pub mod OutlineBoot
 pub mod OutlineEnd
 pub mod OutlineJob
 pub mod OutlineLoss

@@ -1,12 +1,13 @@
 -- A pool with more places than a chain has links has a segment off the chain, once each of its places is used.
-use Rattle.std.proofs.Common.{◌≡◌, ◌≢◌, ◌≤◌, ◌<◌, ℕ, zero, suc, ◌+◌, Bool, true, false, not, cond, ◌||◌, eqb, List, [], ◌∷◌, length, Option, Some, None, is_some, get_or, refl, sym, ap, subst, ◌∙◌, ◌⊎◌, inl, inr, add-zero, arith}
+use Rattle.std.proofs.Common.{◌≡◌, ◌<◌, ℕ, zero, suc, ◌+◌, Bool, true, false, not, ◌||◌, eqb, List, [], ◌∷◌, length}
+use Rattle.std.proofs.Common.{Option, Some, None, is_some, refl, sym, ap, subst, ◌∙◌, ◌⊎◌, inl, inr, add-zero, arith}
 use Rattle.std.specs.List.{list_any, AllByRecursion, IsDistinct}
 use Rattle.std.specs.Cmp.{nat_eq_equiv}
 use Rattle.std.proofs.lemmas.Bool.Decides.{eqb_tells}
 use Rattle.std.proofs.lemmas.Map.Made.{length-le_from_is_member}
 use Rattle.active_segs.specs.declared.Entry.{Entry}
 use Rattle.active_segs.specs.Active.{ActiveSegs, IsOneToOne, entry_at, uid_at, uid_in}
-use Rattle.active_segs.specs.Pool.{IsInPool, first_of, size_of}
+use Rattle.active_segs.specs.Pool.{first_of, size_of}
 use Rattle.active_segs.specs.Victim.{HasOneOffChain, off_chain}
 use Rattle.machine_model.specs.Reads.{or_zero}
 
@@ -44,7 +45,8 @@ uids_long entries first (suc n) = let rest = uids_long entries (first + 1) n in 
 abbrev AreUsed : List (Option Entry) → ℕ → ℕ → Type 0
 AreUsed entries first n = (i : ℕ) → i < n → is_some (entry_at entries (first + i)) ≡ true
 
-used_next : (entries : List (Option Entry)) (first n : ℕ) → AreUsed entries first (suc n) → AreUsed entries (first + 1) n
+used_next : (entries : List (Option Entry)) (first n : ℕ) → AreUsed entries first (suc n)
+    → AreUsed entries (first + 1) n
 used_next entries first n used i lt =
     subst (λ (p : ℕ). is_some (entry_at entries p) ≡ true) (omega arith) (used (suc i) (omega (arith, lt)))
 
@@ -56,38 +58,40 @@ apart : (entries : List (Option Entry)) (a b n : ℕ) → IsOneToOne entries →
     → AreUsed entries b n → AllByRecursion (λ y. eqb (uid_in_place entries a) y ≡ false) (uids entries b n)
 unfolding uids
 apart entries a b zero once lt here used = tt
-apart entries a b (suc n) once lt here used =
-    (
-      elim (eqb_tells (uid_in_place entries a) (uid_in_place entries b)) [
-        | inl e ↦ (
-          let there : is_some (entry_at entries b) ≡ true =
-              subst (λ (p : ℕ). is_some (entry_at entries p) ≡ true) (add-zero b) (used zero (omega arith)) in
-          let same : a ≡ b = once a b (uid_in_place entries b)
-              (uid_there (entry_at entries a) here ∙ ap (λ (u : ℕ). Some u) e.1) (uid_there (entry_at entries b) there) in
-          absurd (omega (arith, lt, same)))
-        | inr n ↦ n.0
-      ],
-      apart entries a (b + 1) n once (omega (arith, lt)) here (used_next entries b n used),
-    )
+apart entries a b (suc n) once lt here used = (
+  elim (eqb_tells (uid_in_place entries a) (uid_in_place entries b)) [
+    | inl e ↦ (
+        let there : is_some (entry_at entries b) ≡ true =
+        subst (λ (p : ℕ). is_some (entry_at entries p) ≡ true) (add-zero b) (used zero (omega arith)) in
+        let same : a ≡ b = once a b (uid_in_place entries b)
+        (uid_there (entry_at entries a) here ∙ ap (λ (u : ℕ). Some u) e.1) (uid_there (entry_at entries b) there) in
+        absurd (omega (arith, lt, same)))
+    | inr n ↦ n.0
+  ],
+  apart entries a (b + 1) n once (omega (arith, lt)) here (used_next entries b n used),
+)
 
 distinct : (entries : List (Option Entry)) (first n : ℕ) → IsOneToOne entries → AreUsed entries first n
     → IsDistinct eqb (uids entries first n)
 unfolding uids IsDistinct
 distinct entries first zero once used = tt
-distinct entries first (suc n) once used =
-    (
-      apart entries first (first + 1) n once (omega arith)
-          (subst (λ (p : ℕ). is_some (entry_at entries p) ≡ true) (add-zero first) (used zero (omega arith)))
-          (used_next entries first n used),
-      distinct entries (first + 1) n once (used_next entries first n used),
-    )
+distinct entries first (suc n) once used = (
+  apart entries first (first + 1) n once (omega arith)
+      (subst (λ (p : ℕ). is_some (entry_at entries p) ≡ true) (add-zero first) (used zero (omega arith)))
+      (used_next entries first n used),
+  distinct entries (first + 1) n once (used_next entries first n used),
+)
 
 -- ---- all of them in the chain
 
 eqb_turn : (i j : ℕ) → eqb i j ≡ true → eqb j i ≡ true
 eqb_turn i j h = elim (eqb_tells j i) [
   | inl e ↦ e.0
-  | inr n ↦ elim (eqb_tells i j) [ inl e ↦ absurd (n.1 (sym e.1)) | inr m ↦ (let no : true ≡ false = sym h ∙ m.0 in absurd cc) ]
+  | inr n ↦ elim (eqb_tells i j) [
+    | inl e ↦ absurd (n.1 (sym e.1))
+    | inr m ↦
+        (let no : true ≡ false = sym h ∙ m.0 in absurd cc)
+  ]
 ]
 
 any_turn : (chain : List ℕ) (q : ℕ) → list_any (λ u. eqb u q) chain ≡ true → list_any (eqb q) chain ≡ true
@@ -119,13 +123,15 @@ unfolding uids
 all_in entries chain first zero used on q h = let no : false ≡ true = h in absurd cc
 all_in entries chain first (suc n) used on q h =
     by (eqb q (uid_in_place entries first)) refl (all_in entries chain (first + 1) n (used_next entries first n used)
-    (λ i lt. subst (λ (p : ℕ). off_chain chain (entry_at entries p) ≡ false) (omega arith) (on (suc i) (omega (arith, lt)))) q)
+    (λ i lt. subst (λ (p : ℕ). off_chain chain (entry_at entries p) ≡ false) (omega arith)
+    (on (suc i) (omega (arith, lt)))) q)
     h
   where
     here : list_any (eqb (uid_in_place entries first)) chain ≡ true
     here = in_chain chain (entry_at entries first)
         (subst (λ (p : ℕ). is_some (entry_at entries p) ≡ true) (add-zero first) (used zero (omega arith)))
         (subst (λ (p : ℕ). off_chain chain (entry_at entries p) ≡ false) (add-zero first) (on zero (omega arith)))
+
     by : (b : Bool) → eqb q (uid_in_place entries first) ≡ b
         → (list_any (eqb q) (uids entries (first + 1) n) ≡ true → list_any (eqb q) chain ≡ true)
         → (b || list_any (eqb q) (uids entries (first + 1) n)) ≡ true → list_any (eqb q) chain ≡ true
@@ -146,8 +152,9 @@ one_off entries chain first n once used few = by (found_or (λ i. off_chain chai
         → (i : ℕ) × (i < n) × (off_chain chain (entry_at entries (first + i)) ≡ true)
     by (inl found) = found
     by (inr none) =
-        let long = length-le_from_is_member nat_eq_equiv (uids entries first n) chain (distinct entries first n once used)
-            (all_in entries chain first n used none) in
+        let long = length-le_from_is_member nat_eq_equiv (uids entries first n) chain
+        (distinct entries first n once used)
+        (all_in entries chain first n used none) in
         let same = uids_long entries first n in
         absurd (omega (arith, long, same, few))
 

@@ -1,28 +1,29 @@
 -- In the outline of the machine, what answers a command is a step that leaves less to come.
-use Rattle.std.proofs.Common.{◌≡◌, ◌≢◌, ◌≤◌, ◌<◌, ℕ, zero, suc, ◌+◌, ◌-◌, Bool, true, false, not, cond, ◌&&◌, List, [], ◌∷◌, ◌++◌, length, map, slice_get, Option, Some, None, is_some, set, get_or, refl, sym, ap, subst, ◌∙◌, inl, inr, ◌⊎◌, append-nil, arith}
-use Rattle.std.proofs.lemmas.List.{get_or-set_same, get_or-set_other, length-set}
+use Rattle.std.proofs.Common.{◌≡◌, ◌<◌, ℕ, ◌+◌, true, false, List, [], ◌∷◌, length, slice_get, Option, Some, None}
+use Rattle.std.proofs.Common.{is_some, set, refl, sym, ap, subst, ◌∙◌, inl, inr, ◌⊎◌, arith}
+use Rattle.std.proofs.lemmas.List.{get_or-set_same, length-set}
 use Rattle.script.specs.Forms.{weight}
-use Rattle.script.specs.Plans.{Plan, command_at, commands_of}
+use Rattle.script.specs.Plans.{Plan, commands_of}
 use Rattle.script.specs.declared.commands.Command.{Command}
 use Rattle.script.specs.declared.commands.Command.TheVariants as command
 use Rattle.script.specs.declared.commands.Reference.{Reference}
 use Rattle.book.specs.declared.entries.Entry.{Entry}
 use Rattle.book.specs.declared.replies.Reply.{Reply}
 use Rattle.book.specs.declared.replies.Reply.TheVariants as reply
-use Rattle.core_map.specs.declared.Frame.{Frame}
-use Rattle.core_map.specs.declared.Frame.TheVariants as frame
-use Rattle.processor.specs.declared.Transfer.{Transfer}
 use Rattle.machine_model.specs.State.{State, Storage, Processor, Run, Owner, CutDescriptor}
-use Rattle.machine_model.specs.Reads.{or_zero, no_processor, next_command, processor_at, cpu_at, process_at, run_at, frames_of_owner, cut_of_owner}
-use Rattle.machine_model.specs.Steps.{answered, booked, with_store, with_pages, pages_after, fault_told, left_at, page_created, page_made, run_after, told, went_through, with_owner}
+use Rattle.machine_model.specs.Reads.{or_zero, no_processor, next_command, processor_at, cpu_at, process_at, run_at}
+use Rattle.machine_model.specs.Reads.{frames_of_owner, cut_of_owner}
+use Rattle.machine_model.specs.Steps.{answered, booked, with_store, with_pages, pages_after, fault_told, left_at}
+use Rattle.machine_model.specs.Steps.{page_created, page_made, run_after, told, went_through, with_owner}
 use Rattle.machine_model.specs.Jobs.{page_back, pages_back, seg_back, segs_back, write_failed}
-use Rattle.machine_model.specs.Commits.{committed, gone_entries, left_after, with_effect}
-use Rattle.machine_model.specs.Outline.{Runner, no_runner, Stage, Outline, Turn, Moved, runner_at}
+use Rattle.machine_model.specs.Commits.{committed, left_after}
+use Rattle.machine_model.specs.Outline.{Runner, Stage, Moved, runner_at}
 use Rattle.machine_model.specs.Measures.{dues}
-use Rattle.machine_model.specs.Finishing.{Commands, rule_of, IsIn, IsAnswered, IsReplied, JobStep, answers, Step, replies}
-use Rattle.machine_model.specs.Outlined.{Around, around, runner_by, runner_of, left_in, left_of, keeper_of, outline_of}
-use Rattle.machine_model.specs.Foreseen.{GoesOn, CanTell}
-use Rattle.machine_model.proofs.LeftLaws.{answer_falls, left_falls, no_process}
+use Rattle.machine_model.specs.Finishing.{Commands, rule_of, IsIn, IsAnswered, IsReplied, JobStep, answers, Step}
+use Rattle.machine_model.specs.Finishing.{replies}
+use Rattle.machine_model.specs.Outlined.{around, left_in, left_of, keeper_of, outline_of}
+use Rattle.machine_model.specs.Foreseen.{CanTell}
+use Rattle.machine_model.proofs.LeftLaws.{answer_falls, left_falls}
 use Rattle.page_control.specs.Plain.{Plain}
 use Rattle.machine_model.proofs.StepLaws.{no_both}
 use Rattle.machine_model.proofs.OutlineReads.{at_outline, seen_running, seen_since}
@@ -34,7 +35,8 @@ left_is s = left_in s.plan.processes s.runs
 pub told_left : (u : State) (c k : ℕ) (f : Option ℕ) (r : Reply) (command : Command) → CanTell u c k command
     → left_is (told u c f r) < left_is u
 told_left u c k f r command can =
-    subst (λ (j : ℕ). left_in u.plan.processes (set u.runs j (run_after (run_at u.runs j) (next_command u j) r)) < left_is u)
+    subst (λ (j : ℕ). left_in u.plan.processes (set u.runs j (run_after (run_at u.runs j) (next_command u j) r))
+    < left_is u)
     (sym (ap or_zero can.process))
     (left_falls u.plan.processes u.runs k (run_after (run_at u.runs k) (next_command u k) r) can.planned can.there
     (subst (λ (o : Option Command). left_of (commands_of u.plan k) (run_after (run_at u.runs k) o r)
@@ -53,7 +55,8 @@ told_count u c f r lt = ap (λ (p : Processor). p.count) (get_or-set_same u.proc
 since_at : (s : State) (c : ℕ) → (runner_at (outline_of s).runners c).since ≡ (processor_at s.processors c).count
 since_at s c = ap (λ (x : Runner). x.since) (at_outline s c) ∙ seen_since (around s) (processor_at s.processors c)
 
-pub running_at : (s : State) (c : ℕ) → (runner_at (outline_of s).runners c).running ≡ is_some (cpu_at s.processors c).process
+pub running_at : (s : State) (c : ℕ) → (runner_at (outline_of s).runners c).running ≡ is_some
+    (cpu_at s.processors c).process
 running_at s c = ap (λ (x : Runner). x.running) (at_outline s c) ∙ seen_running (around s) (processor_at s.processors c)
 
 no_owner : (t : State) → t.owner ≡ None → (outline_of t).owner ≡ None
@@ -87,17 +90,19 @@ ends_job s u t c k f r command same can owner plan runs count = record {
       since_at t c ∙ count (sym (running_at t c) ∙ h) ∙ told_count u c f r can.within
       ∙ ap (λ (ps : List Processor). (processor_at ps c).count + 1) same.processors
       ∙ sym (ap (λ (n : ℕ). n + 1) (since_at s c))
-  );
+      );
 }
 
 -- ---- replies of a look
 
-pub answer_outlined : (s : State) (c k : ℕ) (stage : Stage) (r : Reply) (command : Command) → IsIn (outline_of s) c stage
+pub answer_outlined : (s : State) (c k : ℕ) (stage : Stage) (r : Reply) (command : Command)
+    → IsIn (outline_of s) c stage
     → dues (outline_of s).runners ≡ 0 → CanTell s c k command
     → JobStep (outline_of s) c (outline_of (answered s c r))
 answer_outlined s c k stage r command owner due can =
     answers stage (outline_of (answered s c r)) owner due
-    (ends_job s s (answered s c r) c k None r command (record { plan = refl; runs = refl; processors = refl }) can refl refl
+    (ends_job s s (answered s c r) c k None r command (record { plan = refl; runs = refl; processors = refl }) can
+    refl refl
     refl (λ h. refl))
 
 pub create_outlined : (s : State) (c k : ℕ) (stage : Stage) (f uid p : ℕ) (r : Reference) (command : Command)
@@ -107,7 +112,8 @@ create_outlined s c k stage f uid p r command owner due can =
     answers stage (outline_of (page_created s c f uid p r)) owner due
     (ends_job s (page_made s f uid p r) (page_created s c f uid p r) c k None _ command
     (record { plan = refl; runs = refl; processors = refl })
-    (record { within = can.within; process = can.process; there = can.there; planned = can.planned; on = can.on }) refl refl
+    (record { within = can.within; process = can.process; there = can.there; planned = can.planned; on = can.on })
+    refl refl
     refl (λ h. refl))
 
 -- ---- a write failed
@@ -131,15 +137,18 @@ segs_tale s (d ∷ ds) c = let rest = segs_tale (seg_back s d) ds c in record {
 -- the machine once all that was still going is back
 abbrev all_back : State → ℕ → ℕ → State
 all_back s c faults =
-    segs_back (pages_back (fault_told s (Some (process_at s c)) faults) (frames_of_owner s.owner)) (cut_of_owner s.owner)
+    segs_back (pages_back (fault_told s (Some (process_at s c)) faults) (frames_of_owner s.owner))
+    (cut_of_owner s.owner)
 
 back_tale : (s : State) (c n : ℕ) → SameTale s (all_back s c n) c
 back_tale s c n =
     let one = pages_tale (fault_told s (Some (process_at s c)) n) (frames_of_owner s.owner) c in
-    let two = segs_tale (pages_back (fault_told s (Some (process_at s c)) n) (frames_of_owner s.owner)) (cut_of_owner s.owner) c in
+    let two = segs_tale (pages_back (fault_told s (Some (process_at s c)) n) (frames_of_owner s.owner))
+    (cut_of_owner s.owner) c in
     record { plan = two.plan ∙ one.plan; runs = two.runs ∙ one.runs; processors = two.processors ∙ one.processors }
 
-can_tell_on : (s u : State) (c k : ℕ) (command : Command) → SameTale s u c → CanTell s c k command → CanTell u c k command
+can_tell_on : (s u : State) (c k : ℕ) (command : Command) → SameTale s u c → CanTell s c k command
+    → CanTell u c k command
 can_tell_on s u c k command same can = record {
   within = subst (λ (ps : List Processor). c < length ps) (sym same.processors) can.within;
   process = ap (λ (ps : List Processor). (cpu_at ps c).process) same.processors ∙ can.process;
@@ -193,7 +202,9 @@ left_ends s u c k r x same can = by (left_cases (told u c None r) c x)
   where
     long : c < length (told u c None r).processors
     long = subst (λ (n : ℕ). c < n) (sym (length-set u.processors c _)) can.within
-    by : (left_after (told u c None r) c x ≡ told u c None r) ⊎ (left_after (told u c None r) c x ≡ left_at (told u c None r) c)
+
+    by : (left_after (told u c None r) c x ≡ told u c None r)
+        ⊎ (left_after (told u c None r) c x ≡ left_at (told u c None r) c)
         → IsAnswered (outline_of s) c (outline_of (with_owner (left_after (told u c None r) c x) None))
     by (inl e) = subst (λ (y : State). IsAnswered (outline_of s) c (outline_of (with_owner y None))) (sym e)
         (ends_job s u (with_owner (told u c None r) None) c k None r x same can refl refl refl (λ h. refl))
@@ -230,7 +241,8 @@ told_owner : (u : State) (c : ℕ) (f : Option ℕ) (r : Reply) → (outline_of 
 unfolding outline_of
 told_owner u c f r = refl
 
-through_owner : (s : State) (pages : Plain) → (outline_of (with_store s (with_pages s.store pages))).owner ≡ (outline_of s).owner
+through_owner : (s : State) (pages : Plain) → (outline_of (with_store s (with_pages s.store pages))).owner
+    ≡ (outline_of s).owner
 unfolding outline_of
 through_owner s pages = refl
 
@@ -238,7 +250,8 @@ pub plain_outlined : (s : State) (c k : ℕ) (r : Reply) (x : Command) → rule_
     → CanTell s c k x → Step (outline_of s) c Moved (outline_of (told s c None r))
 plain_outlined s c k r x h can =
     replies (outline_of (told s c None r)) h
-    (replied_is s s c k None r x (record { plan = refl; runs = refl; processors = refl }) can refl (told_owner s c None r))
+    (replied_is s s c k None r x (record { plan = refl; runs = refl; processors = refl }) can refl
+    (told_owner s c None r))
 
 pub through_outlined : (s : State) (c k f : ℕ) (r : Reference) (x : Command) → rule_of (outline_of s) c ≡ Commands
     → CanTell s c k x → Step (outline_of s) c Moved (outline_of (went_through s c f r))

@@ -10,7 +10,6 @@ use Rattle.active_segs.specs.declared.Entry.{Entry as Active}
 use Rattle.seg_control.specs.Control.{place_of}
 use Rattle.processor.specs.declared.Transfer.{Transfer}
 use Rattle.accounts.specs.Maps.{AccountMaps}
-use Rattle.storage_ops.specs.Shown.{is_filed}
 use Rattle.machine_model.specs.declared.Aim.TheVariants as aim
 use Rattle.machine_model.specs.declared.Phase.{Phase}
 use Rattle.machine_model.specs.declared.Phase.TheVariants as phase

@@ -14,7 +14,7 @@ use Rattle.machine_model.specs.declared.Phase.TheVariants as phase
 use Rattle.machine_model.specs.State.{State, Processor, Owner}
 use Rattle.tree_model.specs.Tree.{node_in}
 use Rattle.machine_model.specs.Reads.{or_zero, no_processor, superior_of_node, mode_in, length_in, processor_at}
-use Rattle.machine_model.specs.Reads.{cpu_at, descriptor_of, is_connected}
+use Rattle.machine_model.specs.Reads.{descriptor_of, is_connected}
 use Rattle.machine_model.specs.Steps.{with_link as with_link_of, activated_at, booked, connected_to, with_store}
 use Rattle.machine_model.specs.Outline.{Refer, Runner, Look, Keeper, Outline, runner_at, want_at, with_entry}
 use Rattle.machine_model.specs.Finishing.{IsIn, JobStep, activates, connects, CanActivate, with_link, entry_for}
@@ -74,7 +74,8 @@ map_like f g [] d same = refl
 map_like {B = B} f g (x ∷ xs) d same =
     ap (λ (y : B). y ∷ map g xs) (same zero) ∙ ap (λ (ys : List B). f x ∷ ys) (map_like f g xs d (λ i. same (suc i)))
 
-pub map_change : {A B : Type 0} (f g : A → B) (xs : List A) (c : ℕ) (y : B) (d : A) → c < length xs → g (get_or xs c d) ≡ y
+pub map_change : {A B : Type 0} (f g : A → B) (xs : List A) (c : ℕ) (y : B) (d : A) → c < length xs
+    → g (get_or xs c d) ≡ y
     → ((i : ℕ) → i ≢ c → g (get_or xs i d) ≡ f (get_or xs i d)) → map g xs ≡ set (map f xs) c y
 map_change f g [] c y d lt here other = absurd (omega arith)
 map_change {B = B} f g (x ∷ xs) zero y d lt here other =

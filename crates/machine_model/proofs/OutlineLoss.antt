@@ -1,25 +1,27 @@
 -- In the outline of the machine, a transfer that fails is a step that frees its frame and leaves less to come.
-use Rattle.std.proofs.Common.{◌≡◌, ◌≢◌, ◌≤◌, ◌<◌, ℕ, zero, suc, ◌+◌, ◌-◌, Bool, true, false, not, cond, ◌&&◌, eqb, List, [], ◌∷◌, ◌++◌, length, map, slice_get, Option, Some, None, is_some, set, get_or, refl, sym, ap, subst, ◌∙◌, inl, inr, ◌⊎◌, append-nil, arith}
+use Rattle.std.proofs.Common.{◌≡◌, ◌≢◌, ◌<◌, ℕ, zero, suc, ◌+◌, ◌-◌, Bool, true, false, cond, ◌&&◌, eqb, List, [], ◌∷◌}
+use Rattle.std.proofs.Common.{◌++◌, length, map, Option, Some, None, is_some, set, refl, sym, ap, subst, ◌∙◌}
+use Rattle.std.proofs.Common.{append-nil}
 use Rattle.std.proofs.lemmas.List.{get_or-set_same, get_or-set_other, length-set}
-use Rattle.script.specs.Plans.{Plan, command_at, commands_of}
+use Rattle.script.specs.Plans.{Plan, command_at}
 use Rattle.script.specs.declared.commands.Command.{Command}
-use Rattle.script.specs.declared.commands.Reference.{Reference}
 use Rattle.book.specs.declared.replies.Reply.TheVariants as reply
 use Rattle.flat_model.specs.Commands.{is_end}
 use Rattle.custody_model.specs.Custody.{range}
 use Rattle.custody_model.specs.Next.{released_by}
-use Rattle.core_map.specs.declared.Frame.{Frame}
 use Rattle.core_map.specs.declared.Frame.TheVariants as frame
-use Rattle.assoc_mem.specs.declared.What.{What}
 use Rattle.processor.specs.declared.Transfer.{Transfer}
 use Rattle.machine_model.specs.State.{State, Processor, Run}
-use Rattle.machine_model.specs.Reads.{or_zero, no_processor, no_run, next_command, processor_at, cpu_at, process_at, run_at}
-use Rattle.machine_model.specs.Steps.{fault_told, frame_lost, goes_on, run_after, told, transfer_failed}
-use Rattle.machine_model.specs.Outline.{Runner, no_runner, Outline, Turn, Moved, runner_at, with_runner, with_frame}
+use Rattle.machine_model.specs.Reads.{or_zero, no_processor, no_run, next_command, processor_at, cpu_at, process_at}
+use Rattle.machine_model.specs.Reads.{run_at}
+use Rattle.machine_model.specs.Steps.{fault_told, frame_lost, goes_on, run_after, transfer_failed}
+use Rattle.machine_model.specs.Outline.{Runner, Moved, runner_at, with_runner, with_frame}
 use Rattle.machine_model.specs.Finishing.{Reads, rule_of, HasLost, Step, loses}
-use Rattle.machine_model.specs.Outlined.{Around, around, bare, reference_in, holds_seg, holds_page, is_linked, want_of, runner_by, runner_of, outline_of}
+use Rattle.machine_model.specs.Outlined.{Around, around, bare, reference_in, holds_seg, holds_page, is_linked, want_of}
+use Rattle.machine_model.specs.Outlined.{runner_by, runner_of, outline_of}
 use Rattle.machine_model.specs.Foreseen.{CanTell, IsPlaced}
-use Rattle.machine_model.proofs.OutlineReads.{at_outline, set_map, seen_online, seen_running, seen_due, seen_reading, seen_since}
+use Rattle.machine_model.proofs.OutlineReads.{at_outline, set_map, seen_online, seen_running, seen_due, seen_reading}
+use Rattle.machine_model.proofs.OutlineReads.{seen_since}
 use Rattle.machine_model.proofs.OutlineAlone.{step_to}
 use Rattle.machine_model.proofs.OutlineJob.{map_change}
 use Rattle.machine_model.proofs.OutlineAnswer.{told_left, outline_left, left_is}
@@ -34,7 +36,8 @@ next_runner : (a : Around) (next : ℕ → Option Command) (p : Processor)
     → ((j : ℕ) → p.cpu.process ≡ Some j → next j ≡ a.next j) → runner_of (record a { next = next }) p ≡ runner_of a p
 next_runner a next p same = by p.cpu.process same
   where
-    by : (o : Option ℕ) → ((j : ℕ) → o ≡ Some j → next j ≡ a.next j) → runner_by (record a { next = next }) p o ≡ runner_by a p o
+    by : (o : Option ℕ) → ((j : ℕ) → o ≡ Some j → next j ≡ a.next j)
+        → runner_by (record a { next = next }) p o ≡ runner_by a p o
     by None h = refl
     by (Some j) h = ap (λ (o : Option Command). record {
       online = p.cpu.online;
@@ -50,7 +53,8 @@ next_runner a next p same = by p.cpu.process same
     }) (h j refl)
 
 -- what was released where the command was no end
-none_released : (p : Plan) (k : ℕ) (x : Command) (o : Option Command) → o ≡ Some x → is_end x ≡ false → released_by p k o ≡ []
+none_released : (p : Plan) (k : ℕ) (x : Command) (o : Option Command) → o ≡ Some x → is_end x ≡ false
+    → released_by p k o ≡ []
 none_released p k x o is out =
     ap (λ (c : Option Command). released_by p k c) is
     ∙ ap (λ (b : Bool). cond (b && (p.initializer && eqb k 0)) (range 1 (length p.processes - 1)) []) out
@@ -66,7 +70,8 @@ failed_processors : (s : State) (c n : ℕ) (t : Transfer) → c < length s.proc
     → (transfer_failed s c t n).processors ≡ set s.processors c (lost_processor s c n t)
 failed_processors s c n t lt =
     set_twice s.processors c _ _ ∙ ap (λ (p : Processor). set s.processors c p)
-    (sym (get_or-set_same (set s.processors c _) c _ no_processor (subst (λ (m : ℕ). c < m) (sym (length-set s.processors c _)) lt)))
+    (sym (get_or-set_same (set s.processors c _) c _ no_processor
+    (subst (λ (m : ℕ). c < m) (sym (length-set s.processors c _)) lt)))
 
 -- the machine once the frame is lost and the failure told, before its process is
 abbrev lost_state : State → ℕ → ℕ → Transfer → State
@@ -86,7 +91,8 @@ lost_tells s c k n t x can = record {
 }
 
 -- which process is told
-lost_told : (s : State) (c k n : ℕ) (t : Transfer) (x : Command) → CanTell s c k x → process_at (lost_state s c n t) c ≡ k
+lost_told : (s : State) (c k n : ℕ) (t : Transfer) (x : Command) → CanTell s c k x
+    → process_at (lost_state s c n t) c ≡ k
 lost_told s c k n t x can = ap or_zero (lost_process s c n t can.within ∙ can.process)
 
 other_next : (s : State) (c k n j : ℕ) (t : Transfer) (x : Command) → CanTell s c k x → j ≢ k
@@ -97,13 +103,16 @@ other_next s c k n j t x can apart =
     (next_command (lost_state s c n t) (process_at (lost_state s c n t) c)) reply.Device) no_run
     (λ e. apart (e ∙ lost_told s c k n t x can)))
 
-others_same : (s : State) (c k n d : ℕ) (t : Transfer) (x : Command) → CanTell s c k x → IsPlaced s.processors c k → d ≢ c
+others_same : (s : State) (c k n d : ℕ) (t : Transfer) (x : Command) → CanTell s c k x → IsPlaced s.processors c k
+    → d ≢ c
     → runner_of (failed_around s c n t) (processor_at (set s.processors c (lost_processor s c n t)) d)
     ≡ runner_of (around s) (processor_at (set s.processors c (lost_processor s c n t)) d)
 others_same s c k n d t x can placed apart =
-    next_runner (around s) (next_command (transfer_failed s c t n)) (processor_at (set s.processors c (lost_processor s c n t)) d)
+    next_runner (around s) (next_command (transfer_failed s c t n))
+    (processor_at (set s.processors c (lost_processor s c n t)) d)
     (λ j h. other_next s c k n j t x can (λ e. placed.only d apart
-    (sym (ap (λ (p : Processor). p.cpu.process) (get_or-set_other s.processors c d (lost_processor s c n t) no_processor apart))
+    (sym (ap (λ (p : Processor). p.cpu.process) (get_or-set_other s.processors c d (lost_processor s c n t)
+    no_processor apart))
     ∙ h ∙ ap (λ (i : ℕ). Some i) e)))
 
 failed_runners : (s : State) (c k n : ℕ) (t : Transfer) (x : Command) → CanTell s c k x → IsPlaced s.processors c k
@@ -111,10 +120,12 @@ failed_runners : (s : State) (c k n : ℕ) (t : Transfer) (x : Command) → CanT
     ≡ set (map (runner_of (around s)) s.processors) c (runner_of (failed_around s c n t) (lost_processor s c n t))
 failed_runners s c k n t x can placed =
     ap (λ (ps : List Processor). map (runner_of (failed_around s c n t)) ps) (failed_processors s c n t can.within)
-    ∙ map_change (runner_of (around s)) (runner_of (failed_around s c n t)) (set s.processors c (lost_processor s c n t)) c
+    ∙ map_change (runner_of (around s)) (runner_of (failed_around s c n t))
+    (set s.processors c (lost_processor s c n t)) c
     (runner_of (failed_around s c n t) (lost_processor s c n t)) no_processor
     (subst (λ (m : ℕ). c < m) (sym (length-set s.processors c (lost_processor s c n t))) can.within)
-    (ap (runner_of (failed_around s c n t)) (get_or-set_same s.processors c (lost_processor s c n t) no_processor can.within))
+    (ap (runner_of (failed_around s c n t)) (get_or-set_same s.processors c (lost_processor s c n t) no_processor
+    can.within))
     (λ d apart. others_same s c k n d t x can placed apart)
     ∙ ap (λ (rs : List Runner). set rs c (runner_of (failed_around s c n t) (lost_processor s c n t)))
     (set_map (runner_of (around s)) s.processors c (lost_processor s c n t))
@@ -148,12 +159,14 @@ lost_runner : (s : State) (c n : ℕ) (t : Transfer) → c < length s.processors
     → HasLost (runner_at (outline_of s).runners c) (runner_of (failed_around s c n t) (lost_processor s c n t))
 lost_runner s c n t lt = subst (λ (y : Runner). HasLost y (runner_of (failed_around s c n t) (lost_processor s c n t)))
     (sym (at_outline s c)) (record {
-      reading = seen_reading (failed_around s c n t) (lost_processor s c n t) ∙ ap (λ (p : Processor). p.cpu.transfer) is;
+      reading = seen_reading (failed_around s c n t) (lost_processor s c n t)
+          ∙ ap (λ (p : Processor). p.cpu.transfer) is;
       due = seen_due (failed_around s c n t) (lost_processor s c n t) ∙ ap (λ (p : Processor). is_some p.cpu.due) is
           ∙ sym (seen_due (around s) (processor_at s.processors c));
       online = seen_online (failed_around s c n t) (lost_processor s c n t) ∙ ap (λ (p : Processor). p.cpu.online) is
           ∙ sym (seen_online (around s) (processor_at s.processors c));
-      running = seen_running (failed_around s c n t) (lost_processor s c n t) ∙ ap (λ (p : Processor). is_some p.cpu.process) is
+      running = seen_running (failed_around s c n t) (lost_processor s c n t)
+          ∙ ap (λ (p : Processor). is_some p.cpu.process) is
           ∙ sym (seen_running (around s) (processor_at s.processors c));
       since = seen_since (failed_around s c n t) (lost_processor s c n t) ∙ ap (λ (p : Processor). p.count) is
           ∙ sym (ap (λ (m : ℕ). m + 1) (seen_since (around s) (processor_at s.processors c)));
@@ -162,9 +175,11 @@ lost_runner s c n t lt = subst (λ (y : Runner). HasLost y (runner_of (failed_ar
     inner : processor_at (lost_state s c n t).processors c
         ≡ record (processor_at s.processors c) { cpu = record (cpu_at s.processors c) { transfer = None } }
     inner = get_or-set_same s.processors c _ no_processor lt
+
     tried : Bool
     tried = goes_on (run_at s.runs (process_at (lost_state s c n t) c))
         (next_command (lost_state s c n t) (process_at (lost_state s c n t) c)) reply.Device
+
     is : lost_processor s c n t ≡ record {
       cpu = record (cpu_at s.processors c) { transfer = None };
       count = (processor_at s.processors c).count + 1;
@@ -184,7 +199,8 @@ pub loss_outlined : (s : State) (c k n : ℕ) (t : Transfer) (x : Command) → r
     → (cpu_at s.processors c).transfer ≡ Some t → CanTell s c k x → IsPlaced s.processors c k → is_end x ≡ false
     → Step (outline_of s) c Moved (outline_of (transfer_failed s c t n))
 loss_outlined s c k n t x h reading can placed out =
-    step_to (outline_of s) _ (outline_of (transfer_failed s c t n)) c Moved (sym (failed_outline s c k n t x can placed out))
+    step_to (outline_of s) _ (outline_of (transfer_failed s c t n)) c Moved
+    (sym (failed_outline s c k n t x can placed out))
     (loses t (runner_of (failed_around s c n t) (lost_processor s c n t)) (left_is (transfer_failed s c t n)) h
     (ap (λ (y : Runner). y.reading) (at_outline s c) ∙ seen_reading (around s) (processor_at s.processors c) ∙ reading)
     (lost_runner s c n t can.within)

@@ -1,6 +1,8 @@
--- Each step of the owner of the supervisor is a step of the outline, where it finds what its actions ask; and so each step of
--- the machine is.
-use Rattle.std.proofs.Common.{◌≡◌, ◌≢◌, ◌≤◌, ◌<◌, ℕ, zero, suc, ◌+◌, Bool, true, false, not, cond, ◌&&◌, ◌||◌, eqb, List, [], ◌∷◌, length, position, nat_lt, map, count_by, Option, Some, None, is_some, get_or, refl, sym, ap, subst, ◌∙◌, inl, inr, ◌⊎◌, arith}
+-- Each step of the owner of the supervisor is a step of the outline, where it finds what its actions ask; and so each
+-- step of the machine is.
+use Rattle.std.proofs.Common.{◌≡◌, ◌≢◌, ◌≤◌, ℕ, zero, suc, Bool, true, false, not, cond, ◌&&◌, eqb, List, [], ◌∷◌}
+use Rattle.std.proofs.Common.{length, position, count_by, Option, Some, None, is_some, get_or, refl, sym, ap, subst}
+use Rattle.std.proofs.Common.{◌∙◌, inl, inr, arith}
 use Rattle.std.specs.List.{position_or_len}
 use Rattle.std.proofs.lemmas.Bool.{cases_lt}
 use Rattle.std.proofs.lemmas.Bool.Decides.{Decides-ltb, eqb_tells}
@@ -8,7 +10,6 @@ use Rattle.std.proofs.lemmas.List.{get_or_past}
 use Rattle.std.proofs.lemmas.List.Quantifiers.{position-Some}
 use Rattle.std.proofs.lemmas.List.Sums.{fails_before_first}
 use Rattle.script.specs.declared.commands.Command.{Command}
-use Rattle.book.specs.declared.replies.Reply.{Reply}
 use Rattle.assoc_mem.specs.declared.What.{What}
 use Rattle.assoc_mem.specs.declared.What.TheVariants as what
 use Rattle.active_segs.specs.Victim.{first_off_chain, hand_past}
@@ -18,29 +19,34 @@ use Rattle.machine_model.specs.declared.Aim.{Aim}
 use Rattle.machine_model.specs.declared.Aim.TheVariants as aim
 use Rattle.machine_model.specs.declared.Phase.{Phase}
 use Rattle.machine_model.specs.declared.Phase.TheVariants as phase
-use Rattle.machine_model.specs.State.{State, Processor, Owner}
-use Rattle.machine_model.specs.Reads.{or_zero, no_processor, is_due, next_command, processor_at, cpu_at, process_at, run_at, frames_of_owner, frames_from, trailers_in}
+use Rattle.machine_model.specs.State.{State, Owner}
+use Rattle.machine_model.specs.Reads.{or_zero, no_processor, is_due, next_command, processor_at, cpu_at, process_at}
+use Rattle.machine_model.specs.Reads.{frames_of_owner, frames_from, trailers_in}
 use Rattle.machine_model.specs.Actions as act
 use Rattle.machine_model.specs.Actions.{action_of, is_over}
 use Rattle.machine_model.specs.After.{Outcome, after}
 use Rattle.machine_model.specs.Turns.{turn_of}
 use Rattle.machine_model.specs.Steps.{connected_to, with_faults, with_store}
-use Rattle.machine_model.specs.Jobs.{deactivation_begun, eviction_done, page_done, segment_taken, took, victim_taken, write_failed}
+use Rattle.machine_model.specs.Jobs.{deactivation_begun, eviction_done, page_done, segment_taken, took, write_failed}
 use Rattle.machine_model.specs.Commits.{committed, committed_at}
-use Rattle.machine_model.specs.Outline.{Moved, Runner, no_runner, Stage, Look, Taken, Waiting, Outline, runner_at}
+use Rattle.machine_model.specs.Outline.{Moved, Runner, no_runner, Stage, Look}
 use Rattle.machine_model.specs.Measures.{dues}
-use Rattle.machine_model.specs.Finishing.{Comes, Clears, Reads, Works, rule_of, IsIn, JobStep, Step, works, AreOf, CanEmpty}
+use Rattle.machine_model.specs.Finishing.{Works, rule_of, IsIn, JobStep, Step, works, AreOf, CanEmpty}
 use Rattle.machine_model.specs.Outlined.{around, stage_of, outline_of}
 use Rattle.machine_model.specs.Foreseen.{Foresees, HasDescriptor, IsLook, KeepsLink, MayAnswer, MayEmpty}
 use Rattle.machine_model.proofs.CountLaws.{count_cons}
 use Rattle.machine_model.proofs.OutlineReads.{at_outline, is_owner, seen_due}
 use Rattle.machine_model.proofs.OutlineAlone.{clear_outlined, online_outlined}
 use Rattle.machine_model.proofs.OutlineJob.{activate_outlined, connect_outlined, in_job, in_look}
-use Rattle.machine_model.proofs.OutlineTake.{evict_outlined, signal_outlined, take_away_outlined, take_segment_outlined, took_like, took_owner}
-use Rattle.machine_model.proofs.OutlineEnd.{deactivate_at_once_outlined, deactivate_outlined, eviction_outlined, give_up_outlined, in_stage, page_outlined, start_outlined}
-use Rattle.machine_model.proofs.OutlineAnswer.{answer_outlined, commit_outlined, create_outlined, failed_outlined, running_at}
+use Rattle.machine_model.proofs.OutlineTake.{evict_outlined, signal_outlined, take_away_outlined}
+use Rattle.machine_model.proofs.OutlineTake.{take_segment_outlined, took_like, took_owner}
+use Rattle.machine_model.proofs.OutlineEnd.{deactivate_at_once_outlined, deactivate_outlined, eviction_outlined}
+use Rattle.machine_model.proofs.OutlineEnd.{give_up_outlined, in_stage, page_outlined, start_outlined}
+use Rattle.machine_model.proofs.OutlineAnswer.{answer_outlined, commit_outlined, create_outlined, failed_outlined}
+use Rattle.machine_model.proofs.OutlineAnswer.{running_at}
 use Rattle.machine_model.proofs.OutlineWaits.{awaits_clear_outlined, awaits_transfer_outlined, end_outlined}
-use Rattle.machine_model.proofs.OutlineStep.{Goal, IsAtRest, clears_rule, comes_rule, reads_rule, run_goal, transfer_goal, works_seen}
+use Rattle.machine_model.proofs.OutlineStep.{Goal, IsAtRest, clears_rule, comes_rule, reads_rule, run_goal}
+use Rattle.machine_model.proofs.OutlineStep.{transfer_goal, works_seen}
 
 -- ---- a segment is taken
 
@@ -55,33 +61,43 @@ empty_of : (s : State) (o : Owner) (uid : ℕ) (fs : List ℕ) (pairs : List (�
     → JobStep (outline_of s) o.cpu (outline_of (segment_taken s o.cpu uid fs pairs))
 empty_of s o uid [] [] owner looks none can of_it few link = deactivate_at_once_outlined s o uid owner looks can
 empty_of s o uid [] (pair ∷ pairs) owner looks none can of_it few link =
-    take_segment_outlined s (took s o.cpu (aim.Deactivating uid) (what.Seg uid) [] (pair ∷ pairs)) o.cpu uid (what.Seg uid) []
+    take_segment_outlined s (took s o.cpu (aim.Deactivating uid) (what.Seg uid) [] (pair ∷ pairs)) o.cpu uid
+    (what.Seg uid) []
     (took_like s o.cpu (aim.Deactivating uid) (what.Seg uid) [] (pair ∷ pairs))
-    (took_owner s o.cpu (aim.Deactivating uid) (what.Seg uid) [] (pair ∷ pairs) none (inr (λ h. cons_nil pair pairs h))) can of_it
+    (took_owner s o.cpu (aim.Deactivating uid) (what.Seg uid) [] (pair ∷ pairs) none
+    (inr (λ h. cons_nil pair pairs h))) can of_it
     few link
 empty_of s o uid (f ∷ fs) [] owner looks none can of_it few link =
-    take_segment_outlined s (took s o.cpu (aim.Deactivating uid) (what.Seg uid) (f ∷ fs) []) o.cpu uid (what.Seg uid) (f ∷ fs)
+    take_segment_outlined s (took s o.cpu (aim.Deactivating uid) (what.Seg uid) (f ∷ fs) []) o.cpu uid (what.Seg uid)
+    (f ∷ fs)
     (took_like s o.cpu (aim.Deactivating uid) (what.Seg uid) (f ∷ fs) [])
-    (took_owner s o.cpu (aim.Deactivating uid) (what.Seg uid) (f ∷ fs) [] none (inl (λ h. cons_nil f fs h))) can of_it few link
+    (took_owner s o.cpu (aim.Deactivating uid) (what.Seg uid) (f ∷ fs) [] none (inl (λ h. cons_nil f fs h))) can of_it
+    few link
 empty_of s o uid (f ∷ fs) (pair ∷ pairs) owner looks none can of_it few link =
-    take_segment_outlined s (took s o.cpu (aim.Deactivating uid) (what.Seg uid) (f ∷ fs) (pair ∷ pairs)) o.cpu uid (what.Seg uid)
+    take_segment_outlined s (took s o.cpu (aim.Deactivating uid) (what.Seg uid) (f ∷ fs) (pair ∷ pairs)) o.cpu uid
+    (what.Seg uid)
     (f ∷ fs) (took_like s o.cpu (aim.Deactivating uid) (what.Seg uid) (f ∷ fs) (pair ∷ pairs))
-    (took_owner s o.cpu (aim.Deactivating uid) (what.Seg uid) (f ∷ fs) (pair ∷ pairs) none (inl (λ h. cons_nil f fs h))) can
+    (took_owner s o.cpu (aim.Deactivating uid) (what.Seg uid) (f ∷ fs) (pair ∷ pairs) none
+    (inl (λ h. cons_nil f fs h))) can
     of_it few link
 
 -- the same after the hand of a pool has moved
 victim_of_pool : (s : State) (o : Owner) (pool uid : ℕ) (place : Option ℕ) → s.owner ≡ Some o → o.phase ≡ phase.Looking
     → frames_of_owner s.owner ≡ []
-    → MayEmpty s (deactivation_begun (with_store s (record s.store { ast = hand_past s.store.ast pool place })) o.cpu uid) o.cpu uid
+    → MayEmpty s (deactivation_begun (with_store s (record s.store { ast = hand_past s.store.ast pool place })) o.cpu
+    uid) o.cpu uid
     → JobStep (outline_of s) o.cpu
-    (outline_of (deactivation_begun (with_store s (record s.store { ast = hand_past s.store.ast pool place })) o.cpu uid))
+    (outline_of (deactivation_begun (with_store s (record s.store { ast = hand_past s.store.ast pool place })) o.cpu
+    uid))
 unfolding outline_of
 victim_of_pool s o pool uid None owner looks none may =
-    empty_of s o uid (frames_from s.store.ast uid 0) (trailers_in s.store uid) owner looks none may.can may.of_it may.few may.link
+    empty_of s o uid (frames_from s.store.ast uid 0) (trailers_in s.store uid) owner looks none may.can may.of_it
+    may.few may.link
 victim_of_pool s o pool uid (Some place) owner looks none may =
     empty_of (with_store s (record s.store { ast = hand_past s.store.ast pool (Some place) })) o uid
     (frames_from s.store.ast uid 0)
-    (trailers_in (record s.store { ast = hand_past s.store.ast pool (Some place) }) uid) owner looks none may.can may.of_it
+    (trailers_in (record s.store { ast = hand_past s.store.ast pool (Some place) }) uid) owner looks none may.can
+    may.of_it
     may.few may.link
 
 -- ---- a command takes effect
@@ -103,8 +119,7 @@ commit_goal s c o stage h owner due may =
 -- ---- a look
 
 module _ (s : State) (o : Owner) (out : Outcome) (f : Foresees s o.cpu) (rule : rule_of (outline_of s) o.cpu ≡ Works)
-  (owner : s.owner ≡ Some o) (looks : o.phase ≡ phase.Looking) where
-
+    (owner : s.owner ≡ Some o) (looks : o.phase ≡ phase.Looking) where
   due_none : dues (outline_of s).runners ≡ 0
   due_none = f.kept.job.fits o.cpu Look (in_look s o owner looks)
 
@@ -113,7 +128,8 @@ module _ (s : State) (o : Owner) (out : Outcome) (f : Foresees s o.cpu) (rule : 
 
   look_goal : (a : act.Action) → IsLook s o.cpu a → Goal s o.cpu out a
   unfolding after
-  look_goal (act.Waits (act.ForTransfer g)) may = awaits_transfer_outlined s o g may.uid may.page rule owner looks may.started
+  look_goal (act.Waits (act.ForTransfer g)) may = awaits_transfer_outlined s o g may.uid may.page rule owner looks
+      may.started
   look_goal (act.Waits (act.ForOwner d)) may = absurd may
   look_goal (act.Waits (act.ForClear d)) may = absurd may
   look_goal (act.Waits (act.WhileIdle n)) may = absurd may
@@ -122,16 +138,21 @@ module _ (s : State) (o : Owner) (out : Outcome) (f : Foresees s o.cpu) (rule : 
   look_goal act.GiveUp may =
       works _ rule (give_up_outlined s o may.0.chain may.0.uid may.0.page may.0.makes owner looks may.0.want may.1)
   look_goal (act.Activate uid place) may = works _ rule (activate_outlined s o uid place owner looks may)
-  look_goal (act.Connect n uid) may = works _ rule (subst (λ (m : ℕ). JobStep (outline_of s) o.cpu (outline_of (connected_to s o.cpu m uid)))
-      may.number (connect_outlined s o may.process uid may.reference may.wants.chain may.wants.uid may.wants.page may.wants.makes owner
-      looks may.within may.placed may.next (subst (λ (m : ℕ). HasDescriptor s.store.links may.process m) (sym may.number) may.there)
+  look_goal (act.Connect n uid) may = works _ rule
+      (subst (λ (m : ℕ). JobStep (outline_of s) o.cpu (outline_of (connected_to s o.cpu m uid)))
+      may.number (connect_outlined s o may.process uid may.reference may.wants.chain may.wants.uid may.wants.page
+      may.wants.makes owner
+      looks may.within may.placed may.next (subst (λ (m : ℕ). HasDescriptor s.store.links may.process m)
+      (sym may.number) may.there)
       may.wants.want may.off))
   look_goal (act.Create g uid p r) may =
-      works _ rule (create_outlined s o.cpu may.process Look g uid p r may.command (in_look s o owner looks) due_none may.can)
+      works _ rule (create_outlined s o.cpu may.process Look g uid p r may.command (in_look s o owner looks) due_none
+      may.can)
   look_goal (act.Start g uid p) may = works _ rule (start_outlined s o.cpu g uid p may)
   look_goal (act.Evict g) may = works _ rule (evict_outlined s o g owner (f.looking o owner looks) may)
   look_goal (act.Empty uid) may =
-      works _ rule (empty_of s o uid (frames_from s.store.ast uid 0) (trailers_in s.store uid) owner looks taken_none may.can
+      works _ rule (empty_of s o uid (frames_from s.store.ast uid 0) (trailers_in s.store uid) owner looks taken_none
+      may.can
       may.of_it may.few may.link)
   look_goal (act.EmptyVictim pool chain uid) may =
       works _ rule (victim_of_pool s o pool uid (first_off_chain s.store.ast pool chain) owner looks taken_none may)
@@ -160,21 +181,24 @@ module _ (s : State) (o : Owner) (out : Outcome) (f : Foresees s o.cpu) (rule : 
 -- ---- nothing is due any more
 
 none_some : (n : ℕ) (o : Option ℕ) → o ≡ None → o ≢ Some n
-none_some n o none some = let no : true ≡ false = sym (ap (λ (x : Option ℕ). is_some x) some) ∙ ap (λ (x : Option ℕ). is_some x) none in cc
+none_some n o none some = let no : true ≡ false = sym (ap (λ (x : Option ℕ). is_some x) some)
+    ∙ ap (λ (x : Option ℕ). is_some x) none in cc
 
 -- where no element of a list passes, the first that does is none of them
 none_at : {A : Type 0} (p : A → Bool) (xs : List A) → position p xs ≡ None → (i : ℕ) (d : A) → p d ≡ false
     → p (get_or xs i d) ≡ false
 none_at p xs none i d past = elim (cases_lt (position_or_len p xs) (length xs)) [
   | inl lt ↦ absurd (none_some (position_or_len p xs) (position p xs) none
-      (ap (λ (b : Bool). cond b (Some (position_or_len p xs)) None) ((Decides-ltb (position_or_len p xs) (length xs)).1 lt)))
+      (ap (λ (b : Bool). cond b (Some (position_or_len p xs)) None)
+      ((Decides-ltb (position_or_len p xs) (length xs)).1 lt)))
   | inr le ↦ elim (cases_lt i (length xs)) [
     | inl lt ↦ fails_before_first p xs i d (omega (arith, lt, le))
     | inr out ↦ ap p (get_or_past xs i d out) ∙ past
   ]
 ]
 
-count_zero : {A : Type 0} (p : A → Bool) (xs : List A) (d : A) → ((i : ℕ) → p (get_or xs i d) ≡ false) → count_by p xs ≡ 0
+pub count_zero : {A : Type 0} (p : A → Bool) (xs : List A) (d : A) → ((i : ℕ) → p (get_or xs i d) ≡ false)
+    → count_by p xs ≡ 0
 count_zero p [] d none = refl
 count_zero p (x ∷ xs) d none =
     let rest = count_zero p xs d (λ i. none (suc i)) in
@@ -188,6 +212,7 @@ due_at s c d f none = by (cpu_at s.processors d).online refl
   where
     not_due : is_due (processor_at s.processors d) ≡ false
     not_due = none_at is_due s.processors none d no_processor refl
+
     by : (b : Bool) → (cpu_at s.processors d).online ≡ b → is_some (cpu_at s.processors d).due ≡ false
     by false off = ap (λ (o : Option What). is_some o) (f.quiet d off)
     by true on = ap (λ (b : Bool). b && is_some (cpu_at s.processors d).due) (sym on) ∙ not_due
@@ -195,13 +220,13 @@ due_at s c d f none = by (cpu_at s.processors d).online refl
 dues_over : (s : State) (c : ℕ) → Foresees s c → position is_due s.processors ≡ None → dues (outline_of s).runners ≡ 0
 unfolding dues
 dues_over s c f none = count_zero (λ (x : Runner). x.due) (outline_of s).runners no_runner (λ d.
-    ap (λ (x : Runner). x.due) (at_outline s d) ∙ seen_due (around s) (processor_at s.processors d) ∙ due_at s c d f none)
+    ap (λ (x : Runner). x.due) (at_outline s d) ∙ seen_due (around s) (processor_at s.processors d)
+    ∙ due_at s c d f none)
 
 -- ---- the phases
 
 module _ (s : State) (o : Owner) (out : Outcome) (f : Foresees s o.cpu) (rule : rule_of (outline_of s) o.cpu ≡ Works)
-  (owner : s.owner ≡ Some o) (has : is_some (cpu_at s.processors o.cpu).process ≡ true) where
-
+    (owner : s.owner ≡ Some o) (has : is_some (cpu_at s.processors o.cpu).process ≡ true) where
   may_answer : MayAnswer s o.cpu
   may_answer = f.answers has
 
@@ -219,7 +244,8 @@ module _ (s : State) (o : Owner) (out : Outcome) (f : Foresees s o.cpu) (rule : 
           (eviction_done (with_faults s out.faults) o.cpu g)))
       by true = works _ rule (failed_goal (stage_of s.store.ast.entries o.frames (phase.Waiting aim.Evicting w))
           (in_stage s o (phase.Waiting aim.Evicting w) owner waits) due)
-      by false = works _ rule (eviction_outlined (with_faults s out.faults) o w g fs owner waits frames due (f.leaves g))
+      by false = works _ rule (eviction_outlined (with_faults s out.faults) o w g fs owner waits frames due
+          (f.leaves g))
 
   finish_page : (uid : ℕ) (w : What) (fs : List ℕ) (g : ℕ) → o.phase ≡ phase.Waiting (aim.Deactivating uid) w
       → o.frames ≡ g ∷ fs → dues (outline_of s).runners ≡ 0 → Goal s o.cpu out (act.FinishPage g)
@@ -228,9 +254,11 @@ module _ (s : State) (o : Owner) (out : Outcome) (f : Foresees s o.cpu) (rule : 
     where
       by : (b : Bool) → Step (outline_of s) o.cpu Moved (outline_of (cond b (write_failed s o.cpu out.faults)
           (page_done (with_faults s out.faults) g)))
-      by true = works _ rule (failed_goal (stage_of s.store.ast.entries o.frames (phase.Waiting (aim.Deactivating uid) w))
+      by true = works _ rule (failed_goal (stage_of s.store.ast.entries o.frames
+          (phase.Waiting (aim.Deactivating uid) w))
           (in_stage s o (phase.Waiting (aim.Deactivating uid) w) owner waits) due)
-      by false = works _ rule (page_outlined (with_faults s out.faults) o uid w g fs owner waits frames due (f.leaves g))
+      by false = works _ rule (page_outlined (with_faults s out.faults) o uid w g fs owner waits frames due
+          (f.leaves g))
 
   finish_goal : (a : Aim) (w : What) (fs : List ℕ) → o.phase ≡ phase.Waiting a w → o.frames ≡ fs
       → dues (outline_of s).runners ≡ 0 → Goal s o.cpu out (act.finish_of a fs)
@@ -269,19 +297,24 @@ owner_goal s c out f rest (Some w) owner = by (eqb w.cpu c) refl
   where
     own : is_owner s.owner c ≡ eqb w.cpu c
     own = ap (λ (x : Option Owner). is_owner x c) owner
+
     mine : w.cpu ≡ c → eqb w.cpu c ≡ true → Goal s c out (act.go_on_with s (process_at s c) w w.phase)
     mine same is =
         let seen = works_seen s c rest (own ∙ is) in
-        let work = f.kept.job.at_work c _ (subst (λ (i : ℕ). IsIn (outline_of s) i (stage_of s.store.ast.entries w.frames w.phase))
-            same (in_job s w owner)) in
+        let work = f.kept.job.at_work c _ (subst (λ (i : ℕ). IsIn (outline_of s) i
+        (stage_of s.store.ast.entries w.frames w.phase))
+        same (in_job s w owner)) in
         let has = sym (running_at s c) ∙ work.running in
         at_same same f seen has
       where
-        at_same : w.cpu ≡ c → Foresees s c → rule_of (outline_of s) c ≡ Works → is_some (cpu_at s.processors c).process ≡ true
+        at_same : w.cpu ≡ c → Foresees s c → rule_of (outline_of s) c ≡ Works
+            → is_some (cpu_at s.processors c).process ≡ true
             → Goal s c out (act.go_on_with s (process_at s c) w w.phase)
         at_same same = subst (λ (i : ℕ). Foresees s i → rule_of (outline_of s) i ≡ Works
-            → is_some (cpu_at s.processors i).process ≡ true → Goal s i out (act.go_on_with s (process_at s i) w w.phase)) same
+            → is_some (cpu_at s.processors i).process ≡ true
+            → Goal s i out (act.go_on_with s (process_at s i) w w.phase)) same
             (λ g h i. phase_goal s w out g h owner i w.phase refl)
+
     by : (b : Bool) → eqb w.cpu c ≡ b → Goal s c out (cond b (act.go_on_with s (process_at s c) w w.phase)
         (act.run_process s (processor_at s.processors c) (cpu_at s.processors c).process))
     by true is = elim (eqb_tells w.cpu c) [
@@ -298,13 +331,15 @@ transfer_or_goal s c out f on due None is =
     owner_goal s c out f (record { online = on; due = due; transfer = is }) s.owner refl
 
 clear_or_goal : (s : State) (c : ℕ) (out : Outcome) → Foresees s c → (cpu_at s.processors c).online ≡ true
-    → (x : Option What) → (cpu_at s.processors c).due ≡ x → Goal s c out (act.clear_or s c (processor_at s.processors c) x)
+    → (x : Option What) → (cpu_at s.processors c).due ≡ x
+    → Goal s c out (act.clear_or s c (processor_at s.processors c) x)
 unfolding after
 clear_or_goal s c out f on (Some w) is = clear_outlined s c w (clears_rule s c w on is)
 clear_or_goal s c out f on None is = transfer_or_goal s c out f on is (cpu_at s.processors c).transfer refl
 
 online_goal : (s : State) (c : ℕ) (out : Outcome) → Foresees s c → (b : Bool) → (cpu_at s.processors c).online ≡ b
-    → Goal s c out (cond (not b) act.Online (act.clear_or s c (processor_at s.processors c) (cpu_at s.processors c).due))
+    → Goal s c out (cond (not b) act.Online (act.clear_or s c (processor_at s.processors c)
+    (cpu_at s.processors c).due))
 unfolding after
 online_goal s c out f true is = clear_or_goal s c out f is (cpu_at s.processors c).due refl
 online_goal s c out f false is = online_outlined s c (comes_rule s c is)

@@ -1,6 +1,8 @@
 -- Each step of the machine is a step of its outline, where the machine finds what its actions ask.
-use Rattle.std.proofs.Common.{◌≡◌, ◌≢◌, ◌≤◌, ◌<◌, ℕ, zero, suc, ◌+◌, ◌*◌, ◌/◌, Bool, true, false, not, cond, ◌&&◌, ◌||◌, eqb, nat_lt, nat_le, List, [], ◌∷◌, length, map, position, count_by, Option, Some, None, is_some, option_map, get_or, refl, sym, ap, subst, ◌∙◌, inl, inr, ◌⊎◌, arith}
-use Rattle.std.proofs.lemmas.Bool.Decides.{Decides-ltb, eqb_tells}
+use Rattle.std.proofs.Common.{◌≡◌, ◌<◌, ℕ, ◌*◌, ◌/◌, Bool, true, false, not, cond, ◌&&◌, eqb, nat_lt, nat_le, List, []}
+use Rattle.std.proofs.Common.{◌∷◌, length, count_by, Option, Some, None, is_some, refl, sym, ap, subst, ◌∙◌, inl, inr}
+use Rattle.std.proofs.Common.{arith}
+use Rattle.std.proofs.lemmas.Bool.Decides.{Decides-ltb}
 use Rattle.script.specs.References.{reference_of}
 use Rattle.script.specs.declared.commands.Command.{Command}
 use Rattle.script.specs.declared.commands.Reference.{Reference}
@@ -13,35 +15,30 @@ use Rattle.page_table.specs.declared.Ptw.TheVariants as ptw
 use Rattle.descriptor_seg.specs.declared.Sdw.{Sdw}
 use Rattle.descriptor_seg.specs.declared.Sdw.TheVariants as sdw
 use Rattle.descriptor_seg.specs.Descriptors.{sdw_at}
-use Rattle.book.specs.declared.replies.Reply.{Reply}
 use Rattle.book.specs.declared.replies.Reply.TheVariants as reply
 use Rattle.flat_model.specs.References.{new_word, permits, word_reply}
 use Rattle.processor.specs.declared.Transfer.{Transfer}
 use Rattle.processor.specs.declared.Move.{Move}
 use Rattle.processor.specs.declared.Move.TheVariants as move
 use Rattle.processor.specs.Moves.{by_descriptor, by_held, by_page, by_seg, by_word}
-use Rattle.machine_model.specs.declared.Aim.{Aim}
-use Rattle.machine_model.specs.declared.Aim.TheVariants as aim
-use Rattle.machine_model.specs.declared.Phase.{Phase}
-use Rattle.machine_model.specs.declared.Phase.TheVariants as phase
-use Rattle.machine_model.specs.State.{State, Processor, Owner}
-use Rattle.machine_model.specs.Reads.{or_zero, is_due, next_command, processor_at, cpu_at, process_at, run_at}
+use Rattle.machine_model.specs.State.{State, Owner}
+use Rattle.machine_model.specs.Reads.{or_zero, next_command, processor_at, cpu_at, process_at, run_at}
 use Rattle.seg_control.specs.Control.{sdws_at, word_of}
-use Rattle.machine_model.specs.Steps.{left_at, transfer_failed, transferred, uid_of_held, with_faults}
+use Rattle.machine_model.specs.Steps.{transfer_failed, transferred, uid_of_held, with_faults}
 use Rattle.machine_model.specs.Actions as act
 use Rattle.machine_model.specs.Actions.{action_of, has_had_its_turn, is_empty}
 use Rattle.machine_model.specs.After.{Outcome, after}
 use Rattle.machine_model.specs.Turns.{turn_of}
-use Rattle.machine_model.specs.Outline.{Moved, Runner, no_runner, Outline, runner_at}
-use Rattle.machine_model.specs.Measures.{dues}
-use Rattle.machine_model.specs.Finishing.{Rule, Comes, Clears, Reads, Works, Loads, Leaves, Commands, rule_of, Step, works}
-use Rattle.machine_model.specs.Outlined.{around, reference_in, holds_page, outline_of}
+use Rattle.machine_model.specs.Outline.{Moved}
+use Rattle.machine_model.specs.Finishing.{Comes, Clears, Reads, Works, Loads, Leaves, Commands, rule_of, Step}
+use Rattle.machine_model.specs.Outlined.{reference_in, holds_page, outline_of}
 use Rattle.machine_model.specs.Foreseen.{Foresees, MayAnswer, MayEnter, MayLose}
-use Rattle.machine_model.proofs.OutlineReads.{at_outline, is_owner, rule_seen, seen_due}
-use Rattle.machine_model.proofs.OutlineAlone.{IsFree, clear_outlined, enter_outlined, fault_outlined, fill_page_outlined, fill_seg_outlined, idle_outlined, leave_outlined, load_outlined, online_outlined, owned_outlined, transfer_outlined}
+use Rattle.machine_model.proofs.OutlineReads.{is_owner, rule_seen}
+use Rattle.machine_model.proofs.OutlineAlone.{IsFree, enter_outlined, fault_outlined, fill_page_outlined}
+use Rattle.machine_model.proofs.OutlineAlone.{fill_seg_outlined, idle_outlined, leave_outlined, load_outlined}
+use Rattle.machine_model.proofs.OutlineAlone.{owned_outlined, transfer_outlined}
 use Rattle.machine_model.proofs.OutlineAnswer.{plain_outlined, through_outlined}
 use Rattle.machine_model.proofs.OutlineLoss.{loss_outlined}
-use Rattle.machine_model.proofs.OutlineWaits.{end_outlined}
 
 -- ---- which rule applies
 
@@ -52,11 +49,13 @@ not_empty (x ∷ xs) = sym ((Decides-ltb 0 (length (x ∷ xs))).1 (omega arith))
 pub comes_rule : (s : State) (c : ℕ) → (cpu_at s.processors c).online ≡ false → rule_of (outline_of s) c ≡ Comes
 comes_rule s c off = rule_seen s c ∙ rw (off) refl
 
-pub clears_rule : (s : State) (c : ℕ) (w : What) → (cpu_at s.processors c).online ≡ true → (cpu_at s.processors c).due ≡ Some w
+pub clears_rule : (s : State) (c : ℕ) (w : What) → (cpu_at s.processors c).online ≡ true
+    → (cpu_at s.processors c).due ≡ Some w
     → rule_of (outline_of s) c ≡ Clears
 clears_rule s c w on due = rule_seen s c ∙ rw (on, due) refl
 
-pub reads_rule : (s : State) (c : ℕ) (t : Transfer) → (cpu_at s.processors c).online ≡ true → (cpu_at s.processors c).due ≡ None
+pub reads_rule : (s : State) (c : ℕ) (t : Transfer) → (cpu_at s.processors c).online ≡ true
+    → (cpu_at s.processors c).due ≡ None
     → (cpu_at s.processors c).transfer ≡ Some t → rule_of (outline_of s) c ≡ Reads
 reads_rule s c t on due reading = rule_seen s c ∙ rw (on, due, reading) refl
 
@@ -73,12 +72,15 @@ loads_rule : (s : State) (c : ℕ) → IsAtRest s c → is_owner s.owner c ≡ f
     → rule_of (outline_of s) c ≡ Loads
 loads_rule s c rest own none = rule_seen s c ∙ rw (rest.online, rest.due, rest.transfer, own, none) refl
 
-leaves_rule : (s : State) (c k : ℕ) → IsAtRest s c → is_owner s.owner c ≡ false → (cpu_at s.processors c).process ≡ Some k
-    → (has_had_its_turn (processor_at s.processors c) && not (is_empty s.ready)) ≡ true → rule_of (outline_of s) c ≡ Leaves
+leaves_rule : (s : State) (c k : ℕ) → IsAtRest s c → is_owner s.owner c ≡ false
+    → (cpu_at s.processors c).process ≡ Some k
+    → (has_had_its_turn (processor_at s.processors c) && not (is_empty s.ready)) ≡ true
+    → rule_of (outline_of s) c ≡ Leaves
 leaves_rule s c k rest own process turn =
     rule_seen s c ∙ rw (rest.online, rest.due, rest.transfer, own, process, ← not_empty s.ready, turn) refl
 
-commands_rule : (s : State) (c k : ℕ) → IsAtRest s c → is_owner s.owner c ≡ false → (cpu_at s.processors c).process ≡ Some k
+commands_rule : (s : State) (c k : ℕ) → IsAtRest s c → is_owner s.owner c ≡ false
+    → (cpu_at s.processors c).process ≡ Some k
     → (has_had_its_turn (processor_at s.processors c) && not (is_empty s.ready)) ≡ false
     → rule_of (outline_of s) c ≡ Commands
 commands_rule s c k rest own process turn =
@@ -106,13 +108,16 @@ word_fill (ptw.Here f) how = refl
 word_fill (ptw.Out r) how = refl
 word_fill (ptw.Leaving f) how = refl
 
-held_fill : (held : Held) (words : ℕ → ℕ → Ptw) (r : Reference) (e : HeldSeg) → is_fill_seg (by_held held words r e) ≡ false
+held_fill : (held : Held) (words : ℕ → ℕ → Ptw) (r : Reference) (e : HeldSeg)
+    → is_fill_seg (by_held held words r e) ≡ false
 unfolding is_fill_seg
-held_fill held words r e = by (not (permits e.mode r.kind)) (nat_le (1024 * e.pages) r.offset) (frame_of held e.uid (r.offset / 1024))
+held_fill held words r e = by (not (permits e.mode r.kind)) (nat_le (1024 * e.pages) r.offset)
+    (frame_of held e.uid (r.offset / 1024))
   where
     page : (o : Option ℕ) → is_fill_seg (by_page o (words e.uid (r.offset / 1024)) r.kind) ≡ false
     page (Some f) = refl
     page None = word_fill (words e.uid (r.offset / 1024)) r.kind
+
     by : (a b : Bool) (o : Option ℕ) → is_fill_seg (cond a (move.Plain reply.NoAccess) (cond b (move.Plain reply.Length)
         (by_page o (words e.uid (r.offset / 1024)) r.kind))) ≡ false
     by true b o = refl
@@ -138,11 +143,15 @@ fill_page_new : (held : Held) (ds : List Sdw) (words : ℕ → ℕ → Ptw) (r :
 unfolding is_fill_page
 fill_page_new held ds words r f None seg h =
     let no : false ≡ true = sym (descriptor_page (sdw_at ds r.number)) ∙ ap is_fill_page h in absurd cc
-fill_page_new held ds words r f (Some e) seg h =
-    (refl, ap (λ (x : Option HeldSeg). is_some (frame_of held (uid_of_held x) (r.offset / 1024))) seg
-    ∙ by (not (permits e.mode r.kind)) (nat_le (1024 * e.pages) r.offset) (frame_of held e.uid (r.offset / 1024)) (ap is_fill_page h))
+fill_page_new held ds words r f (Some e) seg h = (
+  refl,
+  ap (λ (x : Option HeldSeg). is_some (frame_of held (uid_of_held x) (r.offset / 1024))) seg
+      ∙ by (not (permits e.mode r.kind)) (nat_le (1024 * e.pages) r.offset) (frame_of held e.uid (r.offset / 1024))
+      (ap is_fill_page h),
+)
   where
-    by : (a b : Bool) (o : Option ℕ) → is_fill_page (cond a (move.Plain reply.NoAccess) (cond b (move.Plain reply.Length)
+    by : (a b : Bool) (o : Option ℕ) → is_fill_page
+        (cond a (move.Plain reply.NoAccess) (cond b (move.Plain reply.Length)
         (by_page o (words e.uid (r.offset / 1024)) r.kind))) ≡ true → is_some o ≡ false
     by true b o i = let no : false ≡ true = i in absurd cc
     by false true o i = let no : false ≡ true = i in absurd cc
@@ -162,6 +171,7 @@ transfer_goal s c o t f h reading = by o.failed
   where
     lost : MayLose s c
     lost = f.loses (ap (λ (x : Option Transfer). is_some x) reading)
+
     by : (b : Bool) → Step (outline_of s) c Moved
         (outline_of (cond b (transfer_failed s c t o.faults) (transferred (with_faults s o.faults) c t)))
     by true = loss_outlined s c lost.process o.faults t lost.command h reading lost.can lost.placed lost.more
@@ -186,19 +196,22 @@ take_goal s c o h (Some w) some may = owned_outlined s c w h some
 move_goal : (s : State) (c k : ℕ) (o : Outcome) (r : Reference) → rule_of (outline_of s) c ≡ Commands
     → (cpu_at s.processors c).process ≡ Some k → reference_in (next_command s k) ≡ Some r → MayAnswer s c
     → (m : Move) → act.move_of s (cpu_at s.processors c) k r ≡ m
-    → (s.owner ≡ None → act.by_move s.owner r m ≡ act.TakeSupervisor → MayEnter s c) → Goal s c o (act.by_move s.owner r m)
+    → (s.owner ≡ None → act.by_move s.owner r m ≡ act.TakeSupervisor → MayEnter s c)
+    → Goal s c o (act.by_move s.owner r m)
 unfolding after
 move_goal s c k o r h process next may move.FillSeg is enters =
     fill_seg_outlined s c k r h process next
     (fill_seg_new (cpu_at s.processors c).assoc (sdws_at s.store.links.descriptors k) (word_of s.store.ast) r
     (seg_of (cpu_at s.processors c).assoc r.number) is)
 move_goal s c k o r h process next may (move.FillPage f) is enters =
-    let new = fill_page_new (cpu_at s.processors c).assoc (sdws_at s.store.links.descriptors k) (word_of s.store.ast) r f
-        (seg_of (cpu_at s.processors c).assoc r.number) refl is in
+    let new = fill_page_new (cpu_at s.processors c).assoc (sdws_at s.store.links.descriptors k) (word_of s.store.ast)
+    r f
+    (seg_of (cpu_at s.processors c).assoc r.number) refl is in
     fill_page_outlined s c k f r h process next new.0 new.1
 move_goal s c k o r h process next may (move.Through f) is enters =
     through_outlined s c may.process f r may.command h may.can
-move_goal s c k o r h process next may (move.Plain answer) is enters = plain_outlined s c may.process answer may.command h may.can
+move_goal s c k o r h process next may (move.Plain answer) is enters =
+    plain_outlined s c may.process answer may.command h may.can
 move_goal s c k o r h process next may move.Fault is enters =
     take_goal s c o h s.owner refl (λ none. enters none (ap act.take_or_wait none))
 
@@ -236,7 +249,8 @@ going_on : (s : State) (c : ℕ) → MayAnswer s c → (run_at s.runs (process_a
 going_on s c may = ap (λ (j : ℕ). (run_at s.runs j).ended) (ap or_zero may.can.process) ∙ may.can.on.going
 
 pub run_goal : (s : State) (c : ℕ) (o : Outcome) → Foresees s c → IsAtRest s c → is_owner s.owner c ≡ false
-    → (x : Option ℕ) → (cpu_at s.processors c).process ≡ x → Goal s c o (act.run_process s (processor_at s.processors c) x)
+    → (x : Option ℕ) → (cpu_at s.processors c).process ≡ x
+    → Goal s c o (act.run_process s (processor_at s.processors c) x)
 unfolding after
 run_goal s c o f rest own None none = load_goal s c o rest (loads_rule s c rest own none) s.ready refl
 run_goal s c o f rest own (Some k) process =
@@ -244,10 +258,13 @@ run_goal s c o f rest own (Some k) process =
   where
     may : MayAnswer s c
     may = f.answers (ap (λ (x : Option ℕ). is_some x) process)
+
     at_k : process_at s c ≡ k
     at_k = ap or_zero process
+
     by : (b : Bool) → (has_had_its_turn (processor_at s.processors c) && not (is_empty s.ready)) ≡ b
         → Goal s c o (cond b act.Leave (act.come_to s (cpu_at s.processors c) k (next_command s k)))
     by true turn = leave_outlined s c (leaves_rule s c k rest own process turn) (going_on s c may) (free_of s c rest)
     by false turn = command_goal s c k o (commands_rule s c k rest own process turn) process may (next_command s k) refl
-        (λ none is. f.enters none (ap (λ (j : ℕ). act.come_to s (cpu_at s.processors c) j (next_command s j)) at_k ∙ is))
+        (λ none is. f.enters none (ap (λ (j : ℕ). act.come_to s (cpu_at s.processors c) j (next_command s j)) at_k
+        ∙ is))

@@ -1,15 +1,16 @@
--- In the outline of the machine, what the owner waits for is there; and where the machine has ended, so has its outline.
-use Rattle.std.proofs.Common.{◌≡◌, ℕ, zero, suc, Bool, true, false, not, cond, ◌&&◌, ◌||◌, List, [], ◌∷◌, length, map, position, Option, Some, None, is_some, get_or, refl, sym, ap, ◌∙◌, arith}
+-- In the outline of the machine, what the owner waits for is there; and where the machine has ended, so has its
+-- outline.
+use Rattle.std.proofs.Common.{◌≡◌, ℕ, zero, suc, Bool, true, false, not, ◌&&◌, ◌||◌, List, [], ◌∷◌, length, Some}
+use Rattle.std.proofs.Common.{is_some, get_or, refl, ap, ◌∙◌}
 use Rattle.std.specs.List.{list_any}
-use Rattle.core_map.specs.declared.Frame.{Frame}
 use Rattle.core_map.specs.declared.Frame.TheVariants as frame
 use Rattle.assoc_mem.specs.declared.What.{What}
 use Rattle.machine_model.specs.declared.Aim.{Aim}
 use Rattle.machine_model.specs.declared.Phase.TheVariants as phase
 use Rattle.machine_model.specs.State.{State, Processor, Owner}
-use Rattle.machine_model.specs.Reads.{no_processor, is_due, processor_at, cpu_at}
+use Rattle.machine_model.specs.Reads.{is_due, processor_at, cpu_at}
 use Rattle.machine_model.specs.Actions.{ForClear, ForTransfer, has_process, is_empty, is_over}
-use Rattle.machine_model.specs.Outline.{Runner, Look, Waiting, Outline, Turn, Ended, WaitsFor, runner_at, frame_in}
+use Rattle.machine_model.specs.Outline.{Runner, Ended, WaitsFor, frame_in}
 use Rattle.machine_model.specs.Finishing.{Works, rule_of, IsEnded, Step, ends, awaits_clear, awaits_transfer}
 use Rattle.machine_model.specs.Outlined.{around, bare, work_of, outline_of}
 use Rattle.machine_model.proofs.OutlineReads.{at_outline, map_at, seen_online, seen_running, seen_due}
@@ -77,7 +78,7 @@ ended_is s over =
       running = λ d. (
           ap (λ (x : Runner). x.running) (at_outline s d) ∙ seen_running (around s) (processor_at s.processors d)
           ∙ none_has s.processors d (not_true (list_any has_process s.processors) facts.1)
-      );
+          );
     }
 
 pub end_outlined : (s : State) (c : ℕ) → is_over s ≡ true → Step (outline_of s) c Ended (outline_of s)

@@ -1,6 +1,7 @@
--- What each action of a processor must find, so that its step is one of the outline. That the machine keeps its promise gives
--- these facts; here they stand as the loop that makes it end asks for them (own).
-use Rattle.std.specs.Prelude.{◌≡◌, ◌≢◌, ◌⊎◌, ℕ, ◌<◌, ◌≤◌, Bool, true, false, length, is_some, slice_get, List, [], ◌∷◌, Option, Some}
+-- What each action of a processor must find, so that its step is one of the outline. That the machine keeps its
+-- promise gives these facts; here they stand as the loop that makes it end asks for them (own).
+use Rattle.std.specs.Prelude.{◌≡◌, ◌≢◌, ◌⊎◌, ℕ, ◌<◌, ◌≤◌, Bool, true, false, length, is_some, slice_get, List, []}
+use Rattle.std.specs.Prelude.{Some}
 use Rattle.std.specs.Prelude.{None, slice_index_or}
 use Rattle.script.specs.Forms.{weight}
 use Rattle.script.specs.Plans.{commands_of}
@@ -13,13 +14,13 @@ use Rattle.core_map.specs.declared.Frame.TheVariants as frame
 use Rattle.seg_control.specs.Control.{Links, place_of, sdws_at}
 use Rattle.storage_ops.specs.Shown.{is_filed}
 use Rattle.machine_model.specs.State.{State, Processor, Run, Owner}
-use Rattle.machine_model.specs.Reads.{next_command, cpu_at, processor_at, process_at, run_at, frames_from, trailers_in}
+use Rattle.machine_model.specs.Reads.{next_command, cpu_at, processor_at, process_at, run_at, frames_from}
 use Rattle.machine_model.specs.Actions as act
 use Rattle.machine_model.specs.Jobs.{deactivation_begun, page_gone, took, victim_taken}
 use Rattle.machine_model.specs.OutlineKept.{IsKept}
 use Rattle.machine_model.specs.declared.Aim.TheVariants as aim
 use Rattle.machine_model.specs.declared.Phase.TheVariants as phase
-use Rattle.machine_model.specs.Outline.{Refer, Runner, Outline, runner_at, want_at}
+use Rattle.machine_model.specs.Outline.{Refer, runner_at, want_at}
 use Rattle.machine_model.specs.Measures.{lack}
 use Rattle.machine_model.specs.Finishing.{AreOf, CanActivate, CanEmpty, CanEvict, CanStart, MayRelease}
 use Rattle.machine_model.specs.Outlined.{around, reference_in, holds_page, runner_of, outline_of}
@@ -108,9 +109,11 @@ pub record MayConnect (s : State) (c n : ℕ) : Type 0 where
   pub off : (runner_at (outline_of s).runners c).linked ≡ false
 
 -- the descriptor of the next command is connected as before
+abbrev pub is_linked_at : State → Processor → Bool
+is_linked_at s p = (runner_of (around s) p).linked
+
 abbrev pub KeepsLink : State → State → ℕ → Type 0
-KeepsLink s t c =
-    (runner_of (around t) (processor_at s.processors c)).linked ≡ (runner_of (around s) (processor_at s.processors c)).linked
+KeepsLink s t c = is_linked_at t (processor_at s.processors c) ≡ is_linked_at s (processor_at s.processors c)
 
 pub record MayEmpty (s t : State) (c uid : ℕ) : Type 0 where
   pub can : CanEmpty (outline_of s) c (place_of s.store.ast.entries uid)
