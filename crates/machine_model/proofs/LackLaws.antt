@@ -3,6 +3,7 @@ use Rattle.std.proofs.Common.{◌≡◌, ◌≢◌, ◌≤◌, ◌<◌, ℕ, Boo
 use Rattle.std.proofs.Common.{Option, Some, None, set, refl, sym, ap, ◌∙◌, ◌⊎◌, inl, inr, le_refl, arith}
 use Rattle.std.specs.List.{list_any}
 use Rattle.std.proofs.lemmas.Bool.Decides.{eqb_tells}
+use Rattle.std.proofs.lemmas.Option.{none-some}
 use Rattle.core_map.specs.declared.Frame.{Frame}
 use Rattle.core_map.specs.declared.Frame.TheVariants as frame
 use Rattle.processor.specs.declared.Transfer.{Transfer}
@@ -147,8 +148,8 @@ spared_not w (frame.Bound uid page used modified) h = by (is_wanted w (frame.Bou
     by false e = refl
 
 not_page : (x : Frame) (uid page : ℕ) → is_of uid page x ≡ false → page_of x ≢ Some (uid, page)
-not_page frame.Free uid page out h = let no : None ≡ Some (uid, page) = h in absurd cc
-not_page (frame.Started u q) uid page out h = let no : None ≡ Some (uid, page) = h in absurd cc
+not_page frame.Free uid page out h = absurd (none-some (uid, page) h)
+not_page (frame.Started u q) uid page out h = absurd (none-some (uid, page) h)
 not_page (frame.Bound u q used modified) uid page out h =
     let a : u ≡ uid = ap (λ (o : Option (ℕ × ℕ)). (page_or_zero o).0) h in
     let b : q ≡ page = ap (λ (o : Option (ℕ × ℕ)). (page_or_zero o).1) h in

@@ -1,7 +1,8 @@
 -- How the turns of the loop that makes the machine end join: turns of a job, of a command, and rounds.
-use Rattle.std.proofs.Common.{◌≡◌, ◌≤◌, ◌<◌, ℕ, ◌+◌, Bool, true, false, cond, ◌&&◌, eqb, Some, None, is_some, refl}
+use Rattle.std.proofs.Common.{◌≡◌, ◌≤◌, ◌<◌, ℕ, ◌+◌, Bool, true, false, cond, ◌&&◌, eqb, None, is_some, refl}
 use Rattle.std.proofs.Common.{sym, ap, subst, ◌∙◌, ◌⊎◌, inl, inr, le_refl, le_trans, arith}
 use Rattle.std.proofs.lemmas.Bool.Decides.{eqb_tells}
+use Rattle.std.proofs.lemmas.Option.{none-some}
 use Rattle.machine_model.specs.Outline.{Runner, Stage, Look, Outline, runner_at, want_at, at_stage}
 use Rattle.machine_model.specs.Measures.{missing, all_rank, job_rank, command_rank}
 use Rattle.machine_model.specs.Finishing.{IsIn}
@@ -62,13 +63,13 @@ goes_on a b d c few under (inr (inr mended)) = inr (inr (record {
 pub job_goes : (a b : Outline) (c d : ℕ) (stage : Stage) → IsIn b d stage → Goes a b c → IsUnderWay a b c
 job_goes a b c d stage owner (inl under) = under
 job_goes a b c d stage owner (inr (inl past)) =
-    let no : None ≡ Some (record { cpu = d; stage = stage }) = sym past.owner ∙ owner in absurd cc
+    absurd (none-some (record { cpu = d; stage = stage }) (sym past.owner ∙ owner))
 job_goes a b c d stage owner (inr (inr mended)) =
-    let no : None ≡ Some (record { cpu = d; stage = stage }) = sym mended.owner ∙ owner in absurd cc
+    absurd (none-some (record { cpu = d; stage = stage }) (sym mended.owner ∙ owner))
 
 pub job_over : (a b : Outline) (c : ℕ) → b.owner ≡ None → Goes a b c → JobDone a b c
 job_over a b c none (inl under) =
-    let no : None ≡ Some (record { cpu = c; stage = under.stage }) = sym none ∙ under.in_job in absurd cc
+    absurd (none-some (record { cpu = c; stage = under.stage }) (sym none ∙ under.in_job))
 job_over a b c none (inr done) = done
 
 -- a turn in which another processor cleared, or read a page in

@@ -31,6 +31,16 @@ pub record GoesOn (commands : List Command) (run : Run) (c : Command) : Type 0 w
   pub next : slice_get commands run.place ≡ Some c
   pub tries : run.tries < weight c
 
+-- a process that hasn't ended comes to a command next
+pub record Comes (commands : List Command) (run : Run) : Type 0 where
+  pub command : Command
+  pub on : GoesOn commands run command
+
+-- each process that hasn't ended does
+unfoldable pub AllCome : State → Type 0
+AllCome s = (k : ℕ) → k < length s.runs → (run_at s.runs k).ended ≡ false
+    → Comes (commands_of s.plan k) (run_at s.runs k)
+
 -- a processor has a process that goes on, and may answer its next command
 pub record CanTell (s : State) (c k : ℕ) (command : Command) : Type 0 where
   pub within : c < length s.processors
