@@ -21,9 +21,9 @@ use Rattle.machine_model.specs.Reads.{cut_of_owner, frames_of_owner}
 use Rattle.machine_model.specs.Seen.{Seen, bound_use, cut_uid, descriptor_use, frame_use, is_cut_at, read_use, shown}
 use Rattle.machine_model.specs.State.{CutDescriptor, Owner}
 use Rattle.machine_model.proofs.DescriptorLaws.{CanFinishSeg, back_seg_keeps, cut_keeps, gone_seg_keeps}
-use Rattle.machine_model.proofs.DueLaws.{HasLeft, HasLeftCut}
+use Rattle.machine_model.proofs.DueLaws.{HasLeft, HasLeftCut, none_due}
 use Rattle.machine_model.proofs.FrameLaws.{CanFinish, back_keeps, gone_keeps, take_keeps}
-use Rattle.machine_model.proofs.OwnedLaws.{cut_at_same}
+use Rattle.machine_model.proofs.OwnedLaws.{IsIdle, cut_at_same}
 use Rattle.machine_model.proofs.Places.{by_places}
 
 no_and : {b : Bool} → b ≡ true → b ≡ false → ⊥
@@ -397,3 +397,29 @@ gone_segs_keep v fs [] k on = record { book = k; on = on }
 gone_segs_keep v fs (d ∷ ds) k on = gone_segs_keep (gone_seg v d (without_cut v.owner)) fs ds
     (gone_seg_keeps v d (without_cut v.owner) k (first_finish_seg v fs d ds on))
     (uncut_on v (gone_seg v d (without_cut v.owner)) fs d ds on on.none refl)
+
+-- all that a job has taken is gone or back, and every processor has cleared
+pub record IsDone (v : Seen) : Type 0 where
+  pub book : KeepsBook v
+  pub frames : frames_of_owner v.owner ≡ []
+  pub cut : cut_of_owner v.owner ≡ []
+  pub none : NoneDue (shown v)
+  pub still : is_pending v.owner ≡ false
+
+pub gone_done : (v : Seen) → HasGone v [] [] → IsDone v
+gone_done v gone = record {
+  book = gone.book;
+  frames = gone.on.frames;
+  cut = gone.on.cut;
+  none = gone.on.none;
+  still = gone.on.still;
+}
+
+pub idle_done : (v : Seen) → KeepsBook v → IsIdle v.owner → is_pending v.owner ≡ false → IsDone v
+idle_done v k idle still = record {
+  book = k;
+  frames = idle.frames;
+  cut = idle.cut;
+  none = none_due (shown v) v.owner k.going_owned idle.waits;
+  still = still;
+}

@@ -33,8 +33,8 @@ use Rattle.machine_model.specs.State.{CutDescriptor, State, Storage}
 use Rattle.machine_model.specs.Steps.{booked, with_owner, with_pages, with_store}
 use Rattle.machine_model.proofs.ActiveLaws.{deactivate_keeps}
 use Rattle.machine_model.proofs.ActiveSeen.{active_less, blank_less, deactivate_seen, words_less}
-use Rattle.machine_model.proofs.AnswerLaws.{owner_keeps}
-use Rattle.machine_model.proofs.ChainLaws.{GoesOn, HasGone, going_word, gone_segs_keep, gones_keep, has_head, has_tail}
+use Rattle.machine_model.proofs.ChainLaws.{GoesOn, IsDone, gone_done, idle_done, going_word, gone_segs_keep, gones_keep}
+use Rattle.machine_model.proofs.ChainLaws.{has_head, has_tail}
 use Rattle.machine_model.proofs.CommitKept.{cut_faults, effected}
 use Rattle.machine_model.proofs.FinishKept.{bound_within}
 use Rattle.machine_model.proofs.KeepLaws.{faults_push}
@@ -192,39 +192,45 @@ gone_faults es (f ∷ fs) = ap (count_by is_fault) (sym (append_assoc es (entry.
 
 -- ---- the command
 
-module _ (s : State) (c k : ℕ) (path : Path) (keeps : Keeps s) where
-  abbrev node : ℕ
+-- a job that took pages and descriptors, or nothing, is done once they are gone
+pub gones_done : (s : State) → KeepsBook (seen s) → GoesOn (seen s) (frames_of_owner s.owner) (cut_of_owner s.owner)
+    → IsDone (gone_segs (gones (seen s) (frames_of_owner s.owner)) (cut_of_owner s.owner))
+gones_done s k on = let first = gones_keep (seen s) (frames_of_owner s.owner) (cut_of_owner s.owner) k on in
+    gone_done (gone_segs (gones (seen s) (frames_of_owner s.owner)) (cut_of_owner s.owner))
+    (gone_segs_keep (gones (seen s) (frames_of_owner s.owner)) [] (cut_of_owner s.owner) first.book first.on)
+
+pub gones_idle : (s : State) → KeepsBook (seen s) → IsIdle s.owner → is_pending s.owner ≡ false
+    → IsDone (gone_segs (gones (seen s) (frames_of_owner s.owner)) (cut_of_owner s.owner))
+gones_idle s k idle still = subst IsDone (λ i. gone_segs (gones (seen s) (sym idle.frames i)) (sym idle.cut i))
+    (idle_done (seen s) k idle still)
+
+module _ (s : State) (c k : ℕ) (path : Path) where
+  abbrev pub node : ℕ
   node = uid_of_command s.store k (command.Delete path)
 
-  abbrev fs : List ℕ
+  abbrev pub fs : List ℕ
   fs = frames_of_owner s.owner
 
-  abbrev ds : List CutDescriptor
+  abbrev pub ds : List CutDescriptor
   ds = cut_of_owner s.owner
 
   -- what was taken is gone
-  abbrev all_gone : Seen
+  abbrev pub all_gone : Seen
   all_gone = gone_segs (gones (seen s) fs) ds
 
   -- A deletion of an active node: the job has taken its pages alone, and no page and no descriptor of it is left.
   pub record CanDelete : Type 0 where
     pub active : is_active s.store.ast node ≡ true
-    pub on : GoesOn (seen s) fs ds
+    pub done : IsDone all_gone
     pub its : (f : ℕ) → has fs f ≡ true → (page_at (seen s) f).0 ≡ node
     pub may : MayDeactivate (flat all_gone) (shown all_gone) node
     pub tell : CanTell (with_owner (effected s k (command.Delete path)) None) c (process_at s c) None
         (reply_of s k (command.Delete path))
     pub says : StoreSays (committed s c k (command.Delete path))
 
-  module _ (can : CanDelete) where
+  module _ (keeps : Keeps s) (can : CanDelete) where
     abbrev words : ℕ → ℕ → Ptw
     words = λ v q. word_of (with_inactive s.store node).ast v q
-
-    first : HasGone (gones (seen s) fs) [] ds
-    first = gones_keep (seen s) fs ds keeps.book can.on
-
-    second : HasGone all_gone [] []
-    second = gone_segs_keep (gones (seen s) fs) [] ds first.book first.on
 
     one : IsAlike (seen s) (gones (seen s) fs)
     one = gones_alike (seen s) fs
@@ -238,15 +244,15 @@ module _ (s : State) (c k : ℕ) (path : Path) (keeps : Keeps s) where
         ∙ gones_words (seen s) fs node keeps.book.going_owned.once can.its w q n)
 
     inactive : KeepsBook (no_more_active all_gone node words)
-    inactive = deactivate_keeps all_gone node words second.book (record {
+    inactive = deactivate_keeps all_gone node words can.done.book (record {
       may = can.may;
       others = others;
       blank = blank_less s.store.ast node can.active keeps.store.kept.tree.once keeps.store.kept.places;
     })
 
     over : KeepsBook (record (no_more_active all_gone node words) { owner = None })
-    over = job_over (no_more_active all_gone node words) None inactive second.on.frames second.on.cut second.on.none
-        second.on.still nobody refl
+    over = job_over (no_more_active all_gone node words) None inactive can.done.frames can.done.cut can.done.none
+        can.done.still nobody refl
 
     going : (f : ℕ) → has fs f ≡ true → (page : ℕ × ℕ) × ((seen s).bound f ≡ Some page)
     going f h = by ((seen s).bound f) refl
@@ -340,8 +346,7 @@ module _ (s : State) (c k : ℕ) (path : Path) (keeps : Keeps s) where
 -- A deletion of a node that isn't active: the job has taken nothing.
 pub record CanDeleteInactive (s : State) (c k : ℕ) (path : Path) : Type 0 where
   pub inactive : is_active s.store.ast (uid_of_command s.store k (command.Delete path)) ≡ false
-  pub idle : IsIdle s.owner
-  pub still : is_pending s.owner ≡ false
+  pub done : IsDone (seen s)
   pub tell : CanTell (with_owner (effected s k (command.Delete path)) None) c (process_at s c) None
       (reply_of s k (command.Delete path))
   pub says : StoreSays (committed s c k (command.Delete path))
@@ -351,7 +356,9 @@ pub delete_inactive_kept : (s : State) (c k : ℕ) (path : Path) → Keeps s →
 delete_inactive_kept s c k path keeps can = kept_with (committed s c k (command.Delete path))
     (told_keeps (with_owner (effected s k (command.Delete path)) None) c (process_at s c) None
     (reply_of s k (command.Delete path))
-    (subst KeepsBook (sym seen_is) (owner_keeps (seen s) None keeps.book can.idle nobody can.still)) can.tell) can.says
+    (subst KeepsBook (sym seen_is) (job_over
+    (seen s) None keeps.book can.done.frames can.done.cut can.done.none can.done.still nobody refl)) can.tell)
+    can.says
     (let a = faults_push (s.entries ++ gone_entries s node (command.Delete path))
     (entry.Do (process_at s c) (run_at s.runs (process_at s c)).place c None
     (reply_of s k (command.Delete path))) in
@@ -363,8 +370,8 @@ delete_inactive_kept s c k path keeps can = kept_with (committed s c k (command.
     node = uid_of_command s.store k (command.Delete path)
 
     entries_are : s.entries ++ gone_entries s node (command.Delete path) ≡ s.entries
-    entries_are = (λ i. s.entries ++ (map gone_entry (can.idle.frames i) ++
-        (map cut_entry (can.idle.cut i) ++ cond (can.inactive i) (entry.Deactivate node ∷ []) [])))
+    entries_are = (λ i. s.entries ++ (map gone_entry (can.done.frames i) ++
+        (map cut_entry (can.done.cut i) ++ cond (can.inactive i) (entry.Deactivate node ∷ []) [])))
         ∙ append_nil s.entries
 
     deleted : Bool → List ℕ → Storage
@@ -376,6 +383,6 @@ delete_inactive_kept s c k path keeps can = kept_with (committed s c k (command.
         }
 
     seen_is : seen (with_owner (effected s k (command.Delete path)) None) ≡ record (seen s) { owner = None }
-    seen_is = (λ i. seen (with_owner (booked (with_store s (deleted (can.inactive i) (can.idle.frames i)))
+    seen_is = (λ i. seen (with_owner (booked (with_store s (deleted (can.inactive i) (can.done.frames i)))
         (gone_entries s node (command.Delete path))) None))
         ∙ (λ i. record (seen s) { owner = None; entries = entries_are i })

@@ -78,6 +78,7 @@ pub mod TiedLaws
 pub mod TookKept
 pub mod TransferKept
 pub mod TransferLaws
+pub mod TruncateKept
 pub mod Truncation
 pub mod TwoTransfers
 pub mod Victims

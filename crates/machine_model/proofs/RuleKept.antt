@@ -26,7 +26,16 @@ use Rattle.machine_model.specs.Actions.{action_of, by_move, clear_or, come_to, f
 use Rattle.machine_model.specs.Actions.{is_empty, is_over, load_or_idle, look_of, once_cleared, own_or_run}
 use Rattle.machine_model.specs.Actions.{refer_or_take, run_process, take_or_wait, transfer_or}
 use Rattle.machine_model.specs.After.{Outcome}
-use Rattle.machine_model.specs.Chains.{page_at}
+use Rattle.machine_model.specs.Chains.{gone_segs, gones, page_at}
+use Rattle.core_map.specs.CoreMap.{reads_of}
+use Rattle.page_control.specs.Plain.{binding_at, bindings}
+use Rattle.seg_control.specs.Kept.{read_at}
+use Rattle.mnames.specs.declared.paths.Path.{Path}
+use Rattle.machine_model.specs.Reads.{is_active}
+use Rattle.machine_model.specs.Refusal.{uid_of_command}
+use Rattle.machine_model.specs.Seen.{flat}
+use Rattle.machine_model.specs.Commits.{stays}
+use Rattle.std.proofs.Common.{◌⊎◌, inl, inr}
 use Rattle.machine_model.specs.Commits.{committed, cut_entry}
 use Rattle.machine_model.specs.Custodial.{FitsPhase, IsOwned, IsShaped, KeepsBook, is_out, is_pending, is_pending_in}
 use Rattle.machine_model.specs.Custodial.{says, says_in}
@@ -41,8 +50,10 @@ use Rattle.machine_model.specs.State.{CutDescriptor, Owner, State}
 use Rattle.machine_model.specs.Steps.{page_created, page_made, started, transferred, with_faults, with_owner}
 use Rattle.machine_model.proofs.ActiveKept.{segs_are_gone}
 use Rattle.machine_model.proofs.ActiveSeen.{within_some}
-use Rattle.machine_model.proofs.ChainLaws.{GoesOn, IsSteady, going_word, has_head}
+use Rattle.machine_model.proofs.ChainLaws.{IsDone, GoesOn, IsSteady, going_word, has_head}
 use Rattle.machine_model.proofs.CommitKept.{effected, idle_over, segs_over}
+use Rattle.machine_model.proofs.DeleteKept.{all_gone, gones_done, gones_idle, node}
+use Rattle.machine_model.proofs.DueLaws.{none_due}
 use Rattle.machine_model.proofs.FindLaws.{choice_bound, free_frame, position_none, unread_page}
 use Rattle.machine_model.proofs.LookLaws.{IsLook}
 use Rattle.machine_model.proofs.OwnedLaws.{IsIdle}
@@ -50,6 +61,7 @@ use Rattle.machine_model.proofs.OwnerLaws.{looking_idle}
 use Rattle.machine_model.proofs.StepKept.{CanActivateAt, CanCommit, CanDo, CanEmpty, CanEmptyVictim, CanConnectTo}
 use Rattle.machine_model.proofs.StepKept.{CanFailWrite, CanGoThrough, CanLose, CanReply, IsCommitted, IsMine}
 use Rattle.machine_model.proofs.TellKept.{CanTell}
+use Rattle.machine_model.proofs.TruncateKept.{QuietWords, all_left, cut_store, leaves, leaves_done, leaves_idle}
 use Rattle.machine_model.proofs.TookKept.{CanTook, Owns}
 use Rattle.machine_model.proofs.WordLaws.{word_within}
 
@@ -92,10 +104,41 @@ pub record AsksCommand (s : State) (c k : ℕ) (cmd : Command) : Type 0 where
   pub tell : CanTell (with_owner (effected s k cmd) None) c k None (reply_of s k cmd)
   pub says : StoreSays (committed s c k cmd)
 
+-- of a deletion: an active node has no page and no descriptor left, and the pages that the job took are its own
+pub record AsksDelete (s : State) (c k : ℕ) (path : Path) : Type 0 where
+  pub active : is_active s.store.ast (node s c k path) ≡ true
+  pub its : (f : ℕ) → has (frames_of_owner s.owner) f ≡ true → (page_at (seen s) f).0 ≡ node s c k path
+  pub may : MayDeactivate (flat (all_gone s c k path)) (shown (all_gone s c k path)) (node s c k path)
+  pub tell : CanTell (with_owner (effected s k (command.Delete path)) None) c (process_at s c) None
+      (reply_of s k (command.Delete path))
+  pub says : StoreSays (committed s c k (command.Delete path))
+
+-- of one that isn't active nothing was taken
+pub record AsksDeleteInactive (s : State) (c k : ℕ) (path : Path) : Type 0 where
+  pub inactive : is_active s.store.ast (uid_of_command s.store k (command.Delete path)) ≡ false
+  pub frames : frames_of_owner s.owner ≡ []
+  pub cut : cut_of_owner s.owner ≡ []
+  pub tell : CanTell (with_owner (effected s k (command.Delete path)) None) c (process_at s c) None
+      (reply_of s k (command.Delete path))
+  pub says : StoreSays (committed s c k (command.Delete path))
+
+-- of a truncation: the frames and words are those after its entries
+pub record AsksTruncate (s : State) (c k : ℕ) (path : Path) (size : ℕ) : Type 0 where
+  pub cut : cut_of_owner s.owner ≡ []
+  pub bound : (g : ℕ) → binding_at (bindings (cut_store s c k path size).pages.core) g
+      ≡ (all_left s c k path size).bound g
+  pub reads : (g : ℕ) → read_at (reads_of (cut_store s c k path size).pages.core) g ≡ (seen s).reads g
+  pub words : QuietWords (all_left s c k path size) (λ w q. word_of (cut_store s c k path size).ast w q)
+  pub places : (cut_store s c k path size).ast.entries ≡ s.store.ast.entries
+  pub links : (cut_store s c k path size).links ≡ s.store.links
+  pub tell : CanTell (with_owner (effected s k (command.Truncate path size)) None) c (process_at s c) None
+      (reply_of s k (command.Truncate path size))
+  pub says : StoreSays (committed s c k (command.Truncate path size))
+
 abbrev pub AsksCommit : State → ℕ → ℕ → Option Command → Type 0
 AsksCommit s c k None = Unit {0}
-AsksCommit s c k (Some (command.Truncate path words)) = Keeps (committed s c k (command.Truncate path words))
-AsksCommit s c k (Some (command.Delete path)) = Keeps (committed s c k (command.Delete path))
+AsksCommit s c k (Some (command.Truncate path words)) = AsksTruncate s c k path words
+AsksCommit s c k (Some (command.Delete path)) = AsksDelete s c k path ⊎ AsksDeleteInactive s c k path
 AsksCommit s c k (Some cmd) = AsksCommand s c k cmd
 
 -- What the store says of the machine after an action, and what the flat store and custody say of an answer. A reference
@@ -126,18 +169,55 @@ some_of : (o : Option ℕ) → is_some o ≡ true → o ≡ Some (or_zero o)
 some_of None h = absurd (let no : false ≡ true = h in cc)
 some_of (Some n) h = refl
 
-commit_can : (s : State) (c k : ℕ) (x : Option Command) → (processor_at s.processors c).cpu.process ≡ Some k
-    → next_command s k ≡ x → IsCommitted s
-    → AsksCommit s c k x → CanCommit s c k x
-commit_can s c k None its next over asks = tt
-commit_can s c k (Some command.End) its next over asks =
-    record { none = asks.none; over = over; process = its; next = next; tell = asks.tell; says = asks.says }
-commit_can s c k (Some (command.Truncate path words)) its next over asks = asks
-commit_can s c k (Some (command.Delete path)) its next over asks = asks
-commit_can s c k (Some cmd) its next over asks = record {
+-- what was taken is gone, or the pages are back, and no clear is due
+record IsReady (s : State) : Type 0 where
+  none : NoneDue (shown (seen s))
+  still : is_pending s.owner ≡ false
+  gone : IsDone (gone_segs (gones (seen s) (frames_of_owner s.owner)) (cut_of_owner s.owner))
+  left : cut_of_owner s.owner ≡ [] → (test : ℕ → Bool) → IsDone (leaves (seen s) test (frames_of_owner s.owner))
+  over : frames_of_owner s.owner ≡ [] → IsCommitted s
+
+commit_can : (s : State) (c k : ℕ) (x : Option Command) → KeepsBook (seen s)
+    → (processor_at s.processors c).cpu.process ≡ Some k
+    → next_command s k ≡ x → IsReady s → AsksCommit s c k x → CanCommit s c k x
+commit_can s c k None book its next ready asks = tt
+commit_can s c k (Some command.End) book its next ready asks = record {
+  none = asks.none;
+  over = ready.over asks.none;
+  process = its;
+  next = next;
+  tell = asks.tell;
+  says = asks.says;
+}
+commit_can s c k (Some (command.Truncate path words)) book its next ready asks = record {
+  done = ready.left asks.cut (stays s.store words);
+  cut = asks.cut;
+  bound = asks.bound;
+  reads = asks.reads;
+  words = asks.words;
+  places = asks.places;
+  links = asks.links;
+  tell = asks.tell;
+  says = asks.says;
+}
+commit_can s c k (Some (command.Delete path)) book its next ready (inl asks) = inl (record {
+  active = asks.active;
+  done = ready.gone;
+  its = asks.its;
+  may = asks.may;
+  tell = asks.tell;
+  says = asks.says;
+})
+commit_can s c k (Some (command.Delete path)) book its next ready (inr asks) = inr (record {
+  inactive = asks.inactive;
+  done = record { book = book; frames = asks.frames; cut = asks.cut; none = ready.none; still = ready.still };
+  tell = asks.tell;
+  says = asks.says;
+})
+commit_can s c k (Some cmd) book its next ready asks = record {
   pages = tt;
   none = asks.none;
-  over = over;
+  over = ready.over asks.none;
   stays = λ x. refl;
   its = ap or_zero its;
   tell = subst (λ (j : ℕ). CanTell (with_owner (effected s k cmd) None) c j None (reply_of s k cmd))
@@ -184,6 +264,15 @@ module _ (s : State) (c : ℕ) (o : Outcome) (k : Keeps s) (there : c < length s
   look_over l = subst (λ (ds : List CutDescriptor). KeepsBook
       (record (seen s) { owner = None; entries = s.entries ++ map cut_entry ds }))
       (sym (look_idle l).cut) (idle_over s k.book (look_idle l) (look_still l))
+
+  look_ready : IsLooking s c → IsReady s
+  look_ready l = record {
+    none = none_due (shown (seen s)) s.owner k.book.going_owned (look_idle l).waits;
+    still = look_still l;
+    gone = gones_idle s k.book (look_idle l) (look_still l);
+    left = λ cut test. leaves_idle s test k.book (look_idle l) (look_still l);
+    over = λ none. look_over l;
+  }
 
   placed_active : (u : ℕ) → place_of s.store.ast.entries u < length s.store.ast.entries → (seen s).active u ≡ true
   unfolding place_of
@@ -244,8 +333,8 @@ module _ (s : State) (c : ℕ) (o : Outcome) (k : Keeps s) (there : c < length s
   look_can (act.EmptyVictim pool chain u) h l asks = asks
   look_can (act.TakeAway fs pairs w) h l asks =
       record { can = asks.can; owns = owns_here l.owner; works = works_here l.owner; says = asks.says }
-  look_can act.Commit h l asks = commit_can s c (process_at s c) (next_command s (process_at s c))
-      (process_here l.owner) refl (look_over l) asks
+  look_can act.Commit h l asks = commit_can s c (process_at s c) (next_command s (process_at s c)) k.book
+      (process_here l.owner) refl (look_ready l) asks
   look_can act.IsStopped h l asks = tt
   look_can act.HasEnded h l asks = tt
   look_can act.Online h l asks = absurd h
@@ -366,6 +455,19 @@ module _ (s : State) (c : ℕ) (o : Outcome) (k : Keeps s) (there : c < length s
     says = asks.says;
   }
 
+  wait_ready : (w : What) → HasWaited s c aim.Committing w → IsReady s
+  wait_ready w x = record {
+    none = none_due_now x.cleared;
+    still = wait_still aim.Committing w x;
+    gone = gones_done s k.book goes;
+    left = λ cut test. leaves_done s test k.book goes cut;
+    over = λ none. segs_over s (cut_of_owner s.owner) k.book
+        (subst (λ (gs : List ℕ). GoesOn (seen s) gs (cut_of_owner s.owner)) none goes);
+  }
+    where
+      goes : GoesOn (seen s) (frames_of_owner s.owner) (cut_of_owner s.owner)
+      goes = wait_goes aim.Committing w x (λ gs ds. tt)
+
   pub finish_can : (a : Aim) (w : What) (fs : List ℕ) (x : HasWaited s c a w) → x.owner.owner.frames ≡ fs
       → Asks s c o (finish_of a fs) → CanDo s c o (finish_of a fs)
   finish_can aim.Evicting w [] x frames asks = absurd (no_frame (wait_shape aim.Evicting w x))
@@ -375,18 +477,6 @@ module _ (s : State) (c : ℕ) (o : Outcome) (k : Keeps s) (there : c < length s
   finish_can aim.Evicting w (f ∷ fs) x frames asks = evict_can w f fs x frames asks
   finish_can (aim.Deactivating u) w [] x frames asks = empty_can u w x frames asks
   finish_can (aim.Deactivating u) w (f ∷ fs) x frames asks = page_can u w f fs x frames asks
-  finish_can aim.Committing w fs x frames asks = commit_wait (next_command s (process_at s c)) refl asks
-    where
-      goes : GoesOn (seen s) (frames_of_owner s.owner) (cut_of_owner s.owner)
-      goes = wait_goes aim.Committing w x (λ gs ds. tt)
-
-      over : frames_of_owner s.owner ≡ [] → IsCommitted s
-      over none = segs_over s (cut_of_owner s.owner) k.book
-          (subst (λ (gs : List ℕ). GoesOn (seen s) gs (cut_of_owner s.owner)) none goes)
-
-      commit_wait : (y : Option Command) → next_command s (process_at s c) ≡ y → AsksCommit s c (process_at s c) y
-          → CanCommit s c (process_at s c) y
-      commit_wait None e q = tt
-      commit_wait (Some (command.Truncate path words)) e q = q
-      commit_wait (Some (command.Delete path)) e q = q
-      commit_wait (Some cmd) e q = commit_can s c (process_at s c) (Some cmd) (process_here x.owner) e (over q.none) q
+  finish_can aim.Committing w fs x frames asks =
+      commit_can s c (process_at s c) (next_command s (process_at s c)) k.book
+      (process_here x.owner) refl (wait_ready w x) asks

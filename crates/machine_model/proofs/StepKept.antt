@@ -1,5 +1,6 @@
 -- Each action of a processor keeps the machine's promise.
 use Rattle.std.proofs.Common.{◌≡◌, ◌<◌, ◌≤◌, ℕ, ◌-◌, Bool, true, false, cond, is_some, map, List, [], ◌∷◌, ◌++◌, length}
+use Rattle.std.proofs.Common.{◌⊎◌, inl, inr}
 use Rattle.std.proofs.Common.{Option, Some, None, refl, sym, ap, subst, ◌∙◌}
 use Rattle.assoc_mem.specs.declared.HeldSeg.{HeldSeg}
 use Rattle.assoc_mem.specs.declared.What.{What}
@@ -45,6 +46,7 @@ use Rattle.machine_model.proofs.ActiveKept.{through_kept}
 use Rattle.machine_model.proofs.BackKept.{all_back, all_failed_kept, eviction_failed_kept}
 use Rattle.machine_model.proofs.ChainLaws.{GoesOn}
 use Rattle.machine_model.proofs.CommitKept.{TakesNoPage, commit_kept, effected, end_kept, ready_left}
+use Rattle.machine_model.proofs.DeleteKept.{CanDelete, CanDeleteInactive, delete_inactive_kept, delete_kept}
 use Rattle.machine_model.proofs.DescriptorLaws.{CanConnect}
 use Rattle.machine_model.proofs.FinishKept.{eviction_kept, page_kept}
 use Rattle.machine_model.proofs.FrameLaws.{CanFinish}
@@ -58,6 +60,7 @@ use Rattle.machine_model.proofs.TieLaws.{none_some}
 use Rattle.machine_model.proofs.TookKept.{CanTook, Owns, took_kept}
 use Rattle.machine_model.proofs.TransferKept.{failed_kept, kept_with, started_kept, transferred_kept}
 use Rattle.machine_model.proofs.TransferLaws.{CanMake, CanStart}
+use Rattle.machine_model.proofs.TruncateKept.{CanTruncate, truncate_kept}
 
 -- ---- what each action asks
 
@@ -238,12 +241,11 @@ pub record CanEnd (s : State) (c k : ℕ) : Type 0 where
   pub tell : CanTell (with_owner (effected s k command.End) None) c k None (reply_of s k command.End)
   pub says : StoreSays (committed s c k command.End)
 
--- A `delete` and a `truncate` ask the whole promise of the machine after them.
 abbrev pub CanCommit : State → ℕ → ℕ → Option Command → Type 0
 CanCommit s c k None = Unit {0}
 CanCommit s c k (Some command.End) = CanEnd s c k
-CanCommit s c k (Some (command.Truncate path words)) = Keeps (committed s c k (command.Truncate path words))
-CanCommit s c k (Some (command.Delete path)) = Keeps (committed s c k (command.Delete path))
+CanCommit s c k (Some (command.Truncate path words)) = CanTruncate s c k path words
+CanCommit s c k (Some (command.Delete path)) = CanDelete s c k path ⊎ CanDeleteInactive s c k path
 CanCommit s c k (Some cmd) = CanCommitCommand s c k cmd
 
 abbrev pub CanDo : State → ℕ → Outcome → act.Action → Type 0
@@ -338,8 +340,9 @@ commit_done : (s : State) (c k : ℕ) (cmd : Option Command) → Keeps s → Can
 commit_done s c k None keeps can = keeps
 commit_done s c k (Some command.End) keeps can =
     end_kept s c k keeps can.none can.over can.process can.next can.tell can.says
-commit_done s c k (Some (command.Truncate path words)) keeps can = can
-commit_done s c k (Some (command.Delete path)) keeps can = can
+commit_done s c k (Some (command.Truncate path words)) keeps can = truncate_kept s c k path words keeps can
+commit_done s c k (Some (command.Delete path)) keeps (inl can) = delete_kept s c k path keeps can
+commit_done s c k (Some (command.Delete path)) keeps (inr can) = delete_inactive_kept s c k path keeps can
 commit_done s c k (Some cmd) keeps can = commit_kept s c k cmd keeps can.pages can.none can.over can.stays can.its
     can.tell can.says
 

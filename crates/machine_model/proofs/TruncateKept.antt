@@ -1,0 +1,314 @@
+-- The machine keeps its promise where a `truncate` takes effect: the pages that are cut off have left their frames, and
+-- a page
+-- that keeps a word is here again.
+use Rattle.std.proofs.Common.{◌≡◌, ◌≢◌, ℕ, Bool, true, false, if◌then◌else◌, count_by}
+use Rattle.std.proofs.Common.{List, [], ◌∷◌, ◌++◌, map, Option, Some, None, ◌⊎◌, inl, inr, refl, sym, ap, subst}
+use Rattle.std.proofs.Common.{◌∙◌, arith}
+use Rattle.std.proofs.lemmas.List.{length-set}
+use Rattle.script.specs.declared.commands.Command.TheVariants as command
+use Rattle.mnames.specs.declared.paths.Path.{Path}
+use Rattle.book.specs.declared.entries.Entry.{Entry}
+use Rattle.book.specs.declared.entries.Entry.TheVariants as entry
+use Rattle.page_table.specs.declared.Ptw.{Ptw}
+use Rattle.page_table.specs.declared.Ptw.TheVariants as ptw
+use Rattle.page_control.specs.Plain.{binding_at, bindings}
+use Rattle.core_map.specs.CoreMap.{reads_of}
+use Rattle.std.specs.List.{list_any}
+use Rattle.active_segs.specs.declared.Entry.{Entry as Segment}
+use Rattle.seg_control.specs.Control.{is_for, word_of}
+use Rattle.seg_control.specs.Kept.{read_at}
+use Rattle.custody_model.specs.Custody.{Custody}
+use Rattle.custody_model.specs.Fine.{Fine}
+use Rattle.machine_model.specs.Chains.{page_at, without_frame}
+use Rattle.machine_model.specs.Changes.{back, gone}
+use Rattle.machine_model.specs.Commits.{committed, cut_entry, gone_entries, stays, with_truncated}
+use Rattle.machine_model.specs.Custodial.{IsOwned, IsTied, KeepsBook, is_out, is_pending, names}
+use Rattle.machine_model.specs.Holding.{led_to, seen}
+use Rattle.machine_model.specs.Keeps.{Keeps, StoreSays, is_fault}
+use Rattle.machine_model.specs.Reads.{cut_of_owner, descriptor_of, frames_of_owner, process_at, run_at}
+use Rattle.machine_model.specs.Refusal.{reply_of, uid_of_command}
+use Rattle.machine_model.specs.Seen.{Seen, bound_use, frame_use, shown}
+use Rattle.machine_model.specs.State.{CutDescriptor, State, Storage}
+use Rattle.machine_model.specs.Steps.{with_owner}
+use Rattle.machine_model.proofs.ChainLaws.{GoesOn, HasGone, IsDone, gone_done, idle_done, back_on, first_finish}
+use Rattle.machine_model.proofs.CommitKept.{effected}
+use Rattle.machine_model.proofs.FrameLaws.{back_keeps, gone_keeps}
+use Rattle.machine_model.proofs.KeepLaws.{faults_push}
+use Rattle.machine_model.proofs.OwnedLaws.{IsIdle, nobody}
+use Rattle.machine_model.proofs.OwnerLaws.{job_over}
+use Rattle.machine_model.proofs.TellKept.{CanTell, told_keeps}
+use Rattle.machine_model.proofs.TieLaws.{none_some, not_there}
+use Rattle.machine_model.proofs.TransferKept.{kept_with}
+
+-- ---- words that custody doesn't see
+
+-- Each word is as it was, or named no frame and names none, and its page isn't being read.
+pub record QuietWords (v : Seen) (words : ℕ → ℕ → Ptw) : Type 0 where
+  pub each : (w q : ℕ) → (words w q ≡ v.words w q)
+      ⊎ ((names (v.words w q) ≡ None) × (names (words w q) ≡ None) × ((f : ℕ) → v.reads f ≢ Some (w, q)))
+
+module _ (v : Seen) (words : ℕ → ℕ → Ptw) (k : KeepsBook v) (quiet : QuietWords v words) where
+  bound_same : (f w q : ℕ) → v.bound f ≡ Some (w, q) → words w q ≡ v.words w q
+  bound_same f w q h = elim (quiet.each w q) [
+    | inl e ↦ e
+    | inr n ↦ absurd (not_there f (sym n.0 ∙ k.tied.named f w q h))
+  ]
+
+  quiet_tied : IsTied v.bound v.reads words
+  quiet_tied = record {
+    named = λ f w q h. ap names (bound_same f w q h) ∙ k.tied.named f w q h;
+    back = λ f w q h. elim (quiet.each w q) [
+      | inl e ↦ k.tied.back f w q (sym (ap names e) ∙ h)
+      | inr n ↦ absurd (not_there f (sym n.1 ∙ h))
+    ];
+    out = λ f w q h. elim (quiet.each w q) [
+      | inl e ↦ ap is_out e ∙ k.tied.out f w q h
+      | inr n ↦ absurd (n.2 f h)
+    ];
+    alone = k.tied.alone;
+    unbound = k.tied.unbound;
+  }
+
+  quiet_shown : shown v ≡ shown (record v { words = words })
+  quiet_shown = λ i. record (shown v) { frame = λ f. use_same f i }
+    where
+      use_same : (f : ℕ) → frame_use v.words (v.bound f) (v.reads f) ≡ frame_use words (v.bound f) (v.reads f)
+      use_same f = by (v.bound f) refl
+        where
+          by : (x : Option (ℕ × ℕ)) → v.bound f ≡ x → frame_use v.words x (v.reads f) ≡ frame_use words x (v.reads f)
+          by None e = refl
+          by (Some page) e = ap (bound_use page) (sym (bound_same f page.0 page.1 e))
+
+  pub quiet_keeps : KeepsBook (record v { words = words })
+  quiet_keeps = record {
+    legal = k.legal;
+    clean = k.clean;
+    held = sym quiet_shown ∙ k.held;
+    stale_due = subst (λ (c : Custody). Fine c (is_pending v.owner)) quiet_shown k.stale_due;
+    going_owned = subst (λ (c : Custody). IsOwned c v.owner) quiet_shown k.going_owned;
+    tied = quiet_tied;
+    holding_right = k.holding_right;
+    under_way = k.under_way;
+    runs = k.runs;
+  }
+
+-- ---- pages leave their frames, or are back
+
+-- the page in a frame is back, or has left it and is stored no more
+abbrev pub leaf : Seen → ℕ → Bool → Seen
+leaf v f true = back v f (page_at v f).0 (page_at v f).1 (without_frame v.owner)
+leaf v f false = gone v f (page_at v f).0 (page_at v f).1 ptw.Null (without_frame v.owner)
+
+abbrev pub leaves : Seen → (ℕ → Bool) → List ℕ → Seen
+leaves v test [] = v
+leaves v test (f ∷ fs) = leaves (leaf v f (test f)) test fs
+
+leaf_keeps : (v : Seen) (f : ℕ) (fs : List ℕ) (ds : List CutDescriptor) (b : Bool) → KeepsBook v → GoesOn v (f ∷ fs) ds
+    → HasGone (leaf v f b) fs ds
+leaf_keeps v f fs ds true k on = record {
+  book = back_keeps v f (page_at v f).0 (page_at v f).1 (without_frame v.owner) k (first_finish v f fs ds k on);
+  on = back_on v f fs ds on;
+}
+leaf_keeps v f fs ds false k on = let back = back_on v f fs ds on in record {
+  book = gone_keeps v f (page_at v f).0 (page_at v f).1 (without_frame v.owner) k
+      (first_finish v f fs ds k on) ptw.Null refl;
+  on = record {
+    frames = back.frames;
+    cut = back.cut;
+    none = back.none;
+    still = back.still;
+    quiet = back.quiet;
+    steady
+        = back.steady;
+  };
+}
+
+pub leaves_keep : (v : Seen) (test : ℕ → Bool) (fs : List ℕ) (ds : List CutDescriptor) → KeepsBook v → GoesOn v fs ds
+    → HasGone (leaves v test fs) [] ds
+leaves_keep v test [] ds k on = record { book = k; on = on }
+leaves_keep v test (f ∷ fs) ds k on = let first =
+    leaf_keeps v f fs ds (test f) k on in leaves_keep (leaf v f (test f)) test fs ds first.book first.on
+
+abbrev leaf_entry : (ℕ → Bool) → ℕ → Entry
+leaf_entry test f = if test f then entry.BackPage f else entry.GonePage f
+
+leaf_entries : (v : Seen) (f : ℕ) (b : Bool)
+    → (leaf v f b).entries ≡ v.entries ++ (if b then entry.BackPage f else entry.GonePage f) ∷ []
+leaf_entries v f true = refl
+leaf_entries v f false = refl
+
+append_assoc : (xs ys zs : List Entry) → (xs ++ ys) ++ zs ≡ xs ++ (ys ++ zs)
+append_assoc [] ys zs = refl
+append_assoc (x ∷ xs) ys zs = ap (λ (t : List Entry). x ∷ t) (append_assoc xs ys zs)
+
+append_nil : (es : List Entry) → es ++ [] ≡ es
+append_nil [] = refl
+append_nil (e ∷ es) = ap (λ (t : List Entry). e ∷ t) (append_nil es)
+
+leaves_entries : (v : Seen) (test : ℕ → Bool) (fs : List ℕ)
+    → (leaves v test fs).entries ≡ v.entries ++ map (leaf_entry test) fs
+leaves_entries v test [] = sym (append_nil v.entries)
+leaves_entries v test (f ∷ fs) = leaves_entries (leaf v f (test f)) test fs
+    ∙ (ap (λ (es : List Entry). es ++ map (leaf_entry test) fs) (leaf_entries v f (test f))
+    ∙ append_assoc v.entries (leaf_entry test f ∷ []) (map (leaf_entry test) fs))
+
+leaf_faults : (es : List Entry) (f : ℕ) (b : Bool)
+    → count_by is_fault (es ++ (if b then entry.BackPage f else entry.GonePage f) ∷ []) ≡ count_by is_fault es
+leaf_faults es f true = let one = faults_push es (entry.BackPage f) in omega (arith, one)
+leaf_faults es f false = let one = faults_push es (entry.GonePage f) in omega (arith, one)
+
+leaves_faults : (es : List Entry) (test : ℕ → Bool) (fs : List ℕ)
+    → count_by is_fault (es ++ map (leaf_entry test) fs) ≡ count_by is_fault es
+leaves_faults es test [] = ap (count_by is_fault) (append_nil es)
+leaves_faults es test (f ∷ fs) = ap (count_by is_fault)
+    (sym (append_assoc es (leaf_entry test f ∷ []) (map (leaf_entry test) fs)))
+    ∙ (leaves_faults (es ++ leaf_entry test f ∷ []) test fs ∙ leaf_faults es f (test f))
+
+-- what pages that leave their frames or are back don't change
+record IsAlike (v now : Seen) : Type 0 where
+  pub plan : now.plan ≡ v.plan
+  pub reads : now.reads ≡ v.reads
+  pub active : now.active ≡ v.active
+  pub linked : now.linked ≡ v.linked
+  pub ready : now.ready ≡ v.ready
+  pub processors : now.processors ≡ v.processors
+  pub runs : now.runs ≡ v.runs
+
+leaf_alike : (v : Seen) (f : ℕ) (b : Bool) → IsAlike v (leaf v f b)
+leaf_alike v f true = record {
+  plan = refl;
+  reads = refl;
+  active = refl;
+  linked = refl;
+  ready = refl;
+  processors =
+      refl;
+  runs = refl;
+}
+leaf_alike v f false = record {
+  plan = refl;
+  reads = refl;
+  active = refl;
+  linked = refl;
+  ready = refl;
+  processors =
+      refl;
+  runs = refl;
+}
+
+leaves_alike : (v : Seen) (test : ℕ → Bool) (fs : List ℕ) → IsAlike v (leaves v test fs)
+leaves_alike v test [] = record {
+  plan = refl;
+  reads = refl;
+  active = refl;
+  linked = refl;
+  ready = refl;
+  processors =
+      refl;
+  runs = refl;
+}
+leaves_alike v test (f ∷ fs) = let one = leaf_alike v f (test f) in let rest =
+    leaves_alike (leaf v f (test f)) test fs in record {
+      plan = rest.plan ∙ one.plan;
+      reads = rest.reads ∙ one.reads;
+      active = rest.active ∙ one.active;
+      linked = rest.linked ∙ one.linked;
+      ready = rest.ready ∙ one.ready;
+      processors = rest.processors ∙ one.processors;
+      runs = rest.runs ∙ one.runs;
+    }
+
+-- ---- the command
+
+-- a job that took pages alone, or nothing, is done once they have left or are back
+pub leaves_done : (s : State) (test : ℕ → Bool) → KeepsBook (seen s)
+    → GoesOn (seen s) (frames_of_owner s.owner) (cut_of_owner s.owner)
+    → cut_of_owner s.owner ≡ [] → IsDone (leaves (seen s) test (frames_of_owner s.owner))
+leaves_done s test k on cut = gone_done (leaves (seen s) test (frames_of_owner s.owner))
+    (subst (HasGone (leaves (seen s) test (frames_of_owner s.owner)) []) cut
+    (leaves_keep (seen s) test (frames_of_owner s.owner) (cut_of_owner s.owner) k on))
+
+pub leaves_idle : (s : State) (test : ℕ → Bool) → KeepsBook (seen s) → IsIdle s.owner → is_pending s.owner ≡ false
+    → IsDone (leaves (seen s) test (frames_of_owner s.owner))
+leaves_idle s test k idle still = subst IsDone (λ i. leaves (seen s) test (sym idle.frames i))
+    (idle_done (seen s) k idle still)
+
+module _ (s : State) (c k : ℕ) (path : Path) (size : ℕ) where
+  abbrev pub segment : ℕ
+  segment = uid_of_command s.store k (command.Truncate path size)
+
+  abbrev pub fs : List ℕ
+  fs = frames_of_owner s.owner
+
+  -- the pages that the job took have left their frames, or are back
+  abbrev pub all_left : Seen
+  all_left = leaves (seen s) (stays s.store size) fs
+
+  abbrev pub cut_store : Storage
+  cut_store = with_truncated s.store segment size
+
+  -- A truncation: the job has taken pages alone. The frames and the words are then as the chain of its entries has
+  -- them, but that
+  -- words of pages in no frame may be others; the places of the active segments and the descriptors are as before.
+  pub record CanTruncate : Type 0 where
+    pub done : IsDone all_left
+    pub cut : cut_of_owner s.owner ≡ []
+    pub bound : (g : ℕ) → binding_at (bindings cut_store.pages.core) g ≡ all_left.bound g
+    pub reads : (g : ℕ) → read_at (reads_of cut_store.pages.core) g ≡ (seen s).reads g
+    pub words : QuietWords all_left (λ w q. word_of cut_store.ast w q)
+    pub places : cut_store.ast.entries ≡ s.store.ast.entries
+    pub links : cut_store.links ≡ s.store.links
+    pub tell : CanTell (with_owner (effected s k (command.Truncate path size)) None) c (process_at s c) None
+        (reply_of s k (command.Truncate path size))
+    pub says : StoreSays (committed s c k (command.Truncate path size))
+
+  module _ (keeps : Keeps s) (can : CanTruncate) where
+    one : IsAlike (seen s) all_left
+    one = leaves_alike (seen s) (stays s.store size) fs
+
+    cut_book : KeepsBook (record all_left { words = λ w q. word_of cut_store.ast w q })
+    cut_book = quiet_keeps all_left (λ w q. word_of cut_store.ast w q) can.done.book can.words
+
+    over : KeepsBook (record all_left { words = λ w q. word_of cut_store.ast w q; owner = None })
+    over = job_over (record all_left { words = λ w q. word_of cut_store.ast w q }) None cut_book can.done.frames
+        can.done.cut can.done.none can.done.still
+        nobody refl
+
+    entries_are : s.entries ++ gone_entries s segment (command.Truncate path size) ≡ all_left.entries
+    entries_are = ap (λ (ds : List CutDescriptor). s.entries ++
+        (map (leaf_entry (stays s.store size)) fs ++ (map cut_entry ds ++ []))) can.cut
+        ∙ (ap (λ (es : List Entry). s.entries ++ es) (append_nil (map (leaf_entry (stays s.store size)) fs))
+        ∙ sym (leaves_entries (seen s) (stays s.store size) fs))
+
+    truncated_seen : seen (with_owner (effected s k (command.Truncate path size)) None)
+        ≡ record all_left { words = λ w q. word_of cut_store.ast w q; owner = None }
+    truncated_seen = λ i. record {
+      plan = sym one.plan i;
+      entries = entries_are i;
+      bound = λ g. can.bound g i;
+      reads = λ g. (can.reads g ∙ ap (λ (x : ℕ → Option (ℕ × ℕ)). x g) (sym one.reads)) i;
+      words = λ w q. word_of cut_store.ast w q;
+      active = λ u. (ap (λ (es : List (Option Segment)). list_any (is_for u) es) can.places
+          ∙ ap (λ (x : ℕ → Bool). x u) (sym one.active)) i;
+      linked = λ j n. ((λ t. led_to (can.places t) (descriptor_of (can.links t) j n))
+          ∙ ap (λ (x : ℕ → ℕ → Option ℕ). x j n) (sym one.linked)) i;
+      ready = sym one.ready i;
+      processors = sym one.processors i;
+      owner = None;
+      runs = sym one.runs i;
+    }
+
+    pub truncate_kept : Keeps (committed s c k (command.Truncate path size))
+    truncate_kept = kept_with (committed s c k (command.Truncate path size))
+        (told_keeps (with_owner (effected s k (command.Truncate path size)) None) c (process_at s c) None
+        (reply_of s k (command.Truncate path size))
+        (subst KeepsBook (sym truncated_seen) over) can.tell) can.says
+        (let a = faults_push (s.entries ++ gone_entries s segment (command.Truncate path size))
+        (entry.Do (process_at s c) (run_at s.runs (process_at s c)).place c None
+        (reply_of s k (command.Truncate path size))) in
+        let b = ap (count_by is_fault) entries_are in
+        let d = ap (count_by is_fault) (leaves_entries (seen s) (stays s.store size) fs) in
+        let e = leaves_faults s.entries (stays s.store size) fs in
+        let few = keeps.few_faults in omega (arith, a, b, d, e, few))
+        (length-set s.processors c _ ∙ keeps.sizes.processors)
+        (length-set s.runs (process_at s c) _ ∙ keeps.sizes.processes) (λ o h. absurd (none_some h))
