@@ -71,6 +71,7 @@ pub mod SeenLaws
 pub mod SharedSegment
 pub mod StepKept
 pub mod StepLaws
+pub mod TakeLists
 pub mod TakeSeen
 pub mod TellKept
 pub mod TieLaws

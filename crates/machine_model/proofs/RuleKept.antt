@@ -48,7 +48,7 @@ use Rattle.machine_model.specs.Refusal.{reply_of}
 use Rattle.machine_model.specs.Seen.{shown}
 use Rattle.machine_model.specs.State.{CutDescriptor, Owner, State}
 use Rattle.machine_model.specs.Steps.{page_created, page_made, started, transferred, with_faults, with_owner}
-use Rattle.machine_model.proofs.ActiveKept.{segs_are_gone}
+use Rattle.machine_model.proofs.ActiveKept.{IsOver, segs_are_gone}
 use Rattle.machine_model.proofs.ActiveSeen.{within_some}
 use Rattle.machine_model.proofs.ChainLaws.{IsDone, GoesOn, IsSteady, going_word, has_head}
 use Rattle.machine_model.proofs.CommitKept.{effected, idle_over, segs_over}
@@ -58,8 +58,15 @@ use Rattle.machine_model.proofs.FindLaws.{choice_bound, free_frame, position_non
 use Rattle.machine_model.proofs.LookLaws.{IsLook}
 use Rattle.machine_model.proofs.OwnedLaws.{IsIdle}
 use Rattle.machine_model.proofs.OwnerLaws.{looking_idle}
-use Rattle.machine_model.proofs.StepKept.{CanActivateAt, CanCommit, CanDo, CanEmpty, CanEmptyVictim, CanConnectTo}
+use Rattle.machine_model.proofs.StepKept.{CanTakeSegment, hand_kept, CanActivateAt, CanCommit, CanDo, CanEmpty}
+use Rattle.machine_model.proofs.StepKept.{CanConnectTo}
 use Rattle.machine_model.proofs.StepKept.{CanFailWrite, CanGoThrough, CanLose, CanReply, IsCommitted, IsMine}
+use Rattle.machine_model.proofs.TakeLists.{segment_takes}
+use Rattle.machine_model.specs.Jobs.{with_hand_moved}
+use Rattle.machine_model.specs.Reads.{frames_from, trailers_in}
+use Rattle.machine_model.specs.Steps.{with_store}
+use Rattle.std.proofs.lemmas.Bool.Decides.{eqb_tells}
+use Rattle.std.proofs.Common.{eqb}
 use Rattle.machine_model.proofs.TellKept.{CanTell}
 use Rattle.machine_model.proofs.TruncateKept.{QuietWords, all_left, cut_store, leaves, leaves_done, leaves_idle}
 use Rattle.machine_model.proofs.TookKept.{CanTook, Owns}
@@ -98,6 +105,19 @@ pub record AsksEmptied (s : State) (c u : ℕ) : Type 0 where
   pub may : MayDeactivate (flat_of (segs_gone s (cut_of_owner s.owner)))
       (shown (seen (segs_gone s (cut_of_owner s.owner)))) u
   pub says : StoreSays (emptied s c u)
+
+-- of a segment that is to be inactive: where nothing of it is here or connected it is so at once
+abbrev pub AsksSegment : State → ℕ → ℕ → List ℕ → List (ℕ × ℕ) → Type 0
+AsksSegment s c u [] [] = AsksEmptied s c u
+AsksSegment s c u [] (x ∷ xs) = StoreSays (took s c (aim.Deactivating u) (what.Seg u) [] (x ∷ xs))
+AsksSegment s c u (f ∷ fs) pairs = StoreSays (took s c (aim.Deactivating u) (what.Seg u) (f ∷ fs) pairs)
+
+abbrev pub AsksEmpty : State → ℕ → ℕ → Type 0
+AsksEmpty s c u = AsksSegment s c u (frames_from s.store.ast u 0) (trailers_in s.store u)
+
+pub record AsksVictim (s : State) (c pool : ℕ) (chain : List ℕ) (u : ℕ) : Type 0 where
+  pub says : StoreSays (with_store s (with_hand_moved s.store pool chain))
+  pub asks : AsksEmpty (with_store s (with_hand_moved s.store pool chain)) c u
 
 pub record AsksCommand (s : State) (c k : ℕ) (cmd : Command) : Type 0 where
   pub none : frames_of_owner s.owner ≡ []
@@ -154,8 +174,8 @@ Asks s c o (act.Connect n u) = CanConnectTo s c n u
 Asks s c o (act.Create f u p r) = AsksCreate s c f u p r
 Asks s c o (act.Start f u p) = StoreSays (started s c f u p)
 Asks s c o (act.Evict f) = StoreSays (eviction_begun s c f)
-Asks s c o (act.Empty u) = CanEmpty s c u
-Asks s c o (act.EmptyVictim pool chain u) = CanEmptyVictim s c pool chain u
+Asks s c o (act.Empty u) = AsksEmpty s c u
+Asks s c o (act.EmptyVictim pool chain u) = AsksVictim s c pool chain u
 Asks s c o (act.TakeAway fs pairs w) = AsksTake s c w fs pairs
 Asks s c o (act.FinishEviction f) = AsksFinish s c f o (eviction_done (with_faults s o.faults) c f)
 Asks s c o (act.FinishPage f) = AsksFinish s c f o (page_done (with_faults s o.faults) f)
@@ -224,6 +244,47 @@ commit_can s c k (Some cmd) book its next ready asks = record {
       (sym (ap or_zero its)) asks.tell;
   says = asks.says;
 }
+
+-- ---- a segment is taken
+
+-- the owner is this processor, at work
+mine_works : (s : State) (c : ℕ) → Keeps s → IsMine s c → IsAtWork (processor_at s.processors c)
+mine_works s c k m = subst (λ (d : ℕ). IsAtWork (processor_at s.processors d)) m.same (k.at_work m.owner m.mine)
+
+mine_owns : (s : State) (c : ℕ) → IsMine s c → Owns s c
+mine_owns s c m q h = ap (λ (x : Owner). x.cpu) (some_same q m.owner (sym h ∙ m.mine)) ∙ m.same
+  where
+    some_same : (x y : Owner) → Some x ≡ Some y → x ≡ y
+    some_same x y e = cc
+
+segment_can : (s : State) (c u : ℕ) (fs : List ℕ) (pairs : List (ℕ × ℕ)) → Keeps s → IsMine s c → IsIdle s.owner
+    → is_pending s.owner ≡ false
+    → CanTook s (aim.Deactivating u) (what.Seg u) fs pairs → AsksSegment s c u fs pairs → CanTakeSegment s c u fs pairs
+segment_can s c u [] [] k m idle still can asks = record {
+  owner = m;
+  over = subst (λ (ds : List CutDescriptor). IsOver (segs_gone s ds)) (sym idle.cut) (record {
+    book = k.book;
+    frames = idle.frames;
+    cut = idle.cut;
+    none = none_due (shown (seen s)) s.owner k.book.going_owned idle.waits;
+    still = still;
+  });
+  may = asks.may;
+  says = asks.says;
+}
+segment_can s c u [] (x ∷ xs) k m idle still can asks =
+    record { can = can; owns = mine_owns s c m; works = mine_works s c k m; says = asks }
+segment_can s c u (f ∷ fs) pairs k m idle still can asks =
+    record { can = can; owns = mine_owns s c m; works = mine_works s c k m; says = asks }
+
+empty_look : (s : State) (c u : ℕ) → Keeps s → IsMine s c → IsIdle s.owner → is_pending s.owner ≡ false
+    → AsksEmpty s c u → CanEmpty s c u
+empty_look s c u k m idle still asks = segment_can s c u (frames_from s.store.ast u 0)
+    (trailers_in s.store u) k m idle still
+    (segment_takes s (aim.Deactivating u) (what.Seg u) u 0 k idle own (λ gs cs. refl)) asks
+  where
+    own : eqb u u ≡ true
+    own = elim (eqb_tells u u) [ inl e ↦ e.0 | inr n ↦ absurd (n.1 refl) ]
 
 -- ---- the owner
 
@@ -329,8 +390,13 @@ module _ (s : State) (c : ℕ) (o : Outcome) (k : Keeps s) (there : c < length s
   }
   look_can (act.Evict f) h l asks = let bound = choice_bound s.store.pages.core f h in
       record { owner = l.owner; idle = look_idle l; page = bound.0; bound = bound.1; says = asks }
-  look_can (act.Empty u) h l asks = asks
-  look_can (act.EmptyVictim pool chain u) h l asks = asks
+  look_can (act.Empty u) h l asks = empty_look s c u k l.owner (look_idle l) (look_still l) asks
+  look_can (act.EmptyVictim pool chain u) h l asks = record {
+    says = asks.says;
+    can = empty_look (with_store s (with_hand_moved s.store pool chain)) c u (hand_kept s pool chain k asks.says)
+        (record { owner = l.owner.owner; mine = l.owner.mine; same = l.owner.same }) (look_idle l)
+        (look_still l) asks.asks;
+  }
   look_can (act.TakeAway fs pairs w) h l asks =
       record { can = asks.can; owns = owns_here l.owner; works = works_here l.owner; says = asks.says }
   look_can act.Commit h l asks = commit_can s c (process_at s c) (next_command s (process_at s c)) k.book

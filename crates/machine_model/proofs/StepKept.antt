@@ -319,7 +319,7 @@ hand_seen s pool chain = by (first_off_chain s.store.ast pool chain)
     by None = refl
     by (Some place) = refl
 
-hand_kept : (s : State) (pool : ℕ) (chain : List ℕ) → Keeps s
+pub hand_kept : (s : State) (pool : ℕ) (chain : List ℕ) → Keeps s
     → StoreSays (with_store s (with_hand_moved s.store pool chain))
     → Keeps (with_store s (with_hand_moved s.store pool chain))
 hand_kept s pool chain k says = kept_with (with_store s (with_hand_moved s.store pool chain))

@@ -1,0 +1,228 @@
+-- What a job takes of a segment: the pages of its table that are here, each in a frame of its own, and the descriptors
+-- of its
+-- trailers, each once.
+use Rattle.std.proofs.Common.{◌≡◌, ◌≤◌, ℕ, zero, suc, ◌+◌, Bool, true, false, ◌||◌, cond, eqb, count_by}
+use Rattle.std.proofs.Common.{List, [], ◌∷◌, drop, get_or, Option, Some, None, ◌⊎◌, inl, inr, refl, sym}
+use Rattle.std.proofs.Common.{ap, subst, ◌∙◌, arith}
+use Rattle.std.proofs.lemmas.Bool.Decides.{eqb_tells}
+use Rattle.std.proofs.lemmas.List.Folds.{list_any-append}
+use Rattle.std.proofs.lemmas.List.Sums.{sum_by-cons}
+use Rattle.assoc_mem.specs.declared.What.{What}
+use Rattle.assoc_mem.specs.declared.What.TheVariants as what
+use Rattle.page_table.specs.declared.Ptw.{Ptw}
+use Rattle.page_table.specs.declared.Ptw.TheVariants as ptw
+use Rattle.descriptor_seg.specs.declared.Sdw.{Sdw}
+use Rattle.descriptor_seg.specs.declared.Sdw.TheVariants as sdw
+use Rattle.active_segs.specs.Active.{uid_at}
+use Rattle.trailers.specs.Trailer.{leads_to as is_trailer, trailers_of}
+use Rattle.seg_control.specs.Control.{leads, leads_at, place_of, table_of}
+use Rattle.seg_control.specs.Kept.{times}
+use Rattle.custody_model.specs.Custody.{has, is_uid, names_frame, uid_of_page}
+use Rattle.machine_model.specs.declared.Aim.{Aim}
+use Rattle.machine_model.specs.Chains.{page_at, page_or_zero}
+use Rattle.machine_model.specs.Custodial.{AreDistinct, IsAimed, names}
+use Rattle.machine_model.specs.Holding.{led_to, seen}
+use Rattle.machine_model.specs.Keeps.{Keeps}
+use Rattle.machine_model.specs.Reads.{descriptor_of, frames_from, frames_in, here_in, is_active, trailers_in}
+use Rattle.machine_model.specs.Seen.{shown}
+use Rattle.machine_model.specs.State.{CutDescriptor, State}
+use Rattle.machine_model.proofs.ActiveSeen.{active_place}
+use Rattle.machine_model.proofs.ChainLaws.{CanTakeAll, bound_shown, names_uid}
+use Rattle.machine_model.proofs.OwnedLaws.{IsIdle}
+use Rattle.machine_model.proofs.OwnerLaws.{idle_names}
+use Rattle.machine_model.proofs.TieLaws.{none_some, page_is}
+use Rattle.machine_model.proofs.TookKept.{ArePairs, CanTook, has_pair}
+
+-- ---- pages
+
+or_cases : (a b : Bool) → (a || b) ≡ true → (a ≡ true) ⊎ (b ≡ true)
+or_cases true b h = inl refl
+or_cases false b h = inr h
+
+-- a word that is here
+here_word : (w : Ptw) (f : ℕ) → has (here_in w) f ≡ true → w ≡ ptw.Here f
+here_word ptw.Null f h = absurd (let no : false ≡ true = h in cc)
+here_word (ptw.Out r) f h = absurd (let no : false ≡ true = h in cc)
+here_word (ptw.Leaving g) f h = absurd (let no : false ≡ true = h in cc)
+here_word (ptw.Here g) f h = elim (eqb_tells g f) [
+  | inl e ↦ ap (λ (x : ℕ). ptw.Here x) e.1
+  | inr n ↦ absurd (let no : true ≡ false = sym h ∙ ap (λ (b : Bool). b || false) n.0 in cc)
+]
+
+-- each frame of the list has a word
+frame_word : (ws : List Ptw) (f : ℕ) → has (frames_in ws) f ≡ true → (q : ℕ) × (get_or ws q ptw.Null ≡ ptw.Here f)
+frame_word [] f h = absurd (let no : false ≡ true = h in cc)
+frame_word (w ∷ ws) f h = by (or_cases (has (here_in w) f) (has (frames_in ws) f)
+    (sym (list_any-append (λ y. eqb y f) (here_in w) (frames_in ws)) ∙ h))
+    (frame_word ws f)
+  where
+    by : (has (here_in w) f ≡ true) ⊎ (has (frames_in ws) f ≡ true)
+        → (has (frames_in ws) f ≡ true → (q : ℕ) × (get_or ws q ptw.Null ≡ ptw.Here f))
+        → (q : ℕ) × (get_or (w ∷ ws) q ptw.Null ≡ ptw.Here f)
+    by (inl e) rest = (zero, here_word w f e)
+    by (inr e) rest = let at = rest e in (suc at.0, at.1)
+
+-- where no two words are of one frame, each frame is listed once
+frames_once : (ws : List Ptw) → ((q r f : ℕ) → get_or ws q ptw.Null ≡ ptw.Here f → get_or ws r ptw.Null ≡ ptw.Here f
+    → q ≡ r) → AreDistinct (frames_in ws)
+frames_once [] one = tt
+frames_once (ptw.Null ∷ ws) one = frames_once ws
+    (λ q r f a b. (let s = one (suc q) (suc r) f a b in let same : q ≡ r = cc in same))
+frames_once (ptw.Out x ∷ ws) one = frames_once ws
+    (λ q r f a b. (let s = one (suc q) (suc r) f a b in let same : q ≡ r = cc in same))
+frames_once (ptw.Leaving x ∷ ws) one = frames_once ws
+    (λ q r f a b. (let s = one (suc q) (suc r) f a b in let same : q ≡ r = cc in same))
+frames_once (ptw.Here g ∷ ws) one = (
+  by (has (frames_in ws) g) refl,
+  frames_once ws (λ q r f a b. (let s = one (suc q) (suc r) f a b in let same : q ≡ r = cc in same)),
+)
+  where
+    by : (b : Bool) → has (frames_in ws) g ≡ b → b ≡ false
+    by false e = refl
+    by true e = let at = frame_word ws g e in
+        absurd (let no : zero ≡ suc at.0 = one zero (suc at.0) g refl at.1 in omega (arith, no))
+
+-- the word of a page from a number on
+dropped_word : (ws : List Ptw) (low q : ℕ) → get_or (drop low ws) q ptw.Null ≡ get_or ws (low + q) ptw.Null
+dropped_word ws zero q = let same : q ≡ 0 + q = omega arith in ap (λ (i : ℕ). get_or ws i ptw.Null) same
+dropped_word [] (suc low) q = refl
+dropped_word (w ∷ ws) (suc low) q = dropped_word ws low q
+    ∙ (let same : suc (low + q) ≡ suc low + q = omega arith in ap (λ (i : ℕ). get_or (w ∷ ws) i ptw.Null) same)
+
+-- the frames of a segment's pages from a number on may be taken
+pub pages_taken : (s : State) (a : Aim) (w : What) (u low : ℕ) → Keeps s → IsIdle s.owner → names_uid w u ≡ true
+    → ((gs : List ℕ) (cs : List CutDescriptor) → IsAimed a w gs cs)
+    → CanTakeAll (seen s) a w (frames_from s.store.ast u low)
+pages_taken s a w u low k idle named aimed = record {
+  here = λ f h. (let at = word_at f h in subst
+      (λ (x : Option (ℕ × ℕ)). (seen s).words (page_or_zero x).0 (page_or_zero x).1 ≡ ptw.Here f)
+      (sym (bound_at f h)) at.1);
+  once = frames_once (drop low (table_of s.store.ast u)) (λ q r f a b. once q r f a b);
+  named = λ f h. frame_named w named f h;
+  others = idle_names (shown (seen s)) s.owner w k.book.going_owned idle.frames idle.cut;
+  still = idle.waits;
+  aimed = aimed;
+}
+  where
+    word_at : (f : ℕ) → has (frames_from s.store.ast u low) f ≡ true → (p : ℕ) × ((seen s).words u p ≡ ptw.Here f)
+    word_at f h = let at = frame_word (drop low (table_of s.store.ast u)) f h in
+        (low + at.0, sym (dropped_word (table_of s.store.ast u) low at.0) ∙ at.1)
+
+    bound_at : (f : ℕ) (h : has (frames_from s.store.ast u low) f ≡ true) → (seen s).bound f ≡ Some (u, (word_at f h).0)
+    bound_at f h = k.book.tied.back f u (word_at f h).0 (ap names (word_at f h).1)
+
+    once : (q r f : ℕ) → get_or (drop low (table_of s.store.ast u)) q ptw.Null ≡ ptw.Here f
+        → get_or (drop low (table_of s.store.ast u)) r ptw.Null ≡ ptw.Here f → q ≡ r
+    once q r f a b = let one = k.book.tied.back f u (low + q)
+        (ap names (sym (dropped_word (table_of s.store.ast u) low q) ∙ a)) in
+        let two = k.book.tied.back f u (low + r) (ap names (sym (dropped_word (table_of s.store.ast u) low r) ∙ b)) in
+        let same = (page_is u (low + q) u (low + r) (sym one ∙ two)).1 in omega (arith, same)
+
+    own : (n : ℕ) → eqb n n ≡ true
+    own n = elim (eqb_tells n n) [ inl e ↦ e.0 | inr m ↦ absurd (m.1 refl) ]
+
+    frame_named : (x : What) → names_uid x u ≡ true → (f : ℕ) → has (frames_from s.store.ast u low) f ≡ true
+        → names_frame (shown (seen s)) x f ≡ true
+    frame_named what.All e f h = refl
+    frame_named (what.Page g) e f h = absurd (let no : false ≡ true = e in cc)
+    frame_named (what.Seg v) e f h = ap (λ (o : Option (ℕ × ℕ)). is_uid v (uid_of_page o))
+        (bound_shown (seen s) f ∙ bound_at f h) ∙ e
+
+pub pages_bound : (s : State) (u low : ℕ) → Keeps s → (f : ℕ) → has (frames_from s.store.ast u low) f ≡ true
+    → (seen s).bound f ≡ Some (page_at (seen s) f)
+pages_bound s u low k f h = is ∙ ap (λ (x : Option (ℕ × ℕ)). Some (page_or_zero x)) (sym is)
+  where
+    at : (q : ℕ) × (get_or (drop low (table_of s.store.ast u)) q ptw.Null ≡ ptw.Here f)
+    at = frame_word (drop low (table_of s.store.ast u)) f h
+
+    is : (seen s).bound f ≡ Some (u, low + at.0)
+    is = k.book.tied.back f u (low + at.0) (ap names (sym (dropped_word (table_of s.store.ast u) low at.0) ∙ at.1))
+
+-- ---- descriptors
+
+abbrev tally : Bool → ℕ
+tally b = cond b 1 0
+
+time_one : (o : Option ℕ) (place : ℕ) → 1 ≤ times o place → o ≡ Some place
+time_one None place h = absurd (omega (arith, h))
+time_one (Some x) place h = elim (eqb_tells x place) [
+  | inl e ↦ ap (λ (y : ℕ). Some y) e.1
+  | inr n ↦ absurd (let none : times (Some x) place ≡ 0 = ap (λ (b : Bool). cond b 1 0) n.0 in omega (arith, none, h))
+]
+
+times_few : (o : Option ℕ) (place : ℕ) → times o place ≤ 1
+times_few None place = omega arith
+times_few (Some x) place = by (eqb x place)
+  where
+    by : (b : Bool) → cond b 1 0 ≤ 1
+    by true = omega arith
+    by false = omega arith
+
+no_pair : (xs : List (ℕ × ℕ)) (k n : ℕ) → count_by (is_trailer k n) xs ≤ 0 → has_pair xs k n ≡ false
+no_pair [] k n h = refl
+no_pair (x ∷ xs) k n h = by (is_trailer k n x) refl (no_pair xs k n)
+  where
+    sum : count_by (is_trailer k n) (x ∷ xs) ≡ tally (is_trailer k n x) + count_by (is_trailer k n) xs
+    sum = sum_by-cons (λ y. tally (is_trailer k n y)) x xs
+
+    by : (b : Bool) → is_trailer k n x ≡ b → (count_by (is_trailer k n) xs ≤ 0 → has_pair xs k n ≡ false)
+        → (b || has_pair xs k n) ≡ false
+    by true e rest = absurd (let one : tally (is_trailer k n x) ≡ 1 = ap tally e in let all = sum in
+        omega (arith, one, all, h))
+    by false e rest = rest (let all = sum in omega (arith, all, h))
+
+own_trailer : (x : ℕ × ℕ) → is_trailer x.0 x.1 x ≡ true
+own_trailer x = rw (own x.0, own x.1) refl
+  where
+    own : (n : ℕ) → eqb n n ≡ true
+    own n = elim (eqb_tells n n) [ inl e ↦ e.0 | inr m ↦ absurd (m.1 refl) ]
+
+-- descriptors that are each counted at most as often as they lead to a place lead there, and are each listed once
+pairs_of : (s : State) (w : What) (u place : ℕ) → uid_at s.store.ast.entries place ≡ Some u → names_uid w u ≡ true
+    → (xs : List (ℕ × ℕ))
+    → ((k n : ℕ) → count_by (is_trailer k n) xs ≤ times (leads_at s.store.links.descriptors k n) place)
+    → ArePairs (seen s).linked w xs
+pairs_of s w u place active named [] few = tt
+pairs_of s w u place active named (x ∷ xs) few = (
+  (u, linked (descriptor_of s.store.links x.0 x.1) refl, named),
+  no_pair xs x.0 x.1 (let a = few x.0 x.1 in let b = times_few (leads_at s.store.links.descriptors x.0 x.1) place in
+      let c = sum x.0 x.1 in let d = one in
+      omega (arith, a, b, c, d)),
+  pairs_of s w u place active named xs (λ k n. (let a = few k n in let c = sum k n in omega (arith, a, c))),
+)
+  where
+    sum : (k n : ℕ) → count_by (is_trailer k n) (x ∷ xs) ≡ tally (is_trailer k n x) + count_by (is_trailer k n) xs
+    sum k n = sum_by-cons (λ y. tally (is_trailer k n y)) x xs
+
+    one : tally (is_trailer x.0 x.1 x) ≡ 1
+    one = ap tally (own_trailer x)
+
+    leads_there : leads_at s.store.links.descriptors x.0 x.1 ≡ Some place
+    leads_there = time_one (leads_at s.store.links.descriptors x.0 x.1) place
+        (let a = few x.0 x.1 in let c = sum x.0 x.1 in let d = one in omega (arith, a, c, d))
+
+    linked : (y : Sdw) → descriptor_of s.store.links x.0 x.1 ≡ y → led_to s.store.ast.entries y ≡ Some u
+    linked sdw.Fault e = absurd (none_some (sym (ap leads e) ∙ leads_there))
+    linked (sdw.Present aste m pages) e = let same : Some aste ≡ Some place = sym (ap leads e) ∙ leads_there in
+        let is : aste ≡ place = cc in ap (uid_at s.store.ast.entries) is ∙ active
+
+pub trailers_taken : (s : State) (w : What) (u : ℕ) → Keeps s → names_uid w u ≡ true
+    → ArePairs (seen s).linked w (trailers_in s.store u)
+trailers_taken s w u k named = by (is_active s.store.ast u) refl
+  where
+    by : (b : Bool) → is_active s.store.ast u ≡ b
+        → ArePairs (seen s).linked w (cond b (trailers_of s.store.links.trailers (place_of s.store.ast.entries u)) [])
+    by false e = tt
+    by true e = pairs_of s w u (place_of s.store.ast.entries u) (active_place s.store.ast u e).1 named
+        (trailers_of s.store.links.trailers (place_of s.store.ast.entries u))
+        (λ j n. (let exact = k.store.kept.linked.exact (place_of s.store.ast.entries u) j n in omega (arith, exact)))
+
+-- What a job takes of a segment: its pages that are here, from a number on, and its descriptors.
+pub segment_takes : (s : State) (a : Aim) (w : What) (u low : ℕ) → Keeps s → IsIdle s.owner → names_uid w u ≡ true
+    → ((gs : List ℕ) (cs : List CutDescriptor) → IsAimed a w gs cs)
+    → CanTook s a w (frames_from s.store.ast u low) (trailers_in s.store u)
+segment_takes s a w u low k idle named aimed = record {
+  pages = pages_taken s a w u low k idle named aimed;
+  bound = pages_bound s u low k;
+  pairs_are = trailers_taken s w u k named;
+}
