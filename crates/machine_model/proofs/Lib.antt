@@ -85,4 +85,5 @@ pub mod TwoTransfers
 pub mod Victims
 pub mod VisitKept
 pub mod WaitForTransfer
+pub mod WholeLaws
 pub mod WordLaws

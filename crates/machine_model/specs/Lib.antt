@@ -23,3 +23,4 @@ pub mod Shutdown
 pub mod State
 pub mod Steps
 pub mod Turns
+pub mod Whole

@@ -1,0 +1,138 @@
+-- What was taken whole stays so, entry by entry; and what of it is no more to go is gone.
+use Rattle.std.proofs.Common.{◌≡◌, ◌≢◌, ℕ, true, false, List, [], Option, Some, None, refl, sym, ap, subst, ◌∙◌}
+use Rattle.script.specs.Plans.{Plan}
+use Rattle.book.specs.declared.entries.Entry.{Entry}
+use Rattle.book.specs.declared.entries.Entry.TheVariants as entry
+use Rattle.flat_model.specs.Store.{Store}
+use Rattle.custody_model.specs.declared.DescriptorUse.{DescriptorUse}
+use Rattle.custody_model.specs.declared.DescriptorUse.TheVariants as descriptor
+use Rattle.custody_model.specs.declared.FrameUse.{FrameUse}
+use Rattle.custody_model.specs.declared.FrameUse.TheVariants as frame
+use Rattle.custody_model.specs.Custody.{Custody, cut, has, is_going_descriptor, is_going_frame, leads_to, page_of}
+use Rattle.custody_model.specs.Custody.{taken, uid_of_page}
+use Rattle.custody_model.specs.Effects.{HasNoDescriptor, HasNoPage}
+use Rattle.custody_model.specs.Next.{custody_next, with_descriptor, with_frame}
+use Rattle.machine_model.specs.Custodial.{IsOwned, has_cut}
+use Rattle.machine_model.specs.Holding.{holding}
+use Rattle.machine_model.specs.Reads.{cut_of_owner, frames_of_owner}
+use Rattle.machine_model.specs.State.{CutDescriptor, Owner, State}
+use Rattle.machine_model.specs.Whole.{IsWhole, Spares, TakenWhole, going_for}
+use Rattle.machine_model.proofs.Places.{by_place, by_places}
+use Rattle.machine_model.proofs.TieLaws.{none_some}
+
+-- one frame is used otherwise: for nothing of the segment, or for what is going
+frame_whole : (c : Custody) (u f : ℕ) (x : FrameUse) → IsWhole c u
+    → (uid_of_page (page_of x) ≡ Some u → is_going_frame x ≡ true)
+    → IsWhole (with_frame c f x) u
+frame_whole c u f x w new = record {
+  pages = λ g. by_place (λ (y : FrameUse). uid_of_page (page_of y) ≡ Some u → is_going_frame y ≡ true) c.frame f x g
+      (λ e. new) (λ n. w.pages g);
+  descriptors = w.descriptors;
+}
+
+descriptor_whole : (c : Custody) (u k n : ℕ) (x : DescriptorUse) → IsWhole c u
+    → (leads_to x ≡ Some u → is_going_descriptor x ≡ true)
+    → IsWhole (with_descriptor c k n x) u
+descriptor_whole c u k n x w new = record {
+  pages = w.pages;
+  descriptors = λ i j. by_places (λ (y : DescriptorUse). leads_to y ≡ Some u
+      → is_going_descriptor y ≡ true) c.descriptor k n x i j
+      (λ a b. new) (λ m. w.descriptors i j);
+}
+
+taken_whole : (x : FrameUse) (u : ℕ) → (uid_of_page (page_of x) ≡ Some u → is_going_frame x ≡ true)
+    → uid_of_page (page_of (taken x)) ≡ Some u
+    → is_going_frame (taken x) ≡ true
+taken_whole frame.Free u w h = w h
+taken_whole (frame.Started v q) u w h = w h
+taken_whole (frame.Current v q) u w h = refl
+taken_whole (frame.Going v q) u w h = refl
+
+cut_whole : (x : DescriptorUse) (u : ℕ) → (leads_to x ≡ Some u → is_going_descriptor x ≡ true)
+    → leads_to (cut x) ≡ Some u → is_going_descriptor (cut x) ≡ true
+cut_whole descriptor.Free u w h = w h
+cut_whole (descriptor.Current v) u w h = refl
+cut_whole (descriptor.Going v) u w h = refl
+
+some_same : (v u : ℕ) → Some v ≡ Some u → v ≡ u
+some_same v u h = cc
+
+-- only seats, the ready list or what is active changes
+seat_whole : (c e : Custody) (u : ℕ) → e.frame ≡ c.frame → e.descriptor ≡ c.descriptor → IsWhole c u → IsWhole e u
+seat_whole c e u f d w = record {
+  pages = subst (λ (x : ℕ → FrameUse). (g : ℕ) → uid_of_page (page_of (x g)) ≡ Some u → is_going_frame (x g) ≡ true)
+      (sym f) w.pages;
+  descriptors = subst (λ (x : ℕ → ℕ → DescriptorUse). (k n : ℕ) → leads_to (x k n) ≡ Some u
+      → is_going_descriptor (x k n) ≡ true) (sym d) w.descriptors;
+}
+
+-- An entry that spares the segment leaves it whole.
+pub whole_next : (p : Plan) (s : Store) (c : Custody) (u : ℕ) (e : Entry) → IsWhole c u → Spares u e
+    → IsWhole (custody_next p s c e) u
+unfolding custody_next
+whole_next p s c u (entry.Do k i d f r) w h = seat_whole c (custody_next p s c (entry.Do k i d f r)) u refl refl w
+whole_next p s c u (entry.Release v q) w h = w
+whole_next p s c u (entry.Fault k) w h = w
+whole_next p s c u (entry.Online d) w h = seat_whole c (custody_next p s c (entry.Online d)) u refl refl w
+whole_next p s c u (entry.Load d k) w h = seat_whole c (custody_next p s c (entry.Load d k)) u refl refl w
+whole_next p s c u (entry.Leave d) w h = seat_whole c (custody_next p s c (entry.Leave d)) u refl refl w
+whole_next p s c u (entry.Activate v) w h = seat_whole c (custody_next p s c (entry.Activate v)) u refl refl w
+whole_next p s c u (entry.Deactivate v) w h = seat_whole c (custody_next p s c (entry.Deactivate v)) u refl refl w
+whole_next p s c u (entry.Start f v q) w h = frame_whole c u f (frame.Started v q) w (λ e. absurd (h (some_same v u e)))
+whole_next p s c u (entry.Lose f) w h = frame_whole c u f frame.Free w (λ e. absurd (none_some e))
+whole_next p s c u (entry.Here f v q) w h = frame_whole c u f (frame.Current v q) w (λ e. absurd (h (some_same v u e)))
+whole_next p s c u (entry.Connect k n v) w h =
+    descriptor_whole c u k n (descriptor.Current v) w (λ e. absurd (h (some_same v u e)))
+whole_next p s c u (entry.Take f) w h = frame_whole c u f (taken (c.frame f)) w (taken_whole (c.frame f) u (w.pages f))
+whole_next p s c u (entry.Cut k n) w h = descriptor_whole c u k n (cut (c.descriptor k n)) w
+    (cut_whole (c.descriptor k n) u (w.descriptors k n))
+whole_next p s c u (entry.Signal d x) w h = seat_whole c (custody_next p s c (entry.Signal d x)) u refl refl w
+whole_next p s c u (entry.Clear d x) w h = seat_whole c (custody_next p s c (entry.Clear d x)) u refl refl w
+whole_next p s c u (entry.FillSeg d n) w h = seat_whole c (custody_next p s c (entry.FillSeg d n)) u refl refl w
+whole_next p s c u (entry.FillPage d f) w h = seat_whole c (custody_next p s c (entry.FillPage d f)) u refl refl w
+whole_next p s c u (entry.GonePage f) w h = frame_whole c u f frame.Free w (λ e. absurd (none_some e))
+whole_next p s c u (entry.BackPage f) w h = absurd h
+whole_next p s c u (entry.GoneSeg k n) w h = descriptor_whole c u k n descriptor.Free w (λ e. absurd (none_some e))
+whole_next p s c u (entry.BackSeg k n) w h = absurd h
+
+-- a page that is being read spares a segment that is whole
+pub started_spares : (c : Custody) (u f v q : ℕ) → IsWhole c u → c.frame f ≡ frame.Started v q → v ≢ u
+started_spares c u f v q w started same = let going =
+    w.pages f (ap (λ (x : FrameUse). uid_of_page (page_of x)) started ∙ ap (λ (x : ℕ). Some x) same) in
+    let no : false ≡ true = sym (ap is_going_frame started) ∙ going in cc
+
+-- ---- nothing is left
+
+-- what goes of a segment that is whole is what the owner has taken: once that is gone, nothing of it is left
+pub no_page_left : (c : Custody) (o : Option Owner) (u : ℕ) → IsOwned c o → IsWhole c u → frames_of_owner o ≡ []
+    → HasNoPage c u
+no_page_left c o u k w none f h = let no : false ≡ true =
+    sym (k.frames f ∙ ap (λ (fs : List ℕ). has fs f) none) ∙ w.pages f h in cc
+
+pub no_descriptor_left : (c : Custody) (o : Option Owner) (u : ℕ) → IsOwned c o → IsWhole c u → cut_of_owner o ≡ []
+    → HasNoDescriptor c u
+no_descriptor_left c o u k w none j n h = let no : false ≡ true =
+    sym (k.cuts j n ∙ ap (λ (ds : List CutDescriptor). has_cut ds j n) none)
+    ∙ w.descriptors j n h in cc
+
+-- ---- steps
+
+-- One entry more of a machine whose owner, if it still makes a segment inactive, made it inactive before.
+pub whole_step : (s now : State) (p : Plan) (t : Store) (e : Entry) → TakenWhole s
+    → holding now ≡ custody_next p t (holding s) e
+    → ((u : ℕ) → going_for now.owner ≡ Some u → (going_for s.owner ≡ Some u) × Spares u e) → TakenWhole now
+whole_step s now p t e was next spares = record {
+  whole = λ u h. (let both = spares u h in subst (λ (c : Custody). IsWhole c u) (sym next)
+      (whole_next p t (holding s) u e (was.whole u both.0) both.1));
+}
+
+-- where the owner makes no segment inactive, there is nothing to say
+pub whole_idle : (now : State) → going_for now.owner ≡ None → TakenWhole now
+whole_idle now none = record { whole = λ u h. absurd (none_some (sym none ∙ h)) }
+
+-- where custody sees the same, and the owner is after the same
+pub whole_same : (s now : State) → TakenWhole s → holding now ≡ holding s → going_for now.owner ≡ going_for s.owner
+    → TakenWhole now
+whole_same s now was same owner = record {
+  whole = λ u h. subst (λ (c : Custody). IsWhole c u) (sym same) (was.whole u (sym owner ∙ h));
+}
