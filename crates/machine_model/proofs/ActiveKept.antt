@@ -84,7 +84,7 @@ connect_kept s c n u k can outer inner active says = kept_with (connected_to s c
 
 -- ---- a segment is active no more
 
-segs_gone_rest : (s : State) (ds : List CutDescriptor)
+pub segs_gone_rest : (s : State) (ds : List CutDescriptor)
     → ((segs_gone s ds).processors ≡ s.processors) × ((segs_gone s ds).runs ≡ s.runs)
     × ((segs_gone s ds).plan ≡ s.plan) × ((segs_gone s ds).faults ≡ s.faults) × ((segs_gone s ds).store ≡ s.store)
 segs_gone_rest s [] = (refl, refl, refl, refl, refl)

@@ -85,5 +85,6 @@ pub mod TwoTransfers
 pub mod Victims
 pub mod VisitKept
 pub mod WaitForTransfer
+pub mod WholeKept
 pub mod WholeLaws
 pub mod WordLaws

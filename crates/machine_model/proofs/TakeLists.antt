@@ -50,7 +50,7 @@ here_word (ptw.Here g) f h = elim (eqb_tells g f) [
 ]
 
 -- each frame of the list has a word
-frame_word : (ws : List Ptw) (f : ℕ) → has (frames_in ws) f ≡ true → (q : ℕ) × (get_or ws q ptw.Null ≡ ptw.Here f)
+pub frame_word : (ws : List Ptw) (f : ℕ) → has (frames_in ws) f ≡ true → (q : ℕ) × (get_or ws q ptw.Null ≡ ptw.Here f)
 frame_word [] f h = absurd (let no : false ≡ true = h in cc)
 frame_word (w ∷ ws) f h = by (or_cases (has (here_in w) f) (has (frames_in ws) f)
     (sym (list_any-append (λ y. eqb y f) (here_in w) (frames_in ws)) ∙ h))

@@ -57,7 +57,7 @@ or_parts : (a b : Bool) → (a || b) ≡ false → (a ≡ false) × (b ≡ false
 or_parts false b h = (refl, h)
 or_parts true b h = absurd (let no : true ≡ false = h in cc)
 
-pairs_kept : (linked : ℕ → ℕ → Option ℕ) (w : What) (k n : ℕ) (xs : List (ℕ × ℕ)) → has_pair xs k n ≡ false
+pub pairs_kept : (linked : ℕ → ℕ → Option ℕ) (w : What) (k n : ℕ) (xs : List (ℕ × ℕ)) → has_pair xs k n ≡ false
     → ArePairs linked w xs
     → ArePairs (at_put_two linked k n None) w xs
 pairs_kept linked w k n [] none are = tt
@@ -74,7 +74,7 @@ pairs_kept linked w k n (x ∷ xs) none are = (
 )
 
 -- what is remembered of a descriptor that leads to a segment
-note_is : (s : State) (k n u : ℕ) (x : Sdw) → led_to s.store.ast.entries x ≡ Some u
+pub note_is : (s : State) (k n u : ℕ) (x : Sdw) → led_to s.store.ast.entries x ≡ Some u
     → ((note_of s.store k n x).process ≡ k) × ((note_of s.store k n x).number ≡ n) × ((note_of s.store k n x).uid ≡ u)
 note_is s k n u sdw.Fault h = absurd (none_some h)
 note_is s k n u (sdw.Present aste m pages) h = (refl, refl, ap or_zero h)
