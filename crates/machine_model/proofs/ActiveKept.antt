@@ -1,6 +1,5 @@
 -- The machine keeps its promise where a segment becomes active, is connected, or is active no more, where a page is
--- made, and
--- where a word is reached through a frame.
+-- made, and where a word is reached through a frame.
 use Rattle.std.proofs.Common.{◌≡◌, ◌≢◌, ◌<◌, ℕ, ◌%◌, Bool, true, false, cond, count_by, List, [], ◌∷◌, ◌++◌, length}
 use Rattle.std.proofs.Common.{Option, Some, None, refl, sym, ap, subst, ◌∙◌, arith}
 use Rattle.std.proofs.lemmas.List.{length-set}

@@ -1,6 +1,5 @@
 -- The machine keeps its promise where a `delete` takes effect: the pages of the node have left their frames, its
--- descriptors are
--- gone, and it is active no more.
+-- descriptors are gone, and it is active no more.
 use Rattle.std.proofs.Common.{◌≡◌, ◌≢◌, ◌<◌, ℕ, Bool, true, false, cond, if◌then◌else◌, count_by, List, [], ◌∷◌, ◌++◌}
 use Rattle.std.proofs.Common.{map, length, Option, Some, None, refl, sym, ap, subst, ◌∙◌, arith}
 use Rattle.std.proofs.lemmas.List.{length-set}

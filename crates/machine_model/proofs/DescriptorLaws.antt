@@ -138,8 +138,7 @@ cut_keeps v c aim w d k can = book_next v (entry.Cut d.process d.number) (cut v 
 -- ---- gone, or back
 
 -- A descriptor is on its way out, every processor has cleared, and the owner goes on without its first descriptor,
--- which this
--- is.
+-- which this is.
 pub record CanFinishSeg (v : Seen) (d : CutDescriptor) (owner : Option Owner) : Type 0 where
   pub none : NoneDue (shown v)
   pub still : is_pending v.owner ≡ false

@@ -1,6 +1,5 @@
 -- What processors hold agrees with frames and descriptors, where an entry is filled in or dropped, and where a frame or
--- a
--- descriptor that nobody holds is used otherwise.
+-- a descriptor that nobody holds is used otherwise.
 use Rattle.std.proofs.Common.{◌≡◌, ◌≢◌, ℕ, suc, ◌+◌, ◌≤◌, Bool, true, false, cond, ◌||◌, eqb, leb, List, [], ◌∷◌, ◌++◌}
 use Rattle.std.proofs.Common.{map, filter, length, drop, Option, Some, None, inl, inr, refl, sym, ap, subst, ◌∙◌, arith}
 use Rattle.std.proofs.lemmas.Bool.Decides.{eqb_tells, nat_tests}

@@ -1,6 +1,5 @@
 -- The machine keeps its promise through the phases of a job: a page is evicted, a segment's pages and descriptors are
--- taken, the
--- signal is given, and what was taken goes, or comes back where a drive failed.
+-- taken, the signal is given, and what was taken goes, or comes back where a drive failed.
 use Rattle.std.proofs.Common.{◌≡◌, ℕ, zero, suc, ◌+◌, Bool, true, false, cond, eqb, List, [], ◌∷◌, ◌++◌, map, length}
 use Rattle.std.proofs.Common.{set, Option, Some, None, inl, inr, refl, sym, ap, subst, ◌∙◌, arith}
 use Rattle.std.proofs.lemmas.Bool.Decides.{eqb_tells}

@@ -32,8 +32,7 @@ use Rattle.machine_model.specs.Refusal.{outside_refusal, refusal_of, room_refusa
 use Rattle.machine_model.specs.State.{State}
 
 -- An action that a look may come to. A page is read into the least free frame where it is read into none, and made in
--- it where
--- it has no record; the clock's choice is evicted; a segment that isn't active takes a free place.
+-- it where it has no record; the clock's choice is evicted; a segment that isn't active takes a free place.
 abbrev pub IsLook : State → act.Action → Type 0
 IsLook s (act.Waits why) = Unit {0}
 IsLook s (act.Answer r) = Unit {0}

@@ -1,6 +1,5 @@
 -- Each step of each processor keeps the machine's promise: along the rules in their order, what an action asks follows
--- from
--- the promise, but for what the store says and for what the flat store answers.
+-- from the promise, but for what the store says and for what the flat store answers.
 use Rattle.std.proofs.Common.{◌≡◌, ◌<◌, ◌≤◌, ℕ, Bool, true, false, is_some, List, [], ◌∷◌, ◌++◌, map, length, position}
 use Rattle.std.proofs.Common.{Option, Some, None, refl, sym, ap, subst, ◌∙◌}
 use Rattle.assoc_mem.specs.declared.What.{What}
@@ -162,8 +161,7 @@ AsksCommit s c k (Some (command.Delete path)) = AsksDelete s c k path ⊎ AsksDe
 AsksCommit s c k (Some cmd) = AsksCommand s c k cmd
 
 -- What the store says of the machine after an action, and what the flat store and custody say of an answer. A reference
--- by
--- itself, a load, a signal and the like ask nothing.
+-- by itself, a load, a signal and the like ask nothing.
 abbrev pub Asks : State → ℕ → Outcome → act.Action → Type 0
 Asks s c o (act.EndTransfer t) = AsksEnd s c t o
 Asks s c o (act.Through f r) = CanGoThrough s c f r

@@ -1,6 +1,5 @@
 -- Each step of each processor keeps the machine's promise: along the rules in their order, what an action asks follows
--- from the
--- promise, but for what the store says and for what the flat store answers.
+-- from the promise, but for what the store says and for what the flat store answers.
 use Rattle.std.proofs.Common.{◌≡◌, ◌≢◌, ◌<◌, ℕ, ◌/◌, ◌*◌, Bool, true, false, not, ◌&&◌, ◌||◌, ◌==◌, cond, eqb, is_some}
 use Rattle.std.proofs.Common.{List, [], ◌∷◌, length, position, Option, Some, None, inl, inr, refl, sym, ap, subst, ◌∙◌}
 use Rattle.std.specs.Prelude.{IsSomeAnd, nat_le, option_map}

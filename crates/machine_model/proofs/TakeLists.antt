@@ -1,6 +1,5 @@
 -- What a job takes of a segment: the pages of its table that are here, each in a frame of its own, and the descriptors
--- of its
--- trailers, each once.
+-- of its trailers, each once.
 use Rattle.std.proofs.Common.{◌≡◌, ◌≤◌, ℕ, zero, suc, ◌+◌, Bool, true, false, ◌||◌, cond, eqb, count_by}
 use Rattle.std.proofs.Common.{List, [], ◌∷◌, drop, get_or, Option, Some, None, ◌⊎◌, inl, inr, refl, sym}
 use Rattle.std.proofs.Common.{ap, subst, ◌∙◌, arith}

@@ -1,6 +1,5 @@
 -- The machine keeps its promise where a `truncate` takes effect: the pages that are cut off have left their frames, and
--- a page
--- that keeps a word is here again.
+-- a page that keeps a word is here again.
 use Rattle.std.proofs.Common.{◌≡◌, ◌≢◌, ℕ, Bool, true, false, if◌then◌else◌, count_by}
 use Rattle.std.proofs.Common.{List, [], ◌∷◌, ◌++◌, map, Option, Some, None, ◌⊎◌, inl, inr, refl, sym, ap, subst}
 use Rattle.std.proofs.Common.{◌∙◌, arith}
@@ -248,8 +247,8 @@ module _ (s : State) (c k : ℕ) (path : Path) (size : ℕ) where
   cut_store = with_truncated s.store segment size
 
   -- A truncation: the job has taken pages alone. The frames and the words are then as the chain of its entries has
-  -- them, but that
-  -- words of pages in no frame may be others; the places of the active segments and the descriptors are as before.
+  -- them, but that words of pages in no frame may be others; the places of the active segments and the descriptors are
+  -- as before.
   pub record CanTruncate : Type 0 where
     pub done : IsDone all_left
     pub cut : cut_of_owner s.owner ≡ []

@@ -1,6 +1,5 @@
 -- What lists of entries change in what custody sees of a machine: pages that are taken one after the other, descriptors
--- that
--- are cut, and what comes back or is gone.
+-- that are cut, and what comes back or is gone.
 use Rattle.std.specs.Prelude.{ℕ, List, [], ◌∷◌, Option, Some, None}
 use Rattle.assoc_mem.specs.declared.What.{What}
 use Rattle.page_table.specs.declared.Ptw.TheVariants as ptw

@@ -1,6 +1,5 @@
 -- What is true of the book, of custody and of what ties the tables to it: the half of the machine's promise that each
--- entry
--- of the book keeps by itself (Bensoussan, Clingen and Daley 1972; own).
+-- entry of the book keeps by itself (Bensoussan, Clingen and Daley 1972; own).
 use Rattle.std.specs.Prelude.{◌≡◌, ◌≤◌, ℕ, Bool, true, false, length, List, [], ◌∷◌, Option, Some, None}
 use Rattle.std.specs.List.{list_any}
 use Rattle.assoc_mem.specs.declared.HeldPage.{HeldPage}
@@ -87,8 +86,7 @@ AreApart [] = Unit {0}
 AreApart (d ∷ ds) = (has_cut ds d.process d.number ≡ false) × AreApart ds
 
 -- Something is going only in the owner's job: what goes is what the job has taken, each once. A clear that is due is
--- the one
--- that the job waits for, and something goes then. What the job is to signal names all that goes.
+-- the one that the job waits for, and something goes then. What the job is to signal names all that goes.
 pub record IsOwned (c : Custody) (o : Option Owner) : Type 0 where
   pub frames : (f : ℕ) → is_going_frame (c.frame f) ≡ has (frames_of_owner o) f
   pub cuts : (k n : ℕ) → is_going_descriptor (c.descriptor k n) ≡ has_cut (cut_of_owner o) k n
@@ -115,8 +113,7 @@ is_out (ptw.Here f) = false
 is_out (ptw.Leaving f) = false
 
 -- A frame is bound to a page exactly where the word of that page names the frame. A page that is being read into a
--- frame is
--- on its record alone, and into no other frame; such a frame isn't bound.
+-- frame is on its record alone, and into no other frame; such a frame isn't bound.
 pub record IsTied (bound reads : ℕ → Option (ℕ × ℕ)) (words : ℕ → ℕ → Ptw) : Type 0 where
   pub named : (f u p : ℕ) → bound f ≡ Some (u, p) → names (words u p) ≡ Some f
   pub back : (f u p : ℕ) → names (words u p) ≡ Some f → bound f ≡ Some (u, p)
@@ -151,8 +148,7 @@ pub record HoldsRight (bound : ℕ → Option (ℕ × ℕ)) (descriptor : ℕ �
   pub warned : (w : What) → p.cpu.due ≡ Some w → p.cpu.online ≡ true
 
 -- A transfer that a processor has under way reads its page into its frame, and each page that is being read into a
--- frame is
--- some processor's transfer, of just one.
+-- frame is some processor's transfer, of just one.
 pub record AreUnderWay (reads : ℕ → Option (ℕ × ℕ)) (processors : ℕ → Processor) : Type 0 where
   pub reading : (d : ℕ) (t : Transfer) → (processors d).cpu.transfer ≡ Some t → reads t.frame ≡ Some (t.uid, t.page)
   pub reader : (f u p : ℕ) → reads f ≡ Some (u, p)
@@ -169,8 +165,7 @@ pub record IsRun (q : Progress) (run : Run) : Type 0 where
 -- ---- the whole
 
 -- The book is legal and clean, and what the tables show is the custody after it. What a processor holds is current, or
--- its
--- clear is due, or its signal is still to come.
+-- its clear is due, or its signal is still to come.
 pub record KeepsBook (v : Seen) : Type 0 where
   pub legal : IsLegal v.plan v.entries
   pub clean : IsClean v.plan v.entries

@@ -20,8 +20,7 @@ use Rattle.machine_model.specs.Reads.{cut_of_owner, flat_of, is_active, processo
 use Rattle.machine_model.specs.State.{CutDescriptor, Owner, Processor, State, Storage}
 
 -- The store's own promise: page tables, frames and file maps agree, descriptors and trailers do, what is active is in
--- the
--- tree, the running counts are the counts from scratch, and a connected descriptor has the right mode and length.
+-- the tree, the running counts are the counts from scratch, and a connected descriptor has the right mode and length.
 pub record StoreKept (st : Storage) : Type 0 where
   pub kept : IsKept st.pages st.ast st.links
   pub counted : IsStore st.pages st.ast st.links st.accounts st.whos
@@ -81,8 +80,7 @@ pub record StoreSays (s : State) : Type 0 where
 
 -- The whole promise. The book is legal and clean, what the tables show is the custody after it, what processors hold is
 -- current or they are warned, and what goes is the owner's alone (`book`); the store keeps its own promise and shows
--- the flat
--- store after the book; quotas are conserved; and the book tells at most as many failures as the drives count.
+-- the flat store after the book; quotas are conserved; and the book tells at most as many failures as the drives count.
 pub record Keeps (s : State) : Type 0 where
   pub book : KeepsBook (seen s)
   pub store : StoreKept s.store

@@ -1,6 +1,5 @@
 -- What custody sees of a machine, and the custody that its tables show: the frames with the pages that are in them or
--- being
--- read into them, the descriptors with those that the owner's job has cut, and the processors.
+-- being read into them, the descriptors with those that the owner's job has cut, and the processors.
 use Rattle.std.specs.Prelude.{ℕ, Bool, ◌&&◌, ◌==◌, if◌then◌else◌, map, List, [], ◌∷◌, Option, Some, None}
 use Rattle.script.specs.Plans.{Plan}
 use Rattle.book.specs.declared.entries.Entry.{Entry}
@@ -17,10 +16,9 @@ use Rattle.machine_model.specs.Reads.{cut_of_owner}
 use Rattle.machine_model.specs.State.{Processor, Run, Owner, CutDescriptor}
 
 -- The script and the book; for each frame the page that it is bound to, and the one that is being read into it; the
--- page
--- table word of each page of each segment; which segments are active; for each process and segment number the segment
--- that
--- a connected descriptor leads to; the ready processes; the processors; the owner; how far each process has come.
+-- page table word of each page of each segment; which segments are active; for each process and segment number the
+-- segment that a connected descriptor leads to; the ready processes; the processors; the owner; how far each process
+-- has come.
 pub record Seen : Type 0 where
   pub plan : Plan
   pub entries : List Entry

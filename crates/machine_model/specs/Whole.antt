@@ -1,6 +1,5 @@
 -- What a job takes it takes whole: while a segment is being made inactive, all its pages and descriptors are on their
--- way out
--- (own).
+-- way out (own).
 use Rattle.std.specs.Prelude.{◌≡◌, ◌≢◌, ℕ, true, Option, Some, None}
 use Rattle.book.specs.declared.entries.Entry.{Entry}
 use Rattle.book.specs.declared.entries.Entry.TheVariants as entry
@@ -33,8 +32,7 @@ going_for None = None
 going_for (Some o) = goes_in o.phase
 
 -- Between two steps, what goes of a segment that is being made inactive is all of it. (It isn't so within a step, while
--- the
--- pages are taken one after the other.)
+-- the pages are taken one after the other.)
 pub record TakenWhole (s : State) : Type 0 where
   pub whole : (u : ℕ) → going_for s.owner ≡ Some u → IsWhole (holding s) u
 
