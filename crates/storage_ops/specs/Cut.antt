@@ -47,8 +47,7 @@ pub record IsTakenFrom {D : Type 0} (segs : Control D) (uid from : ℕ) : Type 0
   pub idle : (q : ℕ) → from ≤ q → IsNotStarted segs.pages.core uid q
 
 -- The pages that are cut at an offset, or lie past it, are taken; and the one that is cut, where an offset cuts one,
--- isn't
--- on its record alone.
+-- isn't on its record alone.
 pub record IsTakenPast {D : Type 0} (segs : Control D) (uid offset : ℕ) : Type 0 where
   pub active : IsActive segs.ast.entries uid
   pub past : IsTakenFrom segs uid (offset / 1024)
@@ -64,9 +63,8 @@ unbound uid test None = None
 unbound uid test (Some x) = if x.0 == uid && test x.1 then None else Some x
 
 -- The pages of an active segment that pass a test have the word `Null` and no frame now. Its other words, all other
--- page
--- tables, what frames are bound to else and read into, what is active, connected and known, the nodes and their homes
--- and the drives are as they were.
+-- page tables, what frames are bound to else and read into, what is active, connected and known, the nodes and their
+-- homes and the drives are as they were.
 pub record Unstores {D : Type 0} (old new : Storage D) (uid : ℕ) (test : ℕ → Bool) : Type 0 where
   pub nodes : new.accounts.nodes ≡ old.accounts.nodes
   pub entries : new.accounts.entries ≡ old.accounts.entries
@@ -86,8 +84,7 @@ pub record Unstores {D : Type 0} (old new : Storage D) (uid : ℕ) (test : ℕ �
   pub drives : new.segs.pages.volumes.drives ≡ old.segs.pages.volumes.drives
 
 -- Of a node that is to be deleted: no descriptor leads to it, no reference goes through the word of a page of it, and
--- none
--- is being read into a frame.
+-- none is being read into a frame.
 pub record IsRemovable {D : Type 0} (segs : Control D) (uid : ℕ) : Type 0 where
   pub cut : IsCut segs.ast.entries segs.links uid
   pub taken : IsTakenFrom segs uid 0
@@ -107,8 +104,7 @@ IsReady t process command.End = (number : ℕ) → leads_at t.segs.links.descrip
 IsReady t process _ = Unit {0}
 
 -- An active segment is cut at an offset: the pages wholly past it lose their words and frames, maybe the one that is
--- cut,
--- and no other.
+-- cut, and no other.
 pub record CutsPages {D : Type 0} (old new : Storage D) (uid offset : ℕ) : Type 0 where
   pub test : ℕ → Bool
   pub within : (q : ℕ) → test q ≡ true → offset / 1024 ≤ q

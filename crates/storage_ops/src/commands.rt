@@ -64,8 +64,7 @@ impl<D: Drive> Store<D> {
 
     /// Does a tree command of a process, and says how it is answered: it takes effect unless something refuses it, and
     /// `test` would say so. What must be taken, cut or made inactive before must have been. (Source: Bensoussan,
-    /// Clingen
-    /// and Daley 1972; Organick 1972.)
+    /// Clingen and Daley 1972; Organick 1972.)
     pub fn commit(&mut self, process: u32, command: &Command) -> Reply
         requires process { process < length self.old.segs.links.known }
         requires ranges { is_command (length self.old.segs.pages.volumes.drives) command.now ≡ true }
