@@ -26,7 +26,9 @@ use Rattle.machine_model.specs.Jobs.{deactivated_one, emptied, seg_gone, segs_go
 use Rattle.machine_model.specs.Keeps.{IsAtWork, Keeps, StoreSays, is_fault}
 use Rattle.machine_model.specs.Reads.{cut_of_owner, flat_of, frames_of_owner, process_at, processor_at, run_at}
 use Rattle.machine_model.specs.Seen.{Seen, cut_uid, descriptor_use, shown}
-use Rattle.machine_model.specs.State.{CutDescriptor, Owner, Processor, State, Storage}
+use Rattle.machine_model.specs.declared.Processor.{Processor}
+use Rattle.machine_model.specs.declared.CutDescriptor.{CutDescriptor}
+use Rattle.machine_model.specs.State.{Owner, State, Storage}
 use Rattle.machine_model.specs.Steps.{activated_at, connected_to, looking, old_word, page_created, page_made}
 use Rattle.machine_model.specs.Steps.{pages_after, told, went_through, with_owner, with_pages, with_store}
 use Rattle.machine_model.proofs.ActiveLaws.{activate_keeps, deactivate_keeps}

@@ -15,7 +15,9 @@ use Rattle.machine_model.specs.Changes.{answered, counted, failed}
 use Rattle.machine_model.specs.Custodial.{KeepsBook, HoldsRight, IsOwned, IsRun, is_pending}
 use Rattle.machine_model.specs.Seen.{Seen, flat, shown, seat_of, descriptor_use, cut_uid}
 use Rattle.machine_model.specs.Reads.{cut_of_owner}
-use Rattle.machine_model.specs.State.{Processor, Run, Owner}
+use Rattle.machine_model.specs.declared.Processor.{Processor}
+use Rattle.machine_model.specs.declared.Run.{Run}
+use Rattle.machine_model.specs.State.{Owner}
 use Rattle.machine_model.proofs.BookNext.{book_next}
 use Rattle.machine_model.proofs.HeldLaws.{under_way_alike}
 use Rattle.machine_model.proofs.OwnedLaws.{IsIdle, like_seat, owned_like, owned_idle}

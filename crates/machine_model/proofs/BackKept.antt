@@ -19,7 +19,8 @@ use Rattle.machine_model.specs.Jobs.{without_first_cut, without_first_frame, wri
 use Rattle.machine_model.specs.Keeps.{AreThere, Keeps, StoreSays, is_fault}
 use Rattle.machine_model.specs.Reads.{cut_of_owner, flat_of, frames_of_owner, process_at, run_at}
 use Rattle.machine_model.specs.Seen.{Seen}
-use Rattle.machine_model.specs.State.{CutDescriptor, State, Storage}
+use Rattle.machine_model.specs.declared.CutDescriptor.{CutDescriptor}
+use Rattle.machine_model.specs.State.{State, Storage}
 use Rattle.machine_model.specs.Steps.{fault_told, looking, told, with_owner}
 use Rattle.machine_model.proofs.ActiveSeen.{active_place}
 use Rattle.machine_model.proofs.AnswerLaws.{fault_keeps}

@@ -22,7 +22,7 @@ use Rattle.machine_model.specs.Holding.{led_to, seen}
 use Rattle.machine_model.specs.Keeps.{Keeps, StoreSays}
 use Rattle.machine_model.specs.Reads.{is_active, no_processor, no_run}
 use Rattle.machine_model.specs.Seen.{Seen}
-use Rattle.machine_model.specs.State.{Run}
+use Rattle.machine_model.specs.declared.Run.{Run}
 use Rattle.machine_model.proofs.ActiveSeen.{inactive_blank}
 use Rattle.machine_model.proofs.ListLaws.{map_list}
 use Rattle.machine_model.proofs.TieLaws.{none_some}

@@ -19,7 +19,8 @@ use Rattle.machine_model.specs.Custodial.{AreApart, AreDistinct, IsAimed, IsShap
 use Rattle.machine_model.specs.Custodial.{is_pending, names, says, waits_for}
 use Rattle.machine_model.specs.Reads.{cut_of_owner, frames_of_owner}
 use Rattle.machine_model.specs.Seen.{Seen, bound_use, cut_uid, descriptor_use, frame_use, is_cut_at, read_use, shown}
-use Rattle.machine_model.specs.State.{CutDescriptor, Owner}
+use Rattle.machine_model.specs.declared.CutDescriptor.{CutDescriptor}
+use Rattle.machine_model.specs.State.{Owner}
 use Rattle.machine_model.proofs.DescriptorLaws.{CanFinishSeg, back_seg_keeps, cut_keeps, gone_seg_keeps}
 use Rattle.machine_model.proofs.DueLaws.{HasLeft, HasLeftCut, none_due}
 use Rattle.machine_model.proofs.FrameLaws.{CanFinish, back_keeps, gone_keeps, take_keeps}

@@ -22,7 +22,8 @@ use Rattle.machine_model.specs.declared.Phase.TheVariants as phase
 use Rattle.machine_model.specs.Custodial.{KeepsBook, HoldsRight, AreHeldPages, AreHeldSegs, AreOfProcess, is_pending}
 use Rattle.machine_model.specs.Custodial.{says, waits_for}
 use Rattle.machine_model.specs.Seen.{Seen, shown, seat_of, frame_use, bound_use, descriptor_use, cut_uid}
-use Rattle.machine_model.specs.State.{Processor, Owner}
+use Rattle.machine_model.specs.declared.Processor.{Processor}
+use Rattle.machine_model.specs.State.{Owner}
 use Rattle.machine_model.proofs.BookNext.{book_next}
 use Rattle.machine_model.proofs.DueLaws.{HasSaid, none_due, owned_signal, owned_clear}
 use Rattle.machine_model.proofs.HeldLaws.{pages_kept, segs_kept, few_kept, under_way_alike, kept_step}

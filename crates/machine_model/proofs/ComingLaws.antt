@@ -15,7 +15,8 @@ use Rattle.book.specs.declared.replies.Reply.{Reply}
 use Rattle.book.specs.declared.replies.Reply.TheVariants as reply
 use Rattle.flat_model.specs.Store.{Progress}
 use Rattle.flat_model.specs.Commands.{is_end, tries_on}
-use Rattle.machine_model.specs.State.{State, Run}
+use Rattle.machine_model.specs.declared.Run.{Run}
+use Rattle.machine_model.specs.State.{State}
 use Rattle.machine_model.specs.Reads.{next_command, no_run, run_at}
 use Rattle.machine_model.specs.Steps.{goes_on, is_its_end, progress_of_run, run_after, told_by}
 use Rattle.machine_model.specs.Foreseen.{GoesOn, AllCome, Comes}

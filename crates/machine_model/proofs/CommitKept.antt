@@ -24,7 +24,10 @@ use Rattle.machine_model.specs.Reads.{cut_of_owner, flat_of, frames_of_owner, ne
 use Rattle.machine_model.specs.Reads.{or_zero, process_at, processor_at, run_at}
 use Rattle.machine_model.specs.Refusal.{reply_of, uid_of_command}
 use Rattle.machine_model.specs.Seen.{Seen, shown}
-use Rattle.machine_model.specs.State.{CutDescriptor, Owner, Processor, Run, State, Storage}
+use Rattle.machine_model.specs.declared.Processor.{Processor}
+use Rattle.machine_model.specs.declared.Run.{Run}
+use Rattle.machine_model.specs.declared.CutDescriptor.{CutDescriptor}
+use Rattle.machine_model.specs.State.{Owner, State, Storage}
 use Rattle.machine_model.specs.Steps.{booked, left_at, queued, run_after, told, told_by, with_owner, with_store}
 use Rattle.machine_model.proofs.AnswerLaws.{owner_keeps}
 use Rattle.machine_model.proofs.ChainLaws.{GoesOn, gone_segs_keep}

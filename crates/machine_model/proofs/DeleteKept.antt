@@ -28,7 +28,8 @@ use Rattle.machine_model.specs.Keeps.{Keeps, StoreSays, is_fault}
 use Rattle.machine_model.specs.Reads.{cut_of_owner, frames_of_owner, home_in, is_active, process_at, run_at}
 use Rattle.machine_model.specs.Refusal.{reply_of, uid_of_command}
 use Rattle.machine_model.specs.Seen.{Seen, cut_uid, descriptor_use, flat, shown}
-use Rattle.machine_model.specs.State.{CutDescriptor, State, Storage}
+use Rattle.machine_model.specs.declared.CutDescriptor.{CutDescriptor}
+use Rattle.machine_model.specs.State.{State, Storage}
 use Rattle.machine_model.specs.Steps.{booked, with_owner, with_pages, with_store}
 use Rattle.machine_model.proofs.ActiveLaws.{deactivate_keeps}
 use Rattle.machine_model.proofs.ActiveSeen.{active_less, blank_less, deactivate_seen, words_less}

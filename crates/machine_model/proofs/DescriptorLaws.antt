@@ -18,7 +18,8 @@ use Rattle.machine_model.specs.declared.Aim.{Aim}
 use Rattle.machine_model.specs.Custodial.{KeepsBook, HoldsRight, IsAimed, AreApart, has_cut, is_pending, waits_for}
 use Rattle.machine_model.specs.Seen.{Seen, flat, shown, descriptor_use, cut_uid, cut_use, is_cut_at}
 use Rattle.machine_model.specs.Reads.{frames_of_owner, cut_of_owner}
-use Rattle.machine_model.specs.State.{Owner, CutDescriptor}
+use Rattle.machine_model.specs.declared.CutDescriptor.{CutDescriptor}
+use Rattle.machine_model.specs.State.{Owner}
 use Rattle.machine_model.proofs.BookNext.{book_next}
 use Rattle.machine_model.proofs.DueLaws.{HasLeftCut, owned_left_cut}
 use Rattle.machine_model.proofs.HeldLaws.{right_alike, right_descriptor}

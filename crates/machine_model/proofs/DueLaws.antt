@@ -14,7 +14,8 @@ use Rattle.custody_model.specs.Next.{with_frame, with_descriptor, signalled, ans
 use Rattle.machine_model.specs.Custodial.{IsOwned, IsShaped, AreDistinct, AreApart, has_cut, says, waits_for}
 use Rattle.machine_model.specs.Seen.{is_cut_at}
 use Rattle.machine_model.specs.Reads.{frames_of_owner, cut_of_owner}
-use Rattle.machine_model.specs.State.{Owner, CutDescriptor}
+use Rattle.machine_model.specs.declared.CutDescriptor.{CutDescriptor}
+use Rattle.machine_model.specs.State.{Owner}
 use Rattle.machine_model.proofs.Places.{by_place, by_places}
 use Rattle.machine_model.proofs.TieLaws.{none_some}
 use Rattle.machine_model.proofs.OwnedLaws.{cut_at_tells}

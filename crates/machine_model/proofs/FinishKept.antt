@@ -23,7 +23,8 @@ use Rattle.machine_model.specs.Jobs.{without_first_cut, without_first_frame}
 use Rattle.machine_model.specs.Keeps.{IsAtWork, Keeps, StoreSays, is_fault}
 use Rattle.machine_model.specs.Reads.{flat_of, home_in, processor_at}
 use Rattle.machine_model.specs.Seen.{Seen, flat, shown}
-use Rattle.machine_model.specs.State.{CutDescriptor, Owner, State}
+use Rattle.machine_model.specs.declared.CutDescriptor.{CutDescriptor}
+use Rattle.machine_model.specs.State.{Owner, State}
 use Rattle.machine_model.specs.Steps.{booked, looking, with_faults, with_owner, with_store}
 use Rattle.machine_model.proofs.ChainLaws.{GoesOn, first_finish}
 use Rattle.machine_model.proofs.FrameLaws.{CanFinish, gone_keeps, in_no_frame, release_keeps}

@@ -11,7 +11,7 @@ use Rattle.custody_model.specs.Custody.{has, leads_to}
 use Rattle.custody_model.specs.Custody.{filled as filled_in}
 use Rattle.custody_model.specs.Next.{at_put, at_put_two}
 use Rattle.machine_model.specs.Custodial.{AreHeldPages, AreHeldSegs, AreOfProcess, HoldsRight, AreUnderWay}
-use Rattle.machine_model.specs.State.{Processor}
+use Rattle.machine_model.specs.declared.Processor.{Processor}
 use Rattle.machine_model.proofs.Places.{by_place, by_places}
 
 -- ---- a fill

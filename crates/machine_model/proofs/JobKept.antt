@@ -29,7 +29,8 @@ use Rattle.machine_model.specs.Jobs.{with_choice}
 use Rattle.machine_model.specs.Keeps.{AreThere, HadRights, IsAtWork, IsConserved, IsFaithful, Keeps, StoreSays}
 use Rattle.machine_model.specs.Reads.{cut_of_owner, frames_of_owner, processor_at}
 use Rattle.machine_model.specs.Seen.{Seen, shown}
-use Rattle.machine_model.specs.State.{Owner, Processor, State}
+use Rattle.machine_model.specs.declared.Processor.{Processor}
+use Rattle.machine_model.specs.State.{Owner, State}
 use Rattle.machine_model.specs.Steps.{with_store}
 use Rattle.machine_model.proofs.ClearLaws.{signal_keeps}
 use Rattle.machine_model.proofs.DueLaws.{HasSaid}

@@ -21,7 +21,8 @@ use Rattle.machine_model.specs.Holding.{seen}
 use Rattle.machine_model.specs.Keeps.{Keeps, IsAtWork, IsConserved, IsFaithful, is_fault}
 use Rattle.machine_model.specs.Reads.{flat_of, no_processor, processor_at}
 use Rattle.machine_model.specs.Seen.{shown}
-use Rattle.machine_model.specs.State.{Owner, Processor, State}
+use Rattle.machine_model.specs.declared.Processor.{Processor}
+use Rattle.machine_model.specs.State.{Owner, State}
 use Rattle.machine_model.proofs.ClearLaws.{clear_keeps}
 use Rattle.machine_model.proofs.SeatLaws.{CanFillPage, CanFillSeg, fill_page_keeps, fill_seg_keeps, leave_keeps}
 use Rattle.machine_model.proofs.SeatLaws.{load_keeps, online_keeps}

@@ -17,7 +17,8 @@ use Rattle.machine_model.specs.Custodial.{KeepsBook, names}
 use Rattle.machine_model.specs.Holding.{seen}
 use Rattle.machine_model.specs.Jobs.{here_if, told_from, with_left}
 use Rattle.machine_model.specs.Reads.{home_in, no_processor, processor_at}
-use Rattle.machine_model.specs.State.{Owner, Processor, State}
+use Rattle.machine_model.specs.declared.Processor.{Processor}
+use Rattle.machine_model.specs.State.{Owner, State}
 use Rattle.machine_model.specs.Steps.{with_word}
 use Rattle.machine_model.proofs.Places.{by_place}
 use Rattle.machine_model.proofs.SeenLaws.{bound_put, reads_put}

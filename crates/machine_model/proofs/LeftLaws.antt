@@ -8,7 +8,7 @@ use Rattle.script.specs.Plans.{ProcessPlan, nobody}
 use Rattle.script.specs.declared.commands.Command.{Command}
 use Rattle.script.specs.declared.commands.Command.TheVariants as command
 use Rattle.book.specs.declared.replies.Reply.{Reply}
-use Rattle.machine_model.specs.State.{Run}
+use Rattle.machine_model.specs.declared.Run.{Run}
 use Rattle.machine_model.specs.Reads.{run_at}
 use Rattle.machine_model.specs.Steps.{goes_on, is_its_end, run_after}
 use Rattle.machine_model.specs.Outlined.{left_in, left_of}

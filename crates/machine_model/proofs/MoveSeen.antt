@@ -19,7 +19,9 @@ use Rattle.machine_model.specs.Changes.{started as page_started, with_transfer}
 use Rattle.machine_model.specs.Custodial.{is_out}
 use Rattle.machine_model.specs.Holding.{led_to, seen}
 use Rattle.machine_model.specs.Reads.{descriptor_of, no_processor, processor_at}
-use Rattle.machine_model.specs.State.{CutDescriptor, Owner, Processor, State}
+use Rattle.machine_model.specs.declared.Processor.{Processor}
+use Rattle.machine_model.specs.declared.CutDescriptor.{CutDescriptor}
+use Rattle.machine_model.specs.State.{Owner, State}
 use Rattle.machine_model.specs.Steps.{brought, with_created, with_pages}
 use Rattle.machine_model.proofs.LeaveSeen.{unread_put}
 use Rattle.machine_model.proofs.ListLaws.{put_list}

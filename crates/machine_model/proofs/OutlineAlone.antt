@@ -16,7 +16,9 @@ use Rattle.descriptor_seg.specs.declared.Sdw.TheVariants as sdw
 use Rattle.core_map.specs.declared.Frame.{Frame}
 use Rattle.core_map.specs.declared.Frame.TheVariants as frame
 use Rattle.machine_model.specs.Actions.{ForOwner, WhileIdle}
-use Rattle.machine_model.specs.State.{State, Processor, Run, Owner}
+use Rattle.machine_model.specs.declared.Processor.{Processor}
+use Rattle.machine_model.specs.declared.Run.{Run}
+use Rattle.machine_model.specs.State.{State, Owner}
 use Rattle.machine_model.specs.Reads.{processor_at, cpu_at, process_at, run_at, descriptor_of}
 use Rattle.machine_model.specs.Steps.{came_online, cleared_at, held_page, held_seg, left_at, loaded, looking}
 use Rattle.machine_model.specs.Steps.{page_filled, queued, seg_filled, transferred, uid_of_held, with_faults}

@@ -10,7 +10,10 @@ use Rattle.script.specs.declared.commands.Reference.{Reference}
 use Rattle.book.specs.declared.entries.Entry.{Entry}
 use Rattle.book.specs.declared.replies.Reply.{Reply}
 use Rattle.book.specs.declared.replies.Reply.TheVariants as reply
-use Rattle.machine_model.specs.State.{State, Storage, Processor, Run, Owner, CutDescriptor}
+use Rattle.machine_model.specs.declared.Processor.{Processor}
+use Rattle.machine_model.specs.declared.Run.{Run}
+use Rattle.machine_model.specs.declared.CutDescriptor.{CutDescriptor}
+use Rattle.machine_model.specs.State.{State, Storage, Owner}
 use Rattle.machine_model.specs.Reads.{or_zero, no_processor, next_command, processor_at, cpu_at, process_at, run_at}
 use Rattle.machine_model.specs.Reads.{frames_of_owner, cut_of_owner}
 use Rattle.machine_model.specs.Steps.{answered, booked, with_store, with_pages, pages_after, fault_told, left_at}

@@ -8,7 +8,7 @@ use Rattle.core_map.specs.CoreMap.{is_started}
 use Rattle.active_segs.specs.declared.Entry.{Entry}
 use Rattle.custody_model.specs.Custody.{range}
 use Rattle.processor.specs.declared.Transfer.{Transfer}
-use Rattle.machine_model.specs.State.{Processor}
+use Rattle.machine_model.specs.declared.Processor.{Processor}
 use Rattle.machine_model.specs.Reads.{no_processor}
 use Rattle.machine_model.specs.Boot.{booted}
 use Rattle.machine_model.specs.Outline.{Keeper, Runner, no_runner, runner_at, frame_in}

@@ -14,7 +14,9 @@ use Rattle.machine_model.specs.declared.Aim.TheVariants as aim
 use Rattle.machine_model.specs.declared.Phase.{Phase}
 use Rattle.machine_model.specs.declared.Phase.TheVariants as phase
 use Rattle.assoc_mem.specs.declared.What.{What}
-use Rattle.machine_model.specs.State.{State, Storage, Processor, Owner, CutDescriptor}
+use Rattle.machine_model.specs.declared.Processor.{Processor}
+use Rattle.machine_model.specs.declared.CutDescriptor.{CutDescriptor}
+use Rattle.machine_model.specs.State.{State, Storage, Owner}
 use Rattle.machine_model.specs.Reads.{next_command, processor_at, cut_of_owner}
 use Rattle.machine_model.specs.Steps.{looking, started, with_faults, with_owner}
 use Rattle.machine_model.specs.Jobs.{accounts_left, deactivated_one, emptied, eviction_done, left_of, page_done}

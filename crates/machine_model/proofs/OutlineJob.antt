@@ -11,7 +11,8 @@ use Rattle.descriptor_seg.specs.Descriptors.{sdw_at}
 use Rattle.seg_control.specs.Control.{Links, place_of, sdws_at}
 use Rattle.machine_model.specs.declared.Phase.{Phase}
 use Rattle.machine_model.specs.declared.Phase.TheVariants as phase
-use Rattle.machine_model.specs.State.{State, Processor, Owner}
+use Rattle.machine_model.specs.declared.Processor.{Processor}
+use Rattle.machine_model.specs.State.{State, Owner}
 use Rattle.tree_model.specs.Tree.{node_in}
 use Rattle.machine_model.specs.Reads.{or_zero, no_processor, superior_of_node, mode_in, length_in, processor_at}
 use Rattle.machine_model.specs.Reads.{descriptor_of, is_connected}

@@ -11,7 +11,9 @@ use Rattle.custody_model.specs.Custody.{range}
 use Rattle.custody_model.specs.Next.{released_by}
 use Rattle.core_map.specs.declared.Frame.TheVariants as frame
 use Rattle.processor.specs.declared.Transfer.{Transfer}
-use Rattle.machine_model.specs.State.{State, Processor, Run}
+use Rattle.machine_model.specs.declared.Processor.{Processor}
+use Rattle.machine_model.specs.declared.Run.{Run}
+use Rattle.machine_model.specs.State.{State}
 use Rattle.machine_model.specs.Reads.{or_zero, no_processor, no_run, next_command, processor_at, cpu_at, process_at}
 use Rattle.machine_model.specs.Reads.{run_at}
 use Rattle.machine_model.specs.Steps.{fault_told, frame_lost, goes_on, run_after, transfer_failed}

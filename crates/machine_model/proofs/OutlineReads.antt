@@ -1,7 +1,8 @@
 -- What is read of the outline of a machine.
 use Rattle.std.proofs.Common.{◌≡◌, ℕ, zero, suc, Bool, false, ◌&&◌, eqb, nat_lt, List, [], ◌∷◌, length, map, Option}
 use Rattle.std.proofs.Common.{Some, None, is_some, set, get_or, refl, ap}
-use Rattle.machine_model.specs.State.{State, Processor, Owner}
+use Rattle.machine_model.specs.declared.Processor.{Processor}
+use Rattle.machine_model.specs.State.{State, Owner}
 use Rattle.machine_model.specs.Reads.{no_processor, processor_at}
 use Rattle.machine_model.specs.Steps.{booked, with_processor}
 use Rattle.machine_model.specs.Actions.{has_had_its_turn}

@@ -22,7 +22,9 @@ use Rattle.machine_model.specs.declared.Aim.{Aim}
 use Rattle.machine_model.specs.declared.Aim.TheVariants as aim
 use Rattle.machine_model.specs.declared.Phase.{Phase}
 use Rattle.machine_model.specs.declared.Phase.TheVariants as phase
-use Rattle.machine_model.specs.State.{State, Storage, Processor, Owner, CutDescriptor}
+use Rattle.machine_model.specs.declared.Processor.{Processor}
+use Rattle.machine_model.specs.declared.CutDescriptor.{CutDescriptor}
+use Rattle.machine_model.specs.State.{State, Storage, Owner}
 use Rattle.machine_model.specs.Reads.{next_command, no_processor, run_at, processor_at, frames_of_owner, cut_of_owner}
 use Rattle.machine_model.specs.Steps.{with_store}
 use Rattle.machine_model.specs.Jobs.{cut_all, cut_one, eviction_begun, leaving_if, owner_signalled, phase_signalled}

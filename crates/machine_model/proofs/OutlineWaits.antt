@@ -7,7 +7,8 @@ use Rattle.core_map.specs.declared.Frame.TheVariants as frame
 use Rattle.assoc_mem.specs.declared.What.{What}
 use Rattle.machine_model.specs.declared.Aim.{Aim}
 use Rattle.machine_model.specs.declared.Phase.TheVariants as phase
-use Rattle.machine_model.specs.State.{State, Processor, Owner}
+use Rattle.machine_model.specs.declared.Processor.{Processor}
+use Rattle.machine_model.specs.State.{State, Owner}
 use Rattle.machine_model.specs.Reads.{is_due, processor_at, cpu_at}
 use Rattle.machine_model.specs.Actions.{ForClear, ForTransfer, has_process, is_empty, is_over}
 use Rattle.machine_model.specs.Outline.{Runner, Ended, WaitsFor, frame_in}

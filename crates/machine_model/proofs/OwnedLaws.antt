@@ -19,7 +19,8 @@ use Rattle.machine_model.specs.declared.Phase.TheVariants as phase
 use Rattle.machine_model.specs.Custodial.{IsOwned, IsShaped, IsAimed, AreDistinct, AreApart, has_cut, says, waits_for}
 use Rattle.machine_model.specs.Seen.{is_cut_at}
 use Rattle.machine_model.specs.Reads.{frames_of_owner, cut_of_owner}
-use Rattle.machine_model.specs.State.{Owner, CutDescriptor}
+use Rattle.machine_model.specs.declared.CutDescriptor.{CutDescriptor}
+use Rattle.machine_model.specs.State.{Owner}
 use Rattle.machine_model.proofs.Places.{by_place, by_places, put_here, put_two_here}
 use Rattle.machine_model.proofs.TieLaws.{none_some}
 

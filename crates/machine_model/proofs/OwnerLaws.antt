@@ -12,7 +12,8 @@ use Rattle.machine_model.specs.Custodial.{FitsPhase, HoldsRight, IsOwned, KeepsB
 use Rattle.machine_model.specs.Custodial.{says_in, waits_in}
 use Rattle.machine_model.specs.Reads.{cut_of_owner, frames_of_owner}
 use Rattle.machine_model.specs.Seen.{Seen, bound_use, cut_uid, descriptor_use, frame_use, shown}
-use Rattle.machine_model.specs.State.{CutDescriptor, Owner}
+use Rattle.machine_model.specs.declared.CutDescriptor.{CutDescriptor}
+use Rattle.machine_model.specs.State.{Owner}
 use Rattle.machine_model.proofs.OwnedLaws.{IsIdle}
 use Rattle.machine_model.proofs.TieLaws.{none_some}
 

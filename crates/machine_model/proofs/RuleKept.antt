@@ -45,7 +45,8 @@ use Rattle.machine_model.specs.Reads.{cut_of_owner, flat_of, frames_of_owner, is
 use Rattle.machine_model.specs.Reads.{or_zero, process_at, processor_at}
 use Rattle.machine_model.specs.Refusal.{reply_of}
 use Rattle.machine_model.specs.Seen.{shown}
-use Rattle.machine_model.specs.State.{CutDescriptor, Owner, State}
+use Rattle.machine_model.specs.declared.CutDescriptor.{CutDescriptor}
+use Rattle.machine_model.specs.State.{Owner, State}
 use Rattle.machine_model.specs.Steps.{page_created, page_made, started, transferred, with_faults, with_owner}
 use Rattle.machine_model.proofs.ActiveKept.{IsOver, segs_are_gone}
 use Rattle.machine_model.proofs.ActiveSeen.{within_some}

@@ -37,7 +37,8 @@ use Rattle.machine_model.specs.Keeps.{IsAtWork, Keeps}
 use Rattle.machine_model.specs.Reads.{cpu_at, descriptor_of, flat_of, is_due, next_command, or_zero, process_at}
 use Rattle.machine_model.specs.Reads.{processor_at}
 use Rattle.machine_model.specs.Seen.{shown}
-use Rattle.machine_model.specs.State.{Owner, Processor, State}
+use Rattle.machine_model.specs.declared.Processor.{Processor}
+use Rattle.machine_model.specs.State.{Owner, State}
 use Rattle.machine_model.specs.Steps.{held_page, held_seg, uid_of_held}
 use Rattle.machine_model.proofs.FindLaws.{number_new, page_new}
 use Rattle.machine_model.proofs.KeepLaws.{IsNoOwner}

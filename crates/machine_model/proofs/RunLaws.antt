@@ -24,7 +24,7 @@ use Rattle.flat_model.specs.Sizes.{after_length, after_truncate, truncated}
 use Rattle.flat_model.specs.Store.{Store, Progress, progress_of, with_progress, known_uid}
 use Rattle.custody_model.specs.Next.{at_put}
 use Rattle.machine_model.specs.Custodial.{IsRun}
-use Rattle.machine_model.specs.State.{Run}
+use Rattle.machine_model.specs.declared.Run.{Run}
 use Rattle.machine_model.proofs.Places.{by_place}
 
 -- ---- no command moves a process by its effect

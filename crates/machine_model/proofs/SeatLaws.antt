@@ -20,7 +20,7 @@ use Rattle.machine_model.specs.Changes.{with_held_seg, page_filled, with_held_pa
 use Rattle.machine_model.specs.Custodial.{KeepsBook, IsOwned, HoldsRight, IsRun, AreOfProcess, names, is_pending}
 use Rattle.machine_model.specs.Seen.{Seen, flat, shown, seat_of, descriptor_use, cut_uid}
 use Rattle.machine_model.specs.Reads.{cut_of_owner}
-use Rattle.machine_model.specs.State.{Processor}
+use Rattle.machine_model.specs.declared.Processor.{Processor}
 use Rattle.machine_model.proofs.BookNext.{book_next}
 use Rattle.machine_model.proofs.HeldLaws.{map_filled, filled_few, pages_filled, segs_filled, under_way_alike}
 use Rattle.machine_model.proofs.OwnedLaws.{like_seat, owned_like}

@@ -10,7 +10,8 @@ use Rattle.custody_model.specs.Next.{at_put}
 use Rattle.machine_model.specs.Changes.{reseated}
 use Rattle.machine_model.specs.Holding.{seen}
 use Rattle.machine_model.specs.Reads.{no_processor}
-use Rattle.machine_model.specs.State.{Processor, State}
+use Rattle.machine_model.specs.declared.Processor.{Processor}
+use Rattle.machine_model.specs.State.{State}
 use Rattle.machine_model.proofs.ListLaws.{put_list, put_mapped}
 
 -- one processor is otherwise, with the ready list and the book

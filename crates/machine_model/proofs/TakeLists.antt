@@ -24,7 +24,8 @@ use Rattle.machine_model.specs.Holding.{led_to, seen}
 use Rattle.machine_model.specs.Keeps.{Keeps}
 use Rattle.machine_model.specs.Reads.{descriptor_of, frames_from, frames_in, here_in, is_active, trailers_in}
 use Rattle.machine_model.specs.Seen.{shown}
-use Rattle.machine_model.specs.State.{CutDescriptor, State}
+use Rattle.machine_model.specs.declared.CutDescriptor.{CutDescriptor}
+use Rattle.machine_model.specs.State.{State}
 use Rattle.machine_model.proofs.ActiveSeen.{active_place}
 use Rattle.machine_model.proofs.ChainLaws.{CanTakeAll, bound_shown, names_uid}
 use Rattle.machine_model.proofs.OwnedLaws.{IsIdle}

@@ -21,7 +21,10 @@ use Rattle.machine_model.specs.Holding.{seen}
 use Rattle.machine_model.specs.Keeps.{IsAtWork, Keeps, StoreSays}
 use Rattle.machine_model.specs.Reads.{cut_of_owner, flat_of, next_command, no_processor, no_run, processor_at, run_at}
 use Rattle.machine_model.specs.Seen.{shown}
-use Rattle.machine_model.specs.State.{CutDescriptor, Owner, Processor, Run, State}
+use Rattle.machine_model.specs.declared.Processor.{Processor}
+use Rattle.machine_model.specs.declared.Run.{Run}
+use Rattle.machine_model.specs.declared.CutDescriptor.{CutDescriptor}
+use Rattle.machine_model.specs.State.{Owner, State}
 use Rattle.machine_model.specs.Steps.{goes_on, progress_of_run, run_after, told_by, with_owner}
 use Rattle.machine_model.proofs.AnswerLaws.{answer_keeps, owner_keeps}
 use Rattle.machine_model.proofs.KeepLaws.{faults_push}

@@ -20,7 +20,9 @@ use Rattle.machine_model.specs.Jobs.{cut_all, cut_one, note_of, take_all, take_o
 use Rattle.machine_model.specs.Keeps.{IsAtWork, Keeps, StoreSays, is_fault}
 use Rattle.machine_model.specs.Reads.{cut_of_owner, descriptor_of, frames_of_owner, or_zero, processor_at}
 use Rattle.machine_model.specs.Seen.{Seen, shown}
-use Rattle.machine_model.specs.State.{CutDescriptor, Owner, Processor, State}
+use Rattle.machine_model.specs.declared.Processor.{Processor}
+use Rattle.machine_model.specs.declared.CutDescriptor.{CutDescriptor}
+use Rattle.machine_model.specs.State.{Owner, State}
 use Rattle.machine_model.proofs.ChainLaws.{CanTakeAll, HasTaken, names_linked, names_uid, takes_keep}
 use Rattle.machine_model.proofs.DescriptorLaws.{cut_keeps}
 use Rattle.machine_model.proofs.KeepLaws.{faults_push}

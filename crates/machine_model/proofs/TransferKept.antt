@@ -16,7 +16,8 @@ use Rattle.machine_model.specs.Custodial.{KeepsBook, is_pending}
 use Rattle.machine_model.specs.Holding.{seen}
 use Rattle.machine_model.specs.Keeps.{IsAtWork, Keeps, StoreSays, is_fault}
 use Rattle.machine_model.specs.Reads.{flat_of, is_active, no_processor, process_at, processor_at, run_at}
-use Rattle.machine_model.specs.State.{Owner, Processor, State}
+use Rattle.machine_model.specs.declared.Processor.{Processor}
+use Rattle.machine_model.specs.State.{Owner, State}
 use Rattle.machine_model.specs.Steps.{fault_told, frame_lost, started, transfer_failed, transferred, with_faults}
 use Rattle.machine_model.proofs.ActiveSeen.{any_at}
 use Rattle.machine_model.proofs.AnswerLaws.{fault_keeps, owner_keeps}

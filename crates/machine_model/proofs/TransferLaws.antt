@@ -14,7 +14,7 @@ use Rattle.custody_model.proofs.FineLaws.{nobody_holds_page}
 use Rattle.machine_model.specs.Changes.{started, lost, here, brought, with_transfer}
 use Rattle.machine_model.specs.Custodial.{KeepsBook, HoldsRight, AreUnderWay, names, is_out, is_pending}
 use Rattle.machine_model.specs.Seen.{Seen, shown, seat_of, frame_use, bound_use, read_use}
-use Rattle.machine_model.specs.State.{Processor}
+use Rattle.machine_model.specs.declared.Processor.{Processor}
 use Rattle.machine_model.proofs.BookNext.{book_next}
 use Rattle.machine_model.proofs.FrameLaws.{in_no_frame}
 use Rattle.machine_model.proofs.HeldLaws.{right_frame}

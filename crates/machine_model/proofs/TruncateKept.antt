@@ -27,7 +27,8 @@ use Rattle.machine_model.specs.Keeps.{Keeps, StoreSays, is_fault}
 use Rattle.machine_model.specs.Reads.{cut_of_owner, descriptor_of, frames_of_owner, process_at, run_at}
 use Rattle.machine_model.specs.Refusal.{reply_of, uid_of_command}
 use Rattle.machine_model.specs.Seen.{Seen, bound_use, frame_use, shown}
-use Rattle.machine_model.specs.State.{CutDescriptor, State, Storage}
+use Rattle.machine_model.specs.declared.CutDescriptor.{CutDescriptor}
+use Rattle.machine_model.specs.State.{State, Storage}
 use Rattle.machine_model.specs.Steps.{with_owner}
 use Rattle.machine_model.proofs.ChainLaws.{GoesOn, HasGone, IsDone, gone_done, idle_done, back_on, first_finish}
 use Rattle.machine_model.proofs.CommitKept.{effected}

@@ -26,7 +26,8 @@ use Rattle.machine_model.specs.Keeps.{Keeps, StoreSays, is_fault}
 use Rattle.machine_model.specs.Reads.{cut_of_owner, flat_of, frames_of_owner, processor_at}
 use Rattle.machine_model.specs.Seen.{Seen, cut_uid, descriptor_use, shown}
 use Rattle.machine_model.specs.Shutdown.{after_visit, page_taken, visited_if}
-use Rattle.machine_model.specs.State.{CutDescriptor, Owner, State}
+use Rattle.machine_model.specs.declared.CutDescriptor.{CutDescriptor}
+use Rattle.machine_model.specs.State.{Owner, State}
 use Rattle.machine_model.specs.Steps.{booked, fault_told, with_faults, with_owner, with_store}
 use Rattle.machine_model.proofs.AnswerLaws.{fault_keeps}
 use Rattle.machine_model.proofs.FinishKept.{left_faults, left_keeps}

@@ -18,7 +18,8 @@ use Rattle.machine_model.specs.Reads.{cut_of_owner, descriptor_of, flat_of}
 use Rattle.machine_model.specs.Reads.{frames_of_owner, is_active}
 use Rattle.machine_model.specs.Seen.{cut_uid, descriptor_use, frame_use}
 use Rattle.machine_model.specs.Seen.{shown}
-use Rattle.machine_model.specs.State.{CutDescriptor, State, Storage}
+use Rattle.machine_model.specs.declared.CutDescriptor.{CutDescriptor}
+use Rattle.machine_model.specs.State.{State, Storage}
 use Rattle.machine_model.specs.Whole.{TakenWhole, going_for}
 use Rattle.machine_model.proofs.ActiveKept.{IsOver, segs_gone_rest}
 use Rattle.machine_model.proofs.TieLaws.{none_some}

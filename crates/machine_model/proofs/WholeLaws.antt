@@ -15,7 +15,8 @@ use Rattle.custody_model.specs.Next.{custody_next, with_descriptor, with_frame}
 use Rattle.machine_model.specs.Custodial.{IsOwned, has_cut}
 use Rattle.machine_model.specs.Holding.{holding}
 use Rattle.machine_model.specs.Reads.{cut_of_owner, frames_of_owner}
-use Rattle.machine_model.specs.State.{CutDescriptor, Owner, State}
+use Rattle.machine_model.specs.declared.CutDescriptor.{CutDescriptor}
+use Rattle.machine_model.specs.State.{Owner, State}
 use Rattle.machine_model.specs.Whole.{IsWhole, Spares, TakenWhole, going_for}
 use Rattle.machine_model.proofs.Places.{by_place, by_places}
 use Rattle.machine_model.proofs.TieLaws.{none_some}

@@ -31,7 +31,8 @@ use Rattle.machine_model.specs.declared.Aim.{Aim}
 use Rattle.machine_model.specs.declared.Aim.TheVariants as aim
 use Rattle.machine_model.specs.declared.Phase.{Phase}
 use Rattle.machine_model.specs.declared.Phase.TheVariants as phase
-use Rattle.machine_model.specs.State.{State, Storage, Processor, Owner}
+use Rattle.machine_model.specs.declared.Processor.{Processor}
+use Rattle.machine_model.specs.State.{State, Storage, Owner}
 use Rattle.machine_model.specs.Reads.{or_zero, processor_at, next_command, is_due, is_active, first_inactive}
 use Rattle.machine_model.specs.Reads.{free_place, frame_reading, frames_from, descriptor_of, is_connected}
 use Rattle.machine_model.specs.Reads.{connected_of, trailers_in}

@@ -10,7 +10,8 @@ use Rattle.page_control.specs.Plain.{Plain}
 use Rattle.active_segs.specs.Active.{no_segments}
 use Rattle.seg_control.specs.Effects.{no_links}
 use Rattle.custody_model.specs.Custody.{ready_at_first}
-use Rattle.machine_model.specs.State.{State, Storage, Run}
+use Rattle.machine_model.specs.declared.Run.{Run}
+use Rattle.machine_model.specs.State.{State, Storage}
 use Rattle.machine_model.specs.Reads.{no_processor}
 
 -- no record of a volume is in use, and of its entries that of the root alone, the first of the first volume

@@ -5,7 +5,8 @@ use Rattle.assoc_mem.specs.declared.What.{What}
 use Rattle.page_table.specs.declared.Ptw.TheVariants as ptw
 use Rattle.machine_model.specs.declared.Aim.{Aim}
 use Rattle.machine_model.specs.Changes.{taken, cut, back, back_seg, gone, gone_seg}
-use Rattle.machine_model.specs.State.{CutDescriptor, Owner}
+use Rattle.machine_model.specs.declared.CutDescriptor.{CutDescriptor}
+use Rattle.machine_model.specs.State.{Owner}
 use Rattle.machine_model.specs.Seen.{Seen}
 
 -- the page that is in a frame; page 0 of segment 0 where none is

@@ -16,7 +16,10 @@ use Rattle.custody_model.specs.Next.{at_put, at_put_two, queued, is_try, release
 use Rattle.machine_model.specs.declared.Aim.{Aim}
 use Rattle.machine_model.specs.declared.Phase.TheVariants as phase
 use Rattle.machine_model.specs.Reads.{frames_of_owner, cut_of_owner}
-use Rattle.machine_model.specs.State.{Processor, Run, Owner, CutDescriptor}
+use Rattle.machine_model.specs.declared.Processor.{Processor}
+use Rattle.machine_model.specs.declared.Run.{Run}
+use Rattle.machine_model.specs.declared.CutDescriptor.{CutDescriptor}
+use Rattle.machine_model.specs.State.{Owner}
 use Rattle.machine_model.specs.Seen.{Seen, flat}
 
 -- ---- processors

@@ -26,7 +26,8 @@ use Rattle.vtoc.specs.Vtoc.{least_free_entry}
 use Rattle.seg_control.specs.Control.{Links, kst_at, table_of, word_of}
 use Rattle.seg_control.specs.Effects.{forgotten, made_known}
 use Rattle.storage_ops.specs.Shown.{who_at}
-use Rattle.machine_model.specs.State.{State, Storage, CutDescriptor}
+use Rattle.machine_model.specs.declared.CutDescriptor.{CutDescriptor}
+use Rattle.machine_model.specs.State.{State, Storage}
 use Rattle.machine_model.specs.Reads.{or_zero, frames_of_owner, cut_of_owner, process_at, home_in, is_active}
 use Rattle.machine_model.specs.Refusal.{reply_of, uid_at_path, uid_of_command}
 use Rattle.machine_model.specs.Steps.{booked, with_owner, with_store, with_pages, with_word, left_at, told}

@@ -21,7 +21,10 @@ use Rattle.machine_model.specs.declared.Aim.TheVariants as aim
 use Rattle.machine_model.specs.declared.Phase.{Phase}
 use Rattle.machine_model.specs.declared.Phase.TheVariants as phase
 use Rattle.machine_model.specs.Reads.{frames_of_owner, cut_of_owner}
-use Rattle.machine_model.specs.State.{Processor, Run, Owner, CutDescriptor}
+use Rattle.machine_model.specs.declared.Processor.{Processor}
+use Rattle.machine_model.specs.declared.Run.{Run}
+use Rattle.machine_model.specs.declared.CutDescriptor.{CutDescriptor}
+use Rattle.machine_model.specs.State.{Owner}
 use Rattle.machine_model.specs.Seen.{Seen, flat, shown, is_cut_at}
 
 -- ---- the owner's job

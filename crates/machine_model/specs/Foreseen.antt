@@ -13,7 +13,9 @@ use Rattle.assoc_mem.specs.Held.{seg_of}
 use Rattle.core_map.specs.declared.Frame.TheVariants as frame
 use Rattle.seg_control.specs.Control.{Links, place_of, sdws_at}
 use Rattle.storage_ops.specs.Shown.{is_filed}
-use Rattle.machine_model.specs.State.{State, Processor, Run, Owner}
+use Rattle.machine_model.specs.declared.Processor.{Processor}
+use Rattle.machine_model.specs.declared.Run.{Run}
+use Rattle.machine_model.specs.State.{State, Owner}
 use Rattle.machine_model.specs.Reads.{next_command, cpu_at, processor_at, process_at, run_at, frames_from}
 use Rattle.machine_model.specs.Actions as act
 use Rattle.machine_model.specs.Jobs.{deactivation_begun, page_gone, took, victim_taken}

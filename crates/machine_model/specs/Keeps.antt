@@ -17,7 +17,9 @@ use Rattle.storage_ops.specs.Shown.{IsStore, ShowsTree, ShowsPages, ShowsScript,
 use Rattle.machine_model.specs.Custodial.{KeepsBook}
 use Rattle.machine_model.specs.Holding.{seen}
 use Rattle.machine_model.specs.Reads.{cut_of_owner, flat_of, is_active, processor_at}
-use Rattle.machine_model.specs.State.{CutDescriptor, Owner, Processor, State, Storage}
+use Rattle.machine_model.specs.declared.Processor.{Processor}
+use Rattle.machine_model.specs.declared.CutDescriptor.{CutDescriptor}
+use Rattle.machine_model.specs.State.{Owner, State, Storage}
 
 -- The store's own promise: page tables, frames and file maps agree, descriptors and trailers do, what is active is in
 -- the tree, the running counts are the counts from scratch, and a connected descriptor has the right mode and length.

@@ -25,7 +25,9 @@ use Rattle.machine_model.specs.declared.Aim.{Aim}
 use Rattle.machine_model.specs.declared.Aim.TheVariants as aim
 use Rattle.machine_model.specs.declared.Phase.{Phase}
 use Rattle.machine_model.specs.declared.Phase.TheVariants as phase
-use Rattle.machine_model.specs.State.{State, Processor, Run, Owner}
+use Rattle.machine_model.specs.declared.Processor.{Processor}
+use Rattle.machine_model.specs.declared.Run.{Run}
+use Rattle.machine_model.specs.State.{State, Owner}
 use Rattle.machine_model.specs.Reads.{descriptor_of, is_connected, next_command}
 use Rattle.machine_model.specs.Steps.{uid_of_held}
 use Rattle.machine_model.specs.Outline.{Want, Refer, Truncate, Length, Other, Runner, no_runner, Work, EvictFrame}

@@ -25,7 +25,10 @@ use Rattle.seg_control.specs.Control.{Links, is_for, place_of, sdws_at, table_of
 use Rattle.storage_ops.specs.Shown.{home_of, pages_in, who_at}
 use Rattle.processor.specs.declared.Cpu.{Cpu}
 use Rattle.processor.specs.Moves.{offline}
-use Rattle.machine_model.specs.State.{State, Storage, Processor, Run, Owner, CutDescriptor}
+use Rattle.machine_model.specs.declared.Processor.{Processor}
+use Rattle.machine_model.specs.declared.Run.{Run}
+use Rattle.machine_model.specs.declared.CutDescriptor.{CutDescriptor}
+use Rattle.machine_model.specs.State.{State, Storage, Owner}
 
 -- a number, and 0 where there is none
 abbrev pub or_zero : Option ℕ → ℕ

@@ -13,7 +13,10 @@ use Rattle.custody_model.specs.declared.DescriptorUse.{DescriptorUse}
 use Rattle.custody_model.specs.declared.DescriptorUse.TheVariants as descriptor
 use Rattle.custody_model.specs.Custody.{Custody, Seat}
 use Rattle.machine_model.specs.Reads.{cut_of_owner}
-use Rattle.machine_model.specs.State.{Processor, Run, Owner, CutDescriptor}
+use Rattle.machine_model.specs.declared.Processor.{Processor}
+use Rattle.machine_model.specs.declared.Run.{Run}
+use Rattle.machine_model.specs.declared.CutDescriptor.{CutDescriptor}
+use Rattle.machine_model.specs.State.{Owner}
 
 -- The script and the book; for each frame the page that it is bound to, and the one that is being read into it; the
 -- page table word of each page of each segment; which segments are active; for each process and segment number the

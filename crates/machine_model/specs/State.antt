@@ -12,6 +12,9 @@ use Rattle.active_segs.specs.Active.{ActiveSegs}
 use Rattle.seg_control.specs.Control.{Links}
 use Rattle.processor.specs.declared.Cpu.{Cpu}
 use Rattle.machine_model.specs.declared.Phase.{Phase}
+use Rattle.machine_model.specs.declared.Processor.{Processor}
+use Rattle.machine_model.specs.declared.Run.{Run}
+use Rattle.machine_model.specs.declared.CutDescriptor.{CutDescriptor}
 
 -- The tree with its accounts; the core map, the words in the frames and on the drives, the records and the VTOCs; the
 -- active segments; the trailers, the numbers and the descriptors; for whom each process runs.
@@ -21,29 +24,6 @@ pub record Storage : Type 0 where
   pub ast : ActiveSegs
   pub links : Links
   pub whos : List Who
-
--- A processor; how many command entries it made since it loaded its process; whether the last of them was a try that
--- didn't end its `await`.
-pub record Processor : Type 0 where
-  pub cpu : Cpu
-  pub count : ℕ
-  pub tried : Bool
-
--- The place of a process's next command; how often it has tried it, where it is an `await`; whether the process has
--- ended.
-pub record Run : Type 0 where
-  pub place : ℕ
-  pub tries : ℕ
-  pub ended : Bool
-
--- A descriptor that the owner's job has cut: its process and number, the segment that it led to, and the mode and
--- length that it had.
-pub record CutDescriptor : Type 0 where
-  pub process : ℕ
-  pub number : ℕ
-  pub uid : ℕ
-  pub mode : Mode
-  pub pages : ℕ
 
 -- The processor that owns the supervisor; how far its job has come; the frames that the job took, and the descriptors
 -- that it cut, in the order in which it came to them.

@@ -35,7 +35,9 @@ use Rattle.seg_control.specs.Next.{made_active, table_for, words_in as words_of_
 use Rattle.processor.specs.declared.Cpu.{Cpu}
 use Rattle.processor.specs.declared.Transfer.{Transfer}
 use Rattle.machine_model.specs.declared.Phase.TheVariants as phase
-use Rattle.machine_model.specs.State.{State, Storage, Processor, Run, Owner}
+use Rattle.machine_model.specs.declared.Processor.{Processor}
+use Rattle.machine_model.specs.declared.Run.{Run}
+use Rattle.machine_model.specs.State.{State, Storage, Owner}
 use Rattle.machine_model.specs.Reads.{or_zero, processor_at, cpu_at, run_at, process_at, next_command, home_in}
 use Rattle.machine_model.specs.Reads.{length_in, mode_in, superior_of_node, descriptor_of}
 use Rattle.machine_model.specs.Actions.{pool_of_node}

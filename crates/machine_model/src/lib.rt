@@ -4,6 +4,49 @@
 #![tactic(auto)]
 
 use assoc_mem::What;
+use mnames::Mode;
+use processor::Cpu;
+
+/// A processor, and the turn of its process: how many commands it answered since it loaded it, and whether the last of them
+/// was a try that didn't end its `await` (Corbató 1968).
+#[derive(Drop)]
+pub struct Processor {
+    pub cpu: Cpu,
+    pub count: u64,
+    pub tried: bool,
+}
+
+/// How far a process has come: the place of its next command; how often it has tried it, where that is an `await`; whether
+/// the process has ended (own).
+#[derive(Clone, Copy)]
+pub struct Run {
+    pub place: u32,
+    pub tries: u32,
+    pub ended: bool,
+}
+
+/// A descriptor that the owner's job has cut: its process and number, the segment that it led to, and the mode and length
+/// in pages that it had (own).
+#[derive(Clone, Copy)]
+pub struct CutDescriptor {
+    pub process: u32,
+    pub number: u32,
+    pub uid: u32,
+    pub mode: Mode,
+    pub pages: u32,
+}
+
+impl Default for CutDescriptor {
+    fn default() -> Self {
+        CutDescriptor {
+            process: 0,
+            number: 0,
+            uid: 0,
+            mode: Mode::Null,
+            pages: 0,
+        }
+    }
+}
 
 /// What the owner of the supervisor is after with the pages and descriptors that it takes (own).
 #[derive(Clone, Copy)]
