@@ -1,0 +1,4 @@
+pub mod LinkLaws
+pub mod PageLaws
+pub mod ReadyLaws
+pub mod SignalLaws

@@ -1,0 +1,64 @@
+-- How the ready list grows by the processes that the initializer makes ready.
+use Rattle.std.proofs.Common.{◌≡◌, ◌+◌, ◌<◌, ◌≤◌, ℕ, suc, zero, List, [], ◌∷◌, ◌++◌, length, refl, sym, ap, ◌∙◌, arith, append-nil, append_assoc, length-append}
+use Rattle.custody_model.specs.Custody.{range}
+use Rattle.traffic.specs.Queue.{Queue, with_last}
+
+pub range_length : (from n : ℕ) → length (range from n) ≡ n
+range_length from zero = refl
+range_length from (suc n) = ap suc (range_length (from + 1) n)
+
+range_end : (from n : ℕ) → range from (suc n) ≡ range from n ++ (from + n) ∷ []
+range_end from zero = let e : from ≡ from + 0 = omega arith in ap (λ (x : ℕ). x ∷ []) e
+range_end from (suc n) =
+    let r = range_end (from + 1) n in
+    let e : from + 1 + n ≡ from + suc n = omega arith in
+    ap (λ (xs : List ℕ). from ∷ xs) (r ∙ ap (λ (x : ℕ). range (from + 1) n ++ x ∷ []) e)
+
+-- the list with so many released
+abbrev pub released : Queue → ℕ → Queue
+released q n = record q { waiting = q.waiting ++ range 1 n }
+
+pub none_released : (q : Queue) → q ≡ released q 0
+none_released q = λ i. record q { waiting = sym (append-nil q.waiting) i }
+
+pub one_released : (n : ℕ) (q before after : Queue) → before ≡ released q n → after ≡ with_last before (n + 1) → after ≡ released q (n + 1)
+one_released n q before after e f =
+    let s : suc n ≡ n + 1 = omega arith in
+    let z : 1 + n ≡ n + 1 = omega arith in
+    let more : range 1 n ++ (n + 1) ∷ [] ≡ range 1 (n + 1) =
+        sym (range_end 1 n ∙ ap (λ (x : ℕ). range 1 n ++ x ∷ []) z) ∙ ap (range 1) s in
+    let items = append_assoc q.waiting (range 1 n) ((n + 1) ∷ []) ∙ ap (λ (zs : List ℕ). q.waiting ++ zs) more in
+    f ∙ ap (λ (x : Queue). with_last x (n + 1)) e ∙ (λ i. record q { waiting = items i })
+
+pub room_left : (q t : Queue) (n count : ℕ) → t ≡ released q n → n < count → length q.waiting + count ≤ q.room → length t.waiting < t.room
+room_left q t n count e lt room =
+    let items : length t.waiting ≡ length q.waiting + length (range 1 n) =
+        ap (λ (x : Queue). length x.waiting) e ∙ length-append q.waiting (range 1 n) in
+    let many : length (range 1 n) ≡ n = range_length 1 n in
+    let same : t.room ≡ q.room = ap (λ (x : Queue). x.room) e in
+    omega (arith, items, many, same, lt, room)
+
+-- so many can be released where their list has room
+pub room_for : (n room count : ℕ) (xs : List ℕ) → range 1 count ≡ xs → n + length xs ≤ room → n + count ≤ room
+room_for n room count xs e le =
+    let many : count ≡ length xs = sym (range_length 1 count) ∙ ap length e in omega (arith, many, le)
+
+-- ---- all processes are ready at first
+
+abbrev pub first_of : ℕ → ℕ → Queue
+first_of n count = record { waiting = range 0 n; room = count }
+
+pub ready_room : (q : Queue) (n count : ℕ) → q ≡ first_of n count → n < count → length q.waiting < q.room
+ready_room q n count e lt =
+    let items : length q.waiting ≡ n = ap (λ (x : Queue). length x.waiting) e ∙ range_length 0 n in
+    let same : q.room ≡ count = ap (λ (x : Queue). x.room) e in
+    omega (arith, items, same, lt)
+
+pub one_ready : (before after : Queue) (n count : ℕ) → before ≡ first_of n count → after ≡ with_last before n
+    → after ≡ first_of (n + 1) count
+one_ready before after n count e f =
+    let s : suc n ≡ n + 1 = omega arith in
+    let z : 0 + n ≡ n = omega arith in
+    let more : range 0 n ++ n ∷ [] ≡ range 0 (n + 1) =
+        sym (range_end 0 n ∙ ap (λ (x : ℕ). range 0 n ++ x ∷ []) z) ∙ ap (range 0) s in
+    f ∙ ap (λ (x : Queue). with_last x n) e ∙ (λ i. record { waiting = more i; room = count })

@@ -1,0 +1,49 @@
+-- What the tables of a machine have.
+use Rattle.std.specs.Prelude.{ℕ, false, length, replicate, List, [], None}
+use Rattle.script.specs.Plans.{Plan}
+use Rattle.custody_model.specs.Custody.{ready_at_first}
+use Rattle.page_control.specs.Plain.{Plain, plain}
+use Rattle.storage_ops.specs.Shown.{Storage as Stored}
+use Rattle.machine_model.specs.State.{State, Storage}
+use Rattle.machine_model.specs.Boot.{first_run}
+use Rattle.machine_model.specs.Reads.{no_processor}
+use Rattle.machine_model.specs.Steps.{with_pages, with_store}
+
+-- the machine's state; how many processes the ready list has room for; the drives
+pub record Parts (D : Type 0) : Type 0 where
+  pub state : State
+  pub room : ℕ
+  pub drives : List D
+
+abbrev pub with_state : {D : Type 0} → Parts D → State → Parts D
+with_state t s = record t { state = s }
+
+-- the same tables with other frames, drives, records and VTOCs
+abbrev pub with_pages_of : {D : Type 0} → Parts D → Plain → Parts D
+with_pages_of t pages = with_state t (with_store t.state (with_pages t.state.store pages))
+
+-- a store, whose drives are seen as the words of their records
+abbrev pub shown : {D : Type 0} → (D → List (List ℕ)) → Stored D → Storage
+shown pages t = record {
+  accounts = t.accounts;
+  pages = plain pages t.segs.pages;
+  ast = t.segs.ast;
+  links = t.segs.links;
+  whos = t.whos;
+}
+
+-- before the first entry, over a store: each process at its first command, and no processor takes part
+abbrev pub first_state : Plan → Storage → ℕ → ℕ → State
+first_state p st spare faults = record {
+  plan = p;
+  entries = [];
+  spare = spare;
+  store = st;
+  runs = replicate (length p.processes) first_run;
+  ready = ready_at_first p;
+  processors = replicate p.processors no_processor;
+  owner = None;
+  stopped = false;
+  visited = 0;
+  faults = faults;
+}

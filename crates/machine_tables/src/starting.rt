@@ -1,0 +1,119 @@
+ghost use Rattle.std.specs.Prelude.{◌≡◌, ◌<◌, ◌≤◌, ◌∷◌, [], length, replicate, IfOk};
+ghost use Rattle.std.specs.List.{sum_by};
+ghost use Rattle.custody_model.specs.Custody.{range, ready_at_first};
+ghost use Rattle.machine_model.specs.Boot.{first_run};
+ghost use Rattle.machine_model.specs.Reads.{no_processor};
+ghost use Rattle.traffic.specs.Queue.{Queue};
+ghost use Rattle.machine_tables.specs.Parts.{first_state, shown};
+
+use crate::owner::Job;
+use crate::tables::{NoMemory, Tables};
+use book::Book;
+use machine_model::{Processor, Run};
+use processor::Cpu;
+use script::Script;
+use std::alloc::Global;
+use storage_ops::Store;
+use traffic::Ready;
+use volumes::Drive;
+
+/// A processor that takes no part yet.
+fn idle() -> Processor
+    ensures { result ≡ no_processor }
+{
+    Processor {
+        cpu: Cpu::offline(),
+        count: 0,
+        tried: false,
+    }
+}
+
+/// So many processors, none of which takes part yet.
+fn first_processors(alloc: Global, count: u32) -> Result<Vec<Processor>, NoMemory>
+    ensures { IfOk result (λ v. v.items ≡ replicate count no_processor) }
+{
+    let mut processors = Vec::new(alloc);
+    for _place in 0..count {
+        processors.push(idle()).map_err(|_| NoMemory)?;
+    }
+    Ok(processors)
+}
+
+/// So many processes, each before its first command.
+fn first_runs(alloc: Global, count: u32) -> Result<Vec<Run>, NoMemory>
+    ensures { IfOk result (λ v. v.items ≡ replicate count first_run) }
+{
+    let mut runs = Vec::new(alloc);
+    for _place in 0..count {
+        runs.push(Run {
+            place: 0,
+            tries: 0,
+            ended: false,
+        })
+        .map_err(|_| NoMemory)?;
+    }
+    Ok(runs)
+}
+
+/// All processes are ready, in order.
+fn all_ready(alloc: Global, count: u32) -> Result<Ready, NoMemory>
+    ensures { IfOk result (λ r. r ≡ record { waiting = range 0 count; room = count }) }
+{
+    let mut ready = Ready::new(alloc, count).map_err(|_| NoMemory)?;
+    for process in 0..count {
+        ready.enter(process);
+    }
+    Ok(ready)
+}
+
+/// The initializer alone is ready, of so many processes.
+fn initializer_ready(alloc: Global, count: u32) -> Result<Ready, NoMemory>
+    requires { 1 ≤ count }
+    ensures { IfOk result (λ r. r ≡ record { waiting = 0 ∷ []; room = count }) }
+{
+    let mut ready = Ready::new(alloc, count).map_err(|_| NoMemory)?;
+    ready.enter(0);
+    Ok(ready)
+}
+
+/// The processes of a script that are ready at first, in order: the initializer alone, where there is one.
+fn first_ready(alloc: Global, script: &Script) -> Result<Ready, NoMemory>
+    ensures { IfOk result (λ r. r ≡ record { waiting = ready_at_first script.now; room = length script.now.processes }) }
+{
+    let count = script.processes();
+    if script.initializer() {
+        initializer_ready(alloc, count)
+    } else {
+        all_ready(alloc, count)
+    }
+}
+
+impl<D: Drive> Tables<D> {
+    /// The tables of a script before its first entry, over a store. It takes all the memory that they ever have, but for
+    /// the entries of the book.
+    ///
+    /// # Errors
+    /// `NoMemory` is want of memory. (Source: own.)
+    pub fn new(alloc: Global, script: Script, store: Store<D>) -> Result<Tables<D>, NoMemory>
+        ensures state { IfOk result (λ t. t.state ≡ first_state script (shown D.pages store) t.state.spare
+            (sum_by D.faults store.segs.pages.volumes.drives)) }
+        ensures room { IfOk result (λ t. t.room ≡ length script.processes) }
+        ensures drives { IfOk result (λ t. t.drives ≡ store.segs.pages.volumes.drives) }
+    {
+        let runs = first_runs(alloc, script.processes())?;
+        let ready = first_ready(alloc, &script)?;
+        let processors = first_processors(alloc, script.processors())?;
+        let job = Job::none(alloc)?;
+        let book = Book::new(alloc, script).map_err(|_| NoMemory)?;
+        Ok(Tables {
+            book,
+            store,
+            runs,
+            ready,
+            processors,
+            job,
+            stopped: false,
+            visited: 0,
+        })
+    }
+}
