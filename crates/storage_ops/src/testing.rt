@@ -48,8 +48,9 @@ impl<D: Drive> Store<D> {
         }
     }
 
-    /// What refuses a tree command of a process now, the first of its refusals that holds; None exactly where none does,
-    /// as always for the end. A reference isn't refused here. (Source: Bensoussan, Clingen and Daley 1972; Organick 1972.)
+    /// What refuses a tree command of a process now, the first of its refusals that holds; None exactly where none
+    /// does, as always for the end. A reference isn't refused here. (Source: Bensoussan, Clingen and Daley 1972;
+    /// Organick 1972.)
     pub fn test(&self, process: u32, command: &Command) -> Option<Reply>
         requires process { process < length self.now.segs.links.known }
         requires ranges { is_command (length self.now.segs.pages.volumes.drives) command.now ≡ true }
