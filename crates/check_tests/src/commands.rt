@@ -38,6 +38,47 @@ load 1 1
 do 1.0 1 - known 0
 ";
 
+/// Smith, who refers to two segments.
+const TWO: &str = "machine 1 4 12 1 1 1
+quota 9
+volume alpha 16 8
+process Smith
+mkseg >s 1 alpha
+mkseg >t 1 alpha
+initiate >s
+initiate >t
+write 0 0 1
+read 1 0
+end
+";
+
+/// He holds page 0 of either, and wrote that of the first.
+const HELD: &str = "online 0
+load 0 0
+do 0.0 0 - made 2
+do 0.1 0 - made 3
+do 0.2 0 - known 0
+do 0.3 0 - known 1
+activate 1
+activate 2
+activate 3
+connect 0 0 2
+connect 0 1 3
+in 0 2 0
+in 1 3 0
+fill 0 seg 0
+fill 0 seg 1
+fill 0 page 0
+fill 0 page 1
+do 0.4 0 0 done
+";
+
+#[test]
+fn a_reference_goes_through_its_own_segments_frame(rt: HostRuntime) -> Result<(), Fail> {
+    allowed(&rt, TWO, HELD, &["do 0.5 0 1 word 000000000000"])?;
+    refused(&rt, TWO, HELD, &["do 0.5 0 0 word 000000000000"])
+}
+
 #[test]
 fn a_reference_goes_through_what_is_held(rt: HostRuntime) -> Result<(), Fail> {
     let cases = [

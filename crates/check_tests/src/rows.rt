@@ -334,5 +334,10 @@ fn a_page_that_is_given_up_is_in_no_frame(rt: HostRuntime) -> Result<(), Fail> {
         "fault 0",
     ];
     allowed(&rt, SCRIPT, ZEROS, &cases)?;
-    refused(&rt, SCRIPT, ZEROS, &["release 2 0", "take 0\nrelease 2 0"])
+    let cases = [
+        "release 2 0",
+        "take 0\nrelease 2 0",
+        "take 0\nsignal 0 page 0\ngone page 0\nstart 1 2 0\nrelease 2 0",
+    ];
+    refused(&rt, SCRIPT, ZEROS, &cases)
 }
