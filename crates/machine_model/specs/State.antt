@@ -2,7 +2,6 @@
 -- the owner of the supervisor with its job (Bensoussan, Clingen and Daley 1972; Corbató 1968; the phases of a job are
 -- own).
 use Rattle.std.specs.Prelude.{ℕ, Bool, List, Option}
-use Rattle.mnames.specs.declared.modes.Mode.{Mode}
 use Rattle.mnames.specs.declared.principals.Who.{Who}
 use Rattle.script.specs.Plans.{Plan}
 use Rattle.book.specs.declared.entries.Entry.{Entry}
@@ -10,7 +9,6 @@ use Rattle.accounts.specs.Maps.{AccountMaps}
 use Rattle.page_control.specs.Plain.{Plain}
 use Rattle.active_segs.specs.Active.{ActiveSegs}
 use Rattle.seg_control.specs.Control.{Links}
-use Rattle.processor.specs.declared.Cpu.{Cpu}
 use Rattle.machine_model.specs.declared.Phase.{Phase}
 use Rattle.machine_model.specs.declared.Processor.{Processor}
 use Rattle.machine_model.specs.declared.Run.{Run}
