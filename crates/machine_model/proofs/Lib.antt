@@ -73,6 +73,7 @@ pub mod StepKept
 pub mod StepLaws
 pub mod TakeLists
 pub mod TakeSeen
+pub mod TakeWhole
 pub mod TellKept
 pub mod TieLaws
 pub mod TiedLaws

@@ -34,7 +34,7 @@ use Rattle.machine_model.proofs.TransferKept.{kept_with}
 -- ---- descriptors
 
 -- a pair of a process and a number
-abbrev is_pair : ℕ → ℕ → ℕ × ℕ → Bool
+abbrev pub is_pair : ℕ → ℕ → ℕ × ℕ → Bool
 is_pair k n x = eqb x.0 k && eqb x.1 n
 
 abbrev pub has_pair : List (ℕ × ℕ) → ℕ → ℕ → Bool

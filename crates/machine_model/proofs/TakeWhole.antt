@@ -1,0 +1,344 @@
+-- A job that makes a segment inactive takes it whole: each of its pages that is in a frame, where none is being read
+-- into one, and each descriptor that leads to it.
+use Rattle.std.proofs.Common.{◌≡◌, ◌≢◌, ◌≤◌, ℕ, zero, suc, ◌+◌, Bool, true, false, ◌||◌, cond, eqb, count_by}
+use Rattle.std.proofs.Common.{List, [], ◌∷◌, get_or, Option, Some, None, ◌⊎◌, inl, inr, refl, sym}
+use Rattle.std.proofs.Common.{ap, subst, ◌∙◌, arith}
+use Rattle.std.proofs.lemmas.Bool.Decides.{eqb_tells}
+use Rattle.std.proofs.lemmas.List.Folds.{list_any-append}
+use Rattle.std.proofs.lemmas.List.Sums.{sum_by-cons}
+use Rattle.assoc_mem.specs.declared.What.{What}
+use Rattle.assoc_mem.specs.declared.What.TheVariants as what
+use Rattle.page_table.specs.declared.Ptw.{Ptw}
+use Rattle.page_table.specs.declared.Ptw.TheVariants as ptw
+use Rattle.page_control.specs.Plain.{Plain, binding_at, bindings, frame_in}
+use Rattle.core_map.specs.CoreMap.{bound_page, reads_of}
+use Rattle.descriptor_seg.specs.declared.Sdw.{Sdw}
+use Rattle.descriptor_seg.specs.declared.Sdw.TheVariants as sdw
+use Rattle.trailers.specs.Trailer.{leads_to as is_trailer, trailers_of}
+use Rattle.seg_control.specs.Control.{leads, leads_at, place_of, table_of}
+use Rattle.seg_control.specs.Kept.{read_at, times}
+use Rattle.custody_model.specs.Custody.{has, is_going_descriptor, is_going_frame, leads_to, page_of, uid_of_page}
+use Rattle.custody_model.specs.Next.{at_put_two}
+use Rattle.machine_model.specs.declared.Aim.{Aim}
+use Rattle.machine_model.specs.declared.Aim.TheVariants as aim
+use Rattle.machine_model.specs.Changes.{cut}
+use Rattle.machine_model.specs.Custodial.{KeepsBook, has_cut, names}
+use Rattle.machine_model.specs.Holding.{led_to, seen}
+use Rattle.machine_model.specs.Jobs.{cut_all, cut_one, deactivation_begun, leaving_if, note_of, segment_taken, take_all}
+use Rattle.machine_model.specs.Jobs.{take_one, took}
+use Rattle.machine_model.specs.Keeps.{Keeps}
+use Rattle.machine_model.specs.Reads.{cut_of_owner, descriptor_of, frames_from, frames_in, frames_of_owner, here_in}
+use Rattle.machine_model.specs.Reads.{is_active, trailers_in}
+use Rattle.machine_model.specs.Seen.{Seen, bound_use, cut_uid, descriptor_use, frame_use, is_cut_at, shown}
+use Rattle.machine_model.specs.declared.CutDescriptor.{CutDescriptor}
+use Rattle.machine_model.specs.State.{State, Storage}
+use Rattle.machine_model.specs.Whole.{IsWhole, TakenWhole, aimed_at, going_for}
+use Rattle.machine_model.proofs.ActiveSeen.{active_place}
+use Rattle.machine_model.proofs.OwnedLaws.{IsIdle}
+use Rattle.machine_model.proofs.Places.{by_places}
+use Rattle.machine_model.proofs.TakeLists.{segment_takes}
+use Rattle.machine_model.proofs.TakeSeen.{cut_one_seen}
+use Rattle.machine_model.proofs.TieLaws.{none_some}
+use Rattle.machine_model.proofs.TookKept.{ArePairs, CanTook, has_pair, is_pair, note_is, pairs_kept, took_keeps}
+use Rattle.machine_model.proofs.WholeLaws.{whole_idle}
+
+or_true : (a : Bool) → (a || true) ≡ true
+or_true true = refl
+or_true false = refl
+
+or_cases : (a b : Bool) → (a || b) ≡ true → (a ≡ true) ⊎ (b ≡ true)
+or_cases true b h = inl refl
+or_cases false b h = inr h
+
+own : (n : ℕ) → eqb n n ≡ true
+own n = elim (eqb_tells n n) [ inl e ↦ e.0 | inr m ↦ absurd (m.1 refl) ]
+
+one_of : (v u : ℕ) → Some v ≡ Some u → v ≡ u
+one_of v u h = cc
+
+-- ---- what is listed
+
+-- the frame of a page that is here is listed
+frame_listed : (ws : List Ptw) (q f : ℕ) → get_or ws q ptw.Null ≡ ptw.Here f → has (frames_in ws) f ≡ true
+frame_listed [] q f h = absurd (let no : ptw.Null ≡ ptw.Here f = h in cc)
+frame_listed (w ∷ ws) zero f h = list_any-append (λ y. eqb y f) (here_in w) (frames_in ws)
+    ∙ ap (λ (b : Bool). b || has (frames_in ws) f)
+    (ap (λ (x : Ptw). has (here_in x) f) h ∙ ap (λ (b : Bool). b || false) (own f))
+frame_listed (w ∷ ws) (suc q) f h = list_any-append (λ y. eqb y f) (here_in w) (frames_in ws)
+    ∙ (ap (λ (b : Bool). has (here_in w) f || b) (frame_listed ws q f h) ∙ or_true (has (here_in w) f))
+
+abbrev tally : Bool → ℕ
+tally b = cond b 1 0
+
+some_pair : (xs : List (ℕ × ℕ)) (k n : ℕ) → 1 ≤ count_by (is_trailer k n) xs → has_pair xs k n ≡ true
+some_pair [] k n h = absurd (omega (arith, h))
+some_pair (x ∷ xs) k n h = by (is_trailer k n x) refl (some_pair xs k n)
+  where
+    sum : count_by (is_trailer k n) (x ∷ xs) ≡ tally (is_trailer k n x) + count_by (is_trailer k n) xs
+    sum = sum_by-cons (λ y. tally (is_trailer k n y)) x xs
+
+    by : (b : Bool) → is_trailer k n x ≡ b → (1 ≤ count_by (is_trailer k n) xs → has_pair xs k n ≡ true)
+        → (b || has_pair xs k n) ≡ true
+    by true e rest = refl
+    by false e rest = rest (let none : tally (is_trailer k n x) ≡ 0 = ap tally e in
+        let all = sum in omega (arith, none, all, h))
+
+-- each descriptor that leads to a segment is one of its trailers
+trailer_listed : (s : State) (u k n : ℕ) → Keeps s → is_active s.store.ast u ≡ true → (seen s).linked k n ≡ Some u
+    → has_pair (trailers_in s.store u) k n ≡ true
+trailer_listed s u k n keeps active linked = ap (λ (xs : List (ℕ × ℕ)). has_pair xs k n) listed
+    ∙ some_pair (trailers_of s.store.links.trailers place) k n
+    (let exact = keeps.store.kept.linked.exact place k n in let one = once in omega (arith, exact, one))
+  where
+    place : ℕ
+    place = place_of s.store.ast.entries u
+
+    listed : trailers_in s.store u ≡ trailers_of s.store.links.trailers place
+    listed = ap (λ (b : Bool). cond b (trailers_of s.store.links.trailers place) []) active
+
+    by : (y : Sdw) → descriptor_of s.store.links k n ≡ y → led_to s.store.ast.entries y ≡ Some u
+        → leads_at s.store.links.descriptors k n ≡ Some place
+    by sdw.Fault e h = absurd (none_some h)
+    by (sdw.Present aste m pages) e h = ap leads e ∙ ap (λ (x : ℕ). Some x)
+        (keeps.store.kept.tree.once aste place u h (active_place s.store.ast u active).1)
+
+    once : times (leads_at s.store.links.descriptors k n) place ≡ 1
+    once = ap (λ (o : Option ℕ). times o place) (by (descriptor_of s.store.links k n) refl linked)
+        ∙ ap tally (own place)
+
+-- ---- what the owner has taken
+
+take_has : (s : State) (c : ℕ) (a : Aim) (w : What) (fs : List ℕ) (g : ℕ)
+    → (has (frames_of_owner s.owner) g ≡ true) ⊎ (has fs g ≡ true)
+    → has (frames_of_owner (take_all s c a w fs).owner) g ≡ true
+take_has s c a w [] g (inl h) = h
+take_has s c a w [] g (inr h) = absurd (let no : false ≡ true = h in cc)
+take_has s c a w (f ∷ fs) g h = take_has (take_one s c a w f) c a w fs g (by h)
+  where
+    parts : has (frames_of_owner (take_one s c a w f).owner) g ≡ (has (frames_of_owner s.owner) g || (eqb f g || false))
+    parts = list_any-append (λ y. eqb y g) (frames_of_owner s.owner) (f ∷ [])
+
+    by : (has (frames_of_owner s.owner) g ≡ true) ⊎ (has (f ∷ fs) g ≡ true)
+        → (has (frames_of_owner (take_one s c a w f).owner) g ≡ true) ⊎ (has fs g ≡ true)
+    by (inl e) = inl (parts ∙ ap (λ (b : Bool). b || (eqb f g || false)) e)
+    by (inr e) = elim (or_cases (eqb f g) (has fs g) e) [
+      | inl d ↦ inl (parts ∙ (ap (λ (b : Bool). has (frames_of_owner s.owner) g || (b || false)) d
+          ∙ or_true (has (frames_of_owner s.owner) g)))
+      | inr d ↦ inr d
+    ]
+
+note_at : (s : State) (k n : ℕ) (x : ℕ × ℕ) (y : Sdw) → is_cut_at k n (note_of s.store x.0 x.1 y) ≡ is_pair k n x
+note_at s k n x sdw.Fault = refl
+note_at s k n x (sdw.Present aste m pages) = refl
+
+cut_has : (s : State) (c : ℕ) (a : Aim) (w : What) (xs : List (ℕ × ℕ)) (k n : ℕ)
+    → (has_cut (cut_of_owner s.owner) k n ≡ true) ⊎ (has_pair xs k n ≡ true)
+    → has_cut (cut_of_owner (cut_all s c a w xs).owner) k n ≡ true
+cut_has s c a w [] k n (inl h) = h
+cut_has s c a w [] k n (inr h) = absurd (let no : false ≡ true = h in cc)
+cut_has s c a w (x ∷ xs) k n h = cut_has (cut_one s c a w x) c a w xs k n (by h)
+  where
+    d : CutDescriptor
+    d = note_of s.store x.0 x.1 (descriptor_of s.store.links x.0 x.1)
+
+    parts : has_cut (cut_of_owner (cut_one s c a w x).owner) k n
+        ≡ (has_cut (cut_of_owner s.owner) k n || (is_cut_at k n d || false))
+    parts = list_any-append (is_cut_at k n) (cut_of_owner s.owner) (d ∷ [])
+
+    by : (has_cut (cut_of_owner s.owner) k n ≡ true) ⊎ (has_pair (x ∷ xs) k n ≡ true)
+        → (has_cut (cut_of_owner (cut_one s c a w x).owner) k n ≡ true) ⊎ (has_pair xs k n ≡ true)
+    by (inl e) = inl (parts ∙ ap (λ (b : Bool). b || (is_cut_at k n d || false)) e)
+    by (inr e) = elim (or_cases (is_pair k n x) (has_pair xs k n) e) [
+      | inl i ↦ inl (parts ∙ (ap (λ (b : Bool). has_cut (cut_of_owner s.owner) k n || (b || false))
+          (note_at s k n x (descriptor_of s.store.links x.0 x.1) ∙ i)
+          ∙ or_true (has_cut (cut_of_owner s.owner) k n)))
+      | inr i ↦ inr i
+    ]
+
+-- ---- what stays as it was
+
+leaving_rest : (st : Storage) (f : ℕ) (o : Option (ℕ × ℕ)) → ((leaving_if st f o).pages ≡ st.pages)
+    × ((leaving_if st f o).links ≡ st.links) × ((leaving_if st f o).ast.entries ≡ st.ast.entries)
+leaving_rest st f None = (refl, refl, refl)
+leaving_rest st f (Some page) = (refl, refl, refl)
+
+abbrev RestIs : State → State → Type 0
+RestIs s now = (now.store.pages ≡ s.store.pages) × (now.store.links ≡ s.store.links)
+    × (now.store.ast.entries ≡ s.store.ast.entries)
+
+take_rest : (s : State) (c : ℕ) (a : Aim) (w : What) (fs : List ℕ) → RestIs s (take_all s c a w fs)
+take_rest s c a w [] = (refl, refl, refl)
+take_rest s c a w (f ∷ fs) = let rest = take_rest (take_one s c a w f) c a w fs in
+    let one = leaving_rest s.store f (bound_page (frame_in s.store.pages f)) in
+    (rest.0 ∙ one.0, rest.1 ∙ one.1, rest.2 ∙ one.2)
+
+cut_pages : (s : State) (c : ℕ) (a : Aim) (w : What) (xs : List (ℕ × ℕ))
+    → (cut_all s c a w xs).store.pages ≡ s.store.pages
+cut_pages s c a w [] = refl
+cut_pages s c a w (x ∷ xs) = cut_pages (cut_one s c a w x) c a w xs
+
+cut_frames : (s : State) (c : ℕ) (a : Aim) (w : What) (xs : List (ℕ × ℕ))
+    → frames_of_owner (cut_all s c a w xs).owner ≡ frames_of_owner s.owner
+cut_frames s c a w [] = refl
+cut_frames s c a w (x ∷ xs) = cut_frames (cut_one s c a w x) c a w xs
+
+-- a descriptor that still leads to a segment led there before
+cut_linked : (s : State) (c : ℕ) (a : Aim) (w : What) (xs : List (ℕ × ℕ)) → ArePairs (seen s).linked w xs
+    → (k n u : ℕ) → (seen (cut_all s c a w xs)).linked k n ≡ Some u → (seen s).linked k n ≡ Some u
+cut_linked s c a w [] are k n u h = h
+cut_linked s c a w (x ∷ xs) are k n u h = by_places (λ (o : Option ℕ). o ≡ Some u → (seen s).linked k n ≡ Some u)
+    (seen s).linked d.process d.number None k n (λ e i g. absurd (none_some g)) (λ m g. g)
+    (sym (ap (λ (v : Seen). v.linked k n) one)
+    ∙ cut_linked (cut_one s c a w x) c a w xs
+    (subst (λ (v : Seen). ArePairs v.linked w xs) (sym one)
+    (subst (λ (l : ℕ → ℕ → Option ℕ). ArePairs l w xs)
+    (λ i. at_put_two (seen s).linked (sym note.0 i) (sym note.1 i) None)
+    (pairs_kept (seen s).linked w x.0 x.1 xs are.1 are.2))) k n u h)
+  where
+    d : CutDescriptor
+    d = note_of s.store x.0 x.1 (descriptor_of s.store.links x.0 x.1)
+
+    note : (d.process ≡ x.0) × (d.number ≡ x.1) × (d.uid ≡ are.0.0)
+    note = note_is s x.0 x.1 are.0.0 (descriptor_of s.store.links x.0 x.1) are.0.1
+
+    one : seen (cut_one s c a w x) ≡ cut (seen s) c a w d
+    one = cut_one_seen s c a w x are.0.0 are.0.1
+
+-- ---- it is taken whole
+
+bound_uid : (page : ℕ × ℕ) (w : Ptw) → uid_of_page (page_of (bound_use page w)) ≡ Some page.0
+bound_uid page ptw.Null = refl
+bound_uid page (ptw.Out r) = refl
+bound_uid page (ptw.Here f) = refl
+bound_uid page (ptw.Leaving f) = refl
+
+-- A job that makes an active segment inactive, none of whose pages is being read, takes it whole.
+pub took_whole : (s : State) (c u : ℕ) → Keeps s → IsIdle s.owner → is_active s.store.ast u ≡ true
+    → ((f p : ℕ) → (seen s).reads f ≢ Some (u, p))
+    → IsWhole (shown (seen (took s c (aim.Deactivating u) (what.Seg u) (frames_from s.store.ast u 0)
+    (trailers_in s.store u)))) u
+took_whole s c u k idle active unread = record { pages = pages; descriptors = descriptors }
+  where
+    a : Aim
+    a = aim.Deactivating u
+
+    w : What
+    w = what.Seg u
+
+    fs : List ℕ
+    fs = frames_from s.store.ast u 0
+
+    xs : List (ℕ × ℕ)
+    xs = trailers_in s.store u
+
+    mid : State
+    mid = take_all s c a w fs
+
+    now : State
+    now = took s c a w fs xs
+
+    can : CanTook s a w fs xs
+    can = segment_takes s a w u 0 k idle (own u) (λ gs cs. refl)
+
+    book : KeepsBook (seen now)
+    book = (took_keeps s c a w fs xs k.store.kept.places k.book can).book
+
+    first : RestIs s mid
+    first = take_rest s c a w fs
+
+    mid_linked : (seen mid).linked ≡ (seen s).linked
+    mid_linked = λ i j n. led_to (first.2 i) (descriptor_of (first.1 i) j n)
+
+    frame_here : (f p : ℕ) (y : Ptw) → (seen s).bound f ≡ Some (u, p) → (seen s).words u p ≡ y → names y ≡ Some f
+        → has fs f ≡ true
+    frame_here f p ptw.Null b e h = absurd (none_some h)
+    frame_here f p (ptw.Out r) b e h = absurd (none_some h)
+    frame_here f p (ptw.Here g) b e h = frame_listed (table_of s.store.ast u) p f
+        (e ∙ ap (λ (x : ℕ). ptw.Here x) (one_of g f h))
+    frame_here f p (ptw.Leaving g) b e h = absurd (let no : true ≡ false =
+        sym (ap (λ (x : Option (ℕ × ℕ)). is_going_frame (frame_use (seen s).words x ((seen s).reads f))) b
+        ∙ ap (λ (x : Ptw). is_going_frame (bound_use (u, p) x)) e)
+        ∙ (k.book.going_owned.frames f ∙ ap (λ (gs : List ℕ). has gs f) idle.frames) in cc)
+
+    pages : (f : ℕ) → uid_of_page (page_of ((shown (seen now)).frame f)) ≡ Some u
+        → is_going_frame ((shown (seen now)).frame f) ≡ true
+    pages f h = book.going_owned.frames f ∙ (ap (λ (gs : List ℕ). has gs f) (cut_frames mid c a w xs)
+        ∙ take_has s c a w fs f (inr (by ((seen s).bound f) ((seen s).reads f) refl refl
+        (subst (λ (p : Plain). uid_of_page (page_of (frame_use (seen now).words (binding_at (bindings p.core) f)
+        (read_at (reads_of p.core) f))) ≡ Some u)
+        (cut_pages mid c a w xs ∙ first.0) h))))
+      where
+        by : (x y : Option (ℕ × ℕ)) → (seen s).bound f ≡ x → (seen s).reads f ≡ y
+            → uid_of_page (page_of (frame_use (seen now).words x y)) ≡ Some u → has fs f ≡ true
+        by None None b r e = absurd (none_some e)
+        by None (Some page) b r e = absurd (unread f page.1
+            (r ∙ ap (λ (v : ℕ). Some (v, page.1)) (one_of page.0 u e)))
+        by (Some page) y b r e = frame_here f page.1 ((seen s).words u page.1) is refl (k.book.tied.named f u page.1 is)
+          where
+            is : (seen s).bound f ≡ Some (u, page.1)
+            is = b ∙ ap (λ (v : ℕ). Some (v, page.1))
+                (one_of page.0 u (sym (bound_uid page ((seen now).words page.0 page.1)) ∙ e))
+
+    descriptors : (j n : ℕ) → leads_to ((shown (seen now)).descriptor j n) ≡ Some u
+        → is_going_descriptor ((shown (seen now)).descriptor j n) ≡ true
+    descriptors j n h = by ((seen now).linked j n) (cut_uid (cut_of_owner now.owner) j n) refl refl h
+      where
+        by : (x y : Option ℕ) → (seen now).linked j n ≡ x → cut_uid (cut_of_owner now.owner) j n ≡ y
+            → leads_to (descriptor_use x y) ≡ Some u → is_going_descriptor ((shown (seen now)).descriptor j n) ≡ true
+        by None None e d g = absurd (none_some g)
+        by None (Some v) e d g = λ i. is_going_descriptor (descriptor_use (e i) (d i))
+        by (Some v) y e d g = book.going_owned.cuts j n ∙ cut_has mid c a w xs j n (inr (trailer_listed s u j n k active
+            (ap (λ (l : ℕ → ℕ → Option ℕ). l j n) (sym mid_linked)
+            ∙ cut_linked mid c a w xs (subst (λ (l : ℕ → ℕ → Option ℕ). ArePairs l w xs) (sym mid_linked) can.pairs_are)
+            j n u (e ∙ ap (λ (x : ℕ). Some x) (one_of v u g)))))
+
+-- ---- the step
+
+take_goes : (s : State) (c : ℕ) (a : Aim) (w : What) (fs : List ℕ)
+    → (going_for (take_all s c a w fs).owner ≡ going_for s.owner) ⊎ (going_for (take_all s c a w fs).owner ≡ aimed_at a)
+take_goes s c a w [] = inl refl
+take_goes s c a w (f ∷ fs) = elim (take_goes (take_one s c a w f) c a w fs) [ inl e ↦ inr e | inr e ↦ inr e ]
+
+cut_goes : (s : State) (c : ℕ) (a : Aim) (w : What) (xs : List (ℕ × ℕ))
+    → (going_for (cut_all s c a w xs).owner ≡ going_for s.owner) ⊎ (going_for (cut_all s c a w xs).owner ≡ aimed_at a)
+cut_goes s c a w [] = inl refl
+cut_goes s c a w (x ∷ xs) = elim (cut_goes (cut_one s c a w x) c a w xs) [ inl e ↦ inr e | inr e ↦ inr e ]
+
+-- What goes of a segment that a job begins to make inactive is all of it.
+pub begun_whole : (s : State) (c u : ℕ) → Keeps s → IsIdle s.owner → going_for s.owner ≡ None
+    → is_active s.store.ast u ≡ true → ((f p : ℕ) → (seen s).reads f ≢ Some (u, p))
+    → TakenWhole (deactivation_begun s c u)
+begun_whole s c u k idle none active unread = by (frames_from s.store.ast u 0) (trailers_in s.store u) whole
+  where
+    a : Aim
+    a = aim.Deactivating u
+
+    w : What
+    w = what.Seg u
+
+    now : State
+    now = took s c a w (frames_from s.store.ast u 0) (trailers_in s.store u)
+
+    goes : (going_for now.owner ≡ None) ⊎ (going_for now.owner ≡ Some u)
+    goes = elim (cut_goes (take_all s c a w (frames_from s.store.ast u 0)) c a w (trailers_in s.store u)) [
+      | inl e ↦ elim (take_goes s c a w (frames_from s.store.ast u 0)) [
+        | inl d ↦ inl (e ∙ (d ∙ none))
+        | inr d ↦
+            inr (e ∙ d)
+      ]
+      | inr e ↦ inr e
+    ]
+
+    whole : TakenWhole now
+    whole = record {
+      whole = λ v h. elim goes [
+        | inl e ↦ absurd (none_some (sym e ∙ h))
+        | inr e ↦ subst (λ (x : ℕ). IsWhole (shown (seen now)) x) (one_of u v (sym e ∙ h))
+            (took_whole s c u k idle active unread)
+      ];
+    }
+
+    by : (fs : List ℕ) (xs : List (ℕ × ℕ)) → TakenWhole (took s c a w fs xs) → TakenWhole (segment_taken s c u fs xs)
+    by [] [] t = whole_idle (segment_taken s c u [] []) refl
+    by (f ∷ fs) xs t = t
+    by [] (x ∷ xs) t = t
