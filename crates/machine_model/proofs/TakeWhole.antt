@@ -292,6 +292,16 @@ took_whole s c u k idle active unread = record { pages = pages; descriptors = de
             ∙ cut_linked mid c a w xs (subst (λ (l : ℕ → ℕ → Option ℕ). ArePairs l w xs) (sym mid_linked) can.pairs_are)
             j n u (e ∙ ap (λ (x : ℕ). Some x) (one_of v u g)))))
 
+-- where there is nothing to take, a segment is whole already
+pub nothing_whole : (s : State) (c u : ℕ) → Keeps s → IsIdle s.owner → is_active s.store.ast u ≡ true
+    → ((f p : ℕ) → (seen s).reads f ≢ Some (u, p)) → frames_from s.store.ast u 0 ≡ [] → trailers_in s.store u ≡ []
+    → IsWhole (shown (seen s)) u
+nothing_whole s c u k idle active unread frames trailers =
+    subst (λ (xs : List (ℕ × ℕ)). IsWhole (shown (seen (took s c (aim.Deactivating u) (what.Seg u) [] xs))) u) trailers
+    (subst (λ (fs : List ℕ). IsWhole (shown (seen (took s c (aim.Deactivating u) (what.Seg u) fs
+        (trailers_in s.store u)))) u) frames
+    (took_whole s c u k idle active unread))
+
 -- ---- the step
 
 take_goes : (s : State) (c : ℕ) (a : Aim) (w : What) (fs : List ℕ)

@@ -20,7 +20,7 @@ use Rattle.machine_model.specs.Seen.{cut_uid, descriptor_use, frame_use}
 use Rattle.machine_model.specs.Seen.{shown}
 use Rattle.machine_model.specs.declared.CutDescriptor.{CutDescriptor}
 use Rattle.machine_model.specs.State.{State, Storage}
-use Rattle.machine_model.specs.Whole.{TakenWhole, going_for}
+use Rattle.machine_model.specs.Whole.{IsWhole, TakenWhole, going_for}
 use Rattle.machine_model.proofs.ActiveKept.{IsOver, segs_gone_rest}
 use Rattle.machine_model.proofs.TieLaws.{none_some}
 use Rattle.machine_model.proofs.WholeLaws.{no_page_left}
@@ -38,17 +38,17 @@ no_link_in st ds u = (j n : ℕ) → leads_to (descriptor_use (led_to st.ast.ent
     (cut_uid ds j n)) ≢ Some u
 
 -- A segment that was taken whole may become inactive once its pages have left and its descriptors are gone.
-pub may_deactivate : (s : State) (u : ℕ) → Keeps s → TakenWhole s → going_for s.owner ≡ Some u
+pub whole_may : (s : State) (u : ℕ) → Keeps s → IsWhole (holding s) u
     → frames_of_owner s.owner ≡ []
     → IsOver (segs_gone s (cut_of_owner s.owner)) → is_active s.store.ast u ≡ true
     → ((v : ℕ) → is_active s.store.ast v ≡ true
     → superior_in (node_in (flat_of (segs_gone s (cut_of_owner s.owner))).nodes v) ≢ Some u)
     → MayDeactivate (flat_of (segs_gone s (cut_of_owner s.owner))) (shown (seen (segs_gone s (cut_of_owner s.owner)))) u
-may_deactivate s u k whole goes frames over active inferiors = record {
+whole_may s u k whole frames over active inferiors = record {
   active = ap (λ (st : Storage). is_active st.ast u) store ∙ active;
   inferiors = λ v h. inferiors v (sym (ap (λ (st : Storage). is_active st.ast v) store) ∙ h);
   pages = subst (λ (st : Storage). no_page_in st u) (sym store)
-      (no_page_left (holding s) s.owner u k.book.going_owned (whole.whole u goes) frames);
+      (no_page_left (holding s) s.owner u k.book.going_owned whole frames);
   descriptors = subst (λ (ds : List CutDescriptor). no_link_in (segs_gone s (cut_of_owner s.owner)).store ds u)
       (sym over.cut)
       (subst (λ (st : Storage). no_link_in st [] u) (sym store) unlinked);
@@ -63,5 +63,14 @@ may_deactivate s u k whole goes frames over active inferiors = record {
         by : (x : Option ℕ) → (seen s).linked j n ≡ x → leads_to (descriptor_use x None) ≡ Some u → ⊥
         by None e h = none_some h
         by (Some v) e h = let is = ap (λ (y : Option ℕ). descriptor_use y (cut_uid (cut_of_owner s.owner) j n)) e in
-            let going = (whole.whole u goes).descriptors j n (ap leads_to is ∙ h) in
+            let going = whole.descriptors j n (ap leads_to is ∙ h) in
             let no : false ≡ true = sym (ap is_going_descriptor is) ∙ going in cc
+
+-- So may the segment that the owner makes inactive.
+pub may_deactivate : (s : State) (u : ℕ) → Keeps s → TakenWhole s → going_for s.owner ≡ Some u
+    → frames_of_owner s.owner ≡ []
+    → IsOver (segs_gone s (cut_of_owner s.owner)) → is_active s.store.ast u ≡ true
+    → ((v : ℕ) → is_active s.store.ast v ≡ true
+    → superior_in (node_in (flat_of (segs_gone s (cut_of_owner s.owner))).nodes v) ≢ Some u)
+    → MayDeactivate (flat_of (segs_gone s (cut_of_owner s.owner))) (shown (seen (segs_gone s (cut_of_owner s.owner)))) u
+may_deactivate s u k whole goes = whole_may s u k (whole.whole u goes)
