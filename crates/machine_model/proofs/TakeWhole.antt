@@ -299,7 +299,7 @@ pub nothing_whole : (s : State) (c u : ℕ) → Keeps s → IsIdle s.owner → i
 nothing_whole s c u k idle active unread frames trailers =
     subst (λ (xs : List (ℕ × ℕ)). IsWhole (shown (seen (took s c (aim.Deactivating u) (what.Seg u) [] xs))) u) trailers
     (subst (λ (fs : List ℕ). IsWhole (shown (seen (took s c (aim.Deactivating u) (what.Seg u) fs
-        (trailers_in s.store u)))) u) frames
+    (trailers_in s.store u)))) u) frames
     (took_whole s c u k idle active unread))
 
 -- ---- the step

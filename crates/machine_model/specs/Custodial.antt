@@ -141,8 +141,8 @@ abbrev pub AreOfProcess : (ℕ → ℕ → DescriptorUse) → Option ℕ → Lis
 AreOfProcess descriptor None es = es ≡ []
 AreOfProcess descriptor (Some k) es = AreHeldSegs descriptor k es
 
--- What a processor holds, at most 16 of each kind, agrees with the frames and the descriptors. One that is to drop something
--- takes part.
+-- What a processor holds, at most 16 of each kind, agrees with the frames and the descriptors. One that is to drop
+-- something takes part.
 pub record HoldsRight (bound : ℕ → Option (ℕ × ℕ)) (descriptor : ℕ → ℕ → DescriptorUse) (p : Processor) : Type 0 where
   pub pages : AreHeldPages bound p.cpu.assoc.pages
   pub segs : AreOfProcess descriptor p.cpu.process p.cpu.assoc.segs
