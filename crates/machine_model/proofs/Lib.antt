@@ -10,6 +10,7 @@ pub mod BootKept
 pub mod ChainLaws
 pub mod ChangesUnderUse
 pub mod ClearLaws
+pub mod ComingKept
 pub mod ComingLaws
 pub mod CommandLaws
 pub mod CommitKept
