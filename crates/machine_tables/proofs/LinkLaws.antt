@@ -11,9 +11,9 @@ use Rattle.seg_control.specs.Kept.{AreLinked}
 -- a place in which something is active is one of the table's
 within : (entries : List (Option Entry)) (place uid : ℕ) → uid_at entries place ≡ Some uid → place < length entries
 within entries place uid e = elim (cases_lt place (length entries)) [
-    inl lt ↦ lt
+  | inl lt ↦ lt
   | inr past ↦ absurd (none-some uid (sym (ap uid_in (get_or_past entries place None past)) ∙ e))
-  ]
+]
 
 -- a descriptor leads to a place of the table
 pub leads_within : (entries : List (Option Entry)) (links : Links) (k n place : ℕ) → AreLinked entries links

@@ -1,10 +1,10 @@
 -- A word that is read and then written through a frame.
-use Rattle.std.proofs.Common.{◌≡◌, ◌<◌, ◌%◌, ℕ, Bool, true, false, cond, get_or, set, length, refl, sym, ap, ◌∙◌, arith, inl, inr}
+use Rattle.std.proofs.Common.{◌≡◌, ◌<◌, ◌%◌, ℕ, Bool, true, false, cond, set, length, refl, sym, ap, ◌∙◌, inl, inr}
 use Rattle.std.proofs.lemmas.Bool.{cases_lt}
 use Rattle.std.proofs.lemmas.List.{get_or-set_same, get_or_past, set-set}
 use Rattle.core_map.specs.declared.Frame.{Frame}
 use Rattle.core_map.specs.declared.Frame.TheVariants.{Free, Started, Bound}
-use Rattle.core_map.specs.CoreMap.{after_reference, frame_at, is_bound}
+use Rattle.core_map.specs.CoreMap.{after_reference, is_bound}
 use Rattle.page_control.specs.Plain.{Plain, frame_in, words_in}
 use Rattle.page_control.specs.Effects.{framed, referred, word_put, worded}
 use Rattle.script.specs.declared.commands.Reference.{Reference}
@@ -21,21 +21,23 @@ twice (Bound uid page used false) = refl
 
 bound_within : (s : Plain) (f : ℕ) → is_bound (frame_in s f) ≡ true → f < length s.core.frames
 bound_within s f e = elim (cases_lt f (length s.core.frames)) [
-    inl lt ↦ lt
+  | inl lt ↦ lt
   | inr past ↦ let z : false ≡ true = sym (ap is_bound (get_or_past s.core.frames f Free past)) ∙ e in cc z
-  ]
+]
 
 put_after : (s : Plain) (f at w : ℕ) → is_bound (frame_in s f) ≡ true → word_put (referred s f false) f at w ≡ word_put s f at w
 put_after s f at w e =
     let lt = bound_within s f e in
     let here : frame_in (referred s f false) f ≡ after_reference (frame_in s f) false =
-        get_or-set_same s.core.frames f (after_reference (frame_in s f) false) Free lt in
+    get_or-set_same s.core.frames f (after_reference (frame_in s f) false) Free lt in
     let marks : after_reference (frame_in (referred s f false) f) true ≡ after_reference (frame_in s f) true =
-        ap (λ (x : Frame). after_reference x true) here ∙ twice (frame_in s f) in
+    ap (λ (x : Frame). after_reference x true) here ∙ twice (frame_in s f) in
     ap (λ (x : Frame). worded (framed (referred s f false) f x) f (set (words_in s f) at w)) marks
-    ∙ (λ i. worded (record s { core = record s.core {
-      frames = set-set s.core.frames f (after_reference (frame_in s f) false) (after_reference (frame_in s f) true) i;
-    } }) f (set (words_in s f) at w))
+    ∙ (λ i. worded (record s {
+      core = record s.core {
+        frames = set-set s.core.frames f (after_reference (frame_in s f) false) (after_reference (frame_in s f) true) i;
+      };
+    }) f (set (words_in s f) at w))
 
 -- a reference that writes, once its word was read
 pub reached : {D : Type 0} (old mid new : Parts D) (f w : ℕ) (r : Reference) → is_bound (frame_in old.state.store.pages f) ≡ true

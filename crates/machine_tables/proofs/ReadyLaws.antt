@@ -26,14 +26,14 @@ one_released n q before after e f =
     let s : suc n ≡ n + 1 = omega arith in
     let z : 1 + n ≡ n + 1 = omega arith in
     let more : range 1 n ++ (n + 1) ∷ [] ≡ range 1 (n + 1) =
-        sym (range_end 1 n ∙ ap (λ (x : ℕ). range 1 n ++ x ∷ []) z) ∙ ap (range 1) s in
+    sym (range_end 1 n ∙ ap (λ (x : ℕ). range 1 n ++ x ∷ []) z) ∙ ap (range 1) s in
     let items = append_assoc q.waiting (range 1 n) ((n + 1) ∷ []) ∙ ap (λ (zs : List ℕ). q.waiting ++ zs) more in
     f ∙ ap (λ (x : Queue). with_last x (n + 1)) e ∙ (λ i. record q { waiting = items i })
 
 pub room_left : (q t : Queue) (n count : ℕ) → t ≡ released q n → n < count → length q.waiting + count ≤ q.room → length t.waiting < t.room
 room_left q t n count e lt room =
     let items : length t.waiting ≡ length q.waiting + length (range 1 n) =
-        ap (λ (x : Queue). length x.waiting) e ∙ length-append q.waiting (range 1 n) in
+    ap (λ (x : Queue). length x.waiting) e ∙ length-append q.waiting (range 1 n) in
     let many : length (range 1 n) ≡ n = range_length 1 n in
     let same : t.room ≡ q.room = ap (λ (x : Queue). x.room) e in
     omega (arith, items, many, same, lt, room)
@@ -60,5 +60,5 @@ one_ready before after n count e f =
     let s : suc n ≡ n + 1 = omega arith in
     let z : 0 + n ≡ n = omega arith in
     let more : range 0 n ++ n ∷ [] ≡ range 0 (n + 1) =
-        sym (range_end 0 n ∙ ap (λ (x : ℕ). range 0 n ++ x ∷ []) z) ∙ ap (range 0) s in
+    sym (range_end 0 n ∙ ap (λ (x : ℕ). range 0 n ++ x ∷ []) z) ∙ ap (range 0) s in
     f ∙ ap (λ (x : Queue). with_last x n) e ∙ (λ i. record { waiting = more i; room = count })

@@ -85,10 +85,12 @@ impl Job {
     pub(crate) fn signal(&mut self)
         ensures { self.new ≡ owner_signalled self.old }
     {
-        if let Some(Holder {
-            cpu,
-            phase: Phase::Taken { aim, what },
-        }) = self.holder
+        if let Some(
+            Holder {
+                cpu,
+                phase: Phase::Taken { aim, what },
+            },
+        ) = self.holder
         {
             self.holder = Some(Holder {
                 cpu,
