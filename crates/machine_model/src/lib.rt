@@ -1,14 +1,14 @@
-//! The machine of several processors, as definitions: what it has between two steps, what a step of a processor does, and
-//! the machine after it. They stand in `specs/`, and the laws of them in `proofs/`; there is no code here but the types
-//! that they speak of.
+//! The machine of several processors, as definitions: what it has between two steps, what a step of a processor does,
+//! and the machine after it. They stand in `specs/`, and the laws of them in `proofs/`; there is no code here but the
+//! types that they speak of.
 #![tactic(auto)]
 
 use assoc_mem::What;
 use mnames::Mode;
 use processor::Cpu;
 
-/// A processor, and the turn of its process: how many commands it answered since it loaded it, and whether the last of them
-/// was a try that didn't end its `await` (Corbató 1968).
+/// A processor, and the turn of its process: how many commands it answered since it loaded it, and whether the last of
+/// them was a try that didn't end its `await` (Corbató 1968).
 #[derive(Drop)]
 pub struct Processor {
     pub cpu: Cpu,
@@ -16,8 +16,8 @@ pub struct Processor {
     pub tried: bool,
 }
 
-/// How far a process has come: the place of its next command; how often it has tried it, where that is an `await`; whether
-/// the process has ended (own).
+/// How far a process has come: the place of its next command; how often it has tried it, where that is an `await`;
+/// whether the process has ended (own).
 #[derive(Clone, Copy)]
 pub struct Run {
     pub place: u32,
@@ -25,8 +25,8 @@ pub struct Run {
     pub ended: bool,
 }
 
-/// A descriptor that the owner's job has cut: its process and number, the segment that it led to, and the mode and length
-/// in pages that it had (own).
+/// A descriptor that the owner's job has cut: its process and number, the segment that it led to, and the mode and
+/// length in pages that it had (own).
 #[derive(Clone, Copy)]
 pub struct CutDescriptor {
     pub process: u32,

@@ -10,4 +10,5 @@ use Rattle.machine_model.specs.Reads.{or_zero}
 
 abbrev pub held_by : List (Option Entry) → ℕ → Sdw → HeldSeg
 held_by entries n sdw.Fault = record { number = n; uid = 0; mode = mode.Null; pages = 0 }
-held_by entries n (sdw.Present aste m pages) = record { number = n; uid = or_zero (uid_at entries aste); mode = m; pages = pages }
+held_by entries n (sdw.Present aste m pages) =
+    record { number = n; uid = or_zero (uid_at entries aste); mode = m; pages = pages }

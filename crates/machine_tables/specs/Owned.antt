@@ -18,7 +18,9 @@ HasOwner o = o ≢ None
 
 -- the owner once it took a frame more, or cut a descriptor more
 abbrev pub took_frame : Option Owner → ℕ → Aim → What → ℕ → Option Owner
-took_frame o c a w f = Some (record { cpu = c; phase = Taken a w; frames = frames_of_owner o ++ f ∷ []; cut = cut_of_owner o })
+took_frame o c a w f =
+    Some (record { cpu = c; phase = Taken a w; frames = frames_of_owner o ++ f ∷ []; cut = cut_of_owner o })
 
 abbrev pub took_cut : Option Owner → ℕ → Aim → What → CutDescriptor → Option Owner
-took_cut o c a w d = Some (record { cpu = c; phase = Taken a w; frames = frames_of_owner o; cut = cut_of_owner o ++ d ∷ [] })
+took_cut o c a w d =
+    Some (record { cpu = c; phase = Taken a w; frames = frames_of_owner o; cut = cut_of_owner o ++ d ∷ [] })

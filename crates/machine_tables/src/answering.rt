@@ -37,8 +37,8 @@ fn command_at(script: &Script, process: u32, place: u32) -> Option<&Command>
     script.commands(process).get(place as usize)
 }
 
-/// Whether a try of an `await` that was answered so doesn't end it: its word isn't the awaited one, and it isn't the last
-/// try.
+/// Whether a try of an `await` that was answered so doesn't end it: its word isn't the awaited one, and it isn't the
+/// last try.
 fn tries_on(run: Run, command: &Command, reply: &Reply) -> bool
     ensures answer { result ≡ tries_on (progress_of_run run) command.now reply.now }
     ensures few { result ≡ true → run.tries + 1 < 2 ^ 32 }

@@ -1,7 +1,7 @@
-//! What a machine of several processors has, side by side: the book, the store, the processors, the processes, the ready
-//! list and the owner of the supervisor. Each call makes one change of them, exactly that of the machine's model, and asks
-//! no more than the tables that it changes; what the whole machine keeps is said above (Bensoussan, Clingen and Daley 1972;
-//! Corbató 1968).
+//! What a machine of several processors has, side by side: the book, the store, the processors, the processes, the
+//! ready list and the owner of the supervisor. Each call makes one change of them, exactly that of the machine's model,
+//! and asks no more than the tables that it changes; what the whole machine keeps is said above (Bensoussan, Clingen
+//! and Daley 1972; Corbató 1968).
 //!
 //! Costs: a call changes a processor, the book and at most one table. None but `reserve` takes memory.
 #![tactic(auto)]

@@ -11,12 +11,12 @@ use machine_model::{Aim, CutDescriptor, Phase};
 use std::alloc::Global;
 use std::marker::Model;
 
-/// How many frames a job takes at the most, and how many descriptors it cuts: the pages of a segment, and the numbers of a
-/// process.
+/// How many frames a job takes at the most, and how many descriptors it cuts: the pages of a segment, and the numbers
+/// of a process.
 const MOST: usize = 256;
 
-/// The owner of the supervisor, if there is one, and its job: the processor, how far it has come, and the frames that it
-/// took and the descriptors that it cut, in the order in which it came to them (own).
+/// The owner of the supervisor, if there is one, and its job: the processor, how far it has come, and the frames that
+/// it took and the descriptors that it cut, in the order in which it came to them (own).
 #[derive(Drop)]
 pub struct Job {
     holder: Option<Holder>,

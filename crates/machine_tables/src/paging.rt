@@ -67,8 +67,8 @@ impl<D: Drive> Tables<D> {
         old
     }
 
-    /// Processor `c` reads page `p` of an active segment into the free frame `f` from now on, and gives the supervisor up.
-    /// (Source: own.)
+    /// Processor `c` reads page `p` of an active segment into the free frame `f` from now on, and gives the supervisor
+    /// up. (Source: own.)
     pub fn start(&mut self, c: u32, f: u32, uid: u32, p: u32)
         requires processor { c < length self.old.state.processors }
         requires active { IsActive self.old.state.store.ast.entries uid }

@@ -78,7 +78,8 @@ fn initializer_ready(alloc: Global, count: u32) -> Result<Ready, NoMemory>
 
 /// The processes of a script that are ready at first, in order: the initializer alone, where there is one.
 fn first_ready(alloc: Global, script: &Script) -> Result<Ready, NoMemory>
-    ensures { IfOk result (λ r. r ≡ record { waiting = ready_at_first script.now; room = length script.now.processes }) }
+    ensures { IfOk result (λ r. r
+        ≡ record { waiting = ready_at_first script.now; room = length script.now.processes }) }
 {
     let count = script.processes();
     if script.initializer() {
@@ -89,8 +90,8 @@ fn first_ready(alloc: Global, script: &Script) -> Result<Ready, NoMemory>
 }
 
 impl<D: Drive> Tables<D> {
-    /// The tables of a script before its first entry, over a store. It takes all the memory that they ever have, but for
-    /// the entries of the book.
+    /// The tables of a script before its first entry, over a store. It takes all the memory that they ever have, but
+    /// for the entries of the book.
     ///
     /// # Errors
     /// `NoMemory` is want of memory. (Source: own.)

@@ -92,8 +92,8 @@ impl<D: Drive> Tables<D> {
         self.note(Entry::Load { cpu: c, process });
     }
 
-    /// Processor `c` gives its process up, and holds nothing. The process goes to the back of the ready list, unless it has
-    /// ended. (Source: Corbató 1968.)
+    /// Processor `c` gives its process up, and holds nothing. The process goes to the back of the ready list, unless it
+    /// has ended. (Source: Corbató 1968.)
     pub fn leave(&mut self, c: u32, process: u32)
         requires processor { c < length self.old.state.processors }
         requires process { (cpu_at self.old.state.processors c).process ≡ Some process }
