@@ -168,6 +168,7 @@ impl<D: Drive> Pages<D> {
         requires bound { is_bound (frame_at self.old.core f) ≡ true }
         requires at { at < 1024 }
         ensures word { plain D.pages self.new ≡ word_put (plain D.pages self.old) f at w }
+        ensures size { length (words_in (plain D.pages self.old) f) ≡ 1024 }
         ensures words { IsBoundOnce (bindings self.old.core) f → words_at (plain D.pages self.new)
             ≡ changed_page (words_at (plain D.pages self.old)) (uid_in (frame_at self.old.core f))
             (number_in (frame_at self.old.core f)) (slice_set (words_in (plain D.pages self.old) f) at w) }

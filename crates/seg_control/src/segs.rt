@@ -116,6 +116,7 @@ impl<D: Drive> Segs<D> {
         requires bound { is_bound (frame_at self.old.pages.core f) ≡ true }
         requires at { at < 1024 }
         ensures word { plain D.pages self.new.pages ≡ word_put (plain D.pages self.old.pages) f at w }
+        ensures size { length (words_in (plain D.pages self.old.pages) f) ≡ 1024 }
         ensures words { words_at (plain D.pages self.new.pages) ≡ changed_page
             (words_at (plain D.pages self.old.pages)) (uid_in (frame_at self.old.pages.core f))
             (number_in (frame_at self.old.pages.core f))

@@ -115,7 +115,6 @@ impl<D: Drive> Store<D> {
     {
         let pages = self.segs.pages();
         let _core = pages.frames();
-        prove!(pages.is_zero(f) || at < 1024);
         self.segs.put_word(f, at, w);
     }
 

@@ -51,5 +51,4 @@ returns-clause-shown g c = λ p s h.
     ≡ words_in (plain g.D.Drive.pages x) c.args.f) c.pages-pages.ensures.pages
     (c.frames-core.ensures.words (uid_in frame) (number_in frame) c.args.f home table own
     (bound_named old t.segs.ast t.segs.links c.pages-pages.ensures.kept c.args.f bound)))
-    (subst (λ (x : Paging g.row.D.Denot). length (words_in (plain g.D.Drive.pages x) c.args.f) ≡ 1024)
-    c.pages-pages.ensures.pages c.is_zero.ensures.size) c.requires.at shown))
+    c.put_word.ensures.size c.requires.at shown))
