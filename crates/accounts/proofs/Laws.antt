@@ -1,5 +1,6 @@
 -- What the tree and its cells show, said of the nodes with their quotas.
-use Rattle.std.proofs.Common.{◌≡◌, ◌≢◌, ◌≤◌, ℕ, true, false, cond, eqb, not, List, [], ◌∷◌, map, Option, Some, None, Result, Ok, Err, refl, sym, ap, subst}
+use Rattle.std.proofs.Common.{◌≡◌, ◌≢◌, ◌≤◌, ℕ, true, false, cond, eqb, not, List, [], ◌∷◌, map, Option, Some, None}
+use Rattle.std.proofs.Common.{Result, Ok, Err, refl, sym, ap, subst}
 use Rattle.std.proofs.Common.{◌∙◌, arith, inl, inr, is_some, if◌then◌else◌, ◌<◌}
 use Rattle.std.specs.Prelude.{IfSome, IfNone, IfOk, OnOk, OnErr}
 use Rattle.std.proofs.lemmas.Bool.{cases_Bool, cases_eq, eq-eqb, ne_eqb}
@@ -8,14 +9,17 @@ use Rattle.tree_model.specs.Tree.{Node as Term, has_directory, node_in, quota_in
 use Rattle.tree_model.specs.Trees.{has_segment, HasChains, IsTree, Joins, AreBelow}
 use Rattle.dir_tree.specs.declared.node.Node.{Node}
 use Rattle.dir_tree.specs.declared.node.NewNode.{NewNode}
-use Rattle.dir_tree.specs.Nodes.{Branches, as_term, with_quotas, node_of, is_in, is_directory, is_segment, added, removed, without, unless, with_length}
+use Rattle.dir_tree.specs.Nodes.{Branches, as_term, with_quotas, node_of, is_in, is_directory, is_segment, added}
+use Rattle.dir_tree.specs.Nodes.{removed, without, unless, with_length}
 use Rattle.dir_tree.specs.Nodes.{with_changed, with_acl, with_home, acl_of}
 use Rattle.dir_tree.specs.Shape.{shape, shapes}
 use Rattle.quota_cells.specs.Accounts.{look, has, is_an_account}
 use Rattle.quota_cells.specs.Cells.{CellMaps, quota_in, stored_in, used_in, AreWithin, Fits, Enters, Leaves}
-use Rattle.dir_tree.specs.Laws.{directory_shown as kind_of_directory, segment_shown as kind_of_segment, uid_shown, segment_in, not_in_directory}
+use Rattle.dir_tree.specs.Laws.{directory_shown as kind_of_directory, segment_shown as kind_of_segment, uid_shown}
+use Rattle.dir_tree.specs.Laws.{segment_in, not_in_directory}
 use Rattle.quota_cells.specs.Laws.{look_absent, on_directories, on_segments}
-use Rattle.accounts.specs.Maps.{AccountMaps, accounts_of, entry_of, branch_of, Recounts, Changes, Gains, Loses, Rehomes, rows_in}
+use Rattle.accounts.specs.Maps.{AccountMaps, accounts_of, entry_of, branch_of, Recounts, Changes, Gains, Loses}
+use Rattle.accounts.specs.Maps.{Rehomes, rows_in}
 use Rattle.accounts.specs.Maps.{with_row_in}
 
 -- ---- uids of the tree
@@ -43,10 +47,12 @@ module _ (t : Branches) (c : CellMaps) (a : AccountMaps) (shown : accounts_of t 
   segment_of u h = sym (segment_any (quota_in c) t.nodes u) ∙ ap (λ (x : AccountMaps). has_segment x.nodes u) shown ∙ h
 
   pub directory_of : (u : ℕ) → has_directory a.nodes u ≡ true → is_directory t.nodes u ≡ true
-  directory_of u h = sym (directory_any (quota_in c) t.nodes u) ∙ ap (λ (x : AccountMaps). has_directory x.nodes u) shown ∙ h
+  directory_of u h = sym (directory_any (quota_in c) t.nodes u)
+      ∙ ap (λ (x : AccountMaps). has_directory x.nodes u) shown ∙ h
 
   pub there_of : (u : ℕ) → is_some (node_in a.nodes u) ≡ true → is_in t.nodes u ≡ true
-  there_of u h = sym (there_any (quota_in c) t.nodes u) ∙ ap (λ (x : AccountMaps). is_some (node_in x.nodes u)) shown ∙ h
+  there_of u h = sym (there_any (quota_in c) t.nodes u) ∙ ap (λ (x : AccountMaps). is_some (node_in x.nodes u)) shown
+      ∙ h
 
   pub fresh_of : is_in t.nodes t.next ≡ false → node_in a.nodes a.next ≡ None
   fresh_of h = subst (λ (x : AccountMaps). node_in x.nodes x.next ≡ None) shown
@@ -66,7 +72,8 @@ no_segment (n ∷ ns) u none seg = elim (cases_Bool (eqb n.uid u)) [
   | inr isnt ↦ no_segment ns u (rw isnt at none) (rw isnt at seg)
 ]
 
-pub segment_found : {X : Type 0} (ns : List Node) (u : ℕ) (r : Option X) → is_some r ≡ false → IfNone r (node_of ns u ≡ None) → is_segment ns u ≡ true → ⊥
+pub segment_found : {X : Type 0} (ns : List Node) (u : ℕ) (r : Option X) → is_some r ≡ false
+    → IfNone r (node_of ns u ≡ None) → is_segment ns u ≡ true → ⊥
 segment_found ns u None isnt none seg = no_segment ns u none seg
 segment_found ns u (Some x) isnt none seg = cc
 
@@ -74,17 +81,20 @@ kind_is : (q : ℕ → ℕ) (ns : List Node) (u : ℕ) (n : Node) → node_of ns
     → (has_directory (with_quotas q ns) u ≡ n.dir) × (has_segment (with_quotas q ns) u ≡ not n.dir)
 kind_is q [] u n e = cc
 kind_is q (m ∷ ns) u n e = elim (cases_Bool (eqb m.uid u)) [
-  | inl is ↦ (let z : Some m ≡ Some n = rw is at e in let same : m ≡ n = cc in rw is (ap (λ (x : Node). x.dir) same, ap (λ (x : Node). not x.dir) same))
+  | inl is ↦ (let z : Some m ≡ Some n = rw is at e in let same : m ≡ n =
+      cc in rw is (ap (λ (x : Node). x.dir) same, ap (λ (x : Node). not x.dir) same))
   | inr isnt ↦ rw isnt (kind_is q ns u n (rw isnt at e))
 ]
 
 -- what a look-up says of the kind of a node
 module _ {X : Type 0} (f : X → Node) (t : Branches) (c : CellMaps) (u : ℕ) where
-  pub directory_shown : (r : Option X) → IfSome r (λ x. node_of t.nodes u ≡ Some (f x)) → IfSome r (λ x. has_directory (accounts_of t c).nodes u ≡ (f x).dir)
+  pub directory_shown : (r : Option X) → IfSome r (λ x. node_of t.nodes u ≡ Some (f x))
+      → IfSome r (λ x. has_directory (accounts_of t c).nodes u ≡ (f x).dir)
   directory_shown None h = tt
   directory_shown (Some x) h = (kind_is (quota_in c) t.nodes u (f x) h).0
 
-  pub segment_shown : (r : Option X) → IfSome r (λ x. node_of t.nodes u ≡ Some (f x)) → IfSome r (λ x. has_segment (accounts_of t c).nodes u ≡ not (f x).dir)
+  pub segment_shown : (r : Option X) → IfSome r (λ x. node_of t.nodes u ≡ Some (f x))
+      → IfSome r (λ x. has_segment (accounts_of t c).nodes u ≡ not (f x).dir)
   segment_shown None h = tt
   segment_shown (Some x) h = (kind_is (quota_in c) t.nodes u (f x) h).1
 
@@ -97,7 +107,8 @@ quota_node q (n ∷ ns) u none = elim (cases_eq n.uid u) [
   | inr other ↦ rw (ne_eqb n.uid u other) (quota_node q ns u (λ e. none (rw (ne_eqb n.uid u other) e)))
 ]
 
-pub quota_shown : (t : Branches) (c : CellMaps) → Fits t.nodes c → (u : ℕ) → quota_at (accounts_of t c).nodes u ≡ quota_in c u
+pub quota_shown : (t : Branches) (c : CellMaps) → Fits t.nodes c → (u : ℕ) → quota_at (accounts_of t c).nodes u
+    ≡ quota_in c u
 quota_shown t c fits u = quota_node (quota_in c) t.nodes u
     (λ e. look_absent c.directories c.quotas u (on_directories t.nodes fits u ∙ not_in_directory t.nodes u e))
 
@@ -105,14 +116,16 @@ pub node_shown : {X : Type 0} (f : X → Node) (t : Branches) (c : CellMaps) →
     → IfSome r (λ x. node_in (with_quotas (quota_in c) t.nodes) u ≡ Some (as_term (quota_in c) (f x)))
     → IfSome r (λ x. node_in (accounts_of t c).nodes u ≡ Some (as_term (quota_at (accounts_of t c).nodes) (f x)))
 node_shown f t c fits u None h = tt
-node_shown f t c fits u (Some x) h = h ∙ ap (λ (v : ℕ). Some (record (as_term (quota_in c) (f x)) { quota = v })) (sym (quota_shown t c fits (f x).uid))
+node_shown f t c fits u (Some x) h = h ∙ ap (λ (v : ℕ). Some (record (as_term (quota_in c) (f x)) { quota = v }))
+    (sym (quota_shown t c fits (f x).uid))
 
 -- the VTOC entry of a node of the tree
 abbrev entry_in : List Node → ℕ → ℕ
 entry_in [] u = 0
 entry_in (n ∷ ns) u = cond (eqb n.uid u) n.entry (entry_in ns u)
 
-entry_any : (q : ℕ → ℕ) (ns : List Node) (u : ℕ) → look (map (λ n. n.uid) (with_quotas q ns)) (map (λ n. n.entry) ns) u ≡ entry_in ns u
+entry_any : (q : ℕ → ℕ) (ns : List Node) (u : ℕ) → look (map (λ n. n.uid) (with_quotas q ns)) (map (λ n. n.entry) ns) u
+    ≡ entry_in ns u
 entry_any q [] u = refl
 entry_any q (n ∷ ns) u = ap (cond (eqb n.uid u) n.entry) (entry_any q ns u)
 
@@ -123,7 +136,8 @@ entry_is (m ∷ ns) u n e = elim (cases_Bool (eqb m.uid u)) [
   | inr isnt ↦ rw isnt (entry_is ns u n (rw isnt at e))
 ]
 
-pub entry_shown : {X : Type 0} (f : X → Node) (t : Branches) (c : CellMaps) (u : ℕ) (r : Option X) → IfSome r (λ x. node_of t.nodes u ≡ Some (f x))
+pub entry_shown : {X : Type 0} (f : X → Node) (t : Branches) (c : CellMaps) (u : ℕ) (r : Option X)
+    → IfSome r (λ x. node_of t.nodes u ≡ Some (f x))
     → IfSome r (λ x. entry_of (accounts_of t c) u ≡ (f x).entry)
 entry_shown f t c u None h = tt
 entry_shown f t c u (Some x) h = entry_any (quota_in c) t.nodes u ∙ entry_is t.nodes u (f x) h
@@ -136,7 +150,8 @@ entry_left (n ∷ ns) gone u other = elim (cases_eq n.uid gone) [
 ]
 
 -- no account has more stored pages than its quota
-pub used_within : (t : Branches) (c : CellMaps) → Fits t.nodes c → AreWithin c → (a : ℕ) → used_in c a ≤ quota_at (accounts_of t c).nodes a
+pub used_within : (t : Branches) (c : CellMaps) → Fits t.nodes c → AreWithin c → (a : ℕ)
+    → used_in c a ≤ quota_at (accounts_of t c).nodes a
 used_within t c fits within a = rw (quota_shown t c fits a) (elim (cases_Bool (is_an_account (quota_in c) a)) [
   | inr isnt ↦ rw isnt (omega arith)
   | inl is ↦ elim (cases_Bool (has c.directories a)) [
@@ -147,11 +162,19 @@ used_within t c fits within a = rw (quota_shown t c fits a) (elim (cases_Bool (i
 
 -- ---- changes
 
-pub recounted : (t : Branches) (c d : CellMaps) (seg n : ℕ) → quota_in d ≡ quota_in c → ((s : ℕ) → stored_in d s ≡ (if eqb seg s then n else stored_in c s))
+pub recounted : (t : Branches) (c d : CellMaps) (seg n : ℕ) → quota_in d ≡ quota_in c
+    → ((s : ℕ) → stored_in d s ≡ (if eqb seg s then n else stored_in c s))
     → Recounts (accounts_of t c) (accounts_of t d) seg n
-recounted t c d seg n quotas counts = record { nodes = ap (λ (q : ℕ → ℕ). with_quotas q t.nodes) quotas; entries = refl; next = refl; counts = counts }
+recounted t c d seg n quotas counts = record {
+  nodes = ap (λ (q : ℕ → ℕ). with_quotas q t.nodes) quotas;
+  entries =
+      refl;
+  next = refl;
+  counts = counts;
+}
 
-pub charged_shown : {E : Type 0} (t : Branches) (c d : CellMaps) (seg n : ℕ) (r : Result (Unit {0}) E) → quota_in d ≡ quota_in c
+pub charged_shown : {E : Type 0} (t : Branches) (c d : CellMaps) (seg n : ℕ) (r : Result (Unit {0}) E) → quota_in d
+    ≡ quota_in c
     → OnOk r ((s : ℕ) → stored_in d s ≡ (if eqb seg s then n else stored_in c s))
     → OnOk r (Recounts (accounts_of t c) (accounts_of t d) seg n)
 charged_shown t c d seg n (Ok x) quotas counts = recounted t c d seg n quotas counts
@@ -169,27 +192,44 @@ unless_ok (Some f) x y e = cc
 
 -- the node of a new branch
 abbrev pub node_for : ℕ → ℕ → NewNode → Node
-node_for uid s n = record { uid = uid; superior = Some s; name = n.name; dir = n.dir; volume = n.volume; entry = n.entry; length = n.length; acl = n.acl }
+node_for uid s n = record {
+  uid = uid;
+  superior = Some s;
+  name = n.name;
+  dir = n.dir;
+  volume = n.volume;
+  entry =
+      n.entry;
+  length = n.length;
+  acl = n.acl;
+}
 
-pub enters_fit : (old new : Branches) (s : ℕ) (n : NewNode) (uid : ℕ) (before after : CellMaps) → new ≡ added old s n → uid ≡ old.next
+pub enters_fit : (old new : Branches) (s : ℕ) (n : NewNode) (uid : ℕ) (before after : CellMaps) → new ≡ added old s n
+    → uid ≡ old.next
     → is_in old.nodes old.next ≡ false → HasChains (shapes old.nodes) → Fits old.nodes before
-    → ((nodes : List Node) (m : Node) → m.uid ≡ uid → m.dir ≡ n.dir → is_in nodes uid ≡ false → HasChains (shapes nodes) → Fits nodes before
+    → ((nodes : List Node) (m : Node) → m.uid ≡ uid → m.dir ≡ n.dir → is_in nodes uid ≡ false
+    → HasChains (shapes nodes) → Fits nodes before
     → Fits (m ∷ nodes) after) → Fits new.nodes after
 enters_fit old new s n uid before after is next fresh chains fits enters =
     subst (λ (t : Branches). Fits t.nodes after) (sym is)
-    (enters old.nodes (node_for old.next s n) (sym next) refl (subst (λ u. is_in old.nodes u ≡ false) (sym next) fresh) chains fits)
+    (enters old.nodes (node_for old.next s n) (sym next) refl (subst (λ u. is_in old.nodes u ≡ false) (sym next) fresh)
+    chains fits)
 
-pub gained : (old new : Branches) (s : ℕ) (n : NewNode) (uid : ℕ) (before after : CellMaps) → new ≡ added old s n → uid ≡ old.next
+pub gained : (old new : Branches) (s : ℕ) (n : NewNode) (uid : ℕ) (before after : CellMaps) → new ≡ added old s n → uid
+    ≡ old.next
     → is_in old.nodes old.next ≡ false → Fits old.nodes before → Enters before after uid n.dir
     → Gains (accounts_of old before) (accounts_of new after) (branch_of old.next s n) n.entry
 gained old new s n uid before after is next fresh fits enters =
     let same : quota_in after ≡ quota_in before = λ i d. enters.quotas d i in
     let none : quota_in before old.next ≡ 0 =
-    look_absent before.directories before.quotas old.next (on_directories old.nodes fits old.next ∙ not_in_directory old.nodes old.next fresh) in
+    look_absent before.directories before.quotas old.next
+    (on_directories old.nodes fits old.next ∙ not_in_directory old.nodes old.next fresh) in
     record {
       nodes =
-          ap (λ (t : Branches). with_quotas (quota_in after) t.nodes) is ∙ ap (λ (q : ℕ → ℕ). with_quotas q (node_for old.next s n ∷ old.nodes)) same
-          ∙ ap (λ (v : ℕ). record (branch_of old.next s n) { quota = v } ∷ with_quotas (quota_in before) old.nodes) none;
+          ap (λ (t : Branches). with_quotas (quota_in after) t.nodes) is
+          ∙ ap (λ (q : ℕ → ℕ). with_quotas q (node_for old.next s n ∷ old.nodes)) same
+          ∙ ap (λ (v : ℕ). record (branch_of old.next s n) { quota = v } ∷ with_quotas (quota_in before) old.nodes)
+          none;
       entries = ap (λ (t : Branches). map (λ m. m.entry) t.nodes) is;
       next = ap (λ (t : Branches). t.next) is;
       counts = enters.stored;
@@ -200,9 +240,11 @@ pub lost : (old new : Branches) (before after : CellMaps) (uid : ℕ) → new �
 lost old new before after uid is leaves =
     let same : quota_in after ≡ quota_in before = λ i d. leaves.quotas d i in
     record {
-      nodes = ap (λ (t : Branches). with_quotas (quota_in after) t.nodes) is ∙ ap (λ (q : ℕ → ℕ). with_quotas q (without uid old.nodes)) same
+      nodes = ap (λ (t : Branches). with_quotas (quota_in after) t.nodes) is
+          ∙ ap (λ (q : ℕ → ℕ). with_quotas q (without uid old.nodes)) same
           ∙ filtered (quota_in before) old.nodes;
-      entries = λ u other. entry_any (quota_in after) new.nodes u ∙ ap (λ (t : Branches). entry_in t.nodes u) is ∙ entry_left old.nodes uid u other
+      entries = λ u other. entry_any (quota_in after) new.nodes u ∙ ap (λ (t : Branches). entry_in t.nodes u) is
+          ∙ entry_left old.nodes uid u other
           ∙ sym (entry_any (quota_in before) old.nodes u);
       next = ap (λ (t : Branches). t.next) is;
       counts = leaves.stored;
@@ -217,7 +259,8 @@ lost old new before after uid is leaves =
     ]
 
 -- nodes of one uid changed
-module _ (q : ℕ → ℕ) (uid : ℕ) (change : Node → Node) (shown : Term → Term) (same : (n : Node) → as_term q (change n) ≡ shown (as_term q n)) where
+module _ (q : ℕ → ℕ) (uid : ℕ) (change : Node → Node) (shown : Term → Term)
+    (same : (n : Node) → as_term q (change n) ≡ shown (as_term q n)) where
   changed_nodes : (ns : List Node) → with_quotas q (with_changed uid change ns) ≡ with_node (with_quotas q ns) uid shown
   changed_nodes [] = refl
   changed_nodes (n ∷ ns) = elim (cases_Bool (eqb n.uid uid)) [
@@ -236,11 +279,14 @@ same_entries uid change same (n ∷ ns) = elim (cases_Bool (eqb n.uid uid)) [
 ]
 
 pub length_shown : (old new : Branches) (c : CellMaps) (uid pages : ℕ) → new ≡ with_length old uid pages
-    → Changes (accounts_of old c) (accounts_of new c) (with_node (accounts_of old c).nodes uid (λ n. record n { pages = pages }))
+    → Changes (accounts_of old c) (accounts_of new c) (with_node (accounts_of old c).nodes uid
+    (λ n. record n { pages = pages }))
 length_shown old new c uid pages is = record {
   nodes = ap (λ (t : Branches). with_quotas (quota_in c) t.nodes) is
-      ∙ changed_nodes (quota_in c) uid (λ n. record n { length = pages }) (λ n. record n { pages = pages }) (λ n. refl) old.nodes;
-  entries = ap (λ (t : Branches). map (λ n. n.entry) t.nodes) is ∙ same_entries uid (λ n. record n { length = pages }) (λ n. refl) old.nodes;
+      ∙ changed_nodes (quota_in c) uid (λ n. record n { length = pages }) (λ n. record n { pages = pages }) (λ n. refl)
+      old.nodes;
+  entries = ap (λ (t : Branches). map (λ n. n.entry) t.nodes) is
+      ∙ same_entries uid (λ n. record n { length = pages }) (λ n. refl) old.nodes;
   next = ap (λ (t : Branches). t.next) is;
   counts = λ s. refl;
 }
@@ -256,22 +302,28 @@ below_all : (ns : List Term) (o : Option ℕ) (n : Term) → Joins ns o n → Ar
 below_all ns None n j = rw j.first tt
 below_all ns (Some s) n j = j.later
 
-none_changed : (ns : List Node) (uid : ℕ) (change : Node → Node) → AreBelow uid (shapes ns) → with_changed uid change ns ≡ ns
+none_changed : (ns : List Node) (uid : ℕ) (change : Node → Node) → AreBelow uid (shapes ns)
+    → with_changed uid change ns ≡ ns
 none_changed [] uid change below = refl
 none_changed (n ∷ ns) uid change below =
-    (let lt : n.uid < uid = below.0 in rw (ne_eqb n.uid uid (λ e. omega arith)) (ap (λ (ms : List Node). n ∷ ms) (none_changed ns uid change below.1)))
+    (let lt : n.uid < uid = below.0 in rw (ne_eqb n.uid uid (λ e. omega arith))
+    (ap (λ (ms : List Node). n ∷ ms) (none_changed ns uid change below.1)))
 
 -- no two nodes of a tree have the same uid, so a list that is set is that of the node
-own_list : (f : List Row → List Row) (ns : List Node) → IsTree (shapes ns) → (uid : ℕ) (rows : List Row) → acl_of ns uid ≡ rows
+own_list : (f : List Row → List Row) (ns : List Node) → IsTree (shapes ns) → (uid : ℕ) (rows : List Row)
+    → acl_of ns uid ≡ rows
     → with_changed uid (λ n. record n { acl = f rows }) ns ≡ with_changed uid (λ n. record n { acl = f n.acl }) ns
 own_list f [] tree uid rows is = refl
 own_list f (n ∷ ns) tree uid rows is = elim (cases_eq n.uid uid) [
   | inl same ↦
-      (let below : AreBelow uid (shapes ns) = subst (λ u. AreBelow u (shapes ns)) same (below_all (shapes ns) n.superior (shape n) tree.0) in
+      (let below : AreBelow uid (shapes ns) = subst (λ u. AreBelow u (shapes ns)) same
+      (below_all (shapes ns) n.superior (shape n) tree.0) in
       let own : n.acl ≡ rows = rw (eq-eqb n.uid uid same) at is in
       rw (eq-eqb n.uid uid same)
-      (ap (λ (m : Node). m ∷ with_changed uid (λ n. record n { acl = f rows }) ns) (ap (λ (xs : List Row). record n { acl = f xs }) (sym own))
-      ∙ ap (λ (ms : List Node). record n { acl = f n.acl } ∷ ms) (none_changed ns uid _ below ∙ sym (none_changed ns uid _ below))))
+      (ap (λ (m : Node). m ∷ with_changed uid (λ n. record n { acl = f rows }) ns)
+      (ap (λ (xs : List Row). record n { acl = f xs }) (sym own))
+      ∙ ap (λ (ms : List Node). record n { acl = f n.acl } ∷ ms)
+      (none_changed ns uid _ below ∙ sym (none_changed ns uid _ below))))
   | inr other ↦ (let own = rw (ne_eqb n.uid uid other) at is in
       rw (ne_eqb n.uid uid other) (ap (λ (ms : List Node). n ∷ ms) (own_list f ns tree.1 uid rows own)))
 ]
@@ -283,23 +335,32 @@ list_kept (n ∷ ns) uid = elim (cases_Bool (eqb n.uid uid)) [
   | inr isnt ↦ rw isnt (ap (λ (ms : List Node). n ∷ ms) (list_kept ns uid))
 ]
 
-pub row_set : {E : Type 0} (t : Branches) (c : CellMaps) → IsTree (shapes t.nodes) → (uid : ℕ) (row : Row) (rows acl : List Row) (r : Result (Unit {0}) E)
+pub row_set : {E : Type 0} (t : Branches) (c : CellMaps) → IsTree (shapes t.nodes)
+    → (uid : ℕ) (row : Row) (rows acl : List Row) (r : Result (Unit {0}) E)
     → acl ≡ acl_of t.nodes uid → OnOk r (rows ≡ with_row row acl)
-    → OnOk r (Changes (accounts_of t c) (accounts_of (with_acl t uid rows) c) (with_row_in (accounts_of t c).nodes uid row))
+    → OnOk r (Changes (accounts_of t c) (accounts_of (with_acl t uid rows) c)
+    (with_row_in (accounts_of t c).nodes uid row))
 row_set t c tree uid row rows acl (Err e) was is = tt
 row_set t c tree uid row rows acl (Ok x) was is =
-    let own : with_acl t uid rows ≡ record { nodes = with_changed uid (λ n. record n { acl = with_row row n.acl }) t.nodes; next = t.next } =
+    let own : with_acl t uid rows ≡ record {
+      nodes = with_changed uid (λ n. record n { acl = with_row row n.acl })
+          t.nodes;
+      next = t.next;
+    } =
     ap (with_acl t uid) (is ∙ ap (with_row row) was)
-    ∙ ap (λ (ns : List Node). record { nodes = ns; next = t.next }) (own_list (with_row row) t.nodes tree uid (acl_of t.nodes uid) refl)
+    ∙ ap (λ (ns : List Node). record { nodes = ns; next = t.next })
+    (own_list (with_row row) t.nodes tree uid (acl_of t.nodes uid) refl)
     in record {
       nodes = ap (λ (t : Branches). with_quotas (quota_in c) t.nodes) own
-          ∙ changed_nodes (quota_in c) uid (λ n. record n { acl = with_row row n.acl }) (λ n. record n { rows = with_row row n.rows }) (λ n. refl) t.nodes;
+          ∙ changed_nodes (quota_in c) uid (λ n. record n { acl = with_row row n.acl })
+          (λ n. record n { rows = with_row row n.rows }) (λ n. refl) t.nodes;
       entries = same_entries uid (λ n. record n { acl = rows }) (λ n. refl) t.nodes;
       next = refl;
       counts = λ s. refl;
     }
 
-pub row_refused : {E : Type 0} (t : Branches) (c : CellMaps) → IsTree (shapes t.nodes) → (uid : ℕ) (rows acl : List Row) (r : Result (Unit {0}) E)
+pub row_refused : {E : Type 0} (t : Branches) (c : CellMaps) → IsTree (shapes t.nodes)
+    → (uid : ℕ) (rows acl : List Row) (r : Result (Unit {0}) E)
     → acl ≡ acl_of t.nodes uid → OnErr r (rows ≡ acl) → OnErr r (accounts_of (with_acl t uid rows) c ≡ accounts_of t c)
 row_refused t c tree uid rows acl (Ok x) was is = tt
 row_refused t c tree uid rows acl (Err e) was is =
@@ -308,32 +369,37 @@ row_refused t c tree uid rows acl (Err e) was is =
     (own_list (λ xs. xs) t.nodes tree uid (acl_of t.nodes uid) refl ∙ list_kept t.nodes uid)
 
 entry_changed : (ns : List Node) (uid volume entry u : ℕ) → is_in ns uid ≡ true
-    → entry_in (with_changed uid (λ n. record n { volume = volume; entry = entry }) ns) u ≡ (if eqb uid u then entry else entry_in ns u)
+    → entry_in (with_changed uid (λ n. record n { volume = volume; entry = entry }) ns) u
+    ≡ (if eqb uid u then entry else entry_in ns u)
 entry_changed [] uid volume entry u there = cc
 entry_changed (n ∷ ns) uid volume entry u there = elim (cases_eq n.uid uid) [
   | inl same ↦ rw (eq-eqb n.uid uid same) (elim (cases_eq uid u) [
     | inl at ↦ rw (eq-eqb n.uid u (same ∙ at), eq-eqb uid u at) refl
     | inr off ↦ rw (ne_eqb n.uid u (λ e. off (omega arith)), ne_eqb uid u off) (entry_kept ns uid volume entry u off)
   ])
-  | inr far ↦ (let ih = entry_changed ns uid volume entry u (rw (ne_eqb n.uid uid far) at there) in rw (ne_eqb n.uid uid far) (elim (cases_eq n.uid u) [
-    | inl at ↦ rw (eq-eqb n.uid u at, ne_eqb uid u (λ e. far (omega arith))) refl
-    | inr off ↦ rw (ne_eqb n.uid u off) ih
-  ]))
+  | inr far ↦ (let ih = entry_changed ns uid volume entry u (rw (ne_eqb n.uid uid far) at there) in rw
+      (ne_eqb n.uid uid far) (elim (cases_eq n.uid u) [
+        | inl at ↦ rw (eq-eqb n.uid u at, ne_eqb uid u (λ e. far (omega arith))) refl
+        | inr off ↦ rw (ne_eqb n.uid u off) ih
+      ]))
 ]
   where
     entry_kept : (ns : List Node) (uid volume entry u : ℕ) → uid ≢ u
         → entry_in (with_changed uid (λ n. record n { volume = volume; entry = entry }) ns) u ≡ entry_in ns u
     entry_kept [] uid volume entry u off = refl
     entry_kept (n ∷ ns) uid volume entry u off = elim (cases_eq n.uid uid) [
-      | inl same ↦ rw (eq-eqb n.uid uid same, ne_eqb n.uid u (λ e. off (omega arith))) (entry_kept ns uid volume entry u off)
+      | inl same ↦ rw (eq-eqb n.uid uid same, ne_eqb n.uid u (λ e. off (omega arith)))
+          (entry_kept ns uid volume entry u off)
       | inr far ↦ rw (ne_eqb n.uid uid far) (ap (cond (eqb n.uid u) n.entry) (entry_kept ns uid volume entry u off))
     ]
 
-pub home_shown : (old new : Branches) (c : CellMaps) (uid volume entry : ℕ) → is_segment old.nodes uid ≡ true → new ≡ with_home old uid volume entry
+pub home_shown : (old new : Branches) (c : CellMaps) (uid volume entry : ℕ) → is_segment old.nodes uid ≡ true → new
+    ≡ with_home old uid volume entry
     → Rehomes (accounts_of old c) (accounts_of new c) uid volume entry
 home_shown old new c uid volume entry seg is = record {
   nodes = ap (λ (t : Branches). with_quotas (quota_in c) t.nodes) is
-      ∙ changed_nodes (quota_in c) uid (λ n. record n { volume = volume; entry = entry }) (λ n. record n { volume = volume }) (λ n. refl) old.nodes;
+      ∙ changed_nodes (quota_in c) uid (λ n. record n { volume = volume; entry = entry })
+      (λ n. record n { volume = volume }) (λ n. refl) old.nodes;
   entries = λ u.
       entry_any (quota_in c) new.nodes u ∙ ap (λ (t : Branches). entry_in t.nodes u) is
       ∙ entry_changed old.nodes uid volume entry u (segment_in old.nodes uid seg)

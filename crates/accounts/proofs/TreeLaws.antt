@@ -1,5 +1,6 @@
 -- The nodes with their quotas are a tree, as they are without.
-use Rattle.std.proofs.Common.{◌≡◌, ℕ, ◌<◌, Bool, true, false, cond, eqb, List, [], ◌∷◌, length, Option, Some, None, refl, sym, ap, subst, ◌∙◌}
+use Rattle.std.proofs.Common.{◌≡◌, ℕ, ◌<◌, Bool, true, false, cond, eqb, List, [], ◌∷◌, length, Option, Some, None}
+use Rattle.std.proofs.Common.{refl, sym, ap, subst, ◌∙◌}
 use Rattle.tree_model.specs.Tree.{Node as Term, above, branch_in, has_directory, is_branch, step_up}
 use Rattle.tree_model.specs.Trees.{AreBelow, IsTree, Joins}
 use Rattle.dir_tree.specs.declared.node.Node.{Node}
@@ -8,7 +9,8 @@ use Rattle.dir_tree.specs.Shape.{shape, shapes}
 
 above_any : (q : ℕ → ℕ) (ns : List Node) (u : ℕ) → above (with_quotas q ns) u ≡ above (shapes ns) u
 above_any q [] u = refl
-above_any q (n ∷ ns) u = ap (λ (f : ℕ → List ℕ). cond (eqb n.uid u) (step_up f n.superior) (f u)) (λ i. λ v. above_any q ns v i)
+above_any q (n ∷ ns) u = ap (λ (f : ℕ → List ℕ). cond (eqb n.uid u) (step_up f n.superior) (f u))
+    (λ i. λ v. above_any q ns v i)
 
 directory_any : (q : ℕ → ℕ) (ns : List Node) (u : ℕ) → has_directory (with_quotas q ns) u ≡ has_directory (shapes ns) u
 directory_any q [] u = refl
@@ -18,11 +20,13 @@ pub later_any : (q : ℕ → ℕ) (ns : List Node) (u : ℕ) → AreBelow u (sha
 later_any q [] u h = tt
 later_any q (n ∷ ns) u h = (h.0, later_any q ns u h.1)
 
-new_any : (q : ℕ → ℕ) (ns : List Node) (d : ℕ) (name : List ℕ) → branch_in (shapes ns) d name ≡ None → branch_in (with_quotas q ns) d name ≡ None
+new_any : (q : ℕ → ℕ) (ns : List Node) (d : ℕ) (name : List ℕ) → branch_in (shapes ns) d name ≡ None
+    → branch_in (with_quotas q ns) d name ≡ None
 new_any q [] d name e = refl
 new_any q (n ∷ ns) d name e = here (is_branch d name (shape n)) e (new_any q ns d name)
   where
-    here : (z : Bool) → cond z (Some (shape n)) (branch_in (shapes ns) d name) ≡ None → (branch_in (shapes ns) d name ≡ None → branch_in (with_quotas q ns) d name ≡ None)
+    here : (z : Bool) → cond z (Some (shape n)) (branch_in (shapes ns) d name) ≡ None
+        → (branch_in (shapes ns) d name ≡ None → branch_in (with_quotas q ns) d name ≡ None)
         → cond z (Some (as_term q n)) (branch_in (with_quotas q ns) d name) ≡ None
     here true is ih = cc
     here false is ih = ih is
@@ -31,7 +35,8 @@ empty_any : (q : ℕ → ℕ) (ns : List Node) → shapes ns ≡ [] → with_quo
 empty_any q [] e = refl
 empty_any q (n ∷ ns) e = cc
 
-joins_any : (q : ℕ → ℕ) (ns : List Node) (n : Node) (o : Option ℕ) → Joins (shapes ns) o (shape n) → Joins (with_quotas q ns) o (as_term q n)
+joins_any : (q : ℕ → ℕ) (ns : List Node) (n : Node) (o : Option ℕ) → Joins (shapes ns) o (shape n)
+    → Joins (with_quotas q ns) o (as_term q n)
 joins_any q ns n None root = record { first = empty_any q ns root.first; one = root.one; directory = root.directory }
 joins_any q ns n (Some s) branch = record {
   later = later_any q ns n.uid branch.later;
@@ -44,5 +49,6 @@ tree_any : (q : ℕ → ℕ) (ns : List Node) → IsTree (shapes ns) → IsTree 
 tree_any q [] t = tt
 tree_any q (n ∷ ns) t = (joins_any q ns n n.superior t.0, tree_any q ns t.1)
 
-pub tree_shown : (q : ℕ → ℕ) (ns : List Node) (now : List Term) → with_quotas q ns ≡ now → IsTree (shapes ns) → IsTree now
+pub tree_shown : (q : ℕ → ℕ) (ns : List Node) (now : List Term) → with_quotas q ns ≡ now → IsTree (shapes ns)
+    → IsTree now
 tree_shown q ns now is t = subst (λ (x : List Term). IsTree x) is (tree_any q ns t)

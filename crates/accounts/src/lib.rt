@@ -93,8 +93,8 @@ impl Accounts {
         self.tree.node(uid)
     }
 
-    /// The uid of the root, below which each other node lies. A caller that asks for it learns that the nodes are a tree,
-    /// and that each account is within its quota.
+    /// The uid of the root, below which each other node lies. A caller that asks for it learns that the nodes are a
+    /// tree, and that each account is within its quota.
     pub fn root(&self) -> u32
         ensures uid { result ≡ 1 }
         ensures tree { IsTree self.now.nodes }

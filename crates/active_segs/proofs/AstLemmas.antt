@@ -1,43 +1,57 @@
 -- What each call keeps, over plain fields.
-use Rattle.std.proofs.Common.{◌≡◌, ◌≢◌, ℕ, ◌+◌, ◌-◌, ◌<◌, ◌≤◌, Bool, true, false, List, length, Option, Some, None, IsSome, IfSome, All, is_some, refl, sym}
+use Rattle.std.proofs.Common.{◌≡◌, ◌≢◌, ℕ, ◌+◌, ◌-◌, ◌<◌, ◌≤◌, Bool, true, false, List, length, Option, Some, None}
+use Rattle.std.proofs.Common.{IsSome, IfSome, All, is_some, refl, sym}
 use Rattle.std.proofs.Common.{ap, subst, ◌∙◌, arith, get_or, set, sum, take, drop, []}
 use Rattle.std.proofs.lemmas.Bool.{both_ways}
 use Rattle.std.proofs.lemmas.List.{length-set, length-drop, length-take-le, get_or-take, get_or-drop, get_or_read}
 use Rattle.bitmap.specs.Bitmap.{in_use, IsLeastFree as IsFirstFree}
 use Rattle.page_table.specs.declared.Ptw.{Ptw}
 use Rattle.active_segs.specs.declared.Entry.{Entry}
-use Rattle.active_segs.specs.Active.{ActiveSegs, entry_at, superior_in, uid_at, IsActive, HasNoInferior, HasShape, IsLeastFree, IsFull, used_in}
-use Rattle.active_segs.specs.Kept.{IsKept, IsMarked, AreNoted, IsIndexed, map_of, map_set, noted, place_of_superior, IsActiveAt}
+use Rattle.active_segs.specs.Active.{ActiveSegs, entry_at, superior_in, uid_at, IsActive, HasNoInferior, HasShape}
+use Rattle.active_segs.specs.Active.{IsLeastFree, IsFull, used_in}
+use Rattle.active_segs.specs.Kept.{IsKept, IsMarked, AreNoted, IsIndexed, map_of, map_set, noted, place_of_superior}
+use Rattle.active_segs.specs.Kept.{IsActiveAt}
 use Rattle.active_segs.specs.Pairs.{Pairs, place_of, SetsPlace}
 use Rattle.active_segs.specs.Pool.{HasPools, first_of, size_of, IsInPool, IsPlaced}
-use Rattle.active_segs.proofs.InferiorLemmas.{IsSuperiorPlace, superior_placed, superior_of_active, noted_activated, noted_deactivated}
-use Rattle.active_segs.specs.Victim.{leaf_below, leaf_of, victim_of, off_chain, hand_of, round_pool, first_off_chain, StandsFor, IsVictim, HasOneOffChain}
+use Rattle.active_segs.proofs.InferiorLemmas.{IsSuperiorPlace, superior_placed, superior_of_active, noted_activated}
+use Rattle.active_segs.proofs.InferiorLemmas.{noted_deactivated}
+use Rattle.active_segs.specs.Victim.{leaf_below, leaf_of, victim_of, off_chain, hand_of, round_pool, first_off_chain}
+use Rattle.active_segs.specs.Victim.{StandsFor, IsVictim, HasOneOffChain}
 use Rattle.active_segs.proofs.DescentLemmas.{round_reaches, round_found, off_is_used, find_passes}
 use Rattle.active_segs.proofs.EntryLemmas.{tree_activated, tree_deactivated, used_within}
-use Rattle.active_segs.proofs.PlaceLemmas.{pool_within, not_all_used, marked_set, indexed_activated, indexed_deactivated}
+use Rattle.active_segs.proofs.PlaceLemmas.{pool_within, not_all_used, marked_set, indexed_activated}
+use Rattle.active_segs.proofs.PlaceLemmas.{indexed_deactivated}
 
 -- ---- search
 
-pub searched_within : (xs : List (Option Entry)) (index : Pairs) (uid : ℕ) (r : Option ℕ) → IsIndexed xs index → r ≡ place_of index.pairs uid
+pub searched_within : (xs : List (Option Entry)) (index : Pairs) (uid : ℕ) (r : Option ℕ) → IsIndexed xs index → r
+    ≡ place_of index.pairs uid
     → IfSome r (λ p. p < length xs)
 searched_within xs index uid None indexed is = tt
 searched_within xs index uid (Some p) indexed is = used_within xs p uid ((indexed.places p uid).0 (sym is))
 
 -- ---- the calls
 
-module _ (sizes hands : List ℕ) (used : List (List Bool)) (xs : List (Option Entry)) (tables : List (List Ptw)) (maps : List (List Bool)) (index : Pairs)
+module _ (sizes hands : List ℕ) (used : List (List Bool)) (xs : List (Option Entry)) (tables : List (List Ptw))
+    (maps : List (List Bool)) (index : Pairs)
     (kept : IsKept sizes hands used xs tables maps index) where
-  pub kept_activated : (place uid : ℕ) (superior : Option ℕ) (pool offset : ℕ) (used' maps' : List (List Bool)) (index' : Pairs) (above : Option ℕ)
-      → place < length xs → entry_at xs place ≡ None → ((q : ℕ) → uid_at xs q ≢ Some uid) → ((s : ℕ) → superior ≡ Some s → IsActive xs s)
-      → IsPlaced sizes place pool offset → above ≡ place_of_superior index.pairs superior → used' ≡ map_set used pool offset true → maps' ≡ noted maps above
+  pub kept_activated : (place uid : ℕ) (superior : Option ℕ) (pool offset : ℕ) (used' maps' : List (List Bool))
+      (index' : Pairs) (above : Option ℕ)
+      → place < length xs → entry_at xs place ≡ None → ((q : ℕ) → uid_at xs q ≢ Some uid)
+      → ((s : ℕ) → superior ≡ Some s → IsActive xs s)
+      → IsPlaced sizes place pool offset → above ≡ place_of_superior index.pairs superior → used'
+      ≡ map_set used pool offset true → maps' ≡ noted maps above
       place false
-      → SetsPlace index.pairs index'.pairs uid (Some place) → length index'.pairs ≡ length index.pairs + 1 → index'.room ≡ index.room
+      → SetsPlace index.pairs index'.pairs uid (Some place) → length index'.pairs ≡ length index.pairs + 1
+      → index'.room ≡ index.room
       → IsKept sizes hands used' (set xs place (Some (record { uid = uid; superior = superior }))) tables maps' index'
-  kept_activated place uid superior pool offset used' counts' index' above lt free inactive active placed is_above is_used is_maps sets count room =
+  kept_activated place uid superior pool offset used' counts' index' above lt free inactive active placed is_above
+      is_used is_maps sets count room =
       let e : Entry = record { uid = uid; superior = superior } in
       let pools : HasPools sizes hands = kept.pools in
       let entry_count : length xs ≡ sum sizes = kept.entry_count in
-      let at : IsSuperiorPlace xs superior above = subst (IsSuperiorPlace xs superior) (sym is_above) (superior_placed xs index kept.indexed superior active) in
+      let at : IsSuperiorPlace xs superior above = subst (IsSuperiorPlace xs superior) (sym is_above)
+      (superior_placed xs index kept.indexed superior active) in
       record {
         pools = pools;
         entry_count = length-set xs place (Some e) ∙ entry_count;
@@ -63,17 +77,22 @@ module _ (sizes hands : List ℕ) (used : List (List Bool)) (xs : List (Option E
     tree = kept.tree;
   }
 
-  pub kept_deactivated : (place : ℕ) (e : Entry) (pool offset : ℕ) (used' maps' : List (List Bool)) (index' : Pairs) (above : Option ℕ) (table : List Ptw)
+  pub kept_deactivated : (place : ℕ) (e : Entry) (pool offset : ℕ) (used' maps' : List (List Bool)) (index' : Pairs)
+      (above : Option ℕ) (table : List Ptw)
       → place < length xs → entry_at xs place ≡ Some e → HasNoInferior xs place
-      → IsPlaced sizes place pool offset → above ≡ place_of_superior index.pairs e.superior → used' ≡ map_set used pool offset false → maps' ≡ noted maps above
+      → IsPlaced sizes place pool offset → above ≡ place_of_superior index.pairs e.superior → used'
+      ≡ map_set used pool offset false → maps' ≡ noted maps above
       place true
-      → SetsPlace index.pairs index'.pairs e.uid None → length index'.pairs + 1 ≡ length index.pairs → index'.room ≡ index.room
+      → SetsPlace index.pairs index'.pairs e.uid None → length index'.pairs + 1 ≡ length index.pairs → index'.room
+      ≡ index.room
       → IsKept sizes hands used' (set xs place None) (set tables place table) maps' index'
-  kept_deactivated place e pool offset used' counts' index' above table lt is leaf placed is_above is_used is_maps sets count room =
+  kept_deactivated place e pool offset used' counts' index' above table lt is leaf placed is_above is_used is_maps sets
+      count room =
       let pools : HasPools sizes hands = kept.pools in
       let entry_count : length xs ≡ sum sizes = kept.entry_count in
       let at : IsSuperiorPlace xs e.superior above =
-      subst (IsSuperiorPlace xs e.superior) (sym is_above) (superior_of_active xs index place e kept.indexed kept.tree is) in
+      subst (IsSuperiorPlace xs e.superior) (sym is_above)
+      (superior_of_active xs index place e kept.indexed kept.tree is) in
       record {
         pools = pools;
         entry_count = length-set xs place None ∙ entry_count;
@@ -83,7 +102,8 @@ module _ (sizes hands : List ℕ) (used : List (List Bool)) (xs : List (Option E
             (marked_set sizes used xs place pool offset false None pools.four entry_count kept.marked placed refl);
         inferior_maps =
             subst (AreNoted (set xs place None)) (sym is_maps)
-            (noted_deactivated xs maps kept.inferior_maps kept.tree place lt leaf e.superior above (ap superior_in is) at);
+            (noted_deactivated xs maps kept.inferior_maps kept.tree place lt leaf e.superior above (ap superior_in is)
+            at);
         indexed = indexed_deactivated xs index index' place lt kept.indexed room e is kept.tree.once sets count;
         tree = tree_deactivated xs place lt leaf kept.tree;
       }
@@ -91,11 +111,14 @@ module _ (sizes hands : List ℕ) (used : List (List Bool)) (xs : List (Option E
 -- ---- the free places of a pool
 
 -- the map of a pool, as it is read
-pub marked_map : {sizes : List ℕ} {used : List (List Bool)} {entries : List (Option Entry)} → IsMarked sizes used entries → (pool : ℕ) (map : List Bool)
+pub marked_map : {sizes : List ℕ} {used : List (List Bool)} {entries : List (Option Entry)}
+    → IsMarked sizes used entries → (pool : ℕ) (map : List Bool)
     → pool < 4 → map ≡ get_or used pool map → map ≡ map_of used pool
-marked_map {sizes} {used} {entries} marked pool map lt read = (let maps : length used ≡ 4 = marked.maps in get_or_read used pool map (omega arith) read [])
+marked_map {sizes} {used} {entries} marked pool map lt read =
+    (let maps : length used ≡ 4 = marked.maps in get_or_read used pool map (omega arith) read [])
 
-pub full_since_marked : (s : ActiveSegs) (used : List (List Bool)) (pool : ℕ) → pool < 4 → IsMarked s.sizes used s.entries
+pub full_since_marked : (s : ActiveSegs) (used : List (List Bool)) (pool : ℕ) → pool < 4
+    → IsMarked s.sizes used s.entries
     → All (λ flag. flag ≡ true) (map_of used pool) → IsFull s pool
 full_since_marked s used pool lt marked all q in_pool =
     let i : ℕ = q - first_of s.sizes pool in
@@ -108,13 +131,15 @@ full_since_marked s used pool lt marked all q in_pool =
     subst (λ (k : ℕ). is_some (entry_at s.entries k) ≡ true) at (sym (marked.flags pool i lt within) ∙ on)
 
 -- the least free flag of a pool's map is its least free place
-pub least_since_marked : (s : ActiveSegs) (used : List (List Bool)) (pool offset : ℕ) → pool < 4 → IsMarked s.sizes used s.entries
+pub least_since_marked : (s : ActiveSegs) (used : List (List Bool)) (pool offset : ℕ) → pool < 4
+    → IsMarked s.sizes used s.entries
     → IsFirstFree (map_of used pool) offset → IsLeastFree s pool (first_of s.sizes pool + offset)
 least_since_marked s used pool offset lt marked first =
     let long : length (map_of used pool) ≡ size_of s.sizes pool = marked.as_long pool lt in
     let lt_offset : offset < length (map_of used pool) = first.within in
     let within : offset < size_of s.sizes pool = omega arith in
-    let free : is_some (entry_at s.entries (first_of s.sizes pool + offset)) ≡ false = sym (marked.flags pool offset lt within) ∙ first.free in
+    let free : is_some (entry_at s.entries (first_of s.sizes pool + offset)) ≡ false =
+    sym (marked.flags pool offset lt within) ∙ first.free in
     record {
       in_pool = record { from = omega arith; to = omega arith };
       free = none_since (entry_at s.entries (first_of s.sizes pool + offset)) free;
@@ -125,7 +150,8 @@ least_since_marked s used pool offset lt marked first =
           let within_i : i < size_of s.sizes pool = omega arith in
           let before_i : i < offset = omega arith in
           let at : first_of s.sizes pool + i ≡ q = omega arith in
-          subst (λ (k : ℕ). is_some (entry_at s.entries k) ≡ true) at (sym (marked.flags pool i lt within_i) ∙ first.before i before_i));
+          subst (λ (k : ℕ). is_some (entry_at s.entries k) ≡ true) at
+          (sym (marked.flags pool i lt within_i) ∙ first.before i before_i));
     }
   where
     none_since : (o : Option Entry) → is_some o ≡ false → o ≡ None
@@ -135,14 +161,17 @@ least_since_marked s used pool offset lt marked first =
 pub not_full : (s : ActiveSegs) (pool place : ℕ) → IsLeastFree s pool place → IsFull s pool → ⊥
 not_full s pool place least full = both_ways _ (ap is_some least.free) (full place least.in_pool)
 
-pub free_within : (s : ActiveSegs) (pool place : ℕ) → HasShape s → pool < 4 → IsLeastFree s pool place → place < length s.entries
+pub free_within : (s : ActiveSegs) (pool place : ℕ) → HasShape s → pool < 4 → IsLeastFree s pool place
+    → place < length s.entries
 free_within s pool place shape lt least =
     let to : place < first_of s.sizes pool + size_of s.sizes pool = least.in_pool.to in
-    let ends : first_of s.sizes pool + size_of s.sizes pool ≤ sum s.sizes = pool_within s.sizes pool shape.pools.four lt in
+    let ends : first_of s.sizes pool + size_of s.sizes pool ≤ sum s.sizes =
+    pool_within s.sizes pool shape.pools.four lt in
     let count : length s.entries ≡ sum s.sizes = shape.entry_count in omega arith
 
 -- where a place is free the pool has room for one more
-pub room_since_free : (s : ActiveSegs) (pool place : ℕ) → HasShape s → pool < 4 → IsLeastFree s pool place → used_in s pool < size_of s.sizes pool
+pub room_since_free : (s : ActiveSegs) (pool place : ℕ) → HasShape s → pool < 4 → IsLeastFree s pool place
+    → used_in s pool < size_of s.sizes pool
 room_since_free s pool place shape lt least =
     let first : ℕ = first_of s.sizes pool in
     let size : ℕ = size_of s.sizes pool in
@@ -152,11 +181,14 @@ room_since_free s pool place shape lt least =
     let ends : first + size ≤ sum s.sizes = pool_within s.sizes pool shape.pools.four lt in
     let count : length s.entries ≡ sum s.sizes = shape.entry_count in
     let past : length (drop first s.entries) ≡ length s.entries - first = length-drop first s.entries in
-    let long : length (take size (drop first s.entries)) ≡ size = length-take-le size (drop first s.entries) (omega arith) in
+    let long : length (take size (drop first s.entries)) ≡ size =
+    length-take-le size (drop first s.entries) (omega arith) in
     let at : first + i ≡ place = omega arith in
     let free : entry_at (take size (drop first s.entries)) i ≡ None =
-    get_or-take size (drop first s.entries) i None (omega arith) ∙ get_or-drop first s.entries i None ∙ ap (entry_at s.entries) at ∙ least.free in
-    let few : used_in s pool < length (take size (drop first s.entries)) = not_all_used (take size (drop first s.entries)) i (omega arith) free in
+    get_or-take size (drop first s.entries) i None (omega arith) ∙ get_or-drop first s.entries i None
+    ∙ ap (entry_at s.entries) at ∙ least.free in
+    let few : used_in s pool < length (take size (drop first s.entries)) =
+    not_all_used (take size (drop first s.entries)) i (omega arith) free in
     omega arith
 
 -- ---- the victim
@@ -168,30 +200,39 @@ hand_inside sizes hands pool place pools lt in_pool =
     let to : place < first_of sizes pool + size_of sizes pool = in_pool.to in
     pools.inside pool lt (omega arith)
 
-pub place_found : (s : ActiveSegs) (pool : ℕ) (chain : List ℕ) → HasPools s.sizes s.hands → pool < 4 → HasOneOffChain s pool chain
+pub place_found : (s : ActiveSegs) (pool : ℕ) (chain : List ℕ) → HasPools s.sizes s.hands → pool < 4
+    → HasOneOffChain s pool chain
     → IsSome (first_off_chain s pool chain)
 place_found s pool chain pools lt some =
-    let inside : get_or s.hands pool 0 < size_of s.sizes pool = hand_inside s.sizes s.hands pool some.place pools lt some.in_pool in
-    round_reaches (λ place. off_chain chain (entry_at s.entries place)) (first_of s.sizes pool) (hand_of s pool) (first_of s.sizes pool + size_of s.sizes pool)
+    let inside : get_or s.hands pool 0 < size_of s.sizes pool =
+    hand_inside s.sizes s.hands pool some.place pools lt some.in_pool in
+    round_reaches (λ place. off_chain chain (entry_at s.entries place)) (first_of s.sizes pool) (hand_of s pool)
+    (first_of s.sizes pool + size_of s.sizes pool)
     some.place (omega arith) (omega arith) some.in_pool.from some.in_pool.to some.off
 
-pub found_in_pool : (s : ActiveSegs) (pool : ℕ) (chain : List ℕ) (found : ℕ) → HasPools s.sizes s.hands → pool < 4 → HasOneOffChain s pool chain
+pub found_in_pool : (s : ActiveSegs) (pool : ℕ) (chain : List ℕ) (found : ℕ) → HasPools s.sizes s.hands → pool < 4
+    → HasOneOffChain s pool chain
     → first_off_chain s pool chain ≡ Some found → IsInPool s.sizes pool found
 found_in_pool s pool chain found pools lt some is =
-    let inside : get_or s.hands pool 0 < size_of s.sizes pool = hand_inside s.sizes s.hands pool some.place pools lt some.in_pool in
+    let inside : get_or s.hands pool 0 < size_of s.sizes pool =
+    hand_inside s.sizes s.hands pool some.place pools lt some.in_pool in
     let h =
     round_found (λ place. off_chain chain (entry_at s.entries place)) (first_of s.sizes pool) (hand_of s pool)
     (first_of s.sizes pool + size_of s.sizes pool) found (omega arith) (omega arith) is in
     record { from = h.0; to = h.1 }
 
-pub found_active : (s : ActiveSegs) (pool : ℕ) (chain : List ℕ) (found : ℕ) → first_off_chain s pool chain ≡ Some found → IsActiveAt s.entries found
+pub found_active : (s : ActiveSegs) (pool : ℕ) (chain : List ℕ) (found : ℕ) → first_off_chain s pool chain ≡ Some found
+    → IsActiveAt s.entries found
 found_active s pool chain found is =
-    off_is_used chain (entry_at s.entries found) (find_passes (λ place. off_chain chain (entry_at s.entries place)) (round_pool s pool) found is)
+    off_is_used chain (entry_at s.entries found) (find_passes (λ place. off_chain chain (entry_at s.entries place))
+    (round_pool s pool) found is)
 
-pub is_victim : (s : ActiveSegs) (pool : ℕ) (chain : List ℕ) (found leaf : ℕ) → first_off_chain s pool chain ≡ Some found → StandsFor s.entries found leaf
+pub is_victim : (s : ActiveSegs) (pool : ℕ) (chain : List ℕ) (found leaf : ℕ) → first_off_chain s pool chain
+    ≡ Some found → StandsFor s.entries found leaf
     → IsVictim s pool chain leaf
 is_victim s pool chain found leaf first stands = record { found = found; first = first; leaf = stands }
 
-pub is_victim_of : (s : ActiveSegs) (pool : ℕ) (chain : List ℕ) (found leaf : ℕ) → first_off_chain s pool chain ≡ Some found
+pub is_victim_of : (s : ActiveSegs) (pool : ℕ) (chain : List ℕ) (found leaf : ℕ) → first_off_chain s pool chain
+    ≡ Some found
     → leaf ≡ leaf_below s.entries (length s.entries) found → victim_of s pool chain ≡ Some leaf
 is_victim_of s pool chain found leaf first is = ap (leaf_of s.entries) first ∙ ap (λ (k : ℕ). Some k) (sym is)

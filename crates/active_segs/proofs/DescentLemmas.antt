@@ -1,13 +1,16 @@
 -- The way down from a place to the leaf that takes its stead: it ends, it is the only one, and it stays off a chain.
-use Rattle.std.proofs.Common.{◌≡◌, ◌≢◌, ℕ, zero, suc, ◌+◌, ◌-◌, ◌<◌, ◌≤◌, Bool, true, false, cond, eqb, not, List, [], ◌∷◌, ◌++◌, length, Option, Some, None}
+use Rattle.std.proofs.Common.{◌≡◌, ◌≢◌, ℕ, zero, suc, ◌+◌, ◌-◌, ◌<◌, ◌≤◌, Bool, true, false, cond, eqb, not, List, []}
+use Rattle.std.proofs.Common.{◌∷◌, ◌++◌, length, Option, Some, None}
 use Rattle.std.proofs.Common.{IsSome, is_some, refl, sym, ap, subst, ◌∙◌, arith, inl, inr, Contains}
 use Rattle.std.specs.List.{IsDistinct, AllByRecursion, find, list_any, range_with_len}
-use Rattle.std.proofs.lemmas.Bool.{cases_lt, cases_order, eqb-true, eq-eqb, not-true, both_ways, cases_Bool, or_cases, or_left, or_right, or_parts, false≢true}
+use Rattle.std.proofs.lemmas.Bool.{cases_lt, cases_order, eqb-true, eq-eqb, not-true, both_ways, cases_Bool, or_cases}
+use Rattle.std.proofs.lemmas.Bool.{or_left, or_right, or_parts, false≢true}
 use Rattle.std.proofs.lemmas.Option.{none-some, same_Some}
 use Rattle.std.proofs.lemmas.Map.Steps.{length-le_from_distinct_below}
 use Rattle.active_segs.specs.declared.Entry.{Entry}
 use Rattle.active_segs.specs.Active.{ActiveSegs, entry_at, uid_in, uid_at, superior_at, HasNoInferior, IsGrounded}
-use Rattle.active_segs.specs.Victim.{leaf_below, off_chain, places_from, round_pool, IsLeastInferior, Descends, StandsFor, IsVictim, HasItsSuperiors}
+use Rattle.active_segs.specs.Victim.{leaf_below, off_chain, places_from, round_pool, IsLeastInferior, Descends}
+use Rattle.active_segs.specs.Victim.{StandsFor, IsVictim, HasItsSuperiors}
 use Rattle.active_segs.specs.Victim.{IsOffChain}
 use Rattle.active_segs.specs.Kept.{IsActiveAt}
 use Rattle.active_segs.proofs.EntryLemmas.{used_within, used_since_superior}
@@ -19,11 +22,13 @@ pub stays : (xs : List (Option Entry)) (place : ℕ) → HasNoInferior xs place 
 unfolding Descends
 stays xs place none = (0, (none, refl))
 
-pub goes_down : (xs : List (Option Entry)) (place q leaf : ℕ) → IsLeastInferior xs place q → StandsFor xs q leaf → StandsFor xs place leaf
+pub goes_down : (xs : List (Option Entry)) (place q leaf : ℕ) → IsLeastInferior xs place q → StandsFor xs q leaf
+    → StandsFor xs place leaf
 unfolding Descends
 goes_down xs place q leaf least (n, descends) = (suc n, (q, least, descends))
 
-least_once : (xs : List (Option Entry)) (place q r : ℕ) → IsLeastInferior xs place q → IsLeastInferior xs place r → q ≡ r
+least_once : (xs : List (Option Entry)) (place q r : ℕ) → IsLeastInferior xs place q → IsLeastInferior xs place r → q
+    ≡ r
 least_once xs place q r a b =
     let same : a.uid ≡ b.uid = same_Some _ _ (sym a.is ∙ b.is) in
     elim (cases_order q r) [
@@ -43,17 +48,20 @@ descends_once xs (suc n) (suc m) place a b (q, least, d) (r, least', e) =
     descends_once xs n m q a b d (subst (λ (k : ℕ). Descends xs m k b) (sym (least_once xs place q r least least')) e)
 
 -- one victim alone
-pub victim_once : (s : ActiveSegs) (pool : ℕ) (chain : List ℕ) (a b : ℕ) → IsVictim s pool chain a → IsVictim s pool chain b → a ≡ b
+pub victim_once : (s : ActiveSegs) (pool : ℕ) (chain : List ℕ) (a b : ℕ) → IsVictim s pool chain a
+    → IsVictim s pool chain b → a ≡ b
 victim_once s pool chain a b v w =
     let same : v.found ≡ w.found = same_Some _ _ (sym v.first ∙ w.first) in
-    descends_once s.entries v.leaf.0 w.leaf.0 v.found a b v.leaf.1 (subst (λ (k : ℕ). Descends s.entries w.leaf.0 k b) (sym same) w.leaf.1)
+    descends_once s.entries v.leaf.0 w.leaf.0 v.found a b v.leaf.1
+    (subst (λ (k : ℕ). Descends s.entries w.leaf.0 k b) (sym same) w.leaf.1)
 
 leaf_has_none : (xs : List (Option Entry)) (n place leaf : ℕ) → Descends xs n place leaf → HasNoInferior xs leaf
 unfolding Descends
 leaf_has_none xs zero place leaf (none, is) = subst (HasNoInferior xs) (sym is) none
 leaf_has_none xs (suc n) place leaf (q, least, d) = leaf_has_none xs n q leaf d
 
-pub victim_is_leaf : (s : ActiveSegs) (pool : ℕ) (chain : List ℕ) (a : ℕ) → IsVictim s pool chain a → HasNoInferior s.entries a
+pub victim_is_leaf : (s : ActiveSegs) (pool : ℕ) (chain : List ℕ) (a : ℕ) → IsVictim s pool chain a
+    → HasNoInferior s.entries a
 victim_is_leaf s pool chain a v = leaf_has_none s.entries v.leaf.0 v.found a v.leaf.1
 
 -- ---- off the chain
@@ -62,7 +70,8 @@ in_chain : (chain : List ℕ) (uid : ℕ) → list_any (λ u. eqb u uid) chain �
 in_chain [] uid h = absurd (false≢true h)
 in_chain (u ∷ chain) uid h = elim (or_cases (eqb u uid) (list_any (λ u. eqb u uid) chain) h) [
   | inl same ↦ (0, omega arith, eqb-true u uid same)
-  | inr rest ↦ (let there : Contains chain uid = in_chain chain uid rest in (suc there.0, (let lt : there.0 < length chain = there.1 in omega arith), there.2))
+  | inr rest ↦ (let there : Contains chain uid = in_chain chain uid rest in
+      (suc there.0, (let lt : there.0 < length chain = there.1 in omega arith), there.2))
 ]
 
 chain_has : (chain : List ℕ) (uid : ℕ) → Contains chain uid → list_any (λ u. eqb u uid) chain ≡ true
@@ -70,15 +79,19 @@ chain_has [] uid (k, lt, e) = absurd (omega arith)
 chain_has (u ∷ chain) uid (zero, lt, e) = or_left _ _ (eq-eqb u uid e)
 chain_has (u ∷ chain) uid (suc k, lt, e) = or_right _ _ (chain_has chain uid (k, omega arith, e))
 
-off_not_there : (chain : List ℕ) (o : Option Entry) (u : ℕ) → off_chain chain o ≡ true → uid_in o ≡ Some u → list_any (λ v. eqb v u) chain ≡ false
+off_not_there : (chain : List ℕ) (o : Option Entry) (u : ℕ) → off_chain chain o ≡ true → uid_in o ≡ Some u
+    → list_any (λ v. eqb v u) chain ≡ false
 off_not_there chain None u off is = absurd (false≢true off)
 off_not_there chain (Some e) u off is =
-    let same : e.uid ≡ u = same_Some _ _ is in subst (λ (k : ℕ). list_any (λ v. eqb v k) chain ≡ false) same (not-true _ off)
+    let same : e.uid ≡ u = same_Some _ _ is in subst (λ (k : ℕ). list_any (λ v. eqb v k) chain ≡ false) same
+    (not-true _ off)
 
-not_there_off : (chain : List ℕ) (o : Option Entry) (u : ℕ) → list_any (λ v. eqb v u) chain ≡ false → uid_in o ≡ Some u → off_chain chain o ≡ true
+not_there_off : (chain : List ℕ) (o : Option Entry) (u : ℕ) → list_any (λ v. eqb v u) chain ≡ false → uid_in o ≡ Some u
+    → off_chain chain o ≡ true
 not_there_off chain None u absent is = absurd (none-some u is)
 not_there_off chain (Some e) u absent is =
-    let same : u ≡ e.uid = sym (same_Some _ _ is) in ap not (subst (λ (k : ℕ). list_any (λ v. eqb v k) chain ≡ false) same absent)
+    let same : u ≡ e.uid = sym (same_Some _ _ is) in ap not
+    (subst (λ (k : ℕ). list_any (λ v. eqb v k) chain ≡ false) same absent)
 
 pub off_is_used : (chain : List ℕ) (o : Option Entry) → off_chain chain o ≡ true → (u : ℕ) × (uid_in o ≡ Some u)
 off_is_used chain None off = absurd (false≢true off)
@@ -86,24 +99,30 @@ off_is_used chain (Some e) off = (e.uid, refl)
 
 off_within : (xs : List (Option Entry)) (chain : List ℕ) (place : ℕ) → IsOffChain xs chain place → place < length xs
 off_within xs chain place off =
-    let used : (u : ℕ) × (uid_at xs place ≡ Some u) = off_is_used chain (entry_at xs place) off in used_within xs place used.0 used.1
+    let used : (u : ℕ) × (uid_at xs place ≡ Some u) = off_is_used chain (entry_at xs place) off in used_within xs place
+    used.0 used.1
 
-off_below : (xs : List (Option Entry)) (chain : List ℕ) (place q : ℕ) → HasItsSuperiors xs chain → IsOffChain xs chain place → IsLeastInferior xs place q
+off_below : (xs : List (Option Entry)) (chain : List ℕ) (place q : ℕ) → HasItsSuperiors xs chain
+    → IsOffChain xs chain place → IsLeastInferior xs place q
     → IsOffChain xs chain q
 off_below xs chain place q closed off least =
     let used : (u : ℕ) × (uid_at xs q ≡ Some u) = used_since_superior (entry_at xs q) least.uid least.inferior in
     elim (cases_Bool (list_any (λ v. eqb v used.0) chain)) [
       | inl there ↦
-          (let above : Contains chain least.uid = closed q used.0 least.uid used.1 (in_chain chain used.0 there) least.inferior in
-          absurd (both_ways _ (off_not_there chain (entry_at xs place) least.uid off least.is) (chain_has chain least.uid above)))
+          (let above : Contains chain least.uid = closed q used.0 least.uid used.1 (in_chain chain used.0 there)
+          least.inferior in
+          absurd (both_ways _ (off_not_there chain (entry_at xs place) least.uid off least.is)
+          (chain_has chain least.uid above)))
       | inr absent ↦ not_there_off chain (entry_at xs q) used.0 absent used.1
     ]
 
-off_leaf : (xs : List (Option Entry)) (chain : List ℕ) (n place leaf : ℕ) → HasItsSuperiors xs chain → IsOffChain xs chain place → Descends xs n place leaf
+off_leaf : (xs : List (Option Entry)) (chain : List ℕ) (n place leaf : ℕ) → HasItsSuperiors xs chain
+    → IsOffChain xs chain place → Descends xs n place leaf
     → IsOffChain xs chain leaf
 unfolding Descends
 off_leaf xs chain zero place leaf closed off (none, is) = subst (IsOffChain xs chain) (sym is) off
-off_leaf xs chain (suc n) place leaf closed off (q, least, d) = off_leaf xs chain n q leaf closed (off_below xs chain place q closed off least) d
+off_leaf xs chain (suc n) place leaf closed off (q, least, d) =
+    off_leaf xs chain n q leaf closed (off_below xs chain place q closed off least) d
 
 -- ---- the first place off the chain
 
@@ -115,19 +134,24 @@ find_passes {X} p (y ∷ xs) x e = at (find_passes p xs x) (p y) refl e
     at ih true is e' = ap p (sym (same_Some y x e')) ∙ is
     at ih false is e' = ih e'
 
-pub victim_off : (s : ActiveSegs) (pool : ℕ) (chain : List ℕ) (a : ℕ) → HasItsSuperiors s.entries chain → IsVictim s pool chain a → IsOffChain s.entries chain a
+pub victim_off : (s : ActiveSegs) (pool : ℕ) (chain : List ℕ) (a : ℕ) → HasItsSuperiors s.entries chain
+    → IsVictim s pool chain a → IsOffChain s.entries chain a
 victim_off s pool chain a closed v =
-    off_leaf s.entries chain v.leaf.0 v.found a closed (find_passes (λ place. off_chain chain (entry_at s.entries place)) (round_pool s pool) v.found v.first)
+    off_leaf s.entries chain v.leaf.0 v.found a closed
+    (find_passes (λ place. off_chain chain (entry_at s.entries place)) (round_pool s pool) v.found v.first)
     v.leaf.1
 
-pub victim_within : (s : ActiveSegs) (pool : ℕ) (chain : List ℕ) (a : ℕ) → HasItsSuperiors s.entries chain → IsVictim s pool chain a → a < length s.entries
+pub victim_within : (s : ActiveSegs) (pool : ℕ) (chain : List ℕ) (a : ℕ) → HasItsSuperiors s.entries chain
+    → IsVictim s pool chain a → a < length s.entries
 victim_within s pool chain a closed v = off_within s.entries chain a (victim_off s pool chain a closed v)
 
 pub places_more : (i to : ℕ) → i < to → places_from i to ≡ i ∷ places_from (i + 1) to
 places_more i to lt = let n : to - i ≡ suc (to - (i + 1)) = omega arith in ap (range_with_len i) n
 
-pub finds_later : (p : ℕ → Bool) (i to : ℕ) → i < to → p i ≡ false → find p (places_from (i + 1) to) ≡ find p (places_from i to)
-finds_later p i to lt off = sym (ap (find p) (places_more i to lt) ∙ ap (λ (b : Bool). cond b (Some i) (find p (places_from (i + 1) to))) off)
+pub finds_later : (p : ℕ → Bool) (i to : ℕ) → i < to → p i ≡ false → find p (places_from (i + 1) to)
+    ≡ find p (places_from i to)
+finds_later p i to lt off = sym (ap (find p) (places_more i to lt)
+    ∙ ap (λ (b : Bool). cond b (Some i) (find p (places_from (i + 1) to))) off)
 
 pub find_first : (p : ℕ → Bool) (xs ys : List ℕ) (x : ℕ) → find p xs ≡ Some x → find p (xs ++ ys) ≡ Some x
 find_first p [] ys x e = absurd (none-some x e)
@@ -148,11 +172,13 @@ find_second p (y ∷ xs) ys e = at (find_second p xs ys) (p y) refl e
     at ih false is e' = ap (λ (b : Bool). cond b (Some y) (find p (xs ++ ys))) is ∙ ih e'
 
 -- what a search of a range finds is in the range
-pub found_within : (p : ℕ → Bool) (n a x : ℕ) → find p (range_with_len a n) ≡ Some x → (a ≤ x) × (x < a + n) × (p x ≡ true)
+pub found_within : (p : ℕ → Bool) (n a x : ℕ) → find p (range_with_len a n) ≡ Some x → (a ≤ x) × (x < a + n)
+    × (p x ≡ true)
 found_within p zero a x e = absurd (none-some x e)
 found_within p (suc n) a x e = at (found_within p n (a + 1) x) (p a) refl e
   where
-    at : (find p (range_with_len (a + 1) n) ≡ Some x → (a + 1 ≤ x) × (x < a + 1 + n) × (p x ≡ true)) → (b : Bool) → p a ≡ b
+    at : (find p (range_with_len (a + 1) n) ≡ Some x → (a + 1 ≤ x) × (x < a + 1 + n) × (p x ≡ true)) → (b : Bool) → p a
+        ≡ b
         → cond b (Some a) (find p (range_with_len (a + 1) n)) ≡ Some x → (a ≤ x) × (x < a + suc n) × (p x ≡ true)
     at ih true is e' = let same : a ≡ x = same_Some a x e' in (omega arith, omega arith, ap p (sym same) ∙ is)
     at ih false is e' =
@@ -169,7 +195,8 @@ reaches p (suc n) a x le lt on = at (λ le' lt'. reaches p n (a + 1) x le' lt' o
     at ih true is = ap (λ (b : Bool). is_some (cond b (Some a) (find p (range_with_len (a + 1) n)))) is
     at ih false is =
         let off : a ≢ x = λ same. both_ways _ is (ap p same ∙ on) in
-        ap (λ (b : Bool). is_some (cond b (Some a) (find p (range_with_len (a + 1) n)))) is ∙ ih (omega arith) (omega arith)
+        ap (λ (b : Bool). is_some (cond b (Some a) (find p (range_with_len (a + 1) n)))) is
+        ∙ ih (omega arith) (omega arith)
 
 -- ---- the way down ends
 
@@ -192,13 +219,15 @@ none_distinct = tt
 
 all_differ : (x : ℕ) (xs : List ℕ) → list_any (eqb x) xs ≡ false → AllByRecursion (λ y. eqb x y ≡ false) xs
 all_differ x [] h = tt
-all_differ x (y ∷ xs) h = let parts : (eqb x y ≡ false) × (list_any (eqb x) xs ≡ false) = or_parts _ _ h in (parts.0, all_differ x xs parts.1)
+all_differ x (y ∷ xs) h = let parts : (eqb x y ≡ false) × (list_any (eqb x) xs ≡ false) =
+    or_parts _ _ h in (parts.0, all_differ x xs parts.1)
 
 one_more_distinct : (x : ℕ) (xs : List ℕ) → list_any (eqb x) xs ≡ false → IsDistinct eqb xs → IsDistinct eqb (x ∷ xs)
 unfolding IsDistinct
 one_more_distinct x xs new distinct = (all_differ x xs new, distinct)
 
-pub way_begins : (xs : List (Option Entry)) (start : ℕ) → IsGrounded xs → IsActiveAt xs start → IsOnTheWay xs start start 0
+pub way_begins : (xs : List (Option Entry)) (start : ℕ) → IsGrounded xs → IsActiveAt xs start
+    → IsOnTheWay xs start start 0
 way_begins xs start grounded (u, is) = record {
   rank = grounded.0;
   law = grounded.1;
@@ -213,21 +242,25 @@ way_begins xs start grounded (u, is) = record {
 }
 
 -- the place that was come to was not passed before
-not_passed : (xs : List (Option Entry)) (start place steps : ℕ) (way : IsOnTheWay xs start place steps) → list_any (eqb place) way.passed ≡ false
+not_passed : (xs : List (Option Entry)) (start place steps : ℕ) (way : IsOnTheWay xs start place steps)
+    → list_any (eqb place) way.passed ≡ false
 not_passed xs start place steps way = elim (cases_Bool (list_any (eqb place) way.passed)) [
   | inl there ↦
       (let was : (u : ℕ) × (uid_at xs place ≡ Some u) × (way.rank u < way.rank way.uid) = way.before place there in
       let same : was.0 ≡ way.uid = same_Some _ _ (sym was.1 ∙ way.is) in
-      let less : way.rank way.uid < way.rank way.uid = subst (λ (k : ℕ). way.rank k < way.rank way.uid) same was.2 in absurd (omega arith))
+      let less : way.rank way.uid < way.rank way.uid =
+      subst (λ (k : ℕ). way.rank k < way.rank way.uid) same was.2 in absurd (omega arith))
   | inr absent ↦ absent
 ]
 
-pub way_goes_on : (xs : List (Option Entry)) (start place q steps : ℕ) → IsOnTheWay xs start place steps → IsLeastInferior xs place q
+pub way_goes_on : (xs : List (Option Entry)) (start place q steps : ℕ) → IsOnTheWay xs start place steps
+    → IsLeastInferior xs place q
     → IsOnTheWay xs start q (steps + 1)
 way_goes_on xs start place q steps way least =
     let used : (u : ℕ) × (uid_at xs q ≡ Some u) = used_since_superior (entry_at xs q) least.uid least.inferior in
     let same : least.uid ≡ way.uid = same_Some _ _ (sym least.is ∙ way.is) in
-    let higher : way.rank way.uid < way.rank used.0 = subst (λ (k : ℕ). way.rank k < way.rank used.0) same (way.law q used.0 least.uid used.1 least.inferior) in
+    let higher : way.rank way.uid < way.rank used.0 = subst (λ (k : ℕ). way.rank k < way.rank used.0) same
+    (way.law q used.0 least.uid used.1 least.inferior) in
     record {
       rank = way.rank;
       law = way.law;
@@ -241,8 +274,13 @@ way_goes_on xs start place q steps way least =
       count = (let n : length way.passed ≡ steps = way.count in omega arith);
       distinct = one_more_distinct place way.passed (not_passed xs start place steps way) way.distinct;
       before = λ r h. elim (or_cases (eqb r place) (list_any (eqb r) way.passed) h) [
-        | inl this ↦ (way.uid, subst (λ (k : ℕ). uid_at xs k ≡ Some way.uid) (sym (eqb-true r place this)) way.is, higher)
-        | inr earlier ↦ (let was : (u : ℕ) × (uid_at xs r ≡ Some u) × (way.rank u < way.rank way.uid) = way.before r earlier in
+        | inl this ↦ (
+          way.uid,
+          subst (λ (k : ℕ). uid_at xs k ≡ Some way.uid) (sym (eqb-true r place this)) way.is,
+          higher,
+        )
+        | inr earlier ↦ (let was : (u : ℕ) × (uid_at xs r ≡ Some u) × (way.rank u < way.rank way.uid) =
+            way.before r earlier in
             (was.0, was.1, (let l : way.rank was.0 < way.rank way.uid = was.2 in omega arith)))
       ];
     }
@@ -251,21 +289,27 @@ way_goes_on xs start place q steps way least =
 pub way_ends : (xs : List (Option Entry)) (start place steps : ℕ) → IsOnTheWay xs start place steps → steps < length xs
 way_ends xs start place steps way =
     let all : List ℕ = place ∷ way.passed in
-    let below : (q : ℕ) → list_any (eqb q) all ≡ true → q < length xs = λ q h. elim (or_cases (eqb q place) (list_any (eqb q) way.passed) h) [
-      | inl this ↦ (let same : q ≡ place = eqb-true q place this in used_within xs q way.uid (subst (λ (k : ℕ). uid_at xs k ≡ Some way.uid) (sym same) way.is))
-      | inr earlier ↦ (let was : (u : ℕ) × (uid_at xs q ≡ Some u) × (way.rank u < way.rank way.uid) = way.before q earlier in used_within xs q was.0 was.1)
+    let below : (q : ℕ) → list_any (eqb q) all ≡ true → q < length xs =
+    λ q h. elim (or_cases (eqb q place) (list_any (eqb q) way.passed) h) [
+      | inl this ↦ (let same : q ≡ place = eqb-true q place this in used_within xs q way.uid
+          (subst (λ (k : ℕ). uid_at xs k ≡ Some way.uid) (sym same) way.is))
+      | inr earlier ↦ (let was : (u : ℕ) × (uid_at xs q ≡ Some u) × (way.rank u < way.rank way.uid) =
+          way.before q earlier in used_within xs q was.0 was.1)
     ] in
     let most : length all ≤ length xs =
-    length-le_from_distinct_below all (length xs) (one_more_distinct place way.passed (not_passed xs start place steps way) way.distinct) below in
+    length-le_from_distinct_below all (length xs) (one_more_distinct place way.passed
+    (not_passed xs start place steps way) way.distinct) below in
     let n : length way.passed ≡ steps = way.count in omega arith
 
 -- as many steps down as there are places come to the leaf
-pub way_comes_to : (xs : List (Option Entry)) (start leaf steps : ℕ) → IsOnTheWay xs start leaf steps → HasNoInferior xs leaf
+pub way_comes_to : (xs : List (Option Entry)) (start leaf steps : ℕ) → IsOnTheWay xs start leaf steps
+    → HasNoInferior xs leaf
     → leaf ≡ leaf_below xs (length xs) start
 way_comes_to xs start leaf steps way none =
     let less : steps < length xs = way_ends xs start leaf steps way in
     let n : length xs - steps + steps ≡ length xs = omega arith in
-    sym (stays_at_leaf xs (length xs - steps) leaf none) ∙ sym (way.same (length xs - steps)) ∙ ap (λ (k : ℕ). leaf_below xs k start) n
+    sym (stays_at_leaf xs (length xs - steps) leaf none) ∙ sym (way.same (length xs - steps))
+    ∙ ap (λ (k : ℕ). leaf_below xs k start) n
 
 -- ---- once round a pool
 
@@ -274,24 +318,37 @@ pub round_reaches : (p : ℕ → Bool) (first hand end x : ℕ) → first ≤ ha
     → IsSome (find p (places_from hand end ++ places_from first hand))
 round_reaches p first hand end x low high from to on = go (find p (places_from hand end)) refl
   where
-    go : (o : Option ℕ) → find p (places_from hand end) ≡ o → IsSome (find p (places_from hand end ++ places_from first hand))
+    go : (o : Option ℕ) → find p (places_from hand end) ≡ o
+        → IsSome (find p (places_from hand end ++ places_from first hand))
     go (Some y) is = ap is_some (find_first p (places_from hand end) (places_from first hand) y is)
     go None is =
         let before : x < hand =
-        elim (cases_lt x hand) [ inl lt ↦ lt | inr le ↦ absurd (both_ways _ (ap is_some is) (reaches p (end - hand) hand x le (omega arith) on)) ] in
-        ap is_some (find_second p (places_from hand end) (places_from first hand) is) ∙ reaches p (hand - first) first x from (omega arith) on
+        elim (cases_lt x hand) [
+          | inl lt ↦ lt
+          | inr le ↦ absurd
+              (both_ways _ (ap is_some is) (reaches p (end - hand) hand x le (omega arith) on))
+        ] in
+        ap is_some (find_second p (places_from hand end) (places_from first hand) is)
+        ∙ reaches p (hand - first) first x from (omega arith) on
 
 -- what is found is a place of the pool
-pub round_found : (p : ℕ → Bool) (first hand end x : ℕ) → first ≤ hand → hand ≤ end → find p (places_from hand end ++ places_from first hand) ≡ Some x
+pub round_found : (p : ℕ → Bool) (first hand end x : ℕ) → first ≤ hand → hand ≤ end
+    → find p (places_from hand end ++ places_from first hand) ≡ Some x
     → (first ≤ x) × (x < end) × (p x ≡ true)
 round_found p first hand end x low high found = go (find p (places_from hand end)) refl
   where
     go : (o : Option ℕ) → find p (places_from hand end) ≡ o → (first ≤ x) × (x < end) × (p x ≡ true)
     go (Some y) is =
-        let same : y ≡ x = same_Some y x (sym (find_first p (places_from hand end) (places_from first hand) y is) ∙ found) in
-        let h : (hand ≤ y) × (y < hand + (end - hand)) × (p y ≡ true) = found_within p (end - hand) hand y is in
-        (let a : hand ≤ y = h.0 in omega arith, let b : y < hand + (end - hand) = h.1 in omega arith, ap p (sym same) ∙ h.2)
+        let same : y ≡ x = same_Some y x (sym (find_first p (places_from hand end) (places_from first hand) y is)
+        ∙ found) in
+        let h : (hand ≤ y) × (y < hand + (end - hand)) × (p y ≡ true) = found_within p (end - hand) hand y is in (
+          let a : hand ≤ y = h.0 in omega arith,
+          let b : y < hand + (end - hand) = h.1 in omega arith,
+          ap p (sym same)
+              ∙ h.2,
+        )
     go None is =
-        let e : find p (places_from first hand) ≡ Some x = sym (find_second p (places_from hand end) (places_from first hand) is) ∙ found in
+        let e : find p (places_from first hand) ≡ Some x =
+        sym (find_second p (places_from hand end) (places_from first hand) is) ∙ found in
         let h : (first ≤ x) × (x < first + (hand - first)) × (p x ≡ true) = found_within p (hand - first) first x e in
         (h.0, let b : x < first + (hand - first) = h.1 in omega arith, h.2)

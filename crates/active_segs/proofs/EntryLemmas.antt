@@ -1,31 +1,40 @@
 -- The entries after one of them changes: what is read there, and that they are still a part of a tree.
-use Rattle.std.proofs.Common.{◌≡◌, ◌≢◌, ℕ, ◌+◌, ◌<◌, Bool, false, cond, eqb, List, length, Option, Some, None, refl, sym, ap, subst, ◌∙◌, arith, set, inl, inr}
+use Rattle.std.proofs.Common.{◌≡◌, ◌≢◌, ℕ, ◌+◌, ◌<◌, Bool, false, cond, eqb, List, length, Option, Some, None, refl}
+use Rattle.std.proofs.Common.{sym, ap, subst, ◌∙◌, arith, set, inl, inr}
 use Rattle.std.proofs.lemmas.Bool.{cases_eq, cases_lt, eq-eqb, ne_eqb}
 use Rattle.std.proofs.lemmas.List.{get_or-set_same, get_or-set_other, get_or_past}
 use Rattle.std.proofs.lemmas.Option.{none-some, same_Some}
 use Rattle.active_segs.specs.declared.Entry.{Entry}
-use Rattle.active_segs.specs.Active.{entry_at, uid_in, superior_in, uid_at, superior_at, IsActive, HasNoInferior, IsOneToOne, SuperiorsAreActive, IsGrounded}
+use Rattle.active_segs.specs.Active.{entry_at, uid_in, superior_in, uid_at, superior_at, IsActive, HasNoInferior}
+use Rattle.active_segs.specs.Active.{IsOneToOne, SuperiorsAreActive, IsGrounded}
 use Rattle.active_segs.specs.Active.{IsTree}
 
 pub entry_set : (xs : List (Option Entry)) (p : ℕ) (e : Option Entry) → p < length xs → entry_at (set xs p e) p ≡ e
 entry_set xs p e lt = get_or-set_same xs p e None lt
 
-pub entry_kept : (xs : List (Option Entry)) (p : ℕ) (e : Option Entry) (q : ℕ) → q ≢ p → entry_at (set xs p e) q ≡ entry_at xs q
+pub entry_kept : (xs : List (Option Entry)) (p : ℕ) (e : Option Entry) (q : ℕ) → q ≢ p → entry_at (set xs p e) q
+    ≡ entry_at xs q
 entry_kept xs p e q ne = get_or-set_other xs p q e None ne
 
 pub uid_set : (xs : List (Option Entry)) (p : ℕ) (e : Option Entry) → p < length xs → uid_at (set xs p e) p ≡ uid_in e
 uid_set xs p e lt = ap uid_in (entry_set xs p e lt)
 
-pub uid_kept : (xs : List (Option Entry)) (p : ℕ) (e : Option Entry) (q : ℕ) → q ≢ p → uid_at (set xs p e) q ≡ uid_at xs q
+pub uid_kept : (xs : List (Option Entry)) (p : ℕ) (e : Option Entry) (q : ℕ) → q ≢ p → uid_at (set xs p e) q
+    ≡ uid_at xs q
 uid_kept xs p e q ne = ap uid_in (entry_kept xs p e q ne)
 
 -- where something is active the place is one of the table's
 pub used_within : (xs : List (Option Entry)) (p uid : ℕ) → uid_at xs p ≡ Some uid → p < length xs
-used_within xs p uid e = elim (cases_lt p (length xs)) [ inl lt ↦ lt | inr past ↦ absurd (none-some uid (sym (ap uid_in (get_or_past xs p None past)) ∙ e)) ]
+used_within xs p uid e = elim (cases_lt p (length xs))
+    [ inl lt ↦ lt | inr past ↦ absurd (none-some uid (sym (ap uid_in (get_or_past xs p None past)) ∙ e)) ]
 
 pub superior_within : (xs : List (Option Entry)) (p uid : ℕ) → superior_at xs p ≡ Some uid → p < length xs
 superior_within xs p uid e =
-    elim (cases_lt p (length xs)) [ inl lt ↦ lt | inr past ↦ absurd (none-some uid (sym (ap superior_in (get_or_past xs p None past)) ∙ e)) ]
+    elim (cases_lt p (length xs)) [
+      | inl lt ↦ lt
+      | inr past ↦ absurd
+          (none-some uid (sym (ap superior_in (get_or_past xs p None past)) ∙ e))
+    ]
 
 -- a place that has a superior is used
 pub used_since_superior : (o : Option Entry) (s : ℕ) → superior_in o ≡ Some s → (uid : ℕ) × (uid_in o ≡ Some uid)
@@ -35,7 +44,8 @@ used_since_superior (Some e) s h = (e.uid, refl)
 -- ---- a segment becomes active
 
 module _ (xs : List (Option Entry)) (p uid : ℕ) (superior : Option ℕ) (lt : p < length xs) (free : entry_at xs p ≡ None)
-    (inactive : (q : ℕ) → uid_at xs q ≢ Some uid) (above : (s : ℕ) → superior ≡ Some s → IsActive xs s) (tree : IsTree xs) where
+    (inactive : (q : ℕ) → uid_at xs q ≢ Some uid) (above : (s : ℕ) → superior ≡ Some s → IsActive xs s)
+    (tree : IsTree xs) where
   new_entry : Entry
   new_entry = record { uid = uid; superior = superior }
 
@@ -102,12 +112,14 @@ module _ (xs : List (Option Entry)) (p uid : ℕ) (superior : Option ℕ) (lt : 
       λ s active.
       (let ne : eqb s uid ≡ false = ne_eqb s uid (λ same. inactive active.0 (active.1 ∙ ap (λ (k : ℕ). Some k) same)) in
       ap (λ (b : Bool). cond b (rank_in rank superior) (rank s)) ne) in
-      let this : rank' uid ≡ rank_in rank superior = ap (λ (b : Bool). cond b (rank_in rank superior) (rank uid)) (eq-eqb uid uid refl) in (
+      let this : rank' uid ≡ rank_in rank superior = ap (λ (b : Bool). cond b (rank_in rank superior) (rank uid))
+      (eq-eqb uid uid refl) in (
         rank',
         λ q u s e f. elim (cases_eq q p) [
           | inl at_q ↦
               (let is_uid : uid ≡ u = same_Some _ _ (sym uid_new ∙ subst (λ (k : ℕ). uid_at ys k ≡ Some u) at_q e) in
-              let is_superior : superior ≡ Some s = sym superior_new ∙ subst (λ (k : ℕ). superior_at ys k ≡ Some s) at_q f in
+              let is_superior : superior ≡ Some s = sym superior_new
+              ∙ subst (λ (k : ℕ). superior_at ys k ≡ Some s) at_q f in
               let low : rank' s ≡ rank s = old s (above s is_superior) in
               let high : rank' uid ≡ rank s + 1 = this ∙ ap (rank_in rank) is_superior in
               let high' : rank' u ≡ rank s + 1 = subst (λ (k : ℕ). rank' k ≡ rank s + 1) is_uid high in
@@ -131,13 +143,15 @@ module _ (xs : List (Option Entry)) (p uid : ℕ) (superior : Option ℕ) (lt : 
 module _ (xs : List (Option Entry)) (p : ℕ) (lt : p < length xs) (leaf : HasNoInferior xs p) (tree : IsTree xs) where
   uid_left : (q u : ℕ) → uid_at (set xs p None) q ≡ Some u → (q ≢ p) × (uid_at xs q ≡ Some u)
   uid_left q u e = elim (cases_eq q p) [
-    | inl at_q ↦ absurd (none-some u (sym (ap uid_in (entry_set xs p None lt)) ∙ subst (λ (k : ℕ). uid_at (set xs p None) k ≡ Some u) at_q e))
+    | inl at_q ↦ absurd (none-some u (sym (ap uid_in (entry_set xs p None lt))
+        ∙ subst (λ (k : ℕ). uid_at (set xs p None) k ≡ Some u) at_q e))
     | inr off_q ↦ (off_q, sym (ap uid_in (entry_kept xs p None q off_q)) ∙ e)
   ]
 
   superior_left : (q u : ℕ) → superior_at (set xs p None) q ≡ Some u → (q ≢ p) × (superior_at xs q ≡ Some u)
   superior_left q u e = elim (cases_eq q p) [
-    | inl at_q ↦ absurd (none-some u (sym (ap superior_in (entry_set xs p None lt)) ∙ subst (λ (k : ℕ). superior_at (set xs p None) k ≡ Some u) at_q e))
+    | inl at_q ↦ absurd (none-some u (sym (ap superior_in (entry_set xs p None lt))
+        ∙ subst (λ (k : ℕ). superior_at (set xs p None) k ≡ Some u) at_q e))
     | inr off_q ↦ (off_q, sym (ap superior_in (entry_kept xs p None q off_q)) ∙ e)
   ]
 

@@ -1,13 +1,16 @@
 -- The maps of inferiors after a segment has become active or is so no more, and what their least free number is.
-use Rattle.std.proofs.Common.{◌≡◌, ◌≢◌, ℕ, suc, ◌+◌, ◌-◌, ◌<◌, ◌↔◌, Bool, true, false, List, [], ◌∷◌, ◌++◌, length, replicate, Option, Some, None, IfSome}
+use Rattle.std.proofs.Common.{◌≡◌, ◌≢◌, ℕ, suc, ◌+◌, ◌-◌, ◌<◌, ◌↔◌, Bool, true, false, List, [], ◌∷◌, ◌++◌, length}
+use Rattle.std.proofs.Common.{replicate, Option, Some, None, IfSome}
 use Rattle.std.proofs.Common.{All, refl, sym, ap, subst, ◌∙◌, arith, set, inl, inr, get_or}
 use Rattle.std.proofs.lemmas.Bool.{cases_eq, cases_Bool, both_ways}
-use Rattle.std.proofs.lemmas.List.{get_or-set_same, get_or-set_other, length-set, length-replicate, replicate-append-replicate, append_assoc, get_or_read}
+use Rattle.std.proofs.lemmas.List.{get_or-set_same, get_or-set_other, length-set, length-replicate}
+use Rattle.std.proofs.lemmas.List.{replicate-append-replicate, append_assoc, get_or_read}
 use Rattle.std.proofs.Math.Seq.{get_or-append_seam, set-append_seam}
 use Rattle.std.proofs.lemmas.Option.{none-some, same_Some}
 use Rattle.bitmap.specs.Bitmap.{in_use, IsLeastFree as IsFirstFree}
 use Rattle.active_segs.specs.declared.Entry.{Entry}
-use Rattle.active_segs.specs.Active.{entry_at, uid_in, superior_in, uid_at, superior_at, IsActive, HasNoInferior, SuperiorsAreActive, IsTree}
+use Rattle.active_segs.specs.Active.{entry_at, uid_in, superior_in, uid_at, superior_at, IsActive, HasNoInferior}
+use Rattle.active_segs.specs.Active.{SuperiorsAreActive, IsTree}
 use Rattle.active_segs.specs.Kept.{map_of, map_set, noted, place_of_superior, HasFlag, IsInferior, AreNoted, IsIndexed}
 use Rattle.active_segs.specs.Victim.{IsLeastInferior}
 use Rattle.active_segs.specs.Pairs.{Pairs}
@@ -20,7 +23,8 @@ abbrev pub taken_up_to : ℕ → ℕ → List Bool
 taken_up_to numbers k = replicate k true ++ replicate (numbers - k) false
 
 rest_begins : (numbers k : ℕ) → k < numbers → replicate (numbers - k) false ≡ false ∷ replicate (numbers - suc k) false
-rest_begins numbers k lt = let n : numbers - k ≡ suc (numbers - suc k) = omega arith in ap (λ (m : ℕ). replicate m false) n
+rest_begins numbers k lt = let n : numbers - k ≡ suc (numbers - suc k) =
+    omega arith in ap (λ (m : ℕ). replicate m false) n
 
 pub next_is_free : (numbers k : ℕ) → k < numbers → in_use (taken_up_to numbers k) k ≡ false
 next_is_free numbers k lt =
@@ -47,43 +51,56 @@ abbrev pub IsSuperiorPlace : List (Option Entry) → Option ℕ → Option ℕ �
 IsSuperiorPlace xs None place = place ≡ None
 IsSuperiorPlace xs (Some s) place = (r : ℕ) × (place ≡ Some r) × (uid_at xs r ≡ Some s)
 
-pub superior_placed : (xs : List (Option Entry)) (index : Pairs) → IsIndexed xs index → (superior : Option ℕ) → ((s : ℕ) → superior ≡ Some s → IsActive xs s)
+pub superior_placed : (xs : List (Option Entry)) (index : Pairs) → IsIndexed xs index → (superior : Option ℕ)
+    → ((s : ℕ) → superior ≡ Some s → IsActive xs s)
     → IsSuperiorPlace xs superior (place_of_superior index.pairs superior)
 superior_placed xs index indexed None above = refl
-superior_placed xs index indexed (Some s) above = let active : IsActive xs s = above s refl in (active.0, (indexed.places active.0 s).1 active.1, active.1)
+superior_placed xs index indexed (Some s) above = let active : IsActive xs s =
+    above s refl in (active.0, (indexed.places active.0 s).1 active.1, active.1)
 
 -- the superior of an active segment has a place
-pub superior_of_active : (xs : List (Option Entry)) (index : Pairs) (p : ℕ) (e : Entry) → IsIndexed xs index → IsTree xs → entry_at xs p ≡ Some e
+pub superior_of_active : (xs : List (Option Entry)) (index : Pairs) (p : ℕ) (e : Entry) → IsIndexed xs index
+    → IsTree xs → entry_at xs p ≡ Some e
     → IsSuperiorPlace xs e.superior (place_of_superior index.pairs e.superior)
-superior_of_active xs index p e indexed tree is = superior_placed xs index indexed e.superior (λ s h. tree.superiors p s (ap superior_in is ∙ h))
+superior_of_active xs index p e indexed tree is = superior_placed xs index indexed e.superior
+    (λ s h. tree.superiors p s (ap superior_in is ∙ h))
 
 -- no superior of an active segment is a segment that isn't active
-inactive_has_none : (xs : List (Option Entry)) (uid : ℕ) → SuperiorsAreActive xs → ((q : ℕ) → uid_at xs q ≢ Some uid) → (q : ℕ) → superior_at xs q ≢ Some uid
-inactive_has_none xs uid superiors inactive q e = let active : IsActive xs uid = superiors q uid e in inactive active.0 active.1
+inactive_has_none : (xs : List (Option Entry)) (uid : ℕ) → SuperiorsAreActive xs → ((q : ℕ) → uid_at xs q ≢ Some uid)
+    → (q : ℕ) → superior_at xs q ≢ Some uid
+inactive_has_none xs uid superiors inactive q e = let active : IsActive xs uid =
+    superiors q uid e in inactive active.0 active.1
 
-superior_kept : (xs : List (Option Entry)) (p : ℕ) (e : Option Entry) (q : ℕ) → q ≢ p → superior_at (set xs p e) q ≡ superior_at xs q
+superior_kept : (xs : List (Option Entry)) (p : ℕ) (e : Option Entry) (q : ℕ) → q ≢ p → superior_at (set xs p e) q
+    ≡ superior_at xs q
 superior_kept xs p e q ne = ap superior_in (entry_kept xs p e q ne)
 
-superior_set : (xs : List (Option Entry)) (p : ℕ) (e : Option Entry) → p < length xs → superior_at (set xs p e) p ≡ superior_in e
+superior_set : (xs : List (Option Entry)) (p : ℕ) (e : Option Entry) → p < length xs → superior_at (set xs p e) p
+    ≡ superior_in e
 superior_set xs p e lt = ap superior_in (entry_set xs p e lt)
 
 module _ (xs : List (Option Entry)) (maps : List (List Bool)) (notes : AreNoted xs maps) where
   within_maps : (r s : ℕ) → uid_at xs r ≡ Some s → r < length maps
-  within_maps r s active = let lt : r < length xs = used_within xs r s active in let n : length maps ≡ length xs = notes.maps in omega arith
+  within_maps r s active = let lt : r < length xs = used_within xs r s active in let n : length maps ≡ length xs =
+      notes.maps in omega arith
 
   within_map : (r s p : ℕ) → uid_at xs r ≡ Some s → p < length xs → p < length (map_of maps r)
-  within_map r s p active lt = let n : length (map_of maps r) ≡ length xs = notes.as_long r (used_within xs r s active) in omega arith
+  within_map r s p active lt = let n : length (map_of maps r) ≡ length xs =
+      notes.as_long r (used_within xs r s active) in omega arith
 
   -- where nothing is active no inferior is noted
-  not_noted : (r s p : ℕ) → uid_at xs r ≡ Some s → p < length xs → entry_at xs p ≡ None → in_use (map_of maps r) p ≡ true
+  not_noted : (r s p : ℕ) → uid_at xs r ≡ Some s → p < length xs → entry_at xs p ≡ None → in_use (map_of maps r) p
+      ≡ true
   not_noted r s p active lt free = elim (cases_Bool (in_use (map_of maps r) p)) [
     | inl on ↦ on
-    | inr off ↦ (let h : IsInferior xs r p = (notes.free r p (used_within xs r s active) lt).0 off in absurd (none-some h.0 (sym (ap superior_in free) ∙ h.2)))
+    | inr off ↦ (let h : IsInferior xs r p = (notes.free r p (used_within xs r s active) lt).0 off in absurd
+        (none-some h.0 (sym (ap superior_in free) ∙ h.2)))
   ]
 
   -- ---- what the calls ask
 
-  pub may_note : (superior above : Option ℕ) (p : ℕ) → p < length xs → entry_at xs p ≡ None → IsSuperiorPlace xs superior above
+  pub may_note : (superior above : Option ℕ) (p : ℕ) → p < length xs → entry_at xs p ≡ None
+      → IsSuperiorPlace xs superior above
       → IfSome above (HasFlag maps p true)
   may_note None above p lt free placed = subst (λ (o : Option ℕ). IfSome o (HasFlag maps p true)) (sym placed) tt
   may_note (Some s) above p lt free (r, is, active) =
@@ -93,9 +110,11 @@ module _ (xs : List (Option Entry)) (maps : List (List Bool)) (notes : AreNoted 
         is = not_noted r s p active lt free;
       })
 
-  pub may_forget : (superior above : Option ℕ) (p : ℕ) → p < length xs → superior_at xs p ≡ superior → IsSuperiorPlace xs superior above
+  pub may_forget : (superior above : Option ℕ) (p : ℕ) → p < length xs → superior_at xs p ≡ superior
+      → IsSuperiorPlace xs superior above
       → IfSome above (HasFlag maps p false)
-  may_forget None above p lt is_superior placed = subst (λ (o : Option ℕ). IfSome o (HasFlag maps p false)) (sym placed) tt
+  may_forget None above p lt is_superior placed = subst (λ (o : Option ℕ). IfSome o (HasFlag maps p false))
+      (sym placed) tt
   may_forget (Some s) above p lt is_superior (r, is, active) =
       subst (λ (o : Option ℕ). IfSome o (HasFlag maps p false)) (sym is) (record {
         known = within_maps r s active;
@@ -106,7 +125,8 @@ module _ (xs : List (Option Entry)) (maps : List (List Bool)) (notes : AreNoted 
   -- ---- what the maps say
 
   -- the least free number of a map is the place of the least inferior
-  pub least_since_noted : (place q : ℕ) → place < length xs → IsFirstFree (map_of maps place) q → IsLeastInferior xs place q
+  pub least_since_noted : (place q : ℕ) → place < length xs → IsFirstFree (map_of maps place) q
+      → IsLeastInferior xs place q
   least_since_noted place q lt first =
       let size : length (map_of maps place) ≡ length xs = notes.as_long place lt in
       let within : q < length (map_of maps place) = first.within in
@@ -115,15 +135,19 @@ module _ (xs : List (Option Entry)) (maps : List (List Bool)) (notes : AreNoted 
         uid = h.0;
         is = h.1;
         inferior = h.2;
-        least = λ k before e. both_ways _ ((notes.free place k lt (superior_within xs k h.0 e)).1 (h.0, h.1, e)) (first.before k before);
+        least = λ k before e. both_ways _ ((notes.free place k lt (superior_within xs k h.0 e)).1 (h.0, h.1, e))
+            (first.before k before);
       }
 
   -- and where none is free there is none
   -- the map of a place, as it is read
-  pub noted_map : (place : ℕ) (map : List Bool) → place < length xs → map ≡ get_or maps place map → map ≡ map_of maps place
-  noted_map place map lt read = (let many : length maps ≡ length xs = notes.maps in get_or_read maps place map (omega arith) read [])
+  pub noted_map : (place : ℕ) (map : List Bool) → place < length xs → map ≡ get_or maps place map → map
+      ≡ map_of maps place
+  noted_map place map lt read = (let many : length maps ≡ length xs =
+      notes.maps in get_or_read maps place map (omega arith) read [])
 
-  pub leaf_since_noted : (place : ℕ) → place < length xs → All (λ flag. flag ≡ true) (map_of maps place) → HasNoInferior xs place
+  pub leaf_since_noted : (place : ℕ) → place < length xs → All (λ flag. flag ≡ true) (map_of maps place)
+      → HasNoInferior xs place
   leaf_since_noted place lt all q uid is e =
       let size : length (map_of maps place) ≡ length xs = notes.as_long place lt in
       let within : q < length xs = superior_within xs q uid e in
@@ -157,16 +181,20 @@ module _ (xs : List (Option Entry)) (maps : List (List Bool)) (notes : AreNoted 
   elsewhere (Some r) p b place q lt ne = elim (cases_eq place r) [
     | inl same ↦
         subst (λ (k : ℕ). in_use (map_of (map_set maps r p b) k) q ≡ in_use (map_of maps k) q) (sym same)
-        (ap (λ (m : List Bool). in_use m q) (map_here r p b (subst (λ (k : ℕ). k < length maps) same lt)) ∙ get_or-set_other (map_of maps r) p q b false ne)
+        (ap (λ (m : List Bool). in_use m q) (map_here r p b (subst (λ (k : ℕ). k < length maps) same lt))
+        ∙ get_or-set_other (map_of maps r) p q b false ne)
     | inr off ↦ ap (λ (m : List Bool). in_use m q) (map_there r p b place off)
   ]
 
-  flag_here : (r p : ℕ) (b : Bool) → r < length maps → p < length (map_of maps r) → in_use (map_of (map_set maps r p b) r) p ≡ b
-  flag_here r p b lt within = ap (λ (m : List Bool). in_use m p) (map_here r p b lt) ∙ get_or-set_same (map_of maps r) p b false within
+  flag_here : (r p : ℕ) (b : Bool) → r < length maps → p < length (map_of maps r)
+      → in_use (map_of (map_set maps r p b) r) p ≡ b
+  flag_here r p b lt within = ap (λ (m : List Bool). in_use m p) (map_here r p b lt)
+      ∙ get_or-set_same (map_of maps r) p b false within
 
   -- ---- a segment becomes active
 
-  module _ (tree : IsTree xs) (p uid : ℕ) (lt : p < length xs) (free : entry_at xs p ≡ None) (inactive : (q : ℕ) → uid_at xs q ≢ Some uid) where
+  module _ (tree : IsTree xs) (p uid : ℕ) (lt : p < length xs) (free : entry_at xs p ≡ None)
+      (inactive : (q : ℕ) → uid_at xs q ≢ Some uid) where
     with_new : Option ℕ → List (Option Entry)
     with_new superior = set xs p (Some (record { uid = uid; superior = superior }))
 
@@ -176,20 +204,23 @@ module _ (xs : List (Option Entry)) (maps : List (List Bool)) (notes : AreNoted 
     none_there : (place : ℕ) → IsInferior xs place p → ⊥
     none_there place h = none-some h.0 (sym (ap superior_in free) ∙ h.2)
 
-    still_inferior : (superior : Option ℕ) (place q : ℕ) → q ≢ p → IsInferior xs place q → IsInferior (with_new superior) place q
+    still_inferior : (superior : Option ℕ) (place q : ℕ) → q ≢ p → IsInferior xs place q
+        → IsInferior (with_new superior) place q
     unfolding with_new
     still_inferior superior place q ne (u, is, e) =
         let new : Option Entry = Some (record { uid = uid; superior = superior }) in
         (u, uid_kept xs p new place (off_new place u is) ∙ is, superior_kept xs p new q ne ∙ e)
 
-    was_inferior : (superior : Option ℕ) (place q : ℕ) → q ≢ p → IsInferior (with_new superior) place q → IsInferior xs place q
+    was_inferior : (superior : Option ℕ) (place q : ℕ) → q ≢ p → IsInferior (with_new superior) place q
+        → IsInferior xs place q
     unfolding with_new
     was_inferior superior place q ne (u, is, e) =
         let new : Option Entry = Some (record { uid = uid; superior = superior }) in
         let e' : superior_at xs q ≡ Some u = sym (superior_kept xs p new q ne) ∙ e in
         elim (cases_eq place p) [
           | inl same ↦
-              (let is_uid : u ≡ uid = same_Some _ _ (sym (subst (λ (k : ℕ). uid_at (set xs p new) k ≡ Some u) same is) ∙ uid_set xs p new lt) in
+              (let is_uid : u ≡ uid = same_Some _ _ (sym (subst (λ (k : ℕ). uid_at (set xs p new) k ≡ Some u) same is)
+              ∙ uid_set xs p new lt) in
               absurd (inactive_has_none xs uid tree.superiors inactive q (e' ∙ ap (λ (k : ℕ). Some k) is_uid)))
           | inr off ↦ (u, sym (uid_kept xs p new place off) ∙ is, e')
         ]
@@ -201,26 +232,34 @@ module _ (xs : List (Option Entry)) (maps : List (List Bool)) (notes : AreNoted 
     at_new None above place within placed =
         let new : Option Entry = Some (record { uid = uid; superior = None }) in (
           λ h. absurd
-              (none_there place ((notes.free place p within lt).0 (subst (λ (o : Option ℕ). in_use (map_of (noted maps o p false) place) p ≡ false) placed h))),
+              (none_there place ((notes.free place p within lt).0
+              (subst (λ (o : Option ℕ). in_use (map_of (noted maps o p false) place) p ≡ false) placed h))),
           λ h. absurd (none-some h.0 (sym (superior_set xs p new lt) ∙ h.2)),
         )
     at_new (Some s) above place within (r, is, active) =
         let new : Option Entry = Some (record { uid = uid; superior = Some s }) in
-        subst (λ (o : Option ℕ). (in_use (map_of (noted maps o p false) place) p ≡ false) ↔ IsInferior (set xs p new) place p) (sym is)
+        subst (λ (o : Option ℕ). (in_use (map_of (noted maps o p false) place) p ≡ false)
+        ↔ IsInferior (set xs p new) place p) (sym is)
         (elim (cases_eq place r) [
           | inl same ↦
-              (let inferior : IsInferior (set xs p new) r p = (s, uid_kept xs p new r (off_new r s active) ∙ active, superior_set xs p new lt) in
-              subst (λ (k : ℕ). (in_use (map_of (map_set maps r p false) k) p ≡ false) ↔ IsInferior (set xs p new) k p) (sym same)
+              (let inferior : IsInferior (set xs p new) r p =
+              (s, uid_kept xs p new r (off_new r s active) ∙ active, superior_set xs p new lt) in
+              subst (λ (k : ℕ). (in_use (map_of (map_set maps r p false) k) p ≡ false) ↔ IsInferior (set xs p new) k p)
+              (sym same)
               (λ h. inferior, λ h. flag_here r p false (within_maps r s active) (within_map r s p active lt)))
           | inr off ↦ (
-            λ h. absurd (none_there place ((notes.free place p within lt).0 (sym (ap (λ (m : List Bool). in_use m p) (map_there r p false place off)) ∙ h))),
+            λ h. absurd (none_there place ((notes.free place p within lt).0
+                (sym (ap (λ (m : List Bool). in_use m p) (map_there r p false place off)) ∙ h))),
             λ h.
                 (let is_s : s ≡ h.0 = same_Some _ _ (sym (superior_set xs p new lt) ∙ h.2) in
                 elim (cases_eq place p) [
                   | inl same ↦
-                      (let is_uid : h.0 ≡ uid = same_Some _ _ (sym (subst (λ (k : ℕ). uid_at (set xs p new) k ≡ Some h.0) same h.1) ∙ uid_set xs p new lt) in
+                      (let is_uid : h.0 ≡ uid = same_Some _ _
+                      (sym (subst (λ (k : ℕ). uid_at (set xs p new) k ≡ Some h.0) same h.1) ∙ uid_set xs p new lt)
+                      in
                       absurd (inactive r (active ∙ ap (λ (k : ℕ). Some k) (is_s ∙ is_uid))))
-                  | inr other ↦ absurd (off (tree.once place r h.0 (sym (uid_kept xs p new place other) ∙ h.1) (active ∙ ap (λ (k : ℕ). Some k) is_s)))
+                  | inr other ↦ absurd (off (tree.once place r h.0 (sym (uid_kept xs p new place other) ∙ h.1)
+                      (active ∙ ap (λ (k : ℕ). Some k) is_s)))
                 ]),
           )
         ])
@@ -234,16 +273,22 @@ module _ (xs : List (Option Entry)) (maps : List (List Bool)) (notes : AreNoted 
         let many : length maps ≡ length xs = notes.maps in
         record {
           maps = as_many above p false ∙ many ∙ sym size;
-          as_long = λ place within. as_long_still above p false place (omega arith) ∙ notes.as_long place (omega arith) ∙ sym size;
+          as_long = λ place within. as_long_still above p false place (omega arith) ∙ notes.as_long place (omega arith)
+              ∙ sym size;
           free = λ place q within within_q. elim (cases_eq q p) [
             | inl same ↦
-                subst (λ (k : ℕ). (in_use (map_of (noted maps above p false) place) k ≡ false) ↔ IsInferior (set xs p new) place k) (sym same)
+                subst (λ (k : ℕ). (in_use (map_of (noted maps above p false) place) k ≡ false)
+                ↔ IsInferior (set xs p new) place k) (sym same)
                 (at_new superior above place (omega arith) placed)
             | inr off ↦
                 (let kept : in_use (map_of (noted maps above p false) place) q ≡ in_use (map_of maps place) q =
                 elsewhere above p false place q (omega arith) off in
-                let old : (in_use (map_of maps place) q ≡ false) ↔ IsInferior xs place q = notes.free place q (omega arith) (omega arith) in
-                (λ h. still_inferior superior place q off (old.0 (sym kept ∙ h)), λ h. kept ∙ old.1 (was_inferior superior place q off h)))
+                let old : (in_use (map_of maps place) q ≡ false) ↔ IsInferior xs place q =
+                notes.free place q (omega arith) (omega arith) in (
+                  λ h. still_inferior superior place q off (old.0 (sym kept ∙ h)),
+                  λ h. kept
+                      ∙ old.1 (was_inferior superior place q off h),
+                ))
           ];
         }
 
@@ -257,15 +302,18 @@ module _ (xs : List (Option Entry)) (maps : List (List Bool)) (notes : AreNoted 
 
     inferior_before : (place q : ℕ) → q ≢ p → IsInferior (set xs p None) place q → IsInferior xs place q
     inferior_before place q ne (u, is, e) =
-        let off : place ≢ p = λ same. none-some u (sym (uid_set xs p None lt) ∙ subst (λ (k : ℕ). uid_at (set xs p None) k ≡ Some u) same is) in
+        let off : place ≢ p = λ same. none-some u (sym (uid_set xs p None lt)
+        ∙ subst (λ (k : ℕ). uid_at (set xs p None) k ≡ Some u) same is) in
         (u, sym (uid_kept xs p None place off) ∙ is, sym (superior_kept xs p None q ne) ∙ e)
 
     -- at the place that became free
-    not_at_gone : (superior above : Option ℕ) (place : ℕ) → place < length xs → superior_at xs p ≡ superior → IsSuperiorPlace xs superior above
+    not_at_gone : (superior above : Option ℕ) (place : ℕ) → place < length xs → superior_at xs p ≡ superior
+        → IsSuperiorPlace xs superior above
         → in_use (map_of (noted maps above p true) place) p ≢ false
     not_at_gone None above place within is_superior placed off =
         let h : IsInferior xs place p =
-        (notes.free place p within lt).0 (subst (λ (o : Option ℕ). in_use (map_of (noted maps o p true) place) p ≡ false) placed off) in
+        (notes.free place p within lt).0 (subst (λ (o : Option ℕ). in_use (map_of (noted maps o p true) place) p
+        ≡ false) placed off) in
         none-some h.0 (sym is_superior ∙ h.2)
     not_at_gone (Some s) above place within is_superior (r, is, active) off =
         let off' : in_use (map_of (map_set maps r p true) place) p ≡ false =
@@ -276,31 +324,39 @@ module _ (xs : List (Option Entry)) (maps : List (List Bool)) (notes : AreNoted 
               (flag_here r p true (within_maps r s active) (within_map r s p active lt))
           | inr ne ↦
               (let h : IsInferior xs place p =
-              (notes.free place p within lt).0 (sym (ap (λ (m : List Bool). in_use m p) (map_there r p true place ne)) ∙ off') in
+              (notes.free place p within lt).0 (sym (ap (λ (m : List Bool). in_use m p) (map_there r p true place ne))
+              ∙ off') in
               let is_s : s ≡ h.0 = same_Some _ _ (sym is_superior ∙ h.2) in
               ne (tree.once place r h.0 h.1 (active ∙ ap (λ (k : ℕ). Some k) is_s)))
         ]
 
-    pub noted_deactivated : (superior above : Option ℕ) → superior_at xs p ≡ superior → IsSuperiorPlace xs superior above
+    pub noted_deactivated : (superior above : Option ℕ) → superior_at xs p ≡ superior
+        → IsSuperiorPlace xs superior above
         → AreNoted (set xs p None) (noted maps above p true)
     noted_deactivated superior above is_superior placed =
         let size : length (set xs p None) ≡ length xs = length-set xs p None in
         let many : length maps ≡ length xs = notes.maps in
         record {
           maps = as_many above p true ∙ many ∙ sym size;
-          as_long = λ place within. as_long_still above p true place (omega arith) ∙ notes.as_long place (omega arith) ∙ sym size;
+          as_long = λ place within. as_long_still above p true place (omega arith) ∙ notes.as_long place (omega arith)
+              ∙ sym size;
           free = λ place q within within_q. elim (cases_eq q p) [
             | inl same ↦ (
               λ h.
                   (let off : in_use (map_of (noted maps above p true) place) p ≡ false =
                   subst (λ (k : ℕ). in_use (map_of (noted maps above p true) place) k ≡ false) same h in
                   absurd (not_at_gone superior above place (omega arith) is_superior placed off)),
-              λ h. absurd (none-some h.0 (sym (superior_set xs p None lt) ∙ subst (λ (k : ℕ). superior_at (set xs p None) k ≡ Some h.0) same h.2)),
+              λ h. absurd (none-some h.0 (sym (superior_set xs p None lt)
+                  ∙ subst (λ (k : ℕ). superior_at (set xs p None) k ≡ Some h.0) same h.2)),
             )
             | inr off ↦
                 (let kept : in_use (map_of (noted maps above p true) place) q ≡ in_use (map_of maps place) q =
                 elsewhere above p true place q (omega arith) off in
-                let old : (in_use (map_of maps place) q ≡ false) ↔ IsInferior xs place q = notes.free place q (omega arith) (omega arith) in
-                (λ h. inferior_left place q off (old.0 (sym kept ∙ h)), λ h. kept ∙ old.1 (inferior_before place q off h)))
+                let old : (in_use (map_of maps place) q ≡ false) ↔ IsInferior xs place q =
+                notes.free place q (omega arith) (omega arith) in (
+                  λ h. inferior_left place q off (old.0 (sym kept ∙ h)),
+                  λ h. kept
+                      ∙ old.1 (inferior_before place q off h),
+                ))
           ];
         }

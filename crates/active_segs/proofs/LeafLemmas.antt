@@ -1,5 +1,6 @@
 -- The leaf below a place as a function: the least inferior, and steps down.
-use Rattle.std.proofs.Common.{◌≡◌, ◌≢◌, ℕ, zero, suc, ◌<◌, ◌≤◌, Bool, true, false, cond, not, List, length, Option, Some, None, refl, ap, ◌∙◌, arith, get_or}
+use Rattle.std.proofs.Common.{◌≡◌, ◌≢◌, ℕ, zero, suc, ◌<◌, ◌≤◌, Bool, true, false, cond, not, List, length, Option}
+use Rattle.std.proofs.Common.{Some, None, refl, ap, ◌∙◌, arith, get_or}
 use Rattle.std.proofs.Common.{inl, inr, position, ltb}
 use Rattle.std.specs.List.{position_or_len}
 use Rattle.std.proofs.lemmas.Bool.{cases_order, eqb-true, eq-eqb, ne_eqb, ltb-false, not-true, both_ways}
@@ -8,7 +9,8 @@ use Rattle.std.proofs.lemmas.List.Sums.{prefix_len_passes}
 use Rattle.std.proofs.lemmas.Option.{none-some, same_Some}
 use Rattle.active_segs.specs.declared.Entry.{Entry}
 use Rattle.active_segs.specs.Active.{uid_at, superior_at, HasNoInferior}
-use Rattle.active_segs.specs.Victim.{is_inferior_in, is_inferior_of, least_inferior_of, least_inferior, stead_of, leaf_below, IsLeastInferior}
+use Rattle.active_segs.specs.Victim.{is_inferior_in, is_inferior_of, least_inferior_of, least_inferior, stead_of}
+use Rattle.active_segs.specs.Victim.{leaf_below, IsLeastInferior}
 use Rattle.active_segs.proofs.EntryLemmas.{superior_within}
 
 pub inferior_yes : (u : ℕ) (o : Option ℕ) → o ≡ Some u → is_inferior_in u o ≡ true
@@ -25,10 +27,12 @@ is_inferior u (Some s) e = ap (λ (k : ℕ). Some k) (eqb-true s u e)
 
 -- ---- the first place that passes
 
-pub position_none : {X : Type 0} (p : X → Bool) (xs : List X) → position p xs ≡ None → (k : ℕ) (d : X) → k < length xs → p (get_or xs k d) ≡ false
+pub position_none : {X : Type 0} (p : X → Bool) (xs : List X) → position p xs ≡ None → (k : ℕ) (d : X) → k < length xs
+    → p (get_or xs k d) ≡ false
 position_none {X} p xs e k d within = none_at (ltb (position_or_len p xs) (length xs)) refl e
   where
-    none_at : (b : Bool) → ltb (position_or_len p xs) (length xs) ≡ b → cond b (Some (position_or_len p xs)) None ≡ None → p (get_or xs k d) ≡ false
+    none_at : (b : Bool) → ltb (position_or_len p xs) (length xs) ≡ b → cond b (Some (position_or_len p xs)) None
+        ≡ None → p (get_or xs k d) ≡ false
     none_at true is e' = cc
     none_at false is e' =
         let past : length xs ≤ position_or_len p xs = ltb-false _ _ is in
@@ -41,7 +45,8 @@ position_is {X} p xs q d within passes before = at (position p xs) refl
     at : (o : Option ℕ) → position p xs ≡ o → o ≡ Some q
     at None is = absurd (both_ways _ (position_none p xs is q d within) passes)
     at (Some r) is =
-        let h : (r < length xs) × (p (get_or xs r d) ≡ true) × ((k : ℕ) → k < r → p (get_or xs k d) ≡ false) = position-Some p xs r d is in
+        let h : (r < length xs) × (p (get_or xs r d) ≡ true) × ((k : ℕ) → k < r → p (get_or xs k d) ≡ false) =
+        position-Some p xs r d is in
         elim (cases_order r q) [
           | inl same ↦ ap (λ (k : ℕ). Some k) same
           | inr differ ↦ elim differ [
@@ -50,29 +55,34 @@ position_is {X} p xs q d within passes before = at (position p xs) refl
           ]
         ]
 
-position_nowhere : {X : Type 0} (p : X → Bool) (xs : List X) (d : X) → ((k : ℕ) → p (get_or xs k d) ≡ false) → position p xs ≡ None
+position_nowhere : {X : Type 0} (p : X → Bool) (xs : List X) (d : X) → ((k : ℕ) → p (get_or xs k d) ≡ false)
+    → position p xs ≡ None
 position_nowhere {X} p xs d never = at (position p xs) refl
   where
     at : (o : Option ℕ) → position p xs ≡ o → o ≡ None
     at None is = refl
     at (Some r) is =
-        let h : (r < length xs) × (p (get_or xs r d) ≡ true) × ((k : ℕ) → k < r → p (get_or xs k d) ≡ false) = position-Some p xs r d is in
+        let h : (r < length xs) × (p (get_or xs r d) ≡ true) × ((k : ℕ) → k < r → p (get_or xs k d) ≡ false) =
+        position-Some p xs r d is in
         absurd (both_ways _ (never r) h.1)
 
 -- ---- the least inferior
 
-least_inferior_is : (xs : List (Option Entry)) (place q : ℕ) → IsLeastInferior xs place q → least_inferior xs place ≡ Some q
+least_inferior_is : (xs : List (Option Entry)) (place q : ℕ) → IsLeastInferior xs place q → least_inferior xs place
+    ≡ Some q
 least_inferior_is xs place q least =
     ap (least_inferior_of xs) least.is
     ∙ position_is (is_inferior_of least.uid) xs q None (superior_within xs q least.uid least.inferior)
-    (inferior_yes least.uid (superior_at xs q) least.inferior) (λ k lt. inferior_no least.uid (superior_at xs k) (least.least k lt))
+    (inferior_yes least.uid (superior_at xs q) least.inferior)
+    (λ k lt. inferior_no least.uid (superior_at xs k) (least.least k lt))
 
 no_inferior_is : (xs : List (Option Entry)) (place : ℕ) → HasNoInferior xs place → least_inferior xs place ≡ None
 no_inferior_is xs place none = at (uid_at xs place) refl
   where
     at : (o : Option ℕ) → uid_at xs place ≡ o → least_inferior_of xs o ≡ None
     at None is = refl
-    at (Some uid) is = position_nowhere (is_inferior_of uid) xs None (λ k. inferior_no uid (superior_at xs k) (none k uid is))
+    at (Some uid) is = position_nowhere (is_inferior_of uid) xs None
+        (λ k. inferior_no uid (superior_at xs k) (none k uid is))
 
 -- ---- steps down
 
@@ -80,13 +90,17 @@ pub no_steps : (xs : List (Option Entry)) (place : ℕ) → leaf_below xs 0 plac
 unfolding leaf_below
 no_steps xs place = refl
 
-pub one_step_more : (xs : List (Option Entry)) (steps place q : ℕ) → IsLeastInferior xs place q → leaf_below xs (suc steps) place ≡ leaf_below xs steps q
+pub one_step_more : (xs : List (Option Entry)) (steps place q : ℕ) → IsLeastInferior xs place q
+    → leaf_below xs (suc steps) place ≡ leaf_below xs steps q
 unfolding leaf_below
-one_step_more xs steps place q least = ap (λ (o : Option ℕ). leaf_below xs steps (stead_of place o)) (least_inferior_is xs place q least)
+one_step_more xs steps place q least = ap (λ (o : Option ℕ). leaf_below xs steps (stead_of place o))
+    (least_inferior_is xs place q least)
 
 -- from a leaf no step leads away
-pub stays_at_leaf : (xs : List (Option Entry)) (steps place : ℕ) → HasNoInferior xs place → leaf_below xs steps place ≡ place
+pub stays_at_leaf : (xs : List (Option Entry)) (steps place : ℕ) → HasNoInferior xs place → leaf_below xs steps place
+    ≡ place
 unfolding leaf_below
 stays_at_leaf xs zero place none = refl
 stays_at_leaf xs (suc steps) place none =
-    ap (λ (o : Option ℕ). leaf_below xs steps (stead_of place o)) (no_inferior_is xs place none) ∙ stays_at_leaf xs steps place none
+    ap (λ (o : Option ℕ). leaf_below xs steps (stead_of place o)) (no_inferior_is xs place none)
+    ∙ stays_at_leaf xs steps place none

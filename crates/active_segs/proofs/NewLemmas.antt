@@ -1,8 +1,10 @@
 -- A new table keeps what every table keeps.
-use Rattle.std.proofs.Common.{◌≡◌, ℕ, zero, suc, ◌+◌, ◌-◌, ◌<◌, ◌≤◌, Bool, true, false, cond, List, [], ◌∷◌, ◌++◌, length, Option, None, is_some, refl, sym}
+use Rattle.std.proofs.Common.{◌≡◌, ℕ, zero, suc, ◌+◌, ◌-◌, ◌<◌, ◌≤◌, Bool, true, false, cond, List, [], ◌∷◌, ◌++◌}
+use Rattle.std.proofs.Common.{length, Option, None, is_some, refl, sym}
 use Rattle.std.proofs.Common.{ap, ◌∙◌, arith, get_or, map, replicate, sum, count_by, inl, inr}
 use Rattle.std.proofs.lemmas.Bool.{cases_lt, both_ways}
-use Rattle.std.proofs.lemmas.List.{length-replicate, length-append, length-map, get_or-replicate, get_or_past, get_or-map, get_or_append_left, append_assoc}
+use Rattle.std.proofs.lemmas.List.{length-replicate, length-append, length-map, get_or-replicate, get_or_past}
+use Rattle.std.proofs.lemmas.List.{get_or-map, get_or_append_left, append_assoc}
 use Rattle.std.proofs.lemmas.List.{take_all}
 use Rattle.std.proofs.Math.Seq.{get_or-append_right}
 use Rattle.std.proofs.lemmas.List.Sums.{sum_by-cons}
@@ -11,7 +13,8 @@ use Rattle.bitmap.specs.Bitmap.{in_use}
 use Rattle.page_table.specs.declared.Ptw.{Ptw}
 use Rattle.page_table.specs.declared.Ptw.TheVariants.{Null}
 use Rattle.active_segs.specs.declared.Entry.{Entry}
-use Rattle.active_segs.specs.Active.{entry_at, uid_in, superior_in, uid_at, superior_at, table_at, null_tables, AreNullTables}
+use Rattle.active_segs.specs.Active.{entry_at, uid_in, superior_in, uid_at, superior_at, table_at, null_tables}
+use Rattle.active_segs.specs.Active.{AreNullTables}
 use Rattle.active_segs.specs.Kept.{IsKept, map_of}
 use Rattle.active_segs.specs.Pairs.{Pairs, place_of}
 use Rattle.active_segs.specs.Pool.{first_of, size_of}
@@ -21,7 +24,11 @@ use Rattle.active_segs.proofs.PlaceLemmas.{first_more}
 vacant_at : (n q : ℕ) → entry_at (replicate n None) q ≡ None
 vacant_at n q =
     let size : length (replicate n (let none : Option Entry = None in none)) ≡ n = length-replicate n None in
-    elim (cases_lt q n) [ inl lt ↦ get_or-replicate n q None None lt | inr past ↦ get_or_past (replicate n None) q None (omega arith) ]
+    elim (cases_lt q n) [
+      | inl lt ↦ get_or-replicate n q None None lt
+      | inr past ↦ get_or_past (replicate n None) q None
+          (omega arith)
+    ]
 
 none_used : (n : ℕ) → count_by is_some (replicate n (let none : Option Entry = None in none)) ≡ 0
 none_used zero = refl
@@ -35,9 +42,14 @@ none_used (suc n) =
 zero_at : (n q : ℕ) → get_or (replicate {A = ℕ} n 0) q 0 ≡ 0
 zero_at n q =
     let size : length (replicate {A = ℕ} n 0) ≡ n = length-replicate n 0 in
-    elim (cases_lt q n) [ inl lt ↦ get_or-replicate n q 0 0 lt | inr past ↦ get_or_past (replicate {A = ℕ} n 0) q 0 (omega arith) ]
+    elim (cases_lt q n) [
+      | inl lt ↦ get_or-replicate n q 0 0 lt
+      | inr past ↦ get_or_past (replicate {A = ℕ} n 0) q 0
+          (omega arith)
+    ]
 
-four_sizes : (sizes : List ℕ) → length sizes ≡ 4 → sum sizes ≡ size_of sizes 0 + size_of sizes 1 + size_of sizes 2 + size_of sizes 3
+four_sizes : (sizes : List ℕ) → length sizes ≡ 4 → sum sizes
+    ≡ size_of sizes 0 + size_of sizes 1 + size_of sizes 2 + size_of sizes 3
 four_sizes sizes four =
     let a : first_of sizes 1 ≡ first_of sizes 0 + size_of sizes 0 = first_more sizes 0 (omega arith) in
     let b : first_of sizes 2 ≡ first_of sizes 1 + size_of sizes 1 = first_more sizes 1 (omega arith) in
@@ -49,20 +61,25 @@ four_sizes sizes four =
 as_many_tables : (sizes : List ℕ) → length sizes ≡ 4 → length (null_tables sizes) ≡ sum sizes
 as_many_tables sizes four = let all = four_sizes sizes four in simp (length-append, length-replicate) (omega arith)
 
-new_map : (sizes : List ℕ) (pool : ℕ) → pool < length sizes → map_of (map (λ size. replicate size false) sizes) pool ≡ replicate (size_of sizes pool) false
+new_map : (sizes : List ℕ) (pool : ℕ) → pool < length sizes → map_of (map (λ size. replicate size false) sizes) pool
+    ≡ replicate (size_of sizes pool) false
 new_map sizes pool lt = get_or-map (λ size. replicate size false) sizes pool 0 [] lt
 
-pub kept_new : (sizes : List ℕ) (used : List (List Bool)) (xs : List (Option Entry)) (tables : List (List Ptw)) (maps : List (List Bool)) (index : Pairs)
-    → length sizes ≡ 4 → sum sizes ≤ 1024 → used ≡ map (λ size. replicate size false) sizes → xs ≡ replicate (sum sizes) None → tables ≡ null_tables sizes
+pub kept_new : (sizes : List ℕ) (used : List (List Bool)) (xs : List (Option Entry)) (tables : List (List Ptw))
+    (maps : List (List Bool)) (index : Pairs)
+    → length sizes ≡ 4 → sum sizes ≤ 1024 → used ≡ map (λ size. replicate size false) sizes → xs
+    ≡ replicate (sum sizes) None → tables ≡ null_tables sizes
     → maps ≡ replicate (sum sizes) (replicate (sum sizes) true) → index.pairs ≡ [] → index.room ≡ sum sizes
     → IsKept sizes (0 ∷ 0 ∷ 0 ∷ 0 ∷ []) used xs tables maps index
 kept_new sizes used xs tables maps index four few is_used is_xs is_tables is_maps empty room =
-    let free : (q : ℕ) → entry_at xs q ≡ None = λ q. ap (λ (l : List (Option Entry)). entry_at l q) is_xs ∙ vacant_at (sum sizes) q in
+    let free : (q : ℕ) → entry_at xs q ≡ None = λ q. ap (λ (l : List (Option Entry)). entry_at l q) is_xs
+    ∙ vacant_at (sum sizes) q in
     let no_uid : (q : ℕ) → uid_at xs q ≡ None = λ q. ap uid_in (free q) in
     let no_superior : (q : ℕ) → superior_at xs q ≡ None = λ q. ap superior_in (free q) in
     let size : length xs ≡ sum sizes = ap length is_xs ∙ length-replicate (sum sizes) None in
     let full : (place : ℕ) → place < sum sizes → map_of maps place ≡ replicate (sum sizes) true =
-    λ place lt. ap (λ (l : List (List Bool)). map_of l place) is_maps ∙ get_or-replicate (sum sizes) place (replicate (sum sizes) true) [] lt in
+    λ place lt. ap (λ (l : List (List Bool)). map_of l place) is_maps
+    ∙ get_or-replicate (sum sizes) place (replicate (sum sizes) true) [] lt in
     let marks : (pool : ℕ) → pool < 4 → map_of used pool ≡ replicate (size_of sizes pool) false =
     λ pool lt. ap (λ (l : List (List Bool)). map_of l pool) is_used ∙ new_map sizes pool (omega arith) in
     record {
@@ -71,7 +88,8 @@ kept_new sizes used xs tables maps index four few is_used is_xs is_tables is_map
             four = four;
             few = few;
             hand_count = refl;
-            inside = λ pool lt some. (let at : get_or {A = ℕ} (0 ∷ 0 ∷ 0 ∷ 0 ∷ []) pool 0 ≡ 0 = zero_at 4 pool in omega arith);
+            inside = λ pool lt some. (let at : get_or {A = ℕ} (0 ∷ 0 ∷ 0 ∷ 0 ∷ []) pool 0 ≡ 0 =
+                zero_at 4 pool in omega arith);
           };
       entry_count = ap length is_xs ∙ length-replicate (sum sizes) None;
       table_count = ap length is_tables ∙ as_many_tables sizes four;
@@ -79,20 +97,26 @@ kept_new sizes used xs tables maps index four few is_used is_xs is_tables is_map
         maps = ap length is_used ∙ length-map sizes (λ size. replicate size false) ∙ four;
         as_long = λ pool lt. ap length (marks pool lt) ∙ length-replicate (size_of sizes pool) false;
         flags =
-            λ pool offset lt within. ap (λ (m : List Bool). in_use m offset) (marks pool lt) ∙ get_or-replicate (size_of sizes pool) offset false false within
+            λ pool offset lt within. ap (λ (m : List Bool). in_use m offset) (marks pool lt)
+            ∙ get_or-replicate (size_of sizes pool) offset false false within
             ∙ sym (ap is_some (free (first_of sizes pool + offset)));
       };
       inferior_maps = record {
         maps = ap length is_maps ∙ length-replicate (sum sizes) (replicate (sum sizes) true) ∙ sym size;
         as_long = λ place lt. ap length (full place (omega arith)) ∙ length-replicate (sum sizes) true ∙ sym size;
         free = λ place q lt lt_q. (
-          λ h. absurd (both_ways _ h (ap (λ (m : List Bool). in_use m q) (full place (omega arith)) ∙ get_or-replicate (sum sizes) q true false (omega arith))),
+          λ h. absurd (both_ways _ h (ap (λ (m : List Bool). in_use m q) (full place (omega arith))
+              ∙ get_or-replicate (sum sizes) q true false (omega arith))),
           λ h. absurd (none-some h.0 (sym (no_uid place) ∙ h.1)),
         );
       };
       indexed = record {
         places =
-            λ q uid. (λ h. absurd (none-some q (sym (ap (λ (l : List (ℕ × ℕ)). place_of l uid) empty) ∙ h)), λ h. absurd (none-some uid (sym (no_uid q) ∙ h)));
+            λ q uid. (
+              λ h. absurd (none-some q (sym (ap (λ (l : List (ℕ × ℕ)). place_of l uid) empty) ∙ h)),
+              λ h.
+                  absurd (none-some uid (sym (no_uid q) ∙ h)),
+            );
         count = ap length empty ∙ sym (ap (count_by is_some) is_xs ∙ none_used (sum sizes));
         room = room ∙ sym (ap length is_xs ∙ length-replicate (sum sizes) None);
       };
@@ -105,14 +129,18 @@ kept_new sizes used xs tables maps index four few is_used is_xs is_tables is_map
 
 -- ---- the tables of each pool
 
-of_these : (n : ℕ) (table : List Ptw) (rest : List (List Ptw)) (i : ℕ) → i < n → table_at (replicate n table ++ rest) i ≡ table
+of_these : (n : ℕ) (table : List Ptw) (rest : List (List Ptw)) (i : ℕ) → i < n → table_at (replicate n table ++ rest) i
+    ≡ table
 of_these n table rest i lt =
-    let size : length (replicate n table) ≡ n = length-replicate n table in get_or_append_left (replicate n table) rest [] i (omega arith)
+    let size : length (replicate n table) ≡ n = length-replicate n table in get_or_append_left (replicate n table) rest
+    [] i (omega arith)
     ∙ get_or-replicate n i table [] lt
 
-of_the_rest : (n : ℕ) (table : List Ptw) (rest : List (List Ptw)) (i : ℕ) → n ≤ i → table_at (replicate n table ++ rest) i ≡ table_at rest (i - n)
+of_the_rest : (n : ℕ) (table : List Ptw) (rest : List (List Ptw)) (i : ℕ) → n ≤ i
+    → table_at (replicate n table ++ rest) i ≡ table_at rest (i - n)
 of_the_rest n table rest i le =
-    let size : length (replicate n table) ≡ n = length-replicate n table in get_or-append_right (replicate n table) rest i [] (omega arith)
+    let size : length (replicate n table) ≡ n = length-replicate n table in get_or-append_right (replicate n table)
+    rest i [] (omega arith)
     ∙ ap (λ (k : ℕ). table_at rest (i - k)) size
 
 module _ (sizes : List ℕ) (four : length sizes ≡ 4) where
@@ -130,34 +158,42 @@ module _ (sizes : List ℕ) (four : length sizes ≡ 4) where
 
   regrouped : null_tables sizes ≡ replicate (size_of sizes 0) (blank 4) ++ last_three
   regrouped =
-      append_assoc (replicate (size_of sizes 0) (blank 4) ++ replicate (size_of sizes 1) (blank 16)) (replicate (size_of sizes 2) (blank 64)) last
+      append_assoc (replicate (size_of sizes 0) (blank 4) ++ replicate (size_of sizes 1) (blank 16))
+      (replicate (size_of sizes 2) (blank 64)) last
       ∙ append_assoc (replicate (size_of sizes 0) (blank 4)) (replicate (size_of sizes 1) (blank 16)) last_two
 
-  past_first : (place : ℕ) → first_of sizes 1 ≤ place → table_at (null_tables sizes) place ≡ table_at last_three (place - first_of sizes 1)
+  past_first : (place : ℕ) → first_of sizes 1 ≤ place → table_at (null_tables sizes) place
+      ≡ table_at last_three (place - first_of sizes 1)
   past_first place le =
       let a : first_of sizes 1 ≡ first_of sizes 0 + size_of sizes 0 = first_more sizes 0 (omega arith) in
       let none : first_of sizes 0 ≡ 0 = refl in
       let n : size_of sizes 0 ≡ first_of sizes 1 = omega arith in
-      ap (λ (tables : List (List Ptw)). table_at tables place) regrouped ∙ of_the_rest (size_of sizes 0) (blank 4) last_three place (omega arith)
+      ap (λ (tables : List (List Ptw)). table_at tables place) regrouped
+      ∙ of_the_rest (size_of sizes 0) (blank 4) last_three place (omega arith)
       ∙ ap (λ (k : ℕ). table_at last_three (place - k)) n
 
-  past_second : (place : ℕ) → first_of sizes 2 ≤ place → table_at (null_tables sizes) place ≡ table_at last_two (place - first_of sizes 2)
+  past_second : (place : ℕ) → first_of sizes 2 ≤ place → table_at (null_tables sizes) place
+      ≡ table_at last_two (place - first_of sizes 2)
   past_second place le =
       let b : first_of sizes 2 ≡ first_of sizes 1 + size_of sizes 1 = first_more sizes 1 (omega arith) in
       let n : place - first_of sizes 1 - size_of sizes 1 ≡ place - first_of sizes 2 = omega arith in
-      past_first place (omega arith) ∙ of_the_rest (size_of sizes 1) (blank 16) last_two (place - first_of sizes 1) (omega arith) ∙ ap (table_at last_two) n
+      past_first place (omega arith) ∙ of_the_rest (size_of sizes 1) (blank 16) last_two (place - first_of sizes 1)
+      (omega arith) ∙ ap (table_at last_two) n
 
-  past_third : (place : ℕ) → first_of sizes 3 ≤ place → table_at (null_tables sizes) place ≡ table_at last (place - first_of sizes 3)
+  past_third : (place : ℕ) → first_of sizes 3 ≤ place → table_at (null_tables sizes) place
+      ≡ table_at last (place - first_of sizes 3)
   past_third place le =
       let c : first_of sizes 3 ≡ first_of sizes 2 + size_of sizes 2 = first_more sizes 2 (omega arith) in
       let n : place - first_of sizes 2 - size_of sizes 2 ≡ place - first_of sizes 3 = omega arith in
-      past_second place (omega arith) ∙ of_the_rest (size_of sizes 2) (blank 64) last (place - first_of sizes 2) (omega arith) ∙ ap (table_at last) n
+      past_second place (omega arith) ∙ of_the_rest (size_of sizes 2) (blank 64) last (place - first_of sizes 2)
+      (omega arith) ∙ ap (table_at last) n
 
   pub are_null : AreNullTables sizes (null_tables sizes)
   are_null zero place lt in_pool =
       let to : place < first_of sizes 0 + size_of sizes 0 = in_pool.to in
       let none : first_of sizes 0 ≡ 0 = refl in
-      ap (λ (tables : List (List Ptw)). table_at tables place) regrouped ∙ of_these (size_of sizes 0) (blank 4) last_three place (omega arith)
+      ap (λ (tables : List (List Ptw)). table_at tables place) regrouped
+      ∙ of_these (size_of sizes 0) (blank 4) last_three place (omega arith)
   are_null (suc zero) place lt in_pool =
       let from : first_of sizes 1 ≤ place = in_pool.from in
       let to : place < first_of sizes 1 + size_of sizes 1 = in_pool.to in

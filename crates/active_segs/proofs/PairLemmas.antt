@@ -1,12 +1,14 @@
 -- What a search finds among ascending uids, and what an edit at that place does.
-use Rattle.std.proofs.Common.{◌≡◌, ◌≢◌, ℕ, zero, suc, ◌+◌, ◌-◌, ◌<◌, ◌≤◌, eqb, List, [], ◌∷◌, length, get_or, if◌then◌else◌, Some, None, Result, Ok, Err}
+use Rattle.std.proofs.Common.{◌≡◌, ◌≢◌, ℕ, zero, suc, ◌+◌, ◌-◌, ◌<◌, ◌≤◌, eqb, List, [], ◌∷◌, length, get_or}
+use Rattle.std.proofs.Common.{if◌then◌else◌, Some, None, Result, Ok, Err}
 use Rattle.std.proofs.Common.{IfOk, IfErr, refl, sym, ap, subst, arith}
 use Rattle.std.specs.List.{insert, remove}
 use Rattle.std.specs.List.Sorted.{IsSearchInRange, IsBinarySearchResult, IsNonDecreasingBy}
 use Rattle.std.specs.Ordering.{nat_cmp, ordering_index}
 use Rattle.std.proofs.lemmas.Cmp.{ranked}
 use Rattle.std.proofs.lemmas.List.Sorted.{IsNonDecreasingBy-from_default}
-use Rattle.std.proofs.lemmas.List.Edits.{length-insert, get_or-insert_below, get_or-insert_at, get_or-insert_above, get_or-remove_below, get_or-remove_above}
+use Rattle.std.proofs.lemmas.List.Edits.{length-insert, get_or-insert_below, get_or-insert_at, get_or-insert_above}
+use Rattle.std.proofs.lemmas.List.Edits.{get_or-remove_below, get_or-remove_above}
 use Rattle.std.proofs.lemmas.Bool.Decides.{nat_tests}
 use Rattle.active_segs.specs.Pairs.{place_of, uid_in, IsAscending, IsFoundAt, BelongsAt, SetsPlace}
 
@@ -23,30 +25,52 @@ found_tail x l uid i found = record { within = omega (arith, found.within); is =
 -- a uid that no pair has is not found
 pub place_absent : (l : List (ℕ × ℕ)) (uid : ℕ) → NotBefore l uid (length l) → place_of l uid ≡ None
 place_absent [] uid not_before = refl
-place_absent (x ∷ l) uid not_before = grind (arith, nat_tests, not_before 0 (omega arith), place_absent l uid (not_before_tail x l uid _ not_before))
+place_absent (x ∷ l) uid not_before = grind (
+  arith,
+  nat_tests,
+  not_before 0 (omega arith),
+  place_absent l uid
+      (not_before_tail x l uid _ not_before),
+)
 
 -- the first pair that has the uid gives the place
-pub place_present : (l : List (ℕ × ℕ)) (uid i : ℕ) → IsFoundAt l uid i → NotBefore l uid i → place_of l uid ≡ Some (get_or l i (0, 0)).1
+pub place_present : (l : List (ℕ × ℕ)) (uid i : ℕ) → IsFoundAt l uid i → NotBefore l uid i → place_of l uid
+    ≡ Some (get_or l i (0, 0)).1
 place_present [] uid i found not_before = absurd (omega (arith, found.within))
 place_present (x ∷ l) uid zero found not_before = grind (arith, nat_tests, found.is)
 place_present (x ∷ l) uid (suc i) found not_before =
-    grind (arith, nat_tests, not_before 0 (omega arith), place_present l uid i (found_tail x l uid i found) (not_before_tail x l uid i not_before))
+    grind (
+      arith,
+      nat_tests,
+      not_before 0 (omega arith),
+      place_present l uid i (found_tail x l uid i found)
+          (not_before_tail x l uid i not_before),
+    )
 
 -- a new pair before any pair that has the uid sets its place
-pub place_inserted : (l : List (ℕ × ℕ)) (uid place i : ℕ) → NotBefore l uid i → SetsPlace l (insert l i (uid, place)) uid (Some place)
+pub place_inserted : (l : List (ℕ × ℕ)) (uid place i : ℕ) → NotBefore l uid i
+    → SetsPlace l (insert l i (uid, place)) uid (Some place)
 place_inserted l uid place zero not_before q = refl
 place_inserted [] uid place (suc i) not_before q = refl
 place_inserted (x ∷ l) uid place (suc i) not_before q =
-    grind (arith, nat_tests, not_before 0 (omega arith), place_inserted l uid place i (not_before_tail x l uid i not_before) q)
+    grind (
+      arith,
+      nat_tests,
+      not_before 0 (omega arith),
+      place_inserted l uid place i
+          (not_before_tail x l uid i not_before) q,
+    )
 
 ascending_tail : (x : ℕ × ℕ) (l : List (ℕ × ℕ)) → IsAscending (x ∷ l) → IsAscending l
 ascending_tail x l ascending i j lt within = ascending (suc i) (suc j) (omega arith) (omega arith)
 
 -- without the one pair that has the uid, the uid has no place
-pub place_removed : (l : List (ℕ × ℕ)) (uid i : ℕ) → IsAscending l → IsFoundAt l uid i → SetsPlace l (remove l i) uid None
+pub place_removed : (l : List (ℕ × ℕ)) (uid i : ℕ) → IsAscending l → IsFoundAt l uid i
+    → SetsPlace l (remove l i) uid None
 place_removed [] uid i ascending found q = absurd (omega (arith, found.within))
 place_removed (x ∷ l) uid zero ascending found q =
-    let absent : place_of l uid ≡ None = place_absent l uid (λ j lt same. omega (arith, ascending 0 (suc j) (omega arith) (omega arith), found.is)) in
+    let absent : place_of l uid ≡ None = place_absent l uid
+    (λ j lt same. omega (arith, ascending 0 (suc j) (omega arith) (omega arith), found.is)) in
     grind (arith, nat_tests, found.is)
 place_removed (x ∷ l) uid (suc i) ascending found q =
     let ih : place_of (remove l i) q ≡ (if eqb uid q then None else place_of l q) =
@@ -57,14 +81,19 @@ place_removed (x ∷ l) uid (suc i) ascending found q =
 module _ (l : List (ℕ × ℕ)) (ascending : IsAscending l) (uid : ℕ) where
   -- the comparisons with the uid rise along the list, as a binary search asks
   comparisons_rise : IsNonDecreasingBy (λ pair. ordering_index (nat_cmp pair.0 uid)) l
-  comparisons_rise = IsNonDecreasingBy-from_default (λ pair. ordering_index (nat_cmp pair.0 uid)) l (0, 0) (λ i j le within.
+  comparisons_rise = IsNonDecreasingBy-from_default (λ pair. ordering_index (nat_cmp pair.0 uid)) l (0, 0)
+      (λ i j le within.
       let uids_rise : uid_in l i ≤ uid_in l j = grind (arith, ascending i j, λ (same : i ≡ j). ap (uid_in l) same) in
       grind (arith, nat_tests))
 
   -- a binary search ends at the uid, or at the gap for it
   pub searched : (r : Result ℕ ℕ) → IsSearchInRange r (length l) → IsBinarySearchResult (λ pair. nat_cmp pair.0 uid) l r
       → record { found : IfOk r (IsFoundAt l uid); absent : IfErr r (BelongsAt l uid) }
-  searched (Ok at) within equal = record { found = record { within = within; is = ranked _ uid _ (sym (equal (0, 0))) }; absent = tt }
+  searched (Ok at) within equal = record {
+    found = record
+        { within = within; is = ranked _ uid _ (sym (equal (0, 0))) };
+    absent = tt;
+  }
   searched (Err at) within parted = record {
     found = tt;
     absent = record {
@@ -87,8 +116,10 @@ module _ (l : List (ℕ × ℕ)) (ascending : IsAscending l) (uid at : ℕ) (fou
   ascending_removed size i j lt within =
       let left = remove l at in
       let key = λ (x : ℕ × ℕ). x.0 in
-      let below : (i : ℕ) → i < at → uid_in left i ≡ uid_in l i = λ i lt. ap key (get_or-remove_below l at (0, 0) i lt found.within) in
-      let above : (i : ℕ) → at ≤ i → uid_in left i ≡ uid_in l (i + 1) = λ i le. ap key (get_or-remove_above l at (0, 0) i le found.within) in
+      let below : (i : ℕ) → i < at → uid_in left i ≡ uid_in l i =
+      λ i lt. ap key (get_or-remove_below l at (0, 0) i lt found.within) in
+      let above : (i : ℕ) → at ≤ i → uid_in left i ≡ uid_in l (i + 1) =
+      λ i le. ap key (get_or-remove_above l at (0, 0) i le found.within) in
       grind (arith, below i, above i, below j, above j, ascending i j, ascending i (j + 1), ascending (i + 1) (j + 1))
 
 module _ (l : List (ℕ × ℕ)) (uid at : ℕ) (gap : BelongsAt l uid at) where
@@ -106,8 +137,10 @@ module _ (l : List (ℕ × ℕ)) (uid at : ℕ) (gap : BelongsAt l uid at) where
       let new = insert l at (uid, place) in
       let key = λ (x : ℕ × ℕ). x.0 in
       let length_new = length-insert l at (uid, place) gap.within in
-      let key_below : (i : ℕ) → i < at → uid_in new i ≡ uid_in l i = λ i below. ap key (get_or-insert_below l at (uid, place) (0, 0) i below gap.within) in
-      let key_here : (i : ℕ) → i ≡ at → uid_in new i ≡ uid = λ i here. rw here (ap key (get_or-insert_at l at (uid, place) (0, 0) gap.within)) in
+      let key_below : (i : ℕ) → i < at → uid_in new i ≡ uid_in l i =
+      λ i below. ap key (get_or-insert_below l at (uid, place) (0, 0) i below gap.within) in
+      let key_here : (i : ℕ) → i ≡ at → uid_in new i ≡ uid =
+      λ i here. rw here (ap key (get_or-insert_at l at (uid, place) (0, 0) gap.within)) in
       let key_above : (i : ℕ) → at < i → uid_in new i ≡ uid_in l (i - 1) =
       λ i above. subst (λ q. uid_in new q ≡ uid_in l (i - 1)) {x = i - 1 + 1} (omega arith)
       (ap key (get_or-insert_above l at (uid, place) (0, 0) (i - 1) (omega arith) gap.within)) in

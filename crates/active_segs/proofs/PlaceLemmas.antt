@@ -1,5 +1,6 @@
 -- The places of the pools, the maps of the used ones, and the index, after the entry of a place changes.
-use Rattle.std.proofs.Common.{◌≡◌, ◌≢◌, ℕ, zero, suc, ◌+◌, ◌-◌, ◌<◌, ◌≤◌, Bool, false, cond, List, [], ◌∷◌, length, Option, Some, None, is_some, refl, sym}
+use Rattle.std.proofs.Common.{◌≡◌, ◌≢◌, ℕ, zero, suc, ◌+◌, ◌-◌, ◌<◌, ◌≤◌, Bool, false, cond, List, [], ◌∷◌, length}
+use Rattle.std.proofs.Common.{Option, Some, None, is_some, refl, sym}
 use Rattle.std.proofs.Common.{ap, subst, ◌∙◌, arith, set, take, inl, inr, count_by, sum}
 use Rattle.std.proofs.lemmas.Bool.{cases_eq, cases_order, eq-eqb, ne_eqb}
 use Rattle.std.proofs.lemmas.Grind.{common_steps}
@@ -23,7 +24,8 @@ sum_take_up (x ∷ xs) zero = omega arith
 sum_take_up (x ∷ xs) (suc i) =
     let ih : sum (take i xs) ≤ sum (take (suc i) xs) = sum_take_up xs i in
     let a : sum (take (suc i) (x ∷ xs)) ≡ x + sum (take i xs) = sum_by-cons (λ (y : ℕ). y) x (take i xs) in
-    let b : sum (take (suc (suc i)) (x ∷ xs)) ≡ x + sum (take (suc i) xs) = sum_by-cons (λ (y : ℕ). y) x (take (suc i) xs) in
+    let b : sum (take (suc (suc i)) (x ∷ xs)) ≡ x + sum (take (suc i) xs) =
+    sum_by-cons (λ (y : ℕ). y) x (take (suc i) xs) in
     omega arith
 
 pub sum_take_le : (xs : List ℕ) (i : ℕ) → sum (take i xs) ≤ sum xs
@@ -43,16 +45,19 @@ first_up sizes p (suc d) =
     let step : first_of sizes (p + d) ≤ first_of sizes (suc (p + d)) = sum_take_up sizes (p + d) in
     let same : p + suc d ≡ suc (p + d) = omega arith in rw same (omega arith)
 
-pub first_more : (sizes : List ℕ) (p : ℕ) → p < length sizes → first_of sizes (suc p) ≡ first_of sizes p + size_of sizes p
+pub first_more : (sizes : List ℕ) (p : ℕ) → p < length sizes → first_of sizes (suc p)
+    ≡ first_of sizes p + size_of sizes p
 first_more sizes p lt = let one : p + 1 ≡ suc p = omega arith in rw (← one) (grind (arith, common_steps))
 
 -- an earlier pool ends before a later one begins
-pub pools_apart : (sizes : List ℕ) (p q : ℕ) → p < length sizes → p < q → first_of sizes p + size_of sizes p ≤ first_of sizes q
+pub pools_apart : (sizes : List ℕ) (p q : ℕ) → p < length sizes → p < q
+    → first_of sizes p + size_of sizes p ≤ first_of sizes q
 pools_apart sizes p q lt before =
     let more : first_of sizes (suc p) ≡ first_of sizes p + size_of sizes p = first_more sizes p lt in
     let up : first_of sizes (suc p) ≤ first_of sizes (suc p + (q - suc p)) = first_up sizes (suc p) (q - suc p) in
     let same : suc p + (q - suc p) ≡ q = omega arith in
-    let up' : first_of sizes (suc p) ≤ first_of sizes q = subst (λ (k : ℕ). first_of sizes (suc p) ≤ first_of sizes k) same up in omega arith
+    let up' : first_of sizes (suc p) ≤ first_of sizes q =
+    subst (λ (k : ℕ). first_of sizes (suc p) ≤ first_of sizes k) same up in omega arith
 
 -- and the last one at the end
 pub pool_within : (sizes : List ℕ) (p : ℕ) → length sizes ≡ 4 → p < 4 → first_of sizes p + size_of sizes p ≤ sum sizes
@@ -60,13 +65,16 @@ pool_within sizes p four lt =
     let before : first_of sizes p + size_of sizes p ≤ first_of sizes 4 = pools_apart sizes p 4 (omega arith) lt in
     let all : first_of sizes 4 ≡ sum sizes = ap sum (take_all 4 sizes (omega arith)) in omega arith
 
-pub placed_within : (sizes : List ℕ) (place pool offset : ℕ) → length sizes ≡ 4 → IsPlaced sizes place pool offset → place < sum sizes
+pub placed_within : (sizes : List ℕ) (place pool offset : ℕ) → length sizes ≡ 4 → IsPlaced sizes place pool offset
+    → place < sum sizes
 placed_within sizes place pool offset four placed =
     let ends : first_of sizes pool + size_of sizes pool ≤ sum sizes = pool_within sizes pool four placed.known in
-    let w : offset < size_of sizes pool = placed.within in let i : place ≡ first_of sizes pool + offset = placed.is in omega arith
+    let w : offset < size_of sizes pool = placed.within in let i : place ≡ first_of sizes pool + offset =
+    placed.is in omega arith
 
 -- a place is in one pool
-pub placed_once : (sizes : List ℕ) (place p i q j : ℕ) → length sizes ≡ 4 → IsPlaced sizes place p i → IsPlaced sizes place q j → (p ≡ q) × (i ≡ j)
+pub placed_once : (sizes : List ℕ) (place p i q j : ℕ) → length sizes ≡ 4 → IsPlaced sizes place p i
+    → IsPlaced sizes place q j → (p ≡ q) × (i ≡ j)
 placed_once sizes place p i q j four a b =
     let ai : place ≡ first_of sizes p + i = a.is in let aw : i < size_of sizes p = a.within in
     let bi : place ≡ first_of sizes q + j = b.is in let bw : j < size_of sizes q = b.within in
@@ -86,15 +94,20 @@ placed_once sizes place p i q j four a b =
 
 -- ---- the maps
 
-pub marked_set : (sizes : List ℕ) (used : List (List Bool)) (xs : List (Option Entry)) (place pool offset : ℕ) (b : Bool) (o : Option Entry)
-    → length sizes ≡ 4 → length xs ≡ sum sizes → IsMarked sizes used xs → IsPlaced sizes place pool offset → is_some o ≡ b
+pub marked_set : (sizes : List ℕ) (used : List (List Bool)) (xs : List (Option Entry)) (place pool offset : ℕ)
+    (b : Bool) (o : Option Entry)
+    → length sizes ≡ 4 → length xs ≡ sum sizes → IsMarked sizes used xs → IsPlaced sizes place pool offset → is_some o
+    ≡ b
     → IsMarked sizes (set used pool (set (map_of used pool) offset b)) (set xs place o)
 marked_set sizes used xs place pool offset b o four size marked placed is =
     let map : List Bool = set (map_of used pool) offset b in
-    let lt : place < length xs = (let w : place < sum sizes = placed_within sizes place pool offset four placed in omega arith) in
-    let pool_lt : pool < length used = (let m : length used ≡ 4 = marked.maps in let k : pool < 4 = placed.known in omega arith) in
+    let lt : place < length xs = (let w : place < sum sizes =
+    placed_within sizes place pool offset four placed in omega arith) in
+    let pool_lt : pool < length used = (let m : length used ≡ 4 = marked.maps in let k : pool < 4 =
+    placed.known in omega arith) in
     let here : map_of (set used pool map) pool ≡ map = get_or-set_same used pool map [] pool_lt in
-    let there : (q : ℕ) → q ≢ pool → map_of (set used pool map) q ≡ map_of used q = λ q ne. get_or-set_other used pool q map [] ne in
+    let there : (q : ℕ) → q ≢ pool → map_of (set used pool map) q ≡ map_of used q =
+    λ q ne. get_or-set_other used pool q map [] ne in
     record {
       maps = length-set used pool map ∙ marked.maps;
       as_long = λ q lt_q. elim (cases_eq q pool) [
@@ -115,22 +128,29 @@ marked_set sizes used xs place pool offset b o four size marked placed is =
                   (let l : length (map_of used pool) ≡ size_of sizes pool = marked.as_long pool placed.known in
                   let w : offset < size_of sizes pool = placed.within in omega arith) in
                   let on : in_use map offset ≡ b = get_or-set_same (map_of used pool) offset b false short in
-                  let entry : is_some (entry_at (set xs place o) place) ≡ b = ap is_some (entry_set xs place o lt) ∙ is in
+                  let entry : is_some (entry_at (set xs place o) place) ≡ b = ap is_some (entry_set xs place o lt)
+                  ∙ is in
                   let map_is : map_of (set used pool map) q ≡ map = ap (map_of (set used pool map)) same ∙ here in
-                  let left : in_use (map_of (set used pool map) q) i ≡ b = ap (λ (m : List Bool). in_use m i) map_is ∙ ap (in_use map) same_i ∙ on in
+                  let left : in_use (map_of (set used pool map) q) i ≡ b = ap (λ (m : List Bool). in_use m i) map_is
+                  ∙ ap (in_use map) same_i ∙ on in
                   left ∙ sym (ap (λ (k : ℕ). is_some (entry_at (set xs place o) k)) at ∙ entry))
               | inr off_i ↦
                   (let off : first_of sizes q + i ≢ place =
-                  λ e. off_i (placed_once sizes place q i pool offset four (record { known = lt_q; within = lt_i; is = sym e }) placed).1 in
+                  λ e. off_i (placed_once sizes place q i pool offset four
+                  (record { known = lt_q; within = lt_i; is = sym e }) placed).1 in
                   let map_is : map_of (set used pool map) q ≡ map = ap (map_of (set used pool map)) same ∙ here in
-                  let kept : in_use map i ≡ in_use (map_of used pool) i = get_or-set_other (map_of used pool) offset i b false off_i in
-                  let was : in_use (map_of used q) i ≡ is_some (entry_at xs (first_of sizes q + i)) = marked.flags q i lt_q lt_i in
-                  ap (λ (m : List Bool). in_use m i) map_is ∙ kept ∙ ap (λ (k : ℕ). in_use (map_of used k) i) (sym same) ∙ was
+                  let kept : in_use map i ≡ in_use (map_of used pool) i =
+                  get_or-set_other (map_of used pool) offset i b false off_i in
+                  let was : in_use (map_of used q) i ≡ is_some (entry_at xs (first_of sizes q + i)) =
+                  marked.flags q i lt_q lt_i in
+                  ap (λ (m : List Bool). in_use m i) map_is ∙ kept
+                  ∙ ap (λ (k : ℕ). in_use (map_of used k) i) (sym same) ∙ was
                   ∙ sym (ap is_some (entry_kept xs place o (first_of sizes q + i) off)))
             ]
             | inr off_q ↦
                 (let off : first_of sizes q + i ≢ place =
-                λ e. off_q (placed_once sizes place q i pool offset four (record { known = lt_q; within = lt_i; is = sym e }) placed).0 in
+                λ e. off_q (placed_once sizes place q i pool offset four
+                (record { known = lt_q; within = lt_i; is = sym e }) placed).0 in
                 ap (λ (m : List Bool). in_use m i) (there q off_q) ∙ marked.flags q i lt_q lt_i
                 ∙ sym (ap is_some (entry_kept xs place o (first_of sizes q + i) off)))
           ]);
@@ -139,26 +159,33 @@ marked_set sizes used xs place pool offset b o four size marked placed is =
 -- ---- the index
 
 used_set : (xs : List (Option Entry)) (p : ℕ) (o : Option Entry) → p < length xs
-    → count_by is_some (set xs p o) + cond {A = ℕ} (is_some (entry_at xs p)) 1 0 ≡ count_by is_some xs + cond (is_some o) 1 0
+    → count_by is_some (set xs p o) + cond {A = ℕ} (is_some (entry_at xs p)) 1 0
+    ≡ count_by is_some xs + cond (is_some o) 1 0
 used_set xs p o lt = sum_by-set (λ (x : Option Entry). cond (is_some x) 1 0) xs p o None lt
 
 -- where a place is free not all are used
-pub not_all_used : (xs : List (Option Entry)) (p : ℕ) → p < length xs → entry_at xs p ≡ None → count_by is_some xs < length xs
+pub not_all_used : (xs : List (Option Entry)) (p : ℕ) → p < length xs → entry_at xs p ≡ None
+    → count_by is_some xs < length xs
 not_all_used xs p lt free =
     let e : Entry = record { uid = 0; superior = None } in
     let more = used_set xs p (Some e) lt in
-    let zero_bit : cond {A = ℕ} (is_some (entry_at xs p)) 1 0 ≡ 0 = ap (λ (o : Option Entry). cond {A = ℕ} (is_some o) 1 0) free in
-    let most : count_by is_some (set xs p (Some e)) ≤ length (set xs p (Some e)) = count_by-le-length is_some (set xs p (Some e)) in
+    let zero_bit : cond {A = ℕ} (is_some (entry_at xs p)) 1 0 ≡ 0 =
+    ap (λ (o : Option Entry). cond {A = ℕ} (is_some o) 1 0) free in
+    let most : count_by is_some (set xs p (Some e)) ≤ length (set xs p (Some e)) =
+    count_by-le-length is_some (set xs p (Some e)) in
     let size : length (set xs p (Some e)) ≡ length xs = length-set xs p (Some e) in omega arith
 
 -- and the index has room
-pub index_has_room : (xs : List (Option Entry)) (index : Pairs) (p : ℕ) → IsIndexed xs index → p < length xs → entry_at xs p ≡ None
+pub index_has_room : (xs : List (Option Entry)) (index : Pairs) (p : ℕ) → IsIndexed xs index → p < length xs
+    → entry_at xs p ≡ None
     → length index.pairs < index.room
 index_has_room xs index p indexed lt free =
     let few : count_by is_some xs < length xs = not_all_used xs p lt free in
-    let c : length index.pairs ≡ count_by is_some xs = indexed.count in let r : index.room ≡ length xs = indexed.room in omega arith
+    let c : length index.pairs ≡ count_by is_some xs = indexed.count in let r : index.room ≡ length xs =
+    indexed.room in omega arith
 
-pub index_lacks : (xs : List (Option Entry)) (index : Pairs) (uid : ℕ) → IsIndexed xs index → ((q : ℕ) → uid_at xs q ≢ Some uid)
+pub index_lacks : (xs : List (Option Entry)) (index : Pairs) (uid : ℕ) → IsIndexed xs index
+    → ((q : ℕ) → uid_at xs q ≢ Some uid)
     → place_of index.pairs uid ≡ None
 index_lacks xs index uid indexed inactive = lacks (place_of index.pairs uid) refl
   where
@@ -166,14 +193,18 @@ index_lacks xs index uid indexed inactive = lacks (place_of index.pairs uid) ref
     lacks None is = is
     lacks (Some q) is = absurd (inactive q ((indexed.places q uid).0 is))
 
-module _ (xs : List (Option Entry)) (old new : Pairs) (p : ℕ) (lt : p < length xs) (indexed : IsIndexed xs old) (room : new.room ≡ old.room) where
-  this_place : (uid u : ℕ) (place : Option ℕ) → SetsPlace old.pairs new.pairs uid place → uid ≡ u → place_of new.pairs u ≡ place
+module _ (xs : List (Option Entry)) (old new : Pairs) (p : ℕ) (lt : p < length xs) (indexed : IsIndexed xs old)
+    (room : new.room ≡ old.room) where
+  this_place : (uid u : ℕ) (place : Option ℕ) → SetsPlace old.pairs new.pairs uid place → uid ≡ u
+      → place_of new.pairs u ≡ place
   this_place uid u place sets same = sets u ∙ ap (λ (b : Bool). cond b place (place_of old.pairs u)) (eq-eqb uid u same)
 
-  other_place : (uid u : ℕ) (place : Option ℕ) → SetsPlace old.pairs new.pairs uid place → uid ≢ u → place_of new.pairs u ≡ place_of old.pairs u
+  other_place : (uid u : ℕ) (place : Option ℕ) → SetsPlace old.pairs new.pairs uid place → uid ≢ u
+      → place_of new.pairs u ≡ place_of old.pairs u
   other_place uid u place sets ne = sets u ∙ ap (λ (b : Bool). cond b place (place_of old.pairs u)) (ne_eqb uid u ne)
 
-  pub indexed_activated : (e : Entry) → entry_at xs p ≡ None → ((q : ℕ) → uid_at xs q ≢ Some e.uid) → SetsPlace old.pairs new.pairs e.uid (Some p)
+  pub indexed_activated : (e : Entry) → entry_at xs p ≡ None → ((q : ℕ) → uid_at xs q ≢ Some e.uid)
+      → SetsPlace old.pairs new.pairs e.uid (Some p)
       → length new.pairs ≡ length old.pairs + 1 → IsIndexed (set xs p (Some e)) new
   indexed_activated e free inactive sets count = record {
     places = λ q u. elim (cases_eq e.uid u) [
@@ -181,33 +212,39 @@ module _ (xs : List (Option Entry)) (old new : Pairs) (p : ℕ) (lt : p < length
           (let here : place_of new.pairs u ≡ Some p = this_place e.uid u (Some p) sets same in (
             λ h.
                 (let at : p ≡ q = same_Some p q (sym here ∙ h) in
-                subst (λ (k : ℕ). uid_at (set xs p (Some e)) k ≡ Some u) at (uid_set xs p (Some e) lt ∙ ap (λ (k : ℕ). Some k) same)),
+                subst (λ (k : ℕ). uid_at (set xs p (Some e)) k ≡ Some u) at
+                (uid_set xs p (Some e) lt ∙ ap (λ (k : ℕ). Some k) same)),
             λ h. elim (cases_eq q p) [
               | inl at_p ↦ here ∙ ap (λ (k : ℕ). Some k) (sym at_p)
-              | inr off ↦ absurd (inactive q (sym (uid_kept xs p (Some e) q off) ∙ h ∙ ap (λ (k : ℕ). Some k) (sym same)))
+              | inr off ↦ absurd (inactive q (sym (uid_kept xs p (Some e) q off) ∙ h
+                  ∙ ap (λ (k : ℕ). Some k) (sym same)))
             ],
           ))
       | inr differ ↦
           (let there : place_of new.pairs u ≡ place_of old.pairs u = other_place e.uid u (Some p) sets differ in (
             λ h.
                 (let was : uid_at xs q ≡ Some u = (indexed.places q u).0 (sym there ∙ h) in
-                let off : q ≢ p = λ same. none-some u (sym (ap uid_in free) ∙ subst (λ (k : ℕ). uid_at xs k ≡ Some u) same was) in
+                let off : q ≢ p = λ same. none-some u (sym (ap uid_in free)
+                ∙ subst (λ (k : ℕ). uid_at xs k ≡ Some u) same was) in
                 uid_kept xs p (Some e) q off ∙ was),
             λ h. elim (cases_eq q p) [
               | inl at_p ↦
-                  absurd (differ (same_Some e.uid u (sym (uid_set xs p (Some e) lt) ∙ subst (λ (k : ℕ). uid_at (set xs p (Some e)) k ≡ Some u) at_p h)))
+                  absurd (differ (same_Some e.uid u (sym (uid_set xs p (Some e) lt)
+                  ∙ subst (λ (k : ℕ). uid_at (set xs p (Some e)) k ≡ Some u) at_p h)))
               | inr off ↦ there ∙ (indexed.places q u).1 (sym (uid_kept xs p (Some e) q off) ∙ h)
             ],
           ))
     ];
     count =
         (let more = used_set xs p (Some e) lt in
-        let zero_bit : cond {A = ℕ} (is_some (entry_at xs p)) 1 0 ≡ 0 = ap (λ (o : Option Entry). cond {A = ℕ} (is_some o) 1 0) free in
+        let zero_bit : cond {A = ℕ} (is_some (entry_at xs p)) 1 0 ≡ 0 =
+        ap (λ (o : Option Entry). cond {A = ℕ} (is_some o) 1 0) free in
         let c : length old.pairs ≡ count_by is_some xs = indexed.count in omega arith);
     room = room ∙ indexed.room ∙ sym (length-set xs p (Some e));
   }
 
-  pub indexed_deactivated : (e : Entry) → entry_at xs p ≡ Some e → IsOneToOne xs → SetsPlace old.pairs new.pairs e.uid None
+  pub indexed_deactivated : (e : Entry) → entry_at xs p ≡ Some e → IsOneToOne xs
+      → SetsPlace old.pairs new.pairs e.uid None
       → length new.pairs + 1 ≡ length old.pairs → IsIndexed (set xs p None) new
   indexed_deactivated e is once sets count = record {
     places = λ q u. elim (cases_eq e.uid u) [
@@ -215,25 +252,30 @@ module _ (xs : List (Option Entry)) (old new : Pairs) (p : ℕ) (lt : p < length
           (let here : place_of new.pairs u ≡ None = this_place e.uid u None sets same in (
             λ h. absurd (none-some q (sym here ∙ h)),
             λ h. elim (cases_eq q p) [
-              | inl at_p ↦ absurd (none-some u (sym (uid_set xs p None lt) ∙ subst (λ (k : ℕ). uid_at (set xs p None) k ≡ Some u) at_p h))
-              | inr off ↦ absurd (off (once q p u (sym (uid_kept xs p None q off) ∙ h) (ap uid_in is ∙ ap (λ (k : ℕ). Some k) same)))
+              | inl at_p ↦ absurd (none-some u (sym (uid_set xs p None lt)
+                  ∙ subst (λ (k : ℕ). uid_at (set xs p None) k ≡ Some u) at_p h))
+              | inr off ↦ absurd (off (once q p u (sym (uid_kept xs p None q off) ∙ h)
+                  (ap uid_in is ∙ ap (λ (k : ℕ). Some k) same)))
             ],
           ))
       | inr differ ↦
           (let there : place_of new.pairs u ≡ place_of old.pairs u = other_place e.uid u None sets differ in (
             λ h.
                 (let was : uid_at xs q ≡ Some u = (indexed.places q u).0 (sym there ∙ h) in
-                let off : q ≢ p = λ same. differ (same_Some e.uid u (sym (ap uid_in is) ∙ subst (λ (k : ℕ). uid_at xs k ≡ Some u) same was)) in
+                let off : q ≢ p = λ same. differ (same_Some e.uid u
+                (sym (ap uid_in is) ∙ subst (λ (k : ℕ). uid_at xs k ≡ Some u) same was)) in
                 uid_kept xs p None q off ∙ was),
             λ h. elim (cases_eq q p) [
-              | inl at_p ↦ absurd (none-some u (sym (uid_set xs p None lt) ∙ subst (λ (k : ℕ). uid_at (set xs p None) k ≡ Some u) at_p h))
+              | inl at_p ↦ absurd (none-some u (sym (uid_set xs p None lt)
+                  ∙ subst (λ (k : ℕ). uid_at (set xs p None) k ≡ Some u) at_p h))
               | inr off ↦ there ∙ (indexed.places q u).1 (sym (uid_kept xs p None q off) ∙ h)
             ],
           ))
     ];
     count =
         (let less = used_set xs p None lt in
-        let one_bit : cond {A = ℕ} (is_some (entry_at xs p)) 1 0 ≡ 1 = ap (λ (o : Option Entry). cond {A = ℕ} (is_some o) 1 0) is in
+        let one_bit : cond {A = ℕ} (is_some (entry_at xs p)) 1 0 ≡ 1 =
+        ap (λ (o : Option Entry). cond {A = ℕ} (is_some o) 1 0) is in
         let c : length old.pairs ≡ count_by is_some xs = indexed.count in omega arith);
     room = room ∙ indexed.room ∙ sym (length-set xs p None);
   }

@@ -1,5 +1,6 @@
 -- What a contract sees of an active segment table (Bensoussan, Clingen and Daley 1972; the pools are own).
-use Rattle.std.specs.Prelude.{◌≡◌, ◌≢◌, ℕ, ◌+◌, ◌^◌, ◌<◌, List, [], ◌++◌, length, replicate, take, drop, count_by, Option, Some, None, IsSome, is_some}
+use Rattle.std.specs.Prelude.{◌≡◌, ◌≢◌, ℕ, ◌+◌, ◌^◌, ◌<◌, List, [], ◌++◌, length, replicate, take, drop, count_by}
+use Rattle.std.specs.Prelude.{Option, Some, None, IsSome, is_some}
 use Rattle.std.specs.Prelude.{slice_index_or, slice_set, sum}
 use Rattle.page_table.specs.declared.Ptw.{Ptw}
 use Rattle.page_table.specs.declared.Ptw.TheVariants.{Null, Out, Here, Leaving}
@@ -61,12 +62,14 @@ IsOneToOne entries = (p q uid : ℕ) → uid_at entries p ≡ Some uid → uid_a
 
 -- the superior of each active segment is active
 abbrev pub SuperiorsAreActive : List (Option Entry) → Type 0
-SuperiorsAreActive entries = (place superior : ℕ) → superior_at entries place ≡ Some superior → IsActive entries superior
+SuperiorsAreActive entries = (place superior : ℕ) → superior_at entries place ≡ Some superior
+    → IsActive entries superior
 
 -- superiors don't go round: each segment can be given a rank above its superior's
 abbrev pub IsGrounded : List (Option Entry) → Type 0
 IsGrounded entries =
-    (rank : ℕ → ℕ) × ((place uid superior : ℕ) → uid_at entries place ≡ Some uid → superior_at entries place ≡ Some superior → rank superior < rank uid)
+    (rank : ℕ → ℕ) × ((place uid superior : ℕ) → uid_at entries place ≡ Some uid → superior_at entries place
+    ≡ Some superior → rank superior < rank uid)
 
 -- the active segments are a part of a tree that reaches up to its root
 pub record IsTree (entries : List (Option Entry)) : Type 0 where
@@ -99,7 +102,8 @@ used_in s pool = count_by is_some (take (size_of s.sizes pool) (drop (first_of s
 
 -- each word is `Null` of 4 in the tables of the first pool, and of four times as many in those of each next one
 abbrev pub AreNullTables : List ℕ → List (List Ptw) → Type 0
-AreNullTables sizes tables = (pool place : ℕ) → pool < 4 → IsInPool sizes pool place → table_at tables place ≡ replicate (4 ^ (pool + 1)) Null
+AreNullTables sizes tables = (pool place : ℕ) → pool < 4 → IsInPool sizes pool place → table_at tables place
+    ≡ replicate (4 ^ (pool + 1)) Null
 
 -- ---- what the calls do
 
@@ -119,12 +123,19 @@ no_segments sizes = record {
 
 -- the segment is active in the place
 abbrev pub activated : ActiveSegs → ℕ → ℕ → Option ℕ → ActiveSegs
-activated s place uid superior = record s { entries = slice_set s.entries place (Some (record { uid = uid; superior = superior })) }
+activated s place uid superior = record s {
+  entries = slice_set s.entries place
+      (Some (record { uid = uid; superior = superior }));
+}
 
 -- nothing is active in the place, and each word of its table is `Null`
 abbrev pub deactivated : ActiveSegs → ℕ → ActiveSegs
 deactivated s place =
-    record s { entries = slice_set s.entries place None; tables = slice_set s.tables place (replicate (length (table_at s.tables place)) Null) }
+    record s {
+      entries = slice_set s.entries place None;
+      tables =
+          slice_set s.tables place (replicate (length (table_at s.tables place)) Null);
+    }
 
 -- the place has this table
 abbrev pub with_table : ActiveSegs → ℕ → List Ptw → ActiveSegs

@@ -1,5 +1,6 @@
 -- What holds of the fields of an active segment table; contracts don't see it.
-use Rattle.std.specs.Prelude.{◌≡◌, ℕ, ◌+◌, ◌<◌, ◌↔◌, Bool, false, List, [], length, Option, Some, None, is_some, slice_index_or, slice_set, sum, count_by}
+use Rattle.std.specs.Prelude.{◌≡◌, ℕ, ◌+◌, ◌<◌, ◌↔◌, Bool, false, List, [], length, Option, Some, None, is_some}
+use Rattle.std.specs.Prelude.{slice_index_or, slice_set, sum, count_by}
 use Rattle.bitmap.specs.Bitmap.{in_use}
 use Rattle.page_table.specs.declared.Ptw.{Ptw}
 use Rattle.active_segs.specs.declared.Entry.{Entry}
@@ -30,7 +31,8 @@ IsInferior entries place q = (uid : ℕ) × (uid_at entries place ≡ Some uid) 
 pub record AreNoted (entries : List (Option Entry)) (inferiors : List (List Bool)) : Type 0 where
   pub maps : length inferiors ≡ length entries
   pub as_long : (place : ℕ) → place < length entries → length (map_of inferiors place) ≡ length entries
-  pub free : (place q : ℕ) → place < length entries → q < length entries → (in_use (map_of inferiors place) q ≡ false) ↔ IsInferior entries place q
+  pub free : (place q : ℕ) → place < length entries → q < length entries → (in_use (map_of inferiors place) q ≡ false)
+      ↔ IsInferior entries place q
 
 -- the flag of a place in one map of some
 pub record HasFlag (maps : List (List Bool)) (place : ℕ) (flag : Bool) (i : ℕ) : Type 0 where
@@ -49,7 +51,8 @@ pub record IsIndexed (entries : List (Option Entry)) (index : Pairs) : Type 0 wh
   pub count : length index.pairs ≡ count_by is_some entries
   pub room : index.room ≡ length entries
 
-pub record IsKept (sizes hands : List ℕ) (used : List (List Bool)) (entries : List (Option Entry)) (tables : List (List Ptw)) (inferiors : List (List Bool))
+pub record IsKept (sizes hands : List ℕ) (used : List (List Bool)) (entries : List (Option Entry))
+    (tables : List (List Ptw)) (inferiors : List (List Bool))
     (index : Pairs) : Type 0 where
   pub pools : HasPools sizes hands
   pub entry_count : length entries ≡ sum sizes

@@ -1,5 +1,6 @@
 -- The segment that has to go where a pool is full (own).
-use Rattle.std.specs.Prelude.{◌≡◌, ◌≢◌, ℕ, zero, suc, ◌+◌, ◌-◌, ◌<◌, Bool, true, false, not, ◌==◌, List, ◌++◌, Option, Some, None, Contains, length, position}
+use Rattle.std.specs.Prelude.{◌≡◌, ◌≢◌, ℕ, zero, suc, ◌+◌, ◌-◌, ◌<◌, Bool, true, false, not, ◌==◌, List, ◌++◌, Option}
+use Rattle.std.specs.Prelude.{Some, None, Contains, length, position}
 use Rattle.std.specs.Prelude.{slice_index, slice_set, if◌then◌else◌}
 use Rattle.std.specs.List.{find, list_any, range_with_len}
 use Rattle.active_segs.specs.declared.Entry.{Entry}
@@ -21,7 +22,8 @@ hand_of s pool = first_of s.sizes pool + slice_index s.hands pool
 
 -- the places of a pool once round it, the one at the hand first
 abbrev pub round_pool : ActiveSegs → ℕ → List ℕ
-round_pool s pool = places_from (hand_of s pool) (first_of s.sizes pool + size_of s.sizes pool) ++ places_from (first_of s.sizes pool) (hand_of s pool)
+round_pool s pool = places_from (hand_of s pool) (first_of s.sizes pool + size_of s.sizes pool)
+    ++ places_from (first_of s.sizes pool) (hand_of s pool)
 
 -- the first of some places that is used by a segment that isn't in the chain
 abbrev pub first_of_places : List (Option Entry) → List ℕ → List ℕ → Option ℕ
@@ -100,7 +102,10 @@ offset_after size offset = if offset + 1 == size then 0 else offset + 1
 -- the pool's hand stands after the place that was found, not after the leaf
 abbrev pub hand_past : ActiveSegs → ℕ → Option ℕ → ActiveSegs
 hand_past s pool None = s
-hand_past s pool (Some found) = record s { hands = slice_set s.hands pool (offset_after (size_of s.sizes pool) (found - first_of s.sizes pool)) }
+hand_past s pool (Some found) = record s {
+  hands = slice_set s.hands pool
+      (offset_after (size_of s.sizes pool) (found - first_of s.sizes pool));
+}
 
 -- the hand after a victim of the pool has been chosen
 abbrev pub hand_moved : ActiveSegs → ℕ → List ℕ → ActiveSegs
@@ -115,7 +120,8 @@ pub record HasOneOffChain (s : ActiveSegs) (pool : ℕ) (chain : List ℕ) : Typ
 -- the superior of each active segment of the chain is in the chain
 abbrev pub HasItsSuperiors : List (Option Entry) → List ℕ → Type 0
 HasItsSuperiors entries chain =
-    (place uid superior : ℕ) → uid_at entries place ≡ Some uid → Contains chain uid → superior_at entries place ≡ Some superior → Contains chain superior
+    (place uid superior : ℕ) → uid_at entries place ≡ Some uid → Contains chain uid → superior_at entries place
+    ≡ Some superior → Contains chain superior
 
 -- the segment of this place isn't in the chain
 abbrev pub IsOffChain : List (Option Entry) → List ℕ → ℕ → Type 0

@@ -1,9 +1,12 @@
-use Rattle.std.proofs.Common.{◌≡◌, ◌≢◌, ℕ, suc, zero, ◌+◌, ◌/◌, ◌%◌, ◌<◌, Bool, true, false, cond, List, [], ◌∷◌, length, refl, sym, ◌∙◌, arith, get_or, set, add-one, inl, inr, slice_index, count_by}
+use Rattle.std.proofs.Common.{◌≡◌, ◌≢◌, ℕ, suc, zero, ◌+◌, ◌/◌, ◌%◌, ◌<◌, Bool, true, false, cond, List, [], ◌∷◌}
+use Rattle.std.proofs.Common.{length, refl, sym, ◌∙◌, arith, get_or, set, add-one, inl, inr, slice_index, count_by}
 use Rattle.std.specs.Int.{w64}
 use Rattle.std.proofs.lemmas.Bool.{cases_eq}
-use Rattle.std.proofs.lemmas.List.{get_or-set_same, get_or-set_other, length-set, ext_get_or, length_push, get_or_append_left, get_or_push}
+use Rattle.std.proofs.lemmas.List.{get_or-set_same, get_or-set_other, length-set, ext_get_or, length_push}
+use Rattle.std.proofs.lemmas.List.{get_or_append_left, get_or_push}
 use Rattle.std.proofs.lemmas.List.Sums.{sum_by-set}
-use Rattle.std.proofs.lemmas.Nat.Bits.{bit_at_ones, bit_at_set_same, bit_at_set_other, bit_at_clear_same, bit_at_clear_other}
+use Rattle.std.proofs.lemmas.Nat.Bits.{bit_at_ones, bit_at_set_same, bit_at_set_other, bit_at_clear_same}
+use Rattle.std.proofs.lemmas.Nat.Bits.{bit_at_clear_other}
 use Rattle.bitmap.specs.Bitmap.{in_use}
 use Rattle.bitmap.specs.Bits.{bit_on, with_bit, without_bit, flags_of}
 
@@ -27,18 +30,31 @@ length_without_bit ws r = length-set ws _ _
 -- bit r is on after it is turned on, and off after it is turned off
 pub on_with_bit : (ws : List ℕ) (r : ℕ) → r / 64 < length ws → bit_on (with_bit ws r) r ≡ true
 unfolding bit_on with_bit
-on_with_bit ws r lt = rw (get_or-set_same ws (r / 64) _ 0 lt, bit_at_set_same w64 (slice_index ws (r / 64)) (r % 64) (omega arith)) refl
+on_with_bit ws r lt = rw (
+  get_or-set_same ws (r / 64) _ 0 lt,
+  bit_at_set_same w64 (slice_index ws (r / 64)) (r % 64)
+      (omega arith),
+) refl
 
 pub off_without_bit : (ws : List ℕ) (r : ℕ) → r / 64 < length ws → bit_on (without_bit ws r) r ≡ false
 unfolding bit_on without_bit
-off_without_bit ws r lt = rw (get_or-set_same ws (r / 64) _ 0 lt, bit_at_clear_same w64 (slice_index ws (r / 64)) (r % 64) (omega arith)) refl
+off_without_bit ws r lt = rw (
+  get_or-set_same ws (r / 64) _ 0 lt,
+  bit_at_clear_same w64 (slice_index ws (r / 64))
+      (r % 64) (omega arith),
+) refl
 
 -- every other bit is as before
 pub on_with_other : (ws : List ℕ) (r k : ℕ) → r / 64 < length ws → k ≢ r → bit_on (with_bit ws r) k ≡ bit_on ws k
 unfolding bit_on with_bit
 on_with_other ws r k lt ne = elim (cases_eq (k / 64) (r / 64)) [
   | inl e ↦ (let other : k % 64 ≢ r % 64 = omega arith in
-      rw (e, get_or-set_same ws (r / 64) _ 0 lt, bit_at_set_other w64 (slice_index ws (r / 64)) (r % 64) (omega arith) (k % 64) other) refl)
+      rw (
+        e,
+        get_or-set_same ws (r / 64) _ 0 lt,
+        bit_at_set_other w64 (slice_index ws (r / 64)) (r % 64) (omega arith)
+            (k % 64) other,
+      ) refl)
   | inr n ↦ rw (get_or-set_other ws (r / 64) (k / 64) _ 0 n) refl
 ]
 
@@ -46,7 +62,12 @@ pub on_without_other : (ws : List ℕ) (r k : ℕ) → r / 64 < length ws → k 
 unfolding bit_on without_bit
 on_without_other ws r k lt ne = elim (cases_eq (k / 64) (r / 64)) [
   | inl e ↦ (let other : k % 64 ≢ r % 64 = omega arith in
-      rw (e, get_or-set_same ws (r / 64) _ 0 lt, bit_at_clear_other w64 (slice_index ws (r / 64)) (r % 64) (omega arith) (k % 64) (omega arith) other) refl)
+      rw (
+        e,
+        get_or-set_same ws (r / 64) _ 0 lt,
+        bit_at_clear_other w64 (slice_index ws (r / 64)) (r % 64)
+            (omega arith) (k % 64) (omega arith) other,
+      ) refl)
   | inr n ↦ rw (get_or-set_other ws (r / 64) (k / 64) _ 0 n) refl
 ]
 
@@ -75,7 +96,8 @@ flag_at ws (suc n) r d lt = elim (cases_eq r n) [
 ]
 
 -- after one bit is set, the flags are as before but for that one
-pub flags_after_set : (ws vs : List ℕ) (n r : ℕ) (b : Bool) → r < n → bit_on vs r ≡ b → ((k : ℕ) → k ≢ r → bit_on vs k ≡ bit_on ws k)
+pub flags_after_set : (ws vs : List ℕ) (n r : ℕ) (b : Bool) → r < n → bit_on vs r ≡ b
+    → ((k : ℕ) → k ≢ r → bit_on vs k ≡ bit_on ws k)
     → flags_of vs n ≡ set (flags_of ws n) r b
 flags_after_set ws vs n r b lt here others =
     ext_get_or false _ _ (length_flags vs n ∙ sym (length-set (flags_of ws n) r b ∙ length_flags ws n))
@@ -87,13 +109,16 @@ flags_after_set ws vs n r b lt here others =
     ])
 
 -- the flags after a bit is turned on or off
-pub flags_with_bit : (ws : List ℕ) (n r : ℕ) → r < n → r / 64 < length ws → flags_of (with_bit ws r) n ≡ set (flags_of ws n) r true
+pub flags_with_bit : (ws : List ℕ) (n r : ℕ) → r < n → r / 64 < length ws → flags_of (with_bit ws r) n
+    ≡ set (flags_of ws n) r true
 flags_with_bit ws n r lt within =
     flags_after_set ws (with_bit ws r) n r true lt (on_with_bit ws r within) (λ k ne. on_with_other ws r k within ne)
 
-pub flags_without_bit : (ws : List ℕ) (n r : ℕ) → r < n → r / 64 < length ws → flags_of (without_bit ws r) n ≡ set (flags_of ws n) r false
+pub flags_without_bit : (ws : List ℕ) (n r : ℕ) → r < n → r / 64 < length ws → flags_of (without_bit ws r) n
+    ≡ set (flags_of ws n) r false
 flags_without_bit ws n r lt within =
-    flags_after_set ws (without_bit ws r) n r false lt (off_without_bit ws r within) (λ k ne. on_without_other ws r k within ne)
+    flags_after_set ws (without_bit ws r) n r false lt (off_without_bit ws r within)
+    (λ k ne. on_without_other ws r k within ne)
 
 -- a flag turned on counts for one more, and one turned off for one less
 pub count_with : (flags : List Bool) (r : ℕ) → r < length flags → in_use flags r ≡ false

@@ -1,6 +1,8 @@
-use Rattle.std.proofs.Common.{◌≡◌, ◌≢◌, ℕ, suc, zero, ◌+◌, ◌-◌, ◌*◌, ◌/◌, ◌%◌, ◌^◌, ◌<◌, ◌≤◌, false, cond, List, length, refl, sym, ap, ◌∙◌, arith, set, replicate, inl, inr, slice_index, count_by}
+use Rattle.std.proofs.Common.{◌≡◌, ◌≢◌, ℕ, suc, zero, ◌+◌, ◌-◌, ◌*◌, ◌/◌, ◌%◌, ◌^◌, ◌<◌, ◌≤◌, false, cond, List}
+use Rattle.std.proofs.Common.{length, refl, sym, ap, ◌∙◌, arith, set, replicate, inl, inr, slice_index, count_by}
 use Rattle.std.proofs.lemmas.Bool.{cases_eq}
-use Rattle.std.proofs.lemmas.List.{length-replicate, get_or-replicate, ext_get_or, length-set, get_or-set_same, get_or-set_other}
+use Rattle.std.proofs.lemmas.List.{length-replicate, get_or-replicate, ext_get_or, length-set, get_or-set_same}
+use Rattle.std.proofs.lemmas.List.{get_or-set_other}
 use Rattle.std.proofs.lemmas.List.Sums.{sum_by-cons}
 use Rattle.std.proofs.lemmas.Nat.Bits.{bit_at-zero, bit_at_mask_inside, bit_at_mask_below, ones_shl}
 use Rattle.bitmap.specs.Bits.{bit_on, flags_of, IsClear, HasTwoLevels}
@@ -13,31 +15,39 @@ unfolding bit_on
 off_in_zeros n r lt = rw (get_or-replicate {A = ℕ} n (r / 64) 0 0 lt, bit_at-zero (r % 64)) refl
 
 -- a number of bits that fills its words
-pub clear_whole : (ws : List ℕ) (n count : ℕ) → ws ≡ replicate {A = ℕ} n 0 → n ≡ (count + 63) / 64 → count % 64 ≡ 0 → IsClear ws count
-clear_whole ws n count is long whole = let words : length ws ≡ n = ap length is ∙ length-replicate {A = ℕ} n 0 in record {
-  long = words ∙ long;
-  off = λ k lt. let inside : k / 64 < n = omega arith in rw is (off_in_zeros n k inside);
-  padding = λ k above inside. absurd (omega arith);
-}
+pub clear_whole : (ws : List ℕ) (n count : ℕ) → ws ≡ replicate {A = ℕ} n 0 → n ≡ (count + 63) / 64 → count % 64 ≡ 0
+    → IsClear ws count
+clear_whole ws n count is long whole = let words : length ws ≡ n = ap length is
+    ∙ length-replicate {A = ℕ} n 0 in record {
+      long = words ∙ long;
+      off = λ k lt. let inside : k / 64 < n = omega arith in rw is (off_in_zeros n k inside);
+      padding = λ k above inside. absurd (omega arith);
+    }
 
 -- a number of bits that leaves a part of its last word
-pub clear_part : (ws : List ℕ) (n count : ℕ) → ws ≡ set (replicate {A = ℕ} n 0) (count / 64) (18446744073709551615 * 2 ^ (count % 64) % 2 ^ 64) → n ≡ (count + 63) / 64
+pub clear_part : (ws : List ℕ) (n count : ℕ) → ws ≡ set (replicate {A = ℕ} n 0) (count / 64)
+    (18446744073709551615 * 2 ^ (count % 64) % 2 ^ 64) → n ≡ (count + 63) / 64
     → count % 64 ≢ 0 → IsClear ws count
 unfolding bit_on
 clear_part ws n count is long part =
-    let words : length ws ≡ n = ap length is ∙ length-set (replicate {A = ℕ} n 0) (count / 64) _ ∙ length-replicate {A = ℕ} n 0 in
+    let words : length ws ≡ n = ap length is ∙ length-set (replicate {A = ℕ} n 0) (count / 64) _
+    ∙ length-replicate {A = ℕ} n 0 in
     let mask : ℕ = 18446744073709551615 * 2 ^ (count % 64) % 2 ^ 64 in
-    let mask_is : 18446744073709551615 * 2 ^ (count % 64) % 2 ^ 64 ≡ 2 ^ 64 - 2 ^ (count % 64) = ones_shl 64 (count % 64) (omega arith) in
+    let mask_is : 18446744073709551615 * 2 ^ (count % 64) % 2 ^ 64 ≡ 2 ^ 64 - 2 ^ (count % 64) =
+    ones_shl 64 (count % 64) (omega arith) in
     let there : count / 64 < length (replicate {A = ℕ} n 0) = omega (arith, length-replicate {A = ℕ} n 0) in
-    let last : slice_index ws (count / 64) ≡ 2 ^ 64 - 2 ^ (count % 64) = rw is (get_or-set_same (replicate {A = ℕ} n 0) (count / 64) mask 0 there ∙ mask_is) in
+    let last : slice_index ws (count / 64) ≡ 2 ^ 64 - 2 ^ (count % 64) =
+    rw is (get_or-set_same (replicate {A = ℕ} n 0) (count / 64) mask 0 there ∙ mask_is) in
     record {
       long = words ∙ long;
       off = λ k lt. elim (cases_eq (k / 64) (count / 64)) [
-        | inl e ↦ (let low : k % 64 < count % 64 = omega arith in rw (e, last, bit_at_mask_below (count % 64) 64 (k % 64) low) refl)
+        | inl e ↦ (let low : k % 64 < count % 64 = omega arith in rw
+            (e, last, bit_at_mask_below (count % 64) 64 (k % 64) low) refl)
         | inr ne ↦ (let inside : k / 64 < n = omega arith in
             rw (is, get_or-set_other (replicate {A = ℕ} n 0) (count / 64) (k / 64) mask 0 ne) (off_in_zeros n k inside))
       ];
-      padding = λ k above inside. let same : k / 64 ≡ count / 64 = omega arith in let high : count % 64 ≤ k % 64 = omega arith in
+      padding = λ k above inside. let same : k / 64 ≡ count / 64 = omega arith in let high : count % 64 ≤ k % 64 =
+          omega arith in
           rw (same, last, bit_at_mask_inside (count % 64) 64 (k % 64) high (omega arith)) refl;
     }
 
@@ -55,7 +65,8 @@ flags_clear ws size h =
     (λ k lt. let below : k < size = rw (← length_flags ws size) lt in
     flag_at ws size k false below ∙ h.off k below ∙ sym (get_or-replicate size k false false below))
 
-pub levels_clear : (ws full : List ℕ) (size n : ℕ) → size < 2 ^ 32 → IsClear ws size → IsClear full n → n ≡ (size + 63) / 64 → HasTwoLevels ws full size 0
+pub levels_clear : (ws full : List ℕ) (size n : ℕ) → size < 2 ^ 32 → IsClear ws size → IsClear full n → n
+    ≡ (size + 63) / 64 → HasTwoLevels ws full size 0
 levels_clear ws full size n fits h g is = record {
   fits = fits;
   covers = omega (arith, h.long);
@@ -64,7 +75,9 @@ levels_clear ws full size n fits h g is = record {
   full_covers = omega (arith, h.long, g.long);
   full_short = omega (arith, h.long, g.long);
   full_padding = λ w above inside. g.padding w (omega (arith, h.long)) inside;
-  full_is = λ w inside. let first : 64 * w < size = omega (arith, h.long) in let place : 64 * w / 64 ≡ w = omega arith in
-      g.off w (omega (arith, h.long)) ∙ sym (off_test _ _ (rw place at (off_word_has_room ws (64 * w) (h.off (64 * w) first))));
+  full_is = λ w inside. let first : 64 * w < size = omega (arith, h.long) in let place : 64 * w / 64 ≡ w =
+      omega arith in
+      g.off w (omega (arith, h.long)) ∙ sym (off_test _ _
+      (rw place at (off_word_has_room ws (64 * w) (h.off (64 * w) first))));
   counted = rw (flags_clear ws size h) (sym (count_none size));
 }

@@ -1,4 +1,6 @@
-use Rattle.std.proofs.Common.{◌≡◌, ◌≢◌, ℕ, ◌+◌, ◌-◌, ◌*◌, ◌/◌, ◌%◌, ◌^◌, ◌<◌, ◌≤◌, Bool, true, false, not, cond, eqb, List, length, Some, None, refl, sym, ap, ◌∙◌, arith, get_or, set, inl, inr, ◌⊎◌, slice_index, count_by, All}
+use Rattle.std.proofs.Common.{◌≡◌, ◌≢◌, ℕ, ◌+◌, ◌-◌, ◌*◌, ◌/◌, ◌%◌, ◌^◌, ◌<◌, ◌≤◌, Bool, true, false, not, cond, eqb}
+use Rattle.std.proofs.Common.{List, length, Some, None, refl, sym, ap, ◌∙◌, arith, get_or, set, inl, inr, ◌⊎◌}
+use Rattle.std.proofs.Common.{slice_index, count_by, All}
 use Rattle.std.specs.Int.{bit_at, w64, trailing_ones}
 use Rattle.std.specs.List.{prefix_len}
 use Rattle.std.proofs.lemmas.Bool.Decides.{eqb_tells, leb_tells}
@@ -9,7 +11,10 @@ use Rattle.std.proofs.lemmas.List.Sums.{prefix_len_is, count_by-le-length}
 use Rattle.std.proofs.lemmas.Nat.Bits.{bit_at-trailing_ones}
 use Rattle.bitmap.specs.Bitmap.{in_use, least_free, IsLeastFree}
 use Rattle.bitmap.specs.Bits.{bit_on, with_bit, without_bit, full_after, flags_of, IsFirstOff, HasTwoLevels}
-use Rattle.bitmap.proofs.BitLemmas.{word_with_other, word_without_other, length_with_bit, length_without_bit, on_with_bit, off_without_bit, on_with_other, on_without_other, on_in_full_word, off_word_has_room, length_flags, flag_at, flags_with_bit, flags_without_bit, count_with, count_without}
+use Rattle.bitmap.proofs.BitLemmas.{word_with_other, word_without_other, length_with_bit, length_without_bit}
+use Rattle.bitmap.proofs.BitLemmas.{on_with_bit, off_without_bit, on_with_other, on_without_other, on_in_full_word}
+use Rattle.bitmap.proofs.BitLemmas.{off_word_has_room, length_flags, flag_at, flags_with_bit, flags_without_bit}
+use Rattle.bitmap.proofs.BitLemmas.{count_with, count_without}
 
 -- a test for equality that fails, and one that holds
 pub off_test : (a b : ℕ) → a ≢ b → eqb a b ≡ false
@@ -27,22 +32,26 @@ length_full : (b : Bool) (full : List ℕ) (w : ℕ) → length (cond b (with_bi
 length_full true full w = length_with_bit full w
 length_full false full w = refl
 
-full_same : (b : Bool) (full : List ℕ) (w : ℕ) → bit_on full w ≡ false → w / 64 < length full → bit_on (cond b (with_bit full w) full) w ≡ b
+full_same : (b : Bool) (full : List ℕ) (w : ℕ) → bit_on full w ≡ false → w / 64 < length full
+    → bit_on (cond b (with_bit full w) full) w ≡ b
 full_same true full w off within = on_with_bit full w within
 full_same false full w off within = off
 
-full_other : (b : Bool) (full : List ℕ) (w k : ℕ) → w / 64 < length full → k ≢ w → bit_on (cond b (with_bit full w) full) k ≡ bit_on full k
+full_other : (b : Bool) (full : List ℕ) (w k : ℕ) → w / 64 < length full → k ≢ w
+    → bit_on (cond b (with_bit full w) full) k ≡ bit_on full k
 full_other true full w k within ne = on_with_other full w k within ne
 full_other false full w k within ne = refl
 
 -- the two levels after a free number is taken
-pub levels_after_take : (ws full : List ℕ) (size used r : ℕ) → HasTwoLevels ws full size used → r < size → bit_on ws r ≡ false
+pub levels_after_take : (ws full : List ℕ) (size used r : ℕ) → HasTwoLevels ws full size used → r < size → bit_on ws r
+    ≡ false
     → HasTwoLevels (with_bit ws r) (full_after (with_bit ws r) full (r / 64)) size (used + 1)
 levels_after_take ws full size used r h lt off =
     let within : r / 64 < length ws = omega (arith, h.covers) in
     let upper : r / 64 / 64 < length full = omega (arith, h.full_covers) in
     let now_full : Bool = eqb (slice_index (with_bit ws r) (r / 64)) 18446744073709551615 in
-    let was_off : bit_on full (r / 64) ≡ false = h.full_is (r / 64) within ∙ off_test _ _ (off_word_has_room ws r off) in
+    let was_off : bit_on full (r / 64) ≡ false = h.full_is (r / 64) within
+    ∙ off_test _ _ (off_word_has_room ws r off) in
     record {
       fits = h.fits;
       covers = rw length_with_bit h.covers;
@@ -53,7 +62,8 @@ levels_after_take ws full size used r h lt off =
       full_short = rw (length_full now_full full (r / 64)) h.full_short;
       full_padding = λ w above inside. let past : length ws ≤ w = rw (← length_with_bit ws r) above in
           let ne : w ≢ r / 64 = omega arith in
-          full_other now_full full (r / 64) w upper ne ∙ h.full_padding w past (rw (← length_full now_full full (r / 64)) inside);
+          full_other now_full full (r / 64) w upper ne
+          ∙ h.full_padding w past (rw (← length_full now_full full (r / 64)) inside);
       full_is = λ w inside. elim (cases_eq w (r / 64)) [
         | inl e ↦ rw e (full_same now_full full (r / 64) was_off upper)
         | inr ne ↦ full_other now_full full (r / 64) w upper ne ∙ h.full_is w (rw (← length_with_bit ws r) inside)
@@ -61,11 +71,13 @@ levels_after_take ws full size used r h lt off =
       ];
       counted = let flags_within : r < length (flags_of ws size) = rw length_flags lt in
           let free : in_use (flags_of ws size) r ≡ false = flag_at ws size r false lt ∙ off in
-          ap (λ n. n + 1) h.counted ∙ sym (ap (count_by (λ flag. flag)) (flags_with_bit ws size r lt within) ∙ count_with (flags_of ws size) r flags_within free);
+          ap (λ n. n + 1) h.counted ∙ sym (ap (count_by (λ flag. flag)) (flags_with_bit ws size r lt within)
+          ∙ count_with (flags_of ws size) r flags_within free);
     }
 
 -- the two levels after a number is given back
-pub levels_after_give : (ws full : List ℕ) (size used r : ℕ) → HasTwoLevels ws full size used → r < size → bit_on ws r ≡ true
+pub levels_after_give : (ws full : List ℕ) (size used r : ℕ) → HasTwoLevels ws full size used → r < size → bit_on ws r
+    ≡ true
     → HasTwoLevels (without_bit ws r) (without_bit full (r / 64)) size (used - 1)
 levels_after_give ws full size used r h lt on =
     let within : r / 64 < length ws = omega (arith, h.covers) in
@@ -81,7 +93,8 @@ levels_after_give ws full size used r h lt on =
       full_short = rw (length_without_bit full (r / 64)) h.full_short;
       full_padding = λ w above inside. let past : length ws ≤ w = rw (← length_without_bit ws r) above in
           let ne : w ≢ r / 64 = omega arith in
-          on_without_other full (r / 64) w upper ne ∙ h.full_padding w past (rw (← length_without_bit full (r / 64)) inside);
+          on_without_other full (r / 64) w upper ne ∙ h.full_padding w past
+          (rw (← length_without_bit full (r / 64)) inside);
       full_is = λ w inside. elim (cases_eq w (r / 64)) [
         | inl e ↦ rw e (off_without_bit full (r / 64) upper ∙ sym (off_test _ _ room))
         | inr ne ↦ on_without_other full (r / 64) w upper ne ∙ h.full_is w (rw (← length_without_bit ws r) inside)
@@ -91,7 +104,8 @@ levels_after_give ws full size used r h lt on =
           let taken : in_use (flags_of ws size) r ≡ true = flag_at ws size r false lt ∙ on in
           let one = count_without (flags_of ws size) r flags_within taken in
           let is = ap (count_by (λ flag. flag)) (flags_without_bit ws size r lt within) in
-          let fewer : count_by (λ flag. flag) (flags_of (without_bit ws r) size) + 1 ≡ used = ap (λ n. n + 1) is ∙ one ∙ sym h.counted in
+          let fewer : count_by (λ flag. flag) (flags_of (without_bit ws r) size) + 1 ≡ used = ap (λ n. n + 1) is ∙ one
+          ∙ sym h.counted in
           omega (arith, fewer);
     }
 
@@ -101,43 +115,58 @@ unfolding bit_on
 bit_in_word ws w t r a b = rw (a, b) refl
 
 -- in the first word that is not full, the first bit that is off is the first of all
-pub first_in_word : (ws : List ℕ) (w : ℕ) → w < length ws → slice_index ws w ≢ 18446744073709551615 → slice_index ws w < 2 ^ 64
-    → ((v : ℕ) → v < w → slice_index ws v ≡ 18446744073709551615) → IsFirstOff ws (64 * w + trailing_ones w64 (slice_index ws w))
+pub first_in_word : (ws : List ℕ) (w : ℕ) → w < length ws → slice_index ws w ≢ 18446744073709551615
+    → slice_index ws w < 2 ^ 64
+    → ((v : ℕ) → v < w → slice_index ws v ≡ 18446744073709551615)
+    → IsFirstOff ws (64 * w + trailing_ones w64 (slice_index ws w))
 first_in_word ws w inside room fits before =
     first_at (trailing_ones w64 (slice_index ws w)) (bit_at-trailing_ones w64 (slice_index ws w) (omega arith))
   where
-    first_at : (t : ℕ) → (t < 64) × (bit_at (slice_index ws w) t ≡ 0) × ((i : ℕ) → i < t → bit_at (slice_index ws w) i ≡ 1) → IsFirstOff ws (64 * w + t)
+    first_at : (t : ℕ) → (t < 64) × (bit_at (slice_index ws w) t ≡ 0)
+        × ((i : ℕ) → i < t → bit_at (slice_index ws w) i ≡ 1) → IsFirstOff ws (64 * w + t)
     first_at t h = let below : t < 64 = h.0 in record {
       within = omega arith;
       off = let high : (64 * w + t) / 64 ≡ w = omega arith in let low : (64 * w + t) % 64 ≡ t = omega arith in
           bit_in_word ws w t (64 * w + t) high low ∙ rw h.1 refl;
       before = λ k lt. elim (cases_eq (k / 64) w) [
-        | inl e ↦ (let low : k % 64 < t = omega arith in bit_in_word ws w (k % 64) k e refl ∙ rw (h.2 (k % 64) low) refl)
+        | inl e ↦ (let low : k % 64 < t = omega arith in bit_in_word ws w (k % 64) k e refl
+            ∙ rw (h.2 (k % 64) low) refl)
         | inr ne ↦ (let under : k / 64 < w = omega arith in on_in_full_word ws k (before (k / 64) under))
       ];
     }
 
 -- where no word has a bit off, every bit is on
-pub all_on : (ws : List ℕ) → ((v : ℕ) → v < length ws → slice_index ws v ≡ 18446744073709551615) → (r : ℕ) → r < 64 * length ws → bit_on ws r ≡ true
+pub all_on : (ws : List ℕ) → ((v : ℕ) → v < length ws → slice_index ws v ≡ 18446744073709551615) → (r : ℕ)
+    → r < 64 * length ws → bit_on ws r ≡ true
 all_on ws full r lt = let inside : r / 64 < length ws = omega arith in on_in_full_word ws r (full (r / 64) inside)
 
 -- the least free number by the two levels: w is the first word with room
-pub least_by_levels : (ws full : List ℕ) (size used w : ℕ) → HasTwoLevels ws full size used → IsFirstOff full w → slice_index ws w < 2 ^ 64
+pub least_by_levels : (ws full : List ℕ) (size used w : ℕ) → HasTwoLevels ws full size used → IsFirstOff full w
+    → slice_index ws w < 2 ^ 64
     → IsLeastFree (flags_of ws size) (64 * w + trailing_ones w64 (slice_index ws w))
 least_by_levels ws full size used w h first fits =
     in_flags (64 * w + trailing_ones w64 (slice_index ws w)) (first_in_word ws w inside room fits below)
   where
     inside : w < length ws
-    inside = elim (below_or_past w (length ws)) [ inl lt ↦ lt | inr past ↦ (let on = h.full_padding w past first.within in let off = first.off in absurd (cc)) ]
+    inside = elim (below_or_past w (length ws)) [
+      | inl lt ↦ lt
+      | inr past ↦
+          (let on = h.full_padding w past first.within in let off = first.off in absurd (cc))
+    ]
 
     room : slice_index ws w ≢ 18446744073709551615
     room e = let test : bit_on full w ≡ true = h.full_is w inside ∙ rw e refl in let off = first.off in cc
 
     below : (v : ℕ) → v < w → slice_index ws v ≡ 18446744073709551615
-    below v lt = on_test (slice_index ws v) 18446744073709551615 (sym (h.full_is v (omega (arith, inside))) ∙ first.before v lt)
+    below v lt = on_test (slice_index ws v) 18446744073709551615
+        (sym (h.full_is v (omega (arith, inside))) ∙ first.before v lt)
 
     known : (r : ℕ) → IsFirstOff ws r → r < size
-    known r is = elim (below_or_past r size) [ inl lt ↦ lt | inr past ↦ (let on = h.padding r past is.within in let off = is.off in absurd (cc)) ]
+    known r is = elim (below_or_past r size) [
+      | inl lt ↦ lt
+      | inr past ↦
+          (let on = h.padding r past is.within in let off = is.off in absurd (cc))
+    ]
 
     in_flags : (r : ℕ) → IsFirstOff ws r → IsLeastFree (flags_of ws size) r
     in_flags r is = record {
@@ -147,14 +176,16 @@ least_by_levels ws full size used w h first fits =
     }
 
 -- where the upper level has no bit off, all numbers are in use
-pub none_by_levels : (ws full : List ℕ) (size used : ℕ) → HasTwoLevels ws full size used → ((w : ℕ) → w < 64 * length full → bit_on full w ≡ true)
+pub none_by_levels : (ws full : List ℕ) (size used : ℕ) → HasTwoLevels ws full size used
+    → ((w : ℕ) → w < 64 * length full → bit_on full w ≡ true)
     → All (λ flag. flag ≡ true) (flags_of ws size)
 none_by_levels ws full size used h on =
     All-from_get_or (λ flag. flag ≡ true) (flags_of ws size) false
     (λ r lt. let below : r < size = rw (← length_flags ws size) lt in
     let inside : r / 64 < length ws = omega (arith, h.covers) in
     let word : slice_index ws (r / 64) ≡ 18446744073709551615 =
-    on_test (slice_index ws (r / 64)) 18446744073709551615 (sym (h.full_is (r / 64) inside) ∙ on (r / 64) (omega (arith, h.full_covers))) in
+    on_test (slice_index ws (r / 64)) 18446744073709551615
+    (sym (h.full_is (r / 64) inside) ∙ on (r / 64) (omega (arith, h.full_covers))) in
     flag_at ws size r false below ∙ on_in_full_word ws r word)
 
 -- the relation and the function say the same
@@ -179,7 +210,8 @@ pub record IsPlaced (ws full : List ℕ) (size : ℕ) (flags : List Bool) (r : �
   pub mark : r / 64 / 64 < length full
   pub is : bit_on ws r ≡ in_use flags r
 
-pub placed : (ws full : List ℕ) (size used : ℕ) (flags : List Bool) (r : ℕ) → HasTwoLevels ws full size used → flags_of ws size ≡ flags → r < length flags
+pub placed : (ws full : List ℕ) (size used : ℕ) (flags : List Bool) (r : ℕ) → HasTwoLevels ws full size used
+    → flags_of ws size ≡ flags → r < length flags
     → IsPlaced ws full size flags r
 placed ws full size used flags r h view lt =
     let below : r < size = omega (arith, length_flags ws size, ap length view) in record {
@@ -190,7 +222,8 @@ placed ws full size used flags r h view lt =
     }
 
 -- a number more is in use than before, and all are at most the size
-pub room_for_one : (ws full : List ℕ) (size used : ℕ) (flags : List Bool) (r : ℕ) → HasTwoLevels ws full size used → flags_of ws size ≡ flags → r < length flags
+pub room_for_one : (ws full : List ℕ) (size used : ℕ) (flags : List Bool) (r : ℕ) → HasTwoLevels ws full size used
+    → flags_of ws size ≡ flags → r < length flags
     → in_use flags r ≡ false → used + 1 ≤ size
 room_for_one ws full size used flags r h view lt free =
     let more = count_with flags r lt free in
@@ -200,22 +233,27 @@ room_for_one ws full size used flags r h view lt free =
     omega (arith, length_flags ws size, ap length view, more, most, long, same)
 
 -- the answer of a search by the two levels, in the terms in which its steps give it
-pub found_by_levels : (ws full fs : List ℕ) (size used w x t : ℕ) (flags : List Bool) → HasTwoLevels ws full size used → flags_of ws size ≡ flags
-    → IsFirstOff fs w → fs ≡ full → w < length ws → x ≡ get_or ws w x → x < 2 ^ 64 → t ≡ trailing_ones w64 x → IsLeastFree flags (64 * w + t)
+pub found_by_levels : (ws full fs : List ℕ) (size used w x t : ℕ) (flags : List Bool) → HasTwoLevels ws full size used
+    → flags_of ws size ≡ flags
+    → IsFirstOff fs w → fs ≡ full → w < length ws → x ≡ get_or ws w x → x < 2 ^ 64 → t ≡ trailing_ones w64 x
+    → IsLeastFree flags (64 * w + t)
 found_by_levels ws full fs size used w x t flags h view first same inside read fits ones =
     let word : x ≡ slice_index ws w = get_or_read ws w x inside read 0 in
     let fits_there : slice_index ws w < 2 ^ 64 = rw (← word) fits in
     rw (ones, word, ← view) (least_by_levels ws full size used w h (rw (← same) first) fits_there)
 
-pub none_found : (ws full fs : List ℕ) (size used : ℕ) (flags : List Bool) → HasTwoLevels ws full size used → flags_of ws size ≡ flags
+pub none_found : (ws full fs : List ℕ) (size used : ℕ) (flags : List Bool) → HasTwoLevels ws full size used
+    → flags_of ws size ≡ flags
     → fs ≡ full → ((w : ℕ) → w < 64 * length fs → bit_on fs w ≡ true) → All (λ flag. flag ≡ true) flags
 none_found ws full fs size used flags h view same on =
     rw (← view) (none_by_levels ws full size used h (rw (← same) on))
 
 -- a word with a bit off in the upper level is there
-pub first_inside : (ws full fs : List ℕ) (size used w : ℕ) → HasTwoLevels ws full size used → IsFirstOff fs w → fs ≡ full → w < length ws
+pub first_inside : (ws full fs : List ℕ) (size used w : ℕ) → HasTwoLevels ws full size used → IsFirstOff fs w → fs
+    ≡ full → w < length ws
 first_inside ws full fs size used w h first same =
     elim (below_or_past w (length ws)) [
       | inl lt ↦ lt
-      | inr past ↦ (let here : IsFirstOff full w = rw (← same) first in let on = h.full_padding w past here.within in let off = here.off in absurd (cc))
+      | inr past ↦ (let here : IsFirstOff full w = rw (← same) first in let on =
+          h.full_padding w past here.within in let off = here.off in absurd (cc))
     ]

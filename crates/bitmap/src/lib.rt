@@ -9,7 +9,8 @@
 //! one upper word. `is_used` reads one word, and `used` and `size` one number. None of these takes memory.
 #![tactic(auto)]
 
-ghost use Rattle.std.specs.Prelude.{◌≡◌, ◌<◌, ◌≤◌, ◌+◌, ◌*◌, ◌/◌, ◌^◌, ◌-◌, ◌==◌, ℕ, Bool, true, false, List, length, replicate, slice_index, slice_set, count_by, vec_len, All, IfOk, IfSome, IfNone};
+ghost use Rattle.std.specs.Prelude.{◌≡◌, ◌<◌, ◌≤◌, ◌+◌, ◌*◌, ◌/◌, ◌^◌, ◌-◌, ◌==◌, ℕ, Bool, true, false, List, length};
+ghost use Rattle.std.specs.Prelude.{replicate, slice_index, slice_set, count_by, vec_len, All, IfOk, IfSome, IfNone};
 ghost use Rattle.bitmap.specs.Bitmap.{in_use, least_free, IsLeastFree};
 ghost use Rattle.bitmap.specs.Bits.{bit_on, with_bit, without_bit, full_after, IsFirstOff, IsClear};
 

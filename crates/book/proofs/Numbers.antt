@@ -1,5 +1,6 @@
 -- Laws of the numbers in the text of an entry.
-use Rattle.std.proofs.Common.{◌≡◌, ℕ, ◌+◌, ◌-◌, ◌*◌, ◌^◌, ◌<◌, ◌≤◌, Bool, true, false, cond, ◌&&◌, nat_lt, List, length, Option, Some, None, refl, sym, ap, ◌∙◌, arith, get_or, take}
+use Rattle.std.proofs.Common.{◌≡◌, ℕ, ◌+◌, ◌-◌, ◌*◌, ◌^◌, ◌<◌, ◌≤◌, Bool, true, false, cond, ◌&&◌, nat_lt, List}
+use Rattle.std.proofs.Common.{length, Option, Some, None, refl, sym, ap, ◌∙◌, arith, get_or, take}
 use Rattle.std.specs.Str.Parse.{digits_value}
 use Rattle.std.specs.Char.{digit_value, is_ascii_digit}
 use Rattle.std.specs.List.{list_all}
@@ -26,11 +27,13 @@ digits_start w = record { digits = refl; number = refl; small = lit_small }
 digit_is : (b : ℕ) → 48 ≤ b → b ≤ 57 → digit_value b ≡ b - 48
 digit_is b low high = grind (arith, nat_tests)
 
-pub digits_next : (w : List ℕ) (i value : ℕ) → i < length w → 48 ≤ get_or w i 0 → get_or w i 0 ≤ 57 → AreDigits w i value
+pub digits_next : (w : List ℕ) (i value : ℕ) → i < length w → 48 ≤ get_or w i 0 → get_or w i 0 ≤ 57
+    → AreDigits w i value
     → AreDigits w (i + 1) (value * 10 + (get_or w i 0 - 48))
 digits_next w i value lt low high h = record {
   digits = list_all_more is_ascii_digit w i 0 lt ∙ rw h.digits digit;
-  number = sym (digits_value_more 10 w i lt ∙ ap (λ d. digits_value 10 (take i w) * 10 + d) (digit_is (get_or w i 0) low high) ∙ ap
+  number = sym (digits_value_more 10 w i lt ∙ ap (λ d. digits_value 10 (take i w) * 10 + d)
+      (digit_is (get_or w i 0) low high) ∙ ap
       (λ v. v * 10 + (get_or w i 0 - 48)) (sym h.number));
   small = rw (pow-add 10 i 1) (omega (arith, h.small));
 }
@@ -39,7 +42,8 @@ digits_next w i value lt low high h = record {
     digit = grind (arith, nat_tests)
 
 pub value_fits : (w : List ℕ) (i value : ℕ) → AreDigits w i value → i ≤ 10 → value < 10 ^ 10
-value_fits w i value h within = let m : 10 ^ i ≤ 10 ^ 10 = pow-le-pow_right (omega arith) within in omega (arith, h.small)
+value_fits w i value h within = let m : 10 ^ i ≤ 10 ^ 10 =
+    pow-le-pow_right (omega arith) within in omega (arith, h.small)
 
 pub plain_short : (w : List ℕ) → is_plain w ≡ true → length w ≤ 10
 plain_short w h = grind (arith, nat_tests)
@@ -58,10 +62,12 @@ no_digit w i lt out =
     none_either true = refl
     none_either false = refl
 
-whole : (w : List ℕ) (i value : ℕ) → length w ≤ i → AreDigits w i value → (list_all is_ascii_digit w ≡ true) × (value ≡ digits_value 10 w)
+whole : (w : List ℕ) (i value : ℕ) → length w ≤ i → AreDigits w i value → (list_all is_ascii_digit w ≡ true)
+    × (value ≡ digits_value 10 w)
 whole w i value end h = (rw (take_all i w end) at h.digits, rw (take_all i w end) at h.number)
 
-pub number_found : (w : List ℕ) (i value : ℕ) → is_plain w ≡ true → length w ≤ i → AreDigits w i value → value < 2 ^ 32 → Some value ≡ number_of w
+pub number_found : (w : List ℕ) (i value : ℕ) → is_plain w ≡ true → length w ≤ i → AreDigits w i value → value < 2 ^ 32
+    → Some value ≡ number_of w
 unfolding number_of
 number_found w i value plain end h small =
     let all = whole w i value end h in

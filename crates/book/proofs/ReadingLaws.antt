@@ -1,5 +1,7 @@
 -- That each entry's text is read back as the entry, and that nothing else is read.
-use Rattle.std.proofs.Common.{rules, ◌≡◌, ℕ, zero, suc, ◌+◌, ◌<◌, ◌≤◌, ◌^◌, ◌⊎◌, Bool, true, false, not, ◌&&◌, cond, eqb, List, [], ◌∷◌, ◌++◌, length, get_or, take, Option, Some, None, refl, sym, ap, subst, ◌∙◌, arith, IfSome, inl, inr, add-one}
+use Rattle.std.proofs.Common.{rules, ◌≡◌, ℕ, zero, suc, ◌+◌, ◌<◌, ◌≤◌, ◌^◌, ◌⊎◌, Bool, true, false, not, ◌&&◌, cond}
+use Rattle.std.proofs.Common.{eqb, List, [], ◌∷◌, ◌++◌, length, get_or, take, Option, Some, None, refl, sym, ap, subst}
+use Rattle.std.proofs.Common.{◌∙◌, arith, IfSome, inl, inr, add-one}
 use Rattle.std.specs.Prelude.{codes, nat_lt, nat_le, ◌==◌, ◌-◌, ◌*◌, ◌/◌, ◌%◌}
 use Rattle.std.specs.Char.{is_ascii_digit}
 use Rattle.std.specs.Fmt.{decimal}
@@ -8,7 +10,8 @@ use Rattle.std.specs.Option.{option_map, option_and_then}
 use Rattle.std.specs.Str.{bytes_eq}
 use Rattle.std.specs.Str.Parse.{digits_value}
 use Rattle.std.proofs.lemmas.Bool.Decides.{nat_tests}
-use Rattle.std.proofs.lemmas.Fmt.{decimal_digit, digits_decimal, decimal-digits_value, digits_value-decimal, decimal_nonempty, length-decimal-le, first_decimal}
+use Rattle.std.proofs.lemmas.Fmt.{decimal_digit, digits_decimal, decimal-digits_value, digits_value-decimal}
+use Rattle.std.proofs.lemmas.Fmt.{decimal_nonempty, length-decimal-le, first_decimal}
 use Rattle.std.proofs.lemmas.Grind.{common_steps, pow_more}
 use Rattle.std.proofs.lemmas.List.{append_assoc, length-append, take_all}
 use Rattle.std.proofs.lemmas.List.Splits.{join_with_byte-slice_split}
@@ -28,7 +31,11 @@ use Rattle.book.specs.declared.replies.Reply.{Reply}
 use Rattle.book.specs.declared.replies.Reply.TheVariants as reply
 use Rattle.book.specs.Entries.{number_text, what_text, entry_text}
 use Rattle.book.specs.Replies.{reply_text}
-use Rattle.book.specs.Reading.{is_space, is_dot, is_plain, is_number, number_of, number_or_none, word_of, both, dotted_of, page_reply, path_reply, change_reply, first_there, bare_reply, numbered_reply, status_reply, status_of, triple, reply_of, what_of, dropped_of, named_of, gone, back, filled, fill_of, fault_of, answered_of, do_of, of_one, of_two, of_three, plain_of, entry_of, entry_of_words, IsSmall, IsReply, IsWhat, IsEntry}
+use Rattle.book.specs.Reading.{is_space, is_dot, is_plain, is_number, number_of, number_or_none, word_of, both}
+use Rattle.book.specs.Reading.{dotted_of, page_reply, path_reply, change_reply, first_there, bare_reply}
+use Rattle.book.specs.Reading.{numbered_reply, status_reply, status_of, triple, reply_of, what_of, dropped_of}
+use Rattle.book.specs.Reading.{named_of, gone, back, filled, fill_of, fault_of, answered_of, do_of, of_one, of_two}
+use Rattle.book.specs.Reading.{of_three, plain_of, entry_of, entry_of_words, IsSmall, IsReply, IsWhat, IsEntry}
 use Rattle.book.proofs.Words.{lacks, AllLack, words_of_join, before_dot, after_dot, dot_there, dot_within}
 
 -- ---- numbers
@@ -41,7 +48,8 @@ plain_by t some short (inl above) = grind (arith, nat_tests)
 plain_by t some short (inr one) = grind (arith, nat_tests)
 
 plain_decimal : (n : ℕ) → n < 2 ^ 32 → is_plain (decimal n) ≡ true
-plain_decimal n h = plain_by (decimal n) (decimal_nonempty n (omega arith)) (length-decimal-le 10 n (omega arith) (omega arith) (omega arith))
+plain_decimal n h = plain_by (decimal n) (decimal_nonempty n (omega arith))
+    (length-decimal-le 10 n (omega arith) (omega arith) (omega arith))
     (by_zero (eqb n 0) refl)
   where
     by_zero : (z : Bool) → eqb n 0 ≡ z → (48 < get_or (decimal n) 0 0) ⊎ (length (decimal n) ≡ 1)
@@ -49,14 +57,16 @@ plain_decimal n h = plain_by (decimal n) (decimal_nonempty n (omega arith)) (len
         inr (ap (λ (m : ℕ). length (decimal m)) none ∙ ap length (decimal_digit 0 (omega arith)))
     by_zero false e = let some : 0 < n = grind (arith, nat_tests) in inl (first_decimal n some (omega arith))
 
-number_is : (t : List ℕ) (n : ℕ) → is_plain t ≡ true → list_all is_ascii_digit t ≡ true → digits_value 10 t ≡ n → n < 2 ^ 32 → number_of t ≡ Some n
+number_is : (t : List ℕ) (n : ℕ) → is_plain t ≡ true → list_all is_ascii_digit t ≡ true → digits_value 10 t ≡ n
+    → n < 2 ^ 32 → number_of t ≡ Some n
 unfolding number_of
 number_is t n plain digits value small =
     let below : nat_lt (digits_value 10 t) (2 ^ 32) ≡ true = rw value (grind (arith, nat_tests)) in
     rw (plain, digits, below) (ap (λ m. Some m) value)
 
 number_again : (n : ℕ) → n < 2 ^ 32 → number_of (decimal n) ≡ Some n
-number_again n h = number_is (decimal n) n (plain_decimal n h) (digits_decimal own n (omega arith)) (digits_value-decimal own n (omega arith)) h
+number_again n h = number_is (decimal n) n (plain_decimal n h) (digits_decimal own n (omega arith))
+    (digits_value-decimal own n (omega arith)) h
 
 number_parts : (t : List ℕ) → is_number t ≡ true → decimal (digits_value 10 t) ≡ t
 number_parts t h =
@@ -72,11 +82,13 @@ unfolding number_of
 number_only t n h = by_test (is_number t) refl h
   where
     by_test : (z : Bool) → is_number t ≡ z → cond z (Some (digits_value 10 t)) None ≡ Some n → decimal n ≡ t
-    by_test true e is = let same : digits_value 10 t ≡ n = cc in subst (λ (m : ℕ). decimal m ≡ t) same (number_parts t e)
+    by_test true e is = let same : digits_value 10 t ≡ n =
+        cc in subst (λ (m : ℕ). decimal m ≡ t) same (number_parts t e)
     by_test false e is = absurd (let no : None ≡ Some n = is in cc)
 
 -- a text has only digits, so no space and no dot
-digits_lack : (p : ℕ → Bool) → ((b : ℕ) → is_ascii_digit b ≡ true → p b ≡ false) → (t : List ℕ) → list_all is_ascii_digit t ≡ true → lacks p t ≡ true
+digits_lack : (p : ℕ → Bool) → ((b : ℕ) → is_ascii_digit b ≡ true → p b ≡ false) → (t : List ℕ)
+    → list_all is_ascii_digit t ≡ true → lacks p t ≡ true
 digits_lack p h [] all = refl
 digits_lack p h (b ∷ bs) all =
     let here : p b ≡ false = h b (grind (arith, nat_tests)) in
@@ -122,7 +134,8 @@ optional_again (Some n) h = by_test (bytes_eq (decimal n) (codes "-")) refl
     by_test false e = ap (option_map (λ m. Some m)) (number_again n h)
 
 -- what holds of what a test chooses
-same : {A : Type 0} (w v : List ℕ) (x y : Option A) (P : Option A → Type 0) → (w ≡ v → P x) → P y → P (cond (bytes_eq w v) x y)
+same : {A : Type 0} (w v : List ℕ) (x y : Option A) (P : Option A → Type 0) → (w ≡ v → P x) → P y
+    → P (cond (bytes_eq w v) x y)
 same w v x y P h g = by_test (bytes_eq w v) refl
   where
     by_test : (z : Bool) → bytes_eq w v ≡ z → P (cond z x y)
@@ -137,15 +150,18 @@ from_each (Some a) Q h = h a refl
 of_value : {A : Type 0} (o : Option A) (Q : A → Type 0) (a : A) → IfSome o Q → o ≡ Some a → Q a
 of_value o Q a h e = let P : Option _ → Type 0 = λ x. IfSome x Q in subst P e h
 
-mapped : {A B : Type 0} (o : Option A) (f : A → B) (Q : B → Type 0) → IfSome o (λ a. Q (f a)) → IfSome (option_map f o) Q
+mapped : {A B : Type 0} (o : Option A) (f : A → B) (Q : B → Type 0) → IfSome o (λ a. Q (f a))
+    → IfSome (option_map f o) Q
 mapped None f Q h = tt
 mapped (Some a) f Q h = h
 
-chained : {A B : Type 0} (o : Option A) (f : A → Option B) (Q : B → Type 0) → IfSome o (λ a. IfSome (f a) Q) → IfSome (option_and_then f o) Q
+chained : {A B : Type 0} (o : Option A) (f : A → Option B) (Q : B → Type 0) → IfSome o (λ a. IfSome (f a) Q)
+    → IfSome (option_and_then f o) Q
 chained None f Q h = tt
 chained (Some a) f Q h = h
 
-both_each : {A B : Type 0} (a : Option A) (b : Option B) (Q : A × B → Type 0) → ((x : A) (y : B) → a ≡ Some x → b ≡ Some y → Q (x, y))
+both_each : {A B : Type 0} (a : Option A) (b : Option B) (Q : A × B → Type 0)
+    → ((x : A) (y : B) → a ≡ Some x → b ≡ Some y → Q (x, y))
     → IfSome (both a b) Q
 both_each None b Q h = tt
 both_each (Some x) None Q h = tt
@@ -169,12 +185,14 @@ unfolding octal_digits
 octal_digits_all zero n = refl
 octal_digits_all (suc count) n =
     let digit : is_octal_digit (48 + n % 8) ≡ true = grind (arith, nat_tests) in
-    list_all-append is_octal_digit (octal_digits count (n / 8)) ((48 + n % 8) ∷ []) ∙ rw (octal_digits_all count (n / 8), digit) refl
+    list_all-append is_octal_digit (octal_digits count (n / 8)) ((48 + n % 8) ∷ [])
+    ∙ rw (octal_digits_all count (n / 8), digit) refl
 
 length-octal_digits : (count n : ℕ) → length (octal_digits count n) ≡ count
 unfolding octal_digits
 length-octal_digits zero n = refl
-length-octal_digits (suc count) n = length-append (octal_digits count (n / 8)) ((48 + n % 8) ∷ []) ∙ omega (arith, length-octal_digits count (n / 8))
+length-octal_digits (suc count) n = length-append (octal_digits count (n / 8)) ((48 + n % 8) ∷ [])
+    ∙ omega (arith, length-octal_digits count (n / 8))
 
 octal_number_digits : (count n : ℕ) → n < 8 ^ count → octal_number (octal_digits count n) ≡ n
 unfolding octal_digits octal_number
@@ -190,12 +208,14 @@ unfolding word_of octal_value is_octal
 word_again w h = rw (length-octal_digits 12 w, octal_digits_all 12 w, octal_number_digits 12 w h) refl
 
 -- octal digits are those of the number that they stand for
-digits_again : (count : ℕ) (t : List ℕ) → length t ≡ count → list_all is_octal_digit t ≡ true → octal_digits count (octal_number t) ≡ t
+digits_again : (count : ℕ) (t : List ℕ) → length t ≡ count → list_all is_octal_digit t ≡ true
+    → octal_digits count (octal_number t) ≡ t
 unfolding octal_digits
 digits_again zero [] len all = refl
 digits_again zero (b ∷ bs) len all = absurd (omega arith)
 digits_again (suc count) t len all =
-    let whole : take count t ++ get_or t count 0 ∷ [] ≡ t = sym (take-suc t count 0 (omega arith)) ∙ take_all (suc count) t (omega arith) in
+    let whole : take count t ++ get_or t count 0 ∷ [] ≡ t = sym (take-suc t count 0 (omega arith))
+    ∙ take_all (suc count) t (omega arith) in
     let tests : (list_all is_octal_digit (take count t) && is_octal_digit (get_or t count 0)) ≡ true =
     sym (list_all-push (take count t) (get_or t count 0)) ∙ ap (list_all is_octal_digit) whole ∙ all in
     let front : list_all is_octal_digit (take count t) ≡ true = grind (arith, nat_tests) in
@@ -207,16 +227,19 @@ digits_again (suc count) t len all =
     let upper : octal_number t / 8 ≡ octal_number (take count t) = omega arith in
     let lower : 48 + octal_number t % 8 ≡ get_or t count 0 = omega arith in
     let short : length (take count t) ≡ count = grind (arith, common_steps) in
-    rw (upper, lower) (ap (λ (x : List ℕ). x ++ get_or t count 0 ∷ []) (digits_again count (take count t) short front) ∙ whole)
+    rw (upper, lower) (ap (λ (x : List ℕ). x ++ get_or t count 0 ∷ []) (digits_again count (take count t) short front)
+    ∙ whole)
   where
-    list_all-push : (xs : List ℕ) (d : ℕ) → list_all is_octal_digit (xs ++ d ∷ []) ≡ (list_all is_octal_digit xs && is_octal_digit d)
+    list_all-push : (xs : List ℕ) (d : ℕ) → list_all is_octal_digit (xs ++ d ∷ [])
+        ≡ (list_all is_octal_digit xs && is_octal_digit d)
     list_all-push xs d = list_all-append is_octal_digit xs (d ∷ []) ∙ grind (arith, nat_tests)
 
 word_only : (t : List ℕ) (w : ℕ) → word_of t ≡ Some w → octal_digits 12 w ≡ t
 unfolding word_of octal_value is_octal
 word_only t w h = by_length (length t == 12) refl h
   where
-    by_digits : (z : Bool) → length t ≡ 12 → ((nat_le 1 (length t) && nat_le (length t) 12) && list_all is_octal_digit t) ≡ z
+    by_digits : (z : Bool) → length t ≡ 12 → ((nat_le 1 (length t) && nat_le (length t) 12)
+        && list_all is_octal_digit t) ≡ z
         → cond z (Some (octal_number t)) None ≡ Some w → octal_digits 12 w ≡ t
     by_digits true len e is =
         let number : octal_number t ≡ w = cc in
@@ -225,9 +248,11 @@ word_only t w h = by_length (length t == 12) refl h
     by_digits false len e is = absurd (let no : None ≡ Some w = is in cc)
 
     by_length : (z : Bool) → (length t == 12) ≡ z → cond z
-        (cond ((nat_le 1 (length t) && nat_le (length t) 12) && list_all is_octal_digit t) (Some (octal_number t)) None) None ≡ Some w
+        (cond ((nat_le 1 (length t) && nat_le (length t) 12) && list_all is_octal_digit t) (Some (octal_number t))
+        None) None ≡ Some w
         → octal_digits 12 w ≡ t
-    by_length true e is = by_digits ((nat_le 1 (length t) && nat_le (length t) 12) && list_all is_octal_digit t) (grind (arith, nat_tests)) refl is
+    by_length true e is = by_digits ((nat_le 1 (length t) && nat_le (length t) 12) && list_all is_octal_digit t)
+        (grind (arith, nat_tests)) refl is
     by_length false e is = absurd (let no : None ≡ Some w = is in cc)
 
 -- ---- replies
@@ -295,7 +320,8 @@ join_reply x (reply.Over u) = refl
 join_reply x (reply.SegIs u l s) = refl
 join_reply x (reply.DirIs u q n) = refl
 
-octal_lack : (p : ℕ → Bool) → ((b : ℕ) → is_octal_digit b ≡ true → p b ≡ false) → (t : List ℕ) → list_all is_octal_digit t ≡ true → lacks p t ≡ true
+octal_lack : (p : ℕ → Bool) → ((b : ℕ) → is_octal_digit b ≡ true → p b ≡ false) → (t : List ℕ)
+    → list_all is_octal_digit t ≡ true → lacks p t ≡ true
 octal_lack p h [] all = refl
 octal_lack p h (b ∷ bs) all =
     let here : p b ≡ false = h b (grind (arith, nat_tests)) in
@@ -325,7 +351,14 @@ reply_lacks reply.NotEmpty h = (refl, tt)
 reply_lacks reply.HasQuota h = (refl, tt)
 reply_lacks reply.Root h = (refl, tt)
 reply_lacks reply.TooLittle h = (refl, tt)
-reply_lacks (reply.Word w) h = (refl, (octal_lack is_space (λ b d. grind (arith, nat_tests)) (octal_digits 12 w) (octal_digits_all 12 w), tt))
+reply_lacks (reply.Word w) h = (
+  refl,
+  (
+    octal_lack is_space (λ b d. grind (arith, nat_tests)) (octal_digits 12 w)
+        (octal_digits_all 12 w),
+    tt,
+  ),
+)
 reply_lacks (reply.Made u) h = (refl, (spaceless u h, tt))
 reply_lacks (reply.Known n) h = (refl, (spaceless n h, tt))
 reply_lacks (reply.Over u) h = (refl, (spaceless u h, tt))
@@ -365,40 +398,57 @@ reply_again (reply.SegIs u l s) h = rw (number_again u h.0, number_again l h.1, 
 reply_again (reply.DirIs u q n) h = rw (number_again u h.0, number_again q h.1, number_again n h.2) refl
 
 page_only : (w : List ℕ) → IfSome (page_reply w) (λ r. reply_words r ≡ w ∷ [])
-page_only w = same w (codes "unknown") _ _ (λ o. IfSome o (λ r. reply_words r ≡ w ∷ [])) (λ e. ap (λ (x : List ℕ). x ∷ []) (sym e))
+page_only w = same w (codes "unknown") _ _ (λ o. IfSome o (λ r. reply_words r ≡ w ∷ []))
+    (λ e. ap (λ (x : List ℕ). x ∷ []) (sym e))
     (same w (codes "gone") _ _ (λ o. IfSome o (λ r. reply_words r ≡ w ∷ [])) (λ e. ap (λ (x : List ℕ). x ∷ []) (sym e))
-    (same w (codes "noaccess") _ _ (λ o. IfSome o (λ r. reply_words r ≡ w ∷ [])) (λ e. ap (λ (x : List ℕ). x ∷ []) (sym e))
-    (same w (codes "length") _ _ (λ o. IfSome o (λ r. reply_words r ≡ w ∷ [])) (λ e. ap (λ (x : List ℕ). x ∷ []) (sym e))
+    (same w (codes "noaccess") _ _ (λ o. IfSome o (λ r. reply_words r ≡ w ∷ []))
+    (λ e. ap (λ (x : List ℕ). x ∷ []) (sym e))
+    (same w (codes "length") _ _ (λ o. IfSome o (λ r. reply_words r ≡ w ∷ []))
+    (λ e. ap (λ (x : List ℕ). x ∷ []) (sym e))
     (same w (codes "quota") _ _ (λ o. IfSome o (λ r. reply_words r ≡ w ∷ [])) (λ e. ap (λ (x : List ℕ). x ∷ []) (sym e))
-    (same w (codes "norecord") _ _ (λ o. IfSome o (λ r. reply_words r ≡ w ∷ [])) (λ e. ap (λ (x : List ℕ). x ∷ []) (sym e))
-    (same w (codes "device") _ _ (λ o. IfSome o (λ r. reply_words r ≡ w ∷ [])) (λ e. ap (λ (x : List ℕ). x ∷ []) (sym e))
-    (same w (codes "done") _ _ (λ o. IfSome o (λ r. reply_words r ≡ w ∷ [])) (λ e. ap (λ (x : List ℕ). x ∷ []) (sym e)) (tt))))))))
+    (same w (codes "norecord") _ _ (λ o. IfSome o (λ r. reply_words r ≡ w ∷ []))
+    (λ e. ap (λ (x : List ℕ). x ∷ []) (sym e))
+    (same w (codes "device") _ _ (λ o. IfSome o (λ r. reply_words r ≡ w ∷ []))
+    (λ e. ap (λ (x : List ℕ). x ∷ []) (sym e))
+    (same w (codes "done") _ _ (λ o. IfSome o (λ r. reply_words r ≡ w ∷ [])) (λ e. ap (λ (x : List ℕ). x ∷ []) (sym e))
+    (tt))))))))
 
 path_only : (w : List ℕ) → IfSome (path_reply w) (λ r. reply_words r ≡ w ∷ [])
-path_only w = same w (codes "nopath") _ _ (λ o. IfSome o (λ r. reply_words r ≡ w ∷ [])) (λ e. ap (λ (x : List ℕ). x ∷ []) (sym e))
-    (same w (codes "notdir") _ _ (λ o. IfSome o (λ r. reply_words r ≡ w ∷ [])) (λ e. ap (λ (x : List ℕ). x ∷ []) (sym e))
+path_only w = same w (codes "nopath") _ _ (λ o. IfSome o (λ r. reply_words r ≡ w ∷ []))
+    (λ e. ap (λ (x : List ℕ). x ∷ []) (sym e))
+    (same w (codes "notdir") _ _ (λ o. IfSome o (λ r. reply_words r ≡ w ∷ []))
+    (λ e. ap (λ (x : List ℕ). x ∷ []) (sym e))
     (same w (codes "isdir") _ _ (λ o. IfSome o (λ r. reply_words r ≡ w ∷ [])) (λ e. ap (λ (x : List ℕ). x ∷ []) (sym e))
     (same w (codes "isseg") _ _ (λ o. IfSome o (λ r. reply_words r ≡ w ∷ [])) (λ e. ap (λ (x : List ℕ). x ∷ []) (sym e))
-    (same w (codes "exists") _ _ (λ o. IfSome o (λ r. reply_words r ≡ w ∷ [])) (λ e. ap (λ (x : List ℕ). x ∷ []) (sym e))
+    (same w (codes "exists") _ _ (λ o. IfSome o (λ r. reply_words r ≡ w ∷ []))
+    (λ e. ap (λ (x : List ℕ). x ∷ []) (sym e))
     (same w (codes "deep") _ _ (λ o. IfSome o (λ r. reply_words r ≡ w ∷ [])) (λ e. ap (λ (x : List ℕ). x ∷ []) (sym e))
     (same w (codes "room") _ _ (λ o. IfSome o (λ r. reply_words r ≡ w ∷ [])) (λ e. ap (λ (x : List ℕ). x ∷ []) (sym e))
-    (same w (codes "noentry") _ _ (λ o. IfSome o (λ r. reply_words r ≡ w ∷ [])) (λ e. ap (λ (x : List ℕ). x ∷ []) (sym e)) (tt))))))))
+    (same w (codes "noentry") _ _ (λ o. IfSome o (λ r. reply_words r ≡ w ∷ []))
+    (λ e. ap (λ (x : List ℕ). x ∷ []) (sym e)) (tt))))))))
 
 change_only : (w : List ℕ) → IfSome (change_reply w) (λ r. reply_words r ≡ w ∷ [])
-change_only w = same w (codes "full") _ _ (λ o. IfSome o (λ r. reply_words r ≡ w ∷ [])) (λ e. ap (λ (x : List ℕ). x ∷ []) (sym e))
-    (same w (codes "aclfull") _ _ (λ o. IfSome o (λ r. reply_words r ≡ w ∷ [])) (λ e. ap (λ (x : List ℕ). x ∷ []) (sym e))
-    (same w (codes "beyond") _ _ (λ o. IfSome o (λ r. reply_words r ≡ w ∷ [])) (λ e. ap (λ (x : List ℕ). x ∷ []) (sym e))
-    (same w (codes "notempty") _ _ (λ o. IfSome o (λ r. reply_words r ≡ w ∷ [])) (λ e. ap (λ (x : List ℕ). x ∷ []) (sym e))
-    (same w (codes "hasquota") _ _ (λ o. IfSome o (λ r. reply_words r ≡ w ∷ [])) (λ e. ap (λ (x : List ℕ). x ∷ []) (sym e))
+change_only w = same w (codes "full") _ _ (λ o. IfSome o (λ r. reply_words r ≡ w ∷ []))
+    (λ e. ap (λ (x : List ℕ). x ∷ []) (sym e))
+    (same w (codes "aclfull") _ _ (λ o. IfSome o (λ r. reply_words r ≡ w ∷ []))
+    (λ e. ap (λ (x : List ℕ). x ∷ []) (sym e))
+    (same w (codes "beyond") _ _ (λ o. IfSome o (λ r. reply_words r ≡ w ∷ []))
+    (λ e. ap (λ (x : List ℕ). x ∷ []) (sym e))
+    (same w (codes "notempty") _ _ (λ o. IfSome o (λ r. reply_words r ≡ w ∷ []))
+    (λ e. ap (λ (x : List ℕ). x ∷ []) (sym e))
+    (same w (codes "hasquota") _ _ (λ o. IfSome o (λ r. reply_words r ≡ w ∷ []))
+    (λ e. ap (λ (x : List ℕ). x ∷ []) (sym e))
     (same w (codes "root") _ _ (λ o. IfSome o (λ r. reply_words r ≡ w ∷ [])) (λ e. ap (λ (x : List ℕ). x ∷ []) (sym e))
-    (same w (codes "toolittle") _ _ (λ o. IfSome o (λ r. reply_words r ≡ w ∷ [])) (λ e. ap (λ (x : List ℕ). x ∷ []) (sym e)) (tt)))))))
+    (same w (codes "toolittle") _ _ (λ o. IfSome o (λ r. reply_words r ≡ w ∷ []))
+    (λ e. ap (λ (x : List ℕ). x ∷ []) (sym e)) (tt)))))))
 
 first_only : {A : Type 0} (x y : Option A) (Q : A → Type 0) → IfSome x Q → IfSome y Q → IfSome (first_there x y) Q
 first_only None y Q h g = g
 first_only (Some a) y Q h g = h
 
 bare_only : (w : List ℕ) → IfSome (bare_reply w) (λ r. reply_words r ≡ w ∷ [])
-bare_only w = first_only (page_reply w) (first_there (path_reply w) (change_reply w)) (λ r. reply_words r ≡ w ∷ []) (page_only w)
+bare_only w = first_only (page_reply w) (first_there (path_reply w) (change_reply w)) (λ r. reply_words r ≡ w ∷ [])
+    (page_only w)
     (first_only (path_reply w) (change_reply w) (λ r. reply_words r ≡ w ∷ []) (path_only w) (change_only w))
 
 two : {A : Type 0} {a b c d : A} → a ≡ b → c ≡ d → a ∷ c ∷ [] ≡ b ∷ d ∷ []
@@ -415,7 +465,8 @@ six p₁ p₂ p₃ p₄ p₅ p₆ = cc
 
 status_only : (w x y a b c : List ℕ) (u n m : ℕ) → decimal u ≡ a → decimal n ≡ b → decimal m ≡ c
     → IfSome (status_reply w x y u (n, m)) (λ r. reply_words r ≡ w ∷ a ∷ x ∷ b ∷ y ∷ c ∷ [])
-status_only w x y a b c u n m e f g = by_seg (bytes_eq w (codes "seg") && (bytes_eq x (codes "length") && bytes_eq y (codes "stored"))) refl
+status_only w x y a b c u n m e f g = by_seg (bytes_eq w (codes "seg")
+    && (bytes_eq x (codes "length") && bytes_eq y (codes "stored"))) refl
   where
     by_dir : (z : Bool) → (bytes_eq w (codes "dir") && (bytes_eq x (codes "quota") && bytes_eq y (codes "used"))) ≡ z
         → IfSome (cond z (Some (reply.DirIs u n m)) None) (λ r. reply_words r ≡ w ∷ a ∷ x ∷ b ∷ y ∷ c ∷ [])
@@ -427,7 +478,8 @@ status_only w x y a b c u n m e f g = by_seg (bytes_eq w (codes "seg") && (bytes
     by_dir false h = tt
 
     by_seg : (z : Bool) → (bytes_eq w (codes "seg") && (bytes_eq x (codes "length") && bytes_eq y (codes "stored"))) ≡ z
-        → IfSome (cond z (Some (reply.SegIs u n m)) (cond (bytes_eq w (codes "dir") && (bytes_eq x (codes "quota") && bytes_eq y (codes "used")))
+        → IfSome (cond z (Some (reply.SegIs u n m)) (cond
+        (bytes_eq w (codes "dir") && (bytes_eq x (codes "quota") && bytes_eq y (codes "used")))
         (Some (reply.DirIs u n m)) None)) (λ r. reply_words r ≡ w ∷ a ∷ x ∷ b ∷ y ∷ c ∷ [])
     by_seg true h =
         let w_is : w ≡ codes "seg" = is_word w (codes "seg") (grind (arith, nat_tests)) in
@@ -439,7 +491,8 @@ status_only w x y a b c u n m e f g = by_seg (bytes_eq w (codes "seg") && (bytes
 status_of_only : (w a x b y c : List ℕ) → IfSome (status_of w x y (triple (number_of a) (number_of b) (number_of c)))
     (λ r. reply_words r ≡ w ∷ a ∷ x ∷ b ∷ y ∷ c ∷ [])
 status_of_only w a x b y c = by_numbers (triple (number_of a) (number_of b) (number_of c))
-    (triple_each (number_of a) (number_of b) (number_of c) (λ t. (decimal t.0 ≡ a) × (decimal t.1 ≡ b) × (decimal t.2 ≡ c))
+    (triple_each (number_of a) (number_of b) (number_of c)
+    (λ t. (decimal t.0 ≡ a) × (decimal t.1 ≡ b) × (decimal t.2 ≡ c))
     (λ u n m e f g. (number_only a u e, number_only b n f, number_only c m g)))
   where
     by_numbers : (o : Option (ℕ × ℕ × ℕ)) → IfSome o (λ t. (decimal t.0 ≡ a) × (decimal t.1 ≡ b) × (decimal t.2 ≡ c))
@@ -448,7 +501,8 @@ status_of_only w a x b y c = by_numbers (triple (number_of a) (number_of b) (num
     by_numbers (Some t) h = status_only w x y a b c t.0 t.1 t.2 h.0 h.1 h.2
 
 pair_only : (w a : List ℕ) → IfSome
-    (cond (bytes_eq w (codes "word")) (option_map (λ n. reply.Word n) (word_of a)) (option_and_then (numbered_reply w) (number_of a)))
+    (cond (bytes_eq w (codes "word")) (option_map (λ n. reply.Word n) (word_of a))
+    (option_and_then (numbered_reply w) (number_of a)))
     (λ r. reply_words r ≡ w ∷ a ∷ [])
 pair_only w a = same w (codes "word") _ _ (λ o. IfSome o (λ r. reply_words r ≡ w ∷ a ∷ []))
     (λ e. mapped (word_of a) (λ n. reply.Word n) (λ r. reply_words r ≡ w ∷ a ∷ [])
@@ -476,7 +530,8 @@ what_words (what.Page f) = codes "page" ∷ decimal f ∷ []
 what_words (what.Seg u) = codes "seg" ∷ decimal u ∷ []
 
 abbrev entry_words : Entry → List (List ℕ)
-entry_words (entry.Do k i c f r) = codes "do" ∷ (decimal k ++ (46 ∷ decimal i)) ∷ decimal c ∷ number_text f ∷ reply_words r
+entry_words (entry.Do k i c f r) = codes "do" ∷ (decimal k ++ (46 ∷ decimal i)) ∷ decimal c ∷ number_text f
+    ∷ reply_words r
 entry_words (entry.Release u p) = codes "release" ∷ decimal u ∷ decimal p ∷ []
 entry_words (entry.Fault k) = codes "fault" ∷ number_text k ∷ []
 entry_words (entry.Online c) = codes "online" ∷ decimal c ∷ []
@@ -511,7 +566,8 @@ unfolding entry_text
 entry_text_is (entry.Do k i c f r) =
     ap (λ (t : List ℕ). codes "do " ++ t) (sym
     (append_assoc (decimal k) (46 ∷ decimal i) (32 ∷ (decimal c ++ (32 ∷ (number_text f ++ (32 ∷ reply_text r)))))))
-    ∙ ap (λ (t : List ℕ). codes "do " ++ ((decimal k ++ (46 ∷ decimal i)) ++ (32 ∷ (decimal c ++ (32 ∷ t))))) (sym (join_reply (number_text f) r))
+    ∙ ap (λ (t : List ℕ). codes "do " ++ ((decimal k ++ (46 ∷ decimal i)) ++ (32 ∷ (decimal c ++ (32 ∷ t)))))
+    (sym (join_reply (number_text f) r))
 entry_text_is (entry.Signal c w) = ap (λ (t : List ℕ). codes "signal " ++ t) (sym (join_what (decimal c) w))
 entry_text_is (entry.Clear c w) = ap (λ (t : List ℕ). codes "clear " ++ t) (sym (join_what (decimal c) w))
 entry_text_is (entry.Release u p) = refl
@@ -579,7 +635,12 @@ what_again (what.Seg u) h = rw (number_again u h) refl
 -- the words of an entry are read as the entry
 entry_again : (e : Entry) → IsEntry e → entry_of_words (entry_words e) ≡ Some e
 unfolding entry_of
-entry_again (entry.Do k i c f r) h = rw (dotted_again k i h.0 h.1, number_again c h.2, optional_again f h.3, reply_again r h.4) refl
+entry_again (entry.Do k i c f r) h = rw (
+  dotted_again k i h.0 h.1,
+  number_again c h.2,
+  optional_again f h.3,
+  reply_again r h.4,
+) refl
 entry_again (entry.Signal c w) h = rw (number_again c h.0, what_again w h.1) refl
 entry_again (entry.Clear c w) h = rw (number_again c h.0, what_again w h.1) refl
 entry_again (entry.Fault k) h = rw (optional_again k h) refl
@@ -623,7 +684,8 @@ one_only w a n f = same w (codes "online") _ _ (λ o. IfSome o (λ x. entry_word
     (λ e. two (sym e) f)
     (tt))))))
 
-two_only : (w a b : List ℕ) (n m : ℕ) → decimal n ≡ a → decimal m ≡ b → IfSome (of_two w (n, m)) (λ x. entry_words x ≡ w ∷ a ∷ b ∷ [])
+two_only : (w a b : List ℕ) (n m : ℕ) → decimal n ≡ a → decimal m ≡ b
+    → IfSome (of_two w (n, m)) (λ x. entry_words x ≡ w ∷ a ∷ b ∷ [])
 two_only w a b n m f g = same w (codes "load") _ _ (λ o. IfSome o (λ x. entry_words x ≡ w ∷ a ∷ b ∷ []))
     (λ e. three (sym e) f g)
     (same w (codes "release") _ _ (λ o. IfSome o (λ x. entry_words x ≡ w ∷ a ∷ b ∷ []))
@@ -645,21 +707,24 @@ three_only w a b c n m l f g h = same w (codes "in") _ _ (λ o. IfSome o (λ x. 
 plain_only : (w : List ℕ) (fields : List (List ℕ)) → IfSome (plain_of w fields) (λ x. entry_words x ≡ w ∷ fields)
 plain_only w [] = tt
 plain_only w (a ∷ []) = chained (number_of a) (of_one w) (λ x. entry_words x ≡ w ∷ a ∷ [])
-    (from_each (number_of a) (λ n. IfSome (of_one w n) (λ x. entry_words x ≡ w ∷ a ∷ [])) (λ n f. one_only w a n (number_only a n f)))
+    (from_each (number_of a) (λ n. IfSome (of_one w n) (λ x. entry_words x ≡ w ∷ a ∷ []))
+    (λ n f. one_only w a n (number_only a n f)))
 plain_only w (a ∷ b ∷ []) =
     chained (both (number_of a) (number_of b)) (of_two w) (λ x. entry_words x ≡ w ∷ a ∷ b ∷ [])
     (both_each (number_of a) (number_of b) (λ x. IfSome (of_two w x) (λ x. entry_words x ≡ w ∷ a ∷ b ∷ []))
     (λ n m f g. two_only w a b n m (number_only a n f) (number_only b m g)))
 plain_only w (a ∷ b ∷ c ∷ []) =
     chained (triple (number_of a) (number_of b) (number_of c)) (of_three w) (λ x. entry_words x ≡ w ∷ a ∷ b ∷ c ∷ [])
-    (triple_each (number_of a) (number_of b) (number_of c) (λ x. IfSome (of_three w x) (λ x. entry_words x ≡ w ∷ a ∷ b ∷ c ∷ []))
+    (triple_each (number_of a) (number_of b) (number_of c)
+    (λ x. IfSome (of_three w x) (λ x. entry_words x ≡ w ∷ a ∷ b ∷ c ∷ []))
     (λ n m l f g h. three_only w a b c n m l (number_only a n f) (number_only b m g) (number_only c l h)))
 plain_only w (a ∷ b ∷ c ∷ d ∷ fields) = tt
 
 optional_only : (t : List ℕ) → IfSome (number_or_none t) (λ f. number_text f ≡ t)
 unfolding number_text
 optional_only t = same t (codes "-") _ _ (λ o. IfSome o (λ f. number_text f ≡ t)) (λ e. sym e)
-    (mapped (number_of t) (λ n. Some n) (λ f. number_text f ≡ t) (from_each (number_of t) (λ n. decimal n ≡ t) (λ n f. number_only t n f)))
+    (mapped (number_of t) (λ n. Some n) (λ f. number_text f ≡ t)
+    (from_each (number_of t) (λ n. decimal n ≡ t) (λ n f. number_only t n f)))
 
 fault_only : (fields : List (List ℕ)) → IfSome (fault_of fields) (λ x. entry_words x ≡ codes "fault" ∷ fields)
 fault_only [] = tt
@@ -670,10 +735,12 @@ fault_only (a ∷ b ∷ fields) = tt
 
 what_only : (fields : List (List ℕ)) → IfSome (what_of fields) (λ w. what_words w ≡ fields)
 what_only [] = tt
-what_only (a ∷ []) = same a (codes "all") _ _ (λ o. IfSome o (λ w. what_words w ≡ a ∷ [])) (λ e. ap (λ (x : List ℕ). x ∷ []) (sym e)) tt
+what_only (a ∷ []) = same a (codes "all") _ _ (λ o. IfSome o (λ w. what_words w ≡ a ∷ []))
+    (λ e. ap (λ (x : List ℕ). x ∷ []) (sym e)) tt
 what_only (a ∷ b ∷ []) = same a (codes "page") _ _ (λ o. IfSome o (λ w. what_words w ≡ a ∷ b ∷ []))
     (λ e. mapped (number_of b) (λ n. what.Page n) (λ w. what_words w ≡ a ∷ b ∷ [])
-    (from_each (number_of b) (λ n. codes "page" ∷ decimal n ∷ [] ≡ a ∷ b ∷ []) (λ n f. two (sym e) (number_only b n f))))
+    (from_each (number_of b) (λ n. codes "page" ∷ decimal n ∷ [] ≡ a ∷ b ∷ [])
+    (λ n f. two (sym e) (number_only b n f))))
     (same a (codes "seg") _ _ (λ o. IfSome o (λ w. what_words w ≡ a ∷ b ∷ []))
     (λ e. mapped (number_of b) (λ n. what.Seg n) (λ w. what_words w ≡ a ∷ b ∷ [])
     (from_each (number_of b) (λ n. codes "seg" ∷ decimal n ∷ [] ≡ a ∷ b ∷ []) (λ n f. two (sym e) (number_only b n f))))
@@ -683,7 +750,8 @@ what_only (a ∷ b ∷ c ∷ fields) = tt
 dropped_only : (fields : List (List ℕ)) → IfSome (dropped_of fields) (λ x. decimal x.0 ∷ what_words x.1 ≡ fields)
 dropped_only [] = tt
 dropped_only (c ∷ fields) = both_each (number_of c) (what_of fields) (λ x. decimal x.0 ∷ what_words x.1 ≡ c ∷ fields)
-    (λ n w f g. cons (number_only c n f) (of_value (what_of fields) (λ v. what_words v ≡ fields) w (what_only fields) g))
+    (λ n w f g. cons (number_only c n f) (of_value (what_of fields) (λ v. what_words v ≡ fields) w (what_only fields)
+    g))
   where
     cons : {x y : List ℕ} {xs ys : List (List ℕ)} → x ≡ y → xs ≡ ys → x ∷ xs ≡ y ∷ ys
     cons p q = cc
@@ -697,7 +765,8 @@ named_only [] = tt
 named_only (a ∷ []) = tt
 named_only (a ∷ b ∷ []) = same a (codes "page") _ _ (λ o. IfSome o (λ x. named_words x ≡ a ∷ b ∷ []))
     (λ e. mapped (number_of b) (λ n. named.Page n) (λ x. named_words x ≡ a ∷ b ∷ [])
-    (from_each (number_of b) (λ n. codes "page" ∷ decimal n ∷ [] ≡ a ∷ b ∷ []) (λ n f. two (sym e) (number_only b n f))))
+    (from_each (number_of b) (λ n. codes "page" ∷ decimal n ∷ [] ≡ a ∷ b ∷ [])
+    (λ n f. two (sym e) (number_only b n f))))
     tt
 named_only (a ∷ b ∷ c ∷ []) = same a (codes "seg") _ _ (λ o. IfSome o (λ x. named_words x ≡ a ∷ b ∷ c ∷ []))
     (λ e. mapped (both (number_of b) (number_of c)) (λ x. named.Seg x.0 x.1) (λ x. named_words x ≡ a ∷ b ∷ c ∷ [])
@@ -716,7 +785,8 @@ back_words (named.Seg k n) = refl
 
 filled_only : (a b c : List ℕ) (n m : ℕ) → decimal n ≡ a → decimal m ≡ c
     → IfSome (filled b (n, m)) (λ x. entry_words x ≡ codes "fill" ∷ a ∷ b ∷ c ∷ [])
-filled_only a b c n m f g = same b (codes "seg") _ _ (λ o. IfSome o (λ x. entry_words x ≡ codes "fill" ∷ a ∷ b ∷ c ∷ []))
+filled_only a b c n m f g = same b (codes "seg") _ _ (λ o. IfSome o
+    (λ x. entry_words x ≡ codes "fill" ∷ a ∷ b ∷ c ∷ []))
     (λ e. four refl f (sym e) g)
     (same b (codes "page") _ _ (λ o. IfSome o (λ x. entry_words x ≡ codes "fill" ∷ a ∷ b ∷ c ∷ []))
     (λ e. four refl f (sym e) g)
@@ -726,38 +796,46 @@ fill_only : (fields : List (List ℕ)) → IfSome (fill_of fields) (λ x. entry_
 fill_only [] = tt
 fill_only (a ∷ []) = tt
 fill_only (a ∷ b ∷ []) = tt
-fill_only (a ∷ b ∷ c ∷ []) = chained (both (number_of a) (number_of c)) (filled b) (λ x. entry_words x ≡ codes "fill" ∷ a ∷ b ∷ c ∷ [])
-    (both_each (number_of a) (number_of c) (λ x. IfSome (filled b x) (λ y. entry_words y ≡ codes "fill" ∷ a ∷ b ∷ c ∷ []))
+fill_only (a ∷ b ∷ c ∷ []) = chained (both (number_of a) (number_of c)) (filled b)
+    (λ x. entry_words x ≡ codes "fill" ∷ a ∷ b ∷ c ∷ [])
+    (both_each (number_of a) (number_of c) (λ x. IfSome (filled b x)
+    (λ y. entry_words y ≡ codes "fill" ∷ a ∷ b ∷ c ∷ []))
     (λ n m f g. filled_only a b c n m (number_only a n f) (number_only c m g)))
 fill_only (a ∷ b ∷ c ∷ d ∷ fields) = tt
 
 -- a text with a dot between two numbers
 dotted_only : (t : List ℕ) (k i : ℕ) → dotted_of t ≡ Some (k, i) → decimal k ++ (46 ∷ decimal i) ≡ t
 dotted_only t k i h = of_value (dotted_of t) (λ x. decimal x.0 ++ (46 ∷ decimal x.1) ≡ t) (k, i)
-    (both_each (number_of (before_first is_dot t)) (number_of (after_first is_dot t)) (λ x. decimal x.0 ++ (46 ∷ decimal x.1) ≡ t)
+    (both_each (number_of (before_first is_dot t)) (number_of (after_first is_dot t))
+    (λ x. decimal x.0 ++ (46 ∷ decimal x.1) ≡ t)
     (λ n m f g. around n m f g (dot_within t m g))) h
   where
-    around : (n m : ℕ) → number_of (before_first is_dot t) ≡ Some n → number_of (after_first is_dot t) ≡ Some m → position_or_len is_dot t < length t
+    around : (n m : ℕ) → number_of (before_first is_dot t) ≡ Some n → number_of (after_first is_dot t) ≡ Some m
+        → position_or_len is_dot t < length t
         → decimal n ++ (46 ∷ decimal m) ≡ t
     around n m f g lt =
         let dot : get_or t (position_or_len is_dot t) 0 ≡ 46 = dot_there t lt in
         let front : decimal n ≡ before_first is_dot t = number_only (before_first is_dot t) n f in
         let behind : decimal m ≡ after_first is_dot t = number_only (after_first is_dot t) m g in
-        rw (front, behind) (ap (λ (b : ℕ). before_first is_dot t ++ (b ∷ after_first is_dot t)) (sym dot) ∙ sym (split_at_first is_dot t 0 lt))
+        rw (front, behind) (ap (λ (b : ℕ). before_first is_dot t ++ (b ∷ after_first is_dot t)) (sym dot)
+        ∙ sym (split_at_first is_dot t 0 lt))
 
 do_only : (fields : List (List ℕ)) → IfSome (do_of fields) (λ x. entry_words x ≡ codes "do" ∷ fields)
 do_only [] = tt
 do_only (a ∷ []) = tt
 do_only (a ∷ b ∷ []) = tt
-do_only (a ∷ b ∷ c ∷ fields) = by_parts (both (dotted_of a) (both (number_of b) (number_or_none c))) (reply_of fields) parts (reply_only fields)
+do_only (a ∷ b ∷ c ∷ fields) = by_parts (both (dotted_of a) (both (number_of b) (number_or_none c))) (reply_of fields)
+    parts (reply_only fields)
   where
     parts : IfSome (both (dotted_of a) (both (number_of b) (number_or_none c)))
         (λ x. (decimal x.0.0 ++ (46 ∷ decimal x.0.1) ≡ a) × (decimal x.1.0 ≡ b) × (number_text x.1.1 ≡ c))
     parts = both_each (dotted_of a) (both (number_of b) (number_or_none c))
         (λ x. (decimal x.0.0 ++ (46 ∷ decimal x.0.1) ≡ a) × (decimal x.1.0 ≡ b) × (number_text x.1.1 ≡ c))
-        (λ x y f g. let rest = of_value (both (number_of b) (number_or_none c)) (λ z. (decimal z.0 ≡ b) × (number_text z.1 ≡ c)) y
+        (λ x y f g. let rest = of_value (both (number_of b) (number_or_none c))
+        (λ z. (decimal z.0 ≡ b) × (number_text z.1 ≡ c)) y
         (both_each (number_of b) (number_or_none c) (λ z. (decimal z.0 ≡ b) × (number_text z.1 ≡ c))
-        (λ n m e d. (number_only b n e, of_value (number_or_none c) (λ q. number_text q ≡ c) m (optional_only c) d))) g in
+        (λ n m e d. (number_only b n e, of_value (number_or_none c) (λ q. number_text q ≡ c) m (optional_only c) d))) g
+        in
         (dotted_only a x.0 x.1 f, rest.0, rest.1))
 
     cons : {w x y : List ℕ} {p q r : List ℕ} {xs ys : List (List ℕ)} → w ≡ p → x ≡ q → y ≡ r → xs ≡ ys
@@ -766,7 +844,8 @@ do_only (a ∷ b ∷ c ∷ fields) = by_parts (both (dotted_of a) (both (number_
 
     by_parts : (o : Option ((ℕ × ℕ) × (ℕ × Option ℕ))) (r : Option Reply)
         → IfSome o (λ x. (decimal x.0.0 ++ (46 ∷ decimal x.0.1) ≡ a) × (decimal x.1.0 ≡ b) × (number_text x.1.1 ≡ c))
-        → IfSome r (λ r. reply_words r ≡ fields) → IfSome (answered_of o r) (λ x. entry_words x ≡ codes "do" ∷ a ∷ b ∷ c ∷ fields)
+        → IfSome r (λ r. reply_words r ≡ fields) → IfSome (answered_of o r)
+        (λ x. entry_words x ≡ codes "do" ∷ a ∷ b ∷ c ∷ fields)
     by_parts None r h g = tt
     by_parts (Some x) None h g = tt
     by_parts (Some x) (Some r) h g = cons h.0 h.1 h.2 g
@@ -776,16 +855,20 @@ unfolding entry_of
 entry_only w fields =
     same w (codes "do") _ _ P (λ e. led (codes "do") e (do_of fields) (do_only fields))
     (same w (codes "fill") _ _ P (λ e. led (codes "fill") e (fill_of fields) (fill_only fields))
-    (same w (codes "signal") _ _ P (λ e. led (codes "signal") e (option_map (λ x. entry.Signal x.0 x.1) (dropped_of fields))
+    (same w (codes "signal") _ _ P (λ e. led (codes "signal") e
+    (option_map (λ x. entry.Signal x.0 x.1) (dropped_of fields))
     (mapped (dropped_of fields) (λ x. entry.Signal x.0 x.1) (λ y. entry_words y ≡ codes "signal" ∷ fields)
     (behind (codes "signal") (dropped_of fields) (λ x. decimal x.0 ∷ what_words x.1) (dropped_only fields))))
-    (same w (codes "clear") _ _ P (λ e. led (codes "clear") e (option_map (λ x. entry.Clear x.0 x.1) (dropped_of fields))
+    (same w (codes "clear") _ _ P (λ e. led (codes "clear") e
+    (option_map (λ x. entry.Clear x.0 x.1) (dropped_of fields))
     (mapped (dropped_of fields) (λ x. entry.Clear x.0 x.1) (λ y. entry_words y ≡ codes "clear" ∷ fields)
     (behind (codes "clear") (dropped_of fields) (λ x. decimal x.0 ∷ what_words x.1) (dropped_only fields))))
     (same w (codes "gone") _ _ P (λ e. led (codes "gone") e (option_map gone (named_of fields))
-    (mapped (named_of fields) gone (λ y. entry_words y ≡ codes "gone" ∷ fields) (through gone (codes "gone") gone_words)))
+    (mapped (named_of fields) gone (λ y. entry_words y ≡ codes "gone" ∷ fields)
+    (through gone (codes "gone") gone_words)))
     (same w (codes "back") _ _ P (λ e. led (codes "back") e (option_map back (named_of fields))
-    (mapped (named_of fields) back (λ y. entry_words y ≡ codes "back" ∷ fields) (through back (codes "back") back_words)))
+    (mapped (named_of fields) back (λ y. entry_words y ≡ codes "back" ∷ fields)
+    (through back (codes "back") back_words)))
     (same w (codes "fault") _ _ P (λ e. led (codes "fault") e (fault_of fields) (fault_only fields))
     (plain_only w fields)))))))
   where
@@ -795,14 +878,16 @@ entry_only w fields =
     led : (v : List ℕ) → w ≡ v → (o : Option Entry) → IfSome o (λ x. entry_words x ≡ v ∷ fields) → P o
     led v e o h = subst (λ (x : List ℕ). IfSome o (λ y. entry_words y ≡ x ∷ fields)) (sym e) h
 
-    behind : {A : Type 0} (v : List ℕ) (o : Option A) (f : A → List (List ℕ)) → IfSome o (λ x. f x ≡ fields) → IfSome o (λ x. v ∷ f x ≡ v ∷ fields)
+    behind : {A : Type 0} (v : List ℕ) (o : Option A) (f : A → List (List ℕ)) → IfSome o (λ x. f x ≡ fields)
+        → IfSome o (λ x. v ∷ f x ≡ v ∷ fields)
     behind v None f h = tt
     behind v (Some x) f h = ap (λ (t : List (List ℕ)). v ∷ t) h
 
     through : (f : Named → Entry) (v : List ℕ) → ((x : Named) → entry_words (f x) ≡ v ∷ named_words x)
         → IfSome (named_of fields) (λ x. entry_words (f x) ≡ v ∷ fields)
     through f v is = from_each (named_of fields) (λ x. entry_words (f x) ≡ v ∷ fields)
-        (λ x e. is x ∙ ap (λ (t : List (List ℕ)). v ∷ t) (of_value (named_of fields) (λ y. named_words y ≡ fields) x (named_only fields) e))
+        (λ x e. is x ∙ ap (λ (t : List (List ℕ)). v ∷ t)
+        (of_value (named_of fields) (λ y. named_words y ≡ fields) x (named_only fields) e))
 
 -- ---- lines
 
@@ -811,10 +896,12 @@ words_only [] = tt
 words_only (w ∷ fields) = entry_only w fields
 
 -- what is read of the words of a line has the line as its text
-pub read_only : (line : List ℕ) (ws : List (List ℕ)) (o : Option Entry) → ws ≡ slice_split is_space line → o ≡ entry_of_words ws
+pub read_only : (line : List ℕ) (ws : List (List ℕ)) (o : Option Entry) → ws ≡ slice_split is_space line → o
+    ≡ entry_of_words ws
     → IfSome o (λ e. entry_text e ≡ line)
 read_only line ws o cut read = from_each o (λ e. entry_text e ≡ line) (λ e is.
-    entry_text_is e ∙ ap (join_with_byte 32) (of_value (entry_of_words ws) (λ x. entry_words x ≡ ws) e (words_only ws) (sym read ∙ is) ∙ cut)
+    entry_text_is e ∙ ap (join_with_byte 32) (of_value (entry_of_words ws) (λ x. entry_words x ≡ ws) e (words_only ws)
+    (sym read ∙ is) ∙ cut)
     ∙ join_with_byte-slice_split 32 line)
 
 -- an entry has 1 to 10 words
@@ -883,14 +970,18 @@ entry_has (entry.GoneSeg k n) = record { some = omega arith; few = omega arith }
 entry_has (entry.BackSeg k n) = record { some = omega arith; few = omega arith }
 
 words_again : (line : List ℕ) (e : Entry) → IsEntry e → entry_text e ≡ line → slice_split is_space line ≡ entry_words e
-words_again line e h text = ap (slice_split is_space) (sym text ∙ entry_text_is e) ∙ words_of_join (entry_words e) (entry_has e).some
+words_again line e h text = ap (slice_split is_space) (sym text ∙ entry_text_is e)
+    ∙ words_of_join (entry_words e) (entry_has e).some
     (entry_lacks e h)
 
 -- an entry is read back from its text
-pub read_again : (line : List ℕ) (ws : List (List ℕ)) (e : Entry) → ws ≡ slice_split is_space line → IsEntry e → entry_text e ≡ line
+pub read_again : (line : List ℕ) (ws : List (List ℕ)) (e : Entry) → ws ≡ slice_split is_space line → IsEntry e
+    → entry_text e ≡ line
     → entry_of_words ws ≡ Some e
 read_again line ws e cut h text = ap entry_of_words (cut ∙ words_again line e h text) ∙ entry_again e h
 
 -- a line of more words than 10 is no entry's
-pub read_none : (line : List ℕ) (e : Entry) → 10 < length (slice_split is_space line) → IsEntry e → entry_text e ≡ line → ⊥
-read_none line e many h text = let few = (entry_has e).few in let words = ap length (words_again line e h text) in omega (arith, few, words)
+pub read_none : (line : List ℕ) (e : Entry) → 10 < length (slice_split is_space line) → IsEntry e → entry_text e ≡ line
+    → ⊥
+read_none line e many h text = let few = (entry_has e).few in let words =
+    ap length (words_again line e h text) in omega (arith, few, words)

@@ -1,5 +1,6 @@
 -- How the text of an entry is read: as words with a space between each two (own).
-use Rattle.std.specs.Prelude.{◌<◌, ◌^◌, ℕ, Bool, ◌&&◌, ◌||◌, not, ◌==◌, nat_lt, nat_le, if◌then◌else◌, length, slice_index, List, [], ◌∷◌, Option, Some, None, codes, IfSome}
+use Rattle.std.specs.Prelude.{◌<◌, ◌^◌, ℕ, Bool, ◌&&◌, ◌||◌, not, ◌==◌, nat_lt, nat_le, if◌then◌else◌, length}
+use Rattle.std.specs.Prelude.{slice_index, List, [], ◌∷◌, Option, Some, None, codes, IfSome}
 use Rattle.std.specs.Char.{is_ascii_digit}
 use Rattle.std.specs.List.{before_first, after_first, list_all}
 use Rattle.std.specs.Option.{option_map, option_and_then}
@@ -107,8 +108,10 @@ numbered_reply w n =
 
 abbrev pub status_reply : List ℕ → List ℕ → List ℕ → ℕ → ℕ × ℕ → Option Reply
 status_reply w x y u counts =
-    if bytes_eq w (codes "seg") && (bytes_eq x (codes "length") && bytes_eq y (codes "stored")) then Some (reply.SegIs u counts.0 counts.1)
-    else if bytes_eq w (codes "dir") && (bytes_eq x (codes "quota") && bytes_eq y (codes "used")) then Some (reply.DirIs u counts.0 counts.1)
+    if bytes_eq w (codes "seg") && (bytes_eq x (codes "length") && bytes_eq y (codes "stored"))
+    then Some (reply.SegIs u counts.0 counts.1)
+    else if bytes_eq w (codes "dir") && (bytes_eq x (codes "quota") && bytes_eq y (codes "used"))
+    then Some (reply.DirIs u counts.0 counts.1)
     else None
 
 abbrev pub status_of : List ℕ → List ℕ → List ℕ → Option (ℕ × ℕ × ℕ) → Option Reply
@@ -123,7 +126,8 @@ triple (Some a) (Some b) (Some c) = Some (a, b, c)
 
 unfoldable pub reply_of : List (List ℕ) → Option Reply
 reply_of (w ∷ []) = bare_reply w
-reply_of (w ∷ a ∷ []) = if bytes_eq w (codes "word") then option_map (λ n. reply.Word n) (word_of a) else option_and_then (numbered_reply w)
+reply_of (w ∷ a ∷ []) = if bytes_eq w (codes "word") then option_map (λ n. reply.Word n) (word_of a)
+    else option_and_then (numbered_reply w)
     (number_of a)
 reply_of (w ∷ u ∷ x ∷ a ∷ y ∷ b ∷ []) = status_of w x y (triple (number_of u) (number_of a) (number_of b))
 reply_of _ = None
@@ -146,7 +150,8 @@ dropped_of [] = None
 -- the word of a frame, or a descriptor
 abbrev pub named_of : List (List ℕ) → Option Named
 named_of (kind ∷ f ∷ []) = if bytes_eq kind (codes "page") then option_map (λ n. named.Page n) (number_of f) else None
-named_of (kind ∷ k ∷ n ∷ []) = if bytes_eq kind (codes "seg") then option_map (λ x. named.Seg x.0 x.1) (both (number_of k) (number_of n)) else None
+named_of (kind ∷ k ∷ n ∷ []) = if bytes_eq kind (codes "seg")
+    then option_map (λ x. named.Seg x.0 x.1) (both (number_of k) (number_of n)) else None
 named_of _ = None
 
 abbrev pub gone : Named → Entry
@@ -177,7 +182,8 @@ answered_of (Some x) None = None
 answered_of (Some x) (Some r) = Some (entry.Do x.0.0 x.0.1 x.1.0 x.1.1 r)
 
 abbrev pub do_of : List (List ℕ) → Option Entry
-do_of (command ∷ c ∷ f ∷ fields) = answered_of (both (dotted_of command) (both (number_of c) (number_or_none f))) (reply_of fields)
+do_of (command ∷ c ∷ f ∷ fields) = answered_of (both (dotted_of command) (both (number_of c) (number_or_none f)))
+    (reply_of fields)
 do_of _ = None
 
 abbrev pub of_one : List ℕ → ℕ → Option Entry

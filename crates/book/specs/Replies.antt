@@ -33,5 +33,7 @@ reply_text reply.HasQuota = codes "hasquota"
 reply_text reply.Root = codes "root"
 reply_text reply.TooLittle = codes "toolittle"
 reply_text (reply.Over u) = codes "over " ++ decimal u
-reply_text (reply.SegIs uid length stored) = codes "seg " ++ (decimal uid ++ (codes " length " ++ (decimal length ++ (codes " stored " ++ decimal stored))))
-reply_text (reply.DirIs uid quota used) = codes "dir " ++ (decimal uid ++ (codes " quota " ++ (decimal quota ++ (codes " used " ++ decimal used))))
+reply_text (reply.SegIs uid length stored) = codes "seg "
+    ++ (decimal uid ++ (codes " length " ++ (decimal length ++ (codes " stored " ++ decimal stored))))
+reply_text (reply.DirIs uid quota used) = codes "dir "
+    ++ (decimal uid ++ (codes " quota " ++ (decimal quota ++ (codes " used " ++ decimal used))))

@@ -3,8 +3,10 @@ ghost use Rattle.std.specs.List.{position, slice_split};
 ghost use Rattle.book.specs.Entries.{entry_text};
 ghost use Rattle.book.specs.Reading.{is_plain, number_of, number_or_none, word_of, dotted_of};
 ghost use Rattle.book.specs.Reading.{page_reply, path_reply, change_reply, bare_reply, numbered_reply};
-ghost use Rattle.book.specs.Reading.{status_reply, triple, reply_of, what_of, dropped_of, named_of, gone, back, filled, fill_of};
-ghost use Rattle.book.specs.Reading.{fault_of, do_of, of_one, of_two, of_three, plain_of, entry_of, entry_of_words, is_space, IsEntry};
+ghost use Rattle.book.specs.Reading.{status_reply, triple, reply_of, what_of, dropped_of, named_of, gone, back};
+ghost use Rattle.book.specs.Reading.{filled, fill_of};
+ghost use Rattle.book.specs.Reading.{fault_of, do_of, of_one, of_two, of_three, plain_of, entry_of, entry_of_words};
+ghost use Rattle.book.specs.Reading.{is_space, IsEntry};
 
 use crate::entries::Entry;
 use crate::replies::Reply;

@@ -1,5 +1,6 @@
 -- What is kept before the first entry and after one more (own).
-use Rattle.std.proofs.Common.{◌≡◌, ℕ, suc, zero, ◌+◌, ◌<◌, ◌↔◌, Bool, true, false, IsTrue, List, [], ◌∷◌, ◌++◌, length, get_or, replicate, Some, None, Ok, Err, refl, sym, ap, subst, ◌∙◌, arith}
+use Rattle.std.proofs.Common.{◌≡◌, ℕ, suc, zero, ◌+◌, ◌<◌, ◌↔◌, Bool, true, false, IsTrue, List, [], ◌∷◌, ◌++◌, length}
+use Rattle.std.proofs.Common.{get_or, replicate, Some, None, Ok, Err, refl, sym, ap, subst, ◌∙◌, arith}
 use Rattle.std.specs.Bool.{Decides}
 use Rattle.std.proofs.lemmas.List.{length-append}
 use Rattle.script.specs.Plans.{Plan}
@@ -26,14 +27,16 @@ use Rattle.custody_model.proofs.TurnLaws.{count_next}
 
 -- ---- before the first entry
 
-first_at : (n k : ℕ) → k < n → (get_or (replicate n at_first) k (record { place = 0; tries = 0; ended = true; faulted = false })).ended ≡ false
+first_at : (n k : ℕ) → k < n → (get_or (replicate n at_first) k
+    (record { place = 0; tries = 0; ended = true; faulted = false })).ended ≡ false
 first_at zero k lt = absurd (omega arith)
 first_at (suc n) zero lt = refl
 first_at (suc n) (suc k) lt = first_at n k (omega arith)
 
 ends_boot : (p : Plan) → EndsAgree p []
 unfolding store_after store_from boot part
-ends_boot p k lt = let going = first_at (length p.processes) k lt in (λ is. let clash : false ≡ true = sym going ∙ is in cc, λ end. absurd end)
+ends_boot p k lt = let going = first_at (length p.processes) k lt in
+    (λ is. let clash : false ≡ true = sym going ∙ is in cc, λ end. absurd end)
 
 pub after_boot : (p : Plan) (k : Kept) (c : Tables) → Shows p k (boot p) → c.active ≡ [] → custody_of c ≡ nothing_held p
     → AreTablesOf p c → IsAfter (record { script = p; store = k; custody = c; entries = 0 }) []
@@ -48,7 +51,8 @@ after_boot p k c shows active held tables = record {
   custody = held ∙ sym (custody_after-nil p);
   tables = tables;
   count = refl;
-  turns = λ d. let idle : ((custody_after p []).seat d).count ≡ 0 = ap (λ (x : Custody). (x.seat d).count) (custody_after-nil p) in omega (arith, idle);
+  turns = λ d. let idle : ((custody_after p []).seat d).count ≡ 0 =
+      ap (λ (x : Custody). (x.seat d).count) (custody_after-nil p) in omega (arith, idle);
   ends = ends_boot p;
 }
 
@@ -58,17 +62,25 @@ entries_push : (es : List Entry) (e : Entry) → AreEntries es → IsEntry e →
 entries_push [] e all here = (here, tt)
 entries_push (d ∷ es) e all here = (all.0, entries_push es e all.1 here)
 
-pub after_next : (old new : Judged) (es : List Entry) (e : Entry) → IsAfter old es → IsEntry e → Allows old e → new.script ≡ old.script
+pub after_next : (old new : Judged) (es : List Entry) (e : Entry) → IsAfter old es → IsEntry e → Allows old e
+    → new.script ≡ old.script
     → new.entries ≡ old.entries + 1
     → ((s : Store) → Shows old.script old.store s → AreNodes s.nodes old.custody.active
     → custody_of new.custody ≡ custody_next old.script s (custody_of old.custody) e)
     → ((s : Store) → Shows old.script old.store s → AreNodes s.nodes old.custody.active → IsLawful old.script s e
     → AreNodes (after_entry old.script s e).nodes new.custody.active)
-    → ((s : Store) → Shows old.script old.store s → IsLawful old.script s e → Shows old.script new.store (after_entry old.script s e))
+    → ((s : Store) → Shows old.script old.store s → IsLawful old.script s e
+    → Shows old.script new.store (after_entry old.script s e))
     → ((s : Store) → Shows old.script old.store s → AreTablesOf old.script new.custody) → IsAfter new (es ++ e ∷ [])
 unfolding Allows
 after_next old new es e is entry allows same more custody nodes store tables =
-    subst (λ (p : Plan). IsAfter (record { script = p; store = new.store; custody = new.custody; entries = new.entries }) (es ++ e ∷ [])) (sym same) next
+    subst (λ (p : Plan). IsAfter (record {
+      script = p;
+      store = new.store;
+      custody = new.custody;
+      entries =
+          new.entries;
+    }) (es ++ e ∷ [])) (sym same) next
   where
     p : Plan
     p = old.script
@@ -94,7 +106,8 @@ after_next old new es e is entry allows same more custody nodes store tables =
     longer : length (es ++ e ∷ []) ≡ length es + 1
     longer = length-append es (e ∷ [])
 
-    next : IsAfter (record { script = p; store = new.store; custody = new.custody; entries = new.entries }) (es ++ e ∷ [])
+    next : IsAfter (record { script = p; store = new.store; custody = new.custody; entries = new.entries })
+        (es ++ e ∷ [])
     next = record {
       stand = record {
         entries = entries_push es e is.stand.entries entry;
@@ -122,7 +135,8 @@ pub no_entry : (old new : Judged) (line : List ℕ) → ((e : Entry) → IsEntry
 unfolding Takes
 no_entry old new line none es is = λ e text. let clash : None ≡ Some e = none e text.entry text.text in cc
 
-broken_by : (p : Plan) (es : List Entry) (line : List ℕ) (e : Entry) (r : Rule) → IsTextOf e line → Breaks p (store_after p es) (custody_after p es) e r
+broken_by : (p : Plan) (es : List Entry) (line : List ℕ) (e : Entry) (r : Rule) → IsTextOf e line
+    → Breaks p (store_after p es) (custody_after p es) e r
     → BreaksEntry p es line r
 broken_by p es line e rule.NotLegal text h = (e, text, h)
 broken_by p es line e rule.NotClean text h = (e, text, h.0, h.1)
@@ -131,14 +145,17 @@ broken_by p es line e rule.Incomplete text h = absurd h
 broken_by p es line e rule.ZeroPage text h = absurd h
 broken_by p es line e rule.WrongSum text h = absurd h
 
-pub broken : (old new : Judged) (line : List ℕ) (e : Entry) (r : Rule) → IsEntry e → entry_text e ≡ line → Forbids old e r
+pub broken : (old new : Judged) (line : List ℕ) (e : Entry) (r : Rule) → IsEntry e → entry_text e ≡ line
+    → Forbids old e r
     → Takes old new line (Err (fault.Broken r))
 unfolding Takes Forbids
 broken old new line e r entry text forbids es is =
     broken_by old.script es line e r (record { entry = entry; text = text })
-    (subst (λ (x : Custody). Breaks old.script (store_after old.script es) x e r) is.custody (forbids (store_after old.script es) is.shown is.nodes))
+    (subst (λ (x : Custody). Breaks old.script (store_after old.script es) x e r) is.custody
+    (forbids (store_after old.script es) is.shown is.nodes))
 
-pub taken : (old new : Judged) (line : List ℕ) (e : Entry) → IsEntry e → entry_text e ≡ line → Allows old e → new.script ≡ old.script
+pub taken : (old new : Judged) (line : List ℕ) (e : Entry) → IsEntry e → entry_text e ≡ line → Allows old e
+    → new.script ≡ old.script
     → ((es : List Entry) → IsAfter old es → IsAfter new (es ++ e ∷ [])) → Takes old new line (Ok tt)
 unfolding Takes Allows
 taken old new line e entry text allows same after es is =
@@ -156,7 +173,8 @@ pub no_memory : (old new : Judged) (line : List ℕ) → Takes old new line (Err
 unfolding Takes
 no_memory old new line es is = tt
 
-pub one_found : (line : List ℕ) (e : Entry) → ((f : Entry) → IsEntry f → entry_text f ≡ line → Some e ≡ Some f) → OnlyOne line
+pub one_found : (line : List ℕ) (e : Entry) → ((f : Entry) → IsEntry f → entry_text f ≡ line → Some e ≡ Some f)
+    → OnlyOne line
 unfolding OnlyOne
 one_found line e back a b text other =
     let first : Some e ≡ Some a = back a text.entry text.text in
@@ -169,21 +187,29 @@ none_found line back a b text other = let clash : None ≡ Some a = back a text.
 
 -- ---- what an entry breaks
 
-module _ (p : Plan) (k : Kept) (t : Tables) (n : ℕ) (j : Judged) (e : Entry) (is : record { script = p; store = k; custody = t; entries = n } ≡ j) where
-  pub not_legal : (r : Bool) → ((s : Store) → Shows p k s → IsTrue r ↔ IsLawful p s e) → r ≡ false → Forbids j e rule.NotLegal
+module _ (p : Plan) (k : Kept) (t : Tables) (n : ℕ) (j : Judged) (e : Entry)
+    (is : record { script = p; store = k; custody = t; entries = n } ≡ j) where
+  pub not_legal : (r : Bool) → ((s : Store) → Shows p k s → IsTrue r ↔ IsLawful p s e) → r ≡ false
+      → Forbids j e rule.NotLegal
   unfolding Forbids
   not_legal r told no_ = subst (λ (x : Judged). Forbids x e rule.NotLegal) is
       (λ s shown nodes lawful. let clash : false ≡ true = sym no_ ∙ (told s shown).1 lawful in cc)
 
   pub not_clean : (r q : Bool) → ((s : Store) → Shows p k s → IsTrue r ↔ IsLawful p s e)
-      → ((s : Store) → Shows p k s → AreNodes s.nodes t.active → Decides q (IsAllowed p s (custody_of t) e)) → r ≡ true → q ≡ false
+      → ((s : Store) → Shows p k s → AreNodes s.nodes t.active → Decides q (IsAllowed p s (custody_of t) e)) → r ≡ true
+      → q ≡ false
       → Forbids j e rule.NotClean
   unfolding Forbids
   not_clean r q told also yes_ no_ = subst (λ (x : Judged). Forbids x e rule.NotClean) is
-      (λ s shown nodes. ((told s shown).0 yes_, λ allowed. let clash : false ≡ true = sym no_ ∙ (also s shown nodes).1 allowed in cc))
+      (λ s shown nodes. (
+        (told s shown).0 yes_,
+        λ allowed. let clash : false ≡ true = sym no_
+            ∙ (also s shown nodes).1 allowed in cc,
+      ))
 
   pub both_allow : (r q : Bool) → ((s : Store) → Shows p k s → IsTrue r ↔ IsLawful p s e)
-      → ((s : Store) → Shows p k s → AreNodes s.nodes t.active → Decides q (IsAllowed p s (custody_of t) e)) → r ≡ true → q ≡ true → Allows j e
+      → ((s : Store) → Shows p k s → AreNodes s.nodes t.active → Decides q (IsAllowed p s (custody_of t) e)) → r ≡ true
+      → q ≡ true → Allows j e
   unfolding Allows
   both_allow r q told also yes_ too = subst (λ (x : Judged). Allows x e) is
       (λ s shown nodes. ((told s shown).0 yes_, (also s shown nodes).0 too))
@@ -194,10 +220,13 @@ module _ (p : Plan) (k : Kept) (t : Tables) (n : ℕ) (j : Judged) (e : Entry) (
 
   pub followed : (es : List Entry) (kept : Kept) (tables : Tables) → IsAfter j es → IsEntry e → Allows j e
       → ((s : Store) → Shows p k s → AreNodes s.nodes t.active → custody_of tables ≡ custody_next p s (custody_of t) e)
-      → ((s : Store) → Shows p k s → AreNodes s.nodes t.active → IsLawful p s e → AreNodes (after_entry p s e).nodes tables.active)
+      → ((s : Store) → Shows p k s → AreNodes s.nodes t.active → IsLawful p s e
+      → AreNodes (after_entry p s e).nodes tables.active)
       → ((s : Store) → Shows p k s → IsLawful p s e → Shows p kept (after_entry p s e))
       → ((s : Store) → Shows p k s → AreTablesOf p tables)
       → IsAfter (record { script = p; store = kept; custody = tables; entries = n + 1 }) (es ++ e ∷ [])
   followed es kept tables after entry allows custody nodes store are =
-      after_next (record { script = p; store = k; custody = t; entries = n }) (record { script = p; store = kept; custody = tables; entries = n + 1 }) es e
-      (subst (λ (x : Judged). IsAfter x es) (sym is) after) entry (subst (λ (x : Judged). Allows x e) (sym is) allows) refl refl custody nodes store are
+      after_next (record { script = p; store = k; custody = t; entries = n })
+      (record { script = p; store = kept; custody = tables; entries = n + 1 }) es e
+      (subst (λ (x : Judged). IsAfter x es) (sym is) after) entry (subst (λ (x : Judged). Allows x e) (sym is) allows)
+      refl refl custody nodes store are

@@ -1,5 +1,6 @@
 -- A process has ended exactly where its last command entry is that of its end (own).
-use Rattle.std.proofs.Common.{◌≡◌, ℕ, ◌+◌, ◌<◌, Bool, true, false, cond, eqb, List, [], ◌∷◌, ◌++◌, length, Option, Some, None, refl, sym, ap, subst, ◌∙◌, arith}
+use Rattle.std.proofs.Common.{◌≡◌, ℕ, ◌+◌, ◌<◌, Bool, true, false, cond, eqb, List, [], ◌∷◌, ◌++◌, length, Option}
+use Rattle.std.proofs.Common.{Some, None, refl, sym, ap, subst, ◌∙◌, arith}
 use Rattle.std.specs.Bool.{Decides}
 use Rattle.std.proofs.lemmas.Bool.Decides.{nat_tests}
 use Rattle.script.specs.Plans.{Plan, command_at}
@@ -9,18 +10,21 @@ use Rattle.book.specs.declared.entries.Entry.{Entry}
 use Rattle.book.specs.declared.entries.Entry.TheVariants as entry
 use Rattle.book.specs.declared.replies.Reply.{Reply}
 use Rattle.flat_model.specs.Commands.{gone_on, is_end, tries_on}
-use Rattle.flat_model.specs.Legal.{IsAnswer, IsComplete, IsEnd, IsLawful, IsLawfulDo, MayFault, after_do, after_entry, after_fault, is_part, last_of, part, store_after}
+use Rattle.flat_model.specs.Legal.{IsAnswer, IsComplete, IsEnd, IsLawful, IsLawfulDo, MayFault, after_do, after_entry}
+use Rattle.flat_model.specs.Legal.{after_fault, is_part, last_of, part, store_after}
 use Rattle.flat_model.specs.Store.{Progress, Store, progress_of}
 use Rattle.flat_model.proofs.BookLaws.{last_of-push, part-push, part-skip, store_after-push}
 use Rattle.book_check.specs.Judging.{EndsAgree, HaveEnded}
 use Rattle.book_check.proofs.ProgressLaws.{going_there, progress_after, progress_with}
 
 -- the end of a process is the one command that ends it
-ended_by : (q : Progress) (c : Command) (r : Reply) → q.ended ≡ false → Decides (gone_on q c r).ended (Some c ≡ Some command.End)
+ended_by : (q : Progress) (c : Command) (r : Reply) → q.ended ≡ false
+    → Decides (gone_on q c r).ended (Some c ≡ Some command.End)
 ended_by q c r going = each (tries_on q c r) refl
   where
     tried : (x : Command) → tries_on q x r ≡ true → Some x ≡ Some command.End → ⊥
-    tried x t e = let is : x ≡ command.End = cc in let no : tries_on q command.End r ≡ true = subst (λ (y : Command). tries_on q y r ≡ true) is t in cc
+    tried x t e = let is : x ≡ command.End = cc in let no : tries_on q command.End r ≡ true =
+        subst (λ (y : Command). tries_on q y r ≡ true) is t in cc
 
     by_end : (x : Command) → Decides (is_end x) (Some x ≡ Some command.End)
     by_end command.End = (λ e. refl, λ e. refl)
@@ -40,22 +44,30 @@ ended_by q c r going = each (tries_on q c r) refl
     by_end (command.Status path) = (λ e. cc, λ e. cc)
 
     each : (z : Bool) → tries_on q c r ≡ z
-        → Decides (cond z (record q { tries = q.tries + 1; faulted = false }) (record { place = q.place + 1; tries = 0; ended = is_end c; faulted = false })).ended (Some c ≡ Some command.End)
+        → Decides (cond z (record q { tries = q.tries + 1; faulted = false })
+        (record { place = q.place + 1; tries = 0; ended = is_end c; faulted = false })).ended
+        (Some c ≡ Some command.End)
     each true t = (λ e. absurd (let clash : false ≡ true = sym going ∙ e in cc), λ e. absurd (tried c t e))
     each false t = by_end c
 
-module _ (p : Plan) (es : List Entry) (k : ℕ) (agree : Decides (progress_of (store_after p es) k).ended (IsEnd p k (last_of (part k es)))) where
+module _ (p : Plan) (es : List Entry) (k : ℕ) (agree : Decides (progress_of (store_after p es) k).ended
+    (IsEnd p k (last_of (part k es)))) where
   -- nothing of this process
-  kept : (e : Entry) → is_part k e ≡ false → (progress_of (after_entry p (store_after p es) e) k).ended ≡ (progress_of (store_after p es) k).ended
+  kept : (e : Entry) → is_part k e ≡ false → (progress_of (after_entry p (store_after p es) e) k).ended
+      ≡ (progress_of (store_after p es) k).ended
       → Decides (progress_of (store_after p (es ++ e ∷ [])) k).ended (IsEnd p k (last_of (part k (es ++ e ∷ []))))
   kept e other same =
       let ended : (progress_of (store_after p (es ++ e ∷ [])) k).ended ≡ (progress_of (store_after p es) k).ended =
       ap (λ (s : Store). (progress_of s k).ended) (store_after-push p es e) ∙ same in
-      let last : last_of (part k (es ++ e ∷ [])) ≡ last_of (part k es) = ap last_of (part-skip k es e other) in
-      (λ is. subst (IsEnd p k) (sym last) (agree.0 (sym ended ∙ is)), λ end. ended ∙ agree.1 (subst (IsEnd p k) last end))
+      let last : last_of (part k (es ++ e ∷ [])) ≡ last_of (part k es) = ap last_of (part-skip k es e other) in (
+        λ is. subst (IsEnd p k) (sym last) (agree.0 (sym ended ∙ is)),
+        λ end. ended
+            ∙ agree.1 (subst (IsEnd p k) last end),
+      )
 
   -- a command of this process, or of another one
-  answered : (j place cpu : ℕ) (f : Option ℕ) (r : Reply) → k < length (store_after p es).processes → IsLawfulDo p (store_after p es) j place r
+  answered : (j place cpu : ℕ) (f : Option ℕ) (r : Reply) → k < length (store_after p es).processes
+      → IsLawfulDo p (store_after p es) j place r
       → Decides (progress_of (store_after p (es ++ entry.Do j place cpu f r ∷ [])) k).ended
       (IsEnd p k (last_of (part k (es ++ entry.Do j place cpu f r ∷ []))))
   unfolding after_entry
@@ -75,25 +87,34 @@ module _ (p : Plan) (es : List Entry) (k : ℕ) (agree : Decides (progress_of (s
       own None at is same = absurd is
       own (Some c) at is same =
           let me : eqb k j ≡ true = grind (arith, nat_tests) in
-          let now : progress_of (after_do p s j (Some c) r) k ≡ gone_on (progress_of s j) c r = progress_after p s j k c r there ∙ rw me refl in
-          let told = ended_by (progress_of s j) c r lawful.going in
-          (λ ended. at ∙ told.0 (sym (ap (λ (q : Progress). q.ended) now) ∙ ended), λ end. ap (λ (q : Progress). q.ended) now ∙ told.1 (sym at ∙ end))
+          let now : progress_of (after_do p s j (Some c) r) k ≡ gone_on (progress_of s j) c r =
+          progress_after p s j k c r there ∙ rw me refl in
+          let told = ended_by (progress_of s j) c r lawful.going in (
+            λ ended. at ∙ told.0 (sym (ap (λ (q : Progress). q.ended) now) ∙ ended),
+            λ end. ap
+                (λ (q : Progress). q.ended) now ∙ told.1 (sym at ∙ end),
+          )
 
-      others : (o : Option Command) → IsAnswer p s j o r → eqb j k ≡ false → (progress_of (after_do p s j o r) k).ended ≡ (progress_of s k).ended
+      others : (o : Option Command) → IsAnswer p s j o r → eqb j k ≡ false → (progress_of (after_do p s j o r) k).ended
+          ≡ (progress_of s k).ended
       others None is other = absurd is
       others (Some c) is other =
           let flipped : eqb k j ≡ false = grind (arith, nat_tests) in
-          let same : progress_of (after_do p s j (Some c) r) k ≡ progress_of s k = progress_after p s j k c r there ∙ rw flipped refl in
+          let same : progress_of (after_do p s j (Some c) r) k ≡ progress_of s k = progress_after p s j k c r there
+          ∙ rw flipped refl in
           ap (λ (q : Progress). q.ended) same
 
-      by_process : (z : Bool) → eqb j k ≡ z → Decides (progress_of (store_after p (es ++ e ∷ [])) k).ended (IsEnd p k (last_of (part k (es ++ e ∷ []))))
+      by_process : (z : Bool) → eqb j k ≡ z → Decides (progress_of (store_after p (es ++ e ∷ [])) k).ended
+          (IsEnd p k (last_of (part k (es ++ e ∷ []))))
       by_process true mine =
           let same : j ≡ k = grind (arith, nat_tests) in
           let command : command_at p j place ≡ command_at p k place = ap (λ (i : ℕ). command_at p i place) same in
           let told = own (command_at p j place) (sym command) lawful.answer same in
           let store = store_after-push p es e in
-          let last : last_of (part k (es ++ e ∷ [])) ≡ Some e = ap last_of (part-push k es e mine) ∙ last_of-push (part k es) e in (
-            λ ended. subst (IsEnd p k) (sym last) (told.0 (sym (ap (λ (x : Store). (progress_of x k).ended) store) ∙ ended)),
+          let last : last_of (part k (es ++ e ∷ [])) ≡ Some e = ap last_of (part-push k es e mine)
+          ∙ last_of-push (part k es) e in (
+            λ ended. subst (IsEnd p k) (sym last) (told.0
+                (sym (ap (λ (x : Store). (progress_of x k).ended) store) ∙ ended)),
             λ end. ap (λ (x : Store). (progress_of x k).ended) store ∙ told.1 (subst (IsEnd p k) last end),
           )
       by_process false other = kept e other (others (command_at p j place) lawful.answer other)
@@ -113,10 +134,12 @@ module _ (p : Plan) (es : List Entry) (k : ℕ) (agree : Decides (progress_of (s
       by_process : (z : Bool) → eqb k j ≡ z → (progress_of (after_fault s (Some j)) k).ended ≡ (progress_of s k).ended
       by_process true mine =
           let same : k ≡ j = grind (arith, nat_tests) in
-          let now : progress_of (after_fault s (Some j)) k ≡ q = progress_with s j k q (going_there s j may) ∙ rw mine refl in
+          let now : progress_of (after_fault s (Some j)) k ≡ q = progress_with s j k q (going_there s j may)
+          ∙ rw mine refl in
           ap (λ (x : Progress). x.ended) now ∙ ap (λ (i : ℕ). (progress_of s i).ended) (sym same)
       by_process false other =
-          let now : progress_of (after_fault s (Some j)) k ≡ progress_of s k = progress_with s j k q (going_there s j may) ∙ rw other refl in
+          let now : progress_of (after_fault s (Some j)) k ≡ progress_of s k =
+          progress_with s j k q (going_there s j may) ∙ rw other refl in
           ap (λ (x : Progress). x.ended) now
 
   pub end_pushed : (e : Entry) → k < length (store_after p es).processes → IsLawful p (store_after p es) e
@@ -145,9 +168,11 @@ module _ (p : Plan) (es : List Entry) (k : ℕ) (agree : Decides (progress_of (s
   end_pushed (entry.GoneSeg j n) lt lawful = kept (entry.GoneSeg j n) refl refl
   end_pushed (entry.BackSeg j n) lt lawful = kept (entry.BackSeg j n) refl refl
 
-pub ends_push : (p : Plan) (es : List Entry) (e : Entry) → length (store_after p es).processes ≡ length p.processes → EndsAgree p es
+pub ends_push : (p : Plan) (es : List Entry) (e : Entry) → length (store_after p es).processes ≡ length p.processes
+    → EndsAgree p es
     → IsLawful p (store_after p es) e → EndsAgree p (es ++ e ∷ [])
-ends_push p es e size agree lawful k lt = end_pushed p es k (agree k lt) e (subst (λ (n : ℕ). k < n) (sym size) lt) lawful
+ends_push p es e size agree lawful k lt = end_pushed p es k (agree k lt) e (subst (λ (n : ℕ). k < n) (sym size) lt)
+    lawful
 
 pub complete_told : (p : Plan) (es : List Entry) → EndsAgree p es → HaveEnded p (store_after p es) → IsComplete p es
 unfolding IsComplete HaveEnded

@@ -1,5 +1,6 @@
 -- How the lines of an input are passed (own).
-use Rattle.std.proofs.Common.{◌≡◌, ℕ, suc, ◌+◌, ◌-◌, ◌<◌, ◌≤◌, true, false, List, [], ◌∷◌, ◌++◌, length, refl, sym, ap, ◌∙◌, arith, take, drop}
+use Rattle.std.proofs.Common.{◌≡◌, ℕ, suc, ◌+◌, ◌-◌, ◌<◌, ◌≤◌, true, false, List, [], ◌∷◌, ◌++◌, length, refl, sym, ap}
+use Rattle.std.proofs.Common.{◌∙◌, arith, take, drop}
 use Rattle.std.proofs.lemmas.Grind.{common_steps}
 use Rattle.std.proofs.lemmas.List.{append_assoc, length-append, drop-drop}
 use Rattle.std.proofs.Math.Seq.{take-add}
@@ -15,7 +16,8 @@ nil_after (x ∷ xs) = ap (λ t. x ∷ t) (nil_after xs)
 all_left : (xs : List ℕ) (i : ℕ) → take (length xs - i) (drop i xs) ≡ drop i xs
 all_left xs i = grind (arith, common_steps)
 
-script_other : (line : List ℕ) (lines : List (List ℕ)) → is_book line ≡ false → script_lines (line ∷ lines) ≡ line ∷ script_lines lines
+script_other : (line : List ℕ) (lines : List (List ℕ)) → is_book line ≡ false → script_lines (line ∷ lines) ≡ line
+    ∷ script_lines lines
 unfolding script_lines
 script_other line lines e = rw e refl
 
@@ -23,7 +25,8 @@ script_book : (line : List ℕ) (lines : List (List ℕ)) → is_book line ≡ t
 unfolding script_lines
 script_book line lines e = rw e refl
 
-listing_other : (line : List ℕ) (lines : List (List ℕ)) → is_book line ≡ false → listing_lines (line ∷ lines) ≡ listing_lines lines
+listing_other : (line : List ℕ) (lines : List (List ℕ)) → is_book line ≡ false → listing_lines (line ∷ lines)
+    ≡ listing_lines lines
 unfolding listing_lines
 listing_other line lines e = rw e refl
 
@@ -50,7 +53,8 @@ at_start bytes = record {
 abbrev pub Here : List ℕ → ℕ → List ℕ
 Here bytes at = take (length bytes - at) (drop at bytes)
 
-module _ (bytes line rest : List ℕ) (at number : ℕ) (lt : at < length bytes) (cut : lines_of (Here bytes at) ≡ line ∷ lines_of rest)
+module _ (bytes line rest : List ℕ) (at number : ℕ) (lt : at < length bytes)
+    (cut : lines_of (Here bytes at) ≡ line ∷ lines_of rest)
     (is : IsAtLine bytes at number)
   where
     here : lines_of (drop at bytes) ≡ line ∷ lines_of rest
@@ -74,10 +78,12 @@ module _ (bytes line rest : List ℕ) (at number : ℕ) (lt : at < length bytes)
     book_first book =
         let whole : length (lines_of bytes) ≡ length is.before + suc (length (lines_of rest)) =
         ap length lines_here ∙ length-append is.before (line ∷ lines_of rest) in
-        let left : length (listing_lines (lines_of bytes)) ≡ length (lines_of rest) = ap length (sym (book_listing book)) in
+        let left : length (listing_lines (lines_of bytes)) ≡ length (lines_of rest) =
+        ap length (sym (book_listing book)) in
         omega (arith, whole, left, is.count)
 
-    module _ (left : rest ≡ drop (length (Here bytes at) - length rest) (Here bytes at)) (fewer : length rest < length (Here bytes at))
+    module _ (left : rest ≡ drop (length (Here bytes at) - length rest) (Here bytes at))
+        (fewer : length rest < length (Here bytes at))
         (closes : 0 < length rest → Closes (take (length (Here bytes at) - length rest) (Here bytes at)) line)
       where
         size : length (Here bytes at) ≡ length bytes - at
@@ -93,11 +99,13 @@ module _ (bytes line rest : List ℕ) (at number : ℕ) (lt : at < length bytes)
             ∙ ap (drop (length (Here bytes at) - length rest)) (sym (all_left bytes at))
             ∙ sym left
 
-        front_there : take (length bytes - length rest) bytes ≡ take at bytes ++ take (length (Here bytes at) - length rest) (Here bytes at)
+        front_there : take (length bytes - length rest) bytes ≡ take at bytes
+            ++ take (length (Here bytes at) - length rest) (Here bytes at)
         front_there =
             ap (λ (n : ℕ). take n bytes) (sym place)
             ∙ take-add at (length (Here bytes at) - length rest) bytes
-            ∙ ap (λ (t : List ℕ). take at bytes ++ take (length (Here bytes at) - length rest) t) (sym (all_left bytes at))
+            ∙ ap (λ (t : List ℕ). take at bytes ++ take (length (Here bytes at) - length rest) t)
+            (sym (all_left bytes at))
 
         closed_there : length bytes - length rest < length bytes → (more : List ℕ)
             → lines_of (take (length bytes - length rest) bytes ++ more) ≡ (is.before ++ line ∷ []) ++ lines_of more
@@ -135,7 +143,8 @@ module _ (bytes : List ℕ) (at number : ℕ) (ge : length bytes ≤ at) (is : I
   pub end_script : lines_of bytes ≡ script_lines (lines_of bytes)
   end_script =
       is.passed.lines ∙ ap (λ (t : List (List ℕ)). is.before ++ t) none
-      ∙ sym (is.passed.script ∙ ap (λ (t : List (List ℕ)). is.before ++ script_lines t) none ∙ ap (λ (t : List (List ℕ)). is.before ++ t) script_nil)
+      ∙ sym (is.passed.script ∙ ap (λ (t : List (List ℕ)). is.before ++ script_lines t) none
+      ∙ ap (λ (t : List (List ℕ)). is.before ++ t) script_nil)
 
   pub end_listing : lines_of [] ≡ listing_lines (lines_of bytes)
   end_listing = lines_nil ∙ sym (is.passed.listing ∙ ap listing_lines none ∙ listing_nil)

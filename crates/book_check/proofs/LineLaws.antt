@@ -1,5 +1,6 @@
 -- Laws of lines (own).
-use Rattle.std.proofs.Common.{◌≡◌, ◌≢◌, ℕ, suc, zero, ◌+◌, ◌-◌, ◌<◌, ◌≤◌, false, eqb, List, [], ◌∷◌, ◌++◌, length, refl, sym, ap, ◌∙◌, arith, get_or, take, drop, drop-cons, add-one}
+use Rattle.std.proofs.Common.{◌≡◌, ◌≢◌, ℕ, suc, zero, ◌+◌, ◌-◌, ◌<◌, ◌≤◌, false, eqb, List, [], ◌∷◌, ◌++◌, length}
+use Rattle.std.proofs.Common.{refl, sym, ap, ◌∙◌, arith, get_or, take, drop, drop-cons, add-one}
 use Rattle.std.proofs.lemmas.Bool.Decides.{nat_tests}
 use Rattle.std.proofs.lemmas.Grind.{common_steps}
 use Rattle.script.specs.Fields.{lines_of, onto_piece}
@@ -23,7 +24,8 @@ unfolding lines_of
 line_byte b bs ne = let z : eqb b 10 ≡ false = grind (arith, nat_tests) in rw z refl
 
 -- the bytes up to the first line feed are a line, whatever follows
-closes_at : (bs : List ℕ) (i : ℕ) → NoFeedBefore i bs → i < length bs → get_or bs i 0 ≡ 10 → Closes (take (suc i) bs) (take i bs)
+closes_at : (bs : List ℕ) (i : ℕ) → NoFeedBefore i bs → i < length bs → get_or bs i 0 ≡ 10
+    → Closes (take (suc i) bs) (take i bs)
 closes_at [] i clear lt e rest = absurd (omega arith)
 closes_at (b ∷ bs) zero clear lt e rest = line_feed b rest e
 closes_at (b ∷ bs) (suc i) clear lt e rest =
@@ -42,24 +44,28 @@ length_left xs i le = grind (arith, common_steps)
 pub line_cut : (bs : List ℕ) (i : ℕ) → NoFeedBefore i bs → i < length bs → get_or bs i 0 ≡ 10
     → lines_of bs ≡ take i bs ∷ lines_of (take (length bs - (i + 1)) (drop (i + 1) bs))
 line_cut bs i clear lt e =
-    rw (all_left bs (i + 1), add-one) (sym (ap lines_of (take_drop bs (suc i))) ∙ closes_at bs i clear lt e (drop (suc i) bs))
+    rw (all_left bs (i + 1), add-one) (sym (ap lines_of (take_drop bs (suc i)))
+    ∙ closes_at bs i clear lt e (drop (suc i) bs))
 
 pub rest_cut : (bs : List ℕ) (i : ℕ) → i < length bs
-    → take (length bs - (i + 1)) (drop (i + 1) bs) ≡ drop (length bs - length (take (length bs - (i + 1)) (drop (i + 1) bs))) bs
+    → take (length bs - (i + 1)) (drop (i + 1) bs) ≡ drop
+    (length bs - length (take (length bs - (i + 1)) (drop (i + 1) bs))) bs
 rest_cut bs i lt = rw (all_left bs (i + 1), length_left bs (i + 1) (omega arith)) refl
 
 pub front_closes : (bs : List ℕ) (i : ℕ) → NoFeedBefore i bs → i < length bs → get_or bs i 0 ≡ 10
     → Closes (take (length bs - length (take (length bs - (i + 1)) (drop (i + 1) bs))) bs) (take i bs)
 front_closes bs i clear lt e rest =
     let place : length bs - length (take (length bs - (i + 1)) (drop (i + 1) bs)) ≡ suc i =
-    ap (λ (t : List ℕ). length bs - length t) (all_left bs (i + 1)) ∙ length_left bs (i + 1) (omega arith) ∙ omega arith in
+    ap (λ (t : List ℕ). length bs - length t) (all_left bs (i + 1)) ∙ length_left bs (i + 1) (omega arith)
+    ∙ omega arith in
     ap (λ (n : ℕ). lines_of (take n bs ++ rest)) place ∙ closes_at bs i clear lt e rest
 
 -- the last line may lack its line feed
 lines_last : (b : ℕ) (bs : List ℕ) → NoFeedBefore (suc (length bs)) (b ∷ bs) → lines_of (b ∷ bs) ≡ (b ∷ bs) ∷ []
 lines_last b [] clear = line_byte b [] (clear 0 (omega arith)) ∙ rw lines_nil refl
 lines_last b (c ∷ cs) clear =
-    line_byte b (c ∷ cs) (clear 0 (omega arith)) ∙ ap (onto_piece b) (lines_last c cs (λ k h. clear (suc k) (omega arith)))
+    line_byte b (c ∷ cs) (clear 0 (omega arith)) ∙ ap (onto_piece b)
+    (lines_last c cs (λ k h. clear (suc k) (omega arith)))
 
 pub line_last : (bs : List ℕ) → NoFeedBefore (length bs) bs → 0 < length bs → lines_of bs ≡ bs ∷ lines_of []
 line_last [] clear some = absurd (omega arith)
@@ -79,15 +85,19 @@ after_space b bs e = rw e refl
 after_word : (b : ℕ) (bs : List ℕ) → b ≢ 32 → after_spaces (b ∷ bs) ≡ b ∷ bs
 after_word b bs ne = let z : eqb b 32 ≡ false = grind (arith, nat_tests) in rw z refl
 
-pub space_passed : (bs : List ℕ) (i : ℕ) → i < length bs → get_or bs i 0 ≡ 32 → after_spaces (drop i bs) ≡ after_spaces bs
+pub space_passed : (bs : List ℕ) (i : ℕ) → i < length bs → get_or bs i 0 ≡ 32 → after_spaces (drop i bs)
+    ≡ after_spaces bs
     → after_spaces (drop (i + 1) bs) ≡ after_spaces bs
 space_passed bs i lt e h = sym (ap after_spaces (drop_at bs i lt) ∙ after_space (get_or bs i 0) (drop (i + 1) bs) e) ∙ h
 
-pub word_starts : (bs : List ℕ) (i : ℕ) → i < length bs → get_or bs i 0 ≢ 32 → after_spaces (drop i bs) ≡ after_spaces bs
+pub word_starts : (bs : List ℕ) (i : ℕ) → i < length bs → get_or bs i 0 ≢ 32 → after_spaces (drop i bs)
+    ≡ after_spaces bs
     → take (length bs - i) (drop i bs) ≡ after_spaces bs
 word_starts bs i lt ne h =
     all_left bs i
-    ∙ sym (sym h ∙ ap after_spaces (drop_at bs i lt) ∙ after_word (get_or bs i 0) (drop (i + 1) bs) ne ∙ sym (drop_at bs i lt))
+    ∙ sym (sym h ∙ ap after_spaces (drop_at bs i lt) ∙ after_word (get_or bs i 0) (drop (i + 1) bs) ne
+    ∙ sym (drop_at bs i lt))
 
-pub all_spaces : (bs : List ℕ) (i : ℕ) → length bs ≤ i → after_spaces (drop i bs) ≡ after_spaces bs → [] ≡ after_spaces bs
+pub all_spaces : (bs : List ℕ) (i : ℕ) → length bs ≤ i → after_spaces (drop i bs) ≡ after_spaces bs → []
+    ≡ after_spaces bs
 all_spaces bs i le h = let none : drop i bs ≡ [] = grind (arith, common_steps) in sym (ap after_spaces none) ∙ h

@@ -1,5 +1,6 @@
 -- How far processes have come (own): no command changes that of another process.
-use Rattle.std.proofs.Common.{◌≡◌, ◌≢◌, ℕ, ℤ, suc, zero, ◌<◌, Bool, true, false, cond, eqb, List, [], ◌∷◌, length, get_or, set, Option, Some, None, Result, Ok, Err, refl, sym, ap, ◌∙◌, arith}
+use Rattle.std.proofs.Common.{◌≡◌, ◌≢◌, ℕ, ℤ, suc, zero, ◌<◌, Bool, true, false, cond, eqb, List, [], ◌∷◌, length}
+use Rattle.std.proofs.Common.{get_or, set, Option, Some, None, Result, Ok, Err, refl, sym, ap, ◌∙◌, arith}
 use Rattle.std.proofs.lemmas.Bool.Decides.{nat_tests}
 use Rattle.mnames.specs.declared.modes.Mode.{Mode}
 use Rattle.mnames.specs.declared.rows.Row.{Row as Named}
@@ -12,7 +13,8 @@ use Rattle.book.specs.declared.replies.Reply.{Reply}
 use Rattle.tree_model.specs.Access.{Row}
 use Rattle.tree_model.specs.Tree.{Node}
 use Rattle.flat_model.specs.Branches.{branch_at, changed, directory_at, node_at, parts_of, segment_at}
-use Rattle.flat_model.specs.Commands.{after_command, effect_by, effect_of, effect_of_tree_command, gone_on, takes_effect}
+use Rattle.flat_model.specs.Commands.{after_command, effect_by, effect_of, effect_of_tree_command, gone_on}
+use Rattle.flat_model.specs.Commands.{takes_effect}
 use Rattle.flat_model.specs.Making.{after_delete, after_make, deleted, made_at, made_of}
 use Rattle.flat_model.specs.Naming.{after_initiate, after_terminate, initiated}
 use Rattle.flat_model.specs.References.{after_reference, alters, new_word, written, written_by}
@@ -28,7 +30,8 @@ made_stays : (s : Store) (volume : ℕ) (dir : Bool) (pages : ℕ) (rows : List 
 made_stays s volume dir pages rows name (Ok d) = refl
 made_stays s volume dir pages rows name (Err r) = refl
 
-make_stays : (s : Store) (path : List (List ℕ)) (volume : ℕ) (dir : Bool) (pages : ℕ) (rows : List Row) → Stays s (after_make s path volume dir pages rows)
+make_stays : (s : Store) (path : List (List ℕ)) (volume : ℕ) (dir : Bool) (pages : ℕ) (rows : List Row)
+    → Stays s (after_make s path volume dir pages rows)
 unfolding after_make
 make_stays s path volume dir pages rows = each (parts_of path)
   where
@@ -129,21 +132,25 @@ eqb_suc j k = each (eqb j k) refl
     each true e = let same : j ≡ k = grind (arith, nat_tests) in grind (arith, nat_tests)
     each false e = let other : j ≢ k = grind (arith, nat_tests) in grind (arith, nat_tests)
 
-set_at : (qs : List Progress) (k j : ℕ) (q d : Progress) → k < length qs → get_or (set qs k q) j d ≡ cond (eqb j k) q (get_or qs j d)
+set_at : (qs : List Progress) (k j : ℕ) (q d : Progress) → k < length qs → get_or (set qs k q) j d
+    ≡ cond (eqb j k) q (get_or qs j d)
 set_at [] k j q d lt = absurd (omega arith)
 set_at (x ∷ qs) zero zero q d lt = refl
 set_at (x ∷ qs) zero (suc j) q d lt = let other : eqb (suc j) 0 ≡ false = grind (arith, nat_tests) in rw other refl
 set_at (x ∷ qs) (suc k) zero q d lt = let other : eqb 0 (suc k) ≡ false = grind (arith, nat_tests) in rw other refl
-set_at (x ∷ qs) (suc k) (suc j) q d lt = set_at qs k j q d (omega arith) ∙ ap (λ (z : Bool). cond z q (get_or qs j d)) (sym (eqb_suc j k))
+set_at (x ∷ qs) (suc k) (suc j) q d lt = set_at qs k j q d (omega arith)
+    ∙ ap (λ (z : Bool). cond z q (get_or qs j d)) (sym (eqb_suc j k))
 
-pub progress_with : (s : Store) (k j : ℕ) (q : Progress) → k < length s.processes → progress_of (with_progress s k q) j ≡ cond (eqb j k) q (progress_of s j)
+pub progress_with : (s : Store) (k j : ℕ) (q : Progress) → k < length s.processes → progress_of (with_progress s k q) j
+    ≡ cond (eqb j k) q (progress_of s j)
 progress_with s k j q lt = set_at s.processes k j q _ lt
 
 -- a process that hasn't ended is there
 pub going_there : (s : Store) (k : ℕ) → (progress_of s k).ended ≡ false → k < length s.processes
 going_there s k h = each s.processes k h
   where
-    each : (qs : List Progress) (i : ℕ) → (get_or qs i (record { place = 0; tries = 0; ended = true; faulted = false })).ended ≡ false → i < length qs
+    each : (qs : List Progress) (i : ℕ) → (get_or qs i
+        (record { place = 0; tries = 0; ended = true; faulted = false })).ended ≡ false → i < length qs
     each [] i e = absurd cc
     each (q ∷ qs) zero e = omega arith
     each (q ∷ qs) (suc i) e = let lt = each qs i e in omega (arith, lt)
@@ -157,6 +164,7 @@ progress_after p s k j c r lt = each (takes_effect r)
         ≡ cond (eqb j k) (gone_on (progress_of s k) c r) (progress_of s j)
     each true =
         let same = effect_stays p s k c in
-        ap (λ (qs : List Progress). get_or (set qs k (gone_on (progress_of s k) c r)) j (record { place = 0; tries = 0; ended = true; faulted = false })) same
+        ap (λ (qs : List Progress). get_or (set qs k (gone_on (progress_of s k) c r)) j
+        (record { place = 0; tries = 0; ended = true; faulted = false })) same
         ∙ set_at s.processes k j (gone_on (progress_of s k) c r) _ lt
     each false = set_at s.processes k j (gone_on (progress_of s k) c r) _ lt

@@ -1,5 +1,6 @@
 -- How many lines of two texts are the same (own).
-use Rattle.std.proofs.Common.{◌≡◌, ◌≢◌, ℕ, ◌+◌, Bool, true, false, cond, eqb, List, [], ◌∷◌, length, refl, sym, ap, ◌∙◌, arith}
+use Rattle.std.proofs.Common.{◌≡◌, ◌≢◌, ℕ, ◌+◌, Bool, true, false, cond, eqb, List, [], ◌∷◌, length, refl, sym, ap}
+use Rattle.std.proofs.Common.{◌∙◌, arith}
 use Rattle.std.specs.Str.{bytes_eq}
 use Rattle.std.proofs.lemmas.Slice.Eq.{bytes_eq-Decides}
 use Rattle.script.specs.Fields.{lines_of, onto_piece}
@@ -15,30 +16,36 @@ pub record AreSame (all due left wanted : List (List ℕ)) (n : ℕ) : Type 0 wh
 pub same_start : (all due : List (List ℕ)) → AreSame all due all due 0
 same_start all due = record { count = omega arith; forth = λ e. e; back = λ e. e }
 
-both_same : (line other : List ℕ) (more others : List (List ℕ)) → bytes_eq line other ≡ true → same_lines (line ∷ more) (other ∷ others) ≡ 1 + same_lines more others
+both_same : (line other : List ℕ) (more others : List (List ℕ)) → bytes_eq line other ≡ true
+    → same_lines (line ∷ more) (other ∷ others) ≡ 1 + same_lines more others
 both_same line other more others e = rw e refl
 
-both_other : (line other : List ℕ) (more others : List (List ℕ)) → bytes_eq line other ≡ false → same_lines (line ∷ more) (other ∷ others) ≡ 0
+both_other : (line other : List ℕ) (more others : List (List ℕ)) → bytes_eq line other ≡ false
+    → same_lines (line ∷ more) (other ∷ others) ≡ 0
 both_other line other more others e = rw e refl
 
 module _ (all due left wanted : List (List ℕ)) (n : ℕ) (is : AreSame all due left wanted n) where
-  module _ (more due_more : List (List ℕ)) (line due_line : List ℕ) (cut : left ≡ line ∷ more) (due_cut : wanted ≡ due_line ∷ due_more) where
+  module _ (more due_more : List (List ℕ)) (line due_line : List ℕ) (cut : left ≡ line ∷ more)
+      (due_cut : wanted ≡ due_line ∷ due_more) where
     pub same_next : bytes_eq line due_line ≡ true → AreSame all due more due_more (n + 1)
     same_next e =
         let same : line ≡ due_line = (bytes_eq-Decides line due_line).0 e in
         let step : same_lines left wanted ≡ 1 + same_lines more due_more =
-        ap (λ (t : List (List ℕ)). same_lines t wanted) cut ∙ ap (λ (t : List (List ℕ)). same_lines (line ∷ more) t) due_cut
+        ap (λ (t : List (List ℕ)). same_lines t wanted) cut
+        ∙ ap (λ (t : List (List ℕ)). same_lines (line ∷ more) t) due_cut
         ∙ both_same line due_line more due_more e in
         record {
           count = omega (arith, is.count, step);
           forth = λ f. let whole : line ∷ more ≡ due_line ∷ due_more = sym cut ∙ is.forth f ∙ due_cut in cc;
-          back = λ f. is.back (cut ∙ ap (λ (l : List ℕ). l ∷ more) same ∙ ap (λ (t : List (List ℕ)). due_line ∷ t) f ∙ sym due_cut);
+          back = λ f. is.back (cut ∙ ap (λ (l : List ℕ). l ∷ more) same ∙ ap (λ (t : List (List ℕ)). due_line ∷ t) f
+              ∙ sym due_cut);
         }
 
     pub other_line : bytes_eq line due_line ≡ false → (all ≢ due) × (n ≡ same_lines all due)
     other_line e =
         let step : same_lines left wanted ≡ 0 =
-        ap (λ (t : List (List ℕ)). same_lines t wanted) cut ∙ ap (λ (t : List (List ℕ)). same_lines (line ∷ more) t) due_cut
+        ap (λ (t : List (List ℕ)). same_lines t wanted) cut
+        ∙ ap (λ (t : List (List ℕ)). same_lines (line ∷ more) t) due_cut
         ∙ both_other line due_line more due_more e in (
           λ f.
               let whole : line ∷ more ≡ due_line ∷ due_more = sym cut ∙ is.forth f ∙ due_cut in
@@ -83,12 +90,18 @@ some_line (b ∷ bs) some e = each (eqb b 10) e
     each true f = cc
     each false f = onto (lines_of bs) f
 
-module _ (given due left wanted : List ℕ) (n : ℕ) (is : AreSame (lines_of given) (lines_of due) (lines_of left) (lines_of wanted) n) where
-  pub due_ends : length wanted ≡ 0 → length left ≢ 0 → (lines_of given ≢ lines_of due) × (n ≡ same_lines (lines_of given) (lines_of due))
-  due_ends e some = wanted_ends (lines_of given) (lines_of due) (lines_of left) (lines_of wanted) n is (no_line wanted e) (some_line left some)
+module _ (given due left wanted : List ℕ) (n : ℕ) (is : AreSame (lines_of given) (lines_of due) (lines_of left)
+    (lines_of wanted) n) where
+  pub due_ends : length wanted ≡ 0 → length left ≢ 0 → (lines_of given ≢ lines_of due)
+      × (n ≡ same_lines (lines_of given) (lines_of due))
+  due_ends e some = wanted_ends (lines_of given) (lines_of due) (lines_of left) (lines_of wanted) n is
+      (no_line wanted e) (some_line left some)
 
-  pub given_ends : length left ≡ 0 → length wanted ≢ 0 → (lines_of given ≢ lines_of due) × (n ≡ same_lines (lines_of given) (lines_of due))
-  given_ends e some = left_ends (lines_of given) (lines_of due) (lines_of left) (lines_of wanted) n is (no_line left e) (some_line wanted some)
+  pub given_ends : length left ≡ 0 → length wanted ≢ 0 → (lines_of given ≢ lines_of due)
+      × (n ≡ same_lines (lines_of given) (lines_of due))
+  given_ends e some = left_ends (lines_of given) (lines_of due) (lines_of left) (lines_of wanted) n is (no_line left e)
+      (some_line wanted some)
 
   pub texts_end : length left ≡ 0 → length wanted ≡ 0 → lines_of given ≡ lines_of due
-  texts_end e f = both_end (lines_of given) (lines_of due) (lines_of left) (lines_of wanted) n is (no_line left e) (no_line wanted f)
+  texts_end e f = both_end (lines_of given) (lines_of due) (lines_of left) (lines_of wanted) n is (no_line left e)
+      (no_line wanted f)

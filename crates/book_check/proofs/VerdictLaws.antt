@@ -1,5 +1,6 @@
 -- How a listing is judged line by line, and that there is one verdict (own).
-use Rattle.std.proofs.Common.{◌≡◌, ℕ, ◌+◌, false, List, [], ◌∷◌, ◌++◌, length, map, Result, Ok, Err, refl, sym, ap, subst, ◌∙◌}
+use Rattle.std.proofs.Common.{◌≡◌, ℕ, ◌+◌, false, List, [], ◌∷◌, ◌++◌, length, map, Result, Ok, Err, refl, sym, ap}
+use Rattle.std.proofs.Common.{subst, ◌∙◌}
 use Rattle.std.proofs.lemmas.List.{append_assoc}
 use Rattle.script.specs.Plans.{Plan}
 use Rattle.book.specs.declared.entries.Entry.{Entry}
@@ -14,7 +15,8 @@ use Rattle.custody_model.specs.Next.{custody_next}
 use Rattle.book_check.specs.Inputs.{entry_lines, is_summary, summary_lines}
 use Rattle.book_check.specs.Judging.{OnlyOne}
 use Rattle.book_check.specs.Going.{Finds, IsJudgedFrom}
-use Rattle.book_check.specs.Verdicts.{AreEntries, Breaks, BreaksEnd, BreaksEntry, IsJudged, IsTextOf, IsWhole, MayStand, due_lines}
+use Rattle.book_check.specs.Verdicts.{AreEntries, Breaks, BreaksEnd, BreaksEntry, IsJudged, IsTextOf, IsWhole}
+use Rattle.book_check.specs.Verdicts.{MayStand, due_lines}
 use Rattle.book_check.specs.declared.offences.Rule.{Rule}
 use Rattle.book_check.specs.declared.offences.Rule.TheVariants as rule
 use Rattle.book_check.specs.declared.offences.Offence.{Offence}
@@ -27,7 +29,8 @@ nil_after (x ∷ xs) = ap (λ t. x ∷ t) (nil_after xs)
 
 -- ---- one entry of those that may stand one after the other
 
-lawful_from : (p : Plan) (s : Store) (es fs : List Entry) (e : Entry) → IsLegalFrom p s (es ++ e ∷ fs) → IsLawful p (store_from p s es) e
+lawful_from : (p : Plan) (s : Store) (es fs : List Entry) (e : Entry) → IsLegalFrom p s (es ++ e ∷ fs)
+    → IsLawful p (store_from p s es) e
 unfolding IsLegalFrom store_from
 lawful_from p s [] fs e h = h.0
 lawful_from p s (d ∷ es) fs e h = lawful_from p (after_entry p s d) es fs e h.1
@@ -42,7 +45,8 @@ unfolding IsCleanFrom store_from custody_from
 allowed_from p s c [] fs e h = h.0
 allowed_from p s c (d ∷ es) fs e h = allowed_from p (after_entry p s d) (custody_next p s c d) es fs e h.1
 
-allowed_at : (p : Plan) (es fs : List Entry) (e : Entry) → IsClean p (es ++ e ∷ fs) → IsAllowed p (store_after p es) (custody_after p es) e
+allowed_at : (p : Plan) (es fs : List Entry) (e : Entry) → IsClean p (es ++ e ∷ fs)
+    → IsAllowed p (store_after p es) (custody_after p es) e
 unfolding IsClean store_after custody_after
 allowed_at p es fs e h = allowed_from p (boot p) (nothing_held p) es fs e h
 
@@ -53,11 +57,13 @@ entry_at (d ∷ es) fs e h = entry_at es fs e h.1
 -- ---- a line at fault
 
 -- an entry that may stand there breaks nothing
-breaks_not : (p : Plan) (es : List Entry) (line : List ℕ) (e : Entry) (r : Rule) → OnlyOne line → IsTextOf e line → IsLawful p (store_after p es) e
+breaks_not : (p : Plan) (es : List Entry) (line : List ℕ) (e : Entry) (r : Rule) → OnlyOne line → IsTextOf e line
+    → IsLawful p (store_after p es) e
     → IsAllowed p (store_after p es) (custody_after p es) e → BreaksEntry p es line r → ⊥
 unfolding OnlyOne
 breaks_not p es line e rule.NoEntry one text lawful allowed h = h e text
-breaks_not p es line e rule.NotLegal one text lawful allowed (f, is, not_lawful) = not_lawful (subst (IsLawful p (store_after p es)) (one e f text is) lawful)
+breaks_not p es line e rule.NotLegal one text lawful allowed (f, is, not_lawful) =
+    not_lawful (subst (IsLawful p (store_after p es)) (one e f text is) lawful)
 breaks_not p es line e rule.NotClean one text lawful allowed (f, is, may, not_allowed) =
     not_allowed (subst (IsAllowed p (store_after p es) (custody_after p es)) (one e f text is) allowed)
 breaks_not p es line e rule.Incomplete one text lawful allowed h = absurd h
@@ -65,7 +71,8 @@ breaks_not p es line e rule.ZeroPage one text lawful allowed h = absurd h
 breaks_not p es line e rule.WrongSum one text lawful allowed h = absurd h
 
 -- a line breaks one rule
-one_rule : (p : Plan) (es : List Entry) (line : List ℕ) (r q : Rule) → OnlyOne line → BreaksEntry p es line r → BreaksEntry p es line q → r ≡ q
+one_rule : (p : Plan) (es : List Entry) (line : List ℕ) (r q : Rule) → OnlyOne line → BreaksEntry p es line r
+    → BreaksEntry p es line q → r ≡ q
 unfolding OnlyOne
 one_rule p es line rule.NoEntry rule.NoEntry one h k = refl
 one_rule p es line rule.NoEntry rule.NotLegal one h (e, is, no_) = absurd (h e is)
@@ -88,7 +95,8 @@ one_rule p es line r rule.WrongSum one h k = absurd k
 -- ---- a summary
 
 -- a summary breaks one rule, at one line
-one_break : (p : Plan) (es : List Entry) (n : ℕ) (summary : List (List ℕ)) (l m : ℕ) (r q : Rule) → BreaksEnd p es n summary l r → BreaksEnd p es n summary m q
+one_break : (p : Plan) (es : List Entry) (n : ℕ) (summary : List (List ℕ)) (l m : ℕ) (r q : Rule)
+    → BreaksEnd p es n summary l r → BreaksEnd p es n summary m q
     → (l ≡ m) × (r ≡ q)
 one_break p es n summary l m rule.Incomplete rule.Incomplete h k = (h.0 ∙ sym k.0, refl)
 one_break p es n summary l m rule.Incomplete rule.ZeroPage h k = absurd (h.1 k.1)
@@ -107,7 +115,8 @@ one_break p es n summary l m r rule.NotLegal h k = absurd k
 one_break p es n summary l m r rule.NotClean h k = absurd k
 
 -- a summary that is due breaks nothing
-whole_not : (p : Plan) (es : List Entry) (n : ℕ) (summary : List (List ℕ)) (l : ℕ) (r : Rule) → IsWhole p es → summary ≡ due_lines p es
+whole_not : (p : Plan) (es : List Entry) (n : ℕ) (summary : List (List ℕ)) (l : ℕ) (r : Rule) → IsWhole p es → summary
+    ≡ due_lines p es
     → BreaksEnd p es n summary l r → ⊥
 whole_not p es n summary l rule.Incomplete whole is h = h.1 whole.complete
 whole_not p es n summary l rule.ZeroPage whole is h = whole.zeros h.2
@@ -117,12 +126,16 @@ whole_not p es n summary l rule.NotLegal whole is h = absurd h
 whole_not p es n summary l rule.NotClean whole is h = absurd h
 
 same_offence : (o q : Offence) → o.line ≡ q.line → o.rule ≡ q.rule → o ≡ q
-same_offence o q e f = ap (λ (l : ℕ). record { line = l; rule = o.rule }) e ∙ ap (λ (r : Rule). record { line = q.line; rule = r }) f
+same_offence o q e f = ap (λ (l : ℕ). record { line = l; rule = o.rule }) e
+    ∙ ap (λ (r : Rule). record { line = q.line; rule = r }) f
 
-one_end : (p : Plan) (n : ℕ) (es : List Entry) (summary : List (List ℕ)) (v w : Result ℕ CheckFault) → Finds p n es [] summary v → Finds p n es [] summary w → v ≡ w
+one_end : (p : Plan) (n : ℕ) (es : List Entry) (summary : List (List ℕ)) (v w : Result ℕ CheckFault)
+    → Finds p n es [] summary v → Finds p n es [] summary w → v ≡ w
 one_end p n es summary (Ok a) (Ok b) h k = ap Ok (h.0 ∙ sym k.0)
-one_end p n es summary (Ok a) (Err (fault.Refused o)) h k = absurd (whole_not p es (n + length es) summary o.line o.rule h.1 h.2 k)
-one_end p n es summary (Err (fault.Refused o)) (Ok b) h k = absurd (whole_not p es (n + length es) summary o.line o.rule k.1 k.2 h)
+one_end p n es summary (Ok a) (Err (fault.Refused o)) h k =
+    absurd (whole_not p es (n + length es) summary o.line o.rule h.1 h.2 k)
+one_end p n es summary (Err (fault.Refused o)) (Ok b) h k =
+    absurd (whole_not p es (n + length es) summary o.line o.rule k.1 k.2 h)
 one_end p n es summary (Err (fault.Refused o)) (Err (fault.Refused q)) h k =
     let both = one_break p es (n + length es) summary o.line q.line o.rule q.rule h k in
     ap (λ (x : Offence). Err (fault.Refused x)) (same_offence o q both.0 both.1)
@@ -133,7 +146,8 @@ one_end p n es summary v (Err fault.Memory) h k = absurd k
 
 -- ---- a listing whose first entries were accepted
 
-pub judged_up : (p : Plan) (n : ℕ) (lines : List (List ℕ)) (v : Result ℕ CheckFault) → IsJudged p n lines v → IsJudgedFrom p n [] lines v
+pub judged_up : (p : Plan) (n : ℕ) (lines : List (List ℕ)) (v : Result ℕ CheckFault) → IsJudged p n lines v
+    → IsJudgedFrom p n [] lines v
 judged_up p n lines (Ok count) h = record {
   entries = h.entries;
   left = [];
@@ -144,16 +158,26 @@ judged_up p n lines (Ok count) h = record {
 judged_up p n lines (Err (fault.Refused o)) h = up h.entries h.left h.texts h.stand h.breaks
   where
     up : (es : List Entry) (left : List (List ℕ)) → entry_lines lines ≡ map entry_text es ++ left → MayStand p es
-        → Breaks p es (n + length es) left (summary_lines lines) o.line o.rule → IsJudgedFrom p n [] lines (Err (fault.Refused o))
+        → Breaks p es (n + length es) left (summary_lines lines) o.line o.rule
+        → IsJudgedFrom p n [] lines (Err (fault.Refused o))
     up es [] texts stand breaks = record { entries = es; left = []; texts = texts; stand = stand; finds = breaks }
-    up es (l ∷ left) texts stand breaks = record { entries = es; left = l ∷ left; texts = texts; stand = stand; finds = breaks }
+    up es (l ∷ left) texts stand breaks = record {
+      entries = es;
+      left = l ∷ left;
+      texts = texts;
+      stand = stand;
+      finds =
+          breaks;
+    }
 judged_up p n lines (Err (fault.Script r)) h = absurd h
 judged_up p n lines (Err fault.Memory) h = absurd h
 
-pub judged_down : (p : Plan) (n : ℕ) (lines : List (List ℕ)) (v : Result ℕ CheckFault) → IsJudgedFrom p n [] lines v → IsJudged p n lines v
+pub judged_down : (p : Plan) (n : ℕ) (lines : List (List ℕ)) (v : Result ℕ CheckFault) → IsJudgedFrom p n [] lines v
+    → IsJudged p n lines v
 judged_down p n lines v h = down v h.entries h.left h.texts h.stand h.finds
   where
-    down : (w : Result ℕ CheckFault) (es : List Entry) (left : List (List ℕ)) → entry_lines lines ≡ map entry_text es ++ left → MayStand p es
+    down : (w : Result ℕ CheckFault) (es : List Entry) (left : List (List ℕ)) → entry_lines lines ≡ map entry_text es
+        ++ left → MayStand p es
         → Finds p n es left (summary_lines lines) w → IsJudged p n lines w
     down (Ok count) es [] texts stand finds = record {
       entries = es;
@@ -164,8 +188,10 @@ judged_down p n lines v h = down v h.entries h.left h.texts h.stand h.finds
       summary = finds.2;
     }
     down (Ok count) es (l ∷ left) texts stand finds = absurd finds
-    down (Err (fault.Refused o)) es [] texts stand finds = record { entries = es; left = []; texts = texts; stand = stand; breaks = finds }
-    down (Err (fault.Refused o)) es (l ∷ left) texts stand finds = record { entries = es; left = l ∷ left; texts = texts; stand = stand; breaks = finds }
+    down (Err (fault.Refused o)) es [] texts stand finds =
+        record { entries = es; left = []; texts = texts; stand = stand; breaks = finds }
+    down (Err (fault.Refused o)) es (l ∷ left) texts stand finds =
+        record { entries = es; left = l ∷ left; texts = texts; stand = stand; breaks = finds }
     down (Err (fault.Script r)) es [] texts stand finds = absurd finds
     down (Err (fault.Script r)) es (l ∷ left) texts stand finds = absurd finds
     down (Err fault.Memory) es [] texts stand finds = absurd finds
@@ -173,11 +199,13 @@ judged_down p n lines v h = down v h.entries h.left h.texts h.stand h.finds
 
 -- ---- a line before the summary
 
-entry_first : (line : List ℕ) (more : List (List ℕ)) → is_summary line ≡ false → entry_lines (line ∷ more) ≡ line ∷ entry_lines more
+entry_first : (line : List ℕ) (more : List (List ℕ)) → is_summary line ≡ false → entry_lines (line ∷ more) ≡ line
+    ∷ entry_lines more
 unfolding entry_lines
 entry_first line more e = rw e refl
 
-summary_after : (line : List ℕ) (more : List (List ℕ)) → is_summary line ≡ false → summary_lines (line ∷ more) ≡ summary_lines more
+summary_after : (line : List ℕ) (more : List (List ℕ)) → is_summary line ≡ false → summary_lines (line ∷ more)
+    ≡ summary_lines more
 unfolding summary_lines
 summary_after line more e = rw e refl
 
@@ -190,14 +218,17 @@ moved p es fs e h = subst (MayStand p) (sym (append_assoc es (e ∷ []) fs)) h
 back : (p : Plan) (es fs : List Entry) (e : Entry) → MayStand p ((es ++ e ∷ []) ++ fs) → MayStand p (es ++ e ∷ fs)
 back p es fs e h = subst (MayStand p) (append_assoc es (e ∷ []) fs) h
 
-module _ (p : Plan) (n : ℕ) (es : List Entry) (line : List ℕ) (more : List (List ℕ)) (v : Result ℕ CheckFault) (before : is_summary line ≡ false)
+module _ (p : Plan) (n : ℕ) (es : List Entry) (line : List ℕ) (more : List (List ℕ)) (v : Result ℕ CheckFault)
+    (before : is_summary line ≡ false)
     (one : OnlyOne line)
   where
     -- what comes first among the entries is this line's
-    first_text : (fs : List Entry) (f : Entry) (left : List (List ℕ)) → entry_lines (line ∷ more) ≡ map entry_text (f ∷ fs) ++ left
+    first_text : (fs : List Entry) (f : Entry) (left : List (List ℕ)) → entry_lines (line ∷ more)
+        ≡ map entry_text (f ∷ fs) ++ left
         → MayStand p (es ++ f ∷ fs) → IsTextOf f line × (entry_lines more ≡ map entry_text fs ++ left)
     first_text fs f left texts stand =
-        let parts = one_line line (entry_text f) (entry_lines more) (map entry_text fs ++ left) (sym (entry_first line more before) ∙ texts) in
+        let parts = one_line line (entry_text f) (entry_lines more) (map entry_text fs ++ left)
+        (sym (entry_first line more before) ∙ texts) in
         (record { entry = entry_at es fs f stand.entries; text = sym parts.0 }, parts.1)
 
     module _ (e : Entry) (text : IsTextOf e line) (lawful : IsLawful p (store_after p es) e)
@@ -207,21 +238,26 @@ module _ (p : Plan) (n : ℕ) (es : List Entry) (line : List ℕ) (more : List (
         unfolding OnlyOne
         passed h = each v h.entries h.left h.texts h.stand h.finds
           where
-            here : (w : Result ℕ CheckFault) (left : List (List ℕ)) → line ∷ entry_lines more ≡ left → Finds p n (es ++ []) left (summary_lines (line ∷ more)) w → ⊥
+            here : (w : Result ℕ CheckFault) (left : List (List ℕ)) → line ∷ entry_lines more ≡ left
+                → Finds p n (es ++ []) left (summary_lines (line ∷ more)) w → ⊥
             here (Ok count) [] texts finds = cc
             here (Ok count) (l ∷ ls) texts finds = finds
             here (Err (fault.Refused o)) [] texts finds = cc
             here (Err (fault.Refused o)) (l ∷ ls) texts finds =
                 let same : line ≡ l = (one_line line l (entry_lines more) ls texts).0 in
-                let now : BreaksEntry p es l o.rule = subst (λ (xs : List Entry). BreaksEntry p xs l o.rule) (nil_after es) finds.1 in
-                breaks_not p es line e o.rule one text lawful allowed (subst (λ (x : List ℕ). BreaksEntry p es x o.rule) (sym same) now)
+                let now : BreaksEntry p es l o.rule = subst (λ (xs : List Entry). BreaksEntry p xs l o.rule)
+                (nil_after es) finds.1 in
+                breaks_not p es line e o.rule one text lawful allowed
+                (subst (λ (x : List ℕ). BreaksEntry p es x o.rule) (sym same) now)
             here (Err (fault.Script r)) [] texts finds = cc
             here (Err (fault.Script r)) (l ∷ ls) texts finds = finds
             here (Err fault.Memory) [] texts finds = cc
             here (Err fault.Memory) (l ∷ ls) texts finds = finds
 
-            each : (w : Result ℕ CheckFault) (fs : List Entry) (left : List (List ℕ)) → entry_lines (line ∷ more) ≡ map entry_text fs ++ left
-                → MayStand p (es ++ fs) → Finds p n (es ++ fs) left (summary_lines (line ∷ more)) w → IsJudgedFrom p n (es ++ e ∷ []) more w
+            each : (w : Result ℕ CheckFault) (fs : List Entry) (left : List (List ℕ)) → entry_lines (line ∷ more)
+                ≡ map entry_text fs ++ left
+                → MayStand p (es ++ fs) → Finds p n (es ++ fs) left (summary_lines (line ∷ more)) w
+                → IsJudgedFrom p n (es ++ e ∷ []) more w
             each w [] left texts stand finds = absurd (here w left (sym (entry_first line more before) ∙ texts) finds)
             each w (f ∷ fs) left texts stand finds =
                 let parts = first_text fs f left texts stand in
@@ -233,7 +269,8 @@ module _ (p : Plan) (n : ℕ) (es : List Entry) (line : List ℕ) (more : List (
                   left = left;
                   texts = parts.1;
                   stand = subst (MayStand p) whole stand;
-                  finds = subst (λ (xs : List (List ℕ)). Finds p n ((es ++ e ∷ []) ++ fs) left xs w) (summary_after line more before)
+                  finds = subst (λ (xs : List (List ℕ)). Finds p n ((es ++ e ∷ []) ++ fs) left xs w)
+                      (summary_after line more before)
                       (subst (λ (xs : List Entry). Finds p n xs left (summary_lines (line ∷ more)) w) whole finds);
                 }
 
@@ -244,8 +281,10 @@ module _ (p : Plan) (n : ℕ) (es : List Entry) (line : List ℕ) (more : List (
           texts = entry_first line more before ∙ ap (λ (l : List ℕ). l ∷ entry_lines more) (sym text.text)
               ∙ ap (λ (x : List (List ℕ)). entry_text e ∷ x) h.texts;
           stand = back p es h.entries e h.stand;
-          finds = subst (λ (xs : List Entry). Finds p n xs h.left (summary_lines (line ∷ more)) v) (append_assoc es (e ∷ []) h.entries)
-              (subst (λ (xs : List (List ℕ)). Finds p n ((es ++ e ∷ []) ++ h.entries) h.left xs v) (sym (summary_after line more before)) h.finds);
+          finds = subst (λ (xs : List Entry). Finds p n xs h.left (summary_lines (line ∷ more)) v)
+              (append_assoc es (e ∷ []) h.entries)
+              (subst (λ (xs : List (List ℕ)). Finds p n ((es ++ e ∷ []) ++ h.entries) h.left xs v)
+              (sym (summary_after line more before)) h.finds);
         }
 
     -- the line is at fault
@@ -256,28 +295,34 @@ module _ (p : Plan) (n : ℕ) (es : List Entry) (line : List ℕ) (more : List (
       pub fault_only : IsJudgedFrom p n es (line ∷ more) v → v ≡ Err (fault.Refused offence)
       fault_only h = each v h.entries h.left h.texts h.stand h.finds
         where
-          here : (w : Result ℕ CheckFault) (left : List (List ℕ)) → line ∷ entry_lines more ≡ left → Finds p n (es ++ []) left (summary_lines (line ∷ more)) w
+          here : (w : Result ℕ CheckFault) (left : List (List ℕ)) → line ∷ entry_lines more ≡ left
+              → Finds p n (es ++ []) left (summary_lines (line ∷ more)) w
               → w ≡ Err (fault.Refused offence)
           here (Ok count) [] texts finds = cc
           here (Ok count) (l ∷ ls) texts finds = absurd finds
           here (Err (fault.Refused o)) [] texts finds = cc
           here (Err (fault.Refused o)) (l ∷ ls) texts finds =
               let same : line ≡ l = (one_line line l (entry_lines more) ls texts).0 in
-              let now : BreaksEntry p es l o.rule = subst (λ (xs : List Entry). BreaksEntry p xs l o.rule) (nil_after es) finds.1 in
+              let now : BreaksEntry p es l o.rule = subst (λ (xs : List Entry). BreaksEntry p xs l o.rule)
+              (nil_after es) finds.1 in
               let place : o.line ≡ n + length es = finds.0 ∙ ap (λ (xs : List Entry). n + length xs) (nil_after es) in
-              let rules_ : o.rule ≡ r = one_rule p es line o.rule r one (subst (λ (x : List ℕ). BreaksEntry p es x o.rule) (sym same) now) breaks in
+              let rules_ : o.rule ≡ r = one_rule p es line o.rule r one
+              (subst (λ (x : List ℕ). BreaksEntry p es x o.rule) (sym same) now) breaks in
               ap (λ (x : Offence). Err (fault.Refused x)) (same_offence o offence place rules_)
           here (Err (fault.Script q)) [] texts finds = cc
           here (Err (fault.Script q)) (l ∷ ls) texts finds = absurd finds
           here (Err fault.Memory) [] texts finds = cc
           here (Err fault.Memory) (l ∷ ls) texts finds = absurd finds
 
-          each : (w : Result ℕ CheckFault) (fs : List Entry) (left : List (List ℕ)) → entry_lines (line ∷ more) ≡ map entry_text fs ++ left
-              → MayStand p (es ++ fs) → Finds p n (es ++ fs) left (summary_lines (line ∷ more)) w → w ≡ Err (fault.Refused offence)
+          each : (w : Result ℕ CheckFault) (fs : List Entry) (left : List (List ℕ)) → entry_lines (line ∷ more)
+              ≡ map entry_text fs ++ left
+              → MayStand p (es ++ fs) → Finds p n (es ++ fs) left (summary_lines (line ∷ more)) w → w
+              ≡ Err (fault.Refused offence)
           each w [] left texts stands finds = here w left (sym (entry_first line more before) ∙ texts) finds
           each w (f ∷ fs) left texts stands finds =
               let parts = first_text fs f left texts stands in
-              absurd (breaks_not p es line f r one parts.0 (lawful_at p es fs f stands.legal) (allowed_at p es fs f stands.clean) breaks)
+              absurd (breaks_not p es line f r one parts.0 (lawful_at p es fs f stands.legal)
+              (allowed_at p es fs f stands.clean) breaks)
 
       pub fault_there : v ≡ Err (fault.Refused offence) → IsJudgedFrom p n es (line ∷ more) v
       fault_there e = subst (IsJudgedFrom p n es (line ∷ more)) (sym e) (record {
@@ -285,23 +330,30 @@ module _ (p : Plan) (n : ℕ) (es : List Entry) (line : List ℕ) (more : List (
         left = line ∷ entry_lines more;
         texts = entry_first line more before;
         stand = subst (MayStand p) (sym (nil_after es)) stand;
-        finds = (ap (λ (xs : List Entry). n + length xs) (sym (nil_after es)), subst (λ (xs : List Entry). BreaksEntry p xs line r) (sym (nil_after es)) breaks);
+        finds = (
+          ap (λ (xs : List Entry). n + length xs) (sym (nil_after es)),
+          subst
+              (λ (xs : List Entry). BreaksEntry p xs line r) (sym (nil_after es)) breaks,
+        );
       })
 
 -- ---- the summary
 
-module _ (p : Plan) (n : ℕ) (es : List Entry) (lines : List (List ℕ)) (given : Result ℕ CheckFault) (none : entry_lines lines ≡ []) (stand : MayStand p es)
+module _ (p : Plan) (n : ℕ) (es : List Entry) (lines : List (List ℕ)) (given : Result ℕ CheckFault)
+    (none : entry_lines lines ≡ []) (stand : MayStand p es)
     (found : Finds p n es [] (summary_lines lines) given) (v : Result ℕ CheckFault)
   where
     pub end_only : IsJudgedFrom p n es lines v → v ≡ given
     end_only h = each h.entries h.left h.texts h.finds
       where
-        each : (fs : List Entry) (left : List (List ℕ)) → entry_lines lines ≡ map entry_text fs ++ left → Finds p n (es ++ fs) left (summary_lines lines) v
+        each : (fs : List Entry) (left : List (List ℕ)) → entry_lines lines ≡ map entry_text fs ++ left
+            → Finds p n (es ++ fs) left (summary_lines lines) v
             → v ≡ given
         each [] [] texts finds = one_end p n es (summary_lines lines) v given
             (subst (λ (xs : List Entry). Finds p n xs [] (summary_lines lines) v) (nil_after es) finds) found
         each [] (l ∷ left) texts finds = let clash : [] ≡ l ∷ left = sym none ∙ texts in cc
-        each (f ∷ fs) left texts finds = let clash : [] ≡ entry_text f ∷ (map entry_text fs ++ left) = sym none ∙ texts in cc
+        each (f ∷ fs) left texts finds = let clash : [] ≡ entry_text f ∷ (map entry_text fs ++ left) = sym none
+            ∙ texts in cc
 
     pub end_there : v ≡ given → IsJudgedFrom p n es lines v
     end_there e = subst (IsJudgedFrom p n es lines) (sym e) (record {

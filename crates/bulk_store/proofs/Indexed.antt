@@ -1,5 +1,6 @@
 -- The index tells what the list does, before and after each change.
-use Rattle.std.proofs.Common.{◌≡◌, ◌≢◌, ◌<◌, ◌≤◌, ◌+◌, ℕ, max, List, [], ◌∷◌, ◌⊎◌, None, Some, length, get_or, set, sym, ◌∙◌, ap, inl, inr, arith}
+use Rattle.std.proofs.Common.{◌≡◌, ◌≢◌, ◌<◌, ◌≤◌, ◌+◌, ℕ, max, List, [], ◌∷◌, ◌⊎◌, None, Some, length, get_or, set}
+use Rattle.std.proofs.Common.{sym, ◌∙◌, ap, inl, inr, arith}
 use Rattle.std.proofs.Common.{length-append}
 use Rattle.std.proofs.lemmas.Bool.{cases_eq}
 use Rattle.std.proofs.lemmas.Bool.Decides.{leb_tells}
@@ -18,13 +19,15 @@ place_cases : (held : List Held) (r p s q : ℕ) → place_of held r ≡ None �
     → ((s ≡ r) × (p ≡ q)) ⊎ ((s ≢ r) × (place_of held s ≡ Some q))
 place_cases held r p s q none is = elim (cases_eq s r) [
   | inl e ↦ (let new = place_of-newest held r p none in
-      let at : place_of (with_newest held r p) r ≡ Some q = ap (λ (x : ℕ). place_of (with_newest held r p) x) (sym e) ∙ is in
+      let at : place_of (with_newest held r p) r ≡ Some q = ap (λ (x : ℕ). place_of (with_newest held r p) x) (sym e)
+      ∙ is in
       inl (e, (cc)))
   | inr n ↦ inr (n, sym (place_of-others held r p s n) ∙ is)
 ]
 
 -- record r comes in
-pub with_record-indexed : (t : Holdings) (r : ℕ) → IsIndexed t → place_of t.held r ≡ None → t.free < t.room → r < length t.places
+pub with_record-indexed : (t : Holdings) (r : ℕ) → IsIndexed t → place_of t.held r ≡ None → t.free < t.room
+    → r < length t.places
     → IsIndexed (with_record t r)
 with_record-indexed t r k none room within = record {
   found = λ s. elim (cases_eq s r) [
@@ -54,7 +57,8 @@ with_record-indexed t r k none room within = record {
     | inl e ↦ (r, rw e (place_of-newest t.held r t.free none))
     | inr n ↦ (let before : p < t.used = omega (arith, k.free_used, below, n) in let old = k.taken p before n in
         elim (cases_eq old.0 r) [
-          | inl e ↦ (let at = old.1 in let same : place_of t.held r ≡ Some p = ap (λ (x : ℕ). place_of t.held x) (sym e) ∙ at in cc)
+          | inl e ↦ (let at = old.1 in let same : place_of t.held r ≡ Some p =
+              ap (λ (x : ℕ). place_of t.held x) (sym e) ∙ at in cc)
           | inr other ↦ (old.0, place_of-others t.held r t.free old.0 other ∙ old.1)
         ])
   ];
@@ -64,10 +68,12 @@ with_record-indexed t r k none room within = record {
   but_one = λ lt. absurd (omega (arith, lt));
 }
   where
-    grown : length (with_newest t.held r t.free) ≡ length t.held + 1 → length (with_newest t.held r t.free) ≡ max t.used (t.free + 1)
+    grown : length (with_newest t.held r t.free) ≡ length t.held + 1 → length (with_newest t.held r t.free)
+        ≡ max t.used (t.free + 1)
     grown more = elim (cases_eq t.free t.used) [
       | inl e ↦ (let all = k.all_used e in omega (arith, more, all, e))
-      | inr n ↦ (let lt : t.free < t.used = omega (arith, n, k.free_used) in let all = k.but_one lt in omega (arith, more, all, lt))
+      | inr n ↦ (let lt : t.free < t.used = omega (arith, n, k.free_used) in let all =
+          k.but_one lt in omega (arith, more, all, lt))
     ]
 
 -- the place of a record of the rest is its place in the whole list, and the record isn't the oldest
@@ -76,13 +82,15 @@ pub rest_places : (h : Held) (held : List Held) (r p : ℕ) → NoneTwice (h ∷
 rest_places h held r p once is = (other, place_of-rest h held r (λ e. other (sym e)) ∙ is)
   where
     other : r ≢ h.number
-    other e = (let none = once.0 in let here : place_of held h.number ≡ Some p = ap (λ (x : ℕ). place_of held x) (sym e) ∙ is in cc)
+    other e = (let none = once.0 in let here : place_of held h.number ≡ Some p =
+        ap (λ (x : ℕ). place_of held x) (sym e) ∙ is in cc)
 
 -- where all places are taken, the least free one is past all that were ever used
 pub full_free : (t : Holdings) → IsIndexed t → length t.held ≡ t.room → t.free ≡ t.used
 full_free t k full = elim (cases_eq t.free t.used) [
   | inl e ↦ e
-  | inr n ↦ (let lt : t.free < t.used = omega (arith, n, k.free_used) in absurd (omega (arith, k.but_one lt, full, k.used_room)))
+  | inr n ↦ (let lt : t.free < t.used = omega (arith, n, k.free_used) in absurd
+      (omega (arith, k.but_one lt, full, k.used_room)))
 ]
 
 -- where a place is free, the least free one is a place
@@ -102,7 +110,8 @@ rest_indexed h t k full = record {
   ];
   once = k.once.1;
   apart = λ r s p is too. k.apart r s p (rest_places h t.held r p k.once is).1 (rest_places h t.held s p k.once too).1;
-  free = λ r is. (let at = rest_places h t.held r h.place k.once is in at.0 (k.apart r h.number h.place at.1 (place_of-first h t.held)));
+  free = λ r is. (let at = rest_places h t.held r h.place k.once is in at.0
+      (k.apart r h.number h.place at.1 (place_of-first h t.held)));
   below = λ r p is. k.below r p (rest_places h t.held r p k.once is).1;
   taken = λ p below other. (let old = k.taken p below (λ e. omega (arith, e, below, full)) in
       (old.0, sym (place_of-rest h t.held old.0 (λ e. other (same old.0 p e old.1))) ∙ old.1));
@@ -115,14 +124,17 @@ rest_indexed h t k full = record {
     set_none : get_or (set t.places h.number None) h.number None ≡ None
     set_none = elim (in_or_past h.number (length t.places)) [
       | inl lt ↦ get_or-set_same t.places h.number None None lt
-      | inr ge ↦ get_or_past (set t.places h.number None) h.number None (omega (arith, ge, length-set t.places h.number None))
+      | inr ge ↦ get_or_past (set t.places h.number None) h.number None
+          (omega (arith, ge, length-set t.places h.number None))
     ]
 
     same : (r p : ℕ) → h.number ≡ r → place_of (h ∷ t.held) r ≡ Some p → p ≡ h.place
-    same r p e is = (let at = place_of-first h t.held in let there : place_of (h ∷ t.held) h.number ≡ Some p = ap (λ (x : ℕ). place_of (h ∷ t.held) x) e ∙ is in
+    same r p e is = (let at = place_of-first h t.held in let there : place_of (h ∷ t.held) h.number ≡ Some p =
+        ap (λ (x : ℕ). place_of (h ∷ t.held) x) e ∙ is in
         let both : Some p ≡ Some h.place = sym there ∙ at in cc)
 
-pub without_oldest-indexed : (t : Holdings) → IsIndexed t → length t.held ≡ t.room → 0 < t.room → IsIndexed (without_oldest t)
+pub without_oldest-indexed : (t : Holdings) → IsIndexed t → length t.held ≡ t.room → 0 < t.room
+    → IsIndexed (without_oldest t)
 without_oldest-indexed t k full some = go t.held k full (full_free t k full)
   where
     go : (held : List Held) → IsIndexed (record t { held = held }) → length held ≡ t.room → t.free ≡ t.used

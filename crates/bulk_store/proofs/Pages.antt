@@ -1,5 +1,6 @@
 -- The pages of a store, record by record.
-use Rattle.std.proofs.Common.{◌≡◌, ◌≢◌, ◌<◌, ℕ, List, [], ◌⊎◌, Option, None, Some, length, get_or, set, refl, sym, ◌∙◌, inl, inr, arith, zero-add}
+use Rattle.std.proofs.Common.{◌≡◌, ◌≢◌, ◌<◌, ℕ, List, [], ◌⊎◌, Option, None, Some, length, get_or, set, refl, sym, ◌∙◌}
+use Rattle.std.proofs.Common.{inl, inr, arith, zero-add}
 use Rattle.std.proofs.lemmas.Bool.{cases_eq}
 use Rattle.std.proofs.lemmas.List.{get_or-set_same, get_or-set_other, length-set, ext_get_or}
 use Rattle.std.proofs.lemmas.List.FromFn.{get_or-map-range_with_len, length-map-range_with_len}
@@ -12,10 +13,12 @@ pub held_or_not : (o : Option ℕ) → (o ≡ None) ⊎ ((p : ℕ) × (o ≡ Som
 held_or_not None = inl refl
 held_or_not (Some p) = inr (p, refl)
 
-pub page_of-held : (fast disk : List (List ℕ)) (held : List Held) (r p : ℕ) → place_of held r ≡ Some p → page_of fast disk held r ≡ get_or fast p []
+pub page_of-held : (fast disk : List (List ℕ)) (held : List Held) (r p : ℕ) → place_of held r ≡ Some p
+    → page_of fast disk held r ≡ get_or fast p []
 page_of-held fast disk held r p is = rw is refl
 
-pub page_of-other : (fast disk : List (List ℕ)) (held : List Held) (r : ℕ) → place_of held r ≡ None → page_of fast disk held r ≡ get_or disk r []
+pub page_of-other : (fast disk : List (List ℕ)) (held : List Held) (r : ℕ) → place_of held r ≡ None
+    → page_of fast disk held r ≡ get_or disk r []
 page_of-other fast disk held r is = rw is refl
 
 pub length-pages_of : (fast disk : List (List ℕ)) (held : List Held) → length (pages_of fast disk held) ≡ length disk
@@ -25,20 +28,25 @@ length-pages_of fast disk held = length-map-range_with_len (page_of fast disk he
 pub get_or-pages_of : (fast disk : List (List ℕ)) (held : List Held) (r : ℕ) → r < length disk
     → get_or (pages_of fast disk held) r [] ≡ page_of fast disk held r
 unfolding pages_of
-get_or-pages_of fast disk held r lt = get_or-map-range_with_len (page_of fast disk held) 0 (length disk) r r [] lt (zero-add r)
+get_or-pages_of fast disk held r lt = get_or-map-range_with_len (page_of fast disk held) 0 (length disk) r r [] lt
+    (zero-add r)
 
 -- two stores of as many pages, with the same page at each record, have the same pages
-pub pages_same : (fast disk : List (List ℕ)) (held : List Held) (fast' disk' : List (List ℕ)) (held' : List Held) → length disk' ≡ length disk
-    → ((s : ℕ) → s < length disk → page_of fast' disk' held' s ≡ page_of fast disk held s) → pages_of fast' disk' held' ≡ pages_of fast disk held
+pub pages_same : (fast disk : List (List ℕ)) (held : List Held) (fast' disk' : List (List ℕ)) (held' : List Held)
+    → length disk' ≡ length disk
+    → ((s : ℕ) → s < length disk → page_of fast' disk' held' s ≡ page_of fast disk held s) → pages_of fast' disk' held'
+    ≡ pages_of fast disk held
 pages_same fast disk held fast' disk' held' long same =
     let a = length-pages_of fast disk held in
     let b = length-pages_of fast' disk' held' in
     ext_get_or [] (pages_of fast' disk' held') (pages_of fast disk held) (b ∙ long ∙ sym a)
-    (λ s lt. (let in_new : s < length disk' = omega (arith, lt, b) in let in_old : s < length disk = omega (arith, in_new, long) in
+    (λ s lt. (let in_new : s < length disk' = omega (arith, lt, b) in let in_old : s < length disk =
+    omega (arith, in_new, long) in
     get_or-pages_of fast' disk' held' s in_new ∙ same s in_old ∙ sym (get_or-pages_of fast disk held s in_old)))
 
 -- and where one record alone has other words, the pages are those with these words there
-pub pages_with : (fast disk : List (List ℕ)) (held : List Held) (fast' disk' : List (List ℕ)) (held' : List Held) (r : ℕ) (words : List ℕ)
+pub pages_with : (fast disk : List (List ℕ)) (held : List Held) (fast' disk' : List (List ℕ)) (held' : List Held)
+    (r : ℕ) (words : List ℕ)
     → length disk' ≡ length disk → r < length disk → page_of fast' disk' held' r ≡ words
     → ((s : ℕ) → s ≢ r → page_of fast' disk' held' s ≡ page_of fast disk held s)
     → pages_of fast' disk' held' ≡ set (pages_of fast disk held) r words
@@ -47,8 +55,10 @@ pages_with fast disk held fast' disk' held' r words long within at same =
     let b = length-pages_of fast' disk' held' in
     let c = length-set (pages_of fast disk held) r words in
     ext_get_or [] (pages_of fast' disk' held') (set (pages_of fast disk held) r words) (b ∙ long ∙ sym a ∙ sym c)
-    (λ s lt. (let in_new : s < length disk' = omega (arith, lt, b) in let in_old : s < length disk = omega (arith, in_new, long) in
+    (λ s lt. (let in_new : s < length disk' = omega (arith, lt, b) in let in_old : s < length disk =
+    omega (arith, in_new, long) in
     get_or-pages_of fast' disk' held' s in_new ∙ elim (cases_eq s r) [
       | inl e ↦ rw e (at ∙ sym (get_or-set_same (pages_of fast disk held) r words [] (omega (arith, within, a))))
-      | inr n ↦ same s n ∙ sym (get_or-pages_of fast disk held s in_old) ∙ sym (get_or-set_other (pages_of fast disk held) r s words [] n)
+      | inr n ↦ same s n ∙ sym (get_or-pages_of fast disk held s in_old)
+          ∙ sym (get_or-set_other (pages_of fast disk held) r s words [] n)
     ]))

@@ -30,7 +30,8 @@ place_of-others (h ∷ held) r p s other = elim (eqb_tells h.number s) [
 ]
 
 -- a record that wasn't held comes in: none stands twice
-pub none_twice-newest : (held : List Held) (r p : ℕ) → place_of held r ≡ None → NoneTwice held → NoneTwice (with_newest held r p)
+pub none_twice-newest : (held : List Held) (r p : ℕ) → place_of held r ≡ None → NoneTwice held
+    → NoneTwice (with_newest held r p)
 none_twice-newest [] r p none once = (refl, tt)
 none_twice-newest (h ∷ held) r p none once = elim (eqb_tells h.number r) [
   | inl e ↦ (let bad = rw e.0 at none in cc)

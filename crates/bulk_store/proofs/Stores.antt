@@ -1,5 +1,6 @@
 -- A store stays one, and its pages change as they should, by each step of a write.
-use Rattle.std.proofs.Common.{◌≡◌, ◌<◌, ◌≤◌, ℕ, List, ◌∷◌, [], false, nat_lt, None, Some, length, get_or, set, refl, sym, ◌∙◌, ap, inl, inr, arith}
+use Rattle.std.proofs.Common.{◌≡◌, ◌<◌, ◌≤◌, ℕ, List, ◌∷◌, [], false, nat_lt, None, Some, length, get_or, set, refl}
+use Rattle.std.proofs.Common.{sym, ◌∙◌, ap, inl, inr, arith}
 use Rattle.std.proofs.lemmas.Bool.{cases_eq, lt-ltb}
 use Rattle.std.proofs.lemmas.List.{get_or-set_same, get_or-set_other, length-set, get_or_past}
 use Rattle.bulk_store.specs.declared.index.Held.{Held}
@@ -8,11 +9,13 @@ use Rattle.bulk_store.specs.Index.{Holdings, IsIndexed}
 use Rattle.bulk_store.specs.Pages.{pages_of}
 use Rattle.bulk_store.specs.Contents.{Contents, IsStore, gave_up_oldest, took_in}
 use Rattle.bulk_store.proofs.Places.{place_of-first, place_of-rest, place_of-newest, place_of-others}
-use Rattle.bulk_store.proofs.Indexed.{in_or_past, rest_places, with_record-indexed, without_oldest-indexed, free_place-within}
+use Rattle.bulk_store.proofs.Indexed.{in_or_past, rest_places, with_record-indexed, without_oldest-indexed}
+use Rattle.bulk_store.proofs.Indexed.{free_place-within}
 use Rattle.bulk_store.proofs.Pages.{held_or_not, page_of-held, page_of-other, pages_same, pages_with}
 
 -- a held record is one of the disk's, and its place one of the fast store's
-pub held_within : (s : Contents) (r p : ℕ) → IsStore s → place_of s.table.held r ≡ Some p → (p < length s.fast) × (r < length s.disk)
+pub held_within : (s : Contents) (r p : ℕ) → IsStore s → place_of s.table.held r ≡ Some p → (p < length s.fast)
+    × (r < length s.disk)
 held_within s r p k is = (
   omega (arith, k.index.below r p is, k.index.used_room, k.room),
   elim (in_or_past r (length s.table.places)) [
@@ -29,14 +32,16 @@ pages_held s r p words k is =
     pages_with s.fast s.disk s.table.held (set s.fast p words) s.disk s.table.held r words refl within.1
     (page_of-held (set s.fast p words) s.disk s.table.held r p is ∙ get_or-set_same s.fast p words [] within.0)
     (λ u other. elim (held_or_not (place_of s.table.held u)) [
-      | inl none ↦ page_of-other (set s.fast p words) s.disk s.table.held u none ∙ sym (page_of-other s.fast s.disk s.table.held u none)
+      | inl none ↦ page_of-other (set s.fast p words) s.disk s.table.held u none
+          ∙ sym (page_of-other s.fast s.disk s.table.held u none)
       | inr at ↦ page_of-held (set s.fast p words) s.disk s.table.held u at.0 at.1
           ∙ get_or-set_other s.fast p at.0 words [] (λ e. other (k.index.apart u r p (at.1 ∙ ap Some e) is))
           ∙ sym (page_of-held s.fast s.disk s.table.held u at.0 at.1)
     ])
 
 -- a record that isn't held comes in
-pub pages_took_in : (s : Contents) (r : ℕ) (words : List ℕ) → IsStore s → place_of s.table.held r ≡ None → length s.table.held < s.table.room
+pub pages_took_in : (s : Contents) (r : ℕ) (words : List ℕ) → IsStore s → place_of s.table.held r ≡ None
+    → length s.table.held < s.table.room
     → r < length s.disk → pages_of (set s.fast s.table.free words) s.disk (with_newest s.table.held r s.table.free)
     ≡ set (pages_of s.fast s.disk s.table.held) r words
 pages_took_in s r words k none room within =
@@ -44,18 +49,22 @@ pages_took_in s r words k none room within =
     let fast = set s.fast s.table.free words in
     let free : s.table.free < length s.fast = omega (arith, free_place-within s.table k.index room, k.room) in
     pages_with s.fast s.disk s.table.held fast s.disk now r words refl within
-    (page_of-held fast s.disk now r s.table.free (place_of-newest s.table.held r s.table.free none) ∙ get_or-set_same s.fast s.table.free words [] free)
-    (λ u other. (let before = place_of-others s.table.held r s.table.free u other in elim (held_or_not (place_of s.table.held u)) [
+    (page_of-held fast s.disk now r s.table.free (place_of-newest s.table.held r s.table.free none)
+    ∙ get_or-set_same s.fast s.table.free words [] free)
+    (λ u other. (let before = place_of-others s.table.held r s.table.free u other in elim
+    (held_or_not (place_of s.table.held u)) [
       | inl out ↦ page_of-other fast s.disk now u (before ∙ out) ∙ sym (page_of-other s.fast s.disk s.table.held u out)
       | inr at ↦ page_of-held fast s.disk now u at.0 (before ∙ at.1)
           ∙ get_or-set_other s.fast s.table.free at.0 words [] (λ e. k.index.free u (at.1 ∙ ap Some e))
           ∙ sym (page_of-held s.fast s.disk s.table.held u at.0 at.1)
     ]))
 
-pub took_in-store : (s : Contents) (r : ℕ) (words : List ℕ) → IsStore s → place_of s.table.held r ≡ None → length s.table.held < s.table.room
+pub took_in-store : (s : Contents) (r : ℕ) (words : List ℕ) → IsStore s → place_of s.table.held r ≡ None
+    → length s.table.held < s.table.room
     → r < length s.disk → IsStore (took_in s r words)
 took_in-store s r words k none room within = record {
-  index = with_record-indexed s.table r k.index none (free_place-within s.table k.index room) (omega (arith, within, k.records));
+  index = with_record-indexed s.table r k.index none (free_place-within s.table k.index room)
+      (omega (arith, within, k.records));
   room = k.room ∙ sym (length-set s.fast s.table.free words);
   some = k.some;
   small = k.small;
@@ -63,7 +72,8 @@ took_in-store s r words k none room within = record {
 }
 
 -- the oldest gives way
-pub pages_rest : (fast disk : List (List ℕ)) (h : Held) (held : List Held) → place_of held h.number ≡ None → h.number < length disk
+pub pages_rest : (fast disk : List (List ℕ)) (h : Held) (held : List Held) → place_of held h.number ≡ None
+    → h.number < length disk
     → pages_of fast (set disk h.number (get_or fast h.place [])) held ≡ pages_of fast disk (h ∷ held)
 pages_rest fast disk h held none within =
     let page = get_or fast h.place [] in
@@ -76,7 +86,8 @@ pages_rest fast disk h held none within =
       | inr n ↦ (let before = place_of-rest h held u (λ e. n (sym e)) in elim (held_or_not (place_of held u)) [
         | inl out ↦ page_of-other fast now held u out ∙ get_or-set_other disk h.number u page [] n
             ∙ sym (page_of-other fast disk (h ∷ held) u (before ∙ out))
-        | inr at ↦ page_of-held fast now held u at.0 at.1 ∙ sym (page_of-held fast disk (h ∷ held) u at.0 (before ∙ at.1))
+        | inr at ↦ page_of-held fast now held u at.0 at.1
+            ∙ sym (page_of-held fast disk (h ∷ held) u at.0 (before ∙ at.1))
       ])
     ])
 
@@ -86,7 +97,8 @@ pub record IsOldest (s : Contents) : Type 0 where
   pub place : (oldest_of s.table.held).place < length s.fast
   pub page : (oldest_of s.table.held).number < length s.disk
   pub entry : (oldest_of s.table.held).number < length s.table.places
-  pub pages : pages_of s.fast (gave_up_oldest s).disk (gave_up_oldest s).table.held ≡ pages_of s.fast s.disk s.table.held
+  pub pages : pages_of s.fast (gave_up_oldest s).disk (gave_up_oldest s).table.held
+      ≡ pages_of s.fast s.disk s.table.held
   pub room : length (gave_up_oldest s).table.held < s.table.room
   pub others : (r : ℕ) → place_of s.table.held r ≡ None → place_of (gave_up_oldest s).table.held r ≡ None
 
@@ -97,7 +109,8 @@ oldest s k full = go s.table.held k full
         → IsOldest (record s { table = record s.table { held = held } })
     go [] all is = absurd (omega (arith, is, k.some))
     go (h ∷ held) all is = (let within =
-        held_within (record s { table = record s.table { held = h ∷ held } }) h.number h.place all (place_of-first h held) in
+        held_within (record s { table = record s.table { held = h ∷ held } }) h.number h.place all
+        (place_of-first h held) in
         record {
           some = omega arith;
           place = within.0;
@@ -119,7 +132,8 @@ gave_up-store s k full =
       room = k.room;
       some = k.some;
       small = k.small;
-      records = length-set s.table.places o.number None ∙ k.records ∙ sym (length-set s.disk o.number (get_or s.fast o.place []));
+      records = length-set s.table.places o.number None ∙ k.records
+          ∙ sym (length-set s.disk o.number (get_or s.fast o.place []));
     }
 
 -- there are never more held than places

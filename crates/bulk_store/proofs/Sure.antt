@@ -1,5 +1,6 @@
 -- A drive in core without lines never fails.
-use Rattle.std.proofs.Common.{◌≡◌, ℕ, zero, suc, Bool, false, true, [], refl, ◌⊎◌, Option, None, Some, Result, Ok, Err, IsOk, IfSome, IfNone, OnErr, inl, inr}
+use Rattle.std.proofs.Common.{◌≡◌, ℕ, zero, suc, Bool, false, true, [], refl, ◌⊎◌, Option, None, Some, Result, Ok, Err}
+use Rattle.std.proofs.Common.{IsOk, IfSome, IfNone, OnErr, inl, inr}
 use Rattle.std.proofs.Common.{arith}
 use Rattle.site_io.specs.Faults.{Rose}
 use Rattle.volumes.specs.FailLine.{named_calls}
@@ -11,9 +12,11 @@ named_none write zero = omega arith
 named_none write (suc n) = let before = named_none write n in omega (arith, before)
 
 no_faults : (d : DriveState) → d.fails ≡ [] → faults_of d ≡ 0
-no_faults d none = rw none (let reads = named_none false d.reads in let writes = named_none true d.writes in omega (arith, reads, writes))
+no_faults d none = rw none (let reads = named_none false d.reads in let writes =
+    named_none true d.writes in omega (arith, reads, writes))
 
-pub never_rises : (old now : DriveState) → old.fails ≡ [] → Some now.fails ≡ Some old.fails → Rose (faults_of old) (faults_of now) → ⊥
+pub never_rises : (old now : DriveState) → old.fails ≡ [] → Some now.fails ≡ Some old.fails
+    → Rose (faults_of old) (faults_of now) → ⊥
 never_rises old now none same rose =
     let also : now.fails ≡ [] = cc in
     omega (arith, rose, no_faults old none, no_faults now also)
@@ -30,7 +33,8 @@ other_cause P Q (Err e) never (inl p) = absurd (never p)
 other_cause P Q (Err e) never (inr q) = q
 
 -- a read of what is held is done
-pub sure_read : {T E P : Type 0} (place : Option ℕ) (result : Result T E) → (P → ⊥) → OnErr result (IfSome place (λ _. P)) → IfSome place (λ _. IsOk result)
+pub sure_read : {T E P : Type 0} (place : Option ℕ) (result : Result T E) → (P → ⊥)
+    → OnErr result (IfSome place (λ _. P)) → IfSome place (λ _. IsOk result)
 sure_read None result never cause = tt
 sure_read (Some p) result never cause = sure_call result never cause
 

@@ -1,5 +1,6 @@
 -- What a whole write leaves, from what its steps leave.
-use Rattle.std.proofs.Common.{◌≡◌, ◌<◌, ℕ, List, [], ◌⊎◌, Bool, true, false, ◌||◌, nat_lt, is_some, None, Some, Result, Ok, Err, OnOk, OnErr, length, get_or}
+use Rattle.std.proofs.Common.{◌≡◌, ◌<◌, ℕ, List, [], ◌⊎◌, Bool, true, false, ◌||◌, nat_lt, is_some, None, Some, Result}
+use Rattle.std.proofs.Common.{Ok, Err, OnOk, OnErr, length, get_or}
 use Rattle.std.proofs.Common.{set, refl, sym, ◌∙◌, ap, subst, inl, inr, arith}
 use Rattle.std.proofs.lemmas.Bool.{le-ltb}
 use Rattle.std.proofs.lemmas.List.{length-set, ext_get_or}
@@ -14,14 +15,17 @@ use Rattle.bulk_store.proofs.Pages.{held_or_not, page_of-other, length-pages_of,
 use Rattle.bulk_store.proofs.Stores.{IsOldest, oldest, pages_held, pages_took_in, took_in-store, gave_up-store, full}
 
 -- the three ways of a write
-wrote-held : (s : Contents) (r p : ℕ) (words : List ℕ) → place_of s.table.held r ≡ Some p → wrote s r words ≡ record s { fast = set s.fast p words }
+wrote-held : (s : Contents) (r p : ℕ) (words : List ℕ) → place_of s.table.held r ≡ Some p → wrote s r words
+    ≡ record s { fast = set s.fast p words }
 wrote-held s r p words is = rw is refl
 
-wrote-free : (s : Contents) (r : ℕ) (words : List ℕ) → place_of s.table.held r ≡ None → nat_lt (length s.table.held) s.table.room ≡ true
+wrote-free : (s : Contents) (r : ℕ) (words : List ℕ) → place_of s.table.held r ≡ None
+    → nat_lt (length s.table.held) s.table.room ≡ true
     → wrote s r words ≡ took_in s r words
 wrote-free s r words none free = rw (none, free) refl
 
-wrote-full : (s : Contents) (r : ℕ) (words : List ℕ) → place_of s.table.held r ≡ None → nat_lt (length s.table.held) s.table.room ≡ false
+wrote-full : (s : Contents) (r : ℕ) (words : List ℕ) → place_of s.table.held r ≡ None
+    → nat_lt (length s.table.held) s.table.room ≡ false
     → wrote s r words ≡ took_in (gave_up_oldest s) r words
 wrote-full s r words none full = rw (none, full) refl
 
@@ -39,12 +43,23 @@ pub record IsDone (s : Contents) (r : ℕ) (words : List ℕ) (t : Contents) : T
   pub list : BulkAfter (length s.fast) s.table.held r t.table.held
 
 least_free : (t : Holdings) → IsIndexed t → IsLeastFreePlace t.held t.free
-least_free t k = record { free = k.free; least = λ q lt. k.taken q (omega (arith, lt, k.free_used)) (λ e. omega (arith, lt, e)) }
+least_free t k = record {
+  free = k.free;
+  least = λ q lt. k.taken q (omega (arith, lt, k.free_used))
+      (λ e. omega (arith, lt, e));
+}
 
 done-held : (s : Contents) (r p : ℕ) (words : List ℕ) → IsStore s → place_of s.table.held r ≡ Some p
     → IsDone s r words (record s { fast = set s.fast p words })
 done-held s r p words k is = record {
-  store = record { index = k.index; room = k.room ∙ sym (length-set s.fast p words); some = k.some; small = k.small; records = k.records };
+  store = record {
+    index = k.index;
+    room = k.room ∙ sym (length-set s.fast p words);
+    some = k.some;
+    small =
+        k.small;
+    records = k.records;
+  };
   pages = pages_held s r p words k is;
   list = rw is refl;
 }
@@ -71,16 +86,21 @@ done-full s r words k within none taken =
     let there : nat_lt (length s.table.held) (length s.fast) ≡ false = rw (← k.room) taken in
     record {
       store = took_in-store (gave_up_oldest s) r words next none_now old.room inside;
-      pages = pages_took_in (gave_up_oldest s) r words next none_now old.room inside ∙ ap (λ (pages : List (List ℕ)). set pages r words) old.pages;
+      pages = pages_took_in (gave_up_oldest s) r words next none_now old.room inside
+          ∙ ap (λ (pages : List (List ℕ)). set pages r words) old.pages;
       list = rw (none, there) refl;
     }
 
-pub done : (s t : Contents) (r : ℕ) (words : List ℕ) → IsStore s → r < length s.disk → t ≡ wrote s r words → IsDone s r words t
+pub done : (s t : Contents) (r : ℕ) (words : List ℕ) → IsStore s → r < length s.disk → t ≡ wrote s r words
+    → IsDone s r words t
 done s t r words k within is = elim (held_or_not (place_of s.table.held r)) [
-  | inr at ↦ subst (λ (x : Contents). IsDone s r words x) (sym (is ∙ wrote-held s r at.0 words at.1)) (done-held s r at.0 words k at.1)
+  | inr at ↦ subst (λ (x : Contents). IsDone s r words x) (sym (is ∙ wrote-held s r at.0 words at.1))
+      (done-held s r at.0 words k at.1)
   | inl none ↦ elim (true_or_false (nat_lt (length s.table.held) s.table.room)) [
-    | inl free ↦ subst (λ (x : Contents). IsDone s r words x) (sym (is ∙ wrote-free s r words none free)) (done-free s r words k within none free)
-    | inr taken ↦ subst (λ (x : Contents). IsDone s r words x) (sym (is ∙ wrote-full s r words none taken)) (done-full s r words k within none taken)
+    | inl free ↦ subst (λ (x : Contents). IsDone s r words x) (sym (is ∙ wrote-free s r words none free))
+        (done-free s r words k within none free)
+    | inr taken ↦ subst (λ (x : Contents). IsDone s r words x) (sym (is ∙ wrote-full s r words none taken))
+        (done-full s r words k within none taken)
   ]
 ]
 
@@ -97,10 +117,12 @@ pub has_failed : (s t : Contents) (r : ℕ) → IsStore s → AfterFailed s r t 
 has_failed s t r k (inl is) = subst (λ (x : Contents). HasFailed s x) (sym is) (record { store = k; pages = refl })
 has_failed s t r k (inr gave) =
     let all = full s.table k.index (second_false (is_some (place_of s.table.held r)) _ gave.0) in
-    subst (λ (x : Contents). HasFailed s x) (sym gave.1) (record { store = gave_up-store s k all; pages = (oldest s k all).pages })
+    subst (λ (x : Contents). HasFailed s x) (sym gave.1)
+    (record { store = gave_up-store s k all; pages = (oldest s k all).pages })
 
 -- the same of a call, by its result
-pub stays_store : {T E : Type 0} (result : Result T E) (s t : Contents) (r : ℕ) (words : List ℕ) → IsStore s → r < length s.disk
+pub stays_store : {T E : Type 0} (result : Result T E) (s t : Contents) (r : ℕ) (words : List ℕ) → IsStore s
+    → r < length s.disk
     → OnOk result (t ≡ wrote s r words) → OnErr result (AfterFailed s r t) → IsStore t
 stays_store (Ok v) s t r words k within ok err = (done s t r words k within ok).store
 stays_store (Err e) s t r words k within ok err = (has_failed s t r k err).store
@@ -116,10 +138,12 @@ on_err (Err e) f h = f h
 -- a record of the store is one of the disk's
 pub within_disk : {F D : Type 0} (fast_pages : F → List (List ℕ)) (disk_pages : D → List (List ℕ))
     (fast : F) (disk : D) (held : List Held) (now : Store F D) (r : ℕ)
-    → record { fast = fast; disk = disk; held = held } ≡ now → r < length (store_pages fast_pages disk_pages now) → r < length (disk_pages disk)
+    → record { fast = fast; disk = disk; held = held } ≡ now → r < length (store_pages fast_pages disk_pages now)
+    → r < length (disk_pages disk)
 within_disk fast_pages disk_pages fast disk held now r view lt =
     let same : length (store_pages fast_pages disk_pages now) ≡ length (disk_pages disk)
-    = ap (λ (x : Store _ _). length (store_pages fast_pages disk_pages x)) (sym view) ∙ length-pages_of (fast_pages fast) (disk_pages disk) held in
+    = ap (λ (x : Store _ _). length (store_pages fast_pages disk_pages x)) (sym view)
+    ∙ length-pages_of (fast_pages fast) (disk_pages disk) held in
     omega (arith, lt, same)
 
 -- a store that holds nothing has the disk's pages
@@ -127,10 +151,12 @@ pub pages_empty : (fast disk : List (List ℕ)) (held : List Held) → held ≡ 
 pages_empty fast disk held none =
     let long = length-pages_of fast disk held in
     ext_get_or [] (pages_of fast disk held) disk long
-    (λ r lt. get_or-pages_of fast disk held r (omega (arith, lt, long)) ∙ page_of-other fast disk held r (ap (λ (hs : List Held). place_of hs r) none))
+    (λ r lt. get_or-pages_of fast disk held r (omega (arith, lt, long))
+    ∙ page_of-other fast disk held r (ap (λ (hs : List Held). place_of hs r) none))
 
 -- a done read gives the store's page
-pub read_done : {T E : Type 0} (result : Result T E) (fast disk : List (List ℕ)) (held : List Held) (r : ℕ) (words : List ℕ) → r < length disk
+pub read_done : {T E : Type 0} (result : Result T E) (fast disk : List (List ℕ)) (held : List Held) (r : ℕ)
+    (words : List ℕ) → r < length disk
     → OnOk result (words ≡ page_of fast disk held r) → OnOk result (words ≡ get_or (pages_of fast disk held) r [])
 read_done (Ok v) fast disk held r words within is = is ∙ sym (get_or-pages_of fast disk held r within)
 read_done (Err e) fast disk held r words within is = tt

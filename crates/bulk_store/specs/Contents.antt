@@ -1,5 +1,6 @@
 -- What a bulk store consists of: the pages of its two drives and the list of what is held (own).
-use Rattle.std.specs.Prelude.{◌≡◌, ◌<◌, ◌≤◌, ◌^◌, ◌⊎◌, ℕ, Bool, List, [], false, nat_lt, length, slice_index_or, slice_set, if◌then◌else◌, Option, None, Some}
+use Rattle.std.specs.Prelude.{◌≡◌, ◌<◌, ◌≤◌, ◌^◌, ◌⊎◌, ℕ, Bool, List, [], false, nat_lt, length, slice_index_or}
+use Rattle.std.specs.Prelude.{slice_set, if◌then◌else◌, Option, None, Some}
 use Rattle.volumes.specs.declared.drive.FailLine.{FailLine}
 use Rattle.volumes.specs.FailLine.{HasFewFaults}
 use Rattle.bulk_store.specs.declared.parts.Parts.{Parts}
@@ -13,7 +14,12 @@ pub record Contents : Type 0 where
   pub table : Holdings
 
 abbrev pub contents : {F D : Type 0} → (F → List (List ℕ)) → (D → List (List ℕ)) → Parts F D → Contents
-contents fast_pages disk_pages parts = record { fast = fast_pages parts.fast; disk = disk_pages parts.disk; table = parts.table }
+contents fast_pages disk_pages parts = record {
+  fast = fast_pages parts.fast;
+  disk = disk_pages parts.disk;
+  table =
+      parts.table;
+}
 
 -- there is a place for each page of the fast store, at least one, and an index entry for each of the disk's
 pub record IsStore (s : Contents) : Type 0 where

@@ -1,5 +1,6 @@
 -- The list of the records that a fast store holds, the oldest first (own).
-use Rattle.std.specs.Prelude.{◌≡◌, ◌≢◌, ◌<◌, ℕ, Bool, ◌||◌, is_some, List, [], ◌∷◌, ◌++◌, drop, length, nat_lt, ◌==◌, if◌then◌else◌, Option, None, Some}
+use Rattle.std.specs.Prelude.{◌≡◌, ◌≢◌, ◌<◌, ℕ, Bool, ◌||◌, is_some, List, [], ◌∷◌, ◌++◌, drop, length, nat_lt, ◌==◌}
+use Rattle.std.specs.Prelude.{if◌then◌else◌, Option, None, Some}
 use Rattle.std.specs.Prelude.{MatchOption, MatchBool}
 use Rattle.bulk_store.specs.declared.index.Held.{Held}
 
@@ -26,8 +27,8 @@ pub record IsLeastFreePlace (held : List Held) (p : ℕ) : Type 0 where
   pub free : (r : ℕ) → place_of held r ≢ Some p
   pub least : (q : ℕ) → q < p → (r : ℕ) × (place_of held r ≡ Some q)
 
--- what a list of a store with so many places is after a done write of record r: as before where r was held; longer by r,
--- in the least free place, where a place was free; else without the oldest, and longer by r in the oldest's place
+-- what a list of a store with so many places is after a done write of record r: as before where r was held; longer by
+-- r, in the least free place, where a place was free; else without the oldest, and longer by r in the oldest's place
 abbrev pub BulkAfter : ℕ → List Held → ℕ → List Held → Type 0
 BulkAfter places held r now =
     MatchOption (place_of held r)

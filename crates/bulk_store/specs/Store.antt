@@ -1,5 +1,6 @@
 -- What callers see of a bulk store (own).
-use Rattle.std.specs.Prelude.{◌≡◌, ◌+◌, ◌⊎◌, ℕ, false, List, [], ◌∷◌, ◌++◌, drop, length, slice_index_or, slice_set, if◌then◌else◌, Option, None, Some}
+use Rattle.std.specs.Prelude.{◌≡◌, ◌+◌, ◌⊎◌, ℕ, false, List, [], ◌∷◌, ◌++◌, drop, length, slice_index_or, slice_set}
+use Rattle.std.specs.Prelude.{if◌then◌else◌, Option, None, Some}
 use Rattle.volumes.specs.declared.drive.FailLine.{FailLine}
 use Rattle.bulk_store.specs.declared.index.Held.{Held}
 use Rattle.bulk_store.specs.Held.{is_fast_write}
@@ -26,7 +27,8 @@ both_plans (Some fast) None = None
 both_plans (Some fast) (Some disk) = Some (fast ++ disk)
 
 -- its plan is the fast store's lines and then the disk's
-abbrev pub store_plan : {F D : Type 0} → (F → Option (List FailLine)) → (D → Option (List FailLine)) → Store F D → Option (List FailLine)
+abbrev pub store_plan : {F D : Type 0} → (F → Option (List FailLine)) → (D → Option (List FailLine)) → Store F D
+    → Option (List FailLine)
 store_plan fast_plan disk_plan s = both_plans (fast_plan s.fast) (disk_plan s.disk)
 
 -- the disk's pages once it has the page of the oldest

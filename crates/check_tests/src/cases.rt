@@ -21,8 +21,8 @@ pub(crate) fn lines_in(text: &str) -> u32
     text.lines().count().min(1_000_000) as u32
 }
 
-/// The first line of a book at fault, counted from 1, and the rule that it breaks. A book that is accepted to its end is at
-/// fault past its last line, since no summary follows.
+/// The first line of a book at fault, counted from 1, and the rule that it breaks. A book that is accepted to its end
+/// is at fault past its last line, since no summary follows.
 pub(crate) fn fault_of(alloc: Global, script: &str, book: &str) -> Result<(u32, Rule), Fail> {
     let before = lines_in(script) + 1;
     let mut input = joined(alloc, script, "book\n")?;

@@ -1,5 +1,5 @@
-//! Tests of the judge of listings over its one public call, and through it of custody: each row of what custody allows, once
-//! where it is allowed and once where each of its conditions fails.
+//! Tests of the judge of listings over its one public call, and through it of custody: each row of what custody
+//! allows, once where it is allowed and once where each of its conditions fails.
 #![tactic(auto)]
 
 #[cfg(test)]

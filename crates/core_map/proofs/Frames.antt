@@ -1,15 +1,18 @@
-use Rattle.std.proofs.Common.{◌≡◌, ℕ, zero, suc, ◌+◌, ◌<◌, ◌≤◌, ◌^◌, Bool, true, false, not, cond, List, [], ◌∷◌, length, Option, None, Some, refl, sym, ap}
+use Rattle.std.proofs.Common.{◌≡◌, ℕ, zero, suc, ◌+◌, ◌<◌, ◌≤◌, ◌^◌, Bool, true, false, not, cond, List, [], ◌∷◌}
+use Rattle.std.proofs.Common.{length, Option, None, Some, refl, sym, ap}
 use Rattle.std.proofs.Common.{◌∙◌, arith, get_or, set, replicate, map, inl, inr, ◌⊎◌, All, IfSome, IfNone}
 use Rattle.std.specs.List.{prefix_len, list_any}
 use Rattle.std.proofs.lemmas.Bool.{cases_eq}
 use Rattle.std.proofs.lemmas.Bool.Decides.{leb_tells}
-use Rattle.std.proofs.lemmas.List.{map-set, get_or-map, get_or_past, length-map, length-set, length-replicate, get_or-set_same, get_or-set_other, set-get_or}
+use Rattle.std.proofs.lemmas.List.{map-set, get_or-map, get_or_past, length-map, length-set, length-replicate}
+use Rattle.std.proofs.lemmas.List.{get_or-set_same, get_or-set_other, set-get_or}
 use Rattle.std.proofs.lemmas.List.{get_or_read, set_past}
 use Rattle.std.proofs.lemmas.List.Elements.{All-get_or, All-from_get_or}
 use Rattle.bitmap.specs.Bitmap.{in_use, least_free, IsLeastFree}
 use Rattle.core_map.specs.declared.Frame.{Frame}
 use Rattle.core_map.specs.declared.Frame.TheVariants.{Free, Started, Bound}
-use Rattle.core_map.specs.CoreMap.{Core, is_free, is_taken, is_bound, started_page, after_reference, with_modified, least_free_frame, IsLeastFreeFrame}
+use Rattle.core_map.specs.CoreMap.{Core, is_free, is_taken, is_bound, started_page, after_reference, with_modified}
+use Rattle.core_map.specs.CoreMap.{least_free_frame, IsLeastFreeFrame}
 use Rattle.core_map.specs.Clock.{frame_in, is_idle, unmarked}
 use Rattle.core_map.specs.Turns.{IsUnmarked}
 use Rattle.core_map.specs.Taken.{IsTied}
@@ -70,7 +73,8 @@ not_free_from_taken (Started uid page) h = refl
 not_free_from_taken (Bound uid page used modified) h = refl
 
 -- what a test of the frames says of one of them
-pub map_at : {X : Type 0} (t : Frame → X) (frames : List Frame) (f : ℕ) → get_or (map t frames) f (t Free) ≡ t (frame_in frames f)
+pub map_at : {X : Type 0} (t : Frame → X) (frames : List Frame) (f : ℕ) → get_or (map t frames) f (t Free)
+    ≡ t (frame_in frames f)
 map_at t frames f = elim (below_or_past f (length frames)) [
   | inl lt ↦ get_or-map t frames f Free (t Free) lt
   | inr past ↦ (let long : length (map t frames) ≤ f = omega (arith, length-map frames t) in
@@ -78,16 +82,20 @@ map_at t frames f = elim (below_or_past f (length frames)) [
 ]
 
 -- a write of a frame that leaves it as it was, by the test
-pub same_with : {X : Type 0} (t : Frame → X) (frames : List Frame) (f : ℕ) (x : Frame) → t x ≡ t (frame_in frames f) → map t (set frames f x) ≡ map t frames
+pub same_with : {X : Type 0} (t : Frame → X) (frames : List Frame) (f : ℕ) (x : Frame) → t x ≡ t (frame_in frames f)
+    → map t (set frames f x) ≡ map t frames
 same_with t frames f x same =
-    map-set t frames f x ∙ ap (set (map t frames) f) (same ∙ sym (map_at t frames f)) ∙ set-get_or (map t frames) f (t Free)
+    map-set t frames f x ∙ ap (set (map t frames) f) (same ∙ sym (map_at t frames f))
+    ∙ set-get_or (map t frames) f (t Free)
 
 -- the bits of taken frames
-pub bit_is : (taken : List Bool) (frames : List Frame) (hand f : ℕ) → IsTied taken frames hand → in_use taken f ≡ is_taken (frame_in frames f)
+pub bit_is : (taken : List Bool) (frames : List Frame) (hand f : ℕ) → IsTied taken frames hand → in_use taken f
+    ≡ is_taken (frame_in frames f)
 bit_is taken frames hand f h = ap (λ (ts : List Bool). in_use ts f) h.bits ∙ map_at is_taken frames f
 
 -- a frame is written, and its bit with it
-pub tied_with : (taken ts : List Bool) (frames : List Frame) (hand f : ℕ) (x : Frame) → IsTied taken frames hand → ts ≡ set taken f (is_taken x)
+pub tied_with : (taken ts : List Bool) (frames : List Frame) (hand f : ℕ) (x : Frame) → IsTied taken frames hand → ts
+    ≡ set taken f (is_taken x)
     → IsTied ts (set frames f x) hand
 tied_with taken ts frames hand f x h is = record {
   bits = is ∙ ap (λ (bs : List Bool). set bs f (is_taken x)) h.bits ∙ sym (map-set is_taken frames f x);
@@ -96,14 +104,16 @@ tied_with taken ts frames hand f x h is = record {
 }
 
 -- the marks of a frame are written
-pub kept_by : {X : Type 0} (t : Frame → X) (frames : List Frame) (f : ℕ) (x y : Frame) → x ≡ get_or frames f x → t y ≡ t x
+pub kept_by : {X : Type 0} (t : Frame → X) (frames : List Frame) (f : ℕ) (x y : Frame) → x ≡ get_or frames f x → t y
+    ≡ t x
     → map t (set frames f y) ≡ map t frames
 kept_by t frames f x y read same = elim (below_or_past f (length frames)) [
   | inl lt ↦ same_with t frames f y (same ∙ ap t (get_or_read frames f x lt read Free))
   | inr past ↦ ap (map t) (set_past frames f y past)
 ]
 
-pub tied_same : (taken : List Bool) (frames : List Frame) (hand f : ℕ) (x y : Frame) → IsTied taken frames hand → x ≡ get_or frames f x
+pub tied_same : (taken : List Bool) (frames : List Frame) (hand f : ℕ) (x y : Frame) → IsTied taken frames hand → x
+    ≡ get_or frames f x
     → is_taken y ≡ is_taken x → IsTied taken (set frames f y) hand
 tied_same taken frames hand f x y h read same = record {
   bits = h.bits ∙ sym (kept_by is_taken frames f x y read same);
@@ -112,7 +122,8 @@ tied_same taken frames hand f x y h read same = record {
 }
 
 -- one more mark is turned off
-pub unmarked_more : (old now : List Frame) (low i : ℕ) (x y : Frame) → IsUnmarked old now low i → low ≤ i → i < length now → x ≡ get_or now i x
+pub unmarked_more : (old now : List Frame) (low i : ℕ) (x y : Frame) → IsUnmarked old now low i → low ≤ i
+    → i < length now → x ≡ get_or now i x
     → y ≡ unmarked x → IsUnmarked old (set now i y) low (i + 1)
 unmarked_more old now low i x y h above lt read is = record {
   count = length-set now i y ∙ h.count;
@@ -126,9 +137,11 @@ unmarked_more old now low i x y h above lt read is = record {
 }
 
 -- some frame is bound, so not every frame isn't
-pub none_bound : (frames : List Frame) → ((i : ℕ) → i < length frames → is_bound (frame_in frames i) ≡ false) → list_any is_bound frames ≡ false
+pub none_bound : (frames : List Frame) → ((i : ℕ) → i < length frames → is_bound (frame_in frames i) ≡ false)
+    → list_any is_bound frames ≡ false
 none_bound [] h = refl
-none_bound (x ∷ frames) h = let first : is_bound x ≡ false = h 0 (omega arith) in rw first (none_bound frames (λ i lt. h (suc i) (omega arith)))
+none_bound (x ∷ frames) h = let first : is_bound x ≡ false =
+    h 0 (omega arith) in rw first (none_bound frames (λ i lt. h (suc i) (omega arith)))
 
 -- the least free frame by the bits
 first_step : (x : Frame) (a b : ℕ) → a ≡ b → cond (not (not (is_taken x))) (1 + a) 0 ≡ cond (not (is_free x)) (1 + b) 0
@@ -136,11 +149,13 @@ first_step Free a b e = refl
 first_step (Started uid page) a b e = ap (λ n. 1 + n) e
 first_step (Bound uid page used modified) a b e = ap (λ n. 1 + n) e
 
-first_same : (frames : List Frame) → prefix_len (λ flag. not (not flag)) (map is_taken frames) ≡ prefix_len (λ x. not (is_free x)) frames
+first_same : (frames : List Frame) → prefix_len (λ flag. not (not flag)) (map is_taken frames)
+    ≡ prefix_len (λ x. not (is_free x)) frames
 first_same [] = refl
 first_same (x ∷ frames) = first_step x _ _ (first_same frames)
 
-pub least_same : (taken : List Bool) (frames : List Frame) (hand : ℕ) (core : Core) → IsTied taken frames hand → record { frames = frames; hand = hand } ≡ core
+pub least_same : (taken : List Bool) (frames : List Frame) (hand : ℕ) (core : Core) → IsTied taken frames hand
+    → record { frames = frames; hand = hand } ≡ core
     → least_free taken ≡ least_free_frame core
 least_same taken frames hand core h view =
     let first = ap (prefix_len (λ flag. not (not flag))) h.bits ∙ first_same frames in
@@ -156,19 +171,22 @@ least_frame taken frames hand f core h view least = rw (← view) (record {
   before = λ k lt. not_free_from_taken (frame_in frames k) (sym (bit_is taken frames hand k h) ∙ least.before k lt);
 })
 
-pub none_free : (taken : List Bool) (frames : List Frame) (hand : ℕ) (core : Core) → IsTied taken frames hand → record { frames = frames; hand = hand } ≡ core
+pub none_free : (taken : List Bool) (frames : List Frame) (hand : ℕ) (core : Core) → IsTied taken frames hand
+    → record { frames = frames; hand = hand } ≡ core
     → All (λ flag. flag ≡ true) taken → All (λ x. is_free x ≡ false) core.frames
 none_free taken frames hand core h view all = rw (← view)
     (All-from_get_or (λ x. is_free x ≡ false) frames Free
     (λ k lt. let inside : k < length taken = omega (arith, ap length h.bits, length-map frames is_taken) in
-    not_free_from_taken (frame_in frames k) (sym (bit_is taken frames hand k h) ∙ All-get_or (λ flag. flag ≡ true) taken k false inside all)))
+    not_free_from_taken (frame_in frames k) (sym (bit_is taken frames hand k h)
+    ∙ All-get_or (λ flag. flag ≡ true) taken k false inside all)))
 
 -- all frames are free at first
 free_bits : (n : ℕ) → replicate n false ≡ map is_taken (replicate n Free)
 free_bits zero = refl
 free_bits (suc n) = ap (λ (bs : List Bool). false ∷ bs) (free_bits n)
 
-pub tied_new : (taken : List Bool) (frames : List Frame) (n : ℕ) → n < 2 ^ 32 → taken ≡ replicate n false → frames ≡ replicate n Free → IsTied taken frames 0
+pub tied_new : (taken : List Bool) (frames : List Frame) (n : ℕ) → n < 2 ^ 32 → taken ≡ replicate n false → frames
+    ≡ replicate n Free → IsTied taken frames 0
 tied_new taken frames n fits bits is = record {
   bits = bits ∙ free_bits n ∙ ap (map is_taken) (sym is);
   short = omega (arith, ap length is, length-replicate {A = Frame} n Free);
@@ -176,12 +194,15 @@ tied_new taken frames n fits bits is = record {
 }
 
 -- the same of what the bits answer
-pub least_if : (answer : Option ℕ) (taken : List Bool) (frames : List Frame) (hand : ℕ) (core : Core) → IsTied taken frames hand
-    → record { frames = frames; hand = hand } ≡ core → IfSome answer (λ f. IsLeastFree taken f) → IfSome answer (λ f. IsLeastFreeFrame core f)
+pub least_if : (answer : Option ℕ) (taken : List Bool) (frames : List Frame) (hand : ℕ) (core : Core)
+    → IsTied taken frames hand
+    → record { frames = frames; hand = hand } ≡ core → IfSome answer (λ f. IsLeastFree taken f)
+    → IfSome answer (λ f. IsLeastFreeFrame core f)
 least_if None taken frames hand core h view least = tt
 least_if (Some f) taken frames hand core h view least = least_frame taken frames hand f core h view least
 
-pub none_if : (answer : Option ℕ) (taken : List Bool) (frames : List Frame) (hand : ℕ) (core : Core) → IsTied taken frames hand
+pub none_if : (answer : Option ℕ) (taken : List Bool) (frames : List Frame) (hand : ℕ) (core : Core)
+    → IsTied taken frames hand
     → record { frames = frames; hand = hand } ≡ core → IfNone answer (All (λ flag. flag ≡ true) taken)
     → IfNone answer (All (λ x. is_free x ≡ false) core.frames)
 none_if None taken frames hand core h view all = none_free taken frames hand core h view all

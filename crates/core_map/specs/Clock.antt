@@ -1,5 +1,6 @@
 -- The clock, which chooses the frame that gives up its page (Corbató 1968).
-use Rattle.std.specs.Prelude.{◌≡◌, ℕ, ◌+◌, ◌-◌, ◌<◌, ◌≤◌, ◌==◌, nat_le, if◌then◌else◌, Bool, true, false, not, ◌⊎◌, List, [], ◌∷◌, ◌++◌, length, Option, None}
+use Rattle.std.specs.Prelude.{◌≡◌, ℕ, ◌+◌, ◌-◌, ◌<◌, ◌≤◌, ◌==◌, nat_le, if◌then◌else◌, Bool, true, false, not, ◌⊎◌}
+use Rattle.std.specs.Prelude.{List, [], ◌∷◌, ◌++◌, length, Option, None}
 use Rattle.std.specs.Prelude.{Some, slice_index_or, slice_set}
 use Rattle.std.specs.List.{range_with_len, find}
 use Rattle.core_map.specs.declared.Frame.{Frame}
@@ -30,7 +31,8 @@ way n hand f = if nat_le hand f then f - hand else n + f - hand
 pub record IsFirstFromHand (core : Core) (passes : Frame → Bool) (f : ℕ) : Type 0 where
   pub within : f < length core.frames
   pub here : passes (frame_at core f) ≡ true
-  pub before : (i : ℕ) → i < length core.frames → way (length core.frames) core.hand i < way (length core.frames) core.hand f
+  pub before : (i : ℕ) → i < length core.frames → way (length core.frames) core.hand i < way (length core.frames)
+      core.hand f
       → passes (frame_at core i) ≡ false
 
 -- the hand stands at the frame after f
@@ -72,8 +74,8 @@ abbrev pub or_else : Option ℕ → Option ℕ → Option ℕ
 or_else None other = other
 or_else (Some f) other = Some f
 
--- the choice of the clock: the first bound frame from the hand whose used mark is off, and where there is none the first
--- bound one
+-- the choice of the clock: the first bound frame from the hand whose used mark is off, and where there is none the
+-- first bound one
 abbrev pub clock_choice : Core → Option ℕ
 clock_choice core =
     or_else (find (λ f. is_idle (frame_at core f)) (round_frames core))

@@ -55,4 +55,5 @@ pub record GoesAround (old new : List Frame) (hand f : ℕ) : Type 0 where
   pub first : IsFirstBound new hand f
 
 abbrev pub IsTurned : List Frame → List Frame → ℕ → ℕ → Type 0
-IsTurned old new hand f = PassesTo old new hand (length old) f ⊎ (StopsBehind old new hand f ⊎ GoesAround old new hand f)
+IsTurned old new hand f = PassesTo old new hand (length old) f
+    ⊎ (StopsBehind old new hand f ⊎ GoesAround old new hand f)

@@ -1,5 +1,6 @@
 -- How many of a pool are active, counted among the nodes or among the active segments.
-use Rattle.std.proofs.Common.{◌≡◌, ◌≢◌, ◌<◌, ℕ, suc, zero, Bool, true, false, cond, eqb, ◌&&◌, List, [], ◌∷◌, Option, Some, None, length, set, refl, sym, ap}
+use Rattle.std.proofs.Common.{◌≡◌, ◌≢◌, ◌<◌, ℕ, suc, zero, Bool, true, false, cond, eqb, ◌&&◌, List, [], ◌∷◌, Option}
+use Rattle.std.proofs.Common.{Some, None, length, set, refl, sym, ap}
 use Rattle.std.proofs.Common.{subst, ◌∙◌, inl, inr, arith}
 use Rattle.std.specs.Prelude.{sum_by, is_some, IsSomeAnd}
 use Rattle.std.specs.Bool.{Decides}
@@ -20,7 +21,8 @@ same : (n : ℕ) → eqb n n ≡ true
 same n = (Decides-eqb n n).1 refl
 
 -- an active segment that isn't the first node is among the others
-others : (n : Node) (ns : List Node) (u : ℕ) (P : Node → Type 0) → n.uid ≢ u → IsSomeAnd (node_in (n ∷ ns) u) P → IsSomeAnd (node_in ns u) P
+others : (n : Node) (ns : List Node) (u : ℕ) (P : Node → Type 0) → n.uid ≢ u → IsSomeAnd (node_in (n ∷ ns) u) P
+    → IsSomeAnd (node_in ns u) P
 others n ns u P apart h = elim (eqb_tells n.uid u) [
   | inl e ↦ absurd (apart e.1)
   | inr e ↦ subst (λ (b : Bool). IsSomeAnd (cond b (Some n) (node_in ns u)) P) e.0 h
@@ -35,10 +37,12 @@ unchanged : (uses : List (Option ActiveUse)) (v q : ℕ) (ns : List Node) → no
     ≡ sum_by (λ n. cond (is_some (active_at uses n.uid) && eqb (pool_of n) q) 1 0) ns
 unchanged uses v q [] h = refl
 unchanged uses v q (n ∷ ns) h = elim (eqb_tells n.uid v) [
-  | inl e ↦ (let z : Some n ≡ None = sym (ap (λ (b : Bool). cond b (Some n) (node_in ns v)) e.0) ∙ h in let no : ⊥ = cc in absurd no)
+  | inl e ↦ (let z : Some n ≡ None = sym (ap (λ (b : Bool). cond b (Some n) (node_in ns v)) e.0) ∙ h in let no : ⊥ =
+      cc in absurd no)
   | inr e ↦
       (let rest = unchanged uses v q ns (sym (ap (λ (b : Bool). cond b (Some n) (node_in ns v)) e.0) ∙ h) in
-      let here : active_at (set uses v None) n.uid ≡ active_at uses n.uid = get_or-set_other uses v n.uid None None e.1 in
+      let here : active_at (set uses v None) n.uid ≡ active_at uses n.uid =
+      get_or-set_other uses v n.uid None None e.1 in
       let f : Node → ℕ = λ m. cond (is_some (active_at (set uses v None) m.uid) && eqb (pool_of m) q) 1 0 in
       let g : Node → ℕ = λ m. cond (is_some (active_at uses m.uid) && eqb (pool_of m) q) 1 0 in
       let a = sum_by-cons f n ns in
@@ -50,7 +54,8 @@ unchanged uses v q (n ∷ ns) h = elim (eqb_tells n.uid v) [
 some_none : (a : ActiveUse) → ◌≢◌ {A = Option ActiveUse} None (Some a)
 some_none a = λ e. cc
 
-zeros : (f : Option ActiveUse → ℕ) → f None ≡ 0 → (uses : List (Option ActiveUse)) → ((u : ℕ) → active_at uses u ≡ None) → sum_by f uses ≡ 0
+zeros : (f : Option ActiveUse → ℕ) → f None ≡ 0 → (uses : List (Option ActiveUse))
+    → ((u : ℕ) → active_at uses u ≡ None) → sum_by f uses ≡ 0
 zeros f none [] h = refl
 zeros f none (x ∷ xs) h =
     let a = sum_by-cons f x xs in
@@ -67,21 +72,25 @@ within [] u a e = absurd (some_none a e)
 within (x ∷ xs) zero a e = omega arith
 within (x ∷ xs) (suc u) a e = let h = within xs u a e in omega (arith, h)
 
-by_pool : (q : ℕ) (a : ActiveUse) (n : Node) → pool_of n ≡ a.pool → ◌≡◌ {A = ℕ} (cond (eqb (pool_of n) q) 1 0) (cond (eqb a.pool q) 1 0)
+by_pool : (q : ℕ) (a : ActiveUse) (n : Node) → pool_of n ≡ a.pool
+    → ◌≡◌ {A = ℕ} (cond (eqb (pool_of n) q) 1 0) (cond (eqb a.pool q) 1 0)
 by_pool q a n e = ap (λ (p : ℕ). cond (eqb p q) 1 0) e
 
 count_more : (n : Node) (ns : List Node) (uses : List (Option ActiveUse)) (q : ℕ) → AreNodes (n ∷ ns) uses
     → ((us : List (Option ActiveUse)) → AreNodes ns us
-    → sum_by (λ m. cond (is_some (active_at us m.uid) && eqb (pool_of m) q) 1 0) ns ≡ sum_by (λ x. cond (is_in_pool q x) 1 0) us)
+    → sum_by (λ m. cond (is_some (active_at us m.uid) && eqb (pool_of m) q) 1 0) ns
+    ≡ sum_by (λ x. cond (is_in_pool q x) 1 0) us)
     → (o : Option ActiveUse) → active_at uses n.uid ≡ o
-    → sum_by (λ m. cond (is_some (active_at uses m.uid) && eqb (pool_of m) q) 1 0) (n ∷ ns) ≡ sum_by (λ x. cond (is_in_pool q x) 1 0) uses
+    → sum_by (λ m. cond (is_some (active_at uses m.uid) && eqb (pool_of m) q) 1 0) (n ∷ ns)
+    ≡ sum_by (λ x. cond (is_in_pool q x) 1 0) uses
 count_more n ns uses q t rest None e =
     let g : Node → ℕ = λ m. cond (is_some (active_at uses m.uid) && eqb (pool_of m) q) 1 0 in
     let a = sum_by-cons g n ns in
     let here : g n ≡ 0 = ap (λ (o : Option ActiveUse). cond (is_some o && eqb (pool_of n) q) 1 0) e in
     let r = rest uses (record {
       apart = t.apart.1;
-      there = λ u b f. others n ns u (IsAsActivated b) (λ s. some_none b (sym e ∙ ap (λ (v : ℕ). active_at uses v) s ∙ f)) (t.there u b f);
+      there = λ u b f. others n ns u (IsAsActivated b)
+          (λ s. some_none b (sym e ∙ ap (λ (v : ℕ). active_at uses v) s ∙ f)) (t.there u b f);
     }) in
     omega (arith, a, here, r)
 count_more n ns uses q t rest (Some b) e =
@@ -90,7 +99,8 @@ count_more n ns uses q t rest (Some b) e =
     let a = sum_by-cons g n ns in
     let l = within uses n.uid b e in
     let is = first n ns (IsAsActivated b) (t.there n.uid b e) in
-    let here : g n ≡ f (Some b) = ap (λ (o : Option ActiveUse). cond (is_some o && eqb (pool_of n) q) 1 0) e ∙ by_pool q b n is.pool in
+    let here : g n ≡ f (Some b) = ap (λ (o : Option ActiveUse). cond (is_some o && eqb (pool_of n) q) 1 0) e
+    ∙ by_pool q b n is.pool in
     let change = sum_by-set f uses n.uid None None l in
     let was : f (active_at uses n.uid) ≡ f (Some b) = ap f e in
     let gone : f None ≡ 0 = refl in
@@ -103,24 +113,30 @@ count_more n ns uses q t rest (Some b) e =
     let s = unchanged uses n.uid q ns t.apart.0 in
     omega (arith, a, here, change, was, gone, r, s)
   where
-    away : (u : ℕ) (c : ActiveUse) → active_at (set uses n.uid None) u ≡ Some c → active_at (set uses n.uid None) n.uid ≡ None
+    away : (u : ℕ) (c : ActiveUse) → active_at (set uses n.uid None) u ≡ Some c → active_at (set uses n.uid None) n.uid
+        ≡ None
         → IsSomeAnd (node_in ns u) (IsAsActivated c)
     away u c h removed = elim (eqb_tells u n.uid) [
       | inl s ↦ absurd (some_none c (sym removed ∙ ap (λ (v : ℕ). active_at (set uses n.uid None) v) (sym s.1) ∙ h))
       | inr s ↦
-          others n ns u (IsAsActivated c) (λ d. s.1 (sym d)) (t.there u c (sym (get_or-set_other uses n.uid u None None s.1) ∙ h))
+          others n ns u (IsAsActivated c) (λ d. s.1 (sym d))
+          (t.there u c (sym (get_or-set_other uses n.uid u None None s.1) ∙ h))
     ]
 
 pub count_active : (nodes : List Node) (uses : List (Option ActiveUse)) (q : ℕ) → AreNodes nodes uses
-    → sum_by (λ n. cond (is_some (active_at uses n.uid) && eqb (pool_of n) q) 1 0) nodes ≡ sum_by (λ x. cond (is_in_pool q x) 1 0) uses
-count_active [] uses q t = sym (zeros (λ x. cond (is_in_pool q x) 1 0) refl uses (λ u. nothing (active_at uses u) (λ a e. t.there u a e)))
+    → sum_by (λ n. cond (is_some (active_at uses n.uid) && eqb (pool_of n) q) 1 0) nodes
+    ≡ sum_by (λ x. cond (is_in_pool q x) 1 0) uses
+count_active [] uses q t = sym (zeros (λ x. cond (is_in_pool q x) 1 0) refl uses
+    (λ u. nothing (active_at uses u) (λ a e. t.there u a e)))
 count_active (n ∷ ns) uses q t = count_more n ns uses q t (λ us r. count_active ns us q r) (active_at uses n.uid) refl
 
 -- ---- whether one may become active
 
-pub activates : (p : Plan) (s : Store) (t : Tables) (u : ℕ) (a : ActiveUse) (found : Option ActiveUse) (r : Bool) → found ≡ use_in (node_in s.nodes u)
+pub activates : (p : Plan) (s : Store) (t : Tables) (u : ℕ) (a : ActiveUse) (found : Option ActiveUse) (r : Bool)
+    → found ≡ use_in (node_in s.nodes u)
     → found ≡ Some a
-    → AreNodes s.nodes t.active → is_some (active_at t.active u) ≡ false → Decides r (CanJoin p t a) → Decides r (MayActivate p s (custody_of t) u)
+    → AreNodes s.nodes t.active → is_some (active_at t.active u) ≡ false → Decides r (CanJoin p t a)
+    → Decides r (MayActivate p s (custody_of t) u)
 activates p s t u a found r is some nodes inactive h = by (node_in s.nodes u) refl (sym is ∙ some)
   where
     by : (o : Option Node) → node_in s.nodes u ≡ o → use_in o ≡ Some a → Decides r (MayActivate p s (custody_of t) u)
@@ -128,8 +144,10 @@ activates p s t u a found r is some nodes inactive h = by (node_in s.nodes u) re
     by (Some n) e k =
         let coming : ActiveUse = record { superior = n.superior; pool = pool_of n } in
         let d : Decides r (CanJoin p t coming) =
-        subst (λ (x : ActiveUse). Decides r (CanJoin p t x)) (sym (ap (λ (x : Option ActiveUse). unwrap_or x coming) k)) h in
-        let c : sum_by (λ m. cond (is_some (active_at t.active m.uid) && eqb (pool_of m) (pool_of n)) 1 0) s.nodes ≡ sum_by (λ x. cond (is_in_pool
+        subst (λ (x : ActiveUse). Decides r (CanJoin p t x))
+        (sym (ap (λ (x : Option ActiveUse). unwrap_or x coming) k)) h in
+        let c : sum_by (λ m. cond (is_some (active_at t.active m.uid) && eqb (pool_of m) (pool_of n)) 1 0) s.nodes
+        ≡ sum_by (λ x. cond (is_in_pool
         (pool_of n) x) 1 0) t.active =
         count_active s.nodes t.active (pool_of n) nodes in (
           λ q. record {
@@ -140,11 +158,13 @@ activates p s t u a found r is some nodes inactive h = by (node_in s.nodes u) re
             });
           },
           λ m.
-              let j : MayJoin p s (custody_of t) n = subst (λ (x : Option Node). IsSomeAnd x (MayJoin p s (custody_of t))) e m.node in
+              let j : MayJoin p s (custody_of t) n = subst
+              (λ (x : Option Node). IsSomeAnd x (MayJoin p s (custody_of t))) e m.node in
               d.1 (record { superior = j.superior; room = subst (λ (x : ℕ). x < pool_size p (pool_of n)) c j.room }),
         )
 
-pub no_node : (p : Plan) (s : Store) (t : Tables) (u : ℕ) (found : Option ActiveUse) → found ≡ use_in (node_in s.nodes u) → found ≡ None
+pub no_node : (p : Plan) (s : Store) (t : Tables) (u : ℕ) (found : Option ActiveUse) → found
+    ≡ use_in (node_in s.nodes u) → found ≡ None
     → Decides false (MayActivate p s (custody_of t) u)
 no_node p s t u found is none = by (node_in s.nodes u) refl (sym is ∙ none)
   where
@@ -155,7 +175,8 @@ no_node p s t u found is none = by (node_in s.nodes u) refl (sym is ∙ none)
     )
     by (Some n) e k = absurd (some_none (record { superior = n.superior; pool = pool_of n }) (sym k))
 
-pub is_active : (p : Plan) (s : Store) (t : Tables) (u : ℕ) → is_some (active_at t.active u) ≡ true → Decides false (MayActivate p s (custody_of t) u)
+pub is_active : (p : Plan) (s : Store) (t : Tables) (u : ℕ) → is_some (active_at t.active u) ≡ true
+    → Decides false (MayActivate p s (custody_of t) u)
 is_active p s t u e = (
   λ q. let z : false ≡ true = q in let no : ⊥ = cc in absurd no,
   λ m. let z : true ≡ false = sym e ∙ m.inactive in let no : ⊥ = cc in absurd no,

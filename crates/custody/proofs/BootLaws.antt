@@ -1,5 +1,6 @@
 -- Custody before the first entry.
-use Rattle.std.proofs.Common.{◌≡◌, ◌<◌, ◌≤◌, length, ◌+◌, ℕ, suc, zero, List, [], ◌∷◌, ◌++◌, get_or, replicate, refl, sym, ap, subst, ◌∙◌, arith}
+use Rattle.std.proofs.Common.{◌≡◌, ◌<◌, ◌≤◌, length, ◌+◌, ℕ, suc, zero, List, [], ◌∷◌, ◌++◌, get_or, replicate, refl}
+use Rattle.std.proofs.Common.{sym, ap, subst, ◌∙◌, arith}
 use Rattle.std.specs.Prelude.{sum_by, None, is_some}
 use Rattle.std.proofs.lemmas.List.{length-replicate}
 use Rattle.std.proofs.lemmas.List.Sums.{sum_by-cons}
@@ -10,7 +11,8 @@ use Rattle.custody_model.specs.declared.FrameUse.TheVariants as frame
 use Rattle.custody_model.specs.declared.DescriptorUse.{DescriptorUse}
 use Rattle.custody_model.specs.declared.DescriptorUse.TheVariants as descriptor
 use Rattle.custody.specs.Counts.{Counted, key_bit}
-use Rattle.custody.specs.Uses.{UseCounted, AreDescriptors, AreFrames, descriptor_at, descriptor_mark, frame_at, going_key, kind_key, uid_key}
+use Rattle.custody.specs.Uses.{UseCounted, AreDescriptors, AreFrames, descriptor_at, descriptor_mark, frame_at}
+use Rattle.custody.specs.Uses.{going_key, kind_key, uid_key}
 use Rattle.custody.specs.Tables.{AreTablesOf, Tables, custody_of, row_at, seat_at}
 
 pub none_counted : {X : Type 0} (f : X → ℕ) (d : X) (n : ℕ) → f d ≡ 0 → sum_by f (replicate n d) ≡ 0
@@ -18,9 +20,11 @@ none_counted f d zero e = refl
 none_counted f d (suc n) e =
     let c =
     sum_by-cons f d (replicate n d) in let r =
-    none_counted f d n e in let w : sum_by f (replicate (suc n) d) ≡ f d + sum_by f (replicate n d) = c in omega (arith, w, r, e)
+    none_counted f d n e in let w : sum_by f (replicate (suc n) d) ≡ f d + sum_by f (replicate n d) =
+    c in omega (arith, w, r, e)
 
-pub frames_free : (n : ℕ) → n ≤ 1024 → AreFrames (replicate n frame.Free) (record { uids = []; going = []; kinds = [] }) []
+pub frames_free : (n : ℕ) → n ≤ 1024 → AreFrames (replicate n frame.Free)
+    (record { uids = []; going = []; kinds = [] }) []
 frames_free n few = record {
   few = let l = length-replicate n frame.Free in omega (arith, l, few);
   uids = λ a b. sym (none_counted _ frame.Free n refl);
@@ -64,7 +68,8 @@ pub frames_made : (n : ℕ) (uses : List FrameUse) (c : UseCounted) (p : Counted
     → n ≤ 1024 → AreFrames uses c p
 frames_made n uses c p u e f few =
     subst (λ (q : Counted). AreFrames uses c q) (sym f)
-    (subst (λ (d : UseCounted). AreFrames uses d []) (sym e) (subst (λ (xs : List FrameUse). AreFrames xs (record { uids = []; going = []; kinds = [] })
+    (subst (λ (d : UseCounted). AreFrames uses d []) (sym e)
+    (subst (λ (xs : List FrameUse). AreFrames xs (record { uids = []; going = []; kinds = [] })
     []) (sym u) (frames_free n few)))
 
 pub range_end : (from n : ℕ) → range from (suc n) ≡ range from n ++ (from + n) ∷ []
@@ -78,7 +83,8 @@ pub range_more : (n : ℕ) (xs ys : List ℕ) → xs ≡ range 0 n → ys ≡ xs
 range_more n xs ys e f =
     let s : suc n ≡ n + 1 = omega arith in
     let z : 0 + n ≡ n = omega arith in
-    f ∙ ap (λ (zs : List ℕ). zs ++ n ∷ []) e ∙ sym (range_end 0 n ∙ ap (λ (x : ℕ). range 0 n ++ x ∷ []) z) ∙ ap (range 0) s
+    f ∙ ap (λ (zs : List ℕ). zs ++ n ∷ []) e ∙ sym (range_end 0 n ∙ ap (λ (x : ℕ). range 0 n ++ x ∷ []) z)
+    ∙ ap (range 0) s
 
 -- the tables are those of the script
 row_size : (d k : ℕ) → k < d → length (row_at (replicate d (replicate 256 descriptor.Free)) k) ≡ 256
@@ -86,13 +92,16 @@ row_size zero k l = let z : ⊥ = omega (arith, l) in absurd z
 row_size (suc d) zero l = length-replicate 256 descriptor.Free
 row_size (suc d) (suc k) l = row_size d k (omega (arith, l))
 
-pub booted_sizes : (p : Plan) (t : Tables) (f d s : ℕ) → f ≡ p.frames → d ≡ length p.processes → s ≡ p.processors → t.frames ≡ replicate f frame.Free
+pub booted_sizes : (p : Plan) (t : Tables) (f d s : ℕ) → f ≡ p.frames → d ≡ length p.processes → s ≡ p.processors
+    → t.frames ≡ replicate f frame.Free
     → t.descriptors ≡ replicate d (replicate 256 descriptor.Free) → t.seats ≡ replicate s offline → AreTablesOf p t
 booted_sizes p t f d s fe de se fs ds ss =
-    let rows : length t.descriptors ≡ d = ap (λ (xs : List (List DescriptorUse)). length xs) ds ∙ length-replicate d (replicate 256 descriptor.Free) in
+    let rows : length t.descriptors ≡ d = ap (λ (xs : List (List DescriptorUse)). length xs) ds
+    ∙ length-replicate d (replicate 256 descriptor.Free) in
     record {
       frames = ap (λ (xs : List FrameUse). length xs) fs ∙ length-replicate f frame.Free ∙ fe;
       processes = rows ∙ de;
-      numbers = λ k l. ap (λ (xs : List (List DescriptorUse)). length (row_at xs k)) ds ∙ row_size d k (subst (λ (n : ℕ). k < n) rows l);
+      numbers = λ k l. ap (λ (xs : List (List DescriptorUse)). length (row_at xs k)) ds
+          ∙ row_size d k (subst (λ (n : ℕ). k < n) rows l);
       processors = ap (λ (xs : List Seat). length xs) ss ∙ length-replicate s offline ∙ se;
     }

@@ -1,5 +1,6 @@
 -- Which pages a truncation takes, and whether one of them is in a frame.
-use Rattle.std.proofs.Common.{◌≡◌, ◌≢◌, ◌<◌, ◌≤◌, ◌/◌, ◌%◌, ◌*◌, ℕ, suc, zero, ◌+◌, Bool, true, false, cond, eqb, ltb, ◌&&◌, List, [], ◌∷◌, Option, Some, None}
+use Rattle.std.proofs.Common.{◌≡◌, ◌≢◌, ◌<◌, ◌≤◌, ◌/◌, ◌%◌, ◌*◌, ℕ, suc, zero, ◌+◌, Bool, true, false, cond, eqb, ltb}
+use Rattle.std.proofs.Common.{◌&&◌, List, [], ◌∷◌, Option, Some, None}
 use Rattle.std.proofs.Common.{refl, sym, ap, subst, ◌∙◌, inl, inr, ◌⊎◌, arith}
 use Rattle.std.specs.Prelude.{sum_by, nat_le, nat_lt}
 use Rattle.std.specs.Bool.{Decides}
@@ -22,7 +23,8 @@ use Rattle.custody.proofs.LookLaws.{same_decides, sum_both}
 one_more : (q k : ℕ) → ◌≡◌ {A = ℕ} (cond (ltb q (suc k)) 1 0) (cond (ltb q k) 1 0 + cond (eqb q k) 1 0)
 one_more q k = grind (arith, nat_tests)
 
-none_more : (b : Bool) (q k : ℕ) → ◌≡◌ {A = ℕ} (cond (b && ltb q (suc k)) 1 0) (cond (b && ltb q k) 1 0 + cond (b && eqb q k) 1 0)
+none_more : (b : Bool) (q k : ℕ) → ◌≡◌ {A = ℕ} (cond (b && ltb q (suc k)) 1 0)
+    (cond (b && ltb q k) 1 0 + cond (b && eqb q k) 1 0)
 none_more true q k = one_more q k
 none_more false q k = refl
 
@@ -45,9 +47,11 @@ sum_none : {X : Type 0} (xs : List X) → sum_by (λ x. 0) xs ≡ 0
 sum_none [] = refl
 sum_none (x ∷ xs) = sum_none xs
 
-pub counted_below : (uses : List FrameUse) (p : Counted) → ((a b : ℕ) → count_at p a b ≡ sum_by (λ x. key_bit (page_of x) a b) uses) → (u k : ℕ)
+pub counted_below : (uses : List FrameUse) (p : Counted)
+    → ((a b : ℕ) → count_at p a b ≡ sum_by (λ x. key_bit (page_of x) a b) uses) → (u k : ℕ)
     → count_below p u k ≡ sum_by (λ x. below_bit u k (page_of x)) uses
-counted_below uses p t u zero = sym (sum_same (λ x. below_bit u 0 (page_of x)) (λ x. 0) (λ x. bit_none u (page_of x)) uses ∙ sum_none uses)
+counted_below uses p t u zero = sym (sum_same (λ x. below_bit u 0 (page_of x)) (λ x. 0) (λ x. bit_none u (page_of x))
+    uses ∙ sum_none uses)
 counted_below uses p t u (suc k) =
     let f : FrameUse → ℕ = λ x. below_bit u k (page_of x) in
     let g : FrameUse → ℕ = λ x. key_bit (page_of x) u k in
@@ -91,29 +95,36 @@ page_to u k v r q h e =
 
 page_from : (u k v r : ℕ) → ((q : ℕ) → ◌≡◌ {A = Option (ℕ × ℕ)} (Some (v, r)) (Some (u, q)) → q < k)
     → ◌≡◌ {A = ℕ} (cond (eqb v u && ltb r k) 1 0) (cond (eqb v u && true) 1 0)
-page_from u k v r h = below_is (eqb v u) (ltb r k) (λ e. (Decides-ltb r k).1 (h r (ap (λ (n : ℕ). Some (n, r)) ((Decides-eqb v u).0 e))))
+page_from u k v r h = below_is (eqb v u) (ltb r k) (λ e. (Decides-ltb r k).1
+    (h r (ap (λ (n : ℕ). Some (n, r)) ((Decides-eqb v u).0 e))))
 
 none_some : (x : ℕ × ℕ) → ◌≢◌ {A = Option (ℕ × ℕ)} None (Some x)
 none_some x = λ e. cc
 
-frame_to : (u k : ℕ) (x : FrameUse) → below_bit u k (page_of x) ≡ key_bit (uid_key (frame_mark x)) u 0 → (q : ℕ) → page_of x ≡ Some (u, q) → q < k
+frame_to : (u k : ℕ) (x : FrameUse) → below_bit u k (page_of x) ≡ key_bit (uid_key (frame_mark x)) u 0 → (q : ℕ)
+    → page_of x ≡ Some (u, q) → q < k
 frame_to u k frame.Free h q e = absurd (none_some (u, q) e)
 frame_to u k (frame.Started v r) h q e = page_to u k v r q h e
 frame_to u k (frame.Current v r) h q e = page_to u k v r q h e
 frame_to u k (frame.Going v r) h q e = page_to u k v r q h e
 
-frame_from : (u k : ℕ) (x : FrameUse) → ((q : ℕ) → page_of x ≡ Some (u, q) → q < k) → below_bit u k (page_of x) ≡ key_bit (uid_key (frame_mark x)) u 0
+frame_from : (u k : ℕ) (x : FrameUse) → ((q : ℕ) → page_of x ≡ Some (u, q) → q < k) → below_bit u k (page_of x)
+    ≡ key_bit (uid_key (frame_mark x)) u 0
 frame_from u k frame.Free h = refl
 frame_from u k (frame.Started v r) h = page_from u k v r h
 frame_from u k (frame.Current v r) h = page_from u k v r h
 frame_from u k (frame.Going v r) h = page_from u k v r h
 
-pub below_decides : (uses now : List FrameUse) (c : UseCounted) (p : Counted) → uses ≡ now → AreFrames uses c p → (n m u k : ℕ)
-    → n ≡ count_below p u k → m ≡ count_at c.uids u 0 → Decides (eqb n m) ((f q : ℕ) → page_of (frame_at now f) ≡ Some (u, q) → q < k)
+pub below_decides : (uses now : List FrameUse) (c : UseCounted) (p : Counted) → uses ≡ now → AreFrames uses c p
+    → (n m u k : ℕ)
+    → n ≡ count_below p u k → m ≡ count_at c.uids u 0 → Decides (eqb n m)
+    ((f q : ℕ) → page_of (frame_at now f) ≡ Some (u, q) → q < k)
 below_decides uses now c p is t n m u k e g =
     subst (λ (xs : List FrameUse). Decides (eqb n m) ((f q : ℕ) → page_of (frame_at xs f) ≡ Some (u, q) → q < k)) is
-    (same_decides (λ x. below_bit u k (page_of x)) (λ x. key_bit (uid_key (frame_mark x)) u 0) (λ x. (q : ℕ) → page_of x ≡ Some (u, q) → q < k)
-    uses frame.Free n m (e ∙ counted_below uses p t.pages u k) (g ∙ t.uids u 0) refl (frame_le u k) (frame_to u k) (frame_from u k))
+    (same_decides (λ x. below_bit u k (page_of x)) (λ x. key_bit (uid_key (frame_mark x)) u 0)
+    (λ x. (q : ℕ) → page_of x ≡ Some (u, q) → q < k)
+    uses frame.Free n m (e ∙ counted_below uses p t.pages u k) (g ∙ t.uids u 0) refl (frame_le u k) (frame_to u k)
+    (frame_from u k))
 
 -- ---- which pages are lost
 
@@ -128,7 +139,8 @@ lost_at words u from q h =
     let a : nat_le from (1024 * q) ≡ true = grind (arith, nat_tests) in
     rw a refl
 
-cut_at : (words : Words) (u from q : ℕ) → 1024 * q < from → from < 1024 * q + 1024 → is_lost words u from q ≡ is_zero_page words u q
+cut_at : (words : Words) (u from q : ℕ) → 1024 * q < from → from < 1024 * q + 1024 → is_lost words u from q
+    ≡ is_zero_page words u q
 cut_at words u from q h g =
     let a : nat_le from (1024 * q) ≡ false = grind (arith, nat_tests) in
     let b : nat_lt from (1024 * q + 1024) ≡ true = grind (arith, nat_tests) in
@@ -145,11 +157,13 @@ kept_whole words u from none q = (
   λ h. kept_at words u from q h,
   λ h. elim (order q (from / 1024)) [
     | inl l ↦ l
-    | inr l ↦ absurd (no_both (lost_at words u from q (elim l [ inl e ↦ omega (arith, none, e) | inr e ↦ omega (arith, none, e) ])) h)
+    | inr l ↦ absurd (no_both (lost_at words u from q (elim l
+        [ inl e ↦ omega (arith, none, e) | inr e ↦ omega (arith, none, e) ])) h)
   ],
 )
 
-pub kept_cut : (words : Words) (u from : ℕ) → is_zero_page words u (from / 1024) ≡ true → AreKept words u from (from / 1024)
+pub kept_cut : (words : Words) (u from : ℕ) → is_zero_page words u (from / 1024) ≡ true
+    → AreKept words u from (from / 1024)
 kept_cut words u from zeros q = (
   λ h. kept_at words u from q h,
   λ h. elim (order q (from / 1024)) [
@@ -163,14 +177,17 @@ kept_cut words u from zeros q = (
   where
     gone : (r : ℕ) → from % 1024 ≡ r → q ≡ from / 1024 → is_lost words u from q ≡ true
     gone zero r e = lost_at words u from q (omega (arith, r, e))
-    gone (suc n) r e = cut_at words u from q (omega (arith, r, e)) (omega (arith, r, e)) ∙ ap (is_zero_page words u) e ∙ zeros
+    gone (suc n) r e = cut_at words u from q (omega (arith, r, e)) (omega (arith, r, e)) ∙ ap (is_zero_page words u) e
+        ∙ zeros
 
-pub kept_more : (words : Words) (u from : ℕ) → from % 1024 ≢ 0 → is_zero_page words u (from / 1024) ≡ false → AreKept words u from (from / 1024 + 1)
+pub kept_more : (words : Words) (u from : ℕ) → from % 1024 ≢ 0 → is_zero_page words u (from / 1024) ≡ false
+    → AreKept words u from (from / 1024 + 1)
 kept_more words u from some words_left q = (
   λ h. elim (order q (from / 1024)) [
     | inl l ↦ kept_at words u from q l
     | inr l ↦ elim l [
-      | inl e ↦ cut_at words u from q (omega (arith, some, e)) (omega (arith, some, e)) ∙ ap (is_zero_page words u) e ∙ words_left
+      | inl e ↦ cut_at words u from q (omega (arith, some, e)) (omega (arith, some, e)) ∙ ap (is_zero_page words u) e
+          ∙ words_left
       | inr e ↦ (let no : ⊥ = omega (arith, e, h) in absurd no)
     ]
   ],
@@ -185,7 +202,8 @@ kept_more words u from some words_left q = (
 
 pub loses_decides : (s : Store) (t : Tables) (u from k : ℕ) (frames : List FrameUse) (r : Bool) → frames ≡ t.frames
     → AreKept (without_words s.words u from) u from k
-    → Decides r ((f q : ℕ) → page_of (frame_at frames f) ≡ Some (u, q) → q < k) → Decides r (LosesNoPage s (custody_of t) u from)
+    → Decides r ((f q : ℕ) → page_of (frame_at frames f) ≡ Some (u, q) → q < k)
+    → Decides r (LosesNoPage s (custody_of t) u from)
 loses_decides s t u from k frames r is kept h =
     let d : Decides r ((f q : ℕ) → page_of (frame_at t.frames f) ≡ Some (u, q) → q < k) =
     subst (λ (xs : List FrameUse). Decides r ((f q : ℕ) → page_of (frame_at xs f) ≡ Some (u, q) → q < k)) is h in

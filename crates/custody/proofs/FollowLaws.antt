@@ -1,6 +1,7 @@
--- What an entry that is allowed makes of the tables is the custody after it; their sizes stay, and what is active is in the
--- tree.
-use Rattle.std.proofs.Common.{◌≡◌, ◌<◌, ◌+◌, ℕ, Bool, true, false, List, [], ◌++◌, Option, Some, None, Result, Ok, Err, length, drop, set, refl, sym, ap, subst, ◌∙◌, inl, inr, arith}
+-- What an entry that is allowed makes of the tables is the custody after it; their sizes stay, and what is active is
+-- in the tree.
+use Rattle.std.proofs.Common.{◌≡◌, ◌<◌, ◌+◌, ℕ, Bool, true, false, List, [], ◌++◌, Option, Some, None, Result, Ok, Err}
+use Rattle.std.proofs.Common.{length, drop, set, refl, sym, ap, subst, ◌∙◌, inl, inr, arith}
 use Rattle.std.proofs.Common.{length-set}
 use Rattle.std.specs.Prelude.{is_some, IsSomeAnd, OnOk}
 use Rattle.std.proofs.lemmas.Bool.Decides.{eqb_tells}
@@ -14,7 +15,8 @@ use Rattle.known_segs.specs.Known.{uid_of}
 use Rattle.flat_model.specs.Legal.{after_entry}
 use Rattle.flat_model.specs.Store.{Store, known_uid}
 use Rattle.custody_model.specs.Allowed.{IsAllowed, next_command}
-use Rattle.custody_model.specs.Custody.{Seat, offline, is_current_descriptor, is_current_frame, is_going_descriptor, is_going_frame, is_started}
+use Rattle.custody_model.specs.Custody.{Seat, offline, is_current_descriptor, is_current_frame, is_going_descriptor}
+use Rattle.custody_model.specs.Custody.{is_going_frame, is_started}
 use Rattle.custody_model.specs.Next.{custody_next, is_try, queued, released_by, with_active, with_seat}
 use Rattle.custody_model.specs.declared.FrameUse.{FrameUse}
 use Rattle.custody_model.specs.declared.FrameUse.TheVariants as frame
@@ -24,7 +26,8 @@ use Rattle.custody.specs.Uses.{frame_at, descriptor_at}
 use Rattle.custody.specs.Tables.{AreNodes, AreTablesOf, Tables, active_at, custody_of, row_at, seat_at, use_in}
 use Rattle.custody.specs.Changes.{Advances, put_descriptor, put_frame, warn_from}
 use Rattle.custody.specs.declared.active.ActiveUse.{ActiveUse}
-use Rattle.custody.proofs.AdvanceLaws.{active_put_at, descriptor_put, dropped_is, frame_put, seat_put, signal_is, there, use_put, warn_length}
+use Rattle.custody.proofs.AdvanceLaws.{active_put_at, descriptor_put, dropped_is, frame_put, seat_put, signal_is}
+use Rattle.custody.proofs.AdvanceLaws.{there, use_put, warn_length}
 use Rattle.custody.proofs.KeptNodes.{nodes_put, use_as}
 use Rattle.flat_store.specs.Shown.{Kept, Shows}
 
@@ -47,7 +50,8 @@ runs_there t d h = there (λ (s : Seat). is_some s.process) offline refl t.seats
 due_there : (t : Tables) (d : ℕ) (w : What) → (seat_at t.seats d).due ≡ Some w → d < length t.seats
 due_there t d w h = there (λ (s : Seat). is_some s.due) offline refl t.seats d (ap (λ (o : Option What). is_some o) h)
 
-frame_there : (test : FrameUse → Bool) → test frame.Free ≡ false → (t : Tables) (f : ℕ) → test (frame_at t.frames f) ≡ true → f < length t.frames
+frame_there : (test : FrameUse → Bool) → test frame.Free ≡ false → (t : Tables) (f : ℕ) → test (frame_at t.frames f)
+    ≡ true → f < length t.frames
 frame_there test e t f h = there test frame.Free e t.frames f h
 
 frame_in : (p : Plan) (t : Tables) (f : ℕ) → AreTablesOf p t → f < p.frames → f < length t.frames
@@ -58,48 +62,62 @@ seat_in p t d of h = let z = of.processors in omega (arith, h, z)
 
 -- a descriptor that passes a test which a free one doesn't pass is one of the tables
 descriptor_there : (test : DescriptorUse → Bool) → test descriptor.Free ≡ false → (t : Tables) (k n : ℕ)
-    → test (descriptor_at (row_at t.descriptors k) n) ≡ true → (k < length t.descriptors) × (n < length (row_at t.descriptors k))
+    → test (descriptor_at (row_at t.descriptors k) n) ≡ true → (k < length t.descriptors)
+    × (n < length (row_at t.descriptors k))
 descriptor_there test e t k n h = (
   there (λ (row : List DescriptorUse). test (descriptor_at row n)) [] e t.descriptors k h,
   there test descriptor.Free e (row_at t.descriptors k) n h,
 )
 
 known_there : (s : Store) (k n u : ℕ) → known_uid s k n ≡ Some u → k < length s.known
-known_there s k n u h = there (λ (row : List (Option ℕ)). is_some (uid_of row n)) [] refl s.known k (ap (λ (o : Option ℕ). is_some o) h)
+known_there s k n u h = there (λ (row : List (Option ℕ)). is_some (uid_of row n)) [] refl s.known k
+    (ap (λ (o : Option ℕ). is_some o) h)
 
 -- ---- the custody after an entry
 
-pub custody_advanced : (p : Plan) (k : Kept) (s : Store) (t v : Tables) (e : Entry) → Shows p k s → AreTablesOf p t → IsAllowed p s (custody_of t) e
+pub custody_advanced : (p : Plan) (k : Kept) (s : Store) (t v : Tables) (e : Entry) → Shows p k s → AreTablesOf p t
+    → IsAllowed p s (custody_of t) e
     → Advances p s t v e → custody_of v ≡ custody_next p s (custody_of t) e
 unfolding custody_next
 custody_advanced p kept s t v (entry.Do k i d f r) shows of may a =
     let command = next_command p s k in
     let l = runs_there t d (ap (λ (o : Option ℕ). is_some o) may.process) in
-    let seat : Seat = record (seat_at t.seats d) { count = (seat_at t.seats d).count + 1; tried = is_try s k command r } in
+    let seat : Seat = record (seat_at t.seats d) {
+      count = (seat_at t.seats d).count + 1;
+      tried =
+          is_try s k command r;
+    } in
     ap custody_of a ∙ (λ i. record (seat_put t d seat l i) { ready = t.ready ++ released_by p k command })
 custody_advanced p kept s t v (entry.Release u q) shows of may a = ap custody_of a
 custody_advanced p kept s t v (entry.Fault k) shows of may a = ap custody_of a
-custody_advanced p kept s t v (entry.Online d) shows of may a = ap custody_of a ∙ seat_put t d _ (seat_in p t d of may.processor)
+custody_advanced p kept s t v (entry.Online d) shows of may a = ap custody_of a
+    ∙ seat_put t d _ (seat_in p t d of may.processor)
 custody_advanced p kept s t v (entry.Load d k) shows of may a =
     let l = online_there t d may.online in
-    let seat : Seat = record (seat_at t.seats d) { process = Some k; count = 0; tried = false; segs = []; pages = [] } in
+    let seat : Seat = record (seat_at t.seats d) { process = Some k; count = 0; tried = false; segs = []; pages = [] }
+    in
     ap custody_of a ∙ (λ i. record (seat_put t d seat l i) { ready = drop 1 t.ready })
 custody_advanced p kept s t v (entry.Leave d) shows of may a =
     let l = runs_there t d (some_and (seat_at t.seats d).process _ may) in
     let seat : Seat = record (seat_at t.seats d) { process = None; segs = []; pages = [] } in
     ap custody_of a ∙ (λ i. record (seat_put t d seat l i) { ready = queued s t.ready (seat_at t.seats d).process })
 custody_advanced p kept s t v (entry.Activate u) shows of may a =
-    ap custody_of a ∙ use_put t u (use_in (node_in s.nodes u)) ∙ ap (λ (b : Bool). with_active (custody_of t) u b) (used (node_in s.nodes u) _ may.node)
+    ap custody_of a ∙ use_put t u (use_in (node_in s.nodes u))
+    ∙ ap (λ (b : Bool). with_active (custody_of t) u b) (used (node_in s.nodes u) _ may.node)
   where
     used : (o : Option Node) (P : Node → Type 0) → IsSomeAnd o P → is_some (use_in o) ≡ true
     used None P h = absurd h
     used (Some n) P h = refl
 custody_advanced p kept s t v (entry.Deactivate u) shows of may a = ap custody_of a ∙ use_put t u None
-custody_advanced p kept s t v (entry.Start f u q) shows of may a = ap custody_of a ∙ frame_put t f _ (frame_in p t f of may.there)
-custody_advanced p kept s t v (entry.Lose f) shows of may a = ap custody_of a ∙ frame_put t f _ (frame_there is_started refl t f may)
+custody_advanced p kept s t v (entry.Start f u q) shows of may a = ap custody_of a
+    ∙ frame_put t f _ (frame_in p t f of may.there)
+custody_advanced p kept s t v (entry.Lose f) shows of may a = ap custody_of a
+    ∙ frame_put t f _ (frame_there is_started refl t f may)
 custody_advanced p kept s t v (entry.Here f u q) shows of (inl may) a =
-    ap custody_of a ∙ frame_put t f _ (frame_there is_started refl t f (ap (λ (x : FrameUse). is_started x) may.started))
-custody_advanced p kept s t v (entry.Here f u q) shows of (inr may) a = ap custody_of a ∙ frame_put t f _ (frame_in p t f of may.there)
+    ap custody_of a ∙ frame_put t f _ (frame_there is_started refl t f
+    (ap (λ (x : FrameUse). is_started x) may.started))
+custody_advanced p kept s t v (entry.Here f u q) shows of (inr may) a = ap custody_of a
+    ∙ frame_put t f _ (frame_in p t f of may.there)
 custody_advanced p kept s t v (entry.Connect k n u) shows of may a =
     let known = known_there s k n u may.known in
     let kl : k < length t.descriptors =
@@ -109,53 +127,86 @@ custody_advanced p kept s t v (entry.Connect k n u) shows of may a =
     let below = a.1 may.known in
     let size = of.numbers k kl in omega (arith, below, size) in
     ap custody_of a.0 ∙ descriptor_put t k n _ kl nl
-custody_advanced p kept s t v (entry.Take f) shows of may a = ap custody_of a ∙ frame_put t f _ (frame_there is_current_frame refl t f may)
+custody_advanced p kept s t v (entry.Take f) shows of may a = ap custody_of a
+    ∙ frame_put t f _ (frame_there is_current_frame refl t f may)
 custody_advanced p kept s t v (entry.Cut k n) shows of may a =
     let l = descriptor_there is_current_descriptor refl t k n may in ap custody_of a ∙ descriptor_put t k n _ l.0 l.1
-custody_advanced p kept s t v (entry.Signal d w) shows of may a = ap custody_of a ∙ signal_is t d w (online_there t d may.online)
+custody_advanced p kept s t v (entry.Signal d w) shows of may a = ap custody_of a
+    ∙ signal_is t d w (online_there t d may.online)
 custody_advanced p kept s t v (entry.Clear d w) shows of may a =
     ap custody_of a ∙ seat_put t d _ (due_there t d w may)
     ∙ ap (λ (x : Seat). with_seat (custody_of t) d (record x { due = None })) (dropped_is t w (seat_at t.seats d))
-custody_advanced p kept s t v (entry.FillSeg d n) shows of may a = ap custody_of a ∙ seat_put t d _ (runs_there t d (some_and (seat_at t.seats d).process _ may))
-custody_advanced p kept s t v (entry.FillPage d f) shows of may a = ap custody_of a ∙ seat_put t d _ (seat_in p t d of may.processor)
-custody_advanced p kept s t v (entry.GonePage f) shows of may a = ap custody_of a ∙ frame_put t f _ (frame_there is_going_frame refl t f may.going)
-custody_advanced p kept s t v (entry.BackPage f) shows of may a = ap custody_of a ∙ frame_put t f _ (frame_there is_going_frame refl t f may.going)
+custody_advanced p kept s t v (entry.FillSeg d n) shows of may a = ap custody_of a
+    ∙ seat_put t d _ (runs_there t d (some_and (seat_at t.seats d).process _ may))
+custody_advanced p kept s t v (entry.FillPage d f) shows of may a = ap custody_of a
+    ∙ seat_put t d _ (seat_in p t d of may.processor)
+custody_advanced p kept s t v (entry.GonePage f) shows of may a = ap custody_of a
+    ∙ frame_put t f _ (frame_there is_going_frame refl t f may.going)
+custody_advanced p kept s t v (entry.BackPage f) shows of may a = ap custody_of a
+    ∙ frame_put t f _ (frame_there is_going_frame refl t f may.going)
 custody_advanced p kept s t v (entry.GoneSeg k n) shows of may a =
-    let l = descriptor_there is_going_descriptor refl t k n may.going in ap custody_of a ∙ descriptor_put t k n _ l.0 l.1
+    let l = descriptor_there is_going_descriptor refl t k n may.going in ap custody_of a
+    ∙ descriptor_put t k n _ l.0 l.1
 custody_advanced p kept s t v (entry.BackSeg k n) shows of may a =
-    let l = descriptor_there is_going_descriptor refl t k n may.going in ap custody_of a ∙ descriptor_put t k n _ l.0 l.1
+    let l = descriptor_there is_going_descriptor refl t k n may.going in ap custody_of a
+    ∙ descriptor_put t k n _ l.0 l.1
 
 -- ---- the sizes of the tables
 
 of_frame : (p : Plan) (t : Tables) (f : ℕ) (x : FrameUse) → AreTablesOf p t → AreTablesOf p (put_frame t f x)
-of_frame p t f x of = record { frames = length-set t.frames f x ∙ of.frames; processes = of.processes; numbers = of.numbers; processors = of.processors }
+of_frame p t f x of = record {
+  frames = length-set t.frames f x ∙ of.frames;
+  processes = of.processes;
+  numbers =
+      of.numbers;
+  processors = of.processors;
+}
 
-of_descriptor : (p : Plan) (t : Tables) (k n : ℕ) (x : DescriptorUse) → AreTablesOf p t → AreTablesOf p (put_descriptor t k n x)
+of_descriptor : (p : Plan) (t : Tables) (k n : ℕ) (x : DescriptorUse) → AreTablesOf p t
+    → AreTablesOf p (put_descriptor t k n x)
 of_descriptor p t k n x of = record {
   frames = of.frames;
   processes = length-set t.descriptors k (set (row_at t.descriptors k) n x) ∙ of.processes;
   numbers = λ j l.
-      let within : j < length t.descriptors = subst (λ (m : ℕ). j < m) (length-set t.descriptors k (set (row_at t.descriptors k) n x)) l in
+      let within : j < length t.descriptors = subst (λ (m : ℕ). j < m)
+      (length-set t.descriptors k (set (row_at t.descriptors k) n x)) l in
       elim (eqb_tells j k) [
         | inl e ↦
             (let at : k < length t.descriptors = subst (λ (m : ℕ). m < length t.descriptors) e.1 within in
             ap (λ (m : ℕ). length (row_at (set t.descriptors k (set (row_at t.descriptors k) n x)) m)) e.1
-            ∙ ap (λ (row : List DescriptorUse). length row) (get_or-set_same t.descriptors k (set (row_at t.descriptors k) n x) [] at)
+            ∙ ap (λ (row : List DescriptorUse). length row)
+            (get_or-set_same t.descriptors k (set (row_at t.descriptors k) n x) [] at)
             ∙ length-set (row_at t.descriptors k) n x ∙ of.numbers k at)
         | inr e ↦
-            ap (λ (row : List DescriptorUse). length row) (get_or-set_other t.descriptors k j (set (row_at t.descriptors k) n x) [] e.1) ∙ of.numbers j within
+            ap (λ (row : List DescriptorUse). length row)
+            (get_or-set_other t.descriptors k j (set (row_at t.descriptors k) n x) [] e.1) ∙ of.numbers j within
       ];
   processors = of.processors;
 }
 
-of_seats : (p : Plan) (t : Tables) (seats : List Seat) (ready : List ℕ) → length seats ≡ length t.seats → AreTablesOf p t
+of_seats : (p : Plan) (t : Tables) (seats : List Seat) (ready : List ℕ) → length seats ≡ length t.seats
+    → AreTablesOf p t
     → AreTablesOf p (record t { seats = seats; ready = ready })
-of_seats p t seats ready e of = record { frames = of.frames; processes = of.processes; numbers = of.numbers; processors = e ∙ of.processors }
+of_seats p t seats ready e of = record {
+  frames = of.frames;
+  processes = of.processes;
+  numbers =
+      of.numbers;
+  processors = e ∙ of.processors;
+}
 
-of_use : (p : Plan) (t : Tables) (uses : List (Option ActiveUse)) → AreTablesOf p t → AreTablesOf p (record t { active = uses })
-of_use p t uses of = record { frames = of.frames; processes = of.processes; numbers = of.numbers; processors = of.processors }
+of_use : (p : Plan) (t : Tables) (uses : List (Option ActiveUse)) → AreTablesOf p t
+    → AreTablesOf p (record t { active = uses })
+of_use p t uses of = record {
+  frames = of.frames;
+  processes = of.processes;
+  numbers = of.numbers;
+  processors =
+      of.processors;
+}
 
-pub of_advanced : (p : Plan) (s : Store) (t v : Tables) (e : Entry) → AreTablesOf p t → Advances p s t v e → AreTablesOf p v
+pub of_advanced : (p : Plan) (s : Store) (t v : Tables) (e : Entry) → AreTablesOf p t → Advances p s t v e
+    → AreTablesOf p v
 of_advanced p s t v (entry.Do k i d f r) of a = rw a (of_seats p t _ _ (length-set t.seats d _) of)
 of_advanced p s t v (entry.Release u q) of a = rw a of
 of_advanced p s t v (entry.Fault k) of a = rw a of
@@ -182,9 +233,11 @@ of_advanced p s t v (entry.BackSeg k n) of a = rw a (of_descriptor p t k n _ of)
 
 -- ---- the active segments in the tree
 
-same_active : (p : Plan) (s : Store) (t v : Tables) (e : Entry) → v.active ≡ t.active → AreNodes (after_entry p s e).nodes t.active
+same_active : (p : Plan) (s : Store) (t v : Tables) (e : Entry) → v.active ≡ t.active
+    → AreNodes (after_entry p s e).nodes t.active
     → AreNodes (after_entry p s e).nodes v.active
-same_active p s t v e same nodes = subst (λ (uses : List (Option ActiveUse)). AreNodes (after_entry p s e).nodes uses) (sym same) nodes
+same_active p s t v e same nodes = subst (λ (uses : List (Option ActiveUse)). AreNodes (after_entry p s e).nodes uses)
+    (sym same) nodes
 
 -- which active segments an entry leaves
 pub active_advanced : (p : Plan) (s : Store) (t v : Tables) (e : Entry) → Advances p s t v e → AreNodes s.nodes t.active
@@ -192,27 +245,49 @@ pub active_advanced : (p : Plan) (s : Store) (t v : Tables) (e : Entry) → Adva
 unfolding after_entry
 active_advanced p s t v (entry.Activate u) a old nodes =
     nodes_put s.nodes t.active v.active u (use_in (node_in s.nodes u)) old
-    (λ w. ap (λ (x : Tables). active_at x.active w) a ∙ active_put_at t.active u w (use_in (node_in s.nodes u))) (λ x e. use_as (node_in s.nodes u) x e)
+    (λ w. ap (λ (x : Tables). active_at x.active w) a ∙ active_put_at t.active u w (use_in (node_in s.nodes u)))
+    (λ x e. use_as (node_in s.nodes u) x e)
 active_advanced p s t v (entry.Deactivate u) a old nodes =
     nodes_put s.nodes t.active v.active u None old
-    (λ w. ap (λ (x : Tables). active_at x.active w) a ∙ active_put_at t.active u w None) (λ x e. let no : ⊥ = cc in absurd no)
-active_advanced p s t v (entry.Connect k n u) a old nodes = same_active p s t v (entry.Connect k n u) (ap (λ (x : Tables). x.active) a.0) nodes
-active_advanced p s t v (entry.Do k i d f r) a old nodes = same_active p s t v (entry.Do k i d f r) (ap (λ (x : Tables). x.active) a) nodes
-active_advanced p s t v (entry.Release u q) a old nodes = same_active p s t v (entry.Release u q) (ap (λ (x : Tables). x.active) a) nodes
-active_advanced p s t v (entry.Fault k) a old nodes = same_active p s t v (entry.Fault k) (ap (λ (x : Tables). x.active) a) nodes
-active_advanced p s t v (entry.Online d) a old nodes = same_active p s t v (entry.Online d) (ap (λ (x : Tables). x.active) a) nodes
-active_advanced p s t v (entry.Load d k) a old nodes = same_active p s t v (entry.Load d k) (ap (λ (x : Tables). x.active) a) nodes
-active_advanced p s t v (entry.Leave d) a old nodes = same_active p s t v (entry.Leave d) (ap (λ (x : Tables). x.active) a) nodes
-active_advanced p s t v (entry.Start f u q) a old nodes = same_active p s t v (entry.Start f u q) (ap (λ (x : Tables). x.active) a) nodes
-active_advanced p s t v (entry.Lose f) a old nodes = same_active p s t v (entry.Lose f) (ap (λ (x : Tables). x.active) a) nodes
-active_advanced p s t v (entry.Here f u q) a old nodes = same_active p s t v (entry.Here f u q) (ap (λ (x : Tables). x.active) a) nodes
-active_advanced p s t v (entry.Take f) a old nodes = same_active p s t v (entry.Take f) (ap (λ (x : Tables). x.active) a) nodes
-active_advanced p s t v (entry.Cut k n) a old nodes = same_active p s t v (entry.Cut k n) (ap (λ (x : Tables). x.active) a) nodes
-active_advanced p s t v (entry.Signal d w) a old nodes = same_active p s t v (entry.Signal d w) (ap (λ (x : Tables). x.active) a) nodes
-active_advanced p s t v (entry.Clear d w) a old nodes = same_active p s t v (entry.Clear d w) (ap (λ (x : Tables). x.active) a) nodes
-active_advanced p s t v (entry.FillSeg d n) a old nodes = same_active p s t v (entry.FillSeg d n) (ap (λ (x : Tables). x.active) a) nodes
-active_advanced p s t v (entry.FillPage d f) a old nodes = same_active p s t v (entry.FillPage d f) (ap (λ (x : Tables). x.active) a) nodes
-active_advanced p s t v (entry.GonePage f) a old nodes = same_active p s t v (entry.GonePage f) (ap (λ (x : Tables). x.active) a) nodes
-active_advanced p s t v (entry.BackPage f) a old nodes = same_active p s t v (entry.BackPage f) (ap (λ (x : Tables). x.active) a) nodes
-active_advanced p s t v (entry.GoneSeg k n) a old nodes = same_active p s t v (entry.GoneSeg k n) (ap (λ (x : Tables). x.active) a) nodes
-active_advanced p s t v (entry.BackSeg k n) a old nodes = same_active p s t v (entry.BackSeg k n) (ap (λ (x : Tables). x.active) a) nodes
+    (λ w. ap (λ (x : Tables). active_at x.active w) a ∙ active_put_at t.active u w None)
+    (λ x e. let no : ⊥ = cc in absurd no)
+active_advanced p s t v (entry.Connect k n u) a old nodes =
+    same_active p s t v (entry.Connect k n u) (ap (λ (x : Tables). x.active) a.0) nodes
+active_advanced p s t v (entry.Do k i d f r) a old nodes =
+    same_active p s t v (entry.Do k i d f r) (ap (λ (x : Tables). x.active) a) nodes
+active_advanced p s t v (entry.Release u q) a old nodes =
+    same_active p s t v (entry.Release u q) (ap (λ (x : Tables). x.active) a) nodes
+active_advanced p s t v (entry.Fault k) a old nodes = same_active p s t v (entry.Fault k)
+    (ap (λ (x : Tables). x.active) a) nodes
+active_advanced p s t v (entry.Online d) a old nodes =
+    same_active p s t v (entry.Online d) (ap (λ (x : Tables). x.active) a) nodes
+active_advanced p s t v (entry.Load d k) a old nodes =
+    same_active p s t v (entry.Load d k) (ap (λ (x : Tables). x.active) a) nodes
+active_advanced p s t v (entry.Leave d) a old nodes = same_active p s t v (entry.Leave d)
+    (ap (λ (x : Tables). x.active) a) nodes
+active_advanced p s t v (entry.Start f u q) a old nodes =
+    same_active p s t v (entry.Start f u q) (ap (λ (x : Tables). x.active) a) nodes
+active_advanced p s t v (entry.Lose f) a old nodes = same_active p s t v (entry.Lose f)
+    (ap (λ (x : Tables). x.active) a) nodes
+active_advanced p s t v (entry.Here f u q) a old nodes =
+    same_active p s t v (entry.Here f u q) (ap (λ (x : Tables). x.active) a) nodes
+active_advanced p s t v (entry.Take f) a old nodes = same_active p s t v (entry.Take f)
+    (ap (λ (x : Tables). x.active) a) nodes
+active_advanced p s t v (entry.Cut k n) a old nodes = same_active p s t v (entry.Cut k n)
+    (ap (λ (x : Tables). x.active) a) nodes
+active_advanced p s t v (entry.Signal d w) a old nodes =
+    same_active p s t v (entry.Signal d w) (ap (λ (x : Tables). x.active) a) nodes
+active_advanced p s t v (entry.Clear d w) a old nodes =
+    same_active p s t v (entry.Clear d w) (ap (λ (x : Tables). x.active) a) nodes
+active_advanced p s t v (entry.FillSeg d n) a old nodes =
+    same_active p s t v (entry.FillSeg d n) (ap (λ (x : Tables). x.active) a) nodes
+active_advanced p s t v (entry.FillPage d f) a old nodes =
+    same_active p s t v (entry.FillPage d f) (ap (λ (x : Tables). x.active) a) nodes
+active_advanced p s t v (entry.GonePage f) a old nodes =
+    same_active p s t v (entry.GonePage f) (ap (λ (x : Tables). x.active) a) nodes
+active_advanced p s t v (entry.BackPage f) a old nodes =
+    same_active p s t v (entry.BackPage f) (ap (λ (x : Tables). x.active) a) nodes
+active_advanced p s t v (entry.GoneSeg k n) a old nodes =
+    same_active p s t v (entry.GoneSeg k n) (ap (λ (x : Tables). x.active) a) nodes
+active_advanced p s t v (entry.BackSeg k n) a old nodes =
+    same_active p s t v (entry.BackSeg k n) (ap (λ (x : Tables). x.active) a) nodes

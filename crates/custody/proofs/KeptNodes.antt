@@ -1,5 +1,6 @@
 -- What is active is in the tree after each entry that is allowed, and lies there and needs a place as before.
-use Rattle.std.proofs.Common.{◌≡◌, ◌≢◌, ℕ, Bool, true, false, cond, eqb, List, [], ◌∷◌, Option, Some, None, Result, Ok, Err, map}
+use Rattle.std.proofs.Common.{◌≡◌, ◌≢◌, ℕ, Bool, true, false, cond, eqb, List, [], ◌∷◌, Option, Some, None, Result, Ok}
+use Rattle.std.proofs.Common.{Err, map}
 use Rattle.std.proofs.Common.{ℤ, ◌+◌, ◌-◌, refl, sym, ap, subst, ◌∙◌, inl, inr}
 use Rattle.std.specs.Prelude.{is_some, IsSomeAnd}
 use Rattle.std.specs.Int.{is_positive}
@@ -22,7 +23,8 @@ use Rattle.tree_model.specs.Access.{Row, with_row}
 use Rattle.tree_model.specs.Quotas.{giver_of, getter_of, with_quota_of}
 use Rattle.tree_model.specs.Tree.{Node, above, node_in, pool_of, without_node}
 use Rattle.flat_model.specs.Branches.{node_at, segment_at, branch_at, directory_at, changed, parts_of}
-use Rattle.flat_model.specs.Commands.{effect_of, effect_by, effect_of_tree_command, after_command, takes_effect, reply_to_command}
+use Rattle.flat_model.specs.Commands.{effect_of, effect_by, effect_of_tree_command, after_command, takes_effect}
+use Rattle.flat_model.specs.Commands.{reply_to_command}
 use Rattle.flat_model.specs.Legal.{IsLawful, IsAnswer, after_do, after_entry}
 use Rattle.flat_model.specs.Making.{after_make, made_of, made_at, owner_row, after_delete, deleted}
 use Rattle.flat_model.specs.Naming.{after_initiate, initiated, after_terminate}
@@ -39,17 +41,22 @@ no_some : (a : ActiveUse) → ◌≢◌ {A = Option ActiveUse} None (Some a)
 no_some a = λ e. cc
 
 -- what is active isn't a node of which that isn't so
-not_active : (uses : List (Option ActiveUse)) (u v : ℕ) (a : ActiveUse) → active_at uses u ≡ Some a → is_some (active_at uses v) ≡ false → u ≢ v
-not_active uses u v a is off = λ e. let z : true ≡ false = sym (ap (λ (x : Option ActiveUse). is_some x) is) ∙ ap (λ w. is_some (active_at uses w)) e ∙ off in let no : ⊥ = cc in absurd no
+not_active : (uses : List (Option ActiveUse)) (u v : ℕ) (a : ActiveUse) → active_at uses u ≡ Some a
+    → is_some (active_at uses v) ≡ false → u ≢ v
+not_active uses u v a is off = λ e. let z : true ≡ false = sym (ap (λ (x : Option ActiveUse). is_some x) is)
+    ∙ ap (λ w. is_some (active_at uses w)) e ∙ off in let no : ⊥ = cc in absurd no
 
 -- ---- a node more
 
-pub nodes_made : (n : Node) (ns : List Node) (uses : List (Option ActiveUse)) → node_in ns n.uid ≡ None → AreNodes ns uses → AreNodes (n ∷ ns) uses
+pub nodes_made : (n : Node) (ns : List Node) (uses : List (Option ActiveUse)) → node_in ns n.uid ≡ None
+    → AreNodes ns uses → AreNodes (n ∷ ns) uses
 nodes_made n ns uses new t = record {
   apart = (new, t.apart);
   there = λ u a is. elim (eqb_tells n.uid u) [
-    | inl e ↦ (let no : ⊥ = subst (λ (o : Option Node). IsSomeAnd o (IsAsActivated a)) (ap (λ w. node_in ns w) (sym e.1) ∙ new) (t.there u a is) in absurd no)
-    | inr e ↦ subst (λ (b : Bool). IsSomeAnd (cond b (Some n) (node_in ns u)) (IsAsActivated a)) (sym e.0) (t.there u a is)
+    | inl e ↦ (let no : ⊥ = subst (λ (o : Option Node). IsSomeAnd o (IsAsActivated a))
+        (ap (λ w. node_in ns w) (sym e.1) ∙ new) (t.there u a is) in absurd no)
+    | inr e ↦ subst (λ (b : Bool). IsSomeAnd (cond b (Some n) (node_in ns u)) (IsAsActivated a)) (sym e.0)
+        (t.there u a is)
   ];
 }
 
@@ -59,7 +66,8 @@ abbrev changed_option : (Node → Node) → Option Node → Option Node
 changed_option g None = None
 changed_option g (Some n) = Some (g n)
 
-node_changed : (g : Node → Node) → ((n : Node) → (g n).uid ≡ n.uid) → (ns : List Node) (u : ℕ) → node_in (map g ns) u ≡ changed_option g (node_in ns u)
+node_changed : (g : Node → Node) → ((n : Node) → (g n).uid ≡ n.uid) → (ns : List Node) (u : ℕ) → node_in (map g ns) u
+    ≡ changed_option g (node_in ns u)
 node_changed g same [] u = refl
 node_changed g same (n ∷ ns) u =
     let here : eqb (g n).uid u ≡ eqb n.uid u = ap (λ v. eqb v u) (same n) in
@@ -74,9 +82,14 @@ none_changed : (g : Node → Node) (o : Option Node) → o ≡ None → changed_
 none_changed g None e = refl
 none_changed g (Some n) e = let no : ⊥ = cc in absurd no
 
-apart_changed : (g : Node → Node) → ((n : Node) → (g n).uid ≡ n.uid) → (ns : List Node) → AreApart ns → AreApart (map g ns)
+apart_changed : (g : Node → Node) → ((n : Node) → (g n).uid ≡ n.uid) → (ns : List Node) → AreApart ns
+    → AreApart (map g ns)
 apart_changed g same [] t = tt
-apart_changed g same (n ∷ ns) t = (node_changed g same ns (g n).uid ∙ none_changed g (node_in ns (g n).uid) (ap (λ u. node_in ns u) (same n) ∙ t.0), apart_changed g same ns t.1)
+apart_changed g same (n ∷ ns) t = (
+  node_changed g same ns (g n).uid
+      ∙ none_changed g (node_in ns (g n).uid) (ap (λ u. node_in ns u) (same n) ∙ t.0),
+  apart_changed g same ns t.1,
+)
 
 -- the node of a uid has that uid
 found_uid : (ns : List Node) (u : ℕ) (n : Node) → node_in ns u ≡ Some n → n.uid ≡ u
@@ -87,15 +100,18 @@ found_uid (m ∷ ns) u n is = elim (eqb_tells m.uid u) [
 ]
 
 -- a change that leaves superior and pool of the nodes that are active leaves what is active
-pub nodes_changed : (g : Node → Node) (ns : List Node) (uses : List (Option ActiveUse)) → ((n : Node) → (g n).uid ≡ n.uid)
+pub nodes_changed : (g : Node → Node) (ns : List Node) (uses : List (Option ActiveUse))
+    → ((n : Node) → (g n).uid ≡ n.uid)
     → ((n : Node) (a : ActiveUse) → active_at uses n.uid ≡ Some a → IsAsActivated a n → IsAsActivated a (g n))
     → AreNodes ns uses → AreNodes (map g ns) uses
 nodes_changed g ns uses same keeps t = record {
   apart = apart_changed g same ns t.apart;
-  there = λ u a is. subst (λ (o : Option Node). IsSomeAnd o (IsAsActivated a)) (sym (node_changed g same ns u)) (by (node_in ns u) u a is refl (t.there u a is));
+  there = λ u a is. subst (λ (o : Option Node). IsSomeAnd o (IsAsActivated a)) (sym (node_changed g same ns u))
+      (by (node_in ns u) u a is refl (t.there u a is));
 }
   where
-    by : (o : Option Node) (u : ℕ) (a : ActiveUse) → active_at uses u ≡ Some a → node_in ns u ≡ o → IsSomeAnd o (IsAsActivated a)
+    by : (o : Option Node) (u : ℕ) (a : ActiveUse) → active_at uses u ≡ Some a → node_in ns u ≡ o
+        → IsSomeAnd o (IsAsActivated a)
         → IsSomeAnd (changed_option g o) (IsAsActivated a)
     by None u a is e h = h
     by (Some n) u a is e h = keeps n a (ap (λ v. active_at uses v) (found_uid ns u n e) ∙ is) h
@@ -119,10 +135,12 @@ apart_left (n ∷ ns) u t = elim (eqb_tells n.uid u) [
   | inr e ↦ rw e.0 (node_left ns u n.uid e.1 ∙ t.0, apart_left ns u t.1)
 ]
 
-pub nodes_left : (ns : List Node) (uses : List (Option ActiveUse)) (u : ℕ) → is_some (active_at uses u) ≡ false → AreNodes ns uses → AreNodes (without_node ns u) uses
+pub nodes_left : (ns : List Node) (uses : List (Option ActiveUse)) (u : ℕ) → is_some (active_at uses u) ≡ false
+    → AreNodes ns uses → AreNodes (without_node ns u) uses
 nodes_left ns uses u off t = record {
   apart = apart_left ns u t.apart;
-  there = λ v a is. subst (λ (o : Option Node). IsSomeAnd o (IsAsActivated a)) (sym (node_left ns u v (not_active uses v u a is off))) (t.there v a is);
+  there = λ v a is. subst (λ (o : Option Node). IsSomeAnd o (IsAsActivated a))
+      (sym (node_left ns u v (not_active uses v u a is off))) (t.there v a is);
 }
 
 -- ---- one active segment more or less
@@ -134,7 +152,8 @@ pub nodes_put : (ns : List Node) (old new : List (Option ActiveUse)) (u : ℕ) (
 nodes_put ns old new u to t put is_node = record {
   apart = t.apart;
   there = λ v a is. elim (eqb_tells v u) [
-    | inl e ↦ (let z : to ≡ Some a = sym (put v ∙ rw e.0 refl) ∙ is in subst (λ w. IsSomeAnd (node_in ns w) (IsAsActivated a)) (sym e.1) (is_node a z))
+    | inl e ↦ (let z : to ≡ Some a = sym (put v ∙ rw e.0 refl)
+        ∙ is in subst (λ w. IsSomeAnd (node_in ns w) (IsAsActivated a)) (sym e.1) (is_node a z))
     | inr e ↦ t.there v a (sym (put v ∙ rw e.0 refl) ∙ is)
   ];
 }
@@ -142,7 +161,8 @@ nodes_put ns old new u to t put is_node = record {
 -- a use that is that of a node is as the node is
 pub use_as : (o : Option Node) (a : ActiveUse) → use_in o ≡ Some a → IsSomeAnd o (IsAsActivated a)
 use_as None a e = absurd (no_some a e)
-use_as (Some n) a e = let w : record { superior = n.superior; pool = pool_of n } ≡ a = cc in rw (sym w) (record { superior = refl; pool = refl })
+use_as (Some n) a e = let w : record { superior = n.superior; pool = pool_of n } ≡ a =
+    cc in rw (sym w) (record { superior = refl; pool = refl })
 
 -- ---- what each command leaves of the nodes
 
@@ -153,17 +173,21 @@ Stay s new uses = AreNodes s.nodes uses → AreNodes new.nodes uses
 same_nodes : (s new : Store) (uses : List (Option ActiveUse)) → new.nodes ≡ s.nodes → Stay s new uses
 same_nodes s new uses e t = subst (λ (ns : List Node). AreNodes ns uses) (sym e) t
 
-made_node : (s : Store) (uses : List (Option ActiveUse)) (volume : ℕ) (directory : Bool) (pages : ℕ) (rows : List Row) (name : List ℕ)
+made_node : (s : Store) (uses : List (Option ActiveUse)) (volume : ℕ) (directory : Bool) (pages : ℕ) (rows : List Row)
+    (name : List ℕ)
     (o : Result Node Reply) → node_in s.nodes s.next ≡ None → Stay s (made_at s volume directory pages rows name o) uses
 made_node s uses volume directory pages rows name (Ok d) new t = nodes_made _ s.nodes uses new t
 made_node s uses volume directory pages rows name (Err r) new t = t
 
 made_parts : (s : Store) (uses : List (Option ActiveUse)) (volume : ℕ) (directory : Bool) (pages : ℕ) (rows : List Row)
-    (parts : Option (List (List ℕ) × List ℕ)) → node_in s.nodes s.next ≡ None → Stay s (made_of s volume directory pages rows parts) uses
+    (parts : Option (List (List ℕ) × List ℕ)) → node_in s.nodes s.next ≡ None
+    → Stay s (made_of s volume directory pages rows parts) uses
 made_parts s uses volume directory pages rows None new t = t
-made_parts s uses volume directory pages rows (Some parts) new t = made_node s uses volume directory pages rows parts.1 (node_at s.nodes parts.0) new t
+made_parts s uses volume directory pages rows (Some parts) new t =
+    made_node s uses volume directory pages rows parts.1 (node_at s.nodes parts.0) new t
 
-made : (s : Store) (uses : List (Option ActiveUse)) (path : List (List ℕ)) (volume : ℕ) (directory : Bool) (pages : ℕ) (rows : List Row)
+made : (s : Store) (uses : List (Option ActiveUse)) (path : List (List ℕ)) (volume : ℕ) (directory : Bool) (pages : ℕ)
+    (rows : List Row)
     → node_in s.nodes s.next ≡ None → Stay s (after_make s path volume directory pages rows) uses
 unfolding after_make
 made s uses path volume directory pages rows new t = made_parts s uses volume directory pages rows (parts_of path) new t
@@ -188,7 +212,8 @@ rows_changed s uses row m (Ok x) t = nodes_changed g s.nodes uses same keeps t
 
 -- the length of a segment that isn't active
 length_changed : (s : Store) (uses : List (Option ActiveUse)) (pages : ℕ) (o : Result Node Reply)
-    → OfNode (λ n. is_some (active_at uses n.uid) ≡ false) o → Stay s (changed s (λ n. record n { pages = pages }) o) uses
+    → OfNode (λ n. is_some (active_at uses n.uid) ≡ false) o
+    → Stay s (changed s (λ n. record n { pages = pages }) o) uses
 length_changed s uses pages (Err r) off t = t
 length_changed s uses pages (Ok x) off t = nodes_changed g s.nodes uses same keeps t
   where
@@ -207,21 +232,25 @@ length_changed s uses pages (Ok x) off t = nodes_changed g s.nodes uses same kee
 quota_uid : (u : ℕ) (change : ℕ → ℕ) (n : Node) → (with_quota_of u change n).uid ≡ n.uid
 quota_uid u change n = elim (eqb_tells n.uid u) [ inl e ↦ rw e.0 refl | inr e ↦ rw e.0 refl ]
 
-quota_changed : (u : ℕ) (change : ℕ → ℕ) (n : Node) (a : ActiveUse) → IsAsActivated a n → IsAsActivated a (with_quota_of u change n)
+quota_changed : (u : ℕ) (change : ℕ → ℕ) (n : Node) (a : ActiveUse) → IsAsActivated a n
+    → IsAsActivated a (with_quota_of u change n)
 quota_changed u change n a h = elim (eqb_tells n.uid u) [
   | inl e ↦ rw e.0 (record { superior = h.superior; pool = h.pool })
   | inr e ↦ rw e.0 h
 ]
 
-quota_moved : (s : Store) (uses : List (Option ActiveUse)) (amount : ℤ) (o : Result Node Reply) → Stay s (moved s amount o) uses
+quota_moved : (s : Store) (uses : List (Option ActiveUse)) (amount : ℤ) (o : Result Node Reply)
+    → Stay s (moved s amount o) uses
 quota_moved s uses amount (Err r) t = t
 quota_moved s uses amount (Ok x) t = nodes_changed
     (λ n. with_quota_of giver (λ q. q - pages) (with_quota_of getter (λ q. q + pages) n))
     s.nodes
     uses
-    (λ n. quota_uid giver (λ q. q - pages) (with_quota_of getter (λ q. q + pages) n) ∙ quota_uid getter (λ q. q + pages) n)
+    (λ n. quota_uid giver (λ q. q - pages) (with_quota_of getter (λ q. q + pages) n)
+    ∙ quota_uid getter (λ q. q + pages) n)
     (λ n a is h.
-    quota_changed giver (λ q. q - pages) (with_quota_of getter (λ q. q + pages) n) a (quota_changed getter (λ q. q + pages) n a h))
+    quota_changed giver (λ q. q - pages) (with_quota_of getter (λ q. q + pages) n) a
+    (quota_changed getter (λ q. q + pages) n a h))
     t
   where
     pages : ℕ
@@ -233,7 +262,8 @@ quota_moved s uses amount (Ok x) t = nodes_changed
     getter : ℕ
     getter = getter_of (above s.nodes) x.uid (is_positive amount)
 
-node_deleted : (s : Store) (uses : List (Option ActiveUse)) (o : Result Node Reply) → OfNode (λ n. is_some (active_at uses n.uid) ≡ false) o
+node_deleted : (s : Store) (uses : List (Option ActiveUse)) (o : Result Node Reply)
+    → OfNode (λ n. is_some (active_at uses n.uid) ≡ false) o
     → Stay s (deleted s o) uses
 node_deleted s uses (Err r) off t = t
 node_deleted s uses (Ok n) off t = nodes_left s.nodes uses n.uid off t
@@ -257,18 +287,25 @@ inactive_node : (t : Tables) (o : Result Node Reply) → OfNode (λ n. IsOutOfUs
 inactive_node t (Ok n) h = h.inactive
 inactive_node t (Err r) h = tt
 
-tree_command_stays : (p : Plan) (s : Store) (t : Tables) (k : ℕ) (c : Command) → node_in s.nodes s.next ≡ None → MayTakeEffect s (custody_of t) k c
+tree_command_stays : (p : Plan) (s : Store) (t : Tables) (k : ℕ) (c : Command) → node_in s.nodes s.next ≡ None
+    → MayTakeEffect s (custody_of t) k c
     → Stay s (effect_of_tree_command p s k c) t.active
 unfolding after_initiate after_terminate after_acl after_length after_truncate after_delete after_move
 tree_command_stays p s t k (command.MkDir path volume) new may = made s t.active path volume true 0 [] new
-tree_command_stays p s t k (command.MkSeg path pages volume) new may = made s t.active path volume false pages (owner_row (who_of p k) ∷ []) new
-tree_command_stays p s t k (command.Initiate path) new may = same_nodes s (initiated s k (segment_at s.nodes path)) t.active (known_nodes s k (segment_at s.nodes path))
+tree_command_stays p s t k (command.MkSeg path pages volume) new may =
+    made s t.active path volume false pages (owner_row (who_of p k) ∷ []) new
+tree_command_stays p s t k (command.Initiate path) new may =
+    same_nodes s (initiated s k (segment_at s.nodes path)) t.active (known_nodes s k (segment_at s.nodes path))
 tree_command_stays p s t k (command.Terminate number) new may = λ x. x
 tree_command_stays p s t k (command.Acl path row m) new may = rows_changed s t.active row m (segment_at s.nodes path)
-tree_command_stays p s t k (command.Length path pages) new may = length_changed s t.active pages (segment_at s.nodes path) may
-tree_command_stays p s t k (command.Truncate path words) new may = same_nodes s (truncated s words (segment_at s.nodes path)) t.active (cut_nodes s words (segment_at s.nodes path))
-tree_command_stays p s t k (command.Delete path) new may = node_deleted s t.active (branch_at s.nodes path) (inactive_node t (branch_at s.nodes path) may)
-tree_command_stays p s t k (command.Move path amount) new may = quota_moved s t.active amount (directory_at s.nodes path)
+tree_command_stays p s t k (command.Length path pages) new may =
+    length_changed s t.active pages (segment_at s.nodes path) may
+tree_command_stays p s t k (command.Truncate path words) new may =
+    same_nodes s (truncated s words (segment_at s.nodes path)) t.active (cut_nodes s words (segment_at s.nodes path))
+tree_command_stays p s t k (command.Delete path) new may =
+    node_deleted s t.active (branch_at s.nodes path) (inactive_node t (branch_at s.nodes path) may)
+tree_command_stays p s t k (command.Move path amount) new may =
+    quota_moved s t.active amount (directory_at s.nodes path)
 tree_command_stays p s t k (command.Status path) new may = λ x. x
 tree_command_stays p s t k command.End new may = λ x. x
 tree_command_stays p s t k (command.Read number offset) new may = λ x. x
@@ -276,15 +313,21 @@ tree_command_stays p s t k (command.Write number offset word) new may = λ x. x
 tree_command_stays p s t k (command.Add number offset word) new may = λ x. x
 tree_command_stays p s t k (command.Await number offset word tries) new may = λ x. x
 
-effect_stays : (p : Plan) (s : Store) (t : Tables) (k d : ℕ) (f : Option ℕ) (c : Command) (r : Reply) (o : Option Reference)
-    → node_in s.nodes s.next ≡ None → MayAnswer p s (custody_of t) d k f c r o → takes_effect (reply_to_command p s k c) ≡ true → is_device r ≡ false
+effect_stays : (p : Plan) (s : Store) (t : Tables) (k d : ℕ) (f : Option ℕ) (c : Command) (r : Reply)
+    (o : Option Reference)
+    → node_in s.nodes s.next ≡ None → MayAnswer p s (custody_of t) d k f c r o
+    → takes_effect (reply_to_command p s k c) ≡ true → is_device r ≡ false
     → Stay s (effect_by p s k c o) t.active
 unfolding after_reference
-effect_stays p s t k d f c r (Some x) new may takes told = same_nodes s (written_by s x.offset x.kind (known_uid s k x.number)) t.active (written_nodes s x.offset x.kind (known_uid s k x.number))
-effect_stays p s t k d f c r None new may takes told = tree_command_stays p s t k c new (may.out (rw (takes, told) refl))
+effect_stays p s t k d f c r (Some x) new may takes told =
+    same_nodes s (written_by s x.offset x.kind (known_uid s k x.number)) t.active
+    (written_nodes s x.offset x.kind (known_uid s k x.number))
+effect_stays p s t k d f c r None new may takes told =
+    tree_command_stays p s t k c new (may.out (rw (takes, told) refl))
 
 -- an answer that takes effect is the flat store's, and no drive's failure
-due_answer : (p : Plan) (s : Store) (k : ℕ) (c : Command) (r : Reply) → IsAnswer p s k (Some c) r → takes_effect r ≡ true
+due_answer : (p : Plan) (s : Store) (k : ℕ) (c : Command) (r : Reply) → IsAnswer p s k (Some c) r → takes_effect r
+    ≡ true
     → (takes_effect (reply_to_command p s k c) ≡ true) × (is_device r ≡ false)
 due_answer p s k c r (inl e) takes = (subst (λ (x : Reply). takes_effect x ≡ true) e takes, no_device r takes)
   where
@@ -295,18 +338,24 @@ due_answer p s k c r (inl e) takes = (subst (λ (x : Reply). takes_effect x ≡ 
     no_device (reply.Known n) h = refl
     no_device reply.Device h = let no : ⊥ = cc in absurd no
     no_device _ h = refl
-due_answer p s k c r (inr m) takes = let z : takes_effect reply.Device ≡ true = subst (λ (x : Reply). takes_effect x ≡ true) m.device takes in let w : false ≡ true = z in let no : ⊥ = cc in absurd no
+due_answer p s k c r (inr m) takes = let z : takes_effect reply.Device ≡ true =
+    subst (λ (x : Reply). takes_effect x ≡ true) m.device takes in let w : false ≡ true = z in let no : ⊥ =
+    cc in absurd no
 
-answer_stays : (p : Plan) (s : Store) (t : Tables) (k d : ℕ) (f : Option ℕ) (c : Command) (r : Reply) → node_in s.nodes s.next ≡ None
-    → MayAnswer p s (custody_of t) d k f c r (reference_of c) → IsAnswer p s k (Some c) r → (b : Bool) → takes_effect r ≡ b
+answer_stays : (p : Plan) (s : Store) (t : Tables) (k d : ℕ) (f : Option ℕ) (c : Command) (r : Reply)
+    → node_in s.nodes s.next ≡ None
+    → MayAnswer p s (custody_of t) d k f c r (reference_of c) → IsAnswer p s k (Some c) r → (b : Bool) → takes_effect r
+    ≡ b
     → Stay s (cond b (effect_of p s k c) s) t.active
 answer_stays p s t k d f c r new may answer false e = λ x. x
 answer_stays p s t k d f c r new may answer true e =
     let due = due_answer p s k c r answer e in
     effect_stays p s t k d f c r (reference_of c) new may due.0 due.1
 
-command_stays : (p : Plan) (s : Store) (t : Tables) (k d : ℕ) (f : Option ℕ) (o : Option Command) (r : Reply) → node_in s.nodes s.next ≡ None
-    → IsSomeAnd o (λ c. MayAnswer p s (custody_of t) d k f c r (reference_of c)) → IsAnswer p s k o r → Stay s (after_do p s k o r) t.active
+command_stays : (p : Plan) (s : Store) (t : Tables) (k d : ℕ) (f : Option ℕ) (o : Option Command) (r : Reply)
+    → node_in s.nodes s.next ≡ None
+    → IsSomeAnd o (λ c. MayAnswer p s (custody_of t) d k f c r (reference_of c)) → IsAnswer p s k o r
+    → Stay s (after_do p s k o r) t.active
 unfolding after_command
 command_stays p s t k d f None r new may answer = absurd may
 command_stays p s t k d f (Some c) r new may answer = answer_stays p s t k d f c r new may answer (takes_effect r) refl
@@ -314,7 +363,8 @@ command_stays p s t k d f (Some c) r new may answer = answer_stays p s t k d f c
 -- ---- each entry
 
 -- what is active stays so in the tree after an entry that is lawful and allowed
-pub nodes_kept : (p : Plan) (s : Store) (t : Tables) (e : Entry) → node_in s.nodes s.next ≡ None → IsAllowed p s (custody_of t) e → IsLawful p s e
+pub nodes_kept : (p : Plan) (s : Store) (t : Tables) (e : Entry) → node_in s.nodes s.next ≡ None
+    → IsAllowed p s (custody_of t) e → IsLawful p s e
     → AreNodes s.nodes t.active → AreNodes (after_entry p s e).nodes t.active
 unfolding IsLawful after_entry
 nodes_kept p s t (entry.Do k place d f r) new may lawful nodes = command_stays
@@ -327,7 +377,8 @@ nodes_kept p s t (entry.Do k place d f r) new may lawful nodes = command_stays
     (command_at p k place)
     r
     new
-    (subst (λ (i : ℕ). IsSomeAnd (command_at p k i) (λ c. MayAnswer p s (custody_of t) d k f c r (reference_of c))) lawful.next may.command)
+    (subst (λ (i : ℕ). IsSomeAnd (command_at p k i) (λ c. MayAnswer p s (custody_of t) d k f c r (reference_of c)))
+    lawful.next may.command)
     lawful.answer
     nodes
 nodes_kept p s t (entry.Release u q) new may lawful nodes = nodes

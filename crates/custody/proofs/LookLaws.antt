@@ -1,12 +1,14 @@
 -- What a count of 0, or as much as another count, tells of each element of a list.
-use Rattle.std.proofs.Common.{◌≡◌, ◌≢◌, ◌<◌, ◌≤◌, ℕ, suc, zero, ◌+◌, Bool, true, false, cond, eqb, ltb, ◌&&◌, List, [], ◌∷◌, Option, Some, None, get_or, refl}
+use Rattle.std.proofs.Common.{◌≡◌, ◌≢◌, ◌<◌, ◌≤◌, ℕ, suc, zero, ◌+◌, Bool, true, false, cond, eqb, ltb, ◌&&◌, List, []}
+use Rattle.std.proofs.Common.{◌∷◌, Option, Some, None, get_or, refl}
 use Rattle.std.proofs.Common.{sym, ap, subst, ◌∙◌, inl, inr, ◌⊎◌, arith}
 use Rattle.std.specs.Prelude.{sum_by}
 use Rattle.std.specs.Bool.{Decides}
 use Rattle.std.specs.Option.{unwrap_or}
 use Rattle.std.proofs.lemmas.Bool.Decides.{Decides-eqb, Decides-ltb, eqb_tells}
 use Rattle.std.proofs.lemmas.List.Sums.{sum_by-cons}
-use Rattle.custody_model.specs.Custody.{page_of, bound_page, uid_of_page, is_uid, is_going_frame, is_going_descriptor, leads_to}
+use Rattle.custody_model.specs.Custody.{page_of, bound_page, uid_of_page, is_uid, is_going_frame, is_going_descriptor}
+use Rattle.custody_model.specs.Custody.{leads_to}
 use Rattle.custody_model.specs.declared.FrameUse.{FrameUse}
 use Rattle.custody_model.specs.declared.FrameUse.TheVariants as frame
 use Rattle.custody_model.specs.declared.DescriptorUse.{DescriptorUse}
@@ -14,7 +16,8 @@ use Rattle.custody_model.specs.declared.DescriptorUse.TheVariants as descriptor
 use Rattle.custody.specs.Counts.{Counted, count_at, key_bit}
 use Rattle.custody.specs.Tables.{AreActive, active_at, is_in_pool, key_of, pool_key, superior_key, superior_of}
 use Rattle.custody.specs.declared.active.ActiveUse.{ActiveUse}
-use Rattle.custody.specs.Uses.{UseCounted, AreFrames, AreDescriptors, frame_at, descriptor_at, frame_mark, descriptor_mark, uid_key, going_key, kind_key}
+use Rattle.custody.specs.Uses.{UseCounted, AreFrames, AreDescriptors, frame_at, descriptor_at, frame_mark}
+use Rattle.custody.specs.Uses.{descriptor_mark, uid_key, going_key, kind_key}
 
 -- ---- sums
 
@@ -31,7 +34,8 @@ zero_sum f (x ∷ xs) d h =
     let rest = zero_sum f xs d (λ i. h (suc i)) in
     omega (arith, c, first, rest)
 
-some_head : {X : Type 0} (f : X → ℕ) (x : X) (xs : List X) (d : X) → 0 < sum_by f (x ∷ xs) → (0 < sum_by f xs → (i : ℕ) × (0 < f (get_or xs i d)))
+some_head : {X : Type 0} (f : X → ℕ) (x : X) (xs : List X) (d : X) → 0 < sum_by f (x ∷ xs)
+    → (0 < sum_by f xs → (i : ℕ) × (0 < f (get_or xs i d)))
     → (n : ℕ) → f x ≡ n → (i : ℕ) × (0 < f (get_or (x ∷ xs) i d))
 some_head f x xs d h rest zero e = let c = sum_by-cons f x xs in let r = rest (omega (arith, c, h, e)) in (suc r.0, r.1)
 some_head f x xs d h rest (suc n) e = (0, let r : 0 < f x = omega (arith, e) in r)
@@ -42,25 +46,31 @@ some_sum f (x ∷ xs) d h = some_head f x xs d h (λ r. some_sum f xs d r) (f x)
 
 part_of_sum : {X : Type 0} (f : X → ℕ) (d : X) → f d ≡ 0 → (ys : List X) (k : ℕ) → f (get_or ys k d) ≤ sum_by f ys
 part_of_sum f d none [] k = omega (arith, none)
-part_of_sum f d none (y ∷ ys) zero = let c = sum_by-cons f y ys in let r : f y ≤ sum_by f (y ∷ ys) = omega (arith, c) in r
+part_of_sum f d none (y ∷ ys) zero = let c = sum_by-cons f y ys in let r : f y ≤ sum_by f (y ∷ ys) =
+    omega (arith, c) in r
 part_of_sum f d none (y ∷ ys) (suc k) =
-    let c = sum_by-cons f y ys in let h = part_of_sum f d none ys k in let r : f (get_or ys k d) ≤ sum_by f (y ∷ ys) = omega (arith, c, h) in r
+    let c = sum_by-cons f y ys in let h = part_of_sum f d none ys k in let r : f (get_or ys k d) ≤ sum_by f (y ∷ ys) =
+    omega (arith, c, h) in r
 
 sum_le : {X : Type 0} (f g : X → ℕ) → ((x : X) → f x ≤ g x) → (xs : List X) → sum_by f xs ≤ sum_by g xs
 sum_le f g le [] = omega arith
 sum_le f g le (x ∷ xs) =
-    let c = sum_by-cons f x xs in let e = sum_by-cons g x xs in let h = le x in let r = sum_le f g le xs in omega (arith, c, e, h, r)
+    let c = sum_by-cons f x xs in let e = sum_by-cons g x xs in let h = le x in let r =
+    sum_le f g le xs in omega (arith, c, e, h, r)
 
-sum_same : {X : Type 0} (f g : X → ℕ) → ((x : X) → f x ≤ g x) → (xs : List X) (d : X) → f d ≡ g d → sum_by f xs ≡ sum_by g xs
+sum_same : {X : Type 0} (f g : X → ℕ) → ((x : X) → f x ≤ g x) → (xs : List X) (d : X) → f d ≡ g d → sum_by f xs
+    ≡ sum_by g xs
     → (i : ℕ) → f (get_or xs i d) ≡ g (get_or xs i d)
 sum_same f g le [] d n e i = n
 sum_same f g le (x ∷ xs) d n e zero =
-    let c = sum_by-cons f x xs in let k = sum_by-cons g x xs in let h = le x in let r = sum_le f g le xs in omega (arith, c, k, h, r, e)
+    let c = sum_by-cons f x xs in let k = sum_by-cons g x xs in let h = le x in let r =
+    sum_le f g le xs in omega (arith, c, k, h, r, e)
 sum_same f g le (x ∷ xs) d n e (suc i) =
     let c = sum_by-cons f x xs in let k = sum_by-cons g x xs in let h = le x in let r = sum_le f g le xs in
     sum_same f g le xs d n (omega (arith, c, k, h, r, e)) i
 
-same_sum : {X : Type 0} (f g : X → ℕ) (xs : List X) (d : X) → ((i : ℕ) → f (get_or xs i d) ≡ g (get_or xs i d)) → sum_by f xs ≡ sum_by g xs
+same_sum : {X : Type 0} (f g : X → ℕ) (xs : List X) (d : X) → ((i : ℕ) → f (get_or xs i d) ≡ g (get_or xs i d))
+    → sum_by f xs ≡ sum_by g xs
 same_sum f g [] d h = refl
 same_sum f g (x ∷ xs) d h =
     let c = sum_by-cons f x xs in let k = sum_by-cons g x xs in
@@ -70,7 +80,8 @@ same_sum f g (x ∷ xs) d h =
 
 -- ---- what a test of counts decides
 
-pub zero_decides : {X : Type 0} (f : X → ℕ) (P : X → Type 0) (xs : List X) (d : X) (n : ℕ) → n ≡ sum_by f xs → f d ≡ 0 → ((x : X) → f x ≡ 0 → P x)
+pub zero_decides : {X : Type 0} (f : X → ℕ) (P : X → Type 0) (xs : List X) (d : X) (n : ℕ) → n ≡ sum_by f xs → f d ≡ 0
+    → ((x : X) → f x ≡ 0 → P x)
     → ((x : X) → P x → f x ≡ 0) → Decides (eqb n 0) ((i : ℕ) → P (get_or xs i d))
 zero_decides f P xs d n is none to from =
     let e = Decides-eqb n 0 in (
@@ -78,7 +89,8 @@ zero_decides f P xs d n is none to from =
       λ h. e.1 (is ∙ zero_sum f xs d (λ i. from (get_or xs i d) (h i))),
     )
 
-pub some_decides : {X : Type 0} (f : X → ℕ) (P : X → Type 0) (xs : List X) (d : X) (n : ℕ) → n ≡ sum_by f xs → f d ≡ 0 → ((x : X) → 0 < f x → P x)
+pub some_decides : {X : Type 0} (f : X → ℕ) (P : X → Type 0) (xs : List X) (d : X) (n : ℕ) → n ≡ sum_by f xs → f d ≡ 0
+    → ((x : X) → 0 < f x → P x)
     → ((x : X) → P x → 0 < f x) → Decides (ltb 0 n) ((i : ℕ) × P (get_or xs i d))
 some_decides f P xs d n is none to from =
     let e = Decides-ltb 0 n in (
@@ -93,8 +105,10 @@ some_decides f P xs d n is none to from =
         let no : ⊥ = omega (arith, g, o) in absurd no
     many h (suc m) z = omega (arith, z)
 
-pub same_decides : {X : Type 0} (f g : X → ℕ) (P : X → Type 0) (xs : List X) (d : X) (n m : ℕ) → n ≡ sum_by f xs → m ≡ sum_by g xs → f d ≡ g d
-    → ((x : X) → f x ≤ g x) → ((x : X) → f x ≡ g x → P x) → ((x : X) → P x → f x ≡ g x) → Decides (eqb n m) ((i : ℕ) → P (get_or xs i d))
+pub same_decides : {X : Type 0} (f g : X → ℕ) (P : X → Type 0) (xs : List X) (d : X) (n m : ℕ) → n ≡ sum_by f xs → m
+    ≡ sum_by g xs → f d ≡ g d
+    → ((x : X) → f x ≤ g x) → ((x : X) → f x ≡ g x → P x) → ((x : X) → P x → f x ≡ g x)
+    → Decides (eqb n m) ((i : ℕ) → P (get_or xs i d))
 same_decides f g P xs d n m is too none le to from =
     let e = Decides-eqb n m in (
       λ t i. to (get_or xs i d) (sum_same f g le xs d none (sym is ∙ e.0 t ∙ too) i),
@@ -112,19 +126,23 @@ only_decides f xs d at n is none =
     alone [] k h i other = none
     alone (y ∷ ys) zero h zero other = absurd (other refl)
     alone (y ∷ ys) zero h (suc i) other =
-        let c = sum_by-cons f y ys in let first : sum_by f (y ∷ ys) ≡ f y = h in sum_zero f ys d none (omega (arith, c, first)) i
+        let c = sum_by-cons f y ys in let first : sum_by f (y ∷ ys) ≡ f y =
+        h in sum_zero f ys d none (omega (arith, c, first)) i
     alone (y ∷ ys) (suc k) h zero other =
-        let c = sum_by-cons f y ys in let l = part_of_sum f d none ys k in let first : sum_by f (y ∷ ys) ≡ f (get_or ys k d) = h in
+        let c = sum_by-cons f y ys in let l = part_of_sum f d none ys k in let first : sum_by f (y ∷ ys)
+        ≡ f (get_or ys k d) = h in
         let r : f y ≡ 0 = omega (arith, c, l, first) in r
     alone (y ∷ ys) (suc k) h (suc i) other =
-        let c = sum_by-cons f y ys in let l = part_of_sum f d none ys k in let first : sum_by f (y ∷ ys) ≡ f (get_or ys k d) = h in
+        let c = sum_by-cons f y ys in let l = part_of_sum f d none ys k in let first : sum_by f (y ∷ ys)
+        ≡ f (get_or ys k d) = h in
         alone ys k (omega (arith, c, l, first)) i (λ q. other (ap suc q))
 
     whole : (ys : List _) (k : ℕ) → ((i : ℕ) → i ≢ k → f (get_or ys i d) ≡ 0) → sum_by f ys ≡ f (get_or ys k d)
     whole [] k h = sym none
     whole (y ∷ ys) zero h =
         let c = sum_by-cons f y ys in
-        let r = zero_sum f ys d (λ i. h (suc i) (λ q. let z : suc i ≡ 0 = q in let no : ⊥ = omega (arith, z) in absurd no)) in
+        let r = zero_sum f ys d (λ i. h (suc i) (λ q. let z : suc i ≡ 0 = q in let no : ⊥ =
+        omega (arith, z) in absurd no)) in
         let w : sum_by f (y ∷ ys) ≡ f y = omega (arith, c, r) in w
     whole (y ∷ ys) (suc k) h =
         let c = sum_by-cons f y ys in
@@ -176,9 +194,11 @@ bit_le false = omega arith
 
 -- ---- frames
 
-pub page_decides : (uses now : List FrameUse) (c : UseCounted) (p : Counted) → uses ≡ now → AreFrames uses c p → (n u q : ℕ) → n ≡ count_at p u q
+pub page_decides : (uses now : List FrameUse) (c : UseCounted) (p : Counted) → uses ≡ now → AreFrames uses c p
+    → (n u q : ℕ) → n ≡ count_at p u q
     → Decides (eqb n 0) ((f : ℕ) → page_of (frame_at now f) ≢ Some (u, q))
-page_decides uses now c p is t n u q e = subst (λ (xs : List FrameUse). Decides (eqb n 0) ((f : ℕ) → page_of (frame_at xs f) ≢ Some (u, q))) is
+page_decides uses now c p is t n u q e = subst (λ (xs : List FrameUse). Decides (eqb n 0)
+    ((f : ℕ) → page_of (frame_at xs f) ≢ Some (u, q))) is
     (zero_decides (λ x. key_bit (page_of x) u q) (λ x. page_of x ≢ Some (u, q)) uses frame.Free n (e ∙ t.pages u q) refl
     (λ x. bit_zero (page_of x) u q) (λ x. zero_bit (page_of x) u q))
 
@@ -194,10 +214,13 @@ frame_uid_from (frame.Started v q) u z = uid_from v u z
 frame_uid_from (frame.Current v q) u z = uid_from v u z
 frame_uid_from (frame.Going v q) u z = uid_from v u z
 
-pub frames_of_decide : (uses now : List FrameUse) (c : UseCounted) (p : Counted) → uses ≡ now → AreFrames uses c p → (n u : ℕ) → n ≡ count_at c.uids u 0
+pub frames_of_decide : (uses now : List FrameUse) (c : UseCounted) (p : Counted) → uses ≡ now → AreFrames uses c p
+    → (n u : ℕ) → n ≡ count_at c.uids u 0
     → Decides (eqb n 0) ((f : ℕ) → uid_of_page (page_of (frame_at now f)) ≢ Some u)
-frames_of_decide uses now c p is t n u e = subst (λ (xs : List FrameUse). Decides (eqb n 0) ((f : ℕ) → uid_of_page (page_of (frame_at xs f)) ≢ Some u)) is
-    (zero_decides (λ x. key_bit (uid_key (frame_mark x)) u 0) (λ x. uid_of_page (page_of x) ≢ Some u) uses frame.Free n (e ∙ t.uids u 0) refl
+frames_of_decide uses now c p is t n u e = subst (λ (xs : List FrameUse). Decides (eqb n 0)
+    ((f : ℕ) → uid_of_page (page_of (frame_at xs f)) ≢ Some u)) is
+    (zero_decides (λ x. key_bit (uid_key (frame_mark x)) u 0) (λ x. uid_of_page (page_of x) ≢ Some u) uses frame.Free n
+    (e ∙ t.uids u 0) refl
     (λ x. frame_uid_to x u) (λ x. frame_uid_from x u))
 
 frame_goes_to : (x : FrameUse) → 0 < key_bit (kind_key (frame_mark x)) 1 0 → is_going_frame x ≡ true
@@ -212,9 +235,11 @@ frame_goes_from (frame.Started v q) e = let z : false ≡ true = e in let no : �
 frame_goes_from (frame.Current v q) e = let z : false ≡ true = e in let no : ⊥ = cc in absurd no
 frame_goes_from (frame.Going v q) e = omega arith
 
-pub frames_go_decide : (uses now : List FrameUse) (c : UseCounted) (p : Counted) → uses ≡ now → AreFrames uses c p → (n : ℕ) → n ≡ count_at c.kinds 1 0
+pub frames_go_decide : (uses now : List FrameUse) (c : UseCounted) (p : Counted) → uses ≡ now → AreFrames uses c p
+    → (n : ℕ) → n ≡ count_at c.kinds 1 0
     → Decides (ltb 0 n) ((f : ℕ) × (is_going_frame (frame_at now f) ≡ true))
-frames_go_decide uses now c p is t n e = subst (λ (xs : List FrameUse). Decides (ltb 0 n) ((f : ℕ) × (is_going_frame (frame_at xs f) ≡ true))) is
+frames_go_decide uses now c p is t n e = subst (λ (xs : List FrameUse). Decides (ltb 0 n)
+    ((f : ℕ) × (is_going_frame (frame_at xs f) ≡ true))) is
     (some_decides (λ x. key_bit (kind_key (frame_mark x)) 1 0) (λ x. is_going_frame x ≡ true) uses frame.Free n (e
     ∙ t.kinds 1 0) refl frame_goes_to frame_goes_from)
 
@@ -238,14 +263,17 @@ frame_of_from u (frame.Started v q) h = refl
 frame_of_from u (frame.Current v q) h = refl
 frame_of_from u (frame.Going v q) h = named_from (eqb v u) (h refl)
 
-pub frames_only_of_decide : (uses now : List FrameUse) (c : UseCounted) (p : Counted) → uses ≡ now → AreFrames uses c p → (n m u : ℕ)
+pub frames_only_of_decide : (uses now : List FrameUse) (c : UseCounted) (p : Counted) → uses ≡ now → AreFrames uses c p
+    → (n m u : ℕ)
     → n ≡ count_at c.going u 0 → m ≡ count_at c.kinds 1 0
-    → Decides (eqb n m) ((f : ℕ) → is_going_frame (frame_at now f) ≡ true → is_uid u (uid_of_page (bound_page (frame_at now f))) ≡ true)
+    → Decides (eqb n m) ((f : ℕ) → is_going_frame (frame_at now f) ≡ true
+    → is_uid u (uid_of_page (bound_page (frame_at now f))) ≡ true)
 frames_only_of_decide uses now c p is t n m u e g =
     subst (λ (xs : List FrameUse). Decides (eqb n m) ((f : ℕ) → is_going_frame (frame_at xs f) ≡ true
     → is_uid u (uid_of_page (bound_page (frame_at xs f))) ≡ true)) is
     (same_decides (λ x. key_bit (going_key (frame_mark x)) u 0) (λ x. key_bit (kind_key (frame_mark x)) 1 0)
-    (λ x. is_going_frame x ≡ true → is_uid u (uid_of_page (bound_page x)) ≡ true) uses frame.Free n m (e ∙ t.going u 0) (g ∙ t.kinds 1 0) refl
+    (λ x. is_going_frame x ≡ true → is_uid u (uid_of_page (bound_page x)) ≡ true) uses frame.Free n m (e ∙ t.going u 0)
+    (g ∙ t.kinds 1 0) refl
     (frame_le u) (frame_of_to u) (frame_of_from u))
 
 by_going : (x : FrameUse) → (key_bit (kind_key (frame_mark x)) 1 0 ≡ 0) ⊎ (is_going_frame x ≡ true)
@@ -254,7 +282,8 @@ by_going (frame.Started v q) = inl refl
 by_going (frame.Current v q) = inl refl
 by_going (frame.Going v q) = inr refl
 
-pub frames_only_in_decide : (uses now : List FrameUse) (c : UseCounted) (p : Counted) → uses ≡ now → AreFrames uses c p → (n m at : ℕ)
+pub frames_only_in_decide : (uses now : List FrameUse) (c : UseCounted) (p : Counted) → uses ≡ now → AreFrames uses c p
+    → (n m at : ℕ)
     → n ≡ count_at c.kinds 1 0 → m ≡ key_bit (kind_key (frame_mark (frame_at now at))) 1 0
     → Decides (eqb n m) ((f : ℕ) → is_going_frame (frame_at now f) ≡ true → eqb f at ≡ true)
 frames_only_in_decide uses now c p is t n m at e g =
@@ -265,14 +294,17 @@ frames_only_in_decide uses now c p is t n m at e g =
     subst (λ (k : ℕ). Decides (eqb n k) ((i : ℕ) → i ≢ at → kind (get_or now i frame.Free) ≡ 0)) (sym g) d in
     (λ h f goes. to (d.0 h) f goes, λ h. d.1 (λ i other. from h i other))
   where
-    to : ((i : ℕ) → i ≢ at → key_bit (kind_key (frame_mark (frame_at now i))) 1 0 ≡ 0) → (f : ℕ) → is_going_frame (frame_at now f) ≡ true → eqb f at ≡ true
+    to : ((i : ℕ) → i ≢ at → key_bit (kind_key (frame_mark (frame_at now i))) 1 0 ≡ 0) → (f : ℕ)
+        → is_going_frame (frame_at now f) ≡ true → eqb f at ≡ true
     to h f goes = elim (eqb_tells f at) [
       | inl s ↦ s.0
       | inr s ↦
-          (let z = h f s.1 in let o = frame_goes_from (frame_at now f) goes in let no : ⊥ = omega (arith, z, o) in absurd no)
+          (let z = h f s.1 in let o = frame_goes_from (frame_at now f) goes in let no : ⊥ =
+          omega (arith, z, o) in absurd no)
     ]
 
-    from : ((f : ℕ) → is_going_frame (frame_at now f) ≡ true → eqb f at ≡ true) → (i : ℕ) → i ≢ at → key_bit (kind_key (frame_mark (frame_at now i))) 1 0 ≡ 0
+    from : ((f : ℕ) → is_going_frame (frame_at now f) ≡ true → eqb f at ≡ true) → (i : ℕ) → i ≢ at
+        → key_bit (kind_key (frame_mark (frame_at now i))) 1 0 ≡ 0
     from h i other = elim (by_going (frame_at now i)) [
       | inl z ↦ z
       | inr goes ↦ absurd (other ((Decides-eqb i at).0 (h i goes)))
@@ -290,10 +322,13 @@ row_uid_from descriptor.Free u z = refl
 row_uid_from (descriptor.Current v) u z = uid_from v u z
 row_uid_from (descriptor.Going v) u z = uid_from v u z
 
-pub row_of_decides : (uses now : List DescriptorUse) (c : UseCounted) → uses ≡ now → AreDescriptors uses c → (n u : ℕ) → n ≡ count_at c.uids u 0
+pub row_of_decides : (uses now : List DescriptorUse) (c : UseCounted) → uses ≡ now → AreDescriptors uses c → (n u : ℕ)
+    → n ≡ count_at c.uids u 0
     → Decides (eqb n 0) ((i : ℕ) → leads_to (descriptor_at now i) ≢ Some u)
-row_of_decides uses now c is t n u e = subst (λ (xs : List DescriptorUse). Decides (eqb n 0) ((i : ℕ) → leads_to (descriptor_at xs i) ≢ Some u)) is
-    (zero_decides (λ x. key_bit (uid_key (descriptor_mark x)) u 0) (λ x. leads_to x ≢ Some u) uses descriptor.Free n (e ∙ t.uids u 0) refl
+row_of_decides uses now c is t n u e = subst (λ (xs : List DescriptorUse). Decides (eqb n 0)
+    ((i : ℕ) → leads_to (descriptor_at xs i) ≢ Some u)) is
+    (zero_decides (λ x. key_bit (uid_key (descriptor_mark x)) u 0) (λ x. leads_to x ≢ Some u) uses descriptor.Free n
+    (e ∙ t.uids u 0) refl
     (λ x. row_uid_to x u) (λ x. row_uid_from x u))
 
 row_goes_to : (x : DescriptorUse) → 0 < key_bit (kind_key (descriptor_mark x)) 1 0 → is_going_descriptor x ≡ true
@@ -306,18 +341,23 @@ row_goes_from descriptor.Free e = let z : false ≡ true = e in let no : ⊥ = c
 row_goes_from (descriptor.Current v) e = let z : false ≡ true = e in let no : ⊥ = cc in absurd no
 row_goes_from (descriptor.Going v) e = omega arith
 
-pub row_goes_decides : (uses now : List DescriptorUse) (c : UseCounted) → uses ≡ now → AreDescriptors uses c → (n : ℕ) → n ≡ count_at c.kinds 1 0
+pub row_goes_decides : (uses now : List DescriptorUse) (c : UseCounted) → uses ≡ now → AreDescriptors uses c → (n : ℕ)
+    → n ≡ count_at c.kinds 1 0
     → Decides (ltb 0 n) ((i : ℕ) × (is_going_descriptor (descriptor_at now i) ≡ true))
-row_goes_decides uses now c is t n e = subst (λ (xs : List DescriptorUse). Decides (ltb 0 n) ((i : ℕ) × (is_going_descriptor (descriptor_at xs i) ≡ true))) is
-    (some_decides (λ x. key_bit (kind_key (descriptor_mark x)) 1 0) (λ x. is_going_descriptor x ≡ true) uses descriptor.Free n (e
+row_goes_decides uses now c is t n e = subst (λ (xs : List DescriptorUse). Decides (ltb 0 n)
+    ((i : ℕ) × (is_going_descriptor (descriptor_at xs i) ≡ true))) is
+    (some_decides (λ x. key_bit (kind_key (descriptor_mark x)) 1 0) (λ x. is_going_descriptor x ≡ true) uses
+    descriptor.Free n (e
     ∙ t.kinds 1 0) refl row_goes_to row_goes_from)
 
-row_le : (u : ℕ) (x : DescriptorUse) → key_bit (going_key (descriptor_mark x)) u 0 ≤ key_bit (kind_key (descriptor_mark x)) 1 0
+row_le : (u : ℕ) (x : DescriptorUse) → key_bit (going_key (descriptor_mark x)) u 0 ≤ key_bit
+    (kind_key (descriptor_mark x)) 1 0
 row_le u descriptor.Free = omega arith
 row_le u (descriptor.Current v) = omega arith
 row_le u (descriptor.Going v) = bit_le (eqb v u && true)
 
-row_only_to : (u : ℕ) (x : DescriptorUse) → key_bit (going_key (descriptor_mark x)) u 0 ≡ key_bit (kind_key (descriptor_mark x)) 1 0
+row_only_to : (u : ℕ) (x : DescriptorUse) → key_bit (going_key (descriptor_mark x)) u 0
+    ≡ key_bit (kind_key (descriptor_mark x)) 1 0
     → is_going_descriptor x ≡ true → is_uid u (leads_to x) ≡ true
 row_only_to u descriptor.Free e g = let z : false ≡ true = g in let no : ⊥ = cc in absurd no
 row_only_to u (descriptor.Current v) e g = let z : false ≡ true = g in let no : ⊥ = cc in absurd no
@@ -329,17 +369,21 @@ row_only_from u descriptor.Free h = refl
 row_only_from u (descriptor.Current v) h = refl
 row_only_from u (descriptor.Going v) h = named_from (eqb v u) (h refl)
 
-pub row_only_of_decides : (uses now : List DescriptorUse) (c : UseCounted) → uses ≡ now → AreDescriptors uses c → (n m u : ℕ)
+pub row_only_of_decides : (uses now : List DescriptorUse) (c : UseCounted) → uses ≡ now → AreDescriptors uses c
+    → (n m u : ℕ)
     → n ≡ count_at c.going u 0 → m ≡ count_at c.kinds 1 0
-    → Decides (eqb n m) ((i : ℕ) → is_going_descriptor (descriptor_at now i) ≡ true → is_uid u (leads_to (descriptor_at now i)) ≡ true)
+    → Decides (eqb n m) ((i : ℕ) → is_going_descriptor (descriptor_at now i) ≡ true
+    → is_uid u (leads_to (descriptor_at now i)) ≡ true)
 row_only_of_decides uses now c is t n m u e g =
     subst (λ (xs : List DescriptorUse). Decides (eqb n m) ((i : ℕ) → is_going_descriptor (descriptor_at xs i) ≡ true
     → is_uid u (leads_to (descriptor_at xs i)) ≡ true)) is
     (same_decides (λ x. key_bit (going_key (descriptor_mark x)) u 0) (λ x. key_bit (kind_key (descriptor_mark x)) 1 0)
-    (λ x. is_going_descriptor x ≡ true → is_uid u (leads_to x) ≡ true) uses descriptor.Free n m (e ∙ t.going u 0) (g ∙ t.kinds 1 0) refl
+    (λ x. is_going_descriptor x ≡ true → is_uid u (leads_to x) ≡ true) uses descriptor.Free n m (e ∙ t.going u 0)
+    (g ∙ t.kinds 1 0) refl
     (row_le u) (row_only_to u) (row_only_from u))
 
-row_free_to : (x : DescriptorUse) → key_bit (kind_key (descriptor_mark x)) 0 0 + key_bit (kind_key (descriptor_mark x)) 1 0 ≡ 0 → x ≡ descriptor.Free
+row_free_to : (x : DescriptorUse) → key_bit (kind_key (descriptor_mark x)) 0 0 + key_bit (kind_key (descriptor_mark x))
+    1 0 ≡ 0 → x ≡ descriptor.Free
 row_free_to descriptor.Free z = refl
 row_free_to (descriptor.Current v) z = let no : ⊥ = omega (arith, z) in absurd no
 row_free_to (descriptor.Going v) z = let no : ⊥ = omega (arith, z) in absurd no
@@ -361,28 +405,36 @@ both_zero n m = elim (eqb_tells n 0) [
 ]
 
 pub row_free_decides : (uses now : List DescriptorUse) (c : UseCounted) → uses ≡ now → AreDescriptors uses c → (n m : ℕ)
-    → n ≡ count_at c.kinds 0 0 → m ≡ count_at c.kinds 1 0 → Decides (eqb n 0 && eqb m 0) ((i : ℕ) → descriptor_at now i ≡ descriptor.Free)
+    → n ≡ count_at c.kinds 0 0 → m ≡ count_at c.kinds 1 0
+    → Decides (eqb n 0 && eqb m 0) ((i : ℕ) → descriptor_at now i ≡ descriptor.Free)
 row_free_decides uses now c is t n m e g =
     subst (λ (b : Bool). Decides b ((i : ℕ) → descriptor_at now i ≡ descriptor.Free)) (both_zero n m)
     (subst (λ (xs : List DescriptorUse). Decides (eqb (n + m) 0) ((i : ℕ) → descriptor_at xs i ≡ descriptor.Free)) is
-    (zero_decides (λ x. key_bit (kind_key (descriptor_mark x)) 0 0 + key_bit (kind_key (descriptor_mark x)) 1 0) (λ x. x ≡ descriptor.Free) uses
+    (zero_decides (λ x. key_bit (kind_key (descriptor_mark x)) 0 0 + key_bit (kind_key (descriptor_mark x)) 1 0)
+    (λ x. x ≡ descriptor.Free) uses
     descriptor.Free (n + m)
-    (let s = sum_both (λ x. key_bit (kind_key (descriptor_mark x)) 0 0) (λ x. key_bit (kind_key (descriptor_mark x)) 1 0) uses in
+    (let s = sum_both (λ x. key_bit (kind_key (descriptor_mark x)) 0 0)
+    (λ x. key_bit (kind_key (descriptor_mark x)) 1 0) uses in
     let a = t.kinds 0 0 in let b = t.kinds 1 0 in omega (arith, s, a, b, e, g)) refl row_free_to
-    (λ x free. ap (λ (y : DescriptorUse). key_bit (kind_key (descriptor_mark y)) 0 0 + key_bit (kind_key (descriptor_mark y)) 1 0) free)))
+    (λ x free. ap (λ (y : DescriptorUse). key_bit (kind_key (descriptor_mark y)) 0 0 + key_bit
+    (kind_key (descriptor_mark y)) 1 0) free)))
 
-pub row_free_last : (uses now : List DescriptorUse) (c : UseCounted) → uses ≡ now → AreDescriptors uses c → (n m : ℕ) → n ≡ count_at c.kinds 0 0
+pub row_free_last : (uses now : List DescriptorUse) (c : UseCounted) → uses ≡ now → AreDescriptors uses c → (n m : ℕ)
+    → n ≡ count_at c.kinds 0 0
     → m ≡ count_at c.kinds 1 0 → n ≡ 0 → Decides (eqb m 0) ((i : ℕ) → descriptor_at now i ≡ descriptor.Free)
-row_free_last uses now c is t n m e g z = subst (λ (k : ℕ). Decides (eqb k 0 && eqb m 0) ((i : ℕ) → descriptor_at now i ≡ descriptor.Free)) z
+row_free_last uses now c is t n m e g z = subst (λ (k : ℕ). Decides (eqb k 0 && eqb m 0)
+    ((i : ℕ) → descriptor_at now i ≡ descriptor.Free)) z
     (row_free_decides uses now c is t n m e g)
 
-pub row_not_free : (uses now : List DescriptorUse) (c : UseCounted) → uses ≡ now → AreDescriptors uses c → (n m : ℕ) → n ≡ count_at c.kinds 0 0
+pub row_not_free : (uses now : List DescriptorUse) (c : UseCounted) → uses ≡ now → AreDescriptors uses c → (n m : ℕ)
+    → n ≡ count_at c.kinds 0 0
     → m ≡ count_at c.kinds 1 0 → n ≢ 0 → Decides (eqb n 0) ((i : ℕ) → descriptor_at now i ≡ descriptor.Free)
 row_not_free uses now c is t n m e g z = elim (eqb_tells n 0) [
   | inl h ↦ absurd (z h.1)
   | inr h ↦
       (let same : (eqb n 0 && eqb m 0) ≡ eqb n 0 = ap (λ (b : Bool). b && eqb m 0) h.0 ∙ sym h.0 in
-      subst (λ (b : Bool). Decides b ((i : ℕ) → descriptor_at now i ≡ descriptor.Free)) same (row_free_decides uses now c is t n m e g))
+      subst (λ (b : Bool). Decides b ((i : ℕ) → descriptor_at now i ≡ descriptor.Free)) same
+      (row_free_decides uses now c is t n m e g))
 ]
 
 -- ---- active segments
@@ -395,10 +447,12 @@ pool_bit q (Some a) = by (eqb a.pool q)
     by true = refl
     by false = refl
 
-pub pool_count : (uses now : List (Option ActiveUse)) (p i : Counted) → uses ≡ now → AreActive uses p i → (n q : ℕ) → n ≡ count_at p q 0
+pub pool_count : (uses now : List (Option ActiveUse)) (p i : Counted) → uses ≡ now → AreActive uses p i → (n q : ℕ) → n
+    ≡ count_at p q 0
     → n ≡ sum_by (λ x. cond (is_in_pool q x) 1 0) now
 pool_count uses now p i is t n q e =
-    e ∙ t.in_pools q 0 ∙ same_sum (λ x. key_bit (pool_key x) q 0) (λ x. cond (is_in_pool q x) 1 0) uses None (λ k. pool_bit q (get_or uses k None))
+    e ∙ t.in_pools q 0 ∙ same_sum (λ x. key_bit (pool_key x) q 0) (λ x. cond (is_in_pool q x) 1 0) uses None
+    (λ k. pool_bit q (get_or uses k None))
     ∙ ap (λ (xs : List (Option ActiveUse)). sum_by (λ x. cond (is_in_pool q x) 1 0) xs) is
 
 below_to : (o : Option ℕ) (u : ℕ) → key_bit (key_of o) u 0 ≡ 0 → o ≢ Some u
@@ -409,8 +463,10 @@ below_from : (o : Option ℕ) (u : ℕ) → o ≢ Some u → key_bit (key_of o) 
 below_from None u z = refl
 below_from (Some v) u z = uid_from v u z
 
-pub below_decides : (uses now : List (Option ActiveUse)) (p i : Counted) → uses ≡ now → AreActive uses p i → (n u : ℕ) → n ≡ count_at i u 0
+pub below_decides : (uses now : List (Option ActiveUse)) (p i : Counted) → uses ≡ now → AreActive uses p i → (n u : ℕ)
+    → n ≡ count_at i u 0
     → Decides (eqb n 0) ((v : ℕ) → superior_of (active_at now v) ≢ Some u)
-below_decides uses now p i is t n u e = subst (λ (xs : List (Option ActiveUse)). Decides (eqb n 0) ((v : ℕ) → superior_of (active_at xs v) ≢ Some u)) is
+below_decides uses now p i is t n u e = subst (λ (xs : List (Option ActiveUse)). Decides (eqb n 0)
+    ((v : ℕ) → superior_of (active_at xs v) ≢ Some u)) is
     (zero_decides (λ x. key_bit (superior_key x) u 0) (λ x. superior_of x ≢ Some u) uses None n (e ∙ t.below u 0) refl
     (λ x. below_to (superior_of x) u) (λ x. below_from (superior_of x) u))

@@ -8,17 +8,21 @@ use Rattle.custody_model.specs.Effects.{OfNode}
 use Rattle.flat_store.specs.Shown.{uid_at, pool_at, superior_at}
 use Rattle.custody.specs.Tables.{use_in}
 
-pub node_decides : (P : ℕ → Type 0) (o : Result Node Reply) (found : Option ℕ) (u : ℕ) (r : Bool) → found ≡ uid_at o → found ≡ Some u → Decides r (P u)
+pub node_decides : (P : ℕ → Type 0) (o : Result Node Reply) (found : Option ℕ) (u : ℕ) (r : Bool) → found ≡ uid_at o
+    → found ≡ Some u → Decides r (P u)
     → Decides r (OfNode (λ n. P n.uid) o)
-node_decides P (Ok n) found u r is some d = subst (λ (v : ℕ). Decides r (P v)) (ap (λ (x : Option ℕ). unwrap_or x u) (sym some ∙ is)) d
+node_decides P (Ok n) found u r is some d = subst (λ (v : ℕ). Decides r (P v))
+    (ap (λ (x : Option ℕ). unwrap_or x u) (sym some ∙ is)) d
 node_decides P (Err e) found u r is some d = let z : Some u ≡ None = sym some ∙ is in let no : ⊥ = cc in absurd no
 
-pub no_node_decides : (P : ℕ → Type 0) (o : Result Node Reply) (found : Option ℕ) → found ≡ uid_at o → found ≡ None → Decides true (OfNode (λ n. P n.uid) o)
+pub no_node_decides : (P : ℕ → Type 0) (o : Result Node Reply) (found : Option ℕ) → found ≡ uid_at o → found ≡ None
+    → Decides true (OfNode (λ n. P n.uid) o)
 no_node_decides P (Ok n) found is none = let z : None ≡ Some n.uid = sym none ∙ is in let no : ⊥ = cc in absurd no
 no_node_decides P (Err e) found is none = (λ q. tt, λ q. refl)
 
 -- what the looks at its superior and its pool tell of a node
-pub node_found : (o : Option Node) (superior pool : Option ℕ) (p : ℕ) → superior ≡ superior_at o → pool ≡ pool_at o → pool ≡ Some p
+pub node_found : (o : Option Node) (superior pool : Option ℕ) (p : ℕ) → superior ≡ superior_at o → pool ≡ pool_at o
+    → pool ≡ Some p
     → Some (record { superior = superior; pool = p }) ≡ use_in o
 node_found None superior pool p e f g = let z : Some p ≡ None = sym g ∙ f in let no : ⊥ = cc in absurd no
 node_found (Some n) superior pool p e f g =

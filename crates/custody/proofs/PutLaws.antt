@@ -1,5 +1,6 @@
 -- The list of active segments once it has a place for a uid, and what is counted once one is put there.
-use Rattle.std.proofs.Common.{◌≡◌, ◌<◌, ◌≤◌, ◌+◌, ◌-◌, ◌^◌, ℕ, List, [], ◌∷◌, ◌++◌, Option, None, get_or, length, set, replicate, refl, sym, ap, ◌∙◌}
+use Rattle.std.proofs.Common.{◌≡◌, ◌<◌, ◌≤◌, ◌+◌, ◌-◌, ◌^◌, ℕ, List, [], ◌∷◌, ◌++◌, Option, None, get_or, length, set}
+use Rattle.std.proofs.Common.{replicate, refl, sym, ap, ◌∙◌}
 use Rattle.std.proofs.Common.{arith, length-set, length-append}
 use Rattle.std.specs.Prelude.{sum_by}
 use Rattle.std.proofs.lemmas.List.{length-replicate}
@@ -12,7 +13,8 @@ use Rattle.custody.specs.declared.active.ActiveUse.{ActiveUse}
 use Rattle.custody.proofs.BootLaws.{none_counted}
 use Rattle.custody.proofs.TallyLaws.{tally_set, tally_kept, tally_few}
 
-grown_sum : {X : Type 0} (f : X → ℕ) (xs : List X) (n : ℕ) (d : X) → f d ≡ 0 → sum_by f (xs ++ replicate n d) ≡ sum_by f xs
+grown_sum : {X : Type 0} (f : X → ℕ) (xs : List X) (n : ℕ) (d : X) → f d ≡ 0 → sum_by f (xs ++ replicate n d)
+    ≡ sum_by f xs
 grown_sum f [] n d e = none_counted f d n e
 grown_sum f (x ∷ xs) n d e =
     let a = sum_by-cons f x (xs ++ replicate n d) in
@@ -20,31 +22,37 @@ grown_sum f (x ∷ xs) n d e =
     let r = grown_sum f xs n d e in
     omega (arith, a, b, r)
 
-grown_tally : {X : Type 0} (key : X → Option (ℕ × ℕ)) (xs : List X) (c : Counted) (n : ℕ) (d : X) → key d ≡ None → IsTally key xs c
+grown_tally : {X : Type 0} (key : X → Option (ℕ × ℕ)) (xs : List X) (c : Counted) (n : ℕ) (d : X) → key d ≡ None
+    → IsTally key xs c
     → IsTally key (xs ++ replicate n d) c
 grown_tally key xs c n d e t = λ a b.
     t a b ∙ sym (grown_sum (λ x. key_bit (key x) a b) xs n d (ap (λ (k : Option (ℕ × ℕ)). key_bit k a b) e))
 
-place_length : (uses : List (Option ActiveUse)) (u : ℕ) → length (with_place uses u) ≡ length uses + (u + 1 - length uses)
+place_length : (uses : List (Option ActiveUse)) (u : ℕ) → length (with_place uses u)
+    ≡ length uses + (u + 1 - length uses)
 place_length uses u =
     let a = length-append uses (replicate (u + 1 - length uses) None) in
-    let r : length (replicate {A = Option ActiveUse} (u + 1 - length uses) None) ≡ u + 1 - length uses = length-replicate (u + 1 - length uses) None in
+    let r : length (replicate {A = Option ActiveUse} (u + 1 - length uses) None) ≡ u + 1 - length uses =
+    length-replicate (u + 1 - length uses) None in
     a ∙ ap (λ (n : ℕ). length uses + n) r
 
 pub place_there : (uses : List (Option ActiveUse)) (u : ℕ) → u < length (with_place uses u)
 place_there uses u = let l = place_length uses u in omega (arith, l)
 
-place_few : (uses : List (Option ActiveUse)) (u : ℕ) → length uses ≤ 2 ^ 32 → u < 2 ^ 32 → length (with_place uses u) ≤ 2 ^ 32
+place_few : (uses : List (Option ActiveUse)) (u : ℕ) → length uses ≤ 2 ^ 32 → u < 2 ^ 32
+    → length (with_place uses u) ≤ 2 ^ 32
 place_few uses u few below = let l = place_length uses u in omega (arith, l, few, below)
 
-pub active_kept : (uses : List (Option ActiveUse)) (p q i j : Counted) → AreActive uses p i → Keeps p q → Keeps i j → AreActive uses q j
+pub active_kept : (uses : List (Option ActiveUse)) (p q i j : Counted) → AreActive uses p i → Keeps p q → Keeps i j
+    → AreActive uses q j
 active_kept uses p q i j t k l = record {
   few = t.few;
   in_pools = tally_kept pool_key uses p q t.in_pools k;
   below = tally_kept superior_key uses i j t.below l;
 }
 
-pub active_grown : (uses : List (Option ActiveUse)) (p i : Counted) (u : ℕ) → u < 2 ^ 32 → AreActive uses p i → AreActive (with_place uses u) p i
+pub active_grown : (uses : List (Option ActiveUse)) (p i : Counted) (u : ℕ) → u < 2 ^ 32 → AreActive uses p i
+    → AreActive (with_place uses u) p i
 active_grown uses p i u below t = record {
   few = place_few uses u t.few below;
   in_pools = grown_tally pool_key uses p (u + 1 - length uses) None refl t.in_pools;
@@ -54,8 +62,10 @@ active_grown uses p i u below t = record {
 pub active_few : (uses : List (Option ActiveUse)) (p i : Counted) → AreActive uses p i → AreFew p × AreFew i
 active_few uses p i t = (tally_few pool_key uses p t.few t.in_pools, tally_few superior_key uses i t.few t.below)
 
-pub active_put : (uses : List (Option ActiveUse)) (p q i j : Counted) (u : ℕ) (x d : Option ActiveUse) → u < length uses → AreActive uses p i
-    → Shifts p q (pool_key (get_or uses u d)) (pool_key x) → Shifts i j (superior_key (get_or uses u d)) (superior_key x) → AreActive (set uses u x) q j
+pub active_put : (uses : List (Option ActiveUse)) (p q i j : Counted) (u : ℕ) (x d : Option ActiveUse)
+    → u < length uses → AreActive uses p i
+    → Shifts p q (pool_key (get_or uses u d)) (pool_key x)
+    → Shifts i j (superior_key (get_or uses u d)) (superior_key x) → AreActive (set uses u x) q j
 active_put uses p q i j u x d l t s r = record {
   few = rw (length-set uses u x) t.few;
   in_pools = tally_set pool_key uses p q u x d l t.in_pools s;

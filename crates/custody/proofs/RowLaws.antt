@@ -1,5 +1,6 @@
 -- Lists of ready processes, of what is held, and of processors, as they are changed in place.
-use Rattle.std.proofs.Common.{◌≡◌, ◌≢◌, ◌<◌, ◌≤◌, ◌+◌, ℕ, suc, zero, Bool, true, false, not, cond, eqb, List, [], ◌∷◌, ◌++◌, Option, None, get_or, length, set, take, refl, sym, ap, subst, ◌∙◌}
+use Rattle.std.proofs.Common.{◌≡◌, ◌≢◌, ◌<◌, ◌≤◌, ◌+◌, ℕ, suc, zero, Bool, true, false, not, cond, eqb, List, [], ◌∷◌}
+use Rattle.std.proofs.Common.{◌++◌, Option, None, get_or, length, set, take, refl, sym, ap, subst, ◌∙◌}
 use Rattle.std.proofs.Common.{inl, inr, arith, length-set, append-nil, append_assoc, ext_get_or}
 use Rattle.std.specs.List.{filter}
 use Rattle.std.proofs.lemmas.Bool.Decides.{eqb_tells}
@@ -27,18 +28,22 @@ front [] ys = refl
 front (x ∷ xs) ys = ap (λ (zs : List _). x ∷ zs) (front xs ys)
 
 -- a list is cut back to what it began with
-pub cut_back : {X : Type 0} (n l : ℕ) (xs ys zs ws : List X) → ws ≡ take n zs → n ≡ l → l ≡ length xs → zs ≡ xs ++ ys → ws ≡ xs
+pub cut_back : {X : Type 0} (n l : ℕ) (xs ys zs ws : List X) → ws ≡ take n zs → n ≡ l → l ≡ length xs → zs ≡ xs ++ ys
+    → ws ≡ xs
 cut_back n l xs ys zs ws e a b f = e ∙ (λ i. take ((a ∙ b) i) (f i)) ∙ front xs ys
 
 pub none_released : (xs : List ℕ) → xs ≡ xs ++ range 1 0
 none_released xs = sym (append-nil xs)
 
-pub one_released : (n : ℕ) (xs before after : List ℕ) → before ≡ xs ++ range 1 n → after ≡ before ++ (n + 1) ∷ [] → after ≡ xs ++ range 1 (n + 1)
+pub one_released : (n : ℕ) (xs before after : List ℕ) → before ≡ xs ++ range 1 n → after ≡ before ++ (n + 1) ∷ []
+    → after ≡ xs ++ range 1 (n + 1)
 one_released n xs before after e f =
     let s : suc n ≡ n + 1 = omega arith in
     let z : 1 + n ≡ n + 1 = omega arith in
-    let more : range 1 n ++ (n + 1) ∷ [] ≡ range 1 (n + 1) = sym (range_end 1 n ∙ ap (λ (x : ℕ). range 1 n ++ x ∷ []) z) ∙ ap (range 1) s in
-    f ∙ ap (λ (zs : List ℕ). zs ++ (n + 1) ∷ []) e ∙ append_assoc xs (range 1 n) ((n + 1) ∷ []) ∙ ap (λ (zs : List ℕ). xs ++ zs) more
+    let more : range 1 n ++ (n + 1) ∷ [] ≡ range 1 (n + 1) =
+    sym (range_end 1 n ∙ ap (λ (x : ℕ). range 1 n ++ x ∷ []) z) ∙ ap (range 1) s in
+    f ∙ ap (λ (zs : List ℕ). zs ++ (n + 1) ∷ []) e ∙ append_assoc xs (range 1 n) ((n + 1) ∷ [])
+    ∙ ap (λ (zs : List ℕ). xs ++ zs) more
 
 -- ---- a processor without a process drops no descriptor
 
@@ -46,12 +51,17 @@ all_kept : (xs : List ℕ) → xs ≡ filter (λ n. not false) xs
 all_kept [] = refl
 all_kept (x ∷ xs) = ap (λ (ys : List ℕ). x ∷ ys) (all_kept xs)
 
-none_named : (rows : List (List DescriptorUse)) (w : What) (o : Option ℕ) (xs : List ℕ) → o ≡ None → xs ≡ filter (λ n. not (names_held rows w o n)) xs
-none_named rows w o xs e = subst (λ (x : Option ℕ). xs ≡ filter (λ n. not (names_held rows w x n)) xs) (sym e) (all_kept xs)
+none_named : (rows : List (List DescriptorUse)) (w : What) (o : Option ℕ) (xs : List ℕ) → o ≡ None → xs
+    ≡ filter (λ n. not (names_held rows w o n)) xs
+none_named rows w o xs e = subst (λ (x : Option ℕ). xs ≡ filter (λ n. not (names_held rows w x n)) xs) (sym e)
+    (all_kept xs)
 
-pub dropped_idle : (frames : List FrameUse) (rows : List (List DescriptorUse)) (w : What) (s : Seat) (pages : List ℕ) → s.process ≡ None
-    → pages ≡ filter (λ f. not (names_use w f (frame_at frames f))) s.pages → record s { pages = pages } ≡ dropped frames rows w s
-dropped_idle frames rows w s pages none is = λ i. record s { segs = none_named rows w s.process s.segs none i; pages = is i }
+pub dropped_idle : (frames : List FrameUse) (rows : List (List DescriptorUse)) (w : What) (s : Seat) (pages : List ℕ)
+    → s.process ≡ None
+    → pages ≡ filter (λ f. not (names_use w f (frame_at frames f))) s.pages → record s { pages = pages }
+    ≡ dropped frames rows w s
+dropped_idle frames rows w s pages none is = λ i. record s
+    { segs = none_named rows w s.process s.segs none i; pages = is i }
 
 -- ---- processors told one after the other
 
@@ -67,21 +77,26 @@ none_warned d w old new e = record {
   rest = λ j l. ap (λ (xs : List Seat). seat_at xs j) e;
 }
 
-pub one_warned : (d : ℕ) (w : What) (n : ℕ) (old mid new : List Seat) (s t : Seat) → n < length mid → n ≢ d → WarnedBelow d w n old mid
+pub one_warned : (d : ℕ) (w : What) (n : ℕ) (old mid new : List Seat) (s t : Seat) → n < length mid → n ≢ d
+    → WarnedBelow d w n old mid
     → s ≡ get_or mid n s → t ≡ warned w s → new ≡ set mid n t → WarnedBelow d w (n + 1) old new
 one_warned d w n old mid new s t l other h is told made = rw made (record {
   size = length-set mid n t ∙ h.size;
   below = λ j lt. elim (eqb_tells j n) [
     | inl e ↦
-        (let here : seat_at (set mid n t) j ≡ t = ap (λ (i : ℕ). seat_at (set mid n t) i) e.1 ∙ get_or-set_same mid n t offline l in
+        (let here : seat_at (set mid n t) j ≡ t = ap (λ (i : ℕ). seat_at (set mid n t) i) e.1
+        ∙ get_or-set_same mid n t offline l in
         let off : eqb j d ≡ false = elim (eqb_tells j d) [ inl g ↦ absurd (other (sym e.1 ∙ g.1)) | inr g ↦ g.0 ] in
-        let old_is : s ≡ seat_at old j = is ∙ same_default mid n s offline l ∙ h.rest n (omega arith) ∙ ap (λ (i : ℕ). seat_at old i) (sym e.1) in
-        here ∙ told ∙ ap (λ (x : Seat). warned w x) old_is ∙ ap (λ (b : Bool). cond b (seat_at old j) (warned w (seat_at old j))) (sym off))
+        let old_is : s ≡ seat_at old j = is ∙ same_default mid n s offline l ∙ h.rest n (omega arith)
+        ∙ ap (λ (i : ℕ). seat_at old i) (sym e.1) in
+        here ∙ told ∙ ap (λ (x : Seat). warned w x) old_is
+        ∙ ap (λ (b : Bool). cond b (seat_at old j) (warned w (seat_at old j))) (sym off))
     | inr e ↦
         (let near : j < n = let ne = e.1 in omega (arith, lt, ne) in
         get_or-set_other mid n j t offline e.1 ∙ h.below j near)
   ];
-  rest = λ j le. get_or-set_other mid n j t offline (λ e. let z : ⊥ = omega (arith, le, e) in z) ∙ h.rest j (omega (arith, le));
+  rest = λ j le. get_or-set_other mid n j t offline (λ e. let z : ⊥ = omega (arith, le, e) in z)
+      ∙ h.rest j (omega (arith, le));
 })
   where
     same_default : {X : Type 0} (xs : List X) (i : ℕ) (d e : X) → i < length xs → get_or xs i d ≡ get_or xs i e
@@ -89,20 +104,24 @@ one_warned d w n old mid new s t l other h is told made = rw made (record {
     same_default (x ∷ xs) zero d e l = refl
     same_default (x ∷ xs) (suc i) d e l = same_default xs i d e (omega (arith, l))
 
-pub one_passed : (d : ℕ) (w : What) (n : ℕ) (old mid new : List Seat) → n ≡ d → WarnedBelow d w n old mid → new ≡ mid → WarnedBelow d w (n + 1) old new
+pub one_passed : (d : ℕ) (w : What) (n : ℕ) (old mid new : List Seat) → n ≡ d → WarnedBelow d w n old mid → new ≡ mid
+    → WarnedBelow d w (n + 1) old new
 one_passed d w n old mid new this h made = rw made (record {
   size = h.size;
   below = λ j lt. elim (eqb_tells j n) [
     | inl e ↦
         (let on : eqb j d ≡ true = elim (eqb_tells j d) [ inl g ↦ g.0 | inr g ↦ absurd (g.1 (e.1 ∙ this)) ] in
-        h.rest j (let z = e.1 in omega (arith, z)) ∙ ap (λ (b : Bool). cond b (seat_at old j) (warned w (seat_at old j))) (sym on))
+        h.rest j (let z = e.1 in omega (arith, z)) ∙ ap
+        (λ (b : Bool). cond b (seat_at old j) (warned w (seat_at old j))) (sym on))
     | inr e ↦ h.below j (let ne = e.1 in omega (arith, lt, ne))
   ];
   rest = λ j le. h.rest j (omega (arith, le));
 })
 
-pub all_warned : (d : ℕ) (w : What) (n : ℕ) (old new : List Seat) → length new ≤ n → WarnedBelow d w n old new → new ≡ warn_from d w 0 old
-all_warned d w n old new all h = ext_get_or offline new (warn_from d w 0 old) (h.size ∙ sym (warn_length d 0 w old)) (λ j l.
+pub all_warned : (d : ℕ) (w : What) (n : ℕ) (old new : List Seat) → length new ≤ n → WarnedBelow d w n old new → new
+    ≡ warn_from d w 0 old
+all_warned d w n old new all h = ext_get_or offline new (warn_from d w 0 old) (h.size ∙ sym (warn_length d 0 w old))
+    (λ j l.
     let z : 0 + j ≡ j = omega arith in
     h.below j (omega (arith, l, all))
     ∙ ap (λ (i : ℕ). cond (eqb i d) (seat_at old j) (warned w (seat_at old j))) (sym z)

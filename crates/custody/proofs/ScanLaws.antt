@@ -1,5 +1,6 @@
 -- What a scan of a list decides of its elements, and of those past its end.
-use Rattle.std.proofs.Common.{◌≡◌, ◌≢◌, ℕ, suc, zero, Bool, true, false, not, eqb, ◌&&◌, ◌||◌, List, [], ◌∷◌, Option, Some, None, get_or, refl, sym, ap, subst}
+use Rattle.std.proofs.Common.{◌≡◌, ◌≢◌, ℕ, suc, zero, Bool, true, false, not, eqb, ◌&&◌, ◌||◌, List, [], ◌∷◌, Option}
+use Rattle.std.proofs.Common.{Some, None, get_or, refl, sym, ap, subst}
 use Rattle.std.proofs.Common.{◌∙◌}
 use Rattle.std.specs.List.{list_any}
 use Rattle.std.specs.Bool.{Decides}
@@ -12,7 +13,8 @@ use Rattle.custody_model.specs.declared.DescriptorUse.{DescriptorUse}
 use Rattle.custody_model.specs.declared.DescriptorUse.TheVariants as descriptor
 use Rattle.assoc_mem.specs.declared.What.TheVariants as what
 use Rattle.custody.specs.Uses.{descriptor_at}
-use Rattle.custody.specs.Tables.{Tables, AreNodes, IsAsActivated, FramesAreNamed, DescriptorsAreNamed, IsUnused, active_at, superior_of, custody_of, row_at}
+use Rattle.custody.specs.Tables.{Tables, AreNodes, IsAsActivated, FramesAreNamed, DescriptorsAreNamed, IsUnused}
+use Rattle.custody.specs.Tables.{active_at, superior_of, custody_of, row_at}
 use Rattle.custody.specs.declared.active.ActiveUse.{ActiveUse}
 use Rattle.custody_model.specs.declared.FrameUse.{FrameUse}
 use Rattle.custody.specs.Uses.{frame_at}
@@ -31,12 +33,14 @@ or_false false false e = (refl, refl)
 or_false false true e = absurd (no_both refl e)
 or_false true b e = absurd (no_both refl e)
 
-scan_to : {X : Type 0} (p : X → Bool) (d : X) → p d ≡ false → (xs : List X) → list_any p xs ≡ false → (i : ℕ) → p (get_or xs i d) ≡ false
+scan_to : {X : Type 0} (p : X → Bool) (d : X) → p d ≡ false → (xs : List X) → list_any p xs ≡ false → (i : ℕ)
+    → p (get_or xs i d) ≡ false
 scan_to p d n [] e i = n
 scan_to p d n (x ∷ xs) e zero = (or_false (p x) (list_any p xs) e).0
 scan_to p d n (x ∷ xs) e (suc i) = scan_to p d n xs (or_false (p x) (list_any p xs) e).1 i
 
-scan_from : {X : Type 0} (p : X → Bool) (d : X) (xs : List X) → ((i : ℕ) → p (get_or xs i d) ≡ false) → list_any p xs ≡ false
+scan_from : {X : Type 0} (p : X → Bool) (d : X) (xs : List X) → ((i : ℕ) → p (get_or xs i d) ≡ false) → list_any p xs
+    ≡ false
 scan_from p d [] h = refl
 scan_from p d (x ∷ xs) h =
     let first : p x ≡ false = h 0 in
@@ -50,7 +54,8 @@ not_true false e = refl
 is_not : (b : Bool) → b ≡ false → not b ≡ true
 is_not b e = rw e refl
 
-pub scan_decides : {X : Type 0} (p : X → Bool) (P : X → Type 0) (d : X) → p d ≡ false → ((x : X) → Decides (not (p x)) (P x)) → (xs : List X) (r : Bool)
+pub scan_decides : {X : Type 0} (p : X → Bool) (P : X → Type 0) (d : X) → p d ≡ false
+    → ((x : X) → Decides (not (p x)) (P x)) → (xs : List X) (r : Bool)
     → r ≡ list_any p xs
     → Decides (not r) ((i : ℕ) → P (get_or xs i d))
 scan_decides p P d n each xs r is = (
@@ -59,7 +64,8 @@ scan_decides p P d n each xs r is = (
 )
 
 -- what a count decides, a scan would find
-pub scan_is : {X : Type 0} (p : X → Bool) (P : X → Type 0) (d : X) → p d ≡ false → ((x : X) → Decides (not (p x)) (P x)) → (xs : List X) (r : Bool)
+pub scan_is : {X : Type 0} (p : X → Bool) (P : X → Type 0) (d : X) → p d ≡ false
+    → ((x : X) → Decides (not (p x)) (P x)) → (xs : List X) (r : Bool)
     → Decides r ((i : ℕ) → P (get_or xs i d)) → not r ≡ list_any p xs
 scan_is p P d n each xs r h =
     let s = scan_decides p P d n each xs (list_any p xs) refl in
@@ -69,18 +75,21 @@ scan_is p P d n each xs r h =
     twice true = refl
     twice false = refl
 
-found_in : {X : Type 0} (p : X → Bool) (d x : X) (xs : List X) → (p x || list_any p xs) ≡ true → (list_any p xs ≡ true → (i : ℕ) × (p (get_or xs i d) ≡ true))
+found_in : {X : Type 0} (p : X → Bool) (d x : X) (xs : List X) → (p x || list_any p xs) ≡ true
+    → (list_any p xs ≡ true → (i : ℕ) × (p (get_or xs i d) ≡ true))
     → (b : Bool) → p x ≡ b → (i : ℕ) × (p (get_or (x ∷ xs) i d) ≡ true)
 found_in p d x xs e rest true b = (0, b)
 found_in p d x xs e rest false b =
     let there : list_any p xs ≡ true = sym (ap (λ (y : Bool). y || list_any p xs) b) ∙ e in
     let r = rest there in (suc r.0, r.1)
 
-pub found : {X : Type 0} (p : X → Bool) (d : X) (xs : List X) → list_any p xs ≡ true → (i : ℕ) × (p (get_or xs i d) ≡ true)
+pub found : {X : Type 0} (p : X → Bool) (d : X) (xs : List X) → list_any p xs ≡ true → (i : ℕ)
+    × (p (get_or xs i d) ≡ true)
 found p d [] e = let z : false ≡ true = e in let no : ⊥ = cc in absurd no
 found p d (x ∷ xs) e = found_in p d x xs e (λ t. found p d xs t) (p x) refl
 
-pub find : {X : Type 0} (p : X → Bool) (d : X) (xs : List X) (i : ℕ) → p d ≡ false → p (get_or xs i d) ≡ true → list_any p xs ≡ true
+pub find : {X : Type 0} (p : X → Bool) (d : X) (xs : List X) (i : ℕ) → p d ≡ false → p (get_or xs i d) ≡ true
+    → list_any p xs ≡ true
 find p d xs i n e = by (list_any p xs) refl
   where
     by : (b : Bool) → list_any p xs ≡ b → list_any p xs ≡ true
@@ -109,43 +118,59 @@ else_decides true true = (λ t e. refl, λ h. refl)
 else_decides true false = (λ t e. absurd (no_both t refl), λ h. absurd (no_both (h refl) refl))
 else_decides false b = (λ t e. absurd (no_both e refl), λ h. refl)
 
-pub leads_is : (row : List DescriptorUse) (u : ℕ) (r : Bool) → Decides r ((n : ℕ) → leads_to (descriptor_at row n) ≢ Some u)
+pub leads_is : (row : List DescriptorUse) (u : ℕ) (r : Bool)
+    → Decides r ((n : ℕ) → leads_to (descriptor_at row n) ≢ Some u)
     → not r ≡ list_any (λ x. is_uid u (leads_to x)) row
-leads_is row u r h = scan_is (λ x. is_uid u (leads_to x)) (λ x. leads_to x ≢ Some u) descriptor.Free refl (λ x. uid_decides u (leads_to x)) row r h
+leads_is row u r h = scan_is (λ x. is_uid u (leads_to x)) (λ x. leads_to x ≢ Some u) descriptor.Free refl
+    (λ x. uid_decides u (leads_to x)) row r h
 
-pub goes_is : (row : List DescriptorUse) (r : Bool) → Decides r ((n : ℕ) × (is_going_descriptor (descriptor_at row n) ≡ true))
+pub goes_is : (row : List DescriptorUse) (r : Bool) → Decides r
+    ((n : ℕ) × (is_going_descriptor (descriptor_at row n) ≡ true))
     → r ≡ list_any is_going_descriptor row
-goes_is row r h = same_from_decides r (list_any is_going_descriptor row) h
-    (λ t. found is_going_descriptor descriptor.Free row t, λ f. find is_going_descriptor descriptor.Free row f.0 refl f.1)
+goes_is row r h = same_from_decides r (list_any is_going_descriptor row) h (
+  λ t. found is_going_descriptor descriptor.Free row t,
+  λ f. find is_going_descriptor descriptor.Free row f.0 refl
+      f.1,
+)
 
 pub elsewhere_is : (row : List DescriptorUse) (u : ℕ) (r : Bool)
-    → Decides r ((n : ℕ) → is_going_descriptor (descriptor_at row n) ≡ true → is_uid u (leads_to (descriptor_at row n)) ≡ true)
+    → Decides r ((n : ℕ) → is_going_descriptor (descriptor_at row n) ≡ true → is_uid u (leads_to (descriptor_at row n))
+    ≡ true)
     → not r ≡ list_any (λ x. is_going_descriptor x && not (is_uid u (leads_to x))) row
-elsewhere_is row u r h = scan_is (λ x. is_going_descriptor x && not (is_uid u (leads_to x))) (λ x. is_going_descriptor x ≡ true → is_uid u (leads_to x) ≡ true)
+elsewhere_is row u r h = scan_is (λ x. is_going_descriptor x && not (is_uid u (leads_to x)))
+    (λ x. is_going_descriptor x ≡ true → is_uid u (leads_to x) ≡ true)
     descriptor.Free refl (λ x. else_decides (is_going_descriptor x) (is_uid u (leads_to x))) row r h
 
 -- ---- all descriptors
 
-pub no_descriptor_decides : (t : Tables) (u : ℕ) (r : Bool) → r ≡ list_any (λ row. list_any (λ x. is_uid u (leads_to x)) row) t.descriptors
+pub no_descriptor_decides : (t : Tables) (u : ℕ) (r : Bool) → r
+    ≡ list_any (λ row. list_any (λ x. is_uid u (leads_to x)) row) t.descriptors
     → Decides (not r) (HasNoDescriptor (custody_of t) u)
 no_descriptor_decides t u r is =
-    scan_decides (λ row. list_any (λ x. is_uid u (leads_to x)) row) (λ row. (n : ℕ) → leads_to (descriptor_at row n) ≢ Some u) [] refl
-    (λ row. scan_decides (λ x. is_uid u (leads_to x)) (λ x. leads_to x ≢ Some u) descriptor.Free refl (λ x. uid_decides u (leads_to x)) row
+    scan_decides (λ row. list_any (λ x. is_uid u (leads_to x)) row)
+    (λ row. (n : ℕ) → leads_to (descriptor_at row n) ≢ Some u) [] refl
+    (λ row. scan_decides (λ x. is_uid u (leads_to x)) (λ x. leads_to x ≢ Some u) descriptor.Free refl
+    (λ x. uid_decides u (leads_to x)) row
     (list_any (λ x. is_uid u (leads_to x)) row) refl) t.descriptors r is
 
 pub none_goes_decides : (t : Tables) (r : Bool) → r ≡ list_any (λ row. list_any is_going_descriptor row) t.descriptors
     → Decides (not r) ((k n : ℕ) → is_going_descriptor ((custody_of t).descriptor k n) ≡ false)
-none_goes_decides t r is = scan_decides (λ row. list_any is_going_descriptor row) (λ row. (n : ℕ) → is_going_descriptor (descriptor_at row n) ≡ false) [] refl
-    (λ row. scan_decides is_going_descriptor (λ x. is_going_descriptor x ≡ false) descriptor.Free refl going_decides row (list_any is_going_descriptor
+none_goes_decides t r is = scan_decides (λ row. list_any is_going_descriptor row)
+    (λ row. (n : ℕ) → is_going_descriptor (descriptor_at row n) ≡ false) [] refl
+    (λ row. scan_decides is_going_descriptor (λ x. is_going_descriptor x ≡ false) descriptor.Free refl going_decides
+    row (list_any is_going_descriptor
     row) refl)
     t.descriptors r is
 
 pub all_go_decides : (t : Tables) (u : ℕ) (r : Bool)
     → r ≡ list_any (λ row. list_any (λ x. is_going_descriptor x && not (is_uid u (leads_to x))) row) t.descriptors
-    → Decides (not r) ((k n : ℕ) → is_going_descriptor ((custody_of t).descriptor k n) ≡ true → is_uid u (leads_to ((custody_of t).descriptor k n)) ≡ true)
+    → Decides (not r) ((k n : ℕ) → is_going_descriptor ((custody_of t).descriptor k n) ≡ true
+    → is_uid u (leads_to ((custody_of t).descriptor k n)) ≡ true)
 all_go_decides t u r is = scan_decides (λ row. list_any (λ x. is_going_descriptor x && not (is_uid u (leads_to x))) row)
-    (λ row. (n : ℕ) → is_going_descriptor (descriptor_at row n) ≡ true → is_uid u (leads_to (descriptor_at row n)) ≡ true) [] refl
-    (λ row. scan_decides (λ x. is_going_descriptor x && not (is_uid u (leads_to x))) (λ x. is_going_descriptor x ≡ true → is_uid u (leads_to x) ≡ true)
+    (λ row. (n : ℕ) → is_going_descriptor (descriptor_at row n) ≡ true → is_uid u (leads_to (descriptor_at row n))
+    ≡ true) [] refl
+    (λ row. scan_decides (λ x. is_going_descriptor x && not (is_uid u (leads_to x)))
+    (λ x. is_going_descriptor x ≡ true → is_uid u (leads_to x) ≡ true)
     descriptor.Free refl (λ x. else_decides (is_going_descriptor x) (is_uid u (leads_to x))) row
     (list_any (λ x. is_going_descriptor x && not (is_uid u (leads_to x))) row) refl)
     t.descriptors r is
@@ -155,9 +180,11 @@ all_go_decides t u r is = scan_decides (λ row. list_any (λ x. is_going_descrip
 held_decides : (b : Bool) → Decides (not b) (b ≡ false)
 held_decides b = (λ t. not_true b t, λ f. is_not b f)
 
-pub nobody_page_decides : (t : Tables) (f : ℕ) (r : Bool) → r ≡ list_any (λ s. has s.pages f) t.seats → Decides (not r) (NobodyHoldsPage (custody_of t) f)
+pub nobody_page_decides : (t : Tables) (f : ℕ) (r : Bool) → r ≡ list_any (λ s. has s.pages f) t.seats
+    → Decides (not r) (NobodyHoldsPage (custody_of t) f)
 nobody_page_decides t f r is =
-    scan_decides (λ (s : Seat). has s.pages f) (λ (s : Seat). has s.pages f ≡ false) offline refl (λ s. held_decides (has s.pages f)) t.seats r is
+    scan_decides (λ (s : Seat). has s.pages f) (λ (s : Seat). has s.pages f ≡ false) offline refl
+    (λ s. held_decides (has s.pages f)) t.seats r is
 
 seg_decides : (k : ℕ) (o : Option ℕ) (b : Bool) → Decides (not (is_uid k o && b)) (o ≡ Some k → b ≡ false)
 seg_decides k None b = (λ t e. let z : None ≡ Some k = e in cc, λ h. refl)
@@ -174,29 +201,35 @@ seg_decides k (Some v) b =
     by true e h = ap (λ (x : Bool). not (x && b)) e ∙ is_not b (h (ap Some ((Decides-eqb v k).0 e)))
     by false e h = ap (λ (x : Bool). not (x && b)) e
 
-pub nobody_seg_decides : (t : Tables) (k n : ℕ) (r : Bool) → r ≡ list_any (λ s. is_uid k s.process && has s.segs n) t.seats
+pub nobody_seg_decides : (t : Tables) (k n : ℕ) (r : Bool) → r
+    ≡ list_any (λ s. is_uid k s.process && has s.segs n) t.seats
     → Decides (not r) (NobodyHoldsSeg (custody_of t) k n)
 nobody_seg_decides t k n r is =
-    scan_decides (λ (s : Seat). is_uid k s.process && has s.segs n) (λ (s : Seat). s.process ≡ Some k → has s.segs n ≡ false) offline refl
+    scan_decides (λ (s : Seat). is_uid k s.process && has s.segs n)
+    (λ (s : Seat). s.process ≡ Some k → has s.segs n ≡ false) offline refl
     (λ s. seg_decides k s.process (has s.segs n)) t.seats r is
 
 due_decides : (o : Option What) → Decides (not (is_some o)) (o ≡ None)
 due_decides None = (λ t. refl, λ e. refl)
 due_decides (Some w) = (λ t. absurd (no_both t refl), λ e. let z : Some w ≡ None = e in let no : ⊥ = cc in absurd no)
 
-pub none_due_decides : (t : Tables) (r : Bool) → r ≡ list_any (λ s. is_some s.due) t.seats → Decides (not r) ((d : ℕ) → ((custody_of t).seat d).due ≡ None)
-none_due_decides t r is = scan_decides (λ (s : Seat). is_some s.due) (λ (s : Seat). s.due ≡ None) offline refl (λ s. due_decides s.due) t.seats r is
+pub none_due_decides : (t : Tables) (r : Bool) → r ≡ list_any (λ s. is_some s.due) t.seats
+    → Decides (not r) ((d : ℕ) → ((custody_of t).seat d).due ≡ None)
+none_due_decides t r is = scan_decides (λ (s : Seat). is_some s.due) (λ (s : Seat). s.due ≡ None) offline refl
+    (λ s. due_decides s.due) t.seats r is
 
 -- ---- what goes
 
-pub page_goes_decides : (frames : List FrameUse) (t : Tables) (r : Bool) → frames ≡ t.frames → Decides r ((f : ℕ) × (is_going_frame (frame_at frames f) ≡ true))
+pub page_goes_decides : (frames : List FrameUse) (t : Tables) (r : Bool) → frames ≡ t.frames
+    → Decides r ((f : ℕ) × (is_going_frame (frame_at frames f) ≡ true))
     → Decides r (GoesPage (custody_of t))
 page_goes_decides frames t r is h =
     let d : Decides r ((f : ℕ) × (is_going_frame (frame_at t.frames f) ≡ true)) =
     subst (λ (xs : List FrameUse). Decides r ((f : ℕ) × (is_going_frame (frame_at xs f) ≡ true))) is h in
     (λ e. record { at = (d.0 e).0; going = (d.0 e).1 }, λ g. d.1 (g.at, g.going))
 
-pub descriptor_goes_decides : (t : Tables) (r : Bool) → r ≡ list_any (λ row. list_any is_going_descriptor row) t.descriptors
+pub descriptor_goes_decides : (t : Tables) (r : Bool) → r
+    ≡ list_any (λ row. list_any is_going_descriptor row) t.descriptors
     → Decides r (GoesDescriptor (custody_of t))
 descriptor_goes_decides t r is = (
   λ e.
@@ -209,7 +242,8 @@ descriptor_goes_decides t r is = (
 
 -- ---- what lies in an active directory
 
-superior_is : (x : Option ActiveUse) (o : Option Node) → ((a : ActiveUse) → x ≡ Some a → IsSomeAnd o (IsAsActivated a)) → is_some x ≡ true
+superior_is : (x : Option ActiveUse) (o : Option Node) → ((a : ActiveUse) → x ≡ Some a → IsSomeAnd o (IsAsActivated a))
+    → is_some x ≡ true
     → superior_in o ≡ superior_of x
 superior_is None o h e = let z : false ≡ true = e in let no : ⊥ = cc in absurd no
 superior_is (Some a) None h e = absurd (h a refl)
@@ -219,7 +253,8 @@ inactive_is : (x : Option ActiveUse) → is_some x ≡ false → superior_of x �
 inactive_is None e = refl
 inactive_is (Some a) e = let z : true ≡ false = e in let no : ⊥ = cc in absurd no
 
-pub inferiors_decide : (uses : List (Option ActiveUse)) (t : Tables) (s : Store) (u : ℕ) (r : Bool) → uses ≡ t.active → AreNodes s.nodes t.active
+pub inferiors_decide : (uses : List (Option ActiveUse)) (t : Tables) (s : Store) (u : ℕ) (r : Bool) → uses ≡ t.active
+    → AreNodes s.nodes t.active
     → Decides r ((v : ℕ) → superior_of (active_at uses v) ≢ Some u)
     → Decides r ((v : ℕ) → (custody_of t).active v ≡ true → superior_in (node_in s.nodes v) ≢ Some u)
 inferiors_decide uses t s u r is nodes h =
@@ -229,13 +264,15 @@ inferiors_decide uses t s u r is nodes h =
       λ all. d.1 (λ v q. each v (is_some (active_at t.active v)) refl all q),
     )
   where
-    each : (v : ℕ) (b : Bool) → is_some (active_at t.active v) ≡ b → ((v : ℕ) → (custody_of t).active v ≡ true → superior_in (node_in s.nodes v) ≢ Some u)
+    each : (v : ℕ) (b : Bool) → is_some (active_at t.active v) ≡ b
+        → ((v : ℕ) → (custody_of t).active v ≡ true → superior_in (node_in s.nodes v) ≢ Some u)
         → superior_of (active_at t.active v) ≡ Some u → ⊥
     each v true e all q = all v e (superior_is (active_at t.active v) (node_in s.nodes v) (nodes.there v) e ∙ q)
     each v false e all q = let z : None ≡ Some u = sym (inactive_is (active_at t.active v) e) ∙ q in cc
 
 pub deactivates : (s : Store) (t : Tables) (u : ℕ) (a r : Bool) → Decides a (IsUnused (custody_of t) u) → a ≡ true
-    → Decides r ((v : ℕ) → (custody_of t).active v ≡ true → superior_in (node_in s.nodes v) ≢ Some u) → Decides r (MayDeactivate s (custody_of t) u)
+    → Decides r ((v : ℕ) → (custody_of t).active v ≡ true → superior_in (node_in s.nodes v) ≢ Some u)
+    → Decides r (MayDeactivate s (custody_of t) u)
 deactivates s t u a r d e h =
     let unused = d.0 e in (
       λ q. record { active = unused.active; inferiors = h.0 q; pages = unused.pages; descriptors = unused.descriptors },
@@ -251,13 +288,17 @@ stays_active s t u a d e = (
 
 -- ---- what is named
 
-pub frames_page_decides : (frames : List FrameUse) (t : Tables) (w : What) (r : Bool) (g : ℕ) → w ≡ what.Page g → frames ≡ t.frames
-    → Decides r ((f : ℕ) → is_going_frame (frame_at frames f) ≡ true → eqb f g ≡ true) → Decides r (FramesAreNamed (custody_of t) w)
+pub frames_page_decides : (frames : List FrameUse) (t : Tables) (w : What) (r : Bool) (g : ℕ) → w ≡ what.Page g
+    → frames ≡ t.frames
+    → Decides r ((f : ℕ) → is_going_frame (frame_at frames f) ≡ true → eqb f g ≡ true)
+    → Decides r (FramesAreNamed (custody_of t) w)
 frames_page_decides frames t w r g e is h = subst (λ (x : What). Decides r (FramesAreNamed (custody_of t) x)) (sym e)
     (subst (λ (xs : List FrameUse). Decides r ((f : ℕ) → is_going_frame (frame_at xs f) ≡ true → eqb f g ≡ true)) is h)
 
-pub frames_seg_decides : (frames : List FrameUse) (t : Tables) (w : What) (r : Bool) (u : ℕ) → w ≡ what.Seg u → frames ≡ t.frames
-    → Decides r ((f : ℕ) → is_going_frame (frame_at frames f) ≡ true → is_uid u (uid_of_page (bound_page (frame_at frames f))) ≡ true)
+pub frames_seg_decides : (frames : List FrameUse) (t : Tables) (w : What) (r : Bool) (u : ℕ) → w ≡ what.Seg u → frames
+    ≡ t.frames
+    → Decides r ((f : ℕ) → is_going_frame (frame_at frames f) ≡ true
+    → is_uid u (uid_of_page (bound_page (frame_at frames f))) ≡ true)
     → Decides r (FramesAreNamed (custody_of t) w)
 frames_seg_decides frames t w r u e is h = subst (λ (x : What). Decides r (FramesAreNamed (custody_of t) x)) (sym e)
     (subst (λ (xs : List FrameUse). Decides r ((f : ℕ) → is_going_frame (frame_at xs f) ≡ true
@@ -268,15 +309,20 @@ pub descriptors_page_decides : (t : Tables) (w : What) (r : Bool) (g : ℕ) → 
     → Decides (not r) (DescriptorsAreNamed (custody_of t) w)
 descriptors_page_decides t w r g e is =
     let d = none_goes_decides t r is in
-    subst (λ (x : What). Decides (not r) (DescriptorsAreNamed (custody_of t) x)) (sym e)
-    (λ q k n goes. absurd (no_both goes (d.0 q k n)), λ all. d.1 (λ k n. none k n (is_going_descriptor ((custody_of t).descriptor k n)) refl (all k n)))
+    subst (λ (x : What). Decides (not r) (DescriptorsAreNamed (custody_of t) x)) (sym e) (
+      λ q k n goes. absurd (no_both goes (d.0 q k n)),
+      λ all. d.1
+          (λ k n. none k n (is_going_descriptor ((custody_of t).descriptor k n)) refl (all k n)),
+    )
   where
     none : (k n : ℕ) (b : Bool) → is_going_descriptor ((custody_of t).descriptor k n) ≡ b
-        → (is_going_descriptor ((custody_of t).descriptor k n) ≡ true → false ≡ true) → is_going_descriptor ((custody_of t).descriptor k n) ≡ false
+        → (is_going_descriptor ((custody_of t).descriptor k n) ≡ true → false ≡ true)
+        → is_going_descriptor ((custody_of t).descriptor k n) ≡ false
     none k n false e h = e
     none k n true e h = absurd (no_both (h e) refl)
 
 pub descriptors_seg_decides : (t : Tables) (w : What) (r : Bool) (u : ℕ) → w ≡ what.Seg u
     → r ≡ list_any (λ row. list_any (λ x. is_going_descriptor x && not (is_uid u (leads_to x))) row) t.descriptors
     → Decides (not r) (DescriptorsAreNamed (custody_of t) w)
-descriptors_seg_decides t w r u e is = subst (λ (x : What). Decides (not r) (DescriptorsAreNamed (custody_of t) x)) (sym e) (all_go_decides t u r is)
+descriptors_seg_decides t w r u e is = subst (λ (x : What). Decides (not r) (DescriptorsAreNamed (custody_of t) x))
+    (sym e) (all_go_decides t u r is)

@@ -1,5 +1,6 @@
 -- What each entry changes in the tables (own).
-use Rattle.std.specs.Prelude.{◌≡◌, ◌<◌, ◌^◌, ◌+◌, ◌-◌, ℕ, Bool, true, false, not, ◌==◌, if◌then◌else◌, slice_set, replicate, length, drop, List, [], ◌∷◌, ◌++◌, Option, Some, None}
+use Rattle.std.specs.Prelude.{◌≡◌, ◌<◌, ◌^◌, ◌+◌, ◌-◌, ℕ, Bool, true, false, not, ◌==◌, if◌then◌else◌, slice_set}
+use Rattle.std.specs.Prelude.{replicate, length, drop, List, [], ◌∷◌, ◌++◌, Option, Some, None}
 use Rattle.std.specs.List.{filter}
 use Rattle.assoc_mem.specs.declared.What.{What}
 use Rattle.assoc_mem.specs.declared.What.TheVariants as what
@@ -11,7 +12,8 @@ use Rattle.book.specs.declared.replies.Reply.{Reply}
 use Rattle.tree_model.specs.Tree.{node_in}
 use Rattle.flat_model.specs.Store.{Store, known_uid}
 use Rattle.custody_model.specs.Allowed.{next_command}
-use Rattle.custody_model.specs.Custody.{Seat, bound_page, cut, filled, given_back, is_uid, leads_to, reconnected, taken, uid_of_page}
+use Rattle.custody_model.specs.Custody.{Seat, bound_page, cut, filled, given_back, is_uid, leads_to, reconnected}
+use Rattle.custody_model.specs.Custody.{taken, uid_of_page}
 use Rattle.custody_model.specs.Next.{is_try, queued, released_by}
 use Rattle.custody_model.specs.declared.FrameUse.{FrameUse}
 use Rattle.custody_model.specs.declared.FrameUse.TheVariants as frame
@@ -91,7 +93,14 @@ clear_at t d w = put_seat t d (record (dropped t.frames t.descriptors w (seat_at
 
 abbrev pub load_at : Tables → ℕ → ℕ → Tables
 load_at t d k =
-    record (put_seat t d (record (seat_at t.seats d) { process = Some k; count = 0; tried = false; segs = []; pages = [] })) {
+    record (put_seat t d (record (seat_at t.seats d) {
+      process = Some k;
+      count = 0;
+      tried = false;
+      segs = [];
+      pages =
+          [];
+    })) {
       ready = drop 1 t.ready;
     }
 
@@ -103,7 +112,11 @@ leave_at s t d =
 
 abbrev pub answer_at : Plan → Store → Tables → ℕ → ℕ → Option Command → Reply → Tables
 answer_at p s t d k command r =
-    record (put_seat t d (record (seat_at t.seats d) { count = (seat_at t.seats d).count + 1; tried = is_try s k command r })) {
+    record (put_seat t d (record (seat_at t.seats d) {
+      count = (seat_at t.seats d).count + 1;
+      tried =
+          is_try s k command r;
+    })) {
       ready = t.ready ++ released_by p k command;
     }
 
@@ -131,8 +144,10 @@ Advances p s t v (entry.Take f) = v ≡ put_frame t f (taken (frame_at t.frames 
 Advances p s t v (entry.Cut k n) = v ≡ put_descriptor t k n (cut (descriptor_at (row_at t.descriptors k) n))
 Advances p s t v (entry.Signal d w) = v ≡ drop_at (warn_others t d w) d w
 Advances p s t v (entry.Clear d w) = v ≡ clear_at t d w
-Advances p s t v (entry.FillSeg d n) = v ≡ put_seat t d (record (seat_at t.seats d) { segs = filled (seat_at t.seats d).segs n })
-Advances p s t v (entry.FillPage d f) = v ≡ put_seat t d (record (seat_at t.seats d) { pages = filled (seat_at t.seats d).pages f })
+Advances p s t v (entry.FillSeg d n) = v ≡ put_seat t d
+    (record (seat_at t.seats d) { segs = filled (seat_at t.seats d).segs n })
+Advances p s t v (entry.FillPage d f) = v ≡ put_seat t d
+    (record (seat_at t.seats d) { pages = filled (seat_at t.seats d).pages f })
 Advances p s t v (entry.GonePage f) = v ≡ put_frame t f frame.Free
 Advances p s t v (entry.BackPage f) = v ≡ put_frame t f (given_back (frame_at t.frames f))
 Advances p s t v (entry.GoneSeg k n) = v ≡ put_descriptor t k n descriptor.Free

@@ -1,9 +1,11 @@
 -- What the program of custody keeps, and the custody that this is (own).
-use Rattle.std.specs.Prelude.{◌≡◌, ◌<◌, ◌≤◌, ◌^◌, ◌+◌, ℕ, Bool, true, false, ◌==◌, is_some, slice_index_or, length, List, [], ◌∷◌, Option, Some, None, IfSome, IsSomeAnd}
+use Rattle.std.specs.Prelude.{◌≡◌, ◌<◌, ◌≤◌, ◌^◌, ◌+◌, ℕ, Bool, true, false, ◌==◌, is_some, slice_index_or, length}
+use Rattle.std.specs.Prelude.{List, [], ◌∷◌, Option, Some, None, IfSome, IsSomeAnd}
 use Rattle.std.specs.Prelude.{count_by}
 use Rattle.assoc_mem.specs.declared.What.{What}
 use Rattle.tree_model.specs.Tree.{Node, node_in, pool_of}
-use Rattle.custody_model.specs.Custody.{Custody, Seat, offline, is_going_frame, is_going_descriptor, names_frame, names_descriptor}
+use Rattle.custody_model.specs.Custody.{Custody, Seat, offline, is_going_frame, is_going_descriptor, names_frame}
+use Rattle.custody_model.specs.Custody.{names_descriptor}
 use Rattle.custody_model.specs.declared.FrameUse.{FrameUse}
 use Rattle.custody_model.specs.declared.DescriptorUse.{DescriptorUse}
 use Rattle.script.specs.Plans.{Plan}
@@ -114,7 +116,8 @@ pub record CanJoin (p : Plan) (t : Tables) (a : ActiveUse) : Type 0 where
 
 -- a truncation at this word keeps exactly the pages below a number
 abbrev pub AreKept : Words → ℕ → ℕ → ℕ → Type 0
-AreKept words u from kept = (q : ℕ) → (q < kept → is_lost words u from q ≡ false) × (is_lost words u from q ≡ false → q < kept)
+AreKept words u from kept = (q : ℕ) → (q < kept → is_lost words u from q ≡ false)
+    × (is_lost words u from q ≡ false → q < kept)
 
 -- ---- what is asked of the tables
 

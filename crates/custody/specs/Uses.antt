@@ -1,6 +1,7 @@
--- What frames and descriptors are used for, seen by what is counted of them: the segment, and whether it is on its way out
--- (own).
-use Rattle.std.specs.Prelude.{◌≡◌, ◌≤◌, ℕ, true, false, ◌&&◌, ◌==◌, nat_lt, if◌then◌else◌, sum_by, slice_index_or, length, List, Option, Some, None}
+-- What frames and descriptors are used for, seen by what is counted of them: the segment, and whether it is on its way
+-- out (own).
+use Rattle.std.specs.Prelude.{◌≡◌, ◌≤◌, ℕ, true, false, ◌&&◌, ◌==◌, nat_lt, if◌then◌else◌, sum_by, slice_index_or}
+use Rattle.std.specs.Prelude.{length, List, Option, Some, None}
 use Rattle.custody_model.specs.Custody.{page_of}
 use Rattle.custody_model.specs.declared.FrameUse.{FrameUse}
 use Rattle.custody_model.specs.declared.FrameUse.TheVariants as frame
@@ -41,7 +42,8 @@ abbrev pub kind_key : Option Mark → Option (ℕ × ℕ)
 kind_key None = None
 kind_key (Some m) = if m.going then Some (1, 0) else Some (0, 0)
 
--- the counts by segment, those of what is on its way out by segment, and those of what is on its way out and of what isn't
+-- the counts by segment, those of what is on its way out by segment, and those of what is on its way out and of what
+-- isn't
 pub record UseCounted : Type 0 where
   pub uids : Counted
   pub going : Counted

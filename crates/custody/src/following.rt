@@ -83,8 +83,8 @@ impl Custody {
 
     /// Goes on to the custody after an entry that is allowed in the flat store before it.
     ///
-    /// The tables must be those of the script, and each processor's count of command entries must have room for one more.
-    /// An entry costs a few searches in ordered maps, and at most a look at what each processor holds, or at the
+    /// The tables must be those of the script, and each processor's count of command entries must have room for one
+    /// more. An entry costs a few searches in ordered maps, and at most a look at what each processor holds, or at the
     /// processes that are ready.
     ///
     /// # Errors

@@ -123,7 +123,14 @@ impl SeatRow {
 
     /// It loads a process, and holds nothing.
     pub(crate) fn load(&mut self, process: u32)
-        ensures { self.new ≡ record self.old { process = Some process; count = 0; tried = false; segs = []; pages = [] } }
+        ensures { self.new ≡ record self.old {
+          process = Some process;
+          count = 0;
+          tried = false;
+          segs = [];
+          pages =
+              [];
+        } }
     {
         self.process = Some(process);
         self.count = 0;

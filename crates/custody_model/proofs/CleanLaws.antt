@@ -19,13 +19,19 @@ clean_from_push : (p : Plan) (s : Store) (c : Custody) (es : List Entry) (e : En
     → IsAllowed p (store_from p s es) (custody_from p s c es) e → IsCleanFrom p s c (es ++ e ∷ [])
 unfolding IsCleanFrom custody_from store_from
 clean_from_push p s c [] e clean allowed = (allowed, tt)
-clean_from_push p s c (d ∷ es) e clean allowed = (clean.0, clean_from_push p (after_entry p s d) (custody_next p s c d) es e clean.1 allowed)
+clean_from_push p s c (d ∷ es) e clean allowed = (
+  clean.0,
+  clean_from_push p (after_entry p s d) (custody_next p s c d)
+      es e clean.1 allowed,
+)
 
-pub custody_after-push : (p : Plan) (es : List Entry) (e : Entry) → custody_after p (es ++ e ∷ []) ≡ custody_next p (store_after p es) (custody_after p es) e
+pub custody_after-push : (p : Plan) (es : List Entry) (e : Entry) → custody_after p (es ++ e ∷ [])
+    ≡ custody_next p (store_after p es) (custody_after p es) e
 unfolding custody_after store_after
 custody_after-push p es e = custody_from-push p (boot p) (nothing_held p) es e
 
-pub clean_push : (p : Plan) (es : List Entry) (e : Entry) → IsClean p es → IsAllowed p (store_after p es) (custody_after p es) e → IsClean p (es ++ e ∷ [])
+pub clean_push : (p : Plan) (es : List Entry) (e : Entry) → IsClean p es
+    → IsAllowed p (store_after p es) (custody_after p es) e → IsClean p (es ++ e ∷ [])
 unfolding IsClean custody_after store_after
 clean_push p es e clean allowed = clean_from_push p (boot p) (nothing_held p) es e clean allowed
 

@@ -1,5 +1,6 @@
 -- What each entry of a clean book leaves: what processors hold stays current, or they are warned.
-use Rattle.std.proofs.Common.{◌≡◌, ◌≢◌, ℕ, Bool, true, false, not, ◌&&◌, ◌||◌, cond, eqb, List, [], ◌∷◌, ◌++◌, Option, Some, None, ◌+◌, refl, sym, ap, subst, ◌∙◌, inl, inr, ◌⊎◌, arith}
+use Rattle.std.proofs.Common.{◌≡◌, ◌≢◌, ℕ, Bool, true, false, not, ◌&&◌, ◌||◌, cond, eqb, List, [], ◌∷◌, ◌++◌, Option}
+use Rattle.std.proofs.Common.{Some, None, ◌+◌, refl, sym, ap, subst, ◌∙◌, inl, inr, ◌⊎◌, arith}
 use Rattle.std.specs.Prelude.{IsSomeAnd, drop, length, nat_le, if◌then◌else◌}
 use Rattle.std.specs.List.{filter}
 use Rattle.std.proofs.lemmas.Bool.Decides.{nat_tests, eqb_tells}
@@ -15,10 +16,14 @@ use Rattle.custody_model.specs.declared.FrameUse.{FrameUse}
 use Rattle.custody_model.specs.declared.FrameUse.TheVariants as frame
 use Rattle.custody_model.specs.declared.DescriptorUse.{DescriptorUse}
 use Rattle.custody_model.specs.declared.DescriptorUse.TheVariants as descriptor
-use Rattle.custody_model.specs.Custody.{Custody, Seat, has, is_current_frame, is_going_frame, is_current_descriptor, is_going_descriptor, names_frame, names_descriptor, names_number, is_started, taken, given_back, cut, reconnected, cleared, filled, nothing_held}
-use Rattle.custody_model.specs.Allowed.{IsAllowed, MayBeHere, MayTakeSeg, NobodyHoldsPage, NobodyHoldsSeg, NamesAllGoing, next_command}
+use Rattle.custody_model.specs.Custody.{Custody, Seat, has, is_current_frame, is_going_frame, is_current_descriptor}
+use Rattle.custody_model.specs.Custody.{is_going_descriptor, names_frame, names_descriptor, names_number, is_started}
+use Rattle.custody_model.specs.Custody.{taken, given_back, cut, reconnected, cleared, filled, nothing_held}
+use Rattle.custody_model.specs.Allowed.{IsAllowed, MayBeHere, MayTakeSeg, NobodyHoldsPage, NobodyHoldsSeg}
+use Rattle.custody_model.specs.Allowed.{NamesAllGoing, next_command}
 use Rattle.custody_model.specs.Fine.{Fine, IsFinePage, IsFineSeg, IsWarned, NoneDue, FillsOnline, pending_after}
-use Rattle.custody_model.specs.Next.{with_frame, with_descriptor, with_active, with_seat, signalled, answered_clear, queued, is_try, released_by, custody_next}
+use Rattle.custody_model.specs.Next.{with_frame, with_descriptor, with_active, with_seat, signalled, answered_clear}
+use Rattle.custody_model.specs.Next.{queued, is_try, released_by, custody_next}
 
 -- ---- lists
 
@@ -49,7 +54,8 @@ names_descriptor_same c e what.All k n h = refl
 names_descriptor_same c e (what.Page g) k n h = refl
 names_descriptor_same c e (what.Seg u) k n h = rw h refl
 
-warned : (b : Bool) (o p : Option What) (t u : What → Bool) → p ≡ o → ((w : What) → u w ≡ t w) → (b ≡ true) ⊎ IsSomeAnd o (λ w. t w ≡ true)
+warned : (b : Bool) (o p : Option What) (t u : What → Bool) → p ≡ o → ((w : What) → u w ≡ t w) → (b ≡ true)
+    ⊎ IsSomeAnd o (λ w. t w ≡ true)
     → (b ≡ true) ⊎ IsSomeAnd p (λ w. u w ≡ true)
 warned b o p t u e h (inl i) = inl i
 warned b o p t u e h (inr i) = inr (subst (λ (x : Option What). IsSomeAnd x (λ w. u w ≡ true)) (sym e) (each o i))
@@ -58,7 +64,8 @@ warned b o p t u e h (inr i) = inr (subst (λ (x : Option What). IsSomeAnd x (λ
     each None i = i
     each (Some w) i = h w ∙ i
 
-page_same : (c e : Custody) (b : Bool) (d f : ℕ) → e.frame f ≡ c.frame f → (e.seat d).due ≡ (c.seat d).due → IsFinePage c b d f → IsFinePage e b d f
+page_same : (c e : Custody) (b : Bool) (d f : ℕ) → e.frame f ≡ c.frame f → (e.seat d).due ≡ (c.seat d).due
+    → IsFinePage c b d f → IsFinePage e b d f
 page_same c e b d f h due (inl i) = inl (ap is_current_frame h ∙ i)
 page_same c e b d f h due (inr i) = inr (
   ap is_going_frame h ∙ i.0,
@@ -66,7 +73,8 @@ page_same c e b d f h due (inr i) = inr (
       (λ w. names_same c e w f h) i.1,
 )
 
-seg_same : (c e : Custody) (b : Bool) (d k n : ℕ) → e.descriptor k n ≡ c.descriptor k n → (e.seat d).due ≡ (c.seat d).due → IsFineSeg c b d k n
+seg_same : (c e : Custody) (b : Bool) (d k n : ℕ) → e.descriptor k n ≡ c.descriptor k n → (e.seat d).due
+    ≡ (c.seat d).due → IsFineSeg c b d k n
     → IsFineSeg e b d k n
 seg_same c e b d k n h due (inl i) = inl (ap is_current_descriptor h ∙ i)
 seg_same c e b d k n h due (inr i) = inr (
@@ -78,7 +86,8 @@ seg_same c e b d k n h due (inr i) = inr (
 -- ---- nobody holds
 
 -- a processor that holds a page table word of a frame knows it to be current or going
-pub nobody_holds_page : (c : Custody) (b : Bool) (f : ℕ) → Fine c b → is_current_frame (c.frame f) ≡ false → is_going_frame (c.frame f) ≡ false
+pub nobody_holds_page : (c : Custody) (b : Bool) (f : ℕ) → Fine c b → is_current_frame (c.frame f) ≡ false
+    → is_going_frame (c.frame f) ≡ false
     → NobodyHoldsPage c f
 nobody_holds_page c b f fine current going d = by_held (has (c.seat d).pages f) refl
   where
@@ -92,7 +101,11 @@ nobody_holds_seg c b k n fine current going d process = by_held (has (c.seat d).
   where
     by_held : (z : Bool) → has (c.seat d).segs n ≡ z → z ≡ false
     by_held false h = refl
-    by_held true h = elim (fine.seg d k n process h) [ inl i ↦ absurd (no_and i current) | inr i ↦ absurd (no_and i.0 going) ]
+    by_held true h = elim (fine.seg d k n process h) [
+      | inl i ↦ absurd (no_and i current)
+      | inr i ↦ absurd
+          (no_and i.0 going)
+    ]
 
 not_warned : (o : Option What) (t : What → Bool) → o ≡ None → (false ≡ true) ⊎ IsSomeAnd o (λ w. t w ≡ true) → ⊥
 not_warned o t none (inl i) = let no : false ≡ true = i in absurd cc
@@ -100,39 +113,51 @@ not_warned None t none (inr i) = i
 not_warned (Some w) t none (inr i) = let no : Some w ≡ None = none in absurd cc
 
 -- once the signal was given and nobody is to drop anything, nobody holds what is going
-pub nobody_holds_going_page : (c : Custody) (f : ℕ) → Fine c false → NoneDue c → is_current_frame (c.frame f) ≡ false → NobodyHoldsPage c f
+pub nobody_holds_going_page : (c : Custody) (f : ℕ) → Fine c false → NoneDue c → is_current_frame (c.frame f) ≡ false
+    → NobodyHoldsPage c f
 nobody_holds_going_page c f fine none current d = by_held (has (c.seat d).pages f) refl
   where
     by_held : (z : Bool) → has (c.seat d).pages f ≡ z → z ≡ false
     by_held false h = refl
-    by_held true h = elim (fine.page d f h)
-        [ inl i ↦ absurd (no_and i current) | inr i ↦ absurd (not_warned (c.seat d).due (λ w. names_frame c w f) (none d) i.1) ]
+    by_held true h = elim (fine.page d f h) [
+      | inl i ↦ absurd (no_and i current)
+      | inr i ↦ absurd
+          (not_warned (c.seat d).due (λ w. names_frame c w f) (none d) i.1)
+    ]
 
-pub nobody_holds_going_seg : (c : Custody) (k n : ℕ) → Fine c false → NoneDue c → is_current_descriptor (c.descriptor k n) ≡ false
+pub nobody_holds_going_seg : (c : Custody) (k n : ℕ) → Fine c false → NoneDue c
+    → is_current_descriptor (c.descriptor k n) ≡ false
     → NobodyHoldsSeg c k n
 nobody_holds_going_seg c k n fine none current d process = by_held (has (c.seat d).segs n) refl
   where
     by_held : (z : Bool) → has (c.seat d).segs n ≡ z → z ≡ false
     by_held false h = refl
-    by_held true h = elim (fine.seg d k n process h)
-        [ inl i ↦ absurd (no_and i current) | inr i ↦ absurd (not_warned (c.seat d).due (λ w. names_descriptor c w k n) (none d) i.1) ]
+    by_held true h = elim (fine.seg d k n process h) [
+      | inl i ↦ absurd (no_and i current)
+      | inr i ↦ absurd
+          (not_warned (c.seat d).due (λ w. names_descriptor c w k n) (none d) i.1)
+    ]
 
 -- ---- frames and descriptors that nobody holds
 
 -- a frame whose word nobody holds is used otherwise: started, lost, come into, gone or back
-pub frame_fine : (c : Custody) (b : Bool) (f : ℕ) (x : FrameUse) → Fine c b → NobodyHoldsPage c f → Fine (with_frame c f x) b
+pub frame_fine : (c : Custody) (b : Bool) (f : ℕ) (x : FrameUse) → Fine c b → NobodyHoldsPage c f
+    → Fine (with_frame c f x) b
 frame_fine c b f x fine nobody = record {
   page = λ d g h. page_same c (with_frame c f x) b d g
       (by_place g f x (c.frame g) (λ y. y ≡ c.frame g)
-      (λ e. absurd (no_and h (subst (λ (i : ℕ). has (c.seat d).pages i ≡ false) (sym e) (nobody d)))) (λ n. refl)) refl (fine.page d g h);
+      (λ e. absurd (no_and h (subst (λ (i : ℕ). has (c.seat d).pages i ≡ false) (sym e) (nobody d)))) (λ n. refl)) refl
+      (fine.page d g h);
   seg = λ d k n process h. fine.seg d k n process h;
   idle = fine.idle;
 }
 
-pub descriptor_fine : (c : Custody) (b : Bool) (k n : ℕ) (x : DescriptorUse) → Fine c b → NobodyHoldsSeg c k n → Fine (with_descriptor c k n x) b
+pub descriptor_fine : (c : Custody) (b : Bool) (k n : ℕ) (x : DescriptorUse) → Fine c b → NobodyHoldsSeg c k n
+    → Fine (with_descriptor c k n x) b
 descriptor_fine c b k n x fine nobody = record {
   page = λ d g h. fine.page d g h;
-  seg = λ d j m process h. seg_same c (with_descriptor c k n x) b d j m (other d j m process h) refl (fine.seg d j m process h);
+  seg = λ d j m process h. seg_same c (with_descriptor c k n x) b d j m (other d j m process h) refl
+      (fine.seg d j m process h);
   idle = fine.idle;
 }
   where
@@ -163,10 +188,12 @@ going_cut (descriptor.Current u) h = refl
 going_cut (descriptor.Going u) h = absurd (let no : false ≡ true = h in cc)
 
 -- a page is taken: its signal is still to come
-pub take_fine : (c : Custody) (b : Bool) (f : ℕ) → Fine c b → is_current_frame (c.frame f) ≡ true → Fine (with_frame c f (taken (c.frame f))) true
+pub take_fine : (c : Custody) (b : Bool) (f : ℕ) → Fine c b → is_current_frame (c.frame f) ≡ true
+    → Fine (with_frame c f (taken (c.frame f))) true
 take_fine c b f fine current = record {
   page = λ d g h. by_place g f (taken (c.frame f)) (c.frame g)
-      (λ x. (is_current_frame x ≡ true) ⊎ ((is_going_frame x ≡ true) × IsWarned (with_frame c f (taken (c.frame f))) true d
+      (λ x. (is_current_frame x ≡ true) ⊎ ((is_going_frame x ≡ true)
+      × IsWarned (with_frame c f (taken (c.frame f))) true d
       (λ w. names_frame (with_frame c f (taken (c.frame f))) w g)))
       (λ e. inr (going_taken (c.frame f) current, inl refl))
       (λ n. elim (fine.page d g h) [ inl i ↦ inl i | inr i ↦ inr (i.0, inl refl) ]);
@@ -204,15 +231,20 @@ pub record HoldsLess (old new : Seat) : Type 0 where
 seat_cases : (c : Custody) (d e : ℕ) (s : Seat) (P : Seat → Type 0) → P s → P (c.seat e) → P ((with_seat c d s).seat e)
 seat_cases c d e s P here other = by_place e d s (c.seat e) P (λ i. here) (λ i. other)
 
-pub less_fine : (c : Custody) (b : Bool) (d : ℕ) (s : Seat) → Fine c b → HoldsLess (c.seat d) s → Fine (with_seat c d s) b
+pub less_fine : (c : Custody) (b : Bool) (d : ℕ) (s : Seat) → Fine c b → HoldsLess (c.seat d) s
+    → Fine (with_seat c d s) b
 less_fine c b d s fine less = record {
   page = λ e f h. page_same c (with_seat c d s) b e f refl (due e) (fine.page e f (held_page e f h));
-  seg = λ e k n process h. seg_same c (with_seat c d s) b e k n refl (due e) (fine.seg e k n (its e k n process h) (held_seg e n h));
-  idle = λ e. by_place e d s (c.seat e) (λ x. x.online ≡ false → (x.segs ≡ []) × (x.pages ≡ [])) (λ i. less.idle) (λ i. fine.idle e);
+  seg = λ e k n process h. seg_same c (with_seat c d s) b e k n refl (due e)
+      (fine.seg e k n (its e k n process h) (held_seg e n h));
+  idle = λ e. by_place e d s (c.seat e) (λ x. x.online ≡ false → (x.segs ≡ []) × (x.pages ≡ [])) (λ i. less.idle)
+      (λ i. fine.idle e);
 }
   where
-    old : (e : ℕ) (P : Seat → Seat → Type 0) → P (c.seat d) s → P (c.seat e) (c.seat e) → P (c.seat e) (cond (eqb e d) s (c.seat e))
-    old e P here other = by_place e d s (c.seat e) (λ x. P (c.seat e) x) (λ i. subst (λ (j : ℕ). P (c.seat j) s) (sym i) here) (λ i. other)
+    old : (e : ℕ) (P : Seat → Seat → Type 0) → P (c.seat d) s → P (c.seat e) (c.seat e)
+        → P (c.seat e) (cond (eqb e d) s (c.seat e))
+    old e P here other = by_place e d s (c.seat e) (λ x. P (c.seat e) x)
+        (λ i. subst (λ (j : ℕ). P (c.seat j) s) (sym i) here) (λ i. other)
 
     due : (e : ℕ) → ((with_seat c d s).seat e).due ≡ (c.seat e).due
     due e = old e (λ x y. y.due ≡ x.due) less.due refl
@@ -223,8 +255,10 @@ less_fine c b d s fine less = record {
     held_seg : (e n : ℕ) → has ((with_seat c d s).seat e).segs n ≡ true → has (c.seat e).segs n ≡ true
     held_seg e n = old e (λ x y. has y.segs n ≡ true → has x.segs n ≡ true) (less.segs n) (λ h. h)
 
-    its : (e k n : ℕ) → ((with_seat c d s).seat e).process ≡ Some k → has ((with_seat c d s).seat e).segs n ≡ true → (c.seat e).process ≡ Some k
-    its e k n = old e (λ x y. y.process ≡ Some k → has y.segs n ≡ true → x.process ≡ Some k) (less.process k n) (λ process h. process)
+    its : (e k n : ℕ) → ((with_seat c d s).seat e).process ≡ Some k → has ((with_seat c d s).seat e).segs n ≡ true
+        → (c.seat e).process ≡ Some k
+    its e k n = old e (λ x y. y.process ≡ Some k → has y.segs n ≡ true → x.process ≡ Some k) (less.process k n)
+        (λ process h. process)
 
 -- a list with one more, of 16 the oldest gone: what it has is the new one, or was there
 has-filled : (xs : List ℕ) (x y : ℕ) → has (filled xs x) y ≡ true → (y ≡ x) ⊎ (has xs y ≡ true)
@@ -253,15 +287,19 @@ has-filled xs x y h = by_last (has (front xs) y) refl whole
     by_last false e w = inl (last (eqb x y) refl w)
 
 -- the newest entry of a processor is current, as it was where it held it already
-pub fill_page_fine : (c : Custody) (b : Bool) (d f : ℕ) → Fine c b → (c.seat d).online ≡ true → is_current_frame (c.frame f) ≡ true
+pub fill_page_fine : (c : Custody) (b : Bool) (d f : ℕ) → Fine c b → (c.seat d).online ≡ true
+    → is_current_frame (c.frame f) ≡ true
     → Fine (with_seat c d (record (c.seat d) { pages = filled (c.seat d).pages f })) b
 fill_page_fine c b d f fine online current = record {
   page = λ e g. by_place e d new (c.seat e) (λ x. has x.pages g ≡ true → IsFinePage next b e g)
-      (λ i h. subst (λ (j : ℕ). IsFinePage next b j g) (sym i) (here g h)) (λ n h. page_same c next b e g refl (same_due e) (fine.page e g h));
+      (λ i h. subst (λ (j : ℕ). IsFinePage next b j g) (sym i) (here g h))
+      (λ n h. page_same c next b e g refl (same_due e) (fine.page e g h));
   seg = λ e k n. by_place e d new (c.seat e) (λ x. x.process ≡ Some k → has x.segs n ≡ true → IsFineSeg next b e k n)
-      (λ i process h. subst (λ (j : ℕ). IsFineSeg next b j k n) (sym i) (seg_same c next b d k n refl (same_due d) (fine.seg d k n process h)))
+      (λ i process h. subst (λ (j : ℕ). IsFineSeg next b j k n) (sym i)
+      (seg_same c next b d k n refl (same_due d) (fine.seg d k n process h)))
       (λ m process h. seg_same c next b e k n refl (same_due e) (fine.seg e k n process h));
-  idle = λ e. by_place e d new (c.seat e) (λ x. x.online ≡ false → (x.segs ≡ []) × (x.pages ≡ [])) (λ i off. absurd (no_and online off))
+  idle = λ e. by_place e d new (c.seat e) (λ x. x.online ≡ false → (x.segs ≡ []) × (x.pages ≡ []))
+      (λ i off. absurd (no_and online off))
       (λ n. fine.idle e);
 }
   where
@@ -272,7 +310,8 @@ fill_page_fine c b d f fine online current = record {
     next = with_seat c d new
 
     same_due : (e : ℕ) → (next.seat e).due ≡ (c.seat e).due
-    same_due e = by_place e d new (c.seat e) (λ x. x.due ≡ (c.seat e).due) (λ i. ap (λ (j : ℕ). (c.seat j).due) (sym i)) (λ n. refl)
+    same_due e = by_place e d new (c.seat e) (λ x. x.due ≡ (c.seat e).due)
+        (λ i. ap (λ (j : ℕ). (c.seat j).due) (sym i)) (λ n. refl)
 
     here : (g : ℕ) → has (filled (c.seat d).pages f) g ≡ true → IsFinePage next b d g
     here g h = elim (has-filled (c.seat d).pages f g h) [
@@ -280,16 +319,20 @@ fill_page_fine c b d f fine online current = record {
       | inr held ↦ page_same c next b d g refl (same_due d) (fine.page d g held)
     ]
 
-pub fill_seg_fine : (c : Custody) (b : Bool) (d k n : ℕ) → Fine c b → (c.seat d).online ≡ true → (c.seat d).process ≡ Some k
-    → is_current_descriptor (c.descriptor k n) ≡ true → Fine (with_seat c d (record (c.seat d) { segs = filled (c.seat d).segs n })) b
+pub fill_seg_fine : (c : Custody) (b : Bool) (d k n : ℕ) → Fine c b → (c.seat d).online ≡ true → (c.seat d).process
+    ≡ Some k
+    → is_current_descriptor (c.descriptor k n) ≡ true → Fine
+    (with_seat c d (record (c.seat d) { segs = filled (c.seat d).segs n })) b
 fill_seg_fine c b d k n fine online its current = record {
   page = λ e g. by_place e d new (c.seat e) (λ x. has x.pages g ≡ true → IsFinePage next b e g)
-      (λ i h. subst (λ (j : ℕ). IsFinePage next b j g) (sym i) (page_same c next b d g refl (same_due d) (fine.page d g h)))
+      (λ i h. subst (λ (j : ℕ). IsFinePage next b j g) (sym i)
+      (page_same c next b d g refl (same_due d) (fine.page d g h)))
       (λ m h. page_same c next b e g refl (same_due e) (fine.page e g h));
   seg = λ e j m. by_place e d new (c.seat e) (λ x. x.process ≡ Some j → has x.segs m ≡ true → IsFineSeg next b e j m)
       (λ i process h. subst (λ (l : ℕ). IsFineSeg next b l j m) (sym i) (here j m process h))
       (λ o process h. seg_same c next b e j m refl (same_due e) (fine.seg e j m process h));
-  idle = λ e. by_place e d new (c.seat e) (λ x. x.online ≡ false → (x.segs ≡ []) × (x.pages ≡ [])) (λ i off. absurd (no_and online off))
+  idle = λ e. by_place e d new (c.seat e) (λ x. x.online ≡ false → (x.segs ≡ []) × (x.pages ≡ []))
+      (λ i off. absurd (no_and online off))
       (λ m. fine.idle e);
 }
   where
@@ -300,36 +343,48 @@ fill_seg_fine c b d k n fine online its current = record {
     next = with_seat c d new
 
     same_due : (e : ℕ) → (next.seat e).due ≡ (c.seat e).due
-    same_due e = by_place e d new (c.seat e) (λ x. x.due ≡ (c.seat e).due) (λ i. ap (λ (j : ℕ). (c.seat j).due) (sym i)) (λ m. refl)
+    same_due e = by_place e d new (c.seat e) (λ x. x.due ≡ (c.seat e).due)
+        (λ i. ap (λ (j : ℕ). (c.seat j).due) (sym i)) (λ m. refl)
 
     here : (j m : ℕ) → (c.seat d).process ≡ Some j → has (filled (c.seat d).segs n) m ≡ true → IsFineSeg next b d j m
     here j m process h = elim (has-filled (c.seat d).segs n m h) [
       | inl e ↦ let same : j ≡ k = cc (sym process ∙ its) in
-          inl (ap is_current_descriptor (ap (λ (x : ℕ). c.descriptor x m) same ∙ ap (λ (x : ℕ). c.descriptor k x) e) ∙ current)
+          inl (ap is_current_descriptor (ap (λ (x : ℕ). c.descriptor x m) same ∙ ap (λ (x : ℕ). c.descriptor k x) e)
+          ∙ current)
       | inr held ↦ seg_same c next b d j m refl (same_due d) (fine.seg d j m process held)
     ]
 
 -- ---- signals
 
-kept_page : (c : Custody) (w : What) (s : Seat) (f : ℕ) → has (cleared c w s).pages f ≡ true → (names_frame c w f ≡ false) × (has s.pages f ≡ true)
-kept_page c w s f h = let both = has-filter (λ g. not (names_frame c w g)) s.pages f h in (grind (arith, nat_tests), both.1)
+kept_page : (c : Custody) (w : What) (s : Seat) (f : ℕ) → has (cleared c w s).pages f ≡ true
+    → (names_frame c w f ≡ false) × (has s.pages f ≡ true)
+kept_page c w s f h = let both = has-filter (λ g. not (names_frame c w g)) s.pages f h in
+    (grind (arith, nat_tests), both.1)
 
 kept_seg : (c : Custody) (w : What) (s : Seat) (k n : ℕ) → s.process ≡ Some k → has (cleared c w s).segs n ≡ true
     → (names_descriptor c w k n ≡ false) × (has s.segs n ≡ true)
 kept_seg c w s k n process h =
     let both = has-filter (λ m. not (names_number c w s.process m)) s.segs n h in
-    let named : names_number c w s.process n ≡ names_descriptor c w k n = ap (λ (o : Option ℕ). names_number c w o n) process in
+    let named : names_number c w s.process n ≡ names_descriptor c w k n =
+    ap (λ (o : Option ℕ). names_number c w o n) process in
     (grind (arith, nat_tests), both.1)
 
-cleared_none : (c : Custody) (w : What) (s : Seat) → (s.segs ≡ []) × (s.pages ≡ []) → ((cleared c w s).segs ≡ []) × ((cleared c w s).pages ≡ [])
-cleared_none c w s h = (ap (filter (λ n. not (names_number c w s.process n))) h.0, ap (filter (λ f. not (names_frame c w f))) h.1)
+cleared_none : (c : Custody) (w : What) (s : Seat) → (s.segs ≡ []) × (s.pages ≡ []) → ((cleared c w s).segs ≡ [])
+    × ((cleared c w s).pages ≡ [])
+cleared_none c w s h = (
+  ap (filter (λ n. not (names_number c w s.process n))) h.0,
+  ap
+      (filter (λ f. not (names_frame c w f))) h.1,
+)
 
 -- a processor gives the signal: it holds nothing that is going, and every other one is warned of all that is
-pub signal_fine : (c : Custody) (b : Bool) (d : ℕ) (w : What) → Fine c b → NamesAllGoing c w → Fine (signalled c d w) false
+pub signal_fine : (c : Custody) (b : Bool) (d : ℕ) (w : What) → Fine c b → NamesAllGoing c w
+    → Fine (signalled c d w) false
 signal_fine c b d w fine all = record {
   page = λ e f. by_place e d (cleared c w (c.seat e)) (others e) (λ x. has x.pages f ≡ true → IsPage e f x.due)
       (λ i h. own_page e f (c.seat e).due h) (λ n. other_page e f);
-  seg = λ e k n. by_place e d (cleared c w (c.seat e)) (others e) (λ x. x.process ≡ Some k → has x.segs n ≡ true → IsSeg e k n x.due)
+  seg = λ e k n. by_place e d (cleared c w (c.seat e)) (others e)
+      (λ x. x.process ≡ Some k → has x.segs n ≡ true → IsSeg e k n x.due)
       (λ i process h. own_seg e k n (c.seat e).due process h) (λ m. other_seg e k n);
   idle = λ e. by_place e d (cleared c w (c.seat e)) (others e) (λ x. x.online ≡ false → (x.segs ≡ []) × (x.pages ≡ []))
       (λ i off. cleared_none c w (c.seat e) (fine.idle e off)) (λ n. other_idle e (c.seat e).online refl);
@@ -344,17 +399,22 @@ signal_fine c b d w fine all = record {
 
     IsSeg : ℕ → ℕ → ℕ → Option What → Type 0
     IsSeg e k n due = (is_current_descriptor (c.descriptor k n) ≡ true) ⊎
-        ((is_going_descriptor (c.descriptor k n) ≡ true) × ((false ≡ true) ⊎ IsSomeAnd due (λ v. names_descriptor c v k n ≡ true)))
+        ((is_going_descriptor (c.descriptor k n) ≡ true)
+        × ((false ≡ true) ⊎ IsSomeAnd due (λ v. names_descriptor c v k n ≡ true)))
 
     own_page : (e f : ℕ) (due : Option What) → has (cleared c w (c.seat e)).pages f ≡ true → IsPage e f due
     own_page e f due h =
         let kept = kept_page c w (c.seat e) f h in
         elim (fine.page e f kept.1) [ inl i ↦ inl i | inr i ↦ absurd (no_and (all.frames f i.0) kept.0) ]
 
-    own_seg : (e k n : ℕ) (due : Option What) → (c.seat e).process ≡ Some k → has (cleared c w (c.seat e)).segs n ≡ true → IsSeg e k n due
+    own_seg : (e k n : ℕ) (due : Option What) → (c.seat e).process ≡ Some k → has (cleared c w (c.seat e)).segs n
+        ≡ true → IsSeg e k n due
     own_seg e k n due process h =
         let kept = kept_seg c w (c.seat e) k n process h in
-        elim (fine.seg e k n process kept.1) [ inl i ↦ inl i | inr i ↦ absurd (no_and (all.descriptors k n i.0) kept.0) ]
+        elim (fine.seg e k n process kept.1) [
+          | inl i ↦ inl i
+          | inr i ↦ absurd (no_and (all.descriptors k n i.0) kept.0)
+        ]
 
     none_held : (xs : List ℕ) (x : ℕ) → xs ≡ [] → has xs x ≡ true → ⊥
     none_held xs x none h = no_and h (ap (λ (ys : List ℕ). has ys x) none)
@@ -362,7 +422,8 @@ signal_fine c b d w fine all = record {
     other_page : (e f : ℕ) → has (others e).pages f ≡ true → IsPage e f (others e).due
     other_page e f = by_online (c.seat e).online refl
       where
-        by_online : (z : Bool) → (c.seat e).online ≡ z → has (cond z (record (c.seat e) { due = Some w }) (c.seat e)).pages f ≡ true
+        by_online : (z : Bool) → (c.seat e).online ≡ z
+            → has (cond z (record (c.seat e) { due = Some w }) (c.seat e)).pages f ≡ true
             → IsPage e f (cond z (record (c.seat e) { due = Some w }) (c.seat e)).due
         by_online true on h = elim (fine.page e f h) [ inl i ↦ inl i | inr i ↦ inr (i.0, inr (all.frames f i.0)) ]
         by_online false off h = absurd (none_held (c.seat e).pages f (fine.idle e off).1 h)
@@ -370,19 +431,24 @@ signal_fine c b d w fine all = record {
     other_seg : (e k n : ℕ) → (others e).process ≡ Some k → has (others e).segs n ≡ true → IsSeg e k n (others e).due
     other_seg e k n = by_online (c.seat e).online refl
       where
-        by_online : (z : Bool) → (c.seat e).online ≡ z → (cond z (record (c.seat e) { due = Some w }) (c.seat e)).process ≡ Some k
+        by_online : (z : Bool) → (c.seat e).online ≡ z
+            → (cond z (record (c.seat e) { due = Some w }) (c.seat e)).process ≡ Some k
             → has (cond z (record (c.seat e) { due = Some w }) (c.seat e)).segs n ≡ true
             → IsSeg e k n (cond z (record (c.seat e) { due = Some w }) (c.seat e)).due
-        by_online true on process h = elim (fine.seg e k n process h) [ inl i ↦ inl i | inr i ↦ inr (i.0, inr (all.descriptors k n i.0)) ]
+        by_online true on process h = elim (fine.seg e k n process h)
+            [ inl i ↦ inl i | inr i ↦ inr (i.0, inr (all.descriptors k n i.0)) ]
         by_online false off process h = absurd (none_held (c.seat e).segs n (fine.idle e off).0 h)
 
-    other_idle : (e : ℕ) (z : Bool) → (c.seat e).online ≡ z → (cond z (record (c.seat e) { due = Some w }) (c.seat e)).online ≡ false
-        → ((cond z (record (c.seat e) { due = Some w }) (c.seat e)).segs ≡ []) × ((cond z (record (c.seat e) { due = Some w }) (c.seat e)).pages ≡ [])
+    other_idle : (e : ℕ) (z : Bool) → (c.seat e).online ≡ z
+        → (cond z (record (c.seat e) { due = Some w }) (c.seat e)).online ≡ false
+        → ((cond z (record (c.seat e) { due = Some w }) (c.seat e)).segs ≡ [])
+        × ((cond z (record (c.seat e) { due = Some w }) (c.seat e)).pages ≡ [])
     other_idle e true on off = absurd (no_and on off)
     other_idle e false on off = fine.idle e off
 
 -- a processor that was to drop what is named has dropped it
-pub clear_fine : (c : Custody) (b : Bool) (d : ℕ) (w : What) → Fine c b → (c.seat d).due ≡ Some w → Fine (answered_clear c d w) b
+pub clear_fine : (c : Custody) (b : Bool) (d : ℕ) (w : What) → Fine c b → (c.seat d).due ≡ Some w
+    → Fine (answered_clear c d w) b
 clear_fine c b d w fine its = record {
   page = λ e f. by_place e d new (c.seat e) (λ x. has x.pages f ≡ true → IsFinePage next b e f)
       (λ i h. subst (λ (j : ℕ). IsFinePage next b j f) (sym i) (here_page f h))
@@ -413,12 +479,21 @@ clear_fine c b d w fine its = record {
     here_page : (f : ℕ) → has (cleared c w (c.seat d)).pages f ≡ true → IsFinePage next b d f
     here_page f h =
         let kept = kept_page c w (c.seat d) f h in
-        elim (fine.page d f kept.1) [ inl i ↦ inl i | inr i ↦ inr (i.0, inl (warned_still (λ v. names_frame c v f) kept.0 i.1)) ]
+        elim (fine.page d f kept.1) [
+          | inl i ↦ inl i
+          | inr i ↦ inr
+              (i.0, inl (warned_still (λ v. names_frame c v f) kept.0 i.1))
+        ]
 
-    here_seg : (k n : ℕ) → (c.seat d).process ≡ Some k → has (cleared c w (c.seat d)).segs n ≡ true → IsFineSeg next b d k n
+    here_seg : (k n : ℕ) → (c.seat d).process ≡ Some k → has (cleared c w (c.seat d)).segs n ≡ true
+        → IsFineSeg next b d k n
     here_seg k n process h =
         let kept = kept_seg c w (c.seat d) k n process h in
-        elim (fine.seg d k n process kept.1) [ inl i ↦ inl i | inr i ↦ inr (i.0, inl (warned_still (λ v. names_descriptor c v k n) kept.0 i.1)) ]
+        elim (fine.seg d k n process kept.1) [
+          | inl i ↦ inl i
+          | inr i ↦ inr
+              (i.0, inl (warned_still (λ v. names_descriptor c v k n) kept.0 i.1))
+        ]
 
 -- ---- all entries
 
@@ -467,43 +542,64 @@ started_is_no_other (frame.Started u q) h = (refl, refl)
 started_is_no_other (frame.Current u q) h = absurd (let no : false ≡ true = h in cc)
 started_is_no_other (frame.Going u q) h = absurd (let no : false ≡ true = h in cc)
 
-free_fine : (c : Custody) (b : Bool) (f : ℕ) (x : FrameUse) → Fine c b → c.frame f ≡ frame.Free → Fine (with_frame c f x) b
-free_fine c b f x fine free = frame_fine c b f x fine (nobody_holds_page c b f fine (ap is_current_frame free) (ap is_going_frame free))
+free_fine : (c : Custody) (b : Bool) (f : ℕ) (x : FrameUse) → Fine c b → c.frame f ≡ frame.Free
+    → Fine (with_frame c f x) b
+free_fine c b f x fine free = frame_fine c b f x fine (nobody_holds_page c b f fine (ap is_current_frame free)
+    (ap is_going_frame free))
 
-here_fine : (p : Plan) (c : Custody) (b : Bool) (f u q : ℕ) → Fine c b → MayBeHere p c f u q → Fine (with_frame c f (frame.Current u q)) b
+here_fine : (p : Plan) (c : Custody) (b : Bool) (f u q : ℕ) → Fine c b → MayBeHere p c f u q
+    → Fine (with_frame c f (frame.Current u q)) b
 here_fine p c b f u q fine (inl was) = frame_fine c b f (frame.Current u q) fine
     (nobody_holds_page c b f fine (ap is_current_frame was.started) (ap is_going_frame was.started))
 here_fine p c b f u q fine (inr may) = free_fine c b f (frame.Current u q) fine may.free
 
-lost_fine : (c : Custody) (b : Bool) (f : ℕ) → Fine c b → is_started (c.frame f) ≡ true → Fine (with_frame c f frame.Free) b
+lost_fine : (c : Custody) (b : Bool) (f : ℕ) → Fine c b → is_started (c.frame f) ≡ true
+    → Fine (with_frame c f frame.Free) b
 lost_fine c b f fine started = let other = started_is_no_other (c.frame f) started in
     frame_fine c b f frame.Free fine (nobody_holds_page c b f fine other.0 other.1)
 
-its_process : (c : Custody) (b : Bool) (d n : ℕ) (o : Option ℕ) → (c.seat d).process ≡ o → Fine c b → (c.seat d).online ≡ true
+its_process : (c : Custody) (b : Bool) (d n : ℕ) (o : Option ℕ) → (c.seat d).process ≡ o → Fine c b → (c.seat d).online
+    ≡ true
     → IsSomeAnd o (MayTakeSeg c (c.seat d) n)
     → Fine (with_seat c d (record (c.seat d) { segs = filled (c.seat d).segs n })) b
 its_process c b d n None e fine online may = absurd may
 its_process c b d n (Some k) e fine online may = fill_seg_fine c b d k n fine online e may.current
 
 -- Each entry that is allowed leaves what processors hold fine, where only those that take part fill their memories.
-pub fine_next : (p : Plan) (s : Store) (c : Custody) (b : Bool) (e : Entry) → Fine c b → IsAllowed p s c e → FillsOnline c e
+pub fine_next : (p : Plan) (s : Store) (c : Custody) (b : Bool) (e : Entry) → Fine c b → IsAllowed p s c e
+    → FillsOnline c e
     → Fine (custody_next p s c e) (pending_after b e)
 unfolding custody_next
 fine_next p s c b (entry.Do k i d f r) fine may online =
-    ready_fine (with_seat c d (record (c.seat d) { count = (c.seat d).count + 1; tried = is_try s k (next_command p s k) r })) b
+    ready_fine (with_seat c d (record (c.seat d) {
+      count = (c.seat d).count + 1;
+      tried =
+          is_try s k (next_command p s k) r;
+    })) b
     (c.ready ++ released_by p k (next_command p s k))
-    (less_fine c b d (record (c.seat d) { count = (c.seat d).count + 1; tried = is_try s k (next_command p s k) r }) fine
+    (less_fine c b d (record (c.seat d) { count = (c.seat d).count + 1; tried = is_try s k (next_command p s k) r })
+    fine
     (counted (c.seat d) ((c.seat d).count + 1) (is_try s k (next_command p s k) r) (fine.idle d)))
 fine_next p s c b (entry.Release u q) fine may online = fine
 fine_next p s c b (entry.Fault k) fine may online = fine
-fine_next p s c b (entry.Online d) fine may online = less_fine c b d (record (c.seat d) { online = true }) fine (come_online (c.seat d))
+fine_next p s c b (entry.Online d) fine may online = less_fine c b d (record (c.seat d) { online = true }) fine
+    (come_online (c.seat d))
 fine_next p s c b (entry.Load d k) fine may online =
-    ready_fine (with_seat c d (record (c.seat d) { process = Some k; count = 0; tried = false; segs = []; pages = [] })) b (drop 1 c.ready)
+    ready_fine (with_seat c d (record (c.seat d) {
+      process = Some k;
+      count = 0;
+      tried = false;
+      segs = [];
+      pages =
+          [];
+    })) b (drop 1 c.ready)
     (less_fine c b d (record (c.seat d) { process = Some k; count = 0; tried = false; segs = []; pages = [] }) fine
     (emptied (c.seat d) (Some k) 0 false))
 fine_next p s c b (entry.Leave d) fine may online =
-    ready_fine (with_seat c d (record (c.seat d) { process = None; segs = []; pages = [] })) b (queued s c.ready (c.seat d).process)
-    (less_fine c b d (record (c.seat d) { process = None; segs = []; pages = [] }) fine (emptied (c.seat d) None (c.seat d).count (c.seat d).tried))
+    ready_fine (with_seat c d (record (c.seat d) { process = None; segs = []; pages = [] })) b
+    (queued s c.ready (c.seat d).process)
+    (less_fine c b d (record (c.seat d) { process = None; segs = []; pages = [] }) fine
+    (emptied (c.seat d) None (c.seat d).count (c.seat d).tried))
 fine_next p s c b (entry.Activate u) fine may online = active_fine c b u true fine
 fine_next p s c b (entry.Deactivate u) fine may online = active_fine c b u false fine
 fine_next p s c b (entry.Start f u q) fine may online = free_fine c b f (frame.Started u q) fine may.free
@@ -521,7 +617,8 @@ fine_next p s c b (entry.FillPage d f) fine may online = fill_page_fine c b d f 
 fine_next p s c b (entry.GonePage f) fine may online = frame_fine c b f frame.Free fine may.nobody
 fine_next p s c b (entry.BackPage f) fine may online = frame_fine c b f (given_back (c.frame f)) fine may.nobody
 fine_next p s c b (entry.GoneSeg k n) fine may online = descriptor_fine c b k n descriptor.Free fine may.nobody
-fine_next p s c b (entry.BackSeg k n) fine may online = descriptor_fine c b k n (reconnected (c.descriptor k n)) fine may.nobody
+fine_next p s c b (entry.BackSeg k n) fine may online =
+    descriptor_fine c b k n (reconnected (c.descriptor k n)) fine may.nobody
 
 -- at first nobody holds anything
 pub fine_first : (p : Plan) → Fine (nothing_held p) false

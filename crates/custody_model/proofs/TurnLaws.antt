@@ -10,7 +10,8 @@ use Rattle.custody_model.specs.Custody.{Custody, Seat, cleared}
 use Rattle.custody_model.specs.Next.{custody_next, at_put, told}
 
 -- a seat that is put counts so
-put_count : (c : Custody) (d i : ℕ) (x : Seat) → x.count ≤ (c.seat i).count + 1 → (at_put c.seat i x d).count ≤ (c.seat d).count + 1
+put_count : (c : Custody) (d i : ℕ) (x : Seat) → x.count ≤ (c.seat i).count + 1
+    → (at_put c.seat i x d).count ≤ (c.seat d).count + 1
 put_count c d i x h = elim (eqb_tells d i) [
   | inl e ↦
       (let a : (at_put c.seat i x d).count ≡ x.count = ap (λ (b : Bool). (cond b x (c.seat d)).count) e.0 in
@@ -24,12 +25,14 @@ put_count c d i x h = elim (eqb_tells d i) [
 told_count : (c : Custody) (i : ℕ) (w : What) (d : ℕ) → (told c i w d (c.seat d)).count ≡ (c.seat d).count
 told_count c i w d = by (eqb d i) (c.seat d).online
   where
-    by : (b o : Bool) → (cond b (cleared c w (c.seat d)) (cond o (record (c.seat d) { due = Some w }) (c.seat d))).count ≡ (c.seat d).count
+    by : (b o : Bool) → (cond b (cleared c w (c.seat d))
+        (cond o (record (c.seat d) { due = Some w }) (c.seat d))).count ≡ (c.seat d).count
     by true o = refl
     by false true = refl
     by false false = refl
 
-pub count_next : (p : Plan) (s : Store) (c : Custody) (e : Entry) (d : ℕ) → ((custody_next p s c e).seat d).count ≤ (c.seat d).count + 1
+pub count_next : (p : Plan) (s : Store) (c : Custody) (e : Entry) (d : ℕ)
+    → ((custody_next p s c e).seat d).count ≤ (c.seat d).count + 1
 unfolding custody_next
 count_next p s c (entry.Do k i j f r) d = put_count c d j _ (omega arith)
 count_next p s c (entry.Online j) d = put_count c d j _ (omega arith)

@@ -1,5 +1,6 @@
 -- Which entries of a book custody allows, by the flat store before the entry (Bensoussan, Clingen and Daley 1972).
-use Rattle.std.specs.Prelude.{◌≡◌, ◌≢◌, ◌<◌, ◌≤◌, ℕ, ◌/◌, Bool, true, false, ◌&&◌, not, ◌==◌, count_by, slice_index, List, [], ◌∷◌, Option, Some, None, IfSome, IsSomeAnd, ◌⊎◌}
+use Rattle.std.specs.Prelude.{◌≡◌, ◌≢◌, ◌<◌, ◌≤◌, ℕ, ◌/◌, Bool, true, false, ◌&&◌, not, ◌==◌, count_by, slice_index}
+use Rattle.std.specs.Prelude.{List, [], ◌∷◌, Option, Some, None, IfSome, IsSomeAnd, ◌⊎◌}
 use Rattle.assoc_mem.specs.declared.What.{What}
 use Rattle.script.specs.Plans.{Plan, command_at}
 use Rattle.script.specs.References.{reference_of}
@@ -15,7 +16,8 @@ use Rattle.flat_model.specs.Pages.{is_stored}
 use Rattle.flat_model.specs.Store.{Store, known_uid, progress_of}
 use Rattle.custody_model.specs.declared.FrameUse.TheVariants as frame
 use Rattle.custody_model.specs.declared.DescriptorUse.TheVariants as descriptor
-use Rattle.custody_model.specs.Custody.{Custody, Seat, bound_page, is_started, is_current_frame, is_going_frame, is_current_descriptor, is_going_descriptor, has, names_frame, names_descriptor}
+use Rattle.custody_model.specs.Custody.{Custody, Seat, bound_page, is_started, is_current_frame, is_going_frame}
+use Rattle.custody_model.specs.Custody.{is_current_descriptor, is_going_descriptor, has, names_frame, names_descriptor}
 use Rattle.custody_model.specs.Effects.{HasNoPage, HasNoDescriptor, IsInNoFrame, MayTakeEffect}
 
 -- ---- processors and processes
@@ -171,7 +173,8 @@ abbrev pub IsPageAt : Option ℕ → ℕ → Option (ℕ × ℕ) → Type 0
 IsPageAt known offset None = ⊥
 IsPageAt known offset (Some x) = (known ≡ Some x.0) × (x.1 ≡ offset / 1024)
 
--- a reference goes through a frame: the processor holds the descriptor and the page table word, and the frame has the page
+-- a reference goes through a frame: the processor holds the descriptor and the page table word, and the frame has the
+-- page
 pub record MayGoThrough (s : Store) (c : Custody) (d k f : ℕ) (r : Reference) (given : Reply) : Type 0 where
   pub segment : has (c.seat d).segs r.number ≡ true
   pub page : has (c.seat d).pages f ≡ true
@@ -191,7 +194,8 @@ abbrev pub is_effective : Plan → Store → ℕ → Command → Reply → Bool
 is_effective p s k command given = takes_effect (reply_to_command p s k command) && not (is_device given)
 
 -- a tree command goes through no frame; where it takes effect, what it takes away is out of use
-pub record MayChangeTree (p : Plan) (s : Store) (c : Custody) (k : ℕ) (f : Option ℕ) (command : Command) (given : Reply) : Type 0 where
+pub record MayChangeTree (p : Plan) (s : Store) (c : Custody) (k : ℕ) (f : Option ℕ) (command : Command)
+    (given : Reply) : Type 0 where
   pub without : f ≡ None
   pub out : is_effective p s k command given ≡ true → MayTakeEffect s c k command
 

@@ -1,6 +1,8 @@
--- Who holds which entry: the active segments, what frames and descriptors are used for, the ready processes, and what each
--- processor holds in its associative memory (Bensoussan, Clingen and Daley 1972; the ready list and the 16 places are own).
-use Rattle.std.specs.Prelude.{ℕ, zero, suc, ◌+◌, Bool, true, false, not, ◌==◌, nat_le, if◌then◌else◌, List, [], ◌∷◌, ◌++◌, length, drop, Option, Some, None}
+-- Who holds which entry: the active segments, what frames and descriptors are used for, the ready processes, and what
+-- each processor holds in its associative memory (Bensoussan, Clingen and Daley 1972; the ready list and the 16 places
+-- are own).
+use Rattle.std.specs.Prelude.{ℕ, zero, suc, ◌+◌, Bool, true, false, not, ◌==◌, nat_le, if◌then◌else◌, List, [], ◌∷◌}
+use Rattle.std.specs.Prelude.{◌++◌, length, drop, Option, Some, None}
 use Rattle.std.specs.List.{filter, list_any}
 use Rattle.assoc_mem.specs.declared.What.{What}
 use Rattle.assoc_mem.specs.declared.What.TheVariants as what
@@ -10,9 +12,9 @@ use Rattle.custody_model.specs.declared.FrameUse.TheVariants as frame
 use Rattle.custody_model.specs.declared.DescriptorUse.{DescriptorUse}
 use Rattle.custody_model.specs.declared.DescriptorUse.TheVariants as descriptor
 
--- A processor: whether it takes part; its process; how many command entries it made since it loaded that, and whether the
--- last of them was a try that didn't end its `await`; what it is to drop; the numbers of the descriptors and the frames of
--- the page table words that it holds, the oldest fill first.
+-- A processor: whether it takes part; its process; how many command entries it made since it loaded that, and whether
+-- the last of them was a try that didn't end its `await`; what it is to drop; the numbers of the descriptors and the
+-- frames of the page table words that it holds, the oldest fill first.
 pub record Seat : Type 0 where
   pub online : Bool
   pub process : Option ℕ
@@ -23,8 +25,8 @@ pub record Seat : Type 0 where
   pub pages : List ℕ
 
 -- For each uid whether it is active; for each frame what it is used for; for each process and segment number what the
--- descriptor leads to; the processes that are ready, the first to run in front; the processors. Past the last of a script
--- a frame and a descriptor are free, and a processor is offline.
+-- descriptor leads to; the processes that are ready, the first to run in front; the processors. Past the last of a
+-- script a frame and a descriptor are free, and a processor is offline.
 pub record Custody : Type 0 where
   pub active : ℕ → Bool
   pub frame : ℕ → FrameUse

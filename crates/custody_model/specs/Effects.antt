@@ -1,5 +1,5 @@
--- What must be in no frame and not connected where a command takes effect: what the command takes away from its users first
--- (Bensoussan, Clingen and Daley 1972).
+-- What must be in no frame and not connected where a command takes effect: what the command takes away from its users
+-- first (Bensoussan, Clingen and Daley 1972).
 use Rattle.std.specs.Prelude.{◌≡◌, ◌≢◌, ℕ, false, Some, Result, Ok, Err}
 use Rattle.script.specs.declared.commands.Command.{Command}
 use Rattle.script.specs.declared.commands.Command.TheVariants as command
@@ -37,10 +37,11 @@ pub record IsOutOfUse (c : Custody) (u : ℕ) : Type 0 where
 
 -- the pages that a `truncate` takes from a segment are in no frame
 abbrev pub LosesNoPage : Store → Custody → ℕ → ℕ → Type 0
-LosesNoPage s c u from = (f q : ℕ) → page_of (c.frame f) ≡ Some (u, q) → is_lost (without_words s.words u from) u from q ≡ false
+LosesNoPage s c u from = (f q : ℕ) → page_of (c.frame f) ≡ Some (u, q)
+    → is_lost (without_words s.words u from) u from q ≡ false
 
--- what each command needs out of use: `acl` the segment's descriptors, `terminate` that descriptor, `end` all descriptors of
--- the process, `delete` the node, `length` the segment's page table, `truncate` the pages that are lost
+-- what each command needs out of use: `acl` the segment's descriptors, `terminate` that descriptor, `end` all
+-- descriptors of the process, `delete` the node, `length` the segment's page table, `truncate` the pages that are lost
 abbrev pub MayTakeEffect : Store → Custody → ℕ → Command → Type 0
 MayTakeEffect s c k (command.Acl path row m) = OfNode (λ n. HasNoDescriptor c n.uid) (segment_at s.nodes path)
 MayTakeEffect s c k (command.Terminate number) = c.descriptor k number ≡ descriptor.Free

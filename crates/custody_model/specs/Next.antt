@@ -1,5 +1,6 @@
 -- What each entry changes in custody.
-use Rattle.std.specs.Prelude.{ℕ, ◌+◌, ◌-◌, Bool, true, false, ◌&&◌, ◌==◌, if◌then◌else◌, List, [], ◌∷◌, ◌++◌, length, drop, Option, Some, None}
+use Rattle.std.specs.Prelude.{ℕ, ◌+◌, ◌-◌, Bool, true, false, ◌&&◌, ◌==◌, if◌then◌else◌, List, [], ◌∷◌, ◌++◌, length}
+use Rattle.std.specs.Prelude.{drop, Option, Some, None}
 use Rattle.assoc_mem.specs.declared.What.{What}
 use Rattle.script.specs.Plans.{Plan}
 use Rattle.script.specs.declared.commands.Command.{Command}
@@ -36,7 +37,8 @@ with_seat c d x = record c { seat = at_put c.seat d x }
 
 -- a process is loaded: it is ready no more, and its processor holds nothing
 abbrev pub loaded : Custody → ℕ → ℕ → Custody
-loaded c d k = record (with_seat c d (record (c.seat d) { process = Some k; count = 0; tried = false; segs = []; pages = [] })) { ready = drop 1 c.ready }
+loaded c d k = record (with_seat c d (record (c.seat d)
+    { process = Some k; count = 0; tried = false; segs = []; pages = [] })) { ready = drop 1 c.ready }
 
 -- a process that hasn't ended goes to the back of the ready list
 abbrev pub queued : Store → List ℕ → Option ℕ → List ℕ
@@ -44,7 +46,8 @@ queued s ready None = ready
 queued s ready (Some k) = if (progress_of s k).ended then ready else ready ++ k ∷ []
 
 abbrev pub left : Store → Custody → ℕ → Custody
-left s c d = record (with_seat c d (record (c.seat d) { process = None; segs = []; pages = [] })) { ready = queued s c.ready (c.seat d).process }
+left s c d = record (with_seat c d (record (c.seat d) { process = None; segs = []; pages = [] }))
+    { ready = queued s c.ready (c.seat d).process }
 
 -- a processor drops what is named, and every other one that takes part is to drop it
 abbrev pub told : Custody → ℕ → What → ℕ → Seat → Seat
@@ -64,7 +67,8 @@ is_try s k (Some command) r = tries_on (progress_of s k) command r
 -- the end of the initializer makes the other processes ready, in order
 abbrev pub released_by : Plan → ℕ → Option Command → List ℕ
 released_by p k None = []
-released_by p k (Some command) = if is_end command && (p.initializer && k == 0) then range 1 (length p.processes - 1) else []
+released_by p k (Some command) = if is_end command && (p.initializer && k == 0) then range 1 (length p.processes - 1)
+    else []
 
 abbrev pub answered : Plan → Store → Custody → ℕ → ℕ → Option Command → Reply → Custody
 answered p s c d k command r =

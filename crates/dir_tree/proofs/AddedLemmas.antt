@@ -1,9 +1,11 @@
 -- What a new branch leaves of the tables behind a tree.
-use Rattle.std.proofs.Common.{◌≡◌, ◌≢◌, ℕ, ◌+◌, ◌-◌, ◌<◌, ◌≤◌, true, eqb, if◌then◌else◌, List, [], ◌∷◌, ◌++◌, length, take, Option, Some, None, refl, sym, ap}
+use Rattle.std.proofs.Common.{◌≡◌, ◌≢◌, ℕ, ◌+◌, ◌-◌, ◌<◌, ◌≤◌, true, eqb, if◌then◌else◌, List, [], ◌∷◌, ◌++◌, length}
+use Rattle.std.proofs.Common.{take, Option, Some, None, refl, sym, ap}
 use Rattle.std.proofs.Common.{subst, ◌∙◌, arith, get_or, inl, inr, ◌⊎◌}
 use Rattle.std.specs.Prelude.{◌↔◌}
 use Rattle.std.proofs.lemmas.Bool.{cases_eq, cases_lt, eq-eqb, ne_eqb}
-use Rattle.std.proofs.lemmas.List.{length-map, length_push, get_or_append_left, get_or_push, get_or-take, length-take-le}
+use Rattle.std.proofs.lemmas.List.{length-map, length_push, get_or_append_left, get_or_push, get_or-take}
+use Rattle.std.proofs.lemmas.List.{length-take-le}
 use Rattle.dir_tree.specs.declared.node.Node.{Node}
 use Rattle.dir_tree.specs.declared.entries.Entry.{Entry}
 use Rattle.dir_tree.specs.Index.{Places, HasPlace, IsSorted, AreWithin, key_of, key_at, node_at}
@@ -18,7 +20,8 @@ use Rattle.dir_tree.specs.Laws.{directory_shape}
 use Rattle.dir_tree.proofs.IndexLemmas.{key_branch}
 use Rattle.tree_model.specs.Tree.{branch_in}
 
-module _ {nodes : List Node} {es : List Entry} {free : List ℕ} {index : Places} {next : ℕ} (k : IsKept nodes es free index next) (place : ℕ)
+module _ {nodes : List Node} {es : List Entry} {free : List ℕ} {index : Places} {next : ℕ}
+    (k : IsKept nodes es free index next) (place : ℕ)
     (is_place : place ≡ place_for nodes free) where
   -- the place of a new node is no entry's
   pub place_unused : (j : ℕ) → j < length es → (entry_at es j).place ≢ place
@@ -52,7 +55,8 @@ module _ {nodes : List Node} {es : List Entry} {free : List ℕ} {index : Places
   module _ (nodes' : List Node) (others : (p : ℕ) → p ≢ place → node_at nodes' p ≡ node_at nodes p)
       (grown : length nodes' ≡ (if eqb (length free) 0 then length nodes + 1 else length nodes)) where
     old_key : (i : ℕ) → i < length index.places → key_at nodes' index.places i ≡ key_at nodes index.places i
-    old_key i lt = ap key_of (others (get_or index.places i 0) (λ e. no_place_yet (record { at = i; within = lt; is = e })))
+    old_key i lt = ap key_of (others (get_or index.places i 0)
+        (λ e. no_place_yet (record { at = i; within = lt; is = e })))
 
     pub sorted_still : IsSorted nodes' index.places
     sorted_still i j lt in_j = rw (old_key i (omega arith), old_key j in_j) (k.sorted i j lt in_j)
@@ -77,20 +81,27 @@ module _ {nodes : List Node} {es : List Entry} {free : List ℕ} {index : Places
     ]
 
     -- no branch that is there has its key
-    pub new_key : (s : ℕ) (n : Node) → node_at nodes' place ≡ n → n.superior ≡ Some s → branch_in (shapes (newest nodes es)) s n.name ≡ None
+    pub new_key : (s : ℕ) (n : Node) → node_at nodes' place ≡ n → n.superior ≡ Some s
+        → branch_in (shapes (newest nodes es)) s n.name ≡ None
         → (i : ℕ) → i < length index.places → key_at nodes' index.places i ≢ key_of (node_at nodes' place)
     new_key s n here up none i lt e =
-        (let same : key_at nodes index.places i ≡ (Some s, n.name) = sym (old_key i lt) ∙ e ∙ ap key_of here ∙ ap (λ (o : Option ℕ). (o, n.name)) up in
+        (let same : key_at nodes index.places i ≡ (Some s, n.name) = sym (old_key i lt) ∙ e ∙ ap key_of here
+        ∙ ap (λ (o : Option ℕ). (o, n.name)) up in
         no_place k s n.name none (get_or index.places i 0) (record { at = i; within = lt; is = refl })
         (key_branch s n.name (node_at nodes (get_or index.places i 0)) same))
 
-module _ {nodes : List Node} {es : List Entry} {free : List ℕ} {index : Places} {next : ℕ} (k : IsKept nodes es free index next) (s : ℕ) (n : Node)
+module _ {nodes : List Node} {es : List Entry} {free : List ℕ} {index : Places} {next : ℕ}
+    (k : IsKept nodes es free index next) (s : ℕ) (n : Node)
     (nodes' : List Node) (free' : List ℕ) (index' : Places) (place : ℕ)
     (n_uid : n.uid ≡ next) (n_superior : n.superior ≡ Some s)
-    (directory : is_directory (newest nodes es) s ≡ true) (may : add_fault_of (shapes (newest nodes es)) s n.name n.dir ≡ None)
-    (is_place : place ≡ place_for nodes free) (here : node_at nodes' place ≡ n) (others : (p : ℕ) → p ≢ place → node_at nodes' p ≡ node_at nodes p)
-    (rest : free' ≡ take (length free - 1) free) (grown : length nodes' ≡ (if eqb (length free) 0 then length nodes + 1 else length nodes))
-    (sorted : IsSorted nodes' index'.places) (places : (p : ℕ) → HasPlace index'.places p ↔ (HasPlace index.places p ⊎ (p ≡ place)))
+    (directory : is_directory (newest nodes es) s ≡ true)
+    (may : add_fault_of (shapes (newest nodes es)) s n.name n.dir ≡ None)
+    (is_place : place ≡ place_for nodes free) (here : node_at nodes' place ≡ n)
+    (others : (p : ℕ) → p ≢ place → node_at nodes' p ≡ node_at nodes p)
+    (rest : free' ≡ take (length free - 1) free) (grown : length nodes'
+    ≡ (if eqb (length free) 0 then length nodes + 1 else length nodes))
+    (sorted : IsSorted nodes' index'.places) (places : (p : ℕ) → HasPlace index'.places p
+    ↔ (HasPlace index.places p ⊎ (p ≡ place)))
     (count : length index'.places ≡ length index.places + 1) (room : index'.room ≡ index.room) where
   abbrev entry : Entry
   entry = record { uid = next; superior = Some s; place = place; inferiors = 0 }
@@ -114,7 +125,8 @@ module _ {nodes : List Node} {es : List Entry} {free : List ℕ} {index : Places
   view_added = newest_push nodes' es entry ∙ ap (λ x. x ∷ newest nodes' es) here ∙ ap (λ xs. n ∷ xs) old_nodes
 
   few_es : length es < 4097
-  few_es = (let a : length (shapes (newest nodes es)) < 4097 = may_add.room in let b = length-map (newest nodes es) shape in let c = length_newest nodes es in
+  few_es = (let a : length (shapes (newest nodes es)) < 4097 = may_add.room in let b =
+      length-map (newest nodes es) shape in let c = length_newest nodes es in
       omega arith)
 
   branch : IsBranch (shapes (newest nodes es)) s (shape n)
@@ -153,7 +165,8 @@ module _ {nodes : List Node} {es : List Entry} {free : List ℕ} {index : Places
   ])
 
   free_apart' : (i j : ℕ) → i < j → j < length free' → get_or free' i 0 ≢ get_or free' j 0
-  free_apart' i j lt within e = (let m = size_free in k.free_apart i j lt (omega arith) (sym (old_free i (omega arith)) ∙ e ∙ old_free j within))
+  free_apart' i j lt within e = (let m = size_free in k.free_apart i j lt (omega arith)
+      (sym (old_free i (omega arith)) ∙ e ∙ old_free j within))
 
   place_not_free : (i : ℕ) → i < length free' → get_or free' i 0 ≢ place
   place_not_free i lt e = (let m = size_free in elim (cases_eq (length free) 0) [
@@ -165,21 +178,24 @@ module _ {nodes : List Node} {es : List Entry} {free : List ℕ} {index : Places
 
   unused' : (i j : ℕ) → i < length free' → j < length es' → get_or free' i 0 ≢ (entry_at es' j).place
   unused' i j lt within e = elim (cases_lt j (length es)) [
-    | inl old ↦ (let m = size_free in k.unused i j (omega arith) old (sym (old_free i lt) ∙ e ∙ ap (λ (d : Entry). d.place) (old_entry j old)))
+    | inl old ↦ (let m = size_free in k.unused i j (omega arith) old
+        (sym (old_free i lt) ∙ e ∙ ap (λ (d : Entry). d.place) (old_entry j old)))
     | inr new ↦ place_not_free i lt (e ∙ ap (λ (d : Entry). d.place) (new_entry j new within))
   ]
 
   count' : length nodes' ≡ length es' + length free'
-  count' = (let m = size in let f = size_free in let c : length nodes ≡ length es + length free = k.count in elim (cases_eq (length free) 0) [
-    | inl none ↦ (let g : length nodes' ≡ length nodes + 1 = rw (eq-eqb (length free) 0 none) at grown in omega arith)
-    | inr some ↦ (let g : length nodes' ≡ length nodes = rw (ne_eqb (length free) 0 some) at grown in omega arith)
-  ])
+  count' = (let m = size in let f = size_free in let c : length nodes ≡ length es + length free =
+      k.count in elim (cases_eq (length free) 0) [
+        | inl none ↦ (let g : length nodes' ≡ length nodes + 1 = rw (eq-eqb (length free) 0 none) at grown in omega arith)
+        | inr some ↦ (let g : length nodes' ≡ length nodes = rw (ne_eqb (length free) 0 some) at grown in omega arith)
+      ])
 
   few' : length nodes' ≤ 4097
-  few' = (let f = few_es in let n : length nodes ≤ 4097 = k.few in let c : length nodes ≡ length es + length free = k.count in elim (cases_eq (length free) 0) [
-    | inl none ↦ (let g : length nodes' ≡ length nodes + 1 = rw (eq-eqb (length free) 0 none) at grown in omega arith)
-    | inr some ↦ (let g : length nodes' ≡ length nodes = rw (ne_eqb (length free) 0 some) at grown in omega arith)
-  ])
+  few' = (let f = few_es in let n : length nodes ≤ 4097 = k.few in let c : length nodes ≡ length es + length free =
+      k.count in elim (cases_eq (length free) 0) [
+        | inl none ↦ (let g : length nodes' ≡ length nodes + 1 = rw (eq-eqb (length free) 0 none) at grown in omega arith)
+        | inr some ↦ (let g : length nodes' ≡ length nodes = rw (ne_eqb (length free) 0 some) at grown in omega arith)
+      ])
 
   still_named : (o : Option ℕ) (p : ℕ) → p ≢ place → IsNamed index.places o p → IsNamed index'.places o p
   still_named None p ne none = λ there. elim ((places p).0 there) [ inl old ↦ none old | inr new ↦ ne new ]
@@ -187,7 +203,8 @@ module _ {nodes : List Node} {es : List Entry} {free : List ℕ} {index : Places
 
   named' : (i : ℕ) → i < length es' → IsNamed index'.places (entry_at es' i).superior (entry_at es' i).place
   named' = each_pushed es entry no_entry (λ e. IsNamed index'.places e.superior e.place)
-      (λ i lt. still_named (entry_at es i).superior (entry_at es i).place (unused i lt) (k.named i lt)) ((places place).1 (inr refl))
+      (λ i lt. still_named (entry_at es i).superior (entry_at es i).place (unused i lt) (k.named i lt))
+      ((places place).1 (inr refl))
 
   places' : (p : ℕ) → HasPlace index'.places p → IsPlace es' p
   places' p there = (let m = size in elim ((places p).0 there) [
@@ -207,14 +224,17 @@ module _ {nodes : List Node} {es : List Entry} {free : List ℕ} {index : Places
 
   pub kept_added : IsKept nodes' es' free' index' (next + 1)
   kept_added = record {
-    uids = each_pushed es entry no_entry (λ e. (node_at nodes' e.place).uid ≡ e.uid) (λ i lt. ap (λ (x : Node). x.uid) (old_node i lt) ∙ k.uids i lt)
+    uids = each_pushed es entry no_entry (λ e. (node_at nodes' e.place).uid ≡ e.uid)
+        (λ i lt. ap (λ (x : Node). x.uid) (old_node i lt) ∙ k.uids i lt)
         (ap (λ (x : Node). x.uid) here ∙ n_uid);
     superiors = each_pushed es entry no_entry (λ e. (node_at nodes' e.place).superior ≡ e.superior)
-        (λ i lt. ap (λ (x : Node). x.superior) (old_node i lt) ∙ k.superiors i lt) (ap (λ (x : Node). x.superior) here ∙ n_superior);
+        (λ i lt. ap (λ (x : Node). x.superior) (old_node i lt) ∙ k.superiors i lt)
+        (ap (λ (x : Node). x.superior) here ∙ n_superior);
     within = each_pushed es entry no_entry (λ e. e.place < length nodes') (λ i lt. more _ (k.within i lt)) in_place;
     rising = rising';
     below = each_pushed es entry no_entry (λ e. e.uid < next + 1) (λ i lt. omega (arith, k.below i lt)) (omega arith);
-    free_within = λ i lt. subst (λ p. p < length nodes') (sym (old_free i lt)) (more _ (k.free_within i (let m = size_free in omega arith)));
+    free_within = λ i lt. subst (λ p. p < length nodes') (sym (old_free i lt))
+        (more _ (k.free_within i (let m = size_free in omega arith)));
     free_apart = free_apart';
     unused = unused';
     count = count';
@@ -224,5 +244,6 @@ module _ {nodes : List Node} {es : List Entry} {free : List ℕ} {index : Places
     sorted = sorted;
     branches = (let m = size in let p : length index.places + 1 ≡ length es = k.branches in omega arith);
     room = room ∙ k.room;
-    tree = subst (λ ns. IsTree (shapes ns)) (sym view_added) (subst (λ o. Joins (shapes (newest nodes es)) o (shape n)) (sym n_superior) branch, k.tree);
+    tree = subst (λ ns. IsTree (shapes ns)) (sym view_added)
+        (subst (λ o. Joins (shapes (newest nodes es)) o (shape n)) (sym n_superior) branch, k.tree);
   }

@@ -1,5 +1,6 @@
 -- What a change of a node, which keeps its shape, leaves of the tables behind a tree.
-use Rattle.std.proofs.Common.{◌≡◌, ◌≢◌, ℕ, suc, ◌<◌, false, [], ◌∷◌, ◌++◌, arith, eqb, if◌then◌else◌, List, length, Some, refl, sym, ap, subst, ◌∙◌, get_or}
+use Rattle.std.proofs.Common.{◌≡◌, ◌≢◌, ℕ, suc, ◌<◌, false, [], ◌∷◌, ◌++◌, arith, eqb, if◌then◌else◌, List, length}
+use Rattle.std.proofs.Common.{Some, refl, sym, ap, subst, ◌∙◌, get_or}
 use Rattle.std.proofs.Common.{set, inl, inr}
 use Rattle.std.proofs.lemmas.Bool.{cases_Bool, cases_eq, eq-eqb, ne_eqb}
 use Rattle.std.proofs.lemmas.List.{get_or-set_same, get_or-set_other, length-set, map-append, get_or_read}
@@ -14,7 +15,8 @@ use Rattle.dir_tree.specs.Kept.{entry_at, newest, IsKept, HasEntry}
 use Rattle.dir_tree.proofs.NewestLemmas.{node_of_entry, newest_changed}
 use Rattle.dir_tree.proofs.KeptLemmas.{apart_places, not_of, node_read}
 
-shapes_newest : (ms ns : List Node) (es : List Entry) → ((j : ℕ) → j < length es → shape (node_of_entry ms es j) ≡ shape (node_of_entry ns es j))
+shapes_newest : (ms ns : List Node) (es : List Entry) →
+    ((j : ℕ) → j < length es → shape (node_of_entry ms es j) ≡ shape (node_of_entry ns es j))
     → shapes (newest ms es) ≡ shapes (newest ns es)
 shapes_newest ms ns [] same = refl
 shapes_newest ms ns (e ∷ es) same =
@@ -26,7 +28,8 @@ shapes_newest ms ns (e ∷ es) same =
 abbrev shape_key : Term → Key
 shape_key t = (t.superior, t.name)
 
-module _ {nodes : List Node} {es : List Entry} {free : List ℕ} {index : Places} {next : ℕ} (k : IsKept nodes es free index next) (uid i : ℕ)
+module _ {nodes : List Node} {es : List Entry} {free : List ℕ} {index : Places} {next : ℕ}
+    (k : IsKept nodes es free index next) (uid i : ℕ)
     (within : i < length es) (is_uid : (entry_at es i).uid ≡ uid) (h : Node → Node) (m : Node)
     (is : m ≡ h (node_of_entry nodes es i)) (keeps : shape m ≡ shape (node_of_entry nodes es i)) where
   abbrev nodes' : List Node
@@ -36,7 +39,8 @@ module _ {nodes : List Node} {es : List Entry} {free : List ℕ} {index : Places
   here = get_or-set_same nodes (entry_at es i).place m no_node (k.within i within)
 
   there : (j : ℕ) → j < length es → j ≢ i → node_of_entry nodes' es j ≡ node_of_entry nodes es j
-  there j lt ne = get_or-set_other nodes (entry_at es i).place (entry_at es j).place m no_node (apart_places k i j within lt ne)
+  there j lt ne = get_or-set_other nodes (entry_at es i).place (entry_at es j).place m no_node
+      (apart_places k i j within lt ne)
 
   same_shape : (j : ℕ) → j < length es → shape (node_of_entry nodes' es j) ≡ shape (node_of_entry nodes es j)
   same_shape j lt = elim (cases_eq j i) [
@@ -48,7 +52,8 @@ module _ {nodes : List Node} {es : List Entry} {free : List ℕ} {index : Places
   same_key a lt =
       (let p = k.places (get_or index.places a 0) (record { at = a; within = lt; is = refl }) in
       let same : shape (node_of_entry nodes' es p.i) ≡ shape (node_of_entry nodes es p.i) = same_shape p.i p.within in
-      subst (λ q. shape_key (shape (node_at nodes' q)) ≡ shape_key (shape (node_at nodes q))) p.place_is (ap shape_key same))
+      subst (λ q. shape_key (shape (node_at nodes' q)) ≡ shape_key (shape (node_at nodes q))) p.place_is
+      (ap shape_key same))
 
   changed : (j : ℕ) → j < length es → node_of_entry nodes' es
       j ≡ (if eqb (node_of_entry nodes es j).uid uid then h (node_of_entry nodes es j) else node_of_entry nodes es j)
@@ -80,27 +85,38 @@ module _ {nodes : List Node} {es : List Entry} {free : List ℕ} {index : Places
     tree = subst IsTree (sym (shapes_newest nodes' nodes es same_shape)) k.tree;
   }
 
-pub set_kept : {nodes : List Node} {es : List Entry} {free : List ℕ} {index : Places} {next : ℕ} → IsKept nodes es free index next → (uid place : ℕ)
+pub set_kept : {nodes : List Node} {es : List Entry} {free : List ℕ} {index : Places} {next : ℕ}
+    → IsKept nodes es free index next → (uid place : ℕ)
     → (i : ℕ) × (i < length es) × ((entry_at es i).uid ≡ uid) × ((entry_at es i).place ≡ place)
     → (h : Node → Node) → ((n : Node) → shape (h n) ≡ shape n) → (x : Node) → x ≡ get_or nodes place x
-    → IsKept (set nodes place (h x)) es free index next × (newest (set nodes place (h x)) es ≡ with_changed uid h (newest nodes es))
+    → IsKept (set nodes place (h x)) es free index next
+    × (newest (set nodes place (h x)) es ≡ with_changed uid h (newest nodes es))
 set_kept {nodes} {es} {free} {index} {next} k uid place at h keeps x read =
     let within : place < length nodes = subst (λ q. q < length nodes) at.3 (k.within at.0 at.1) in
-    let node : x ≡ node_of_entry nodes es at.0 = get_or_read nodes place x within read no_node ∙ ap (node_at nodes) (sym at.3) in
+    let node : x ≡ node_of_entry nodes es at.0 = get_or_read nodes place x within read no_node
+    ∙ ap (node_at nodes) (sym at.3) in
     let same : shape (h x) ≡ shape (node_of_entry nodes es at.0) = keeps x ∙ ap shape node in
-    subst (λ q. IsKept (set nodes q (h x)) es free index next × (newest (set nodes q (h x)) es ≡ with_changed uid h (newest nodes es))) at.3
-    (kept_changed k uid at.0 at.1 at.2 h (h x) (ap h node) same, view_changed k uid at.0 at.1 at.2 h (h x) (ap h node) same)
+    subst (λ q. IsKept (set nodes q (h x)) es free index next
+    × (newest (set nodes q (h x)) es ≡ with_changed uid h (newest nodes es))) at.3 (
+      kept_changed k uid at.0 at.1 at.2 h (h x) (ap h node) same,
+      view_changed k uid at.0 at.1 at.2 h (h x) (ap h node)
+          same,
+    )
 
-pub acl_read : {nodes : List Node} {es : List Entry} {free : List ℕ} {index : Places} {next : ℕ} → IsKept nodes es free index next → (uid place : ℕ)
+pub acl_read : {nodes : List Node} {es : List Entry} {free : List ℕ} {index : Places} {next : ℕ}
+    → IsKept nodes es free index next → (uid place : ℕ)
     → (i : ℕ) × (i < length es) × ((entry_at es i).uid ≡ uid) × ((entry_at es i).place ≡ place)
     → (x : Node) → x ≡ get_or nodes place x → x.acl ≡ acl_of (newest nodes es) uid
 acl_read {nodes} {es} {free} {index} {next} k uid place at x read =
-    let entry : HasEntry es uid (entry_at es at.0) = record { i = at.0; within = at.1; entry_is = refl; uid_is = at.2 } in
-    let found : node_of (newest nodes es) uid ≡ Some x = node_read k uid (entry_at es at.0) entry x (subst (λ q. x ≡ get_or nodes q x) (sym at.3) read) in
+    let entry : HasEntry es uid (entry_at es at.0) = record { i = at.0; within = at.1; entry_is = refl; uid_is = at.2 }
+    in
+    let found : node_of (newest nodes es) uid ≡ Some x =
+    node_read k uid (entry_at es at.0) entry x (subst (λ q. x ≡ get_or nodes q x) (sym at.3) read) in
     rw found refl
 
 -- a change of nodes that keeps their shapes
-pub shapes_changed : (u : ℕ) (h : Node → Node) → ((n : Node) → shape (h n) ≡ shape n) → (ns : List Node) → shapes (with_changed u h ns) ≡ shapes ns
+pub shapes_changed : (u : ℕ) (h : Node → Node) → ((n : Node) → shape (h n) ≡ shape n) → (ns : List Node)
+    → shapes (with_changed u h ns) ≡ shapes ns
 shapes_changed u h keeps [] = refl
 shapes_changed u h keeps (n ∷ ns) = elim (cases_Bool (eqb n.uid u)) [
   | inl is ↦ rw (is, keeps n, shapes_changed u h keeps ns) refl
@@ -116,5 +132,6 @@ others_kept u h keeps (n ∷ ns) v other = elim (cases_eq n.uid u) [
       (let off : eqb n.uid v ≡ false = ne_eqb n.uid v (λ e. other (sym e ∙ same)) in
       let still : eqb (h n).uid v ≡ false = rw (keeps n) off in
       rw (eq-eqb n.uid u same, still, off) (others_kept u h keeps ns v other))
-  | inr far ↦ rw (ne_eqb n.uid u far) (elim (cases_Bool (eqb n.uid v)) [ inl is ↦ rw is refl | inr isnt ↦ rw isnt (others_kept u h keeps ns v other) ])
+  | inr far ↦ rw (ne_eqb n.uid u far) (elim (cases_Bool (eqb n.uid v))
+      [ inl is ↦ rw is refl | inr isnt ↦ rw isnt (others_kept u h keeps ns v other) ])
 ]

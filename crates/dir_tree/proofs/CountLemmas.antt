@@ -1,10 +1,12 @@
 -- How many nodes lie in each directory.
-use Rattle.std.proofs.Common.{◌≡◌, ◌≢◌, ℕ, suc, ◌+◌, ◌-◌, ◌<◌, ◌≤◌, Bool, true, false, eqb, if◌then◌else◌, List, [], ◌∷◌, ◌++◌, length, Option, Some, None}
+use Rattle.std.proofs.Common.{◌≡◌, ◌≢◌, ℕ, suc, ◌+◌, ◌-◌, ◌<◌, ◌≤◌, Bool, true, false, eqb, if◌then◌else◌, List, []}
+use Rattle.std.proofs.Common.{◌∷◌, ◌++◌, length, Option, Some, None}
 use Rattle.std.proofs.Common.{refl, sym, ap, subst, ◌∙◌, arith, get_or, set, take, drop, inl, inr}
 use Rattle.std.specs.Prelude.{count_by, ◌^◌, ◌↔◌}
 use Rattle.std.specs.List.{remove}
 use Rattle.std.proofs.lemmas.Bool.{cases_Bool, cases_eq, eq-eqb, ne_eqb, eqb-true, false_from_ne_true}
-use Rattle.std.proofs.lemmas.List.{ext_get_or, get_or-map, get_or-set_same, get_or-set_other, get_or_append_left, length-map, length-set, length_push}
+use Rattle.std.proofs.lemmas.List.{ext_get_or, get_or-map, get_or-set_same, get_or-set_other, get_or_append_left}
+use Rattle.std.proofs.lemmas.List.{length-map, length-set, length_push}
 use Rattle.std.proofs.lemmas.List.{append-nil, drop_all, take_all}
 use Rattle.std.proofs.lemmas.List.Sums.{sum_by-cons, sum_by_push, sum_by-remove, count_by-le-length}
 use Rattle.std.proofs.lemmas.Option.{same_Some}
@@ -14,8 +16,10 @@ use Rattle.dir_tree.specs.Index.{Places, node_at}
 use Rattle.dir_tree.specs.Nodes.{is_directory}
 use Rattle.dir_tree.specs.Shape.{shapes}
 use Rattle.tree_model.specs.Trees.{IsTree}
-use Rattle.dir_tree.specs.Kept.{no_entry, entry_at, newest, lies_in, recount, recounted, HasEntry, IsAscending, IsCounted, IsKept, IsNamed}
-use Rattle.dir_tree.proofs.EditLemmas.{each_pushed, each_left, was, was_up, was_within, now, was_now, now_within, at_was}
+use Rattle.dir_tree.specs.Kept.{no_entry, entry_at, newest, lies_in, recount, recounted, HasEntry, IsAscending}
+use Rattle.dir_tree.specs.Kept.{IsCounted, IsKept, IsNamed}
+use Rattle.dir_tree.proofs.EditLemmas.{each_pushed, each_left, was, was_up, was_within, now, was_now, now_within}
+use Rattle.dir_tree.proofs.EditLemmas.{at_was}
 use Rattle.dir_tree.proofs.KeptLemmas.{entry_present, superior_read}
 use Rattle.dir_tree.specs.Laws.{directory_in, directory_shape}
 use Rattle.tree_model.proofs.TreeLaws.{superior_in, superior_up, IsUp}
@@ -46,10 +50,12 @@ lies_eq u s e is = up e.superior is
 abbrev one_if : Bool → ℕ
 one_if b = if b then 1 else 0
 
-count_cons : (u : ℕ) (e : Entry) (es : List Entry) → count_by (lies_in u) (e ∷ es) ≡ one_if (lies_in u e) + count_by (lies_in u) es
+count_cons : (u : ℕ) (e : Entry) (es : List Entry) → count_by (lies_in u) (e ∷ es)
+    ≡ one_if (lies_in u e) + count_by (lies_in u) es
 count_cons u e es = sum_by-cons (λ e. one_if (lies_in u e)) e es
 
-count_push : (u : ℕ) (es : List Entry) (e : Entry) → count_by (lies_in u) (es ++ e ∷ []) ≡ count_by (lies_in u) es + one_if (lies_in u e)
+count_push : (u : ℕ) (es : List Entry) (e : Entry) → count_by (lies_in u) (es ++ e ∷ [])
+    ≡ count_by (lies_in u) es + one_if (lies_in u e)
 count_push u es e = sum_by_push (λ e. one_if (lies_in u e)) es e
 
 count_remove : (u : ℕ) (es : List Entry) (i : ℕ) → i < length es
@@ -57,25 +63,30 @@ count_remove : (u : ℕ) (es : List Entry) (i : ℕ) → i < length es
 count_remove u es i lt = sum_by-remove (λ e. one_if (lies_in u e)) es i no_entry lt
 
 -- some are counted where there is one
-counted_one : (u : ℕ) (es : List Entry) (i : ℕ) → i < length es → lies_in u (entry_at es i) ≡ true → 0 < count_by (lies_in u) es
+counted_one : (u : ℕ) (es : List Entry) (i : ℕ) → i < length es → lies_in u (entry_at es i) ≡ true
+    → 0 < count_by (lies_in u) es
 counted_one u es i lt is = (let m : count_by (lies_in u) (remove es i) + 1 ≡ count_by (lies_in u) es =
     ap (λ b. count_by (lies_in u) (remove es i) + one_if b) (sym is) ∙ count_remove u es i lt in omega arith)
 
-one_counted : (u : ℕ) (es : List Entry) → 0 < count_by (lies_in u) es → (i : ℕ) × (i < length es) × (lies_in u (entry_at es i) ≡ true)
+one_counted : (u : ℕ) (es : List Entry) → 0 < count_by (lies_in u) es → (i : ℕ) × (i < length es)
+    × (lies_in u (entry_at es i) ≡ true)
 one_counted u [] lt = absurd (omega arith)
 one_counted u (e ∷ es) lt = elim (cases_Bool (lies_in u e)) [
   | inl is ↦ (0, omega arith, is)
   | inr isnt ↦
-      (let m : count_by (lies_in u) (e ∷ es) ≡ 0 + count_by (lies_in u) es = count_cons u e es ∙ ap (λ b. one_if b + count_by (lies_in u) es) isnt in
+      (let m : count_by (lies_in u) (e ∷ es) ≡ 0 + count_by (lies_in u) es = count_cons u e es
+      ∙ ap (λ b. one_if b + count_by (lies_in u) es) isnt in
       let later : (i : ℕ) × (i < length es) × (lies_in u (entry_at es i) ≡ true) = one_counted u es (omega arith) in
       (suc later.0, omega (arith, later.1), later.2))
 ]
 
-none_counted : (u : ℕ) (es : List Entry) → ((i : ℕ) → i < length es → lies_in u (entry_at es i) ≡ false) → count_by (lies_in u) es ≡ 0
+none_counted : (u : ℕ) (es : List Entry) → ((i : ℕ) → i < length es → lies_in u (entry_at es i) ≡ false)
+    → count_by (lies_in u) es ≡ 0
 none_counted u [] none = refl
 none_counted u (e ∷ es) none =
     let here : lies_in u e ≡ false = none 0 (omega arith) in
-    let m : count_by (lies_in u) (e ∷ es) ≡ 0 + count_by (lies_in u) es = count_cons u e es ∙ ap (λ b. one_if b + count_by (lies_in u) es) here in
+    let m : count_by (lies_in u) (e ∷ es) ≡ 0 + count_by (lies_in u) es = count_cons u e es
+    ∙ ap (λ b. one_if b + count_by (lies_in u) es) here in
     let ih : count_by (lies_in u) es ≡ 0 = none_counted u es (λ i lt. none (suc i) (omega arith)) in
     omega arith
 
@@ -85,23 +96,28 @@ module _ (v : ℕ) (g : ℕ → ℕ) where
   pub length_recounted : (es : List Entry) → length (recounted v g es) ≡ length es
   length_recounted es = length-map es (recount v g)
 
-  entry_recounted : (es : List Entry) (i : ℕ) → i < length es → entry_at (recounted v g es) i ≡ recount v g (entry_at es i)
+  entry_recounted : (es : List Entry) (i : ℕ) → i < length es → entry_at (recounted v g es) i
+      ≡ recount v g (entry_at es i)
   entry_recounted es i lt = get_or-map (recount v g) es i no_entry no_entry lt
 
-  pub each_recounted : (es : List Entry) (P : Entry → Type 0) → ((i : ℕ) → i < length es → P (recount v g (entry_at es i))) → (i : ℕ)
+  pub each_recounted : (es : List Entry) (P : Entry → Type 0)
+      → ((i : ℕ) → i < length es → P (recount v g (entry_at es i))) → (i : ℕ)
       → i < length (recounted v g es) → P (entry_at (recounted v g es) i)
-  each_recounted es P all i lt = (let n = length_recounted es in subst P (sym (entry_recounted es i (omega arith))) (all i (omega arith)))
+  each_recounted es P all i lt = (let n = length_recounted es in subst P (sym (entry_recounted es i (omega arith)))
+      (all i (omega arith)))
 
   count_recounted : (u : ℕ) (es : List Entry) → count_by (lies_in u) (recounted v g es) ≡ count_by (lies_in u) es
   count_recounted u [] = refl
   count_recounted u (e ∷ es) =
-      count_cons u (recount v g e) (recounted v g es) ∙ ap (λ n. one_if (lies_in u e) + n) (count_recounted u es) ∙ sym (count_cons u e es)
+      count_cons u (recount v g e) (recounted v g es) ∙ ap (λ n. one_if (lies_in u e) + n) (count_recounted u es)
+      ∙ sym (count_cons u e es)
 
   pub newest_recounted : (ns : List Node) (es : List Entry) → newest ns (recounted v g es) ≡ newest ns es
   newest_recounted ns [] = refl
   newest_recounted ns (e ∷ es) = ap (λ xs. xs ++ node_at ns e.place ∷ []) (newest_recounted ns es)
 
-  pub kept_recounted : {nodes : List Node} {es : List Entry} {free : List ℕ} {index : Places} {next : ℕ} → IsKept nodes es free index next
+  pub kept_recounted : {nodes : List Node} {es : List Entry} {free : List ℕ} {index : Places} {next : ℕ}
+      → IsKept nodes es free index next
       → IsKept nodes (recounted v g es) free index next
   kept_recounted {nodes} {es} {free} {index} {next} k = record {
     uids = each_recounted es (λ e. (node_at nodes e.place).uid ≡ e.uid) k.uids;
@@ -130,10 +146,12 @@ module _ (v : ℕ) (g : ℕ → ℕ) where
   }
 
   -- the one entry of a uid written
-  pub set_recounted : (es : List Entry) → IsAscending es → (i : ℕ) → i < length es → (entry_at es i).uid ≡ v → (e : Entry) → e ≡ recount v g (entry_at es i)
+  pub set_recounted : (es : List Entry) → IsAscending es → (i : ℕ) → i < length es → (entry_at es i).uid ≡ v
+      → (e : Entry) → e ≡ recount v g (entry_at es i)
       → set es i e ≡ recounted v g es
   set_recounted es rising i within is e e_is =
-      ext_get_or no_entry _ _ (length-set es i e ∙ sym (length_recounted es)) (λ j lt. at j (let n = length-set es i e in omega arith))
+      ext_get_or no_entry _ _ (length-set es i e ∙ sym (length_recounted es))
+      (λ j lt. at j (let n = length-set es i e in omega arith))
     where
       other : (j : ℕ) → j < length es → j ≢ i → (entry_at es j).uid ≢ v
       other j lt ne same = grind (arith, rising i j, rising j i)
@@ -150,17 +168,24 @@ module _ (v : ℕ) (g : ℕ → ℕ) where
 -- ---- one inferior more, one less
 
 -- a directory is older than what lies in it
-pub superior_older : {nodes : List Node} {es : List Entry} {free : List ℕ} {index : Places} {next : ℕ} → IsKept nodes es free index next → (s i : ℕ)
-    → i < length es → (entry_at es i).superior ≡ Some s → (s < (entry_at es i).uid) × (is_directory (newest nodes es) s ≡ true)
+pub superior_older : {nodes : List Node} {es : List Entry} {free : List ℕ} {index : Places} {next : ℕ}
+    → IsKept nodes es free index next → (s i : ℕ)
+    → i < length es → (entry_at es i).superior ≡ Some s → (s < (entry_at es i).uid)
+    × (is_directory (newest nodes es) s ≡ true)
 superior_older {nodes} {es} {free} {index} {next} k s i lt is =
-    let entry : HasEntry es (entry_at es i).uid (entry_at es i) = record { i = i; within = lt; entry_is = refl; uid_is = refl } in
-    let up : superior_in (shapes (newest nodes es)) (entry_at es i).uid ≡ Some s = superior_read k (entry_at es i).uid (entry_at es i) entry ∙ is in
+    let entry : HasEntry es (entry_at es i).uid (entry_at es i) =
+    record { i = i; within = lt; entry_is = refl; uid_is = refl } in
+    let up : superior_in (shapes (newest nodes es)) (entry_at es i).uid ≡ Some s =
+    superior_read k (entry_at es i).uid (entry_at es i) entry ∙ is in
     let older : IsUp (shapes (newest nodes es)) (entry_at es i).uid (Some s) =
-    subst (IsUp (shapes (newest nodes es)) (entry_at es i).uid) up (superior_up (shapes (newest nodes es)) k.tree (entry_at es i).uid) in
+    subst (IsUp (shapes (newest nodes es)) (entry_at es i).uid) up
+    (superior_up (shapes (newest nodes es)) k.tree (entry_at es i).uid) in
     (older.0, sym (directory_shape (newest nodes es) s) ∙ older.1)
 
-pub few_counted : (es : List Entry) → IsCounted es → length es ≤ 4097 → (i : ℕ) → i < length es → (entry_at es i).inferiors ≤ 4097
-few_counted es counted few i lt = (let is : (entry_at es i).inferiors ≡ count_by (lies_in (entry_at es i).uid) es = counted i lt in
+pub few_counted : (es : List Entry) → IsCounted es → length es ≤ 4097 → (i : ℕ) → i < length es
+    → (entry_at es i).inferiors ≤ 4097
+few_counted es counted few i lt = (let is : (entry_at es i).inferiors ≡ count_by (lies_in (entry_at es i).uid) es =
+    counted i lt in
     let le = count_by-le-length (lies_in (entry_at es i).uid) es in omega arith)
 
 module _ (es : List Entry) (counted : IsCounted es) (e : Entry) (s : ℕ) (up : e.superior ≡ Some s) where
@@ -168,11 +193,13 @@ module _ (es : List Entry) (counted : IsCounted es) (e : Entry) (s : ℕ) (up : 
   count_pushed : (u : ℕ) → count_by (lies_in u) (es ++ e ∷ []) ≡ count_by (lies_in u) es + one_if (eqb s u)
   count_pushed u = count_push u es e ∙ ap (λ b. count_by (lies_in u) es + one_if b) (lies_eq u s e up)
 
-  pub counted_added : e.inferiors ≡ 0 → s < e.uid → ((i : ℕ) → i < length es → (t : ℕ) → (entry_at es i).superior ≡ Some t → t < e.uid)
+  pub counted_added : e.inferiors ≡ 0 → s < e.uid → ((i : ℕ) → i < length es → (t : ℕ) → (entry_at es i).superior
+      ≡ Some t → t < e.uid)
       → IsCounted (recounted s (λ n. n + 1) (es ++ e ∷ []))
   counted_added none older all = each_recounted s (λ n. n + 1) (es ++ e ∷ [])
       (λ d. d.inferiors ≡ count_by (lies_in d.uid) (recounted s (λ n. n + 1) (es ++ e ∷ [])))
-      (each_pushed es e no_entry (λ d. (recount s (λ n. n + 1) d).inferiors ≡ count_by (lies_in d.uid) (recounted s (λ n. n + 1) (es ++ e ∷ [])))
+      (each_pushed es e no_entry (λ d. (recount s (λ n. n + 1) d).inferiors
+      ≡ count_by (lies_in d.uid) (recounted s (λ n. n + 1) (es ++ e ∷ [])))
       (λ i lt. at (entry_at es i) (counted i lt)) (at e (none ∙ sym empty)))
     where
       empty : count_by (lies_in e.uid) es ≡ 0
@@ -186,19 +213,25 @@ module _ (es : List Entry) (counted : IsCounted es) (e : Entry) (s : ℕ) (up : 
           let more = count_pushed d.uid in
           elim (cases_eq d.uid s) [
             | inl here ↦ (let a : eqb s d.uid ≡ true = eq-eqb s d.uid (sym here) in
-                let m : count_by (lies_in d.uid) (es ++ e ∷ []) ≡ count_by (lies_in d.uid) es + 1 = rw a at more in rw (eq-eqb d.uid s here) (omega arith))
+                let m : count_by (lies_in d.uid) (es ++ e ∷ []) ≡ count_by (lies_in d.uid) es + 1 =
+                rw a at more in rw (eq-eqb d.uid s here) (omega arith))
             | inr there ↦ (let a : eqb s d.uid ≡ false = ne_eqb s d.uid (λ q. there (sym q)) in
-                let m : count_by (lies_in d.uid) (es ++ e ∷ []) ≡ count_by (lies_in d.uid) es + 0 = rw a at more in rw (ne_eqb d.uid s there) (omega arith))
+                let m : count_by (lies_in d.uid) (es ++ e ∷ []) ≡ count_by (lies_in d.uid) es + 0 =
+                rw a at more in rw (ne_eqb d.uid s there) (omega arith))
           ])
 
-module _ (es : List Entry) (counted : IsCounted es) (i : ℕ) (within : i < length es) (s : ℕ) (up : (entry_at es i).superior ≡ Some s) where
+module _ (es : List Entry) (counted : IsCounted es) (i : ℕ) (within : i < length es) (s : ℕ)
+    (up : (entry_at es i).superior ≡ Some s) where
   -- what lies in a node once the entry is out
   count_left : (u : ℕ) → count_by (lies_in u) (remove es i) + one_if (eqb s u) ≡ count_by (lies_in u) es
-  count_left u = ap (λ b. count_by (lies_in u) (remove es i) + one_if b) (sym (lies_eq u s (entry_at es i) up)) ∙ count_remove u es i within
+  count_left u = ap (λ b. count_by (lies_in u) (remove es i) + one_if b) (sym (lies_eq u s (entry_at es i) up))
+      ∙ count_remove u es i within
 
   pub counted_removed : IsCounted (recounted s (λ n. n - 1) (remove es i))
-  counted_removed = each_recounted s (λ n. n - 1) (remove es i) (λ d. d.inferiors ≡ count_by (lies_in d.uid) (recounted s (λ n. n - 1) (remove es i)))
-      (each_left es i within no_entry (λ d. (recount s (λ n. n - 1) d).inferiors ≡ count_by (lies_in d.uid) (recounted s (λ n. n - 1) (remove es i)))
+  counted_removed = each_recounted s (λ n. n - 1) (remove es i)
+      (λ d. d.inferiors ≡ count_by (lies_in d.uid) (recounted s (λ n. n - 1) (remove es i)))
+      (each_left es i within no_entry (λ d. (recount s (λ n. n - 1) d).inferiors
+      ≡ count_by (lies_in d.uid) (recounted s (λ n. n - 1) (remove es i)))
       (λ j lt ne. at (entry_at es j) (counted j lt)))
     where
       at : (d : Entry) → d.inferiors ≡ count_by (lies_in d.uid) es
@@ -208,24 +241,30 @@ module _ (es : List Entry) (counted : IsCounted es) (i : ℕ) (within : i < leng
           let less = count_left d.uid in
           elim (cases_eq d.uid s) [
             | inl here ↦ (let a : eqb s d.uid ≡ true = eq-eqb s d.uid (sym here) in
-                let m : count_by (lies_in d.uid) (remove es i) + 1 ≡ count_by (lies_in d.uid) es = rw a at less in rw (eq-eqb d.uid s here) (omega arith))
+                let m : count_by (lies_in d.uid) (remove es i) + 1 ≡ count_by (lies_in d.uid) es =
+                rw a at less in rw (eq-eqb d.uid s here) (omega arith))
             | inr there ↦ (let a : eqb s d.uid ≡ false = ne_eqb s d.uid (λ q. there (sym q)) in
-                let m : count_by (lies_in d.uid) (remove es i) + 0 ≡ count_by (lies_in d.uid) es = rw a at less in rw (ne_eqb d.uid s there) (omega arith))
+                let m : count_by (lies_in d.uid) (remove es i) + 0 ≡ count_by (lies_in d.uid) es =
+                rw a at less in rw (ne_eqb d.uid s there) (omega arith))
           ])
 
   -- the entry that comes out was counted
-  pub some_left : (j : ℕ) → j < length (remove es i) → (entry_at (remove es i) j).uid ≡ s → 0 < (entry_at (remove es i) j).inferiors
+  pub some_left : (j : ℕ) → j < length (remove es i) → (entry_at (remove es i) j).uid ≡ s
+      → 0 < (entry_at (remove es i) j).inferiors
   some_left = each_left es i within no_entry (λ d. d.uid ≡ s → 0 < d.inferiors)
       (λ j lt ne is. (let c : (entry_at es j).inferiors ≡ count_by (lies_in s) es = rw is at (counted j lt) in
       let one = counted_one s es i within (lies_since s (entry_at es i) up) in omega arith))
 
 -- a directory stays when one that lies in it comes out
-pub superior_left : {nodes : List Node} {es : List Entry} {free : List ℕ} {index : Places} {next : ℕ} → IsKept nodes es free index next → (s i : ℕ)
-    → i < length es → (entry_at es i).superior ≡ Some s → (j : ℕ) × (j < length (remove es i)) × ((entry_at (remove es i) j).uid ≡ s)
+pub superior_left : {nodes : List Node} {es : List Entry} {free : List ℕ} {index : Places} {next : ℕ}
+    → IsKept nodes es free index next → (s i : ℕ)
+    → i < length es → (entry_at es i).superior ≡ Some s → (j : ℕ) × (j < length (remove es i))
+    × ((entry_at (remove es i) j).uid ≡ s)
 superior_left {nodes} {es} {free} {index} {next} k s i lt is =
     let older = superior_older k s i lt is in
     let less : s < (entry_at es i).uid = older.0 in
-    let there : (j : ℕ) × (j < length es) × ((entry_at es j).uid ≡ s) = entry_present k s (directory_in (newest nodes es) s older.1) in
+    let there : (j : ℕ) × (j < length es) × ((entry_at es j).uid ≡ s) =
+    entry_present k s (directory_in (newest nodes es) s older.1) in
     let other : there.0 ≢ i = λ q. (let same : (entry_at es i).uid ≡ s = rw q at there.2 in omega arith) in (
       now i there.0,
       now_within es i lt there.0 there.1 other,
@@ -247,32 +286,46 @@ counts_some es counted u i lt is =
 pub seamed : {X : Type 0} (new old target : List X) (n : ℕ) → new ≡ target → length target ≡ length old → n ≡ length old
     → take n (new ++ drop (length new) old) ≡ target
 seamed new old target n is size len =
-    let whole : drop (length new) old ≡ [] = drop_all (length new) old (let a : length new ≡ length target = ap length is in omega arith) in
+    let whole : drop (length new) old ≡ [] = drop_all (length new) old
+    (let a : length new ≡ length target = ap length is in omega arith) in
     rw (whole, append-nil new) (take_all n new (let a : length new ≡ length target = ap length is in omega arith) ∙ is)
 
-pub superior_there : {nodes : List Node} {es : List Entry} {free : List ℕ} {index : Places} {next : ℕ} → IsKept nodes es free index next → (s : ℕ)
-    → is_directory (newest nodes es) s ≡ true → (e : Entry) → (j : ℕ) × (j < length (es ++ e ∷ [])) × ((entry_at (es ++ e ∷ []) j).uid ≡ s)
+pub superior_there : {nodes : List Node} {es : List Entry} {free : List ℕ} {index : Places} {next : ℕ}
+    → IsKept nodes es free index next → (s : ℕ)
+    → is_directory (newest nodes es) s ≡ true → (e : Entry) → (j : ℕ) × (j < length (es ++ e ∷ []))
+    × ((entry_at (es ++ e ∷ []) j).uid ≡ s)
 superior_there {nodes} {es} {free} {index} {next} k s is e =
-    let there : (j : ℕ) × (j < length es) × ((entry_at es j).uid ≡ s) = entry_present k s (directory_in (newest nodes es) s is) in
-    let n = length_push es e in
-    (there.0, omega (arith, there.1), ap (λ (d : Entry). d.uid) (get_or_append_left es (e ∷ []) no_entry there.0 there.1) ∙ there.2)
+    let there : (j : ℕ) × (j < length es) × ((entry_at es j).uid ≡ s) =
+    entry_present k s (directory_in (newest nodes es) s is) in
+    let n = length_push es e in (
+      there.0,
+      omega (arith, there.1),
+      ap (λ (d : Entry). d.uid)
+          (get_or_append_left es (e ∷ []) no_entry there.0 there.1) ∙ there.2,
+    )
 
-pub pushed_few : (es : List Entry) (e : Entry) → IsCounted es → length es ≤ 4097 → e.inferiors ≡ 0 → (i : ℕ) → i < length (es ++ e ∷ [])
+pub pushed_few : (es : List Entry) (e : Entry) → IsCounted es → length es ≤ 4097 → e.inferiors ≡ 0 → (i : ℕ)
+    → i < length (es ++ e ∷ [])
     → (entry_at (es ++ e ∷ []) i).inferiors + 1 < 2 ^ 32
 pushed_few es e counted few none = each_pushed es e no_entry (λ d. d.inferiors + 1 < 2 ^ 32)
     (λ i lt. (let le = few_counted es counted few i lt in omega arith)) (omega arith)
 
-pub counted_with : {nodes : List Node} {es : List Entry} {free : List ℕ} {index : Places} {next : ℕ} → IsKept nodes es free index next → IsCounted es
-    → (s : ℕ) → is_directory (newest nodes es) s ≡ true → (e : Entry) → e.uid ≡ next → e.superior ≡ Some s → e.inferiors ≡ 0
+pub counted_with : {nodes : List Node} {es : List Entry} {free : List ℕ} {index : Places} {next : ℕ}
+    → IsKept nodes es free index next → IsCounted es
+    → (s : ℕ) → is_directory (newest nodes es) s ≡ true → (e : Entry) → e.uid ≡ next → e.superior ≡ Some s
+    → e.inferiors ≡ 0
     → IsCounted (recounted s (λ n. n + 1) (es ++ e ∷ []))
 counted_with {nodes} {es} {free} {index} {next} k counted s is e new up none =
-    let there : (j : ℕ) × (j < length es) × ((entry_at es j).uid ≡ s) = entry_present k s (directory_in (newest nodes es) s is) in
+    let there : (j : ℕ) × (j < length es) × ((entry_at es j).uid ≡ s) =
+    entry_present k s (directory_in (newest nodes es) s is) in
     counted_added es counted e s up none (let b : (entry_at es there.0).uid < next = k.below there.0 there.1 in
     let same : (entry_at es there.0).uid ≡ s = there.2 in omega arith)
     (λ i lt t lies. (let older = superior_older k t i lt lies in let a : t < (entry_at es i).uid = older.0 in
     let b : (entry_at es i).uid < next = k.below i lt in omega arith))
 
-pub removed_rising : {nodes : List Node} {es : List Entry} {free : List ℕ} {index : Places} {next : ℕ} → IsKept nodes es free index next → (i : ℕ)
+pub removed_rising : {nodes : List Node} {es : List Entry} {free : List ℕ} {index : Places} {next : ℕ}
+    → IsKept nodes es free index next → (i : ℕ)
     → i < length es → IsAscending (remove es i)
 removed_rising {nodes} {es} {free} {index} {next} k i within a b lt in_b =
-    rw (at_was es i within a no_entry, at_was es i within b no_entry) (k.rising (was i a) (was i b) (was_up i a b lt) (was_within es i within b in_b))
+    rw (at_was es i within a no_entry, at_was es i within b no_entry)
+    (k.rising (was i a) (was i b) (was_up i a b lt) (was_within es i within b in_b))

@@ -1,11 +1,13 @@
 -- What holds of each element of a list after one more at its end, or one less.
-use Rattle.std.proofs.Common.{◌≡◌, ◌≢◌, ℕ, ◌+◌, ◌-◌, ◌<◌, List, [], ◌∷◌, ◌++◌, length, refl, sym, subst, arith, get_or, inl, inr, leb, if◌then◌else◌}
+use Rattle.std.proofs.Common.{◌≡◌, ◌≢◌, ℕ, ◌+◌, ◌-◌, ◌<◌, List, [], ◌∷◌, ◌++◌, length, refl, sym, subst, arith, get_or}
+use Rattle.std.proofs.Common.{inl, inr, leb, if◌then◌else◌}
 use Rattle.std.specs.List.{remove}
 use Rattle.std.proofs.lemmas.Bool.{cases_lt, le-leb, lt-leb}
 use Rattle.std.proofs.lemmas.List.{get_or_append_left, get_or_push, length_push}
 use Rattle.std.proofs.lemmas.List.Edits.{length-remove, get_or-remove_below, get_or-remove_above}
 
-pub each_pushed : {X : Type 0} (xs : List X) (y d : X) (P : X → Type 0) → ((i : ℕ) → i < length xs → P (get_or xs i d)) → P y → (i : ℕ)
+pub each_pushed : {X : Type 0} (xs : List X) (y d : X) (P : X → Type 0) → ((i : ℕ) → i < length xs → P (get_or xs i d))
+    → P y → (i : ℕ)
     → i < length (xs ++ y ∷ []) → P (get_or (xs ++ y ∷ []) i d)
 each_pushed xs y d P old new i lt =
     let n : length (xs ++ y ∷ []) ≡ length xs + 1 = length_push xs y in
@@ -26,7 +28,11 @@ was_other i k e = elim (cases_lt k i) [
 
 pub was_up : (i a b : ℕ) → a < b → was i a < was i b
 was_up i a b lt = elim (cases_lt a i) [
-  | inl x ↦ elim (cases_lt b i) [ inl y ↦ rw (lt-leb i a x, lt-leb i b y) lt | inr y ↦ rw (lt-leb i a x, le-leb i b y) (omega arith) ]
+  | inl x ↦ elim (cases_lt b i) [
+    | inl y ↦ rw (lt-leb i a x, lt-leb i b y) lt
+    | inr y ↦ rw (lt-leb i a x, le-leb i b y)
+        (omega arith)
+  ]
   | inr x ↦ rw (le-leb i a x, le-leb i b (omega arith)) (omega arith)
 ]
 
@@ -51,11 +57,14 @@ module _ {X : Type 0} (xs : List X) (i : ℕ) (within : i < length xs) where
   fewer = length-remove xs i within
 
   pub was_within : (k : ℕ) → k < length (remove xs i) → was i k < length xs
-  was_within k lt = (let n = fewer in elim (cases_lt k i) [ inl x ↦ rw (lt-leb i k x) (omega arith) | inr x ↦ rw (le-leb i k x) (omega arith) ])
+  was_within k lt = (let n = fewer in elim (cases_lt k i)
+      [ inl x ↦ rw (lt-leb i k x) (omega arith) | inr x ↦ rw (le-leb i k x) (omega arith) ])
 
   pub now_within : (j : ℕ) → j < length xs → j ≢ i → now i j < length (remove xs i)
-  now_within j lt ne = (let n = fewer in elim (cases_lt j i) [ inl x ↦ rw (lt-leb i j x) (omega arith) | inr x ↦ rw (le-leb i j x) (omega arith) ])
+  now_within j lt ne = (let n = fewer in elim (cases_lt j i)
+      [ inl x ↦ rw (lt-leb i j x) (omega arith) | inr x ↦ rw (le-leb i j x) (omega arith) ])
 
-  pub each_left : (d : X) (P : X → Type 0) → ((j : ℕ) → j < length xs → j ≢ i → P (get_or xs j d)) → (k : ℕ) → k < length (remove xs i)
+  pub each_left : (d : X) (P : X → Type 0) → ((j : ℕ) → j < length xs → j ≢ i → P (get_or xs j d)) → (k : ℕ)
+      → k < length (remove xs i)
       → P (get_or (remove xs i) k d)
   each_left d P all k lt = subst P (sym (at_was k d)) (all (was i k) (was_within k lt) (was_other i k))

@@ -1,5 +1,6 @@
 -- What the order of keys tells, and what an edit of the index leaves.
-use Rattle.std.proofs.Common.{◌≡◌, ◌≢◌, ℕ, ◌+◌, ◌-◌, ◌<◌, ◌≤◌, true, List, length, Option, Some, None, refl, sym, ap, subst, ◌∙◌, arith, get_or, inl, inr, ◌⊎◌}
+use Rattle.std.proofs.Common.{◌≡◌, ◌≢◌, ℕ, ◌+◌, ◌-◌, ◌<◌, ◌≤◌, true, List, length, Option, Some, None, refl, sym, ap}
+use Rattle.std.proofs.Common.{subst, ◌∙◌, arith, get_or, inl, inr, ◌⊎◌}
 use Rattle.std.specs.Prelude.{◌↔◌, bytes_eq}
 use Rattle.std.specs.List.{insert, remove}
 use Rattle.std.specs.declared.cmp.Ordering.{Ordering}
@@ -12,7 +13,8 @@ use Rattle.std.proofs.lemmas.Cmp.{tied_itself, then_total, on_total, nat_cmp_tot
 use Rattle.std.proofs.lemmas.Map.Text.{is_eq-slice_cmp}
 use Rattle.std.proofs.lemmas.Slice.Eq.{bytes_eq-Decides}
 use Rattle.std.proofs.lemmas.Bool.{cases_lt, cases_eq, cases_order, and_from}
-use Rattle.std.proofs.lemmas.List.Edits.{length-insert, get_or-insert_below, get_or-insert_at, get_or-insert_above, get_or-remove_below, get_or-remove_above}
+use Rattle.std.proofs.lemmas.List.Edits.{length-insert, get_or-insert_below, get_or-insert_at, get_or-insert_above}
+use Rattle.std.proofs.lemmas.List.Edits.{get_or-remove_below, get_or-remove_above}
 use Rattle.tree_model.specs.Tree.{is_branch, is_inferior}
 use Rattle.dir_tree.specs.declared.node.Node.{Node}
 use Rattle.dir_tree.specs.Shape.{shape}
@@ -25,7 +27,8 @@ use Rattle.dir_tree.specs.Laws.{Where, Before, Here, After, where_is}
 
 key_total : IsTotalOrder key_cmp
 unfolding key_cmp
-key_total = then_total (on_total (λ (k : Key). k.0) (options_total nat_cmp_total)) (on_total (λ (k : Key). k.1) nat_list_cmp_total)
+key_total = then_total (on_total (λ (k : Key). k.0) (options_total nat_cmp_total))
+    (on_total (λ (k : Key). k.1) nat_list_cmp_total)
 
 -- no key is before itself
 pub not_itself : (x y : Key) → x ≡ y → key_cmp x y ≢ Less
@@ -39,11 +42,13 @@ superiors_tied : (a b : Option ℕ) → option_cmp nat_cmp a b ≡ Equal → a �
 superiors_tied None None e = refl
 superiors_tied None (Some y) e = cc
 superiors_tied (Some x) None e = cc
-superiors_tied (Some x) (Some y) e = (let same : x ≡ y = subst (λ o. MatchOrdering o (x < y) (x ≡ y) (y < x)) e (ranked x y (nat_cmp x y) refl) in
+superiors_tied (Some x) (Some y) e = (let same : x ≡ y =
+    subst (λ o. MatchOrdering o (x < y) (x ≡ y) (y < x)) e (ranked x y (nat_cmp x y) refl) in
     ap (λ (n : ℕ). Some n) same)
 
 names_tied : (a b : List ℕ) → slice_cmp nat_cmp a b ≡ Equal → a ≡ b
-names_tied a b e = (let same : bytes_eq a b ≡ true = sym (is_eq-slice_cmp a b) ∙ ap is_eq e in (bytes_eq-Decides a b).0 same)
+names_tied a b e = (let same : bytes_eq a b ≡ true = sym (is_eq-slice_cmp a b)
+    ∙ ap is_eq e in (bytes_eq-Decides a b).0 same)
 
 then_tied : (o p : Ordering) → ordering_then o p ≡ Equal → (o ≡ Equal) × (p ≡ Equal)
 then_tied Less p e = cc
@@ -70,14 +75,16 @@ pub after_other : (x y : Key) → key_cmp x y ≢ Less → x ≢ y → key_cmp y
 after_other x y isnt other = after_by x y (key_cmp x y) (key_cmp y x) refl refl isnt other
 
 pub branch_key : (d : ℕ) (name : List ℕ) (n : Node) → is_branch d name (shape n) ≡ true → key_of n ≡ (Some d, name)
-branch_key d name n is = (let h : (n.superior ≡ Some d) × (n.name ≡ name) = lies d name (shape n) is in ap (λ (s : Option ℕ). (s, n.name)) h.0
+branch_key d name n is = (let h : (n.superior ≡ Some d) × (n.name ≡ name) =
+    lies d name (shape n) is in ap (λ (s : Option ℕ). (s, n.name)) h.0
     ∙ ap (λ (m : List ℕ). (Some d, m)) h.1)
 
 pub key_branch : (d : ℕ) (name : List ℕ) (n : Node) → key_of n ≡ (Some d, name) → is_branch d name (shape n) ≡ true
 key_branch d name n e =
     let up : n.superior ≡ Some d = ap (λ (k : Key). k.0) e in
     let same : n.name ≡ name = ap (λ (k : Key). k.1) e in
-    and_from (is_inferior d (shape n)) (bytes_eq n.name name) (is_below d (shape n) up) ((bytes_eq-Decides n.name name).1 same)
+    and_from (is_inferior d (shape n)) (bytes_eq n.name name) (is_below d (shape n) up)
+    ((bytes_eq-Decides n.name name).1 same)
 
 -- ---- one place more
 
@@ -108,30 +115,45 @@ module _ (ps : List ℕ) (i place : ℕ) (within : i ≤ length ps) where
       let n : length longer ≡ length ps + 1 = size in
       elim (cases_lt x.at i) [
         | inl before ↦ record { at = x.at; within = omega (arith, x.within); is = at_before x.at before ∙ x.is }
-        | inr after ↦ record { at = x.at + 1; within = omega (arith, x.within); is = at_after (x.at + 1) x.at refl after ∙ x.is }
+        | inr after ↦ record {
+          at = x.at + 1;
+          within = omega (arith, x.within);
+          is =
+              at_after (x.at + 1) x.at refl after ∙ x.is;
+        }
       ]
 
   pub place_inserted : (p : ℕ) → HasPlace (insert ps i place) p ↔ (HasPlace ps p ⊎ (p ≡ place))
   place_inserted p = (
     λ x. old_or_new p x.at x.within x.is (where_is x.at i),
-    λ o. elim o [ inl x ↦ still_there p x | inr e ↦ (let n = size in record { at = i; within = omega arith; is = at_here ∙ sym e }) ],
+    λ o. elim o [
+      | inl x ↦ still_there p x
+      | inr e ↦ (let n =
+          size in record { at = i; within = omega arith; is = at_here ∙ sym e })
+    ],
   )
 
-  module _ (nodes : List Node) (sorted : IsSorted nodes ps) (below : (k : ℕ) → k < i → key_cmp (key_at nodes ps k) (key_of (node_at nodes place)) ≡ Less)
-      (above : (k : ℕ) → i ≤ k → k < length ps → key_cmp (key_of (node_at nodes place)) (key_at nodes ps k) ≡ Less) where
-    sorted_at : (a b : ℕ) → a < b → b < length longer → Where a i → Where b i → key_cmp (key_at nodes longer a) (key_at nodes longer b) ≡ Less
-    sorted_at a b lt w (Before x) (Before y) = rw (at_before a x, at_before b y) (sorted a b lt (omega arith))
-    sorted_at a b lt w (Before x) (Here y) = rw (at_before a x, y, at_here) (below a x)
-    sorted_at a b lt w (Before x) (After j e g) = rw (at_before a x, at_after b j e g) (let n = size in sorted a j (omega arith) (omega arith))
-    sorted_at a b lt w (Here x) (Before y) = absurd (omega arith)
-    sorted_at a b lt w (Here x) (Here y) = absurd (omega arith)
-    sorted_at a b lt w (Here x) (After j e g) = rw (x, at_here, at_after b j e g) (let n = size in above j g (omega arith))
-    sorted_at a b lt w (After i' d f) (Before y) = absurd (omega arith)
-    sorted_at a b lt w (After i' d f) (Here y) = absurd (omega arith)
-    sorted_at a b lt w (After i' d f) (After j e g) = rw (at_after a i' d f, at_after b j e g) (let n = size in sorted i' j (omega arith) (omega arith))
+  module _ (nodes : List Node) (sorted : IsSorted nodes ps)
+      (below : (k : ℕ) → k < i → key_cmp (key_at nodes ps k) (key_of (node_at nodes place)) ≡ Less)
+      (above : (k : ℕ) → i ≤ k → k < length ps → key_cmp (key_of (node_at nodes place)) (key_at nodes ps k) ≡ Less)
+    where
+      sorted_at : (a b : ℕ) → a < b → b < length longer → Where a i → Where b i
+          → key_cmp (key_at nodes longer a) (key_at nodes longer b) ≡ Less
+      sorted_at a b lt w (Before x) (Before y) = rw (at_before a x, at_before b y) (sorted a b lt (omega arith))
+      sorted_at a b lt w (Before x) (Here y) = rw (at_before a x, y, at_here) (below a x)
+      sorted_at a b lt w (Before x) (After j e g) = rw (at_before a x, at_after b j e g)
+          (let n = size in sorted a j (omega arith) (omega arith))
+      sorted_at a b lt w (Here x) (Before y) = absurd (omega arith)
+      sorted_at a b lt w (Here x) (Here y) = absurd (omega arith)
+      sorted_at a b lt w (Here x) (After j e g) = rw (x, at_here, at_after b j e g)
+          (let n = size in above j g (omega arith))
+      sorted_at a b lt w (After i' d f) (Before y) = absurd (omega arith)
+      sorted_at a b lt w (After i' d f) (Here y) = absurd (omega arith)
+      sorted_at a b lt w (After i' d f) (After j e g) = rw (at_after a i' d f, at_after b j e g)
+          (let n = size in sorted i' j (omega arith) (omega arith))
 
-    pub inserted_sorted : IsSorted nodes (insert ps i place)
-    inserted_sorted a b lt w = sorted_at a b lt w (where_is a i) (where_is b i)
+      pub inserted_sorted : IsSorted nodes (insert ps i place)
+      inserted_sorted a b lt w = sorted_at a b lt w (where_is a i) (where_is b i)
 
 -- ---- one place less
 
@@ -140,20 +162,28 @@ module _ (nodes : List Node) (ps : List ℕ) (i : ℕ) (within : i < length ps) 
   shorter = remove ps i
 
   pub removed_sorted : IsSorted nodes (remove ps i)
-  removed_sorted a b lt w = rw (at_was ps i within a 0, at_was ps i within b 0) (sorted (was i a) (was i b) (was_up i a b lt) (was_within ps i within b w))
+  removed_sorted a b lt w = rw (at_was ps i within a 0, at_was ps i within b 0)
+      (sorted (was i a) (was i b) (was_up i a b lt) (was_within ps i within b w))
 
   apart : (a b : ℕ) → a < b → b < length ps → get_or ps a 0 ≢ get_or ps b 0
-  apart a b lt w e = not_itself (key_at nodes ps a) (key_at nodes ps b) (ap (λ p. key_of (node_at nodes p)) e) (sorted a b lt w)
+  apart a b lt w e = not_itself (key_at nodes ps a) (key_at nodes ps b) (ap (λ p. key_of (node_at nodes p)) e)
+      (sorted a b lt w)
 
   still_left : (p : ℕ) → HasPlace ps p → p ≢ get_or ps i 0 → HasPlace shorter p
   still_left p x ne =
       let n = fewer ps i within in
       let other : x.at ≢ i = λ e. ne (sym x.is ∙ ap (λ j. get_or ps j 0) e) in
       elim (cases_lt x.at i) [
-        | inl before ↦ record { at = x.at; within = omega arith; is = get_or-remove_below ps i 0 x.at before within ∙ x.is }
+        | inl before ↦ record {
+          at = x.at;
+          within = omega arith;
+          is = get_or-remove_below ps i 0 x.at before within
+              ∙ x.is;
+        }
         | inr after ↦
             (let same : x.at - 1 + 1 ≡ x.at = omega arith in
-            let e : get_or shorter (x.at - 1) 0 ≡ get_or ps x.at 0 = rw same at (get_or-remove_above ps i 0 (x.at - 1) (omega arith) within) in
+            let e : get_or shorter (x.at - 1) 0 ≡ get_or ps x.at 0 =
+            rw same at (get_or-remove_above ps i 0 (x.at - 1) (omega arith) within) in
             record { at = x.at - 1; within = omega (arith, x.within); is = e ∙ x.is })
       ]
 
@@ -172,7 +202,12 @@ module _ (nodes : List Node) (ps : List ℕ) (i : ℕ) (within : i < length ps) 
   pub place_removed : (place p : ℕ) → get_or ps i 0 ≡ place → HasPlace (remove ps i) p ↔ (HasPlace ps p × (p ≢ place))
   place_removed place p is = (
     λ x. (
-      record { at = was i x.at; within = was_within ps i within x.at x.within; is = sym (at_was ps i within x.at 0) ∙ x.is },
+      record {
+        at = was i x.at;
+        within = was_within ps i within x.at x.within;
+        is = sym (at_was ps i within x.at 0)
+            ∙ x.is;
+      },
       λ e. no_longer x.at x.within (x.is ∙ e ∙ sym is),
     ),
     λ y. still_left p y.0 (λ e. y.1 (e ∙ is)),
@@ -181,14 +216,16 @@ module _ (nodes : List Node) (ps : List ℕ) (i : ℕ) (within : i < length ps) 
 -- ---- the search
 
 -- what stands after one that is before a key's place can't be before it
-pub halved_below : (nodes : List Node) (ps : List ℕ) (m : ℕ) (key : Key) → IsSorted nodes ps → m < length ps → key_cmp (key_at nodes ps m) key ≡ Less
+pub halved_below : (nodes : List Node) (ps : List ℕ) (m : ℕ) (key : Key) → IsSorted nodes ps → m < length ps
+    → key_cmp (key_at nodes ps m) key ≡ Less
     → (k : ℕ) → k < m + 1 → key_cmp (key_at nodes ps k) key ≡ Less
 halved_below nodes ps m key sorted within less k lt = elim (cases_eq k m) [
   | inl same ↦ subst (λ (j : ℕ). key_cmp (key_at nodes ps j) key ≡ Less) (sym same) less
   | inr other ↦ less_through _ _ _ (sorted k m (omega arith) within) less
 ]
 
-pub halved_above : (nodes : List Node) (ps : List ℕ) (m : ℕ) (key : Key) → IsSorted nodes ps → key_cmp (key_at nodes ps m) key ≢ Less → (k : ℕ) → m ≤ k
+pub halved_above : (nodes : List Node) (ps : List ℕ) (m : ℕ) (key : Key) → IsSorted nodes ps
+    → key_cmp (key_at nodes ps m) key ≢ Less → (k : ℕ) → m ≤ k
     → k < length ps → key_cmp (key_at nodes ps k) key ≢ Less
 halved_above nodes ps m key sorted isnt k le within less = elim (cases_eq k m) [
   | inl same ↦ isnt (subst (λ (j : ℕ). key_cmp (key_at nodes ps j) key ≡ Less) same less)
@@ -196,20 +233,23 @@ halved_above nodes ps m key sorted isnt k le within less = elim (cases_eq k m) [
 ]
 
 -- the branch of a key can only stand in the first place that isn't before it
-pub first_is : (nodes : List Node) (ps : List ℕ) (at : ℕ) (key : Key) → IsSorted nodes ps → ((k : ℕ) → k < at → key_cmp (key_at nodes ps k) key ≡ Less)
+pub first_is : (nodes : List Node) (ps : List ℕ) (at : ℕ) (key : Key) → IsSorted nodes ps
+    → ((k : ℕ) → k < at → key_cmp (key_at nodes ps k) key ≡ Less)
     → ((k : ℕ) → at ≤ k → k < length ps → key_cmp (key_at nodes ps k) key ≢ Less)
     → (k : ℕ) → k < length ps → key_at nodes ps k ≡ key → k ≡ at
 first_is nodes ps at key sorted below from k within is = elim (cases_order k at) [
   | inl same ↦ same
   | inr differ ↦ elim differ [
     | inl before ↦ absurd (not_itself (key_at nodes ps k) key is (below k before))
-    | inr after ↦ absurd (from at (omega arith) (omega arith) (subst (λ (x : Key). key_cmp (key_at nodes ps at) x ≡ Less) is (sorted at k after within)))
+    | inr after ↦ absurd (from at (omega arith) (omega arith)
+        (subst (λ (x : Key). key_cmp (key_at nodes ps at) x ≡ Less) is (sorted at k after within)))
   ]
 ]
 
 pub branch_at_first : (nodes : List Node) (ps : List ℕ) (at superior : ℕ) (name : List ℕ) → IsSorted nodes ps
     → ((k : ℕ) → k < at → key_cmp (key_at nodes ps k) (Some superior, name) ≡ Less)
-    → ((k : ℕ) → at ≤ k → k < length ps → key_cmp (key_at nodes ps k) (Some superior, name) ≢ Less) → (place : ℕ) → (there : HasPlace ps place)
+    → ((k : ℕ) → at ≤ k → k < length ps → key_cmp (key_at nodes ps k) (Some superior, name) ≢ Less) → (place : ℕ)
+    → (there : HasPlace ps place)
     → is_branch superior name (shape (node_at nodes place)) ≡ true → there.at ≡ at
 branch_at_first nodes ps at superior name sorted below from place there is =
     first_is nodes ps at (Some superior, name) sorted below from there.at there.within

@@ -1,9 +1,11 @@
 -- What a new branch, a branch less, and a change of a node leave of the tables behind a tree.
-use Rattle.std.proofs.Common.{◌≡◌, ◌≢◌, ℕ, suc, ◌<◌, Bool, true, false, eqb, leb, ◌&&◌, List, [], ◌∷◌, ◌++◌, length, Option, Some, None, refl, sym, ap, subst}
+use Rattle.std.proofs.Common.{◌≡◌, ◌≢◌, ℕ, suc, ◌<◌, Bool, true, false, eqb, leb, ◌&&◌, List, [], ◌∷◌, ◌++◌, length}
+use Rattle.std.proofs.Common.{Option, Some, None, refl, sym, ap, subst}
 use Rattle.std.proofs.Common.{◌∙◌, arith, get_or, inl, inr, is_some, IfSome}
 use Rattle.std.specs.List.{find, list_any}
 use Rattle.std.specs.Option.{option_map, option_and_then}
-use Rattle.std.proofs.lemmas.Bool.{cases_Bool, cases_lt, cases_order, both_ways, le-leb, eq-eqb, ne_eqb, eqb-true, leb-false, and_from}
+use Rattle.std.proofs.lemmas.Bool.{cases_Bool, cases_lt, cases_order, both_ways, le-leb, eq-eqb, ne_eqb, eqb-true}
+use Rattle.std.proofs.lemmas.Bool.{leb-false, and_from}
 use Rattle.std.proofs.lemmas.List.{map-append, get_or_read}
 use Rattle.tree_model.specs.Tree.{Node as Term, above, branch_in, is_branch, is_inferior}
 use Rattle.dir_tree.specs.declared.node.Node.{Node}
@@ -15,7 +17,8 @@ use Rattle.dir_tree.specs.Shape.{shape, shapes}
 use Rattle.tree_model.specs.Trees.{AreBelow}
 use Rattle.dir_tree.specs.Laws.{directory_shape, directory_in}
 use Rattle.dir_tree.specs.Kept.{entry_at, newest, IsNamed, IsKept, HasEntry}
-use Rattle.tree_model.proofs.Finds.{IsMember, member_parts, member_map, member_found, branch_found, any_member, any_found, find_map, found_member, found_passes}
+use Rattle.tree_model.proofs.Finds.{IsMember, member_parts, member_map, member_found, branch_found, any_member}
+use Rattle.tree_model.proofs.Finds.{any_found, find_map, found_member, found_passes}
 use Rattle.dir_tree.proofs.NewestLemmas.{node_of_entry, none_newest, find_newest, member_newest}
 use Rattle.tree_model.proofs.TreeLaws.{superior_in, lies, only_branch, is_below, not_below, IsUp}
 
@@ -25,11 +28,13 @@ below_append : (v : ℕ) (xs ys : List Term) → AreBelow v xs → AreBelow v ys
 below_append v [] ys a b = b
 below_append v (x ∷ xs) ys a b = (a.0, below_append v xs ys a.1 b)
 
-pub below_newest : (v : ℕ) (ns : List Node) (es : List Entry) → ((i : ℕ) → i < length es → (node_of_entry ns es i).uid < v) → AreBelow v (shapes (newest ns es))
+pub below_newest : (v : ℕ) (ns : List Node) (es : List Entry)
+    → ((i : ℕ) → i < length es → (node_of_entry ns es i).uid < v) → AreBelow v (shapes (newest ns es))
 below_newest v ns [] all = tt
 below_newest v ns (e ∷ es) all =
     rw (map-append shape (newest ns es) (node_at ns e.place ∷ []))
-    (below_append v (shapes (newest ns es)) (shape (node_at ns e.place) ∷ []) (below_newest v ns es (λ i lt. all (suc i) (omega arith)))
+    (below_append v (shapes (newest ns es)) (shape (node_at ns e.place) ∷ [])
+    (below_newest v ns es (λ i lt. all (suc i) (omega arith)))
     (all 0 (omega arith), tt))
 
 -- what keeps no branch from being added
@@ -38,10 +43,12 @@ pub record MayAdd (ns : List Term) (s : ℕ) (name : List ℕ) (dir : Bool) : Ty
   pub shallow : dir ≡ true → length (above ns s) < 8
   pub room : length ns < 4097
 
-no_fault_at : (ns : List Term) (s : ℕ) (name : List ℕ) (dir : Bool) → add_fault_of ns s name dir ≡ None → (o : Option Term) → branch_in ns s name ≡ o
+no_fault_at : (ns : List Term) (s : ℕ) (name : List ℕ) (dir : Bool) → add_fault_of ns s name dir ≡ None
+    → (o : Option Term) → branch_in ns s name ≡ o
     → MayAdd ns s name dir
 no_fault_at ns s name dir e (Some n) is =
-    (let z : is_some (branch_in ns s name) ≡ true = ap is_some is in let y : Some add_fault.Exists ≡ None = rw z at e in cc)
+    (let z : is_some (branch_in ns s name) ≡ true = ap is_some is in let y : Some add_fault.Exists ≡ None =
+    rw z at e in cc)
 no_fault_at ns s name dir e None is =
     let z : is_some (branch_in ns s name) ≡ false = ap is_some is in
     elim (cases_Bool (dir && leb 8 (length (above ns s)))) [
@@ -53,19 +60,22 @@ no_fault_at ns s name dir e None is =
           shallow = λ d. elim (cases_lt (length (above ns s)) 8) [
             | inl lt ↦ lt
             | inr le ↦
-                absurd (both_ways _ isnt (and_from dir (leb 8 (length (above ns s))) d (le-leb 8 (length (above ns s)) le)))
+                absurd (both_ways _ isnt (and_from dir (leb 8 (length (above ns s))) d
+                (le-leb 8 (length (above ns s)) le)))
           ];
           room = leb-false 4097 (length ns) room;
         }
       ]
     ]
 
-pub no_fault : (ns : List Term) (s : ℕ) (name : List ℕ) (dir : Bool) → add_fault_of ns s name dir ≡ None → MayAdd ns s name dir
+pub no_fault : (ns : List Term) (s : ℕ) (name : List ℕ) (dir : Bool) → add_fault_of ns s name dir ≡ None
+    → MayAdd ns s name dir
 no_fault ns s name dir e = no_fault_at ns s name dir e (branch_in ns s name) refl
 
 -- ---- an entry and its node
 
-module _ {nodes : List Node} {es : List Entry} {free : List ℕ} {index : Places} {next : ℕ} (k : IsKept nodes es free index next) where
+module _ {nodes : List Node} {es : List Entry} {free : List ℕ} {index : Places} {next : ℕ}
+    (k : IsKept nodes es free index next) where
   -- two entries are of different uids, and so in different places
   apart_uids : (i j : ℕ) → i < length es → j < length es → j ≢ i → (entry_at es j).uid ≢ (entry_at es i).uid
   apart_uids i j lt_i lt_j ne e = elim (cases_order j i) [
@@ -78,19 +88,26 @@ module _ {nodes : List Node} {es : List Entry} {free : List ℕ} {index : Places
   ]
 
   pub apart_places : (i j : ℕ) → i < length es → j < length es → j ≢ i → (entry_at es j).place ≢ (entry_at es i).place
-  apart_places i j lt_i lt_j ne e = apart_uids i j lt_i lt_j ne (sym (k.uids j lt_j) ∙ ap (λ p. (node_at nodes p).uid) e ∙ k.uids i lt_i)
+  apart_places i j lt_i lt_j ne e = apart_uids i j lt_i lt_j ne
+      (sym (k.uids j lt_j) ∙ ap (λ p. (node_at nodes p).uid) e ∙ k.uids i lt_i)
 
-  pub not_of : (uid i j : ℕ) → i < length es → (entry_at es i).uid ≡ uid → j < length es → j ≢ i → eqb (node_of_entry nodes es j).uid uid ≡ false
+  pub not_of : (uid i j : ℕ) → i < length es → (entry_at es i).uid ≡ uid → j < length es → j ≢ i
+      → eqb (node_of_entry nodes es j).uid uid ≡ false
   not_of uid i j lt_i is lt_j ne = ne_eqb _ _ (λ e. apart_uids i j lt_i lt_j ne (sym (k.uids j lt_j) ∙ e ∙ sym is))
 
-  pub node_found : (uid i : ℕ) → i < length es → (entry_at es i).uid ≡ uid → node_of (newest nodes es) uid ≡ Some (node_of_entry nodes es i)
-  node_found uid i lt is = find_newest (λ n. eqb n.uid uid) nodes es i lt (eq-eqb _ _ (k.uids i lt ∙ is)) (λ j lt_j ne. not_of uid i j lt is lt_j ne)
+  pub node_found : (uid i : ℕ) → i < length es → (entry_at es i).uid ≡ uid → node_of (newest nodes es) uid
+      ≡ Some (node_of_entry nodes es i)
+  node_found uid i lt is = find_newest (λ n. eqb n.uid uid) nodes es i lt (eq-eqb _ _ (k.uids i lt ∙ is))
+      (λ j lt_j ne. not_of uid i j lt is lt_j ne)
 
-  pub node_missing : (uid : ℕ) → ((i : ℕ) → i < length es → (entry_at es i).uid ≢ uid) → node_of (newest nodes es) uid ≡ None
-  node_missing uid none = none_newest (λ n. eqb n.uid uid) nodes es (λ j lt. ne_eqb _ _ (λ e. none j lt (sym (k.uids j lt) ∙ e)))
+  pub node_missing : (uid : ℕ) → ((i : ℕ) → i < length es → (entry_at es i).uid ≢ uid) → node_of (newest nodes es) uid
+      ≡ None
+  node_missing uid none = none_newest (λ n. eqb n.uid uid) nodes es
+      (λ j lt. ne_eqb _ _ (λ e. none j lt (sym (k.uids j lt) ∙ e)))
 
 -- an entry is that of a node that is there
-pub member_entry : (ns : List Node) (es : List Entry) (x : Node) → IsMember x (newest ns es) → (i : ℕ) × (i < length es) × (node_of_entry ns es i ≡ x)
+pub member_entry : (ns : List Node) (es : List Entry) (x : Node) → IsMember x (newest ns es) → (i : ℕ)
+    × (i < length es) × (node_of_entry ns es i ≡ x)
 member_entry ns [] x m = absurd m
 member_entry ns (e ∷ es) x m = elim (member_parts x (newest ns es) (node_at ns e.place ∷ []) m) [
   | inl old ↦ (let h = member_entry ns es x old in (suc h.0, omega (arith, h.1), h.2))
@@ -101,7 +118,8 @@ some_of : {X : Type 0} (o : Option X) → is_some o ≡ true → (x : X) × (o �
 some_of None e = cc
 some_of (Some x) e = (x, refl)
 
-pub entry_present : {nodes : List Node} {es : List Entry} {free : List ℕ} {index : Places} {next : ℕ} → IsKept nodes es free index next → (uid : ℕ)
+pub entry_present : {nodes : List Node} {es : List Entry} {free : List ℕ} {index : Places} {next : ℕ}
+    → IsKept nodes es free index next → (uid : ℕ)
     → is_in (newest nodes es) uid ≡ true → (i : ℕ) × (i < length es) × ((entry_at es i).uid ≡ uid)
 entry_present {nodes} {es} {free} {index} {next} k uid e =
     let n : (n : Node) × (node_of (newest nodes es) uid ≡ Some n) = some_of (node_of (newest nodes es) uid) e in
@@ -110,22 +128,26 @@ entry_present {nodes} {es} {free} {index} {next} k uid e =
     let is : eqb n.0.uid uid ≡ true = found_passes (λ n. eqb n.uid uid) (newest nodes es) n.0 n.1 in
     (m.0, m.1, sym (k.uids m.0 m.1) ∙ ap (λ (n : Node). n.uid) m.2 ∙ eqb-true n.0.uid uid is)
 
-pub up_in : (ns : List Node) (u : ℕ) (o : Option ℕ) → IsUp (shapes ns) u o → IfSome o (λ s. (s < u) × (is_in ns s ≡ true))
+pub up_in : (ns : List Node) (u : ℕ) (o : Option ℕ) → IsUp (shapes ns) u o
+    → IfSome o (λ s. (s < u) × (is_in ns s ≡ true))
 up_in ns u None up = tt
 up_in ns u (Some s) up = (up.0, directory_in ns s (sym (directory_shape ns s) ∙ up.1))
 
 -- ---- what a look-up reads
 
-pub node_read : {nodes : List Node} {es : List Entry} {free : List ℕ} {index : Places} {next : ℕ} → IsKept nodes es free index next → (uid : ℕ) (e : Entry)
+pub node_read : {nodes : List Node} {es : List Entry} {free : List ℕ} {index : Places} {next : ℕ}
+    → IsKept nodes es free index next → (uid : ℕ) (e : Entry)
     → HasEntry es uid e → (x : Node) → x ≡ get_or nodes e.place x → node_of (newest nodes es) uid ≡ Some x
 node_read {nodes} {es} {free} {index} {next} k uid e h x read =
-    let within : e.place < length nodes = subst (λ (d : Entry). d.place < length nodes) h.entry_is (k.within h.i h.within) in
+    let within : e.place < length nodes = subst (λ (d : Entry). d.place < length nodes) h.entry_is
+    (k.within h.i h.within) in
     let node : x ≡ node_at nodes e.place = get_or_read nodes e.place x within read no_node in
     node_found k uid h.i h.within (ap (λ (d : Entry). d.uid) h.entry_is ∙ h.uid_is)
     ∙ ap (λ (d : Entry). Some (node_at nodes d.place)) h.entry_is ∙ ap (λ (n : Node). Some n) (sym node)
 
 -- the superior of a node is its entry's
-pub superior_read : {nodes : List Node} {es : List Entry} {free : List ℕ} {index : Places} {next : ℕ} → IsKept nodes es free index next
+pub superior_read : {nodes : List Node} {es : List Entry} {free : List ℕ} {index : Places} {next : ℕ}
+    → IsKept nodes es free index next
     → (uid : ℕ) (e : Entry) → HasEntry es uid e → superior_in (shapes (newest nodes es)) uid ≡ e.superior
 superior_read {nodes} {es} {free} {index} {next} k uid e h =
     let found : node_of (newest nodes es) uid ≡ Some (node_of_entry nodes es h.i) =
@@ -135,11 +157,13 @@ superior_read {nodes} {es} {free} {index} {next} k uid e h =
     ap (option_and_then (λ n. n.superior)) shaped ∙ k.superiors h.i h.within ∙ ap (λ (d : Entry). d.superior) h.entry_is
 
 -- the branch of a name is the node that the index finds
-pub branch_read : {nodes : List Node} {es : List Entry} {free : List ℕ} {index : Places} {next : ℕ} → IsKept nodes es free index next
+pub branch_read : {nodes : List Node} {es : List Entry} {free : List ℕ} {index : Places} {next : ℕ}
+    → IsKept nodes es free index next
     → (d : ℕ) (name : List ℕ) (place : ℕ)
     → HasPlace index.places place → is_branch d name (shape (node_at nodes place)) ≡ true
     → branch_in (shapes (newest nodes es)) d name ≡ Some (shape (node_at nodes place))
-branch_read {nodes} {es} {free} {index} {next} k d name place there is = branch_at (branch_in (shapes (newest nodes es)) d name) refl
+branch_read {nodes} {es} {free} {index} {next} k d name place there is =
+    branch_at (branch_in (shapes (newest nodes es)) d name) refl
   where
     member : IsMember (shape (node_at nodes place)) (shapes (newest nodes es))
     member = (let p = k.places place there in
@@ -150,7 +174,8 @@ branch_read {nodes} {es} {free} {index} {next} k d name place there is = branch_
         → branch_in (shapes (newest nodes es)) d name ≡ Some (shape (node_at nodes place))
     branch_at None e = absurd (member_found (is_branch d name) (shapes (newest nodes es)) _ member is
         (sym (branch_found d name (shapes (newest nodes es))) ∙ e))
-    branch_at (Some x) e = e ∙ ap (λ (n : Term). Some n) (only_branch (shapes (newest nodes es)) k.tree d name x _ e member is)
+    branch_at (Some x) e = e ∙ ap (λ (n : Term). Some n)
+        (only_branch (shapes (newest nodes es)) k.tree d name x _ e member is)
 
 no_branch : (n : Node) (d : ℕ) (name : List ℕ) (places : List ℕ) (place : ℕ) → IsNamed places n.superior place
     → (HasPlace places place → is_branch d name (shape n) ≡ false) → is_branch d name (shape n) ≡ false
@@ -159,35 +184,45 @@ no_branch n d name places place named none = elim (cases_Bool (is_branch d name 
   | inl is ↦ none (subst (λ o. IsNamed places o place) (lies d name (shape n) is).0 named)
 ]
 
-pub branch_missing : {nodes : List Node} {es : List Entry} {free : List ℕ} {index : Places} {next : ℕ} → IsKept nodes es free index next
+pub branch_missing : {nodes : List Node} {es : List Entry} {free : List ℕ} {index : Places} {next : ℕ}
+    → IsKept nodes es free index next
     → (d : ℕ) (name : List ℕ)
-    → ((place : ℕ) → HasPlace index.places place → is_branch d name (shape (node_at nodes place)) ≡ false) → branch_in (shapes (newest nodes es)) d name ≡ None
+    → ((place : ℕ) → HasPlace index.places place → is_branch d name (shape (node_at nodes place)) ≡ false)
+    → branch_in (shapes (newest nodes es)) d name ≡ None
 branch_missing {nodes} {es} {free} {index} {next} k d name none =
     branch_found d name (shapes (newest nodes es)) ∙ find_map (is_branch d name) shape (newest nodes es)
     ∙ ap (option_map shape) (none_newest (λ n. is_branch d name (shape n)) nodes es (λ j lt.
     no_branch (node_of_entry nodes es j) d name index.places (entry_at es j).place
-    (subst (λ o. IsNamed index.places o (entry_at es j).place) (sym (k.superiors j lt)) (k.named j lt)) (none (entry_at es j).place)))
+    (subst (λ o. IsNamed index.places o (entry_at es j).place) (sym (k.superiors j lt)) (k.named j lt))
+    (none (entry_at es j).place)))
 
 -- where no branch of a name is there, no place of the index is that of one
-pub no_place : {nodes : List Node} {es : List Entry} {free : List ℕ} {index : Places} {next : ℕ} → IsKept nodes es free index next → (d : ℕ) (name : List ℕ)
+pub no_place : {nodes : List Node} {es : List Entry} {free : List ℕ} {index : Places} {next : ℕ}
+    → IsKept nodes es free index next → (d : ℕ) (name : List ℕ)
     → branch_in (shapes (newest nodes es)) d name ≡ None
     → (place : ℕ) → HasPlace index.places place → is_branch d name (shape (node_at nodes place)) ≡ true → ⊥
 no_place {nodes} {es} {free} {index} {next} k d name none place there is =
-    let found : branch_in (shapes (newest nodes es)) d name ≡ Some (shape (node_at nodes place)) = branch_read k d name place there is in
+    let found : branch_in (shapes (newest nodes es)) d name ≡ Some (shape (node_at nodes place)) =
+    branch_read k d name place there is in
     let no : None ≡ Some (shape (node_at nodes place)) = sym none ∙ found in
     cc
 
-pub places_within : {nodes : List Node} {es : List Entry} {free : List ℕ} {index : Places} {next : ℕ} → IsKept nodes es free index next
+pub places_within : {nodes : List Node} {es : List Entry} {free : List ℕ} {index : Places} {next : ℕ}
+    → IsKept nodes es free index next
     → AreWithin nodes index.places
 places_within {nodes} {es} {free} {index} {next} k i lt =
-    (let p = k.places (get_or index.places i 0) (record { at = i; within = lt; is = refl }) in subst (λ q. q < length nodes) p.place_is (k.within p.i p.within))
+    (let p = k.places (get_or index.places i 0) (record { at = i; within = lt; is = refl }) in subst
+    (λ q. q < length nodes) p.place_is (k.within p.i p.within))
 
-pub place_within : {nodes : List Node} {es : List Entry} {free : List ℕ} {index : Places} {next : ℕ} → IsKept nodes es free index next → (place : ℕ)
+pub place_within : {nodes : List Node} {es : List Entry} {free : List ℕ} {index : Places} {next : ℕ}
+    → IsKept nodes es free index next → (place : ℕ)
     → HasPlace index.places place → place < length nodes
-place_within {nodes} {es} {free} {index} {next} k place there = subst (λ q. q < length nodes) there.is (places_within k there.at there.within)
+place_within {nodes} {es} {free} {index} {next} k place there =
+    subst (λ q. q < length nodes) there.is (places_within k there.at there.within)
 
 -- what stands in the index is a node of the tree
-pub place_there : {nodes : List Node} {es : List Entry} {free : List ℕ} {index : Places} {next : ℕ} → IsKept nodes es free index next → (place : ℕ)
+pub place_there : {nodes : List Node} {es : List Entry} {free : List ℕ} {index : Places} {next : ℕ}
+    → IsKept nodes es free index next → (place : ℕ)
     → HasPlace index.places place
     → is_in (newest nodes es) (node_at nodes place).uid ≡ true
 place_there {nodes} {es} {free} {index} {next} k place there =
@@ -196,16 +231,21 @@ place_there {nodes} {es} {free} {index} {next} k place there =
     (ap is_some (node_found k (node_of_entry nodes es p.i).uid p.i p.within (sym (k.uids p.i p.within))))
 
 -- a node has an inferior where an entry has it as superior
-pub inferior_since : {nodes : List Node} {es : List Entry} {free : List ℕ} {index : Places} {next : ℕ} → IsKept nodes es free index next → (u i : ℕ)
+pub inferior_since : {nodes : List Node} {es : List Entry} {free : List ℕ} {index : Places} {next : ℕ}
+    → IsKept nodes es free index next → (u i : ℕ)
     → i < length es → (entry_at es i).superior ≡ Some u → list_any (is_inferior u) (shapes (newest nodes es)) ≡ true
 inferior_since {nodes} {es} {free} {index} {next} k u i lt is =
     let up : (node_of_entry nodes es i).superior ≡ Some u = k.superiors i lt ∙ is in
     any_member (is_inferior u) (shapes (newest nodes es)) (shape (node_of_entry nodes es i))
-    (member_map shape _ (newest nodes es) (member_newest nodes es i lt)) (is_below u (shape (node_of_entry nodes es i)) up)
+    (member_map shape _ (newest nodes es) (member_newest nodes es i lt))
+    (is_below u (shape (node_of_entry nodes es i)) up)
 
-pub no_inferior : {nodes : List Node} {es : List Entry} {free : List ℕ} {index : Places} {next : ℕ} → IsKept nodes es free index next → (u : ℕ)
-    → ((i : ℕ) → i < length es → (entry_at es i).superior ≢ Some u) → list_any (is_inferior u) (shapes (newest nodes es)) ≡ false
+pub no_inferior : {nodes : List Node} {es : List Entry} {free : List ℕ} {index : Places} {next : ℕ}
+    → IsKept nodes es free index next → (u : ℕ)
+    → ((i : ℕ) → i < length es → (entry_at es i).superior ≢ Some u)
+    → list_any (is_inferior u) (shapes (newest nodes es)) ≡ false
 no_inferior {nodes} {es} {free} {index} {next} k u none =
     any_found (is_inferior u) (shapes (newest nodes es))
-    ∙ ap is_some (find_map (is_inferior u) shape (newest nodes es) ∙ ap (option_map shape) (none_newest (λ n. is_inferior u (shape n)) nodes es (λ j lt.
+    ∙ ap is_some (find_map (is_inferior u) shape (newest nodes es)
+    ∙ ap (option_map shape) (none_newest (λ n. is_inferior u (shape n)) nodes es (λ j lt.
     not_below u (shape (node_of_entry nodes es j)) (λ e. none j lt (sym (k.superiors j lt) ∙ e)))))

@@ -1,12 +1,14 @@
 -- Where a path leads, what is above a node and what keeps a branch from being added don't depend on quotas, nor on
 -- anything but uids, superiors, names and kinds.
-use Rattle.std.proofs.Common.{◌≡◌, ℕ, ◌+◌, Bool, true, false, eqb, List, [], ◌∷◌, length, ◌||◌, Option, Some, None, Ok, refl, sym, ap, ◌∙◌, is_some, get_or}
+use Rattle.std.proofs.Common.{◌≡◌, ℕ, ◌+◌, Bool, true, false, eqb, List, [], ◌∷◌, length, ◌||◌, Option, Some, None, Ok}
+use Rattle.std.proofs.Common.{refl, sym, ap, ◌∙◌, is_some, get_or}
 use Rattle.std.proofs.Common.{drop, ◌<◌, ◌≤◌, arith, inl, inr}
 use Rattle.std.specs.List.{find}
 use Rattle.std.specs.Option.{option_map, option_and_then}
 use Rattle.std.proofs.lemmas.Bool.{cases_Bool, eq-eqb}
 use Rattle.std.proofs.lemmas.List.{length-map, at_drop_more, at_drop_all}
-use Rattle.tree_model.specs.Tree.{Node as Term, Walk, LeadsTo, node_in, branch_in, is_branch, is_inferior, onward, walk_from, walk_in}
+use Rattle.tree_model.specs.Tree.{Node as Term, Walk, LeadsTo, node_in, branch_in, is_branch, is_inferior, onward}
+use Rattle.tree_model.specs.Tree.{walk_from, walk_in}
 use Rattle.dir_tree.specs.declared.node.Node.{Node}
 use Rattle.dir_tree.specs.Laws.{above_any}
 use Rattle.dir_tree.specs.Nodes.{as_term, node_of, with_quotas, add_fault_of, has_inferior, unless}
@@ -15,13 +17,15 @@ use Rattle.tree_model.specs.Trees.{IsTree, Joins}
 use Rattle.tree_model.proofs.TreeLaws.{superior_in}
 use Rattle.tree_model.proofs.Finds.{find_map, branch_found}
 
-pub node_any : (q : ℕ → ℕ) (ns : List Node) (u : ℕ) → node_in (with_quotas q ns) u ≡ option_map (as_term q) (node_of ns u)
+pub node_any : (q : ℕ → ℕ) (ns : List Node) (u : ℕ) → node_in (with_quotas q ns) u
+    ≡ option_map (as_term q) (node_of ns u)
 node_any q [] u = refl
 node_any q (n ∷ ns) u = elim (cases_Bool (eqb n.uid u)) [ inl is ↦ rw is refl | inr isnt ↦ rw isnt (node_any q ns u) ]
 
 -- the superior of a node that is found
 pub superior_is : (ns : List Node) (u : ℕ) (n : Node) → node_of ns u ≡ Some n → superior_in (shapes ns) u ≡ n.superior
-superior_is ns u n e = ap (option_and_then (λ m. m.superior)) (find_map (λ n. eqb n.uid u) shape ns ∙ ap (option_map shape) e)
+superior_is ns u n e = ap (option_and_then (λ m. m.superior))
+    (find_map (λ n. eqb n.uid u) shape ns ∙ ap (option_map shape) e)
 
 -- the root is in each tree that has a node
 pub root_there : (ns : List Node) → IsTree (shapes ns) → 0 < length ns → is_some (node_of ns 1) ≡ true
@@ -31,54 +35,67 @@ root_there (n ∷ []) t some = first n.superior t.0
     first : (o : Option ℕ) → Joins [] o (shape n) → is_some (node_of (n ∷ []) 1) ≡ true
     first None root = rw (eq-eqb n.uid 1 root.one) refl
     first (Some s) branch = (let no : false ≡ true = branch.below in cc)
-root_there (n ∷ m ∷ ms) t some = elim (cases_Bool (eqb n.uid 1)) [ inl is ↦ rw is refl | inr isnt ↦ rw isnt (root_there (m ∷ ms) t.1 (omega arith)) ]
+root_there (n ∷ m ∷ ms) t some = elim (cases_Bool (eqb n.uid 1))
+    [ inl is ↦ rw is refl | inr isnt ↦ rw isnt (root_there (m ∷ ms) t.1 (omega arith)) ]
 
 branch_any : (q : ℕ → ℕ) (ns : List Node) (d : ℕ) (name : List ℕ)
     → branch_in (with_quotas q ns) d name ≡ option_map (as_term q) (find (λ n. is_branch d name (shape n)) ns)
 branch_any q ns d name = branch_found d name (with_quotas q ns) ∙ find_map (is_branch d name) (as_term q) ns
 
-pub branch_shape : (ns : List Node) (d : ℕ) (name : List ℕ) → branch_in (shapes ns) d name ≡ option_map shape (find (λ n. is_branch d name (shape n)) ns)
+pub branch_shape : (ns : List Node) (d : ℕ) (name : List ℕ) → branch_in (shapes ns) d name
+    ≡ option_map shape (find (λ n. is_branch d name (shape n)) ns)
 branch_shape ns d name = branch_found d name (shapes ns) ∙ find_map (is_branch d name) shape ns
 
-onward_any : (q : ℕ → ℕ) (f g : Term → Walk) → ((n : Node) → f (as_term q n) ≡ g (shape n)) → (b : Bool) (o : Option Node)
+onward_any : (q : ℕ → ℕ) (f g : Term → Walk) → ((n : Node) → f (as_term q n) ≡ g (shape n))
+    → (b : Bool) (o : Option Node)
     → onward f b (option_map (as_term q) o) ≡ onward g b (option_map shape o)
 onward_any q f g same false o = refl
 onward_any q f g same true None = refl
 onward_any q f g same true (Some n) = same n
 
-walk_any_from : (q : ℕ → ℕ) (ns : List Node) (u : ℕ) (b : Bool) (path : List (List ℕ)) → walk_from (with_quotas q ns) u b path ≡ walk_from (shapes ns) u b path
+walk_any_from : (q : ℕ → ℕ) (ns : List Node) (u : ℕ) (b : Bool) (path : List (List ℕ))
+    → walk_from (with_quotas q ns) u b path ≡ walk_from (shapes ns) u b path
 walk_any_from q ns u b [] = refl
 walk_any_from q ns u b (name ∷ names) =
     rw (branch_any q ns u name, branch_shape ns u name)
-    (onward_any q (λ n. walk_from (with_quotas q ns) n.uid n.directory names) (λ n. walk_from (shapes ns) n.uid n.directory names)
+    (onward_any q (λ n. walk_from (with_quotas q ns) n.uid n.directory names)
+    (λ n. walk_from (shapes ns) n.uid n.directory names)
     (λ n. walk_any_from q ns n.uid n.dir names) b (find (λ n. is_branch u name (shape n)) ns))
 
-pub walk_any : (q : ℕ → ℕ) (ns : List Node) (path : List (List ℕ)) → walk_in (with_quotas q ns) path ≡ walk_in (shapes ns) path
+pub walk_any : (q : ℕ → ℕ) (ns : List Node) (path : List (List ℕ)) → walk_in (with_quotas q ns) path
+    ≡ walk_in (shapes ns) path
 walk_any q ns path = walk_any_from q ns 1 true path
 
 some_map : {X Y : Type 0} (f : X → Y) (o : Option X) → is_some (option_map f o) ≡ is_some o
 some_map f None = refl
 some_map f (Some x) = refl
 
-pub named_any : (q : ℕ → ℕ) (ns : List Node) (d : ℕ) (name : List ℕ) → is_some (branch_in (with_quotas q ns) d name) ≡ is_some (branch_in (shapes ns) d name)
+pub named_any : (q : ℕ → ℕ) (ns : List Node) (d : ℕ) (name : List ℕ) → is_some (branch_in (with_quotas q ns) d name)
+    ≡ is_some (branch_in (shapes ns) d name)
 named_any q ns d name =
     ap is_some (branch_any q ns d name) ∙ some_map (as_term q) (find (λ n. is_branch d name (shape n)) ns)
     ∙ sym (ap is_some (branch_shape ns d name) ∙ some_map shape (find (λ n. is_branch d name (shape n)) ns))
 
-pub fault_any : (q : ℕ → ℕ) (ns : List Node) (d : ℕ) (name : List ℕ) (b : Bool) → add_fault_of (with_quotas q ns) d name b ≡ add_fault_of (shapes ns) d name b
-fault_any q ns d name b = rw (named_any q ns d name, above_any q ns d, length-map ns (as_term q), length-map ns shape) refl
+pub fault_any : (q : ℕ → ℕ) (ns : List Node) (d : ℕ) (name : List ℕ) (b : Bool)
+    → add_fault_of (with_quotas q ns) d name b ≡ add_fault_of (shapes ns) d name b
+fault_any q ns d name b = rw (named_any q ns d name, above_any q ns d, length-map ns (as_term q), length-map ns shape)
+    refl
 
 pub inferior_any : (q : ℕ → ℕ) (ns : List Node) (u : ℕ) → has_inferior (with_quotas q ns) u ≡ has_inferior (shapes ns) u
 inferior_any q [] u = refl
 inferior_any q (n ∷ ns) u = ap (λ b. is_inferior u (shape n) || b) (inferior_any q ns u)
 
 -- one more name of a path
-pub walk_next : (ns : List Term) (u : ℕ) (b : Bool) (names : List (List ℕ)) (i : ℕ) (name : List ℕ) → i < length names → name ≡ get_or names i name
-    → walk_from ns u b (drop i names) ≡ onward (λ n. walk_from ns n.uid n.directory (drop (i + 1) names)) b (branch_in ns u name)
+pub walk_next : (ns : List Term) (u : ℕ) (b : Bool) (names : List (List ℕ)) (i : ℕ) (name : List ℕ) → i < length names
+    → name ≡ get_or names i name
+    → walk_from ns u b (drop i names) ≡ onward (λ n. walk_from ns n.uid n.directory (drop (i + 1) names)) b
+    (branch_in ns u name)
 walk_next ns u b names i name lt read = at_drop_more (λ (path : List (List ℕ)). walk_from ns u b path) names i name lt
-    ∙ ap (λ (x : List ℕ). onward (λ n. walk_from ns n.uid n.directory (drop (i + 1) names)) b (branch_in ns u x)) (sym read)
+    ∙ ap (λ (x : List ℕ). onward (λ n. walk_from ns n.uid n.directory (drop (i + 1) names)) b (branch_in ns u x))
+    (sym read)
 
-pub walk_ends : (ns : List Term) (u : ℕ) (b : Bool) (names : List (List ℕ)) (i : ℕ) → length names ≤ i → walk_from ns u b (drop i names) ≡ LeadsTo u
+pub walk_ends : (ns : List Term) (u : ℕ) (b : Bool) (names : List (List ℕ)) (i : ℕ) → length names ≤ i
+    → walk_from ns u b (drop i names) ≡ LeadsTo u
 walk_ends ns u b names i le = at_drop_all (λ (path : List (List ℕ)). walk_from ns u b path) names i le
 
 pub unless_none : {E A : Type 0} (o : Option E) (x y : A) → unless o x ≡ Ok y → o ≡ None

@@ -1,5 +1,6 @@
 -- What a branch less leaves of the tables behind a tree.
-use Rattle.std.proofs.Common.{◌≡◌, ◌≢◌, ℕ, ◌+◌, ◌<◌, ◌≤◌, false, eqb, not, List, [], ◌∷◌, ◌++◌, length, Option, Some, None, refl, sym, ap, subst, ◌∙◌, arith}
+use Rattle.std.proofs.Common.{◌≡◌, ◌≢◌, ℕ, ◌+◌, ◌<◌, ◌≤◌, false, eqb, not, List, [], ◌∷◌, ◌++◌, length, Option, Some}
+use Rattle.std.proofs.Common.{None, refl, sym, ap, subst, ◌∙◌, arith}
 use Rattle.std.proofs.Common.{get_or, inl, inr}
 use Rattle.std.specs.Prelude.{◌↔◌}
 use Rattle.std.specs.List.{find, remove, list_any}
@@ -14,16 +15,19 @@ use Rattle.dir_tree.specs.Nodes.{without, node_of}
 use Rattle.dir_tree.specs.Shape.{shape, shapes}
 use Rattle.tree_model.specs.Trees.{IsTree}
 use Rattle.dir_tree.specs.Kept.{no_entry, entry_at, newest, IsNamed, IsPlace, IsKept}
-use Rattle.dir_tree.proofs.EditLemmas.{each_pushed, each_left, was, was_up, was_other, now, was_now, at_was, fewer, was_within, now_within}
+use Rattle.dir_tree.proofs.EditLemmas.{each_pushed, each_left, was, was_up, was_other, now, was_now, at_was, fewer}
+use Rattle.dir_tree.proofs.EditLemmas.{was_within, now_within}
 use Rattle.tree_model.proofs.Finds.{filter_map_same, find_map}
 use Rattle.dir_tree.proofs.NewestLemmas.{node_of_entry, newest_remove}
 use Rattle.tree_model.proofs.TreeLaws.{tree_left, root_only}
 use Rattle.dir_tree.proofs.KeptLemmas.{apart_places, not_of, node_found}
 
-module _ {nodes : List Node} {es : List Entry} {free : List ℕ} {index : Places} {next : ℕ} (k : IsKept nodes es free index next) (i : ℕ)
+module _ {nodes : List Node} {es : List Entry} {free : List ℕ} {index : Places} {next : ℕ}
+    (k : IsKept nodes es free index next) (i : ℕ)
     (within : i < length es) (index' : Places)
     (leaf : list_any (is_inferior (entry_at es i).uid) (shapes (newest nodes es)) ≡ false)
-    (sorted : IsSorted nodes index'.places) (places : (p : ℕ) → HasPlace index'.places p ↔ (HasPlace index.places p × (p ≢ (entry_at es i).place)))
+    (sorted : IsSorted nodes index'.places) (places : (p : ℕ) → HasPlace index'.places p
+    ↔ (HasPlace index.places p × (p ≢ (entry_at es i).place)))
     (count : length index'.places + 1 ≡ length index.places) (room : index'.room ≡ index.room) where
   abbrev uid : ℕ
   uid = (entry_at es i).uid
@@ -38,7 +42,8 @@ module _ {nodes : List Node} {es : List Entry} {free : List ℕ} {index : Places
   free' = free ++ place ∷ []
 
   pub view_removed : newest nodes es' ≡ without uid (newest nodes es)
-  view_removed = newest_remove (λ n. not (eqb n.uid uid)) nodes es i within (not_from_true _ (eq-eqb _ _ (k.uids i within)))
+  view_removed = newest_remove (λ n. not (eqb n.uid uid)) nodes es i within
+      (not_from_true _ (eq-eqb _ _ (k.uids i within)))
       (λ j lt ne. not_from_false _ (not_of k uid i j within refl lt ne))
 
   size : length es' + 1 ≡ length es
@@ -73,7 +78,8 @@ module _ {nodes : List Node} {es : List Entry} {free : List ℕ} {index : Places
       (let at : get_or free' a 0 ≡ (entry_at es (was i b)).place = e ∙ ap (λ (d : Entry). d.place) (old b) in
       elim (cases_lt a (length free)) [
         | inl before ↦ k.unused a (was i b) before (old_within b in_b) (sym (old_free a before) ∙ at)
-        | inr last ↦ apart_places k i (was i b) within (old_within b in_b) (was_other i b) (sym at ∙ new_free a last in_a)
+        | inr last ↦ apart_places k i (was i b) within (old_within b in_b) (was_other i b)
+            (sym at ∙ new_free a last in_a)
       ])
 
   still_named : (o : Option ℕ) (p : ℕ) → p ≢ place → IsNamed index.places o p → IsNamed index'.places o p
@@ -95,42 +101,51 @@ module _ {nodes : List Node} {es : List Entry} {free : List ℕ} {index : Places
   pub kept_removed : IsKept nodes es' free' index' next
   kept_removed = record {
     uids = each_left es i within no_entry (λ e. (node_at nodes e.place).uid ≡ e.uid) (λ j lt ne. k.uids j lt);
-    superiors = each_left es i within no_entry (λ e. (node_at nodes e.place).superior ≡ e.superior) (λ j lt ne. k.superiors j lt);
+    superiors = each_left es i within no_entry (λ e. (node_at nodes e.place).superior ≡ e.superior)
+        (λ j lt ne. k.superiors j lt);
     within = each_left es i within no_entry (λ e. e.place < length nodes) (λ j lt ne. k.within j lt);
     rising = rising';
     below = each_left es i within no_entry (λ e. e.uid < next) (λ j lt ne. k.below j lt);
     free_within = each_pushed free place 0 (λ p. p < length nodes) k.free_within (k.within i within);
     free_apart = free_apart';
     unused = unused';
-    count = (let m = size in let f = size_free in let c : length nodes ≡ length es + length free = k.count in omega arith);
+    count = (let m = size in let f = size_free in let c : length nodes ≡ length es + length free =
+        k.count in omega arith);
     few = k.few;
     named = each_left es i within no_entry (λ e. IsNamed index'.places e.superior e.place)
-        (λ j lt ne. still_named (entry_at es j).superior (entry_at es j).place (apart_places k i j within lt ne) (k.named j lt));
+        (λ j lt ne. still_named (entry_at es j).superior (entry_at es j).place (apart_places k i j within lt ne)
+        (k.named j lt));
     places = places';
     sorted = sorted;
     branches = (let m = size in let p : length index.places + 1 ≡ length es = k.branches in omega arith);
     room = room ∙ k.room;
     tree = subst (λ ns. IsTree (shapes ns)) (sym view_removed)
-        (subst IsTree (sym (filter_map_same (λ n. not (eqb n.uid uid)) shape (newest nodes es))) (tree_left uid (shapes (newest nodes es)) leaf k.tree));
+        (subst IsTree (sym (filter_map_same (λ n. not (eqb n.uid uid)) shape (newest nodes es)))
+        (tree_left uid (shapes (newest nodes es)) leaf k.tree));
   }
 
-pub removed_at : {nodes : List Node} {es : List Entry} {free : List ℕ} {index : Places} {next : ℕ} → IsKept nodes es free index next → (uid i : ℕ) (e : Entry)
+pub removed_at : {nodes : List Node} {es : List Entry} {free : List ℕ} {index : Places} {next : ℕ}
+    → IsKept nodes es free index next → (uid i : ℕ) (e : Entry)
     → i < length es → e ≡ entry_at es i → (entry_at es i).uid ≡ uid
     → list_any (is_inferior uid) (shapes (newest nodes es)) ≡ false → (index' : Places) → IsSorted nodes index'.places
     → ((p : ℕ) → HasPlace index'.places p ↔ (HasPlace index.places p × (p ≢ e.place)))
     → length index'.places + 1 ≡ length index.places → index'.room ≡ index.room
-    → IsKept nodes (remove es i) (free ++ e.place ∷ []) index' next × (newest nodes (remove es i) ≡ without uid (newest nodes es))
+    → IsKept nodes (remove es i) (free ++ e.place ∷ []) index' next
+    × (newest nodes (remove es i) ≡ without uid (newest nodes es))
 removed_at {nodes} {es} {free} {index} {next} k uid i e within same is_uid leaf index' sorted places count room =
     let leaf' : list_any (is_inferior (entry_at es i).uid) (shapes (newest nodes es)) ≡ false = rw is_uid leaf in
     let places' : (p : ℕ) → HasPlace index'.places p ↔ (HasPlace index.places p × (p ≢ (entry_at es i).place)) =
-    subst (λ (d : Entry). (p : ℕ) → HasPlace index'.places p ↔ (HasPlace index.places p × (p ≢ d.place))) same places in (
+    subst (λ (d : Entry). (p : ℕ) → HasPlace index'.places p ↔ (HasPlace index.places p × (p ≢ d.place))) same places
+    in (
       subst (λ (d : Entry). IsKept nodes (remove es i) (free ++ d.place ∷ []) index' next) (sym same)
           (kept_removed k i within index' leaf' sorted places' count room),
-      subst (λ u. newest nodes (remove es i) ≡ without u (newest nodes es)) is_uid (view_removed k i within index' leaf' sorted places' count room),
+      subst (λ u. newest nodes (remove es i) ≡ without u (newest nodes es)) is_uid
+          (view_removed k i within index' leaf' sorted places' count room),
     )
 
 -- the root is the only node without a superior
-pub not_root : {nodes : List Node} {es : List Entry} {free : List ℕ} {index : Places} {next : ℕ} → IsKept nodes es free index next → (uid i : ℕ) (e : Entry)
+pub not_root : {nodes : List Node} {es : List Entry} {free : List ℕ} {index : Places} {next : ℕ}
+    → IsKept nodes es free index next → (uid i : ℕ) (e : Entry)
     → i < length es → e ≡ entry_at es i → (entry_at es i).uid ≡ uid → e.superior ≡ None → uid ≡ 1
 not_root {nodes} {es} {free} {index} {next} k uid i e within same is_uid none =
     let found : node_of (newest nodes es) uid ≡ Some (node_of_entry nodes es i) = node_found k uid i within is_uid in
@@ -140,9 +155,11 @@ not_root {nodes} {es} {free} {index} {next} k uid i e within same is_uid none =
     (k.superiors i within ∙ ap (λ (d : Entry). d.superior) (sym same) ∙ none)
 
 -- a node with a superior stands in the index
-pub named_at : {nodes : List Node} {es : List Entry} {free : List ℕ} {index : Places} {next : ℕ} → IsKept nodes es free index next → (i : ℕ) (e : Entry)
+pub named_at : {nodes : List Node} {es : List Entry} {free : List ℕ} {index : Places} {next : ℕ}
+    → IsKept nodes es free index next → (i : ℕ) (e : Entry)
     → i < length es → e ≡ entry_at es i
     → (s : ℕ) → e.superior ≡ Some s → HasPlace index.places e.place
 named_at {nodes} {es} {free} {index} {next} k i e within same s up =
-    let named : IsNamed index.places e.superior e.place = subst (λ (d : Entry). IsNamed index.places d.superior d.place) (sym same) (k.named i within) in
+    let named : IsNamed index.places e.superior e.place =
+    subst (λ (d : Entry). IsNamed index.places d.superior d.place) (sym same) (k.named i within) in
     subst (λ o. IsNamed index.places o e.place) up named

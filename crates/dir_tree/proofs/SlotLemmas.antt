@@ -1,14 +1,17 @@
 -- Entries that stand in the slots of their places.
-use Rattle.std.proofs.Common.{◌≡◌, ◌≢◌, ℕ, ◌+◌, ◌<◌, ◌≤◌, List, [], ◌∷◌, ◌++◌, length, set, get_or, sym, ap, subst, ◌∙◌, arith, inl, inr}
+use Rattle.std.proofs.Common.{◌≡◌, ◌≢◌, ℕ, ◌+◌, ◌<◌, ◌≤◌, List, [], ◌∷◌, ◌++◌, length, set, get_or, sym, ap, subst}
+use Rattle.std.proofs.Common.{◌∙◌, arith, inl, inr}
 use Rattle.std.specs.List.{remove}
 use Rattle.std.proofs.lemmas.Bool.{cases_eq, cases_lt}
-use Rattle.std.proofs.lemmas.List.{ext_get_or, get_or_read, get_or-map, get_or-set_same, get_or-set_other, get_or_append_left, get_or_push, length-map}
+use Rattle.std.proofs.lemmas.List.{ext_get_or, get_or_read, get_or-map, get_or-set_same, get_or-set_other}
+use Rattle.std.proofs.lemmas.List.{get_or_append_left, get_or_push, length-map}
 use Rattle.std.proofs.lemmas.List.{length-set, length_push, map-append}
 use Rattle.dir_tree.specs.declared.entries.Entry.{Entry}
 use Rattle.dir_tree.specs.Kept.{no_entry, entry_at, listed, IsListed, IsAscending}
 use Rattle.dir_tree.proofs.EditLemmas.{was, was_up, was_within, at_was, each_left, fewer}
 
-pub listed_at : (slots : List Entry) (order : List ℕ) (i : ℕ) → i < length order → entry_at (listed slots order) i ≡ entry_at slots (get_or order i 0)
+pub listed_at : (slots : List Entry) (order : List ℕ) (i : ℕ) → i < length order → entry_at (listed slots order) i
+    ≡ entry_at slots (get_or order i 0)
 listed_at slots order i lt = get_or-map (entry_at slots) order i 0 no_entry lt
 
 pub length_listed : (slots : List Entry) (order : List ℕ) → length (listed slots order) ≡ length order
@@ -20,25 +23,30 @@ pub place_listed : {slots : List Entry} {order : List ℕ} → IsListed slots or
 place_listed {slots} {order} l i lt = ap (λ (e : Entry). e.place) (listed_at slots order i lt) ∙ l.places i lt
 
 -- an entry changed, but for its place
-module _ {slots : List Entry} {order : List ℕ} (l : IsListed slots order) (i : ℕ) (lt : i < length order) (e : Entry) (place : e.place ≡ get_or order i 0) where
+module _ {slots : List Entry} {order : List ℕ} (l : IsListed slots order) (i : ℕ) (lt : i < length order) (e : Entry)
+    (place : e.place ≡ get_or order i 0) where
   abbrev p : ℕ
   p = get_or order i 0
 
   slot : p < length slots
   slot = (let w : p < 4097 = l.within i lt in let n : length slots ≡ 4097 = l.size in omega arith)
 
-  elsewhere : (j : ℕ) → j < length order → j ≢ i → entry_at (set slots p e) (get_or order j 0) ≡ entry_at slots (get_or order j 0)
+  elsewhere : (j : ℕ) → j < length order → j ≢ i → entry_at (set slots p e) (get_or order j 0)
+      ≡ entry_at slots (get_or order j 0)
   elsewhere j in_j ne = get_or-set_other slots p (get_or order j 0) e no_entry (l.apart j i in_j lt ne)
 
   pub set_listed : listed (set slots p e) order ≡ set (listed slots order) i e
-  set_listed = ext_get_or no_entry _ _ (length_listed (set slots p e) order ∙ sym (length-set (listed slots order) i e ∙ length_listed slots order))
+  set_listed = ext_get_or no_entry _ _ (length_listed (set slots p e) order
+      ∙ sym (length-set (listed slots order) i e ∙ length_listed slots order))
       (λ j in_j. at j (let n = length_listed (set slots p e) order in omega arith))
     where
-      at : (j : ℕ) → j < length order → entry_at (listed (set slots p e) order) j ≡ entry_at (set (listed slots order) i e) j
+      at : (j : ℕ) → j < length order → entry_at (listed (set slots p e) order) j
+          ≡ entry_at (set (listed slots order) i e) j
       at j in_j = elim (cases_eq j i) [
         | inl here ↦
             rw here (listed_at (set slots p e) order i lt ∙ get_or-set_same slots p e no_entry slot
-            ∙ sym (get_or-set_same (listed slots order) i e no_entry (let n = length_listed slots order in omega arith)))
+            ∙ sym (get_or-set_same (listed slots order) i e no_entry
+            (let n = length_listed slots order in omega arith)))
         | inr there ↦
             listed_at (set slots p e) order j in_j ∙ elsewhere j in_j there ∙ sym (listed_at slots order j in_j)
             ∙ sym (get_or-set_other (listed slots order) i j e no_entry there)
@@ -56,18 +64,24 @@ module _ {slots : List Entry} {order : List ℕ} (l : IsListed slots order) (i :
   }
 
 -- how many nodes lie in that of an entry, set
-pub inferiors_set : {slots : List Entry} {order : List ℕ} → IsListed slots order → (now : List Entry) → listed slots order ≡ now → (i : ℕ) → i < length now
+pub inferiors_set : {slots : List Entry} {order : List ℕ} → IsListed slots order → (now : List Entry)
+    → listed slots order ≡ now → (i : ℕ) → i < length now
     → (p : ℕ) → p ≡ get_or order i p → (x : Entry) → x ≡ get_or slots p x → (n : ℕ)
     → listed (set slots p (record x { inferiors = n })) order ≡ set now i (record (entry_at now i) { inferiors = n })
 inferiors_set {slots} {order} l now view i within p is_p x is_x n =
-    let lt : i < length order = (let m = length_listed slots order in let v : length (listed slots order) ≡ length now = ap length view in omega arith) in
+    let lt : i < length order = (let m = length_listed slots order in let v : length (listed slots order)
+    ≡ length now = ap length view in omega arith) in
     let place : p ≡ get_or order i 0 = get_or_read order i p lt is_p 0 in
-    let slot : p < length slots = (let w : get_or order i 0 < 4097 = l.within i lt in let m : length slots ≡ 4097 = l.size in omega arith) in
+    let slot : p < length slots = (let w : get_or order i 0 < 4097 = l.within i lt in let m : length slots ≡ 4097 =
+    l.size in omega arith) in
     let here : x ≡ entry_at slots p = get_or_read slots p x slot is_x no_entry in
-    let entry : x ≡ entry_at now i = here ∙ ap (entry_at slots) place ∙ sym (listed_at slots order i lt) ∙ ap (λ (es : List Entry). entry_at es i) view in
+    let entry : x ≡ entry_at now i = here ∙ ap (entry_at slots) place ∙ sym (listed_at slots order i lt)
+    ∙ ap (λ (es : List Entry). entry_at es i) view in
     ap (λ q. listed (set slots q (record x { inferiors = n })) order) place
-    ∙ set_listed l i lt (record x { inferiors = n }) (ap (λ (d : Entry). d.place) (here ∙ ap (entry_at slots) place) ∙ l.places i lt)
-    ∙ ap (λ (es : List Entry). set es i (record x { inferiors = n })) view ∙ ap (λ (d : Entry). set now i (record d { inferiors = n })) entry
+    ∙ set_listed l i lt (record x { inferiors = n }) (ap (λ (d : Entry). d.place) (here ∙ ap (entry_at slots) place)
+    ∙ l.places i lt)
+    ∙ ap (λ (es : List Entry). set es i (record x { inferiors = n })) view
+    ∙ ap (λ (d : Entry). set now i (record d { inferiors = n })) entry
 
 -- one entry more, in a place that no other has
 module _ {slots : List Entry} {order : List ℕ} (l : IsListed slots order) (e : Entry) (room : e.place < 4097)
@@ -78,12 +92,14 @@ module _ {slots : List Entry} {order : List ℕ} (l : IsListed slots order) (e :
   other : (i : ℕ) → i < length order → get_or order i 0 ≢ e.place
   other i lt same = new i (let n = length_listed slots order in omega arith) (place_listed l i lt ∙ same)
 
-  unmoved : (i : ℕ) → i < length order → entry_at (set slots e.place e) (get_or order i 0) ≡ entry_at slots (get_or order i 0)
+  unmoved : (i : ℕ) → i < length order → entry_at (set slots e.place e) (get_or order i 0)
+      ≡ entry_at slots (get_or order i 0)
   unmoved i lt = get_or-set_other slots e.place (get_or order i 0) e no_entry (other i lt)
 
   rest : listed (set slots e.place e) order ≡ listed slots order
   rest = ext_get_or no_entry _ _ (length_listed (set slots e.place e) order ∙ sym (length_listed slots order))
-      (λ i in_i. (let n = length_listed (set slots e.place e) order in let lt : i < length order = omega arith in listed_at (set slots e.place e) order i lt
+      (λ i in_i. (let n = length_listed (set slots e.place e) order in let lt : i < length order =
+      omega arith in listed_at (set slots e.place e) order i lt
       ∙ unmoved i lt ∙ sym (listed_at slots order i lt)))
 
   pub push_listed : listed (set slots e.place e) (order ++ e.place ∷ []) ≡ listed slots order ++ e ∷ []
@@ -112,7 +128,8 @@ module _ {slots : List Entry} {order : List ℕ} (l : IsListed slots order) (e :
     ]);
     places = λ i lt. (let n = size in elim (cases_lt i (length order)) [
       | inl before ↦ rw (old_at i before) (ap (λ (d : Entry). d.place) (unmoved i before) ∙ l.places i before)
-      | inr last ↦ rw (last_at i (omega arith)) (ap (λ (d : Entry). d.place) (get_or-set_same slots e.place e no_entry room_there))
+      | inr last ↦ rw (last_at i (omega arith)) (ap (λ (d : Entry). d.place)
+          (get_or-set_same slots e.place e no_entry room_there))
     ]);
     apart = λ i j in_i in_j ne same. (let n = size in elim (cases_lt i (length order)) [
       | inl before_i ↦ elim (cases_lt j (length order)) [
@@ -129,21 +146,25 @@ module _ {slots : List Entry} {order : List ℕ} (l : IsListed slots order) (e :
 -- one entry less
 module _ {slots : List Entry} {order : List ℕ} (l : IsListed slots order) (i : ℕ) (lt : i < length order) where
   pub remove_listed : listed slots (remove order i) ≡ remove (listed slots order) i
-  remove_listed = ext_get_or no_entry _ _ (let a = length_listed slots (remove order i) in let b = length_listed slots order in let c = fewer order i lt in
+  remove_listed = ext_get_or no_entry _ _ (let a = length_listed slots (remove order i) in let b =
+      length_listed slots order in let c = fewer order i lt in
       let d = fewer (listed slots order) i (omega arith) in omega arith)
       (λ j in_j. at j (let a = length_listed slots (remove order i) in omega arith))
     where
-      at : (j : ℕ) → j < length (remove order i) → entry_at (listed slots (remove order i)) j ≡ entry_at (remove (listed slots order) i) j
+      at : (j : ℕ) → j < length (remove order i) → entry_at (listed slots (remove order i)) j
+          ≡ entry_at (remove (listed slots order) i) j
       at j in_j = (let n = length_listed slots order in
           listed_at slots (remove order i) j in_j ∙ ap (entry_at slots) (at_was order i lt j 0)
-          ∙ sym (listed_at slots order (was i j) (was_within order i lt j in_j)) ∙ sym (at_was (listed slots order) i (omega arith) j no_entry))
+          ∙ sym (listed_at slots order (was i j) (was_within order i lt j in_j))
+          ∙ sym (at_was (listed slots order) i (omega arith) j no_entry))
 
   pub less_listed : IsListed slots (remove order i)
   less_listed = record {
     size = l.size;
     within = each_left order i lt 0 (λ q. q < 4097) (λ j in_j ne. l.within j in_j);
     places = each_left order i lt 0 (λ q. (entry_at slots q).place ≡ q) (λ j in_j ne. l.places j in_j);
-    apart = λ a b in_a in_b ne same. l.apart (was i a) (was i b) (was_within order i lt a in_a) (was_within order i lt b in_b) (was_apart a b ne)
+    apart = λ a b in_a in_b ne same. l.apart (was i a) (was i b) (was_within order i lt a in_a)
+        (was_within order i lt b in_b) (was_apart a b ne)
         (sym (at_was order i lt a 0) ∙ same ∙ at_was order i lt b 0);
   }
     where
@@ -155,14 +176,16 @@ module _ {slots : List Entry} {order : List ℕ} (l : IsListed slots order) (i :
 
 -- ---- the search
 
-pub halved_below : (es : List Entry) → IsAscending es → (m uid : ℕ) → m < length es → (entry_at es m).uid < uid → (k : ℕ) → k < m + 1
+pub halved_below : (es : List Entry) → IsAscending es → (m uid : ℕ) → m < length es → (entry_at es m).uid < uid
+    → (k : ℕ) → k < m + 1
     → (entry_at es k).uid < uid
 halved_below es rising m uid within less k lt = elim (cases_lt k m) [
   | inl before ↦ (let up : (entry_at es k).uid < (entry_at es m).uid = rising k m before within in omega arith)
   | inr here ↦ (let same : k ≡ m = omega arith in rw same less)
 ]
 
-pub halved_from : (es : List Entry) → IsAscending es → (m uid : ℕ) → uid ≤ (entry_at es m).uid → (k : ℕ) → m ≤ k → k < length es → uid ≤ (entry_at es k).uid
+pub halved_from : (es : List Entry) → IsAscending es → (m uid : ℕ) → uid ≤ (entry_at es m).uid → (k : ℕ) → m ≤ k
+    → k < length es → uid ≤ (entry_at es k).uid
 halved_from es rising m uid more k le lt = elim (cases_lt m k) [
   | inl after ↦ (let up : (entry_at es m).uid < (entry_at es k).uid = rising m k after lt in omega arith)
   | inr here ↦ (let same : k ≡ m = omega arith in rw same more)

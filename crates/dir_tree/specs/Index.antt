@@ -42,7 +42,8 @@ key_at nodes places k = key_of (node_at nodes (slice_index places k))
 
 -- the branches stand in the order of their keys, and no two have the same
 abbrev pub IsSorted : List Node → List ℕ → Type 0
-IsSorted nodes places = (i j : ℕ) → i < j → j < length places → key_cmp (key_at nodes places i) (key_at nodes places j) ≡ Less
+IsSorted nodes places = (i j : ℕ) → i < j → j < length places → key_cmp (key_at nodes places i) (key_at nodes places j)
+    ≡ Less
 
 -- each place is that of a node
 abbrev pub AreWithin : List Node → List ℕ → Type 0

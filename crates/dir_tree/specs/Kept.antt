@@ -1,5 +1,6 @@
 -- What always holds of the tables behind a tree.
-use Rattle.std.specs.Prelude.{◌≡◌, ◌≢◌, ℕ, ◌+◌, ◌<◌, ◌≤◌, Bool, false, List, [], ◌∷◌, ◌++◌, length, map, count_by, Option, Some, None, slice_index}
+use Rattle.std.specs.Prelude.{◌≡◌, ◌≢◌, ℕ, ◌+◌, ◌<◌, ◌≤◌, Bool, false, List, [], ◌∷◌, ◌++◌, length, map, count_by}
+use Rattle.std.specs.Prelude.{Option, Some, None, slice_index}
 use Rattle.std.specs.Prelude.{slice_index_or, ◌-◌, ◌==◌, if◌then◌else◌}
 use Rattle.dir_tree.specs.declared.node.Node.{Node}
 use Rattle.dir_tree.specs.declared.entries.Entry.{Entry}
@@ -45,7 +46,8 @@ lies_in u e = is_of u e.superior
 
 -- each entry has the number of those that lie in it
 abbrev pub IsCounted : List Entry → Type 0
-IsCounted entries = (i : ℕ) → i < length entries → (entry_at entries i).inferiors ≡ count_by (lies_in (entry_at entries i).uid) entries
+IsCounted entries = (i : ℕ) → i < length entries → (entry_at entries i).inferiors
+    ≡ count_by (lies_in (entry_at entries i).uid) entries
 
 -- the entries with the number of a uid changed
 abbrev pub recount : ℕ → (ℕ → ℕ) → Entry → Entry
@@ -77,7 +79,8 @@ pub record IsPlace (entries : List Entry) (place : ℕ) : Type 0 where
 pub record IsKept (nodes : List Node) (entries : List Entry) (free : List ℕ) (index : Places) (next : ℕ) : Type 0 where
   -- each entry is that of the node in its place
   pub uids : (i : ℕ) → i < length entries → (node_at nodes (entry_at entries i).place).uid ≡ (entry_at entries i).uid
-  pub superiors : (i : ℕ) → i < length entries → (node_at nodes (entry_at entries i).place).superior ≡ (entry_at entries i).superior
+  pub superiors : (i : ℕ) → i < length entries → (node_at nodes (entry_at entries i).place).superior
+      ≡ (entry_at entries i).superior
   pub within : (i : ℕ) → i < length entries → (entry_at entries i).place < length nodes
   pub rising : IsAscending entries
   pub below : (i : ℕ) → i < length entries → (entry_at entries i).uid < next
@@ -88,7 +91,8 @@ pub record IsKept (nodes : List Node) (entries : List Entry) (free : List ℕ) (
   pub count : length nodes ≡ length entries + length free
   pub few : length nodes ≤ 4097
   -- the index
-  pub named : (i : ℕ) → i < length entries → IsNamed index.places (entry_at entries i).superior (entry_at entries i).place
+  pub named : (i : ℕ) → i < length entries → IsNamed index.places (entry_at entries i).superior
+      (entry_at entries i).place
   pub places : (place : ℕ) → HasPlace index.places place → IsPlace entries place
   pub sorted : IsSorted nodes index.places
   pub branches : length index.places + 1 ≡ length entries

@@ -1,5 +1,6 @@
 -- Laws of uids and kinds, for the proofs of the crates above too.
-use Rattle.std.specs.Prelude.{◌≡◌, ◌<◌, ◌≤◌, ◌+◌, ◌-◌, ℕ, Bool, true, false, ◌||◌, ◌&&◌, not, is_some, List, [], ◌∷◌, map}
+use Rattle.std.specs.Prelude.{◌≡◌, ◌<◌, ◌≤◌, ◌+◌, ◌-◌, ℕ, Bool, true, false, ◌||◌, ◌&&◌, not, is_some, List, [], ◌∷◌}
+use Rattle.std.specs.Prelude.{map}
 use Rattle.std.proofs.Common.{arith, cond, eqb, refl, sym, ap, ◌∙◌, inl, inr}
 use Rattle.std.proofs.lemmas.Bool.{cases_Bool, cases_order, or_left, or_right, or_parts}
 use Rattle.tree_model.specs.Tree.{Node as Term, above, step_up, node_in, has_directory}
@@ -9,18 +10,22 @@ use Rattle.dir_tree.specs.Nodes.{with_quotas, is_in, is_directory, is_segment}
 use Rattle.dir_tree.specs.Shape.{shape, shapes}
 
 -- however a node is shown, as long as its uid and its kind are its own
-module _ (show : Node → Term) (uid : (n : Node) → (show n).uid ≡ n.uid) (kind : (n : Node) → (show n).directory ≡ n.dir) where
+module _ (show : Node → Term) (uid : (n : Node) → (show n).uid ≡ n.uid)
+    (kind : (n : Node) → (show n).directory ≡ n.dir) where
   pub directory_shown : (ns : List Node) (u : ℕ) → has_directory (map show ns) u ≡ is_directory ns u
   directory_shown [] u = refl
-  directory_shown (n ∷ ns) u = rw (uid n) (elim (cases_Bool (eqb n.uid u)) [ inl is ↦ rw is (kind n) | inr isnt ↦ rw isnt (directory_shown ns u) ])
+  directory_shown (n ∷ ns) u = rw (uid n) (elim (cases_Bool (eqb n.uid u))
+      [ inl is ↦ rw is (kind n) | inr isnt ↦ rw isnt (directory_shown ns u) ])
 
   pub segment_shown : (ns : List Node) (u : ℕ) → has_segment (map show ns) u ≡ is_segment ns u
   segment_shown [] u = refl
-  segment_shown (n ∷ ns) u = rw (uid n) (elim (cases_Bool (eqb n.uid u)) [ inl is ↦ rw is (ap not (kind n)) | inr isnt ↦ rw isnt (segment_shown ns u) ])
+  segment_shown (n ∷ ns) u = rw (uid n) (elim (cases_Bool (eqb n.uid u))
+      [ inl is ↦ rw is (ap not (kind n)) | inr isnt ↦ rw isnt (segment_shown ns u) ])
 
   pub uid_shown : (ns : List Node) (u : ℕ) → is_some (node_in (map show ns) u) ≡ is_in ns u
   uid_shown [] u = refl
-  uid_shown (n ∷ ns) u = rw (uid n) (elim (cases_Bool (eqb n.uid u)) [ inl is ↦ rw is refl | inr isnt ↦ rw isnt (uid_shown ns u) ])
+  uid_shown (n ∷ ns) u = rw (uid n) (elim (cases_Bool (eqb n.uid u))
+      [ inl is ↦ rw is refl | inr isnt ↦ rw isnt (uid_shown ns u) ])
 
 -- as shapes
 pub directory_shape : (ns : List Node) (u : ℕ) → has_directory (shapes ns) u ≡ is_directory ns u
@@ -72,7 +77,8 @@ directory_not ns u is = rw is at (kinds_apart ns u)
 -- what is above a node doesn't depend on quotas, nor on what may change
 pub above_any : (q : ℕ → ℕ) (ns : List Node) (u : ℕ) → above (with_quotas q ns) u ≡ above (shapes ns) u
 above_any q [] u = refl
-above_any q (n ∷ ns) u = ap (λ (f : ℕ → List ℕ). cond (eqb n.uid u) (step_up f n.superior) (f u)) (λ i. λ v. above_any q ns v i)
+above_any q (n ∷ ns) u = ap (λ (f : ℕ → List ℕ). cond (eqb n.uid u) (step_up f n.superior) (f u))
+    (λ i. λ v. above_any q ns v i)
 
 -- ---- lists that one more comes into
 

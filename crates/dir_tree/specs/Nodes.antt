@@ -1,5 +1,6 @@
 -- What a contract sees of a directory tree: its nodes, the newest first, and the next uid.
-use Rattle.std.specs.Prelude.{ℕ, ◌+◌, ◌==◌, Bool, true, false, ◌&&◌, not, if◌then◌else◌, nat_le, List, [], ◌∷◌, length, map, reverse, Option, Some, None}
+use Rattle.std.specs.Prelude.{ℕ, ◌+◌, ◌==◌, Bool, true, false, ◌&&◌, not, if◌then◌else◌, nat_le, List, [], ◌∷◌, length}
+use Rattle.std.specs.Prelude.{map, reverse, Option, Some, None}
 use Rattle.std.specs.Prelude.{Result, Ok, Err, is_some, codes}
 use Rattle.std.specs.List.{find, filter, list_any}
 use Rattle.tree_model.specs.Access.{Row}
@@ -55,7 +56,17 @@ is_segment nodes u = a_segment (node_of nodes u)
 
 -- the root alone
 abbrev pub root_node : ℕ → ℕ → Node
-root_node volume entry = record { uid = 1; superior = None; name = codes "root"; dir = true; volume = volume; entry = entry; length = 0; acl = [] }
+root_node volume entry = record {
+  uid = 1;
+  superior = None;
+  name = codes "root";
+  dir = true;
+  volume = volume;
+  entry =
+      entry;
+  length = 0;
+  acl = [];
+}
 
 abbrev pub root_alone : ℕ → ℕ → Branches
 root_alone volume entry = record { nodes = root_node volume entry ∷ []; next = 2 }
@@ -116,7 +127,11 @@ abbrev pub with_length : Branches → ℕ → ℕ → Branches
 with_length t u pages = record { nodes = with_changed u (λ n. record n { length = pages }) t.nodes; next = t.next }
 
 abbrev pub with_home : Branches → ℕ → ℕ → ℕ → Branches
-with_home t u volume entry = record { nodes = with_changed u (λ n. record n { volume = volume; entry = entry }) t.nodes; next = t.next }
+with_home t u volume entry = record {
+  nodes = with_changed u (λ n. record n { volume = volume; entry = entry })
+      t.nodes;
+  next = t.next;
+}
 
 -- the access control list of a segment
 abbrev pub acl_of : List Node → ℕ → List Row

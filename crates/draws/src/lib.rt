@@ -7,7 +7,8 @@
 ghost use Rattle.std.specs.Prelude.{◌≡◌, ◌<◌};
 ghost use Rattle.draws.specs.Draws.{drawn, next_state};
 
-/// The state of the generator. (Source: Knuth, The Art of Computer Programming; that the upper 31 bits are taken is own.)
+/// The state of the generator. (Source: Knuth, The Art of Computer Programming; that the upper 31 bits are taken is
+/// own.)
 #[derive(Clone, Copy, Debug, PartialEq, Eq)]
 pub struct Draws {
     /// The state from which the next number is drawn.

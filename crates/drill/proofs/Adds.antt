@@ -1,5 +1,6 @@
 -- Touches that add to the first word of a frame's page.
-use Rattle.std.proofs.Common.{◌≡◌, ℕ, zero, suc, ◌+◌, ◌/◌, ◌%◌, ◌^◌, ◌<◌, Bool, true, false, cond, eqb, List, [], ◌∷◌, ◌++◌, map, reverse, length, get_or}
+use Rattle.std.proofs.Common.{◌≡◌, ℕ, zero, suc, ◌+◌, ◌/◌, ◌%◌, ◌^◌, ◌<◌, Bool, true, false, cond, eqb, List, [], ◌∷◌}
+use Rattle.std.proofs.Common.{◌++◌, map, reverse, length, get_or}
 use Rattle.std.proofs.Common.{sym, ap, subst, refl, ◌∙◌, arith, mod-lt, get_or-set_same, length-set}
 use Rattle.std.proofs.lemmas.Bool.{eq-eqb}
 use Rattle.std.proofs.lemmas.List.{reverse-append}
@@ -26,7 +27,8 @@ adds_append frames (x ∷ xs) ys p q = (adds_append frames xs ys p.0 q, p.1, p.2
 pub adds_reverse : (frames : ℕ) (es : List Made) → AreAdds frames es → AreAdds frames (reverse es)
 adds_reverse frames [] ok = tt
 adds_reverse frames (e ∷ es) ok =
-    subst (AreAdds frames) (sym (reverse-append (e ∷ []) es)) (adds_append frames (reverse es) (e ∷ []) (adds_reverse frames es ok.0) (tt, ok.1, ok.2))
+    subst (AreAdds frames) (sym (reverse-append (e ∷ []) es))
+    (adds_append frames (reverse es) (e ∷ []) (adds_reverse frames es ok.0) (tt, ok.1, ok.2))
 
 tail_of : List (ℕ × Touch) → List (ℕ × Touch)
 tail_of [] = []
@@ -39,9 +41,12 @@ cons_parts t u ts us e = (ap (λ l. get_or l 0 t) e, ap tail_of e)
 
 pub done_count : (frames x n : ℕ) (es : List Made) → map deed es ≡ done frames x n → length es ≡ n
 done_count frames x zero [] is = refl
-done_count frames x zero (e ∷ es) is = let c : length (map deed (e ∷ es)) ≡ 0 = ap (λ (l : List (ℕ × Touch)). length l) is in absurd (omega arith)
-done_count frames x (suc n) [] is = let c : 0 ≡ length (done frames x (suc n)) = ap (λ (l : List (ℕ × Touch)). length l) is in absurd (omega arith)
-done_count frames x (suc n) (e ∷ es) is = ap suc (done_count frames x n es (cons_parts (deed e) (add_at frames x n) (map deed es) (done frames x n) is).1)
+done_count frames x zero (e ∷ es) is = let c : length (map deed (e ∷ es)) ≡ 0 =
+    ap (λ (l : List (ℕ × Touch)). length l) is in absurd (omega arith)
+done_count frames x (suc n) [] is = let c : 0 ≡ length (done frames x (suc n)) =
+    ap (λ (l : List (ℕ × Touch)). length l) is in absurd (omega arith)
+done_count frames x (suc n) (e ∷ es) is = ap suc (done_count frames x n es
+    (cons_parts (deed e) (add_at frames x n) (map deed es) (done frames x n) is).1)
 
 drawn_below : (m x : ℕ) → 0 < m → drawn m x < m
 unfolding drawn
@@ -49,11 +54,13 @@ drawn_below m x some = mod-lt (x / 2 ^ 33) some
 
 pub done_adds : (frames x n : ℕ) (es : List Made) → 0 < frames → map deed es ≡ done frames x n → AreAdds frames es
 done_adds frames x n [] some is = tt
-done_adds frames x zero (e ∷ es) some is = let c : length (map deed (e ∷ es)) ≡ 0 = ap (λ (l : List (ℕ × Touch)). length l) is in absurd (omega arith)
+done_adds frames x zero (e ∷ es) some is = let c : length (map deed (e ∷ es)) ≡ 0 =
+    ap (λ (l : List (ℕ × Touch)). length l) is in absurd (omega arith)
 done_adds frames x (suc n) (e ∷ es) some is =
     let parts = cons_parts (deed e) (add_at frames x n) (map deed es) (done frames x n) is in
     let frame : e.frame ≡ drawn frames (next_state (state_after n x)) = ap (λ t. t.0) parts.0 in
-    let below : drawn frames (next_state (state_after n x)) < frames = drawn_below frames (next_state (state_after n x)) some in
+    let below : drawn frames (next_state (state_after n x)) < frames =
+    drawn_below frames (next_state (state_after n x)) some in
     let touch : e.touch ≡ Add 0 (word_at n) = ap (λ t. t.1) parts.0 in
     let word : added e.touch ≡ word_at n = ap added touch in
     (done_adds frames x n es some parts.1, omega (arith, frame, below), touch ∙ ap (λ w. Add 0 w) (sym word))
@@ -94,16 +101,23 @@ weigh_of (e ∷ es) f b = weigh_of es f b + weight e f b
 adds_word : (t : Touch) (w : ℕ) (page : List ℕ) → t ≡ Add 0 w → length page ≡ 1024
     → (get_or (touched t page) 0 0 ≡ (get_or page 0 0 + w) % 2 ^ 36) × (length (touched t page) ≡ 1024)
 adds_word t w page is size =
-    let P : Touch → Type 0 = λ u. (get_or (touched u page) 0 0 ≡ (get_or page 0 0 + w) % 2 ^ 36) × (length (touched u page) ≡ 1024) in
-    subst P (sym is) (get_or-set_same page 0 ((get_or page 0 0 + w) % 2 ^ 36) 0 (omega arith), length-set page 0 ((get_or page 0 0 + w) % 2 ^ 36) ∙ size)
+    let P : Touch → Type 0 = λ u. (get_or (touched u page) 0 0 ≡ (get_or page 0 0 + w) % 2 ^ 36)
+    × (length (touched u page) ≡ 1024) in
+    subst P (sym is) (
+      get_or-set_same page 0 ((get_or page 0 0 + w) % 2 ^ 36) 0 (omega arith),
+      length-set page 0
+          ((get_or page 0 0 + w) % 2 ^ 36) ∙ size,
+    )
 
 adds_if : (b : Bool) (t : Touch) (w : ℕ) (page : List ℕ) → t ≡ Add 0 w → length page ≡ 1024 → get_or page 0 0 < 2 ^ 36
-    → (get_or (touched_if b t page) 0 0 ≡ (get_or page 0 0 + cond b w 0) % 2 ^ 36) × (length (touched_if b t page) ≡ 1024)
+    → (get_or (touched_if b t page) 0 0 ≡ (get_or page 0 0 + cond b w 0) % 2 ^ 36)
+    × (length (touched_if b t page) ≡ 1024)
 adds_if true t w page is size small = adds_word t w page is size
 adds_if false t w page is size small = (omega arith, size)
 
 -- the first word of the page of a binding after these touches
-pub first_word : (frames : ℕ) (es : List Made) (pages : Given) (f b : ℕ) → AreAdds frames es → length (pages f b) ≡ 1024 → get_or (pages f b) 0 0 < 2 ^ 36
+pub first_word : (frames : ℕ) (es : List Made) (pages : Given) (f b : ℕ) → AreAdds frames es → length (pages f b)
+    ≡ 1024 → get_or (pages f b) 0 0 < 2 ^ 36
     → get_or (after_all es pages f b) 0 0 ≡ (get_or (pages f b) 0 0 + weigh_of es f b) % 2 ^ 36
 first_word frames [] pages f b ok size small = omega arith
 first_word frames (e ∷ es) pages f b ok size small =
@@ -116,13 +130,18 @@ adds_of_if : (t : Bool) (frames : ℕ) (e : Made) (es : List Made) → AreAdds f
 adds_of_if true frames e es ok = ok.0
 adds_of_if false frames e es ok = ok
 
-adds_here : (frames : ℕ) (e : Made) (es : List Made) → AreAdds frames (mine_if (eqb e.cpu e.cpu) e es) → AreAdds frames (e ∷ es)
+adds_here : (frames : ℕ) (e : Made) (es : List Made) → AreAdds frames (mine_if (eqb e.cpu e.cpu) e es)
+    → AreAdds frames (e ∷ es)
 adds_here frames e es ok = subst (λ t. AreAdds frames (mine_if t e es)) (eq-eqb e.cpu e.cpu refl) ok
 
 -- touches of which those of each processor are adds
-pub adds_all : (cpus frames : ℕ) (plan : Watch) (es : List Made) → AreOfBindings cpus plan es → ((c : ℕ) → c < cpus → AreAdds frames (mine c es))
+pub adds_all : (cpus frames : ℕ) (plan : Watch) (es : List Made) → AreOfBindings cpus plan es
+    → ((c : ℕ) → c < cpus → AreAdds frames (mine c es))
     → AreAdds frames es
 adds_all cpus frames plan [] ok each = tt
 adds_all cpus frames plan (e ∷ es) ok each =
-    let here = adds_here frames e (mine e.cpu es) (each e.cpu ok.1) in
-    (adds_all cpus frames plan es ok.0 (λ c lt. adds_of_if (eqb e.cpu c) frames e (mine c es) (each c lt)), here.1, here.2)
+    let here = adds_here frames e (mine e.cpu es) (each e.cpu ok.1) in (
+      adds_all cpus frames plan es ok.0 (λ c lt. adds_of_if (eqb e.cpu c) frames e (mine c es) (each c lt)),
+      here.1,
+      here.2,
+    )

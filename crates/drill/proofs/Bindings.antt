@@ -1,5 +1,6 @@
 -- Each touch is of just one binding and by just one processor, so the sums over all of these have each touch once.
-use Rattle.std.proofs.Common.{◌≡◌, ◌≢◌, ℕ, ◌+◌, ◌<◌, ◌≤◌, Bool, true, false, cond, eqb, ◌&&◌, List, [], ◌∷◌, sym, ap, refl, ◌∙◌, arith}
+use Rattle.std.proofs.Common.{◌≡◌, ◌≢◌, ℕ, ◌+◌, ◌<◌, ◌≤◌, Bool, true, false, cond, eqb, ◌&&◌, List, [], ◌∷◌, sym, ap}
+use Rattle.std.proofs.Common.{refl, ◌∙◌, arith}
 use mathlib.Core.Logic.{dite}
 use native.Mathlib.Decide.{ℕ_discrete}
 use Rattle.std.proofs.lemmas.Bool.{eq-eqb, ne_eqb}
@@ -10,7 +11,8 @@ use Rattle.live_pages.specs.Touches.{ended_of, AreInTurn, mine, mine_if}
 use Rattle.live_pages.specs.Turns.{current}
 use Rattle.live_pages.specs.Kept.{AreOfBindings}
 use Rattle.drill.specs.Work.{added}
-use Rattle.drill.proofs.Sums.{last_sum, ended_sum, last_add, last_same, last_zero, ended_add, ended_zero, at_point, at_here, at_else, point_sum}
+use Rattle.drill.proofs.Sums.{last_sum, ended_sum, last_add, last_same, last_zero, ended_add, ended_zero, at_point}
+use Rattle.drill.proofs.Sums.{at_here, at_else, point_sum}
 use Rattle.drill.proofs.Adds.{AreAdds, weigh, weight, weigh_of}
 
 weight_here : (e : Made) (f b : ℕ) → e.frame ≡ f → weight e f b ≡ at_point (added e.touch) e.binding b
@@ -27,7 +29,8 @@ ended_else f b bs other = ap (λ t. cond t (ended_of f bs + 1) (ended_of f bs)) 
 
 -- a touch of a binding that has ended is counted once, and any other never
 ended_point : (e : Made) (bs : List Bound) → AreInTurn bs
-    → (e.binding < ended_of e.frame bs → ended_sum (weight e) bs ≡ added e.touch) × (ended_of e.frame bs ≤ e.binding → ended_sum (weight e) bs ≡ 0)
+    → (e.binding < ended_of e.frame bs → ended_sum (weight e) bs ≡ added e.touch)
+    × (ended_of e.frame bs ≤ e.binding → ended_sum (weight e) bs ≡ 0)
 ended_point e [] turn = (λ lt. absurd (omega arith), λ le. refl)
 ended_point e (b ∷ bs) turn =
     let rest = ended_point e bs turn.0 in
@@ -42,38 +45,51 @@ ended_point e (b ∷ bs) turn =
     let z = rest.1 (omega arith) in
     (λ lt. omega (arith, w, v, z), λ le. absurd (omega (arith, count))))
     (λ (else : e.binding ≢ b.binding).
-    let v = at_else (added e.touch) e.binding b.binding else in
-    (λ lt. (let z = rest.0 (omega (arith, count)) in omega (arith, w, v, z)), λ le. (let z = rest.1 (omega (arith, count)) in omega (arith, w, v, z)))))
+    let v = at_else (added e.touch) e.binding b.binding else in (
+      λ lt. (let z = rest.0 (omega (arith, count)) in omega (arith, w, v, z)),
+      λ le.
+          (let z = rest.1 (omega (arith, count)) in omega (arith, w, v, z)),
+    )))
     (λ (other : e.frame ≢ b.frame).
     let count = ended_else e.frame b bs other in
-    let w = weight_else e b.frame b.binding other in
-    (λ lt. (let z = rest.0 (omega (arith, count)) in omega (arith, w, z)), λ le. (let z = rest.1 (omega (arith, count)) in omega (arith, w, z))))
+    let w = weight_else e b.frame b.binding other in (
+      λ lt. (let z = rest.0 (omega (arith, count)) in omega (arith, w, z)),
+      λ le.
+          (let z = rest.1 (omega (arith, count)) in omega (arith, w, z)),
+    ))
 
 -- a touch of a frame's last binding is counted once among the last ones
-last_point : (e : Made) (c : ℕ → ℕ) (n : ℕ) → e.frame < n → last_sum (λ f. weight e f (c f)) n ≡ at_point (added e.touch) e.binding (c e.frame)
+last_point : (e : Made) (c : ℕ → ℕ) (n : ℕ) → e.frame < n → last_sum (λ f. weight e f (c f)) n
+    ≡ at_point (added e.touch) e.binding (c e.frame)
 last_point e c n lt =
     last_same (λ f. weight e f (c f)) (at_point (at_point (added e.touch) e.binding (c e.frame)) e.frame) n
     (λ f below. dite (ℕ_discrete e.frame f)
-    (λ (same : e.frame ≡ f). weight_here e f (c f) same ∙ ap (λ g. at_point (added e.touch) e.binding (c g)) (sym same) ∙ sym (at_here _ e.frame f same))
+    (λ (same : e.frame ≡ f). weight_here e f (c f) same ∙ ap (λ g. at_point (added e.touch) e.binding (c g)) (sym same)
+    ∙ sym (at_here _ e.frame f same))
     (λ (other : e.frame ≢ f). weight_else e f (c f) other ∙ sym (at_else _ e.frame f other)))
     ∙ (point_sum (at_point (added e.touch) e.binding (c e.frame)) e.frame n).0 lt
 
-one_binding : (e : Made) (bs : List Bound) (c : ℕ → ℕ) (n : ℕ) → AreInTurn bs → ((f : ℕ) → c f ≡ ended_of f bs) → e.frame < n → e.binding ≤ c e.frame
+one_binding : (e : Made) (bs : List Bound) (c : ℕ → ℕ) (n : ℕ) → AreInTurn bs → ((f : ℕ) → c f ≡ ended_of f bs)
+    → e.frame < n → e.binding ≤ c e.frame
     → ended_sum (weight e) bs + last_sum (λ f. weight e f (c f)) n ≡ added e.touch
 one_binding e bs c n turn count frame binding =
     let ended = ended_point e bs turn in
     let last = last_point e c n frame in
     let at = count e.frame in
     dite (ℕ_discrete e.binding (c e.frame))
-    (λ (here : e.binding ≡ c e.frame). let v = at_here (added e.touch) e.binding (c e.frame) here in let z = ended.1 (omega arith) in omega (arith, last, v, z))
-    (λ (other : e.binding ≢ c e.frame). let v = at_else (added e.touch) e.binding (c e.frame) other in let z = ended.0 (omega arith) in
+    (λ (here : e.binding ≡ c e.frame). let v = at_here (added e.touch) e.binding (c e.frame) here in let z =
+    ended.1 (omega arith) in omega (arith, last, v, z))
+    (λ (other : e.binding ≢ c e.frame). let v = at_else (added e.touch) e.binding (c e.frame) other in let z =
+    ended.0 (omega arith) in
     omega (arith, last, v, z))
 
 -- all that was added to all bindings is all that was added
-pub bindings_sum : (cpus frames : ℕ) (plan : Watch) (es : List Made) (bs : List Bound) → AreInTurn bs → ((f : ℕ) → current plan f ≡ ended_of f bs)
+pub bindings_sum : (cpus frames : ℕ) (plan : Watch) (es : List Made) (bs : List Bound) → AreInTurn bs
+    → ((f : ℕ) → current plan f ≡ ended_of f bs)
     → AreOfBindings cpus plan es → AreAdds frames es
     → ended_sum (weigh_of es) bs + last_sum (λ f. weigh_of es f (current plan f)) frames ≡ weigh es
-bindings_sum cpus frames plan [] bs turn count ok adds = let e = ended_zero bs in let l = last_zero frames in omega (arith, e, l)
+bindings_sum cpus frames plan [] bs turn count ok adds = let e = ended_zero bs in let l =
+    last_zero frames in omega (arith, e, l)
 bindings_sum cpus frames plan (e ∷ es) bs turn count ok adds =
     let rest = bindings_sum cpus frames plan es bs turn count ok.0 adds.0 in
     let one = one_binding e bs (current plan) frames turn count adds.1 ok.2 in
@@ -86,7 +102,8 @@ weigh_if true e es = refl
 weigh_if false e es = omega arith
 
 -- all that the processors added is all that was added
-pub cpus_sum : (cpus : ℕ) (plan : Watch) (es : List Made) → AreOfBindings cpus plan es → last_sum (λ c. weigh (mine c es)) cpus ≡ weigh es
+pub cpus_sum : (cpus : ℕ) (plan : Watch) (es : List Made) → AreOfBindings cpus plan es
+    → last_sum (λ c. weigh (mine c es)) cpus ≡ weigh es
 cpus_sum cpus plan [] ok = last_zero cpus
 cpus_sum cpus plan (e ∷ es) ok =
     let rest = cpus_sum cpus plan es ok.0 in

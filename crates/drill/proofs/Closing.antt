@@ -1,9 +1,12 @@
--- What is known once the pages are closed: each processor's touches are the first ones of its work, and the total is right.
-use Rattle.std.proofs.Common.{◌≡◌, ◌≢◌, ℕ, zero, suc, ◌+◌, ◌%◌, ◌^◌, ◌<◌, ◌≤◌, Bool, true, false, cond, eqb, ◌&&◌, List, [], ◌∷◌, ◌++◌, map, reverse, take}
+-- What is known once the pages are closed: each processor's touches are the first ones of its work, and the total is
+-- right.
+use Rattle.std.proofs.Common.{◌≡◌, ◌≢◌, ℕ, zero, suc, ◌+◌, ◌%◌, ◌^◌, ◌<◌, ◌≤◌, Bool, true, false, cond, eqb, ◌&&◌}
+use Rattle.std.proofs.Common.{List, [], ◌∷◌, ◌++◌, map, reverse, take}
 use Rattle.std.proofs.Common.{replicate, length, get_or, All, sum, sym, ap, subst, refl, ◌∙◌, arith}
 use mathlib.Core.Logic.{dite}
 use native.Mathlib.Decide.{ℕ_discrete}
-use Rattle.std.proofs.lemmas.List.{length-reverse, reverse-append, length-append, get_or_append_left, get_or-append-add, take-append-le, take_all}
+use Rattle.std.proofs.lemmas.List.{length-reverse, reverse-append, length-append, get_or_append_left}
+use Rattle.std.proofs.lemmas.List.{get_or-append-add, take-append-le, take_all}
 use Rattle.std.proofs.lemmas.List.{length-replicate, get_or-replicate}
 use Rattle.live_pages.specs.declared.touch.Touch.{Touch}
 use Rattle.live_pages.specs.declared.touch.Made.{Made}
@@ -12,7 +15,8 @@ use Rattle.live_pages.specs.declared.views.Holder.{Holder}
 use Rattle.live_pages.specs.Touches.{page_given, mine}
 use Rattle.live_pages.specs.Turns.{current}
 use Rattle.live_pages.specs.Models.{PagesModel, PassModel, KeeperModel, IsKeeperOf, taking_all_in}
-use Rattle.live_pages.specs.Ending.{in_order, made_by, pages_after, Binding, ended_bindings, last_bindings, all_bindings, IsLeftAfterAll, IsOfOneThread}
+use Rattle.live_pages.specs.Ending.{in_order, made_by, pages_after, Binding, ended_bindings, last_bindings}
+use Rattle.live_pages.specs.Ending.{all_bindings, IsLeftAfterAll, IsOfOneThread}
 use Rattle.drill.specs.Work.{add_at, work_of, deed, AreFirstOf, sums_of}
 use Rattle.drill.specs.Roles.{done, words_to, words_left, TookZeros, AreDone, missing, first_words}
 use Rattle.drill.proofs.Words.{words_few}
@@ -47,14 +51,16 @@ work_count frames x (suc n) =
     omega (arith, l, rest)
 
 work_take : (frames x k n : ℕ) → k ≤ n → take k (work_of frames x n) ≡ work_of frames x k
-work_take frames x k zero le = let e : k ≡ 0 = omega arith in ap (λ m. take m (work_of frames x 0)) e ∙ ap (work_of frames x) (sym e)
+work_take frames x k zero le = let e : k ≡ 0 = omega arith in ap (λ m. take m (work_of frames x 0)) e
+    ∙ ap (work_of frames x) (sym e)
 work_take frames x k (suc n) le =
     let count = work_count frames x n in
     dite (ℕ_discrete k (suc n))
     (λ (here : k ≡ suc n).
     let all = work_count frames x (suc n) in
     take_all k (work_of frames x (suc n)) (omega (arith, all)) ∙ ap (work_of frames x) (sym here))
-    (λ (other : k ≢ suc n). take-append-le k (work_of frames x n) (add_at frames x n ∷ []) (omega (arith, count)) ∙ work_take frames x k n (omega arith))
+    (λ (other : k ≢ suc n). take-append-le k (work_of frames x n) (add_at frames x n ∷ []) (omega (arith, count))
+    ∙ work_take frames x k n (omega arith))
 
 -- the touches of a pass, in order, are the first ones of its processor's work
 first_of_work : (pages : PagesModel) (seed adds cpu : ℕ) (made : List Made) → IsWorkTo pages seed adds cpu made
@@ -75,19 +81,23 @@ zeros_if false x y p q = q
 -- each binding was given a page of zeros
 given_zeros : (bs : List Bound) (f b : ℕ) → TookZeros bs → page_given bs f b ≡ replicate 1024 0
 given_zeros [] f b ok = refl
-given_zeros (x ∷ xs) f b ok = zeros_if (eqb f x.frame && eqb b (x.binding + 1)) x.next (page_given xs f b) ok.1 (given_zeros xs f b ok.0)
+given_zeros (x ∷ xs) f b ok = zeros_if (eqb f x.frame && eqb b (x.binding + 1)) x.next (page_given xs f b) ok.1
+    (given_zeros xs f b ok.0)
 
 all_front : {X : Type 0} (P : X → Type 0) (xs ys : List X) → All P (xs ++ ys) → All P xs
-all_front P xs ys all i d lt = subst P (get_or_append_left xs ys d i lt) (all i d (let l = length-append xs ys in omega (arith, l)))
+all_front P xs ys all i d lt = subst P (get_or_append_left xs ys d i lt)
+    (all i d (let l = length-append xs ys in omega (arith, l)))
 
 all_back : {X : Type 0} (P : X → Type 0) (xs ys : List X) → All P (xs ++ ys) → All P ys
-all_back P xs ys all i d lt = subst P (get_or-append-add xs ys i d) (all (length xs + i) d (let l = length-append xs ys in omega (arith, l)))
+all_back P xs ys all i d lt = subst P (get_or-append-add xs ys i d)
+    (all (length xs + i) d (let l = length-append xs ys in omega (arith, l)))
 
 all_one : {X : Type 0} (P : X → Type 0) (x : X) → All P (x ∷ []) → P x
 all_one P x all = all 0 x (omega arith)
 
 -- what is known of a close
-pub record AtClose (pages : PagesModel) (seed adds : ℕ) (ps : List PassModel) (keeper : KeeperModel) (shown : Holder) (left : List (List ℕ)) : Type 0 where
+pub record AtClose (pages : PagesModel) (seed adds : ℕ) (ps : List PassModel) (keeper : KeeperModel) (shown : Holder)
+    (left : List (List ℕ)) : Type 0 where
   pub taken : shown ≡ taking_all_in ps keeper.holder
   pub kept : IsKeeperOf pages keeper
   pub zeros : TookZeros keeper.holder.ended
@@ -99,7 +109,8 @@ pub record AtClose (pages : PagesModel) (seed adds : ℕ) (ps : List PassModel) 
   pub one_thread : IsOfOneThread pages.cpus shown
   pub after : All (IsLeftAfterAll shown) (all_bindings left shown)
 
-module _ (pages : PagesModel) (seed adds : ℕ) (ps : List PassModel) (keeper : KeeperModel) (shown : Holder) (left : List (List ℕ))
+module _ (pages : PagesModel) (seed adds : ℕ) (ps : List PassModel) (keeper : KeeperModel) (shown : Holder)
+    (left : List (List ℕ))
     (end : AtClose pages seed adds ps keeper shown left) where
   -- the touches of each processor
   own_work : (c : ℕ) → c < pages.cpus → IsWorkTo pages seed adds c (touches_at ps keeper.holder c)
@@ -122,7 +133,8 @@ module _ (pages : PagesModel) (seed adds : ℕ) (ps : List PassModel) (keeper : 
   all_adds = adds_all pages.cpus pages.frames shown.watch (in_order shown) end.one_thread.bindings
       (λ c below. subst (AreAdds pages.frames) (sym (mine_is c below))
       (adds_reverse pages.frames (touches_at ps keeper.holder c)
-      (done_adds pages.frames (seed + c) (length (touches_at ps keeper.holder c)) (touches_at ps keeper.holder c) end.some (own_work c below).deeds)))
+      (done_adds pages.frames (seed + c) (length (touches_at ps keeper.holder c)) (touches_at ps keeper.holder c)
+      end.some (own_work c below).deeds)))
 
   ended_is : shown.ended ≡ keeper.holder.ended
   ended_is = ap (λ k. k.ended) end.taken ∙ same_ended ps keeper.holder
@@ -131,13 +143,17 @@ module _ (pages : PagesModel) (seed adds : ℕ) (ps : List PassModel) (keeper : 
   given_is f b = given_zeros shown.ended f b (subst TookZeros (sym ended_is) end.zeros)
 
   -- the first word of a page is the sum of what was added to it
-  word_left : (f b : ℕ) (page : List ℕ) → page ≡ pages_after shown f b → get_or page 0 0 ≡ weigh_of (in_order shown) f b % 2 ^ 36
+  word_left : (f b : ℕ) (page : List ℕ) → page ≡ pages_after shown f b → get_or page 0 0
+      ≡ weigh_of (in_order shown) f b % 2 ^ 36
   word_left f b page is =
       let row : List ℕ = replicate 1024 0 in
       let given : page_given shown.ended f b ≡ row = given_is f b in
-      let size : length (page_given shown.ended f b) ≡ 1024 = ap (λ (l : List ℕ). length l) given ∙ length-replicate {A = ℕ} 1024 0 in
-      let first : get_or (page_given shown.ended f b) 0 0 ≡ 0 = ap (λ (l : List ℕ). get_or l 0 0) given ∙ get_or-replicate 1024 0 0 0 (omega arith) in
-      let word = first_word pages.frames (in_order shown) (page_given shown.ended) f b all_adds size (omega (arith, first)) in
+      let size : length (page_given shown.ended f b) ≡ 1024 = ap (λ (l : List ℕ). length l) given
+      ∙ length-replicate {A = ℕ} 1024 0 in
+      let first : get_or (page_given shown.ended f b) 0 0 ≡ 0 = ap (λ (l : List ℕ). get_or l 0 0) given
+      ∙ get_or-replicate 1024 0 0 0 (omega arith) in
+      let word = first_word pages.frames (in_order shown) (page_given shown.ended) f b all_adds size
+      (omega (arith, first)) in
       let at : get_or page 0 0 ≡ get_or (pages_after shown f b) 0 0 = ap (λ (l : List ℕ). get_or l 0 0) is in
       omega (arith, word, at, first)
 
@@ -145,7 +161,13 @@ module _ (pages : PagesModel) (seed adds : ℕ) (ps : List PassModel) (keeper : 
       → words_left bs % 2 ^ 36 ≡ ended_sum (weigh_of (in_order shown)) bs % 2 ^ 36
   ended_words [] all = refl
   ended_words (b ∷ bs) all =
-      let one : Binding = record { frame = b.frame; number = b.binding; given = page_given shown.ended b.frame b.binding; left = b.left } in
+      let one : Binding = record {
+        frame = b.frame;
+        number = b.binding;
+        given =
+            page_given shown.ended b.frame b.binding;
+        left = b.left;
+      } in
       let before : List Binding = ended_bindings (page_given shown.ended) bs in
       let rest = ended_words bs (all_front (IsLeftAfterAll shown) before (one ∷ []) all) in
       let is = all_one (IsLeftAfterAll shown) one (all_back (IsLeftAfterAll shown) before (one ∷ []) all) in
@@ -173,7 +195,8 @@ module _ (pages : PagesModel) (seed adds : ℕ) (ps : List PassModel) (keeper : 
   made_all : weigh (in_order shown) ≡ made_sum ps
   made_all =
       let touched = cpus_sum pages.cpus shown.watch (in_order shown) end.one_thread.bindings in
-      let each = last_same (λ c. weigh (mine c (in_order shown))) (λ c. weigh (touches_at ps keeper.holder c)) pages.cpus
+      let each = last_same (λ c. weigh (mine c (in_order shown))) (λ c. weigh (touches_at ps keeper.holder c))
+      pages.cpus
       (λ c below. ap weigh (mine_is c below) ∙ weigh_reverse (touches_at ps keeper.holder c)) in
       let range = last_range (λ c. weigh (touches_at ps keeper.holder c)) pages.cpus 0 in
       let at : 0 + pages.cpus ≡ pages.cpus = omega arith in
@@ -189,11 +212,14 @@ module _ (pages : PagesModel) (seed adds : ℕ) (ps : List PassModel) (keeper : 
       → t ≡ sum (sums_of pages.frames adds seed pages.cpus)
   total s u t taken unmade is =
       let before : List Binding = ended_bindings (page_given shown.ended) shown.ended in
-      let ended = ended_words shown.ended (all_front (IsLeftAfterAll shown) before (last_bindings (length left) left shown) end.after) in
-      let last = last_words (length left) (all_back (IsLeftAfterAll shown) before (last_bindings (length left) left shown) end.after) in
+      let ended = ended_words shown.ended (all_front (IsLeftAfterAll shown) before
+      (last_bindings (length left) left shown) end.after) in
+      let last = last_words (length left) (all_back (IsLeftAfterAll shown) before
+      (last_bindings (length left) left shown) end.after) in
       let frames = ap (last_sum (λ f. weigh_of (in_order shown) f (current shown.watch f))) end.count in
       let same = ap words_left ended_is in
-      let bindings = bindings_sum pages.cpus pages.frames shown.watch (in_order shown) shown.ended end.one_thread.in_turn end.one_thread.last
+      let bindings = bindings_sum pages.cpus pages.frames shown.watch (in_order shown) shown.ended
+      end.one_thread.in_turn end.one_thread.last
       end.one_thread.bindings all_adds in
       let made = made_all in
       let missing = made_missing pages seed adds 0 ps end.done in

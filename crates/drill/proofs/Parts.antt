@@ -1,5 +1,6 @@
 -- What the keeper has of each pass once all were taken in.
-use Rattle.std.proofs.Common.{◌≡◌, ◌≢◌, ℕ, ◌+◌, ◌<◌, ◌≤◌, List, [], ◌∷◌, map, set, length, get_or, sym, ap, subst, refl, ◌∙◌, arith, get_or-set_same}
+use Rattle.std.proofs.Common.{◌≡◌, ◌≢◌, ℕ, ◌+◌, ◌<◌, ◌≤◌, List, [], ◌∷◌, map, set, length, get_or, sym, ap, subst}
+use Rattle.std.proofs.Common.{refl, ◌∙◌, arith, get_or-set_same}
 use Rattle.std.proofs.Common.{get_or-set_other}
 use mathlib.Core.Logic.{dite}
 use native.Mathlib.Decide.{ℕ_discrete}
@@ -27,21 +28,25 @@ same_parts (p ∷ ps) k = length-set (taking_all_in ps k).parts p.walker.walk.cp
 abbrev pub touches_at : List PassModel → Holder → ℕ → List Made
 touches_at ps k c = touches_in (get_or (taking_all_in ps k).parts c Out)
 
-part_here : (p : PassModel) (ps : List PassModel) (k : Holder) (c : ℕ) → p.walker.walk.cpu ≡ c → c < length k.parts → touches_at (p ∷ ps) k c ≡ p.walker.made
+part_here : (p : PassModel) (ps : List PassModel) (k : Holder) (c : ℕ) → p.walker.walk.cpu ≡ c → c < length k.parts
+    → touches_at (p ∷ ps) k c ≡ p.walker.made
 part_here p ps k c is below =
     let room : c < length (taking_all_in ps k).parts = (let s = same_parts ps k in omega arith) in
     ap (λ i. touches_in (get_or (set (taking_all_in ps k).parts i (In p.walker.made)) c Out)) is
     ∙ ap touches_in (get_or-set_same (taking_all_in ps k).parts c (In p.walker.made) Out room)
 
-part_else : (p : PassModel) (ps : List PassModel) (k : Holder) (c : ℕ) → c ≢ p.walker.walk.cpu → touches_at (p ∷ ps) k c ≡ touches_at ps k c
-part_else p ps k c other = ap touches_in (get_or-set_other (taking_all_in ps k).parts p.walker.walk.cpu c (In p.walker.made) Out other)
+part_else : (p : PassModel) (ps : List PassModel) (k : Holder) (c : ℕ) → c ≢ p.walker.walk.cpu
+    → touches_at (p ∷ ps) k c ≡ touches_at ps k c
+part_else p ps k c other = ap touches_in (get_or-set_other (taking_all_in ps k).parts p.walker.walk.cpu c
+    (In p.walker.made) Out other)
 
 -- the first n adds of a processor's work, as they stand among the touches of a pass
 pub record IsWorkTo (pages : PagesModel) (seed adds cpu : ℕ) (made : List Made) : Type 0 where
   pub deeds : map deed made ≡ done pages.frames (seed + cpu) (length made)
   pub few : length made ≤ adds
 
-pub parts_work : (pages : PagesModel) (seed adds : ℕ) (ps : List PassModel) (first : ℕ) (k : Holder) → AreDone pages seed adds first ps
+pub parts_work : (pages : PagesModel) (seed adds : ℕ) (ps : List PassModel) (first : ℕ) (k : Holder)
+    → AreDone pages seed adds first ps
     → first + length ps ≤ length k.parts
     → (c : ℕ) → first ≤ c → c < first + length ps → IsWorkTo pages seed adds c (touches_at ps k c)
 parts_work pages seed adds [] first k all room c from to = absurd (omega arith)
@@ -50,10 +55,12 @@ parts_work pages seed adds (p ∷ ps) first k all room c from to =
     (λ (here : c ≡ first).
     let cpu : p.walker.walk.cpu ≡ c = all.1 ∙ sym here in
     let own : IsWorkTo pages seed adds p.walker.walk.cpu p.walker.made = record { deeds = all.2.made; few = all.3 } in
-    subst (IsWorkTo pages seed adds c) (sym (part_here p ps k c cpu (omega arith))) (subst (λ i. IsWorkTo pages seed adds i p.walker.made) cpu own))
+    subst (IsWorkTo pages seed adds c) (sym (part_here p ps k c cpu (omega arith)))
+    (subst (λ i. IsWorkTo pages seed adds i p.walker.made) cpu own))
     (λ (else : c ≢ first).
     let other : c ≢ p.walker.walk.cpu = (λ is. else (is ∙ all.1)) in
-    subst (IsWorkTo pages seed adds c) (sym (part_else p ps k c other)) (parts_work pages seed adds ps (first + 1) k all.0 (omega arith) c (omega arith)
+    subst (IsWorkTo pages seed adds c) (sym (part_else p ps k c other))
+    (parts_work pages seed adds ps (first + 1) k all.0 (omega arith) c (omega arith)
     (omega arith)))
 
 -- the words that the passes added, added up
@@ -61,14 +68,16 @@ abbrev pub made_sum : List PassModel → ℕ
 made_sum [] = 0
 made_sum (p ∷ ps) = made_sum ps + weigh p.walker.made
 
-pub parts_sum : (pages : PagesModel) (seed adds : ℕ) (ps : List PassModel) (first : ℕ) (k : Holder) → AreDone pages seed adds first ps
+pub parts_sum : (pages : PagesModel) (seed adds : ℕ) (ps : List PassModel) (first : ℕ) (k : Holder)
+    → AreDone pages seed adds first ps
     → first + length ps ≤ length k.parts
     → range_sum (λ c. weigh (touches_at ps k c)) first (length ps) ≡ made_sum ps
 parts_sum pages seed adds [] first k all room = refl
 parts_sum pages seed adds (p ∷ ps) first k all room =
     let here = ap weigh (part_here p ps k first all.1 (omega arith)) in
     let rest = parts_sum pages seed adds ps (first + 1) k all.0 (omega arith) in
-    let same = range_same (λ c. weigh (touches_at (p ∷ ps) k c)) (λ c. weigh (touches_at ps k c)) (length ps) (first + 1)
+    let same = range_same (λ c. weigh (touches_at (p ∷ ps) k c)) (λ c. weigh (touches_at ps k c)) (length ps)
+    (first + 1)
     (λ c le. let cpu = all.1 in ap weigh (part_else p ps k c (λ is. absurd (omega arith)))) in
     omega (arith, here, rest, same)
 

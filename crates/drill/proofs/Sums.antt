@@ -1,5 +1,6 @@
 -- Sums over the first numbers, over a range of numbers, and over the bindings that have ended.
-use Rattle.std.proofs.Common.{◌≡◌, ◌≢◌, ℕ, zero, suc, ◌+◌, ◌*◌, ◌<◌, ◌≤◌, cond, eqb, List, [], ◌∷◌, sum, ap, refl, arith, add-one}
+use Rattle.std.proofs.Common.{◌≡◌, ◌≢◌, ℕ, zero, suc, ◌+◌, ◌*◌, ◌<◌, ◌≤◌, cond, eqb, List, [], ◌∷◌, sum, ap, refl}
+use Rattle.std.proofs.Common.{arith, add-one}
 use mathlib.Core.Logic.{dite}
 use native.Mathlib.Decide.{ℕ_discrete}
 use Rattle.std.proofs.lemmas.Bool.{eq-eqb, ne_eqb}
@@ -30,7 +31,8 @@ last_add h g (suc n) = let e = last_add h g n in omega (arith, e)
 
 pub last_same : (h g : ℕ → ℕ) (n : ℕ) → ((i : ℕ) → i < n → h i ≡ g i) → last_sum h n ≡ last_sum g n
 last_same h g zero same = refl
-last_same h g (suc n) same = let e = last_same h g n (λ i lt. same i (omega arith)) in let s = same n (omega arith) in omega (arith, e, s)
+last_same h g (suc n) same = let e = last_same h g n (λ i lt. same i (omega arith)) in let s =
+    same n (omega arith) in omega (arith, e, s)
 
 pub last_zero : (n : ℕ) → last_sum (λ i. 0) n ≡ 0
 last_zero zero = refl
@@ -40,7 +42,8 @@ last_more : (h : ℕ → ℕ) (n : ℕ) → last_sum h (n + 1) ≡ last_sum h n 
 last_more h n = ap (last_sum h) (add-one n)
 
 pub last_range : (h : ℕ → ℕ) (n first : ℕ) → last_sum h (first + n) ≡ last_sum h first + range_sum h first n
-last_range h zero first = let e : first + 0 ≡ first = omega arith in let s : last_sum h (first + 0) ≡ last_sum h first = ap (last_sum h) e in omega (arith, s)
+last_range h zero first = let e : first + 0 ≡ first = omega arith in let s : last_sum h (first + 0)
+    ≡ last_sum h first = ap (last_sum h) e in omega (arith, s)
 last_range h (suc n) first =
     let e : first + suc n ≡ first + 1 + n = omega arith in
     let s : last_sum h (first + suc n) ≡ last_sum h (first + 1 + n) = ap (last_sum h) e in
@@ -48,14 +51,16 @@ last_range h (suc n) first =
     let more = last_more h first in
     omega (arith, s, rest, more)
 
-pub range_same : (h g : ℕ → ℕ) (n first : ℕ) → ((i : ℕ) → first ≤ i → h i ≡ g i) → range_sum h first n ≡ range_sum g first n
+pub range_same : (h g : ℕ → ℕ) (n first : ℕ) → ((i : ℕ) → first ≤ i → h i ≡ g i) → range_sum h first n
+    ≡ range_sum g first n
 range_same h g zero first same = refl
 range_same h g (suc n) first same =
     let e = range_same h g n (first + 1) (λ i le. same i (omega arith)) in
     let s = same first (omega arith) in
     omega (arith, e, s)
 
-pub ended_add : (h g : ℕ → ℕ → ℕ) (bs : List Bound) → ended_sum (λ f b. h f b + g f b) bs ≡ ended_sum h bs + ended_sum g bs
+pub ended_add : (h g : ℕ → ℕ → ℕ) (bs : List Bound) → ended_sum (λ f b. h f b + g f b) bs
+    ≡ ended_sum h bs + ended_sum g bs
 ended_add h g [] = refl
 ended_add h g (b ∷ bs) = let e = ended_add h g bs in omega (arith, e)
 
@@ -81,8 +86,11 @@ point_sum w k (suc n) = let e = point_sum w k n in dite (ℕ_discrete k n)
     let z = e.1 (omega arith) in
     (λ lt. omega (arith, h, z), λ le. absurd (omega arith)))
     (λ (other : k ≢ n).
-    let h = at_else w k n other in
-    (λ lt. (let z = e.0 (omega arith) in omega (arith, h, z)), λ le. (let z = e.1 (omega arith) in omega (arith, h, z))))
+    let h = at_else w k n other in (
+      λ lt. (let z = e.0 (omega arith) in omega (arith, h, z)),
+      λ le.
+          (let z = e.1 (omega arith) in omega (arith, h, z)),
+    ))
 
 pub same_few : (w n : ℕ) → w ≤ 70000 → last_sum (λ i. w) n ≤ n * 70000
 same_few w zero le = omega arith

@@ -1,5 +1,6 @@
 -- The sums of the words of adds.
-use Rattle.std.proofs.Common.{◌≡◌, ◌≢◌, ℕ, zero, suc, ◌+◌, ◌*◌, ◌%◌, ◌≤◌, List, [], ◌∷◌, ◌++◌, ap, refl, ◌∙◌, arith, add-one}
+use Rattle.std.proofs.Common.{◌≡◌, ◌≢◌, ℕ, zero, suc, ◌+◌, ◌*◌, ◌%◌, ◌≤◌, List, [], ◌∷◌, ◌++◌, ap, refl, ◌∙◌, arith}
+use Rattle.std.proofs.Common.{add-one}
 use mathlib.Core.Logic.{dite}
 use native.Mathlib.Decide.{ℕ_discrete}
 use Rattle.live_pages.specs.declared.touch.Touch.{Touch}
@@ -12,7 +13,8 @@ sum_of_more (x ∷ xs) t = let e = sum_of_more xs t in omega (arith, e)
 
 pub work_sum : (frames x n : ℕ) → sum_of (work_of frames x n) ≡ words_to n
 work_sum frames x zero = refl
-work_sum frames x (suc n) = sum_of_more (work_of frames x n) (add_at frames x n) ∙ ap (λ s. s + word_at n) (work_sum frames x n)
+work_sum frames x (suc n) = sum_of_more (work_of frames x n) (add_at frames x n)
+    ∙ ap (λ s. s + word_at n) (work_sum frames x n)
 
 pub done_sum : (frames x n : ℕ) → sum_of (done frames x n) ≡ words_to n
 done_sum frames x zero = refl
@@ -31,5 +33,7 @@ words_mono m (suc n) le = dite (ℕ_discrete m (suc n))
 pub words_more : (n : ℕ) → words_to (n + 1) ≡ words_to n + (1 + n % 7)
 words_more n = ap words_to (add-one n)
 
-pub sums_more : (frames adds seed n : ℕ) → sums_of frames adds seed (n + 1) ≡ sums_of frames adds seed n ++ words_to adds ∷ []
-sums_more frames adds seed n = ap (sums_of frames adds seed) (add-one n) ∙ ap (λ w. sums_of frames adds seed n ++ w ∷ []) (work_sum frames (seed + n) adds)
+pub sums_more : (frames adds seed n : ℕ) → sums_of frames adds seed (n + 1) ≡ sums_of frames adds seed n
+    ++ words_to adds ∷ []
+sums_more frames adds seed n = ap (sums_of frames adds seed) (add-one n)
+    ∙ ap (λ w. sums_of frames adds seed n ++ w ∷ []) (work_sum frames (seed + n) adds)

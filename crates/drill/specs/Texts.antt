@@ -6,7 +6,8 @@ use Rattle.drill.specs.Work.{sums_of}
 
 -- `cpu C adds N sum S`, with the sum as twelve octal digits
 unfoldable pub sum_line : ℕ → ℕ → ℕ → List ℕ
-sum_line cpu adds s = codes "cpu " ++ (decimal cpu ++ (codes " adds " ++ (decimal adds ++ (codes " sum " ++ (octal_digits 12 s ++ codes "\n")))))
+sum_line cpu adds s = codes "cpu " ++ (decimal cpu ++ (codes " adds "
+    ++ (decimal adds ++ (codes " sum " ++ (octal_digits 12 s ++ codes "\n")))))
 
 -- a line for each sum, from processor `cpu` on
 abbrev pub sum_lines : ℕ → ℕ → List ℕ → List ℕ

@@ -1,28 +1,34 @@
 -- One more entry: what it does to a legal book, to the store after it, and to a process's part.
-use Rattle.std.proofs.Common.{◌≡◌, ℕ, suc, zero, ◌+◌, true, false, List, [], ◌∷◌, ◌++◌, take, length, get_or, ◌<◌, Some, refl, sym, ap, subst, ◌∙◌, arith, filter}
+use Rattle.std.proofs.Common.{◌≡◌, ℕ, suc, zero, ◌+◌, true, false, List, [], ◌∷◌, ◌++◌, take, length, get_or, ◌<◌}
+use Rattle.std.proofs.Common.{Some, refl, sym, ap, subst, ◌∙◌, arith, filter}
 use Rattle.std.specs.Prelude.{slice_get}
 use Rattle.std.proofs.lemmas.List.Elements.{filter-append}
 use Rattle.script.specs.Plans.{Plan}
 use Rattle.book.specs.declared.entries.Entry.{Entry}
 use Rattle.flat_model.specs.Store.{Store, boot}
-use Rattle.flat_model.specs.Legal.{IsLawful, IsLegalFrom, IsLegal, store_from, store_after, after_entry, part, is_part, last_of}
+use Rattle.flat_model.specs.Legal.{IsLawful, IsLegalFrom, IsLegal, store_from, store_after, after_entry, part, is_part}
+use Rattle.flat_model.specs.Legal.{last_of}
 
-store_from-push : (p : Plan) (s : Store) (es : List Entry) (e : Entry) → store_from p s (es ++ e ∷ []) ≡ after_entry p (store_from p s es) e
+store_from-push : (p : Plan) (s : Store) (es : List Entry) (e : Entry) → store_from p s (es ++ e ∷ [])
+    ≡ after_entry p (store_from p s es) e
 unfolding store_from
 store_from-push p s [] e = refl
 store_from-push p s (d ∷ es) e = store_from-push p (after_entry p s d) es e
 
-legal_from_push : (p : Plan) (s : Store) (es : List Entry) (e : Entry) → IsLegalFrom p s es → IsLawful p (store_from p s es) e
+legal_from_push : (p : Plan) (s : Store) (es : List Entry) (e : Entry) → IsLegalFrom p s es
+    → IsLawful p (store_from p s es) e
     → IsLegalFrom p s (es ++ e ∷ [])
 unfolding IsLegalFrom store_from
 legal_from_push p s [] e legal lawful = (lawful, tt)
 legal_from_push p s (d ∷ es) e legal lawful = (legal.0, legal_from_push p (after_entry p s d) es e legal.1 lawful)
 
-pub store_after-push : (p : Plan) (es : List Entry) (e : Entry) → store_after p (es ++ e ∷ []) ≡ after_entry p (store_after p es) e
+pub store_after-push : (p : Plan) (es : List Entry) (e : Entry) → store_after p (es ++ e ∷ [])
+    ≡ after_entry p (store_after p es) e
 unfolding store_after
 store_after-push p es e = store_from-push p (boot p) es e
 
-pub legal_push : (p : Plan) (es : List Entry) (e : Entry) → IsLegal p es → IsLawful p (store_after p es) e → IsLegal p (es ++ e ∷ [])
+pub legal_push : (p : Plan) (es : List Entry) (e : Entry) → IsLegal p es → IsLawful p (store_after p es) e
+    → IsLegal p (es ++ e ∷ [])
 unfolding IsLegal store_after
 legal_push p es e legal lawful = legal_from_push p (boot p) es e legal lawful
 
@@ -52,14 +58,16 @@ last_of-push (d ∷ []) e = refl
 last_of-push (d ∷ f ∷ es) e = last_of-push (f ∷ es) e
 
 -- one entry of a legal book
-legal_from_at : (p : Plan) (s : Store) (es : List Entry) (i : ℕ) (e : Entry) → IsLegalFrom p s es → slice_get es i ≡ Some e
+legal_from_at : (p : Plan) (s : Store) (es : List Entry) (i : ℕ) (e : Entry) → IsLegalFrom p s es → slice_get es i
+    ≡ Some e
     → IsLawful p (store_from p s (take i es)) e
 unfolding IsLegalFrom store_from
 legal_from_at p s [] i e legal at = absurd cc
 legal_from_at p s (d ∷ es) zero e legal at = let same : d ≡ e = cc in subst (IsLawful p s) same legal.0
 legal_from_at p s (d ∷ es) (suc i) e legal at = legal_from_at p (after_entry p s d) es i e legal.1 at
 
-pub legal_at : (p : Plan) (es : List Entry) (i : ℕ) (e : Entry) → IsLegal p es → slice_get es i ≡ Some e → IsLawful p (store_after p (take i es)) e
+pub legal_at : (p : Plan) (es : List Entry) (i : ℕ) (e : Entry) → IsLegal p es → slice_get es i ≡ Some e
+    → IsLawful p (store_after p (take i es)) e
 unfolding IsLegal store_after
 legal_at p es i e legal at = legal_from_at p (boot p) es i e legal at
 

@@ -25,22 +25,27 @@ count_without test (x ∷ xs) u p once on = found (is_page u p x) refl (λ rest.
     here : count_by test (x ∷ xs) ≡ cond {A = ℕ} (test x) 1 0 + count_by test xs
     here = sum_by-cons (λ (y : ℕ × ℕ). cond (test y) 1 0) x xs
 
-    found : (z : Bool) → is_page u p x ≡ z → (is_stored xs u p ≡ true → count_by test (left xs) + cond {A = ℕ} (test (u, p)) 1 0 ≡ count_by test xs)
+    found : (z : Bool) → is_page u p x ≡ z → (is_stored xs u p ≡ true
+        → count_by test (left xs) + cond {A = ℕ} (test (u, p)) 1 0 ≡ count_by test xs)
         → count_by test (left (x ∷ xs)) + cond {A = ℕ} (test (u, p)) 1 0 ≡ count_by test (x ∷ xs)
     found true e ih =
         let first : x.0 ≡ u = grind (arith, nat_tests) in
         let second : x.1 ≡ p = grind (arith, nat_tests) in
-        let gone : is_stored xs u p ≡ false = sym (ap (λ a. is_stored xs a x.1) first ∙ ap (λ b. is_stored xs u b) second) ∙ once.0 in
-        let same : cond {A = ℕ} (test x) 1 0 ≡ cond {A = ℕ} (test (u, p)) 1 0 = ap (λ (a : ℕ). cond {A = ℕ} (test (a, x.1)) 1 0) first
+        let gone : is_stored xs u p ≡ false = sym (ap (λ a. is_stored xs a x.1) first
+        ∙ ap (λ b. is_stored xs u b) second) ∙ once.0 in
+        let same : cond {A = ℕ} (test x) 1 0 ≡ cond {A = ℕ} (test (u, p)) 1 0 =
+        ap (λ (a : ℕ). cond {A = ℕ} (test (a, x.1)) 1 0) first
         ∙ ap (λ (b : ℕ). cond {A = ℕ} (test (u, b)) 1 0) second in
-        ap (λ (t : List (ℕ × ℕ)). count_by test t + cond {A = ℕ} (test (u, p)) 1 0) (without_first x xs u (λ q. eqb q p) true e
+        ap (λ (t : List (ℕ × ℕ)). count_by test t + cond {A = ℕ} (test (u, p)) 1 0)
+        (without_first x xs u (λ q. eqb q p) true e
         ∙ without_absent xs u p gone) ∙ omega (arith, here, same)
     found false e ih =
         let rest : is_stored xs u p ≡ true = grind (arith, nat_tests) in
         let less : count_by test (left xs) + cond {A = ℕ} (test (u, p)) 1 0 ≡ count_by test xs = ih rest in
         let kept : count_by test (x ∷ left xs) ≡ cond {A = ℕ} (test x) 1 0 + count_by test (left xs) =
         sum_by-cons (λ (y : ℕ × ℕ). cond (test y) 1 0) x (left xs) in
-        ap (λ (t : List (ℕ × ℕ)). count_by test t + cond {A = ℕ} (test (u, p)) 1 0) (without_first x xs u (λ q. eqb q p) false e)
+        ap (λ (t : List (ℕ × ℕ)). count_by test t + cond {A = ℕ} (test (u, p)) 1 0)
+        (without_first x xs u (λ q. eqb q p) false e)
         ∙ omega (arith, here, less, kept)
 
 -- a new node changes no count of the pages of others
@@ -52,7 +57,8 @@ taken_new n ns (x ∷ xs) v none =
     let off : is_stored (x ∷ xs) n.uid x.1 ≡ false = none x.1 in
     let other : eqb n.uid x.0 ≡ false = grind (arith, nat_tests) in
     let same : eqb (volume_in (n ∷ ns) x.0) v ≡ eqb (volume_in ns x.0) v = rw other refl in
-    let rest : (page : ℕ) → is_stored xs n.uid page ≡ false = λ page. later (is_page n.uid page x) (is_stored xs n.uid page) (none page) in
+    let rest : (page : ℕ) → is_stored xs n.uid page ≡ false =
+    λ page. later (is_page n.uid page x) (is_stored xs n.uid page) (none page) in
     sum_by-cons (λ (y : ℕ × ℕ). cond (eqb (volume_in (n ∷ ns) y.0) v) 1 0) x xs
     ∙ ap (λ (z : Bool). cond {A = ℕ} z 1 0 + count_by (λ y. eqb (volume_in (n ∷ ns) y.0) v) xs) same
     ∙ ap (λ (c : ℕ). cond {A = ℕ} (eqb (volume_in ns x.0) v) 1 0 + c) (taken_new n ns xs v rest)

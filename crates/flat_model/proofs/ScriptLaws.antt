@@ -23,33 +23,43 @@ root_there p h = by_volumes p.volumes h.some h.volumes
     by_volumes [] there are = absurd (omega arith)
     by_volumes (v ∷ vs) there are = entries_some v (and_parts _ _ are).0
 
-command_of : (volumes : ℕ) (cs : List Command) (place : ℕ) (c : Command) → list_all (is_command volumes) cs ≡ true → slice_get cs place ≡ Some c
+command_of : (volumes : ℕ) (cs : List Command) (place : ℕ) (c : Command) → list_all (is_command volumes) cs ≡ true
+    → slice_get cs place ≡ Some c
     → is_command volumes c ≡ true
 command_of volumes [] place c are at = absurd cc
-command_of volumes (d ∷ cs) zero c are at = let same : d ≡ c = cc in let is : is_command volumes d ≡ true = (and_parts _ _ are).0 in cc
+command_of volumes (d ∷ cs) zero c are at = let same : d ≡ c = cc in let is : is_command volumes d ≡ true =
+    (and_parts _ _ are).0 in cc
 command_of volumes (d ∷ cs) (suc place) c are at = command_of volumes cs place c (and_parts _ _ are).1 at
 
-commands_are : (volumes : ℕ) (x : ProcessPlan) → is_process volumes x ≡ true → list_all (is_command volumes) x.commands ≡ true
+commands_are : (volumes : ℕ) (x : ProcessPlan) → is_process volumes x ≡ true → list_all (is_command volumes) x.commands
+    ≡ true
 unfolding is_process
 commands_are volumes x h = (and_parts _ _ (and_parts _ _ h).1).0
 
 -- each command of a script has its numbers in their ranges
-pub command_there : (volumes : ℕ) (xs : List ProcessPlan) (process place : ℕ) (c : Command) → list_all (is_process volumes) xs ≡ true
-    → slice_get (get_or xs process (record { who = nobody; commands = [] })).commands place ≡ Some c → is_command volumes c ≡ true
+pub command_there : (volumes : ℕ) (xs : List ProcessPlan) (process place : ℕ) (c : Command)
+    → list_all (is_process volumes) xs ≡ true
+    → slice_get (get_or xs process (record { who = nobody; commands = [] })).commands place ≡ Some c
+    → is_command volumes c ≡ true
 command_there volumes [] process place c are at = absurd cc
-command_there volumes (x ∷ xs) zero place c are at = command_of volumes x.commands place c (commands_are volumes x (and_parts _ _ are).0) at
-command_there volumes (x ∷ xs) (suc process) place c are at = command_there volumes xs process place c (and_parts _ _ are).1 at
+command_there volumes (x ∷ xs) zero place c are at = command_of volumes x.commands place c
+    (commands_are volumes x (and_parts _ _ are).0) at
+command_there volumes (x ∷ xs) (suc process) place c are at =
+    command_there volumes xs process place c (and_parts _ _ are).1 at
 
-few_pages : (volumes : ℕ) (path : List (List ℕ)) (pages volume : ℕ) → is_command volumes (command.MkSeg path pages volume) ≡ true → pages ≤ 256
+few_pages : (volumes : ℕ) (path : List (List ℕ)) (pages volume : ℕ)
+    → is_command volumes (command.MkSeg path pages volume) ≡ true → pages ≤ 256
 unfolding is_command
 few_pages volumes path pages volume h = grind (arith, nat_tests)
 
 -- each command of a script has its numbers in their ranges
-pub command_planned : (p : Plan) (process place : ℕ) (c : Command) → IsPlan p → command_at p process place ≡ Some c → is_command (length p.volumes) c ≡ true
+pub command_planned : (p : Plan) (process place : ℕ) (c : Command) → IsPlan p → command_at p process place ≡ Some c
+    → is_command (length p.volumes) c ≡ true
 command_planned p process place c h at = command_there (length p.volumes) p.processes process place c h.each at
 
 -- the segments that a script makes are small
 pub plan_small : (p : Plan) (process place : ℕ) (path : List (List ℕ)) (pages volume : ℕ) → IsPlan p
     → command_at p process place ≡ Some (command.MkSeg path pages volume) → pages ≤ 256
 plan_small p process place path pages volume h at =
-    few_pages (length p.volumes) path pages volume (command_planned p process place (command.MkSeg path pages volume) h at)
+    few_pages (length p.volumes) path pages volume (command_planned p process place (command.MkSeg path pages volume) h
+    at)

@@ -1,5 +1,6 @@
 -- What each command of a process is answered, and the store after it.
-use Rattle.std.specs.Prelude.{ℕ, ◌+◌, Bool, true, false, not, ◌&&◌, ◌==◌, nat_lt, if◌then◌else◌, List, [], ◌∷◌, Option, Some, None}
+use Rattle.std.specs.Prelude.{ℕ, ◌+◌, Bool, true, false, not, ◌&&◌, ◌==◌, nat_lt, if◌then◌else◌, List, [], ◌∷◌, Option}
+use Rattle.std.specs.Prelude.{Some, None}
 use Rattle.script.specs.Plans.{Plan, who_of}
 use Rattle.script.specs.References.{reference_of}
 use Rattle.script.specs.declared.commands.Command.{Command}
@@ -38,7 +39,8 @@ reply_to_command p s k c = reply_by p s k c (reference_of c)
 
 abbrev pub effect_of_tree_command : Plan → Store → ℕ → Command → Store
 effect_of_tree_command p s k (command.MkDir path volume) = after_make s path volume true 0 []
-effect_of_tree_command p s k (command.MkSeg path pages volume) = after_make s path volume false pages (owner_row (who_of p k) ∷ [])
+effect_of_tree_command p s k (command.MkSeg path pages volume) =
+    after_make s path volume false pages (owner_row (who_of p k) ∷ [])
 effect_of_tree_command p s k (command.Initiate path) = after_initiate s k path
 effect_of_tree_command p s k (command.Terminate number) = after_terminate s k number
 effect_of_tree_command p s k (command.Acl path row m) = after_acl s path row m
@@ -80,4 +82,5 @@ gone_on q c r =
     else record { place = q.place + 1; tries = 0; ended = is_end c; faulted = false }
 
 unfoldable pub after_command : Plan → Store → ℕ → Command → Reply → Store
-after_command p s k c r = with_progress (if takes_effect r then effect_of p s k c else s) k (gone_on (progress_of s k) c r)
+after_command p s k c r = with_progress (if takes_effect r then effect_of p s k c else s) k
+    (gone_on (progress_of s k) c r)

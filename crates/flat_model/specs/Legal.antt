@@ -1,5 +1,6 @@
 -- Which books are lawful, complete and settled, and the flat store that results from one.
-use Rattle.std.specs.Prelude.{◌≡◌, ◌<◌, ℕ, Bool, true, false, not, ◌&&◌, ◌||◌, ◌==◌, nat_lt, if◌then◌else◌, is_some, fold, sum, map, slice_get, List, [], ◌∷◌, length, Option, Some, None, ◌⊎◌}
+use Rattle.std.specs.Prelude.{◌≡◌, ◌<◌, ℕ, Bool, true, false, not, ◌&&◌, ◌||◌, ◌==◌, nat_lt, if◌then◌else◌, is_some}
+use Rattle.std.specs.Prelude.{fold, sum, map, slice_get, List, [], ◌∷◌, length, Option, Some, None, ◌⊎◌}
 use Rattle.std.specs.List.{filter, list_all}
 use Rattle.script.specs.Plans.{Plan, command_at}
 use Rattle.script.specs.References.{reference_of}
@@ -45,9 +46,11 @@ pub record MayAnswerDevice (faulted : Bool) (c : Command) (due given : Reply) : 
 -- the answer of a command that is there: the flat store's, or a drive's failure
 abbrev pub IsAnswer : Plan → Store → ℕ → Option Command → Reply → Type 0
 IsAnswer p s k None r = ⊥
-IsAnswer p s k (Some c) r = (r ≡ reply_to_command p s k c) ⊎ MayAnswerDevice (progress_of s k).faulted c (reply_to_command p s k c) r
+IsAnswer p s k (Some c) r = (r ≡ reply_to_command p s k c)
+    ⊎ MayAnswerDevice (progress_of s k).faulted c (reply_to_command p s k c) r
 
--- a command may be answered so: it is its process's turn, the process hasn't ended, and it is the process's next command
+-- a command may be answered so: it is its process's turn, the process hasn't ended, and it is the process's next
+-- command
 pub record IsLawfulDo (p : Plan) (s : Store) (k place : ℕ) (r : Reply) : Type 0 where
   pub turn : is_turn p s k ≡ true
   pub going : (progress_of s k).ended ≡ false

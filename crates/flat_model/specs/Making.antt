@@ -1,5 +1,6 @@
 -- Directories and segments are made and deleted (Bensoussan, Clingen and Daley 1972; the numbers are own).
-use Rattle.std.specs.Prelude.{ℕ, ◌+◌, Bool, true, false, not, ◌&&◌, ◌==◌, nat_le, if◌then◌else◌, is_some, length, List, [], ◌∷◌, Option, Some, None, Result, Ok, Err}
+use Rattle.std.specs.Prelude.{ℕ, ◌+◌, Bool, true, false, not, ◌&&◌, ◌==◌, nat_le, if◌then◌else◌, is_some, length, List}
+use Rattle.std.specs.Prelude.{[], ◌∷◌, Option, Some, None, Result, Ok, Err}
 use Rattle.std.specs.List.{list_any}
 use Rattle.mnames.specs.declared.modes.Mode.TheVariants as mode
 use Rattle.mnames.specs.declared.principals.Who.{Who}
@@ -12,9 +13,9 @@ use Rattle.flat_model.specs.Pages.{without_words, without_stored}
 use Rattle.flat_model.specs.Branches.{node_at, branch_at, only_directory, parts_of}
 use Rattle.flat_model.specs.Store.{Store, entries_of}
 
--- In a directory: exists where it has a branch of that name; deep where a directory would lie below eight others and the
--- root; room where the tree has 4096 branches; noentry where all VTOC entries of the volume are used; else it is made, with
--- the next uid.
+-- In a directory: exists where it has a branch of that name; deep where a directory would lie below eight others and
+-- the root; room where the tree has 4096 branches; noentry where all VTOC entries of the volume are used; else it is
+-- made, with the next uid.
 abbrev pub make_in : Plan → Store → ℕ → Bool → List ℕ → Node → Reply
 make_in p s volume directory name d =
     if is_some (branch_in s.nodes d.uid name) then reply.Exists
@@ -30,7 +31,8 @@ make_at p s volume directory name (Err r) = r
 -- the root is there already; what the names before the last lead to must be a directory
 abbrev pub make_of : Plan → Store → ℕ → Bool → Option (List (List ℕ) × List ℕ) → Reply
 make_of p s volume directory None = reply.Exists
-make_of p s volume directory (Some parts) = make_at p s volume directory parts.1 (only_directory reply.NotDir (node_at s.nodes parts.0))
+make_of p s volume directory (Some parts) = make_at p s volume directory parts.1
+    (only_directory reply.NotDir (node_at s.nodes parts.0))
 
 unfoldable pub make_reply : Plan → Store → List (List ℕ) → ℕ → Bool → Reply
 make_reply p s path volume directory = make_of p s volume directory (parts_of path)
@@ -61,14 +63,16 @@ made_at s volume directory pages rows name (Err r) = s
 
 abbrev pub made_of : Store → ℕ → Bool → ℕ → List Row → Option (List (List ℕ) × List ℕ) → Store
 made_of s volume directory pages rows None = s
-made_of s volume directory pages rows (Some parts) = made_at s volume directory pages rows parts.1 (node_at s.nodes parts.0)
+made_of s volume directory pages rows (Some parts) = made_at s volume directory pages rows parts.1
+    (node_at s.nodes parts.0)
 
 unfoldable pub after_make : Store → List (List ℕ) → ℕ → Bool → ℕ → List Row → Store
 after_make s path volume directory pages rows = made_of s volume directory pages rows (parts_of path)
 
 -- a node is deleted: root for the root's path; notempty where it has an inferior; hasquota where it has quota
 abbrev pub delete_of : List Node → Result Node Reply → Reply
-delete_of nodes (Ok n) = if list_any (is_inferior n.uid) nodes then reply.NotEmpty else if n.quota == 0 then reply.Done else reply.HasQuota
+delete_of nodes (Ok n) = if list_any (is_inferior n.uid) nodes then reply.NotEmpty else if n.quota == 0 then reply.Done
+    else reply.HasQuota
 delete_of nodes (Err r) = r
 
 unfoldable pub delete_reply : Store → List (List ℕ) → Reply

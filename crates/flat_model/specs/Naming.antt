@@ -1,5 +1,5 @@
--- Segments are made known by numbers (Bensoussan, Clingen and Daley 1972; the 256 numbers are own), and what a path leads to
--- is told.
+-- Segments are made known by numbers (Bensoussan, Clingen and Daley 1972; the 256 numbers are own), and what a path
+-- leads to is told.
 use Rattle.std.specs.Prelude.{ℕ, ◌==◌, if◌then◌else◌, is_some, count_by, List, Option, Some, None, Result, Ok, Err}
 use Rattle.book.specs.declared.replies.Reply.{Reply}
 use Rattle.book.specs.declared.replies.Reply.TheVariants as reply

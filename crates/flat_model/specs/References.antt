@@ -1,6 +1,7 @@
--- What a reference to a word is answered, and what it changes (Bensoussan, Clingen and Daley 1972; quota and records are
--- those of Organick 1972).
-use Rattle.std.specs.Prelude.{ℕ, ◌+◌, ◌*◌, ◌/◌, ◌%◌, ◌^◌, Bool, true, false, not, ◌&&◌, ◌==◌, nat_le, if◌then◌else◌, List, Option, Some, None}
+-- What a reference to a word is answered, and what it changes (Bensoussan, Clingen and Daley 1972; quota and records
+-- are those of Organick 1972).
+use Rattle.std.specs.Prelude.{ℕ, ◌+◌, ◌*◌, ◌/◌, ◌%◌, ◌^◌, Bool, true, false, not, ◌&&◌, ◌==◌, nat_le, if◌then◌else◌}
+use Rattle.std.specs.Prelude.{List, Option, Some, None}
 use Rattle.mnames.specs.declared.modes.Mode.{Mode}
 use Rattle.mnames.specs.declared.modes.Mode.TheVariants as mode
 use Rattle.script.specs.Plans.{Plan, who_of}
@@ -46,7 +47,8 @@ alters (kind.Add w) = true
 
 -- a word other than 0 comes into a page that isn't stored
 abbrev pub stores_page : Store → ℕ → ℕ → RefKind → Bool
-stores_page s uid offset k = alters k && (not (new_word (s.words uid offset) k == 0) && not (is_stored s.stored uid (offset / 1024)))
+stores_page s uid offset k = alters k && (not (new_word (s.words uid offset) k == 0)
+    && not (is_stored s.stored uid (offset / 1024)))
 
 -- the account that a segment is charged to has used up its quota
 abbrev pub is_used_up : Store → ℕ → Bool
@@ -58,7 +60,8 @@ is_volume_full p s volume = taken_on s.nodes s.stored volume == records_of p vol
 
 -- where there is no room for a page more of a segment: quota, then norecord; else another reply
 abbrev pub room_reply : Plan → Store → Node → Reply → Reply
-room_reply p s n otherwise = if is_used_up s n.uid then reply.Quota else if is_volume_full p s n.volume then reply.NoRecord else otherwise
+room_reply p s n otherwise = if is_used_up s n.uid then reply.Quota
+    else if is_volume_full p s n.volume then reply.NoRecord else otherwise
 
 -- a read is answered with the word, an addition with the new one
 abbrev pub word_reply : ℕ → RefKind → Reply
@@ -66,8 +69,9 @@ word_reply old kind.Read = reply.Word old
 word_reply old (kind.Write w) = reply.Done
 word_reply old (kind.Add w) = reply.Word (new_word old (kind.Add w))
 
--- Of a segment that is there: noaccess where its access control list doesn't permit it; length where the offset is at or
--- past 1024 times its length in pages; quota or norecord where there is no room for the page; else the word, or done.
+-- Of a segment that is there: noaccess where its access control list doesn't permit it; length where the offset is at
+-- or past 1024 times its length in pages; quota or norecord where there is no room for the page; else the word, or
+-- done.
 abbrev pub reply_in : Plan → Store → ℕ → ℕ → RefKind → Node → Reply
 reply_in p s k offset how n =
     if not (permits (access_of (who_of p k) n.rows) how) then reply.NoAccess

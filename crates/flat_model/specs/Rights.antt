@@ -27,7 +27,8 @@ row_with row m = record { person = row.person; project = row.project; mode = m }
 unfoldable pub after_acl : Store → List (List ℕ) → Named → Mode → Store
 after_acl s path row m = changed s (λ n. record n { rows = with_row (row_with row m) n.rows }) (segment_at s.nodes path)
 
--- the nodes once an amount of quota has moved: down to the directory where it is positive, up from it where it is negative
+-- the nodes once an amount of quota has moved: down to the directory where it is positive, up from it where it is
+-- negative
 abbrev pub nodes_moved : List Node → ℕ → ℤ → List Node
 nodes_moved nodes d amount = tree_moved nodes d (is_positive amount) (unsigned_abs amount)
 
@@ -35,11 +36,12 @@ abbrev pub done_or_over : Option ℕ → Reply
 done_or_over None = reply.Done
 done_or_over (Some u) = reply.Over u
 
--- toolittle where the giver has less quota than the amount; over, with the account of the least uid that would be charged
--- for more pages than its quota then
+-- toolittle where the giver has less quota than the amount; over, with the account of the least uid that would be
+-- charged for more pages than its quota then
 abbrev pub move_of : Store → ℤ → Result Node Reply → Reply
 move_of s amount (Ok n) =
-    if nat_lt (quota_in s.nodes (giver_of (above s.nodes) n.uid (is_positive amount))) (unsigned_abs amount) then reply.TooLittle
+    if nat_lt (quota_in s.nodes (giver_of (above s.nodes) n.uid (is_positive amount))) (unsigned_abs amount)
+    then reply.TooLittle
     else done_or_over (over_in (nodes_moved s.nodes n.uid amount) s.stored)
 move_of s amount (Err r) = r
 

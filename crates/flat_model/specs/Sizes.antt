@@ -23,7 +23,8 @@ truncate_reply s path = done_at (segment_at s.nodes path)
 
 -- a page lies wholly past an offset, or is cut by it and all zeros then
 abbrev pub is_lost : Words → ℕ → ℕ → ℕ → Bool
-is_lost words uid from page = nat_le from (1024 * page) || (nat_lt from (1024 * page + 1024) && is_zero_page words uid page)
+is_lost words uid from page = nat_le from (1024 * page)
+    || (nat_lt from (1024 * page + 1024) && is_zero_page words uid page)
 
 -- the words of a segment from an offset on are 0, and the pages that are lost are stored no more
 abbrev pub cut_off : Store → ℕ → ℕ → Store

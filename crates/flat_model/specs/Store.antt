@@ -1,23 +1,24 @@
 -- The flat store: the tree, the words, the stored pages, what numbers stand for, and how far each process has come. It
--- restates the view that a user has of segments (Bensoussan, Clingen and Daley 1972): words under a segment number and an
--- offset, and pages that cost nothing while they are zeros.
-use Rattle.std.specs.Prelude.{ℕ, Bool, true, false, not, ◌||◌, ◌==◌, replicate, slice_get, slice_index_or, slice_set, List, [], ◌∷◌, length, Option, Some, None, codes}
+-- restates the view that a user has of segments (Bensoussan, Clingen and Daley 1972): words under a segment number and
+-- an offset, and pages that cost nothing while they are zeros.
+use Rattle.std.specs.Prelude.{ℕ, Bool, true, false, not, ◌||◌, ◌==◌, replicate, slice_get, slice_index_or, slice_set}
+use Rattle.std.specs.Prelude.{List, [], ◌∷◌, length, Option, Some, None, codes}
 use Rattle.script.specs.Plans.{Plan}
 use Rattle.script.specs.declared.plan.VolumeLine.{VolumeLine}
 use Rattle.known_segs.specs.Known.{uid_of}
 use Rattle.tree_model.specs.Tree.{Node}
 use Rattle.flat_model.specs.Pages.{Words}
 
--- The place of a process's next command; how often it has tried it, where it is an `await`; whether the process has ended;
--- whether a drive's failure was told of it since its last answer.
+-- The place of a process's next command; how often it has tried it, where it is an `await`; whether the process has
+-- ended; whether a drive's failure was told of it since its last answer.
 pub record Progress : Type 0 where
   pub place : ℕ
   pub tries : ℕ
   pub ended : Bool
   pub faulted : Bool
 
--- The nodes, the newest first, and the next uid; the words; the stored pages; for each process, in order, the uid that each
--- of its 256 segment numbers stands for, and how far it has come.
+-- The nodes, the newest first, and the next uid; the words; the stored pages; for each process, in order, the uid that
+-- each of its 256 segment numbers stands for, and how far it has come.
 pub record Store : Type 0 where
   pub nodes : List Node
   pub next : ℕ
@@ -43,7 +44,17 @@ entries_of p volume = entries_in (slice_get p.volumes volume)
 
 -- the root, on the first volume, with the script's quota and no row of access
 abbrev pub root_of : Plan → Node
-root_of p = record { uid = 1; superior = None; name = codes "root"; directory = true; volume = 0; pages = 0; quota = p.quota; rows = [] }
+root_of p = record {
+  uid = 1;
+  superior = None;
+  name = codes "root";
+  directory = true;
+  volume = 0;
+  pages = 0;
+  quota =
+      p.quota;
+  rows = [];
+}
 
 -- a process before its first command
 abbrev pub at_first : Progress

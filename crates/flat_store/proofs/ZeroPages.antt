@@ -1,5 +1,7 @@
 -- Whether a stored page is all zeros.
-use Rattle.std.proofs.Common.{◌≡◌, ℕ, suc, zero, ◌+◌, ◌*◌, ◌/◌, ◌%◌, ◌<◌, length, get_or, arith, Bool, true, false, cond, List, [], ◌∷◌, Option, Some, None, IsTrue, ◌↔◌, is_some, All, refl, sym, ap, subst, ◌∙◌}
+use Rattle.std.proofs.Common.{◌≡◌, ℕ, suc, zero, ◌+◌, ◌*◌, ◌/◌, ◌%◌, ◌<◌, length, get_or, arith, Bool, true, false}
+use Rattle.std.proofs.Common.{cond, List, [], ◌∷◌, Option, Some, None, IsTrue, ◌↔◌, is_some, All, refl, sym, ap, subst}
+use Rattle.std.proofs.Common.{◌∙◌}
 use Rattle.std.specs.Prelude.{IsSomeAnd, slice_get}
 use Rattle.std.specs.Bool.{Decides}
 use Rattle.mword.specs.Words.{AreZero}
@@ -19,12 +21,14 @@ StillToCome pages rest = (u q : ℕ) (ws : List ℕ) → page_at pages u q ≡ S
 pub all_to_come : (pages : Paged) → StillToCome pages pages
 all_to_come pages u q ws found zeros = found
 
-pub passed_over : (pages rest left : Paged) (k : ℕ × ℕ) (w : List ℕ) → rest ≡ (k, w) ∷ left → (AreZero w → ⊥) → StillToCome pages rest
+pub passed_over : (pages rest left : Paged) (k : ℕ × ℕ) (w : List ℕ) → rest ≡ (k, w) ∷ left → (AreZero w → ⊥)
+    → StillToCome pages rest
     → StillToCome pages left
 passed_over pages rest left k w is other h u q ws found zeros =
     here (is_key u q k) refl (sym (ap (λ (x : Paged). page_at x u q) is) ∙ h u q ws found zeros)
   where
-    here : (z : Bool) → is_key u q k ≡ z → cond (is_key u q k) (Some w) (page_at left u q) ≡ Some ws → page_at left u q ≡ Some ws
+    here : (z : Bool) → is_key u q k ≡ z → cond (is_key u q k) (Some w) (page_at left u q) ≡ Some ws → page_at left u q
+        ≡ Some ws
     here true e got = let same : w ≡ ws = cc in absurd (other (subst AreZero (sym same) zeros))
     here false e got = sym (rw e refl) ∙ got
 
@@ -42,7 +46,8 @@ all_at P [] i x at all = absurd cc
 all_at P (y ∷ ys) zero x at all = let same : y ≡ x = cc in subst P same (all 0 y (omega arith))
 all_at P (y ∷ ys) (suc i) x at all = all_at P ys i x at (λ k d lt. all (suc k) d (omega arith))
 
-pub found_zero : (pages now : Paged) (u q : ℕ) (ws : List ℕ) (r : Bool) → pages ≡ now → page_at pages u q ≡ Some ws → (IsTrue r ↔ AreZero ws)
+pub found_zero : (pages now : Paged) (u q : ℕ) (ws : List ℕ) (r : Bool) → pages ≡ now → page_at pages u q ≡ Some ws
+    → (IsTrue r ↔ AreZero ws)
     → r ≡ true → Decides true (KeepsZeroPage now)
 unfolding KeepsZeroPage
 found_zero pages now u q ws r is found told yes_ = (
@@ -51,7 +56,8 @@ found_zero pages now u q ws r is found told yes_ = (
 )
 
 -- the words of a stored page that is all zeros
-zero_there : (pages : Paged) (s : Store) (u q : ℕ) (ws : List ℕ) → HoldPages pages s.words s.stored → page_at pages u q ≡ Some ws
+zero_there : (pages : Paged) (s : Store) (u q : ℕ) (ws : List ℕ) → HoldPages pages s.words s.stored → page_at pages u q
+    ≡ Some ws
     → is_zero_page s.words u q ≡ true → AreZero ws
 zero_there pages s u q ws h found zeros i d lt =
     get_either ws i d 0 lt
@@ -77,7 +83,8 @@ zero_there pages s u q ws h found zeros i d lt =
     get_either (x ∷ xs) (suc j) a b lt = get_either xs j a b (omega arith)
 
 -- what is kept is what is stored
-pub zero_page_told : (p : Plan) (s : Store) (h now : Held) (r : Bool) → h ≡ now → Holds p now s → Decides r (KeepsZeroPage h.pages)
+pub zero_page_told : (p : Plan) (s : Store) (h now : Held) (r : Bool) → h ≡ now → Holds p now s
+    → Decides r (KeepsZeroPage h.pages)
     → Decides r (HasZeroPage s)
 unfolding HasZeroPage KeepsZeroPage
 zero_page_told p s h now r same holds_now told = (λ is. up (told.0 is), λ h. told.1 (down h))

@@ -1,6 +1,8 @@
 -- What the number of a uid and the least free number are, place by place.
-use Rattle.std.proofs.Common.{◌≡◌, ℕ, suc, zero, ◌+◌, ◌<◌, ◌≤◌, Bool, true, false, cond, ltb, not, List, [], ◌∷◌, length, Option, Some, None, refl, sym, ap}
-use Rattle.std.proofs.Common.{subst, ◌∙◌, arith, get_or, set, inl, inr, is_some, is_none, position, IsSome, IsNone, IsTrue}
+use Rattle.std.proofs.Common.{◌≡◌, ℕ, suc, zero, ◌+◌, ◌<◌, ◌≤◌, Bool, true, false, cond, ltb, not, List, [], ◌∷◌}
+use Rattle.std.proofs.Common.{length, Option, Some, None, refl, sym, ap}
+use Rattle.std.proofs.Common.{subst, ◌∙◌, arith, get_or, set, inl, inr, is_some, is_none, position, IsSome, IsNone}
+use Rattle.std.proofs.Common.{IsTrue}
 use Rattle.std.specs.Prelude.{◌↔◌}
 use Rattle.std.specs.List.{position_or_len}
 use Rattle.std.proofs.lemmas.Bool.{eqb-true, eq-eqb, ltb-false, not-true, both_ways, cases_eq, cases_lt}
@@ -9,12 +11,15 @@ use Rattle.std.proofs.lemmas.List.Sums.{prefix_len_passes, count_by-le-length}
 use Rattle.std.proofs.lemmas.List.Quantifiers.{position-Some}
 use Rattle.std.proofs.lemmas.Option.{none-some}
 use Rattle.std.proofs.lemmas.Grind.{common_steps}
-use Rattle.known_segs.specs.Known.{uid_of, stands_for, number_of, least_free, with_number, known_count, IsUnknown, HasOneNumberEach}
+use Rattle.known_segs.specs.Known.{uid_of, stands_for, number_of, least_free, with_number, known_count, IsUnknown}
+use Rattle.known_segs.specs.Known.{HasOneNumberEach}
 
-pub position_none : {X : Type 0} (p : X → Bool) (xs : List X) → position p xs ≡ None → (k : ℕ) (d : X) → k < length xs → p (get_or xs k d) ≡ false
+pub position_none : {X : Type 0} (p : X → Bool) (xs : List X) → position p xs ≡ None → (k : ℕ) (d : X) → k < length xs
+    → p (get_or xs k d) ≡ false
 position_none {X} p xs e k d within = none_at (ltb (position_or_len p xs) (length xs)) refl e
   where
-    none_at : (b : Bool) → ltb (position_or_len p xs) (length xs) ≡ b → cond b (Some (position_or_len p xs)) None ≡ None → p (get_or xs k d) ≡ false
+    none_at : (b : Bool) → ltb (position_or_len p xs) (length xs) ≡ b → cond b (Some (position_or_len p xs)) None
+        ≡ None → p (get_or xs k d) ≡ false
     none_at true is e' = cc
     none_at false is e' =
         let past : length xs ≤ position_or_len p xs = ltb-false _ _ is in
@@ -39,26 +44,33 @@ pub within_since_some : (kst : List (Option ℕ)) (n : ℕ) → IsSome (uid_of k
 within_since_some kst n h = elim (cases_lt n (length kst)) [
   | inl lt ↦ lt
   | inr past ↦
-      (let none : uid_of kst n ≡ None = get_or_past kst n None past in let yet : is_some (uid_of kst n) ≡ false = ap is_some none in absurd (both_ways _ yet h))
+      (let none : uid_of kst n ≡ None = get_or_past kst n None past in let yet : is_some (uid_of kst n) ≡ false =
+      ap is_some none in absurd (both_ways _ yet h))
 ]
 
-pub number_some : (kst : List (Option ℕ)) (uid n : ℕ) → number_of kst uid ≡ Some n → (n < length kst) × (uid_of kst n ≡ Some uid)
+pub number_some : (kst : List (Option ℕ)) (uid n : ℕ) → number_of kst uid ≡ Some n → (n < length kst)
+    × (uid_of kst n ≡ Some uid)
 number_some kst uid n e =
-    let h : (n < length kst) × (stands_for uid (get_or kst n None) ≡ true) × ((k : ℕ) → k < n → stands_for uid (get_or kst k None) ≡ false) =
+    let h : (n < length kst) × (stands_for uid (get_or kst n None) ≡ true)
+    × ((k : ℕ) → k < n → stands_for uid (get_or kst k None) ≡ false) =
     position-Some (stands_for uid) kst n None e in
     (h.0, stands_for_is uid _ h.1)
 
 pub number_none : (kst : List (Option ℕ)) (uid : ℕ) → number_of kst uid ≡ None → IsUnknown kst uid
 number_none kst uid e n known =
-    both_ways _ (position_none (stands_for uid) kst e n None (within_since_known kst n uid known)) (is_stands_for uid _ known)
+    both_ways _ (position_none (stands_for uid) kst e n None (within_since_known kst n uid known))
+    (is_stands_for uid _ known)
 
 -- a number stands for the uid exactly where it is the uid's number
 pub numbered : (kst : List (Option ℕ)) (uid : ℕ) (r : Option ℕ) → HasOneNumberEach kst → r ≡ number_of kst uid → (n : ℕ)
     → (r ≡ Some n) ↔ (uid_of kst n ≡ Some uid)
 numbered kst uid None once e n = (λ h. absurd (none-some n h), λ h. absurd (number_none kst uid (sym e) n h))
 numbered kst uid (Some m) once e n =
-    let h : (m < length kst) × (uid_of kst m ≡ Some uid) = number_some kst uid m (sym e) in
-    ((λ s. let same : m ≡ n = cc in subst (λ (k : ℕ). uid_of kst k ≡ Some uid) same h.1), λ known. ap (λ (k : ℕ). Some k) (once m n uid h.1 known))
+    let h : (m < length kst) × (uid_of kst m ≡ Some uid) = number_some kst uid m (sym e) in (
+      (λ s. let same : m ≡ n = cc in subst (λ (k : ℕ). uid_of kst k ≡ Some uid) same h.1),
+      λ known. ap
+          (λ (k : ℕ). Some k) (once m n uid h.1 known),
+    )
 
 pub unknown_is : (kst : List (Option ℕ)) (uid : ℕ) (r : Option ℕ) → r ≡ number_of kst uid → IsNone r ↔ IsUnknown kst uid
 unknown_is kst uid None e = (λ _. number_none kst uid (sym e), λ _. refl)
@@ -70,11 +82,13 @@ free_is (Some u) e = cc
 
 pub free_some : (kst : List (Option ℕ)) (n : ℕ) → least_free kst ≡ Some n → (n < length kst) × (uid_of kst n ≡ None)
 free_some kst n e =
-    let h : (n < length kst) × (is_none (get_or kst n None) ≡ true) × ((k : ℕ) → k < n → is_none (get_or kst k None) ≡ false) =
+    let h : (n < length kst) × (is_none (get_or kst n None) ≡ true)
+    × ((k : ℕ) → k < n → is_none (get_or kst k None) ≡ false) =
     position-Some is_none kst n None e in
     (h.0, free_is _ h.1)
 
-all_known : (xs : List (Option ℕ)) → ((k : ℕ) → k < length xs → is_none (get_or xs k None) ≡ false) → known_count xs ≡ length xs
+all_known : (xs : List (Option ℕ)) → ((k : ℕ) → k < length xs → is_none (get_or xs k None) ≡ false) → known_count xs
+    ≡ length xs
 all_known [] h = refl
 all_known (None ∷ xs) h = let no_place : true ≡ false = h 0 (omega arith) in cc
 all_known (Some u ∷ xs) h =
@@ -93,7 +107,8 @@ pub count_full : (kst : List (Option ℕ)) → least_free kst ≡ None → known
 count_full kst e = all_known kst (λ k lt. position_none is_none kst e k None lt)
 
 -- there is a free number exactly where fewer than all are known
-pub room_is : (kst : List (Option ℕ)) (r : Option ℕ) (b : Bool) → length kst ≡ 256 → r ≡ least_free kst → b ≡ is_some r → IsTrue b ↔ (known_count kst < 256)
+pub room_is : (kst : List (Option ℕ)) (r : Option ℕ) (b : Bool) → length kst ≡ 256 → r ≡ least_free kst → b ≡ is_some r
+    → IsTrue b ↔ (known_count kst < 256)
 room_is kst None b size e is =
     let full : known_count kst ≡ length kst = count_full kst (sym e) in (λ h. cc, λ lt. absurd (omega arith))
 room_is kst (Some n) b size e is =
@@ -104,60 +119,82 @@ room_is kst (Some n) b size e is =
 pub known_stays : (kst : List (Option ℕ)) (uid n : ℕ) → Some n ≡ number_of kst uid → kst ≡ with_number kst uid (Some n)
 known_stays kst uid n e =
     let h : uid_of kst n ≡ Some uid = (number_some kst uid n (sym e)).1 in
-    let same : set kst n (get_or kst n None) ≡ kst = set-get_or kst n None in subst (λ (o : Option ℕ). kst ≡ set kst n o) h (sym same)
+    let same : set kst n (get_or kst n None) ≡ kst = set-get_or kst n None in subst
+    (λ (o : Option ℕ). kst ≡ set kst n o) h (sym same)
 
-pub known_is_some : (kst : List (Option ℕ)) (uid n size : ℕ) → Some n ≡ number_of kst uid → IsNone (Some n) ↔ ((known_count kst ≡ size) × IsUnknown kst uid)
+pub known_is_some : (kst : List (Option ℕ)) (uid n size : ℕ) → Some n ≡ number_of kst uid → IsNone (Some n)
+    ↔ ((known_count kst ≡ size) × IsUnknown kst uid)
 known_is_some kst uid n size e = (λ h. cc, λ h. absurd (h.1 n (number_some kst uid n (sym e)).1))
 
 pub given_is_some : (kst : List (Option ℕ)) (uid n : ℕ) → length kst ≡ 256 → Some n ≡ least_free kst
     → IsNone (Some n) ↔ ((known_count kst ≡ 256) × IsUnknown kst uid)
 given_is_some kst uid n size e =
     let free : (n < length kst) × (uid_of kst n ≡ None) = free_some kst n (sym e) in
-    let less : known_count kst < length kst = some_free kst n free.0 free.1 in (λ h. cc, λ h. absurd (let full : known_count kst ≡ 256 = h.0 in omega arith))
+    let less : known_count kst < length kst = some_free kst n free.0 free.1 in
+    (λ h. cc, λ h. absurd (let full : known_count kst ≡ 256 = h.0 in omega arith))
 
-pub none_is_full : (kst : List (Option ℕ)) (uid : ℕ) (r : Option ℕ) → r ≡ None → length kst ≡ 256 → None ≡ number_of kst uid → None ≡ least_free kst
+pub none_is_full : (kst : List (Option ℕ)) (uid : ℕ) (r : Option ℕ) → r ≡ None → length kst ≡ 256 → None
+    ≡ number_of kst uid → None ≡ least_free kst
     → IsNone r ↔ ((known_count kst ≡ 256) × IsUnknown kst uid)
-none_is_full kst uid r none size unknown full = (λ h. (count_full kst (sym full) ∙ size, number_none kst uid (sym unknown)), λ h. ap is_some none)
+none_is_full kst uid r none size unknown full = (
+  λ h. (
+    count_full kst (sym full)
+        ∙ size,
+    number_none kst uid (sym unknown),
+  ),
+  λ h. ap is_some none,
+)
 
 -- a new number for a uid that has none
-pub once_given : (kst : List (Option ℕ)) (uid n : ℕ) → HasOneNumberEach kst → n < length kst → IsUnknown kst uid → HasOneNumberEach (set kst n (Some uid))
+pub once_given : (kst : List (Option ℕ)) (uid n : ℕ) → HasOneNumberEach kst → n < length kst → IsUnknown kst uid
+    → HasOneNumberEach (set kst n (Some uid))
 once_given kst uid n once lt unknown a b u e f =
     elim (cases_eq a n) [
       | inl at_a ↦ elim (cases_eq b n) [
         | inl at_b ↦ at_a ∙ sym at_b
         | inr off_b ↦
             (let there : get_or (set kst n (Some uid)) n None ≡ Some uid = get_or-set_same kst n (Some uid) None lt in
-            let old : get_or (set kst n (Some uid)) b None ≡ get_or kst b None = get_or-set_other kst n b (Some uid) None off_b in
-            let here : get_or (set kst n (Some uid)) n None ≡ Some u = subst (λ (k : ℕ). get_or (set kst n (Some uid)) k None ≡ Some u) at_a e in
+            let old : get_or (set kst n (Some uid)) b None ≡ get_or kst b None =
+            get_or-set_other kst n b (Some uid) None off_b in
+            let here : get_or (set kst n (Some uid)) n None ≡ Some u =
+            subst (λ (k : ℕ). get_or (set kst n (Some uid)) k None ≡ Some u) at_a e in
             let known : uid_of kst b ≡ Some uid = cc in absurd (unknown b known))
       ]
       | inr off_a ↦
-          (let old_a : get_or (set kst n (Some uid)) a None ≡ get_or kst a None = get_or-set_other kst n a (Some uid) None off_a in
+          (let old_a : get_or (set kst n (Some uid)) a None ≡ get_or kst a None =
+          get_or-set_other kst n a (Some uid) None off_a in
           elim (cases_eq b n) [
             | inl at_b ↦
-                (let there : get_or (set kst n (Some uid)) n None ≡ Some uid = get_or-set_same kst n (Some uid) None lt in
-                let here : get_or (set kst n (Some uid)) n None ≡ Some u = subst (λ (k : ℕ). get_or (set kst n (Some uid)) k None ≡ Some u) at_b f in
+                (let there : get_or (set kst n (Some uid)) n None ≡ Some uid =
+                get_or-set_same kst n (Some uid) None lt in
+                let here : get_or (set kst n (Some uid)) n None ≡ Some u =
+                subst (λ (k : ℕ). get_or (set kst n (Some uid)) k None ≡ Some u) at_b f in
                 let known : uid_of kst a ≡ Some uid = cc in absurd (unknown a known))
             | inr off_b ↦
-                (let old_b : get_or (set kst n (Some uid)) b None ≡ get_or kst b None = get_or-set_other kst n b (Some uid) None off_b in
+                (let old_b : get_or (set kst n (Some uid)) b None ≡ get_or kst b None =
+                get_or-set_other kst n b (Some uid) None off_b in
                 once a b u (sym old_a ∙ e) (sym old_b ∙ f))
           ])
     ]
 
 -- a number given up
-pub once_forgotten : (kst : List (Option ℕ)) (n : ℕ) → HasOneNumberEach kst → n < length kst → HasOneNumberEach (set kst n None)
+pub once_forgotten : (kst : List (Option ℕ)) (n : ℕ) → HasOneNumberEach kst → n < length kst
+    → HasOneNumberEach (set kst n None)
 once_forgotten kst n once lt a b u e f =
     once a b u (still kst n a u lt e) (still kst n b u lt f)
   where
-    still : (kst : List (Option ℕ)) (n a u : ℕ) → n < length kst → get_or (set kst n None) a None ≡ Some u → get_or kst a None ≡ Some u
+    still : (kst : List (Option ℕ)) (n a u : ℕ) → n < length kst → get_or (set kst n None) a None ≡ Some u
+        → get_or kst a None ≡ Some u
     still kst n a u lt e = elim (cases_eq a n) [
       | inl at_a ↦ (let gone : uid_of (set kst n None) n ≡ None = get_or-set_same kst n None None lt in
-          let here : get_or (set kst n None) n None ≡ Some u = subst (λ (k : ℕ). get_or (set kst n None) k None ≡ Some u) at_a e in cc)
+          let here : get_or (set kst n None) n None ≡ Some u =
+          subst (λ (k : ℕ). get_or (set kst n None) k None ≡ Some u) at_a e in cc)
       | inr off_a ↦ sym (get_or-set_other kst n a None None off_a) ∙ e
     ]
 
 -- what was known stays so where an empty place is filled
-pub kept_given : (kst : List (Option ℕ)) (n uid : ℕ) → uid_of kst n ≡ None → (m v : ℕ) → uid_of kst m ≡ Some v → uid_of (set kst n (Some uid)) m ≡ Some v
+pub kept_given : (kst : List (Option ℕ)) (n uid : ℕ) → uid_of kst n ≡ None → (m v : ℕ) → uid_of kst m ≡ Some v
+    → uid_of (set kst n (Some uid)) m ≡ Some v
 kept_given kst n uid empty m v known = elim (cases_eq m n) [
   | inl e ↦ (let none : uid_of kst m ≡ None = rw e empty in absurd (cc))
   | inr ne ↦ get_or-set_other kst n m (Some uid) None ne ∙ known

@@ -1,5 +1,7 @@
 -- The accounts in order of uid, the volumes in order, and the summary and the listing of them.
-use Rattle.std.proofs.Common.{◌≡◌, ◌≢◌, ℕ, ◌+◌, ◌<◌, ◌≤◌, Bool, true, false, cond, eqb, List, [], ◌∷◌, ◌++◌, length, reverse, take, get_or, is_some, Option, Some, None, refl, sym, ap, subst, ◌∙◌, arith, inl, inr}
+use Rattle.std.proofs.Common.{◌≡◌, ◌≢◌, ℕ, ◌+◌, ◌<◌, ◌≤◌, Bool, true, false, cond, eqb, List, [], ◌∷◌, ◌++◌, length}
+use Rattle.std.proofs.Common.{reverse, take, get_or, is_some, Option, Some, None, refl, sym, ap, subst, ◌∙◌, arith}
+use Rattle.std.proofs.Common.{inl, inr}
 use Rattle.std.specs.Prelude.{nat_lt, not, ◌&&◌, ◌||◌, if◌then◌else◌}
 use Rattle.std.specs.List.{flat_map}
 use Rattle.std.proofs.lemmas.Bool.{cases_Bool}
@@ -18,7 +20,8 @@ use Rattle.dir_tree.specs.Nodes.{as_term}
 use Rattle.flat_model.specs.Store.{Store}
 use Rattle.flat_model.specs.Legal.{store_after}
 use Rattle.flat_store.specs.Shown.{Kept, Shows}
-use Rattle.listing.specs.Listings.{AccountCount, VolumeCount, Summary, account_count, accounts_of, volumes_of, summary_of, summary_text, body_of, listing_of, trail_of}
+use Rattle.listing.specs.Listings.{AccountCount, VolumeCount, Summary, account_count, accounts_of, volumes_of}
+use Rattle.listing.specs.Listings.{summary_of, summary_text, body_of, listing_of, trail_of}
 use Rattle.listing.specs.Gathered.{account_at, as_list, volume_of}
 
 -- the nodes from the first with a uid below this one on
@@ -49,7 +52,8 @@ absent (n ∷ ns) u v b le =
 
 older_all : (ns : List Node) (u : ℕ) → AreBelow u ns → older u ns ≡ ns
 older_all [] u b = refl
-older_all (n ∷ ns) u b = (let yes : nat_lt n.uid u ≡ true = let lt : n.uid < u = b.0 in grind (arith, nat_tests) in rw yes refl)
+older_all (n ∷ ns) u b = (let yes : nat_lt n.uid u ≡ true = let lt : n.uid < u =
+    b.0 in grind (arith, nat_tests) in rw yes refl)
 
 older_more : (ns : List Node) (u : ℕ) → IsTree ns → older (u + 1) ns ≡ as_nodes (node_in ns u) ++ older u ns
 older_more [] u t = refl
@@ -57,7 +61,8 @@ older_more (n ∷ ns) u t = elim (cases_Bool (nat_lt n.uid u)) [
   | inl less ↦
       (let more : nat_lt n.uid (u + 1) ≡ true = grind (arith, nat_tests) in
       let other : eqb n.uid u ≡ false = grind (arith, nat_tests) in
-      let none : node_in ns u ≡ None = absent ns n.uid u (below_joined ns n n.superior t.0) (grind (arith, nat_tests)) in
+      let none : node_in ns u ≡ None = absent ns n.uid u (below_joined ns n n.superior t.0) (grind (arith, nat_tests))
+      in
       rw less (rw more (rw other (rw none refl))))
   | inr not_less ↦ elim (cases_Bool (eqb n.uid u)) [
     | inl is ↦
@@ -86,14 +91,16 @@ pub gathered_start : (s : Store) → IsTree s.nodes → [] ≡ gathered s 1
 gathered_start s t = ap (λ (x : List Node). flat_map (account_count s) (reverse x)) (sym (none_older s.nodes t))
 
 one_more : (s : Store) (o : Option Node) (xs : List Node)
-    → flat_map (account_count s) (reverse (as_nodes o ++ xs)) ≡ flat_map (account_count s) (reverse xs) ++ account_at s o
+    → flat_map (account_count s) (reverse (as_nodes o ++ xs)) ≡ flat_map (account_count s) (reverse xs)
+    ++ account_at s o
 one_more s None xs = sym (append-nil (flat_map (account_count s) (reverse xs)))
 one_more s (Some n) xs =
     ap (flat_map (account_count s)) (reverse-cons n xs)
     ∙ flat_map-append (account_count s) (reverse xs) (n ∷ [])
     ∙ ap (λ (x : List AccountCount). flat_map (account_count s) (reverse xs) ++ x) (append-nil (account_count s n))
 
-pub gathered_more : (s : Store) (u : ℕ) → IsTree s.nodes → gathered s (u + 1) ≡ gathered s u ++ account_at s (node_in s.nodes u)
+pub gathered_more : (s : Store) (u : ℕ) → IsTree s.nodes → gathered s (u + 1) ≡ gathered s u
+    ++ account_at s (node_in s.nodes u)
 gathered_more s u t = ap (λ (x : List Node). flat_map (account_count s) (reverse x)) (older_more s.nodes u t)
     ∙ one_more s (node_in s.nodes u) (older u s.nodes)
 
@@ -101,29 +108,36 @@ pub gathered_end : (s : Store) (u : ℕ) → AreBelow u s.nodes → gathered s u
 unfolding accounts_of
 gathered_end s u b = ap (λ (x : List Node). flat_map (account_count s) (reverse x)) (older_all s.nodes u b)
 
-pub pushed : (old new now : List AccountCount) (a : AccountCount) (o : Option AccountCount) → o ≡ Some a → new ≡ old ++ a ∷ [] → now ≡ new
+pub pushed : (old new now : List AccountCount) (a : AccountCount) (o : Option AccountCount) → o ≡ Some a → new ≡ old
+    ++ a ∷ [] → now ≡ new
     → now ≡ old ++ as_list o
 pushed old new now a o is add same = same ∙ add ∙ ap (λ (x : Option AccountCount). old ++ as_list x) (sym is)
 
-pub skipped : (old now : List AccountCount) (o : Option AccountCount) → ((a : AccountCount) → o ≡ Some a → ⊥) → now ≡ old → now ≡ old ++ as_list o
+pub skipped : (old now : List AccountCount) (o : Option AccountCount) → ((a : AccountCount) → o ≡ Some a → ⊥) → now
+    ≡ old → now ≡ old ++ as_list o
 skipped old now None none same = same ∙ sym (append-nil old)
 skipped old now (Some a) none same = absurd (none a refl)
 
-pub counts_start : (s : Store) (nodes : List Node) (items : List AccountCount) → IsTree nodes → s.nodes ≡ nodes → items ≡ [] → items ≡ gathered s 1
+pub counts_start : (s : Store) (nodes : List Node) (items : List AccountCount) → IsTree nodes → s.nodes ≡ nodes → items
+    ≡ [] → items ≡ gathered s 1
 counts_start s nodes items t same empty = empty ∙ gathered_start s (subst IsTree (sym same) t)
 
-pub counts_more : (s : Store) (nodes : List Node) (u : ℕ) (items new : List AccountCount) (o : Option AccountCount) → IsTree nodes → s.nodes ≡ nodes
-    → as_list o ≡ account_at s (node_in s.nodes u) → items ≡ gathered s u → new ≡ items ++ as_list o → new ≡ gathered s (u + 1)
+pub counts_more : (s : Store) (nodes : List Node) (u : ℕ) (items new : List AccountCount) (o : Option AccountCount)
+    → IsTree nodes → s.nodes ≡ nodes
+    → as_list o ≡ account_at s (node_in s.nodes u) → items ≡ gathered s u → new ≡ items ++ as_list o → new
+    ≡ gathered s (u + 1)
 counts_more s nodes u items new o t same found h add =
     add
     ∙ ap (λ (x : List AccountCount). x ++ as_list o) h
     ∙ ap (λ (x : List AccountCount). gathered s u ++ x) found
     ∙ sym (gathered_more s u (subst IsTree (sym same) t))
 
-pub counts_end : (s : Store) (nodes : List Node) (u next : ℕ) (items : List AccountCount) → s.nodes ≡ nodes → AreBelow next nodes → next ≤ u
+pub counts_end : (s : Store) (nodes : List Node) (u next : ℕ) (items : List AccountCount) → s.nodes ≡ nodes
+    → AreBelow next nodes → next ≤ u
     → items ≡ gathered s u
     → items ≡ accounts_of s
-counts_end s nodes u next items same below le h = h ∙ gathered_end s u (below_more s.nodes next u (subst (AreBelow next) (sym same) below) le)
+counts_end s nodes u next items same below le h = h ∙ gathered_end s u
+    (below_more s.nodes next u (subst (AreBelow next) (sym same) below) le)
   where
     below_more : (ns : List Node) (a b : ℕ) → AreBelow a ns → a ≤ b → AreBelow b ns
     below_more [] a b h le = tt
@@ -134,7 +148,8 @@ counts_end s nodes u next items same below le h = h ∙ gathered_end s u (below_
 found_uid : (ns : List Node) (u : ℕ) (n : Node) → node_in ns u ≡ Some n → n.uid ≡ u
 found_uid [] u n e = cc
 found_uid (m ∷ ms) u n e = elim (cases_Bool (eqb m.uid u)) [
-  | inl is ↦ (let z : Some m ≡ Some n = rw is at e in let same : m ≡ n = cc in let uid : m.uid ≡ u = grind (arith, nat_tests) in
+  | inl is ↦ (let z : Some m ≡ Some n = rw is at e in let same : m ≡ n = cc in let uid : m.uid ≡ u =
+      grind (arith, nat_tests) in
       sym (ap (λ (x : Node). x.uid) same) ∙ uid)
   | inr isnt ↦ found_uid ms u n (rw isnt at e)
 ]
@@ -142,15 +157,18 @@ found_uid (m ∷ ms) u n e = elim (cases_Bool (eqb m.uid u)) [
 -- what the node of a uid adds to the accounts
 abbrev pub account_of_node : Store → ℕ → Bool → ℕ → List AccountCount
 account_of_node s u directory quota =
-    if directory && (eqb u 1 || not (eqb quota 0)) then (record { path = trail_of s.nodes u; quota = quota; used = used_by s.nodes s.stored u }) ∷ [] else []
+    if directory && (eqb u 1 || not (eqb quota 0)) then
+    (record { path = trail_of s.nodes u; quota = quota; used = used_by s.nodes s.stored u }) ∷ [] else []
 
-pub account_found : (s : Store) (nodes : List Node) (u : ℕ) (b : Branch) → node_in nodes u ≡ Some (as_term (quota_in nodes) b) → s.nodes ≡ nodes
+pub account_found : (s : Store) (nodes : List Node) (u : ℕ) (b : Branch) → node_in nodes u
+    ≡ Some (as_term (quota_in nodes) b) → s.nodes ≡ nodes
     → account_at s (node_in s.nodes u) ≡ account_of_node s u b.dir (quota_in nodes u)
 account_found s nodes u b is same =
     ap (account_at s) (ap (λ (ns : List Node). node_in ns u) same ∙ is)
     ∙ ap (λ (v : ℕ). account_of_node s v b.dir (quota_in nodes v)) (found_uid nodes u (as_term (quota_in nodes) b) is)
 
-pub account_none : (s : Store) (nodes : List Node) (u q : ℕ) (b : Branch) → node_in nodes u ≡ Some (as_term (quota_in nodes) b) → s.nodes ≡ nodes
+pub account_none : (s : Store) (nodes : List Node) (u q : ℕ) (b : Branch) → node_in nodes u
+    ≡ Some (as_term (quota_in nodes) b) → s.nodes ≡ nodes
     → q ≡ quota_in nodes u → (eqb u 1 || not (eqb q 0)) ≡ false → [] ≡ account_at s (node_in s.nodes u)
 account_none s nodes u q b is same quota isnt =
     sym (account_found s nodes u b is same ∙ ap (account_of_node s u b.dir) (sym quota) ∙ rw isnt (neither b.dir))
@@ -161,13 +179,16 @@ account_none s nodes u q b is same quota isnt =
     neither false = refl
 
 pub account_one : (s : Store) (nodes : List Node) (u q used : ℕ) (path : List (List ℕ)) (a : AccountCount) (b : Branch)
-    → node_in nodes u ≡ Some (as_term (quota_in nodes) b) → s.nodes ≡ nodes → b.dir ≡ true → q ≡ quota_in nodes u → (eqb u 1 || not (eqb q 0)) ≡ true
+    → node_in nodes u ≡ Some (as_term (quota_in nodes) b) → s.nodes ≡ nodes → b.dir ≡ true → q ≡ quota_in nodes u
+    → (eqb u 1 || not (eqb q 0)) ≡ true
     → path ≡ trail_of nodes u → used ≡ used_by nodes s.stored u → a ≡ record { path = path; quota = q; used = used }
     → a ∷ [] ≡ account_at s (node_in s.nodes u)
 account_one s nodes u q used path a b is same dir quota one trail count made =
     ap (λ (x : AccountCount). x ∷ []) (made
-    ∙ ap (λ (t : List (List ℕ)). record { path = t; quota = q; used = used }) (trail ∙ ap (λ (ns : List Node). trail_of ns u) (sym same))
-    ∙ ap (λ (n : ℕ). record { path = trail_of s.nodes u; quota = q; used = n }) (count ∙ ap (λ (ns : List Node). used_by ns s.stored u) (sym same)))
+    ∙ ap (λ (t : List (List ℕ)). record { path = t; quota = q; used = used })
+    (trail ∙ ap (λ (ns : List Node). trail_of ns u) (sym same))
+    ∙ ap (λ (n : ℕ). record { path = trail_of s.nodes u; quota = q; used = n })
+    (count ∙ ap (λ (ns : List Node). used_by ns s.stored u) (sym same)))
     ∙ sym (account_found s nodes u b is same ∙ ap (account_of_node s u b.dir) (sym quota) ∙ rw dir (rw one refl))
 
 -- ---- volumes
@@ -177,12 +198,16 @@ volumes_push : (s : Store) (v : ℕ) (xs : List VolumeLine) (y : VolumeLine)
 volumes_push s v [] y = (let same : v ≡ v + 0 = omega arith in ap (λ (n : ℕ). volume_of s n y ∷ []) same)
 volumes_push s v (x ∷ xs) y =
     let same : v + 1 + length xs ≡ v + length (x ∷ xs) = omega arith in
-    ap (λ (t : List VolumeCount). volume_of s v x ∷ t) (volumes_push s (v + 1) xs y ∙ ap (λ (n : ℕ). volumes_of s (v + 1) xs ++ volume_of s n y ∷ []) same)
+    ap (λ (t : List VolumeCount). volume_of s v x ∷ t)
+    (volumes_push s (v + 1) xs y ∙ ap (λ (n : ℕ). volumes_of s (v + 1) xs ++ volume_of s n y ∷ []) same)
 
-pub volumes_more : (s : Store) (xs : List VolumeLine) (i v : ℕ) (x : VolumeLine) (c : VolumeCount) (items new : List VolumeCount) → i < length xs → v ≡ i
-    → x ≡ get_or xs i x → items ≡ volumes_of s 0 (take i xs) → c ≡ volume_of s v x → new ≡ items ++ c ∷ [] → new ≡ volumes_of s 0 (take (i + 1) xs)
+pub volumes_more : (s : Store) (xs : List VolumeLine) (i v : ℕ) (x : VolumeLine) (c : VolumeCount)
+    (items new : List VolumeCount) → i < length xs → v ≡ i
+    → x ≡ get_or xs i x → items ≡ volumes_of s 0 (take i xs) → c ≡ volume_of s v x → new ≡ items ++ c ∷ [] → new
+    ≡ volumes_of s 0 (take (i + 1) xs)
 volumes_more s xs i v x c items new lt counted at h is add =
-    let more : take (i + 1) xs ≡ take i xs ++ x ∷ [] = take_more xs i x lt ∙ ap (λ (y : VolumeLine). take i xs ++ y ∷ []) (sym at) in
+    let more : take (i + 1) xs ≡ take i xs ++ x ∷ [] = take_more xs i x lt
+    ∙ ap (λ (y : VolumeLine). take i xs ++ y ∷ []) (sym at) in
     let size : v ≡ 0 + length (take i xs) = grind (arith, common_steps) in
     add
     ∙ ap (λ (t : List VolumeCount). t ++ c ∷ []) h
@@ -192,7 +217,8 @@ volumes_more s xs i v x c items new lt counted at h is add =
 
 -- ---- the whole
 
-pub summary_whole : (p : Plan) (s : Store) (accounts : List AccountCount) (volumes : List VolumeCount) (r : Summary) → accounts ≡ accounts_of s
+pub summary_whole : (p : Plan) (s : Store) (accounts : List AccountCount) (volumes : List VolumeCount) (r : Summary)
+    → accounts ≡ accounts_of s
     → volumes ≡ volumes_of s 0 p.volumes → r ≡ record { accounts = accounts; volumes = volumes } → r ≡ summary_of p s
 unfolding summary_of
 summary_whole p s accounts volumes r a v made =

@@ -1,5 +1,6 @@
 -- Laws of the lines of a listing.
-use Rattle.std.proofs.Common.{◌≡◌, ℕ, ◌+◌, ◌<◌, ◌≤◌, Bool, true, false, cond, eqb, List, [], ◌∷◌, ◌++◌, length, take, get_or, refl, sym, ap, ◌∙◌, arith, filter}
+use Rattle.std.proofs.Common.{◌≡◌, ℕ, ◌+◌, ◌<◌, ◌≤◌, Bool, true, false, cond, eqb, List, [], ◌∷◌, ◌++◌, length, take}
+use Rattle.std.proofs.Common.{get_or, refl, sym, ap, ◌∙◌, arith, filter}
 use Rattle.std.specs.List.{flat_map}
 use Rattle.std.proofs.lemmas.Bool.Decides.{nat_tests}
 use Rattle.std.proofs.lemmas.Grind.{common_steps}
@@ -10,7 +11,8 @@ use Rattle.script.specs.Plans.{Plan, ProcessPlan, nobody, who_of, command_at}
 use Rattle.book.specs.declared.entries.Entry.{Entry}
 use Rattle.book.specs.declared.entries.Entry.TheVariants as entry
 use Rattle.flat_model.specs.Legal.{part, is_part}
-use Rattle.listing.specs.Listings.{answer_line, entry_line, own_line, process_line, process_lines, processes_lines, full_line}
+use Rattle.listing.specs.Listings.{answer_line, entry_line, own_line, process_line, process_lines, processes_lines}
+use Rattle.listing.specs.Listings.{full_line}
 
 own_lines : (p : Plan) (k : ℕ) (es : List Entry) → flat_map (own_line p k) es ≡ flat_map (entry_line p) (part k es)
 unfolding part
@@ -38,7 +40,8 @@ own_lines p k (entry.GoneSeg a b ∷ es) = own_lines p k es
 own_lines p k (entry.BackSeg a b ∷ es) = own_lines p k es
 own_lines p k (entry.Do process place cpu frame r ∷ es) = chosen (eqb process k) refl (own_lines p k es)
   where
-    chosen : (z : Bool) → eqb process k ≡ z → flat_map (own_line p k) es ≡ flat_map (entry_line p) (filter (is_part k) es)
+    chosen : (z : Bool) → eqb process k ≡ z → flat_map (own_line p k) es
+        ≡ flat_map (entry_line p) (filter (is_part k) es)
         → cond z (answer_line p (command_at p k place) r) [] ++ flat_map (own_line p k) es ≡ flat_map (entry_line p)
         (cond z (entry.Do process place cpu frame r ∷ filter (is_part k) es) (filter (is_part k) es))
     chosen true h ih =
@@ -58,20 +61,24 @@ HasLines before p k es now = now ≡ before ++ flat_map (own_line p k) es
 pub lines_start : (before : List ℕ) (p : Plan) (k : ℕ) (es : List Entry) → HasLines before p k (take 0 es) before
 lines_start before p k es = sym (nil_after before)
 
-pub lines_more : (before : List ℕ) (p : Plan) (k : ℕ) (es : List Entry) (i : ℕ) (e : Entry) (now new : List ℕ) → i < length es → e ≡ get_or es i e
+pub lines_more : (before : List ℕ) (p : Plan) (k : ℕ) (es : List Entry) (i : ℕ) (e : Entry) (now new : List ℕ)
+    → i < length es → e ≡ get_or es i e
     → HasLines before p k (take i es) now → new ≡ now ++ own_line p k e → HasLines before p k (take (i + 1) es) new
 lines_more before p k es i e now new lt at h add =
-    let more : take (i + 1) es ≡ take i es ++ e ∷ [] = take_more es i e lt ∙ ap (λ (x : Entry). take i es ++ x ∷ []) (sym at) in
+    let more : take (i + 1) es ≡ take i es ++ e ∷ [] = take_more es i e lt
+    ∙ ap (λ (x : Entry). take i es ++ x ∷ []) (sym at) in
     add
     ∙ ap (λ (t : List ℕ). t ++ own_line p k e) h
     ∙ flat_map_more (own_line p k) before (take i es) e
     ∙ ap (λ (t : List Entry). before ++ flat_map (own_line p k) t) (sym more)
 
-pub lines_end : (before : List ℕ) (p : Plan) (k : ℕ) (es : List Entry) (i : ℕ) (now : List ℕ) → length es ≤ i → HasLines before p k (take i es) now
+pub lines_end : (before : List ℕ) (p : Plan) (k : ℕ) (es : List Entry) (i : ℕ) (now : List ℕ) → length es ≤ i
+    → HasLines before p k (take i es) now
     → now ≡ before ++ flat_map (entry_line p) (part k es)
 lines_end before p k es i now le h =
     let whole : take i es ≡ es = grind (arith, common_steps) in
-    h ∙ ap (λ (t : List Entry). before ++ flat_map (own_line p k) t) whole ∙ ap (λ (t : List ℕ). before ++ t) (own_lines p k es)
+    h ∙ ap (λ (t : List Entry). before ++ flat_map (own_line p k) t) whole
+    ∙ ap (λ (t : List ℕ). before ++ t) (own_lines p k es)
 
 -- the text before, and the lines of the entries so far
 abbrev pub HasEntries : List ℕ → List Entry → List ℕ → Type 0
@@ -80,16 +87,19 @@ HasEntries before es now = now ≡ before ++ flat_map full_line es
 pub entries_start : (before : List ℕ) (es : List Entry) → HasEntries before (take 0 es) before
 entries_start before es = sym (nil_after before)
 
-pub entries_more : (before : List ℕ) (es : List Entry) (i : ℕ) (e : Entry) (now new : List ℕ) → i < length es → e ≡ get_or es i e
+pub entries_more : (before : List ℕ) (es : List Entry) (i : ℕ) (e : Entry) (now new : List ℕ) → i < length es → e
+    ≡ get_or es i e
     → HasEntries before (take i es) now → new ≡ now ++ full_line e → HasEntries before (take (i + 1) es) new
 entries_more before es i e now new lt at h add =
-    let more : take (i + 1) es ≡ take i es ++ e ∷ [] = take_more es i e lt ∙ ap (λ (x : Entry). take i es ++ x ∷ []) (sym at) in
+    let more : take (i + 1) es ≡ take i es ++ e ∷ [] = take_more es i e lt
+    ∙ ap (λ (x : Entry). take i es ++ x ∷ []) (sym at) in
     add
     ∙ ap (λ (t : List ℕ). t ++ full_line e) h
     ∙ flat_map_more full_line before (take i es) e
     ∙ ap (λ (t : List Entry). before ++ flat_map full_line t) (sym more)
 
-pub entries_end : (before : List ℕ) (es : List Entry) (i : ℕ) (now : List ℕ) → length es ≤ i → HasEntries before (take i es) now
+pub entries_end : (before : List ℕ) (es : List Entry) (i : ℕ) (now : List ℕ) → length es ≤ i
+    → HasEntries before (take i es) now
     → now ≡ before ++ flat_map full_line es
 entries_end before es i now le h =
     let whole : take i es ≡ es = grind (arith, common_steps) in
@@ -104,22 +114,27 @@ no_process = record { who = nobody; commands = [] }
 
 processes_push : (p : Plan) (es : List Entry) (k : ℕ) (xs : List ProcessPlan) (y : ProcessPlan)
     → processes_lines p es k (xs ++ y ∷ []) ≡ processes_lines p es k xs ++ process_lines p es (k + length xs) y.who
-processes_push p es k [] y = let same : k ≡ k + 0 = omega arith in nil_after (process_lines p es k y.who) ∙ ap (λ (n : ℕ). process_lines p es n y.who) same
+processes_push p es k [] y = let same : k ≡ k + 0 = omega arith in nil_after (process_lines p es k y.who)
+    ∙ ap (λ (n : ℕ). process_lines p es n y.who) same
 processes_push p es k (x ∷ xs) y =
     let same : k + 1 + length xs ≡ k + length (x ∷ xs) = omega arith in
     ap (λ (t : List ℕ). process_lines p es k x.who ++ t) (processes_push p es (k + 1) xs y
     ∙ ap (λ (n : ℕ). processes_lines p es (k + 1) xs ++ process_lines p es n y.who) same)
-    ∙ sym (append_assoc (process_lines p es k x.who) (processes_lines p es (k + 1) xs) (process_lines p es (k + length (x ∷ xs)) y.who))
+    ∙ sym (append_assoc (process_lines p es k x.who) (processes_lines p es (k + 1) xs)
+    (process_lines p es (k + length (x ∷ xs)) y.who))
 
 pub processes_start : (before : List ℕ) (p : Plan) (es : List Entry) → HasProcesses before p es 0 before
 processes_start before p es = sym (nil_after before)
 
-pub processes_more : (before : List ℕ) (p : Plan) (es : List Entry) (k : ℕ) (w : Who) (now middle new : List ℕ) → k < length p.processes
-    → w ≡ who_of p k → HasProcesses before p es k now → middle ≡ now ++ process_line k w → new ≡ middle ++ flat_map (entry_line p) (part k es)
+pub processes_more : (before : List ℕ) (p : Plan) (es : List Entry) (k : ℕ) (w : Who) (now middle new : List ℕ)
+    → k < length p.processes
+    → w ≡ who_of p k → HasProcesses before p es k now → middle ≡ now ++ process_line k w → new ≡ middle
+    ++ flat_map (entry_line p) (part k es)
     → HasProcesses before p es (k + 1) new
 unfolding process_lines
 processes_more before p es k w now middle new lt who h first second =
-    let more : take (k + 1) p.processes ≡ take k p.processes ++ get_or p.processes k no_process ∷ [] = take_more p.processes k no_process lt in
+    let more : take (k + 1) p.processes ≡ take k p.processes ++ get_or p.processes k no_process ∷ [] =
+    take_more p.processes k no_process lt in
     let size : 0 + length (take k p.processes) ≡ k = grind (arith, common_steps) in
     let so_far : List ℕ = processes_lines p es 0 (take k p.processes) in
     let lines : List ℕ = flat_map (entry_line p) (part k es) in
@@ -132,7 +147,8 @@ processes_more before p es k w now middle new lt who h first second =
     ∙ sym (processes_push p es 0 (take k p.processes) (get_or p.processes k no_process))
     ∙ ap (λ (t : List ProcessPlan). processes_lines p es 0 t) (sym more))
 
-pub processes_end : (before : List ℕ) (p : Plan) (es : List Entry) (k : ℕ) (now : List ℕ) → length p.processes ≤ k → HasProcesses before p es k now
+pub processes_end : (before : List ℕ) (p : Plan) (es : List Entry) (k : ℕ) (now : List ℕ) → length p.processes ≤ k
+    → HasProcesses before p es k now
     → now ≡ before ++ processes_lines p es 0 p.processes
 processes_end before p es k now le h =
     let whole : take k p.processes ≡ p.processes = grind (arith, common_steps) in
@@ -145,21 +161,25 @@ HasNames before names now = now ≡ before ++ names_text names
 names_push : (names : List (List ℕ)) (name : List ℕ) → names_text (names ++ name ∷ []) ≡ names_text names ++ 62 ∷ name
 names_push [] name = ap (λ (t : List ℕ). 62 ∷ t) (nil_after name)
 names_push (x ∷ xs) name =
-    ap (λ (t : List ℕ). 62 ∷ (x ++ t)) (names_push xs name) ∙ ap (λ (t : List ℕ). 62 ∷ t) (sym (append_assoc x (names_text xs) (62 ∷ name)))
+    ap (λ (t : List ℕ). 62 ∷ (x ++ t)) (names_push xs name)
+    ∙ ap (λ (t : List ℕ). 62 ∷ t) (sym (append_assoc x (names_text xs) (62 ∷ name)))
 
 pub names_start : (before : List ℕ) (names : List (List ℕ)) → HasNames before (take 0 names) before
 names_start before names = sym (nil_after before)
 
-pub names_more : (before : List ℕ) (names : List (List ℕ)) (i : ℕ) (name : List ℕ) (now new : List ℕ) → i < length names → name ≡ get_or names i name
+pub names_more : (before : List ℕ) (names : List (List ℕ)) (i : ℕ) (name : List ℕ) (now new : List ℕ)
+    → i < length names → name ≡ get_or names i name
     → HasNames before (take i names) now → new ≡ now ++ 62 ∷ name → HasNames before (take (i + 1) names) new
 names_more before names i name now new lt at h add =
-    let more : take (i + 1) names ≡ take i names ++ name ∷ [] = take_more names i name lt ∙ ap (λ (x : List ℕ). take i names ++ x ∷ []) (sym at) in
+    let more : take (i + 1) names ≡ take i names ++ name ∷ [] = take_more names i name lt
+    ∙ ap (λ (x : List ℕ). take i names ++ x ∷ []) (sym at) in
     add
     ∙ ap (λ (t : List ℕ). t ++ 62 ∷ name) h
     ∙ append_assoc before (names_text (take i names)) (62 ∷ name)
     ∙ ap (λ (t : List ℕ). before ++ t) (sym (names_push (take i names) name) ∙ ap names_text (sym more))
 
-pub names_end : (before : List ℕ) (names : List (List ℕ)) (i : ℕ) (now : List ℕ) → length names ≤ i → HasNames before (take i names) now
+pub names_end : (before : List ℕ) (names : List (List ℕ)) (i : ℕ) (now : List ℕ) → length names ≤ i
+    → HasNames before (take i names) now
     → now ≡ before ++ names_text names
 names_end before names i now le h =
     let whole : take i names ≡ names = grind (arith, common_steps) in
@@ -169,19 +189,23 @@ names_end before names i now le h =
 abbrev pub HasEach : {X : Type 0} → (X → List ℕ) → List ℕ → List X → List ℕ → Type 0
 HasEach line before xs now = now ≡ before ++ flat_map line xs
 
-pub each_start : {X : Type 0} (line : X → List ℕ) (before : List ℕ) (xs : List X) → HasEach line before (take 0 xs) before
+pub each_start : {X : Type 0} (line : X → List ℕ) (before : List ℕ) (xs : List X)
+    → HasEach line before (take 0 xs) before
 each_start line before xs = sym (nil_after before)
 
-pub each_more : {X : Type 0} (line : X → List ℕ) (before : List ℕ) (xs : List X) (i : ℕ) (x : X) (now new : List ℕ) → i < length xs → x ≡ get_or xs i x
+pub each_more : {X : Type 0} (line : X → List ℕ) (before : List ℕ) (xs : List X) (i : ℕ) (x : X) (now new : List ℕ)
+    → i < length xs → x ≡ get_or xs i x
     → HasEach line before (take i xs) now → new ≡ now ++ line x → HasEach line before (take (i + 1) xs) new
 each_more {X} line before xs i x now new lt at h add =
-    let more : take (i + 1) xs ≡ take i xs ++ x ∷ [] = take_more xs i x lt ∙ ap (λ (y : X). take i xs ++ y ∷ []) (sym at) in
+    let more : take (i + 1) xs ≡ take i xs ++ x ∷ [] = take_more xs i x lt
+    ∙ ap (λ (y : X). take i xs ++ y ∷ []) (sym at) in
     add
     ∙ ap (λ (t : List ℕ). t ++ line x) h
     ∙ flat_map_more line before (take i xs) x
     ∙ ap (λ (t : List X). before ++ flat_map line t) (sym more)
 
-pub each_end : {X : Type 0} (line : X → List ℕ) (before : List ℕ) (xs : List X) (i : ℕ) (now : List ℕ) → length xs ≤ i → HasEach line before (take i xs) now
+pub each_end : {X : Type 0} (line : X → List ℕ) (before : List ℕ) (xs : List X) (i : ℕ) (now : List ℕ) → length xs ≤ i
+    → HasEach line before (take i xs) now
     → now ≡ before ++ flat_map line xs
 each_end {X} line before xs i now le h =
     let whole : take i xs ≡ xs = grind (arith, common_steps) in

@@ -1,5 +1,6 @@
 -- The names from the root down to a node are those of the nodes on the way there.
-use Rattle.std.proofs.Common.{◌≡◌, ◌≢◌, ℕ, ◌+◌, ◌<◌, ◌≤◌, Bool, true, false, eqb, List, [], ◌∷◌, ◌++◌, length, reverse, take, get_or, is_some, Option, Some, None, refl, sym, ap, subst, ◌∙◌, arith, inl, inr}
+use Rattle.std.proofs.Common.{◌≡◌, ◌≢◌, ℕ, ◌+◌, ◌<◌, ◌≤◌, Bool, true, false, eqb, List, [], ◌∷◌, ◌++◌, length, reverse}
+use Rattle.std.proofs.Common.{take, get_or, is_some, Option, Some, None, refl, sym, ap, subst, ◌∙◌, arith, inl, inr}
 use Rattle.std.specs.List.{flat_map}
 use Rattle.std.proofs.lemmas.Bool.{cases_Bool}
 use Rattle.std.proofs.lemmas.Bool.Decides.{nat_tests}
@@ -49,7 +50,8 @@ under_append u (x ∷ xs) ys a b = (a.0, under_append u xs ys a.1 b)
 
 under_reverse : (u : ℕ) (xs : List ℕ) → AreUnder u xs → AreUnder u (reverse xs)
 under_reverse u [] h = tt
-under_reverse u (x ∷ xs) h = subst (AreUnder u) (sym (reverse-cons x xs)) (under_append u (reverse xs) (x ∷ []) (under_reverse u xs h.1) (h.0, tt))
+under_reverse u (x ∷ xs) h = subst (AreUnder u) (sym (reverse-cons x xs))
+    (under_append u (reverse xs) (x ∷ []) (under_reverse u xs h.1) (h.0, tt))
 
 under_tail : (u : ℕ) (xs : List ℕ) → AreUnder u xs → AreUnder u (rest_of xs)
 under_tail u [] h = tt
@@ -60,7 +62,8 @@ tail_append [] ys x = refl
 tail_append (y ∷ xs) ys x = refl
 
 -- a newer node gives no name to older ones
-names_older : (n : Node) (ns : List Node) (xs : List ℕ) → AreUnder n.uid xs → flat_map (name_at (n ∷ ns)) xs ≡ flat_map (name_at ns) xs
+names_older : (n : Node) (ns : List Node) (xs : List ℕ) → AreUnder n.uid xs → flat_map (name_at (n ∷ ns)) xs
+    ≡ flat_map (name_at ns) xs
 names_older n ns [] h = refl
 names_older n ns (x ∷ xs) h =
     let other : eqb n.uid x ≡ false = let less : x < n.uid = h.0 in grind (arith, nat_tests) in
@@ -79,10 +82,15 @@ joined n ns u None is root t ih = refl
 joined n ns u (Some s) is branch t ih =
     let there : is_some (node_in ns s) ≡ true = there_of ns s branch.below in
     let less : s < n.uid = none_below ns n.uid branch.later s there in
-    let under : AreUnder n.uid (s ∷ above ns s) = (less, under_more n.uid s (above ns s) less ((has_chains ns t).under s)) in
+    let under : AreUnder n.uid (s ∷ above ns s) = (
+      less,
+      under_more n.uid s (above ns s) less
+          ((has_chains ns t).under s),
+    ) in
     let own : flat_map (name_at (n ∷ ns)) (u ∷ []) ≡ n.name ∷ [] = rw is refl in
     ap (λ (x : List (List ℕ)). x ++ n.name ∷ []) (ih s there
-    ∙ sym (names_older n ns (way ns s) (under_tail n.uid (reverse (s ∷ above ns s)) (under_reverse n.uid (s ∷ above ns s) under))))
+    ∙ sym (names_older n ns (way ns s) (under_tail n.uid (reverse (s ∷ above ns s))
+    (under_reverse n.uid (s ∷ above ns s) under))))
     ∙ ap (λ (x : List (List ℕ)). flat_map (name_at (n ∷ ns)) (way ns s) ++ x) (sym own)
     ∙ sym (flat_map-append (name_at (n ∷ ns)) (way ns s) (u ∷ []))
     ∙ ap (flat_map (name_at (n ∷ ns))) (sym (way_down ns u s))
@@ -92,16 +100,22 @@ later_joined ns n None root = subst (AreBelow n.uid) (sym root.first) tt
 later_joined ns n (Some s) branch = branch.later
 
 -- the trail of a node is the names on the way there
-trail_is : (ns : List Node) (u : ℕ) → IsTree ns → is_some (node_in ns u) ≡ true → trail_of ns u ≡ flat_map (name_at ns) (way ns u)
+trail_is : (ns : List Node) (u : ℕ) → IsTree ns → is_some (node_in ns u) ≡ true → trail_of ns u
+    ≡ flat_map (name_at ns) (way ns u)
 trail_is [] u t there = cc
 trail_is (n ∷ ns) u t there = elim (cases_Bool (eqb n.uid u)) [
   | inl is ↦ rw is (joined n ns u n.superior is t.0 t.1 (λ s. trail_is ns s t.1))
   | inr isnt ↦
       (let in_rest : is_some (node_in ns u) ≡ true = rw isnt at there in
       let less : u < n.uid = none_below ns n.uid (later_joined ns n n.superior t.0) u in_rest in
-      let under : AreUnder n.uid (u ∷ above ns u) = (less, under_more n.uid u (above ns u) less ((has_chains ns t.1).under u)) in
+      let under : AreUnder n.uid (u ∷ above ns u) = (
+        less,
+        under_more n.uid u (above ns u) less
+            ((has_chains ns t.1).under u),
+      ) in
       rw isnt (trail_is ns u t.1 in_rest
-      ∙ sym (names_older n ns (way ns u) (under_tail n.uid (reverse (u ∷ above ns u)) (under_reverse n.uid (u ∷ above ns u) under)))))
+      ∙ sym (names_older n ns (way ns u) (under_tail n.uid (reverse (u ∷ above ns u))
+      (under_reverse n.uid (u ∷ above ns u) under)))))
 ]
 
 -- the names of the nodes on the way so far
@@ -111,18 +125,23 @@ HasTrail ns xs names = names ≡ flat_map (name_at ns) xs
 pub trail_start : (ns : List Node) (xs : List ℕ) (names : List (List ℕ)) → names ≡ [] → HasTrail ns (take 0 xs) names
 trail_start ns xs names e = e
 
-pub trail_more : (ns : List Node) (xs : List ℕ) (i x : ℕ) (names new : List (List ℕ)) (o : Option Node) → i < length xs → x ≡ get_or xs i x
+pub trail_more : (ns : List Node) (xs : List ℕ) (i x : ℕ) (names new : List (List ℕ)) (o : Option Node) → i < length xs
+    → x ≡ get_or xs i x
     → HasTrail ns (take i xs) names → node_in ns x ≡ o → new ≡ names ++ name_of o → HasTrail ns (take (i + 1) xs) new
 trail_more ns xs i x names new o lt at h is add =
-    let more : take (i + 1) xs ≡ take i xs ++ x ∷ [] = take_more xs i x lt ∙ ap (λ (y : ℕ). take i xs ++ y ∷ []) (sym at) in
+    let more : take (i + 1) xs ≡ take i xs ++ x ∷ [] = take_more xs i x lt
+    ∙ ap (λ (y : ℕ). take i xs ++ y ∷ []) (sym at) in
     add
     ∙ ap (λ (t : List (List ℕ)). t ++ name_of o) h
-    ∙ ap (λ (t : List (List ℕ)). flat_map (name_at ns) (take i xs) ++ t) (sym (append-nil (name_at ns x) ∙ ap name_of is))
+    ∙ ap (λ (t : List (List ℕ)). flat_map (name_at ns) (take i xs) ++ t)
+    (sym (append-nil (name_at ns x) ∙ ap name_of is))
     ∙ sym (flat_map-append (name_at ns) (take i xs) (x ∷ []))
     ∙ ap (flat_map (name_at ns)) (sym more)
 
-pub trail_end : (ns : List Node) (u : ℕ) (chain xs : List ℕ) (i : ℕ) (names : List (List ℕ)) → IsTree ns → is_some (node_in ns u) ≡ true
-    → chain ≡ reverse (u ∷ above ns u) → xs ≡ rest_of chain → length xs ≤ i → HasTrail ns (take i xs) names → names ≡ trail_of ns u
+pub trail_end : (ns : List Node) (u : ℕ) (chain xs : List ℕ) (i : ℕ) (names : List (List ℕ)) → IsTree ns
+    → is_some (node_in ns u) ≡ true
+    → chain ≡ reverse (u ∷ above ns u) → xs ≡ rest_of chain → length xs ≤ i → HasTrail ns (take i xs) names → names
+    ≡ trail_of ns u
 trail_end ns u chain xs i names t there is rest le h =
     let whole : take i xs ≡ xs = grind (arith, common_steps) in
     h ∙ ap (flat_map (name_at ns)) (whole ∙ rest ∙ ap rest_of is) ∙ sym (trail_is ns u t there)

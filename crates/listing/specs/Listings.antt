@@ -57,8 +57,8 @@ pub record AccountCount : Type 0 where
   pub quota : ℕ
   pub used : ℕ
 
--- a volume of a script, how many of its records are taken, one for each stored page, and how many of its VTOC entries, one
--- for each node
+-- a volume of a script, how many of its records are taken, one for each stored page, and how many of its VTOC entries,
+-- one for each node
 pub record VolumeCount : Type 0 where
   pub volume : VolumeLine
   pub taken : ℕ
@@ -70,7 +70,12 @@ pub record Summary : Type 0 where
   pub volumes : List VolumeCount
 
 abbrev pub account_count : Store → Node → List AccountCount
-account_count s n = if is_account n then (record { path = trail_of s.nodes n.uid; quota = n.quota; used = used_by s.nodes s.stored n.uid }) ∷ [] else []
+account_count s n = if is_account n then (record {
+  path = trail_of s.nodes n.uid;
+  quota = n.quota;
+  used =
+      used_by s.nodes s.stored n.uid;
+}) ∷ [] else []
 
 -- the accounts of a store
 unfoldable pub accounts_of : Store → List AccountCount
@@ -79,7 +84,8 @@ accounts_of s = flat_map (account_count s) (reverse s.nodes)
 -- the counts of volumes, from number v on
 abbrev pub volumes_of : Store → ℕ → List VolumeLine → List VolumeCount
 volumes_of s v [] = []
-volumes_of s v (x ∷ xs) = (record { volume = x; taken = taken_on s.nodes s.stored v; used = entries_on s.nodes v }) ∷ volumes_of s (v + 1) xs
+volumes_of s v (x ∷ xs) = (record { volume = x; taken = taken_on s.nodes s.stored v; used = entries_on s.nodes v })
+    ∷ volumes_of s (v + 1) xs
 
 -- the accounts and the volumes, as they are in a store
 unfoldable pub summary_of : Plan → Store → Summary
@@ -87,12 +93,14 @@ summary_of p s = record { accounts = accounts_of s; volumes = volumes_of s 0 p.v
 
 -- `PATH quota Q used N`
 unfoldable pub account_text : AccountCount → List ℕ
-account_text a = path_text a.path ++ (codes " quota " ++ (decimal a.quota ++ (codes " used " ++ (decimal a.used ++ codes "\n"))))
+account_text a = path_text a.path ++ (codes " quota " ++
+    (decimal a.quota ++ (codes " used " ++ (decimal a.used ++ codes "\n"))))
 
 -- `volume NAME records R taken T entries E taken G`
 unfoldable pub volume_text : VolumeCount → List ℕ
 volume_text c =
-    codes "volume " ++ (c.volume.name ++ (codes " records " ++ (decimal c.volume.records ++ (codes " taken " ++ (decimal c.taken
+    codes "volume " ++ (c.volume.name ++ (codes " records "
+    ++ (decimal c.volume.records ++ (codes " taken " ++ (decimal c.taken
     ++ (codes " entries " ++ (decimal c.volume.entries ++ (codes " taken " ++ (decimal c.used ++ codes "\n")))))))))
 
 -- a line for each account and for each volume

@@ -1,7 +1,8 @@
 ghost use Rattle.std.specs.Prelude.{◌≡◌, ◌++◌, ◌<◌, OnOk, length, Some, string_bytes};
 ghost use Rattle.std.specs.List.{flat_map};
 ghost use Rattle.flat_model.specs.Legal.{part};
-ghost use Rattle.listing.specs.Listings.{answer_line, entry_line, own_line, process_line, processes_lines, full_line, body_of};
+ghost use Rattle.listing.specs.Listings.{answer_line, entry_line, own_line, process_line, processes_lines, full_line};
+ghost use Rattle.listing.specs.Listings.{body_of};
 
 use book::{Book, Entry, Reply};
 use mnames::Who;
@@ -16,7 +17,8 @@ fn push_answer(
     command: &Command,
     reply: Reply,
 ) -> Result<(), AllocError>
-    ensures { OnOk result (string_bytes out.new ≡ string_bytes out.old ++ answer_line script.now (Some command.now) reply) }
+    ensures { OnOk result (string_bytes out.new ≡ string_bytes out.old
+        ++ answer_line script.now (Some command.now) reply) }
 {
     push_command(out, script.volumes(), command)?;
     write!(out, " = {reply}\n")
@@ -46,7 +48,8 @@ fn push_own(out: &mut String, script: &Script, k: u32, entry: &Entry) -> Result<
 #[tactic(auto, using(crate::proofs::LineLaws::lines_start, crate::proofs::LineLaws::lines_more, crate::proofs::LineLaws::lines_end, std::proofs::lemmas::Grind::common_steps))]
 fn push_part(out: &mut String, book: &Book, k: u32) -> Result<(), AllocError>
     requires { k < length book.now.script.processes }
-    ensures { OnOk result (string_bytes out.new ≡ string_bytes out.old ++ flat_map (entry_line book.now.script) (part k book.now.entries)) }
+    ensures { OnOk result (string_bytes out.new ≡ string_bytes out.old
+        ++ flat_map (entry_line book.now.script) (part k book.now.entries)) }
 {
     let script = book.script();
     for entry in book.entries() {
@@ -66,7 +69,8 @@ fn push_process(out: &mut String, k: u32, who: &Who) -> Result<(), AllocError>
 /// Appends for each process its line and those of its command entries.
 #[tactic(auto, using(crate::proofs::LineLaws::processes_start, crate::proofs::LineLaws::processes_more, crate::proofs::LineLaws::processes_end, std::proofs::lemmas::Grind::common_steps))]
 fn push_processes(out: &mut String, book: &Book) -> Result<(), AllocError>
-    ensures { OnOk result (string_bytes out.new ≡ string_bytes out.old ++ processes_lines book.now.script book.now.entries 0 book.now.script.processes) }
+    ensures { OnOk result (string_bytes out.new ≡ string_bytes out.old
+        ++ processes_lines book.now.script book.now.entries 0 book.now.script.processes) }
 {
     let script = book.script();
     for k in 0..script.processes() {
@@ -98,7 +102,8 @@ fn push_entries(out: &mut String, entries: &[Entry]) -> Result<(), AllocError>
 /// Appends what stands before the summary, by what the script prints.
 #[tactic(auto, unfolding(crate::specs::Listings::body_of))]
 pub(crate) fn push_body(out: &mut String, book: &Book) -> Result<(), AllocError>
-    ensures { OnOk result (string_bytes out.new ≡ string_bytes out.old ++ body_of book.now.script.print book.now.script book.now.entries) }
+    ensures { OnOk result (string_bytes out.new ≡ string_bytes out.old
+        ++ body_of book.now.script.print book.now.script book.now.entries) }
 {
     match book.script().print() {
         Print::Short => Ok(()),

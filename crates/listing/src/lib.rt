@@ -39,9 +39,9 @@ impl From<flat_store::NoMemory> for NoMemory {
 }
 
 /// The listing of the book of a run, which must be legal (own): what its script prints, which is what each process was
-/// answered, or each entry, or nothing; then the accounts and the volumes, as they are in the flat store after the book.
-/// It takes memory for the text and for that store, and goes through the book once for that store, and at most once
-/// more for each process.
+/// answered, or each entry, or nothing; then the accounts and the volumes, as they are in the flat store after the
+/// book. It takes memory for the text and for that store, and goes through the book once for that store, and at most
+/// once more for each process.
 ///
 /// # Errors
 /// `NoMemory` is want of memory.

@@ -1,5 +1,6 @@
 -- What a call leaves, from what its step told.
-use Rattle.std.proofs.Common.{◌≡◌, ◌≢◌, ℕ, suc, zero, ◌+◌, ◌<◌, ◌≤◌, List, [], ◌∷◌, ◌++◌, length, Option, None, refl, sym, ap, subst, ◌∙◌, arith, get_or}
+use Rattle.std.proofs.Common.{◌≡◌, ◌≢◌, ℕ, suc, zero, ◌+◌, ◌<◌, ◌≤◌, List, [], ◌∷◌, ◌++◌, length, Option, None, refl}
+use Rattle.std.proofs.Common.{sym, ap, subst, ◌∙◌, arith, get_or}
 use Rattle.std.proofs.Common.{take, drop, All}
 use mathlib.Core.Logic.{dite}
 use native.Mathlib.Decide.{ℕ_discrete}
@@ -12,18 +13,22 @@ use Rattle.live_doors.specs.declared.views.Walk.{Walk}
 use Rattle.live_doors.specs.declared.views.Watch.{Watch}
 use Rattle.live_doors.specs.declared.views.View.{View}
 use Rattle.live_doors.specs.declared.views.View.TheVariants.{Walking, Keeping}
-use Rattle.live_doors.specs.Doors.{blank, first_passes, DoorsModel, PassModel, KeeperModel, IsPassOf, IsKeeperOf, OnlyNoted, HasNoted, having_noted}
+use Rattle.live_doors.specs.Doors.{blank, first_passes, DoorsModel, PassModel, KeeperModel, IsPassOf, IsKeeperOf}
+use Rattle.live_doors.specs.Doors.{OnlyNoted, HasNoted, having_noted}
 use Rattle.live_doors.specs.Steps.{PassFits, KeeperFits, walk_of, watch_of}
 
 -- a pass whose fields are those of its view
-pub pass_fits : (m : Me (Unit {0}) View) (q : Walk) (cpu : ℕ) (held : List (Option ℕ)) (stamp : ℕ) → m ≡ (Walking q, []) → cpu ≡ q.cpu → held ≡ q.held
+pub pass_fits : (m : Me (Unit {0}) View) (q : Walk) (cpu : ℕ) (held : List (Option ℕ)) (stamp : ℕ) → m
+    ≡ (Walking q, []) → cpu ≡ q.cpu → held ≡ q.held
     → stamp ≡ q.stamp → PassFits m cpu held stamp
-pass_fits m q cpu held stamp is a b c = subst (λ x. PassFits x cpu held stamp) (sym is) record { seat = refl; cpu = a; held = b; stamp = c }
+pass_fits m q cpu held stamp is a b c = subst (λ x. PassFits x cpu held stamp) (sym is) record
+    { seat = refl; cpu = a; held = b; stamp = c }
 
 -- it came with the same doors as before
 pub pass_stays_of : (doors : DoorsModel) (now : PassModel) (t t' : TableId) (m m' : Me (Unit {0}) View) (q : Walk)
     → record { table = t; walk = walk_of m.0 } ≡ now → IsPassOf doors now → t' ≡ t → m' ≡ (Walking q, [])
-    → length q.held ≡ length (walk_of m.0).held → q.cpu ≡ (walk_of m.0).cpu → IsPassOf doors record { table = t'; walk = walk_of m'.0 }
+    → length q.held ≡ length (walk_of m.0).held → q.cpu ≡ (walk_of m.0).cpu
+    → IsPassOf doors record { table = t'; walk = walk_of m'.0 }
 pass_stays_of doors now t t' m m' q view ok same is row cpu = record {
   table = same ∙ ap (λ v. v.table) view ∙ ok.table;
   frames = ap (λ x. length (walk_of x.0).held) is ∙ row ∙ ap (λ v. length v.walk.held) view ∙ ok.frames;
@@ -31,14 +36,17 @@ pass_stays_of doors now t t' m m' q view ok same is row cpu = record {
 }
 
 -- a keeper whose fields are those of its view
-pub keeper_fits : (m : Me (Unit {0}) View) (w : Watch) (request : ℕ) (doors since : List ℕ) (cleared : ℕ) → m ≡ (Keeping w, []) → request ≡ w.request
+pub keeper_fits : (m : Me (Unit {0}) View) (w : Watch) (request : ℕ) (doors since : List ℕ) (cleared : ℕ) → m
+    ≡ (Keeping w, []) → request ≡ w.request
     → doors ≡ w.doors → since ≡ w.since → length since ≡ length doors → HasNoted w cleared
     → KeeperFits m request doors since cleared
-keeper_fits m w request doors since cleared is a b c e d = subst (λ x. KeeperFits x request doors since cleared) (sym is) record
+keeper_fits m w request doors since cleared is a b c e d =
+    subst (λ x. KeeperFits x request doors since cleared) (sym is) record
     { seat = refl; request = a; doors = b; since = c; rows = e; cleared = d }
 
 -- it came with the same doors as before
-pub keeper_stays_of : (doors : DoorsModel) (now : KeeperModel) (t t' : TableId) (cleared cleared' : ℕ) (m m' : Me (Unit {0}) View) (w : Watch)
+pub keeper_stays_of : (doors : DoorsModel) (now : KeeperModel) (t t' : TableId) (cleared cleared' : ℕ)
+    (m m' : Me (Unit {0}) View) (w : Watch)
     → record { table = t; watch = watch_of m.0; cleared = cleared } ≡ now → IsKeeperOf doors now → t' ≡ t
     → m' ≡ (Keeping w, []) → length w.doors ≡ length (watch_of m.0).doors → length w.since ≡ length (watch_of m.0).since
     → length w.noted ≡ length (watch_of m.0).noted
@@ -58,7 +66,8 @@ pub record ClearSoFar (doors : DoorsModel) (old now : KeeperModel) (stamp cpu : 
   pub noted : (c : ℕ) → c < cpu → stamp ≤ get_or now.watch.noted c 0
   pub cleared : now.cleared ≡ old.cleared
 
-pub clear_starts : (doors : DoorsModel) (old : KeeperModel) (stamp : ℕ) → IsKeeperOf doors old → ClearSoFar doors old old stamp 0
+pub clear_starts : (doors : DoorsModel) (old : KeeperModel) (stamp : ℕ) → IsKeeperOf doors old
+    → ClearSoFar doors old old stamp 0
 clear_starts doors old stamp ok = record {
   keeper = ok;
   only = record { made = refl; request = refl; doors = refl; since = refl };
@@ -68,7 +77,8 @@ clear_starts doors old stamp ok = record {
 }
 
 module _ (doors : DoorsModel) (old now next : KeeperModel) (stamp cpu seen : ℕ) where
-  pub only_noted : ClearSoFar doors old now stamp cpu → next.watch ≡ having_noted cpu seen now.watch → OnlyNoted old.watch next.watch
+  pub only_noted : ClearSoFar doors old now stamp cpu → next.watch ≡ having_noted cpu seen now.watch
+      → OnlyNoted old.watch next.watch
   only_noted so is = record {
     made = ap (λ w. w.made) is ∙ so.only.made;
     request = ap (λ w. w.request) is ∙ so.only.request;
@@ -76,37 +86,49 @@ module _ (doors : DoorsModel) (old now next : KeeperModel) (stamp cpu seen : ℕ
     since = ap (λ w. w.since) is ∙ so.only.since;
   }
 
-  pub noted_here : ClearSoFar doors old now stamp cpu → next.watch ≡ having_noted cpu seen now.watch → cpu < doors.cpus → get_or next.watch.noted cpu 0 ≡ seen
-  noted_here so is inside = ap (λ w. get_or w.noted cpu 0) is ∙ get_or-set_same now.watch.noted cpu seen 0 (let r = so.keeper.cpus in omega arith)
+  pub noted_here : ClearSoFar doors old now stamp cpu → next.watch ≡ having_noted cpu seen now.watch → cpu < doors.cpus
+      → get_or next.watch.noted cpu 0 ≡ seen
+  noted_here so is inside = ap (λ w. get_or w.noted cpu 0) is
+      ∙ get_or-set_same now.watch.noted cpu seen 0 (let r = so.keeper.cpus in omega arith)
 
-  pub noted_before : ClearSoFar doors old now stamp cpu → next.watch ≡ having_noted cpu seen now.watch → (c : ℕ) → c < cpu → stamp ≤ get_or next.watch.noted c 0
-  noted_before so is c below = subst (λ k. stamp ≤ k) (sym (ap (λ w. get_or w.noted c 0) is ∙ get_or-set_other now.watch.noted cpu c seen 0 (λ e. omega arith)))
+  pub noted_before : ClearSoFar doors old now stamp cpu → next.watch ≡ having_noted cpu seen now.watch → (c : ℕ)
+      → c < cpu → stamp ≤ get_or next.watch.noted c 0
+  noted_before so is c below = subst (λ k. stamp ≤ k) (sym
+      (ap (λ w. get_or w.noted c 0) is ∙ get_or-set_other now.watch.noted cpu c seen 0 (λ e. omega arith)))
       (so.noted c below)
 
-  pub looked_once_more : ClearSoFar doors old now stamp cpu → next.watch ≡ having_noted cpu seen now.watch → next.watch.looks ≡ old.watch.looks + cpu + 1
+  pub looked_once_more : ClearSoFar doors old now stamp cpu → next.watch ≡ having_noted cpu seen now.watch
+      → next.watch.looks ≡ old.watch.looks + cpu + 1
   looked_once_more so is = ap (λ w. w.looks) is ∙ ap (λ k. k + 1) so.looks
 
-  pub clear_goes_on : ClearSoFar doors old now stamp cpu → IsKeeperOf doors next → next.watch ≡ having_noted cpu seen now.watch → next.cleared ≡ now.cleared
+  pub clear_goes_on : ClearSoFar doors old now stamp cpu → IsKeeperOf doors next → next.watch
+      ≡ having_noted cpu seen now.watch → next.cleared ≡ now.cleared
       → cpu < doors.cpus → stamp ≤ seen → ClearSoFar doors old next stamp (cpu + 1)
   clear_goes_on so ok is same inside enough = record {
     keeper = ok;
     only = only_noted so is;
     looks = (let l = looked_once_more so is in omega arith);
-    noted = λ c below. dite (ℕ_discrete c cpu) (λ (e : c ≡ cpu). subst (λ k. stamp ≤ get_or next.watch.noted k 0) (sym e)
-        (subst (λ k. stamp ≤ k) (sym (noted_here so is inside)) enough)) (λ (other : c ≢ cpu). noted_before so is c (omega arith));
+    noted = λ c below. dite (ℕ_discrete c cpu) (λ (e : c ≡ cpu). subst (λ k. stamp ≤ get_or next.watch.noted k 0)
+        (sym e)
+        (subst (λ k. stamp ≤ k) (sym (noted_here so is inside)) enough))
+        (λ (other : c ≢ cpu). noted_before so is c (omega arith));
     cleared = same ∙ so.cleared;
   }
 
 -- every new pass came with its doors
 pub all_first : (doors : DoorsModel) (n : ℕ) → n ≤ doors.cpus → All (IsPassOf doors) (first_passes doors n)
 all_first doors zero few = λ k d inside. absurd (omega arith)
-all_first doors (suc n) few = All-append (IsPassOf doors) (first_passes doors n) _ (all_first doors n (omega arith)) (λ k d inside. let at : k
-    ≡ 0 = omega arith in subst (λ j. IsPassOf doors (get_or (record { table = doors.table; walk = blank doors.frames n } ∷ []) j d)) (sym at) record
+all_first doors (suc n) few = All-append (IsPassOf doors) (first_passes doors n) _ (all_first doors n (omega arith))
+    (λ k d inside. let at : k
+    ≡ 0 = omega arith in subst (λ j. IsPassOf doors (get_or
+    (record { table = doors.table; walk = blank doors.frames n } ∷ []) j d)) (sym at) record
     { table = refl; frames = length-replicate doors.frames None; cpu = omega arith })
 
-pub all_first_at : (doors : DoorsModel) (passes : List PassModel) (n : ℕ) → passes ≡ first_passes doors n → n ≡ doors.cpus → All (IsPassOf doors) passes
+pub all_first_at : (doors : DoorsModel) (passes : List PassModel) (n : ℕ) → passes ≡ first_passes doors n → n
+    ≡ doors.cpus → All (IsPassOf doors) passes
 all_first_at doors passes n is all = subst (All (IsPassOf doors)) (sym is) (all_first doors n (omega arith))
 
 -- a slice that was written whole
-pub written_whole : (new items : List ℕ) (n : ℕ) → n ≡ length items → length new ≡ length items → take n (new ++ drop (length new) items) ≡ new
+pub written_whole : (new items : List ℕ) (n : ℕ) → n ≡ length items → length new ≡ length items
+    → take n (new ++ drop (length new) items) ≡ new
 written_whole new items n is same = grind (arith, common_steps, is, same)

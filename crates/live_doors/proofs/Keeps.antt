@@ -1,9 +1,11 @@
 -- Each kind of step keeps the rule, and the laws that rest on it.
-use Rattle.std.proofs.Common.{◌≡◌, ◌≢◌, ℕ, suc, zero, ◌+◌, ◌%◌, ◌<◌, ◌≤◌, ◌⊎◌, Bool, true, false, cond, eqb, List, [], ◌∷◌, ◌++◌, length, replicate, Option}
+use Rattle.std.proofs.Common.{◌≡◌, ◌≢◌, ℕ, suc, zero, ◌+◌, ◌%◌, ◌<◌, ◌≤◌, ◌⊎◌, Bool, true, false, cond, eqb, List, []}
+use Rattle.std.proofs.Common.{◌∷◌, ◌++◌, length, replicate, Option}
 use Rattle.std.proofs.Common.{Some, None, refl, sym, ap, subst, ◌∙◌, arith, get_or, set, inl, inr, ⊎_elim}
 use mathlib.Core.Option.{some, none, some-injective, some-ne-none}
 use lib.ListN.{get_elem?}
-use Rattle.std.proofs.lemmas.List.{set-get_or, length-replicate, length-append, get_or-replicate, get_or_append_left, get_or-append-add, ext_get_or}
+use Rattle.std.proofs.lemmas.List.{set-get_or, length-replicate, length-append, get_or-replicate, get_or_append_left}
+use Rattle.std.proofs.lemmas.List.{get_or-append-add, ext_get_or}
 use Rattle.std.proofs.lemmas.Bool.{eq-eqb, ne_eqb}
 use Rattle.atomic_table.specs.Table.{State, Me, step, keeps, Allows, Splits, Joins, Final, Seen}
 use Rattle.live_doors.specs.declared.rule.Size.{Size}
@@ -12,11 +14,14 @@ use Rattle.live_doors.specs.declared.views.Watch.{Watch}
 use Rattle.live_doors.specs.declared.views.View.{View}
 use Rattle.live_doors.specs.declared.views.View.TheVariants.{Walking, Keeping, Spent}
 use Rattle.live_doors.specs.Doors.{IsShut, blank, first_watch, forgotten, acknowledged, shut, raised, having_noted}
-use Rattle.live_doors.specs.Steps.{door_at, ack_at, first_words, filled_if, filled, walk_of, watch_of, Fills, Forgets, Acknowledges, Closes, Raises, Looks}
+use Rattle.live_doors.specs.Steps.{door_at, ack_at, first_words, filled_if, filled, walk_of, watch_of, Fills, Forgets}
+use Rattle.live_doors.specs.Steps.{Acknowledges, Closes, Raises, Looks}
 use Rattle.live_doors.specs.Steps.{keeper_with_pass, pass_of_keeper}
 use Rattle.live_doors.specs.Kept.{PlanOk, PassOk, SeatOk, Kept, NotedIsClear, NeverBoundHasNoHolder, MayBindHasNoHolder}
-use Rattle.live_doors.specs.Laws.{filled_ok, forgotten_ok, plan_acknowledged, acknowledged_ok, pass_stays, plan_shut, pass_shut, plan_raised, pass_raised}
-use Rattle.live_doors.specs.Laws.{plan_noted, pass_noted, plan_admits, pass_admits, blank_ok, entry_gone, entry_never, seats_stay}
+use Rattle.live_doors.specs.Laws.{filled_ok, forgotten_ok, plan_acknowledged, acknowledged_ok, pass_stays, plan_shut}
+use Rattle.live_doors.specs.Laws.{pass_shut, plan_raised, pass_raised}
+use Rattle.live_doors.specs.Laws.{plan_noted, pass_noted, plan_admits, pass_admits, blank_ok, entry_gone, entry_never}
+use Rattle.live_doors.specs.Laws.{seats_stay}
 
 abbrev Board : Type 0
 Board = State (Unit {0}) View
@@ -26,9 +31,11 @@ InOrder z s = Kept z s.words s.views
 
 module _ (z : Size) where
   -- a pass has looked at a word
-  pass_looked : (words : List ℕ) (views : List View) (id i : ℕ) (p p' : Walk) → (h : Kept z words views) → get_elem? views id ≡ some (Walking p)
+  pass_looked : (words : List ℕ) (views : List View) (id i : ℕ) (p p' : Walk) → (h : Kept z words views)
+      → get_elem? views id ≡ some (Walking p)
       → p'.cpu ≡ p.cpu
-      → (PassOk z.frames z.cpus words h.plan p → PassOk z.frames z.cpus words h.plan p') → Kept z (set words i (get_or words i 0)) (set views id (Walking p'))
+      → (PassOk z.frames z.cpus words h.plan p → PassOk z.frames z.cpus words h.plan p')
+      → Kept z (set words i (get_or words i 0)) (set views id (Walking p'))
   pass_looked words views id i p p' h at same ok =
       let mine = h.seats_ok id (Walking p) at in
       subst (λ ws. Kept z ws (set views id (Walking p'))) (sym (set-get_or words i 0))
@@ -52,7 +59,8 @@ module _ (z : Size) where
         Walking (filled f n p),
         keeps,
         tt,
-        pass_looked s.words s.views id (door_at f) p (filled f n p) h at (cpu_stays f n) (filled_ok z.frames z.cpus s.words h.plan p f n inside refl h.plan_ok),
+        pass_looked s.words s.views id (door_at f) p (filled f n p) h at (cpu_stays f n)
+            (filled_ok z.frames z.cpus s.words h.plan p f n inside refl h.plan_ok),
         λ g e. (least s.words h.plan h.plan_ok, ap (λ k. (Walking (filled k n p), [])) (omega arith)),
       )
     where
@@ -66,7 +74,8 @@ module _ (z : Size) where
           cases true = refl
           cases false = refl
 
-  pub forgets : (slots id : ℕ) (p : Walk) → Allows (InOrder z) slots id (Walking p, []) 0 (λ n. n) (Forgets (step slots 0 0 0 none) (Walking p, []))
+  pub forgets : (slots id : ℕ) (p : Walk) → Allows (InOrder z) slots id (Walking p, []) 0 (λ n. n)
+      (Forgets (step slots 0 0 0 none) (Walking p, []))
   forgets slots id p s h homes at fits =
       let n : ℕ = get_or s.words 0 0 in (
         Walking (forgotten n p),
@@ -80,7 +89,8 @@ module _ (z : Size) where
   pub acknowledges : (slots id : ℕ) (p : Walk) → Allows (InOrder z) slots id (
     Walking p,
     [],
-  ) (ack_at z.frames p.cpu) (λ _. p.stamp) (λ _. Acknowledges (step slots (ack_at z.frames p.cpu) p.stamp 0 none) (Walking p, []) p.stamp)
+  ) (ack_at z.frames p.cpu) (λ _. p.stamp) (λ _. Acknowledges (step slots (ack_at z.frames p.cpu) p.stamp 0 none)
+      (Walking p, []) p.stamp)
   acknowledges slots id p s h homes at fits =
       let mine = h.seats_ok id (Walking p) at in (
         Walking (acknowledged p),
@@ -91,7 +101,8 @@ module _ (z : Size) where
           keeper = h.keeper;
           seat_of = h.seat_of;
           plan_ok = plan_acknowledged z.frames z.cpus s.words h.plan p h.plan_ok mine.1;
-          seats_ok = seats_stay (SeatOk z.frames z.cpus (set s.words (ack_at z.frames p.cpu) p.stamp) h.plan h.keeper h.seat_of) s.views id
+          seats_ok = seats_stay (SeatOk z.frames z.cpus (set s.words (ack_at z.frames p.cpu) p.stamp) h.plan h.keeper
+              h.seat_of) s.views id
               (Walking (acknowledged p))
               (mine.0, acknowledged_ok z.frames z.cpus s.words h.plan p h.plan_ok mine.1)
               (λ j v other e. stays s.words h.plan h.keeper h.seat_of mine.0 j v other (h.seats_ok j v e));
@@ -99,18 +110,24 @@ module _ (z : Size) where
         refl,
       )
     where
-      stays : (words : List ℕ) (plan : Watch) (keeper : ℕ) (seat_of : ℕ → ℕ) → seat_of p.cpu ≡ id → (j : ℕ) (v : View) → j ≢ id
+      stays : (words : List ℕ) (plan : Watch) (keeper : ℕ) (seat_of : ℕ → ℕ) → seat_of p.cpu ≡ id → (j : ℕ) (v : View)
+          → j ≢ id
           → SeatOk z.frames z.cpus words plan keeper seat_of j v
           → SeatOk z.frames z.cpus (set words (ack_at z.frames p.cpu) p.stamp) plan keeper seat_of j v
-      stays words plan keeper seat_of here j (Walking q) other k =
-          (k.0, pass_stays z.frames z.cpus words plan q (ack_at z.frames p.cpu) p.stamp (λ e. other (sym k.0 ∙ ap seat_of (omega arith) ∙ here)) k.1)
+      stays words plan keeper seat_of here j (Walking q) other k = (
+        k.0,
+        pass_stays z.frames z.cpus words plan q (ack_at z.frames p.cpu) p.stamp
+            (λ e. other (sym k.0 ∙ ap seat_of (omega arith) ∙ here)) k.1,
+      )
       stays words plan keeper seat_of here j (Keeping w) other k = k
       stays words plan keeper seat_of here j Spent other k = tt
 
   -- the keeper's step: its plan becomes another, beside words in which each pass is in order
-  keeper_stepped : (words words' : List ℕ) (views : List View) (id : ℕ) (w w' : Watch) → (h : Kept z words views) → get_elem? views id ≡ some (Keeping w)
+  keeper_stepped : (words words' : List ℕ) (views : List View) (id : ℕ) (w w' : Watch) → (h : Kept z words views)
+      → get_elem? views id ≡ some (Keeping w)
       → (PlanOk z.frames z.cpus words w → PlanOk z.frames z.cpus words' w')
-      → (PlanOk z.frames z.cpus words w → (q : Walk) → PassOk z.frames z.cpus words w q → PassOk z.frames z.cpus words' w' q)
+      → (PlanOk z.frames z.cpus words w → (q : Walk) → PassOk z.frames z.cpus words w q
+      → PassOk z.frames z.cpus words' w' q)
       → Kept z words' (set views id (Keeping w'))
   keeper_stepped words words' views id w w' h at plan pass =
       let mine = h.seats_ok id (Keeping w) at in
@@ -125,7 +142,8 @@ module _ (z : Size) where
             (subst (λ k. SeatOk z.frames z.cpus words k h.keeper h.seat_of j v) (sym mine.1) (h.seats_ok j v e)));
       }
     where
-      stays : (keeper : ℕ) (seat_of : ℕ → ℕ) → keeper ≡ id → ((q : Walk) → PassOk z.frames z.cpus words w q → PassOk z.frames z.cpus words' w' q)
+      stays : (keeper : ℕ) (seat_of : ℕ → ℕ) → keeper ≡ id
+          → ((q : Walk) → PassOk z.frames z.cpus words w q → PassOk z.frames z.cpus words' w' q)
           → (j : ℕ) (v : View) → j ≢ id
           → SeatOk z.frames z.cpus words w keeper seat_of j v → SeatOk z.frames z.cpus words' w' keeper seat_of j v
       stays keeper seat_of here pass j (Walking q) other k = (k.0, pass q k.1)
@@ -139,7 +157,8 @@ module _ (z : Size) where
     Keeping (shut f w),
     keeps,
     tt,
-    keeper_stepped s.words (set s.words (door_at f) (get_or w.doors f 0 + 1)) s.views id w (shut f w) h at (plan_shut z.frames z.cpus s.words w f inside)
+    keeper_stepped s.words (set s.words (door_at f) (get_or w.doors f 0 + 1)) s.views id w (shut f w) h at
+        (plan_shut z.frames z.cpus s.words w f inside)
         (λ k q ok. pass_shut z.frames z.cpus s.words w f q inside even k ok),
     λ g e. ap (λ k. (Keeping (shut k w), [])) (omega arith),
   )
@@ -152,13 +171,15 @@ module _ (z : Size) where
     Keeping (raised w),
     keeps,
     tt,
-    keeper_stepped s.words (set s.words 0 (w.request + 1)) s.views id w (raised w) h at (plan_raised z.frames z.cpus s.words w)
+    keeper_stepped s.words (set s.words 0 (w.request + 1)) s.views id w (raised w) h at
+        (plan_raised z.frames z.cpus s.words w)
         (λ _ q ok. pass_raised z.frames z.cpus s.words w q ok),
     refl,
   )
 
   pub looks : (slots id c : ℕ) (w : Watch) → c < z.cpus → length w.doors ≡ z.frames
-      → Allows (InOrder z) slots id (Keeping w, []) (ack_at z.frames c) (λ n. n) (Looks (step slots (ack_at z.frames c) 0 0 none) (Keeping w, []))
+      → Allows (InOrder z) slots id (Keeping w, []) (ack_at z.frames c) (λ n. n)
+      (Looks (step slots (ack_at z.frames c) 0 0 none) (Keeping w, []))
   looks slots id c w inside row s h homes at fits =
       let n : ℕ = get_or s.words (ack_at z.frames c) 0 in
       let mine = h.seats_ok id (Keeping w) at in
@@ -167,53 +188,72 @@ module _ (z : Size) where
         keeps,
         tt,
         keeper_stepped s.words (set s.words (ack_at z.frames c) n) s.views id w (having_noted c n w) h at
-            (λ k. subst (λ ws. PlanOk z.frames z.cpus ws (having_noted c n w)) (sym (set-get_or s.words (ack_at z.frames c) 0))
+            (λ k. subst (λ ws. PlanOk z.frames z.cpus ws (having_noted c n w))
+            (sym (set-get_or s.words (ack_at z.frames c) 0))
             (plan_noted z.frames z.cpus s.words w c n inside refl k))
-            (λ _ q ok. subst (λ ws. PassOk z.frames z.cpus ws (having_noted c n w) q) (sym (set-get_or s.words (ack_at z.frames c) 0))
+            (λ _ q ok. subst (λ ws. PassOk z.frames z.cpus ws (having_noted c n w) q)
+            (sym (set-get_or s.words (ack_at z.frames c) 0))
             (pass_noted z.frames z.cpus s.words w c n q ok)),
-        λ d e. let same : c ≡ d = omega arith in (subst (λ k. get_or w.noted k 0 ≤ n) same low, ap (λ k. (Keeping (having_noted k n w), [])) same),
+        λ d e. let same : c ≡ d = omega arith in (
+          subst (λ k. get_or w.noted k 0 ≤ n) same low,
+          ap
+              (λ k. (Keeping (having_noted k n w), [])) same,
+        ),
       )
 
   -- the same at a seat that is known to be a pass's or the keeper's
   pub fills_at : (slots id f : ℕ) (m : Me (Unit {0}) View) → m ≡ (Walking (walk_of m.0), []) → f < z.frames
       → Allows (InOrder z) slots id m (1 + f) (λ n. n) (Fills (step slots (1 + f) 0 0 none) m)
-  fills_at slots id f m is inside = subst (λ x. Allows (InOrder z) slots id x (1 + f) (λ n. n) (Fills (step slots (1 + f) 0 0 none) x)) (sym is)
+  fills_at slots id f m is inside = subst (λ x. Allows (InOrder z) slots id x (1 + f) (λ n. n)
+      (Fills (step slots (1 + f) 0 0 none) x)) (sym is)
       (fills slots id f (walk_of m.0) inside)
 
   pub forgets_at : (slots id : ℕ) (m : Me (Unit {0}) View) → m ≡ (Walking (walk_of m.0), [])
       → Allows (InOrder z) slots id m 0 (λ n. n) (Forgets (step slots 0 0 0 none) m)
-  forgets_at slots id m is = subst (λ x. Allows (InOrder z) slots id x 0 (λ n. n) (Forgets (step slots 0 0 0 none) x)) (sym is) (forgets slots id (walk_of m.0))
+  forgets_at slots id m is = subst (λ x. Allows (InOrder z) slots id x 0 (λ n. n) (Forgets (step slots 0 0 0 none) x))
+      (sym is) (forgets slots id (walk_of m.0))
 
-  pub acknowledges_at : (slots id i n : ℕ) (m : Me (Unit {0}) View) → m ≡ (Walking (walk_of m.0), []) → i ≡ ack_at z.frames (walk_of m.0).cpu
+  pub acknowledges_at : (slots id i n : ℕ) (m : Me (Unit {0}) View) → m ≡ (Walking (walk_of m.0), []) → i
+      ≡ ack_at z.frames (walk_of m.0).cpu
       → n ≡ (walk_of m.0).stamp
       → Allows (InOrder z) slots id m i (λ _. n) (λ _. Acknowledges (step slots i n 0 none) m n)
   acknowledges_at slots id i n m is word stamp =
-      subst (λ (x : ℕ × ℕ). Allows (InOrder z) slots id m x.0 (λ _. x.1) (λ _. Acknowledges (step slots x.0 x.1 0 none) m x.1)) (λ k. (sym word k, sym stamp k))
+      subst (λ (x : ℕ × ℕ). Allows (InOrder z) slots id m x.0 (λ _. x.1)
+      (λ _. Acknowledges (step slots x.0 x.1 0 none) m x.1)) (λ k. (sym word k, sym stamp k))
       (subst (λ x. Allows (InOrder z) slots id x (ack_at z.frames (walk_of m.0).cpu) (λ _. (walk_of m.0).stamp)
-      (λ _. Acknowledges (step slots (ack_at z.frames (walk_of m.0).cpu) (walk_of m.0).stamp 0 none) x (walk_of m.0).stamp)) (sym is)
+      (λ _. Acknowledges (step slots (ack_at z.frames (walk_of m.0).cpu) (walk_of m.0).stamp 0 none) x
+      (walk_of m.0).stamp)) (sym is)
       (acknowledges slots id (walk_of m.0)))
 
-  pub closes_at : (slots id f n : ℕ) (m : Me (Unit {0}) View) → m ≡ (Keeping (watch_of m.0), []) → f < z.frames → get_or (watch_of m.0).doors f 0 % 2 ≡ 0
+  pub closes_at : (slots id f n : ℕ) (m : Me (Unit {0}) View) → m ≡ (Keeping (watch_of m.0), []) → f < z.frames
+      → get_or (watch_of m.0).doors f 0 % 2 ≡ 0
       → n ≡ get_or (watch_of m.0).doors f 0 + 1
       → Allows (InOrder z) slots id m (1 + f) (λ _. n) (λ _. Closes (step slots (1 + f) n 0 none) m n)
   closes_at slots id f n m is inside even word =
-      subst (λ k. Allows (InOrder z) slots id m (1 + f) (λ _. k) (λ _. Closes (step slots (1 + f) k 0 none) m k)) (sym word)
+      subst (λ k. Allows (InOrder z) slots id m (1 + f) (λ _. k) (λ _. Closes (step slots (1 + f) k 0 none) m k))
+      (sym word)
       (subst (λ x. Allows (InOrder z) slots id x (1 + f) (λ _. get_or (watch_of m.0).doors f 0 + 1)
-      (λ _. Closes (step slots (1 + f) (get_or (watch_of m.0).doors f 0 + 1) 0 none) x (get_or (watch_of m.0).doors f 0 + 1))) (sym is)
+      (λ _. Closes (step slots (1 + f) (get_or (watch_of m.0).doors f 0 + 1) 0 none) x
+      (get_or (watch_of m.0).doors f 0 + 1))) (sym is)
       (closes slots id f (watch_of m.0) inside even))
 
-  pub raises_at : (slots id n : ℕ) (m : Me (Unit {0}) View) → m ≡ (Keeping (watch_of m.0), []) → n ≡ (watch_of m.0).request + 1
+  pub raises_at : (slots id n : ℕ) (m : Me (Unit {0}) View) → m ≡ (Keeping (watch_of m.0), []) → n
+      ≡ (watch_of m.0).request + 1
       → Allows (InOrder z) slots id m 0 (λ _. n) (λ _. Raises (step slots 0 n 0 none) m n)
   raises_at slots id n m is word =
       subst (λ k. Allows (InOrder z) slots id m 0 (λ _. k) (λ _. Raises (step slots 0 k 0 none) m k)) (sym word)
       (subst (λ x. Allows (InOrder z) slots id x 0 (λ _. (watch_of m.0).request + 1)
-      (λ _. Raises (step slots 0 ((watch_of m.0).request + 1) 0 none) x ((watch_of m.0).request + 1))) (sym is) (raises slots id (watch_of m.0)))
+      (λ _. Raises (step slots 0 ((watch_of m.0).request + 1) 0 none) x ((watch_of m.0).request + 1))) (sym is)
+      (raises slots id (watch_of m.0)))
 
-  pub looks_at : (slots id i c : ℕ) (m : Me (Unit {0}) View) → m ≡ (Keeping (watch_of m.0), []) → i ≡ ack_at z.frames c → c < z.cpus
-      → length (watch_of m.0).doors ≡ z.frames → Allows (InOrder z) slots id m i (λ n. n) (Looks (step slots i 0 0 none) m)
+  pub looks_at : (slots id i c : ℕ) (m : Me (Unit {0}) View) → m ≡ (Keeping (watch_of m.0), []) → i ≡ ack_at z.frames c
+      → c < z.cpus
+      → length (watch_of m.0).doors ≡ z.frames → Allows (InOrder z) slots id m i (λ n. n)
+      (Looks (step slots i 0 0 none) m)
   looks_at slots id i c m is word inside row =
       subst (λ k. Allows (InOrder z) slots id m k (λ n. n) (Looks (step slots k 0 0 none) m)) (sym word)
-      (subst (λ x. Allows (InOrder z) slots id x (ack_at z.frames c) (λ n. n) (Looks (step slots (ack_at z.frames c) 0 0 none) x)) (sym is)
+      (subst (λ x. Allows (InOrder z) slots id x (ack_at z.frames c) (λ n. n)
+      (Looks (step slots (ack_at z.frames c) 0 0 none) x)) (sym is)
       (looks slots id c (watch_of m.0) inside row))
 
 -- one number more has a value of its own
@@ -227,11 +267,13 @@ put_else : (i j x : ℕ) (f : ℕ → ℕ) → j ≢ i → put i x f j ≡ f j
 put_else i j x f other = ap (λ b. cond b x (f j)) (ne_eqb j i other)
 
 -- where the last of a longer list stands
-snoc_place : {V : Type 0} (l : List V) (a b : V) (j : ℕ) → get_elem? (l ++ a ∷ []) j ≡ some b → (get_elem? l j ≡ some b) ⊎ ((j ≡ length l) × (a ≡ b))
+snoc_place : {V : Type 0} (l : List V) (a b : V) (j : ℕ) → get_elem? (l ++ a ∷ []) j ≡ some b
+    → (get_elem? l j ≡ some b) ⊎ ((j ≡ length l) × (a ≡ b))
 snoc_place [] a b zero e = inr (refl, some-injective a b e)
 snoc_place [] a b (suc j) e = absurd (some-ne-none b (sym e))
 snoc_place (x ∷ xs) a b zero e = inl e
-snoc_place (x ∷ xs) a b (suc j) e = ⊎_elim (λ t. inl t) (λ (t : (j ≡ length xs) × (a ≡ b)). inr (ap suc t.0, t.1)) (snoc_place xs a b j e)
+snoc_place (x ∷ xs) a b (suc j) e = ⊎_elim (λ t. inl t) (λ (t : (j ≡ length xs) × (a ≡ b)). inr (ap suc t.0, t.1))
+    (snoc_place xs a b j e)
 
 module _ (z : Size) where
   -- the keeper makes the pass of the next processor
@@ -249,7 +291,8 @@ module _ (z : Size) where
         plan_ok = plan_admits z.frames z.cpus s.words w room was;
         seats_ok = λ j v e. ⊎_elim
             (λ (old : get_elem? longer j ≡ some v).
-            seats_stay (SeatOk z.frames z.cpus s.words (record w { made = w.made + 1 }) h.keeper seat_of) s.views id (keeper_with_pass (Keeping w)) (
+            seats_stay (SeatOk z.frames z.cpus s.words (record w { made = w.made + 1 }) h.keeper seat_of) s.views id
+            (keeper_with_pass (Keeping w)) (
               mine.0,
               refl,
             )
@@ -257,7 +300,8 @@ module _ (z : Size) where
             (subst (λ k. SeatOk z.frames z.cpus s.words k h.keeper h.seat_of i u) (sym mine.1) (h.seats_ok i u there)))
             j v old)
             (λ (new : (j ≡ length longer) × (pass_of_keeper (Keeping w) ≡ v)).
-            subst (λ (x : ℕ × View). SeatOk z.frames z.cpus s.words (record w { made = w.made + 1 }) h.keeper seat_of x.0 x.1) (λ i. (sym new.0 i, new.1 i)) (
+            subst (λ (x : ℕ × View). SeatOk z.frames z.cpus s.words (record w { made = w.made + 1 }) h.keeper seat_of
+            x.0 x.1) (λ i. (sym new.0 i, new.1 i)) (
               put_here w.made (length longer) h.seat_of,
               subst (λ n. PassOk z.frames z.cpus s.words (record w { made = w.made + 1 }) (blank n w.made)) (sym row)
                   (blank_ok z.frames z.cpus s.words w room was),
@@ -275,9 +319,11 @@ module _ (z : Size) where
       stays words keeper seat_of new here j (Keeping u) other k = absurd (other (sym k.0 ∙ here))
       stays words keeper seat_of new here j Spent other k = tt
 
-  pub admits_at : (id : ℕ) (m : Me (Unit {0}) View) → m ≡ (Keeping (watch_of m.0), []) → (watch_of m.0).made < z.cpus → length (watch_of m.0).doors ≡ z.frames
+  pub admits_at : (id : ℕ) (m : Me (Unit {0}) View) → m ≡ (Keeping (watch_of m.0), []) → (watch_of m.0).made < z.cpus
+      → length (watch_of m.0).doors ≡ z.frames
       → Splits (InOrder z) id m.0 (keeper_with_pass m.0) (pass_of_keeper m.0)
-  admits_at id m is room row = subst (λ x. Splits (InOrder z) id x (keeper_with_pass x) (pass_of_keeper x)) (sym (ap (λ y. y.0) is))
+  admits_at id m is room row = subst (λ x. Splits (InOrder z) id x (keeper_with_pass x) (pass_of_keeper x))
+      (sym (ap (λ y. y.0) is))
       (admits id (watch_of m.0) room row)
 
   -- a seat takes in another, which knows nothing any more
@@ -288,11 +334,13 @@ module _ (z : Size) where
     seat_of = h.seat_of;
     plan_ok = h.plan_ok;
     seats_ok = seats_stay (SeatOk z.frames z.cpus s.words h.plan h.keeper h.seat_of) (set s.views id v) other Spent tt
-        (λ j w _ e. seats_stay (SeatOk z.frames z.cpus s.words h.plan h.keeper h.seat_of) s.views id v (h.seats_ok id v at) (λ i y _ e'. h.seats_ok i y e') j w
+        (λ j w _ e. seats_stay (SeatOk z.frames z.cpus s.words h.plan h.keeper h.seat_of) s.views id v
+        (h.seats_ok id v at) (λ i y _ e'. h.seats_ok i y e') j w
         e);
   }
 
-  door_word : (door f : ℕ) → f < z.frames → get_or (first_words z.frames z.cpus door) (door_at f) 0 ≡ get_or (replicate z.frames door) f 0
+  door_word : (door f : ℕ) → f < z.frames → get_or (first_words z.frames z.cpus door) (door_at f) 0
+      ≡ get_or (replicate z.frames door) f 0
   door_word door f inside =
       let row : List ℕ = replicate z.frames door in
       let acks : List ℕ = replicate z.cpus 0 in
@@ -306,17 +354,20 @@ module _ (z : Size) where
       let acks : List ℕ = replicate z.cpus 0 in
       let l : length row ≡ z.frames = length-replicate z.frames door in
       let one : ack_at z.frames c ≡ suc (length row + c) = omega arith in
-      ap (λ i. get_or (0 ∷ (row ++ acks)) i 0) one ∙ get_or-append-add row acks c 0 ∙ get_or-replicate z.cpus c 0 0 inside
+      ap (λ i. get_or (0 ∷ (row ++ acks)) i 0) one ∙ get_or-append-add row acks c 0
+      ∙ get_or-replicate z.cpus c 0 0 inside
 
   -- the rule holds at the start
-  pub opens : 1 ≤ z.door → Kept z (first_words z.frames z.cpus z.door) (Keeping (first_watch z.frames z.cpus z.door) ∷ [])
+  pub opens : 1 ≤ z.door → Kept z (first_words z.frames z.cpus z.door)
+      (Keeping (first_watch z.frames z.cpus z.door) ∷ [])
   opens least = record {
     plan = first_watch z.frames z.cpus z.door;
     keeper = 0;
     seat_of = λ c. 0;
     plan_ok = record {
       room = (let row : List ℕ = replicate z.frames z.door in let acks : List ℕ = replicate z.cpus 0 in
-          let a : length row ≡ z.frames = length-replicate z.frames z.door in let b : length acks ≡ z.cpus = length-replicate z.cpus 0 in
+          let a : length row ≡ z.frames = length-replicate z.frames z.door in let b : length acks ≡ z.cpus =
+          length-replicate z.cpus 0 in
           let c = length-append row acks in omega arith);
       doors_row = length-replicate z.frames z.door;
       since_row = length-replicate z.frames 0;
@@ -325,7 +376,8 @@ module _ (z : Size) where
       request = refl;
       doors = λ f inside. door_word z.door f inside;
       least = λ f inside. subst (λ k. 1 ≤ k) (sym (get_or-replicate z.frames f z.door 0 inside)) least;
-      noted = λ c inside. subst (λ k. k ≤ get_or (first_words z.frames z.cpus z.door) (ack_at z.frames c) 0) (sym (get_or-replicate z.cpus c 0 0 inside))
+      noted = λ c inside. subst (λ k. k ≤ get_or (first_words z.frames z.cpus z.door) (ack_at z.frames c) 0)
+          (sym (get_or-replicate z.cpus c 0 0 inside))
           (omega arith);
       unmade = λ c above inside. ack_word z.door c inside;
     };
@@ -333,16 +385,21 @@ module _ (z : Size) where
   }
     where
       one : (j : ℕ) (v : View) → get_elem? (Keeping (first_watch z.frames z.cpus z.door) ∷ []) j ≡ some v
-          → SeatOk z.frames z.cpus (first_words z.frames z.cpus z.door) (first_watch z.frames z.cpus z.door) 0 (λ c. 0) j v
-      one zero v e = subst (SeatOk z.frames z.cpus (first_words z.frames z.cpus z.door) (first_watch z.frames z.cpus z.door) 0 (λ c. 0) 0)
+          → SeatOk z.frames z.cpus (first_words z.frames z.cpus z.door) (first_watch z.frames z.cpus z.door) 0 (λ c. 0)
+          j v
+      one zero v e = subst (SeatOk z.frames z.cpus (first_words z.frames z.cpus z.door)
+          (first_watch z.frames z.cpus z.door) 0 (λ c. 0) 0)
           (some-injective _ _ e) (refl, refl)
       one (suc j) v e = absurd (some-ne-none v (sym e))
 
-  pub opens_at : (words : List ℕ) → words ≡ first_words z.frames z.cpus z.door → 1 ≤ z.door → Kept z words (Keeping (first_watch z.frames z.cpus z.door) ∷ [])
-  opens_at words is least = subst (λ ws. Kept z ws (Keeping (first_watch z.frames z.cpus z.door) ∷ [])) (sym is) (opens least)
+  pub opens_at : (words : List ℕ) → words ≡ first_words z.frames z.cpus z.door → 1 ≤ z.door
+      → Kept z words (Keeping (first_watch z.frames z.cpus z.door) ∷ [])
+  opens_at words is least = subst (λ ws. Kept z ws (Keeping (first_watch z.frames z.cpus z.door) ∷ [])) (sym is)
+      (opens least)
 
 -- what the keeper's seat knows is the plan
-known : (z : Size) (words : List ℕ) (views : List View) (seat : ℕ) (w : Watch) → (h : Kept z words views) → get_elem? views seat ≡ some (Keeping w) → w ≡ h.plan
+known : (z : Size) (words : List ℕ) (views : List View) (seat : ℕ) (w : Watch) → (h : Kept z words views)
+    → get_elem? views seat ≡ some (Keeping w) → w ≡ h.plan
 known z words views seat w h at = (h.seats_ok seat (Keeping w) at).1
 
 none_if : (o : Option ℕ) → ((b : ℕ) → o ≡ Some b → ⊥) → o ≡ None
@@ -353,14 +410,17 @@ pub noted_is_clear : NotedIsClear
 noted_is_clear w stamp noted f odd since z words views seat h at id p there =
     let is = known z words views seat w h at in
     let k : PlanOk z.frames z.cpus words w = subst (PlanOk z.frames z.cpus words) (sym is) h.plan_ok in
-    let ok : PassOk z.frames z.cpus words w p = subst (λ q. PassOk z.frames z.cpus words q p) (sym is) (h.seats_ok id (Walking p) there).1 in
+    let ok : PassOk z.frames z.cpus words w p = subst (λ q. PassOk z.frames z.cpus words q p) (sym is)
+    (h.seats_ok id (Walking p) there).1 in
     let m = ok.made in let n = k.made in let r = k.noted_row in
-    none_if (get_or p.held f None) (λ b e. entry_gone z.frames z.cpus words w p f b stamp k ok (noted p.cpu (omega arith)) odd since e)
+    none_if (get_or p.held f None) (λ b e. entry_gone z.frames z.cpus words w p f b stamp k ok
+    (noted p.cpu (omega arith)) odd since e)
 
 pub never_bound : NeverBoundHasNoHolder
 never_bound w f one z words views seat h at id p there =
     let is = known z words views seat w h at in
-    let ok : PassOk z.frames z.cpus words w p = subst (λ q. PassOk z.frames z.cpus words q p) (sym is) (h.seats_ok id (Walking p) there).1 in
+    let ok : PassOk z.frames z.cpus words w p = subst (λ q. PassOk z.frames z.cpus words q p) (sym is)
+    (h.seats_ok id (Walking p) there).1 in
     none_if (get_or p.held f None) (λ b e. entry_never z.frames z.cpus words w p f b ok one e)
 
 pub may_bind_is_free : MayBindHasNoHolder
@@ -373,25 +433,31 @@ elem_get_or [] i a e = absurd (some-ne-none a (sym e))
 elem_get_or (x ∷ xs) zero a e = some-injective x a e
 elem_get_or (x ∷ xs) (suc i) a e = elem_get_or xs i a e
 
-ended_plan : (z : Size) (id : ℕ) (m : Me (Unit {0}) View) (words : List ℕ) (slots : List (Unit {0})) → m ≡ (Keeping (watch_of m.0), [])
+ended_plan : (z : Size) (id : ℕ) (m : Me (Unit {0}) View) (words : List ℕ) (slots : List (Unit {0})) → m
+    ≡ (Keeping (watch_of m.0), [])
     → Final (Seen (InOrder z) id m.0) words slots → PlanOk z.frames z.cpus words (watch_of m.0)
 ended_plan z id m words slots is end =
     let s = end.0 in
     let h : Kept z s.words s.views = end.1.0 in
     let at : get_elem? s.views id ≡ some (Keeping (watch_of m.0)) = end.1.1 ∙ ap (λ x. some x.0) is in
-    subst (λ ws. PlanOk z.frames z.cpus ws (watch_of m.0)) end.2 (subst (PlanOk z.frames z.cpus s.words) (sym (known z s.words s.views id (watch_of m.0) h at))
+    subst (λ ws. PlanOk z.frames z.cpus ws (watch_of m.0)) end.2
+    (subst (PlanOk z.frames z.cpus s.words) (sym (known z s.words s.views id (watch_of m.0) h at))
     h.plan_ok)
 
-pub ended_request : (z : Size) (id : ℕ) (m : Me (Unit {0}) View) (words : List ℕ) (slots : List (Unit {0})) (found : ℕ) → m ≡ (Keeping (watch_of m.0), [])
+pub ended_request : (z : Size) (id : ℕ) (m : Me (Unit {0}) View) (words : List ℕ) (slots : List (Unit {0})) (found : ℕ)
+    → m ≡ (Keeping (watch_of m.0), [])
     → Final (Seen (InOrder z) id m.0) words slots → get_elem? words 0 ≡ some found
     → found ≡ (watch_of m.0).request
-ended_request z id m words slots found is end there = let k = ended_plan z id m words slots is end in sym (elem_get_or words 0 found there) ∙ k.request
+ended_request z id m words slots found is end there = let k =
+    ended_plan z id m words slots is end in sym (elem_get_or words 0 found there) ∙ k.request
 
-pub ended_doors : (z : Size) (id : ℕ) (m : Me (Unit {0}) View) (words doors : List ℕ) (slots : List (Unit {0})) → m ≡ (Keeping (watch_of m.0), [])
+pub ended_doors : (z : Size) (id : ℕ) (m : Me (Unit {0}) View) (words doors : List ℕ) (slots : List (Unit {0})) → m
+    ≡ (Keeping (watch_of m.0), [])
     → Final (Seen (InOrder z) id m.0) words slots → length doors ≡ length (watch_of m.0).doors
     → ((f : ℕ) → f < length doors → get_elem? words (f + 1) ≡ some (get_or doors f 0)) → doors ≡ (watch_of m.0).doors
 ended_doors z id m words doors slots is end same read =
     let k = ended_plan z id m words slots is end in
     ext_get_or 0 doors (watch_of m.0).doors same (λ f inside.
     let r = k.doors_row in let at : door_at f ≡ f + 1 = omega arith in
-    sym (elem_get_or words (f + 1) (get_or doors f 0) (read f inside)) ∙ sym (ap (λ i. get_or words i 0) at) ∙ k.doors f (omega arith))
+    sym (elem_get_or words (f + 1) (get_or doors f 0) (read f inside)) ∙ sym (ap (λ i. get_or words i 0) at)
+    ∙ k.doors f (omega arith))

@@ -10,8 +10,8 @@ use Rattle.live_doors.specs.declared.views.View.TheVariants.{Walking, Keeping, S
 use Rattle.live_doors.specs.Doors.{HasNoted, IsShut, MayBind}
 use Rattle.live_doors.specs.Steps.{door_at, ack_at}
 
--- An entry of binding b is in order beside its door's word: the door admits b, or it was closed on b, and then no stamp that
--- the pass has read was raised since.
+-- An entry of binding b is in order beside its door's word: the door admits b, or it was closed on b, and then no
+-- stamp that the pass has read was raised since.
 abbrev pub EntryOk : ℕ → ℕ → ℕ → ℕ → Type 0
 EntryOk door since stamp b = (door ≡ 2 * b) ⊎ ((door ≡ 2 * b + 1) × (stamp ≤ since))
 
@@ -29,8 +29,8 @@ pub record PlanOk (frames cpus : ℕ) (words : List ℕ) (plan : Watch) : Type 0
   pub noted : (cpu : ℕ) → cpu < cpus → slice_index plan.noted cpu ≤ slice_index words (ack_at frames cpu)
   pub unmade : (cpu : ℕ) → plan.made ≤ cpu → cpu < cpus → slice_index words (ack_at frames cpu) ≡ 0
 
--- What a pass knows beside the words and the keeper's plan: its acknowledgement is at most the stamp of its last `forget`, which
--- is at most the request, and each entry that it holds is in order.
+-- What a pass knows beside the words and the keeper's plan: its acknowledgement is at most the stamp of its last
+-- `forget`, which is at most the request, and each entry that it holds is in order.
 pub record PassOk (frames cpus : ℕ) (words : List ℕ) (plan : Watch) (p : Walk) : Type 0 where
   pub made : p.cpu < plan.made
   pub row : length p.held ≡ frames
@@ -38,7 +38,8 @@ pub record PassOk (frames cpus : ℕ) (words : List ℕ) (plan : Watch) (p : Wal
   pub word : slice_index words (ack_at frames p.cpu) ≡ p.acked
   pub acked : p.acked ≤ p.stamp
   pub bound : (f b : ℕ) → slice_index_or p.held f None ≡ Some b → 1 ≤ b
-  pub entries : (f b : ℕ) → slice_index_or p.held f None ≡ Some b → EntryOk (slice_index plan.doors f) (slice_index plan.since f) p.stamp b
+  pub entries : (f b : ℕ) → slice_index_or p.held f None ≡ Some b
+      → EntryOk (slice_index plan.doors f) (slice_index plan.since f) p.stamp b
 
 -- What a seat knows is in order: each processor's pass has a seat of its own, and one seat is the keeper's.
 abbrev pub SeatOk : ℕ → ℕ → List ℕ → Watch → ℕ → (ℕ → ℕ) → ℕ → View → Type 0
@@ -46,13 +47,15 @@ SeatOk frames cpus words plan keeper seat_of seat (Walking p) = (seat_of p.cpu �
 SeatOk frames cpus words plan keeper seat_of seat (Keeping w) = (keeper ≡ seat) × (w ≡ plan)
 SeatOk frames cpus words plan keeper seat_of seat Spent = Unit {0}
 
--- The rule: there are a plan, the keeper's seat and a seat for each processor, beside which the words and all views are in order.
+-- The rule: there are a plan, the keeper's seat and a seat for each processor, beside which the words and all views
+-- are in order.
 pub record Kept (z : Size) (words : List ℕ) (views : List View) : Type 0 where
   pub plan : Watch
   pub keeper : ℕ
   pub seat_of : ℕ → ℕ
   pub plan_ok : PlanOk z.frames z.cpus words plan
-  pub seats_ok : (seat : ℕ) (v : View) → get_elem? views seat ≡ some v → SeatOk z.frames z.cpus words plan keeper seat_of seat v
+  pub seats_ok : (seat : ℕ) (v : View) → get_elem? views seat ≡ some v
+      → SeatOk z.frames z.cpus words plan keeper seat_of seat v
 
 -- no pass holds an entry of frame f
 abbrev pub NoHolder : List View → ℕ → Type 0
@@ -60,14 +63,15 @@ NoHolder views f = (seat : ℕ) (p : Walk) → get_elem? views seat ≡ some (Wa
 
 -- wherever the rule holds and this is what the keeper knows, no pass holds an entry of frame f
 abbrev pub HasNoHolder : Watch → ℕ → Type 0
-HasNoHolder w f = (z : Size) (words : List ℕ) (views : List View) (seat : ℕ) → Kept z words views → get_elem? views seat ≡ some (Keeping w) → NoHolder views f
+HasNoHolder w f = (z : Size) (words : List ℕ) (views : List View) (seat : ℕ) → Kept z words views
+    → get_elem? views seat ≡ some (Keeping w) → NoHolder views f
 
 -- no pass holds an entry of a frame that was closed before this stamp was raised, and is closed still
 abbrev pub IsClearOf : Watch → ℕ → Type 0
 IsClearOf w stamp = (f : ℕ) → IsShut w f → slice_index w.since f < stamp → HasNoHolder w f
 
--- Where the keeper has noted from each processor an acknowledgement of at least a stamp, no pass holds an entry of a frame
--- that was closed before that stamp was raised.
+-- Where the keeper has noted from each processor an acknowledgement of at least a stamp, no pass holds an entry of a
+-- frame that was closed before that stamp was raised.
 abbrev pub NotedIsClear : Type 0
 NotedIsClear = (w : Watch) (stamp : ℕ) → HasNoted w stamp → IsClearOf w stamp
 

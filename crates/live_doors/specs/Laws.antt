@@ -1,10 +1,13 @@
--- Laws of plain data: what each kind of step leaves in order, and what is read from rows. The crates above cite them too.
-use Rattle.std.proofs.Common.{◌≡◌, ◌≢◌, ℕ, ◌+◌, ◌*◌, ◌/◌, ◌%◌, ◌<◌, ◌≤◌, Bool, true, false, eqb, List, length, replicate, Option, Some, None, refl, sym, ap}
+-- Laws of plain data: what each kind of step leaves in order, and what is read from rows. The crates above cite them
+-- too.
+use Rattle.std.proofs.Common.{◌≡◌, ◌≢◌, ℕ, ◌+◌, ◌*◌, ◌/◌, ◌%◌, ◌<◌, ◌≤◌, Bool, true, false, eqb, List, length}
+use Rattle.std.proofs.Common.{replicate, Option, Some, None, refl, sym, ap}
 use Rattle.std.proofs.Common.{subst, ◌∙◌, arith, get_or, set, inl, inr, ⊎_elim, is_some, IsTrue, ◌↔◌}
 use mathlib.Core.Logic.{dite}
 use native.Mathlib.Decide.{ℕ_discrete, dec_lt}
 use lib.ListN.{get_or-eq_default, get_elem?}
-use Rattle.std.proofs.lemmas.List.{get_or-set_same, get_or-set_other, length-set, length-replicate, get_or-replicate, get_or_default}
+use Rattle.std.proofs.lemmas.List.{get_or-set_same, get_or-set_other, length-set, length-replicate, get_or-replicate}
+use Rattle.std.proofs.lemmas.List.{get_or_default}
 use Rattle.std.proofs.lemmas.Option.{none-some}
 use Rattle.std.proofs.lemmas.Bool.{eqb-true, eq-eqb, ne_eqb}
 use Rattle.std.proofs.lemmas.Grind.{get_or_default_zero}
@@ -12,7 +15,8 @@ use mathlib.Core.Option.{some}
 use Rattle.atomic_table.proofs.Lists.{at_set}
 use Rattle.live_doors.specs.declared.views.Walk.{Walk}
 use Rattle.live_doors.specs.declared.views.Watch.{Watch}
-use Rattle.live_doors.specs.Doors.{blank, having_read, holding, forgotten, acknowledged, shut, raised, having_noted, HasNoted}
+use Rattle.live_doors.specs.Doors.{blank, having_read, holding, forgotten, acknowledged, shut, raised, having_noted}
+use Rattle.live_doors.specs.Doors.{HasNoted}
 use Rattle.live_doors.specs.Steps.{door_at, ack_at, filled_if, filled}
 use Rattle.live_doors.specs.Kept.{EntryOk, PlanOk, PassOk}
 
@@ -27,10 +31,20 @@ none_held k f b e = dite (dec_lt f k) (λ (h : f < k). none-some b (sym (get_or-
 module _ (frames cpus : ℕ) (words : List ℕ) (plan : Watch) where
   -- a word was read, and nothing else is known
   pub read_ok : (p : Walk) (n : ℕ) → PassOk frames cpus words plan p → PassOk frames cpus words plan (having_read n p)
-  read_ok p n ok = record { made = ok.made; row = ok.row; stamp = ok.stamp; word = ok.word; acked = ok.acked; bound = ok.bound; entries = ok.entries }
+  read_ok p n ok = record {
+    made = ok.made;
+    row = ok.row;
+    stamp = ok.stamp;
+    word = ok.word;
+    acked = ok.acked;
+    bound =
+        ok.bound;
+    entries = ok.entries;
+  }
 
   -- an entry that the door admits is held besides
-  pub holding_ok : (p : Walk) (f b : ℕ) → f < frames → get_or plan.doors f 0 ≡ 2 * b → 1 ≤ b → PassOk frames cpus words plan p
+  pub holding_ok : (p : Walk) (f b : ℕ) → f < frames → get_or plan.doors f 0 ≡ 2 * b → 1 ≤ b
+      → PassOk frames cpus words plan p
       → PassOk frames cpus words plan (holding f b p)
   holding_ok p f b inside door least ok = record {
     made = ok.made;
@@ -38,32 +52,41 @@ module _ (frames cpus : ℕ) (words : List ℕ) (plan : Watch) where
     stamp = ok.stamp;
     word = ok.word;
     acked = ok.acked;
-    bound = λ g c e. dite (ℕ_discrete g f) (λ (same : g ≡ f). subst (λ k. 1 ≤ k) (here g c same e) least) (λ (other : g ≢ f). ok.bound g c (else g c other e));
-    entries = λ g c e. dite (ℕ_discrete g f) (λ (same : g ≡ f). inl (subst (λ k. get_or plan.doors k 0 ≡ 2 * c) (sym same) (door
+    bound = λ g c e. dite (ℕ_discrete g f) (λ (same : g ≡ f). subst (λ k. 1 ≤ k) (here g c same e) least)
+        (λ (other : g ≢ f). ok.bound g c (else g c other e));
+    entries = λ g c e. dite (ℕ_discrete g f) (λ (same : g ≡ f). inl
+        (subst (λ k. get_or plan.doors k 0 ≡ 2 * c) (sym same) (door
         ∙ ap (λ k. 2 * k) (here g c same e)))) (λ (other : g ≢ f). ok.entries g c (else g c other e));
   }
     where
       here : (g c : ℕ) → g ≡ f → get_or (set p.held f (Some b)) g None ≡ Some c → b ≡ c
-      here g c same e = let at : get_or (set p.held f (Some b)) f None ≡ Some b = get_or-set_same p.held f (Some b) None (let r = ok.row in omega arith) in
-          let e' : get_or (set p.held f (Some b)) f None ≡ Some c = subst (λ k. get_or (set p.held f (Some b)) k None ≡ Some c) same e in
+      here g c same e = let at : get_or (set p.held f (Some b)) f None ≡ Some b =
+          get_or-set_same p.held f (Some b) None (let r = ok.row in omega arith) in
+          let e' : get_or (set p.held f (Some b)) f None ≡ Some c =
+          subst (λ k. get_or (set p.held f (Some b)) k None ≡ Some c) same e in
           let eq : Some b ≡ Some c = sym at ∙ e' in cc
 
       else : (g c : ℕ) → g ≢ f → get_or (set p.held f (Some b)) g None ≡ Some c → get_or p.held g None ≡ Some c
       else g c other e = sym (get_or-set_other p.held f g (Some b) None other) ∙ e
 
-  filled_ok_if : (even : Bool) (p : Walk) (f n : ℕ) → eqb (n % 2) 0 ≡ even → f < frames → get_or plan.doors f 0 ≡ n → 1 ≤ n → PassOk frames cpus words plan p
+  filled_ok_if : (even : Bool) (p : Walk) (f n : ℕ) → eqb (n % 2) 0 ≡ even → f < frames → get_or plan.doors f 0 ≡ n
+      → 1 ≤ n → PassOk frames cpus words plan p
       → PassOk frames cpus words plan (filled_if even f n p)
-  filled_ok_if true p f n is inside door least ok = let e : n % 2 ≡ 0 = eqb-true _ _ is in let h : n ≡ 2 * (n / 2) = omega arith in
+  filled_ok_if true p f n is inside door least ok = let e : n % 2 ≡ 0 = eqb-true _ _ is in let h : n ≡ 2 * (n / 2) =
+      omega arith in
       let l : 1 ≤ n / 2 = omega arith in
       holding_ok (having_read n p) f (n / 2) inside (door ∙ h) l (read_ok p n ok)
   filled_ok_if false p f n is inside door least ok = read_ok p n ok
 
-  pub filled_ok : (p : Walk) (f n : ℕ) → f < frames → n ≡ get_or words (door_at f) 0 → PlanOk frames cpus words plan → PassOk frames cpus words plan p
+  pub filled_ok : (p : Walk) (f n : ℕ) → f < frames → n ≡ get_or words (door_at f) 0 → PlanOk frames cpus words plan
+      → PassOk frames cpus words plan p
       → PassOk frames cpus words plan (filled f n p)
-  filled_ok p f n inside is k ok = let door : get_or plan.doors f 0 ≡ n = sym (is ∙ k.doors f inside) in let l = k.least f inside in
+  filled_ok p f n inside is k ok = let door : get_or plan.doors f 0 ≡ n = sym (is ∙ k.doors f inside) in let l =
+      k.least f inside in
       filled_ok_if (eqb (n % 2) 0) p f n refl inside door (omega arith) ok
 
-  pub forgotten_ok : (p : Walk) (n : ℕ) → n ≡ get_or words 0 0 → PlanOk frames cpus words plan → PassOk frames cpus words plan p
+  pub forgotten_ok : (p : Walk) (n : ℕ) → n ≡ get_or words 0 0 → PlanOk frames cpus words plan
+      → PassOk frames cpus words plan p
       → PassOk frames cpus words plan (forgotten n p)
   forgotten_ok p n is k ok = let r : n ≡ plan.request = is ∙ k.request in record {
     made = ok.made;
@@ -85,12 +108,14 @@ module _ (frames cpus : ℕ) (words : List ℕ) (plan : Watch) where
     noted_row = k.noted_row;
     made = k.made;
     request = get_or-set_other words (ack_at frames p.cpu) 0 p.stamp 0 (λ e. omega arith) ∙ k.request;
-    doors = λ f inside. get_or-set_other words (ack_at frames p.cpu) (door_at f) p.stamp 0 (λ e. omega arith) ∙ k.doors f inside;
+    doors = λ f inside. get_or-set_other words (ack_at frames p.cpu) (door_at f) p.stamp 0 (λ e. omega arith)
+        ∙ k.doors f inside;
     least = k.least;
     noted = λ c inside. dite (ℕ_discrete c p.cpu)
         (λ (same : c ≡ p.cpu). let w : get_or (set words (ack_at frames p.cpu) p.stamp) (ack_at frames c) 0
         ≡ p.stamp = ap (λ i. get_or (set words (ack_at frames p.cpu) p.stamp) (ack_at frames i) 0) same ∙ here in
-        let old : get_or plan.noted c 0 ≤ p.acked = subst (λ i. get_or plan.noted c 0 ≤ i) (ap (λ i. get_or words (ack_at frames i) 0) same
+        let old : get_or plan.noted c 0 ≤ p.acked = subst (λ i. get_or plan.noted c 0 ≤ i)
+        (ap (λ i. get_or words (ack_at frames i) 0) same
         ∙ ok.word) (k.noted c inside) in
         let a = ok.acked in omega arith)
         (λ (other : c ≢ p.cpu). subst (λ i. get_or plan.noted c 0 ≤ i) (sym (elsewhere c other)) (k.noted c inside));
@@ -98,10 +123,13 @@ module _ (frames cpus : ℕ) (words : List ℕ) (plan : Watch) where
   }
     where
       here : get_or (set words (ack_at frames p.cpu) p.stamp) (ack_at frames p.cpu) 0 ≡ p.stamp
-      here = get_or-set_same words (ack_at frames p.cpu) p.stamp 0 (let r = k.room in let m = ok.made in let n = k.made in omega arith)
+      here = get_or-set_same words (ack_at frames p.cpu) p.stamp 0
+          (let r = k.room in let m = ok.made in let n = k.made in omega arith)
 
-      elsewhere : (c : ℕ) → c ≢ p.cpu → get_or (set words (ack_at frames p.cpu) p.stamp) (ack_at frames c) 0 ≡ get_or words (ack_at frames c) 0
-      elsewhere c other = get_or-set_other words (ack_at frames p.cpu) (ack_at frames c) p.stamp 0 (λ e. other (omega arith))
+      elsewhere : (c : ℕ) → c ≢ p.cpu → get_or (set words (ack_at frames p.cpu) p.stamp) (ack_at frames c) 0
+          ≡ get_or words (ack_at frames c) 0
+      elsewhere c other = get_or-set_other words (ack_at frames p.cpu) (ack_at frames c) p.stamp 0
+          (λ e. other (omega arith))
 
   pub acknowledged_ok : (p : Walk) → PlanOk frames cpus words plan → PassOk frames cpus words plan p
       → PassOk frames cpus (set words (ack_at frames p.cpu) p.stamp) plan (acknowledged p)
@@ -109,14 +137,16 @@ module _ (frames cpus : ℕ) (words : List ℕ) (plan : Watch) where
     made = ok.made;
     row = ok.row;
     stamp = ok.stamp;
-    word = get_or-set_same words (ack_at frames p.cpu) p.stamp 0 (let r = k.room in let m = ok.made in let n = k.made in omega arith);
+    word = get_or-set_same words (ack_at frames p.cpu) p.stamp 0
+        (let r = k.room in let m = ok.made in let n = k.made in omega arith);
     acked = omega arith;
     bound = ok.bound;
     entries = ok.entries;
   }
 
   -- a store to another word than the pass's own
-  pub pass_stays : (q : Walk) (i n : ℕ) → ack_at frames q.cpu ≢ i → PassOk frames cpus words plan q → PassOk frames cpus (set words i n) plan q
+  pub pass_stays : (q : Walk) (i n : ℕ) → ack_at frames q.cpu ≢ i → PassOk frames cpus words plan q
+      → PassOk frames cpus (set words i n) plan q
   pass_stays q i n other ok = record {
     made = ok.made;
     row = ok.row;
@@ -127,7 +157,8 @@ module _ (frames cpus : ℕ) (words : List ℕ) (plan : Watch) where
     entries = ok.entries;
   }
 
-  pub plan_shut : (f : ℕ) → f < frames → PlanOk frames cpus words plan → PlanOk frames cpus (set words (door_at f) (get_or plan.doors f 0 + 1)) (shut f plan)
+  pub plan_shut : (f : ℕ) → f < frames → PlanOk frames cpus words plan
+      → PlanOk frames cpus (set words (door_at f) (get_or plan.doors f 0 + 1)) (shut f plan)
   plan_shut f inside k = let n : ℕ = get_or plan.doors f 0 + 1 in record {
     room = (let l = length-set words (door_at f) n in let r = k.room in omega arith);
     doors_row = length-set plan.doors f n ∙ k.doors_row;
@@ -136,20 +167,27 @@ module _ (frames cpus : ℕ) (words : List ℕ) (plan : Watch) where
     made = k.made;
     request = get_or-set_other words (door_at f) 0 n 0 (λ e. omega arith) ∙ k.request;
     doors = λ g within. dite (ℕ_discrete g f)
-        (λ (same : g ≡ f). subst (λ j. get_or (set words (door_at f) n) (door_at j) 0 ≡ get_or (set plan.doors f n) j 0) (sym same)
-        (get_or-set_same words (door_at f) n 0 (let r = k.room in omega arith) ∙ sym (get_or-set_same plan.doors f n 0 (let r = k.doors_row in omega arith))))
-        (λ (other : g ≢ f). get_or-set_other words (door_at f) (door_at g) n 0 (λ e. other (omega arith)) ∙ k.doors g within
+        (λ (same : g ≡ f). subst (λ j. get_or (set words (door_at f) n) (door_at j) 0
+        ≡ get_or (set plan.doors f n) j 0) (sym same)
+        (get_or-set_same words (door_at f) n 0 (let r = k.room in omega arith)
+        ∙ sym (get_or-set_same plan.doors f n 0 (let r = k.doors_row in omega arith))))
+        (λ (other : g ≢ f). get_or-set_other words (door_at f) (door_at g) n 0 (λ e. other (omega arith))
+        ∙ k.doors g within
         ∙ sym (get_or-set_other plan.doors f g n 0 other));
     least = λ g within. dite (ℕ_discrete g f)
         (λ (same : g ≡ f). subst (λ j. 1 ≤ get_or (set plan.doors f n) j 0) (sym same)
-        (subst (λ j. 1 ≤ j) (sym (get_or-set_same plan.doors f n 0 (let r = k.doors_row in omega arith))) (omega arith)))
+        (subst (λ j. 1 ≤ j) (sym (get_or-set_same plan.doors f n 0 (let r = k.doors_row in omega arith)))
+        (omega arith)))
         (λ (other : g ≢ f). subst (λ j. 1 ≤ j) (sym (get_or-set_other plan.doors f g n 0 other)) (k.least g within));
-    noted = λ c within. subst (λ j. get_or plan.noted c 0 ≤ j) (sym (get_or-set_other words (door_at f) (ack_at frames c) n 0 (λ e. omega arith)))
+    noted = λ c within. subst (λ j. get_or plan.noted c 0 ≤ j)
+        (sym (get_or-set_other words (door_at f) (ack_at frames c) n 0 (λ e. omega arith)))
         (k.noted c within);
-    unmade = λ c above within. get_or-set_other words (door_at f) (ack_at frames c) n 0 (λ e. omega arith) ∙ k.unmade c above within;
+    unmade = λ c above within. get_or-set_other words (door_at f) (ack_at frames c) n 0 (λ e. omega arith)
+        ∙ k.unmade c above within;
   }
 
-  pub pass_shut : (f : ℕ) (q : Walk) → f < frames → get_or plan.doors f 0 % 2 ≡ 0 → PlanOk frames cpus words plan → PassOk frames cpus words plan q
+  pub pass_shut : (f : ℕ) (q : Walk) → f < frames → get_or plan.doors f 0 % 2 ≡ 0 → PlanOk frames cpus words plan
+      → PassOk frames cpus words plan q
       → PassOk frames cpus (set words (door_at f) (get_or plan.doors f 0 + 1)) (shut f plan) q
   pass_shut f q inside even k ok = let n : ℕ = get_or plan.doors f 0 + 1 in record {
     made = ok.made;
@@ -159,19 +197,28 @@ module _ (frames cpus : ℕ) (words : List ℕ) (plan : Watch) where
     acked = ok.acked;
     bound = ok.bound;
     entries = λ g b e. dite (ℕ_discrete g f)
-        (λ (same : g ≡ f). subst (λ j. EntryOk (get_or (set plan.doors f n) j 0) (get_or (set plan.since f plan.request) j 0) q.stamp b) (sym same)
+        (λ (same : g ≡ f). subst (λ j. EntryOk (get_or (set plan.doors f n) j 0)
+        (get_or (set plan.since f plan.request) j 0) q.stamp b) (sym same)
         (inr (
           get_or-set_same plan.doors f n 0 (let r = k.doors_row in omega arith)
-              ∙ was b (subst (λ j. EntryOk (get_or plan.doors j 0) (get_or plan.since j 0) q.stamp b) same (ok.entries g b e)),
-          subst (λ j. q.stamp ≤ j) (sym (get_or-set_same plan.since f plan.request 0 (let r = k.since_row in omega arith))) ok.stamp,
+              ∙ was b (subst (λ j. EntryOk (get_or plan.doors j 0) (get_or plan.since j 0) q.stamp b) same
+              (ok.entries g b e)),
+          subst (λ j. q.stamp ≤ j) (sym (get_or-set_same plan.since f plan.request 0
+              (let r = k.since_row in omega arith))) ok.stamp,
         )))
         (λ (other : g ≢ f). subst (λ (x : ℕ × ℕ). EntryOk x.0 x.1 q.stamp b)
-        (λ i. (sym (get_or-set_other plan.doors f g n 0 other) i, sym (get_or-set_other plan.since f g plan.request 0 other) i)) (ok.entries g b e));
+        (λ i. (
+          sym (get_or-set_other plan.doors f g n 0 other) i,
+          sym
+              (get_or-set_other plan.since f g plan.request 0 other) i,
+        )) (ok.entries g b e));
   }
     where
-      was : (b : ℕ) → EntryOk (get_or plan.doors f 0) (get_or plan.since f 0) q.stamp b → get_or plan.doors f 0 + 1 ≡ 2 * b + 1
+      was : (b : ℕ) → EntryOk (get_or plan.doors f 0) (get_or plan.since f 0) q.stamp b → get_or plan.doors f 0 + 1
+          ≡ 2 * b + 1
       was b = ⊎_elim (λ (e : get_or plan.doors f 0 ≡ 2 * b). ap (λ j. j + 1) e)
-          (λ (e : (get_or plan.doors f 0 ≡ 2 * b + 1) × (q.stamp ≤ get_or plan.since f 0)). let o = e.0 in absurd (omega arith))
+          (λ (e : (get_or plan.doors f 0 ≡ 2 * b + 1) × (q.stamp ≤ get_or plan.since f 0)). let o =
+          e.0 in absurd (omega arith))
 
   pub plan_raised : PlanOk frames cpus words plan → PlanOk frames cpus (set words 0 (plan.request + 1)) (raised plan)
   plan_raised k = let n : ℕ = plan.request + 1 in record {
@@ -183,11 +230,14 @@ module _ (frames cpus : ℕ) (words : List ℕ) (plan : Watch) where
     request = get_or-set_same words 0 n 0 (let r = k.room in omega arith);
     doors = λ f inside. get_or-set_other words 0 (door_at f) n 0 (λ e. omega arith) ∙ k.doors f inside;
     least = k.least;
-    noted = λ c inside. subst (λ j. get_or plan.noted c 0 ≤ j) (sym (get_or-set_other words 0 (ack_at frames c) n 0 (λ e. omega arith))) (k.noted c inside);
-    unmade = λ c above inside. get_or-set_other words 0 (ack_at frames c) n 0 (λ e. omega arith) ∙ k.unmade c above inside;
+    noted = λ c inside. subst (λ j. get_or plan.noted c 0 ≤ j)
+        (sym (get_or-set_other words 0 (ack_at frames c) n 0 (λ e. omega arith))) (k.noted c inside);
+    unmade = λ c above inside. get_or-set_other words 0 (ack_at frames c) n 0 (λ e. omega arith)
+        ∙ k.unmade c above inside;
   }
 
-  pub pass_raised : (q : Walk) → PassOk frames cpus words plan q → PassOk frames cpus (set words 0 (plan.request + 1)) (raised plan) q
+  pub pass_raised : (q : Walk) → PassOk frames cpus words plan q
+      → PassOk frames cpus (set words 0 (plan.request + 1)) (raised plan) q
   pass_raised q ok = record {
     made = ok.made;
     row = ok.row;
@@ -212,14 +262,26 @@ module _ (frames cpus : ℕ) (words : List ℕ) (plan : Watch) where
     noted = λ d within. dite (ℕ_discrete d c)
         (λ (same : d ≡ c). subst (λ j. get_or (set plan.noted c n) j 0 ≤ get_or words (ack_at frames j) 0) (sym same)
         (let h = get_or-set_same plan.noted c n 0 (let r = k.noted_row in omega arith) in omega arith))
-        (λ (other : d ≢ c). subst (λ j. j ≤ get_or words (ack_at frames d) 0) (sym (get_or-set_other plan.noted c d n 0 other)) (k.noted d within));
+        (λ (other : d ≢ c). subst (λ j. j ≤ get_or words (ack_at frames d) 0)
+        (sym (get_or-set_other plan.noted c d n 0 other)) (k.noted d within));
     unmade = k.unmade;
   }
 
-  pub pass_noted : (c n : ℕ) (q : Walk) → PassOk frames cpus words plan q → PassOk frames cpus words (having_noted c n plan) q
-  pass_noted c n q ok = record { made = ok.made; row = ok.row; stamp = ok.stamp; word = ok.word; acked = ok.acked; bound = ok.bound; entries = ok.entries }
+  pub pass_noted : (c n : ℕ) (q : Walk) → PassOk frames cpus words plan q
+      → PassOk frames cpus words (having_noted c n plan) q
+  pass_noted c n q ok = record {
+    made = ok.made;
+    row = ok.row;
+    stamp = ok.stamp;
+    word = ok.word;
+    acked =
+        ok.acked;
+    bound = ok.bound;
+    entries = ok.entries;
+  }
 
-  pub plan_admits : plan.made < cpus → PlanOk frames cpus words plan → PlanOk frames cpus words record plan { made = plan.made + 1 }
+  pub plan_admits : plan.made < cpus → PlanOk frames cpus words plan
+      → PlanOk frames cpus words record plan { made = plan.made + 1 }
   plan_admits room k = record {
     room = k.room;
     doors_row = k.doors_row;
@@ -233,7 +295,8 @@ module _ (frames cpus : ℕ) (words : List ℕ) (plan : Watch) where
     unmade = λ c above inside. k.unmade c (omega arith) inside;
   }
 
-  pub pass_admits : (q : Walk) → PassOk frames cpus words plan q → PassOk frames cpus words record plan { made = plan.made + 1 } q
+  pub pass_admits : (q : Walk) → PassOk frames cpus words plan q
+      → PassOk frames cpus words record plan { made = plan.made + 1 } q
   pass_admits q ok = record {
     made = (let m = ok.made in omega arith);
     row = ok.row;
@@ -245,7 +308,8 @@ module _ (frames cpus : ℕ) (words : List ℕ) (plan : Watch) where
     entries = ok.entries;
   }
 
-  pub blank_ok : plan.made < cpus → PlanOk frames cpus words plan → PassOk frames cpus words record plan { made = plan.made + 1 } (blank frames plan.made)
+  pub blank_ok : plan.made < cpus → PlanOk frames cpus words plan
+      → PassOk frames cpus words record plan { made = plan.made + 1 } (blank frames plan.made)
   blank_ok room k = record {
     made = omega arith;
     row = length-replicate frames None;
@@ -257,18 +321,23 @@ module _ (frames cpus : ℕ) (words : List ℕ) (plan : Watch) where
   }
 
   -- who has acknowledged a stamp that was raised after the door was closed holds no entry there
-  pub entry_gone : (p : Walk) (f b stamp : ℕ) → PlanOk frames cpus words plan → PassOk frames cpus words plan p → stamp ≤ get_or plan.noted p.cpu 0
+  pub entry_gone : (p : Walk) (f b stamp : ℕ) → PlanOk frames cpus words plan → PassOk frames cpus words plan p
+      → stamp ≤ get_or plan.noted p.cpu 0
       → get_or plan.doors f 0 % 2 ≡ 1 → get_or plan.since f 0 < stamp
       → get_or p.held f None ≡ Some b → ⊥
   entry_gone p f b stamp k ok noted odd since e =
-      let there = k.noted p.cpu (let m = ok.made in let n = k.made in omega arith) in let word = ok.word in let acked = ok.acked in
-      ⊎_elim (λ (t : get_or plan.doors f 0 ≡ 2 * b). omega arith) (λ (t : (get_or plan.doors f 0 ≡ 2 * b + 1) × (p.stamp ≤ get_or plan.since f 0)). let s =
+      let there = k.noted p.cpu (let m = ok.made in let n = k.made in omega arith) in let word = ok.word in let acked =
+      ok.acked in
+      ⊎_elim (λ (t : get_or plan.doors f 0 ≡ 2 * b). omega arith)
+      (λ (t : (get_or plan.doors f 0 ≡ 2 * b + 1) × (p.stamp ≤ get_or plan.since f 0)). let s =
       t.1 in omega arith) (ok.entries f b e)
 
   -- nobody holds an entry of a frame that was never bound
-  pub entry_never : (p : Walk) (f b : ℕ) → PassOk frames cpus words plan p → get_or plan.doors f 0 ≡ 1 → get_or p.held f None ≡ Some b → ⊥
+  pub entry_never : (p : Walk) (f b : ℕ) → PassOk frames cpus words plan p → get_or plan.doors f 0 ≡ 1
+      → get_or p.held f None ≡ Some b → ⊥
   entry_never p f b ok one e = let l = ok.bound f b e in
-      ⊎_elim (λ (t : get_or plan.doors f 0 ≡ 2 * b). omega arith) (λ (t : (get_or plan.doors f 0 ≡ 2 * b + 1) × (p.stamp ≤ get_or plan.since f 0)). let s =
+      ⊎_elim (λ (t : get_or plan.doors f 0 ≡ 2 * b). omega arith)
+      (λ (t : (get_or plan.doors f 0 ≡ 2 * b + 1) × (p.stamp ≤ get_or plan.since f 0)). let s =
       t.0 in omega arith) (ok.entries f b e)
 
 -- ---- rows and their words
@@ -283,11 +352,13 @@ filled_even f n p even = let h : n ≡ 2 * (n / 2) = omega arith in let e : n % 
     ap (λ b. filled_if b f n p) (eq-eqb (n % 2) 0 e) ∙ ap (λ k. holding f (n / 2) (having_read k p)) h
 
 -- each acknowledgement that was noted is still at least the stamp
-pub noted_still : (w : Watch) (c n stamp : ℕ) → HasNoted w stamp → get_or w.noted c 0 ≤ n → HasNoted (having_noted c n w) stamp
+pub noted_still : (w : Watch) (c n stamp : ℕ) → HasNoted w stamp → get_or w.noted c 0 ≤ n
+    → HasNoted (having_noted c n w) stamp
 noted_still w c n stamp all low d inside =
     let l = length-set w.noted c n in
     dite (ℕ_discrete d c)
-    (λ (same : d ≡ c). let h : get_or (set w.noted c n) d 0 ≡ n = subst (λ k. get_or (set w.noted c n) k 0 ≡ n) (sym same)
+    (λ (same : d ≡ c). let h : get_or (set w.noted c n) d 0 ≡ n =
+    subst (λ k. get_or (set w.noted c n) k 0 ≡ n) (sym same)
     (get_or-set_same w.noted c n 0 (omega arith)) in let old = all c (omega arith) in omega arith)
     (λ (other : d ≢ c). subst (λ k. stamp ≤ k) (sym (get_or-set_other w.noted c d n 0 other)) (all d (omega arith)))
 
@@ -309,7 +380,8 @@ holds_entry xs ys f o is same inside = cases o (is ∙ ap (λ l. get_or l f o) s
     cases None e = (λ never. absurd (cc), λ t. absurd (none-some t.0 (e ∙ t.1)))
 
 -- after a change of one seat's view, each seat is in order, if that one is and the others were
-pub seats_stay : {V : Type 0} (K : ℕ → V → Type 0) (views : List V) (me : ℕ) (w : V) → K me w → ((j : ℕ) (v : V) → j ≢ me → get_elem? views j ≡ some v → K j v)
+pub seats_stay : {V : Type 0} (K : ℕ → V → Type 0) (views : List V) (me : ℕ) (w : V) → K me w
+    → ((j : ℕ) (v : V) → j ≢ me → get_elem? views j ≡ some v → K j v)
     → (j : ℕ) (v : V) → get_elem? (set views me w) j ≡ some v → K j v
 seats_stay {V} K views me w mine others j v e =
     ⊎_elim (λ (t : (j ≡ me) × (w ≡ v)). subst (λ (x : ℕ × V). K x.0 x.1) (λ i. (sym t.0 i, t.1 i)) mine)

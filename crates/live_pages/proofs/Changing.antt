@@ -1,5 +1,6 @@
 -- The steps that change a page: a touch draws its ticket, and a frame is bound anew.
-use Rattle.std.proofs.Common.{◌≡◌, ◌≢◌, ℕ, suc, ◌+◌, ◌*◌, ◌/◌, ◌%◌, ◌^◌, ◌<◌, ◌≤◌, cond, eqb, ◌&&◌, List, [], ◌∷◌, length, Option, Some, None, refl, sym, ap}
+use Rattle.std.proofs.Common.{◌≡◌, ◌≢◌, ℕ, suc, ◌+◌, ◌*◌, ◌/◌, ◌%◌, ◌^◌, ◌<◌, ◌≤◌, cond, eqb, ◌&&◌, List, [], ◌∷◌}
+use Rattle.std.proofs.Common.{length, Option, Some, None, refl, sym, ap}
 use Rattle.std.proofs.Common.{subst, ◌∙◌, arith, get_or, set, inl, inr, ⊎_elim}
 use mathlib.Core.Logic.{dite}
 use mathlib.Core.Option as M
@@ -27,10 +28,13 @@ use Rattle.live_pages.specs.declared.views.Holder.{Holder}
 use Rattle.live_pages.specs.declared.views.View.{View}
 use Rattle.live_pages.specs.declared.views.View.TheVariants.{Passing, Keeping, Spent}
 use Rattle.live_pages.specs.Touches.{touched, answer, Given, ended_of, after, mine}
-use Rattle.live_pages.specs.Turns.{turn_at, ticket_at, current, hand_of, binding_in, binding_at, having_made, page_of, admitted, bound_anew, Draws, Binds}
+use Rattle.live_pages.specs.Turns.{turn_at, ticket_at, current, hand_of, binding_in, binding_at, having_made, page_of}
+use Rattle.live_pages.specs.Turns.{admitted, bound_anew, Draws, Binds}
 use Rattle.live_pages.specs.Kept.{BookOk, HandOk, HoldsHand, SeatOk}
-use Rattle.live_pages.proofs.Replay.{own_below, regiven_here, after_here, after_frame, after_else, after_next, regiven, regiven_binding, legal_next}
-use Rattle.live_pages.proofs.Replay.{left_next, bindings_stay, left_stays, left_touched, mine_here, mine_else, tickets_fit}
+use Rattle.live_pages.proofs.Replay.{own_below, regiven_here, after_here, after_frame, after_else, after_next, regiven}
+use Rattle.live_pages.proofs.Replay.{regiven_binding, legal_next}
+use Rattle.live_pages.proofs.Replay.{left_next, bindings_stay, left_stays, left_touched, mine_here, mine_else}
+use Rattle.live_pages.proofs.Replay.{tickets_fit}
 use Rattle.live_pages.proofs.Quiet.{set_at, InOrder}
 use Rattle.live_pages.proofs.Turning.{has_frame, plan_above, pass_above, holder_stands}
 
@@ -46,14 +50,17 @@ module _ (frames cpus : ℕ) (words : List ℕ) where
         let inside = ok.0 in (
           ok.0,
           ok.1,
-          (λ z. ok.2 (sym (get_or-set_other words (ticket_at frames cpus) (turn_at frames cpus g) n 0 (λ is. omega arith)) ∙ z)),
+          (λ z. ok.2 (sym (get_or-set_other words (ticket_at frames cpus) (turn_at frames cpus g) n 0
+              (λ is. omega arith)) ∙ z)),
           ok.3
               ∙ sym (after_frame given g (current plan.watch g) e log other),
         )
 
-    pub book_touched : (n : ℕ) → cpus ≤ 8 → n ≡ get_or words (ticket_at frames cpus) 0 → e.ticket ≡ n → e.cpu < plan.watch.made
+    pub book_touched : (n : ℕ) → cpus ≤ 8 → n ≡ get_or words (ticket_at frames cpus) 0 → e.ticket ≡ n
+        → e.cpu < plan.watch.made
         → e.binding ≡ current plan.watch e.frame → e.word ≡ answer e.touch (after given e.frame e.binding log)
-        → length (mine e.cpu log) < 2 ^ 32 → get_or plan.parts e.cpu Out ≡ Out → (page : List ℕ) (hand : Hand) → BookOk frames cpus words plan given log
+        → length (mine e.cpu log) < 2 ^ 32 → get_or plan.parts e.cpu Out ≡ Out → (page : List ℕ) (hand : Hand)
+        → BookOk frames cpus words plan given log
         → BookOk frames cpus (set words (ticket_at frames cpus) ((n + 1) % 2 ^ 64)) plan given (e ∷ log)
     book_touched n low is ticket cpu binding word few out page hand b =
         let count : n ≡ length log = is ∙ b.ticket in
@@ -69,7 +76,8 @@ module _ (frames cpus : ℕ) (words : List ℕ) where
           few = λ c. dite (ℕ_discrete e.cpu c)
               (λ (same : e.cpu ≡ c). let l = ap (λ xs. length xs) (mine_here c e log same) in
               let f' : length (mine c log) < 2 ^ 32 = subst (λ k. length (mine k log) < 2 ^ 32) same few in omega arith)
-              (λ (other : e.cpu ≢ c). let l = ap (λ xs. length xs) (mine_else c e log other) in let f' = b.few c in omega arith);
+              (λ (other : e.cpu ≢ c). let l = ap (λ xs. length xs) (mine_else c e log other) in let f' =
+              b.few c in omega arith);
           left = left_touched given plan.watch log plan.ended e binding b.left;
           zeros = b.zeros;
           given_is = b.given_is;
@@ -89,7 +97,8 @@ module _ (frames cpus : ℕ) (words : List ℕ) where
 
 module _ (z : Size) where
   -- the binding that a pass's entry names is the frame's at that moment
-  pub entry_is_current : (words : List ℕ) (plan : Watch) (p : Walk) (f b : ℕ) → PassOk z.frames z.cpus words plan p → get_or p.held f None ≡ Some b
+  pub entry_is_current : (words : List ℕ) (plan : Watch) (p : Walk) (f b : ℕ) → PassOk z.frames z.cpus words plan p
+      → get_or p.held f None ≡ Some b
       → binding_at p f ≡ current plan f
   entry_is_current words plan p f b ok e = ap binding_in e ∙ ⊎_elim (λ (t : get_or plan.doors f 0 ≡ 2 * b). even t)
       (λ (t : (get_or plan.doors f 0 ≡ 2 * b + 1) × (p.stamp ≤ get_or plan.since f 0)). odd t.0) (ok.entries f b e)
@@ -100,25 +109,40 @@ module _ (z : Size) where
       odd : get_or plan.doors f 0 ≡ 2 * b + 1 → b ≡ current plan f
       odd t = omega arith
 
-  pub draws : (id f : ℕ) (w : Walker) (hd : Held) (page : List ℕ) → z.cpus ≤ 8 → w.hand ≡ Has f page → hd.page ≡ touched hd.touch page
+  pub draws : (id f : ℕ) (w : Walker) (hd : Held) (page : List ℕ) → z.cpus ≤ 8 → w.hand ≡ Has f page → hd.page
+      ≡ touched hd.touch page
       → hd.word ≡ answer hd.touch page → length w.made < 2 ^ 32
-      → Allows (InOrder z) z.frames id (Passing w, (f, Some hd) ∷ []) (ticket_at z.frames z.cpus) (λ n. (n + 1) % 2 ^ 64)
+      → Allows (InOrder z) z.frames id (Passing w, (f, Some hd) ∷ []) (ticket_at z.frames z.cpus)
+      (λ n. (n + 1) % 2 ^ 64)
       (Draws (step z.frames (ticket_at z.frames z.cpus) 1 0 M.none) (Passing w, (f, Some hd) ∷ []))
   draws id f w hd page low has after_touch word few s h homes at fits =
       let own = h.seats_ok id (Passing w) at in
       let n : ℕ = get_or s.words (ticket_at z.frames z.cpus) 0 in
       let w' : Walker = having_made n f hd.touch hd.word hd.page w in
-      let e : Made = record { ticket = n; cpu = w.walk.cpu; frame = f; binding = binding_at w.walk f; touch = hd.touch; word = hd.word } in
+      let e : Made = record {
+        ticket = n;
+        cpu = w.walk.cpu;
+        frame = f;
+        binding = binding_at w.walk f;
+        touch =
+            hd.touch;
+        word = hd.word;
+      } in
       let hand = subst (HandOk z.frames z.cpus s.words h.plan.watch h.holder h.given h.log id) has own.1.hand_ok in
       let entry = subst (λ x. HoldsHand x w.walk) has own.1.holds in
-      let binding : binding_at w.walk f ≡ current h.plan.watch f = entry_is_current s.words h.plan.watch w.walk f entry.0 own.1.pass_ok entry.1 in
-      let page_is : page ≡ after h.given f (binding_at w.walk f) h.log = hand.3 ∙ ap (λ b. after h.given f b h.log) (sym binding) in
+      let binding : binding_at w.walk f ≡ current h.plan.watch f =
+      entry_is_current s.words h.plan.watch w.walk f entry.0 own.1.pass_ok entry.1 in
+      let page_is : page ≡ after h.given f (binding_at w.walk f) h.log = hand.3
+      ∙ ap (λ b. after h.given f b h.log) (sym binding) in
       let inside = hand.0 in
       let cpu : w.walk.cpu < h.plan.watch.made = own.1.pass_ok.made in
-      let mine_few : length (mine w.walk.cpu h.log) < 2 ^ 32 = subst (λ (l : List Made). length l < 2 ^ 32) own.1.made few in
+      let mine_few : length (mine w.walk.cpu h.log) < 2 ^ 32 =
+      subst (λ (l : List Made). length l < 2 ^ 32) own.1.made few in
       let m : ℕ = (n + 1) % 2 ^ 64 in
-      let stays : (g : ℕ) → g < z.frames → get_or (set s.words (ticket_at z.frames z.cpus) m) (turn_at z.frames z.cpus g) 0
-      ≡ get_or s.words (turn_at z.frames z.cpus g) 0 = λ g within. get_or-set_other s.words (ticket_at z.frames z.cpus) (turn_at z.frames z.cpus g) m 0
+      let stays : (g : ℕ) → g < z.frames → get_or (set s.words (ticket_at z.frames z.cpus) m)
+      (turn_at z.frames z.cpus g) 0
+      ≡ get_or s.words (turn_at z.frames z.cpus g) 0 =
+      λ g within. get_or-set_other s.words (ticket_at z.frames z.cpus) (turn_at z.frames z.cpus g) m 0
       (λ is. omega arith) in (
         Passing w',
         keeps,
@@ -130,11 +154,13 @@ module _ (z : Size) where
           holder = h.holder;
           given = h.given;
           log = e ∷ h.log;
-          book_ok = book_touched z.frames z.cpus s.words h.plan h.holder h.given h.log e n low refl refl cpu binding (word
+          book_ok = book_touched z.frames z.cpus s.words h.plan h.holder h.given h.log e n low refl refl cpu binding
+              (word
               ∙ ap (answer hd.touch) page_is) mine_few own.1.out page h.plan.hand h.book_ok;
           slots_ok = λ g within free.
               let old = h.slots_ok g within (sym (stays g within) ∙ free) in
-              let other : f ≢ g = λ is. hand.2 (ap (λ k. get_or s.words (turn_at z.frames z.cpus k) 0) is ∙ sym (stays g within) ∙ free) in
+              let other : f ≢ g = λ is. hand.2 (ap (λ k. get_or s.words (turn_at z.frames z.cpus k) 0) is
+              ∙ sym (stays g within) ∙ free) in
               (old.0, old.1, old.2 ∙ sym (after_frame h.given g (current h.plan.watch g) e h.log other));
           turns_ok = λ g within busy.
               let old = h.turns_ok g within (λ is. busy (stays g within ∙ is)) in
@@ -147,28 +173,42 @@ module _ (z : Size) where
                 ap (get_elem? (set s.views id (Passing w'))) here ∙ set_at s.views id (Passing w) (Passing w') at,
                 ap (λ k. Has k hd.page) frame,
               ))
-              (λ (other : h.holder g ≢ id). (old.0, old.1, set_else s.views id (h.holder g) (Passing w') other ∙ old.2, old.3));
-          seats_ok = seats_stay (SeatOk z.frames z.cpus (set s.words (ticket_at z.frames z.cpus) m) h.plan h.keeper h.seat_of h.holder h.given (e ∷ h.log))
+              (λ (other : h.holder g ≢ id). (
+                old.0,
+                old.1,
+                set_else s.views id (h.holder g) (Passing w') other
+                    ∙ old.2,
+                old.3,
+              ));
+          seats_ok = seats_stay (SeatOk z.frames z.cpus (set s.words (ticket_at z.frames z.cpus) m) h.plan h.keeper
+              h.seat_of h.holder h.given (e ∷ h.log))
               s.views id (Passing w') (
                 own.0,
                 record {
                   all = own.1.all;
-                  pass_ok = pass_above z.frames z.cpus s.words h.plan.watch w.walk (ticket_at z.frames z.cpus) m (omega arith) h.book_ok.plan_ok own.1.pass_ok;
+                  pass_ok = pass_above z.frames z.cpus s.words h.plan.watch w.walk (ticket_at z.frames z.cpus) m
+                      (omega arith) h.book_ok.plan_ok own.1.pass_ok;
                   made = ap (λ (l : List Made). e ∷ l) own.1.made ∙ sym (mine_here w.walk.cpu e h.log refl);
                   hand_ok = (
                     hand.0,
                     hand.1,
                     (λ is. hand.2 (sym (stays f hand.0) ∙ is)),
-                    after_touch ∙ ap (touched hd.touch) hand.3 ∙ sym (after_here h.given f (current h.plan.watch f) e h.log refl binding),
+                    after_touch ∙ ap (touched hd.touch) hand.3
+                        ∙ sym (after_here h.given f (current h.plan.watch f) e h.log refl binding),
                   );
                   holds = entry;
                   out = own.1.out;
                 },
               )
-              (λ j v other there. others s.words h.plan h.keeper h.seat_of h.holder h.given h.log e m own.0 hand.1 refl refl h.book_ok.plan_ok j v other
+              (λ j v other there. others s.words h.plan h.keeper h.seat_of h.holder h.given h.log e m own.0 hand.1 refl
+              refl h.book_ok.plan_ok j v other
               (h.seats_ok j v there));
         },
-        λ g k rest is. (own_below h.given h.log w.made n w.walk.cpu h.book_ok.legal own.1.made h.book_ok.ticket, told n g k rest is),
+        λ g k rest is. (
+          own_below h.given h.log w.made n w.walk.cpu h.book_ok.legal own.1.made h.book_ok.ticket,
+          told n
+              g k rest is,
+        ),
       )
     where
       told : (n : ℕ) (g : ℕ) (k : Held) (rest : List (ℕ × Option Held)) → (f, Some hd) ∷ [] ≡ (g, Some k) ∷ rest
@@ -176,7 +216,11 @@ module _ (z : Size) where
             Passing (having_made n f hd.touch hd.word hd.page w),
             (f, Some hd) ∷ [],
           ) (Passing (having_made n g k.touch k.word k.page w), (f, Some hd) ∷ [])
-      told n g k rest is i = (Passing (having_made n (first_of (is i)) (held_of (is i)).touch (held_of (is i)).word (held_of (is i)).page w), (f, Some hd) ∷ [])
+      told n g k rest is i = (
+        Passing (having_made n (first_of (is i)) (held_of (is i)).touch (held_of (is i)).word
+            (held_of (is i)).page w),
+        (f, Some hd) ∷ [],
+      )
         where
           first_of : List (ℕ × Option Held) → ℕ
           first_of [] = 0
@@ -190,16 +234,21 @@ module _ (z : Size) where
           held_of [] = hd
           held_of (x ∷ xs) = held_in x.1
 
-      others : (words : List ℕ) (plan : Holder) (keeper : ℕ) (seat_of holder : ℕ → ℕ) (given : Given) (log : List Made) (e : Made) (m : ℕ)
+      others : (words : List ℕ) (plan : Holder) (keeper : ℕ) (seat_of holder : ℕ → ℕ) (given : Given) (log : List Made)
+          (e : Made) (m : ℕ)
           → seat_of w.walk.cpu ≡ id → holder f ≡ id → e.frame ≡ f → e.cpu ≡ w.walk.cpu
-          → PlanOk z.frames z.cpus words plan.watch → (j : ℕ) (v : View) → j ≢ id → SeatOk z.frames z.cpus words plan keeper seat_of holder given log j v
-          → SeatOk z.frames z.cpus (set words (ticket_at z.frames z.cpus) m) plan keeper seat_of holder given (e ∷ log) j v
+          → PlanOk z.frames z.cpus words plan.watch → (j : ℕ) (v : View) → j ≢ id
+          → SeatOk z.frames z.cpus words plan keeper seat_of holder given log j v
+          → SeatOk z.frames z.cpus (set words (ticket_at z.frames z.cpus) m) plan keeper seat_of holder given (e ∷ log)
+          j v
       others words plan keeper seat_of holder given log e m here holds frame cpu k j (Passing q) other ok = (
         ok.0,
         record {
           all = ok.1.all;
-          pass_ok = pass_above z.frames z.cpus words plan.watch q.walk (ticket_at z.frames z.cpus) m (omega arith) k ok.1.pass_ok;
-          made = ok.1.made ∙ sym (mine_else q.walk.cpu e log (λ is. other (sym ok.0 ∙ ap seat_of (sym is ∙ cpu) ∙ here)));
+          pass_ok = pass_above z.frames z.cpus words plan.watch q.walk (ticket_at z.frames z.cpus) m (omega arith) k
+              ok.1.pass_ok;
+          made = ok.1.made ∙ sym (mine_else q.walk.cpu e log
+              (λ is. other (sym ok.0 ∙ ap seat_of (sym is ∙ cpu) ∙ here)));
           hand_ok = hand_else z.frames z.cpus words plan holder given log e j q.hand m
               (apart words plan holder given log e holds frame j q.hand other ok.1.hand_ok) ok.1.hand_ok;
           holds = ok.1.holds;
@@ -207,97 +256,112 @@ module _ (z : Size) where
         },
       )
         where
-          apart : (words : List ℕ) (plan : Holder) (holder : ℕ → ℕ) (given : Given) (log : List Made) (e : Made) → holder f ≡ id → e.frame ≡ f
-              → (j : ℕ) (hand : Hand) → j ≢ id → HandOk z.frames z.cpus words plan.watch holder given log j hand → (page : List ℕ) → hand ≡ Has e.frame page → ⊥
+          apart : (words : List ℕ) (plan : Holder) (holder : ℕ → ℕ) (given : Given) (log : List Made) (e : Made)
+              → holder f ≡ id → e.frame ≡ f
+              → (j : ℕ) (hand : Hand) → j ≢ id → HandOk z.frames z.cpus words plan.watch holder given log j hand
+              → (page : List ℕ) → hand ≡ Has e.frame page → ⊥
           apart words plan holder given log e holds frame j hand other ok page is =
-              other (sym (subst (HandOk z.frames z.cpus words plan.watch holder given log j) is ok).1 ∙ ap holder frame ∙ holds)
+              other (sym (subst (HandOk z.frames z.cpus words plan.watch holder given log j) is ok).1 ∙ ap holder frame
+              ∙ holds)
       others words plan keeper seat_of holder given log e m here holds frame cpu k j (Keeping u) other ok = (
         ok.0,
         ok.1,
         hand_else z.frames z.cpus words plan holder given log e j u.hand m
-            (λ page is. other (sym (subst (HandOk z.frames z.cpus words plan.watch holder given log j) is ok.2).1 ∙ ap holder frame ∙ holds)) ok.2,
+            (λ page is. other (sym (subst (HandOk z.frames z.cpus words plan.watch holder given log j) is ok.2).1
+            ∙ ap holder frame ∙ holds)) ok.2,
       )
       others words plan keeper seat_of holder given log e m here holds frame cpu k j (Spent u) other ok = tt
 
-module _ (frames cpus : ℕ) (words : List ℕ) (w : Watch) (f : ℕ) (inside : f < frames) (k : PlanOk frames cpus words w) where
-  next : ℕ
-  next = 2 * (get_or w.doors f 0 / 2 + 1)
+module _ (frames cpus : ℕ) (words : List ℕ) (w : Watch) (f : ℕ) (inside : f < frames) (k : PlanOk frames cpus words w)
+  where
+    next : ℕ
+    next = 2 * (get_or w.doors f 0 / 2 + 1)
 
-  door_here : get_or (set w.doors f (2 * (get_or w.doors f 0 / 2 + 1))) f 0 ≡ 2 * (get_or w.doors f 0 / 2 + 1)
-  door_here = get_or-set_same w.doors f (2 * (get_or w.doors f 0 / 2 + 1)) 0 (let r = k.doors_row in omega arith)
+    door_here : get_or (set w.doors f (2 * (get_or w.doors f 0 / 2 + 1))) f 0 ≡ 2 * (get_or w.doors f 0 / 2 + 1)
+    door_here = get_or-set_same w.doors f (2 * (get_or w.doors f 0 / 2 + 1)) 0 (let r = k.doors_row in omega arith)
 
-  door_else : (g : ℕ) → g ≢ f → get_or (set w.doors f (2 * (get_or w.doors f 0 / 2 + 1))) g 0 ≡ get_or w.doors g 0
-  door_else g other = get_or-set_other w.doors f g (2 * (get_or w.doors f 0 / 2 + 1)) 0 other
+    door_else : (g : ℕ) → g ≢ f → get_or (set w.doors f (2 * (get_or w.doors f 0 / 2 + 1))) g 0 ≡ get_or w.doors g 0
+    door_else g other = get_or-set_other w.doors f g (2 * (get_or w.doors f 0 / 2 + 1)) 0 other
 
-  -- the frame's next binding is current, and no other frame's
-  pub current_next : current (admitted f w) f ≡ current w f + 1
-  current_next = ap (λ x. x / 2) door_here ∙ halved (get_or w.doors f 0 / 2 + 1)
-    where
-      halved : (x : ℕ) → (2 * x) / 2 ≡ x
-      halved x = omega arith
+    -- the frame's next binding is current, and no other frame's
+    pub current_next : current (admitted f w) f ≡ current w f + 1
+    current_next = ap (λ x. x / 2) door_here ∙ halved (get_or w.doors f 0 / 2 + 1)
+      where
+        halved : (x : ℕ) → (2 * x) / 2 ≡ x
+        halved x = omega arith
 
-  pub current_else : (g : ℕ) → g ≢ f → current (admitted f w) g ≡ current w g
-  current_else g other = ap (λ x. x / 2) (door_else g other)
+    pub current_else : (g : ℕ) → g ≢ f → current (admitted f w) g ≡ current w g
+    current_else g other = ap (λ x. x / 2) (door_else g other)
 
-  pub current_up : (g : ℕ) → current w g ≤ current (admitted f w) g
-  current_up g = dite (ℕ_discrete g f) (λ (same : g ≡ f). subst (λ j. current w j ≤ current (admitted f w) j) (sym same)
-      (subst (λ j. current w f ≤ j) (sym current_next) (omega arith))) (λ (other : g ≢ f).
-      subst (λ j. current w g ≤ j) (sym (current_else g other)) (omega arith))
+    pub current_up : (g : ℕ) → current w g ≤ current (admitted f w) g
+    current_up g = dite (ℕ_discrete g f) (λ (same : g ≡ f). subst (λ j. current w j ≤ current (admitted f w) j) (sym same)
+        (subst (λ j. current w f ≤ j) (sym current_next) (omega arith))) (λ (other : g ≢ f).
+        subst (λ j. current w g ≤ j) (sym (current_else g other)) (omega arith))
 
-  pub last_next : (b : Bound) (bs : List Bound) → b.frame ≡ f → ((g : ℕ) → current w g ≡ ended_of g bs) → (g : ℕ)
-      → current (admitted f w) g ≡ ended_of g (b ∷ bs)
-  last_next b bs here last g =
-      dite (ℕ_discrete g f)
-      (λ (same : g ≡ f). subst (λ j. current (admitted f w) j ≡ ended_of j (b ∷ bs)) (sym same) (current_next ∙ ap (λ x. x + 1) (last f)
-      ∙ ap (λ t. cond t (ended_of f bs + 1) (ended_of f bs)) (sym (eq-eqb b.frame f here))))
-      (λ (other : g ≢ f). current_else g other ∙ last g ∙ ap (λ t. cond t (ended_of g bs + 1) (ended_of g bs))
-      (sym (ne_eqb b.frame g (λ e. other (sym e ∙ here)))))
+    pub last_next : (b : Bound) (bs : List Bound) → b.frame ≡ f → ((g : ℕ) → current w g ≡ ended_of g bs) → (g : ℕ)
+        → current (admitted f w) g ≡ ended_of g (b ∷ bs)
+    last_next b bs here last g =
+        dite (ℕ_discrete g f)
+        (λ (same : g ≡ f). subst (λ j. current (admitted f w) j ≡ ended_of j (b ∷ bs)) (sym same)
+        (current_next ∙ ap (λ x. x + 1) (last f)
+        ∙ ap (λ t. cond t (ended_of f bs + 1) (ended_of f bs)) (sym (eq-eqb b.frame f here))))
+        (λ (other : g ≢ f). current_else g other ∙ last g ∙ ap (λ t. cond t (ended_of g bs + 1) (ended_of g bs))
+        (sym (ne_eqb b.frame g (λ e. other (sym e ∙ here)))))
 
-  pub plan_admitted : PlanOk frames cpus (set words (door_at f) (2 * (get_or w.doors f 0 / 2 + 1))) (admitted f w)
-  plan_admitted = let n : ℕ = 2 * (get_or w.doors f 0 / 2 + 1) in record {
-    room = (let l = length-set words (door_at f) n in let r = k.room in omega arith);
-    doors_row = length-set w.doors f n ∙ k.doors_row;
-    since_row = k.since_row;
-    noted_row = k.noted_row;
-    made = k.made;
-    request = get_or-set_other words (door_at f) 0 n 0 (λ e. omega arith) ∙ k.request;
-    doors = λ g within. dite (ℕ_discrete g f)
-        (λ (same : g ≡ f). subst (λ j. get_or (set words (door_at f) n) (door_at j) 0 ≡ get_or (set w.doors f n) j 0) (sym same)
-        (get_or-set_same words (door_at f) n 0 (let r = k.room in omega arith) ∙ sym door_here))
-        (λ (other : g ≢ f). get_or-set_other words (door_at f) (door_at g) n 0 (λ e. other (omega arith)) ∙ k.doors g within ∙ sym (door_else g other));
-    least = λ g within. dite (ℕ_discrete g f)
-        (λ (same : g ≡ f). subst (λ j. 1 ≤ get_or (set w.doors f n) j 0) (sym same) (subst (λ j. 1 ≤ j) (sym door_here) (omega arith)))
-        (λ (other : g ≢ f). subst (λ j. 1 ≤ j) (sym (door_else g other)) (k.least g within));
-    noted = λ c within. subst (λ j. get_or w.noted c 0 ≤ j) (sym (get_or-set_other words (door_at f) (ack_at frames c) n 0 (λ e. omega arith)))
-        (k.noted c within);
-    unmade = λ c above within. get_or-set_other words (door_at f) (ack_at frames c) n 0 (λ e. omega arith) ∙ k.unmade c above within;
-  }
+    pub plan_admitted : PlanOk frames cpus (set words (door_at f) (2 * (get_or w.doors f 0 / 2 + 1))) (admitted f w)
+    plan_admitted = let n : ℕ = 2 * (get_or w.doors f 0 / 2 + 1) in record {
+      room = (let l = length-set words (door_at f) n in let r = k.room in omega arith);
+      doors_row = length-set w.doors f n ∙ k.doors_row;
+      since_row = k.since_row;
+      noted_row = k.noted_row;
+      made = k.made;
+      request = get_or-set_other words (door_at f) 0 n 0 (λ e. omega arith) ∙ k.request;
+      doors = λ g within. dite (ℕ_discrete g f)
+          (λ (same : g ≡ f). subst (λ j. get_or (set words (door_at f) n) (door_at j) 0 ≡ get_or (set w.doors f n) j 0)
+          (sym same)
+          (get_or-set_same words (door_at f) n 0 (let r = k.room in omega arith) ∙ sym door_here))
+          (λ (other : g ≢ f). get_or-set_other words (door_at f) (door_at g) n 0 (λ e. other (omega arith))
+          ∙ k.doors g within ∙ sym (door_else g other));
+      least = λ g within. dite (ℕ_discrete g f)
+          (λ (same : g ≡ f). subst (λ j. 1 ≤ get_or (set w.doors f n) j 0) (sym same)
+          (subst (λ j. 1 ≤ j) (sym door_here) (omega arith)))
+          (λ (other : g ≢ f). subst (λ j. 1 ≤ j) (sym (door_else g other)) (k.least g within));
+      noted = λ c within. subst (λ j. get_or w.noted c 0 ≤ j)
+          (sym (get_or-set_other words (door_at f) (ack_at frames c) n 0 (λ e. omega arith)))
+          (k.noted c within);
+      unmade = λ c above within. get_or-set_other words (door_at f) (ack_at frames c) n 0 (λ e. omega arith)
+          ∙ k.unmade c above within;
+    }
 
-  pub pass_admitted : (q : Walk) → ((b : ℕ) → get_or q.held f None ≡ Some b → ⊥) → PassOk frames cpus words w q
-      → PassOk frames cpus (set words (door_at f) (2 * (get_or w.doors f 0 / 2 + 1))) (admitted f w) q
-  pass_admitted q none ok = let n : ℕ = 2 * (get_or w.doors f 0 / 2 + 1) in record {
-    made = ok.made;
-    row = ok.row;
-    stamp = ok.stamp;
-    word = get_or-set_other words (door_at f) (ack_at frames q.cpu) n 0 (λ e. omega arith) ∙ ok.word;
-    acked = ok.acked;
-    bound = ok.bound;
-    entries = λ g b e. dite (ℕ_discrete g f)
-        (λ (same : g ≡ f). absurd (none b (subst (λ j. get_or q.held j None ≡ Some b) same e)))
-        (λ (other : g ≢ f). subst (λ j. EntryOk j (get_or w.since g 0) q.stamp b) (sym (door_else g other)) (ok.entries g b e));
-  }
+    pub pass_admitted : (q : Walk) → ((b : ℕ) → get_or q.held f None ≡ Some b → ⊥) → PassOk frames cpus words w q
+        → PassOk frames cpus (set words (door_at f) (2 * (get_or w.doors f 0 / 2 + 1))) (admitted f w) q
+    pass_admitted q none ok = let n : ℕ = 2 * (get_or w.doors f 0 / 2 + 1) in record {
+      made = ok.made;
+      row = ok.row;
+      stamp = ok.stamp;
+      word = get_or-set_other words (door_at f) (ack_at frames q.cpu) n 0 (λ e. omega arith) ∙ ok.word;
+      acked = ok.acked;
+      bound = ok.bound;
+      entries = λ g b e. dite (ℕ_discrete g f)
+          (λ (same : g ≡ f). absurd (none b (subst (λ j. get_or q.held j None ≡ Some b) same e)))
+          (λ (other : g ≢ f). subst (λ j. EntryOk j (get_or w.since g 0) q.stamp b) (sym (door_else g other))
+          (ok.entries g b e));
+    }
 
 module _ (z : Size) where
-  pub binds : (id f cleared : ℕ) (k : Holder) (hd : Held) (page : List ℕ) → k.hand ≡ Has f page → HasNoted k.watch cleared → MayBind k.watch cleared f
+  pub binds : (id f cleared : ℕ) (k : Holder) (hd : Held) (page : List ℕ) → k.hand ≡ Has f page
+      → HasNoted k.watch cleared → MayBind k.watch cleared f
       → Allows (InOrder z) z.frames id (Keeping k, (f, Some hd) ∷ []) (door_at f) (λ _. 2 * (current k.watch f + 1))
-      (λ _. Binds (step z.frames (door_at f) (2 * (current k.watch f + 1)) 0 M.none) (Keeping k, (f, Some hd) ∷ []) (2 * (current k.watch f + 1)))
+      (λ _. Binds (step z.frames (door_at f) (2 * (current k.watch f + 1)) 0 M.none) (Keeping k, (f, Some hd) ∷ [])
+      (2 * (current k.watch f + 1)))
   binds id f cleared k hd page has noted may s h homes at fits =
       let own = h.seats_ok id (Keeping k) at in
       let n : ℕ = 2 * (current k.watch f + 1) in
       let words' : List ℕ = set s.words (door_at f) n in
       let k' : Holder = bound_anew f hd.page k in
       let given' : Given = regiven f (current k.watch f + 1) hd.page h.given in
-      let book : BookOk z.frames z.cpus s.words k h.given h.log = subst (λ p. BookOk z.frames z.cpus s.words p h.given h.log) (sym own.1) h.book_ok in
+      let book : BookOk z.frames z.cpus s.words k h.given h.log =
+      subst (λ p. BookOk z.frames z.cpus s.words p h.given h.log) (sym own.1) h.book_ok in
       let hand : HandOk z.frames z.cpus s.words k.watch h.holder h.given h.log id (Has f page) =
       subst (HandOk z.frames z.cpus s.words k.watch h.holder h.given h.log id) has
       (subst (λ p. HandOk z.frames z.cpus s.words p.watch h.holder h.given h.log id k.hand) (sym own.1) own.2) in
@@ -320,31 +384,39 @@ module _ (z : Size) where
             parts = book.parts;
             ticket = stays (ticket_at z.frames z.cpus) (omega arith) ∙ book.ticket;
             legal = legal_next z.cpus k.watch f hd.page h.given h.log book.bindings book.legal;
-            bindings = bindings_stay z.cpus k.watch (admitted f k.watch) h.log (current_up z.frames z.cpus s.words k.watch f inside book.plan_ok) book.bindings;
+            bindings = bindings_stay z.cpus k.watch (admitted f k.watch) h.log
+                (current_up z.frames z.cpus s.words k.watch f inside book.plan_ok) book.bindings;
             few = book.few;
             left = (
-              left_stays given' k.watch (admitted f k.watch) h.log k.ended (current_up z.frames z.cpus s.words k.watch f inside book.plan_ok)
+              left_stays given' k.watch (admitted f k.watch) h.log k.ended
+                  (current_up z.frames z.cpus s.words k.watch f inside book.plan_ok)
                   (left_next k.watch f hd.page h.given h.log k.ended book.left),
-              subst (λ j. current k.watch f < j) (sym (current_next z.frames z.cpus s.words k.watch f inside book.plan_ok)) (omega arith),
-              ap page_of has ∙ hand.3 ∙ sym (after_else f (current k.watch f + 1) hd.page h.given f (current k.watch f) h.log (inr (λ e. omega arith))),
+              subst (λ j. current k.watch f < j) (sym (current_next z.frames z.cpus s.words k.watch f inside
+                  book.plan_ok)) (omega arith),
+              ap page_of has ∙ hand.3 ∙ sym (after_else f (current k.watch f + 1) hd.page h.given f (current k.watch f)
+                  h.log (inr (λ e. omega arith))),
               sym (regiven_here f (current k.watch f + 1) hd.page h.given),
             );
-            zeros = λ g. regiven_binding f (current k.watch f + 1) hd.page h.given g 0 (λ e. omega arith) ∙ book.zeros g;
+            zeros = λ g. regiven_binding f (current k.watch f + 1) hd.page h.given g 0 (λ e. omega arith)
+                ∙ book.zeros g;
             given_is = λ g b. ap (cond (eqb g f && eqb b (current k.watch f + 1)) hd.page) (book.given_is g b);
             in_turn = (book.in_turn, book.last f);
             last = last_next z.frames z.cpus s.words k.watch f inside book.plan_ok record
-                { frame = f; binding = current k.watch f; left = page_of k.hand; next = hd.page } k.ended refl book.last;
+                { frame = f; binding = current k.watch f; left = page_of k.hand; next = hd.page } k.ended refl
+                book.last;
             unmade = book.unmade;
             taken_in = book.taken_in;
           };
           slots_ok = λ g within free.
-              let was : get_or s.words (turn_at z.frames z.cpus g) 0 ≡ 0 = sym (stays (turn_at z.frames z.cpus g) (omega arith)) ∙ free in
+              let was : get_or s.words (turn_at z.frames z.cpus g) 0 ≡ 0 =
+              sym (stays (turn_at z.frames z.cpus g) (omega arith)) ∙ free in
               let old = h.slots_ok g within was in
               let other : g ≢ f = λ e. hand.2 (ap (λ j. get_or s.words (turn_at z.frames z.cpus j) 0) (sym e) ∙ was) in (
                 old.0,
                 old.1,
                 old.2 ∙ ap (λ p. after h.given g (current p.watch g) h.log) (sym own.1)
-                    ∙ moved k.watch h.given h.log g other (current_else z.frames z.cpus s.words k.watch f inside book.plan_ok g other),
+                    ∙ moved k.watch h.given h.log g other
+                    (current_else z.frames z.cpus s.words k.watch f inside book.plan_ok g other),
               );
           turns_ok = λ g within busy.
               let old = h.turns_ok g within (λ e. busy (stays (turn_at z.frames z.cpus g) (omega arith) ∙ e)) in
@@ -357,26 +429,37 @@ module _ (z : Size) where
                 ap (get_elem? (set s.views id (Keeping k'))) here ∙ set_at s.views id (Keeping k) (Keeping k') at,
                 ap (λ j. Has j hd.page) frame,
               ))
-              (λ (other : h.holder g ≢ id). (old.0, old.1, set_else s.views id (h.holder g) (Keeping k') other ∙ old.2, old.3));
-          seats_ok = seats_stay (SeatOk z.frames z.cpus words' k' h.keeper h.seat_of h.holder given' h.log) s.views id (Keeping k') (
-            own.0,
-            refl,
-            (
-              inside,
-              hand.1,
-              (λ e. hand.2 (sym (stays (turn_at z.frames z.cpus f) (omega arith)) ∙ e)),
-              sym (after_next z.cpus k.watch f hd.page h.given h.log book.bindings)
-                  ∙ ap (λ b. after given' f b h.log) (sym (current_next z.frames z.cpus s.words k.watch f inside book.plan_ok)),
-            ),
-          )
-              (λ j v other there. others s.words h.keeper h.seat_of h.holder h.given h.log inside own.0 hand.1 book.plan_ok stays j v other
-              (subst (λ p. SeatOk z.frames z.cpus s.words p h.keeper h.seat_of h.holder h.given h.log j v) (sym own.1) (h.seats_ok j v there)));
+              (λ (other : h.holder g ≢ id). (
+                old.0,
+                old.1,
+                set_else s.views id (h.holder g) (Keeping k') other
+                    ∙ old.2,
+                old.3,
+              ));
+          seats_ok = seats_stay (SeatOk z.frames z.cpus words' k' h.keeper h.seat_of h.holder given' h.log) s.views id
+              (Keeping k') (
+                own.0,
+                refl,
+                (
+                  inside,
+                  hand.1,
+                  (λ e. hand.2 (sym (stays (turn_at z.frames z.cpus f) (omega arith)) ∙ e)),
+                  sym (after_next z.cpus k.watch f hd.page h.given h.log book.bindings)
+                      ∙ ap (λ b. after given' f b h.log) (sym
+                      (current_next z.frames z.cpus s.words k.watch f inside book.plan_ok)),
+                ),
+              )
+              (λ j v other there. others s.words h.keeper h.seat_of h.holder h.given h.log inside own.0 hand.1
+              book.plan_ok stays j v other
+              (subst (λ p. SeatOk z.frames z.cpus s.words p h.keeper h.seat_of h.holder h.given h.log j v) (sym own.1)
+              (h.seats_ok j v there)));
         },
         λ g x rest is. told g x rest is,
       )
     where
       told : (g : ℕ) (x : Held) (rest : List (ℕ × Option Held)) → (f, Some hd) ∷ [] ≡ (g, Some x) ∷ rest
-          → ◌≡◌ {A = Me (Option Held) View} (Keeping (bound_anew f hd.page k), (f, Some hd) ∷ []) (Keeping (bound_anew g x.page k), (f, Some hd) ∷ [])
+          → ◌≡◌ {A = Me (Option Held) View} (Keeping (bound_anew f hd.page k), (f, Some hd) ∷ [])
+          (Keeping (bound_anew g x.page k), (f, Some hd) ∷ [])
       told g x rest is i = (Keeping (bound_anew (first_of (is i)) (held_of (is i)).page k), (f, Some hd) ∷ [])
         where
           first_of : List (ℕ × Option Held) → ℕ
@@ -391,13 +474,18 @@ module _ (z : Size) where
           held_of [] = hd
           held_of (y ∷ ys) = held_in y.1
 
-      moved : (plan : Watch) (given : Given) (log : List Made) (g : ℕ) → g ≢ f → current (admitted f plan) g ≡ current plan g
-          → after given g (current plan g) log ≡ after (regiven f (current plan f + 1) hd.page given) g (current (admitted f plan) g) log
-      moved plan given log g other same = sym (after_else f (current plan f + 1) hd.page given g (current plan g) log (inl other))
+      moved : (plan : Watch) (given : Given) (log : List Made) (g : ℕ) → g ≢ f → current (admitted f plan) g
+          ≡ current plan g
+          → after given g (current plan g) log ≡ after (regiven f (current plan f + 1) hd.page given) g
+          (current (admitted f plan) g) log
+      moved plan given log g other same = sym (after_else f (current plan f + 1) hd.page given g (current plan g) log
+          (inl other))
           ∙ ap (λ b. after (regiven f (current plan f + 1) hd.page given) g b log) (sym same)
 
-      hand_moved : (words : List ℕ) (holder : ℕ → ℕ) (given : Given) (log : List Made) → f < z.frames → holder f ≡ id → PlanOk z.frames z.cpus words k.watch
-          → ((i : ℕ) → 1 + z.frames + z.cpus ≤ i → get_or (set words (door_at f) (2 * (current k.watch f + 1))) i 0 ≡ get_or words i 0)
+      hand_moved : (words : List ℕ) (holder : ℕ → ℕ) (given : Given) (log : List Made) → f < z.frames → holder f ≡ id
+          → PlanOk z.frames z.cpus words k.watch
+          → ((i : ℕ) → 1 + z.frames + z.cpus ≤ i → get_or (set words (door_at f) (2 * (current k.watch f + 1))) i 0
+          ≡ get_or words i 0)
           → (j : ℕ) (hand : Hand) → j ≢ id → HandOk z.frames z.cpus words k.watch holder given log j hand
           → HandOk z.frames z.cpus (set words (door_at f) (2 * (current k.watch f + 1))) (admitted f k.watch) holder
           (regiven f (current k.watch f + 1) hd.page given) log j hand
@@ -411,12 +499,15 @@ module _ (z : Size) where
                 ∙ moved k.watch given log g apart (current_else z.frames z.cpus words k.watch f inside p g apart),
           )
 
-      others : (words : List ℕ) (keeper : ℕ) (seat_of holder : ℕ → ℕ) (given : Given) (log : List Made) → f < z.frames → keeper ≡ id → holder f ≡ id
+      others : (words : List ℕ) (keeper : ℕ) (seat_of holder : ℕ → ℕ) (given : Given) (log : List Made) → f < z.frames
+          → keeper ≡ id → holder f ≡ id
           → PlanOk z.frames z.cpus words k.watch
-          → ((i : ℕ) → 1 + z.frames + z.cpus ≤ i → get_or (set words (door_at f) (2 * (current k.watch f + 1))) i 0 ≡ get_or words i 0) → (j : ℕ) (v : View)
+          → ((i : ℕ) → 1 + z.frames + z.cpus ≤ i → get_or (set words (door_at f) (2 * (current k.watch f + 1))) i 0
+          ≡ get_or words i 0) → (j : ℕ) (v : View)
           → j ≢ id
           → SeatOk z.frames z.cpus words k keeper seat_of holder given log j v
-          → SeatOk z.frames z.cpus (set words (door_at f) (2 * (current k.watch f + 1))) (bound_anew f hd.page k) keeper seat_of holder
+          → SeatOk z.frames z.cpus (set words (door_at f) (2 * (current k.watch f + 1))) (bound_anew f hd.page k)
+          keeper seat_of holder
           (regiven f (current k.watch f + 1) hd.page given) log j v
       others words keeper seat_of holder given log inside here holds p stays j (Passing q) other ok = (
         ok.0,
@@ -430,5 +521,6 @@ module _ (z : Size) where
           out = ok.1.out;
         },
       )
-      others words keeper seat_of holder given log inside here holds p stays j (Keeping u) other ok = absurd (other (sym ok.0 ∙ here))
+      others words keeper seat_of holder given log inside here holds p stays j (Keeping u) other ok =
+          absurd (other (sym ok.0 ∙ here))
       others words keeper seat_of holder given log inside here holds p stays j (Spent u) other ok = tt

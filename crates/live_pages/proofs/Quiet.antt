@@ -1,5 +1,6 @@
 -- The steps that leave turns, tickets and pages alone: they keep the rule as they keep that of the doors.
-use Rattle.std.proofs.Common.{◌≡◌, ◌≢◌, ℕ, suc, zero, ◌+◌, ◌/◌, ◌%◌, ◌<◌, ◌≤◌, Bool, true, false, eqb, List, [], ◌∷◌, length, Option, refl, sym, ap, subst}
+use Rattle.std.proofs.Common.{◌≡◌, ◌≢◌, ℕ, suc, zero, ◌+◌, ◌/◌, ◌%◌, ◌<◌, ◌≤◌, Bool, true, false, eqb, List, [], ◌∷◌}
+use Rattle.std.proofs.Common.{length, Option, refl, sym, ap, subst}
 use Rattle.std.proofs.Common.{◌∙◌, arith, get_or, set}
 use mathlib.Core.Logic.{dite}
 use mathlib.Core.Option as M
@@ -13,7 +14,8 @@ use Rattle.live_doors.specs.declared.views.Watch.{Watch}
 use Rattle.live_doors.specs.Doors.{having_noted, forgotten, acknowledged, shut, raised}
 use Rattle.live_doors.specs.Steps.{door_at, ack_at, filled_if, filled}
 use Rattle.live_doors.specs.Kept.{PlanOk, PassOk}
-use Rattle.live_doors.specs.Laws.{filled_ok, forgotten_ok, plan_acknowledged, acknowledged_ok, pass_stays, plan_shut, pass_shut, plan_raised, pass_raised}
+use Rattle.live_doors.specs.Laws.{filled_ok, forgotten_ok, plan_acknowledged, acknowledged_ok, pass_stays, plan_shut}
+use Rattle.live_doors.specs.Laws.{pass_shut, plan_raised, pass_raised}
 use Rattle.live_doors.specs.Laws.{plan_noted, pass_noted, seats_stay}
 use Rattle.live_pages.specs.declared.rule.Held.{Held}
 use Rattle.live_pages.specs.declared.rule.Size.{Size}
@@ -25,7 +27,8 @@ use Rattle.live_pages.specs.declared.views.Holder.{Holder}
 use Rattle.live_pages.specs.declared.views.View.{View}
 use Rattle.live_pages.specs.declared.views.View.TheVariants.{Passing, Keeping, Spent}
 use Rattle.live_pages.specs.Touches.{Given, after, mine}
-use Rattle.live_pages.specs.Turns.{turn_at, ticket_at, current, hand_of, walking, watching, Fills, Forgets, Acknowledges, Closes, Raises, Looks}
+use Rattle.live_pages.specs.Turns.{turn_at, ticket_at, current, hand_of, walking, watching, Fills, Forgets}
+use Rattle.live_pages.specs.Turns.{Acknowledges, Closes, Raises, Looks}
 use Rattle.live_pages.specs.Kept.{BookOk, SlotsOk, TurnsOk, HandOk, HoldsHand, WalkerOk, SeatOk, Kept}
 use Rattle.live_pages.proofs.Replay.{bindings_stay, left_stays}
 
@@ -36,16 +39,24 @@ set_at (x ∷ xs) (suc i) a b e = set_at xs i a b e
 
 -- the words of turns and tickets are the same
 abbrev pub Quiet : ℕ → ℕ → List ℕ → List ℕ → Type 0
-Quiet frames cpus words words' = (length words' ≡ length words) × ((i : ℕ) → 1 + frames + cpus ≤ i → get_or words' i 0 ≡ get_or words i 0)
+Quiet frames cpus words words' = (length words' ≡ length words)
+    × ((i : ℕ) → 1 + frames + cpus ≤ i → get_or words' i 0 ≡ get_or words i 0)
 
-pub quiet_set : (frames cpus : ℕ) (words : List ℕ) (i n : ℕ) → i < 1 + frames + cpus → Quiet frames cpus words (set words i n)
-quiet_set frames cpus words i n low = (length-set words i n, λ j above. get_or-set_other words i j n 0 (λ e. omega arith))
+pub quiet_set : (frames cpus : ℕ) (words : List ℕ) (i n : ℕ) → i < 1 + frames + cpus
+    → Quiet frames cpus words (set words i n)
+quiet_set frames cpus words i n low = (
+  length-set words i n,
+  λ j above. get_or-set_other words i j n 0
+      (λ e. omega arith),
+)
 
 le_of_same : {x y : ℕ} → x ≡ y → y ≤ x
 le_of_same e = omega arith
 
-module _ (frames cpus : ℕ) (words words' : List ℕ) (given : Given) (log : List Made) (quiet : Quiet frames cpus words words') where
-  pub book_quiet : (plan : Holder) (w : Watch) → PlanOk frames cpus words' w → ((f : ℕ) → current w f ≡ current plan.watch f) → w.made ≡ plan.watch.made
+module _ (frames cpus : ℕ) (words words' : List ℕ) (given : Given) (log : List Made)
+    (quiet : Quiet frames cpus words words') where
+  pub book_quiet : (plan : Holder) (w : Watch) → PlanOk frames cpus words' w
+      → ((f : ℕ) → current w f ≡ current plan.watch f) → w.made ≡ plan.watch.made
       → BookOk frames cpus words plan given log → BookOk frames cpus words' (record plan { watch = w }) given log
   book_quiet plan w ok same made b = record {
     plan_ok = ok;
@@ -74,11 +85,14 @@ module _ (frames cpus : ℕ) (words words' : List ℕ) (given : Given) (log : Li
       (old.0, old.1, old.2 ∙ ap (λ b. after given f b log) (sym (same f)))
 
   pub hand_quiet : (holder : ℕ → ℕ) (plan w : Watch) (seat : ℕ) (hand : Hand) → ((f : ℕ) → current w f ≡ current plan f)
-      → HandOk frames cpus words plan holder given log seat hand → HandOk frames cpus words' w holder given log seat hand
+      → HandOk frames cpus words plan holder given log seat hand
+      → HandOk frames cpus words' w holder given log seat hand
   hand_quiet holder plan w seat Free same ok = tt
-  hand_quiet holder plan w seat (Has f page) same ok = (ok.0, ok.1, (λ e. ok.2 (sym (turn_stays f) ∙ e)), ok.3 ∙ ap (λ b. after given f b log) (sym (same f)))
+  hand_quiet holder plan w seat (Has f page) same ok =
+      (ok.0, ok.1, (λ e. ok.2 (sym (turn_stays f) ∙ e)), ok.3 ∙ ap (λ b. after given f b log) (sym (same f)))
 
-  pub turns_quiet : (views : List View) (holder : ℕ → ℕ) (id : ℕ) (v v' : View) → get_elem? views id ≡ M.some v → hand_of v' ≡ hand_of v
+  pub turns_quiet : (views : List View) (holder : ℕ → ℕ) (id : ℕ) (v v' : View) → get_elem? views id ≡ M.some v
+      → hand_of v' ≡ hand_of v
       → TurnsOk frames cpus words views holder → TurnsOk frames cpus words' (set views id v') holder
   turns_quiet views holder id v v' at same ok f inside taken =
       let old = ok f inside (λ e. taken (turn_stays f ∙ e)) in
@@ -88,7 +102,8 @@ module _ (frames cpus : ℕ) (words words' : List ℕ) (given : Given) (log : Li
       (v', old.1, ap (get_elem? (set views id v')) here ∙ set_at views id v v' at, same ∙ sym (ap hand_of is) ∙ old.3))
       (λ (other : holder f ≢ id). (old.0, old.1, set_else views id (holder f) v' other ∙ old.2, old.3))
 
-  pub walker_quiet : (plan : Holder) (w : Watch) (holder : ℕ → ℕ) (seat : ℕ) (q : Walker) → ((f : ℕ) → current w f ≡ current plan.watch f)
+  pub walker_quiet : (plan : Holder) (w : Watch) (holder : ℕ → ℕ) (seat : ℕ) (q : Walker)
+      → ((f : ℕ) → current w f ≡ current plan.watch f)
       → PassOk frames cpus words' w q.walk → WalkerOk frames cpus words plan holder given log seat q
       → WalkerOk frames cpus words' (record plan { watch = w }) holder given log seat q
   walker_quiet plan w holder seat q same pass ok = record {
@@ -108,12 +123,14 @@ InOrder z s = Kept z s.words s.homes s.views
 
 module _ (z : Size) where
   -- a pass without a turn has read or stored a word
-  pub pass_stepped : (words words' : List ℕ) (homes : List (M.Option (Option Held))) (views : List View) (id : ℕ) (w : Walker) (change : Walk → Walk)
+  pub pass_stepped : (words words' : List ℕ) (homes : List (M.Option (Option Held))) (views : List View) (id : ℕ)
+      (w : Walker) (change : Walk → Walk)
       → (h : Kept z words homes views) → get_elem? views id ≡ M.some (Passing w) → w.hand ≡ Free
       → (change w.walk).cpu ≡ w.walk.cpu → Quiet z.frames z.cpus words words'
       → (PassOk z.frames z.cpus words h.plan.watch w.walk → PlanOk z.frames z.cpus words' h.plan.watch)
       → (PassOk z.frames z.cpus words h.plan.watch w.walk → PassOk z.frames z.cpus words' h.plan.watch (change w.walk))
-      → ((q : Walk) → q.cpu ≢ w.walk.cpu → PassOk z.frames z.cpus words h.plan.watch q → PassOk z.frames z.cpus words' h.plan.watch q)
+      → ((q : Walk) → q.cpu ≢ w.walk.cpu → PassOk z.frames z.cpus words h.plan.watch q
+      → PassOk z.frames z.cpus words' h.plan.watch q)
       → Kept z words' homes (set views id (Passing (walking change w)))
   pass_stepped words words' homes views id w change h at free cpu quiet plan own others =
       let mine = h.seats_ok id (Passing w) at in
@@ -124,25 +141,33 @@ module _ (z : Size) where
         holder = h.holder;
         given = h.given;
         log = h.log;
-        book_ok = book_quiet z.frames z.cpus words words' h.given h.log quiet h.plan h.plan.watch (plan mine.1.pass_ok) (λ f. refl) refl h.book_ok;
-        slots_ok = slots_quiet z.frames z.cpus words words' h.given h.log quiet homes h.plan.watch h.plan.watch (λ f. refl) h.slots_ok;
-        turns_ok = turns_quiet z.frames z.cpus words words' h.given h.log quiet views h.holder id (Passing w) (Passing (walking change w)) at refl h.turns_ok;
-        seats_ok = seats_stay (SeatOk z.frames z.cpus words' h.plan h.keeper h.seat_of h.holder h.given h.log) views id (Passing (walking change w)) (
-          ap h.seat_of cpu ∙ mine.0,
-          record {
-            all = mine.1.all;
-            pass_ok = own mine.1.pass_ok;
-            made = mine.1.made ∙ ap (λ c. Rattle.live_pages.specs.Touches.mine c h.log) (sym cpu);
-            hand_ok = subst (HandOk z.frames z.cpus words' h.plan.watch h.holder h.given h.log id) (sym free) tt;
-            holds = subst (λ k. HoldsHand k (change w.walk)) (sym free) tt;
-            out = ap (λ c. get_or h.plan.parts c Rattle.live_pages.specs.declared.views.Part.TheVariants.Out) cpu ∙ mine.1.out;
-          },
-        )
-            (λ j v other e. stays h.plan h.keeper h.seat_of h.holder h.given h.log mine.0 others j v other (h.seats_ok j v e));
+        book_ok = book_quiet z.frames z.cpus words words' h.given h.log quiet h.plan h.plan.watch (plan mine.1.pass_ok)
+            (λ f. refl) refl h.book_ok;
+        slots_ok = slots_quiet z.frames z.cpus words words' h.given h.log quiet homes h.plan.watch h.plan.watch
+            (λ f. refl) h.slots_ok;
+        turns_ok = turns_quiet z.frames z.cpus words words' h.given h.log quiet views h.holder id (Passing w)
+            (Passing (walking change w)) at refl h.turns_ok;
+        seats_ok = seats_stay (SeatOk z.frames z.cpus words' h.plan h.keeper h.seat_of h.holder h.given h.log) views id
+            (Passing (walking change w)) (
+              ap h.seat_of cpu ∙ mine.0,
+              record {
+                all = mine.1.all;
+                pass_ok = own mine.1.pass_ok;
+                made = mine.1.made ∙ ap (λ c. Rattle.live_pages.specs.Touches.mine c h.log) (sym cpu);
+                hand_ok = subst (HandOk z.frames z.cpus words' h.plan.watch h.holder h.given h.log id) (sym free) tt;
+                holds = subst (λ k. HoldsHand k (change w.walk)) (sym free) tt;
+                out = ap (λ c. get_or h.plan.parts c Rattle.live_pages.specs.declared.views.Part.TheVariants.Out) cpu
+                    ∙ mine.1.out;
+              },
+            )
+            (λ j v other e. stays h.plan h.keeper h.seat_of h.holder h.given h.log mine.0 others j v other
+            (h.seats_ok j v e));
       }
     where
-      stays : (plan : Holder) (keeper : ℕ) (seat_of holder : ℕ → ℕ) (given : Given) (log : List Made) → seat_of w.walk.cpu ≡ id
-          → ((q : Walk) → q.cpu ≢ w.walk.cpu → PassOk z.frames z.cpus words plan.watch q → PassOk z.frames z.cpus words' plan.watch q) → (j : ℕ) (v : View)
+      stays : (plan : Holder) (keeper : ℕ) (seat_of holder : ℕ → ℕ) (given : Given) (log : List Made)
+          → seat_of w.walk.cpu ≡ id
+          → ((q : Walk) → q.cpu ≢ w.walk.cpu → PassOk z.frames z.cpus words plan.watch q
+          → PassOk z.frames z.cpus words' plan.watch q) → (j : ℕ) (v : View)
           → j ≢ id → SeatOk z.frames z.cpus words plan keeper seat_of holder given log j v
           → SeatOk z.frames z.cpus words' plan keeper seat_of holder given log j v
       stays plan keeper seat_of holder given log here others j (Passing q) other k = (
@@ -158,15 +183,19 @@ module _ (z : Size) where
       stays plan keeper seat_of holder given log here others j (Spent u) other k = tt
 
   -- the keeper has read or stored a word, and no frame's current binding is another
-  pub keeper_stepped : (words words' : List ℕ) (homes : List (M.Option (Option Held))) (views : List View) (id : ℕ) (k : Holder) (change : Watch → Watch)
+  pub keeper_stepped : (words words' : List ℕ) (homes : List (M.Option (Option Held))) (views : List View) (id : ℕ)
+      (k : Holder) (change : Watch → Watch)
       → (h : Kept z words homes views) → get_elem? views id ≡ M.some (Keeping k)
-      → Quiet z.frames z.cpus words words' → ((f : ℕ) → current (change k.watch) f ≡ current k.watch f) → (change k.watch).made ≡ k.watch.made
+      → Quiet z.frames z.cpus words words' → ((f : ℕ) → current (change k.watch) f ≡ current k.watch f)
+      → (change k.watch).made ≡ k.watch.made
       → (PlanOk z.frames z.cpus words k.watch → PlanOk z.frames z.cpus words' (change k.watch))
-      → (PlanOk z.frames z.cpus words k.watch → (q : Walk) → PassOk z.frames z.cpus words k.watch q → PassOk z.frames z.cpus words' (change k.watch) q)
+      → (PlanOk z.frames z.cpus words k.watch → (q : Walk) → PassOk z.frames z.cpus words k.watch q
+      → PassOk z.frames z.cpus words' (change k.watch) q)
       → Kept z words' homes (set views id (Keeping (watching change k)))
   keeper_stepped words words' homes views id k change h at quiet same made plan pass =
       let mine = h.seats_ok id (Keeping k) at in
-      let book : BookOk z.frames z.cpus words k h.given h.log = subst (λ p. BookOk z.frames z.cpus words p h.given h.log) (sym mine.1) h.book_ok in
+      let book : BookOk z.frames z.cpus words k h.given h.log =
+      subst (λ p. BookOk z.frames z.cpus words p h.given h.log) (sym mine.1) h.book_ok in
       let slots : SlotsOk z.frames z.cpus words homes k.watch h.given h.log =
       subst (λ p. SlotsOk z.frames z.cpus words homes p.watch h.given h.log) (sym mine.1) h.slots_ok in
       let hand : HandOk z.frames z.cpus words k.watch h.holder h.given h.log id k.hand =
@@ -178,38 +207,57 @@ module _ (z : Size) where
         holder = h.holder;
         given = h.given;
         log = h.log;
-        book_ok = book_quiet z.frames z.cpus words words' h.given h.log quiet k (change k.watch) (plan book.plan_ok) same made book;
-        slots_ok = slots_quiet z.frames z.cpus words words' h.given h.log quiet homes k.watch (change k.watch) same slots;
-        turns_ok = turns_quiet z.frames z.cpus words words' h.given h.log quiet views h.holder id (Keeping k) (Keeping (watching change k)) at refl h.turns_ok;
-        seats_ok = seats_stay (SeatOk z.frames z.cpus words' (watching change k) h.keeper h.seat_of h.holder h.given h.log) views id
-            (Keeping (watching change k))
-            (mine.0, refl, hand_quiet z.frames z.cpus words words' h.given h.log quiet h.holder k.watch (change k.watch) id k.hand same hand)
+        book_ok = book_quiet z.frames z.cpus words words' h.given h.log quiet k (change k.watch) (plan book.plan_ok)
+            same made book;
+        slots_ok = slots_quiet z.frames z.cpus words words' h.given h.log quiet homes k.watch (change k.watch) same
+            slots;
+        turns_ok = turns_quiet z.frames z.cpus words words' h.given h.log quiet views h.holder id (Keeping k)
+            (Keeping (watching change k)) at refl h.turns_ok;
+        seats_ok = seats_stay (SeatOk z.frames z.cpus words' (watching change k) h.keeper h.seat_of h.holder h.given
+            h.log) views id
+            (Keeping (watching change k)) (
+              mine.0,
+              refl,
+              hand_quiet z.frames z.cpus words words' h.given h.log quiet h.holder k.watch
+                  (change k.watch) id k.hand same hand,
+            )
             (λ j v other e. stays h.keeper h.seat_of h.holder h.given h.log mine.0 (pass book.plan_ok) j v other
-            (subst (λ p. SeatOk z.frames z.cpus words p h.keeper h.seat_of h.holder h.given h.log j v) (sym mine.1) (h.seats_ok j v e)));
+            (subst (λ p. SeatOk z.frames z.cpus words p h.keeper h.seat_of h.holder h.given h.log j v) (sym mine.1)
+            (h.seats_ok j v e)));
       }
     where
       stays : (keeper : ℕ) (seat_of holder : ℕ → ℕ) (given : Given) (log : List Made) → keeper ≡ id
-          → ((q : Walk) → PassOk z.frames z.cpus words k.watch q → PassOk z.frames z.cpus words' (change k.watch) q) → (j : ℕ) (v : View) → j ≢ id
+          → ((q : Walk) → PassOk z.frames z.cpus words k.watch q → PassOk z.frames z.cpus words' (change k.watch) q)
+          → (j : ℕ) (v : View) → j ≢ id
           → SeatOk z.frames z.cpus words k keeper seat_of holder given log j v
           → SeatOk z.frames z.cpus words' (watching change k) keeper seat_of holder given log j v
       stays keeper seat_of holder given log here pass j (Passing q) other s = (
         s.0,
-        walker_quiet z.frames z.cpus words words' given log quiet k (change k.watch) holder j q same (pass q.walk s.1.pass_ok) s.1,
+        walker_quiet z.frames z.cpus words words' given log quiet k (change k.watch) holder j q same
+            (pass q.walk s.1.pass_ok) s.1,
       )
       stays keeper seat_of holder given log here pass j (Keeping u) other s = absurd (other (sym s.0 ∙ here))
       stays keeper seat_of holder given log here pass j (Spent u) other s = tt
 
   pub fills : (slots id f : ℕ) (w : Walker) → w.hand ≡ Free → f < z.frames
-      → Allows (InOrder z) slots id (Passing w, []) (door_at f) (λ n. n) (Fills (step slots (door_at f) 0 0 M.none) (Passing w, []))
+      → Allows (InOrder z) slots id (Passing w, []) (door_at f) (λ n. n)
+      (Fills (step slots (door_at f) 0 0 M.none) (Passing w, []))
   fills slots id f w free inside s h homes at fits =
       let n : ℕ = get_or s.words (door_at f) 0 in (
         Passing (walking (filled f n) w),
         keeps,
         tt,
-        subst (λ ws. Kept z ws s.homes (set s.views id (Passing (walking (filled f n) w)))) (sym (set-get_or s.words (door_at f) 0))
-            (pass_stepped s.words s.words s.homes s.views id w (filled f n) h at free (cpu_stays (eqb (n % 2) 0) n) (refl, λ i _. refl) (λ _. h.book_ok.plan_ok)
-            (λ ok. filled_ok z.frames z.cpus s.words h.plan.watch w.walk f n inside refl h.book_ok.plan_ok ok) (λ q _ ok. ok)),
-        λ g e. (least s.words h.plan.watch h.book_ok.plan_ok, ap (λ j. (Passing (walking (filled j n) w), [])) (omega arith)),
+        subst (λ ws. Kept z ws s.homes (set s.views id (Passing (walking (filled f n) w))))
+            (sym (set-get_or s.words (door_at f) 0))
+            (pass_stepped s.words s.words s.homes s.views id w (filled f n) h at free (cpu_stays (eqb (n % 2) 0) n)
+            (refl, λ i _. refl) (λ _. h.book_ok.plan_ok)
+            (λ ok. filled_ok z.frames z.cpus s.words h.plan.watch w.walk f n inside refl h.book_ok.plan_ok ok)
+            (λ q _ ok. ok)),
+        λ g e. (
+          least s.words h.plan.watch h.book_ok.plan_ok,
+          ap (λ j. (Passing (walking (filled j n) w), []))
+              (omega arith),
+        ),
       )
     where
       cpu_stays : (even : Bool) (n : ℕ) → (filled_if even f n w.walk).cpu ≡ w.walk.cpu
@@ -228,11 +276,13 @@ module _ (z : Size) where
         Passing (walking (forgotten n) w),
         keeps,
         tt,
-        subst (λ ws. Kept z ws s.homes (set s.views id (Passing (walking (forgotten n) w)))) (sym (set-get_or s.words 0 0))
+        subst (λ ws. Kept z ws s.homes (set s.views id (Passing (walking (forgotten n) w))))
+            (sym (set-get_or s.words 0 0))
             (pass_stepped s.words s.words s.homes s.views id w (forgotten n) h at free refl (
               refl,
               λ i _. refl,
-            ) (λ _. h.book_ok.plan_ok) (λ ok. forgotten_ok z.frames z.cpus s.words h.plan.watch w.walk n refl h.book_ok.plan_ok ok)
+            ) (λ _. h.book_ok.plan_ok) (λ ok. forgotten_ok z.frames z.cpus s.words h.plan.watch w.walk n refl
+            h.book_ok.plan_ok ok)
             (λ q _ ok. ok)),
         refl,
       )
@@ -244,17 +294,21 @@ module _ (z : Size) where
     Passing (walking acknowledged w),
     keeps,
     tt,
-    pass_stepped s.words (set s.words (ack_at z.frames w.walk.cpu) w.walk.stamp) s.homes s.views id w acknowledged h at free refl
+    pass_stepped s.words (set s.words (ack_at z.frames w.walk.cpu) w.walk.stamp) s.homes s.views id w acknowledged h at
+        free refl
         (quiet_set z.frames z.cpus s.words (ack_at z.frames w.walk.cpu) w.walk.stamp (omega arith))
         (λ ok. plan_acknowledged z.frames z.cpus s.words h.plan.watch w.walk h.book_ok.plan_ok ok)
         (λ ok. acknowledged_ok z.frames z.cpus s.words h.plan.watch w.walk h.book_ok.plan_ok ok)
-        (λ q other ok. pass_stays z.frames z.cpus s.words h.plan.watch q (ack_at z.frames w.walk.cpu) w.walk.stamp (λ e. other (omega arith)) ok),
+        (λ q other ok. pass_stays z.frames z.cpus s.words h.plan.watch q (ack_at z.frames w.walk.cpu) w.walk.stamp
+        (λ e. other (omega arith)) ok),
     refl,
   )
 
-  pub closes : (slots id f : ℕ) (k : Holder) → f < z.frames → get_or k.watch.doors f 0 % 2 ≡ 0 → f < length k.watch.doors
+  pub closes : (slots id f : ℕ) (k : Holder) → f < z.frames → get_or k.watch.doors f 0 % 2 ≡ 0
+      → f < length k.watch.doors
       → Allows (InOrder z) slots id (Keeping k, []) (door_at f) (λ _. get_or k.watch.doors f 0 + 1)
-      (λ _. Closes (step slots (door_at f) (get_or k.watch.doors f 0 + 1) 0 M.none) (Keeping k, []) (get_or k.watch.doors f 0 + 1))
+      (λ _. Closes (step slots (door_at f) (get_or k.watch.doors f 0 + 1) 0 M.none) (Keeping k, [])
+      (get_or k.watch.doors f 0 + 1))
   closes slots id f k inside even row s h homes at fits = (
     Keeping (watching (shut f) k),
     keeps,
@@ -274,32 +328,38 @@ module _ (z : Size) where
           (λ (is : g ≡ f). subst (λ j. current (shut f k.watch) j ≡ current k.watch j) (sym is)
           (half (get_or k.watch.doors f 0) (get_or (set k.watch.doors f (get_or k.watch.doors f 0 + 1)) f 0)
           (get_or-set_same k.watch.doors f (get_or k.watch.doors f 0 + 1) 0 row) even))
-          (λ (other : g ≢ f). ap (λ x. x / 2) (get_or-set_other k.watch.doors f g (get_or k.watch.doors f 0 + 1) 0 other))
+          (λ (other : g ≢ f). ap (λ x. x / 2) (get_or-set_other k.watch.doors f g (get_or k.watch.doors f 0 + 1) 0
+          other))
 
   pub raises : (slots id : ℕ) (k : Holder) → Allows (InOrder z) slots id (
     Keeping k,
     [],
-  ) 0 (λ _. k.watch.request + 1) (λ _. Raises (step slots 0 (k.watch.request + 1) 0 M.none) (Keeping k, []) (k.watch.request + 1))
+  ) 0 (λ _. k.watch.request + 1) (λ _. Raises (step slots 0 (k.watch.request + 1) 0 M.none) (Keeping k, [])
+      (k.watch.request + 1))
   raises slots id k s h homes at fits = (
     Keeping (watching raised k),
     keeps,
     tt,
     keeper_stepped s.words (set s.words 0 (k.watch.request + 1)) s.homes s.views id k raised h at
-        (quiet_set z.frames z.cpus s.words 0 (k.watch.request + 1) (omega arith)) (λ f. refl) refl (plan_raised z.frames z.cpus s.words k.watch)
+        (quiet_set z.frames z.cpus s.words 0 (k.watch.request + 1) (omega arith)) (λ f. refl) refl
+        (plan_raised z.frames z.cpus s.words k.watch)
         (λ _ q ok. pass_raised z.frames z.cpus s.words k.watch q ok),
     refl,
   )
 
   pub looks : (slots id c : ℕ) (k : Holder) → c < z.cpus → length k.watch.doors ≡ z.frames
-      → Allows (InOrder z) slots id (Keeping k, []) (ack_at z.frames c) (λ n. n) (Looks (step slots (ack_at z.frames c) 0 0 M.none) (Keeping k, []))
+      → Allows (InOrder z) slots id (Keeping k, []) (ack_at z.frames c) (λ n. n)
+      (Looks (step slots (ack_at z.frames c) 0 0 M.none) (Keeping k, []))
   looks slots id c k inside row s h homes at fits =
       let n : ℕ = get_or s.words (ack_at z.frames c) 0 in
       let mine = h.seats_ok id (Keeping k) at in
-      let low : get_or k.watch.noted c 0 ≤ n = subst (λ p. get_or p.watch.noted c 0 ≤ n) (sym mine.1) (h.book_ok.plan_ok.noted c inside) in (
+      let low : get_or k.watch.noted c 0 ≤ n = subst (λ p. get_or p.watch.noted c 0 ≤ n) (sym mine.1)
+      (h.book_ok.plan_ok.noted c inside) in (
         Keeping (watching (having_noted c n) k),
         keeps,
         tt,
-        subst (λ ws. Kept z ws s.homes (set s.views id (Keeping (watching (having_noted c n) k)))) (sym (set-get_or s.words (ack_at z.frames c) 0))
+        subst (λ ws. Kept z ws s.homes (set s.views id (Keeping (watching (having_noted c n) k))))
+            (sym (set-get_or s.words (ack_at z.frames c) 0))
             (keeper_stepped s.words s.words s.homes s.views id k (having_noted c n) h at (
               refl,
               λ i _. refl,

@@ -1,5 +1,6 @@
 -- The steps that take a turn, touch the page in hand, and give the turn back.
-use Rattle.std.proofs.Common.{◌≡◌, ◌≢◌, ℕ, ◌+◌, ◌<◌, ◌≤◌, cond, eqb, List, [], ◌∷◌, length, Option, Some, None, refl, sym, ap, subst, ◌∙◌, arith, get_or, set}
+use Rattle.std.proofs.Common.{◌≡◌, ◌≢◌, ℕ, ◌+◌, ◌<◌, ◌≤◌, cond, eqb, List, [], ◌∷◌, length, Option, Some, None, refl}
+use Rattle.std.proofs.Common.{sym, ap, subst, ◌∙◌, arith, get_or, set}
 use Rattle.std.proofs.Common.{⊎_elim}
 use mathlib.Core.Logic.{dite}
 use mathlib.Core.Option as M
@@ -8,7 +9,8 @@ use prog.Atomic.{either}
 use lib.ListN.{get_elem?}
 use Rattle.std.proofs.lemmas.List.{set-get_or, get_or-set_same, get_or-set_other, length-set}
 use Rattle.std.proofs.lemmas.Bool.{eq-eqb, ne_eqb}
-use Rattle.atomic_table.specs.Table.{State, Me, Act, Valid, step, keeps, takes, gives, homes_after, carried_after, Allows}
+use Rattle.atomic_table.specs.Table.{State, Me, Act, Valid, step, keeps, takes, gives, homes_after, carried_after}
+use Rattle.atomic_table.specs.Table.{Allows}
 use Rattle.atomic_table.proofs.Lists.{set_here, set_else, exchanged}
 use Rattle.live_doors.specs.declared.views.Walk.{Walk}
 use Rattle.live_doors.specs.declared.views.Watch.{Watch}
@@ -26,7 +28,8 @@ use Rattle.live_pages.specs.declared.views.Holder.{Holder}
 use Rattle.live_pages.specs.declared.views.View.{View}
 use Rattle.live_pages.specs.declared.views.View.TheVariants.{Passing, Keeping, Spent}
 use Rattle.live_pages.specs.Touches.{Given, after, mine}
-use Rattle.live_pages.specs.Turns.{turn_at, ticket_at, current, hand_of, walking, taken, page_of, Takes, Gives, KeeperTakes, KeeperGives}
+use Rattle.live_pages.specs.Turns.{turn_at, ticket_at, current, hand_of, walking, taken, page_of, Takes, Gives}
+use Rattle.live_pages.specs.Turns.{KeeperTakes, KeeperGives}
 use Rattle.live_pages.specs.Kept.{BookOk, TurnsOk, HandOk, HoldsHand, WalkerOk, SeatOk, Kept}
 use Rattle.live_pages.proofs.Quiet.{set_at, InOrder, pass_stepped}
 
@@ -58,7 +61,8 @@ free_has f p e = absurd (cc)
 
 module _ (frames cpus : ℕ) (words : List ℕ) where
   -- a word of turns or tickets is none of the doors' words
-  pub plan_above : (plan : Watch) (i n : ℕ) → 1 + frames + cpus ≤ i → PlanOk frames cpus words plan → PlanOk frames cpus (set words i n) plan
+  pub plan_above : (plan : Watch) (i n : ℕ) → 1 + frames + cpus ≤ i → PlanOk frames cpus words plan
+      → PlanOk frames cpus (set words i n) plan
   plan_above plan i n above k = record {
     room = (let l = length-set words i n in let r = k.room in omega arith);
     doors_row = k.doors_row;
@@ -68,23 +72,31 @@ module _ (frames cpus : ℕ) (words : List ℕ) where
     request = get_or-set_other words i 0 n 0 (λ e. omega arith) ∙ k.request;
     doors = λ f inside. get_or-set_other words i (door_at f) n 0 (λ e. omega arith) ∙ k.doors f inside;
     least = k.least;
-    noted = λ c inside. subst (λ j. get_or plan.noted c 0 ≤ j) (sym (get_or-set_other words i (ack_at frames c) n 0 (λ e. omega arith))) (k.noted c inside);
-    unmade = λ c over inside. get_or-set_other words i (ack_at frames c) n 0 (λ e. omega arith) ∙ k.unmade c over inside;
+    noted = λ c inside. subst (λ j. get_or plan.noted c 0 ≤ j)
+        (sym (get_or-set_other words i (ack_at frames c) n 0 (λ e. omega arith))) (k.noted c inside);
+    unmade = λ c over inside. get_or-set_other words i (ack_at frames c) n 0 (λ e. omega arith)
+        ∙ k.unmade c over inside;
   }
 
-  pub pass_above : (plan : Watch) (q : Walk) (i n : ℕ) → 1 + frames + cpus ≤ i → PlanOk frames cpus words plan → PassOk frames cpus words plan q
+  pub pass_above : (plan : Watch) (q : Walk) (i n : ℕ) → 1 + frames + cpus ≤ i → PlanOk frames cpus words plan
+      → PassOk frames cpus words plan q
       → PassOk frames cpus (set words i n) plan q
-  pass_above plan q i n above k ok = pass_stays frames cpus words plan q i n (λ e. let m = ok.made in let l = k.made in omega arith) ok
+  pass_above plan q i n above k ok = pass_stays frames cpus words plan q i n
+      (λ e. let m = ok.made in let l = k.made in omega arith) ok
 
   module _ (f n : ℕ) (inside : f < frames) where
     -- the word of one turn is stored
-    pub turn_else : (g : ℕ) → g ≢ f → get_or (set words (turn_at frames cpus f) n) (turn_at frames cpus g) 0 ≡ get_or words (turn_at frames cpus g) 0
-    turn_else g other = get_or-set_other words (turn_at frames cpus f) (turn_at frames cpus g) n 0 (λ e. other (omega arith))
+    pub turn_else : (g : ℕ) → g ≢ f → get_or (set words (turn_at frames cpus f) n) (turn_at frames cpus g) 0
+        ≡ get_or words (turn_at frames cpus g) 0
+    turn_else g other = get_or-set_other words (turn_at frames cpus f) (turn_at frames cpus g) n 0
+        (λ e. other (omega arith))
 
-    pub turn_here : ticket_at frames cpus < length words → get_or (set words (turn_at frames cpus f) n) (turn_at frames cpus f) 0 ≡ n
+    pub turn_here : ticket_at frames cpus < length words
+        → get_or (set words (turn_at frames cpus f) n) (turn_at frames cpus f) 0 ≡ n
     turn_here room = get_or-set_same words (turn_at frames cpus f) n 0 (omega arith)
 
-    pub book_turned : (plan : Holder) (given : Given) (log : List Made) (hand : Hand) → BookOk frames cpus words plan given log
+    pub book_turned : (plan : Holder) (given : Given) (log : List Made) (hand : Hand)
+        → BookOk frames cpus words plan given log
         → BookOk frames cpus (set words (turn_at frames cpus f) n) (record plan { hand = hand }) given log
     book_turned plan given log hand b = record {
       plan_ok = plan_above plan.watch (turn_at frames cpus f) n (omega arith) b.plan_ok;
@@ -106,16 +118,19 @@ module _ (frames cpus : ℕ) (words : List ℕ) where
     -- the hand of another frame is as it was
     pub hand_turned : (plan : Watch) (holder holder' : ℕ → ℕ) (given : Given) (log : List Made) (seat : ℕ) (hand : Hand)
         → ((g : ℕ) → g ≢ f → holder' g ≡ holder g) → ((page : List ℕ) → hand ≡ Has f page → ⊥)
-        → HandOk frames cpus words plan holder given log seat hand → HandOk frames cpus (set words (turn_at frames cpus f) n) plan holder' given log seat hand
+        → HandOk frames cpus words plan holder given log seat hand
+        → HandOk frames cpus (set words (turn_at frames cpus f) n) plan holder' given log seat hand
     hand_turned plan holder holder' given log seat Free same apart ok = tt
     hand_turned plan holder holder' given log seat (Has g page) same apart ok =
         let other : g ≢ f = λ e. apart page (ap (λ k. Has k page) e) in
         (ok.0, same g other ∙ ok.1, (λ e. ok.2 (sym (turn_else g other) ∙ e)), ok.3)
 
-    pub walker_turned : (plan : Holder) (hand : Hand) (holder holder' : ℕ → ℕ) (given : Given) (log : List Made) (seat : ℕ) (q : Walker)
+    pub walker_turned : (plan : Holder) (hand : Hand) (holder holder' : ℕ → ℕ) (given : Given) (log : List Made)
+        (seat : ℕ) (q : Walker)
         → ((g : ℕ) → g ≢ f → holder' g ≡ holder g) → ((page : List ℕ) → q.hand ≡ Has f page → ⊥)
         → PlanOk frames cpus words plan.watch → WalkerOk frames cpus words plan holder given log seat q
-        → WalkerOk frames cpus (set words (turn_at frames cpus f) n) (record plan { hand = hand }) holder' given log seat q
+        → WalkerOk frames cpus (set words (turn_at frames cpus f) n) (record plan { hand = hand }) holder' given log
+        seat q
     walker_turned plan hand holder holder' given log seat q same apart k ok = record {
       all = ok.all;
       pass_ok = pass_above plan.watch q.walk (turn_at frames cpus f) n (omega arith) k ok.pass_ok;
@@ -126,14 +141,22 @@ module _ (frames cpus : ℕ) (words : List ℕ) where
     }
 
     -- the turns of other frames are as they were
-    pub turns_else : (views : List View) (holder holder' : ℕ → ℕ) (id : ℕ) (v v' : View) (g : ℕ) → get_elem? views id ≡ M.some v → g ≢ f
+    pub turns_else : (views : List View) (holder holder' : ℕ → ℕ) (id : ℕ) (v v' : View) (g : ℕ) → get_elem? views id
+        ≡ M.some v → g ≢ f
         → ((page : List ℕ) → hand_of v ≡ Has g page → ⊥) → (g ≢ f → holder' g ≡ holder g)
-        → TurnsOk frames cpus words views holder → g < frames → get_or (set words (turn_at frames cpus f) n) (turn_at frames cpus g) 0 ≢ 0
+        → TurnsOk frames cpus words views holder → g < frames
+        → get_or (set words (turn_at frames cpus f) n) (turn_at frames cpus g) 0 ≢ 0
         → (u : View) × (page : List ℕ) × (get_elem? (set views id v') (holder' g) ≡ M.some u) × (hand_of u ≡ Has g page)
     turns_else views holder holder' id v v' g at other apart same ok within busy =
         let old = ok g within (λ e. busy (turn_else g other ∙ e)) in
-        let away : holder g ≢ id = λ here. apart old.1 (sym (ap hand_of (M.some-injective _ _ (sym old.2 ∙ ap (get_elem? views) here ∙ at))) ∙ old.3) in
-        (old.0, old.1, ap (get_elem? (set views id v')) (same other) ∙ set_else views id (holder g) v' away ∙ old.2, old.3)
+        let away : holder g ≢ id = λ here. apart old.1
+        (sym (ap hand_of (M.some-injective _ _ (sym old.2 ∙ ap (get_elem? views) here ∙ at))) ∙ old.3) in (
+          old.0,
+          old.1,
+          ap (get_elem? (set views id v')) (same other) ∙ set_else views id (holder g) v' away
+              ∙ old.2,
+          old.3,
+        )
 
 abbrev pub with_hand : Hand → Holder → Holder
 with_hand hand k = record k { hand = hand }
@@ -143,19 +166,25 @@ tail_of [] = []
 tail_of (y ∷ ys) = ys
 
 -- with one word stored: the tuple that a step owes
-abbrev Owed : Size → State (Option Held) View → ℕ → List (ℕ × Option Held) → ℕ → ℕ → (ℕ → Me (Option Held) View → Type 0) → Type 0
+abbrev Owed : Size → State (Option Held) View → ℕ → List (ℕ × Option Held) → ℕ → ℕ
+    → (ℕ → Me (Option Held) View → Type 0) → Type 0
 Owed z s id cs i x then =
-    (v : View) × (a : Act (Option Held)) × Valid s.homes cs a × Kept z (set s.words i x) (homes_after s.homes cs a) (set s.views id v)
+    (v : View) × (a : Act (Option Held)) × Valid s.homes cs a
+    × Kept z (set s.words i x) (homes_after s.homes cs a) (set s.views id v)
     × then (get_or s.words i 0) (v, carried_after cs a)
 
 module _ (z : Size) where
   -- the turn was free, and is a seat's now, with the page of the slot
-  taken_kept : (s : State (Option Held) View) (h : Kept z s.words s.homes s.views) (id f : ℕ) (hd : Held) (v v' : View) (plan : Holder)
+  taken_kept : (s : State (Option Held) View) (h : Kept z s.words s.homes s.views) (id f : ℕ) (hd : Held) (v v' : View)
+      (plan : Holder)
       → get_elem? s.views id ≡ M.some v → hand_of v ≡ Free → hand_of v' ≡ Has f hd.page → f < z.frames
       → get_or s.words (turn_at z.frames z.cpus f) 0 ≡ 0 → (hand : Hand) → plan ≡ record h.plan { hand = hand }
-      → SeatOk z.frames z.cpus (set s.words (turn_at z.frames z.cpus f) 1) plan h.keeper h.seat_of (put f id h.holder) h.given h.log id v'
-      → ((j : ℕ) (u : View) → j ≢ id → SeatOk z.frames z.cpus s.words h.plan h.keeper h.seat_of h.holder h.given h.log j u
-      → SeatOk z.frames z.cpus (set s.words (turn_at z.frames z.cpus f) 1) plan h.keeper h.seat_of (put f id h.holder) h.given h.log j u)
+      → SeatOk z.frames z.cpus (set s.words (turn_at z.frames z.cpus f) 1) plan h.keeper h.seat_of (put f id h.holder)
+      h.given h.log id v'
+      → ((j : ℕ) (u : View) → j ≢ id → SeatOk z.frames z.cpus s.words h.plan h.keeper h.seat_of h.holder h.given h.log
+      j u
+      → SeatOk z.frames z.cpus (set s.words (turn_at z.frames z.cpus f) 1) plan h.keeper h.seat_of (put f id h.holder)
+      h.given h.log j u)
       → Kept z (set s.words (turn_at z.frames z.cpus f) 1) (set s.homes f M.none) (set s.views id v')
   taken_kept s h id f hd v v' plan at free has inside zero_word hand plan_is mine others = record {
     plan = plan;
@@ -164,52 +193,70 @@ module _ (z : Size) where
     holder = put f id h.holder;
     given = h.given;
     log = h.log;
-    book_ok = subst (λ p. BookOk z.frames z.cpus (set s.words (turn_at z.frames z.cpus f) 1) p h.given h.log) (sym plan_is)
+    book_ok = subst (λ p. BookOk z.frames z.cpus (set s.words (turn_at z.frames z.cpus f) 1) p h.given h.log)
+        (sym plan_is)
         (book_turned z.frames z.cpus s.words f 1 inside h.plan h.given h.log hand h.book_ok);
     slots_ok = λ g within zero. dite (ℕ_discrete g f)
         (λ (same : g ≡ f). let one = turn_here z.frames z.cpus s.words f 1 inside h.book_ok.room in
         let e : get_or (set s.words (turn_at z.frames z.cpus f) 1) (turn_at z.frames z.cpus f) 0
-        ≡ 0 = subst (λ k. get_or (set s.words (turn_at z.frames z.cpus f) 1) (turn_at z.frames z.cpus k) 0 ≡ 0) same zero in
+        ≡ 0 = subst (λ k. get_or (set s.words (turn_at z.frames z.cpus f) 1) (turn_at z.frames z.cpus k) 0 ≡ 0) same
+        zero in
         absurd (one_zero _ 0 one refl e))
         (λ (other : g ≢ f).
-        let old = h.slots_ok g within (sym (turn_else z.frames z.cpus s.words f 1 inside g other) ∙ zero) in
-        (old.0, set_else s.homes f g M.none other ∙ old.1, old.2 ∙ ap (λ p. after h.given g (current p.watch g) h.log) (sym plan_is)));
+        let old = h.slots_ok g within (sym (turn_else z.frames z.cpus s.words f 1 inside g other) ∙ zero) in (
+          old.0,
+          set_else s.homes f g M.none other ∙ old.1,
+          old.2
+              ∙ ap (λ p. after h.given g (current p.watch g) h.log) (sym plan_is),
+        ));
     turns_ok = λ g within busy. dite (ℕ_discrete g f)
         (λ (same : g ≡ f). (
           v',
           hd.page,
-          ap (get_elem? (set s.views id v')) (ap (put f id h.holder) same ∙ put_here f id h.holder) ∙ set_at s.views id v v' at,
+          ap (get_elem? (set s.views id v')) (ap (put f id h.holder) same ∙ put_here f id h.holder)
+              ∙ set_at s.views id v v' at,
           has ∙ ap (λ k. Has k hd.page) (sym same),
         ))
         (λ (other : g ≢ f).
-        turns_else z.frames z.cpus s.words f 1 inside s.views h.holder (put f id h.holder) id v v' g at other (λ page e. free_has g page (sym free ∙ e))
+        turns_else z.frames z.cpus s.words f 1 inside s.views h.holder (put f id h.holder) id v v' g at other
+        (λ page e. free_has g page (sym free ∙ e))
         (λ o. put_else f g id h.holder o) h.turns_ok within busy);
-    seats_ok = seats_stay (SeatOk z.frames z.cpus (set s.words (turn_at z.frames z.cpus f) 1) plan h.keeper h.seat_of (put f id h.holder) h.given h.log) s.views
+    seats_ok = seats_stay (SeatOk z.frames z.cpus (set s.words (turn_at z.frames z.cpus f) 1) plan h.keeper h.seat_of
+        (put f id h.holder) h.given h.log) s.views
         id v' mine (λ j u other e. others j u other (h.seats_ok j u e));
   }
 
   -- no other seat has the turn that is free
-  not_of_free : (words : List ℕ) (plan : Watch) (holder : ℕ → ℕ) (given : Given) (log : List Made) (seat f : ℕ) (hand : Hand)
-      → HandOk z.frames z.cpus words plan holder given log seat hand → get_or words (turn_at z.frames z.cpus f) 0 ≡ 0 → (page : List ℕ) → hand ≡ Has f page → ⊥
-  not_of_free words plan holder given log seat f hand ok zero_word page e = (subst (HandOk z.frames z.cpus words plan holder given log seat) e ok).2 zero_word
+  not_of_free : (words : List ℕ) (plan : Watch) (holder : ℕ → ℕ) (given : Given) (log : List Made) (seat f : ℕ)
+      (hand : Hand)
+      → HandOk z.frames z.cpus words plan holder given log seat hand → get_or words (turn_at z.frames z.cpus f) 0 ≡ 0
+      → (page : List ℕ) → hand ≡ Has f page → ⊥
+  not_of_free words plan holder given log seat f hand ok zero_word page e =
+      (subst (HandOk z.frames z.cpus words plan holder given log seat) e ok).2 zero_word
 
-  others_taken : (words : List ℕ) (plan : Holder) (hand : Hand) (keeper : ℕ) (seat_of holder : ℕ → ℕ) (given : Given) (log : List Made) (id f : ℕ)
+  others_taken : (words : List ℕ) (plan : Holder) (hand : Hand) (keeper : ℕ) (seat_of holder : ℕ → ℕ) (given : Given)
+      (log : List Made) (id f : ℕ)
       → f < z.frames → get_or words (turn_at z.frames z.cpus f) 0 ≡ 0 → BookOk z.frames z.cpus words plan given log
       → ((j : ℕ) → j ≢ id → keeper ≡ j → record plan { hand = hand } ≡ plan) → (j : ℕ) (u : View) → j ≢ id
       → SeatOk z.frames z.cpus words plan keeper seat_of holder given log j u
-      → SeatOk z.frames z.cpus (set words (turn_at z.frames z.cpus f) 1) (record plan { hand = hand }) keeper seat_of (put f id holder) given log j u
-  others_taken words plan hand keeper seat_of holder given log id f inside zero_word book keeps_plan j (Passing q) other k = (
-    k.0,
-    walker_turned z.frames z.cpus words f 1 inside plan hand holder (put f id holder) given log j q (λ g o. put_else f g id holder o)
-        (not_of_free words plan.watch holder given log j f q.hand k.1.hand_ok zero_word) book.plan_ok k.1,
-  )
-  others_taken words plan hand keeper seat_of holder given log id f inside zero_word book keeps_plan j (Keeping u) other k = (
-    k.0,
-    k.1 ∙ sym (keeps_plan j other k.0),
-    hand_turned z.frames z.cpus words f 1 inside plan.watch holder (put f id holder) given log j u.hand
-        (λ g o. put_else f g id holder o) (not_of_free words plan.watch holder given log j f u.hand k.2 zero_word) k.2,
-  )
-  others_taken words plan hand keeper seat_of holder given log id f inside zero_word book keeps_plan j (Spent u) other k = tt
+      → SeatOk z.frames z.cpus (set words (turn_at z.frames z.cpus f) 1) (record plan { hand = hand }) keeper seat_of
+      (put f id holder) given log j u
+  others_taken words plan hand keeper seat_of holder given log id f inside zero_word book keeps_plan j (Passing q)
+      other k = (
+        k.0,
+        walker_turned z.frames z.cpus words f 1 inside plan hand holder (put f id holder) given log j q
+            (λ g o. put_else f g id holder o)
+            (not_of_free words plan.watch holder given log j f q.hand k.1.hand_ok zero_word) book.plan_ok k.1,
+      )
+  others_taken words plan hand keeper seat_of holder given log id f inside zero_word book keeps_plan j (Keeping u)
+      other k = (
+        k.0,
+        k.1 ∙ sym (keeps_plan j other k.0),
+        hand_turned z.frames z.cpus words f 1 inside plan.watch holder (put f id holder) given log j u.hand
+            (λ g o. put_else f g id holder o) (not_of_free words plan.watch holder given log j f u.hand k.2 zero_word) k.2,
+      )
+  others_taken words plan hand keeper seat_of holder given log id f inside zero_word book keeps_plan j (Spent u) other
+      k = tt
 
   pub takes_turn : (slots id f b : ℕ) (w : Walker) → w.hand ≡ Free → f < z.frames → get_or w.walk.held f None ≡ Some b
       → Allows (InOrder z) slots id (Passing w, []) (turn_at z.frames z.cpus f) (λ n. either (eqb n 0) 1 n)
@@ -219,32 +266,49 @@ module _ (z : Size) where
       let n : ℕ = get_or s.words (turn_at z.frames z.cpus f) 0 in
       let frame : (g : ℕ) → turn_at z.frames z.cpus f ≡ turn_at (length w.walk.held) w.cpus g
       → f ≡ g = λ g e. (let r = mine.1.pass_ok.row in let c = mine.1.all in omega arith) in
-      exchanged n 0 1 (λ x. Owed z s id [] (turn_at z.frames z.cpus f) x (Takes (step slots (turn_at z.frames z.cpus f) 0 1 M.none) (Passing w, [])))
+      exchanged n 0 1 (λ x. Owed z s id [] (turn_at z.frames z.cpus f) x
+      (Takes (step slots (turn_at z.frames z.cpus f) 0 1 M.none) (Passing w, [])))
       (λ (hit : n ≡ 0).
       let slot = h.slots_ok f inside hit in (
         Passing (taken f slot.0.page w),
         takes f (Some slot.0),
         slot.1,
-        taken_kept s h id f slot.0 (Passing w) (Passing (taken f slot.0.page w)) h.plan at free refl inside hit h.plan.hand refl (
-          mine.0,
-          record {
-            all = mine.1.all;
-            pass_ok = pass_above z.frames z.cpus s.words h.plan.watch (having_read 0 w.walk) (turn_at z.frames z.cpus f) 1 (omega arith) h.book_ok.plan_ok
-                (read_ok z.frames z.cpus s.words h.plan.watch w.walk 0 mine.1.pass_ok);
-            made = mine.1.made;
-            hand_ok = (inside, put_here f id h.holder, (λ e. one_zero _ 0 (turn_here z.frames z.cpus s.words f 1 inside h.book_ok.room) refl e), slot.2);
-            holds = (b, holds);
-            out = mine.1.out;
-          },
-        )
-            (others_taken s.words h.plan h.plan.hand h.keeper h.seat_of h.holder h.given h.log id f inside hit h.book_ok (λ _ _ _. refl)),
-        λ g e. let same = frame g e in ((λ _. (slot.0, ap (λ k. (Passing (taken k slot.0.page w), (k, Some slot.0) ∷ [])) same)), λ busy. absurd (busy hit)),
+        taken_kept s h id f slot.0 (Passing w) (Passing (taken f slot.0.page w)) h.plan at free refl inside hit
+            h.plan.hand refl (
+              mine.0,
+              record {
+                all = mine.1.all;
+                pass_ok = pass_above z.frames z.cpus s.words h.plan.watch (having_read 0 w.walk)
+                    (turn_at z.frames z.cpus f) 1 (omega arith) h.book_ok.plan_ok
+                    (read_ok z.frames z.cpus s.words h.plan.watch w.walk 0 mine.1.pass_ok);
+                made = mine.1.made;
+                hand_ok = (
+                  inside,
+                  put_here f id h.holder,
+                  (λ e. one_zero _ 0 (turn_here z.frames z.cpus s.words f 1 inside h.book_ok.room) refl e),
+                  slot.2,
+                );
+                holds = (b, holds);
+                out = mine.1.out;
+              },
+            )
+            (others_taken s.words h.plan h.plan.hand h.keeper h.seat_of h.holder h.given h.log id f inside hit
+            h.book_ok (λ _ _ _. refl)),
+        λ g e. let same = frame g e in (
+          (λ _. (
+            slot.0,
+            ap
+                (λ k. (Passing (taken k slot.0.page w), (k, Some slot.0) ∷ [])) same,
+          )),
+          λ busy. absurd (busy hit),
+        ),
       ))
       (λ (miss : n ≢ 0). (
         Passing (walking (having_read n) w),
         keeps,
         tt,
-        subst (λ ws. Kept z ws s.homes (set s.views id (Passing (walking (having_read n) w)))) (sym (set-get_or s.words (turn_at z.frames z.cpus f) 0))
+        subst (λ ws. Kept z ws s.homes (set s.views id (Passing (walking (having_read n) w))))
+            (sym (set-get_or s.words (turn_at z.frames z.cpus f) 0))
             (pass_stepped z s.words s.words s.homes s.views id w (having_read n) h at free refl (
               refl,
               λ i _. refl,
@@ -253,12 +317,16 @@ module _ (z : Size) where
       ))
 
   -- The turn of a seat is given back, and the page with it.
-  given_back_kept : (s : State (Option Held) View) (h : Kept z s.words s.homes s.views) (id f : ℕ) (hd : Held) (v v' : View) (plan : Holder)
+  given_back_kept : (s : State (Option Held) View) (h : Kept z s.words s.homes s.views) (id f : ℕ) (hd : Held)
+      (v v' : View) (plan : Holder)
       → get_elem? s.views id ≡ M.some v → hand_of v ≡ Has f hd.page → f < z.frames → f < length s.homes
       → hd.page ≡ after h.given f (current h.plan.watch f) h.log → (hand : Hand) → plan ≡ record h.plan { hand = hand }
-      → SeatOk z.frames z.cpus (set s.words (turn_at z.frames z.cpus f) 0) plan h.keeper h.seat_of h.holder h.given h.log id v'
-      → ((j : ℕ) (u : View) → j ≢ id → SeatOk z.frames z.cpus s.words h.plan h.keeper h.seat_of h.holder h.given h.log j u
-      → SeatOk z.frames z.cpus (set s.words (turn_at z.frames z.cpus f) 0) plan h.keeper h.seat_of h.holder h.given h.log j u)
+      → SeatOk z.frames z.cpus (set s.words (turn_at z.frames z.cpus f) 0) plan h.keeper h.seat_of h.holder h.given
+      h.log id v'
+      → ((j : ℕ) (u : View) → j ≢ id → SeatOk z.frames z.cpus s.words h.plan h.keeper h.seat_of h.holder h.given h.log
+      j u
+      → SeatOk z.frames z.cpus (set s.words (turn_at z.frames z.cpus f) 0) plan h.keeper h.seat_of h.holder h.given
+      h.log j u)
       → Kept z (set s.words (turn_at z.frames z.cpus f) 0) (set s.homes f (M.some (Some hd))) (set s.views id v')
   given_back_kept s h id f hd v v' plan at has inside slot page hand plan_is own others = record {
     plan = plan;
@@ -267,38 +335,49 @@ module _ (z : Size) where
     holder = h.holder;
     given = h.given;
     log = h.log;
-    book_ok = subst (λ p. BookOk z.frames z.cpus (set s.words (turn_at z.frames z.cpus f) 0) p h.given h.log) (sym plan_is)
+    book_ok = subst (λ p. BookOk z.frames z.cpus (set s.words (turn_at z.frames z.cpus f) 0) p h.given h.log)
+        (sym plan_is)
         (book_turned z.frames z.cpus s.words f 0 inside h.plan h.given h.log hand h.book_ok);
     slots_ok = λ g within free. dite (ℕ_discrete g f)
         (λ (same : g ≡ f). (
           hd,
           ap (get_elem? (set s.homes f (M.some (Some hd)))) same ∙ set_here s.homes f (M.some (Some hd)) slot,
           page
-              ∙ ap (λ p. after h.given f (current p.watch f) h.log) (sym plan_is) ∙ ap (λ k. after h.given k (current plan.watch k) h.log) (sym same),
+              ∙ ap (λ p. after h.given f (current p.watch f) h.log) (sym plan_is)
+              ∙ ap (λ k. after h.given k (current plan.watch k) h.log) (sym same),
         ))
         (λ (other : g ≢ f).
-        let old = h.slots_ok g within (sym (turn_else z.frames z.cpus s.words f 0 inside g other) ∙ free) in
-        (old.0, set_else s.homes f g (M.some (Some hd)) other ∙ old.1, old.2 ∙ ap (λ p. after h.given g (current p.watch g) h.log) (sym plan_is)));
+        let old = h.slots_ok g within (sym (turn_else z.frames z.cpus s.words f 0 inside g other) ∙ free) in (
+          old.0,
+          set_else s.homes f g (M.some (Some hd)) other ∙ old.1,
+          old.2
+              ∙ ap (λ p. after h.given g (current p.watch g) h.log) (sym plan_is),
+        ));
     turns_ok = λ g within busy. dite (ℕ_discrete g f)
-        (λ (same : g ≡ f). absurd (busy (ap (λ k. get_or (set s.words (turn_at z.frames z.cpus f) 0) (turn_at z.frames z.cpus k) 0) same
+        (λ (same : g ≡ f). absurd (busy (ap (λ k. get_or (set s.words (turn_at z.frames z.cpus f) 0)
+        (turn_at z.frames z.cpus k) 0) same
         ∙ turn_here z.frames z.cpus s.words f 0 inside h.book_ok.room)))
         (λ (other : g ≢ f). turns_else z.frames z.cpus s.words f 0 inside s.views h.holder h.holder id v v' g at other
         (λ p e. other (has_frame g f p hd.page (sym e ∙ has))) (λ _. refl) h.turns_ok within busy);
-    seats_ok = seats_stay (SeatOk z.frames z.cpus (set s.words (turn_at z.frames z.cpus f) 0) plan h.keeper h.seat_of h.holder h.given h.log) s.views id v' own
+    seats_ok = seats_stay (SeatOk z.frames z.cpus (set s.words (turn_at z.frames z.cpus f) 0) plan h.keeper h.seat_of
+        h.holder h.given h.log) s.views id v' own
         (λ j u other e. others j u other (h.seats_ok j u e));
   }
 
   -- no other seat has the turn that a seat has
-  not_of_holder : (words : List ℕ) (plan : Watch) (holder : ℕ → ℕ) (given : Given) (log : List Made) (seat id f : ℕ) (hand : Hand) → holder f ≡ id → seat ≢ id
+  not_of_holder : (words : List ℕ) (plan : Watch) (holder : ℕ → ℕ) (given : Given) (log : List Made) (seat id f : ℕ)
+      (hand : Hand) → holder f ≡ id → seat ≢ id
       → HandOk z.frames z.cpus words plan holder given log seat hand → (page : List ℕ) → hand ≡ Has f page → ⊥
   not_of_holder words plan holder given log seat id f hand here other ok page e =
       other (sym (subst (HandOk z.frames z.cpus words plan holder given log seat) e ok).1 ∙ here)
 
-  others_given : (words : List ℕ) (plan : Holder) (hand : Hand) (keeper : ℕ) (seat_of holder : ℕ → ℕ) (given : Given) (log : List Made) (id f : ℕ)
+  others_given : (words : List ℕ) (plan : Holder) (hand : Hand) (keeper : ℕ) (seat_of holder : ℕ → ℕ) (given : Given)
+      (log : List Made) (id f : ℕ)
       → f < z.frames → holder f ≡ id → BookOk z.frames z.cpus words plan given log
       → ((j : ℕ) → j ≢ id → keeper ≡ j → record plan { hand = hand } ≡ plan) → (j : ℕ) (u : View) → j ≢ id
       → SeatOk z.frames z.cpus words plan keeper seat_of holder given log j u
-      → SeatOk z.frames z.cpus (set words (turn_at z.frames z.cpus f) 0) (record plan { hand = hand }) keeper seat_of holder given log j u
+      → SeatOk z.frames z.cpus (set words (turn_at z.frames z.cpus f) 0) (record plan { hand = hand }) keeper seat_of
+      holder given log j u
   others_given words plan hand keeper seat_of holder given log id f inside here book keeps_plan j (Passing q) other k = (
     k.0,
     walker_turned z.frames z.cpus words f 0 inside plan hand holder holder given log j q (λ _ _. refl)
@@ -321,19 +400,22 @@ module _ (z : Size) where
         Passing (record w { hand = Free }),
         gives,
         tt,
-        given_back_kept s h id f hd (Passing w) (Passing (record w { hand = Free })) h.plan at has hand.0 (let i = hand.0 in
+        given_back_kept s h id f hd (Passing w) (Passing (record w { hand = Free })) h.plan at has hand.0
+            (let i = hand.0 in
             omega arith) hand.3 h.plan.hand refl (
               mine.0,
               record {
                 all = mine.1.all;
-                pass_ok = pass_above z.frames z.cpus s.words h.plan.watch w.walk (turn_at z.frames z.cpus f) 0 (omega arith) h.book_ok.plan_ok mine.1.pass_ok;
+                pass_ok = pass_above z.frames z.cpus s.words h.plan.watch w.walk (turn_at z.frames z.cpus f) 0
+                    (omega arith) h.book_ok.plan_ok mine.1.pass_ok;
                 made = mine.1.made;
                 hand_ok = tt;
                 holds = tt;
                 out = mine.1.out;
               },
             )
-            (others_given s.words h.plan h.plan.hand h.keeper h.seat_of h.holder h.given h.log id f hand.0 hand.1 h.book_ok (λ _ _ _. refl)),
+            (others_given s.words h.plan h.plan.hand h.keeper h.seat_of h.holder h.given h.log id f hand.0 hand.1
+            h.book_ok (λ _ _ _. refl)),
         λ x rest e i. (Passing (record w { hand = Free }), tail_of (e i)),
       )
 
@@ -348,7 +430,8 @@ module _ (z : Size) where
         Keeping (record k { hand = Free }),
         gives,
         tt,
-        given_back_kept s h id f hd (Keeping k) (Keeping (record k { hand = Free })) (record h.plan { hand = Free }) at has hand.0 (let i = hand.0 in
+        given_back_kept s h id f hd (Keeping k) (Keeping (record k { hand = Free })) (record h.plan { hand = Free }) at
+            has hand.0 (let i = hand.0 in
             omega arith) hand.3 Free refl
             (mine.0, ap (with_hand Free) mine.1, tt)
             (others_given s.words h.plan Free h.keeper h.seat_of h.holder h.given h.log id f hand.0 hand.1 h.book_ok
@@ -357,15 +440,19 @@ module _ (z : Size) where
       )
 
   -- a pass that holds an entry of a frame keeps it from being bound
-  pub holder_stands : (words : List ℕ) (plan : Watch) (q : Walk) (cleared f b : ℕ) → PlanOk z.frames z.cpus words plan → PassOk z.frames z.cpus words plan q
+  pub holder_stands : (words : List ℕ) (plan : Watch) (q : Walk) (cleared f b : ℕ) → PlanOk z.frames z.cpus words plan
+      → PassOk z.frames z.cpus words plan q
       → HasNoted plan cleared → MayBind plan cleared f → get_or q.held f None ≡ Some b → ⊥
   holder_stands words plan q cleared f b k ok noted may e =
-      let inside : q.cpu < length plan.noted = (let m = ok.made in let n = k.made in let r = k.noted_row in omega arith) in
+      let inside : q.cpu < length plan.noted = (let m = ok.made in let n = k.made in let r =
+      k.noted_row in omega arith) in
       ⊎_elim (λ one. entry_never z.frames z.cpus words plan q f b ok one e)
-      (λ (t : IsShut plan f × (get_or plan.since f 0 < cleared)). entry_gone z.frames z.cpus words plan q f b cleared k ok (noted q.cpu inside) t.0 t.1 e) may
+      (λ (t : IsShut plan f × (get_or plan.since f 0 < cleared)). entry_gone z.frames z.cpus words plan q f b cleared k
+      ok (noted q.cpu inside) t.0 t.1 e) may
 
   -- so its turn is free, where the keeper has none
-  turn_is_free : (s : State (Option Held) View) (h : Kept z s.words s.homes s.views) (id f cleared : ℕ) (k : Holder) → get_elem? s.views id ≡ M.some (Keeping k)
+  turn_is_free : (s : State (Option Held) View) (h : Kept z s.words s.homes s.views) (id f cleared : ℕ) (k : Holder)
+      → get_elem? s.views id ≡ M.some (Keeping k)
       → k.hand ≡ Free → HasNoted k.watch cleared → MayBind k.watch cleared f → f < z.frames
       → get_or s.words (turn_at z.frames z.cpus f) 0 ≢ 0 → ⊥
   turn_is_free s h id f cleared k at free noted may inside busy =
@@ -373,31 +460,38 @@ module _ (z : Size) where
       let mine = h.seats_ok id (Keeping k) at in
       of_view t.0 t.2 t.3 mine.0 mine.1 (h.seats_ok (h.holder f) t.0 t.2)
     where
-      of_view : (v : View) {page : List ℕ} → get_elem? s.views (h.holder f) ≡ M.some v → hand_of v ≡ Has f page → h.keeper ≡ id → k ≡ h.plan
+      of_view : (v : View) {page : List ℕ} → get_elem? s.views (h.holder f) ≡ M.some v → hand_of v ≡ Has f page
+          → h.keeper ≡ id → k ≡ h.plan
           → SeatOk z.frames z.cpus s.words h.plan h.keeper h.seat_of h.holder h.given h.log (h.holder f) v → ⊥
       of_view (Passing q) {page} there has here is ok =
           let e = subst (λ x. HoldsHand x q.walk) has ok.1.holds in
-          holder_stands s.words h.plan.watch q.walk cleared f e.0 h.book_ok.plan_ok ok.1.pass_ok (subst (λ p. HasNoted p.watch cleared) is noted)
+          holder_stands s.words h.plan.watch q.walk cleared f e.0 h.book_ok.plan_ok ok.1.pass_ok
+          (subst (λ p. HasNoted p.watch cleared) is noted)
           (subst (λ p. MayBind p.watch cleared f) is may) e.1
-      of_view (Keeping u) {page} there has here is ok = free_has f page (sym free ∙ ap (λ p. p.hand) (is ∙ sym ok.1) ∙ has)
+      of_view (Keeping u) {page} there has here is ok =
+          free_has f page (sym free ∙ ap (λ p. p.hand) (is ∙ sym ok.1) ∙ has)
       of_view (Spent u) {page} there has here is ok = free_has f page has
 
-  pub keeper_takes : (slots id f cleared : ℕ) (k : Holder) → k.hand ≡ Free → HasNoted k.watch cleared → MayBind k.watch cleared f → f < z.frames
+  pub keeper_takes : (slots id f cleared : ℕ) (k : Holder) → k.hand ≡ Free → HasNoted k.watch cleared
+      → MayBind k.watch cleared f → f < z.frames
       → Allows (InOrder z) slots id (Keeping k, []) (turn_at z.frames z.cpus f) (λ n. either (eqb n 0) 1 n)
       (KeeperTakes (step slots (turn_at z.frames z.cpus f) 0 1 M.none) (Keeping k, []))
   keeper_takes slots id f cleared k free noted may inside s h homes at fits =
       let mine = h.seats_ok id (Keeping k) at in
       let n : ℕ = get_or s.words (turn_at z.frames z.cpus f) 0 in
-      let frame : (g : ℕ) → turn_at z.frames z.cpus f ≡ turn_at (length k.watch.doors) (length k.parts) g → f ≡ g = λ g e.
+      let frame : (g : ℕ) → turn_at z.frames z.cpus f ≡ turn_at (length k.watch.doors) (length k.parts) g → f ≡ g =
+      λ g e.
       (let r : length k.watch.doors ≡ z.frames = ap (λ p. length p.watch.doors) mine.1 ∙ h.book_ok.plan_ok.doors_row in
       let c : length k.parts ≡ z.cpus = ap (λ p. length p.parts) mine.1 ∙ h.book_ok.parts in omega arith) in
-      exchanged n 0 1 (λ x. Owed z s id [] (turn_at z.frames z.cpus f) x (KeeperTakes (step slots (turn_at z.frames z.cpus f) 0 1 M.none) (Keeping k, [])))
+      exchanged n 0 1 (λ x. Owed z s id [] (turn_at z.frames z.cpus f) x
+      (KeeperTakes (step slots (turn_at z.frames z.cpus f) 0 1 M.none) (Keeping k, [])))
       (λ (hit : n ≡ 0).
       let slot = h.slots_ok f inside hit in (
         Keeping (record k { hand = Has f slot.0.page }),
         takes f (Some slot.0),
         slot.1,
-        taken_kept s h id f slot.0 (Keeping k) (Keeping (record k { hand = Has f slot.0.page })) (record h.plan { hand = Has f slot.0.page }) at free refl
+        taken_kept s h id f slot.0 (Keeping k) (Keeping (record k { hand = Has f slot.0.page }))
+            (record h.plan { hand = Has f slot.0.page }) at free refl
             inside hit (Has f slot.0.page) refl (
               mine.0,
               ap (with_hand (Has f slot.0.page)) mine.1,
@@ -408,8 +502,18 @@ module _ (z : Size) where
                 slot.2,
               ),
             )
-            (others_taken s.words h.plan (Has f slot.0.page) h.keeper h.seat_of h.holder h.given h.log id f inside hit h.book_ok
+            (others_taken s.words h.plan (Has f slot.0.page) h.keeper h.seat_of h.holder h.given h.log id f inside hit
+            h.book_ok
             (λ j other is. absurd (other (sym is ∙ mine.0)))),
-        λ g e. (hit, (slot.0, λ i. (Keeping (record k { hand = Has (frame g e i) slot.0.page }), (frame g e i, Some slot.0) ∷ []))),
+        λ g e. (
+          hit,
+          (
+            slot.0,
+            λ i. (
+              Keeping (record k { hand = Has (frame g e i) slot.0.page }),
+              (frame g e i, Some slot.0) ∷ [],
+            ),
+          ),
+        ),
       ))
       (λ (miss : n ≢ 0). absurd (turn_is_free s h id f cleared k at free noted may inside miss))

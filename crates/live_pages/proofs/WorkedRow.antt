@@ -1,5 +1,5 @@
--- What the definitions of the end say of a worked row, with one frame and two processors: a page is bound; processor 0 adds 5 at
--- place 3, processor 1 reads there, processor 0 puts 7; then another page is bound, and touched by nobody.
+-- What the definitions of the end say of a worked row, with one frame and two processors: a page is bound; processor 0
+-- adds 5 at place 3, processor 1 reads there, processor 0 puts 7; then another page is bound, and touched by nobody.
 use Rattle.std.proofs.Common.{◌≡◌, [], ◌∷◌, replicate, set, refl}
 use Rattle.live_doors.specs.Doors.{first_watch}
 use Rattle.live_pages.specs.declared.touch.Touch.TheVariants.{Get, Put, Add}

@@ -1,5 +1,6 @@
 -- What is seen at the end: all touches in order of their tickets, and each binding with its pages.
-use Rattle.std.specs.Prelude.{◌≡◌, ℕ, zero, suc, ◌+◌, ◌<◌, All, List, [], ◌∷◌, ◌++◌, length, replicate, reverse, slice_index_or, Option, Some}
+use Rattle.std.specs.Prelude.{◌≡◌, ℕ, zero, suc, ◌+◌, ◌<◌, All, List, [], ◌∷◌, ◌++◌, length, replicate, reverse}
+use Rattle.std.specs.Prelude.{slice_index_or, Option, Some}
 use mathlib.Core.Option as M
 use lib.ListN.{get_elem?}
 use Rattle.live_pages.specs.declared.rule.Held.{Held}
@@ -52,7 +53,8 @@ pub record Binding : Type 0 where
 -- the bindings that have ended, in order
 abbrev pub ended_bindings : Given → List Bound → List Binding
 ended_bindings given [] = []
-ended_bindings given (b ∷ bs) = ended_bindings given bs ++ record { frame = b.frame; number = b.binding; given = given b.frame b.binding; left = b.left } ∷ []
+ended_bindings given (b ∷ bs) = ended_bindings given bs
+    ++ record { frame = b.frame; number = b.binding; given = given b.frame b.binding; left = b.left } ∷ []
 
 -- the last binding of each of the first frames, where these pages are left
 abbrev pub last_bindings : ℕ → List (List ℕ) → Holder → List Binding
@@ -77,7 +79,8 @@ IsLeftAfterAll k b = b.left ≡ pages_after k b.frame b.number
 abbrev pub HasNext : Holder → Bound → Type 0
 HasNext k b = (b.binding < current k.watch b.frame) × (b.next ≡ page_given k.ended b.frame (b.binding + 1))
 
--- What the keeper knows, with the touches of every pass, is as one thread would have it that made all touches in order of ticket.
+-- What the keeper knows, with the touches of every pass, is as one thread would have it that made all touches in order
+-- of ticket.
 pub record IsOfOneThread (cpus : ℕ) (k : Holder) : Type 0 where
   -- the tickets are the numbers from 0 on, each once, and each word is that of its binding's page at that moment
   pub words : AreOfOneThread 0 (page_given k.ended) (in_order k)
@@ -93,13 +96,17 @@ pub record IsOfOneThread (cpus : ℕ) (k : Holder) : Type 0 where
   pub in_turn : AreInTurn k.ended
   pub last : (f : ℕ) → current k.watch f ≡ ended_of f k.ended
 
--- all is as one thread would have it, and each page that was handed out and the page in each slot is its binding's after its touches
+-- all is as one thread would have it, and each page that was handed out and the page in each slot is its binding's
+-- after its touches
 abbrev pub EndIsLegal : ℕ → ℕ → List (M.Option (Option Held)) → Holder → Type 0
-EndIsLegal frames cpus homes k = IsOfOneThread cpus k × All (IsLeftAfterAll k) (ended_bindings (page_given k.ended) k.ended)
-    × ((f : ℕ) → f < frames → (h : Held) × (get_elem? homes f ≡ M.some (M.some (Some h))) × (h.page ≡ pages_after k f (current k.watch f)))
+EndIsLegal frames cpus homes k = IsOfOneThread cpus k × All (IsLeftAfterAll k)
+    (ended_bindings (page_given k.ended) k.ended)
+    × ((f : ℕ) → f < frames → (h : Held) × (get_elem? homes f ≡ M.some (M.some (Some h)))
+    × (h.page ≡ pages_after k f (current k.watch f)))
 
 -- Once the keeper has taken every pass in, the end is legal.
 abbrev pub AllInIsLegal : Type 0
-AllInIsLegal = (z : Size) (words : List ℕ) (homes : List (M.Option (Option Held))) (views : List View) (seat : ℕ) (k : Holder) → Kept z words homes views
+AllInIsLegal = (z : Size) (words : List ℕ) (homes : List (M.Option (Option Held))) (views : List View) (seat : ℕ)
+    (k : Holder) → Kept z words homes views
     → get_elem? views seat ≡ M.some (Keeping k) → k.hand ≡ Free → AllIn z.cpus k
     → EndIsLegal z.frames z.cpus homes k

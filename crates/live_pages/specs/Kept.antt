@@ -1,5 +1,6 @@
 -- The rule over the words of the table, the pages in their slots and the views of its seats.
-use Rattle.std.specs.Prelude.{◌≡◌, ◌≢◌, ℕ, ◌+◌, ◌/◌, ◌^◌, ◌<◌, ◌≤◌, List, [], ◌∷◌, length, replicate, slice_index, slice_index_or, Option, None, Some}
+use Rattle.std.specs.Prelude.{◌≡◌, ◌≢◌, ℕ, ◌+◌, ◌/◌, ◌^◌, ◌<◌, ◌≤◌, List, [], ◌∷◌, length, replicate, slice_index}
+use Rattle.std.specs.Prelude.{slice_index_or, Option, None, Some}
 use mathlib.Core.Option as M
 use lib.ListN.{get_elem?}
 use Rattle.live_doors.specs.declared.views.Walk.{Walk}
@@ -29,11 +30,12 @@ AreOfBindings cpus plan (e ∷ es) = AreOfBindings cpus plan es × (e.cpu < cpus
 -- Each binding that has ended left the page that its touches made, and the next one was given the page that is named.
 abbrev pub HaveLeft : Given → Watch → List Made → List Bound → Type 0
 HaveLeft given plan log [] = Unit {0}
-HaveLeft given plan log (b ∷ bs) = HaveLeft given plan log bs × (b.binding < current plan b.frame) × (b.left ≡ after given b.frame b.binding log)
+HaveLeft given plan log (b ∷ bs) = HaveLeft given plan log bs × (b.binding < current plan b.frame)
+    × (b.left ≡ after given b.frame b.binding log)
     × (b.next ≡ given b.frame (b.binding + 1))
 
--- What the words say besides doors, stamps and acknowledgements: the tickets count the touches, which are those of one thread.
--- No processor makes more than 2^32, so the tickets never wrap.
+-- What the words say besides doors, stamps and acknowledgements: the tickets count the touches, which are those of one
+-- thread. No processor makes more than 2^32, so the tickets never wrap.
 pub record BookOk (frames cpus : ℕ) (words : List ℕ) (plan : Holder) (given : Given) (log : List Made) : Type 0 where
   pub plan_ok : PlanOk frames cpus words plan.watch
   pub room : ticket_at frames cpus < length words
@@ -64,14 +66,16 @@ TurnsOk frames cpus words views holder = (f : ℕ) → f < frames → slice_inde
 abbrev pub HandOk : ℕ → ℕ → List ℕ → Watch → (ℕ → ℕ) → Given → List Made → ℕ → Hand → Type 0
 HandOk frames cpus words plan holder given log seat Free = Unit {0}
 HandOk frames cpus words plan holder given log seat (Has f page) =
-    (f < frames) × (holder f ≡ seat) × (slice_index words (turn_at frames cpus f) ≢ 0) × (page ≡ after given f (current plan f) log)
+    (f < frames) × (holder f ≡ seat) × (slice_index words (turn_at frames cpus f) ≢ 0)
+    × (page ≡ after given f (current plan f) log)
 
 -- a pass has the turn only of a frame that it holds an entry of
 abbrev pub HoldsHand : Hand → Walk → Type 0
 HoldsHand Free p = Unit {0}
 HoldsHand (Has f page) p = (b : ℕ) × (slice_index_or p.held f None ≡ Some b)
 
-pub record WalkerOk (frames cpus : ℕ) (words : List ℕ) (plan : Holder) (holder : ℕ → ℕ) (given : Given) (log : List Made) (seat : ℕ) (w : Walker) : Type 0 where
+pub record WalkerOk (frames cpus : ℕ) (words : List ℕ) (plan : Holder) (holder : ℕ → ℕ) (given : Given)
+    (log : List Made) (seat : ℕ) (w : Walker) : Type 0 where
   pub all : w.cpus ≡ cpus
   pub pass_ok : PassOk frames cpus words plan.watch w.walk
   pub made : w.made ≡ mine w.walk.cpu log
@@ -86,8 +90,8 @@ SeatOk frames cpus words plan keeper seat_of holder given log seat (Keeping k) =
     × HandOk frames cpus words plan.watch holder given log seat k.hand
 SeatOk frames cpus words plan keeper seat_of holder given log seat (Spent k) = Unit {0}
 
--- The rule: there are a plan, the keeper's seat, a seat for each processor, a holder for each turn, a page that each binding
--- was given, and the touches, beside which words, slots and all views are in order.
+-- The rule: there are a plan, the keeper's seat, a seat for each processor, a holder for each turn, a page that each
+-- binding was given, and the touches, beside which words, slots and all views are in order.
 pub record Kept (z : Size) (words : List ℕ) (homes : List (M.Option (Option Held))) (views : List View) : Type 0 where
   pub plan : Holder
   pub keeper : ℕ
@@ -98,7 +102,8 @@ pub record Kept (z : Size) (words : List ℕ) (homes : List (M.Option (Option He
   pub book_ok : BookOk z.frames z.cpus words plan given log
   pub slots_ok : SlotsOk z.frames z.cpus words homes plan.watch given log
   pub turns_ok : TurnsOk z.frames z.cpus words views holder
-  pub seats_ok : (seat : ℕ) (v : View) → get_elem? views seat ≡ M.some v → SeatOk z.frames z.cpus words plan keeper seat_of holder given log seat v
+  pub seats_ok : (seat : ℕ) (v : View) → get_elem? views seat ≡ M.some v
+      → SeatOk z.frames z.cpus words plan keeper seat_of holder given log seat v
 
 -- the touches of every processor were taken in
 abbrev pub AllIn : ℕ → Holder → Type 0
@@ -106,7 +111,8 @@ AllIn cpus k = (cpu : ℕ) → cpu < cpus → (made : List Made) × (slice_index
 
 -- wherever the rule holds and a pass holds these entries, this is the binding of frame f, by its door
 abbrev pub IsCurrent : Walk → ℕ → ℕ → Type 0
-IsCurrent p f b = (z : Size) (words : List ℕ) (homes : List (M.Option (Option Held))) (views : List View) (seat : ℕ) (w : Walker)
+IsCurrent p f b = (z : Size) (words : List ℕ) (homes : List (M.Option (Option Held))) (views : List View) (seat : ℕ)
+    (w : Walker)
     → Kept z words homes views → get_elem? views seat ≡ M.some (Passing w) → w.walk.held ≡ p.held → f < z.frames
     → slice_index words (door_at f) / 2 ≡ b
 
@@ -116,11 +122,13 @@ EntryIsCurrent = (p : Walk) (f b : ℕ) → slice_index_or p.held f None ≡ Som
 
 -- no pass holds an entry of frame f
 abbrev pub NoHolder : List View → ℕ → Type 0
-NoHolder views f = (seat : ℕ) (w : Walker) → get_elem? views seat ≡ M.some (Passing w) → slice_index_or w.walk.held f None ≡ None
+NoHolder views f = (seat : ℕ) (w : Walker) → get_elem? views seat ≡ M.some (Passing w)
+    → slice_index_or w.walk.held f None ≡ None
 
 -- wherever the rule holds and this is what the keeper knows, no pass holds an entry of frame f
 abbrev pub HasNoHolder : Holder → ℕ → Type 0
-HasNoHolder k f = (z : Size) (words : List ℕ) (homes : List (M.Option (Option Held))) (views : List View) (seat : ℕ) → Kept z words homes views
+HasNoHolder k f = (z : Size) (words : List ℕ) (homes : List (M.Option (Option Held))) (views : List View) (seat : ℕ)
+    → Kept z words homes views
     → get_elem? views seat ≡ M.some (Keeping k) → NoHolder views f
 
 -- no pass holds an entry of a frame that was closed before this stamp was raised, and is closed still
@@ -129,4 +137,5 @@ IsClearOf k stamp = (f : ℕ) → IsShut k.watch f → slice_index k.watch.since
 
 -- no pass holds an entry of a frame that may be bound
 abbrev pub MayBindHasNoHolder : Type 0
-MayBindHasNoHolder = (k : Holder) (cleared f : ℕ) → HasNoted k.watch cleared → MayBind k.watch cleared f → HasNoHolder k f
+MayBindHasNoHolder = (k : Holder) (cleared f : ℕ) → HasNoted k.watch cleared → MayBind k.watch cleared f
+    → HasNoHolder k f

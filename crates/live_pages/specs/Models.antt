@@ -1,5 +1,6 @@
 -- What callers see of pages, passes and the keeper.
-use Rattle.std.specs.Prelude.{◌≡◌, ℕ, zero, suc, ◌+◌, ◌++◌, replicate, Option, ◌<◌, ◌≤◌, List, [], ◌∷◌, length, slice_index_or, slice_set, Some}
+use Rattle.std.specs.Prelude.{◌≡◌, ℕ, zero, suc, ◌+◌, ◌++◌, replicate, Option, ◌<◌, ◌≤◌, List, [], ◌∷◌, length}
+use Rattle.std.specs.Prelude.{slice_index_or, slice_set, Some}
 use mathlib.Core.Option as M
 use lib.ListN.{get_elem?}
 use Rattle.atomic_table.specs.Seated.{TableId}
@@ -12,7 +13,8 @@ use Rattle.live_pages.specs.declared.rule.Held.{Held}
 use Rattle.live_pages.specs.declared.rule.Size.{Size}
 use Rattle.live_pages.specs.declared.views.Walker.{Walker}
 use Rattle.live_pages.specs.declared.views.Holder.{Holder}
-use Rattle.live_pages.specs.Turns.{Seat, watching, first_holder, first_walker, walker_of, holder_of, taken, having_made, admitted, current}
+use Rattle.live_pages.specs.Turns.{Seat, watching, first_holder, first_walker, walker_of, holder_of, taken}
+use Rattle.live_pages.specs.Turns.{having_made, admitted, current}
 
 -- which table it is, and how many frames and processors it has
 pub record PagesModel : Type 0 where
@@ -89,7 +91,11 @@ having_touched ticket f t word w = record (having_made ticket f t word [] (taken
 
 -- Frame f's binding has ended and left a page, and its door admits the next one, which was given this page.
 abbrev pub rebound : ℕ → List ℕ → List ℕ → Holder → Holder
-rebound f page left k = record k { watch = admitted f k.watch; ended = record { frame = f; binding = current k.watch f; left = left; next = page } ∷ k.ended }
+rebound f page left k = record k {
+  watch = admitted f k.watch;
+  ended =
+      record { frame = f; binding = current k.watch f; left = left; next = page } ∷ k.ended;
+}
 
 -- only doors, stamps and acknowledgements differ
 pub record SameButWatch (old new : Holder) : Type 0 where
@@ -99,7 +105,8 @@ pub record SameButWatch (old new : Holder) : Type 0 where
 
 -- each slot has a page of zeros
 abbrev pub HaveZeroPages : List (Option Held) → Type 0
-HaveZeroPages slots = (f : ℕ) → f < length slots → (h : Held) × (get_elem? slots f ≡ M.some (Some h)) × (h.page ≡ replicate 1024 0)
+HaveZeroPages slots = (f : ℕ) → f < length slots → (h : Held) × (get_elem? slots f ≡ M.some (Some h))
+    × (h.page ≡ replicate 1024 0)
 
 -- the keeper once every pass is made
 abbrev pub opening_holder : ℕ → ℕ → Holder
@@ -108,11 +115,13 @@ opening_holder frames cpus = watching (λ w. record w { made = cpus }) (first_ho
 -- the first n passes of these pages, each new, in order of processor
 abbrev pub first_passes : PagesModel → ℕ → List PassModel
 first_passes pages zero = []
-first_passes pages (suc n) = first_passes pages n ++ record { table = pages.table; walker = first_walker pages.frames pages.cpus n } ∷ []
+first_passes pages (suc n) = first_passes pages n ++ record
+    { table = pages.table; walker = first_walker pages.frames pages.cpus n } ∷ []
 
 -- the pass of each processor is among these
 abbrev pub AreAll : PagesModel → List PassModel → Type 0
-AreAll pages passes = (cpu : ℕ) → cpu < pages.cpus → (i : ℕ) × (i < length passes) × ((d : PassModel) → (slice_index_or passes i d).walker.walk.cpu ≡ cpu)
+AreAll pages passes = (cpu : ℕ) → cpu < pages.cpus → (i : ℕ) × (i < length passes)
+    × ((d : PassModel) → (slice_index_or passes i d).walker.walk.cpu ≡ cpu)
 
 -- the keeper with the touches of a pass
 abbrev pub taking_in : PassModel → Holder → Holder
@@ -125,4 +134,5 @@ taking_all_in (p ∷ ps) k = taking_in p (taking_all_in ps k)
 
 -- these are the pages of the slots, in order
 abbrev pub HavePages : List (Option Held) → List (List ℕ) → Type 0
-HavePages slots pages = (f : ℕ) → f < length pages → (h : Held) × (get_elem? slots f ≡ M.some (Some h)) × (slice_index_or pages f [] ≡ h.page)
+HavePages slots pages = (f : ℕ) → f < length pages → (h : Held) × (get_elem? slots f ≡ M.some (Some h))
+    × (slice_index_or pages f [] ≡ h.page)

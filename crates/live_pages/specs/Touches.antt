@@ -1,5 +1,6 @@
 -- Touches of the pages of bindings, as one thread makes them. Source: own.
-use Rattle.std.specs.Prelude.{◌≡◌, ℕ, zero, suc, ◌+◌, ◌%◌, ◌^◌, ◌<◌, Bool, true, false, cond, ◌&&◌, ◌==◌, List, [], ◌∷◌, ◌++◌, length, replicate, slice_index}
+use Rattle.std.specs.Prelude.{◌≡◌, ℕ, zero, suc, ◌+◌, ◌%◌, ◌^◌, ◌<◌, Bool, true, false, cond, ◌&&◌, ◌==◌, List, []}
+use Rattle.std.specs.Prelude.{◌∷◌, ◌++◌, length, replicate, slice_index}
 use Rattle.std.specs.Prelude.{slice_set}
 use Rattle.live_pages.specs.declared.touch.Touch.{Touch}
 use Rattle.live_pages.specs.declared.touch.Touch.TheVariants.{Get, Put, Add}
@@ -28,11 +29,12 @@ place_of (Add i word) = i
 abbrev pub Given : Type 0
 Given = ℕ → ℕ → List ℕ
 
--- The page that each binding was given, where these have ended, the last one first: binding 0 of each frame a page of zeros, and
--- every other the page that the bind took which ended the one before.
+-- The page that each binding was given, where these have ended, the last one first: binding 0 of each frame a page of
+-- zeros, and every other the page that the bind took which ended the one before.
 abbrev pub page_given : List Bound → Given
 page_given [] frame binding = replicate 1024 0
-page_given (b ∷ bs) frame binding = cond (frame == b.frame && binding == b.binding + 1) b.next (page_given bs frame binding)
+page_given (b ∷ bs) frame binding = cond (frame == b.frame && binding == b.binding + 1) b.next
+    (page_given bs frame binding)
 
 -- how many bindings of a frame have ended
 abbrev pub ended_of : ℕ → List Bound → ℕ
@@ -57,10 +59,12 @@ abbrev pub after : Given → ℕ → ℕ → List Made → List ℕ
 after given frame binding [] = given frame binding
 after given frame binding (e ∷ es) = touched_if (is_of frame binding e) e.touch (after given frame binding es)
 
--- The touches, the last one first, are those of one thread: each has the next ticket, and its word is that of its binding's page.
+-- The touches, the last one first, are those of one thread: each has the next ticket, and its word is that of its
+-- binding's page.
 abbrev pub IsLegal : Given → List Made → Type 0
 IsLegal given [] = Unit {0}
-IsLegal given (e ∷ es) = IsLegal given es × (e.word ≡ answer e.touch (after given e.frame e.binding es)) × (e.ticket ≡ length es)
+IsLegal given (e ∷ es) = IsLegal given es × (e.word ≡ answer e.touch (after given e.frame e.binding es))
+    × (e.ticket ≡ length es)
 
 -- these touches have tickets below this number
 abbrev pub AreBelow : ℕ → List Made → Type 0
@@ -95,8 +99,9 @@ abbrev pub after_all : List Made → Given → Given
 after_all [] pages = pages
 after_all (e ∷ es) pages = after_all es (touching e pages)
 
--- The touches, in order, are those of one thread that found these pages and had made n touches before: each has the next ticket,
--- and its word is that of its binding's page at that moment.
+-- The touches, in order, are those of one thread that found these pages and had made n touches before: each has the
+-- next ticket, and its word is that of its binding's page at that moment.
 abbrev pub AreOfOneThread : ℕ → Given → List Made → Type 0
 AreOfOneThread n pages [] = Unit {0}
-AreOfOneThread n pages (e ∷ es) = (e.ticket ≡ n) × (e.word ≡ answer e.touch (pages e.frame e.binding)) × AreOfOneThread (n + 1) (touching e pages) es
+AreOfOneThread n pages (e ∷ es) = (e.ticket ≡ n) × (e.word ≡ answer e.touch (pages e.frame e.binding))
+    × AreOfOneThread (n + 1) (touching e pages) es

@@ -1,5 +1,6 @@
 -- What each kind of step on a word tells the seat that makes it.
-use Rattle.std.specs.Prelude.{◌≡◌, ◌≢◌, ℕ, ◌+◌, ◌*◌, ◌/◌, ◌≤◌, List, [], ◌∷◌, ◌++◌, length, replicate, slice_index, slice_index_or, slice_set, Option, None}
+use Rattle.std.specs.Prelude.{◌≡◌, ◌≢◌, ℕ, ◌+◌, ◌*◌, ◌/◌, ◌≤◌, List, [], ◌∷◌, ◌++◌, length, replicate, slice_index}
+use Rattle.std.specs.Prelude.{slice_index_or, slice_set, Option, None}
 use Rattle.std.specs.Prelude.{Some}
 use Rattle.atomic_table.specs.Table.{Step, Me}
 use Rattle.live_doors.specs.declared.views.Walk.{Walk}
@@ -35,7 +36,13 @@ first_walker frames cpus cpu = record { cpus = cpus; walk = blank frames cpu; ma
 
 -- the keeper at the start
 abbrev pub first_holder : ℕ → ℕ → Holder
-first_holder frames cpus = record { watch = first_watch frames cpus 1; hand = Free; ended = []; parts = replicate cpus Out }
+first_holder frames cpus = record {
+  watch = first_watch frames cpus 1;
+  hand = Free;
+  ended = [];
+  parts =
+      replicate cpus Out;
+}
 
 -- the words at the start: those of the doors, then every turn free and no ticket drawn
 abbrev pub opening_words : ℕ → ℕ → List ℕ
@@ -73,7 +80,8 @@ abbrev pub Told : Type 1
 Told = Step (Option Held) → Seat → ℕ → Seat → Type 0
 
 abbrev pub Fills : Told
-Fills s old word new = (f : ℕ) → s.word ≡ door_at f → (1 ≤ word) × (new ≡ (Passing (walking (filled f word) (walker_of old.0)), old.1))
+Fills s old word new = (f : ℕ) → s.word ≡ door_at f → (1 ≤ word)
+    × (new ≡ (Passing (walking (filled f word) (walker_of old.0)), old.1))
 
 abbrev pub Forgets : Told
 Forgets s old word new = new ≡ (Passing (walking (forgotten word) (walker_of old.0)), old.1)
@@ -89,7 +97,8 @@ Raises s old word new = new ≡ (Keeping (watching raised (holder_of old.0)), ol
 
 abbrev pub Looks : Told
 Looks s old word new = (cpu : ℕ) → s.word ≡ ack_at (length (holder_of old.0).watch.doors) cpu
-    → (slice_index (holder_of old.0).watch.noted cpu ≤ word) × (new ≡ (Keeping (watching (having_noted cpu word) (holder_of old.0)), old.1))
+    → (slice_index (holder_of old.0).watch.noted cpu ≤ word)
+    × (new ≡ (Keeping (watching (having_noted cpu word) (holder_of old.0)), old.1))
 
 -- the touch that lies with the page in hand, if a page is
 abbrev pub page_in_hand : List (ℕ × Option Held) → Option Held
@@ -117,14 +126,19 @@ Takes s old word new = (f : ℕ) → s.word ≡ turn_at (length (walker_of old.0
 -- the pass has made this touch of frame f by this ticket, and has this page after it
 abbrev pub having_made : ℕ → ℕ → Touch → ℕ → List ℕ → Walker → Walker
 having_made ticket f t word page w = record w {
-  made = record { ticket = ticket; cpu = w.walk.cpu; frame = f; binding = binding_at w.walk f; touch = t; word = word } ∷ w.made;
+  made = record { ticket = ticket; cpu = w.walk.cpu; frame = f; binding = binding_at w.walk f; touch = t; word = word }
+      ∷ w.made;
   hand = Has f page;
 }
 
 -- the pass makes the touch that lies with the page in hand, by a ticket above all that it had
 abbrev pub Draws : Told
 Draws s old word new = (f : ℕ) (h : Held) (rest : List (ℕ × Option Held)) → old.1 ≡ (f, Some h) ∷ rest
-    → AreBelow word (walker_of old.0).made × (new ≡ (Passing (having_made word f h.touch h.word h.page (walker_of old.0)), old.1))
+    → AreBelow word (walker_of old.0).made × (new ≡ (
+      Passing
+          (having_made word f h.touch h.word h.page (walker_of old.0)),
+      old.1,
+    ))
 
 -- the pass has no turn any more, and the slot in hand is back in its place
 abbrev pub Gives : Told
@@ -133,8 +147,13 @@ Gives s old word new = (x : ℕ × Option Held) (rest : List (ℕ × Option Held
 
 -- the keeper found the turn free, and has it with the page that its slot held
 abbrev pub KeeperTakes : Told
-KeeperTakes s old word new = (f : ℕ) → s.word ≡ turn_at (length (holder_of old.0).watch.doors) (length (holder_of old.0).parts) f
-    → (word ≡ 0) × ((h : Held) × (new ≡ (Keeping (record (holder_of old.0) { hand = Has f h.page }), (f, Some h) ∷ old.1)))
+KeeperTakes s old word new = (f : ℕ) → s.word ≡ turn_at (length (holder_of old.0).watch.doors)
+    (length (holder_of old.0).parts) f
+    → (word ≡ 0) × ((h : Held) × (new ≡ (
+      Keeping (record (holder_of old.0) { hand = Has f h.page }),
+      (f, Some h)
+          ∷ old.1,
+    )))
 
 -- the page that a keeper's turn has
 abbrev pub page_of : Hand → List ℕ
@@ -145,8 +164,8 @@ page_of (Has f page) = page
 abbrev pub admitted : ℕ → Watch → Watch
 admitted f w = record w { doors = slice_set w.doors f (2 * (current w f + 1)) }
 
--- The frame's binding ends with the page that the keeper took out, and the next one begins with this page. `given` is what
--- each binding of the frame was given.
+-- The frame's binding ends with the page that the keeper took out, and the next one begins with this page. `given` is
+-- what each binding of the frame was given.
 abbrev pub bound_anew : ℕ → List ℕ → Holder → Holder
 bound_anew f page k = record k {
   watch = admitted f k.watch;
@@ -170,11 +189,15 @@ keeper_with_pass v = Keeping (watching (λ w. record w { made = w.made + 1 }) (h
 
 -- the pass of the next processor
 abbrev pub pass_of_keeper : View → View
-pass_of_keeper v = Passing (first_walker (length (holder_of v).watch.doors) (length (holder_of v).parts) (holder_of v).watch.made)
+pass_of_keeper v = Passing (first_walker (length (holder_of v).watch.doors) (length (holder_of v).parts)
+    (holder_of v).watch.made)
 
 -- the keeper with the touches of a pass
 abbrev pub taken_in : View → View → View
-taken_in v w = Keeping (record (holder_of v) { parts = slice_set (holder_of v).parts (walker_of w).walk.cpu (In (walker_of w).made) })
+taken_in v w = Keeping (record (holder_of v) {
+  parts =
+      slice_set (holder_of v).parts (walker_of w).walk.cpu (In (walker_of w).made);
+})
 
 -- a seat that shows what the keeper knows, and steps no more
 abbrev pub shown : View → View

@@ -7,7 +7,15 @@ use Rattle.live_pages.specs.declared.touch.Made.{Made}
 
 -- a touch of that binding, by this processor, which was answered so
 abbrev pub made_so : ℕ → Touch → Touched → Made
-made_so cpu t answer = record { ticket = answer.ticket; cpu = cpu; frame = 0; binding = 1; touch = t; word = answer.word }
+made_so cpu t answer = record {
+  ticket = answer.ticket;
+  cpu = cpu;
+  frame = 0;
+  binding = 1;
+  touch = t;
+  word =
+      answer.word;
+}
 
 -- processor 0 adds 5 at place 3
 abbrev pub adds : Made

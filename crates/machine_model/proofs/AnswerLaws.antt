@@ -53,7 +53,14 @@ answer_keeps v c k place f r run keeps can =
       tied = keeps.tied;
       holding_right = λ d. by_place (λ (x : Processor). HoldsRight v.bound (shown v).descriptor x) v.processors c p d
           (λ i. (let was = keeps.holding_right c in
-          record { pages = was.pages; segs = was.segs; few_pages = was.few_pages; few_segs = was.few_segs; warned = was.warned }))
+          record {
+            pages = was.pages;
+            segs = was.segs;
+            few_pages = was.few_pages;
+            few_segs = was.few_segs;
+            warned =
+                was.warned;
+          }))
           (λ n. keeps.holding_right d);
       under_way = under_way_alike v.reads v.processors (at_put v.processors c p)
           (λ d. by_place (λ (x : Processor). x.cpu.transfer ≡ (v.processors d).cpu.transfer) v.processors c p d

@@ -25,7 +25,8 @@ bound_within s f e = elim (cases_lt f (length s.core.frames)) [
   | inr past ↦ let z : false ≡ true = sym (ap is_bound (get_or_past s.core.frames f Free past)) ∙ e in cc z
 ]
 
-put_after : (s : Plain) (f at w : ℕ) → is_bound (frame_in s f) ≡ true → word_put (referred s f false) f at w ≡ word_put s f at w
+put_after : (s : Plain) (f at w : ℕ) → is_bound (frame_in s f) ≡ true → word_put (referred s f false) f at w
+    ≡ word_put s f at w
 put_after s f at w e =
     let lt = bound_within s f e in
     let here : frame_in (referred s f false) f ≡ after_reference (frame_in s f) false =
@@ -40,7 +41,8 @@ put_after s f at w e =
     }) f (set (words_in s f) at w))
 
 -- a reference that writes, once its word was read
-pub reached : {D : Type 0} (old mid new : Parts D) (f w : ℕ) (r : Reference) → is_bound (frame_in old.state.store.pages f) ≡ true
+pub reached : {D : Type 0} (old mid new : Parts D) (f w : ℕ) (r : Reference)
+    → is_bound (frame_in old.state.store.pages f) ≡ true
     → mid ≡ with_pages_of old (referred old.state.store.pages f false)
     → new ≡ with_pages_of mid (word_put mid.state.store.pages f (r.offset % 1024) w)
     → alters r.kind ≡ true → w ≡ new_word (old_word old.state.store.pages f r) r.kind

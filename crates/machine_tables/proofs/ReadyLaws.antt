@@ -1,5 +1,6 @@
 -- How the ready list grows by the processes that the initializer makes ready.
-use Rattle.std.proofs.Common.{◌≡◌, ◌+◌, ◌<◌, ◌≤◌, ℕ, suc, zero, List, [], ◌∷◌, ◌++◌, length, refl, sym, ap, ◌∙◌, arith, append-nil, append_assoc, length-append}
+use Rattle.std.proofs.Common.{◌≡◌, ◌+◌, ◌<◌, ◌≤◌, ℕ, suc, zero, List, [], ◌∷◌, ◌++◌, length, refl, sym, ap, ◌∙◌, arith}
+use Rattle.std.proofs.Common.{append-nil, append_assoc, length-append}
 use Rattle.custody_model.specs.Custody.{range}
 use Rattle.traffic.specs.Queue.{Queue, with_last}
 
@@ -21,7 +22,8 @@ released q n = record q { waiting = q.waiting ++ range 1 n }
 pub none_released : (q : Queue) → q ≡ released q 0
 none_released q = λ i. record q { waiting = sym (append-nil q.waiting) i }
 
-pub one_released : (n : ℕ) (q before after : Queue) → before ≡ released q n → after ≡ with_last before (n + 1) → after ≡ released q (n + 1)
+pub one_released : (n : ℕ) (q before after : Queue) → before ≡ released q n → after ≡ with_last before (n + 1) → after
+    ≡ released q (n + 1)
 one_released n q before after e f =
     let s : suc n ≡ n + 1 = omega arith in
     let z : 1 + n ≡ n + 1 = omega arith in
@@ -30,7 +32,8 @@ one_released n q before after e f =
     let items = append_assoc q.waiting (range 1 n) ((n + 1) ∷ []) ∙ ap (λ (zs : List ℕ). q.waiting ++ zs) more in
     f ∙ ap (λ (x : Queue). with_last x (n + 1)) e ∙ (λ i. record q { waiting = items i })
 
-pub room_left : (q t : Queue) (n count : ℕ) → t ≡ released q n → n < count → length q.waiting + count ≤ q.room → length t.waiting < t.room
+pub room_left : (q t : Queue) (n count : ℕ) → t ≡ released q n → n < count → length q.waiting + count ≤ q.room
+    → length t.waiting < t.room
 room_left q t n count e lt room =
     let items : length t.waiting ≡ length q.waiting + length (range 1 n) =
     ap (λ (x : Queue). length x.waiting) e ∙ length-append q.waiting (range 1 n) in

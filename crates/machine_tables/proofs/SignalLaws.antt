@@ -25,7 +25,8 @@ one_more c w from (suc n) (p ∷ ps) d lt =
     let same : from + suc n ≡ from + 1 + n = omega arith in
     let mid : List Processor = told_first c w (from + 1) n ps in
     ap (λ (xs : List Processor). told_at c w from p ∷ xs)
-    (ap (λ (m : ℕ). set mid n (told_at c w m (get_or mid n d))) same ∙ one_more c w (from + 1) n ps d (omega (arith, lt)))
+    (ap (λ (m : ℕ). set mid n (told_at c w m (get_or mid n d))) same
+    ∙ one_more c w (from + 1) n ps d (omega (arith, lt)))
 
 pub next_told : (c : ℕ) (w : What) (n : ℕ) (ps before : List Processor) (d now : Processor) → n < length ps
     → before ≡ told_first c w 0 n ps → now ≡ told_at c w n (get_or before n d)
@@ -38,7 +39,8 @@ next_told c w n ps before d now lt e told =
     ∙ ap (λ (m : ℕ). set mid n (told_at c w m (get_or mid n d))) same
     ∙ one_more c w 0 n ps d lt ∙ ap (λ (m : ℕ). told_first c w 0 m ps) more
 
-all_told : (c : ℕ) (w : What) (from : ℕ) (ps : List Processor) → told_first c w from (length ps) ps ≡ told_from c w from ps
+all_told : (c : ℕ) (w : What) (from : ℕ) (ps : List Processor) → told_first c w from (length ps) ps
+    ≡ told_from c w from ps
 unfolding told_first
 all_told c w from [] = refl
 all_told c w from (p ∷ ps) = ap (λ (xs : List Processor). told_at c w from p ∷ xs) (all_told c w (from + 1) ps)

@@ -1,5 +1,6 @@
 -- A day is a script. (own)
-use Rattle.std.proofs.Common.{◌≡◌, ℕ, suc, zero, ◌+◌, ◌<◌, ◌≤◌, ◌*◌, Bool, true, not, ◌&&◌, List, [], ◌∷◌, ◌++◌, refl, ap, ◌∙◌, arith, codes, sum_by, Ok}
+use Rattle.std.proofs.Common.{◌≡◌, ℕ, suc, zero, ◌+◌, ◌<◌, ◌≤◌, ◌*◌, Bool, true, not, ◌&&◌, List, [], ◌∷◌, ◌++◌, refl}
+use Rattle.std.proofs.Common.{ap, ◌∙◌, arith, codes, sum_by, Ok}
 use Rattle.std.proofs.lemmas.Bool.Decides.{nat_tests}
 use Rattle.std.proofs.lemmas.Bool.{and_parts}
 use Rattle.std.proofs.lemmas.List.Sums.{sum_by-append, sum_by-cons}
@@ -7,13 +8,15 @@ use Rattle.std.specs.List.{list_all}
 use Rattle.draws.specs.Draws.{drawn}
 use Rattle.mnames.specs.Names.{is_label, is_label_byte, is_name, is_name_byte}
 use Rattle.mnames.specs.Principals.{default_project}
-use Rattle.script.specs.Forms.{IsPlan, ends_once, have_own_names, have_own_volumes, is_command, is_end, is_path, is_process, is_volume, is_who, weight, weight_of}
+use Rattle.script.specs.Forms.{IsPlan, ends_once, have_own_names, have_own_volumes, is_command, is_end, is_path}
+use Rattle.script.specs.Forms.{is_process, is_volume, is_who, weight, weight_of}
 use Rattle.script.specs.Grammar.{script_of}
 use Rattle.script.specs.Plans.{Plan}
 use Rattle.script.specs.Scripts.{script_text}
 use Rattle.script.specs.declared.commands.Command.{Command}
 use Rattle.script.specs.declared.commands.Command.TheVariants as command
-use Rattle.make_work.specs.Day.{counter, numbered, day_of, initializer, made, own, reference_count, shared, user, user_name, users}
+use Rattle.make_work.specs.Day.{counter, numbered, day_of, initializer, made, own, reference_count, shared, user}
+use Rattle.make_work.specs.Day.{user_name, users}
 use Rattle.make_work.specs.References.{reference_at, references, second, third, state_at}
 use Rattle.make_work.proofs.Drawing.{of_each}
 
@@ -34,7 +37,8 @@ is_reference x =
     let own_place = drawn_below 65536 (second x) (omega arith) in
     let word = drawn_below 511 (third x) (omega arith) in
     let own_word = drawn_below 8 (third x) (omega arith) in
-    of_each (λ c. is_command 2 c ≡ true) x (grind (arith, nat_tests)) (grind (arith, nat_tests)) (grind (arith, nat_tests)) (grind (arith, nat_tests)) (grind (arith, nat_tests))
+    of_each (λ c. is_command 2 c ≡ true) x (grind (arith, nat_tests)) (grind (arith, nat_tests))
+    (grind (arith, nat_tests)) (grind (arith, nat_tests)) (grind (arith, nat_tests))
 
 abbrev goes_on : Command → Bool
 goes_on c = not (is_end c)
@@ -47,20 +51,25 @@ reference_weighs_one x = of_each (λ c. weight c ≡ 1) x refl refl refl refl re
 
 -- ---- all references
 
-all_append : (p : Command → Bool) (xs ys : List Command) → list_all p xs ≡ true → list_all p ys ≡ true → list_all p (xs ++ ys) ≡ true
+all_append : (p : Command → Bool) (xs ys : List Command) → list_all p xs ≡ true → list_all p ys ≡ true
+    → list_all p (xs ++ ys) ≡ true
 all_append p [] ys h k = k
-all_append p (x ∷ xs) ys h k = let parts = and_parts (p x) (list_all p xs) h in both (p x) (list_all p (xs ++ ys)) parts.0 (all_append p xs ys parts.1 k)
+all_append p (x ∷ xs) ys h k = let parts = and_parts (p x) (list_all p xs) h in both (p x) (list_all p (xs ++ ys))
+    parts.0 (all_append p xs ys parts.1 k)
 
-all_references : (p : Command → Bool) → ((x : ℕ) → p (reference_at x) ≡ true) → (n x : ℕ) → list_all p (references n x) ≡ true
+all_references : (p : Command → Bool) → ((x : ℕ) → p (reference_at x) ≡ true) → (n x : ℕ) → list_all p (references n x)
+    ≡ true
 unfolding references
 all_references p each zero x = refl
-all_references p each (suc n) x = all_append p (references n x) (reference_at (state_at n x) ∷ []) (all_references p each n x) (both (p (reference_at (state_at n x))) true (each (state_at n x)) refl)
+all_references p each (suc n) x = all_append p (references n x) (reference_at (state_at n x) ∷ [])
+    (all_references p each n x) (both (p (reference_at (state_at n x))) true (each (state_at n x)) refl)
 
 ends_after : (cs : List Command) → list_all goes_on cs ≡ true → ends_once (cs ++ command.End ∷ []) ≡ true
 unfolding ends_once
 ends_after [] h = refl
 ends_after (c ∷ []) h = let parts = and_parts (goes_on c) true h in both (goes_on c) true parts.0 refl
-ends_after (c ∷ d ∷ cs) h = let parts = and_parts (goes_on c) (list_all goes_on (d ∷ cs)) h in both (goes_on c) (ends_once ((d ∷ cs) ++ command.End ∷ [])) parts.0 (ends_after (d ∷ cs) parts.1)
+ends_after (c ∷ d ∷ cs) h = let parts = and_parts (goes_on c) (list_all goes_on (d ∷ cs)) h in both (goes_on c)
+    (ends_once ((d ∷ cs) ++ command.End ∷ [])) parts.0 (ends_after (d ∷ cs) parts.1)
 
 end_is : list_all (is_command 2) (command.End ∷ []) ≡ true
 unfolding is_command
@@ -71,7 +80,8 @@ unfolding references
 weigh_as_many zero x = refl
 weigh_as_many (suc n) x =
     let parts = sum_by-append weight (references n x) (reference_at (state_at n x) ∷ []) in
-    let one : sum_by weight (reference_at (state_at n x) ∷ []) ≡ weight (reference_at (state_at n x)) = omega (arith, sum_by-cons weight (reference_at (state_at n x)) []) in
+    let one : sum_by weight (reference_at (state_at n x) ∷ []) ≡ weight (reference_at (state_at n x)) =
+    omega (arith, sum_by-cons weight (reference_at (state_at n x)) []) in
     omega (arith, parts, one, reference_weighs_one (state_at n x), weigh_as_many n x)
 
 -- ---- the users
@@ -110,12 +120,24 @@ user_is : (j x : ℕ) → j < 10 → is_process 2 (user j x) ≡ true
 unfolding is_process user
 user_is j x few =
     let refs = references reference_count x in
-    let rest : list_all (is_command 2) (refs ++ command.End ∷ []) ≡ true = all_append (is_command 2) refs (command.End ∷ []) (all_references (is_command 2) is_reference reference_count x) end_is in
-    let third_is : list_all (is_command 2) (command.Initiate (own j) ∷ (refs ++ command.End ∷ [])) ≡ true = both (is_command 2 (command.Initiate (own j))) (list_all (is_command 2) (refs ++ command.End ∷ [])) (initiates (own j) (has_own j few)) rest in
-    let second_is : list_all (is_command 2) (command.Initiate shared ∷ command.Initiate (own j) ∷ (refs ++ command.End ∷ [])) ≡ true = both (is_command 2 (command.Initiate shared)) _ (initiates shared has_shared) third_is in
-    let all : list_all (is_command 2) (command.Initiate counter ∷ command.Initiate shared ∷ command.Initiate (own j) ∷ (refs ++ command.End ∷ [])) ≡ true = both (is_command 2 (command.Initiate counter)) _ (initiates counter has_counter) second_is in
-    let ends : ends_once (command.Initiate counter ∷ command.Initiate shared ∷ command.Initiate (own j) ∷ (refs ++ command.End ∷ [])) ≡ true = ends_after (command.Initiate counter ∷ command.Initiate shared ∷ command.Initiate (own j) ∷ refs) (all_references goes_on reference_goes_on reference_count x) in
-    let who : is_who (user_name j) ≡ true = both (is_label (numbered (codes "User") j)) (is_label default_project) (has_user j few) has_project in
+    let rest : list_all (is_command 2) (refs ++ command.End ∷ []) ≡ true =
+    all_append (is_command 2) refs (command.End ∷ [])
+    (all_references (is_command 2) is_reference reference_count x) end_is in
+    let third_is : list_all (is_command 2) (command.Initiate (own j) ∷ (refs ++ command.End ∷ [])) ≡ true =
+    both (is_command 2 (command.Initiate (own j))) (list_all (is_command 2) (refs ++ command.End ∷ []))
+    (initiates (own j) (has_own j few)) rest in
+    let second_is : list_all (is_command 2) (command.Initiate shared ∷ command.Initiate (own j)
+    ∷ (refs ++ command.End ∷ [])) ≡ true = both (is_command 2 (command.Initiate shared)) _
+    (initiates shared has_shared) third_is in
+    let all : list_all (is_command 2) (command.Initiate counter ∷ command.Initiate shared ∷ command.Initiate (own j)
+    ∷ (refs ++ command.End ∷ [])) ≡ true = both (is_command 2 (command.Initiate counter)) _
+    (initiates counter has_counter) second_is in
+    let ends : ends_once (command.Initiate counter ∷ command.Initiate shared ∷ command.Initiate (own j)
+    ∷ (refs ++ command.End ∷ [])) ≡ true = ends_after
+    (command.Initiate counter ∷ command.Initiate shared ∷ command.Initiate (own j) ∷ refs)
+    (all_references goes_on reference_goes_on reference_count x) in
+    let who : is_who (user_name j) ≡ true = both (is_label (numbered (codes "User") j)) (is_label default_project)
+    (has_user j few) has_project in
     both (is_who (user_name j)) _ who (both _ _ all ends)
 
 user_weighs : (j x : ℕ) → weight_of (user j x) ≡ 2000
@@ -139,11 +161,19 @@ initializer_weighs = refl
 
 users_are : (count j x : ℕ) → j + count ≤ 10 → list_all (is_process 2) (users j count x) ≡ true
 users_are zero j x few = refl
-users_are (suc count) j x few = both (is_process 2 (user j x)) _ (user_is j x (omega (arith, few))) (users_are count (j + 1) (state_at reference_count x) (omega (arith, few)))
+users_are (suc count) j x few = both (is_process 2 (user j x)) _ (user_is j x (omega (arith, few)))
+    (users_are count (j + 1) (state_at reference_count x) (omega (arith, few)))
 
 users_weigh : (count j x : ℕ) → sum_by weight_of (users j count x) ≡ 2000 * count
 users_weigh zero j x = refl
-users_weigh (suc count) j x = omega (arith, sum_by-cons weight_of (user j x) (users (j + 1) count (state_at reference_count x)), user_weighs j x, users_weigh count (j + 1) (state_at reference_count x))
+users_weigh (suc count) j x = omega (
+  arith,
+  sum_by-cons weight_of (user j x)
+      (users (j + 1) count (state_at reference_count x)),
+  user_weighs j x,
+  users_weigh count (j + 1)
+      (state_at reference_count x),
+)
 
 pub is_day : (n : ℕ) → IsPlan (day_of n)
 unfolding day_of is_volume is_name have_own_names have_own_volumes
@@ -168,6 +198,7 @@ is_day n = record {
 }
 
 -- a text that is that of a day is a script
-pub accepted : (text : List ℕ) (n : ℕ) → ((p : Plan) → IsPlan p → script_of (script_text p) ≡ Ok p) → text ≡ made n → script_of text ≡ Ok (day_of n)
+pub accepted : (text : List ℕ) (n : ℕ) → ((p : Plan) → IsPlan p → script_of (script_text p) ≡ Ok p) → text ≡ made n
+    → script_of text ≡ Ok (day_of n)
 unfolding made
 accepted text n again e = ap script_of e ∙ again (day_of n) (is_day n)

@@ -1,10 +1,12 @@
 -- The text of a day is its lines. (own)
-use Rattle.std.proofs.Common.{◌≡◌, ℕ, suc, zero, ◌+◌, ◌<◌, true, false, List, [], ◌∷◌, ◌++◌, refl, sym, ap, ◌∙◌, append_assoc, codes, Result, Ok, Err, OnOk}
+use Rattle.std.proofs.Common.{◌≡◌, ℕ, suc, zero, ◌+◌, ◌<◌, true, false, List, [], ◌∷◌, ◌++◌, refl, sym, ap, ◌∙◌}
+use Rattle.std.proofs.Common.{append_assoc, codes, Result, Ok, Err, OnOk}
 use Rattle.std.proofs.lemmas.Grind.{flat_map-append}
 use Rattle.std.specs.Fmt.{decimal, digits}
 use Rattle.std.proofs.lemmas.Fmt.{decimal_digit}
 use Rattle.mnames.specs.Principals.{who_text, row_text}
-use Rattle.script.specs.Scripts.{begin_text, commands_text, ended, head_text, machine_text, print_text, process_text, processes_text, quota_text, script_text, volume_text}
+use Rattle.script.specs.Scripts.{begin_text, commands_text, ended, head_text, machine_text, print_text, process_text}
+use Rattle.script.specs.Scripts.{processes_text, quota_text, script_text, volume_text}
 use Rattle.script.specs.Texts.{command_text, mode_text, reference_text, sign_text}
 use Rattle.script.specs.declared.commands.Command.TheVariants as command
 use Rattle.script.specs.declared.plan.VolumeLine.{VolumeLine}
@@ -24,7 +26,8 @@ same_lines volumes (suc n) x =
     ∙ sym (flat_map-append (λ c. ended (command_text [] c)) (references n x) (reference_at (state_at n x) ∷ []))
 
 -- the lines of a user's commands after the first three
-rest_lines : (volumes : List VolumeLine) (n x : ℕ) → commands_text volumes (references n x ++ command.End ∷ []) ≡ lines_of (references n x) ++ codes "end\n"
+rest_lines : (volumes : List VolumeLine) (n x : ℕ) → commands_text volumes (references n x ++ command.End ∷ [])
+    ≡ lines_of (references n x) ++ codes "end\n"
 unfolding commands_text command_text reference_text
 rest_lines volumes n x =
     flat_map-append (λ c. ended (command_text volumes c)) (references n x) (command.End ∷ [])
@@ -34,20 +37,25 @@ pub user_lines : (volumes : List VolumeLine) (j x : ℕ) → process_text volume
 unfolding process_text user user_text commands_text command_text begin_text who_text
 user_lines volumes j x = ap (λ t. opening_text j ++ t) (rest_lines volumes reference_count x)
 
-pub users_lines : (volumes : List VolumeLine) (j count x : ℕ) → processes_text volumes false (users j count x) ≡ users_text j count x
+pub users_lines : (volumes : List VolumeLine) (j count x : ℕ) → processes_text volumes false (users j count x)
+    ≡ users_text j count x
 unfolding processes_text
 users_lines volumes j zero x = refl
-users_lines volumes j (suc count) x = ap (λ t. t ++ processes_text volumes false (users (j + 1) count (state_at reference_count x))) (user_lines volumes j x) ∙ ap (λ t. user_text j x ++ t) (users_lines volumes (j + 1) count (state_at reference_count x))
+users_lines volumes j (suc count) x = ap (λ t. t ++ processes_text volumes false
+    (users (j + 1) count (state_at reference_count x))) (user_lines volumes j x)
+    ∙ ap (λ t. user_text j x ++ t) (users_lines volumes (j + 1) count (state_at reference_count x))
 
 -- what stands before the users
 abbrev pub front : List ℕ
 front = codes "machine 4 64 12 1 3 1\nquota 4000\nvolume alpha 4096 64\nvolume beta 4096 64\nprint short\ninitializer\nmkdir >a alpha\nmove >a +1000\nmkdir >b beta\nmove >b +1000\nmkseg >a>shared 16 alpha\nacl >a>shared * rw\nmkseg >counter 1 beta\nacl >counter * rw\nmkseg >b>own1 64 beta\nacl >b>own1 * rw\nmkseg >b>own2 64 beta\nacl >b>own2 * rw\nmkseg >b>own3 64 beta\nacl >b>own3 * rw\nmkseg >b>own4 64 beta\nacl >b>own4 * rw\nend\n"
 
 abbrev pub volumes : List VolumeLine
-volumes = record { name = codes "alpha"; records = 4096; entries = 64 } ∷ record { name = codes "beta"; records = 4096; entries = 64 } ∷ []
+volumes = record { name = codes "alpha"; records = 4096; entries = 64 }
+    ∷ record { name = codes "beta"; records = 4096; entries = 64 } ∷ []
 
 front_is : (n : ℕ) → head_text (day_of n) ++ process_text volumes true initializer ≡ front
-unfolding head_text machine_text quota_text volume_text print_text process_text begin_text commands_text command_text reference_text mode_text sign_text row_text day_of digits
+unfolding head_text machine_text quota_text volume_text print_text process_text begin_text commands_text command_text
+    reference_text mode_text sign_text row_text day_of digits
 front_is n = refl
 
 -- the whole script
@@ -56,22 +64,28 @@ unfolding made script_text processes_text day_of
 day_lines n =
     ap (λ t. t ++ users_text 1 4 n) (sym (front_is n))
     ∙ ap (λ t. (head_text (day_of n) ++ process_text volumes true initializer) ++ t) (sym (users_lines volumes 1 4 n))
-    ∙ append_assoc (head_text (day_of n)) (process_text volumes true initializer) (processes_text volumes false (users 1 4 n))
+    ∙ append_assoc (head_text (day_of n)) (process_text volumes true initializer)
+    (processes_text volumes false (users 1 4 n))
 
 -- the lines of user j, whose number is written in decimal
 pub user_written : (before opened referred bytes : List ℕ) (j x : ℕ) → j < 10
-    → opened ≡ before ++ (codes "process User" ++ (decimal j ++ (codes "\ninitiate >counter\ninitiate >a>shared\ninitiate >b>own" ++ (decimal j ++ codes "\n"))))
-    → referred ≡ opened ++ lines_of (references reference_count x) → bytes ≡ referred ++ codes "end\n" → bytes ≡ before ++ user_text j x
+    → opened ≡ before ++ (codes "process User" ++ (decimal j
+    ++ (codes "\ninitiate >counter\ninitiate >a>shared\ninitiate >b>own" ++ (decimal j ++ codes "\n"))))
+    → referred ≡ opened ++ lines_of (references reference_count x) → bytes ≡ referred ++ codes "end\n" → bytes ≡ before
+    ++ user_text j x
 unfolding user_text
 user_written before opened referred bytes j x few o r b =
     let digit : decimal j ≡ (48 + j) ∷ [] = decimal_digit j few in
-    let all : opened ≡ before ++ opening_text j = o ∙ ap (λ (d : List ℕ). before ++ (codes "process User" ++ (d ++ (codes "\ninitiate >counter\ninitiate >a>shared\ninitiate >b>own" ++ (d ++ codes "\n"))))) digit in
+    let all : opened ≡ before ++ opening_text j = o ∙ ap
+    (λ (d : List ℕ). before ++ (codes "process User"
+    ++ (d ++ (codes "\ninitiate >counter\ninitiate >a>shared\ninitiate >b>own" ++ (d ++ codes "\n"))))) digit in
     b ∙ ap (λ t. t ++ codes "end\n") (r ∙ ap (λ t. t ++ lines_of (references reference_count x)) all)
     ∙ append_assoc (before ++ opening_text j) (lines_of (references reference_count x)) (codes "end\n")
     ∙ append_assoc before (opening_text j) (lines_of (references reference_count x) ++ codes "end\n")
 
 -- the front and the users' lines are the whole script
-pub day_written : (fronted bytes : List ℕ) (n : ℕ) → fronted ≡ front → bytes ≡ fronted ++ users_text 1 4 n → bytes ≡ made n
+pub day_written : (fronted bytes : List ℕ) (n : ℕ) → fronted ≡ front → bytes ≡ fronted ++ users_text 1 4 n → bytes
+    ≡ made n
 day_written fronted bytes n f b = b ∙ ap (λ t. t ++ users_text 1 4 n) f ∙ day_lines n
 
 -- what follows from a fact of an Ok holds where the other does

@@ -1,11 +1,11 @@
 //! A day's use of the machine: a script that is made up from a number.
 //!
 //! An initializer makes two directories with quota of their own, a segment that all users share, one that all count in,
-//! and one for each of four users. Each user then adds to the counter, reads and writes the shared segment, and reads and
-//! writes the own one, 1996 times, as numbers are drawn. Nobody but its owner writes an own segment, words that are
-//! written to the shared one aren't 0, and quota and records suffice; so the accounts at the end are the same however
-//! the processors interleave. The 273 pages don't fit into 64 frames, and the four own segments share three places of
-//! the pool for their page tables.
+//! and one for each of four users. Each user then adds to the counter, reads and writes the shared segment, and reads
+//! and writes the own one, 1996 times, as numbers are drawn. Nobody but its owner writes an own segment, words that
+//! are written to the shared one aren't 0, and quota and records suffice; so the accounts at the end are the same
+//! however the processors interleave. The 273 pages don't fit into 64 frames, and the four own segments share three
+//! places of the pool for their page tables.
 //!
 //! The text is made line by line; nothing else takes memory.
 #![tactic(auto)]

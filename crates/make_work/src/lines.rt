@@ -98,7 +98,8 @@ fn draw_reference(draws: &mut Draws) -> Command
 
 /// Appends the lines of a user's references.
 fn push_references(out: &mut String, draws: &mut Draws) -> Result<(), AllocError>
-    ensures text { OnOk result (string_bytes out.new ≡ string_bytes out.old ++ lines_of (references 1996 draws.old.state)) }
+    ensures text { OnOk result (string_bytes out.new ≡ string_bytes out.old
+        ++ lines_of (references 1996 draws.old.state)) }
     ensures state { OnOk result (draws.new.state ≡ state_at 1996 draws.old.state) }
 {
     for _made in 0..REFERENCES {

@@ -1,5 +1,7 @@
 -- Which texts paths begin with.
-use Rattle.std.proofs.Common.{◌≡◌, ◌≢◌, ◌⊎◌, inl, inr, ℕ, zero, suc, ◌+◌, ◌-◌, ◌*◌, ◌<◌, ◌≤◌, Bool, true, false, cond, Some, None, Result, Ok, Err, List, [], ◌∷◌, ◌++◌, length, take, drop, get_or, drop-cons, append_assoc, refl, sym, ap, subst, ◌∙◌, arith}
+use Rattle.std.proofs.Common.{◌≡◌, ◌≢◌, ◌⊎◌, inl, inr, ℕ, zero, suc, ◌+◌, ◌-◌, ◌*◌, ◌<◌, ◌≤◌, Bool, true, false, cond}
+use Rattle.std.proofs.Common.{Some, None, Result, Ok, Err, List, [], ◌∷◌, ◌++◌, length, take, drop, get_or, drop-cons}
+use Rattle.std.proofs.Common.{append_assoc, refl, sym, ap, subst, ◌∙◌, arith}
 use Rattle.std.specs.Prelude.{if◌then◌else◌, IfOk, IfErr}
 use Rattle.std.specs.List.{list_all, AllByRecursion}
 use Rattle.std.proofs.lemmas.Bool.{cases_eq}
@@ -44,7 +46,8 @@ later_bytes b bs h = grind (arith, nat_tests)
 -- ---- where the first name of a text ends
 
 -- before a sign
-split_name : (x c : List ℕ) (xs : List (List ℕ)) (s : List ℕ) → list_all is_name_byte x ≡ true → list_all is_name_byte c ≡ true → x ++ names_text xs ≡ c ++ (62 ∷ s) → (x ≡ c) × (names_text xs ≡ 62 ∷ s)
+split_name : (x c : List ℕ) (xs : List (List ℕ)) (s : List ℕ) → list_all is_name_byte x ≡ true
+    → list_all is_name_byte c ≡ true → x ++ names_text xs ≡ c ++ (62 ∷ s) → (x ≡ c) × (names_text xs ≡ 62 ∷ s)
 split_name [] [] xs s hx hc h = (refl, h)
 split_name [] (c ∷ cs) [] s hx hc h = absurd (cc)
 split_name [] (c ∷ cs) (y ∷ ys) s hx hc h = absurd (sign_is_none c (cc) (first_byte c cs hc))
@@ -52,12 +55,15 @@ split_name (x ∷ xs) [] ys s hx hc h = absurd (sign_is_none x (cc) (first_byte 
 split_name (x ∷ xs) (c ∷ cs) ys s hx hc h =
     let rest : xs ++ names_text ys ≡ cs ++ (62 ∷ s) = cc in
     let heads : x ≡ c = cc in
-    let both : (xs ≡ cs) × (names_text ys ≡ 62 ∷ s) = split_name xs cs ys s (later_bytes x xs hx) (later_bytes c cs hc) rest in
+    let both : (xs ≡ cs) × (names_text ys ≡ 62 ∷ s) = split_name xs cs ys s (later_bytes x xs hx) (later_bytes c cs hc)
+    rest in
     let tails : xs ≡ cs = both.0 in
     (cc, both.1)
 
 -- not before another byte
-goes_past : (x c : List ℕ) (xs : List (List ℕ)) (b : ℕ) (s : List ℕ) → list_all is_name_byte x ≡ true → list_all is_name_byte c ≡ true → b ≢ 62 → x ++ names_text xs ≡ c ++ (b ∷ s) → (is_name_byte b ≡ true) × (length c < length x)
+goes_past : (x c : List ℕ) (xs : List (List ℕ)) (b : ℕ) (s : List ℕ) → list_all is_name_byte x ≡ true
+    → list_all is_name_byte c ≡ true → b ≢ 62 → x ++ names_text xs ≡ c ++ (b ∷ s) → (is_name_byte b ≡ true)
+    × (length c < length x)
 goes_past [] [] [] b s hx hc ne h = absurd (cc)
 goes_past [] [] (y ∷ ys) b s hx hc ne h = absurd (ne (cc))
 goes_past [] (c ∷ cs) [] b s hx hc ne h = absurd (cc)
@@ -67,17 +73,20 @@ goes_past (x ∷ xs) [] ys b s hx hc ne h =
     (subst (λ (n : ℕ). is_name_byte n ≡ true) heads (first_byte x xs hx), omega arith)
 goes_past (x ∷ xs) (c ∷ cs) ys b s hx hc ne h =
     let rest : xs ++ names_text ys ≡ cs ++ (b ∷ s) = cc in
-    let both : (is_name_byte b ≡ true) × (length cs < length xs) = goes_past xs cs ys b s (later_bytes x xs hx) (later_bytes c cs hc) ne rest in
+    let both : (is_name_byte b ≡ true) × (length cs < length xs) =
+    goes_past xs cs ys b s (later_bytes x xs hx) (later_bytes c cs hc) ne rest in
     (both.0, omega (arith, both.1))
 
 -- a name has a first byte
-begins_name : (x : List ℕ) (xs : List (List ℕ)) (b : ℕ) (s : List ℕ) → IsName x → x ++ names_text xs ≡ b ∷ s → is_name_byte b ≡ true
+begins_name : (x : List ℕ) (xs : List (List ℕ)) (b : ℕ) (s : List ℕ) → IsName x → x ++ names_text xs ≡ b ∷ s
+    → is_name_byte b ≡ true
 begins_name [] xs b s h e = let n : 1 ≤ 0 = name_long [] h in absurd (omega (arith, n))
 begins_name (x ∷ xs) ys b s h e =
     let heads : x ≡ b = cc in
     subst (λ (n : ℕ). is_name_byte n ≡ true) heads (first_byte x xs (name_bytes (x ∷ xs) h))
 
-names_same : (xs ys : List (List ℕ)) → AllByRecursion IsName xs → AllByRecursion IsName ys → names_text xs ≡ names_text ys → xs ≡ ys
+names_same : (xs ys : List (List ℕ)) → AllByRecursion IsName xs → AllByRecursion IsName ys → names_text xs
+    ≡ names_text ys → xs ≡ ys
 names_same [] [] hx hy h = refl
 names_same [] (y ∷ ys) hx hy h = absurd (cc)
 names_same (x ∷ xs) [] hx hy h = absurd (cc)
@@ -87,20 +96,23 @@ names_same (x ∷ []) (y ∷ []) hx hy h =
     cc
 names_same (x ∷ xs) (y ∷ z ∷ zs) hx hy h =
     let bytes : x ++ names_text xs ≡ y ++ names_text (z ∷ zs) = cc in
-    let both : (x ≡ y) × (names_text xs ≡ names_text (z ∷ zs)) = split_name x y xs (z ++ names_text zs) (name_bytes x hx.0) (name_bytes y hy.0) bytes in
+    let both : (x ≡ y) × (names_text xs ≡ names_text (z ∷ zs)) =
+    split_name x y xs (z ++ names_text zs) (name_bytes x hx.0) (name_bytes y hy.0) bytes in
     let rest : xs ≡ z ∷ zs = names_same xs (z ∷ zs) hx.1 hy.1 both.1 in
     let same : x ≡ y = both.0 in
     cc
 names_same (x ∷ z ∷ zs) (y ∷ []) hx hy h =
     let bytes : y ++ names_text [] ≡ x ++ names_text (z ∷ zs) = cc in
-    let both : (y ≡ x) × ([] ≡ names_text (z ∷ zs)) = split_name y x [] (z ++ names_text zs) (name_bytes y hy.0) (name_bytes x hx.0) bytes in
+    let both : (y ≡ x) × ([] ≡ names_text (z ∷ zs)) = split_name y x [] (z ++ names_text zs) (name_bytes y hy.0)
+    (name_bytes x hx.0) bytes in
     absurd (let nothing : [] ≡ names_text (z ∷ zs) = both.1 in cc)
 
 -- ---- the longest front with which some names begin
 
 -- at most m names begin with this text
 abbrev Begins : ℕ → List ℕ → Type 0
-Begins m text = (names : List (List ℕ)) × (more : List ℕ) × (length names ≤ m) × AllByRecursion IsName names × (names_text names ≡ text ++ more)
+Begins m text = (names : List (List ℕ)) × (more : List ℕ) × (length names ≤ m) × AllByRecursion IsName names
+    × (names_text names ≡ text ++ more)
 
 record Longest (m : ℕ) (text : List ℕ) (k : ℕ) : Type 0 where
   within : k ≤ length text
@@ -123,36 +135,46 @@ none_more text = record {
     over (suc n) lt le b = none (take n text) b
 
 -- the byte at a place of a longer front
-cut : (text : List ℕ) (n k : ℕ) → n < k → k ≤ length text → (rest : List ℕ) × (take k text ≡ take n text ++ (get_or text n 0 ∷ rest))
+cut : (text : List ℕ) (n k : ℕ) → n < k → k ≤ length text → (rest : List ℕ)
+    × (take k text ≡ take n text ++ (get_or text n 0 ∷ rest))
 cut [] n k lt le = absurd (omega (arith, lt, le))
 cut (b ∷ bs) n zero lt le = absurd (omega (arith, lt))
 cut (b ∷ bs) zero (suc k) lt le = (take k bs, refl)
 cut (b ∷ bs) (suc n) (suc k) lt le =
-    let rest : (rest : List ℕ) × (take k bs ≡ take n bs ++ (get_or bs n 0 ∷ rest)) = cut bs n k (omega (arith, lt)) (omega (arith, le)) in
+    let rest : (rest : List ℕ) × (take k bs ≡ take n bs ++ (get_or bs n 0 ∷ rest)) =
+    cut bs n k (omega (arith, lt)) (omega (arith, le)) in
     (rest.0, ap (λ (t : List ℕ). b ∷ t) rest.1)
 
 -- no name begins past a front that is stuck
-stuck_name : (text : List ℕ) (n k : ℕ) (x : List ℕ) (xs : List (List ℕ)) (more : List ℕ) → IsStuck text n → n < k → k ≤ length text → IsName x → x ++ names_text xs ≡ take k text ++ more → ⊥
+stuck_name : (text : List ℕ) (n k : ℕ) (x : List ℕ) (xs : List (List ℕ)) (more : List ℕ) → IsStuck text n → n < k
+    → k ≤ length text → IsName x → x ++ names_text xs ≡ take k text ++ more → ⊥
 stuck_name text n k x xs more h lt le name e = chosen (cases_eq n 0)
   where
     after : List ℕ
     after = (cut text n k lt le).0
 
     bytes : x ++ names_text xs ≡ take n text ++ (get_or text n 0 ∷ (after ++ more))
-    bytes = e ∙ ap (λ (t : List ℕ). t ++ more) (cut text n k lt le).1 ∙ append_assoc (take n text) (get_or text n 0 ∷ after) more
+    bytes = e ∙ ap (λ (t : List ℕ). t ++ more) (cut text n k lt le).1
+        ∙ append_assoc (take n text) (get_or text n 0 ∷ after) more
 
     chosen : (n ≡ 0) ⊎ (n ≡ 0 → ⊥) → ⊥
     chosen (inl z) =
         let front : take n text ≡ [] = ap (λ (i : ℕ). take i text) z in
-        let first : is_name_byte (get_or text n 0) ≡ true = begins_name x xs (get_or text n 0) (after ++ more) name (bytes ∙ ap (λ (t : List ℕ). t ++ (get_or text n 0 ∷ (after ++ more))) front) in
-        let not_first : is_name_byte (get_or text n 0) ≡ false = h.run.stop (omega (arith, lt, le)) (omega (arith, z)) in
+        let first : is_name_byte (get_or text n 0) ≡ true =
+        begins_name x xs (get_or text n 0) (after ++ more) name
+        (bytes ∙ ap (λ (t : List ℕ). t ++ (get_or text n 0 ∷ (after ++ more))) front) in
+        let not_first : is_name_byte (get_or text n 0) ≡ false =
+        h.run.stop (omega (arith, lt, le)) (omega (arith, z)) in
         cc
     chosen (inr nz) =
-        let past : (is_name_byte (get_or text n 0) ≡ true) × (length (take n text) < length x) = goes_past x (take n text) xs (get_or text n 0) (after ++ more) (name_bytes x name) h.run.each (h.other nz) bytes in
+        let past : (is_name_byte (get_or text n 0) ≡ true) × (length (take n text) < length x) =
+        goes_past x (take n text) xs (get_or text n 0) (after ++ more) (name_bytes x name) h.run.each (h.other nz)
+        bytes in
         let long : length (take n text) ≡ n = grind (arith, common_steps) in
         let few : length x ≤ 32 = name_short x name in
         let byte : is_name_byte (get_or text n 0) ≡ true = past.0 in
-        let other : is_name_byte (get_or text n 0) ≡ false = h.run.stop (omega (arith, lt, le)) (omega (arith, past.1, long, few)) in
+        let other : is_name_byte (get_or text n 0) ≡ false =
+        h.run.stop (omega (arith, lt, le)) (omega (arith, past.1, long, few)) in
         cc
 
 stuck_longest : (m : ℕ) (text : List ℕ) (n : ℕ) → IsStuck text n → Longest (suc m) (62 ∷ text) (suc n)
@@ -169,7 +191,8 @@ stuck_longest m text n h = record {
     start (inr nz) =
         let long : length (take n text) ≡ n = let w : n ≤ length text = h.run.within in grind (arith, common_steps) in
         let short : n ≤ 32 = h.run.short in
-        let name : IsName (take n text) = run_is_name (take n text) (omega (arith, long, nz)) (omega (arith, long, short)) h.run.each in
+        let name : IsName (take n text) = run_is_name (take n text) (omega (arith, long, nz))
+        (omega (arith, long, short)) h.run.each in
         (take n text ∷ [], [], omega arith, (name, tt), refl)
 
     none : (k : ℕ) → n < k → k ≤ length text → Begins (suc m) (62 ∷ take k text) → ⊥
@@ -183,7 +206,8 @@ stuck_longest m text n h = record {
     over (suc k) lt le b = none k (omega (arith, lt)) (omega (arith, le)) b
 
 -- one name before a rest that is at its sign
-name_before : (m : ℕ) (x rest : List ℕ) (k : ℕ) → IsName x → IsAtSign rest → Longest m rest k → Longest (suc m) (62 ∷ (x ++ rest)) (suc (length x + k))
+name_before : (m : ℕ) (x rest : List ℕ) (k : ℕ) → IsName x → IsAtSign rest → Longest m rest k
+    → Longest (suc m) (62 ∷ (x ++ rest)) (suc (length x + k))
 name_before m x rest k name sign h = record {
   within = let w : k ≤ length rest = h.within in omega (arith, w, length-append x rest);
   begins = start h.begins;
@@ -193,31 +217,44 @@ name_before m x rest k name sign h = record {
     start : Begins m (take k rest) → Begins (suc m) (62 ∷ take (length x + k) (x ++ rest))
     start (names, more, few, each, e) =
         let bytes : x ++ names_text names ≡ take (length x + k) (x ++ rest) ++ more =
-        ap (λ (t : List ℕ). x ++ t) e ∙ sym (append_assoc x (take k rest) more) ∙ ap (λ (t : List ℕ). t ++ more) (sym (take-append-add x rest k)) in
+        ap (λ (t : List ℕ). x ++ t) e ∙ sym (append_assoc x (take k rest) more)
+        ∙ ap (λ (t : List ℕ). t ++ more) (sym (take-append-add x rest k)) in
         (x ∷ names, more, omega (arith, few), (name, each), ap (λ (t : List ℕ). 62 ∷ t) bytes)
 
-    inner : (s : List ℕ) (y : List ℕ) (ys : List (List ℕ)) (more : List ℕ) → IsName y → y ++ names_text ys ≡ x ++ (62 ∷ (s ++ more)) → names_text ys ≡ (62 ∷ s) ++ more
+    inner : (s : List ℕ) (y : List ℕ) (ys : List (List ℕ)) (more : List ℕ) → IsName y → y ++ names_text ys ≡ x
+        ++ (62 ∷ (s ++ more)) → names_text ys ≡ (62 ∷ s) ++ more
     inner s y ys more hy e = (split_name y x ys (s ++ more) (name_bytes y hy) (name_bytes x name) e).1
 
-    none : (r : List ℕ) (j : ℕ) → IsAtSign r → Begins (suc m) (62 ∷ (x ++ take (suc j) r)) → 0 < length r → Begins m (take (suc j) r)
+    none : (r : List ℕ) (j : ℕ) → IsAtSign r → Begins (suc m) (62 ∷ (x ++ take (suc j) r)) → 0 < length r
+        → Begins m (take (suc j) r)
     none [] j at b lt = absurd (omega (arith, lt))
     none (c ∷ s) j at ([], more, few, each, e) lt = absurd (cc)
     none (c ∷ s) j at (y ∷ ys, more, few, each, e) lt =
         let bytes : y ++ names_text ys ≡ (x ++ (c ∷ take j s)) ++ more = cc in
-        let joined : y ++ names_text ys ≡ x ++ (62 ∷ (take j s ++ more)) = bytes ∙ append_assoc x (c ∷ take j s) more ∙ ap (λ (b : ℕ). x ++ (b ∷ (take j s ++ more))) at in
-        (ys, more, omega (arith, few), each.1, inner (take j s) y ys more each.0 joined ∙ ap (λ (b : ℕ). b ∷ (take j s ++ more)) (sym at))
+        let joined : y ++ names_text ys ≡ x ++ (62 ∷ (take j s ++ more)) = bytes ∙ append_assoc x (c ∷ take j s) more
+        ∙ ap (λ (b : ℕ). x ++ (b ∷ (take j s ++ more))) at in (
+          ys,
+          more,
+          omega (arith, few),
+          each.1,
+          inner (take j s) y ys more each.0 joined
+              ∙ ap (λ (b : ℕ). b ∷ (take j s ++ more)) (sym at),
+        )
 
     past : (j : ℕ) → k < j → j ≤ length rest → Begins (suc m) (62 ∷ take (length x + j) (x ++ rest)) → ⊥
     past zero lt le b = omega (arith, lt)
     past (suc j) lt le b =
         let front : take (length x + suc j) (x ++ rest) ≡ x ++ take (suc j) rest = take-append-add x rest (suc j) in
-        h.longest (suc j) lt le (none rest j sign (subst (λ (t : List ℕ). Begins (suc m) (62 ∷ t)) front b) (omega (arith, le)))
+        h.longest (suc j) lt le (none rest j sign (subst (λ (t : List ℕ). Begins (suc m) (62 ∷ t)) front b)
+        (omega (arith, le)))
 
-    over : (n : ℕ) → suc (length x + k) < n → n ≤ length (62 ∷ (x ++ rest)) → Begins (suc m) (take n (62 ∷ (x ++ rest))) → ⊥
+    over : (n : ℕ) → suc (length x + k) < n → n ≤ length (62 ∷ (x ++ rest))
+        → Begins (suc m) (take n (62 ∷ (x ++ rest))) → ⊥
     over zero lt le b = omega (arith, lt)
     over (suc n) lt le b =
         let same : n ≡ length x + (n - length x) = omega (arith, lt) in
-        past (n - length x) (omega (arith, lt)) (omega (arith, le, length-append x rest)) (subst (λ (i : ℕ). Begins (suc m) (62 ∷ take i (x ++ rest))) same b)
+        past (n - length x) (omega (arith, lt)) (omega (arith, le, length-append x rest))
+        (subst (λ (i : ℕ). Begins (suc m) (62 ∷ take i (x ++ rest))) same b)
 
 -- so many names and bytes more, for some names
 abbrev names_more : List (List ℕ) → ℕ → ℕ
@@ -242,11 +279,14 @@ at_sign : (xs : List (List ℕ)) (rest : List ℕ) → IsAtSign rest → IsAtSig
 at_sign [] rest h = h
 at_sign (x ∷ xs) rest h = refl
 
-names_before : (xs : List (List ℕ)) (m : ℕ) (rest : List ℕ) (k : ℕ) → AllByRecursion IsName xs → IsAtSign rest → Longest m rest k → Longest (names_more xs m) (names_text xs ++ rest) (bytes_more xs k)
+names_before : (xs : List (List ℕ)) (m : ℕ) (rest : List ℕ) (k : ℕ) → AllByRecursion IsName xs → IsAtSign rest
+    → Longest m rest k → Longest (names_more xs m) (names_text xs ++ rest) (bytes_more xs k)
 names_before [] m rest k each sign h = h
 names_before (x ∷ xs) m rest k each sign h =
-    subst (λ (t : List ℕ). Longest (suc (names_more xs m)) (62 ∷ t) (suc (length x + bytes_more xs k))) (sym (append_assoc x (names_text xs) rest))
-    (name_before (names_more xs m) x (names_text xs ++ rest) (bytes_more xs k) each.0 (at_sign xs rest sign) (names_before xs m rest k each.1 sign h))
+    subst (λ (t : List ℕ). Longest (suc (names_more xs m)) (62 ∷ t) (suc (length x + bytes_more xs k)))
+    (sym (append_assoc x (names_text xs) rest))
+    (name_before (names_more xs m) x (names_text xs ++ rest) (bytes_more xs k) each.0 (at_sign xs rest sign)
+    (names_before xs m rest k each.1 sign h))
 
 -- ---- paths
 
@@ -256,8 +296,14 @@ begins_path (c ∷ cs) ([], more, few, each, e) = absurd (cc)
 begins_path (c ∷ cs) (x ∷ xs, more, few, each, e) = (x ∷ xs, more, record { few = few; each = each }, e)
 
 path_begins : (text : List ℕ) → BeginsPath text → Begins 9 text
-path_begins text ([], more, path, e) =
-    ((97 ∷ []) ∷ [], more ++ (97 ∷ []), omega arith, (one_letter, tt), ap (λ (t : List ℕ). t ++ (97 ∷ [])) e ∙ append_assoc text more (97 ∷ []))
+path_begins text ([], more, path, e) = (
+  (97 ∷ []) ∷ [],
+  more ++ (97 ∷ []),
+  omega arith,
+  (one_letter, tt),
+  ap (λ (t : List ℕ). t ++ (97 ∷ [])) e
+      ∙ append_assoc text more (97 ∷ []),
+)
 path_begins text (x ∷ xs, more, path, e) = (x ∷ xs, more, path.few, path.each, e)
 
 longest_start : (text : List ℕ) (k : ℕ) → Longest 9 text k → IsLongestStart text k
@@ -268,22 +314,35 @@ longest_start text k h = record {
 }
 
 -- after some names
-longest_after : (xs : List (List ℕ)) (m : ℕ) (text rest : List ℕ) (k : ℕ) → AllByRecursion IsName xs → IsAtSign rest → length xs + m ≡ 9 → text ≡ names_text xs ++ rest → Longest m rest k → IsLongestStart text (length (names_text xs) + k)
+longest_after : (xs : List (List ℕ)) (m : ℕ) (text rest : List ℕ) (k : ℕ) → AllByRecursion IsName xs → IsAtSign rest
+    → length xs + m ≡ 9 → text ≡ names_text xs ++ rest → Longest m rest k
+    → IsLongestStart text (length (names_text xs) + k)
 longest_after xs m text rest k each sign count same h =
-    let all : Longest (names_more xs m) (names_text xs ++ rest) (bytes_more xs k) = names_before xs m rest k each sign h in
+    let all : Longest (names_more xs m) (names_text xs ++ rest) (bytes_more xs k) =
+    names_before xs m rest k each sign h in
     let nine : names_more xs m ≡ 9 = names_more_is xs m ∙ count in
-    let counted : Longest 9 (names_text xs ++ rest) (bytes_more xs k) = subst (λ (n : ℕ). Longest n (names_text xs ++ rest) (bytes_more xs k)) nine all in
-    let placed : Longest 9 (names_text xs ++ rest) (length (names_text xs) + k) = subst (λ (n : ℕ). Longest 9 (names_text xs ++ rest) n) (bytes_more_is xs k) counted in
-    longest_start text (length (names_text xs) + k) (subst (λ (t : List ℕ). Longest 9 t (length (names_text xs) + k)) (sym same) placed)
+    let counted : Longest 9 (names_text xs ++ rest) (bytes_more xs k) =
+    subst (λ (n : ℕ). Longest n (names_text xs ++ rest) (bytes_more xs k)) nine all in
+    let placed : Longest 9 (names_text xs ++ rest) (length (names_text xs) + k) =
+    subst (λ (n : ℕ). Longest 9 (names_text xs ++ rest) n) (bytes_more_is xs k) counted in
+    longest_start text (length (names_text xs) + k) (subst (λ (t : List ℕ). Longest 9 t (length (names_text xs) + k))
+    (sym same) placed)
 
 all_taken : (text : List ℕ) → take (length text) text ≡ text
 all_taken [] = refl
 all_taken (b ∷ bs) = ap (λ (t : List ℕ). b ∷ t) (all_taken bs)
 
 -- a text of which a path begins with less is no path
-never_shorter : (text : List ℕ) (k : ℕ) → IsLongestStart text k → k < length text → (names : List (List ℕ)) → IsPath names → text ≢ path_text names
+never_shorter : (text : List ℕ) (k : ℕ) → IsLongestStart text k → k < length text → (names : List (List ℕ))
+    → IsPath names → text ≢ path_text names
 never_shorter text k h lt names path e =
-    h.longest (length text) lt (omega arith) (names, [], path, sym e ∙ sym (all_taken text) ∙ sym (append-nil (take (length text) text)))
+    h.longest (length text) lt (omega arith) (
+      names,
+      [],
+      path,
+      sym e ∙ sym (all_taken text)
+          ∙ sym (append-nil (take (length text) text)),
+    )
 
 short_texts : (xs : List (List ℕ)) → AllByRecursion IsName xs → length (names_text xs) ≤ 33 * length xs
 short_texts [] h = omega arith
@@ -293,16 +352,21 @@ short_texts (x ∷ xs) h =
     omega (arith, rest, short, length-append x (names_text xs))
 
 -- the ninth name is there, and a sign follows
-pub full_is_no_path : (xs : List (List ℕ)) (text after : List ℕ) → IsPath xs → 9 ≤ length xs → text ≡ names_text xs ++ (62 ∷ after) → IsNoPath text (length (names_text xs))
+pub full_is_no_path : (xs : List (List ℕ)) (text after : List ℕ) → IsPath xs → 9 ≤ length xs → text ≡ names_text xs
+    ++ (62 ∷ after) → IsNoPath text (length (names_text xs))
 full_is_no_path xs text after path full same =
     let few : length xs ≤ 9 = path.few in
-    let start : IsLongestStart text (length (names_text xs) + 0) = longest_after xs 0 text (62 ∷ after) 0 path.each refl (omega (arith, full, few)) same (none_more after) in
-    let here : IsLongestStart text (length (names_text xs)) = subst (λ (n : ℕ). IsLongestStart text n) (omega arith) start in
-    let long : length text ≡ length (names_text xs) + length (62 ∷ after) = ap length same ∙ length-append (names_text xs) (62 ∷ after) in
+    let start : IsLongestStart text (length (names_text xs) + 0) =
+    longest_after xs 0 text (62 ∷ after) 0 path.each refl (omega (arith, full, few)) same (none_more after) in
+    let here : IsLongestStart text (length (names_text xs)) =
+    subst (λ (n : ℕ). IsLongestStart text n) (omega arith) start in
+    let long : length text ≡ length (names_text xs) + length (62 ∷ after) = ap length same
+    ∙ length-append (names_text xs) (62 ∷ after) in
     record { start = here; never = never_shorter text (length (names_text xs)) here (omega (arith, long)) }
 
 -- a sign at the end is no path, but alone
-ends_at_sign : (xs ys : List (List ℕ)) → AllByRecursion IsName xs → AllByRecursion IsName ys → names_text ys ≡ names_text xs ++ (62 ∷ []) → ⊥
+ends_at_sign : (xs ys : List (List ℕ)) → AllByRecursion IsName xs → AllByRecursion IsName ys → names_text ys
+    ≡ names_text xs ++ (62 ∷ []) → ⊥
 ends_at_sign [] [] hx hy e = cc
 ends_at_sign [] (y ∷ ys) hx hy e =
     let bytes : y ++ names_text ys ≡ [] = cc in
@@ -314,32 +378,40 @@ ends_at_sign [] (y ∷ ys) hx hy e =
 ends_at_sign (x ∷ xs) [] hx hy e = cc
 ends_at_sign (x ∷ []) (y ∷ ys) hx hy e =
     let bytes : y ++ names_text ys ≡ (x ++ []) ++ (62 ∷ []) = cc in
-    let both : (y ≡ x) × (names_text ys ≡ 62 ∷ []) = split_name y x ys [] (name_bytes y hy.0) (name_bytes x hx.0) (bytes ∙ append_assoc x [] (62 ∷ [])) in
+    let both : (y ≡ x) × (names_text ys ≡ 62 ∷ []) = split_name y x ys [] (name_bytes y hy.0) (name_bytes x hx.0)
+    (bytes ∙ append_assoc x [] (62 ∷ [])) in
     ends_at_sign [] ys tt hy.1 both.1
 ends_at_sign (x ∷ z ∷ zs) (y ∷ ys) hx hy e =
     let bytes : y ++ names_text ys ≡ (x ++ names_text (z ∷ zs)) ++ (62 ∷ []) = cc in
-    let both : (y ≡ x) × (names_text ys ≡ names_text (z ∷ zs) ++ (62 ∷ [])) = split_name y x ys ((z ++ names_text zs) ++ (62 ∷ [])) (name_bytes y hy.0) (name_bytes x hx.0) (bytes ∙ append_assoc x (names_text (z ∷ zs)) (62 ∷ [])) in
+    let both : (y ≡ x) × (names_text ys ≡ names_text (z ∷ zs) ++ (62 ∷ [])) =
+    split_name y x ys ((z ++ names_text zs) ++ (62 ∷ [])) (name_bytes y hy.0) (name_bytes x hx.0)
+    (bytes ∙ append_assoc x (names_text (z ∷ zs)) (62 ∷ [])) in
     ends_at_sign (z ∷ zs) ys hx.1 hy.1 both.1
 
 -- no name follows the sign
-pub stuck_is_no_path : (xs : List (List ℕ)) (text after : List ℕ) (n : ℕ) → IsPath xs → length xs < 9 → 1 < length text → text ≡ names_text xs ++ (62 ∷ after) → IsStuck after n → IsNoPath text (length (names_text xs) + suc n)
-stuck_is_no_path xs text after n path room more same h = record { start = start; never = never (cases_eq n (length after)) }
+pub stuck_is_no_path : (xs : List (List ℕ)) (text after : List ℕ) (n : ℕ) → IsPath xs → length xs < 9 → 1 < length text
+    → text ≡ names_text xs ++ (62 ∷ after) → IsStuck after n → IsNoPath text (length (names_text xs) + suc n)
+stuck_is_no_path xs text after n path room more same h =
+    record { start = start; never = never (cases_eq n (length after)) }
   where
     start : IsLongestStart text (length (names_text xs) + suc n)
-    start = longest_after xs (suc (8 - length xs)) text (62 ∷ after) (suc n) path.each refl (omega (arith, room)) same (stuck_longest (8 - length xs) after n h)
+    start = longest_after xs (suc (8 - length xs)) text (62 ∷ after) (suc n) path.each refl (omega (arith, room)) same
+        (stuck_longest (8 - length xs) after n h)
 
     long : length text ≡ length (names_text xs) + length (62 ∷ after)
     long = ap length same ∙ length-append (names_text xs) (62 ∷ after)
 
     ended : after ≡ [] → (names : List (List ℕ)) → IsPath names → text ≢ path_text names
     ended z [] p e = let one : length text ≡ 1 = ap length e in omega (arith, more, one)
-    ended z (y ∷ ys) p e = ends_at_sign xs (y ∷ ys) path.each p.each (sym e ∙ same ∙ ap (λ (t : List ℕ). names_text xs ++ (62 ∷ t)) z)
+    ended z (y ∷ ys) p e = ends_at_sign xs (y ∷ ys) path.each p.each
+        (sym e ∙ same ∙ ap (λ (t : List ℕ). names_text xs ++ (62 ∷ t)) z)
 
     empty : (t : List ℕ) → length t ≡ 0 → t ≡ []
     empty [] e = refl
     empty (b ∷ bs) e = absurd (omega (arith, e))
 
-    never : (n ≡ length after) ⊎ (n ≡ length after → ⊥) → (names : List (List ℕ)) → IsPath names → text ≢ path_text names
+    never : (n ≡ length after) ⊎ (n ≡ length after → ⊥) → (names : List (List ℕ)) → IsPath names
+        → text ≢ path_text names
     never (inl e) = ended (empty after (last (cases_eq n 0)))
       where
         last : (n ≡ 0) ⊎ (n ≡ 0 → ⊥) → length after ≡ 0
@@ -373,7 +445,8 @@ unsigned_is_no_path text h = record { start = start text h; never = never text h
         over zero lt le p = omega (arith, lt)
         over (suc n) lt le p = first b (take n bs) (h (omega arith)) p
 
-    never : (text : List ℕ) → (0 < length text → get_or text 0 0 ≢ 62) → (names : List (List ℕ)) → IsPath names → text ≢ path_text names
+    never : (text : List ℕ) → (0 < length text → get_or text 0 0 ≢ 62) → (names : List (List ℕ)) → IsPath names
+        → text ≢ path_text names
     never [] h [] p e = cc
     never [] h (x ∷ xs) p e = cc
     never (b ∷ bs) h [] p e = h (omega arith) (cc)
@@ -386,33 +459,45 @@ pub record IsRunSoFar (text : List ℕ) (i : ℕ) : Type 0 where
   pub short : i ≤ 32
   pub each : list_all is_name_byte (take i text) ≡ true
 
-pub run_more : (text : List ℕ) (i : ℕ) → IsRunSoFar text i → i < length text → i ≢ 32 → is_name_byte (get_or text i 0) ≡ true → IsRunSoFar text (i + 1)
+pub run_more : (text : List ℕ) (i : ℕ) → IsRunSoFar text i → i < length text → i ≢ 32 → is_name_byte (get_or text i 0)
+    ≡ true → IsRunSoFar text (i + 1)
 run_more text i h lt ne byte = record {
   short = let s : i ≤ 32 = h.short in omega (arith, s, ne);
   each =
-      let front : list_all is_name_byte (take i text ++ (get_or text i 0 ∷ [])) ≡ true = rw (list_all-append, h.each, byte) refl in
+      let front : list_all is_name_byte (take i text ++ (get_or text i 0 ∷ [])) ≡ true =
+      rw (list_all-append, h.each, byte) refl in
       rw (take_more text i 0 lt) front;
 }
 
-pub run_whole : (text : List ℕ) (i : ℕ) → IsRunSoFar text i → i ≤ length text → (i < length text → i < 32 → is_name_byte (get_or text i 0) ≡ false) → IsRun text i
+pub run_whole : (text : List ℕ) (i : ℕ) → IsRunSoFar text i → i ≤ length text
+    → (i < length text → i < 32 → is_name_byte (get_or text i 0) ≡ false) → IsRun text i
 run_whole text i h within stop = record { within = within; short = h.short; each = h.each; stop = stop }
 
-pub stuck_at_byte : (text rest : List ℕ) (n : ℕ) → IsRun text n → rest ≡ drop n text → 0 < length rest → get_or rest 0 0 ≢ 62 → IsStuck text n
+pub stuck_at_byte : (text rest : List ℕ) (n : ℕ) → IsRun text n → rest ≡ drop n text → 0 < length rest
+    → get_or rest 0 0 ≢ 62 → IsStuck text n
 stuck_at_byte text rest n h same lt ne =
     let w : n ≤ length text = h.within in
-    let inside : n < length text = let some : 0 < length (drop n text) = subst (λ (t : List ℕ). 0 < length t) same lt in grind (arith, common_steps) in
+    let inside : n < length text = let some : 0 < length (drop n text) =
+    subst (λ (t : List ℕ). 0 < length t) same lt in grind (arith, common_steps) in
     let at : get_or rest 0 0 ≡ get_or text n 0 = ap (λ (t : List ℕ). get_or t 0 0) (same ∙ drop-cons text n 0 inside) in
     record { run = h; inside = λ nz. inside; other = λ nz e. ne (at ∙ e) }
 
-pub stuck_at_start : (text front : List ℕ) (n : ℕ) → IsRun text n → front ≡ take n text → (if is_name front then Some front else None) ≡ None → IsStuck text n
-stuck_at_start text front n h same none = record { run = h; inside = λ nz. absurd (never nz); other = λ nz. absurd (never nz) }
+pub stuck_at_start : (text front : List ℕ) (n : ℕ) → IsRun text n → front ≡ take n text
+    → (if is_name front then Some front else None) ≡ None → IsStuck text n
+stuck_at_start text front n h same none = record {
+  run = h;
+  inside = λ nz. absurd (never nz);
+  other =
+      λ nz. absurd (never nz);
+}
   where
     name : n ≢ 0 → IsName front
     name nz =
         let w : n ≤ length text = h.within in
         let long : length (take n text) ≡ n = grind (arith, common_steps) in
         let short : n ≤ 32 = h.short in
-        subst IsName (sym same) (run_is_name (take n text) (omega (arith, long, nz)) (omega (arith, long, short)) h.each)
+        subst IsName (sym same) (run_is_name (take n text) (omega (arith, long, nz)) (omega (arith, long, short))
+        h.each)
 
     never : n ≢ 0 → ⊥
     never nz = let yes_it_is : is_name front ≡ true = name nz in chosen (is_name front) yes_it_is none
@@ -429,9 +514,11 @@ pub record HasRead (text : List ℕ) (names : List (List ℕ)) (rest : List ℕ)
 
 names_text_one_more : (xs : List (List ℕ)) (x : List ℕ) → names_text (xs ++ x ∷ []) ≡ names_text xs ++ (62 ∷ x)
 names_text_one_more [] x = ap (λ (t : List ℕ). 62 ∷ t) (append-nil x)
-names_text_one_more (y ∷ ys) x = ap (λ (t : List ℕ). 62 ∷ (y ++ t)) (names_text_one_more ys x) ∙ ap (λ (t : List ℕ). 62 ∷ t) (sym (append_assoc y (names_text ys) (62 ∷ x)))
+names_text_one_more (y ∷ ys) x = ap (λ (t : List ℕ). 62 ∷ (y ++ t)) (names_text_one_more ys x)
+    ∙ ap (λ (t : List ℕ). 62 ∷ t) (sym (append_assoc y (names_text ys) (62 ∷ x)))
 
-each_one_more : (xs : List (List ℕ)) (x : List ℕ) → AllByRecursion IsName xs → IsName x → AllByRecursion IsName (xs ++ x ∷ [])
+each_one_more : (xs : List (List ℕ)) (x : List ℕ) → AllByRecursion IsName xs → IsName x
+    → AllByRecursion IsName (xs ++ x ∷ [])
 each_one_more [] x hx h = (h, tt)
 each_one_more (y ∷ ys) x hx h = (hx.0, each_one_more ys x hx.1 h)
 
@@ -439,10 +526,16 @@ pub read_start : (text : List ℕ) → get_or text 0 0 ≡ 62 → HasRead text [
 read_start [] e = record { whole = refl; path = record { few = omega arith; each = tt }; sign = tt }
 read_start (b ∷ bs) e = record { whole = refl; path = record { few = omega arith; each = tt }; sign = e }
 
-pub read_more : (text : List ℕ) (names : List (List ℕ)) (rest after behind name : List ℕ) (b : ℕ) → HasRead text names rest → rest ≡ b ∷ after → length names < 9 → IsName name → after ≡ name ++ behind → IsAtSign behind → HasRead text (names ++ name ∷ []) behind
+pub read_more : (text : List ℕ) (names : List (List ℕ)) (rest after behind name : List ℕ) (b : ℕ)
+    → HasRead text names rest → rest ≡ b ∷ after → length names < 9 → IsName name → after ≡ name ++ behind
+    → IsAtSign behind → HasRead text (names ++ name ∷ []) behind
 read_more text names rest after behind name b h split room is_one parts sign = record {
   whole = whole;
-  path = record { few = omega (arith, room, length-append names (name ∷ [])); each = each_one_more names name h.path.each is_one };
+  path = record {
+    few = omega (arith, room, length-append names (name ∷ []));
+    each =
+        each_one_more names name h.path.each is_one;
+  };
   sign = sign;
 }
   where
@@ -452,40 +545,50 @@ read_more text names rest after behind name b h split room is_one parts sign = r
     whole : text ≡ names_text (names ++ name ∷ []) ++ behind
     whole =
         h.whole
-        ∙ ap (λ (t : List ℕ). names_text names ++ t) (split ∙ ap (λ (c : ℕ). c ∷ after) (at h.sign split) ∙ ap (λ (t : List ℕ). 62 ∷ t) parts)
+        ∙ ap (λ (t : List ℕ). names_text names ++ t) (split ∙ ap (λ (c : ℕ). c ∷ after) (at h.sign split)
+        ∙ ap (λ (t : List ℕ). 62 ∷ t) parts)
         ∙ sym (append_assoc (names_text names) (62 ∷ name) behind)
         ∙ ap (λ (t : List ℕ). t ++ behind) (sym (names_text_one_more names name))
 
 -- where the bytes before what is left end
-pub read_length : (text : List ℕ) (names : List (List ℕ)) (rest : List ℕ) → HasRead text names rest → (length text ≡ length (names_text names) + length rest) × (length (names_text names) ≤ 297)
+pub read_length : (text : List ℕ) (names : List (List ℕ)) (rest : List ℕ) → HasRead text names rest
+    → (length text ≡ length (names_text names) + length rest) × (length (names_text names) ≤ 297)
 read_length text names rest h =
     let short : length (names_text names) ≤ 33 * length names = short_texts names h.path.each in
     let few : length names ≤ 9 = h.path.few in
     (ap length h.whole ∙ length-append (names_text names) rest, omega (arith, short, few))
 
-pub read_whole : (text : List ℕ) (names : List (List ℕ)) (rest : List ℕ) → HasRead text names rest → 1 < length text → length rest ≡ 0 → text ≡ path_text names
+pub read_whole : (text : List ℕ) (names : List (List ℕ)) (rest : List ℕ) → HasRead text names rest → 1 < length text
+    → length rest ≡ 0 → text ≡ path_text names
 read_whole text names (b ∷ bs) h more none = absurd (omega (arith, none))
 read_whole text [] [] h more none = let e : length text ≡ 0 = ap length h.whole in absurd (omega (arith, more, e))
 read_whole text (x ∷ xs) [] h more none = h.whole ∙ append-nil (names_text (x ∷ xs))
 
-pub read_full : (text : List ℕ) (names : List (List ℕ)) (rest after : List ℕ) (b : ℕ) → HasRead text names rest → rest ≡ b ∷ after → 9 ≤ length names → IsNoPath text (length text - length rest)
+pub read_full : (text : List ℕ) (names : List (List ℕ)) (rest after : List ℕ) (b : ℕ) → HasRead text names rest → rest
+    ≡ b ∷ after → 9 ≤ length names → IsNoPath text (length text - length rest)
 read_full text names rest after b h split full =
     let at : b ≡ 62 = subst IsAtSign split h.sign in
-    let same : text ≡ names_text names ++ (62 ∷ after) = h.whole ∙ ap (λ (t : List ℕ). names_text names ++ t) (split ∙ ap (λ (c : ℕ). c ∷ after) at) in
+    let same : text ≡ names_text names ++ (62 ∷ after) = h.whole
+    ∙ ap (λ (t : List ℕ). names_text names ++ t) (split ∙ ap (λ (c : ℕ). c ∷ after) at) in
     let long : length text ≡ length (names_text names) + length rest = (read_length text names rest h).0 in
     subst (λ (n : ℕ). IsNoPath text n) (omega (arith, long)) (full_is_no_path names text after h.path full same)
 
-pub read_stuck : (text : List ℕ) (names : List (List ℕ)) (rest after : List ℕ) (b n : ℕ) → HasRead text names rest → rest ≡ b ∷ after → length names < 9 → 1 < length text → IsStuck after n → IsNoPath text (length text - length after + n)
+pub read_stuck : (text : List ℕ) (names : List (List ℕ)) (rest after : List ℕ) (b n : ℕ) → HasRead text names rest
+    → rest ≡ b ∷ after → length names < 9 → 1 < length text → IsStuck after n
+    → IsNoPath text (length text - length after + n)
 read_stuck text names rest after b n h split room more stuck =
     let at : b ≡ 62 = subst IsAtSign split h.sign in
-    let same : text ≡ names_text names ++ (62 ∷ after) = h.whole ∙ ap (λ (t : List ℕ). names_text names ++ t) (split ∙ ap (λ (c : ℕ). c ∷ after) at) in
+    let same : text ≡ names_text names ++ (62 ∷ after) = h.whole
+    ∙ ap (λ (t : List ℕ). names_text names ++ t) (split ∙ ap (λ (c : ℕ). c ∷ after) at) in
     let long : length text ≡ length (names_text names) + length rest = (read_length text names rest h).0 in
     let one : length rest ≡ length (b ∷ after) = ap length split in
-    subst (λ (n : ℕ). IsNoPath text n) (omega (arith, long, one)) (stuck_is_no_path names text after n h.path room more same stuck)
+    subst (λ (n : ℕ). IsNoPath text n) (omega (arith, long, one))
+    (stuck_is_no_path names text after n h.path room more same stuck)
 
 -- ---- each path is read from its text
 
-path_again : (text : List ℕ) (names : List (List ℕ)) → text ≡ path_text names → IsPath names → (p : List (List ℕ)) → IsPath p → text ≡ path_text p → names ≡ p
+path_again : (text : List ℕ) (names : List (List ℕ)) → text ≡ path_text names → IsPath names → (p : List (List ℕ))
+    → IsPath p → text ≡ path_text p → names ≡ p
 path_again text [] e h [] hp ep = refl
 path_again text [] e h (x ∷ xs) hp ep =
     let bytes : x ++ names_text xs ≡ [] = cc in
@@ -503,13 +606,20 @@ path_again text (x ∷ xs) e h [] hp ep =
     nothing (b ∷ bs) xs h e = cc
 path_again text (x ∷ xs) e h (y ∷ ys) hp ep = names_same (x ∷ xs) (y ∷ ys) h.each hp.each (sym e ∙ ep)
 
-pub read_again : (text : List ℕ) (read : Result (List (List ℕ)) BadPath) → IfOk read (λ p. (text ≡ path_text p) × IsPath p) → IfErr read (λ e. IsNoPath text e.place) → (p : List (List ℕ)) → IsPath p → text ≡ path_text p → read ≡ Ok p
+pub read_again : (text : List ℕ) (read : Result (List (List ℕ)) BadPath)
+    → IfOk read (λ p. (text ≡ path_text p) × IsPath p) → IfErr read (λ e. IsNoPath text e.place) → (p : List (List ℕ))
+    → IsPath p → text ≡ path_text p → read ≡ Ok p
 read_again text (Ok names) ok err p hp ep = ap Ok (path_again text names ok.0 ok.1 p hp ep)
 read_again text (Err e) ok err p hp ep = absurd (err.never p hp ep)
 
 -- the names above the last of a path
-pub front_is_path : (names front : List (List ℕ)) (name : List ℕ) → IsPath names → names ≡ front ++ name ∷ [] → IsPath front
-front_is_path names front name h e = record { few = omega (arith, few, length-append front (name ∷ [])); each = each_front front (subst (AllByRecursion IsName) e h.each) }
+pub front_is_path : (names front : List (List ℕ)) (name : List ℕ) → IsPath names → names ≡ front ++ name ∷ []
+    → IsPath front
+front_is_path names front name h e = record {
+  few = omega (arith, few, length-append front (name ∷ []));
+  each =
+      each_front front (subst (AllByRecursion IsName) e h.each);
+}
   where
     few : length (front ++ name ∷ []) ≤ 9
     few = subst (λ (xs : List (List ℕ)). length xs ≤ 9) e h.few

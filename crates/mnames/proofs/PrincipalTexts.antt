@@ -1,5 +1,6 @@
 -- What the texts of principals and of rows are read back as.
-use Rattle.std.proofs.Common.{◌≡◌, ℕ, ◌+◌, ◌<◌, ◌≤◌, Bool, true, false, not, cond, ◌&&◌, eqb, ltb, List, [], ◌∷◌, ◌++◌, length, take, drop, Option, Some, None, refl, sym, ap, ◌∙◌, arith}
+use Rattle.std.proofs.Common.{◌≡◌, ℕ, ◌+◌, ◌<◌, ◌≤◌, Bool, true, false, not, cond, ◌&&◌, eqb, ltb, List, [], ◌∷◌, ◌++◌}
+use Rattle.std.proofs.Common.{length, take, drop, Option, Some, None, refl, sym, ap, ◌∙◌, arith}
 use Rattle.std.specs.Prelude.{IfSome}
 use Rattle.std.specs.List.{list_all, position, position_or_len}
 use Rattle.std.specs.Str.{bytes_eq}
@@ -10,7 +11,8 @@ use Rattle.std.proofs.Math.Seq.{drop-append-add}
 use Rattle.std.proofs.lemmas.List.Folds.{list_all-append}
 use Rattle.std.proofs.lemmas.Slice.Eq.{bytes_eq-Decides}
 use Rattle.mnames.specs.Names.{is_label, is_label_byte}
-use Rattle.mnames.specs.Principals.{default_project, is_dot, before_dot, after_dot, IsWho, who_of, who_text, parts_text, IsRow, any_text, part_of, row_with, row_of, row_text, row_parts_text}
+use Rattle.mnames.specs.Principals.{default_project, is_dot, before_dot, after_dot, IsWho, who_of, who_text}
+use Rattle.mnames.specs.Principals.{parts_text, IsRow, any_text, part_of, row_with, row_of, row_text, row_parts_text}
 use Rattle.mnames.specs.declared.principals.Who.{Who}
 use Rattle.mnames.specs.declared.rows.Row.{Row}
 
@@ -58,31 +60,39 @@ first_dot (x ∷ xs) ys h =
     rw (here, rest) (omega arith)
 
 before_dotted : (xs ys : List ℕ) → lacks_dots xs ≡ true → before_dot (xs ++ (46 ∷ ys)) ≡ xs
-before_dotted xs ys h = ap (λ (n : ℕ). take n (xs ++ (46 ∷ ys))) (first_dot xs ys h) ∙ take_at xs (46 ∷ ys) (length xs) refl
+before_dotted xs ys h = ap (λ (n : ℕ). take n (xs ++ (46 ∷ ys))) (first_dot xs ys h)
+    ∙ take_at xs (46 ∷ ys) (length xs) refl
 
 after_dotted : (xs ys : List ℕ) → lacks_dots xs ≡ true → after_dot (xs ++ (46 ∷ ys)) ≡ ys
-after_dotted xs ys h = ap (λ (n : ℕ). drop (n + 1) (xs ++ (46 ∷ ys))) (first_dot xs ys h) ∙ drop-append-add xs (46 ∷ ys) 1
+after_dotted xs ys h = ap (λ (n : ℕ). drop (n + 1) (xs ++ (46 ∷ ys))) (first_dot xs ys h)
+    ∙ drop-append-add xs (46 ∷ ys) 1
 
 -- ---- principals
 
-who_alone : (text : List ℕ) → is_label text ≡ true → who_of text ≡ Some (record { person = text; project = default_project })
+who_alone : (text : List ℕ) → is_label text ≡ true → who_of text
+    ≡ Some (record { person = text; project = default_project })
 unfolding who_of
 who_alone text h = rw h refl
 
-who_dotted : (a b : List ℕ) → is_label a ≡ true → is_label b ≡ true → who_of (a ++ (46 ∷ b)) ≡ Some (record { person = a; project = b })
+who_dotted : (a b : List ℕ) → is_label a ≡ true → is_label b ≡ true → who_of (a ++ (46 ∷ b))
+    ≡ Some (record { person = a; project = b })
 unfolding who_of
 who_dotted a b ha hb =
     let clear : lacks_dots a ≡ true = label_lacks_dots a ha in
     rw (dotted_is_no_label a b, before_dotted a b clear, after_dotted a b clear, ha, hb) refl
 
-who_parts : (a b : List ℕ) → is_label a ≡ true → is_label b ≡ true → who_of (parts_text a b) ≡ Some (record { person = a; project = b })
+who_parts : (a b : List ℕ) → is_label a ≡ true → is_label b ≡ true → who_of (parts_text a b)
+    ≡ Some (record { person = a; project = b })
 who_parts a b ha hb = chosen (bytes_eq b default_project) refl
   where
-    chosen : (z : Bool) → bytes_eq b default_project ≡ z → who_of (cond z a (a ++ (46 ∷ b))) ≡ Some (record { person = a; project = b })
-    chosen true e = who_alone a ha ∙ ap (λ (p : List ℕ). Some (record { person = a; project = p })) (sym ((bytes_eq-Decides b default_project).0 e))
+    chosen : (z : Bool) → bytes_eq b default_project ≡ z → who_of (cond z a (a ++ (46 ∷ b)))
+        ≡ Some (record { person = a; project = b })
+    chosen true e = who_alone a ha ∙ ap (λ (p : List ℕ). Some (record { person = a; project = p }))
+        (sym ((bytes_eq-Decides b default_project).0 e))
     chosen false e = who_dotted a b ha hb
 
-pub who_again : (text : List ℕ) (read : Option Who) → read ≡ who_of text → (who : Who) → IsWho who → text ≡ who_text who → read ≡ Some who
+pub who_again : (text : List ℕ) (read : Option Who) → read ≡ who_of text → (who : Who) → IsWho who → text
+    ≡ who_text who → read ≡ Some who
 unfolding who_text
 who_again text read e who h same = e ∙ ap who_of same ∙ who_parts who.person who.project h.person h.project
 
@@ -120,11 +130,13 @@ part_dotted : (xs ys : List ℕ) → part_of (xs ++ (46 ∷ ys)) ≡ None
 unfolding part_of
 part_dotted xs ys = rw (dotted_not_any xs ys, dotted_is_no_label xs ys) refl
 
-row_alone_label : (text : List ℕ) → is_label text ≡ true → row_of text ≡ Some (record { person = Some text; project = Some default_project })
+row_alone_label : (text : List ℕ) → is_label text ≡ true → row_of text
+    ≡ Some (record { person = Some text; project = Some default_project })
 unfolding row_of
 row_alone_label text h = rw (part_label text h) refl
 
-row_dotted : (a b : List ℕ) (person project : Option (List ℕ)) → lacks_dots a ≡ true → part_of a ≡ Some person → part_of b ≡ Some project → row_of (a ++ (46 ∷ b)) ≡ Some (record { person = person; project = project })
+row_dotted : (a b : List ℕ) (person project : Option (List ℕ)) → lacks_dots a ≡ true → part_of a ≡ Some person
+    → part_of b ≡ Some project → row_of (a ++ (46 ∷ b)) ≡ Some (record { person = person; project = project })
 unfolding row_of
 row_dotted a b person project clear ha hb =
     rw (part_dotted a b, before_dotted a b clear, after_dotted a b clear, ha, hb) refl
@@ -133,20 +145,26 @@ row_any : row_of any_text ≡ Some (record { person = None; project = None })
 unfolding row_of part_of
 row_any = refl
 
-row_parts : (a b : List ℕ) → is_label a ≡ true → is_label b ≡ true → row_of (parts_text a b) ≡ Some (record { person = Some a; project = Some b })
+row_parts : (a b : List ℕ) → is_label a ≡ true → is_label b ≡ true → row_of (parts_text a b)
+    ≡ Some (record { person = Some a; project = Some b })
 row_parts a b ha hb = chosen (bytes_eq b default_project) refl
   where
-    chosen : (z : Bool) → bytes_eq b default_project ≡ z → row_of (cond z a (a ++ (46 ∷ b))) ≡ Some (record { person = Some a; project = Some b })
-    chosen true e = row_alone_label a ha ∙ ap (λ (p : List ℕ). Some (record { person = Some a; project = Some p })) (sym ((bytes_eq-Decides b default_project).0 e))
+    chosen : (z : Bool) → bytes_eq b default_project ≡ z → row_of (cond z a (a ++ (46 ∷ b)))
+        ≡ Some (record { person = Some a; project = Some b })
+    chosen true e = row_alone_label a ha ∙ ap (λ (p : List ℕ). Some (record { person = Some a; project = Some p }))
+        (sym ((bytes_eq-Decides b default_project).0 e))
     chosen false e = row_dotted a b (Some a) (Some b) (label_lacks_dots a ha) (part_label a ha) (part_label b hb)
 
-row_back : (person project : Option (List ℕ)) → IfSome person (λ l. is_label l ≡ true) → IfSome project (λ l. is_label l ≡ true) → row_of (row_parts_text person project) ≡ Some (record { person = person; project = project })
+row_back : (person project : Option (List ℕ)) → IfSome person (λ l. is_label l ≡ true)
+    → IfSome project (λ l. is_label l ≡ true) → row_of (row_parts_text person project)
+    ≡ Some (record { person = person; project = project })
 row_back None None ha hb = row_any
 row_back None (Some b) ha hb = row_dotted any_text b None (Some b) refl part_any (part_label b hb)
 row_back (Some a) None ha hb = row_dotted a any_text (Some a) None (label_lacks_dots a ha) (part_label a ha) part_any
 row_back (Some a) (Some b) ha hb = row_parts a b ha hb
 
-pub row_again : (text : List ℕ) (read : Option Row) → read ≡ row_of text → (row : Row) → IsRow row → text ≡ row_text row → read ≡ Some row
+pub row_again : (text : List ℕ) (read : Option Row) → read ≡ row_of text → (row : Row) → IsRow row → text
+    ≡ row_text row → read ≡ Some row
 unfolding row_text
 row_again text read e row h same = e ∙ ap row_of same ∙ row_back row.person row.project h.person h.project
 
@@ -156,10 +174,13 @@ pub row_with_none : (person : Option (Option (List ℕ))) → row_with person No
 row_with_none None = refl
 row_with_none (Some p) = refl
 
-pub dot_found : (text : List ℕ) (i : ℕ) → position is_dot text ≡ Some i → (i < length text) × (i ≡ position_or_len is_dot text)
+pub dot_found : (text : List ℕ) (i : ℕ) → position is_dot text ≡ Some i → (i < length text)
+    × (i ≡ position_or_len is_dot text)
 dot_found text i h = chosen (ltb (position_or_len is_dot text) (length text)) refl h
   where
-    chosen : (z : Bool) → ltb (position_or_len is_dot text) (length text) ≡ z → cond z (Some (position_or_len is_dot text)) None ≡ Some i → (i < length text) × (i ≡ position_or_len is_dot text)
+    chosen : (z : Bool) → ltb (position_or_len is_dot text) (length text) ≡ z
+        → cond z (Some (position_or_len is_dot text)) None ≡ Some i → (i < length text)
+        × (i ≡ position_or_len is_dot text)
     chosen true e h =
         let at : position_or_len is_dot text ≡ i = grind (arith, nat_tests) in
         let within : position_or_len is_dot text < length text = grind (arith, nat_tests) in
@@ -172,7 +193,8 @@ dropped xs n le = grind (arith, common_steps)
 pub dot_missing : (text : List ℕ) → position is_dot text ≡ None → after_dot text ≡ []
 dot_missing text h = chosen (ltb (position_or_len is_dot text) (length text)) refl h
   where
-    chosen : (z : Bool) → ltb (position_or_len is_dot text) (length text) ≡ z → cond z (Some (position_or_len is_dot text)) None ≡ None → after_dot text ≡ []
+    chosen : (z : Bool) → ltb (position_or_len is_dot text) (length text) ≡ z
+        → cond z (Some (position_or_len is_dot text)) None ≡ None → after_dot text ≡ []
     chosen true e h = grind (arith, nat_tests)
     chosen false e h =
         let past : length text ≤ position_or_len is_dot text = grind (arith, nat_tests) in

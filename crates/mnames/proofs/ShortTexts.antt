@@ -10,7 +10,8 @@ use Rattle.mnames.specs.Names.{is_name, is_name_byte, is_label, is_label_byte}
 -- a test that only ASCII bytes pass
 all_ascii : (p : ℕ → Bool) → ((b : ℕ) → p b ≡ true → b < 128) → (bs : List ℕ) → list_all p bs ≡ true → IsAscii bs
 all_ascii p below [] h = IsAscii-nil
-all_ascii p below (b ∷ bs) h = IsAscii-cons b bs (below b (grind (arith, nat_tests))) (all_ascii p below bs (grind (arith, nat_tests)))
+all_ascii p below (b ∷ bs) h = IsAscii-cons b bs (below b (grind (arith, nat_tests)))
+    (all_ascii p below bs (grind (arith, nat_tests)))
 
 name_byte_below : (b : ℕ) → is_name_byte b ≡ true → b < 128
 name_byte_below b h = grind (arith, nat_tests)
@@ -37,7 +38,8 @@ label_is_short text h = grind (arith, nat_tests)
 pub ascii_is_utf8 : (bs : List ℕ) → IsAscii bs → IsUtf8 bs
 ascii_is_utf8 bs h = IsUtf8-from_ascii bs h
 
-pub name_tested : (text : List ℕ) (a : Bool) → 1 ≤ length text → length text ≤ 32 → a ≡ list_all is_name_byte text → a ≡ is_name text
+pub name_tested : (text : List ℕ) (a : Bool) → 1 ≤ length text → length text ≤ 32 → a ≡ list_all is_name_byte text → a
+    ≡ is_name text
 unfolding is_name
 name_tested text a low high h = rw (le-leb 1 (length text) low, le-leb (length text) 32 high) h
 
@@ -45,7 +47,8 @@ pub name_wrong_length : (text : List ℕ) → (1 ≤ length text → length text
 unfolding is_name
 name_wrong_length text h = grind (arith, nat_tests)
 
-pub label_tested : (text : List ℕ) (a : Bool) → 1 ≤ length text → length text ≤ 32 → a ≡ list_all is_label_byte text → a ≡ is_label text
+pub label_tested : (text : List ℕ) (a : Bool) → 1 ≤ length text → length text ≤ 32 → a ≡ list_all is_label_byte text
+    → a ≡ is_label text
 unfolding is_label
 label_tested text a low high h = rw (le-leb 1 (length text) low, le-leb (length text) 32 high) h
 

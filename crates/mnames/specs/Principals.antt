@@ -25,11 +25,13 @@ pub record IsWho (who : Who) : Type 0 where
   pub project : IsLabel who.project
 
 abbrev pub who_with : List ℕ → List ℕ → Option Who
-who_with person project = if is_label person && is_label project then Some (record { person = person; project = project }) else None
+who_with person project = if is_label person && is_label project
+    then Some (record { person = person; project = project }) else None
 
 -- the principal of a text: `Person.Project`, or a person alone, whose project is `Default`
 unfoldable pub who_of : List ℕ → Option Who
-who_of text = if is_label text then Some (record { person = text; project = default_project }) else who_with (before_dot text) (after_dot text)
+who_of text = if is_label text then Some (record { person = text; project = default_project })
+    else who_with (before_dot text) (after_dot text)
 
 -- the canonical text of two parts: the first alone, where the second is `Default`
 abbrev pub parts_text : List ℕ → List ℕ → List ℕ

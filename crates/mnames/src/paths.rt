@@ -1,4 +1,5 @@
-ghost use Rattle.std.specs.Prelude.{◌≡◌, ◌<◌, ◌≤◌, ℕ, List, [], ◌∷◌, ◌++◌, length, slice_index, Some, Ok, IfSome, IfNone, IfOk, IfErr, string_bytes};
+ghost use Rattle.std.specs.Prelude.{◌≡◌, ◌<◌, ◌≤◌, ℕ, List, [], ◌∷◌, ◌++◌, length, slice_index, Some, Ok, IfSome};
+ghost use Rattle.std.specs.Prelude.{IfNone, IfOk, IfErr, string_bytes};
 ghost use Rattle.mnames.specs.Names.{path_text, IsPath, IsLongestStart};
 ghost use Rattle.mnames.specs.Reading.{IsNoPath};
 

@@ -1,5 +1,7 @@
 -- Laws of octal text: what a digit adds, and that twelve digits of a word read back as the word.
-use Rattle.std.proofs.Common.{◌≡◌, ℕ, suc, zero, ◌+◌, ◌-◌, ◌*◌, ◌/◌, ◌%◌, ◌^◌, ◌<◌, ◌≤◌, ◌↔◌, Bool, true, false, nat_le, ◌&&◌, List, [], ◌∷◌, ◌++◌, length, All, IsSome, IfSome, Option, Some, None, refl, sym, subst, ◌∙◌, arith, get_or, take, drop, set, add-one}
+use Rattle.std.proofs.Common.{◌≡◌, ℕ, suc, zero, ◌+◌, ◌-◌, ◌*◌, ◌/◌, ◌%◌, ◌^◌, ◌<◌, ◌≤◌, ◌↔◌, Bool, true, false}
+use Rattle.std.proofs.Common.{nat_le, ◌&&◌, List, [], ◌∷◌, ◌++◌, length, All, IsSome, IfSome, Option, Some, None, refl}
+use Rattle.std.proofs.Common.{sym, subst, ◌∙◌, arith, get_or, take, drop, set, add-one}
 use Rattle.std.specs.List.{list_all}
 use Rattle.std.proofs.lemmas.List.{append_assoc, drop-set, length_push, take_more, take_all}
 use Rattle.std.proofs.lemmas.List.Folds.{list_all_more, list_all_at}
@@ -18,13 +20,15 @@ pub octal_number_push : (ds : List ℕ) (d : ℕ) → octal_number (ds ++ d ∷ 
 unfolding octal_number
 octal_number_push ds d = fold_push (λ number digit. number * 8 + (digit - 48)) 0 ds d
 
-pub list_all_octal_push : (ds : List ℕ) (d : ℕ) → list_all is_octal_digit (ds ++ d ∷ []) ≡ (list_all is_octal_digit ds && is_octal_digit d)
+pub list_all_octal_push : (ds : List ℕ) (d : ℕ) → list_all is_octal_digit (ds ++ d ∷ [])
+    ≡ (list_all is_octal_digit ds && is_octal_digit d)
 list_all_octal_push ds d = list_all-append is_octal_digit ds (d ∷ []) ∙ grind (arith, nat_tests)
 
 pub length-octal_digits : (count n : ℕ) → length (octal_digits count n) ≡ count
 unfolding octal_digits
 length-octal_digits zero n = refl
-length-octal_digits (suc count) n = length_push (octal_digits count (n / 8)) (48 + n % 8) ∙ omega (arith, length-octal_digits count (n / 8))
+length-octal_digits (suc count) n = length_push (octal_digits count (n / 8)) (48 + n % 8)
+    ∙ omega (arith, length-octal_digits count (n / 8))
 
 and_left : (a b : Bool) → (a && b) ≡ true → a ≡ true
 and_left true b h = refl
@@ -40,7 +44,8 @@ digit_is_octal r = grind (arith, nat_tests)
 pub octal_digits_all : (count n : ℕ) → list_all is_octal_digit (octal_digits count n) ≡ true
 unfolding octal_digits
 octal_digits_all zero n = refl
-octal_digits_all (suc count) n = list_all_octal_push (octal_digits count (n / 8)) (48 + n % 8) ∙ rw (octal_digits_all count (n / 8)) (digit_is_octal n)
+octal_digits_all (suc count) n = list_all_octal_push (octal_digits count (n / 8)) (48 + n % 8)
+    ∙ rw (octal_digits_all count (n / 8)) (digit_is_octal n)
 
 one_is_ascii : (d : ℕ) → d < 128 → IsAscii (d ∷ [])
 one_is_ascii d h zero = h
@@ -49,7 +54,8 @@ one_is_ascii d h (suc i) = omega arith
 octal_digits_ascii : (count n : ℕ) → IsAscii (octal_digits count n)
 unfolding octal_digits
 octal_digits_ascii zero n = IsAscii-nil
-octal_digits_ascii (suc count) n = IsAscii-append (octal_digits count (n / 8)) ((48 + n % 8) ∷ []) (octal_digits_ascii count (n / 8)) (one_is_ascii (48 + n % 8) (omega arith))
+octal_digits_ascii (suc count) n = IsAscii-append (octal_digits count (n / 8)) ((48 + n % 8) ∷ [])
+    (octal_digits_ascii count (n / 8)) (one_is_ascii (48 + n % 8) (omega arith))
 
 pub octal_number_digits : (count n : ℕ) → n < 8 ^ count → octal_number (octal_digits count n) ≡ n
 unfolding octal_digits octal_number
@@ -88,9 +94,16 @@ digits_test (b ∷ bs) h =
 pub is_octal_facts : (text : List ℕ) → is_octal text ≡ true → IsOctal text
 unfolding is_octal
 is_octal_facts text h =
-    let lengths : (nat_le 1 (length text) && nat_le (length text) 12) ≡ true = and_left (nat_le 1 (length text) && nat_le (length text) 12) (list_all is_octal_digit text) h in
-    let digits : list_all is_octal_digit text ≡ true = and_right (nat_le 1 (length text) && nat_le (length text) 12) (list_all is_octal_digit text) h in
-    record { some = grind (arith, nat_tests, lengths); within = grind (arith, nat_tests, lengths); digits = digits_facts text digits }
+    let lengths : (nat_le 1 (length text) && nat_le (length text) 12) ≡ true =
+    and_left (nat_le 1 (length text) && nat_le (length text) 12) (list_all is_octal_digit text) h in
+    let digits : list_all is_octal_digit text ≡ true =
+    and_right (nat_le 1 (length text) && nat_le (length text) 12) (list_all is_octal_digit text) h in
+    record {
+      some = grind (arith, nat_tests, lengths);
+      within = grind (arith, nat_tests, lengths);
+      digits =
+          digits_facts text digits;
+    }
 
 pub is_octal_test : (text : List ℕ) → IsOctal text → is_octal text ≡ true
 unfolding is_octal
@@ -101,17 +114,23 @@ is_octal_test text h =
     rw (low, high, digits) refl
 
 -- a digit more, in front of those that are written
-pub octal_digits_step : (place rest : ℕ) (digits all : List ℕ) → 0 < place → place ≤ length digits → octal_digits place rest ++ drop place digits ≡ all → octal_digits (place - 1) (rest / 8) ++ drop (place - 1) (set digits (place - 1) (48 + rest % 8)) ≡ all
+pub octal_digits_step : (place rest : ℕ) (digits all : List ℕ) → 0 < place → place ≤ length digits
+    → octal_digits place rest ++ drop place digits ≡ all → octal_digits (place - 1) (rest / 8)
+    ++ drop (place - 1) (set digits (place - 1) (48 + rest % 8)) ≡ all
 unfolding octal_digits
 octal_digits_step zero rest digits all some h e = absurd (omega arith)
 octal_digits_step (suc place) rest digits all some h e =
     let low : suc place - 1 ≡ place = omega arith in
     let within : place < length digits = omega arith in
-    let cut : drop place (set digits place (48 + rest % 8)) ≡ (48 + rest % 8) ∷ drop (place + 1) digits = drop-set digits place (48 + rest % 8) within in
-    let cut' : drop place (set digits place (48 + rest % 8)) ≡ (48 + rest % 8) ∷ drop (suc place) digits = rw add-one at cut in
-    rw (low, cut') (sym (append_assoc (octal_digits place (rest / 8)) ((48 + rest % 8) ∷ []) (drop (suc place) digits)) ∙ e)
+    let cut : drop place (set digits place (48 + rest % 8)) ≡ (48 + rest % 8) ∷ drop (place + 1) digits =
+    drop-set digits place (48 + rest % 8) within in
+    let cut' : drop place (set digits place (48 + rest % 8)) ≡ (48 + rest % 8) ∷ drop (suc place) digits =
+    rw add-one at cut in
+    rw (low, cut') (sym (append_assoc (octal_digits place (rest / 8)) ((48 + rest % 8) ∷ []) (drop (suc place) digits))
+    ∙ e)
 
-pub octal_digits_end : (place rest : ℕ) (digits all : List ℕ) → place ≤ 0 → octal_digits place rest ++ drop place digits ≡ all → digits ≡ all
+pub octal_digits_end : (place rest : ℕ) (digits all : List ℕ) → place ≤ 0 → octal_digits place rest
+    ++ drop place digits ≡ all → digits ≡ all
 unfolding octal_digits
 octal_digits_end zero rest digits all none e = e
 octal_digits_end (suc place) rest digits all none e = absurd (omega arith)
@@ -120,7 +139,8 @@ pub octal_digits_text : (count n : ℕ) → IsUtf8 (octal_digits count n)
 octal_digits_text count n = IsUtf8-from_ascii (octal_digits count n) (octal_digits_ascii count n)
 
 -- where a byte isn't an octal digit, the text is no word
-pub octal_value_stops : (text : List ℕ) (i : ℕ) → i < length text → (48 ≤ get_or text i 0 → 55 < get_or text i 0) → octal_value text ≡ None
+pub octal_value_stops : (text : List ℕ) (i : ℕ) → i < length text → (48 ≤ get_or text i 0 → 55 < get_or text i 0)
+    → octal_value text ≡ None
 unfolding octal_value is_octal
 octal_value_stops text i h other =
     let f : is_octal_digit (get_or text i 0) ≡ false = grind (arith, nat_tests) in
@@ -138,12 +158,16 @@ octal_value_long text h =
     rw high (grind (arith, nat_tests))
 
 -- one more digit
-pub octal_more : (text : List ℕ) (i : ℕ) → i < length text → 48 ≤ get_or text i 0 → get_or text i 0 ≤ 55 → list_all is_octal_digit (take i text) ≡ true → list_all is_octal_digit (take (i + 1) text) ≡ true
+pub octal_more : (text : List ℕ) (i : ℕ) → i < length text → 48 ≤ get_or text i 0 → get_or text i 0 ≤ 55
+    → list_all is_octal_digit (take i text) ≡ true → list_all is_octal_digit (take (i + 1) text) ≡ true
 octal_more text i h l u d = list_all_more is_octal_digit text i 0 h ∙ rw (d, digit_test (get_or text i 0) l u) refl
 
-pub octal_number_more : (text : List ℕ) (i value : ℕ) → i < length text → value ≡ octal_number (take i text) → 8 * value + (get_or text i 0 - 48) ≡ octal_number (take (i + 1) text)
+pub octal_number_more : (text : List ℕ) (i value : ℕ) → i < length text → value ≡ octal_number (take i text)
+    → 8 * value + (get_or text i 0 - 48) ≡ octal_number (take (i + 1) text)
 octal_number_more text i value h v =
-    let last : octal_number (take i text ++ get_or text i 0 ∷ []) ≡ octal_number (take i text) * 8 + (get_or text i 0 - 48) = octal_number_push (take i text) (get_or text i 0) in
+    let last : octal_number (take i text ++ get_or text i 0 ∷ [])
+    ≡ octal_number (take i text) * 8 + (get_or text i 0 - 48) =
+    octal_number_push (take i text) (get_or text i 0) in
     let cut : take (i + 1) text ≡ take i text ++ get_or text i 0 ∷ [] = take_more text i 0 h in
     rw (cut, last, ← v) (omega arith)
 
@@ -154,17 +178,20 @@ octal_bound_more i value digit h d = rw (pow_more 8 i) (omega arith)
 pub octal_below : (i value : ℕ) → i ≤ 12 → value < 8 ^ i → value < 2 ^ 36
 octal_below i value h v = let m : 8 ^ i ≤ 8 ^ 12 = pow-le-pow_right (omega arith) h in omega arith
 
-pub octal_value_read : (text : List ℕ) (i value : ℕ) → 0 < length text → length text ≤ 12 → i ≡ length text → list_all is_octal_digit (take i text) ≡ true → value ≡ octal_number (take i text) → octal_value text ≡ Some value
+pub octal_value_read : (text : List ℕ) (i value : ℕ) → 0 < length text → length text ≤ 12 → i ≡ length text
+    → list_all is_octal_digit (take i text) ≡ true → value ≡ octal_number (take i text) → octal_value text ≡ Some value
 unfolding octal_value is_octal
 octal_value_read text i value some within e d v =
     let whole : take i text ≡ text = take_all i text (omega arith) in
-    let digits : list_all is_octal_digit text ≡ true = subst (λ (t : List ℕ). list_all is_octal_digit t ≡ true) whole d in
+    let digits : list_all is_octal_digit text ≡ true =
+    subst (λ (t : List ℕ). list_all is_octal_digit t ≡ true) whole d in
     let low : nat_le 1 (length text) ≡ true = grind (arith, nat_tests) in
     let high : nat_le (length text) 12 ≡ true = grind (arith, nat_tests) in
     rw (low, high, digits) (cc)
 
 -- the word that is made of the value, which fits
-pub octal_value_made : (text : List ℕ) (value : ℕ) (r : Option ℕ) → octal_value text ≡ Some value → IsSome r → IfSome r (λ w. w ≡ value) → r ≡ octal_value text
+pub octal_value_made : (text : List ℕ) (value : ℕ) (r : Option ℕ) → octal_value text ≡ Some value → IsSome r
+    → IfSome r (λ w. w ≡ value) → r ≡ octal_value text
 octal_value_made text value None e some is = absurd (cc)
 octal_value_made text value (Some w) e some is = cc
 

@@ -1,5 +1,6 @@
 -- Vectors joined by `|` are zero in each lane exactly where each vector is.
-use Rattle.std.proofs.Common.{◌≡◌, ℕ, ◌+◌, ◌-◌, ◌*◌, ◌≤◌, ◌↔◌, List, [], ◌∷◌, ◌++◌, length, bit_or, IsTrue, nat_eq, max, refl, sym, ap, subst, ◌∙◌, arith, take, drop}
+use Rattle.std.proofs.Common.{◌≡◌, ℕ, ◌+◌, ◌-◌, ◌*◌, ◌≤◌, ◌↔◌, List, [], ◌∷◌, ◌++◌, length, bit_or, IsTrue, nat_eq}
+use Rattle.std.proofs.Common.{max, refl, sym, ap, subst, ◌∙◌, arith, take, drop}
 use Rattle.std.specs.List.{AllByRecursion}
 use Rattle.std.specs.Int.{bit_at}
 use Rattle.std.specs.Simd.Lanes.{zip2, fold_l, chunk}
@@ -16,10 +17,14 @@ abbrev Zeros : List ℕ → Type 0
 Zeros ws = AllByRecursion (λ w. w ≡ 0) ws
 
 or_zero_left : (a b : ℕ) → bit_or a b ≡ 0 → a ≡ 0
-or_zero_left a b h = same_from_bits a 0 (λ i. let m : bit_at (bit_or a b) i ≡ max (bit_at a i) (bit_at b i) = bit_at_or a b i in let z : bit_at 0 i ≡ 0 = bit_at-zero i in let n : bit_at (bit_or a b) i ≡ bit_at 0 i = ap (λ x. bit_at x i) h in omega arith)
+or_zero_left a b h = same_from_bits a 0 (λ i. let m : bit_at (bit_or a b) i ≡ max (bit_at a i) (bit_at b i) =
+    bit_at_or a b i in let z : bit_at 0 i ≡ 0 = bit_at-zero i in let n : bit_at (bit_or a b) i ≡ bit_at 0 i =
+    ap (λ x. bit_at x i) h in omega arith)
 
 or_zero_right : (a b : ℕ) → bit_or a b ≡ 0 → b ≡ 0
-or_zero_right a b h = same_from_bits b 0 (λ i. let m : bit_at (bit_or a b) i ≡ max (bit_at a i) (bit_at b i) = bit_at_or a b i in let z : bit_at 0 i ≡ 0 = bit_at-zero i in let n : bit_at (bit_or a b) i ≡ bit_at 0 i = ap (λ x. bit_at x i) h in omega arith)
+or_zero_right a b h = same_from_bits b 0 (λ i. let m : bit_at (bit_or a b) i ≡ max (bit_at a i) (bit_at b i) =
+    bit_at_or a b i in let z : bit_at 0 i ≡ 0 = bit_at-zero i in let n : bit_at (bit_or a b) i ≡ bit_at 0 i =
+    ap (λ x. bit_at x i) h in omega arith)
 
 -- lane by lane
 zeros_joined : (xs ys : List ℕ) → length xs ≡ length ys → Zeros (zip2 bit_or xs ys) → Zeros xs × Zeros ys
@@ -69,9 +74,11 @@ abbrev joined : List ℕ → List ℕ → List ℕ → List ℕ → List ℕ
 joined a b c d = zip2 bit_or (zip2 bit_or a b) (zip2 bit_or c d)
 
 chunk_add : (at n m : ℕ) (ws : List ℕ) → chunk at (n + m) ws ≡ chunk at n ws ++ chunk (at + n) m ws
-chunk_add at n m ws = take-add n m (drop at ws) ∙ ap (λ (r : List ℕ). take n (drop at ws) ++ take m r) (drop-drop n at ws)
+chunk_add at n m ws = take-add n m (drop at ws) ∙ ap (λ (r : List ℕ). take n (drop at ws) ++ take m r)
+    (drop-drop n at ws)
 
-four_chunks : (at : ℕ) (ws : List ℕ) → take 32 (drop at ws) ≡ chunk at 8 ws ++ (chunk (at + 8) 8 ws ++ (chunk (at + 16) 8 ws ++ chunk (at + 24) 8 ws))
+four_chunks : (at : ℕ) (ws : List ℕ) → take 32 (drop at ws) ≡ chunk at 8 ws
+    ++ (chunk (at + 8) 8 ws ++ (chunk (at + 16) 8 ws ++ chunk (at + 24) 8 ws))
 four_chunks at ws =
     let third : at + 8 + 8 ≡ at + 16 = omega arith in
     let fourth : at + 16 + 8 ≡ at + 24 = omega arith in
@@ -80,7 +87,9 @@ four_chunks at ws =
     let three : chunk (at + 16) 16 ws ≡ chunk (at + 16) 8 ws ++ chunk (at + 16 + 8) 8 ws = chunk_add (at + 16) 8 8 ws in
     cc
 
-pub zero_block : (at : ℕ) (ws : List ℕ) → at + 32 ≤ length ws → IsTrue (nat_eq (fold_l bit_or 0 (joined (chunk at 8 ws) (chunk (at + 8) 8 ws) (chunk (at + 16) 8 ws) (chunk (at + 24) 8 ws))) 0) ↔ AreZero (take 32 (drop at ws))
+pub zero_block : (at : ℕ) (ws : List ℕ) → at + 32 ≤ length ws
+    → IsTrue (nat_eq (fold_l bit_or 0 (joined (chunk at 8 ws) (chunk (at + 8) 8 ws) (chunk (at + 16) 8 ws)
+    (chunk (at + 24) 8 ws))) 0) ↔ AreZero (take 32 (drop at ws))
 zero_block at ws h =
     let a : List ℕ = chunk at 8 ws in
     let b : List ℕ = chunk (at + 8) 8 ws in
@@ -93,28 +102,38 @@ zero_block at ws h =
     let lab : length (zip2 bit_or a b) ≡ 8 = length-zip2 bit_or a b (la ∙ sym lb) ∙ la in
     let lcd : length (zip2 bit_or c d) ≡ 8 = length-zip2 bit_or c d (lc ∙ sym ld) ∙ lc in (
       λ t.
-          let z : Zeros (joined a b c d) = (fold_zero 0 (joined a b c d) (test_zero (fold_l bit_or 0 (joined a b c d)) t)).1 in
-          let halves : Zeros (zip2 bit_or a b) × Zeros (zip2 bit_or c d) = zeros_joined (zip2 bit_or a b) (zip2 bit_or c d) (lab ∙ sym lcd) z in
+          let z : Zeros (joined a b c d) = (fold_zero 0 (joined a b c d)
+          (test_zero (fold_l bit_or 0 (joined a b c d)) t)).1 in
+          let halves : Zeros (zip2 bit_or a b) × Zeros (zip2 bit_or c d) =
+          zeros_joined (zip2 bit_or a b) (zip2 bit_or c d) (lab ∙ sym lcd) z in
           let front : Zeros a × Zeros b = zeros_joined a b (la ∙ sym lb) halves.0 in
           let back : Zeros c × Zeros d = zeros_joined c d (lc ∙ sym ld) halves.1 in
-          let all : Zeros (a ++ (b ++ (c ++ d))) = zeros_append a (b ++ (c ++ d)) front.0 (zeros_append b (c ++ d) front.1 (zeros_append c d back.0 back.1)) in
+          let all : Zeros (a ++ (b ++ (c ++ d))) = zeros_append a (b ++ (c ++ d)) front.0
+          (zeros_append b (c ++ d) front.1 (zeros_append c d back.0 back.1)) in
           All-from_recursion (λ w. w ≡ 0) (take 32 (drop at ws)) (subst Zeros (sym (four_chunks at ws)) all),
       λ z.
-          let all : Zeros (a ++ (b ++ (c ++ d))) = subst Zeros (four_chunks at ws) (recursion_from_All (λ w. w ≡ 0) (take 32 (drop at ws)) z) in
+          let all : Zeros (a ++ (b ++ (c ++ d))) = subst Zeros (four_chunks at ws)
+          (recursion_from_All (λ w. w ≡ 0) (take 32 (drop at ws)) z) in
           let bcd : Zeros (b ++ (c ++ d)) = zeros_back a (b ++ (c ++ d)) all in
           let cd : Zeros (c ++ d) = zeros_back b (c ++ d) bcd in
-          let front : Zeros (zip2 bit_or a b) = zeros_join a b (zeros_front a (b ++ (c ++ d)) all) (zeros_front b (c ++ d) bcd) in
+          let front : Zeros (zip2 bit_or a b) = zeros_join a b (zeros_front a (b ++ (c ++ d)) all)
+          (zeros_front b (c ++ d) bcd) in
           let back : Zeros (zip2 bit_or c d) = zeros_join c d (zeros_front c d cd) (zeros_back c d cd) in
-          zero_test (fold_l bit_or 0 (joined a b c d)) (zero_fold 0 (joined a b c d) refl (zeros_join (zip2 bit_or a b) (zip2 bit_or c d) front back)),
+          zero_test (fold_l bit_or 0 (joined a b c d))
+          (zero_fold 0 (joined a b c d) refl (zeros_join (zip2 bit_or a b) (zip2 bit_or c d) front back)),
     )
 
 -- one more block, and all blocks
-pub zero_blocks_more : (block : ℕ) (ws : List ℕ) → AreZero (take (32 * block) ws) → AreZero (take (32 * block + 32 - 32 * block) (drop (32 * block) ws)) → AreZero (take (32 * (block + 1)) ws)
+pub zero_blocks_more : (block : ℕ) (ws : List ℕ) → AreZero (take (32 * block) ws)
+    → AreZero (take (32 * block + 32 - 32 * block) (drop (32 * block) ws)) → AreZero (take (32 * (block + 1)) ws)
 zero_blocks_more block ws front here =
     let n : 32 * block + 32 - 32 * block ≡ 32 = omega arith in
     let m : 32 * (block + 1) ≡ 32 * block + 32 = omega arith in
-    let here' : AreZero (take 32 (drop (32 * block) ws)) = subst (λ (k : ℕ). AreZero (take k (drop (32 * block) ws))) n here in
-    rw (m, take-add (32 * block) 32 ws) (All-append (λ w. w ≡ 0) (take (32 * block) ws) (take 32 (drop (32 * block) ws)) front here')
+    let here' : AreZero (take 32 (drop (32 * block) ws)) =
+    subst (λ (k : ℕ). AreZero (take k (drop (32 * block) ws))) n here in
+    rw (m, take-add (32 * block) 32 ws) (All-append (λ w. w ≡ 0) (take (32 * block) ws)
+    (take 32 (drop (32 * block) ws)) front here')
 
-pub zero_blocks_all : (block : ℕ) (ws : List ℕ) → length ws ≡ 1024 → 32 ≤ block → AreZero (take (32 * block) ws) → AreZero ws
+pub zero_blocks_all : (block : ℕ) (ws : List ℕ) → length ws ≡ 1024 → 32 ≤ block → AreZero (take (32 * block) ws)
+    → AreZero ws
 zero_blocks_all block ws size h z = subst AreZero (take_all (32 * block) ws (omega arith)) z

@@ -1,4 +1,5 @@
-ghost use Rattle.std.specs.Prelude.{◌≡◌, ◌+◌, ◌-◌, ◌*◌, ◌<◌, ◌≤◌, ◌↔◌, ◌++◌, length, take, replicate, slice_index, slice_set, slice_range, vec_len, IsTrue, IfOk};
+ghost use Rattle.std.specs.Prelude.{◌≡◌, ◌+◌, ◌-◌, ◌*◌, ◌<◌, ◌≤◌, ◌↔◌, ◌++◌, length, take, replicate, slice_index};
+ghost use Rattle.std.specs.Prelude.{slice_set, slice_range, vec_len, IsTrue, IfOk};
 ghost use Rattle.mword.specs.Words.{AreWords, AreZero};
 
 use crate::NoMemory;

@@ -1,5 +1,6 @@
 -- What becomes of the counts of each volume.
-use Rattle.std.proofs.Common.{◌≡◌, ◌≢◌, ℕ, suc, ◌+◌, ◌-◌, ◌<◌, Bool, true, false, cond, eqb, List, [], ◌∷◌, length, Option, Some, None, is_some, refl, sym, ap}
+use Rattle.std.proofs.Common.{◌≡◌, ◌≢◌, ℕ, suc, ◌+◌, ◌-◌, ◌<◌, Bool, true, false, cond, eqb, List, [], ◌∷◌, length}
+use Rattle.std.proofs.Common.{Option, Some, None, is_some, refl, sym, ap}
 use Rattle.std.proofs.Common.{◌∙◌, arith, inl, inr, get_or, set, map, sum, sum_by, count_by}
 use Rattle.std.proofs.lemmas.Bool.Decides.{eqb_tells, leb_tells}
 use Rattle.std.proofs.lemmas.List.{get_or-set_same, get_or-set_other, length-set, set_past}
@@ -22,8 +23,10 @@ use Rattle.page_control.proofs.Places.{put, list_within, refile, home_within}
 use Rattle.page_control.specs.Counts.{taken, used, named_on, one_more, one_less, KeepsCounts}
 
 -- a count for each volume is told by the list of all
-pub by_list : {X : Type 0} (f : List X → ℕ) (xs ys : List (List X)) → map f xs ≡ map f ys → (v : ℕ) → f (get_or xs v []) ≡ f (get_or ys v [])
-by_list f xs ys same v = sym (get_or-map f xs v []) ∙ ap (λ (counts : List ℕ). get_or counts v (f [])) same ∙ get_or-map f ys v []
+pub by_list : {X : Type 0} (f : List X → ℕ) (xs ys : List (List X)) → map f xs ≡ map f ys → (v : ℕ)
+    → f (get_or xs v []) ≡ f (get_or ys v [])
+by_list f xs ys same v = sym (get_or-map f xs v []) ∙ ap (λ (counts : List ℕ). get_or counts v (f [])) same
+    ∙ get_or-map f ys v []
 
 pub by_sum : {X : Type 0} (f : List X → ℕ) (xs ys : List (List X)) → map f xs ≡ map f ys → sum_by f xs ≡ sum_by f ys
 by_sum f xs ys same = sym (sum-map f xs) ∙ ap sum same ∙ sum-map f ys
@@ -38,7 +41,8 @@ count_set : (table : List (Option Entry)) (e : ℕ) (x : Option Entry) → is_so
 count_set table e x same = elim (leb_tells (length table) e) [
   | inl past ↦ ap (count_by is_some) (set_past table e x past.1)
   | inr lt ↦ (let all = sum_by-set (λ (y : Option Entry). cond {A = ℕ} (is_some y) 1 0) table e x None lt.1 in
-      let both : cond {A = ℕ} (is_some x) 1 0 ≡ cond (is_some (entry_at table e)) 1 0 = ap (λ (b : Bool). cond {A = ℕ} b 1 0) same in
+      let both : cond {A = ℕ} (is_some x) 1 0 ≡ cond (is_some (entry_at table e)) 1 0 =
+      ap (λ (b : Bool). cond {A = ℕ} b 1 0) same in
       omega (arith, all, both))
 ]
 
@@ -46,23 +50,28 @@ pub used_refiled : (vtocs : List (List (Option Entry))) (home : Home) (p : ℕ) 
     → map (count_by is_some) (refile vtocs home p place) ≡ map (count_by is_some) vtocs
 used_refiled vtocs home p place =
     map-set_same (count_by is_some) vtocs home.volume _ []
-    (count_set (vtoc_in vtocs home.volume) home.entry _ (some_with (entry_at (vtoc_in vtocs home.volume) home.entry) p place))
+    (count_set (vtoc_in vtocs home.volume) home.entry _
+    (some_with (entry_at (vtoc_in vtocs home.volume) home.entry) p place))
 
 pub places_refiled : (vtocs : List (List (Option Entry))) (home : Home) (p : ℕ) (place : Option ℕ)
     → map (length {A = Option Entry}) (refile vtocs home p place) ≡ map length vtocs
 places_refiled vtocs home p place =
     map-set_same (length {A = Option Entry}) vtocs home.volume _ []
-    (length-set (vtoc_in vtocs home.volume) home.entry (with_record (entry_at (vtoc_in vtocs home.volume) home.entry) p place))
+    (length-set (vtoc_in vtocs home.volume) home.entry
+    (with_record (entry_at (vtoc_in vtocs home.volume) home.entry) p place))
 
-pub flags_put : (records : List (List Bool)) (v r : ℕ) (flag : Bool) → map (length {A = Bool}) (put records v r flag) ≡ map length records
+pub flags_put : (records : List (List Bool)) (v r : ℕ) (flag : Bool) → map (length {A = Bool}) (put records v r flag)
+    ≡ map length records
 flags_put records v r flag = map-set_same (length {A = Bool}) records v _ [] (length-set (flags_in records v) r flag)
 
-disks_saved : (disks : List (List (List ℕ))) (b : Bool) (v : ℕ) (pages : List (List ℕ)) → length (cond b (set disks v pages) disks) ≡ length disks
+disks_saved : (disks : List (List (List ℕ))) (b : Bool) (v : ℕ) (pages : List (List ℕ))
+    → length (cond b (set disks v pages) disks) ≡ length disks
 disks_saved disks true v pages = length-set disks v pages
 disks_saved disks false v pages = refl
 
 -- a page that left its frame, one that was read and one that was created
-pub counts_evicted : (s now : Plain) (home : Home) (p f : ℕ) (left : Left) → now ≡ evicted s home p f left → KeepsCounts s now
+pub counts_evicted : (s now : Plain) (home : Home) (p f : ℕ) (left : Left) → now ≡ evicted s home p f left
+    → KeepsCounts s now
 counts_evicted s now home p f Released is = rw is (record {
   used = used_refiled s.vtocs home p None;
   places = places_refiled s.vtocs home p None;
@@ -87,7 +96,8 @@ counts_read s now uid p v r f is = rw is (record {
   frames = length-set s.core.frames f _;
 })
 
-pub counts_created : (s now : Plain) (uid p : ℕ) (home : Home) (r f at w : ℕ) → now ≡ created s uid p home r f at w → KeepsCounts s now
+pub counts_created : (s now : Plain) (uid p : ℕ) (home : Home) (r f at w : ℕ) → now ≡ created s uid p home r f at w
+    → KeepsCounts s now
 counts_created s now uid p home r f at w is = rw is (record {
   used = used_refiled s.vtocs home p (Some r);
   places = places_refiled s.vtocs home p (Some r);
@@ -136,22 +146,27 @@ count_without flags r lt used =
     omega (arith, e, z)
 
 -- a record is taken into use, and one is given back
-pub taken_more : (records : List (List Bool)) (v r : ℕ) → r < length (flags_in records v) → in_use (flags_in records v) r ≡ false
+pub taken_more : (records : List (List Bool)) (v r : ℕ) → r < length (flags_in records v)
+    → in_use (flags_in records v) r ≡ false
     → taken (put records v r true) ≡ one_more (taken records) v
 taken_more records v r rl free =
     let vl : v < length records = list_within records v r rl in
     more_by (taken records) (taken (put records v r true)) v
-    (ap (count_by (λ flag. flag)) (get_or-set_same records v (set (flags_in records v) r true) [] vl) ∙ count_with (flags_in records v) r rl free)
+    (ap (count_by (λ flag. flag)) (get_or-set_same records v (set (flags_in records v) r true) [] vl)
+    ∙ count_with (flags_in records v) r rl free)
     (λ w n. ap (count_by (λ flag. flag)) (get_or-set_other records v w (set (flags_in records v) r true) [] n))
 
-pub fewer_at : (records : List (List Bool)) (v r : ℕ) → in_use (flags_in records v) r ≡ true → taken (put records v r false) v + 1 ≡ taken records v
+pub fewer_at : (records : List (List Bool)) (v r : ℕ) → in_use (flags_in records v) r ≡ true
+    → taken (put records v r false) v + 1 ≡ taken records v
 fewer_at records v r is =
     let rl : r < length (flags_in records v) = used_within (flags_in records v) r is in
     let vl : v < length records = list_within records v r rl in
-    ap (λ (flags : List Bool). count_by (λ flag. flag) flags + 1) (get_or-set_same records v (set (flags_in records v) r false) [] vl)
+    ap (λ (flags : List Bool). count_by (λ flag. flag) flags + 1)
+    (get_or-set_same records v (set (flags_in records v) r false) [] vl)
     ∙ count_without (flags_in records v) r rl is
 
-pub taken_less : (records : List (List Bool)) (v r : ℕ) → in_use (flags_in records v) r ≡ true → taken (put records v r false) ≡ one_less (taken records) v
+pub taken_less : (records : List (List Bool)) (v r : ℕ) → in_use (flags_in records v) r ≡ true
+    → taken (put records v r false) ≡ one_less (taken records) v
 taken_less records v r is =
     less_by (taken records) (taken (put records v r false)) v (fewer_at records v r is)
     (λ w n. ap (count_by (λ flag. flag)) (get_or-set_other records v w (set (flags_in records v) r false) [] n))
@@ -175,7 +190,8 @@ counts_same s now is = rw is (record {
   frames = refl;
 })
 
-pub counts_dropped : (s now : Plain) (home : Home) (p : ℕ) (word : Ptw) → now ≡ dropped s home p word → KeepsCounts s now
+pub counts_dropped : (s now : Plain) (home : Home) (p : ℕ) (word : Ptw) → now ≡ dropped s home p word
+    → KeepsCounts s now
 counts_dropped s now home p Null is = rw is (record {
   used = used_refiled s.vtocs home p None;
   places = places_refiled s.vtocs home p None;
@@ -210,22 +226,26 @@ pub count_more : (table : List (Option Entry)) (e uid : ℕ) → e < length tabl
     → count_by is_some (set table e (fresh_entry uid)) ≡ count_by is_some table + 1
 count_more table e uid el free =
     let all = sum_by-set (λ (y : Option Entry). cond {A = ℕ} (is_some y) 1 0) table e (fresh_entry uid) None el in
-    let none : cond {A = ℕ} (is_some (entry_at table e)) 1 0 ≡ 0 = ap (λ (y : Option Entry). cond {A = ℕ} (is_some y) 1 0) free in
+    let none : cond {A = ℕ} (is_some (entry_at table e)) 1 0 ≡ 0 =
+    ap (λ (y : Option Entry). cond {A = ℕ} (is_some y) 1 0) free in
     omega (arith, all, none)
 
-pub used_more : (vtocs : List (List (Option Entry))) (v e uid : ℕ) → e < length (vtoc_in vtocs v) → entry_at (vtoc_in vtocs v) e ≡ None
+pub used_more : (vtocs : List (List (Option Entry))) (v e uid : ℕ) → e < length (vtoc_in vtocs v)
+    → entry_at (vtoc_in vtocs v) e ≡ None
     → used (put vtocs v e (fresh_entry uid)) ≡ one_more (used vtocs) v
 used_more vtocs v e uid el free =
     let vl : v < length vtocs = list_within vtocs v e el in
     more_by (used vtocs) (used (put vtocs v e (fresh_entry uid))) v
-    (ap (count_by is_some) (get_or-set_same vtocs v (set (vtoc_in vtocs v) e (fresh_entry uid)) [] vl) ∙ count_more (vtoc_in vtocs v) e uid el free)
+    (ap (count_by is_some) (get_or-set_same vtocs v (set (vtoc_in vtocs v) e (fresh_entry uid)) [] vl)
+    ∙ count_more (vtoc_in vtocs v) e uid el free)
     (λ w n. ap (count_by is_some) (get_or-set_other vtocs v w (set (vtoc_in vtocs v) e (fresh_entry uid)) [] n))
 
 count_fewer : (table : List (Option Entry)) (e uid : ℕ) → e < length table → uid_of (entry_at table e) ≡ Some uid
     → count_by is_some (set table e None) + 1 ≡ count_by is_some table
 count_fewer table e uid el used =
     let all = sum_by-set (λ (y : Option Entry). cond {A = ℕ} (is_some y) 1 0) table e None None el in
-    let one : cond {A = ℕ} (is_some (entry_at table e)) 1 0 ≡ 1 = ap (λ (b : Bool). cond {A = ℕ} b 1 0) (there (entry_at table e) used) in
+    let one : cond {A = ℕ} (is_some (entry_at table e)) 1 0 ≡ 1 =
+    ap (λ (b : Bool). cond {A = ℕ} b 1 0) (there (entry_at table e) used) in
     omega (arith, all, one)
   where
     there : (entry : Option Entry) → uid_of entry ≡ Some uid → is_some entry ≡ true
@@ -242,10 +262,12 @@ named_less places n lt there =
 
 pub none_named : (places : List (Option ℕ)) → ((q : ℕ) → get_or places q None ≡ None) → count_by is_some places ≡ 0
 none_named [] none = refl
-none_named (place ∷ places) none = ap (λ (first : Option ℕ). count_by is_some (first ∷ places)) (none 0) ∙ none_named places (λ q. none (suc q))
+none_named (place ∷ places) none = ap (λ (first : Option ℕ). count_by is_some (first ∷ places)) (none 0)
+    ∙ none_named places (λ q. none (suc q))
 
 -- the records of a home are given back: on its volume, and on any
-pub named_here : (vtocs : List (List (Option Entry))) (home : Home) → named_on vtocs home home.volume ≡ count_by is_some (map_at vtocs home)
+pub named_here : (vtocs : List (List (Option Entry))) (home : Home) → named_on vtocs home home.volume
+    ≡ count_by is_some (map_at vtocs home)
 unfolding named_on
 named_here vtocs home = elim (eqb_tells home.volume home.volume) [
   | inl same ↦ rw same.0 refl
@@ -260,13 +282,15 @@ taken_erased s now home is here v = elim (eqb_tells v home.volume) [
   | inl same ↦ rw same.1 here
   | inr other ↦ (
       let before : taken now.records v ≡ taken s.records v = ap (λ (x : Plain). taken x.records v) is
-      ∙ ap (count_by (λ flag. flag)) (get_or-set_other s.records home.volume v (freed (flags_of s home.volume) (file_map_of s home)) [] other.1) in
+      ∙ ap (count_by (λ flag. flag)) (get_or-set_other s.records home.volume v
+      (freed (flags_of s home.volume) (file_map_of s home)) [] other.1) in
       rw (other.0, before) (omega arith)
       )
 ]
 
 -- a home that is given back
-pub used_erased : (vtocs now : List (List (Option Entry))) (uid : ℕ) (home : Home) → now ≡ put vtocs home.volume home.entry None → uid_at vtocs home ≡ Some uid
+pub used_erased : (vtocs now : List (List (Option Entry))) (uid : ℕ) (home : Home) → now
+    ≡ put vtocs home.volume home.entry None → uid_at vtocs home ≡ Some uid
     → used now ≡ one_less (used vtocs) home.volume
 used_erased vtocs now uid home is h =
     let el : home.entry < length (vtoc_in vtocs home.volume) = home_within vtocs uid home h in
@@ -275,4 +299,5 @@ used_erased vtocs now uid home is h =
     (ap (λ (table : List (Option Entry)). count_by is_some table + 1)
     (get_or-set_same vtocs home.volume (set (vtoc_in vtocs home.volume) home.entry None) [] vl)
     ∙ count_fewer (vtoc_in vtocs home.volume) home.entry uid el h)
-    (λ w n. ap (count_by is_some) (get_or-set_other vtocs home.volume w (set (vtoc_in vtocs home.volume) home.entry None) [] n))
+    (λ w n. ap (count_by is_some) (get_or-set_other vtocs home.volume w
+    (set (vtoc_in vtocs home.volume) home.entry None) [] n))

@@ -1,9 +1,11 @@
 -- A segment that is erased.
-use Rattle.std.proofs.Common.{◌≡◌, ◌≢◌, ℕ, ◌+◌, ◌<◌, Bool, true, false, List, [], ◌∷◌, length, Option, None, Some, refl, sym, ap, ◌∙◌, arith, get_or, set, drop}
+use Rattle.std.proofs.Common.{◌≡◌, ◌≢◌, ℕ, ◌+◌, ◌<◌, Bool, true, false, List, [], ◌∷◌, length, Option, None, Some}
+use Rattle.std.proofs.Common.{refl, sym, ap, ◌∙◌, arith, get_or, set, drop}
 use Rattle.std.proofs.Common.{is_some, count_by, replicate, inl, inr}
 use Rattle.std.proofs.lemmas.Bool.{cases_eq}
 use Rattle.std.proofs.lemmas.Bool.Decides.{leb_tells}
-use Rattle.std.proofs.lemmas.List.{get_or-set_same, get_or-set_other, get_or_past, set-set, set-get_or, at_drop_all, at_drop_more, drop-set-lt}
+use Rattle.std.proofs.lemmas.List.{get_or-set_same, get_or-set_other, get_or_past, set-set, set-get_or, at_drop_all}
+use Rattle.std.proofs.lemmas.List.{at_drop_more, drop-set-lt}
 use Rattle.vtoc.specs.Vtoc.{Entry, entry_at, records_in, uid_of, with_record, HasFullMaps, NamesNoRecord}
 use Rattle.bitmap.specs.Bitmap.{in_use}
 use Rattle.page_table.specs.declared.Ptw.{Ptw}
@@ -17,7 +19,8 @@ use Rattle.page_control.specs.Ties.{IsTied}
 use Rattle.page_control.proofs.Facts.{within_from}
 use Rattle.page_control.proofs.Ties.{not_none}
 use Rattle.page_control.proofs.Pictures.{off_and_on, shown_out, words_by}
-use Rattle.page_control.proofs.Places.{put, put_other, put_here, volume_within, home_within, refile, map_refiled, uids_refiled, none_put, other_home}
+use Rattle.page_control.proofs.Places.{put, put_other, put_here, volume_within, home_within, refile, map_refiled}
+use Rattle.page_control.proofs.Places.{uids_refiled, none_put, other_home}
 use Rattle.page_control.proofs.Naming.{filed_unstored, filed_freed, maps_freed}
 use Rattle.page_control.proofs.Marks.{tie_mapped}
 use Rattle.page_control.proofs.Homes.{no_record}
@@ -33,67 +36,88 @@ takes : (flags : List Bool) (places : List (Option ℕ)) (n r : ℕ) → get_or 
     → freed (set flags r false) (drop (n + 1) places) ≡ freed flags (drop n places)
 takes flags places n r is =
     let lt : n < length places = within_from places n None (λ none. not_none (get_or places n None) r none is) in
-    sym (at_drop_more (freed flags) places n None lt ∙ freed_some flags (drop (n + 1) places) (get_or places n None) r is)
+    sym (at_drop_more (freed flags) places n None lt ∙ freed_some flags (drop (n + 1) places) (get_or places n None) r
+    is)
 
-put_put : {X : Type 0} (xs : List (List X)) (v e : ℕ) (x y : X) → v < length xs → put (put xs v e x) v e y ≡ put xs v e y
+put_put : {X : Type 0} (xs : List (List X)) (v e : ℕ) (x y : X) → v < length xs → put (put xs v e x) v e y
+    ≡ put xs v e y
 put_put xs v e x y vl =
     ap (λ (ys : List _). set (put xs v e x) v (set ys e y)) (get_or-set_same xs v (set (get_or xs v []) e x) [] vl)
     ∙ ap (set (put xs v e x) v) (set-set (get_or xs v []) e x y)
     ∙ set-set xs v (set (get_or xs v []) e x) (set (get_or xs v []) e y)
 
 -- the file map after page n has given its record back
-rest_flags : (s : Plain) (uid : ℕ) (home : Home) (n r : ℕ) → uid_at s.vtocs home ≡ Some uid → filed s home n ≡ Some r → home.volume < length s.records
+rest_flags : (s : Plain) (uid : ℕ) (home : Home) (n r : ℕ) → uid_at s.vtocs home ≡ Some uid → filed s home n ≡ Some r
+    → home.volume < length s.records
     → set (put s.records home.volume r false) home.volume
-    (freed (get_or (put s.records home.volume r false) home.volume []) (drop (n + 1) (map_at (refile s.vtocs home n None) home)))
+    (freed (get_or (put s.records home.volume r false) home.volume [])
+    (drop (n + 1) (map_at (refile s.vtocs home n None) home)))
     ≡ set s.records home.volume (freed (flags_of s home.volume) (drop n (file_map_of s home)))
 rest_flags s uid home n r h is vl =
     let flags : List Bool = flags_of s home.volume in
     let places : List (Option ℕ) = file_map_of s home in
-    ap (λ (bits : List Bool). set (put s.records home.volume r false) home.volume (freed bits (drop (n + 1) (map_at (refile s.vtocs home n None) home))))
+    ap (λ (bits : List Bool). set (put s.records home.volume r false) home.volume
+    (freed bits (drop (n + 1) (map_at (refile s.vtocs home n None) home))))
     (get_or-set_same s.records home.volume (set flags r false) [] vl)
-    ∙ ap (λ (map : List (Option ℕ)). set (put s.records home.volume r false) home.volume (freed (set flags r false) (drop (n + 1) map)))
+    ∙ ap (λ (map : List (Option ℕ)). set (put s.records home.volume r false) home.volume
+    (freed (set flags r false) (drop (n + 1) map)))
     (map_refiled s.vtocs uid n None home h)
-    ∙ ap (λ (map : List (Option ℕ)). set (put s.records home.volume r false) home.volume (freed (set flags r false) map))
+    ∙ ap (λ (map : List (Option ℕ)). set (put s.records home.volume r false) home.volume
+    (freed (set flags r false) map))
     (drop-set-lt (n + 1) places n None (omega arith))
     ∙ ap (set (put s.records home.volume r false) home.volume) (takes flags places n r is)
     ∙ set-set s.records home.volume (set flags r false) (freed flags (drop n places))
 
-gone_refiled : (s : Plain) (uid : ℕ) (home : Home) (n q : ℕ) → uid_at s.vtocs home ≡ Some uid → (q ≢ n → filed s home q ≡ None)
+gone_refiled : (s : Plain) (uid : ℕ) (home : Home) (n q : ℕ) → uid_at s.vtocs home ≡ Some uid
+    → (q ≢ n → filed s home q ≡ None)
     → get_or (map_at (refile s.vtocs home n None) home) q None ≡ None
 gone_refiled s uid home n q h before =
-    ap (λ (places : List (Option ℕ)). get_or places q None) (map_refiled s.vtocs uid n None home h) ∙ elim (cases_eq q n) [
+    ap (λ (places : List (Option ℕ)). get_or places q None) (map_refiled s.vtocs uid n None home h)
+    ∙ elim (cases_eq q n) [
       | inl same ↦ rw same (none_put (file_map_of s home) n)
       | inr other ↦ get_or-set_other (file_map_of s home) n q None None other ∙ before other
     ]
 
 -- a record less is in use, and one less is named
-count_some : (old s : Plain) (uid : ℕ) (home : Home) (n r : ℕ) → uid_at s.vtocs home ≡ Some uid → filed s home n ≡ Some r
+count_some : (old s : Plain) (uid : ℕ) (home : Home) (n r : ℕ) → uid_at s.vtocs home ≡ Some uid → filed s home n
+    ≡ Some r
     → in_use (flags_in s.records home.volume) r ≡ true
-    → taken old.records home.volume + count_by is_some (map_at s.vtocs home) ≡ taken s.records home.volume + count_by is_some (map_at old.vtocs home)
+    → taken old.records home.volume + count_by is_some (map_at s.vtocs home)
+    ≡ taken s.records home.volume + count_by is_some (map_at old.vtocs home)
     → taken old.records home.volume + count_by is_some (map_at (refile s.vtocs home n None) home)
     ≡ taken (put s.records home.volume r false) home.volume + count_by is_some (map_at old.vtocs home)
 count_some old s uid home n r h there on before =
     let places : List (Option ℕ) = file_map_of s home in
     let lt : n < length places = within_from places n None (λ none. not_none (get_or places n None) r none there) in
-    let less : taken (put s.records home.volume r false) home.volume + 1 ≡ taken s.records home.volume = fewer_at s.records home.volume r on in
-    let fewer : count_by is_some (map_at (refile s.vtocs home n None) home) + 1 ≡ count_by is_some (map_at s.vtocs home) =
-    ap (λ (map : List (Option ℕ)). count_by is_some map + 1) (map_refiled s.vtocs uid n None home h) ∙ named_less places n lt (ap is_some there) in
+    let less : taken (put s.records home.volume r false) home.volume + 1 ≡ taken s.records home.volume =
+    fewer_at s.records home.volume r on in
+    let fewer : count_by is_some (map_at (refile s.vtocs home n None) home) + 1
+    ≡ count_by is_some (map_at s.vtocs home) =
+    ap (λ (map : List (Option ℕ)). count_by is_some map + 1) (map_refiled s.vtocs uid n None home h)
+    ∙ named_less places n lt (ap is_some there) in
     omega (arith, less, fewer, before)
 
-pub part_some : (old s now : Plain) (uid : ℕ) (home : Home) (n : ℕ) → now ≡ unstored s home n → filed s home n ≡ Some (record_of s home n)
+pub part_some : (old s now : Plain) (uid : ℕ) (home : Home) (n : ℕ) → now ≡ unstored s home n → filed s home n
+    ≡ Some (record_of s home n)
     → IsPartErased old s uid home n
     → IsPartErased old now uid home (n + 1)
 part_some old s now uid home n is there part =
     let r : ℕ = record_of s home n in
     let h : uid_at s.vtocs home ≡ Some uid = part.at in
     let on : in_use (flags_in s.records home.volume) r ≡ true = part.records.used home.volume home.entry n r there in
-    let vl : home.volume < length s.records = within_from s.records home.volume [] (λ e. off_and_on _ (ap (λ (flags : List Bool). in_use flags r) e) on) in
+    let vl : home.volume < length s.records = within_from s.records home.volume []
+    (λ e. off_and_on _ (ap (λ (flags : List Bool). in_use flags r) e) on) in
     rw is (record {
-      rest = ap (λ (records : List (List Bool)). record s { records = records; vtocs = put (refile s.vtocs home n None) home.volume home.entry None })
+      rest = ap (λ (records : List (List Bool)). record s
+          { records = records; vtocs = put (refile s.vtocs home n None) home.volume home.entry None })
           (rest_flags s uid home n r h there vl)
-          ∙ ap (λ (vtocs : List (List (Option Entry))). record s
-          { records = set s.records home.volume (freed (flags_of s home.volume) (drop n (file_map_of s home))); vtocs = vtocs })
-          (put_put s.vtocs home.volume home.entry (with_record (entry_at (vtoc_in s.vtocs home.volume) home.entry) n None) None
+          ∙ ap (λ (vtocs : List (List (Option Entry))). record s {
+            records = set s.records home.volume (freed (flags_of s home.volume) (drop n (file_map_of s home)));
+            vtocs =
+                vtocs;
+          })
+          (put_put s.vtocs home.volume home.entry (with_record (entry_at (vtoc_in s.vtocs home.volume) home.entry) n
+          None) None
           (volume_within s.vtocs uid home h))
           ∙ part.rest;
       gone = λ q lt. gone_refiled s uid home n q h (λ other. part.gone q (omega (arith, lt, other)));
@@ -103,27 +127,37 @@ part_some old s now uid home n is there part =
     })
 
 -- all pages have given their records back, and the entry is freed
-pub all_erased : (old s now : Plain) (uid : ℕ) (home : Home) → IsPartErased old s uid home 256 → length (file_map_of s home) ≡ 256
+pub all_erased : (old s now : Plain) (uid : ℕ) (home : Home) → IsPartErased old s uid home 256
+    → length (file_map_of s home) ≡ 256
     → now ≡ record s { vtocs = put s.vtocs home.volume home.entry None } → now ≡ erased old home
 all_erased old s now uid home part long is =
-    is ∙ ap (λ (records : List (List Bool)). record s { records = records; vtocs = put s.vtocs home.volume home.entry None })
-    (sym (ap (set s.records home.volume) (at_drop_all (freed (flags_of s home.volume)) (file_map_of s home) 256 (omega (arith, long)))
+    is ∙ ap (λ (records : List (List Bool)). record s {
+      records = records;
+      vtocs =
+          put s.vtocs home.volume home.entry None;
+    })
+    (sym (ap (set s.records home.volume) (at_drop_all (freed (flags_of s home.volume)) (file_map_of s home) 256
+    (omega (arith, long)))
     ∙ set-get_or s.records home.volume [])) ∙ part.rest
 
-pub names_none : (s : Plain) (uid : ℕ) (home : Home) (old : Plain) → IsPartErased old s uid home 256 → HasFullMaps (vtoc_in s.vtocs home.volume)
+pub names_none : (s : Plain) (uid : ℕ) (home : Home) (old : Plain) → IsPartErased old s uid home 256
+    → HasFullMaps (vtoc_in s.vtocs home.volume)
     → NamesNoRecord (vtoc_in s.vtocs home.volume) home.entry
 names_none s uid home old part full = record {
   none = λ q. elim (leb_tells 256 q) [
-    | inl past ↦ get_or_past (file_map_of s home) q None (let long : length (file_map_of s home) ≡ 256 = full.places home.entry in omega (arith, long, past.1))
+    | inl past ↦ get_or_past (file_map_of s home) q None
+        (let long : length (file_map_of s home) ≡ 256 = full.places home.entry in omega (arith, long, past.1))
     | inr lt ↦ part.gone q lt.1
   ];
 }
 
-pub count_end : (old s : Plain) (records : List (List Bool)) (uid : ℕ) (home : Home) → records ≡ s.records → IsPartErased old s uid home 256
+pub count_end : (old s : Plain) (records : List (List Bool)) (uid : ℕ) (home : Home) → records ≡ s.records
+    → IsPartErased old s uid home 256
     → HasFullMaps (vtoc_in s.vtocs home.volume)
     → taken records home.volume + named_on old.vtocs home home.volume ≡ taken old.records home.volume
 count_end old s records uid home same part full =
-    let none : count_by is_some (map_at s.vtocs home) ≡ 0 = none_named (map_at s.vtocs home) (names_none s uid home old part full).none in
+    let none : count_by is_some (map_at s.vtocs home) ≡ 0 =
+    none_named (map_at s.vtocs home) (names_none s uid home old part full).none in
     let all = part.count in
     rw (same, named_here old.vtocs home) (omega (arith, none, all))
 
@@ -131,62 +165,81 @@ count_end old s records uid home same part full =
 abbrev pub erased_vtocs : Plain → Home → List (List (Option Entry))
 erased_vtocs s home = put s.vtocs home.volume home.entry None
 
-pub uid_erased : (s now : Plain) (uid : ℕ) (home : Home) → now ≡ erased s home → uid_at s.vtocs home ≡ Some uid → uid_at now.vtocs home ≡ None
+pub uid_erased : (s now : Plain) (uid : ℕ) (home : Home) → now ≡ erased s home → uid_at s.vtocs home ≡ Some uid
+    → uid_at now.vtocs home ≡ None
 uid_erased s now uid home is h =
     ap (λ (x : Plain). uid_at x.vtocs home) is
-    ∙ ap uid_of (put_here s.vtocs home.volume home.entry None None (volume_within s.vtocs uid home h) (home_within s.vtocs uid home h))
+    ∙ ap uid_of (put_here s.vtocs home.volume home.entry None None (volume_within s.vtocs uid home h)
+    (home_within s.vtocs uid home h))
 
-pub uids_erased : (s now : Plain) (uid : ℕ) (home other : Home) → now ≡ erased s home → uid_at s.vtocs home ≡ Some uid → other ≢ home
+pub uids_erased : (s now : Plain) (uid : ℕ) (home other : Home) → now ≡ erased s home → uid_at s.vtocs home ≡ Some uid
+    → other ≢ home
     → uid_at now.vtocs other ≡ uid_at s.vtocs other
 uids_erased s now uid home other is h n =
     ap (λ (x : Plain). uid_at x.vtocs other) is
-    ∙ ap uid_of (put_other s.vtocs home.volume home.entry None None other.volume other.entry (volume_within s.vtocs uid home h) (other_home home other n))
+    ∙ ap uid_of (put_other s.vtocs home.volume home.entry None None other.volume other.entry
+    (volume_within s.vtocs uid home h) (other_home home other n))
 
-pub maps_erased : (s now : Plain) (uid : ℕ) (home other : Home) → now ≡ erased s home → uid_at s.vtocs home ≡ Some uid → other ≢ home
+pub maps_erased : (s now : Plain) (uid : ℕ) (home other : Home) → now ≡ erased s home → uid_at s.vtocs home ≡ Some uid
+    → other ≢ home
     → map_at now.vtocs other ≡ map_at s.vtocs other
-maps_erased s now uid home other is h n = ap (λ (x : Plain). map_at x.vtocs other) is ∙ maps_freed s.vtocs uid home other h (other_home home other n)
+maps_erased s now uid home other is h n = ap (λ (x : Plain). map_at x.vtocs other) is
+    ∙ maps_freed s.vtocs uid home other h (other_home home other n)
 
-map_erased : (s now : Plain) (uid : ℕ) (home : Home) → now ≡ erased s home → uid_at s.vtocs home ≡ Some uid → (p : ℕ) → filed now home p ≡ None
+map_erased : (s now : Plain) (uid : ℕ) (home : Home) → now ≡ erased s home → uid_at s.vtocs home ≡ Some uid → (p : ℕ)
+    → filed now home p ≡ None
 map_erased s now uid home is h p =
     ap (λ (x : Plain). filed x home p) is
     ∙ ap (λ (entry : Option Entry). get_or (records_in entry) p None)
-    (put_here s.vtocs home.volume home.entry None None (volume_within s.vtocs uid home h) (home_within s.vtocs uid home h))
+    (put_here s.vtocs home.volume home.entry None None (volume_within s.vtocs uid home h)
+    (home_within s.vtocs uid home h))
     ∙ no_record p
 
-pub stored_erased : (s now : Plain) (uid : ℕ) (home : Home) → now ≡ erased s home → uid_at s.vtocs home ≡ Some uid → (p : ℕ) → is_stored now home p ≡ false
+pub stored_erased : (s now : Plain) (uid : ℕ) (home : Home) → now ≡ erased s home → uid_at s.vtocs home ≡ Some uid
+    → (p : ℕ) → is_stored now home p ≡ false
 unfolding is_filed_at
 stored_erased s now uid home is h p = ap is_some (map_erased s now uid home is h p)
 
-pub zeros_erased : (s now : Plain) (uid : ℕ) (home : Home) → now ≡ erased s home → uid_at s.vtocs home ≡ Some uid → (u p : ℕ) → HasNoFrame (bindings s.core) u
+pub zeros_erased : (s now : Plain) (uid : ℕ) (home : Home) → now ≡ erased s home → uid_at s.vtocs home ≡ Some uid
+    → (u p : ℕ) → HasNoFrame (bindings s.core) u
     → words_at now u home p ≡ replicate 1024 0
 zeros_erased s now uid home is h u p none =
     shown_out now u p home (λ g at. none.none g p (ap (λ (x : Plain). get_or (bindings x.core) g None) (sym is) ∙ at))
     ∙ ap (words_filed (disk_of now home.volume)) (map_erased s now uid home is h p)
 
-pub words_erased : (s now : Plain) (uid : ℕ) (home : Home) → now ≡ erased s home → uid_at s.vtocs home ≡ Some uid → (u : ℕ) (other : Home) (p : ℕ)
+pub words_erased : (s now : Plain) (uid : ℕ) (home : Home) → now ≡ erased s home → uid_at s.vtocs home ≡ Some uid
+    → (u : ℕ) (other : Home) (p : ℕ)
     → other ≢ home
     → words_at now u other p ≡ words_at s u other p
 words_erased s now uid home is h u other p n =
-    words_by s now u other p (ap (λ (x : Plain). bindings x.core) is) (ap (λ (x : Plain). x.frames) is) (ap (λ (x : Plain). x.disks) is)
+    words_by s now u other p (ap (λ (x : Plain). bindings x.core) is) (ap (λ (x : Plain). x.frames) is)
+    (ap (λ (x : Plain). x.disks) is)
     (maps_erased s now uid home other is h n)
 
-pub ties_erased : (s now : Plain) (uid : ℕ) (home : Home) → now ≡ erased s home → uid_at s.vtocs home ≡ Some uid → AreFiled now.records now.vtocs
+pub ties_erased : (s now : Plain) (uid : ℕ) (home : Home) → now ≡ erased s home → uid_at s.vtocs home ≡ Some uid
+    → AreFiled now.records now.vtocs
     → (u : ℕ) (other : Home) (words : List Ptw) → other ≢ home → IsTied s u other words → IsTied now u other words
 ties_erased s now uid home is h filed u other words n tie =
-    tie_mapped s now u other words (ap (λ (x : Plain). x.core) is) (ap (λ (x : Plain). x.frames) is) (ap (λ (x : Plain). x.disks) is)
+    tie_mapped s now u other words (ap (λ (x : Plain). x.core) is) (ap (λ (x : Plain). x.frames) is)
+    (ap (λ (x : Plain). x.disks) is)
     (uids_erased s now uid home other is h n ∙ tie.used) (maps_erased s now uid home other is h n) filed tie
 
 -- the records that the other file maps name
-pub filed_erased : (records now_records : List (List Bool)) (vtocs now : List (List (Option Entry))) (uid : ℕ) (home : Home) → now_records ≡ records
-    → now ≡ put vtocs home.volume home.entry None → uid_at vtocs home ≡ Some uid → NamesNoRecord (vtoc_in vtocs home.volume) home.entry → AreFiled records vtocs
+pub filed_erased : (records now_records : List (List Bool)) (vtocs now : List (List (Option Entry))) (uid : ℕ)
+    (home : Home) → now_records ≡ records
+    → now ≡ put vtocs home.volume home.entry None → uid_at vtocs home ≡ Some uid
+    → NamesNoRecord (vtoc_in vtocs home.volume) home.entry → AreFiled records vtocs
     → AreFiled now_records now
-filed_erased records now_records vtocs now uid home r is h gone filed = rw (r, is) (filed_freed records vtocs uid home h gone.none no_record filed)
+filed_erased records now_records vtocs now uid home r is h gone filed =
+    rw (r, is) (filed_freed records vtocs uid home h gone.none no_record filed)
 
 pub full_same : (table those : List (Option Entry)) → table ≡ those → HasFullMaps those → HasFullMaps table
 full_same table those same full = rw same full
 
-pub names_same : (table those : List (Option Entry)) (e : ℕ) → table ≡ those → NamesNoRecord those e → NamesNoRecord table e
+pub names_same : (table those : List (Option Entry)) (e : ℕ) → table ≡ those → NamesNoRecord those e
+    → NamesNoRecord table e
 names_same table those e same none = rw same none
 
-pub part_at : (old s : Plain) (uid : ℕ) (home : Home) (n m : ℕ) → n ≡ m → IsPartErased old s uid home n → IsPartErased old s uid home m
+pub part_at : (old s : Plain) (uid : ℕ) (home : Home) (n m : ℕ) → n ≡ m → IsPartErased old s uid home n
+    → IsPartErased old s uid home m
 part_at old s uid home n m same part = rw (sym same) part

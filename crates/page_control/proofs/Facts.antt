@@ -1,4 +1,5 @@
-use Rattle.std.proofs.Common.{◌≡◌, ℕ, ◌<◌, arith, Bool, true, false, List, [], ◌∷◌, ◌++◌, length, Option, None, Some, refl, sym, ap, ◌∙◌, get_or, set}
+use Rattle.std.proofs.Common.{◌≡◌, ℕ, ◌<◌, arith, Bool, true, false, List, [], ◌∷◌, ◌++◌, length, Option, None, Some}
+use Rattle.std.proofs.Common.{refl, sym, ap, ◌∙◌, get_or, set}
 use Rattle.std.proofs.Common.{replicate, take, inl, inr, All, IsSome, is_some}
 use Rattle.std.proofs.lemmas.Bool.Decides.{leb_tells}
 use Rattle.std.proofs.lemmas.List.{get_or_past, get_or-set_same, set-set, map-set, length-map}
@@ -8,13 +9,15 @@ use Rattle.std.proofs.lemmas.List.Elements.{All-get_or}
 use Rattle.bitmap.specs.Bitmap.{in_use, IsLeastFree}
 use Rattle.core_map.specs.declared.Frame.{Frame}
 use Rattle.core_map.specs.declared.Frame.TheVariants.{Free, Started, Bound}
-use Rattle.core_map.specs.CoreMap.{reads_of, Core, frame_at, with_frame, is_bound, bound_page, started_page, after_reference}
+use Rattle.core_map.specs.CoreMap.{reads_of, Core, frame_at, with_frame, is_bound, bound_page, started_page}
+use Rattle.core_map.specs.CoreMap.{after_reference}
 use Rattle.page_table.specs.declared.Ptw.{Ptw}
 use Rattle.page_table.specs.declared.Ptw.TheVariants.{Null, Out, Here, Leaving}
 use Rattle.page_table.specs.PageTable.{ptw_at}
 use Rattle.vtoc.specs.Vtoc.{Entry, uid_of}
 use Rattle.page_control.specs.declared.Home.{Home}
-use Rattle.page_control.specs.Plain.{Plain, Paging, plain, bindings, binding_at, flags_of, file_map_of, filed, entry_of, record_of, number_in, number_or_zero}
+use Rattle.page_control.specs.Plain.{Plain, Paging, plain, bindings, binding_at, flags_of, file_map_of, filed}
+use Rattle.page_control.specs.Plain.{entry_of, record_of, number_in, number_or_zero}
 use Rattle.page_control.specs.Tied.{frame_of, has_record, uid_in, uid_at, IsTableOf, IsMapOf, AreFiled}
 use Rattle.page_control.specs.Ties.{IsTied}
 
@@ -51,12 +54,14 @@ some_number None h = cc
 some_number (Some r) h = refl
 
 -- a page whose word isn't `Null` is on a record
-pub filed_from_word : (s : Plain) (home : Home) (table : List Ptw) (p : ℕ) → IsMapOf (file_map_of s home) table → has_record (ptw_at table p) ≡ true
+pub filed_from_word : (s : Plain) (home : Home) (table : List Ptw) (p : ℕ) → IsMapOf (file_map_of s home) table
+    → has_record (ptw_at table p) ≡ true
     → filed s home p ≡ Some (record_of s home p)
 filed_from_word s home table p h word = some_number (filed s home p) (h.stored p ∙ word)
 
 -- which is in use
-pub filed_in_use : (s : Plain) (home : Home) (p r : ℕ) → AreFiled s.records s.vtocs → filed s home p ≡ Some r → in_use (flags_of s home.volume) r ≡ true
+pub filed_in_use : (s : Plain) (home : Home) (p r : ℕ) → AreFiled s.records s.vtocs → filed s home p ≡ Some r
+    → in_use (flags_of s home.volume) r ≡ true
 filed_in_use s home p r h is = h.used home.volume home.entry p r is
 
 -- where all records are in use, none is free
@@ -81,17 +86,20 @@ bound_from_page (Started u q) uid p h = cc
 bound_from_page (Bound u q used modified) uid p h = refl
 
 -- and so is the frame that a word names
-pub leaving_bound : (core : Core) (uid : ℕ) (table : List Ptw) (p f : ℕ) → IsTableOf (bindings core) uid table → ptw_at table p ≡ Leaving f
+pub leaving_bound : (core : Core) (uid : ℕ) (table : List Ptw) (p f : ℕ) → IsTableOf (bindings core) uid table
+    → ptw_at table p ≡ Leaving f
     → is_bound (frame_at core f) ≡ true
 leaving_bound core uid table p f h word =
     bound_from_page (frame_at core f) uid p (sym (binding_is core f) ∙ h.back f p (ap frame_of word))
 
 -- what a change of one frame does to the bindings
-pub bindings_with : (core : Core) (f : ℕ) (frame : Frame) → bindings (with_frame core f frame) ≡ set (bindings core) f (bound_page frame)
+pub bindings_with : (core : Core) (f : ℕ) (frame : Frame) → bindings (with_frame core f frame)
+    ≡ set (bindings core) f (bound_page frame)
 bindings_with core f frame = map-set bound_page core.frames f frame
 
 -- a frame that stays bound to the same page, or to none
-pub bindings_same : (core : Core) (f : ℕ) (frame : Frame) → bound_page frame ≡ bound_page (frame_at core f) → bindings (with_frame core f frame) ≡ bindings core
+pub bindings_same : (core : Core) (f : ℕ) (frame : Frame) → bound_page frame ≡ bound_page (frame_at core f)
+    → bindings (with_frame core f frame) ≡ bindings core
 bindings_same core f frame same = map-set_same bound_page core.frames f frame Free same
 
 page_referred : (frame : Frame) (wrote : Bool) → bound_page (after_reference frame wrote) ≡ bound_page frame
@@ -99,13 +107,16 @@ page_referred Free wrote = refl
 page_referred (Started u q) wrote = refl
 page_referred (Bound u q used modified) wrote = refl
 
-pub bindings_referred : (core : Core) (f : ℕ) (wrote : Bool) → bindings (with_frame core f (after_reference (frame_at core f) wrote)) ≡ bindings core
+pub bindings_referred : (core : Core) (f : ℕ) (wrote : Bool)
+    → bindings (with_frame core f (after_reference (frame_at core f) wrote)) ≡ bindings core
 bindings_referred core f wrote = bindings_same core f _ (page_referred (frame_at core f) wrote)
 
-pub bindings_started : (core : Core) (f uid p : ℕ) → frame_at core f ≡ Free → bindings (with_frame core f (Started uid p)) ≡ bindings core
+pub bindings_started : (core : Core) (f uid p : ℕ) → frame_at core f ≡ Free
+    → bindings (with_frame core f (Started uid p)) ≡ bindings core
 bindings_started core f uid p free = bindings_same core f (Started uid p) (sym (ap bound_page free))
 
-pub bindings_lost : (core : Core) (f uid p : ℕ) → frame_at core f ≡ Started uid p → bindings (with_frame core f Free) ≡ bindings core
+pub bindings_lost : (core : Core) (f uid p : ℕ) → frame_at core f ≡ Started uid p → bindings (with_frame core f Free)
+    ≡ bindings core
 bindings_lost core f uid p started = bindings_same core f Free (sym (ap bound_page started))
 
 -- the page that a bound frame has
@@ -116,16 +127,20 @@ bound_to (Bound u q used modified) h = refl
 
 -- a frame that is bound and then written through
 pub bound_and_marked : (core : Core) (f uid p : ℕ) → f < length core.frames
-    → with_frame (with_frame core f (Bound uid p false false)) f (after_reference (frame_at (with_frame core f (Bound uid p false false)) f) true)
+    → with_frame (with_frame core f (Bound uid p false false)) f
+    (after_reference (frame_at (with_frame core f (Bound uid p false false)) f) true)
     ≡ with_frame core f (Bound uid p true true)
 bound_and_marked core f uid p lt =
-    let read : get_or (set core.frames f (Bound uid p false false)) f Free ≡ Bound uid p false false = get_or-set_same core.frames f (Bound uid p false false)
+    let read : get_or (set core.frames f (Bound uid p false false)) f Free ≡ Bound uid p false false =
+    get_or-set_same core.frames f (Bound uid p false false)
     Free lt in
     ap (λ (frame : Frame). with_frame (with_frame core f (Bound uid p false false)) f (after_reference frame true)) read
-    ∙ ap (λ (frames : List Frame). record core { frames = frames }) (set-set core.frames f (Bound uid p false false) (Bound uid p true true))
+    ∙ ap (λ (frames : List Frame). record core { frames = frames })
+    (set-set core.frames f (Bound uid p false false) (Bound uid p true true))
 
 -- for which pages frames are started
-pub starts_with : (core : Core) (f : ℕ) (frame : Frame) → reads_of (with_frame core f frame) ≡ set (reads_of core) f (started_page frame)
+pub starts_with : (core : Core) (f : ℕ) (frame : Frame) → reads_of (with_frame core f frame)
+    ≡ set (reads_of core) f (started_page frame)
 starts_with core f frame = map-set started_page core.frames f frame
 
 pub starts_same : (core : Core) (f : ℕ) (frame : Frame) → started_page frame ≡ started_page (frame_at core f)
@@ -137,7 +152,8 @@ started_referred Free wrote = refl
 started_referred (Started u q) wrote = refl
 started_referred (Bound u q used modified) wrote = refl
 
-pub starts_referred : (core : Core) (f : ℕ) (wrote : Bool) → reads_of (with_frame core f (after_reference (frame_at core f) wrote)) ≡ reads_of core
+pub starts_referred : (core : Core) (f : ℕ) (wrote : Bool)
+    → reads_of (with_frame core f (after_reference (frame_at core f) wrote)) ≡ reads_of core
 starts_referred core f wrote = starts_same core f _ (started_referred (frame_at core f) wrote)
 
 -- a bound frame is started for none
@@ -151,16 +167,21 @@ pub record_is : (s : Plain) (home : Home) (p r : ℕ) → filed s home p ≡ Som
 record_is s home p r is = ap number_or_zero is
 
 -- what the tie of a segment gives
-pub tied_entry : (s : Plain) (uid : ℕ) (home : Home) (words : List Ptw) → IsTied s uid home words → IsSome (entry_of s home)
+pub tied_entry : (s : Plain) (uid : ℕ) (home : Home) (words : List Ptw) → IsTied s uid home words
+    → IsSome (entry_of s home)
 tied_entry s uid home words tie = home_used s uid home tie.used
 
-pub tied_volume : {D : Type 0} (pages : D → List (List ℕ)) (s : Paging D) (uid : ℕ) (home : Home) (words : List Ptw) → IsTied (plain pages s) uid home words
+pub tied_volume : {D : Type 0} (pages : D → List (List ℕ)) (s : Paging D) (uid : ℕ) (home : Home) (words : List Ptw)
+    → IsTied (plain pages s) uid home words
     → home.volume < length s.volumes.drives
-tied_volume pages s uid home words tie = (let volume = tie.volume in let count = length-map s.volumes.drives pages in omega (arith, volume, count))
+tied_volume pages s uid home words tie = (let volume = tie.volume in let count =
+    length-map s.volumes.drives pages in omega (arith, volume, count))
 
-pub tied_filed : (s : Plain) (uid : ℕ) (home : Home) (words : List Ptw) (p : ℕ) → IsTied s uid home words → has_record (ptw_at words p) ≡ true
+pub tied_filed : (s : Plain) (uid : ℕ) (home : Home) (words : List Ptw) (p : ℕ) → IsTied s uid home words
+    → has_record (ptw_at words p) ≡ true
     → filed s home p ≡ Some (record_of s home p)
 tied_filed s uid home words p tie has = filed_from_word s home words p tie.map has
 
-pub plain_volume : {D : Type 0} (pages : D → List (List ℕ)) (s : Paging D) (v : ℕ) → v < length s.volumes.drives → v < length (plain pages s).disks
+pub plain_volume : {D : Type 0} (pages : D → List (List ℕ)) (s : Paging D) (v : ℕ) → v < length s.volumes.drives
+    → v < length (plain pages s).disks
 plain_volume pages s v lt = (let count = length-map s.volumes.drives pages in omega (arith, lt, count))

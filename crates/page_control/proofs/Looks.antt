@@ -16,10 +16,12 @@ use Rattle.page_control.proofs.Ties.{not_none, number_of, frame_same}
 use Rattle.page_control.proofs.Pictures.{uid_part, shown_in, shown_out}
 use Rattle.page_control.proofs.Counting.{fewer_at}
 
-told : (frame : Frame) (uid p : ℕ) → bound_page frame ≡ Some (uid, p) → ◌≡◌ {A = Option (ℕ × ℕ)} (Some (uid_in frame, number_in frame)) (Some (uid, p))
+told : (frame : Frame) (uid p : ℕ) → bound_page frame ≡ Some (uid, p)
+    → ◌≡◌ {A = Option (ℕ × ℕ)} (Some (uid_in frame, number_in frame)) (Some (uid, p))
 told frame uid p at = sym (bound_to frame (bound_from_page frame uid p at)) ∙ at
 
-pub frame_named : (core : Core) (uid p f : ℕ) (t : List Ptw) → IsTableOf (bindings core) uid t → frame_of (ptw_at t p) ≡ Some f
+pub frame_named : (core : Core) (uid p f : ℕ) (t : List Ptw) → IsTableOf (bindings core) uid t → frame_of (ptw_at t p)
+    ≡ Some f
     → IsBoundTo (frame_at core f) uid p
 frame_named core uid p f t table word =
     let page : bound_page (frame_at core f) ≡ Some (uid, p) = sym (binding_is core f) ∙ table.back f p word in
@@ -29,21 +31,25 @@ frame_named core uid p f t table word =
       page = ap number_of (told (frame_at core f) uid p page);
     }
 
-pub words_named : (s : Plain) (uid p f : ℕ) (home : Home) (t : List Ptw) → IsTableOf (bindings s.core) uid t → frame_of (ptw_at t p) ≡ Some f
+pub words_named : (s : Plain) (uid p f : ℕ) (home : Home) (t : List Ptw) → IsTableOf (bindings s.core) uid t
+    → frame_of (ptw_at t p) ≡ Some f
     → words_at s uid home p ≡ words_in s f
 words_named s uid p f home t table word =
-    shown_in s uid p f home (table.back f p word) (λ g at. frame_same (frame_of (ptw_at t p)) g f (table.named g p at) word)
+    shown_in s uid p f home (table.back f p word) (λ g at. frame_same (frame_of (ptw_at t p)) g f (table.named g p at)
+    word)
 
 -- a page whose word names no frame has the words of its record
 words_away : (s : Plain) (uid p : ℕ) (home : Home) (t : List Ptw) → IsTied s uid home t → frame_of (ptw_at t p) ≡ None
     → words_at s uid home p ≡ words_filed (disk_of s home.volume) (filed s home p)
-words_away s uid p home t tie none = shown_out s uid p home (λ g at. not_none (frame_of (ptw_at t p)) g none (tie.table.named g p at))
+words_away s uid p home t tie none = shown_out s uid p home
+    (λ g at. not_none (frame_of (ptw_at t p)) g none (tie.table.named g p at))
 
 none_from : (place : Option ℕ) (w : Ptw) → is_some place ≡ has_record w → w ≡ Null → place ≡ None
 none_from None w same null = refl
 none_from (Some r) w same null = (let no : has_record w ≡ false = ap has_record null in cc)
 
-out_full : (s : Plain) (uid p : ℕ) (home : Home) (t : List Ptw) (w : Ptw) → IsTied s uid home t → ptw_at t p ≡ w → is_out w ≡ true → is_stored s home p ≡ true
+out_full : (s : Plain) (uid p : ℕ) (home : Home) (t : List Ptw) (w : Ptw) → IsTied s uid home t → ptw_at t p ≡ w
+    → is_out w ≡ true → is_stored s home p ≡ true
     → AreZero (words_at s uid home p) → ⊥
 out_full s uid p home t Null tie is out stored all = cc
 out_full s uid p home t (Here f) tie is out stored all = cc
@@ -58,7 +64,8 @@ stored_out (Out r) out = refl
 stored_out (Here f) out = cc
 stored_out (Leaving f) out = cc
 
-pub seen : (s : Plain) (uid p : ℕ) (home : Home) (t : List Ptw) (w : Ptw) → w ≡ ptw_at t p → IsTied s uid home t → IsSeen s uid home p w
+pub seen : (s : Plain) (uid p : ℕ) (home : Home) (t : List Ptw) (w : Ptw) → w ≡ ptw_at t p → IsTied s uid home t
+    → IsSeen s uid home p w
 unfolding is_filed_at
 seen s uid p home t w is tie = rw is (record {
   stored = tie.map.stored p;
@@ -68,8 +75,10 @@ seen s uid p home t w is tie = rw is (record {
       let fewer = fewer_at s.records home.volume (record_of s home p)
       (filed_in_use s home p (record_of s home p) tie.records (tied_filed s uid home t p tie has)) in
       omega (arith, fewer);
-  out = λ r out. words_away s uid p home t tie (ap frame_of out) ∙ ap (words_filed (disk_of s home.volume)) (tie.map.out p r out);
-  full = λ out all. out_full s uid p home t (ptw_at t p) tie refl out (tie.map.stored p ∙ stored_out (ptw_at t p) out) all;
+  out = λ r out. words_away s uid p home t tie (ap frame_of out)
+      ∙ ap (words_filed (disk_of s home.volume)) (tie.map.out p r out);
+  full = λ out all. out_full s uid p home t (ptw_at t p) tie refl out (tie.map.stored p ∙ stored_out (ptw_at t p) out)
+      all;
   bound = λ f word. tie.table.back f p word;
   frame = λ f word. frame_named s.core uid p f t tie.table word;
   words = λ f word. words_named s uid p f home t tie.table word;

@@ -1,5 +1,6 @@
 -- Calls that change marks and words in frames alone, and calls that change VTOCs alone.
-use Rattle.std.proofs.Common.{◌≡◌, ◌≢◌, ℕ, ◌<◌, Bool, true, false, cond, List, [], length, Option, None, Some, refl, sym, ap, ◌∙◌, arith, get_or, set, is_some}
+use Rattle.std.proofs.Common.{◌≡◌, ◌≢◌, ℕ, ◌<◌, Bool, true, false, cond, List, [], length, Option, None, Some, refl}
+use Rattle.std.proofs.Common.{sym, ap, ◌∙◌, arith, get_or, set, is_some}
 use Rattle.std.proofs.Common.{inl, inr, subst}
 use Rattle.std.specs.List.{position}
 use Rattle.std.proofs.lemmas.Bool.{cases_eq}
@@ -17,19 +18,23 @@ use Rattle.vtoc.specs.Vtoc.{Entry, record_at}
 use Rattle.page_control.specs.declared.Home.{Home}
 use Rattle.page_control.specs.Plain.{Plain, bindings, binding_at, frame_in, words_in}
 use Rattle.page_control.specs.Tied.{vtoc_in, uid_at, map_at, IsTableOf, IsMapOf, AreFiled, IsBoundOnce}
-use Rattle.page_control.specs.Picture.{is_binding, words_held, words_of_page, words_at, is_filed_at, is_stored, changed_at, changed_page}
+use Rattle.page_control.specs.Picture.{is_binding, words_held, words_of_page, words_at, is_filed_at, is_stored}
+use Rattle.page_control.specs.Picture.{changed_at, changed_page}
 use Rattle.page_control.specs.Ties.{IsTied, KeepsTies}
 use Rattle.page_control.proofs.Facts.{binding_is}
 use Rattle.page_control.proofs.Ties.{not_none, number_of, table_taken, table_back, map_taken, map_back}
-use Rattle.page_control.proofs.Pictures.{page, uid_part, off_and_on, binding_tells, found_at, in_frame_or_out, words_by, out_by}
+use Rattle.page_control.proofs.Pictures.{page, uid_part, off_and_on, binding_tells, found_at, in_frame_or_out}
+use Rattle.page_control.proofs.Pictures.{words_by, out_by}
 use Rattle.page_control.proofs.Turns.{bindings_chosen, kept_chosen, inside_from, bound_inside}
 
-stored_by : (s now : Plain) (h : Home) (q : ℕ) → map_at now.vtocs h ≡ map_at s.vtocs h → is_stored now h q ≡ is_stored s h q
+stored_by : (s now : Plain) (h : Home) (q : ℕ) → map_at now.vtocs h ≡ map_at s.vtocs h → is_stored now h q
+    ≡ is_stored s h q
 unfolding is_filed_at
 stored_by s now h q map = ap (λ (places : List (Option ℕ)). is_some (get_or places q None)) map
 
 -- VTOCs change, and neither the entry nor the file map of this segment
-pub tie_mapped : (s now : Plain) (u : ℕ) (h : Home) (t : List Ptw) → now.core ≡ s.core → now.frames ≡ s.frames → now.disks ≡ s.disks
+pub tie_mapped : (s now : Plain) (u : ℕ) (h : Home) (t : List Ptw) → now.core ≡ s.core → now.frames ≡ s.frames
+    → now.disks ≡ s.disks
     → uid_at now.vtocs h ≡ Some u
     → map_at now.vtocs h ≡ map_at s.vtocs h → AreFiled now.records now.vtocs → IsTied s u h t → IsTied now u h t
 tie_mapped s now u h t core frames disks used map filed tie = record {
@@ -40,9 +45,11 @@ tie_mapped s now u h t core frames disks used map filed tie = record {
   map = rw map tie.map;
   records = filed;
   clean = λ g q off at. ap (λ (all : List (List ℕ)). get_or all g []) frames
-      ∙ tie.clean g q (ap (λ (c : Core). is_modified (frame_at c g)) (sym core) ∙ off) (ap (λ (c : Core). binding_at (bindings c) g) (sym core) ∙ at)
+      ∙ tie.clean g q (ap (λ (c : Core). is_modified (frame_at c g)) (sym core) ∙ off)
+      (ap (λ (c : Core). binding_at (bindings c) g) (sym core) ∙ at)
       ∙ sym (out_by s now h q disks map);
-  zeros = λ q on all. rw core (tie.zeros q (sym (stored_by s now h q map) ∙ on) (subst AreZero (words_by s now u h q (ap bindings core) frames disks map) all));
+  zeros = λ q on all. rw core (tie.zeros q (sym (stored_by s now h q map) ∙ on)
+      (subst AreZero (words_by s now u h q (ap bindings core) frames disks map) all));
 }
 
 -- marks and words in frames change: a frame whose modified mark is off had it off, and has the words that it had
@@ -65,14 +72,16 @@ tie_marked s now u h t m tie =
       map = rw map tie.map;
       records = rw (m.records, m.vtocs) tie.records;
       clean = λ g q off at.
-          let was : binding_at (bindings s.core) g ≡ Some (u, q) = ap (λ (those : List (Option (ℕ × ℕ))). binding_at those g) (sym m.bound) ∙ at in
+          let was : binding_at (bindings s.core) g ≡ Some (u, q) =
+          ap (λ (those : List (Option (ℕ × ℕ))). binding_at those g) (sym m.bound) ∙ at in
           let old = m.clean g (u, q) was off in
           old.1 ∙ tie.clean g q old.0 was ∙ sym (out_by s now h q m.disks map);
       zeros = λ q on all. elim (in_frame_or_out now u q h (position (is_binding u q) (bindings now.core)) refl) [
         | inl there ↦ there
         | inr out ↦ elim (in_frame_or_out s u q h (position (is_binding u q) (bindings s.core)) refl) [
           | inl there ↦ rw m.bound there
-          | inr was ↦ rw m.bound (tie.zeros q (sym (stored_by s now h q map) ∙ on) (subst AreZero (out ∙ out_by s now h q m.disks map ∙ sym was) all))
+          | inr was ↦ rw m.bound (tie.zeros q (sym (stored_by s now h q map) ∙ on)
+              (subst AreZero (out ∙ out_by s now h q m.disks map ∙ sym was) all))
         ]
       ];
     }
@@ -81,15 +90,18 @@ pub ties_marked : (s now : Plain) → Marks s now → KeepsTies s now
 ties_marked s now m = record { ties = λ u h t tie. tie_marked s now u h t m tie }
 
 -- where no words change, all pages have the words that they had
-pub words_marked : (s now : Plain) → bindings now.core ≡ bindings s.core → now.frames ≡ s.frames → now.disks ≡ s.disks → now.vtocs ≡ s.vtocs
+pub words_marked : (s now : Plain) → bindings now.core ≡ bindings s.core → now.frames ≡ s.frames → now.disks ≡ s.disks
+    → now.vtocs ≡ s.vtocs
     → words_at now ≡ words_at s
 words_marked s now bound frames disks vtocs =
     λ i. λ u h q. words_by s now u h q bound frames disks (ap (λ (v : List (List (Option Entry))). map_at v h) vtocs) i
 
-at_frame : (s now : Plain) (f : ℕ) (frame : Frame) → now.core ≡ with_frame s.core f frame → f < length s.core.frames → frame_in now f ≡ frame
+at_frame : (s now : Plain) (f : ℕ) (frame : Frame) → now.core ≡ with_frame s.core f frame → f < length s.core.frames
+    → frame_in now f ≡ frame
 at_frame s now f frame core fl = ap (λ (c : Core). frame_at c f) core ∙ get_or-set_same s.core.frames f frame Free fl
 
-at_other : (s now : Plain) (f g : ℕ) (frame : Frame) → now.core ≡ with_frame s.core f frame → g ≢ f → frame_in now g ≡ frame_in s g
+at_other : (s now : Plain) (f g : ℕ) (frame : Frame) → now.core ≡ with_frame s.core f frame → g ≢ f → frame_in now g
+    ≡ frame_in s g
 at_other s now f g frame core n = ap (λ (c : Core). frame_at c g) core ∙ get_or-set_other s.core.frames f g frame Free n
 
 -- a reference that reads, and one that writes
@@ -105,8 +117,10 @@ never_off (Started u q) bound off = cc
 never_off (Bound u q used true) bound off = cc
 never_off (Bound u q used false) bound off = cc
 
-pub marks_read : (s now : Plain) (f : ℕ) → now.core ≡ with_frame s.core f (after_reference (frame_in s f) false) → bindings now.core ≡ bindings s.core
-    → now.frames ≡ s.frames → now.disks ≡ s.disks → now.records ≡ s.records → now.vtocs ≡ s.vtocs → is_bound (frame_in s f) ≡ true → Marks s now
+pub marks_read : (s now : Plain) (f : ℕ) → now.core ≡ with_frame s.core f (after_reference (frame_in s f) false)
+    → bindings now.core ≡ bindings s.core
+    → now.frames ≡ s.frames → now.disks ≡ s.disks → now.records ≡ s.records → now.vtocs ≡ s.vtocs
+    → is_bound (frame_in s f) ≡ true → Marks s now
 marks_read s now f core bound frames disks records vtocs is = record {
   bound = bound;
   disks = disks;
@@ -118,13 +132,16 @@ marks_read s now f core bound frames disks records vtocs is = record {
     off_before : (g : ℕ) → is_modified (frame_in now g) ≡ false → is_modified (frame_in s g) ≡ false
     off_before g off = elim (cases_eq g f) [
       | inl same ↦ ap (λ (n : ℕ). is_modified (frame_in s n)) same
-          ∙ still_off (frame_in s f) (sym (ap is_modified (ap (frame_in now) same ∙ at_frame s now f _ core (bound_inside s.core f is))) ∙ off)
+          ∙ still_off (frame_in s f) (sym (ap is_modified
+          (ap (frame_in now) same ∙ at_frame s now f _ core (bound_inside s.core f is))) ∙ off)
       | inr n ↦ sym (ap is_modified (at_other s now f g _ core n)) ∙ off
     ]
 
-pub marks_written : (s now : Plain) (f : ℕ) (words : List ℕ) → now.core ≡ with_frame s.core f (after_reference (frame_in s f) true)
+pub marks_written : (s now : Plain) (f : ℕ) (words : List ℕ) → now.core
+    ≡ with_frame s.core f (after_reference (frame_in s f) true)
     → bindings now.core ≡ bindings s.core
-    → now.frames ≡ set s.frames f words → now.disks ≡ s.disks → now.records ≡ s.records → now.vtocs ≡ s.vtocs → is_bound (frame_in s f) ≡ true → Marks s now
+    → now.frames ≡ set s.frames f words → now.disks ≡ s.disks → now.records ≡ s.records → now.vtocs ≡ s.vtocs
+    → is_bound (frame_in s f) ≡ true → Marks s now
 marks_written s now f words core bound frames disks records vtocs is = record {
   bound = bound;
   disks = disks;
@@ -141,7 +158,8 @@ marks_written s now f words core bound frames disks records vtocs is = record {
 }
 
 -- a frame that was bound to no page, and is bound to none
-pub marks_moved : (s now : Plain) (f : ℕ) (frame : Frame) → now.core ≡ with_frame s.core f frame → bindings now.core ≡ bindings s.core
+pub marks_moved : (s now : Plain) (f : ℕ) (frame : Frame) → now.core ≡ with_frame s.core f frame → bindings now.core
+    ≡ bindings s.core
     → bound_page (frame_in s f) ≡ None
     → now.frames ≡ s.frames → now.disks ≡ s.disks → now.records ≡ s.records → now.vtocs ≡ s.vtocs → Marks s now
 marks_moved s now f frame core bound none frames disks records vtocs = record {
@@ -150,8 +168,13 @@ marks_moved s now f frame core bound none frames disks records vtocs = record {
   records = records;
   vtocs = vtocs;
   clean = λ g y at off. elim (cases_eq g f) [
-    | inl same ↦ absurd (not_none (binding_at (bindings s.core) g) y (ap (binding_at (bindings s.core)) same ∙ binding_is s.core f ∙ none) at)
-    | inr n ↦ (sym (ap is_modified (at_other s now f g frame core n)) ∙ off, ap (λ (all : List (List ℕ)). get_or all g []) frames)
+    | inl same ↦ absurd (not_none (binding_at (bindings s.core) g) y
+        (ap (binding_at (bindings s.core)) same ∙ binding_is s.core f ∙ none) at)
+    | inr n ↦ (
+      sym (ap is_modified (at_other s now f g frame core n))
+          ∙ off,
+      ap (λ (all : List (List ℕ)). get_or all g []) frames,
+    )
   ];
 }
 
@@ -161,7 +184,8 @@ modified_unmarked Free = refl
 modified_unmarked (Started u q) = refl
 modified_unmarked (Bound u q used modified) = refl
 
-pub marks_chosen : (s now : Plain) (f : ℕ) → IsClockChoice s.core now.core f → now.frames ≡ s.frames → now.disks ≡ s.disks → now.records ≡ s.records
+pub marks_chosen : (s now : Plain) (f : ℕ) → IsClockChoice s.core now.core f → now.frames ≡ s.frames → now.disks
+    ≡ s.disks → now.records ≡ s.records
     → now.vtocs ≡ s.vtocs
     → Marks s now
 marks_chosen s now f choice frames disks records vtocs = record {
@@ -181,40 +205,52 @@ is_page uid p u q passes =
     let tells : page uid p ≡ page u q = binding_tells (page uid p) u q passes in
     (sym (ap uid_part tells), sym (ap number_of tells))
 
-pub words_written : (b bound : List (Option (ℕ × ℕ))) (those frames : List (List ℕ)) (drives disks : List (List (List ℕ)))
+pub words_written : (b bound : List (Option (ℕ × ℕ))) (those frames : List (List ℕ))
+    (drives disks : List (List (List ℕ)))
     (tables vtocs : List (List (Option Entry)))
-    (uid p f : ℕ) (words : List ℕ) → bound ≡ b → frames ≡ set those f words → disks ≡ drives → vtocs ≡ tables → binding_at b f ≡ page uid p → f < length those
-    → IsBoundOnce b f → words_of_page bound frames disks vtocs ≡ changed_page (words_of_page b those drives tables) uid p words
+    (uid p f : ℕ) (words : List ℕ) → bound ≡ b → frames ≡ set those f words → disks ≡ drives → vtocs ≡ tables
+    → binding_at b f ≡ page uid p → f < length those
+    → IsBoundOnce b f → words_of_page bound frames disks vtocs
+    ≡ changed_page (words_of_page b those drives tables) uid p words
 unfolding words_of_page changed_at
-words_written b bound those frames drives disks tables vtocs uid p f words bs fr ds vs at lt once = λ i. λ u h q. point u h q (is_binding u q (page uid p))
+words_written b bound those frames drives disks tables vtocs uid p f words bs fr ds vs at lt once =
+    λ i. λ u h q. point u h q (is_binding u q (page uid p))
     refl i
   where
     moved : (u : ℕ) (h : Home) (q : ℕ) → words_of_page bound frames disks vtocs u h q
-        ≡ words_held (set those f words) (get_or drives h.volume []) (record_at (vtoc_in tables h.volume) h.entry q) (position (is_binding u q) b)
+        ≡ words_held (set those f words) (get_or drives h.volume []) (record_at (vtoc_in tables h.volume) h.entry q)
+        (position (is_binding u q) b)
     moved u h q = rw (bs, fr, ds, vs) refl
 
-    other : (u : ℕ) (h : Home) (q : ℕ) (x : Option ℕ) → position (is_binding u q) b ≡ x → is_binding u q (page uid p) ≡ false
+    other : (u : ℕ) (h : Home) (q : ℕ) (x : Option ℕ) → position (is_binding u q) b ≡ x → is_binding u q (page uid p)
+        ≡ false
         → words_held (set those f words) (get_or drives h.volume []) (record_at (vtoc_in tables h.volume) h.entry q) x
         ≡ words_held those (get_or drives h.volume []) (record_at (vtoc_in tables h.volume) h.entry q) x
     other u h q None is off = refl
     other u h q (Some g) is off = get_or-set_other those f g words []
-        (λ same. off_and_on (is_binding u q (binding_at b g)) (ap (λ (k : ℕ). is_binding u q (binding_at b k)) same ∙ ap (is_binding u q) at ∙ off)
+        (λ same. off_and_on (is_binding u q (binding_at b g))
+        (ap (λ (k : ℕ). is_binding u q (binding_at b k)) same ∙ ap (is_binding u q) at ∙ off)
         (position-Some (is_binding u q) b g None is).1)
 
     point : (u : ℕ) (h : Home) (q : ℕ) (z : Bool) → is_binding u q (page uid p) ≡ z
-        → words_of_page bound frames disks vtocs u h q ≡ changed_page (words_of_page b those drives tables) uid p words u h q
+        → words_of_page bound frames disks vtocs u h q
+        ≡ changed_page (words_of_page b those drives tables) uid p words u h q
     point u h q true passes =
         let same = is_page uid p u q passes in
-        let found : position (is_binding u q) b ≡ Some f = rw (same.0, same.1) (found_at b uid p f at (λ g is. once.only g (is ∙ sym at))) in
+        let found : position (is_binding u q) b ≡ Some f =
+        rw (same.0, same.1) (found_at b uid p f at (λ g is. once.only g (is ∙ sym at))) in
         moved u h q
-        ∙ ap (words_held (set those f words) (get_or drives h.volume []) (record_at (vtoc_in tables h.volume) h.entry q)) found
-        ∙ get_or-set_same those f words [] lt ∙ sym (ap (λ (z : Bool). cond z words (words_of_page b those drives tables u h q)) passes)
+        ∙ ap (words_held (set those f words) (get_or drives h.volume [])
+        (record_at (vtoc_in tables h.volume) h.entry q)) found
+        ∙ get_or-set_same those f words [] lt ∙ sym (ap
+        (λ (z : Bool). cond z words (words_of_page b those drives tables u h q)) passes)
     point u h q false passes =
         moved u h q ∙ other u h q (position (is_binding u q) b) refl passes
         ∙ sym (ap (λ (z : Bool). cond z words (words_of_page b those drives tables u h q)) passes)
 
 -- a word changes, and says of its page what it said
-pub tie_worded : (s : Plain) (uid : ℕ) (home : Home) (t u : List Ptw) (p f : ℕ) → IsTied s uid home t → length u ≡ length t → IsTableOf (bindings s.core) uid u
+pub tie_worded : (s : Plain) (uid : ℕ) (home : Home) (t u : List Ptw) (p f : ℕ) → IsTied s uid home t → length u
+    ≡ length t → IsTableOf (bindings s.core) uid u
     → IsMapOf (map_at s.vtocs home) u → IsTied s uid home u
 tie_worded s uid home t u p f tie long table map =
     let pages = tie.pages in
@@ -229,14 +265,18 @@ tie_worded s uid home t u p f tie long table map =
       zeros = tie.zeros;
     }
 
-pub tie_taken : (s : Plain) (uid : ℕ) (home : Home) (t u : List Ptw) (p f : ℕ) → IsTied s uid home t → ptw_at t p ≡ Here f → u ≡ set t p (Leaving f)
+pub tie_taken : (s : Plain) (uid : ℕ) (home : Home) (t u : List Ptw) (p f : ℕ) → IsTied s uid home t → ptw_at t p
+    ≡ Here f → u ≡ set t p (Leaving f)
     → IsTied s uid home u
 tie_taken s uid home t u p f tie here us =
-    tie_worded s uid home t u p f tie (ap length us ∙ length-set t p (Leaving f)) (table_taken (bindings s.core) uid t u p f tie.table here us)
+    tie_worded s uid home t u p f tie (ap length us ∙ length-set t p (Leaving f))
+    (table_taken (bindings s.core) uid t u p f tie.table here us)
     (map_taken (map_at s.vtocs home) t u p f tie.map here us)
 
-pub tie_back : (s : Plain) (uid : ℕ) (home : Home) (t u : List Ptw) (p f : ℕ) → IsTied s uid home t → ptw_at t p ≡ Leaving f → u ≡ set t p (Here f)
+pub tie_back : (s : Plain) (uid : ℕ) (home : Home) (t u : List Ptw) (p f : ℕ) → IsTied s uid home t → ptw_at t p
+    ≡ Leaving f → u ≡ set t p (Here f)
     → IsTied s uid home u
 tie_back s uid home t u p f tie leaving us =
-    tie_worded s uid home t u p f tie (ap length us ∙ length-set t p (Here f)) (table_back (bindings s.core) uid t u p f tie.table leaving us)
+    tie_worded s uid home t u p f tie (ap length us ∙ length-set t p (Here f))
+    (table_back (bindings s.core) uid t u p f tie.table leaving us)
     (map_back (map_at s.vtocs home) t u p f tie.map leaving us)

@@ -1,5 +1,6 @@
 -- The records in use stay those that file maps name, whatever a call does to them.
-use Rattle.std.proofs.Common.{◌≡◌, ◌⊎◌, ℕ, ◌<◌, Bool, true, false, List, length, Option, None, Some, sym, ap, ◌∙◌, get_or, set, inl, inr}
+use Rattle.std.proofs.Common.{◌≡◌, ◌⊎◌, ℕ, ◌<◌, Bool, true, false, List, length, Option, None, Some, sym, ap, ◌∙◌}
+use Rattle.std.proofs.Common.{get_or, set, inl, inr}
 use Rattle.std.proofs.lemmas.Bool.{cases_eq}
 use Rattle.bitmap.specs.Bitmap.{IsLeastFree}
 use Rattle.record_map.specs.Bitmap.{in_use}
@@ -9,14 +10,16 @@ use Rattle.page_control.specs.Tied.{vtoc_in, flags_in, uid_at, map_at, AreFiled,
 use Rattle.page_control.proofs.Facts.{used_within}
 use Rattle.page_control.proofs.Ties.{not_none, frame_same}
 use Rattle.page_control.proofs.Pictures.{off_and_on}
-use Rattle.page_control.proofs.Places.{put, put_here, put_other, list_within, refile, volume_within, home_within, map_refiled, at_or_other}
+use Rattle.page_control.proofs.Places.{put, put_here, put_other, list_within, refile, volume_within, home_within}
+use Rattle.page_control.proofs.Places.{map_refiled, at_or_other}
 use Rattle.page_control.proofs.Filing.{AreUsed, used_of, refiled_cases, used_unstored, used_stored, used_fewer}
 
 -- each record in use is named by some file map
 abbrev AreNamed : List (List Bool) → List (List (Option Entry)) → Type 0
 AreNamed records vtocs = (v r : ℕ) → in_use (flags_in records v) r ≡ true → IsNamed (vtoc_in vtocs v) r
 
-filed_of : (records : List (List Bool)) (vtocs : List (List (Option Entry))) → AreUsed records vtocs → AreNamed records vtocs → AreFiled records vtocs
+filed_of : (records : List (List Bool)) (vtocs : List (List (Option Entry))) → AreUsed records vtocs
+    → AreNamed records vtocs → AreFiled records vtocs
 filed_of records vtocs used named = record { used = used.used; once = used.once; named = named }
 
 same_place : (v w r k : ℕ) → ((w ≡ v) × (k ≡ r)) ⊎ (w ≡ v → k ≡ r → ⊥)
@@ -26,37 +29,47 @@ same_place v w r k = elim (cases_eq w v) [
 ]
 
 -- page p at a home is stored no more, and its record r is given back
-named_unstored : (records : List (List Bool)) (vtocs : List (List (Option Entry))) (uid p r : ℕ) (home : Home) → AreFiled records vtocs
+named_unstored : (records : List (List Bool)) (vtocs : List (List (Option Entry))) (uid p r : ℕ) (home : Home)
+    → AreFiled records vtocs
     → uid_at vtocs home ≡ Some uid → record_at (vtoc_in vtocs home.volume) home.entry p ≡ Some r
     → AreNamed (put records home.volume r false) (refile vtocs home p None)
 named_unstored records vtocs uid p r home filed h there =
-    let rl : r < length (flags_in records home.volume) = used_within _ r (filed.used home.volume home.entry p r there) in
+    let rl : r < length (flags_in records home.volume) =
+    used_within _ r (filed.used home.volume home.entry p r there) in
     let vl : home.volume < length records = list_within records home.volume r rl in
     λ w k on. elim (same_place home.volume w r k) [
       | inl at ↦ absurd (off_and_on (in_use (flags_in (put records home.volume r false) w) k)
           (ap (λ (v : ℕ). in_use (flags_in (put records home.volume r false) v) k) at.0
-          ∙ ap (in_use (flags_in (put records home.volume r false) home.volume)) at.1 ∙ put_here records home.volume r false false vl rl) on)
+          ∙ ap (in_use (flags_in (put records home.volume r false) home.volume)) at.1
+          ∙ put_here records home.volume r false false vl rl) on)
       | inr n ↦ still w k (filed.named w k (sym (put_other records home.volume r false false w k vl n) ∙ on)) n
     ]
   where
-    still : (w k : ℕ) → IsNamed (vtoc_in vtocs w) k → (w ≡ home.volume → k ≡ r → ⊥) → IsNamed (vtoc_in (refile vtocs home p None) w) k
+    still : (w k : ℕ) → IsNamed (vtoc_in vtocs w) k → (w ≡ home.volume → k ≡ r → ⊥)
+        → IsNamed (vtoc_in (refile vtocs home p None) w) k
     still w k (e, q, at) n = elim (refiled_cases vtocs uid p None home h w e q) [
       | inl here ↦ absurd (n here.0 (frame_same (record_at (vtoc_in vtocs w) e q) k r at
-          (ap (λ (v : ℕ). record_at (vtoc_in vtocs v) e q) here.0 ∙ ap (λ (g : ℕ). record_at (vtoc_in vtocs home.volume) g q) here.1
+          (ap (λ (v : ℕ). record_at (vtoc_in vtocs v) e q) here.0
+          ∙ ap (λ (g : ℕ). record_at (vtoc_in vtocs home.volume) g q) here.1
           ∙ ap (record_at (vtoc_in vtocs home.volume) home.entry) here.2 ∙ there)))
       | inr same ↦ (e, q, same ∙ at)
     ]
 
-pub filed_unstored : (records : List (List Bool)) (vtocs : List (List (Option Entry))) (uid p r : ℕ) (home : Home) → AreFiled records vtocs
+pub filed_unstored : (records : List (List Bool)) (vtocs : List (List (Option Entry))) (uid p r : ℕ) (home : Home)
+    → AreFiled records vtocs
     → uid_at vtocs home ≡ Some uid → record_at (vtoc_in vtocs home.volume) home.entry p ≡ Some r
     → AreFiled (put records home.volume r false) (refile vtocs home p None)
 filed_unstored records vtocs uid p r home filed h there =
-    filed_of _ _ (used_unstored records vtocs uid p r home (used_of records vtocs filed) h there) (named_unstored records vtocs uid p r home filed h there)
+    filed_of _ _ (used_unstored records vtocs uid p r home (used_of records vtocs filed) h there)
+    (named_unstored records vtocs uid p r home filed h there)
 
 -- page p at a home, which had no record, gets record r
-named_stored : (records : List (List Bool)) (vtocs : List (List (Option Entry))) (uid p r : ℕ) (home : Home) → AreFiled records vtocs
-    → uid_at vtocs home ≡ Some uid → record_at (vtoc_in vtocs home.volume) home.entry p ≡ None → get_or (set (map_at vtocs home) p (Some r)) p None ≡ Some r
-    → r < length (flags_in records home.volume) → AreNamed (put records home.volume r true) (refile vtocs home p (Some r))
+named_stored : (records : List (List Bool)) (vtocs : List (List (Option Entry))) (uid p r : ℕ) (home : Home)
+    → AreFiled records vtocs
+    → uid_at vtocs home ≡ Some uid → record_at (vtoc_in vtocs home.volume) home.entry p ≡ None
+    → get_or (set (map_at vtocs home) p (Some r)) p None ≡ Some r
+    → r < length (flags_in records home.volume) → AreNamed (put records home.volume r true)
+    (refile vtocs home p (Some r))
 named_stored records vtocs uid p r home filed h none full rl =
     let vl : home.volume < length records = list_within records home.volume r rl in
     λ w k on. elim (same_place home.volume w r k) [
@@ -64,7 +77,8 @@ named_stored records vtocs uid p r home filed h none full rl =
         home.entry,
         p,
         ap (λ (v : ℕ). record_at (vtoc_in (refile vtocs home p (Some r)) v) home.entry p) at.0
-            ∙ ap (λ (places : List (Option ℕ)). get_or places p None) (map_refiled vtocs uid p (Some r) home h) ∙ full ∙ ap Some (sym at.1),
+            ∙ ap (λ (places : List (Option ℕ)). get_or places p None) (map_refiled vtocs uid p (Some r) home h) ∙ full
+            ∙ ap Some (sym at.1),
       )
       | inr n ↦ still w k (filed.named w k (sym (put_other records home.volume r true false w k vl n) ∙ on))
     ]
@@ -72,55 +86,80 @@ named_stored records vtocs uid p r home filed h none full rl =
     still : (w k : ℕ) → IsNamed (vtoc_in vtocs w) k → IsNamed (vtoc_in (refile vtocs home p (Some r)) w) k
     still w k (e, q, at) = elim (refiled_cases vtocs uid p (Some r) home h w e q) [
       | inl here ↦ absurd (not_none (record_at (vtoc_in vtocs w) e q) k
-          (ap (λ (v : ℕ). record_at (vtoc_in vtocs v) e q) here.0 ∙ ap (λ (g : ℕ). record_at (vtoc_in vtocs home.volume) g q) here.1
+          (ap (λ (v : ℕ). record_at (vtoc_in vtocs v) e q) here.0
+          ∙ ap (λ (g : ℕ). record_at (vtoc_in vtocs home.volume) g q) here.1
           ∙ ap (record_at (vtoc_in vtocs home.volume) home.entry) here.2 ∙ none) at)
       | inr same ↦ (e, q, same ∙ at)
     ]
 
-pub filed_stored : (records : List (List Bool)) (vtocs : List (List (Option Entry))) (uid p r : ℕ) (home : Home) → AreFiled records vtocs
-    → uid_at vtocs home ≡ Some uid → record_at (vtoc_in vtocs home.volume) home.entry p ≡ None → get_or (set (map_at vtocs home) p (Some r)) p None ≡ Some r
-    → IsLeastFree (flags_in records home.volume) r → AreFiled (put records home.volume r true) (refile vtocs home p (Some r))
+pub filed_stored : (records : List (List Bool)) (vtocs : List (List (Option Entry))) (uid p r : ℕ) (home : Home)
+    → AreFiled records vtocs
+    → uid_at vtocs home ≡ Some uid → record_at (vtoc_in vtocs home.volume) home.entry p ≡ None
+    → get_or (set (map_at vtocs home) p (Some r)) p None ≡ Some r
+    → IsLeastFree (flags_in records home.volume) r → AreFiled (put records home.volume r true)
+    (refile vtocs home p (Some r))
 filed_stored records vtocs uid p r home filed h none full least =
     let rl : r < length (flags_in records home.volume) = least.within in
-    filed_of _ _ (used_stored records vtocs uid p r home (used_of records vtocs filed) h least.free (list_within records home.volume r rl) rl)
+    filed_of _ _ (used_stored records vtocs uid p r home (used_of records vtocs filed) h least.free
+    (list_within records home.volume r rl) rl)
     (named_stored records vtocs uid p r home filed h none full rl)
 
 -- each file map names what it named
-pub filed_mapped : (records : List (List Bool)) (vtocs now : List (List (Option Entry))) → ((home : Home) → map_at now home ≡ map_at vtocs home)
+pub filed_mapped : (records : List (List Bool)) (vtocs now : List (List (Option Entry)))
+    → ((home : Home) → map_at now home ≡ map_at vtocs home)
     → AreFiled records vtocs → AreFiled records now
 filed_mapped records vtocs now maps filed =
     filed_of records now
     (used_fewer records vtocs now (used_of records vtocs filed)
-    (λ w g q s at. sym (ap (λ (places : List (Option ℕ)). get_or places q None) (maps (record { volume = w; entry = g }))) ∙ at))
+    (λ w g q s at. sym (ap (λ (places : List (Option ℕ)). get_or places q None)
+    (maps (record { volume = w; entry = g }))) ∙ at))
     (λ w k on. still w k (filed.named w k on))
   where
     still : (w k : ℕ) → IsNamed (vtoc_in vtocs w) k → IsNamed (vtoc_in now w) k
-    still w k (e, q, at) = (e, q, ap (λ (places : List (Option ℕ)). get_or places q None) (maps (record { volume = w; entry = e })) ∙ at)
+    still w k (e, q, at) = (
+      e,
+      q,
+      ap (λ (places : List (Option ℕ)). get_or places q None)
+          (maps (record { volume = w; entry = e })) ∙ at,
+    )
 
 -- an entry that names no record is freed
 pub maps_freed : (vtocs : List (List (Option Entry))) (uid : ℕ) (home other : Home) → uid_at vtocs home ≡ Some uid
-    → (other.volume ≡ home.volume → other.entry ≡ home.entry → ⊥) → map_at (put vtocs home.volume home.entry None) other ≡ map_at vtocs other
+    → (other.volume ≡ home.volume → other.entry ≡ home.entry → ⊥)
+    → map_at (put vtocs home.volume home.entry None) other ≡ map_at vtocs other
 maps_freed vtocs uid home other h n = ap records_in
     (put_other vtocs home.volume home.entry None None other.volume other.entry (volume_within vtocs uid home h) n)
 
-pub filed_freed : (records : List (List Bool)) (vtocs : List (List (Option Entry))) (uid : ℕ) (home : Home) → uid_at vtocs home ≡ Some uid
-    → ((q : ℕ) → get_or (map_at vtocs home) q None ≡ None) → ((q : ℕ) → get_or (records_in None) q None ≡ None) → AreFiled records vtocs
+pub filed_freed : (records : List (List Bool)) (vtocs : List (List (Option Entry))) (uid : ℕ) (home : Home)
+    → uid_at vtocs home ≡ Some uid
+    → ((q : ℕ) → get_or (map_at vtocs home) q None ≡ None) → ((q : ℕ) → get_or (records_in None) q None ≡ None)
+    → AreFiled records vtocs
     → AreFiled records (put vtocs home.volume home.entry None)
 filed_freed records vtocs uid home h gone none filed =
     filed_of records (put vtocs home.volume home.entry None)
-    (used_fewer records vtocs (put vtocs home.volume home.entry None) (used_of records vtocs filed) was) (λ w k on. still w k (filed.named w k on))
+    (used_fewer records vtocs (put vtocs home.volume home.entry None) (used_of records vtocs filed) was)
+    (λ w k on. still w k (filed.named w k on))
   where
-    was : (v e q s : ℕ) → record_at (vtoc_in (put vtocs home.volume home.entry None) v) e q ≡ Some s → record_at (vtoc_in vtocs v) e q ≡ Some s
+    was : (v e q s : ℕ) → record_at (vtoc_in (put vtocs home.volume home.entry None) v) e q ≡ Some s
+        → record_at (vtoc_in vtocs v) e q ≡ Some s
     was v e q s at = elim (at_or_other home.volume home.entry (record { volume = v; entry = e })) [
       | inl here ↦ absurd (not_none (record_at (vtoc_in (put vtocs home.volume home.entry None) v) e q) s
           (rw (here.0, here.1) (ap (λ (entry : Option Entry). get_or (records_in entry) q None)
-          (put_here vtocs home.volume home.entry None None (volume_within vtocs uid home h) (home_within vtocs uid home h)) ∙ none q)) at)
-      | inr n ↦ sym (ap (λ (places : List (Option ℕ)). get_or places q None) (maps_freed vtocs uid home (record { volume = v; entry = e }) h n)) ∙ at
+          (put_here vtocs home.volume home.entry None None (volume_within vtocs uid home h)
+          (home_within vtocs uid home h)) ∙ none q)) at)
+      | inr n ↦ sym (ap (λ (places : List (Option ℕ)). get_or places q None)
+          (maps_freed vtocs uid home (record { volume = v; entry = e }) h n)) ∙ at
     ]
 
     still : (w k : ℕ) → IsNamed (vtoc_in vtocs w) k → IsNamed (vtoc_in (put vtocs home.volume home.entry None) w) k
     still w k (e, q, at) = elim (at_or_other home.volume home.entry (record { volume = w; entry = e })) [
       | inl here ↦ absurd (not_none (record_at (vtoc_in vtocs w) e q) k
-          (ap (λ (v : ℕ). record_at (vtoc_in vtocs v) e q) here.0 ∙ ap (λ (g : ℕ). record_at (vtoc_in vtocs home.volume) g q) here.1 ∙ gone q) at)
-      | inr n ↦ (e, q, ap (λ (places : List (Option ℕ)). get_or places q None) (maps_freed vtocs uid home (record { volume = w; entry = e }) h n) ∙ at)
+          (ap (λ (v : ℕ). record_at (vtoc_in vtocs v) e q) here.0
+          ∙ ap (λ (g : ℕ). record_at (vtoc_in vtocs home.volume) g q) here.1 ∙ gone q) at)
+      | inr n ↦ (
+        e,
+        q,
+        ap (λ (places : List (Option ℕ)). get_or places q None)
+            (maps_freed vtocs uid home (record { volume = w; entry = e }) h n) ∙ at,
+      )
     ]

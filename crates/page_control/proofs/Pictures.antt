@@ -1,5 +1,6 @@
 -- What the words of a page are, where it is in a frame and where it is in none.
-use Rattle.std.proofs.Common.{◌≡◌, ◌≢◌, ◌⊎◌, ℕ, Bool, true, false, List, [], length, Option, None, Some, refl, sym, ap, ◌∙◌, get_or, set, eq-eqb, inl, inr}
+use Rattle.std.proofs.Common.{◌≡◌, ◌≢◌, ◌⊎◌, ℕ, Bool, true, false, List, [], length, Option, None, Some, refl, sym, ap}
+use Rattle.std.proofs.Common.{◌∙◌, get_or, set, eq-eqb, inl, inr}
 use Rattle.std.specs.List.{position}
 use Rattle.std.proofs.lemmas.Bool.Decides.{eqb_tells, leb_tells}
 use Rattle.std.proofs.lemmas.Bool.{cases_eq}
@@ -14,8 +15,10 @@ use Rattle.page_control.proofs.Ties.{not_none, bound_within}
 use Rattle.page_control.proofs.Firsts.{nowhere, position_at_one}
 
 -- the picture is that of its parts
-pub picture_by : (bound old_bound : List (Option (ℕ × ℕ))) (frames old_frames : List (List ℕ)) (disks old_disks : List (List (List ℕ)))
-    (vtocs old_vtocs : List (List (Option Entry))) → bound ≡ old_bound → frames ≡ old_frames → disks ≡ old_disks → vtocs ≡ old_vtocs
+pub picture_by : (bound old_bound : List (Option (ℕ × ℕ))) (frames old_frames : List (List ℕ))
+    (disks old_disks : List (List (List ℕ)))
+    (vtocs old_vtocs : List (List (Option Entry))) → bound ≡ old_bound → frames ≡ old_frames → disks ≡ old_disks
+    → vtocs ≡ old_vtocs
     → words_of_page bound frames disks vtocs ≡ words_of_page old_bound old_frames old_disks old_vtocs
 picture_by bound old_bound frames old_frames disks old_disks vtocs old_vtocs b f d v = rw (b, f, d, v) refl
 
@@ -43,18 +46,23 @@ binding_tells (Some (a, b)) uid p h = elim (eqb_tells a uid) [
 pub binding_is_one : (uid p : ℕ) → is_binding uid p (page uid p) ≡ true
 binding_is_one uid p = rw (eq-eqb uid uid refl, eq-eqb p p refl) refl
 
-pub off_from : (x : Option (ℕ × ℕ)) (uid p : ℕ) (b : Bool) → is_binding uid p x ≡ b → (x ≡ page uid p → ⊥) → is_binding uid p x ≡ false
+pub off_from : (x : Option (ℕ × ℕ)) (uid p : ℕ) (b : Bool) → is_binding uid p x ≡ b → (x ≡ page uid p → ⊥)
+    → is_binding uid p x ≡ false
 off_from x uid p true is other = absurd (other (binding_tells x uid p is))
 off_from x uid p false is other = is
 
 -- a page that no frame is bound to, and one that one frame is bound to
-pub found_nowhere : (bound : List (Option (ℕ × ℕ))) (uid p : ℕ) → ((g : ℕ) → binding_at bound g ≡ page uid p → ⊥) → position (is_binding uid p) bound ≡ None
-found_nowhere bound uid p none = nowhere (is_binding uid p) bound None (λ g. off_from (binding_at bound g) uid p _ refl (none g))
+pub found_nowhere : (bound : List (Option (ℕ × ℕ))) (uid p : ℕ) → ((g : ℕ) → binding_at bound g ≡ page uid p → ⊥)
+    → position (is_binding uid p) bound ≡ None
+found_nowhere bound uid p none = nowhere (is_binding uid p) bound None
+    (λ g. off_from (binding_at bound g) uid p _ refl (none g))
 
-pub found_at : (bound : List (Option (ℕ × ℕ))) (uid p f : ℕ) → binding_at bound f ≡ page uid p → ((g : ℕ) → binding_at bound g ≡ page uid p → g ≡ f)
+pub found_at : (bound : List (Option (ℕ × ℕ))) (uid p f : ℕ) → binding_at bound f ≡ page uid p
+    → ((g : ℕ) → binding_at bound g ≡ page uid p → g ≡ f)
     → position (is_binding uid p) bound ≡ Some f
 found_at bound uid p f here only =
-    position_at_one (is_binding uid p) bound f None (bound_within bound f uid p here) (ap (is_binding uid p) here ∙ binding_is_one uid p)
+    position_at_one (is_binding uid p) bound f None (bound_within bound f uid p here)
+    (ap (is_binding uid p) here ∙ binding_is_one uid p)
     (λ g lt passes. only g (binding_tells (binding_at bound g) uid p passes))
 
 -- their words
@@ -71,26 +79,34 @@ shown_out s uid p home none =
     ap (words_held s.frames (disk_of s home.volume) (filed s home p)) (found_nowhere (bindings s.core) uid p none)
 
 -- one or the other
-pub in_frame_or_out : (s : Plain) (u q : ℕ) (h : Home) (place : Option ℕ) → position (is_binding u q) (bindings s.core) ≡ place
+pub in_frame_or_out : (s : Plain) (u q : ℕ) (h : Home) (place : Option ℕ) → position (is_binding u q) (bindings s.core)
+    ≡ place
     → (IsInFrame (bindings s.core) u q) ⊎ (words_at s u h q ≡ words_out s h q)
 unfolding words_of_page
 in_frame_or_out s u q h None is = inr (ap (words_held s.frames (disk_of s h.volume) (filed s h q)) is)
 in_frame_or_out s u q h (Some g) is =
-    inl (g, binding_tells (binding_at (bindings s.core) g) u q (position-Some (is_binding u q) (bindings s.core) g None is).1)
+    inl (
+      g,
+      binding_tells (binding_at (bindings s.core) g) u q
+          (position-Some (is_binding u q) (bindings s.core) g None is).1,
+    )
 
 -- the words of pages that are in no frame, where the record is the same
-pub filed_same : (disk now : List (List ℕ)) (place : Option ℕ) → ((k : ℕ) → place ≡ Some k → get_or now k [] ≡ get_or disk k [])
+pub filed_same : (disk now : List (List ℕ)) (place : Option ℕ)
+    → ((k : ℕ) → place ≡ Some k → get_or now k [] ≡ get_or disk k [])
     → words_filed now place ≡ words_filed disk place
 filed_same disk now None same = refl
 filed_same disk now (Some k) same = same k refl
 
 -- what a frame is bound to after frame f was bound to x
-pub bound_now : (bound : List (Option (ℕ × ℕ))) (f : ℕ) (x : Option (ℕ × ℕ)) (g : ℕ) (y : ℕ × ℕ) → binding_at (set bound f x) g ≡ Some y
+pub bound_now : (bound : List (Option (ℕ × ℕ))) (f : ℕ) (x : Option (ℕ × ℕ)) (g : ℕ) (y : ℕ × ℕ)
+    → binding_at (set bound f x) g ≡ Some y
     → ((g ≡ f) × (x ≡ Some y)) ⊎ ((g ≢ f) × (binding_at bound g ≡ Some y))
 bound_now bound f x g y is = elim (cases_eq g f) [
   | inl same ↦ elim (leb_tells (length bound) f) [
     | inl past ↦ absurd (not_none (binding_at (set bound f x) g) y
-        (ap (λ (those : List (Option (ℕ × ℕ))). binding_at those g) (set_past bound f x past.1) ∙ ap (binding_at bound) same ∙ get_or_past bound f None past.1)
+        (ap (λ (those : List (Option (ℕ × ℕ))). binding_at those g) (set_past bound f x past.1)
+        ∙ ap (binding_at bound) same ∙ get_or_past bound f None past.1)
         is)
     | inr lt ↦ inl (same, sym (get_or-set_same bound f x None lt.1) ∙ ap (binding_at (set bound f x)) (sym same) ∙ is)
   ]
@@ -98,24 +114,33 @@ bound_now bound f x g y is = elim (cases_eq g f) [
 ]
 
 -- a page that is in a frame stays in it where another frame changes
-pub in_frame_kept : (bound : List (Option (ℕ × ℕ))) (f u q : ℕ) (x : Option (ℕ × ℕ)) → (binding_at bound f ≡ Some (u, q) → ⊥)
+pub in_frame_kept : (bound : List (Option (ℕ × ℕ))) (f u q : ℕ) (x : Option (ℕ × ℕ))
+    → (binding_at bound f ≡ Some (u, q) → ⊥)
     → IsInFrame bound u q → IsInFrame (set bound f x) u q
-in_frame_kept bound f u q x other (g, at) = (g, get_or-set_other bound f g x None (λ e. other (sym (ap (binding_at bound) e) ∙ at)) ∙ at)
+in_frame_kept bound f u q x other (g, at) = (
+  g,
+  get_or-set_other bound f g x None
+      (λ e. other (sym (ap (binding_at bound) e) ∙ at)) ∙ at,
+)
 
 -- the words of a page are those of its parts: the frames, the drives and the file map at its home
-pub words_by : (s now : Plain) (u : ℕ) (h : Home) (q : ℕ) → bindings now.core ≡ bindings s.core → now.frames ≡ s.frames → now.disks ≡ s.disks
+pub words_by : (s now : Plain) (u : ℕ) (h : Home) (q : ℕ) → bindings now.core ≡ bindings s.core → now.frames ≡ s.frames
+    → now.disks ≡ s.disks
     → map_at now.vtocs h ≡ map_at s.vtocs h → words_at now u h q ≡ words_at s u h q
 unfolding words_of_page
 words_by s now u h q bound frames disks map =
-    ap (λ (b : List (Option (ℕ × ℕ))). words_held now.frames (get_or now.disks h.volume []) (get_or (map_at now.vtocs h) q None) (position (is_binding u q) b))
+    ap (λ (b : List (Option (ℕ × ℕ))). words_held now.frames (get_or now.disks h.volume [])
+    (get_or (map_at now.vtocs h) q None) (position (is_binding u q) b))
     bound
     ∙ ap (λ (f : List (List ℕ)). words_held f (get_or now.disks h.volume []) (get_or (map_at now.vtocs h) q None)
     (position (is_binding u q) (bindings s.core))) frames
     ∙ ap (λ (d : List (List (List ℕ))). words_held s.frames (get_or d h.volume []) (get_or (map_at now.vtocs h) q None)
     (position (is_binding u q) (bindings s.core))) disks
-    ∙ ap (λ (m : List (Option ℕ)). words_held s.frames (get_or s.disks h.volume []) (get_or m q None) (position (is_binding u q) (bindings s.core))) map
+    ∙ ap (λ (m : List (Option ℕ)). words_held s.frames (get_or s.disks h.volume []) (get_or m q None)
+    (position (is_binding u q) (bindings s.core))) map
 
-pub out_by : (s now : Plain) (h : Home) (q : ℕ) → now.disks ≡ s.disks → map_at now.vtocs h ≡ map_at s.vtocs h → words_out now h q ≡ words_out s h q
+pub out_by : (s now : Plain) (h : Home) (q : ℕ) → now.disks ≡ s.disks → map_at now.vtocs h ≡ map_at s.vtocs h
+    → words_out now h q ≡ words_out s h q
 out_by s now h q disks map =
     ap (λ (d : List (List (List ℕ))). words_filed (get_or d h.volume []) (get_or (map_at now.vtocs h) q None)) disks
     ∙ ap (λ (m : List (Option ℕ)). words_filed (get_or s.disks h.volume []) (get_or m q None)) map

@@ -1,5 +1,6 @@
 -- A change of one place of a list of lists, and of one entry of the VTOCs.
-use Rattle.std.proofs.Common.{◌≡◌, ◌≢◌, ◌⊎◌, ℕ, ◌<◌, List, [], length, Option, None, Some, refl, ap, ◌∙◌, arith, get_or, set, inl, inr}
+use Rattle.std.proofs.Common.{◌≡◌, ◌≢◌, ◌⊎◌, ℕ, ◌<◌, List, [], length, Option, None, Some, refl, ap, ◌∙◌, arith}
+use Rattle.std.proofs.Common.{get_or, set, inl, inr}
 use Rattle.std.proofs.lemmas.Bool.{cases_eq}
 use Rattle.std.proofs.lemmas.Bool.Decides.{leb_tells}
 use Rattle.std.proofs.lemmas.List.{get_or-set_same, get_or-set_other, get_or_past, set_past}
@@ -16,7 +17,8 @@ put xs v e x = set xs v (set (get_or xs v []) e x)
 pub put_here : {X : Type 0} (xs : List (List X)) (v e : ℕ) (x d : X) → v < length xs → e < length (get_or xs v [])
     → get_or (get_or (put xs v e x) v []) e d ≡ x
 put_here xs v e x d vl el =
-    ap (λ (ys : List _). get_or ys e d) (get_or-set_same xs v (set (get_or xs v []) e x) [] vl) ∙ get_or-set_same (get_or xs v []) e x d el
+    ap (λ (ys : List _). get_or ys e d) (get_or-set_same xs v (set (get_or xs v []) e x) [] vl)
+    ∙ get_or-set_same (get_or xs v []) e x d el
 
 pub put_other : {X : Type 0} (xs : List (List X)) (v e : ℕ) (x d : X) (w g : ℕ) → v < length xs → (w ≡ v → g ≡ e → ⊥)
     → get_or (get_or (put xs v e x) w []) g d ≡ get_or (get_or xs w []) g d
@@ -29,24 +31,28 @@ put_other xs v e x d w g vl other = elim (cases_eq w v) [
 
 -- a list that has a place is there
 pub list_within : {X : Type 0} (xs : List (List X)) (v e : ℕ) → e < length (get_or xs v []) → v < length xs
-list_within xs v e lt = within_from xs v [] (λ none. (let no : length (get_or xs v []) ≡ 0 = ap length none in omega (arith, no, lt)))
+list_within xs v e lt = within_from xs v [] (λ none. (let no : length (get_or xs v []) ≡ 0 =
+    ap length none in omega (arith, no, lt)))
 
 -- a place that holds None, or one number
 pub none_put : {X : Type 0} (xs : List (Option X)) (p : ℕ) → get_or (set xs p None) p None ≡ None
 none_put xs p = elim (leb_tells (length xs) p) [
-  | inl past ↦ ap (λ (ys : List (Option _)). get_or ys p None) (set_past xs p None past.1) ∙ get_or_past xs p None past.1
+  | inl past ↦ ap (λ (ys : List (Option _)). get_or ys p None) (set_past xs p None past.1)
+      ∙ get_or_past xs p None past.1
   | inr lt ↦ get_or-set_same xs p None None lt.1
 ]
 
 pub some_put : (xs : List (Option ℕ)) (p r s : ℕ) → get_or (set xs p (Some r)) p None ≡ Some s → s ≡ r
 some_put xs p r s is = elim (leb_tells (length xs) p) [
   | inl past ↦ absurd (not_none (get_or (set xs p (Some r)) p None) s
-      (ap (λ (ys : List (Option ℕ)). get_or ys p None) (set_past xs p (Some r) past.1) ∙ get_or_past xs p None past.1) is)
+      (ap (λ (ys : List (Option ℕ)). get_or ys p None) (set_past xs p (Some r) past.1) ∙ get_or_past xs p None past.1)
+      is)
   | inr lt ↦ frame_same (get_or (set xs p (Some r)) p None) s r is (get_or-set_same xs p (Some r) None lt.1)
 ]
 
 -- each home is that of entry e, or another
-pub at_or_other : (v e : ℕ) (other : Home) → ((other.volume ≡ v) × (other.entry ≡ e)) ⊎ (other.volume ≡ v → other.entry ≡ e → ⊥)
+pub at_or_other : (v e : ℕ) (other : Home) → ((other.volume ≡ v) × (other.entry ≡ e))
+    ⊎ (other.volume ≡ v → other.entry ≡ e → ⊥)
 at_or_other v e other = elim (cases_eq other.volume v) [
   | inl i ↦ elim (cases_eq other.entry e) [ inl j ↦ inl (i, j) | inr n ↦ inr (λ _ k. n k) ]
   | inr n ↦ inr (λ k _. n k)
@@ -68,15 +74,18 @@ other_home home other n v e = n (one_home home other (v, e))
 pub home_within : (vtocs : List (List (Option Entry))) (uid : ℕ) (home : Home) → uid_at vtocs home ≡ Some uid
     → home.entry < length (vtoc_in vtocs home.volume)
 home_within vtocs uid home used =
-    within_from (vtoc_in vtocs home.volume) home.entry None (λ none. not_none (uid_at vtocs home) uid (ap uid_of none) used)
+    within_from (vtoc_in vtocs home.volume) home.entry None
+    (λ none. not_none (uid_at vtocs home) uid (ap uid_of none) used)
 
-pub volume_within : (vtocs : List (List (Option Entry))) (uid : ℕ) (home : Home) → uid_at vtocs home ≡ Some uid → home.volume < length vtocs
+pub volume_within : (vtocs : List (List (Option Entry))) (uid : ℕ) (home : Home) → uid_at vtocs home ≡ Some uid
+    → home.volume < length vtocs
 volume_within vtocs uid home used =
     within_from vtocs home.volume [] (λ none. not_none (uid_at vtocs home) uid
     (ap (λ (table : List (Option Entry)). uid_of (entry_at table home.entry)) none) used)
 
 -- two segments of one home are one
-pub one_uid : (vtocs : List (List (Option Entry))) (u uid : ℕ) (h home : Home) → uid_at vtocs h ≡ Some u → uid_at vtocs home ≡ Some uid → h ≡ home → u ≡ uid
+pub one_uid : (vtocs : List (List (Option Entry))) (u uid : ℕ) (h home : Home) → uid_at vtocs h ≡ Some u
+    → uid_at vtocs home ≡ Some uid → h ≡ home → u ≡ uid
 one_uid vtocs u uid h home its used same = frame_same (uid_at vtocs h) u uid its (ap (uid_at vtocs) same ∙ used)
 
 -- what an entry says after its file map names another record for page p
@@ -96,30 +105,38 @@ used_map (Some entry) uid p place used = refl
 
 -- the file map at a home names another record for page p, or none
 abbrev pub refile : List (List (Option Entry)) → Home → ℕ → Option ℕ → List (List (Option Entry))
-refile vtocs home p place = put vtocs home.volume home.entry (with_record (entry_at (vtoc_in vtocs home.volume) home.entry) p place)
+refile vtocs home p place = put vtocs home.volume home.entry
+    (with_record (entry_at (vtoc_in vtocs home.volume) home.entry) p place)
 
-pub map_refiled : (vtocs : List (List (Option Entry))) (uid p : ℕ) (place : Option ℕ) (home : Home) → uid_at vtocs home ≡ Some uid
+pub map_refiled : (vtocs : List (List (Option Entry))) (uid p : ℕ) (place : Option ℕ) (home : Home) → uid_at vtocs home
+    ≡ Some uid
     → map_at (refile vtocs home p place) home ≡ set (map_at vtocs home) p place
 map_refiled vtocs uid p place home used =
-    ap records_in (put_here vtocs home.volume home.entry (with_record (entry_at (vtoc_in vtocs home.volume) home.entry) p place) None
+    ap records_in (put_here vtocs home.volume home.entry
+    (with_record (entry_at (vtoc_in vtocs home.volume) home.entry) p place) None
     (volume_within vtocs uid home used) (home_within vtocs uid home used))
     ∙ used_map (entry_at (vtoc_in vtocs home.volume) home.entry) uid p place used
 
-pub maps_refiled : (vtocs : List (List (Option Entry))) (uid p : ℕ) (place : Option ℕ) (home other : Home) → uid_at vtocs home ≡ Some uid → other ≢ home
+pub maps_refiled : (vtocs : List (List (Option Entry))) (uid p : ℕ) (place : Option ℕ) (home other : Home)
+    → uid_at vtocs home ≡ Some uid → other ≢ home
     → map_at (refile vtocs home p place) other ≡ map_at vtocs other
 maps_refiled vtocs uid p place home other used n =
-    ap records_in (put_other vtocs home.volume home.entry (with_record (entry_at (vtoc_in vtocs home.volume) home.entry) p place) None
+    ap records_in (put_other vtocs home.volume home.entry
+    (with_record (entry_at (vtoc_in vtocs home.volume) home.entry) p place) None
     other.volume other.entry (volume_within vtocs uid home used) (other_home home other n))
 
-pub uids_refiled : (vtocs : List (List (Option Entry))) (uid p : ℕ) (place : Option ℕ) (home other : Home) → uid_at vtocs home ≡ Some uid
+pub uids_refiled : (vtocs : List (List (Option Entry))) (uid p : ℕ) (place : Option ℕ) (home other : Home)
+    → uid_at vtocs home ≡ Some uid
     → uid_at (refile vtocs home p place) other ≡ uid_at vtocs other
 uids_refiled vtocs uid p place home other used =
     let entry : Option Entry = entry_at (vtoc_in vtocs home.volume) home.entry in
     elim (at_or_other home.volume home.entry other) [
       | inl at ↦ rw (at.0, at.1)
-          (ap uid_of (put_here vtocs home.volume home.entry (with_record entry p place) None (volume_within vtocs uid home used)
+          (ap uid_of (put_here vtocs home.volume home.entry (with_record entry p place) None
+          (volume_within vtocs uid home used)
           (home_within vtocs uid home used))
           ∙ same_uid entry p place)
-      | inr n ↦ ap uid_of (put_other vtocs home.volume home.entry (with_record entry p place) None other.volume other.entry (volume_within vtocs uid home used)
+      | inr n ↦ ap uid_of (put_other vtocs home.volume home.entry (with_record entry p place) None other.volume
+          other.entry (volume_within vtocs uid home used)
           n)
     ]

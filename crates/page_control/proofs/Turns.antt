@@ -1,5 +1,6 @@
 -- What a turn of the clock keeps of the frames.
-use Rattle.std.proofs.Common.{◌≡◌, ℕ, ◌<◌, true, false, List, length, Option, None, Some, refl, sym, ap, ◌∙◌, arith, inl, inr}
+use Rattle.std.proofs.Common.{◌≡◌, ℕ, ◌<◌, true, false, List, length, Option, None, Some, refl, sym, ap, ◌∙◌, arith}
+use Rattle.std.proofs.Common.{inl, inr}
 use Rattle.std.proofs.lemmas.Bool.Decides.{leb_tells}
 use Rattle.std.proofs.lemmas.List.{ext_get_or, length-map}
 use Rattle.core_map.specs.declared.Frame.{Frame}
@@ -19,15 +20,18 @@ bound_inside core f bound = within_from core.frames f Free (λ free. bound_not_f
 pub inside_from : (core : Core) (f : ℕ) (y : ℕ × ℕ) → binding_at (bindings core) f ≡ Some y → f < length core.frames
 inside_from core f y at = bound_inside core f (bound_from_page (frame_at core f) y.0 y.1 (sym (binding_is core f) ∙ at))
 
-kept_turned : {X : Type 0} (t : Frame → X) (old : Core) (frames : List Frame) (f i : ℕ) → ((frame : Frame) → t (unmarked frame) ≡ t frame)
+kept_turned : {X : Type 0} (t : Frame → X) (old : Core) (frames : List Frame) (f i : ℕ)
+    → ((frame : Frame) → t (unmarked frame) ≡ t frame)
     → PassesOver old frames f
     → i < length old.frames → t (frame_in frames i) ≡ t (frame_at old i)
-kept_turned t old frames f i same over lt = elim (leb_tells (way (length old.frames) old.hand f) (way (length old.frames) old.hand i)) [
-  | inl far ↦ ap t (over.others i lt far.1)
-  | inr near ↦ ap t (over.passed i lt near.1) ∙ same (frame_at old i)
-]
+kept_turned t old frames f i same over lt = elim (leb_tells (way (length old.frames) old.hand f)
+    (way (length old.frames) old.hand i)) [
+      | inl far ↦ ap t (over.others i lt far.1)
+      | inr near ↦ ap t (over.passed i lt near.1) ∙ same (frame_at old i)
+    ]
 
-pub kept_chosen : {X : Type 0} (t : Frame → X) (old new : Core) (f i : ℕ) → ((frame : Frame) → t (unmarked frame) ≡ t frame) → IsClockChoice old new f
+pub kept_chosen : {X : Type 0} (t : Frame → X) (old new : Core) (f i : ℕ)
+    → ((frame : Frame) → t (unmarked frame) ≡ t frame) → IsClockChoice old new f
     → i < length old.frames
     → t (frame_at new i) ≡ t (frame_at old i)
 kept_chosen t old new f i same choice lt = elim choice.turn [
@@ -44,7 +48,8 @@ page_unmarked (Bound u q used modified) = refl
 pub bindings_chosen : (old new : Core) (f : ℕ) → IsClockChoice old new f → bindings new ≡ bindings old
 bindings_chosen old new f choice =
     let none : Option (ℕ × ℕ) = None in
-    let count : length (bindings new) ≡ length (bindings old) = length-map new.frames bound_page ∙ choice.count ∙ sym (length-map old.frames bound_page) in
+    let count : length (bindings new) ≡ length (bindings old) = length-map new.frames bound_page ∙ choice.count
+    ∙ sym (length-map old.frames bound_page) in
     ext_get_or none (bindings new) (bindings old) count
     (λ i lt. (let long : length (bindings new) ≡ length new.frames = length-map new.frames bound_page in
     let inside : i < length old.frames = omega (arith, lt, long, choice.count) in

@@ -3,9 +3,10 @@ use Rattle.std.specs.Prelude.{◌≡◌, ◌≤◌, ℕ, List, Result, OnErr, le
 use Rattle.site_io.specs.Faults.{Rose}
 use Rattle.volumes.specs.Volumes.{KeepsOthers, faults_at}
 
--- Every drive but that of volume v is as before, and so are the plans and the places of all; their faults don't fall, and
--- where the call failed the faults of that drive rose. The three meanings are the drive's.
-pub record CallsDrive {D Plan T E : Type 0} (plan : D → Plan) (places faults : D → ℕ) (old new : List D) (v : ℕ) (result : Result T E) : Type 0 where
+-- Every drive but that of volume v is as before, and so are the plans and the places of all; their faults don't fall,
+-- and where the call failed the faults of that drive rose. The three meanings are the drive's.
+pub record CallsDrive {D Plan T E : Type 0} (plan : D → Plan) (places faults : D → ℕ) (old new : List D) (v : ℕ)
+    (result : Result T E) : Type 0 where
   pub plans : map plan new ≡ map plan old
   pub stores : map places new ≡ map places old
   pub count : length new ≡ length old

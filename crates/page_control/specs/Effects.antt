@@ -1,5 +1,6 @@
 -- What each call of page control does (Bensoussan, Clingen and Daley 1972).
-use Rattle.std.specs.Prelude.{◌≡◌, ◌⊎◌, ℕ, ◌-◌, List, [], ◌∷◌, ◌++◌, drop, Bool, true, false, if◌then◌else◌, Option, None, Some, Result, Ok, Err, replicate}
+use Rattle.std.specs.Prelude.{◌≡◌, ◌⊎◌, ℕ, ◌-◌, List, [], ◌∷◌, ◌++◌, drop, Bool, true, false, if◌then◌else◌, Option}
+use Rattle.std.specs.Prelude.{None, Some, Result, Ok, Err, replicate}
 use Rattle.std.specs.Prelude.{take, slice_set}
 use Rattle.bitmap.specs.Bitmap.{least_free}
 use Rattle.core_map.specs.declared.Frame.{Frame}
@@ -13,7 +14,8 @@ use Rattle.volumes.specs.Volumes.{with_page}
 use Rattle.page_control.specs.declared.Home.{Home}
 use Rattle.page_control.specs.declared.Left.{Left}
 use Rattle.page_control.specs.declared.Left.TheVariants.{Released, Kept}
-use Rattle.page_control.specs.Plain.{Plain, frame_in, words_in, flags_of, vtoc_of, words_on, entry_of, file_map_of, record_of, number_or_zero}
+use Rattle.page_control.specs.Plain.{Plain, frame_in, words_in, flags_of, vtoc_of, words_on, entry_of, file_map_of}
+use Rattle.page_control.specs.Plain.{record_of, number_or_zero}
 
 -- frame f becomes what is given
 abbrev pub framed : Plain → ℕ → Frame → Plain
@@ -38,7 +40,8 @@ cut s f at = worded (referred s f true) f (take at (words_in s f) ++ replicate (
 -- the file map at a home names this record for page p, or none
 abbrev pub refiled : Plain → Home → ℕ → Option ℕ → Plain
 refiled s home p place = record s {
-  vtocs = slice_set s.vtocs home.volume (slice_set (vtoc_of s home.volume) home.entry (with_record (entry_of s home) p place));
+  vtocs = slice_set s.vtocs home.volume (slice_set (vtoc_of s home.volume) home.entry
+      (with_record (entry_of s home) p place));
 }
 
 -- whether record r of volume v is in use becomes what is given
@@ -56,7 +59,10 @@ brought_in s uid p v r f = worded (framed s f (Bound uid p false false)) f (word
 -- the drives after the page of frame f is written to record r of volume v, which is needed only where its modified mark
 -- is on
 abbrev pub saved : Plain → ℕ → ℕ → ℕ → Plain
-saved s f v r = record s { disks = if is_modified (frame_in s f) then with_page s.disks v r (words_in s f) else s.disks }
+saved s f v r = record s {
+  disks = if is_modified (frame_in s f) then with_page s.disks v r (words_in s f)
+      else s.disks;
+}
 
 -- the page in frame f is all zeros, or as its record has it
 abbrev pub NeedsNoWrite : Plain → ℕ → Type 0

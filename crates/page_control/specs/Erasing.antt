@@ -12,5 +12,6 @@ pub record IsPartErased (old now : Plain) (uid : ℕ) (home : Home) (n : ℕ) : 
   pub gone : (p : ℕ) → p < n → filed now home p ≡ None
   pub at : uid_at now.vtocs home ≡ Some uid
   pub records : AreFiled now.records now.vtocs
-  pub count : taken old.records home.volume + count_by is_some (map_at now.vtocs home) ≡ taken now.records home.volume + count_by is_some
+  pub count : taken old.records home.volume + count_by is_some (map_at now.vtocs home)
+      ≡ taken now.records home.volume + count_by is_some
       (map_at old.vtocs home)

@@ -1,6 +1,7 @@
--- What the frames, the records and the VTOCs stand for: the words of each page of a segment at its home, and which of its
--- pages are stored (Bensoussan, Clingen and Daley 1972; that a page of zeros has no record is Organick 1972).
-use Rattle.std.specs.Prelude.{◌≡◌, ℕ, true, ◌==◌, ◌&&◌, if◌then◌else◌, Bool, false, List, [], Option, None, Some, is_some, replicate, position, slice_index_or}
+-- What the frames, the records and the VTOCs stand for: the words of each page of a segment at its home, and which of
+-- its pages are stored (Bensoussan, Clingen and Daley 1972; that a page of zeros has no record is Organick 1972).
+use Rattle.std.specs.Prelude.{◌≡◌, ℕ, true, ◌==◌, ◌&&◌, if◌then◌else◌, Bool, false, List, [], Option, None, Some}
+use Rattle.std.specs.Prelude.{is_some, replicate, position, slice_index_or}
 use Rattle.vtoc.specs.Vtoc.{Entry, record_at}
 use Rattle.page_control.specs.declared.Home.{Home}
 use Rattle.page_control.specs.declared.Left.{Left}
@@ -27,9 +28,10 @@ abbrev pub words_held : List (List ℕ) → List (List ℕ) → Option ℕ → O
 words_held frames disk place None = words_filed disk place
 words_held frames disk place (Some f) = slice_index_or frames f []
 
--- the words of page p of segment uid at a home, by what the frames are bound to, their words, the pages of the drives and
--- the VTOCs
-unfoldable pub words_of_page : List (Option (ℕ × ℕ)) → List (List ℕ) → List (List (List ℕ)) → List (List (Option Entry)) → ℕ → Home → ℕ → List ℕ
+-- the words of page p of segment uid at a home, by what the frames are bound to, their words, the pages of the drives
+-- and the VTOCs
+unfoldable pub words_of_page : List (Option (ℕ × ℕ)) → List (List ℕ) → List (List (List ℕ))
+    → List (List (Option Entry)) → ℕ → Home → ℕ → List ℕ
 words_of_page bound frames disks vtocs uid home p =
     words_held frames (slice_index_or disks home.volume []) (record_at (vtoc_in vtocs home.volume) home.entry p)
     (position (is_binding uid p) bound)
@@ -62,8 +64,8 @@ abbrev pub stored_after : (ℕ → ℕ → Bool) → ℕ → ℕ → Left → �
 stored_after stored uid p Released = changed_at stored uid p false
 stored_after stored uid p Kept = stored
 
--- Entry h is used for segment u; and where u is segment uid, h is this home of it. While a segment moves, it has two homes
--- and one set of frames, so a call that concerns one of them says nothing of the other.
+-- Entry h is used for segment u; and where u is segment uid, h is this home of it. While a segment moves, it has two
+-- homes and one set of frames, so a call that concerns one of them says nothing of the other.
 pub record AreHomes (vtocs : List (List (Option Entry))) (uid : ℕ) (home : Home) (u : ℕ) (h : Home) : Type 0 where
   pub used : uid_at vtocs h ≡ Some u
   pub own : u ≡ uid → h ≡ home

@@ -1,5 +1,6 @@
 -- What ties page tables, homes and frames together (Bensoussan, Clingen and Daley 1972).
-use Rattle.std.specs.Prelude.{◌≡◌, ◌≢◌, ◌≤◌, ℕ, Bool, true, false, List, [], Option, None, Some, is_some, length, slice_index_or}
+use Rattle.std.specs.Prelude.{◌≡◌, ◌≢◌, ◌≤◌, ℕ, Bool, true, false, List, [], Option, None, Some, is_some, length}
+use Rattle.std.specs.Prelude.{slice_index_or}
 use Rattle.core_map.specs.CoreMap.{Core, frame_at, is_bound}
 use Rattle.core_map.specs.declared.Frame.{Frame}
 use Rattle.core_map.specs.declared.Frame.TheVariants.{Free, Started, Bound}
@@ -63,8 +64,8 @@ pub record IsTableOf (bound : List (Option (ℕ × ℕ))) (uid : ℕ) (table : L
   pub named : (f p : ℕ) → binding_at bound f ≡ Some (uid, p) → frame_of (ptw_at table p) ≡ Some f
   pub back : (f p : ℕ) → frame_of (ptw_at table p) ≡ Some f → binding_at bound f ≡ Some (uid, p)
 
--- a file map names a record for exactly the pages whose word isn't `Null`, and for a word `Out` the record that the word
--- names
+-- a file map names a record for exactly the pages whose word isn't `Null`, and for a word `Out` the record that the
+-- word names
 pub record IsMapOf (places : List (Option ℕ)) (table : List Ptw) : Type 0 where
   pub stored : (p : ℕ) → is_some (slice_index_or places p None) ≡ has_record (ptw_at table p)
   pub out : (p r : ℕ) → ptw_at table p ≡ Out r → slice_index_or places p None ≡ Some r

@@ -6,7 +6,8 @@ use Rattle.page_table.specs.declared.Ptw.{Ptw}
 use Rattle.page_table.specs.declared.Ptw.TheVariants.{Null, Out}
 use Rattle.page_control.specs.declared.Home.{Home}
 use Rattle.page_control.specs.Plain.{Plain, bindings, binding_at, frame_in, words_in, words_on}
-use Rattle.page_control.specs.Tied.{IsTableOf, IsMapOf, AreFiled, IsInFrame, IsBoundTo, uid_at, map_at, frame_of, has_record, is_out}
+use Rattle.page_control.specs.Tied.{IsTableOf, IsMapOf, AreFiled, IsInFrame, IsBoundTo, uid_at, map_at, frame_of}
+use Rattle.page_control.specs.Tied.{has_record, is_out}
 use Rattle.page_control.specs.Picture.{words_at, words_out, is_stored}
 use Rattle.page_control.specs.Counts.{taken}
 
@@ -41,8 +42,9 @@ pub record IsSeen (s : Plain) (uid : ℕ) (home : Home) (p : ℕ) (word : Ptw) :
   pub frame : (f : ℕ) → frame_of word ≡ Some f → IsBoundTo (frame_in s f) uid p
   pub words : (f : ℕ) → frame_of word ≡ Some f → words_at s uid home p ≡ words_in s f
 
--- What a call that concerns segment uid at a home keeps: every entry is used for the segment that it was used for; every
--- other file map is as before; and the page table of every other segment is still its table, with all that is true of it.
+-- What a call that concerns segment uid at a home keeps: every entry is used for the segment that it was used for;
+-- every other file map is as before; and the page table of every other segment is still its table, with all that is
+-- true of it.
 pub record KeepsOthers (old new : Plain) (uid : ℕ) (home : Home) : Type 0 where
   pub uids : (other : Home) → uid_at new.vtocs other ≡ uid_at old.vtocs other
   pub maps : (other : Home) → other ≢ home → map_at new.vtocs other ≡ map_at old.vtocs other

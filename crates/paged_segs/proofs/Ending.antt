@@ -1,5 +1,6 @@
 -- The volumes once every frame is free.
-use Rattle.std.proofs.Common.{◌≡◌, ◌≢◌, ◌≤◌, ◌⊎◌, ℕ, ◌+◌, ◌-◌, ◌<◌, Bool, true, false, List, [], length, inl, inr, Option, None, Some, refl, sym, ap, ◌∙◌}
+use Rattle.std.proofs.Common.{◌≡◌, ◌≢◌, ◌≤◌, ◌⊎◌, ℕ, ◌+◌, ◌-◌, ◌<◌, Bool, true, false, List, [], length, inl, inr}
+use Rattle.std.proofs.Common.{Option, None, Some, refl, sym, ap, ◌∙◌}
 use Rattle.std.proofs.Common.{subst, arith}
 use Rattle.core_map.specs.declared.Frame.TheVariants.{Free}
 use Rattle.core_map.specs.CoreMap.{frame_at, bound_page}
@@ -19,8 +20,10 @@ use Rattle.paged_segs.proofs.Showing.{picture_at, stored_at, stored_none}
 not_none : {A : Type 0} (x : Option A) (a : A) → x ≡ None → x ≡ Some a → ⊥
 not_none x a h i = cc
 
-pub none_bound : (s : Plain) → ((f : ℕ) → frame_at s.core f ≡ Free) → (uid p : ℕ) → IsInFrame (bindings s.core) uid p → ⊥
-none_bound s free uid p (f, at) = not_none (binding_at (bindings s.core) f) (uid, p) (binding_is s.core f ∙ ap bound_page (free f)) at
+pub none_bound : (s : Plain) → ((f : ℕ) → frame_at s.core f ≡ Free) → (uid p : ℕ) → IsInFrame (bindings s.core) uid p
+    → ⊥
+none_bound s free uid p (f, at) = not_none (binding_at (bindings s.core) f) (uid, p)
+    (binding_is s.core f ∙ ap bound_page (free f)) at
 
 -- each page is on its record
 pub words_left : (s : Segs) (home : Home) (uid p : ℕ) → IsKept s → uid_at s.storage.vtocs home ≡ Some uid
@@ -28,18 +31,22 @@ pub words_left : (s : Segs) (home : Home) (uid p : ℕ) → IsKept s → uid_at 
     → picture s uid p ≡ words_out s.storage home p
 words_left s home uid p k used away = picture_at s uid p home (k.owners home uid used) ∙ away
 
-pub stored_left : (s : Segs) (home : Home) (uid p : ℕ) → IsKept s → uid_at s.storage.vtocs home ≡ Some uid → is_stored s uid p ≡ is_filed s.storage home p
+pub stored_left : (s : Segs) (home : Home) (uid p : ℕ) → IsKept s → uid_at s.storage.vtocs home ≡ Some uid
+    → is_stored s uid p ≡ is_filed s.storage home p
 stored_left s home uid p k used = stored_at s uid p home (k.owners home uid used)
 
 -- and one that is stored is not all zeros
-loose : (s : Segs) (uid p : ℕ) (home : Home) (t : List Ptw) → ((f : ℕ) → frame_at s.storage.core f ≡ Free) → IsTied s.storage uid home t
+loose : (s : Segs) (uid p : ℕ) (home : Home) (t : List Ptw) → ((f : ℕ) → frame_at s.storage.core f ≡ Free)
+    → IsTied s.storage uid home t
     → home_of s.homes uid ≡ Some home
     → is_stored s uid p ≡ true → AreZero (picture s uid p) → ⊥
 loose s uid p home t free tie its stored all =
-    none_bound s.storage free uid p (tie.zeros p (sym (stored_at s uid p home its) ∙ stored) (subst AreZero (picture_at s uid p home its) all))
+    none_bound s.storage free uid p (tie.zeros p (sym (stored_at s uid p home its) ∙ stored)
+    (subst AreZero (picture_at s uid p home its) all))
 
 -- the tie of a home that there is
-tie_there : (s : Segs) (uid : ℕ) (home : Home) → IsKept s → home_of s.homes uid ≡ Some home → (t : List Ptw) × IsTied s.storage uid home t
+tie_there : (s : Segs) (uid : ℕ) (home : Home) → IsKept s → home_of s.homes uid ≡ Some home → (t : List Ptw)
+    × IsTied s.storage uid home t
 tie_there s uid home k is = by (which uid)
   where
     by : (uid ≡ 0) ⊎ ((uid ≡ 1) ⊎ ((i : ℕ) × (uid ≡ i + 2))) → (t : List Ptw) × IsTied s.storage uid home t
@@ -47,7 +54,8 @@ tie_there s uid home k is = by (which uid)
     by (inr (inl one)) = (
       [],
       subst (λ (n : ℕ). IsTied s.storage n home []) (sym one)
-          (subst (λ (h : Home). IsTied s.storage 1 h []) (same_home root_home home (sym (root_at s.homes uid one) ∙ is)) k.root),
+          (subst (λ (h : Home). IsTied s.storage 1 h [])
+          (same_home root_home home (sym (root_at s.homes uid one) ∙ is)) k.root),
     )
     by (inr (inr (i, at))) =
         let found = segment_found s.homes i home (sym (segment_at s.homes uid i at) ∙ is) in (
@@ -60,7 +68,8 @@ owner_of : (s : Segs) (home : Home) (uid : ℕ) → home_of s.homes uid ≡ Some
     → (2 ≤ uid) × (uid < length s.homes + 2) × (home ≡ home_at s.homes (uid - 2))
 owner_of s home uid is n = by (which uid)
   where
-    by : (uid ≡ 0) ⊎ ((uid ≡ 1) ⊎ ((i : ℕ) × (uid ≡ i + 2))) → (2 ≤ uid) × (uid < length s.homes + 2) × (home ≡ home_at s.homes (uid - 2))
+    by : (uid ≡ 0) ⊎ ((uid ≡ 1) ⊎ ((i : ℕ) × (uid ≡ i + 2))) → (2 ≤ uid) × (uid < length s.homes + 2)
+        × (home ≡ home_at s.homes (uid - 2))
     by (inl nobody) = absurd (not_none (home_of s.homes uid) home (none_at s.homes uid nobody) is)
     by (inr (inl one)) = absurd (n one)
     by (inr (inr (i, at))) =
@@ -72,7 +81,8 @@ owner_of s home uid is n = by (which uid)
 off_and_on : (b : Bool) → b ≡ false → b ≡ true → ⊥
 off_and_on b off on = cc
 
-pub none_zeros : (s : Segs) (uid p : ℕ) → IsKept s → ((f : ℕ) → frame_at s.storage.core f ≡ Free) → is_stored s uid p ≡ true → AreZero (picture s uid p) → ⊥
+pub none_zeros : (s : Segs) (uid p : ℕ) → IsKept s → ((f : ℕ) → frame_at s.storage.core f ≡ Free) → is_stored s uid p
+    ≡ true → AreZero (picture s uid p) → ⊥
 none_zeros s uid p k free stored all = by_home (home_of s.homes uid) refl
   where
     by_home : (x : Option Home) → home_of s.homes uid ≡ x → ⊥

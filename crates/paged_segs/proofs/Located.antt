@@ -1,5 +1,6 @@
 -- What is known of a segment, and of the page in a bound frame.
-use Rattle.std.proofs.Common.{◌≡◌, ◌≢◌, ℕ, zero, suc, ◌+◌, ◌-◌, ◌^◌, ◌<◌, ◌≤◌, Bool, true, false, cond, eqb, ◌⊎◌, List, [], ◌∷◌, length, sum_by, count_by}
+use Rattle.std.proofs.Common.{◌≡◌, ◌≢◌, ℕ, zero, suc, ◌+◌, ◌-◌, ◌^◌, ◌<◌, ◌≤◌, Bool, true, false, cond, eqb, ◌⊎◌, List}
+use Rattle.std.proofs.Common.{[], ◌∷◌, length, sum_by, count_by}
 use Rattle.std.proofs.Common.{get_or, is_some, Option, Some, None, refl, sym, ap, ◌∙◌, arith, inl, inr, subst}
 use Rattle.std.proofs.lemmas.Bool.Decides.{leb_tells}
 use Rattle.std.proofs.lemmas.Bool.{le-leb}
@@ -46,14 +47,17 @@ pub uid_fits : (s : Segs) (i : ℕ) → IsKept s → i < length s.homes → i + 
 uid_fits s i k il = (let more = homes_within s k in let few = k.few in omega (arith, il, more, few))
 
 -- the table that the steps of a call find
-pub table_read : (s : Segs) (i : ℕ) (table : List Ptw) → IsKept s → i < length s.homes → table ≡ get_or s.tables i table → table ≡ table_at s.tables i
+pub table_read : (s : Segs) (i : ℕ) (table : List Ptw) → IsKept s → i < length s.homes → table
+    ≡ get_or s.tables i table → table ≡ table_at s.tables i
 table_read s i table k il is = is ∙ get_or_default s.tables i table [] (place_within s i k il)
 
-pub table_long : (s : Segs) (i : ℕ) (table : List Ptw) → IsKept s → i < length s.homes → table ≡ get_or s.tables i table → length table ≡ 256
+pub table_long : (s : Segs) (i : ℕ) (table : List Ptw) → IsKept s → i < length s.homes → table
+    ≡ get_or s.tables i table → length table ≡ 256
 table_long s i table k il is = ap length (table_read s i table k il is) ∙ k.lengths i (place_within s i k il)
 
 -- the tie of a segment, of whose table the steps of a call found the words
-pub tie_found : (s : Segs) (i : ℕ) (home : Home) (table : List Ptw) → IsKept s → i < length s.homes → home ≡ home_at s.homes i → table ≡ get_or s.tables i table
+pub tie_found : (s : Segs) (i : ℕ) (home : Home) (table : List Ptw) → IsKept s → i < length s.homes → home
+    ≡ home_at s.homes i → table ≡ get_or s.tables i table
     → IsTied s.storage (i + 2) home table
 tie_found s i home table k il at is = rw (at, table_read s i table k il is) (k.tied i il)
 
@@ -75,7 +79,8 @@ home_of_segment : (homes : List Home) (i : ℕ) → home_of homes (i + 2) ≡ se
 unfolding home_of
 home_of_segment homes i =
     let back : (i + 2) - 2 ≡ i = omega arith in
-    ap (λ (b : Bool). cond b (segment_home homes ((i + 2) - 2)) (cond (eqb (i + 2) 1) (Some root_home) None)) (le-leb 2 (i + 2) (omega arith))
+    ap (λ (b : Bool). cond b (segment_home homes ((i + 2) - 2)) (cond (eqb (i + 2) 1) (Some root_home) None))
+    (le-leb 2 (i + 2) (omega arith))
     ∙ ap (segment_home homes) back
 
 pub none_at : (homes : List Home) (uid : ℕ) → uid ≡ 0 → home_of homes uid ≡ None
@@ -106,9 +111,14 @@ home_past homes i past = elim (leb_tells (suc i) (length homes)) [
 pub same_home : (a b : Home) → ◌≡◌ {A = Option Home} (Some a) (Some b) → a ≡ b
 same_home a b e = cc
 
-pub segment_found : (homes : List Home) (i : ℕ) (home : Home) → segment_home homes i ≡ Some home → (i < length homes) × (home_at homes i ≡ home)
+pub segment_found : (homes : List Home) (i : ℕ) (home : Home) → segment_home homes i ≡ Some home → (i < length homes)
+    × (home_at homes i ≡ home)
 segment_found homes i home is = elim (leb_tells (suc i) (length homes)) [
-  | inl lt ↦ (lt.1, same_home (home_at homes i) home (sym (ap (λ (b : Bool). cond b (Some (home_at homes i)) None) lt.0) ∙ is))
+  | inl lt ↦ (
+    lt.1,
+    same_home (home_at homes i) home (sym
+        (ap (λ (b : Bool). cond b (Some (home_at homes i)) None) lt.0) ∙ is),
+  )
   | inr past ↦ absurd (none_some home (sym (ap (λ (b : Bool). cond b (Some (home_at homes i)) None) past.0) ∙ is))
 ]
   where
@@ -119,18 +129,21 @@ not_none : {A : Type 0} (x : Option A) (a : A) → x ≡ None → x ≡ Some a �
 not_none x a h i = cc
 
 -- a home that there is is used, by the root or by a segment that is there
-pub home_used : (s : Segs) (uid : ℕ) (home : Home) → IsKept s → home_of s.homes uid ≡ Some home → uid_at s.storage.vtocs home ≡ Some uid
+pub home_used : (s : Segs) (uid : ℕ) (home : Home) → IsKept s → home_of s.homes uid ≡ Some home
+    → uid_at s.storage.vtocs home ≡ Some uid
 home_used s uid home k is = by (which uid)
   where
     by : (uid ≡ 0) ⊎ ((uid ≡ 1) ⊎ ((i : ℕ) × (uid ≡ i + 2))) → uid_at s.storage.vtocs home ≡ Some uid
     by (inl nobody) = absurd (not_none (home_of s.homes uid) home (none_at s.homes uid nobody) is)
     by (inr (inl one)) =
-        ap (uid_at s.storage.vtocs) (sym (same_home root_home home (sym (root_at s.homes uid one) ∙ is))) ∙ k.root.used ∙ ap Some (sym one)
+        ap (uid_at s.storage.vtocs) (sym (same_home root_home home (sym (root_at s.homes uid one) ∙ is))) ∙ k.root.used
+        ∙ ap Some (sym one)
     by (inr (inr (i, at))) =
         let found = segment_found s.homes i home (sym (segment_at s.homes uid i at) ∙ is) in
         ap (uid_at s.storage.vtocs) (sym found.1) ∙ (k.tied i found.0).used ∙ ap Some (sym at)
 
-pub home_there : (homes : List Home) (uid : ℕ) (home : Home) → home_of homes uid ≡ Some home → (1 ≤ uid) × (uid < length homes + 2)
+pub home_there : (homes : List Home) (uid : ℕ) (home : Home) → home_of homes uid ≡ Some home → (1 ≤ uid)
+    × (uid < length homes + 2)
 home_there homes uid home is = by (which uid)
   where
     by : (uid ≡ 0) ⊎ ((uid ≡ 1) ⊎ ((i : ℕ) × (uid ≡ i + 2))) → (1 ≤ uid) × (uid < length homes + 2)
@@ -176,7 +189,8 @@ out_within table p out = elim (leb_tells (length table) p) [
     not_out : (w : Ptw) → w ≡ Null → is_out w ≡ true → ⊥
     not_out w null out = (let off : is_out w ≡ false = ap is_out null in cc)
 
-pub page_bound : (s : Segs) (f uid p : ℕ) → IsKept s → binding_at (bindings s.storage.core) f ≡ Some (uid, p) → IsPageOf s f uid p
+pub page_bound : (s : Segs) (f uid p : ℕ) → IsKept s → binding_at (bindings s.storage.core) f ≡ Some (uid, p)
+    → IsPageOf s f uid p
 page_bound s f uid p k at =
     let some_ : 2 ≤ uid = (k.bound f uid p at).0 in
     let few : uid < length s.homes + 2 = (k.bound f uid p at).1 in
@@ -184,9 +198,11 @@ page_bound s f uid p k at =
     let segment : uid - 2 < length s.homes = omega (arith, some_, few) in
     let place : uid - 2 < length s.tables = place_within s (uid - 2) k segment in
     let tie : IsTied s.storage uid (home_at s.homes (uid - 2)) (table_at s.tables (uid - 2)) =
-    subst (λ (n : ℕ). IsTied s.storage n (home_at s.homes (uid - 2)) (table_at s.tables (uid - 2))) back (k.tied (uid - 2) segment) in
+    subst (λ (n : ℕ). IsTied s.storage n (home_at s.homes (uid - 2)) (table_at s.tables (uid - 2))) back
+    (k.tied (uid - 2) segment) in
     let long : length (table_at s.tables (uid - 2)) ≡ 256 = k.lengths (uid - 2) place in
-    let here : word_at s (uid - 2) p ≡ Here f = here_from (word_at s (uid - 2) p) f (tie.table.named f p at) (λ g. k.stay (uid - 2) p g) in
+    let here : word_at s (uid - 2) p ≡ Here f = here_from (word_at s (uid - 2) p) f (tie.table.named f p at)
+    (λ g. k.stay (uid - 2) p g) in
     let within = here_within (table_at s.tables (uid - 2)) p f here in
     record {
       some = some_;
@@ -209,9 +225,11 @@ bound_to (Bound u q used modified) h = refl
 
 pub page_of_frame : (s : Segs) (f : ℕ) → IsKept s → is_bound (frame_at s.storage.core f) ≡ true
     → IsPageOf s f (uid_in (frame_at s.storage.core f)) (number_in (frame_at s.storage.core f))
-page_of_frame s f k bound = page_bound s f _ _ k (binding_is s.storage.core f ∙ bound_to (frame_at s.storage.core f) bound)
+page_of_frame s f k bound = page_bound s f _ _ k (binding_is s.storage.core f
+    ∙ bound_to (frame_at s.storage.core f) bound)
 
 -- the same in the terms in which a call's steps give it
-pub page_told : (s : Segs) (core : Core) (f : ℕ) (page : ℕ × ℕ) → IsKept s → core ≡ s.storage.core → is_bound (frame_at s.storage.core f) ≡ true
+pub page_told : (s : Segs) (core : Core) (f : ℕ) (page : ℕ × ℕ) → IsKept s → core ≡ s.storage.core
+    → is_bound (frame_at s.storage.core f) ≡ true
     → page ≡ (uid_in (frame_at core f), number_in (frame_at core f)) → IsPageOf s f page.0 page.1
 page_told s core f page k same bound is = rw (is, same) (page_of_frame s f k bound)

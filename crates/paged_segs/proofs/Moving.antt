@@ -1,5 +1,6 @@
 -- What becomes of frames and words in a move of two calls.
-use Rattle.std.proofs.Common.{◌≡◌, ◌↔◌, ℕ, false, List, length, Option, sym, ap, ◌∙◌, set, map, is_some, count_by, subst}
+use Rattle.std.proofs.Common.{◌≡◌, ◌↔◌, ℕ, false, List, length, Option, sym, ap, ◌∙◌, set, map, is_some, count_by}
+use Rattle.std.proofs.Common.{subst}
 use Rattle.std.specs.Prelude.{Result, Ok}
 use Rattle.std.proofs.lemmas.List.{get_or-set_same, set-set, length-set}
 use Rattle.core_map.specs.declared.Frame.{Frame}
@@ -25,17 +26,21 @@ use Rattle.paged_segs.specs.Moves.{IsPutOut}
 use Rattle.paged_segs.proofs.Located.{here_within}
 
 -- the word of the page, once it is leaving, and the tie of its segment
-pub word_leaving : (old now : Paging DriveState) (f : ℕ) (t u : List Ptw) → now ≡ old → u ≡ set t (number_in (frame_at old.core f)) (Leaving f)
+pub word_leaving : (old now : Paging DriveState) (f : ℕ) (t u : List Ptw) → now ≡ old → u
+    ≡ set t (number_in (frame_at old.core f)) (Leaving f)
     → ptw_at t (number_in (frame_at old.core f)) ≡ Here f → ptw_at u (number_in (frame_at now.core f)) ≡ Leaving f
 word_leaving old now f t u same us here =
-    rw (same, us) (get_or-set_same t (number_in (frame_at old.core f)) (Leaving f) Null (here_within t (number_in (frame_at old.core f)) f here))
+    rw (same, us) (get_or-set_same t (number_in (frame_at old.core f)) (Leaving f) Null
+    (here_within t (number_in (frame_at old.core f)) f here))
 
 pub tie_moved : (old now : Paging DriveState) (f : ℕ) (home : Home) (u : List Ptw) → now ≡ old
     → IsTied (plain pages_of now) (uid_in (frame_at old.core f)) home u
     → IsTied (plain pages_of now) (uid_in (frame_at now.core f)) home u
-tie_moved old now f home u same tie = subst (λ (s : Paging DriveState). IsTied (plain pages_of now) (uid_in (frame_at s.core f)) home u) (sym same) tie
+tie_moved old now f home u same tie = subst (λ (s : Paging DriveState). IsTied (plain pages_of now)
+    (uid_in (frame_at s.core f)) home u) (sym same) tie
 
-pub zeros_left : {E : Type 0} (left : Left) (words : List ℕ) → ◌≡◌ {A = Result Left E} (Ok left) (Ok Released) ↔ AreZero words → left ≡ Released ↔ AreZero words
+pub zeros_left : {E : Type 0} (left : Left) (words : List ℕ) → ◌≡◌ {A = Result Left E} (Ok left) (Ok Released)
+    ↔ AreZero words → left ≡ Released ↔ AreZero words
 zeros_left {E = E} left words zeros = (λ same. zeros.0 (ap Ok same), λ all. inside (zeros.1 all))
   where
     inside : ◌≡◌ {A = Result Left E} (Ok left) (Ok Released) → left ≡ Released
@@ -44,17 +49,22 @@ zeros_left {E = E} left words zeros = (λ same. zeros.0 (ap Ok same), λ all. in
 -- a page whose word was leaving in between has left its frame
 pub put_out : (old mid now : Paging DriveState) (home : Home) (f : ℕ) (t u v : List Ptw) (left : Left) → mid ≡ old
     → u ≡ set t (number_in (frame_at old.core f)) (Leaving f)
-    → IsPutOut (plain pages_of mid) (plain pages_of now) home (uid_in (frame_at mid.core f)) (number_in (frame_at mid.core f)) f u v left
-    → IsPutOut (plain pages_of old) (plain pages_of now) home (uid_in (frame_at old.core f)) (number_in (frame_at old.core f)) f t v left
+    → IsPutOut (plain pages_of mid) (plain pages_of now) home (uid_in (frame_at mid.core f))
+    (number_in (frame_at mid.core f)) f u v left
+    → IsPutOut (plain pages_of old) (plain pages_of now) home (uid_in (frame_at old.core f))
+    (number_in (frame_at old.core f)) f t v left
 put_out old mid now home f t u v left same us out =
-    let o : IsPutOut (plain pages_of old) (plain pages_of now) home (uid_in (frame_at old.core f)) (number_in (frame_at old.core f)) f u v left =
-    subst (λ (s : Paging DriveState). IsPutOut (plain pages_of s) (plain pages_of now) home (uid_in (frame_at s.core f)) (number_in (frame_at s.core f)) f u v
+    let o : IsPutOut (plain pages_of old) (plain pages_of now) home (uid_in (frame_at old.core f))
+    (number_in (frame_at old.core f)) f u v left =
+    subst (λ (s : Paging DriveState). IsPutOut (plain pages_of s) (plain pages_of now) home
+    (uid_in (frame_at s.core f)) (number_in (frame_at s.core f)) f u v
     left) same out in
     let w : Ptw = word_of_left left (record_of (plain pages_of old) home (number_in (frame_at old.core f))) in
     record {
       zeros = o.zeros;
       effect = o.effect;
-      word = o.word ∙ ap (λ (those : List Ptw). set those (number_in (frame_at old.core f)) w) us ∙ set-set t (number_in (frame_at old.core f)) (Leaving f) w;
+      word = o.word ∙ ap (λ (those : List Ptw). set those (number_in (frame_at old.core f)) w) us
+          ∙ set-set t (number_in (frame_at old.core f)) (Leaving f) w;
       tie = o.tie;
       others = o.others;
       words = o.words;
@@ -65,14 +75,20 @@ put_out old mid now home f t u v left same us out =
     }
 
 -- a page that was read into a frame that had been started for it
-pub brought_same : (s mid now : Plain) (uid p v r f : ℕ) → mid ≡ framed s f (Started uid p) → now ≡ brought_in mid uid p v r f → now ≡ brought_in s uid p v r f
+pub brought_same : (s mid now : Plain) (uid p v r f : ℕ) → mid ≡ framed s f (Started uid p) → now
+    ≡ brought_in mid uid p v r f → now ≡ brought_in s uid p v r f
 brought_same s mid now uid p v r f started is =
     is ∙ ap (λ (m : Plain). brought_in m uid p v r f) started
-    ∙ ap (λ (frames : List Frame). record s { core = record s.core { frames = frames }; frames = set s.frames f (words_on s v r) })
+    ∙ ap (λ (frames : List Frame). record s {
+      core = record s.core { frames = frames };
+      frames =
+          set s.frames f (words_on s v r);
+    })
     (set-set s.core.frames f (Started uid p) (Bound uid p false false))
 
 -- what is kept from the frame's start on is kept
-pub others_started : (s mid now : Plain) (uid : ℕ) (home : Home) → bindings mid.core ≡ bindings s.core → mid.vtocs ≡ s.vtocs → KeepsTies s mid
+pub others_started : (s mid now : Plain) (uid : ℕ) (home : Home) → bindings mid.core ≡ bindings s.core → mid.vtocs
+    ≡ s.vtocs → KeepsTies s mid
     → KeepsOthers mid now uid home
     → KeepsOthers s now uid home
 others_started s mid now uid home bound vtocs ties k = record {
@@ -82,15 +98,21 @@ others_started s mid now uid home bound vtocs ties k = record {
   ties = λ segment other table n t. k.ties segment other table n (ties.ties segment other table t);
 }
 
-pub words_started : (s mid now : Plain) (uid : ℕ) (home : Home) → mid.vtocs ≡ s.vtocs → words_at mid ≡ words_at s → KeepsWords mid now uid home
+pub words_started : (s mid now : Plain) (uid : ℕ) (home : Home) → mid.vtocs ≡ s.vtocs → words_at mid ≡ words_at s
+    → KeepsWords mid now uid home
     → KeepsWords s now uid home
 words_started s mid now uid home vtocs words k = record {
   words = λ u h q homes.
-      k.words u h q (record { used = ap (λ (v : List (List (Option Entry))). uid_at v h) vtocs ∙ homes.used; own = homes.own })
+      k.words u h q (record {
+        used = ap (λ (v : List (List (Option Entry))). uid_at v h) vtocs ∙ homes.used;
+        own =
+            homes.own;
+      })
       ∙ ap (λ (those : ℕ → Home → ℕ → List ℕ). those u h q) words;
 }
 
-pub counts_started : (s mid now : Plain) (uid p f : ℕ) → mid ≡ framed s f (Started uid p) → KeepsCounts mid now → KeepsCounts s now
+pub counts_started : (s mid now : Plain) (uid p f : ℕ) → mid ≡ framed s f (Started uid p) → KeepsCounts mid now
+    → KeepsCounts s now
 counts_started s mid now uid p f started k = record {
   used = k.used ∙ ap (λ (m : Plain). map (count_by is_some) m.vtocs) started;
   places = k.places ∙ ap (λ (m : Plain). map length m.vtocs) started;

@@ -25,12 +25,15 @@ pub record IsWordOf (s : Segs) (i page : ℕ) (w : Ptw) : Type 0 where
   pub number : (f : ℕ) → w ≡ Here f → number_in (frame_at s.storage.core f) ≡ page
   pub words : (f : ℕ) → w ≡ Here f → picture s (i + 2) page ≡ words_in s.storage f
 
-pub seen_by : (s : Segs) (i page : ℕ) (table : List Ptw) (w : Ptw) → IsKept s → i < length s.homes → table ≡ get_or s.tables i table → w ≡ ptw_at table page
-    → ((uid : ℕ) (home : Home) → IsTied s.storage uid home table → IsSeen s.storage uid home page w) → IsWordOf s i page w
+pub seen_by : (s : Segs) (i page : ℕ) (table : List Ptw) (w : Ptw) → IsKept s → i < length s.homes → table
+    ≡ get_or s.tables i table → w ≡ ptw_at table page
+    → ((uid : ℕ) (home : Home) → IsTied s.storage uid home table → IsSeen s.storage uid home page w)
+    → IsWordOf s i page w
 seen_by s i page table w k il is at look =
     let same : table ≡ table_at s.tables i = table_read s i table k il is in
     let word : w ≡ word_at s i page = at ∙ ap (λ (those : List Ptw). ptw_at those page) same in
-    let seen : IsSeen s.storage (i + 2) (home_at s.homes i) page w = look (i + 2) (home_at s.homes i) (rw same (k.tied i il)) in
+    let seen : IsSeen s.storage (i + 2) (home_at s.homes i) page w =
+    look (i + 2) (home_at s.homes i) (rw same (k.tied i il)) in
     let shown : picture s (i + 2) page ≡ _ = picture_at s (i + 2) page (home_at s.homes i) (home_is s.homes i il) in
     record {
       word = word;
@@ -45,7 +48,10 @@ seen_by s i page table w k il is at look =
     }
 
 -- the same in the terms in which a call's steps give it
-pub seen_from : (s now : Segs) (i page : ℕ) (table : List Ptw) (w : Ptw) → s ≡ now → IsKept s → i < length s.homes → table ≡ get_or s.tables i table
+pub seen_from : (s now : Segs) (i page : ℕ) (table : List Ptw) (w : Ptw) → s ≡ now → IsKept s → i < length s.homes
+    → table ≡ get_or s.tables i table
     → w ≡ ptw_at table page
-    → ((uid : ℕ) (home : Home) → IsTied s.storage uid home table → IsSeen s.storage uid home page w) → IsWordOf now i page w
-seen_from s now i page table w same k il is at look = subst (λ (x : Segs). IsWordOf x i page w) same (seen_by s i page table w k il is at look)
+    → ((uid : ℕ) (home : Home) → IsTied s.storage uid home table → IsSeen s.storage uid home page w)
+    → IsWordOf now i page w
+seen_from s now i page table w same k il is at look = subst (λ (x : Segs). IsWordOf x i page w) same
+    (seen_by s i page table w k il is at look)

@@ -1,5 +1,6 @@
 -- What each call does (Bensoussan, Clingen and Daley 1972).
-use Rattle.std.specs.Prelude.{◌≡◌, ℕ, ◌+◌, ◌-◌, ◌<◌, ◌≤◌, ◌↔◌, true, [], ◌∷◌, ◌++◌, None, Some, length, map, replicate, slice_set, sum_by}
+use Rattle.std.specs.Prelude.{◌≡◌, ℕ, ◌+◌, ◌-◌, ◌<◌, ◌≤◌, ◌↔◌, true, [], ◌∷◌, ◌++◌, None, Some, length, map, replicate}
+use Rattle.std.specs.Prelude.{slice_set, sum_by}
 use Rattle.core_map.specs.declared.Frame.TheVariants.{Free}
 use Rattle.mword.specs.Words.{AreZero}
 use Rattle.page_table.specs.declared.Ptw.TheVariants.{Null, Here}
@@ -35,11 +36,12 @@ read_in s i p f = record s {
   tables = with_word s.tables i p (Here f);
 }
 
--- page p of segment i, which had no record, is in frame f and has the least free record of its volume: all zeros but word
--- `at`, which is w
+-- page p of segment i, which had no record, is in frame f and has the least free record of its volume: all zeros but
+-- word `at`, which is w
 abbrev pub made_page : Segs → ℕ → ℕ → ℕ → ℕ → ℕ → Segs
 made_page s i p f at w = record s {
-  storage = created s.storage (i + 2) p (home_at s.homes i) (number_or_zero (least_free (flags_of s.storage (volume_at s i)))) f at w;
+  storage = created s.storage (i + 2) p (home_at s.homes i)
+      (number_or_zero (least_free (flags_of s.storage (volume_at s i)))) f at w;
   tables = with_word s.tables i p (Here f);
 }
 
@@ -69,7 +71,8 @@ pub record IsEmptied (old new : Segs) (gone : Evicted) : Type 0 where
   pub shown : picture new ≡ picture old
   pub stored : is_stored new ≡ stored_after (is_stored old) gone.uid gone.page gone.left
   -- counts
-  pub records : taken new.storage.records ≡ taken_after (taken old.storage.records) (volume_at old (gone.uid - 2)) gone.left
+  pub records : taken new.storage.records ≡ taken_after (taken old.storage.records) (volume_at old (gone.uid - 2))
+      gone.left
   pub given : gone.left ≡ Released → 0 < taken old.storage.records (volume_at old (gone.uid - 2))
   pub homed : used new.storage.vtocs ≡ used old.storage.vtocs
   pub sizes : HasSizes old.storage new.storage

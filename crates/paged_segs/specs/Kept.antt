@@ -1,5 +1,6 @@
 -- What is true of the segments between calls (Bensoussan, Clingen and Daley 1972).
-use Rattle.std.specs.Prelude.{◌≡◌, ◌≢◌, ℕ, ◌+◌, ◌-◌, ◌^◌, ◌<◌, ◌≤◌, false, List, [], Option, Some, None, length, is_some, sum_by, count_by, All, map}
+use Rattle.std.specs.Prelude.{◌≡◌, ◌≢◌, ℕ, ◌+◌, ◌-◌, ◌^◌, ◌<◌, ◌≤◌, false, List, [], Option, Some, None, length}
+use Rattle.std.specs.Prelude.{is_some, sum_by, count_by, All, map}
 use Rattle.core_map.specs.CoreMap.{frame_at, is_started}
 use Rattle.page_table.specs.declared.Ptw.TheVariants.{Null, Leaving}
 use Rattle.vtoc.specs.Vtoc.{entry_at}
@@ -32,11 +33,13 @@ pub record IsKept (s : Segs) : Type 0 where
   pub blank : (i p : ℕ) → length s.homes ≤ i → word_at s i p ≡ Null
   -- frames: no page is being read, and each bound frame is bound to a page of a segment
   pub started : (f : ℕ) → is_started (frame_at s.storage.core f) ≡ false
-  pub bound : (f uid p : ℕ) → binding_at (bindings s.storage.core) f ≡ Some (uid, p) → (2 ≤ uid) × (uid < length s.homes + 2)
+  pub bound : (f uid p : ℕ) → binding_at (bindings s.storage.core) f ≡ Some (uid, p) → (2 ≤ uid)
+      × (uid < length s.homes + 2)
   -- a file map can name each record
   pub short : (v : ℕ) → length (flags_in s.storage.records v) < 65536
 
--- The used VTOC entries are the homes of the root and of the segments; and the records in use are those that file maps name.
+-- The used VTOC entries are the homes of the root and of the segments; and the records in use are those that file maps
+-- name.
 pub record AreHomed (s : Segs) : Type 0 where
   pub root : uid_at s.storage.vtocs root_home ≡ Some 1
   pub homes : (i : ℕ) → i < length s.homes → uid_at s.storage.vtocs (home_at s.homes i) ≡ Some (i + 2)
@@ -44,8 +47,8 @@ pub record AreHomed (s : Segs) : Type 0 where
       → (2 ≤ uid) × (uid < length s.homes + 2) × (home ≡ home_at s.homes (uid - 2))
   pub filed : AreFiled s.storage.records s.storage.vtocs
 
--- Volumes on which segments may begin: none of their records and VTOC entries is used, the first volume has an entry for
--- the root, no drive fails, and a file map can name each record.
+-- Volumes on which segments may begin: none of their records and VTOC entries is used, the first volume has an entry
+-- for the root, no drive fails, and a file map can name each record.
 pub record AreFresh (v : Vols DriveState) : Type 0 where
   pub free : (w e : ℕ) → entry_at (vtoc_in v.vtocs w) e ≡ None
   pub unused : (w r : ℕ) → in_use (flags_in v.records w) r ≡ false

@@ -1,5 +1,6 @@
 -- Segments right below the root, each with its home and its page table (Bensoussan, Clingen and Daley 1972).
-use Rattle.std.specs.Prelude.{ℕ, ◌-◌, ◌==◌, nat_le, nat_lt, if◌then◌else◌, List, [], Option, None, Some, length, map, slice_index_or, slice_set}
+use Rattle.std.specs.Prelude.{ℕ, ◌-◌, ◌==◌, nat_le, nat_lt, if◌then◌else◌, List, [], Option, None, Some, length, map}
+use Rattle.std.specs.Prelude.{slice_index_or, slice_set}
 use Rattle.page_table.specs.declared.Ptw.{Ptw}
 use Rattle.page_table.specs.PageTable.{ptw_at}
 use Rattle.volumes.specs.declared.drive.FailLine.{FailLine}

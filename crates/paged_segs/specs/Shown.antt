@@ -1,5 +1,5 @@
--- What a user sees of the segments: the words of each page, and which pages are stored. A uid that has no home has no page
--- stored, and each of its pages is zeros (Bensoussan, Clingen and Daley 1972).
+-- What a user sees of the segments: the words of each page, and which pages are stored. A uid that has no home has no
+-- page stored, and each of its pages is zeros (Bensoussan, Clingen and Daley 1972).
 use Rattle.std.specs.Prelude.{ℕ, Bool, false, List, Option, None, Some, replicate}
 use Rattle.page_control.specs.declared.Home.{Home}
 use Rattle.page_control.specs.Plain.{Plain}

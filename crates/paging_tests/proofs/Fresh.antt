@@ -1,5 +1,6 @@
 -- A segment that was just given its home, where no page is stored and none is in a frame.
-use Rattle.std.proofs.Common.{◌≡◌, ℕ, zero, suc, length, arith, Bool, true, false, All, List, [], ◌∷◌, Option, None, Some, refl, sym, ap, ◌∙◌, get_or}
+use Rattle.std.proofs.Common.{◌≡◌, ℕ, zero, suc, length, arith, Bool, true, false, All, List, [], ◌∷◌, Option, None}
+use Rattle.std.proofs.Common.{Some, refl, sym, ap, ◌∙◌, get_or}
 use Rattle.std.proofs.Common.{replicate, subst}
 use Rattle.std.specs.Prelude.{IfSome}
 use Rattle.std.proofs.Math.ListN.{get_or-map}
@@ -43,7 +44,8 @@ blank t is = (let long = ap length is in record {
 none_bound : (core : Core) (uid : ℕ) → core.frames ≡ replicate 2 Free → HasNoFrame (bindings core) uid
 none_bound core uid free = record {
   none = λ f p at. not_none (binding_at (bindings core) f) (uid, p)
-      (get_or-map bound_page core.frames f Free ∙ ap (λ (frames : List Frame). bound_page (get_or frames f Free)) free ∙ ap bound_page (alike 2 f Free)) at;
+      (get_or-map bound_page core.frames f Free ∙ ap (λ (frames : List Frame). bound_page (get_or frames f Free)) free
+      ∙ ap bound_page (alike 2 f Free)) at;
 }
 
 abbrev two_entries : List (List (Option Entry))
@@ -59,7 +61,8 @@ none_used : (v r : ℕ) → in_use (flags_in (replicate 3 false ∷ []) v) r ≡
 none_used zero r = alike 3 r false
 none_used (suc v) r = refl
 
-fresh_filed : (records : List (List Bool)) (vtocs : List (List (Option Entry))) → records ≡ replicate 3 false ∷ [] → vtocs ≡ (None ∷ None ∷ []) ∷ []
+fresh_filed : (records : List (List Bool)) (vtocs : List (List (Option Entry))) → records ≡ replicate 3 false ∷ []
+    → vtocs ≡ (None ∷ None ∷ []) ∷ []
     → AreFiled records vtocs
 fresh_filed records vtocs r v = rw (r, v) (record {
   used = λ w e p k at. absurd (not_none _ k (none_named w e p) at);
@@ -68,9 +71,11 @@ fresh_filed records vtocs r v = rw (r, v) (record {
 })
 
 -- the tie of the segment, once it has the first entry
-pub tie_fresh : (old now : Plain) (table : List Ptw) (result : Option ℕ) → old.core.frames ≡ replicate 2 Free → old.records ≡ replicate 3 false ∷ []
+pub tie_fresh : (old now : Plain) (table : List Ptw) (result : Option ℕ) → old.core.frames ≡ replicate 2 Free
+    → old.records ≡ replicate 3 false ∷ []
     → old.vtocs ≡ (None ∷ None ∷ []) ∷ [] → table ≡ replicate 3 Null → result ≡ least_free_entry (vtoc_of old 0)
-    → IfSome result (λ e. (words : List Ptw) → IsBlank words → HasNoFrame (bindings old.core) 7 → AreFiled old.records old.vtocs
+    → IfSome result (λ e. (words : List Ptw) → IsBlank words → HasNoFrame (bindings old.core) 7
+    → AreFiled old.records old.vtocs
     → IsTied now 7 (record { volume = 0; entry = e }) words) → IsTied now 7 (record { volume = 0; entry = 0 }) table
 tie_fresh old now table result free records vtocs null least tie =
     given result (least ∙ ap (λ (v : List (List (Option Entry))). least_free_entry (vtoc_in v 0)) vtocs) tie
@@ -79,7 +84,8 @@ tie_fresh old now table result free records vtocs null least tie =
     number e is = cc
 
     given : (result : Option ℕ) → result ≡ Some 0
-        → IfSome result (λ e. (words : List Ptw) → IsBlank words → HasNoFrame (bindings old.core) 7 → AreFiled old.records old.vtocs
+        → IfSome result (λ e. (words : List Ptw) → IsBlank words → HasNoFrame (bindings old.core) 7
+        → AreFiled old.records old.vtocs
         → IsTied now 7 (record { volume = 0; entry = e }) words) → IsTied now 7 (record { volume = 0; entry = 0 }) table
     given None is tie = absurd (not_none None 0 refl is)
     given (Some e) is tie =
@@ -91,9 +97,11 @@ all_same : (flags those : List Bool) → flags ≡ those → All (λ flag. flag 
 all_same flags those same all = rw (sym same) all
 
 -- a volume with three free records isn't full
-pub not_full : (records : List (List Bool)) → records ≡ replicate 3 false ∷ [] → All (λ flag. flag ≡ true) (flags_in records 0) → ⊥
+pub not_full : (records : List (List Bool)) → records ≡ replicate 3 false ∷ []
+    → All (λ flag. flag ≡ true) (flags_in records 0) → ⊥
 not_full records is all =
-    let on : get_or (replicate 3 false) 0 false ≡ true = All-get_or (λ (flag : Bool). flag ≡ true) (replicate 3 false) 0 false (omega arith)
+    let on : get_or (replicate 3 false) 0 false ≡ true =
+    All-get_or (λ (flag : Bool). flag ≡ true) (replicate 3 false) 0 false (omega arith)
     (all_same (flags_in records 0) (replicate 3 false) (ap (λ (those : List (List Bool)). flags_in those 0) is) all) in
     cc
 

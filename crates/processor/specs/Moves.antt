@@ -1,6 +1,7 @@
 -- What a processor does by itself with a reference, by its associative memories and the tables (Bensoussan, Clingen and
 -- Daley 1972).
-use Rattle.std.specs.Prelude.{◌≡◌, ◌≤◌, ℕ, ◌*◌, ◌/◌, ◌==◌, false, not, nat_le, if◌then◌else◌, length, List, Option, Some, None}
+use Rattle.std.specs.Prelude.{◌≡◌, ◌≤◌, ℕ, ◌*◌, ◌/◌, ◌==◌, false, not, nat_le, if◌then◌else◌, length, List, Option}
+use Rattle.std.specs.Prelude.{Some, None}
 use Rattle.active_segs.specs.Active.{ActiveSegs, IsActive, table_at, uid_at}
 use Rattle.assoc_mem.specs.Held.{Held, frame_of, nothing_held, seg_of}
 use Rattle.assoc_mem.specs.declared.HeldSeg.{HeldSeg}
@@ -24,7 +25,8 @@ offline = record { assoc = nothing_held; process = None; due = None; online = fa
 
 -- these are the page table words of the active segments, by uid and page
 abbrev pub AreWords : ActiveSegs → (ℕ → ℕ → Ptw) → Type 0
-AreWords ast words = (place uid : ℕ) → uid_at ast.entries place ≡ Some uid → (page : ℕ) → words uid page ≡ ptw_at (table_at ast.tables place) page
+AreWords ast words = (place uid : ℕ) → uid_at ast.entries place ≡ Some uid → (page : ℕ) → words uid page
+    ≡ ptw_at (table_at ast.tables place) page
 
 -- the segment of a held descriptor is active, with a page table that is as long as the descriptor says
 pub record IsLongEnough (ast : ActiveSegs) (e : HeldSeg) : Type 0 where

@@ -1,5 +1,5 @@
-//! A processor: what it holds in its associative memories, its process, what it is to drop, and the transfer that it has
-//! under way; and what it does by itself with a reference (Bensoussan, Clingen and Daley 1972; Corbató 1968).
+//! A processor: what it holds in its associative memories, its process, what it is to drop, and the transfer that it
+//! has under way; and what it does by itself with a reference (Bensoussan, Clingen and Daley 1972; Corbató 1968).
 //!
 //! Costs: `next_move` looks through at most 32 held entries, and where they don't have the page it searches the active
 //! segment table once and reads one page table word. It takes no memory.
@@ -167,8 +167,8 @@ fn by_held(assoc: &Assoc, ast: &Ast, reference: &Reference, held: &HeldSeg) -> M
     }
 }
 
-/// What a processor does by itself with a reference of its process, whose descriptors these are (Bensoussan, Clingen and
-/// Daley 1972): by its associative memories first, and by the tables where they hold nothing.
+/// What a processor does by itself with a reference of its process, whose descriptors these are (Bensoussan, Clingen
+/// and Daley 1972): by its associative memories first, and by the tables where they hold nothing.
 ///
 /// The segment of a descriptor that it holds must be active, with a page table that is as long as the descriptor says.
 pub fn next_move(cpu: &Cpu, descriptors: &DescSeg, ast: &Ast, reference: Reference) -> Move

@@ -18,8 +18,8 @@ const UID: u32 = 7;
 
 const NUMBER: u32 = 3;
 
-/// Tables in which the segment is active in place 0 with four pages, which are null, on a record, in frame 5, and on its
-/// way out of frame 6; and a descriptor segment that leads to it.
+/// Tables in which the segment is active in place 0 with four pages, which are null, on a record, in frame 5, and on
+/// its way out of frame 6; and a descriptor segment that leads to it.
 fn tables(rt: HostRuntime) -> Result<(Ast, DescSeg), Fail> {
     let mut ast = Ast::new(rt.alloc(), [1, 0, 0, 0])?;
     if ast.search(UID).is_some() || ast.free_in(0) != Some(0) {

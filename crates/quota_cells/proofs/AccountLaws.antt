@@ -1,6 +1,8 @@
 -- The laws of accounts: what a page more, and another quota, do to the loads from scratch.
-use Rattle.std.proofs.Common.{◌≡◌, ◌≢◌, ℕ, ◌+◌, ◌<◌, true, false, cond, eqb, not, if◌then◌else◌, List, [], ◌∷◌, refl, sym, ap, ◌∙◌, arith, inl, inr}
-use Rattle.std.proofs.lemmas.Bool.{cases_Bool, cases_eq, both_ways, eqb-true, eq-eqb, ne_eqb, or_cases, and_parts, or_right, or_left, not-true, not_from_false}
+use Rattle.std.proofs.Common.{◌≡◌, ◌≢◌, ℕ, ◌+◌, ◌<◌, true, false, cond, eqb, not, if◌then◌else◌, List, [], ◌∷◌, refl}
+use Rattle.std.proofs.Common.{sym, ap, ◌∙◌, arith, inl, inr}
+use Rattle.std.proofs.lemmas.Bool.{cases_Bool, cases_eq, both_ways, eqb-true, eq-eqb, ne_eqb, or_cases, and_parts}
+use Rattle.std.proofs.lemmas.Bool.{or_right, or_left, not-true, not_from_false}
 use Rattle.tree_model.specs.Tree.{account}
 use Rattle.tree_model.specs.Trees.{AreUnder, IsChain, EndsAtRoot}
 use Rattle.quota_cells.specs.Accounts.{covers, load, is_an_account}
@@ -16,7 +18,8 @@ account_covers q (x ∷ []) e = elim (cases_Bool (eqb (q x) 0)) [
   | inr some ↦ rw some (or_left (eqb x x) false (eq-eqb x x refl))
 ]
 account_covers q (x ∷ y ∷ ys) e = elim (cases_Bool (eqb (q x) 0)) [
-  | inl none ↦ rw none (or_right (eqb x (account q (y ∷ ys))) (covers q (y ∷ ys) (account q (y ∷ ys))) (account_covers q (y ∷ ys) e.1))
+  | inl none ↦ rw none (or_right (eqb x (account q (y ∷ ys))) (covers q (y ∷ ys) (account q (y ∷ ys)))
+      (account_covers q (y ∷ ys) e.1))
   | inr some ↦ rw some (or_left (eqb x x) false (eq-eqb x x refl))
 ]
 
@@ -24,7 +27,8 @@ account_covers q (x ∷ y ∷ ys) e = elim (cases_Bool (eqb (q x) 0)) [
 abbrev pub account_from : (ℕ → List ℕ) → (ℕ → ℕ) → ℕ → ℕ
 account_from f q e = if eqb (q e) 0 then account q (f e) else e
 
-pub account_through : (f : ℕ → List ℕ) (q : ℕ → ℕ) (xs : List ℕ) (e : ℕ) → IsChain f xs → covers q xs e ≡ true → account q xs ≡ account_from f q e
+pub account_through : (f : ℕ → List ℕ) (q : ℕ → ℕ) (xs : List ℕ) (e : ℕ) → IsChain f xs → covers q xs e ≡ true
+    → account q xs ≡ account_from f q e
 account_through f q [] e c is = cc
 account_through f q (x ∷ xs) e c is = elim (cases_eq x e) [
   | inl same ↦ rw (← same, ← c.0) refl
@@ -34,7 +38,8 @@ account_through f q (x ∷ xs) e c is = elim (cases_eq x e) [
 ]
 
 -- a root or a directory with a quota covers exactly what it's the account of
-pub account_is : (q : ℕ → ℕ) (xs : List ℕ) (a : ℕ) → EndsAtRoot xs → is_an_account q a ≡ true → covers q xs a ≡ eqb (account q xs) a
+pub account_is : (q : ℕ → ℕ) (xs : List ℕ) (a : ℕ) → EndsAtRoot xs → is_an_account q a ≡ true → covers q xs a
+    ≡ eqb (account q xs) a
 account_is q [] a e is = absurd e
 account_is q (x ∷ []) a e is = elim (cases_Bool (eqb (q x) 0)) [
   | inl none ↦ rw (none, e) (elim (cases_Bool (eqb 1 a)) [ inl t ↦ rw t refl | inr f ↦ rw f refl ])
@@ -53,18 +58,21 @@ account_is q (x ∷ y ∷ ys) a e is = elim (cases_Bool (eqb (q x) 0)) [
 
 -- ---- another quota
 
-pub covers_same : (q r : ℕ → ℕ) (xs : List ℕ) (e : ℕ) → ((y : ℕ) → eqb (r y) 0 ≡ eqb (q y) 0) → covers r xs e ≡ covers q xs e
+pub covers_same : (q r : ℕ → ℕ) (xs : List ℕ) (e : ℕ) → ((y : ℕ) → eqb (r y) 0 ≡ eqb (q y) 0) → covers r xs e
+    ≡ covers q xs e
 covers_same q r [] e same = refl
 covers_same q r (x ∷ xs) e same = rw (same x, covers_same q r xs e same) refl
 
 -- above a directory its own quota doesn't matter
-pub covers_above : (q r : ℕ → ℕ) (x : ℕ) (xs : List ℕ) (e : ℕ) → ((y : ℕ) → y ≢ x → r y ≡ q y) → AreUnder x xs → covers r xs e ≡ covers q xs e
+pub covers_above : (q r : ℕ → ℕ) (x : ℕ) (xs : List ℕ) (e : ℕ) → ((y : ℕ) → y ≢ x → r y ≡ q y) → AreUnder x xs
+    → covers r xs e ≡ covers q xs e
 covers_above q r x [] e same a = refl
 covers_above q r x (y ∷ ys) e same a =
     (let here : r y ≡ q y = same y (λ z. (let lt : y < x = a.0 in omega arith)) in
     rw (here, covers_above q r x ys e same a.1) refl)
 
-module _ (f : ℕ → List ℕ) (q r : ℕ → ℕ) (x : ℕ) (same : (y : ℕ) → y ≢ x → r y ≡ q y) (none : q x ≡ 0) (some : r x ≢ 0) (under : AreUnder x (f x)) where
+module _ (f : ℕ → List ℕ) (q r : ℕ → ℕ) (x : ℕ) (same : (y : ℕ) → y ≢ x → r y ≡ q y) (none : q x ≡ 0) (some : r x ≢ 0)
+    (under : AreUnder x (f x)) where
   -- where x becomes an account, what covers x loses what x covers: for one chain
   appears_on : (e w : ℕ) (xs : List ℕ) → IsChain f xs
       → cond (covers r xs e) w 0 + cond (covers q (f x) e) (cond (covers q xs x) w 0) 0 ≡ cond (covers q xs e) w 0
@@ -80,17 +88,20 @@ module _ (f : ℕ → List ℕ) (q r : ℕ → ℕ) (x : ℕ) (same : (y : ℕ) 
               (let off : covers q ys e ≡ false = rw (← at) (covers_not q y ys c.1) in
               rw (q_none, r_some, rest, is_x, eq-eqb y e at, off) (omega arith))
           | inr past ↦
-              rw (q_none, r_some, rest, is_x, ne_eqb y e past) (elim (cases_Bool (covers q ys e)) [ inl t ↦ rw t (omega arith) | inr u ↦ rw u (omega arith) ])
+              rw (q_none, r_some, rest, is_x, ne_eqb y e past)
+              (elim (cases_Bool (covers q ys e)) [ inl t ↦ rw t (omega arith) | inr u ↦ rw u (omega arith) ])
         ])
     | inr other ↦
         (let r_is : r y ≡ q y = same y other in
         let isnt_x : eqb y x ≡ false = ne_eqb y x other in
         elim (cases_Bool (eqb (q y) 0)) [
-          | inr stop ↦ rw (r_is, isnt_x, stop) (elim (cases_Bool (covers q (f x) e)) [ inl t ↦ rw t (omega arith) | inr u ↦ rw u (omega arith) ])
+          | inr stop ↦ rw (r_is, isnt_x, stop) (elim (cases_Bool (covers q (f x) e))
+              [ inl t ↦ rw t (omega arith) | inr u ↦ rw u (omega arith) ])
           | inl on ↦ elim (cases_eq y e) [
             | inl at ↦
                 (let is_e : eqb y e ≡ true = eq-eqb y e at in
-                let zero_part : cond (covers q (f x) e) (cond (covers q ys x) w 0) 0 ≡ 0 = elim (cases_Bool (covers q ys x)) [
+                let zero_part : cond (covers q (f x) e) (cond (covers q ys x) w 0) 0 ≡ 0 =
+                elim (cases_Bool (covers q ys x)) [
                   | inr u ↦ rw u (elim (cases_Bool (covers q (f x) e)) [ inl t ↦ rw t refl | inr v ↦ rw v refl ])
                   | inl t ↦
                       (let x_below : x < y = covers_under q y ys x c.1 t in
@@ -106,12 +117,15 @@ module _ (f : ℕ → List ℕ) (q r : ℕ → ℕ) (x : ℕ) (same : (y : ℕ) 
         ])
   ]
 
-  pub appears : ((k : ℕ) → IsChain f (f k)) → (ks ws : List ℕ) (e : ℕ) → load f r ks ws e + cond (covers q (f x) e) (load f q ks ws x) 0 ≡ load f q ks ws e
+  pub appears : ((k : ℕ) → IsChain f (f k)) → (ks ws : List ℕ) (e : ℕ)
+      → load f r ks ws e + cond (covers q (f x) e) (load f q ks ws x) 0 ≡ load f q ks ws e
   appears chains [] ws e = elim (cases_Bool (covers q (f x) e)) [ inl t ↦ rw t refl | inr u ↦ rw u refl ]
   appears chains (k ∷ ks) [] e = elim (cases_Bool (covers q (f x) e)) [ inl t ↦ rw t refl | inr u ↦ rw u refl ]
   appears chains (k ∷ ks) (w ∷ ws) e =
-      let ih : load f r ks ws e + cond (covers q (f x) e) (load f q ks ws x) 0 ≡ load f q ks ws e = appears chains ks ws e in
-      let here : cond (covers r (f k) e) w 0 + cond (covers q (f x) e) (cond (covers q (f k) x) w 0) 0 ≡ cond (covers q (f k) e) w 0 =
+      let ih : load f r ks ws e + cond (covers q (f x) e) (load f q ks ws x) 0 ≡ load f q ks ws e =
+      appears chains ks ws e in
+      let here : cond (covers r (f k) e) w 0 + cond (covers q (f x) e) (cond (covers q (f k) x) w 0) 0
+      ≡ cond (covers q (f k) e) w 0 =
       appears_on e w (f k) (chains k) in
       elim (cases_Bool (covers q (f x) e)) [
         | inl t ↦ (let ih' = rw t at ih in let here' = rw t at here in rw t (omega (arith, ih', here')))
@@ -120,11 +134,14 @@ module _ (f : ℕ → List ℕ) (q r : ℕ → ℕ) (x : ℕ) (same : (y : ℕ) 
 
   -- its own load stays
   pub appears_own : ((k : ℕ) → IsChain f (f k)) → (ks ws : List ℕ) → load f r ks ws x ≡ load f q ks ws x
-  appears_own chains ks ws = (let h = appears chains ks ws x in let off : covers q (f x) x ≡ false = covers_not q x (f x) under in let h' = rw off at h in
+  appears_own chains ks ws = (let h = appears chains ks ws x in let off : covers q (f x) x ≡ false =
+      covers_not q x (f x) under in let h' = rw off at h in
       omega (arith, h'))
 
-pub load_same : (f : ℕ → List ℕ) (q r : ℕ → ℕ) → ((y : ℕ) → eqb (r y) 0 ≡ eqb (q y) 0) → (ks ws : List ℕ) (e : ℕ) → load f r ks ws e ≡ load f q ks ws e
-load_same f q r same ks ws e = weigh_same (λ k. covers r (f k) e) (λ k. covers q (f k) e) ks ws (λ k h. covers_same q r (f k) e same)
+pub load_same : (f : ℕ → List ℕ) (q r : ℕ → ℕ) → ((y : ℕ) → eqb (r y) 0 ≡ eqb (q y) 0) → (ks ws : List ℕ) (e : ℕ)
+    → load f r ks ws e ≡ load f q ks ws e
+load_same f q r same ks ws e = weigh_same (λ k. covers r (f k) e) (λ k. covers q (f k) e) ks ws
+    (λ k h. covers_same q r (f k) e same)
 
 pub account_of_chain : (q : ℕ → ℕ) (xs : List ℕ) → is_an_account q (account q xs) ≡ true
 account_of_chain q [] = refl

@@ -1,5 +1,6 @@
 -- Values beside uids: one set, all of some changed, one more and one less.
-use Rattle.std.proofs.Common.{◌≡◌, ◌≢◌, ℕ, suc, zero, ◌+◌, ◌<◌, ◌≤◌, Bool, true, false, eqb, if◌then◌else◌, List, [], ◌∷◌, length, refl, ap, arith, get_or}
+use Rattle.std.proofs.Common.{◌≡◌, ◌≢◌, ℕ, suc, zero, ◌+◌, ◌<◌, ◌≤◌, Bool, true, false, eqb, if◌then◌else◌, List, []}
+use Rattle.std.proofs.Common.{◌∷◌, length, refl, ap, arith, get_or}
 use Rattle.std.proofs.Common.{inl, inr}
 use Rattle.std.specs.List.{sum}
 use Rattle.std.proofs.lemmas.Bool.{cases_Bool, cases_eq, eq-eqb, ne_eqb, or_right, or_left}
@@ -19,7 +20,8 @@ look_with (k ∷ ks) (x ∷ vs) u v w len e = elim (cases_eq k u) [
   | inr other ↦
       (let far : eqb k u ≡ false = ne_eqb k u other in
       let rest : has ks u ≡ true = rw far at e in
-      let ih : look ks (with_value ks vs u v) w ≡ (if eqb u w then v else look ks vs w) = look_with ks vs u v w (omega arith) rest in
+      let ih : look ks (with_value ks vs u v) w ≡ (if eqb u w then v else look ks vs w) =
+      look_with ks vs u v w (omega arith) rest in
       elim (cases_eq k w) [
         | inl here ↦ rw (far, eq-eqb k w here, ne_eqb u w (λ q. other (omega arith))) refl
         | inr there ↦ rw (far, ne_eqb k w there) ih
@@ -33,15 +35,21 @@ look_with_other (k ∷ ks) [] u v w ne = refl
 look_with_other (k ∷ ks) (x ∷ vs) u v w ne = elim (cases_eq k u) [
   | inl same ↦ rw (eq-eqb k u same, ne_eqb k w (λ q. ne (omega arith))) refl
   | inr other ↦ rw (ne_eqb k u other) (elim
-      (cases_eq k w) [ inl here ↦ rw (eq-eqb k w here) refl | inr there ↦ rw (ne_eqb k w there) (look_with_other ks vs u v w ne) ])
+      (cases_eq k w) [
+        | inl here ↦ rw (eq-eqb k w here) refl
+        | inr there ↦ rw (ne_eqb k w there)
+            (look_with_other ks vs u v w ne)
+      ])
 ]
 
 pub length_with : (ks vs : List ℕ) (u v : ℕ) → length (with_value ks vs u v) ≡ length vs
 length_with [] vs u v = refl
 length_with (k ∷ ks) [] u v = refl
-length_with (k ∷ ks) (x ∷ vs) u v = elim (cases_Bool (eqb k u)) [ inl is ↦ rw is refl | inr isnt ↦ rw isnt (ap suc (length_with ks vs u v)) ]
+length_with (k ∷ ks) (x ∷ vs) u v = elim (cases_Bool (eqb k u))
+    [ inl is ↦ rw is refl | inr isnt ↦ rw isnt (ap suc (length_with ks vs u v)) ]
 
-pub sum_with : (ks vs : List ℕ) (u v : ℕ) → length vs ≡ length ks → has ks u ≡ true → sum (with_value ks vs u v) + look ks vs u ≡ sum vs + v
+pub sum_with : (ks vs : List ℕ) (u v : ℕ) → length vs ≡ length ks → has ks u ≡ true
+    → sum (with_value ks vs u v) + look ks vs u ≡ sum vs + v
 sum_with [] vs u v len e = cc
 sum_with (k ∷ ks) [] u v len e = absurd (omega arith)
 sum_with (k ∷ ks) (x ∷ vs) u v len e = elim (cases_Bool (eqb k u)) [
@@ -49,7 +57,8 @@ sum_with (k ∷ ks) (x ∷ vs) u v len e = elim (cases_Bool (eqb k u)) [
   | inr isnt ↦
       (let rest : has ks u ≡ true = rw isnt at e in
       let ih : sum (with_value ks vs u v) + look ks vs u ≡ sum vs + v = sum_with ks vs u v (omega arith) rest in
-      rw isnt (let a = sum_by-cons (λ (y : ℕ). y) x (with_value ks vs u v) in let b = sum_by-cons (λ (y : ℕ). y) x vs in omega arith))
+      rw isnt (let a = sum_by-cons (λ (y : ℕ). y) x (with_value ks vs u v) in let b =
+      sum_by-cons (λ (y : ℕ). y) x vs in omega arith))
 ]
 
 pub look_le_sum : (ks vs : List ℕ) (u : ℕ) → look ks vs u ≤ sum vs
@@ -64,10 +73,13 @@ pub two_le_sum : (ks vs : List ℕ) (u w : ℕ) → u ≢ w → look ks vs u + l
 two_le_sum [] vs u w ne = omega arith
 two_le_sum (k ∷ ks) [] u w ne = omega arith
 two_le_sum (k ∷ ks) (x ∷ vs) u w ne = (let b = sum_by-cons (λ (y : ℕ). y) x vs in elim (cases_eq k u) [
-  | inl here ↦ rw (eq-eqb k u here, ne_eqb k w (λ q. ne (omega arith))) (let le : look ks vs w ≤ sum vs = look_le_sum ks vs w in omega arith)
+  | inl here ↦ rw (eq-eqb k u here, ne_eqb k w (λ q. ne (omega arith)))
+      (let le : look ks vs w ≤ sum vs = look_le_sum ks vs w in omega arith)
   | inr off ↦ elim (cases_eq k w) [
-    | inl there ↦ rw (ne_eqb k u off, eq-eqb k w there) (let le : look ks vs u ≤ sum vs = look_le_sum ks vs u in omega arith)
-    | inr far ↦ rw (ne_eqb k u off, ne_eqb k w far) (let ih : look ks vs u + look ks vs w ≤ sum vs = two_le_sum ks vs u w ne in omega arith)
+    | inl there ↦ rw (ne_eqb k u off, eq-eqb k w there)
+        (let le : look ks vs u ≤ sum vs = look_le_sum ks vs u in omega arith)
+    | inr far ↦ rw (ne_eqb k u off, ne_eqb k w far) (let ih : look ks vs u + look ks vs w ≤ sum vs =
+        two_le_sum ks vs u w ne in omega arith)
   ]
 ])
 
@@ -78,10 +90,12 @@ look_changed g t [] ws u len e = cc
 look_changed g t (k ∷ ks) [] u len e = absurd (omega arith)
 look_changed g t (k ∷ ks) (w ∷ ws) u len e = elim (cases_eq k u) [
   | inl same ↦ rw (eq-eqb k u same, same) refl
-  | inr other ↦ (let far : eqb k u ≡ false = ne_eqb k u other in rw far (look_changed g t ks ws u (omega arith) (rw far at e)))
+  | inr other ↦ (let far : eqb k u ≡ false = ne_eqb k u other in rw far
+      (look_changed g t ks ws u (omega arith) (rw far at e)))
 ]
 
-pub length_changed : (g : ℕ → ℕ) (t : ℕ → Bool) (ks ws : List ℕ) → length ws ≡ length ks → length (changed_where g t ks ws) ≡ length ws
+pub length_changed : (g : ℕ → ℕ) (t : ℕ → Bool) (ks ws : List ℕ) → length ws ≡ length ks
+    → length (changed_where g t ks ws) ≡ length ws
 length_changed g t [] ws len = refl
 length_changed g t (k ∷ ks) [] len = refl
 length_changed g t (k ∷ ks) (w ∷ ws) len = ap suc (length_changed g t ks ws (omega arith))
@@ -99,32 +113,42 @@ pub weigh_with : (t : ℕ → Bool) (ks ws : List ℕ) (u v : ℕ) → length ws
 weigh_with t [] ws u v len e = cc
 weigh_with t (k ∷ ks) [] u v len e = absurd (omega arith)
 weigh_with t (k ∷ ks) (w ∷ ws) u v len e = elim (cases_eq k u) [
-  | inl same ↦ rw (eq-eqb k u same, same) (elim (cases_Bool (t u)) [ inl is ↦ rw is (omega arith) | inr isnt ↦ rw isnt (omega arith) ])
+  | inl same ↦ rw (eq-eqb k u same, same) (elim (cases_Bool (t u))
+      [ inl is ↦ rw is (omega arith) | inr isnt ↦ rw isnt (omega arith) ])
   | inr other ↦
       (let far : eqb k u ≡ false = ne_eqb k u other in
       let ih = weigh_with t ks ws u v (omega arith) (rw far at e) in
       rw far (omega (arith, ih)))
 ]
 
-pub weigh_same : (s t : ℕ → Bool) (ks ws : List ℕ) → ((k : ℕ) → has ks k ≡ true → s k ≡ t k) → weigh s ks ws ≡ weigh t ks ws
+pub weigh_same : (s t : ℕ → Bool) (ks ws : List ℕ) → ((k : ℕ) → has ks k ≡ true → s k ≡ t k) → weigh s ks ws
+    ≡ weigh t ks ws
 weigh_same s t [] ws same = refl
 weigh_same s t (k ∷ ks) [] same = refl
 weigh_same s t (k ∷ ks) (w ∷ ws) same =
-    rw (same k (or_left (eqb k k) (has ks k) (eq-eqb k k refl)), weigh_same s t ks ws (λ j h. same j (or_right (eqb k j) (has ks j) h))) refl
+    rw (
+      same k (or_left (eqb k k) (has ks k) (eq-eqb k k refl)),
+      weigh_same s t ks ws
+          (λ j h. same j (or_right (eqb k j) (has ks j) h)),
+    ) refl
 
 pub look_le_weigh : (t : ℕ → Bool) (ks ws : List ℕ) (u : ℕ) → t u ≡ true → look ks ws u ≤ weigh t ks ws
 look_le_weigh t [] ws u is = omega arith
 look_le_weigh t (k ∷ ks) [] u is = omega arith
 look_le_weigh t (k ∷ ks) (w ∷ ws) u is = elim (cases_eq k u) [
   | inl same ↦ (let here : t k ≡ true = rw same is in rw (eq-eqb k u same, here) (omega arith))
-  | inr other ↦ rw (ne_eqb k u other) (let ih : look ks ws u ≤ weigh t ks ws = look_le_weigh t ks ws u is in omega arith)
+  | inr other ↦ rw (ne_eqb k u other) (let ih : look ks ws u ≤ weigh t ks ws =
+      look_le_weigh t ks ws u is in omega arith)
 ]
 
-pub weigh_le_on : (s t : ℕ → Bool) (ks ws : List ℕ) → ((k : ℕ) → has ks k ≡ true → s k ≡ true → t k ≡ true) → weigh s ks ws ≤ weigh t ks ws
+pub weigh_le_on : (s t : ℕ → Bool) (ks ws : List ℕ) → ((k : ℕ) → has ks k ≡ true → s k ≡ true → t k ≡ true)
+    → weigh s ks ws ≤ weigh t ks ws
 weigh_le_on s t [] ws le = omega arith
 weigh_le_on s t (k ∷ ks) [] le = omega arith
-weigh_le_on s t (k ∷ ks) (w ∷ ws) le = (let ih : weigh s ks ws ≤ weigh t ks ws = weigh_le_on s t ks ws (λ j h. le j (or_right (eqb k j) (has ks j) h)) in
+weigh_le_on s t (k ∷ ks) (w ∷ ws) le = (let ih : weigh s ks ws ≤ weigh t ks ws =
+    weigh_le_on s t ks ws (λ j h. le j (or_right (eqb k j) (has ks j) h)) in
     elim (cases_Bool (s k)) [
-      | inl is ↦ (let also : t k ≡ true = le k (or_left (eqb k k) (has ks k) (eq-eqb k k refl)) is in rw (is, also) (omega arith))
+      | inl is ↦ (let also : t k ≡ true = le k (or_left (eqb k k) (has ks k) (eq-eqb k k refl)) is in rw (is, also)
+          (omega arith))
       | inr isnt ↦ rw isnt (omega arith)
     ])

@@ -1,5 +1,6 @@
 -- What keeps the cells fit for a tree.
-use Rattle.std.proofs.Common.{◌≡◌, ◌≢◌, ℕ, ◌+◌, ◌-◌, ◌<◌, ◌≤◌, ◌^◌, true, eqb, List, [], ◌∷◌, refl, sym, subst, ◌∙◌, arith, inl, inr, Ok}
+use Rattle.std.proofs.Common.{◌≡◌, ◌≢◌, ℕ, ◌+◌, ◌-◌, ◌<◌, ◌≤◌, ◌^◌, true, eqb, List, [], ◌∷◌, refl, sym, subst, ◌∙◌}
+use Rattle.std.proofs.Common.{arith, inl, inr, Ok}
 use Rattle.std.specs.List.{sum}
 use Rattle.std.proofs.lemmas.Bool.{cases_Bool, cases_eq, eqb-true, eq-eqb, ne_eqb, and_parts}
 use Rattle.tree_model.specs.Tree.{above, account}
@@ -8,25 +9,30 @@ use Rattle.dir_tree.specs.Nodes.{is_segment}
 use Rattle.dir_tree.specs.Shape.{shapes}
 use Rattle.tree_model.specs.Trees.{HasChains, IsChain, AreDirectories, EndsAtRoot}
 use Rattle.quota_cells.specs.Accounts.{look, has, with_value, covers, load, is_an_account, changed_where}
-use Rattle.quota_cells.specs.Cells.{CellMaps, quota_in, load_in, stored_in, Fits, IsTable, charged, credited, charge_fault, CountsUsed}
+use Rattle.quota_cells.specs.Cells.{CellMaps, quota_in, load_in, stored_in, Fits, IsTable, charged, credited}
+use Rattle.quota_cells.specs.Cells.{charge_fault, CountsUsed}
 use Rattle.dir_tree.specs.Laws.{directory_shape, uid_shape, segment_in, segment_not}
 use Rattle.quota_cells.specs.Laws.{on_segments}
 use Rattle.quota_cells.specs.Columns.{AreThere, IsFalling}
-use Rattle.quota_cells.proofs.ColumnLaws.{look_changed, length_with, length_changed, weigh_with, weigh_same, weigh_le_on, look_le_weigh, look_le_sum}
+use Rattle.quota_cells.proofs.ColumnLaws.{look_changed, length_with, length_changed, weigh_with, weigh_same}
+use Rattle.quota_cells.proofs.ColumnLaws.{weigh_le_on, look_le_weigh, look_le_sum}
 use Rattle.quota_cells.proofs.AccountLaws.{account_covers, account_through, account_is, account_from, account_of_chain}
 
 pub falling : (f : ℕ → List ℕ) (xs : List ℕ) → IsChain f xs → IsFalling xs
 falling f [] c = tt
 falling f (x ∷ xs) c = (c.1, falling f xs c.2)
 
-pub all_there : (nodes : List Node) (c : CellMaps) → Fits nodes c → (xs : List ℕ) → AreDirectories (shapes nodes) xs → AreThere c.directories xs
+pub all_there : (nodes : List Node) (c : CellMaps) → Fits nodes c → (xs : List ℕ) → AreDirectories (shapes nodes) xs
+    → AreThere c.directories xs
 all_there nodes c fits [] a = tt
 all_there nodes c fits (x ∷ xs) a = (fits.directories x ∙ a.0, all_there nodes c fits xs a.1)
 
 pub account_there : (q : ℕ → ℕ) (ks xs : List ℕ) → AreThere ks xs → EndsAtRoot xs → has ks (account q xs) ≡ true
 account_there q ks [] a e = absurd e
-account_there q ks (x ∷ []) a e = elim (cases_Bool (eqb (q x) 0)) [ inl none ↦ rw none (subst (λ u. has ks u ≡ true) e a.0) | inr some ↦ rw some a.0 ]
-account_there q ks (x ∷ y ∷ ys) a e = elim (cases_Bool (eqb (q x) 0)) [ inl none ↦ rw none (account_there q ks (y ∷ ys) a.1 e.1) | inr some ↦ rw some a.0 ]
+account_there q ks (x ∷ []) a e = elim (cases_Bool (eqb (q x) 0))
+    [ inl none ↦ rw none (subst (λ u. has ks u ≡ true) e a.0) | inr some ↦ rw some a.0 ]
+account_there q ks (x ∷ y ∷ ys) a e = elim (cases_Bool (eqb (q x) 0))
+    [ inl none ↦ rw none (account_there q ks (y ∷ ys) a.1 e.1) | inr some ↦ rw some a.0 ]
 
 pub covered_there : (q : ℕ → ℕ) (ks xs : List ℕ) (e : ℕ) → AreThere ks xs → covers q xs e ≡ true → has ks e ≡ true
 covered_there q ks [] e a is = cc
@@ -35,13 +41,18 @@ covered_there q ks (x ∷ xs) e a is = elim (cases_eq x e) [
   | inr other ↦ covered_there q ks xs e a.1 (and_parts (eqb (q x) 0) (covers q xs e) (rw (ne_eqb x e other) at is)).1
 ]
 
-module _ (nodes : List Node) (c : CellMaps) (table : IsTable c) (fits : Fits nodes c) (chains : HasChains (shapes nodes)) where
+module _ (nodes : List Node) (c : CellMaps) (table : IsTable c) (fits : Fits nodes c)
+    (chains : HasChains (shapes nodes)) where
   abbrev f : ℕ → List ℕ
   f = above (shapes nodes)
 
   -- another count of stored pages of a segment, where what covers it has its load changed by as much
   fits_with : (g : ℕ → ℕ) (s v : ℕ) → is_segment nodes s ≡ true → ((w x : ℕ) → x + stored_in c s ≡ w + v → g w ≡ x)
-      → Fits nodes (record c { loads = changed_where g (covers (quota_in c) (f s)) c.directories c.loads; stored = with_value c.segments c.stored s v })
+      → Fits nodes (record c {
+        loads = changed_where g (covers (quota_in c) (f s)) c.directories c.loads;
+        stored =
+            with_value c.segments c.stored s v;
+      })
   fits_with g s v is changes = record {
     directories = fits.directories;
     segments = fits.segments;
@@ -49,8 +60,10 @@ module _ (nodes : List Node) (c : CellMaps) (table : IsTable c) (fits : Fits nod
     loads = λ e there.
         (let q = quota_in c in
         let old : load_in c e ≡ load f q c.segments c.stored e = fits.loads e there in
-        let w = weigh_with (λ k. covers q (f k) e) c.segments c.stored s v table.stored_count (on_segments nodes fits s ∙ is) in
-        look_changed g (covers q (f s)) c.directories c.loads e table.load_count there ∙ elim (cases_Bool (covers q (f s) e)) [
+        let w = weigh_with (λ k. covers q (f k) e) c.segments c.stored s v table.stored_count
+        (on_segments nodes fits s ∙ is) in
+        look_changed g (covers q (f s)) c.directories c.loads e table.load_count there
+        ∙ elim (cases_Bool (covers q (f s) e)) [
           | inl t ↦ (let w' = rw t at w in rw t (changes (load_in c e) _ (omega (arith, old, w'))))
           | inr u ↦ (let w' = rw u at w in rw u (omega (arith, old, w')))
         ]);
@@ -64,11 +77,14 @@ module _ (nodes : List Node) (c : CellMaps) (table : IsTable c) (fits : Fits nod
   fits_credited s n is some = fits_with (λ w. w - n) s (stored_in c s - n) is (λ w x e. omega arith)
 
   -- what a stored page of a segment adds to the loads that cover it
-  pub stored_below : (s e : ℕ) → has c.directories e ≡ true → covers (quota_in c) (f s) e ≡ true → stored_in c s ≤ load_in c e
-  stored_below s e there is = rw (fits.loads e there) (look_le_weigh (λ k. covers (quota_in c) (f k) e) c.segments c.stored s is)
+  pub stored_below : (s e : ℕ) → has c.directories e ≡ true → covers (quota_in c) (f s) e ≡ true
+      → stored_in c s ≤ load_in c e
+  stored_below s e there is = rw (fits.loads e there) (look_le_weigh (λ k. covers (quota_in c) (f k) e) c.segments
+      c.stored s is)
 
   pub ends : (s : ℕ) → is_segment nodes s ≡ true → EndsAtRoot (f s)
-  ends s is = chains.segments s (uid_shape nodes s ∙ segment_in nodes s is) (directory_shape nodes s ∙ segment_not nodes s is)
+  ends s is = chains.segments s (uid_shape nodes s ∙ segment_in nodes s is)
+      (directory_shape nodes s ∙ segment_not nodes s is)
 
   pub there : (u : ℕ) → AreThere c.directories (f u)
   there u = all_there nodes c fits (f u) (chains.directories u)
@@ -77,19 +93,22 @@ module _ (nodes : List Node) (c : CellMaps) (table : IsTable c) (fits : Fits nod
   falls u = falling f (f u) (chains.chain u)
 
   -- what covers a node has no more pages than its account
-  pub load_up_from : (s e : ℕ) → EndsAtRoot (f s) → covers (quota_in c) (f s) e ≡ true → load_in c e ≤ load_in c (account (quota_in c) (f s))
+  pub load_up_from : (s e : ℕ) → EndsAtRoot (f s) → covers (quota_in c) (f s) e ≡ true
+      → load_in c e ≤ load_in c (account (quota_in c) (f s))
   load_up_from s e ends_s covered =
       let q = quota_in c in
       let a : ℕ = account q (f s) in
       let e_there : has c.directories e ≡ true = covered_there q c.directories (f s) e (there s) covered in
       let a_there : has c.directories a ≡ true = account_there q c.directories (f s) (there s) ends_s in
       let through : a ≡ account_from f q e = account_through f q (f s) e (chains.chain s) covered in
-      rw (fits.loads e e_there, fits.loads a a_there) (weigh_le_on (λ k. covers q (f k) e) (λ k. covers q (f k) a) c.segments c.stored (λ k h k_covered.
+      rw (fits.loads e e_there, fits.loads a a_there) (weigh_le_on (λ k. covers q (f k) e) (λ k. covers q (f k) a)
+      c.segments c.stored (λ k h k_covered.
       (let seg : is_segment nodes k ≡ true = sym (on_segments nodes fits k) ∙ h in
       let same : account q (f k) ≡ a = account_through f q (f k) e (chains.chain k) k_covered ∙ sym through in
       subst (λ b. covers q (f k) b ≡ true) same (account_covers q (f k) (ends k seg)))))
 
-  pub load_up : (s e : ℕ) → is_segment nodes s ≡ true → covers (quota_in c) (f s) e ≡ true → load_in c e ≤ load_in c (account (quota_in c) (f s))
+  pub load_up : (s e : ℕ) → is_segment nodes s ≡ true → covers (quota_in c) (f s) e ≡ true
+      → load_in c e ≤ load_in c (account (quota_in c) (f s))
   load_up s e is covered = load_up_from s e (ends s is) covered
 
   -- so it has no more than there is quota
@@ -97,21 +116,25 @@ module _ (nodes : List Node) (c : CellMaps) (table : IsTable c) (fits : Fits nod
   load_bound s e ends_s covered =
       let a : ℕ = account (quota_in c) (f s) in
       let up : load_in c e ≤ load_in c a = load_up_from s e ends_s covered in
-      let le : load_in c a ≤ quota_in c a = table.within a (account_there (quota_in c) c.directories (f s) (there s) ends_s)
+      let le : load_in c a ≤ quota_in c a = table.within a
+      (account_there (quota_in c) c.directories (f s) (there s) ends_s)
       (account_of_chain (quota_in c) (f s)) in
       let most : quota_in c a ≤ sum c.quotas = look_le_sum c.directories c.quotas a in
       let total : sum c.quotas < 2 ^ 32 = table.total in omega arith
 
   -- where the account isn't full there is room for a page
-  pub below_quota : (s : ℕ) → is_segment nodes s ≡ true → load_in c (account (quota_in c) (f s)) ≢ quota_in c (account (quota_in c) (f s))
+  pub below_quota : (s : ℕ) → is_segment nodes s ≡ true
+      → load_in c (account (quota_in c) (f s)) ≢ quota_in c (account (quota_in c) (f s))
       → load_in c (account (quota_in c) (f s)) < quota_in c (account (quota_in c) (f s))
   below_quota s is ne =
       let a : ℕ = account (quota_in c) (f s) in
-      let le : load_in c a ≤ quota_in c a = table.within a (account_there (quota_in c) c.directories (f s) (there s) (ends s is))
+      let le : load_in c a ≤ quota_in c a = table.within a
+      (account_there (quota_in c) c.directories (f s) (there s) (ends s is))
       (account_of_chain (quota_in c) (f s)) in
       omega (arith, ne)
 
-  pub room_charged : (s : ℕ) → is_segment nodes s ≡ true → load_in c (account (quota_in c) (f s)) ≢ quota_in c (account (quota_in c) (f s)) → (e : ℕ)
+  pub room_charged : (s : ℕ) → is_segment nodes s ≡ true
+      → load_in c (account (quota_in c) (f s)) ≢ quota_in c (account (quota_in c) (f s)) → (e : ℕ)
       → covers (quota_in c) (f s) e ≡ true → load_in c e + 1 < 2 ^ 32
   room_charged s is ne e covered =
       let a : ℕ = account (quota_in c) (f s) in
@@ -120,30 +143,36 @@ module _ (nodes : List Node) (c : CellMaps) (table : IsTable c) (fits : Fits nod
       let most : quota_in c a ≤ sum c.quotas = look_le_sum c.directories c.quotas a in
       let total : sum c.quotas < 2 ^ 32 = table.total in omega arith
 
-  pub stored_room : (s : ℕ) → is_segment nodes s ≡ true → load_in c (account (quota_in c) (f s)) ≢ quota_in c (account (quota_in c) (f s))
+  pub stored_room : (s : ℕ) → is_segment nodes s ≡ true
+      → load_in c (account (quota_in c) (f s)) ≢ quota_in c (account (quota_in c) (f s))
       → stored_in c s + 1 < 2 ^ 32
   stored_room s is ne =
       let a : ℕ = account (quota_in c) (f s) in
       let covered : covers (quota_in c) (f s) a ≡ true = account_covers (quota_in c) (f s) (ends s is) in
-      let le : stored_in c s ≤ load_in c a = stored_below s a (account_there (quota_in c) c.directories (f s) (there s) (ends s is)) covered in
+      let le : stored_in c s ≤ load_in c a = stored_below s a
+      (account_there (quota_in c) c.directories (f s) (there s) (ends s is)) covered in
       let room : load_in c a + 1 < 2 ^ 32 = room_charged s is ne a covered in omega arith
 
-  pub table_charged : (s : ℕ) → is_segment nodes s ≡ true → load_in c (account (quota_in c) (f s)) ≢ quota_in c (account (quota_in c) (f s))
+  pub table_charged : (s : ℕ) → is_segment nodes s ≡ true
+      → load_in c (account (quota_in c) (f s)) ≢ quota_in c (account (quota_in c) (f s))
       → IsTable (charged c (f s) s)
   table_charged s is ne = record {
     rising = table.rising;
     segments_rise = table.segments_rise;
     quota_count = table.quota_count;
-    load_count = length_changed (λ w. w + 1) (covers (quota_in c) (f s)) c.directories c.loads table.load_count ∙ table.load_count;
+    load_count = length_changed (λ w. w + 1) (covers (quota_in c) (f s)) c.directories c.loads table.load_count
+        ∙ table.load_count;
     stored_count = length_with c.segments c.stored s (stored_in c s + 1) ∙ table.stored_count;
     apart = table.apart;
     within = λ b b_there b_is.
         (let q = quota_in c in
         let l = look_changed (λ w. w + 1) (covers q (f s)) c.directories c.loads b table.load_count b_there in
         let old : load_in c b ≤ q b = table.within b b_there b_is in
-        let new : look c.directories (changed_where (λ w. w + 1) (covers q (f s)) c.directories c.loads) b ≤ q b = elim (cases_Bool (covers q (f s) b)) [
+        let new : look c.directories (changed_where (λ w. w + 1) (covers q (f s)) c.directories c.loads) b ≤ q b =
+        elim (cases_Bool (covers q (f s) b)) [
           | inl t ↦
-              (let own : account q (f s) ≡ b = eqb-true (account q (f s)) b (sym (account_is q (f s) b (ends s is) b_is) ∙ t) in
+              (let own : account q (f s) ≡ b = eqb-true (account q (f s)) b
+              (sym (account_is q (f s) b (ends s is) b_is) ∙ t) in
               let less : load_in c b < q b = subst (λ x. load_in c x < q x) own (below_quota s is ne) in
               let l' = rw t at l in omega (arith, l'))
           | inr u ↦ (let l' = rw u at l in omega (arith, l'))
@@ -156,21 +185,24 @@ module _ (nodes : List Node) (c : CellMaps) (table : IsTable c) (fits : Fits nod
     rising = table.rising;
     segments_rise = table.segments_rise;
     quota_count = table.quota_count;
-    load_count = length_changed (λ w. w - n) (covers (quota_in c) (f s)) c.directories c.loads table.load_count ∙ table.load_count;
+    load_count = length_changed (λ w. w - n) (covers (quota_in c) (f s)) c.directories c.loads table.load_count
+        ∙ table.load_count;
     stored_count = length_with c.segments c.stored s (stored_in c s - n) ∙ table.stored_count;
     apart = table.apart;
     within = λ b b_there b_is.
         (let q = quota_in c in
         let l = look_changed (λ w. w - n) (covers q (f s)) c.directories c.loads b table.load_count b_there in
         let old : load_in c b ≤ q b = table.within b b_there b_is in
-        let new : look c.directories (changed_where (λ w. w - n) (covers q (f s)) c.directories c.loads) b ≤ q b = elim (cases_Bool (covers q (f s) b)) [
+        let new : look c.directories (changed_where (λ w. w - n) (covers q (f s)) c.directories c.loads) b ≤ q b =
+        elim (cases_Bool (covers q (f s) b)) [
           | inl t ↦ (let l' = rw t at l in omega (arith, l'))
           | inr u ↦ (let l' = rw u at l in omega (arith, l'))
         ] in new);
     total = table.total;
   }
 
-  pub room_credited : (s n : ℕ) → is_segment nodes s ≡ true → n ≤ stored_in c s → (e : ℕ) → covers (quota_in c) (f s) e ≡ true → n ≤ load_in c e
+  pub room_credited : (s n : ℕ) → is_segment nodes s ≡ true → n ≤ stored_in c s → (e : ℕ) → covers (quota_in c) (f s) e
+      ≡ true → n ≤ load_in c e
   room_credited s n is some e covered = (let le : stored_in c s ≤ load_in c e =
       stored_below s e (covered_there (quota_in c) c.directories (f s) e (there s) covered) covered in omega arith)
 
@@ -182,11 +214,14 @@ counts_used nodes c fits chains a a_there = elim (cases_Bool (is_an_account (quo
       (λ k. eqb (account (quota_in c) (above (shapes nodes) k)) a) c.segments c.stored
       (λ k h. (let seg : is_segment nodes k ≡ true = sym (on_segments nodes fits k) ∙ h in
       account_is (quota_in c) (above (shapes nodes) k) a
-      (chains.segments k (uid_shape nodes k ∙ segment_in nodes k seg) (directory_shape nodes k ∙ segment_not nodes k seg)) is)))
+      (chains.segments k (uid_shape nodes k ∙ segment_in nodes k seg)
+      (directory_shape nodes k ∙ segment_not nodes k seg)) is)))
 ]
 
 -- ---- what the code leaves
 
-pub not_full : (c : CellMaps) (up : List ℕ) → charge_fault c up ≡ Ok tt → load_in c (account (quota_in c) up) ≢ quota_in c (account (quota_in c) up)
-not_full c up e same = (let full : eqb (load_in c (account (quota_in c) up)) (quota_in c (account (quota_in c) up)) ≡ true = eq-eqb _ _ same in
+pub not_full : (c : CellMaps) (up : List ℕ) → charge_fault c up ≡ Ok tt
+    → load_in c (account (quota_in c) up) ≢ quota_in c (account (quota_in c) up)
+not_full c up e same = (let full : eqb (load_in c (account (quota_in c) up)) (quota_in c (account (quota_in c) up))
+    ≡ true = eq-eqb _ _ same in
     let z = rw full at e in cc)

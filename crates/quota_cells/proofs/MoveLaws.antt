@@ -1,5 +1,6 @@
 -- What another quota of a directory, and quota that moves, do to the loads and to the accounts.
-use Rattle.std.proofs.Common.{◌≡◌, ◌≢◌, ℕ, ◌+◌, ◌-◌, ◌≤◌, Bool, true, false, eqb, if◌then◌else◌, List, length, refl, sym, ap, subst, ◌∙◌, arith, inl, inr}
+use Rattle.std.proofs.Common.{◌≡◌, ◌≢◌, ℕ, ◌+◌, ◌-◌, ◌≤◌, Bool, true, false, eqb, if◌then◌else◌, List, length, refl}
+use Rattle.std.proofs.Common.{sym, ap, subst, ◌∙◌, arith, inl, inr}
 use Rattle.std.specs.List.{sum}
 use Rattle.std.proofs.lemmas.Bool.{cases_Bool, cases_eq, eqb-true, eqb-false, eq-eqb, ne_eqb}
 use Rattle.tree_model.specs.Tree.{above}
@@ -16,7 +17,8 @@ pub record AreEven (c : CellMaps) : Type 0 where
   pub quotas : length c.quotas ≡ length c.directories
   pub loads : length c.loads ≡ length c.directories
 
-module _ (nodes : List Node) (c : CellMaps) (even : AreEven c) (fits : Fits nodes c) (chains : HasChains (shapes nodes)) (d v : ℕ)
+module _ (nodes : List Node) (c : CellMaps) (even : AreEven c) (fits : Fits nodes c)
+    (chains : HasChains (shapes nodes)) (d v : ℕ)
     (here : has c.directories d ≡ true) where
   abbrev f : ℕ → List ℕ
   f = above (shapes nodes)
@@ -50,7 +52,8 @@ module _ (nodes : List Node) (c : CellMaps) (even : AreEven c) (fits : Fits node
       → load_in c' e ≡ look c.directories (loads_then c (f d) d b w) e
   load_then e there b w is_b is_w = rw (is_b, is_w) refl
 
-  fits_at : (e : ℕ) → has c.directories e ≡ true → (b w : Bool) → eqb (q d) 0 ≡ b → eqb v 0 ≡ w → load_in c' e ≡ load f r c.segments c.stored e
+  fits_at : (e : ℕ) → has c.directories e ≡ true → (b w : Bool) → eqb (q d) 0 ≡ b → eqb v 0 ≡ w → load_in c' e
+      ≡ load f r c.segments c.stored e
   fits_at e there true true is_b is_w = load_then e there true true is_b is_w ∙ fits.loads e there
       ∙ sym (load_same f q r (same_zero true is_b is_w) c.segments c.stored e)
   fits_at e there false false is_b is_w = load_then e there false false is_b is_w ∙ fits.loads e there
@@ -98,17 +101,23 @@ module _ (nodes : List Node) (c : CellMaps) (even : AreEven c) (fits : Fits node
   loads_length false true = length_changed (λ w. w + load_in c d) (covers q (f d)) c.directories c.loads even.loads
 
   pub even_quota : AreEven c'
-  even_quota = record { quotas = length_with c.directories c.quotas d v ∙ even.quotas; loads = loads_length (eqb (q d) 0) (eqb v 0) ∙ even.loads }
+  even_quota = record {
+    quotas = length_with c.directories c.quotas d v ∙ even.quotas;
+    loads =
+        loads_length (eqb (q d) 0) (eqb v 0) ∙ even.loads;
+  }
 
   pub total_quota : sum c'.quotas + q d ≡ sum c.quotas + v
   total_quota = sum_with c.directories c.quotas d v even.quotas here
 
   -- a load falls where the directory becomes an account, and rises where it is one no more
-  pub load_falls : q d ≡ 0 → v ≢ 0 → (e : ℕ) → has c.directories e ≡ true → load_in c' e ≡ (if covers q (f d) e then load_in c e - load_in c d else load_in c e)
+  pub load_falls : q d ≡ 0 → v ≢ 0 → (e : ℕ) → has c.directories e ≡ true → load_in c' e
+      ≡ (if covers q (f d) e then load_in c e - load_in c d else load_in c e)
   load_falls none some e there = load_then e there true false (eq-eqb (q d) 0 none) (ne_eqb v 0 some)
       ∙ look_changed (λ w. w - load_in c d) (covers q (f d)) c.directories c.loads e even.loads there
 
-  pub load_rises : q d ≢ 0 → v ≡ 0 → (e : ℕ) → has c.directories e ≡ true → load_in c' e ≡ (if covers q (f d) e then load_in c e + load_in c d else load_in c e)
+  pub load_rises : q d ≢ 0 → v ≡ 0 → (e : ℕ) → has c.directories e ≡ true → load_in c' e
+      ≡ (if covers q (f d) e then load_in c e + load_in c d else load_in c e)
   load_rises some none e there = load_then e there false true (ne_eqb (q d) 0 some) (eq-eqb v 0 none)
       ∙ look_changed (λ w. w + load_in c d) (covers q (f d)) c.directories c.loads e even.loads there
 
@@ -120,7 +129,8 @@ module _ (nodes : List Node) (c : CellMaps) (even : AreEven c) (fits : Fits node
   covers_more none e there is =
       let one : (y : ℕ) → ℕ = λ y. if eqb d y then 1 else q y in
       let law = appears f q one d (λ y ne. rw (ne_eqb d y (λ e. ne (sym e))) refl) none
-      (λ z. (let o : one d ≡ 1 = rw (eq-eqb d d refl) refl in omega (arith, z, o))) (chains.under d) chains.chain c.segments c.stored e in
+      (λ z. (let o : one d ≡ 1 = rw (eq-eqb d d refl) refl in omega (arith, z, o))) (chains.under d) chains.chain
+      c.segments c.stored e in
       let own : load_in c d ≡ load f q c.segments c.stored d = fits.loads d here in
       let old : load_in c e ≡ load f q c.segments c.stored e = fits.loads e there in
       let law' = rw is at law in omega (arith, law', own, old)

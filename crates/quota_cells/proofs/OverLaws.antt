@@ -1,28 +1,33 @@
 -- Which accounts can be above their quotas once quota has moved.
-use Rattle.std.proofs.Common.{◌≡◌, ◌≢◌, ℕ, suc, ◌+◌, ◌-◌, ◌<◌, ◌≤◌, ◌^◌, Bool, true, false, cond, eqb, ltb, not, ◌||◌, if◌then◌else◌, List, [], ◌∷◌, length}
+use Rattle.std.proofs.Common.{◌≡◌, ◌≢◌, ℕ, suc, ◌+◌, ◌-◌, ◌<◌, ◌≤◌, ◌^◌, Bool, true, false, cond, eqb, ltb, not, ◌||◌}
+use Rattle.std.proofs.Common.{if◌then◌else◌, List, [], ◌∷◌, length}
 use Rattle.std.proofs.Common.{Some, None, refl, sym, ap, subst, ◌∙◌, arith, get_or, inl, inr, ◌⊎◌}
 use Rattle.std.specs.List.{sum, find}
-use Rattle.std.proofs.lemmas.Bool.{cases_Bool, cases_eq, cases_lt, both_ways, eqb-true, eq-eqb, ne_eqb, or_cases, and_parts, or_right, or_left, and_from}
+use Rattle.std.proofs.lemmas.Bool.{cases_Bool, cases_eq, cases_lt, both_ways, eqb-true, eq-eqb, ne_eqb, or_cases}
+use Rattle.std.proofs.lemmas.Bool.{and_parts, or_right, or_left, and_from}
 use Rattle.std.proofs.lemmas.Bool.{lt-ltb, ltb-true, false_from_ne_true}
 use Rattle.tree_model.specs.Tree.{above}
 use Rattle.dir_tree.specs.declared.node.Node.{Node}
 use Rattle.dir_tree.specs.Shape.{shapes}
 use Rattle.tree_model.specs.Trees.{HasChains, EndsAtRoot}
 use Rattle.quota_cells.specs.Accounts.{has, covers, is_an_account}
-use Rattle.quota_cells.specs.Cells.{CellMaps, quota_in, load_in, Fits, IsTable, with_quota, IsRising, is_over, first_over}
+use Rattle.quota_cells.specs.Cells.{CellMaps, quota_in, load_in, Fits, IsTable, with_quota, IsRising, is_over}
+use Rattle.quota_cells.specs.Cells.{first_over}
 use Rattle.quota_cells.specs.Columns.{IsPlaced, CanGive}
 use Rattle.quota_cells.proofs.AccountLaws.{covers_above}
 use Rattle.quota_cells.proofs.ColumnLaws.{two_le_sum}
 use Rattle.dir_tree.specs.Laws.{uid_shape, directory_in}
 use Rattle.quota_cells.proofs.FitLaws.{load_bound, all_there, covered_there, falling}
-use Rattle.quota_cells.proofs.MoveLaws.{AreEven, covers_more, fits_quota, even_quota, quota_own, quota_other, load_falls, load_rises, load_stays, total_quota}
+use Rattle.quota_cells.proofs.MoveLaws.{AreEven, covers_more, fits_quota, even_quota, quota_own, quota_other}
+use Rattle.quota_cells.proofs.MoveLaws.{load_falls, load_rises, load_stays, total_quota}
 use Rattle.quota_cells.specs.Laws.{on_directories}
 
 -- ---- the least that passes
 
 pub none_passes : (p : ℕ → Bool) (ks : List ℕ) → ((b : ℕ) → has ks b ≡ true → p b ≡ false) → find p ks ≡ None
 none_passes p [] none = refl
-none_passes p (k ∷ ks) none = rw (none k (or_left (eqb k k) (has ks k) (eq-eqb k k refl))) (none_passes p ks (λ b h. none b (or_right (eqb k b) (has ks b) h)))
+none_passes p (k ∷ ks) none = rw (none k (or_left (eqb k k) (has ks k) (eq-eqb k k refl)))
+    (none_passes p ks (λ b h. none b (or_right (eqb k b) (has ks b) h)))
 
 later_than : (k : ℕ) (ks : List ℕ) → ((i : ℕ) → i < length ks → k < get_or ks i 0) → (b : ℕ) → has ks b ≡ true → k < b
 later_than k [] all b h = cc
@@ -34,7 +39,8 @@ later_than k (j ∷ js) all b h = elim (or_cases (eqb j b) (has js b) h) [
 pub later : (k : ℕ) (ks : List ℕ) → IsRising (k ∷ ks) → (b : ℕ) → has ks b ≡ true → k < b
 later k ks up b h = later_than k ks (λ i lt. up 0 (suc i) (omega arith) (omega arith)) b h
 
-pub first_passes : (p : ℕ → Bool) (ks : List ℕ) (a : ℕ) → IsRising ks → has ks a ≡ true → p a ≡ true → ((b : ℕ) → has ks b ≡ true → b < a → p b ≡ false)
+pub first_passes : (p : ℕ → Bool) (ks : List ℕ) (a : ℕ) → IsRising ks → has ks a ≡ true → p a ≡ true
+    → ((b : ℕ) → has ks b ≡ true → b < a → p b ≡ false)
     → find p ks ≡ Some a
 first_passes p [] a up h is none = cc
 first_passes p (k ∷ ks) a up h is none = elim (cases_eq k a) [
@@ -59,8 +65,10 @@ passes p (k ∷ ks) b h is none = elim (cases_Bool (p k)) [
 
 -- ---- two changes
 
-module _ (nodes : List Node) (c : CellMaps) (table : IsTable c) (fits : Fits nodes c) (chains : HasChains (shapes nodes)) (g v n : ℕ) (other : g ≢ v)
-    (here_g : has c.directories g ≡ true) (here_v : has c.directories v ≡ true) (some : 0 < n) (enough : n ≤ quota_in c v) where
+module _ (nodes : List Node) (c : CellMaps) (table : IsTable c) (fits : Fits nodes c)
+    (chains : HasChains (shapes nodes)) (g v n : ℕ) (other : g ≢ v)
+    (here_g : has c.directories g ≡ true) (here_v : has c.directories v ≡ true) (some : 0 < n)
+    (enough : n ≤ quota_in c v) where
   abbrev f : ℕ → List ℕ
   f = above (shapes nodes)
 
@@ -103,7 +111,8 @@ module _ (nodes : List Node) (c : CellMaps) (table : IsTable c) (fits : Fits nod
   pub q2_other : (b : ℕ) → b ≢ g → b ≢ v → quota_in c2 b ≡ q b
   q2_other b ne_g ne_v = quota_other nodes c1 even1 fits1 chains v (q v - n) here_v b ne_v ∙ q1_other b ne_g
 
-  pub load1_falls : q g ≡ 0 → (b : ℕ) → has c.directories b ≡ true → load_in c1 b ≡ (if covers q (f g) b then load_in c b - load_in c g else load_in c b)
+  pub load1_falls : q g ≡ 0 → (b : ℕ) → has c.directories b ≡ true → load_in c1 b
+      ≡ (if covers q (f g) b then load_in c b - load_in c g else load_in c b)
   load1_falls none b h = load_falls nodes c even fits chains g (q g + n) here_g none (λ e. omega arith) b h
 
   pub load1_stays : q g ≢ 0 → (b : ℕ) → has c.directories b ≡ true → load_in c1 b ≡ load_in c b
@@ -112,7 +121,11 @@ module _ (nodes : List Node) (c : CellMaps) (table : IsTable c) (fits : Fits nod
   load1_le : (b : ℕ) → has c.directories b ≡ true → load_in c1 b ≤ load_in c b
   load1_le b h = elim (cases_eq (q g) 0) [
     | inl none ↦ (let l = load1_falls none b h in
-        elim (cases_Bool (covers q (f g) b)) [ inl t ↦ (let l' = rw t at l in omega (arith, l')) | inr u ↦ (let l' = rw u at l in omega (arith, l')) ])
+        elim (cases_Bool (covers q (f g) b)) [
+          | inl t ↦ (let l' = rw t at l in omega (arith, l'))
+          | inr u ↦
+              (let l' = rw u at l in omega (arith, l'))
+        ])
     | inr is ↦ (let l : load_in c1 b ≡ load_in c b = load1_stays is b h in omega arith)
   ]
 
@@ -121,16 +134,19 @@ module _ (nodes : List Node) (c : CellMaps) (table : IsTable c) (fits : Fits nod
 
   pub load2_rises : q v ≡ n → (b : ℕ) → has c.directories b ≡ true
       → load_in c2 b ≡ (if covers (quota_in c1) (f v) b then load_in c1 b + load_in c1 v else load_in c1 b)
-  load2_rises all b h = load_rises nodes c1 even1 fits1 chains v (q v - n) here_v (λ e. (let z : quota_in c1 v ≡ q v = q1_v in omega arith)) (omega arith) b h
+  load2_rises all b h = load_rises nodes c1 even1 fits1 chains v (q v - n) here_v
+      (λ e. (let z : quota_in c1 v ≡ q v = q1_v in omega arith)) (omega arith) b h
 
   pub load2_stays : q v ≢ n → (b : ℕ) → has c.directories b ≡ true → load_in c2 b ≡ load_in c1 b
-  load2_stays part b h = load_stays nodes c1 even1 fits1 chains v (q v - n) here_v (λ e. (let z : quota_in c1 v ≡ q v = q1_v in omega arith))
+  load2_stays part b h = load_stays nodes c1 even1 fits1 chains v (q v - n) here_v
+      (λ e. (let z : quota_in c1 v ≡ q v = q1_v in omega arith))
       (λ e. part (omega arith)) b h
 
   account_then : (b : ℕ) → b ≢ g → b ≢ v → is_an_account (quota_in c2) b ≡ is_an_account q b
   account_then b ne_g ne_v = ap (λ z. eqb b 1 || not (eqb z 0)) (q2_other b ne_g ne_v)
 
-  within_still : (b : ℕ) → has c.directories b ≡ true → b ≢ g → b ≢ v → load_in c2 b ≤ load_in c b → is_over c2 b ≡ false
+  within_still : (b : ℕ) → has c.directories b ≡ true → b ≢ g → b ≢ v → load_in c2 b ≤ load_in c b → is_over c2 b
+      ≡ false
   within_still b h ne_g ne_v le = false_from_ne_true _ (λ over.
       (let both : (is_an_account (quota_in c2) b ≡ true) × (ltb (quota_in c2 b) (load_in c2 b) ≡ true) =
       and_parts (is_an_account (quota_in c2) b) (ltb (quota_in c2 b) (load_in c2 b)) over in
@@ -140,18 +156,21 @@ module _ (nodes : List Node) (c : CellMaps) (table : IsTable c) (fits : Fits nod
       let above : quota_in c2 b < load_in c2 b = ltb-true (quota_in c2 b) (load_in c2 b) both.1 in omega arith))
 
   pub over_who : (b : ℕ) → has c.directories b ≡ true → is_over c2 b ≡ true
-      → (b ≡ g) ⊎ ((b ≡ v) ⊎ ((q v ≡ n) × (covers (quota_in c1) (f v) b ≡ true) × (is_an_account (quota_in c1) b ≡ true)))
+      → (b ≡ g) ⊎ ((b ≡ v) ⊎ ((q v ≡ n) × (covers (quota_in c1) (f v) b ≡ true)
+      × (is_an_account (quota_in c1) b ≡ true)))
   over_who b h over = elim (cases_eq b g) [
     | inl is_g ↦ inl is_g
     | inr ne_g ↦ elim (cases_eq b v) [
       | inl is_v ↦ inr (inl is_v)
       | inr ne_v ↦ elim (cases_eq (q v) n) [
         | inr part ↦ absurd (both_ways (is_over c2 b)
-            (within_still b h ne_g ne_v (let l : load_in c2 b ≡ load_in c1 b = load2_stays part b h in let le : load_in c1 b ≤ load_in c b = load1_le b h in
+            (within_still b h ne_g ne_v (let l : load_in c2 b ≡ load_in c1 b =
+            load2_stays part b h in let le : load_in c1 b ≤ load_in c b = load1_le b h in
             omega arith)) over)
         | inl all ↦ elim (cases_Bool (covers (quota_in c1) (f v) b)) [
           | inr off ↦ absurd (both_ways (is_over c2 b)
-              (within_still b h ne_g ne_v (let l = load2_rises all b h in let l' = rw off at l in let le : load_in c1 b ≤ load_in c b = load1_le b h in
+              (within_still b h ne_g ne_v (let l = load2_rises all b h in let l' =
+              rw off at l in let le : load_in c1 b ≤ load_in c b = load1_le b h in
               omega (arith, l'))) over)
           | inl on ↦
               (let both = and_parts (is_an_account (quota_in c2) b) (ltb (quota_in c2 b) (load_in c2 b)) over in
@@ -164,8 +183,10 @@ module _ (nodes : List Node) (c : CellMaps) (table : IsTable c) (fits : Fits nod
 
   total2 : sum c2.quotas ≡ sum c.quotas
   total2 =
-      let a : sum c1.quotas + q g ≡ sum c.quotas + (q g + n) = total_quota nodes c even fits chains g (q g + n) here_g in
-      let b : sum c2.quotas + quota_in c1 v ≡ sum c1.quotas + (q v - n) = total_quota nodes c1 even1 fits1 chains v (q v - n) here_v in
+      let a : sum c1.quotas + q g ≡ sum c.quotas + (q g + n) =
+      total_quota nodes c even fits chains g (q g + n) here_g in
+      let b : sum c2.quotas + quota_in c1 v ≡ sum c1.quotas + (q v - n) =
+      total_quota nodes c1 even1 fits1 chains v (q v - n) here_v in
       let e : quota_in c1 v ≡ q v = q1_v in omega arith
 
   pub conserved : sum c2.quotas ≡ sum c.quotas
@@ -189,23 +210,33 @@ module _ (nodes : List Node) (c : CellMaps) (table : IsTable c) (fits : Fits nod
   }
 
   -- where the giver is an account no more, its load fits above
-  pub room2 : first_over c2 ≡ None → q v ≡ n → (e : ℕ) → covers (quota_in c1) (f v) e ≡ true → load_in c1 e + load_in c1 v < 2 ^ 32
+  pub room2 : first_over c2 ≡ None → q v ≡ n → (e : ℕ) → covers (quota_in c1) (f v) e ≡ true
+      → load_in c1 e + load_in c1 v < 2 ^ 32
   room2 none all e is =
       let root_no : v ≢ 1 = λ z. both_ways (covers (quota_in c1) (f v) e) (rw (z, chains.root) refl) is in
-      let ends : EndsAtRoot (f v) = chains.rooted v (uid_shape nodes v ∙ directory_in nodes v (sym (on_directories nodes fits v) ∙ here_v)) root_no in
-      let there_e : has c.directories e ≡ true = covered_there (quota_in c1) c.directories (f v) e (all_there nodes c fits (f v) (chains.directories v)) is in
+      let ends : EndsAtRoot (f v) = chains.rooted v (uid_shape nodes v
+      ∙ directory_in nodes v (sym (on_directories nodes fits v) ∙ here_v)) root_no in
+      let there_e : has c.directories e ≡ true = covered_there (quota_in c1) c.directories (f v) e
+      (all_there nodes c fits (f v) (chains.directories v)) is in
       let same : covers (quota_in c2) (f v) e ≡ covers (quota_in c1) (f v) e =
-      covers_above (quota_in c1) (quota_in c2) v (f v) e (quota_other nodes c1 even1 fits1 chains v (q v - n) here_v) (chains.under v) in
+      covers_above (quota_in c1) (quota_in c2) v (f v) e (quota_other nodes c1 even1 fits1 chains v (q v - n) here_v)
+      (chains.under v) in
       let bound : load_in c2 e < 2 ^ 32 = load_bound nodes c2 (table2 none) fits2 chains v e ends (same ∙ is) in
       let rises : load_in c2 e ≡ load_in c1 e + load_in c1 v = load2_rises all e there_e
       ∙ ap (λ (t : Bool). cond t (load_in c1 e + load_in c1 v) (load_in c1 e)) is in
       omega arith
 
   pub room1 : q g + n < 2 ^ 32
-  room1 = (let a : q g + q v ≤ sum c.quotas = two_le_sum c.directories c.quotas g v other in let t : sum c.quotas < 2 ^ 32 = table.total in omega arith)
+  room1 = (let a : q g + q v ≤ sum c.quotas = two_le_sum c.directories c.quotas g v other in let t : sum c.quotas < 2 ^
+      32 = table.total in omega arith)
 
   placed : (u : ℕ) → has c.directories u ≡ true → IsPlaced c.directories u (f u)
-  placed u here = record { here = here; there = all_there nodes c fits (f u) (chains.directories u); falls = falling f (f u) (chains.chain u) }
+  placed u here = record {
+    here = here;
+    there = all_there nodes c fits (f u) (chains.directories u);
+    falls =
+        falling f (f u) (chains.chain u);
+  }
 
   pub can_give : first_over c2 ≡ None → CanGive c g (f g) v (f v) n
   can_give none = record {

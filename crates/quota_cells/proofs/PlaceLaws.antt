@@ -1,9 +1,11 @@
 -- Rising uids: what stands beside a uid stands at its place; and a walk up a chain that changes the loads that cover.
-use Rattle.std.proofs.Common.{◌≡◌, ◌≢◌, ℕ, suc, zero, ◌<◌, ◌≤◌, true, false, cond, eqb, ◌&&◌, List, [], ◌∷◌, length, Result, Ok, Err, IfErr, refl, sym, ap}
+use Rattle.std.proofs.Common.{◌≡◌, ◌≢◌, ℕ, suc, zero, ◌<◌, ◌≤◌, true, false, cond, eqb, ◌&&◌, List, [], ◌∷◌, length}
+use Rattle.std.proofs.Common.{Result, Ok, Err, IfErr, refl, sym, ap}
 use Rattle.std.proofs.Common.{subst, ◌∙◌, arith, get_or, set, inl, inr}
 use Rattle.std.specs.List.Sorted.{IsBinarySearchResult}
 use Rattle.std.specs.Ordering.{nat_cmp}
-use Rattle.std.proofs.lemmas.Bool.{cases_Bool, cases_eq, cases_lt, cases_order, eqb-true, eq-eqb, ne_eqb, or_cases, and_parts, or_right, or_left}
+use Rattle.std.proofs.lemmas.Bool.{cases_Bool, cases_eq, cases_lt, cases_order, eqb-true, eq-eqb, ne_eqb, or_cases}
+use Rattle.std.proofs.lemmas.Bool.{and_parts, or_right, or_left}
 use Rattle.std.proofs.lemmas.List.{get_or-set_same, get_or-set_other, length-set, ext_get_or}
 use Rattle.std.proofs.lemmas.List.Sorted.{searched}
 use Rattle.tree_model.specs.Trees.{AreUnder}
@@ -29,7 +31,8 @@ set_at (k ∷ ks) [] i v up lt = refl
 set_at (k ∷ ks) (w ∷ vs) zero v up lt = rw (eq-eqb k k refl) refl
 set_at (k ∷ ks) (w ∷ vs) (suc i) v up lt =
     let less : k < get_or ks i 0 = up 0 (suc i) (omega arith) lt in
-    rw (ne_eqb k (get_or ks i 0) (λ q. omega arith)) (ap (λ xs. w ∷ xs) (set_at ks vs i v (rising_tail k ks up) (omega arith)))
+    rw (ne_eqb k (get_or ks i 0) (λ q. omega arith)) (ap (λ xs. w ∷ xs)
+    (set_at ks vs i v (rising_tail k ks up) (omega arith)))
 
 pub has_at : (ks : List ℕ) (i : ℕ) → i < length ks → has ks (get_or ks i 0) ≡ true
 has_at [] i lt = absurd (omega arith)
@@ -53,9 +56,11 @@ not_falling ks up i j le lt = elim (cases_eq i j) [
       (let less : get_or ks i 0 < get_or ks j 0 = up i j (omega arith) lt in omega arith)
 ]
 
-pub gap_found : (ks : List ℕ) (u : ℕ) (r : Result ℕ ℕ) → IsRising ks → IsBinarySearchResult (λ y. nat_cmp y u) ks r → IfErr r (λ i. IsGap ks u i)
+pub gap_found : (ks : List ℕ) (u : ℕ) (r : Result ℕ ℕ) → IsRising ks → IsBinarySearchResult (λ y. nat_cmp y u) ks r
+    → IfErr r (λ i. IsGap ks u i)
 gap_found ks u (Ok i) up found = tt
-gap_found ks u (Err i) up found = (let h = searched ks u (Err i) found (not_falling ks up) in record { within = h.0; below = h.1; above = h.2 })
+gap_found ks u (Err i) up found = (let h = searched ks u (Err i) found (not_falling ks up) in record
+    { within = h.0; below = h.1; above = h.2 })
 
 apart : (ks : List ℕ) → IsRising ks → (i p : ℕ) → i < length ks → p < length ks → i ≢ p → get_or ks i 0 ≢ get_or ks p 0
 apart ks up i p li lp ne e = elim (cases_order i p) [
@@ -75,7 +80,8 @@ covers_under q x (y ∷ ys) e a is = elim (or_cases (eqb y e) (eqb (q y) 0 && co
 ]
 
 pub covers_not : (q : ℕ → ℕ) (x : ℕ) (xs : List ℕ) → AreUnder x xs → covers q xs x ≡ false
-covers_not q x xs a = elim (cases_Bool (covers q xs x)) [ inl is ↦ absurd (let lt : x < x = covers_under q x xs x a is in omega arith) | inr isnt ↦ isnt ]
+covers_not q x xs a = elim (cases_Bool (covers q xs x))
+    [ inl is ↦ absurd (let lt : x < x = covers_under q x xs x a is in omega arith) | inr isnt ↦ isnt ]
 
 pub changed_none : (g : ℕ → ℕ) (q : ℕ → ℕ) (ks ws : List ℕ) → changed_where g (covers q []) ks ws ≡ ws
 changed_none g q [] ws = refl
@@ -90,7 +96,8 @@ pub record Going (g : ℕ → ℕ) (P : ℕ → Type 0) (ks : List ℕ) (q : ℕ
   pub room : (e : ℕ) → covers q left e ≡ true → P (look ks ws e)
   pub so_far : changed_where g (covers q left) ks ws ≡ goal
 
-module _ (g : ℕ → ℕ) (P : ℕ → Type 0) (ks : List ℕ) (up : IsRising ks) (q : ℕ → ℕ) (x : ℕ) (xs ws goal : List ℕ) (going : Going g P ks q (x ∷ xs) ws goal)
+module _ (g : ℕ → ℕ) (P : ℕ → Type 0) (ks : List ℕ) (up : IsRising ks) (q : ℕ → ℕ) (x : ℕ) (xs ws goal : List ℕ)
+    (going : Going g P ks q (x ∷ xs) ws goal)
     (p : ℕ) (within : p < length ks) (is : get_or ks p 0 ≡ x) where
   abbrev changed : List ℕ
   changed = set ws p (g (get_or ws p 0))
@@ -104,52 +111,66 @@ module _ (g : ℕ → ℕ) (P : ℕ → Type 0) (ks : List ℕ) (up : IsRising k
   pub going_here : P (get_or ws p 0)
   going_here = subst P (look_at ks ws p up within) (going.room (get_or ks p 0) here_covers)
 
-  other_covers : (i : ℕ) → i < length ks → i ≢ p → covers q (x ∷ xs) (get_or ks i 0) ≡ (eqb (q x) 0 && covers q xs (get_or ks i 0))
-  other_covers i lt ne = (let far : eqb x (get_or ks i 0) ≡ false = ne_eqb x (get_or ks i 0) (λ e. apart ks up i p lt within ne (sym e ∙ sym is)) in
+  other_covers : (i : ℕ) → i < length ks → i ≢ p → covers q (x ∷ xs) (get_or ks i 0)
+      ≡ (eqb (q x) 0 && covers q xs (get_or ks i 0))
+  other_covers i lt ne = (let far : eqb x (get_or ks i 0) ≡ false =
+      ne_eqb x (get_or ks i 0) (λ e. apart ks up i p lt within ne (sym e ∙ sym is)) in
       rw far refl)
 
   sizes : length changed ≡ length ws
   sizes = length-set ws p (g (get_or ws p 0))
 
-  same_next : q x ≡ 0 → (i : ℕ) → i < length ks → get_or (changed_where g (covers q xs) ks changed) i 0 ≡ get_or (changed_where g (covers q (x ∷ xs)) ks ws) i 0
+  same_next : q x ≡ 0 → (i : ℕ) → i < length ks → get_or (changed_where g (covers q xs) ks changed) i 0
+      ≡ get_or (changed_where g (covers q (x ∷ xs)) ks ws) i 0
   same_next zero_q i lt = elim (cases_eq i p) [
     | inl same ↦
         (let not_again : covers q xs (get_or ks p 0) ≡ false = rw is (covers_not q x xs going.falls.0) in
         let a : get_or (changed_where g (covers q xs) ks changed) p 0 ≡ g (get_or ws p 0) =
-        get_changed g (covers q xs) ks changed p (sizes ∙ going.loads) within ∙ rw not_again (get_or-set_same ws p (g (get_or ws p 0)) 0 in_ws) in
-        let b : get_or (changed_where g (covers q (x ∷ xs)) ks ws) p 0 ≡ g (get_or ws p 0) = get_changed g (covers q (x ∷ xs)) ks ws p going.loads within
+        get_changed g (covers q xs) ks changed p (sizes ∙ going.loads) within
+        ∙ rw not_again (get_or-set_same ws p (g (get_or ws p 0)) 0 in_ws) in
+        let b : get_or (changed_where g (covers q (x ∷ xs)) ks ws) p 0 ≡ g (get_or ws p 0) =
+        get_changed g (covers q (x ∷ xs)) ks ws p going.loads within
         ∙ ap (λ t. cond t (g (get_or ws p 0)) (get_or ws p 0)) here_covers in
         rw same (a ∙ sym b))
     | inr other ↦
         (let none : eqb (q x) 0 ≡ true = eq-eqb (q x) 0 zero_q in
-        let c : covers q (x ∷ xs) (get_or ks i 0) ≡ covers q xs (get_or ks i 0) = other_covers i lt other ∙ rw none refl in
+        let c : covers q (x ∷ xs) (get_or ks i 0) ≡ covers q xs (get_or ks i 0) = other_covers i lt other
+        ∙ rw none refl in
         let w : get_or changed i 0 ≡ get_or ws i 0 = get_or-set_other ws p i (g (get_or ws p 0)) 0 other in
-        get_changed g (covers q xs) ks changed i (sizes ∙ going.loads) lt ∙ rw (w, ← c) (sym (get_changed g (covers q (x ∷ xs)) ks ws i going.loads lt)))
+        get_changed g (covers q xs) ks changed i (sizes ∙ going.loads) lt
+        ∙ rw (w, ← c) (sym (get_changed g (covers q (x ∷ xs)) ks ws i going.loads lt)))
   ]
 
-  same_end : q x ≢ 0 → (i : ℕ) → i < length ks → get_or changed i 0 ≡ get_or (changed_where g (covers q (x ∷ xs)) ks ws) i 0
+  same_end : q x ≢ 0 → (i : ℕ) → i < length ks → get_or changed i 0
+      ≡ get_or (changed_where g (covers q (x ∷ xs)) ks ws) i 0
   same_end some_q i lt = elim (cases_eq i p) [
     | inl same ↦ rw same (get_or-set_same ws p (g (get_or ws p 0)) 0 in_ws
-        ∙ sym (get_changed g (covers q (x ∷ xs)) ks ws p going.loads within ∙ ap (λ t. cond t (g (get_or ws p 0)) (get_or ws p 0)) here_covers))
+        ∙ sym (get_changed g (covers q (x ∷ xs)) ks ws p going.loads within
+        ∙ ap (λ t. cond t (g (get_or ws p 0)) (get_or ws p 0)) here_covers))
     | inr other ↦
         (let some : eqb (q x) 0 ≡ false = ne_eqb (q x) 0 some_q in
         let c : covers q (x ∷ xs) (get_or ks i 0) ≡ false = other_covers i lt other ∙ rw some refl in
         get_or-set_other ws p i (g (get_or ws p 0)) 0 other
-        ∙ sym (get_changed g (covers q (x ∷ xs)) ks ws i going.loads lt ∙ ap (λ t. cond t (g (get_or ws i 0)) (get_or ws i 0)) c))
+        ∙ sym (get_changed g (covers q (x ∷ xs)) ks ws i going.loads lt
+        ∙ ap (λ t. cond t (g (get_or ws i 0)) (get_or ws i 0)) c))
   ]
 
   pub going_ends : q x ≢ 0 → changed ≡ goal
   going_ends some_q = (let n : length ws ≡ length ks = going.loads in
-      ext_get_or 0 changed (changed_where g (covers q (x ∷ xs)) ks ws) (sizes ∙ sym (length_changed g (covers q (x ∷ xs)) ks ws going.loads))
+      ext_get_or 0 changed (changed_where g (covers q (x ∷ xs)) ks ws)
+      (sizes ∙ sym (length_changed g (covers q (x ∷ xs)) ks ws going.loads))
       (λ i lt. same_end some_q i (let m = sizes in omega arith))) ∙ going.so_far
 
   still_room : q x ≡ 0 → (e : ℕ) → covers q xs e ≡ true → P (look ks changed e)
   still_room zero_q e c =
       let less : e < x = covers_under q x xs e going.falls.0 c in
       let there : has ks (get_or ks p 0) ≡ true = has_at ks p within in
-      let same : look ks changed e ≡ look ks ws e = ap (λ vs. look ks vs e) (set_at ks ws p (g (get_or ws p 0)) up within)
-      ∙ look_with ks ws (get_or ks p 0) (g (get_or ws p 0)) e going.loads there ∙ rw (ne_eqb (get_or ks p 0) e (λ z. omega arith)) refl in
-      subst P (sym same) (going.room e (or_right (eqb x e) (eqb (q x) 0 && covers q xs e) (rw (eq-eqb (q x) 0 zero_q) c)))
+      let same : look ks changed e ≡ look ks ws e = ap (λ vs. look ks vs e)
+      (set_at ks ws p (g (get_or ws p 0)) up within)
+      ∙ look_with ks ws (get_or ks p 0) (g (get_or ws p 0)) e going.loads there
+      ∙ rw (ne_eqb (get_or ks p 0) e (λ z. omega arith)) refl in
+      subst P (sym same) (going.room e (or_right (eqb x e) (eqb (q x) 0 && covers q xs e)
+      (rw (eq-eqb (q x) 0 zero_q) c)))
 
   pub going_next : q x ≡ 0 → Going g P ks q xs changed goal
   going_next zero_q = record {
@@ -158,8 +179,10 @@ module _ (g : ℕ → ℕ) (P : ℕ → Type 0) (ks : List ℕ) (up : IsRising k
     falls = going.falls.1;
     room = still_room zero_q;
     so_far = ext_get_or 0 (changed_where g (covers q xs) ks changed) (changed_where g (covers q (x ∷ xs)) ks ws)
-        (length_changed g (covers q xs) ks changed (sizes ∙ going.loads) ∙ sizes ∙ sym (length_changed g (covers q (x ∷ xs)) ks ws going.loads))
-        (λ i lt. same_next zero_q i (let m = length_changed g (covers q xs) ks changed (sizes ∙ going.loads) in let n : length ws ≡ length ks = going.loads in
+        (length_changed g (covers q xs) ks changed (sizes ∙ going.loads) ∙ sizes
+        ∙ sym (length_changed g (covers q (x ∷ xs)) ks ws going.loads))
+        (λ i lt. same_next zero_q i (let m = length_changed g (covers q xs) ks changed (sizes ∙ going.loads) in let n :
+        length ws ≡ length ks = going.loads in
         let k = sizes in omega arith))
         ∙ going.so_far;
   }

@@ -1,14 +1,18 @@
 -- The first account above its quota once quota has moved down to a directory, or up from it.
-use Rattle.std.proofs.Common.{◌≡◌, ◌≢◌, ℕ, ◌+◌, ◌-◌, ◌<◌, ◌≤◌, Bool, true, false, cond, eqb, ltb, not, ◌&&◌, ◌||◌, if◌then◌else◌, List, [], ◌∷◌, length}
-use Rattle.std.proofs.Common.{Option, Some, None, Result, Ok, Err, refl, sym, ap, subst, ◌∙◌, arith, get_or, inl, inr, ◌⊎◌}
-use Rattle.std.proofs.lemmas.Bool.{cases_Bool, cases_eq, cases_lt, both_ways, eqb-true, eq-eqb, ne_eqb, and_parts, or_left, false_from_ne_true, le-ltb, lt-ltb}
+use Rattle.std.proofs.Common.{◌≡◌, ◌≢◌, ℕ, ◌+◌, ◌-◌, ◌<◌, ◌≤◌, Bool, true, false, cond, eqb, ltb, not, ◌&&◌, ◌||◌}
+use Rattle.std.proofs.Common.{if◌then◌else◌, List, [], ◌∷◌, length}
+use Rattle.std.proofs.Common.{Option, Some, None, Result, Ok, Err, refl, sym, ap, subst, ◌∙◌, arith, get_or, inl, inr}
+use Rattle.std.proofs.Common.{◌⊎◌}
+use Rattle.std.proofs.lemmas.Bool.{cases_Bool, cases_eq, cases_lt, both_ways, eqb-true, eq-eqb, ne_eqb, and_parts}
+use Rattle.std.proofs.lemmas.Bool.{or_left, false_from_ne_true, le-ltb, lt-ltb}
 use Rattle.tree_model.specs.Tree.{above, account}
 use Rattle.dir_tree.specs.declared.node.Node.{Node}
 use Rattle.dir_tree.specs.Nodes.{is_directory}
 use Rattle.dir_tree.specs.Shape.{shapes}
 use Rattle.tree_model.specs.Trees.{HasChains, AreUnder, IsChain, EndsAtRoot, AreDirectories}
 use Rattle.quota_cells.specs.Accounts.{has, covers, is_an_account}
-use Rattle.quota_cells.specs.Cells.{CellMaps, quota_in, load_in, Fits, IsTable, is_over, first_over, move_answer, over_answer, moved}
+use Rattle.quota_cells.specs.Cells.{CellMaps, quota_in, load_in, Fits, IsTable, is_over, first_over, move_answer}
+use Rattle.quota_cells.specs.Cells.{over_answer, moved}
 use Rattle.tree_model.specs.Quotas.{superior_of, giver_of}
 use Rattle.quota_cells.specs.declared.MoveFault.{MoveFault}
 use Rattle.quota_cells.specs.declared.MoveFault.TheVariants as fault
@@ -16,12 +20,14 @@ use Rattle.quota_cells.proofs.PlaceLaws.{covers_under, covers_not}
 use Rattle.quota_cells.proofs.AccountLaws.{account_is, account_covers, account_of_chain}
 use Rattle.dir_tree.specs.Laws.{uid_shape, directory_in}
 use Rattle.quota_cells.proofs.FitLaws.{all_there, account_there}
-use Rattle.quota_cells.proofs.OverLaws.{none_passes, first_passes, c1, c2, q1_g, q1_other, q2_g, q2_v, q2_other, load1_falls, load1_stays, load2_rises}
+use Rattle.quota_cells.proofs.OverLaws.{none_passes, first_passes, c1, c2, q1_g, q1_other, q2_g, q2_v, q2_other}
+use Rattle.quota_cells.proofs.OverLaws.{load1_falls, load1_stays, load2_rises}
 use Rattle.quota_cells.proofs.OverLaws.{load2_stays, over_who}
 use Rattle.dir_tree.specs.Laws.{directory_shape}
 use Rattle.quota_cells.specs.Laws.{on_directories}
 
-account_above : (q r : ℕ → ℕ) (x : ℕ) (xs : List ℕ) → ((y : ℕ) → y ≢ x → r y ≡ q y) → AreUnder x xs → account r xs ≡ account q xs
+account_above : (q r : ℕ → ℕ) (x : ℕ) (xs : List ℕ) → ((y : ℕ) → y ≢ x → r y ≡ q y) → AreUnder x xs → account r xs
+    ≡ account q xs
 account_above q r x [] same a = refl
 account_above q r x (y ∷ ys) same a = (let here : r y ≡ q y = same y (λ z. (let lt : y < x = a.0 in omega arith)) in
     rw (here, account_above q r x ys same a.1) refl)
@@ -36,29 +42,43 @@ pub record IsBelow (nodes : List Node) (d s : ℕ) : Type 0 where
   pub below : s < d
   pub directory : is_directory nodes s ≡ true
 
-top_of : (nodes : List Node) (d : ℕ) (xs : List ℕ) → above (shapes nodes) d ≡ xs → EndsAtRoot xs → IsChain (above (shapes nodes)) xs → AreUnder d xs
+top_of : (nodes : List Node) (d : ℕ) (xs : List ℕ) → above (shapes nodes) d ≡ xs → EndsAtRoot xs
+    → IsChain (above (shapes nodes)) xs → AreUnder d xs
     → AreDirectories (shapes nodes) xs → IsBelow nodes d (get_or (above (shapes nodes) d) 0 0)
 top_of nodes d [] e ends chain under dirs = absurd ends
 top_of nodes d (x ∷ xs) e ends chain under dirs =
     let is : get_or (above (shapes nodes) d) 0 0 ≡ x = ap (λ (ys : List ℕ). get_or ys 0 0) e in
-    rw is (record { chain = e ∙ ap (λ ys. x ∷ ys) chain.0; below = under.0; directory = sym (directory_shape nodes x) ∙ dirs.0 })
+    rw is (record {
+      chain = e ∙ ap (λ ys. x ∷ ys) chain.0;
+      below = under.0;
+      directory = sym (directory_shape nodes x)
+          ∙ dirs.0;
+    })
 
-pub top : (nodes : List Node) → HasChains (shapes nodes) → (d : ℕ) → is_directory nodes d ≡ true → d ≢ 1 → IsBelow nodes d (get_or (above (shapes nodes) d) 0 0)
-top nodes chains d is ne = top_of nodes d (above (shapes nodes) d) refl (chains.rooted d (uid_shape nodes d ∙ directory_in nodes d is) ne) (chains.chain d)
+pub top : (nodes : List Node) → HasChains (shapes nodes) → (d : ℕ) → is_directory nodes d ≡ true → d ≢ 1
+    → IsBelow nodes d (get_or (above (shapes nodes) d) 0 0)
+top nodes chains d is ne = top_of nodes d (above (shapes nodes) d) refl
+    (chains.rooted d (uid_shape nodes d ∙ directory_in nodes d is) ne) (chains.chain d)
     (chains.under d) (chains.directories d)
 
-pub not_empty : (nodes : List Node) → HasChains (shapes nodes) → (d : ℕ) → is_directory nodes d ≡ true → d ≢ 1 → 0 < length (above (shapes nodes) d)
-not_empty nodes chains d is ne = long (above (shapes nodes) d) (chains.rooted d (uid_shape nodes d ∙ directory_in nodes d is) ne)
+pub not_empty : (nodes : List Node) → HasChains (shapes nodes) → (d : ℕ) → is_directory nodes d ≡ true → d ≢ 1
+    → 0 < length (above (shapes nodes) d)
+not_empty nodes chains d is ne = long (above (shapes nodes) d)
+    (chains.rooted d (uid_shape nodes d ∙ directory_in nodes d is) ne)
   where
     long : (xs : List ℕ) → EndsAtRoot xs → 0 < length xs
     long [] e = absurd e
     long (x ∷ xs) e = omega arith
 
-pub top_covers : (nodes : List Node) (r : ℕ → ℕ) (d s : ℕ) → above (shapes nodes) d ≡ s ∷ above (shapes nodes) s → covers r (above (shapes nodes) d) s ≡ true
-top_covers nodes r d s up = rw up (or_left (eqb s s) (eqb (r s) 0 && covers r (above (shapes nodes) s) s) (eq-eqb s s refl))
+pub top_covers : (nodes : List Node) (r : ℕ → ℕ) (d s : ℕ) → above (shapes nodes) d ≡ s ∷ above (shapes nodes) s
+    → covers r (above (shapes nodes) d) s ≡ true
+top_covers nodes r d s up = rw up (or_left (eqb s s) (eqb (r s) 0 && covers r (above (shapes nodes) s) s)
+    (eq-eqb s s refl))
 
-module _ (nodes : List Node) (c : CellMaps) (table : IsTable c) (fits : Fits nodes c) (chains : HasChains (shapes nodes)) (d s n : ℕ)
-    (up : above (shapes nodes) d ≡ s ∷ above (shapes nodes) s) (here_d : has c.directories d ≡ true) (here_s : has c.directories s ≡ true) (below : s < d)
+module _ (nodes : List Node) (c : CellMaps) (table : IsTable c) (fits : Fits nodes c)
+    (chains : HasChains (shapes nodes)) (d s n : ℕ)
+    (up : above (shapes nodes) d ≡ s ∷ above (shapes nodes) s) (here_d : has c.directories d ≡ true)
+    (here_s : has c.directories s ≡ true) (below : s < d)
     (some : 0 < n) where
   abbrev f : ℕ → List ℕ
   f = above (shapes nodes)
@@ -104,7 +124,8 @@ module _ (nodes : List Node) (c : CellMaps) (table : IsTable c) (fits : Fits nod
 
     load1_d : load_in m1 d ≡ load_in c d
     load1_d = elim (cases_eq (q d) 0) [
-      | inl none ↦ load1_falls nodes c table fits chains d s n d_not_s here_d here_s some enough none d here_d ∙ rw (covers_not q d (f d) (chains.under d)) refl
+      | inl none ↦ load1_falls nodes c table fits chains d s n d_not_s here_d here_s some enough none d here_d
+          ∙ rw (covers_not q d (f d) (chains.under d)) refl
       | inr is ↦ load1_stays nodes c table fits chains d s n d_not_s here_d here_s some enough is d here_d
     ]
 
@@ -116,11 +137,13 @@ module _ (nodes : List Node) (c : CellMaps) (table : IsTable c) (fits : Fits nod
     ]
 
     not_above : covers (quota_in m1) (f s) d ≡ false
-    not_above = false_from_ne_true _ (λ is. (let lt : d < s = covers_under (quota_in m1) s (f s) d (chains.under s) is in omega arith))
+    not_above = false_from_ne_true _ (λ is. (let lt : d < s =
+        covers_under (quota_in m1) s (f s) d (chains.under s) is in omega arith))
 
     pub down_load_d : load_in m2 d ≡ load_in c d
     down_load_d = elim (cases_eq (q s) n) [
-      | inl all ↦ load2_rises nodes c table fits chains d s n d_not_s here_d here_s some enough all d here_d ∙ rw not_above load1_d
+      | inl all ↦ load2_rises nodes c table fits chains d s n d_not_s here_d here_s some enough all d here_d
+          ∙ rw not_above load1_d
       | inr part ↦ load2_stays nodes c table fits chains d s n d_not_s here_d here_s some enough part d here_d ∙ load1_d
     ]
 
@@ -138,12 +161,18 @@ module _ (nodes : List Node) (c : CellMaps) (table : IsTable c) (fits : Fits nod
     load1_above b h lt = elim (cases_eq (q d) 0) [
       | inr is ↦ load1_stays nodes c table fits chains d s n d_not_s here_d here_s some enough is b h
       | inl none ↦
-          (let off : covers q (f d) b ≡ false = rw (up, ne_eqb s b (λ e. omega arith), ne_eqb (q s) 0 (λ e. omega arith)) refl in
+          (let off : covers q (f d) b ≡ false = rw (
+            up,
+            ne_eqb s b (λ e. omega arith),
+            ne_eqb (q s) 0
+                (λ e. omega arith),
+          ) refl in
           load1_falls nodes c table fits chains d s n d_not_s here_d here_s some enough none b h ∙ rw off refl)
     ]
 
     ends_s : s ≢ 1 → EndsAtRoot (f s)
-    ends_s ne = chains.rooted s (uid_shape nodes s ∙ directory_in nodes s (sym (on_directories nodes fits s) ∙ here_s)) ne
+    ends_s ne = chains.rooted s (uid_shape nodes s ∙ directory_in nodes s (sym (on_directories nodes fits s) ∙ here_s))
+        ne
 
     x_covers : s ≢ 1 → covers (quota_in m1) (f s) x ≡ true
     x_covers ne = subst (λ y. covers (quota_in m1) (f s) y ≡ true) x_is (account_covers (quota_in m1) (f s) (ends_s ne))
@@ -157,13 +186,15 @@ module _ (nodes : List Node) (c : CellMaps) (table : IsTable c) (fits : Fits nod
     pub down_load_x : q s ≡ n → s ≢ 1 → load_in m2 x ≡ load_in c x + left
     down_load_x all ne =
         load2_rises nodes c table fits chains d s n d_not_s here_d here_s some enough all x (x_there ne)
-        ∙ rw (x_covers ne) (let a : load_in m1 x ≡ load_in c x = load1_above x (x_there ne) (x_below ne) in let b : load_in m1 s ≡ left = load1_s in
+        ∙ rw (x_covers ne) (let a : load_in m1 x ≡ load_in c x =
+        load1_above x (x_there ne) (x_below ne) in let b : load_in m1 s ≡ left = load1_s in
         omega arith)
 
     pub over_x : q s ≡ n → s ≢ 1 → is_over m2 x ≡ ltb (q x) (load_in c x + left)
     over_x all ne =
         (let lt : x < s = x_below ne in
-        let quota : quota_in m2 x ≡ q x = q2_other nodes c table fits chains d s n d_not_s here_d here_s some enough x (λ e. omega arith) (λ e. omega arith) in
+        let quota : quota_in m2 x ≡ q x = q2_other nodes c table fits chains d s n d_not_s here_d here_s some enough x
+        (λ e. omega arith) (λ e. omega arith) in
         let own : is_an_account q x ≡ true = account_of_chain q (f s) in
         rw (quota, down_load_x all ne, own) refl)
 
@@ -175,49 +206,65 @@ module _ (nodes : List Node) (c : CellMaps) (table : IsTable c) (fits : Fits nod
         rw (q2_g nodes c table fits chains d s n d_not_s here_d here_s some enough, down_load_d, is)
         (elim (cases_Bool (eqb d 1)) [ inl t ↦ rw t refl | inr u ↦ rw u refl ]))
 
-    who : (b : ℕ) → has c.directories b ≡ true → is_over m2 b ≡ true → (b ≡ d) ⊎ ((b ≡ s) ⊎ ((q s ≡ n) × (s ≢ 1) × (b ≡ x)))
+    who : (b : ℕ) → has c.directories b ≡ true → is_over m2 b ≡ true → (b ≡ d)
+        ⊎ ((b ≡ s) ⊎ ((q s ≡ n) × (s ≢ 1) × (b ≡ x)))
     who b h over = elim (over_who nodes c table fits chains d s n d_not_s here_d here_s some enough b h over) [
       | inl at_d ↦ inl at_d
       | inr rest ↦ elim rest [
         | inl at_s ↦ inr (inl at_s)
         | inr w ↦
             (let not_root : s ≢ 1 = λ e. both_ways (covers (quota_in m1) (f s) b) (rw (e, chains.root) refl) w.1 in
-            let is_x : account (quota_in m1) (f s) ≡ b = eqb-true _ _ (sym (account_is (quota_in m1) (f s) b (ends_s not_root) w.2) ∙ w.1) in
+            let is_x : account (quota_in m1) (f s) ≡ b =
+            eqb-true _ _ (sym (account_is (quota_in m1) (f s) b (ends_s not_root) w.2) ∙ w.1) in
             inr (inr (w.0, not_root, sym is_x ∙ x_is)))
       ]
     ]
 
     pub first_is_x : q s ≡ n → s ≢ 1 → is_over m2 x ≡ true → first_over m2 ≡ Some x
-    first_is_x all ne over = first_passes (is_over m2) c.directories x table.rising (x_there ne) over (λ b h lt. false_from_ne_true _ (λ o. elim (who b h o) [
-      | inl at_d ↦ (let l : x < s = x_below ne in omega arith)
-      | inr rest ↦ elim rest [ inl at_s ↦ (let l : x < s = x_below ne in omega arith) | inr w ↦ (let e : b ≡ x = w.2 in omega arith) ]
-    ]))
+    first_is_x all ne over = first_passes (is_over m2) c.directories x table.rising (x_there ne) over
+        (λ b h lt. false_from_ne_true _ (λ o. elim (who b h o) [
+          | inl at_d ↦ (let l : x < s = x_below ne in omega arith)
+          | inr rest ↦ elim rest [
+            | inl at_s ↦ (let l : x < s = x_below ne in omega arith)
+            | inr w ↦
+                (let e : b ≡ x = w.2 in omega arith)
+          ]
+        ]))
 
     pub first_is_s : (q s ≡ n → s ≢ 1 → is_over m2 x ≡ false) → is_over m2 s ≡ true → first_over m2 ≡ Some s
-    first_is_s not_x over = first_passes (is_over m2) c.directories s table.rising here_s over (λ b h lt. false_from_ne_true _ (λ o. elim (who b h o) [
-      | inl at_d ↦ omega arith
-      | inr rest ↦ elim rest [ inl at_s ↦ omega arith | inr w ↦ both_ways (is_over m2 x) (not_x w.0 w.1) (subst (λ y. is_over m2 y ≡ true) w.2 o) ]
-    ]))
+    first_is_s not_x over = first_passes (is_over m2) c.directories s table.rising here_s over
+        (λ b h lt. false_from_ne_true _ (λ o. elim (who b h o) [
+          | inl at_d ↦ omega arith
+          | inr rest ↦ elim rest [
+            | inl at_s ↦ omega arith
+            | inr w ↦ both_ways (is_over m2 x) (not_x w.0 w.1)
+                (subst (λ y. is_over m2 y ≡ true) w.2 o)
+          ]
+        ]))
 
-    pub first_is_d : (q s ≡ n → s ≢ 1 → is_over m2 x ≡ false) → is_over m2 s ≡ false → is_over m2 d ≡ true → first_over m2 ≡ Some d
-    first_is_d not_x not_s over = first_passes (is_over m2) c.directories d table.rising here_d over (λ b h lt. false_from_ne_true _ (λ o. elim (who b h o) [
-      | inl at_d ↦ omega arith
-      | inr rest ↦ elim rest [
-        | inl at_s ↦ both_ways (is_over m2 s) not_s (subst (λ y. is_over m2 y ≡ true) at_s o)
-        | inr w ↦
-            both_ways (is_over m2 x) (not_x w.0 w.1) (subst (λ y. is_over m2 y ≡ true) w.2 o)
-      ]
-    ]))
+    pub first_is_d : (q s ≡ n → s ≢ 1 → is_over m2 x ≡ false) → is_over m2 s ≡ false → is_over m2 d ≡ true
+        → first_over m2 ≡ Some d
+    first_is_d not_x not_s over = first_passes (is_over m2) c.directories d table.rising here_d over
+        (λ b h lt. false_from_ne_true _ (λ o. elim (who b h o) [
+          | inl at_d ↦ omega arith
+          | inr rest ↦ elim rest [
+            | inl at_s ↦ both_ways (is_over m2 s) not_s (subst (λ y. is_over m2 y ≡ true) at_s o)
+            | inr w ↦
+                both_ways (is_over m2 x) (not_x w.0 w.1) (subst (λ y. is_over m2 y ≡ true) w.2 o)
+          ]
+        ]))
 
-    pub none_down : (q s ≡ n → s ≢ 1 → is_over m2 x ≡ false) → is_over m2 s ≡ false → is_over m2 d ≡ false → first_over m2 ≡ None
-    none_down not_x not_s not_d = none_passes (is_over m2) c.directories (λ b h. false_from_ne_true _ (λ o. elim (who b h o) [
-      | inl at_d ↦ both_ways (is_over m2 d) not_d (subst (λ y. is_over m2 y ≡ true) at_d o)
-      | inr rest ↦ elim rest [
-        | inl at_s ↦ both_ways (is_over m2 s) not_s (subst (λ y. is_over m2 y ≡ true) at_s o)
-        | inr w ↦
-            both_ways (is_over m2 x) (not_x w.0 w.1) (subst (λ y. is_over m2 y ≡ true) w.2 o)
-      ]
-    ]))
+    pub none_down : (q s ≡ n → s ≢ 1 → is_over m2 x ≡ false) → is_over m2 s ≡ false → is_over m2 d ≡ false
+        → first_over m2 ≡ None
+    none_down not_x not_s not_d = none_passes (is_over m2) c.directories
+        (λ b h. false_from_ne_true _ (λ o. elim (who b h o) [
+          | inl at_d ↦ both_ways (is_over m2 d) not_d (subst (λ y. is_over m2 y ≡ true) at_d o)
+          | inr rest ↦ elim rest [
+            | inl at_s ↦ both_ways (is_over m2 s) not_s (subst (λ y. is_over m2 y ≡ true) at_s o)
+            | inr w ↦
+                both_ways (is_over m2 x) (not_x w.0 w.1) (subst (λ y. is_over m2 y ≡ true) w.2 o)
+          ]
+        ]))
 
     -- the test that the code makes
     abbrev pub above_test : Bool
@@ -248,17 +295,20 @@ module _ (nodes : List Node) (c : CellMaps) (table : IsTable c) (fits : Fits nod
     up_is is = rw is (rw (le-ltb (q d) n enough) refl)
 
     d_off : (r : ℕ → ℕ) → covers r (f s) d ≡ false
-    d_off r = false_from_ne_true _ (λ is. (let lt : d < s = covers_under r s (f s) d (chains.under s) is in omega arith))
+    d_off r = false_from_ne_true _ (λ is. (let lt : d < s =
+        covers_under r s (f s) d (chains.under s) is in omega arith))
 
     up1_s : load_in u1 s ≡ load_in c s
     up1_s = elim (cases_eq (q s) 0) [
-      | inl none ↦ load1_falls nodes c table fits chains s d n s_not_d here_s here_d some enough none s here_s ∙ rw (covers_not q s (f s) (chains.under s)) refl
+      | inl none ↦ load1_falls nodes c table fits chains s d n s_not_d here_s here_d some enough none s here_s
+          ∙ rw (covers_not q s (f s) (chains.under s)) refl
       | inr is ↦ load1_stays nodes c table fits chains s d n s_not_d here_s here_d some enough is s here_s
     ]
 
     up1_d : load_in u1 d ≡ load_in c d
     up1_d = elim (cases_eq (q s) 0) [
-      | inl none ↦ load1_falls nodes c table fits chains s d n s_not_d here_s here_d some enough none d here_d ∙ rw (d_off q) refl
+      | inl none ↦ load1_falls nodes c table fits chains s d n s_not_d here_s here_d some enough none d here_d
+          ∙ rw (d_off q) refl
       | inr is ↦ load1_stays nodes c table fits chains s d n s_not_d here_s here_d some enough is d here_d
     ]
 
@@ -268,7 +318,8 @@ module _ (nodes : List Node) (c : CellMaps) (table : IsTable c) (fits : Fits nod
     abbrev pub more : ℕ
     more = if eqb (q d - n) 0 then load_in c s + load_in c d else load_in c s
 
-    two : (if covers (quota_in u1) (f d) s then load_in u1 s + load_in u1 d else load_in u1 s) ≡ load_in c s + load_in c d
+    two : (if covers (quota_in u1) (f d) s then load_in u1 s + load_in u1 d else load_in u1 s)
+        ≡ load_in c s + load_in c d
     two = ap (λ (t : Bool). cond t (load_in u1 s + load_in u1 d) (load_in u1 s)) covers_s
         ∙ (let a : load_in u1 s ≡ load_in c s = up1_s in let b : load_in u1 d ≡ load_in c d = up1_d in omega arith)
 
@@ -277,7 +328,8 @@ module _ (nodes : List Node) (c : CellMaps) (table : IsTable c) (fits : Fits nod
       | inl all ↦ load2_rises nodes c table fits chains s d n s_not_d here_s here_d some enough all s here_s ∙ two
           ∙ sym (ap (λ (t : Bool). cond t (load_in c s + load_in c d) (load_in c s)) (eq-eqb (q d - n) 0 (omega arith)))
       | inr part ↦ load2_stays nodes c table fits chains s d n s_not_d here_s here_d some enough part s here_s ∙ up1_s
-          ∙ sym (ap (λ (t : Bool). cond t (load_in c s + load_in c d) (load_in c s)) (ne_eqb (q d - n) 0 (λ e. part (omega arith))))
+          ∙ sym (ap (λ (t : Bool). cond t (load_in c s + load_in c d) (load_in c s))
+          (ne_eqb (q d - n) 0 (λ e. part (omega arith))))
     ]
 
     pub up_load_d : load_in u2 d ≡ load_in c d
@@ -293,7 +345,12 @@ module _ (nodes : List Node) (c : CellMaps) (table : IsTable c) (fits : Fits nod
         (elim (cases_Bool (eqb s 1)) [ inl t ↦ rw t refl | inr u ↦ rw u refl ]))
 
     pub up_over_d : d ≢ 1 → is_over u2 d ≡ (not (eqb (q d - n) 0) && ltb (q d - n) (load_in c d))
-    up_over_d ne = rw (q2_v nodes c table fits chains s d n s_not_d here_s here_d some enough, up_load_d, ne_eqb d 1 ne) refl
+    up_over_d ne = rw (
+      q2_v nodes c table fits chains s d n s_not_d here_s here_d some enough,
+      up_load_d,
+      ne_eqb d 1
+          ne,
+    ) refl
 
     up_who : (b : ℕ) → has c.directories b ≡ true → is_over u2 b ≡ true → (b ≡ s) ⊎ (b ≡ d)
     up_who b h over = elim (over_who nodes c table fits chains s d n s_not_d here_s here_d some enough b h over) [
@@ -301,7 +358,8 @@ module _ (nodes : List Node) (c : CellMaps) (table : IsTable c) (fits : Fits nod
       | inr rest ↦ elim rest [
         | inl at_d ↦ inr at_d
         | inr w ↦
-            (let quota : quota_in u1 s ≡ q s + n = q1_g nodes c table fits chains s d n s_not_d here_s here_d some enough in
+            (let quota : quota_in u1 s ≡ q s + n = q1_g nodes c table fits chains s d n s_not_d here_s here_d some
+            enough in
             let stop : eqb (quota_in u1 s) 0 ≡ false = ne_eqb (quota_in u1 s) 0 (λ e. omega arith) in
             elim (cases_eq s b) [
               | inl same ↦ inl (sym same)
@@ -318,7 +376,11 @@ module _ (nodes : List Node) (c : CellMaps) (table : IsTable c) (fits : Fits nod
     pub up_first_d : is_over u2 s ≡ false → is_over u2 d ≡ true → first_over u2 ≡ Some d
     up_first_d not_s over = first_passes (is_over u2) c.directories d table.rising here_d over
         (λ b h lt. false_from_ne_true _ (λ o. elim
-        (up_who b h o) [ inl at_s ↦ both_ways (is_over u2 s) not_s (subst (λ y. is_over u2 y ≡ true) at_s o) | inr at_d ↦ omega arith ]))
+        (up_who b h o) [
+          | inl at_s ↦ both_ways (is_over u2 s) not_s (subst (λ y. is_over u2 y ≡ true) at_s o)
+          | inr at_d
+              ↦ omega arith
+        ]))
 
     pub up_none : is_over u2 s ≡ false → is_over u2 d ≡ false → first_over u2 ≡ None
     up_none not_s not_d = none_passes (is_over u2) c.directories
@@ -343,7 +405,8 @@ answer_ok c up d b n e = elim (cases_lt (quota_in c (giver_of up d b)) n) [
 ]
 
 -- the same of what a call answered, and of the numbers that it was asked with
-pub may_go : (c : CellMaps) (up : ℕ → List ℕ) (d n : ℕ) (down : Bool) {r : Result (Unit {0}) MoveFault} → r ≡ move_answer c up d down n → r ≡ Ok tt
+pub may_go : (c : CellMaps) (up : ℕ → List ℕ) (d n : ℕ) (down : Bool) {r : Result (Unit {0}) MoveFault} → r
+    ≡ move_answer c up d down n → r ≡ Ok tt
     → (b : Bool) → down ≡ b → (pages : ℕ) → pages ≡ n
     → (pages ≤ quota_in c (giver_of up d b)) × (first_over (moved c up d b pages) ≡ None)
 may_go c up d n down answer ok b is pages same = answer_ok c up d b pages (rw same (rw is at (sym answer ∙ ok)))

@@ -1,7 +1,8 @@
 -- What a contract sees of quota cells: a finite map from directory to quota, one from segment to stored pages, and
 -- for each directory the stored pages below it that no lower account takes (Organick 1972). A map is a list of uids
 -- with a list of values beside them.
-use Rattle.std.specs.Prelude.{◌≡◌, ◌≢◌, ℕ, ◌+◌, ◌-◌, ◌<◌, ◌≤◌, ◌==◌, ◌^◌, Bool, true, false, ◌&&◌, ◌||◌, not, if◌then◌else◌, List, [], ◌∷◌, length, Option}
+use Rattle.std.specs.Prelude.{◌≡◌, ◌≢◌, ℕ, ◌+◌, ◌-◌, ◌<◌, ◌≤◌, ◌==◌, ◌^◌, Bool, true, false, ◌&&◌, ◌||◌, not}
+use Rattle.std.specs.Prelude.{if◌then◌else◌, List, [], ◌∷◌, length, Option}
 use Rattle.std.specs.Prelude.{Some, None, slice_index, sum, nat_lt, Result, Ok, Err}
 use Rattle.tree_model.specs.Tree.{Node as Term, above, account, has_directory}
 use Rattle.tree_model.specs.Quotas.{getter_of, giver_of}
@@ -12,7 +13,8 @@ use Rattle.std.specs.List.{find}
 use Rattle.quota_cells.specs.declared.Full.{Full}
 use Rattle.quota_cells.specs.declared.MoveFault.{MoveFault}
 use Rattle.quota_cells.specs.declared.MoveFault.TheVariants as fault
-use Rattle.quota_cells.specs.Accounts.{look, has, with_value, with_beside, without_beside, covers, weigh, load, charged_to, is_an_account, changed_where}
+use Rattle.quota_cells.specs.Accounts.{look, has, with_value, with_beside, without_beside, covers, weigh, load}
+use Rattle.quota_cells.specs.Accounts.{charged_to, is_an_account, changed_where}
 
 pub record CellMaps : Type 0 where
   pub directories : List ℕ
@@ -100,11 +102,13 @@ loads_then c up d false false = c.loads
 
 -- the cells once a directory below these has another quota
 abbrev pub with_quota : CellMaps → List ℕ → ℕ → ℕ → CellMaps
-with_quota c up d v = record (with_loads c (loads_then c up d (quota_in c d == 0) (v == 0))) { quotas = with_value c.directories c.quotas d v }
+with_quota c up d v = record (with_loads c (loads_then c up d (quota_in c d == 0) (v == 0)))
+    { quotas = with_value c.directories c.quotas d v }
 
 -- whether a page of a segment below these can be charged, or the account that is full
 abbrev pub charge_fault : CellMaps → List ℕ → Result (Unit {0}) Full
-charge_fault c up = if load_in c (account (quota_in c) up) == quota_in c (account (quota_in c) up) then Err (record { account = account (quota_in c) up })
+charge_fault c up = if load_in c (account (quota_in c) up) == quota_in c (account (quota_in c) up)
+    then Err (record { account = account (quota_in c) up })
     else Ok tt
 
 -- So each used count is, in this tree, the number of stored pages of the segments whose account this is.
@@ -121,7 +125,11 @@ with_directory c u = record c {
 }
 
 abbrev pub with_segment : CellMaps → ℕ → CellMaps
-with_segment c u = record c { segments = with_beside c.segments c.segments u u; stored = with_beside c.segments c.stored u 0 }
+with_segment c u = record c {
+  segments = with_beside c.segments c.segments u u;
+  stored =
+      with_beside c.segments c.stored u 0;
+}
 
 abbrev pub without_directory : CellMaps → ℕ → CellMaps
 without_directory c u = record c {
@@ -131,7 +139,11 @@ without_directory c u = record c {
 }
 
 abbrev pub without_segment : CellMaps → ℕ → CellMaps
-without_segment c u = record c { segments = without_beside c.segments c.segments u; stored = without_beside c.segments c.stored u }
+without_segment c u = record c {
+  segments = without_beside c.segments c.segments u;
+  stored =
+      without_beside c.segments c.stored u;
+}
 
 -- the cells once a directory or a segment has an empty one, and once a uid has none any more
 abbrev pub entered : CellMaps → ℕ → Bool → CellMaps

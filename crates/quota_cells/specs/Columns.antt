@@ -8,7 +8,12 @@ use Rattle.quota_cells.specs.Cells.{CellMaps, quota_in, load_in, no_cells, with_
 
 -- the maps of directories alone, of segments alone, and of both
 abbrev pub directory_maps : List Cell → CellMaps
-directory_maps cells = record no_cells { directories = map (λ c. c.uid) cells; quotas = map (λ c. c.quota) cells; loads = map (λ c. c.load) cells }
+directory_maps cells = record no_cells {
+  directories = map (λ c. c.uid) cells;
+  quotas =
+      map (λ c. c.quota) cells;
+  loads = map (λ c. c.load) cells;
+}
 
 abbrev pub segment_maps : List Count → CellMaps
 segment_maps counts = record no_cells { segments = map (λ c. c.uid) counts; stored = map (λ c. c.pages) counts }
@@ -18,7 +23,12 @@ both_maps d s = record d { segments = s.segments; stored = s.stored }
 
 -- the directory's cell that stands there
 abbrev pub cell_from : CellMaps → ℕ → Cell
-cell_from c i = record { uid = slice_index c.directories i; quota = slice_index c.quotas i; load = slice_index c.loads i }
+cell_from c i = record {
+  uid = slice_index c.directories i;
+  quota = slice_index c.quotas i;
+  load =
+      slice_index c.loads i;
+}
 
 -- a uid isn't there, and would stand at this place: smaller ones before it, greater ones from there on
 pub record IsGap (ks : List ℕ) (u i : ℕ) : Type 0 where
@@ -41,14 +51,16 @@ pub record IsPlaced (directories : List ℕ) (d : ℕ) (up : List ℕ) : Type 0 
   pub falls : IsFalling up
 
 -- One directory can give another so many pages: it has them, and what becomes of the loads is a number of 32 bits.
-pub record CanGive (c : CellMaps) (getter : ℕ) (above_getter : List ℕ) (giver : ℕ) (above_giver : List ℕ) (pages : ℕ) : Type 0 where
+pub record CanGive (c : CellMaps) (getter : ℕ) (above_getter : List ℕ) (giver : ℕ) (above_giver : List ℕ) (pages : ℕ) :
+    Type 0 where
   pub getter_placed : IsPlaced c.directories getter above_getter
   pub giver_placed : IsPlaced c.directories giver above_giver
   pub other : getter ≢ giver
   pub some : 0 < pages
   pub enough : pages ≤ quota_in c giver
   pub fits : quota_in c getter + pages < 2 ^ 32
-  pub appears : quota_in c getter ≡ 0 → (e : ℕ) → covers (quota_in c) above_getter e ≡ true → load_in c getter ≤ load_in c e
+  pub appears : quota_in c getter ≡ 0 → (e : ℕ) → covers (quota_in c) above_getter e ≡ true
+      → load_in c getter ≤ load_in c e
   pub vanishes : quota_in c giver ≡ pages
       → (e : ℕ) → covers (quota_in (with_quota c above_getter getter (quota_in c getter + pages))) above_giver e ≡ true
       → load_in (with_quota c above_getter getter (quota_in c getter + pages)) e + load_in

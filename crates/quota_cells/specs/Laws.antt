@@ -18,7 +18,8 @@ look_absent (k ∷ ks) (v ∷ vs) u e = elim (cases_Bool (eqb k u)) [
 ]
 
 -- the cells of a tree's directories, and of its segments
-pub on_directories : (nodes : List Node) {c : CellMaps} → Fits nodes c → (u : ℕ) → has c.directories u ≡ is_directory nodes u
+pub on_directories : (nodes : List Node) {c : CellMaps} → Fits nodes c → (u : ℕ) → has c.directories u
+    ≡ is_directory nodes u
 on_directories nodes fits u = fits.directories u ∙ directory_shape nodes u
 
 pub on_segments : (nodes : List Node) {c : CellMaps} → Fits nodes c → (u : ℕ) → has c.segments u ≡ is_segment nodes u

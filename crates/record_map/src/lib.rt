@@ -10,7 +10,8 @@
 //! no call walks over the records, and none but `new` takes memory.
 #![tactic(auto)]
 
-ghost use Rattle.std.specs.Prelude.{◌≡◌, ◌<◌, ◌+◌, Bool, true, false, List, length, replicate, slice_set, count_by, All, IfOk, IfSome, IfNone};
+ghost use Rattle.std.specs.Prelude.{◌≡◌, ◌<◌, ◌+◌, Bool, true, false, List, length, replicate, slice_set, count_by};
+ghost use Rattle.std.specs.Prelude.{All, IfOk, IfSome, IfNone};
 ghost use Rattle.bitmap.specs.Bitmap.{in_use, least_free, IsLeastFree};
 
 use bitmap::Bitmap;

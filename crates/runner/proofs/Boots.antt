@@ -1,5 +1,6 @@
 -- The tables at the boot.
-use Rattle.std.proofs.Common.{◌≡◌, ◌≢◌, ℕ, zero, suc, ◌+◌, ◌<◌, ◌≤◌, Bool, true, false, cond, eqb, List, [], ◌∷◌, length, Option, Some, None, is_some}
+use Rattle.std.proofs.Common.{◌≡◌, ◌≢◌, ℕ, zero, suc, ◌+◌, ◌<◌, ◌≤◌, Bool, true, false, cond, eqb, List, [], ◌∷◌}
+use Rattle.std.proofs.Common.{length, Option, Some, None, is_some}
 use Rattle.std.proofs.Common.{replicate, refl, sym, ap, subst, ◌∙◌, arith, get_or, inl, inr}
 use Rattle.std.proofs.lemmas.Bool.{cases_lt}
 use Rattle.std.proofs.lemmas.Bool.Decides.{nat_tests}
@@ -30,7 +31,8 @@ named_boot p = record {
   quotas = omega arith;
 }
   where
-    other : (u : ℕ) (z : Bool) → eqb 1 u ≡ z → is_some (cond z (Some (root_of p)) None) ≡ true → u ≢ 1 → (2 ≤ u) × (u < 0 + 2)
+    other : (u : ℕ) (z : Bool) → eqb 1 u ≡ z → is_some (cond z (Some (root_of p)) None) ≡ true → u ≢ 1 → (2 ≤ u)
+        × (u < 0 + 2)
     other u true e there ne = absurd (ne (grind (arith, nat_tests)))
     other u false e there ne = absurd (apart there)
       where
@@ -40,7 +42,8 @@ named_boot p = record {
 none_known : (n : ℕ) → uid_of (replicate 256 None) n ≡ None
 none_known n = elim (cases_lt n 256) [
   | inl lt ↦ get_or-replicate {A = Option ℕ} 256 n None None lt
-  | inr le ↦ get_or_past {X = Option ℕ} (replicate 256 None) n None (let size = length-replicate {A = Option ℕ} 256 None in omega (arith, size, le))
+  | inr le ↦ get_or_past {X = Option ℕ} (replicate 256 None) n None
+      (let size = length-replicate {A = Option ℕ} 256 None in omega (arith, size, le))
 ]
 
 abbrev none : List (Option ℕ)
@@ -61,9 +64,11 @@ numbered_boot p = record {
     apart : (u : ℕ) → None ≡ Some u → ⊥
     apart u e = cc
 
-pages_boot : (segs : Segs) → ((uid q : ℕ) → picture segs uid q ≡ replicate 1024 0) → ((uid q : ℕ) → is_filed segs uid q ≡ false) → ArePages (λ u x. 0) [] 0 segs
+pages_boot : (segs : Segs) → ((uid q : ℕ) → picture segs uid q ≡ replicate 1024 0)
+    → ((uid q : ℕ) → is_filed segs uid q ≡ false) → ArePages (λ u x. 0) [] 0 segs
 pages_boot segs shown filed = record {
-  words = λ i page o lp lo. ap (λ (words : List ℕ). get_or words o 0) (shown (i + 2) page) ∙ get_or-replicate 1024 o 0 0 lo;
+  words = λ i page o lp lo. ap (λ (words : List ℕ). get_or words o 0) (shown (i + 2) page)
+      ∙ get_or-replicate 1024 o 0 0 lo;
   stored = λ u page. sym (filed u page);
   inside = λ u page on. absurd (apart on);
   sizes = λ u page on. absurd (apart on);
@@ -79,7 +84,8 @@ none_taken p v = refl
 
 one_entry : (p : Plan) (v : ℕ) → entries_on (root_of p ∷ []) v ≡ cond (eqb v 0) 1 0
 unfolding entries_on
-one_entry p v = sum_by-cons (λ (n : Node). cond (eqb n.volume v) 1 0) (root_of p) [] ∙ by_volume (eqb 0 v) (eqb v 0) (grind (arith, nat_tests))
+one_entry p v = sum_by-cons (λ (n : Node). cond (eqb n.volume v) 1 0) (root_of p) []
+    ∙ by_volume (eqb 0 v) (eqb v 0) (grind (arith, nat_tests))
   where
     by_volume : (a b : Bool) → a ≡ b → cond {A = ℕ} a 1 0 + 0 ≡ cond b 1 0
     by_volume true b e = rw (sym e) refl
@@ -88,13 +94,15 @@ one_entry p v = sum_by-cons (λ (n : Node). cond (eqb n.volume v) 1 0) (root_of 
 pub tied_boot : (p : Plan) (t : Held) → t.segs.homes ≡ [] → ((uid q : ℕ) → picture t.segs uid q ≡ replicate 1024 0)
     → ((uid q : ℕ) → is_filed t.segs uid q ≡ false)
     → ((v : ℕ) → taken t.segs.storage.records v ≡ 0) → ((v : ℕ) → used t.segs.storage.vtocs v ≡ cond (eqb v 0) 1 0)
-    → ((v : ℕ) → size t.segs.storage.records v ≡ records_of p v) → ((v : ℕ) → entries t.segs.storage.vtocs v ≡ entries_of p v)
+    → ((v : ℕ) → size t.segs.storage.records v ≡ records_of p v)
+    → ((v : ℕ) → entries t.segs.storage.vtocs v ≡ entries_of p v)
     → t.tree ≡ root_alone 0 0 → t.known ≡ replicate 256 None → t.lengths ≡ [] → t.stored ≡ 0 → AreTied p (boot p) t
 unfolding boot
 tied_boot p t homes shown filed records places record_sizes entry_sizes tree known lengths stored = record {
   named = rw (homes, tree, lengths) (named_boot p);
   numbered = rw (homes, known) (numbered_boot p);
-  pages = subst (λ (xs : List Home). ArePages (λ u x. 0) [] (length xs) t.segs) (sym homes) (pages_boot t.segs shown filed);
+  pages = subst (λ (xs : List Home). ArePages (λ u x. 0) [] (length xs) t.segs) (sym homes)
+      (pages_boot t.segs shown filed);
   counted = record {
     stored = stored;
     within = omega arith;

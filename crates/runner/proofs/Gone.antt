@@ -1,5 +1,6 @@
 -- A page has left its frame.
-use Rattle.std.proofs.Common.{◌≡◌, ℕ, ◌+◌, ◌-◌, ◌*◌, ◌<◌, Bool, true, false, not, cond, eqb, ◌&&◌, List, length, refl, sym, ap, subst, ◌∙◌, arith, get_or}
+use Rattle.std.proofs.Common.{◌≡◌, ℕ, ◌+◌, ◌-◌, ◌*◌, ◌<◌, Bool, true, false, not, cond, eqb, ◌&&◌, List, length, refl}
+use Rattle.std.proofs.Common.{sym, ap, subst, ◌∙◌, arith, get_or}
 use Rattle.std.proofs.lemmas.Bool.Decides.{nat_tests}
 use Rattle.script.specs.Plans.{Plan}
 use Rattle.mword.specs.Words.{AreZero}
@@ -30,7 +31,8 @@ abbrev pub count_left : ℕ → Left → ℕ
 count_left n Released = n - 1
 count_left n Kept = n
 
-zero_word : (ws : Words) (xs : List (ℕ × ℕ)) (count u q : ℕ) (segs : Segs) → ArePages ws xs count segs → is_stored xs u q ≡ true → AreZero (picture segs u q)
+zero_word : (ws : Words) (xs : List (ℕ × ℕ)) (count u q : ℕ) (segs : Segs) → ArePages ws xs count segs
+    → is_stored xs u q ≡ true → AreZero (picture segs u q)
     → (x : ℕ) → x < 1024 → ws u (1024 * q + x) ≡ 0
 zero_word ws xs count u q segs h on zeros x lx =
     let there = h.inside u q on in
@@ -38,9 +40,11 @@ zero_word ws xs count u q segs h on zeros x lx =
     let size = h.sizes u q on in
     let back : (u - 2) + 2 ≡ u = omega (arith, two) in
     subst (λ (v : ℕ). ws v (1024 * q + x) ≡ 0) back
-    (sym (h.words (u - 2) q x there.2 lx) ∙ ap (λ (v : ℕ). get_or (picture segs v q) x 0) back ∙ zeros x 0 (omega (arith, size, lx)))
+    (sym (h.words (u - 2) q x there.2 lx) ∙ ap (λ (v : ℕ). get_or (picture segs v q) x 0) back
+    ∙ zeros x 0 (omega (arith, size, lx)))
 
-pub may_release : (p : Plan) (s : Store) (old new : Held) (gone : Evicted) → AreTied p s old → is_filed old.segs gone.uid gone.page ≡ true
+pub may_release : (p : Plan) (s : Store) (old new : Held) (gone : Evicted) → AreTied p s old
+    → is_filed old.segs gone.uid gone.page ≡ true
     → IsEmptied old.segs new.segs gone → gone.left ≡ Released → MayRelease s gone.uid gone.page
 may_release p s old new gone h filed e left =
     let on : is_stored s.stored gone.uid gone.page ≡ true = h.pages.stored gone.uid gone.page ∙ filed in
@@ -55,7 +59,8 @@ stored_gone : (xs : List (ℕ × ℕ)) (filed : ℕ → ℕ → Bool) (u q v pag
 unfolding changed_at
 stored_gone xs filed u q v page same =
     is_stored-without xs u (λ y. eqb y q) v page
-    ∙ ap (λ (z : Bool). not z && is_stored xs v page) (turned (eqb v u) (eqb u v) (eqb page q) (eqb q page) (flip v u) (flip page q))
+    ∙ ap (λ (z : Bool). not z && is_stored xs v page) (turned (eqb v u) (eqb u v) (eqb page q) (eqb q page) (flip v u)
+    (flip page q))
     ∙ chosen (eqb u v && eqb q page)
   where
     flip : (a b : ℕ) → eqb a b ≡ eqb b a
@@ -68,7 +73,8 @@ stored_gone xs filed u q v page same =
     chosen true = refl
     chosen false = same
 
-pages_gone : (ws : Words) (xs : List (ℕ × ℕ)) (count u q : ℕ) (old new : Segs) → ArePages ws xs count old → picture new ≡ picture old
+pages_gone : (ws : Words) (xs : List (ℕ × ℕ)) (count u q : ℕ) (old new : Segs) → ArePages ws xs count old → picture new
+    ≡ picture old
     → is_filed new ≡ changed_at (is_filed old) u q false → ArePages ws (without_stored xs u (λ y. eqb y q)) count new
 pages_gone ws xs count u q old new h shown filed = record {
   words = λ i page o lp lo. ap (λ (f : ℕ → ℕ → List ℕ). get_or (f (i + 2) page) o 0) shown ∙ h.words i page o lp lo;
@@ -86,11 +92,13 @@ pages_gone ws xs count u q old new h shown filed = record {
     right false b e = e
 
     still : (v page : ℕ) → is_stored (without_stored xs u (λ y. eqb y q)) v page ≡ true → is_stored xs v page ≡ true
-    still v page on = right (is_page u q (v, page)) (is_stored xs v page) (sym (is_stored-without xs u (λ y. eqb y q) v page) ∙ on)
+    still v page on = right (is_page u q (v, page)) (is_stored xs v page)
+        (sym (is_stored-without xs u (λ y. eqb y q) v page) ∙ on)
 
 -- the tables once a page was given up, in the terms of its parts
 released : (p : Plan) (s : Store) (old new : Held) (gone : Evicted) → AreTied p s old → IsEmptied old.segs new.segs gone
-    → is_stored s.stored gone.uid gone.page ≡ true → gone.left ≡ Released → new.stored ≡ old.stored - 1 → new.tree ≡ old.tree → new.known ≡ old.known
+    → is_stored s.stored gone.uid gone.page ≡ true → gone.left ≡ Released → new.stored ≡ old.stored - 1 → new.tree
+    ≡ old.tree → new.known ≡ old.known
     → new.lengths ≡ old.lengths
     → AreTied p (record s { stored = without_stored s.stored gone.uid (λ y. eqb y gone.page) }) new
 released p s old new gone h e on left stored tree known lengths =
@@ -104,17 +112,22 @@ released p s old new gone h e on left stored tree known lengths =
     length-without s.stored gone.uid gone.page h.pages.once on in
     let filed : is_filed new.segs ≡ changed_at (is_filed old.segs) gone.uid gone.page false =
     e.stored ∙ ap (stored_after (is_filed old.segs) gone.uid gone.page) left in
-    let fewer : taken new.segs.storage.records ≡ one_less (taken old.segs.storage.records) (volume_at old.segs (gone.uid - 2)) =
+    let fewer : taken new.segs.storage.records ≡ one_less (taken old.segs.storage.records)
+    (volume_at old.segs (gone.uid - 2)) =
     e.records ∙ ap (taken_after (taken old.segs.storage.records) (volume_at old.segs (gone.uid - 2))) left in
     record {
-      named = named_same p s.nodes s.next old.segs.homes new.segs.homes old.tree new.tree old.lengths new.lengths h.named e.homes tree lengths;
-      numbered = numbered_same p s.known (length old.segs.homes) (length new.segs.homes) old.known new.known h.numbered (omega (arith, count)) known;
-      pages = rw count (pages_gone s.words s.stored (length old.segs.homes) gone.uid gone.page old.segs new.segs h.pages e.shown filed);
+      named = named_same p s.nodes s.next old.segs.homes new.segs.homes old.tree new.tree old.lengths new.lengths
+          h.named e.homes tree lengths;
+      numbered = numbered_same p s.known (length old.segs.homes) (length new.segs.homes) old.known new.known h.numbered
+          (omega (arith, count)) known;
+      pages = rw count (pages_gone s.words s.stored (length old.segs.homes) gone.uid gone.page old.segs new.segs
+          h.pages e.shown filed);
       counted = record {
         stored = omega (arith, stored, total, shorter);
         within = omega (arith, shorter, within);
         records = λ v.
-            taken_less s.nodes s.stored gone.uid gone.page (volume_at old.segs (gone.uid - 2)) (taken old.segs.storage.records) h.pages.once on
+            taken_less s.nodes s.stored gone.uid gone.page (volume_at old.segs (gone.uid - 2))
+            (taken old.segs.storage.records) h.pages.once on
             (volume_at_uid p s.nodes s.next old.segs.homes old.tree old.lengths gone.uid h.named two below) c.records v
             ∙ sym (λ k. fewer k v);
         homes = λ v. c.homes v ∙ sym (λ k. e.homed k v);
@@ -124,23 +137,31 @@ released p s old new gone h e on left stored tree known lengths =
       processes = h.processes;
     }
 
-kept : (p : Plan) (s : Store) (old new : Held) (gone : Evicted) → AreTied p s old → IsEmptied old.segs new.segs gone → gone.left ≡ Kept
-    → new.stored ≡ old.stored → new.tree ≡ old.tree → new.known ≡ old.known → new.lengths ≡ old.lengths → AreTied p s new
+kept : (p : Plan) (s : Store) (old new : Held) (gone : Evicted) → AreTied p s old → IsEmptied old.segs new.segs gone
+    → gone.left ≡ Kept
+    → new.stored ≡ old.stored → new.tree ≡ old.tree → new.known ≡ old.known → new.lengths ≡ old.lengths
+    → AreTied p s new
 kept p s old new gone h e left stored tree known lengths =
     let count : length new.segs.homes ≡ length old.segs.homes = ap (λ (xs : List Home). length xs) e.homes in
     record {
-      named = named_same p s.nodes s.next old.segs.homes new.segs.homes old.tree new.tree old.lengths new.lengths h.named e.homes tree lengths;
-      numbered = numbered_same p s.known (length old.segs.homes) (length new.segs.homes) old.known new.known h.numbered (omega (arith, count)) known;
-      pages = pages_same s.words s.stored (length old.segs.homes) (length new.segs.homes) old.segs new.segs h.pages (omega (arith, count)) e.shown
+      named = named_same p s.nodes s.next old.segs.homes new.segs.homes old.tree new.tree old.lengths new.lengths
+          h.named e.homes tree lengths;
+      numbered = numbered_same p s.known (length old.segs.homes) (length new.segs.homes) old.known new.known h.numbered
+          (omega (arith, count)) known;
+      pages = pages_same s.words s.stored (length old.segs.homes) (length new.segs.homes) old.segs new.segs h.pages
+          (omega (arith, count)) e.shown
           (e.stored ∙ ap (stored_after (is_filed old.segs) gone.uid gone.page) left);
       counted = counted_same p s.nodes s.stored old.segs.storage new.segs.storage old.stored new.stored h.counted stored
-          (e.records ∙ ap (taken_after (taken old.segs.storage.records) (volume_at old.segs (gone.uid - 2))) left) e.homed e.sizes.records e.sizes.places;
+          (e.records ∙ ap (taken_after (taken old.segs.storage.records) (volume_at old.segs (gone.uid - 2))) left)
+          e.homed e.sizes.records e.sizes.places;
       processes = h.processes;
     }
 
-pub tied_gone : (p : Plan) (s : Store) (old new : Held) (gone : Evicted) → AreTied p s old → IsEmptied old.segs new.segs gone
+pub tied_gone : (p : Plan) (s : Store) (old new : Held) (gone : Evicted) → AreTied p s old
+    → IsEmptied old.segs new.segs gone
     → is_filed old.segs gone.uid gone.page ≡ true
-    → new.stored ≡ count_left old.stored gone.left → new.tree ≡ old.tree → new.known ≡ old.known → new.lengths ≡ old.lengths
+    → new.stored ≡ count_left old.stored gone.left → new.tree ≡ old.tree → new.known ≡ old.known → new.lengths
+    ≡ old.lengths
     → AreTied p (store_left s gone.uid gone.page gone.left) new
 tied_gone p s old new gone h e filed stored tree known lengths = by_left gone.left refl
   where

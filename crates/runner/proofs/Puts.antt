@@ -1,5 +1,6 @@
 -- A word that is written into a page of a segment.
-use Rattle.std.proofs.Common.{◌≡◌, ◌≢◌, ℕ, ◌+◌, ◌*◌, ◌/◌, ◌%◌, ◌<◌, Bool, true, false, cond, eqb, ◌&&◌, List, length, refl, sym, ap, ◌∙◌, arith, get_or, set}
+use Rattle.std.proofs.Common.{◌≡◌, ◌≢◌, ℕ, ◌+◌, ◌*◌, ◌/◌, ◌%◌, ◌<◌, Bool, true, false, cond, eqb, ◌&&◌, List, length}
+use Rattle.std.proofs.Common.{refl, sym, ap, ◌∙◌, arith, get_or, set}
 use Rattle.std.proofs.lemmas.Bool.Decides.{nat_tests}
 use Rattle.std.proofs.lemmas.List.{get_or-set_same, get_or-set_other, length-set}
 use Rattle.script.specs.Plans.{Plan}
@@ -33,7 +34,8 @@ same_place o q x within = both (eqb (o / 1024) q) (eqb (o % 1024) x) refl refl
         let other : o ≢ place_of q x = omega arith in grind (arith, nat_tests)
 
 -- the words of one page once one was written
-pub word_set : (words : List ℕ) (at x w : ℕ) → at < length words → get_or (set words at w) x 0 ≡ cond (eqb at x) w (get_or words x 0)
+pub word_set : (words : List ℕ) (at x w : ℕ) → at < length words → get_or (set words at w) x 0
+    ≡ cond (eqb at x) w (get_or words x 0)
 word_set words at x w there = chosen (eqb at x) refl
   where
     chosen : (b : Bool) → eqb at x ≡ b → get_or (set words at w) x 0 ≡ cond b w (get_or words x 0)
@@ -43,10 +45,12 @@ word_set words at x w there = chosen (eqb at x) refl
     chosen false e = get_or-set_other words at x w 0 (grind (arith, nat_tests))
 
 -- the words of each page once one was written into a page
-pub words_put : (ws : Words) (old : ℕ → ℕ → List ℕ) (page_words : List ℕ) (i o w j q x : ℕ) → q < 256 → x < 1024 → length page_words ≡ 1024
+pub words_put : (ws : Words) (old : ℕ → ℕ → List ℕ) (page_words : List ℕ) (i o w j q x : ℕ) → q < 256 → x < 1024
+    → length page_words ≡ 1024
     → page_words ≡ old (i + 2) (o / 1024)
     → ((k page at : ℕ) → page < 256 → at < 1024 → get_or (old (k + 2) page) at 0 ≡ ws (k + 2) (1024 * page + at))
-    → get_or (changed_at old (i + 2) (o / 1024) (set page_words (o % 1024) w) (j + 2) q) x 0 ≡ with_word ws (i + 2) o w (j + 2) (1024 * q + x)
+    → get_or (changed_at old (i + 2) (o / 1024) (set page_words (o % 1024) w) (j + 2) q) x 0
+    ≡ with_word ws (i + 2) o w (j + 2) (1024 * q + x)
 unfolding changed_at
 words_put ws old page_words i o w j q x lq lx size are all =
     by_page (eqb (i + 2) (j + 2)) (eqb (o / 1024) q) refl refl
@@ -57,13 +61,15 @@ words_put ws old page_words i o w j q x lq lx size are all =
     turned a b = grind (arith, nat_tests)
 
     by_page : (a b : Bool) → eqb (i + 2) (j + 2) ≡ a → eqb (o / 1024) q ≡ b
-        → get_or (cond (a && b) (set page_words (o % 1024) w) (old (j + 2) q)) x 0 ≡ cond (a && (b && eqb (o % 1024) x)) w (ws (j + 2) (1024 * q + x))
+        → get_or (cond (a && b) (set page_words (o % 1024) w) (old (j + 2) q)) x 0
+        ≡ cond (a && (b && eqb (o % 1024) x)) w (ws (j + 2) (1024 * q + x))
     by_page true true e f =
         let place : i ≡ j = grind (arith, nat_tests) in
         let page : o / 1024 ≡ q = grind (arith, nat_tests) in
         word_set page_words (o % 1024) x w (omega (arith, size))
         ∙ ap (λ (y : ℕ). cond (eqb (o % 1024) x) w y)
-        (ap (λ (words : List ℕ). get_or words x 0) (are ∙ ap (λ (k : ℕ). old (k + 2) (o / 1024)) place ∙ ap (λ (k : ℕ). old (j + 2) k) page) ∙ all j q x lq lx)
+        (ap (λ (words : List ℕ). get_or words x 0) (are ∙ ap (λ (k : ℕ). old (k + 2) (o / 1024)) place
+        ∙ ap (λ (k : ℕ). old (j + 2) k) page) ∙ all j q x lq lx)
     by_page true false e f = all j q x lq lx
     by_page false b e f = all j q x lq lx
 
@@ -78,8 +84,10 @@ size_put old page_words u q at w v page size others = chosen (eqb u v && eqb q p
     chosen true e = length-set page_words at w ∙ size
     chosen false e = others e
 
-pages_put : (s : Store) (count i o w : ℕ) (old new : Segs) → ArePages s.words s.stored count old → is_stored s.stored (i + 2) (o / 1024) ≡ true
-    → picture new ≡ changed_at (picture old) (i + 2) (o / 1024) (set (picture old (i + 2) (o / 1024)) (o % 1024) w) → is_filed new ≡ is_filed old
+pages_put : (s : Store) (count i o w : ℕ) (old new : Segs) → ArePages s.words s.stored count old
+    → is_stored s.stored (i + 2) (o / 1024) ≡ true
+    → picture new ≡ changed_at (picture old) (i + 2) (o / 1024) (set (picture old (i + 2) (o / 1024)) (o % 1024) w)
+    → is_filed new ≡ is_filed old
     → ArePages (with_word s.words (i + 2) o w) s.stored count new
 pages_put s count i o w old new h on shown filed =
     let size = h.sizes (i + 2) (o / 1024) on in
@@ -91,25 +99,34 @@ pages_put s count i o w old new h on shown filed =
       inside = h.inside;
       sizes = λ u q stays.
           ap (λ (f : ℕ → ℕ → List ℕ). length (f u q)) shown
-          ∙ size_put (picture old) (picture old (i + 2) (o / 1024)) (i + 2) (o / 1024) (o % 1024) w u q size (λ other. h.sizes u q stays);
+          ∙ size_put (picture old) (picture old (i + 2) (o / 1024)) (i + 2) (o / 1024) (o % 1024) w u q size
+          (λ other. h.sizes u q stays);
       once = h.once;
     }
 
 -- a word written into a stored page
-pub tied_put : (p : Plan) (s : Store) (old new : Held) (i o w : ℕ) → AreTied p s old → is_stored s.stored (i + 2) (o / 1024) ≡ true
-    → picture new.segs ≡ changed_at (picture old.segs) (i + 2) (o / 1024) (set (picture old.segs (i + 2) (o / 1024)) (o % 1024) w)
-    → is_filed new.segs ≡ is_filed old.segs → new.segs.homes ≡ old.segs.homes → new.tree ≡ old.tree → new.known ≡ old.known → new.lengths ≡ old.lengths
+pub tied_put : (p : Plan) (s : Store) (old new : Held) (i o w : ℕ) → AreTied p s old
+    → is_stored s.stored (i + 2) (o / 1024) ≡ true
+    → picture new.segs ≡ changed_at (picture old.segs) (i + 2) (o / 1024)
+    (set (picture old.segs (i + 2) (o / 1024)) (o % 1024) w)
+    → is_filed new.segs ≡ is_filed old.segs → new.segs.homes ≡ old.segs.homes → new.tree ≡ old.tree → new.known
+    ≡ old.known → new.lengths ≡ old.lengths
     → new.stored ≡ old.stored
-    → taken new.segs.storage.records ≡ taken old.segs.storage.records → used new.segs.storage.vtocs ≡ used old.segs.storage.vtocs
-    → size new.segs.storage.records ≡ size old.segs.storage.records → entries new.segs.storage.vtocs ≡ entries old.segs.storage.vtocs
+    → taken new.segs.storage.records ≡ taken old.segs.storage.records → used new.segs.storage.vtocs
+    ≡ used old.segs.storage.vtocs
+    → size new.segs.storage.records ≡ size old.segs.storage.records → entries new.segs.storage.vtocs
+    ≡ entries old.segs.storage.vtocs
     → AreTied p (record s { words = with_word s.words (i + 2) o w }) new
 tied_put p s old new i o w h on shown filed homes tree known lengths stored records places record_sizes entry_sizes =
     let count : length new.segs.homes ≡ length old.segs.homes = ap (λ (xs : List Home). length xs) homes in
     record {
-      named = named_same p s.nodes s.next old.segs.homes new.segs.homes old.tree new.tree old.lengths new.lengths h.named homes tree lengths;
-      numbered = numbered_same p s.known (length old.segs.homes) (length new.segs.homes) old.known new.known h.numbered (omega (arith, count)) known;
+      named = named_same p s.nodes s.next old.segs.homes new.segs.homes old.tree new.tree old.lengths new.lengths
+          h.named homes tree lengths;
+      numbered = numbered_same p s.known (length old.segs.homes) (length new.segs.homes) old.known new.known h.numbered
+          (omega (arith, count)) known;
       pages = rw count (pages_put s (length old.segs.homes) i o w old.segs new.segs h.pages on shown filed);
-      counted = counted_same p s.nodes s.stored old.segs.storage new.segs.storage old.stored new.stored h.counted stored records places record_sizes
+      counted = counted_same p s.nodes s.stored old.segs.storage new.segs.storage old.stored new.stored h.counted
+          stored records places record_sizes
           entry_sizes;
       processes = h.processes;
     }

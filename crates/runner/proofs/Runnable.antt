@@ -1,5 +1,6 @@
 -- A script that runs so far is of the form that the machine runs.
-use Rattle.std.proofs.Common.{◌≡◌, ℕ, suc, zero, ◌+◌, ◌<◌, ◌≤◌, true, not, List, [], ◌∷◌, length, get_or, Some, refl, sym, ap, ◌∙◌, arith}
+use Rattle.std.proofs.Common.{◌≡◌, ℕ, suc, zero, ◌+◌, ◌<◌, ◌≤◌, true, not, List, [], ◌∷◌, length, get_or, Some, refl}
+use Rattle.std.proofs.Common.{sym, ap, ◌∙◌, arith}
 use Rattle.std.specs.Prelude.{slice_get, sum_by}
 use Rattle.std.specs.List.{list_all}
 use Rattle.std.proofs.lemmas.Bool.{and_parts}
@@ -33,9 +34,11 @@ weighs_one _ h = refl
 
 -- ---- the commands of a process
 
-command_runs_at : (cs : List Command) (place : ℕ) (c : Command) → list_all command_runs cs ≡ true → slice_get cs place ≡ Some c → command_runs c ≡ true
+command_runs_at : (cs : List Command) (place : ℕ) (c : Command) → list_all command_runs cs ≡ true → slice_get cs place
+    ≡ Some c → command_runs c ≡ true
 command_runs_at [] place c h e = absurd cc
-command_runs_at (d ∷ cs) zero c h e = let same : d ≡ c = cc in let runs : command_runs d ≡ true = (and_parts _ _ h).0 in cc
+command_runs_at (d ∷ cs) zero c h e = let same : d ≡ c = cc in let runs : command_runs d ≡ true =
+    (and_parts _ _ h).0 in cc
 command_runs_at (d ∷ cs) (suc place) c h e = command_runs_at cs place c (and_parts _ _ h).1 e
 
 weigh_as_many : (cs : List Command) → list_all command_runs cs ≡ true → sum_by weight cs ≡ length cs
@@ -52,18 +55,22 @@ other_placed : (c : Command) (next count : ℕ) → not (is_end c) ≡ true → 
 other_placed command.End next count h lt = absurd cc
 other_placed _ next count h lt = lt
 
-placed_later : (c : Command) (next after count : ℕ) → IsPlaced c next count → after ≡ next + 1 → IsPlaced c after (suc count)
+placed_later : (c : Command) (next after count : ℕ) → IsPlaced c next count → after ≡ next + 1
+    → IsPlaced c after (suc count)
 placed_later command.End next after count h e = omega (arith, h, e)
 placed_later _ next after count h e = omega (arith, h, e)
 
-placed_at : (cs : List Command) (place : ℕ) (c : Command) → ends_once cs ≡ true → slice_get cs place ≡ Some c → IsPlaced c (place + 1) (length cs)
+placed_at : (cs : List Command) (place : ℕ) (c : Command) → ends_once cs ≡ true → slice_get cs place ≡ Some c
+    → IsPlaced c (place + 1) (length cs)
 unfolding ends_once
 placed_at [] place c h e = absurd cc
 placed_at (d ∷ []) zero c h e = let same : d ≡ c = cc in end_placed c 1 1 (ap is_end (sym same) ∙ h) refl
 placed_at (d ∷ []) (suc place) c h e = absurd cc
 placed_at (d ∷ f ∷ cs) zero c h e = let same : d ≡ c = cc in
-    other_placed c 1 (length (d ∷ f ∷ cs)) (ap (λ (x : Command). not (is_end x)) (sym same) ∙ (and_parts _ _ h).0) (omega arith)
-placed_at (d ∷ f ∷ cs) (suc place) c h e = placed_later c (place + 1) (suc place + 1) (length (f ∷ cs)) (placed_at (f ∷ cs) place c (and_parts _ _ h).1 e)
+    other_placed c 1 (length (d ∷ f ∷ cs)) (ap (λ (x : Command). not (is_end x)) (sym same) ∙ (and_parts _ _ h).0)
+    (omega arith)
+placed_at (d ∷ f ∷ cs) (suc place) c h e = placed_later c (place + 1) (suc place + 1) (length (f ∷ cs))
+    (placed_at (f ∷ cs) place c (and_parts _ _ h).1 e)
     (omega arith)
 
 -- ---- the script
@@ -74,7 +81,8 @@ record AreRunnable (cs : List Command) : Type 0 where
   pub few : length cs ≤ 100000
   pub placed : (place : ℕ) (c : Command) → slice_get cs place ≡ Some c → IsPlaced c (place + 1) (length cs)
 
-runnable_process : (volumes : ℕ) (x : ProcessPlan) → process_runs x ≡ true → is_process volumes x ≡ true → weight_of x ≤ 100000 → AreRunnable x.commands
+runnable_process : (volumes : ℕ) (x : ProcessPlan) → process_runs x ≡ true → is_process volumes x ≡ true
+    → weight_of x ≤ 100000 → AreRunnable x.commands
 unfolding is_process weight_of
 runnable_process volumes x h is light = record {
   run = h;
@@ -82,10 +90,12 @@ runnable_process volumes x h is light = record {
   placed = λ place c at. placed_at x.commands place c (and_parts _ _ (and_parts _ _ is).1).1 at;
 }
 
-runnable_first : (volumes : ℕ) (xs : List ProcessPlan) → processes_run xs ≡ true → list_all (is_process volumes) xs ≡ true → sum_by weight_of xs ≤ 100000
+runnable_first : (volumes : ℕ) (xs : List ProcessPlan) → processes_run xs ≡ true → list_all (is_process volumes) xs
+    ≡ true → sum_by weight_of xs ≤ 100000
     → AreRunnable (get_or xs 0 (record { who = nobody; commands = [] })).commands
 runnable_first volumes [] h are light = record { run = refl; few = omega arith; placed = λ place c at. absurd cc }
-runnable_first volumes (x ∷ []) h are light = runnable_process volumes x h (and_parts _ _ are).0 (omega (arith, sum_by-cons weight_of x [], light))
+runnable_first volumes (x ∷ []) h are light = runnable_process volumes x h (and_parts _ _ are).0
+    (omega (arith, sum_by-cons weight_of x [], light))
 runnable_first volumes (x ∷ y ∷ xs) h are light = absurd cc
 
 few_processes : (xs : List ProcessPlan) → processes_run xs ≡ true → length xs ≤ 1
@@ -131,6 +141,7 @@ form_of p is h =
       acts = some_command (length p.volumes) p.processes is.each;
       quota = is.quota;
       commands = all.few;
-      fits = λ place c at. fits_command (length p.volumes) c (command_runs_at (commands_of p 0) place c all.run at) (command_planned p 0 place c is at);
+      fits = λ place c at. fits_command (length p.volumes) c (command_runs_at (commands_of p 0) place c all.run at)
+          (command_planned p 0 place c is at);
       placed = all.placed;
     }

@@ -27,10 +27,14 @@ pub tied_same : (p : Plan) (s : Store) (t new : Held) → AreTied p s t → IsSa
 tied_same p s t new h same =
     let count : length new.segs.homes ≡ length t.segs.homes = ap (λ (xs : List Home). length xs) same.homes in
     record {
-      named = named_same p s.nodes s.next t.segs.homes new.segs.homes t.tree new.tree t.lengths new.lengths h.named same.homes same.tree same.lengths;
-      numbered = numbered_same p s.known (length t.segs.homes) (length new.segs.homes) t.known new.known h.numbered (omega (arith, count)) same.known;
-      pages = pages_same s.words s.stored (length t.segs.homes) (length new.segs.homes) t.segs new.segs h.pages (omega (arith, count)) same.words same.filed;
-      counted = counted_same p s.nodes s.stored t.segs.storage new.segs.storage t.stored new.stored h.counted same.stored same.records same.places
+      named = named_same p s.nodes s.next t.segs.homes new.segs.homes t.tree new.tree t.lengths new.lengths h.named
+          same.homes same.tree same.lengths;
+      numbered = numbered_same p s.known (length t.segs.homes) (length new.segs.homes) t.known new.known h.numbered
+          (omega (arith, count)) same.known;
+      pages = pages_same s.words s.stored (length t.segs.homes) (length new.segs.homes) t.segs new.segs h.pages
+          (omega (arith, count)) same.words same.filed;
+      counted = counted_same p s.nodes s.stored t.segs.storage new.segs.storage t.stored new.stored h.counted
+          same.stored same.records same.places
           same.record_sizes same.entry_sizes;
       processes = h.processes;
     }
@@ -51,17 +55,21 @@ tied_moved p s t q h = record {
 
 -- how far it has come then
 pub progress_moved : (s : Store) (q : Progress) → 0 < length s.processes → progress_of (with_progress s 0 q) 0 ≡ q
-progress_moved s q some = get_or-set_same s.processes 0 q (record { place = 0; tries = 0; ended = true; faulted = false }) some
+progress_moved s q some = get_or-set_same s.processes 0 q
+    (record { place = 0; tries = 0; ended = true; faulted = false }) some
 
 -- a process that hasn't ended is there
-pub process_there : (p : Plan) (s : Store) (t : Held) → AreTied p s t → (progress_of s 0).ended ≡ false → 0 < length p.processes
+pub process_there : (p : Plan) (s : Store) (t : Held) → AreTied p s t → (progress_of s 0).ended ≡ false
+    → 0 < length p.processes
 process_there p s t h going = by_processes s.processes going h.processes.count
   where
-    by_processes : (xs : List Progress) → (get_or xs 0 (record { place = 0; tries = 0; ended = true; faulted = false })).ended ≡ false
+    by_processes : (xs : List Progress) → (get_or xs 0
+        (record { place = 0; tries = 0; ended = true; faulted = false })).ended ≡ false
         → length xs ≡ length p.processes → 0 < length p.processes
     by_processes [] e n = absurd cc
     by_processes (x ∷ xs) e n = omega (arith, n)
 
 -- what its numbers stand for
-pub numbers_are : (p : Plan) (s : Store) (t : Held) → AreTied p s t → (progress_of s 0).ended ≡ false → numbers_of s 0 ≡ t.known
+pub numbers_are : (p : Plan) (s : Store) (t : Held) → AreTied p s t → (progress_of s 0).ended ≡ false → numbers_of s 0
+    ≡ t.known
 numbers_are p s t h going = h.numbered.same (process_there p s t h going)

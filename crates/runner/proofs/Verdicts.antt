@@ -1,5 +1,6 @@
 -- What an ending says of its cause. (own)
-use Rattle.std.proofs.Common.{◌≡◌, ℕ, ◌<◌, ◌≤◌, ◌⊎◌, inl, inr, true, false, List, length, Option, Some, None, Result, Ok, Err, IfSome, refl, sym, ap, subst, ◌∙◌, arith}
+use Rattle.std.proofs.Common.{◌≡◌, ℕ, ◌<◌, ◌≤◌, ◌⊎◌, inl, inr, true, false, List, length, Option, Some, None, Result}
+use Rattle.std.proofs.Common.{Ok, Err, IfSome, refl, sym, ap, subst, ◌∙◌, arith}
 use Rattle.std.specs.Prelude.{IsSomeAnd}
 use Rattle.site_io.specs.Streams.{AppendsFront}
 use Rattle.volumes.specs.CoreDrive.{DriveState}
@@ -13,7 +14,8 @@ use Rattle.book_check.specs.Closing.{IsTheVerdict}
 use Rattle.book_check.specs.Verdicts.{IsVerdict}
 use Rattle.book_check.specs.declared.offences.CheckFault.{CheckFault}
 use Rattle.book_check.specs.declared.offences.CheckFault.TheVariants as fault
-use Rattle.runner.specs.Endings.{Change, Ends, EndsSo, Failed, IsJudgedSo, IsRun, IsStatusOf, Prints, WritesAll, WritesFront}
+use Rattle.runner.specs.Endings.{Change, Ends, EndsSo, Failed, IsJudgedSo, IsRun, IsStatusOf, Prints, WritesAll}
+use Rattle.runner.specs.Endings.{WritesFront}
 use Rattle.runner.specs.Runs.{IsLater, script_runs}
 use Rattle.runner.specs.declared.finished.Finished.{Finished}
 use Rattle.runner.specs.declared.finished.Status.{Status}
@@ -22,7 +24,8 @@ use Rattle.runner.specs.declared.words.Form.{Form}
 use Rattle.runner.specs.declared.words.Form.TheVariants as form
 
 -- an ending of this status
-pub ended : (asked : Option Form) (src out : Change) (f : Finished) (s : Status) → Ends asked src out f → f.status ≡ s → EndsSo s asked src out f.book
+pub ended : (asked : Option Form) (src out : Change) (f : Finished) (s : Status) → Ends asked src out f → f.status ≡ s
+    → EndsSo s asked src out f.book
 ended asked src out f s h e = subst (λ (x : Status). EndsSo x asked src out f.book) e h.so
 
 -- words that are no form have no other ending
@@ -37,8 +40,10 @@ only_usage status.Done src out book h = absurd h
 only_usage status.WriteFault src out book h = absurd h
 only_usage status.Memory src out book h = absurd cc
 
-pub usage_there : (asked : Option Form) (src out : Change) (f : Finished) → Ends asked src out f → asked ≡ None → f.status ≡ status.Usage
-usage_there asked src out f h e = only_usage f.status src out f.book (subst (λ (x : Option Form). EndsSo f.status x src out f.book) e h.so)
+pub usage_there : (asked : Option Form) (src out : Change) (f : Finished) → Ends asked src out f → asked ≡ None
+    → f.status ≡ status.Usage
+usage_there asked src out f h e = only_usage f.status src out f.book
+    (subst (λ (x : Option Form). EndsSo f.status x src out f.book) e h.so)
 
 -- of a refusal or a script that is later, the bytes alone
 pub fact_only : (left : Option (List ℕ)) (P Q : List ℕ → Type 0) → IfSome left (λ all. P all × Q all) → IfSome left Q
@@ -46,7 +51,8 @@ fact_only None P Q h = tt
 fact_only (Some all) P Q h = h.1
 
 -- of a book that is there
-pub of_run : (src : Change) (f : Finished) (P : Ledger → Type 0) → ((b : Ledger) → IsRun src b f.volumes → P b) → IfSome f.book (λ b. IsRun src b f.volumes)
+pub of_run : (src : Change) (f : Finished) (P : Ledger → Type 0) → ((b : Ledger) → IsRun src b f.volumes → P b)
+    → IfSome f.book (λ b. IsRun src b f.volumes)
     → IfSome f.book P
 of_run src f P get h = each f.book h
   where
@@ -55,13 +61,15 @@ of_run src f P get h = each f.book h
     each (Some b) h = get b h
 
 -- a front that was written of a listing
-pub front_only : (book : Option Ledger) (out : Change) → IsSomeAnd book (λ b. WritesFront out (listing_of b.script b.entries))
+pub front_only : (book : Option Ledger) (out : Change)
+    → IsSomeAnd book (λ b. WritesFront out (listing_of b.script b.entries))
     → IsSomeAnd book (λ b. AppendsFront out.before out.after (listing_of b.script b.entries))
 front_only None out h = h
 front_only (Some b) out h = h.front
 
 -- a write failed
-pub write_failed : (asked : Option Form) (src : Change) (book : Option Ledger) (out : Change) → Prints asked src book (WritesFront out) → Failed out
+pub write_failed : (asked : Option Form) (src : Change) (book : Option Ledger) (out : Change)
+    → Prints asked src book (WritesFront out) → Failed out
 write_failed (Some form.Run) src (Some b) out h = h.fault
 write_failed (Some form.Run) src None out h = absurd h
 write_failed (Some form.Check) src book out h = h.2.fault
@@ -75,40 +83,52 @@ pub data Verdict (s : Status) (bytes : List ℕ) (out : Change) : Type 0 where
   long : s ≡ status.TooLong → 4194304 < length bytes → Verdict s bytes out
   refused : (r : Refusal) → s ≡ status.Script r → length bytes ≤ 4194304 → script_of bytes ≡ Err r → Verdict s bytes out
   late : s ≡ status.Later → length bytes ≤ 4194304 → IsLater (script_of bytes) → Verdict s bytes out
-  printed : (p : Plan) → s ≡ status.Done → length bytes ≤ 4194304 → script_of bytes ≡ Ok p → script_runs p ≡ true → Verdict s bytes out
-  broken : (p : Plan) → Failed out → length bytes ≤ 4194304 → script_of bytes ≡ Ok p → script_runs p ≡ true → Verdict s bytes out
+  printed : (p : Plan) → s ≡ status.Done → length bytes ≤ 4194304 → script_of bytes ≡ Ok p → script_runs p ≡ true
+      → Verdict s bytes out
+  broken : (p : Plan) → Failed out → length bytes ≤ 4194304 → script_of bytes ≡ Ok p → script_runs p ≡ true
+      → Verdict s bytes out
 
-done_verdict : (book : Option Ledger) (bytes : List ℕ) (src out : Change) (volumes : Option (Vols DriveState)) → src.before ≡ Some bytes
-    → IsSomeAnd book (λ b. WritesAll out (listing_of b.script b.entries)) → IfSome book (λ b. IsRun src b volumes) → Verdict status.Done bytes out
+done_verdict : (book : Option Ledger) (bytes : List ℕ) (src out : Change) (volumes : Option (Vols DriveState))
+    → src.before ≡ Some bytes
+    → IsSomeAnd book (λ b. WritesAll out (listing_of b.script b.entries)) → IfSome book (λ b. IsRun src b volumes)
+    → Verdict status.Done bytes out
 done_verdict None bytes src out volumes told h run = absurd h
 done_verdict (Some b) bytes src out volumes told h run =
     printed b.script refl (subst (λ (x : Option (List ℕ)). IfSome x (λ all. length all ≤ 4194304)) told run.within)
     (subst (λ (x : Option (List ℕ)). IfSome x (λ all. script_of all ≡ Ok b.script)) told run.script) run.runs
 
-fault_verdict : (book : Option Ledger) (bytes : List ℕ) (src out : Change) (volumes : Option (Vols DriveState)) → src.before ≡ Some bytes
-    → IsSomeAnd book (λ b. WritesFront out (listing_of b.script b.entries)) → IfSome book (λ b. IsRun src b volumes) → Verdict status.WriteFault bytes out
+fault_verdict : (book : Option Ledger) (bytes : List ℕ) (src out : Change) (volumes : Option (Vols DriveState))
+    → src.before ≡ Some bytes
+    → IsSomeAnd book (λ b. WritesFront out (listing_of b.script b.entries)) → IfSome book (λ b. IsRun src b volumes)
+    → Verdict status.WriteFault bytes out
 fault_verdict None bytes src out volumes told h run = absurd h
 fault_verdict (Some b) bytes src out volumes told h run =
     broken b.script h.fault (subst (λ (x : Option (List ℕ)). IfSome x (λ all. length all ≤ 4194304)) told run.within)
     (subst (λ (x : Option (List ℕ)). IfSome x (λ all. script_of all ≡ Ok b.script)) told run.script) run.runs
 
-verdict_of : (s : Status) (book : Option Ledger) (bytes : List ℕ) (src out : Change) (volumes : Option (Vols DriveState)) → (Failed src → ⊥)
-    → src.before ≡ Some bytes → EndsSo s (Some form.Run) src out book → IfSome book (λ b. IsRun src b volumes) → Verdict s bytes out
+verdict_of : (s : Status) (book : Option Ledger) (bytes : List ℕ) (src out : Change)
+    (volumes : Option (Vols DriveState)) → (Failed src → ⊥)
+    → src.before ≡ Some bytes → EndsSo s (Some form.Run) src out book → IfSome book (λ b. IsRun src b volumes)
+    → Verdict s bytes out
 verdict_of status.Usage book bytes src out volumes fine told h run = absurd cc
 verdict_of status.ReadFault book bytes src out volumes fine told h run = absurd (fine h.1)
 verdict_of status.TooLong book bytes src out volumes fine told h run =
     long refl (subst (λ (x : Option (List ℕ)). IfSome x (λ all. 4194304 < length all)) told h.1)
 verdict_of (status.Script r) book bytes src out volumes fine told h run = let is =
-    subst (λ (x : Option (List ℕ)). IfSome x (λ all. (length all ≤ 4194304) × (script_of all ≡ Err r))) told h.1 in refused r refl is.0 is.1
+    subst (λ (x : Option (List ℕ)). IfSome x (λ all. (length all ≤ 4194304) × (script_of all ≡ Err r))) told h.1 in
+    refused r refl is.0 is.1
 verdict_of (status.Refused o) book bytes src out volumes fine told h run = absurd cc
 verdict_of status.Later book bytes src out volumes fine told h run = let is =
-    subst (λ (x : Option (List ℕ)). IfSome x (λ all. (length all ≤ 4194304) × IsLater (script_of all))) told h.1 in late refl is.0 is.1
+    subst (λ (x : Option (List ℕ)). IfSome x (λ all. (length all ≤ 4194304) × IsLater (script_of all))) told h.1 in
+    late refl is.0 is.1
 verdict_of status.Done book bytes src out volumes fine told h run = done_verdict book bytes src out volumes told h run
-verdict_of status.WriteFault book bytes src out volumes fine told h run = fault_verdict book bytes src out volumes told h run
+verdict_of status.WriteFault book bytes src out volumes fine told h run =
+    fault_verdict book bytes src out volumes told h run
 verdict_of status.Memory book bytes src out volumes fine told h run = memory refl
 
 -- the verdict of a call that ran a script
-pub verdict : (asked : Option Form) (src out : Change) (f : Finished) → Ends asked src out f → asked ≡ Some form.Run → (Failed src → ⊥)
+pub verdict : (asked : Option Form) (src out : Change) (f : Finished) → Ends asked src out f → asked ≡ Some form.Run
+    → (Failed src → ⊥)
     → IfSome src.before (λ bytes. Verdict f.status bytes out)
 verdict asked src out f h run fine = each src.before refl
   where
@@ -118,12 +138,14 @@ verdict asked src out f h run fine = each src.before refl
         (subst (λ (x : Option Form). EndsSo f.status x src out f.book) run h.so) h.run
 
 -- what each verdict has is there, or there was no memory
-pub by_verdict : (left : Option (List ℕ)) (s : Status) (out : Change) (Q : List ℕ → Type 0) → IfSome left (λ bytes. Verdict s bytes out)
+pub by_verdict : (left : Option (List ℕ)) (s : Status) (out : Change) (Q : List ℕ → Type 0)
+    → IfSome left (λ bytes. Verdict s bytes out)
     → ((bytes : List ℕ) → Verdict s bytes out → Q bytes) → IfSome left Q
 by_verdict None s out Q h get = tt
 by_verdict (Some bytes) s out Q h get = get bytes h
 
-pub found_long : (s : Status) (bytes : List ℕ) (out : Change) → Verdict s bytes out → 4194304 < length bytes → (s ≡ status.TooLong) ⊎ (s ≡ status.Memory)
+pub found_long : (s : Status) (bytes : List ℕ) (out : Change) → Verdict s bytes out → 4194304 < length bytes
+    → (s ≡ status.TooLong) ⊎ (s ≡ status.Memory)
 found_long s bytes out (memory e) lt = inr e
 found_long s bytes out (long e l) lt = inl e
 found_long s bytes out (refused r e few is) lt = absurd (omega arith)
@@ -131,7 +153,8 @@ found_long s bytes out (late e few is) lt = absurd (omega arith)
 found_long s bytes out (printed p e few is runs) lt = absurd (omega arith)
 found_long s bytes out (broken p e few is runs) lt = absurd (omega arith)
 
-pub found_refused : (s : Status) (bytes : List ℕ) (out : Change) → Verdict s bytes out → (r : Refusal) → length bytes ≤ 4194304 → script_of bytes ≡ Err r
+pub found_refused : (s : Status) (bytes : List ℕ) (out : Change) → Verdict s bytes out → (r : Refusal)
+    → length bytes ≤ 4194304 → script_of bytes ≡ Err r
     → (s ≡ status.Script r) ⊎ (s ≡ status.Memory)
 found_refused s bytes out (memory e) r le is = inr e
 found_refused s bytes out (long e l) r le is = absurd (omega arith)
@@ -140,32 +163,38 @@ found_refused s bytes out (late e few was) r le is = absurd (subst IsLater is wa
 found_refused s bytes out (printed p e few was runs) r le is = absurd cc
 found_refused s bytes out (broken p e few was runs) r le is = absurd cc
 
-pub found_later : (s : Status) (bytes : List ℕ) (out : Change) → Verdict s bytes out → (p : Plan) → length bytes ≤ 4194304 → script_of bytes ≡ Ok p
+pub found_later : (s : Status) (bytes : List ℕ) (out : Change) → Verdict s bytes out → (p : Plan)
+    → length bytes ≤ 4194304 → script_of bytes ≡ Ok p
     → script_runs p ≡ false → (s ≡ status.Later) ⊎ (s ≡ status.Memory)
 found_later s bytes out (memory e) p le is runs = inr e
 found_later s bytes out (long e l) p le is runs = absurd (omega arith)
 found_later s bytes out (refused r e few was) p le is runs = absurd cc
 found_later s bytes out (late e few was) p le is runs = inl e
-found_later s bytes out (printed q e few was ran) p le is runs = let same : q ≡ p = cc in absurd (apart (sym ran ∙ ap script_runs same ∙ runs))
+found_later s bytes out (printed q e few was ran) p le is runs = let same : q ≡ p =
+    cc in absurd (apart (sym ran ∙ ap script_runs same ∙ runs))
   where
     apart : true ≡ false → ⊥
     apart e = cc
-found_later s bytes out (broken q e few was ran) p le is runs = let same : q ≡ p = cc in absurd (apart (sym ran ∙ ap script_runs same ∙ runs))
+found_later s bytes out (broken q e few was ran) p le is runs = let same : q ≡ p =
+    cc in absurd (apart (sym ran ∙ ap script_runs same ∙ runs))
   where
     apart : true ≡ false → ⊥
     apart e = cc
 
-pub found_done : (s : Status) (bytes : List ℕ) (out : Change) → Verdict s bytes out → (Failed out → ⊥) → (p : Plan) → length bytes ≤ 4194304
+pub found_done : (s : Status) (bytes : List ℕ) (out : Change) → Verdict s bytes out → (Failed out → ⊥) → (p : Plan)
+    → length bytes ≤ 4194304
     → script_of bytes ≡ Ok p → script_runs p ≡ true → (s ≡ status.Done) ⊎ (s ≡ status.Memory)
 found_done s bytes out (memory e) fine p le is runs = inr e
 found_done s bytes out (long e l) fine p le is runs = absurd (omega arith)
 found_done s bytes out (refused r e few was) fine p le is runs = absurd cc
-found_done s bytes out (late e few was) fine p le is runs = let no : script_runs p ≡ false = subst IsLater is was in absurd cc
+found_done s bytes out (late e few was) fine p le is runs = let no : script_runs p ≡ false =
+    subst IsLater is was in absurd cc
 found_done s bytes out (printed q e few was ran) fine p le is runs = inl e
 found_done s bytes out (broken q e few was ran) fine p le is runs = absurd (fine e)
 
 -- a script of a day is printed, or there was no memory for it
-made_done : (s : Status) (n : ℕ) (src out : Change) (book : Option Ledger) → (Failed out → ⊥) → EndsSo s (Some (form.Make n)) src out book
+made_done : (s : Status) (n : ℕ) (src out : Change) (book : Option Ledger) → (Failed out → ⊥)
+    → EndsSo s (Some (form.Make n)) src out book
     → (s ≡ status.Done) ⊎ (s ≡ status.Memory)
 made_done status.Done n src out book fine h = inl refl
 made_done status.Memory n src out book fine h = inr refl
@@ -177,9 +206,11 @@ made_done (status.Script r) n src out book fine h = absurd h.0
 made_done (status.Refused o) n src out book fine h = absurd cc
 made_done status.Later n src out book fine h = absurd cc
 
-pub found_made : (asked : Option Form) (src out : Change) (f : Finished) (n : ℕ) → Ends asked src out f → asked ≡ Some (form.Make n) → (Failed out → ⊥)
+pub found_made : (asked : Option Form) (src out : Change) (f : Finished) (n : ℕ) → Ends asked src out f → asked
+    ≡ Some (form.Make n) → (Failed out → ⊥)
     → (f.status ≡ status.Done) ⊎ (f.status ≡ status.Memory)
-found_made asked src out f n h e fine = made_done f.status n src out f.book fine (subst (λ (x : Option Form). EndsSo f.status x src out f.book) e h.so)
+found_made asked src out f n h e fine = made_done f.status n src out f.book fine
+    (subst (λ (x : Option Form). EndsSo f.status x src out f.book) e h.so)
 
 -- the text of a drill is printed, or there was no memory for it
 drilled_done : (s : Status) (p f n seed : ℕ) (src out : Change) (book : Option Ledger) → (Failed out → ⊥)
@@ -195,12 +226,15 @@ drilled_done (status.Refused o) p f n seed src out book fine h = absurd cc
 drilled_done status.Later p f n seed src out book fine h = absurd cc
 
 pub found_drilled : (asked : Option Form) (src out : Change) (f : Finished) (p frames n seed : ℕ) → Ends asked src out f
-    → asked ≡ Some (form.Drill p frames n seed) → (Failed out → ⊥) → (f.status ≡ status.Done) ⊎ (f.status ≡ status.Memory)
+    → asked ≡ Some (form.Drill p frames n seed) → (Failed out → ⊥) → (f.status ≡ status.Done)
+    ⊎ (f.status ≡ status.Memory)
 found_drilled asked src out f p frames n seed h e fine =
-    drilled_done f.status p frames n seed src out f.book fine (subst (λ (x : Option Form). EndsSo f.status x src out f.book) e h.so)
+    drilled_done f.status p frames n seed src out f.book fine
+    (subst (λ (x : Option Form). EndsSo f.status x src out f.book) e h.so)
 
 -- what was printed, by the form that was asked for
-pub printed_in : (asked other : Option Form) (src : Change) (book : Option Ledger) (P : List ℕ → Type 0) → Prints asked src book P → asked ≡ other
+pub printed_in : (asked other : Option Form) (src : Change) (book : Option Ledger) (P : List ℕ → Type 0)
+    → Prints asked src book P → asked ≡ other
     → Prints other src book P
 printed_in asked other src book P h e = subst (λ (x : Option Form). Prints x src book P) e h
 

@@ -36,7 +36,8 @@ pub record IsSame (old new : Held) : Type 0 where
 pub record IsPut (old new : Held) (i page at w : ℕ) : Type 0 where
   pub names : KeepsNames old new
   pub count : new.stored ≡ old.stored
-  pub words : picture new.segs ≡ changed_at (picture old.segs) (i + 2) page (slice_set (picture old.segs (i + 2) page) at w)
+  pub words : picture new.segs ≡ changed_at (picture old.segs) (i + 2) page
+      (slice_set (picture old.segs (i + 2) page) at w)
   pub filed : is_filed new.segs ≡ is_filed old.segs
   pub counts : KeepsCounts old.segs.storage new.segs.storage
 

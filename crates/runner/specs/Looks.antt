@@ -1,5 +1,6 @@
 -- What the supervisor finds where a reference goes, by the tables (Bensoussan, Clingen and Daley 1972).
-use Rattle.std.specs.Prelude.{◌≡◌, ◌≢◌, ◌<◌, ◌≤◌, ℕ, ◌+◌, ◌-◌, ◌*◌, ◌/◌, Bool, false, true, ◌==◌, nat_le, if◌then◌else◌, length, Option, Some, None, is_some}
+use Rattle.std.specs.Prelude.{◌≡◌, ◌≢◌, ◌<◌, ◌≤◌, ℕ, ◌+◌, ◌-◌, ◌*◌, ◌/◌, Bool, false, true, ◌==◌, nat_le}
+use Rattle.std.specs.Prelude.{if◌then◌else◌, length, Option, Some, None, is_some}
 use Rattle.std.specs.Prelude.{replicate, slice_index}
 use Rattle.book.specs.declared.replies.Reply.TheVariants as reply
 use Rattle.page_table.specs.declared.Ptw.{Ptw}
@@ -88,8 +89,8 @@ pub record IsInFrame (t : Held) (i page f : ℕ) : Type 0 where
   pub words : picture t.segs (i + 2) page ≡ words_in t.segs.storage f
   pub filed : is_filed t.segs (i + 2) page ≡ true
 
--- what a page table word says of a page: it isn't on its way out, one without a record is zeros, and one in a frame has its
--- words there
+-- what a page table word says of a page: it isn't on its way out, one without a record is zeros, and one in a frame
+-- has its words there
 pub record IsSeen (t : Held) (i page : ℕ) : Type 0 where
   pub stays : (f : ℕ) → word_at t.segs i page ≢ Leaving f
   pub null : word_at t.segs i page ≡ Null → IsBlank t i page

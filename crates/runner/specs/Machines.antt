@@ -46,7 +46,8 @@ pub record IsForm (p : Plan) : Type 0 where
   pub acts : 0 < length p.processes → 0 < length (commands_of p 0)
   pub commands : length (commands_of p 0) ≤ 100000
   pub fits : (place : ℕ) (c : Command) → command_at p 0 place ≡ Some c → IsFit (length p.volumes) c
-  pub placed : (place : ℕ) (c : Command) → command_at p 0 place ≡ Some c → IsPlaced c (place + 1) (length (commands_of p 0))
+  pub placed : (place : ℕ) (c : Command) → command_at p 0 place ≡ Some c
+      → IsPlaced c (place + 1) (length (commands_of p 0))
 
 -- What the machine keeps: its book is legal, and its tables are those of the flat store after the book.
 pub record Holds (p : Plan) (es : List Entry) (t : Held) : Type 0 where

@@ -1,5 +1,6 @@
 -- What the volumes hold once the machine is shut down: the flat store, and nothing else (Organick 1972).
-use Rattle.std.specs.Prelude.{◌≡◌, ◌⊎◌, ◌<◌, ℕ, ◌+◌, ◌*◌, false, true, List, [], Option, Some, map, is_some, slice_index, slice_index_or}
+use Rattle.std.specs.Prelude.{◌≡◌, ◌⊎◌, ◌<◌, ℕ, ◌+◌, ◌*◌, false, true, List, [], Option, Some, map, is_some}
+use Rattle.std.specs.Prelude.{slice_index, slice_index_or}
 use Rattle.tree_model.specs.Tree.{Node, node_in, taken_on, entries_on}
 use Rattle.vtoc.specs.Vtoc.{Entry, entry_at, record_at, uid_of}
 use Rattle.volumes.specs.CoreDrive.{DriveState}
@@ -13,7 +14,8 @@ use Rattle.flat_model.specs.Store.{Store}
 
 -- the words on the record that the file map of a volume's entry names for a page
 abbrev pub words_on_disk : Vols DriveState → ℕ → ℕ → ℕ → List ℕ
-words_on_disk v w e page = words_filed (slice_index_or (map pages_of v.drives) w []) (record_at (vtoc_in v.vtocs w) e page)
+words_on_disk v w e page = words_filed (slice_index_or (map pages_of v.drives) w [])
+    (record_at (vtoc_in v.vtocs w) e page)
 
 -- a volume has a used VTOC entry with this uid
 pub record HasEntry (vtocs : List (List (Option Entry))) (volume uid : ℕ) : Type 0 where

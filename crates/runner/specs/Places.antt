@@ -1,5 +1,6 @@
 -- Where a path leads, and where a new segment goes, by the directory tree (Bensoussan, Clingen and Daley 1972).
-use Rattle.std.specs.Prelude.{◌≡◌, ℕ, false, true, ◌==◌, nat_le, if◌then◌else◌, List, [], ◌∷◌, ◌++◌, length, Option, Some, None, Result, Ok, Err, is_some}
+use Rattle.std.specs.Prelude.{◌≡◌, ℕ, false, true, ◌==◌, nat_le, if◌then◌else◌, List, [], ◌∷◌, ◌++◌, length, Option}
+use Rattle.std.specs.Prelude.{Some, None, Result, Ok, Err, is_some}
 use Rattle.mnames.specs.declared.principals.Who.{Who}
 use Rattle.script.specs.Plans.{Plan, who_of, command_at}
 use Rattle.script.specs.declared.commands.Command.TheVariants as command
@@ -79,8 +80,15 @@ pub record IsMade (old new : Held) (directory : ℕ) (name : List ℕ) (size vol
   pub words : picture new.segs ≡ picture old.segs
   pub filed : is_filed new.segs ≡ is_filed old.segs
   pub sizes : HasSizes old.segs.storage new.segs.storage
-  pub tree : new.tree ≡ added old.tree directory (record
-      { name = name; dir = false; volume = volume; entry = (home_at new.segs.homes (length old.segs.homes)).entry; length = size; acl = owner_row who ∷ [] })
+  pub tree : new.tree ≡ added old.tree directory (record {
+    name = name;
+    dir = false;
+    volume = volume;
+    entry =
+        (home_at new.segs.homes (length old.segs.homes)).entry;
+    length = size;
+    acl = owner_row who ∷ [];
+  })
   pub lengths : new.lengths ≡ old.lengths ++ size ∷ []
   pub known : new.known ≡ old.known
   pub count : new.stored ≡ old.stored
@@ -112,7 +120,8 @@ pub record IsMaking (p : Plan) (t : Held) (place : ℕ) (new : NewSegment) : Typ
   pub pages : ℕ
   pub volume : ℕ
   pub command : command_at p 0 place ≡ Some (command.MkSeg path pages volume)
-  pub made : to_make new ≡ with_room p.quota t (who_of p 0) pages volume (new_branch_of (with_quotas (root_quota p.quota) t.tree.nodes) path)
+  pub made : to_make new ≡ with_room p.quota t (who_of p 0) pages volume
+      (new_branch_of (with_quotas (root_quota p.quota) t.tree.nodes) path)
   pub can : CanMake t new
 
 -- The command at a place makes a segment known.

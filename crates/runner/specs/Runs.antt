@@ -1,5 +1,6 @@
 -- What the program is asked, what of it runs so far, and what it writes (own).
-use Rattle.std.specs.Prelude.{◌≡◌, ℕ, Bool, true, false, not, ◌&&◌, ◌==◌, List, [], ◌∷◌, ◌++◌, length, Result, Ok, Err, codes}
+use Rattle.std.specs.Prelude.{◌≡◌, ℕ, Bool, true, false, not, ◌&&◌, ◌==◌, List, [], ◌∷◌, ◌++◌, length, Result, Ok, Err}
+use Rattle.std.specs.Prelude.{codes}
 use Rattle.std.specs.List.{list_all}
 use Rattle.std.specs.Fmt.{decimal}
 use Rattle.book_check.specs.Rules.{rule_text}
@@ -35,7 +36,8 @@ processes_run (x ∷ y ∷ xs) = false
 
 -- a script that runs so far: one processor, no fast store, no failing call, no initializer, and at most one process
 unfoldable pub script_runs : Plan → Bool
-script_runs p = ((p.processors == 1 && (length p.bulks == 0 && length p.fails == 0)) && not p.initializer) && processes_run p.processes
+script_runs p = ((p.processors == 1 && (length p.bulks == 0 && length p.fails == 0)) && not p.initializer)
+    && processes_run p.processes
 
 -- a script that is one, and doesn't run yet
 abbrev pub IsLater : Result Plan Refusal → Type 0
@@ -61,4 +63,5 @@ unfoldable pub offence_text : Offence → List ℕ
 offence_text o = codes "refused at line " ++ (decimal o.line ++ (codes ": " ++ (rule_text o.rule ++ codes "\n")))
 
 unfoldable pub refusal_text : Refusal → List ℕ
-refusal_text r = codes "script refused at line " ++ (decimal r.line ++ (codes ": " ++ (cause_text r.cause ++ codes "\n")))
+refusal_text r = codes "script refused at line " ++ (decimal r.line
+    ++ (codes ": " ++ (cause_text r.cause ++ codes "\n")))

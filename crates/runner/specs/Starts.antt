@@ -13,7 +13,16 @@ use Rattle.runner.specs.Tables.{Held}
 
 -- a drive whose pages are zeros, and which never fails, with a VTOC of the line's entries
 abbrev pub part_of : VolumeLine → Part DriveState
-part_of v = record { drive = record { pages = replicate v.records (replicate 1024 0); fails = []; reads = 0; writes = 0 }; entries = v.entries }
+part_of v = record {
+  drive = record {
+    pages = replicate v.records (replicate 1024 0);
+    fails = [];
+    reads = 0;
+    writes =
+        0;
+  };
+  entries = v.entries;
+}
 
 -- the volumes of these lines
 abbrev pub volumes_of : List VolumeLine → Vols DriveState

@@ -1,5 +1,6 @@
 -- The tables of a run, and what they are to the flat store (own).
-use Rattle.std.specs.Prelude.{◌≡◌, ◌≢◌, ◌<◌, ◌≤◌, ℕ, ◌+◌, ◌*◌, false, true, ◌==◌, if◌then◌else◌, List, [], ◌∷◌, length, map, sum, Option, Some, None, is_some}
+use Rattle.std.specs.Prelude.{◌≡◌, ◌≢◌, ◌<◌, ◌≤◌, ℕ, ◌+◌, ◌*◌, false, true, ◌==◌, if◌then◌else◌, List, [], ◌∷◌, length}
+use Rattle.std.specs.Prelude.{map, sum, Option, Some, None, is_some}
 use Rattle.std.specs.Prelude.{slice_index, slice_index_or}
 use Rattle.mnames.specs.declared.principals.Who.{Who}
 use Rattle.script.specs.Plans.{Plan, who_of}
@@ -42,14 +43,16 @@ IsSegmentIn who None u v count = ⊥
 IsSegmentIn who (Some n) u v count = IsSegment who n u v count
 
 -- The tree's nodes are those of the flat store: the root, and segment i under uid i + 2, which the one process made.
-pub record AreNamed (p : Plan) (ns : List Node) (free : ℕ) (homes : List Home) (tree : Branches) (counts : List ℕ) : Type 0 where
+pub record AreNamed (p : Plan) (ns : List Node) (free : ℕ) (homes : List Home) (tree : Branches) (counts : List ℕ) :
+    Type 0 where
   pub nodes : ns ≡ with_quotas (root_quota p.quota) tree.nodes
   pub next : free ≡ tree.next
   pub count : free ≡ length homes + 2
   pub nodes_count : length ns ≡ length homes + 1
   pub few : length homes ≤ 4096
   pub lengths : length counts ≡ length homes
-  pub segments : (i : ℕ) → i < length homes → IsSegmentIn (who_of p 0) (node_in ns (i + 2)) (i + 2) (home_at homes i).volume (slice_index counts i)
+  pub segments : (i : ℕ) → i < length homes → IsSegmentIn (who_of p 0) (node_in ns (i + 2)) (i + 2)
+      (home_at homes i).volume (slice_index counts i)
   pub others : (u : ℕ) → is_some (node_in ns u) ≡ true → u ≢ 1 → (2 ≤ u) × (u < length homes + 2)
   pub root : has_directory ns 1 ≡ true
   pub quotas : sum (map (λ n. n.quota) ns) ≡ p.quota
@@ -63,7 +66,8 @@ pub record AreNumbered (p : Plan) (known : List (List (Option ℕ))) (count : �
 
 -- Frames, records and file maps have the same words and the same stored pages.
 pub record ArePages (ws : Words) (xs : List (ℕ × ℕ)) (count : ℕ) (segs : Segs) : Type 0 where
-  pub words : (i page o : ℕ) → page < 256 → o < 1024 → slice_index (picture segs (i + 2) page) o ≡ ws (i + 2) (1024 * page + o)
+  pub words : (i page o : ℕ) → page < 256 → o < 1024 → slice_index (picture segs (i + 2) page) o
+      ≡ ws (i + 2) (1024 * page + o)
   pub stored : (u page : ℕ) → is_stored xs u page ≡ is_filed segs u page
   pub inside : (u page : ℕ) → is_stored xs u page ≡ true → (2 ≤ u) × (u < count + 2) × (page < 256)
   pub sizes : (u page : ℕ) → is_stored xs u page ≡ true → length (picture segs u page) ≡ 1024

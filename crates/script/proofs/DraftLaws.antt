@@ -1,11 +1,15 @@
 -- Laws of drafts (own).
-use Rattle.std.proofs.Common.{◌≡◌, ℕ, ◌+◌, ◌<◌, ◌≤◌, true, false, not, nat_le, nat_lt, ◌&&◌, List, [], ◌∷◌, ◌++◌, length, refl, sym, ap, subst, ◌∙◌, arith, sum_by}
+use Rattle.std.proofs.Common.{◌≡◌, ℕ, ◌+◌, ◌<◌, ◌≤◌, true, false, not, nat_le, nat_lt, ◌&&◌, List, [], ◌∷◌, ◌++◌}
+use Rattle.std.proofs.Common.{length, refl, sym, ap, subst, ◌∙◌, arith, sum_by}
 use Rattle.std.proofs.lemmas.Bool.Decides.{nat_tests}
 use Rattle.mnames.specs.Names.{is_name}
 use Rattle.mnames.specs.declared.principals.Who.{Who}
 use Rattle.std.specs.List.{list_all, list_any}
-use Rattle.script.specs.Drafts.{DraftPlan, IsDraft, begun_at, blank, has_volume, goes_on, is_early, is_head, is_inside, plan_of}
-use Rattle.script.specs.Forms.{BeginsWithInitializer, IsPlan, has_name, have_own_names, have_own_volumes, is_before, is_bulk, is_command, is_end, is_fail, is_from, is_place, is_process, is_volume, is_who, is_word, ends_once, records_of, weight, weight_of}
+use Rattle.script.specs.Drafts.{DraftPlan, IsDraft, begun_at, blank, has_volume, goes_on, is_early, is_head, is_inside}
+use Rattle.script.specs.Drafts.{plan_of}
+use Rattle.script.specs.Forms.{BeginsWithInitializer, IsPlan, has_name, have_own_names, have_own_volumes, is_before}
+use Rattle.script.specs.Forms.{is_bulk, is_command, is_end, is_fail, is_from, is_place, is_process, is_volume, is_who}
+use Rattle.script.specs.Forms.{is_word, ends_once, records_of, weight, weight_of}
 use Rattle.script.specs.Grammar.{is_whole}
 use Rattle.script.specs.Plans.{ProcessPlan}
 use Rattle.script.specs.declared.commands.Command.{Command}
@@ -26,8 +30,49 @@ no_bulks : have_own_volumes [] ≡ true
 unfolding have_own_volumes
 no_bulks = refl
 
-pub blank_is : (volumes : List VolumeLine) (bulks : List Bulk) (fails : List Fail) (processes : List ProcessPlan) (who : Who) (commands : List Command) → volumes ≡ [] → bulks ≡ [] → fails ≡ [] → processes ≡ [] → is_who who ≡ true → commands ≡ [] → IsDraft (record blank { volumes = volumes; bulks = bulks; fails = fails; processes = processes; who = who; commands = commands })
-blank_is volumes bulks fails processes who commands a b c d e f = rw (a, b, c, d, f) (record { processors = (omega arith, omega arith); frames = (omega arith, omega arith); pools = (omega arith, omega arith, omega arith, omega arith, omega arith); quota = omega arith; some = λ h. absurd (apart h); few = omega arith; volumes = refl; names = no_names; records = omega arith; bulks = refl; apart = no_bulks; fails = refl; most = omega arith; early = λ h. (refl, refl, refl); head = λ h. refl; room = λ h. absurd (apart h); processes = omega arith; each = refl; first = λ h. absurd (apart h); who = e; commands = refl; going = refl; weights = omega arith; used = omega arith })
+pub blank_is : (volumes : List VolumeLine) (bulks : List Bulk) (fails : List Fail) (processes : List ProcessPlan)
+    (who : Who) (commands : List Command) → volumes ≡ [] → bulks ≡ [] → fails ≡ [] → processes ≡ [] → is_who who ≡ true
+    → commands ≡ [] → IsDraft (record blank {
+      volumes = volumes;
+      bulks = bulks;
+      fails = fails;
+      processes =
+          processes;
+      who = who;
+      commands = commands;
+    })
+blank_is volumes bulks fails processes who commands a b c d e f =
+    rw (a, b, c, d, f) (record {
+      processors = (omega arith, omega arith);
+      frames = (omega arith, omega arith);
+      pools =
+          (omega arith, omega arith, omega arith, omega arith, omega arith);
+      quota = omega arith;
+      some =
+          λ h. absurd (apart h);
+      few = omega arith;
+      volumes = refl;
+      names = no_names;
+      records = omega arith;
+      bulks =
+          refl;
+      apart = no_bulks;
+      fails = refl;
+      most = omega arith;
+      early = λ h. (refl, refl, refl);
+      head = λ h. refl;
+      room =
+          λ h. absurd (apart h);
+      processes = omega arith;
+      each = refl;
+      first = λ h. absurd (apart h);
+      who = e;
+      commands =
+          refl;
+      going = refl;
+      weights = omega arith;
+      used = omega arith;
+    })
   where
     apart : false ≡ true → ⊥
     apart e = cc
@@ -79,34 +124,140 @@ bulk_is : (n : ℕ) (b : Bulk) → b.volume < n → 1 ≤ b.places → b.places 
 unfolding is_bulk
 bulk_is n b given low high = grind (arith, nat_tests)
 
-pub bulk_added : (d : DraftPlan) (new : List Bulk) (b : Bulk) → IsDraft d → new ≡ d.bulks ++ b ∷ [] → is_head d.stage ≡ true → has_volume d.stage ≡ true → b.volume < length d.volumes → 1 ≤ b.places → b.places ≤ 1024 → list_any (is_before b.volume) d.bulks ≡ false → IsDraft (record d { stage = stage.Bulks; bulks = new })
+pub bulk_added : (d : DraftPlan) (new : List Bulk) (b : Bulk) → IsDraft d → new ≡ d.bulks ++ b ∷ [] → is_head d.stage
+    ≡ true → has_volume d.stage ≡ true → b.volume < length d.volumes → 1 ≤ b.places → b.places ≤ 1024
+    → list_any (is_before b.volume) d.bulks ≡ false → IsDraft (record d { stage = stage.Bulks; bulks = new })
 bulk_added d new b h e head volume given low high other =
     let range : is_bulk (length d.volumes) b ≡ true = bulk_is (length d.volumes) b given low high in
-    rw e (record { processors = h.processors; frames = h.frames; pools = h.pools; quota = h.quota; some = λ _. h.some volume; few = h.few; volumes = h.volumes; names = h.names; records = h.records; bulks = all_push (is_bulk (length d.volumes)) d.bulks b h.bulks range; apart = bulks_push d.bulks b h.apart other; fails = h.fails; most = h.most; early = λ z. absurd (false_not_true z); head = λ _. h.head head; room = λ z. absurd (false_not_true z); processes = h.processes; each = h.each; first = λ z. subst BeginsWithInitializer (head_begun d.stage d head) (h.first z); who = h.who; commands = h.commands; going = h.going; weights = h.weights; used = h.used })
+    rw e (record {
+      processors = h.processors;
+      frames = h.frames;
+      pools = h.pools;
+      quota = h.quota;
+      some =
+          λ _. h.some volume;
+      few = h.few;
+      volumes = h.volumes;
+      names = h.names;
+      records = h.records;
+      bulks =
+          all_push (is_bulk (length d.volumes)) d.bulks b h.bulks range;
+      apart =
+          bulks_push d.bulks b h.apart other;
+      fails = h.fails;
+      most = h.most;
+      early =
+          λ z. absurd (false_not_true z);
+      head = λ _. h.head head;
+      room = λ z. absurd (false_not_true z);
+      processes =
+          h.processes;
+      each = h.each;
+      first = λ z. subst BeginsWithInitializer (head_begun d.stage d head) (h.first z);
+      who = h.who;
+      commands = h.commands;
+      going = h.going;
+      weights = h.weights;
+      used = h.used;
+    })
 
 fail_is : (n : ℕ) (f : Fail) → f.volume < n → is_from 1 1000000 f.number ≡ true → is_fail n f ≡ true
 unfolding is_fail
-fail_is n f given number = let z : nat_lt f.volume n ≡ true = grind (arith, nat_tests) in and_both (nat_lt f.volume n) (is_from 1 1000000 f.number) z number
+fail_is n f given number = let z : nat_lt f.volume n ≡ true =
+    grind (arith, nat_tests) in and_both (nat_lt f.volume n) (is_from 1 1000000 f.number) z number
 
-pub fail_added : (d : DraftPlan) (new : List Fail) (f : Fail) → IsDraft d → new ≡ d.fails ++ f ∷ [] → is_head d.stage ≡ true → has_volume d.stage ≡ true → f.volume < length d.volumes → is_from 1 1000000 f.number ≡ true → length d.fails < 100 → IsDraft (record d { stage = stage.Fails; fails = new })
+pub fail_added : (d : DraftPlan) (new : List Fail) (f : Fail) → IsDraft d → new ≡ d.fails ++ f ∷ [] → is_head d.stage
+    ≡ true → has_volume d.stage ≡ true → f.volume < length d.volumes → is_from 1 1000000 f.number ≡ true
+    → length d.fails < 100 → IsDraft (record d { stage = stage.Fails; fails = new })
 fail_added d new f h e head volume given number few =
     let range : is_fail (length d.volumes) f ≡ true = fail_is (length d.volumes) f given number in
-    rw e (record { processors = h.processors; frames = h.frames; pools = h.pools; quota = h.quota; some = λ _. h.some volume; few = h.few; volumes = h.volumes; names = h.names; records = h.records; bulks = h.bulks; apart = h.apart; fails = all_push (is_fail (length d.volumes)) d.fails f h.fails range; most = omega (arith, length_push d.fails f); early = λ z. absurd (false_not_true z); head = λ _. h.head head; room = λ z. absurd (false_not_true z); processes = h.processes; each = h.each; first = λ z. subst BeginsWithInitializer (head_begun d.stage d head) (h.first z); who = h.who; commands = h.commands; going = h.going; weights = h.weights; used = h.used })
+    rw e (record {
+      processors = h.processors;
+      frames = h.frames;
+      pools = h.pools;
+      quota = h.quota;
+      some =
+          λ _. h.some volume;
+      few = h.few;
+      volumes = h.volumes;
+      names = h.names;
+      records = h.records;
+      bulks =
+          h.bulks;
+      apart = h.apart;
+      fails = all_push (is_fail (length d.volumes)) d.fails f h.fails range;
+      most =
+          omega (arith, length_push d.fails f);
+      early = λ z. absurd (false_not_true z);
+      head = λ _. h.head head;
+      room =
+          λ z. absurd (false_not_true z);
+      processes = h.processes;
+      each = h.each;
+      first =
+          λ z. subst BeginsWithInitializer (head_begun d.stage d head) (h.first z);
+      who = h.who;
+      commands =
+          h.commands;
+      going = h.going;
+      weights = h.weights;
+      used = h.used;
+    })
 
-volume_is : (v : VolumeLine) → is_name v.name ≡ true → 1 ≤ v.records → v.records ≤ 16384 → 1 ≤ v.entries → v.entries ≤ 4097 → is_volume v ≡ true
+volume_is : (v : VolumeLine) → is_name v.name ≡ true → 1 ≤ v.records → v.records ≤ 16384 → 1 ≤ v.entries
+    → v.entries ≤ 4097 → is_volume v ≡ true
 unfolding is_volume
 volume_is v name low high least most =
     let records : is_from 1 16384 v.records ≡ true = grind (arith, nat_tests) in
     let entries : is_from 1 4097 v.entries ≡ true = grind (arith, nat_tests) in
-    and_both (is_name v.name) (is_from 1 16384 v.records && is_from 1 4097 v.entries) name (and_both (is_from 1 16384 v.records) (is_from 1 4097 v.entries) records entries)
+    and_both (is_name v.name) (is_from 1 16384 v.records && is_from 1 4097 v.entries) name
+    (and_both (is_from 1 16384 v.records) (is_from 1 4097 v.entries) records entries)
 
-pub volume_added : (d : DraftPlan) (new : List VolumeLine) (v : VolumeLine) → IsDraft d → new ≡ d.volumes ++ v ∷ [] → is_early d.stage ≡ true → is_name v.name ≡ true → 1 ≤ v.records → v.records ≤ 16384 → 1 ≤ v.entries → v.entries ≤ 4097 → list_any (has_name v.name) d.volumes ≡ false → length d.volumes < 4 → sum_by records_of d.volumes + v.records ≤ 16384 → IsDraft (record d { stage = stage.Volumes; volumes = new })
+pub volume_added : (d : DraftPlan) (new : List VolumeLine) (v : VolumeLine) → IsDraft d → new ≡ d.volumes ++ v ∷ []
+    → is_early d.stage ≡ true → is_name v.name ≡ true → 1 ≤ v.records → v.records ≤ 16384 → 1 ≤ v.entries
+    → v.entries ≤ 4097 → list_any (has_name v.name) d.volumes ≡ false → length d.volumes < 4
+    → sum_by records_of d.volumes + v.records ≤ 16384 → IsDraft (record d { stage = stage.Volumes; volumes = new })
 volume_added d new v h e early name low high least most other few records =
     let range : is_volume v ≡ true = volume_is v name low high least most in
     let head : is_head d.stage ≡ true = early_is_head d.stage early in
     let nothing = h.early early in
     let nobody = h.head head in
-    rw e (record { processors = h.processors; frames = h.frames; pools = h.pools; quota = h.quota; some = λ _. omega (arith, length_push d.volumes v); few = omega (arith, length_push d.volumes v); volumes = all_push is_volume d.volumes v h.volumes range; names = names_push d.volumes v h.names other; records = omega (arith, sum_push records_of d.volumes v); bulks = ap (list_all (is_bulk (length (d.volumes ++ v ∷ [])))) nothing.0; apart = h.apart; fails = ap (list_all (is_fail (length (d.volumes ++ v ∷ [])))) nothing.1; most = h.most; early = λ _. nothing; head = λ _. nobody; room = λ z. absurd (false_not_true z); processes = h.processes; each = ap (list_all (is_process (length (d.volumes ++ v ∷ [])))) nobody; first = λ z. subst BeginsWithInitializer (head_begun d.stage d head) (h.first z); who = h.who; commands = ap (list_all (is_command (length (d.volumes ++ v ∷ [])))) nothing.2; going = h.going; weights = h.weights; used = h.used })
+    rw e (record {
+      processors = h.processors;
+      frames = h.frames;
+      pools = h.pools;
+      quota = h.quota;
+      some =
+          λ _. omega (arith, length_push d.volumes v);
+      few = omega (arith, length_push d.volumes v);
+      volumes =
+          all_push is_volume d.volumes v h.volumes range;
+      names = names_push d.volumes v h.names other;
+      records =
+          omega (arith, sum_push records_of d.volumes v);
+      bulks =
+          ap (list_all (is_bulk (length (d.volumes ++ v ∷ [])))) nothing.0;
+      apart = h.apart;
+      fails =
+          ap (list_all (is_fail (length (d.volumes ++ v ∷ [])))) nothing.1;
+      most = h.most;
+      early = λ _. nothing;
+      head =
+          λ _. nobody;
+      room = λ z. absurd (false_not_true z);
+      processes = h.processes;
+      each =
+          ap (list_all (is_process (length (d.volumes ++ v ∷ [])))) nobody;
+      first =
+          λ z. subst BeginsWithInitializer (head_begun d.stage d head) (h.first z);
+      who = h.who;
+      commands =
+          ap (list_all (is_command (length (d.volumes ++ v ∷ [])))) nothing.2;
+      going = h.going;
+      weights =
+          h.weights;
+      used = h.used;
+    })
 
 inside_has_volume : (s : Stage) → is_inside s ≡ true → has_volume s ≡ true
 inside_has_volume s h = ap has_volume (inside_is s h)
@@ -114,18 +265,60 @@ inside_has_volume s h = ap has_volume (inside_is s h)
 inside_is_late : (s : Stage) → is_inside s ≡ true → is_early s ≡ true → ⊥
 inside_is_late s h e = false_not_true (sym (ap is_early (inside_is s h)) ∙ e)
 
-pub command_added : (d : DraftPlan) (new : List Command) (c : Command) (used : ℕ) → IsDraft d → new ≡ d.commands ++ c ∷ [] → is_inside d.stage ≡ true → is_command (length d.volumes) c ≡ true → is_end c ≡ false → used ≡ d.used + weight c → used ≤ 100000 → IsDraft (record d { commands = new; used = used })
+pub command_added : (d : DraftPlan) (new : List Command) (c : Command) (used : ℕ) → IsDraft d → new ≡ d.commands ++ c
+    ∷ [] → is_inside d.stage ≡ true → is_command (length d.volumes) c ≡ true → is_end c ≡ false → used
+    ≡ d.used + weight c → used ≤ 100000 → IsDraft (record d { commands = new; used = used })
 command_added d new c used h e inside range going u within =
     let at : d.stage ≡ stage.Commands = inside_is d.stage inside in
-    rw e (record { processors = h.processors; frames = h.frames; pools = h.pools; quota = h.quota; some = h.some; few = h.few; volumes = h.volumes; names = h.names; records = h.records; bulks = h.bulks; apart = h.apart; fails = h.fails; most = h.most; early = λ z. absurd (inside_is_late d.stage inside z); head = h.head; room = h.room; processes = h.processes; each = h.each; first = λ z. subst (λ s. BeginsWithInitializer (begun_at s (record d { commands = d.commands ++ c ∷ []; used = used }))) (sym at) (begins_same d.processes (record { who = d.who; commands = d.commands }) (record { who = d.who; commands = d.commands ++ c ∷ [] }) refl (subst (λ s. BeginsWithInitializer (begun_at s d)) at (h.first z))); who = h.who; commands = all_push (is_command (length d.volumes)) d.commands c h.commands range; going = all_push goes_on d.commands c h.going (ap not going); weights = omega (arith, h.weights, sum_push weight d.commands c); used = within })
+    rw e (record {
+      processors = h.processors;
+      frames = h.frames;
+      pools = h.pools;
+      quota = h.quota;
+      some = h.some;
+      few =
+          h.few;
+      volumes = h.volumes;
+      names = h.names;
+      records = h.records;
+      bulks = h.bulks;
+      apart = h.apart;
+      fails =
+          h.fails;
+      most = h.most;
+      early = λ z. absurd (inside_is_late d.stage inside z);
+      head = h.head;
+      room =
+          h.room;
+      processes = h.processes;
+      each = h.each;
+      first =
+          λ z. subst (λ s. BeginsWithInitializer (begun_at s
+          (record d { commands = d.commands ++ c ∷ []; used = used }))) (sym at)
+          (begins_same d.processes (record { who = d.who; commands = d.commands })
+          (record { who = d.who; commands = d.commands ++ c ∷ [] }) refl
+          (subst (λ s. BeginsWithInitializer (begun_at s d)) at (h.first z)));
+      who = h.who;
+      commands =
+          all_push (is_command (length d.volumes)) d.commands c h.commands range;
+      going =
+          all_push goes_on d.commands c h.going (ap not going);
+      weights =
+          omega (arith, h.weights, sum_push weight d.commands c);
+      used = within;
+    })
 
-process_is : (volumes : ℕ) (who : Who) (commands : List Command) (c : Command) → is_who who ≡ true → list_all (is_command volumes) commands ≡ true → list_all goes_on commands ≡ true → is_command volumes c ≡ true → is_end c ≡ true → is_process volumes (record { who = who; commands = commands ++ c ∷ [] }) ≡ true
+process_is : (volumes : ℕ) (who : Who) (commands : List Command) (c : Command) → is_who who ≡ true
+    → list_all (is_command volumes) commands ≡ true → list_all goes_on commands ≡ true → is_command volumes c ≡ true
+    → is_end c ≡ true → is_process volumes (record { who = who; commands = commands ++ c ∷ [] }) ≡ true
 unfolding is_process
 process_is volumes who commands c w h going range last =
     and_both (is_who who) (list_all (is_command volumes) (commands ++ c ∷ []) && ends_once (commands ++ c ∷ [])) w
-    (and_both (list_all (is_command volumes) (commands ++ c ∷ [])) (ends_once (commands ++ c ∷ [])) (all_push (is_command volumes) commands c h range) (end_push commands c going last))
+    (and_both (list_all (is_command volumes) (commands ++ c ∷ [])) (ends_once (commands ++ c ∷ []))
+    (all_push (is_command volumes) commands c h range) (end_push commands c going last))
 
-process_weight : (who : Who) (commands : List Command) (c : Command) → weight_of (record { who = who; commands = commands ++ c ∷ [] }) ≡ sum_by weight commands + weight c
+process_weight : (who : Who) (commands : List Command) (c : Command)
+    → weight_of (record { who = who; commands = commands ++ c ∷ [] }) ≡ sum_by weight commands + weight c
 unfolding weight_of
 process_weight who commands c = sum_push weight commands c
 
@@ -133,13 +326,57 @@ end_is_command : (volumes : ℕ) → is_command volumes command.End ≡ true
 unfolding is_command
 end_is_command volumes = refl
 
-pub process_ended : (d : DraftPlan) (new : List ProcessPlan) (left : List Command) (used : ℕ) → IsDraft d → new ≡ d.processes ++ record { who = d.who; commands = d.commands ++ command.End ∷ [] } ∷ [] → left ≡ [] → is_inside d.stage ≡ true → used ≡ d.used + 1 → used ≤ 100000 → IsDraft (record d { stage = stage.Processes; processes = new; commands = left; used = used })
+pub process_ended : (d : DraftPlan) (new : List ProcessPlan) (left : List Command) (used : ℕ) → IsDraft d → new
+    ≡ d.processes ++ record { who = d.who; commands = d.commands ++ command.End ∷ [] } ∷ [] → left ≡ []
+    → is_inside d.stage ≡ true → used ≡ d.used + 1 → used ≤ 100000
+    → IsDraft (record d { stage = stage.Processes; processes = new; commands = left; used = used })
 process_ended d new left used h e empty inside u within =
     let at : d.stage ≡ stage.Commands = inside_is d.stage inside in
     let ended : ProcessPlan = record { who = d.who; commands = d.commands ++ command.End ∷ [] } in
     let more : length (d.processes ++ ended ∷ []) ≡ length d.processes + 1 = length_push d.processes ended in
     let room : length d.processes < 32 = h.room inside in
-    rw (e, empty) (record { processors = h.processors; frames = h.frames; pools = h.pools; quota = h.quota; some = λ _. h.some (inside_has_volume d.stage inside); few = h.few; volumes = h.volumes; names = h.names; records = h.records; bulks = h.bulks; apart = h.apart; fails = h.fails; most = h.most; early = λ z. absurd (false_not_true z); head = λ z. absurd (false_not_true z); room = λ z. absurd (false_not_true z); processes = omega (arith, more, room); each = all_push (is_process (length d.volumes)) d.processes ended h.each (process_is (length d.volumes) d.who d.commands command.End h.who h.commands h.going (end_is_command (length d.volumes)) refl); first = λ z. begins_same d.processes (record { who = d.who; commands = d.commands }) ended refl (subst (λ s. BeginsWithInitializer (begun_at s d)) at (h.first z)); who = h.who; commands = refl; going = refl; weights = omega (arith, h.weights, sum_push weight_of d.processes ended, process_weight d.who d.commands command.End); used = within })
+    rw (e, empty) (record {
+      processors = h.processors;
+      frames = h.frames;
+      pools = h.pools;
+      quota = h.quota;
+      some =
+          λ _. h.some (inside_has_volume d.stage inside);
+      few = h.few;
+      volumes = h.volumes;
+      names = h.names;
+      records =
+          h.records;
+      bulks = h.bulks;
+      apart = h.apart;
+      fails = h.fails;
+      most = h.most;
+      early =
+          λ z. absurd (false_not_true z);
+      head = λ z. absurd (false_not_true z);
+      room =
+          λ z. absurd (false_not_true z);
+      processes = omega (arith, more, room);
+      each =
+          all_push (is_process (length d.volumes)) d.processes ended h.each
+          (process_is (length d.volumes) d.who d.commands command.End h.who h.commands h.going
+          (end_is_command (length d.volumes)) refl);
+      first =
+          λ z. begins_same d.processes (record { who = d.who; commands = d.commands }) ended refl
+          (subst (λ s. BeginsWithInitializer (begun_at s d)) at (h.first z));
+      who = h.who;
+      commands = refl;
+      going =
+          refl;
+      weights = omega (
+        arith,
+        h.weights,
+        sum_push weight_of d.processes ended,
+        process_weight d.who d.commands
+            command.End,
+      );
+      used = within;
+    })
 
 pub weight_bound : (volumes : ℕ) (c : Command) → is_command volumes c ≡ true → weight c ≤ 100000
 unfolding is_command
@@ -167,4 +404,25 @@ weight_bound volumes command.End h = omega arith
 pub plan_is : (d : DraftPlan) → IsDraft d → is_whole d.stage ≡ true → IsPlan (plan_of d)
 plan_is d h whole =
     let at = whole_begun d.stage d whole in
-    record { processors = h.processors; frames = h.frames; pools = h.pools; quota = h.quota; some = h.some at.1; few = h.few; volumes = h.volumes; names = h.names; records = h.records; bulks = h.bulks; apart = h.apart; fails = h.fails; most = h.most; processes = h.processes; each = h.each; first = λ z. subst BeginsWithInitializer at.0 (h.first z); commands = omega (arith, h.weights, h.used) }
+    record {
+      processors = h.processors;
+      frames = h.frames;
+      pools = h.pools;
+      quota = h.quota;
+      some = h.some at.1;
+      few =
+          h.few;
+      volumes = h.volumes;
+      names = h.names;
+      records = h.records;
+      bulks = h.bulks;
+      apart = h.apart;
+      fails =
+          h.fails;
+      most = h.most;
+      processes = h.processes;
+      each = h.each;
+      first =
+          λ z. subst BeginsWithInitializer at.0 (h.first z);
+      commands = omega (arith, h.weights, h.used);
+    }

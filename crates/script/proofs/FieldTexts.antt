@@ -1,5 +1,6 @@
 -- Texts of fields with a space between them, and of lines with a line feed after each, read back (own).
-use Rattle.std.proofs.Common.{◌≡◌, ℕ, ◌≤◌, Bool, true, false, ◌&&◌, nat_le, eqb, List, [], ◌∷◌, ◌++◌, length, refl, ap, ◌∙◌, arith}
+use Rattle.std.proofs.Common.{◌≡◌, ℕ, ◌≤◌, Bool, true, false, ◌&&◌, nat_le, eqb, List, [], ◌∷◌, ◌++◌, length, refl, ap}
+use Rattle.std.proofs.Common.{◌∙◌, arith}
 use Rattle.std.proofs.lemmas.Bool.Decides.{nat_tests}
 use Rattle.std.proofs.lemmas.List.Folds.{list_all-append}
 use Rattle.std.specs.List.{list_all}
@@ -17,13 +18,15 @@ pub record IsField (text : List ℕ) : Type 0 where
 -- ---- bytes
 
 -- a test that holds wherever another does holds of each of a list
-pub all_from : (p q : ℕ → Bool) → ((b : ℕ) → p b ≡ true → q b ≡ true) → (bs : List ℕ) → list_all p bs ≡ true → list_all q bs ≡ true
+pub all_from : (p q : ℕ → Bool) → ((b : ℕ) → p b ≡ true → q b ≡ true) → (bs : List ℕ) → list_all p bs ≡ true
+    → list_all q bs ≡ true
 all_from p q step [] h = refl
 all_from p q step (b ∷ bs) h =
     let parts = and_parts (p b) (list_all p bs) h in
     and_both (q b) (list_all q bs) (step b parts.0) (all_from p q step bs parts.1)
 
-pub all_both : (p : ℕ → Bool) (xs ys : List ℕ) → list_all p xs ≡ true → list_all p ys ≡ true → list_all p (xs ++ ys) ≡ true
+pub all_both : (p : ℕ → Bool) (xs ys : List ℕ) → list_all p xs ≡ true → list_all p ys ≡ true → list_all p (xs ++ ys)
+    ≡ true
 all_both p xs ys a b = list_all-append p xs ys ∙ and_both (list_all p xs) (list_all p ys) a b
 
 byte_is_printable : (b : ℕ) → is_field_byte b ≡ true → is_printable_byte b ≡ true
@@ -45,7 +48,8 @@ line_byte : (b : ℕ) (bs : List ℕ) → eqb b 10 ≡ false → lines_of (b ∷
 unfolding lines_of
 line_byte b bs z = rw z refl
 
-cut : (line rest : List ℕ) → list_all is_printable_byte line ≡ true → lines_of (line ++ (10 ∷ rest)) ≡ line ∷ lines_of rest
+cut : (line rest : List ℕ) → list_all is_printable_byte line ≡ true → lines_of (line ++ (10 ∷ rest)) ≡ line
+    ∷ lines_of rest
 cut [] rest h = line_feed rest
 cut (b ∷ bs) rest h =
     let parts = and_parts (is_printable_byte b) (list_all is_printable_byte bs) h in
@@ -74,13 +78,16 @@ onto_space : (b : ℕ) (cs : List ℕ) (fs : List (List ℕ)) → onto_field b (
 onto_space b cs [] = refl
 onto_space b cs (f ∷ fs) = refl
 
-onto_byte : (b c : ℕ) (cs f : List ℕ) (fs : List (List ℕ)) → eqb c 32 ≡ false → onto_field b (c ∷ cs) (f ∷ fs) ≡ (b ∷ f) ∷ fs
+onto_byte : (b c : ℕ) (cs f : List ℕ) (fs : List (List ℕ)) → eqb c 32 ≡ false → onto_field b (c ∷ cs) (f ∷ fs)
+    ≡ (b ∷ f) ∷ fs
 onto_byte b c cs f fs z = rw z refl
 
-before_space : (b : ℕ) (bs rest : List ℕ) → list_all is_field_byte (b ∷ bs) ≡ true → fields_of ((b ∷ bs) ++ (32 ∷ rest)) ≡ (b ∷ bs) ∷ fields_of rest
+before_space : (b : ℕ) (bs rest : List ℕ) → list_all is_field_byte (b ∷ bs) ≡ true
+    → fields_of ((b ∷ bs) ++ (32 ∷ rest)) ≡ (b ∷ bs) ∷ fields_of rest
 before_space b [] rest h =
     let parts = and_parts (is_field_byte b) true h in
-    fields_byte b (32 ∷ rest) (byte_is_no_space b parts.0) ∙ onto_space b rest (fields_of (32 ∷ rest)) ∙ ap (λ (fs : List (List ℕ)). (b ∷ []) ∷ fs) (fields_space rest)
+    fields_byte b (32 ∷ rest) (byte_is_no_space b parts.0) ∙ onto_space b rest (fields_of (32 ∷ rest))
+    ∙ ap (λ (fs : List (List ℕ)). (b ∷ []) ∷ fs) (fields_space rest)
 before_space b (c ∷ cs) rest h =
     let parts = and_parts (is_field_byte b) (list_all is_field_byte (c ∷ cs)) h in
     let next = and_parts (is_field_byte c) (list_all is_field_byte cs) parts.1 in
@@ -99,7 +106,8 @@ alone b (c ∷ cs) h =
     ∙ ap (onto_field b (c ∷ cs)) (alone c cs parts.1)
     ∙ onto_byte b c cs (c ∷ cs) [] (byte_is_no_space c next.0)
 
-first_of : (w rest : List ℕ) → 1 ≤ length w → list_all is_field_byte w ≡ true → fields_of (w ++ (32 ∷ rest)) ≡ w ∷ fields_of rest
+first_of : (w rest : List ℕ) → 1 ≤ length w → list_all is_field_byte w ≡ true → fields_of (w ++ (32 ∷ rest)) ≡ w
+    ∷ fields_of rest
 first_of [] rest some h = absurd (omega arith)
 first_of (b ∷ bs) rest some h = before_space b bs rest h
 
@@ -118,13 +126,20 @@ printable_field : (w : List ℕ) → list_all is_field_byte w ≡ true → is_pr
 unfolding is_printable
 printable_field w h = all_from is_field_byte is_printable_byte byte_is_printable w h
 
-printable_before : (w rest : List ℕ) → list_all is_field_byte w ≡ true → is_printable rest ≡ true → is_printable (w ++ (32 ∷ rest)) ≡ true
+printable_before : (w rest : List ℕ) → list_all is_field_byte w ≡ true → is_printable rest ≡ true
+    → is_printable (w ++ (32 ∷ rest)) ≡ true
 unfolding is_printable
-printable_before w rest h r = all_both is_printable_byte w (32 ∷ rest) (all_from is_field_byte is_printable_byte byte_is_printable w h) r
+printable_before w rest h r = all_both is_printable_byte w (32 ∷ rest)
+    (all_from is_field_byte is_printable_byte byte_is_printable w h) r
 
 pub last_field : (w : List ℕ) → IsField w → HasFields w (w ∷ [])
 last_field w h = record { printable = printable_field w h.bytes; split = only_of w h.some h.bytes }
 
-pub front_field : (w rest : List ℕ) (fields : List (List ℕ)) → IsField w → HasFields rest fields → HasFields (w ++ (32 ∷ rest)) (w ∷ fields)
+pub front_field : (w rest : List ℕ) (fields : List (List ℕ)) → IsField w → HasFields rest fields
+    → HasFields (w ++ (32 ∷ rest)) (w ∷ fields)
 front_field w rest fields h r =
-    record { printable = printable_before w rest h.bytes r.printable; split = first_of w rest h.some h.bytes ∙ ap (λ (fs : List (List ℕ)). w ∷ fs) r.split }
+    record {
+      printable = printable_before w rest h.bytes r.printable;
+      split = first_of w rest h.some h.bytes
+          ∙ ap (λ (fs : List (List ℕ)). w ∷ fs) r.split;
+    }

@@ -1,5 +1,7 @@
 -- The text of what stands before the processes is read back (own).
-use Rattle.std.proofs.Common.{◌≡◌, ℕ, ◌+◌, ◌<◌, ◌≤◌, Bool, true, false, not, ◌&&◌, nat_le, nat_lt, eqb, List, [], ◌∷◌, ◌++◌, length, map, flat_map, sum_by, Ok, codes, refl, sym, ap, subst, ◌∙◌, arith, append_assoc}
+use Rattle.std.proofs.Common.{◌≡◌, ℕ, ◌+◌, ◌<◌, ◌≤◌, Bool, true, false, not, ◌&&◌, nat_le, nat_lt, eqb, List, [], ◌∷◌}
+use Rattle.std.proofs.Common.{◌++◌, length, map, flat_map, sum_by, Ok, codes, refl, sym, ap, subst, ◌∙◌, arith}
+use Rattle.std.proofs.Common.{append_assoc}
 use Rattle.std.proofs.lemmas.Bool.Decides.{nat_tests}
 use Rattle.std.proofs.lemmas.List.{length-append}
 use Rattle.std.proofs.lemmas.List.Folds.{list_any-append}
@@ -11,14 +13,18 @@ use Rattle.script.proofs.FieldTexts.{IsField, HasFields, front_field, last_field
 use Rattle.script.proofs.PathLaws.{and_parts}
 use Rattle.script.proofs.Reaching.{Reaches, reaches_both, reaches_line, reaches_nothing}
 use Rattle.script.proofs.ValueTexts.{decimal_field, name_field, number_again}
-use Rattle.script.proofs.VolumeTexts.{AreVolumes, call_again, call_field, new_name_again, others_before, volume_again, volume_field, write_again, write_field}
+use Rattle.script.proofs.VolumeTexts.{AreVolumes, call_again, call_field, new_name_again, others_before, volume_again}
+use Rattle.script.proofs.VolumeTexts.{volume_field, write_again, write_field}
 use Rattle.script.proofs.SmallLaws.{below, nil_after, not_true, or_left, or_right, within}
 use Rattle.script.specs.Drafts.{DraftPlan, blank}
-use Rattle.script.specs.Forms.{ArePools, has_name, have_own_names, have_own_volumes, is_before, is_bulk, is_fail, is_from, is_volume, IsPlan, records_of}
-use Rattle.script.specs.Heads.{after_bulk, after_fail, after_volume, bulk_line, fail_line, line_at, machine_line, print_line, quota_line, volume_line}
+use Rattle.script.specs.Forms.{ArePools, has_name, have_own_names, have_own_volumes, is_before, is_bulk, is_fail}
+use Rattle.script.specs.Forms.{is_from, is_volume, IsPlan, records_of}
+use Rattle.script.specs.Heads.{after_bulk, after_fail, after_volume, bulk_line, fail_line, line_at, machine_line}
+use Rattle.script.specs.Heads.{print_line, quota_line, volume_line}
 use Rattle.script.specs.Lines.{one_field, print_in, six_fields, three_fields, two_fields}
 use Rattle.script.specs.Plans.{Plan}
-use Rattle.script.specs.Scripts.{bulk_text, call_text, ended, fail_text, head_text, machine_text, numbers_text, onward_text, print_text, quota_text, volume_text}
+use Rattle.script.specs.Scripts.{bulk_text, call_text, ended, fail_text, head_text, machine_text, numbers_text}
+use Rattle.script.specs.Scripts.{onward_text, print_text, quota_text, volume_text}
 use Rattle.script.specs.Texts.{volume_name}
 use Rattle.script.specs.declared.drafts.Stage.{Stage}
 use Rattle.script.specs.declared.drafts.Stage.TheVariants as stage
@@ -30,24 +36,49 @@ use Rattle.script.specs.declared.plan.VolumeLine.{VolumeLine}
 
 -- ---- the machine
 
-number_fields : (n : ℕ) (ns : List ℕ) → n ≤ 1000000 → AllByRecursion (λ m. m ≤ 1000000) ns → HasFields (decimal n ++ numbers_text ns) (map decimal (n ∷ ns))
-number_fields n [] h each = subst (λ (t : List ℕ). HasFields t (decimal n ∷ [])) (sym (nil_after (decimal n))) (last_field (decimal n) (decimal_field n h))
-number_fields n (m ∷ ns) h each = front_field (decimal n) (decimal m ++ numbers_text ns) (map decimal (m ∷ ns)) (decimal_field n h) (number_fields m ns each.0 each.1)
+number_fields : (n : ℕ) (ns : List ℕ) → n ≤ 1000000 → AllByRecursion (λ m. m ≤ 1000000) ns
+    → HasFields (decimal n ++ numbers_text ns) (map decimal (n ∷ ns))
+number_fields n [] h each = subst (λ (t : List ℕ). HasFields t (decimal n ∷ [])) (sym (nil_after (decimal n)))
+    (last_field (decimal n) (decimal_field n h))
+number_fields n (m ∷ ns) h each = front_field (decimal n) (decimal m ++ numbers_text ns) (map decimal (m ∷ ns))
+    (decimal_field n h) (number_fields m ns each.0 each.1)
 
 machine_word : IsField (codes "machine")
 machine_word = record { some = omega arith; bytes = refl }
 
 -- the draft after the line of the machine
 abbrev pub after_machine : ℕ → ℕ → List ℕ → DraftPlan
-after_machine processors frames pools = record blank { stage = stage.Quota; processors = processors; frames = frames; pools = pools }
+after_machine processors frames pools = record blank {
+  stage = stage.Quota;
+  processors = processors;
+  frames =
+      frames;
+  pools = pools;
+}
 
-machine_again : (processors frames a b c d : ℕ) → 1 ≤ processors → processors ≤ 8 → 4 ≤ frames → frames ≤ 1024 → ArePools (a ∷ b ∷ c ∷ d ∷ []) → line_at stage.Machine blank (codes "machine") (map decimal (processors ∷ frames ∷ a ∷ b ∷ c ∷ d ∷ [])) ≡ Ok (after_machine processors frames (a ∷ b ∷ c ∷ d ∷ []))
+machine_again : (processors frames a b c d : ℕ) → 1 ≤ processors → processors ≤ 8 → 4 ≤ frames → frames ≤ 1024
+    → ArePools (a ∷ b ∷ c ∷ d ∷ []) → line_at stage.Machine blank (codes "machine")
+    (map decimal (processors ∷ frames ∷ a ∷ b ∷ c ∷ d ∷ []))
+    ≡ Ok (after_machine processors frames (a ∷ b ∷ c ∷ d ∷ []))
 unfolding line_at machine_line six_fields
 machine_again processors frames a b c d p0 p1 f0 f1 h =
     let many : nat_le (a + b + c + d) 1024 ≡ true = grind (arith, nat_tests) in
-    rw (number_again 1 8 processors (omega arith) p0 p1, number_again 4 1024 frames (omega arith) f0 f1, number_again 12 1024 a (omega arith) (omega (arith, h)) (omega (arith, h)), number_again 1 1024 b (omega arith) (omega (arith, h)) (omega (arith, h)), number_again 1 1024 c (omega arith) (omega (arith, h)) (omega (arith, h)), number_again 1 1024 d (omega arith) (omega (arith, h)) (omega (arith, h)), many) refl
+    rw (
+      number_again 1 8 processors (omega arith) p0 p1,
+      number_again 4 1024 frames (omega arith) f0 f1,
+      number_again
+          12 1024 a (omega arith) (omega (arith, h)) (omega (arith, h)),
+      number_again 1 1024 b (omega arith)
+          (omega (arith, h)) (omega (arith, h)),
+      number_again 1 1024 c (omega arith) (omega (arith, h))
+          (omega (arith, h)),
+      number_again 1 1024 d (omega arith) (omega (arith, h)) (omega (arith, h)),
+      many,
+    ) refl
 
-pub machine_reaches : (processors frames : ℕ) (pools : List ℕ) → 1 ≤ processors → processors ≤ 8 → 4 ≤ frames → frames ≤ 1024 → ArePools pools → Reaches blank (ended (machine_text processors frames pools)) (after_machine processors frames pools)
+pub machine_reaches : (processors frames : ℕ) (pools : List ℕ) → 1 ≤ processors → processors ≤ 8 → 4 ≤ frames
+    → frames ≤ 1024 → ArePools pools → Reaches blank (ended (machine_text processors frames pools))
+    (after_machine processors frames pools)
 unfolding machine_text
 machine_reaches processors frames [] p0 p1 f0 f1 h = absurd h
 machine_reaches processors frames (a ∷ []) p0 p1 f0 f1 h = absurd h
@@ -55,41 +86,60 @@ machine_reaches processors frames (a ∷ b ∷ []) p0 p1 f0 f1 h = absurd h
 machine_reaches processors frames (a ∷ b ∷ c ∷ []) p0 p1 f0 f1 h = absurd h
 machine_reaches processors frames (a ∷ b ∷ c ∷ d ∷ e ∷ es) p0 p1 f0 f1 h = absurd h
 machine_reaches processors frames (a ∷ b ∷ c ∷ d ∷ []) p0 p1 f0 f1 h =
-    let fields = number_fields processors (frames ∷ a ∷ b ∷ c ∷ d ∷ []) (omega arith) (omega arith, (omega (arith, h), (omega (arith, h), (omega (arith, h), (omega (arith, h), tt))))) in
-    reaches_line blank (after_machine processors frames (a ∷ b ∷ c ∷ d ∷ [])) (machine_text processors frames (a ∷ b ∷ c ∷ d ∷ [])) (codes "machine") (map decimal (processors ∷ frames ∷ a ∷ b ∷ c ∷ d ∷ []))
-    (front_field (codes "machine") (decimal processors ++ numbers_text (frames ∷ a ∷ b ∷ c ∷ d ∷ [])) (map decimal (processors ∷ frames ∷ a ∷ b ∷ c ∷ d ∷ [])) machine_word fields)
+    let fields = number_fields processors (frames ∷ a ∷ b ∷ c ∷ d ∷ []) (omega arith)
+    (omega arith, (omega (arith, h), (omega (arith, h), (omega (arith, h), (omega (arith, h), tt))))) in
+    reaches_line blank (after_machine processors frames (a ∷ b ∷ c ∷ d ∷ []))
+    (machine_text processors frames (a ∷ b ∷ c ∷ d ∷ [])) (codes "machine")
+    (map decimal (processors ∷ frames ∷ a ∷ b ∷ c ∷ d ∷ []))
+    (front_field (codes "machine") (decimal processors ++ numbers_text (frames ∷ a ∷ b ∷ c ∷ d ∷ []))
+    (map decimal (processors ∷ frames ∷ a ∷ b ∷ c ∷ d ∷ [])) machine_word fields)
     refl (machine_again processors frames a b c d p0 p1 f0 f1 h)
 
 -- ---- the quota
 
-quota_again : (base : DraftPlan) (quota : ℕ) → quota ≤ 16384 → line_at stage.Quota (record base { stage = stage.Quota }) (codes "quota") (decimal quota ∷ []) ≡ Ok (record base { stage = stage.FirstVolume; quota = quota })
+quota_again : (base : DraftPlan) (quota : ℕ) → quota ≤ 16384
+    → line_at stage.Quota (record base { stage = stage.Quota }) (codes "quota") (decimal quota ∷ [])
+    ≡ Ok (record base { stage = stage.FirstVolume; quota = quota })
 unfolding line_at quota_line one_field
 quota_again base quota h = rw (number_again 0 16384 quota (omega arith) (omega arith) h) refl
 
-pub quota_reaches : (base : DraftPlan) (quota : ℕ) → quota ≤ 16384 → Reaches (record base { stage = stage.Quota }) (ended (quota_text quota)) (record base { stage = stage.FirstVolume; quota = quota })
+pub quota_reaches : (base : DraftPlan) (quota : ℕ) → quota ≤ 16384
+    → Reaches (record base { stage = stage.Quota }) (ended (quota_text quota))
+    (record base { stage = stage.FirstVolume; quota = quota })
 unfolding quota_text
 quota_reaches base quota h =
-    reaches_line (record base { stage = stage.Quota }) (record base { stage = stage.FirstVolume; quota = quota }) (quota_text quota) (codes "quota") (decimal quota ∷ [])
-    (front_field (codes "quota") (decimal quota) (decimal quota ∷ []) (record { some = omega arith; bytes = refl }) (last_field (decimal quota) (decimal_field quota (omega arith))))
+    reaches_line (record base { stage = stage.Quota }) (record base { stage = stage.FirstVolume; quota = quota })
+    (quota_text quota) (codes "quota") (decimal quota ∷ [])
+    (front_field (codes "quota") (decimal quota) (decimal quota ∷ []) (record { some = omega arith; bytes = refl })
+    (last_field (decimal quota) (decimal_field quota (omega arith))))
     refl (quota_again base quota h)
 
 -- ---- the volumes
 
 sum_cons : (v : VolumeLine) (vs : List VolumeLine) → sum_by records_of (v ∷ vs) ≡ v.records + sum_by records_of vs
-sum_cons v vs = let parts : sum_by records_of (v ∷ vs) ≡ 0 + v.records + sum_by records_of vs = sum_by-append records_of (v ∷ []) vs in omega (arith, parts)
+sum_cons v vs = let parts : sum_by records_of (v ∷ vs) ≡ 0 + v.records + sum_by records_of vs =
+    sum_by-append records_of (v ∷ []) vs in omega (arith, parts)
 
-volume_fields : (v : VolumeLine) → is_volume v ≡ true → HasFields (volume_text v) (codes "volume" ∷ v.name ∷ decimal v.records ∷ decimal v.entries ∷ [])
+volume_fields : (v : VolumeLine) → is_volume v ≡ true → HasFields (volume_text v)
+    (codes "volume" ∷ v.name ∷ decimal v.records ∷ decimal v.entries ∷ [])
 unfolding volume_text is_volume
 volume_fields v h =
     let p = and_parts (is_name v.name) (is_from 1 16384 v.records && is_from 1 4097 v.entries) h in
     let q = and_parts (is_from 1 16384 v.records) (is_from 1 4097 v.entries) p.1 in
     let r = (within 1 16384 v.records q.0).1 in
     let e = (within 1 4097 v.entries q.1).1 in
-    front_field (codes "volume") (v.name ++ (32 ∷ (decimal v.records ++ (32 ∷ decimal v.entries)))) (v.name ∷ decimal v.records ∷ decimal v.entries ∷ []) (record { some = omega arith; bytes = refl })
-    (front_field v.name (decimal v.records ++ (32 ∷ decimal v.entries)) (decimal v.records ∷ decimal v.entries ∷ []) (name_field v.name p.0)
-    (front_field (decimal v.records) (decimal v.entries) (decimal v.entries ∷ []) (decimal_field v.records (omega (arith, r))) (last_field (decimal v.entries) (decimal_field v.entries (omega (arith, e))))))
+    front_field (codes "volume") (v.name ++ (32 ∷ (decimal v.records ++ (32 ∷ decimal v.entries))))
+    (v.name ∷ decimal v.records ∷ decimal v.entries ∷ []) (record { some = omega arith; bytes = refl })
+    (front_field v.name (decimal v.records ++ (32 ∷ decimal v.entries)) (decimal v.records ∷ decimal v.entries ∷ [])
+    (name_field v.name p.0)
+    (front_field (decimal v.records) (decimal v.entries) (decimal v.entries ∷ [])
+    (decimal_field v.records (omega (arith, r))) (last_field (decimal v.entries)
+    (decimal_field v.entries (omega (arith, e))))))
 
-volume_line_again : (d : DraftPlan) (v : VolumeLine) → is_volume v ≡ true → list_any (has_name v.name) d.volumes ≡ false → length d.volumes < 4 → sum_by records_of d.volumes + v.records ≤ 16384 → volume_line d (v.name ∷ decimal v.records ∷ decimal v.entries ∷ []) ≡ Ok (record d { stage = stage.Volumes; volumes = d.volumes ++ v ∷ [] })
+volume_line_again : (d : DraftPlan) (v : VolumeLine) → is_volume v ≡ true → list_any (has_name v.name) d.volumes
+    ≡ false → length d.volumes < 4 → sum_by records_of d.volumes + v.records ≤ 16384
+    → volume_line d (v.name ∷ decimal v.records ∷ decimal v.entries ∷ [])
+    ≡ Ok (record d { stage = stage.Volumes; volumes = d.volumes ++ v ∷ [] })
 unfolding volume_line three_fields is_volume
 volume_line_again d v h new room sum =
     let p = and_parts (is_name v.name) (is_from 1 16384 v.records && is_from 1 4097 v.entries) h in
@@ -98,7 +148,14 @@ volume_line_again d v h new room sum =
     let e = within 1 4097 v.entries q.1 in
     let few : nat_le 4 (length d.volumes) ≡ false = grind (arith, nat_tests) in
     let fits : nat_lt 16384 (sum_by records_of d.volumes + v.records) ≡ false = grind (arith, nat_tests) in
-    rw (new_name_again d.volumes v.name p.0 new, number_again 1 16384 v.records (omega arith) r.0 r.1, number_again 1 4097 v.entries (omega arith) e.0 e.1, few, fits) refl
+    rw (
+      new_name_again d.volumes v.name p.0 new,
+      number_again 1 16384 v.records (omega arith) r.0 r.1,
+      number_again 1
+          4097 v.entries (omega arith) e.0 e.1,
+      few,
+      fits,
+    ) refl
 
 -- a volume may stand at this stage
 abbrev takes_volume : Stage → Bool
@@ -106,7 +163,8 @@ takes_volume stage.FirstVolume = true
 takes_volume stage.Volumes = true
 takes_volume _ = false
 
-volume_at : (s : Stage) (d : DraftPlan) (fields : List (List ℕ)) → takes_volume s ≡ true → line_at s d (codes "volume") fields ≡ volume_line d fields
+volume_at : (s : Stage) (d : DraftPlan) (fields : List (List ℕ)) → takes_volume s ≡ true
+    → line_at s d (codes "volume") fields ≡ volume_line d fields
 unfolding line_at after_volume
 volume_at stage.FirstVolume d fields h = refl
 volume_at stage.Volumes d fields h = refl
@@ -117,10 +175,16 @@ volume_at stage.Fails d fields h = absurd (cc)
 volume_at stage.Commands d fields h = absurd (cc)
 volume_at stage.Processes d fields h = absurd (cc)
 
-volume_reaches : (base : DraftPlan) (s : Stage) (done : List VolumeLine) (v : VolumeLine) → takes_volume s ≡ true → is_volume v ≡ true → list_any (has_name v.name) done ≡ false → length done < 4 → sum_by records_of done + v.records ≤ 16384 → Reaches (record base { stage = s; volumes = done }) (ended (volume_text v)) (record base { stage = stage.Volumes; volumes = done ++ v ∷ [] })
+volume_reaches : (base : DraftPlan) (s : Stage) (done : List VolumeLine) (v : VolumeLine) → takes_volume s ≡ true
+    → is_volume v ≡ true → list_any (has_name v.name) done ≡ false → length done < 4
+    → sum_by records_of done + v.records ≤ 16384 → Reaches (record base { stage = s; volumes = done })
+    (ended (volume_text v)) (record base { stage = stage.Volumes; volumes = done ++ v ∷ [] })
 volume_reaches base s done v takes h new room sum =
-    reaches_line (record base { stage = s; volumes = done }) (record base { stage = stage.Volumes; volumes = done ++ v ∷ [] }) (volume_text v) (codes "volume") (v.name ∷ decimal v.records ∷ decimal v.entries ∷ []) (volume_fields v h) refl
-    (volume_at s (record base { stage = s; volumes = done }) (v.name ∷ decimal v.records ∷ decimal v.entries ∷ []) takes ∙ volume_line_again (record base { stage = s; volumes = done }) v h new room sum)
+    reaches_line (record base { stage = s; volumes = done })
+    (record base { stage = stage.Volumes; volumes = done ++ v ∷ [] }) (volume_text v) (codes "volume")
+    (v.name ∷ decimal v.records ∷ decimal v.entries ∷ []) (volume_fields v h) refl
+    (volume_at s (record base { stage = s; volumes = done }) (v.name ∷ decimal v.records ∷ decimal v.entries ∷ [])
+    takes ∙ volume_line_again (record base { stage = s; volumes = done }) v h new room sum)
 
 -- what holds of the volumes that stand and of those that follow
 record FitVolumes (done vs : List VolumeLine) : Type 0 where
@@ -129,7 +193,8 @@ record FitVolumes (done vs : List VolumeLine) : Type 0 where
   few : length done + length vs ≤ 4
   sum : sum_by records_of done + sum_by records_of vs ≤ 16384
 
-fit_next : (done : List VolumeLine) (v : VolumeLine) (vs : List VolumeLine) → FitVolumes done (v ∷ vs) → FitVolumes (done ++ v ∷ []) vs
+fit_next : (done : List VolumeLine) (v : VolumeLine) (vs : List VolumeLine) → FitVolumes done (v ∷ vs)
+    → FitVolumes (done ++ v ∷ []) vs
 fit_next done v vs h =
     record {
       each = (and_parts (is_volume v) (list_all is_volume vs) h.each).1;
@@ -142,77 +207,120 @@ fit_next done v vs h =
 abbrev pub volumes_text : List VolumeLine → List ℕ
 volumes_text vs = flat_map (λ v. ended (volume_text v)) vs
 
-more_volumes : (base : DraftPlan) (done vs : List VolumeLine) → FitVolumes done vs → Reaches (record base { stage = stage.Volumes; volumes = done }) (volumes_text vs) (record base { stage = stage.Volumes; volumes = done ++ vs })
-more_volumes base done [] h = subst (λ (t : List VolumeLine). Reaches (record base { stage = stage.Volumes; volumes = done }) [] (record base { stage = stage.Volumes; volumes = t })) (sym (nil_after done)) (reaches_nothing (record base { stage = stage.Volumes; volumes = done }))
+more_volumes : (base : DraftPlan) (done vs : List VolumeLine) → FitVolumes done vs
+    → Reaches (record base { stage = stage.Volumes; volumes = done }) (volumes_text vs)
+    (record base { stage = stage.Volumes; volumes = done ++ vs })
+more_volumes base done [] h = subst (λ (t : List VolumeLine). Reaches
+    (record base { stage = stage.Volumes; volumes = done }) [] (record base { stage = stage.Volumes; volumes = t }))
+    (sym (nil_after done)) (reaches_nothing (record base { stage = stage.Volumes; volumes = done }))
 more_volumes base done (v ∷ vs) h =
-    reaches_both (record base { stage = stage.Volumes; volumes = done }) (record base { stage = stage.Volumes; volumes = done ++ v ∷ [] }) (record base { stage = stage.Volumes; volumes = done ++ v ∷ vs }) (ended (volume_text v)) (volumes_text vs)
-    (volume_reaches base stage.Volumes done v refl (and_parts (is_volume v) (list_all is_volume vs) h.each).0 (others_before done v vs h.own) (omega (arith, h.few)) (omega (arith, h.sum, sum_cons v vs)))
-    (subst (λ (t : List VolumeLine). Reaches (record base { stage = stage.Volumes; volumes = done ++ v ∷ [] }) (volumes_text vs) (record base { stage = stage.Volumes; volumes = t })) (append_assoc done (v ∷ []) vs) (more_volumes base (done ++ v ∷ []) vs (fit_next done v vs h)))
+    reaches_both (record base { stage = stage.Volumes; volumes = done })
+    (record base { stage = stage.Volumes; volumes = done ++ v ∷ [] })
+    (record base { stage = stage.Volumes; volumes = done ++ v ∷ vs }) (ended (volume_text v)) (volumes_text vs)
+    (volume_reaches base stage.Volumes done v refl (and_parts (is_volume v) (list_all is_volume vs) h.each).0
+    (others_before done v vs h.own) (omega (arith, h.few)) (omega (arith, h.sum, sum_cons v vs)))
+    (subst (λ (t : List VolumeLine). Reaches (record base { stage = stage.Volumes; volumes = done ++ v ∷ [] })
+    (volumes_text vs) (record base { stage = stage.Volumes; volumes = t })) (append_assoc done (v ∷ []) vs)
+    (more_volumes base (done ++ v ∷ []) vs (fit_next done v vs h)))
 
-volumes_reach : (base : DraftPlan) (vs : List VolumeLine) → 1 ≤ length vs → FitVolumes [] vs → Reaches (record base { stage = stage.FirstVolume; volumes = [] }) (volumes_text vs) (record base { stage = stage.Volumes; volumes = vs })
+volumes_reach : (base : DraftPlan) (vs : List VolumeLine) → 1 ≤ length vs → FitVolumes [] vs
+    → Reaches (record base { stage = stage.FirstVolume; volumes = [] }) (volumes_text vs)
+    (record base { stage = stage.Volumes; volumes = vs })
 volumes_reach base [] some h = absurd (omega arith)
 volumes_reach base (v ∷ vs) some h =
-    reaches_both (record base { stage = stage.FirstVolume; volumes = [] }) (record base { stage = stage.Volumes; volumes = v ∷ [] }) (record base { stage = stage.Volumes; volumes = v ∷ vs }) (ended (volume_text v)) (volumes_text vs)
-    (volume_reaches base stage.FirstVolume [] v refl (and_parts (is_volume v) (list_all is_volume vs) h.each).0 (others_before [] v vs h.own) (omega (arith, h.few)) (omega (arith, h.sum, sum_cons v vs)))
+    reaches_both (record base { stage = stage.FirstVolume; volumes = [] })
+    (record base { stage = stage.Volumes; volumes = v ∷ [] })
+    (record base { stage = stage.Volumes; volumes = v ∷ vs }) (ended (volume_text v)) (volumes_text vs)
+    (volume_reaches base stage.FirstVolume [] v refl (and_parts (is_volume v) (list_all is_volume vs) h.each).0
+    (others_before [] v vs h.own) (omega (arith, h.few)) (omega (arith, h.sum, sum_cons v vs)))
     (more_volumes base (v ∷ []) vs (fit_next [] v vs h))
 
 -- ---- what is printed
 
-print_fields : (p : Print) (word : List ℕ) → print_text p ≡ codes "print" ++ (32 ∷ word) → IsField word → HasFields (print_text p) (codes "print" ∷ word ∷ [])
-print_fields p word e h = subst (λ (t : List ℕ). HasFields t (codes "print" ∷ word ∷ [])) (sym e) (front_field (codes "print") word (word ∷ []) (record { some = omega arith; bytes = refl }) (last_field word h))
+print_fields : (p : Print) (word : List ℕ) → print_text p ≡ codes "print" ++ (32 ∷ word) → IsField word
+    → HasFields (print_text p) (codes "print" ∷ word ∷ [])
+print_fields p word e h = subst (λ (t : List ℕ). HasFields t (codes "print" ∷ word ∷ [])) (sym e)
+    (front_field (codes "print") word (word ∷ []) (record { some = omega arith; bytes = refl }) (last_field word h))
 
-print_again : (base : DraftPlan) (p : Print) (word : List ℕ) → print_in word ≡ Ok p → line_at stage.Volumes (record base { stage = stage.Volumes }) (codes "print") (word ∷ []) ≡ Ok (record base { stage = stage.Bulks; print = p })
+print_again : (base : DraftPlan) (p : Print) (word : List ℕ) → print_in word ≡ Ok p
+    → line_at stage.Volumes (record base { stage = stage.Volumes }) (codes "print") (word ∷ [])
+    ≡ Ok (record base { stage = stage.Bulks; print = p })
 unfolding line_at after_volume print_line one_field
 print_again base p word h = rw h refl
 
-print_reaches_by : (base : DraftPlan) (p : Print) (word : List ℕ) → print_text p ≡ codes "print" ++ (32 ∷ word) → IsField word → print_in word ≡ Ok p → Reaches (record base { stage = stage.Volumes }) (ended (print_text p)) (record base { stage = stage.Bulks; print = p })
+print_reaches_by : (base : DraftPlan) (p : Print) (word : List ℕ) → print_text p ≡ codes "print" ++ (32 ∷ word)
+    → IsField word → print_in word ≡ Ok p → Reaches (record base { stage = stage.Volumes }) (ended (print_text p))
+    (record base { stage = stage.Bulks; print = p })
 print_reaches_by base p word e f h =
-    reaches_line (record base { stage = stage.Volumes }) (record base { stage = stage.Bulks; print = p }) (print_text p) (codes "print") (word ∷ []) (print_fields p word e f) refl (print_again base p word h)
+    reaches_line (record base { stage = stage.Volumes }) (record base { stage = stage.Bulks; print = p })
+    (print_text p) (codes "print") (word ∷ []) (print_fields p word e f) refl (print_again base p word h)
 
-print_reaches : (base : DraftPlan) (p : Print) → Reaches (record base { stage = stage.Volumes }) (ended (print_text p)) (record base { stage = stage.Bulks; print = p })
+print_reaches : (base : DraftPlan) (p : Print) → Reaches (record base { stage = stage.Volumes }) (ended (print_text p))
+    (record base { stage = stage.Bulks; print = p })
 unfolding print_text print_in
-print_reaches base print.Short = print_reaches_by base print.Short (codes "short") refl (record { some = omega arith; bytes = refl }) refl
-print_reaches base print.Replies = print_reaches_by base print.Replies (codes "replies") refl (record { some = omega arith; bytes = refl }) refl
-print_reaches base print.All = print_reaches_by base print.All (codes "all") refl (record { some = omega arith; bytes = refl }) refl
+print_reaches base print.Short = print_reaches_by base print.Short (codes "short") refl
+    (record { some = omega arith; bytes = refl }) refl
+print_reaches base print.Replies = print_reaches_by base print.Replies (codes "replies") refl
+    (record { some = omega arith; bytes = refl }) refl
+print_reaches base print.All = print_reaches_by base print.All (codes "all") refl
+    (record { some = omega arith; bytes = refl }) refl
 
 -- ---- fast stores
 
 numbers_apart : (a b : ℕ) → eqb a b ≡ false → eqb b a ≡ false
 numbers_apart a b h = grind (arith, nat_tests)
 
-own_volumes : (b : Bulk) (bs : List Bulk) → have_own_volumes (b ∷ bs) ≡ true → (list_any (is_before b.volume) bs ≡ false) × (have_own_volumes bs ≡ true)
+own_volumes : (b : Bulk) (bs : List Bulk) → have_own_volumes (b ∷ bs) ≡ true
+    → (list_any (is_before b.volume) bs ≡ false) × (have_own_volumes bs ≡ true)
 unfolding have_own_volumes
 own_volumes b bs h =
     let parts = and_parts (not (list_any (is_before b.volume) bs)) (have_own_volumes bs) h in
     (not_true (list_any (is_before b.volume) bs) parts.0, parts.1)
 
-other_volumes : (done : List Bulk) (b : Bulk) (bs : List Bulk) → have_own_volumes (done ++ b ∷ bs) ≡ true → list_any (is_before b.volume) done ≡ false
+other_volumes : (done : List Bulk) (b : Bulk) (bs : List Bulk) → have_own_volumes (done ++ b ∷ bs) ≡ true
+    → list_any (is_before b.volume) done ≡ false
 other_volumes [] b bs h = refl
 other_volumes (u ∷ us) b bs h =
     let own = own_volumes u (us ++ b ∷ bs) h in
-    let after : list_any (is_before u.volume) (b ∷ bs) ≡ false = or_right (list_any (is_before u.volume) us) (list_any (is_before u.volume) (b ∷ bs)) (sym (list_any-append (is_before u.volume) us (b ∷ bs)) ∙ own.0) in
-    let here : eqb u.volume b.volume ≡ false = numbers_apart b.volume u.volume (or_left (is_before u.volume b) (list_any (is_before u.volume) bs) after) in
+    let after : list_any (is_before u.volume) (b ∷ bs) ≡ false =
+    or_right (list_any (is_before u.volume) us) (list_any (is_before u.volume) (b ∷ bs))
+    (sym (list_any-append (is_before u.volume) us (b ∷ bs)) ∙ own.0) in
+    let here : eqb u.volume b.volume ≡ false = numbers_apart b.volume u.volume
+    (or_left (is_before u.volume b) (list_any (is_before u.volume) bs) after) in
     rw (here, other_volumes us b bs own.1) refl
 
-bulk_parts : (volumes : ℕ) (b : Bulk) → is_bulk volumes b ≡ true → (b.volume < volumes) × (1 ≤ b.places) × (b.places ≤ 1024)
+bulk_parts : (volumes : ℕ) (b : Bulk) → is_bulk volumes b ≡ true → (b.volume < volumes) × (1 ≤ b.places)
+    × (b.places ≤ 1024)
 unfolding is_bulk
 bulk_parts volumes b h =
     let p = and_parts (nat_lt b.volume volumes) (is_from 1 1024 b.places) h in
     let w = within 1 1024 b.places p.1 in
     (below b.volume volumes p.0, w.0, w.1)
 
-bulk_fields : (vs : List VolumeLine) (b : Bulk) → AreVolumes vs → is_bulk (length vs) b ≡ true → HasFields (bulk_text vs b) (codes "bulk" ∷ volume_name vs b.volume ∷ decimal b.places ∷ [])
+bulk_fields : (vs : List VolumeLine) (b : Bulk) → AreVolumes vs → is_bulk (length vs) b ≡ true
+    → HasFields (bulk_text vs b) (codes "bulk" ∷ volume_name vs b.volume ∷ decimal b.places ∷ [])
 unfolding bulk_text
 bulk_fields vs b a h =
     let p = bulk_parts (length vs) b h in
-    front_field (codes "bulk") (volume_name vs b.volume ++ (32 ∷ decimal b.places)) (volume_name vs b.volume ∷ decimal b.places ∷ []) (record { some = omega arith; bytes = refl })
-    (front_field (volume_name vs b.volume) (decimal b.places) (decimal b.places ∷ []) (volume_field vs b.volume p.0 a.each) (last_field (decimal b.places) (decimal_field b.places (omega (arith, p)))))
+    front_field (codes "bulk") (volume_name vs b.volume ++ (32 ∷ decimal b.places))
+    (volume_name vs b.volume ∷ decimal b.places ∷ []) (record { some = omega arith; bytes = refl })
+    (front_field (volume_name vs b.volume) (decimal b.places) (decimal b.places ∷ [])
+    (volume_field vs b.volume p.0 a.each) (last_field (decimal b.places)
+    (decimal_field b.places (omega (arith, p)))))
 
-bulk_line_again : (d : DraftPlan) (b : Bulk) → AreVolumes d.volumes → is_bulk (length d.volumes) b ≡ true → list_any (is_before b.volume) d.bulks ≡ false → bulk_line d (volume_name d.volumes b.volume ∷ decimal b.places ∷ []) ≡ Ok (record d { stage = stage.Bulks; bulks = d.bulks ++ b ∷ [] })
+bulk_line_again : (d : DraftPlan) (b : Bulk) → AreVolumes d.volumes → is_bulk (length d.volumes) b ≡ true
+    → list_any (is_before b.volume) d.bulks ≡ false → bulk_line d
+    (volume_name d.volumes b.volume ∷ decimal b.places ∷ [])
+    ≡ Ok (record d { stage = stage.Bulks; bulks = d.bulks ++ b ∷ [] })
 unfolding bulk_line two_fields
 bulk_line_again d b a h new =
     let p = bulk_parts (length d.volumes) b h in
-    rw (volume_again d.volumes b.volume p.0 a.each a.own, new, number_again 1 1024 b.places (omega arith) (omega (arith, p)) (omega (arith, p))) refl
+    rw (
+      volume_again d.volumes b.volume p.0 a.each a.own,
+      new,
+      number_again 1 1024 b.places (omega arith)
+          (omega (arith, p)) (omega (arith, p)),
+    ) refl
 
 bulk_at : (d : DraftPlan) (fields : List (List ℕ)) → line_at stage.Bulks d (codes "bulk") fields ≡ bulk_line d fields
 unfolding line_at after_bulk
@@ -225,19 +333,35 @@ record FitBulks (volumes : ℕ) (done bs : List Bulk) : Type 0 where
 abbrev pub bulks_text : List VolumeLine → List Bulk → List ℕ
 bulks_text vs bs = flat_map (λ b. ended (bulk_text vs b)) bs
 
-bulks_reach : (base : DraftPlan) (done bs : List Bulk) → AreVolumes base.volumes → FitBulks (length base.volumes) done bs → Reaches (record base { stage = stage.Bulks; bulks = done }) (bulks_text base.volumes bs) (record base { stage = stage.Bulks; bulks = done ++ bs })
-bulks_reach base done [] a h = subst (λ (t : List Bulk). Reaches (record base { stage = stage.Bulks; bulks = done }) [] (record base { stage = stage.Bulks; bulks = t })) (sym (nil_after done)) (reaches_nothing (record base { stage = stage.Bulks; bulks = done }))
+bulks_reach : (base : DraftPlan) (done bs : List Bulk) → AreVolumes base.volumes
+    → FitBulks (length base.volumes) done bs → Reaches (record base { stage = stage.Bulks; bulks = done })
+    (bulks_text base.volumes bs) (record base { stage = stage.Bulks; bulks = done ++ bs })
+bulks_reach base done [] a h = subst (λ (t : List Bulk). Reaches (record base { stage = stage.Bulks; bulks = done }) []
+    (record base { stage = stage.Bulks; bulks = t })) (sym (nil_after done))
+    (reaches_nothing (record base { stage = stage.Bulks; bulks = done }))
 bulks_reach base done (b ∷ bs) a h =
     let parts = and_parts (is_bulk (length base.volumes) b) (list_all (is_bulk (length base.volumes)) bs) h.each in
-    reaches_both (record base { stage = stage.Bulks; bulks = done }) (record base { stage = stage.Bulks; bulks = done ++ b ∷ [] }) (record base { stage = stage.Bulks; bulks = done ++ b ∷ bs }) (ended (bulk_text base.volumes b)) (bulks_text base.volumes bs)
-    (reaches_line (record base { stage = stage.Bulks; bulks = done }) (record base { stage = stage.Bulks; bulks = done ++ b ∷ [] }) (bulk_text base.volumes b) (codes "bulk") (volume_name base.volumes b.volume ∷ decimal b.places ∷ [])
+    reaches_both (record base { stage = stage.Bulks; bulks = done })
+    (record base { stage = stage.Bulks; bulks = done ++ b ∷ [] })
+    (record base { stage = stage.Bulks; bulks = done ++ b ∷ bs }) (ended (bulk_text base.volumes b))
+    (bulks_text base.volumes bs)
+    (reaches_line (record base { stage = stage.Bulks; bulks = done })
+    (record base { stage = stage.Bulks; bulks = done ++ b ∷ [] }) (bulk_text base.volumes b) (codes "bulk")
+    (volume_name base.volumes b.volume ∷ decimal b.places ∷ [])
     (bulk_fields base.volumes b a parts.0) refl
-    (bulk_at (record base { stage = stage.Bulks; bulks = done }) (volume_name base.volumes b.volume ∷ decimal b.places ∷ []) ∙ bulk_line_again (record base { stage = stage.Bulks; bulks = done }) b a parts.0 (other_volumes done b bs h.own)))
-    (subst (λ (t : List Bulk). Reaches (record base { stage = stage.Bulks; bulks = done ++ b ∷ [] }) (bulks_text base.volumes bs) (record base { stage = stage.Bulks; bulks = t })) (append_assoc done (b ∷ []) bs) (bulks_reach base (done ++ b ∷ []) bs a (record { each = parts.1; own = ap have_own_volumes (append_assoc done (b ∷ []) bs) ∙ h.own })))
+    (bulk_at (record base { stage = stage.Bulks; bulks = done })
+    (volume_name base.volumes b.volume ∷ decimal b.places ∷ [])
+    ∙ bulk_line_again (record base { stage = stage.Bulks; bulks = done }) b a parts.0
+    (other_volumes done b bs h.own)))
+    (subst (λ (t : List Bulk). Reaches (record base { stage = stage.Bulks; bulks = done ++ b ∷ [] })
+    (bulks_text base.volumes bs) (record base { stage = stage.Bulks; bulks = t })) (append_assoc done (b ∷ []) bs)
+    (bulks_reach base (done ++ b ∷ []) bs a (record
+    { each = parts.1; own = ap have_own_volumes (append_assoc done (b ∷ []) bs) ∙ h.own })))
 
 -- ---- calls that fail
 
-fail_parts : (volumes : ℕ) (f : Fail) → is_fail volumes f ≡ true → (f.volume < volumes) × (1 ≤ f.number) × (f.number ≤ 1000000)
+fail_parts : (volumes : ℕ) (f : Fail) → is_fail volumes f ≡ true → (f.volume < volumes) × (1 ≤ f.number)
+    × (f.number ≤ 1000000)
 unfolding is_fail
 fail_parts volumes f h =
     let p = and_parts (nat_lt f.volume volumes) (is_from 1 1000000 f.number) h in
@@ -248,20 +372,34 @@ fail_parts volumes f h =
 abbrev fail_fields_text : List VolumeLine → Fail → List (List ℕ)
 fail_fields_text vs f = volume_name vs f.volume ∷ call_text f.write ∷ (decimal f.number ++ onward_text f.onward) ∷ []
 
-fail_fields : (vs : List VolumeLine) (f : Fail) → AreVolumes vs → is_fail (length vs) f ≡ true → HasFields (fail_text vs f) (codes "fail" ∷ fail_fields_text vs f)
+fail_fields : (vs : List VolumeLine) (f : Fail) → AreVolumes vs → is_fail (length vs) f ≡ true
+    → HasFields (fail_text vs f) (codes "fail" ∷ fail_fields_text vs f)
 unfolding fail_text
 fail_fields vs f a h =
     let p = fail_parts (length vs) f h in
-    front_field (codes "fail") (volume_name vs f.volume ++ (32 ∷ (call_text f.write ++ (32 ∷ (decimal f.number ++ onward_text f.onward))))) (fail_fields_text vs f) (record { some = omega arith; bytes = refl })
-    (front_field (volume_name vs f.volume) (call_text f.write ++ (32 ∷ (decimal f.number ++ onward_text f.onward))) (call_text f.write ∷ (decimal f.number ++ onward_text f.onward) ∷ []) (volume_field vs f.volume p.0 a.each)
-    (front_field (call_text f.write) (decimal f.number ++ onward_text f.onward) ((decimal f.number ++ onward_text f.onward) ∷ []) (write_field f.write) (last_field (decimal f.number ++ onward_text f.onward) (call_field f.number f.onward (omega (arith, p))))))
+    front_field (codes "fail") (volume_name vs f.volume
+    ++ (32 ∷ (call_text f.write ++ (32 ∷ (decimal f.number ++ onward_text f.onward))))) (fail_fields_text vs f)
+    (record { some = omega arith; bytes = refl })
+    (front_field (volume_name vs f.volume) (call_text f.write ++ (32 ∷ (decimal f.number ++ onward_text f.onward)))
+    (call_text f.write ∷ (decimal f.number ++ onward_text f.onward) ∷ []) (volume_field vs f.volume p.0 a.each)
+    (front_field (call_text f.write) (decimal f.number ++ onward_text f.onward)
+    ((decimal f.number ++ onward_text f.onward) ∷ []) (write_field f.write)
+    (last_field (decimal f.number ++ onward_text f.onward) (call_field f.number f.onward (omega (arith, p))))))
 
-fail_line_again : (d : DraftPlan) (f : Fail) → AreVolumes d.volumes → is_fail (length d.volumes) f ≡ true → length d.fails < 100 → fail_line d (fail_fields_text d.volumes f) ≡ Ok (record d { stage = stage.Fails; fails = d.fails ++ f ∷ [] })
+fail_line_again : (d : DraftPlan) (f : Fail) → AreVolumes d.volumes → is_fail (length d.volumes) f ≡ true
+    → length d.fails < 100 → fail_line d (fail_fields_text d.volumes f)
+    ≡ Ok (record d { stage = stage.Fails; fails = d.fails ++ f ∷ [] })
 unfolding fail_line three_fields
 fail_line_again d f a h room =
     let p = fail_parts (length d.volumes) f h in
     let few : nat_lt (length d.fails) 100 ≡ true = grind (arith, nat_tests) in
-    rw (volume_again d.volumes f.volume p.0 a.each a.own, write_again f.write, call_again f.number f.onward (omega (arith, p)) (omega (arith, p)), few) refl
+    rw (
+      volume_again d.volumes f.volume p.0 a.each a.own,
+      write_again f.write,
+      call_again f.number f.onward
+          (omega (arith, p)) (omega (arith, p)),
+      few,
+    ) refl
 
 -- a call that fails may stand at this stage, or a process may begin
 abbrev pub takes_fail : Stage → Bool
@@ -269,7 +407,8 @@ takes_fail stage.Bulks = true
 takes_fail stage.Fails = true
 takes_fail _ = false
 
-fail_at : (s : Stage) (d : DraftPlan) (fields : List (List ℕ)) → takes_fail s ≡ true → line_at s d (codes "fail") fields ≡ fail_line d fields
+fail_at : (s : Stage) (d : DraftPlan) (fields : List (List ℕ)) → takes_fail s ≡ true
+    → line_at s d (codes "fail") fields ≡ fail_line d fields
 unfolding line_at after_bulk after_fail
 fail_at stage.Bulks d fields h = refl
 fail_at stage.Fails d fields h = refl
@@ -300,23 +439,51 @@ record FitFails (volumes : ℕ) (done fs : List Fail) : Type 0 where
 abbrev pub fails_text : List VolumeLine → List Fail → List ℕ
 fails_text vs fs = flat_map (λ f. ended (fail_text vs f)) fs
 
-fails_reach : (base : DraftPlan) (s : Stage) (done fs : List Fail) → takes_fail s ≡ true → AreVolumes base.volumes → FitFails (length base.volumes) done fs → Reaches (record base { stage = s; fails = done }) (fails_text base.volumes fs) (record base { stage = stage_after_fails s fs; fails = done ++ fs })
-fails_reach base s done [] takes a h = subst (λ (t : List Fail). Reaches (record base { stage = s; fails = done }) [] (record base { stage = s; fails = t })) (sym (nil_after done)) (reaches_nothing (record base { stage = s; fails = done }))
+fails_reach : (base : DraftPlan) (s : Stage) (done fs : List Fail) → takes_fail s ≡ true → AreVolumes base.volumes
+    → FitFails (length base.volumes) done fs → Reaches (record base { stage = s; fails = done })
+    (fails_text base.volumes fs) (record base { stage = stage_after_fails s fs; fails = done ++ fs })
+fails_reach base s done [] takes a h = subst (λ (t : List Fail). Reaches (record base { stage = s; fails = done }) []
+    (record base { stage = s; fails = t })) (sym (nil_after done))
+    (reaches_nothing (record base { stage = s; fails = done }))
 fails_reach base s done (f ∷ fs) takes a h =
     let parts = and_parts (is_fail (length base.volumes) f) (list_all (is_fail (length base.volumes)) fs) h.each in
-    let rest : Reaches (record base { stage = stage.Fails; fails = done ++ f ∷ [] }) (fails_text base.volumes fs) (record base { stage = stage_after_fails stage.Fails fs; fails = (done ++ f ∷ []) ++ fs }) = fails_reach base stage.Fails (done ++ f ∷ []) fs refl a (record { each = parts.1; few = omega (arith, length-append done (f ∷ []), h.few) }) in
-    reaches_both (record base { stage = s; fails = done }) (record base { stage = stage.Fails; fails = done ++ f ∷ [] }) (record base { stage = stage.Fails; fails = done ++ f ∷ fs }) (ended (fail_text base.volumes f)) (fails_text base.volumes fs)
-    (reaches_line (record base { stage = s; fails = done }) (record base { stage = stage.Fails; fails = done ++ f ∷ [] }) (fail_text base.volumes f) (codes "fail") (fail_fields_text base.volumes f)
+    let rest : Reaches (record base { stage = stage.Fails; fails = done ++ f ∷ [] }) (fails_text base.volumes fs)
+    (record base { stage = stage_after_fails stage.Fails fs; fails = (done ++ f ∷ []) ++ fs }) =
+    fails_reach base stage.Fails (done ++ f ∷ []) fs refl a
+    (record { each = parts.1; few = omega (arith, length-append done (f ∷ []), h.few) }) in
+    reaches_both (record base { stage = s; fails = done })
+    (record base { stage = stage.Fails; fails = done ++ f ∷ [] })
+    (record base { stage = stage.Fails; fails = done ++ f ∷ fs }) (ended (fail_text base.volumes f))
+    (fails_text base.volumes fs)
+    (reaches_line (record base { stage = s; fails = done })
+    (record base { stage = stage.Fails; fails = done ++ f ∷ [] }) (fail_text base.volumes f) (codes "fail")
+    (fail_fields_text base.volumes f)
     (fail_fields base.volumes f a parts.0) refl
-    (fail_at s (record base { stage = s; fails = done }) (fail_fields_text base.volumes f) takes ∙ fail_line_again (record base { stage = s; fails = done }) f a parts.0 (omega (arith, h.few))))
-    (subst (λ (t : Stage). Reaches (record base { stage = stage.Fails; fails = done ++ f ∷ [] }) (fails_text base.volumes fs) (record base { stage = t; fails = done ++ f ∷ fs })) (still_fails fs)
-    (subst (λ (t : List Fail). Reaches (record base { stage = stage.Fails; fails = done ++ f ∷ [] }) (fails_text base.volumes fs) (record base { stage = stage_after_fails stage.Fails fs; fails = t })) (append_assoc done (f ∷ []) fs) rest))
+    (fail_at s (record base { stage = s; fails = done }) (fail_fields_text base.volumes f) takes
+    ∙ fail_line_again (record base { stage = s; fails = done }) f a parts.0 (omega (arith, h.few))))
+    (subst (λ (t : Stage). Reaches (record base { stage = stage.Fails; fails = done ++ f ∷ [] })
+    (fails_text base.volumes fs) (record base { stage = t; fails = done ++ f ∷ fs })) (still_fails fs)
+    (subst (λ (t : List Fail). Reaches (record base { stage = stage.Fails; fails = done ++ f ∷ [] })
+    (fails_text base.volumes fs) (record base { stage = stage_after_fails stage.Fails fs; fails = t }))
+    (append_assoc done (f ∷ []) fs) rest))
 
 -- ---- the whole head
 
 -- the draft after the head of a plan: the plan itself, without its processes
 abbrev pub after_head : Plan → DraftPlan
-after_head p = record blank { stage = stage_after_fails stage.Bulks p.fails; processors = p.processors; frames = p.frames; pools = p.pools; quota = p.quota; volumes = p.volumes; print = p.print; bulks = p.bulks; fails = p.fails }
+after_head p = record blank {
+  stage = stage_after_fails stage.Bulks p.fails;
+  processors = p.processors;
+  frames =
+      p.frames;
+  pools = p.pools;
+  quota = p.quota;
+  volumes = p.volumes;
+  print = p.print;
+  bulks = p.bulks;
+  fails =
+      p.fails;
+}
 
 pub are_volumes : (p : Plan) → IsPlan p → AreVolumes p.volumes
 are_volumes p h = record { each = h.volumes; own = h.names }
@@ -330,13 +497,25 @@ head_reaches p h =
     let d4 = record d3 { stage = stage.Bulks; print = p.print } in
     let d5 = record d4 { bulks = p.bulks } in
     let a = are_volumes p h in
-    reaches_both blank d1 (after_head p) (ended (machine_text p.processors p.frames p.pools)) (ended (quota_text p.quota) ++ (volumes_text p.volumes ++ (ended (print_text p.print) ++ (bulks_text p.volumes p.bulks ++ fails_text p.volumes p.fails))))
+    reaches_both blank d1 (after_head p) (ended (machine_text p.processors p.frames p.pools))
+    (ended (quota_text p.quota) ++ (volumes_text p.volumes
+    ++ (ended (print_text p.print) ++ (bulks_text p.volumes p.bulks ++ fails_text p.volumes p.fails))))
     (machine_reaches p.processors p.frames p.pools h.processors.0 h.processors.1 h.frames.0 h.frames.1 h.pools)
-    (reaches_both d1 d2 (after_head p) (ended (quota_text p.quota)) (volumes_text p.volumes ++ (ended (print_text p.print) ++ (bulks_text p.volumes p.bulks ++ fails_text p.volumes p.fails)))
+    (reaches_both d1 d2 (after_head p) (ended (quota_text p.quota))
+    (volumes_text p.volumes ++ (ended (print_text p.print)
+    ++ (bulks_text p.volumes p.bulks ++ fails_text p.volumes p.fails)))
     (quota_reaches d1 p.quota h.quota)
-    (reaches_both d2 d3 (after_head p) (volumes_text p.volumes) (ended (print_text p.print) ++ (bulks_text p.volumes p.bulks ++ fails_text p.volumes p.fails))
-    (volumes_reach d2 p.volumes h.some (record { each = h.volumes; own = h.names; few = omega (arith, h.few); sum = omega (arith, h.records) }))
-    (reaches_both d3 d4 (after_head p) (ended (print_text p.print)) (bulks_text p.volumes p.bulks ++ fails_text p.volumes p.fails)
+    (reaches_both d2 d3 (after_head p) (volumes_text p.volumes)
+    (ended (print_text p.print) ++ (bulks_text p.volumes p.bulks ++ fails_text p.volumes p.fails))
+    (volumes_reach d2 p.volumes h.some (record {
+      each = h.volumes;
+      own = h.names;
+      few = omega (arith, h.few);
+      sum =
+          omega (arith, h.records);
+    }))
+    (reaches_both d3 d4 (after_head p) (ended (print_text p.print))
+    (bulks_text p.volumes p.bulks ++ fails_text p.volumes p.fails)
     (print_reaches d3 p.print)
     (reaches_both d4 d5 (after_head p) (bulks_text p.volumes p.bulks) (fails_text p.volumes p.fails)
     (bulks_reach d4 [] p.bulks a (record { each = h.bulks; own = h.apart }))

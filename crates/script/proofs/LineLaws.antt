@@ -1,5 +1,6 @@
 -- Laws of lines and fields (own).
-use Rattle.std.proofs.Common.{◌≡◌, ◌≢◌, ℕ, suc, zero, ◌+◌, ◌-◌, ◌<◌, ◌≤◌, true, false, ◌&&◌, eqb, List, [], ◌∷◌, ◌++◌, length, refl, sym, ap, ◌∙◌, arith, Bool, get_or, take, drop, drop-cons, add-one}
+use Rattle.std.proofs.Common.{◌≡◌, ◌≢◌, ℕ, suc, zero, ◌+◌, ◌-◌, ◌<◌, ◌≤◌, true, false, ◌&&◌, eqb, List, [], ◌∷◌, ◌++◌}
+use Rattle.std.proofs.Common.{length, refl, sym, ap, ◌∙◌, arith, Bool, get_or, take, drop, drop-cons, add-one}
 use Rattle.std.proofs.lemmas.Bool.Decides.{nat_tests}
 use Rattle.std.proofs.lemmas.Grind.{common_steps}
 use Rattle.std.proofs.lemmas.List.{take_all}
@@ -36,20 +37,24 @@ unfolding lines_of
 line_byte b bs ne = let z : eqb b 10 ≡ false = grind (arith, nat_tests) in rw z refl
 
 -- the first line ends before a line feed
-lines_split : (bs : List ℕ) (i : ℕ) → NoFeedBefore i bs → i < length bs → get_or bs i 0 ≡ 10 → lines_of bs ≡ take i bs ∷ lines_of (drop (suc i) bs)
+lines_split : (bs : List ℕ) (i : ℕ) → NoFeedBefore i bs → i < length bs → get_or bs i 0 ≡ 10 → lines_of bs ≡ take i bs
+    ∷ lines_of (drop (suc i) bs)
 lines_split [] i clear lt e = absurd (omega arith)
 lines_split (b ∷ bs) zero clear lt e = line_feed b bs e
 lines_split (b ∷ bs) (suc i) clear lt e =
-    line_byte b bs (clear 0 (omega arith)) ∙ ap (onto_piece b) (lines_split bs i (λ k h. clear (suc k) (omega arith)) (omega arith) e)
+    line_byte b bs (clear 0 (omega arith)) ∙ ap (onto_piece b)
+    (lines_split bs i (λ k h. clear (suc k) (omega arith)) (omega arith) e)
 
-pub line_found : (bs : List ℕ) (i : ℕ) → NoFeedBefore i bs → i < length bs → get_or bs i 0 ≡ 10 → lines_of bs ≡ take i bs ∷ lines_of (take (length bs - (i + 1)) (drop (i + 1) bs))
+pub line_found : (bs : List ℕ) (i : ℕ) → NoFeedBefore i bs → i < length bs → get_or bs i 0 ≡ 10 → lines_of bs
+    ≡ take i bs ∷ lines_of (take (length bs - (i + 1)) (drop (i + 1) bs))
 line_found bs i clear lt e = rw (all_left bs (i + 1), add-one) (lines_split bs i clear lt e)
 
 -- the last line may lack its line feed
 lines_last : (b : ℕ) (bs : List ℕ) → NoFeedBefore (suc (length bs)) (b ∷ bs) → lines_of (b ∷ bs) ≡ (b ∷ bs) ∷ []
 lines_last b [] clear = line_byte b [] (clear 0 (omega arith)) ∙ rw lines_nil refl
 lines_last b (c ∷ cs) clear =
-    line_byte b (c ∷ cs) (clear 0 (omega arith)) ∙ ap (onto_piece b) (lines_last c cs (λ k h. clear (suc k) (omega arith)))
+    line_byte b (c ∷ cs) (clear 0 (omega arith)) ∙ ap (onto_piece b)
+    (lines_last c cs (λ k h. clear (suc k) (omega arith)))
 
 pub line_last : (bs : List ℕ) → NoFeedBefore (length bs) bs → 0 < length bs → lines_of bs ≡ bs ∷ lines_of []
 line_last [] clear some = absurd (omega arith)
@@ -61,7 +66,8 @@ pub none_printable : true ≡ is_printable []
 unfolding is_printable
 none_printable = refl
 
-pub more_printable : (bs : List ℕ) (i : ℕ) → i < length bs → 32 ≤ get_or bs i 0 → get_or bs i 0 ≤ 126 → is_printable (take (i + 1) bs) ≡ is_printable (take i bs)
+pub more_printable : (bs : List ℕ) (i : ℕ) → i < length bs → 32 ≤ get_or bs i 0 → get_or bs i 0 ≤ 126
+    → is_printable (take (i + 1) bs) ≡ is_printable (take i bs)
 unfolding is_printable
 more_printable bs i lt low high =
     let here : is_printable_byte (get_or bs i 0) ≡ true = grind (arith, nat_tests) in
@@ -71,7 +77,8 @@ more_printable bs i lt low high =
     and_true true = refl
     and_true false = refl
 
-pub one_unprintable : (bs : List ℕ) (i : ℕ) → i < length bs → (32 ≤ get_or bs i 0 → get_or bs i 0 ≤ 126 → ⊥) → false ≡ is_printable (take (i + 1) bs)
+pub one_unprintable : (bs : List ℕ) (i : ℕ) → i < length bs → (32 ≤ get_or bs i 0 → get_or bs i 0 ≤ 126 → ⊥) → false
+    ≡ is_printable (take (i + 1) bs)
 unfolding is_printable
 one_unprintable bs i lt out =
     let here : is_printable_byte (get_or bs i 0) ≡ false = grind (arith, nat_tests) in
@@ -99,13 +106,16 @@ pub fields_nil : fields_of [] ≡ []
 unfolding fields_of
 fields_nil = refl
 
-pub space_passed : (bs : List ℕ) (i : ℕ) → i < length bs → get_or bs i 0 ≡ 32 → fields_of (drop i bs) ≡ fields_of bs → fields_of (drop (i + 1) bs) ≡ fields_of bs
+pub space_passed : (bs : List ℕ) (i : ℕ) → i < length bs → get_or bs i 0 ≡ 32 → fields_of (drop i bs) ≡ fields_of bs
+    → fields_of (drop (i + 1) bs) ≡ fields_of bs
 space_passed bs i lt e h = sym (ap fields_of (drop_at bs i lt) ∙ fields_space (get_or bs i 0) (drop (i + 1) bs) e) ∙ h
 
-pub field_starts : (bs : List ℕ) (i : ℕ) → fields_of (drop i bs) ≡ fields_of bs → fields_of (take (length bs - i) (drop i bs)) ≡ fields_of bs
+pub field_starts : (bs : List ℕ) (i : ℕ) → fields_of (drop i bs) ≡ fields_of bs
+    → fields_of (take (length bs - i) (drop i bs)) ≡ fields_of bs
 field_starts bs i h = rw (all_left bs i) h
 
-pub all_spaces : (bs : List ℕ) (i : ℕ) → length bs ≤ i → fields_of (drop i bs) ≡ fields_of bs → fields_of [] ≡ fields_of bs
+pub all_spaces : (bs : List ℕ) (i : ℕ) → length bs ≤ i → fields_of (drop i bs) ≡ fields_of bs → fields_of []
+    ≡ fields_of bs
 all_spaces bs i le h = sym (ap fields_of (none_left bs i le)) ∙ h
 
 -- the first field ends before a space
@@ -113,7 +123,8 @@ onto_space : (b c : ℕ) (cs : List ℕ) (fs : List (List ℕ)) → c ≡ 32 →
 onto_space b c cs [] e = refl
 onto_space b c cs (f ∷ fs) e = rw e refl
 
-onto_byte : (b c : ℕ) (cs : List ℕ) (f : List ℕ) (fs : List (List ℕ)) → c ≢ 32 → onto_field b (c ∷ cs) (f ∷ fs) ≡ (b ∷ f) ∷ fs
+onto_byte : (b c : ℕ) (cs : List ℕ) (f : List ℕ) (fs : List (List ℕ)) → c ≢ 32 → onto_field b (c ∷ cs) (f ∷ fs)
+    ≡ (b ∷ f) ∷ fs
 onto_byte b c cs f fs ne = let z : eqb c 32 ≡ false = grind (arith, nat_tests) in rw z refl
 
 -- no space stands before i
@@ -125,7 +136,8 @@ abbrev Stops : ℕ → List ℕ → Type 0
 Stops i bs = (i < length bs → get_or bs i 0 ≡ 32) × (i ≤ length bs)
 
 -- the first field of a line, and the fields after it
-split_at : (bs : List ℕ) (i : ℕ) → NoSpaceBefore (suc i) bs → Stops (suc i) bs → fields_of bs ≡ take (suc i) bs ∷ fields_of (drop (suc i) bs)
+split_at : (bs : List ℕ) (i : ℕ) → NoSpaceBefore (suc i) bs → Stops (suc i) bs → fields_of bs ≡ take (suc i) bs
+    ∷ fields_of (drop (suc i) bs)
 split_at [] i clear stop = absurd (omega (arith, stop.1))
 split_at (b ∷ []) zero clear stop = fields_byte b [] (clear 0 (omega arith)) ∙ rw fields_nil refl
 split_at (b ∷ c ∷ cs) zero clear stop =
@@ -133,17 +145,20 @@ split_at (b ∷ c ∷ cs) zero clear stop =
 split_at (b ∷ []) (suc i) clear stop = absurd (omega (arith, stop.1))
 split_at (b ∷ c ∷ cs) (suc i) clear stop =
     fields_byte b (c ∷ cs) (clear 0 (omega arith))
-    ∙ ap (onto_field b (c ∷ cs)) (split_at (c ∷ cs) i (λ k h. clear (suc k) (omega arith)) (λ h. stop.0 (omega arith), omega (arith, stop.1)))
+    ∙ ap (onto_field b (c ∷ cs)) (split_at (c ∷ cs) i (λ k h. clear (suc k) (omega arith))
+    (λ h. stop.0 (omega arith), omega (arith, stop.1)))
     ∙ onto_byte b c cs (take (suc i) (c ∷ cs)) (fields_of (drop (suc i) (c ∷ cs))) (clear 1 (omega arith))
 
-pub field_split : (bs : List ℕ) (i : ℕ) → 0 < i → NoSpaceBefore i bs → i < length bs → get_or bs i 0 ≡ 32 → fields_of bs ≡ take i bs ∷ fields_of (take (length bs - i) (drop i bs))
+pub field_split : (bs : List ℕ) (i : ℕ) → 0 < i → NoSpaceBefore i bs → i < length bs → get_or bs i 0 ≡ 32
+    → fields_of bs ≡ take i bs ∷ fields_of (take (length bs - i) (drop i bs))
 field_split bs zero pos clear lt e = absurd (omega arith)
 field_split bs (suc i) pos clear lt e = rw (all_left bs (suc i)) (split_at bs i clear (λ h. e, omega arith))
 
 pub field_last : (bs : List ℕ) → 0 < length bs → NoSpaceBefore (length bs) bs → fields_of bs ≡ bs ∷ []
 field_last [] pos clear = absurd (omega arith)
 field_last (b ∷ bs) pos clear =
-    split_at (b ∷ bs) (length bs) (λ k h. clear k (omega arith)) (λ h. absurd (omega arith), omega arith) ∙ rw (whole, rest, fields_nil) refl
+    split_at (b ∷ bs) (length bs) (λ k h. clear k (omega arith)) (λ h. absurd (omega arith), omega arith)
+    ∙ rw (whole, rest, fields_nil) refl
   where
     whole : take (suc (length bs)) (b ∷ bs) ≡ b ∷ bs
     whole = grind (arith, common_steps)

@@ -1,5 +1,6 @@
 -- Laws of decimal numbers.
-use Rattle.std.proofs.Common.{◌≡◌, ℕ, ◌+◌, ◌-◌, ◌*◌, ◌^◌, ◌<◌, ◌≤◌, Bool, true, false, ◌&&◌, nat_le, cond, List, [], ◌∷◌, length, Option, Some, None, refl, sym, ap, ◌∙◌, arith, get_or, drop}
+use Rattle.std.proofs.Common.{◌≡◌, ℕ, ◌+◌, ◌-◌, ◌*◌, ◌^◌, ◌<◌, ◌≤◌, Bool, true, false, ◌&&◌, nat_le, cond, List, []}
+use Rattle.std.proofs.Common.{◌∷◌, length, Option, Some, None, refl, sym, ap, ◌∙◌, arith, get_or, drop}
 use Rattle.std.proofs.lemmas.Bool.Decides.{nat_tests}
 use Rattle.std.proofs.lemmas.Grind.{common_steps}
 use Rattle.std.proofs.lemmas.Nat.{pow-add}
@@ -8,7 +9,8 @@ use Rattle.std.specs.Char.{is_ascii_digit}
 use Rattle.script.specs.Fields.{decimal_value, decimal_value_from}
 use Rattle.script.proofs.LineLaws.{drop_at}
 
-digit_step : (before d : ℕ) (ds : List ℕ) → 48 ≤ d → d ≤ 57 → decimal_value_from before (d ∷ ds) ≡ decimal_value_from (before * 10 + (d - 48)) ds
+digit_step : (before d : ℕ) (ds : List ℕ) → 48 ≤ d → d ≤ 57 → decimal_value_from before (d ∷ ds)
+    ≡ decimal_value_from (before * 10 + (d - 48)) ds
 unfolding decimal_value_from
 digit_step before d ds low high = let z : is_ascii_digit d ≡ true = grind (arith, nat_tests) in rw z refl
 
@@ -23,9 +25,12 @@ nil_step before = refl
 pub number_starts : (text : List ℕ) → decimal_value_from 0 (drop 0 text) ≡ decimal_value_from 0 text
 number_starts text = refl
 
-pub number_next : (text : List ℕ) (i value : ℕ) → i < length text → 48 ≤ get_or text i 0 → get_or text i 0 ≤ 57 → decimal_value_from value (drop i text) ≡ decimal_value_from 0 text → decimal_value_from (value * 10 + (get_or text i 0 - 48)) (drop (i + 1) text) ≡ decimal_value_from 0 text
+pub number_next : (text : List ℕ) (i value : ℕ) → i < length text → 48 ≤ get_or text i 0 → get_or text i 0 ≤ 57
+    → decimal_value_from value (drop i text) ≡ decimal_value_from 0 text
+    → decimal_value_from (value * 10 + (get_or text i 0 - 48)) (drop (i + 1) text) ≡ decimal_value_from 0 text
 number_next text i value lt low high h =
-    sym (ap (decimal_value_from value) (drop_at text i lt) ∙ digit_step value (get_or text i 0) (drop (i + 1) text) low high) ∙ h
+    sym (ap (decimal_value_from value) (drop_at text i lt)
+    ∙ digit_step value (get_or text i 0) (drop (i + 1) text) low high) ∙ h
 
 pub number_below : (value digit i : ℕ) → value < 10 ^ i → digit ≤ 9 → value * 10 + digit < 10 ^ (i + 1)
 number_below value digit i h d = rw (pow-add 10 i 1) (omega arith)
@@ -33,17 +38,20 @@ number_below value digit i h d = rw (pow-add 10 i 1) (omega arith)
 pub number_fits : (value i : ℕ) → value < 10 ^ i → i ≤ 10 → value < 10 ^ 10
 number_fits value i h within = let m : 10 ^ i ≤ 10 ^ 10 = pow-le-pow_right (omega arith) within in omega arith
 
-pub number_stops : (text : List ℕ) (i value : ℕ) → i < length text → (48 ≤ get_or text i 0 → get_or text i 0 ≤ 57 → ⊥) → decimal_value_from value (drop i text) ≡ decimal_value_from 0 text → None ≡ decimal_value text
+pub number_stops : (text : List ℕ) (i value : ℕ) → i < length text → (48 ≤ get_or text i 0 → get_or text i 0 ≤ 57 → ⊥)
+    → decimal_value_from value (drop i text) ≡ decimal_value_from 0 text → None ≡ decimal_value text
 unfolding decimal_value
 number_stops text i value lt out h =
-    let stopped : decimal_value_from 0 text ≡ None = sym h ∙ ap (decimal_value_from value) (drop_at text i lt) ∙ other_step value (get_or text i 0) (drop (i + 1) text) out in
+    let stopped : decimal_value_from 0 text ≡ None = sym h ∙ ap (decimal_value_from value) (drop_at text i lt)
+    ∙ other_step value (get_or text i 0) (drop (i + 1) text) out in
     rw stopped (both (nat_le 1 (length text) && nat_le (length text) 10))
   where
     both : (z : Bool) → None ≡ cond {A = Option ℕ} z None None
     both true = refl
     both false = refl
 
-pub number_ends : (text : List ℕ) (i value : ℕ) → length text ≤ i → 0 < length text → length text ≤ 10 → decimal_value_from value (drop i text) ≡ decimal_value_from 0 text → Some value ≡ decimal_value text
+pub number_ends : (text : List ℕ) (i value : ℕ) → length text ≤ i → 0 < length text → length text ≤ 10
+    → decimal_value_from value (drop i text) ≡ decimal_value_from 0 text → Some value ≡ decimal_value text
 unfolding decimal_value
 number_ends text i value end some short h =
     let low : nat_le 1 (length text) ≡ true = grind (arith, nat_tests) in

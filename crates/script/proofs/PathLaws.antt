@@ -1,5 +1,6 @@
 -- Laws of the texts of paths (own).
-use Rattle.std.proofs.Common.{◌≡◌, ℕ, ◌≤◌, Bool, true, false, cond, ◌&&◌, nat_le, eqb, List, [], ◌∷◌, ◌++◌, length, Option, Some, None, Ok, Err, refl, sym, ap, subst, ◌∙◌, arith}
+use Rattle.std.proofs.Common.{◌≡◌, ℕ, ◌≤◌, Bool, true, false, cond, ◌&&◌, nat_le, eqb, List, [], ◌∷◌, ◌++◌, length}
+use Rattle.std.proofs.Common.{Option, Some, None, Ok, Err, refl, sym, ap, subst, ◌∙◌, arith}
 use Rattle.std.proofs.lemmas.Bool.Decides.{nat_tests}
 use Rattle.std.proofs.lemmas.Grind.{common_steps}
 use Rattle.std.specs.List.{list_all, AllByRecursion}
@@ -36,7 +37,8 @@ unfolding pieces_of
 pieces_byte b bs z = rw z refl
 
 -- the text of some pieces is that from which they come
-onto_text : (b : ℕ) (bs : List ℕ) (pieces : List (List ℕ)) → names_text pieces ≡ 62 ∷ bs → names_text (onto_piece b pieces) ≡ 62 ∷ b ∷ bs
+onto_text : (b : ℕ) (bs : List ℕ) (pieces : List (List ℕ)) → names_text pieces ≡ 62 ∷ bs
+    → names_text (onto_piece b pieces) ≡ 62 ∷ b ∷ bs
 onto_text b bs [] e = absurd (apart e)
   where
     apart : [] ≡ 62 ∷ bs → ⊥
@@ -47,8 +49,10 @@ pieces_text : (bs : List ℕ) → names_text (pieces_of bs) ≡ 62 ∷ bs
 pieces_text [] = ap names_text pieces_nil
 pieces_text (b ∷ bs) = split (eqb b 62) refl (pieces_text bs)
   where
-    split : (z : Bool) → eqb b 62 ≡ z → names_text (pieces_of bs) ≡ 62 ∷ bs → names_text (pieces_of (b ∷ bs)) ≡ 62 ∷ b ∷ bs
-    split true z ih = let e : b ≡ 62 = grind (arith, nat_tests) in rw e (ap names_text (pieces_sign bs) ∙ ap (λ (t : List ℕ). 62 ∷ t) ih)
+    split : (z : Bool) → eqb b 62 ≡ z → names_text (pieces_of bs) ≡ 62 ∷ bs → names_text (pieces_of (b ∷ bs)) ≡ 62 ∷ b
+        ∷ bs
+    split true z ih = let e : b ≡ 62 = grind (arith, nat_tests) in rw e
+        (ap names_text (pieces_sign bs) ∙ ap (λ (t : List ℕ). 62 ∷ t) ih)
     split false z ih = ap names_text (pieces_byte b bs z) ∙ onto_text b bs (pieces_of bs) ih
 
 some_text : (names : List (List ℕ)) (bs : List ℕ) → names_text names ≡ 62 ∷ bs → path_text names ≡ 62 ∷ bs
@@ -76,7 +80,8 @@ name_bytes name h =
     let long = (and_parts (nat_le 1 (length name)) (nat_le (length name) 32) parts.0).0 in
     (grind (arith, nat_tests), parts.1)
 
-name_before : (name : List ℕ) (names : List (List ℕ)) → list_all is_name_byte name ≡ true → pieces_of (names_text names) ≡ [] ∷ names → pieces_of (name ++ names_text names) ≡ name ∷ names
+name_before : (name : List ℕ) (names : List (List ℕ)) → list_all is_name_byte name ≡ true
+    → pieces_of (names_text names) ≡ [] ∷ names → pieces_of (name ++ names_text names) ≡ name ∷ names
 name_before [] names h ih = ih
 name_before (b ∷ bs) names h ih =
     let parts = and_parts (is_name_byte b) (list_all is_name_byte bs) h in
@@ -86,7 +91,8 @@ names_again : (names : List (List ℕ)) → list_all is_name names ≡ true → 
 names_again [] h = pieces_nil
 names_again (name ∷ names) h =
     let parts = and_parts (is_name name) (list_all is_name names) h in
-    pieces_sign (name ++ names_text names) ∙ ap (λ (t : List (List ℕ)). [] ∷ t) (name_before name names (name_bytes name parts.0).1 (names_again names parts.1))
+    pieces_sign (name ++ names_text names) ∙ ap (λ (t : List (List ℕ)). [] ∷ t)
+    (name_before name names (name_bytes name parts.0).1 (names_again names parts.1))
 
 each_name : (names : List (List ℕ)) → AllByRecursion IsName names → list_all is_name names ≡ true
 each_name [] h = refl
@@ -94,12 +100,14 @@ each_name (name ∷ names) h = and_both (is_name name) (list_all is_name names) 
 
 each_is_name : (names : List (List ℕ)) → list_all is_name names ≡ true → AllByRecursion IsName names
 each_is_name [] h = tt
-each_is_name (name ∷ names) h = let parts = and_parts (is_name name) (list_all is_name names) h in (parts.0, each_is_name names parts.1)
+each_is_name (name ∷ names) h = let parts = and_parts (is_name name) (list_all is_name names) h in
+    (parts.0, each_is_name names parts.1)
 
 -- a path keeps the rules that a script asks of it, and the other way round
 pub path_is : (names : List (List ℕ)) → IsPath names → is_path names ≡ true
 unfolding is_path
-path_is names h = let few = h.few in and_both (nat_le (length names) 9) (list_all is_name names) (grind (arith, nat_tests)) (each_name names h.each)
+path_is names h = let few = h.few in and_both (nat_le (length names) 9) (list_all is_name names)
+    (grind (arith, nat_tests)) (each_name names h.each)
 
 pub path_from : (names : List (List ℕ)) → is_path names ≡ true → IsPath names
 unfolding is_path
@@ -131,7 +139,8 @@ path_again (name ∷ names) h =
     ∙ rw h refl
 
 -- what is read is the text of a path
-pub path_only : (text : List ℕ) (names : List (List ℕ)) → path_of text ≡ Some names → (text ≡ path_text names) × (is_path names ≡ true)
+pub path_only : (text : List ℕ) (names : List (List ℕ)) → path_of text ≡ Some names → (text ≡ path_text names)
+    × (is_path names ≡ true)
 unfolding path_of
 path_only [] names h = absurd (apart h)
   where
@@ -139,19 +148,25 @@ path_only [] names h = absurd (apart h)
     apart e = cc
 path_only (b ∷ []) names h = root (eqb b 62) refl h
   where
-    root : (z : Bool) → eqb b 62 ≡ z → cond {A = Option (List (List ℕ))} z (Some []) None ≡ Some names → (b ∷ [] ≡ path_text names) × (is_path names ≡ true)
-    root true z e = let same : [] ≡ names = cc in let sign : b ≡ 62 = grind (arith, nat_tests) in subst (λ ns. (b ∷ [] ≡ path_text ns) × (is_path ns ≡ true)) same (ap (λ n. n ∷ []) sign, path_is [] (record { few = omega arith; each = tt }))
+    root : (z : Bool) → eqb b 62 ≡ z → cond {A = Option (List (List ℕ))} z (Some []) None ≡ Some names
+        → (b ∷ [] ≡ path_text names) × (is_path names ≡ true)
+    root true z e = let same : [] ≡ names = cc in let sign : b ≡ 62 =
+        grind (arith, nat_tests) in subst (λ ns. (b ∷ [] ≡ path_text ns) × (is_path ns ≡ true)) same
+        (ap (λ n. n ∷ []) sign, path_is [] (record { few = omega arith; each = tt }))
     root false z e = absurd (apart e)
       where
         apart : None ≡ Some names → ⊥
         apart e = cc
 path_only (b ∷ c ∷ cs) names h = below (eqb b 62) refl (is_path (pieces_of (c ∷ cs))) refl h
   where
-    below : (z : Bool) → eqb b 62 ≡ z → (y : Bool) → is_path (pieces_of (c ∷ cs)) ≡ y → cond {A = Option (List (List ℕ))} z (cond y (Some (pieces_of (c ∷ cs))) None) None ≡ Some names → (b ∷ c ∷ cs ≡ path_text names) × (is_path names ≡ true)
+    below : (z : Bool) → eqb b 62 ≡ z → (y : Bool) → is_path (pieces_of (c ∷ cs)) ≡ y
+        → cond {A = Option (List (List ℕ))} z (cond y (Some (pieces_of (c ∷ cs))) None) None ≡ Some names
+        → (b ∷ c ∷ cs ≡ path_text names) × (is_path names ≡ true)
     below true z true y e =
         let same : pieces_of (c ∷ cs) ≡ names = cc in
         let sign : b ≡ 62 = grind (arith, nat_tests) in
-        subst (λ ns. (b ∷ c ∷ cs ≡ path_text ns) × (is_path ns ≡ true)) same (ap (λ n. n ∷ c ∷ cs) sign ∙ sym (some_text (pieces_of (c ∷ cs)) (c ∷ cs) (pieces_text (c ∷ cs))), y)
+        subst (λ ns. (b ∷ c ∷ cs ≡ path_text ns) × (is_path ns ≡ true)) same
+        (ap (λ n. n ∷ c ∷ cs) sign ∙ sym (some_text (pieces_of (c ∷ cs)) (c ∷ cs) (pieces_text (c ∷ cs))), y)
     below true z false y e = absurd (apart e)
       where
         apart : None ≡ Some names → ⊥
@@ -162,10 +177,12 @@ path_only (b ∷ c ∷ cs) names h = below (eqb b 62) refl (is_path (pieces_of (
         apart e = cc
 
 -- the path of a field, as reading gives it
-pub path_read : (text : List ℕ) (names : List (List ℕ)) → text ≡ path_text names → IsPath names → path_in text ≡ Ok names
+pub path_read : (text : List ℕ) (names : List (List ℕ)) → text ≡ path_text names → IsPath names → path_in text
+    ≡ Ok names
 path_read text names e h = rw (e, path_again names (path_is names h)) refl
 
-pub no_path_read : (text : List ℕ) → ((names : List (List ℕ)) → IsPath names → text ≡ path_text names → ⊥) → path_in text ≡ Err cause.Path
+pub no_path_read : (text : List ℕ) → ((names : List (List ℕ)) → IsPath names → text ≡ path_text names → ⊥)
+    → path_in text ≡ Err cause.Path
 no_path_read text never = none (path_of text) refl
   where
     none : (r : Option (List (List ℕ))) → path_of text ≡ r → path_in text ≡ Err cause.Path

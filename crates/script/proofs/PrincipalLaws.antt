@@ -1,12 +1,14 @@
 -- The texts of principals and of rows are fields, and are read back as what they are the texts of (own).
-use Rattle.std.proofs.Common.{◌≡◌, ℕ, ◌≤◌, Bool, true, false, cond, ◌&&◌, nat_le, List, [], ◌∷◌, ◌++◌, length, Option, Some, None, Ok, refl, sym, ap, subst, ◌∙◌, arith}
+use Rattle.std.proofs.Common.{◌≡◌, ℕ, ◌≤◌, Bool, true, false, cond, ◌&&◌, nat_le, List, [], ◌∷◌, ◌++◌, length, Option}
+use Rattle.std.proofs.Common.{Some, None, Ok, refl, sym, ap, subst, ◌∙◌, arith}
 use Rattle.std.specs.Prelude.{IfSome}
 use Rattle.std.specs.List.{list_all}
 use Rattle.std.specs.Str.{bytes_eq}
 use Rattle.std.proofs.lemmas.Bool.Decides.{nat_tests}
 use Rattle.mnames.proofs.PrincipalTexts.{who_again, row_again}
 use Rattle.mnames.specs.Names.{is_label, is_label_byte, IsLabel}
-use Rattle.mnames.specs.Principals.{default_project, before_dot, after_dot, IsWho, who_of, who_text, parts_text, IsRow, any_text, part_of, row_alone, row_of, row_or, row_parts_text, row_text, row_with}
+use Rattle.mnames.specs.Principals.{default_project, before_dot, after_dot, IsWho, who_of, who_text, parts_text, IsRow}
+use Rattle.mnames.specs.Principals.{any_text, part_of, row_alone, row_of, row_or, row_parts_text, row_text, row_with}
 use Rattle.mnames.specs.declared.principals.Who.{Who}
 use Rattle.mnames.specs.declared.rows.Row.{Row}
 use Rattle.script.proofs.FieldTexts.{is_field_byte, IsField, all_from, all_both}
@@ -24,7 +26,11 @@ unfolding is_label
 label_field text h =
     let parts = and_parts (nat_le 1 (length text) && nat_le (length text) 32) (list_all is_label_byte text) h in
     let long = (and_parts (nat_le 1 (length text)) (nat_le (length text) 32) parts.0).0 in
-    record { some = grind (arith, nat_tests); bytes = all_from is_label_byte is_field_byte label_byte_is_field text parts.1 }
+    record {
+      some = grind (arith, nat_tests);
+      bytes = all_from is_label_byte is_field_byte label_byte_is_field text
+          parts.1;
+    }
 
 -- ---- principals
 
@@ -50,7 +56,8 @@ parts_field a b ha hb = chosen (bytes_eq b default_project)
 
 pub who_field : (who : Who) → is_who who ≡ true → IsField (who_text who)
 unfolding who_text
-who_field who h = let parts = and_parts (is_label who.person) (is_label who.project) h in parts_field who.person who.project parts.0 parts.1
+who_field who h = let parts = and_parts (is_label who.person) (is_label who.project) h in parts_field who.person
+    who.project parts.0 parts.1
 
 -- ---- rows
 
@@ -67,7 +74,8 @@ row_in_again row h =
 any_field : IsField any_text
 any_field = record { some = omega arith; bytes = refl }
 
-row_parts_field : (person project : Option (List ℕ)) → is_part person ≡ true → is_part project ≡ true → IsField (row_parts_text person project)
+row_parts_field : (person project : Option (List ℕ)) → is_part person ≡ true → is_part project ≡ true
+    → IsField (row_parts_text person project)
 row_parts_field None None ha hb = any_field
 row_parts_field None (Some b) ha hb = dotted_field any_text b any_field (label_field b hb).bytes
 row_parts_field (Some a) None ha hb = dotted_field a any_text (label_field a ha) refl
@@ -75,7 +83,8 @@ row_parts_field (Some a) (Some b) ha hb = parts_field a b ha hb
 
 pub row_field : (row : Row) → is_row row ≡ true → IsField (row_text row)
 unfolding row_text
-row_field row h = let parts = and_parts (is_part row.person) (is_part row.project) h in row_parts_field row.person row.project parts.0 parts.1
+row_field row h = let parts = and_parts (is_part row.person) (is_part row.project) h in row_parts_field row.person
+    row.project parts.0 parts.1
 
 -- ---- a row that was read has labels as its parts
 
@@ -83,7 +92,8 @@ part_read : (text : List ℕ) (part : Option (List ℕ)) → part_of text ≡ So
 unfolding part_of
 part_read text part e = chosen (bytes_eq text any_text) (is_label text) refl e
   where
-    chosen : (y z : Bool) → is_label text ≡ z → cond y (Some None) (cond z (Some (Some text)) None) ≡ Some part → is_part part ≡ true
+    chosen : (y z : Bool) → is_label text ≡ z → cond y (Some None) (cond z (Some (Some text)) None) ≡ Some part
+        → is_part part ≡ true
     chosen true z l e = let same : None ≡ part = cc in ap is_part (sym same)
     chosen false true l e = let same : Some text ≡ part = cc in ap is_part (sym same) ∙ l
     chosen false false l e = absurd (cc)
@@ -92,7 +102,9 @@ default_part : is_part (Some default_project) ≡ true
 unfolding is_label
 default_part = refl
 
-parts_read : (a b : Option (Option (List ℕ))) (row : Row) → ((part : Option (List ℕ)) → a ≡ Some part → is_part part ≡ true) → ((part : Option (List ℕ)) → b ≡ Some part → is_part part ≡ true) → row_with a b ≡ Some row → is_row row ≡ true
+parts_read : (a b : Option (Option (List ℕ))) (row : Row)
+    → ((part : Option (List ℕ)) → a ≡ Some part → is_part part ≡ true)
+    → ((part : Option (List ℕ)) → b ≡ Some part → is_part part ≡ true) → row_with a b ≡ Some row → is_row row ≡ true
 parts_read None b row ha hb e = absurd (cc)
 parts_read (Some x) None row ha hb e = absurd (cc)
 parts_read (Some x) (Some y) row ha hb e =
@@ -107,8 +119,10 @@ pub row_read : (text : List ℕ) (row : Row) → Some row ≡ row_of text → is
 unfolding row_of
 row_read text row e = chosen (part_of text) refl e
   where
-    chosen : (o : Option (Option (List ℕ))) → part_of text ≡ o → Some row ≡ row_or o (row_with (part_of (before_dot text)) (part_of (after_dot text))) → is_row row ≡ true
-    chosen None n e = parts_read (part_of (before_dot text)) (part_of (after_dot text)) row (part_read (before_dot text)) (part_read (after_dot text)) (sym e)
+    chosen : (o : Option (Option (List ℕ))) → part_of text ≡ o → Some row
+        ≡ row_or o (row_with (part_of (before_dot text)) (part_of (after_dot text))) → is_row row ≡ true
+    chosen None n e = parts_read (part_of (before_dot text)) (part_of (after_dot text)) row
+        (part_read (before_dot text)) (part_read (after_dot text)) (sym e)
     chosen (Some part) n e =
         let same : row_alone part ≡ row = cc in
         subst (λ (r : Row). is_row r ≡ true) same (alone_read part (part_read text part n))

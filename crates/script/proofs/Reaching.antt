@@ -22,18 +22,32 @@ reaches_nothing d = record { reads = λ n rest. (n, refl) }
 
 pub reaches_both : (d e f : DraftPlan) (xs ys : List ℕ) → Reaches d xs e → Reaches e ys f → Reaches d (xs ++ ys) f
 reaches_both d e f xs ys x y =
-    record { reads = λ n rest. let p = x.reads n (ys ++ rest) in let q = y.reads p.0 rest in (q.0, ap (read_from n d) (append_assoc xs ys rest) ∙ p.1 ∙ q.1) }
+    record {
+      reads = λ n rest. let p = x.reads n (ys ++ rest) in let q =
+          y.reads p.0 rest in (q.0, ap (read_from n d) (append_assoc xs ys rest) ∙ p.1 ∙ q.1);
+    }
 
-line_read : (n : ℕ) (d e : DraftPlan) (line word : List ℕ) (fields : List (List ℕ)) → HasFields line (word ∷ fields) → is_comment word ≡ false → line_at d.stage d word fields ≡ Ok e → numbered (Ok (n, d)) line ≡ Ok (n + 1, e)
+line_read : (n : ℕ) (d e : DraftPlan) (line word : List ℕ) (fields : List (List ℕ)) → HasFields line (word ∷ fields)
+    → is_comment word ≡ false → line_at d.stage d word fields ≡ Ok e → numbered (Ok (n, d)) line ≡ Ok (n + 1, e)
 unfolding numbered text_after line_after
 line_read n d e line word fields h comment at = rw (h.printable, h.split, comment, at) refl
 
-line_step : (n : ℕ) (d e : DraftPlan) (line word : List ℕ) (fields : List (List ℕ)) (rest : List ℕ) → HasFields line (word ∷ fields) → is_comment word ≡ false → line_at d.stage d word fields ≡ Ok e → read_from n d (line ++ (10 ∷ rest)) ≡ read_from (n + 1) e rest
+line_step : (n : ℕ) (d e : DraftPlan) (line word : List ℕ) (fields : List (List ℕ)) (rest : List ℕ)
+    → HasFields line (word ∷ fields) → is_comment word ≡ false → line_at d.stage d word fields ≡ Ok e
+    → read_from n d (line ++ (10 ∷ rest)) ≡ read_from (n + 1) e rest
 line_step n d e line word fields rest h comment at =
     ap (λ (ls : List (List ℕ)). finished (fold numbered (Ok (n, d)) ls)) (line_first line rest h.printable)
-    ∙ ap (λ (r : Result (ℕ × DraftPlan) Refusal). finished (fold numbered r (lines_of rest))) (line_read n d e line word fields h comment at)
+    ∙ ap (λ (r : Result (ℕ × DraftPlan) Refusal). finished (fold numbered r (lines_of rest)))
+    (line_read n d e line word fields h comment at)
 
 -- one line
-pub reaches_line : (d e : DraftPlan) (line word : List ℕ) (fields : List (List ℕ)) → HasFields line (word ∷ fields) → is_comment word ≡ false → line_at d.stage d word fields ≡ Ok e → Reaches d (ended line) e
+pub reaches_line : (d e : DraftPlan) (line word : List ℕ) (fields : List (List ℕ)) → HasFields line (word ∷ fields)
+    → is_comment word ≡ false → line_at d.stage d word fields ≡ Ok e → Reaches d (ended line) e
 reaches_line d e line word fields h comment at =
-    record { reads = λ n rest. (n + 1, ap (read_from n d) (append_assoc line (10 ∷ []) rest) ∙ line_step n d e line word fields rest h comment at) }
+    record {
+      reads = λ n rest. (
+        n + 1,
+        ap (read_from n d) (append_assoc line (10 ∷ []) rest)
+            ∙ line_step n d e line word fields rest h comment at,
+      );
+    }

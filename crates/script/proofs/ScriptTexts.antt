@@ -1,5 +1,6 @@
 -- The text of a script is read back as the script (own).
-use Rattle.std.proofs.Common.{◌≡◌, ℕ, ◌+◌, ◌<◌, ◌≤◌, Bool, true, false, not, ◌&&◌, nat_le, nat_lt, List, [], ◌∷◌, ◌++◌, length, sum_by, Ok, codes, refl, sym, ap, subst, ◌∙◌, arith, append_assoc}
+use Rattle.std.proofs.Common.{◌≡◌, ℕ, ◌+◌, ◌<◌, ◌≤◌, Bool, true, false, not, ◌&&◌, nat_le, nat_lt, List, [], ◌∷◌, ◌++◌}
+use Rattle.std.proofs.Common.{length, sum_by, Ok, codes, refl, sym, ap, subst, ◌∙◌, arith, append_assoc}
 use Rattle.std.proofs.lemmas.Bool.Decides.{nat_tests}
 use Rattle.std.proofs.lemmas.List.{length-append}
 use Rattle.std.proofs.lemmas.List.Sums.{sum_by-append}
@@ -8,7 +9,8 @@ use Rattle.mnames.specs.Principals.{who_text}
 use Rattle.mnames.specs.declared.principals.Who.{Who}
 use Rattle.script.proofs.CommandTexts.{command_again, command_fields, fields_text, word_is_no_comment, word_text}
 use Rattle.script.proofs.FieldTexts.{front_field, last_field}
-use Rattle.script.proofs.HeadTexts.{after_head, are_volumes, head_reaches, stage_after_fails, takes_after_fails, takes_fail}
+use Rattle.script.proofs.HeadTexts.{after_head, are_volumes, head_reaches, stage_after_fails, takes_after_fails}
+use Rattle.script.proofs.HeadTexts.{takes_fail}
 use Rattle.script.proofs.PathLaws.{and_parts}
 use Rattle.script.proofs.PrincipalLaws.{who_field, who_in_again}
 use Rattle.script.proofs.Reaching.{Reaches, read_from, reaches_both, reaches_line, reaches_nothing}
@@ -16,9 +18,11 @@ use Rattle.script.proofs.VolumeTexts.{AreVolumes}
 use Rattle.script.proofs.SmallLaws.{nil_after, not_true}
 use Rattle.script.specs.Drafts.{DraftPlan, initializer_who, plan_of}
 use Rattle.script.specs.Fields.{lines_of}
-use Rattle.script.specs.Forms.{BeginsWithInitializer, ends_once, IsPlan, is_command, is_end, is_process, is_who, weight, weight_of}
+use Rattle.script.specs.Forms.{BeginsWithInitializer, ends_once, IsPlan, is_command, is_end, is_process, is_who}
+use Rattle.script.specs.Forms.{weight, weight_of}
 use Rattle.script.specs.Grammar.{finished, is_whole, script_of}
-use Rattle.script.specs.Heads.{after_bulk, after_fail, after_process, command_line, initializer_line, line_at, process_line}
+use Rattle.script.specs.Heads.{after_bulk, after_fail, after_process, command_line, initializer_line, line_at}
+use Rattle.script.specs.Heads.{process_line}
 use Rattle.script.specs.Lines.{no_fields, one_field}
 use Rattle.script.specs.Plans.{Plan, ProcessPlan}
 use Rattle.script.specs.Scripts.{begin_text, commands_text, ended, process_text, processes_text, script_text}
@@ -30,13 +34,23 @@ use Rattle.script.specs.declared.plan.VolumeLine.{VolumeLine}
 
 -- ---- the commands of a process
 
-going_again : (d : DraftPlan) (c : Command) → AreVolumes d.volumes → is_command (length d.volumes) c ≡ true → is_end c ≡ false → d.used + weight c ≤ 100000 → line_at stage.Commands d (word_text c) (fields_text d.volumes c) ≡ Ok (record d { commands = d.commands ++ c ∷ []; used = d.used + weight c })
+going_again : (d : DraftPlan) (c : Command) → AreVolumes d.volumes → is_command (length d.volumes) c ≡ true → is_end c
+    ≡ false → d.used + weight c ≤ 100000 → line_at stage.Commands d (word_text c) (fields_text d.volumes c)
+    ≡ Ok (record d { commands = d.commands ++ c ∷ []; used = d.used + weight c })
 unfolding line_at command_line
 going_again d c a h going le =
     let few : nat_le (d.used + weight c) 100000 ≡ true = grind (arith, nat_tests) in
     rw (command_again d.volumes c a h, few, going) refl
 
-end_again : (d : DraftPlan) (c : Command) → AreVolumes d.volumes → is_command (length d.volumes) c ≡ true → is_end c ≡ true → d.used + weight c ≤ 100000 → line_at stage.Commands d (word_text c) (fields_text d.volumes c) ≡ Ok (record d { stage = stage.Processes; processes = d.processes ++ record { who = d.who; commands = d.commands ++ c ∷ [] } ∷ []; commands = []; used = d.used + weight c })
+end_again : (d : DraftPlan) (c : Command) → AreVolumes d.volumes → is_command (length d.volumes) c ≡ true → is_end c
+    ≡ true → d.used + weight c ≤ 100000 → line_at stage.Commands d (word_text c) (fields_text d.volumes c)
+    ≡ Ok (record d {
+      stage = stage.Processes;
+      processes = d.processes
+          ++ record { who = d.who; commands = d.commands ++ c ∷ [] } ∷ [];
+      commands = [];
+      used = d.used + weight c;
+    })
 unfolding line_at command_line
 end_again d c a h end le =
     let few : nat_le (d.used + weight c) 100000 ≡ true = grind (arith, nat_tests) in
@@ -48,15 +62,29 @@ inside base done u = record base { stage = stage.Commands; commands = done; used
 
 -- after a process of these commands
 abbrev behind : DraftPlan → List Command → ℕ → DraftPlan
-behind base done u = record base { stage = stage.Processes; processes = base.processes ++ record { who = base.who; commands = done } ∷ []; commands = []; used = u }
+behind base done u = record base {
+  stage = stage.Processes;
+  processes = base.processes
+      ++ record { who = base.who; commands = done } ∷ [];
+  commands = [];
+  used = u;
+}
 
-going_reaches : (base : DraftPlan) (done : List Command) (u : ℕ) (c : Command) → AreVolumes base.volumes → is_command (length base.volumes) c ≡ true → is_end c ≡ false → u + weight c ≤ 100000 → Reaches (inside base done u) (ended (command_text base.volumes c)) (inside base (done ++ c ∷ []) (u + weight c))
+going_reaches : (base : DraftPlan) (done : List Command) (u : ℕ) (c : Command) → AreVolumes base.volumes
+    → is_command (length base.volumes) c ≡ true → is_end c ≡ false → u + weight c ≤ 100000
+    → Reaches (inside base done u) (ended (command_text base.volumes c)) (inside base (done ++ c ∷ []) (u + weight c))
 going_reaches base done u c a h going le =
-    reaches_line (inside base done u) (inside base (done ++ c ∷ []) (u + weight c)) (command_text base.volumes c) (word_text c) (fields_text base.volumes c) (command_fields base.volumes c a h) (word_is_no_comment c) (going_again (inside base done u) c a h going le)
+    reaches_line (inside base done u) (inside base (done ++ c ∷ []) (u + weight c)) (command_text base.volumes c)
+    (word_text c) (fields_text base.volumes c) (command_fields base.volumes c a h) (word_is_no_comment c)
+    (going_again (inside base done u) c a h going le)
 
-end_reaches : (base : DraftPlan) (done : List Command) (u : ℕ) (c : Command) → AreVolumes base.volumes → is_command (length base.volumes) c ≡ true → is_end c ≡ true → u + weight c ≤ 100000 → Reaches (inside base done u) (ended (command_text base.volumes c)) (behind base (done ++ c ∷ []) (u + weight c))
+end_reaches : (base : DraftPlan) (done : List Command) (u : ℕ) (c : Command) → AreVolumes base.volumes
+    → is_command (length base.volumes) c ≡ true → is_end c ≡ true → u + weight c ≤ 100000
+    → Reaches (inside base done u) (ended (command_text base.volumes c)) (behind base (done ++ c ∷ []) (u + weight c))
 end_reaches base done u c a h end le =
-    reaches_line (inside base done u) (behind base (done ++ c ∷ []) (u + weight c)) (command_text base.volumes c) (word_text c) (fields_text base.volumes c) (command_fields base.volumes c a h) (word_is_no_comment c) (end_again (inside base done u) c a h end le)
+    reaches_line (inside base done u) (behind base (done ++ c ∷ []) (u + weight c)) (command_text base.volumes c)
+    (word_text c) (fields_text base.volumes c) (command_fields base.volumes c a h) (word_is_no_comment c)
+    (end_again (inside base done u) c a h end le)
 
 never_ends : ends_once [] ≡ true → ⊥
 unfolding ends_once
@@ -69,30 +97,41 @@ last_ends : (c : Command) → ends_once (c ∷ []) ≡ true → is_end c ≡ tru
 unfolding ends_once
 last_ends c h = h
 
-later_ends : (c d : Command) (cs : List Command) → ends_once (c ∷ d ∷ cs) ≡ true → (is_end c ≡ false) × (ends_once (d ∷ cs) ≡ true)
+later_ends : (c d : Command) (cs : List Command) → ends_once (c ∷ d ∷ cs) ≡ true → (is_end c ≡ false)
+    × (ends_once (d ∷ cs) ≡ true)
 unfolding ends_once
-later_ends c d cs h = let parts = and_parts (not (is_end c)) (ends_once (d ∷ cs)) h in (not_true (is_end c) parts.0, parts.1)
+later_ends c d cs h = let parts = and_parts (not (is_end c)) (ends_once (d ∷ cs)) h in
+    (not_true (is_end c) parts.0, parts.1)
 
 weight_cons : (c : Command) (cs : List Command) → sum_by weight (c ∷ cs) ≡ weight c + sum_by weight cs
-weight_cons c cs = let parts : sum_by weight (c ∷ cs) ≡ 0 + weight c + sum_by weight cs = sum_by-append weight (c ∷ []) cs in omega (arith, parts)
+weight_cons c cs = let parts : sum_by weight (c ∷ cs) ≡ 0 + weight c + sum_by weight cs =
+    sum_by-append weight (c ∷ []) cs in omega (arith, parts)
 
-commands_reach : (base : DraftPlan) (done : List Command) (u all : ℕ) (cs : List Command) → AreVolumes base.volumes → list_all (is_command (length base.volumes)) cs ≡ true → ends_once cs ≡ true → u + sum_by weight cs ≡ all → all ≤ 100000 → Reaches (inside base done u) (commands_text base.volumes cs) (behind base (done ++ cs) all)
+commands_reach : (base : DraftPlan) (done : List Command) (u all : ℕ) (cs : List Command) → AreVolumes base.volumes
+    → list_all (is_command (length base.volumes)) cs ≡ true → ends_once cs ≡ true → u + sum_by weight cs ≡ all
+    → all ≤ 100000 → Reaches (inside base done u) (commands_text base.volumes cs) (behind base (done ++ cs) all)
 unfolding commands_text
 commands_reach base done u all [] a h ends e le = absurd (never_ends ends)
 commands_reach base done u all (c ∷ []) a h ends e le =
     let one : u + weight c ≡ all = omega (arith, e, weight_cons c []) in
     let parts = and_parts (is_command (length base.volumes) c) true h in
-    subst (λ (t : ℕ). Reaches (inside base done u) (ended (command_text base.volumes c) ++ []) (behind base (done ++ c ∷ []) t)) one
-    (reaches_both (inside base done u) (behind base (done ++ c ∷ []) (u + weight c)) (behind base (done ++ c ∷ []) (u + weight c)) (ended (command_text base.volumes c)) []
+    subst (λ (t : ℕ). Reaches (inside base done u) (ended (command_text base.volumes c) ++ [])
+    (behind base (done ++ c ∷ []) t)) one
+    (reaches_both (inside base done u) (behind base (done ++ c ∷ []) (u + weight c))
+    (behind base (done ++ c ∷ []) (u + weight c)) (ended (command_text base.volumes c)) []
     (end_reaches base done u c a parts.0 (last_ends c ends) (omega (arith, one, le)))
     (reaches_nothing (behind base (done ++ c ∷ []) (u + weight c))))
 commands_reach base done u all (c ∷ d ∷ cs) a h ends e le =
-    let parts = and_parts (is_command (length base.volumes) c) (list_all (is_command (length base.volumes)) (d ∷ cs)) h in
+    let parts = and_parts (is_command (length base.volumes) c) (list_all (is_command (length base.volumes)) (d ∷ cs)) h
+    in
     let later = later_ends c d cs ends in
     let rest : u + weight c + sum_by weight (d ∷ cs) ≡ all = omega (arith, e, weight_cons c (d ∷ cs)) in
-    reaches_both (inside base done u) (inside base (done ++ c ∷ []) (u + weight c)) (behind base (done ++ c ∷ d ∷ cs) all) (ended (command_text base.volumes c)) (commands_text base.volumes (d ∷ cs))
+    reaches_both (inside base done u) (inside base (done ++ c ∷ []) (u + weight c))
+    (behind base (done ++ c ∷ d ∷ cs) all) (ended (command_text base.volumes c))
+    (commands_text base.volumes (d ∷ cs))
     (going_reaches base done u c a parts.0 later.0 (omega (arith, rest, le)))
-    (subst (λ (t : List Command). Reaches (inside base (done ++ c ∷ []) (u + weight c)) (commands_text base.volumes (d ∷ cs)) (behind base t all)) (append_assoc done (c ∷ []) (d ∷ cs))
+    (subst (λ (t : List Command). Reaches (inside base (done ++ c ∷ []) (u + weight c))
+    (commands_text base.volumes (d ∷ cs)) (behind base t all)) (append_assoc done (c ∷ []) (d ∷ cs))
     (commands_reach base (done ++ c ∷ []) (u + weight c) all (d ∷ cs) a parts.1 later.1 rest le))
 
 -- ---- the first line of a process
@@ -104,7 +143,8 @@ begins stage.Fails = true
 begins stage.Processes = true
 begins _ = false
 
-process_at : (s : Stage) (d : DraftPlan) (fields : List (List ℕ)) → begins s ≡ true → line_at s d (codes "process") fields ≡ process_line d fields
+process_at : (s : Stage) (d : DraftPlan) (fields : List (List ℕ)) → begins s ≡ true
+    → line_at s d (codes "process") fields ≡ process_line d fields
 unfolding line_at after_bulk after_fail after_process
 process_at stage.Bulks d fields h = refl
 process_at stage.Fails d fields h = refl
@@ -115,13 +155,15 @@ process_at stage.FirstVolume d fields h = absurd (cc)
 process_at stage.Volumes d fields h = absurd (cc)
 process_at stage.Commands d fields h = absurd (cc)
 
-process_again : (d : DraftPlan) (who : Who) → is_who who ≡ true → length d.processes < 32 → process_line d (who_text who ∷ []) ≡ Ok (record d { stage = stage.Commands; who = who })
+process_again : (d : DraftPlan) (who : Who) → is_who who ≡ true → length d.processes < 32
+    → process_line d (who_text who ∷ []) ≡ Ok (record d { stage = stage.Commands; who = who })
 unfolding process_line one_field
 process_again d who h room =
     let few : nat_lt (length d.processes) 32 ≡ true = grind (arith, nat_tests) in
     rw (who_in_again who h, few) refl
 
-initializer_at : (s : Stage) (d : DraftPlan) → takes_fail s ≡ true → line_at s d (codes "initializer") [] ≡ Ok (record d { stage = stage.Commands; initializer = true; who = initializer_who })
+initializer_at : (s : Stage) (d : DraftPlan) → takes_fail s ≡ true → line_at s d (codes "initializer") []
+    ≡ Ok (record d { stage = stage.Commands; initializer = true; who = initializer_who })
 unfolding line_at after_bulk after_fail initializer_line no_fields
 initializer_at stage.Bulks d h = refl
 initializer_at stage.Fails d h = refl
@@ -136,47 +178,69 @@ initializer_at stage.Commands d h = absurd (cc)
 abbrev between : DraftPlan → Stage → List ProcessPlan → Who → ℕ → DraftPlan
 between base s done who u = record base { stage = s; processes = done; who = who; commands = []; used = u }
 
-begin_reaches : (base : DraftPlan) (s : Stage) (done : List ProcessPlan) (before who : Who) (u : ℕ) → begins s ≡ true → is_who who ≡ true → length done < 32 → Reaches (between base s done before u) (ended (begin_text false who)) (between base stage.Commands done who u)
+begin_reaches : (base : DraftPlan) (s : Stage) (done : List ProcessPlan) (before who : Who) (u : ℕ) → begins s ≡ true
+    → is_who who ≡ true → length done < 32 → Reaches (between base s done before u) (ended (begin_text false who))
+    (between base stage.Commands done who u)
 unfolding begin_text
 begin_reaches base s done before who u may h room =
-    reaches_line (between base s done before u) (between base stage.Commands done who u) (begin_text false who) (codes "process") (who_text who ∷ [])
-    (front_field (codes "process") (who_text who) (who_text who ∷ []) (record { some = omega arith; bytes = refl }) (last_field (who_text who) (who_field who h)))
+    reaches_line (between base s done before u) (between base stage.Commands done who u) (begin_text false who)
+    (codes "process") (who_text who ∷ [])
+    (front_field (codes "process") (who_text who) (who_text who ∷ []) (record { some = omega arith; bytes = refl })
+    (last_field (who_text who) (who_field who h)))
     refl
-    (process_at s (between base s done before u) (who_text who ∷ []) may ∙ process_again (between base s done before u) who h room)
+    (process_at s (between base s done before u) (who_text who ∷ []) may
+    ∙ process_again (between base s done before u) who h room)
 
-initializer_reaches : (base : DraftPlan) (s : Stage) (done : List ProcessPlan) (before who : Who) (u : ℕ) → takes_fail s ≡ true → Reaches (between base s done before u) (ended (begin_text true who)) (between (record base { initializer = true }) stage.Commands done initializer_who u)
+initializer_reaches : (base : DraftPlan) (s : Stage) (done : List ProcessPlan) (before who : Who) (u : ℕ)
+    → takes_fail s ≡ true → Reaches (between base s done before u) (ended (begin_text true who))
+    (between (record base { initializer = true }) stage.Commands done initializer_who u)
 unfolding begin_text
 initializer_reaches base s done before who u may =
-    reaches_line (between base s done before u) (between (record base { initializer = true }) stage.Commands done initializer_who u) (begin_text true who) (codes "initializer") []
+    reaches_line (between base s done before u) (between (record base { initializer = true }) stage.Commands done
+    initializer_who u) (begin_text true who) (codes "initializer") []
     (last_field (codes "initializer") (record { some = omega arith; bytes = refl }))
     refl
     (initializer_at s (between base s done before u) may)
 
 -- ---- processes
 
-process_parts : (volumes : ℕ) (x : ProcessPlan) → is_process volumes x ≡ true → (is_who x.who ≡ true) × (list_all (is_command volumes) x.commands ≡ true) × (ends_once x.commands ≡ true)
+process_parts : (volumes : ℕ) (x : ProcessPlan) → is_process volumes x ≡ true → (is_who x.who ≡ true)
+    × (list_all (is_command volumes) x.commands ≡ true) × (ends_once x.commands ≡ true)
 unfolding is_process
 process_parts volumes x h =
     let p = and_parts (is_who x.who) (list_all (is_command volumes) x.commands && ends_once x.commands) h in
     let q = and_parts (list_all (is_command volumes) x.commands) (ends_once x.commands) p.1 in
     (p.0, q.0, q.1)
 
-process_reaches : (base : DraftPlan) (s : Stage) (done : List ProcessPlan) (before : Who) (u : ℕ) (x : ProcessPlan) → begins s ≡ true → AreVolumes base.volumes → is_process (length base.volumes) x ≡ true → length done < 32 → u + weight_of x ≤ 100000 → Reaches (between base s done before u) (process_text base.volumes false x) (between base stage.Processes (done ++ x ∷ []) x.who (u + weight_of x))
+process_reaches : (base : DraftPlan) (s : Stage) (done : List ProcessPlan) (before : Who) (u : ℕ) (x : ProcessPlan)
+    → begins s ≡ true → AreVolumes base.volumes → is_process (length base.volumes) x ≡ true → length done < 32
+    → u + weight_of x ≤ 100000 → Reaches (between base s done before u) (process_text base.volumes false x)
+    (between base stage.Processes (done ++ x ∷ []) x.who (u + weight_of x))
 unfolding process_text weight_of
 process_reaches base s done before u x may a h room le =
     let p = process_parts (length base.volumes) x h in
-    reaches_both (between base s done before u) (between base stage.Commands done x.who u) (between base stage.Processes (done ++ x ∷ []) x.who (u + weight_of x)) (ended (begin_text false x.who)) (commands_text base.volumes x.commands)
+    reaches_both (between base s done before u) (between base stage.Commands done x.who u)
+    (between base stage.Processes (done ++ x ∷ []) x.who (u + weight_of x)) (ended (begin_text false x.who))
+    (commands_text base.volumes x.commands)
     (begin_reaches base s done before x.who u may p.0 room)
     (commands_reach (record base { processes = done; who = x.who }) [] u (u + weight_of x) x.commands a p.1 p.2 refl le)
 
-first_reaches : (base : DraftPlan) (s : Stage) (before : Who) (u : ℕ) (x : ProcessPlan) → takes_fail s ≡ true → AreVolumes base.volumes → is_process (length base.volumes) x ≡ true → x.who ≡ initializer_who → u + weight_of x ≤ 100000 → Reaches (between base s [] before u) (process_text base.volumes true x) (between (record base { initializer = true }) stage.Processes (x ∷ []) initializer_who (u + weight_of x))
+first_reaches : (base : DraftPlan) (s : Stage) (before : Who) (u : ℕ) (x : ProcessPlan) → takes_fail s ≡ true
+    → AreVolumes base.volumes → is_process (length base.volumes) x ≡ true → x.who ≡ initializer_who
+    → u + weight_of x ≤ 100000 → Reaches (between base s [] before u) (process_text base.volumes true x)
+    (between (record base { initializer = true }) stage.Processes (x ∷ []) initializer_who (u + weight_of x))
 unfolding process_text weight_of
 first_reaches base s before u x may a h who le =
     let p = process_parts (length base.volumes) x h in
-    reaches_both (between base s [] before u) (between (record base { initializer = true }) stage.Commands [] initializer_who u) (between (record base { initializer = true }) stage.Processes (x ∷ []) initializer_who (u + weight_of x)) (ended (begin_text true x.who)) (commands_text base.volumes x.commands)
+    reaches_both (between base s [] before u) (between (record base { initializer = true }) stage.Commands []
+    initializer_who u) (between (record base { initializer = true }) stage.Processes (x ∷ []) initializer_who
+    (u + weight_of x)) (ended (begin_text true x.who)) (commands_text base.volumes x.commands)
     (initializer_reaches base s [] before x.who u may)
-    (subst (λ (w : Who). Reaches (between (record base { initializer = true }) stage.Commands [] initializer_who u) (commands_text base.volumes x.commands) (between (record base { initializer = true }) stage.Processes (record { who = w; commands = x.commands } ∷ []) initializer_who (u + weight_of x))) (sym who)
-    (commands_reach (record base { initializer = true; processes = []; who = initializer_who }) [] u (u + weight_of x) x.commands a p.1 p.2 refl le))
+    (subst (λ (w : Who). Reaches (between (record base { initializer = true }) stage.Commands [] initializer_who u)
+    (commands_text base.volumes x.commands) (between (record base { initializer = true }) stage.Processes
+    (record { who = w; commands = x.commands } ∷ []) initializer_who (u + weight_of x))) (sym who)
+    (commands_reach (record base { initializer = true; processes = []; who = initializer_who }) [] u (u + weight_of x)
+    x.commands a p.1 p.2 refl le))
 
 -- ---- the end
 
@@ -208,41 +272,59 @@ no_processes : (volumes : List VolumeLine) (first : Bool) → processes_text vol
 unfolding processes_text
 no_processes volumes first = refl
 
-one_process : (volumes : List VolumeLine) (first : Bool) (x : ProcessPlan) (xs : List ProcessPlan) → processes_text volumes first (x ∷ xs) ≡ process_text volumes first x ++ processes_text volumes false xs
+one_process : (volumes : List VolumeLine) (first : Bool) (x : ProcessPlan) (xs : List ProcessPlan)
+    → processes_text volumes first (x ∷ xs) ≡ process_text volumes first x ++ processes_text volumes false xs
 unfolding processes_text
 one_process volumes first x xs = refl
 
-weight_of_cons : (x : ProcessPlan) (xs : List ProcessPlan) → sum_by weight_of (x ∷ xs) ≡ weight_of x + sum_by weight_of xs
-weight_of_cons x xs = let parts : sum_by weight_of (x ∷ xs) ≡ 0 + weight_of x + sum_by weight_of xs = sum_by-append weight_of (x ∷ []) xs in omega (arith, parts)
+weight_of_cons : (x : ProcessPlan) (xs : List ProcessPlan) → sum_by weight_of (x ∷ xs)
+    ≡ weight_of x + sum_by weight_of xs
+weight_of_cons x xs = let parts : sum_by weight_of (x ∷ xs) ≡ 0 + weight_of x + sum_by weight_of xs =
+    sum_by-append weight_of (x ∷ []) xs in omega (arith, parts)
 
-processes_read : (base : DraftPlan) (s : Stage) (done : List ProcessPlan) (before : Who) (u : ℕ) (xs : List ProcessPlan) (n : ℕ) → begins s ≡ true → AreVolumes base.volumes → list_all (is_process (length base.volumes)) xs ≡ true → length done + length xs ≤ 32 → u + sum_by weight_of xs ≤ 100000 → read_from n (between base s done before u) (processes_text base.volumes false xs) ≡ Ok (plan_of (record base { processes = done ++ xs }))
+processes_read : (base : DraftPlan) (s : Stage) (done : List ProcessPlan) (before : Who) (u : ℕ)
+    (xs : List ProcessPlan) (n : ℕ) → begins s ≡ true → AreVolumes base.volumes
+    → list_all (is_process (length base.volumes)) xs ≡ true → length done + length xs ≤ 32
+    → u + sum_by weight_of xs ≤ 100000 → read_from n (between base s done before u)
+    (processes_text base.volumes false xs) ≡ Ok (plan_of (record base { processes = done ++ xs }))
 processes_read base s done before u [] n may a h room le =
     ap (read_from n (between base s done before u)) (no_processes base.volumes false)
     ∙ end_read n (between base s done before u) (begins_whole s may)
     ∙ ap (λ (t : List ProcessPlan). Ok (plan_of (record base { processes = t }))) (sym (nil_after done))
 processes_read base s done before u (x ∷ xs) n may a h room le =
     let parts = and_parts (is_process (length base.volumes) x) (list_all (is_process (length base.volumes)) xs) h in
-    let step = (process_reaches base s done before u x may a parts.0 (omega (arith, room)) (omega (arith, le, weight_of_cons x xs))).reads n (processes_text base.volumes false xs) in
+    let step = (process_reaches base s done before u x may a parts.0 (omega (arith, room))
+    (omega (arith, le, weight_of_cons x xs))).reads n (processes_text base.volumes false xs) in
     ap (read_from n (between base s done before u)) (one_process base.volumes false x xs)
     ∙ step.1
-    ∙ processes_read base stage.Processes (done ++ x ∷ []) x.who (u + weight_of x) xs step.0 refl a parts.1 (omega (arith, room, length-append done (x ∷ []))) (omega (arith, le, weight_of_cons x xs))
+    ∙ processes_read base stage.Processes (done ++ x ∷ []) x.who (u + weight_of x) xs step.0 refl a parts.1
+    (omega (arith, room, length-append done (x ∷ []))) (omega (arith, le, weight_of_cons x xs))
     ∙ ap (λ (t : List ProcessPlan). Ok (plan_of (record base { processes = t }))) (append_assoc done (x ∷ []) xs)
 
-first_read : (base : DraftPlan) (s : Stage) (before : Who) (xs : List ProcessPlan) (n : ℕ) → takes_fail s ≡ true → AreVolumes base.volumes → list_all (is_process (length base.volumes)) xs ≡ true → BeginsWithInitializer xs → length xs ≤ 32 → sum_by weight_of xs ≤ 100000 → read_from n (between base s [] before 0) (processes_text base.volumes true xs) ≡ Ok (plan_of (record base { initializer = true; processes = xs }))
+first_read : (base : DraftPlan) (s : Stage) (before : Who) (xs : List ProcessPlan) (n : ℕ) → takes_fail s ≡ true
+    → AreVolumes base.volumes → list_all (is_process (length base.volumes)) xs ≡ true → BeginsWithInitializer xs
+    → length xs ≤ 32 → sum_by weight_of xs ≤ 100000 → read_from n (between base s [] before 0)
+    (processes_text base.volumes true xs) ≡ Ok (plan_of (record base { initializer = true; processes = xs }))
 first_read base s before [] n may a h first room le = absurd first
 first_read base s before (x ∷ xs) n may a h first room le =
     let parts = and_parts (is_process (length base.volumes) x) (list_all (is_process (length base.volumes)) xs) h in
-    let step = (first_reaches base s before 0 x may a parts.0 first (omega (arith, le, weight_of_cons x xs))).reads n (processes_text base.volumes false xs) in
+    let step = (first_reaches base s before 0 x may a parts.0 first (omega (arith, le, weight_of_cons x xs))).reads n
+    (processes_text base.volumes false xs) in
     ap (read_from n (between base s [] before 0)) (one_process base.volumes true x xs)
     ∙ step.1
-    ∙ processes_read (record base { initializer = true }) stage.Processes (x ∷ []) initializer_who (0 + weight_of x) xs step.0 refl a parts.1 (omega (arith, room)) (omega (arith, le, weight_of_cons x xs))
+    ∙ processes_read (record base { initializer = true }) stage.Processes (x ∷ []) initializer_who (0 + weight_of x) xs
+    step.0 refl a parts.1 (omega (arith, room)) (omega (arith, le, weight_of_cons x xs))
 
-after_head_read : (p : Plan) (first : Bool) (n : ℕ) → IsPlan p → p.initializer ≡ first → read_from n (after_head p) (processes_text p.volumes first p.processes) ≡ Ok p
+after_head_read : (p : Plan) (first : Bool) (n : ℕ) → IsPlan p → p.initializer ≡ first
+    → read_from n (after_head p) (processes_text p.volumes first p.processes) ≡ Ok p
 after_head_read p true n h e =
-    first_read (after_head p) (stage_after_fails stage.Bulks p.fails) initializer_who p.processes n (takes_after_fails p.fails) (are_volumes p h) h.each (h.first e) h.processes h.commands
+    first_read (after_head p) (stage_after_fails stage.Bulks p.fails) initializer_who p.processes n
+    (takes_after_fails p.fails) (are_volumes p h) h.each (h.first e) h.processes h.commands
     ∙ ap (λ (b : Bool). Ok (record p { initializer = b })) (sym e)
 after_head_read p false n h e =
-    processes_read (after_head p) (stage_after_fails stage.Bulks p.fails) [] initializer_who 0 p.processes n (fail_begins (stage_after_fails stage.Bulks p.fails) (takes_after_fails p.fails)) (are_volumes p h) h.each (omega (arith, h.processes)) (omega (arith, h.commands))
+    processes_read (after_head p) (stage_after_fails stage.Bulks p.fails) [] initializer_who 0 p.processes n
+    (fail_begins (stage_after_fails stage.Bulks p.fails) (takes_after_fails p.fails)) (are_volumes p h) h.each
+    (omega (arith, h.processes)) (omega (arith, h.commands))
     ∙ ap (λ (b : Bool). Ok (record p { initializer = b })) (sym e)
 
 -- each script that keeps its rules is read back from its text

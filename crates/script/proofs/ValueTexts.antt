@@ -1,5 +1,6 @@
 -- The texts of values: each is a field, and is read back as the value (own).
-use Rattle.std.proofs.Common.{◌≡◌, ℕ, ◌+◌, ◌-◌, ◌*◌, ◌/◌, ◌%◌, ◌^◌, ◌<◌, ◌≤◌, true, ◌&&◌, nat_le, List, [], ◌∷◌, ◌++◌, length, Some, Ok, refl, sym, ap, ◌∙◌, arith}
+use Rattle.std.proofs.Common.{◌≡◌, ℕ, ◌+◌, ◌-◌, ◌*◌, ◌/◌, ◌%◌, ◌^◌, ◌<◌, ◌≤◌, true, ◌&&◌, nat_le, List, [], ◌∷◌, ◌++◌}
+use Rattle.std.proofs.Common.{length, Some, Ok, refl, sym, ap, ◌∙◌, arith}
 use Rattle.std.proofs.lemmas.Bool.Decides.{nat_tests}
 use Rattle.std.proofs.lemmas.Fmt.{decimal_by_steps, decimal_nonempty, length-decimal-le}
 use Rattle.std.specs.Char.{is_ascii_digit}
@@ -20,17 +21,20 @@ value_nil : (before : ℕ) → decimal_value_from before [] ≡ Some before
 unfolding decimal_value_from
 value_nil before = refl
 
-value_digit : (before d : ℕ) (ds : List ℕ) → is_ascii_digit d ≡ true → decimal_value_from before (d ∷ ds) ≡ decimal_value_from (before * 10 + (d - 48)) ds
+value_digit : (before d : ℕ) (ds : List ℕ) → is_ascii_digit d ≡ true → decimal_value_from before (d ∷ ds)
+    ≡ decimal_value_from (before * 10 + (d - 48)) ds
 unfolding decimal_value_from
 value_digit before d ds z = rw z refl
 
-digits_push : (before : ℕ) (ds : List ℕ) (d n : ℕ) → list_all is_ascii_digit ds ≡ true → is_ascii_digit d ≡ true → decimal_value_from before ds ≡ Some n → decimal_value_from before (ds ++ d ∷ []) ≡ Some (n * 10 + (d - 48))
+digits_push : (before : ℕ) (ds : List ℕ) (d n : ℕ) → list_all is_ascii_digit ds ≡ true → is_ascii_digit d ≡ true
+    → decimal_value_from before ds ≡ Some n → decimal_value_from before (ds ++ d ∷ []) ≡ Some (n * 10 + (d - 48))
 digits_push before [] d n all z h =
     let same : before ≡ n = cc (value_nil before, h) in
     value_digit before d [] z ∙ value_nil (before * 10 + (d - 48)) ∙ ap (λ (m : ℕ). Some (m * 10 + (d - 48))) same
 digits_push before (x ∷ xs) d n all z h =
     let parts = and_parts (is_ascii_digit x) (list_all is_ascii_digit xs) all in
-    value_digit before x (xs ++ d ∷ []) parts.0 ∙ digits_push (before * 10 + (x - 48)) xs d n parts.1 z (sym (value_digit before x xs parts.0) ∙ h)
+    value_digit before x (xs ++ d ∷ []) parts.0 ∙ digits_push (before * 10 + (x - 48)) xs d n parts.1 z
+    (sym (value_digit before x xs parts.0) ∙ h)
 
 -- digits that stand for a number
 record StandsFor (n : ℕ) (ds : List ℕ) : Type 0 where
@@ -40,13 +44,18 @@ record StandsFor (n : ℕ) (ds : List ℕ) : Type 0 where
 one_digit : (m : ℕ) → m < 10 → StandsFor m ((48 + m) ∷ [])
 one_digit m l =
     let z : is_ascii_digit (48 + m) ≡ true = grind (arith, nat_tests) in
-    record { digits = and_both (is_ascii_digit (48 + m)) true z refl; value = value_digit 0 (48 + m) [] z ∙ value_nil (0 * 10 + (48 + m - 48)) ∙ ap (λ (k : ℕ). Some k) (omega arith) }
+    record {
+      digits = and_both (is_ascii_digit (48 + m)) true z refl;
+      value = value_digit 0 (48 + m) [] z
+          ∙ value_nil (0 * 10 + (48 + m - 48)) ∙ ap (λ (k : ℕ). Some k) (omega arith);
+    }
 
 more_digits : (m : ℕ) (ds : List ℕ) → 10 ≤ m → StandsFor (m / 10) ds → StandsFor m (ds ++ (48 + m % 10) ∷ [])
 more_digits m ds l h =
     let z : is_ascii_digit (48 + m % 10) ≡ true = grind (arith, nat_tests) in
     record {
-      digits = all_both is_ascii_digit ds ((48 + m % 10) ∷ []) h.digits (and_both (is_ascii_digit (48 + m % 10)) true z refl);
+      digits = all_both is_ascii_digit ds ((48 + m % 10) ∷ []) h.digits
+          (and_both (is_ascii_digit (48 + m % 10)) true z refl);
       value = digits_push 0 ds (48 + m % 10) (m / 10) h.digits z h.value ∙ ap (λ (k : ℕ). Some k) (omega arith);
     }
 
@@ -76,7 +85,11 @@ digit_is_field : (b : ℕ) → is_ascii_digit b ≡ true → is_field_byte b ≡
 digit_is_field b h = grind (arith, nat_tests)
 
 pub decimal_field : (n : ℕ) → n ≤ 1000000 → IsField (decimal n)
-decimal_field n h = record { some = omega (arith, decimal_nonempty n (omega arith)); bytes = all_from is_ascii_digit is_field_byte digit_is_field (decimal n) (decimal_stands n (omega arith)).digits }
+decimal_field n h = record {
+  some = omega (arith, decimal_nonempty n (omega arith));
+  bytes =
+      all_from is_ascii_digit is_field_byte digit_is_field (decimal n) (decimal_stands n (omega arith)).digits;
+}
 
 -- ---- words
 
@@ -84,7 +97,11 @@ octal_is_field : (b : ℕ) → is_octal_digit b ≡ true → is_field_byte b ≡
 octal_is_field b h = grind (arith, nat_tests)
 
 pub word_field : (w : ℕ) → IsField (octal_digits 12 w)
-word_field w = record { some = omega (arith, length-octal_digits 12 w); bytes = all_from is_octal_digit is_field_byte octal_is_field (octal_digits 12 w) (octal_digits_all 12 w) }
+word_field w = record {
+  some = omega (arith, length-octal_digits 12 w);
+  bytes =
+      all_from is_octal_digit is_field_byte octal_is_field (octal_digits 12 w) (octal_digits_all 12 w);
+}
 
 pub word_again : (w : ℕ) → w < 68719476736 → word_in (octal_digits 12 w) ≡ Ok w
 word_again w h = rw (octal_reads_back w (omega arith)) refl
@@ -99,7 +116,11 @@ unfolding is_name
 name_field name h =
     let parts = and_parts (nat_le 1 (length name) && nat_le (length name) 32) (list_all is_name_byte name) h in
     let long = (and_parts (nat_le 1 (length name)) (nat_le (length name) 32) parts.0).0 in
-    record { some = grind (arith, nat_tests); bytes = all_from is_name_byte is_field_byte name_byte_is_field name parts.1 }
+    record {
+      some = grind (arith, nat_tests);
+      bytes = all_from is_name_byte is_field_byte name_byte_is_field name
+          parts.1;
+    }
 
 names_bytes : (names : List (List ℕ)) → list_all is_name names ≡ true → list_all is_field_byte (names_text names) ≡ true
 names_bytes [] h = refl

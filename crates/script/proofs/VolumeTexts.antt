@@ -1,5 +1,7 @@
 -- The names of volumes, modes, amounts and calls that fail: each is a field, and is read back (own).
-use Rattle.std.proofs.Common.{◌≡◌, ℕ, suc, zero, ◌+◌, ◌-◌, ◌<◌, ◌≤◌, Bool, true, false, not, ◌&&◌, eqb, ltb, List, [], ◌∷◌, ◌++◌, length, take, Some, Ok, refl, sym, ap, subst, ◌∙◌, arith, get_or, ℤ, pos, negsuc}
+use Rattle.std.proofs.Common.{◌≡◌, ℕ, suc, zero, ◌+◌, ◌-◌, ◌<◌, ◌≤◌, Bool, true, false, not, ◌&&◌, eqb, ltb, List, []}
+use Rattle.std.proofs.Common.{◌∷◌, ◌++◌, length, take, Some, Ok, refl, sym, ap, subst, ◌∙◌, arith, get_or, ℤ, pos}
+use Rattle.std.proofs.Common.{negsuc}
 use Rattle.std.proofs.lemmas.Bool.Decides.{nat_tests}
 use Rattle.std.proofs.lemmas.List.{length_push, take_at}
 use Rattle.std.proofs.lemmas.List.Folds.{list_any-append}
@@ -18,7 +20,8 @@ use Rattle.script.proofs.PathLaws.{and_parts}
 use Rattle.script.proofs.ValueTexts.{decimal_digits, decimal_field, name_field, number_again}
 use Rattle.script.proofs.SmallLaws.{nil_after, not_true, or_left, or_right}
 use Rattle.script.specs.Forms.{has_name, have_own_names, is_from, is_volume}
-use Rattle.script.specs.Lines.{amount_in, call_in, ends_with_plus, is_write_in, mode_in, new_name_in, number_from, volume_in}
+use Rattle.script.specs.Lines.{amount_in, call_in, ends_with_plus, is_write_in, mode_in, new_name_in, number_from}
+use Rattle.script.specs.Lines.{volume_in}
 use Rattle.script.specs.Scripts.{call_text, onward_text}
 use Rattle.script.specs.Texts.{mode_text, sign_text, volume_name}
 use Rattle.script.specs.declared.plan.VolumeLine.{VolumeLine}
@@ -30,15 +33,18 @@ pub record AreVolumes (vs : List VolumeLine) : Type 0 where
   pub each : list_all is_volume vs ≡ true
   pub own : have_own_names vs ≡ true
 
-from_found : (n : ℕ) (v : VolumeLine) (vs : List VolumeLine) (name : List ℕ) → has_name name v ≡ true → number_from n (v ∷ vs) name ≡ Some n
+from_found : (n : ℕ) (v : VolumeLine) (vs : List VolumeLine) (name : List ℕ) → has_name name v ≡ true
+    → number_from n (v ∷ vs) name ≡ Some n
 unfolding number_from
 from_found n v vs name h = rw h refl
 
-from_other : (n : ℕ) (v : VolumeLine) (vs : List VolumeLine) (name : List ℕ) → has_name name v ≡ false → number_from n (v ∷ vs) name ≡ number_from (n + 1) vs name
+from_other : (n : ℕ) (v : VolumeLine) (vs : List VolumeLine) (name : List ℕ) → has_name name v ≡ false
+    → number_from n (v ∷ vs) name ≡ number_from (n + 1) vs name
 unfolding number_from
 from_other n v vs name h = rw h refl
 
-own_names : (v : VolumeLine) (vs : List VolumeLine) → have_own_names (v ∷ vs) ≡ true → (list_any (has_name v.name) vs ≡ false) × (have_own_names vs ≡ true)
+own_names : (v : VolumeLine) (vs : List VolumeLine) → have_own_names (v ∷ vs) ≡ true
+    → (list_any (has_name v.name) vs ≡ false) × (have_own_names vs ≡ true)
 unfolding have_own_names
 own_names v vs h =
     let parts = and_parts (not (list_any (has_name v.name) vs)) (have_own_names vs) h in
@@ -48,10 +54,12 @@ same_name : (v : VolumeLine) → has_name v.name v ≡ true
 same_name v = (bytes_eq-Decides v.name v.name).1 refl
 
 -- a name that no volume has is no volume's name
-other_name : (name : List ℕ) (vs : List VolumeLine) (k : ℕ) → k < length vs → list_any (has_name name) vs ≡ false → bytes_eq (volume_name vs k) name ≡ false
+other_name : (name : List ℕ) (vs : List VolumeLine) (k : ℕ) → k < length vs → list_any (has_name name) vs ≡ false
+    → bytes_eq (volume_name vs k) name ≡ false
 other_name name [] k lt h = absurd (omega arith)
 other_name name (v ∷ vs) zero lt h = or_left (has_name name v) (list_any (has_name name) vs) h
-other_name name (v ∷ vs) (suc k) lt h = other_name name vs k (omega arith) (or_right (has_name name v) (list_any (has_name name) vs) h)
+other_name name (v ∷ vs) (suc k) lt h = other_name name vs k (omega arith)
+    (or_right (has_name name v) (list_any (has_name name) vs) h)
 
 bytes_apart : (xs ys : List ℕ) → bytes_eq xs ys ≡ false → bytes_eq ys xs ≡ false
 bytes_apart xs ys h = split (bytes_eq ys xs) refl
@@ -66,44 +74,56 @@ bytes_apart xs ys h = split (bytes_eq ys xs) refl
         apart e = cc
     split false z = z
 
-number_again_from : (n : ℕ) (vs : List VolumeLine) (k : ℕ) → k < length vs → have_own_names vs ≡ true → number_from n vs (volume_name vs k) ≡ Some (n + k)
+number_again_from : (n : ℕ) (vs : List VolumeLine) (k : ℕ) → k < length vs → have_own_names vs ≡ true
+    → number_from n vs (volume_name vs k) ≡ Some (n + k)
 number_again_from n [] k lt h = absurd (omega arith)
 number_again_from n (v ∷ vs) zero lt h = from_found n v vs v.name (same_name v) ∙ ap (λ (m : ℕ). Some m) (omega arith)
 number_again_from n (v ∷ vs) (suc k) lt h =
     let own = own_names v vs h in
-    let other : has_name (volume_name vs k) v ≡ false = bytes_apart (volume_name vs k) v.name (other_name v.name vs k (omega arith) own.0) in
-    from_other n v vs (volume_name vs k) other ∙ number_again_from (n + 1) vs k (omega arith) own.1 ∙ ap (λ (m : ℕ). Some m) (omega arith)
+    let other : has_name (volume_name vs k) v ≡ false =
+    bytes_apart (volume_name vs k) v.name (other_name v.name vs k (omega arith) own.0) in
+    from_other n v vs (volume_name vs k) other ∙ number_again_from (n + 1) vs k (omega arith) own.1
+    ∙ ap (λ (m : ℕ). Some m) (omega arith)
 
 volume_is_named : (v : VolumeLine) → is_volume v ≡ true → is_name v.name ≡ true
 unfolding is_volume
 volume_is_named v h = (and_parts (is_name v.name) (is_from 1 16384 v.records && is_from 1 4097 v.entries) h).0
 
-pub name_of_volume : (vs : List VolumeLine) (k : ℕ) → k < length vs → list_all is_volume vs ≡ true → is_name (volume_name vs k) ≡ true
+pub name_of_volume : (vs : List VolumeLine) (k : ℕ) → k < length vs → list_all is_volume vs ≡ true
+    → is_name (volume_name vs k) ≡ true
 name_of_volume [] k lt h = absurd (omega arith)
 name_of_volume (v ∷ vs) zero lt h = volume_is_named v (and_parts (is_volume v) (list_all is_volume vs) h).0
-name_of_volume (v ∷ vs) (suc k) lt h = name_of_volume vs k (omega arith) (and_parts (is_volume v) (list_all is_volume vs) h).1
+name_of_volume (v ∷ vs) (suc k) lt h = name_of_volume vs k (omega arith)
+    (and_parts (is_volume v) (list_all is_volume vs) h).1
 
-pub volume_field : (vs : List VolumeLine) (k : ℕ) → k < length vs → list_all is_volume vs ≡ true → IsField (volume_name vs k)
+pub volume_field : (vs : List VolumeLine) (k : ℕ) → k < length vs → list_all is_volume vs ≡ true
+    → IsField (volume_name vs k)
 volume_field vs k lt h = name_field (volume_name vs k) (name_of_volume vs k lt h)
 
-pub volume_again : (vs : List VolumeLine) (k : ℕ) → k < length vs → list_all is_volume vs ≡ true → have_own_names vs ≡ true → volume_in vs (volume_name vs k) ≡ Ok k
+pub volume_again : (vs : List VolumeLine) (k : ℕ) → k < length vs → list_all is_volume vs ≡ true → have_own_names vs
+    ≡ true → volume_in vs (volume_name vs k) ≡ Ok k
 unfolding volume_in
 volume_again vs k lt each own =
     let same : 0 + k ≡ k = omega arith in
     rw (name_of_volume vs k lt each, number_again_from 0 vs k lt own, same) refl
 
 -- a name that no volume so far has
-pub new_name_again : (vs : List VolumeLine) (name : List ℕ) → is_name name ≡ true → list_any (has_name name) vs ≡ false → new_name_in vs name ≡ Ok name
+pub new_name_again : (vs : List VolumeLine) (name : List ℕ) → is_name name ≡ true → list_any (has_name name) vs ≡ false
+    → new_name_in vs name ≡ Ok name
 unfolding new_name_in
 new_name_again vs name h new = rw (h, new) refl
 
 -- the volumes before one have other names
-pub others_before : (done : List VolumeLine) (v : VolumeLine) (vs : List VolumeLine) → have_own_names (done ++ v ∷ vs) ≡ true → list_any (has_name v.name) done ≡ false
+pub others_before : (done : List VolumeLine) (v : VolumeLine) (vs : List VolumeLine) → have_own_names (done ++ v ∷ vs)
+    ≡ true → list_any (has_name v.name) done ≡ false
 others_before [] v vs h = refl
 others_before (u ∷ us) v vs h =
     let own = own_names u (us ++ v ∷ vs) h in
-    let after : list_any (has_name u.name) (v ∷ vs) ≡ false = or_right (list_any (has_name u.name) us) (list_any (has_name u.name) (v ∷ vs)) (sym (list_any-append (has_name u.name) us (v ∷ vs)) ∙ own.0) in
-    let here : bytes_eq u.name v.name ≡ false = bytes_apart v.name u.name (or_left (has_name u.name v) (list_any (has_name u.name) vs) after) in
+    let after : list_any (has_name u.name) (v ∷ vs) ≡ false =
+    or_right (list_any (has_name u.name) us) (list_any (has_name u.name) (v ∷ vs))
+    (sym (list_any-append (has_name u.name) us (v ∷ vs)) ∙ own.0) in
+    let here : bytes_eq u.name v.name ≡ false = bytes_apart v.name u.name
+    (or_left (has_name u.name v) (list_any (has_name u.name) vs) after) in
     rw (here, others_before us v vs own.1) refl
 
 -- ---- modes
@@ -127,7 +147,8 @@ mode_field mode.Both = record { some = omega arith; bytes = refl }
 not_below : (n : ℕ) → is_negative (pos n) ≡ false
 not_below n = let past : ltb n 0 ≡ false = grind (arith, nat_tests) in past
 
-pub amount_again : (z : ℤ) → is_from 1 16384 (unsigned_abs z) ≡ true → amount_in (sign_text (is_negative z) ++ decimal (unsigned_abs z)) ≡ Ok z
+pub amount_again : (z : ℤ) → is_from 1 16384 (unsigned_abs z) ≡ true
+    → amount_in (sign_text (is_negative z) ++ decimal (unsigned_abs z)) ≡ Ok z
 unfolding amount_in sign_text
 amount_again (pos n) h =
     let low : 1 ≤ n = grind (arith, nat_tests) in
@@ -138,7 +159,8 @@ amount_again (negsuc n) h =
     let high : suc n ≤ 16384 = grind (arith, nat_tests) in
     rw (number_again 1 16384 (suc n) (omega arith) low high) refl
 
-pub amount_field : (z : ℤ) → is_from 1 16384 (unsigned_abs z) ≡ true → IsField (sign_text (is_negative z) ++ decimal (unsigned_abs z))
+pub amount_field : (z : ℤ) → is_from 1 16384 (unsigned_abs z) ≡ true
+    → IsField (sign_text (is_negative z) ++ decimal (unsigned_abs z))
 unfolding sign_text
 amount_field (pos n) h =
     let high : n ≤ 1000000 = grind (arith, nat_tests) in
@@ -171,10 +193,12 @@ last_plus xs = rw (before_plus xs, plus_at xs) refl
 cut_plus : (xs : List ℕ) → take (length (xs ++ 43 ∷ []) - 1) (xs ++ 43 ∷ []) ≡ xs
 cut_plus xs = rw (before_plus xs) (take_at xs (43 ∷ []) (length xs) refl)
 
-digit_at : (xs : List ℕ) (i : ℕ) → i < length xs → list_all is_ascii_digit xs ≡ true → is_ascii_digit (get_or xs i 0) ≡ true
+digit_at : (xs : List ℕ) (i : ℕ) → i < length xs → list_all is_ascii_digit xs ≡ true → is_ascii_digit (get_or xs i 0)
+    ≡ true
 digit_at [] i lt h = absurd (omega arith)
 digit_at (x ∷ xs) zero lt h = (and_parts (is_ascii_digit x) (list_all is_ascii_digit xs) h).0
-digit_at (x ∷ xs) (suc i) lt h = digit_at xs i (omega arith) (and_parts (is_ascii_digit x) (list_all is_ascii_digit xs) h).1
+digit_at (x ∷ xs) (suc i) lt h = digit_at xs i (omega arith)
+    (and_parts (is_ascii_digit x) (list_all is_ascii_digit xs) h).1
 
 digit_is_no_plus : (b : ℕ) → is_ascii_digit b ≡ true → eqb b 43 ≡ false
 digit_is_no_plus b h = grind (arith, nat_tests)
@@ -182,15 +206,31 @@ digit_is_no_plus b h = grind (arith, nat_tests)
 no_plus : (n : ℕ) → n ≤ 1000000 → ends_with_plus (decimal n) ≡ false
 no_plus n h =
     let some = (decimal_field n h).some in
-    digit_is_no_plus (get_or (decimal n) (length (decimal n) - 1) 0) (digit_at (decimal n) (length (decimal n) - 1) (omega (arith, some)) (decimal_digits n h))
+    digit_is_no_plus (get_or (decimal n) (length (decimal n) - 1) 0)
+    (digit_at (decimal n) (length (decimal n) - 1) (omega (arith, some)) (decimal_digits n h))
 
 pub call_field : (n : ℕ) (onward : Bool) → n ≤ 1000000 → IsField (decimal n ++ onward_text onward)
 call_field n true h =
     let f = decimal_field n h in
-    record { some = omega (arith, length_push (decimal n) 43); bytes = all_both is_field_byte (decimal n) (43 ∷ []) f.bytes refl }
+    record {
+      some = omega (arith, length_push (decimal n) 43);
+      bytes =
+          all_both is_field_byte (decimal n) (43 ∷ []) f.bytes refl;
+    }
 call_field n false h = subst IsField (sym (nil_after (decimal n))) (decimal_field n h)
 
-pub call_again : (n : ℕ) (onward : Bool) → 1 ≤ n → n ≤ 1000000 → call_in (decimal n ++ onward_text onward) ≡ Ok (n, onward)
+pub call_again : (n : ℕ) (onward : Bool) → 1 ≤ n → n ≤ 1000000 → call_in (decimal n ++ onward_text onward)
+    ≡ Ok (n, onward)
 unfolding call_in
-call_again n true low high = rw (last_plus (decimal n), cut_plus (decimal n), number_again 1 1000000 n (omega arith) low high) refl
-call_again n false low high = rw (nil_after (decimal n), no_plus n high, number_again 1 1000000 n (omega arith) low high) refl
+call_again n true low high = rw (
+  last_plus (decimal n),
+  cut_plus (decimal n),
+  number_again 1 1000000 n (omega arith)
+      low high,
+) refl
+call_again n false low high = rw (
+  nil_after (decimal n),
+  no_plus n high,
+  number_again 1 1000000 n (omega arith) low
+      high,
+) refl

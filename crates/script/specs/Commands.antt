@@ -1,7 +1,8 @@
 -- The commands of a script, and why a line is none (own). A line is its word and the fields after it.
 use Rattle.std.specs.Prelude.{ℕ, if◌then◌else◌, List, Result, Ok, Err, codes}
 use Rattle.std.specs.Str.{bytes_eq}
-use Rattle.script.specs.Lines.{◌>>=◌, no_fields, one_field, two_fields, three_fields, four_fields, number_in, word_in, row_in, path_in, mode_in, volume_in, amount_in}
+use Rattle.script.specs.Lines.{◌>>=◌, no_fields, one_field, two_fields, three_fields, four_fields, number_in, word_in}
+use Rattle.script.specs.Lines.{row_in, path_in, mode_in, volume_in, amount_in}
 use Rattle.script.specs.declared.commands.Command.{Command}
 use Rattle.script.specs.declared.commands.Command.TheVariants as command
 use Rattle.script.specs.declared.plan.VolumeLine.{VolumeLine}
@@ -130,12 +131,23 @@ end_of fields = do
 
 -- a command that changes or asks for what a segment or a directory is like, or the end
 unfoldable pub other_command_of : List ℕ → List (List ℕ) → Result Command Cause
-other_command_of word fields = if bytes_eq word (codes "acl") then acl_of fields else if bytes_eq word (codes "length") then length_of fields else if bytes_eq word (codes "truncate") then truncate_of fields else if bytes_eq word (codes "move") then move_of fields else if bytes_eq word (codes "status") then status_of fields else if bytes_eq word (codes "end") then end_of fields else Err cause.Order
+other_command_of word fields = if bytes_eq word (codes "acl") then acl_of fields
+    else if bytes_eq word (codes "length") then length_of fields
+    else if bytes_eq word (codes "truncate") then truncate_of fields
+    else if bytes_eq word (codes "move") then move_of fields
+    else if bytes_eq word (codes "status") then status_of fields else if bytes_eq word (codes "end") then end_of fields
+    else Err cause.Order
 
 -- a reference to a word, or another command
 unfoldable pub reference_or : List ℕ → List (List ℕ) → Result Command Cause
-reference_or word fields = if bytes_eq word (codes "read") then read_of fields else if bytes_eq word (codes "write") then write_of fields else if bytes_eq word (codes "add") then add_of fields else if bytes_eq word (codes "await") then await_of fields else other_command_of word fields
+reference_or word fields = if bytes_eq word (codes "read") then read_of fields
+    else if bytes_eq word (codes "write") then write_of fields else if bytes_eq word (codes "add") then add_of fields
+    else if bytes_eq word (codes "await") then await_of fields else other_command_of word fields
 
 -- any command; these first make and delete segments and directories, or make segments known
 unfoldable pub command_of : List VolumeLine → List ℕ → List (List ℕ) → Result Command Cause
-command_of volumes word fields = if bytes_eq word (codes "mkdir") then mkdir_of volumes fields else if bytes_eq word (codes "mkseg") then mkseg_of volumes fields else if bytes_eq word (codes "initiate") then initiate_of fields else if bytes_eq word (codes "terminate") then terminate_of fields else if bytes_eq word (codes "delete") then delete_of fields else reference_or word fields
+command_of volumes word fields = if bytes_eq word (codes "mkdir") then mkdir_of volumes fields
+    else if bytes_eq word (codes "mkseg") then mkseg_of volumes fields
+    else if bytes_eq word (codes "initiate") then initiate_of fields
+    else if bytes_eq word (codes "terminate") then terminate_of fields
+    else if bytes_eq word (codes "delete") then delete_of fields else reference_or word fields

@@ -3,7 +3,8 @@ use Rattle.std.specs.Prelude.{◌≡◌, ℕ, ◌+◌, ◌<◌, ◌≤◌, Bool,
 use Rattle.std.specs.List.{list_all}
 use Rattle.mnames.specs.Principals.{default_project}
 use Rattle.mnames.specs.declared.principals.Who.{Who}
-use Rattle.script.specs.Forms.{ArePools, BeginsWithInitializer, have_own_names, have_own_volumes, is_bulk, is_command, is_end, is_fail, is_process, is_volume, is_who, records_of, weight, weight_of}
+use Rattle.script.specs.Forms.{ArePools, BeginsWithInitializer, have_own_names, have_own_volumes, is_bulk, is_command}
+use Rattle.script.specs.Forms.{is_end, is_fail, is_process, is_volume, is_who, records_of, weight, weight_of}
 use Rattle.script.specs.Plans.{Plan, ProcessPlan}
 use Rattle.script.specs.declared.commands.Command.{Command}
 use Rattle.script.specs.declared.drafts.Stage.{Stage}
@@ -14,8 +15,8 @@ use Rattle.script.specs.declared.plan.Print.{Print}
 use Rattle.script.specs.declared.plan.Print.TheVariants as print
 use Rattle.script.specs.declared.plan.VolumeLine.{VolumeLine}
 
--- what may stand next; the parts of the plan so far; of the process whose commands stand next, or stood last, for whom it
--- runs and its commands before its end; and how many commands came in all, an await counted as its tries
+-- what may stand next; the parts of the plan so far; of the process whose commands stand next, or stood last, for whom
+-- it runs and its commands before its end; and how many commands came in all, an await counted as its tries
 pub record DraftPlan : Type 0 where
   pub stage : Stage
   pub processors : ℕ

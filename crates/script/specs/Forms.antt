@@ -1,5 +1,6 @@
 -- What each script keeps: its numbers are in their ranges, and each volume that it names is one of its own (own).
-use Rattle.std.specs.Prelude.{◌≡◌, ℕ, ◌+◌, ◌≤◌, Bool, true, false, not, ◌&&◌, ◌==◌, nat_le, nat_lt, List, [], ◌∷◌, length, sum_by, Option, Some, None, codes}
+use Rattle.std.specs.Prelude.{◌≡◌, ℕ, ◌+◌, ◌≤◌, Bool, true, false, not, ◌&&◌, ◌==◌, nat_le, nat_lt, List, [], ◌∷◌}
+use Rattle.std.specs.Prelude.{length, sum_by, Option, Some, None, codes}
 use Rattle.std.specs.List.{list_all, list_any}
 use Rattle.std.specs.Str.{bytes_eq}
 use Rattle.std.specs.Int.RustNames.{unsigned_abs}
@@ -46,7 +47,8 @@ is_command volumes (command.Terminate number) = nat_le number 255
 is_command volumes (command.Read number offset) = is_place number offset
 is_command volumes (command.Write number offset word) = is_place number offset && is_word word
 is_command volumes (command.Add number offset word) = is_place number offset && is_word word
-is_command volumes (command.Await number offset word tries) = is_place number offset && (is_word word && is_from 1 100000 tries)
+is_command volumes (command.Await number offset word tries) = is_place number offset
+    && (is_word word && is_from 1 100000 tries)
 is_command volumes (command.Acl path row mode) = is_path path && is_row row
 is_command volumes (command.Length path pages) = is_path path && is_from 1 256 pages
 is_command volumes (command.Truncate path words) = is_path path && nat_le words 262144
@@ -85,7 +87,8 @@ BeginsWithInitializer [] = ⊥
 BeginsWithInitializer (x ∷ xs) = x.who ≡ record { person = codes "Initializer"; project = default_project }
 
 abbrev pub ArePools : List ℕ → Type 0
-ArePools (four ∷ sixteen ∷ sixty_four ∷ most ∷ []) = (12 ≤ four) × (1 ≤ sixteen) × (1 ≤ sixty_four) × (1 ≤ most) × (four + sixteen + sixty_four + most ≤ 1024)
+ArePools (four ∷ sixteen ∷ sixty_four ∷ most ∷ []) = (12 ≤ four) × (1 ≤ sixteen) × (1 ≤ sixty_four) × (1 ≤ most)
+    × (four + sixteen + sixty_four + most ≤ 1024)
 ArePools _ = ⊥
 
 unfoldable pub is_volume : VolumeLine → Bool

@@ -1,5 +1,6 @@
 -- The script of some bytes, or the first refusal (own).
-use Rattle.std.specs.Prelude.{◌≡◌, ℕ, ◌+◌, Bool, true, false, ◌==◌, if◌then◌else◌, List, [], ◌∷◌, fold, slice_index_or, Result, Ok, Err}
+use Rattle.std.specs.Prelude.{◌≡◌, ℕ, ◌+◌, Bool, true, false, ◌==◌, if◌then◌else◌, List, [], ◌∷◌, fold, slice_index_or}
+use Rattle.std.specs.Prelude.{Result, Ok, Err}
 use Rattle.script.specs.Drafts.{DraftPlan, blank, plan_of}
 use Rattle.script.specs.Fields.{lines_of, fields_of, is_printable}
 use Rattle.script.specs.Heads.{line_at}

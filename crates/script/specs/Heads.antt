@@ -1,11 +1,14 @@
--- What each line adds to the draft of a script, and why it is refused (own). A line is its word and the fields after it.
-use Rattle.std.specs.Prelude.{ℕ, ◌+◌, Bool, true, not, ◌||◌, nat_le, nat_lt, if◌then◌else◌, List, [], ◌∷◌, ◌++◌, length, sum_by, Result, Ok, Err, codes}
+-- What each line adds to the draft of a script, and why it is refused (own). A line is its word and the fields after
+-- it.
+use Rattle.std.specs.Prelude.{ℕ, ◌+◌, Bool, true, not, ◌||◌, nat_le, nat_lt, if◌then◌else◌, List, [], ◌∷◌, ◌++◌}
+use Rattle.std.specs.Prelude.{length, sum_by, Result, Ok, Err, codes}
 use Rattle.std.specs.List.{list_any}
 use Rattle.std.specs.Str.{bytes_eq}
 use Rattle.script.specs.Commands.{command_of}
 use Rattle.script.specs.Drafts.{DraftPlan, initializer_who}
 use Rattle.script.specs.Forms.{is_before, is_end, records_of, weight}
-use Rattle.script.specs.Lines.{◌>>=◌, only_if, no_fields, one_field, two_fields, three_fields, six_fields, number_in, who_in, print_in, is_write_in, volume_in, new_name_in, call_in}
+use Rattle.script.specs.Lines.{◌>>=◌, only_if, no_fields, one_field, two_fields, three_fields, six_fields, number_in}
+use Rattle.script.specs.Lines.{who_in, print_in, is_write_in, volume_in, new_name_in, call_in}
 use Rattle.script.specs.declared.commands.Command.{Command}
 use Rattle.script.specs.declared.drafts.Stage.{Stage}
 use Rattle.script.specs.declared.drafts.Stage.TheVariants as stage
@@ -22,7 +25,14 @@ machine_line d fields = do
   sixteen ← number_in 1 1024 f.3
   sixty_four ← number_in 1 1024 f.4
   most ← number_in 1 1024 f.5
-  only_if cause.Many (nat_le (four + sixteen + sixty_four + most) 1024) (record d { stage = stage.Quota; processors = processors; frames = frames; pools = four ∷ sixteen ∷ sixty_four ∷ most ∷ [] })
+  only_if cause.Many (nat_le (four + sixteen + sixty_four + most) 1024)
+      (record d {
+        stage = stage.Quota;
+        processors = processors;
+        frames = frames;
+        pools = four ∷ sixteen ∷ sixty_four
+            ∷ most ∷ [];
+      })
 
 -- `quota Q`
 unfoldable pub quota_line : DraftPlan → List (List ℕ) → Result DraftPlan Cause
@@ -42,7 +52,12 @@ volume_line d fields = do
   name ← new_name_in d.volumes f.0
   records ← number_in 1 16384 f.1
   entries ← number_in 1 4097 f.2
-  if is_volume_too_many d records then Err cause.Many else Ok (record d { stage = stage.Volumes; volumes = d.volumes ++ record { name = name; records = records; entries = entries } ∷ [] })
+  if is_volume_too_many d records then Err cause.Many else Ok
+      (record d {
+        stage = stage.Volumes;
+        volumes = d.volumes
+            ++ record { name = name; records = records; entries = entries } ∷ [];
+      })
 
 -- `print MODE`
 unfoldable pub print_line : DraftPlan → List (List ℕ) → Result DraftPlan Cause
@@ -67,7 +82,11 @@ fail_line d fields = do
   volume ← volume_in d.volumes f.0
   write ← is_write_in f.1
   call ← call_in f.2
-  only_if cause.Many (nat_lt (length d.fails) 100) (record d { stage = stage.Fails; fails = d.fails ++ record { volume = volume; write = write; number = call.0; onward = call.1 } ∷ [] })
+  only_if cause.Many (nat_lt (length d.fails) 100) (record d {
+    stage = stage.Fails;
+    fails = d.fails ++ record
+        { volume = volume; write = write; number = call.0; onward = call.1 } ∷ [];
+  })
 
 -- `initializer`: its commands stand next
 unfoldable pub initializer_line : DraftPlan → List (List ℕ) → Result DraftPlan Cause
@@ -84,7 +103,14 @@ process_line d fields = do
 
 -- a command, with which so many came in all; at the end the process is whole
 abbrev pub with_command : DraftPlan → ℕ → Command → DraftPlan
-with_command d used c = if is_end c then record d { stage = stage.Processes; processes = d.processes ++ record { who = d.who; commands = d.commands ++ c ∷ [] } ∷ []; commands = []; used = used } else record d { commands = d.commands ++ c ∷ []; used = used }
+with_command d used c = if is_end c then record d {
+  stage = stage.Processes;
+  processes = d.processes
+      ++ record { who = d.who; commands = d.commands ++ c ∷ [] } ∷ [];
+  commands = [];
+  used = used;
+}
+    else record d { commands = d.commands ++ c ∷ []; used = used }
 
 -- the command that was read comes next; at most 100,000 in all
 abbrev pub added : DraftPlan → Result Command Cause → Result DraftPlan Cause
@@ -100,19 +126,22 @@ unfoldable pub after_process : DraftPlan → List ℕ → List (List ℕ) → Re
 after_process d word fields = if bytes_eq word (codes "process") then process_line d fields else Err cause.Order
 
 unfoldable pub after_fail : DraftPlan → List ℕ → List (List ℕ) → Result DraftPlan Cause
-after_fail d word fields = if bytes_eq word (codes "fail") then fail_line d fields else if bytes_eq word (codes "initializer") then initializer_line d fields else after_process d word fields
+after_fail d word fields = if bytes_eq word (codes "fail") then fail_line d fields
+    else if bytes_eq word (codes "initializer") then initializer_line d fields else after_process d word fields
 
 unfoldable pub after_bulk : DraftPlan → List ℕ → List (List ℕ) → Result DraftPlan Cause
 after_bulk d word fields = if bytes_eq word (codes "bulk") then bulk_line d fields else after_fail d word fields
 
 unfoldable pub after_volume : DraftPlan → List ℕ → List (List ℕ) → Result DraftPlan Cause
-after_volume d word fields = if bytes_eq word (codes "volume") then volume_line d fields else if bytes_eq word (codes "print") then print_line d fields else after_bulk d word fields
+after_volume d word fields = if bytes_eq word (codes "volume") then volume_line d fields
+    else if bytes_eq word (codes "print") then print_line d fields else after_bulk d word fields
 
 -- a line that isn't skipped, by what may stand there
 unfoldable pub line_at : Stage → DraftPlan → List ℕ → List (List ℕ) → Result DraftPlan Cause
 line_at stage.Machine d word fields = if bytes_eq word (codes "machine") then machine_line d fields else Err cause.Order
 line_at stage.Quota d word fields = if bytes_eq word (codes "quota") then quota_line d fields else Err cause.Order
-line_at stage.FirstVolume d word fields = if bytes_eq word (codes "volume") then volume_line d fields else Err cause.Order
+line_at stage.FirstVolume d word fields = if bytes_eq word (codes "volume") then volume_line d fields
+    else Err cause.Order
 line_at stage.Volumes d word fields = after_volume d word fields
 line_at stage.Bulks d word fields = after_bulk d word fields
 line_at stage.Fails d word fields = after_fail d word fields

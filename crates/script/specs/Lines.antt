@@ -1,5 +1,6 @@
 -- What each kind of line says, and why it is refused (own). A line is the list of its fields.
-use Rattle.std.specs.Prelude.{ℕ, ◌+◌, ◌-◌, Bool, true, false, ◌==◌, if◌then◌else◌, List, [], ◌∷◌, length, take, slice_index_or, Option, Some, None, Result, Ok, Err, codes, ℤ, pos, neg_ℤ}
+use Rattle.std.specs.Prelude.{ℕ, ◌+◌, ◌-◌, Bool, true, false, ◌==◌, if◌then◌else◌, List, [], ◌∷◌, length, take}
+use Rattle.std.specs.Prelude.{slice_index_or, Option, Some, None, Result, Ok, Err, codes, ℤ, pos, neg_ℤ}
 use Rattle.std.specs.List.{list_any}
 use Rattle.std.specs.Str.{bytes_eq}
 use Rattle.mnames.specs.Names.{is_name}
@@ -83,14 +84,19 @@ path_in text = found_or cause.Path (path_of text)
 
 -- `n` nothing, `r` to read, `w` to write, `rw` both
 unfoldable pub mode_in : List ℕ → Result Mode Cause
-mode_in text = if bytes_eq text (codes "n") then Ok mode.Null else if bytes_eq text (codes "r") then Ok mode.Read else if bytes_eq text (codes "w") then Ok mode.Write else if bytes_eq text (codes "rw") then Ok mode.Both else Err cause.Name
+mode_in text = if bytes_eq text (codes "n") then Ok mode.Null else if bytes_eq text (codes "r") then Ok mode.Read
+    else if bytes_eq text (codes "w") then Ok mode.Write else if bytes_eq text (codes "rw") then Ok mode.Both
+    else Err cause.Name
 
 unfoldable pub print_in : List ℕ → Result Print Cause
-print_in text = if bytes_eq text (codes "short") then Ok print.Short else if bytes_eq text (codes "replies") then Ok print.Replies else if bytes_eq text (codes "all") then Ok print.All else Err cause.Name
+print_in text = if bytes_eq text (codes "short") then Ok print.Short
+    else if bytes_eq text (codes "replies") then Ok print.Replies else if bytes_eq text (codes "all") then Ok print.All
+    else Err cause.Name
 
 -- whether a call is a write
 unfoldable pub is_write_in : List ℕ → Result Bool Cause
-is_write_in text = if bytes_eq text (codes "read") then Ok false else if bytes_eq text (codes "write") then Ok true else Err cause.Name
+is_write_in text = if bytes_eq text (codes "read") then Ok false else if bytes_eq text (codes "write") then Ok true
+    else Err cause.Name
 
 -- the number of the first volume of that name, where the volumes are counted from n
 unfoldable pub number_from : ℕ → List VolumeLine → List ℕ → Option ℕ
@@ -112,7 +118,8 @@ new_name_in volumes text = do
 -- an amount of quota: `+N`, or `-N`
 unfoldable pub amount_in : List ℕ → Result ℤ Cause
 amount_in [] = Err cause.Number
-amount_in (sign ∷ digits) = if sign == 43 then (number_in 1 16384 digits >>= λ n. Ok (pos n)) else if sign == 45 then (number_in 1 16384 digits >>= λ n. Ok (neg_ℤ (pos n))) else Err cause.Number
+amount_in (sign ∷ digits) = if sign == 43 then (number_in 1 16384 digits >>= λ n. Ok (pos n))
+    else if sign == 45 then (number_in 1 16384 digits >>= λ n. Ok (neg_ℤ (pos n))) else Err cause.Number
 
 -- whether a text ends with `+`
 abbrev pub ends_with_plus : List ℕ → Bool
@@ -120,4 +127,5 @@ ends_with_plus text = slice_index_or text (length text - 1) 0 == 43
 
 -- the number of a call that fails, and whether all after it do: `N`, or `N+`
 unfoldable pub call_in : List ℕ → Result (ℕ × Bool) Cause
-call_in text = if ends_with_plus text then (number_in 1 1000000 (take (length text - 1) text) >>= λ n. Ok (n, true)) else (number_in 1 1000000 text >>= λ n. Ok (n, false))
+call_in text = if ends_with_plus text then (number_in 1 1000000 (take (length text - 1) text) >>= λ n. Ok (n, true))
+    else (number_in 1 1000000 text >>= λ n. Ok (n, false))

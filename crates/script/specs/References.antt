@@ -8,7 +8,9 @@ use Rattle.script.specs.declared.commands.Reference.{Reference}
 -- none for a tree command; a try of an `await` is a read
 abbrev pub reference_of : Command → Option Reference
 reference_of (command.Read number offset) = Some (record { number = number; offset = offset; kind = kind.Read })
-reference_of (command.Write number offset word) = Some (record { number = number; offset = offset; kind = kind.Write word })
+reference_of (command.Write number offset word) = Some
+    (record { number = number; offset = offset; kind = kind.Write word })
 reference_of (command.Add number offset word) = Some (record { number = number; offset = offset; kind = kind.Add word })
-reference_of (command.Await number offset word tries) = Some (record { number = number; offset = offset; kind = kind.Read })
+reference_of (command.Await number offset word tries) =
+    Some (record { number = number; offset = offset; kind = kind.Read })
 reference_of _ = None

@@ -45,7 +45,8 @@ onward_text true = codes "+"
 onward_text false = []
 
 unfoldable pub fail_text : List VolumeLine → Fail → List ℕ
-fail_text volumes f = codes "fail " ++ (volume_name volumes f.volume ++ (codes " " ++ (call_text f.write ++ (codes " " ++ (decimal f.number ++ onward_text f.onward)))))
+fail_text volumes f = codes "fail " ++ (volume_name volumes f.volume
+    ++ (codes " " ++ (call_text f.write ++ (codes " " ++ (decimal f.number ++ onward_text f.onward)))))
 
 -- the first line of a process, which says for whom it runs; whether it is the initializer
 unfoldable pub begin_text : Bool → Who → List ℕ
@@ -70,7 +71,10 @@ processes_text volumes initializer (x ∷ xs) = process_text volumes initializer
 
 -- what stands before the processes
 unfoldable pub head_text : Plan → List ℕ
-head_text p = ended (machine_text p.processors p.frames p.pools) ++ (ended (quota_text p.quota) ++ (flat_map (λ v. ended (volume_text v)) p.volumes ++ (ended (print_text p.print) ++ (flat_map (λ b. ended (bulk_text p.volumes b)) p.bulks ++ flat_map (λ f. ended (fail_text p.volumes f)) p.fails))))
+head_text p = ended (machine_text p.processors p.frames p.pools)
+    ++ (ended (quota_text p.quota) ++ (flat_map (λ v. ended (volume_text v)) p.volumes
+    ++ (ended (print_text p.print) ++ (flat_map (λ b. ended (bulk_text p.volumes b)) p.bulks
+    ++ flat_map (λ f. ended (fail_text p.volumes f)) p.fails))))
 
 unfoldable pub script_text : Plan → List ℕ
 script_text p = head_text p ++ processes_text p.volumes p.initializer p.processes

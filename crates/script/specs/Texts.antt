@@ -36,20 +36,29 @@ sign_text false = codes "+"
 unfoldable pub reference_text : Command → List ℕ
 reference_text (command.Terminate number) = codes "terminate " ++ decimal number
 reference_text (command.Read number offset) = codes "read " ++ (decimal number ++ (codes " " ++ decimal offset))
-reference_text (command.Write number offset word) = codes "write " ++ (decimal number ++ (codes " " ++ (decimal offset ++ (codes " " ++ octal_digits 12 word))))
-reference_text (command.Add number offset word) = codes "add " ++ (decimal number ++ (codes " " ++ (decimal offset ++ (codes " " ++ octal_digits 12 word))))
-reference_text (command.Await number offset word tries) = codes "await " ++ (decimal number ++ (codes " " ++ (decimal offset ++ (codes " " ++ (octal_digits 12 word ++ (codes " " ++ decimal tries))))))
+reference_text (command.Write number offset word) = codes "write "
+    ++ (decimal number ++ (codes " " ++ (decimal offset ++ (codes " " ++ octal_digits 12 word))))
+reference_text (command.Add number offset word) = codes "add "
+    ++ (decimal number ++ (codes " " ++ (decimal offset ++ (codes " " ++ octal_digits 12 word))))
+reference_text (command.Await number offset word tries) = codes "await "
+    ++ (decimal number ++ (codes " " ++ (decimal offset
+    ++ (codes " " ++ (octal_digits 12 word ++ (codes " " ++ decimal tries))))))
 reference_text command.End = codes "end"
 reference_text _ = []
 
 unfoldable pub command_text : List VolumeLine → Command → List ℕ
-command_text volumes (command.MkDir path volume) = codes "mkdir " ++ (path_text path ++ (codes " " ++ volume_name volumes volume))
-command_text volumes (command.MkSeg path pages volume) = codes "mkseg " ++ (path_text path ++ (codes " " ++ (decimal pages ++ (codes " " ++ volume_name volumes volume))))
+command_text volumes (command.MkDir path volume) = codes "mkdir "
+    ++ (path_text path ++ (codes " " ++ volume_name volumes volume))
+command_text volumes (command.MkSeg path pages volume) = codes "mkseg "
+    ++ (path_text path ++ (codes " " ++ (decimal pages ++ (codes " " ++ volume_name volumes volume))))
 command_text volumes (command.Initiate path) = codes "initiate " ++ path_text path
-command_text volumes (command.Acl path row mode) = codes "acl " ++ (path_text path ++ (codes " " ++ (row_text row ++ (codes " " ++ mode_text mode))))
+command_text volumes (command.Acl path row mode) = codes "acl "
+    ++ (path_text path ++ (codes " " ++ (row_text row ++ (codes " " ++ mode_text mode))))
 command_text volumes (command.Length path pages) = codes "length " ++ (path_text path ++ (codes " " ++ decimal pages))
-command_text volumes (command.Truncate path words) = codes "truncate " ++ (path_text path ++ (codes " " ++ decimal words))
+command_text volumes (command.Truncate path words) = codes "truncate "
+    ++ (path_text path ++ (codes " " ++ decimal words))
 command_text volumes (command.Delete path) = codes "delete " ++ path_text path
-command_text volumes (command.Move path amount) = codes "move " ++ (path_text path ++ (codes " " ++ (sign_text (is_negative amount) ++ decimal (unsigned_abs amount))))
+command_text volumes (command.Move path amount) = codes "move "
+    ++ (path_text path ++ (codes " " ++ (sign_text (is_negative amount) ++ decimal (unsigned_abs amount))))
 command_text volumes (command.Status path) = codes "status " ++ path_text path
 command_text volumes c = reference_text c

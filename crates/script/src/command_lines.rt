@@ -1,5 +1,7 @@
 ghost use Rattle.std.specs.Prelude.{◌≡◌, true};
-ghost use Rattle.script.specs.Commands.{mkdir_of, mkseg_of, initiate_of, terminate_of, read_of, write_of, add_of, await_of, acl_of, length_of, truncate_of, delete_of, move_of, status_of, end_of, other_command_of, reference_or, command_of};
+ghost use Rattle.script.specs.Commands.{mkdir_of, mkseg_of, initiate_of, terminate_of, read_of, write_of, add_of};
+ghost use Rattle.script.specs.Commands.{await_of, acl_of, length_of, truncate_of, delete_of, move_of, status_of};
+ghost use Rattle.script.specs.Commands.{end_of, other_command_of, reference_or, command_of};
 ghost use Rattle.script.specs.Drafts.{is_inside};
 ghost use Rattle.script.specs.Fields.{fields_of};
 ghost use Rattle.script.specs.Heads.{added, command_line};

@@ -1,10 +1,13 @@
-ghost use Rattle.std.specs.Prelude.{◌≡◌, ◌+◌, ◌<◌, ◌≤◌, false, true, IfOk, Ok, OnOk, length, sum_by, vec_capacity, vec_len};
+ghost use Rattle.std.specs.Prelude.{◌≡◌, ◌+◌, ◌<◌, ◌≤◌, false, true, IfOk, Ok, OnOk, length, sum_by, vec_capacity};
+ghost use Rattle.std.specs.Prelude.{vec_len};
 ghost use Rattle.std.specs.List.{list_any};
 ghost use Rattle.script.specs.Drafts.{blank, initializer_who, has_volume, is_early, is_head, is_inside, plan_of};
 ghost use Rattle.script.specs.Fields.{fields_of, is_printable};
 ghost use Rattle.script.specs.Forms.{is_before, is_command, is_end, is_who, records_of, weight};
 ghost use Rattle.script.specs.Grammar.{text_after, whole_or_missing};
-ghost use Rattle.script.specs.Heads.{machine_line, quota_line, volume_line, print_line, bulk_line, fail_line, initializer_line, process_line, after_process, after_fail, after_bulk, after_volume, added, line_at};
+ghost use Rattle.script.specs.Heads.{machine_line, quota_line, volume_line, print_line, bulk_line, fail_line};
+ghost use Rattle.script.specs.Heads.{initializer_line, process_line, after_process, after_fail, after_bulk};
+ghost use Rattle.script.specs.Heads.{after_volume, added, line_at};
 ghost use Rattle.script.specs.Lines.{volume_in};
 ghost use Rattle.script.specs.Readers.{Gives, Steps};
 ghost use Rattle.script.specs.declared.commands.Command.TheVariants.{End};

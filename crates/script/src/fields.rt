@@ -142,7 +142,8 @@ pub(crate) fn four_fields(line: &[u8]) -> Result<(&[u8], &[u8], &[u8], &[u8]), C
 /// The fields of a line that has six.
 #[tactic(auto, unfolding(crate::specs::Lines::six_fields))]
 pub(crate) fn six_fields(line: &[u8]) -> Result<(&[u8], &[u8], &[u8], &[u8], &[u8], &[u8]), Cause>
-    ensures { Gives (λ f. (f.0.now, f.1.now, f.2.now, f.3.now, f.4.now, f.5.now)) result (six_fields (fields_of line.now)) }
+    ensures { Gives (λ f. (f.0.now, f.1.now, f.2.now, f.3.now, f.4.now, f.5.now)) result
+        (six_fields (fields_of line.now)) }
 {
     let (first, rest) = split_field(line);
     if first.is_empty() {

@@ -1,6 +1,8 @@
 ghost use Rattle.std.specs.Prelude.{◌≡◌, ◌++◌, flat_map, IfOk, OnOk, Ok, string_bytes};
 ghost use Rattle.script.specs.Grammar.{script_of};
-ghost use Rattle.script.specs.Scripts.{begin_text, bulk_text, commands_text, ended, fail_text, head_text, machine_text, print_text, process_text, processes_text, script_text, volume_text};
+ghost use Rattle.script.specs.Scripts.{begin_text, bulk_text, commands_text, ended, fail_text, head_text};
+ghost use Rattle.script.specs.Scripts.{machine_text, print_text, process_text, processes_text, script_text};
+ghost use Rattle.script.specs.Scripts.{volume_text};
 ghost use Rattle.script.specs.Forms.{IsPlan};
 ghost use Rattle.script.specs.Plans.{Plan};
 
@@ -34,7 +36,8 @@ fn push_machine(
 /// Appends the lines of the volumes.
 #[tactic(auto, unfolding(crate::specs::Scripts::volume_text))]
 fn push_volumes(out: &mut String, volumes: &[VolumeLine]) -> Result<(), AllocError>
-    ensures { OnOk result (string_bytes out.new ≡ string_bytes out.old ++ flat_map (λ v. ended (volume_text v)) volumes.now) }
+    ensures { OnOk result (string_bytes out.new ≡ string_bytes out.old
+        ++ flat_map (λ v. ended (volume_text v)) volumes.now) }
 {
     for volume in volumes {
         let name = &volume.name;
@@ -61,7 +64,8 @@ fn push_print(out: &mut String, print: Print) -> Result<(), AllocError>
 /// Appends the lines of the fast stores.
 #[tactic(auto, unfolding(crate::specs::Scripts::bulk_text))]
 fn push_bulks(out: &mut String, volumes: &[VolumeLine], bulks: &[Bulk]) -> Result<(), AllocError>
-    ensures { OnOk result (string_bytes out.new ≡ string_bytes out.old ++ flat_map (λ b. ended (bulk_text volumes.now b)) bulks.now) }
+    ensures { OnOk result (string_bytes out.new ≡ string_bytes out.old
+        ++ flat_map (λ b. ended (bulk_text volumes.now b)) bulks.now) }
 {
     for bulk in bulks {
         let name = volume_name(volumes, bulk.volume);
@@ -74,7 +78,8 @@ fn push_bulks(out: &mut String, volumes: &[VolumeLine], bulks: &[Bulk]) -> Resul
 /// Appends the lines of the calls that fail.
 #[tactic(auto, unfolding(crate::specs::Scripts::fail_text))]
 fn push_fails(out: &mut String, volumes: &[VolumeLine], fails: &[Fail]) -> Result<(), AllocError>
-    ensures { OnOk result (string_bytes out.new ≡ string_bytes out.old ++ flat_map (λ f. ended (fail_text volumes.now f)) fails.now) }
+    ensures { OnOk result (string_bytes out.new ≡ string_bytes out.old
+        ++ flat_map (λ f. ended (fail_text volumes.now f)) fails.now) }
 {
     for fail in fails {
         let name = volume_name(volumes, fail.volume);
@@ -136,7 +141,8 @@ fn push_process(
     initializer: bool,
     process: &Process,
 ) -> Result<(), AllocError>
-    ensures { OnOk result (string_bytes out.new ≡ string_bytes out.old ++ process_text volumes.now initializer process.now) }
+    ensures { OnOk result (string_bytes out.new ≡ string_bytes out.old
+        ++ process_text volumes.now initializer process.now) }
 {
     push_begin(out, initializer, process.who())?;
     push_commands(out, volumes, process.commands())
@@ -149,7 +155,8 @@ fn push_processes(
     initializer: bool,
     processes: &[Process],
 ) -> Result<(), AllocError>
-    ensures { OnOk result (string_bytes out.new ≡ string_bytes out.old ++ processes_text volumes.now initializer processes.now) }
+    ensures { OnOk result (string_bytes out.new ≡ string_bytes out.old
+        ++ processes_text volumes.now initializer processes.now) }
 {
     let mut first = initializer;
     for process in processes {
@@ -168,8 +175,8 @@ fn push_script(out: &mut String, script: &Script) -> Result<(), AllocError>
     push_processes(out, &script.volumes, script.initializer, &script.processes)
 }
 
-/// The canonical text of a script (own): one space between fields, no leading zeros, words of 12 octal digits, and a line
-/// that says what is printed, but no line that is skipped.
+/// The canonical text of a script (own): one space between fields, no leading zeros, words of 12 octal digits, and a
+/// line that says what is printed, but no line that is skipped.
 #[tactic(auto, using(crate::proofs::ScriptTexts::text_read_again, std::proofs::lemmas::Grind::common_steps))]
 pub fn script_text(alloc: Global, script: &Script) -> Result<Vec<u8>, NoMemory>
     ensures text { IfOk result (λ text. text.items ≡ script_text script.now) }

@@ -3,7 +3,8 @@ ghost use Rattle.mnames.specs.Names.{is_name};
 ghost use Rattle.mword.specs.Octal.{octal_value};
 ghost use Rattle.script.specs.Fields.{decimal_value, number_of};
 ghost use Rattle.script.specs.Forms.{is_from, is_path, is_row, is_who, is_word};
-ghost use Rattle.script.specs.Lines.{number_in, word_in, name_in, who_in, row_in, path_in, mode_in, print_in, is_write_in, amount_in, call_in};
+ghost use Rattle.script.specs.Lines.{number_in, word_in, name_in, who_in, row_in, path_in, mode_in, print_in};
+ghost use Rattle.script.specs.Lines.{is_write_in, amount_in, call_in};
 ghost use Rattle.script.specs.Readers.{Gives};
 
 use crate::plan::Print;
@@ -29,8 +30,8 @@ fn decimal(text: &[u8]) -> Option<u64>
     Some(value)
 }
 
-/// The number that a text is: 1 to 10 decimal digits, leading zeros allowed, of at most 4294967295 (own). `None` exactly
-/// where the text is no such number.
+/// The number that a text is: 1 to 10 decimal digits, leading zeros allowed, of at most 4294967295 (own). `None`
+/// exactly where the text is no such number.
 #[tactic(auto, unfolding(crate::specs::Fields::number_of))]
 pub fn read_number(text: &[u8]) -> Option<u32>
     ensures { result ≡ number_of text.now }

@@ -1,15 +1,18 @@
 -- A segment becomes active, or inactive: what is kept.
-use Rattle.std.proofs.Common.{◌≡◌, ◌≢◌, ℕ, suc, zero, ◌<◌, ◌≤◌, List, [], ◌∷◌, ◌++◌, length, Option, None, Some, is_some, All, replicate, count_by}
+use Rattle.std.proofs.Common.{◌≡◌, ◌≢◌, ℕ, suc, zero, ◌<◌, ◌≤◌, List, [], ◌∷◌, ◌++◌, length, Option, None, Some}
+use Rattle.std.proofs.Common.{is_some, All, replicate, count_by}
 use Rattle.std.proofs.Common.{refl, sym, ap, subst, ◌∙◌, arith, set, get_or, inl, inr}
 use Rattle.std.proofs.lemmas.Bool.{cases_eq, cases_lt}
-use Rattle.std.proofs.lemmas.List.{get_or-set_same, get_or-set_other, get_or_past, get_or-replicate, length-set, length-append, length-replicate}
+use Rattle.std.proofs.lemmas.List.{get_or-set_same, get_or-set_other, get_or_past, get_or-replicate, length-set}
+use Rattle.std.proofs.lemmas.List.{length-append, length-replicate}
 use Rattle.std.proofs.lemmas.List.Elements.{All-get_or}
 use Rattle.std.proofs.lemmas.Option.{none-some, same_Some}
 use Rattle.page_table.specs.declared.Ptw.{Ptw}
 use Rattle.page_table.specs.declared.Ptw.TheVariants.{Null, Out, Here, Leaving}
 use Rattle.page_table.specs.PageTable.{ptw_at}
 use Rattle.trailers.specs.Trailer.{trailers_of, leads_to}
-use Rattle.active_segs.specs.Active.{ActiveSegs, uid_in, entry_at, uid_at, table_at, activated, deactivated, IsAway, IsTree}
+use Rattle.active_segs.specs.Active.{ActiveSegs, uid_in, entry_at, uid_at, table_at, activated, deactivated, IsAway}
+use Rattle.active_segs.specs.Active.{IsTree}
 use Rattle.active_segs.specs.Victim.{hand_past}
 use Rattle.page_control.specs.declared.Home.{Home}
 use Rattle.page_control.specs.Plain.{Plain, bindings, binding_at}
@@ -28,7 +31,8 @@ pub table_zero : (places : List (Option ℕ)) → table_for places 0 ≡ []
 unfolding table_for
 table_zero places = refl
 
-pub table_suc : (places : List (Option ℕ)) (n : ℕ) → table_for places (suc n) ≡ table_for places n ++ filed_word (get_or places n None) ∷ []
+pub table_suc : (places : List (Option ℕ)) (n : ℕ) → table_for places (suc n) ≡ table_for places n
+    ++ filed_word (get_or places n None) ∷ []
 unfolding table_for
 table_suc places n = refl
 
@@ -42,13 +46,17 @@ table_length places (suc n) =
     omega (arith, is, long, ih, one)
 
 -- word p of it, where the file map names no page past its end
-pub table_word : (places : List (Option ℕ)) (n p : ℕ) → p < n → ptw_at (table_for places n) p ≡ filed_word (get_or places p None)
+pub table_word : (places : List (Option ℕ)) (n p : ℕ) → p < n → ptw_at (table_for places n) p
+    ≡ filed_word (get_or places p None)
 table_word places zero p lt = absurd (omega (arith, lt))
 table_word places (suc n) p lt = elim (cases_lt p n) [
-  | inl less ↦ ap (λ (t : List Ptw). ptw_at t p) (table_suc places n) ∙ in_front (table_for places n) _ p (let long = table_length places n in omega (arith, long, less)) ∙ table_word places n p less
+  | inl less ↦ ap (λ (t : List Ptw). ptw_at t p) (table_suc places n)
+      ∙ in_front (table_for places n) _ p (let long = table_length places n in omega (arith, long, less))
+      ∙ table_word places n p less
   | inr past ↦
       (let same : p ≡ n = omega (arith, lt, past) in
-      ap (λ (t : List Ptw). ptw_at t p) (table_suc places n) ∙ at_end (table_for places n) _ p (let long = table_length places n in omega (arith, long, same))
+      ap (λ (t : List Ptw). ptw_at t p) (table_suc places n)
+      ∙ at_end (table_for places n) _ p (let long = table_length places n in omega (arith, long, same))
       ∙ ap (λ (k : ℕ). filed_word (get_or places k None)) (sym same))
 ]
   where
@@ -63,11 +71,13 @@ table_word places (suc n) p lt = elim (cases_lt p n) [
     at_end (x ∷ t) w zero e = absurd (omega (arith, e))
     at_end (x ∷ t) w (suc p) e = at_end t w p (omega (arith, e))
 
-pub filed_everywhere : (places : List (Option ℕ)) (n p : ℕ) → FitsIn places n → ptw_at (table_for places n) p ≡ filed_word (get_or places p None)
+pub filed_everywhere : (places : List (Option ℕ)) (n p : ℕ) → FitsIn places n → ptw_at (table_for places n) p
+    ≡ filed_word (get_or places p None)
 filed_everywhere places n p fits = elim (cases_lt p n) [
   | inl lt ↦ table_word places n p lt
   | inr past ↦
-      get_or_past (table_for places n) p Null (let long = table_length places n in omega (arith, long, past)) ∙ ap filed_word (sym (fits.none p past))
+      get_or_past (table_for places n) p Null (let long = table_length places n in omega (arith, long, past))
+      ∙ ap filed_word (sym (fits.none p past))
 ]
 
 filed_is : (place : Option ℕ) → (is_some place ≡ has_record (filed_word place)) × (frame_of (filed_word place) ≡ None)
@@ -94,15 +104,18 @@ map_filed places n fits = record {
 }
 
 -- a table by a file map is that of a segment that no frame has a page of
-pub table_filed : (bound : List (Option (ℕ × ℕ))) (uid n : ℕ) (places : List (Option ℕ)) → FitsIn places n → ((f p : ℕ) → binding_at bound f ≢ Some (uid, p))
+pub table_filed : (bound : List (Option (ℕ × ℕ))) (uid n : ℕ) (places : List (Option ℕ)) → FitsIn places n
+    → ((f p : ℕ) → binding_at bound f ≢ Some (uid, p))
     → IsTableOf bound uid (table_for places n)
 table_filed bound uid n places fits none = record {
   named = λ f p e. absurd (none f p e);
-  back = λ f p e. absurd (none-some f (sym (ap frame_of (filed_everywhere places n p fits) ∙ (filed_is (get_or places p None)).1) ∙ e));
+  back = λ f p e. absurd (none-some f (sym (ap frame_of (filed_everywhere places n p fits)
+      ∙ (filed_is (get_or places p None)).1) ∙ e));
 }
 
 -- another table of the same segment at the same home
-pub retied : (now : Plain) (uid : ℕ) (home : Home) (t u : List Ptw) → IsTied now uid home t → length u ≤ 256 → IsTableOf (bindings now.core) uid u
+pub retied : (now : Plain) (uid : ℕ) (home : Home) (t u : List Ptw) → IsTied now uid home t → length u ≤ 256
+    → IsTableOf (bindings now.core) uid u
     → IsMapOf (map_at now.vtocs home) u → IsTied now uid home u
 retied now uid home t u tie few table map = record {
   volume = tie.volume;
@@ -117,18 +130,23 @@ retied now uid home t u tie few table map = record {
 
 -- ---- a segment becomes active
 
-module _ (now : Plain) (ast : ActiveSegs) (links : Links) (place uid n : ℕ) (superior : Option ℕ) (home : Home) (k : IsKept now ast links)
-    (within : place < length ast.entries) (free : entry_at ast.entries place ≡ None) (inactive : IsInactive ast.entries uid)
-    (homed : uid_homed now.vtocs home ≡ Some uid) (fits : FitsIn (map_at now.vtocs home) n) (few : n ≤ 256) (long : length (table_at ast.tables place) ≡ n)
+module _ (now : Plain) (ast : ActiveSegs) (links : Links) (place uid n : ℕ) (superior : Option ℕ) (home : Home)
+    (k : IsKept now ast links)
+    (within : place < length ast.entries) (free : entry_at ast.entries place ≡ None)
+    (inactive : IsInactive ast.entries uid)
+    (homed : uid_homed now.vtocs home ≡ Some uid) (fits : FitsIn (map_at now.vtocs home) n) (few : n ≤ 256)
+    (long : length (table_at ast.tables place) ≡ n)
     (tree : IsTree (activated ast place uid superior).entries) where
   table_within : place < length ast.tables
   table_within = (let same = k.places in omega (arith, same, within))
 
   uid_here : uid_at (activated ast place uid superior).entries place ≡ Some uid
-  uid_here = ap uid_in (get_or-set_same ast.entries place (Some (record { uid = uid; superior = superior })) None within)
+  uid_here = ap uid_in (get_or-set_same ast.entries place (Some (record { uid = uid; superior = superior })) None
+      within)
 
   uid_there : (q : ℕ) → q ≢ place → uid_at (activated ast place uid superior).entries q ≡ uid_at ast.entries q
-  uid_there q ne = ap uid_in (get_or-set_other ast.entries place q (Some (record { uid = uid; superior = superior })) None ne)
+  uid_there q ne = ap uid_in (get_or-set_other ast.entries place q (Some (record { uid = uid; superior = superior }))
+      None ne)
 
   entry_there : (q : ℕ) → q ≢ place → entry_at (activated ast place uid superior).entries q ≡ entry_at ast.entries q
   entry_there q ne = get_or-set_other ast.entries place q (Some (record { uid = uid; superior = superior })) None ne
@@ -153,13 +171,16 @@ module _ (now : Plain) (ast : ActiveSegs) (links : Links) (place uid n : ℕ) (s
       table_filed (bindings now.core) uid n (map_at now.vtocs home) fits no_frame in
       let here : (q : ℕ) → q ≡ place → t ≡ table_at (set ast.tables place t) q =
       λ q same. sym (ap (table_at (set ast.tables place t)) same ∙ table_same ast.tables place t table_within) in
-      let there : (q : ℕ) → q ≢ place → table_at ast.tables q ≡ table_at (set ast.tables place t) q = λ q ne. sym (table_other ast.tables place q t ne) in
+      let there : (q : ℕ) → q ≢ place → table_at ast.tables q ≡ table_at (set ast.tables place t) q =
+      λ q ne. sym (table_other ast.tables place q t ne) in
       let size = table_length (map_at now.vtocs home) n in
       record {
         paged = record {
           tables = λ q u e. elim (cases_eq q place) [
-            | inl same ↦ subst (IsTableOf (bindings now.core) u) (here q same) (subst (λ (v : ℕ). IsTableOf (bindings now.core) v t) (its q u e same) its_table)
-            | inr ne ↦ subst (IsTableOf (bindings now.core) u) (there q ne) (k.paged.tables q u (sym (uid_there q ne) ∙ e))
+            | inl same ↦ subst (IsTableOf (bindings now.core) u) (here q same)
+                (subst (λ (v : ℕ). IsTableOf (bindings now.core) v t) (its q u e same) its_table)
+            | inr ne ↦ subst (IsTableOf (bindings now.core) u) (there q ne)
+                (k.paged.tables q u (sym (uid_there q ne) ∙ e))
           ];
           ties = λ q u h e is. elim (cases_eq q place) [
             | inl same ↦
@@ -167,36 +188,45 @@ module _ (now : Plain) (ast : ActiveSegs) (links : Links) (place uid n : ℕ) (s
                 let is' : IsHomeOf now.vtocs uid h = subst (λ (v : ℕ). IsHomeOf now.vtocs v h) (sym same_uid) is in
                 let same_home : home ≡ h = is'.only home homed in
                 let was : HasTable now uid h = k.paged.rest uid h inactive is' in
-                let map : IsMapOf (map_at now.vtocs h) t = subst (λ (x : Home). IsMapOf (map_at now.vtocs x) t) same_home (map_filed (map_at now.vtocs home) n fits) in
-                let tie : IsTied now uid h t = retied now uid h was.table t was.tie (omega (arith, size, few)) its_table map in
+                let map : IsMapOf (map_at now.vtocs h) t =
+                subst (λ (x : Home). IsMapOf (map_at now.vtocs x) t) same_home
+                (map_filed (map_at now.vtocs home) n fits) in
+                let tie : IsTied now uid h t = retied now uid h was.table t was.tie (omega (arith, size, few))
+                its_table map in
                 subst (IsTied now u h) (here q same) (subst (λ (v : ℕ). IsTied now v h t) same_uid tie))
             | inr ne ↦ subst (IsTied now u h) (there q ne) (k.paged.ties q u h (sym (uid_there q ne) ∙ e) is)
           ];
           rest = λ u h off is. k.paged.rest u h (record { nowhere = λ q e. off.nowhere q (still q u e) }) is;
           blank = λ q p e.
-              (let ne : q ≢ place = λ same. none-some uid (sym (ap uid_in e) ∙ ap (uid_at (activated ast place uid superior).entries) same ∙ uid_here) in
-              ap (λ (those : List Ptw). ptw_at those p) (sym (there q ne)) ∙ k.paged.blank q p (sym (entry_there q ne) ∙ e));
+              (let ne : q ≢ place = λ same. none-some uid
+              (sym (ap uid_in e) ∙ ap (uid_at (activated ast place uid superior).entries) same ∙ uid_here) in
+              ap (λ (those : List Ptw). ptw_at those p) (sym (there q ne))
+              ∙ k.paged.blank q p (sym (entry_there q ne) ∙ e));
           bound = λ f u p e. (let active = k.paged.bound f u p e in (active.0, still active.0 u active.1));
           started = λ f u p e.
               (let was = k.paged.started f u p e in
               record {
                 place = was.place;
                 active = still was.place u was.active;
-                out = ap (λ (those : List Ptw). is_out (ptw_at those p)) (sym (there was.place (elsewhere was.place u was.active))) ∙ was.out;
+                out = ap (λ (those : List Ptw). is_out (ptw_at those p))
+                    (sym (there was.place (elsewhere was.place u was.active))) ∙ was.out;
               });
           once = k.paged.once;
           filed = k.paged.filed;
         };
         tree = tree;
-        places = length-set ast.tables place t ∙ k.places ∙ sym (length-set ast.entries place (Some (record { uid = uid; superior = superior })));
+        places = length-set ast.tables place t ∙ k.places
+            ∙ sym (length-set ast.entries place (Some (record { uid = uid; superior = superior })));
         sized = sizes_kept ast.sizes ast.tables place t table_within (size ∙ sym long) k.sized;
         linked = record {
           exact = k.linked.exact;
           known = λ q m pl e.
-              (let was = k.linked.known q m pl e in record { uid = was.uid; active = still pl was.uid was.active; known_as = was.known_as });
+              (let was = k.linked.known q m pl e in record
+              { uid = was.uid; active = still pl was.uid was.active; known_as = was.known_as });
           each = k.linked.each;
           lists = record {
-            places = k.linked.lists.places ∙ sym (length-set ast.entries place (Some (record { uid = uid; superior = superior })));
+            places = k.linked.lists.places ∙ sym (length-set ast.entries place
+                (Some (record { uid = uid; superior = superior })));
             processes = k.linked.lists.processes;
             few = k.linked.lists.few;
             numbers = k.linked.lists.numbers;
@@ -216,11 +246,14 @@ away_frame (Leaving f) away = absurd away
 null_word : (n p : ℕ) → ptw_at (replicate n Null) p ≡ Null
 null_word n p = elim (cases_lt p n) [
   | inl lt ↦ get_or-replicate n p Null Null lt
-  | inr past ↦ get_or_past (replicate n Null) p Null (let long : length (replicate n Null) ≡ n = length-replicate n Null in omega (arith, long, past))
+  | inr past ↦ get_or_past (replicate n Null) p Null (let long : length (replicate n Null) ≡ n =
+      length-replicate n Null in omega (arith, long, past))
 ]
 
-module _ (now : Plain) (ast : ActiveSegs) (links : Links) (place : ℕ) (k : IsKept now ast links) (within : place < length ast.entries)
-    (away : All IsAway (table_at ast.tables place)) (idle : IsNotRead now.core ast.entries place) (cut : trailers_of links.trailers place ≡ [])
+module _ (now : Plain) (ast : ActiveSegs) (links : Links) (place : ℕ) (k : IsKept now ast links)
+    (within : place < length ast.entries)
+    (away : All IsAway (table_at ast.tables place)) (idle : IsNotRead now.core ast.entries place)
+    (cut : trailers_of links.trailers place ≡ [])
     (tree : IsTree (deactivated ast place).entries) where
   gone_within : place < length ast.tables
   gone_within = (let same = k.places in omega (arith, same, within))
@@ -248,7 +281,8 @@ module _ (now : Plain) (ast : ActiveSegs) (links : Links) (place : ℕ) (k : IsK
       ]
 
   -- a segment that is not active now: it was not, or it is the one that became inactive
-  rest_after : (u : ℕ) (h : Home) → IsInactive (deactivated ast place).entries u → IsHomeOf now.vtocs u h → HasTable now u h
+  rest_after : (u : ℕ) (h : Home) → IsInactive (deactivated ast place).entries u → IsHomeOf now.vtocs u h
+      → HasTable now u h
   rest_after u h off is = by_entry (uid_at ast.entries place) refl
     where
       was_off : uid_at ast.entries place ≢ Some u → HasTable now u h
@@ -265,7 +299,11 @@ module _ (now : Plain) (ast : ActiveSegs) (links : Links) (place : ℕ) (k : IsK
       by_entry None e = was_off (λ at. none-some u (sym e ∙ at))
       by_entry (Some v) e = elim (cases_eq v u) [
         | inl same ↦
-            record { table = table_at ast.tables place; tie = k.paged.ties place u h (e ∙ ap (λ (n : ℕ). Some n) same) is }
+            record {
+              table = table_at ast.tables place;
+              tie =
+                  k.paged.ties place u h (e ∙ ap (λ (n : ℕ). Some n) same) is;
+            }
         | inr ne ↦ was_off (λ at. ne (same_Some _ _ (sym e ∙ at)))
       ]
 
@@ -274,16 +312,20 @@ module _ (now : Plain) (ast : ActiveSegs) (links : Links) (place : ℕ) (k : IsK
       let t : List Ptw = replicate (length (table_at ast.tables place)) Null in
       let here : (q : ℕ) → q ≡ place → t ≡ table_at (set ast.tables place t) q =
       λ q same. sym (ap (table_at (set ast.tables place t)) same ∙ table_same ast.tables place t gone_within) in
-      let there : (q : ℕ) → q ≢ place → table_at ast.tables q ≡ table_at (set ast.tables place t) q = λ q ne. sym (table_other ast.tables place q t ne) in
+      let there : (q : ℕ) → q ≢ place → table_at ast.tables q ≡ table_at (set ast.tables place t) q =
+      λ q ne. sym (table_other ast.tables place q t ne) in
       record {
         paged = record {
           tables = λ q u e. (let ne = left q u e in
               subst (IsTableOf (bindings now.core) u) (there q ne) (k.paged.tables q u (sym (gone_there q ne) ∙ e)));
-          ties = λ q u h e is. (let ne = left q u e in subst (IsTied now u h) (there q ne) (k.paged.ties q u h (sym (gone_there q ne) ∙ e) is));
+          ties = λ q u h e is. (let ne = left q u e in subst (IsTied now u h) (there q ne)
+              (k.paged.ties q u h (sym (gone_there q ne) ∙ e) is));
           rest = rest_after;
           blank = λ q p e. elim (cases_eq q place) [
-            | inl same ↦ ap (λ (those : List Ptw). ptw_at those p) (sym (here q same)) ∙ null_word (length (table_at ast.tables place)) p
-            | inr ne ↦ ap (λ (those : List Ptw). ptw_at those p) (sym (there q ne)) ∙ k.paged.blank q p (sym (get_or-set_other ast.entries place q None None ne) ∙ e)
+            | inl same ↦ ap (λ (those : List Ptw). ptw_at those p) (sym (here q same))
+                ∙ null_word (length (table_at ast.tables place)) p
+            | inr ne ↦ ap (λ (those : List Ptw). ptw_at those p) (sym (there q ne))
+                ∙ k.paged.blank q p (sym (get_or-set_other ast.entries place q None None ne) ∙ e)
           ];
           bound = λ f u p e.
               (let active = k.paged.bound f u p e in
@@ -291,7 +333,8 @@ module _ (now : Plain) (ast : ActiveSegs) (links : Links) (place : ℕ) (k : IsK
               (active.0, gone_there active.0 ne ∙ active.1));
           started = λ f u p e.
               (let was = k.paged.started f u p e in
-              let ne : was.place ≢ place = λ same. idle.none f u p (ap (uid_at ast.entries) (sym same) ∙ was.active) e in
+              let ne : was.place ≢ place = λ same. idle.none f u p (ap (uid_at ast.entries) (sym same) ∙ was.active) e
+              in
               record {
                 place = was.place;
                 active = gone_there was.place ne ∙ was.active;
@@ -302,7 +345,8 @@ module _ (now : Plain) (ast : ActiveSegs) (links : Links) (place : ℕ) (k : IsK
         };
         tree = tree;
         places = length-set ast.tables place t ∙ k.places ∙ sym (length-set ast.entries place None);
-        sized = sizes_kept ast.sizes ast.tables place t gone_within (length-replicate (length (table_at ast.tables place)) Null) k.sized;
+        sized = sizes_kept ast.sizes ast.tables place t gone_within
+            (length-replicate (length (table_at ast.tables place)) Null) k.sized;
         linked = record {
           exact = k.linked.exact;
           known = λ q m pl e.
@@ -323,13 +367,23 @@ module _ (now : Plain) (ast : ActiveSegs) (links : Links) (place : ℕ) (k : IsK
       not_led : (q m pl : ℕ) → leads_at links.descriptors q m ≡ Some pl → pl ≡ place → ⊥
       not_led q m pl e same =
           let count = k.linked.exact pl q m in
-          let one : times (leads_at links.descriptors q m) pl ≡ 1 = ap (λ (at : Option ℕ). times at pl) e ∙ times_same pl in
+          let one : times (leads_at links.descriptors q m) pl ≡ 1 = ap (λ (at : Option ℕ). times at pl) e
+          ∙ times_same pl in
           let none : count_by (leads_to q m) (trailers_of links.trailers pl) ≡ 0 =
-          ap (λ (n : ℕ). count_by (leads_to q m) (trailers_of links.trailers n)) same ∙ ap (count_by (leads_to q m)) cut in
+          ap (λ (n : ℕ). count_by (leads_to q m) (trailers_of links.trailers n)) same
+          ∙ ap (count_by (leads_to q m)) cut in
           absurd (omega (arith, count, one, none))
 
 -- ---- a hand moves
 
-pub kept_hands : (found : Option ℕ) (now : Plain) (ast : ActiveSegs) (links : Links) (pool : ℕ) → IsKept now ast links → IsKept now (hand_past ast pool found) links
+pub kept_hands : (found : Option ℕ) (now : Plain) (ast : ActiveSegs) (links : Links) (pool : ℕ) → IsKept now ast links
+    → IsKept now (hand_past ast pool found) links
 kept_hands None now ast links pool k = k
-kept_hands (Some place) now ast links pool k = record { paged = k.paged; tree = k.tree; places = k.places; sized = k.sized; linked = k.linked }
+kept_hands (Some place) now ast links pool k = record {
+  paged = k.paged;
+  tree = k.tree;
+  places = k.places;
+  sized =
+      k.sized;
+  linked = k.linked;
+}

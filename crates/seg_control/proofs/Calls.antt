@@ -1,5 +1,6 @@
 -- What is kept after a call of page control.
-use Rattle.std.proofs.Common.{◌≡◌, ◌≢◌, ◌⊎◌, ℕ, ◌<◌, true, false, List, [], length, Option, None, Some, Result, Ok, Err, sym, ap, subst, ◌∙◌}
+use Rattle.std.proofs.Common.{◌≡◌, ◌≢◌, ◌⊎◌, ℕ, ◌<◌, true, false, List, [], length, Option, None, Some, Result, Ok}
+use Rattle.std.proofs.Common.{Err, sym, ap, subst, ◌∙◌}
 use Rattle.std.proofs.Common.{arith, set, inl, inr, OnOk, OnErr}
 use Rattle.std.proofs.lemmas.Bool.{cases_eq}
 use Rattle.std.proofs.lemmas.List.{get_or-set_other, length-set, set-get_or}
@@ -20,15 +21,19 @@ use Rattle.seg_control.specs.Kept.{read_at, IsHomeFor, HaveSizes, ArePaged, AreL
 use Rattle.seg_control.proofs.Paged.{set_cases, none_read, table_same, table_other, IsCall, paged_call}
 
 -- a table of the same length
-pub sizes_kept : (sizes : List ℕ) (ptws : List (List Ptw)) (place : ℕ) (t : List Ptw) → place < length ptws → length t ≡ length (table_at ptws place)
+pub sizes_kept : (sizes : List ℕ) (ptws : List (List Ptw)) (place : ℕ) (t : List Ptw) → place < length ptws → length t
+    ≡ length (table_at ptws place)
     → HaveSizes sizes ptws → HaveSizes sizes (set ptws place t)
 sizes_kept sizes ptws place t lt same h pool q pl in_pool = elim (cases_eq q place) [
-  | inl e ↦ ap (λ (x : ℕ). length (table_at (set ptws place t) x)) e ∙ ap length (table_same ptws place t lt) ∙ same ∙ ap (λ (x : ℕ). length (table_at ptws x)) (sym e) ∙ h pool q pl in_pool
+  | inl e ↦ ap (λ (x : ℕ). length (table_at (set ptws place t) x)) e ∙ ap length (table_same ptws place t lt) ∙ same
+      ∙ ap (λ (x : ℕ). length (table_at ptws x)) (sym e) ∙ h pool q pl in_pool
   | inr ne ↦ ap length (table_other ptws place q t ne) ∙ h pool q pl in_pool
 ]
 
-pub kept_call : (old now : Plain) (ast : ActiveSegs) (links : Links) (place uid p : ℕ) (home : Home) (t : List Ptw) → IsKept old ast links
-    → IsCall old now ast.entries ast.tables place uid p home t → length t ≡ length (table_at ast.tables place) → IsKept now (with_table ast place t) links
+pub kept_call : (old now : Plain) (ast : ActiveSegs) (links : Links) (place uid p : ℕ) (home : Home) (t : List Ptw)
+    → IsKept old ast links
+    → IsCall old now ast.entries ast.tables place uid p home t → length t ≡ length (table_at ast.tables place)
+    → IsKept now (with_table ast place t) links
 kept_call old now ast links place uid p home t k call same = record {
   paged = paged_call old now ast.entries ast.tables place uid p home t k.paged k.tree call;
   tree = k.tree;
@@ -38,12 +43,22 @@ kept_call old now ast links place uid p home t k call same = record {
 }
 
 -- a change of page control alone
-pub kept_paged : (old now : Plain) (ast : ActiveSegs) (links : Links) → IsKept old ast links → ArePaged now ast.entries ast.tables → IsKept now ast links
-kept_paged old now ast links k paged = record { paged = paged; tree = k.tree; places = k.places; sized = k.sized; linked = k.linked }
+pub kept_paged : (old now : Plain) (ast : ActiveSegs) (links : Links) → IsKept old ast links
+    → ArePaged now ast.entries ast.tables → IsKept now ast links
+kept_paged old now ast links k paged = record {
+  paged = paged;
+  tree = k.tree;
+  places = k.places;
+  sized =
+      k.sized;
+  linked = k.linked;
+}
 
 -- the home of an active segment agrees with its page table
-pub tie_of : (now : Plain) (ast : ActiveSegs) (links : Links) (place uid : ℕ) (home : Home) (t : List Ptw) → IsKept now ast links
-    → uid_at ast.entries place ≡ Some uid → t ≡ table_at ast.tables place → IsHomeFor now uid home t → IsTied now uid home t
+pub tie_of : (now : Plain) (ast : ActiveSegs) (links : Links) (place uid : ℕ) (home : Home) (t : List Ptw)
+    → IsKept now ast links
+    → uid_at ast.entries place ≡ Some uid → t ≡ table_at ast.tables place → IsHomeFor now uid home t
+    → IsTied now uid home t
 tie_of now ast links place uid home t k at is h = elim h [
   | inl only ↦ subst (IsTied now uid home) (sym is) (k.paged.ties place uid home at only)
   | inr tie ↦ tie
@@ -51,25 +66,36 @@ tie_of now ast links place uid home t k at is h = elim h [
 
 -- ---- a page leaves its frame
 
-length_left : {E : Type 0} (result : Result Left E) (t u : List Ptw) (p r : ℕ) → u ≡ words_left t p r result → length u ≡ length t
+length_left : {E : Type 0} (result : Result Left E) (t u : List Ptw) (p r : ℕ) → u ≡ words_left t p r result → length u
+    ≡ length t
 length_left (Ok left) t u p r is = ap length is ∙ length-set t p (word_of_left left r)
 length_left (Err e) t u p r is = ap length is
 
-words_left_other : {E : Type 0} (result : Result Left E) (t u : List Ptw) (p r : ℕ) → u ≡ words_left t p r result → (q : ℕ) → q ≢ p → ptw_at u q ≡ ptw_at t q
-words_left_other (Ok left) t u p r is q ne = ap (λ (those : List Ptw). ptw_at those q) is ∙ get_or-set_other t p q (word_of_left left r) Null ne
+words_left_other : {E : Type 0} (result : Result Left E) (t u : List Ptw) (p r : ℕ) → u ≡ words_left t p r result
+    → (q : ℕ) → q ≢ p → ptw_at u q ≡ ptw_at t q
+words_left_other (Ok left) t u p r is q ne = ap (λ (those : List Ptw). ptw_at those q) is
+    ∙ get_or-set_other t p q (word_of_left left r) Null ne
 words_left_other (Err e) t u p r is q ne = ap (λ (those : List Ptw). ptw_at those q) is
 
-marks_left : {E : Type 0} (result : Result Left E) (old now : List (Option (ℕ × ℕ))) (uid f : ℕ) → OnOk result (now ≡ set old f None) → OnErr result (now ≡ old)
+marks_left : {E : Type 0} (result : Result Left E) (old now : List (Option (ℕ × ℕ))) (uid f : ℕ)
+    → OnOk result (now ≡ set old f None) → OnErr result (now ≡ old)
     → (g u q : ℕ) → binding_at now g ≡ Some (u, q) → (u ≡ uid) ⊎ (binding_at old g ≡ Some (u, q))
 marks_left (Ok left) old now uid f ok err g u q e =
-    elim (set_cases old f g None (u, q) (ap (λ (b : List (Option (ℕ × ℕ))). binding_at b g) (sym ok) ∙ e)) [ inl h ↦ cc | inr h ↦ inr h.1 ]
-marks_left (Err e') old now uid f ok err g u q e = inr (ap (λ (b : List (Option (ℕ × ℕ))). binding_at b g) (sym err) ∙ e)
+    elim (set_cases old f g None (u, q) (ap (λ (b : List (Option (ℕ × ℕ))). binding_at b g) (sym ok) ∙ e))
+    [ inl h ↦ cc | inr h ↦ inr h.1 ]
+marks_left (Err e') old now uid f ok err g u q e = inr
+    (ap (λ (b : List (Option (ℕ × ℕ))). binding_at b g) (sym err) ∙ e)
 
-pub kept_evicted : {E : Type 0} (result : Result Left E) (old now : Plain) (ast : ActiveSegs) (links : Links) (place uid p f r : ℕ) (home : Home) (t u : List Ptw)
-    → IsKept old ast links → uid_at ast.entries place ≡ Some uid → place < length ast.entries → t ≡ table_at ast.tables place → ptw_at t p ≡ Leaving f
-    → IsTied now uid home u → KeepsOthers old now uid home → u ≡ words_left t p r result → OnOk result (bindings now.core ≡ set (bindings old.core) f None)
-    → OnErr result (bindings now.core ≡ bindings old.core) → reads_of now.core ≡ reads_of old.core → IsKept now (with_table ast place u) links
-kept_evicted result old now ast links place uid p f r home t u k at within table leaving tie others word freed kept reads =
+pub kept_evicted : {E : Type 0} (result : Result Left E) (old now : Plain) (ast : ActiveSegs) (links : Links)
+    (place uid p f r : ℕ) (home : Home) (t u : List Ptw)
+    → IsKept old ast links → uid_at ast.entries place ≡ Some uid → place < length ast.entries → t
+    ≡ table_at ast.tables place → ptw_at t p ≡ Leaving f
+    → IsTied now uid home u → KeepsOthers old now uid home → u ≡ words_left t p r result
+    → OnOk result (bindings now.core ≡ set (bindings old.core) f None)
+    → OnErr result (bindings now.core ≡ bindings old.core) → reads_of now.core ≡ reads_of old.core
+    → IsKept now (with_table ast place u) links
+kept_evicted result old now ast links place uid p f r home t u k at within table leaving tie others word freed kept
+    reads =
     kept_call old now ast links place uid p home u k
     (record {
       at = at;
@@ -78,36 +104,48 @@ kept_evicted result old now ast links place uid p f r home t u k at within table
       others = others;
       marks = marks_left result (bindings old.core) (bindings now.core) uid f freed kept;
       reads = λ g v q e.
-          (let was : read_at (reads_of old.core) g ≡ Some (v, q) = sym (ap (λ (x : List (Option (ℕ × ℕ))). read_at x g) reads) ∙ e in
-          let no : is_out (ptw_at (table_at ast.tables place) p) ≡ false = ap (λ (those : List Ptw). is_out (ptw_at those p)) (sym table) ∙ ap is_out leaving in
+          (let was : read_at (reads_of old.core) g ≡ Some (v, q) =
+          sym (ap (λ (x : List (Option (ℕ × ℕ))). read_at x g) reads) ∙ e in
+          let no : is_out (ptw_at (table_at ast.tables place) p) ≡ false =
+          ap (λ (those : List Ptw). is_out (ptw_at those p)) (sym table) ∙ ap is_out leaving in
           (was, none_read old ast.entries ast.tables place uid p g v q k.paged k.tree at no was));
       words = λ q ne. words_left_other result t u p r word q ne ∙ ap (λ (those : List Ptw). ptw_at those q) table;
     })
     (length_left result t u p r word ∙ ap length table)
 
 -- the word of a page that leaves, as the active segments are seen
-pub table_is_left : {E : Type 0} (result : Result Left E) (ast : ActiveSegs) (place uid p r : ℕ) (t u : List Ptw) → place ≡ place_of ast.entries uid
-    → t ≡ table_at ast.tables place → u ≡ words_left t p r result → with_table ast place u ≡ table_left ast uid p r result
+pub table_is_left : {E : Type 0} (result : Result Left E) (ast : ActiveSegs) (place uid p r : ℕ) (t u : List Ptw)
+    → place ≡ place_of ast.entries uid
+    → t ≡ table_at ast.tables place → u ≡ words_left t p r result → with_table ast place u
+    ≡ table_left ast uid p r result
 table_is_left (Ok left) ast place uid p r t u is table word =
     ap (λ (x : ℕ). with_table ast x u) is
-    ∙ ap (with_table ast (place_of ast.entries uid)) (word ∙ ap (λ (those : List Ptw). set those p (word_of_left left r)) (table ∙ ap (table_at ast.tables) is))
+    ∙ ap (with_table ast (place_of ast.entries uid)) (word
+    ∙ ap (λ (those : List Ptw). set those p (word_of_left left r)) (table ∙ ap (table_at ast.tables) is))
 table_is_left (Err e) ast place uid p r t u is table word =
-    ap (λ (those : List (List Ptw)). record ast { tables = those }) (ap (set ast.tables place) (word ∙ table) ∙ set-get_or ast.tables place [])
+    ap (λ (those : List (List Ptw)). record ast { tables = those })
+    (ap (set ast.tables place) (word ∙ table) ∙ set-get_or ast.tables place [])
 
 -- ---- a page comes into its frame
 
-pub length_here : {T E : Type 0} (result : Result T E) (t u : List Ptw) (p f : ℕ) → u ≡ words_here t p f result → length u ≡ length t
+pub length_here : {T E : Type 0} (result : Result T E) (t u : List Ptw) (p f : ℕ) → u ≡ words_here t p f result
+    → length u ≡ length t
 length_here (Ok x) t u p f is = ap length is ∙ length-set t p (Here f)
 length_here (Err e) t u p f is = ap length is
 
-pub words_here_other : {T E : Type 0} (result : Result T E) (t u : List Ptw) (p f : ℕ) → u ≡ words_here t p f result → (q : ℕ) → q ≢ p → ptw_at u q ≡ ptw_at t q
-words_here_other (Ok x) t u p f is q ne = ap (λ (those : List Ptw). ptw_at those q) is ∙ get_or-set_other t p q (Here f) Null ne
+pub words_here_other : {T E : Type 0} (result : Result T E) (t u : List Ptw) (p f : ℕ) → u ≡ words_here t p f result
+    → (q : ℕ) → q ≢ p → ptw_at u q ≡ ptw_at t q
+words_here_other (Ok x) t u p f is q ne = ap (λ (those : List Ptw). ptw_at those q) is
+    ∙ get_or-set_other t p q (Here f) Null ne
 words_here_other (Err e) t u p f is q ne = ap (λ (those : List Ptw). ptw_at those q) is
 
-pub marks_here : {T E : Type 0} (result : Result T E) (old now : List (Option (ℕ × ℕ))) (uid p f : ℕ) → OnOk result (now ≡ set old f (Some (uid, p)))
-    → OnErr result (now ≡ old) → (g u q : ℕ) → binding_at now g ≡ Some (u, q) → (u ≡ uid) ⊎ (binding_at old g ≡ Some (u, q))
+pub marks_here : {T E : Type 0} (result : Result T E) (old now : List (Option (ℕ × ℕ))) (uid p f : ℕ)
+    → OnOk result (now ≡ set old f (Some (uid, p)))
+    → OnErr result (now ≡ old) → (g u q : ℕ) → binding_at now g ≡ Some (u, q) → (u ≡ uid)
+    ⊎ (binding_at old g ≡ Some (u, q))
 marks_here (Ok x) old now uid p f ok err g u q e =
-    elim (set_cases old f g (Some (uid, p)) (u, q) (ap (λ (b : List (Option (ℕ × ℕ))). binding_at b g) (sym ok) ∙ e)) [ inl h ↦ inl (same_uid h.1) | inr h ↦ inr h.1 ]
+    elim (set_cases old f g (Some (uid, p)) (u, q) (ap (λ (b : List (Option (ℕ × ℕ))). binding_at b g) (sym ok) ∙ e))
+    [ inl h ↦ inl (same_uid h.1) | inr h ↦ inr h.1 ]
   where
     uid_part : Option (ℕ × ℕ) → ℕ
     uid_part None = 0
@@ -115,22 +153,31 @@ marks_here (Ok x) old now uid p f ok err g u q e =
 
     same_uid : ◌≡◌ {A = Option (ℕ × ℕ)} (Some (uid, p)) (Some (u, q)) → u ≡ uid
     same_uid h = sym (ap uid_part h)
-marks_here (Err e') old now uid p f ok err g u q e = inr (ap (λ (b : List (Option (ℕ × ℕ))). binding_at b g) (sym err) ∙ e)
+marks_here (Err e') old now uid p f ok err g u q e = inr
+    (ap (λ (b : List (Option (ℕ × ℕ))). binding_at b g) (sym err) ∙ e)
 
-pub table_is_here : {T E : Type 0} (result : Result T E) (ast : ActiveSegs) (place uid p f : ℕ) (t u : List Ptw) → place ≡ place_of ast.entries uid
-    → t ≡ table_at ast.tables place → u ≡ words_here t p f result → with_table ast place u ≡ table_here ast uid p f result
+pub table_is_here : {T E : Type 0} (result : Result T E) (ast : ActiveSegs) (place uid p f : ℕ) (t u : List Ptw)
+    → place ≡ place_of ast.entries uid
+    → t ≡ table_at ast.tables place → u ≡ words_here t p f result → with_table ast place u
+    ≡ table_here ast uid p f result
 table_is_here (Ok x) ast place uid p f t u is table word =
     ap (λ (k : ℕ). with_table ast k u) is
-    ∙ ap (with_table ast (place_of ast.entries uid)) (word ∙ ap (λ (those : List Ptw). set those p (Here f)) (table ∙ ap (table_at ast.tables) is))
+    ∙ ap (with_table ast (place_of ast.entries uid)) (word
+    ∙ ap (λ (those : List Ptw). set those p (Here f)) (table ∙ ap (table_at ast.tables) is))
 table_is_here (Err e) ast place uid p f t u is table word =
-    ap (λ (those : List (List Ptw)). record ast { tables = those }) (ap (set ast.tables place) (word ∙ table) ∙ set-get_or ast.tables place [])
+    ap (λ (those : List (List Ptw)). record ast { tables = those })
+    (ap (set ast.tables place) (word ∙ table) ∙ set-get_or ast.tables place [])
 
 -- a page that was being read into frame f
-pub kept_read : {T E : Type 0} (result : Result T E) (old now : Plain) (ast : ActiveSegs) (links : Links) (place uid p f : ℕ) (home : Home) (t u : List Ptw)
-    → IsKept old ast links → uid_at ast.entries place ≡ Some uid → place < length ast.entries → t ≡ table_at ast.tables place
+pub kept_read : {T E : Type 0} (result : Result T E) (old now : Plain) (ast : ActiveSegs) (links : Links)
+    (place uid p f : ℕ) (home : Home) (t u : List Ptw)
+    → IsKept old ast links → uid_at ast.entries place ≡ Some uid → place < length ast.entries → t
+    ≡ table_at ast.tables place
     → read_at (reads_of old.core) f ≡ Some (uid, p)
-    → IsTied now uid home u → KeepsOthers old now uid home → u ≡ words_here t p f result → OnOk result (bindings now.core ≡ set (bindings old.core) f (Some (uid, p)))
-    → OnErr result (bindings now.core ≡ bindings old.core) → reads_of now.core ≡ set (reads_of old.core) f None → IsKept now (with_table ast place u) links
+    → IsTied now uid home u → KeepsOthers old now uid home → u ≡ words_here t p f result
+    → OnOk result (bindings now.core ≡ set (bindings old.core) f (Some (uid, p)))
+    → OnErr result (bindings now.core ≡ bindings old.core) → reads_of now.core ≡ set (reads_of old.core) f None
+    → IsKept now (with_table ast place u) links
 kept_read result old now ast links place uid p f home t u k at within table started tie others word bound lost reads =
     kept_call old now ast links place uid p home u k
     (record {
@@ -140,9 +187,14 @@ kept_read result old now ast links place uid p f home t u k at within table star
       others = others;
       marks = marks_here result (bindings old.core) (bindings now.core) uid p f bound lost;
       reads = λ g v q e.
-          elim (set_cases (reads_of old.core) f g None (v, q) (sym (ap (λ (x : List (Option (ℕ × ℕ))). read_at x g) reads) ∙ e)) [
+          elim (set_cases (reads_of old.core) f g None (v, q)
+          (sym (ap (λ (x : List (Option (ℕ × ℕ))). read_at x g) reads) ∙ e)) [
             | inl h ↦ cc
-            | inr h ↦ (h.1, λ same page. h.0 (k.paged.once g f uid p (h.1 ∙ ap (λ (x : ℕ × ℕ). Some x) (pair v q uid p same page)) started))
+            | inr h ↦ (
+              h.1,
+              λ same page. h.0 (k.paged.once g f uid p
+                  (h.1 ∙ ap (λ (x : ℕ × ℕ). Some x) (pair v q uid p same page)) started),
+            )
           ];
       words = λ q ne. words_here_other result t u p f word q ne ∙ ap (λ (those : List Ptw). ptw_at those q) table;
     })
@@ -152,7 +204,8 @@ kept_read result old now ast links place uid p f home t u k at within table star
     pair a b c d e e' = ap (λ (x : ℕ). (x, b)) e ∙ ap (λ (x : ℕ). (c, x)) e'
 
 -- a page that is being read is on its record alone
-pub out_of : (now : Plain) (ast : ActiveSegs) (links : Links) (place uid p f : ℕ) (t : List Ptw) → IsKept now ast links → uid_at ast.entries place ≡ Some uid
+pub out_of : (now : Plain) (ast : ActiveSegs) (links : Links) (place uid p f : ℕ) (t : List Ptw) → IsKept now ast links
+    → uid_at ast.entries place ≡ Some uid
     → t ≡ table_at ast.tables place → read_at (reads_of now.core) f ≡ Some (uid, p) → is_out (ptw_at t p) ≡ true
 out_of now ast links place uid p f t k at is started =
     let out = k.paged.started f uid p started in
@@ -160,18 +213,30 @@ out_of now ast links place uid p f t k at is started =
     ap (λ (those : List Ptw). is_out (ptw_at those p)) (is ∙ ap (table_at ast.tables) (sym here)) ∙ out.out
 
 -- the page table that is lent
-pub home_here : (now : Plain) (ast : ActiveSegs) (place uid : ℕ) (home : Home) (t : List Ptw) → place ≡ place_of ast.entries uid → t ≡ table_at ast.tables place
+pub home_here : (now : Plain) (ast : ActiveSegs) (place uid : ℕ) (home : Home) (t : List Ptw) → place
+    ≡ place_of ast.entries uid → t ≡ table_at ast.tables place
     → IsHomeFor now uid home (table_of ast uid) → IsHomeFor now uid home t
-home_here now ast place uid home t is table h = subst (IsHomeFor now uid home) (sym (table ∙ ap (table_at ast.tables) is)) h
+home_here now ast place uid home t is table h = subst (IsHomeFor now uid home)
+    (sym (table ∙ ap (table_at ast.tables) is)) h
 
-pub lost_bindings : {E : Type 0} (result : Result Left E) (old now : Plain) (home : Home) (p f : ℕ) → now ≡ after_evict old home p f result
+pub lost_bindings : {E : Type 0} (result : Result Left E) (old now : Plain) (home : Home) (p f : ℕ) → now
+    ≡ after_evict old home p f result
     → OnErr result (bindings now.core ≡ bindings old.core)
 lost_bindings (Ok left) old now home p f e = tt
 lost_bindings (Err e') old now home p f e = ap (λ (s : Plain). bindings s.core) e
 
 -- a change of what leads to the active segments alone
-pub kept_links : (now : Plain) (ast : ActiveSegs) (links those : Links) → IsKept now ast links → AreLinked ast.entries those → IsKept now ast those
-kept_links now ast links those k linked = record { paged = k.paged; tree = k.tree; places = k.places; sized = k.sized; linked = linked }
+pub kept_links : (now : Plain) (ast : ActiveSegs) (links those : Links) → IsKept now ast links
+    → AreLinked ast.entries those → IsKept now ast those
+kept_links now ast links those k linked = record {
+  paged = k.paged;
+  tree = k.tree;
+  places = k.places;
+  sized =
+      k.sized;
+  linked = linked;
+}
 
-pub same_plain : {D : Type 0} (pages : D → List (List ℕ)) (now old : Paging D) → now ≡ old → plain pages now ≡ plain pages old
+pub same_plain : {D : Type 0} (pages : D → List (List ℕ)) (now old : Paging D) → now ≡ old → plain pages now
+    ≡ plain pages old
 same_plain pages now old e = ap (plain pages) e

@@ -1,5 +1,6 @@
 -- A chain of superiors, and its first segment that is not active.
-use Rattle.std.proofs.Common.{◌≡◌, ℕ, suc, zero, ◌<◌, ◌≤◌, ◌+◌, true, List, [], ◌∷◌, ◌++◌, length, Option, None, Some, is_some, IfNone, Contains}
+use Rattle.std.proofs.Common.{◌≡◌, ℕ, suc, zero, ◌<◌, ◌≤◌, ◌+◌, true, List, [], ◌∷◌, ◌++◌, length, Option, None, Some}
+use Rattle.std.proofs.Common.{is_some, IfNone, Contains}
 use Rattle.std.proofs.Common.{refl, sym, ap, subst, ◌∙◌, arith, set, get_or, inl, inr, take}
 use Rattle.std.specs.Prelude.{◌↔◌}
 use Rattle.std.proofs.Math.Seq.{take-suc-set}
@@ -12,12 +13,14 @@ use Rattle.active_segs.specs.declared.Entry.{Entry}
 use Rattle.active_segs.specs.Active.{ActiveSegs, uid_at, IsActive, IsFull}
 use Rattle.active_segs.specs.Victim.{IsVictim, HasItsSuperiors}
 use Rattle.seg_control.specs.declared.Link.{Link}
-use Rattle.seg_control.specs.Next.{uids_of, no_link, link_at, superior_of, words_in, filed_word, table_for, IsFirstInactive, AreActive, MayActivate, IsStuck, IsGoing}
+use Rattle.seg_control.specs.Next.{uids_of, no_link, link_at, superior_of, words_in, filed_word, table_for}
+use Rattle.seg_control.specs.Next.{IsFirstInactive, AreActive, MayActivate, IsStuck, IsGoing}
 use Rattle.seg_control.proofs.Becoming.{table_suc}
 
 -- ---- superiors
 
-pub superior_active : (entries : List (Option Entry)) (chain : List Link) (i superior : ℕ) → IsFirstInactive entries chain i → superior_of chain i ≡ Some superior
+pub superior_active : (entries : List (Option Entry)) (chain : List Link) (i superior : ℕ)
+    → IsFirstInactive entries chain i → superior_of chain i ≡ Some superior
     → IsActive entries superior
 superior_active entries chain zero superior first e = cc
 superior_active entries chain (suc i) superior first e =
@@ -27,7 +30,8 @@ superior_active entries chain (suc i) superior first e =
 uid_of_link : (chain : List Link) (i d : ℕ) → i < length chain → get_or (uids_of chain) i d ≡ (link_at chain i).uid
 uid_of_link chain i d lt = get_or-map (λ (link : Link). link.uid) chain i no_link d lt
 
-pub its_superiors : (ast : ActiveSegs) (vtocs : List (List (Option VtocEntry))) (volumes : ℕ) (chain : List Link) → MayActivate ast vtocs volumes chain
+pub its_superiors : (ast : ActiveSegs) (vtocs : List (List (Option VtocEntry))) (volumes : ℕ) (chain : List Link)
+    → MayActivate ast vtocs volumes chain
     → HasItsSuperiors ast.entries (uids_of chain)
 its_superiors ast vtocs volumes chain may place uid superior at there above =
     let long : length (uids_of chain) ≡ length chain = length-map chain (λ (link : Link). link.uid) in
@@ -35,10 +39,12 @@ its_superiors ast vtocs volumes chain may place uid superior at there above =
     let lt : i < length (uids_of chain) = there.1 in
     let within : i < length chain = omega (arith, lt, long) in
     let link : (link_at chain i).uid ≡ uid = sym (uid_of_link chain i uid within) ∙ there.2 in
-    let is : superior_of chain i ≡ Some superior = sym (may.superiors i place within (at ∙ ap (λ (n : ℕ). Some n) (sym link))) ∙ above in
+    let is : superior_of chain i ≡ Some superior = sym
+    (may.superiors i place within (at ∙ ap (λ (n : ℕ). Some n) (sym link))) ∙ above in
     before i superior within is
   where
-    before : (i superior : ℕ) → i < length chain → superior_of chain i ≡ Some superior → Contains (uids_of chain) superior
+    before : (i superior : ℕ) → i < length chain → superior_of chain i ≡ Some superior
+        → Contains (uids_of chain) superior
     before zero superior lt e = cc
     before (suc i) superior lt e =
         let long : length (uids_of chain) ≡ length chain = length-map chain (λ (link : Link). link.uid) in
@@ -46,27 +52,32 @@ its_superiors ast vtocs volumes chain may place uid superior at there above =
 
 -- ---- the first that is not active
 
-pub active_from : (r : Option ℕ) (entries : List (Option Entry)) (uid : ℕ) → ((place : ℕ) → (r ≡ Some place) ↔ (uid_at entries place ≡ Some uid))
+pub active_from : (r : Option ℕ) (entries : List (Option Entry)) (uid : ℕ)
+    → ((place : ℕ) → (r ≡ Some place) ↔ (uid_at entries place ≡ Some uid))
     → is_some r ≡ true → IsActive entries uid
 active_from None entries uid h e = cc
 active_from (Some place) entries uid h e = (place, (h place).0 refl)
 
-pub one_more : (entries : List (Option Entry)) (chain : List Link) (i : ℕ) → ((j : ℕ) → j < i → IsActive entries (link_at chain j).uid)
+pub one_more : (entries : List (Option Entry)) (chain : List Link) (i : ℕ)
+    → ((j : ℕ) → j < i → IsActive entries (link_at chain j).uid)
     → IsActive entries (link_at chain i).uid → (j : ℕ) → j < i + 1 → IsActive entries (link_at chain j).uid
 one_more entries chain i before active j lt = elim (cases_eq j i) [
   | inl same ↦ (active.0, active.1 ∙ ap (λ (k : ℕ). Some (link_at chain k).uid) (sym same))
   | inr ne ↦ before j (omega (arith, lt, ne))
 ]
 
-pub not_stuck_active : (ast : ActiveSegs) (chain : List Link) → AreActive ast.entries chain → (i : ℕ) → IsStuck ast chain i → ⊥
+pub not_stuck_active : (ast : ActiveSegs) (chain : List Link) → AreActive ast.entries chain → (i : ℕ)
+    → IsStuck ast chain i → ⊥
 not_stuck_active ast chain all i stuck =
     let active : IsActive ast.entries (link_at chain i).uid = all.each i stuck.first.within in
     stuck.first.inactive.nowhere active.0 active.1
 
-first_before : (entries : List (Option Entry)) (chain : List Link) (i j : ℕ) → IsFirstInactive entries chain i → IsFirstInactive entries chain j → i < j → ⊥
+first_before : (entries : List (Option Entry)) (chain : List Link) (i j : ℕ) → IsFirstInactive entries chain i
+    → IsFirstInactive entries chain j → i < j → ⊥
 first_before entries chain i j one two lt = (let active = two.before i lt in one.inactive.nowhere active.0 active.1)
 
-pub first_once : (entries : List (Option Entry)) (chain : List Link) (i j : ℕ) → IsFirstInactive entries chain i → IsFirstInactive entries chain j → i ≡ j
+pub first_once : (entries : List (Option Entry)) (chain : List Link) (i j : ℕ) → IsFirstInactive entries chain i
+    → IsFirstInactive entries chain j → i ≡ j
 first_once entries chain i j one two = elim (cases_eq i j) [
   | inl same ↦ same
   | inr ne ↦ elim (cases_lt i j) [
@@ -75,10 +86,12 @@ first_once entries chain i j one two = elim (cases_eq i j) [
   ]
 ]
 
-pub not_stuck_free : (ast : ActiveSegs) (chain : List Link) (i j : ℕ) → IsFirstInactive ast.entries chain j → (IsFull ast (link_at chain j).pool → ⊥) → IsStuck ast chain i
+pub not_stuck_free : (ast : ActiveSegs) (chain : List Link) (i j : ℕ) → IsFirstInactive ast.entries chain j
+    → (IsFull ast (link_at chain j).pool → ⊥) → IsStuck ast chain i
     → ⊥
 not_stuck_free ast chain i j first room stuck =
-    room (subst (λ (k : ℕ). IsFull ast (link_at chain k).pool) (first_once ast.entries chain i j stuck.first first) stuck.full)
+    room (subst (λ (k : ℕ). IsFull ast (link_at chain k).pool) (first_once ast.entries chain i j stuck.first first)
+    stuck.full)
 
 pub if_none : {X : Type 0} (o : Option ℕ) → X → IfNone o X
 if_none None x = x
@@ -93,24 +106,30 @@ words_few (suc (suc zero)) lt = omega arith
 words_few (suc (suc (suc zero))) lt = omega arith
 words_few (suc (suc (suc (suc pool)))) lt = absurd (omega (arith, lt))
 
-pub load_step : (places : List (Option ℕ)) (table : List Ptw) (p : ℕ) (w : Ptw) → p < length table → take p table ≡ table_for places p
+pub load_step : (places : List (Option ℕ)) (table : List Ptw) (p : ℕ) (w : Ptw) → p < length table → take p table
+    ≡ table_for places p
     → w ≡ filed_word (get_or places p None) → take (p + 1) (set table p w) ≡ table_for places (p + 1)
 load_step places table p w lt filled is =
     let e : p + 1 ≡ suc p = omega arith in
     subst (λ (n : ℕ). take n (set table p w) ≡ table_for places n) (sym e)
-    (take-suc-set table p w lt ∙ ap (λ (t : List Ptw). t ++ w ∷ []) filled ∙ ap (λ (x : Ptw). table_for places p ++ x ∷ []) is ∙ sym (table_suc places p))
+    (take-suc-set table p w lt ∙ ap (λ (t : List Ptw). t ++ w ∷ []) filled
+    ∙ ap (λ (x : Ptw). table_for places p ++ x ∷ []) is ∙ sym (table_suc places p))
 
 -- ---- the victim
 
-pub going_free : {X : Type 0} (ast : ActiveSegs) (chain : List Link) (place j : ℕ) → IsFirstInactive ast.entries chain j → (IsFull ast (link_at chain j).pool → ⊥)
+pub going_free : {X : Type 0} (ast : ActiveSegs) (chain : List Link) (place j : ℕ)
+    → IsFirstInactive ast.entries chain j → (IsFull ast (link_at chain j).pool → ⊥)
     → IsGoing ast chain place → X
 going_free ast chain place j first room going = absurd (not_stuck_free ast chain going.link j first room going.stuck)
 
-pub going_whole : {X : Type 0} (ast : ActiveSegs) (chain : List Link) (place : ℕ) → AreActive ast.entries chain → IsGoing ast chain place → X
+pub going_whole : {X : Type 0} (ast : ActiveSegs) (chain : List Link) (place : ℕ) → AreActive ast.entries chain
+    → IsGoing ast chain place → X
 going_whole ast chain place all going = absurd (not_stuck_active ast chain all going.link going.stuck)
 
 pub going_is : (ast : ActiveSegs) (chain : List Link) (place victim j : ℕ) → IsFirstInactive ast.entries chain j
-    → ((q : ℕ) → IsVictim ast (link_at chain j).pool (uids_of chain) q → q ≡ victim) → IsGoing ast chain place → place ≡ victim
+    → ((q : ℕ) → IsVictim ast (link_at chain j).pool (uids_of chain) q → q ≡ victim) → IsGoing ast chain place → place
+    ≡ victim
 going_is ast chain place victim j first only going =
     only place
-    (subst (λ (k : ℕ). IsVictim ast (link_at chain k).pool (uids_of chain) place) (first_once ast.entries chain going.link j going.stuck.first first) going.victim)
+    (subst (λ (k : ℕ). IsVictim ast (link_at chain k).pool (uids_of chain) place)
+    (first_once ast.entries chain going.link j going.stuck.first first) going.victim)

@@ -1,5 +1,6 @@
 -- Descriptors, trailers and known segment tables after one descriptor or number has changed.
-use Rattle.std.proofs.Common.{◌≡◌, ◌≢◌, ℕ, ◌<◌, ◌+◌, Bool, true, false, cond, eqb, List, [], ◌∷◌, ◌++◌, length, Option, None, Some, IsSome, refl, sym}
+use Rattle.std.proofs.Common.{◌≡◌, ◌≢◌, ℕ, ◌<◌, ◌+◌, Bool, true, false, cond, eqb, List, [], ◌∷◌, ◌++◌, length, Option}
+use Rattle.std.proofs.Common.{None, Some, IsSome, refl, sym}
 use Rattle.std.proofs.Common.{ap, subst, ◌∙◌, arith, set, get_or, inl, inr, count_by, Contains, remove}
 use Rattle.std.proofs.lemmas.Bool.{cases_eq, cases_lt, eq-eqb, ne_eqb}
 use Rattle.std.proofs.lemmas.List.{get_or-set_same, get_or-set_other, get_or_past, length-set, length-append}
@@ -16,13 +17,16 @@ use Rattle.seg_control.specs.Control.{Links, kst_at, sdws_at, leads, leads_at}
 use Rattle.seg_control.specs.Effects.{linked, unlinked, with_kst}
 use Rattle.seg_control.specs.Kept.{times, AreExact, IsKnownAt, AreLinked}
 use Rattle.seg_control.proofs.Counts.{weight, count_push, count_remove, count_some, position_there}
-use Rattle.seg_control.proofs.Linked.{pair_cases, leads_within, leads_this, leads_other, words_kept, leads_to_itself, leads_to_is, leads_to_not, times_same}
+use Rattle.seg_control.proofs.Linked.{pair_cases, leads_within, leads_this, leads_other, words_kept, leads_to_itself}
+use Rattle.seg_control.proofs.Linked.{leads_to_is, leads_to_not, times_same}
 use Rattle.seg_control.proofs.Linked.{most_trailers}
 
-list_same : (trailers : List (List (ℕ × ℕ))) (place : ℕ) (xs : List (ℕ × ℕ)) → place < length trailers → trailers_of (set trailers place xs) place ≡ xs
+list_same : (trailers : List (List (ℕ × ℕ))) (place : ℕ) (xs : List (ℕ × ℕ)) → place < length trailers
+    → trailers_of (set trailers place xs) place ≡ xs
 list_same trailers place xs lt = get_or-set_same trailers place xs [] lt
 
-list_other : (trailers : List (List (ℕ × ℕ))) (place q : ℕ) (xs : List (ℕ × ℕ)) → q ≢ place → trailers_of (set trailers place xs) q ≡ trailers_of trailers q
+list_other : (trailers : List (List (ℕ × ℕ))) (place q : ℕ) (xs : List (ℕ × ℕ)) → q ≢ place
+    → trailers_of (set trailers place xs) q ≡ trailers_of trailers q
 list_other trailers place q xs ne = get_or-set_other trailers place q xs [] ne
 
 same_test : (pl place : ℕ) → pl ≡ place → eqb place pl ≡ true
@@ -42,7 +46,8 @@ length-push : {X : Type 0} (xs : List X) (x : X) → length (xs ++ x ∷ []) ≡
 length-push xs x = length-append xs (x ∷ [])
 
 -- a number that is known is one of 256
-pub number_within : (links : Links) (process number uid : ℕ) → length (kst_at links.known process) ≡ 256 → uid_of (kst_at links.known process) number ≡ Some uid
+pub number_within : (links : Links) (process number uid : ℕ) → length (kst_at links.known process) ≡ 256
+    → uid_of (kst_at links.known process) number ≡ Some uid
     → number < 256
 number_within links process number uid size known_as = elim (cases_lt number (length (kst_at links.known process))) [
   | inl lt ↦ omega (arith, lt, size)
@@ -51,47 +56,61 @@ number_within links process number uid size known_as = elim (cases_lt number (le
 
 -- ---- a descriptor is connected
 
-module _ (entries : List (Option Entry)) (links : Links) (process number place uid : ℕ) (mode : Mode) (pages : ℕ) (k : AreLinked entries links)
-    (process_within : process < length links.known) (place_within : place < length links.trailers) (active : uid_at entries place ≡ Some uid)
-    (known_as : uid_of (kst_at links.known process) number ≡ Some uid) (cut : leads_at links.descriptors process number ≡ None) where
+module _ (entries : List (Option Entry)) (links : Links) (process number place uid : ℕ) (mode : Mode) (pages : ℕ)
+    (k : AreLinked entries links)
+    (process_within : process < length links.known) (place_within : place < length links.trailers)
+    (active : uid_at entries place ≡ Some uid)
+    (known_as : uid_of (kst_at links.known process) number ≡ Some uid)
+    (cut : leads_at links.descriptors process number ≡ None) where
   in_descriptors : process < length links.descriptors
   in_descriptors = (let same = k.lists.processes in omega (arith, same, process_within))
 
   in_words : number < length (sdws_at links.descriptors process)
-  in_words = (let size = k.lists.words process process_within in let lt = number_within links process number uid (k.lists.numbers process process_within) known_as in omega (arith, size, lt))
+  in_words = (let size = k.lists.words process process_within in let lt =
+      number_within links process number uid (k.lists.numbers process process_within) known_as in omega
+      (arith, size, lt))
 
   -- how a list of trailers counts after the new one is added
-  counted : (q n pl : ℕ) → count_by (leads_to q n) (trailers_of (set links.trailers place (trailers_of links.trailers place ++ (process, number) ∷ [])) pl)
-      ≡ count_by (leads_to q n) (trailers_of links.trailers pl) + (cond (eqb place pl) (weight (leads_to q n (process, number))) 0)
+  counted : (q n pl : ℕ) → count_by (leads_to q n) (trailers_of
+      (set links.trailers place (trailers_of links.trailers place ++ (process, number) ∷ [])) pl)
+      ≡ count_by (leads_to q n) (trailers_of links.trailers pl) +
+      (cond (eqb place pl) (weight (leads_to q n (process, number))) 0)
   counted q n pl = elim (cases_eq pl place) [
     | inl e ↦
         (let count = count_push (leads_to q n) (trailers_of links.trailers place) (process, number) in
-        let list : trailers_of (set links.trailers place (trailers_of links.trailers place ++ (process, number) ∷ [])) pl ≡ trailers_of links.trailers place ++ (process, number) ∷ [] =
+        let list : trailers_of (set links.trailers place (trailers_of links.trailers place ++ (process, number) ∷ []))
+        pl ≡ trailers_of links.trailers place ++ (process, number) ∷ [] =
         ap (trailers_of (set links.trailers place (trailers_of links.trailers place ++ (process, number) ∷ []))) e
         ∙ list_same links.trailers place (trailers_of links.trailers place ++ (process, number) ∷ []) place_within in
         let here : eqb place pl ≡ true = same_test pl place e in
-        ap (count_by (leads_to q n)) list ∙ count ∙ sum_of _ _ _ _ (ap (λ (m : ℕ). count_by (leads_to q n) (trailers_of links.trailers m)) (sym e))
+        ap (count_by (leads_to q n)) list ∙ count ∙ sum_of _ _ _ _
+        (ap (λ (m : ℕ). count_by (leads_to q n) (trailers_of links.trailers m)) (sym e))
         (sym (ap (λ (b : Bool). cond b (weight (leads_to q n (process, number))) 0) here)))
     | inr ne ↦
         (let off : eqb place pl ≡ false = other_test pl place ne in
         let none : cond (eqb place pl) (weight (leads_to q n (process, number))) 0 ≡ 0 =
         ap (λ (b : Bool). cond b (weight (leads_to q n (process, number))) 0) off in
-        let same = ap (count_by (leads_to q n)) (list_other links.trailers place pl (trailers_of links.trailers place ++ (process, number) ∷ []) ne) in
+        let same = ap (count_by (leads_to q n)) (list_other links.trailers place pl
+        (trailers_of links.trailers place ++ (process, number) ∷ []) ne) in
         omega (arith, same, none))
   ]
 
-  exact_connected : AreExact (linked links process number place mode pages).trailers (linked links process number place mode pages).descriptors
+  exact_connected : AreExact (linked links process number place mode pages).trailers
+      (linked links process number place mode pages).descriptors
   exact_connected pl q n = elim (pair_cases q n process number) [
     | inl e ↦ exact_this pl q n e.0 e.1
     | inr other ↦
         (let count = counted q n pl in
         let none : weight (leads_to q n (process, number)) ≡ 0 = leads_to_not q n (process, number) other in
-        let same : leads_at (linked links process number place mode pages).descriptors q n ≡ leads_at links.descriptors q n =
+        let same : leads_at (linked links process number place mode pages).descriptors q n
+        ≡ leads_at links.descriptors q n =
         leads_other links.descriptors process number (Present place mode pages) in_descriptors in_words q n other in
         let was = k.exact pl q n in
-        let times_is : times (leads_at (linked links process number place mode pages).descriptors q n) pl ≡ times (leads_at links.descriptors q n) pl =
+        let times_is : times (leads_at (linked links process number place mode pages).descriptors q n) pl
+        ≡ times (leads_at links.descriptors q n) pl =
         ap (λ (at : Option ℕ). times at pl) same in
-        let nothing : cond (eqb place pl) (weight (leads_to q n (process, number))) 0 ≡ 0 = zero_either (eqb place pl) _ none in
+        let nothing : cond (eqb place pl) (weight (leads_to q n (process, number))) 0 ≡ 0 =
+        zero_either (eqb place pl) _ none in
         omega (arith, count, nothing, was, times_is))
   ]
     where
@@ -101,21 +120,25 @@ module _ (entries : List (Option Entry)) (links : Links) (process number place u
       exact_this pl q n e f =
           let count = counted q n pl in
           let one : leads_to q n (process, number) ≡ true =
-          ap (λ (a : ℕ). leads_to a n (process, number)) e ∙ ap (λ (b : ℕ). leads_to process b (process, number)) f ∙ leads_to_itself process number in
+          ap (λ (a : ℕ). leads_to a n (process, number)) e ∙ ap (λ (b : ℕ). leads_to process b (process, number)) f
+          ∙ leads_to_itself process number in
           let was = k.exact pl q n in
           let none : times (leads_at links.descriptors q n) pl ≡ 0 =
-          ap (λ (at : Option ℕ). times at pl) (ap (λ (a : ℕ). leads_at links.descriptors a n) e ∙ ap (leads_at links.descriptors process) f ∙ cut) in
+          ap (λ (at : Option ℕ). times at pl) (ap (λ (a : ℕ). leads_at links.descriptors a n) e
+          ∙ ap (leads_at links.descriptors process) f ∙ cut) in
           let now : leads_at (linked links process number place mode pages).descriptors q n ≡ Some place =
           ap (λ (a : ℕ). leads_at (linked links process number place mode pages).descriptors a n) e
           ∙ ap (leads_at (linked links process number place mode pages).descriptors process) f
           ∙ leads_this links.descriptors process number (Present place mode pages) in_descriptors in_words in
-          let times_is : times (leads_at (linked links process number place mode pages).descriptors q n) pl ≡ cond (eqb place pl) 1 0 =
+          let times_is : times (leads_at (linked links process number place mode pages).descriptors q n) pl
+          ≡ cond (eqb place pl) 1 0 =
           ap (λ (at : Option ℕ). times at pl) now in
           let is : cond (eqb place pl) (weight (leads_to q n (process, number))) 0 ≡ cond (eqb place pl) 1 0 =
           ap (λ (b : Bool). cond (eqb place pl) (weight b) 0) one in
           omega (arith, count, was, none, times_is, is)
 
-  known_connected : (q n pl : ℕ) → leads_at (linked links process number place mode pages).descriptors q n ≡ Some pl → IsKnownAt entries links.known q n pl
+  known_connected : (q n pl : ℕ) → leads_at (linked links process number place mode pages).descriptors q n ≡ Some pl
+      → IsKnownAt entries links.known q n pl
   known_connected q n pl e = elim (pair_cases q n process number) [
     | inl here ↦
         (let now : leads_at (linked links process number place mode pages).descriptors q n ≡ Some place =
@@ -126,9 +149,11 @@ module _ (entries : List (Option Entry)) (links : Links) (process number place u
         record {
           uid = uid;
           active = ap (uid_at entries) (sym same) ∙ active;
-          known_as = ap (λ (a : ℕ). uid_of (kst_at links.known a) n) here.0 ∙ ap (uid_of (kst_at links.known process)) here.1 ∙ known_as;
+          known_as = ap (λ (a : ℕ). uid_of (kst_at links.known a) n) here.0
+              ∙ ap (uid_of (kst_at links.known process)) here.1 ∙ known_as;
         })
-    | inr other ↦ k.known q n pl (sym (leads_other links.descriptors process number (Present place mode pages) in_descriptors in_words q n other) ∙ e)
+    | inr other ↦ k.known q n pl (sym (leads_other links.descriptors process number (Present place mode pages)
+        in_descriptors in_words q n other) ∙ e)
   ]
 
   pub linked_connected : AreLinked entries (linked links process number place mode pages)
@@ -137,26 +162,32 @@ module _ (entries : List (Option Entry)) (links : Links) (process number place u
     known = known_connected;
     each = k.each;
     lists = record {
-      places = length-set links.trailers place (trailers_of links.trailers place ++ (process, number) ∷ []) ∙ k.lists.places;
-      processes = length-set links.descriptors process (set (sdws_at links.descriptors process) number (Present place mode pages)) ∙ k.lists.processes;
+      places = length-set links.trailers place (trailers_of links.trailers place ++ (process, number) ∷ [])
+          ∙ k.lists.places;
+      processes = length-set links.descriptors process
+          (set (sdws_at links.descriptors process) number (Present place mode pages)) ∙ k.lists.processes;
       few = k.lists.few;
       numbers = k.lists.numbers;
-      words = λ q lt. words_kept links.descriptors process number (Present place mode pages) in_descriptors in_words q ∙ k.lists.words q lt;
+      words = λ q lt. words_kept links.descriptors process number (Present place mode pages) in_descriptors in_words q
+          ∙ k.lists.words q lt;
     };
   }
 
   -- what other numbers lead to stays
   pub others_connected : (q n : ℕ) → (q ≡ process → n ≢ number)
       → leads_at (linked links process number place mode pages).descriptors q n ≡ leads_at links.descriptors q n
-  others_connected q n other = leads_other links.descriptors process number (Present place mode pages) in_descriptors in_words q n other
+  others_connected q n other = leads_other links.descriptors process number (Present place mode pages) in_descriptors
+      in_words q n other
 
   -- there was room for one more trailer
   pub room : length (trailers_of links.trailers place) < 32
   room =
       let most = most_trailers entries (linked links process number place mode pages) place linked_connected in
-      let list : trailers_of (linked links process number place mode pages).trailers place ≡ trailers_of links.trailers place ++ (process, number) ∷ [] =
+      let list : trailers_of (linked links process number place mode pages).trailers place
+      ≡ trailers_of links.trailers place ++ (process, number) ∷ [] =
       list_same links.trailers place (trailers_of links.trailers place ++ (process, number) ∷ []) place_within in
-      let long : length (trailers_of (linked links process number place mode pages).trailers place) ≡ length (trailers_of links.trailers place) + 1 =
+      let long : length (trailers_of (linked links process number place mode pages).trailers place)
+      ≡ length (trailers_of links.trailers place) + 1 =
       ap length list ∙ length-push (trailers_of links.trailers place) (process, number) in
       omega (arith, most, long)
 
@@ -173,7 +204,8 @@ module _ (entries : List (Option Entry)) (links : Links) (process number place :
   pub cut_number : number < 256
   cut_number = elim (cases_lt number (length (sdws_at links.descriptors process))) [
     | inl lt ↦ (let size = k.lists.words process cut_process in omega (arith, lt, size))
-    | inr past ↦ absurd (none-some place (sym (ap leads (get_or_past (sdws_at links.descriptors process) number Fault past)) ∙ leading))
+    | inr past ↦ absurd (none-some place (sym (ap leads
+        (get_or_past (sdws_at links.descriptors process) number Fault past)) ∙ leading))
   ]
 
   cut_in_words : number < length (sdws_at links.descriptors process)
@@ -187,58 +219,75 @@ module _ (entries : List (Option Entry)) (links : Links) (process number place :
         | inl lt ↦ lt
         | inr past ↦
             (let count = k.exact place process number in
-            let one : times (leads_at links.descriptors process number) place ≡ 1 = ap (λ (at : Option ℕ). times at place) leading ∙ times_same place in
+            let one : times (leads_at links.descriptors process number) place ≡ 1 =
+            ap (λ (at : Option ℕ). times at place) leading ∙ times_same place in
             let none : count_by (leads_to process number) (trailers_of links.trailers place) ≡ 0 =
             ap (count_by (leads_to process number)) (get_or_past links.trailers place [] past) in
             absurd (omega (arith, count, one, none)))
       ]
 
   -- its trailer
-  pub found : (i : ℕ) × (i < length (trailers_of links.trailers place)) × (leads_to process number (get_or (trailers_of links.trailers place) i (process, number)) ≡ true)
+  pub found : (i : ℕ) × (i < length (trailers_of links.trailers place))
+      × (leads_to process number (get_or (trailers_of links.trailers place) i (process, number)) ≡ true)
   found =
       let count = k.exact place process number in
-      let one : times (leads_at links.descriptors process number) place ≡ 1 = ap (λ (at : Option ℕ). times at place) leading ∙ times_same place in
-      count_some (leads_to process number) (trailers_of links.trailers place) (process, number) (omega (arith, count, one))
+      let one : times (leads_at links.descriptors process number) place ≡ 1 =
+      ap (λ (at : Option ℕ). times at place) leading ∙ times_same place in
+      count_some (leads_to process number) (trailers_of links.trailers place) (process, number)
+      (omega (arith, count, one))
 
   pub cut_there : Contains (trailers_of links.trailers place) (process, number)
   cut_there =
-      let same = leads_to_is process number (get_or (trailers_of links.trailers place) found.0 (process, number)) found.2 in
+      let same = leads_to_is process number (get_or (trailers_of links.trailers place) found.0 (process, number))
+      found.2 in
       (found.0, found.1, pair_is (get_or (trailers_of links.trailers place) found.0 (process, number)) same.0 same.1)
     where
       pair_is : (x : ℕ × ℕ) → x.0 ≡ process → x.1 ≡ number → ◌≡◌ {A = ℕ × ℕ} x (process, number)
       pair_is x e f = ap (λ (a : ℕ). (a, x.1)) e ∙ ap (λ (b : ℕ). (process, b)) f
 
   -- how a list of trailers counts after the one is taken out
-  counted_less : (q n pl : ℕ) → count_by (leads_to q n) (trailers_of (set links.trailers place (without_trailer (trailers_of links.trailers place) process number)) pl)
-      + cond (eqb place pl) (weight (leads_to q n (process, number))) 0 ≡ count_by (leads_to q n) (trailers_of links.trailers pl)
+  counted_less : (q n pl : ℕ) → count_by (leads_to q n)
+      (trailers_of (set links.trailers place (without_trailer (trailers_of links.trailers place) process number)) pl)
+      + cond (eqb place pl) (weight (leads_to q n (process, number))) 0
+      ≡ count_by (leads_to q n) (trailers_of links.trailers pl)
   counted_less q n pl = elim (cases_eq pl place) [
     | inl e ↦
-        (let list : trailers_of (set links.trailers place (without_trailer (trailers_of links.trailers place) process number)) pl
+        (let list : trailers_of (set links.trailers place
+        (without_trailer (trailers_of links.trailers place) process number)) pl
         ≡ without_trailer (trailers_of links.trailers place) process number =
-        ap (trailers_of (set links.trailers place (without_trailer (trailers_of links.trailers place) process number))) e
-        ∙ list_same links.trailers place (without_trailer (trailers_of links.trailers place) process number) cut_place in
-        let count = without_counts (trailers_of links.trailers place) (place_in (trailers_of links.trailers place) process number) q n refl in
+        ap (trailers_of (set links.trailers place (without_trailer (trailers_of links.trailers place) process number)))
+        e
+        ∙ list_same links.trailers place (without_trailer (trailers_of links.trailers place) process number) cut_place
+        in
+        let count = without_counts (trailers_of links.trailers place)
+        (place_in (trailers_of links.trailers place) process number) q n refl in
         let here : eqb place pl ≡ true = same_test pl place e in
-        let is : cond (eqb place pl) (weight (leads_to q n (process, number))) 0 ≡ weight (leads_to q n (process, number)) =
+        let is : cond (eqb place pl) (weight (leads_to q n (process, number))) 0
+        ≡ weight (leads_to q n (process, number)) =
         ap (λ (b : Bool). cond b (weight (leads_to q n (process, number))) 0) here in
         let same = ap (count_by (leads_to q n)) list in
-        let old : count_by (leads_to q n) (trailers_of links.trailers pl) ≡ count_by (leads_to q n) (trailers_of links.trailers place) =
+        let old : count_by (leads_to q n) (trailers_of links.trailers pl)
+        ≡ count_by (leads_to q n) (trailers_of links.trailers place) =
         ap (λ (m : ℕ). count_by (leads_to q n) (trailers_of links.trailers m)) e in
         omega (arith, count, is, same, old))
     | inr ne ↦
         (let off : eqb place pl ≡ false = other_test pl place ne in
         let none : cond (eqb place pl) (weight (leads_to q n (process, number))) 0 ≡ 0 =
         ap (λ (b : Bool). cond b (weight (leads_to q n (process, number))) 0) off in
-        let same = ap (count_by (leads_to q n)) (list_other links.trailers place pl (without_trailer (trailers_of links.trailers place) process number) ne) in
+        let same = ap (count_by (leads_to q n)) (list_other links.trailers place pl
+        (without_trailer (trailers_of links.trailers place) process number) ne) in
         omega (arith, same, none))
   ]
     where
-      without_counts : (xs : List (ℕ × ℕ)) (at : Option ℕ) (q n : ℕ) → place_in (trailers_of links.trailers place) process number ≡ at
-          → count_by (leads_to q n) (without_trailer (trailers_of links.trailers place) process number) + weight (leads_to q n (process, number))
+      without_counts : (xs : List (ℕ × ℕ)) (at : Option ℕ) (q n : ℕ)
+          → place_in (trailers_of links.trailers place) process number ≡ at
+          → count_by (leads_to q n) (without_trailer (trailers_of links.trailers place) process number) + weight
+          (leads_to q n (process, number))
           ≡ count_by (leads_to q n) (trailers_of links.trailers place)
       without_counts xs None q n e =
           (let some : IsSome (place_in (trailers_of links.trailers place) process number) =
-          position_there (leads_to process number) (trailers_of links.trailers place) found.0 (process, number) found.1 found.2 in
+          position_there (leads_to process number) (trailers_of links.trailers place) found.0 (process, number) found.1
+          found.2 in
           absurd (no_place (place_in (trailers_of links.trailers place) process number) some e))
         where
           no_place : (o : Option ℕ) → IsSome o → o ≡ None → ⊥
@@ -249,64 +298,81 @@ module _ (entries : List (Option Entry)) (links : Links) (process number place :
           let at = position-Some (leads_to process number) those i (process, number) e in
           let pair = leads_to_is process number (get_or those i (process, number)) at.1 in
           let count = count_remove (leads_to q n) those i (process, number) at.0 in
-          let here : weight (leads_to q n (get_or those i (process, number))) ≡ weight (leads_to q n (process, number)) =
+          let here : weight (leads_to q n (get_or those i (process, number)))
+          ≡ weight (leads_to q n (process, number)) =
           weight_of q n (get_or those i (process, number)) pair.0 pair.1 in
-          let list : count_by (leads_to q n) (without_trailer those process number) ≡ count_by (leads_to q n) (remove those i) =
+          let list : count_by (leads_to q n) (without_trailer those process number)
+          ≡ count_by (leads_to q n) (remove those i) =
           ap (λ (o : Option ℕ). count_by (leads_to q n) (without_place those o)) e in
           omega (arith, count, here, list)
         where
-          weight_of : (q n : ℕ) (x : ℕ × ℕ) → x.0 ≡ process → x.1 ≡ number → weight (leads_to q n x) ≡ weight (leads_to q n (process, number))
-          weight_of q n x e f = ap (λ (a : ℕ). weight (leads_to q n (a, x.1))) e ∙ ap (λ (b : ℕ). weight (leads_to q n (process, b))) f
+          weight_of : (q n : ℕ) (x : ℕ × ℕ) → x.0 ≡ process → x.1 ≡ number → weight (leads_to q n x)
+              ≡ weight (leads_to q n (process, number))
+          weight_of q n x e f = ap (λ (a : ℕ). weight (leads_to q n (a, x.1))) e
+              ∙ ap (λ (b : ℕ). weight (leads_to q n (process, b))) f
 
   -- the list is shorter then
-  pub without_shorter : length (trailers_of (unlinked links process number (Some place)).trailers place) < length (trailers_of links.trailers place)
+  pub without_shorter : length (trailers_of (unlinked links process number (Some place)).trailers place) < length
+      (trailers_of links.trailers place)
   without_shorter =
       let some : IsSome (place_in (trailers_of links.trailers place) process number) =
-      position_there (leads_to process number) (trailers_of links.trailers place) found.0 (process, number) found.1 found.2 in
-      let list : trailers_of (unlinked links process number (Some place)).trailers place ≡ without_trailer (trailers_of links.trailers place) process number =
+      position_there (leads_to process number) (trailers_of links.trailers place) found.0 (process, number) found.1
+      found.2 in
+      let list : trailers_of (unlinked links process number (Some place)).trailers place
+      ≡ without_trailer (trailers_of links.trailers place) process number =
       list_same links.trailers place (without_trailer (trailers_of links.trailers place) process number) cut_place in
       let less = shorter (place_in (trailers_of links.trailers place) process number) refl some in
       let same = ap length list in
       omega (arith, less, same)
     where
       shorter : (at : Option ℕ) → place_in (trailers_of links.trailers place) process number ≡ at → IsSome at
-          → length (without_trailer (trailers_of links.trailers place) process number) < length (trailers_of links.trailers place)
+          → length (without_trailer (trailers_of links.trailers place) process number) < length
+          (trailers_of links.trailers place)
       shorter None e some = cc
       shorter (Some i) e some =
           let those : List (ℕ × ℕ) = trailers_of links.trailers place in
           let at = position-Some (leads_to process number) those i (process, number) e in
           let long = length-remove those i at.0 in
-          let is : length (without_trailer those process number) ≡ length (remove those i) = ap (λ (o : Option ℕ). length (without_place those o)) e in
+          let is : length (without_trailer those process number) ≡ length (remove those i) =
+          ap (λ (o : Option ℕ). length (without_place those o)) e in
           omega (arith, long, is)
 
-  exact_cut : AreExact (unlinked links process number (Some place)).trailers (unlinked links process number (Some place)).descriptors
+  exact_cut : AreExact (unlinked links process number (Some place)).trailers
+      (unlinked links process number (Some place)).descriptors
   exact_cut pl q n = elim (pair_cases q n process number) [
     | inl e ↦
         (let count = counted_less q n pl in
         let one : leads_to q n (process, number) ≡ true =
-        ap (λ (a : ℕ). leads_to a n (process, number)) e.0 ∙ ap (λ (b : ℕ). leads_to process b (process, number)) e.1 ∙ leads_to_itself process number in
+        ap (λ (a : ℕ). leads_to a n (process, number)) e.0 ∙ ap (λ (b : ℕ). leads_to process b (process, number)) e.1
+        ∙ leads_to_itself process number in
         let was = k.exact pl q n in
         let full : times (leads_at links.descriptors q n) pl ≡ cond (eqb place pl) 1 0 =
-        ap (λ (at : Option ℕ). times at pl) (ap (λ (a : ℕ). leads_at links.descriptors a n) e.0 ∙ ap (leads_at links.descriptors process) e.1 ∙ leading) in
+        ap (λ (at : Option ℕ). times at pl) (ap (λ (a : ℕ). leads_at links.descriptors a n) e.0
+        ∙ ap (leads_at links.descriptors process) e.1 ∙ leading) in
         let now : leads_at (unlinked links process number (Some place)).descriptors q n ≡ None =
         ap (λ (a : ℕ). leads_at (unlinked links process number (Some place)).descriptors a n) e.0
         ∙ ap (leads_at (unlinked links process number (Some place)).descriptors process) e.1
         ∙ leads_this links.descriptors process number Fault cut_in_descriptors cut_in_words in
-        let none : times (leads_at (unlinked links process number (Some place)).descriptors q n) pl ≡ 0 = ap (λ (at : Option ℕ). times at pl) now in
+        let none : times (leads_at (unlinked links process number (Some place)).descriptors q n) pl ≡ 0 =
+        ap (λ (at : Option ℕ). times at pl) now in
         let is : cond (eqb place pl) (weight (leads_to q n (process, number))) 0 ≡ cond (eqb place pl) 1 0 =
         ap (λ (b : Bool). cond (eqb place pl) (weight b) 0) one in
         omega (arith, count, was, full, none, is))
     | inr other ↦
         (let count = counted_less q n pl in
         let none : weight (leads_to q n (process, number)) ≡ 0 = leads_to_not q n (process, number) other in
-        let same : times (leads_at (unlinked links process number (Some place)).descriptors q n) pl ≡ times (leads_at links.descriptors q n) pl =
-        ap (λ (at : Option ℕ). times at pl) (leads_other links.descriptors process number Fault cut_in_descriptors cut_in_words q n other) in
+        let same : times (leads_at (unlinked links process number (Some place)).descriptors q n) pl
+        ≡ times (leads_at links.descriptors q n) pl =
+        ap (λ (at : Option ℕ). times at pl) (leads_other links.descriptors process number Fault cut_in_descriptors
+        cut_in_words q n other) in
         let was = k.exact pl q n in
-        let nothing : cond (eqb place pl) (weight (leads_to q n (process, number))) 0 ≡ 0 = zero_either (eqb place pl) _ none in
+        let nothing : cond (eqb place pl) (weight (leads_to q n (process, number))) 0 ≡ 0 =
+        zero_either (eqb place pl) _ none in
         omega (arith, count, nothing, was, same))
   ]
 
-  known_cut : (q n pl : ℕ) → leads_at (unlinked links process number (Some place)).descriptors q n ≡ Some pl → IsKnownAt entries links.known q n pl
+  known_cut : (q n pl : ℕ) → leads_at (unlinked links process number (Some place)).descriptors q n ≡ Some pl
+      → IsKnownAt entries links.known q n pl
   known_cut q n pl e = elim (pair_cases q n process number) [
     | inl here ↦
         (let now : leads_at (unlinked links process number (Some place)).descriptors q n ≡ None =
@@ -314,7 +380,8 @@ module _ (entries : List (Option Entry)) (links : Links) (process number place :
         ∙ ap (leads_at (unlinked links process number (Some place)).descriptors process) here.1
         ∙ leads_this links.descriptors process number Fault cut_in_descriptors cut_in_words in
         absurd (none-some pl (sym now ∙ e)))
-    | inr other ↦ k.known q n pl (sym (leads_other links.descriptors process number Fault cut_in_descriptors cut_in_words q n other) ∙ e)
+    | inr other ↦ k.known q n pl (sym (leads_other links.descriptors process number Fault cut_in_descriptors
+        cut_in_words q n other) ∙ e)
   ]
 
   pub linked_cut : AreLinked entries (unlinked links process number (Some place))
@@ -323,19 +390,24 @@ module _ (entries : List (Option Entry)) (links : Links) (process number place :
     known = known_cut;
     each = k.each;
     lists = record {
-      places = length-set links.trailers place (without_trailer (trailers_of links.trailers place) process number) ∙ k.lists.places;
-      processes = length-set links.descriptors process (set (sdws_at links.descriptors process) number Fault) ∙ k.lists.processes;
+      places = length-set links.trailers place (without_trailer (trailers_of links.trailers place) process number)
+          ∙ k.lists.places;
+      processes = length-set links.descriptors process (set (sdws_at links.descriptors process) number Fault)
+          ∙ k.lists.processes;
       few = k.lists.few;
       numbers = k.lists.numbers;
-      words = λ q lt. words_kept links.descriptors process number Fault cut_in_descriptors cut_in_words q ∙ k.lists.words q lt;
+      words = λ q lt. words_kept links.descriptors process number Fault cut_in_descriptors cut_in_words q
+          ∙ k.lists.words q lt;
     };
   }
 
 -- ---- a known segment table changes
 
-module _ (entries : List (Option Entry)) (links : Links) (process : ℕ) (kst : List (Option ℕ)) (k : AreLinked entries links) (within : process < length links.known)
+module _ (entries : List (Option Entry)) (links : Links) (process : ℕ) (kst : List (Option ℕ))
+    (k : AreLinked entries links) (within : process < length links.known)
     (once : HasOneNumberEach kst) (size : length kst ≡ 256)
-    (kept : (n v place : ℕ) → leads_at links.descriptors process n ≡ Some place → uid_of (kst_at links.known process) n ≡ Some v → uid_of kst n ≡ Some v) where
+    (kept : (n v place : ℕ) → leads_at links.descriptors process n ≡ Some place → uid_of (kst_at links.known process) n
+    ≡ Some v → uid_of kst n ≡ Some v) where
   kst_this : (q : ℕ) → q ≡ process → kst_at (set links.known process kst) q ≡ kst
   kst_this q e = ap (kst_at (set links.known process kst)) e ∙ get_or-set_same links.known process kst [] within
 
@@ -371,7 +443,8 @@ module _ (entries : List (Option Entry)) (links : Links) (process : ℕ) (kst : 
       few = (let same = length-set links.known process kst in let few = k.lists.few in omega (arith, same, few));
       numbers = λ q lt. elim (cases_eq q process) [
         | inl same ↦ ap length (kst_this q same) ∙ size
-        | inr ne ↦ ap length (kst_other q ne) ∙ k.lists.numbers q (let long = length-set links.known process kst in omega (arith, lt, long))
+        | inr ne ↦ ap length (kst_other q ne) ∙ k.lists.numbers q
+            (let long = length-set links.known process kst in omega (arith, lt, long))
       ];
       words = λ q lt. k.lists.words q (let long = length-set links.known process kst in omega (arith, lt, long));
     };

@@ -1,5 +1,6 @@
 -- How often a list has an element that passes a test.
-use Rattle.std.proofs.Common.{◌≡◌, ℕ, suc, zero, ◌<◌, ◌≤◌, ◌+◌, Bool, true, false, cond, eqb, ltb, not, List, [], ◌∷◌, ◌++◌, length, None, Some, IsSome, refl}
+use Rattle.std.proofs.Common.{◌≡◌, ℕ, suc, zero, ◌<◌, ◌≤◌, ◌+◌, Bool, true, false, cond, eqb, ltb, not, List, [], ◌∷◌}
+use Rattle.std.proofs.Common.{◌++◌, length, None, Some, IsSome, refl}
 use Rattle.std.proofs.Common.{sym, ap, ◌∙◌, ◌||◌, arith, get_or, count_by, position, map, remove}
 use Rattle.std.specs.List.{position_or_len, list_any}
 use Rattle.std.proofs.lemmas.Bool.{eqb-true, ltb-false, not-true, both_ways}
@@ -11,18 +12,24 @@ weight b = cond b 1 0
 pub count_cons : {X : Type 0} (p : X → Bool) (x : X) (xs : List X) → count_by p (x ∷ xs) ≡ weight (p x) + count_by p xs
 count_cons p x xs = sum_by-cons (λ y. cond (p y) 1 0) x xs
 
-pub count_push : {X : Type 0} (p : X → Bool) (xs : List X) (x : X) → count_by p (xs ++ x ∷ []) ≡ count_by p xs + weight (p x)
+pub count_push : {X : Type 0} (p : X → Bool) (xs : List X) (x : X) → count_by p (xs ++ x ∷ [])
+    ≡ count_by p xs + weight (p x)
 count_push p xs x = sum_by_push (λ y. cond (p y) 1 0) xs x
 
-pub count_remove : {X : Type 0} (p : X → Bool) (xs : List X) (i : ℕ) (d : X) → i < length xs → count_by p (remove xs i) + weight (p (get_or xs i d)) ≡ count_by p xs
+pub count_remove : {X : Type 0} (p : X → Bool) (xs : List X) (i : ℕ) (d : X) → i < length xs
+    → count_by p (remove xs i) + weight (p (get_or xs i d)) ≡ count_by p xs
 count_remove p xs i d lt = sum_by-remove (λ y. cond (p y) 1 0) xs i d lt
 
-pub count_one : {X : Type 0} (p : X → Bool) (xs : List X) (i : ℕ) (d : X) → i < length xs → p (get_or xs i d) ≡ true → 1 ≤ count_by p xs
+pub count_one : {X : Type 0} (p : X → Bool) (xs : List X) (i : ℕ) (d : X) → i < length xs → p (get_or xs i d) ≡ true
+    → 1 ≤ count_by p xs
 count_one p [] i d lt e = omega arith
-count_one p (x ∷ xs) zero d lt e = let is = count_cons p x xs in let one : weight (p x) ≡ 1 = ap weight e in omega (arith, is, one)
-count_one p (x ∷ xs) (suc i) d lt e = let is = count_cons p x xs in let more = count_one p xs i d (omega arith) e in omega (arith, is, more)
+count_one p (x ∷ xs) zero d lt e = let is = count_cons p x xs in let one : weight (p x) ≡ 1 =
+    ap weight e in omega (arith, is, one)
+count_one p (x ∷ xs) (suc i) d lt e = let is = count_cons p x xs in let more =
+    count_one p xs i d (omega arith) e in omega (arith, is, more)
 
-pub count_two : {X : Type 0} (p : X → Bool) (xs : List X) (i j : ℕ) (d : X) → i < j → j < length xs → p (get_or xs i d) ≡ true → p (get_or xs j d) ≡ true
+pub count_two : {X : Type 0} (p : X → Bool) (xs : List X) (i j : ℕ) (d : X) → i < j → j < length xs → p (get_or xs i d)
+    ≡ true → p (get_or xs j d) ≡ true
     → 2 ≤ count_by p xs
 count_two p [] i j d less lt e f = omega arith
 count_two p (x ∷ xs) i zero d less lt e f = omega arith
@@ -37,7 +44,8 @@ count_two p (x ∷ xs) (suc i) (suc j) d less lt e f =
     omega (arith, is, more)
 
 -- an element that passes
-pub count_some : {X : Type 0} (p : X → Bool) (xs : List X) (d : X) → 1 ≤ count_by p xs → (i : ℕ) × (i < length xs) × (p (get_or xs i d) ≡ true)
+pub count_some : {X : Type 0} (p : X → Bool) (xs : List X) (d : X) → 1 ≤ count_by p xs → (i : ℕ) × (i < length xs)
+    × (p (get_or xs i d) ≡ true)
 count_some p [] d le = absurd (omega arith)
 count_some {X} p (x ∷ xs) d le = by_head (p x) refl (λ more. count_some p xs d more)
   where
@@ -50,21 +58,25 @@ count_some {X} p (x ∷ xs) d le = by_head (p x) refl (λ more. count_some p xs 
         let found = rest (omega (arith, is, none, le)) in
         let lt = found.1 in (suc found.0, omega (arith, lt), found.2)
 
-pub position_there : {X : Type 0} (p : X → Bool) (xs : List X) (k : ℕ) (d : X) → k < length xs → p (get_or xs k d) ≡ true → IsSome (position p xs)
+pub position_there : {X : Type 0} (p : X → Bool) (xs : List X) (k : ℕ) (d : X) → k < length xs → p (get_or xs k d)
+    ≡ true → IsSome (position p xs)
 position_there {X} p xs k d within holds = some_at (ltb (position_or_len p xs) (length xs)) refl
   where
-    some_at : (b : Bool) → ltb (position_or_len p xs) (length xs) ≡ b → IsSome (cond b (Some (position_or_len p xs)) None)
+    some_at : (b : Bool) → ltb (position_or_len p xs) (length xs) ≡ b
+        → IsSome (cond b (Some (position_or_len p xs)) None)
     some_at true is = refl
     some_at false is =
         let past : length xs ≤ position_or_len p xs = ltb-false _ _ is in
         absurd (both_ways _ (not-true _ (prefix_len_passes (λ x. not (p x)) xs k d (omega arith))) holds)
 
 -- a process that is among those of some pairs
-pub any_at : (q : ℕ) (xs : List (ℕ × ℕ)) (d : ℕ × ℕ) → list_any (eqb q) (map (λ x. x.0) xs) ≡ true → (i : ℕ) × (i < length xs) × (q ≡ (get_or xs i d).0)
+pub any_at : (q : ℕ) (xs : List (ℕ × ℕ)) (d : ℕ × ℕ) → list_any (eqb q) (map (λ x. x.0) xs) ≡ true → (i : ℕ)
+    × (i < length xs) × (q ≡ (get_or xs i d).0)
 any_at q [] d e = cc
 any_at q (x ∷ xs) d e = by_head (eqb q x.0) refl (λ any. any_at q xs d any)
   where
-    by_head : (b : Bool) → eqb q x.0 ≡ b → (list_any (eqb q) (map (λ y. y.0) xs) ≡ true → (i : ℕ) × (i < length xs) × (q ≡ (get_or xs i d).0))
+    by_head : (b : Bool) → eqb q x.0 ≡ b → (list_any (eqb q) (map (λ y. y.0) xs) ≡ true → (i : ℕ) × (i < length xs)
+        × (q ≡ (get_or xs i d).0))
         → (i : ℕ) × (i < length (x ∷ xs)) × (q ≡ (get_or (x ∷ xs) i d).0)
     by_head true h rest = (0, omega arith, eqb-true q x.0 h)
     by_head false h rest =

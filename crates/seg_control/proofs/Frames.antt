@@ -25,11 +25,13 @@ page_of_bound (Started u q) e = cc
 page_of_bound (Bound u q used modified) e = refl
 
 -- a bound frame has its page
-pub bound_to : (core : Core) (f : ℕ) → is_bound (frame_at core f) ≡ true → binding_at (bindings core) f ≡ Some (uid_in (frame_at core f), number_in (frame_at core f))
+pub bound_to : (core : Core) (f : ℕ) → is_bound (frame_at core f) ≡ true → binding_at (bindings core) f
+    ≡ Some (uid_in (frame_at core f), number_in (frame_at core f))
 bound_to core f e = binding_is core f ∙ page_of_bound (frame_at core f) e
 
 -- no other frame has it
-pub bound_once : (now : Plain) (entries : List (Option Entry)) (ptws : List (List Ptw)) (f : ℕ) → ArePaged now entries ptws → is_bound (frame_at now.core f) ≡ true
+pub bound_once : (now : Plain) (entries : List (Option Entry)) (ptws : List (List Ptw)) (f : ℕ)
+    → ArePaged now entries ptws → is_bound (frame_at now.core f) ≡ true
     → IsBoundOnce (bindings now.core) f
 bound_once now entries ptws f k e =
     let u : ℕ = uid_in (frame_at now.core f) in
@@ -48,11 +50,13 @@ started_from (Started u q) uid p e = same_page u q (same_Some _ _ e)
 started_from (Bound u q used modified) uid p e = cc
 
 -- a page that no frame is started for is being read into none
-pub none_started : (core : Core) (uid p : ℕ) → IsNotStarted core uid p → (f : ℕ) → read_at (reads_of core) f ≢ Some (uid, p)
+pub none_started : (core : Core) (uid p : ℕ) → IsNotStarted core uid p → (f : ℕ)
+    → read_at (reads_of core) f ≢ Some (uid, p)
 none_started core uid p h f e = h.none f (started_from (frame_at core f) uid p (sym (read_is core f) ∙ e))
 
 -- a frame that is started for a page
-pub started_for : (core : Core) (f uid p : ℕ) → frame_at core f ≡ Started uid p → read_at (reads_of core) f ≡ Some (uid, p)
+pub started_for : (core : Core) (f uid p : ℕ) → frame_at core f ≡ Started uid p → read_at (reads_of core) f
+    ≡ Some (uid, p)
 started_for core f uid p e = read_is core f ∙ ap started_page e
 
 pub same_vtocs : {D : Type 0} (new old : Vols D) → new ≡ old → new.vtocs ≡ old.vtocs

@@ -26,38 +26,46 @@ home_cases a b = elim (cases_eq a.volume b.volume) [
   | inr ne ↦ inr (λ same. ne (ap (λ (h : Home). h.volume) same))
 ]
   where
-    same_home : (v e w f : ℕ) → v ≡ w → e ≡ f → ◌≡◌ {A = Home} (record { volume = v; entry = e }) (record { volume = w; entry = f })
+    same_home : (v e w f : ℕ) → v ≡ w → e ≡ f → ◌≡◌ {A = Home} (record { volume = v; entry = e })
+        (record { volume = w; entry = f })
     same_home v e w f same same' =
         ap (λ (n : ℕ). record { volume = n; entry = e }) same ∙ ap (λ (n : ℕ). record { volume = w; entry = n }) same'
 
 -- frames and page tables stay, and homes change
-module _ (old now : Plain) (entries : List (Option Entry)) (ptws : List (List Ptw)) (k : ArePaged old entries ptws) (core : now.core ≡ old.core)
+module _ (old now : Plain) (entries : List (Option Entry)) (ptws : List (List Ptw)) (k : ArePaged old entries ptws)
+    (core : now.core ≡ old.core)
     (filed : AreFiled now.records now.vtocs)
-    (active : (place uid : ℕ) (home : Home) → uid_at entries place ≡ Some uid → IsHomeOf now.vtocs uid home → IsTied now uid home (table_at ptws place))
-    (rest : (uid : ℕ) (home : Home) → IsInactive entries uid → IsHomeOf now.vtocs uid home → HasTable now uid home) where
-  pub paged_homes : ArePaged now entries ptws
-  paged_homes = record {
-    tables = λ q u e. subst (λ (c : _). IsTableOf (bindings c) u (table_at ptws q)) (sym core) (k.tables q u e);
-    ties = active;
-    rest = rest;
-    blank = k.blank;
-    bound = λ f u p e. k.bound f u p (rw (← core) e);
-    started = λ f u p e. k.started f u p (rw (← core) e);
-    once = λ f g u p e e'. k.once f g u p (rw (← core) e) (rw (← core) e');
-    filed = filed;
-  }
+    (active : (place uid : ℕ) (home : Home) → uid_at entries place ≡ Some uid → IsHomeOf now.vtocs uid home
+    → IsTied now uid home (table_at ptws place))
+    (rest : (uid : ℕ) (home : Home) → IsInactive entries uid → IsHomeOf now.vtocs uid home → HasTable now uid home)
+  where
+    pub paged_homes : ArePaged now entries ptws
+    paged_homes = record {
+      tables = λ q u e. subst (λ (c : _). IsTableOf (bindings c) u (table_at ptws q)) (sym core) (k.tables q u e);
+      ties = active;
+      rest = rest;
+      blank = k.blank;
+      bound = λ f u p e. k.bound f u p (rw (← core) e);
+      started = λ f u p e. k.started f u p (rw (← core) e);
+      once = λ f g u p e e'. k.once f g u p (rw (← core) e) (rw (← core) e');
+      filed = filed;
+    }
 
 -- ---- a home is given up
 
-pub kept_erased : (old now : Plain) (ast : ActiveSegs) (links : Links) (home : Home) → IsKept old ast links → IsHomeOf old.vtocs (uid_of_home old home) home
-    → now ≡ erased old home → uid_homed now.vtocs home ≡ None → ((other : Home) → other ≢ home → uid_homed now.vtocs other ≡ uid_homed old.vtocs other)
+pub kept_erased : (old now : Plain) (ast : ActiveSegs) (links : Links) (home : Home) → IsKept old ast links
+    → IsHomeOf old.vtocs (uid_of_home old home) home
+    → now ≡ erased old home → uid_homed now.vtocs home ≡ None
+    → ((other : Home) → other ≢ home → uid_homed now.vtocs other ≡ uid_homed old.vtocs other)
     → AreFiled now.records now.vtocs
-    → ((uid : ℕ) (other : Home) (words : List Ptw) → other ≢ home → IsTied old uid other words → IsTied now uid other words) → IsKept now ast links
+    → ((uid : ℕ) (other : Home) (words : List Ptw) → other ≢ home → IsTied old uid other words
+    → IsTied now uid other words) → IsKept now ast links
 kept_erased old now ast links home k only effect gone uids filed ties =
     kept_paged old now ast links k
     (paged_homes old now ast.entries ast.tables k.paged (ap (λ (s : Plain). s.core) effect) filed
     (λ q u h e is. ties u h (table_at ast.tables q) (other u h is) (k.paged.ties q u h e (back u h is)))
-    (λ u h off is. (let was = k.paged.rest u h off (back u h is) in record { table = was.table; tie = ties u h was.table (other u h is) was.tie })))
+    (λ u h off is. (let was = k.paged.rest u h off (back u h is) in record
+    { table = was.table; tie = ties u h was.table (other u h is) was.tie })))
   where
     other : (u : ℕ) (h : Home) → IsHomeOf now.vtocs u h → h ≢ home
     other u h is same = none-some u (sym gone ∙ ap (uid_homed now.vtocs) (sym same) ∙ is.used)
@@ -82,20 +90,27 @@ free_uid None e = refl
 free_uid (Some entry) e = cc
 
 -- the entry that is taken was free
-was_free : (old : Plain) (volume e : ℕ) → Some e ≡ least_free_entry (vtoc_of old volume) → uid_homed old.vtocs (record { volume = volume; entry = e }) ≡ None
+was_free : (old : Plain) (volume e : ℕ) → Some e ≡ least_free_entry (vtoc_of old volume)
+    → uid_homed old.vtocs (record { volume = volume; entry = e }) ≡ None
 was_free old volume e least =
     let at = position-Some is_none (vtoc_of old volume) e None (sym least) in
     free_uid (vtoc_entry (vtoc_of old volume) e) at.1
 
-pub kept_homed : (result : Option ℕ) (old now : Plain) (ast : ActiveSegs) (links : Links) (volume uid : ℕ) → IsKept old ast links
-    → HasHomeIfActive old.vtocs ast.entries uid → result ≡ least_free_entry (vtoc_of old volume) → now ≡ after_asked old volume uid result
+pub kept_homed : (result : Option ℕ) (old now : Plain) (ast : ActiveSegs) (links : Links) (volume uid : ℕ)
+    → IsKept old ast links
+    → HasHomeIfActive old.vtocs ast.entries uid → result ≡ least_free_entry (vtoc_of old volume) → now
+    ≡ after_asked old volume uid result
     → IfSome result (λ e. uid_homed now.vtocs (record { volume = volume; entry = e }) ≡ Some uid)
     → ((u : ℕ) (h : Home) → uid_homed old.vtocs h ≡ Some u → uid_homed now.vtocs h ≡ Some u)
-    → ((other : Home) → IfSome result (λ e. other ≢ record { volume = volume; entry = e }) → uid_homed now.vtocs other ≡ uid_homed old.vtocs other)
-    → IfSome result (λ e. (words : List Ptw) → IsBlank words → HasNoFrame (bindings old.core) uid → AreFiled old.records old.vtocs
-    → IsTied now uid (record { volume = volume; entry = e }) words) → KeepsTies old now → (AreFiled old.records old.vtocs → AreFiled now.records now.vtocs)
+    → ((other : Home) → IfSome result (λ e. other ≢ record { volume = volume; entry = e }) → uid_homed now.vtocs other
+    ≡ uid_homed old.vtocs other)
+    → IfSome result (λ e. (words : List Ptw) → IsBlank words → HasNoFrame (bindings old.core) uid
+    → AreFiled old.records old.vtocs
+    → IsTied now uid (record { volume = volume; entry = e }) words) → KeepsTies old now
+    → (AreFiled old.records old.vtocs → AreFiled now.records now.vtocs)
     → IsKept now ast links
-kept_homed None old now ast links volume uid k has least effect home homes uids tie ties filed = subst (λ (s : Plain). IsKept s ast links) (sym effect) k
+kept_homed None old now ast links volume uid k has least effect home homes uids tie ties filed =
+    subst (λ (s : Plain). IsKept s ast links) (sym effect) k
 kept_homed (Some e) old now ast links volume uid k has least effect home homes uids tie ties filed =
     kept_paged old now ast links k
     (paged_homes old now ast.entries ast.tables k.paged (ap (λ (s : Plain). s.core) effect) (filed k.paged.filed)
@@ -112,8 +127,13 @@ kept_homed (Some e) old now ast links volume uid k has least effect home homes u
           } in
           let blank : IsBlank [] = record { pages = omega arith; null = λ p. refl } in
           let made : IsTied now uid it [] = tie [] blank none k.paged.filed in
-          record { table = []; tie = subst (λ (n : ℕ). IsTied now n h []) uid_is (subst (λ (x : Home). IsTied now uid x []) (sym same) made) })
-      | inr ne ↦ (let was = k.paged.rest u h off (back u h is ne) in record { table = was.table; tie = ties.ties u h was.table was.tie })
+          record {
+            table = [];
+            tie = subst (λ (n : ℕ). IsTied now n h []) uid_is
+                (subst (λ (x : Home). IsTied now uid x []) (sym same) made);
+          })
+      | inr ne ↦ (let was = k.paged.rest u h off (back u h is ne) in record
+          { table = was.table; tie = ties.ties u h was.table was.tie })
     ]))
   where
     it : Home
@@ -127,4 +147,5 @@ kept_homed (Some e) old now ast links volume uid k has least effect home homes u
         let uid_is : uid ≡ u = same_Some _ _ (sym home ∙ ap (uid_homed now.vtocs) (sym same) ∙ is.used) in
         let had = has.home (q, at ∙ ap (λ (n : ℕ). Some n) (sym uid_is)) in
         let there : had.0 ≡ h = is.only had.0 (homes u had.0 (had.1 ∙ ap (λ (n : ℕ). Some n) uid_is)) in
-        none-some uid (sym (was_free old volume e least) ∙ ap (uid_homed old.vtocs) (sym same) ∙ ap (uid_homed old.vtocs) (sym there) ∙ had.1)
+        none-some uid (sym (was_free old volume e least) ∙ ap (uid_homed old.vtocs) (sym same)
+        ∙ ap (uid_homed old.vtocs) (sym there) ∙ had.1)

@@ -1,5 +1,6 @@
 -- Descriptors, trailers and known segment tables after a call.
-use Rattle.std.proofs.Common.{◌≡◌, ◌≢◌, ◌⊎◌, ℕ, suc, zero, ◌<◌, ◌≤◌, Bool, true, false, eqb, List, [], ◌∷◌, length, Option, None, Some, refl, sym}
+use Rattle.std.proofs.Common.{◌≡◌, ◌≢◌, ◌⊎◌, ℕ, suc, zero, ◌<◌, ◌≤◌, Bool, true, false, eqb, List, [], ◌∷◌, length}
+use Rattle.std.proofs.Common.{Option, None, Some, refl, sym}
 use Rattle.std.proofs.Common.{ap, ◌∙◌, arith, set, get_or, inl, inr, ◌&&◌, map}
 use Rattle.std.proofs.lemmas.Bool.{cases_eq, cases_lt, eq-eqb, eqb-true, ne_eqb, and_from}
 use Rattle.std.proofs.lemmas.List.{get_or-set_same, get_or-set_other, get_or_past, length-set, length-map}
@@ -27,33 +28,41 @@ pair_cases q n process number = elim (cases_eq q process) [
 ]
 
 -- the process of a descriptor that leads somewhere
-pub leads_within : (descriptors : List (List Sdw)) (q n place : ℕ) → leads_at descriptors q n ≡ Some place → q < length descriptors
+pub leads_within : (descriptors : List (List Sdw)) (q n place : ℕ) → leads_at descriptors q n ≡ Some place
+    → q < length descriptors
 leads_within descriptors q n place e = elim (cases_lt q (length descriptors)) [
   | inl lt ↦ lt
-  | inr past ↦ absurd (none-some place (sym (ap (λ (words : List Sdw). leads (sdw_at words n)) (get_or_past descriptors q [] past)) ∙ e))
+  | inr past ↦ absurd (none-some place (sym (ap (λ (words : List Sdw). leads (sdw_at words n))
+      (get_or_past descriptors q [] past)) ∙ e))
 ]
 
 module _ (descriptors : List (List Sdw)) (process number : ℕ) (w : Sdw) (process_within : process < length descriptors)
     (number_within : number < length (sdws_at descriptors process)) where
-  pub leads_this : leads_at (set descriptors process (set (sdws_at descriptors process) number w)) process number ≡ leads w
+  pub leads_this : leads_at (set descriptors process (set (sdws_at descriptors process) number w)) process number
+      ≡ leads w
   leads_this =
-      ap (λ (words : List Sdw). leads (sdw_at words number)) (get_or-set_same descriptors process (set (sdws_at descriptors process) number w) [] process_within)
+      ap (λ (words : List Sdw). leads (sdw_at words number))
+      (get_or-set_same descriptors process (set (sdws_at descriptors process) number w) [] process_within)
       ∙ ap leads (get_or-set_same (sdws_at descriptors process) number w Fault number_within)
 
   pub leads_other : (q n : ℕ) → (q ≡ process → n ≢ number)
       → leads_at (set descriptors process (set (sdws_at descriptors process) number w)) q n ≡ leads_at descriptors q n
   leads_other q n other = elim (cases_eq q process) [
     | inl e ↦
-        (let here : sdws_at (set descriptors process (set (sdws_at descriptors process) number w)) q ≡ set (sdws_at descriptors process) number w =
+        (let here : sdws_at (set descriptors process (set (sdws_at descriptors process) number w)) q
+        ≡ set (sdws_at descriptors process) number w =
         ap (sdws_at (set descriptors process (set (sdws_at descriptors process) number w))) e
         ∙ get_or-set_same descriptors process (set (sdws_at descriptors process) number w) [] process_within in
         ap (λ (words : List Sdw). leads (sdw_at words n)) here
-        ∙ ap leads (get_or-set_other (sdws_at descriptors process) number n w Fault (other e)) ∙ ap (λ (k : ℕ). leads_at descriptors k n) (sym e))
+        ∙ ap leads (get_or-set_other (sdws_at descriptors process) number n w Fault (other e))
+        ∙ ap (λ (k : ℕ). leads_at descriptors k n) (sym e))
     | inr ne ↦
-        ap (λ (words : List Sdw). leads (sdw_at words n)) (get_or-set_other descriptors process q (set (sdws_at descriptors process) number w) [] ne)
+        ap (λ (words : List Sdw). leads (sdw_at words n))
+        (get_or-set_other descriptors process q (set (sdws_at descriptors process) number w) [] ne)
   ]
 
-  pub words_kept : (q : ℕ) → length (sdws_at (set descriptors process (set (sdws_at descriptors process) number w)) q) ≡ length (sdws_at descriptors q)
+  pub words_kept : (q : ℕ) → length (sdws_at (set descriptors process (set (sdws_at descriptors process) number w)) q)
+      ≡ length (sdws_at descriptors q)
   words_kept q = elim (cases_eq q process) [
     | inl e ↦
         ap (λ (k : ℕ). length (sdws_at (set descriptors process (set (sdws_at descriptors process) number w)) k)) e
@@ -72,7 +81,8 @@ both_parts true b e = (refl, e)
 both_parts false b e = cc
 
 pub leads_to_is : (q n : ℕ) (x : ℕ × ℕ) → leads_to q n x ≡ true → (x.0 ≡ q) × (x.1 ≡ n)
-leads_to_is q n x e = (let both = both_parts (eqb x.0 q) (eqb x.1 n) e in (eqb-true x.0 q both.0, eqb-true x.1 n both.1))
+leads_to_is q n x e = (let both = both_parts (eqb x.0 q) (eqb x.1 n) e in
+    (eqb-true x.0 q both.0, eqb-true x.1 n both.1))
 
 pub leads_to_not : (q n : ℕ) (x : ℕ × ℕ) → (q ≡ x.0 → n ≢ x.1) → weight (leads_to q n x) ≡ 0
 leads_to_not q n x other = by_test (leads_to q n x) refl
@@ -103,8 +113,10 @@ times_some (Some aste) place le = elim (cases_eq place aste) [
 ]
 
 -- a trailer leads to a descriptor that leads back
-pub trailer_leads : (trailers : List (List (ℕ × ℕ))) (descriptors : List (List Sdw)) (place i : ℕ) → AreExact trailers descriptors → i < length (trailers_of trailers place)
-    → leads_at descriptors (get_or (trailers_of trailers place) i (0, 0)).0 (get_or (trailers_of trailers place) i (0, 0)).1 ≡ Some place
+pub trailer_leads : (trailers : List (List (ℕ × ℕ))) (descriptors : List (List Sdw)) (place i : ℕ)
+    → AreExact trailers descriptors → i < length (trailers_of trailers place)
+    → leads_at descriptors (get_or (trailers_of trailers place) i (0, 0)).0
+    (get_or (trailers_of trailers place) i (0, 0)).1 ≡ Some place
 trailer_leads trailers descriptors place i exact lt =
     let x : ℕ × ℕ = get_or (trailers_of trailers place) i (0, 0) in
     let some = count_one (leads_to x.0 x.1) (trailers_of trailers place) i (0, 0) lt (leads_to_itself x.0 x.1) in
@@ -117,7 +129,8 @@ get_or_any (x ∷ xs) zero d e lt = refl
 get_or_any (x ∷ xs) (suc i) d e lt = get_or_any xs i d e (omega arith)
 
 -- no process has two trailers in one list, so there are at most as many as processes
-pub most_trailers : (entries : List (Option Entry)) (links : Links) (place : ℕ) → AreLinked entries links → length (trailers_of links.trailers place) ≤ 32
+pub most_trailers : (entries : List (Option Entry)) (links : Links) (place : ℕ) → AreLinked entries links
+    → length (trailers_of links.trailers place) ≤ 32
 most_trailers entries links place k =
     let xs : List (ℕ × ℕ) = trailers_of links.trailers place in
     let as_long : length (map (λ (x : ℕ × ℕ). x.0) xs) ≡ length xs = length-map xs (λ (x : ℕ × ℕ). x.0) in
@@ -125,23 +138,27 @@ most_trailers entries links place k =
     let same_count = k.lists.processes in
     let most : length (map (λ (x : ℕ × ℕ). x.0) xs) ≤ 32 =
     length-le_from_distinct_below (map (λ (x : ℕ × ℕ). x.0) xs) 32
-    (IsDistinct-from_apart eqb (map (λ (x : ℕ × ℕ). x.0) xs) (λ i j d less lt. apart i j d less (omega (arith, lt, as_long))))
+    (IsDistinct-from_apart eqb (map (λ (x : ℕ × ℕ). x.0) xs)
+    (λ i j d less lt. apart i j d less (omega (arith, lt, as_long))))
     (λ q any.
     (let found = any_at q xs (0, 0) any in
     let leading = trailer_leads links.trailers links.descriptors place found.0 k.exact found.1 in
-    let within = leads_within links.descriptors (get_or xs found.0 (0, 0)).0 (get_or xs found.0 (0, 0)).1 place leading in
+    let within = leads_within links.descriptors (get_or xs found.0 (0, 0)).0 (get_or xs found.0 (0, 0)).1 place leading
+    in
     let is = found.2 in
     omega (arith, within, is, few, same_count))) in
     omega (arith, most, as_long)
   where
-    first_at : (xs : List (ℕ × ℕ)) (i d : ℕ) → i < length xs → get_or (map (λ (x : ℕ × ℕ). x.0) xs) i d ≡ (get_or xs i (0, 0)).0
+    first_at : (xs : List (ℕ × ℕ)) (i d : ℕ) → i < length xs → get_or (map (λ (x : ℕ × ℕ). x.0) xs) i d
+        ≡ (get_or xs i (0, 0)).0
     first_at xs i d lt = get_or-map (λ (x : ℕ × ℕ). x.0) xs i (d, 0) ∙ ap (λ (x : ℕ × ℕ). x.0) (any_default xs i lt)
       where
         any_default : (xs : List (ℕ × ℕ)) (i : ℕ) → i < length xs → get_or xs i (d, 0) ≡ get_or xs i (0, 0)
         any_default xs i lt = get_or_any xs i (d, 0) (0, 0) lt
 
     apart : (i j d : ℕ) → i < j → j < length (trailers_of links.trailers place)
-        → eqb (get_or (map (λ (x : ℕ × ℕ). x.0) (trailers_of links.trailers place)) i d) (get_or (map (λ (x : ℕ × ℕ). x.0) (trailers_of links.trailers place)) j d)
+        → eqb (get_or (map (λ (x : ℕ × ℕ). x.0) (trailers_of links.trailers place)) i d)
+        (get_or (map (λ (x : ℕ × ℕ). x.0) (trailers_of links.trailers place)) j d)
         ≡ false
     apart i j d less lt =
         let xs : List (ℕ × ℕ) = trailers_of links.trailers place in
@@ -152,7 +169,8 @@ most_trailers entries links place k =
         ne_eqb _ _
         (λ same.
         (let process : b.0 ≡ a.0 = sym at_j ∙ sym same ∙ at_i in
-        let one = k.known a.0 a.1 place (trailer_leads links.trailers links.descriptors place i k.exact (omega (arith, less, lt))) in
+        let one = k.known a.0 a.1 place (trailer_leads links.trailers links.descriptors place i k.exact
+        (omega (arith, less, lt))) in
         let two = k.known b.0 b.1 place (trailer_leads links.trailers links.descriptors place j k.exact lt) in
         let uid : two.uid ≡ one.uid = same_Some _ _ (sym two.active ∙ one.active) in
         let known : uid_of (kst_at links.known a.0) b.1 ≡ Some one.uid =

@@ -1,5 +1,6 @@
 -- What is kept after a page is made, dropped, taken or given back.
-use Rattle.std.proofs.Common.{◌≡◌, ◌≢◌, ℕ, ◌<◌, true, false, List, length, Option, None, Some, Result, Ok, Err, sym, ap, subst, ◌∙◌}
+use Rattle.std.proofs.Common.{◌≡◌, ◌≢◌, ℕ, ◌<◌, true, false, List, length, Option, None, Some, Result, Ok, Err, sym}
+use Rattle.std.proofs.Common.{ap, subst, ◌∙◌}
 use Rattle.std.proofs.Common.{arith, set, inl, inr, OnOk, OnErr}
 use Rattle.std.proofs.lemmas.Bool.{cases_eq}
 use Rattle.std.proofs.lemmas.List.{get_or-set_other, length-set, map-set}
@@ -25,15 +26,20 @@ use Rattle.seg_control.proofs.Calls.{sizes_kept, kept_call, length_here, words_h
 
 -- ---- a page is made
 
-pub lost_created : {T E : Type 0} (result : Result T E) (old now : Plain) (uid p : ℕ) (home : Home) (f at w : ℕ) → now ≡ after_create old uid p home f at w result
+pub lost_created : {T E : Type 0} (result : Result T E) (old now : Plain) (uid p : ℕ) (home : Home) (f at w : ℕ) → now
+    ≡ after_create old uid p home f at w result
     → OnErr result (bindings now.core ≡ bindings old.core)
 lost_created (Ok x) old now uid p home f at w e = tt
 lost_created (Err e') old now uid p home f at w e = ap (λ (s : Plain). bindings s.core) e
 
-pub kept_created : {T E : Type 0} (result : Result T E) (old now : Plain) (ast : ActiveSegs) (links : Links) (place uid p f : ℕ) (home : Home) (t u : List Ptw)
-    → IsKept old ast links → uid_at ast.entries place ≡ Some uid → place < length ast.entries → t ≡ table_at ast.tables place → ptw_at t p ≡ Null
-    → IsTied now uid home u → KeepsOthers old now uid home → u ≡ words_here t p f result → OnOk result (bindings now.core ≡ set (bindings old.core) f (Some (uid, p)))
-    → OnErr result (bindings now.core ≡ bindings old.core) → reads_of now.core ≡ reads_of old.core → IsKept now (with_table ast place u) links
+pub kept_created : {T E : Type 0} (result : Result T E) (old now : Plain) (ast : ActiveSegs) (links : Links)
+    (place uid p f : ℕ) (home : Home) (t u : List Ptw)
+    → IsKept old ast links → uid_at ast.entries place ≡ Some uid → place < length ast.entries → t
+    ≡ table_at ast.tables place → ptw_at t p ≡ Null
+    → IsTied now uid home u → KeepsOthers old now uid home → u ≡ words_here t p f result
+    → OnOk result (bindings now.core ≡ set (bindings old.core) f (Some (uid, p)))
+    → OnErr result (bindings now.core ≡ bindings old.core) → reads_of now.core ≡ reads_of old.core
+    → IsKept now (with_table ast place u) links
 kept_created result old now ast links place uid p f home t u k at within table null tie others word bound lost reads =
     kept_call old now ast links place uid p home u k
     (record {
@@ -43,8 +49,10 @@ kept_created result old now ast links place uid p f home t u k at within table n
       others = others;
       marks = marks_here result (bindings old.core) (bindings now.core) uid p f bound lost;
       reads = λ g v q e.
-          (let was : read_at (reads_of old.core) g ≡ Some (v, q) = sym (ap (λ (x : List (Option (ℕ × ℕ))). read_at x g) reads) ∙ e in
-          let off : is_out (ptw_at (table_at ast.tables place) p) ≡ false = ap (λ (those : List Ptw). is_out (ptw_at those p)) (sym table) ∙ ap is_out null in
+          (let was : read_at (reads_of old.core) g ≡ Some (v, q) =
+          sym (ap (λ (x : List (Option (ℕ × ℕ))). read_at x g) reads) ∙ e in
+          let off : is_out (ptw_at (table_at ast.tables place) p) ≡ false =
+          ap (λ (those : List Ptw). is_out (ptw_at those p)) (sym table) ∙ ap is_out null in
           (was, none_read old ast.entries ast.tables place uid p g v q k.paged k.tree at off was));
       words = λ q ne. words_here_other result t u p f word q ne ∙ ap (λ (those : List Ptw). ptw_at those q) table;
     })
@@ -59,21 +67,28 @@ homed_uid s uid home e = of_entry _ e
     of_entry None e = cc
     of_entry (Some entry) e = same_Some _ _ e
 
-marks_core : (old now : Core) (f : ℕ) → now ≡ with_frame old f Free → (g u q : ℕ) → binding_at (bindings now) g ≡ Some (u, q) → binding_at (bindings old) g ≡ Some (u, q)
+marks_core : (old now : Core) (f : ℕ) → now ≡ with_frame old f Free → (g u q : ℕ) → binding_at (bindings now) g
+    ≡ Some (u, q) → binding_at (bindings old) g ≡ Some (u, q)
 marks_core old now f e g u q h =
     let is : bindings now ≡ set (bindings old) f None = ap bindings e ∙ map-set bound_page old.frames f Free in
-    elim (set_cases (bindings old) f g None (u, q) (ap (λ (b : List (Option (ℕ × ℕ))). binding_at b g) (sym is) ∙ h)) [ inl none ↦ cc | inr was ↦ was.1 ]
+    elim (set_cases (bindings old) f g None (u, q) (ap (λ (b : List (Option (ℕ × ℕ))). binding_at b g) (sym is) ∙ h))
+    [ inl none ↦ cc | inr was ↦ was.1 ]
 
-marks_dropped : (word : Ptw) (old now : Plain) (home : Home) (p : ℕ) → now ≡ dropped old home p word → (g u q : ℕ) → binding_at (bindings now.core) g ≡ Some (u, q)
+marks_dropped : (word : Ptw) (old now : Plain) (home : Home) (p : ℕ) → now ≡ dropped old home p word → (g u q : ℕ)
+    → binding_at (bindings now.core) g ≡ Some (u, q)
     → binding_at (bindings old.core) g ≡ Some (u, q)
 marks_dropped Null old now home p e g u q h = ap (λ (s : Plain). binding_at (bindings s.core) g) (sym e) ∙ h
 marks_dropped (Out r) old now home p e g u q h = ap (λ (s : Plain). binding_at (bindings s.core) g) (sym e) ∙ h
 marks_dropped (Here f) old now home p e g u q h = ap (λ (s : Plain). binding_at (bindings s.core) g) (sym e) ∙ h
-marks_dropped (Leaving f) old now home p e g u q h = marks_core old.core now.core f (ap (λ (s : Plain). s.core) e) g u q h
+marks_dropped (Leaving f) old now home p e g u q h = marks_core old.core now.core f (ap (λ (s : Plain). s.core) e) g u
+    q h
 
-pub kept_dropped : (old now : Plain) (ast : ActiveSegs) (links : Links) (place uid p : ℕ) (home : Home) (word : Ptw) (t u : List Ptw)
-    → IsKept old ast links → uid_at ast.entries place ≡ Some uid → place < length ast.entries → t ≡ table_at ast.tables place → IsNotStarted old.core uid p
-    → IsTied now uid home u → KeepsOthers old now uid home → u ≡ set t p Null → now ≡ dropped old home p word → reads_of now.core ≡ reads_of old.core
+pub kept_dropped : (old now : Plain) (ast : ActiveSegs) (links : Links) (place uid p : ℕ) (home : Home) (word : Ptw)
+    (t u : List Ptw)
+    → IsKept old ast links → uid_at ast.entries place ≡ Some uid → place < length ast.entries → t
+    ≡ table_at ast.tables place → IsNotStarted old.core uid p
+    → IsTied now uid home u → KeepsOthers old now uid home → u ≡ set t p Null → now ≡ dropped old home p word
+    → reads_of now.core ≡ reads_of old.core
     → IsKept now (with_table ast place u) links
 kept_dropped old now ast links place uid p home word t u k at within table idle tie others is effect reads =
     kept_call old now ast links place uid p home u k
@@ -84,9 +99,14 @@ kept_dropped old now ast links place uid p home word t u k at within table idle 
       others = others;
       marks = λ g v q e. inr (marks_dropped word old now home p effect g v q e);
       reads = λ g v q e.
-          (let was : read_at (reads_of old.core) g ≡ Some (v, q) = sym (ap (λ (x : List (Option (ℕ × ℕ))). read_at x g) reads) ∙ e in
-          (was, λ same page. none_started old.core uid p idle g (was ∙ ap (λ (x : ℕ × ℕ). Some x) (pair v q uid p same page))));
-      words = λ q ne. ap (λ (those : List Ptw). ptw_at those q) is ∙ get_or-set_other t p q Null Null ne ∙ ap (λ (those : List Ptw). ptw_at those q) table;
+          (let was : read_at (reads_of old.core) g ≡ Some (v, q) =
+          sym (ap (λ (x : List (Option (ℕ × ℕ))). read_at x g) reads) ∙ e in (
+            was,
+            λ same page. none_started old.core uid p idle g
+                (was ∙ ap (λ (x : ℕ × ℕ). Some x) (pair v q uid p same page)),
+          ));
+      words = λ q ne. ap (λ (those : List Ptw). ptw_at those q) is ∙ get_or-set_other t p q Null Null ne
+          ∙ ap (λ (those : List Ptw). ptw_at those q) table;
     })
     (ap length is ∙ length-set t p Null ∙ ap length table)
   where
@@ -96,9 +116,12 @@ kept_dropped old now ast links place uid p home word t u k at within table idle 
 -- ---- a page is taken, or given back
 
 -- words of one table change, and no page that is on its record alone
-module _ (now : Plain) (entries : List (Option Entry)) (ptws : List (List Ptw)) (place : ℕ) (u : List Ptw) (k : ArePaged now entries ptws)
-    (within : place < length ptws) (table : (uid : ℕ) → uid_at entries place ≡ Some uid → IsTableOf (bindings now.core) uid u)
-    (tie : (uid : ℕ) (home : Home) → uid_at entries place ≡ Some uid → IsTied now uid home (table_at ptws place) → IsTied now uid home u)
+module _ (now : Plain) (entries : List (Option Entry)) (ptws : List (List Ptw)) (place : ℕ) (u : List Ptw)
+    (k : ArePaged now entries ptws)
+    (within : place < length ptws) (table : (uid : ℕ) → uid_at entries place ≡ Some uid
+    → IsTableOf (bindings now.core) uid u)
+    (tie : (uid : ℕ) (home : Home) → uid_at entries place ≡ Some uid → IsTied now uid home (table_at ptws place)
+    → IsTied now uid home u)
     (null : (q : ℕ) → entry_at entries place ≡ None → ptw_at u q ≡ Null)
     (out : (q : ℕ) → is_out (ptw_at (table_at ptws place) q) ≡ true → is_out (ptw_at u q) ≡ true) where
   here : (q : ℕ) → q ≡ place → u ≡ table_at (set ptws place u) q
@@ -124,7 +147,8 @@ module _ (now : Plain) (entries : List (Option Entry)) (ptws : List (List Ptw)) 
     ];
     rest = k.rest;
     blank = λ q n e. elim (cases_eq q place) [
-      | inl same ↦ ap (λ (those : List Ptw). ptw_at those n) (sym (here q same)) ∙ null n (ap (entry_at entries) (sym same) ∙ e)
+      | inl same ↦ ap (λ (those : List Ptw). ptw_at those n) (sym (here q same))
+          ∙ null n (ap (entry_at entries) (sym same) ∙ e)
       | inr ne ↦ ap (λ (those : List Ptw). ptw_at those n) (sym (there q ne)) ∙ k.blank q n e
     ];
     bound = k.bound;
@@ -144,20 +168,26 @@ module _ (now : Plain) (entries : List (Option Entry)) (ptws : List (List Ptw)) 
     filed = k.filed;
   }
 
-pub out_kept : (t u : List Ptw) (p : ℕ) (w : Ptw) → u ≡ set t p w → is_out (ptw_at t p) ≡ false → (q : ℕ) → is_out (ptw_at t q) ≡ true → is_out (ptw_at u q) ≡ true
+pub out_kept : (t u : List Ptw) (p : ℕ) (w : Ptw) → u ≡ set t p w → is_out (ptw_at t p) ≡ false → (q : ℕ)
+    → is_out (ptw_at t q) ≡ true → is_out (ptw_at u q) ≡ true
 out_kept t u p w is off q out = elim (cases_eq q p) [
   | inl same ↦ (let yes : is_out (ptw_at t p) ≡ true = ap (λ (n : ℕ). is_out (ptw_at t n)) (sym same) ∙ out in cc)
   | inr ne ↦ ap (λ (those : List Ptw). is_out (ptw_at those q)) is ∙ ap is_out (get_or-set_other t p q w Null ne) ∙ out
 ]
 
-pub kept_words : (old now : Plain) (ast : ActiveSegs) (links : Links) (place uid p : ℕ) (w : Ptw) (t u : List Ptw) → IsKept old ast links → now ≡ old
-    → uid_at ast.entries place ≡ Some uid → place < length ast.entries → t ≡ table_at ast.tables place → is_out (ptw_at t p) ≡ false → u ≡ set t p w
-    → IsTableOf (bindings now.core) uid u → ((home : Home) → IsTied old uid home t → IsTied now uid home u) → IsKept now (with_table ast place u) links
+pub kept_words : (old now : Plain) (ast : ActiveSegs) (links : Links) (place uid p : ℕ) (w : Ptw) (t u : List Ptw)
+    → IsKept old ast links → now ≡ old
+    → uid_at ast.entries place ≡ Some uid → place < length ast.entries → t ≡ table_at ast.tables place
+    → is_out (ptw_at t p) ≡ false → u ≡ set t p w
+    → IsTableOf (bindings now.core) uid u → ((home : Home) → IsTied old uid home t → IsTied now uid home u)
+    → IsKept now (with_table ast place u) links
 kept_words old now ast links place uid p w t u k' same at within table off is tied tie =
     let k : IsKept now ast links = subst (λ (s : Plain). IsKept s ast links) (sym same) k' in
-    let lt : place < length ast.tables = (let long : length ast.tables ≡ length ast.entries = k.places in omega (arith, long, within)) in
+    let lt : place < length ast.tables = (let long : length ast.tables ≡ length ast.entries =
+    k.places in omega (arith, long, within)) in
     record {
-      paged = paged_words now ast.entries ast.tables place u k.paged lt (λ v e. subst (λ (n : ℕ). IsTableOf (bindings now.core) n u) (same_Some _ _ (sym at ∙ e)) tied)
+      paged = paged_words now ast.entries ast.tables place u k.paged lt
+          (λ v e. subst (λ (n : ℕ). IsTableOf (bindings now.core) n u) (same_Some _ _ (sym at ∙ e)) tied)
           (λ v h e old. subst (λ (n : ℕ). IsTied now n h u) (same_Some _ _ (sym at ∙ e))
           (tie h (subst (λ (s : Plain). IsTied s uid h t) same (subst (IsTied now uid h) (sym table)
           (subst (λ (n : ℕ). IsTied now n h (table_at ast.tables place)) (sym (same_Some _ _ (sym at ∙ e))) old)))))

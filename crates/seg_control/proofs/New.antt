@@ -1,5 +1,6 @@
 -- Segment control where nothing is active, known or connected.
-use Rattle.std.proofs.Common.{◌≡◌, ◌≢◌, ℕ, suc, zero, ◌<◌, ◌≤◌, ◌+◌, ◌^◌, List, [], ◌∷◌, ◌++◌, length, Option, None, Some, sum, replicate, count_by}
+use Rattle.std.proofs.Common.{◌≡◌, ◌≢◌, ℕ, suc, zero, ◌<◌, ◌≤◌, ◌+◌, ◌^◌, List, [], ◌∷◌, ◌++◌, length, Option, None}
+use Rattle.std.proofs.Common.{Some, sum, replicate, count_by}
 use Rattle.std.proofs.Common.{refl, sym, ap, subst, ◌∙◌, arith, get_or, inl, inr}
 use Rattle.std.proofs.lemmas.Bool.{cases_lt}
 use Rattle.std.proofs.lemmas.List.{get_or-replicate, get_or_past, length-append, length-replicate}
@@ -15,7 +16,8 @@ use Rattle.descriptor_seg.specs.declared.Sdw.TheVariants.{Fault}
 use Rattle.descriptor_seg.specs.Descriptors.{sdw_at, all_faults}
 use Rattle.known_segs.specs.Known.{uid_of}
 use Rattle.active_segs.specs.declared.Entry.{Entry}
-use Rattle.active_segs.specs.Active.{ActiveSegs, uid_in, superior_in, entry_at, uid_at, superior_at, table_at, null_tables, no_segments, IsTree, AreNullTables}
+use Rattle.active_segs.specs.Active.{ActiveSegs, uid_in, superior_in, entry_at, uid_at, superior_at, table_at}
+use Rattle.active_segs.specs.Active.{null_tables, no_segments, IsTree, AreNullTables}
 use Rattle.active_segs.specs.Pool.{size_of}
 use Rattle.page_control.specs.Plain.{Plain, bindings, binding_at}
 use Rattle.page_control.specs.Tied.{AreFiled}
@@ -28,7 +30,8 @@ use Rattle.seg_control.proofs.Frames.{binding_is, read_is}
 one_of : {X : Type 0} (n i : ℕ) (x d : X) (P : X → Type 0) → P x → P d → P (get_or (replicate n x) i d)
 one_of {X} n i x d P px pd = elim (cases_lt i n) [
   | inl lt ↦ subst P (sym (get_or-replicate n i x d lt)) px
-  | inr past ↦ subst P (sym (get_or_past (replicate n x) i d (let long : length (replicate n x) ≡ n = length-replicate n x in omega (arith, long, past)))) pd
+  | inr past ↦ subst P (sym (get_or_past (replicate n x) i d
+      (let long : length (replicate n x) ≡ n = length-replicate n x in omega (arith, long, past)))) pd
 ]
 
 empty_at : (n place : ℕ) → entry_at (replicate n None) place ≡ None
@@ -55,7 +58,8 @@ AreBlank tables = (place p : ℕ) → ptw_at (table_at tables place) p ≡ Null
 blank_same : (n m : ℕ) → AreBlank (replicate n (replicate m Null))
 unfolding AreBlank
 blank_same n m place p =
-    one_of n place (replicate m Null) [] (λ (t : List Ptw). ptw_at t p ≡ Null) (one_of m p Null Null (λ (w : Ptw). w ≡ Null) refl refl) refl
+    one_of n place (replicate m Null) [] (λ (t : List Ptw). ptw_at t p ≡ Null)
+    (one_of m p Null Null (λ (w : Ptw). w ≡ Null) refl refl) refl
 
 blank_both : (xs ys : List (List Ptw)) → AreBlank xs → AreBlank ys → AreBlank (xs ++ ys)
 unfolding AreBlank
@@ -65,14 +69,16 @@ blank_both (x ∷ xs) ys one two (suc place) p = blank_both xs ys (λ q n. one (
 
 blank_null : (pools : List ℕ) → AreBlank (null_tables pools)
 blank_null pools =
-    blank_both _ _ (blank_both _ _ (blank_both _ _ (blank_same (size_of pools 0) 4) (blank_same (size_of pools 1) 16)) (blank_same (size_of pools 2) 64))
+    blank_both _ _ (blank_both _ _ (blank_both _ _ (blank_same (size_of pools 0) 4) (blank_same (size_of pools 1) 16))
+    (blank_same (size_of pools 2) 64))
     (blank_same (size_of pools 3) 256)
 
 word_null : (pools : List ℕ) (place p : ℕ) → ptw_at (table_at (null_tables pools) place) p ≡ Null
 unfolding AreBlank
 word_null pools place p = blank_null pools place p
 
-sum_of_four : (pools : List ℕ) → length pools ≡ 4 → sum pools ≡ size_of pools 0 + size_of pools 1 + size_of pools 2 + size_of pools 3
+sum_of_four : (pools : List ℕ) → length pools ≡ 4 → sum pools
+    ≡ size_of pools 0 + size_of pools 1 + size_of pools 2 + size_of pools 3
 sum_of_four [] four = absurd (omega (arith, four))
 sum_of_four (a ∷ []) four = absurd (omega (arith, four))
 sum_of_four (a ∷ b ∷ []) four = absurd (omega (arith, four))
@@ -87,16 +93,19 @@ length_null pools four = let all = sum_of_four pools four in simp (length-append
 
 unled : (n q number : ℕ) → leads_at (replicate n all_faults) q number ≡ None
 unled n q number =
-    one_of n q all_faults [] (λ (words : List Sdw). leads (sdw_at words number) ≡ None) (one_of 256 number Fault Fault (λ (w : Sdw). leads w ≡ None) refl refl) refl
+    one_of n q all_faults [] (λ (words : List Sdw). leads (sdw_at words number) ≡ None)
+    (one_of 256 number Fault Fault (λ (w : Sdw). leads w ≡ None) refl refl) refl
 
 unknown : (n q number : ℕ) → uid_of (kst_at (replicate n (replicate 256 None)) q) number ≡ None
 unknown n q number =
-    one_of n q (replicate 256 None) [] (λ (kst : List (Option ℕ)). uid_of kst number ≡ None) (one_of 256 number None None (λ (u : Option ℕ). u ≡ None) refl refl) refl
+    one_of n q (replicate 256 None) [] (λ (kst : List (Option ℕ)). uid_of kst number ≡ None)
+    (one_of 256 number None None (λ (u : Option ℕ). u ≡ None) refl refl) refl
 
 abbrev no_number : Option ℕ
 no_number = None
 
-linked_none : (n places processes : ℕ) → places ≡ n → processes ≤ 32 → AreLinked (replicate n None) (no_links places processes)
+linked_none : (n places processes : ℕ) → places ≡ n → processes ≤ 32
+    → AreLinked (replicate n None) (no_links places processes)
 linked_none n places processes same few = record {
   exact = λ place q number.
       ap (count_by (leads_to q number)) (one_of places place [] [] (λ (xs : List (ℕ × ℕ)). xs ≡ []) refl refl)
@@ -106,22 +115,28 @@ linked_none n places processes same few = record {
   lists = record {
     places = length-replicate places [] ∙ same ∙ sym (length-replicate n None);
     processes = length-replicate processes all_faults ∙ sym (length-replicate processes (replicate 256 None));
-    few = (let long : length (replicate processes (replicate 256 no_number)) ≡ processes = length-replicate processes (replicate 256 None) in
+    few = (let long : length (replicate processes (replicate 256 no_number)) ≡ processes =
+        length-replicate processes (replicate 256 None) in
         omega (arith, long, few));
-    numbers = λ q lt. ap length (get_or-replicate processes q (replicate 256 no_number) [] (below processes q lt)) ∙ length-replicate 256 no_number;
-    words = λ q lt. ap length (get_or-replicate processes q all_faults [] (below processes q lt)) ∙ length-replicate 256 Fault;
+    numbers = λ q lt. ap length (get_or-replicate processes q (replicate 256 no_number) [] (below processes q lt))
+        ∙ length-replicate 256 no_number;
+    words = λ q lt. ap length (get_or-replicate processes q all_faults [] (below processes q lt))
+        ∙ length-replicate 256 Fault;
   };
 }
   where
     below : (processes q : ℕ) → q < length (replicate processes (replicate 256 no_number)) → q < processes
     below processes q lt =
-        let long : length (replicate processes (replicate 256 no_number)) ≡ processes = length-replicate processes (replicate 256 None) in
+        let long : length (replicate processes (replicate 256 no_number)) ≡ processes =
+        length-replicate processes (replicate 256 None) in
         omega (arith, long, lt)
 
 -- ---- the whole
 
-pub kept_new : (now : Plain) (pools : List ℕ) (places processes : ℕ) (ast : ActiveSegs) (links : Links) → length pools ≡ 4 → processes ≤ 32 → AreFree now.core
-    → AreFiled now.records now.vtocs → AreAtRest now → ast ≡ no_segments pools → AreNullTables pools ast.tables → places ≡ sum pools
+pub kept_new : (now : Plain) (pools : List ℕ) (places processes : ℕ) (ast : ActiveSegs) (links : Links) → length pools
+    ≡ 4 → processes ≤ 32 → AreFree now.core
+    → AreFiled now.records now.vtocs → AreAtRest now → ast ≡ no_segments pools → AreNullTables pools ast.tables
+    → places ≡ sum pools
     → links ≡ no_links places processes → IsKept now ast links
 kept_new now pools places processes ast links four few free filed rest is_ast null same is_links =
     subst (λ (a : ActiveSegs). IsKept now a links) (sym is_ast)
@@ -140,7 +155,8 @@ kept_new now pools places processes ast links four few free filed rest is_ast nu
       tree = tree_empty (sum pools);
       places = length_null pools four ∙ sym (length-replicate (sum pools) None);
       sized = λ pool place lt in_pool.
-          ap length (subst (λ (a : ActiveSegs). AreNullTables pools a.tables) is_ast null pool place lt in_pool) ∙ length-replicate (4 ^ (pool + 1)) Null;
+          ap length (subst (λ (a : ActiveSegs). AreNullTables pools a.tables) is_ast null pool place lt in_pool)
+          ∙ length-replicate (4 ^ (pool + 1)) Null;
       linked = linked_none (sum pools) places processes same few;
     }))
   where

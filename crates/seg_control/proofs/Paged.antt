@@ -1,5 +1,6 @@
 -- Page tables, frames and file maps after a call of page control.
-use Rattle.std.proofs.Common.{◌≡◌, ◌≢◌, ◌⊎◌, ℕ, ◌<◌, Bool, true, false, List, [], length, Option, None, Some, sym, ap, subst, ◌∙◌}
+use Rattle.std.proofs.Common.{◌≡◌, ◌≢◌, ◌⊎◌, ℕ, ◌<◌, Bool, true, false, List, [], length, Option, None, Some, sym, ap}
+use Rattle.std.proofs.Common.{subst, ◌∙◌}
 use Rattle.std.proofs.Common.{arith, set, get_or, inl, inr}
 use Rattle.std.proofs.lemmas.Bool.{cases_eq, cases_lt}
 use Rattle.std.proofs.lemmas.List.{get_or-set_same, get_or-set_other, get_or_past, length-set}
@@ -20,57 +21,78 @@ use Rattle.seg_control.specs.Kept.{IsHomeOf, IsInactive, HasTable, read_at, IsOu
 -- ---- lists
 
 -- what stands in a list after one place has changed
-pub set_cases : {X : Type 0} (xs : List (Option X)) (f g : ℕ) (x : Option X) (y : X) → get_or (set xs f x) g None ≡ Some y
+pub set_cases : {X : Type 0} (xs : List (Option X)) (f g : ℕ) (x : Option X) (y : X) → get_or (set xs f x) g None
+    ≡ Some y
     → ((g ≡ f) × (x ≡ Some y)) ⊎ ((g ≢ f) × (get_or xs g None ≡ Some y))
 set_cases {X} xs f g x y e = elim (cases_eq g f) [
   | inl same ↦ elim (cases_lt f (length xs)) [
-    | inl lt ↦ inl (same, sym (get_or-set_same xs f x None lt) ∙ subst (λ (k : ℕ). get_or (set xs f x) k None ≡ Some y) same e)
+    | inl lt ↦ inl (
+      same,
+      sym (get_or-set_same xs f x None lt)
+          ∙ subst (λ (k : ℕ). get_or (set xs f x) k None ≡ Some y) same e,
+    )
     | inr past ↦
         (let far : length (set xs f x) ≡ length xs = length-set xs f x in
-        let none : get_or (set xs f x) g None ≡ None = get_or_past (set xs f x) g None (omega (arith, far, same, past)) in
+        let none : get_or (set xs f x) g None ≡ None =
+        get_or_past (set xs f x) g None (omega (arith, far, same, past)) in
         absurd (none-some y (sym none ∙ e)))
   ]
   | inr other ↦ inr (other, sym (get_or-set_other xs f g x None other) ∙ e)
 ]
 
-pub table_same : (ptws : List (List Ptw)) (place : ℕ) (t : List Ptw) → place < length ptws → table_at (set ptws place t) place ≡ t
+pub table_same : (ptws : List (List Ptw)) (place : ℕ) (t : List Ptw) → place < length ptws
+    → table_at (set ptws place t) place ≡ t
 table_same ptws place t lt = get_or-set_same ptws place t [] lt
 
-pub table_other : (ptws : List (List Ptw)) (place q : ℕ) (t : List Ptw) → q ≢ place → table_at (set ptws place t) q ≡ table_at ptws q
+pub table_other : (ptws : List (List Ptw)) (place q : ℕ) (t : List Ptw) → q ≢ place → table_at (set ptws place t) q
+    ≡ table_at ptws q
 table_other ptws place q t ne = get_or-set_other ptws place q t [] ne
 
 -- ---- homes
 
-pub home_back : (old new : List (List (Option VtocEntry))) (uid : ℕ) (home : Home) → ((other : Home) → uid_homed new other ≡ uid_homed old other)
+pub home_back : (old new : List (List (Option VtocEntry))) (uid : ℕ) (home : Home)
+    → ((other : Home) → uid_homed new other ≡ uid_homed old other)
     → IsHomeOf new uid home → IsHomeOf old uid home
-home_back old new uid home same h = record { used = sym (same home) ∙ h.used; only = λ other e. h.only other (same other ∙ e) }
+home_back old new uid home same h = record {
+  used = sym (same home) ∙ h.used;
+  only =
+      λ other e. h.only other (same other ∙ e);
+}
 
 -- ---- what is being read
 
 -- a page whose word isn't `Out` is read into no frame
-pub none_read : (now : Plain) (entries : List (Option Entry)) (ptws : List (List Ptw)) (place uid p g u q : ℕ) → ArePaged now entries ptws → IsTree entries
-    → uid_at entries place ≡ Some uid → is_out (ptw_at (table_at ptws place) p) ≡ false → read_at (reads_of now.core) g ≡ Some (u, q) → u ≡ uid → q ≢ p
+pub none_read : (now : Plain) (entries : List (Option Entry)) (ptws : List (List Ptw)) (place uid p g u q : ℕ)
+    → ArePaged now entries ptws → IsTree entries
+    → uid_at entries place ≡ Some uid → is_out (ptw_at (table_at ptws place) p) ≡ false → read_at (reads_of now.core) g
+    ≡ Some (u, q) → u ≡ uid → q ≢ p
 none_read now entries ptws place uid p g u q k tree at off reads same page =
     let out : IsOutAt entries ptws u q = k.started g u q reads in
     let here : out.place ≡ place = tree.once out.place place uid (out.active ∙ ap (λ (n : ℕ). Some n) same) at in
-    let yes : is_out (ptw_at (table_at ptws place) q) ≡ true = subst (λ (k : ℕ). is_out (ptw_at (table_at ptws k) q) ≡ true) here out.out in
-    let yes' : is_out (ptw_at (table_at ptws place) p) ≡ true = subst (λ (k : ℕ). is_out (ptw_at (table_at ptws place) k) ≡ true) page yes in
+    let yes : is_out (ptw_at (table_at ptws place) q) ≡ true =
+    subst (λ (k : ℕ). is_out (ptw_at (table_at ptws k) q) ≡ true) here out.out in
+    let yes' : is_out (ptw_at (table_at ptws place) p) ≡ true =
+    subst (λ (k : ℕ). is_out (ptw_at (table_at ptws place) k) ≡ true) page yes in
     cc
 
 -- ---- a call that concerns one page of a segment at a home
 
-pub record IsCall (old now : Plain) (entries : List (Option Entry)) (ptws : List (List Ptw)) (place uid p : ℕ) (home : Home) (t : List Ptw) : Type 0 where
+pub record IsCall (old now : Plain) (entries : List (Option Entry)) (ptws : List (List Ptw)) (place uid p : ℕ)
+    (home : Home) (t : List Ptw) : Type 0 where
   pub at : uid_at entries place ≡ Some uid
   pub within : place < length ptws
   pub tie : IsTied now uid home t
   pub others : KeepsOthers old now uid home
   -- a frame that is bound to a page now was, or it is bound to one of this segment
-  pub marks : (g u q : ℕ) → binding_at (bindings now.core) g ≡ Some (u, q) → (u ≡ uid) ⊎ (binding_at (bindings old.core) g ≡ Some (u, q))
+  pub marks : (g u q : ℕ) → binding_at (bindings now.core) g ≡ Some (u, q) → (u ≡ uid)
+      ⊎ (binding_at (bindings old.core) g ≡ Some (u, q))
   -- a page that is being read was, and is another one
-  pub reads : (g u q : ℕ) → read_at (reads_of now.core) g ≡ Some (u, q) → (read_at (reads_of old.core) g ≡ Some (u, q)) × (u ≡ uid → q ≢ p)
+  pub reads : (g u q : ℕ) → read_at (reads_of now.core) g ≡ Some (u, q) → (read_at (reads_of old.core) g ≡ Some (u, q))
+      × (u ≡ uid → q ≢ p)
   pub words : (q : ℕ) → q ≢ p → ptw_at t q ≡ ptw_at (table_at ptws place) q
 
-module _ (old now : Plain) (entries : List (Option Entry)) (ptws : List (List Ptw)) (place uid p : ℕ) (home : Home) (t : List Ptw) (k : ArePaged old entries ptws)
+module _ (old now : Plain) (entries : List (Option Entry)) (ptws : List (List Ptw)) (place uid p : ℕ) (home : Home)
+    (t : List Ptw) (k : ArePaged old entries ptws)
     (tree : IsTree entries) (call : IsCall old now entries ptws place uid p home t) where
   other_uid : (q u : ℕ) → uid_at entries q ≡ Some u → q ≢ place → u ≢ uid
   other_uid q u e ne same = ne (tree.once q place uid (e ∙ ap (λ (n : ℕ). Some n) same) call.at)
@@ -87,7 +109,8 @@ module _ (old now : Plain) (entries : List (Option Entry)) (ptws : List (List Pt
   tables_after : (q u : ℕ) → uid_at entries q ≡ Some u → IsTableOf (bindings now.core) u (table_at (set ptws place t) q)
   tables_after q u e = elim (cases_eq q place) [
     | inl same ↦
-        (let is : IsTableOf (bindings now.core) u t = subst (λ (v : ℕ). IsTableOf (bindings now.core) v t) (sym (this_uid q u e same)) call.tie.table in
+        (let is : IsTableOf (bindings now.core) u t = subst (λ (v : ℕ). IsTableOf (bindings now.core) v t)
+        (sym (this_uid q u e same)) call.tie.table in
         subst (IsTableOf (bindings now.core) u) (here q same) is)
     | inr ne ↦
         subst (IsTableOf (bindings now.core) u) (there q ne)
@@ -97,7 +120,8 @@ module _ (old now : Plain) (entries : List (Option Entry)) (ptws : List (List Pt
   back : (u : ℕ) (h : Home) → IsHomeOf now.vtocs u h → IsHomeOf old.vtocs u h
   back u h is = home_back old.vtocs now.vtocs u h call.others.uids is
 
-  ties_after : (q u : ℕ) (h : Home) → uid_at entries q ≡ Some u → IsHomeOf now.vtocs u h → IsTied now u h (table_at (set ptws place t) q)
+  ties_after : (q u : ℕ) (h : Home) → uid_at entries q ≡ Some u → IsHomeOf now.vtocs u h
+      → IsTied now u h (table_at (set ptws place t) q)
   ties_after q u h e is = elim (cases_eq q place) [
     | inl same ↦
         (let same_uid : uid ≡ u = sym (this_uid q u e same) in
@@ -138,7 +162,8 @@ module _ (old now : Plain) (entries : List (Option Entry)) (ptws : List (List Pt
           | inl same ↦
               (let other : q ≢ p = was.1 (this_uid out.place u out.active same) in
               let word : ptw_at (table_at ptws out.place) q ≡ ptw_at (table_at (set ptws place t) out.place) q =
-              ap (λ (x : ℕ). ptw_at (table_at ptws x) q) same ∙ sym (call.words q other) ∙ ap (λ (those : List Ptw). ptw_at those q) (here out.place same) in
+              ap (λ (x : ℕ). ptw_at (table_at ptws x) q) same ∙ sym (call.words q other)
+              ∙ ap (λ (those : List Ptw). ptw_at those q) (here out.place same) in
               subst (λ (w : Ptw). is_out w ≡ true) word out.out)
           | inr ne ↦ subst (λ (those : List Ptw). is_out (ptw_at those q) ≡ true) (there out.place ne) out.out
         ];
@@ -159,17 +184,21 @@ module _ (old now : Plain) (entries : List (Option Entry)) (ptws : List (List Pt
 -- ---- a call that changes words and marks alone
 
 module _ (old now : Plain) (entries : List (Option Entry)) (ptws : List (List Ptw)) (k : ArePaged old entries ptws)
-    (bound : bindings now.core ≡ bindings old.core) (vtocs : now.vtocs ≡ old.vtocs) (records : now.records ≡ old.records) (ties : KeepsTies old now) where
+    (bound : bindings now.core ≡ bindings old.core) (vtocs : now.vtocs ≡ old.vtocs)
+    (records : now.records ≡ old.records) (ties : KeepsTies old now) where
   homed : (u : ℕ) (h : Home) → IsHomeOf now.vtocs u h → IsHomeOf old.vtocs u h
   homed u h is = subst (λ (v : List (List (Option VtocEntry))). IsHomeOf v u h) vtocs is
 
   -- what is being read is told by the caller
   pub paged_read : ((f u p : ℕ) → read_at (reads_of now.core) f ≡ Some (u, p) → IsOutAt entries ptws u p)
-      → ((f g u p : ℕ) → read_at (reads_of now.core) f ≡ Some (u, p) → read_at (reads_of now.core) g ≡ Some (u, p) → f ≡ g) → ArePaged now entries ptws
+      → ((f g u p : ℕ) → read_at (reads_of now.core) f ≡ Some (u, p) → read_at (reads_of now.core) g ≡ Some (u, p) → f
+      ≡ g) → ArePaged now entries ptws
   paged_read started once = record {
-    tables = λ q u e. subst (λ (b : List (Option (ℕ × ℕ))). IsTableOf b u (table_at ptws q)) (sym bound) (k.tables q u e);
+    tables = λ q u e. subst (λ (b : List (Option (ℕ × ℕ))). IsTableOf b u (table_at ptws q)) (sym bound)
+        (k.tables q u e);
     ties = λ q u h e is. ties.ties u h (table_at ptws q) (k.ties q u h e (homed u h is));
-    rest = λ u h off is. (let was = k.rest u h off (homed u h is) in record { table = was.table; tie = ties.ties u h was.table was.tie });
+    rest = λ u h off is. (let was = k.rest u h off (homed u h is) in record
+        { table = was.table; tie = ties.ties u h was.table was.tie });
     blank = k.blank;
     bound = λ f u p e. k.bound f u p (sym (ap (λ (b : List (Option (ℕ × ℕ))). binding_at b f) bound) ∙ e);
     started = started;
@@ -180,20 +209,26 @@ module _ (old now : Plain) (entries : List (Option Entry)) (ptws : List (List Pt
 
   pub paged_same : reads_of now.core ≡ reads_of old.core → ArePaged now entries ptws
   paged_same reads =
-      let was : (f u p : ℕ) → read_at (reads_of now.core) f ≡ Some (u, p) → read_at (reads_of old.core) f ≡ Some (u, p) =
+      let was : (f u p : ℕ) → read_at (reads_of now.core) f ≡ Some (u, p) → read_at (reads_of old.core) f
+      ≡ Some (u, p) =
       λ f u p e. sym (ap (λ (r : List (Option (ℕ × ℕ))). read_at r f) reads) ∙ e in
-      paged_read (λ f u p e. k.started f u p (was f u p e)) (λ f g u p e e'. k.once f g u p (was f u p e) (was g u p e'))
+      paged_read (λ f u p e. k.started f u p (was f u p e))
+      (λ f g u p e e'. k.once f g u p (was f u p e) (was g u p e'))
 
   -- page p of the segment of a place is being read into frame f besides
-  pub paged_started : (f place uid p : ℕ) → uid_at entries place ≡ Some uid → is_out (ptw_at (table_at ptws place) p) ≡ true
-      → ((g : ℕ) → read_at (reads_of old.core) g ≢ Some (uid, p)) → reads_of now.core ≡ set (reads_of old.core) f (Some (uid, p)) → ArePaged now entries ptws
+  pub paged_started : (f place uid p : ℕ) → uid_at entries place ≡ Some uid → is_out (ptw_at (table_at ptws place) p)
+      ≡ true
+      → ((g : ℕ) → read_at (reads_of old.core) g ≢ Some (uid, p)) → reads_of now.core
+      ≡ set (reads_of old.core) f (Some (uid, p)) → ArePaged now entries ptws
   paged_started f place uid p at out first reads =
       let cases : (g u q : ℕ) → read_at (reads_of now.core) g ≡ Some (u, q)
       → ((g ≡ f) × (Some (uid, p) ≡ Some (u, q))) ⊎ ((g ≢ f) × (read_at (reads_of old.core) g ≡ Some (u, q))) =
-      λ g u q e. set_cases (reads_of old.core) f g (Some (uid, p)) (u, q) (sym (ap (λ (r : List (Option (ℕ × ℕ))). read_at r g) reads) ∙ e) in
+      λ g u q e. set_cases (reads_of old.core) f g (Some (uid, p)) (u, q)
+      (sym (ap (λ (r : List (Option (ℕ × ℕ))). read_at r g) reads) ∙ e) in
       paged_read
       (λ g u q e. elim (cases g u q e) [
-        | inl h ↦ subst (λ (x : ℕ × ℕ). IsOutAt entries ptws x.0 x.1) (same_Some _ _ h.1) (record { place = place; active = at; out = out })
+        | inl h ↦ subst (λ (x : ℕ × ℕ). IsOutAt entries ptws x.0 x.1) (same_Some _ _ h.1)
+            (record { place = place; active = at; out = out })
         | inr h ↦ k.started g u q h.1
       ])
       (λ g h u q e e'. elim (cases g u q e) [
@@ -201,5 +236,9 @@ module _ (old now : Plain) (entries : List (Option Entry)) (ptws : List (List Pt
           | inl two ↦ one.0 ∙ sym two.0
           | inr two ↦ absurd (first h (two.1 ∙ sym one.1))
         ]
-        | inr one ↦ elim (cases h u q e') [ inl two ↦ absurd (first g (one.1 ∙ sym two.1)) | inr two ↦ k.once g h u q one.1 two.1 ]
+        | inr one ↦ elim (cases h u q e') [
+          | inl two ↦ absurd (first g (one.1 ∙ sym two.1))
+          | inr two ↦ k.once g h u q
+              one.1 two.1
+        ]
       ])

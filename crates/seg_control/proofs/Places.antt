@@ -1,5 +1,6 @@
 -- The place in which a segment is active.
-use Rattle.std.proofs.Common.{◌≡◌, ℕ, ◌<◌, Bool, true, false, List, [], ◌∷◌, length, Option, None, Some, refl, sym, ap, ◌∙◌, arith, get_or, inl, inr, IsSome, suc, zero}
+use Rattle.std.proofs.Common.{◌≡◌, ℕ, ◌<◌, Bool, true, false, List, [], ◌∷◌, length, Option, None, Some, refl, sym, ap}
+use Rattle.std.proofs.Common.{◌∙◌, arith, get_or, inl, inr, IsSome, suc, zero}
 use Rattle.std.specs.List.{position_or_len}
 use Rattle.std.proofs.lemmas.Bool.{eqb-true, eq-eqb, cases_lt}
 use Rattle.std.proofs.lemmas.List.{get_or_past}
@@ -29,9 +30,11 @@ uid_from uid (Some e) h = ap (λ (n : ℕ). Some n) (eqb-true e.uid uid h)
 
 -- where something is active the place is one of the table's
 pub used_within : (xs : List (Option Entry)) (p uid : ℕ) → uid_at xs p ≡ Some uid → p < length xs
-used_within xs p uid e = elim (cases_lt p (length xs)) [ inl lt ↦ lt | inr past ↦ absurd (none-some uid (sym (ap uid_in (get_or_past xs p None past)) ∙ e)) ]
+used_within xs p uid e = elim (cases_lt p (length xs))
+    [ inl lt ↦ lt | inr past ↦ absurd (none-some uid (sym (ap uid_in (get_or_past xs p None past)) ∙ e)) ]
 
-pub place_is : (xs : List (Option Entry)) (uid place : ℕ) → IsTree xs → uid_at xs place ≡ Some uid → place_of xs uid ≡ place
+pub place_is : (xs : List (Option Entry)) (uid place : ℕ) → IsTree xs → uid_at xs place ≡ Some uid → place_of xs uid
+    ≡ place
 unfolding place_of
 place_is xs uid place tree at =
     first_is (is_for uid) xs place None (used_within xs place uid at) (is_for_uid uid (entry_at xs place) at)
@@ -39,7 +42,8 @@ place_is xs uid place tree at =
   where
     not_yet : (j : ℕ) (b : Bool) → j < place → is_for uid (entry_at xs j) ≡ b → b ≡ false
     not_yet j false l e = refl
-    not_yet j true l e = absurd (let same : j ≡ place = tree.once j place uid (uid_from uid (entry_at xs j) e) at in omega (arith, same))
+    not_yet j true l e = absurd (let same : j ≡ place =
+        tree.once j place uid (uid_from uid (entry_at xs j) e) at in omega (arith, same))
 
     not_before : (j : ℕ) → j < place → is_for uid (entry_at xs j) ≡ false
     not_before j l = not_yet j (is_for uid (entry_at xs j)) l refl

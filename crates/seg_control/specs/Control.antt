@@ -1,5 +1,5 @@
--- What segment control has between calls: page control, the active segments, and what leads to them (Bensoussan, Clingen
--- and Daley 1972).
+-- What segment control has between calls: page control, the active segments, and what leads to them (Bensoussan,
+-- Clingen and Daley 1972).
 use Rattle.std.specs.Prelude.{ℕ, ◌==◌, Bool, false, List, [], Option, None, Some, slice_index_or}
 use Rattle.std.specs.List.{position_or_len}
 use Rattle.page_table.specs.declared.Ptw.{Ptw}

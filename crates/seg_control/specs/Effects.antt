@@ -1,5 +1,6 @@
 -- What each call of segment control does (Bensoussan, Clingen and Daley 1972).
-use Rattle.std.specs.Prelude.{ℕ, ◌==◌, if◌then◌else◌, List, [], ◌∷◌, ◌++◌, take, drop, map, Option, None, Some, Result, Ok, Err, replicate, slice_set}
+use Rattle.std.specs.Prelude.{ℕ, ◌==◌, if◌then◌else◌, List, [], ◌∷◌, ◌++◌, take, drop, map, Option, None, Some, Result}
+use Rattle.std.specs.Prelude.{Ok, Err, replicate, slice_set}
 use Rattle.mnames.specs.declared.modes.Mode.{Mode}
 use Rattle.page_table.specs.declared.Ptw.{Ptw}
 use Rattle.page_table.specs.declared.Ptw.TheVariants.{Null, Out, Here, Leaving}
@@ -62,7 +63,8 @@ no_links places processes = record {
 abbrev pub linked : Links → ℕ → ℕ → ℕ → Mode → ℕ → Links
 linked links process number place mode pages = record links {
   trailers = trailer_added links.trailers place process number;
-  descriptors = slice_set links.descriptors process (descriptor_set (sdws_at links.descriptors process) number place mode pages);
+  descriptors = slice_set links.descriptors process (descriptor_set (sdws_at links.descriptors process) number place
+      mode pages);
 }
 
 -- a number of a process leads to its place no more
@@ -104,4 +106,5 @@ all_cut links place = record links {
 unfoldable pub reconnected : Links → ℕ → List (ℕ × ℕ) → List Mode → ℕ → Links
 reconnected links place [] modes pages = links
 reconnected links place (pair ∷ list) [] pages = links
-reconnected links place (pair ∷ list) (mode ∷ modes) pages = reconnected (linked links pair.0 pair.1 place mode pages) place list modes pages
+reconnected links place (pair ∷ list) (mode ∷ modes) pages =
+    reconnected (linked links pair.0 pair.1 place mode pages) place list modes pages

@@ -46,9 +46,12 @@ pub record IsOutAt (entries : List (Option Entry)) (ptws : List (List Ptw)) (uid
   pub out : is_out (ptw_at (table_at ptws place) p) ≡ true
 
 pub record ArePaged (now : Plain) (entries : List (Option Entry)) (ptws : List (List Ptw)) : Type 0 where
-  -- the page table of an active segment agrees with the frames, and with the file map of its home, where it has just one
-  pub tables : (place uid : ℕ) → uid_at entries place ≡ Some uid → IsTableOf (bindings now.core) uid (table_at ptws place)
-  pub ties : (place uid : ℕ) (home : Home) → uid_at entries place ≡ Some uid → IsHomeOf now.vtocs uid home → IsTied now uid home (table_at ptws place)
+  -- the page table of an active segment agrees with the frames, and with the file map of its home, where it has just
+  -- one
+  pub tables : (place uid : ℕ) → uid_at entries place ≡ Some uid
+      → IsTableOf (bindings now.core) uid (table_at ptws place)
+  pub ties : (place uid : ℕ) (home : Home) → uid_at entries place ≡ Some uid → IsHomeOf now.vtocs uid home
+      → IsTied now uid home (table_at ptws place)
   -- so would one of a segment that is not active
   pub rest : (uid : ℕ) (home : Home) → IsInactive entries uid → IsHomeOf now.vtocs uid home → HasTable now uid home
   -- a place in which nothing is active has a table of no page
@@ -57,7 +60,8 @@ pub record ArePaged (now : Plain) (entries : List (Option Entry)) (ptws : List (
   pub bound : (f uid p : ℕ) → binding_at (bindings now.core) f ≡ Some (uid, p) → IsActive entries uid
   -- a page that is being read into a frame is on its record alone, and is read into no other frame
   pub started : (f uid p : ℕ) → read_at (reads_of now.core) f ≡ Some (uid, p) → IsOutAt entries ptws uid p
-  pub once : (f g uid p : ℕ) → read_at (reads_of now.core) f ≡ Some (uid, p) → read_at (reads_of now.core) g ≡ Some (uid, p) → f ≡ g
+  pub once : (f g uid p : ℕ) → read_at (reads_of now.core) f ≡ Some (uid, p) → read_at (reads_of now.core) g
+      ≡ Some (uid, p) → f ≡ g
   -- the records in use are those that file maps name
   pub filed : AreFiled now.records now.vtocs
 
@@ -71,10 +75,12 @@ times (Some aste) place = if aste == place then 1 else 0
 -- the trailers of each place are exactly the descriptors that lead there, each once
 abbrev pub AreExact : List (List (ℕ × ℕ)) → List (List Sdw) → Type 0
 AreExact trailers descriptors =
-    (place process number : ℕ) → count_by (leads_to process number) (trailers_of trailers place) ≡ times (leads_at descriptors process number) place
+    (place process number : ℕ) → count_by (leads_to process number) (trailers_of trailers place)
+    ≡ times (leads_at descriptors process number) place
 
 -- the segment of this place is known to the process by this number
-pub record IsKnownAt (entries : List (Option Entry)) (known : List (List (Option ℕ))) (process number place : ℕ) : Type 0 where
+pub record IsKnownAt (entries : List (Option Entry)) (known : List (List (Option ℕ))) (process number place : ℕ) : Type
+    0 where
   pub uid : ℕ
   pub active : uid_at entries place ≡ Some uid
   pub known_as : uid_of (kst_at known process) number ≡ Some uid
@@ -99,7 +105,8 @@ pub record AreLinked (entries : List (Option Entry)) (links : Links) : Type 0 wh
 
 -- each place has a page table of its pool's size
 abbrev pub HaveSizes : List ℕ → List (List Ptw) → Type 0
-HaveSizes sizes ptws = (pool place : ℕ) → pool < 4 → IsInPool sizes pool place → length (table_at ptws place) ≡ 4 ^ (pool + 1)
+HaveSizes sizes ptws = (pool place : ℕ) → pool < 4 → IsInPool sizes pool place → length (table_at ptws place)
+    ≡ 4 ^ (pool + 1)
 
 pub record IsKept (now : Plain) (ast : ActiveSegs) (links : Links) : Type 0 where
   pub paged : ArePaged now ast.entries ast.tables
@@ -119,8 +126,9 @@ pub record IsNotRead (core : Core) (entries : List (Option Entry)) (place : ℕ)
   pub none : (f uid p : ℕ) → uid_at entries place ≡ Some uid → read_at (reads_of core) f ≢ Some (uid, p)
 
 -- a segment that is active has a home
-pub record HasHomeIfActive (vtocs : List (List (Option VtocEntry))) (entries : List (Option Entry)) (uid : ℕ) : Type 0 where
-  pub home : IsActive entries uid → (home : Home) × (uid_homed vtocs home ≡ Some uid)
+pub record HasHomeIfActive (vtocs : List (List (Option VtocEntry))) (entries : List (Option Entry)) (uid : ℕ) : Type 0
+  where
+    pub home : IsActive entries uid → (home : Home) × (uid_homed vtocs home ≡ Some uid)
 
 -- no frame is bound, and none is being read into
 abbrev pub AreFree : Core → Type 0
@@ -134,8 +142,8 @@ AreAtRest now = (uid : ℕ) (home : Home) → IsHomeOf now.vtocs uid home → Ha
 abbrev pub pair_at : List (ℕ × ℕ) → ℕ → ℕ × ℕ
 pair_at list i = slice_index_or list i (0, 0)
 
--- numbers of processes that may be connected to the place of a segment: each is known for it and leads nowhere, and none
--- comes twice
+-- numbers of processes that may be connected to the place of a segment: each is known for it and leads nowhere, and
+-- none comes twice
 pub record MayReconnect (links : Links) (uid : Option ℕ) (list : List (ℕ × ℕ)) : Type 0 where
   pub processes : (i : ℕ) → i < length list → (pair_at list i).0 < length links.known
   pub known : (i : ℕ) → i < length list → uid_of (kst_at links.known (pair_at list i).0) (pair_at list i).1 ≡ uid

@@ -1,5 +1,6 @@
 -- What tests begin with.
-use Rattle.std.proofs.Common.{◌≡◌, ℕ, zero, suc, ◌<◌, length, arith, Bool, true, false, List, [], ◌∷◌, Option, None, Some, refl, sym, ap, ◌∙◌, get_or, replicate, subst, IsSome}
+use Rattle.std.proofs.Common.{◌≡◌, ℕ, zero, suc, ◌<◌, length, arith, Bool, true, false, List, [], ◌∷◌, Option, None}
+use Rattle.std.proofs.Common.{Some, refl, sym, ap, ◌∙◌, get_or, replicate, subst, IsSome}
 use Rattle.core_map.specs.declared.Frame.{Frame}
 use Rattle.core_map.specs.declared.Frame.TheVariants.{Free}
 use Rattle.core_map.specs.CoreMap.{Core}
@@ -9,7 +10,8 @@ use Rattle.vtoc.specs.Vtoc.{Entry, record_at, fresh_entry}
 use Rattle.page_control.specs.Plain.{Plain}
 use Rattle.page_control.specs.Tied.{vtoc_in, flags_in, map_at, uid_at, AreFiled}
 use Rattle.volumes.specs.CoreDrive.{DriveState}
-use Rattle.active_segs.specs.Active.{ActiveSegs, no_segments, uid_in, IsFull, uid_at as uid_at_place, entry_at as place_entry}
+use Rattle.active_segs.specs.Active.{ActiveSegs, no_segments, uid_in, IsFull, uid_at as uid_at_place}
+use Rattle.active_segs.specs.Active.{entry_at as place_entry}
 use Rattle.seg_control.specs.declared.Link.{Link}
 use Rattle.seg_control.specs.Control.{Control}
 use Rattle.seg_control.specs.Next.{link_at, words_in, FitsIn, MayActivate}
@@ -55,7 +57,8 @@ none_used (suc v) r = refl
 pub all_free : (core : Core) → core.frames ≡ replicate 2 Free → AreFree core
 all_free core free f = ap (λ (frames : List Frame). get_or frames f Free) free ∙ alike 2 f Free
 
-pub none_filed : (records : List (List Bool)) (vtocs : List (List (Option Entry))) → records ≡ replicate 3 false ∷ [] → vtocs ≡ (None ∷ None ∷ None ∷ []) ∷ []
+pub none_filed : (records : List (List Bool)) (vtocs : List (List (Option Entry))) → records ≡ replicate 3 false ∷ []
+    → vtocs ≡ (None ∷ None ∷ None ∷ []) ∷ []
     → AreFiled records vtocs
 none_filed records vtocs r v = rw (r, v) (record {
   used = λ w e p k at. absurd (not_none _ k (none_named w e p) at);
@@ -65,7 +68,8 @@ none_filed records vtocs r v = rw (r, v) (record {
 
 pub none_at_rest : (now : Plain) → now.vtocs ≡ (None ∷ None ∷ None ∷ []) ∷ [] → AreAtRest now
 none_at_rest now vtocs uid home is =
-    absurd (not_none (uid_at three_entries home) uid (none_homed_at home.volume home.entry) (ap (λ (v : List (List (Option Entry))). uid_at v home) (sym vtocs) ∙ is.used))
+    absurd (not_none (uid_at three_entries home) uid (none_homed_at home.volume home.entry)
+    (ap (λ (v : List (List (Option Entry))). uid_at v home) (sym vtocs) ∙ is.used))
 
 -- ---- the root may become active
 
@@ -79,12 +83,14 @@ not_some : {A : Type 0} (x : Option A) → x ≡ None → IsSome x → ⊥
 not_some None e h = cc
 not_some (Some a) e h = cc
 
-may_root : (vtocs : List (List (Option Entry))) (n : ℕ) → n ≡ 1 → uid_at vtocs root.home ≡ Some 1 → ((p : ℕ) → get_or (map_at vtocs root.home) p None ≡ None)
+may_root : (vtocs : List (List (Option Entry))) (n : ℕ) → n ≡ 1 → uid_at vtocs root.home ≡ Some 1
+    → ((p : ℕ) → get_or (map_at vtocs root.home) p None ≡ None)
     → MayActivate places vtocs n (root ∷ [])
 may_root vtocs n one used empty = record {
   few = omega arith;
   pools = λ i lt. pools i lt;
-  superiors = λ i place lt at. absurd (not_none (uid_at_place places.entries place) (link_at (root ∷ []) i).uid (ap uid_in (alike 2 place None)) at);
+  superiors = λ i place lt at. absurd (not_none (uid_at_place places.entries place) (link_at (root ∷ []) i).uid
+      (ap uid_in (alike 2 place None)) at);
   volumes_are = λ i lt. volumes i lt;
   homes = λ i lt. homes i lt;
   fits = λ i lt. fits i lt;
@@ -108,15 +114,19 @@ may_root vtocs n one used empty = record {
     fits (suc i) lt = absurd (omega (arith, lt))
 
     room : (i : ℕ) → i < 1 → IsFull places (link_at (root ∷ []) i).pool → ⊥
-    room zero lt full = not_some (place_entry places.entries 0) refl (full 0 (record { from = omega arith; to = omega arith }))
+    room zero lt full = not_some (place_entry places.entries 0) refl
+        (full 0 (record { from = omega arith; to = omega arith }))
     room (suc i) lt full = absurd (omega (arith, lt))
 
-pub root_may_by : (s : Control DriveState) (vtoc : List (Option Entry)) → HasBegun s vtoc → uid_at (vtoc ∷ []) root.home ≡ Some 1
+pub root_may_by : (s : Control DriveState) (vtoc : List (Option Entry)) → HasBegun s vtoc
+    → uid_at (vtoc ∷ []) root.home ≡ Some 1
     → ((p : ℕ) → get_or (map_at (vtoc ∷ []) root.home) p None ≡ None)
     → MayActivate s.ast s.pages.volumes.vtocs (length s.pages.volumes.drives) (root ∷ [])
 root_may_by s vtoc begun used empty =
-    subst (λ (a : ActiveSegs). MayActivate a s.pages.volumes.vtocs (length s.pages.volumes.drives) (root ∷ [])) (sym begun.ast)
-    (subst (λ (v : List (List (Option Entry))). MayActivate places v (length s.pages.volumes.drives) (root ∷ [])) (sym begun.vtocs)
+    subst (λ (a : ActiveSegs). MayActivate a s.pages.volumes.vtocs (length s.pages.volumes.drives) (root ∷ []))
+    (sym begun.ast)
+    (subst (λ (v : List (List (Option Entry))). MayActivate places v (length s.pages.volumes.drives) (root ∷ []))
+    (sym begun.vtocs)
     (may_root (vtoc ∷ []) (length s.pages.volumes.drives) begun.drives used empty))
 
 pub root_may : (s : Control DriveState) → HasBegun s (fresh_entry 1 ∷ None ∷ None ∷ [])

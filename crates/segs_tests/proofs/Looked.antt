@@ -1,5 +1,6 @@
 -- What looks at segment control tell of the root.
-use Rattle.std.proofs.Common.{◌≡◌, ℕ, zero, suc, ◌<◌, length, arith, Bool, true, false, List, [], ◌∷◌, Option, None, Some, refl, sym, ap, ◌∙◌, get_or, subst, inl, inr}
+use Rattle.std.proofs.Common.{◌≡◌, ℕ, zero, suc, ◌<◌, length, arith, Bool, true, false, List, [], ◌∷◌, Option, None}
+use Rattle.std.proofs.Common.{Some, refl, sym, ap, ◌∙◌, get_or, subst, inl, inr}
 use Rattle.std.specs.List.{position_or_len}
 use Rattle.std.specs.Prelude.{slice_get}
 use Rattle.std.proofs.Math.ListN.{get_or-map}
@@ -51,9 +52,11 @@ uid_from uid None h = cc
 uid_from uid (Some e) h = ap (λ (n : ℕ). Some n) (eqb-true e.uid uid h)
 
 used_within : (xs : List (Option Entry)) (p uid : ℕ) → uid_at xs p ≡ Some uid → p < length xs
-used_within xs p uid e = elim (cases_lt p (length xs)) [ inl lt ↦ lt | inr past ↦ absurd (none-some uid (sym (ap uid_in (get_or_past xs p None past)) ∙ e)) ]
+used_within xs p uid e = elim (cases_lt p (length xs))
+    [ inl lt ↦ lt | inr past ↦ absurd (none-some uid (sym (ap uid_in (get_or_past xs p None past)) ∙ e)) ]
 
-pub place_is : (xs : List (Option Entry)) (uid place : ℕ) → IsTree xs → uid_at xs place ≡ Some uid → place_of xs uid ≡ place
+pub place_is : (xs : List (Option Entry)) (uid place : ℕ) → IsTree xs → uid_at xs place ≡ Some uid → place_of xs uid
+    ≡ place
 unfolding place_of
 place_is xs uid place tree at =
     first_is (is_for uid) xs place None (used_within xs place uid at) (is_for_uid uid (entry_at xs place) at)
@@ -61,17 +64,21 @@ place_is xs uid place tree at =
   where
     not_yet : (j : ℕ) (b : Bool) → j < place → is_for uid (entry_at xs j) ≡ b → b ≡ false
     not_yet j false l e = refl
-    not_yet j true l e = absurd (let same : j ≡ place = tree.once j place uid (uid_from uid (entry_at xs j) e) at in omega (arith, same))
+    not_yet j true l e = absurd (let same : j ≡ place =
+        tree.once j place uid (uid_from uid (entry_at xs j) e) at in omega (arith, same))
 
     not_before : (j : ℕ) → j < place → is_for uid (entry_at xs j) ≡ false
     not_before j l = not_yet j (is_for uid (entry_at xs j)) l refl
 
 -- ---- pages of the root
 
-pub word_seen : (s : Control DriveState) (a b : ActiveSegs) (place p : ℕ) (words : List Ptw) (w : Ptw) → a ≡ s.ast → b ≡ s.ast → IsTree a.entries
-    → uid_at a.entries place ≡ Some 1 → words ≡ table_at b.tables place → p < length words → w ≡ ptw_at words p → IsWord s p w
+pub word_seen : (s : Control DriveState) (a b : ActiveSegs) (place p : ℕ) (words : List Ptw) (w : Ptw) → a ≡ s.ast → b
+    ≡ s.ast → IsTree a.entries
+    → uid_at a.entries place ≡ Some 1 → words ≡ table_at b.tables place → p < length words → w ≡ ptw_at words p
+    → IsWord s p w
 word_seen s a b place p words w first second tree at table lt is =
-    let same : table_of s.ast 1 ≡ words = ap (table_at s.ast.tables) (place_is s.ast.entries 1 place tree2 at2) ∙ ap (λ (those : ActiveSegs). table_at those.tables place) (sym second) ∙ sym table in
+    let same : table_of s.ast 1 ≡ words = ap (table_at s.ast.tables) (place_is s.ast.entries 1 place tree2 at2)
+    ∙ ap (λ (those : ActiveSegs). table_at those.tables place) (sym second) ∙ sym table in
     record {
       active = (place, at2);
       within = subst (λ (those : List Ptw). p < length those) (sym same) lt;
@@ -108,18 +115,26 @@ started_is (Bound uid p used modified) u q e = absurd (no_page (u, q) e)
 pub idle_kept : (old new : Core) (u q : ℕ) → reads_of new ≡ reads_of old → IsNotStarted old u q → IsNotStarted new u q
 idle_kept old new u q same idle = record {
   none = λ f started. idle.none f (started_is (frame_at old f) u q
-      (sym (get_or-map started_page old.frames f Free) ∙ ap (λ (reads : List (Option (ℕ × ℕ))). read_at reads f) (sym same) ∙ read_started new f u q started));
+      (sym (get_or-map started_page old.frames f Free)
+      ∙ ap (λ (reads : List (Option (ℕ × ℕ))). read_at reads f) (sym same) ∙ read_started new f u q started));
 }
 
-pub frame_seen : (s : Control DriveState) (pages : Paging DriveState) (now : Plain) (p f : ℕ) (word w : Ptw) → pages ≡ s.pages → now.core ≡ s.pages.core
+pub frame_seen : (s : Control DriveState) (pages : Paging DriveState) (now : Plain) (p f : ℕ) (word w : Ptw) → pages
+    ≡ s.pages → now.core ≡ s.pages.core
     → IsKept now s.ast s.links
-    → ((uid q g : ℕ) (words : List Ptw) → IsTableOf (bindings pages.core) uid words → frame_of (ptw_at words q) ≡ Some g → IsBoundTo (frame_at pages.core g) uid q)
+    → ((uid q g : ℕ) (words : List Ptw) → IsTableOf (bindings pages.core) uid words → frame_of (ptw_at words q)
+    ≡ Some g → IsBoundTo (frame_at pages.core g) uid q)
     → IsWord s p word → word ≡ w → frame_of w ≡ Some f → IsInFrame s p w f
 frame_seen s pages now p f word w first core kept named is same in_frame = record {
   is = record { active = is.active; within = is.within; word = is_w };
   frame = subst (λ (those : Paging DriveState). IsBoundTo (frame_at those.core f) 1 p) first
-      (named 1 p f (table_of s.ast 1) (subst (λ (those : Paging DriveState). IsTableOf (bindings those.core) 1 (table_of s.ast 1)) (sym first) table) (ap frame_of is_w ∙ in_frame));
-  idle = record { none = λ g started. out_or_in w f (out (kept.paged.started g 1 p (ap (λ (those : Core). read_at (reads_of those) g) core ∙ read_started s.pages.core g 1 p started))) in_frame };
+      (named 1 p f (table_of s.ast 1) (subst (λ (those : Paging DriveState). IsTableOf (bindings those.core) 1
+      (table_of s.ast 1)) (sym first) table) (ap frame_of is_w ∙ in_frame));
+  idle = record {
+    none = λ g started. out_or_in w f (out
+        (kept.paged.started g 1 p (ap (λ (those : Core). read_at (reads_of those) g) core
+        ∙ read_started s.pages.core g 1 p started))) in_frame;
+  };
 }
   where
     is_w : word_of s.ast 1 p ≡ w
@@ -130,7 +145,8 @@ frame_seen s pages now p f word w first core kept named is same in_frame = recor
 
     table : IsTableOf (bindings s.pages.core) 1 (table_of s.ast 1)
     table = subst (λ (those : Core). IsTableOf (bindings those) 1 (table_of s.ast 1)) core
-        (subst (λ (those : List Ptw). IsTableOf (bindings now.core) 1 those) (sym (table_in is.active.0 is.active.1)) (kept.paged.tables is.active.0 1 is.active.1))
+        (subst (λ (those : List Ptw). IsTableOf (bindings now.core) 1 those) (sym (table_in is.active.0 is.active.1))
+        (kept.paged.tables is.active.0 1 is.active.1))
 
     out : IsOutAt s.ast.entries s.ast.tables 1 p → is_out w ≡ true
     out at = ap is_out (sym is_w ∙ ap (λ (those : List Ptw). ptw_at those p) (table_in at.place at.active)) ∙ at.out
@@ -138,16 +154,20 @@ frame_seen s pages now p f word w first core kept named is same in_frame = recor
 -- ---- links
 
 -- the links are as before, whatever became of the next segment of a chain
-links_keep : (old new : Control DriveState) (chain : List Link) (next : Next) → IsNext old new chain next → new.links ≡ old.links
+links_keep : (old new : Control DriveState) (chain : List Link) (next : Next) → IsNext old new chain next → new.links
+    ≡ old.links
 links_keep old new chain (Activated place) is = ap (λ (s : Control DriveState). s.links) is.1.effect
 links_keep old new chain (Victim place) is = ap (λ (s : Control DriveState). s.links) is.1.effect
 links_keep old new chain Whole is = ap (λ (s : Control DriveState). s.links) is.1
 
-pub two_know : (old new : Control DriveState) (chain : List Link) (next : Next) (vtoc : List (Option VtocEntry)) → HasBegun old vtoc → IsNext old new chain next
+pub two_know : (old new : Control DriveState) (chain : List Link) (next : Next) (vtoc : List (Option VtocEntry))
+    → HasBegun old vtoc → IsNext old new chain next
     → length new.links.known ≡ 2
-two_know old new chain next vtoc begun is = ap (λ (links : Links). length links.known) (links_keep old new chain next is ∙ begun.links)
+two_know old new chain next vtoc begun is = ap (λ (links : Links). length links.known)
+    (links_keep old new chain next is ∙ begun.links)
 
-pub two_pairs : (xs : List (ℕ × ℕ)) (a b : ℕ × ℕ) → length xs ≡ 2 → slice_get xs 0 ≡ Some a → slice_get xs 1 ≡ Some b → xs ≡ a ∷ b ∷ []
+pub two_pairs : (xs : List (ℕ × ℕ)) (a b : ℕ × ℕ) → length xs ≡ 2 → slice_get xs 0 ≡ Some a → slice_get xs 1 ≡ Some b
+    → xs ≡ a ∷ b ∷ []
 two_pairs [] a b two first second = absurd (omega (arith, two))
 two_pairs (x ∷ []) a b two first second = absurd (omega (arith, two))
 two_pairs (x ∷ y ∷ []) a b two first second = cc
@@ -162,4 +182,5 @@ pub reconnected_known : (list : List (ℕ × ℕ)) (links : Links) (place : ℕ)
 unfolding reconnected
 reconnected_known [] links place modes pages = refl
 reconnected_known (pair ∷ list) links place [] pages = refl
-reconnected_known (pair ∷ list) links place (mode ∷ modes) pages = reconnected_known list (linked links pair.0 pair.1 place mode pages) place modes pages
+reconnected_known (pair ∷ list) links place (mode ∷ modes) pages =
+    reconnected_known list (linked links pair.0 pair.1 place mode pages) place modes pages

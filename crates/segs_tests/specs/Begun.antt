@@ -7,8 +7,8 @@ use Rattle.active_segs.specs.Active.{no_segments}
 use Rattle.seg_control.specs.Control.{Control}
 use Rattle.seg_control.specs.Effects.{no_links}
 
--- two free frames over one volume of three records and three entries, a place for a small segment and one for a larger one,
--- and two processes
+-- two free frames over one volume of three records and three entries, a place for a small segment and one for a larger
+-- one, and two processes
 pub record HasBegun (s : Control DriveState) (vtoc : List (Option Entry)) : Type 0 where
   pub frames : s.pages.core.frames ≡ replicate 2 Free
   pub drives : length s.pages.volumes.drives ≡ 1

@@ -1,4 +1,5 @@
-ghost use Rattle.std.specs.Prelude.{◌≡◌, ℕ, ◌-◌, ◌<◌, ◌≤◌, ◌↔◌, ◌⊎◌, Some, [], length, min, IfOk, IsErr, Contains, is_some};
+ghost use Rattle.std.specs.Prelude.{◌≡◌, ℕ, ◌-◌, ◌<◌, ◌≤◌, ◌↔◌, ◌⊎◌, Some, [], length, min, IfOk, IsErr, Contains};
+ghost use Rattle.std.specs.Prelude.{is_some};
 ghost use Rattle.std.specs.Io.KnownBytes.{ReadConsumes, WriteAppends};
 ghost use Rattle.site_io.specs.Faults.{HasCause, counted};
 ghost use Rattle.site_io.specs.Memory.{after_read, after_write};

@@ -1,5 +1,6 @@
 -- What is above the nodes of a tree is a chain that ends at the root.
-use Rattle.std.proofs.Common.{◌≡◌, ◌≢◌, ℕ, suc, zero, ◌<◌, ◌≤◌, true, false, cond, eqb, List, [], ◌∷◌, Option, Some, None, refl, sym, ap, subst, ◌∙◌, arith, inl, inr, ◌⊎◌, is_some}
+use Rattle.std.proofs.Common.{◌≡◌, ◌≢◌, ℕ, suc, zero, ◌<◌, ◌≤◌, true, false, cond, eqb, List, [], ◌∷◌, Option, Some}
+use Rattle.std.proofs.Common.{None, refl, sym, ap, subst, ◌∙◌, arith, inl, inr, ◌⊎◌, is_some}
 use Rattle.std.specs.List.{find}
 use Rattle.std.specs.Option.{option_and_then}
 use Rattle.std.proofs.lemmas.Bool.{cases_Bool, both_ways}
@@ -13,7 +14,8 @@ node_found (n ∷ ns) u = ap (cond (eqb n.uid u) (Some n)) (node_found ns u)
 
 directory_there : (ns : List Term) (u : ℕ) → has_directory ns u ≡ true → is_some (node_in ns u) ≡ true
 directory_there [] u e = cc
-directory_there (n ∷ ns) u e = elim (cases_Bool (eqb n.uid u)) [ inl is ↦ rw is refl | inr isnt ↦ rw isnt (directory_there ns u (rw isnt at e)) ]
+directory_there (n ∷ ns) u e = elim (cases_Bool (eqb n.uid u))
+    [ inl is ↦ rw is refl | inr isnt ↦ rw isnt (directory_there ns u (rw isnt at e)) ]
 
 under_more : (u v : ℕ) (xs : List ℕ) → v < u → AreUnder v xs → AreUnder u xs
 under_more u v [] lt a = tt
@@ -25,7 +27,8 @@ module _ (ns : List Term) (t : IsTree ns) where
     under : AreUnder u (above ns u)
     directories : AreDirectories ns (above ns u)
 
-  facts_at : (u : ℕ) (o : Option ℕ) → superior_in ns u ≡ o → above ns u ≡ step_up (above ns) o → IsUp ns u o → ((s : ℕ) → s < u → Facts s) → Facts u
+  facts_at : (u : ℕ) (o : Option ℕ) → superior_in ns u ≡ o → above ns u ≡ step_up (above ns) o → IsUp ns u o
+      → ((s : ℕ) → s < u → Facts s) → Facts u
   facts_at u None is e up ih = record { chain = rw e tt; under = rw e tt; directories = rw e tt }
   facts_at u (Some s) is e up ih =
       (let f = ih s up.0 in
@@ -37,13 +40,15 @@ module _ (ns : List Term) (t : IsTree ns) where
 
   facts : (n u : ℕ) → u < n → Facts u
   facts zero u lt = absurd (omega arith)
-  facts (suc n) u lt = facts_at u (superior_in ns u) refl (above_once ns t u) (superior_up ns t u) (λ s l. facts n s (omega arith))
+  facts (suc n) u lt = facts_at u (superior_in ns u) refl (above_once ns t u) (superior_up ns t u)
+      (λ s l. facts n s (omega arith))
 
   -- a node is the root, or ends at it
   Ends : ℕ → Type 0
   Ends u = ((u ≡ 1) × (above ns u ≡ [])) ⊎ ((1 < u) × EndsAtRoot (above ns u))
 
-  no_superior : (u : ℕ) (o : Option Term) → find (λ n. eqb n.uid u) ns ≡ o → is_some o ≡ true → option_and_then (λ n. n.superior) o ≡ None → u ≡ 1
+  no_superior : (u : ℕ) (o : Option Term) → find (λ n. eqb n.uid u) ns ≡ o → is_some o ≡ true
+      → option_and_then (λ n. n.superior) o ≡ None → u ≡ 1
   no_superior u None is some none = cc
   no_superior u (Some n) is some none = root_only ns t u n is none
 
@@ -51,17 +56,31 @@ module _ (ns : List Term) (t : IsTree ns) where
   under_root s [] lt e = absurd e
   under_root s (x ∷ xs) lt e = (lt, e)
 
-  ends_at : (u : ℕ) (o : Option ℕ) → superior_in ns u ≡ o → above ns u ≡ step_up (above ns) o → IsUp ns u o → is_some (node_in ns u) ≡ true → ((s : ℕ) → s < u → is_some (node_in ns s) ≡ true → Ends s) → Ends u
+  ends_at : (u : ℕ) (o : Option ℕ) → superior_in ns u ≡ o → above ns u ≡ step_up (above ns) o → IsUp ns u o
+      → is_some (node_in ns u) ≡ true → ((s : ℕ) → s < u → is_some (node_in ns s) ≡ true → Ends s) → Ends u
   unfolding Ends
-  ends_at u None is e up there ih = inl (no_superior u (find (λ n. eqb n.uid u) ns) refl (ap is_some (sym (node_found ns u)) ∙ there) is, e)
+  ends_at u None is e up there ih = inl (
+    no_superior u (find (λ n. eqb n.uid u) ns) refl
+        (ap is_some (sym (node_found ns u)) ∙ there) is,
+    e,
+  )
   ends_at u (Some s) is e up there ih = elim (ih s up.0 (directory_there ns s up.1)) [
-    | inl root ↦ inr ((let one : s ≡ 1 = root.0 in let lt : s < u = up.0 in omega arith), subst EndsAtRoot (sym e) (rw root.1 root.0))
-    | inr below ↦ inr ((let lt : s < u = up.0 in let more : 1 < s = below.0 in omega arith), subst EndsAtRoot (sym e) (under_root s (above ns s) below.0 below.1))
+    | inl root ↦ inr (
+      (let one : s ≡ 1 = root.0 in let lt : s < u = up.0 in omega arith),
+      subst EndsAtRoot (sym e)
+          (rw root.1 root.0),
+    )
+    | inr below ↦ inr (
+      (let lt : s < u = up.0 in let more : 1 < s = below.0 in omega arith),
+      subst EndsAtRoot (sym e)
+          (under_root s (above ns s) below.0 below.1),
+    )
   ]
 
   ends : (n u : ℕ) → u < n → is_some (node_in ns u) ≡ true → Ends u
   ends zero u lt there = absurd (omega arith)
-  ends (suc n) u lt there = ends_at u (superior_in ns u) refl (above_once ns t u) (superior_up ns t u) there (λ s l h. ends n s (omega arith) h)
+  ends (suc n) u lt there = ends_at u (superior_in ns u) refl (above_once ns t u) (superior_up ns t u) there
+      (λ s l h. ends n s (omega arith) h)
 
   root_at : (o : Option ℕ) → superior_in ns 1 ≡ o → above ns 1 ≡ step_up (above ns) o → IsUp ns 1 o → above ns 1 ≡ []
   unfolding Ends
@@ -81,10 +100,12 @@ module _ (ns : List Term) (t : IsTree ns) where
   first_at u (inl root) = (let one : u ≡ 1 = root.0 in omega arith)
   first_at u (inr below) = (let lt : 1 < u = below.0 in omega arith)
 
-  of_directory : (ms : List Term) (u : ℕ) (n : Term) → find (λ n. eqb n.uid u) ms ≡ Some n → has_directory ms u ≡ n.directory
+  of_directory : (ms : List Term) (u : ℕ) (n : Term) → find (λ n. eqb n.uid u) ms ≡ Some n → has_directory ms u
+      ≡ n.directory
   of_directory [] u n e = cc
   of_directory (m ∷ ms) u n e = elim (cases_Bool (eqb m.uid u)) [
-    | inl is ↦ (let z : Some m ≡ Some n = rw is at e in let same : m ≡ n = cc in rw is (ap (λ (x : Term). x.directory) same))
+    | inl is ↦ (let z : Some m ≡ Some n = rw is at e in let same : m ≡ n =
+        cc in rw is (ap (λ (x : Term). x.directory) same))
     | inr isnt ↦ rw isnt (of_directory ms u n (rw isnt at e))
   ]
 
@@ -99,10 +120,14 @@ module _ (ns : List Term) (t : IsTree ns) where
   root_is_directory : (o : Option Term) → find (λ n. eqb n.uid 1) ns ≡ o → is_some o ≡ true → has_directory ns 1 ≡ true
   root_is_directory None is some = cc
   root_is_directory (Some n) is some =
-      of_directory ns 1 n is ∙ root_directory ns t 1 n is (sym (ap (option_and_then (λ n. n.superior)) is) ∙ root_superior (superior_in ns 1) refl (superior_up ns t 1))
+      of_directory ns 1 n is ∙ root_directory ns t 1 n is
+      (sym (ap (option_and_then (λ n. n.superior)) is)
+      ∙ root_superior (superior_in ns 1) refl (superior_up ns t 1))
 
   not_root : (u : ℕ) → is_some (node_in ns u) ≡ true → has_directory ns u ≡ false → u ≢ 1
-  not_root u there isnt one = both_ways (has_directory ns u) isnt (rw one (root_is_directory (find (λ n. eqb n.uid 1) ns) refl (ap is_some (sym (node_found ns 1)) ∙ rw one at there)))
+  not_root u there isnt one = both_ways (has_directory ns u) isnt
+      (rw one (root_is_directory (find (λ n. eqb n.uid 1) ns) refl
+      (ap is_some (sym (node_found ns 1)) ∙ rw one at there)))
 
   pub has_chains : HasChains ns
   has_chains = record {

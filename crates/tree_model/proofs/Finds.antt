@@ -1,21 +1,28 @@
 -- The first node that passes a test, in a list that is mapped or joined.
-use Rattle.std.proofs.Common.{◌≡◌, ◌≢◌, ℕ, Bool, true, false, cond, List, [], ◌∷◌, ◌++◌, map, Option, Some, None, refl, ap, ◌∙◌, ◌⊎◌, inl, inr, is_some}
+use Rattle.std.proofs.Common.{◌≡◌, ◌≢◌, ℕ, Bool, true, false, cond, List, [], ◌∷◌, ◌++◌, map, Option, Some, None, refl}
+use Rattle.std.proofs.Common.{ap, ◌∙◌, ◌⊎◌, inl, inr, is_some}
 use Rattle.std.specs.List.{find, filter, list_any}
 use Rattle.std.specs.Option.{option_map}
 use Rattle.std.proofs.lemmas.Bool.{cases_Bool, true_from_ne_false}
 use Rattle.tree_model.specs.Tree.{Node as Term, branch_in, is_branch}
 
-pub find_map : {X Y : Type 0} (p : Y → Bool) (f : X → Y) (xs : List X) → find p (map f xs) ≡ option_map f (find (λ x. p (f x)) xs)
+pub find_map : {X Y : Type 0} (p : Y → Bool) (f : X → Y) (xs : List X) → find p (map f xs)
+    ≡ option_map f (find (λ x. p (f x)) xs)
 find_map p f [] = refl
 find_map p f (x ∷ xs) = elim (cases_Bool (p (f x))) [ inl is ↦ rw is refl | inr isnt ↦ rw isnt (find_map p f xs) ]
 
 pub found_front : {X : Type 0} (p : X → Bool) (xs ys : List X) (x : X) → find p xs ≡ Some x → find p (xs ++ ys) ≡ Some x
 found_front p [] ys x e = cc
-found_front p (y ∷ xs) ys x e = elim (cases_Bool (p y)) [ inl is ↦ rw is (rw is at e) | inr isnt ↦ rw isnt (found_front p xs ys x (rw isnt at e)) ]
+found_front p (y ∷ xs) ys x e = elim (cases_Bool (p y))
+    [ inl is ↦ rw is (rw is at e) | inr isnt ↦ rw isnt (found_front p xs ys x (rw isnt at e)) ]
 
 pub past_front : {X : Type 0} (p : X → Bool) (xs ys : List X) → find p xs ≡ None → find p (xs ++ ys) ≡ find p ys
 past_front p [] ys e = refl
-past_front p (y ∷ xs) ys e = elim (cases_Bool (p y)) [ inl is ↦ (let z : Some y ≡ None = rw is at e in cc) | inr isnt ↦ rw isnt (past_front p xs ys (rw isnt at e)) ]
+past_front p (y ∷ xs) ys e = elim (cases_Bool (p y)) [
+  | inl is ↦ (let z : Some y ≡ None = rw is at e in cc)
+  | inr isnt ↦
+      rw isnt (past_front p xs ys (rw isnt at e))
+]
 
 -- the branch of a name is the first node that is it
 pub branch_found : (d : ℕ) (name : List ℕ) (ns : List Term) → branch_in ns d name ≡ find (is_branch d name) ns
@@ -62,15 +69,18 @@ found_member p (y ∷ xs) x e = elim (cases_Bool (p y)) [
 
 pub member_found : {X : Type 0} (p : X → Bool) (xs : List X) (x : X) → IsMember x xs → p x ≡ true → find p xs ≢ None
 member_found p [] x m is none = absurd m
-member_found p (y ∷ xs) x (inl e) is none = (let here : p y ≡ true = rw (← e) is in let z : Some y ≡ None = rw here at none in cc)
+member_found p (y ∷ xs) x (inl e) is none = (let here : p y ≡ true = rw (← e) is in let z : Some y ≡ None =
+    rw here at none in cc)
 member_found p (y ∷ xs) x (inr m) is none = elim (cases_Bool (p y)) [
   | inl here ↦ (let z : Some y ≡ None = rw here at none in cc)
   | inr isnt ↦ member_found p xs x m is (rw isnt at none)
 ]
 
-pub filter_map_same : {X Y : Type 0} (p : Y → Bool) (f : X → Y) (xs : List X) → map f (filter (λ x. p (f x)) xs) ≡ filter p (map f xs)
+pub filter_map_same : {X Y : Type 0} (p : Y → Bool) (f : X → Y) (xs : List X) → map f (filter (λ x. p (f x)) xs)
+    ≡ filter p (map f xs)
 filter_map_same p f [] = refl
-filter_map_same p f (x ∷ xs) = elim (cases_Bool (p (f x))) [ inl is ↦ rw is (ap (λ ys. f x ∷ ys) (filter_map_same p f xs)) | inr isnt ↦ rw isnt (filter_map_same p f xs) ]
+filter_map_same p f (x ∷ xs) = elim (cases_Bool (p (f x)))
+    [ inl is ↦ rw is (ap (λ ys. f x ∷ ys) (filter_map_same p f xs)) | inr isnt ↦ rw isnt (filter_map_same p f xs) ]
 
 -- some element passes where one is found
 pub any_found : {X : Type 0} (p : X → Bool) (xs : List X) → list_any p xs ≡ is_some (find p xs)
@@ -78,7 +88,8 @@ any_found p [] = refl
 any_found p (x ∷ xs) = elim (cases_Bool (p x)) [ inl is ↦ rw is refl | inr isnt ↦ rw isnt (any_found p xs) ]
 
 pub any_member : {X : Type 0} (p : X → Bool) (xs : List X) (x : X) → IsMember x xs → p x ≡ true → list_any p xs ≡ true
-any_member p xs x m is = any_found p xs ∙ true_from_ne_false (is_some (find p xs)) (λ e. member_found p xs x m is (none_since (find p xs) e))
+any_member p xs x m is = any_found p xs ∙ true_from_ne_false (is_some (find p xs))
+    (λ e. member_found p xs x m is (none_since (find p xs) e))
   where
     none_since : {X : Type 0} (o : Option X) → is_some o ≡ false → o ≡ None
     none_since None e = refl

@@ -1,5 +1,6 @@
 -- The laws of a tree: what is above a node, how deep it lies, and what a branch more or less leaves.
-use Rattle.std.proofs.Common.{◌≡◌, ◌≢◌, ℕ, ◌<◌, ◌≤◌, true, false, cond, eqb, not, List, [], ◌∷◌, length, Option, Some, None, refl, sym, ap, subst, ◌∙◌, arith, inl, inr}
+use Rattle.std.proofs.Common.{◌≡◌, ◌≢◌, ℕ, ◌<◌, ◌≤◌, true, false, cond, eqb, not, List, [], ◌∷◌, length, Option, Some}
+use Rattle.std.proofs.Common.{None, refl, sym, ap, subst, ◌∙◌, arith, inl, inr}
 use Rattle.std.specs.List.{find, filter, list_any}
 use Rattle.std.specs.Str.{bytes_eq}
 use Rattle.std.specs.Option.{option_and_then}
@@ -31,8 +32,10 @@ joined_up ns None n j = tt
 joined_up ns (Some s) n j = (below_of n.uid ns s j.later j.below, j.below)
 
 -- a newer node hides no older one
-seen_past : (ns : List Term) (n : Term) (u s : ℕ) → AreBelow n.uid ns → has_directory ns s ≡ true → has_directory (n ∷ ns) s ≡ true
-seen_past ns n u s b e = (let lt : s < n.uid = below_of n.uid ns s b e in let other : eqb n.uid s ≡ false = ne_eqb n.uid s (λ q. omega arith) in rw other e)
+seen_past : (ns : List Term) (n : Term) (u s : ℕ) → AreBelow n.uid ns → has_directory ns s ≡ true
+    → has_directory (n ∷ ns) s ≡ true
+seen_past ns n u s b e = (let lt : s < n.uid = below_of n.uid ns s b e in let other : eqb n.uid s ≡ false =
+    ne_eqb n.uid s (λ q. omega arith) in rw other e)
 
 joined_below : (ns : List Term) (o : Option ℕ) (n : Term) → Joins ns o n → AreBelow n.uid ns
 joined_below ns None n j = rw j.first tt
@@ -46,13 +49,17 @@ up_past ns n u (Some s) b up = (up.0, seen_past ns n u s b up.1)
 pub superior_up : (ns : List Term) → IsTree ns → (u : ℕ) → IsUp ns u (superior_in ns u)
 superior_up [] t u = tt
 superior_up (n ∷ ns) t u = elim (cases_eq n.uid u) [
-  | inl same ↦ rw (eq-eqb n.uid u same) (up_past ns n u n.superior (joined_below ns n.superior n t.0) (rw same at (joined_up ns n.superior n t.0)))
-  | inr other ↦ rw (ne_eqb n.uid u other) (up_past ns n u (superior_in ns u) (joined_below ns n.superior n t.0) (superior_up ns t.1 u))
+  | inl same ↦ rw (eq-eqb n.uid u same) (up_past ns n u n.superior (joined_below ns n.superior n t.0)
+      (rw same at (joined_up ns n.superior n t.0)))
+  | inr other ↦ rw (ne_eqb n.uid u other) (up_past ns n u (superior_in ns u) (joined_below ns n.superior n t.0)
+      (superior_up ns t.1 u))
 ]
 
-step_past : (ns : List Term) (n : Term) (u : ℕ) (o : Option ℕ) → AreBelow n.uid ns → IsUp ns u o → step_up (above ns) o ≡ step_up (above (n ∷ ns)) o
+step_past : (ns : List Term) (n : Term) (u : ℕ) (o : Option ℕ) → AreBelow n.uid ns → IsUp ns u o → step_up (above ns) o
+    ≡ step_up (above (n ∷ ns)) o
 step_past ns n u None b up = refl
-step_past ns n u (Some s) b up = (let lt : s < n.uid = below_of n.uid ns s b up.1 in let other : eqb n.uid s ≡ false = ne_eqb n.uid s (λ q. omega arith) in rw other refl)
+step_past ns n u (Some s) b up = (let lt : s < n.uid = below_of n.uid ns s b up.1 in let other : eqb n.uid s ≡ false =
+    ne_eqb n.uid s (λ q. omega arith) in rw other refl)
 
 -- what is above a node is its superior and what is above that
 pub above_once : (ns : List Term) → IsTree ns → (u : ℕ) → above ns u ≡ step_up (above ns) (superior_in ns u)
@@ -61,24 +68,29 @@ above_once (n ∷ ns) t u =
     let b : AreBelow n.uid ns = joined_below ns n.superior n t.0 in
     elim (cases_eq n.uid u) [
       | inl same ↦ rw (eq-eqb n.uid u same) (step_past ns n n.uid n.superior b (joined_up ns n.superior n t.0))
-      | inr other ↦ rw (ne_eqb n.uid u other) (above_once ns t.1 u ∙ step_past ns n u (superior_in ns u) b (superior_up ns t.1 u))
+      | inr other ↦ rw (ne_eqb n.uid u other) (above_once ns t.1 u
+          ∙ step_past ns n u (superior_in ns u) b (superior_up ns t.1 u))
     ]
 
 -- ---- how deep a node lies
 
-shallow_since : (ns : List Term) (o : Option ℕ) (n : Term) → Joins ns o n → ((s : ℕ) → has_directory ns s ≡ true → length (above ns s) ≤ 8) → length (step_up (above ns) o) ≤ 9
+shallow_since : (ns : List Term) (o : Option ℕ) (n : Term) → Joins ns o n
+    → ((s : ℕ) → has_directory ns s ≡ true → length (above ns s) ≤ 8) → length (step_up (above ns) o) ≤ 9
 shallow_since ns None n j h = omega arith
 shallow_since ns (Some s) n j h = (let le : length (above ns s) ≤ 8 = h s j.below in omega arith)
 
-directory_since : (ns : List Term) (o : Option ℕ) (n : Term) → Joins ns o n → n.directory ≡ true → length (step_up (above ns) o) ≤ 8
+directory_since : (ns : List Term) (o : Option ℕ) (n : Term) → Joins ns o n → n.directory ≡ true
+    → length (step_up (above ns) o) ≤ 8
 directory_since ns None n j is = omega arith
 directory_since ns (Some s) n j is = (let lt : length (above ns s) < 8 = j.shallow is in omega arith)
 
 pub directory_depth : (ns : List Term) → IsTree ns → (u : ℕ) → has_directory ns u ≡ true → length (above ns u) ≤ 8
 directory_depth [] t u e = omega arith
 directory_depth (n ∷ ns) t u e = elim (cases_eq n.uid u) [
-  | inl same ↦ (let here : eqb n.uid u ≡ true = eq-eqb n.uid u same in rw here (directory_since ns n.superior n t.0 (rw here at e)))
-  | inr other ↦ (let there : eqb n.uid u ≡ false = ne_eqb n.uid u other in rw there (directory_depth ns t.1 u (rw there at e)))
+  | inl same ↦ (let here : eqb n.uid u ≡ true = eq-eqb n.uid u same in rw here
+      (directory_since ns n.superior n t.0 (rw here at e)))
+  | inr other ↦ (let there : eqb n.uid u ≡ false = ne_eqb n.uid u other in rw there
+      (directory_depth ns t.1 u (rw there at e)))
 ]
 
 -- at most the root and eight directories
@@ -90,7 +102,8 @@ depth (n ∷ ns) t u = elim (cases_eq n.uid u) [
 ]
 
 -- only the root has no superior
-pub root_only : (ns : List Term) → IsTree ns → (u : ℕ) (n : Term) → find (λ n. eqb n.uid u) ns ≡ Some n → n.superior ≡ None → u ≡ 1
+pub root_only : (ns : List Term) → IsTree ns → (u : ℕ) (n : Term) → find (λ n. eqb n.uid u) ns ≡ Some n → n.superior
+    ≡ None → u ≡ 1
 root_only [] t u n e none = cc
 root_only (m ∷ ns) t u n e none = elim (cases_eq m.uid u) [
   | inl same ↦
@@ -103,7 +116,8 @@ root_only (m ∷ ns) t u n e none = elim (cases_eq m.uid u) [
 ]
 
 -- and it's a directory
-pub root_directory : (ns : List Term) → IsTree ns → (u : ℕ) (n : Term) → find (λ n. eqb n.uid u) ns ≡ Some n → n.superior ≡ None → n.directory ≡ true
+pub root_directory : (ns : List Term) → IsTree ns → (u : ℕ) (n : Term) → find (λ n. eqb n.uid u) ns ≡ Some n
+    → n.superior ≡ None → n.directory ≡ true
 root_directory [] t u n e none = cc
 root_directory (m ∷ ns) t u n e none = elim (cases_eq m.uid u) [
   | inl same ↦
@@ -140,17 +154,21 @@ lies d name n e =
     up None e = cc
     up (Some s) e = ap (λ (x : ℕ). Some x) (eqb-true s d e)
 
-new_here : (ns : List Term) (n : Term) (d : ℕ) (name : List ℕ) → Joins ns n.superior n → is_branch d name n ≡ true → branch_in ns d name ≡ None
+new_here : (ns : List Term) (n : Term) (d : ℕ) (name : List ℕ) → Joins ns n.superior n → is_branch d name n ≡ true
+    → branch_in ns d name ≡ None
 new_here ns n d name j e =
     let h : (n.superior ≡ Some d) × (n.name ≡ name) = lies d name n e in
     let branch : IsBranch ns d n = subst (λ o. Joins ns o n) h.0 j in
     rw (← h.1) branch.new
 
-pub only_branch : (ns : List Term) → IsTree ns → (d : ℕ) (name : List ℕ) (x y : Term) → branch_in ns d name ≡ Some x → IsMember y ns → is_branch d name y ≡ true → x ≡ y
+pub only_branch : (ns : List Term) → IsTree ns → (d : ℕ) (name : List ℕ) (x y : Term) → branch_in ns d name ≡ Some x
+    → IsMember y ns → is_branch d name y ≡ true → x ≡ y
 only_branch [] t d name x y e m is = absurd m
-only_branch (n ∷ ns) t d name x y e (inl same) is = (let here : is_branch d name n ≡ true = rw (← same) is in let z : Some n ≡ Some x = rw here at e in cc)
+only_branch (n ∷ ns) t d name x y e (inl same) is = (let here : is_branch d name n ≡ true =
+    rw (← same) is in let z : Some n ≡ Some x = rw here at e in cc)
 only_branch (n ∷ ns) t d name x y e (inr m) is = elim (cases_Bool (is_branch d name n)) [
-  | inl here ↦ absurd (member_found (is_branch d name) ns y m is (sym (branch_found d name ns) ∙ new_here ns n d name t.0 here))
+  | inl here ↦ absurd (member_found (is_branch d name) ns y m is
+      (sym (branch_found d name ns) ∙ new_here ns n d name t.0 here))
   | inr there ↦ only_branch ns t.1 d name x y (rw there at e) m is
 ]
 
@@ -169,18 +187,21 @@ below_left v u (n ∷ ns) b = elim (cases_eq n.uid u) [
 directory_left : (u : ℕ) (ns : List Term) (s : ℕ) → s ≢ u → has_directory (left u ns) s ≡ has_directory ns s
 directory_left u [] s ne = refl
 directory_left u (n ∷ ns) s ne = elim (cases_eq n.uid u) [
-  | inl same ↦ (let past : eqb n.uid s ≡ false = ne_eqb n.uid s (λ q. ne (omega arith)) in rw (eq-eqb n.uid u same, past) (directory_left u ns s ne))
+  | inl same ↦ (let past : eqb n.uid s ≡ false = ne_eqb n.uid s (λ q. ne (omega arith)) in rw
+      (eq-eqb n.uid u same, past) (directory_left u ns s ne))
   | inr other ↦ rw (ne_eqb n.uid u other) (ap (λ b. cond (eqb n.uid s) n.directory b) (directory_left u ns s ne))
 ]
 
-branch_left : (u : ℕ) (ns : List Term) (d : ℕ) (name : List ℕ) → branch_in ns d name ≡ None → branch_in (left u ns) d name ≡ None
+branch_left : (u : ℕ) (ns : List Term) (d : ℕ) (name : List ℕ) → branch_in ns d name ≡ None
+    → branch_in (left u ns) d name ≡ None
 branch_left u [] d name e = refl
 branch_left u (n ∷ ns) d name e = elim (cases_Bool (is_branch d name n)) [
   | inl here ↦ (let z : Some n ≡ None = rw here at e in cc)
-  | inr there ↦ (let ih : branch_in (left u ns) d name ≡ None = branch_left u ns d name (rw there at e) in elim (cases_eq n.uid u) [
-    | inl same ↦ rw (eq-eqb n.uid u same) ih
-    | inr other ↦ rw (ne_eqb n.uid u other, there) ih
-  ])
+  | inr there ↦ (let ih : branch_in (left u ns) d name ≡ None =
+      branch_left u ns d name (rw there at e) in elim (cases_eq n.uid u) [
+        | inl same ↦ rw (eq-eqb n.uid u same) ih
+        | inr other ↦ rw (ne_eqb n.uid u other, there) ih
+      ])
 ]
 
 -- a node that isn't an inferior of u lies elsewhere
@@ -191,23 +212,27 @@ elsewhere u n e s is same = up n.superior is e
     up None z f = cc
     up (Some v) z f = (let w : v ≡ s = cc in both_ways (eqb v u) f (eq-eqb v u (omega arith)))
 
-step_left : (u : ℕ) (ns : List Term) (o : Option ℕ) → ((s : ℕ) → o ≡ Some s → s ≢ u) → ((v : ℕ) → v ≢ u → above (left u ns) v ≡ above ns v) → step_up (above (left u ns)) o ≡ step_up (above ns) o
+step_left : (u : ℕ) (ns : List Term) (o : Option ℕ) → ((s : ℕ) → o ≡ Some s → s ≢ u)
+    → ((v : ℕ) → v ≢ u → above (left u ns) v ≡ above ns v) → step_up (above (left u ns)) o ≡ step_up (above ns) o
 step_left u ns None off h = refl
 step_left u ns (Some s) off h = ap (λ xs. s ∷ xs) (h s (off s refl))
 
 -- where u has no inferior, nothing above another node changes
-pub above_left : (u : ℕ) (ns : List Term) → list_any (is_inferior u) ns ≡ false → (v : ℕ) → v ≢ u → above (left u ns) v ≡ above ns v
+pub above_left : (u : ℕ) (ns : List Term) → list_any (is_inferior u) ns ≡ false → (v : ℕ) → v ≢ u → above (left u ns) v
+    ≡ above ns v
 above_left u [] leaf v ne = refl
 above_left u (n ∷ ns) leaf v ne =
     let parts : (is_inferior u n ≡ false) × (list_any (is_inferior u) ns ≡ false) = or_parts _ _ leaf in
     elim (cases_eq n.uid u) [
-      | inl same ↦ (let past : eqb n.uid v ≡ false = ne_eqb n.uid v (λ q. ne (omega arith)) in rw (eq-eqb n.uid u same, past) (above_left u ns parts.1 v ne))
+      | inl same ↦ (let past : eqb n.uid v ≡ false = ne_eqb n.uid v (λ q. ne (omega arith)) in rw
+          (eq-eqb n.uid u same, past) (above_left u ns parts.1 v ne))
       | inr other ↦
           (let step = step_left u ns n.superior (elsewhere u n parts.0) (λ w off. above_left u ns parts.1 w off) in
           rw (ne_eqb n.uid u other, step, above_left u ns parts.1 v ne) refl)
     ]
 
-joins_left : (u : ℕ) (ns : List Term) (o : Option ℕ) (n : Term) → ((s : ℕ) → o ≡ Some s → s ≢ u) → list_any (is_inferior u) ns ≡ false → Joins ns o n → Joins (left u ns) o n
+joins_left : (u : ℕ) (ns : List Term) (o : Option ℕ) (n : Term) → ((s : ℕ) → o ≡ Some s → s ≢ u)
+    → list_any (is_inferior u) ns ≡ false → Joins ns o n → Joins (left u ns) o n
 joins_left u ns None n off leaf j = record { first = rw j.first refl; one = j.one; directory = j.directory }
 joins_left u ns (Some s) n off leaf j = record {
   later = below_left n.uid u ns j.later;
@@ -222,5 +247,8 @@ tree_left u (n ∷ ns) leaf t =
     let parts : (is_inferior u n ≡ false) × (list_any (is_inferior u) ns ≡ false) = or_parts _ _ leaf in
     elim (cases_eq n.uid u) [
       | inl same ↦ rw (eq-eqb n.uid u same) (tree_left u ns parts.1 t.1)
-      | inr other ↦ rw (ne_eqb n.uid u other) (joins_left u ns n.superior n (elsewhere u n parts.0) parts.1 t.0, tree_left u ns parts.1 t.1)
+      | inr other ↦ rw (ne_eqb n.uid u other) (
+        joins_left u ns n.superior n (elsewhere u n parts.0) parts.1 t.0,
+        tree_left u ns parts.1 t.1,
+      )
     ]

@@ -1,5 +1,6 @@
 -- Access control lists: who may do what with a segment (Bensoussan, Clingen and Daley 1972).
-use Rattle.std.specs.Prelude.{ℕ, Bool, true, false, ◌&&◌, ◌||◌, nat_lt, if◌then◌else◌, unwrap_or, List, [], ◌∷◌, length, Option, Some, None}
+use Rattle.std.specs.Prelude.{ℕ, Bool, true, false, ◌&&◌, ◌||◌, nat_lt, if◌then◌else◌, unwrap_or, List, [], ◌∷◌}
+use Rattle.std.specs.Prelude.{length, Option, Some, None}
 use Rattle.std.specs.Str.{bytes_eq}
 use Rattle.mnames.specs.declared.principals.Who.{Who}
 use Rattle.mnames.specs.declared.modes.Mode.{Mode}
@@ -24,7 +25,8 @@ names_just person project row = is_part person row.person && is_part project row
 -- the mode of the first row that names just these parts, if there is one
 abbrev pub mode_at : Option (List ℕ) → Option (List ℕ) → List Row → Option Mode
 mode_at person project [] = None
-mode_at person project (row ∷ rows) = if names_just person project row then Some row.mode else mode_at person project rows
+mode_at person project (row ∷ rows) = if names_just person project row then Some row.mode
+    else mode_at person project rows
 
 -- what a list allows: by the row of the person and the project, else that of the person on any
 -- project, else that of anyone on the project, else that of anyone, else nothing

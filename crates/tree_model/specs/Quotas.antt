@@ -1,6 +1,7 @@
 -- Quota that moves between a directory and the one that it lies in, and the accounts that are above their quotas
 -- (Organick 1972).
-use Rattle.std.specs.Prelude.{ℕ, ◌+◌, ◌-◌, Bool, ◌&&◌, ◌||◌, not, ◌==◌, nat_le, nat_lt, if◌then◌else◌, map, List, [], ◌∷◌, Option, Some, None, slice_index}
+use Rattle.std.specs.Prelude.{ℕ, ◌+◌, ◌-◌, Bool, ◌&&◌, ◌||◌, not, ◌==◌, nat_le, nat_lt, if◌then◌else◌, map, List, []}
+use Rattle.std.specs.Prelude.{◌∷◌, Option, Some, None, slice_index}
 use Rattle.tree_model.specs.Tree.{Node, above, has_directory, quota_in, used_by}
 
 -- Between a directory and its superior: down to the directory, or up from it. One gets the quota, the other gives it.
@@ -19,7 +20,8 @@ with_quota_of u change n = if n.uid == u then record n { quota = change n.quota 
 
 -- the nodes once one directory has given quota to another
 abbrev pub with_moved : List Node → ℕ → ℕ → ℕ → List Node
-with_moved nodes giver getter pages = map (λ n. with_quota_of giver (λ q. q - pages) (with_quota_of getter (λ q. q + pages) n)) nodes
+with_moved nodes giver getter pages = map (λ n. with_quota_of giver (λ q. q - pages)
+    (with_quota_of getter (λ q. q + pages) n)) nodes
 
 -- the nodes once so many pages of quota have moved down to a directory, or up from it
 abbrev pub tree_moved : List Node → ℕ → Bool → ℕ → List Node
@@ -27,7 +29,8 @@ tree_moved nodes d down pages = with_moved nodes (giver_of (above nodes) d down)
 
 -- an account with more stored pages than its quota
 abbrev pub is_over : List Node → List (ℕ × ℕ) → ℕ → Bool
-is_over nodes stored u = has_directory nodes u && ((u == 1 || not (quota_in nodes u == 0)) && nat_lt (quota_in nodes u) (used_by nodes stored u))
+is_over nodes stored u = has_directory nodes u && ((u == 1 || not (quota_in nodes u == 0))
+    && nat_lt (quota_in nodes u) (used_by nodes stored u))
 
 abbrev pub lesser : ℕ → Option ℕ → ℕ
 lesser u None = u

@@ -1,6 +1,7 @@
 -- The directory tree, the accounts in it, and their counts from scratch (Bensoussan, Clingen and
 -- Daley 1972; Organick 1972).
-use Rattle.std.specs.Prelude.{ℕ, Bool, true, false, ◌&&◌, ◌||◌, not, ◌==◌, nat_le, if◌then◌else◌, count_by, map, List, [], ◌∷◌, Option, Some, None}
+use Rattle.std.specs.Prelude.{ℕ, Bool, true, false, ◌&&◌, ◌||◌, not, ◌==◌, nat_le, if◌then◌else◌, count_by, map, List}
+use Rattle.std.specs.Prelude.{[], ◌∷◌, Option, Some, None}
 use Rattle.std.specs.List.{filter}
 use Rattle.std.specs.Str.{bytes_eq}
 use Rattle.tree_model.specs.Access.{Row}
@@ -68,7 +69,8 @@ onward go true (Some n) = go n
 -- where names lead from a node, which is a directory or a segment
 abbrev pub walk_from : List Node → ℕ → Bool → List (List ℕ) → Walk
 walk_from nodes u directory [] = LeadsTo u
-walk_from nodes u directory (name ∷ names) = onward (λ n. walk_from nodes n.uid n.directory names) directory (branch_in nodes u name)
+walk_from nodes u directory (name ∷ names) = onward (λ n. walk_from nodes n.uid n.directory names) directory
+    (branch_in nodes u name)
 
 -- where a path leads, from the root on
 abbrev pub walk_in : List Node → List (List ℕ) → Walk

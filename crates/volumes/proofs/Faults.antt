@@ -1,4 +1,5 @@
-use Rattle.std.proofs.Common.{◌≡◌, ◌≢◌, ℕ, zero, suc, ◌+◌, ◌<◌, ◌≤◌, ◌^◌, Bool, true, false, ◌||◌, ◌&&◌, cond, eqb, List, [], ◌∷◌, length, refl, sym, ap, ◌∙◌}
+use Rattle.std.proofs.Common.{◌≡◌, ◌≢◌, ℕ, zero, suc, ◌+◌, ◌<◌, ◌≤◌, ◌^◌, Bool, true, false, ◌||◌, ◌&&◌, cond, eqb}
+use Rattle.std.proofs.Common.{List, [], ◌∷◌, length, refl, sym, ap, ◌∙◌}
 use Rattle.std.proofs.Common.{arith, inl, inr, ◌⊎◌}
 use Rattle.std.specs.Bool.{beq}
 use Rattle.std.specs.List.{list_any}
@@ -45,7 +46,8 @@ named_none write zero = refl
 named_none write (suc n) = let ih = named_none write n in omega (arith, ih)
 
 -- a line that isn't onward names one call of its kind, and none of the other
-names_at : (line : FailLine) (write : Bool) (n : ℕ) (k z : Bool) → line.onward ≡ false → beq line.write write ≡ k → eqb line.number n ≡ z
+names_at : (line : FailLine) (write : Bool) (n : ℕ) (k z : Bool) → line.onward ≡ false → beq line.write write ≡ k
+    → eqb line.number n ≡ z
     → cond {A = ℕ} (names write n line || false) 1 0 ≡ cond {A = ℕ} (k && z) 1 0
 names_at line write n k false single kind number = rw (kind, single, number) (none k)
   where
@@ -66,35 +68,53 @@ record NamesOne (line : FailLine) (write : Bool) (n : ℕ) : Type 0 where
 named_one : (line : FailLine) (write : Bool) (n : ℕ) → line.onward ≡ false → NamesOne line write n
 unfolding named_calls
 named_one line write zero single = record { most = omega arith; early = λ lt. refl }
-named_one line write (suc n) single = go (eqb_tells line.number (suc n)) (beq line.write write) refl (named_one line write n single)
+named_one line write (suc n) single = go (eqb_tells line.number (suc n)) (beq line.write write) refl
+    (named_one line write n single)
   where
-    go : ((eqb line.number (suc n) ≡ true) × (line.number ≡ suc n)) ⊎ ((eqb line.number (suc n) ≡ false) × (line.number ≢ suc n)) → (k : Bool)
+    go : ((eqb line.number (suc n) ≡ true) × (line.number ≡ suc n))
+        ⊎ ((eqb line.number (suc n) ≡ false) × (line.number ≢ suc n)) → (k : Bool)
         → beq line.write write ≡ k
         → NamesOne line write n → NamesOne line write (suc n)
-    go (inl h) true kind ih = let add = names_at line write (suc n) true true single kind h.0 in let zero_before = ih.early (omega (arith, h.1)) in
+    go (inl h) true kind ih = let add = names_at line write (suc n) true true single kind h.0 in let zero_before =
+        ih.early (omega (arith, h.1)) in
         record { most = omega (arith, add, zero_before); early = λ lt. absurd (omega (arith, h.1)) }
-    go (inl h) false kind ih = let add = names_at line write (suc n) false true single kind h.0 in let zero_before = ih.early (omega (arith, h.1)) in
+    go (inl h) false kind ih = let add = names_at line write (suc n) false true single kind h.0 in let zero_before =
+        ih.early (omega (arith, h.1)) in
         record { most = omega (arith, add, zero_before); early = λ lt. absurd (omega (arith, h.1)) }
     go (inr h) true kind ih = let add = names_at line write (suc n) true false single kind h.0 in
-        record { most = omega (arith, add, ih.most); early = λ lt. (let zero_before = ih.early (omega arith) in omega (arith, add, zero_before)) }
+        record {
+          most = omega (arith, add, ih.most);
+          early =
+              λ lt. (let zero_before = ih.early (omega arith) in omega (arith, add, zero_before));
+        }
     go (inr h) false kind ih = let add = names_at line write (suc n) false false single kind h.0 in
-        record { most = omega (arith, add, ih.most); early = λ lt. (let zero_before = ih.early (omega arith) in omega (arith, add, zero_before)) }
+        record {
+          most = omega (arith, add, ih.most);
+          early =
+              λ lt. (let zero_before = ih.early (omega arith) in omega (arith, add, zero_before));
+        }
 
 -- and none of the other kind
-names_other : (line : FailLine) (write : Bool) (n : ℕ) → beq line.write write ≡ false → cond {A = ℕ} (names write n line || false) 1 0 ≡ 0
+names_other : (line : FailLine) (write : Bool) (n : ℕ) → beq line.write write ≡ false
+    → cond {A = ℕ} (names write n line || false) 1 0 ≡ 0
 names_other line write n kind = rw kind refl
 
-named_other : (line : FailLine) (write : Bool) (n : ℕ) → beq line.write write ≡ false → named_calls (line ∷ []) write n ≡ 0
+named_other : (line : FailLine) (write : Bool) (n : ℕ) → beq line.write write ≡ false → named_calls (line ∷ []) write n
+    ≡ 0
 unfolding named_calls
 named_other line write zero kind = refl
-named_other line write (suc n) kind = let ih = named_other line write n kind in let one = names_other line write (suc n) kind in omega (arith, ih, one)
+named_other line write (suc n) kind = let ih = named_other line write n kind in let one =
+    names_other line write (suc n) kind in omega (arith, ih, one)
 
-one_line : (line : FailLine) (a b : ℕ) → line.onward ≡ false → named_calls (line ∷ []) false a + named_calls (line ∷ []) true b ≤ 1
+one_line : (line : FailLine) (a b : ℕ) → line.onward ≡ false
+    → named_calls (line ∷ []) false a + named_calls (line ∷ []) true b ≤ 1
 one_line line a b single = by_kind line.write refl
   where
     by_kind : (k : Bool) → line.write ≡ k → named_calls (line ∷ []) false a + named_calls (line ∷ []) true b ≤ 1
-    by_kind true kind = let none = named_other line false a (rw kind refl) in let one = (named_one line true b single).most in omega (arith, none, one)
-    by_kind false kind = let none = named_other line true b (rw kind refl) in let one = (named_one line false a single).most in omega (arith, none, one)
+    by_kind true kind = let none = named_other line false a (rw kind refl) in let one =
+        (named_one line true b single).most in omega (arith, none, one)
+    by_kind false kind = let none = named_other line true b (rw kind refl) in let one =
+        (named_one line false a single).most in omega (arith, none, one)
 
 first_false : (p q : Bool) → (p || q) ≡ false → p ≡ false
 first_false false q h = refl
@@ -109,15 +129,18 @@ pub few_faults : (lines : List FailLine) (a b : ℕ) → list_any (λ line. line
     → named_calls lines false a + named_calls lines true b ≤ length lines
 few_faults [] a b none = let x = named_none false a in let y = named_none true b in omega (arith, x, y)
 few_faults (line ∷ lines) a b none =
-    let rest = few_faults lines a b (second_false line.onward (list_any (λ (line : FailLine). line.onward) lines) none) in
+    let rest = few_faults lines a b (second_false line.onward (list_any (λ (line : FailLine). line.onward) lines) none)
+    in
     let first = one_line line a b (first_false line.onward (list_any (λ (line : FailLine). line.onward) lines) none) in
     omega (arith, rest, first, named_split line lines false a, named_split line lines true b)
 
 -- a call that a line names raises the count of faults, and no call lowers it
-pub rose_next : (lines : List FailLine) (write : Bool) (n now other : ℕ) → n < 2 ^ 64 → now ≡ counted n → names_next lines write n ≡ true
+pub rose_next : (lines : List FailLine) (write : Bool) (n now other : ℕ) → n < 2 ^ 64 → now ≡ counted n
+    → names_next lines write n ≡ true
     → Rose (named_calls lines write n + other) (named_calls lines write now + other)
 rose_next lines write n now other fits is named =
-    let more : named_calls lines write (counted n) ≡ named_calls lines write n + 1 = named_more lines write n fits ∙ rw named refl in
+    let more : named_calls lines write (counted n) ≡ named_calls lines write n + 1 = named_more lines write n fits
+    ∙ rw named refl in
     rw is (omega (arith, more))
 
 pub grows_next : (lines : List FailLine) (write : Bool) (n now : ℕ) → n < 2 ^ 64 → now ≡ counted n
@@ -125,23 +148,29 @@ pub grows_next : (lines : List FailLine) (write : Bool) (n now : ℕ) → n < 2 
 grows_next lines write n now fits is = rw is (omega (arith, named_more lines write n fits))
 
 -- the same of a drive in core, in the terms in which a call's steps give it
-pub read_rose : (lines fs : List FailLine) (reads writes now : ℕ) → reads < 2 ^ 64 → now ≡ counted reads → fs ≡ lines → true ≡ names_next fs false reads
-    → Rose (named_calls lines false reads + named_calls lines true writes) (named_calls lines false now + named_calls lines true writes)
+pub read_rose : (lines fs : List FailLine) (reads writes now : ℕ) → reads < 2 ^ 64 → now ≡ counted reads → fs ≡ lines
+    → true ≡ names_next fs false reads
+    → Rose (named_calls lines false reads + named_calls lines true writes)
+    (named_calls lines false now + named_calls lines true writes)
 read_rose lines fs reads writes now fits is same named =
     rose_next lines false reads now (named_calls lines true writes) fits is
     (ap (λ (ls : List FailLine). names_next ls false reads) (sym same) ∙ sym named)
 
 pub read_grows : (lines : List FailLine) (reads writes now : ℕ) → reads < 2 ^ 64 → now ≡ counted reads
-    → named_calls lines false reads + named_calls lines true writes ≤ named_calls lines false now + named_calls lines true writes
+    → named_calls lines false reads + named_calls lines true writes ≤ named_calls lines false now + named_calls lines
+    true writes
 read_grows lines reads writes now fits is = let more = grows_next lines false reads now fits is in omega (arith, more)
 
-pub write_rose : (lines fs : List FailLine) (reads writes now : ℕ) → writes < 2 ^ 64 → now ≡ counted writes → fs ≡ lines → true ≡ names_next fs true writes
-    → Rose (named_calls lines false reads + named_calls lines true writes) (named_calls lines false reads + named_calls lines true now)
+pub write_rose : (lines fs : List FailLine) (reads writes now : ℕ) → writes < 2 ^ 64 → now ≡ counted writes → fs
+    ≡ lines → true ≡ names_next fs true writes
+    → Rose (named_calls lines false reads + named_calls lines true writes)
+    (named_calls lines false reads + named_calls lines true now)
 write_rose lines fs reads writes now fits is same named =
     let rose = rose_next lines true writes now (named_calls lines false reads) fits is
     (ap (λ (ls : List FailLine). names_next ls true writes) (sym same) ∙ sym named) in
     omega (arith, rose)
 
 pub write_grows : (lines : List FailLine) (reads writes now : ℕ) → writes < 2 ^ 64 → now ≡ counted writes
-    → named_calls lines false reads + named_calls lines true writes ≤ named_calls lines false reads + named_calls lines true now
+    → named_calls lines false reads + named_calls lines true writes ≤ named_calls lines false reads + named_calls lines
+    true now
 write_grows lines reads writes now fits is = let more = grows_next lines true writes now fits is in omega (arith, more)

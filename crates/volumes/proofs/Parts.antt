@@ -1,8 +1,11 @@
-use Rattle.std.proofs.Common.{◌≡◌, ◌≢◌, ℕ, zero, suc, ◌≤◌, ◌<◌, ◌^◌, Bool, true, false, List, [], ◌∷◌, ◌++◌, length, Option, None, Some, Result, Ok, Err}
-use Rattle.std.proofs.Common.{refl, sym, ap, ◌∙◌, arith, get_or, set, replicate, map, slice_get, IfSome, IfNone, OnOk, OnErr, sum_by}
+use Rattle.std.proofs.Common.{◌≡◌, ◌≢◌, ℕ, zero, suc, ◌≤◌, ◌<◌, ◌^◌, Bool, true, false, List, [], ◌∷◌, ◌++◌, length}
+use Rattle.std.proofs.Common.{Option, None, Some, Result, Ok, Err}
+use Rattle.std.proofs.Common.{refl, sym, ap, ◌∙◌, arith, get_or, set, replicate, map, slice_get, IfSome, IfNone, OnOk}
+use Rattle.std.proofs.Common.{OnErr, sum_by}
 use Rattle.site_io.specs.Faults.{Rose}
 use Rattle.std.proofs.lemmas.List.Sums.{sum_by-set, get_or-le-sum_by}
-use Rattle.std.proofs.lemmas.List.{get_or-set_same, map-set, get_or-map, map-append, length-map, length-set, length-replicate, set-get_or}
+use Rattle.std.proofs.lemmas.List.{get_or-set_same, map-set, get_or-map, map-append, length-map, length-set}
+use Rattle.std.proofs.lemmas.List.{length-replicate, set-get_or}
 use Rattle.std.proofs.lemmas.List.Elements.{All-set, All-push}
 use Rattle.site_io.specs.declared.stream.Failed.{Failed}
 use Rattle.vtoc.specs.Vtoc.{Entry}
@@ -16,39 +19,48 @@ set_same : {X : Type 0} (xs : List X) (v : ℕ) (x : X) → x ≡ get_or xs v x 
 set_same xs v x read = ap (set xs v) read ∙ set-get_or xs v x
 
 -- the lengths are as before where the new element has the length of the old one
-lengths_with : {X : Type 0} (xs : List (List X)) (v : ℕ) (x y : List X) → x ≡ get_or xs v x → length y ≡ length x → map length (set xs v y) ≡ map length xs
+lengths_with : {X : Type 0} (xs : List (List X)) (v : ℕ) (x y : List X) → x ≡ get_or xs v x → length y ≡ length x
+    → map length (set xs v y) ≡ map length xs
 lengths_with xs v x y read long =
-    map-set length xs v y ∙ ap (set (map length xs) v) long ∙ sym (map-set length xs v x) ∙ ap (map length) (set_same xs v x read)
+    map-set length xs v y ∙ ap (set (map length xs) v) long ∙ sym (map-set length xs v x)
+    ∙ ap (map length) (set_same xs v x read)
 
-pub parts_with_records : (disks : List (List (List ℕ))) (records : List (List Bool)) (vtocs : List (List (Option Entry))) (v : ℕ) (x y : List Bool)
-    → HasParts disks records vtocs → x ≡ get_or records v x → length y ≡ length x → HasParts disks (set records v y) vtocs
+pub parts_with_records : (disks : List (List (List ℕ))) (records : List (List Bool))
+    (vtocs : List (List (Option Entry))) (v : ℕ) (x y : List Bool)
+    → HasParts disks records vtocs → x ≡ get_or records v x → length y ≡ length x
+    → HasParts disks (set records v y) vtocs
 parts_with_records disks records vtocs v x y h read long = record {
   few = h.few;
   sizes = lengths_with records v x y read long ∙ h.sizes;
   tables = h.tables;
 }
 
-pub parts_with_drive : {D : Type 0} (pages : D → List (List ℕ)) (drives : List D) (records : List (List Bool)) (vtocs : List (List (Option Entry))) (v : ℕ)
+pub parts_with_drive : {D : Type 0} (pages : D → List (List ℕ)) (drives : List D) (records : List (List Bool))
+    (vtocs : List (List (Option Entry))) (v : ℕ)
     (x y : D)
     → HasParts (map pages drives) records vtocs → x ≡ get_or drives v x → length (pages y) ≡ length (pages x)
     → HasParts (map pages (set drives v y)) records vtocs
 parts_with_drive pages drives records vtocs v x y h read long =
     let count : length (map pages (set drives v y)) ≡ length (map pages drives) =
     length-map (set drives v y) pages ∙ length-set drives v y ∙ sym (length-map drives pages) in
-    let old : set (map pages drives) v (pages x) ≡ map pages drives = sym (map-set pages drives v x) ∙ ap (map pages) (set_same drives v x read) in
+    let old : set (map pages drives) v (pages x) ≡ map pages drives = sym (map-set pages drives v x)
+    ∙ ap (map pages) (set_same drives v x read) in
     record {
       few = rw count h.few;
       sizes = h.sizes ∙ sym (ap (map length) (map-set pages drives v y) ∙ map-set length (map pages drives) v (pages y)
-          ∙ ap (set (map length (map pages drives)) v) long ∙ sym (map-set length (map pages drives) v (pages x)) ∙ ap (map length) old);
+          ∙ ap (set (map length (map pages drives)) v) long ∙ sym (map-set length (map pages drives) v (pages x))
+          ∙ ap (map length) old);
       tables = h.tables ∙ sym count;
     }
 
 -- the length of what a call changed
-pub length_after_withdraw : (result : Option ℕ) (x y : List Bool) → IfSome result (λ r. y ≡ set x r true) → IfNone result (y ≡ x) → length y ≡ length x
+pub length_after_withdraw : (result : Option ℕ) (x y : List Bool) → IfSome result (λ r. y ≡ set x r true)
+    → IfNone result (y ≡ x) → length y ≡ length x
 length_after_withdraw None x y some none = ap length none
 length_after_withdraw (Some r) x y some none = ap length some ∙ length-set x r true
 
-pub length_after_write : (result : Result (Unit {0}) Failed) (x y : List (List ℕ)) (r : ℕ) (words : List ℕ) → OnOk result (y ≡ set x r words)
+pub length_after_write : (result : Result (Unit {0}) Failed) (x y : List (List ℕ)) (r : ℕ) (words : List ℕ)
+    → OnOk result (y ≡ set x r words)
     → OnErr result (y ≡ x)
     → length y ≡ length x
 length_after_write (Ok u) x y r words ok err = ap length ok ∙ length-set x r words
@@ -66,16 +78,20 @@ pub keeps_others : {D : Type 0} (drives : List D) (v : ℕ) (y : D) → KeepsOth
 keeps_others drives v y = record { same = λ w ne. get_other drives v w y ne }
 
 -- a volume has as many flags as its drive has pages
-pub size_of_records : {D : Type 0} (pages : D → List (List ℕ)) (drives : List D) (records : List (List Bool)) (vtocs : List (List (Option Entry))) (v : ℕ)
+pub size_of_records : {D : Type 0} (pages : D → List (List ℕ)) (drives : List D) (records : List (List Bool))
+    (vtocs : List (List (Option Entry))) (v : ℕ)
     (x : D)
-    → HasParts (map pages drives) records vtocs → v < length drives → x ≡ get_or drives v x → length (pages x) ≡ length (get_or records v [])
+    → HasParts (map pages drives) records vtocs → v < length drives → x ≡ get_or drives v x → length (pages x)
+    ≡ length (get_or records v [])
 size_of_records pages drives records vtocs v x h lt read =
-    let many : length records ≡ length drives = sym (length-map records length) ∙ ap length h.sizes ∙ length-map (map pages drives) length
+    let many : length records ≡ length drives = sym (length-map records length) ∙ ap length h.sizes
+    ∙ length-map (map pages drives) length
     ∙ length-map drives pages in
     let there : v < length records = omega (arith, many) in
     let disk : v < length (map pages drives) = omega (arith, length-map drives pages) in
     ap (λ (d : _). length (pages d)) read ∙ sym (ap length (get_or-map pages drives v x [] lt))
-    ∙ sym (get_or-map length (map pages drives) v [] 0 disk) ∙ ap (λ (ns : List ℕ). get_or ns v 0) (sym h.sizes) ∙ get_or-map length records v [] 0 there
+    ∙ sym (get_or-map length (map pages drives) v [] 0 disk) ∙ ap (λ (ns : List ℕ). get_or ns v 0) (sym h.sizes)
+    ∙ get_or-map length records v [] 0 there
 
 -- volumes that were just made
 sizes_made : {D : Type 0} (pages : D → List (List ℕ)) (parts : List (Part D))
@@ -84,13 +100,15 @@ sizes_made : {D : Type 0} (pages : D → List (List ℕ)) (parts : List (Part D)
 sizes_made pages [] = refl
 sizes_made pages (part ∷ parts) = rw (length-replicate (length (pages part.drive)) false, sizes_made pages parts) refl
 
-pub parts_made : {D : Type 0} (pages : D → List (List ℕ)) (parts : List (Part D)) (drives : List D) (records : List (List Bool))
+pub parts_made : {D : Type 0} (pages : D → List (List ℕ)) (parts : List (Part D)) (drives : List D)
+    (records : List (List Bool))
     (vtocs : List (List (Option Entry)))
     → length parts < 2 ^ 32 → drives ≡ map (λ (part : Part D). part.drive) parts
     → records ≡ map (λ (part : Part D). replicate (length (pages part.drive)) false) parts
     → vtocs ≡ map (λ (part : Part D). replicate part.entries None) parts → HasParts (map pages drives) records vtocs
 parts_made pages parts drives records vtocs few ds rs vs =
-    let count : length (map pages drives) ≡ length parts = length-map drives pages ∙ ap length ds ∙ length-map parts (λ (part : Part _). part.drive) in
+    let count : length (map pages drives) ≡ length parts = length-map drives pages ∙ ap length ds
+    ∙ length-map parts (λ (part : Part _). part.drive) in
     record {
       few = rw count few;
       sizes = rw (ds, rs) (sizes_made pages parts);
@@ -98,16 +116,21 @@ parts_made pages parts drives records vtocs few ds rs vs =
     }
 
 -- one drive is written, and a meaning of it is as before
-pub same_with : {D X : Type 0} (t : D → X) (drives : List D) (v : ℕ) (x y : D) → x ≡ get_or drives v x → t y ≡ t x → map t (set drives v y) ≡ map t drives
+pub same_with : {D X : Type 0} (t : D → X) (drives : List D) (v : ℕ) (x y : D) → x ≡ get_or drives v x → t y ≡ t x
+    → map t (set drives v y) ≡ map t drives
 same_with t drives v x y read same =
-    map-set t drives v y ∙ ap (set (map t drives) v) same ∙ sym (map-set t drives v x) ∙ ap (map t) (set_same drives v x read)
+    map-set t drives v y ∙ ap (set (map t drives) v) same ∙ sym (map-set t drives v x)
+    ∙ ap (map t) (set_same drives v x read)
 
 -- its count of faults is higher, and so the sum of all
-pub sum_grows : {D : Type 0} (t : D → ℕ) (drives : List D) (v : ℕ) (x y : D) → v < length drives → x ≡ get_or drives v x → t x ≤ t y
+pub sum_grows : {D : Type 0} (t : D → ℕ) (drives : List D) (v : ℕ) (x y : D) → v < length drives → x
+    ≡ get_or drives v x → t x ≤ t y
     → sum_by t drives ≤ sum_by t (set drives v y)
-sum_grows t drives v x y lt read more = let step = sum_by-set t drives v y x lt in let same = ap t read in omega (arith, step, same, more)
+sum_grows t drives v x y lt read more = let step = sum_by-set t drives v y x lt in let same =
+    ap t read in omega (arith, step, same, more)
 
-pub sum_rose : {D : Type 0} (t : D → ℕ) (result : Result (Unit {0}) Failed) (drives : List D) (v : ℕ) (x y : D) → v < length drives → x ≡ get_or drives v x
+pub sum_rose : {D : Type 0} (t : D → ℕ) (result : Result (Unit {0}) Failed) (drives : List D) (v : ℕ) (x y : D)
+    → v < length drives → x ≡ get_or drives v x
     → OnErr result (Rose (t x) (t y)) → OnErr result (Rose (sum_by t drives) (sum_by t (set drives v y)))
 sum_rose t (Ok u) drives v x y lt read rose = tt
 sum_rose t (Err e) drives v x y lt read rose =
@@ -116,8 +139,10 @@ sum_rose t (Err e) drives v x y lt read rose =
     let part = get_or-le-sum_by t drives v x lt in
     omega (arith, step, same, part, rose)
 
-pub its_rose : {D : Type 0} (t : D → ℕ) (result : Result (Unit {0}) Failed) (drives : List D) (v : ℕ) (x y : D) → v < length drives → x ≡ get_or drives v x
-    → OnErr result (Rose (t x) (t y)) → OnErr result (Rose (get_or (map t drives) v 0) (get_or (map t (set drives v y)) v 0))
+pub its_rose : {D : Type 0} (t : D → ℕ) (result : Result (Unit {0}) Failed) (drives : List D) (v : ℕ) (x y : D)
+    → v < length drives → x ≡ get_or drives v x
+    → OnErr result (Rose (t x) (t y)) → OnErr result (Rose (get_or (map t drives) v 0)
+    (get_or (map t (set drives v y)) v 0))
 its_rose t (Ok u) drives v x y lt read rose = tt
 its_rose t (Err e) drives v x y lt read rose =
     let before : get_or (map t drives) v 0 ≡ t x = get_or-map t drives v x 0 lt ∙ sym (ap t read) in
@@ -126,20 +151,25 @@ its_rose t (Err e) drives v x y lt read rose =
     rw (before, now) rose
 
 -- its place in the list
-pub drives_within : {D : Type 0} (drives : List D) (records : List (List Bool)) (vtocs : List (List (Option Entry))) (vols : Vols D) (v : ℕ)
+pub drives_within : {D : Type 0} (drives : List D) (records : List (List Bool)) (vtocs : List (List (Option Entry)))
+    (vols : Vols D) (v : ℕ)
     → record { drives = drives; records = records; vtocs = vtocs } ≡ vols → v < length vols.drives → v < length drives
-drives_within drives records vtocs vols v view lt = let same = ap (λ (vs : Vols _). length vs.drives) view in omega (arith, same, lt)
+drives_within drives records vtocs vols v view lt = let same =
+    ap (λ (vs : Vols _). length vs.drives) view in omega (arith, same, lt)
 
-pub few_with : {D : Type 0} (plan : D → Option (List FailLine)) (faults : D → ℕ) (drives : List D) (v : ℕ) (y : D) → HaveFewFaults plan faults drives
+pub few_with : {D : Type 0} (plan : D → Option (List FailLine)) (faults : D → ℕ) (drives : List D) (v : ℕ) (y : D)
+    → HaveFewFaults plan faults drives
     → HasFewFaults (plan y) (faults y) → HaveFewFaults plan faults (set drives v y)
 few_with plan faults drives v y all few = All-set (λ d. HasFewFaults (plan d) (faults d)) drives v y few all
 
-pub few_more : {D : Type 0} (plan : D → Option (List FailLine)) (faults : D → ℕ) (drives now : List D) (d : D) → now ≡ drives ++ d ∷ []
+pub few_more : {D : Type 0} (plan : D → Option (List FailLine)) (faults : D → ℕ) (drives now : List D) (d : D) → now
+    ≡ drives ++ d ∷ []
     → HaveFewFaults plan faults drives
     → HasFewFaults (plan d) (faults d) → HaveFewFaults plan faults now
 few_more plan faults drives now d is all few = rw is (All-push (λ d. HasFewFaults (plan d) (faults d)) drives d all few)
 
 -- one more part is made
-pub made_more : {X Y : Type 0} (f : X → Y) (xs : List X) (x : X) (ys now : List Y) (y : Y) → ys ≡ map f xs → now ≡ ys ++ y ∷ [] → y ≡ f x
+pub made_more : {X Y : Type 0} (f : X → Y) (xs : List X) (x : X) (ys now : List Y) (y : Y) → ys ≡ map f xs → now ≡ ys
+    ++ y ∷ [] → y ≡ f x
     → now ≡ map f (xs ++ x ∷ [])
 made_more f xs x ys now y all is one = rw (is, all, one) (sym (map-append f xs (x ∷ [])))

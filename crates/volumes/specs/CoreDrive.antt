@@ -12,7 +12,13 @@ pub record DriveState : Type 0 where
 
 -- a drive of as many pages of zeros, which no call has reached
 abbrev pub fresh_drive : ℕ → List FailLine → DriveState
-fresh_drive records fails = record { pages = replicate records (replicate 1024 0); fails = fails; reads = 0; writes = 0 }
+fresh_drive records fails = record {
+  pages = replicate records (replicate 1024 0);
+  fails = fails;
+  reads = 0;
+  writes =
+      0;
+}
 
 -- the faults so far are the calls so far that the lines name
 abbrev pub faults_of : DriveState → ℕ

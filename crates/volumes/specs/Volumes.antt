@@ -1,4 +1,5 @@
-use Rattle.std.specs.Prelude.{◌≡◌, ◌≢◌, ◌<◌, ◌^◌, ℕ, Bool, false, List, [], length, replicate, map, Option, None, slice_index_or, slice_set, slice_get}
+use Rattle.std.specs.Prelude.{◌≡◌, ◌≢◌, ◌<◌, ◌^◌, ℕ, Bool, false, List, [], length, replicate, map, Option, None}
+use Rattle.std.specs.Prelude.{slice_index_or, slice_set, slice_get}
 use Rattle.std.specs.Prelude.{count_by, All}
 use Rattle.vtoc.specs.Vtoc.{Entry}
 use Rattle.volumes.specs.declared.Part.{Part}
@@ -60,7 +61,8 @@ made_of pages parts = record {
 }
 
 -- there are fewer than 2 ^ 32 volumes, and each has as many flags as its drive has pages, and a VTOC
-pub record HasParts (disks : List (List (List ℕ))) (records : List (List Bool)) (vtocs : List (List (Option Entry))) : Type 0 where
+pub record HasParts (disks : List (List (List ℕ))) (records : List (List Bool)) (vtocs : List (List (Option Entry))) :
+    Type 0 where
   pub few : length disks < 2 ^ 32
   pub sizes : map length records ≡ map length disks
   pub tables : length vtocs ≡ length disks

@@ -1,22 +1,27 @@
-use Rattle.std.proofs.Common.{◌≡◌, ◌≢◌, ℕ, zero, suc, ◌<◌, List, ◌∷◌, length, Option, None, Some, refl, sym, ap, ◌∙◌, get_or, set, replicate, inl, inr}
+use Rattle.std.proofs.Common.{◌≡◌, ◌≢◌, ℕ, zero, suc, ◌<◌, List, ◌∷◌, length, Option, None, Some, refl, sym, ap, ◌∙◌}
+use Rattle.std.proofs.Common.{get_or, set, replicate, inl, inr}
 use Rattle.std.proofs.lemmas.Bool.Decides.{eqb_tells}
 use Rattle.std.proofs.lemmas.List.{map-set, get_or-map}
 use Rattle.vtoc.specs.FileMap.{no_records, record_of, records_of}
 
 -- a place by its code
-pub read_code : (codes : List ℕ) (p code : ℕ) → p < length codes → get_or codes p 0 ≡ code → get_or (records_of codes) p None ≡ record_of code
+pub read_code : (codes : List ℕ) (p code : ℕ) → p < length codes → get_or codes p 0 ≡ code
+    → get_or (records_of codes) p None ≡ record_of code
 unfolding records_of
 read_code codes p code inside is = get_or-map record_of codes p 0 None inside ∙ ap record_of is
 
-pub read_none : (codes : List ℕ) (p code : ℕ) → p < length codes → get_or codes p 0 ≡ code → code ≡ 65535 → None ≡ get_or (records_of codes) p None
+pub read_none : (codes : List ℕ) (p code : ℕ) → p < length codes → get_or codes p 0 ≡ code → code ≡ 65535 → None
+    ≡ get_or (records_of codes) p None
 read_none codes p code inside is none = sym (read_code codes p code inside is ∙ rw none refl)
 
-pub read_some : (codes : List ℕ) (p code : ℕ) → p < length codes → get_or codes p 0 ≡ code → code ≢ 65535 → Some code ≡ get_or (records_of codes) p None
+pub read_some : (codes : List ℕ) (p code : ℕ) → p < length codes → get_or codes p 0 ≡ code → code ≢ 65535 → Some code
+    ≡ get_or (records_of codes) p None
 read_some codes p code inside is other = sym (read_code codes p code inside is ∙
     elim (eqb_tells code 65535) [ inl h ↦ absurd (other h.1) | inr h ↦ rw h.0 refl ])
 
 -- a place after its code is written
-pub write_code : (codes : List ℕ) (p code : ℕ) (r : Option ℕ) → record_of code ≡ r → records_of (set codes p code) ≡ set (records_of codes) p r
+pub write_code : (codes : List ℕ) (p code : ℕ) (r : Option ℕ) → record_of code ≡ r → records_of (set codes p code)
+    ≡ set (records_of codes) p r
 unfolding records_of
 write_code codes p code r is = map-set record_of codes p code ∙ ap (λ (x : Option ℕ). set (records_of codes) p x) is
 

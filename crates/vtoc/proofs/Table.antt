@@ -1,15 +1,19 @@
-use Rattle.std.proofs.Common.{◌≡◌, ℕ, zero, suc, ◌+◌, ◌<◌, ◌≤◌, ◌^◌, Bool, true, false, not, cond, List, [], ◌∷◌, length, Option, None, Some, refl, sym, ap}
-use Rattle.std.proofs.Common.{◌∙◌, arith, get_or, set, replicate, map, inl, inr, ◌⊎◌, IsSome, is_some, is_none, count_by, All}
+use Rattle.std.proofs.Common.{◌≡◌, ℕ, zero, suc, ◌+◌, ◌<◌, ◌≤◌, ◌^◌, Bool, true, false, not, cond, List, [], ◌∷◌}
+use Rattle.std.proofs.Common.{length, Option, None, Some, refl, sym, ap}
+use Rattle.std.proofs.Common.{◌∙◌, arith, get_or, set, replicate, map, inl, inr, ◌⊎◌, IsSome, is_some, is_none}
+use Rattle.std.proofs.Common.{count_by, All}
 use Rattle.std.specs.List.{prefix_len}
 use Rattle.std.proofs.lemmas.Bool.{cases_eq}
 use Rattle.std.proofs.lemmas.Bool.Decides.{leb_tells}
-use Rattle.std.proofs.lemmas.List.{map-set, get_or-map, get_or_past, length-map, length-set, length-replicate, get_or-set_same, get_or-set_other, set-get_or}
+use Rattle.std.proofs.lemmas.List.{map-set, get_or-map, get_or_past, length-map, length-set, length-replicate}
+use Rattle.std.proofs.lemmas.List.{get_or-set_same, get_or-set_other, set-get_or}
 use Rattle.std.proofs.lemmas.List.{get_or_read, get_or-replicate, ext_get_or}
 use Rattle.std.proofs.lemmas.List.Elements.{All-get_or, All-from_get_or}
 use Rattle.std.proofs.lemmas.List.Sums.{sum_by-cons, sum_by-set}
 use Rattle.bitmap.specs.Bitmap.{in_use, least_free, IsLeastFree}
 use Rattle.vtoc.specs.FileMap.{no_records}
-use Rattle.vtoc.specs.Vtoc.{Entry, entry_at, uid_of, records_in, record_at, fresh_entry, with_record, least_free_entry, IsLeastFreeEntry, NamesNoRecord}
+use Rattle.vtoc.specs.Vtoc.{Entry, entry_at, uid_of, records_in, record_at, fresh_entry, with_record, least_free_entry}
+use Rattle.vtoc.specs.Vtoc.{IsLeastFreeEntry, NamesNoRecord}
 use Rattle.vtoc.specs.declared.Slot.{Slot}
 use Rattle.vtoc.specs.Slots.{seen_as, entry_of, table_of, free_slot, slot_at, IsMarked}
 
@@ -30,7 +34,8 @@ entry_is slots e = elim (below_or_past e (length slots)) [
 ]
 
 -- a write to a slot is one to its entry
-pub table_with : (slots : List Slot) (e : ℕ) (slot : Slot) → table_of (set slots e slot) ≡ set (table_of slots) e (entry_of slot)
+pub table_with : (slots : List Slot) (e : ℕ) (slot : Slot) → table_of (set slots e slot)
+    ≡ set (table_of slots) e (entry_of slot)
 unfolding table_of
 table_with slots e slot = map-set entry_of slots e slot
 
@@ -39,7 +44,8 @@ pub uid_seen : (uid : Option ℕ) (records : List (Option ℕ)) → uid_of (seen
 uid_seen None records = refl
 uid_seen (Some uid) records = refl
 
-pub records_seen : (uid : Option ℕ) (records : List (Option ℕ)) → (uid ≡ None → records ≡ no_records) → records_in (seen_as uid records) ≡ records
+pub records_seen : (uid : Option ℕ) (records : List (Option ℕ)) → (uid ≡ None → records ≡ no_records)
+    → records_in (seen_as uid records) ≡ records
 records_seen None records empty = sym (empty refl)
 records_seen (Some uid) records empty = refl
 
@@ -51,7 +57,8 @@ pub none_seen : (uid : Option ℕ) (records : List (Option ℕ)) → is_some uid
 none_seen None records h = refl
 none_seen (Some uid) records h = cc
 
-pub is_none_seen : (uid : Option ℕ) (records : List (Option ℕ)) → is_some uid ≡ true → is_none (seen_as uid records) ≡ false
+pub is_none_seen : (uid : Option ℕ) (records : List (Option ℕ)) → is_some uid ≡ true → is_none (seen_as uid records)
+    ≡ false
 is_none_seen None records h = cc
 is_none_seen (Some uid) records h = refl
 
@@ -69,10 +76,12 @@ with_record_seen None records p r = refl
 with_record_seen (Some uid) records p r = refl
 
 -- a bit says whether its slot has a uid
-pub bit_is : (in_use_ : List Bool) (slots : List Slot) (e : ℕ) → IsMarked in_use_ slots → in_use in_use_ e ≡ is_some (slot_at slots e).uid
+pub bit_is : (in_use_ : List Bool) (slots : List Slot) (e : ℕ) → IsMarked in_use_ slots → in_use in_use_ e
+    ≡ is_some (slot_at slots e).uid
 bit_is flags slots e h = ap (λ (fs : List Bool). in_use fs e) h.marks ∙ elim (below_or_past e (length slots)) [
   | inl lt ↦ get_or-map (λ (slot : Slot). is_some slot.uid) slots e free_slot false lt
-  | inr past ↦ (let long : length (map (λ (slot : Slot). is_some slot.uid) slots) ≤ e = omega (arith, length-map slots (λ (slot : Slot). is_some slot.uid)) in
+  | inr past ↦ (let long : length (map (λ (slot : Slot). is_some slot.uid) slots) ≤ e =
+      omega (arith, length-map slots (λ (slot : Slot). is_some slot.uid)) in
       get_or_past (map (λ (slot : Slot). is_some slot.uid) slots) e false long
       ∙ sym (ap (λ (slot : Slot). is_some slot.uid) (get_or_past slots e free_slot past)))
 ]
@@ -86,10 +95,12 @@ pub record IsKept (flags : List Bool) (slots : List Slot) (table : List (Option 
   pub records : records_in (entry_at table e) ≡ (slot_at slots e).map
   pub uid : uid_of (entry_at table e) ≡ (slot_at slots e).uid
 
-pub kept : (flags : List Bool) (slots : List Slot) (table : List (Option Entry)) (e : ℕ) → IsMarked flags slots → table_of slots ≡ table
+pub kept : (flags : List Bool) (slots : List Slot) (table : List (Option Entry)) (e : ℕ) → IsMarked flags slots
+    → table_of slots ≡ table
     → IsKept flags slots table e
 kept flags slots table e h view =
-    let entry : entry_at table e ≡ entry_of (slot_at slots e) = ap (λ (t : List (Option Entry)). entry_at t e) (sym view) ∙ entry_is slots e in
+    let entry : entry_at table e ≡ entry_of (slot_at slots e) =
+    ap (λ (t : List (Option Entry)). entry_at t e) (sym view) ∙ entry_is slots e in
     record {
       entry = entry;
       records = ap records_in entry ∙ records_seen (slot_at slots e).uid (slot_at slots e).map (h.empty e);
@@ -102,49 +113,64 @@ used_inside [] e h = cc
 used_inside (entry ∷ table) zero h = omega arith
 used_inside (entry ∷ table) (suc e) h = let lt = used_inside table e h in omega (arith, lt)
 
-pub used_slot : (flags : List Bool) (slots : List Slot) (table : List (Option Entry)) (e : ℕ) → IsMarked flags slots → table_of slots ≡ table
+pub used_slot : (flags : List Bool) (slots : List Slot) (table : List (Option Entry)) (e : ℕ) → IsMarked flags slots
+    → table_of slots ≡ table
     → IsSome (entry_at table e) → e < length slots
 used_slot flags slots table e h view used =
     let lt = used_inside table e used in omega (arith, lt, ap length view, length_table slots)
 
-pub used_bit : (flags : List Bool) (slots : List Slot) (table : List (Option Entry)) (e : ℕ) → IsMarked flags slots → table_of slots ≡ table
+pub used_bit : (flags : List Bool) (slots : List Slot) (table : List (Option Entry)) (e : ℕ) → IsMarked flags slots
+    → table_of slots ≡ table
     → IsSome (entry_at table e) → in_use flags e ≡ true
 used_bit flags slots table e h view used =
-    bit_is flags slots e h ∙ some_seen (slot_at slots e).uid (slot_at slots e).map (rw (← (kept flags slots table e h view).entry) used)
+    bit_is flags slots e h ∙ some_seen (slot_at slots e).uid (slot_at slots e).map
+    (rw (← (kept flags slots table e h view).entry) used)
 
 -- the bits and the slots after slot e is written, with a bit that says whether it has a uid now
-pub marked_with : (flags : List Bool) (slots : List Slot) (e : ℕ) (slot : Slot) → IsMarked flags slots → e < length slots
-    → (slot.uid ≡ None → slot.map ≡ no_records) → length slot.map ≡ 256 → IsMarked (set flags e (is_some slot.uid)) (set slots e slot)
+pub marked_with : (flags : List Bool) (slots : List Slot) (e : ℕ) (slot : Slot) → IsMarked flags slots
+    → e < length slots
+    → (slot.uid ≡ None → slot.map ≡ no_records) → length slot.map ≡ 256
+    → IsMarked (set flags e (is_some slot.uid)) (set slots e slot)
 marked_with flags slots e slot h lt empty long = record {
   short = rw (length-set slots e slot) h.short;
-  marks = ap (λ (fs : List Bool). set fs e (is_some slot.uid)) h.marks ∙ sym (map-set (λ (slot : Slot). is_some slot.uid) slots e slot);
+  marks = ap (λ (fs : List Bool). set fs e (is_some slot.uid)) h.marks
+      ∙ sym (map-set (λ (slot : Slot). is_some slot.uid) slots e slot);
   empty = λ k none. elim (cases_eq k e) [
-    | inl same ↦ (let here : slot_at (set slots e slot) k ≡ slot = rw same (get_or-set_same slots e slot free_slot lt) in
+    | inl same ↦ (let here : slot_at (set slots e slot) k ≡ slot =
+        rw same (get_or-set_same slots e slot free_slot lt) in
         ap (λ (s : Slot). s.map) here ∙ empty (ap (λ (s : Slot). s.uid) (sym here) ∙ none))
-    | inr ne ↦ (let there : slot_at (set slots e slot) k ≡ slot_at slots k = get_or-set_other slots e k slot free_slot ne in
+    | inr ne ↦ (let there : slot_at (set slots e slot) k ≡ slot_at slots k =
+        get_or-set_other slots e k slot free_slot ne in
         ap (λ (s : Slot). s.map) there ∙ h.empty k (ap (λ (s : Slot). s.uid) (sym there) ∙ none))
   ];
   places = λ k. elim (cases_eq k e) [
-    | inl same ↦ (let here : slot_at (set slots e slot) k ≡ slot = rw same (get_or-set_same slots e slot free_slot lt) in
+    | inl same ↦ (let here : slot_at (set slots e slot) k ≡ slot =
+        rw same (get_or-set_same slots e slot free_slot lt) in
         ap (λ (s : Slot). length s.map) here ∙ long)
-    | inr ne ↦ (let there : slot_at (set slots e slot) k ≡ slot_at slots k = get_or-set_other slots e k slot free_slot ne in
+    | inr ne ↦ (let there : slot_at (set slots e slot) k ≡ slot_at slots k =
+        get_or-set_other slots e k slot free_slot ne in
         ap (λ (s : Slot). length s.map) there ∙ h.places k)
   ];
 }
 
 -- the bits are as before where the slot keeps its uid
-pub marked_same : (flags : List Bool) (slots : List Slot) (e : ℕ) (slot : Slot) → IsMarked flags slots → e < length slots
-    → (slot.uid ≡ None → slot.map ≡ no_records) → length slot.map ≡ 256 → is_some slot.uid ≡ in_use flags e → IsMarked flags (set slots e slot)
+pub marked_same : (flags : List Bool) (slots : List Slot) (e : ℕ) (slot : Slot) → IsMarked flags slots
+    → e < length slots
+    → (slot.uid ≡ None → slot.map ≡ no_records) → length slot.map ≡ 256 → is_some slot.uid ≡ in_use flags e
+    → IsMarked flags (set slots e slot)
 marked_same flags slots e slot h lt empty long same =
-    let bits : set flags e (is_some slot.uid) ≡ flags = ap (λ (b : Bool). set flags e b) same ∙ set-get_or flags e false in
+    let bits : set flags e (is_some slot.uid) ≡ flags = ap (λ (b : Bool). set flags e b) same
+    ∙ set-get_or flags e false in
     rw bits at (marked_with flags slots e slot h lt empty long)
 
 -- a file map of 256 places that names no record is the empty one
-pub map_is_empty : (records : List (Option ℕ)) → length records ≡ 256 → ((p : ℕ) → get_or records p None ≡ None) → records ≡ no_records
+pub map_is_empty : (records : List (Option ℕ)) → length records ≡ 256 → ((p : ℕ) → get_or records p None ≡ None)
+    → records ≡ no_records
 unfolding no_records
 map_is_empty records long none =
     ext_get_or None records (replicate 256 None) (long ∙ sym (length-replicate {A = Option ℕ} 256 None))
-    (λ p lt. let below : p < 256 = omega (arith, long) in none p ∙ sym (get_or-replicate {A = Option ℕ} 256 p None None below))
+    (λ p lt. let below : p < 256 = omega (arith, long) in none p
+    ∙ sym (get_or-replicate {A = Option ℕ} 256 p None None below))
 
 none_in : (n p : ℕ) → get_or (replicate {A = Option ℕ} n None) p None ≡ None
 none_in zero p = refl
@@ -165,61 +191,82 @@ first_step : (uid : Option ℕ) (records : List (Option ℕ)) (a b : ℕ) → a 
 first_step None records a b e = refl
 first_step (Some uid) records a b e = ap (λ n. 1 + n) e
 
-first_same : (slots : List Slot) → prefix_len (λ flag. not (not flag)) (map (λ (slot : Slot). is_some slot.uid) slots) ≡ prefix_len
+first_same : (slots : List Slot) → prefix_len (λ flag. not (not flag)) (map (λ (slot : Slot). is_some slot.uid) slots)
+    ≡ prefix_len
     (λ entry. not (is_none entry)) (map entry_of slots)
 first_same [] = refl
 first_same (slot ∷ slots) = first_step slot.uid slot.map _ _ (first_same slots)
 
-pub least_same : (flags : List Bool) (slots : List Slot) (table : List (Option Entry)) → IsMarked flags slots → table_of slots ≡ table
+pub least_same : (flags : List Bool) (slots : List Slot) (table : List (Option Entry)) → IsMarked flags slots
+    → table_of slots ≡ table
     → least_free flags ≡ least_free_entry table
 unfolding table_of
 least_same flags slots table h view =
     let first : prefix_len (λ flag. not (not flag)) flags ≡ prefix_len (λ entry. not (is_none entry)) table =
-    ap (prefix_len (λ flag. not (not flag))) h.marks ∙ first_same slots ∙ ap (prefix_len (λ (entry : Option Entry). not (is_none entry))) view in
-    let long : length flags ≡ length table = length_bits flags slots h ∙ sym (length-map slots entry_of) ∙ ap length view in
+    ap (prefix_len (λ flag. not (not flag))) h.marks ∙ first_same slots
+    ∙ ap (prefix_len (λ (entry : Option Entry). not (is_none entry))) view in
+    let long : length flags ≡ length table = length_bits flags slots h ∙ sym (length-map slots entry_of)
+    ∙ ap length view in
     rw (first, long) refl
 
-pub least_entry : (flags : List Bool) (slots : List Slot) (table : List (Option Entry)) (e : ℕ) → IsMarked flags slots → table_of slots ≡ table
+pub least_entry : (flags : List Bool) (slots : List Slot) (table : List (Option Entry)) (e : ℕ) → IsMarked flags slots
+    → table_of slots ≡ table
     → IsLeastFree flags e → IsLeastFreeEntry table e
 least_entry flags slots table e h view least = record {
   within = omega (arith, least.within, length_bits flags slots h, length_table slots, ap length view);
-  free = (kept flags slots table e h view).entry ∙ none_seen (slot_at slots e).uid (slot_at slots e).map (sym (bit_is flags slots e h) ∙ least.free);
+  free = (kept flags slots table e h view).entry ∙ none_seen (slot_at slots e).uid (slot_at slots e).map
+      (sym (bit_is flags slots e h) ∙ least.free);
   before = λ k lt. ap is_none (kept flags slots table k h view).entry
       ∙ is_none_seen (slot_at slots k).uid (slot_at slots k).map (sym (bit_is flags slots k h) ∙ least.before k lt);
 }
 
-pub all_used : (flags : List Bool) (slots : List Slot) (table : List (Option Entry)) → IsMarked flags slots → table_of slots ≡ table
+pub all_used : (flags : List Bool) (slots : List Slot) (table : List (Option Entry)) → IsMarked flags slots
+    → table_of slots ≡ table
     → All (λ flag. flag ≡ true) flags → All (λ entry. IsSome entry) table
 all_used flags slots table h view all =
     All-from_get_or (λ entry. IsSome entry) table None
-    (λ k lt. let inside : k < length flags = omega (arith, length_bits flags slots h, length_table slots, ap length view) in
+    (λ k lt. let inside : k < length flags = omega (
+      arith,
+      length_bits flags slots h,
+      length_table slots,
+      ap length
+          view,
+    ) in
     rw (kept flags slots table k h view).entry
-    (is_some_seen (slot_at slots k).uid (slot_at slots k).map (sym (bit_is flags slots k h) ∙ All-get_or (λ flag. flag ≡ true) flags k false inside all)))
+    (is_some_seen (slot_at slots k).uid (slot_at slots k).map
+    (sym (bit_is flags slots k h) ∙ All-get_or (λ flag. flag ≡ true) flags k false inside all)))
 
 -- the counts are the same
-count_step : (uid : Option ℕ) (records : List (Option ℕ)) → cond {A = ℕ} (is_some uid) 1 0 ≡ cond {A = ℕ} (is_some (seen_as uid records)) 1 0
+count_step : (uid : Option ℕ) (records : List (Option ℕ)) → cond {A = ℕ} (is_some uid) 1 0
+    ≡ cond {A = ℕ} (is_some (seen_as uid records)) 1 0
 count_step None records = refl
 count_step (Some uid) records = refl
 
-count_slots : (slots : List Slot) → count_by (λ flag. flag) (map (λ (slot : Slot). is_some slot.uid) slots) ≡ count_by is_some (map entry_of slots)
+count_slots : (slots : List Slot) → count_by (λ flag. flag) (map (λ (slot : Slot). is_some slot.uid) slots)
+    ≡ count_by is_some (map entry_of slots)
 count_slots [] = refl
 count_slots (slot ∷ slots) =
-    let a = sum_by-cons (λ flag. cond {A = ℕ} flag 1 0) (is_some slot.uid) (map (λ (slot : Slot). is_some slot.uid) slots) in
-    let b = sum_by-cons (λ (entry : Option Entry). cond {A = ℕ} (is_some entry) 1 0) (entry_of slot) (map entry_of slots) in
+    let a = sum_by-cons (λ flag. cond {A = ℕ} flag 1 0) (is_some slot.uid)
+    (map (λ (slot : Slot). is_some slot.uid) slots) in
+    let b = sum_by-cons (λ (entry : Option Entry). cond {A = ℕ} (is_some entry) 1 0) (entry_of slot)
+    (map entry_of slots) in
     let one = count_step slot.uid slot.map in
     let ih = count_slots slots in
     omega (arith, a, b, one, ih)
 
-pub count_same : (flags : List Bool) (slots : List Slot) (table : List (Option Entry)) → IsMarked flags slots → table_of slots ≡ table
+pub count_same : (flags : List Bool) (slots : List Slot) (table : List (Option Entry)) → IsMarked flags slots
+    → table_of slots ≡ table
     → count_by (λ flag. flag) flags ≡ count_by is_some table
 unfolding table_of
-count_same flags slots table h view = ap (count_by (λ flag. flag)) h.marks ∙ count_slots slots ∙ ap (count_by is_some) view
+count_same flags slots table h view = ap (count_by (λ flag. flag)) h.marks ∙ count_slots slots
+    ∙ ap (count_by is_some) view
 
 -- an entry that is taken counts for one more, and one that is freed for one less
 pub count_taken : (table : List (Option Entry)) (e uid : ℕ) → IsLeastFreeEntry table e
     → count_by is_some (set table e (fresh_entry uid)) ≡ count_by is_some table + 1
 count_taken table e uid least =
-    let step = sum_by-set (λ (entry : Option Entry). cond {A = ℕ} (is_some entry) 1 0) table e (fresh_entry uid) None least.within in
+    let step = sum_by-set (λ (entry : Option Entry). cond {A = ℕ} (is_some entry) 1 0) table e (fresh_entry uid) None
+    least.within in
     let free : cond {A = ℕ} (is_some (entry_at table e)) 1 0 ≡ 0 = rw least.free refl in
     omega (arith, step, free)
 
@@ -230,7 +277,8 @@ weight_of_used (Some entry) used = refl
 pub count_freed : (table : List (Option Entry)) (e : ℕ) → IsSome (entry_at table e)
     → count_by is_some (set table e None) + 1 ≡ count_by is_some table
 count_freed table e used =
-    let step = sum_by-set (λ (entry : Option Entry). cond {A = ℕ} (is_some entry) 1 0) table e None None (used_inside table e used) in
+    let step = sum_by-set (λ (entry : Option Entry). cond {A = ℕ} (is_some entry) 1 0) table e None None
+    (used_inside table e used) in
     let one = weight_of_used (entry_at table e) used in
     omega (arith, step, one)
 
@@ -252,12 +300,14 @@ pub table_new : (slots : List Slot) (n : ℕ) → slots ≡ replicate n free_slo
 unfolding table_of
 table_new slots n is = ap (map entry_of) is ∙ table_free n
 
-pub marked_new : (flags : List Bool) (slots : List Slot) (n : ℕ) → n < 2 ^ 32 → flags ≡ replicate n false → slots ≡ replicate n free_slot → IsMarked flags slots
+pub marked_new : (flags : List Bool) (slots : List Slot) (n : ℕ) → n < 2 ^ 32 → flags ≡ replicate n false → slots
+    ≡ replicate n free_slot → IsMarked flags slots
 marked_new flags slots n fits bits is = record {
   short = omega (arith, ap length is, length-replicate {A = Slot} n free_slot);
   marks = bits ∙ bits_free n ∙ ap (map (λ (slot : Slot). is_some slot.uid)) (sym is);
   empty = λ e _. ap (λ (s : Slot). s.map) (ap (λ (ss : List Slot). slot_at ss e) is ∙ free_at n e);
-  places = λ e. ap (λ (s : Slot). length s.map) (ap (λ (ss : List Slot). slot_at ss e) is ∙ free_at n e) ∙ length_no_records;
+  places = λ e. ap (λ (s : Slot). length s.map) (ap (λ (ss : List Slot). slot_at ss e) is ∙ free_at n e)
+      ∙ length_no_records;
 }
 
 -- the slot that a read gave
@@ -269,8 +319,10 @@ used_uid : (uid : Option ℕ) (records : List (Option ℕ)) → is_some uid ≡ 
 used_uid None records used none = cc
 used_uid (Some uid) records used none = cc
 
-pub put_marked : (flags : List Bool) (slots : List Slot) (table : List (Option Entry)) (e p : ℕ) (x : Slot) (m : List (Option ℕ)) (r : Option ℕ)
-    → IsMarked flags slots → table_of slots ≡ table → IsSome (entry_at table e) → x ≡ get_or slots e x → m ≡ set x.map p r
+pub put_marked : (flags : List Bool) (slots : List Slot) (table : List (Option Entry)) (e p : ℕ) (x : Slot)
+    (m : List (Option ℕ)) (r : Option ℕ)
+    → IsMarked flags slots → table_of slots ≡ table → IsSome (entry_at table e) → x ≡ get_or slots e x → m
+    ≡ set x.map p r
     → IsMarked flags (set slots e (record { uid = x.uid; map = m }))
 put_marked flags slots table e p x m r h view used read is =
     let lt = used_slot flags slots table e h view used in
@@ -279,8 +331,10 @@ put_marked flags slots table e p x m r h view used read is =
     marked_same flags slots e _ h lt (used_uid x.uid m (bit ∙ used_bit flags slots table e h view used))
     (ap length is ∙ length-set x.map p r ∙ ap (λ (s : Slot). length s.map) slot ∙ h.places e) bit
 
-pub put_table : (flags : List Bool) (slots : List Slot) (table : List (Option Entry)) (e p : ℕ) (x : Slot) (m : List (Option ℕ)) (r : Option ℕ)
-    → IsMarked flags slots → table_of slots ≡ table → IsSome (entry_at table e) → x ≡ get_or slots e x → m ≡ set x.map p r
+pub put_table : (flags : List Bool) (slots : List Slot) (table : List (Option Entry)) (e p : ℕ) (x : Slot)
+    (m : List (Option ℕ)) (r : Option ℕ)
+    → IsMarked flags slots → table_of slots ≡ table → IsSome (entry_at table e) → x ≡ get_or slots e x → m
+    ≡ set x.map p r
     → table_of (set slots e (record { uid = x.uid; map = m })) ≡ set table e (with_record (entry_at table e) p r)
 put_table flags slots table e p x m r h view used read is =
     let lt = used_slot flags slots table e h view used in
@@ -288,32 +342,40 @@ put_table flags slots table e p x m r h view used read is =
     table_with slots e _ ∙ ap (λ (t : List (Option Entry)). set t e (seen_as x.uid m)) view
     ∙ ap (λ (entry : Option Entry). set table e entry)
     (ap (seen_as x.uid) is ∙ with_record_seen x.uid x.map p r
-    ∙ ap (λ (entry : Option Entry). with_record entry p r) (ap entry_of slot ∙ sym (kept flags slots table e h view).entry))
+    ∙ ap (λ (entry : Option Entry). with_record entry p r)
+    (ap entry_of slot ∙ sym (kept flags slots table e h view).entry))
 
 placed_in : (entry : Option Entry) (p : ℕ) (r : Option ℕ) → IsSome entry → p < length (records_in entry)
     → get_or (records_in (with_record entry p r)) p None ≡ r
 placed_in None p r used lt = cc
 placed_in (Some entry) p r used lt = get_or-set_same entry.records p r None lt
 
-pub put_placed : (flags : List Bool) (slots : List Slot) (table : List (Option Entry)) (e p : ℕ) (r : Option ℕ) → IsMarked flags slots → table_of slots ≡ table
+pub put_placed : (flags : List Bool) (slots : List Slot) (table : List (Option Entry)) (e p : ℕ) (r : Option ℕ)
+    → IsMarked flags slots → table_of slots ≡ table
     → IsSome (entry_at table e) → p < 256 → record_at (set table e (with_record (entry_at table e) p r)) e p ≡ r
 put_placed flags slots table e p r h view used lt =
     let inside = used_inside table e used in
-    let long : length (records_in (entry_at table e)) ≡ 256 = ap length (kept flags slots table e h view).records ∙ h.places e in
-    ap (λ (entry : Option Entry). get_or (records_in entry) p None) (get_or-set_same table e (with_record (entry_at table e) p r) None inside)
+    let long : length (records_in (entry_at table e)) ≡ 256 = ap length (kept flags slots table e h view).records
+    ∙ h.places e in
+    ap (λ (entry : Option Entry). get_or (records_in entry) p None)
+    (get_or-set_same table e (with_record (entry_at table e) p r) None inside)
     ∙ placed_in (entry_at table e) p r used (omega (arith, long))
 
 -- the least free entry is allocated
-pub allocate_marked : (flags fs : List Bool) (slots : List Slot) (e uid : ℕ) (x : Slot) → IsMarked flags slots → IsLeastFree flags e → x ≡ get_or slots e x
+pub allocate_marked : (flags fs : List Bool) (slots : List Slot) (e uid : ℕ) (x : Slot) → IsMarked flags slots
+    → IsLeastFree flags e → x ≡ get_or slots e x
     → fs ≡ set flags e true → IsMarked fs (set slots e (record { uid = Some uid; map = x.map }))
 allocate_marked flags fs slots e uid x h least read is =
     let lt : e < length slots = omega (arith, least.within, length_bits flags slots h) in
     let slot = slot_read slots e x lt read in
-    rw is (marked_with flags slots e _ h lt (λ none. used_uid (Some uid) x.map refl none) (ap (λ (s : Slot). length s.map) slot ∙ h.places e))
+    rw is (marked_with flags slots e _ h lt (λ none. used_uid (Some uid) x.map refl none)
+    (ap (λ (s : Slot). length s.map) slot ∙ h.places e))
 
-pub allocate_table : (flags : List Bool) (slots : List Slot) (table : List (Option Entry)) (e uid : ℕ) (x : Slot) → IsMarked flags slots
+pub allocate_table : (flags : List Bool) (slots : List Slot) (table : List (Option Entry)) (e uid : ℕ) (x : Slot)
+    → IsMarked flags slots
     → table_of slots ≡ table
-    → IsLeastFree flags e → x ≡ get_or slots e x → table_of (set slots e (record { uid = Some uid; map = x.map })) ≡ set table e (fresh_entry uid)
+    → IsLeastFree flags e → x ≡ get_or slots e x → table_of (set slots e (record { uid = Some uid; map = x.map }))
+    ≡ set table e (fresh_entry uid)
 allocate_table flags slots table e uid x h view least read =
     let lt : e < length slots = omega (arith, least.within, length_bits flags slots h) in
     let slot = slot_read slots e x lt read in
@@ -322,15 +384,18 @@ allocate_table flags slots table e uid x h view least read =
     ∙ ap (λ (m : List (Option ℕ)). set table e (seen_as (Some uid) m)) (ap (λ (s : Slot). s.map) slot ∙ h.empty e none)
 
 -- a used entry whose map names no record is freed
-pub free_marked : (flags fs : List Bool) (slots : List Slot) (table : List (Option Entry)) (e : ℕ) (x : Slot) → IsMarked flags slots → table_of slots ≡ table
+pub free_marked : (flags fs : List Bool) (slots : List Slot) (table : List (Option Entry)) (e : ℕ) (x : Slot)
+    → IsMarked flags slots → table_of slots ≡ table
     → IsSome (entry_at table e) → NamesNoRecord table e → x ≡ get_or slots e x → fs ≡ set flags e false
     → IsMarked fs (set slots e (record { uid = None; map = x.map }))
 free_marked flags fs slots table e x h view used none read is =
     let lt = used_slot flags slots table e h view used in
     let slot = slot_read slots e x lt read in
-    let records : records_in (entry_at table e) ≡ x.map = (kept flags slots table e h view).records ∙ ap (λ (s : Slot). s.map) (sym slot) in
+    let records : records_in (entry_at table e) ≡ x.map = (kept flags slots table e h view).records
+    ∙ ap (λ (s : Slot). s.map) (sym slot) in
     let long : length x.map ≡ 256 = ap (λ (s : Slot). length s.map) slot ∙ h.places e in
-    let empty : x.map ≡ no_records = map_is_empty x.map long (λ p. ap (λ (m : List (Option ℕ)). get_or m p None) (sym records) ∙ none.none p) in
+    let empty : x.map ≡ no_records = map_is_empty x.map long
+    (λ p. ap (λ (m : List (Option ℕ)). get_or m p None) (sym records) ∙ none.none p) in
     rw is (marked_with flags slots e _ h lt (λ _. empty) long)
 
 pub free_table : (slots : List Slot) (table : List (Option Entry)) (e : ℕ) (x : Slot) → table_of slots ≡ table
@@ -338,8 +403,19 @@ pub free_table : (slots : List Slot) (table : List (Option Entry)) (e : ℕ) (x 
 free_table slots table e x view = table_with slots e _ ∙ ap (λ (t : List (Option Entry)). set t e None) view
 
 -- an entry that was just allocated names no record
-pub allocate_empty : (flags : List Bool) (slots : List Slot) (table : List (Option Entry)) (e uid : ℕ) → IsMarked flags slots → table_of slots ≡ table
+pub allocate_empty : (flags : List Bool) (slots : List Slot) (table : List (Option Entry)) (e uid : ℕ)
+    → IsMarked flags slots → table_of slots ≡ table
     → IsLeastFree flags e → NamesNoRecord (set table e (fresh_entry uid)) e
 allocate_empty flags slots table e uid h view least =
-    let lt : e < length table = omega (arith, least.within, length_bits flags slots h, length_table slots, ap length view) in
-    record { none = λ p. ap (λ (entry : Option Entry). get_or (records_in entry) p None) (get_or-set_same table e (fresh_entry uid) None lt) ∙ none_named p }
+    let lt : e < length table = omega (
+      arith,
+      least.within,
+      length_bits flags slots h,
+      length_table slots,
+      ap length
+          view,
+    ) in
+    record {
+      none = λ p. ap (λ (entry : Option Entry). get_or (records_in entry) p None)
+          (get_or-set_same table e (fresh_entry uid) None lt) ∙ none_named p;
+    }

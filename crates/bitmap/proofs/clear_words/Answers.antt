@@ -9,7 +9,8 @@ returns c =
     elim c.if-count-ne0.branch [
       | then-count-ne0 w ↦ clear_part _ _ c.args.count
           (ap (λ (v : Vec ℕ Global). v.items) w.words-is
-          ∙ ap (λ (xs : List ℕ). set xs (c.args.count / 64) (18446744073709551615 * 2 ^ (c.args.count % 64) % 2 ^ 64)) zeros)
+          ∙ ap (λ (xs : List ℕ). set xs (c.args.count / 64) (18446744073709551615 * 2 ^ (c.args.count % 64) % 2 ^ 64))
+          zeros)
           (omega (arith, c.div_ceil.ensures)) w.if-count-ne0.true
       | else-count-ne0 w ↦ clear_whole _ _ c.args.count (ap (λ (v : Vec ℕ Global). v.items) w.words-is ∙ zeros)
           (omega (arith, c.div_ceil.ensures)) w.if-count-ne0.false

@@ -10,7 +10,8 @@ use Rattle.accounts.proofs.Accounts.node.Goals as goal
 
 pub returns-clause-some : goal.returns-clause-some
 returns-clause-some c =
-    subst (λ (a : AccountMaps). IfSome c.node.result (λ n. node_in a.nodes c.args.uid ≡ Some (as_term (quota_at a.nodes) n.now))) c.self.view_is
+    subst (λ (a : AccountMaps). IfSome c.node.result (λ n. node_in a.nodes c.args.uid
+    ≡ Some (as_term (quota_at a.nodes) n.now))) c.self.view_is
     (node_shown (λ n. n.now) c.self.inside.tree c.self.inside.cells c.self.invariant c.args.uid c.node.result
     (c.node.ensures.term (quota_in c.self.inside.cells)))
 
@@ -26,5 +27,6 @@ returns-clause-directory c =
 
 pub returns-clause-segment : goal.returns-clause-segment
 returns-clause-segment c =
-    subst (λ (a : AccountMaps). IfSome c.node.result (λ n. has_segment a.nodes c.args.uid ≡ not n.now.dir)) c.self.view_is
+    subst (λ (a : AccountMaps). IfSome c.node.result (λ n. has_segment a.nodes c.args.uid ≡ not n.now.dir))
+    c.self.view_is
     (segment_shown (λ n. n.now) c.self.inside.tree c.self.inside.cells c.args.uid c.node.result c.node.ensures.some)

@@ -5,7 +5,8 @@ use Rattle.accounts.proofs.Laws.{directory_cell, quota_shown}
 use Rattle.accounts.proofs.Accounts.quota.Goals as goal
 
 pub quota-requires : goal.quota-requires
-quota-requires c = directory_cell c.self.inside.tree c.self.inside.cells c.args.self.now c.self.view_is c.self.invariant c.args.dir c.requires
+quota-requires c = directory_cell c.self.inside.tree c.self.inside.cells c.args.self.now c.self.view_is
+    c.self.invariant c.args.dir c.requires
 
 pub returns-clause-quota : goal.returns-clause-quota
 returns-clause-quota c =

@@ -9,11 +9,15 @@ use Rattle.accounts.proofs.Accounts.root.Goals as goal
 
 pub returns-clause-tree : goal.returns-clause-tree
 returns-clause-tree c =
-    tree_shown (quota_in c.self.inside.cells) c.self.inside.tree.nodes c.args.self.now.nodes (ap (λ (a : AccountMaps). a.nodes) c.self.view_is) c.node.ensures.tree
+    tree_shown (quota_in c.self.inside.cells) c.self.inside.tree.nodes c.args.self.now.nodes
+    (ap (λ (a : AccountMaps). a.nodes) c.self.view_is) c.node.ensures.tree
 
 pub returns-clause-within : goal.returns-clause-within
 returns-clause-within c =
-    subst (λ (a : AccountMaps). (stored : List (ℕ × ℕ)) → Counts a stored → (account : ℕ) → used_by a.nodes stored account ≤ quota_at a.nodes account) c.self.view_is
-    (λ stored holds account. subst (λ n. n ≤ quota_at (accounts_of c.self.inside.tree c.self.inside.cells).nodes account)
-    (used_same c.self.inside.tree.nodes c.self.inside.cells c.self.invariant c.node.ensures.chains c.used-used.ensures.table.segments_rise c.used-used.ensures.table.stored_count stored holds account)
+    subst (λ (a : AccountMaps). (stored : List (ℕ × ℕ)) → Counts a stored → (account : ℕ)
+    → used_by a.nodes stored account ≤ quota_at a.nodes account) c.self.view_is
+    (λ stored holds account. subst (λ n. n ≤ quota_at (accounts_of c.self.inside.tree c.self.inside.cells).nodes
+    account)
+    (used_same c.self.inside.tree.nodes c.self.inside.cells c.self.invariant c.node.ensures.chains
+    c.used-used.ensures.table.segments_rise c.used-used.ensures.table.stored_count stored holds account)
     (used_within c.self.inside.tree c.self.inside.cells c.self.invariant c.used-used.ensures.within account))

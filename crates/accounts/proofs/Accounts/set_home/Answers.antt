@@ -4,10 +4,13 @@ use Rattle.accounts.proofs.Laws.{segment_of, home_shown}
 use Rattle.accounts.proofs.Accounts.set_home.Goals as goal
 
 pub set_home-requires : goal.set_home-requires
-set_home-requires c = segment_of c.self.inside.tree c.self.inside.cells c.args.self.now c.self.view_is c.args.seg c.requires
+set_home-requires c = segment_of c.self.inside.tree c.self.inside.cells c.args.self.now c.self.view_is c.args.seg
+    c.requires
 
 pub returns : goal.returns
 returns c =
-    subst (λ (a : AccountMaps). Rehomes a (accounts_of c.set_home.new.self c.self.inside.cells) c.args.seg c.args.volume c.args.entry) c.self.view_is
+    subst (λ (a : AccountMaps). Rehomes a (accounts_of c.set_home.new.self c.self.inside.cells) c.args.seg
+    c.args.volume c.args.entry) c.self.view_is
     (home_shown c.self.inside.tree c.set_home.new.self c.self.inside.cells c.args.seg c.args.volume c.args.entry
-    (segment_of c.self.inside.tree c.self.inside.cells c.args.self.now c.self.view_is c.args.seg c.requires) c.set_home.ensures.tree)
+    (segment_of c.self.inside.tree c.self.inside.cells c.args.self.now c.self.view_is c.args.seg c.requires)
+    c.set_home.ensures.tree)

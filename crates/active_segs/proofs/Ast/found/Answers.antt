@@ -10,35 +10,57 @@ use Rattle.active_segs.proofs.Ast.found.Goals as goal
 pub find_from_hand-requires-clause-within : goal.find_from_hand-requires-clause-within
 find_from_hand-requires-clause-within c =
     let pools : HasPools c.self.inside.sizes c.self.inside.hands = c.self.invariant.pools in
-    let ends : first_of c.self.inside.sizes c.args.pool + size_of c.self.inside.sizes c.args.pool ≤ sum c.self.inside.sizes =
+    let ends : first_of c.self.inside.sizes c.args.pool + size_of c.self.inside.sizes c.args.pool ≤ sum
+    c.self.inside.sizes =
     pool_within c.self.inside.sizes c.args.pool pools.four c.requires.pool in
     let count : length c.self.inside.entries.items ≡ sum c.self.inside.sizes = c.self.invariant.entry_count in
     let same : length c.deref.result.now ≡ length c.self.inside.entries.items = ap length c.deref.ensures.value in
-    let first : c.first_of-first.result ≡ first_of c.self.inside.sizes c.args.pool = c.first_of-first.ensures.first in omega arith
+    let first : c.first_of-first.result ≡ first_of c.self.inside.sizes c.args.pool =
+    c.first_of-first.ensures.first in omega arith
 
 pub find_from_hand-requires-clause-some : goal.find_from_hand-requires-clause-some
 find_from_hand-requires-clause-some c =
     let s : ActiveSegs =
-    record { sizes = c.self.inside.sizes; hands = c.self.inside.hands; entries = c.self.inside.entries.items; tables = c.self.inside.tables.items } in
+    record {
+      sizes = c.self.inside.sizes;
+      hands = c.self.inside.hands;
+      entries = c.self.inside.entries.items;
+      tables =
+          c.self.inside.tables.items;
+    } in
     let some : HasOneOffChain s c.args.pool c.args.chain.now =
     subst (λ (v : ActiveSegs). HasOneOffChain v c.args.pool c.args.chain.now) (sym c.self.view_is) c.requires.some in
-    rw (c.deref.ensures.value, c.first_of-first.ensures.first) (place_found s c.args.pool c.args.chain.now c.self.invariant.pools c.requires.pool some)
+    rw (c.deref.ensures.value, c.first_of-first.ensures.first)
+    (place_found s c.args.pool c.args.chain.now c.self.invariant.pools c.requires.pool some)
 
 pub returns-clause-in_pool : goal.returns-clause-in_pool
 returns-clause-in_pool c =
     let s : ActiveSegs =
-    record { sizes = c.self.inside.sizes; hands = c.self.inside.hands; entries = c.self.inside.entries.items; tables = c.self.inside.tables.items } in
+    record {
+      sizes = c.self.inside.sizes;
+      hands = c.self.inside.hands;
+      entries = c.self.inside.entries.items;
+      tables =
+          c.self.inside.tables.items;
+    } in
     let some : HasOneOffChain s c.args.pool c.args.chain.now =
     subst (λ (v : ActiveSegs). HasOneOffChain v c.args.pool c.args.chain.now) (sym c.self.view_is) c.requires.some in
     let first : first_off_chain s c.args.pool c.args.chain.now ≡ Some c.find_from_hand.result =
     rw (c.deref.ensures.value, c.first_of-first.ensures.first) at c.find_from_hand.ensures in
     subst (λ (v : ActiveSegs). IsInPool v.sizes c.args.pool c.find_from_hand.result) c.self.view_is
-    (found_in_pool s c.args.pool c.args.chain.now c.find_from_hand.result c.self.invariant.pools c.requires.pool some first)
+    (found_in_pool s c.args.pool c.args.chain.now c.find_from_hand.result c.self.invariant.pools c.requires.pool some
+    first)
 
 pub returns-clause-active : goal.returns-clause-active
 returns-clause-active c =
     let s : ActiveSegs =
-    record { sizes = c.self.inside.sizes; hands = c.self.inside.hands; entries = c.self.inside.entries.items; tables = c.self.inside.tables.items } in
+    record {
+      sizes = c.self.inside.sizes;
+      hands = c.self.inside.hands;
+      entries = c.self.inside.entries.items;
+      tables =
+          c.self.inside.tables.items;
+    } in
     let first : first_off_chain s c.args.pool c.args.chain.now ≡ Some c.find_from_hand.result =
     rw (c.deref.ensures.value, c.first_of-first.ensures.first) at c.find_from_hand.ensures in
     subst (λ (v : ActiveSegs). IsActiveAt v.entries c.find_from_hand.result) c.self.view_is

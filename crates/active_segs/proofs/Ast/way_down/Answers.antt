@@ -15,16 +15,21 @@ leaf_below-requires-clause-active c =
 
 pub returns-clause-is : goal.returns-clause-is
 returns-clause-is c =
-    let same : c.deref.result.now ≡ c.args.self.now.entries = c.deref.ensures.value ∙ ap (λ (v : ActiveSegs). v.entries) c.self.view_is in
-    let leaf = subst (λ (xs : List (Option Entry)). c.leaf_below.result ≡ leaf_below xs (length xs) c.found-found.result) same c.leaf_below.ensures.is in
+    let same : c.deref.result.now ≡ c.args.self.now.entries = c.deref.ensures.value
+    ∙ ap (λ (v : ActiveSegs). v.entries) c.self.view_is in
+    let leaf = subst (λ (xs : List (Option Entry)). c.leaf_below.result
+    ≡ leaf_below xs (length xs) c.found-found.result) same c.leaf_below.ensures.is in
     is_victim_of c.args.self.now c.args.pool c.args.chain.now _ _ c.found-found.ensures.first leaf
 
 pub returns-clause-victim : goal.returns-clause-victim
 returns-clause-victim c =
-    let same : c.deref.result.now ≡ c.args.self.now.entries = c.deref.ensures.value ∙ ap (λ (v : ActiveSegs). v.entries) c.self.view_is in
+    let same : c.deref.result.now ≡ c.args.self.now.entries = c.deref.ensures.value
+    ∙ ap (λ (v : ActiveSegs). v.entries) c.self.view_is in
     let stands : StandsFor c.args.self.now.entries c.found-found.result c.leaf_below.result =
-    subst (λ (xs : List (Option Entry)). StandsFor xs c.found-found.result c.leaf_below.result) same c.leaf_below.ensures.stands in
-    is_victim c.args.self.now c.args.pool c.args.chain.now c.found-found.result c.leaf_below.result c.found-found.ensures.first stands
+    subst (λ (xs : List (Option Entry)). StandsFor xs c.found-found.result c.leaf_below.result) same
+    c.leaf_below.ensures.stands in
+    is_victim c.args.self.now c.args.pool c.args.chain.now c.found-found.result c.leaf_below.result
+    c.found-found.ensures.first stands
 
 pub returns-clause-only : goal.returns-clause-only
 returns-clause-only c place other = victim_once _ _ _ place c.leaf_below.result other (returns-clause-victim c)

@@ -12,31 +12,41 @@ loop-step-init c = way_begins _ _ c.requires.grounded c.requires.active
 
 pub bounds-inferiors-place : goal.bounds-inferiors-place
 bounds-inferiors-place c =
-    let within : c.loop-step.place < length c.args.entries.now = used_within _ _ c.loop-step.invariant.uid c.loop-step.invariant.is in
+    let within : c.loop-step.place < length c.args.entries.now =
+    used_within _ _ c.loop-step.invariant.uid c.loop-step.invariant.is in
     let many : length c.args.inferiors.now ≡ length c.args.entries.now = c.requires.noted.maps in omega arith
 
 pub returns-in-None-clause-is : goal.returns-in-None-clause-is
 returns-in-None-clause-is c =
-    let within : c.loop-step.place < length c.args.entries.now = used_within _ _ c.loop-step.invariant.uid c.loop-step.invariant.is in
-    let map = noted_map _ _ c.requires.noted c.loop-step.place c.index-inferiors-place.result within c.index-inferiors-place.is in
+    let within : c.loop-step.place < length c.args.entries.now =
+    used_within _ _ c.loop-step.invariant.uid c.loop-step.invariant.is in
+    let map = noted_map _ _ c.requires.noted c.loop-step.place c.index-inferiors-place.result within
+    c.index-inferiors-place.is in
     let none : HasNoInferior c.args.entries.now c.loop-step.place =
-    leaf_since_noted _ _ c.requires.noted _ within (subst (All (λ (flag : Bool). flag ≡ true)) map c.in-None.ensures.none) in
+    leaf_since_noted _ _ c.requires.noted _ within (subst (All (λ (flag : Bool). flag ≡ true)) map
+    c.in-None.ensures.none) in
     way_comes_to _ _ _ _ c.loop-step.invariant none
 
 pub returns-in-None-clause-stands : goal.returns-in-None-clause-stands
 returns-in-None-clause-stands c =
-    let within : c.loop-step.place < length c.args.entries.now = used_within _ _ c.loop-step.invariant.uid c.loop-step.invariant.is in
-    let map = noted_map _ _ c.requires.noted c.loop-step.place c.index-inferiors-place.result within c.index-inferiors-place.is in
+    let within : c.loop-step.place < length c.args.entries.now =
+    used_within _ _ c.loop-step.invariant.uid c.loop-step.invariant.is in
+    let map = noted_map _ _ c.requires.noted c.loop-step.place c.index-inferiors-place.result within
+    c.index-inferiors-place.is in
     let none : HasNoInferior c.args.entries.now c.loop-step.place =
-    leaf_since_noted _ _ c.requires.noted _ within (subst (All (λ (flag : Bool). flag ≡ true)) map c.in-None.ensures.none) in
+    leaf_since_noted _ _ c.requires.noted _ within (subst (All (λ (flag : Bool). flag ≡ true)) map
+    c.in-None.ensures.none) in
     c.loop-step.invariant.back _ (stays _ _ none)
 
 pub loop-step-preserved : goal.loop-step-preserved
 loop-step-preserved c =
-    let within : c.loop-step.place < length c.args.entries.now = used_within _ _ c.loop-step.invariant.uid c.loop-step.invariant.is in
-    let map = noted_map _ _ c.requires.noted c.loop-step.place c.index-inferiors-place.result within c.index-inferiors-place.is in
+    let within : c.loop-step.place < length c.args.entries.now =
+    used_within _ _ c.loop-step.invariant.uid c.loop-step.invariant.is in
+    let map = noted_map _ _ c.requires.noted c.loop-step.place c.index-inferiors-place.result within
+    c.index-inferiors-place.is in
     let least : IsLeastInferior c.args.entries.now c.loop-step.place c.in-Some.inferior =
-    least_since_noted _ _ c.requires.noted _ _ within (subst (λ (m : List Bool). IsFirstFree m c.in-Some.inferior) map c.in-Some.ensures.some) in
+    least_since_noted _ _ c.requires.noted _ _ within (subst (λ (m : List Bool). IsFirstFree m c.in-Some.inferior) map
+    c.in-Some.ensures.some) in
     way_goes_on _ _ _ _ _ c.loop-step.invariant least
 
 pub unreachable-requires : goal.unreachable-requires

@@ -8,7 +8,9 @@ use Rattle.assoc_mem.proofs.Assoc.find_ptw.Goals as goal
 
 pub returns-clause-none : goal.returns-clause-none
 returns-clause-none c =
-    let same : c.deref.result.now ≡ c.args.self.now.pages = c.deref.ensures.0 ∙ ap (λ (h : Held). h.pages) c.self.view_is in
+    let same : c.deref.result.now ≡ c.args.self.now.pages = c.deref.ensures.0
+    ∙ ap (λ (h : Held). h.pages) c.self.view_is in
     no_page c.args.self.now.pages c.args.uid c.args.page c.find_page.result
-    (subst (λ (l : List HeldPage). c.find_page.result ≡ option_map (λ entry. entry.frame) (find (is_page c.args.uid c.args.page) l)) same
+    (subst (λ (l : List HeldPage). c.find_page.result ≡ option_map (λ entry. entry.frame)
+    (find (is_page c.args.uid c.args.page) l)) same
     c.find_page.ensures)

@@ -5,11 +5,13 @@ use Rattle.bitmap.proofs.Bitmap.give_back.Goals as goal
 
 pub clear_bit-requires : goal.clear_bit-requires
 clear_bit-requires c =
-    let place = placed _ _ _ _ _ c.args.r c.self.invariant c.self.view_is (used_within _ _ c.requires) in omega (arith, place.word)
+    let place = placed _ _ _ _ _ c.args.r c.self.invariant c.self.view_is (used_within _ _ c.requires) in omega
+    (arith, place.word)
 
 pub clear_bit-requires-2 : goal.clear_bit-requires-2
 clear_bit-requires-2 c =
-    let place = placed _ _ _ _ _ c.args.r c.self.invariant c.self.view_is (used_within _ _ c.requires) in omega (arith, place.mark)
+    let place = placed _ _ _ _ _ c.args.r c.self.invariant c.self.view_is (used_within _ _ c.requires) in omega
+    (arith, place.mark)
 
 pub invariant_of-self : goal.invariant_of-self
 invariant_of-self c =

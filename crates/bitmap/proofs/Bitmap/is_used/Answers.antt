@@ -6,7 +6,8 @@ use Rattle.bitmap.proofs.Levels.{placed}
 use Rattle.bitmap.proofs.Bitmap.is_used.Goals as goal
 
 pub index-requires : goal.index-requires
-index-requires c = let place = placed _ _ _ _ _ c.args.r c.self.invariant c.self.view_is c.requires in omega (arith, place.word)
+index-requires c = let place = placed _ _ _ _ _ c.args.r c.self.invariant c.self.view_is c.requires in omega
+    (arith, place.word)
 
 pub returns : goal.returns
 unfolding bit_on

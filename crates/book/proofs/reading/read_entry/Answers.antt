@@ -5,14 +5,16 @@ use Rattle.book.proofs.ReadingLaws.{read_only, read_again, read_none}
 use Rattle.book.proofs.reading.read_entry.Goals as goal
 
 -- the words that were cut are those of the line
-cut_of : (lent kept : List (Bor (List ℕ))) (line : List ℕ) → lent ≡ kept → map (λ (w : Bor (List ℕ)). w.now) kept ≡ slice_split is_space line
+cut_of : (lent kept : List (Bor (List ℕ))) (line : List ℕ) → lent ≡ kept → map (λ (w : Bor (List ℕ)). w.now) kept
+    ≡ slice_split is_space line
     → map (λ (w : Bor (List ℕ)). w.now) lent ≡ slice_split is_space line
 cut_of lent kept line same cut = ap (map (λ (w : Bor (List ℕ)). w.now)) same ∙ cut
 
 pub returns-in-Some-clause-some : goal.returns-in-Some-clause-some
 returns-in-Some-clause-some c =
     read_only c.args.line.now _ c.entry_of_words.result
-    (cut_of c.deref.result.now c.in-Some.words.items c.args.line.now c.deref.ensures.0 c.in-Some.ensures.some) c.entry_of_words.ensures
+    (cut_of c.deref.result.now c.in-Some.words.items c.args.line.now c.deref.ensures.0 c.in-Some.ensures.some)
+    c.entry_of_words.ensures
 
 pub returns-in-Some-clause-back : goal.returns-in-Some-clause-back
 returns-in-Some-clause-back c = λ e h text.

@@ -7,4 +7,5 @@ returns-then-not-has_ended c = λ s shown. not_ended c.args.script.now s c.loop-
     (omega (arith, c.processes-process-end.ensures.count)) (c.has_ended.ensures c.args.script.now s shown) (cc)
 
 pub returns : goal.returns
-returns c = λ s shown. all_ended c.args.script.now s c.loop-process.process (omega (arith, c.processes-process-end.ensures.count)) (c.loop-process.invariant s shown)
+returns c = λ s shown. all_ended c.args.script.now s c.loop-process.process
+    (omega (arith, c.processes-process-end.ensures.count)) (c.loop-process.invariant s shown)

@@ -5,4 +5,5 @@ use Rattle.book_check.proofs.closing.have_ended.Given as goal
 
 -- each process so far has ended
 abbrev pub invariant-loop-process : goal.invariant-loop-process
-invariant-loop-process l = (s : Store) → Shows l.script l.store s → (k : ℕ) → k < l.process → (progress_of s k).ended ≡ true
+invariant-loop-process l = (s : Store) → Shows l.script l.store s → (k : ℕ) → k < l.process → (progress_of s k).ended
+    ≡ true

@@ -20,7 +20,8 @@ returns-clause-chosen c =
 pub returns-clause-core : goal.returns-clause-core
 returns-clause-core c =
     rw (← c.self.view_is)
-    (turned_core _ _ _ _ _ _ c.self.invariant.hand_within c.turn-f.ensures (omega (arith, c.len.ensures)) c.next-self-inside.ensures.next)
+    (turned_core _ _ _ _ _ _ c.self.invariant.hand_within c.turn-f.ensures (omega (arith, c.len.ensures))
+    c.next-self-inside.ensures.next)
 
 pub returns-clause-started : goal.returns-clause-started
 returns-clause-started c = rw (← c.self.view_is) (turned_same started_page started_unmarked _ _ _ _ c.turn-f.ensures)

@@ -5,5 +5,6 @@ use Rattle.custody.specs.Uses.{frame_at}
 use Rattle.custody.proofs.naming.drop_pages.Goals as goal
 
 pub returns : goal.returns
-returns c = filter-from_retain _ (λ f. not (names_use c.args.what f (frame_at c.args.frames.now f))) _ (λ x b f' y called. search rules) _ _
+returns c = filter-from_retain _ (λ f. not (names_use c.args.what f (frame_at c.args.frames.now f))) _
+    (λ x b f' y called. search rules) _ _
     c.retain.ensures.filtered

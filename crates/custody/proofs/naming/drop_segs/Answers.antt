@@ -6,5 +6,6 @@ use Rattle.custody.specs.Uses.{descriptor_at}
 use Rattle.custody.proofs.naming.drop_segs.Goals as goal
 
 pub returns : goal.returns
-returns c = filter-from_retain _ (λ n. not (names_lead c.args.what (descriptor_at (row_at c.args.rows.now.items c.args.process) n))) _
+returns c = filter-from_retain _ (λ n. not (names_lead c.args.what
+    (descriptor_at (row_at c.args.rows.now.items c.args.process) n))) _
     (λ x b f' y called. search rules) _ _ c.retain.ensures.filtered

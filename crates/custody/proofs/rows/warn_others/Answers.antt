@@ -7,16 +7,20 @@ use Rattle.custody.proofs.rows.warn_others.Goals as goal
 use Rattle.custody.proofs.rows.warn_others.Goals.{then-cpu-but, else-cpu-but}
 
 pub loop-cpu-init : goal.loop-cpu-init
-loop-cpu-init c = none_warned c.args.but c.args.what c.args.seats.now.items c.deref_mut-seat-items.result.now c.deref_mut-seat-items.ensures.value
+loop-cpu-init c = none_warned c.args.but c.args.what c.args.seats.now.items c.deref_mut-seat-items.result.now
+    c.deref_mut-seat-items.ensures.value
 
 pub loop-cpu-preserved : goal.loop-cpu-preserved
 loop-cpu-preserved c = elim c.if-cpu-but.branch [
   | then-cpu-but w ↦
-      one_warned c.args.but c.args.what c.loop-cpu.cpu c.args.seats.now.items c.loop-cpu.seat-items c.if-cpu-but.seat-items c.seat-item.result w.warn.new.self
-      (let a = c.loop-cpu-test.true in let b = c.loop-cpu.auto.seat-items in omega (arith, a, b)) w.if-cpu-but.true c.loop-cpu.invariant c.seat-item.is
+      one_warned c.args.but c.args.what c.loop-cpu.cpu c.args.seats.now.items c.loop-cpu.seat-items
+      c.if-cpu-but.seat-items c.seat-item.result w.warn.new.self
+      (let a = c.loop-cpu-test.true in let b = c.loop-cpu.auto.seat-items in omega (arith, a, b)) w.if-cpu-but.true
+      c.loop-cpu.invariant c.seat-item.is
       (w.warn.ensures ∙ ap (λ (s : Seat). warned c.args.what s) (sym c.seat-item.is)) w.seat-items-is
   | else-cpu-but w ↦
-      one_passed c.args.but c.args.what c.loop-cpu.cpu c.args.seats.now.items c.loop-cpu.seat-items c.if-cpu-but.seat-items w.if-cpu-but.false
+      one_passed c.args.but c.args.what c.loop-cpu.cpu c.args.seats.now.items c.loop-cpu.seat-items
+      c.if-cpu-but.seat-items w.if-cpu-but.false
       c.loop-cpu.invariant (w.seat-items-is ∙ set-get_or c.loop-cpu.seat-items c.loop-cpu.cpu c.seat-item.result)
 ]
 
@@ -24,5 +28,6 @@ pub returns : goal.returns
 returns c =
     let is = all_warned c.args.but c.args.what c.loop-cpu.cpu c.args.seats.now.items c.loop-cpu.seat-items
     (let a = c.loop-cpu-test.false in let b = c.loop-cpu.auto.seat-items in omega (arith, a, b)) c.loop-cpu.invariant in
-    cut_back c.args.seats.now.len c.args.seats.now.len c.loop-cpu.seat-items (drop (length c.loop-cpu.seat-items) c.args.seats.now.items) _ _ refl refl
+    cut_back c.args.seats.now.len c.args.seats.now.len c.loop-cpu.seat-items
+    (drop (length c.loop-cpu.seat-items) c.args.seats.now.items) _ _ refl refl
     (c.args.seats.now.ok.0 ∙ sym c.loop-cpu.invariant.size) refl ∙ is

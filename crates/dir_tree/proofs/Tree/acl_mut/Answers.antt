@@ -9,11 +9,13 @@ use Rattle.dir_tree.proofs.Tree.acl_mut.Goals as goal
 pub place_of-place-requires-clause-there : goal.place_of-place-requires-clause-there
 place_of-place-requires-clause-there c =
     (entry_present c.self.invariant.0 c.args.uid
-    (subst (λ (t : Branches). is_in t.nodes c.args.uid ≡ true) (sym c.self.view_is) (segment_in c.args.self.now.nodes c.args.uid c.requires)))
+    (subst (λ (t : Branches). is_in t.nodes c.args.uid ≡ true) (sym c.self.view_is)
+    (segment_in c.args.self.now.nodes c.args.uid c.requires)))
 
 pub invariant_of-self-lent : goal.invariant_of-self-lent
 invariant_of-self-lent c w =
-    let set = set_kept c.self.invariant.0 c.args.uid c.place_of-place.result c.place_of-place.ensures (λ n. record n { acl = w })
+    let set = set_kept c.self.invariant.0 c.args.uid c.place_of-place.result c.place_of-place.ensures
+    (λ n. record n { acl = w })
     (λ n. refl) c.index_mut-node.result.now c.index_mut-node.ensures.value in
     (set.0, c.self.invariant.1, c.self.invariant.2, c.self.invariant.3)
 
@@ -22,15 +24,18 @@ returns c = (
   (
     refl,
     λ w.
-        (let set = set_kept c.self.invariant.0 c.args.uid c.place_of-place.result c.place_of-place.ensures (λ n. record n { acl = w })
+        (let set = set_kept c.self.invariant.0 c.args.uid c.place_of-place.result c.place_of-place.ensures
+        (λ n. record n { acl = w })
         (λ n. refl) c.index_mut-node.result.now c.index_mut-node.ensures.value in
         rw (← c.self.view_is) (ap (λ (ns : List Node). record { nodes = ns; next = c.self.inside.next }) set.1)),
   ),
   record {
     writes_back = tt;
-    value = rw (← c.self.view_is) (acl_read c.self.invariant.0 c.args.uid c.place_of-place.result c.place_of-place.ensures c.index_mut-node.result.now
+    value = rw (← c.self.view_is) (acl_read c.self.invariant.0 c.args.uid c.place_of-place.result
+        c.place_of-place.ensures c.index_mut-node.result.now
         c.index_mut-node.ensures.value);
-    others = λ rows u other. others_kept c.args.uid (λ n. record n { acl = rows }) (λ n. refl) c.args.self.now.nodes u other;
+    others = λ rows u other. others_kept c.args.uid (λ n. record n { acl = rows }) (λ n. refl) c.args.self.now.nodes u
+        other;
     shapes = λ rows. shapes_changed c.args.uid (λ n. record n { acl = rows }) (λ n. refl) c.args.self.now.nodes;
   },
 )

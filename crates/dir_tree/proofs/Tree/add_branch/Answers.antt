@@ -15,12 +15,14 @@ attach-requires-clause-may c =
 pub returns-in_err-may_add-clause-fresh : goal.returns-in_err-may_add-clause-fresh
 returns-in_err-may_add-clause-fresh c = rw (← c.self.view_is)
     (ap is_some (node_missing c.self.invariant.0 c.self.inside.next
-    (λ i lt e. (let less : (entry_at c.self.inside.entries i).uid < c.self.inside.next = c.self.invariant.0.below i lt in omega arith))))
+    (λ i lt e. (let less : (entry_at c.self.inside.entries i).uid < c.self.inside.next =
+    c.self.invariant.0.below i lt in omega arith))))
 
 pub returns-clause-fresh : goal.returns-clause-fresh
 returns-clause-fresh c = rw (← c.self.view_is)
     (ap is_some (node_missing c.self.invariant.0 c.self.inside.next
-    (λ i lt e. (let less : (entry_at c.self.inside.entries i).uid < c.self.inside.next = c.self.invariant.0.below i lt in omega arith))))
+    (λ i lt e. (let less : (entry_at c.self.inside.entries i).uid < c.self.inside.next =
+    c.self.invariant.0.below i lt in omega arith))))
 
 pub returns-clause-room : goal.returns-clause-room
 returns-clause-room c =
@@ -33,7 +35,9 @@ returns-clause-room c =
 
 pub returns-in_err-may_add-clause-chains : goal.returns-in_err-may_add-clause-chains
 returns-in_err-may_add-clause-chains c =
-    rw (← c.self.view_is) (has_chains (shapes (newest c.self.inside.nodes.items c.self.inside.entries)) c.self.invariant.0.tree)
+    rw (← c.self.view_is) (has_chains (shapes (newest c.self.inside.nodes.items c.self.inside.entries))
+    c.self.invariant.0.tree)
 
 pub returns-clause-chains : goal.returns-clause-chains
-returns-clause-chains c = rw (← c.self.view_is) (has_chains (shapes (newest c.self.inside.nodes.items c.self.inside.entries)) c.self.invariant.0.tree)
+returns-clause-chains c = rw (← c.self.view_is) (has_chains
+    (shapes (newest c.self.inside.nodes.items c.self.inside.entries)) c.self.invariant.0.tree)

@@ -1,4 +1,5 @@
-use Rattle.std.proofs.Common.{◌≡◌, ◌+◌, ◌<◌, ℕ, List, [], ◌∷◌, ◌++◌, Bool, length, true, None, Some, refl, sym, ap, subst, ◌∙◌, arith}
+use Rattle.std.proofs.Common.{◌≡◌, ◌+◌, ◌<◌, ℕ, List, [], ◌∷◌, ◌++◌, Bool, length, true, None, Some, refl, sym, ap}
+use Rattle.std.proofs.Common.{subst, ◌∙◌, arith}
 use Rattle.std.proofs.lemmas.List.{length-map}
 use Rattle.dir_tree.specs.declared.node.Node.{Node}
 use Rattle.dir_tree.specs.declared.node.NewNode.{NewNode}
@@ -6,7 +7,8 @@ use Rattle.dir_tree.specs.declared.entries.Entry.{Entry}
 use Rattle.dir_tree.specs.Nodes.{Branches, is_directory, add_fault_of}
 use Rattle.dir_tree.specs.Shape.{shape, shapes}
 use Rattle.dir_tree.specs.Kept.{newest, recounted, IsCounted, IsKept}
-use Rattle.dir_tree.proofs.AddedLemmas.{place_unused, place_room, sorted_still, within_still, new_within, new_key, kept_added, view_added}
+use Rattle.dir_tree.proofs.AddedLemmas.{place_unused, place_room, sorted_still, within_still, new_within, new_key}
+use Rattle.dir_tree.proofs.AddedLemmas.{kept_added, view_added}
 use Rattle.dir_tree.proofs.CountLemmas.{superior_there, pushed_few, counted_with, newest_recounted, kept_recounted}
 use Rattle.dir_tree.proofs.KeptLemmas.{no_fault}
 use Rattle.dir_tree.proofs.NewestLemmas.{length_newest}
@@ -35,8 +37,10 @@ may_at : (u : ℕ) (name : List ℕ) (dir : Bool) {s t : Branches} → s ≡ t �
     → add_fault_of (shapes s.nodes) u name dir ≡ None
 may_at u name dir {s} {t} e h = subst (λ (x : Branches). add_fault_of (shapes x.nodes) u name dir ≡ None) (sym e) h
 
-few : (nodes : List Node) (es : List Entry) (s : ℕ) (name : List ℕ) (dir : Bool) → add_fault_of (shapes (newest nodes es)) s name dir ≡ None → length es < 4097
-few nodes es s name dir e = (let m = no_fault (shapes (newest nodes es)) s name dir e in let r : length (shapes (newest nodes es)) < 4097 = m.room in
+few : (nodes : List Node) (es : List Entry) (s : ℕ) (name : List ℕ) (dir : Bool)
+    → add_fault_of (shapes (newest nodes es)) s name dir ≡ None → length es < 4097
+few nodes es s name dir e = (let m = no_fault (shapes (newest nodes es)) s name dir e in let r : length
+    (shapes (newest nodes es)) < 4097 = m.room in
     let a = length-map (newest nodes es) shape in let b = length_newest nodes es in omega arith)
 
 pub store-place-requires-clause-room : goal.store-place-requires-clause-room
@@ -56,29 +60,35 @@ insert-requires-clause-room c =
 
 pub insert-requires-clause-sorted : goal.insert-requires-clause-sorted
 insert-requires-clause-sorted c = rw c.deref.ensures.value
-    (sorted_still c.self.invariant.0 c.store-place.result c.store-place.ensures.place c.store-place.new.nodes.items c.store-place.ensures.others
+    (sorted_still c.self.invariant.0 c.store-place.result c.store-place.ensures.place c.store-place.new.nodes.items
+    c.store-place.ensures.others
     c.store-place.ensures.count)
 
 pub insert-requires-clause-within : goal.insert-requires-clause-within
 insert-requires-clause-within c = rw c.deref.ensures.value
-    (within_still c.self.invariant.0 c.store-place.result c.store-place.ensures.place c.store-place.new.nodes.items c.store-place.ensures.others
+    (within_still c.self.invariant.0 c.store-place.result c.store-place.ensures.place c.store-place.new.nodes.items
+    c.store-place.ensures.others
     c.store-place.ensures.count)
 
 pub insert-requires-clause-node : goal.insert-requires-clause-node
 insert-requires-clause-node c = rw c.deref.ensures.value
-    (new_within c.self.invariant.0 c.store-place.result c.store-place.ensures.place c.store-place.new.nodes.items c.store-place.ensures.others
+    (new_within c.self.invariant.0 c.store-place.result c.store-place.ensures.place c.store-place.new.nodes.items
+    c.store-place.ensures.others
     c.store-place.ensures.count)
 
 pub insert-requires-clause-new : goal.insert-requires-clause-new
 insert-requires-clause-new c =
-    let may = no_fault (shapes (newest c.self.inside.nodes.items c.self.inside.entries)) c.args.superior c.args.new.name c.args.new.dir
+    let may = no_fault (shapes (newest c.self.inside.nodes.items c.self.inside.entries)) c.args.superior
+    c.args.new.name c.args.new.dir
     (may_at c.args.superior c.args.new.name c.args.new.dir c.self.view_is c.requires.may) in
-    rw c.deref.ensures.value (new_key c.self.invariant.0 c.store-place.result c.store-place.ensures.place c.store-place.new.nodes.items
+    rw c.deref.ensures.value (new_key c.self.invariant.0 c.store-place.result c.store-place.ensures.place
+    c.store-place.new.nodes.items
     c.store-place.ensures.others c.store-place.ensures.count c.args.superior
     (new_node c.self.inside.next c.args.superior c.args.new) c.store-place.ensures.here refl may.new)
 
 pub push-requires-clause-few : goal.push-requires-clause-few
-push-requires-clause-few c = few c.self.inside.nodes.items c.self.inside.entries c.args.superior c.args.new.name c.args.new.dir
+push-requires-clause-few c = few c.self.inside.nodes.items c.self.inside.entries c.args.superior c.args.new.name
+    c.args.new.dir
     (may_at c.args.superior c.args.new.name c.args.new.dir c.self.view_is c.requires.may)
 
 pub push-requires-clause-place : goal.push-requires-clause-place
@@ -92,7 +102,8 @@ push-requires-clause-new c = place_unused c.self.invariant.0 c.store-place.resul
 
 pub gain-requires-clause-there : goal.gain-requires-clause-there
 gain-requires-clause-there c = rw c.push.ensures
-    (superior_there c.self.invariant.0 c.args.superior (directory_at c.args.superior c.self.view_is c.requires.directory) _)
+    (superior_there c.self.invariant.0 c.args.superior
+    (directory_at c.args.superior c.self.view_is c.requires.directory) _)
 
 pub gain-requires-clause-room : goal.gain-requires-clause-room
 gain-requires-clause-room c =
@@ -102,18 +113,24 @@ gain-requires-clause-room c =
 
 pub invariant_of-self : goal.invariant_of-self
 invariant_of-self c =
-    let more : List Entry = c.self.inside.entries ++ new_entry c.self.inside.next c.args.superior c.store-place.result ∷ [] in
+    let more : List Entry = c.self.inside.entries ++ new_entry c.self.inside.next c.args.superior c.store-place.result
+    ∷ [] in
     let gained : c.gain.new.self ≡ recounted c.args.superior (λ n. n + 1) more = rw c.push.ensures at c.gain.ensures in
-    let kept : IsKept c.store-place.new.nodes.items more c.store-place.new.free.items c.insert.new.self (c.self.inside.next + 1) =
+    let kept : IsKept c.store-place.new.nodes.items more c.store-place.new.free.items c.insert.new.self
+    (c.self.inside.next + 1) =
     kept_added c.self.invariant.0 c.args.superior
-    (new_node c.self.inside.next c.args.superior c.args.new) c.store-place.new.nodes.items c.store-place.new.free.items c.insert.new.self
+    (new_node c.self.inside.next c.args.superior c.args.new) c.store-place.new.nodes.items c.store-place.new.free.items
+    c.insert.new.self
     c.store-place.result
     refl refl (directory_at c.args.superior c.self.view_is c.requires.directory)
-    (may_at c.args.superior c.args.new.name c.args.new.dir c.self.view_is c.requires.may) c.store-place.ensures.place c.store-place.ensures.here
+    (may_at c.args.superior c.args.new.name c.args.new.dir c.self.view_is c.requires.may) c.store-place.ensures.place
+    c.store-place.ensures.here
     c.store-place.ensures.others c.store-place.ensures.rest c.store-place.ensures.count
-    (rw c.deref.ensures.value at c.insert.ensures.sorted) c.insert.ensures.places c.insert.ensures.count c.insert.ensures.room in
+    (rw c.deref.ensures.value at c.insert.ensures.sorted) c.insert.ensures.places c.insert.ensures.count
+    c.insert.ensures.room in
     let counted : IsCounted (recounted c.args.superior (λ n. n + 1) more) =
-    counted_with c.self.invariant.0 c.self.invariant.3 c.args.superior (directory_at c.args.superior c.self.view_is c.requires.directory)
+    counted_with c.self.invariant.0 c.self.invariant.3 c.args.superior
+    (directory_at c.args.superior c.self.view_is c.requires.directory)
     (new_entry c.self.inside.next c.args.superior c.store-place.result) refl refl refl in (
       rw gained (kept_recounted c.args.superior (λ n. n + 1) kept),
       omega (arith, c.self.invariant.1, c.store-place.ensures.nodes_room),
@@ -123,14 +140,18 @@ invariant_of-self c =
 
 pub returns : goal.returns
 returns c =
-    let more : List Entry = c.self.inside.entries ++ new_entry c.self.inside.next c.args.superior c.store-place.result ∷ [] in
+    let more : List Entry = c.self.inside.entries ++ new_entry c.self.inside.next c.args.superior c.store-place.result
+    ∷ [] in
     let gained : c.gain.new.self ≡ recounted c.args.superior (λ n. n + 1) more = rw c.push.ensures at c.gain.ensures in
     let view = view_added c.self.invariant.0 c.args.superior
-    (new_node c.self.inside.next c.args.superior c.args.new) c.store-place.new.nodes.items c.store-place.new.free.items c.insert.new.self
+    (new_node c.self.inside.next c.args.superior c.args.new) c.store-place.new.nodes.items c.store-place.new.free.items
+    c.insert.new.self
     c.store-place.result
     refl refl (directory_at c.args.superior c.self.view_is c.requires.directory)
-    (may_at c.args.superior c.args.new.name c.args.new.dir c.self.view_is c.requires.may) c.store-place.ensures.place c.store-place.ensures.here
+    (may_at c.args.superior c.args.new.name c.args.new.dir c.self.view_is c.requires.may) c.store-place.ensures.place
+    c.store-place.ensures.here
     c.store-place.ensures.others c.store-place.ensures.rest c.store-place.ensures.count
-    (rw c.deref.ensures.value at c.insert.ensures.sorted) c.insert.ensures.places c.insert.ensures.count c.insert.ensures.room in
+    (rw c.deref.ensures.value at c.insert.ensures.sorted) c.insert.ensures.places c.insert.ensures.count
+    c.insert.ensures.room in
     rw (← c.self.view_is) (ap (λ (ns : List Node). record { nodes = ns; next = c.self.inside.next + 1 })
     (rw gained (newest_recounted c.args.superior (λ n. n + 1) c.store-place.new.nodes.items more ∙ view)))

@@ -10,12 +10,17 @@ use Rattle.dir_tree.proofs.KeptLemmas.{branch_read, branch_missing, places_withi
 use Rattle.dir_tree.proofs.Tree.branch.Goals as goal
 
 pub find-requires : goal.find-requires
-find-requires c = rw c.deref.ensures.value (record { sorted = c.self.invariant.0.sorted; within = places_within c.self.invariant.0 })
+find-requires c = rw c.deref.ensures.value (record {
+  sorted = c.self.invariant.0.sorted;
+  within =
+      places_within c.self.invariant.0;
+})
 
 pub returns-in_err-place-clause-none : goal.returns-in_err-place-clause-none
 returns-in_err-place-clause-none c =
     rw (c.from_residual.ensures, ← c.self.view_is)
-    (branch_missing c.self.invariant.0 c.args.directory c.args.name.now (rw c.deref.ensures.value at c.in_err-place.ensures.none))
+    (branch_missing c.self.invariant.0 c.args.directory c.args.name.now
+    (rw c.deref.ensures.value at c.in_err-place.ensures.none))
 
 pub returns-clause-some : goal.returns-clause-some
 returns-clause-some c =
@@ -23,7 +28,8 @@ returns-clause-some c =
     let within : c.in_ok-place.place < length c.self.inside.nodes.items = place_within c.self.invariant.0 _ found.0 in
     let node : c.index.result.now ≡ node_at c.self.inside.nodes.items c.in_ok-place.place =
     get_or_read c.self.inside.nodes.items c.in_ok-place.place c.index.result.now within c.index.ensures no_node in
-    let is : branch_in (shapes (newest c.self.inside.nodes.items c.self.inside.entries)) c.args.directory c.args.name.now ≡ Some
+    let is : branch_in (shapes (newest c.self.inside.nodes.items c.self.inside.entries)) c.args.directory
+    c.args.name.now ≡ Some
     (shape (node_at c.self.inside.nodes.items c.in_ok-place.place)) =
     branch_read c.self.invariant.0 c.args.directory c.args.name.now c.in_ok-place.place found.0 found.1 in
     rw (← c.self.view_is) (is ∙ ap (λ (n : Node). Some (shape n)) (sym node))

@@ -8,84 +8,114 @@ use Rattle.dir_tree.specs.Nodes.{Branches, is_in}
 use Rattle.dir_tree.specs.Shape.{shapes}
 use Rattle.dir_tree.proofs.KeptLemmas.{entry_present, places_within}
 use Rattle.std.proofs.lemmas.List.Edits.{length-remove}
-use Rattle.dir_tree.proofs.CountLemmas.{removed_rising, superior_left, some_left, counted_removed, length_recounted, newest_recounted, kept_recounted}
+use Rattle.dir_tree.proofs.CountLemmas.{removed_rising, superior_left, some_left, counted_removed, length_recounted}
+use Rattle.dir_tree.proofs.CountLemmas.{newest_recounted, kept_recounted}
 use Rattle.dir_tree.proofs.NewestLemmas.{length_newest}
 use Rattle.dir_tree.proofs.RemovedLemmas.{removed_at, not_root, named_at}
 use Rattle.dir_tree.proofs.Tree.detach.Goals as goal
 
 pub position_of-at-requires-clause-there : goal.position_of-at-requires-clause-there
 position_of-at-requires-clause-there c =
-    entry_present c.self.invariant.0 c.args.uid (subst (λ (t : Branches). is_in t.nodes c.args.uid ≡ true) (sym c.self.view_is) c.requires.there)
+    entry_present c.self.invariant.0 c.args.uid (subst (λ (t : Branches). is_in t.nodes c.args.uid ≡ true)
+    (sym c.self.view_is) c.requires.there)
 
 pub unreachable-requires : goal.unreachable-requires
 unreachable-requires c = c.requires.branch
-    (not_root c.self.invariant.0 c.args.uid c.position_of-at.result c.remove-superior.result c.position_of-at.ensures.within c.remove-superior.ensures.entry
+    (not_root c.self.invariant.0 c.args.uid c.position_of-at.result c.remove-superior.result
+    c.position_of-at.ensures.within c.remove-superior.ensures.entry
     c.position_of-at.ensures.uid c.in_default.is)
 
 pub push_reserved-requires : goal.push_reserved-requires
 push_reserved-requires c =
     let within : c.position_of-at.result < length c.self.inside.entries = c.position_of-at.ensures.within in
-    let count : length c.self.inside.nodes.items ≡ length c.self.inside.entries + length c.self.inside.free.items = c.self.invariant.0.count in
+    let count : length c.self.inside.nodes.items ≡ length c.self.inside.entries + length c.self.inside.free.items =
+    c.self.invariant.0.count in
     let few : length c.self.inside.nodes.items ≤ 4097 = c.self.invariant.0.few in
     omega (arith, c.self.invariant.2, c.self.inside.free.ok.0)
 
 pub lose-requires-clause-rising : goal.lose-requires-clause-rising
-lose-requires-clause-rising c = rw c.remove-superior.ensures.rest (removed_rising c.self.invariant.0 c.position_of-at.result c.position_of-at.ensures.within)
+lose-requires-clause-rising c = rw c.remove-superior.ensures.rest
+    (removed_rising c.self.invariant.0 c.position_of-at.result c.position_of-at.ensures.within)
 
 pub lose-requires-clause-there : goal.lose-requires-clause-there
 lose-requires-clause-there c =
-    let is : c.remove-superior.result ≡ entry_at c.self.inside.entries c.position_of-at.result = c.remove-superior.ensures.entry in
-    let up : (entry_at c.self.inside.entries c.position_of-at.result).superior ≡ Some c.in-Some.superior = ap (λ (e : Entry). e.superior) (sym is)
+    let is : c.remove-superior.result ≡ entry_at c.self.inside.entries c.position_of-at.result =
+    c.remove-superior.ensures.entry in
+    let up : (entry_at c.self.inside.entries c.position_of-at.result).superior ≡ Some c.in-Some.superior =
+    ap (λ (e : Entry). e.superior) (sym is)
     ∙ c.in-Some.is in
-    rw c.remove-superior.ensures.rest (superior_left c.self.invariant.0 c.in-Some.superior c.position_of-at.result c.position_of-at.ensures.within up)
+    rw c.remove-superior.ensures.rest (superior_left c.self.invariant.0 c.in-Some.superior c.position_of-at.result
+    c.position_of-at.ensures.within up)
 
 pub lose-requires-clause-some : goal.lose-requires-clause-some
 lose-requires-clause-some c =
-    let is : c.remove-superior.result ≡ entry_at c.self.inside.entries c.position_of-at.result = c.remove-superior.ensures.entry in
-    let up : (entry_at c.self.inside.entries c.position_of-at.result).superior ≡ Some c.in-Some.superior = ap (λ (e : Entry). e.superior) (sym is)
+    let is : c.remove-superior.result ≡ entry_at c.self.inside.entries c.position_of-at.result =
+    c.remove-superior.ensures.entry in
+    let up : (entry_at c.self.inside.entries c.position_of-at.result).superior ≡ Some c.in-Some.superior =
+    ap (λ (e : Entry). e.superior) (sym is)
     ∙ c.in-Some.is in
-    rw c.remove-superior.ensures.rest (some_left c.self.inside.entries c.self.invariant.3 c.position_of-at.result c.position_of-at.ensures.within
+    rw c.remove-superior.ensures.rest (some_left c.self.inside.entries c.self.invariant.3 c.position_of-at.result
+    c.position_of-at.ensures.within
     c.in-Some.superior up)
 
 pub invariant_of-self : goal.invariant_of-self
 invariant_of-self c =
-    let is : c.remove-superior.result ≡ entry_at c.self.inside.entries c.position_of-at.result = c.remove-superior.ensures.entry in
-    let up : (entry_at c.self.inside.entries c.position_of-at.result).superior ≡ Some c.in-Some.superior = ap (λ (e : Entry). e.superior) (sym is)
+    let is : c.remove-superior.result ≡ entry_at c.self.inside.entries c.position_of-at.result =
+    c.remove-superior.ensures.entry in
+    let up : (entry_at c.self.inside.entries c.position_of-at.result).superior ≡ Some c.in-Some.superior =
+    ap (λ (e : Entry). e.superior) (sym is)
     ∙ c.in-Some.is in
     let fewer : List Entry = remove c.self.inside.entries c.position_of-at.result in
-    let lost : c.lose.new.self ≡ recounted c.in-Some.superior (λ n. n - 1) fewer = rw c.remove-superior.ensures.rest at c.lose.ensures in
-    let left = removed_at c.self.invariant.0 c.args.uid c.position_of-at.result c.remove-superior.result c.position_of-at.ensures.within
+    let lost : c.lose.new.self ≡ recounted c.in-Some.superior (λ n. n - 1) fewer =
+    rw c.remove-superior.ensures.rest at c.lose.ensures in
+    let left = removed_at c.self.invariant.0 c.args.uid c.position_of-at.result c.remove-superior.result
+    c.position_of-at.ensures.within
     c.remove-superior.ensures.entry c.position_of-at.ensures.uid
-    (subst (λ (t : Branches). list_any (is_inferior c.args.uid) (shapes t.nodes) ≡ false) (sym c.self.view_is) c.requires.leaf) c.remove.new.self
-    (rw c.deref.ensures.value at c.remove.ensures.sorted) c.remove.ensures.places c.remove.ensures.count c.remove.ensures.room in (
+    (subst (λ (t : Branches). list_any (is_inferior c.args.uid) (shapes t.nodes) ≡ false) (sym c.self.view_is)
+    c.requires.leaf) c.remove.new.self
+    (rw c.deref.ensures.value at c.remove.ensures.sorted) c.remove.ensures.places c.remove.ensures.count
+    c.remove.ensures.room in (
       rw (c.push_reserved.ensures.items, lost) (kept_recounted c.in-Some.superior (λ n. n - 1) left.0),
       c.self.invariant.1,
       omega (arith, c.self.invariant.2, c.push_reserved.ensures.capacity),
-      rw lost (counted_removed c.self.inside.entries c.self.invariant.3 c.position_of-at.result c.position_of-at.ensures.within c.in-Some.superior up),
+      rw lost (counted_removed c.self.inside.entries c.self.invariant.3 c.position_of-at.result
+          c.position_of-at.ensures.within c.in-Some.superior up),
     )
 
 pub returns-clause-tree : goal.returns-clause-tree
 returns-clause-tree c =
     let fewer : List Entry = remove c.self.inside.entries c.position_of-at.result in
-    let lost : c.lose.new.self ≡ recounted c.in-Some.superior (λ n. n - 1) fewer = rw c.remove-superior.ensures.rest at c.lose.ensures in
-    let left = removed_at c.self.invariant.0 c.args.uid c.position_of-at.result c.remove-superior.result c.position_of-at.ensures.within
+    let lost : c.lose.new.self ≡ recounted c.in-Some.superior (λ n. n - 1) fewer =
+    rw c.remove-superior.ensures.rest at c.lose.ensures in
+    let left = removed_at c.self.invariant.0 c.args.uid c.position_of-at.result c.remove-superior.result
+    c.position_of-at.ensures.within
     c.remove-superior.ensures.entry c.position_of-at.ensures.uid
-    (subst (λ (t : Branches). list_any (is_inferior c.args.uid) (shapes t.nodes) ≡ false) (sym c.self.view_is) c.requires.leaf) c.remove.new.self
-    (rw c.deref.ensures.value at c.remove.ensures.sorted) c.remove.ensures.places c.remove.ensures.count c.remove.ensures.room in
+    (subst (λ (t : Branches). list_any (is_inferior c.args.uid) (shapes t.nodes) ≡ false) (sym c.self.view_is)
+    c.requires.leaf) c.remove.new.self
+    (rw c.deref.ensures.value at c.remove.ensures.sorted) c.remove.ensures.places c.remove.ensures.count
+    c.remove.ensures.room in
     rw (← c.self.view_is) (ap (λ (ns : List Node). record { nodes = ns; next = c.self.inside.next })
     (rw lost (newest_recounted c.in-Some.superior (λ n. n - 1) c.self.inside.nodes.items fewer ∙ left.1)))
 
 pub remove-requires : goal.remove-requires
 remove-requires c =
-    let there = named_at c.self.invariant.0 c.position_of-at.result c.remove-superior.result c.position_of-at.ensures.within c.remove-superior.ensures.entry
+    let there = named_at c.self.invariant.0 c.position_of-at.result c.remove-superior.result
+    c.position_of-at.ensures.within c.remove-superior.ensures.entry
     c.in-Some.superior c.in-Some.is in
-    rw c.deref.ensures.value (record { there = there; sorted = c.self.invariant.0.sorted; within = places_within c.self.invariant.0 })
+    rw c.deref.ensures.value (record {
+      there = there;
+      sorted = c.self.invariant.0.sorted;
+      within =
+          places_within c.self.invariant.0;
+    })
 
 pub returns-clause-count : goal.returns-clause-count
 returns-clause-count c =
     let fewer : List Entry = remove c.self.inside.entries c.position_of-at.result in
-    let lost : c.lose.new.self ≡ recounted c.in-Some.superior (λ n. n - 1) fewer = rw c.remove-superior.ensures.rest at c.lose.ensures in
-    let less : length fewer + 1 ≡ length c.self.inside.entries = length-remove c.self.inside.entries c.position_of-at.result c.position_of-at.ensures.within in
+    let lost : c.lose.new.self ≡ recounted c.in-Some.superior (λ n. n - 1) fewer =
+    rw c.remove-superior.ensures.rest at c.lose.ensures in
+    let less : length fewer + 1 ≡ length c.self.inside.entries =
+    length-remove c.self.inside.entries c.position_of-at.result c.position_of-at.ensures.within in
     let same = length_recounted c.in-Some.superior (λ n. n - 1) fewer in
     let new = length_newest c.self.inside.nodes.items (recounted c.in-Some.superior (λ n. n - 1) fewer) in
     let old = length_newest c.self.inside.nodes.items c.self.inside.entries in

@@ -8,10 +8,12 @@ use Rattle.dir_tree.proofs.Tree.next_uid.Goals as goal
 pub returns-clause-fresh : goal.returns-clause-fresh
 returns-clause-fresh c = rw (← c.self.view_is)
     (ap is_some (node_missing c.self.invariant.0 c.self.inside.next
-    (λ i lt e. (let less : (entry_at c.self.inside.entries i).uid < c.self.inside.next = c.self.invariant.0.below i lt in omega arith))))
+    (λ i lt e. (let less : (entry_at c.self.inside.entries i).uid < c.self.inside.next =
+    c.self.invariant.0.below i lt in omega arith))))
 
 pub returns-clause-chains : goal.returns-clause-chains
-returns-clause-chains c = rw (← c.self.view_is) (has_chains (shapes (newest c.self.inside.nodes.items c.self.inside.entries)) c.self.invariant.0.tree)
+returns-clause-chains c = rw (← c.self.view_is) (has_chains
+    (shapes (newest c.self.inside.nodes.items c.self.inside.entries)) c.self.invariant.0.tree)
 
 pub returns-clause-below : goal.returns-clause-below
 returns-clause-below c = rw (← c.self.view_is)

@@ -19,12 +19,15 @@ unreachable-requires c =
 pub returns-clause-above : goal.returns-clause-above
 returns-clause-above c =
     let ns = shapes (newest c.self.inside.nodes.items c.self.inside.entries) in
-    let up : superior_in ns c.args.uid ≡ c.in-Some.entry.superior = superior_read c.self.invariant.0 c.args.uid c.in-Some.entry c.in-Some.ensures.some in
+    let up : superior_in ns c.args.uid ≡ c.in-Some.entry.superior =
+    superior_read c.self.invariant.0 c.args.uid c.in-Some.entry c.in-Some.ensures.some in
     rw (← c.self.view_is) (above_once ns c.self.invariant.0.tree c.args.uid ∙ ap (step_up (above ns)) up)
 
 pub returns-clause-falls : goal.returns-clause-falls
 returns-clause-falls c =
     let ns = shapes (newest c.self.inside.nodes.items c.self.inside.entries) in
-    let up : superior_in ns c.args.uid ≡ c.in-Some.entry.superior = superior_read c.self.invariant.0 c.args.uid c.in-Some.entry c.in-Some.ensures.some in
-    rw (← c.self.view_is) (up_in (newest c.self.inside.nodes.items c.self.inside.entries) c.args.uid c.in-Some.entry.superior
+    let up : superior_in ns c.args.uid ≡ c.in-Some.entry.superior =
+    superior_read c.self.invariant.0 c.args.uid c.in-Some.entry c.in-Some.ensures.some in
+    rw (← c.self.view_is) (up_in (newest c.self.inside.nodes.items c.self.inside.entries) c.args.uid
+    c.in-Some.entry.superior
     (subst (IsUp ns c.args.uid) up (superior_up ns c.self.invariant.0.tree c.args.uid)))

@@ -11,18 +11,23 @@ pub push-requires : goal.push-requires
 push-requires c =
     let ns = shapes c.args.self.now.nodes in
     let deep : length (above ns c.args.uid) ≤ 9 = depth ns c.in-Some.ensures.tree c.args.uid in
-    let sizes : length (c.loop-superior.up.items ++ above ns c.loop-superior.at) ≡ length c.loop-superior.up.items + length (above ns c.loop-superior.at) =
+    let sizes : length (c.loop-superior.up.items ++ above ns c.loop-superior.at)
+    ≡ length c.loop-superior.up.items + length (above ns c.loop-superior.at) =
     length-append c.loop-superior.up.items (above ns c.loop-superior.at) in
-    let whole : length (c.loop-superior.up.items ++ above ns c.loop-superior.at) ≡ length (above ns c.args.uid) = ap length c.loop-superior.invariant.so_far in
-    let rest : above ns c.loop-superior.at ≡ c.in-Some.superior ∷ above ns c.in-Some.superior = c.in-Some.ensures.above in
-    let more : length (above ns c.loop-superior.at) ≡ length (above ns c.in-Some.superior) + 1 = ap length rest ∙ omega arith in
+    let whole : length (c.loop-superior.up.items ++ above ns c.loop-superior.at) ≡ length (above ns c.args.uid) =
+    ap length c.loop-superior.invariant.so_far in
+    let rest : above ns c.loop-superior.at ≡ c.in-Some.superior ∷ above ns c.in-Some.superior =
+    c.in-Some.ensures.above in
+    let more : length (above ns c.loop-superior.at) ≡ length (above ns c.in-Some.superior) + 1 = ap length rest
+    ∙ omega arith in
     (omega arith, omega arith)
 
 pub returns-clause-above : goal.returns-clause-above
 returns-clause-above c quota =
     let ns = shapes c.args.self.now.nodes in
     let none : above ns c.loop-superior.at ≡ [] = rw c.in_default.is at c.superior.ensures.above in
-    sym (append-nil c.loop-superior.up.items) ∙ ap (λ (xs : List ℕ). c.loop-superior.up.items ++ xs) (sym none) ∙ c.loop-superior.invariant.so_far
+    sym (append-nil c.loop-superior.up.items) ∙ ap (λ (xs : List ℕ). c.loop-superior.up.items ++ xs) (sym none)
+    ∙ c.loop-superior.invariant.so_far
     ∙ sym (above_any quota c.args.self.now.nodes c.args.uid)
 
 pub returns-clause-most : goal.returns-clause-most

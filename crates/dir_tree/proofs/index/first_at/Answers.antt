@@ -12,8 +12,10 @@ loop-low-preserved-in-Less c =
     let m : ℕ = c.loop-low.low + (c.loop-low.high - c.loop-low.low) / 2 in
     let within : m < length c.args.places.now = omega arith in
     let node : c.index-nodes-places.result ≡ node_at c.args.nodes.now (get_or c.args.places.now m 0) =
-    get_or_read c.args.nodes.now (get_or c.args.places.now m 0) c.index-nodes-places.result (c.requires.within m within) c.index-nodes-places.is no_node in
-    let less : key_cmp (key_at c.args.nodes.now c.args.places.now m) key ≡ Less = ap (λ (n : Node). key_cmp (key_of n) key) (sym node) ∙ sym c.compare.ensures
+    get_or_read c.args.nodes.now (get_or c.args.places.now m 0) c.index-nodes-places.result
+    (c.requires.within m within) c.index-nodes-places.is no_node in
+    let less : key_cmp (key_at c.args.nodes.now c.args.places.now m) key ≡ Less =
+    ap (λ (n : Node). key_cmp (key_of n) key) (sym node) ∙ sym c.compare.ensures
     ∙ c.in-Less.is in
     record {
       within = c.loop-low.invariant.within;
@@ -28,8 +30,10 @@ loop-low-preserved c =
     let m : ℕ = c.loop-low.low + (c.loop-low.high - c.loop-low.low) / 2 in
     let within : m < length c.args.places.now = omega arith in
     let node : c.index-nodes-places.result ≡ node_at c.args.nodes.now (get_or c.args.places.now m 0) =
-    get_or_read c.args.nodes.now (get_or c.args.places.now m 0) c.index-nodes-places.result (c.requires.within m within) c.index-nodes-places.is no_node in
-    let here : key_cmp (key_at c.args.nodes.now c.args.places.now m) key ≡ c.compare.result = ap (λ (n : Node). key_cmp (key_of n) key) (sym node)
+    get_or_read c.args.nodes.now (get_or c.args.places.now m 0) c.index-nodes-places.result
+    (c.requires.within m within) c.index-nodes-places.is no_node in
+    let here : key_cmp (key_at c.args.nodes.now c.args.places.now m) key ≡ c.compare.result =
+    ap (λ (n : Node). key_cmp (key_of n) key) (sym node)
     ∙ sym c.compare.ensures in
     let isnt : key_cmp (key_at c.args.nodes.now c.args.places.now m) key ≢ Less =
     λ less. elim c.in-Equal.is [

@@ -7,14 +7,16 @@ use Rattle.dir_tree.proofs.index.place_at.Goals as goal
 pub returns : goal.returns
 returns c =
     let within : c.args.place < length c.args.nodes.now =
-    subst (λ p. p < length c.args.nodes.now) c.requires.there.is (c.requires.within c.requires.there.at c.requires.there.within) in
+    subst (λ p. p < length c.args.nodes.now) c.requires.there.is
+    (c.requires.within c.requires.there.at c.requires.there.within) in
     let node : c.index-nodes-place.result ≡ node_at c.args.nodes.now c.args.place =
     get_or_read c.args.nodes.now c.args.place c.index-nodes-place.result within c.index-nodes-place.is no_node in
     let key : key_at c.args.nodes.now c.args.places.now c.requires.there.at ≡ key_of c.index-nodes-place.result =
     ap (λ p. key_of (node_at c.args.nodes.now p)) c.requires.there.is ∙ ap key_of (sym node) in
     let same : c.requires.there.at ≡ c.first_at.result =
     first_is c.args.nodes.now c.args.places.now c.first_at.result
-    (key_of c.index-nodes-place.result) c.requires.sorted c.first_at.ensures.below c.first_at.ensures.from c.requires.there.at c.requires.there.within
+    (key_of c.index-nodes-place.result) c.requires.sorted c.first_at.ensures.below c.first_at.ensures.from
+    c.requires.there.at c.requires.there.within
     key in
     record {
       within = subst (λ k. k < length c.args.places.now) same c.requires.there.within;

@@ -7,14 +7,16 @@ use Rattle.drill.proofs.Closing.{AtClose, front, total}
 use Rattle.drill.proofs.finish.finish.Goals as goal
 
 pub close-ended-requires-clause-all : goal.close-ended-requires-clause-all
-close-ended-requires-clause-all c = done_all c.args.pages c.args.size.seed c.args.size.adds c.args.row.items c.requires.row.0 (c.requires.row.1
+close-ended-requires-clause-all c = done_all c.args.pages c.args.size.seed c.args.size.adds c.args.row.items
+    c.requires.row.0 (c.requires.row.1
     ∙ c.requires.size.0)
 
 pub returns-clause-front : goal.returns-clause-front
 returns-clause-front c cpu below =
     let size = c.args.size in
     let ended = c.close-ended.result in
-    let end : AtClose c.args.pages size.seed size.adds c.args.row.items c.args.kept.keeper ended.shown ended.pages.items = record {
+    let end : AtClose c.args.pages size.seed size.adds c.args.row.items c.args.kept.keeper ended.shown
+    ended.pages.items = record {
       taken = c.close-ended.ensures.shown;
       kept = c.requires.kept.keeper;
       zeros = c.requires.kept.zeros;
@@ -34,7 +36,8 @@ pub returns-clause-total : goal.returns-clause-total
 returns-clause-total c =
     let size = c.args.size in
     let ended = c.close-ended.result in
-    let end : AtClose c.args.pages size.seed size.adds c.args.row.items c.args.kept.keeper ended.shown ended.pages.items = record {
+    let end : AtClose c.args.pages size.seed size.adds c.args.row.items c.args.kept.keeper ended.shown
+    ended.pages.items = record {
       taken = c.close-ended.ensures.shown;
       kept = c.requires.kept.keeper;
       zeros = c.requires.kept.zeros;
@@ -48,8 +51,10 @@ returns-clause-total c =
     } in
     let s : ℕ = c.args.kept.sum in
     let u : ℕ = c.args.unmade in
-    let at : c.with_pages-total.result ≡ ((s + u) % 2 ^ 36 + first_words (length ended.pages.items) ended.pages.items) % 2 ^ 36 =
-    c.with_pages-total.ensures ∙ ap (λ x. (x + first_words (length c.deref.result.now) c.deref.result.now) % 2 ^ 36) c.plus.ensures
+    let at : c.with_pages-total.result ≡ ((s + u) % 2 ^ 36 + first_words (length ended.pages.items) ended.pages.items)
+    % 2 ^ 36 =
+    c.with_pages-total.ensures ∙ ap (λ x. (x + first_words (length c.deref.result.now) c.deref.result.now) % 2 ^ 36)
+    c.plus.ensures
     ∙ ap (λ l. ((s + u) % 2 ^ 36 + first_words (length l) l) % 2 ^ 36) c.deref.ensures.value in
     total _ _ _ _ _ _ _ end s u c.with_pages-total.result c.requires.kept.sum c.requires.unmade at
     ∙ ap (λ f. sum (sums_of f size.adds size.seed c.args.pages.cpus)) (sym c.requires.size.1)

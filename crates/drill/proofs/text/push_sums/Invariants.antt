@@ -3,4 +3,5 @@ use Rattle.drill.specs.Texts.{sum_lines}
 use Rattle.drill.proofs.text.push_sums.Given as goal
 
 abbrev pub invariant-loop-cpu : goal.invariant-loop-cpu
-invariant-loop-cpu l = string_bytes l.out ++ sum_lines l.adds l.cpu (drop l.cpu l.sums) ≡ string_bytes l.fn.out ++ sum_lines l.adds 0 l.sums
+invariant-loop-cpu l = string_bytes l.out ++ sum_lines l.adds l.cpu (drop l.cpu l.sums) ≡ string_bytes l.fn.out
+    ++ sum_lines l.adds 0 l.sums

@@ -12,4 +12,5 @@ invariant_of-self c = (
 
 pub returns-clause-once : goal.returns-clause-once
 returns-clause-once c =
-    once_forgotten c.self.inside.places.items c.args.n c.self.invariant.1 (within_since_some _ _ (rw c.self.view_is c.requires.known))
+    once_forgotten c.self.inside.places.items c.args.n c.self.invariant.1
+    (within_since_some _ _ (rw c.self.view_is c.requires.known))

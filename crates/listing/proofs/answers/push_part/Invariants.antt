@@ -4,4 +4,5 @@ use Rattle.listing.proofs.answers.push_part.Given as goal
 
 -- the lines of the entries so far are written
 abbrev pub invariant-loop-entry : goal.invariant-loop-entry
-invariant-loop-entry l = HasLines (string_bytes l.fn.out) l.book.script l.k (take l.entry-index l.book.entries) (string_bytes l.out)
+invariant-loop-entry l = HasLines (string_bytes l.fn.out) l.book.script l.k (take l.entry-index l.book.entries)
+    (string_bytes l.out)

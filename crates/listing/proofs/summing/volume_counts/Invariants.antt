@@ -9,5 +9,6 @@ use Rattle.listing.proofs.summing.volume_counts.Given as goal
 abbrev pub invariant-loop-volume : goal.invariant-loop-volume
 invariant-loop-volume l = record {
   counted : l.v ≡ l.volume-index;
-  volumes : (p : Plan) (s : Store) → Shows p l.store s → l.counts.items ≡ volumes_of s 0 (take l.volume-index l.volumes);
+  volumes : (p : Plan) (s : Store) → Shows p l.store s → l.counts.items
+      ≡ volumes_of s 0 (take l.volume-index l.volumes);
 }

@@ -5,4 +5,5 @@ use Rattle.flat_model.proofs.BookLaws.{legal_nil}
 use Rattle.listing.proofs.tests.an_empty_book_has_its_summary.Goals as goal
 
 pub listing_text-requires : goal.listing_text-requires
-listing_text-requires g c = subst (λ (es : List Entry). IsLegal c.in_ok-book.book.script es) (sym c.in_ok-book.ensures.empty) (legal_nil c.in_ok-book.book.script)
+listing_text-requires g c = subst (λ (es : List Entry). IsLegal c.in_ok-book.book.script es)
+    (sym c.in_ok-book.ensures.empty) (legal_nil c.in_ok-book.book.script)

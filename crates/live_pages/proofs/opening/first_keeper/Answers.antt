@@ -3,5 +3,6 @@ use Rattle.live_pages.proofs.Calls.{opens_at}
 use Rattle.live_pages.proofs.opening.first_keeper.Goals as goal
 
 pub new-requires : goal.new-requires
-new-requires c = opens_at record { frames = c.args.frames; cpus = c.args.cpus } c.as_slice.result.now c.in_ok-slots.slots.items (search rules) (search rules)
+new-requires c = opens_at record { frames = c.args.frames; cpus = c.args.cpus } c.as_slice.result.now
+    c.in_ok-slots.slots.items (search rules) (search rules)
     (search rules)

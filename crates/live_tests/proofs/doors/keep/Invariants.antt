@@ -3,4 +3,5 @@ use Rattle.live_doors.specs.Doors.{IsKeeperOf, IsAdmitted}
 use Rattle.live_tests.proofs.doors.keep.Given as goal
 
 abbrev pub invariant-loop-f : goal.invariant-loop-f
-invariant-loop-f l = IsKeeperOf l.doors l.keeper × (l.keeper.watch.request ≡ l.f) × ((g : ℕ) → l.f ≤ g → g < 1000 → IsAdmitted l.keeper.watch g)
+invariant-loop-f l = IsKeeperOf l.doors l.keeper × (l.keeper.watch.request ≡ l.f)
+    × ((g : ℕ) → l.f ≤ g → g < 1000 → IsAdmitted l.keeper.watch g)

@@ -4,12 +4,18 @@ use Rattle.live_pages.specs.Turns.{first_walker}
 use Rattle.live_pages.specs.Models.{PagesModel, PassModel, IsPassOf, first_passes}
 use Rattle.live_tests.proofs.pages.first_two.Goals as goal
 
-first_is : (pages : PagesModel) (items : List PassModel) → items ≡ first_passes pages 2 → All (IsPassOf pages) items → (x : PassModel) (k cpu : ℕ) → k < 2
-    → get_or (first_passes pages 2) k x ≡ record { table = pages.table; walker = first_walker pages.frames pages.cpus cpu } → x ≡ get_or items k x
+first_is : (pages : PagesModel) (items : List PassModel) → items ≡ first_passes pages 2 → All (IsPassOf pages) items
+    → (x : PassModel) (k cpu : ℕ) → k < 2
+    → get_or (first_passes pages 2) k x ≡ record {
+      table = pages.table;
+      walker =
+          first_walker pages.frames pages.cpus cpu;
+    } → x ≡ get_or items k x
     → IsPassOf pages x × (x.walker.made ≡ []) × (x.walker.walk.cpu ≡ cpu)
 first_is pages items is all x k cpu inside new at =
     let count : length items ≡ 2 = ap (λ (l : List PassModel). length l) is in
-    let e : x ≡ record { table = pages.table; walker = first_walker pages.frames pages.cpus cpu } = at ∙ ap (λ l. get_or l k x) is ∙ new in
+    let e : x ≡ record { table = pages.table; walker = first_walker pages.frames pages.cpus cpu } = at
+    ∙ ap (λ l. get_or l k x) is ∙ new in
     (subst (IsPassOf pages) (sym at) (all k x (omega arith)), ap (λ p. p.walker.made) e, ap (λ p. p.walker.walk.cpu) e)
 
 pub returns-clause-zero : goal.returns-clause-zero

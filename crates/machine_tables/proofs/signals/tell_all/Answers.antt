@@ -7,7 +7,8 @@ loop-at-init c = none_told _ _ _
 
 pub loop-at-preserved : goal.loop-at-preserved
 loop-at-preserved c =
-    next_told _ _ c.loop-at.at c.args.processors.now c.loop-at.processors c.index-processors-at.result _ c.loop-at-test.true c.loop-at.invariant
+    next_told _ _ c.loop-at.at c.args.processors.now c.loop-at.processors c.index-processors-at.result _
+    c.loop-at-test.true c.loop-at.invariant
     c.tell_one.ensures
 
 pub returns : goal.returns

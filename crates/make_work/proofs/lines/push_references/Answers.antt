@@ -6,6 +6,7 @@ loop-made-init c = record { text = lines_none _ _; state = state_none _ }
 
 pub loop-made-preserved : goal.loop-made-preserved
 loop-made-preserved c = record {
-  text = line_written _ _ _ _ _ _ _ _ c.loop-made.invariant.text c.loop-made.invariant.state c.draw_reference-reference.ensures.reference c.in_ok-push_command.ensures c.in_ok-push_str.ensures.bytes;
+  text = line_written _ _ _ _ _ _ _ _ c.loop-made.invariant.text c.loop-made.invariant.state
+      c.draw_reference-reference.ensures.reference c.in_ok-push_command.ensures c.in_ok-push_str.ensures.bytes;
   state = state_more _ _ _ _ c.loop-made.invariant.state c.draw_reference-reference.ensures.state;
 }

@@ -11,5 +11,6 @@ loop-block-preserved c =
 
 pub returns : goal.returns
 returns c =
-    let all : AreZero c.args.words.now = zero_blocks_all c.loop-block.block c.args.words.now (omega arith) (omega arith) c.loop-block.invariant in
+    let all : AreZero c.args.words.now = zero_blocks_all c.loop-block.block c.args.words.now (omega arith)
+    (omega arith) c.loop-block.invariant in
     (λ _. all, λ _. refl)

@@ -8,4 +8,5 @@ returns-clause-digits c = octal_digits_end _ _ _ _ (omega arith) c.loop-place.in
 
 pub returns-clause-text : goal.returns-clause-text
 returns-clause-text c =
-    subst IsUtf8 (sym (octal_digits_end _ _ _ _ (omega arith) c.loop-place.invariant.written)) (octal_digits_text 12 c.args.word)
+    subst IsUtf8 (sym (octal_digits_end _ _ _ _ (omega arith) c.loop-place.invariant.written))
+    (octal_digits_text 12 c.args.word)

@@ -1,9 +1,11 @@
 use Rattle.std.proofs.Common.{◌<◌, ◌+◌, ◌*◌, ◌∙◌, ◌^◌, ℕ, refl, sym, ap, arith}
 use Rattle.std.proofs.lemmas.Grind.{common_steps}
 use Rattle.mword.specs.Octal.{octal_number}
-use Rattle.mword.proofs.OctalLaws.{octal_value_stops, octal_more, octal_number_more, octal_bound_more, octal_below, octal_value_read, octal_value_made, octal_exactly}
+use Rattle.mword.proofs.OctalLaws.{octal_value_stops, octal_more, octal_number_more, octal_bound_more, octal_below}
+use Rattle.mword.proofs.OctalLaws.{octal_value_read, octal_value_made, octal_exactly}
 use Rattle.mword.proofs.text.read_octal.Goals as goal
-use Rattle.mword.proofs.text.read_octal.Goals.{in_default-via-then-byte-lt48, in_default-via-else-byte-lt48+else-byte-lt56}
+use Rattle.mword.proofs.text.read_octal.Goals.{in_default-via-then-byte-lt48}
+use Rattle.mword.proofs.text.read_octal.Goals.{in_default-via-else-byte-lt48+else-byte-lt56}
 
 pub loop-byte-init : goal.loop-byte-init
 unfolding octal_number
@@ -11,33 +13,43 @@ loop-byte-init c = record { digits = refl; number = refl; bound = omega arith }
 
 pub overflow_mul-value : goal.overflow_mul-value
 overflow_mul-value c =
-    let small : c.loop-byte.value < 2 ^ 36 = octal_below c.loop-byte.byte-index c.loop-byte.value (omega arith) c.loop-byte.invariant.bound in
+    let small : c.loop-byte.value < 2 ^ 36 = octal_below c.loop-byte.byte-index c.loop-byte.value (omega arith)
+    c.loop-byte.invariant.bound in
     omega arith
 
 pub overflow_add-value : goal.overflow_add-value
 overflow_add-value c =
-    let small : c.loop-byte.value < 2 ^ 36 = octal_below c.loop-byte.byte-index c.loop-byte.value (omega arith) c.loop-byte.invariant.bound in
+    let small : c.loop-byte.value < 2 ^ 36 = octal_below c.loop-byte.byte-index c.loop-byte.value (omega arith)
+    c.loop-byte.invariant.bound in
     omega (arith, c.type_inv.text c.loop-byte.byte-index)
 
 pub loop-byte-preserved : goal.loop-byte-preserved
 loop-byte-preserved c = record {
-  digits = octal_more c.args.text.now c.loop-byte.byte-index (omega arith) (omega arith) (omega arith) c.loop-byte.invariant.digits;
-  number = ap (λ (d : ℕ). 8 * c.loop-byte.value + d) c.from.ensures ∙ octal_number_more c.args.text.now c.loop-byte.byte-index c.loop-byte.value (omega arith) c.loop-byte.invariant.number;
-  bound = octal_bound_more c.loop-byte.byte-index c.loop-byte.value c.from.result c.loop-byte.invariant.bound (omega arith);
+  digits = octal_more c.args.text.now c.loop-byte.byte-index (omega arith) (omega arith) (omega arith)
+      c.loop-byte.invariant.digits;
+  number = ap (λ (d : ℕ). 8 * c.loop-byte.value + d) c.from.ensures
+      ∙ octal_number_more c.args.text.now c.loop-byte.byte-index c.loop-byte.value (omega arith)
+      c.loop-byte.invariant.number;
+  bound = octal_bound_more c.loop-byte.byte-index c.loop-byte.value c.from.result c.loop-byte.invariant.bound
+      (omega arith);
 }
 
 pub returns-in_default-clause-value : goal.returns-in_default-clause-value
 returns-in_default-clause-value c =
     elim c.in_default.branch [
-      | in_default-via-then-byte-lt48 w ↦ sym (octal_value_stops c.args.text.now c.loop-byte.byte-index (omega arith) (λ l. omega arith))
-      | in_default-via-else-byte-lt48+else-byte-lt56 w ↦ sym (octal_value_stops c.args.text.now c.loop-byte.byte-index (omega arith) (λ l. omega arith))
+      | in_default-via-then-byte-lt48 w ↦ sym (octal_value_stops c.args.text.now c.loop-byte.byte-index (omega arith)
+          (λ l. omega arith))
+      | in_default-via-else-byte-lt48+else-byte-lt56 w ↦ sym
+          (octal_value_stops c.args.text.now c.loop-byte.byte-index (omega arith) (λ l. omega arith))
     ]
 
 pub returns-clause-value : goal.returns-clause-value
 returns-clause-value c =
-    let small : c.loop-byte.value < 2 ^ 36 = octal_below c.loop-byte.byte-index c.loop-byte.value (omega arith) c.loop-byte.invariant.bound in
+    let small : c.loop-byte.value < 2 ^ 36 = octal_below c.loop-byte.byte-index c.loop-byte.value (omega arith)
+    c.loop-byte.invariant.bound in
     octal_value_made c.args.text.now c.loop-byte.value c.new.result
-    (octal_value_read c.args.text.now c.loop-byte.byte-index c.loop-byte.value (grind (arith, common_steps)) (omega arith) (omega arith) c.loop-byte.invariant.digits c.loop-byte.invariant.number)
+    (octal_value_read c.args.text.now c.loop-byte.byte-index c.loop-byte.value (grind (arith, common_steps))
+    (omega arith) (omega arith) c.loop-byte.invariant.digits c.loop-byte.invariant.number)
     (c.new.ensures.fits.1 small) c.new.ensures.value
 
 pub returns-clause-octal : goal.returns-clause-octal

@@ -14,4 +14,5 @@ pub invariant_of-self-else-dir : goal.invariant_of-self-else-dir
 invariant_of-self-else-dir c =
     let absent = subst (λ (m : CellMaps). has_cell m c.args.uid ≡ false) (sym c.self.view_is) c.requires.absent in
     subst (λ (m : CellMaps). IsTable (both_maps c.self.inside.directories m)) (sym c.enter-else-dir.ensures)
-    (table_entered (both_maps c.self.inside.directories c.self.inside.segments) c.self.invariant c.args.uid absent false)
+    (table_entered (both_maps c.self.inside.directories c.self.inside.segments) c.self.invariant c.args.uid absent
+    false)

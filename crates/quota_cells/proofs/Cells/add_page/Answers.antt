@@ -5,7 +5,8 @@ use Rattle.quota_cells.specs.Columns.{both_maps}
 use Rattle.quota_cells.proofs.Cells.add_page.Goals as goal
 
 pub lift-requires-clause-room : goal.lift-requires-clause-room
-lift-requires-clause-room c = subst (λ (m : CellMaps). (e : ℕ) → covers (quota_in m) c.args.up.now e ≡ true → load_in m e + 1 < 2 ^ 32)
+lift-requires-clause-room c = subst (λ (m : CellMaps). (e : ℕ) → covers (quota_in m) c.args.up.now e ≡ true
+    → load_in m e + 1 < 2 ^ 32)
     (sym c.self.view_is) c.requires.room
 
 pub invariant_of-self : goal.invariant_of-self
@@ -18,4 +19,5 @@ invariant_of-self c =
 pub returns : goal.returns
 returns c =
     let s : CellMaps = both_maps c.self.inside.directories c.self.inside.segments in
-    rw (c.lift.ensures, c.set.ensures, c.stored-pages.ensures) (ap (λ (m : CellMaps). charged m c.args.up.now c.args.seg) c.self.view_is)
+    rw (c.lift.ensures, c.set.ensures, c.stored-pages.ensures)
+    (ap (λ (m : CellMaps). charged m c.args.up.now c.args.seg) c.self.view_is)

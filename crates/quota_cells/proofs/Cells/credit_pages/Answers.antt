@@ -10,23 +10,30 @@ use Rattle.quota_cells.specs.Laws.{on_segments}
 pub take_pages-requires : goal.take_pages-requires
 take_pages-requires c =
     let table : IsTable c.args.self.now = subst IsTable c.self.view_is c.self.invariant in
-    let up : c.as_slice.result.now ≡ above (shapes c.args.t.now.nodes) c.args.seg = c.as_slice.ensures.value ∙ c.superiors-up.ensures.plain in
+    let up : c.as_slice.result.now ≡ above (shapes c.args.t.now.nodes) c.args.seg = c.as_slice.ensures.value
+    ∙ c.superiors-up.ensures.plain in
     record {
       segment = (on_segments c.args.t.now.nodes c.requires.fits c.args.seg ∙ c.requires.segment);
-      there = rw up (there c.args.t.now.nodes c.args.self.now table c.requires.fits c.superiors-up.ensures.chains c.args.seg);
-      falls = rw up (falls c.args.t.now.nodes c.args.self.now table c.requires.fits c.superiors-up.ensures.chains c.args.seg);
-      loads = rw up (room_credited c.args.t.now.nodes c.args.self.now table c.requires.fits c.superiors-up.ensures.chains c.args.seg c.args.pages
+      there = rw up (there c.args.t.now.nodes c.args.self.now table c.requires.fits c.superiors-up.ensures.chains
+          c.args.seg);
+      falls = rw up (falls c.args.t.now.nodes c.args.self.now table c.requires.fits c.superiors-up.ensures.chains
+          c.args.seg);
+      loads = rw up (room_credited c.args.t.now.nodes c.args.self.now table c.requires.fits
+          c.superiors-up.ensures.chains c.args.seg c.args.pages
           c.requires.segment c.requires.stored);
       stored = c.requires.stored;
-      table = rw up (table_credited c.args.t.now.nodes c.args.self.now table c.requires.fits c.superiors-up.ensures.chains c.args.seg c.args.pages
+      table = rw up (table_credited c.args.t.now.nodes c.args.self.now table c.requires.fits
+          c.superiors-up.ensures.chains c.args.seg c.args.pages
           c.requires.segment);
     }
 
 pub returns-clause-stored : goal.returns-clause-stored
 returns-clause-stored c s =
     let table : IsTable c.args.self.now = subst IsTable c.self.view_is c.self.invariant in
-    let up : c.as_slice.result.now ≡ above (shapes c.args.t.now.nodes) c.args.seg = c.as_slice.ensures.value ∙ c.superiors-up.ensures.plain in
-    let new : c.take_pages.new.self ≡ credited c.args.self.now (above (shapes c.args.t.now.nodes) c.args.seg) c.args.seg c.args.pages = c.take_pages.ensures
+    let up : c.as_slice.result.now ≡ above (shapes c.args.t.now.nodes) c.args.seg = c.as_slice.ensures.value
+    ∙ c.superiors-up.ensures.plain in
+    let new : c.take_pages.new.self ≡ credited c.args.self.now (above (shapes c.args.t.now.nodes) c.args.seg)
+    c.args.seg c.args.pages = c.take_pages.ensures
     ∙ ap (λ (xs : List ℕ). credited c.args.self.now xs c.args.seg c.args.pages) up in
     ap (λ x. stored_in x s) new ∙ look_with c.args.self.now.segments c.args.self.now.stored c.args.seg
     (stored_in c.args.self.now c.args.seg - c.args.pages) s table.stored_count
@@ -38,9 +45,12 @@ returns-clause-quotas c = ap quota_in c.take_pages.ensures
 pub returns-clause-fits : goal.returns-clause-fits
 returns-clause-fits c =
     let table : IsTable c.args.self.now = subst IsTable c.self.view_is c.self.invariant in
-    let up : c.as_slice.result.now ≡ above (shapes c.args.t.now.nodes) c.args.seg = c.as_slice.ensures.value ∙ c.superiors-up.ensures.plain in
-    let new : c.take_pages.new.self ≡ credited c.args.self.now (above (shapes c.args.t.now.nodes) c.args.seg) c.args.seg c.args.pages = c.take_pages.ensures
+    let up : c.as_slice.result.now ≡ above (shapes c.args.t.now.nodes) c.args.seg = c.as_slice.ensures.value
+    ∙ c.superiors-up.ensures.plain in
+    let new : c.take_pages.new.self ≡ credited c.args.self.now (above (shapes c.args.t.now.nodes) c.args.seg)
+    c.args.seg c.args.pages = c.take_pages.ensures
     ∙ ap (λ (xs : List ℕ). credited c.args.self.now xs c.args.seg c.args.pages) up in
     subst (Fits c.args.t.now.nodes) (sym new)
-    (fits_credited c.args.t.now.nodes c.args.self.now table c.requires.fits c.superiors-up.ensures.chains c.args.seg c.args.pages c.requires.segment
+    (fits_credited c.args.t.now.nodes c.args.self.now table c.requires.fits c.superiors-up.ensures.chains c.args.seg
+    c.args.pages c.requires.segment
     c.requires.stored)

@@ -11,7 +11,8 @@ invariant_of-self c =
     let quota = subst (λ (m : CellMaps). quota_in m c.args.uid ≡ 0) (sym c.self.view_is) c.requires.quota in
     let stored = subst (λ (m : CellMaps). stored_in m c.args.uid ≡ 0) (sym c.self.view_is) c.requires.stored in
     let dir : has c.self.inside.directories.directories c.args.uid ≡ true = sym c.has.ensures ∙ c.if-has.true in
-    let table = rw dir at (table_left (both_maps c.self.inside.directories c.self.inside.segments) c.self.invariant c.args.uid there quota stored) in
+    let table = rw dir at (table_left (both_maps c.self.inside.directories c.self.inside.segments) c.self.invariant
+    c.args.uid there quota stored) in
     subst (λ (m : CellMaps). IsTable (both_maps m c.self.inside.segments)) (sym c.leave.ensures) table
 
 pub invariant_of-self-else-has : goal.invariant_of-self-else-has
@@ -20,5 +21,6 @@ invariant_of-self-else-has c =
     let quota = subst (λ (m : CellMaps). quota_in m c.args.uid ≡ 0) (sym c.self.view_is) c.requires.quota in
     let stored = subst (λ (m : CellMaps). stored_in m c.args.uid ≡ 0) (sym c.self.view_is) c.requires.stored in
     let off : has c.self.inside.directories.directories c.args.uid ≡ false = sym c.has.ensures ∙ c.if-has.false in
-    let table = rw off at (table_left (both_maps c.self.inside.directories c.self.inside.segments) c.self.invariant c.args.uid there quota stored) in
+    let table = rw off at (table_left (both_maps c.self.inside.directories c.self.inside.segments) c.self.invariant
+    c.args.uid there quota stored) in
     subst (λ (m : CellMaps). IsTable (both_maps c.self.inside.directories m)) (sym c.leave-else-has.ensures) table

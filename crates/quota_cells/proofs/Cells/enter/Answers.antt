@@ -7,14 +7,17 @@ use Rattle.quota_cells.specs.Cells.{CellMaps, Enters, Fits}
 use Rattle.quota_cells.proofs.EnterLaws.{enters_entered, fits_entered}
 use Rattle.quota_cells.proofs.Cells.enter.Goals as goal
 
-fitted : (nodes : List Node) (n : Node) (old new : CellMaps) (uid : ℕ) (dir : Bool) → n.uid ≡ uid → n.dir ≡ dir → is_in nodes uid ≡ false
+fitted : (nodes : List Node) (n : Node) (old new : CellMaps) (uid : ℕ) (dir : Bool) → n.uid ≡ uid → n.dir ≡ dir
+    → is_in nodes uid ≡ false
     → HasChains (shapes nodes) → Fits nodes old → Enters old new uid dir → Fits (n ∷ nodes) new
 fitted nodes n old new uid dir is_uid is_dir absent chains fits enters =
-    let enters' : Enters old new n.uid n.dir = subst (λ u. Enters old new u n.dir) (sym is_uid) (subst (λ b. Enters old new uid b) (sym is_dir) enters) in
+    let enters' : Enters old new n.uid n.dir = subst (λ u. Enters old new u n.dir) (sym is_uid)
+    (subst (λ b. Enters old new uid b) (sym is_dir) enters) in
     fits_entered nodes n old new fits chains (subst (λ u. is_in nodes u ≡ false) (sym is_uid) absent) enters'
 
 pub returns-clause-enters : goal.returns-clause-enters
-returns-clause-enters c = subst (λ (d : CellMaps). Enters c.args.self.now d c.args.uid c.args.dir) (sym c.add_cell.ensures.cells)
+returns-clause-enters c = subst (λ (d : CellMaps). Enters c.args.self.now d c.args.uid c.args.dir)
+    (sym c.add_cell.ensures.cells)
     (enters_entered c.args.self.now c.add_cell.ensures.table c.args.uid c.requires.absent c.args.dir)
 
 pub returns-clause-fits : goal.returns-clause-fits

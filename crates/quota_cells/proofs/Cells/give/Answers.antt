@@ -5,7 +5,8 @@ use Rattle.quota_cells.proofs.Cells.give.Goals as goal
 
 pub give-requires : goal.give-requires
 give-requires c =
-    let can = subst (λ (m : CellMaps). CanGive m c.args.getter.directory c.args.getter.above.now c.args.giver.directory c.args.giver.above.now c.args.pages)
+    let can = subst (λ (m : CellMaps). CanGive m c.args.getter.directory c.args.getter.above.now c.args.giver.directory
+    c.args.giver.above.now c.args.pages)
     (sym c.self.view_is) c.requires.can in
     record {
       getter_placed = can.getter_placed;
@@ -21,10 +22,12 @@ give-requires c =
 pub invariant_of-self : goal.invariant_of-self
 invariant_of-self c =
     subst (λ (m : CellMaps). IsTable (both_maps m c.self.inside.segments)) (sym c.give.ensures)
-    (subst (λ (m : CellMaps). IsTable (given m c.args.getter.directory c.args.getter.above.now c.args.giver.directory c.args.giver.above.now c.args.pages))
+    (subst (λ (m : CellMaps). IsTable (given m c.args.getter.directory c.args.getter.above.now c.args.giver.directory
+    c.args.giver.above.now c.args.pages))
     (sym c.self.view_is) c.requires.table)
 
 pub returns : goal.returns
 returns c =
     ap (λ (m : CellMaps). both_maps m c.self.inside.segments) c.give.ensures
-    ∙ ap (λ (m : CellMaps). given m c.args.getter.directory c.args.getter.above.now c.args.giver.directory c.args.giver.above.now c.args.pages) c.self.view_is
+    ∙ ap (λ (m : CellMaps). given m c.args.getter.directory c.args.getter.above.now c.args.giver.directory
+    c.args.giver.above.now c.args.pages) c.self.view_is

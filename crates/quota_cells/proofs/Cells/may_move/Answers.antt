@@ -11,7 +11,10 @@ use Rattle.quota_cells.proofs.Cells.may_move.Goals as goal
 pub returns : goal.returns
 returns c stored holds =
     let back = to_z-of_z w32 c.args.amount c.ranges.amount in
-    let is : c.move_refusal.result ≡ move_answer c.args.self.now (above (shapes c.args.t.now.nodes)) c.args.dir (is_positive c.args.amount)
+    let is : c.move_refusal.result ≡ move_answer c.args.self.now (above (shapes c.args.t.now.nodes)) c.args.dir
+    (is_positive c.args.amount)
     (unsigned_abs c.args.amount) = rw back at c.move_refusal.ensures.answer in
-    is ∙ answer_same c.args.t.now.nodes c.args.self.now c.move_refusal.ensures.table c.requires.fits c.superior_of-superior.ensures.lies.chains c.args.dir
-    (unsigned_abs c.args.amount) c.requires.directory c.requires.branch c.requires.amount stored holds (is_positive c.args.amount)
+    is ∙ answer_same c.args.t.now.nodes c.args.self.now c.move_refusal.ensures.table c.requires.fits
+    c.superior_of-superior.ensures.lies.chains c.args.dir
+    (unsigned_abs c.args.amount) c.requires.directory c.requires.branch c.requires.amount stored holds
+    (is_positive c.args.amount)

@@ -12,14 +12,17 @@ use Rattle.quota_cells.proofs.Cells.move_between.Goals as goal
 pub transfer-requires-clause-none : goal.transfer-requires-clause-none
 transfer-requires-clause-none c =
     let back = to_z-of_z w32 c.args.amount c.ranges.amount in
-    rw c.requires.lies.is at (may_go c.args.self.now (above (shapes c.args.t.now.nodes)) c.args.dir (unsigned_abs c.args.amount) (is_positive c.args.amount)
+    rw c.requires.lies.is at (may_go c.args.self.now (above (shapes c.args.t.now.nodes)) c.args.dir
+    (unsigned_abs c.args.amount) (is_positive c.args.amount)
     (rw back at c.move_refusal.ensures.answer) c.in_ok-move_refusal.was true
-    (sym (rw back at c.is_positive.ensures) ∙ c.if-is_positive.true) c.unsigned_abs.result (rw back at c.unsigned_abs.ensures.value)).1
+    (sym (rw back at c.is_positive.ensures) ∙ c.if-is_positive.true) c.unsigned_abs.result
+    (rw back at c.unsigned_abs.ensures.value)).1
 
 pub transfer-requires-else-is_positive-clause-none : goal.transfer-requires-else-is_positive-clause-none
 transfer-requires-else-is_positive-clause-none c =
     let back = to_z-of_z w32 c.args.amount c.ranges.amount in
-    rw c.requires.lies.is at (may_go c.args.self.now (above (shapes c.args.t.now.nodes)) c.args.dir (unsigned_abs c.args.amount) (is_positive c.args.amount)
+    rw c.requires.lies.is at (may_go c.args.self.now (above (shapes c.args.t.now.nodes)) c.args.dir
+    (unsigned_abs c.args.amount) (is_positive c.args.amount)
     (rw back at c.move_refusal.ensures.answer) c.in_ok-move_refusal.was false
     (sym (rw back at c.is_positive.ensures) ∙ c.if-is_positive.false) c.unsigned_abs-else-is_positive.result
     (rw back at c.unsigned_abs-else-is_positive.ensures.value)).1
@@ -27,14 +30,17 @@ transfer-requires-else-is_positive-clause-none c =
 pub transfer-requires-clause-enough : goal.transfer-requires-clause-enough
 transfer-requires-clause-enough c =
     let back = to_z-of_z w32 c.args.amount c.ranges.amount in
-    rw c.requires.lies.is at (may_go c.args.self.now (above (shapes c.args.t.now.nodes)) c.args.dir (unsigned_abs c.args.amount) (is_positive c.args.amount)
+    rw c.requires.lies.is at (may_go c.args.self.now (above (shapes c.args.t.now.nodes)) c.args.dir
+    (unsigned_abs c.args.amount) (is_positive c.args.amount)
     (rw back at c.move_refusal.ensures.answer) c.in_ok-move_refusal.was true
-    (sym (rw back at c.is_positive.ensures) ∙ c.if-is_positive.true) c.unsigned_abs.result (rw back at c.unsigned_abs.ensures.value)).0
+    (sym (rw back at c.is_positive.ensures) ∙ c.if-is_positive.true) c.unsigned_abs.result
+    (rw back at c.unsigned_abs.ensures.value)).0
 
 pub transfer-requires-else-is_positive-clause-enough : goal.transfer-requires-else-is_positive-clause-enough
 transfer-requires-else-is_positive-clause-enough c =
     let back = to_z-of_z w32 c.args.amount c.ranges.amount in
-    (may_go c.args.self.now (above (shapes c.args.t.now.nodes)) c.args.dir (unsigned_abs c.args.amount) (is_positive c.args.amount)
+    (may_go c.args.self.now (above (shapes c.args.t.now.nodes)) c.args.dir (unsigned_abs c.args.amount)
+    (is_positive c.args.amount)
     (rw back at c.move_refusal.ensures.answer) c.in_ok-move_refusal.was false
     (sym (rw back at c.is_positive.ensures) ∙ c.if-is_positive.false) c.unsigned_abs-else-is_positive.result
     (rw back at c.unsigned_abs-else-is_positive.ensures.value)).0
@@ -42,7 +48,8 @@ transfer-requires-else-is_positive-clause-enough c =
 pub returns-in_err-move_refusal-clause-answer : goal.returns-in_err-move_refusal-clause-answer
 returns-in_err-move_refusal-clause-answer c =
     let back = to_z-of_z w32 c.args.amount c.ranges.amount in
-    let answer : c.move_refusal.result ≡ move_answer c.args.self.now (above (shapes c.args.t.now.nodes)) c.args.dir (is_positive c.args.amount)
+    let answer : c.move_refusal.result ≡ move_answer c.args.self.now (above (shapes c.args.t.now.nodes)) c.args.dir
+    (is_positive c.args.amount)
     (unsigned_abs c.args.amount) = rw back at c.move_refusal.ensures.answer in
     let was = c.in_err-move_refusal.was in
     let given = c.from_residual.ensures in
@@ -51,17 +58,21 @@ returns-in_err-move_refusal-clause-answer c =
 pub returns-then-is_positive-clause-answer : goal.returns-then-is_positive-clause-answer
 returns-then-is_positive-clause-answer c =
     let back = to_z-of_z w32 c.args.amount c.ranges.amount in
-    let answer : c.move_refusal.result ≡ move_answer c.args.self.now (above (shapes c.args.t.now.nodes)) c.args.dir (is_positive c.args.amount)
+    let answer : c.move_refusal.result ≡ move_answer c.args.self.now (above (shapes c.args.t.now.nodes)) c.args.dir
+    (is_positive c.args.amount)
     (unsigned_abs c.args.amount) = rw back at c.move_refusal.ensures.answer in
-    let ok : move_answer c.args.self.now (above (shapes c.args.t.now.nodes)) c.args.dir (is_positive c.args.amount) (unsigned_abs c.args.amount) ≡ Ok tt =
+    let ok : move_answer c.args.self.now (above (shapes c.args.t.now.nodes)) c.args.dir (is_positive c.args.amount)
+    (unsigned_abs c.args.amount) ≡ Ok tt =
     sym answer ∙ c.in_ok-move_refusal.was in
     sym ok
 
 pub returns-else-is_positive-clause-answer : goal.returns-else-is_positive-clause-answer
 returns-else-is_positive-clause-answer c =
     let back = to_z-of_z w32 c.args.amount c.ranges.amount in
-    let answer : c.move_refusal.result ≡ move_answer c.args.self.now (above (shapes c.args.t.now.nodes)) c.args.dir (is_positive c.args.amount)
+    let answer : c.move_refusal.result ≡ move_answer c.args.self.now (above (shapes c.args.t.now.nodes)) c.args.dir
+    (is_positive c.args.amount)
     (unsigned_abs c.args.amount) = rw back at c.move_refusal.ensures.answer in
-    let ok : move_answer c.args.self.now (above (shapes c.args.t.now.nodes)) c.args.dir (is_positive c.args.amount) (unsigned_abs c.args.amount) ≡ Ok tt =
+    let ok : move_answer c.args.self.now (above (shapes c.args.t.now.nodes)) c.args.dir (is_positive c.args.amount)
+    (unsigned_abs c.args.amount) ≡ Ok tt =
     sym answer ∙ c.in_ok-move_refusal.was in
     sym ok

@@ -15,5 +15,6 @@ pub returns-else-is_positive-clause-answer : goal.returns-else-is_positive-claus
 returns-else-is_positive-clause-answer c =
     let back = to_z-of_z w32 c.args.amount c.ranges.amount in
     let down : is_positive c.args.amount ≡ false = sym (rw back at c.is_positive.ensures) ∙ c.if-is_positive.false in
-    let pages : c.unsigned_abs-else-is_positive.result ≡ unsigned_abs c.args.amount = rw back at c.unsigned_abs-else-is_positive.ensures.value in
+    let pages : c.unsigned_abs-else-is_positive.result ≡ unsigned_abs c.args.amount =
+    rw back at c.unsigned_abs-else-is_positive.ensures.value in
     rw (down, ← pages) c.may_move_up.ensures

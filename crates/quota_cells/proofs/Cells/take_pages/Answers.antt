@@ -5,17 +5,20 @@ use Rattle.quota_cells.specs.Columns.{both_maps}
 use Rattle.quota_cells.proofs.Cells.take_pages.Goals as goal
 
 pub lower-requires-clause-loads : goal.lower-requires-clause-loads
-lower-requires-clause-loads c = subst (λ (m : CellMaps). (e : ℕ) → covers (quota_in m) c.args.up.now e ≡ true → c.args.pages ≤ load_in m e)
+lower-requires-clause-loads c = subst (λ (m : CellMaps). (e : ℕ) → covers (quota_in m) c.args.up.now e ≡ true
+    → c.args.pages ≤ load_in m e)
     (sym c.self.view_is) c.requires.loads
 
 pub invariant_of-self : goal.invariant_of-self
 invariant_of-self c =
     let s : CellMaps = both_maps c.self.inside.directories c.self.inside.segments in
     let table : IsTable (credited s c.args.up.now c.args.seg c.args.pages) =
-    subst (λ (m : CellMaps). IsTable (credited m c.args.up.now c.args.seg c.args.pages)) (sym c.self.view_is) c.requires.table in
+    subst (λ (m : CellMaps). IsTable (credited m c.args.up.now c.args.seg c.args.pages)) (sym c.self.view_is)
+    c.requires.table in
     rw (c.lower.ensures, c.set.ensures, c.stored.ensures) table
 
 pub returns : goal.returns
 returns c =
     let s : CellMaps = both_maps c.self.inside.directories c.self.inside.segments in
-    rw (c.lower.ensures, c.set.ensures, c.stored.ensures) (ap (λ (m : CellMaps). credited m c.args.up.now c.args.seg c.args.pages) c.self.view_is)
+    rw (c.lower.ensures, c.set.ensures, c.stored.ensures)
+    (ap (λ (m : CellMaps). credited m c.args.up.now c.args.seg c.args.pages) c.self.view_is)

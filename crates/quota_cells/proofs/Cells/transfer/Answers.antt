@@ -16,17 +16,21 @@ give-requires-clause-can c =
     let up_g = c.as_slice.ensures.value ∙ c.superiors-above_getter.ensures.plain in
     let up_v = c.as_slice-2.ensures.value ∙ c.superiors-above_giver.ensures.plain in
     rw (up_g, up_v) (can_give c.args.t.now.nodes c.args.self.now
-    (subst IsTable c.self.view_is c.self.invariant) c.requires.fits c.superiors-above_getter.ensures.chains c.args.getter c.args.giver c.args.pages
+    (subst IsTable c.self.view_is c.self.invariant) c.requires.fits c.superiors-above_getter.ensures.chains
+    c.args.getter c.args.giver c.args.pages
     c.requires.other
     (on_directories c.args.t.now.nodes c.requires.fits c.args.getter ∙ c.requires.getter)
-    (on_directories c.args.t.now.nodes c.requires.fits c.args.giver ∙ c.requires.giver) c.requires.pages c.requires.enough c.requires.none)
+    (on_directories c.args.t.now.nodes c.requires.fits c.args.giver ∙ c.requires.giver) c.requires.pages
+    c.requires.enough c.requires.none)
 
 pub give-requires-clause-table : goal.give-requires-clause-table
 give-requires-clause-table c =
     let up_g = c.as_slice.ensures.value ∙ c.superiors-above_getter.ensures.plain in
     let up_v = c.as_slice-2.ensures.value ∙ c.superiors-above_giver.ensures.plain in
     rw (up_g, up_v) (table2 c.args.t.now.nodes c.args.self.now
-    (subst IsTable c.self.view_is c.self.invariant) c.requires.fits c.superiors-above_getter.ensures.chains c.args.getter c.args.giver c.args.pages
+    (subst IsTable c.self.view_is c.self.invariant) c.requires.fits c.superiors-above_getter.ensures.chains
+    c.args.getter c.args.giver c.args.pages
     c.requires.other
     (on_directories c.args.t.now.nodes c.requires.fits c.args.getter ∙ c.requires.getter)
-    (on_directories c.args.t.now.nodes c.requires.fits c.args.giver ∙ c.requires.giver) c.requires.pages c.requires.enough c.requires.none)
+    (on_directories c.args.t.now.nodes c.requires.fits c.args.giver ∙ c.requires.giver) c.requires.pages
+    c.requires.enough c.requires.none)

@@ -1,12 +1,17 @@
 -- Each clause of the top call, by what the ending says. (own)
-use Rattle.runner.proofs.Verdicts.{by_verdict, ended, fact_only, found_accepted, found_checked_long, found_done, found_drilled}
+use Rattle.runner.proofs.Verdicts.{by_verdict, ended, fact_only, found_accepted, found_checked_long, found_done}
+use Rattle.runner.proofs.Verdicts.{found_drilled}
 use Rattle.runner.proofs.Verdicts.{found_fault, found_later, found_long, found_made, found_refused, front_only}
 use Rattle.runner.proofs.Verdicts.{of_run, printed_in, usage_there, verdict, write_failed}
 use Rattle.runner.specs.declared.finished.Status.TheVariants as status
 use Rattle.runner.proofs.top.multics.Goals as goal
 
 pub returns-clause-usage : goal.returns-clause-usage
-returns-clause-usage g c = (λ e. (ended _ _ _ _ status.Usage c.answer.ensures.ends e).0, λ e. usage_there _ _ _ _ c.answer.ensures.ends e)
+returns-clause-usage g c = (
+  λ e. (ended _ _ _ _ status.Usage c.answer.ensures.ends e).0,
+  λ e. usage_there _ _ _ _
+      c.answer.ensures.ends e,
+)
 
 pub returns-clause-usage_text : goal.returns-clause-usage_text
 returns-clause-usage_text g c = λ e. (ended _ _ _ _ status.Usage c.answer.ensures.ends e).1
@@ -82,19 +87,23 @@ pub returns-clause-listing : goal.returns-clause-listing
 returns-clause-listing g c = λ asks e. printed_in _ _ _ _ _ (ended _ _ _ _ status.Done c.answer.ensures.ends e) asks
 
 pub returns-clause-front : goal.returns-clause-front
-returns-clause-front g c = λ asks e. front_only _ _ (printed_in _ _ _ _ _ (ended _ _ _ _ status.WriteFault c.answer.ensures.ends e) asks)
+returns-clause-front g c = λ asks e. front_only _ _ (printed_in _ _ _ _ _
+    (ended _ _ _ _ status.WriteFault c.answer.ensures.ends e) asks)
 
 pub returns-clause-made : goal.returns-clause-made
 returns-clause-made g c = λ n asks e. printed_in _ _ _ _ _ (ended _ _ _ _ status.Done c.answer.ensures.ends e) asks
 
 pub returns-clause-made_front : goal.returns-clause-made_front
-returns-clause-made_front g c = λ n asks e. (printed_in _ _ _ _ _ (ended _ _ _ _ status.WriteFault c.answer.ensures.ends e) asks).front
+returns-clause-made_front g c = λ n asks e. (printed_in _ _ _ _ _
+    (ended _ _ _ _ status.WriteFault c.answer.ensures.ends e) asks).front
 
 pub returns-clause-drilled : goal.returns-clause-drilled
-returns-clause-drilled g c = λ p f n seed asks e. printed_in _ _ _ _ _ (ended _ _ _ _ status.Done c.answer.ensures.ends e) asks
+returns-clause-drilled g c = λ p f n seed asks e. printed_in _ _ _ _ _
+    (ended _ _ _ _ status.Done c.answer.ensures.ends e) asks
 
 pub returns-clause-drilled_front : goal.returns-clause-drilled_front
-returns-clause-drilled_front g c = λ p f n seed asks e. (printed_in _ _ _ _ _ (ended _ _ _ _ status.WriteFault c.answer.ensures.ends e) asks).front
+returns-clause-drilled_front g c = λ p f n seed asks e.
+    (printed_in _ _ _ _ _ (ended _ _ _ _ status.WriteFault c.answer.ensures.ends e) asks).front
 
 pub returns-clause-write_fault : goal.returns-clause-write_fault
 returns-clause-write_fault g c = λ e. write_failed _ _ _ _ (ended _ _ _ _ status.WriteFault c.answer.ensures.ends e)
@@ -103,16 +112,20 @@ pub returns-clause-memory_text : goal.returns-clause-memory_text
 returns-clause-memory_text g c = λ e. (ended _ _ _ _ status.Memory c.answer.ensures.ends e).1
 
 pub returns-clause-finds_too_long : goal.returns-clause-finds_too_long
-returns-clause-finds_too_long g c = λ asks fine. by_verdict _ _ _ _ (verdict _ _ _ _ c.answer.ensures.ends asks fine) (λ bytes v. found_long _ _ _ v)
+returns-clause-finds_too_long g c = λ asks fine. by_verdict _ _ _ _ (verdict _ _ _ _ c.answer.ensures.ends asks fine)
+    (λ bytes v. found_long _ _ _ v)
 
 pub returns-clause-finds_refused : goal.returns-clause-finds_refused
-returns-clause-finds_refused g c = λ asks fine. by_verdict _ _ _ _ (verdict _ _ _ _ c.answer.ensures.ends asks fine) (λ bytes v. found_refused _ _ _ v)
+returns-clause-finds_refused g c = λ asks fine. by_verdict _ _ _ _ (verdict _ _ _ _ c.answer.ensures.ends asks fine)
+    (λ bytes v. found_refused _ _ _ v)
 
 pub returns-clause-finds_later : goal.returns-clause-finds_later
-returns-clause-finds_later g c = λ asks fine. by_verdict _ _ _ _ (verdict _ _ _ _ c.answer.ensures.ends asks fine) (λ bytes v. found_later _ _ _ v)
+returns-clause-finds_later g c = λ asks fine. by_verdict _ _ _ _ (verdict _ _ _ _ c.answer.ensures.ends asks fine)
+    (λ bytes v. found_later _ _ _ v)
 
 pub returns-clause-completes : goal.returns-clause-completes
-returns-clause-completes g c = λ asks fine whole. by_verdict _ _ _ _ (verdict _ _ _ _ c.answer.ensures.ends asks fine) (λ bytes v. found_done _ _ _ v whole)
+returns-clause-completes g c = λ asks fine whole. by_verdict _ _ _ _ (verdict _ _ _ _ c.answer.ensures.ends asks fine)
+    (λ bytes v. found_done _ _ _ v whole)
 
 pub returns-clause-makes : goal.returns-clause-makes
 returns-clause-makes g c = λ n asks fine. found_made _ _ _ _ n c.answer.ensures.ends asks fine

@@ -3,4 +3,5 @@ use Rattle.script.specs.Scripts.{bulk_text, ended}
 use Rattle.script.proofs.scripts.push_bulks.Given as goal
 
 abbrev pub invariant-loop-bulk : goal.invariant-loop-bulk
-invariant-loop-bulk l = string_bytes l.out ≡ string_bytes l.fn.out ++ flat_map (λ b. ended (bulk_text l.volumes b)) (take l.bulk-index l.bulks)
+invariant-loop-bulk l = string_bytes l.out ≡ string_bytes l.fn.out
+    ++ flat_map (λ b. ended (bulk_text l.volumes b)) (take l.bulk-index l.bulks)

@@ -3,4 +3,5 @@ use Rattle.script.specs.Scripts.{ended, volume_text}
 use Rattle.script.proofs.scripts.push_volumes.Given as goal
 
 abbrev pub invariant-loop-volume : goal.invariant-loop-volume
-invariant-loop-volume l = string_bytes l.out ≡ string_bytes l.fn.out ++ flat_map (λ v. ended (volume_text v)) (take l.volume-index l.volumes)
+invariant-loop-volume l = string_bytes l.out ≡ string_bytes l.fn.out
+    ++ flat_map (λ v. ended (volume_text v)) (take l.volume-index l.volumes)

@@ -11,12 +11,14 @@ loop-p-preserved c =
     let within : c.loop-p.p < length c.loop-p.table = search rules in
     let step : c.match-get.table ≡ set c.loop-p.table c.loop-p.p (gone (ptw_at c.loop-p.table c.loop-p.p)) =
     elim c.match-get.branch [
-      | in-Here w ↦ w.table-is ∙ w.set.ensures ∙ ap (set c.loop-p.table c.loop-p.p) (ap gone (sym w.in-Here.is ∙ c.get.ensures))
+      | in-Here w ↦ w.table-is ∙ w.set.ensures ∙ ap (set c.loop-p.table c.loop-p.p)
+          (ap gone (sym w.in-Here.is ∙ c.get.ensures))
       | in_default w ↦ w.table-is ∙ taken_skip c.loop-p.p c.loop-p.table (search rules)
     ] in
     record {
       all = taken_step c.loop-p.p c.loop-p.table c.match-get.table within step ∙ c.loop-p.invariant.all;
-      long = ap length step ∙ length-set c.loop-p.table c.loop-p.p (gone (ptw_at c.loop-p.table c.loop-p.p)) ∙ c.loop-p.invariant.long;
+      long = ap length step ∙ length-set c.loop-p.table c.loop-p.p (gone (ptw_at c.loop-p.table c.loop-p.p))
+          ∙ c.loop-p.invariant.long;
     }
 
 pub returns : goal.returns

@@ -11,4 +11,5 @@ leave-requires-clause-cell g c = or_left _ (has c.args.cells.now.segments c.args
 
 pub leave-requires-clause-stored : goal.leave-requires-clause-stored
 leave-requires-clause-stored g c = look_absent c.args.cells.now.segments c.args.cells.now.stored c.args.dir
-    (on_segments c.args.tree.now.nodes c.requires c.args.dir ∙ directory_not c.args.tree.now.nodes c.args.dir c.quota.ensures.directory)
+    (on_segments c.args.tree.now.nodes c.requires c.args.dir
+    ∙ directory_not c.args.tree.now.nodes c.args.dir c.quota.ensures.directory)

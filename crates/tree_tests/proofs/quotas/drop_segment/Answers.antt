@@ -11,4 +11,5 @@ leave-requires-clause-cell g c = or_right (has c.args.cells.now.directories c.ar
 
 pub leave-requires-clause-quota : goal.leave-requires-clause-quota
 leave-requires-clause-quota g c = look_absent c.args.cells.now.directories c.args.cells.now.quotas c.args.seg
-    (on_directories c.args.tree.now.nodes c.requires c.args.seg ∙ segment_not c.args.tree.now.nodes c.args.seg c.stored.ensures.segment)
+    (on_directories c.args.tree.now.nodes c.requires c.args.seg
+    ∙ segment_not c.args.tree.now.nodes c.args.seg c.stored.ensures.segment)

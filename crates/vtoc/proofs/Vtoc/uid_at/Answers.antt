@@ -8,5 +8,7 @@ index-requires c = omega (arith, c.requires, ap length c.self.view_is, length_ta
 
 pub returns : goal.returns
 returns c =
-    let inside : c.args.e < length c.self.inside.slots.items = omega (arith, c.requires, ap length c.self.view_is, length_table c.self.inside.slots.items) in
-    ap (λ (s : Slot). s.uid) (slot_read _ c.args.e _ inside c.index.ensures) ∙ sym (kept _ _ _ c.args.e c.self.invariant c.self.view_is).uid
+    let inside : c.args.e < length c.self.inside.slots.items =
+    omega (arith, c.requires, ap length c.self.view_is, length_table c.self.inside.slots.items) in
+    ap (λ (s : Slot). s.uid) (slot_read _ c.args.e _ inside c.index.ensures)
+    ∙ sym (kept _ _ _ c.args.e c.self.invariant c.self.view_is).uid

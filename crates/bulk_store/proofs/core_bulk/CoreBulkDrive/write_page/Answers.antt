@@ -3,10 +3,12 @@ use Rattle.bulk_store.proofs.core_bulk.CoreBulkDrive.write_page.Goals as goal
 
 pub returns-clause-sure : goal.returns-clause-sure
 returns-clause-sure c =
-    let never = never_rises c.self.inside.store.fast c.write_page.new.self.fast c.self.invariant.sure c.write_page.ensures.fast.same_plan in
+    let never = never_rises c.self.inside.store.fast c.write_page.new.self.fast c.self.invariant.sure
+    c.write_page.ensures.fast.same_plan in
     rw (← c.self.view_is) (λ alone. sure_call c.write_page.result never (c.write_page.ensures.cause alone))
 
 pub returns-clause-rose : goal.returns-clause-rose
 returns-clause-rose c =
-    let never = never_rises c.self.inside.store.fast c.write_page.new.self.fast c.self.invariant.sure c.write_page.ensures.fast.same_plan in
+    let never = never_rises c.self.inside.store.fast c.write_page.new.self.fast c.self.invariant.sure
+    c.write_page.ensures.fast.same_plan in
     rw (← c.self.view_is) (other_cause _ _ c.write_page.result never c.write_page.ensures.either)

@@ -2,12 +2,14 @@ use Rattle.bulk_store.proofs.Writes.{within_disk, on_ok, on_err, stays_store, do
 use Rattle.bulk_store.proofs.store.BulkStoreDrive.write_page.Goals as goal
 
 pub write-requires-clause-within : goal.write-requires-clause-within
-write-requires-clause-within g c = within_disk g.F.Drive.pages g.D.Drive.pages _ _ _ _ c.args.r c.self.view_is c.requires
+write-requires-clause-within g c = within_disk g.F.Drive.pages g.D.Drive.pages _ _ _ _ c.args.r c.self.view_is
+    c.requires
 
 pub invariant_of-self : goal.invariant_of-self
 invariant_of-self g c =
     let within = within_disk g.F.Drive.pages g.D.Drive.pages _ _ _ _ c.args.r c.self.view_is c.requires in (
-      stays_store c.write.result _ _ c.args.r c.args.from.now c.self.invariant.0 within c.write.ensures.ok c.write.ensures.err,
+      stays_store c.write.result _ _ c.args.r c.args.from.now c.self.invariant.0 within c.write.ensures.ok
+          c.write.ensures.err,
       c.write.ensures.fast.few c.self.invariant.1,
       c.write.ensures.disk.few c.self.invariant.2,
     )
@@ -15,13 +17,16 @@ invariant_of-self g c =
 pub returns-clause-ok : goal.returns-clause-ok
 returns-clause-ok g c =
     let within = within_disk g.F.Drive.pages g.D.Drive.pages _ _ _ _ c.args.r c.self.view_is c.requires in
-    rw (← c.self.view_is) (on_ok c.write.result (λ is. (done _ _ c.args.r c.args.from.now c.self.invariant.0 within is).pages) c.write.ensures.ok)
+    rw (← c.self.view_is) (on_ok c.write.result (λ is.
+    (done _ _ c.args.r c.args.from.now c.self.invariant.0 within is).pages) c.write.ensures.ok)
 
 pub returns-clause-list : goal.returns-clause-list
 returns-clause-list g c =
     let within = within_disk g.F.Drive.pages g.D.Drive.pages _ _ _ _ c.args.r c.self.view_is c.requires in
-    rw (← c.self.view_is) (on_ok c.write.result (λ is. (done _ _ c.args.r c.args.from.now c.self.invariant.0 within is).list) c.write.ensures.ok)
+    rw (← c.self.view_is) (on_ok c.write.result (λ is.
+    (done _ _ c.args.r c.args.from.now c.self.invariant.0 within is).list) c.write.ensures.ok)
 
 pub returns-clause-err : goal.returns-clause-err
 returns-clause-err g c =
-    rw (← c.self.view_is) (on_err c.write.result (λ is. (has_failed _ _ c.args.r c.self.invariant.0 is).pages) c.write.ensures.err)
+    rw (← c.self.view_is) (on_err c.write.result (λ is. (has_failed _ _ c.args.r c.self.invariant.0 is).pages)
+    c.write.ensures.err)

@@ -34,5 +34,6 @@ loop-b-preserved c = record {
 
 pub returns : goal.returns
 returns c =
-    let last : c.loop-b.b ≡ c.args.bound = let t = c.loop-b-test.false in let e = c.loop-b.auto.b-end in omega (arith, t, e) in
+    let last : c.loop-b.b ≡ c.args.bound = let t = c.loop-b-test.false in let e =
+    c.loop-b.auto.b-end in omega (arith, t, e) in
     c.loop-b.invariant.sum ∙ ap (count_below c.args.self.now c.args.a) last

@@ -9,7 +9,9 @@ pub returns-clause-keeps : goal.returns-clause-keeps
 returns-clause-keeps c = elim c.match-insert.branch [
   | in-Ok w ↦
       keeps c.self.inside.entries.entries c.args.self.now c.insert.new.self.entries c.args.a c.args.b c.self.view_is
-      (absent c.get.result (lookup (is_key c.args.a c.args.b) c.self.inside.entries.entries) c.get.ensures.value (sym c.is_some.ensures ∙ c.if-is_some.false))
+      (absent c.get.result (lookup (is_key c.args.a c.args.b) c.self.inside.entries.entries) c.get.ensures.value
+      (sym c.is_some.ensures ∙ c.if-is_some.false))
       w.in-Ok.ensures.updates.0
-  | in-Err w ↦ unchanged c.self.inside.entries.entries c.args.self.now c.insert.new.self.entries c.self.view_is w.in-Err.ensures.err
+  | in-Err w ↦ unchanged c.self.inside.entries.entries c.args.self.now c.insert.new.self.entries c.self.view_is
+      w.in-Err.ensures.err
 ]

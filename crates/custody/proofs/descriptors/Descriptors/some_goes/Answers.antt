@@ -5,4 +5,5 @@ use Rattle.custody.proofs.descriptors.Descriptors.some_goes.Goals as goal
 
 pub returns : goal.returns
 returns c = goes_is c.args.self.now (ltb 0 c.going-count.result)
-    (row_goes_decides c.self.inside.uses.items c.args.self.now c.self.inside.counts c.self.view_is c.self.invariant c.going-count.result c.going-count.ensures)
+    (row_goes_decides c.self.inside.uses.items c.args.self.now c.self.inside.counts c.self.view_is c.self.invariant
+    c.going-count.result c.going-count.ensures)

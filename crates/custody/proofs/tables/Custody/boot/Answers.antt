@@ -9,7 +9,8 @@ returns-clause-custody c = booted c.args.script.now
       descriptors = c.in_ok-descriptors.descriptors.items;
       ready = c.in_ok-ready.ready.items;
       seats = c.in_ok-seats.seats.items;
-    }) c.frames.result c.processes-processes.result c.processors.result c.new-2.ensures c.in_ok-frames.ensures c.in_ok-descriptors.ensures c.in_ok-ready.ensures
+    }) c.frames.result c.processes-processes.result c.processors.result c.new-2.ensures c.in_ok-frames.ensures
+    c.in_ok-descriptors.ensures c.in_ok-ready.ensures
     c.in_ok-seats.ensures
 
 pub returns-clause-tables : goal.returns-clause-tables
@@ -21,4 +22,5 @@ returns-clause-tables c = booted_sizes c.args.script.now
       ready = c.in_ok-ready.ready.items;
       seats = c.in_ok-seats.seats.items;
     }) c.frames.result c.processes-processes.result c.processors.result c.frames.ensures
-    c.processes-processes.ensures.count c.processors.ensures c.in_ok-frames.ensures c.in_ok-descriptors.ensures c.in_ok-seats.ensures
+    c.processes-processes.ensures.count c.processors.ensures c.in_ok-frames.ensures c.in_ok-descriptors.ensures
+    c.in_ok-seats.ensures

@@ -8,7 +8,9 @@ use Rattle.dir_tree.proofs.entries.Entries.remove.Goals as goal
 pub returns-clause-rest : goal.returns-clause-rest
 returns-clause-rest c =
     let within : c.args.at < length c.self.inside.order.items =
-    (let n = length_listed c.self.inside.slots.items c.self.inside.order.items in let v = ap (λ (es : List Entry). length es) c.self.view_is in
+    (let n = length_listed c.self.inside.slots.items c.self.inside.order.items in let v =
+    ap (λ (es : List Entry). length es) c.self.view_is in
     omega (arith, c.requires)) in
-    ap (listed c.self.inside.slots.items) c.remove-place.ensures.items ∙ remove_listed c.self.invariant.0 c.args.at within
+    ap (listed c.self.inside.slots.items) c.remove-place.ensures.items
+    ∙ remove_listed c.self.invariant.0 c.args.at within
     ∙ ap (λ (es : List Entry). remove es c.args.at) c.self.view_is

@@ -16,14 +16,19 @@ returns-clause-sorted c =
     let key : key_of c.index-nodes-place.result ≡ key_of (node_at nodes c.args.place) = ap key_of node in
     let within : c.first_at-at.result ≤ length ps = rw c.deref.ensures.value at c.first_at-at.ensures.within in
     let below : (k : ℕ) → k < c.first_at-at.result
-    → key_cmp (key_at nodes ps k) (key_of c.index-nodes-place.result) ≡ Less = rw c.deref.ensures.value at c.first_at-at.ensures.below in
+    → key_cmp (key_at nodes ps k) (key_of c.index-nodes-place.result) ≡ Less =
+    rw c.deref.ensures.value at c.first_at-at.ensures.below in
     let from : (k : ℕ) → c.first_at-at.result ≤ k → k < length ps
-    → key_cmp (key_at nodes ps k) (key_of c.index-nodes-place.result) ≢ Less = rw c.deref.ensures.value at c.first_at-at.ensures.from in
-    let sorted : IsSorted nodes ps = subst (λ (v : Places). IsSorted nodes v.places) (sym c.self.view_is) c.requires.sorted in
+    → key_cmp (key_at nodes ps k) (key_of c.index-nodes-place.result) ≢ Less =
+    rw c.deref.ensures.value at c.first_at-at.ensures.from in
+    let sorted : IsSorted nodes ps = subst (λ (v : Places). IsSorted nodes v.places) (sym c.self.view_is)
+    c.requires.sorted in
     let new : (k : ℕ) → k < length ps → key_at nodes ps k ≢ key_of (node_at nodes c.args.place) =
-    subst (λ (v : Places). (k : ℕ) → k < length v.places → key_at nodes v.places k ≢ key_of (node_at nodes c.args.place))
+    subst (λ (v : Places). (k : ℕ) → k < length v.places
+    → key_at nodes v.places k ≢ key_of (node_at nodes c.args.place))
     (sym c.self.view_is) c.requires.new in
-    subst (IsSorted nodes) (sym c.in-Ok.ensures.items) (inserted_sorted ps c.first_at-at.result c.args.place within nodes sorted
+    subst (IsSorted nodes) (sym c.in-Ok.ensures.items)
+    (inserted_sorted ps c.first_at-at.result c.args.place within nodes sorted
     (λ k lt. subst (λ (x : Key). key_cmp (key_at nodes ps k) x ≡ Less) key (below k lt))
     (λ k le lt. after_other (key_at nodes ps k) (key_of (node_at nodes c.args.place))
     (λ less. from k le lt (subst (λ (x : Key). key_cmp (key_at nodes ps k) x ≡ Less) (sym key) less)) (new k lt)))
@@ -34,4 +39,5 @@ returns-clause-places c =
     let within : c.first_at-at.result ≤ length ps = rw c.deref.ensures.value at c.first_at-at.ensures.within in
     let made : (p : ℕ) → HasPlace c.insert.new.self.items p ↔ (HasPlace ps p ⊎ (p ≡ c.args.place)) =
     rw c.in-Ok.ensures.items (place_inserted ps c.first_at-at.result c.args.place within) in
-    subst (λ (v : Places). (p : ℕ) → HasPlace c.insert.new.self.items p ↔ (HasPlace v.places p ⊎ (p ≡ c.args.place))) c.self.view_is made
+    subst (λ (v : Places). (p : ℕ) → HasPlace c.insert.new.self.items p ↔ (HasPlace v.places p ⊎ (p ≡ c.args.place)))
+    c.self.view_is made

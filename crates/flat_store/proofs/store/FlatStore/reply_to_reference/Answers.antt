@@ -27,4 +27,5 @@ returns-in-None c = λ s h.
     let shown = subst (λ (k : Kept). IsShown c.args.script.now k s) (sym c.self.view_is) h in
     let uid = ap (λ (known : List (List (Option ℕ))). uid_of (numbers_at known c.args.process)
     c.args.reference.now.number) c.deref.ensures.value in
-    reference_told c.args.script.now inside s shown c.args.process c.args.reference.now None (c.in-None.ensures.uid ∙ uid)
+    reference_told c.args.script.now inside s shown c.args.process c.args.reference.now None
+    (c.in-None.ensures.uid ∙ uid)

@@ -17,11 +17,13 @@ load-requires c = (
 pub invariant_of-keeper : goal.invariant_of-keeper
 invariant_of-keeper c =
     let told = c.load.ensures.2 c.args.cpu (search rules) in
-    keeper_fits c.load.new.seat.me _ _ _ _ _ told.1 c.keeper.invariant.request c.keeper.invariant.doors c.keeper.invariant.since c.keeper.invariant.rows
+    keeper_fits c.load.new.seat.me _ _ _ _ _ told.1 c.keeper.invariant.request c.keeper.invariant.doors
+    c.keeper.invariant.since c.keeper.invariant.rows
     (noted_still (watch_of c.keeper.inside.seat.me.0) c.args.cpu c.load.result _ c.keeper.invariant.cleared told.0)
 
 pub returns-clause-keeper : goal.returns-clause-keeper
 returns-clause-keeper c =
-    keeper_stays_of c.args.self.now c.args.keeper.now _ c.load.new.seat.table_id _ _ c.keeper.inside.seat.me c.load.new.seat.me _ c.keeper.view_is
+    keeper_stays_of c.args.self.now c.args.keeper.now _ c.load.new.seat.table_id _ _ c.keeper.inside.seat.me
+    c.load.new.seat.me _ c.keeper.view_is
     c.requires.keeper c.load.ensures.0
     (c.load.ensures.2 c.args.cpu (search rules)).1 refl refl (length-set _ _ _)

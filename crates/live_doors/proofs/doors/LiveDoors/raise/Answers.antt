@@ -3,4 +3,9 @@ use Rattle.live_doors.proofs.Keeps.{raises_at}
 use Rattle.live_doors.proofs.doors.LiveDoors.raise.Goals as goal
 
 pub store-requires : goal.store-requires
-store-requires c = (search rules, search rules, raises_at c.self.inside.table.shared.key _ _ _ c.keeper.inside.seat.me c.keeper.invariant.seat (search rules))
+store-requires c = (
+  search rules,
+  search rules,
+  raises_at c.self.inside.table.shared.key _ _ _ c.keeper.inside.seat.me
+      c.keeper.invariant.seat (search rules),
+)

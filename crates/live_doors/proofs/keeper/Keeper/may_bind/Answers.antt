@@ -7,18 +7,22 @@ use Rattle.live_doors.proofs.keeper.Keeper.may_bind.Goals as goal
 
 pub returns-then-door-eq1-clause-no_holder : goal.returns-then-door-eq1-clause-no_holder
 returns-then-door-eq1-clause-no_holder c = λ _.
-    let door = word_of c.self.inside.doors.items c.args.self.now.watch.doors c.args.f c.index-door.result.now c.index-door.ensures (c.self.invariant.doors
+    let door = word_of c.self.inside.doors.items c.args.self.now.watch.doors c.args.f c.index-door.result.now
+    c.index-door.ensures (c.self.invariant.doors
     ∙ ap (λ v. v.watch.doors) c.self.view_is) (search rules) in
     never_bound c.args.self.now.watch c.args.f (sym door ∙ c.if-door-eq1.true)
 
 pub returns-then-door-eq1-2-clause-no_holder : goal.returns-then-door-eq1-2-clause-no_holder
 returns-then-door-eq1-2-clause-no_holder c = λ less.
-    let door = word_of c.self.inside.doors.items c.args.self.now.watch.doors c.args.f c.index-door.result.now c.index-door.ensures (c.self.invariant.doors
+    let door = word_of c.self.inside.doors.items c.args.self.now.watch.doors c.args.f c.index-door.result.now
+    c.index-door.ensures (c.self.invariant.doors
     ∙ ap (λ v. v.watch.doors) c.self.view_is) (search rules) in
-    let since = word_of c.self.inside.since.items c.args.self.now.watch.since c.args.f c.index.result.now c.index.ensures (c.self.invariant.since
+    let since = word_of c.self.inside.since.items c.args.self.now.watch.since c.args.f c.index.result.now
+    c.index.ensures (c.self.invariant.since
     ∙ ap (λ v. v.watch.since) c.self.view_is) (search rules) in
     let below : c.index.result.now < c.self.inside.cleared = grind (arith, nat_tests, less) in
-    may_bind_is_free c.args.self.now.watch c.args.self.now.cleared c.args.f (subst (λ v. HasNoted v.watch v.cleared) c.self.view_is c.self.invariant.cleared)
+    may_bind_is_free c.args.self.now.watch c.args.self.now.cleared c.args.f
+    (subst (λ v. HasNoted v.watch v.cleared) c.self.view_is c.self.invariant.cleared)
     (inr (
       ap (λ k. k % 2) (sym door) ∙ c.if-door-eq1-2.true,
       subst (λ k. k < c.args.self.now.cleared) since

@@ -8,7 +8,8 @@ use Rattle.live_pages.specs.Turns.{bound_anew, current, holder_of}
 use Rattle.live_pages.specs.Models.{rebound}
 use Rattle.live_pages.proofs.Turning.{with_hand}
 use Rattle.live_pages.proofs.Ends.{may_bind_is_free}
-use Rattle.live_pages.proofs.Calls.{told_with, keeper_takes_at, slot_in_hand, none_is, exchanged_twice, found_in_slot, same_held, binds_in_hand}
+use Rattle.live_pages.proofs.Calls.{told_with, keeper_takes_at, slot_in_hand, none_is, exchanged_twice, found_in_slot}
+use Rattle.live_pages.proofs.Calls.{same_held, binds_in_hand}
 use Rattle.live_pages.proofs.Calls.{keeper_gives_in_hand, bound_now, rebound_now, keeper_fits, keeper_stays_of}
 use Rattle.live_pages.proofs.pages.LivePages.bind.Goals as goal
 
@@ -18,7 +19,8 @@ compare_exchange-requires c = (
   search rules,
   keeper_takes_at c.self.inside.table.shared.key _ _ c.keeper.inside.seat.me _ c.args.f
       c.keeper.inside.cleared c.keeper.invariant.seat c.keeper.invariant.hand c.keeper.invariant.cleared
-      (subst (λ v. MayBind v.holder.watch v.cleared c.args.f) (sym c.keeper.view_is) c.requires.may_bind) (search rules) (search rules),
+      (subst (λ v. MayBind v.holder.watch v.cleared c.args.f) (sym c.keeper.view_is) c.requires.may_bind)
+      (search rules) (search rules),
 )
 
 pub exchange-requires : goal.exchange-requires
@@ -40,11 +42,14 @@ store-requires c =
     let k1 = with_hand (Has c.args.f got.0.page) k in
     let new : Held = record { page = c.args.page; touch = c.in-Some.held.touch; word = c.in-Some.held.word } in
     let in_hand = exchanged_twice there c.exchange.ensures.3 c.exchange-2.ensures.3 in
-    let read = word_of c.keeper.inside.doors.items k.watch.doors c.args.f c.index.result.now c.index.ensures c.keeper.invariant.doors (search rules) in
-    let door : 2 * (c.index.result.now / 2 + 1) ≡ 2 * (current k.watch c.args.f + 1) = ap (λ x. 2 * (x / 2 + 1)) read in (
+    let read = word_of c.keeper.inside.doors.items k.watch.doors c.args.f c.index.result.now c.index.ensures
+    c.keeper.invariant.doors (search rules) in
+    let door : 2 * (c.index.result.now / 2 + 1) ≡ 2 * (current k.watch c.args.f + 1) =
+    ap (λ x. 2 * (x / 2 + 1)) read in (
       search rules,
       search rules,
-      rw c.door_word.ensures (binds_in_hand c.self.inside.table.shared.key _ _ c.exchange-2.new.seat.me (search rules) c.args.f _
+      rw c.door_word.ensures (binds_in_hand c.self.inside.table.shared.key _ _ c.exchange-2.new.seat.me (search rules)
+          c.args.f _
           c.keeper.inside.cleared k1 new got.0.page in_hand refl c.keeper.invariant.cleared
           (subst (λ v. MayBind v.holder.watch v.cleared c.args.f) (sym c.keeper.view_is) c.requires.may_bind) door),
     )
@@ -71,11 +76,14 @@ invariant_of-keeper c =
     let there = told_with c.keeper.invariant.seat got.1 in
     let new : Held = record { page = c.args.page; touch = c.in-Some.held.touch; word = c.in-Some.held.word } in
     let in_hand = exchanged_twice there c.exchange.ensures.3 c.exchange-2.ensures.3 in
-    let read = word_of c.keeper.inside.doors.items k.watch.doors c.args.f c.index.result.now c.index.ensures c.keeper.invariant.doors (search rules) in
+    let read = word_of c.keeper.inside.doors.items k.watch.doors c.args.f c.index.result.now c.index.ensures
+    c.keeper.invariant.doors (search rules) in
     let door : 2 * (c.index.result.now / 2 + 1) ≡ 2 * (current k.watch c.args.f + 1) = ap (λ x. 2 * (x / 2 + 1)) read in
     let bound = bound_now in_hand (c.store.ensures.2 c.args.f new [] (ap (λ x. x.1) in_hand)) in
-    let done = rebound_now k c.args.page got.0.page bound (c.store-2.ensures.2 (c.args.f, Some new) [] (ap (λ x. x.1) bound)) c.keeper.invariant.hand in
-    keeper_fits c.store-2.new.seat.me (rebound c.args.f c.args.page got.0.page k) _ _ _ c.keeper.inside.cleared done c.keeper.invariant.hand
+    let done = rebound_now k c.args.page got.0.page bound
+    (c.store-2.ensures.2 (c.args.f, Some new) [] (ap (λ x. x.1) bound)) c.keeper.invariant.hand in
+    keeper_fits c.store-2.new.seat.me (rebound c.args.f c.args.page got.0.page k) _ _ _ c.keeper.inside.cleared done
+    c.keeper.invariant.hand
     c.keeper.invariant.request
     (ap (λ l. set l c.args.f (2 * (c.index.result.now / 2 + 1))) c.keeper.invariant.doors
     ∙ ap (λ d. set k.watch.doors c.args.f d) door) c.keeper.invariant.since
@@ -89,8 +97,10 @@ returns-clause-keeper c =
     let new : Held = record { page = c.args.page; touch = c.in-Some.held.touch; word = c.in-Some.held.word } in
     let in_hand = exchanged_twice there c.exchange.ensures.3 c.exchange-2.ensures.3 in
     let bound = bound_now in_hand (c.store.ensures.2 c.args.f new [] (ap (λ x. x.1) in_hand)) in
-    let done = rebound_now k c.args.page got.0.page bound (c.store-2.ensures.2 (c.args.f, Some new) [] (ap (λ x. x.1) bound)) c.keeper.invariant.hand in
-    keeper_stays_of c.args.self.now c.args.keeper.now _ c.store-2.new.seat.table_id _ _ c.keeper.inside.seat.me c.store-2.new.seat.me
+    let done = rebound_now k c.args.page got.0.page bound
+    (c.store-2.ensures.2 (c.args.f, Some new) [] (ap (λ x. x.1) bound)) c.keeper.invariant.hand in
+    keeper_stays_of c.args.self.now c.args.keeper.now _ c.store-2.new.seat.table_id _ _ c.keeper.inside.seat.me
+    c.store-2.new.seat.me
     (rebound c.args.f c.args.page got.0.page k) c.keeper.view_is c.requires.keeper
     (c.store-2.ensures.0 ∙ c.store.ensures.0 ∙ c.exchange-2.ensures.0 ∙ c.exchange.ensures.0
     ∙ c.compare_exchange.ensures.0) done (length-set _ _ _) refl refl refl
@@ -104,7 +114,8 @@ returns-clause-bound c =
     let same = same_held (sym c.in-Some.is ∙ found_in_slot there c.exchange.ensures.2) in
     let in_hand = exchanged_twice there c.exchange.ensures.3 c.exchange-2.ensures.3 in
     let bound = bound_now in_hand (c.store.ensures.2 c.args.f new [] (ap (λ x. x.1) in_hand)) in
-    let done = rebound_now k c.args.page got.0.page bound (c.store-2.ensures.2 (c.args.f, Some new) [] (ap (λ x. x.1) bound)) c.keeper.invariant.hand in
+    let done = rebound_now k c.args.page got.0.page bound
+    (c.store-2.ensures.2 (c.args.f, Some new) [] (ap (λ x. x.1) bound)) c.keeper.invariant.hand in
     ap (λ x. holder_of x.0) done ∙ ap (λ (x : Held). rebound c.args.f c.args.page x.page k) (sym same)
     ∙ ap (λ v. rebound c.args.f c.args.page c.in-Some.held.page v.holder) c.keeper.view_is
 

@@ -8,10 +8,12 @@ pub take_pages-requires-clause-held : goal.take_pages-requires-clause-held
 take_pages-requires-clause-held c =
     let seen = c.keeper.view_is ∙ c.show-shown.ensures.keeper ∙ c.take_all_in.ensures.taken in
     slots_held c.self.inside.frames c.args.self.cpus _ (slots_items c.close_with-closed.result.slots)
-    (ended c.self.inside.table.shared.key c.keeper.inside.seat.id c.keeper.inside.seat.me c.self.inside.frames c.args.self.cpus _ _
+    (ended c.self.inside.table.shared.key c.keeper.inside.seat.id c.keeper.inside.seat.me c.self.inside.frames
+    c.args.self.cpus _ _
     (slots_items c.close_with-closed.result.slots) c.self.invariant.frames (c.self.invariant.cpus
     ∙ ap (λ v. v.cpus) c.self.view_is) (ap (λ v. v.holder) seen)
-    c.keeper.invariant.seat c.keeper.invariant.hand (all_are_in c.args.self c.args.passes.items c.args.keeper.holder c.requires.keeper.parts c.requires.all)
+    c.keeper.invariant.seat c.keeper.invariant.hand (all_are_in c.args.self c.args.passes.items c.args.keeper.holder
+    c.requires.keeper.parts c.requires.all)
     c.close_with-closed.ensures.values.2)
 
 pub returns-clause-one_thread : goal.returns-clause-one_thread
@@ -19,22 +21,29 @@ returns-clause-one_thread c =
     let seen = c.keeper.view_is ∙ c.show-shown.ensures.keeper in
     let same = c.show-shown.ensures.shown ∙ ap (λ v. v.holder) c.take_all_in.ensures.taken in
     told_at_end c.args.self.frames c.args.self.cpus c.show-shown.result (slots_items c.close_with-closed.result.slots)
-    (ended c.self.inside.table.shared.key c.keeper.inside.seat.id c.keeper.inside.seat.me c.args.self.frames c.args.self.cpus c.show-shown.result _
-    (slots_items c.close_with-closed.result.slots) (c.self.invariant.frames ∙ ap (λ v. v.frames) c.self.view_is) (c.self.invariant.cpus
+    (ended c.self.inside.table.shared.key c.keeper.inside.seat.id c.keeper.inside.seat.me c.args.self.frames
+    c.args.self.cpus c.show-shown.result _
+    (slots_items c.close_with-closed.result.slots) (c.self.invariant.frames ∙ ap (λ v. v.frames) c.self.view_is)
+    (c.self.invariant.cpus
     ∙ ap (λ v. v.cpus) c.self.view_is)
     (ap (λ v. v.holder) seen ∙ sym c.show-shown.ensures.shown) c.keeper.invariant.seat c.keeper.invariant.hand
-    (subst (AllIn c.args.self.cpus) (sym same) (all_are_in c.args.self c.args.passes.items c.args.keeper.holder c.requires.keeper.parts c.requires.all))
+    (subst (AllIn c.args.self.cpus) (sym same) (all_are_in c.args.self c.args.passes.items c.args.keeper.holder
+    c.requires.keeper.parts c.requires.all))
     c.close_with-closed.ensures.values.2)
 
 pub returns-clause-left : goal.returns-clause-left
 returns-clause-left c =
     let seen = c.keeper.view_is ∙ c.show-shown.ensures.keeper in
     let same = c.show-shown.ensures.shown ∙ ap (λ v. v.holder) c.take_all_in.ensures.taken in
-    pages_left c.args.self.frames c.args.self.cpus c.show-shown.result (slots_items c.close_with-closed.result.slots) c.take_pages.new.pages.items
-    (ended c.self.inside.table.shared.key c.keeper.inside.seat.id c.keeper.inside.seat.me c.args.self.frames c.args.self.cpus c.show-shown.result _
-    (slots_items c.close_with-closed.result.slots) (c.self.invariant.frames ∙ ap (λ v. v.frames) c.self.view_is) (c.self.invariant.cpus
+    pages_left c.args.self.frames c.args.self.cpus c.show-shown.result (slots_items c.close_with-closed.result.slots)
+    c.take_pages.new.pages.items
+    (ended c.self.inside.table.shared.key c.keeper.inside.seat.id c.keeper.inside.seat.me c.args.self.frames
+    c.args.self.cpus c.show-shown.result _
+    (slots_items c.close_with-closed.result.slots) (c.self.invariant.frames ∙ ap (λ v. v.frames) c.self.view_is)
+    (c.self.invariant.cpus
     ∙ ap (λ v. v.cpus) c.self.view_is)
     (ap (λ v. v.holder) seen ∙ sym c.show-shown.ensures.shown) c.keeper.invariant.seat c.keeper.invariant.hand
-    (subst (AllIn c.args.self.cpus) (sym same) (all_are_in c.args.self c.args.passes.items c.args.keeper.holder c.requires.keeper.parts c.requires.all))
+    (subst (AllIn c.args.self.cpus) (sym same) (all_are_in c.args.self c.args.passes.items c.args.keeper.holder
+    c.requires.keeper.parts c.requires.all))
     c.close_with-closed.ensures.values.2)
     (c.take_pages.ensures.count ∙ ap (λ v. v.frames) c.self.view_is) c.take_pages.ensures.pages

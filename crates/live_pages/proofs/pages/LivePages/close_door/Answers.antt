@@ -7,6 +7,8 @@ pub store-requires : goal.store-requires
 store-requires c = (
   search rules,
   search rules,
-  rw c.door_word.ensures (closes_at c.self.inside.table.shared.key _ _ c.keeper.inside.seat.me c.args.f _ c.keeper.invariant.seat (search rules)
-      (search rules) (search rules) (next_word c.keeper.inside.doors.items _ c.args.f _ c.index.ensures c.keeper.invariant.doors (search rules))),
+  rw c.door_word.ensures (closes_at c.self.inside.table.shared.key _ _ c.keeper.inside.seat.me c.args.f _
+      c.keeper.invariant.seat (search rules)
+      (search rules) (search rules) (next_word c.keeper.inside.doors.items _ c.args.f _ c.index.ensures
+      c.keeper.invariant.doors (search rules))),
 )

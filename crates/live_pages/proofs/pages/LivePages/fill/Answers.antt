@@ -10,46 +10,56 @@ load-word-requires c = (
   search rules,
   search rules,
   rw c.door_word.ensures
-      (fills_at c.self.inside.table.shared.key _ _ c.pass.inside.seat.me c.args.f c.pass.invariant.seat c.pass.invariant.hand (search rules)),
+      (fills_at c.self.inside.table.shared.key _ _ c.pass.inside.seat.me c.args.f c.pass.invariant.seat
+      c.pass.invariant.hand (search rules)),
 )
 
 pub invariant_of-pass : goal.invariant_of-pass
 invariant_of-pass c = pass_fits c.load-word.new.seat.me _ _ _ _
-    (closed_read c.args.f c.load-word.result c.pass.invariant.seat (c.load-word.ensures.2 c.args.f c.door_word.ensures).1 (search rules))
+    (closed_read c.args.f c.load-word.result c.pass.invariant.seat
+    (c.load-word.ensures.2 c.args.f c.door_word.ensures).1 (search rules))
     c.pass.invariant.hand c.pass.invariant.cpu
     c.pass.invariant.held c.pass.invariant.stamp
 
 pub returns-then-word-eq1-clause-pass : goal.returns-then-word-eq1-clause-pass
 returns-then-word-eq1-clause-pass c =
-    pass_stays_of c.args.self.now c.args.pass.now _ c.load-word.new.seat.table_id c.pass.inside.seat.me c.load-word.new.seat.me _ c.pass.view_is c.requires.pass
+    pass_stays_of c.args.self.now c.args.pass.now _ c.load-word.new.seat.table_id c.pass.inside.seat.me
+    c.load-word.new.seat.me _ c.pass.view_is c.requires.pass
     c.load-word.ensures.0
-    (closed_read c.args.f c.load-word.result c.pass.invariant.seat (c.load-word.ensures.2 c.args.f c.door_word.ensures).1 (search rules)) refl refl refl
+    (closed_read c.args.f c.load-word.result c.pass.invariant.seat
+    (c.load-word.ensures.2 c.args.f c.door_word.ensures).1 (search rules)) refl refl refl
 
 pub returns-then-word-eq1-clause-closed : goal.returns-then-word-eq1-clause-closed
 returns-then-word-eq1-clause-closed c = (
   search rules,
   ap (λ x. walker_of x.0)
-      (closed_read c.args.f c.load-word.result c.pass.invariant.seat (c.load-word.ensures.2 c.args.f c.door_word.ensures).1 (search rules))
+      (closed_read c.args.f c.load-word.result c.pass.invariant.seat
+      (c.load-word.ensures.2 c.args.f c.door_word.ensures).1 (search rules))
       ∙ ap (λ v. walking (having_read c.load-word.result) v.walker) c.pass.view_is,
 )
 
 pub invariant_of-pass-2 : goal.invariant_of-pass-2
 invariant_of-pass-2 c = pass_fits c.load-word.new.seat.me _ _ _ _
-    (open_read c.args.f c.load-word.result c.pass.invariant.seat (c.load-word.ensures.2 c.args.f c.door_word.ensures).1 (search rules)) c.pass.invariant.hand
+    (open_read c.args.f c.load-word.result c.pass.invariant.seat (c.load-word.ensures.2 c.args.f c.door_word.ensures).1
+    (search rules)) c.pass.invariant.hand
     c.pass.invariant.cpu
     (ap (λ h. set h c.args.f (Some (c.load-word.result / 2))) c.pass.invariant.held) c.pass.invariant.stamp
 
 pub returns-clause-pass : goal.returns-clause-pass
 returns-clause-pass c =
-    pass_stays_of c.args.self.now c.args.pass.now _ c.load-word.new.seat.table_id c.pass.inside.seat.me c.load-word.new.seat.me _ c.pass.view_is c.requires.pass
+    pass_stays_of c.args.self.now c.args.pass.now _ c.load-word.new.seat.table_id c.pass.inside.seat.me
+    c.load-word.new.seat.me _ c.pass.view_is c.requires.pass
     c.load-word.ensures.0
-    (open_read c.args.f c.load-word.result c.pass.invariant.seat (c.load-word.ensures.2 c.args.f c.door_word.ensures).1 (search rules))
+    (open_read c.args.f c.load-word.result c.pass.invariant.seat (c.load-word.ensures.2 c.args.f c.door_word.ensures).1
+    (search rules))
     (length-set _ _ _) refl refl
 
 pub returns-clause-admitted : goal.returns-clause-admitted
 returns-clause-admitted c = ap (λ x. walker_of x.0)
-    (open_read c.args.f c.load-word.result c.pass.invariant.seat (c.load-word.ensures.2 c.args.f c.door_word.ensures).1 (search rules))
-    ∙ ap (λ v. walking (λ p. holding c.args.f (c.load-word.result / 2) (having_read (2 * (c.load-word.result / 2)) p)) v.walker) c.pass.view_is
+    (open_read c.args.f c.load-word.result c.pass.invariant.seat (c.load-word.ensures.2 c.args.f c.door_word.ensures).1
+    (search rules))
+    ∙ ap (λ v. walking (λ p. holding c.args.f (c.load-word.result / 2) (having_read (2 * (c.load-word.result / 2)) p))
+    v.walker) c.pass.view_is
 
 pub returns-clause-bound : goal.returns-clause-bound
 returns-clause-bound c = let least = (c.load-word.ensures.2 c.args.f c.door_word.ensures).0 in omega arith

@@ -19,12 +19,16 @@ pub invariant_of-keeper : goal.invariant_of-keeper
 invariant_of-keeper c =
     keeper_fits c.load.new.seat.me _ _ _ _ _ ((c.load.ensures.2 c.args.cpu (search rules)).1
     ∙ ap (λ cs. (Keeping (watching (having_noted c.args.cpu c.load.result) (holder_of c.keeper.inside.seat.me.0)), cs))
-    (ap (λ m. m.1) c.keeper.invariant.seat)) c.keeper.invariant.hand c.keeper.invariant.request c.keeper.invariant.doors c.keeper.invariant.since
-    c.keeper.invariant.rows (noted_still (holder_of c.keeper.inside.seat.me.0).watch c.args.cpu c.load.result _ c.keeper.invariant.cleared
+    (ap (λ m. m.1) c.keeper.invariant.seat)) c.keeper.invariant.hand c.keeper.invariant.request
+    c.keeper.invariant.doors c.keeper.invariant.since
+    c.keeper.invariant.rows (noted_still (holder_of c.keeper.inside.seat.me.0).watch c.args.cpu c.load.result _
+    c.keeper.invariant.cleared
     (c.load.ensures.2 c.args.cpu (search rules)).0)
 
 pub returns-clause-keeper : goal.returns-clause-keeper
-returns-clause-keeper c = keeper_stays_of c.args.self.now c.args.keeper.now _ c.load.new.seat.table_id _ _ c.keeper.inside.seat.me c.load.new.seat.me _
+returns-clause-keeper c = keeper_stays_of c.args.self.now c.args.keeper.now _ c.load.new.seat.table_id _ _
+    c.keeper.inside.seat.me c.load.new.seat.me _
     c.keeper.view_is c.requires.keeper c.load.ensures.0 ((c.load.ensures.2 c.args.cpu (search rules)).1
-    ∙ ap (λ cs. (Keeping (watching (having_noted c.args.cpu c.load.result) (holder_of c.keeper.inside.seat.me.0)), cs)) (ap (λ m. m.1) c.keeper.invariant.seat))
+    ∙ ap (λ cs. (Keeping (watching (having_noted c.args.cpu c.load.result) (holder_of c.keeper.inside.seat.me.0)), cs))
+    (ap (λ m. m.1) c.keeper.invariant.seat))
     refl refl (length-set _ _ _) refl

@@ -8,4 +8,5 @@ decreases-loop-pass l = vec_len l.passes
 abbrev pub invariant-loop-pass : goal.invariant-loop-pass
 invariant-loop-pass l =
     IsKeeperOf l.self l.keeper × (record l.keeper { holder = taking_all_in l.passes.items l.keeper.holder }
-    ≡ record l.fn.keeper { holder = taking_all_in l.fn.passes.items l.fn.keeper.holder }) × All (IsPassOf l.self) l.passes.items
+    ≡ record l.fn.keeper { holder = taking_all_in l.fn.passes.items l.fn.keeper.holder })
+    × All (IsPassOf l.self) l.passes.items

@@ -8,6 +8,7 @@ join_seat-requires c = (
   search rules,
   ap (λ m. m.1) c.pass.invariant.seat,
   search rules,
-  takes_in_at c.self.inside.table.shared.key c.keeper.inside.seat.id c.keeper.inside.seat.me c.pass.inside.seat.id c.pass.inside.seat.me c.keeper.invariant.seat
+  takes_in_at c.self.inside.table.shared.key c.keeper.inside.seat.id c.keeper.inside.seat.me c.pass.inside.seat.id
+      c.pass.inside.seat.me c.keeper.invariant.seat
       c.pass.invariant.seat c.pass.invariant.hand,
 )

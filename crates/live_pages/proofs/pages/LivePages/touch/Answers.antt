@@ -12,26 +12,32 @@ pub compare_exchange-word-requires : goal.compare_exchange-word-requires
 compare_exchange-word-requires c = (
   search rules,
   search rules,
-  takes_turn_at c.self.inside.table.shared.key _ _ c.pass.inside.seat.me _ c.args.f c.requires.holds.0 c.pass.invariant.seat c.pass.invariant.hand
-      (search rules) (ap (λ v. get_or v.walker.walk.held c.args.f None) c.pass.view_is ∙ c.requires.holds.1) (search rules),
+  takes_turn_at c.self.inside.table.shared.key _ _ c.pass.inside.seat.me _ c.args.f c.requires.holds.0
+      c.pass.invariant.seat c.pass.invariant.hand
+      (search rules) (ap (λ v. get_or v.walker.walk.held c.args.f None) c.pass.view_is ∙ c.requires.holds.1)
+      (search rules),
 )
 
 pub invariant_of-pass : goal.invariant_of-pass
 invariant_of-pass c = pass_fits c.compare_exchange-word.new.seat.me _ _ _ _
-    (told_alone c.pass.invariant.seat ((c.compare_exchange-word.ensures.2 c.args.f (search rules)).1 c.if-word-ne0.true))
+    (told_alone c.pass.invariant.seat ((c.compare_exchange-word.ensures.2 c.args.f (search rules)).1
+    c.if-word-ne0.true))
     c.pass.invariant.hand c.pass.invariant.cpu c.pass.invariant.held c.pass.invariant.stamp
 
 pub returns-then-word-ne0-clause-pass : goal.returns-then-word-ne0-clause-pass
 returns-then-word-ne0-clause-pass c =
-    pass_stays_of c.args.self.now c.args.pass.now _ c.compare_exchange-word.new.seat.table_id c.pass.inside.seat.me c.compare_exchange-word.new.seat.me _
+    pass_stays_of c.args.self.now c.args.pass.now _ c.compare_exchange-word.new.seat.table_id c.pass.inside.seat.me
+    c.compare_exchange-word.new.seat.me _
     c.pass.view_is c.requires.pass c.compare_exchange-word.ensures.0
-    (told_alone c.pass.invariant.seat ((c.compare_exchange-word.ensures.2 c.args.f (search rules)).1 c.if-word-ne0.true)) refl refl refl
+    (told_alone c.pass.invariant.seat ((c.compare_exchange-word.ensures.2 c.args.f (search rules)).1
+    c.if-word-ne0.true)) refl refl refl
 
 pub returns-then-word-ne0-clause-busy : goal.returns-then-word-ne0-clause-busy
 returns-then-word-ne0-clause-busy c = (
   c.if-word-ne0.true,
   ap (λ x. walker_of x.0)
-      (told_alone c.pass.invariant.seat ((c.compare_exchange-word.ensures.2 c.args.f (search rules)).1 c.if-word-ne0.true))
+      (told_alone c.pass.invariant.seat ((c.compare_exchange-word.ensures.2 c.args.f (search rules)).1
+      c.if-word-ne0.true))
       ∙ ap (λ v. walking (having_read c.compare_exchange-word.result) v.walker) c.pass.view_is,
 )
 
@@ -40,7 +46,8 @@ touch_in_hand-requires-clause-hand c =
     let got = (c.compare_exchange-word.ensures.2 c.args.f (search rules)).0 (search rules) in
     let there = told_with c.pass.invariant.seat got.1 in (
       got.0,
-      self_form c.compare_exchange-word.new.seat.me (taken c.args.f got.0.page (walker_of c.pass.inside.seat.me.0)) ((c.args.f, Some got.0) ∷ []) there,
+      self_form c.compare_exchange-word.new.seat.me (taken c.args.f got.0.page (walker_of c.pass.inside.seat.me.0))
+          ((c.args.f, Some got.0) ∷ []) there,
       ap (λ x. (walker_of x.0).hand) there,
     )
 
@@ -48,23 +55,34 @@ pub touch_in_hand-requires-clause-few : goal.touch_in_hand-requires-clause-few
 touch_in_hand-requires-clause-few c =
     let got = (c.compare_exchange-word.ensures.2 c.args.f (search rules)).0 (search rules) in
     let there = told_with c.pass.invariant.seat got.1 in
-    subst (λ x. length (walker_of x.0).made < 2 ^ 32) (sym there) (subst (λ v. length v.walker.made < 2 ^ 32) (sym c.pass.view_is) c.requires.few)
+    subst (λ x. length (walker_of x.0).made < 2 ^ 32) (sym there)
+    (subst (λ v. length v.walker.made < 2 ^ 32) (sym c.pass.view_is) c.requires.few)
 
 pub invariant_of-pass-2 : goal.invariant_of-pass-2
 invariant_of-pass-2 c =
     let got = (c.compare_exchange-word.ensures.2 c.args.f (search rules)).0 (search rules) in
     let there = told_with c.pass.invariant.seat got.1 in
     let done = c.touch_in_hand.ensures.touched
-    ∙ ap (λ x. (Passing (touched_in_hand c.touch_in_hand.result.ticket c.args.f c.args.t c.touch_in_hand.result.word (walker_of x.0)), [])) there in
-    pass_fits c.touch_in_hand.new.seat.me _ _ _ _ done refl c.pass.invariant.cpu c.pass.invariant.held c.pass.invariant.stamp
+    ∙ ap (λ x. (
+      Passing (touched_in_hand c.touch_in_hand.result.ticket c.args.f c.args.t c.touch_in_hand.result.word
+          (walker_of x.0)),
+      [],
+    )) there in
+    pass_fits c.touch_in_hand.new.seat.me _ _ _ _ done refl c.pass.invariant.cpu c.pass.invariant.held
+    c.pass.invariant.stamp
 
 pub returns-clause-pass : goal.returns-clause-pass
 returns-clause-pass c =
     let got = (c.compare_exchange-word.ensures.2 c.args.f (search rules)).0 (search rules) in
     let there = told_with c.pass.invariant.seat got.1 in
     let done = c.touch_in_hand.ensures.touched
-    ∙ ap (λ x. (Passing (touched_in_hand c.touch_in_hand.result.ticket c.args.f c.args.t c.touch_in_hand.result.word (walker_of x.0)), [])) there in
-    pass_stays_of c.args.self.now c.args.pass.now _ c.touch_in_hand.new.seat.table_id c.pass.inside.seat.me c.touch_in_hand.new.seat.me _ c.pass.view_is
+    ∙ ap (λ x. (
+      Passing (touched_in_hand c.touch_in_hand.result.ticket c.args.f c.args.t c.touch_in_hand.result.word
+          (walker_of x.0)),
+      [],
+    )) there in
+    pass_stays_of c.args.self.now c.args.pass.now _ c.touch_in_hand.new.seat.table_id c.pass.inside.seat.me
+    c.touch_in_hand.new.seat.me _ c.pass.view_is
     c.requires.pass (c.touch_in_hand.ensures.seat.0 ∙ c.compare_exchange-word.ensures.0) done refl refl refl
 
 pub returns-clause-touched : goal.returns-clause-touched
@@ -72,8 +90,13 @@ returns-clause-touched c =
     let got = (c.compare_exchange-word.ensures.2 c.args.f (search rules)).0 (search rules) in
     let there = told_with c.pass.invariant.seat got.1 in
     let done = c.touch_in_hand.ensures.touched
-    ∙ ap (λ x. (Passing (touched_in_hand c.touch_in_hand.result.ticket c.args.f c.args.t c.touch_in_hand.result.word (walker_of x.0)), [])) there in
-    ap (λ x. walker_of x.0) done ∙ ap (λ v. having_touched c.touch_in_hand.result.ticket c.args.f c.args.t c.touch_in_hand.result.word v.walker) c.pass.view_is
+    ∙ ap (λ x. (
+      Passing (touched_in_hand c.touch_in_hand.result.ticket c.args.f c.args.t c.touch_in_hand.result.word
+          (walker_of x.0)),
+      [],
+    )) there in
+    ap (λ x. walker_of x.0) done ∙ ap (λ v. having_touched c.touch_in_hand.result.ticket c.args.f c.args.t
+    c.touch_in_hand.result.word v.walker) c.pass.view_is
 
 pub returns-clause-above : goal.returns-clause-above
 returns-clause-above c =

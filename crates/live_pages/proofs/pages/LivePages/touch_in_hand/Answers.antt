@@ -2,7 +2,8 @@ use Rattle.std.proofs.Common.{rules, [], Some, sym, ap, refl, ◌∙◌, subst}
 use Rattle.live_pages.specs.declared.rule.Held.{Held}
 use Rattle.live_pages.specs.Touches.{touched, answer, AreBelow}
 use Rattle.live_pages.specs.Turns.{having_made, walker_of}
-use Rattle.live_pages.proofs.Calls.{slot_there, exchanged_twice, found_in_slot, same_held, draws_in_hand, gives_in_hand, drawn, given_back}
+use Rattle.live_pages.proofs.Calls.{slot_there, exchanged_twice, found_in_slot, same_held, draws_in_hand}
+use Rattle.live_pages.proofs.Calls.{gives_in_hand, drawn, given_back}
 use Rattle.live_pages.proofs.pages.LivePages.touch_in_hand.Goals as goal
 
 pub exchange-requires : goal.exchange-requires
@@ -17,10 +18,12 @@ fetch_add-ticket-requires c =
     let there = exchanged_twice c.requires.hand.1 c.exchange.ensures.3 c.exchange-2.ensures.3 in (
       search rules,
       search rules,
-      draws_in_hand c.self.inside.table.shared.key _ _ c.exchange-2.new.seat.me (search rules) _ c.args.f w new h.page there (search rules) c.requires.hand.2
+      draws_in_hand c.self.inside.table.shared.key _ _ c.exchange-2.new.seat.me (search rules) _ c.args.f w new h.page
+          there (search rules) c.requires.hand.2
           (c.touch-word.ensures.page ∙ ap (λ x. touched x c.in-Some.held.page) (sym c.touch-word.ensures.kept.0)
           ∙ ap (λ (x : Held). touched new.touch x.page) same)
-          (c.touch-word.ensures.kept.1 ∙ c.touch-word.ensures.word ∙ ap (λ x. answer x c.in-Some.held.page) (sym c.touch-word.ensures.kept.0)
+          (c.touch-word.ensures.kept.1 ∙ c.touch-word.ensures.word
+          ∙ ap (λ x. answer x c.in-Some.held.page) (sym c.touch-word.ensures.kept.0)
           ∙ ap (λ (x : Held). answer new.touch x.page) same) c.requires.few (search rules),
     )
 
@@ -48,8 +51,10 @@ returns-clause-touched c =
     let there = exchanged_twice c.requires.hand.1 c.exchange.ensures.3 c.exchange-2.ensures.3 in
     let after = drawn there
     (c.fetch_add-ticket.ensures.2 c.args.f new [] (ap (λ x. x.1) there)).1 in
-    given_back c.fetch_add-ticket.new.seat.me c.store.new.seat.me w c.args.f c.fetch_add-ticket.result c.touch-word.result c.args.t new after
-    (c.store.ensures.2 (c.args.f, Some new) [] (ap (λ x. x.1) after)) c.touch-word.ensures.kept.0 c.touch-word.ensures.kept.1
+    given_back c.fetch_add-ticket.new.seat.me c.store.new.seat.me w c.args.f c.fetch_add-ticket.result
+    c.touch-word.result c.args.t new after
+    (c.store.ensures.2 (c.args.f, Some new) [] (ap (λ x. x.1) after)) c.touch-word.ensures.kept.0
+    c.touch-word.ensures.kept.1
 
 pub returns-clause-above : goal.returns-clause-above
 returns-clause-above c =
@@ -57,4 +62,5 @@ returns-clause-above c =
     let w = walker_of c.args.seat.now.me.0 in
     let new = c.touch-word.new.self in
     let there = exchanged_twice c.requires.hand.1 c.exchange.ensures.3 c.exchange-2.ensures.3 in
-    subst (λ x. AreBelow c.fetch_add-ticket.result (walker_of x.0).made) there (c.fetch_add-ticket.ensures.2 c.args.f new [] (ap (λ x. x.1) there)).0
+    subst (λ x. AreBelow c.fetch_add-ticket.result (walker_of x.0).made) there
+    (c.fetch_add-ticket.ensures.2 c.args.f new [] (ap (λ x. x.1) there)).0

@@ -1,5 +1,6 @@
 use Rattle.page_control.proofs.Facts.{tied_volume}
-use Rattle.page_control.proofs.Calls.{tie_created, others_of_created, words_created, stored_created, bound_created, starts_created, taken_created}
+use Rattle.page_control.proofs.Calls.{tie_created, others_of_created, words_created, stored_created, bound_created}
+use Rattle.page_control.proofs.Calls.{starts_created, taken_created}
 use Rattle.page_control.proofs.Calls.{counts_of_created}
 use Rattle.page_control.proofs.pages.Pages.create_page.Goals as goal
 

@@ -11,7 +11,8 @@ pub record_in-r-requires-clause-volume : goal.record_in-r-requires-clause-volume
 record_in-r-requires-clause-volume g c = tied_volume g.D.Drive.pages c.args.self.now _ _ _ c.requires.tie
 
 pub record_in-r-requires-clause-filed : goal.record_in-r-requires-clause-filed
-record_in-r-requires-clause-filed g c = tied_filed (plain g.D.Drive.pages c.args.self.now) _ c.args.home c.args.t.now c.args.p c.requires.tie
+record_in-r-requires-clause-filed g c = tied_filed (plain g.D.Drive.pages c.args.self.now) _ c.args.home c.args.t.now
+    c.args.p c.requires.tie
     (stored_away _ c.requires.away)
 
 pub unstore-requires-clause-page : goal.unstore-requires-clause-page
@@ -22,5 +23,6 @@ unstore-requires-clause-volume g c = tied_volume g.D.Drive.pages c.args.self.now
 
 pub unstore-requires-clause-filed : goal.unstore-requires-clause-filed
 unstore-requires-clause-filed g c =
-    tied_filed (plain g.D.Drive.pages c.args.self.now) _ c.args.home c.args.t.now c.args.p c.requires.tie (stored_away _ c.requires.away)
+    tied_filed (plain g.D.Drive.pages c.args.self.now) _ c.args.home c.args.t.now c.args.p c.requires.tie
+    (stored_away _ c.requires.away)
     ∙ ap Some (sym c.record_in-r.ensures.record)

@@ -1,4 +1,5 @@
-use Rattle.page_control.proofs.Calls.{tie_dropped, others_of_dropped, words_dropped, stored_dropped, starts_dropped, taken_dropped, counts_of_dropped}
+use Rattle.page_control.proofs.Calls.{tie_dropped, others_of_dropped, words_dropped, stored_dropped, starts_dropped}
+use Rattle.page_control.proofs.Calls.{taken_dropped, counts_of_dropped}
 use Rattle.page_control.proofs.pages.Pages.drop_page.Goals as goal
 
 pub returns-clause-tie : goal.returns-clause-tie

@@ -1,4 +1,5 @@
-use Rattle.page_control.proofs.Calls.{tie_read, others_of_read, words_of_read, bound_read, lost_read, starts_read, counts_of_read}
+use Rattle.page_control.proofs.Calls.{tie_read, others_of_read, words_of_read, bound_read, lost_read, starts_read}
+use Rattle.page_control.proofs.Calls.{counts_of_read}
 use Rattle.page_control.proofs.pages.Pages.end_in.Goals as goal
 
 pub returns-clause-tie : goal.returns-clause-tie

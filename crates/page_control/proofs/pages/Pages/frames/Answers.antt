@@ -6,4 +6,5 @@ pub returns-clause-named : goal.returns-clause-named
 returns-clause-named g c = λ uid p f words table word. frame_named c.args.self.now.core uid p f words table word
 
 pub returns-clause-words : goal.returns-clause-words
-returns-clause-words g c = λ uid p f home words table word. words_named (plain g.D.Drive.pages c.args.self.now) uid p f home words table word
+returns-clause-words g c = λ uid p f home words table word. words_named (plain g.D.Drive.pages c.args.self.now) uid p f
+    home words table word

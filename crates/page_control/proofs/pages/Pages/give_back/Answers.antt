@@ -6,5 +6,6 @@ use Rattle.page_control.proofs.pages.Pages.give_back.Goals as goal
 
 pub returns-in-Some-clause-part : goal.returns-in-Some-clause-part
 returns-in-Some-clause-part g c = λ old uid part.
-    part_some old (plain g.D.Drive.pages c.args.self.now) (plain g.D.Drive.pages c.unstore.new.self) uid c.args.home c.args.p c.unstore.ensures.unstored
+    part_some old (plain g.D.Drive.pages c.args.self.now) (plain g.D.Drive.pages c.unstore.new.self) uid c.args.home
+    c.args.p c.unstore.ensures.unstored
     (some_number (filed (plain g.D.Drive.pages c.args.self.now) c.args.home c.args.p) (search rules)) part

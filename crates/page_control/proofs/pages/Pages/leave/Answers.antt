@@ -16,7 +16,8 @@ record_in-r-requires-clause-volume g c = tied_volume g.D.Drive.pages c.args.self
 
 pub record_in-r-requires-clause-filed : goal.record_in-r-requires-clause-filed
 record_in-r-requires-clause-filed g c =
-    rw c.page_in-p.ensures (tied_filed (plain g.D.Drive.pages c.args.self.now) _ c.args.home c.args.t.now _ c.requires.tie (ap has_record c.requires.leaving))
+    rw c.page_in-p.ensures (tied_filed (plain g.D.Drive.pages c.args.self.now) _ c.args.home c.args.t.now _
+    c.requires.tie (ap has_record c.requires.leaving))
 
 pub unstore-requires-clause-page : goal.unstore-requires-clause-page
 unstore-requires-clause-page g c =
@@ -30,7 +31,8 @@ unstore-requires-clause-volume g c = tied_volume g.D.Drive.pages c.args.self.now
 pub unstore-requires-clause-filed : goal.unstore-requires-clause-filed
 unstore-requires-clause-filed g c =
     rw (c.record_in-r.ensures.record, c.page_in-p.ensures)
-    (tied_filed (plain g.D.Drive.pages c.args.self.now) _ c.args.home c.args.t.now _ c.requires.tie (ap has_record c.requires.leaving))
+    (tied_filed (plain g.D.Drive.pages c.args.self.now) _ c.args.home c.args.t.now _ c.requires.tie
+    (ap has_record c.requires.leaving))
 
 pub save-requires-clause-volume : goal.save-requires-clause-volume
 save-requires-clause-volume g c = tied_volume g.D.Drive.pages c.args.self.now _ _ _ c.requires.tie

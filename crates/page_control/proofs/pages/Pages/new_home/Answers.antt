@@ -1,5 +1,6 @@
 use Rattle.page_control.proofs.Facts.{plain_volume}
-use Rattle.page_control.proofs.Homes.{maps_asked, home_asked, homes_asked, uids_asked, filed_asked, stored_asked, words_asked, ties_asked, tie_asked}
+use Rattle.page_control.proofs.Homes.{maps_asked, home_asked, homes_asked, uids_asked, filed_asked, stored_asked}
+use Rattle.page_control.proofs.Homes.{words_asked, ties_asked, tie_asked}
 use Rattle.page_control.proofs.Homes.{used_asked, zeros_asked}
 use Rattle.page_control.proofs.pages.Pages.new_home.Goals as goal
 
@@ -31,7 +32,8 @@ pub returns-clause-used : goal.returns-clause-used
 returns-clause-used g c = used_asked c.ask.result c.ask.ensures.asked
 
 pub returns-clause-tie : goal.returns-clause-tie
-returns-clause-tie g c = tie_asked c.ask.result c.ask.ensures.asked (plain_volume g.D.Drive.pages c.args.self.now c.args.volume c.requires)
+returns-clause-tie g c = tie_asked c.ask.result c.ask.ensures.asked
+    (plain_volume g.D.Drive.pages c.args.self.now c.args.volume c.requires)
 
 pub returns-clause-zeros : goal.returns-clause-zeros
 returns-clause-zeros g c = zeros_asked c.ask.result c.ask.ensures.asked

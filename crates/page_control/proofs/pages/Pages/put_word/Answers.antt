@@ -10,15 +10,20 @@ use Rattle.page_control.proofs.pages.Pages.put_word.Goals as goal
 
 pub returns-clause-words : goal.returns-clause-words
 returns-clause-words g c = λ once.
-    let inside : c.args.f < length c.args.self.now.core.frames = bound_inside c.args.self.now.core c.args.f c.requires.bound in
-    let count : length c.args.self.now.frames ≡ length c.args.self.now.core.frames = rw (← c.self.view_is) c.self.invariant in
-    words_written _ _ _ _ _ _ _ _ (uid_in (frame_at c.args.self.now.core c.args.f)) (number_in (frame_at c.args.self.now.core c.args.f)) c.args.f _
+    let inside : c.args.f < length c.args.self.now.core.frames =
+    bound_inside c.args.self.now.core c.args.f c.requires.bound in
+    let count : length c.args.self.now.frames ≡ length c.args.self.now.core.frames =
+    rw (← c.self.view_is) c.self.invariant in
+    words_written _ _ _ _ _ _ _ _ (uid_in (frame_at c.args.self.now.core c.args.f))
+    (number_in (frame_at c.args.self.now.core c.args.f)) c.args.f _
     (search (rules, bindings_referred)) (grind (arith, common_steps)) (search rules) (search rules)
-    (binding_is c.args.self.now.core c.args.f ∙ bound_to (frame_at c.args.self.now.core c.args.f) c.requires.bound) (omega (arith, inside, count)) once
+    (binding_is c.args.self.now.core c.args.f ∙ bound_to (frame_at c.args.self.now.core c.args.f) c.requires.bound)
+    (omega (arith, inside, count)) once
 
 pub returns-clause-ties : goal.returns-clause-ties
 returns-clause-ties g c =
     ties_marked (plain g.D.Drive.pages c.args.self.now) _
-    (marks_written (plain g.D.Drive.pages c.args.self.now) _ c.args.f c.set.new.self (search rules) (search (rules, bindings_referred))
+    (marks_written (plain g.D.Drive.pages c.args.self.now) _ c.args.f c.set.new.self (search rules)
+    (search (rules, bindings_referred))
     (grind (arith, common_steps))
     (search rules) (search rules) (search rules) c.requires.bound)

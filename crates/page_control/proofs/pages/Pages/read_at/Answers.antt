@@ -13,8 +13,10 @@ size-requires g c =
 pub prove-unreachable-requires : goal.prove-unreachable-requires
 prove-unreachable-requires g c =
     let lt : c.record_out-r.result < length (flags_of (plain g.D.Drive.pages c.args.self.now) c.args.home.volume) =
-    used_within _ _ (c.requires.tie.records.used c.args.home.volume c.args.home.entry c.args.p _ (c.requires.tie.map.out c.args.p _ c.record_out-r.ensures)) in
-    let size : c.size.result ≡ length (flags_of (plain g.D.Drive.pages c.args.self.now) c.args.home.volume) = search rules in
+    used_within _ _ (c.requires.tie.records.used c.args.home.volume c.args.home.entry c.args.p _
+    (c.requires.tie.map.out c.args.p _ c.record_out-r.ensures)) in
+    let size : c.size.result ≡ length (flags_of (plain g.D.Drive.pages c.args.self.now) c.args.home.volume) =
+    search rules in
     omega (arith, lt, size, c.if-prove.true)
 
 pub read_page-requires-clause-volume : goal.read_page-requires-clause-volume
@@ -24,7 +26,8 @@ read_page-requires-clause-volume g c =
 
 pub returns-in-Ok-clause-read : goal.returns-in-Ok-clause-read
 returns-in-Ok-clause-read g c =
-    let r : record_of (plain g.D.Drive.pages c.args.self.now) c.args.home c.args.p ≡ c.record_out-r.result = out_record _ _ _ _ _ _ c.requires.tie
+    let r : record_of (plain g.D.Drive.pages c.args.self.now) c.args.home c.args.p ≡ c.record_out-r.result =
+    out_record _ _ _ _ _ _ c.requires.tie
     c.record_out-r.ensures in
     record {
       effect = rw r (grind (arith, common_steps));

@@ -9,5 +9,6 @@ prove-unreachable-requires g c =
     (flags_of (plain g.D.Drive.pages c.args.self.now) c.args.home.volume) =
     used_within _ _ (c.requires.records.used c.args.home.volume c.args.home.entry c.args.p _ c.requires.filed) in
     let same : c.in-Some.r ≡ record_of (plain g.D.Drive.pages c.args.self.now) c.args.home c.args.p = search rules in
-    let size : c.size.result ≡ length (flags_of (plain g.D.Drive.pages c.args.self.now) c.args.home.volume) = search rules in
+    let size : c.size.result ≡ length (flags_of (plain g.D.Drive.pages c.args.self.now) c.args.home.volume) =
+    search rules in
     omega (arith, lt, same, size, c.if-prove.true)

@@ -3,4 +3,5 @@ use Rattle.page_control.proofs.Pictures.{shown_out}
 use Rattle.page_control.proofs.pages.Pages.volumes.Goals as goal
 
 pub returns-clause-away : goal.returns-clause-away
-returns-clause-away g c = λ uid p home away. shown_out (plain g.D.Drive.pages c.args.self.now) uid p home (λ f at. away (f, at))
+returns-clause-away g c = λ uid p home away. shown_out (plain g.D.Drive.pages c.args.self.now) uid p home
+    (λ f at. away (f, at))

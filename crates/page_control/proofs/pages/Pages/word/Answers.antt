@@ -7,6 +7,7 @@ use Rattle.page_control.proofs.pages.Pages.word.Goals as goal
 pub returns-clause-ties : goal.returns-clause-ties
 returns-clause-ties g c =
     ties_marked (plain g.D.Drive.pages c.args.self.now) _
-    (marks_read (plain g.D.Drive.pages c.args.self.now) _ c.args.f (search rules) (search (rules, bindings_referred)) (search rules) (search rules)
+    (marks_read (plain g.D.Drive.pages c.args.self.now) _ c.args.f (search rules) (search (rules, bindings_referred))
+    (search rules) (search rules)
     (search rules)
     (search rules) c.requires.bound)

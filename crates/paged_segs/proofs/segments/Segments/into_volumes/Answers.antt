@@ -19,7 +19,9 @@ returns-clause-words c = λ home uid p used.
     (subst (λ (s : Segs). words_at s.storage uid home p ≡ words_out s.storage home p) c.self.view_is away)
 
 pub returns-clause-stored : goal.returns-clause-stored
-returns-clause-stored c = λ home uid p used. stored_left c.args.self home uid p (subst IsKept c.self.view_is c.self.invariant.0) used
+returns-clause-stored c = λ home uid p used. stored_left c.args.self home uid p
+    (subst IsKept c.self.view_is c.self.invariant.0) used
 
 pub returns-clause-zeros : goal.returns-clause-zeros
-returns-clause-zeros c = λ uid p stored all. none_zeros c.args.self uid p (subst IsKept c.self.view_is c.self.invariant.0) c.requires stored all
+returns-clause-zeros c = λ uid p stored all. none_zeros c.args.self uid p
+    (subst IsKept c.self.view_is c.self.invariant.0) c.requires stored all

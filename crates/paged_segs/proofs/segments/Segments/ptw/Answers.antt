@@ -22,62 +22,71 @@ look-requires c =
 pub returns-clause-word : goal.returns-clause-word
 returns-clause-word c =
     let il : c.args.i < length c.self.inside.homes.items = search rules in
-    (seen_from (segs_of c.self.inside.pages c.self.inside.tables.items c.self.inside.homes.items) c.args.self.now c.args.i c.args.page c.index.result.now
+    (seen_from (segs_of c.self.inside.pages c.self.inside.tables.items c.self.inside.homes.items) c.args.self.now
+    c.args.i c.args.page c.index.result.now
     c.look.result c.self.view_is
     c.self.invariant.0 il c.index.ensures c.look.ensures.word c.look.ensures.seen).word
 
 pub returns-clause-stays : goal.returns-clause-stays
 returns-clause-stays c =
     let il : c.args.i < length c.self.inside.homes.items = search rules in
-    (seen_from (segs_of c.self.inside.pages c.self.inside.tables.items c.self.inside.homes.items) c.args.self.now c.args.i c.args.page c.index.result.now
+    (seen_from (segs_of c.self.inside.pages c.self.inside.tables.items c.self.inside.homes.items) c.args.self.now
+    c.args.i c.args.page c.index.result.now
     c.look.result c.self.view_is
     c.self.invariant.0 il c.index.ensures c.look.ensures.word c.look.ensures.seen).stays
 
 pub returns-clause-stored : goal.returns-clause-stored
 returns-clause-stored c =
     let il : c.args.i < length c.self.inside.homes.items = search rules in
-    (seen_from (segs_of c.self.inside.pages c.self.inside.tables.items c.self.inside.homes.items) c.args.self.now c.args.i c.args.page c.index.result.now
+    (seen_from (segs_of c.self.inside.pages c.self.inside.tables.items c.self.inside.homes.items) c.args.self.now
+    c.args.i c.args.page c.index.result.now
     c.look.result c.self.view_is
     c.self.invariant.0 il c.index.ensures c.look.ensures.word c.look.ensures.seen).stored
 
 pub returns-clause-null : goal.returns-clause-null
 returns-clause-null c =
     let il : c.args.i < length c.self.inside.homes.items = search rules in
-    (seen_from (segs_of c.self.inside.pages c.self.inside.tables.items c.self.inside.homes.items) c.args.self.now c.args.i c.args.page c.index.result.now
+    (seen_from (segs_of c.self.inside.pages c.self.inside.tables.items c.self.inside.homes.items) c.args.self.now
+    c.args.i c.args.page c.index.result.now
     c.look.result c.self.view_is
     c.self.invariant.0 il c.index.ensures c.look.ensures.word c.look.ensures.seen).null
 
 pub returns-clause-bound : goal.returns-clause-bound
 returns-clause-bound c =
     let il : c.args.i < length c.self.inside.homes.items = search rules in
-    (seen_from (segs_of c.self.inside.pages c.self.inside.tables.items c.self.inside.homes.items) c.args.self.now c.args.i c.args.page c.index.result.now
+    (seen_from (segs_of c.self.inside.pages c.self.inside.tables.items c.self.inside.homes.items) c.args.self.now
+    c.args.i c.args.page c.index.result.now
     c.look.result c.self.view_is
     c.self.invariant.0 il c.index.ensures c.look.ensures.word c.look.ensures.seen).bound
 
 pub returns-clause-here : goal.returns-clause-here
 returns-clause-here c =
     let il : c.args.i < length c.self.inside.homes.items = search rules in
-    (seen_from (segs_of c.self.inside.pages c.self.inside.tables.items c.self.inside.homes.items) c.args.self.now c.args.i c.args.page c.index.result.now
+    (seen_from (segs_of c.self.inside.pages c.self.inside.tables.items c.self.inside.homes.items) c.args.self.now
+    c.args.i c.args.page c.index.result.now
     c.look.result c.self.view_is
     c.self.invariant.0 il c.index.ensures c.look.ensures.word c.look.ensures.seen).here
 
 pub returns-clause-uid : goal.returns-clause-uid
 returns-clause-uid c =
     let il : c.args.i < length c.self.inside.homes.items = search rules in
-    (seen_from (segs_of c.self.inside.pages c.self.inside.tables.items c.self.inside.homes.items) c.args.self.now c.args.i c.args.page c.index.result.now
+    (seen_from (segs_of c.self.inside.pages c.self.inside.tables.items c.self.inside.homes.items) c.args.self.now
+    c.args.i c.args.page c.index.result.now
     c.look.result c.self.view_is
     c.self.invariant.0 il c.index.ensures c.look.ensures.word c.look.ensures.seen).uid
 
 pub returns-clause-number : goal.returns-clause-number
 returns-clause-number c =
     let il : c.args.i < length c.self.inside.homes.items = search rules in
-    (seen_from (segs_of c.self.inside.pages c.self.inside.tables.items c.self.inside.homes.items) c.args.self.now c.args.i c.args.page c.index.result.now
+    (seen_from (segs_of c.self.inside.pages c.self.inside.tables.items c.self.inside.homes.items) c.args.self.now
+    c.args.i c.args.page c.index.result.now
     c.look.result c.self.view_is
     c.self.invariant.0 il c.index.ensures c.look.ensures.word c.look.ensures.seen).number
 
 pub returns-clause-words : goal.returns-clause-words
 returns-clause-words c =
     let il : c.args.i < length c.self.inside.homes.items = search rules in
-    (seen_from (segs_of c.self.inside.pages c.self.inside.tables.items c.self.inside.homes.items) c.args.self.now c.args.i c.args.page c.index.result.now
+    (seen_from (segs_of c.self.inside.pages c.self.inside.tables.items c.self.inside.homes.items) c.args.self.now
+    c.args.i c.args.page c.index.result.now
     c.look.result c.self.view_is
     c.self.invariant.0 il c.index.ensures c.look.ensures.word c.look.ensures.seen).words

@@ -18,8 +18,10 @@ invariant_of-self c =
     let gap : IsGap (directory_maps c.self.inside.cells.items).directories c.args.uid c.in-Err.at =
     subst (λ (m : CellMaps). IsGap m.directories c.args.uid c.in-Err.at) (sym c.self.view_is) c.in-Err.ensures.gap in (
       subst IsRising (sym (ap (map (λ x. x.uid)) c.in-Ok.ensures.items
-          ∙ map-insert (λ x. x.uid) c.self.inside.cells.items c.in-Err.at (record { uid = c.args.uid; quota = 0; load = 0 })))
-          (rising_insert (directory_maps c.self.inside.cells.items).directories c.args.uid c.in-Err.at c.self.invariant.0 gap),
+          ∙ map-insert (λ x. x.uid) c.self.inside.cells.items c.in-Err.at
+          (record { uid = c.args.uid; quota = 0; load = 0 })))
+          (rising_insert (directory_maps c.self.inside.cells.items).directories c.args.uid c.in-Err.at
+          c.self.invariant.0 gap),
       omega (arith, c.self.invariant.1, c.in-Ok.ensures.capacity),
     )
 

@@ -3,4 +3,5 @@ use Rattle.quota_cells.proofs.PlaceLaws.{gap_absent}
 use Rattle.quota_cells.proofs.directories.Directories.place.Goals as goal
 
 pub unreachable-requires : goal.unreachable-requires
-unreachable-requires c = both_ways _ (gap_absent c.args.self.now.directories c.args.uid _ c.in-Err.ensures.gap) c.requires
+unreachable-requires c = both_ways _ (gap_absent c.args.self.now.directories c.args.uid _ c.in-Err.ensures.gap)
+    c.requires

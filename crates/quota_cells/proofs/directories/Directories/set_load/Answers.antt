@@ -6,7 +6,8 @@ use Rattle.quota_cells.proofs.directories.Directories.set_load.Goals as goal
 pub invariant_of-self : goal.invariant_of-self
 invariant_of-self c = (
   subst (λ (m : CellMaps). IsRising m.directories)
-      (sym (load_set c.self.inside.cells.items c.args.at c.args.load c.index_mut.result.now c.index_mut.ensures.value)) c.self.invariant.0,
+      (sym (load_set c.self.inside.cells.items c.args.at c.args.load c.index_mut.result.now c.index_mut.ensures.value))
+      c.self.invariant.0,
   c.self.invariant.1,
 )
 

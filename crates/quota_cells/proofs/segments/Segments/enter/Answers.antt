@@ -19,7 +19,8 @@ invariant_of-self c =
     subst (λ (m : CellMaps). IsGap m.segments c.args.uid c.in-Err.at) (sym c.self.view_is) c.in-Err.ensures.gap in (
       subst IsRising (sym (ap (map (λ x. x.uid)) c.in-Ok.ensures.items
           ∙ map-insert (λ x. x.uid) c.self.inside.counts.items c.in-Err.at (record { uid = c.args.uid; pages = 0 })))
-          (rising_insert (segment_maps c.self.inside.counts.items).segments c.args.uid c.in-Err.at c.self.invariant.0 gap),
+          (rising_insert (segment_maps c.self.inside.counts.items).segments c.args.uid c.in-Err.at c.self.invariant.0
+          gap),
       omega (arith, c.self.invariant.1, c.in-Ok.ensures.capacity),
     )
 

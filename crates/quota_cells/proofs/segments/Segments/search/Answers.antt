@@ -14,7 +14,8 @@ pub returns : goal.returns
 returns c =
     let facts = c.binary_search_by_key.ensures in
     let by_key = facts.position (λ x. x.uid) (answers_always _ _ _ (λ f a r g called. search rules)) in
-    let found = searched_by (λ x. x.uid) c.self.inside.counts.items none c.self.invariant.0 c.args.uid _ (rw c.deref.ensures.value at facts.bound)
+    let found = searched_by (λ x. x.uid) c.self.inside.counts.items none c.self.invariant.0 c.args.uid _
+    (rw c.deref.ensures.value at facts.bound)
     (rw c.deref.ensures.value at by_key) in
     subst (λ (m : CellMaps). record {
       found : IfOk c.binary_search_by_key.result (λ i. i < length m.segments);

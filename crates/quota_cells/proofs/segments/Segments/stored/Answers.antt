@@ -11,7 +11,8 @@ returns-in-Ok c =
     subst (λ (m : CellMaps). c.in-Ok.at < length m.segments) (sym c.self.view_is) c.in-Ok.ensures.found in
     let is : get_or (map (λ x. x.uid) c.self.inside.counts.items) c.in-Ok.at 0 ≡ c.args.uid =
     subst (λ (m : CellMaps). get_or m.segments c.in-Ok.at 0 ≡ c.args.uid) (sym c.self.view_is) c.in-Ok.ensures.is in
-    pages_read c.self.inside.counts.items c.self.invariant.0 c.in-Ok.at c.args.uid within is c.index.result.now c.index.ensures
+    pages_read c.self.inside.counts.items c.self.invariant.0 c.in-Ok.at c.args.uid within is c.index.result.now
+    c.index.ensures
     ∙ ap (λ (m : CellMaps). stored_in m c.args.uid) c.self.view_is
 
 pub returns-in-Err : goal.returns-in-Err

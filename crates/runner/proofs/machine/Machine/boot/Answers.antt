@@ -22,8 +22,10 @@ invariant_of-result c =
     let t = c.in_ok-tables.tables in
     let e = c.in_ok-tables.ensures in
     let volumes = c.in_ok-volumes.ensures ∙ ap volumes_of c.volumes.ensures in
-    let segs = e.segments ∙ ap (λ (n : ℕ). begun n c.in_ok-volumes.volumes) c.frames.ensures ∙ ap (begun p.frames) volumes in
+    let segs = e.segments ∙ ap (λ (n : ℕ). begun n c.in_ok-volumes.volumes) c.frames.ensures
+    ∙ ap (begun p.frames) volumes in
     let used_is = e.used ∙ ap (λ (v : Vols DriveState). one_more (used v.vtocs) 0) volumes in
-    let held : Holds p [] t = holds_begun p t c.requires segs e.words e.filed used_is e.tree e.known e.lengths e.stored in
+    let held : Holds p [] t = holds_begun p t c.requires segs e.words e.filed used_is e.tree e.known e.lengths e.stored
+    in
     subst (λ (x : Plan). Holds x c.in-Ok.book.entries t) (sym c.in-Ok.ensures.script)
     (subst (λ (es : List Entry). Holds p es t) (sym c.in-Ok.ensures.empty) held)

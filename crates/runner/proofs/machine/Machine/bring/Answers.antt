@@ -4,7 +4,8 @@ use Rattle.runner.specs.Looks.{IsHere}
 use Rattle.runner.proofs.Booking.{IsBooked, holds_here, at_here}
 use Rattle.runner.proofs.machine.Machine.bring.Goals as goal
 
-booked : (c : goal.After-push) → IsBooked c.self.inside.book.script c.push.new.self.script c.self.inside.book.entries c.push.new.self.entries
+booked : (c : goal.After-push) → IsBooked c.self.inside.book.script c.push.new.self.script c.self.inside.book.entries
+    c.push.new.self.entries
     (entry.Here c.bring-frame.result (c.args.segment + 2) c.args.page)
 booked c = record { script = c.push.ensures.script; entries = c.push.ensures.entries }
 

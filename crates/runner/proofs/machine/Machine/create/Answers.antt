@@ -29,7 +29,13 @@ create-frame-requires-clause-count c =
     let look = rw (← c.self.view_is) at c.requires.look in
     let quota = (create_asked _ _ _ _ _ _ _ _ c.self.invariant look).new.quota in
     let other : c.self.inside.tables.stored ≢ c.self.inside.book.script.quota = grind (arith, nat_tests, quota) in
-    omega (arith, other, c.self.invariant.form.quota, c.self.invariant.tied.counted.stored, c.self.invariant.tied.counted.within)
+    omega (
+      arith,
+      other,
+      c.self.invariant.form.quota,
+      c.self.invariant.tied.counted.stored,
+      c.self.invariant.tied.counted.within,
+    )
 
 pub overflow_add-segment : goal.overflow_add-segment
 overflow_add-segment c =
@@ -37,15 +43,18 @@ overflow_add-segment c =
     let there = (create_asked _ _ _ _ _ _ _ _ c.self.invariant look).target.there in
     omega (arith, there, c.self.invariant.tied.named.few)
 
-step : (c : goal.After-push_answer) → HasGoneOn c.push_answer.new.book.script c.push_answer.new.book.entries c.create-frame.new.self c.args.place
+step : (c : goal.After-push_answer) → HasGoneOn c.push_answer.new.book.script c.push_answer.new.book.entries
+    c.create-frame.new.self c.args.place
 step c =
     let look = rw (← c.self.view_is) at c.requires.look in
     let at = rw (← c.self.view_is) at c.requires.at in
     let command = rw (← c.self.view_is) at c.requires.command in
     let seen = rw (← c.self.view_is) at c.requires.seen in
-    created_on _ _ _ _ _ _ _ _ c.args.place c.args.number c.args.offset c.args.word c.args.segment c.args.page c.create-frame.result
+    created_on _ _ _ _ _ _ _ _ c.args.place c.args.number c.args.offset c.args.word c.args.segment c.args.page
+    c.create-frame.result
     (record { script = c.push.ensures.script; entries = c.push.ensures.entries })
-    (record { script = c.push_answer.ensures.script; entries = c.push_answer.ensures.entries }) c.self.invariant at command look seen
+    (record { script = c.push_answer.ensures.script; entries = c.push_answer.ensures.entries }) c.self.invariant at
+    command look seen
     c.create-frame.ensures.created
 
 pub invariant_of-self : goal.invariant_of-self

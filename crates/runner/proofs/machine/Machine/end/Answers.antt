@@ -7,7 +7,8 @@ invariant_of-self c =
     let at = rw (← c.self.view_is) at c.requires.at in
     let command = rw (← c.self.view_is) at c.requires.command in
     holds_ended b.script _ b.entries _ c.self.inside.tables c.args.place
-    (record { script = c.push_answer.ensures.script; entries = c.push_answer.ensures.entries }) c.self.invariant at command
+    (record { script = c.push_answer.ensures.script; entries = c.push_answer.ensures.entries }) c.self.invariant at
+    command
 
 pub returns-clause-complete : goal.returns-clause-complete
 returns-clause-complete c =

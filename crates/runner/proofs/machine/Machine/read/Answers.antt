@@ -11,7 +11,8 @@ answer-requires-clause-done c =
     let m = c.approach.new.self in
     let a = c.approach.ensures in
     let command = ap (λ (p : Plan). command_at p 0 c.args.place) a.script ∙ c.requires.command in
-    answered_read m.script m.entries m.held c.args.place c.args.number c.args.offset c.in-Answer.reply a.holds (a.at c.args.place c.requires.at) command
+    answered_read m.script m.entries m.held c.args.place c.args.number c.args.offset c.in-Answer.reply a.holds
+    (a.at c.args.place c.requires.at) command
     (sym a.look ∙ c.in-Answer.is) a.seen
 
 pub read_through-requires-clause-target : goal.read_through-requires-clause-target
@@ -26,7 +27,8 @@ read_through-requires-clause-frame c =
     let m = c.approach.new.self in
     let a = c.approach.ensures in
     let x = c.in-Through.target in
-    let there = through_target m.script.quota m.held c.args.number c.args.offset None c.approach.result x (sound_of _ _ _ a.holds) a.look c.in-Through.is in
+    let there = through_target m.script.quota m.held c.args.number c.args.offset None c.approach.result x
+    (sound_of _ _ _ a.holds) a.look c.in-Through.is in
     (a.seen x.segment x.page there.target).here x.frame there.here
 
 pub unreachable-requires : goal.unreachable-requires
@@ -35,5 +37,6 @@ unreachable-requires c =
     let a = c.approach.ensures in
     elim c.in-Bring.is [
       | inl b ↦ subst IsNotOut b.2 a.reached
-      | inr d ↦ read_makes_nothing m.script.quota m.held c.args.number c.args.offset c.approach.result d.0 d.1 (sound_of _ _ _ a.holds) a.look d.2
+      | inr d ↦ read_makes_nothing m.script.quota m.held c.args.number c.args.offset c.approach.result d.0 d.1
+          (sound_of _ _ _ a.holds) a.look d.2
     ]

@@ -17,7 +17,8 @@ returns-in-Err-clause-asked c =
     let at = rw (← c.self.view_is) at c.requires.at in
     let is = rw (← c.self.view_is) at c.command.ensures.is in
     let told = rw (← c.self.view_is) at c.new_segment.ensures.new in
-    rw (← c.self.view_is) (make_refused b.script b.entries c.self.inside.tables c.args.place m.pages m.volume m.path c.in-Err.reply c.self.invariant at
+    rw (← c.self.view_is) (make_refused b.script b.entries c.self.inside.tables c.args.place m.pages m.volume m.path
+    c.in-Err.reply c.self.invariant at
     (is ∙ ap (λ (x : Command). Some x) m.is) (sym c.in-Err.is ∙ told))
 
 pub returns-in-Err-segment_of-clause-asked : goal.returns-in-Err-segment_of-clause-asked
@@ -26,5 +27,6 @@ returns-in-Err-segment_of-clause-asked c =
     let at = rw (← c.self.view_is) at c.requires.at in
     let is = rw (← c.self.view_is) at c.command.ensures.is in
     let found = c.segment_of.ensures (root_quota b.script.quota) in
-    rw (← c.self.view_is) (know_refused b.script b.entries c.self.inside.tables c.args.place c.in-Initiate.path c.in-Err-segment_of.reply c.self.invariant at
+    rw (← c.self.view_is) (know_refused b.script b.entries c.self.inside.tables c.args.place c.in-Initiate.path
+    c.in-Err-segment_of.reply c.self.invariant at
     (is ∙ ap (λ (x : Command). Some x) c.in-Initiate.is) (sym c.in-Err-segment_of.is ∙ found))

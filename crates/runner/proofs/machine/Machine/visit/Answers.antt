@@ -13,7 +13,8 @@ invariant_of-self-in-Some c =
       entries = c.push_gone.ensures.entries
           ∙ ap (λ (xs : List Entry). xs ++ left_entries c.in-Some.gone) c.reserve.ensures.entries;
     } in
-    holds_left b.script c.push_gone.new.book.script b.entries c.push_gone.new.book.entries c.self.inside.tables c.visit.new.self c.in-Some.gone told
+    holds_left b.script c.push_gone.new.book.script b.entries c.push_gone.new.book.entries c.self.inside.tables
+    c.visit.new.self c.in-Some.gone told
     c.self.invariant c.in-Some.ensures.gone c.in-Some.ensures.filed
 
 pub returns-in-Some-clause-complete : goal.returns-in-Some-clause-complete
@@ -26,4 +27,5 @@ returns-in-Some-clause-complete c =
           ∙ ap (λ (xs : List Entry). xs ++ left_entries c.in-Some.gone) c.reserve.ensures.entries;
     } in
     let complete = rw (← c.self.view_is) at c.requires.complete in
-    complete_left b.script c.push_gone.new.book.script b.entries c.push_gone.new.book.entries c.in-Some.gone told complete
+    complete_left b.script c.push_gone.new.book.script b.entries c.push_gone.new.book.entries c.in-Some.gone told
+    complete

@@ -4,7 +4,8 @@ use Rattle.runner.proofs.Answering.{write_through}
 use Rattle.runner.proofs.Booking.{HasGoneOn, booked_step}
 use Rattle.runner.proofs.machine.Machine.write_through.Goals as goal
 
-step : (c : goal.After-push_answer) → HasGoneOn c.push_answer.new.book.script c.push_answer.new.book.entries c.put.new.self c.args.place
+step : (c : goal.After-push_answer) → HasGoneOn c.push_answer.new.book.script c.push_answer.new.book.entries
+    c.put.new.self c.args.place
 step c =
     let b = c.self.inside.book in
     let at = rw (← c.self.view_is) at c.requires.at in
@@ -12,7 +13,8 @@ step c =
     let target = rw (← c.self.view_is) at c.requires.target in
     let frame = rw (← c.self.view_is) at c.requires.frame in
     let a = c.args in
-    let done = write_through b.script b.entries c.self.inside.tables c.put.new.self a.place a.number a.offset a.word a.target.segment a.target.page
+    let done = write_through b.script b.entries c.self.inside.tables c.put.new.self a.place a.number a.offset a.word
+    a.target.segment a.target.page
     c.self.invariant at command target frame.filed c.put.ensures in
     booked_step b.script _ b.entries _ _ _ a.place
     (Some a.target.frame) reply.Done c.push_answer.ensures.script c.push_answer.ensures.entries c.self.invariant at done

@@ -8,10 +8,12 @@ pub returns-in-Ok : goal.returns-in-Ok
 returns-in-Ok c = λ quota.
     sym (segment_found quota c.args.self.now.tree.nodes c.args.path.now c.in-Ok.uid c.walk.result c.in-Ok.is
     (rw (← c.self.view_is) (c.walk.ensures.answer quota))
-    ∙ ap (λ (z : Bool). cond z (Err reply.IsDir) (Ok c.in-Ok.uid)) (sym c.is_directory.ensures ∙ c.if-is_directory.true))
+    ∙ ap (λ (z : Bool). cond z (Err reply.IsDir) (Ok c.in-Ok.uid))
+    (sym c.is_directory.ensures ∙ c.if-is_directory.true))
 
 pub returns-in-Ok-2 : goal.returns-in-Ok-2
 returns-in-Ok-2 c = λ quota.
     sym (segment_found quota c.args.self.now.tree.nodes c.args.path.now c.in-Ok.uid c.walk.result c.in-Ok.is
     (rw (← c.self.view_is) (c.walk.ensures.answer quota))
-    ∙ ap (λ (z : Bool). cond z (Err reply.IsDir) (Ok c.in-Ok.uid)) (sym c.is_directory.ensures ∙ c.if-is_directory.false))
+    ∙ ap (λ (z : Bool). cond z (Err reply.IsDir) (Ok c.in-Ok.uid))
+    (sym c.is_directory.ensures ∙ c.if-is_directory.false))

@@ -9,17 +9,21 @@ use Rattle.seg_control.proofs.segs.Segs.activate_next.Goals as goal
 pub make_active-requires-clause-superior : goal.make_active-requires-clause-superior
 make_active-requires-clause-superior g c =
     λ superior e. rw (← c.self.view_is)
-    (superior_active c.self.inside.ast.entries c.args.chain.now c.in-Some.i superior c.in-Some.ensures.some (sym c.superior_in.ensures ∙ e))
+    (superior_active c.self.inside.ast.entries c.args.chain.now c.in-Some.i superior c.in-Some.ensures.some
+    (sym c.superior_in.ensures ∙ e))
 
 pub victim-requires-clause-superiors : goal.victim-requires-clause-superiors
 victim-requires-clause-superiors g c =
-    let may : MayActivate c.self.inside.ast c.self.inside.pages.volumes.vtocs (length c.self.inside.pages.volumes.drives) c.args.chain.now = search rules in
+    let may : MayActivate c.self.inside.ast c.self.inside.pages.volumes.vtocs
+    (length c.self.inside.pages.volumes.drives) c.args.chain.now = search rules in
     subst (HasItsSuperiors c.self.inside.ast.entries) (sym (c.deref.ensures.0 ∙ c.uids_in.ensures))
-    (its_superiors c.self.inside.ast c.self.inside.pages.volumes.vtocs (length c.self.inside.pages.volumes.drives) c.args.chain.now may)
+    (its_superiors c.self.inside.ast c.self.inside.pages.volumes.vtocs (length c.self.inside.pages.volumes.drives)
+    c.args.chain.now may)
 
 pub returns-in_default-clause-victim : goal.returns-in_default-clause-victim
 returns-in_default-clause-victim g c =
-    λ place. rw (← c.self.view_is) (λ going. going_whole c.self.inside.ast c.args.chain.now place c.in_default.ensures.none going)
+    λ place. rw (← c.self.view_is) (λ going. going_whole c.self.inside.ast c.args.chain.now place
+    c.in_default.ensures.none going)
 
 pub returns-in-Some-free_in-clause-victim : goal.returns-in-Some-free_in-clause-victim
 returns-in-Some-free_in-clause-victim g c =
@@ -32,5 +36,6 @@ returns-in-None-clause-victim g c =
     λ place. rw (← c.self.view_is)
     (λ going. ap (λ (q : ℕ). Victim q)
     (sym (going_is c.self.inside.ast c.args.chain.now place c.victim.result c.in-Some.i c.in-Some.ensures.some
-    (subst (λ (uids : List ℕ). (q : ℕ) → IsVictim c.self.inside.ast (link_at c.args.chain.now c.in-Some.i).pool uids q → q ≡ c.victim.result)
+    (subst (λ (uids : List ℕ). (q : ℕ) → IsVictim c.self.inside.ast (link_at c.args.chain.now c.in-Some.i).pool uids q
+    → q ≡ c.victim.result)
     (c.deref.ensures.0 ∙ c.uids_in.ensures) c.victim.ensures.only) going)))

@@ -12,26 +12,35 @@ use Rattle.seg_control.proofs.segs.Segs.create_page.Goals as goal
 
 pub create_page-requires-clause-tie : goal.create_page-requires-clause-tie
 create_page-requires-clause-tie g c =
-    let home : IsHomeFor (plain g.D.Drive.pages c.self.inside.pages) c.args.uid c.args.home (table_of c.self.inside.ast c.args.uid) = search rules in
-    tie_of (plain g.D.Drive.pages c.self.inside.pages) c.self.inside.ast c.self.inside.links c.place_in-place.result c.args.uid c.args.home _ c.self.invariant
+    let home : IsHomeFor (plain g.D.Drive.pages c.self.inside.pages) c.args.uid c.args.home
+    (table_of c.self.inside.ast c.args.uid) = search rules in
+    tie_of (plain g.D.Drive.pages c.self.inside.pages) c.self.inside.ast c.self.inside.links c.place_in-place.result
+    c.args.uid c.args.home _ c.self.invariant
     c.place_in-place.ensures.at c.table_mut.ensures.value
-    (home_here (plain g.D.Drive.pages c.self.inside.pages) c.self.inside.ast c.place_in-place.result c.args.uid c.args.home _ c.place_in-place.ensures.is
+    (home_here (plain g.D.Drive.pages c.self.inside.pages) c.self.inside.ast c.place_in-place.result c.args.uid
+    c.args.home _ c.place_in-place.ensures.is
     c.table_mut.ensures.value home)
 
 pub invariant_of-self : goal.invariant_of-self
 invariant_of-self g c =
     let null : word_of c.self.inside.ast c.args.uid c.args.p ≡ Null = search rules in
     let word : ptw_at c.table_mut.result.now c.args.p ≡ Null =
-    ap (λ (those : List Ptw). ptw_at those c.args.p) (c.table_mut.ensures.value ∙ ap (table_at c.self.inside.ast.tables) c.place_in-place.ensures.is) ∙ null in
-    kept_created c.create_page.result (plain g.D.Drive.pages c.self.inside.pages) (plain g.D.Drive.pages c.create_page.new.self) c.self.inside.ast
-    c.self.inside.links c.place_in-place.result c.args.uid c.args.p c.args.f c.args.home _ _ c.self.invariant c.place_in-place.ensures.at
-    c.place_in-place.ensures.within c.table_mut.ensures.value word c.create_page.ensures.tie c.create_page.ensures.others c.create_page.ensures.word
+    ap (λ (those : List Ptw). ptw_at those c.args.p) (c.table_mut.ensures.value
+    ∙ ap (table_at c.self.inside.ast.tables) c.place_in-place.ensures.is) ∙ null in
+    kept_created c.create_page.result (plain g.D.Drive.pages c.self.inside.pages)
+    (plain g.D.Drive.pages c.create_page.new.self) c.self.inside.ast
+    c.self.inside.links c.place_in-place.result c.args.uid c.args.p c.args.f c.args.home _ _ c.self.invariant
+    c.place_in-place.ensures.at
+    c.place_in-place.ensures.within c.table_mut.ensures.value word c.create_page.ensures.tie
+    c.create_page.ensures.others c.create_page.ensures.word
     c.create_page.ensures.bound
-    (lost_created c.create_page.result (plain g.D.Drive.pages c.self.inside.pages) (plain g.D.Drive.pages c.create_page.new.self) c.args.uid c.args.p c.args.home
+    (lost_created c.create_page.result (plain g.D.Drive.pages c.self.inside.pages)
+    (plain g.D.Drive.pages c.create_page.new.self) c.args.uid c.args.p c.args.home
     c.args.f c.args.at c.args.w c.create_page.ensures.effect) c.create_page.ensures.reads
 
 pub returns-clause-word : goal.returns-clause-word
 returns-clause-word g c =
     rw (← c.self.view_is)
-    (table_is_here c.create_page.result c.self.inside.ast c.place_in-place.result c.args.uid c.args.p c.args.f _ _ c.place_in-place.ensures.is
+    (table_is_here c.create_page.result c.self.inside.ast c.place_in-place.result c.args.uid c.args.p c.args.f _ _
+    c.place_in-place.ensures.is
     c.table_mut.ensures.value c.create_page.ensures.word)

@@ -7,7 +7,8 @@ use Rattle.seg_control.proofs.segs.Segs.cut_from.Goals as goal
 pub invariant_of-self : goal.invariant_of-self
 invariant_of-self g c =
     kept_paged _ _ _ _ c.self.invariant
-    (paged_same _ _ _ _ c.self.invariant.paged c.cut_from.ensures.bindings (same_vtocs _ _ c.cut_from.ensures.volumes) (same_records _ _ c.cut_from.ensures.volumes)
+    (paged_same _ _ _ _ c.self.invariant.paged c.cut_from.ensures.bindings (same_vtocs _ _ c.cut_from.ensures.volumes)
+    (same_records _ _ c.cut_from.ensures.volumes)
     c.cut_from.ensures.ties c.cut_from.ensures.reads)
 
 pub returns-clause-words : goal.returns-clause-words

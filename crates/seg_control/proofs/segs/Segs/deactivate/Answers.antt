@@ -14,4 +14,5 @@ invariant_of-self g c =
     let cut : trailers_of c.self.inside.links.trailers c.args.place ≡ [] = search rules in
     let tree : IsTree (deactivated c.self.inside.ast c.args.place).entries = search rules in
     rw c.deactivate.ensures.inactive
-    (kept_deactivated (plain g.D.Drive.pages c.self.inside.pages) c.self.inside.ast c.self.inside.links c.args.place c.self.invariant within away idle cut tree)
+    (kept_deactivated (plain g.D.Drive.pages c.self.inside.pages) c.self.inside.ast c.self.inside.links c.args.place
+    c.self.invariant within away idle cut tree)

@@ -11,18 +11,26 @@ use Rattle.seg_control.proofs.segs.Segs.end_in.Goals as goal
 pub end_in-requires-clause-out : goal.end_in-requires-clause-out
 end_in-requires-clause-out g c =
     let started : frame_at c.self.inside.pages.core c.args.f ≡ Started c.args.uid c.args.p = search rules in
-    out_of (plain g.D.Drive.pages c.self.inside.pages) c.self.inside.ast c.self.inside.links c.place_in-place.result c.args.uid c.args.p c.args.f _ c.self.invariant c.place_in-place.ensures.at c.table_mut.ensures.value
+    out_of (plain g.D.Drive.pages c.self.inside.pages) c.self.inside.ast c.self.inside.links c.place_in-place.result
+    c.args.uid c.args.p c.args.f _ c.self.invariant c.place_in-place.ensures.at c.table_mut.ensures.value
     (started_for c.self.inside.pages.core c.args.f c.args.uid c.args.p started)
 
 pub end_in-requires-clause-tie : goal.end_in-requires-clause-tie
 end_in-requires-clause-tie g c =
-    let home : IsHomeFor (plain g.D.Drive.pages c.self.inside.pages) c.args.uid c.args.home (table_of c.self.inside.ast c.args.uid) = search rules in
-    tie_of (plain g.D.Drive.pages c.self.inside.pages) c.self.inside.ast c.self.inside.links c.place_in-place.result c.args.uid c.args.home _ c.self.invariant c.place_in-place.ensures.at c.table_mut.ensures.value
-    (home_here (plain g.D.Drive.pages c.self.inside.pages) c.self.inside.ast c.place_in-place.result c.args.uid c.args.home _ c.place_in-place.ensures.is c.table_mut.ensures.value home)
+    let home : IsHomeFor (plain g.D.Drive.pages c.self.inside.pages) c.args.uid c.args.home
+    (table_of c.self.inside.ast c.args.uid) = search rules in
+    tie_of (plain g.D.Drive.pages c.self.inside.pages) c.self.inside.ast c.self.inside.links c.place_in-place.result
+    c.args.uid c.args.home _ c.self.invariant c.place_in-place.ensures.at c.table_mut.ensures.value
+    (home_here (plain g.D.Drive.pages c.self.inside.pages) c.self.inside.ast c.place_in-place.result c.args.uid
+    c.args.home _ c.place_in-place.ensures.is c.table_mut.ensures.value home)
 
 pub invariant_of-self : goal.invariant_of-self
 invariant_of-self g c =
     let started : frame_at c.self.inside.pages.core c.args.f ≡ Started c.args.uid c.args.p = search rules in
-    kept_read c.end_in.result (plain g.D.Drive.pages c.self.inside.pages) (plain g.D.Drive.pages c.end_in.new.self) c.self.inside.ast c.self.inside.links c.place_in-place.result c.args.uid c.args.p c.args.f c.args.home _ _ c.self.invariant c.place_in-place.ensures.at
-    c.place_in-place.ensures.within c.table_mut.ensures.value (started_for c.self.inside.pages.core c.args.f c.args.uid c.args.p started) c.end_in.ensures.tie c.end_in.ensures.others c.end_in.ensures.word
+    kept_read c.end_in.result (plain g.D.Drive.pages c.self.inside.pages) (plain g.D.Drive.pages c.end_in.new.self)
+    c.self.inside.ast c.self.inside.links c.place_in-place.result c.args.uid c.args.p c.args.f c.args.home _ _
+    c.self.invariant c.place_in-place.ensures.at
+    c.place_in-place.ensures.within c.table_mut.ensures.value
+    (started_for c.self.inside.pages.core c.args.f c.args.uid c.args.p started) c.end_in.ensures.tie
+    c.end_in.ensures.others c.end_in.ensures.word
     c.end_in.ensures.bound c.end_in.ensures.lost c.end_in.ensures.reads

@@ -15,10 +15,13 @@ use Rattle.seg_control.proofs.segs.Segs.evict.Goals as goal
 pub evict-requires-clause-tie : goal.evict-requires-clause-tie
 evict-requires-clause-tie g c =
     let own : uid_in (frame_at c.self.inside.pages.core c.args.f) ≡ c.args.uid = search rules in
-    let home : IsHomeFor (plain g.D.Drive.pages c.self.inside.pages) c.args.uid c.args.home (table_of c.self.inside.ast c.args.uid) = search rules in
+    let home : IsHomeFor (plain g.D.Drive.pages c.self.inside.pages) c.args.uid c.args.home
+    (table_of c.self.inside.ast c.args.uid) = search rules in
     subst (λ (u : ℕ). IsTied (plain g.D.Drive.pages c.self.inside.pages) u c.args.home c.table_mut.result.now) (sym own)
-    (tie_of (plain g.D.Drive.pages c.self.inside.pages) c.self.inside.ast c.self.inside.links c.place_in-place.result c.args.uid c.args.home _ c.self.invariant c.place_in-place.ensures.at c.table_mut.ensures.value
-    (home_here (plain g.D.Drive.pages c.self.inside.pages) c.self.inside.ast c.place_in-place.result c.args.uid c.args.home _ c.place_in-place.ensures.is c.table_mut.ensures.value home))
+    (tie_of (plain g.D.Drive.pages c.self.inside.pages) c.self.inside.ast c.self.inside.links c.place_in-place.result
+    c.args.uid c.args.home _ c.self.invariant c.place_in-place.ensures.at c.table_mut.ensures.value
+    (home_here (plain g.D.Drive.pages c.self.inside.pages) c.self.inside.ast c.place_in-place.result c.args.uid
+    c.args.home _ c.place_in-place.ensures.is c.table_mut.ensures.value home))
 
 pub invariant_of-self : goal.invariant_of-self
 invariant_of-self g c =
@@ -26,21 +29,29 @@ invariant_of-self g c =
     let p : ℕ = number_in (frame_at c.self.inside.pages.core c.args.f) in
     let leaving : word_of c.self.inside.ast c.args.uid p ≡ Leaving c.args.f = search rules in
     let word : ptw_at c.table_mut.result.now p ≡ Leaving c.args.f =
-    ap (λ (those : List Ptw). ptw_at those p) (c.table_mut.ensures.value ∙ ap (table_at c.self.inside.ast.tables) c.place_in-place.ensures.is) ∙ leaving in
-    kept_evicted c.evict.result (plain g.D.Drive.pages c.self.inside.pages) (plain g.D.Drive.pages c.evict.new.self) c.self.inside.ast c.self.inside.links c.place_in-place.result c.args.uid p c.args.f
-    (record_of (plain g.D.Drive.pages c.self.inside.pages) c.args.home p) c.args.home _ _ c.self.invariant c.place_in-place.ensures.at
+    ap (λ (those : List Ptw). ptw_at those p) (c.table_mut.ensures.value
+    ∙ ap (table_at c.self.inside.ast.tables) c.place_in-place.ensures.is) ∙ leaving in
+    kept_evicted c.evict.result (plain g.D.Drive.pages c.self.inside.pages) (plain g.D.Drive.pages c.evict.new.self)
+    c.self.inside.ast c.self.inside.links c.place_in-place.result c.args.uid p c.args.f
+    (record_of (plain g.D.Drive.pages c.self.inside.pages) c.args.home p) c.args.home _ _ c.self.invariant
+    c.place_in-place.ensures.at
     c.place_in-place.ensures.within c.table_mut.ensures.value word
-    (subst (λ (u : ℕ). IsTied (plain g.D.Drive.pages c.evict.new.self) u c.args.home c.evict.new.t) own c.evict.ensures.tie)
-    (subst (λ (u : ℕ). KeepsOthers (plain g.D.Drive.pages c.self.inside.pages) (plain g.D.Drive.pages c.evict.new.self) u c.args.home) own
+    (subst (λ (u : ℕ). IsTied (plain g.D.Drive.pages c.evict.new.self) u c.args.home c.evict.new.t) own
+    c.evict.ensures.tie)
+    (subst (λ (u : ℕ). KeepsOthers (plain g.D.Drive.pages c.self.inside.pages) (plain g.D.Drive.pages c.evict.new.self)
+    u c.args.home) own
     c.evict.ensures.others)
-    c.evict.ensures.word c.evict.ensures.freed (lost_bindings c.evict.result (plain g.D.Drive.pages c.self.inside.pages) (plain g.D.Drive.pages c.evict.new.self) c.args.home p c.args.f c.evict.ensures.effect) c.evict.ensures.reads
+    c.evict.ensures.word c.evict.ensures.freed (lost_bindings c.evict.result
+    (plain g.D.Drive.pages c.self.inside.pages) (plain g.D.Drive.pages c.evict.new.self) c.args.home p c.args.f
+    c.evict.ensures.effect) c.evict.ensures.reads
 
 pub returns-clause-word : goal.returns-clause-word
 returns-clause-word g c =
     let p : ℕ = number_in (frame_at c.self.inside.pages.core c.args.f) in
     rw (← c.self.view_is)
     (table_is_left c.evict.result c.self.inside.ast c.place_in-place.result c.args.uid p
-    (record_of (plain g.D.Drive.pages c.self.inside.pages) c.args.home p) _ _ c.place_in-place.ensures.is c.table_mut.ensures.value c.evict.ensures.word)
+    (record_of (plain g.D.Drive.pages c.self.inside.pages) c.args.home p) _ _ c.place_in-place.ensures.is
+    c.table_mut.ensures.value c.evict.ensures.word)
 
 pub returns-clause-no_call : goal.returns-clause-no_call
 returns-clause-no_call g c = rw (← c.self.view_is) c.evict.ensures.no_call

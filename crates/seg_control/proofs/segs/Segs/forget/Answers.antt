@@ -14,6 +14,8 @@ invariant_of-self g c =
     kept_links (plain g.D.Drive.pages c.self.inside.pages) c.self.inside.ast c.self.inside.links _ k
     (rw c.forget.ensures.effect
     (linked_known c.self.inside.ast.entries c.self.inside.links c.args.process
-    (without_number (kst_at c.self.inside.links.known c.args.process) c.args.number) k.linked within c.forget.ensures.once
-    (size_without (kst_at c.self.inside.links.known c.args.process) c.args.number ∙ k.linked.lists.numbers c.args.process within)
+    (without_number (kst_at c.self.inside.links.known c.args.process) c.args.number) k.linked within
+    c.forget.ensures.once
+    (size_without (kst_at c.self.inside.links.known c.args.process) c.args.number
+    ∙ k.linked.lists.numbers c.args.process within)
     (λ n v place e known. known_without c.self.inside.links c.args.process c.args.number n v place cut e known)))

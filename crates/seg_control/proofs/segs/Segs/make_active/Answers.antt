@@ -16,7 +16,8 @@ invariant_of-self g c =
     let least : IsLeastFree c.self.inside.ast c.args.link.pool c.args.place = search rules in
     let inactive : IsInactive c.self.inside.ast.entries c.args.link.uid = search rules in
     let homed : uid_homed c.self.inside.pages.volumes.vtocs c.args.link.home ≡ Some c.args.link.uid = search rules in
-    let fits : FitsIn (map_at c.self.inside.pages.volumes.vtocs c.args.link.home) (words_in c.args.link.pool) = search rules in
+    let fits : FitsIn (map_at c.self.inside.pages.volumes.vtocs c.args.link.home) (words_in c.args.link.pool) =
+    search rules in
     let tree : IsTree (activated c.self.inside.ast c.args.place c.args.link.uid c.args.superior).entries =
     subst (λ (a : ActiveSegs). IsTree a.entries) c.activate.ensures.active c.activate.ensures.tree in
     let long : length (table_at c.self.inside.ast.tables c.args.place) ≡ words_in c.args.link.pool =
@@ -24,13 +25,19 @@ invariant_of-self g c =
     let lent : c.table_mut.result.now ≡ table_at c.self.inside.ast.tables c.args.place =
     c.table_mut.ensures.value ∙ ap (λ (a : ActiveSegs). table_at a.tables c.args.place) c.activate.ensures.active in
     let vtoc : c.vtoc.result.now ≡ vtoc_in c.self.inside.pages.volumes.vtocs c.args.link.home.volume = search rules in
-    let loaded : c.load.new.table ≡ table_for (map_at c.self.inside.pages.volumes.vtocs c.args.link.home) (words_in c.args.link.pool) =
-    c.load.ensures ∙ ap (λ (v : List (Option VtocEntry)). table_for (records_in (vtoc_entry v c.args.link.home.entry)) (length c.table_mut.result.now)) vtoc
+    let loaded : c.load.new.table ≡ table_for (map_at c.self.inside.pages.volumes.vtocs c.args.link.home)
+    (words_in c.args.link.pool) =
+    c.load.ensures ∙ ap (λ (v : List (Option VtocEntry)). table_for (records_in (vtoc_entry v c.args.link.home.entry))
+    (length c.table_mut.result.now)) vtoc
     ∙ ap (table_for (map_at c.self.inside.pages.volumes.vtocs c.args.link.home)) (ap length lent ∙ long) in
     let kept =
-    kept_activated (plain g.D.Drive.pages c.self.inside.pages) c.self.inside.ast c.self.inside.links c.args.place c.args.link.uid (words_in c.args.link.pool)
-    c.args.superior c.args.link.home c.self.invariant within least.free inactive homed fits (words_few c.args.link.pool c.requires.pool) long tree in
-    subst (λ (a : ActiveSegs). IsKept (plain g.D.Drive.pages c.self.inside.pages) (with_table a c.args.place c.load.new.table) c.self.inside.links)
+    kept_activated (plain g.D.Drive.pages c.self.inside.pages) c.self.inside.ast c.self.inside.links c.args.place
+    c.args.link.uid (words_in c.args.link.pool)
+    c.args.superior c.args.link.home c.self.invariant within least.free inactive homed fits
+    (words_few c.args.link.pool c.requires.pool) long tree in
+    subst (λ (a : ActiveSegs). IsKept (plain g.D.Drive.pages c.self.inside.pages)
+    (with_table a c.args.place c.load.new.table) c.self.inside.links)
     (sym c.activate.ensures.active)
     (subst (λ (t : List Ptw). IsKept (plain g.D.Drive.pages c.self.inside.pages)
-    (with_table (activated c.self.inside.ast c.args.place c.args.link.uid c.args.superior) c.args.place t) c.self.inside.links) (sym loaded) kept)
+    (with_table (activated c.self.inside.ast c.args.place c.args.link.uid c.args.superior) c.args.place t)
+    c.self.inside.links) (sym loaded) kept)

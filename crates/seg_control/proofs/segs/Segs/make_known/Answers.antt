@@ -13,5 +13,7 @@ invariant_of-self g c =
     kept_links (plain g.D.Drive.pages c.self.inside.pages) c.self.inside.ast c.self.inside.links _ k
     (rw c.make_known.ensures.effect
     (linked_known c.self.inside.ast.entries c.self.inside.links c.args.process
-    (with_number (kst_at c.self.inside.links.known c.args.process) c.args.uid c.make_known.result) k.linked within c.make_known.ensures.once
-    (c.make_known.ensures.size ∙ k.linked.lists.numbers c.args.process within) (λ n v place e known. c.make_known.ensures.kept n v known)))
+    (with_number (kst_at c.self.inside.links.known c.args.process) c.args.uid c.make_known.result) k.linked within
+    c.make_known.ensures.once
+    (c.make_known.ensures.size ∙ k.linked.lists.numbers c.args.process within)
+    (λ n v place e known. c.make_known.ensures.kept n v known)))

@@ -6,9 +6,11 @@ use Rattle.seg_control.proofs.segs.Segs.next_victim.Goals as goal
 
 pub next_victim-requires-clause-superiors : goal.next_victim-requires-clause-superiors
 next_victim-requires-clause-superiors g c =
-    let may : MayActivate c.self.inside.ast c.self.inside.pages.volumes.vtocs (length c.self.inside.pages.volumes.drives) c.args.chain.now = search rules in
+    let may : MayActivate c.self.inside.ast c.self.inside.pages.volumes.vtocs
+    (length c.self.inside.pages.volumes.drives) c.args.chain.now = search rules in
     subst (HasItsSuperiors c.self.inside.ast.entries) (sym (c.deref.ensures.0 ∙ c.uids_in.ensures))
-    (its_superiors c.self.inside.ast c.self.inside.pages.volumes.vtocs (length c.self.inside.pages.volumes.drives) c.args.chain.now may)
+    (its_superiors c.self.inside.ast c.self.inside.pages.volumes.vtocs (length c.self.inside.pages.volumes.drives)
+    c.args.chain.now may)
 
 pub returns-in_err-i-clause-none : goal.returns-in_err-i-clause-none
 returns-in_err-i-clause-none g c =

@@ -7,7 +7,8 @@ use Rattle.seg_control.proofs.segs.Segs.put_word.Goals as goal
 pub invariant_of-self : goal.invariant_of-self
 invariant_of-self g c =
     kept_paged _ _ _ _ c.self.invariant
-    (paged_same _ _ _ _ c.self.invariant.paged c.put_word.ensures.bindings (same_vtocs _ _ c.put_word.ensures.volumes) (same_records _ _ c.put_word.ensures.volumes)
+    (paged_same _ _ _ _ c.self.invariant.paged c.put_word.ensures.bindings (same_vtocs _ _ c.put_word.ensures.volumes)
+    (same_records _ _ c.put_word.ensures.volumes)
     c.put_word.ensures.ties c.put_word.ensures.reads)
 
 pub returns-clause-words : goal.returns-clause-words

@@ -24,12 +24,14 @@ pub loop-i-preserved : goal.loop-i-preserved
 loop-i-preserved g c =
     let lt : c.loop-i.i < length c.args.list.now = search rules in
     let step =
-    reconnect_step c.args.self.now c.loop-i.self c.connect_to.new.self c.args.aste c.loop-i.i c.args.pages c.args.list.now c.args.modes.now _ lt
+    reconnect_step c.args.self.now c.loop-i.self c.connect_to.new.self c.args.aste c.loop-i.i c.args.pages
+    c.args.list.now c.args.modes.now _ lt
     c.requires.modes c.loop-i.invariant.all c.loop-i.invariant.rest c.connect_to.ensures.effect in
     record {
       all = step.0;
       rest = step.1;
-      may = may_next c.loop-i.self.links c.connect_to.new.self.links _ c.args.list.now c.loop-i.i lt c.loop-i.invariant.may
+      may = may_next c.loop-i.self.links c.connect_to.new.self.links _ c.args.list.now c.loop-i.i lt
+          c.loop-i.invariant.may
           (ap (λ (s : Control g.row.D.Denot). s.links.known) c.connect_to.ensures.effect) c.connect_to.ensures.others;
     }
 
@@ -37,6 +39,7 @@ pub returns : goal.returns
 returns g c =
     let past : length c.args.list.now ≤ c.loop-i.i = search rules in
     record {
-      effect = reconnect_end c.args.self.now c.loop-i.self c.args.aste c.loop-i.i c.args.pages c.args.list.now c.args.modes.now past c.loop-i.invariant.all
+      effect = reconnect_end c.args.self.now c.loop-i.self c.args.aste c.loop-i.i c.args.pages c.args.list.now
+          c.args.modes.now past c.loop-i.invariant.all
           c.loop-i.invariant.rest;
     }

@@ -13,7 +13,10 @@ invariant_of-self g c =
     let out : is_out (word_of c.self.inside.ast c.args.uid c.args.p) ≡ true = search rules in
     let first : IsNotStarted c.self.inside.pages.core c.args.uid c.args.p = search rules in
     kept_paged _ _ _ _ c.self.invariant
-    (paged_started _ _ _ _ c.self.invariant.paged c.start_in.ensures.bindings (same_vtocs _ _ c.start_in.ensures.volumes)
-    (same_records _ _ c.start_in.ensures.volumes) c.start_in.ensures.ties c.args.f c.place_in-place.result c.args.uid c.args.p c.place_in-place.ensures.at
-    (ap (λ (place : ℕ). is_out (ptw_at (table_at c.self.inside.ast.tables place) c.args.p)) c.place_in-place.ensures.is ∙ out)
+    (paged_started _ _ _ _ c.self.invariant.paged c.start_in.ensures.bindings
+    (same_vtocs _ _ c.start_in.ensures.volumes)
+    (same_records _ _ c.start_in.ensures.volumes) c.start_in.ensures.ties c.args.f c.place_in-place.result c.args.uid
+    c.args.p c.place_in-place.ensures.at
+    (ap (λ (place : ℕ). is_out (ptw_at (table_at c.self.inside.ast.tables place) c.args.p)) c.place_in-place.ensures.is
+    ∙ out)
     (none_started c.self.inside.pages.core c.args.uid c.args.p first) c.start_in.ensures.reads)

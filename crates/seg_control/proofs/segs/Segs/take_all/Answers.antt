@@ -12,5 +12,7 @@ invariant_of-self g c =
     let within : c.args.aste < length c.self.inside.ast.entries = search rules in
     let taken : c.take_from.new.table ≡ taken_from c.args.from (table_at c.self.inside.ast.tables c.args.aste) =
     c.take_from.ensures ∙ ap (taken_from c.args.from) c.table_mut.ensures.value in
-    subst (λ (t : List Ptw). IsKept (plain g.D.Drive.pages c.self.inside.pages) (with_table c.self.inside.ast c.args.aste t) c.self.inside.links) (sym taken)
-    (kept_taken (plain g.D.Drive.pages c.self.inside.pages) c.self.inside.ast c.self.inside.links c.args.aste c.args.from c.self.invariant within)
+    subst (λ (t : List Ptw). IsKept (plain g.D.Drive.pages c.self.inside.pages)
+    (with_table c.self.inside.ast c.args.aste t) c.self.inside.links) (sym taken)
+    (kept_taken (plain g.D.Drive.pages c.self.inside.pages) c.self.inside.ast c.self.inside.links c.args.aste
+    c.args.from c.self.invariant within)

@@ -12,5 +12,6 @@ pub returns-in-Activated-eq1 : goal.returns-in-Activated-eq1
 returns-in-Activated-eq1 c =
     let first : c.activate_next.result ≡ Activated 1 = search rules in
     below_grown c.args.segs.now c.activate_next.new.self c.args.link c.requires.tree c.requires.link
-    (subst (λ (next : Next). IsNext c.args.segs.now c.activate_next.new.self (record { uid = 1; pool = 0; home = record { volume = 0; entry = 0 } } ∷ c.args.link ∷ []) next) first
+    (subst (λ (next : Next). IsNext c.args.segs.now c.activate_next.new.self
+    (record { uid = 1; pool = 0; home = record { volume = 0; entry = 0 } } ∷ c.args.link ∷ []) next) first
     c.activate_next.ensures.next)

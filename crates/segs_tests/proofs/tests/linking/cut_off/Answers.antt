@@ -6,4 +6,5 @@ use Rattle.segs_tests.proofs.tests.linking.cut_off.Goals as goal
 
 pub returns : goal.returns
 returns c =
-    ap (λ (s : Control DriveState). length s.links.known) c.cut_all.ensures.effect ∙ cut_known c.args.segs.now.links c.in_ok-place.place
+    ap (λ (s : Control DriveState). length s.links.known) c.cut_all.ensures.effect
+    ∙ cut_known c.args.segs.now.links c.in_ok-place.place

@@ -1,5 +1,6 @@
 use Rattle.std.proofs.Common.{ap, length}
-use Rattle.volumes.proofs.Parts.{parts_with_drive, same_with, few_with, sum_rose, sum_grows, its_rose, drives_within, keeps_others}
+use Rattle.volumes.proofs.Parts.{parts_with_drive, same_with, few_with, sum_rose, sum_grows, its_rose, drives_within}
+use Rattle.volumes.proofs.Parts.{keeps_others}
 use Rattle.volumes.proofs.volumes.Volumes.read_page.Goals as goal
 
 pub invariant_of-self : goal.invariant_of-self
@@ -29,15 +30,19 @@ returns-clause-grows g c =
 
 pub returns-clause-plans : goal.returns-clause-plans
 returns-clause-plans g c =
-    rw (← c.self.view_is) (same_with g.D.Drive.plan _ c.args.v _ c.read_page.new.self c.index_mut.ensures.value c.read_page.ensures.plan)
+    rw (← c.self.view_is) (same_with g.D.Drive.plan _ c.args.v _ c.read_page.new.self c.index_mut.ensures.value
+    c.read_page.ensures.plan)
 
 pub returns-clause-places : goal.returns-clause-places
 returns-clause-places g c =
-    rw (← c.self.view_is) (same_with g.D.Drive.places _ c.args.v _ c.read_page.new.self c.index_mut.ensures.value c.read_page.ensures.places)
+    rw (← c.self.view_is) (same_with g.D.Drive.places _ c.args.v _ c.read_page.new.self c.index_mut.ensures.value
+    c.read_page.ensures.places)
 
 pub returns-clause-others : goal.returns-clause-others
-returns-clause-others g c = rw (← c.self.view_is) (keeps_others c.self.inside.drives.items c.args.v c.read_page.new.self)
+returns-clause-others g c = rw (← c.self.view_is) (keeps_others c.self.inside.drives.items c.args.v
+    c.read_page.new.self)
 
 pub returns-clause-pages : goal.returns-clause-pages
 returns-clause-pages g c =
-    rw (← c.self.view_is) (same_with g.D.Drive.pages _ c.args.v _ c.read_page.new.self c.index_mut.ensures.value c.read_page.ensures.pages)
+    rw (← c.self.view_is) (same_with g.D.Drive.pages _ c.args.v _ c.read_page.new.self c.index_mut.ensures.value
+    c.read_page.ensures.pages)

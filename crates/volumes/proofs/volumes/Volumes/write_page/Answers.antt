@@ -1,10 +1,12 @@
-use Rattle.volumes.proofs.Parts.{parts_with_drive, length_after_write, same_with, few_with, sum_rose, sum_grows, its_rose, drives_within, keeps_others}
+use Rattle.volumes.proofs.Parts.{parts_with_drive, length_after_write, same_with, few_with, sum_rose, sum_grows}
+use Rattle.volumes.proofs.Parts.{its_rose, drives_within, keeps_others}
 use Rattle.volumes.proofs.volumes.Volumes.write_page.Goals as goal
 
 pub invariant_of-self : goal.invariant_of-self
 invariant_of-self g c = (
   parts_with_drive g.D.Drive.pages _ _ _ c.args.v c.index_mut.result.now _ c.self.invariant.0 c.index_mut.ensures.value
-      (length_after_write c.write_page.result _ _ c.args.r c.args.from.now c.write_page.ensures.ok c.write_page.ensures.err),
+      (length_after_write c.write_page.result _ _ c.args.r c.args.from.now c.write_page.ensures.ok
+      c.write_page.ensures.err),
   few_with g.D.Drive.plan g.D.Drive.faults _ c.args.v c.write_page.new.self c.self.invariant.1 c.write_page.ensures.few,
 )
 
@@ -28,11 +30,14 @@ returns-clause-grows g c =
 
 pub returns-clause-plans : goal.returns-clause-plans
 returns-clause-plans g c =
-    rw (← c.self.view_is) (same_with g.D.Drive.plan _ c.args.v _ c.write_page.new.self c.index_mut.ensures.value c.write_page.ensures.plan)
+    rw (← c.self.view_is) (same_with g.D.Drive.plan _ c.args.v _ c.write_page.new.self c.index_mut.ensures.value
+    c.write_page.ensures.plan)
 
 pub returns-clause-places : goal.returns-clause-places
 returns-clause-places g c =
-    rw (← c.self.view_is) (same_with g.D.Drive.places _ c.args.v _ c.write_page.new.self c.index_mut.ensures.value c.write_page.ensures.places)
+    rw (← c.self.view_is) (same_with g.D.Drive.places _ c.args.v _ c.write_page.new.self c.index_mut.ensures.value
+    c.write_page.ensures.places)
 
 pub returns-clause-others : goal.returns-clause-others
-returns-clause-others g c = rw (← c.self.view_is) (keeps_others c.self.inside.drives.items c.args.v c.write_page.new.self)
+returns-clause-others g c = rw (← c.self.view_is) (keeps_others c.self.inside.drives.items c.args.v
+    c.write_page.new.self)
