@@ -45,7 +45,7 @@ filed_is vtocs home q = refl
 module _ (a : AccountMaps) (vtocs : List (List (Option Entry))) (u : ℕ) (home : Home) (table : List (Option Entry))
     (there : is_there a.nodes u ≡ true) (home_is : home ≡ home_of a u)
     (table_is : table ≡ vtoc_in vtocs home.volume) where
-  record_told : (q : ℕ) → is_some (record_at table home.entry q) ≡ is_filed a vtocs u q
+  pub record_told : (q : ℕ) → is_some (record_at table home.entry q) ≡ is_filed a vtocs u q
   record_told q = ap (λ (t : List (Option Entry)). is_some (record_at t home.entry q)) table_is ∙ filed_is vtocs home q
       ∙ ap (λ (h : Home). is_filed_at vtocs h q) home_is ∙ sym (filed_there a vtocs u q there)
 

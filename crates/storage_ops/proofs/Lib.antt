@@ -22,6 +22,7 @@ pub mod PageWords
 pub mod Paged
 pub mod PagesLess
 pub mod PathLaws
+pub mod Refusals
 pub mod Removed
 pub mod Rest
 pub mod Still

@@ -10,13 +10,14 @@ use Rattle.book.specs.declared.replies.Reply.TheVariants as reply
 use Rattle.accounts.specs.Maps.{AccountMaps, Counts}
 use Rattle.quota_cells.specs.declared.Full.{Full}
 use Rattle.quota_cells.specs.Scratch.{charge_answer}
-use Rattle.tree_model.specs.Tree.{Node, account_of, quota_in, taken_on, used_by}
+use Rattle.tree_model.specs.Tree.{Node, account_of, taken_on}
 use Rattle.flat_model.specs.Pages.{with_stored, with_word}
 use Rattle.flat_model.specs.References.{after_reference, is_used_up, is_volume_full, room_reply, written_by}
 use Rattle.flat_model.specs.Store.{Store, known_uid}
 use Rattle.page_control.specs.Plain.{plain}
 use Rattle.page_control.specs.Counts.{is_full, size}
 use Rattle.storage_ops.specs.Paged.{done_or, page_made}
+use Rattle.storage_ops.specs.References.{is_spent}
 use Rattle.storage_ops.specs.Shown.{IsStore, Shows, ShowsTree, Storage}
 
 pub on_ok : {E P : Type 0} (r : Result (Unit {0}) E) → false ≡ is_err r → OnOk r P → P
@@ -38,17 +39,20 @@ all_taken (flag ∷ flags) all =
     omega (arith, first, one, rest)
 
 -- the account of a segment has used up its quota exactly where it can't be charged
+pub spent_told : (nodes : List Node) (stored : List (ℕ × ℕ)) (uid : ℕ) (r : Result (Unit {0}) Full)
+    → r ≡ charge_answer nodes stored uid → is_err r ≡ is_spent nodes stored uid
+spent_told nodes stored uid r answer = ap is_err answer ∙ by (is_spent nodes stored uid)
+  where
+    by : (z : Bool)
+        → is_err (cond {A = Result (Unit {0}) Full} z (Err (record { account = account_of nodes uid })) (Ok tt)) ≡ z
+    by true = refl
+    by false = refl
+
 pub used_told : (s : Store) (a : AccountMaps) (uid : ℕ) (r : Result (Unit {0}) Full) → ShowsTree s a
     → ((stored : List (ℕ × ℕ)) → Counts a stored → r ≡ charge_answer a.nodes stored uid)
     → is_err r ≡ is_used_up s uid
-used_told s a uid r h answer =
-    ap is_err (answer s.stored h.counts) ∙ ap (λ (ns : List Node). is_err (charge_answer ns s.stored uid)) (sym h.nodes)
-    ∙ by (eqb (used_by s.nodes s.stored (account_of s.nodes uid)) (quota_in s.nodes (account_of s.nodes uid)))
-  where
-    by : (z : Bool)
-        → is_err (cond {A = Result (Unit {0}) Full} z (Err (record { account = account_of s.nodes uid })) (Ok tt)) ≡ z
-    by true = refl
-    by false = refl
+used_told s a uid r h answer = spent_told a.nodes s.stored uid r (answer s.stored h.counts)
+    ∙ ap (λ (ns : List Node). is_spent ns s.stored uid) (sym h.nodes)
 
 -- a volume is full exactly where its records are all in use
 pub full_told : {D : Type 0} (drive : D → List (List ℕ)) (p : Plan) (s : Store) (t : Storage D) (v : ℕ)

@@ -18,6 +18,7 @@ mod making;
 mod naming;
 mod pages;
 mod paths;
+mod references;
 mod replies;
 mod rights;
 mod sizes;

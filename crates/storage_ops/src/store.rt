@@ -60,9 +60,9 @@ impl<D: Drive> Store<D> {
         &self.whos
     }
 
-    /// The home of a node.
+    /// The home of a node: its one home, as the calls that read and empty frames ask. (Source: own.)
     #[tactic(auto, using(flat_model::proofs::NodeLaws::volume_found))]
-    pub(crate) fn home(&self, uid: u32) -> Home
+    pub fn home(&self, uid: u32) -> Home
         requires { is_there self.now.accounts.nodes uid ≡ true }
         ensures home { result ≡ home_of self.now.accounts uid }
         ensures volume { result.volume < length self.now.segs.pages.volumes.drives }

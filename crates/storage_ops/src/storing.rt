@@ -166,7 +166,7 @@ impl<D: Drive> Store<D> {
     }
 
     /// Whether all records of a volume are in use.
-    fn is_full(&self, volume: u32) -> bool
+    pub(crate) fn is_full(&self, volume: u32) -> bool
         requires { volume < length self.now.segs.pages.volumes.drives }
         ensures { result ≡ is_full self.now.segs.pages.volumes.records volume }
     {

@@ -3,7 +3,6 @@
 ghost use Rattle.std.specs.Prelude.{◌≡◌, ◌<◌, length, true, None};
 ghost use Rattle.script.specs.Plans.{Plan};
 ghost use Rattle.script.specs.Forms.{is_command};
-ghost use Rattle.script.specs.References.{reference_of};
 ghost use Rattle.flat_model.specs.Commands.{reply_to_command, reply_to_tree_command};
 ghost use Rattle.flat_model.specs.Rights.{move_reply};
 ghost use Rattle.flat_model.specs.Store.{Store as Flat};
@@ -48,17 +47,19 @@ impl<D: Drive> Store<D> {
         }
     }
 
-    /// What refuses a tree command of a process now, the first of its refusals that holds; None exactly where none
-    /// does, as always for the end. A reference isn't refused here. (Source: Bensoussan, Clingen and Daley 1972;
-    /// Organick 1972.)
+    /// What refuses a command of a process now, the first of its refusals that holds; None exactly where none does, as
+    /// always for the end. A reference is refused by what its number stands for, by access, by the length of the
+    /// segment, and then by want of room for a page more; each try of an `await` is a read. (Source: Bensoussan,
+    /// Clingen and Daley 1972; Organick 1972.)
     pub fn test(&self, process: u32, command: &Command) -> Option<Reply>
         requires process { process < length self.now.segs.links.known }
         requires ranges { is_command (length self.now.segs.pages.volumes.drives) command.now ≡ true }
-        ensures tree { (p : Plan) (s : Flat) → Shows D.pages p s self.now
-            → result ≡ refusal (reply_to_tree_command p s process command.now) }
-        ensures command { reference_of command.now ≡ None → (p : Plan) (s : Flat) → Shows D.pages p s self.now
+        ensures { (p : Plan) (s : Flat) → Shows D.pages p s self.now
             → result ≡ refusal (reply_to_command p s process command.now) }
     {
-        self.tree_refusal(process, command)
+        match command.reference() {
+            Some(reference) => self.reference_refusal(process, &reference),
+            None => self.tree_refusal(process, command),
+        }
     }
 }

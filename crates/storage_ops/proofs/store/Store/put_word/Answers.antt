@@ -1,4 +1,4 @@
-use Rattle.std.proofs.Common.{◌≡◌, ◌+◌, ◌*◌, true, length, refl, sym, subst, ◌∙◌}
+use Rattle.std.proofs.Common.{◌≡◌, ◌+◌, ◌*◌, true, refl, sym, subst, ◌∙◌}
 use Rattle.core_map.specs.CoreMap.{frame_at, is_bound}
 use Rattle.active_segs.specs.Active.{table_at}
 use Rattle.page_control.specs.Plain.{Paging, bindings, number_in, plain, words_in}

@@ -1,0 +1,284 @@
+-- What refuses a reference, by the tables and by the flat store that they show.
+use Rattle.std.proofs.Common.{◌≡◌, ℕ, ◌*◌, ◌<◌, ◌/◌, Bool, true, false, cond, eqb, not, ◌&&◌, List, [], Option, Some}
+use Rattle.std.proofs.Common.{None, Result, Ok, Err, get_or, is_some, refl, sym, ap, ◌∙◌, arith, inl, inr}
+use Rattle.std.specs.Prelude.{nat_le}
+use Rattle.std.proofs.lemmas.Bool.{cases_Bool}
+use Rattle.std.proofs.lemmas.Bool.Decides.{nat_tests}
+use Rattle.std.proofs.Math.ListN.{get_or-map}
+use Rattle.mnames.specs.declared.principals.Who.{Who}
+use Rattle.script.specs.Plans.{Plan, ProcessPlan, nobody, who_of}
+use Rattle.script.specs.declared.commands.RefKind.{RefKind}
+use Rattle.script.specs.declared.commands.RefKind.TheVariants as kind
+use Rattle.script.specs.declared.commands.Reference.{Reference}
+use Rattle.book.specs.declared.replies.Reply.{Reply}
+use Rattle.book.specs.declared.replies.Reply.TheVariants as reply
+use Rattle.known_segs.specs.Known.{uid_of}
+use Rattle.tree_model.specs.Access.{access_of}
+use Rattle.tree_model.specs.Tree.{Node, has_directory, node_in}
+use Rattle.tree_model.specs.Trees.{has_segment}
+use Rattle.accounts.specs.Maps.{AccountMaps}
+use Rattle.vtoc.specs.Vtoc.{Entry}
+use Rattle.flat_model.specs.Pages.{is_stored}
+use Rattle.flat_model.specs.References.{is_used_up, is_volume_full, new_word, permits, reply_at, reply_of}
+use Rattle.flat_model.specs.References.{reply_to_reference, stores_page, word_reply}
+use Rattle.flat_model.specs.Store.{Store}
+use Rattle.page_control.specs.Counts.{is_full}
+use Rattle.page_control.specs.Plain.{plain}
+use Rattle.seg_control.specs.Kept.{IsKept}
+use Rattle.storage_ops.specs.References.{brings_word, is_of_room, is_outside, only, outside_by, outside_refusal}
+use Rattle.storage_ops.specs.References.{refusal_in, refused_by, room_by, room_in, room_refusal, target, target_at}
+use Rattle.storage_ops.specs.References.{is_spent, target_of, unless, want_of_room}
+use Rattle.storage_ops.specs.Shown.{AreCounted, IsStore, Shows, Storage, is_filed, pages_in, pages_of, refusal, who_at}
+use Rattle.storage_ops.proofs.PageFacts.{segment_of}
+use Rattle.storage_ops.proofs.PageRoom.{full_told}
+use Rattle.storage_ops.proofs.Paged.{blank_shown}
+
+-- ---- replies
+
+-- a refusal that comes before the page is looked at is none for want of room
+outside_only : (e : Reply) → is_outside e ≡ true
+    → (only is_outside e ≡ Some e) × (only is_of_room e ≡ None) × (refusal e ≡ Some e)
+outside_only reply.Unknown is = (refl, refl, refl)
+outside_only reply.Gone is = (refl, refl, refl)
+outside_only reply.NoAccess is = (refl, refl, refl)
+outside_only reply.Length is = (refl, refl, refl)
+outside_only reply.Quota is = cc
+outside_only reply.NoRecord is = cc
+outside_only reply.Device is = cc
+outside_only (reply.Word w) is = cc
+outside_only reply.Done is = cc
+outside_only (reply.Made u) is = cc
+outside_only (reply.Known n) is = cc
+outside_only reply.NoPath is = cc
+outside_only reply.NotDir is = cc
+outside_only reply.IsDir is = cc
+outside_only reply.IsSeg is = cc
+outside_only reply.Exists is = cc
+outside_only reply.Deep is = cc
+outside_only reply.Room is = cc
+outside_only reply.NoEntry is = cc
+outside_only reply.Full is = cc
+outside_only reply.AclFull is = cc
+outside_only reply.Beyond is = cc
+outside_only reply.NotEmpty is = cc
+outside_only reply.HasQuota is = cc
+outside_only reply.Root is = cc
+outside_only reply.TooLittle is = cc
+outside_only (reply.Over u) is = cc
+outside_only (reply.SegIs u l n) is = cc
+outside_only (reply.DirIs u q n) is = cc
+
+-- a word, or that one is written, is no refusal
+word_none : (old : ℕ) (how : RefKind) → (only is_outside (word_reply old how) ≡ None)
+    × (only is_of_room (word_reply old how) ≡ None) × (refusal (word_reply old how) ≡ None)
+word_none old kind.Read = (refl, refl, refl)
+word_none old (kind.Write w) = (refl, refl, refl)
+word_none old (kind.Add w) = (refl, refl, refl)
+
+-- the reply where neither access nor the length refuses a reference
+abbrev reply_on : Bool → Bool → Bool → Reply → Reply
+reply_on stores used full otherwise =
+    cond stores (cond used reply.Quota (cond full reply.NoRecord otherwise)) otherwise
+
+abbrev room_on : Bool → Bool → Bool → Option Reply
+room_on stores used full = cond stores (cond used (Some reply.Quota) (cond full (Some reply.NoRecord) None)) None
+
+room_told : (stores used full : Bool) (old : ℕ) (how : RefKind)
+    → (only is_outside (reply_on stores used full (word_reply old how)) ≡ None)
+    × (only is_of_room (reply_on stores used full (word_reply old how)) ≡ room_on stores used full)
+    × (refusal (reply_on stores used full (word_reply old how)) ≡ room_on stores used full)
+room_told true true full old how = (refl, refl, refl)
+room_told true false true old how = (refl, refl, refl)
+room_told true false false old how = word_none old how
+room_told false used full old how = word_none old how
+
+-- a page more is stored where it isn't stored yet and a word other than 0 comes into it
+stores_told : (s : Store) (uid offset : ℕ) (how : RefKind)
+    → (is_stored s.stored uid (offset / 1024) ≡ false → s.words uid offset ≡ 0)
+    → stores_page s uid offset how ≡ (brings_word how && not (is_stored s.stored uid (offset / 1024)))
+stores_told s uid offset kind.Read blank = refl
+stores_told s uid offset (kind.Write w) blank = by (not (eqb w 0)) (is_stored s.stored uid (offset / 1024))
+  where
+    by : (x y : Bool) → (x && not y) ≡ (x && not y)
+    by x y = refl
+stores_told s uid offset (kind.Add w) blank = by (is_stored s.stored uid (offset / 1024)) refl
+  where
+    off : (x : Bool) → (x && false) ≡ false
+    off true = refl
+    off false = refl
+
+    by : (z : Bool) → is_stored s.stored uid (offset / 1024) ≡ z
+        → (not (eqb (new_word (s.words uid offset) (kind.Add w)) 0) && not z)
+        ≡ (not (eqb (new_word 0 (kind.Add w)) 0) && not z)
+    by true e = off (not (eqb (new_word (s.words uid offset) (kind.Add w)) 0))
+        ∙ sym (off (not (eqb (new_word 0 (kind.Add w)) 0)))
+    by false e = ap (λ (x : ℕ). not (eqb (new_word x (kind.Add w)) 0) && true) (blank e)
+
+-- ---- by what is shown
+
+abbrev reply_for : Plan → Store → Reference → Result Node Reply → Reply
+reply_for p s r (Err e) = e
+reply_for p s r (Ok n) = reply_on (stores_page s n.uid r.offset r.kind) (is_used_up s n.uid)
+    (is_volume_full p s n.volume) (word_reply (s.words n.uid r.offset) r.kind)
+
+-- what stands where a page can't be looked at
+abbrev is_outside_of : Result Node Reply → Bool
+is_outside_of (Ok n) = true
+is_outside_of (Err e) = is_outside e
+
+module _ {D : Type 0} (drive : D → List (List ℕ)) (p : Plan) (s : Store) (t : Storage D) (h : Shows drive p s t)
+    (k : ℕ) (r : Reference) where
+  who_told : who_of p k ≡ who_at t.whos k
+  who_told = sym (ap (λ (ws : List Who). get_or ws k nobody) h.script.whos
+      ∙ get_or-map (λ (x : ProcessPlan). x.who) p.processes k (record { who = nobody; commands = [] }))
+
+  reply_told : reply_to_reference p s k r ≡ reply_for p s r (target t k r)
+  unfolding reply_to_reference target
+  reply_told = ap (λ (ks : List (List (Option ℕ))). reply_of p s k r.offset r.kind (uid_of (get_or ks k []) r.number))
+      h.known ∙ by_uid (uid_of (get_or t.segs.links.known k []) r.number)
+    where
+      by_test : (n : Node) (may past : Bool)
+          → cond (not may) reply.NoAccess (cond past reply.Length (reply_for p s r (Ok n)))
+          ≡ reply_for p s r (unless (cond (not may) (Some reply.NoAccess) (cond past (Some reply.Length) None)) n)
+      by_test n true true = refl
+      by_test n true false = refl
+      by_test n false past = refl
+
+      by_node : (o : Option Node)
+          → reply_at p s k r.offset r.kind o ≡ reply_for p s r (target_at (who_at t.whos k) r o)
+      by_node None = refl
+      by_node (Some n) =
+          ap (λ (who : Who). cond (not (permits (access_of who n.rows) r.kind)) reply.NoAccess
+          (cond (nat_le (1024 * n.pages) r.offset) reply.Length (reply_for p s r (Ok n)))) who_told
+          ∙ by_test n (permits (access_of (who_at t.whos k) n.rows) r.kind) (nat_le (1024 * n.pages) r.offset)
+
+      by_uid : (o : Option ℕ)
+          → reply_of p s k r.offset r.kind o ≡ reply_for p s r (target_of t.accounts.nodes (who_at t.whos k) r o)
+      by_uid None = refl
+      by_uid (Some uid) = ap (λ (ns : List Node). reply_at p s k r.offset r.kind (node_in ns uid)) h.tree.nodes
+          ∙ by_node (node_in t.accounts.nodes uid)
+
+outside_target : {D : Type 0} (t : Storage D) (k : ℕ) (r : Reference) → is_outside_of (target t k r) ≡ true
+unfolding target
+outside_target t k r = by_uid (uid_of (get_or t.segs.links.known k []) r.number)
+  where
+    by_test : (n : Node) (may past : Bool)
+        → is_outside_of (unless (cond (not may) (Some reply.NoAccess) (cond past (Some reply.Length) None)) n) ≡ true
+    by_test n true true = refl
+    by_test n true false = refl
+    by_test n false past = refl
+
+    by_node : (o : Option Node) → is_outside_of (target_at (who_at t.whos k) r o) ≡ true
+    by_node None = refl
+    by_node (Some n) = by_test n (permits (access_of (who_at t.whos k) n.rows) r.kind)
+        (nat_le (1024 * n.pages) r.offset)
+
+    by_uid : (o : Option ℕ) → is_outside_of (target_of t.accounts.nodes (who_at t.whos k) r o) ≡ true
+    by_uid None = refl
+    by_uid (Some uid) = by_node (node_in t.accounts.nodes uid)
+
+-- ---- by the tables
+
+-- where the number stands for nothing, or its segment isn't there
+pub target_unknown : {D : Type 0} (t : Storage D) (k : ℕ) (r : Reference)
+    → uid_of (get_or t.segs.links.known k []) r.number ≡ None → target t k r ≡ Err reply.Unknown
+unfolding target
+target_unknown t k r none = ap (target_of t.accounts.nodes (who_at t.whos k) r) none
+
+pub target_gone : {D : Type 0} (t : Storage D) (k : ℕ) (r : Reference) (uid : ℕ)
+    → uid_of (get_or t.segs.links.known k []) r.number ≡ Some uid → node_in t.accounts.nodes uid ≡ None
+    → target t k r ≡ Err reply.Gone
+unfolding target
+target_gone t k r uid known none = ap (target_of t.accounts.nodes (who_at t.whos k) r) known
+    ∙ ap (target_at (who_at t.whos k) r) none
+
+-- where it is there
+pub target_found : {D : Type 0} (t : Storage D) (k : ℕ) (r : Reference) (uid : ℕ) (n : Node)
+    → uid_of (get_or t.segs.links.known k []) r.number ≡ Some uid → node_in t.accounts.nodes uid ≡ Some n
+    → target t k r ≡ unless (refusal_in (who_at t.whos k) r n) n
+unfolding target
+target_found t k r uid n known found = ap (target_of t.accounts.nodes (who_at t.whos k) r) known
+    ∙ ap (target_at (who_at t.whos k) r) found
+
+-- the offset is below the end of the segment that a reference goes to
+pub within_told : (who : Who) (r : Reference) (n : Node) → refusal_in who r n ≡ None → r.offset < 1024 * n.pages
+within_told who r n none = by_right (permits (access_of who n.rows) r.kind) (nat_le (1024 * n.pages) r.offset) refl none
+  where
+    by_right : (may past : Bool) → nat_le (1024 * n.pages) r.offset ≡ past
+        → cond (not may) (Some reply.NoAccess) (cond past (Some reply.Length) None) ≡ None → r.offset < 1024 * n.pages
+    by_right true true e h = cc
+    by_right true false e h = grind (arith, nat_tests)
+    by_right false past e h = cc
+
+-- a segment has pages, and a directory none
+pub long_segment : (a : AccountMaps) (vtocs : List (List (Option Entry))) → AreCounted a vtocs
+    → (u offset : ℕ) (n : Node) → node_in a.nodes u ≡ Some n → offset < 1024 * n.pages → has_segment a.nodes u ≡ true
+long_segment a vtocs h u offset n found lt = segment_of a.nodes u (ap is_some found)
+    (elim (cases_Bool (has_directory a.nodes u)) [
+      | inr off ↦ off
+      | inl is ↦
+          (let none = h.flat u is in
+          let same : pages_in a.nodes u ≡ n.pages = ap pages_of found in
+          absurd (omega (arith, none, same, lt)))
+    ])
+
+-- why a page more can't be stored, by whether the account and the volume are used up
+pub want_told : {D : Type 0} (t : Storage D) (stored : List (ℕ × ℕ)) (n : Node) (spent full : Bool)
+    → is_spent t.accounts.nodes stored n.uid ≡ spent → is_full t.segs.pages.volumes.records n.volume ≡ full
+    → want_of_room t stored n ≡ cond spent (Some reply.Quota) (cond full (Some reply.NoRecord) None)
+want_told t stored n spent full at_account at_volume =
+    ap (λ (z : Bool). cond z (Some reply.Quota) (cond (is_full t.segs.pages.volumes.records n.volume)
+    (Some reply.NoRecord) None)) at_account
+    ∙ ap (λ (z : Bool). cond spent (Some reply.Quota) (cond z (Some reply.NoRecord) None)) at_volume
+
+-- ---- by both
+
+module _ {D : Type 0} (drive : D → List (List ℕ)) (p : Plan) (s : Store) (t : Storage D) (h : Shows drive p s t)
+    (k : ℕ) (r : Reference) where
+  outside_told : (found : Result Node Reply) → is_outside_of found ≡ true
+      → only is_outside (reply_for p s r found) ≡ outside_by found
+  outside_told (Err e) is = (outside_only e is).0
+  outside_told (Ok n) is = (room_told (stores_page s n.uid r.offset r.kind) (is_used_up s n.uid)
+      (is_volume_full p s n.volume) (s.words n.uid r.offset) r.kind).0
+
+  pub outside_shown : outside_by (target t k r) ≡ outside_refusal p s k r
+  unfolding outside_refusal
+  outside_shown = sym (ap (only is_outside) (reply_told drive p s t h k r)
+      ∙ outside_told (target t k r) (outside_target t k r))
+
+module _ {D : Type 0} (drive : D → List (List ℕ)) (p : Plan) (s : Store) (t : Storage D)
+    (kept : IsKept (plain drive t.segs.pages) t.segs.ast t.segs.links)
+    (store : IsStore (plain drive t.segs.pages) t.segs.ast t.segs.links t.accounts t.whos) (h : Shows drive p s t)
+    (k : ℕ) (r : Reference) where
+  room_shown : (n : Node) → room_in t s.stored r n
+      ≡ room_on (stores_page s n.uid r.offset r.kind) (is_used_up s n.uid) (is_volume_full p s n.volume)
+  room_shown n =
+      let stores : (brings_word r.kind
+      && not (is_filed t.accounts t.segs.pages.volumes.vtocs n.uid (r.offset / 1024)))
+      ≡ stores_page s n.uid r.offset r.kind =
+      ap (λ (z : Bool). brings_word r.kind && not z) (sym (h.pages.stored n.uid (r.offset / 1024)))
+      ∙ sym (stores_told s n.uid r.offset r.kind (blank_shown drive p s t kept store h n.uid r.offset)) in
+      ap (λ (z : Bool). room_on z (is_spent t.accounts.nodes s.stored n.uid)
+      (is_full t.segs.pages.volumes.records n.volume)) stores
+      ∙ ap (λ (ns : List Node). room_on (stores_page s n.uid r.offset r.kind) (is_spent ns s.stored n.uid)
+      (is_full t.segs.pages.volumes.records n.volume)) (sym h.tree.nodes)
+      ∙ ap (room_on (stores_page s n.uid r.offset r.kind) (is_used_up s n.uid))
+      (full_told drive p s t n.volume store h)
+
+  told : (found : Result Node Reply) → is_outside_of found ≡ true
+      → (only is_of_room (reply_for p s r found) ≡ room_by t s.stored r found)
+      × (refusal (reply_for p s r found) ≡ refused_by t s.stored r found)
+  told (Err e) is = ((outside_only e is).1, (outside_only e is).2)
+  told (Ok n) is =
+      let all = room_told (stores_page s n.uid r.offset r.kind) (is_used_up s n.uid) (is_volume_full p s n.volume)
+      (s.words n.uid r.offset) r.kind in
+      (all.1 ∙ sym (room_shown n), all.2 ∙ sym (room_shown n))
+
+  pub room_refused : room_by t s.stored r (target t k r) ≡ room_refusal p s k r
+  unfolding room_refusal
+  room_refused = sym (ap (only is_of_room) (reply_told drive p s t h k r)
+      ∙ (told (target t k r) (outside_target t k r)).0)
+
+  pub reference_refused : refused_by t s.stored r (target t k r) ≡ refusal (reply_to_reference p s k r)
+  reference_refused = sym (ap refusal (reply_told drive p s t h k r)
+      ∙ (told (target t k r) (outside_target t k r)).1)

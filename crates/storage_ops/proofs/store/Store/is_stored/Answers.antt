@@ -1,0 +1,20 @@
+use Rattle.std.proofs.Common.{is_some, sym, ap, ◌∙◌}
+use Rattle.volumes.specs.Volumes.{Vols, vtoc_at}
+use Rattle.page_control.specs.Plain.{Paging}
+use Rattle.storage_ops.specs.Shown.{Storage, home_of, is_filed, is_there}
+use Rattle.storage_ops.proofs.Lengths.{record_told}
+use Rattle.storage_ops.proofs.store.Store.is_stored.Goals as goal
+
+pub returns : goal.returns
+returns g c =
+    let there = ap (λ (x : Storage g.row.D.Denot). is_there x.accounts.nodes c.args.uid) c.self.view_is
+    ∙ c.requires.there in
+    let home = c.home-home.ensures.home ∙ ap (λ (x : Storage g.row.D.Denot). home_of x.accounts c.args.uid)
+    (sym c.self.view_is) in
+    let table = c.vtoc-vtoc.ensures ∙ ap (λ (x : Vols g.row.D.Denot). vtoc_at x c.home-home.result.volume)
+    (c.volumes.ensures.volumes ∙ ap (λ (x : Paging g.row.D.Denot). x.volumes) c.pages.ensures.pages) in
+    c.is_some.ensures ∙ ap is_some c.file_map.ensures
+    ∙ record_told c.self.inside.accounts c.self.inside.segs.pages.volumes.vtocs c.args.uid c.home-home.result
+    c.vtoc-vtoc.result.now there home table c.args.page
+    ∙ ap (λ (x : Storage g.row.D.Denot). is_filed x.accounts x.segs.pages.volumes.vtocs c.args.uid c.args.page)
+    c.self.view_is
