@@ -16,6 +16,7 @@ pub mod CommandLaws
 pub mod CommitKept
 pub mod CountLaws
 pub mod CutPages
+pub mod CutRights
 pub mod DeleteKept
 pub mod Deletions
 pub mod DescriptorLaws
@@ -27,6 +28,7 @@ pub mod FailedRead
 pub mod FailedShutdown
 pub mod FindLaws
 pub mod FinishKept
+pub mod FlatAlike
 pub mod FirstSteps
 pub mod FrameLaws
 pub mod GoesLaws
@@ -60,6 +62,7 @@ pub mod OutlineWaits
 pub mod OwnedLaws
 pub mod OwnerLaws
 pub mod Places
+pub mod QuotaTotals
 pub mod RankLaws
 pub mod ReadLaws
 pub mod Replies
@@ -67,6 +70,7 @@ pub mod RuleKept
 pub mod RuleLaws
 pub mod RulesKept
 pub mod RunLaws
+pub mod SaysLaws
 pub mod SeatLaws
 pub mod SeenLaws
 pub mod SharedSegment

@@ -114,7 +114,7 @@ take_all_seen s c a w (f ∷ fs) tables here bound once = take_all_seen now c a 
 -- ---- descriptors
 
 -- the place that a descriptor leads to, where it leads to a segment
-led_place : (s : State) (k n u : ℕ) → (seen s).linked k n ≡ Some u → descriptor_of s.store.links k n ≢ sdw.Fault
+pub led_place : (s : State) (k n u : ℕ) → (seen s).linked k n ≡ Some u → descriptor_of s.store.links k n ≢ sdw.Fault
 led_place s k n u h e = none_some (sym (ap (led_to s.store.ast.entries) e) ∙ h)
 
 -- a descriptor that leads somewhere is in its lists

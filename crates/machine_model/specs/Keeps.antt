@@ -7,7 +7,9 @@ use Rattle.script.specs.Plans.{Plan}
 use Rattle.book.specs.declared.entries.Entry.{Entry}
 use Rattle.book.specs.declared.entries.Entry.TheVariants as entry
 use Rattle.tree_model.specs.Access.{access_of}
-use Rattle.tree_model.specs.Tree.{Node, node_in}
+use Rattle.tree_model.specs.Tree.{Node, node_in, quota_in, used_by}
+use Rattle.tree_model.specs.Trees.{IsTree}
+use Rattle.accounts.specs.Maps.{AccountMaps, Counts}
 use Rattle.flat_model.specs.Legal.{is_within}
 use Rattle.flat_model.specs.Store.{Store}
 use Rattle.page_control.specs.Picture.{words_at}
@@ -21,11 +23,18 @@ use Rattle.machine_model.specs.declared.Processor.{Processor}
 use Rattle.machine_model.specs.declared.CutDescriptor.{CutDescriptor}
 use Rattle.machine_model.specs.State.{Owner, State, Storage}
 
+-- What the accounts promise: their nodes are a tree, and no account is charged for more pages than its quota.
+pub record AreAccounts (a : AccountMaps) : Type 0 where
+  pub tree : IsTree a.nodes
+  pub within : (stored : List (ℕ × ℕ)) → Counts a stored → (account : ℕ)
+      → used_by a.nodes stored account ≤ quota_in a.nodes account
+
 -- The store's own promise: page tables, frames and file maps agree, descriptors and trailers do, what is active is in
 -- the tree, the running counts are the counts from scratch, and a connected descriptor has the right mode and length.
 pub record StoreKept (st : Storage) : Type 0 where
   pub kept : IsKept st.pages st.ast st.links
   pub counted : IsStore st.pages st.ast st.links st.accounts st.whos
+  pub accounts : AreAccounts st.accounts
 
 -- The tree, the known numbers and the quotas, the words of each page and the stored pages are those of the flat store.
 pub record IsFaithful (p : Plan) (t : Store) (st : Storage) : Type 0 where

@@ -18,6 +18,7 @@ pub mod Outlined
 pub mod Reads
 pub mod Refusal
 pub mod Runs
+pub mod Said
 pub mod Seen
 pub mod Shutdown
 pub mod State

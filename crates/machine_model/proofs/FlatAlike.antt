@@ -1,0 +1,226 @@
+-- Flat stores that no store tells apart, and what the accounts of a store say of the one that it shows.
+use Rattle.std.proofs.Common.{◌≡◌, ◌≤◌, ◌<◌, ℕ, Bool, true, false, ◌&&◌, ◌||◌, not, cond, eqb, count_by, List, [], ◌∷◌, ◌++◌}
+use Rattle.std.proofs.Common.{map, sum, Option, Some, None, inl, inr, refl, sym, ap, subst, ◌∙◌, arith, suc}
+use Rattle.std.specs.Prelude.{nat_lt}
+use Rattle.std.specs.List.{list_all}
+use Rattle.std.proofs.lemmas.Bool.Decides.{eqb_tells, leb_tells}
+use Rattle.script.specs.Plans.{Plan, command_at}
+use Rattle.script.specs.declared.commands.Command.{Command}
+use Rattle.book.specs.declared.entries.Entry.{Entry}
+use Rattle.book.specs.declared.entries.Entry.TheVariants as entry
+use Rattle.book.specs.declared.replies.Reply.{Reply}
+use Rattle.tree_model.specs.Tree.{Node, is_account, quota_in, used_by}
+use Rattle.tree_model.specs.Trees.{AreBelow, IsTree, Joins}
+use Rattle.tree_model.proofs.Finds.{IsMember}
+use Rattle.accounts.specs.Maps.{AccountMaps}
+use Rattle.flat_model.specs.Commands.{after_command, effect_of, gone_on, takes_effect}
+use Rattle.flat_model.specs.Legal.{after_do, after_entry, after_fault, is_within, store_after}
+use Rattle.flat_model.specs.Pages.{IsOnce, is_stored}
+use Rattle.flat_model.specs.Store.{Store, progress_of, with_progress}
+use Rattle.flat_model.proofs.BookLaws.{store_after-push}
+use Rattle.storage_ops.specs.Shown.{ShowsTree}
+use Rattle.machine_model.specs.Keeps.{AreAccounts, IsConserved, IsFaithful}
+use Rattle.machine_model.specs.State.{Storage}
+
+-- ---- flat stores that no store tells apart
+
+-- the same tree, words, stored pages and numbers
+pub record IsAlike (t u : Store) : Type 0 where
+  pub nodes : u.nodes ≡ t.nodes
+  pub next : u.next ≡ t.next
+  pub words : (v o : ℕ) → u.words v o ≡ t.words v o
+  pub stored : u.stored ≡ t.stored
+  pub known : u.known ≡ t.known
+
+pub alike : (t : Store) → IsAlike t t
+alike t = record { nodes = refl; next = refl; words = λ v o. refl; stored = refl; known = refl }
+
+pub alike_on : {t u v : Store} → IsAlike t u → IsAlike u v → IsAlike t v
+alike_on a b = record {
+  nodes = b.nodes ∙ a.nodes;
+  next = b.next ∙ a.next;
+  words = λ w o. b.words w o ∙ a.words w o;
+  stored = b.stored ∙ a.stored;
+  known = b.known ∙ a.known;
+}
+
+pub alike_by : {t u v : Store} → IsAlike t u → v ≡ u → IsAlike t v
+alike_by {t} a e = subst (IsAlike t) (sym e) a
+
+-- a store shows each of them, or none
+pub alike_shown : (p : Plan) (t u : Store) (st : Storage) → IsAlike t u → IsFaithful p t st → IsFaithful p u st
+alike_shown p t u st a is = record {
+  tree = record {
+    nodes = a.nodes ∙ is.tree.nodes;
+    next = a.next ∙ is.tree.next;
+    counts = λ s. is.tree.counts s ∙ ap (λ (xs : List (ℕ × ℕ)). count_by (λ x. eqb x.0 s) xs) (sym a.stored);
+  };
+  known = a.known ∙ is.known;
+  pages = record {
+    stored = λ v q. ap (λ (xs : List (ℕ × ℕ)). is_stored xs v q) a.stored ∙ is.pages.stored v q;
+    once = subst IsOnce (sym a.stored) is.pages.once;
+    words = λ v o. a.words v o ∙ is.pages.words v o;
+  };
+  script = is.script;
+}
+
+-- ---- entries that tell who holds what, or that a drive failed
+
+-- the flat store doesn't read them
+abbrev pub is_still : Entry → Bool
+is_still (entry.Do k place cpu frame r) = false
+is_still (entry.Release u q) = false
+is_still (entry.Fault k) = false
+is_still _ = true
+
+still_next : (p : Plan) (t : Store) (e : Entry) → is_still e ≡ true → after_entry p t e ≡ t
+unfolding after_entry
+still_next p t (entry.Do k place cpu frame r) h = absurd (let no : false ≡ true = h in cc)
+still_next p t (entry.Release u q) h = absurd (let no : false ≡ true = h in cc)
+still_next p t (entry.Fault o) h = absurd (let no : false ≡ true = h in cc)
+still_next p t (entry.Online d) h = refl
+still_next p t (entry.Load d k) h = refl
+still_next p t (entry.Leave d) h = refl
+still_next p t (entry.Activate u) h = refl
+still_next p t (entry.Deactivate u) h = refl
+still_next p t (entry.Start f u q) h = refl
+still_next p t (entry.Lose f) h = refl
+still_next p t (entry.Here f u q) h = refl
+still_next p t (entry.Connect k n u) h = refl
+still_next p t (entry.Take f) h = refl
+still_next p t (entry.Cut k n) h = refl
+still_next p t (entry.Signal d w) h = refl
+still_next p t (entry.Clear d w) h = refl
+still_next p t (entry.FillSeg d n) h = refl
+still_next p t (entry.FillPage d f) h = refl
+still_next p t (entry.GonePage f) h = refl
+still_next p t (entry.BackPage f) h = refl
+still_next p t (entry.GoneSeg k n) h = refl
+still_next p t (entry.BackSeg k n) h = refl
+
+-- one such entry more
+pub one_still : (p : Plan) (es : List Entry) (e : Entry) → is_still e ≡ true
+    → store_after p (es ++ e ∷ []) ≡ store_after p es
+one_still p es e h = store_after-push p es e ∙ still_next p (store_after p es) e h
+
+pub append_nil : (es : List Entry) → es ++ [] ≡ es
+append_nil [] = refl
+append_nil (e ∷ es) = ap (λ (t : List Entry). e ∷ t) (append_nil es)
+
+pub append_assoc : (xs ys zs : List Entry) → (xs ++ ys) ++ zs ≡ xs ++ (ys ++ zs)
+append_assoc [] ys zs = refl
+append_assoc (x ∷ xs) ys zs = ap (λ (t : List Entry). x ∷ t) (append_assoc xs ys zs)
+
+and_parts : (a b : Bool) → (a && b) ≡ true → (a ≡ true) × (b ≡ true)
+and_parts true b h = (refl, h)
+and_parts false b h = absurd (let no : false ≡ true = h in cc)
+
+-- and some
+pub all_still : (p : Plan) (es more : List Entry) → list_all is_still more ≡ true
+    → store_after p (es ++ more) ≡ store_after p es
+all_still p es [] h = ap (store_after p) (append_nil es)
+all_still p es (e ∷ more) h = let both = and_parts (is_still e) (list_all is_still more) h in
+    ap (store_after p) (sym (append_assoc es (e ∷ []) more))
+    ∙ (all_still p (es ++ e ∷ []) more both.1 ∙ one_still p es e both.0)
+
+-- a drive's failure
+pub fault_alike : (p : Plan) (es : List Entry) (k : Option ℕ)
+    → IsAlike (store_after p es) (store_after p (es ++ entry.Fault k ∷ []))
+unfolding after_entry
+fault_alike p es k = alike_by (by (store_after p es) k) (store_after-push p es (entry.Fault k))
+  where
+    by : (t : Store) (o : Option ℕ) → IsAlike t (after_fault t o)
+    by t None = alike t
+    by t (Some j) = record { nodes = refl; next = refl; words = λ v o. refl; stored = refl; known = refl }
+
+-- ---- answers
+
+-- a command that is refused changes nothing
+do_refused : (p : Plan) (t : Store) (k : ℕ) (r : Reply) (x : Option Command) → takes_effect r ≡ false
+    → IsAlike t (after_do p t k x r)
+unfolding after_command
+do_refused p t k r None h = alike t
+do_refused p t k r (Some c) h = by (takes_effect r) h
+  where
+    by : (b : Bool) → b ≡ false
+        → IsAlike t (with_progress (cond b (effect_of p t k c) t) k (gone_on (progress_of t k) c r))
+    by false e = record { nodes = refl; next = refl; words = λ v o. refl; stored = refl; known = refl }
+    by true e = absurd (let no : true ≡ false = e in cc)
+
+-- one that takes effect has its effect
+do_done : (p : Plan) (t : Store) (k : ℕ) (r : Reply) (c : Command) → takes_effect r ≡ true
+    → IsAlike (effect_of p t k c) (after_do p t k (Some c) r)
+unfolding after_command
+do_done p t k r c h = by (takes_effect r) h
+  where
+    by : (b : Bool) → b ≡ true
+        → IsAlike (effect_of p t k c) (with_progress (cond b (effect_of p t k c) t) k (gone_on (progress_of t k) c r))
+    by true e = record { nodes = refl; next = refl; words = λ v o. refl; stored = refl; known = refl }
+    by false e = absurd (let no : false ≡ true = e in cc)
+
+pub refused_alike : (p : Plan) (es : List Entry) (k place c : ℕ) (f : Option ℕ) (r : Reply) → takes_effect r ≡ false
+    → IsAlike (store_after p es) (store_after p (es ++ entry.Do k place c f r ∷ []))
+unfolding after_entry
+refused_alike p es k place c f r h = alike_by (do_refused p (store_after p es) k r (command_at p k place) h)
+    (store_after-push p es (entry.Do k place c f r))
+
+pub done_alike : (p : Plan) (es : List Entry) (k place c : ℕ) (f : Option ℕ) (r : Reply) (cmd : Command)
+    → command_at p k place ≡ Some cmd → takes_effect r ≡ true
+    → IsAlike (effect_of p (store_after p es) k cmd) (store_after p (es ++ entry.Do k place c f r ∷ []))
+unfolding after_entry
+done_alike p es k place c f r cmd next h = alike_by (do_done p (store_after p es) k r cmd h)
+    (store_after-push p es (entry.Do k place c f r)
+    ∙ ap (λ (x : Option Command). after_do p (store_after p es) k x r) next)
+
+-- ---- what the accounts say
+
+older : (n m : Node) (ms : List Node) (o : Option ℕ) → Joins ms o m → IsMember n ms → n.uid < m.uid
+older n m ms None j h = absurd (subst (λ (ns : List Node). IsMember n ns) j.first h)
+older n m ms (Some s) j h = below ms j.later h
+  where
+    below : (ns : List Node) → AreBelow m.uid ns → IsMember n ns → n.uid < m.uid
+    below [] b h = absurd h
+    below (x ∷ xs) b (inl e) = subst (λ (y : Node). y.uid < m.uid) (sym e) b.0
+    below (x ∷ xs) b (inr i) = below xs b.1 i
+
+-- the quota of a node of a tree
+pub quota_of_member : (ns : List Node) (n : Node) → IsTree ns → IsMember n ns → quota_in ns n.uid ≡ n.quota
+quota_of_member [] n t h = absurd h
+quota_of_member (m ∷ ms) n t (inl e) = elim (eqb_tells m.uid n.uid) [
+  | inl same ↦ ap (λ (b : Bool). cond b m.quota (quota_in ms n.uid)) same.0 ∙ ap (λ (x : Node). x.quota) (sym e)
+  | inr other ↦ absurd (other.1 (ap (λ (x : Node). x.uid) (sym e)))
+]
+quota_of_member (m ∷ ms) n t (inr h) = elim (eqb_tells m.uid n.uid) [
+  | inl same ↦ (let later = older n m ms m.superior t.0 h in let is = same.1 in absurd (omega (arith, later, is)))
+  | inr other ↦ ap (λ (b : Bool). cond b m.quota (quota_in ms n.uid)) other.0 ∙ quota_of_member ms n t.1 h
+]
+
+all_members : {X : Type 0} (p : X → Bool) (xs : List X) → ((x : X) → IsMember x xs → p x ≡ true) → list_all p xs ≡ true
+all_members p [] h = refl
+all_members p (x ∷ xs) h = rw (h x (inl refl)) (all_members p xs (λ y i. h y (inr i)))
+
+not_less : (a b : ℕ) → b ≤ a → nat_lt a b ≡ false
+not_less a b h = elim (leb_tells (suc a) b) [
+  | inl e ↦ (let less = e.1 in absurd (omega (arith, less, h)))
+  | inr m ↦ m.0
+]
+
+or_true : (a : Bool) → (a || true) ≡ true
+or_true true = refl
+or_true false = refl
+
+-- each account of the flat store that is shown is within its quota
+pub within_all : (t : Store) (a : AccountMaps) → ShowsTree t a → AreAccounts a → list_all (is_within t) t.nodes ≡ true
+within_all t a shows are = all_members (is_within t) t.nodes (λ n h. ap (λ (b : Bool). not (is_account n) || not b)
+    (not_less n.quota (used_by t.nodes t.stored n.uid) (few n h)) ∙ or_true (not (is_account n)))
+  where
+    few : (n : Node) → IsMember n t.nodes → used_by t.nodes t.stored n.uid ≤ n.quota
+    few n h = let its : quota_in t.nodes n.uid ≡ n.quota = quota_of_member t.nodes n
+        (subst IsTree (sym shows.nodes) are.tree) h in
+        let all : used_by t.nodes t.stored n.uid ≤ quota_in t.nodes n.uid =
+        subst (λ (ns : List Node). used_by ns t.stored n.uid ≤ quota_in ns n.uid) (sym shows.nodes)
+        (are.within t.stored shows.counts n.uid) in omega (arith, its, all)
+
+pub conserved_by : (p : Plan) (t : Store) (st : Storage) → IsFaithful p t st → AreAccounts st.accounts
+    → sum (map (λ n. n.quota) t.nodes) ≡ p.quota → IsConserved p t
+conserved_by p t st shows are total = record { total = total; within = within_all t st.accounts shows.tree are }

@@ -1,0 +1,568 @@
+-- What the store says after each action, by what its calls say of it.
+use Rattle.std.proofs.Common.{◌≡◌, ◌<◌, ℕ, ◌+◌, ◌*◌, Bool, true, false, cond, eqb, List, [], ◌∷◌, ◌++◌, map, length, set}
+use Rattle.std.proofs.Common.{sum, Option, Some, None, refl, sym, ap, subst, ◌∙◌, arith}
+use Rattle.std.specs.Prelude.{◌/◌, ◌%◌}
+use Rattle.std.proofs.lemmas.List.{length-set}
+use Rattle.mnames.specs.declared.principals.Who.{Who}
+use Rattle.script.specs.Plans.{Plan}
+use Rattle.script.specs.References.{reference_of}
+use Rattle.script.specs.declared.commands.Command.{Command}
+use Rattle.script.specs.declared.commands.RefKind.{RefKind}
+use Rattle.script.specs.declared.commands.RefKind.TheVariants as kind
+use Rattle.script.specs.declared.commands.Reference.{Reference}
+use Rattle.book.specs.declared.entries.Entry.{Entry}
+use Rattle.book.specs.declared.entries.Entry.TheVariants as entry
+use Rattle.book.specs.declared.replies.Reply.{Reply}
+use Rattle.book.specs.declared.replies.Reply.TheVariants as reply
+use Rattle.tree_model.specs.Tree.{Node}
+use Rattle.accounts.specs.Maps.{AccountMaps}
+use Rattle.core_map.specs.declared.Frame.{Frame}
+use Rattle.core_map.specs.Clock.{frame_in, is_idle, passed_over, round_frames, unmarked}
+use Rattle.core_map.specs.CoreMap.{bound_page}
+use Rattle.page_control.specs.declared.Left.{Left}
+use Rattle.page_control.specs.declared.Left.TheVariants as left
+use Rattle.page_control.specs.declared.Home.{Home}
+use Rattle.page_control.specs.Effects.{evicted, referred, word_put}
+use Rattle.page_control.specs.Plain.{Plain, frame_in as frame_in_pages, words_in}
+use Rattle.processor.specs.declared.Transfer.{Transfer}
+use Rattle.descriptor_seg.specs.declared.Sdw.{Sdw}
+use Rattle.seg_control.specs.Control.{sdws_at}
+use Rattle.flat_model.specs.Commands.{effect_by, effect_of, takes_effect}
+use Rattle.flat_model.specs.Legal.{after_entry, store_after}
+use Rattle.flat_model.proofs.BookLaws.{store_after-push}
+use Rattle.flat_model.specs.References.{after_reference, alters, new_word, word_reply, written, written_by}
+use Rattle.flat_model.specs.Store.{Store, known_uid}
+use Rattle.machine_model.specs.Actions as act
+use Rattle.machine_model.specs.After.{Outcome, after}
+use Rattle.machine_model.specs.Jobs.{accounts_left, emptied, entries_left, eviction_begun, eviction_done, here_if}
+use Rattle.machine_model.specs.Jobs.{leaving_if, left_of, page_back, page_done, page_in, pages_back, seg_back, seg_gone}
+use Rattle.machine_model.specs.Jobs.{segs_back, segs_gone, with_choice, without_first_frame, write_failed}
+use Rattle.machine_model.specs.Keeps.{AreThere, HadRights, IsConserved, IsFaithful, Keeps, StoreKept, StoreSays}
+use Rattle.machine_model.specs.Reads.{cut_of_owner, flat_of, frames_of_owner, home_in, is_active, next_command}
+use Rattle.machine_model.specs.Reads.{process_at, run_at}
+use Rattle.machine_model.specs.Said.{Says, left_page, shown_after, through, with_made_page, without_left}
+use Rattle.machine_model.specs.declared.CutDescriptor.{CutDescriptor}
+use Rattle.machine_model.specs.State.{Owner, State, Storage}
+use Rattle.machine_model.specs.Steps.{activated_at, connected_to, fault_told, frame_lost, old_word, page_created}
+use Rattle.machine_model.specs.Steps.{pages_after, started, told, told_by, transfer_failed, transferred, went_through}
+use Rattle.machine_model.specs.Steps.{with_faults}
+use Rattle.machine_model.proofs.FlatAlike.{IsAlike, alike, alike_by, alike_on, alike_shown, append_assoc, conserved_by}
+use Rattle.machine_model.proofs.FlatAlike.{done_alike, fault_alike, is_still, one_still, refused_alike}
+use Rattle.machine_model.proofs.TieLaws.{none_some}
+
+-- the quotas of a flat store together
+abbrev pub quotas : Store → ℕ
+quotas t = sum (map (λ n. n.quota) t.nodes)
+
+-- ---- descriptors that are cut
+
+pub no_rights : (nodes : List Node) (whos : List Who) → HadRights nodes whos []
+no_rights nodes whos = record {
+  modes = λ i d n h. absurd (none_some h);
+  lengths = λ i d n h. absurd (none_some h);
+}
+
+pub same_rights : (old now : Storage) (ds es : List CutDescriptor) → now.accounts.nodes ≡ old.accounts.nodes
+    → now.whos ≡ old.whos → es ≡ ds → HadRights old.accounts.nodes old.whos ds
+    → HadRights now.accounts.nodes now.whos es
+same_rights old now ds es nodes whos same h =
+    subst (λ (ns : List Node). HadRights ns now.whos es) (sym nodes)
+    (subst (λ (ws : List Who). HadRights old.accounts.nodes ws es) (sym whos)
+    (subst (HadRights old.accounts.nodes old.whos) (sym same) h))
+
+pub there_still : (old now : Storage) (ds : List CutDescriptor) → now.links.descriptors ≡ old.links.descriptors
+    → ((u : ℕ) → is_active old.ast u ≡ true → is_active now.ast u ≡ true) → AreThere old ds → AreThere now ds
+there_still old now [] links active h = tt
+there_still old now (d ∷ ds) links active h = (
+  (
+    subst (λ (x : List (List Sdw)). d.process < length x) (sym links) h.0.0,
+    subst (λ (x : List (List Sdw)). d.number < length (sdws_at x d.process)) (sym links) h.0.1,
+    active d.uid h.0.2,
+  ),
+  there_still old now ds links active h.1,
+)
+
+-- ---- what is put together
+
+-- Of a step: the script and the number of frames are as before, and what the job has cut had the right modes.
+pub record Rest (s now : State) : Type 0 where
+  pub plan : now.plan ≡ s.plan
+  pub frames : length now.store.pages.core.frames ≡ length s.store.pages.core.frames
+  pub rights : HadRights now.store.accounts.nodes now.store.whos (cut_of_owner now.owner)
+  pub cut : AreThere now.store (cut_of_owner now.owner)
+
+-- the tree, the principals, the descriptors and the cut list are as before
+pub record IsSame (s now : State) : Type 0 where
+  pub plan : now.plan ≡ s.plan
+  pub frames : length now.store.pages.core.frames ≡ length s.store.pages.core.frames
+  pub nodes : now.store.accounts.nodes ≡ s.store.accounts.nodes
+  pub whos : now.store.whos ≡ s.store.whos
+  pub descriptors : now.store.links.descriptors ≡ s.store.links.descriptors
+  pub active : (u : ℕ) → is_active s.store.ast u ≡ true → is_active now.store.ast u ≡ true
+  pub cut : cut_of_owner now.owner ≡ cut_of_owner s.owner
+
+pub same_rest : (s now : State) → Keeps s → IsSame s now → Rest s now
+same_rest s now k same = record {
+  plan = same.plan;
+  frames = same.frames;
+  rights = same_rights s.store now.store (cut_of_owner s.owner) (cut_of_owner now.owner) same.nodes same.whos same.cut
+      k.rights;
+  cut = subst (AreThere now.store) (sym same.cut)
+      (there_still s.store now.store (cut_of_owner s.owner) same.descriptors same.active k.cut);
+}
+
+-- the job has cut nothing, or is over
+pub none_rest : (s now : State) → now.plan ≡ s.plan
+    → length now.store.pages.core.frames ≡ length s.store.pages.core.frames → cut_of_owner now.owner ≡ [] → Rest s now
+none_rest s now plan frames cut = record {
+  plan = plan;
+  frames = frames;
+  rights = subst (HadRights now.store.accounts.nodes now.store.whos) (sym cut)
+      (no_rights now.store.accounts.nodes now.store.whos);
+  cut = subst (AreThere now.store) (sym cut) tt;
+}
+
+pub says_by : (s now : State) (t : Store) → Keeps s → StoreKept now.store → IsFaithful s.plan t now.store
+    → IsAlike t (flat_of now) → quotas t ≡ s.plan.quota → Rest s now → StoreSays now
+says_by s now t k kept shown like total rest = record {
+  store = kept;
+  faithful = subst (λ (p : Plan). IsFaithful p (flat_of now) now.store) (sym rest.plan) faithful;
+  rights = rest.rights;
+  cut = rest.cut;
+  conserved = subst (λ (p : Plan). IsConserved p (flat_of now)) (sym rest.plan)
+      (conserved_by s.plan (flat_of now) now.store faithful kept.accounts
+      (ap (λ (ns : List Node). sum (map (λ n. n.quota) ns)) like.nodes ∙ total));
+  frames = rest.frames ∙ (k.sizes.frames ∙ ap (λ (p : Plan). p.frames) (sym rest.plan));
+}
+  where
+    faithful : IsFaithful s.plan (flat_of now) now.store
+    faithful = alike_shown s.plan t (flat_of now) now.store like shown
+
+-- by what the calls of an action say, where this is the machine after it
+pub says_is : (s : State) (c : ℕ) (o : Outcome) (a : act.Action) (now : State) → Keeps s → Says s c o a
+    → after s c a o ≡ now → IsAlike (shown_after s c o a (flat_of s)) (flat_of now)
+    → quotas (shown_after s c o a (flat_of s)) ≡ s.plan.quota → Rest s now → StoreSays now
+says_is s c o a now k says is like total rest = says_by s now (shown_after s c o a (flat_of s)) k
+    (subst (λ (x : State). StoreKept x.store) is says.store)
+    (subst (λ (x : State). IsFaithful s.plan (shown_after s c o a (flat_of s)) x.store) is
+    (says.shown (flat_of s) k.faithful)) like total rest
+
+-- ---- where the store is as before
+
+-- a refusal or a drive's failure leaves the store as it is, and the flat store that it shows
+pub refused_says : (s : State) (c k : ℕ) (f : Option ℕ) (r : Reply) → Keeps s → takes_effect r ≡ false
+    → StoreSays (told_by s c k f r)
+refused_says s c k f r keeps h = says_by s (told_by s c k f r) (flat_of s) keeps keeps.store keeps.faithful
+    (refused_alike s.plan s.entries k (run_at s.runs k).place c f r h) keeps.conserved.total
+    (same_rest s (told_by s c k f r) keeps (record {
+      plan = refl;
+      frames = refl;
+      nodes = refl;
+      whos = refl;
+      descriptors = refl;
+      active = λ u e. e;
+      cut = refl;
+    }))
+
+-- ---- references
+
+euclid : (n : ℕ) → 1024 * (n / 1024) + n % 1024 ≡ n
+euclid n = omega arith
+
+-- a word that is written through its frame
+through_is : (s : State) (f k u : ℕ) (r : Reference) (t : Store) → known_uid t k r.number ≡ Some u
+    → page_in s.store f ≡ (u, r.offset / 1024) → old_word s.store.pages f r ≡ t.words u r.offset
+    → through s f r t ≡ after_reference t k r
+unfolding after_reference
+through_is s f k u r t known page old = sym (ap (written_by t r.offset r.kind) known
+    ∙ ap (λ (x : Store). cond (alters r.kind) x t) same)
+  where
+    offset : 1024 * (page_in s.store f).1 + r.offset % 1024 ≡ r.offset
+    offset = ap (λ (x : ℕ × ℕ). 1024 * x.1 + r.offset % 1024) page ∙ euclid r.offset
+
+    same : written t u r.offset (new_word (t.words u r.offset) r.kind)
+        ≡ written t (page_in s.store f).0 (1024 * (page_in s.store f).1 + r.offset % 1024)
+        (new_word (old_word s.store.pages f r) r.kind)
+    same = λ i. written t (ap (λ (x : ℕ × ℕ). x.0) (sym page) i) (sym offset i) (new_word (sym old i) r.kind)
+
+nodes_through : (s : State) (f : ℕ) (r : Reference) (t : Store) → (through s f r t).nodes ≡ t.nodes
+nodes_through s f r t = by (alters r.kind)
+  where
+    by : (b : Bool) → (cond b (written t (page_in s.store f).0 (1024 * (page_in s.store f).1 + r.offset % 1024)
+        (new_word (old_word s.store.pages f r) r.kind)) t).nodes ≡ t.nodes
+    by true = refl
+    by false = refl
+
+word_done : (w : ℕ) (how : RefKind) → takes_effect (word_reply w how) ≡ true
+word_done w kind.Read = refl
+word_done w (kind.Write v) = refl
+word_done w (kind.Add v) = refl
+
+effect_is : (p : Plan) (t : Store) (k : ℕ) (cmd : Command) (r : Reference) → reference_of cmd ≡ Some r
+    → effect_of p t k cmd ≡ after_reference t k r
+effect_is p t k cmd r h = ap (effect_by p t k cmd) h
+
+pages_count : (pages : Plain) (f : ℕ) (r : Reference) → length (pages_after pages f r).core.frames
+    ≡ length pages.core.frames
+pages_count pages f r = by (alters r.kind)
+  where
+    by : (b : Bool) → length (cond b (word_put pages f (r.offset % 1024) (new_word (old_word pages f r) r.kind))
+        (referred pages f false)).core.frames ≡ length pages.core.frames
+    by true = length-set pages.core.frames f _
+    by false = length-set pages.core.frames f _
+
+-- a reference goes through a frame that has its page
+pub through_says : (s : State) (c : ℕ) (o : Outcome) (f u : ℕ) (r : Reference) (cmd : Command) → Keeps s
+    → Says s c o (act.Through f r) → next_command s (process_at s c) ≡ Some cmd → reference_of cmd ≡ Some r
+    → known_uid (flat_of s) (process_at s c) r.number ≡ Some u → page_in s.store f ≡ (u, r.offset / 1024)
+    → old_word s.store.pages f r ≡ (flat_of s).words u r.offset → StoreSays (went_through s c f r)
+unfolding after
+through_says s c o f u r cmd k says next is known page old = says_is s c o (act.Through f r) (went_through s c f r) k
+    says refl
+    (subst (λ (t : Store). IsAlike t (flat_of (went_through s c f r)))
+    (effect_is s.plan (flat_of s) (process_at s c) cmd r is
+    ∙ sym (through_is s f (process_at s c) u r (flat_of s) known page old))
+    (done_alike s.plan s.entries (process_at s c) (run_at s.runs (process_at s c)).place c (Some f)
+    (word_reply (old_word s.store.pages f r) r.kind) cmd next (word_done (old_word s.store.pages f r) r.kind)))
+    (ap (λ (ns : List Node). sum (map (λ n. n.quota) ns)) (nodes_through s f r (flat_of s)) ∙ k.conserved.total)
+    (same_rest s (went_through s c f r) k (record {
+      plan = refl;
+      frames = pages_count s.store.pages f r;
+      nodes = refl;
+      whos = refl;
+      descriptors = refl;
+      active = λ v e. e;
+      cut = refl;
+    }))
+
+-- a page that isn't stored is read, or 0 is written to it, where it is: the flat store is as it was
+pub plain_says : (s : State) (c : ℕ) (r : Reference) (cmd : Command) → Keeps s
+    → next_command s (process_at s c) ≡ Some cmd → reference_of cmd ≡ Some r
+    → IsAlike (flat_of s) (after_reference (flat_of s) (process_at s c) r)
+    → StoreSays (told s c None (word_reply 0 r.kind))
+plain_says s c r cmd k next is like = says_by s (told s c None (word_reply 0 r.kind)) (flat_of s) k k.store k.faithful
+    (alike_on like (subst (λ (t : Store). IsAlike t (flat_of (told s c None (word_reply 0 r.kind))))
+    (effect_is s.plan (flat_of s) (process_at s c) cmd r is)
+    (done_alike s.plan s.entries (process_at s c) (run_at s.runs (process_at s c)).place c None
+    (word_reply 0 r.kind) cmd next (word_done 0 r.kind)))) k.conserved.total
+    (same_rest s (told s c None (word_reply 0 r.kind)) k (record {
+      plan = refl;
+      frames = refl;
+      nodes = refl;
+      whos = refl;
+      descriptors = refl;
+      active = λ v e. e;
+      cut = refl;
+    }))
+
+-- ---- a page is made
+
+made_by : (t : Store) (u offset : ℕ) (how : RefKind) → t.words u offset ≡ 0 → eqb (new_word 0 how) 0 ≡ false
+    → written t u offset (new_word 0 how) ≡ written_by t offset how (Some u)
+made_by t u offset kind.Read zero h = absurd (let no : true ≡ false = h in cc)
+made_by t u offset (kind.Write w) zero h = refl
+made_by t u offset (kind.Add w) zero h = ap (λ (x : ℕ). written t u offset (new_word x (kind.Add w))) (sym zero)
+
+-- a page that is all zeros is made by a reference to it
+pub made_is : (s : State) (c u : ℕ) (r : Reference) (t : Store) → known_uid t (process_at s c) r.number ≡ Some u
+    → t.words u r.offset ≡ 0 → eqb (new_word 0 r.kind) 0 ≡ false
+    → with_made_page s c r t ≡ after_reference t (process_at s c) r
+unfolding after_reference
+made_is s c u r t known zero word = ap (written_by t r.offset (kind.Write (new_word 0 r.kind))) known
+    ∙ (made_by t u r.offset r.kind zero word ∙ sym (ap (written_by t r.offset r.kind) known))
+
+nodes_made : (s : State) (c : ℕ) (r : Reference) (t : Store) → (with_made_page s c r t).nodes ≡ t.nodes
+unfolding after_reference
+nodes_made s c r t = by (known_uid t (process_at s c) r.number)
+  where
+    by : (x : Option ℕ) → (written_by t r.offset (kind.Write (new_word 0 r.kind)) x).nodes ≡ t.nodes
+    by None = refl
+    by (Some u) = refl
+
+pub created_says : (s : State) (c : ℕ) (o : Outcome) (f u v p : ℕ) (r : Reference) (cmd : Command) → Keeps s
+    → Says s c o (act.Create f u p r) → next_command s (process_at s c) ≡ Some cmd → reference_of cmd ≡ Some r
+    → known_uid (flat_of s) (process_at s c) r.number ≡ Some v → (flat_of s).words v r.offset ≡ 0
+    → eqb (new_word 0 r.kind) 0 ≡ false → StoreSays (page_created s c f u p r)
+unfolding after
+created_says s c o f u v p r cmd k says next is known zero word =
+    says_is s c o (act.Create f u p r) (page_created s c f u p r) k says refl
+    (subst (λ (t : Store). IsAlike t (flat_of (page_created s c f u p r))) effect
+    (done_alike s.plan (s.entries ++ entry.Here f u p ∷ []) (process_at s c) (run_at s.runs (process_at s c)).place c
+    None (word_reply 0 r.kind) cmd next (word_done 0 r.kind)))
+    (ap (λ (ns : List Node). sum (map (λ n. n.quota) ns)) (nodes_made s c r (flat_of s)) ∙ k.conserved.total)
+    (none_rest s (page_created s c f u p r) refl (length-set s.store.pages.core.frames f _) refl)
+  where
+    effect : effect_of s.plan (store_after s.plan (s.entries ++ entry.Here f u p ∷ [])) (process_at s c) cmd
+        ≡ with_made_page s c r (flat_of s)
+    effect = ap (λ (t : Store). effect_of s.plan t (process_at s c) cmd)
+        (one_still s.plan s.entries (entry.Here f u p) refl)
+        ∙ (effect_is s.plan (flat_of s) (process_at s c) cmd r is
+        ∙ sym (made_is s c v r (flat_of s) known zero word))
+
+-- ---- looks that bring a segment or a page nearer
+
+still_alike : (s : State) (e : Entry) → is_still e ≡ true → IsAlike (flat_of s) (store_after s.plan (s.entries ++ e ∷ []))
+still_alike s e h = alike_by (alike (flat_of s)) (one_still s.plan s.entries e h)
+
+pub activated_says : (s : State) (c : ℕ) (o : Outcome) (u place : ℕ) → Keeps s → Says s c o (act.Activate u place)
+    → cut_of_owner s.owner ≡ [] → StoreSays (activated_at s u place)
+unfolding after
+activated_says s c o u place k says none = says_is s c o (act.Activate u place) (activated_at s u place) k says refl
+    (still_alike s (entry.Activate u) refl) k.conserved.total
+    (none_rest s (activated_at s u place) refl refl none)
+
+pub connected_says : (s : State) (c : ℕ) (o : Outcome) (n u : ℕ) → Keeps s → Says s c o (act.Connect n u)
+    → cut_of_owner s.owner ≡ [] → StoreSays (connected_to s c n u)
+unfolding after
+connected_says s c o n u k says none = says_is s c o (act.Connect n u) (connected_to s c n u) k says refl
+    (still_alike s (entry.Connect (process_at s c) n u) refl) k.conserved.total
+    (none_rest s (connected_to s c n u) refl refl none)
+
+pub started_says : (s : State) (c : ℕ) (o : Outcome) (f u p : ℕ) → Keeps s → Says s c o (act.Start f u p)
+    → StoreSays (started s c f u p)
+unfolding after
+started_says s c o f u p k says = says_is s c o (act.Start f u p) (started s c f u p) k says refl
+    (still_alike s (entry.Start f u p) refl) k.conserved.total
+    (none_rest s (started s c f u p) refl (length-set s.store.pages.core.frames f _) refl)
+
+-- ---- the clock's choice is taken
+
+over_count : (frames : List Frame) (fs : List ℕ) → length (passed_over frames fs) ≡ length frames
+unfolding passed_over
+over_count frames [] = refl
+over_count frames (f ∷ fs) = by (is_idle (frame_in frames f))
+    (over_count (set frames f (unmarked (frame_in frames f))) fs)
+  where
+    by : (b : Bool) → length (passed_over (set frames f (unmarked (frame_in frames f))) fs)
+        ≡ length (set frames f (unmarked (frame_in frames f)))
+        → length (cond b frames (passed_over (set frames f (unmarked (frame_in frames f))) fs)) ≡ length frames
+    by true rest = refl
+    by false rest = rest ∙ length-set frames f _
+
+leaving_pages : (st : Storage) (f : ℕ) (x : Option (ℕ × ℕ)) → (leaving_if st f x).pages ≡ st.pages
+leaving_pages st f None = refl
+leaving_pages st f (Some page) = refl
+
+pub evicting_says : (s : State) (c : ℕ) (o : Outcome) (f : ℕ) → Keeps s → Says s c o (act.Evict f)
+    → cut_of_owner s.owner ≡ [] → StoreSays (eviction_begun s c f)
+unfolding after
+evicting_says s c o f k says none = says_is s c o (act.Evict f) (eviction_begun s c f) k says refl
+    (still_alike s (entry.Take f) refl) k.conserved.total
+    (none_rest s (eviction_begun s c f) refl
+    (ap (λ (pages : Plain). length pages.core.frames) (leaving_pages (with_choice s.store f) f _)
+    ∙ over_count s.store.pages.core.frames (round_frames s.store.pages.core)) none)
+
+-- ---- the end of a transfer
+
+module _ (s : State) (c : ℕ) (o : Outcome) (t : Transfer) (k : Keeps s) (says : Says s c o (act.EndTransfer t)) where
+  pub read_says : o.failed ≡ false → StoreSays (transferred (with_faults s o.faults) c t)
+  unfolding after
+  read_says h = says_is s c o (act.EndTransfer t) now k says
+      (ap (λ (b : Bool). cond b (transfer_failed s c t o.faults) now) h)
+      (still_alike s (entry.Here t.frame t.uid t.page) refl) k.conserved.total
+      (same_rest s now k (record {
+        plan = refl;
+        frames = length-set s.store.pages.core.frames t.frame _;
+        nodes = refl;
+        whos = refl;
+        descriptors = refl;
+        active = λ u e. e;
+        cut = refl;
+      }))
+    where
+      now : State
+      now = transferred (with_faults s o.faults) c t
+
+  pub failed_says : o.failed ≡ true → StoreSays (transfer_failed s c t o.faults)
+  unfolding after
+  failed_says h = says_is s c o (act.EndTransfer t) now k says
+      (ap (λ (b : Bool). cond b now (transferred (with_faults s o.faults) c t)) h)
+      (alike_on (still_alike s (entry.Lose t.frame) refl) (alike_on
+      (fault_alike s.plan (s.entries ++ entry.Lose t.frame ∷ []) (Some (process_at s c)))
+      (refused_alike s.plan ((s.entries ++ entry.Lose t.frame ∷ []) ++ entry.Fault (Some (process_at s c)) ∷ [])
+      told_process (run_at s.runs told_process).place c None reply.Device refl))) k.conserved.total
+      (same_rest s now k (record {
+        plan = refl;
+        frames = length-set s.store.pages.core.frames t.frame _;
+        nodes = refl;
+        whos = refl;
+        descriptors = refl;
+        active = λ u e. e;
+        cut = refl;
+      }))
+    where
+      now : State
+      now = transfer_failed s c t o.faults
+
+      told_process : ℕ
+      told_process = process_at (fault_told (frame_lost s c t) (Some (process_at s c)) o.faults) c
+
+-- ---- a page leaves its frame
+
+left_flat : (p : Plan) (es : List Entry) (f : ℕ) (how : Left) (page : ℕ × ℕ)
+    → store_after p (es ++ entries_left f how page) ≡ without_left how page (store_after p es)
+unfolding after_entry
+left_flat p es f left.Released page = ap (store_after p)
+    (sym (append_assoc es (entry.GonePage f ∷ []) (entry.Release page.0 page.1 ∷ [])))
+    ∙ (store_after-push p (es ++ entry.GonePage f ∷ []) (entry.Release page.0 page.1)
+    ∙ ap (without_left left.Released page) (one_still p es (entry.GonePage f) refl))
+left_flat p es f left.Kept page = one_still p es (entry.GonePage f) refl
+
+left_nodes : (how : Left) (page : ℕ × ℕ) (t : Store) → (without_left how page t).nodes ≡ t.nodes
+left_nodes left.Released page t = refl
+left_nodes left.Kept page t = refl
+
+left_count : (pages : Plain) (home : Home) (p f : ℕ) (how : Left)
+    → length (evicted pages home p f how).core.frames ≡ length pages.core.frames
+left_count pages home p f left.Released = length-set pages.core.frames f _
+left_count pages home p f left.Kept = length-set pages.core.frames f _
+
+account_nodes : (a : AccountMaps) (u : ℕ) (how : Left) → (accounts_left a u how).nodes ≡ a.nodes
+account_nodes a u left.Released = refl
+account_nodes a u left.Kept = refl
+
+cut_less : (x : Option Owner) → cut_of_owner (without_first_frame x) ≡ cut_of_owner x
+cut_less None = refl
+cut_less (Some q) = refl
+
+module _ (s : State) (c : ℕ) (o : Outcome) (f : ℕ) (k : Keeps s) where
+  abbrev how : Left
+  how = left_of (words_in s.store.pages f)
+
+  left_alike : IsAlike (left_page s f (flat_of s)) (store_after s.plan (s.entries ++ entries_left f how (page_in s.store f)))
+  left_alike = alike_by (alike (left_page s f (flat_of s))) (left_flat s.plan s.entries f how (page_in s.store f))
+
+  left_total : quotas (left_page s f (flat_of s)) ≡ s.plan.quota
+  left_total = ap (λ (ns : List Node). sum (map (λ n. n.quota) ns))
+      (left_nodes how (page_in s.store f) (flat_of s)) ∙ k.conserved.total
+
+  pub evicted_says : Says s c o (act.FinishEviction f) → o.failed ≡ false
+      → StoreSays (eviction_done (with_faults s o.faults) c f)
+  unfolding after
+  evicted_says says h = says_is s c o (act.FinishEviction f) now k says
+      (ap (λ (b : Bool). cond b (write_failed s c o.faults) now) h)
+      (subst (λ (b : Bool). IsAlike (cond b (flat_of s) (left_page s f (flat_of s))) (flat_of now)) (sym h) left_alike)
+      (subst (λ (b : Bool). quotas (cond b (flat_of s) (left_page s f (flat_of s))) ≡ s.plan.quota) (sym h) left_total)
+      (none_rest s now refl (left_count s.store.pages (home_in s.store (page_in s.store f).0) (page_in s.store f).1 f how)
+      refl)
+    where
+      now : State
+      now = eviction_done (with_faults s o.faults) c f
+
+  pub page_left_says : Says s c o (act.FinishPage f) → o.failed ≡ false
+      → StoreSays (page_done (with_faults s o.faults) f)
+  unfolding after
+  page_left_says says h = says_is s c o (act.FinishPage f) now k says
+      (ap (λ (b : Bool). cond b (write_failed s c o.faults) now) h)
+      (subst (λ (b : Bool). IsAlike (cond b (flat_of s) (left_page s f (flat_of s))) (flat_of now)) (sym h) left_alike)
+      (subst (λ (b : Bool). quotas (cond b (flat_of s) (left_page s f (flat_of s))) ≡ s.plan.quota) (sym h) left_total)
+      (same_rest s now k (record {
+        plan = refl;
+        frames = left_count s.store.pages (home_in s.store (page_in s.store f).0) (page_in s.store f).1 f how;
+        nodes = account_nodes s.store.accounts (page_in s.store f).0 how;
+        whos = refl;
+        descriptors = refl;
+        active = λ u e. e;
+        cut = cut_less s.owner;
+      }))
+    where
+      now : State
+      now = page_done (with_faults s o.faults) f
+
+-- ---- a write failed
+
+-- the script, the pages and the flat store as before
+pub record IsBack (s now : State) : Type 0 where
+  pub plan : now.plan ≡ s.plan
+  pub pages : now.store.pages ≡ s.store.pages
+  pub flat : store_after now.plan now.entries ≡ store_after s.plan s.entries
+
+back_on : {s t u : State} → IsBack s t → IsBack t u → IsBack s u
+back_on a b = record { plan = b.plan ∙ a.plan; pages = b.pages ∙ a.pages; flat = b.flat ∙ a.flat }
+
+here_pages : (st : Storage) (f : ℕ) (x : Option (ℕ × ℕ)) → (here_if st f x).pages ≡ st.pages
+here_pages st f None = refl
+here_pages st f (Some page) = refl
+
+pages_are_back : (s : State) (fs : List ℕ) → IsBack s (pages_back s fs)
+pages_are_back s [] = record { plan = refl; pages = refl; flat = refl }
+pages_are_back s (f ∷ fs) = back_on (record {
+  plan = refl;
+  pages = here_pages s.store f (bound_page (frame_in_pages s.store.pages f));
+  flat = one_still s.plan s.entries (entry.BackPage f) refl;
+}) (pages_are_back (page_back s f) fs)
+
+segs_are_back : (s : State) (ds : List CutDescriptor) → IsBack s (segs_back s ds)
+segs_are_back s [] = record { plan = refl; pages = refl; flat = refl }
+segs_are_back s (d ∷ ds) = back_on (record {
+  plan = refl;
+  pages = refl;
+  flat = one_still s.plan s.entries (entry.BackSeg d.process d.number) refl;
+}) (segs_are_back (seg_back s d) ds)
+
+module _ (s : State) (c : ℕ) (faults : ℕ) where
+  abbrev fault_state : State
+  fault_state = fault_told s (Some (process_at s c)) faults
+
+  abbrev back_state : State
+  back_state = segs_back (pages_back fault_state (frames_of_owner s.owner)) (cut_of_owner s.owner)
+
+  back_is : IsBack fault_state back_state
+  back_is = back_on (pages_are_back fault_state (frames_of_owner s.owner))
+      (segs_are_back (pages_back fault_state (frames_of_owner s.owner)) (cut_of_owner s.owner))
+
+  pub failed_alike : IsAlike (flat_of s) (flat_of (write_failed s c faults))
+  failed_alike = alike_on (alike_by (fault_alike s.plan s.entries (Some (process_at s c))) back_is.flat)
+      (refused_alike back_state.plan back_state.entries (process_at back_state c)
+      (run_at back_state.runs (process_at back_state c)).place c None reply.Device refl)
+
+  pub failed_rest : Rest s (write_failed s c faults)
+  failed_rest = none_rest s (write_failed s c faults) back_is.plan
+      (ap (λ (pages : Plain). length pages.core.frames) back_is.pages) refl
+
+module _ (s : State) (c : ℕ) (o : Outcome) (f : ℕ) (k : Keeps s) (h : o.failed ≡ true) where
+  pub eviction_failed_says : Says s c o (act.FinishEviction f) → StoreSays (write_failed s c o.faults)
+  unfolding after
+  eviction_failed_says says = says_is s c o (act.FinishEviction f) (write_failed s c o.faults) k says
+      (ap (λ (b : Bool). cond b (write_failed s c o.faults) (eviction_done (with_faults s o.faults) c f)) h)
+      (subst (λ (b : Bool). IsAlike (cond b (flat_of s) (left_page s f (flat_of s)))
+      (flat_of (write_failed s c o.faults))) (sym h) (failed_alike s c o.faults))
+      (subst (λ (b : Bool). quotas (cond b (flat_of s) (left_page s f (flat_of s))) ≡ s.plan.quota) (sym h)
+      k.conserved.total) (failed_rest s c o.faults)
+
+  pub page_failed_says : Says s c o (act.FinishPage f) → StoreSays (write_failed s c o.faults)
+  unfolding after
+  page_failed_says says = says_is s c o (act.FinishPage f) (write_failed s c o.faults) k says
+      (ap (λ (b : Bool). cond b (write_failed s c o.faults) (page_done (with_faults s o.faults) f)) h)
+      (subst (λ (b : Bool). IsAlike (cond b (flat_of s) (left_page s f (flat_of s)))
+      (flat_of (write_failed s c o.faults))) (sym h) (failed_alike s c o.faults))
+      (subst (λ (b : Bool). quotas (cond b (flat_of s) (left_page s f (flat_of s))) ≡ s.plan.quota) (sym h)
+      k.conserved.total) (failed_rest s c o.faults)
+
+-- ---- a segment is active no more
+
+pub gone_is : (s : State) (ds : List CutDescriptor) → IsBack s (segs_gone s ds)
+gone_is s [] = record { plan = refl; pages = refl; flat = refl }
+gone_is s (d ∷ ds) = back_on (record {
+  plan = refl;
+  pages = refl;
+  flat = one_still s.plan s.entries (entry.GoneSeg d.process d.number) refl;
+}) (gone_is (seg_gone s d) ds)
+
+pub emptied_says : (s : State) (c u : ℕ) (st : Storage) → Keeps s → StoreKept st
+    → IsFaithful s.plan (flat_of s) st → (emptied s c u).store ≡ st → StoreSays (emptied s c u)
+emptied_says s c u st k kept shown is = says_by s (emptied s c u) (flat_of s) k (subst StoreKept (sym is) kept)
+    (subst (IsFaithful s.plan (flat_of s)) (sym is) shown)
+    (alike_by (alike (flat_of s)) (one_still gone.plan gone.entries (entry.Deactivate u) refl
+    ∙ (gone_is s (cut_of_owner s.owner)).flat)) k.conserved.total
+    (none_rest s (emptied s c u) (gone_is s (cut_of_owner s.owner)).plan
+    (ap (λ (pages : Plain). length pages.core.frames) (gone_is s (cut_of_owner s.owner)).pages) refl)
+  where
+    gone : State
+    gone = segs_gone s (cut_of_owner s.owner)
+
+pub deactivated_says : (s : State) (c : ℕ) (o : Outcome) (u : ℕ) → Keeps s → Says s c o (act.Deactivate u)
+    → StoreSays (emptied s c u)
+unfolding after
+deactivated_says s c o u k says = emptied_says s c u (emptied s c u).store k says.store
+    (says.shown (flat_of s) k.faithful) refl
