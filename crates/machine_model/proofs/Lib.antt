@@ -71,6 +71,7 @@ pub mod RuleLaws
 pub mod RulesKept
 pub mod RunLaws
 pub mod SaysLaws
+pub mod ScheduleLaws
 pub mod SeatLaws
 pub mod SeenLaws
 pub mod SharedSegment

@@ -19,6 +19,7 @@ pub mod Reads
 pub mod Refusal
 pub mod Runs
 pub mod Said
+pub mod Scheduled
 pub mod Seen
 pub mod Shutdown
 pub mod State

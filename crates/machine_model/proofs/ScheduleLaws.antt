@@ -1,0 +1,396 @@
+-- Which processes run and which are ready, where a process is loaded, leaves its processor, is answered or ends.
+use Rattle.std.proofs.Common.{◌≡◌, ◌≢◌, ◌<◌, ◌≤◌, ℕ, zero, suc, ◌+◌, ◌-◌, Bool, true, false, ◌||◌, ◌&&◌, cond, eqb, List, []}
+use Rattle.std.proofs.Common.{◌∷◌, ◌++◌, length, set, Some, None, ◌⊎◌, inl, inr, refl, sym, ap, subst, ◌∙◌}
+use Rattle.std.proofs.Common.{arith}
+use Rattle.std.proofs.lemmas.Bool.Decides.{eqb_tells}
+use Rattle.std.proofs.lemmas.List.{get_or-set_other, get_or-set_same}
+use Rattle.std.proofs.lemmas.List.Folds.{list_any-append}
+use Rattle.script.specs.Plans.{Plan}
+use Rattle.custody_model.specs.Custody.{has, range}
+use Rattle.machine_model.specs.Custodial.{AreDistinct}
+use Rattle.machine_model.specs.Reads.{cpu_at, no_processor, no_run, processor_at, run_at}
+use Rattle.machine_model.specs.Scheduled.{AreScheduled, HasTurn, MayRun}
+use Rattle.machine_model.specs.declared.Processor.{Processor}
+use Rattle.machine_model.specs.declared.Run.{Run}
+use Rattle.machine_model.proofs.ListLaws.{put_list}
+use Rattle.machine_model.proofs.OwnedLaws.{distinct_push, push_other}
+use Rattle.machine_model.proofs.Places.{by_place}
+use Rattle.machine_model.proofs.TieLaws.{none_some}
+
+no_and : {b : Bool} → b ≡ true → b ≡ false → ⊥
+no_and t f = let no : true ≡ false = sym t ∙ f in cc
+
+-- ---- nobody's process changes
+
+-- the processors run the same processes, and those that took part do so still
+pub record SameSeats (old now : List Processor) : Type 0 where
+  pub process : (d : ℕ) → (cpu_at now d).process ≡ (cpu_at old d).process
+  pub online : (d : ℕ) → (cpu_at old d).online ≡ true → (cpu_at now d).online ≡ true
+
+pub same_seats : (ps : List Processor) → SameSeats ps ps
+same_seats ps = record { process = λ d. refl; online = λ d h. h }
+
+pub seats_kept : (p : Plan) (runs : List Run) (ready : List ℕ) (old now : List Processor) → SameSeats old now
+    → AreScheduled p runs ready old → AreScheduled p runs ready now
+seats_kept p runs ready old now same h = record {
+  running = λ d k e. h.running d k (sym (same.process d) ∙ e);
+  online = λ d k e. same.online d (h.online d k (sym (same.process d) ∙ e));
+  alone = λ d e k a b. h.alone d e k (sym (same.process d) ∙ a) (sym (same.process e) ∙ b);
+  waiting = h.waiting;
+  once = h.once;
+  apart = λ d k e. h.apart d k (sym (same.process d) ∙ e);
+  back = h.back;
+}
+
+-- one processor changes, and keeps its process
+pub one_seat : (ps : List Processor) (c : ℕ) (p : Processor) → c < length ps
+    → p.cpu.process ≡ (cpu_at ps c).process → ((cpu_at ps c).online ≡ true → p.cpu.online ≡ true)
+    → SameSeats ps (set ps c p)
+one_seat ps c p there process online = record {
+  process = λ d. ap (λ (x : Processor). x.cpu.process) (put_list ps c p no_processor d there)
+      ∙ by_place (λ (x : Processor). x.cpu.process ≡ (cpu_at ps d).process) (processor_at ps) c p d
+      (λ e. process ∙ ap (λ (i : ℕ). (cpu_at ps i).process) (sym e)) (λ n. refl);
+  online = λ d h. ap (λ (x : Processor). x.cpu.online) (put_list ps c p no_processor d there)
+      ∙ by_place (λ (x : Processor). x.cpu.online ≡ true) (processor_at ps) c p d
+      (λ e. online (ap (λ (i : ℕ). (cpu_at ps i).online) (sym e) ∙ h)) (λ n. h);
+}
+
+-- ---- how far processes have come
+
+-- each process goes on where it did, and has ended where it had
+pub record SameRuns (old now : List Run) : Type 0 where
+  pub same : (k : ℕ) → (run_at now k).ended ≡ (run_at old k).ended
+
+pub same_runs : (runs : List Run) → SameRuns runs runs
+same_runs runs = record { same = λ k. refl }
+
+turn_kept : (p : Plan) (old now : List Run) (k : ℕ) → SameRuns old now → HasTurn p old k → HasTurn p now k
+turn_kept p old now k same (inl h) = inl h
+turn_kept p old now k same (inr (inl h)) = inr (inl h)
+turn_kept p old now k same (inr (inr h)) = inr (inr (same.same 0 ∙ h))
+
+may_kept : (p : Plan) (old now : List Run) (k : ℕ) → SameRuns old now → MayRun p old k → MayRun p now k
+may_kept p old now k same h = record {
+  planned = h.planned;
+  going = same.same k ∙ h.going;
+  turn = turn_kept p old now k same h.turn;
+}
+
+pub runs_kept : (p : Plan) (old now : List Run) (ready : List ℕ) (ps : List Processor) → SameRuns old now
+    → AreScheduled p old ready ps → AreScheduled p now ready ps
+runs_kept p old now ready ps same h = record {
+  running = λ d k e. may_kept p old now k same (h.running d k e);
+  online = h.online;
+  alone = h.alone;
+  waiting = λ k e. may_kept p old now k same (h.waiting k e);
+  once = h.once;
+  apart = h.apart;
+  back = λ i e k planned. same.same k ∙ h.back i (sym (same.same 0) ∙ e) k planned;
+}
+
+-- one process goes on, which went on before
+pub one_run : (runs : List Run) (k : ℕ) (run : Run) → k < length runs → (run_at runs k).ended ≡ false
+    → run.ended ≡ false → SameRuns runs (set runs k run)
+one_run runs k run there was now = record {
+  same = λ j. ap (λ (x : Run). x.ended) (put_list runs k run no_run j there)
+      ∙ by_place (λ (x : Run). x.ended ≡ (run_at runs j).ended) (run_at runs) k run j
+      (λ e. now ∙ sym (ap (λ (i : ℕ). (run_at runs i).ended) e ∙ was)) (λ n. refl);
+}
+
+-- ---- a processor loads a process, and gives it up
+
+-- the processes once a processor has another one, or none
+put_process : (ps : List Processor) (c : ℕ) (p : Processor) → c < length ps → (d : ℕ)
+    → (d ≡ c → (cpu_at (set ps c p) d).process ≡ p.cpu.process)
+    × (d ≢ c → (cpu_at (set ps c p) d).process ≡ (cpu_at ps d).process)
+put_process ps c p there d = (
+  (λ e. ap (λ (i : ℕ). (cpu_at (set ps c p) i).process) e
+      ∙ ap (λ (x : Processor). x.cpu.process) (get_or-set_same ps c p no_processor there)),
+  (λ n. ap (λ (x : Processor). x.cpu.process) (get_or-set_other ps c d p no_processor n)),
+)
+
+put_online : (ps : List Processor) (c : ℕ) (p : Processor) → c < length ps → (d : ℕ)
+    → (d ≡ c → (cpu_at (set ps c p) d).online ≡ p.cpu.online)
+    × (d ≢ c → (cpu_at (set ps c p) d).online ≡ (cpu_at ps d).online)
+put_online ps c p there d = (
+  (λ e. ap (λ (i : ℕ). (cpu_at (set ps c p) i).online) e
+      ∙ ap (λ (x : Processor). x.cpu.online) (get_or-set_same ps c p no_processor there)),
+  (λ n. ap (λ (x : Processor). x.cpu.online) (get_or-set_other ps c d p no_processor n)),
+)
+
+either : (d c : ℕ) → (d ≡ c) ⊎ (d ≢ c)
+either d c = elim (eqb_tells d c) [ inl e ↦ inl e.1 | inr n ↦ inr n.1 ]
+
+some_is : {A : Type 0} (x y : A) → Some x ≡ Some y → x ≡ y
+some_is x y h = cc
+
+or_no : (a b : Bool) → (a || b) ≡ false → (a ≡ false) × (b ≡ false)
+or_no false b h = (refl, h)
+or_no true b h = absurd (let no : true ≡ false = h in cc)
+
+own : (n : ℕ) → eqb n n ≡ true
+own n = elim (eqb_tells n n) [ inl e ↦ e.0 | inr m ↦ absurd (m.1 refl) ]
+
+module _ (p : Plan) (runs : List Run) (ps : List Processor) (c : ℕ) (now : Processor) (there : c < length ps) where
+  -- the front of the ready list is loaded
+  pub load_kept : (k : ℕ) (ready : List ℕ) → AreScheduled p runs (k ∷ ready) ps → (cpu_at ps c).process ≡ None
+      → now.cpu.process ≡ Some k → now.cpu.online ≡ true → AreScheduled p runs ready (set ps c now)
+  load_kept k ready h none its on = record {
+    running = λ d j e. elim (either d c) [
+      | inl same ↦ subst (λ (i : ℕ). MayRun p runs i) (mine d j same e) (h.waiting k front)
+      | inr other ↦ h.running d j (sym ((put_process ps c now there d).1 other) ∙ e)
+    ];
+    online = λ d j e. elim (either d c) [
+      | inl same ↦ (put_online ps c now there d).0 same ∙ on
+      | inr other ↦ (put_online ps c now there d).1 other
+          ∙ h.online d j (sym ((put_process ps c now there d).1 other) ∙ e)
+    ];
+    alone = λ d e j a b. elim (either d c) [
+      | inl same ↦ elim (either e c) [
+        | inl also ↦ same ∙ sym also
+        | inr other ↦ absurd (not_here e j other b (mine d j same a))
+      ]
+      | inr other ↦ elim (either e c) [
+        | inl same ↦ absurd (not_here d j other a (mine e j same b))
+        | inr also ↦ h.alone d e j (sym ((put_process ps c now there d).1 other) ∙ a)
+            (sym ((put_process ps c now there e).1 also) ∙ b)
+      ]
+    ];
+    waiting = λ j e. h.waiting j (later j e);
+    once = h.once.1;
+    apart = λ d j e. elim (either d c) [
+      | inl same ↦ subst (λ (i : ℕ). has ready i ≡ false) (mine d j same e) h.once.0
+      | inr other ↦ (or_no (eqb k j) (has ready j)
+          (h.apart d j (sym ((put_process ps c now there d).1 other) ∙ e))).1
+    ];
+    back = h.back;
+  }
+    where
+      front : has (k ∷ ready) k ≡ true
+      front = ap (λ (b : Bool). b || has ready k) (own k)
+
+      later : (j : ℕ) → has ready j ≡ true → has (k ∷ ready) j ≡ true
+      later j e = or_right (eqb k j) e
+        where
+          or_right : (a : Bool) {b : Bool} → b ≡ true → (a || b) ≡ true
+          or_right true i = refl
+          or_right false i = i
+
+      mine : (d j : ℕ) → d ≡ c → (cpu_at (set ps c now) d).process ≡ Some j → k ≡ j
+      mine d j same e = some_is k j (sym its ∙ (sym ((put_process ps c now there d).0 same) ∙ e))
+
+      not_here : (d j : ℕ) → d ≢ c → (cpu_at (set ps c now) d).process ≡ Some j → k ≡ j → ⊥
+      not_here d j other e same = no_and (subst (λ (i : ℕ). has (k ∷ ready) i ≡ true) same front)
+          (h.apart d j (sym ((put_process ps c now there d).1 other) ∙ e))
+
+  -- a process is at its processor no more
+  pub gone_kept : (k : ℕ) (ready : List ℕ) → AreScheduled p runs ready ps → now.cpu.process ≡ None
+      → AreScheduled p runs ready (set ps c now)
+  gone_kept k ready h none = record {
+    running = λ d j e. h.running d j (was d j e);
+    online = λ d j e. (put_online ps c now there d).1 (not_here d j e) ∙ h.online d j (was d j e);
+    alone = λ d e j a b. h.alone d e j (was d j a) (was e j b);
+    waiting = h.waiting;
+    once = h.once;
+    apart = λ d j e. h.apart d j (was d j e);
+    back = h.back;
+  }
+    where
+      not_here : (d j : ℕ) → (cpu_at (set ps c now) d).process ≡ Some j → d ≢ c
+      not_here d j e same = none_some (sym none ∙ (sym ((put_process ps c now there d).0 same) ∙ e))
+
+      was : (d j : ℕ) → (cpu_at (set ps c now) d).process ≡ Some j → (cpu_at ps d).process ≡ Some j
+      was d j e = sym ((put_process ps c now there d).1 (not_here d j e)) ∙ e
+
+  -- it goes to the back of the ready list
+  pub leave_kept : (k : ℕ) (ready : List ℕ) → AreScheduled p runs ready ps → (cpu_at ps c).process ≡ Some k
+      → now.cpu.process ≡ None → AreScheduled p runs (ready ++ k ∷ []) (set ps c now)
+  leave_kept k ready h its none = let gone = gone_kept k ready h none in record {
+    running = gone.running;
+    online = gone.online;
+    alone = gone.alone;
+    waiting = λ j e. elim (either j k) [
+      | inl same ↦ subst (λ (i : ℕ). MayRun p runs i) (sym same) (h.running c k its)
+      | inr other ↦ h.waiting j (sym (push_other ready k j other) ∙ e)
+    ];
+    once = distinct_push ready k h.once (h.apart c k its);
+    apart = λ d j e. elim (either j k) [
+      | inl same ↦ absurd (not_there d j e same)
+      | inr other ↦ push_other ready k j other ∙ gone.apart d j e
+    ];
+    back = h.back;
+  }
+    where
+      not_there : (d j : ℕ) → (cpu_at (set ps c now) d).process ≡ Some j → j ≡ k → ⊥
+      not_there d j e same = let here : d ≡ c = h.alone d c k
+          (sym ((put_process ps c now there d).1 (elsewhere d j e)) ∙ (e ∙ ap (λ (i : ℕ). Some i) same)) its in
+          elsewhere d j e here
+        where
+          elsewhere : (i m : ℕ) → (cpu_at (set ps c now) i).process ≡ Some m → i ≢ c
+          elsewhere i m x y = none_some (sym none ∙ (sym ((put_process ps c now there i).0 y) ∙ x))
+
+-- ---- a process ends
+
+has_append : (xs ys : List ℕ) (j : ℕ) → has (xs ++ ys) j ≡ (has xs j || has ys j)
+has_append xs ys j = list_any-append (λ y. eqb y j) xs ys
+
+or_cases : (a b : Bool) → (a || b) ≡ true → (a ≡ true) ⊎ (b ≡ true)
+or_cases true b h = inl refl
+or_cases false b h = inr h
+
+both_no : (a b : Bool) → a ≡ false → b ≡ false → (a || b) ≡ false
+both_no false false x y = refl
+both_no true b x y = absurd (let no : true ≡ false = x in cc)
+both_no false true x y = absurd (let no : true ≡ false = y in cc)
+
+-- the numbers from one on
+in_range : (from n j : ℕ) → has (range from n) j ≡ true → (from ≤ j) × (j < from + n)
+in_range from zero j h = absurd (let no : false ≡ true = h in cc)
+in_range from (suc n) j h = elim (eqb_tells from j) [
+  | inl e ↦ (let same = e.1 in (omega (arith, same), omega (arith, same)))
+  | inr m ↦ (let rest = in_range (from + 1) n j (sym (ap (λ (b : Bool). b || has (range (from + 1) n) j) m.0) ∙ h) in
+      let a = rest.0 in let b = rest.1 in (omega (arith, a), omega (arith, b)))
+]
+
+not_before : (from n j : ℕ) → j < from → has (range from n) j ≡ false
+not_before from n j h = by (has (range from n) j) refl
+  where
+    by : (b : Bool) → has (range from n) j ≡ b → b ≡ false
+    by false e = refl
+    by true e = let at = (in_range from n j e).0 in absurd (omega (arith, at, h))
+
+pub range_once : (from n : ℕ) → AreDistinct (range from n)
+range_once from zero = tt
+range_once from (suc n) = (not_before (from + 1) n from (omega arith), range_once (from + 1) n)
+
+nothing_in : (xs : List ℕ) → ((j : ℕ) → has xs j ≡ false) → xs ≡ []
+nothing_in [] h = refl
+nothing_in (x ∷ xs) h = absurd (no_and (ap (λ (b : Bool). b || has xs x) (own x)) (h x))
+
+append_nil : (xs : List ℕ) → xs ++ [] ≡ xs
+append_nil [] = refl
+append_nil (x ∷ xs) = ap (λ (ys : List ℕ). x ∷ ys) (append_nil xs)
+
+module _ (p : Plan) (runs : List Run) (ready : List ℕ) (ps : List Processor) (c k : ℕ) (now : Processor) (run : Run)
+    (there : c < length ps) (known : k < length runs) (h : AreScheduled p runs ready ps)
+    (its : (cpu_at ps c).process ≡ Some k) (none : now.cpu.process ≡ None) (over : run.ended ≡ true) where
+  runs_now : List Run
+  runs_now = set runs k run
+
+  others : (j : ℕ) → j ≢ k → (run_at (set runs k run) j).ended ≡ (run_at runs j).ended
+  others j other = ap (λ (x : Run). x.ended) (get_or-set_other runs k j run no_run other)
+
+  ended_now : (run_at (set runs k run) k).ended ≡ true
+  ended_now = ap (λ (x : Run). x.ended) (get_or-set_same runs k run no_run known) ∙ over
+
+  gone : AreScheduled p runs ready (set ps c now)
+  gone = gone_kept p runs ps c now there k ready h none
+
+  turn_still : (j : ℕ) → HasTurn p runs j → HasTurn p (set runs k run) j
+  turn_still j (inl e) = inl e
+  turn_still j (inr (inl e)) = inr (inl e)
+  turn_still j (inr (inr e)) = inr (inr (elim (either 0 k) [
+    | inl same ↦ ap (λ (i : ℕ). (run_at (set runs k run) i).ended) same ∙ ended_now
+    | inr other ↦ others 0 other ∙ e
+  ]))
+
+  may_still : (j : ℕ) → j ≢ k → MayRun p runs j → MayRun p (set runs k run) j
+  may_still j other m = record { planned = m.planned; going = others j other ∙ m.going; turn = turn_still j m.turn }
+
+  not_its : (d j : ℕ) → (cpu_at (set ps c now) d).process ≡ Some j → j ≢ k
+  not_its d j e same = none_some (sym none ∙ (sym ((put_process ps c now there d).0 here) ∙ e))
+    where
+      here : d ≡ c
+      here = elim (either d c) [
+        | inl x ↦ x
+        | inr y ↦ h.alone d c k (sym ((put_process ps c now there d).1 y) ∙ (e ∙ ap (λ (i : ℕ). Some i) same)) its
+      ]
+
+  not_ready : (j : ℕ) → has ready j ≡ true → j ≢ k
+  not_ready j e same = no_and (subst (λ (i : ℕ). has ready i ≡ true) same e) (h.apart c k its)
+
+  back_still : p.initializer ≡ true → (run_at (set runs k run) 0).ended ≡ false → (j : ℕ) → j < length p.processes
+      → (run_at (set runs k run) j).ended ≡ false
+  back_still i e j planned = elim (h.running c k its).turn [
+    | inl off ↦ absurd (no_and i off)
+    | inr on ↦ elim on [
+      | inl first ↦ absurd (no_and (subst (λ (x : ℕ). (run_at (set runs k run) x).ended ≡ true) first ended_now) e)
+      | inr ended ↦ absurd (no_and ended_first e)
+    ]
+  ]
+    where
+      ended_first : (run_at (set runs k run) 0).ended ≡ true
+      ended_first = elim (either 0 k) [
+        | inl same ↦ ap (λ (x : ℕ). (run_at (set runs k run) x).ended) same ∙ ended_now
+        | inr other ↦ (let was : (run_at runs 0).ended ≡ true = elim (h.running c k its).turn [
+          | inl off ↦ absurd (no_and i off)
+          | inr on ↦ elim on [ inl first ↦ absurd (other (sym first)) | inr ended ↦ ended ]
+        ] in others 0 other ∙ was)
+      ]
+
+  -- no other process becomes ready by it
+  plain_end : AreScheduled p (set runs k run) ready (set ps c now)
+  plain_end = record {
+    running = λ d j e. may_still j (not_its d j e) (gone.running d j e);
+    online = gone.online;
+    alone = gone.alone;
+    waiting = λ j e. may_still j (not_ready j e) (h.waiting j e);
+    once = h.once;
+    apart = gone.apart;
+    back = back_still;
+  }
+
+  module _ (initial : p.initializer ≡ true) (first : k ≡ 0) where
+    not_ended : (run_at runs 0).ended ≡ false
+    not_ended = subst (λ (i : ℕ). (run_at runs i).ended ≡ false) first (h.running c k its).going
+
+    only_first : (j : ℕ) → MayRun p runs j → j ≡ k
+    only_first j m = elim m.turn [
+      | inl off ↦ absurd (no_and initial off)
+      | inr on ↦ elim on [ inl zero_is ↦ zero_is ∙ sym first | inr ended ↦ absurd (no_and ended not_ended) ]
+    ]
+
+    none_ready : ready ≡ []
+    none_ready = nothing_in ready (λ j. by j (has ready j) refl)
+      where
+        by : (j : ℕ) (b : Bool) → has ready j ≡ b → b ≡ false
+        by j false e = refl
+        by j true e = absurd (not_ready j e (only_first j (h.waiting j e)))
+
+    nobody_runs : (d j : ℕ) → (cpu_at (set ps c now) d).process ≡ Some j → ⊥
+    nobody_runs d j e = not_its d j e (only_first j (gone.running d j e))
+
+    -- the others are ready from now on
+    initial_end : AreScheduled p (set runs k run) (range 1 (length p.processes - 1)) (set ps c now)
+    initial_end = record {
+      running = λ d j e. absurd (nobody_runs d j e);
+      online = gone.online;
+      alone = gone.alone;
+      waiting = λ j e. (let at = in_range 1 (length p.processes - 1) j e in let low = at.0 in let high = at.1 in
+          let planned : j < length p.processes = omega (arith, low, high) in
+          let other : j ≢ k = (λ same. (let zero_is : j ≡ 0 = same ∙ first in omega (arith, low, zero_is))) in
+          record {
+            planned = planned;
+            going = others j other ∙ h.back initial not_ended j planned;
+            turn = inr (inr (subst (λ (i : ℕ). (run_at (set runs k run) i).ended ≡ true) first ended_now));
+          });
+      once = range_once 1 (length p.processes - 1);
+      apart = λ d j e. absurd (nobody_runs d j e);
+      back = back_still;
+    }
+
+  pub end_kept : AreScheduled p (set runs k run)
+      (ready ++ cond (p.initializer && eqb k 0) (range 1 (length p.processes - 1)) []) (set ps c now)
+  end_kept = by (p.initializer) (eqb k 0) refl (first_is (eqb k 0) refl)
+    where
+      first_is : (b : Bool) → eqb k 0 ≡ b → b ≡ true → k ≡ 0
+      first_is b e t = elim (eqb_tells k 0) [ inl x ↦ x.1 | inr m ↦ absurd (no_and (e ∙ t) m.0) ]
+
+      by : (i z : Bool) → p.initializer ≡ i → (z ≡ true → k ≡ 0)
+          → AreScheduled p (set runs k run) (ready ++ cond (i && z) (range 1 (length p.processes - 1)) []) (set ps c now)
+      by true true e z = subst (λ (xs : List ℕ). AreScheduled p (set runs k run)
+          (xs ++ range 1 (length p.processes - 1)) (set ps c now)) (sym (none_ready e (z refl))) (initial_end e (z refl))
+      by true false e z = subst (λ (xs : List ℕ). AreScheduled p (set runs k run) xs (set ps c now))
+          (sym (append_nil ready)) plain_end
+      by false z e f = subst (λ (xs : List ℕ). AreScheduled p (set runs k run) xs (set ps c now))
+          (sym (append_nil ready)) plain_end
