@@ -42,6 +42,7 @@ pub mod LateWord
 pub mod LeaveSeen
 pub mod LeftLaws
 pub mod ListLaws
+pub mod LookFacts
 pub mod LookLaws
 pub mod LoopLaws
 pub mod MoveSeen

@@ -1,0 +1,433 @@
+-- What a look of the owner finds for the command of its process, when it comes to each of its actions.
+use Rattle.std.proofs.Common.{◌≡◌, ◌≢◌, ◌<◌, ℕ, ◌*◌, Bool, true, false, cond, eqb, is_some, List, []}
+use Rattle.std.proofs.Common.{position, Option, Some, None, ◌⊎◌, inl, inr, refl, sym, ap, ◌∙◌}
+use Rattle.std.specs.Prelude.{◌%◌, ◌/◌}
+use Rattle.mnames.specs.declared.modes.Mode.{Mode}
+use Rattle.script.specs.Plans.{who_of}
+use Rattle.script.specs.References.{reference_of}
+use Rattle.script.specs.declared.commands.Command.{Command}
+use Rattle.script.specs.declared.commands.Command.TheVariants as command
+use Rattle.script.specs.declared.commands.Reference.{Reference}
+use Rattle.book.specs.declared.replies.Reply.{Reply}
+use Rattle.book.specs.declared.replies.Reply.TheVariants as reply
+use Rattle.tree_model.specs.Access.{access_of}
+use Rattle.tree_model.specs.Tree.{Node, node_in}
+use Rattle.dir_tree.specs.Nodes.{chain_of}
+use Rattle.core_map.specs.declared.Frame.{Frame}
+use Rattle.core_map.specs.declared.Frame.TheVariants as frame
+use Rattle.core_map.specs.CoreMap.{Core, frame_at, is_started, least_free_frame, started_page}
+use Rattle.core_map.specs.Clock.{clock_choice}
+use Rattle.page_table.specs.declared.Ptw.{Ptw}
+use Rattle.page_table.specs.declared.Ptw.TheVariants as ptw
+use Rattle.descriptor_seg.specs.declared.Sdw.{Sdw}
+use Rattle.descriptor_seg.specs.declared.Sdw.TheVariants as sdw
+use Rattle.page_control.specs.Plain.{frame_in}
+use Rattle.active_segs.specs.Active.{uid_at}
+use Rattle.active_segs.specs.Victim.{victim_of}
+use Rattle.seg_control.specs.Control.{word_of}
+use Rattle.flat_model.specs.Commands.{reply_by, reply_to_command}
+use Rattle.flat_model.specs.References.{new_word, permits, reply_to_reference}
+use Rattle.flat_model.specs.Store.{known_uid}
+use Rattle.storage_ops.specs.Shown.{is_refusal}
+use Rattle.machine_model.specs.Actions as act
+use Rattle.machine_model.specs.Actions.{activate_first, activate_in, any_page, bring_cut, create_unless}
+use Rattle.machine_model.specs.Actions.{descriptors_taken, empty_victim, empty_when_read, evict_or_wait, first_taken}
+use Rattle.machine_model.specs.Actions.{frame_read_from, frames_taken, into_frame, look_at_descriptor, look_at_word}
+use Rattle.machine_model.specs.Actions.{look_for, look_for_command, look_for_reference, look_inside, look_of}
+use Rattle.machine_model.specs.Actions.{look_to_change, look_to_take, look_unless, pool_of_node, room_for}
+use Rattle.machine_model.specs.Actions.{take_or_commit, unless_read, what_taken, with_chain, with_cut_page}
+use Rattle.machine_model.specs.Custodial.{is_out}
+use Rattle.machine_model.specs.Reads.{descriptor_of, first_inactive, flat_of, frame_reading, free_place, is_active}
+use Rattle.machine_model.specs.Reads.{is_page_of, or_zero}
+use Rattle.machine_model.specs.Refusal.{is_of_room, is_outside, only, outside_refusal, refusal_of, room_refusal}
+use Rattle.machine_model.specs.Refusal.{uid_of_command, uid_of_number}
+use Rattle.machine_model.specs.State.{State}
+use Rattle.machine_model.proofs.FindLaws.{position_at}
+
+-- ---- what is found
+
+-- what the flat store answers refuses the command
+pub record IsRefused (s : State) (k : ℕ) (cmd : Command) (r : Reply) : Type 0 where
+  pub reply : r ≡ reply_to_command s.plan (flat_of s) k cmd
+  pub refuses : is_refusal r ≡ true
+
+-- a reference that isn't refused before its page is looked at
+pub record IsInside (s : State) (k : ℕ) (r : Reference) (u : ℕ) : Type 0 where
+  pub known : known_uid (flat_of s) k r.number ≡ Some u
+  pub node : Node
+  pub there : node_in (flat_of s).nodes u ≡ Some node
+  pub permitted : permits (access_of (who_of s.plan k) node.rows) r.kind ≡ true
+  pub within : r.offset < 1024 * node.pages
+
+-- the chain of what the command is about
+pub record IsAbout (s : State) (k : ℕ) (cmd : Command) (u : ℕ) : Type 0 where
+  pub case : ((r : Reference) × (reference_of cmd ≡ Some r) × (uid_of_number s.store k r.number ≡ u)
+      × (outside_refusal s k r ≡ None) × (descriptor_of s.store.links k r.number ≡ sdw.Fault))
+      ⊎ ((path : List (List ℕ)) × (words : ℕ) × (cmd ≡ command.Truncate path words) × (refusal_of s k cmd ≡ None)
+      × (uid_of_command s.store k cmd ≡ u))
+
+-- the first link of the chain that isn't active
+pub record IsFirstLink (s : State) (k : ℕ) (cmd : Command) (u : ℕ) (chain : List ℕ) : Type 0 where
+  pub about : ℕ
+  pub case : IsAbout s k cmd about
+  pub chain_is : chain ≡ chain_of s.store.accounts.nodes about
+  pub first : first_inactive s.store.ast chain ≡ Some u
+
+pub record FindsPlace (s : State) (k : ℕ) (cmd : Command) (u place : ℕ) : Type 0 where
+  pub chain : List ℕ
+  pub link : IsFirstLink s k cmd u chain
+  pub free : free_place s.store.ast (pool_of_node (node_in s.store.accounts.nodes u)) ≡ Some place
+
+pub record FindsVictim (s : State) (k : ℕ) (cmd : Command) (pool : ℕ) (chain : List ℕ) (u : ℕ) : Type 0 where
+  pub wanted : ℕ
+  pub link : IsFirstLink s k cmd wanted chain
+  pub pool_is : pool ≡ pool_of_node (node_in s.store.accounts.nodes wanted)
+  pub full : free_place s.store.ast pool ≡ None
+  pub place : ℕ
+  pub victim : victim_of s.store.ast pool chain ≡ Some place
+  pub uid : u ≡ or_zero (uid_at s.store.ast.entries place)
+  pub unread : frame_reading s.store.pages.core u any_page ≡ None
+
+-- the whole chain of a reference is active
+pub record FindsLink (s : State) (k : ℕ) (cmd : Command) (n u : ℕ) : Type 0 where
+  pub reference : Reference
+  pub is : reference_of cmd ≡ Some reference
+  pub number : reference.number ≡ n
+  pub uid : uid_of_number s.store k n ≡ u
+  pub inside : outside_refusal s k reference ≡ None
+  pub fault : descriptor_of s.store.links k n ≡ sdw.Fault
+  pub chain : first_inactive s.store.ast (chain_of s.store.accounts.nodes u) ≡ None
+
+-- a reference whose descriptor leads to its segment
+pub record FindsPage (s : State) (k : ℕ) (cmd : Command) (r : Reference) (u p : ℕ) : Type 0 where
+  pub is : reference_of cmd ≡ Some r
+  pub uid : uid_of_number s.store k r.number ≡ u
+  pub inside : outside_refusal s k r ≡ None
+  pub aste : ℕ
+  pub mode : Mode
+  pub pages : ℕ
+  pub linked : descriptor_of s.store.links k r.number ≡ sdw.Present aste mode pages
+  pub page : r.offset / 1024 ≡ p
+
+-- a page may be made
+pub record FindsRoom (s : State) (k : ℕ) (cmd : Command) (f u p : ℕ) (r : Reference) : Type 0 where
+  pub finds : FindsPage s k cmd r u p
+  pub null : word_of s.store.ast u p ≡ ptw.Null
+  pub word : eqb (new_word 0 r.kind) 0 ≡ false
+  pub room : room_refusal s k r ≡ None
+  pub frame : least_free_frame s.store.pages.core ≡ Some f
+  pub unread : frame_reading s.store.pages.core u (λ q. eqb q p) ≡ None
+
+-- a `truncate` whose chain is active, and which cuts this page
+pub record FindsCut (s : State) (k : ℕ) (cmd : Command) (u p : ℕ) : Type 0 where
+  pub path : List (List ℕ)
+  pub words : ℕ
+  pub is : cmd ≡ command.Truncate path words
+  pub stands : refusal_of s k cmd ≡ None
+  pub uid : uid_of_command s.store k cmd ≡ u
+  pub chain : first_inactive s.store.ast (chain_of s.store.accounts.nodes u) ≡ None
+  pub cuts : eqb (words % 1024) 0 ≡ false
+  pub page : words / 1024 ≡ p
+
+-- the page that is wanted is on its record, and of an active segment
+pub record FindsOut (s : State) (k : ℕ) (cmd : Command) (f u p : ℕ) : Type 0 where
+  pub case : ((r : Reference) × FindsPage s k cmd r u p) ⊎ FindsCut s k cmd u p
+  pub out : is_out (word_of s.store.ast u p) ≡ true
+  pub frame : least_free_frame s.store.pages.core ≡ Some f
+  pub unread : frame_reading s.store.pages.core u (λ q. eqb q p) ≡ None
+
+-- a page is wanted for which no frame is free
+pub record FindsFull (s : State) (k : ℕ) (cmd : Command) (f : ℕ) : Type 0 where
+  pub uid : ℕ
+  pub page : ℕ
+  pub case : ((r : Reference) × FindsPage s k cmd r uid page) ⊎ FindsCut s k cmd uid page
+  pub away : (g : ℕ) → word_of s.store.ast uid page ≢ ptw.Here g
+  pub choice : clock_choice s.store.pages.core ≡ Some f
+  pub full : least_free_frame s.store.pages.core ≡ None
+  pub unread : frame_reading s.store.pages.core uid (λ q. eqb q page) ≡ None
+
+-- a `length` of an active segment, of which no page is being read
+pub record FindsActive (s : State) (k : ℕ) (cmd : Command) (u : ℕ) : Type 0 where
+  pub path : List (List ℕ)
+  pub pages : ℕ
+  pub is : cmd ≡ command.Length path pages
+  pub stands : refusal_of s k cmd ≡ None
+  pub uid : uid_of_command s.store k cmd ≡ u
+  pub active : is_active s.store.ast u ≡ true
+  pub unread : frame_reading s.store.pages.core u any_page ≡ None
+
+-- what a `truncate` wants before it takes: its chain, and the page that it cuts in a frame
+abbrev pub IsBrought : State → ℕ → Command → Type 0
+IsBrought s u (command.Truncate path words) =
+    (first_inactive s.store.ast (chain_of s.store.accounts.nodes u) ≡ None)
+    × (eqb (words % 1024) 0 ≡ false → is_out (word_of s.store.ast u (words / 1024)) ≡ false)
+IsBrought s u _ = Unit {0}
+
+-- a tree command that isn't refused takes these frames and descriptors
+pub record FindsTaken (s : State) (k : ℕ) (cmd : Command) (fs : List ℕ) (pairs : List (ℕ × ℕ)) : Type 0 where
+  pub tree : reference_of cmd ≡ None
+  pub stands : refusal_of s k cmd ≡ None
+  pub unread : frame_read_from s.store.pages.core (uid_of_command s.store k cmd) (first_taken cmd) ≡ None
+  pub frames : fs ≡ frames_taken s.store (uid_of_command s.store k cmd) (first_taken cmd)
+  pub descriptors : pairs ≡ descriptors_taken s.store k (uid_of_command s.store k cmd) cmd
+  pub brought : IsBrought s (uid_of_command s.store k cmd) cmd
+  -- a `length` comes here where its segment isn't active
+  pub inactive : (path : List (List ℕ)) (pages : ℕ) → cmd ≡ command.Length path pages
+      → is_active s.store.ast (uid_of_command s.store k cmd) ≡ false
+
+-- a reference for which all is there
+pub record FindsAll (s : State) (k : ℕ) (cmd : Command) : Type 0 where
+  pub reference : Reference
+  pub uid : ℕ
+  pub finds : FindsPage s k cmd reference uid (reference.offset / 1024)
+  pub out : is_out (word_of s.store.ast uid (reference.offset / 1024)) ≡ false
+  pub kept : word_of s.store.ast uid (reference.offset / 1024) ≡ ptw.Null → eqb (new_word 0 reference.kind) 0 ≡ true
+
+-- no frame is free, bound or being read into
+pub record FindsNoFrame (s : State) : Type 0 where
+  pub full : least_free_frame s.store.pages.core ≡ None
+  pub choice : clock_choice s.store.pages.core ≡ None
+
+-- a full pool has nothing but links of the chain
+pub record FindsNoVictim (s : State) (k : ℕ) (cmd : Command) : Type 0 where
+  pub chain : List ℕ
+  pub wanted : ℕ
+  pub link : IsFirstLink s k cmd wanted chain
+  pub full : free_place s.store.ast (pool_of_node (node_in s.store.accounts.nodes wanted)) ≡ None
+  pub victim : victim_of s.store.ast (pool_of_node (node_in s.store.accounts.nodes wanted)) chain ≡ None
+
+abbrev pub LookFinds : State → ℕ → Command → act.Action → Type 0
+LookFinds s k cmd (act.Waits (act.ForTransfer f)) = is_some (started_page (frame_in s.store.pages f)) ≡ true
+LookFinds s k cmd (act.Answer r) = IsRefused s k cmd r
+LookFinds s k cmd act.GiveUp = FindsAll s k cmd ⊎ (FindsNoFrame s ⊎ FindsNoVictim s k cmd)
+LookFinds s k cmd (act.Activate u place) = FindsPlace s k cmd u place
+LookFinds s k cmd (act.Connect n u) = FindsLink s k cmd n u
+LookFinds s k cmd (act.Create f u p r) = FindsRoom s k cmd f u p r
+LookFinds s k cmd (act.Start f u p) = FindsOut s k cmd f u p
+LookFinds s k cmd (act.Evict f) = FindsFull s k cmd f
+LookFinds s k cmd (act.Empty u) = FindsActive s k cmd u
+LookFinds s k cmd (act.EmptyVictim pool chain u) = FindsVictim s k cmd pool chain u
+LookFinds s k cmd (act.TakeAway fs pairs w) = FindsTaken s k cmd fs pairs
+    × (w ≡ what_taken (uid_of_command s.store k cmd) cmd) × ((fs ≢ []) ⊎ (pairs ≢ []))
+LookFinds s k cmd act.Commit = FindsTaken s k cmd [] []
+LookFinds s k cmd _ = ⊥
+
+-- ---- along the rules of a look
+
+module _ (s : State) (k : ℕ) (cmd : Command) where
+  abbrev core : Core
+  core = s.store.pages.core
+
+  -- a frame that is found by what is being read into it
+  reading_found : (u : ℕ) (test : ℕ → Bool) (f : ℕ) → frame_reading core u test ≡ Some f
+      → is_some (started_page (frame_in s.store.pages f)) ≡ true
+  reading_found u test f h = by (started_page (frame_at core f))
+      (position_at (λ x. is_page_of u test (started_page x)) core.frames frame.Free f h).1
+    where
+      by : (o : Option (ℕ × ℕ)) → is_page_of u test o ≡ true → is_some o ≡ true
+      by None e = absurd (let no : false ≡ true = e in cc)
+      by (Some page) e = refl
+
+  unless_finds : (u : ℕ) (test : ℕ → Bool) (x : Option ℕ) (a : act.Action) → frame_reading core u test ≡ x
+      → (frame_reading core u test ≡ None → LookFinds s k cmd a) → LookFinds s k cmd (unless_read x a)
+  unless_finds u test None a e h = h e
+  unless_finds u test (Some f) a e h = reading_found u test f e
+
+  started_found : (f : ℕ) → position is_started core.frames ≡ Some f
+      → is_some (started_page (frame_in s.store.pages f)) ≡ true
+  started_found f h = by (frame_at core f) (position_at is_started core.frames frame.Free f h).1
+    where
+      by : (x : Frame) → is_started x ≡ true → is_some (started_page x) ≡ true
+      by frame.Free e = absurd (let no : false ≡ true = e in cc)
+      by (frame.Started u q) e = refl
+      by (frame.Bound u q used modified) e = absurd (let no : false ≡ true = e in cc)
+
+  module _ (u p : ℕ) (case : ((r : Reference) × FindsPage s k cmd r u p) ⊎ FindsCut s k cmd u p)
+      (away : (g : ℕ) → word_of s.store.ast u p ≢ ptw.Here g) where
+    evict_finds : (x : Option ℕ) → clock_choice core ≡ x → least_free_frame core ≡ None
+        → frame_reading core u (λ q. eqb q p) ≡ None → LookFinds s k cmd (evict_or_wait core x)
+    evict_finds (Some f) e full unread =
+        record { uid = u; page = p; case = case; away = away; choice = e; full = full; unread = unread }
+    evict_finds None e full unread = by (position is_started core.frames) refl
+      where
+        by : (y : Option ℕ) → position is_started core.frames ≡ y → LookFinds s k cmd (unless_read y act.GiveUp)
+        by None i = inr (inl (record { full = full; choice = e }))
+        by (Some f) i = started_found f i
+
+    room_finds : (into : ℕ → act.Action)
+        → ((f : ℕ) → least_free_frame core ≡ Some f → frame_reading core u (λ q. eqb q p) ≡ None
+        → LookFinds s k cmd (into f))
+        → LookFinds s k cmd (room_for core u p into)
+    room_finds into h = unless_finds u (λ q. eqb q p) (frame_reading core u (λ q. eqb q p))
+        (into_frame core (least_free_frame core) into) refl (λ unread. by (least_free_frame core) refl unread)
+      where
+        by : (y : Option ℕ) → least_free_frame core ≡ y → frame_reading core u (λ q. eqb q p) ≡ None
+            → LookFinds s k cmd (into_frame core y into)
+        by (Some f) e unread = h f e unread
+        by None e unread = evict_finds (clock_choice core) refl e unread
+
+  -- ---- a chain
+
+  module _ (about : ℕ) (case : IsAbout s k cmd about) where
+    abbrev chain : List ℕ
+    chain = chain_of s.store.accounts.nodes about
+
+    link_of : (v : ℕ) → first_inactive s.store.ast chain ≡ Some v → IsFirstLink s k cmd v chain
+    link_of v e = record { about = about; case = case; chain_is = refl; first = e }
+
+    abbrev pool : ℕ → ℕ
+    pool v = pool_of_node (node_in s.store.accounts.nodes v)
+
+    victim_finds : (v : ℕ) → first_inactive s.store.ast chain ≡ Some v → free_place s.store.ast (pool v) ≡ None
+        → (x : Option ℕ) → victim_of s.store.ast (pool v) chain ≡ x
+        → LookFinds s k cmd (empty_victim s.store (pool v) chain x)
+    victim_finds v e full None i = inr (inr (record {
+      chain = chain;
+      wanted = v;
+      link = link_of v e;
+      full = full;
+      victim = i;
+    }))
+    victim_finds v e full (Some place) i = unless_finds (or_zero (uid_at s.store.ast.entries place)) any_page
+        (frame_reading core (or_zero (uid_at s.store.ast.entries place)) any_page)
+        (act.EmptyVictim (pool v) chain (or_zero (uid_at s.store.ast.entries place))) refl (λ unread. record {
+          wanted = v;
+          link = link_of v e;
+          pool_is = refl;
+          full = full;
+          place = place;
+          victim = i;
+          uid = refl;
+          unread = unread;
+        })
+
+    place_finds : (v : ℕ) → first_inactive s.store.ast chain ≡ Some v → (x : Option ℕ)
+        → free_place s.store.ast (pool v) ≡ x → LookFinds s k cmd (activate_in s.store (pool v) chain v x)
+    place_finds v e (Some place) i = record { chain = chain; link = link_of v e; free = i }
+    place_finds v e None i = victim_finds v e i (victim_of s.store.ast (pool v) chain) refl
+
+    chain_finds : (otherwise : act.Action)
+        → (first_inactive s.store.ast chain ≡ None → LookFinds s k cmd otherwise)
+        → LookFinds s k cmd (with_chain s.store about otherwise)
+    chain_finds otherwise h = by (first_inactive s.store.ast chain) refl
+      where
+        by : (x : Option ℕ) → first_inactive s.store.ast chain ≡ x
+            → LookFinds s k cmd (activate_first s.store chain x otherwise)
+        by None e = h e
+        by (Some v) e = place_finds v e (free_place s.store.ast (pool v)) refl
+
+  -- ---- a reference
+
+  module _ (r : Reference) (is : reference_of cmd ≡ Some r) where
+    abbrev uid : ℕ
+    uid = uid_of_number s.store k r.number
+
+    abbrev p : ℕ
+    p = r.offset / 1024
+
+    -- what the flat store answers it
+    due : reply_to_command s.plan (flat_of s) k cmd ≡ reply_to_reference s.plan (flat_of s) k r
+    due = ap (reply_by s.plan (flat_of s) k cmd) is
+
+    only_some : (test : Reply → Bool) (x y : Reply) → only test x ≡ Some y → (x ≡ y) × (test y ≡ true)
+    only_some test x y h = by (test x) refl h
+      where
+        by : (b : Bool) → test x ≡ b → cond b (Some x) None ≡ Some y → (x ≡ y) × (test y ≡ true)
+        by true e i = let same : x ≡ y = cc in (same, ap test (sym same) ∙ e)
+        by false e i = absurd (let no : None ≡ Some y = i in cc)
+
+    outside_refuses : (x : Reply) → is_outside x ≡ true → is_refusal x ≡ true
+    outside_refuses reply.Unknown h = refl
+    outside_refuses reply.Gone h = refl
+    outside_refuses reply.NoAccess h = refl
+    outside_refuses reply.Length h = refl
+    outside_refuses _ h = absurd (let no : false ≡ true = h in cc)
+
+    room_refuses : (x : Reply) → is_of_room x ≡ true → is_refusal x ≡ true
+    room_refuses reply.Quota h = refl
+    room_refuses reply.NoRecord h = refl
+    room_refuses _ h = absurd (let no : false ≡ true = h in cc)
+
+    refused_outside : (x : Reply) → outside_refusal s k r ≡ Some x → IsRefused s k cmd x
+    unfolding outside_refusal
+    refused_outside x h = let both = only_some is_outside (reply_to_reference s.plan (flat_of s) k r) x h in
+        record { reply = sym both.0 ∙ sym due; refuses = outside_refuses x both.1 }
+
+    refused_room : (x : Reply) → room_refusal s k r ≡ Some x → IsRefused s k cmd x
+    unfolding room_refusal
+    refused_room x h = let both = only_some is_of_room (reply_to_reference s.plan (flat_of s) k r) x h in
+        record { reply = sym both.0 ∙ sym due; refuses = room_refuses x both.1 }
+
+    module _ (inside : outside_refusal s k r ≡ None) where
+      module _ (aste pages : ℕ) (m : Mode) (linked : descriptor_of s.store.links k r.number
+          ≡ sdw.Present aste m pages) where
+        page_of : FindsPage s k cmd r uid p
+        page_of = record {
+          is = is;
+          uid = refl;
+          inside = inside;
+          aste = aste;
+          mode = m;
+          pages = pages;
+          linked = linked;
+          page = refl;
+        }
+
+        all_of : (w : Ptw) → word_of s.store.ast uid p ≡ w → is_out w ≡ false
+            → (w ≡ ptw.Null → eqb (new_word 0 r.kind) 0 ≡ true) → LookFinds s k cmd act.GiveUp
+        all_of w e out kept = inl (record {
+          reference = r;
+          uid = uid;
+          finds = page_of;
+          out = ap is_out e ∙ out;
+          kept = λ h. kept (sym e ∙ h);
+        })
+
+        word_finds : (w : Ptw) → word_of s.store.ast uid p ≡ w → LookFinds s k cmd (look_at_word s k r uid p w)
+        word_finds ptw.Null e = by (eqb (new_word 0 r.kind) 0) refl
+          where
+            create : (x : Option Reply) → room_refusal s k r ≡ x → eqb (new_word 0 r.kind) 0 ≡ false
+                → LookFinds s k cmd (create_unless x (room_for core uid p (λ f. act.Create f uid p r)))
+            create (Some x) h word = refused_room x h
+            create None h word = room_finds uid p (inl (r, page_of))
+                (λ g here. (let no : ptw.Null ≡ ptw.Here g = sym e ∙ here in cc)) (λ f. act.Create f uid p r)
+                (λ f free unread. record {
+                  finds = page_of;
+                  null = e;
+                  word = word;
+                  room = h;
+                  frame = free;
+                  unread = unread;
+                })
+
+            by : (b : Bool) → eqb (new_word 0 r.kind) 0 ≡ b → LookFinds s k cmd (cond b act.GiveUp
+                (create_unless (room_refusal s k r) (room_for core uid p (λ f. act.Create f uid p r))))
+            by true h = all_of ptw.Null e refl (λ i. h)
+            by false h = create (room_refusal s k r) refl h
+        word_finds (ptw.Out n) e = room_finds uid p (inl (r, page_of))
+            (λ g here. (let no : ptw.Out n ≡ ptw.Here g = sym e ∙ here in cc)) (λ f. act.Start f uid p)
+            (λ f free unread. record { case = inl (r, page_of); out = ap is_out e; frame = free; unread = unread })
+        word_finds (ptw.Here f) e = all_of (ptw.Here f) e refl (λ i. (let no : ptw.Here f ≡ ptw.Null = i in absurd cc))
+        word_finds (ptw.Leaving f) e =
+            all_of (ptw.Leaving f) e refl (λ i. (let no : ptw.Leaving f ≡ ptw.Null = i in absurd cc))
+
+      descriptor_finds : (x : Sdw) → descriptor_of s.store.links k r.number ≡ x
+          → LookFinds s k cmd (look_at_descriptor s k r uid x)
+      descriptor_finds sdw.Fault e = chain_finds uid
+          (record { case = inl (r, is, refl, inside, e) }) (act.Connect r.number uid) (λ active. record {
+            reference = r;
+            is = is;
+            number = refl;
+            uid = refl;
+            inside = inside;
+            fault = e;
+            chain = active;
+          })
+      descriptor_finds (sdw.Present aste m pages) e = word_finds aste pages m e (word_of s.store.ast uid p) refl
+
+    reference_finds : LookFinds s k cmd (look_for_reference s k r)
+    reference_finds = by (outside_refusal s k r) refl
+      where
+        by : (x : Option Reply) → outside_refusal s k r ≡ x → LookFinds s k cmd (look_inside s k r x)
+        by (Some x) e = refused_outside x e
+        by None e = descriptor_finds e (descriptor_of s.store.links k r.number) refl
