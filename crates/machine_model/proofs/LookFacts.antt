@@ -43,6 +43,8 @@ use Rattle.machine_model.specs.Refusal.{is_of_room, is_outside, only, outside_re
 use Rattle.machine_model.specs.Refusal.{uid_of_command, uid_of_number}
 use Rattle.machine_model.specs.State.{State}
 use Rattle.machine_model.proofs.FindLaws.{position_at}
+use Rattle.flat_model.specs.Commands.{reply_to_tree_command}
+use Rattle.std.proofs.Common.{◌∷◌, subst, nat_le}
 
 -- ---- what is found
 
@@ -431,3 +433,196 @@ module _ (s : State) (k : ℕ) (cmd : Command) where
         by : (x : Option Reply) → outside_refusal s k r ≡ x → LookFinds s k cmd (look_inside s k r x)
         by (Some x) e = refused_outside x e
         by None e = descriptor_finds e (descriptor_of s.store.links k r.number) refl
+
+  -- ---- a tree command
+
+  module _ (tree : reference_of cmd ≡ None) where
+    abbrev about_uid : ℕ
+    about_uid = uid_of_command s.store k cmd
+
+    refused_command : (x : Reply) → refusal_of s k cmd ≡ Some x → IsRefused s k cmd x
+    unfolding refusal_of
+    refused_command x h = by (is_refusal (reply_to_tree_command s.plan (flat_of s) k cmd)) refl h
+      where
+        due_tree : reply_to_command s.plan (flat_of s) k cmd ≡ reply_to_tree_command s.plan (flat_of s) k cmd
+        due_tree = ap (reply_by s.plan (flat_of s) k cmd) tree
+
+        by : (b : Bool) → is_refusal (reply_to_tree_command s.plan (flat_of s) k cmd) ≡ b
+            → cond b (Some (reply_to_tree_command s.plan (flat_of s) k cmd)) None ≡ Some x → IsRefused s k cmd x
+        by true e i = let same : reply_to_tree_command s.plan (flat_of s) k cmd ≡ x = cc in
+            record { reply = sym same ∙ sym due_tree; refuses = ap is_refusal (sym same) ∙ e }
+        by false e i = absurd (let no : None ≡ Some x = i in cc)
+
+    module _ (stands : refusal_of s k cmd ≡ None) where
+      taken_facts : (fs : List ℕ) (pairs : List (ℕ × ℕ)) → frames_taken s.store about_uid (first_taken cmd) ≡ fs
+          → descriptors_taken s.store k about_uid cmd ≡ pairs
+          → frame_read_from core about_uid (first_taken cmd) ≡ None → IsBrought s about_uid cmd
+          → ((path : List (List ℕ)) (pages : ℕ) → cmd ≡ command.Length path pages
+          → is_active s.store.ast about_uid ≡ false)
+          → FindsTaken s k cmd fs pairs
+      taken_facts fs pairs a b unread brought inactive = record {
+        tree = tree;
+        stands = stands;
+        unread = unread;
+        frames = sym a;
+        descriptors = sym b;
+        brought = brought;
+        inactive = inactive;
+      }
+
+      commit_finds : (fs : List ℕ) (pairs : List (ℕ × ℕ)) → FindsTaken s k cmd fs pairs
+          → LookFinds s k cmd (take_or_commit fs pairs (what_taken about_uid cmd))
+      commit_finds [] [] h = h
+      commit_finds [] (x ∷ xs) h = (h, refl, inr (λ e. (let no : x ∷ xs ≡ [] = e in cc)))
+      commit_finds (f ∷ fs) pairs h = (h, refl, inl (λ e. (let no : f ∷ fs ≡ [] = e in cc)))
+
+      take_finds : IsBrought s about_uid cmd → ((path : List (List ℕ)) (pages : ℕ) → cmd ≡ command.Length path pages
+          → is_active s.store.ast about_uid ≡ false) → LookFinds s k cmd (look_to_take s.store k about_uid cmd)
+      take_finds brought inactive = by (first_taken cmd) refl
+        where
+          then : (x : Option ℕ) → frame_read_from core about_uid (first_taken cmd) ≡ x
+              → x ≡ None → LookFinds s k cmd (take_or_commit (frames_taken s.store about_uid (first_taken cmd))
+              (descriptors_taken s.store k about_uid cmd) (what_taken about_uid cmd))
+          then x e none = commit_finds (frames_taken s.store about_uid (first_taken cmd))
+              (descriptors_taken s.store k about_uid cmd)
+              (taken_facts _ _ refl refl (e ∙ none) brought inactive)
+
+          by : (y : Option ℕ) → first_taken cmd ≡ y → LookFinds s k cmd (look_to_take s.store k about_uid cmd)
+          by y e = read (frame_read_from core about_uid (first_taken cmd)) refl
+            where
+              found : (z : Option ℕ) (f : ℕ) → frame_read_from core about_uid z ≡ Some f
+                  → is_some (started_page (frame_in s.store.pages f)) ≡ true
+              found None f h = absurd (let no : None ≡ Some f = h in cc)
+              found (Some low) f h = reading_found about_uid (λ q. nat_le low q) f h
+
+              read : (x : Option ℕ) → frame_read_from core about_uid (first_taken cmd) ≡ x
+                  → LookFinds s k cmd (unless_read x (take_or_commit
+                  (frames_taken s.store about_uid (first_taken cmd))
+                  (descriptors_taken s.store k about_uid cmd) (what_taken about_uid cmd)))
+              read None i = then None i refl
+              read (Some f) i = found (first_taken cmd) f i
+
+      -- the cut page of a `truncate`
+      module _ (path : List (List ℕ)) (words : ℕ) (is : cmd ≡ command.Truncate path words)
+          (chain_active : first_inactive s.store.ast (chain_of s.store.accounts.nodes about_uid) ≡ None) where
+        brought_is : (eqb (words % 1024) 0 ≡ false → is_out (word_of s.store.ast about_uid (words / 1024)) ≡ false)
+            → IsBrought s about_uid cmd
+        brought_is h = subst (IsBrought s about_uid) (sym is) (chain_active, h)
+
+        not_length : (q : List (List ℕ)) (pages : ℕ) → cmd ≡ command.Length q pages
+            → is_active s.store.ast about_uid ≡ false
+        not_length q pages e = absurd (let no : command.Truncate path words ≡ command.Length q pages = sym is ∙ e in cc)
+
+        cuts : eqb (words % 1024) 0 ≡ false → FindsCut s k cmd about_uid (words / 1024)
+        cuts h = record {
+          path = path;
+          words = words;
+          is = is;
+          stands = stands;
+          uid = refl;
+          chain = chain_active;
+          cuts = h;
+          page = refl;
+        }
+
+        bring_finds : (w : Ptw) → word_of s.store.ast about_uid (words / 1024) ≡ w → eqb (words % 1024) 0 ≡ false
+            → LookFinds s k cmd (bring_cut core about_uid (words / 1024) w (look_to_take s.store k about_uid cmd))
+        bring_finds ptw.Null e h = take_finds (brought_is (λ i. ap is_out e)) not_length
+        bring_finds (ptw.Out n) e h = room_finds about_uid (words / 1024) (inr (cuts h))
+            (λ g here. (let no : ptw.Out n ≡ ptw.Here g = sym e ∙ here in cc))
+            (λ f. act.Start f about_uid (words / 1024))
+            (λ f free unread. record { case = inr (cuts h); out = ap is_out e; frame = free; unread = unread })
+        bring_finds (ptw.Here f) e h = take_finds (brought_is (λ i. ap is_out e)) not_length
+        bring_finds (ptw.Leaving f) e h = take_finds (brought_is (λ i. ap is_out e)) not_length
+
+        cut_finds : LookFinds s k cmd (with_cut_page s.store about_uid words (look_to_take s.store k about_uid cmd))
+        cut_finds = by (eqb (words % 1024) 0) refl
+          where
+            by : (b : Bool) → eqb (words % 1024) 0 ≡ b → LookFinds s k cmd (cond b (look_to_take s.store k about_uid cmd)
+                (bring_cut core about_uid (words / 1024) (word_of s.store.ast about_uid (words / 1024))
+                (look_to_take s.store k about_uid cmd)))
+            by true h = take_finds (brought_is (λ i. absurd (let no : true ≡ false = sym h ∙ i in cc))) not_length
+            by false h = bring_finds (word_of s.store.ast about_uid (words / 1024)) refl h
+
+      truncate_finds : (path : List (List ℕ)) (words : ℕ) → cmd ≡ command.Truncate path words
+          → LookFinds s k cmd (with_chain s.store about_uid (with_cut_page s.store about_uid words
+          (look_to_take s.store k about_uid cmd)))
+      truncate_finds path words is = chain_finds about_uid
+          (record { case = inr (path, words, is, stands, refl) })
+          (with_cut_page s.store about_uid words (look_to_take s.store k about_uid cmd))
+          (λ active. cut_finds path words is active)
+
+      length_finds : (path : List (List ℕ)) (pages : ℕ) → cmd ≡ command.Length path pages
+          → LookFinds s k cmd (cond (is_active s.store.ast about_uid)
+          (empty_when_read core about_uid (act.Empty about_uid)) act.Commit)
+      length_finds path pages is = by (is_active s.store.ast about_uid) refl
+        where
+          by : (b : Bool) → is_active s.store.ast about_uid ≡ b → LookFinds s k cmd
+              (cond b (empty_when_read core about_uid (act.Empty about_uid)) act.Commit)
+          by true h = unless_finds about_uid any_page (frame_reading core about_uid any_page) (act.Empty about_uid) refl
+              (λ unread. record {
+                path = path;
+                pages = pages;
+                is = is;
+                stands = stands;
+                uid = refl;
+                active = h;
+                unread = unread;
+              })
+          by false h = taken_facts [] [] (ap (λ (c : Command). frames_taken s.store about_uid (first_taken c)) is)
+              (ap (descriptors_taken s.store k about_uid) is)
+              (ap (λ (c : Command). frame_read_from core about_uid (first_taken c)) is)
+              (subst (IsBrought s about_uid) (sym is) tt) (λ q n e. h)
+
+-- ---- whatever the next command is
+
+abbrev NoLength : State → Command → ℕ → Type 0
+NoLength s cmd u = (path : List (List ℕ)) (pages : ℕ) → cmd ≡ command.Length path pages → is_active s.store.ast u ≡ false
+
+module _ (s : State) (k : ℕ) where
+  change_finds : (cmd : Command) → reference_of cmd ≡ None → refusal_of s k cmd ≡ None
+      → LookFinds s k cmd (look_to_change s.store k (uid_of_command s.store k cmd) cmd)
+  change_finds (command.Truncate path words) tree stands =
+      truncate_finds s k (command.Truncate path words) tree stands path words refl
+  change_finds (command.Length path pages) tree stands =
+      length_finds s k (command.Length path pages) tree stands path pages refl
+  change_finds (command.MkDir path volume) tree stands =
+      take_finds s k (command.MkDir path volume) tree stands tt (λ q n e. (let no : command.MkDir path volume
+      ≡ command.Length q n = e in absurd cc))
+  change_finds (command.MkSeg path pages volume) tree stands =
+      take_finds s k (command.MkSeg path pages volume) tree stands tt (λ q n e. (let no :
+      command.MkSeg path pages volume ≡ command.Length q n = e in absurd cc))
+  change_finds (command.Initiate path) tree stands = take_finds s k (command.Initiate path) tree stands tt
+      (λ q n e. (let no : command.Initiate path ≡ command.Length q n = e in absurd cc))
+  change_finds (command.Terminate number) tree stands = take_finds s k (command.Terminate number) tree stands tt
+      (λ q n e. (let no : command.Terminate number ≡ command.Length q n = e in absurd cc))
+  change_finds (command.Acl path row m) tree stands = take_finds s k (command.Acl path row m) tree stands tt
+      (λ q n e. (let no : command.Acl path row m ≡ command.Length q n = e in absurd cc))
+  change_finds (command.Delete path) tree stands = take_finds s k (command.Delete path) tree stands tt
+      (λ q n e. (let no : command.Delete path ≡ command.Length q n = e in absurd cc))
+  change_finds (command.Move path amount) tree stands = take_finds s k (command.Move path amount) tree stands tt
+      (λ q n e. (let no : command.Move path amount ≡ command.Length q n = e in absurd cc))
+  change_finds (command.Status path) tree stands = take_finds s k (command.Status path) tree stands tt
+      (λ q n e. (let no : command.Status path ≡ command.Length q n = e in absurd cc))
+  change_finds command.End tree stands = take_finds s k command.End tree stands tt
+      (λ q n e. (let no : command.End ≡ command.Length q n = e in absurd cc))
+  change_finds (command.Read n o) tree stands = absurd (let no : None ≡ reference_of (command.Read n o) = sym tree in cc)
+  change_finds (command.Write n o w) tree stands =
+      absurd (let no : None ≡ reference_of (command.Write n o w) = sym tree in cc)
+  change_finds (command.Add n o w) tree stands =
+      absurd (let no : None ≡ reference_of (command.Add n o w) = sym tree in cc)
+  change_finds (command.Await n o w t) tree stands =
+      absurd (let no : None ≡ reference_of (command.Await n o w t) = sym tree in cc)
+
+  -- What a look of the owner comes to is so.
+  pub look_finds : (cmd : Command) → LookFinds s k cmd (look_of s k (Some cmd))
+  look_finds cmd = by (reference_of cmd) refl
+    where
+      refuses : reference_of cmd ≡ None → (x : Option Reply) → refusal_of s k cmd ≡ x
+          → LookFinds s k cmd (look_unless s k cmd x)
+      refuses tree (Some x) e = refused_command s k cmd tree x e
+      refuses tree None e = change_finds cmd tree e
+
+      by : (x : Option Reference) → reference_of cmd ≡ x → LookFinds s k cmd (look_for s k cmd x)
+      by (Some r) e = reference_finds s k cmd r e
+      by None e = refuses e (refusal_of s k cmd) refl
