@@ -76,6 +76,7 @@ pub mod ScheduleLaws
 pub mod SeatLaws
 pub mod SeenLaws
 pub mod SharedSegment
+pub mod SpeakLaws
 pub mod StepKept
 pub mod StepLaws
 pub mod TakeLists

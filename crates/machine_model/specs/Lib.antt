@@ -15,6 +15,7 @@ pub mod Measures
 pub mod Outline
 pub mod OutlineKept
 pub mod Outlined
+pub mod Promise
 pub mod Reads
 pub mod Refusal
 pub mod Runs

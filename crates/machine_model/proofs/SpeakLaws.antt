@@ -1,0 +1,131 @@
+-- A processor speaks for its process: what the flat store and custody ask of the answer to its next command.
+use Rattle.std.proofs.Common.{◌≡◌, ◌<◌, ℕ, Bool, true, false, not, ◌||◌, ◌&&◌, eqb, length, List, Option, Some, None, ◌⊎◌}
+use Rattle.std.proofs.Common.{inl, inr, refl, sym, ap, subst, ◌∙◌}
+use Rattle.std.specs.Prelude.{IsSomeAnd}
+use Rattle.std.proofs.lemmas.Bool.Decides.{eqb_tells}
+use Rattle.script.specs.Plans.{Plan, command_at, commands_of}
+use Rattle.script.specs.References.{reference_of}
+use Rattle.script.specs.declared.commands.Command.{Command}
+use Rattle.script.specs.declared.commands.Reference.{Reference}
+use Rattle.book.specs.declared.replies.Reply.{Reply}
+use Rattle.book.specs.declared.replies.Reply.TheVariants as reply
+use Rattle.flat_model.specs.Commands.{reply_to_command, takes_effect}
+use Rattle.flat_model.specs.Legal.{IsAnswer}
+use Rattle.flat_model.specs.Store.{Store, is_turn, progress_of}
+use Rattle.storage_ops.specs.Shown.{is_refusal}
+use Rattle.custody_model.specs.Allowed.{MayAnswer as MayAnswerBy, is_effective, is_word_or_done}
+use Rattle.machine_model.specs.Custodial.{IsRun}
+use Rattle.machine_model.specs.Foreseen.{AllCome, Comes}
+use Rattle.machine_model.specs.Holding.{seen}
+use Rattle.machine_model.specs.Promise.{IsMachine}
+use Rattle.machine_model.specs.Reads.{flat_of, next_command, processor_at, run_at}
+use Rattle.machine_model.specs.Scheduled.{HasTurn, MayRun}
+use Rattle.machine_model.specs.Seen.{shown}
+use Rattle.machine_model.specs.State.{State}
+use Rattle.machine_model.specs.declared.Run.{Run}
+use Rattle.machine_model.proofs.TellKept.{CanTell}
+
+-- A processor has a process that goes on, and this is its next command.
+pub record Speaks (s : State) (c k : ℕ) (cmd : Command) : Type 0 where
+  pub there : c < length s.processors
+  pub known : k < length s.runs
+  pub its : (processor_at s.processors c).cpu.process ≡ Some k
+  pub next : next_command s k ≡ Some cmd
+  pub going : (run_at s.runs k).ended ≡ false
+  pub turn : HasTurn s.plan s.runs k
+  pub runs : (j : ℕ) → IsRun (progress_of (flat_of s) j) (run_at s.runs j)
+
+-- a processor that has a process speaks for it
+pub speaks : (s : State) (c k : ℕ) → IsMachine s → c < length s.processors
+    → (processor_at s.processors c).cpu.process ≡ Some k → (cmd : Command) × Speaks s c k cmd
+unfolding AllCome
+speaks s c k m there its = (come.command, record {
+  there = there;
+  known = known;
+  its = its;
+  next = come.on.next;
+  going = may.going;
+  turn = may.turn;
+  runs = m.keeps.book.runs;
+})
+  where
+    may : MayRun s.plan s.runs k
+    may = m.scheduled.running c k its
+
+    known : k < length s.runs
+    known = subst (λ (n : ℕ). k < n) (sym m.keeps.sizes.processes) may.planned
+
+    come : Comes (commands_of s.plan k) (run_at s.runs k)
+    come = m.come k known may.going
+
+turn_is : (s : State) (c k : ℕ) (cmd : Command) → Speaks s c k cmd → is_turn s.plan (flat_of s) k ≡ true
+turn_is s c k cmd h = by h.turn
+  where
+    or_right : (a : Bool) {b : Bool} → b ≡ true → (a || b) ≡ true
+    or_right true e = refl
+    or_right false e = e
+
+    by : HasTurn s.plan s.runs k → is_turn s.plan (flat_of s) k ≡ true
+    by (inl off) = ap (λ (b : Bool). not b || (eqb k 0 || (progress_of (flat_of s) 0).ended)) off
+    by (inr (inl first)) = elim (eqb_tells k 0) [
+      | inl e ↦ or_right (not s.plan.initializer) (ap (λ (b : Bool). b || (progress_of (flat_of s) 0).ended) e.0)
+      | inr n ↦ absurd (n.1 first)
+    ]
+    by (inr (inr over)) = or_right (not s.plan.initializer) (or_right (eqb k 0) ((h.runs 0).ended ∙ over))
+
+-- so it may be answered, where the flat store and custody allow the answer
+pub can_tell : (s : State) (c k : ℕ) (cmd : Command) (f : Option ℕ) (r : Reply) → Speaks s c k cmd
+    → IsAnswer s.plan (flat_of s) k (Some cmd) r
+    → MayAnswerBy s.plan (flat_of s) (shown (seen s)) c k f cmd r (reference_of cmd) → CanTell s c k f r
+can_tell s c k cmd f r h answer may = record {
+  there = h.there;
+  known = h.known;
+  command = cmd;
+  next = h.next;
+  lawful = record {
+    turn = turn_is s c k cmd h;
+    going = (h.runs k).ended ∙ h.going;
+    next = (h.runs k).place;
+    answer = subst (λ (x : Option Command). IsAnswer s.plan (flat_of s) k x r) (sym h.next) answer;
+  };
+  allowed = record {
+    process = h.its;
+    command = subst (λ (x : Option Command). IsSomeAnd x
+        (λ x. MayAnswerBy s.plan (flat_of s) (shown (seen s)) c k f x r (reference_of x)))
+        (sym (ap (command_at s.plan k) (h.runs k).place ∙ h.next)) may;
+  };
+}
+
+-- ---- refusals
+
+pub refusal_quiet : (r : Reply) → is_refusal r ≡ true → (takes_effect r ≡ false) × (is_word_or_done r ≡ false)
+refusal_quiet (reply.Word w) h = absurd (let none : false ≡ true = h in cc)
+refusal_quiet reply.Done h = absurd (let none : false ≡ true = h in cc)
+refusal_quiet (reply.Made u) h = absurd (let none : false ≡ true = h in cc)
+refusal_quiet (reply.Known n) h = absurd (let none : false ≡ true = h in cc)
+refusal_quiet (reply.SegIs u l n) h = absurd (let none : false ≡ true = h in cc)
+refusal_quiet (reply.DirIs u q n) h = absurd (let none : false ≡ true = h in cc)
+refusal_quiet _ h = (refl, refl)
+
+-- what refuses a command may be told at once
+pub can_refuse : (s : State) (c k : ℕ) (cmd : Command) (r : Reply) → Speaks s c k cmd
+    → r ≡ reply_to_command s.plan (flat_of s) k cmd → is_refusal r ≡ true → CanTell s c k None r
+can_refuse s c k cmd r h is refuses = can_tell s c k cmd None r h (inl is) (by (reference_of cmd))
+  where
+    quiet : (takes_effect r ≡ false) × (is_word_or_done r ≡ false)
+    quiet = refusal_quiet r refuses
+
+    no_and : {b : Bool} → b ≡ true → b ≡ false → ⊥
+    no_and t e = let none : true ≡ false = sym t ∙ e in cc
+
+    and_first : (a b : Bool) → (a && b) ≡ true → a ≡ true
+    and_first true b e = refl
+    and_first false b e = e
+
+    by : (x : Option Reference) → MayAnswerBy s.plan (flat_of s) (shown (seen s)) c k None cmd r x
+    by (Some x) = inl quiet.1
+    by None = record {
+      without = refl;
+      out = λ e. absurd (no_and (and_first (takes_effect (reply_to_command s.plan (flat_of s) k cmd)) _ e)
+          (ap takes_effect (sym is) ∙ quiet.0));
+    }

@@ -1,0 +1,16 @@
+-- The whole promise of a machine: what it keeps over every schedule, with what its rules rest on.
+use Rattle.std.specs.Prelude.{◌≡◌}
+use Rattle.script.specs.Forms.{IsPlan}
+use Rattle.machine_model.specs.Foreseen.{AllCome}
+use Rattle.machine_model.specs.Keeps.{Keeps}
+use Rattle.machine_model.specs.Scheduled.{IsScheduled}
+use Rattle.machine_model.specs.State.{State}
+
+-- It keeps what `Keeps` says. Each process that hasn't ended comes to a command of the script, and is at one processor,
+-- ready, or kept back by the initializer. The pools of the active segment table are those of the script.
+pub record IsMachine (s : State) : Type 0 where
+  pub keeps : Keeps s
+  pub script : IsPlan s.plan
+  pub come : AllCome s
+  pub scheduled : IsScheduled s
+  pub pools : s.store.ast.sizes ≡ s.plan.pools
