@@ -33,6 +33,7 @@ pub mod FirstSteps
 pub mod FrameLaws
 pub mod GoesLaws
 pub mod HeldLaws
+pub mod InsideLaws
 pub mod JobKept
 pub mod JobLaws
 pub mod KeepLaws
@@ -62,6 +63,7 @@ pub mod OutlineTake
 pub mod OutlineWaits
 pub mod OwnedLaws
 pub mod OwnerLaws
+pub mod PageShown
 pub mod Places
 pub mod QuotaTotals
 pub mod RankLaws

@@ -1,0 +1,141 @@
+-- What the flat store answers a reference that isn't refused before its page is looked at.
+use Rattle.std.proofs.Common.{◌≡◌, ◌<◌, ◌≤◌, ℕ, ◌*◌, Bool, true, false, not, ◌&&◌, cond, eqb, List, [], Option, Some, None}
+use Rattle.std.proofs.Common.{inl, inr, refl, sym, ap, subst, ◌∙◌, arith}
+use Rattle.std.specs.Prelude.{◌/◌, nat_le}
+use Rattle.std.proofs.lemmas.Bool.Decides.{eqb_tells, leb_tells}
+use Rattle.script.specs.Plans.{who_of}
+use Rattle.script.specs.declared.commands.RefKind.{RefKind}
+use Rattle.script.specs.declared.commands.Reference.{Reference}
+use Rattle.book.specs.declared.replies.Reply.{Reply}
+use Rattle.book.specs.declared.replies.Reply.TheVariants as reply
+use Rattle.tree_model.specs.Access.{access_of}
+use Rattle.tree_model.specs.Tree.{Node, node_in}
+use Rattle.flat_model.specs.Pages.{is_stored}
+use Rattle.flat_model.specs.References.{alters, is_used_up, is_volume_full, new_word, permits, reply_at, reply_in, reply_of}
+use Rattle.flat_model.specs.References.{reply_to_reference, room_reply, stores_page, word_reply}
+use Rattle.flat_model.specs.Store.{Store, known_uid}
+use Rattle.known_segs.specs.Known.{uid_of}
+use Rattle.seg_control.specs.Control.{kst_at}
+use Rattle.machine_model.specs.Keeps.{Keeps}
+use Rattle.machine_model.specs.Reads.{flat_of, or_zero}
+use Rattle.machine_model.specs.Refusal.{is_of_room, is_outside, only, outside_refusal, room_refusal, uid_of_number}
+use Rattle.machine_model.specs.State.{State}
+use Rattle.machine_model.proofs.LookFacts.{IsInside}
+use Rattle.machine_model.proofs.QuotaTotals.{found_uid}
+
+module _ (s : State) (k : ℕ) (r : Reference) (keeps : Keeps s) where
+  abbrev t : Store
+  t = flat_of s
+
+  -- what a number stands for, by the tables
+  known_is : (v : ℕ) → known_uid t k r.number ≡ Some v → uid_of_number s.store k r.number ≡ v
+  known_is v e = ap or_zero (sym (ap (λ (x : List (List (Option ℕ))). uid_of (kst_at x k) r.number) keeps.faithful.known)
+      ∙ e)
+
+  negated : (b : Bool) → not b ≡ false → b ≡ true
+  negated true h = refl
+  negated false h = absurd (let none : true ≡ false = h in cc)
+
+  less : (a b : ℕ) → nat_le a b ≡ false → b < a
+  less a b h = elim (leb_tells a b) [
+    | inl e ↦ absurd (let none : true ≡ false = sym e.0 ∙ h in cc)
+    | inr m ↦ (let lt = m.1 in omega (arith, lt))
+  ]
+
+  -- a reference that isn't refused so is to a segment that is there
+  pub inside_is : outside_refusal s k r ≡ None → IsInside s k r (uid_of_number s.store k r.number)
+  unfolding outside_refusal reply_to_reference
+  inside_is h = by (known_uid t k r.number) refl h
+    where
+      allowed : (v : ℕ) (n : Node) → known_uid t k r.number ≡ Some v → node_in t.nodes v ≡ Some n → (a b : Bool)
+          → permits (access_of (who_of s.plan k) n.rows) r.kind ≡ a → nat_le (1024 * n.pages) r.offset ≡ b
+          → (rest : Reply)
+          → only is_outside (cond (not a) reply.NoAccess (cond b reply.Length rest)) ≡ None
+          → IsInside s k r v
+      allowed v n e there true false p w rest i = record {
+        known = e;
+        node = n;
+        there = there;
+        permitted = p;
+        within = less (1024 * n.pages) r.offset w;
+      }
+      allowed v n e there true true p w rest i = absurd (let none : Some reply.Length ≡ None = i in cc)
+      allowed v n e there false b p w rest i = absurd (let none : Some reply.NoAccess ≡ None = i in cc)
+
+      node : (v : ℕ) → known_uid t k r.number ≡ Some v → (x : Option Node) → node_in t.nodes v ≡ x
+          → only is_outside (reply_at s.plan t k r.offset r.kind x) ≡ None → IsInside s k r v
+      node v e None there i = absurd (let none : Some reply.Gone ≡ None = i in cc)
+      node v e (Some n) there i = allowed v n e there (permits (access_of (who_of s.plan k) n.rows) r.kind)
+          (nat_le (1024 * n.pages) r.offset) refl refl _ i
+
+      by : (x : Option ℕ) → known_uid t k r.number ≡ x → only is_outside (reply_of s.plan t k r.offset r.kind x) ≡ None
+          → IsInside s k r (uid_of_number s.store k r.number)
+      by None e i = absurd (let none : Some reply.Unknown ≡ None = i in cc)
+      by (Some v) e i = subst (IsInside s k r) (sym (known_is v e)) (node v e (node_in t.nodes v) refl i)
+
+  module _ (u : ℕ) (inside : IsInside s k r u) where
+    abbrev word : Reply
+    word = word_reply (t.words u r.offset) r.kind
+
+    -- there is room for its page, or there isn't
+    pub due_is : reply_to_reference s.plan t k r
+        ≡ cond (stores_page t u r.offset r.kind) (room_reply s.plan t inside.node word) word
+    unfolding reply_to_reference
+    due_is = ap (reply_of s.plan t k r.offset r.kind) inside.known
+        ∙ (ap (reply_at s.plan t k r.offset r.kind) inside.there
+        ∙ (ap (λ (b : Bool). cond (not b) reply.NoAccess (cond (nat_le (1024 * inside.node.pages) r.offset) reply.Length
+        (cond (stores_page t inside.node.uid r.offset r.kind) (room_reply s.plan t inside.node
+        (word_reply (t.words inside.node.uid r.offset) r.kind)) (word_reply (t.words inside.node.uid r.offset) r.kind))))
+        inside.permitted
+        ∙ (ap (λ (b : Bool). cond b reply.Length (cond (stores_page t inside.node.uid r.offset r.kind)
+        (room_reply s.plan t inside.node (word_reply (t.words inside.node.uid r.offset) r.kind))
+        (word_reply (t.words inside.node.uid r.offset) r.kind))) not_past
+        ∙ ap (λ (v : ℕ). cond (stores_page t v r.offset r.kind) (room_reply s.plan t inside.node
+        (word_reply (t.words v r.offset) r.kind)) (word_reply (t.words v r.offset) r.kind)) its)))
+      where
+        its : inside.node.uid ≡ u
+        its = found_uid t.nodes u inside.node inside.there
+
+        not_past : nat_le (1024 * inside.node.pages) r.offset ≡ false
+        not_past = elim (leb_tells (1024 * inside.node.pages) r.offset) [
+          | inl e ↦ (let le = e.1 in let lt = inside.within in absurd (omega (arith, le, lt)))
+          | inr m ↦ m.0
+        ]
+
+    -- of a page that is stored
+    pub stored_due : is_stored t.stored u (r.offset / 1024) ≡ true → reply_to_reference s.plan t k r ≡ word
+    stored_due h = due_is ∙ ap (λ (b : Bool). cond b (room_reply s.plan t inside.node word) word)
+        (ap (λ (b : Bool). alters r.kind && (not (eqb (new_word (t.words u r.offset) r.kind) 0) && not b)) h
+        ∙ no_page (alters r.kind) (not (eqb (new_word (t.words u r.offset) r.kind) 0)))
+      where
+        no_page : (a b : Bool) → (a && (b && false)) ≡ false
+        no_page true true = refl
+        no_page true false = refl
+        no_page false b = refl
+
+    -- of a page of zeros to which no other word comes
+    pub zero_due : t.words u r.offset ≡ 0 → eqb (new_word 0 r.kind) 0 ≡ true
+        → reply_to_reference s.plan t k r ≡ word_reply 0 r.kind
+    zero_due zero h = due_is ∙ (ap (λ (b : Bool). cond b (room_reply s.plan t inside.node word) word)
+        (ap (λ (w : ℕ). alters r.kind && (not (eqb (new_word w r.kind) 0)
+        && not (is_stored t.stored u (r.offset / 1024)))) zero
+        ∙ (ap (λ (b : Bool). alters r.kind && (not b && not (is_stored t.stored u (r.offset / 1024)))) h
+        ∙ none (alters r.kind))) ∙ ap (λ (w : ℕ). word_reply w r.kind) zero)
+      where
+        none : (a : Bool) → (a && false) ≡ false
+        none true = refl
+        none false = refl
+
+    -- of one for which there is room
+    pub room_due : room_refusal s k r ≡ None → reply_to_reference s.plan t k r ≡ word
+    unfolding room_refusal
+    room_due h = due_is ∙ by (stores_page t u r.offset r.kind) (is_used_up t inside.node.uid)
+        (is_volume_full s.plan t inside.node.volume)
+        (sym (ap (only is_of_room) due_is) ∙ h)
+      where
+        by : (a b d : Bool) → only is_of_room (cond a (cond b reply.Quota (cond d reply.NoRecord word)) word) ≡ None
+            → cond a (cond b reply.Quota (cond d reply.NoRecord word)) word ≡ word
+        by true true d i = absurd (let none : Some reply.Quota ≡ None = i in cc)
+        by true false true i = absurd (let none : Some reply.NoRecord ≡ None = i in cc)
+        by true false false i = refl
+        by false b d i = refl

@@ -1,0 +1,140 @@
+-- What the flat store says of a page, by the word of the page: whether it is stored, and which words it has.
+use Rattle.std.proofs.Common.{◌≡◌, ◌<◌, ℕ, zero, suc, Bool, true, false, ◌&&◌, cond, eqb, is_some, List, [], ◌∷◌, length}
+use Rattle.std.proofs.Common.{get_or, position, replicate, Option, Some, None, inl, inr, refl, sym, ap, subst, ◌∙◌}
+use Rattle.std.specs.Prelude.{◌/◌, ◌%◌}
+use Rattle.std.proofs.lemmas.Bool.Decides.{eqb_tells}
+use Rattle.page_table.specs.declared.Ptw.{Ptw}
+use Rattle.page_table.specs.declared.Ptw.TheVariants as ptw
+use Rattle.active_segs.specs.Active.{uid_at}
+use Rattle.page_control.specs.Picture.{is_binding, is_filed_at, words_at, words_filed, words_held, words_of_page}
+use Rattle.page_control.specs.Plain.{binding_at, bindings, words_in}
+use Rattle.page_control.specs.Tied.{has_record, vtoc_in}
+use Rattle.page_control.specs.Ties.{IsTied}
+use Rattle.seg_control.specs.Control.{place_of, table_of, word_of}
+use Rattle.seg_control.specs.Kept.{IsHomeOf}
+use Rattle.vtoc.specs.Vtoc.{record_at}
+use Rattle.flat_model.specs.Pages.{is_stored}
+use Rattle.storage_ops.specs.Shown.{home_of, is_filed, is_there, picture}
+use Rattle.machine_model.specs.Custodial.{names}
+use Rattle.machine_model.specs.Holding.{seen}
+use Rattle.machine_model.specs.Keeps.{Keeps}
+use Rattle.machine_model.specs.Reads.{flat_of, home_in, is_active}
+use Rattle.machine_model.specs.State.{State}
+use Rattle.machine_model.proofs.ActiveSeen.{active_place}
+use Rattle.machine_model.proofs.FindLaws.{position_at, position_none}
+use Rattle.machine_model.proofs.TieLaws.{none_some}
+
+no_and : {b : Bool} → b ≡ true → b ≡ false → ⊥
+no_and t f = let none : true ≡ false = sym t ∙ f in cc
+
+both_same : (a b c d : ℕ) → a ≡ c → b ≡ d → (eqb a c && eqb b d) ≡ true
+both_same a b c d x y = elim (eqb_tells a c) [
+  | inl e ↦ elim (eqb_tells b d) [ inl i ↦ rw (e.0, i.0) refl | inr n ↦ absurd (n.1 y) ]
+  | inr n ↦ absurd (n.1 x)
+]
+
+same_both : (a b c d : ℕ) → (eqb a c && eqb b d) ≡ true → (a ≡ c) × (b ≡ d)
+same_both a b c d h = elim (eqb_tells a c) [
+  | inl e ↦ elim (eqb_tells b d) [
+    | inl i ↦ (e.1, i.1)
+    | inr n ↦ absurd (no_and h (rw (e.0, n.0) refl))
+  ]
+  | inr n ↦ absurd (no_and h (rw n.0 refl))
+]
+
+bound_tells : (u p : ℕ) (x : Option (ℕ × ℕ)) → is_binding u p x ≡ true → x ≡ Some (u, p)
+bound_tells u p None h = absurd (let none : false ≡ true = h in cc)
+bound_tells u p (Some page) h = let both = same_both page.0 page.1 u p h in λ i. Some (both.0 i, both.1 i)
+
+zeros_read : (n i : ℕ) → get_or {A = ℕ} (replicate n 0) i 0 ≡ 0
+zeros_read zero i = refl
+zeros_read (suc n) zero = refl
+zeros_read (suc n) (suc i) = zeros_read n i
+
+module _ (s : State) (k : Keeps s) (u : ℕ) (active : is_active s.store.ast u ≡ true) where
+  place_is : uid_at s.store.ast.entries (place_of s.store.ast.entries u) ≡ Some u
+  place_is = (active_place s.store.ast u active).1
+
+  -- what is active is in the tree
+  pub active_there : is_there s.store.accounts.nodes u ≡ true
+  active_there = k.store.counted.active.there (place_of s.store.ast.entries u) u place_is
+
+  home_is : IsHomeOf s.store.pages.vtocs u (home_in s.store u)
+  home_is = record {
+    used = k.store.counted.housed.homes u active_there;
+    only = λ other e. k.store.counted.housed.only other u e;
+  }
+
+  tie : IsTied s.store.pages u (home_in s.store u) (table_of s.store.ast u)
+  tie = k.store.kept.paged.ties (place_of s.store.ast.entries u) u (home_in s.store u) place_is home_is
+
+  -- a page is stored where its word says that it has a record
+  pub stored_is : (p : ℕ) → is_stored (flat_of s).stored u p ≡ has_record (word_of s.store.ast u p)
+  unfolding is_filed is_filed_at
+  stored_is p = k.faithful.pages.stored u p
+      ∙ (ap (λ (b : Bool). b && is_some (record_at (vtoc_in s.store.pages.vtocs (home_in s.store u).volume)
+      (home_in s.store u).entry p)) active_there ∙ tie.map.stored p)
+
+  -- its words are those of the picture
+  pub words_are : (o : ℕ) → (flat_of s).words u o
+      ≡ get_or (words_at s.store.pages u (home_in s.store u) (o / 1024)) (o % 1024) 0
+  unfolding picture
+  words_are o = k.faithful.pages.words u o ∙ ap (λ (b : Bool). get_or (cond b
+      (words_at s.store.pages u (home_in s.store u) (o / 1024)) (replicate 1024 0)) (o % 1024) 0) active_there
+
+  -- a page in a frame has the words of the frame
+  frame_words : (f p : ℕ) → (seen s).bound f ≡ Some (u, p)
+      → words_at s.store.pages u (home_in s.store u) p ≡ words_in s.store.pages f
+  unfolding words_of_page
+  frame_words f p bound = by (position (is_binding u p) (bindings s.store.pages.core)) refl
+    where
+      filed : Option ℕ
+      filed = record_at (vtoc_in s.store.pages.vtocs (home_in s.store u).volume) (home_in s.store u).entry p
+
+      by : (x : Option ℕ) → position (is_binding u p) (bindings s.store.pages.core) ≡ x
+          → words_held s.store.pages.frames (get_or s.store.pages.disks (home_in s.store u).volume []) filed x
+          ≡ words_in s.store.pages f
+      by None e = absurd (no_and (ap (is_binding u p) bound ∙ both_same u p u p refl refl)
+          (position_none (is_binding u p) (bindings s.store.pages.core) None f e refl))
+      by (Some g) e = ap (words_in s.store.pages) same
+        where
+          there : (seen s).bound g ≡ Some (u, p)
+          there = bound_tells u p ((seen s).bound g)
+              (position_at (is_binding u p) (bindings s.store.pages.core) None g e).1
+
+          same : g ≡ f
+          same = let one : ◌≡◌ {A = Option ℕ} (Some g) (Some f) =
+              sym (k.book.tied.named g u p there) ∙ k.book.tied.named f u p bound in cc
+
+  pub bound_word : (f o : ℕ) → (seen s).bound f ≡ Some (u, o / 1024)
+      → (flat_of s).words u o ≡ get_or (words_in s.store.pages f) (o % 1024) 0
+  bound_word f o bound = words_are o
+      ∙ ap (λ (ws : List ℕ). get_or ws (o % 1024) 0) (frame_words f (o / 1024) bound)
+
+  -- a page that has no record is all zeros
+  null_words : (p : ℕ) → word_of s.store.ast u p ≡ ptw.Null
+      → words_at s.store.pages u (home_in s.store u) p ≡ replicate 1024 0
+  unfolding words_of_page
+  null_words p null = by (position (is_binding u p) (bindings s.store.pages.core)) refl
+    where
+      filed : Option ℕ
+      filed = record_at (vtoc_in s.store.pages.vtocs (home_in s.store u).volume) (home_in s.store u).entry p
+
+      none_filed : filed ≡ None
+      none_filed = none filed (tie.map.stored p ∙ ap has_record null)
+        where
+          none : (x : Option ℕ) → is_some x ≡ false → x ≡ None
+          none None h = refl
+          none (Some r) h = absurd (let no : true ≡ false = h in cc)
+
+      by : (x : Option ℕ) → position (is_binding u p) (bindings s.store.pages.core) ≡ x
+          → words_held s.store.pages.frames (get_or s.store.pages.disks (home_in s.store u).volume []) filed x
+          ≡ replicate 1024 0
+      by None e = ap (words_filed (get_or s.store.pages.disks (home_in s.store u).volume [])) none_filed
+      by (Some g) e = absurd (none_some (sym (ap names null) ∙ k.book.tied.named g u p
+          (bound_tells u p ((seen s).bound g)
+          (position_at (is_binding u p) (bindings s.store.pages.core) None g e).1)))
+
+  pub null_word : (o : ℕ) → word_of s.store.ast u (o / 1024) ≡ ptw.Null → (flat_of s).words u o ≡ 0
+  null_word o null = words_are o ∙ (ap (λ (ws : List ℕ). get_or ws (o % 1024) 0) (null_words (o / 1024) null)
+      ∙ zeros_read 1024 (o % 1024))
