@@ -7,6 +7,7 @@ pub mod AnswerLaws
 pub mod BackKept
 pub mod BookNext
 pub mod BootKept
+pub mod ChainFacts
 pub mod ChainLaws
 pub mod ChangesUnderUse
 pub mod ClearLaws

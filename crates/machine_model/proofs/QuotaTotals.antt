@@ -157,7 +157,7 @@ moved_total (n ∷ ns) giver getter pages t other enough = elim (eqb_tells n.uid
         omega (arith, quota, rest, a, b, c, d)
 
 -- a directory other than the root, and the one above it, are both there, and are two
-directory_node : (ns : List Node) (u : ℕ) → has_directory ns u ≡ true → is_some (node_in ns u) ≡ true
+pub directory_node : (ns : List Node) (u : ℕ) → has_directory ns u ≡ true → is_some (node_in ns u) ≡ true
 directory_node [] u h = absurd (let no : false ≡ true = h in cc)
 directory_node (n ∷ ns) u h = elim (eqb_tells n.uid u) [
   | inl e ↦ ap (λ (b : Bool). is_some (cond b (Some n) (node_in ns u))) e.0
