@@ -66,6 +66,7 @@ pub mod OwnedLaws
 pub mod OwnerLaws
 pub mod PageShown
 pub mod Places
+pub mod PoolRoom
 pub mod QuotaTotals
 pub mod RankLaws
 pub mod ReadLaws
