@@ -13,6 +13,7 @@ pub mod ChangesUnderUse
 pub mod ClearLaws
 pub mod ComingKept
 pub mod ComingLaws
+pub mod CommandFacts
 pub mod CommandLaws
 pub mod CommitKept
 pub mod CountLaws
@@ -44,6 +45,7 @@ pub mod LateWord
 pub mod LeaveSeen
 pub mod LeftLaws
 pub mod ListLaws
+pub mod LookAsks
 pub mod LookFacts
 pub mod LookLaws
 pub mod LoopLaws

@@ -89,7 +89,7 @@ module _ (ast : ActiveSegs) (pool : ℕ) where
   -- ---- nodes
 
   -- the segment of a node is active, and of this pool
-  abbrev is_its : Node → Bool
+  abbrev pub is_its : Node → Bool
   is_its n = is_active ast n.uid && eqb (pool_of n) pool
 
   -- whether a place has the segment of one of some nodes

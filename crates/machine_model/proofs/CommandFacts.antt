@@ -1,0 +1,176 @@
+-- What a tree command is about, where nothing refuses it.
+use Rattle.std.proofs.Common.{◌≡◌, ℕ, Bool, true, false, not, cond, eqb, is_some, List, [], ◌∷◌, Option, Some, None, inl, inr}
+use Rattle.std.proofs.Common.{refl, sym, ap, subst, ◌∙◌}
+use Rattle.std.specs.Prelude.{Result, Ok, Err}
+use Rattle.std.specs.List.{list_any}
+use Rattle.std.proofs.lemmas.Bool.Decides.{eqb_tells}
+use Rattle.script.specs.declared.commands.Command.{Command}
+use Rattle.script.specs.declared.commands.Command.TheVariants as command
+use Rattle.mnames.specs.declared.modes.Mode.{Mode}
+use Rattle.mnames.specs.declared.rows.Row.{Row as Named}
+use Rattle.book.specs.declared.replies.Reply.{Reply}
+use Rattle.book.specs.declared.replies.Reply.TheVariants as reply
+use Rattle.tree_model.specs.Access.{takes_row}
+use Rattle.tree_model.specs.Tree.{Node, Walk, LeadsTo, Missing, InSegment, is_inferior, node_in, walk_in}
+use Rattle.flat_model.specs.Branches.{branch_at, done_at, node_at, only_segment, segment_at, there_or, walked}
+use Rattle.flat_model.specs.Making.{delete_of, delete_reply}
+use Rattle.flat_model.specs.Pages.{is_stored_from}
+use Rattle.flat_model.specs.Rights.{acl_of, acl_reply}
+use Rattle.flat_model.specs.Sizes.{length_of, length_reply, truncate_reply}
+use Rattle.flat_model.specs.Store.{Store}
+use Rattle.storage_ops.specs.Shown.{is_refusal, refusal}
+use Rattle.machine_model.specs.Keeps.{Keeps}
+use Rattle.machine_model.specs.Reads.{flat_of}
+use Rattle.machine_model.specs.Refusal.{refusal_of, uid_at_path, uid_of_node}
+use Rattle.machine_model.specs.State.{State}
+use Rattle.machine_model.proofs.QuotaTotals.{branch_found, node_found, segment_found}
+
+no_and : {b : Bool} → b ≡ true → b ≡ false → ⊥
+no_and t f = let none : true ≡ false = sym t ∙ f in cc
+
+-- ---- a path that can't be followed refuses
+
+walk_refuses : (ns : List Node) (w : Walk) (e : Reply) → walked ns w ≡ Err e → is_refusal e ≡ true
+walk_refuses ns (LeadsTo u) e h = by (node_in ns u) h
+  where
+    by : (x : Option Node) → there_or x ≡ Err e → is_refusal e ≡ true
+    by None i = let same : reply.NoPath ≡ e = cc in ap is_refusal (sym same)
+    by (Some n) i = absurd (let none : Ok n ≡ Err e = i in cc)
+walk_refuses ns Missing e h = let same : reply.NoPath ≡ e = cc in ap is_refusal (sym same)
+walk_refuses ns InSegment e h = let same : reply.NotDir ≡ e = cc in ap is_refusal (sym same)
+
+node_refuses : (ns : List Node) (path : List (List ℕ)) (e : Reply) → node_at ns path ≡ Err e → is_refusal e ≡ true
+unfolding node_at
+node_refuses ns path e h = walk_refuses ns (walk_in ns path) e h
+
+segment_refuses : (ns : List Node) (path : List (List ℕ)) (e : Reply) → segment_at ns path ≡ Err e
+    → is_refusal e ≡ true
+segment_refuses ns path e h = by (node_at ns path) refl h
+  where
+    by : (r : Result Node Reply) → node_at ns path ≡ r → only_segment r ≡ Err e → is_refusal e ≡ true
+    by (Err x) i j = let same : x ≡ e = cc in ap is_refusal (sym same) ∙ node_refuses ns path x i
+    by (Ok n) i j = dir n.directory j
+      where
+        dir : (b : Bool) → cond b (Err reply.IsDir) (Ok n) ≡ Err e → is_refusal e ≡ true
+        dir true g = let same : reply.IsDir ≡ e = cc in ap is_refusal (sym same)
+        dir false g = absurd (let none : Ok n ≡ Err e = g in cc)
+
+branch_refuses : (ns : List Node) (path : List (List ℕ)) (e : Reply) → branch_at ns path ≡ Err e
+    → is_refusal e ≡ true
+branch_refuses ns [] e h = let same : reply.Root ≡ e = cc in ap is_refusal (sym same)
+branch_refuses ns (name ∷ names) e h = node_refuses ns (name ∷ names) e h
+
+refuses_not : (r : Reply) → is_refusal r ≡ true → refusal r ≡ None → ⊥
+refuses_not r h e = by (is_refusal r) h e
+  where
+    by : (b : Bool) → b ≡ true → cond b (Some r) None ≡ None → ⊥
+    by true i j = let none : Some r ≡ None = j in cc
+    by false i j = let none : false ≡ true = i in cc
+
+-- ---- the node that it is about
+
+-- the path leads to this segment, by the tree and by the flat store
+pub record LeadsToSegment (s : State) (path : List (List ℕ)) : Type 0 where
+  pub node : Node
+  pub found : segment_at (flat_of s).nodes path ≡ Ok node
+  pub uid : uid_at_path s.store path ≡ node.uid
+  pub there : node_in s.store.accounts.nodes node.uid ≡ Some node
+  pub segment : node.directory ≡ false
+
+-- it leads to this directory or segment, which isn't the root, and has neither inferior nor quota
+pub record LeadsToBranch (s : State) (path : List (List ℕ)) : Type 0 where
+  pub node : Node
+  pub found : branch_at (flat_of s).nodes path ≡ Ok node
+  pub uid : uid_at_path s.store path ≡ node.uid
+  pub there : node_in s.store.accounts.nodes node.uid ≡ Some node
+  pub empty : list_any (is_inferior node.uid) s.store.accounts.nodes ≡ false
+  pub quota : node.quota ≡ 0
+
+module _ (s : State) (k : ℕ) (keeps : Keeps s) where
+  same_nodes : (flat_of s).nodes ≡ s.store.accounts.nodes
+  same_nodes = keeps.faithful.tree.nodes
+
+  segment_by : (path : List (List ℕ)) (n : Node) → segment_at (flat_of s).nodes path ≡ Ok n → LeadsToSegment s path
+  segment_by path n h = record {
+    node = n;
+    found = h;
+    uid = ap uid_of_node (ap (λ (ns : List Node). node_at ns path) (sym same_nodes)
+        ∙ plain (node_at (flat_of s).nodes path) h);
+    there = ap (λ (ns : List Node). node_in ns n.uid) (sym same_nodes) ∙ both.0;
+    segment = both.1;
+  }
+    where
+      both : (node_in (flat_of s).nodes n.uid ≡ Some n) × (n.directory ≡ false)
+      both = segment_found (flat_of s).nodes path n h
+
+      plain : (r : Result Node Reply) → only_segment r ≡ Ok n → r ≡ Ok n
+      plain (Err e) i = absurd (let none : Err e ≡ Ok n = i in cc)
+      plain (Ok x) i = dir x.directory i
+        where
+          dir : (b : Bool) → cond b (Err reply.IsDir) (Ok x) ≡ Ok n → ◌≡◌ {A = Result Node Reply} (Ok x) (Ok n)
+          dir true g = absurd (let none : Err reply.IsDir ≡ Ok n = g in cc)
+          dir false g = g
+
+  pub truncate_stands : (path : List (List ℕ)) (words : ℕ) → refusal_of s k (command.Truncate path words) ≡ None
+      → LeadsToSegment s path
+  unfolding refusal_of truncate_reply
+  truncate_stands path words h = by (segment_at (flat_of s).nodes path) refl h
+    where
+      by : (r : Result Node Reply) → segment_at (flat_of s).nodes path ≡ r → refusal (done_at r) ≡ None
+          → LeadsToSegment s path
+      by (Ok n) e i = segment_by path n e
+      by (Err x) e i = absurd (refuses_not x (segment_refuses (flat_of s).nodes path x e) i)
+
+  pub length_stands : (path : List (List ℕ)) (pages : ℕ) → refusal_of s k (command.Length path pages) ≡ None
+      → LeadsToSegment s path
+  unfolding refusal_of length_reply
+  length_stands path pages h = by (segment_at (flat_of s).nodes path) refl h
+    where
+      by : (r : Result Node Reply) → segment_at (flat_of s).nodes path ≡ r
+          → refusal (length_of (flat_of s).stored pages r) ≡ None → LeadsToSegment s path
+      by (Ok n) e i = segment_by path n e
+      by (Err x) e i = absurd (refuses_not x (segment_refuses (flat_of s).nodes path x e) i)
+
+  pub acl_stands : (path : List (List ℕ)) (row : Named) (m : Mode) → refusal_of s k (command.Acl path row m) ≡ None
+      → LeadsToSegment s path
+  unfolding refusal_of acl_reply
+  acl_stands path row m h = by (segment_at (flat_of s).nodes path) refl h
+    where
+      by : (r : Result Node Reply) → segment_at (flat_of s).nodes path ≡ r → refusal (acl_of row r) ≡ None
+          → LeadsToSegment s path
+      by (Ok n) e i = segment_by path n e
+      by (Err x) e i = absurd (refuses_not x (segment_refuses (flat_of s).nodes path x e) i)
+
+  pub delete_stands : (path : List (List ℕ)) → refusal_of s k (command.Delete path) ≡ None → LeadsToBranch s path
+  unfolding refusal_of delete_reply
+  delete_stands path h = by (branch_at (flat_of s).nodes path) refl h
+    where
+      by : (r : Result Node Reply) → branch_at (flat_of s).nodes path ≡ r
+          → refusal (delete_of (flat_of s).nodes r) ≡ None → LeadsToBranch s path
+      by (Err x) e i = absurd (refuses_not x (branch_refuses (flat_of s).nodes path x e) i)
+      by (Ok n) e i = record {
+        node = n;
+        found = e;
+        uid = ap uid_of_node (ap (λ (ns : List Node). node_at ns path) (sym same_nodes)
+            ∙ (branch_found (flat_of s).nodes path n e).0);
+        there = ap (λ (ns : List Node). node_in ns n.uid) (sym same_nodes)
+            ∙ node_found (flat_of s).nodes path n (branch_found (flat_of s).nodes path n e).0;
+        empty = ap (list_any (is_inferior n.uid)) (sym same_nodes) ∙ alone.0;
+        quota = alone.1;
+      }
+        where
+          alone : (list_any (is_inferior n.uid) (flat_of s).nodes ≡ false) × (n.quota ≡ 0)
+          alone = cases (list_any (is_inferior n.uid) (flat_of s).nodes) refl i
+            where
+              none_is : (b : Bool) → eqb n.quota 0 ≡ b → refusal (cond b reply.Done reply.HasQuota) ≡ None → b ≡ true
+              none_is true x y = refl
+              none_is false x y = absurd (let none : Some reply.HasQuota ≡ None = y in cc)
+
+              zero_is : eqb n.quota 0 ≡ true → n.quota ≡ 0
+              zero_is x = elim (eqb_tells n.quota 0) [ inl y ↦ y.1 | inr y ↦ absurd (no_and x y.0) ]
+
+              cases : (b : Bool) → list_any (is_inferior n.uid) (flat_of s).nodes ≡ b
+                  → refusal (cond b reply.NotEmpty (cond (eqb n.quota 0) reply.Done reply.HasQuota)) ≡ None
+                  → (b ≡ false) × (n.quota ≡ 0)
+              cases true x y = absurd (let none : Some reply.NotEmpty ≡ None = y in cc)
+              cases false x y = (refl, zero_is (none_is (eqb n.quota 0) refl y))
