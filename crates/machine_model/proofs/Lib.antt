@@ -85,6 +85,7 @@ pub mod SharedSegment
 pub mod SpeakLaws
 pub mod StepKept
 pub mod StepLaws
+pub mod TakeAsks
 pub mod TakeLists
 pub mod TakeSeen
 pub mod TakeWhole

@@ -1,0 +1,175 @@
+-- What a look that takes asks: what a tree command must have out of use, and what is taken of a segment.
+use Rattle.std.proofs.Common.{◌≡◌, ◌≢◌, ◌<◌, ◌≤◌, ℕ, zero, suc, ◌+◌, Bool, true, false, ◌||◌, ◌&&◌, cond, eqb, List, [], ◌∷◌}
+use Rattle.std.proofs.Common.{map, Option, Some, None, ◌⊎◌, inl, inr, refl, sym, ap, subst, ◌∙◌, arith}
+use Rattle.std.specs.Prelude.{◌/◌}
+use Rattle.std.specs.List.{filter, range_with_len}
+use Rattle.std.proofs.lemmas.Bool.Decides.{eqb_tells}
+use Rattle.script.specs.References.{reference_of}
+use Rattle.script.specs.declared.commands.Command.{Command}
+use Rattle.script.specs.declared.commands.Command.TheVariants as command
+use Rattle.assoc_mem.specs.declared.What.{What}
+use Rattle.assoc_mem.specs.declared.What.TheVariants as what
+use Rattle.known_segs.specs.Known.{uid_of}
+use Rattle.descriptor_seg.specs.declared.Sdw.{Sdw}
+use Rattle.descriptor_seg.specs.declared.Sdw.TheVariants as sdw
+use Rattle.seg_control.specs.Control.{leads, leads_at}
+use Rattle.seg_control.specs.Kept.{IsKnownAt}
+use Rattle.custody_model.specs.Custody.{has}
+use Rattle.machine_model.specs.declared.Aim.{Aim}
+use Rattle.machine_model.specs.declared.Aim.TheVariants as aim
+use Rattle.machine_model.specs.Actions as act
+use Rattle.machine_model.specs.Actions.{descriptors_taken, first_taken, frames_taken, what_taken}
+use Rattle.machine_model.specs.After.{Outcome}
+use Rattle.machine_model.specs.Holding.{led_to, seen}
+use Rattle.machine_model.specs.Keeps.{Keeps}
+use Rattle.machine_model.specs.Reads.{connected_of, descriptor_of, frames_from, is_connected, or_zero, trailers_in}
+use Rattle.machine_model.specs.Refusal.{uid_of_command, uid_of_number}
+use Rattle.machine_model.specs.Said.{Says}
+use Rattle.machine_model.specs.Seen.{shown}
+use Rattle.machine_model.specs.State.{State}
+use Rattle.machine_model.proofs.ChainLaws.{CanTakeAll, names_uid}
+use Rattle.machine_model.proofs.CutRights.{take_away_says}
+use Rattle.machine_model.proofs.LookFacts.{FindsTaken}
+use Rattle.machine_model.proofs.OwnedLaws.{IsIdle}
+use Rattle.machine_model.proofs.OwnerLaws.{idle_names}
+use Rattle.machine_model.proofs.RuleKept.{AsksTake}
+use Rattle.machine_model.proofs.TakeLists.{pages_bound, pages_taken, trailers_taken}
+use Rattle.machine_model.proofs.TieLaws.{none_some}
+use Rattle.machine_model.proofs.TookKept.{ArePairs, CanTook, has_pair, is_pair}
+
+own : (n : ℕ) → eqb n n ≡ true
+own n = elim (eqb_tells n n) [ inl e ↦ e.0 | inr m ↦ absurd (m.1 refl) ]
+
+module _ (s : State) (k : ℕ) (keeps : Keeps s) (idle : IsIdle s.owner) where
+  -- where no page is taken
+  no_pages : (w : What) → CanTakeAll (seen s) aim.Committing w []
+  no_pages w = record {
+    here = λ f h. absurd (let none : false ≡ true = h in cc);
+    once = tt;
+    named = λ f h. absurd (let none : false ≡ true = h in cc);
+    others = idle_names (shown (seen s)) s.owner w keeps.book.going_owned idle.frames idle.cut;
+    still = idle.waits;
+    aimed = λ gs ds. tt;
+  }
+
+  -- a descriptor that is connected leads to a segment
+  connected_leads : (n : ℕ) → is_connected (descriptor_of s.store.links k n) ≡ true
+      → (u : ℕ) × ((seen s).linked k n ≡ Some u) × (uid_of_number s.store k n ≡ u)
+  connected_leads n h = by (descriptor_of s.store.links k n) refl h
+    where
+      by : (x : Sdw) → descriptor_of s.store.links k n ≡ x → is_connected x ≡ true
+          → (u : ℕ) × ((seen s).linked k n ≡ Some u) × (uid_of_number s.store k n ≡ u)
+      by sdw.Fault e i = absurd (let none : false ≡ true = i in cc)
+      by (sdw.Present aste m pages) e i = (
+        at.uid,
+        ap (led_to s.store.ast.entries) e ∙ at.active,
+        ap or_zero at.known_as,
+      )
+        where
+          at : IsKnownAt s.store.ast.entries s.store.links.known k n aste
+          at = keeps.store.kept.linked.known k n aste (ap leads e)
+
+  -- the descriptor of a number, if it is connected
+  one_taken : (n : ℕ) (b : Bool) → is_connected (descriptor_of s.store.links k n) ≡ b
+      → ArePairs (seen s).linked (what.Seg (uid_of_number s.store k n)) (cond b ((k, n) ∷ []) [])
+  one_taken n false e = tt
+  one_taken n true e = let leads_there = connected_leads n e in (
+    (leads_there.0, leads_there.1, ap (λ (u : ℕ). eqb leads_there.0 u) leads_there.2 ∙ own leads_there.0),
+    refl,
+    tt,
+  )
+
+  -- all descriptors of the process that are connected
+  later_none : (from n j : ℕ) → j < from → has_pair (map (λ i. (k, i)) (filter (λ i.
+      is_connected (descriptor_of s.store.links k i)) (range_with_len from n))) k j ≡ false
+  later_none from zero j less = refl
+  later_none from (suc n) j less = by (is_connected (descriptor_of s.store.links k from))
+      (later_none (from + 1) n j (omega (arith, less)))
+    where
+      rest : List (ℕ × ℕ)
+      rest = map (λ i. (k, i)) (filter (λ i. is_connected (descriptor_of s.store.links k i)) (range_with_len (from + 1) n))
+
+      other : is_pair k j (k, from) ≡ false
+      other = elim (eqb_tells from j) [
+        | inl e ↦ (let same = e.1 in absurd (omega (arith, same, less)))
+        | inr m ↦ ap (λ (b : Bool). eqb k k && b) m.0 ∙ off (eqb k k)
+      ]
+        where
+          off : (b : Bool) → (b && false) ≡ false
+          off true = refl
+          off false = refl
+
+      by : (b : Bool) → has_pair (map (λ i. (k, i)) (filter (λ i. is_connected (descriptor_of s.store.links k i))
+          (range_with_len (from + 1) n))) k j ≡ false
+          → has_pair (map (λ i. (k, i)) (cond b (from ∷ filter (λ i. is_connected (descriptor_of s.store.links k i))
+          (range_with_len (from + 1) n)) (filter (λ i. is_connected (descriptor_of s.store.links k i))
+          (range_with_len (from + 1) n)))) k j ≡ false
+      by true h = ap (λ (b : Bool). b || has_pair rest k j) other ∙ h
+      by false h = h
+
+  all_taken : (from n : ℕ) → ArePairs (seen s).linked what.All (map (λ i. (k, i)) (filter (λ i.
+      is_connected (descriptor_of s.store.links k i)) (range_with_len from n)))
+  all_taken from zero = tt
+  all_taken from (suc n) = by (is_connected (descriptor_of s.store.links k from)) refl (all_taken (from + 1) n)
+    where
+      by : (b : Bool) → is_connected (descriptor_of s.store.links k from) ≡ b
+          → ArePairs (seen s).linked what.All (map (λ i. (k, i)) (filter (λ i.
+          is_connected (descriptor_of s.store.links k i)) (range_with_len (from + 1) n)))
+          → ArePairs (seen s).linked what.All (map (λ i. (k, i)) (cond b (from ∷ filter (λ i.
+          is_connected (descriptor_of s.store.links k i)) (range_with_len (from + 1) n)) (filter (λ i.
+          is_connected (descriptor_of s.store.links k i)) (range_with_len (from + 1) n))))
+      by true e rest = let leads_there = connected_leads from e in
+          ((leads_there.0, leads_there.1, refl), later_none (from + 1) n from (omega arith), rest)
+      by false e rest = rest
+
+  -- what a command takes
+  command_takes : (cmd : Command) → CanTook s aim.Committing (what_taken (uid_of_command s.store k cmd) cmd)
+      (frames_taken s.store (uid_of_command s.store k cmd) (first_taken cmd))
+      (descriptors_taken s.store k (uid_of_command s.store k cmd) cmd)
+  command_takes (command.Acl path row m) = let u = uid_of_command s.store k (command.Acl path row m) in record {
+    pages = no_pages (what.Seg u);
+    bound = λ f h. absurd (let none : false ≡ true = h in cc);
+    pairs_are = trailers_taken s (what.Seg u) u keeps (own u);
+  }
+  command_takes (command.Delete path) = let u = uid_of_command s.store k (command.Delete path) in record {
+    pages = pages_taken s aim.Committing (what.Seg u) u 0 keeps idle (own u) (λ gs ds. tt);
+    bound = pages_bound s u 0 keeps;
+    pairs_are = trailers_taken s (what.Seg u) u keeps (own u);
+  }
+  command_takes (command.Truncate path words) = let u = uid_of_command s.store k (command.Truncate path words) in record {
+    pages = pages_taken s aim.Committing (what.Seg u) u (words / 1024) keeps idle (own u) (λ gs ds. tt);
+    bound = pages_bound s u (words / 1024) keeps;
+    pairs_are = tt;
+  }
+  command_takes (command.Terminate n) = record {
+    pages = no_pages (what.Seg (uid_of_number s.store k n));
+    bound = λ f h. absurd (let none : false ≡ true = h in cc);
+    pairs_are = one_taken n (is_connected (descriptor_of s.store.links k n)) refl;
+  }
+  command_takes command.End = record {
+    pages = no_pages what.All;
+    bound = λ f h. absurd (let none : false ≡ true = h in cc);
+    pairs_are = all_taken 0 256;
+  }
+  command_takes cmd = record {
+    pages = no_pages (what.Seg (uid_of_command s.store k cmd));
+    bound = λ f h. absurd (let none : false ≡ true = h in cc);
+    pairs_are = tt;
+  }
+
+  -- A tree command may take what it must have out of use.
+  pub take_asks : (c : ℕ) (o : Outcome) (cmd : Command) (w : What) (fs : List ℕ) (pairs : List (ℕ × ℕ))
+      → FindsTaken s k cmd fs pairs → w ≡ what_taken (uid_of_command s.store k cmd) cmd
+      → Says s c o (act.TakeAway fs pairs w) → AsksTake s c w fs pairs
+  take_asks c o cmd w fs pairs finds named says = record {
+    can = can;
+    says = take_away_says s c aim.Committing w fs pairs keeps can.pairs_are o refl says;
+  }
+    where
+      can : CanTook s aim.Committing w fs pairs
+      can = subst (λ (x : What). CanTook s aim.Committing x fs pairs) (sym named)
+          (subst (λ (x : List ℕ). CanTook s aim.Committing (what_taken (uid_of_command s.store k cmd) cmd) x pairs)
+          (sym finds.frames)
+          (subst (λ (x : List (ℕ × ℕ)). CanTook s aim.Committing (what_taken (uid_of_command s.store k cmd) cmd)
+          (frames_taken s.store (uid_of_command s.store k cmd) (first_taken cmd)) x)
+          (sym finds.descriptors) (command_takes cmd)))
