@@ -95,6 +95,16 @@ module _ (test : ℕ → Bool) where
 
 -- ---- a chain of the tree
 
+-- the superior of a node that is found
+pub superior_found : (ms : List Node) (u : ℕ) (n : Node) → node_in ms u ≡ Some n → superior_in ms u ≡ n.superior
+superior_found [] u n h = absurd (none_some h)
+superior_found (m ∷ ms) u n h = by (eqb m.uid u) h (superior_found ms u n)
+  where
+    by : (b : Bool) → cond b (Some m) (node_in ms u) ≡ Some n → (node_in ms u ≡ Some n → superior_in ms u ≡ n.superior)
+        → option_and_then (λ x. x.superior) (cond b (Some m) (find (λ x. eqb x.uid u) ms)) ≡ n.superior
+    by true e rest = let same : m ≡ n = cc in ap (λ (x : Node). x.superior) same
+    by false e rest = rest e
+
 module _ (ns : List Node) (t : IsTree ns) (ast : ActiveSegs) where
   chains : HasChains ns
   chains = has_chains ns t
@@ -115,15 +125,6 @@ module _ (ns : List Node) (t : IsTree ns) (ast : ActiveSegs) where
   -- where the whole chain is active, the node at its end is
   pub chain_active : (u : ℕ) → first_inactive ast (chain_of ns u) ≡ None → is_active ast u ≡ true
   chain_active u h = active_of u (none_turned idle (u ∷ above ns u) h).0
-
-  superior_found : (ms : List Node) (u : ℕ) (n : Node) → node_in ms u ≡ Some n → superior_in ms u ≡ n.superior
-  superior_found [] u n h = absurd (none_some h)
-  superior_found (m ∷ ms) u n h = by (eqb m.uid u) h (superior_found ms u n)
-    where
-      by : (b : Bool) → cond b (Some m) (node_in ms u) ≡ Some n → (node_in ms u ≡ Some n → superior_in ms u ≡ n.superior)
-          → option_and_then (λ x. x.superior) (cond b (Some m) (find (λ x. eqb x.uid u) ms)) ≡ n.superior
-      by true e rest = let same : m ≡ n = cc in ap (λ (x : Node). x.superior) same
-      by false e rest = rest e
 
   -- what is above the first link that isn't active is active
   pub superior_active : (u v : ℕ) (n : Node) → first_inactive ast (chain_of ns u) ≡ Some v → node_in ns v ≡ Some n

@@ -23,6 +23,7 @@ pub mod DeleteKept
 pub mod Deletions
 pub mod DescriptorLaws
 pub mod DueLaws
+pub mod EmptyAsks
 pub mod Evictions
 pub mod FailedDeactivation
 pub mod FailedEviction
@@ -42,6 +43,7 @@ pub mod KeepLaws
 pub mod KeptLaws
 pub mod LackLaws
 pub mod LateWord
+pub mod LeafLaws
 pub mod LeaveSeen
 pub mod LeftLaws
 pub mod ListLaws

@@ -181,7 +181,7 @@ module _ (s : State) (c : ℕ) (o : Outcome) (m : IsMachine s) (idle : IsIdle s.
   free_within : (pool place : ℕ) → free_place s.store.ast pool ≡ Some place → place < length s.store.ast.entries
   free_within pool place h = let at = (in_range_is (first_of s.store.ast.sizes pool) _ place
       (found_member (λ q. is_none (entry_at s.store.ast.entries q)) (places_in s.store.ast pool) place h)).1 in
-      let part = pool_part s.store.ast.sizes pool in let all = keeps.store.shape.entry_count in
+      let part = pool_part s.store.ast.sizes pool in let all = keeps.store.places in
       omega (arith, at, part, all)
 
   free_is : (pool place : ℕ) → free_place s.store.ast pool ≡ Some place → entry_at s.store.ast.entries place ≡ None

@@ -39,7 +39,7 @@ count_more old now (x ∷ xs) h = let rest = count_more old now xs h in
     let a = count_cons old x xs in let b = count_cons now x xs in omega (arith, rest, one, a, b)
 
 -- and one more where it passes once more
-count_new : (old now : ℕ → Bool) (xs : List ℕ) (y : ℕ) → ((x : ℕ) → old x ≡ true → now x ≡ true) → IsMember y xs
+pub count_new : (old now : ℕ → Bool) (xs : List ℕ) (y : ℕ) → ((x : ℕ) → old x ≡ true → now x ≡ true) → IsMember y xs
     → old y ≡ false → now y ≡ true → count_by old xs + 1 ≤ count_by now xs
 count_new old now [] y h m was is = absurd m
 count_new old now (x ∷ xs) y h (inl e) was is =
@@ -52,7 +52,7 @@ count_new old now (x ∷ xs) y h (inr m) was is =
     let one = tally_less (old x) (now x) (h x) in
     let a = count_cons old x xs in let b = count_cons now x xs in omega (arith, rest, one, a, b)
 
-count_all : (test : ℕ → Bool) (xs : List ℕ) → count_by test xs ≤ length xs
+pub count_all : (test : ℕ → Bool) (xs : List ℕ) → count_by test xs ≤ length xs
 count_all test [] = omega arith
 count_all test (x ∷ xs) = let rest = count_all test xs in let a = count_cons test x xs in
     let few = few (test x) in omega (arith, rest, a, few)
@@ -63,11 +63,11 @@ count_all test (x ∷ xs) = let rest = count_all test xs in let a = count_cons t
 
 -- ---- places
 
-range_length : (from n : ℕ) → length (range_with_len from n) ≡ n
+pub range_length : (from n : ℕ) → length (range_with_len from n) ≡ n
 range_length from zero = refl
 range_length from (suc n) = let rest = range_length (from + 1) n in omega (arith, rest)
 
-range_has : (from n x : ℕ) → from ≤ x → x < from + n → IsMember x (range_with_len from n)
+pub range_has : (from n x : ℕ) → from ≤ x → x < from + n → IsMember x (range_with_len from n)
 range_has from zero x a b = absurd (omega (arith, a, b))
 range_has from (suc n) x a b = elim (eqb_tells x from) [
   | inl e ↦ inl e.1

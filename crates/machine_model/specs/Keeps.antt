@@ -12,7 +12,6 @@ use Rattle.tree_model.specs.Trees.{IsTree}
 use Rattle.accounts.specs.Maps.{AccountMaps, Counts}
 use Rattle.flat_model.specs.Legal.{is_within}
 use Rattle.flat_model.specs.Store.{Store}
-use Rattle.active_segs.specs.Active.{HasShape}
 use Rattle.page_control.specs.Picture.{words_at}
 use Rattle.seg_control.specs.Control.{sdws_at}
 use Rattle.seg_control.specs.Kept.{IsKept}
@@ -36,7 +35,7 @@ pub record StoreKept (st : Storage) : Type 0 where
   pub kept : IsKept st.pages st.ast st.links
   pub counted : IsStore st.pages st.ast st.links st.accounts st.whos
   pub accounts : AreAccounts st.accounts
-  pub shape : HasShape st.ast
+  pub places : length st.ast.entries ≡ sum st.ast.sizes
 
 -- The tree, the known numbers and the quotas, the words of each page and the stored pages are those of the flat store.
 pub record IsFaithful (p : Plan) (t : Store) (st : Storage) : Type 0 where

@@ -1,0 +1,245 @@
+-- What a look asks that makes a segment inactive, for its length or as the victim of a pool.
+use Rattle.std.proofs.Common.{◌≡◌, ◌≢◌, ◌<◌, ℕ, Bool, true, false, cond, eqb, is_some, List, [], ◌∷◌, length, sum, Option}
+use Rattle.std.proofs.Common.{Some, None, inl, inr, refl, sym, ap, subst, ◌∙◌}
+use Rattle.std.specs.Option.{option_and_then}
+use Rattle.std.proofs.lemmas.Bool.Decides.{eqb_tells}
+use Rattle.script.specs.declared.commands.Command.{Command}
+use Rattle.script.specs.declared.commands.Command.TheVariants as command
+use Rattle.assoc_mem.specs.declared.What.TheVariants as what
+use Rattle.tree_model.specs.Tree.{Node, has_directory, node_in}
+use Rattle.tree_model.specs.Trees.{IsTree}
+use Rattle.tree_model.proofs.TreeLaws.{IsUp, superior_in, superior_up}
+use Rattle.core_map.specs.declared.Frame.TheVariants as frame
+use Rattle.core_map.specs.CoreMap.{Core, frame_at, reads_of, started_page}
+use Rattle.active_segs.specs.Active.{ActiveSegs, HasNoInferior, uid_at}
+use Rattle.active_segs.specs.Victim.{first_off_chain, hand_past}
+use Rattle.seg_control.specs.Kept.{read_at}
+use Rattle.custody_model.specs.Allowed.{MayDeactivate, superior_in as node_superior}
+use Rattle.machine_model.specs.declared.Aim.TheVariants as aim
+use Rattle.machine_model.specs.Actions as act
+use Rattle.machine_model.specs.Actions.{any_page}
+use Rattle.machine_model.specs.After.{Outcome, after}
+use Rattle.machine_model.specs.Custodial.{is_pending}
+use Rattle.machine_model.specs.Holding.{seen}
+use Rattle.machine_model.specs.Jobs.{deactivation_begun, emptied, segment_taken, segs_gone, victim_taken, with_hand_moved}
+use Rattle.machine_model.specs.Keeps.{AreThere, IsFaithful, Keeps, StoreKept, StoreSays}
+use Rattle.machine_model.specs.Reads.{cut_of_owner, flat_of, frame_reading, frames_from, frames_of_owner, is_active}
+use Rattle.machine_model.specs.Reads.{is_page_of, or_zero, trailers_in}
+use Rattle.machine_model.specs.Said.{Says}
+use Rattle.machine_model.specs.Seen.{shown}
+use Rattle.machine_model.specs.State.{State, Storage}
+use Rattle.machine_model.specs.Steps.{with_store}
+use Rattle.machine_model.specs.declared.CutDescriptor.{CutDescriptor}
+use Rattle.machine_model.proofs.ActiveKept.{IsOver}
+use Rattle.machine_model.proofs.ChainFacts.{superior_found}
+use Rattle.machine_model.proofs.CommandFacts.{LeadsToSegment, length_stands}
+use Rattle.machine_model.specs.Refusal.{refusal_of, uid_of_command}
+use Rattle.machine_model.proofs.CutRights.{took_says}
+use Rattle.machine_model.proofs.DueLaws.{none_due}
+use Rattle.machine_model.proofs.FindLaws.{position_none}
+use Rattle.machine_model.proofs.LeafLaws.{leaf_inferiors, victim_leaf}
+use Rattle.machine_model.proofs.ListLaws.{map_list}
+use Rattle.machine_model.proofs.LookFacts.{FindsActive, FindsVictim}
+use Rattle.machine_model.proofs.OwnedLaws.{IsIdle}
+use Rattle.machine_model.proofs.RuleKept.{AsksEmpty, AsksEmptied, AsksSegment, AsksVictim}
+use Rattle.machine_model.proofs.SaysLaws.{emptied_says}
+use Rattle.machine_model.proofs.StepKept.{hand_kept}
+use Rattle.machine_model.proofs.TakeLists.{trailers_taken}
+use Rattle.machine_model.proofs.TakeWhole.{nothing_whole}
+use Rattle.machine_model.proofs.TieLaws.{none_some}
+use Rattle.machine_model.proofs.TookKept.{ArePairs}
+use Rattle.machine_model.proofs.TransferKept.{active_at}
+use Rattle.machine_model.proofs.WholeKept.{whole_may}
+
+own : (n : ℕ) → eqb n n ≡ true
+own n = elim (eqb_tells n n) [ inl e ↦ e.0 | inr m ↦ absurd (m.1 refl) ]
+
+-- no page of a segment is being read
+unread_any : (core : Core) (u : ℕ) → frame_reading core u any_page ≡ None → (f p : ℕ)
+    → read_at (reads_of core) f ≢ Some (u, p)
+unread_any core u h f p e = no_and passes (position_none
+    (λ x. is_page_of u any_page (started_page x)) core.frames frame.Free f h refl)
+  where
+    no_and : {b : Bool} → b ≡ true → b ≡ false → ⊥
+    no_and t i = let none : true ≡ false = sym t ∙ i in cc
+
+    passes : is_page_of u any_page (started_page (frame_at core f)) ≡ true
+    passes = ap (is_page_of u any_page) (sym (map_list started_page core.frames f frame.Free) ∙ e)
+        ∙ rw (own u) refl
+
+-- ---- a segment
+
+module _ (s : State) (c u : ℕ) (k : Keeps s) (idle : IsIdle s.owner) (still : is_pending s.owner ≡ false) where
+  over : IsOver (segs_gone s (cut_of_owner s.owner))
+  over = subst (λ (ds : List CutDescriptor). IsOver (segs_gone s ds)) (sym idle.cut) (record {
+    book = k.book;
+    frames = idle.frames;
+    cut = idle.cut;
+    none = none_due (shown (seen s)) s.owner k.book.going_owned idle.waits;
+    still = still;
+  })
+
+  segment_asks : (fs : List ℕ) (pairs : List (ℕ × ℕ)) → StoreKept (segment_taken s c u fs pairs).store
+      → IsFaithful s.plan (flat_of s) (segment_taken s c u fs pairs).store
+      → ArePairs (seen s).linked (what.Seg u) pairs
+      → (fs ≡ [] → pairs ≡ [] → MayDeactivate (flat_of (segs_gone s (cut_of_owner s.owner)))
+      (shown (seen (segs_gone s (cut_of_owner s.owner)))) u)
+      → AsksSegment s c u fs pairs
+  segment_asks [] [] kept shown_is are may = record {
+    may = may refl refl;
+    says = emptied_says s c u (emptied s c u).store k kept shown_is refl;
+  }
+  segment_asks [] (x ∷ xs) kept shown_is are may =
+      took_says s c (aim.Deactivating u) (what.Seg u) [] (x ∷ xs) k are kept shown_is
+  segment_asks (f ∷ fs) pairs kept shown_is are may =
+      took_says s c (aim.Deactivating u) (what.Seg u) (f ∷ fs) pairs k are kept shown_is
+
+  -- where it is active, not being read, and without inferior
+  empty_asks : StoreKept (deactivation_begun s c u).store
+      → IsFaithful s.plan (flat_of s) (deactivation_begun s c u).store → is_active s.store.ast u ≡ true
+      → frame_reading s.store.pages.core u any_page ≡ None
+      → ((v : ℕ) → is_active s.store.ast v ≡ true → node_superior (node_in (flat_of s).nodes v) ≢ Some u)
+      → AsksEmpty s c u
+  empty_asks kept shown_is active unread inferiors = segment_asks (frames_from s.store.ast u 0)
+      (trailers_in s.store u) kept shown_is (trailers_taken s (what.Seg u) u k (own u))
+      (λ none none_cut. whole_may s u k
+      (nothing_whole s c u k idle active (unread_any s.store.pages.core u unread) none none_cut) idle.frames over active
+      (subst (λ (ds : List CutDescriptor). (v : ℕ) → is_active s.store.ast v ≡ true
+      → node_superior (node_in (flat_of (segs_gone s ds)).nodes v) ≢ Some u) (sym idle.cut) inferiors))
+
+-- ---- for its length
+
+-- what lies below something lies below a directory
+segment_inferiors : (s : State) (u : ℕ) (n : Node) → Keeps s → node_in s.store.accounts.nodes u ≡ Some n
+    → n.directory ≡ false → (v : ℕ) → node_superior (node_in (flat_of s).nodes v) ≢ Some u
+segment_inferiors s u n k at segment v h = by (node_in s.store.accounts.nodes v) refl
+    (ap (λ (ns : List Node). node_superior (node_in ns v)) (sym k.faithful.tree.nodes) ∙ h)
+  where
+    nodes : List Node
+    nodes = s.store.accounts.nodes
+
+    directory_is : (ns : List Node) (w : ℕ) (x : Node) → node_in ns w ≡ Some x → has_directory ns w ≡ x.directory
+    directory_is [] w x e = absurd (none_some e)
+    directory_is (y ∷ ys) w x e = cases (eqb y.uid w) e (directory_is ys w x)
+      where
+        cases : (b : Bool) → cond b (Some y) (node_in ys w) ≡ Some x
+            → (node_in ys w ≡ Some x → has_directory ys w ≡ x.directory)
+            → cond b y.directory (has_directory ys w) ≡ x.directory
+        cases true i rest = let same : y ≡ x = cc in ap (λ (z : Node). z.directory) same
+        cases false i rest = rest i
+
+    by : (x : Option Node) → node_in nodes v ≡ x → node_superior x ≡ Some u → ⊥
+    by None e i = none_some i
+    by (Some m) e i =
+        let up : IsUp nodes v (Some u) = subst (IsUp nodes v)
+        (superior_found nodes v m e ∙ i)
+        (superior_up nodes k.store.accounts.tree v) in
+        let none : true ≡ false = sym up.1 ∙ (directory_is nodes u n at ∙ segment) in cc
+
+pub length_asks : (s : State) (c : ℕ) (o : Outcome) (j u : ℕ) (cmd : Command) → Keeps s → IsIdle s.owner
+    → is_pending s.owner ≡ false → FindsActive s j cmd u → Says s c o (act.Empty u) → AsksEmpty s c u
+unfolding after
+length_asks s c o j u cmd k idle still finds says = empty_asks s c u k idle still says.store
+    (says.shown (flat_of s) k.faithful) finds.active finds.unread
+    (λ v active. segment_inferiors s u leads.node k
+    (ap (node_in s.store.accounts.nodes) (sym same) ∙ leads.there) leads.segment v)
+  where
+    leads : LeadsToSegment s finds.path
+    leads = length_stands s j k finds.path finds.pages
+        (subst (λ (x : Command). refusal_of s j x ≡ None) finds.is finds.stands)
+
+    same : leads.node.uid ≡ u
+    same = sym leads.uid ∙ (sym (ap (uid_of_command s.store j) finds.is) ∙ finds.uid)
+
+-- ---- the victim of a pool
+
+-- the hands of the pools are seen by nobody
+hand_says : (s : State) (pool : ℕ) (chain : List ℕ) → Keeps s
+    → StoreSays (with_store s (with_hand_moved s.store pool chain))
+hand_says s pool chain k = by (first_off_chain s.store.ast pool chain)
+  where
+    by : (x : Option ℕ) → StoreSays (with_store s (record s.store { ast = hand_past s.store.ast pool x }))
+    by None = record {
+      store = k.store;
+      faithful = k.faithful;
+      rights = k.rights;
+      cut = k.cut;
+      conserved = k.conserved;
+      frames = k.sizes.frames;
+    }
+    by (Some place) = record {
+      store = record {
+        kept = record {
+          paged = k.store.kept.paged;
+          tree = k.store.kept.tree;
+          places = k.store.kept.places;
+          sized = k.store.kept.sized;
+          linked = k.store.kept.linked;
+        };
+        counted = record {
+          housed = k.store.counted.housed;
+          counted = k.store.counted.counted;
+          taken = k.store.counted.taken;
+          active = record {
+            there = k.store.counted.active.there;
+            superiors = k.store.counted.active.superiors;
+            pools = k.store.counted.active.pools;
+          };
+          rights = k.store.counted.rights;
+          known = k.store.counted.known;
+        };
+        accounts = k.store.accounts;
+        places = k.store.places;
+      };
+      faithful = record {
+        tree = k.faithful.tree;
+        known = k.faithful.known;
+        pages = k.faithful.pages;
+        script = k.faithful.script;
+      };
+      rights = k.rights;
+      cut = there (cut_of_owner s.owner) k.cut;
+      conserved = k.conserved;
+      frames = k.sizes.frames;
+    }
+      where
+        there : (ds : List CutDescriptor) → AreThere s.store ds
+            → AreThere (record s.store { ast = hand_past s.store.ast pool (Some place) }) ds
+        there [] h = tt
+        there (d ∷ ds) h = (h.0, there ds h.1)
+
+pub victim_asks : (s : State) (c : ℕ) (o : Outcome) (j pool : ℕ) (chain : List ℕ) (u : ℕ) (cmd : Command) → Keeps s
+    → IsIdle s.owner → is_pending s.owner ≡ false → FindsVictim s j cmd pool chain u
+    → Says s c o (act.EmptyVictim pool chain u) → AsksVictim s c pool chain u
+unfolding after
+victim_asks s c o j pool chain u cmd k idle still finds says = record {
+  says = hand;
+  asks = empty_asks now c u (hand_kept s pool chain k hand) idle still says.store
+      (says.shown (flat_of s) k.faithful) (moved_active (first_off_chain s.store.ast pool chain) active) finds.unread
+      (λ v h. leaf_inferiors s finds.place u k at leaf.2 v (was_active v (first_off_chain s.store.ast pool chain) h));
+}
+  where
+    now : State
+    now = with_store s (with_hand_moved s.store pool chain)
+
+    hand : StoreSays (with_store s (with_hand_moved s.store pool chain))
+    hand = hand_says s pool chain k
+
+    leaf : (w : ℕ) × (uid_at s.store.ast.entries finds.place ≡ Some w) × HasNoInferior s.store.ast.entries finds.place
+    leaf = victim_leaf s.store.ast pool chain finds.place k.store.kept.tree finds.victim
+
+    at : uid_at s.store.ast.entries finds.place ≡ Some u
+    at = leaf.1 ∙ ap (λ (x : ℕ). Some x) (sym (finds.uid ∙ ap or_zero leaf.1))
+
+    active : is_active s.store.ast u ≡ true
+    active = active_at s.store.ast finds.place u at
+
+    moved_active : (x : Option ℕ) → is_active s.store.ast u ≡ true
+        → is_active (hand_past s.store.ast pool x) u ≡ true
+    moved_active None h = h
+    moved_active (Some place) h = h
+
+    was_active : (v : ℕ) (x : Option ℕ) → is_active (hand_past s.store.ast pool x) v ≡ true
+        → is_active s.store.ast v ≡ true
+    was_active v None h = h
+    was_active v (Some place) h = h
