@@ -80,6 +80,7 @@ pub mod RuleLaws
 pub mod RulesKept
 pub mod RunLaws
 pub mod SaysLaws
+pub mod ScheduleKept
 pub mod ScheduleLaws
 pub mod SeatLaws
 pub mod SeenLaws

@@ -267,7 +267,7 @@ nothing_in : (xs : List ℕ) → ((j : ℕ) → has xs j ≡ false) → xs ≡ [
 nothing_in [] h = refl
 nothing_in (x ∷ xs) h = absurd (no_and (ap (λ (b : Bool). b || has xs x) (own x)) (h x))
 
-append_nil : (xs : List ℕ) → xs ++ [] ≡ xs
+pub append_nil : (xs : List ℕ) → xs ++ [] ≡ xs
 append_nil [] = refl
 append_nil (x ∷ xs) = ap (λ (ys : List ℕ). x ∷ ys) (append_nil xs)
 

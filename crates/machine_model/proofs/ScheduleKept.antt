@@ -1,0 +1,353 @@
+-- After each action each process that goes on is at one processor, ready, or kept back by the initializer.
+use Rattle.std.proofs.Common.{◌≡◌, ◌<◌, ℕ, ◌+◌, ◌-◌, Bool, true, false, ◌&&◌, cond, eqb, List, [], ◌∷◌, ◌++◌, drop, length, map}
+use Rattle.std.proofs.Common.{set, Option, Some, None, inl, inr, refl, sym, ap, subst, ◌∙◌}
+use Rattle.std.proofs.lemmas.List.{length-set, get_or-set_same}
+use Rattle.assoc_mem.specs.Held.{cleared}
+use Rattle.script.specs.Plans.{Plan}
+use Rattle.script.specs.declared.commands.Command.{Command}
+use Rattle.script.specs.declared.commands.Command.TheVariants as command
+use Rattle.book.specs.declared.replies.Reply.{Reply}
+use Rattle.book.specs.declared.replies.Reply.TheVariants as reply
+use Rattle.assoc_mem.specs.declared.What.{What}
+use Rattle.assoc_mem.specs.declared.What.TheVariants as what
+use Rattle.flat_model.specs.Commands.{is_end}
+use Rattle.flat_model.specs.References.{word_reply}
+use Rattle.custody_model.specs.Allowed.{IsFront}
+use Rattle.custody_model.specs.Custody.{range}
+use Rattle.custody_model.specs.Next.{released_by}
+use Rattle.machine_model.specs.declared.Aim.{Aim}
+use Rattle.machine_model.specs.declared.Aim.TheVariants as aim
+use Rattle.machine_model.specs.declared.CutDescriptor.{CutDescriptor}
+use Rattle.machine_model.specs.declared.Processor.{Processor}
+use Rattle.machine_model.specs.declared.Run.{Run}
+use Rattle.machine_model.specs.Actions as act
+use Rattle.machine_model.specs.After.{Outcome, after}
+use Rattle.machine_model.specs.Commits.{committed, committed_at, gone_entries, left_after, with_effect}
+use Rattle.machine_model.specs.Jobs.{cut_all, cut_one, emptied, eviction_done, page_back, page_done, pages_back}
+use Rattle.machine_model.specs.Jobs.{seg_back, seg_gone, segment_taken, segs_back, segs_gone, signalled, take_all}
+use Rattle.machine_model.specs.Jobs.{take_one, told_at, told_from, took, victim_taken, with_hand_moved, write_failed}
+use Rattle.machine_model.specs.Reads.{cpu_at, cut_of_owner, frames_from, frames_of_owner, next_command, no_processor}
+use Rattle.machine_model.specs.Reads.{or_zero, process_at, processor_at, run_at, trailers_in}
+use Rattle.machine_model.specs.Refusal.{reply_of, uid_of_command}
+use Rattle.machine_model.specs.Scheduled.{AreScheduled, IsScheduled, MayRun}
+use Rattle.machine_model.specs.State.{State}
+use Rattle.machine_model.specs.Steps.{booked, fault_told, frame_lost, goes_on, is_its_end, left_at, old_word, page_made}
+use Rattle.machine_model.specs.Steps.{queued, run_after, told, told_by, transfer_failed, transferred, with_faults}
+use Rattle.machine_model.specs.Steps.{with_owner, with_store}
+use Rattle.machine_model.proofs.CommitKept.{effected}
+use Rattle.machine_model.specs.Steps.{pages_after, with_pages}
+use Rattle.machine_model.proofs.LeaveSeen.{told_reads}
+use Rattle.machine_model.specs.Reads.{no_run}
+use Rattle.machine_model.proofs.ScheduleLaws.{SameSeats, append_nil, end_kept, gone_kept, leave_kept, load_kept, one_run}
+use Rattle.machine_model.proofs.ScheduleLaws.{one_seat, runs_kept, same_seats, seats_kept}
+use Rattle.machine_model.proofs.TieLaws.{none_some}
+
+-- ---- nobody's process and run changes
+
+record Sits (s t : State) : Type 0 where
+  plan : t.plan ≡ s.plan
+  runs : t.runs ≡ s.runs
+  ready : t.ready ≡ s.ready
+  processors : t.processors ≡ s.processors
+
+still : {s t : State} → t.plan ≡ s.plan → t.runs ≡ s.runs → t.ready ≡ s.ready → t.processors ≡ s.processors → Sits s t
+still a b c d = record { plan = a; runs = b; ready = c; processors = d }
+
+sits_on : {s t u : State} → Sits s t → Sits t u → Sits s u
+sits_on a b = record {
+  plan = b.plan ∙ a.plan;
+  runs = b.runs ∙ a.runs;
+  ready = b.ready ∙ a.ready;
+  processors = b.processors ∙ a.processors;
+}
+
+sits_kept : (s t : State) → Sits s t → IsScheduled s → IsScheduled t
+sits_kept s t same h = subst (λ (p : Plan). AreScheduled p t.runs t.ready t.processors) (sym same.plan)
+    (subst (λ (r : List Run). AreScheduled s.plan r t.ready t.processors) (sym same.runs)
+    (subst (λ (q : List ℕ). AreScheduled s.plan s.runs q t.processors) (sym same.ready)
+    (subst (λ (ps : List Processor). AreScheduled s.plan s.runs s.ready ps) (sym same.processors) h)))
+
+taken : (s : State) (c : ℕ) (a : Aim) (w : What) (fs : List ℕ) → Sits s (take_all s c a w fs)
+taken s c a w [] = still refl refl refl refl
+taken s c a w (f ∷ fs) = sits_on (still refl refl refl refl) (taken (take_one s c a w f) c a w fs)
+
+all_cut : (s : State) (c : ℕ) (a : Aim) (w : What) (pairs : List (ℕ × ℕ)) → Sits s (cut_all s c a w pairs)
+all_cut s c a w [] = still refl refl refl refl
+all_cut s c a w (x ∷ xs) = sits_on (still refl refl refl refl) (all_cut (cut_one s c a w x) c a w xs)
+
+all_taken : (s : State) (c : ℕ) (a : Aim) (w : What) (fs : List ℕ) (pairs : List (ℕ × ℕ)) → Sits s (took s c a w fs pairs)
+all_taken s c a w fs pairs = sits_on (taken s c a w fs) (all_cut (take_all s c a w fs) c a w pairs)
+
+all_gone : (s : State) (ds : List CutDescriptor) → Sits s (segs_gone s ds)
+all_gone s [] = still refl refl refl refl
+all_gone s (d ∷ ds) = sits_on (still refl refl refl refl) (all_gone (seg_gone s d) ds)
+
+is_emptied : (s : State) (c u : ℕ) → Sits s (emptied s c u)
+is_emptied s c u = sits_on (all_gone s (cut_of_owner s.owner)) (still refl refl refl refl)
+
+segment : (s : State) (c u : ℕ) (fs : List ℕ) (pairs : List (ℕ × ℕ)) → Sits s (segment_taken s c u fs pairs)
+segment s c u [] [] = is_emptied s c u
+segment s c u [] (x ∷ xs) = all_taken s c (aim.Deactivating u) (what.Seg u) [] (x ∷ xs)
+segment s c u (f ∷ fs) pairs = all_taken s c (aim.Deactivating u) (what.Seg u) (f ∷ fs) pairs
+
+all_pages_back : (s : State) (fs : List ℕ) → Sits s (pages_back s fs)
+all_pages_back s [] = still refl refl refl refl
+all_pages_back s (f ∷ fs) = sits_on (still refl refl refl refl) (all_pages_back (page_back s f) fs)
+
+all_segs_back : (s : State) (ds : List CutDescriptor) → Sits s (segs_back s ds)
+all_segs_back s [] = still refl refl refl refl
+all_segs_back s (d ∷ ds) = sits_on (still refl refl refl refl) (all_segs_back (seg_back s d) ds)
+
+-- ---- a command is answered
+
+-- a processor's process goes on, and its next command isn't its end
+pub record IsAnswering (s : State) (c : ℕ) : Type 0 where
+  pub process : ℕ
+  pub its : (cpu_at s.processors c).process ≡ Some process
+  pub known : process < length s.runs
+  pub more : is_its_end (next_command s process) ≡ false
+
+more_run : (run : Run) (x : Option Command) (r : Reply) → run.ended ≡ false → is_its_end x ≡ false
+    → (run_after run x r).ended ≡ false
+more_run run x r going more = by (goes_on run x r)
+  where
+    by : (b : Bool) → (cond b (record run { tries = run.tries + 1 })
+        (record { place = run.place + 1; tries = 0; ended = is_its_end x })).ended ≡ false
+    by true = going
+    by false = more
+
+nobody_released : (p : Plan) (k : ℕ) (x : Option Command) → is_its_end x ≡ false → released_by p k x ≡ []
+nobody_released p k None more = refl
+nobody_released p k (Some c) more = by (is_end c) more
+  where
+    by : (b : Bool) → b ≡ false → cond (b && (p.initializer && eqb k 0)) (range 1 (length p.processes - 1)) [] ≡ []
+    by false e = refl
+    by true e = absurd (let none : true ≡ false = e in cc)
+
+told_kept : (s : State) (c k : ℕ) (f : Option ℕ) (r : Reply) → IsScheduled s → c < length s.processors
+    → (cpu_at s.processors c).process ≡ Some k → k < length s.runs → is_its_end (next_command s k) ≡ false
+    → IsScheduled (told_by s c k f r)
+told_kept s c k f r h there its known more = subst (λ (q : List ℕ). AreScheduled s.plan
+    (set s.runs k (run_after (run_at s.runs k) (next_command s k) r)) q (told_by s c k f r).processors)
+    (sym (append_nil s.ready) ∙ ap (λ (q : List ℕ). s.ready ++ q) (sym (nobody_released s.plan k (next_command s k) more)))
+    (runs_kept s.plan s.runs (set s.runs k (run_after (run_at s.runs k) (next_command s k) r)) s.ready _
+    (one_run s.runs k (run_after (run_at s.runs k) (next_command s k) r) known (h.running c k its).going
+    (more_run (run_at s.runs k) (next_command s k) r (h.running c k its).going more))
+    (seats_kept s.plan s.runs s.ready s.processors _ (one_seat s.processors c _ there refl (λ e. e)) h))
+
+-- the machine is answered after steps that leave all as it is
+told_after : (s b : State) (c : ℕ) (f : Option ℕ) (r : Reply) → Sits s b → IsScheduled s → c < length s.processors
+    → IsAnswering s c → IsScheduled (told b c f r)
+told_after s b c f r same h there a = subst (λ (j : ℕ). IsScheduled (told_by b c j f r)) (sym (ap or_zero its))
+    (told_kept b c a.process f r (sits_kept s b same h)
+    (subst (λ (ps : List Processor). c < length ps) (sym same.processors) there) its
+    (subst (λ (rs : List Run). a.process < length rs) (sym same.runs) a.known)
+    (ap (λ (x : Option Command). is_its_end x) next ∙ a.more))
+  where
+    its : (cpu_at b.processors c).process ≡ Some a.process
+    its = ap (λ (ps : List Processor). (cpu_at ps c).process) same.processors ∙ a.its
+
+    next : next_command b a.process ≡ next_command s a.process
+    next = λ i. next_command (record s { plan = same.plan i; runs = same.runs i }) a.process
+
+
+
+-- ---- a process ends
+
+module _ (b : State) (c k : ℕ) (r : Reply) (h : IsScheduled b) (there : c < length b.processors)
+    (its : (cpu_at b.processors c).process ≡ Some k) (known : k < length b.runs)
+    (next : next_command b k ≡ Some command.End) where
+  abbrev run : Run
+  run = run_after (run_at b.runs k) (next_command b k) r
+
+  abbrev ps : List Processor
+  ps = (told_by b c k None r).processors
+
+  abbrev now : Processor
+  now = processor_at (left_at (told_by b c k None r) c).processors c
+
+  over : run.ended ≡ true
+  over = ap (λ (x : Option Command). (run_after (run_at b.runs k) x r).ended) next
+
+  seats : SameSeats b.processors ps
+  seats = one_seat b.processors c _ there refl (λ e. e)
+
+  its_still : (cpu_at ps c).process ≡ Some k
+  its_still = seats.process c ∙ its
+
+  process_is : process_at (told_by b c k None r) c ≡ k
+  process_is = ap or_zero its_still
+
+  ready_is : (left_at (told_by b c k None r) c).ready
+      ≡ b.ready ++ cond (b.plan.initializer && eqb k 0) (range 1 (length b.plan.processes - 1)) []
+  ready_is = ap (λ (j : ℕ). queued (run_at (set b.runs k run) j) (told_by b c k None r).ready j) process_is
+      ∙ (ap (λ (e : Bool). cond e (told_by b c k None r).ready ((told_by b c k None r).ready ++ k ∷ []))
+      (ap (λ (x : Run). x.ended) (get_or-set_same b.runs k run no_run known) ∙ over)
+      ∙ ap (λ (x : Option Command). b.ready ++ released_by b.plan k x) next)
+
+  pub ended_kept : IsScheduled (left_at (told_by b c k None r) c)
+  ended_kept = subst (λ (q : List ℕ). AreScheduled b.plan (set b.runs k run) q
+      (left_at (told_by b c k None r) c).processors) (sym ready_is)
+      (end_kept b.plan b.runs b.ready ps c k _ run (subst (λ (n : ℕ). c < n) (sym (length-set b.processors c _)) there)
+      known (seats_kept b.plan b.runs b.ready b.processors ps seats h) its_still refl over)
+
+-- ---- each action
+
+-- what an action asks of the processes
+abbrev pub MaySchedule : State → ℕ → act.Action → Type 0
+MaySchedule s c (act.EndTransfer t) = IsAnswering s c
+MaySchedule s c (act.Load n) = ((cpu_at s.processors c).online ≡ true) × ((cpu_at s.processors c).process ≡ None)
+    × IsFront s.ready n
+MaySchedule s c act.Leave = (k : ℕ) × ((cpu_at s.processors c).process ≡ Some k)
+MaySchedule s c (act.Through f r) = IsAnswering s c
+MaySchedule s c (act.Plain r) = IsAnswering s c
+MaySchedule s c (act.Answer r) = IsAnswering s c
+MaySchedule s c (act.Create f u p r) = IsAnswering s c
+MaySchedule s c (act.FinishEviction f) = IsAnswering s c
+MaySchedule s c (act.FinishPage f) = IsAnswering s c
+MaySchedule s c act.Commit = (k : ℕ) × ((cpu_at s.processors c).process ≡ Some k) × (k < length s.runs)
+MaySchedule s c _ = Unit {0}
+
+by_end : (o : Outcome) (well ill : State) → IsScheduled well → IsScheduled ill → IsScheduled (cond o.failed ill well)
+by_end o well ill a b = by o.failed
+  where
+    by : (f : Bool) → IsScheduled (cond f ill well)
+    by true = b
+    by false = a
+
+told_seats : (s : State) (c : ℕ) (w : What) → SameSeats s.processors (told_from c w 0 s.processors)
+told_seats s c w = record {
+  process = λ d. ap (λ (p : Processor). p.cpu.process) (told_reads c w s.processors 0 d)
+      ∙ process (0 + d) (processor_at s.processors d);
+  online = λ d h. ap (λ (p : Processor). p.cpu.online) (told_reads c w s.processors 0 d)
+      ∙ (online (0 + d) (processor_at s.processors d) ∙ h);
+}
+  where
+    process : (d : ℕ) (p : Processor) → (told_at c w d p).cpu.process ≡ p.cpu.process
+    process d p = by (eqb d c) p.cpu.online
+      where
+        by : (a e : Bool) → (cond a (record p { cpu = record p.cpu { assoc = cleared p.cpu.assoc w } })
+            (cond e (record p { cpu = record p.cpu { due = Some w } }) p)).cpu.process ≡ p.cpu.process
+        by true e = refl
+        by false true = refl
+        by false false = refl
+
+    online : (d : ℕ) (p : Processor) → (told_at c w d p).cpu.online ≡ p.cpu.online
+    online d p = by (eqb d c) p.cpu.online
+      where
+        by : (a e : Bool) → (cond a (record p { cpu = record p.cpu { assoc = cleared p.cpu.assoc w } })
+            (cond e (record p { cpu = record p.cpu { due = Some w } }) p)).cpu.online ≡ p.cpu.online
+        by true e = refl
+        by false true = refl
+        by false false = refl
+
+front_is : (s : State) (n : ℕ) (xs : List ℕ) → s.ready ≡ xs → IsFront xs n → s.ready ≡ n ∷ drop 1 s.ready
+front_is s n [] e h = absurd h
+front_is s n (x ∷ xs) e h = e ∙ λ i. h i ∷ drop 1 (sym e i)
+
+module _ (s : State) (c : ℕ) (o : Outcome) (h : IsScheduled s) (there : c < length s.processors) where
+  one_changed : (p : Processor) → p.cpu.process ≡ (cpu_at s.processors c).process
+      → ((cpu_at s.processors c).online ≡ true → p.cpu.online ≡ true)
+      → AreScheduled s.plan s.runs s.ready (set s.processors c p)
+  one_changed p process online = seats_kept s.plan s.runs s.ready s.processors (set s.processors c p)
+      (one_seat s.processors c p there process online) h
+
+  plain : (cmd : Command) → is_end cmd ≡ false → (k : ℕ) → (cpu_at s.processors c).process ≡ Some k → k < length s.runs
+      → next_command s k ≡ Some cmd
+      → IsScheduled (told (effected s (process_at s c) cmd) c None (reply_of s (process_at s c) cmd))
+  plain cmd more k its known next = told_after s (effected s (process_at s c) cmd) c None
+      (reply_of s (process_at s c) cmd)
+      (still refl refl refl refl) h there
+      (record { process = k; its = its; known = known; more = ap (λ (x : Option Command). is_its_end x) next ∙ more })
+
+  command_kept : (x : Option Command) → (k : ℕ) → (cpu_at s.processors c).process ≡ Some k → k < length s.runs
+      → next_command s k ≡ x → IsScheduled (committed_at s c x)
+  command_kept None k its known next = h
+  command_kept (Some command.End) k its known next = subst (λ (j : ℕ). IsScheduled (left_at (told_by
+      (effected s j command.End) c j None (reply_of s j command.End)) c)) (sym (ap or_zero its))
+      (ended_kept (effected s k command.End) c k (reply_of s k command.End) h there its known next)
+  command_kept (Some (command.MkDir path volume)) k its known next = plain (command.MkDir path volume) refl k its known next
+  command_kept (Some (command.MkSeg path pages volume)) k its known next =
+      plain (command.MkSeg path pages volume) refl k its known next
+  command_kept (Some (command.Initiate path)) k its known next = plain (command.Initiate path) refl k its known next
+  command_kept (Some (command.Terminate n)) k its known next = plain (command.Terminate n) refl k its known next
+  command_kept (Some (command.Acl path row m)) k its known next = plain (command.Acl path row m) refl k its known next
+  command_kept (Some (command.Length path pages)) k its known next =
+      plain (command.Length path pages) refl k its known next
+  command_kept (Some (command.Truncate path words)) k its known next =
+      plain (command.Truncate path words) refl k its known next
+  command_kept (Some (command.Delete path)) k its known next = plain (command.Delete path) refl k its known next
+  command_kept (Some (command.Move path amount)) k its known next = plain (command.Move path amount) refl k its known next
+  command_kept (Some (command.Status path)) k its known next = plain (command.Status path) refl k its known next
+  command_kept (Some (command.Read n w)) k its known next = plain (command.Read n w) refl k its known next
+  command_kept (Some (command.Write n w x)) k its known next = plain (command.Write n w x) refl k its known next
+  command_kept (Some (command.Add n w x)) k its known next = plain (command.Add n w x) refl k its known next
+  command_kept (Some (command.Await n w x t)) k its known next = plain (command.Await n w x t) refl k its known next
+
+  -- a write failed
+  failed_kept : IsAnswering s c → IsScheduled (write_failed s c o.faults)
+  failed_kept may = told_after s _ c None reply.Device (sits_on (still refl refl refl refl)
+      (sits_on (all_pages_back (fault_told s (Some (process_at s c)) o.faults) (frames_of_owner s.owner))
+      (all_segs_back (pages_back (fault_told s (Some (process_at s c)) o.faults) (frames_of_owner s.owner))
+      (cut_of_owner s.owner)))) h there may
+
+  -- what an action asks of the processes is all that it wants
+  pub schedule_kept : (a : act.Action) → MaySchedule s c a → IsScheduled (after s c a o)
+  unfolding after
+  schedule_kept act.IsStopped may = h
+  schedule_kept act.HasEnded may = h
+  schedule_kept (act.Waits why) may = h
+  schedule_kept act.Online may = one_changed _ refl (λ e. refl)
+  schedule_kept (act.Clear w) may = one_changed _ refl (λ e. e)
+  schedule_kept (act.EndTransfer t) may = by_end o _ (transfer_failed s c t o.faults)
+      (one_changed _ refl (λ e. e)) (told_after (frame_lost s c t)
+      (fault_told (frame_lost s c t) (Some (process_at s c)) o.faults) c None reply.Device
+      (still refl refl refl refl) (one_changed _ refl (λ e. e)) (subst (λ (n : ℕ). c < n)
+      (sym (length-set s.processors c _)) there) (record {
+        process = may.process;
+        its = ap (λ (p : Processor). p.cpu.process) (get_or-set_same s.processors c _ no_processor there) ∙ may.its;
+        known = may.known;
+        more = may.more;
+      }))
+  schedule_kept (act.Load n) may = load_kept s.plan s.runs s.processors c _ there n (drop 1 s.ready)
+      (subst (λ (q : List ℕ). AreScheduled s.plan s.runs q s.processors) (front_is s n s.ready refl may.2) h) may.1 refl
+      may.0
+  schedule_kept act.Leave may = leaves (run_at s.runs (process_at s c)).ended refl
+    where
+      goes : (run_at s.runs (process_at s c)).ended ≡ false
+      goes = subst (λ (j : ℕ). (run_at s.runs j).ended ≡ false) (sym (ap or_zero may.1)) (h.running c may.0 may.1).going
+
+      leaves : (b : Bool) → (run_at s.runs (process_at s c)).ended ≡ b
+          → AreScheduled s.plan s.runs (cond b s.ready (s.ready ++ process_at s c ∷ []))
+          (left_at s c).processors
+      leaves true e = absurd (let none : true ≡ false = sym e ∙ goes in cc)
+      leaves false e = subst (λ (j : ℕ). AreScheduled s.plan s.runs (s.ready ++ j ∷ []) (left_at s c).processors)
+          (sym (ap or_zero may.1)) (leave_kept s.plan s.runs s.processors c _ there may.0 s.ready h may.1 refl)
+  schedule_kept (act.FillSeg n) may = one_changed _ refl (λ e. e)
+  schedule_kept (act.FillPage f r) may = one_changed _ refl (λ e. e)
+  schedule_kept (act.Through f r) may = told_after s
+      (with_store s (with_pages s.store (pages_after s.store.pages f r))) c (Some f)
+      (word_reply (old_word s.store.pages f r) r.kind)
+      (still refl refl refl refl) h there may
+  schedule_kept (act.Plain r) may = told_after s s c None r (still refl refl refl refl) h there may
+  schedule_kept act.TakeSupervisor may = h
+  schedule_kept (act.Answer r) may = told_after s s c None r (still refl refl refl refl) h there may
+  schedule_kept act.GiveUp may = h
+  schedule_kept (act.Activate u place) may = h
+  schedule_kept (act.Connect n u) may = h
+  schedule_kept (act.Create f u p r) may = told_after s (page_made s f u p r) c None (word_reply 0 r.kind)
+      (still refl refl refl refl) h there may
+  schedule_kept (act.Start f u p) may = one_changed _ refl (λ e. e)
+  schedule_kept (act.Evict f) may = h
+  schedule_kept (act.Empty u) may = sits_kept s _ (segment s c u (frames_from s.store.ast u 0) (trailers_in s.store u)) h
+  schedule_kept (act.EmptyVictim pool chain u) may = sits_kept s _ (sits_on (still refl refl refl refl)
+      (segment (with_store s (with_hand_moved s.store pool chain)) c u
+      (frames_from (with_hand_moved s.store pool chain).ast u 0) (trailers_in (with_hand_moved s.store pool chain) u))) h
+  schedule_kept (act.TakeAway fs pairs w) may = sits_kept s _ (all_taken s c aim.Committing w fs pairs) h
+  schedule_kept (act.Signal w) may =
+      seats_kept s.plan s.runs s.ready s.processors (told_from c w 0 s.processors) (told_seats s c w) h
+  schedule_kept (act.FinishEviction f) may = by_end o _ (write_failed s c o.faults) h (failed_kept may)
+  schedule_kept (act.FinishPage f) may = by_end o _ (write_failed s c o.faults) h (failed_kept may)
+  schedule_kept (act.Deactivate u) may = sits_kept s _ (is_emptied s c u) h
+  schedule_kept act.Commit may = command_kept (next_command s (process_at s c)) may.0 may.1 may.2
+      (ap (next_command s) (sym (ap or_zero may.1)))
