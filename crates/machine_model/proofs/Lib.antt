@@ -51,6 +51,7 @@ pub mod LookAsks
 pub mod LookFacts
 pub mod LookLaws
 pub mod LoopLaws
+pub mod MoveAsks
 pub mod MoveSeen
 pub mod OffChain
 pub mod OneProcess

@@ -5,6 +5,7 @@ pub mod Chains
 pub mod Changes
 pub mod Commits
 pub mod Custodial
+pub mod Entitled
 pub mod Finishing
 pub mod Foreseen
 pub mod Holding

@@ -1,0 +1,403 @@
+-- What a reference that a processor makes by itself asks follows from the promise, and from what it holds.
+use Rattle.std.proofs.Common.{◌≡◌, ◌≢◌, ◌<◌, ◌≤◌, ℕ, ◌*◌, Bool, true, false, not, ◌&&◌, ◌||◌, cond, eqb, is_some, zero, suc, List, [], ◌∷◌, map}
+use Rattle.std.proofs.Common.{length, get_or, Option, Some, None, ◌⊎◌, inl, inr, refl, sym, ap, subst, ◌∙◌, arith}
+use Rattle.std.specs.Prelude.{◌/◌, ◌%◌, nat_le}
+use Rattle.std.specs.List.{find, list_any}
+use Rattle.std.specs.Option.{option_map}
+use Rattle.std.proofs.lemmas.Bool.Decides.{eqb_tells, leb_tells}
+use Rattle.mnames.specs.declared.modes.Mode.{Mode}
+use Rattle.mnames.specs.declared.principals.Who.{Who}
+use Rattle.script.specs.Plans.{ProcessPlan, nobody, who_of}
+use Rattle.script.specs.References.{reference_of}
+use Rattle.script.specs.declared.commands.Command.{Command}
+use Rattle.script.specs.declared.commands.RefKind.{RefKind}
+use Rattle.script.specs.declared.commands.RefKind.TheVariants as kind
+use Rattle.script.specs.declared.commands.Reference.{Reference}
+use Rattle.book.specs.declared.replies.Reply.{Reply}
+use Rattle.book.specs.declared.replies.Reply.TheVariants as reply
+use Rattle.assoc_mem.specs.declared.HeldPage.{HeldPage}
+use Rattle.assoc_mem.specs.declared.HeldSeg.{HeldSeg}
+use Rattle.assoc_mem.specs.Held.{frame_of, is_number, is_page, page_of, seg_of}
+use Rattle.tree_model.specs.Access.{access_of}
+use Rattle.tree_model.specs.Tree.{Node, node_in}
+use Rattle.known_segs.specs.Known.{uid_of}
+use Rattle.page_table.specs.declared.Ptw.{Ptw}
+use Rattle.page_table.specs.declared.Ptw.TheVariants as ptw
+use Rattle.descriptor_seg.specs.declared.Sdw.{Sdw}
+use Rattle.descriptor_seg.specs.declared.Sdw.TheVariants as sdw
+use Rattle.active_segs.specs.Active.{uid_at}
+use Rattle.page_control.specs.Tied.{has_record}
+use Rattle.page_control.specs.Plain.{words_in}
+use Rattle.seg_control.specs.Control.{kst_at, word_of}
+use Rattle.storage_ops.specs.Shown.{is_there, who_at}
+use Rattle.flat_model.specs.Commands.{reply_by, reply_to_command}
+use Rattle.flat_model.specs.Pages.{is_stored}
+use Rattle.flat_model.specs.References.{after_reference, alters, new_word, permits, reply_at, reply_of, reply_to_reference}
+use Rattle.flat_model.specs.References.{room_reply, stores_page, word_reply, written, written_by}
+use Rattle.flat_model.specs.Store.{Store, known_uid}
+use Rattle.custody_model.specs.declared.DescriptorUse.{DescriptorUse}
+use Rattle.custody_model.specs.declared.DescriptorUse.TheVariants as descriptor
+use Rattle.custody_model.specs.Allowed.{IsPageAt, MayAnswer as MayAnswerBy, MayDo, is_word_or_done, stores}
+use Rattle.custody_model.specs.Custody.{bound_page, has, leads_to}
+use Rattle.machine_model.specs.Actions as act
+use Rattle.machine_model.specs.After.{Outcome}
+use Rattle.machine_model.specs.Custodial.{AreHeldPages, AreHeldSegs, AreOfProcess, names}
+use Rattle.machine_model.specs.Entitled.{AreEntitled, IsEntitled, IsEntitledToAll}
+use Rattle.machine_model.specs.Holding.{led_to, seen}
+use Rattle.machine_model.specs.Jobs.{page_in, page_or_zero}
+use Rattle.machine_model.specs.Keeps.{AreThere, Keeps}
+use Rattle.machine_model.specs.Reads.{cpu_at, cut_of_owner, descriptor_of, flat_of, is_active, next_command, process_at}
+use Rattle.machine_model.specs.Reads.{processor_at}
+use Rattle.machine_model.specs.Said.{Says}
+use Rattle.machine_model.specs.Seen.{Seen, cut_uid, cut_use, descriptor_use, is_cut_at, shown}
+use Rattle.machine_model.specs.State.{State, Storage}
+use Rattle.machine_model.specs.Steps.{old_word, pages_after, went_through, with_pages, with_store}
+use Rattle.machine_model.specs.declared.CutDescriptor.{CutDescriptor}
+use Rattle.machine_model.proofs.ActiveKept.{through_seen}
+use Rattle.machine_model.proofs.ChainLaws.{bound_shown}
+use Rattle.machine_model.proofs.FindLaws.{find_true}
+use Rattle.machine_model.proofs.FlatAlike.{IsAlike, alike}
+use Rattle.machine_model.proofs.InsideLaws.{stored_due, zero_due}
+use Rattle.machine_model.proofs.LookFacts.{IsInside}
+use Rattle.machine_model.proofs.PageShown.{active_there, bound_word, null_word, stored_is}
+use Rattle.machine_model.proofs.SaysLaws.{plain_says, refused_says, through_says}
+use Rattle.machine_model.proofs.SpeakLaws.{Speaks, can_refuse, can_tell}
+use Rattle.machine_model.proofs.StepKept.{CanGoThrough, CanReply}
+use Rattle.machine_model.proofs.TakeSeen.{binding_is}
+use Rattle.machine_model.proofs.TellKept.{CanTell}
+use Rattle.machine_model.proofs.TieLaws.{none_some}
+use Rattle.machine_model.proofs.TransferKept.{active_at}
+
+no_and : {b : Bool} → b ≡ true → b ≡ false → ⊥
+no_and t f = let none : true ≡ false = sym t ∙ f in cc
+
+-- ---- what is held
+
+-- each of some entries has a property
+abbrev pub AllSegs : (HeldSeg → Type 0) → List HeldSeg → Type 0
+AllSegs P [] = Unit {0}
+AllSegs P (e ∷ es) = P e × AllSegs P es
+
+-- a descriptor that is found is one of those held
+seg_found : (P : HeldSeg → Type 0) (es : List HeldSeg) (n : ℕ) (e : HeldSeg) → find (is_number n) es ≡ Some e
+    → AllSegs P es → P e
+seg_found P [] n e h all = absurd (none_some h)
+seg_found P (x ∷ xs) n e h all = by (is_number n x) h (λ i. seg_found P xs n e i all.1)
+  where
+    by : (b : Bool) → cond b (Some x) (find (is_number n) xs) ≡ Some e → (find (is_number n) xs ≡ Some e → P e) → P e
+    by true i rest = let same : x ≡ e = cc in subst P same all.0
+    by false i rest = rest i
+
+entitled_all : (s : State) (k : ℕ) (es : List HeldSeg)
+    → AreEntitled s.store.accounts.nodes s.store.whos s.store.links.known k es
+    → AllSegs (IsEntitled s.store.accounts.nodes s.store.whos s.store.links.known k) es
+entitled_all s k [] h = tt
+entitled_all s k (e ∷ es) h = (h.0, entitled_all s k es h.1)
+
+leads_all : (d : ℕ → ℕ → DescriptorUse) (k : ℕ) (es : List HeldSeg) → AreHeldSegs d k es
+    → AllSegs (λ e. leads_to (d k e.number) ≡ Some e.uid) es
+leads_all d k [] h = tt
+leads_all d k (e ∷ es) h = (h.0, leads_all d k es h.1)
+
+-- it is held, by its number
+seg_has : (es : List HeldSeg) (n : ℕ) (e : HeldSeg) → find (is_number n) es ≡ Some e
+    → has (map (λ x. x.number) es) n ≡ true
+seg_has [] n e h = absurd (none_some h)
+seg_has (x ∷ xs) n e h = by (is_number n x) h (seg_has xs n e)
+  where
+    by : (b : Bool) → cond b (Some x) (find (is_number n) xs) ≡ Some e
+        → (find (is_number n) xs ≡ Some e → has (map (λ y. y.number) xs) n ≡ true)
+        → (b || has (map (λ y. y.number) xs) n) ≡ true
+    by true i rest = refl
+    by false i rest = rest i
+
+number_is : (n : ℕ) (e : HeldSeg) → is_number n e ≡ true → e.number ≡ n
+number_is n e h = elim (eqb_tells e.number n) [ inl x ↦ x.1 | inr m ↦ absurd (no_and h m.0) ]
+
+-- so is a page table word, by its frame, which has the page
+page_is_held : (bound : ℕ → Option (ℕ × ℕ)) (es : List HeldPage) (u p f : ℕ)
+    → option_map (λ x. x.frame) (find (is_page u p) es) ≡ Some f → AreHeldPages bound es
+    → (has (map (λ x. x.frame) es) f ≡ true) × (bound f ≡ Some (u, p))
+page_is_held bound [] u p f h all = absurd (none_some h)
+page_is_held bound (x ∷ xs) u p f h all = by (is_page u p x) refl h (λ i. page_is_held bound xs u p f i all.1)
+  where
+    or_right : (a : Bool) {b : Bool} → b ≡ true → (a || b) ≡ true
+    or_right true e = refl
+    or_right false e = e
+
+    own : (n : ℕ) → eqb n n ≡ true
+    own n = elim (eqb_tells n n) [ inl e ↦ e.0 | inr m ↦ absurd (m.1 refl) ]
+
+    same_both : (a b c d : ℕ) → (eqb a c && eqb b d) ≡ true → (a ≡ c) × (b ≡ d)
+    same_both a b c d e = elim (eqb_tells a c) [
+      | inl y ↦ elim (eqb_tells b d) [ inl z ↦ (y.1, z.1) | inr m ↦ absurd (no_and e (rw (y.0, m.0) refl)) ]
+      | inr m ↦ absurd (no_and e (rw m.0 refl))
+    ]
+
+    by : (b : Bool) → is_page u p x ≡ b → option_map (λ y. y.frame) (cond b (Some x) (find (is_page u p) xs)) ≡ Some f
+        → (option_map (λ y. y.frame) (find (is_page u p) xs) ≡ Some f
+        → (has (map (λ y. y.frame) xs) f ≡ true) × (bound f ≡ Some (u, p)))
+        → (has (map (λ y. y.frame) (x ∷ xs)) f ≡ true) × (bound f ≡ Some (u, p))
+    by true e i rest = let same : x.frame ≡ f = cc in let both = same_both x.uid x.page u p e in (
+      ap (λ (b : Bool). b || has (map (λ y. y.frame) xs) f) (ap (λ (n : ℕ). eqb n f) same ∙ own f),
+      ap bound (sym same) ∙ (all.0 ∙ λ j. Some (both.0 j, both.1 j)),
+    )
+    by false e i rest = let both = rest i in (or_right (eqb x.frame f) both.0, both.1)
+
+-- ---- a processor that refers by itself
+
+-- a descriptor that was cut is of a segment that is active still
+cut_active : (st : Storage) (ds : List CutDescriptor) (k n u : ℕ) → AreThere st ds → cut_uid ds k n ≡ Some u
+    → is_active st.ast u ≡ true
+cut_active st [] k n u h e = absurd (none_some e)
+cut_active st (d ∷ ds) k n u h e = by (is_cut_at k n d) e (cut_active st ds k n u h.1)
+  where
+    by : (b : Bool) → cond b (Some d.uid) (cut_uid ds k n) ≡ Some u
+        → (cut_uid ds k n ≡ Some u → is_active st.ast u ≡ true) → is_active st.ast u ≡ true
+    by true i rest = let same : d.uid ≡ u = cc in subst (λ (v : ℕ). is_active st.ast v ≡ true) same h.0.2
+    by false i rest = rest i
+
+-- what a descriptor leads to, or led to until it was cut, is active
+descriptor_active : (s : State) (k n u : ℕ) → Keeps s → leads_to ((shown (seen s)).descriptor k n) ≡ Some u
+    → is_active s.store.ast u ≡ true
+descriptor_active s k n u keeps h = by (descriptor_of s.store.links k n) refl h
+  where
+    cut_one : (x : Option ℕ) → cut_uid (cut_of_owner s.owner) k n ≡ x → leads_to (cut_use x) ≡ Some u
+        → is_active s.store.ast u ≡ true
+    cut_one None e i = absurd (none_some i)
+    cut_one (Some v) e i = cut_active s.store (cut_of_owner s.owner) k n u keeps.cut (e ∙ i)
+
+    led : (x : Option ℕ) (aste : ℕ) → uid_at s.store.ast.entries aste ≡ x
+        → leads_to (descriptor_use x (cut_uid (cut_of_owner s.owner) k n)) ≡ Some u → is_active s.store.ast u ≡ true
+    led None aste e i = cut_one (cut_uid (cut_of_owner s.owner) k n) refl i
+    led (Some v) aste e i = active_at s.store.ast aste u (e ∙ i)
+
+    by : (x : Sdw) → descriptor_of s.store.links k n ≡ x
+        → leads_to (descriptor_use (led_to s.store.ast.entries x) (cut_uid (cut_of_owner s.owner) k n)) ≡ Some u
+        → is_active s.store.ast u ≡ true
+    by sdw.Fault e i = cut_one (cut_uid (cut_of_owner s.owner) k n) refl i
+    by (sdw.Present aste m pages) e i = led (uid_at s.store.ast.entries aste) aste refl i
+
+-- the principals of the script are those of the store
+who_is : (s : State) (keeps : Keeps s) (k : ℕ) → who_at s.store.whos k ≡ who_of s.plan k
+who_is s keeps k = ap (λ (ws : List Who). who_at ws k) keeps.faithful.script.whos ∙ map_who s.plan.processes k
+  where
+    map_who : (ps : List ProcessPlan) (j : ℕ) → who_at (map (λ x. x.who) ps) j
+        ≡ (get_or ps j (record { who = nobody; commands = [] })).who
+    map_who [] j = refl
+    map_who (p ∷ ps) zero = refl
+    map_who (p ∷ ps) (suc j) = map_who ps j
+
+-- what is answered past the access list, and past the length
+abbrev page_reply : State → Reference → Node → Reply
+page_reply s r n = cond (stores_page (flat_of s) n.uid r.offset r.kind) (room_reply s.plan (flat_of s) n
+    (word_reply ((flat_of s).words n.uid r.offset) r.kind)) (word_reply ((flat_of s).words n.uid r.offset) r.kind)
+
+abbrev rest_reply : State → ℕ → Reference → Node → Reply
+rest_reply s k r n = cond (nat_le (1024 * n.pages) r.offset) reply.Length (page_reply s r n)
+
+module _ (s : State) (c : ℕ) (keeps : Keeps s) (entitled : IsEntitledToAll s) (cmd : Command)
+    (speaks : Speaks s c (process_at s c) cmd) (r : Reference) (is : reference_of cmd ≡ Some r) (h : HeldSeg)
+    (held : seg_of (cpu_at s.processors c).assoc r.number ≡ Some h) where
+  abbrev k : ℕ
+  k = process_at s c
+
+  abbrev t : Store
+  t = flat_of s
+
+  right : IsEntitled s.store.accounts.nodes s.store.whos s.store.links.known k h
+  right = seg_found (IsEntitled s.store.accounts.nodes s.store.whos s.store.links.known k)
+      (cpu_at s.processors c).assoc.segs r.number h held
+      (entitled_all s k (cpu_at s.processors c).assoc.segs (entitled.each c k speaks.its))
+
+  number_same : h.number ≡ r.number
+  number_same = number_is r.number h (find_true (is_number r.number) (cpu_at s.processors c).assoc.segs h held)
+
+  -- its segment is active, so its node is there
+  pub held_active : is_active s.store.ast h.uid ≡ true
+  held_active = descriptor_active s k h.number h.uid keeps
+      (seg_found (λ e. leads_to ((shown (seen s)).descriptor k e.number) ≡ Some e.uid)
+      (cpu_at s.processors c).assoc.segs r.number h held (leads_all (shown (seen s)).descriptor k
+      (cpu_at s.processors c).assoc.segs its_segs))
+    where
+      its_segs : AreHeldSegs (shown (seen s)).descriptor k (cpu_at s.processors c).assoc.segs
+      its_segs = subst (λ (x : Option ℕ). AreOfProcess (shown (seen s)).descriptor x
+          (cpu_at s.processors c).assoc.segs) speaks.its (keeps.book.holding_right c).segs
+
+  known : known_uid t k r.number ≡ Some h.uid
+  known = ap (λ (x : List (List (Option ℕ))). uid_of (kst_at x k) r.number) keeps.faithful.known
+      ∙ (ap (uid_of (kst_at s.store.links.known k)) (sym number_same) ∙ right.stands)
+
+  record HasNode : Type 0 where
+    node : Node
+    there : node_in t.nodes h.uid ≡ Some node
+    mode : h.mode ≡ access_of (who_of s.plan k) node.rows
+    pages : h.pages ≡ node.pages
+
+  has_node : HasNode
+  has_node = by (node_in s.store.accounts.nodes h.uid) refl (active_there s keeps h.uid held_active)
+    where
+      by : (x : Option Node) → node_in s.store.accounts.nodes h.uid ≡ x → is_some x ≡ true → HasNode
+      by None e i = absurd (let none : false ≡ true = i in cc)
+      by (Some n) e i = record {
+        node = n;
+        there = ap (λ (ns : List Node). node_in ns h.uid) keeps.faithful.tree.nodes ∙ e;
+        mode = right.mode n e ∙ ap (λ (w : Who). access_of w n.rows) (who_is s keeps k);
+        pages = right.pages n e;
+      }
+
+  -- a reference that the held descriptor refuses
+  no_access : permits h.mode r.kind ≡ false → reply_to_reference s.plan t k r ≡ reply.NoAccess
+  unfolding reply_to_reference
+  no_access off = ap (reply_of s.plan t k r.offset r.kind) known
+      ∙ (ap (reply_at s.plan t k r.offset r.kind) has_node.there
+      ∙ ap (λ (b : Bool). cond (not b) reply.NoAccess (rest_reply s k r has_node.node))
+      (ap (λ (m : Mode). permits m r.kind) (sym has_node.mode) ∙ off))
+
+  too_long : permits h.mode r.kind ≡ true → nat_le (1024 * h.pages) r.offset ≡ true
+      → reply_to_reference s.plan t k r ≡ reply.Length
+  unfolding reply_to_reference
+  too_long on long = ap (reply_of s.plan t k r.offset r.kind) known
+      ∙ (ap (reply_at s.plan t k r.offset r.kind) has_node.there
+      ∙ (ap (λ (b : Bool). cond (not b) reply.NoAccess (rest_reply s k r has_node.node))
+      (ap (λ (m : Mode). permits m r.kind) (sym has_node.mode) ∙ on)
+      ∙ ap (λ (b : Bool). cond b reply.Length (page_reply s r has_node.node))
+      (ap (λ (n : ℕ). nat_le (1024 * n) r.offset) (sym has_node.pages) ∙ long)))
+
+  due : (x : Reply) → reply_to_reference s.plan t k r ≡ x → x ≡ reply_to_command s.plan t k cmd
+  due x e = sym (ap (reply_by s.plan t k cmd) is ∙ e)
+
+  pub no_access_asks : permits h.mode r.kind ≡ false → CanReply s c reply.NoAccess
+  no_access_asks off = record {
+    tell = can_refuse s c k cmd reply.NoAccess speaks (due reply.NoAccess (no_access off)) refl;
+    says = refused_says s c k None reply.NoAccess keeps refl;
+  }
+
+  pub length_asks : permits h.mode r.kind ≡ true → nat_le (1024 * h.pages) r.offset ≡ true
+      → CanReply s c reply.Length
+  length_asks on long = record {
+    tell = can_refuse s c k cmd reply.Length speaks (due reply.Length (too_long on long)) refl;
+    says = refused_says s c k None reply.Length keeps refl;
+  }
+
+  module _ (on : permits h.mode r.kind ≡ true) (short : nat_le (1024 * h.pages) r.offset ≡ false) where
+    inside : IsInside s k r h.uid
+    inside = record {
+      known = known;
+      node = has_node.node;
+      there = has_node.there;
+      permitted = ap (λ (m : Mode). permits m r.kind) (sym has_node.mode) ∙ on;
+      within = subst (λ (n : ℕ). r.offset < 1024 * n) has_node.pages (elim (leb_tells (1024 * h.pages) r.offset) [
+        | inl e ↦ absurd (no_and e.0 short)
+        | inr m ↦ (let lt = m.1 in omega (arith, lt))
+      ]);
+    }
+
+    word_answer : (w : ℕ) (how : RefKind) → is_word_or_done (word_reply w how) ≡ true
+    word_answer w kind.Read = refl
+    word_answer w (kind.Write v) = refl
+    word_answer w (kind.Add v) = refl
+
+    -- a page of zeros that stays one
+    pub zero_asks : word_of s.store.ast h.uid (r.offset / 1024) ≡ ptw.Null → eqb (new_word 0 r.kind) 0 ≡ true
+        → CanReply s c (word_reply 0 r.kind)
+    unfolding after_reference
+    zero_asks null stays = record {
+      tell = can_tell s c k cmd None (word_reply 0 r.kind) speaks
+          (inl (due (word_reply 0 r.kind) (zero_due s k r keeps h.uid inside zero_word stays)))
+          (subst (λ (x : Option Reference). MayAnswerBy s.plan t (shown (seen s)) c k None cmd (word_reply 0 r.kind) x)
+          (sym is) (inr (ap (λ (x : Option ℕ). stores t x r.offset) known
+          ∙ (stored_is s keeps h.uid held_active (r.offset / 1024) ∙ ap has_record null))));
+      says = plain_says s c r cmd keeps speaks.next is like;
+    }
+      where
+        zero_word : t.words h.uid r.offset ≡ 0
+        zero_word = null_word s keeps h.uid held_active r.offset null
+
+        zeros_put : (v o : ℕ) → cond (eqb v h.uid && eqb o r.offset) 0 (t.words v o) ≡ t.words v o
+        zeros_put v o = elim (eqb_tells v h.uid) [
+          | inl a ↦ elim (eqb_tells o r.offset) [
+            | inl b ↦ rw (a.0, b.0) (sym (ap (λ (x : ℕ). t.words x o) a.1 ∙ (ap (t.words h.uid) b.1 ∙ zero_word)))
+            | inr b ↦ rw (a.0, b.0) refl
+          ]
+          | inr a ↦ rw a.0 refl
+        ]
+
+        new_zero : (how : RefKind) → eqb (new_word 0 how) 0 ≡ true → new_word 0 how ≡ 0
+        new_zero how e = elim (eqb_tells (new_word 0 how) 0) [ inl x ↦ x.1 | inr m ↦ absurd (no_and e m.0) ]
+
+        zero_written : IsAlike t (written t h.uid r.offset 0)
+        zero_written = record { nodes = refl; next = refl; words = zeros_put; stored = refl; known = refl }
+
+        like : IsAlike t (after_reference t k r)
+        like = subst (IsAlike t) (sym (ap (written_by t r.offset r.kind) known)) (by (alters r.kind))
+          where
+            by : (b : Bool) → IsAlike t (cond b (written t h.uid r.offset (new_word (t.words h.uid r.offset) r.kind)) t)
+            by true = subst (λ (w : ℕ). IsAlike t (written t h.uid r.offset w))
+                (sym (ap (λ (w : ℕ). new_word w r.kind) zero_word ∙ new_zero r.kind stays)) zero_written
+            by false = alike t
+
+    -- a page that is held goes through its frame
+    pub through_asks : (o : Outcome) (f : ℕ)
+        → frame_of (cpu_at s.processors c).assoc h.uid (r.offset / 1024) ≡ Some f
+        → Says s c o (act.Through f r) → CanGoThrough s c f r
+    through_asks o f found says = record {
+      tell = record {
+        there = tells.there;
+        known = tells.known;
+        command = tells.command;
+        next = tells.next;
+        lawful = tells.lawful;
+        allowed = subst (λ (v : Seen). MayDo s.plan t (shown v) k c (Some f) answer) (sym (through_seen s f r))
+            tells.allowed;
+      };
+      says = through_says s c o f h.uid r cmd keeps says speaks.next is known page_at old_is;
+    }
+      where
+        both : (has ((shown (seen s)).seat c).pages f ≡ true) × ((seen s).bound f ≡ Some (h.uid, r.offset / 1024))
+        both = page_is_held (seen s).bound (cpu_at s.processors c).assoc.pages h.uid (r.offset / 1024) f found
+            (keeps.book.holding_right c).pages
+
+        answer : Reply
+        answer = word_reply (old_word s.store.pages f r) r.kind
+
+        page_at : page_in s.store f ≡ (h.uid, r.offset / 1024)
+        page_at = ap page_or_zero (sym (binding_is s f) ∙ both.1)
+
+        old_is : old_word s.store.pages f r ≡ t.words h.uid r.offset
+        old_is = sym (bound_word s keeps h.uid held_active f r.offset both.1)
+
+        stored : is_stored t.stored h.uid (r.offset / 1024) ≡ true
+        stored = stored_is s keeps h.uid held_active (r.offset / 1024)
+            ∙ recorded (word_of s.store.ast h.uid (r.offset / 1024))
+            (keeps.book.tied.named f h.uid (r.offset / 1024) both.1)
+          where
+            recorded : (w : Ptw) → names w ≡ Some f → has_record w ≡ true
+            recorded ptw.Null e = absurd (none_some e)
+            recorded (ptw.Out n) e = absurd (none_some e)
+            recorded (ptw.Here g) e = refl
+            recorded (ptw.Leaving g) e = refl
+
+        tells : CanTell s c k (Some f) answer
+        tells = can_tell s c k cmd (Some f) answer speaks
+            (inl (ap (λ (w : ℕ). word_reply w r.kind) old_is
+            ∙ due (word_reply (t.words h.uid r.offset) r.kind) (stored_due s k r keeps h.uid inside stored)))
+            (subst (λ (x : Option Reference). MayAnswerBy s.plan t (shown (seen s)) c k (Some f) cmd answer x) (sym is)
+            (record {
+              segment = seg_has (cpu_at s.processors c).assoc.segs r.number h held;
+              page = both.0;
+              bound = page_there (bound_page ((shown (seen s)).frame f)) (bound_shown (seen s) f ∙ both.1);
+              answered = word_answer (old_word s.store.pages f r) r.kind;
+            }))
+          where
+            page_there : (x : Option (ℕ × ℕ)) → x ≡ Some (h.uid, r.offset / 1024)
+                → IsPageAt (known_uid t k r.number) r.offset x
+            page_there None e = absurd (none_some e)
+            page_there (Some x) e = (
+              known ∙ ap (λ (y : ℕ × ℕ). Some y.0) (sym (page_same x e)),
+              ap (λ (y : ℕ × ℕ). y.1) (page_same x e),
+            )
+              where
+                page_same : (y : ℕ × ℕ) → ◌≡◌ {A = Option (ℕ × ℕ)} (Some y) (Some (h.uid, r.offset / 1024))
+                    → y ≡ (h.uid, r.offset / 1024)
+                page_same y i = cc
