@@ -1,12 +1,8 @@
-//! Tests of the directory tree, its quota cells and both as one type, over public calls: paths, limits and
-//! removals, names that differ only in their last letters, and counts that follow quota that moves.
+//! Tests of the directory tree that a loop makes: as many branches as it may have, and as many names that differ only
+//! in their last letters. `tree_cases` has all others.
 #![tactic(auto)]
 
 #[cfg(test)]
-mod counts;
-#[cfg(test)]
 mod names;
-#[cfg(test)]
-mod quotas;
 #[cfg(test)]
 mod trees;
