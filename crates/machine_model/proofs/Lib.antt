@@ -87,6 +87,7 @@ pub mod SeatLaws
 pub mod SeenLaws
 pub mod SharedSegment
 pub mod SpeakLaws
+pub mod StepAsks
 pub mod StepKept
 pub mod StepLaws
 pub mod TakeAsks

@@ -189,7 +189,7 @@ some_of None h = absurd (let no : false ≡ true = h in cc)
 some_of (Some n) h = refl
 
 -- what was taken is gone, or the pages are back, and no clear is due
-record IsReady (s : State) : Type 0 where
+pub record IsReady (s : State) : Type 0 where
   none : NoneDue (shown (seen s))
   still : is_pending s.owner ≡ false
   gone : IsDone (gone_segs (gones (seen s) (frames_of_owner s.owner)) (cut_of_owner s.owner))
@@ -309,15 +309,15 @@ module _ (s : State) (c : ℕ) (o : Outcome) (k : Keeps s) (there : c < length s
       some_same : (x y : Owner) → Some x ≡ Some y → x ≡ y
       some_same x y e = cc
 
-  process_here : IsMine s c → (processor_at s.processors c).cpu.process ≡ Some (process_at s c)
+  pub process_here : IsMine s c → (processor_at s.processors c).cpu.process ≡ Some (process_at s c)
   process_here m = some_of (processor_at s.processors c).cpu.process (works_here m).busy
 
-  look_idle : IsLooking s c → IsIdle s.owner
+  pub look_idle : IsLooking s c → IsIdle s.owner
   look_idle l = subst IsIdle (sym l.owner.mine)
       (looking_idle (shown (seen s)) l.owner.owner
       (subst (IsOwned (shown (seen s))) l.owner.mine k.book.going_owned) l.looks)
 
-  look_still : IsLooking s c → is_pending s.owner ≡ false
+  pub look_still : IsLooking s c → is_pending s.owner ≡ false
   look_still l = ap is_pending l.owner.mine ∙ ap is_pending_in l.looks
 
   look_over : IsLooking s c → IsCommitted s

@@ -194,26 +194,27 @@ module _ (b : State) (c k : ℕ) (r : Reply) (h : IsScheduled b) (there : c < le
 -- ---- each action
 
 -- what an action asks of the processes
-abbrev pub MaySchedule : State → ℕ → act.Action → Type 0
-MaySchedule s c (act.EndTransfer t) = IsAnswering s c
-MaySchedule s c (act.Load n) = ((cpu_at s.processors c).online ≡ true) × ((cpu_at s.processors c).process ≡ None)
+abbrev pub MaySchedule : State → ℕ → Outcome → act.Action → Type 0
+MaySchedule s c o (act.EndTransfer t) = o.failed ≡ true → IsAnswering s c
+MaySchedule s c o (act.Load n) = ((cpu_at s.processors c).online ≡ true) × ((cpu_at s.processors c).process ≡ None)
     × IsFront s.ready n
-MaySchedule s c act.Leave = (k : ℕ) × ((cpu_at s.processors c).process ≡ Some k)
-MaySchedule s c (act.Through f r) = IsAnswering s c
-MaySchedule s c (act.Plain r) = IsAnswering s c
-MaySchedule s c (act.Answer r) = IsAnswering s c
-MaySchedule s c (act.Create f u p r) = IsAnswering s c
-MaySchedule s c (act.FinishEviction f) = IsAnswering s c
-MaySchedule s c (act.FinishPage f) = IsAnswering s c
-MaySchedule s c act.Commit = (k : ℕ) × ((cpu_at s.processors c).process ≡ Some k) × (k < length s.runs)
-MaySchedule s c _ = Unit {0}
+MaySchedule s c o act.Leave = (k : ℕ) × ((cpu_at s.processors c).process ≡ Some k)
+MaySchedule s c o (act.Through f r) = IsAnswering s c
+MaySchedule s c o (act.Plain r) = IsAnswering s c
+MaySchedule s c o (act.Answer r) = IsAnswering s c
+MaySchedule s c o (act.Create f u p r) = IsAnswering s c
+MaySchedule s c o (act.FinishEviction f) = o.failed ≡ true → IsAnswering s c
+MaySchedule s c o (act.FinishPage f) = o.failed ≡ true → IsAnswering s c
+MaySchedule s c o act.Commit = (k : ℕ) × ((cpu_at s.processors c).process ≡ Some k) × (k < length s.runs)
+MaySchedule s c o _ = Unit {0}
 
-by_end : (o : Outcome) (well ill : State) → IsScheduled well → IsScheduled ill → IsScheduled (cond o.failed ill well)
-by_end o well ill a b = by o.failed
+by_end : (o : Outcome) (well ill : State) → IsScheduled well → (o.failed ≡ true → IsScheduled ill)
+    → IsScheduled (cond o.failed ill well)
+by_end o well ill a b = by o.failed refl
   where
-    by : (f : Bool) → IsScheduled (cond f ill well)
-    by true = b
-    by false = a
+    by : (f : Bool) → o.failed ≡ f → IsScheduled (cond f ill well)
+    by true e = b e
+    by false e = a
 
 told_seats : (s : State) (c : ℕ) (w : What) → SameSeats s.processors (told_from c w 0 s.processors)
 told_seats s c w = record {
@@ -292,7 +293,7 @@ module _ (s : State) (c : ℕ) (o : Outcome) (h : IsScheduled s) (there : c < le
       (cut_of_owner s.owner)))) h there may
 
   -- what an action asks of the processes is all that it wants
-  pub schedule_kept : (a : act.Action) → MaySchedule s c a → IsScheduled (after s c a o)
+  pub schedule_kept : (a : act.Action) → MaySchedule s c o a → IsScheduled (after s c a o)
   unfolding after
   schedule_kept act.IsStopped may = h
   schedule_kept act.HasEnded may = h
@@ -300,14 +301,15 @@ module _ (s : State) (c : ℕ) (o : Outcome) (h : IsScheduled s) (there : c < le
   schedule_kept act.Online may = one_changed _ refl (λ e. refl)
   schedule_kept (act.Clear w) may = one_changed _ refl (λ e. e)
   schedule_kept (act.EndTransfer t) may = by_end o _ (transfer_failed s c t o.faults)
-      (one_changed _ refl (λ e. e)) (told_after (frame_lost s c t)
+      (one_changed _ refl (λ e. e)) (λ failed. told_after (frame_lost s c t)
       (fault_told (frame_lost s c t) (Some (process_at s c)) o.faults) c None reply.Device
       (still refl refl refl refl) (one_changed _ refl (λ e. e)) (subst (λ (n : ℕ). c < n)
       (sym (length-set s.processors c _)) there) (record {
-        process = may.process;
-        its = ap (λ (p : Processor). p.cpu.process) (get_or-set_same s.processors c _ no_processor there) ∙ may.its;
-        known = may.known;
-        more = may.more;
+        process = (may failed).process;
+        its = ap (λ (p : Processor). p.cpu.process) (get_or-set_same s.processors c _ no_processor there)
+            ∙ (may failed).its;
+        known = (may failed).known;
+        more = (may failed).more;
       }))
   schedule_kept (act.Load n) may = load_kept s.plan s.runs s.processors c _ there n (drop 1 s.ready)
       (subst (λ (q : List ℕ). AreScheduled s.plan s.runs q s.processors) (front_is s n s.ready refl may.2) h) may.1 refl
@@ -346,8 +348,8 @@ module _ (s : State) (c : ℕ) (o : Outcome) (h : IsScheduled s) (there : c < le
   schedule_kept (act.TakeAway fs pairs w) may = sits_kept s _ (all_taken s c aim.Committing w fs pairs) h
   schedule_kept (act.Signal w) may =
       seats_kept s.plan s.runs s.ready s.processors (told_from c w 0 s.processors) (told_seats s c w) h
-  schedule_kept (act.FinishEviction f) may = by_end o _ (write_failed s c o.faults) h (failed_kept may)
-  schedule_kept (act.FinishPage f) may = by_end o _ (write_failed s c o.faults) h (failed_kept may)
+  schedule_kept (act.FinishEviction f) may = by_end o _ (write_failed s c o.faults) h (λ failed. failed_kept (may failed))
+  schedule_kept (act.FinishPage f) may = by_end o _ (write_failed s c o.faults) h (λ failed. failed_kept (may failed))
   schedule_kept (act.Deactivate u) may = sits_kept s _ (is_emptied s c u) h
   schedule_kept act.Commit may = command_kept (next_command s (process_at s c)) may.0 may.1 may.2
       (ap (next_command s) (sym (ap or_zero may.1)))

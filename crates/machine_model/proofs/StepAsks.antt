@@ -1,0 +1,352 @@
+-- What a step asks, along the rules in their order, follows from the whole promise and from what the calls of the store
+-- say, but for a few facts that are left.
+use Rattle.std.proofs.Common.{◌≡◌, ◌≢◌, ◌<◌, ◌≤◌, ℕ, ◌+◌, ◌*◌, Bool, true, false, not, ◌&&◌, cond, eqb, is_some, List, [], ◌∷◌}
+use Rattle.std.proofs.Common.{get_or, length, position, Option, Some, None, inl, inr, refl, sym, ap, subst, ◌∙◌, arith, zero, suc}
+use Rattle.std.specs.Prelude.{◌/◌, ◌%◌, nat_le}
+use Rattle.std.specs.List.{list_all}
+use Rattle.std.proofs.lemmas.Bool.Decides.{eqb_tells, leb_tells}
+use Rattle.script.specs.References.{reference_of}
+use Rattle.script.specs.declared.commands.Command.{Command}
+use Rattle.script.specs.declared.commands.Reference.{Reference}
+use Rattle.assoc_mem.specs.declared.HeldSeg.{HeldSeg}
+use Rattle.assoc_mem.specs.declared.What.{What}
+use Rattle.assoc_mem.specs.Held.{frame_of, seg_of}
+use Rattle.page_table.specs.declared.Ptw.{Ptw}
+use Rattle.page_table.specs.declared.Ptw.TheVariants as ptw
+use Rattle.descriptor_seg.specs.declared.Sdw.{Sdw}
+use Rattle.descriptor_seg.specs.declared.Sdw.TheVariants as sdw
+use Rattle.page_control.specs.declared.Left.TheVariants as left
+use Rattle.page_control.specs.Plain.{words_in}
+use Rattle.page_control.specs.Tied.{has_record}
+use Rattle.processor.specs.Moves.{by_descriptor, by_held, by_page, by_seg, by_word}
+use Rattle.processor.specs.declared.Move.TheVariants as move
+use Rattle.processor.specs.declared.Transfer.{Transfer}
+use Rattle.book.specs.declared.replies.Reply.TheVariants as reply
+use Rattle.flat_model.specs.References.{word_reply}
+use Rattle.machine_model.specs.Reads.{is_active}
+use Rattle.seg_control.specs.Control.{sdws_at, word_of}
+use Rattle.flat_model.specs.Legal.{MayRelease}
+use Rattle.flat_model.specs.References.{new_word, permits}
+use Rattle.flat_model.proofs.ZeroLaws.{words_zero}
+use Rattle.custody_model.specs.Allowed.{MayDeactivate}
+use Rattle.custody_model.specs.Custody.{has}
+use Rattle.machine_model.specs.declared.Aim.{Aim}
+use Rattle.machine_model.specs.declared.Aim.TheVariants as aim
+use Rattle.machine_model.specs.declared.Phase.{Phase}
+use Rattle.machine_model.specs.declared.Phase.TheVariants as phase
+use Rattle.machine_model.specs.declared.Processor.{Processor}
+use Rattle.machine_model.specs.Actions as act
+use Rattle.machine_model.specs.Actions.{action_of, by_move, clear_or, come_to, finish_of, go_on_with, has_had_its_turn}
+use Rattle.machine_model.specs.Actions.{is_empty, is_over, load_or_idle, look_of, move_of, once_cleared, own_or_run}
+use Rattle.machine_model.specs.Actions.{refer_or_take, run_process, take_or_wait, transfer_or}
+use Rattle.machine_model.specs.After.{Outcome, after}
+use Rattle.machine_model.specs.Chains.{page_at, page_or_zero}
+use Rattle.machine_model.specs.Custodial.{names}
+use Rattle.machine_model.specs.Entitled.{IsEntitledToAll}
+use Rattle.machine_model.specs.Holding.{seen}
+use Rattle.machine_model.specs.Jobs.{are_zeros, left_of, segs_gone}
+use Rattle.machine_model.specs.Keeps.{Keeps}
+use Rattle.machine_model.specs.Promise.{IsMachine}
+use Rattle.machine_model.specs.Reads.{cpu_at, cut_of_owner, descriptor_of, flat_of, frames_of_owner, is_due, next_command}
+use Rattle.machine_model.specs.Reads.{or_zero, process_at, processor_at}
+use Rattle.machine_model.specs.Said.{Says}
+use Rattle.machine_model.specs.Seen.{shown}
+use Rattle.machine_model.specs.State.{Owner, State}
+use Rattle.machine_model.proofs.ChainLaws.{going_word, has_head}
+use Rattle.machine_model.proofs.CutRights.{take_away_says}
+use Rattle.machine_model.proofs.EmptyAsks.{length_asks, victim_asks}
+use Rattle.machine_model.proofs.LookAsks.{activate_asks, answer_asks, connect_asks, create_asks}
+use Rattle.machine_model.proofs.LookFacts.{LookFinds, look_finds}
+use Rattle.machine_model.proofs.MoveAsks.{length_asks as too_long_asks, no_access_asks, through_asks, zero_asks}
+use Rattle.machine_model.proofs.OwnedLaws.{IsIdle}
+use Rattle.machine_model.proofs.PageShown.{bound_word, stored_is}
+use Rattle.machine_model.proofs.RuleKept.{Asks, AsksCommit, AsksEnd, AsksFinish, IsLooking, look_idle, look_still}
+use Rattle.machine_model.proofs.RuleKept.{process_here}
+use Rattle.machine_model.proofs.SaysLaws.{deactivated_says, eviction_failed_says, evicted_says, evicting_says, page_failed_says}
+use Rattle.machine_model.proofs.SaysLaws.{page_left_says, read_says, started_says}
+use Rattle.machine_model.proofs.ScheduleKept.{IsAnswering}
+use Rattle.machine_model.proofs.SpeakLaws.{Speaks, speaks}
+use Rattle.machine_model.proofs.StepKept.{CanFailWrite, CanLose, IsMine}
+use Rattle.machine_model.proofs.TakeAsks.{take_asks}
+use Rattle.machine_model.proofs.TieLaws.{none_some}
+use Rattle.machine_model.proofs.TransferKept.{active_at}
+
+-- ---- what is left
+
+-- Where a call of a drive failed, that the failure may be told; of a deactivation, that it may be made; of a command
+-- that takes effect, what it asks.
+abbrev pub Rests : State → ℕ → Outcome → act.Action → Type 0
+Rests s c o (act.EndTransfer t) = o.failed ≡ true → CanLose s c t o.faults × IsAnswering s c
+Rests s c o (act.FinishEviction f) = o.failed ≡ true → CanFailWrite s c o × IsAnswering s c
+Rests s c o (act.FinishPage f) = o.failed ≡ true → CanFailWrite s c o × IsAnswering s c
+Rests s c o (act.Deactivate u) = MayDeactivate (flat_of (segs_gone s (cut_of_owner s.owner)))
+    (shown (seen (segs_gone s (cut_of_owner s.owner)))) u
+Rests s c o act.Commit = AsksCommit s c (process_at s c) (next_command s (process_at s c))
+Rests s c o _ = Unit {0}
+
+abbrev Follows : State → ℕ → Outcome → act.Action → Type 0
+Follows s c o a = Says s c o a → Rests s c o a → Asks s c o a
+
+pick : (s : State) (c : ℕ) (o : Outcome) (b : Bool) (x y : act.Action) → (b ≡ true → Follows s c o x)
+    → (b ≡ false → Follows s c o y) → Follows s c o (cond b x y)
+pick s c o true x y f g = f refl
+pick s c o false x y f g = g refl
+
+negated : (b : Bool) → not b ≡ true → b ≡ false
+negated true h = absurd (let none : false ≡ true = h in cc)
+negated false h = refl
+
+not_negated : (b : Bool) → not b ≡ false → b ≡ true
+not_negated true h = refl
+not_negated false h = absurd (let none : true ≡ false = h in cc)
+
+some_of : (x : Option ℕ) (n : ℕ) → x ≡ Some n → x ≡ Some (or_zero x)
+some_of x n h = h ∙ ap (λ (y : Option ℕ). Some (or_zero y)) (sym h)
+
+-- a page of zeros that is in a frame may be given up
+zeros_at : (ws : List ℕ) (i : ℕ) → are_zeros ws ≡ true → get_or ws i 0 ≡ 0
+zeros_at [] i h = refl
+zeros_at (w ∷ ws) zero h = elim (eqb_tells w 0) [
+  | inl e ↦ e.1
+  | inr n ↦ absurd (let none : false ≡ true = sym (ap (λ (b : Bool). b && are_zeros ws) n.0) ∙ h in cc)
+]
+zeros_at (w ∷ ws) (suc i) h = zeros_at ws i (later (eqb w 0) h)
+  where
+    later : (b : Bool) → (b && are_zeros ws) ≡ true → are_zeros ws ≡ true
+    later true e = e
+    later false e = absurd (let none : false ≡ true = e in cc)
+
+release_may : (s : State) (f u p : ℕ) → Keeps s → (seen s).bound f ≡ Some (u, p)
+    → left_of (words_in s.store.pages f) ≡ left.Released → MayRelease (flat_of s) u p
+release_may s f u p k bound released = record {
+  there = stored_is s k u active p ∙ recorded (word_of s.store.ast u p) (k.book.tied.named f u p bound);
+  zeros = words_zero (flat_of s).words u p (λ i less. (let page : (1024 * p + i) / 1024 ≡ p = omega (arith, less) in
+      bound_word s k u active f (1024 * p + i) (bound ∙ ap (λ (q : ℕ). Some (u, q)) (sym page))
+      ∙ zeros_at (words_in s.store.pages f) ((1024 * p + i) % 1024) (zeros (are_zeros (words_in s.store.pages f))
+      refl released)));
+}
+  where
+    active : is_active s.store.ast u ≡ true
+    active = (let at = k.store.kept.paged.bound f u p bound in active_at s.store.ast at.0 u at.1)
+
+    recorded : (w : Ptw) → names w ≡ Some f → has_record w ≡ true
+    recorded ptw.Null e = absurd (none_some e)
+    recorded (ptw.Out n) e = absurd (none_some e)
+    recorded (ptw.Here g) e = refl
+    recorded (ptw.Leaving g) e = refl
+
+    zeros : (b : Bool) → are_zeros (words_in s.store.pages f) ≡ b → cond b left.Released left.Kept ≡ left.Released
+        → are_zeros (words_in s.store.pages f) ≡ true
+    zeros true e i = e
+    zeros false e i = absurd (let none : left.Kept ≡ left.Released = i in cc)
+
+module _ (s : State) (c : ℕ) (o : Outcome) (m : IsMachine s) (there : c < length s.processors)
+    (entitled : IsEntitledToAll s) where
+  abbrev p : Processor
+  p = processor_at s.processors c
+
+  abbrev k : ℕ
+  k = process_at s c
+
+  -- ---- a processor that runs its process by itself
+
+  take_follows : (x : Option Owner) → Follows s c o (take_or_wait x)
+  take_follows None says rests = tt
+  take_follows (Some q) says rests = tt
+
+  module _ (cmd : Command) (sp : Speaks s c k cmd) (r : Reference) (is : reference_of cmd ≡ Some r) where
+    descriptor_follows : (y : Sdw) → Follows s c o (by_move s.owner r (by_descriptor y))
+    descriptor_follows sdw.Fault = take_follows s.owner
+    descriptor_follows (sdw.Present aste mode pages) = λ says rests. tt
+
+    held_follows : (h : HeldSeg) → seg_of p.cpu.assoc r.number ≡ Some h
+        → Follows s c o (by_move s.owner r (by_held p.cpu.assoc (λ u q. word_of s.store.ast u q) r h))
+    held_follows h held = permit (permits h.mode r.kind) refl
+      where
+        word_follows : permits h.mode r.kind ≡ true → nat_le (1024 * h.pages) r.offset ≡ false → (w : Ptw)
+            → word_of s.store.ast h.uid (r.offset / 1024) ≡ w
+            → Follows s c o (by_move s.owner r (by_word w r.kind))
+        word_follows on short ptw.Null e = by (eqb (new_word 0 r.kind) 0) refl
+          where
+            by : (b : Bool) → eqb (new_word 0 r.kind) 0 ≡ b
+                → Follows s c o (by_move s.owner r (cond b (move.Plain (word_reply 0 r.kind)) move.Fault))
+            by true i = λ says rests. zero_asks s c m.keeps entitled cmd sp r is h held on short e i
+            by false i = take_follows s.owner
+        word_follows on short (ptw.Out n) e = take_follows s.owner
+        word_follows on short (ptw.Here f) e = λ says rests. tt
+        word_follows on short (ptw.Leaving f) e = take_follows s.owner
+
+        page_follows : permits h.mode r.kind ≡ true → nat_le (1024 * h.pages) r.offset ≡ false → (x : Option ℕ)
+            → frame_of p.cpu.assoc h.uid (r.offset / 1024) ≡ x
+            → Follows s c o (by_move s.owner r
+            (by_page x (word_of s.store.ast h.uid (r.offset / 1024)) r.kind))
+        page_follows on short (Some f) e = λ says rests.
+            through_asks s c m.keeps entitled cmd sp r is h held on short o f e says
+        page_follows on short None e = word_follows on short (word_of s.store.ast h.uid (r.offset / 1024)) refl
+
+        length_follows : permits h.mode r.kind ≡ true → (b : Bool) → nat_le (1024 * h.pages) r.offset ≡ b
+            → Follows s c o (by_move s.owner r (cond b (move.Plain reply.Length)
+            (by_page (frame_of p.cpu.assoc h.uid (r.offset / 1024))
+            (word_of s.store.ast h.uid (r.offset / 1024)) r.kind)))
+        length_follows on true e = λ says rests. too_long_asks s c m.keeps entitled cmd sp r is h held on e
+        length_follows on false e = page_follows on e (frame_of p.cpu.assoc h.uid (r.offset / 1024)) refl
+
+        permit : (b : Bool) → permits h.mode r.kind ≡ b
+            → Follows s c o (by_move s.owner r (cond (not b) (move.Plain reply.NoAccess)
+            (cond (nat_le (1024 * h.pages) r.offset) (move.Plain reply.Length)
+            (by_page (frame_of p.cpu.assoc h.uid (r.offset / 1024))
+            (word_of s.store.ast h.uid (r.offset / 1024)) r.kind))))
+        permit false e = λ says rests. no_access_asks s c m.keeps entitled cmd sp r is h held e
+        permit true e = length_follows e (nat_le (1024 * h.pages) r.offset) refl
+
+    refer_follows : Follows s c o (by_move s.owner r (move_of s p.cpu k r))
+    refer_follows = by (seg_of p.cpu.assoc r.number) refl
+      where
+        by : (x : Option HeldSeg) → seg_of p.cpu.assoc r.number ≡ x
+            → Follows s c o (by_move s.owner r (by_seg p.cpu.assoc (sdws_at s.store.links.descriptors k)
+            (λ u q. word_of s.store.ast u q) r x))
+        by None e = descriptor_follows (descriptor_of s.store.links k r.number)
+        by (Some h) e = held_follows h e
+
+  come_follows : p.cpu.process ≡ Some k → (x : Option Command) → next_command s k ≡ x
+      → Follows s c o (come_to s p.cpu k x)
+  come_follows its None e = take_follows s.owner
+  come_follows its (Some cmd) e = by (reference_of cmd) refl
+    where
+      sp : Speaks s c k cmd
+      sp = let one = speaks s c k m there its in
+          subst (Speaks s c k) (let same : Some one.0 ≡ Some cmd = sym one.1.next ∙ e in let is : one.0 ≡ cmd = cc in is)
+          one.1
+
+      by : (y : Option Reference) → reference_of cmd ≡ y → Follows s c o (refer_or_take s p.cpu k y)
+      by None i = take_follows s.owner
+      by (Some r) i = refer_follows cmd sp r i
+
+  run_follows : (x : Option ℕ) → p.cpu.process ≡ x → Follows s c o (run_process s p x)
+  run_follows None e = by s.ready
+    where
+      by : (xs : List ℕ) → Follows s c o (load_or_idle s xs)
+      by [] says rests = tt
+      by (n ∷ ns) says rests = tt
+  run_follows (Some n) e = pick s c o (has_had_its_turn p && not (is_empty s.ready)) act.Leave
+      (come_to s p.cpu n (next_command s n)) (λ h says rests. tt)
+      (λ h. subst (λ (j : ℕ). Follows s c o (come_to s p.cpu j (next_command s j))) (ap or_zero e)
+      (come_follows (some_of p.cpu.process n e) (next_command s k) refl))
+
+  -- ---- the owner looks
+
+  module _ (l : IsLooking s c) (cmd : Command) (sp : Speaks s c k cmd) where
+    idle : IsIdle s.owner
+    idle = look_idle s c o m.keeps there l
+
+    look_follows : (a : act.Action) → LookFinds s k cmd a → Follows s c o a
+    look_follows (act.Waits why) h says rests = tt
+    look_follows (act.Answer r) h says rests = answer_asks s c o m idle cmd sp r h
+    look_follows act.GiveUp h says rests = tt
+    look_follows (act.Activate u place) h says rests = activate_asks s c o m idle cmd sp u place h says
+    look_follows (act.Connect n u) h says rests = connect_asks s c o m idle cmd sp n u h says
+    look_follows (act.Create f u q r) h says rests = create_asks s c o m idle cmd sp f u q r h says
+    look_follows (act.Start f u q) h says rests = started_says s c o f u q m.keeps says
+    look_follows (act.Evict f) h says rests = evicting_says s c o f m.keeps says idle.cut
+    look_follows (act.Empty u) h says rests =
+        length_asks s c o k u cmd m.keeps idle (look_still s c o m.keeps there l) h says
+    look_follows (act.EmptyVictim pool chain u) h says rests =
+        victim_asks s c o k pool chain u cmd m.keeps idle (look_still s c o m.keeps there l) h says
+    look_follows (act.TakeAway fs pairs w) h says rests =
+        take_asks s k m.keeps idle c o cmd w fs pairs h.0 h.1 says
+    look_follows act.Commit h says rests = rests
+    look_follows act.IsStopped h says rests = tt
+    look_follows act.HasEnded h says rests = tt
+    look_follows act.Online h says rests = tt
+    look_follows (act.Clear w) h says rests = tt
+    look_follows (act.EndTransfer t) h says rests = absurd h
+    look_follows (act.Load n) h says rests = tt
+    look_follows act.Leave h says rests = tt
+    look_follows (act.FillSeg n) h says rests = tt
+    look_follows (act.FillPage f r) h says rests = tt
+    look_follows (act.Through f r) h says rests = absurd h
+    look_follows (act.Plain r) h says rests = absurd h
+    look_follows act.TakeSupervisor h says rests = tt
+    look_follows (act.Signal w) h says rests = tt
+    look_follows (act.FinishEviction f) h says rests = absurd h
+    look_follows (act.FinishPage f) h says rests = absurd h
+    look_follows (act.Deactivate u) h says rests = absurd h
+
+  -- ---- what was taken goes
+
+  -- the first frame that the owner took has a page
+  frame_bound : (f : ℕ) (fs : List ℕ) → frames_of_owner s.owner ≡ f ∷ fs
+      → (seen s).bound f ≡ Some ((page_at (seen s) f).0, (page_at (seen s) f).1)
+  frame_bound f fs e = m.keeps.book.tied.back f (page_at (seen s) f).0 (page_at (seen s) f).1
+      (ap names (going_word (seen s) f m.keeps.book (m.keeps.book.going_owned.frames f
+      ∙ (ap (λ (gs : List ℕ). has gs f) e ∙ has_head f fs))))
+
+  finish_follows : (a : Aim) (fs : List ℕ) → frames_of_owner s.owner ≡ fs → Follows s c o (finish_of a fs)
+  finish_follows aim.Evicting [] e says rests = tt
+  finish_follows aim.Evicting (f ∷ fs) e says rests = record {
+    well = λ h. (
+      says.never_less,
+      release_may s f (page_at (seen s) f).0 (page_at (seen s) f).1 m.keeps (frame_bound f fs e),
+      evicted_says s c o f m.keeps says h,
+    );
+    ill = λ h. (rests h).0;
+  }
+  finish_follows (aim.Deactivating u) [] e says rests =
+      record { may = rests; says = deactivated_says s c o u m.keeps says }
+  finish_follows (aim.Deactivating u) (f ∷ fs) e says rests = record {
+    well = λ h. (
+      says.never_less,
+      release_may s f (page_at (seen s) f).0 (page_at (seen s) f).1 m.keeps (frame_bound f fs e),
+      page_left_says s c o f m.keeps says h,
+    );
+    ill = λ h. (rests h).0;
+  }
+  finish_follows aim.Committing fs e says rests = rests
+
+  phase_follows : (q : IsMine s c) → p.cpu.process ≡ Some k → (x : Phase) → q.owner.phase ≡ x
+      → Follows s c o (go_on_with s k q.owner x)
+  phase_follows q its phase.Looking e = let one = speaks s c k m there its in
+      subst (λ (y : Option Command). Follows s c o (look_of s k y)) (sym one.1.next)
+      (look_follows (record { owner = q; looks = e }) one.0 one.1 (look_of s k (Some one.0)) (look_finds s k one.0))
+  phase_follows q its (phase.Taken a w) e = λ says rests. tt
+  phase_follows q its (phase.Waiting a w) e = by (position is_due s.processors)
+    where
+      by : (x : Option ℕ) → Follows s c o (once_cleared x (finish_of a q.owner.frames))
+      by None = finish_follows a q.owner.frames (ap frames_of_owner q.mine)
+      by (Some d) = λ says rests. tt
+
+  -- ---- the rules in their order
+
+  owner_follows : (x : Option Owner) → s.owner ≡ x → Follows s c o (own_or_run s c p x)
+  owner_follows None e = run_follows p.cpu.process refl
+  owner_follows (Some q) e = pick s c o (eqb q.cpu c) (go_on_with s k q q.phase) (run_process s p p.cpu.process)
+      (λ h. mine (same h)) (λ h. run_follows p.cpu.process refl)
+    where
+      same : eqb q.cpu c ≡ true → q.cpu ≡ c
+      same h = elim (eqb_tells q.cpu c) [
+        | inl y ↦ y.1
+        | inr n ↦ absurd (let none : true ≡ false = sym h ∙ n.0 in cc)
+      ]
+
+      mine : q.cpu ≡ c → Follows s c o (go_on_with s k q q.phase)
+      mine is = phase_follows (record { owner = q; mine = e; same = is })
+          (process_here s c o m.keeps there (record { owner = q; mine = e; same = is })) q.phase refl
+
+  transfer_follows : (x : Option Transfer) → p.cpu.transfer ≡ x → Follows s c o (transfer_or s c p x)
+  transfer_follows (Some t) e = λ says rests. record {
+    well = λ h. (says.never_less, read_says s c o t m.keeps says h);
+    ill = λ h. (rests h).0;
+  }
+  transfer_follows None e = owner_follows s.owner refl
+
+  clear_follows : (x : Option What) → Follows s c o (clear_or s c p x)
+  clear_follows (Some w) = λ says rests. tt
+  clear_follows None = transfer_follows p.cpu.transfer refl
+
+  -- What a step asks follows.
+  pub step_asks : Follows s c o (action_of s c)
+  unfolding action_of
+  step_asks = pick s c o s.stopped act.IsStopped _ (λ h says rests. tt)
+      (λ h. pick s c o (is_over s) act.HasEnded _ (λ e says rests. tt)
+      (λ e. pick s c o (not p.cpu.online) act.Online _ (λ off says rests. tt)
+      (λ on. clear_follows p.cpu.due)))
