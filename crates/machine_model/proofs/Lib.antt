@@ -25,6 +25,7 @@ pub mod DescriptorLaws
 pub mod DueLaws
 pub mod EmptyAsks
 pub mod Evictions
+pub mod FailLaws
 pub mod FailedDeactivation
 pub mod FailedEviction
 pub mod FailedRead

@@ -28,3 +28,4 @@ pub mod State
 pub mod Steps
 pub mod Turns
 pub mod Whole
+pub mod Working

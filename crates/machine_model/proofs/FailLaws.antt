@@ -1,0 +1,112 @@
+-- A drive's failure may be told of a command that its page was looked for.
+use Rattle.std.proofs.Common.{◌≡◌, ◌<◌, ◌≤◌, ℕ, ◌*◌, Bool, true, false, not, ◌&&◌, ◌||◌, cond, eqb, is_some, List, [], ◌∷◌}
+use Rattle.std.proofs.Common.{Option, Some, None, ◌⊎◌, inl, inr, refl, sym, ap, subst, ◌∙◌, arith}
+use Rattle.std.specs.Prelude.{nat_le, Result, Ok, Err}
+use Rattle.std.proofs.lemmas.Bool.Decides.{eqb_tells, leb_tells}
+use Rattle.script.specs.References.{reference_of}
+use Rattle.script.specs.Plans.{who_of}
+use Rattle.script.specs.declared.commands.Command.{Command}
+use Rattle.script.specs.declared.commands.Command.TheVariants as command
+use Rattle.script.specs.declared.commands.RefKind.{RefKind}
+use Rattle.script.specs.declared.commands.RefKind.TheVariants as kind
+use Rattle.script.specs.declared.commands.Reference.{Reference}
+use Rattle.book.specs.declared.replies.Reply.{Reply}
+use Rattle.book.specs.declared.replies.Reply.TheVariants as reply
+use Rattle.tree_model.specs.Access.{access_of}
+use Rattle.tree_model.specs.Tree.{Node, node_in}
+use Rattle.known_segs.specs.Known.{uid_of}
+use Rattle.seg_control.specs.Control.{kst_at}
+use Rattle.flat_model.specs.Branches.{done_at, segment_at}
+use Rattle.flat_model.specs.Commands.{is_end, reply_by, reply_to_command}
+use Rattle.flat_model.specs.Legal.{is_done, is_early, may_fail, moves_pages}
+use Rattle.flat_model.specs.Pages.{is_stored, is_stored_from}
+use Rattle.flat_model.specs.References.{is_used_up, is_volume_full, permits, reply_at, reply_of, reply_to_reference}
+use Rattle.flat_model.specs.References.{room_reply, stores_page, word_reply}
+use Rattle.flat_model.specs.Sizes.{length_of, length_reply, truncate_reply}
+use Rattle.flat_model.specs.Store.{Store, known_uid}
+use Rattle.flat_model.proofs.PageLaws.{none_from}
+use Rattle.machine_model.specs.Keeps.{Keeps}
+use Rattle.machine_model.specs.Reads.{flat_of}
+use Rattle.machine_model.specs.State.{State}
+use Rattle.machine_model.specs.Working.{IsReached, MayChange, MayFailBy}
+use Rattle.storage_ops.specs.Shown.{is_filed}
+
+word_late : (w : ℕ) (how : RefKind) → is_early (word_reply w how) ≡ false
+word_late w kind.Read = refl
+word_late w (kind.Write v) = refl
+word_late w (kind.Add v) = refl
+
+module _ (s : State) (k : ℕ) (keeps : Keeps s) where
+  abbrev t : Store
+  t = flat_of s
+
+  -- a reference to a word that is there is refused for its page alone, or its access list
+  reached_late : (r : Reference) → IsReached s.store.accounts.nodes s.store.links.known k r
+      → is_early (reply_to_reference s.plan t k r) ≡ false
+  unfolding reply_to_reference
+  reached_late r h = ap is_early (ap (reply_of s.plan t k r.offset r.kind) known
+      ∙ ap (reply_at s.plan t k r.offset r.kind) there)
+      ∙ by (permits (access_of (who_of s.plan k) h.node.rows) r.kind) (nat_le (1024 * h.node.pages) r.offset)
+      (stores_page t h.node.uid r.offset r.kind) (is_used_up t h.node.uid) (is_volume_full s.plan t h.node.volume) short
+    where
+      known : known_uid t k r.number ≡ Some h.uid
+      known = ap (λ (x : List (List (Option ℕ))). uid_of (kst_at x k) r.number) keeps.faithful.known ∙ h.stands
+
+      there : node_in t.nodes h.uid ≡ Some h.node
+      there = ap (λ (ns : List Node). node_in ns h.uid) keeps.faithful.tree.nodes ∙ h.there
+
+      short : nat_le (1024 * h.node.pages) r.offset ≡ false
+      short = elim (leb_tells (1024 * h.node.pages) r.offset) [
+        | inl e ↦ (let le = e.1 in let lt = h.within in absurd (omega (arith, le, lt)))
+        | inr m ↦ m.0
+      ]
+
+      word : Reply
+      word = word_reply (t.words h.node.uid r.offset) r.kind
+
+      by : (a b d e f : Bool) → b ≡ false → is_early (cond (not a) reply.NoAccess (cond b reply.Length
+          (cond d (cond e reply.Quota (cond f reply.NoRecord word)) word))) ≡ false
+      by false b d e f i = refl
+      by true true d e f i = absurd (let none : true ≡ false = i in cc)
+      by true false true true f i = refl
+      by true false true false true i = refl
+      by true false true false false i = word_late (t.words h.node.uid r.offset) r.kind
+      by true false false e f i = word_late (t.words h.node.uid r.offset) r.kind
+
+  segment_same : (path : List (List ℕ)) (n : Node) → segment_at s.store.accounts.nodes path ≡ Ok n
+      → segment_at t.nodes path ≡ Ok n
+  segment_same path n h = ap (λ (ns : List Node). segment_at ns path) keeps.faithful.tree.nodes ∙ h
+
+  le_is : (a b : ℕ) → nat_le a b ≡ true → a ≤ b
+  le_is a b h = elim (leb_tells a b) [ inl e ↦ e.1 | inr m ↦ absurd (let none : true ≡ false = sym h ∙ m.0 in cc) ]
+
+  changes_late : (c : Command) → MayChange s.store.accounts.nodes (is_filed s.store.accounts s.store.pages.vtocs) c
+      → may_fail c (reply_to_command s.plan t k c) ≡ true
+  unfolding length_reply truncate_reply
+  changes_late (command.Length path pages) h = ap (λ (x : Result Node Reply). is_done (length_of t.stored pages x))
+      (segment_same path h.0 h.1)
+      ∙ ap (λ (b : Bool). is_done (cond b reply.Beyond reply.Done)) (none_from t.stored h.0.uid pages (λ q le.
+      keeps.faithful.pages.stored h.0.uid q ∙ h.2 q (le_is pages q le)))
+  changes_late (command.Truncate path words) h = ap (λ (x : Result Node Reply). is_done (done_at x))
+      (segment_same path h.0 h.1)
+  changes_late _ h = absurd h
+
+  pub may_fail_is : (c : Command) → MayFailBy s.store k (Some c) → may_fail c (reply_to_command s.plan t k c) ≡ true
+  may_fail_is c (inl x) = ap (λ (y : Option Reference). cond (is_some y) (not (is_early (reply_by s.plan t k c y)))
+      (moves_pages c && is_done (reply_by s.plan t k c y))) x.1
+      ∙ ap (λ (b : Bool). not b) (reached_late x.0 x.2)
+  may_fail_is c (inr x) = changes_late c x
+
+  -- such a command isn't the end of its process
+  pub fails_more : (c : Command) → MayFailBy s.store k (Some c) → is_end c ≡ false
+  fails_more c (inl x) = by c x.1
+    where
+      by : (d : Command) → reference_of d ≡ Some x.0 → is_end d ≡ false
+      by command.End e = absurd (let none : None ≡ Some x.0 = e in cc)
+      by _ e = refl
+  fails_more c (inr x) = by c x
+    where
+      by : (d : Command) → MayChange s.store.accounts.nodes (is_filed s.store.accounts s.store.pages.vtocs) d
+          → is_end d ≡ false
+      by command.End e = absurd e
+      by _ e = refl

@@ -1,0 +1,63 @@
+-- What the owner's job rests on while it makes room: that a drive's failure may be told of its command, and that the
+-- segment that it makes inactive is a leaf that it took whole.
+use Rattle.std.specs.Prelude.{◌≡◌, ◌≢◌, ◌⊎◌, ◌<◌, ◌≤◌, ◌*◌, ℕ, Bool, true, false, List, Option, Some, None, Result, Ok}
+use Rattle.script.specs.References.{reference_of}
+use Rattle.script.specs.declared.commands.Command.{Command}
+use Rattle.script.specs.declared.commands.Command.TheVariants as command
+use Rattle.script.specs.declared.commands.Reference.{Reference}
+use Rattle.tree_model.specs.Tree.{Node, node_in}
+use Rattle.known_segs.specs.Known.{uid_of}
+use Rattle.seg_control.specs.Control.{kst_at}
+use Rattle.flat_model.specs.Branches.{segment_at}
+use Rattle.storage_ops.specs.Shown.{is_filed}
+use Rattle.custody_model.specs.Allowed.{superior_in}
+use Rattle.machine_model.specs.declared.Aim.{Aim}
+use Rattle.machine_model.specs.declared.Aim.TheVariants as aim
+use Rattle.machine_model.specs.declared.Phase.{Phase}
+use Rattle.machine_model.specs.declared.Phase.TheVariants as phase
+use Rattle.machine_model.specs.Reads.{is_active, next_command, process_at}
+use Rattle.machine_model.specs.State.{Owner, State, Storage}
+use Rattle.machine_model.specs.Whole.{TakenWhole, going_for}
+
+-- a reference is to a word of a segment that is there
+pub record IsReached (nodes : List Node) (numbers : List (List (Option ℕ))) (k : ℕ) (r : Reference) : Type 0 where
+  pub uid : ℕ
+  pub stands : uid_of (kst_at numbers k) r.number ≡ Some uid
+  pub node : Node
+  pub there : node_in nodes uid ≡ Some node
+  pub within : r.offset < 1024 * node.pages
+
+-- a `length` or a `truncate` that nothing refuses
+abbrev pub MayChange : List Node → (ℕ → ℕ → Bool) → Command → Type 0
+MayChange nodes filed (command.Length path pages) = (n : Node) × (segment_at nodes path ≡ Ok n)
+    × ((q : ℕ) → pages ≤ q → filed n.uid q ≡ false)
+MayChange nodes filed (command.Truncate path words) = (n : Node) × (segment_at nodes path ≡ Ok n)
+MayChange nodes filed _ = ⊥
+
+-- of such a command a drive's failure may be told
+abbrev pub MayFailBy : Storage → ℕ → Option Command → Type 0
+MayFailBy st k None = ⊥
+MayFailBy st k (Some c) =
+    ((r : Reference) × (reference_of c ≡ Some r) × IsReached st.accounts.nodes st.links.known k r)
+    ⊎ MayChange st.accounts.nodes (is_filed st.accounts st.pages.vtocs) c
+
+abbrev pub FailsBy : Aim → Storage → ℕ → Option Command → Type 0
+FailsBy aim.Evicting st k c = MayFailBy st k c
+FailsBy (aim.Deactivating u) st k c = MayFailBy st k c
+FailsBy aim.Committing st k c = Unit {0}
+
+abbrev pub FailsIn : Phase → Storage → ℕ → Option Command → Type 0
+FailsIn phase.Looking st k c = Unit {0}
+FailsIn (phase.Taken a w) st k c = FailsBy a st k c
+FailsIn (phase.Waiting a w) st k c = FailsBy a st k c
+
+-- a segment is active, and no active one lies below it
+pub record IsLeaf (st : Storage) (u : ℕ) : Type 0 where
+  pub active : is_active st.ast u ≡ true
+  pub inferiors : (v : ℕ) → is_active st.ast v ≡ true → superior_in (node_in st.accounts.nodes v) ≢ Some u
+
+pub record IsWorking (s : State) : Type 0 where
+  pub whole : TakenWhole s
+  pub leaf : (u : ℕ) → going_for s.owner ≡ Some u → IsLeaf s.store u
+  pub fails : (o : Owner) → s.owner ≡ Some o
+      → FailsIn o.phase s.store (process_at s o.cpu) (next_command s (process_at s o.cpu))
