@@ -25,8 +25,7 @@ use Rattle.flat_model.specs.References.{room_reply, stores_page, word_reply}
 use Rattle.flat_model.specs.Sizes.{length_of, length_reply, truncate_reply}
 use Rattle.flat_model.specs.Store.{Store, known_uid}
 use Rattle.flat_model.proofs.PageLaws.{none_from}
-use Rattle.machine_model.specs.Keeps.{Keeps}
-use Rattle.machine_model.specs.Reads.{flat_of}
+use Rattle.machine_model.specs.Keeps.{IsFaithful}
 use Rattle.machine_model.specs.State.{State}
 use Rattle.machine_model.specs.Working.{IsReached, MayChange, MayFailBy}
 use Rattle.storage_ops.specs.Shown.{is_filed}
@@ -36,10 +35,7 @@ word_late w kind.Read = refl
 word_late w (kind.Write v) = refl
 word_late w (kind.Add v) = refl
 
-module _ (s : State) (k : ℕ) (keeps : Keeps s) where
-  abbrev t : Store
-  t = flat_of s
-
+module _ (s : State) (k : ℕ) (t : Store) (shown : IsFaithful s.plan t s.store) where
   -- a reference to a word that is there is refused for its page alone, or its access list
   reached_late : (r : Reference) → IsReached s.store.accounts.nodes s.store.links.known k r
       → is_early (reply_to_reference s.plan t k r) ≡ false
@@ -50,10 +46,10 @@ module _ (s : State) (k : ℕ) (keeps : Keeps s) where
       (stores_page t h.node.uid r.offset r.kind) (is_used_up t h.node.uid) (is_volume_full s.plan t h.node.volume) short
     where
       known : known_uid t k r.number ≡ Some h.uid
-      known = ap (λ (x : List (List (Option ℕ))). uid_of (kst_at x k) r.number) keeps.faithful.known ∙ h.stands
+      known = ap (λ (x : List (List (Option ℕ))). uid_of (kst_at x k) r.number) shown.known ∙ h.stands
 
       there : node_in t.nodes h.uid ≡ Some h.node
-      there = ap (λ (ns : List Node). node_in ns h.uid) keeps.faithful.tree.nodes ∙ h.there
+      there = ap (λ (ns : List Node). node_in ns h.uid) shown.tree.nodes ∙ h.there
 
       short : nat_le (1024 * h.node.pages) r.offset ≡ false
       short = elim (leb_tells (1024 * h.node.pages) r.offset) [
@@ -75,7 +71,7 @@ module _ (s : State) (k : ℕ) (keeps : Keeps s) where
 
   segment_same : (path : List (List ℕ)) (n : Node) → segment_at s.store.accounts.nodes path ≡ Ok n
       → segment_at t.nodes path ≡ Ok n
-  segment_same path n h = ap (λ (ns : List Node). segment_at ns path) keeps.faithful.tree.nodes ∙ h
+  segment_same path n h = ap (λ (ns : List Node). segment_at ns path) shown.tree.nodes ∙ h
 
   le_is : (a b : ℕ) → nat_le a b ≡ true → a ≤ b
   le_is a b h = elim (leb_tells a b) [ inl e ↦ e.1 | inr m ↦ absurd (let none : true ≡ false = sym h ∙ m.0 in cc) ]
@@ -86,7 +82,7 @@ module _ (s : State) (k : ℕ) (keeps : Keeps s) where
   changes_late (command.Length path pages) h = ap (λ (x : Result Node Reply). is_done (length_of t.stored pages x))
       (segment_same path h.0 h.1)
       ∙ ap (λ (b : Bool). is_done (cond b reply.Beyond reply.Done)) (none_from t.stored h.0.uid pages (λ q le.
-      keeps.faithful.pages.stored h.0.uid q ∙ h.2 q (le_is pages q le)))
+      shown.pages.stored h.0.uid q ∙ h.2 q (le_is pages q le)))
   changes_late (command.Truncate path words) h = ap (λ (x : Result Node Reply). is_done (done_at x))
       (segment_same path h.0 h.1)
   changes_late _ h = absurd h

@@ -38,6 +38,7 @@ pub mod FrameLaws
 pub mod GoesLaws
 pub mod HeldLaws
 pub mod InsideLaws
+pub mod JobAsks
 pub mod JobKept
 pub mod JobLaws
 pub mod KeepLaws

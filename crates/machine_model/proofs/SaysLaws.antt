@@ -477,14 +477,14 @@ pub record IsBack (s now : State) : Type 0 where
   pub pages : now.store.pages ≡ s.store.pages
   pub flat : store_after now.plan now.entries ≡ store_after s.plan s.entries
 
-back_on : {s t u : State} → IsBack s t → IsBack t u → IsBack s u
+pub back_on : {s t u : State} → IsBack s t → IsBack t u → IsBack s u
 back_on a b = record { plan = b.plan ∙ a.plan; pages = b.pages ∙ a.pages; flat = b.flat ∙ a.flat }
 
 here_pages : (st : Storage) (f : ℕ) (x : Option (ℕ × ℕ)) → (here_if st f x).pages ≡ st.pages
 here_pages st f None = refl
 here_pages st f (Some page) = refl
 
-pages_are_back : (s : State) (fs : List ℕ) → IsBack s (pages_back s fs)
+pub pages_are_back : (s : State) (fs : List ℕ) → IsBack s (pages_back s fs)
 pages_are_back s [] = record { plan = refl; pages = refl; flat = refl }
 pages_are_back s (f ∷ fs) = back_on (record {
   plan = refl;
@@ -492,7 +492,7 @@ pages_are_back s (f ∷ fs) = back_on (record {
   flat = one_still s.plan s.entries (entry.BackPage f) refl;
 }) (pages_are_back (page_back s f) fs)
 
-segs_are_back : (s : State) (ds : List CutDescriptor) → IsBack s (segs_back s ds)
+pub segs_are_back : (s : State) (ds : List CutDescriptor) → IsBack s (segs_back s ds)
 segs_are_back s [] = record { plan = refl; pages = refl; flat = refl }
 segs_are_back s (d ∷ ds) = back_on (record {
   plan = refl;

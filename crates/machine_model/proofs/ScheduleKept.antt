@@ -44,16 +44,16 @@ use Rattle.machine_model.proofs.TieLaws.{none_some}
 
 -- ---- nobody's process and run changes
 
-record Sits (s t : State) : Type 0 where
-  plan : t.plan ≡ s.plan
-  runs : t.runs ≡ s.runs
-  ready : t.ready ≡ s.ready
-  processors : t.processors ≡ s.processors
+pub record Sits (s t : State) : Type 0 where
+  pub plan : t.plan ≡ s.plan
+  pub runs : t.runs ≡ s.runs
+  pub ready : t.ready ≡ s.ready
+  pub processors : t.processors ≡ s.processors
 
-still : {s t : State} → t.plan ≡ s.plan → t.runs ≡ s.runs → t.ready ≡ s.ready → t.processors ≡ s.processors → Sits s t
+pub still : {s t : State} → t.plan ≡ s.plan → t.runs ≡ s.runs → t.ready ≡ s.ready → t.processors ≡ s.processors → Sits s t
 still a b c d = record { plan = a; runs = b; ready = c; processors = d }
 
-sits_on : {s t u : State} → Sits s t → Sits t u → Sits s u
+pub sits_on : {s t u : State} → Sits s t → Sits t u → Sits s u
 sits_on a b = record {
   plan = b.plan ∙ a.plan;
   runs = b.runs ∙ a.runs;
@@ -90,11 +90,11 @@ segment s c u [] [] = is_emptied s c u
 segment s c u [] (x ∷ xs) = all_taken s c (aim.Deactivating u) (what.Seg u) [] (x ∷ xs)
 segment s c u (f ∷ fs) pairs = all_taken s c (aim.Deactivating u) (what.Seg u) (f ∷ fs) pairs
 
-all_pages_back : (s : State) (fs : List ℕ) → Sits s (pages_back s fs)
+pub all_pages_back : (s : State) (fs : List ℕ) → Sits s (pages_back s fs)
 all_pages_back s [] = still refl refl refl refl
 all_pages_back s (f ∷ fs) = sits_on (still refl refl refl refl) (all_pages_back (page_back s f) fs)
 
-all_segs_back : (s : State) (ds : List CutDescriptor) → Sits s (segs_back s ds)
+pub all_segs_back : (s : State) (ds : List CutDescriptor) → Sits s (segs_back s ds)
 all_segs_back s [] = still refl refl refl refl
 all_segs_back s (d ∷ ds) = sits_on (still refl refl refl refl) (all_segs_back (seg_back s d) ds)
 

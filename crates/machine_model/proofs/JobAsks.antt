@@ -1,0 +1,147 @@
+-- What the owner's job asks where a write fails, and where a segment becomes inactive, follows from what it rests on.
+use Rattle.std.proofs.Common.{◌≡◌, ◌≢◌, ◌<◌, ℕ, Bool, true, false, not, ◌&&◌, List, [], ◌∷◌, ◌++◌, length, set, Option, Some}
+use Rattle.std.proofs.Common.{None, inl, inr, refl, sym, ap, subst, ◌∙◌, arith}
+use Rattle.std.proofs.lemmas.Bool.Decides.{leb_tells}
+use Rattle.std.proofs.lemmas.List.{get_or-set_same, get_or_past}
+use Rattle.script.specs.Plans.{Plan}
+use Rattle.script.specs.References.{reference_of}
+use Rattle.script.specs.declared.commands.Command.{Command}
+use Rattle.script.specs.declared.commands.Reference.{Reference}
+use Rattle.book.specs.declared.entries.Entry.TheVariants as entry
+use Rattle.book.specs.declared.replies.Reply.TheVariants as reply
+use Rattle.flat_model.specs.Commands.{reply_to_command, takes_effect}
+use Rattle.flat_model.specs.Legal.{after_entry, after_fault, may_fail, store_after}
+use Rattle.flat_model.specs.Store.{Progress, Store, progress_of}
+use Rattle.flat_model.proofs.BookLaws.{store_after-push}
+use Rattle.custody_model.specs.Allowed.{MayAnswer as MayAnswerBy, MayDeactivate}
+use Rattle.machine_model.specs.After.{Outcome}
+use Rattle.machine_model.specs.Custodial.{IsRun}
+use Rattle.machine_model.specs.Foreseen.{AllCome}
+use Rattle.machine_model.specs.Holding.{seen}
+use Rattle.machine_model.specs.Jobs.{pages_back, segs_gone, write_failed}
+use Rattle.machine_model.specs.Keeps.{IsFaithful, Keeps, StoreSays}
+use Rattle.machine_model.specs.Promise.{IsMachine}
+use Rattle.machine_model.specs.Reads.{cpu_at, cut_of_owner, flat_of, frames_of_owner, next_command, process_at, processor_at}
+use Rattle.machine_model.specs.Reads.{or_zero, run_at}
+use Rattle.machine_model.specs.Seen.{shown}
+use Rattle.machine_model.specs.State.{State}
+use Rattle.machine_model.specs.Steps.{fault_told, with_owner}
+use Rattle.machine_model.specs.Working.{MayFailBy}
+use Rattle.machine_model.specs.declared.Processor.{Processor}
+use Rattle.machine_model.specs.declared.Run.{Run}
+use Rattle.machine_model.proofs.BackKept.{all_back}
+use Rattle.machine_model.proofs.FailLaws.{fails_more, may_fail_is}
+use Rattle.machine_model.proofs.FlatAlike.{IsAlike, alike_shown, fault_alike}
+use Rattle.machine_model.specs.Scheduled.{HasTurn}
+use Rattle.machine_model.specs.Steps.{is_its_end}
+use Rattle.machine_model.proofs.RunLaws.{runs_failed}
+use Rattle.machine_model.proofs.SaysLaws.{IsBack, back_on, pages_are_back, segs_are_back}
+use Rattle.machine_model.proofs.ScheduleKept.{IsAnswering, Sits, all_pages_back, all_segs_back, sits_on, still}
+use Rattle.machine_model.proofs.SpeakLaws.{Speaks, can_tell}
+use Rattle.machine_model.proofs.StepKept.{CanFailWrite}
+use Rattle.machine_model.proofs.TellKept.{CanTell}
+
+-- ---- a failure is told
+
+-- a process of which a failure was told may be answered so
+pub device_tell : (b : State) (c k : ℕ) (cmd : Command) → Speaks b c k cmd → (progress_of (flat_of b) k).faulted ≡ true
+    → may_fail cmd (reply_to_command b.plan (flat_of b) k cmd) ≡ true → CanTell b c k None reply.Device
+device_tell b c k cmd sp faulted may = can_tell b c k cmd None reply.Device sp
+    (inr (record { device = refl; may = may; fault = faulted })) (by (reference_of cmd))
+  where
+    off : (x : Bool) → (x && false) ≡ true → ⊥
+    off true h = let none : false ≡ true = h in cc
+    off false h = let none : false ≡ true = h in cc
+
+    by : (x : Option Reference) → MayAnswerBy b.plan (flat_of b) (shown (seen b)) c k None cmd reply.Device x
+    by (Some r) = inl refl
+    by None = record {
+      without = refl;
+      out = λ h. absurd (off (takes_effect (reply_to_command b.plan (flat_of b) k cmd)) h);
+    }
+
+-- a process that goes on is one of those that the flat store has
+going_within : (t : Store) (k : ℕ) → (progress_of t k).ended ≡ false → k < length t.processes
+going_within t k h = elim (leb_tells (length t.processes) k) [
+  | inl e ↦ absurd (let none : true ≡ false = sym (ap (λ (q : Progress). q.ended) (get_or_past t.processes k _ e.1)) ∙ h in cc)
+  | inr n ↦ n.1
+]
+
+faulted_now : (t : Store) (k : ℕ) → (progress_of t k).ended ≡ false
+    → (progress_of (after_fault t (Some k)) k).faulted ≡ true
+faulted_now t k h = ap (λ (q : Progress). q.faulted)
+    (get_or-set_same t.processes k (record (progress_of t k) { faulted = true }) _ (going_within t k h))
+
+fault_is : (s : State) (k : ℕ) → store_after s.plan (s.entries ++ entry.Fault (Some k) ∷ [])
+    ≡ after_fault (flat_of s) (Some k)
+unfolding after_entry
+fault_is s k = store_after-push s.plan s.entries (entry.Fault (Some k))
+
+-- the machine after the failure was told of a process, and steps that leave all of it as it is
+module _ (s b : State) (c k : ℕ) (cmd : Command) (keeps : Keeps s) (sp : Speaks s c k cmd) (same : Sits s b)
+    (flat : flat_of b ≡ after_fault (flat_of s) (Some k)) (may : MayFailBy s.store k (Some cmd)) where
+  speaks_still : Speaks b c k cmd
+  speaks_still = record {
+    there = subst (λ (ps : List Processor). c < length ps) (sym same.processors) sp.there;
+    known = subst (λ (rs : List Run). k < length rs) (sym same.runs) sp.known;
+    its = ap (λ (ps : List Processor). (processor_at ps c).cpu.process) same.processors ∙ sp.its;
+    next = (λ i. next_command (record s { plan = same.plan i; runs = same.runs i }) k) ∙ sp.next;
+    going = ap (λ (rs : List Run). (run_at rs k).ended) same.runs ∙ sp.going;
+    turn = subst (λ (p : Plan). HasTurn p b.runs k) (sym same.plan)
+        (subst (λ (rs : List Run). HasTurn s.plan rs k) (sym same.runs) sp.turn);
+    runs = λ j. subst (λ (rs : List Run). IsRun (progress_of (flat_of b) j) (run_at rs j)) (sym same.runs)
+        (subst (λ (t : Store). IsRun (progress_of t j) (run_at s.runs j)) (sym flat)
+        (runs_failed (flat_of s) (Some k) (λ i. run_at s.runs i) sp.runs j));
+  }
+
+  shown_still : IsFaithful s.plan (flat_of b) s.store
+  shown_still = alike_shown s.plan (flat_of s) (flat_of b) s.store
+      (subst (IsAlike (flat_of s)) (fault_is s k ∙ sym flat) (fault_alike s.plan s.entries (Some k))) keeps.faithful
+
+  pub failure_tell : CanTell b c k None reply.Device
+  failure_tell = device_tell b c k cmd speaks_still
+      (ap (λ (t : Store). (progress_of t k).faulted) flat
+      ∙ faulted_now (flat_of s) k ((sp.runs k).ended ∙ sp.going))
+      (subst (λ (p : Plan). may_fail cmd (reply_to_command p (flat_of b) k cmd) ≡ true) (sym same.plan)
+      (may_fail_is s k (flat_of b) shown_still cmd may))
+
+-- ---- a write fails
+
+module _ (s : State) (c : ℕ) (o : Outcome) (cmd : Command) (keeps : Keeps s) (sp : Speaks s c (process_at s c) cmd)
+    (may : MayFailBy s.store (process_at s c) (Some cmd)) where
+  abbrev back : State
+  back = with_owner (all_back s c o.faults (frames_of_owner s.owner) (cut_of_owner s.owner)) None
+
+  abbrev fault_state : State
+  fault_state = fault_told s (Some (process_at s c)) o.faults
+
+  back_sits : Sits s back
+  back_sits = sits_on (still refl refl refl refl)
+      (sits_on (all_pages_back fault_state (frames_of_owner s.owner)) (sits_on
+      (all_segs_back (pages_back fault_state (frames_of_owner s.owner)) (cut_of_owner s.owner))
+      (still refl refl refl refl)))
+
+  back_flat : flat_of back ≡ after_fault (flat_of s) (Some (process_at s c))
+  back_flat = (back_on (pages_are_back fault_state (frames_of_owner s.owner))
+      (segs_are_back (pages_back fault_state (frames_of_owner s.owner)) (cut_of_owner s.owner))).flat
+      ∙ fault_is s (process_at s c)
+
+  pub write_asks : s.faults < o.faults → StoreSays (write_failed s c o.faults)
+      → CanFailWrite s c o × IsAnswering s c
+  write_asks rose says = (
+    record {
+      rose = rose;
+      may = (sp.runs (process_at s c)).ended ∙ sp.going;
+      tell = subst (λ (j : ℕ). CanTell back c j None reply.Device)
+          (sym (ap (λ (ps : List Processor). or_zero (processor_at ps c).cpu.process) back_sits.processors))
+          (failure_tell s back c (process_at s c) cmd keeps sp back_sits back_flat may);
+      says = says;
+    },
+    record {
+      process = process_at s c;
+      its = sp.its;
+      known = sp.known;
+      more = ap (λ (x : Option Command). is_its_end x) sp.next
+          ∙ fails_more s (process_at s c) (flat_of s) keeps.faithful cmd may;
+    },
+  )
