@@ -429,7 +429,7 @@ module _ (s : State) (c : ℕ) (o : Outcome) (k : Keeps s) (there : c < length s
           due : is_due (processor_at s.processors d) ≡ true
           due = rw ((k.book.holding_right d).warned w e, e) refl
 
-  wait_shape : (a : Aim) (w : What) (x : HasWaited s c a w)
+  pub wait_shape : (a : Aim) (w : What) (x : HasWaited s c a w)
       → FitsPhase (phase.Waiting a w) x.owner.owner.frames x.owner.owner.cut
   wait_shape a w x = subst (λ (y : Phase). FitsPhase y x.owner.owner.frames x.owner.owner.cut) x.waits
       (subst IsShaped x.owner.mine k.book.going_owned.shaped)
@@ -441,7 +441,7 @@ module _ (s : State) (c : ℕ) (o : Outcome) (k : Keeps s) (there : c < length s
   wait_quiet a w x = ap says x.owner.mine ∙ ap says_in x.waits
 
   -- a deactivation, or a command, may have taken anything
-  wait_goes : (a : Aim) (w : What) → HasWaited s c a w
+  pub wait_goes : (a : Aim) (w : What) → HasWaited s c a w
       → ((gs : List ℕ) (ds : List CutDescriptor) → FitsPhase (phase.Waiting a w) gs ds)
       → GoesOn (seen s) (frames_of_owner s.owner) (cut_of_owner s.owner)
   wait_goes a w x steady = record {
@@ -454,7 +454,7 @@ module _ (s : State) (c : ℕ) (o : Outcome) (k : Keeps s) (there : c < length s
         (λ gs ds. subst (λ (y : Phase). FitsPhase y gs ds) (sym x.waits) (steady gs ds));
   }
 
-  frames_mine : (m : IsMine s c) → frames_of_owner s.owner ≡ m.owner.frames
+  pub frames_mine : (m : IsMine s c) → frames_of_owner s.owner ≡ m.owner.frames
   frames_mine m = ap frames_of_owner m.mine
 
   evict_can : (w : What) (f : ℕ) (fs : List ℕ) (x : HasWaited s c aim.Evicting w) → x.owner.owner.frames ≡ f ∷ fs

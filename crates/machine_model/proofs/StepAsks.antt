@@ -65,6 +65,19 @@ use Rattle.machine_model.proofs.RuleKept.{process_here}
 use Rattle.machine_model.proofs.SaysLaws.{deactivated_says, eviction_failed_says, evicted_says, evicting_says, page_failed_says}
 use Rattle.machine_model.proofs.SaysLaws.{page_left_says, read_says, started_says}
 use Rattle.machine_model.proofs.ScheduleKept.{IsAnswering}
+use Rattle.tree_model.specs.Tree.{Node, node_in}
+use Rattle.custody_model.specs.Allowed.{superior_in}
+use Rattle.flat_model.specs.Store.{Store}
+use Rattle.machine_model.specs.Jobs.{write_failed}
+use Rattle.machine_model.specs.Keeps.{StoreSays}
+use Rattle.machine_model.specs.Whole.{aimed_at, goes_in, going_for}
+use Rattle.machine_model.specs.Working.{FailsBy, FailsIn, IsLeaf, IsWorking, MayFailBy}
+use Rattle.machine_model.proofs.ActiveKept.{segs_are_gone}
+use Rattle.machine_model.proofs.ChainLaws.{GoesOn}
+use Rattle.machine_model.proofs.JobAsks.{write_asks}
+use Rattle.machine_model.proofs.RuleKept.{HasWaited, wait_goes, wait_shape}
+use Rattle.machine_model.proofs.SaysLaws.{gone_is}
+use Rattle.machine_model.proofs.WholeKept.{may_deactivate}
 use Rattle.machine_model.proofs.SpeakLaws.{Speaks, speaks}
 use Rattle.machine_model.proofs.StepKept.{CanFailWrite, CanLose, IsMine}
 use Rattle.machine_model.proofs.TakeAsks.{take_asks}
@@ -73,14 +86,9 @@ use Rattle.machine_model.proofs.TransferKept.{active_at}
 
 -- ---- what is left
 
--- Where a call of a drive failed, that the failure may be told; of a deactivation, that it may be made; of a command
--- that takes effect, what it asks.
+-- Where a page can't be read in, that the failure may be told; of a command that takes effect, what it asks.
 abbrev pub Rests : State → ℕ → Outcome → act.Action → Type 0
 Rests s c o (act.EndTransfer t) = o.failed ≡ true → CanLose s c t o.faults × IsAnswering s c
-Rests s c o (act.FinishEviction f) = o.failed ≡ true → CanFailWrite s c o × IsAnswering s c
-Rests s c o (act.FinishPage f) = o.failed ≡ true → CanFailWrite s c o × IsAnswering s c
-Rests s c o (act.Deactivate u) = MayDeactivate (flat_of (segs_gone s (cut_of_owner s.owner)))
-    (shown (seen (segs_gone s (cut_of_owner s.owner)))) u
 Rests s c o act.Commit = AsksCommit s c (process_at s c) (next_command s (process_at s c))
 Rests s c o _ = Unit {0}
 
@@ -141,7 +149,7 @@ release_may s f u p k bound released = record {
     zeros false e i = absurd (let none : left.Kept ≡ left.Released = i in cc)
 
 module _ (s : State) (c : ℕ) (o : Outcome) (m : IsMachine s) (there : c < length s.processors)
-    (entitled : IsEntitledToAll s) where
+    (entitled : IsEntitledToAll s) (working : IsWorking s) where
   abbrev p : Processor
   p = processor_at s.processors c
 
@@ -281,27 +289,66 @@ module _ (s : State) (c : ℕ) (o : Outcome) (m : IsMachine s) (there : c < leng
       (ap names (going_word (seen s) f m.keeps.book (m.keeps.book.going_owned.frames f
       ∙ (ap (λ (gs : List ℕ). has gs f) e ∙ has_head f fs))))
 
-  finish_follows : (a : Aim) (fs : List ℕ) → frames_of_owner s.owner ≡ fs → Follows s c o (finish_of a fs)
-  finish_follows aim.Evicting [] e says rests = tt
-  finish_follows aim.Evicting (f ∷ fs) e says rests = record {
+  -- a drive's failure may be told of the owner's command
+  fails_by : (a : Aim) (w : What) (x : HasWaited s c a w) → FailsBy a s.store k (next_command s k)
+  fails_by a w x = subst (λ (j : ℕ). FailsBy a s.store (process_at s j) (next_command s (process_at s j))) x.owner.same
+      (subst (λ (y : Phase). FailsIn y s.store (process_at s x.owner.owner.cpu)
+      (next_command s (process_at s x.owner.owner.cpu))) x.waits (working.fails x.owner.owner x.owner.mine))
+
+  write_follows : (x : Option Command) → next_command s k ≡ x → p.cpu.process ≡ Some k → MayFailBy s.store k x
+      → o.failed ≡ true → s.faults < o.faults → StoreSays (write_failed s c o.faults)
+      → CanFailWrite s c o × IsAnswering s c
+  write_follows None e its may h rose says = absurd may
+  write_follows (Some cmd) e its may h rose says = write_asks s c o cmd m.keeps sp may rose says
+    where
+      sp : Speaks s c k cmd
+      sp = let one = speaks s c k m there its in
+          subst (Speaks s c k) (let same : Some one.0 ≡ Some cmd = sym one.1.next ∙ e in let is : one.0 ≡ cmd = cc in is)
+          one.1
+
+  -- what goes of the segment of a deactivation is all of it
+  aim_of : (a : Aim) (w : What) → HasWaited s c a w → going_for s.owner ≡ aimed_at a
+  aim_of a w x = ap going_for x.owner.mine ∙ ap goes_in x.waits
+
+  finish_follows : (a : Aim) (w : What) (x : HasWaited s c a w) → p.cpu.process ≡ Some k → (fs : List ℕ)
+      → x.owner.owner.frames ≡ fs → Follows s c o (finish_of a fs)
+  finish_follows aim.Evicting w x its [] e says rests = tt
+  finish_follows aim.Evicting w x its (f ∷ fs) e says rests = record {
     well = λ h. (
       says.never_less,
-      release_may s f (page_at (seen s) f).0 (page_at (seen s) f).1 m.keeps (frame_bound f fs e),
+      release_may s f (page_at (seen s) f).0 (page_at (seen s) f).1 m.keeps
+          (frame_bound f fs (ap frames_of_owner x.owner.mine ∙ e)),
       evicted_says s c o f m.keeps says h,
     );
-    ill = λ h. (rests h).0;
+    ill = λ h. (write_follows (next_command s k) refl its (fails_by aim.Evicting w x) h (says.counted h)
+        (eviction_failed_says s c o f m.keeps h says)).0;
   }
-  finish_follows (aim.Deactivating u) [] e says rests =
-      record { may = rests; says = deactivated_says s c o u m.keeps says }
-  finish_follows (aim.Deactivating u) (f ∷ fs) e says rests = record {
+  finish_follows (aim.Deactivating u) w x its [] e says rests = record {
+    may = may_deactivate s u m.keeps working.whole (aim_of (aim.Deactivating u) w x)
+        (ap frames_of_owner x.owner.mine ∙ e)
+        (segs_are_gone s (cut_of_owner s.owner) m.keeps.book
+        (subst (λ (gs : List ℕ). GoesOn (seen s) gs (cut_of_owner s.owner)) (ap frames_of_owner x.owner.mine ∙ e)
+        (wait_goes s c o m.keeps there (aim.Deactivating u) w x
+        (λ gs ds. wait_shape s c o m.keeps there (aim.Deactivating u) w x)))) leaf.active
+        (λ v active h. leaf.inferiors v active
+        (ap (λ (ns : List Node). superior_in (node_in ns v)) (sym (ap (λ (t : Store). t.nodes)
+        (gone_is s (cut_of_owner s.owner)).flat ∙ m.keeps.faithful.tree.nodes)) ∙ h));
+    says = deactivated_says s c o u m.keeps says;
+  }
+    where
+      leaf : IsLeaf s.store u
+      leaf = working.leaf u (aim_of (aim.Deactivating u) w x)
+  finish_follows (aim.Deactivating u) w x its (f ∷ fs) e says rests = record {
     well = λ h. (
       says.never_less,
-      release_may s f (page_at (seen s) f).0 (page_at (seen s) f).1 m.keeps (frame_bound f fs e),
+      release_may s f (page_at (seen s) f).0 (page_at (seen s) f).1 m.keeps
+          (frame_bound f fs (ap frames_of_owner x.owner.mine ∙ e)),
       page_left_says s c o f m.keeps says h,
     );
-    ill = λ h. (rests h).0;
+    ill = λ h. (write_follows (next_command s k) refl its (fails_by (aim.Deactivating u) w x) h (says.counted h)
+        (page_failed_says s c o f m.keeps h says)).0;
   }
-  finish_follows aim.Committing fs e says rests = rests
+  finish_follows aim.Committing w x its fs e says rests = rests
 
   phase_follows : (q : IsMine s c) → p.cpu.process ≡ Some k → (x : Phase) → q.owner.phase ≡ x
       → Follows s c o (go_on_with s k q.owner x)
@@ -309,11 +356,12 @@ module _ (s : State) (c : ℕ) (o : Outcome) (m : IsMachine s) (there : c < leng
       subst (λ (y : Option Command). Follows s c o (look_of s k y)) (sym one.1.next)
       (look_follows (record { owner = q; looks = e }) one.0 one.1 (look_of s k (Some one.0)) (look_finds s k one.0))
   phase_follows q its (phase.Taken a w) e = λ says rests. tt
-  phase_follows q its (phase.Waiting a w) e = by (position is_due s.processors)
+  phase_follows q its (phase.Waiting a w) e = by (position is_due s.processors) refl
     where
-      by : (x : Option ℕ) → Follows s c o (once_cleared x (finish_of a q.owner.frames))
-      by None = finish_follows a q.owner.frames (ap frames_of_owner q.mine)
-      by (Some d) = λ says rests. tt
+      by : (x : Option ℕ) → position is_due s.processors ≡ x
+          → Follows s c o (once_cleared x (finish_of a q.owner.frames))
+      by None h = finish_follows a w (record { owner = q; waits = e; cleared = h }) its q.owner.frames refl
+      by (Some d) h = λ says rests. tt
 
   -- ---- the rules in their order
 
