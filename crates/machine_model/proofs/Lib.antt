@@ -111,3 +111,4 @@ pub mod WaitForTransfer
 pub mod WholeKept
 pub mod WholeLaws
 pub mod WordLaws
+pub mod WorkKept

@@ -1,0 +1,192 @@
+-- What the owner's job rests on stays so through every action.
+use Rattle.std.proofs.Common.{◌≡◌, ◌≢◌, ◌<◌, ◌≤◌, ℕ, Bool, true, false, not, ◌&&◌, cond, eqb, is_some, List, [], ◌∷◌, ◌++◌}
+use Rattle.std.proofs.Common.{length, map, set, Option, Some, None, ◌⊎◌, inl, inr, refl, sym, ap, subst, ◌∙◌, arith}
+use Rattle.std.specs.Prelude.{nat_le, Result, Ok, Err}
+use Rattle.std.proofs.lemmas.Bool.Decides.{eqb_tells, leb_tells}
+use Rattle.std.proofs.lemmas.List.{get_or-set_other, length-set}
+use Rattle.script.specs.Plans.{Plan}
+use Rattle.script.specs.References.{reference_of}
+use Rattle.script.specs.declared.commands.Command.{Command}
+use Rattle.script.specs.declared.commands.Command.TheVariants as command
+use Rattle.script.specs.declared.commands.Reference.{Reference}
+use Rattle.assoc_mem.specs.declared.What.{What}
+use Rattle.assoc_mem.specs.declared.What.TheVariants as what
+use Rattle.book.specs.declared.entries.Entry.{Entry}
+use Rattle.book.specs.declared.entries.Entry.TheVariants as entry
+use Rattle.book.specs.declared.replies.Reply.{Reply}
+use Rattle.book.specs.declared.replies.Reply.TheVariants as reply
+use Rattle.tree_model.specs.Tree.{Node, node_in}
+use Rattle.flat_model.specs.Branches.{segment_at}
+use Rattle.flat_model.specs.Legal.{store_after}
+use Rattle.flat_model.specs.Pages.{is_stored, is_stored_from}
+use Rattle.flat_model.specs.Sizes.{length_of, length_reply}
+use Rattle.flat_model.specs.Store.{Store}
+use Rattle.flat_model.proofs.PageLaws.{stored_from}
+use Rattle.storage_ops.specs.Shown.{is_filed, refusal}
+use Rattle.custody_model.specs.Allowed.{superior_in}
+use Rattle.custody_model.specs.Clean.{custody_after}
+use Rattle.custody_model.specs.Custody.{Custody}
+use Rattle.custody_model.proofs.CleanLaws.{custody_after-push}
+use Rattle.machine_model.specs.declared.Aim.{Aim}
+use Rattle.machine_model.specs.declared.Aim.TheVariants as aim
+use Rattle.machine_model.specs.declared.Phase.{Phase}
+use Rattle.machine_model.specs.declared.Phase.TheVariants as phase
+use Rattle.machine_model.specs.declared.Processor.{Processor}
+use Rattle.machine_model.specs.declared.Run.{Run}
+use Rattle.machine_model.specs.Holding.{holding}
+use Rattle.machine_model.specs.Keeps.{Keeps}
+use Rattle.machine_model.specs.Promise.{IsMachine}
+use Rattle.machine_model.specs.Reads.{cpu_at, flat_of, is_active, next_command, no_processor, no_run, or_zero}
+use Rattle.machine_model.specs.Reads.{process_at, processor_at, run_at}
+use Rattle.machine_model.specs.Refusal.{outside_refusal, refusal_of, uid_of_number}
+use Rattle.known_segs.specs.Known.{uid_of}
+use Rattle.seg_control.specs.Control.{kst_at}
+use Rattle.machine_model.specs.State.{Owner, State, Storage}
+use Rattle.machine_model.specs.Whole.{IsWhole, Spares, TakenWhole, going_for}
+use Rattle.machine_model.specs.Working.{FailsBy, FailsIn, IsLeaf, IsReached, IsWorking, MayChange, MayFailBy}
+use Rattle.machine_model.proofs.CommandFacts.{LeadsToSegment, length_stands, truncate_stands}
+use Rattle.machine_model.proofs.FlatAlike.{append_assoc, append_nil}
+use Rattle.machine_model.proofs.InsideLaws.{inside_is}
+use Rattle.machine_model.proofs.KeepLaws.{IsNoOwner}
+use Rattle.machine_model.proofs.LookFacts.{FindsActive, FindsCut, FindsFull, FindsPage, FindsVictim, IsAbout}
+use Rattle.machine_model.proofs.TieLaws.{none_some}
+use Rattle.machine_model.proofs.WholeLaws.{whole_idle, whole_next}
+
+no_and : {b : Bool} → b ≡ true → b ≡ false → ⊥
+no_and t f = let none : true ≡ false = sym t ∙ f in cc
+
+-- ---- entries that spare a segment
+
+abbrev pub AllSpare : ℕ → List Entry → Type 0
+AllSpare u [] = Unit {0}
+AllSpare u (e ∷ es) = Spares u e × AllSpare u es
+
+whole_list : (p : Plan) (es more : List Entry) (u : ℕ) → IsWhole (custody_after p es) u → AllSpare u more
+    → IsWhole (custody_after p (es ++ more)) u
+whole_list p es [] u w spare = subst (λ (xs : List Entry). IsWhole (custody_after p xs) u) (sym (append_nil es)) w
+whole_list p es (e ∷ more) u w spare = subst (λ (xs : List Entry). IsWhole (custody_after p xs) u)
+    (append_assoc es (e ∷ []) more)
+    (whole_list p (es ++ e ∷ []) more u (subst (λ (c : Custody). IsWhole c u) (sym (custody_after-push p es e))
+    (whole_next p (store_after p es) (custody_after p es) u e w spare.0)) spare.1)
+
+-- what goes of a segment is all of it still
+whole_on : (s now : State) (more : List Entry) (u : ℕ) → Keeps s → Keeps now → now.plan ≡ s.plan
+    → now.entries ≡ s.entries ++ more → IsWhole (holding s) u → AllSpare u more → IsWhole (holding now) u
+whole_on s now more u k kept plan entries w spare = subst (λ (c : Custody). IsWhole c u)
+    (sym (kept.book.held ∙ λ i. custody_after (plan i) (entries i)))
+    (whole_list s.plan s.entries more u (subst (λ (c : Custody). IsWhole c u) k.book.held w) spare)
+
+-- ---- of which commands a failure may be told, by tables that are as before
+
+-- nodes and numbers are as before, and no page more is stored
+pub record IsLess (old now : Storage) : Type 0 where
+  pub nodes : now.accounts.nodes ≡ old.accounts.nodes
+  pub known : now.links.known ≡ old.links.known
+  pub filed : (u q : ℕ) → is_filed old.accounts old.pages.vtocs u q ≡ false
+      → is_filed now.accounts now.pages.vtocs u q ≡ false
+
+fails_less : (old now : Storage) (k : ℕ) (x : Option Command) → IsLess old now → MayFailBy old k x → MayFailBy now k x
+fails_less old now k None less h = absurd h
+fails_less old now k (Some c) less (inl h) = inl (h.0, h.1, record {
+  uid = h.2.uid;
+  stands = ap (λ (x : List (List (Option ℕ))). uid_of (kst_at x k) h.0.number) less.known ∙ h.2.stands;
+  node = h.2.node;
+  there = ap (λ (ns : List Node). node_in ns h.2.uid) less.nodes ∙ h.2.there;
+  within = h.2.within;
+})
+fails_less old now k (Some c) less (inr h) = inr (by c h)
+  where
+    by : (d : Command) → MayChange old.accounts.nodes (is_filed old.accounts old.pages.vtocs) d
+        → MayChange now.accounts.nodes (is_filed now.accounts now.pages.vtocs) d
+    by (command.Length path pages) x = (
+      x.0,
+      ap (λ (ns : List Node). segment_at ns path) less.nodes ∙ x.1,
+      λ q le. less.filed x.0.uid q (x.2 q le),
+    )
+    by (command.Truncate path words) x = (x.0, ap (λ (ns : List Node). segment_at ns path) less.nodes ∙ x.1)
+    by _ x = absurd x
+
+fails_by_less : (a : Aim) (old now : Storage) (k : ℕ) (x : Option Command) → IsLess old now → FailsBy a old k x
+    → FailsBy a now k x
+fails_by_less aim.Evicting old now k x less h = fails_less old now k x less h
+fails_by_less (aim.Deactivating u) old now k x less h = fails_less old now k x less h
+fails_by_less aim.Committing old now k x less h = tt
+
+fails_in_less : (ph : Phase) (old now : Storage) (k : ℕ) (x : Option Command) → IsLess old now → FailsIn ph old k x
+    → FailsIn ph now k x
+fails_in_less phase.Looking old now k x less h = tt
+fails_in_less (phase.Taken a w) old now k x less h = fails_by_less a old now k x less h
+fails_in_less (phase.Waiting a w) old now k x less h = fails_by_less a old now k x less h
+
+-- ---- what a look finds
+
+-- no page past the length that a `length` sets is stored
+none_from_is : (s : State) (k : ℕ) (path : List (List ℕ)) (pages : ℕ) (n : Node)
+    → segment_at (flat_of s).nodes path ≡ Ok n → refusal_of s k (command.Length path pages) ≡ None
+    → is_stored_from (flat_of s).stored n.uid pages ≡ false
+unfolding refusal_of length_reply
+none_from_is s k path pages n found stands = by (is_stored_from (flat_of s).stored n.uid pages)
+    (sym (ap (λ (x : Result Node Reply). refusal (length_of (flat_of s).stored pages x)) found) ∙ stands)
+  where
+    by : (b : Bool) → refusal (cond b reply.Beyond reply.Done) ≡ None → b ≡ false
+    by false e = refl
+    by true e = absurd (let none : Some reply.Beyond ≡ None = e in cc)
+
+module _ (s : State) (k : ℕ) (cmd : Command) (keeps : Keeps s) where
+  reference_fails : (r : Reference) → reference_of cmd ≡ Some r → outside_refusal s k r ≡ None
+      → MayFailBy s.store k (Some cmd)
+  reference_fails r is inside = let h = inside_is s k r keeps inside in inl (r, is, record {
+    uid = uid_of_number s.store k r.number;
+    stands = ap (λ (x : List (List (Option ℕ))). uid_of (kst_at x k) r.number) (sym keeps.faithful.known) ∙ h.known;
+    node = h.node;
+    there = ap (λ (ns : List Node). node_in ns (uid_of_number s.store k r.number)) (sym keeps.faithful.tree.nodes)
+        ∙ h.there;
+    within = h.within;
+  })
+
+  same_path : (path : List (List ℕ)) (n : Node) → segment_at (flat_of s).nodes path ≡ Ok n
+      → segment_at s.store.accounts.nodes path ≡ Ok n
+  same_path path n h = ap (λ (ns : List Node). segment_at ns path) (sym keeps.faithful.tree.nodes) ∙ h
+
+  truncate_fails : (path : List (List ℕ)) (words : ℕ) → cmd ≡ command.Truncate path words → refusal_of s k cmd ≡ None
+      → MayFailBy s.store k (Some cmd)
+  truncate_fails path words is stands = let leads = truncate_stands s k keeps path words
+      (subst (λ (c : Command). refusal_of s k c ≡ None) is stands) in
+      subst (λ (c : Command). MayFailBy s.store k (Some c)) (sym is)
+      (inr (leads.node, same_path path leads.node leads.found))
+
+  pub page_fails : (uid page : ℕ) → ((r : Reference) × FindsPage s k cmd r uid page) ⊎ FindsCut s k cmd uid page
+      → MayFailBy s.store k (Some cmd)
+  page_fails uid page (inl x) = reference_fails x.0 x.1.is x.1.inside
+  page_fails uid page (inr x) = truncate_fails x.path x.words x.is x.stands
+
+  pub about_fails : (u : ℕ) → IsAbout s k cmd u → MayFailBy s.store k (Some cmd)
+  about_fails u h = elim h.case [
+    | inl x ↦ reference_fails x.0 x.1 x.3
+    | inr x ↦ truncate_fails x.0 x.1 x.2 x.3
+  ]
+
+  pub length_fails : (u : ℕ) → FindsActive s k cmd u → MayFailBy s.store k (Some cmd)
+  length_fails u finds = subst (λ (c : Command). MayFailBy s.store k (Some c)) (sym finds.is)
+      (inr (leads.node, same_path finds.path leads.node leads.found, none_filed))
+    where
+      stands : refusal_of s k (command.Length finds.path finds.pages) ≡ None
+      stands = subst (λ (c : Command). refusal_of s k c ≡ None) finds.is finds.stands
+
+      leads : LeadsToSegment s finds.path
+      leads = length_stands s k keeps finds.path finds.pages stands
+
+      none_filed : (q : ℕ) → finds.pages ≤ q → is_filed s.store.accounts s.store.pages.vtocs leads.node.uid q ≡ false
+      none_filed q le = sym (keeps.faithful.pages.stored leads.node.uid q)
+          ∙ by (is_stored (flat_of s).stored leads.node.uid q) refl
+        where
+          le_tells : nat_le finds.pages q ≡ true
+          le_tells = elim (leb_tells finds.pages q) [
+            | inl e ↦ e.0
+            | inr n ↦ (let lt = n.1 in absurd (omega (arith, lt, le)))
+          ]
+
+          by : (b : Bool) → is_stored (flat_of s).stored leads.node.uid q ≡ b → b ≡ false
+          by false e = refl
+          by true e = absurd (no_and (stored_from (flat_of s).stored leads.node.uid finds.pages q e le_tells)
+              (none_from_is s k finds.path finds.pages leads.node leads.found stands))
