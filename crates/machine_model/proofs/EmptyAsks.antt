@@ -55,7 +55,7 @@ own : (n : ℕ) → eqb n n ≡ true
 own n = elim (eqb_tells n n) [ inl e ↦ e.0 | inr m ↦ absurd (m.1 refl) ]
 
 -- no page of a segment is being read
-unread_any : (core : Core) (u : ℕ) → frame_reading core u any_page ≡ None → (f p : ℕ)
+pub unread_any : (core : Core) (u : ℕ) → frame_reading core u any_page ≡ None → (f p : ℕ)
     → read_at (reads_of core) f ≢ Some (u, p)
 unread_any core u h f p e = no_and passes (position_none
     (λ x. is_page_of u any_page (started_page x)) core.frames frame.Free f h refl)
@@ -110,7 +110,7 @@ module _ (s : State) (c u : ℕ) (k : Keeps s) (idle : IsIdle s.owner) (still : 
 -- ---- for its length
 
 -- what lies below something lies below a directory
-segment_inferiors : (s : State) (u : ℕ) (n : Node) → Keeps s → node_in s.store.accounts.nodes u ≡ Some n
+pub segment_inferiors : (s : State) (u : ℕ) (n : Node) → Keeps s → node_in s.store.accounts.nodes u ≡ Some n
     → n.directory ≡ false → (v : ℕ) → node_superior (node_in (flat_of s).nodes v) ≢ Some u
 segment_inferiors s u n k at segment v h = by (node_in s.store.accounts.nodes v) refl
     (ap (λ (ns : List Node). node_superior (node_in ns v)) (sym k.faithful.tree.nodes) ∙ h)

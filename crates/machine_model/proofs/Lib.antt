@@ -112,3 +112,4 @@ pub mod WholeKept
 pub mod WholeLaws
 pub mod WordLaws
 pub mod WorkKept
+pub mod WorkStep

@@ -399,7 +399,7 @@ module _ (s : State) (c : ℕ) (o : Outcome) (t : Transfer) (k : Keeps s) (says 
 
 -- ---- a page leaves its frame
 
-left_flat : (p : Plan) (es : List Entry) (f : ℕ) (how : Left) (page : ℕ × ℕ)
+pub left_flat : (p : Plan) (es : List Entry) (f : ℕ) (how : Left) (page : ℕ × ℕ)
     → store_after p (es ++ entries_left f how page) ≡ without_left how page (store_after p es)
 unfolding after_entry
 left_flat p es f left.Released page = ap (store_after p)

@@ -216,7 +216,7 @@ by_end o well ill a b = by o.failed refl
     by true e = b e
     by false e = a
 
-told_seats : (s : State) (c : ℕ) (w : What) → SameSeats s.processors (told_from c w 0 s.processors)
+pub told_seats : (s : State) (c : ℕ) (w : What) → SameSeats s.processors (told_from c w 0 s.processors)
 told_seats s c w = record {
   process = λ d. ap (λ (p : Processor). p.cpu.process) (told_reads c w s.processors 0 d)
       ∙ process (0 + d) (processor_at s.processors d);

@@ -70,7 +70,7 @@ whole_list p es (e ∷ more) u w spare = subst (λ (xs : List Entry). IsWhole (c
     (whole_next p (store_after p es) (custody_after p es) u e w spare.0)) spare.1)
 
 -- what goes of a segment is all of it still
-whole_on : (s now : State) (more : List Entry) (u : ℕ) → Keeps s → Keeps now → now.plan ≡ s.plan
+pub whole_on : (s now : State) (more : List Entry) (u : ℕ) → Keeps s → Keeps now → now.plan ≡ s.plan
     → now.entries ≡ s.entries ++ more → IsWhole (holding s) u → AllSpare u more → IsWhole (holding now) u
 whole_on s now more u k kept plan entries w spare = subst (λ (c : Custody). IsWhole c u)
     (sym (kept.book.held ∙ λ i. custody_after (plan i) (entries i)))
@@ -85,7 +85,7 @@ pub record IsLess (old now : Storage) : Type 0 where
   pub filed : (u q : ℕ) → is_filed old.accounts old.pages.vtocs u q ≡ false
       → is_filed now.accounts now.pages.vtocs u q ≡ false
 
-fails_less : (old now : Storage) (k : ℕ) (x : Option Command) → IsLess old now → MayFailBy old k x → MayFailBy now k x
+pub fails_less : (old now : Storage) (k : ℕ) (x : Option Command) → IsLess old now → MayFailBy old k x → MayFailBy now k x
 fails_less old now k None less h = absurd h
 fails_less old now k (Some c) less (inl h) = inl (h.0, h.1, record {
   uid = h.2.uid;
@@ -112,7 +112,7 @@ fails_by_less aim.Evicting old now k x less h = fails_less old now k x less h
 fails_by_less (aim.Deactivating u) old now k x less h = fails_less old now k x less h
 fails_by_less aim.Committing old now k x less h = tt
 
-fails_in_less : (ph : Phase) (old now : Storage) (k : ℕ) (x : Option Command) → IsLess old now → FailsIn ph old k x
+pub fails_in_less : (ph : Phase) (old now : Storage) (k : ℕ) (x : Option Command) → IsLess old now → FailsIn ph old k x
     → FailsIn ph now k x
 fails_in_less phase.Looking old now k x less h = tt
 fails_in_less (phase.Taken a w) old now k x less h = fails_by_less a old now k x less h
