@@ -154,7 +154,7 @@ length_asks s c o j u cmd k idle still finds says = empty_asks s c u k idle stil
 -- ---- the victim of a pool
 
 -- the hands of the pools are seen by nobody
-hand_says : (s : State) (pool : ℕ) (chain : List ℕ) → Keeps s
+pub hand_says : (s : State) (pool : ℕ) (chain : List ℕ) → Keeps s
     → StoreSays (with_store s (with_hand_moved s.store pool chain))
 hand_says s pool chain k = by (first_off_chain s.store.ast pool chain)
   where

@@ -2,7 +2,25 @@
 use Rattle.std.proofs.Common.{◌≡◌, ◌≢◌, ◌<◌, ℕ, Bool, true, false, not, ◌&&◌, cond, eqb, is_some, List, [], ◌∷◌, ◌++◌}
 use Rattle.std.proofs.Common.{length, set, Option, Some, None, ◌⊎◌, inl, inr, refl, sym, ap, subst, ◌∙◌}
 use Rattle.std.proofs.lemmas.Bool.Decides.{eqb_tells}
-use Rattle.std.proofs.lemmas.List.{get_or-set_other, length-set}
+use Rattle.std.proofs.lemmas.List.{get_or-set_other, get_or-set_same}
+use Rattle.std.specs.Prelude.{◌%◌}
+use Rattle.script.specs.declared.commands.Reference.{Reference}
+use Rattle.vtoc.specs.Vtoc.{Entry as VtocEntry}
+use Rattle.page_control.specs.Effects.{referred, word_put}
+use Rattle.active_segs.specs.Active.{HasNoInferior, uid_at}
+use Rattle.flat_model.specs.References.{alters, new_word}
+use Rattle.machine_model.specs.Jobs.{eviction_done, leaving_if, phase_signalled, with_choice, with_left}
+use Rattle.machine_model.specs.Refusal.{refusal_of, uid_of_command}
+use Rattle.machine_model.specs.Seen.{read_use}
+use Rattle.machine_model.specs.Steps.{old_word, run_after}
+use Rattle.machine_model.proofs.CommandFacts.{LeadsToSegment, length_stands}
+use Rattle.machine_model.proofs.EmptyAsks.{hand_says}
+use Rattle.machine_model.proofs.LeafLaws.{leaf_inferiors, victim_leaf}
+use Rattle.machine_model.proofs.ListLaws.{within_by}
+use Rattle.machine_model.proofs.LookFacts.{FindsActive, FindsFull, FindsVictim}
+use Rattle.machine_model.proofs.StepKept.{hand_kept}
+use Rattle.machine_model.proofs.TransferKept.{active_at}
+use Rattle.machine_model.proofs.WorkKept.{about_fails, length_fails, page_fails}
 use Rattle.script.specs.Plans.{Plan, command_at}
 use Rattle.script.specs.declared.commands.Command.{Command}
 use Rattle.assoc_mem.specs.declared.What.{What}
@@ -221,3 +239,354 @@ module _ (s : State) (c u : ℕ) (k : Keeps s) (idle : IsIdle s.owner) (none : g
   pub begun_work : IsWorking (deactivation_begun s c u)
   begun_work = by_lists (frames_from s.store.ast u 0) (trailers_in s.store u)
       (begun_whole s c u k idle none active (unread_any s.store.pages.core u unread))
+
+-- ---- the owner goes on
+
+module _ (s : State) (c : ℕ) (k : Keeps s) (w : IsWorking s) where
+  goes_signalled : (o : Option Owner) → going_for (owner_signalled o) ≡ going_for o
+  goes_signalled None = refl
+  goes_signalled (Some q) = by q.phase
+    where
+      by : (x : Phase) → goes_in (phase_signalled x) ≡ goes_in x
+      by phase.Looking = refl
+      by (phase.Taken a v) = refl
+      by (phase.Waiting a v) = refl
+
+  fails_signalled : (x : Phase) (st : Storage) (j : ℕ) (y : Option Command) → FailsIn x st j y
+      → FailsIn (phase_signalled x) st j y
+  fails_signalled phase.Looking st j y h = h
+  fails_signalled (phase.Taken a v) st j y h = h
+  fails_signalled (phase.Waiting a v) st j y h = h
+
+  signal_work : (what : What) → Keeps (signalled s c what) → IsWorking (signalled s c what)
+  signal_work what kept = record {
+    whole = record {
+      whole = λ u h. whole_on s (signalled s c what) (entry.Signal c what ∷ []) u k kept refl refl
+          (w.whole.whole u (sym (goes_signalled s.owner) ∙ h)) (tt, tt);
+    };
+    leaf = λ u h. w.leaf u (sym (goes_signalled s.owner) ∙ h);
+    fails = λ q h. by s.owner refl q h;
+  }
+    where
+      by : (o : Option Owner) → s.owner ≡ o → (q : Owner) → owner_signalled o ≡ Some q
+          → FailsIn q.phase s.store (process_at (signalled s c what) q.cpu)
+          (next_command (signalled s c what) (process_at (signalled s c what) q.cpu))
+      by None e q h = absurd (none_some h)
+      by (Some x) e q h = subst (λ (y : Owner). FailsIn y.phase s.store (process_at (signalled s c what) y.cpu)
+          (next_command (signalled s c what) (process_at (signalled s c what) y.cpu)))
+          (some_same _ q h)
+          (subst (λ (j : ℕ). FailsIn (phase_signalled x.phase) s.store j (next_command (signalled s c what) j))
+          (sym (ap or_zero ((told_seats s c what).process x.cpu)))
+          (fails_signalled x.phase s.store (process_at s x.cpu) (next_command s (process_at s x.cpu)) (w.fails x e)))
+
+  -- a page has left its frame
+  goes_less : (o : Option Owner) → going_for (without_first_frame o) ≡ going_for o
+  goes_less None = refl
+  goes_less (Some q) = refl
+
+  spares_left : (u f : ℕ) (how : Left) (page : ℕ × ℕ) → AllSpare u (entries_left f how page)
+  spares_left u f left.Released page = (tt, (tt, tt))
+  spares_left u f left.Kept page = (tt, tt)
+
+  nodes_left : (how : Left) (f : ℕ) (page : ℕ × ℕ) → (with_left s.store f how page).accounts.nodes
+      ≡ s.store.accounts.nodes
+  nodes_left left.Released f page = refl
+  nodes_left left.Kept f page = refl
+
+  page_work : (f faults : ℕ) → Keeps (page_done (with_faults s faults) f)
+      → IsWorking (page_done (with_faults s faults) f)
+  page_work f faults kept = record {
+    whole = record {
+      whole = λ u h. whole_on s now (entries_left f how (page_in s.store f)) u k kept refl refl
+          (w.whole.whole u (sym (goes_less s.owner) ∙ h)) (spares_left u f how (page_in s.store f));
+    };
+    leaf = λ u h. leaf_like s.store now.store u (nodes_left how f (page_in s.store f)) (λ v. refl)
+        (w.leaf u (sym (goes_less s.owner) ∙ h));
+    fails = λ q h. by s.owner refl q h;
+  }
+    where
+      now : State
+      now = page_done (with_faults s faults) f
+
+      how : Left
+      how = left_of (words_in s.store.pages f)
+
+      stored_less : (x : Left) (page : ℕ × ℕ) (u q : ℕ) → is_stored (flat_of s).stored u q ≡ false
+          → is_stored (without_left x page (flat_of s)).stored u q ≡ false
+      stored_less left.Released page u q e = is_stored-without (flat_of s).stored page.0 (λ i. eqb i page.1) u q
+          ∙ (ap (λ (b : Bool). not (eqb u page.0 && eqb q page.1) && b) e ∙ off (not (eqb u page.0 && eqb q page.1)))
+        where
+          off : (b : Bool) → (b && false) ≡ false
+          off true = refl
+          off false = refl
+      stored_less left.Kept page u q e = e
+
+      less : IsLess s.store now.store
+      less = record {
+        nodes = nodes_left how f (page_in s.store f);
+        known = refl;
+        filed = λ u q e. sym (kept.faithful.pages.stored u q)
+            ∙ (ap (λ (t : Store). is_stored t.stored u q) (left_flat s.plan s.entries f how (page_in s.store f))
+            ∙ stored_less how (page_in s.store f) u q (k.faithful.pages.stored u q ∙ e));
+      }
+
+      by : (o : Option Owner) → s.owner ≡ o → (q : Owner) → without_first_frame o ≡ Some q
+          → FailsIn q.phase now.store (process_at s q.cpu) (next_command s (process_at s q.cpu))
+      by None e q h = absurd (none_some h)
+      by (Some x) e q h = subst (λ (y : Owner). FailsIn y.phase now.store (process_at s y.cpu)
+          (next_command s (process_at s y.cpu))) (some_same _ q h)
+          (fails_in_less x.phase s.store now.store (process_at s x.cpu) (next_command s (process_at s x.cpu)) less
+          (w.fails x e))
+
+-- ---- each action
+
+-- a look finds this for the command of its process
+pub record Looks (s : State) (c : ℕ) (Finds : Command → Type 0) : Type 0 where
+  pub looking : IsLooking s c
+  pub idle : IsIdle s.owner
+  pub command : Command
+  pub next : next_command s (process_at s c) ≡ Some command
+  pub finds : Finds command
+
+-- what an action asks of the owner's job
+abbrev pub MayWork : State → ℕ → Outcome → act.Action → Type 0
+MayWork s c o act.Online = IsNoOwner s c
+MayWork s c o (act.Clear w) = IsNoOwner s c
+MayWork s c o (act.EndTransfer t) = IsNoOwner s c × ((cpu_at s.processors c).transfer ≡ Some t)
+    × (o.failed ≡ true → (cpu_at s.processors c).process ≡ Some (process_at s c))
+MayWork s c o (act.Load n) = IsNoOwner s c
+MayWork s c o act.Leave = IsNoOwner s c
+MayWork s c o (act.FillSeg n) = IsNoOwner s c
+MayWork s c o (act.FillPage f r) = IsNoOwner s c
+MayWork s c o (act.Through f r) = IsNoOwner s c × ((cpu_at s.processors c).process ≡ Some (process_at s c))
+MayWork s c o (act.Plain r) = IsNoOwner s c × ((cpu_at s.processors c).process ≡ Some (process_at s c))
+MayWork s c o (act.Activate u place) = IsLooking s c
+MayWork s c o (act.Connect n u) = IsLooking s c
+MayWork s c o (act.Evict f) = Looks s c (λ x. FindsFull s (process_at s c) x f)
+MayWork s c o (act.Empty u) = Looks s c (λ x. FindsActive s (process_at s c) x u)
+MayWork s c o (act.EmptyVictim pool chain u) = Looks s c (λ x. FindsVictim s (process_at s c) x pool chain u)
+MayWork s c o (act.TakeAway fs pairs w) = IsLooking s c × IsIdle s.owner × ((fs ≢ []) ⊎ (pairs ≢ []))
+MayWork s c o (act.Signal w) = IsMine s c
+MayWork s c o (act.FinishPage f) = IsMine s c
+MayWork s c o _ = Unit {0}
+
+by_end : (o : Outcome) (well ill : State) → Keeps (cond o.failed ill well) → (Keeps well → IsWorking well)
+    → (o.failed ≡ true → Keeps ill → IsWorking ill) → IsWorking (cond o.failed ill well)
+by_end o well ill kept a b = by o.failed refl kept
+  where
+    by : (f : Bool) → o.failed ≡ f → Keeps (cond f ill well) → IsWorking (cond f ill well)
+    by true e h = b e h
+    by false e h = a h
+
+looking_goes : (s : State) (c : ℕ) → IsLooking s c → going_for s.owner ≡ None
+looking_goes s c l = ap going_for l.owner.mine ∙ ap goes_in l.looks
+
+module _ (s : State) (c : ℕ) (o : Outcome) (m : IsMachine s) (w : IsWorking s) where
+  abbrev keeps : Keeps s
+  keeps = m.keeps
+
+  -- another process's command is answered, through a frame or without one
+  other_told : (st : Storage) (f : Option ℕ) (r : Reply) → IsNoOwner s c
+      → (cpu_at s.processors c).process ≡ Some (process_at s c) → IsLess s.store st
+      → ((u : ℕ) → is_active st.ast u ≡ is_active s.store.ast u)
+      → Keeps (told (with_store s st) c f r) → IsWorking (told (with_store s st) c f r)
+  other_told st f r other its less active kept = leaves_work s (told (with_store s st) c f r) keeps kept w (record {
+    owner = refl;
+    plan = refl;
+    less = less;
+    active = active;
+    more = entry.Do (process_at s c) (run_at s.runs (process_at s c)).place c f r ∷ [];
+    book = refl;
+    spares = λ u h. (tt, tt);
+    process = λ q h. ap or_zero (set_process s c keeps w other _ q h);
+    next = λ q h. other_next s c keeps w other q _ h m its;
+  })
+
+  -- a transfer's frame was being read into
+  was_started : (t : Transfer) → (cpu_at s.processors c).transfer ≡ Some t
+      → (holding s).frame t.frame ≡ frame.Started t.uid t.page
+  was_started t mine = let reads = keeps.book.under_way.reading c t mine in
+      ap (λ (x : Option (ℕ × ℕ)). frame_use (seen s).words x ((seen s).reads t.frame))
+      (keeps.book.tied.unbound t.frame t.uid t.page reads) ∙ ap read_use reads
+
+  pages_less : (f : ℕ) (r : Reference) → IsLess s.store (with_pages s.store (pages_after s.store.pages f r))
+  pages_less f r = record {
+    nodes = refl;
+    known = refl;
+    filed = λ u q e. ap (λ (v : List (List (Option VtocEntry))). is_filed s.store.accounts v u q) (by (alters r.kind)) ∙ e;
+  }
+    where
+      by : (b : Bool) → (cond b (word_put s.store.pages f (r.offset % 1024) (new_word (old_word s.store.pages f r) r.kind))
+          (referred s.store.pages f false)).vtocs ≡ s.store.pages.vtocs
+      by true = refl
+      by false = refl
+
+  victim_fails : (pool : ℕ) (chain : List ℕ) (u : ℕ) → Looks s c (λ x. FindsVictim s (process_at s c) x pool chain u)
+      → IsWorking (victim_taken s c pool chain u)
+  victim_fails pool chain u l = begun_work now c u (hand_kept s pool chain keeps (hand_says s pool chain keeps)) l.idle
+      (looking_goes s c l.looking) (moved (first_off_chain s.store.ast pool chain)) l.finds.unread
+      (λ v h i. leaf_inferiors s l.finds.place u keeps at leaf.2 v (was v (first_off_chain s.store.ast pool chain) h)
+      (ap (λ (ns : List Node). superior_in (node_in ns v)) keeps.faithful.tree.nodes ∙ i))
+      (subst (MayFailBy now.store (process_at s c)) (sym l.next) (same_fails (first_off_chain s.store.ast pool chain)))
+    where
+      now : State
+      now = with_store s (with_hand_moved s.store pool chain)
+
+      leaf : (x : ℕ) × (uid_at s.store.ast.entries l.finds.place ≡ Some x)
+          × HasNoInferior s.store.ast.entries l.finds.place
+      leaf = victim_leaf s.store.ast pool chain l.finds.place keeps.store.kept.tree l.finds.victim
+
+      at : uid_at s.store.ast.entries l.finds.place ≡ Some u
+      at = leaf.1 ∙ ap (λ (x : ℕ). Some x) (sym (l.finds.uid ∙ ap or_zero leaf.1))
+
+      moved : (x : Option ℕ) → is_active (hand_past s.store.ast pool x) u ≡ true
+      moved None = active_at s.store.ast l.finds.place u at
+      moved (Some place) = active_at s.store.ast l.finds.place u at
+
+      was : (v : ℕ) (x : Option ℕ) → is_active (hand_past s.store.ast pool x) v ≡ true
+          → is_active s.store.ast v ≡ true
+      was v None h = h
+      was v (Some place) h = h
+
+      fails : MayFailBy s.store (process_at s c) (Some l.command)
+      fails = about_fails s (process_at s c) l.command keeps l.finds.link.about l.finds.link.case
+
+      same_fails : (x : Option ℕ) → MayFailBy (record s.store { ast = hand_past s.store.ast pool x }) (process_at s c)
+          (Some l.command)
+      same_fails x = fails
+
+  -- the process that a failure of a transfer is told of
+  abbrev told_process : Transfer → ℕ
+  told_process t = process_at (fault_told (frame_lost s c t) (Some (process_at s c)) o.faults) c
+
+  told_is : (t : Transfer) → (o.failed ≡ true → (cpu_at s.processors c).process ≡ Some (process_at s c))
+      → o.failed ≡ true → told_process t ≡ process_at s c
+  told_is t its failed = ap or_zero (ap (λ (x : Processor). x.cpu.process)
+      (get_or-set_same s.processors c _ no_processor (within_by s.processors c no_processor (λ e. none_some
+      (sym (ap (λ (x : Processor). x.cpu.process) e) ∙ its failed)))))
+
+  leaving_filed : (st : Storage) (f : ℕ) (x : Option (ℕ × ℕ)) (u q : ℕ)
+      → is_filed (leaving_if st f x).accounts (leaving_if st f x).pages.vtocs u q ≡ is_filed st.accounts st.pages.vtocs u q
+  leaving_filed st f None u q = refl
+  leaving_filed st f (Some page) u q = refl
+
+  leaving_nodes : (st : Storage) (f : ℕ) (x : Option (ℕ × ℕ)) → ((leaving_if st f x).accounts.nodes ≡ st.accounts.nodes)
+      × ((leaving_if st f x).links.known ≡ st.links.known)
+  leaving_nodes st f None = (refl, refl)
+  leaving_nodes st f (Some page) = (refl, refl)
+
+  taking_less : (f : ℕ) → IsLess s.store (eviction_begun s c f).store
+  taking_less f = record {
+    nodes = (leaving_nodes (with_choice s.store f) f _).0;
+    known = (leaving_nodes (with_choice s.store f) f _).1;
+    filed = λ u q e. leaving_filed (with_choice s.store f) f _ u q ∙ e;
+  }
+
+  length_inferiors : (u : ℕ) (l : Looks s c (λ x. FindsActive s (process_at s c) x u)) (v : ℕ)
+      → superior_in (node_in (flat_of s).nodes v) ≢ Some u
+  length_inferiors u l v = segment_inferiors s u leads.node keeps
+      (ap (node_in s.store.accounts.nodes) (sym same) ∙ leads.there) leads.segment v
+    where
+      leads : LeadsToSegment s l.finds.path
+      leads = length_stands s (process_at s c) keeps l.finds.path l.finds.pages
+          (subst (λ (x : Command). refusal_of s (process_at s c) x ≡ None) l.finds.is l.finds.stands)
+
+      same : leads.node.uid ≡ u
+      same = sym leads.uid ∙ (sym (ap (uid_of_command s.store (process_at s c)) l.finds.is) ∙ l.finds.uid)
+
+  commits : (x : Option Command) → IsWorking (committed_at s c x)
+  commits None = w
+  commits (Some cmd) = none_work _ refl
+
+  -- what an action asks of the job is all that it wants
+  pub work_kept : (a : act.Action) → MayWork s c o a → Keeps (after s c a o) → IsWorking (after s c a o)
+  unfolding after
+  work_kept act.IsStopped may kept = w
+  work_kept act.HasEnded may kept = w
+  work_kept (act.Waits why) may kept = w
+  work_kept act.Online may kept =
+      seat_work s c keeps w may _ _ (entry.Online c) kept refl refl refl refl refl refl (λ u. (tt, tt))
+  work_kept (act.Clear v) may kept =
+      seat_work s c keeps w may _ _ (entry.Clear c v) kept refl refl refl refl refl refl (λ u. (tt, tt))
+  work_kept (act.EndTransfer t) may kept = by_end o (transferred (with_faults s o.faults) c t)
+      (transfer_failed s c t o.faults) kept
+      (λ kept_well. leaves_work s (transferred (with_faults s o.faults) c t) keeps kept_well w (record {
+        owner = refl;
+        plan = refl;
+        less = record { nodes = refl; known = refl; filed = λ u q e. e };
+        active = λ u. refl;
+        more = entry.Here t.frame t.uid t.page ∷ [];
+        book = refl;
+        spares = λ u h. (started_spares (holding s) u t.frame t.uid t.page (w.whole.whole u h)
+            (was_started t may.1), tt);
+        process = λ q h. ap or_zero (set_process s c keeps w may.0 _ q h);
+        next = λ q h. refl;
+      }))
+      (λ failed kept_ill. leaves_work s (transfer_failed s c t o.faults) keeps kept_ill w (record {
+        owner = refl;
+        plan = refl;
+        less = record { nodes = refl; known = refl; filed = λ u q e. e };
+        active = λ u. refl;
+        more = entry.Lose t.frame ∷ entry.Fault (Some (process_at s c))
+            ∷ entry.Do (told_process t) (run_at s.runs (told_process t)).place c None reply.Device ∷ [];
+        book = append_assoc (s.entries ++ entry.Lose t.frame ∷ []) (entry.Fault (Some (process_at s c)) ∷ [])
+            (entry.Do (told_process t) (run_at s.runs (told_process t)).place c None reply.Device ∷ [])
+            ∙ append_assoc s.entries (entry.Lose t.frame ∷ []) (entry.Fault (Some (process_at s c))
+            ∷ entry.Do (told_process t) (run_at s.runs (told_process t)).place c None reply.Device ∷ []);
+        spares = λ u h. (tt, (tt, (tt, tt)));
+        process = λ q h. ap or_zero (ap (λ (x : Processor). x.cpu.process)
+            (get_or-set_other (frame_lost s c t).processors c q.cpu _ no_processor (may.0 q h))
+            ∙ set_process s c keeps w may.0 _ q h);
+        next = λ q h. ap (λ (j : ℕ). command_at s.plan (process_at s q.cpu)
+            (run_at (set s.runs j (run_after (run_at s.runs j) (next_command s j) reply.Device))
+            (process_at s q.cpu)).place) (told_is t may.2 failed)
+            ∙ other_next s c keeps w may.0 q _ h m (may.2 failed);
+      }))
+  work_kept (act.Load n) may kept =
+      seat_work s c keeps w may _ _ (entry.Load c n) kept refl refl refl refl refl refl (λ u. (tt, tt))
+  work_kept act.Leave may kept =
+      seat_work s c keeps w may _ _ (entry.Leave c) kept refl refl refl refl refl refl (λ u. (tt, tt))
+  work_kept (act.FillSeg n) may kept =
+      seat_work s c keeps w may _ _ (entry.FillSeg c n) kept refl refl refl refl refl refl (λ u. (tt, tt))
+  work_kept (act.FillPage f r) may kept =
+      seat_work s c keeps w may _ _ (entry.FillPage c f) kept refl refl refl refl refl refl (λ u. (tt, tt))
+  work_kept (act.Through f r) may kept = other_told (with_pages s.store (pages_after s.store.pages f r)) (Some f)
+      (word_reply (old_word s.store.pages f r) r.kind) may.0 may.1 (pages_less f r) (λ u. refl) kept
+  work_kept (act.Plain r) may kept = other_told s.store None r may.0 may.1 (same_less s.store) (λ u. refl) kept
+  work_kept act.TakeSupervisor may kept = looking_work _ (looking c) refl refl
+  work_kept (act.Answer r) may kept = none_work _ refl
+  work_kept act.GiveUp may kept = none_work _ refl
+  work_kept (act.Activate u place) may kept = looking_work _ may.owner.owner may.owner.mine may.looks
+  work_kept (act.Connect n u) may kept = looking_work _ may.owner.owner may.owner.mine may.looks
+  work_kept (act.Create f u p r) may kept = none_work _ refl
+  work_kept (act.Start f u p) may kept = none_work _ refl
+  work_kept (act.Evict f) may kept = record {
+    whole = whole_idle (eviction_begun s c f) refl;
+    leaf = λ u h. absurd (none_some h);
+    fails = λ q h. subst (λ (y : Owner). FailsIn y.phase (eviction_begun s c f).store (process_at s y.cpu)
+        (next_command s (process_at s y.cpu))) (some_same _ q h)
+        (subst (MayFailBy (eviction_begun s c f).store (process_at s c)) (sym may.next)
+        (fails_less s.store (eviction_begun s c f).store (process_at s c) (Some may.command)
+        (taking_less f) (page_fails s (process_at s c) may.command keeps may.finds.uid may.finds.page may.finds.case)));
+  }
+  work_kept (act.Empty u) may kept = begun_work s c u keeps may.idle (looking_goes s c may.looking) may.finds.active
+      may.finds.unread (λ v h i. length_inferiors u may v
+      (ap (λ (ns : List Node). superior_in (node_in ns v)) keeps.faithful.tree.nodes ∙ i))
+      (subst (MayFailBy s.store (process_at s c)) (sym may.next)
+      (length_fails s (process_at s c) may.command keeps u may.finds))
+  work_kept (act.EmptyVictim pool chain u) may kept = victim_fails pool chain u may
+  work_kept (act.TakeAway fs pairs v) may kept = let has = took_owner s c aim.Committing v fs pairs may.1.frames may.2 in record {
+    whole = whole_idle (took s c aim.Committing v fs pairs) (ap going_for has.owner);
+    leaf = λ u h. absurd (none_some (sym (ap going_for has.owner) ∙ h));
+    fails = λ q h. subst (λ (y : Owner). FailsIn y.phase (took s c aim.Committing v fs pairs).store
+        (process_at (took s c aim.Committing v fs pairs) y.cpu)
+        (next_command (took s c aim.Committing v fs pairs) (process_at (took s c aim.Committing v fs pairs) y.cpu)))
+        (some_same _ q (sym has.owner ∙ h)) tt;
+  }
+  work_kept (act.Signal v) may kept = signal_work s c keeps w v kept
+  work_kept (act.FinishEviction f) may kept = by_end o (eviction_done (with_faults s o.faults) c f)
+      (write_failed s c o.faults) kept (λ h. looking_work _ (looking c) refl refl) (λ e h. none_work _ refl)
+  work_kept (act.FinishPage f) may kept = by_end o (page_done (with_faults s o.faults) f)
+      (write_failed s c o.faults) kept (λ h. page_work s c keeps w f o.faults h) (λ e h. none_work _ refl)
+  work_kept (act.Deactivate u) may kept = looking_work _ (looking c) refl refl
+  work_kept act.Commit may kept = commits (next_command s (process_at s c))
