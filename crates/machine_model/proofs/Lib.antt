@@ -90,6 +90,7 @@ pub mod SeenLaws
 pub mod SharedSegment
 pub mod SpeakLaws
 pub mod StepAsks
+pub mod StepKnows
 pub mod StepKept
 pub mod StepLaws
 pub mod TakeAsks
