@@ -263,7 +263,7 @@ of_all : (s : State) → AllOf s.plan s.runs → AllCome s
 unfolding AllCome AllOf
 of_all s come = come
 
-come_same : (s t : State) → t.plan ≡ s.plan → t.runs ≡ s.runs → AllCome s → AllCome t
+pub come_same : (s t : State) → t.plan ≡ s.plan → t.runs ≡ s.runs → AllCome s → AllCome t
 come_same s t plan runs come =
     of_all t (subst (λ (p : Plan). AllOf p t.runs) (sym plan) (subst (λ (rs : List Run). AllOf s.plan rs) (sym runs)
     (all_of s come)))

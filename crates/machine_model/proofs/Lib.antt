@@ -91,6 +91,8 @@ pub mod SharedSegment
 pub mod SpeakLaws
 pub mod StepAsks
 pub mod StepKnows
+pub mod PoolsKept
+pub mod StepGoes
 pub mod StepKept
 pub mod StepLaws
 pub mod TakeAsks

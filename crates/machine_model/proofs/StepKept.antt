@@ -290,15 +290,15 @@ by_end o well ill w i = by o.failed refl
     by false e = w e
 
 -- an owner of another number than this processor's, by what is true of those at work
-online_other : (s : State) (c : ℕ) → Keeps s → (processor_at s.processors c).cpu.online ≡ false → IsNoOwner s c
+pub online_other : (s : State) (c : ℕ) → Keeps s → (processor_at s.processors c).cpu.online ≡ false → IsNoOwner s c
 online_other s c k off o h same = let no : true ≡ false =
     sym (k.at_work o h).online ∙ (ap (λ (d : ℕ). (processor_at s.processors d).cpu.online) same ∙ off) in cc
 
-due_other : (s : State) (c : ℕ) (w : What) → Keeps s → (processor_at s.processors c).cpu.due ≡ Some w → IsNoOwner s c
+pub due_other : (s : State) (c : ℕ) (w : What) → Keeps s → (processor_at s.processors c).cpu.due ≡ Some w → IsNoOwner s c
 due_other s c w k due o h same = none_some (sym (k.at_work o h).clear
     ∙ (ap (λ (d : ℕ). (processor_at s.processors d).cpu.due) same ∙ due))
 
-empty_other : (s : State) (c : ℕ) → Keeps s → (processor_at s.processors c).cpu.process ≡ None → IsNoOwner s c
+pub empty_other : (s : State) (c : ℕ) → Keeps s → (processor_at s.processors c).cpu.process ≡ None → IsNoOwner s c
 empty_other s c k none o h same = let no : true ≡ false = sym (k.at_work o h).busy
     ∙ (ap (λ (d : ℕ). is_some (processor_at s.processors d).cpu.process) same ∙ ap is_some none) in cc
 
