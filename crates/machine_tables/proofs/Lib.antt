@@ -1,4 +1,8 @@
+pub mod ChoiceLaws
+pub mod CutLaws
 pub mod LinkLaws
 pub mod PageLaws
+pub mod PartLaws
 pub mod ReadyLaws
 pub mod SignalLaws
+pub mod TakeLaws

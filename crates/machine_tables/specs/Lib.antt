@@ -1,3 +1,4 @@
 pub mod Held
 pub mod Owned
 pub mod Parts
+pub mod Taken

@@ -12,6 +12,7 @@ mod paging;
 mod signals;
 mod starting;
 mod tables;
+mod taking;
 mod turns;
 
 pub use owner::{Holder, Job};

@@ -1,0 +1,211 @@
+-- Descriptors of a segment that are cut one after the other.
+use Rattle.std.proofs.Common.{◌≡◌, ◌≢◌, ◌+◌, ◌<◌, ◌≤◌, ℕ, suc, zero, Bool, true, false, not, cond, eqb, count_by}
+use Rattle.std.proofs.Common.{List, [], ◌∷◌, ◌++◌, length, set, get_or, Option, Some, None, refl, sym, ap, subst, ◌∙◌}
+use Rattle.std.proofs.Common.{arith, inl, inr, length-append}
+use Rattle.std.specs.Prelude.{nat_lt, slice_get}
+use Rattle.std.specs.List.{position_or_len}
+use Rattle.std.proofs.lemmas.Bool.{cases_lt, lt-ltb}
+use Rattle.std.proofs.lemmas.Bool.Decides.{eqb_tells}
+use Rattle.std.proofs.lemmas.List.{get_or-set_same, get_or_past, nil_from_length}
+use Rattle.std.proofs.lemmas.List.Sums.{sum_by-cons}
+use Rattle.assoc_mem.specs.declared.What.{What}
+use Rattle.active_segs.specs.declared.Entry.{Entry}
+use Rattle.active_segs.specs.Active.{IsActive}
+use Rattle.descriptor_seg.specs.declared.Sdw.{Sdw}
+use Rattle.descriptor_seg.specs.declared.Sdw.TheVariants.{Fault, Present}
+use Rattle.trailers.specs.Trailer.{leads_to, trailers_of, without_place, without_trailer}
+use Rattle.seg_control.specs.Control.{Links, leads, leads_at, place_of, sdws_at}
+use Rattle.seg_control.specs.Effects.{unlinked}
+use Rattle.seg_control.specs.Kept.{AreLinked, times}
+use Rattle.machine_model.specs.declared.Aim.{Aim}
+use Rattle.machine_model.specs.declared.CutDescriptor.{CutDescriptor}
+use Rattle.machine_model.specs.Jobs.{cut_all, cut_one, note_of}
+use Rattle.machine_model.specs.Reads.{cut_of_owner, descriptor_of, is_active, trailers_in}
+use Rattle.machine_model.specs.State.{State, Storage}
+use Rattle.machine_model.proofs.TieLaws.{none_some}
+use Rattle.machine_model.proofs.TransferKept.{active_at}
+use Rattle.machine_tables.specs.Owned.{HasOwner}
+use Rattle.machine_tables.specs.Taken.{IsOldest}
+
+-- ---- the oldest trailer
+
+own : (n : ℕ) → eqb n n ≡ true
+own n = elim (eqb_tells n n) [ inl e ↦ e.0 | inr m ↦ absurd (m.1 refl) ]
+
+own_trailer : (x : ℕ × ℕ) → leads_to x.0 x.1 x ≡ true
+own_trailer x = rw (own x.0, own x.1) refl
+
+abbrev tally : Bool → ℕ
+tally b = cond b 1 0
+
+leads_there : (o : Option ℕ) (place : ℕ) → 1 ≤ times o place → o ≡ Some place
+leads_there None place h = absurd (omega (arith, h))
+leads_there (Some x) place h = elim (eqb_tells x place) [
+  | inl e ↦ ap (λ (y : ℕ). Some y) e.1
+  | inr n ↦ absurd (let none : times (Some x) place ≡ 0 = ap (λ (b : Bool). cond b 1 0) n.0 in omega (arith, none, h))
+]
+
+-- a trailer of a place leads there
+pub first_leads : (entries : List (Option Entry)) (links : Links) (place : ℕ) (pair : ℕ × ℕ) (rest : List (ℕ × ℕ))
+    → AreLinked entries links → trailers_of links.trailers place ≡ pair ∷ rest
+    → leads_at links.descriptors pair.0 pair.1 ≡ Some place
+first_leads entries links place pair rest linked is = leads_there (leads_at links.descriptors pair.0 pair.1) place
+    (let one : tally (leads_to pair.0 pair.1 pair) ≡ 1 = ap tally (own_trailer pair) in
+    let sum : count_by (leads_to pair.0 pair.1) (pair ∷ rest)
+    ≡ tally (leads_to pair.0 pair.1 pair) + count_by (leads_to pair.0 pair.1) rest =
+    sum_by-cons (λ y. tally (leads_to pair.0 pair.1 y)) pair rest in
+    let here = ap (count_by (leads_to pair.0 pair.1)) is in
+    let exact = linked.exact place pair.0 pair.1 in
+    omega (arith, one, sum, here, exact))
+
+-- a descriptor that leads somewhere is one of the process's
+pub number_within : (words : List Sdw) (number place : ℕ) → leads (get_or words number Fault) ≡ Some place
+    → number < length words
+number_within words number place h = elim (cases_lt number (length words)) [
+  | inl within ↦ within
+  | inr past ↦ absurd (none_some (sym (ap leads (get_or_past words number Fault past)) ∙ h))
+]
+
+pub process_within : (descriptors : List (List Sdw)) (process number place : ℕ)
+    → leads_at descriptors process number ≡ Some place → process < length descriptors
+process_within descriptors process number place h = elim (cases_lt process (length descriptors)) [
+  | inl within ↦ within
+  | inr past ↦ absurd (none_some (sym (ap (λ (words : List Sdw). leads (get_or words number Fault))
+      (get_or_past descriptors process [] past)) ∙ h))
+]
+
+-- the trailers of an active segment
+pub trailers_are : (st : Storage) (u : ℕ) → IsActive st.ast.entries u
+    → trailers_in st u ≡ trailers_of st.links.trailers (place_of st.ast.entries u)
+trailers_are st u active =
+    ap (λ (b : Bool). cond b (trailers_of st.links.trailers (place_of st.ast.entries u)) [])
+    (active_at st.ast active.0 u active.1)
+
+pub no_trailers : (st : Storage) (u : ℕ) → IsActive st.ast.entries u
+    → length (trailers_of st.links.trailers (place_of st.ast.entries u)) ≡ 0 → trailers_in st u ≡ []
+no_trailers st u active none = trailers_are st u active
+    ∙ nil_from_length (trailers_of st.links.trailers (place_of st.ast.entries u)) none
+
+rest_of : (xs : List (ℕ × ℕ)) (pair : ℕ × ℕ) → slice_get xs 0 ≡ Some pair
+    → (rest : List (ℕ × ℕ)) × (xs ≡ pair ∷ rest)
+rest_of [] pair h = absurd (none_some h)
+rest_of (x ∷ xs) pair h = (xs, let same : x ≡ pair = cc in ap (λ (y : ℕ × ℕ). y ∷ xs) same)
+
+pub oldest_is : (st : Storage) (u : ℕ) (pair : ℕ × ℕ) → AreLinked st.ast.entries st.links
+    → IsActive st.ast.entries u
+    → slice_get (trailers_of st.links.trailers (place_of st.ast.entries u)) 0 ≡ Some pair → IsOldest st u pair
+oldest_is st u pair linked active first = record {
+  rest = found.0;
+  is = trailers_are st u active ∙ found.1;
+  leads = leads;
+  process = within;
+  number = let long = linked.lists.words pair.0 within in let lt =
+      number_within (sdws_at st.links.descriptors pair.0) pair.1 (place_of st.ast.entries u) leads in
+      omega (arith, long, lt);
+}
+  where
+    found : (rest : List (ℕ × ℕ)) × (trailers_of st.links.trailers (place_of st.ast.entries u) ≡ pair ∷ rest)
+    found = rest_of (trailers_of st.links.trailers (place_of st.ast.entries u)) pair first
+
+    leads : leads_at st.links.descriptors pair.0 pair.1 ≡ Some (place_of st.ast.entries u)
+    leads = first_leads st.ast.entries st.links (place_of st.ast.entries u) pair found.0 linked found.1
+
+    within : pair.0 < length st.links.known
+    within = let lt = process_within st.links.descriptors pair.0 pair.1 (place_of st.ast.entries u) leads in
+        let many = linked.lists.processes in omega (arith, lt, many)
+
+-- ---- the list of what is cut
+
+owner_still : (s : State) (c : ℕ) (a : Aim) (w : What) (pair : ℕ × ℕ) → HasOwner (cut_one s c a w pair).owner
+owner_still s c a w pair none = none_some (sym none)
+
+without_first : (pair : ℕ × ℕ) (rest : List (ℕ × ℕ)) → without_trailer (pair ∷ rest) pair.0 pair.1 ≡ rest
+without_first pair rest =
+    let place : position_or_len (leads_to pair.0 pair.1) (pair ∷ rest) ≡ 0 =
+    ap (λ (b : Bool). cond (not b) (1 + position_or_len (leads_to pair.0 pair.1) rest) 0) (own_trailer pair) in
+    ap (λ (n : ℕ). without_place (pair ∷ rest) (cond (nat_lt n (length (pair ∷ rest))) (Some n) None)) place
+    ∙ ap (λ (b : Bool). without_place (pair ∷ rest) (cond b (Some 0) None))
+    (lt-ltb 0 (length (pair ∷ rest)) (omega arith))
+
+trailers_within : (all : List (List (ℕ × ℕ))) (place : ℕ) (pair : ℕ × ℕ) (rest : List (ℕ × ℕ))
+    → trailers_of all place ≡ pair ∷ rest → place < length all
+trailers_within all place pair rest is = elim (cases_lt place (length all)) [
+  | inl within ↦ within
+  | inr past ↦ let none : [] ≡ pair ∷ rest = sym (get_or_past all place [] past) ∙ is in absurd (let n = ap length
+      none in
+      omega (arith, n))
+]
+
+-- once the first trailer of a segment is cut, the others are left
+pub trailers_left : (st : Storage) (u : ℕ) (pair : ℕ × ℕ) (rest : List (ℕ × ℕ)) → trailers_in st u ≡ pair ∷ rest
+    → leads_at st.links.descriptors pair.0 pair.1 ≡ Some (place_of st.ast.entries u)
+    → trailers_in (record st {
+      links = unlinked st.links pair.0 pair.1 (leads_at st.links.descriptors pair.0 pair.1);
+    }) u ≡ rest
+trailers_left st u pair rest is leads = by (is_active st.ast u) refl is
+  where
+    place : ℕ
+    place = place_of st.ast.entries u
+
+    by : (b : Bool) → is_active st.ast u ≡ b → cond b (trailers_of st.links.trailers place) [] ≡ pair ∷ rest
+        → cond b (trailers_of (unlinked st.links pair.0 pair.1 (leads_at st.links.descriptors pair.0 pair.1)).trailers
+        place) [] ≡ rest
+    by false e is = absurd (let n = ap length is in omega (arith, n))
+    by true e is = ap (λ (o : Option ℕ). trailers_of (unlinked st.links pair.0 pair.1 o).trailers place) leads
+        ∙ get_or-set_same st.links.trailers place (without_trailer (trailers_of st.links.trailers place) pair.0
+        pair.1) []
+        (trailers_within st.links.trailers place pair rest is)
+        ∙ ap (λ (xs : List (ℕ × ℕ)). without_trailer xs pair.0 pair.1) is ∙ without_first pair rest
+
+-- so far as the descriptors of a segment are cut, the rest leads to the same
+pub record CutsOn (now first : State) (c : ℕ) (a : Aim) (w : What) (u : ℕ) : Type 0 where
+  pub same : cut_all now c a w (trailers_in now.store u) ≡ cut_all first c a w (trailers_in first.store u)
+  pub active : IsActive now.store.ast.entries u
+  pub owner : HasOwner now.owner
+  pub few : length (cut_of_owner now.owner) + length (trailers_in now.store u) ≤ 256
+  pub room : length (trailers_in now.store u) ≤ now.spare
+
+pub one_few : (s first : State) (c : ℕ) (a : Aim) (w : What) (u : ℕ) (pair : ℕ × ℕ) → CutsOn s first c a w u
+    → IsOldest s.store u pair → (length (cut_of_owner s.owner) < 256) × (0 < s.spare)
+one_few s first c a w u pair on is =
+    let all = ap length is.is in
+    let few = on.few in
+    let room = on.room in
+    (omega (arith, all, few), omega (arith, all, room))
+
+pub cuts_next : (s t first : State) (c : ℕ) (a : Aim) (w : What) (u : ℕ) (pair : ℕ × ℕ) → CutsOn s first c a w u
+    → IsOldest s.store u pair
+    → t ≡ cut_one s c a w pair → CutsOn t first c a w u
+cuts_next s t first c a w u pair on is cut = subst (λ (x : State). CutsOn x first c a w u) (sym cut) (record {
+  same = ap (cut_all (cut_one s c a w pair) c a w) left ∙ ap (cut_all s c a w) (sym is.is) ∙ on.same;
+  active = on.active;
+  owner = owner_still s c a w pair;
+  few = let more = length-append (cut_of_owner s.owner) (note ∷ []) in let few = on.few in let all = ap length
+      is.is in
+      let less = ap length left in omega (arith, more, few, all, less);
+  room = let room = on.room in let all = ap length is.is in let less = ap length left in omega (
+    arith,
+    room,
+    all,
+    less,
+  );
+})
+  where
+    left : trailers_in (cut_one s c a w pair).store u ≡ is.rest
+    left = trailers_left s.store u pair is.rest is.is is.leads
+
+    note : CutDescriptor
+    note = note_of s.store pair.0 pair.1 (descriptor_of s.store.links pair.0 pair.1)
+
+-- each cut leaves one less
+pub cut_smaller : (s t : State) (c : ℕ) (a : Aim) (w : What) (u : ℕ) (pair : ℕ × ℕ)
+    → IsOldest s.store u pair
+    → t ≡ cut_one s c a w pair → length (trailers_in t.store u) < length (trailers_in s.store u)
+cut_smaller s t c a w u pair is cut =
+    let left = ap (λ (x : State). length (trailers_in x.store u)) cut
+    ∙ ap length (trailers_left s.store u pair is.rest is.is is.leads) in
+    let all = ap length is.is in omega (arith, left, all)
+
+pub cuts_end : (s first : State) (c : ℕ) (a : Aim) (w : What) (u : ℕ) → CutsOn s first c a w u
+    → trailers_in s.store u ≡ [] → s ≡ cut_all first c a w (trailers_in first.store u)
+cuts_end s first c a w u on none = ap (cut_all s c a w) (sym none) ∙ on.same

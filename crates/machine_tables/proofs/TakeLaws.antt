@@ -1,0 +1,158 @@
+-- Pages of a segment that are taken one after the other.
+use Rattle.std.proofs.Common.{◌≡◌, ◌≢◌, ◌+◌, ◌<◌, ◌≤◌, ℕ, suc, Bool, true, false, List, [], ◌∷◌, ◌++◌, length}
+use Rattle.std.proofs.Common.{drop, set}
+use Rattle.std.proofs.Common.{get_or, Option, Some, None, refl, sym, ap, ◌∙◌, arith, inl, inr, length-append, subst}
+use Rattle.std.proofs.lemmas.Bool.{cases_lt}
+use Rattle.std.proofs.lemmas.List.{drop-set-lt, drop_more, get_or-set_same, get_or_past, length-set}
+use Rattle.std.proofs.Math.ListN.{drop_of_length-le}
+use Rattle.assoc_mem.specs.declared.What.{What}
+use Rattle.core_map.specs.declared.Frame.{Frame}
+use Rattle.core_map.specs.declared.Frame.TheVariants.{Free, Started, Bound}
+use Rattle.core_map.specs.CoreMap.{bound_page, frame_at, is_bound}
+use Rattle.page_table.specs.declared.Ptw.{Ptw}
+use Rattle.page_table.specs.declared.Ptw.TheVariants.{Null, Here, Leaving}
+use Rattle.active_segs.specs.declared.Entry.{Entry}
+use Rattle.active_segs.specs.Active.{ActiveSegs, IsActive, table_at}
+use Rattle.page_control.specs.Plain.{frame_in, number_in}
+use Rattle.page_control.specs.Tied.{uid_in}
+use Rattle.seg_control.specs.Control.{place_of, table_of, word_of}
+use Rattle.seg_control.specs.Effects.{worded}
+use Rattle.machine_model.specs.declared.Aim.{Aim}
+use Rattle.machine_model.specs.Jobs.{leaving_if, page_in, page_or_zero, take_all, take_one, with_leaving}
+use Rattle.machine_model.specs.Reads.{frames_from, frames_in, frames_of_owner, here_in}
+use Rattle.machine_model.specs.State.{State, Storage}
+use Rattle.machine_model.specs.Steps.{with_word}
+use Rattle.machine_model.proofs.TieLaws.{none_some, page_is}
+use Rattle.machine_tables.specs.Owned.{HasOwner}
+use Rattle.machine_tables.specs.Taken.{LeavesPast}
+
+-- what a frame that a page is in is bound to
+pub bound_parts : (x : Frame) (u p : ℕ) → bound_page x ≡ Some (u, p)
+    → (is_bound x ≡ true) × (uid_in x ≡ u) × (number_in x ≡ p)
+bound_parts Free u p h = absurd (none_some h)
+bound_parts (Started v q) u p h = absurd (none_some h)
+bound_parts (Bound v q used modified) u p h = let same = page_is v q u p h in (refl, same.0, same.1)
+
+pub page_here : (st : Storage) (f u p : ℕ) → bound_page (frame_in st.pages f) ≡ Some (u, p)
+    → word_of st.ast u p ≡ Here f → word_of st.ast (page_in st f).0 (page_in st f).1 ≡ Here f
+page_here st f u p bound here = ap (λ (x : Option (ℕ × ℕ)). word_of st.ast (page_or_zero x).0 (page_or_zero x).1)
+    bound ∙ here
+
+-- the page of a frame is on its way out
+pub left_in : (st : Storage) (f u p : ℕ) → bound_page (frame_in st.pages f) ≡ Some (u, p)
+    → with_word st u p (Leaving f) ≡ with_leaving st f
+left_in st f u p bound = sym (ap (leaving_if st f) bound)
+
+-- ---- the list of what is taken
+
+take_all-append : (s : State) (c : ℕ) (a : Aim) (w : What) (fs gs : List ℕ)
+    → take_all s c a w (fs ++ gs) ≡ take_all (take_all s c a w fs) c a w gs
+take_all-append s c a w [] gs = refl
+take_all-append s c a w (f ∷ fs) gs = take_all-append (take_one s c a w f) c a w fs gs
+
+owner_still : (s : State) (c : ℕ) (a : Aim) (w : What) (fs : List ℕ) → HasOwner s.owner
+    → HasOwner (take_all s c a w fs).owner
+owner_still s c a w [] has = has
+owner_still s c a w (f ∷ fs) has = owner_still (take_one s c a w f) c a w fs (λ none. none_some (sym none))
+
+frames_more : (s : State) (c : ℕ) (a : Aim) (w : What) (fs : List ℕ)
+    → length (frames_of_owner (take_all s c a w fs).owner) ≡ length (frames_of_owner s.owner) + length fs
+frames_more s c a w [] = omega arith
+frames_more s c a w (f ∷ fs) =
+    let rest = frames_more (take_one s c a w f) c a w fs in
+    let one : length (frames_of_owner s.owner ++ f ∷ []) ≡ length (frames_of_owner s.owner) + 1 =
+    length-append (frames_of_owner s.owner) (f ∷ []) in
+    omega (arith, rest, one)
+
+room_less : (s : State) (c : ℕ) (a : Aim) (w : What) (fs : List ℕ) → length fs ≤ s.spare
+    → (take_all s c a w fs).spare + length fs ≡ s.spare
+room_less s c a w [] le = omega arith
+room_less s c a w (f ∷ fs) le =
+    let rest = room_less (take_one s c a w f) c a w fs (omega (arith, le)) in omega (arith, rest, le)
+
+-- ---- a table whose pages are taken in order
+
+frames_here : (ast : ActiveSegs) (u p : ℕ) → p < length (table_of ast u)
+    → frames_from ast u p ≡ here_in (word_of ast u p) ++ frames_from ast u (p + 1)
+frames_here ast u p lt = ap frames_in (drop_more (table_of ast u) p Null lt)
+
+frames_past : (ast : ActiveSegs) (u p : ℕ) → length (table_of ast u) ≤ p → frames_from ast u p ≡ []
+frames_past ast u p le = ap frames_in (drop_of_length-le (table_of ast u) le)
+
+table_within : (tables : List (List Ptw)) (place p : ℕ) → p < length (table_at tables place) → place < length tables
+table_within tables place p lt = elim (cases_lt place (length tables)) [
+  | inl within ↦ within
+  | inr past ↦ let none = ap length (get_or_past tables place [] past) in absurd (omega (arith, none, lt))
+]
+
+pub table_worded : (ast : ActiveSegs) (u p : ℕ) (w : Ptw) → p < length (table_of ast u)
+    → table_of (worded ast u p w) u ≡ set (table_of ast u) p w
+table_worded ast u p w lt = get_or-set_same ast.tables (place_of ast.entries u) (set (table_of ast u) p w) []
+    (table_within ast.tables (place_of ast.entries u) p lt)
+
+-- what a word leaves of a table
+pub past_worded : (ast : ActiveSegs) (u p : ℕ) (w : Ptw) → p < length (table_of ast u)
+    → LeavesPast ast (worded ast u p w) u p
+past_worded ast u p w lt = record {
+  entries = refl;
+  past = ap (drop (p + 1)) (table_worded ast u p w lt) ∙ drop-set-lt (p + 1) (table_of ast u) p w (omega arith);
+  long = ap length (table_worded ast u p w lt) ∙ length-set (table_of ast u) p w;
+}
+
+pub past_taken : (s : State) (c : ℕ) (a : Aim) (w : What) (f u p : ℕ)
+    → bound_page (frame_in s.store.pages f) ≡ Some (u, p) → p < length (table_of s.store.ast u)
+    → LeavesPast s.store.ast (take_one s c a w f).store.ast u p
+past_taken s c a w f u p bound lt = subst (λ (st : Storage). LeavesPast s.store.ast st.ast u p)
+    (left_in s.store f u p bound) (past_worded s.store.ast u p (Leaving f) lt)
+
+-- so far as the pages of a segment are taken from a number on, the rest leads to the same
+pub record TakesOn (now first : State) (c : ℕ) (a : Aim) (w : What) (u p low : ℕ) : Type 0 where
+  pub same : take_all now c a w (frames_from now.store.ast u p)
+      ≡ take_all first c a w (frames_from first.store.ast u low)
+  pub active : IsActive now.store.ast.entries u
+  pub long : length (table_of now.store.ast u) ≡ length (table_of first.store.ast u)
+  pub owner : HasOwner now.owner
+  pub few : length (frames_of_owner now.owner) + length (frames_from now.store.ast u p) ≤ 256
+  pub room : length (frames_from now.store.ast u p) ≤ now.spare
+
+-- what the next page asks
+pub here_few : (s first : State) (c : ℕ) (a : Aim) (w : What) (u p low : ℕ) → TakesOn s first c a w u p low
+    → p < length (table_of s.store.ast u)
+    → (length (frames_of_owner s.owner) + length (here_in (word_of s.store.ast u p)) ≤ 256)
+    × (length (here_in (word_of s.store.ast u p)) ≤ s.spare)
+here_few s first c a w u p low on lt =
+    let all = ap length (frames_here s.store.ast u p lt) in
+    let both = length-append (here_in (word_of s.store.ast u p)) (frames_from s.store.ast u (p + 1)) in
+    let few = on.few in
+    let room = on.room in
+    (omega (arith, all, both, few), omega (arith, all, both, room))
+
+pub takes_next : (s t first : State) (c : ℕ) (a : Aim) (w : What) (u p low : ℕ) → TakesOn s first c a w u p low
+    → p < length (table_of s.store.ast u) → t ≡ take_all s c a w (here_in (word_of s.store.ast u p))
+    → LeavesPast s.store.ast t.store.ast u p → TakesOn t first c a w u (p + 1) low
+takes_next s t first c a w u p low on lt is past =
+    let hs = here_in (word_of s.store.ast u p) in
+    let rest : frames_from t.store.ast u (p + 1) ≡ frames_from s.store.ast u (p + 1) = ap frames_in past.past in
+    let all = frames_here s.store.ast u p lt in
+    let count = ap length all ∙ length-append hs (frames_from s.store.ast u (p + 1)) in
+    let less = ap length rest in
+    let few = on.few in
+    let room = on.room in
+    let more = ap (λ (x : State). length (frames_of_owner x.owner)) is ∙ frames_more s c a w hs in
+    let spent = room_less s c a w hs (omega (arith, count, room)) in
+    let spare = ap (λ (x : State). x.spare) is in
+    record {
+      same = ap (λ (x : State). take_all x c a w (frames_from t.store.ast u (p + 1))) is
+          ∙ ap (take_all (take_all s c a w hs) c a w) rest
+          ∙ sym (take_all-append s c a w hs (frames_from s.store.ast u (p + 1)))
+          ∙ ap (take_all s c a w) (sym all) ∙ on.same;
+      active = subst (λ (e : List (Option Entry)). IsActive e u) (sym past.entries) on.active;
+      long = past.long ∙ on.long;
+      owner = subst (λ (x : State). HasOwner x.owner) (sym is) (owner_still s c a w hs on.owner);
+      few = omega (arith, count, less, few, more);
+      room = omega (arith, count, less, room, spent, spare);
+    }
+
+pub takes_end : (s first : State) (c : ℕ) (a : Aim) (w : What) (u p low : ℕ) → TakesOn s first c a w u p low
+    → length (table_of s.store.ast u) ≤ p → s ≡ take_all first c a w (frames_from first.store.ast u low)
+takes_end s first c a w u p low on le = ap (take_all s c a w) (sym (frames_past s.store.ast u p le)) ∙ on.same
