@@ -1,13 +1,15 @@
 -- What the tables of a machine have.
-use Rattle.std.specs.Prelude.{ℕ, false, length, replicate, List, [], None}
+use Rattle.std.specs.Prelude.{◌≡◌, ℕ, true, false, length, replicate, List, [], None, Result, Ok, Err}
 use Rattle.script.specs.Plans.{Plan}
+use Rattle.accounts.specs.Maps.{AccountMaps}
 use Rattle.custody_model.specs.Custody.{ready_at_first}
 use Rattle.page_control.specs.Plain.{Plain, plain}
 use Rattle.storage_ops.specs.Shown.{Storage as Stored}
 use Rattle.machine_model.specs.State.{State, Storage}
 use Rattle.machine_model.specs.Boot.{first_run}
 use Rattle.machine_model.specs.Reads.{no_processor}
-use Rattle.machine_model.specs.Steps.{with_pages, with_store}
+use Rattle.machine_model.specs.After.{Outcome}
+use Rattle.machine_model.specs.Steps.{with_faults, with_pages, with_store}
 
 -- the machine's state; how many processes the ready list has room for; the drives
 pub record Parts (D : Type 0) : Type 0 where
@@ -21,6 +23,24 @@ with_state t s = record t { state = s }
 -- the same tables with other frames, drives, records and VTOCs
 abbrev pub with_pages_of : {D : Type 0} → Parts D → Plain → Parts D
 with_pages_of t pages = with_state t (with_store t.state (with_pages t.state.store pages))
+
+-- the same tables with other drives, which have counted so many failures
+abbrev pub with_drives : {D : Type 0} → Parts D → List D → ℕ → Parts D
+with_drives t drives faults = record t { state = with_faults t.state faults; drives = drives }
+
+-- a store with other accounts
+abbrev pub with_accounts : Storage → AccountMaps → Storage
+with_accounts st accounts = record st { accounts = accounts }
+
+-- all but the book, the store and the owner is as it was
+abbrev pub KeepsSeats : State → State → Type 0
+KeepsSeats old new =
+    new ≡ record old { entries = new.entries; spare = new.spare; store = new.store; owner = new.owner }
+
+-- how a call of a drive ended, after which the drives have counted so many failures
+abbrev pub outcome_of : {T E : Type 0} → Result T E → ℕ → Outcome
+outcome_of (Ok x) faults = record { failed = false; faults = faults }
+outcome_of (Err e) faults = record { failed = true; faults = faults }
 
 -- a store, whose drives are seen as the words of their records
 abbrev pub shown : {D : Type 0} → (D → List (List ℕ)) → Stored D → Storage

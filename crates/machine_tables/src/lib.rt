@@ -13,6 +13,7 @@ mod signals;
 mod starting;
 mod tables;
 mod taking;
+mod transfers;
 mod turns;
 
 pub use owner::{Holder, Job};
