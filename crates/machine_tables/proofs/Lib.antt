@@ -4,5 +4,6 @@ pub mod LinkLaws
 pub mod PageLaws
 pub mod PartLaws
 pub mod ReadyLaws
+pub mod RightLaws
 pub mod SignalLaws
 pub mod TakeLaws

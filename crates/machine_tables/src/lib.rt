@@ -7,6 +7,7 @@
 #![tactic(auto)]
 
 mod answering;
+mod connecting;
 mod owner;
 mod paging;
 mod signals;
