@@ -1,5 +1,7 @@
+pub mod BackLaws
 pub mod ChoiceLaws
 pub mod CutLaws
+pub mod JobLaws
 pub mod LinkLaws
 pub mod PageLaws
 pub mod PartLaws

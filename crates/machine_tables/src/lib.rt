@@ -8,6 +8,7 @@
 
 mod answering;
 mod connecting;
+mod ending;
 mod owner;
 mod paging;
 mod signals;

@@ -1,5 +1,5 @@
-ghost use Rattle.std.specs.Prelude.{◌≡◌, ◌<◌, ◌++◌, ◌∷◌, [], length, Some, None, IfOk, IsSome};
-ghost use Rattle.machine_model.specs.Jobs.{owner_signalled};
+ghost use Rattle.std.specs.Prelude.{◌≡◌, ◌<◌, ◌++◌, ◌∷◌, [], length, Some, None, IfOk, IsSome, slice_get};
+ghost use Rattle.machine_model.specs.Jobs.{owner_signalled, without_first_cut, without_first_frame};
 ghost use Rattle.machine_model.specs.Reads.{cut_of_owner, frames_of_owner};
 ghost use Rattle.machine_model.specs.Steps.{looking};
 ghost use Rattle.machine_tables.specs.Owned.{HasOwner, took_cut, took_frame};
@@ -123,5 +123,23 @@ impl Job {
             phase: Phase::Taken { aim, what },
         });
         let _full = self.cut.push_back(cut);
+    }
+
+    /// The first frame that the owner took, which it hasn't taken any more then; `None` exactly where there is none.
+    pub(crate) fn next_frame(&mut self) -> Option<u32>
+        requires { HasOwner self.old }
+        ensures first { result ≡ slice_get (frames_of_owner self.old) 0 }
+        ensures rest { self.new ≡ without_first_frame self.old }
+    {
+        self.frames.pop_front()
+    }
+
+    /// The first descriptor that the owner cut, which it hasn't cut any more then; `None` exactly where there is none.
+    pub(crate) fn next_cut(&mut self) -> Option<CutDescriptor>
+        requires { HasOwner self.old }
+        ensures first { result ≡ slice_get (cut_of_owner self.old) 0 }
+        ensures rest { self.new ≡ without_first_cut self.old }
+    {
+        self.cut.pop_front()
     }
 }
