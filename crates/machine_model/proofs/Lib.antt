@@ -93,6 +93,7 @@ pub mod StepAsks
 pub mod StepKnows
 pub mod PoolsKept
 pub mod StepGoes
+pub mod EntitledKept
 pub mod StepKept
 pub mod StepLaws
 pub mod TakeAsks
