@@ -94,6 +94,7 @@ pub mod StepKnows
 pub mod PoolsKept
 pub mod StepGoes
 pub mod EntitledKept
+pub mod MachineKept
 pub mod StepKept
 pub mod StepLaws
 pub mod TakeAsks

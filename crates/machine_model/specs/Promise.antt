@@ -1,10 +1,12 @@
 -- The whole promise of a machine: what it keeps over every schedule, with what its rules rest on.
 use Rattle.std.specs.Prelude.{◌≡◌}
 use Rattle.script.specs.Forms.{IsPlan}
+use Rattle.machine_model.specs.Entitled.{IsEntitledToAll}
 use Rattle.machine_model.specs.Foreseen.{AllCome}
 use Rattle.machine_model.specs.Keeps.{Keeps}
 use Rattle.machine_model.specs.Scheduled.{IsScheduled}
 use Rattle.machine_model.specs.State.{State}
+use Rattle.machine_model.specs.Working.{IsWorking}
 
 -- It keeps what `Keeps` says. Each process that hasn't ended comes to a command of the script, and is at one processor,
 -- ready, or kept back by the initializer. The pools of the active segment table are those of the script.
@@ -14,3 +16,9 @@ pub record IsMachine (s : State) : Type 0 where
   pub come : AllCome s
   pub scheduled : IsScheduled s
   pub pools : s.store.ast.sizes ≡ s.plan.pools
+
+-- What a machine keeps from step to step: that, with what its processors hold and what the owner's job rests on.
+pub record KeepsAll (s : State) : Type 0 where
+  pub machine : IsMachine s
+  pub entitled : IsEntitledToAll s
+  pub working : IsWorking s

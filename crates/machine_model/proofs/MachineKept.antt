@@ -1,0 +1,54 @@
+-- A machine that keeps its promise keeps it through each step, where the calls of its store do what they say.
+use Rattle.std.proofs.Common.{◌≡◌, ◌<◌, ℕ, Bool, length, List, refl, sym, ap, subst, ◌∙◌}
+use Rattle.script.specs.Forms.{IsPlan}
+use Rattle.script.specs.Plans.{Plan}
+use Rattle.machine_model.specs.Actions as act
+use Rattle.machine_model.specs.Actions.{action_of}
+use Rattle.machine_model.specs.After.{Outcome, after}
+use Rattle.machine_model.specs.Keeps.{Keeps}
+use Rattle.machine_model.specs.Promise.{IsMachine, KeepsAll}
+use Rattle.machine_model.specs.Said.{Says}
+use Rattle.machine_model.specs.State.{State}
+use Rattle.machine_model.proofs.EntitledKept.{MayEntitle, entitled_kept}
+use Rattle.machine_model.proofs.PoolsKept.{SamePools, pools_kept}
+use Rattle.machine_model.proofs.RuleKept.{Asks}
+use Rattle.machine_model.proofs.RulesKept.{action_can}
+use Rattle.machine_model.proofs.ScheduleKept.{schedule_kept}
+use Rattle.machine_model.proofs.StepAsks.{Rests, step_asks}
+use Rattle.machine_model.proofs.StepGoes.{comes, may_schedule, may_work}
+use Rattle.machine_model.proofs.StepKept.{CanDo, after_keeps}
+use Rattle.machine_model.proofs.StepKnows.{Knows, step_knows}
+use Rattle.machine_model.proofs.WorkStep.{work_kept}
+
+module _ (s : State) (c : ℕ) (o : Outcome) (all : KeepsAll s) (there : c < length s.processors) where
+  abbrev m : IsMachine s
+  m = all.machine
+
+  -- an action that may be done, of which the rules know what they do
+  done : (a : act.Action) → CanDo s c o a → Rests s c o a → Knows s c a → MayEntitle s c o a
+      → KeepsAll (after s c a o)
+  done a can rests knows entitles = record {
+    machine = record {
+      keeps = keeps;
+      script = subst IsPlan (sym pools.plan) m.script;
+      come = comes s c o m there a rests knows;
+      scheduled = schedule_kept s c o m.scheduled there a (may_schedule s c o m there a can rests knows);
+      pools = pools.sizes ∙ (m.pools ∙ ap (λ (p : Plan). p.pools) (sym pools.plan));
+    };
+    entitled = entitled_kept s c o m.keeps there all.entitled a can entitles;
+    working = work_kept s c o m all.working a (may_work s c o m there a can rests knows) keeps;
+  }
+    where
+      keeps : Keeps (after s c a o)
+      keeps = after_keeps s c o a m.keeps there can
+
+      pools : SamePools s (after s c a o)
+      pools = pools_kept s c a o
+
+  -- Each step keeps the whole promise, whichever processor makes it: where a page can't be read in and where a command
+  -- takes effect what is left of the premises is given.
+  pub step_keeps_all : Says s c o (action_of s c) → Rests s c o (action_of s c) → MayEntitle s c o (action_of s c)
+      → KeepsAll (after s c (action_of s c) o)
+  step_keeps_all says rests entitles = done (action_of s c)
+      (action_can s c o m.keeps there (step_asks s c o m there all.entitled all.working says rests)) rests
+      (step_knows s c o m there all.working) entitles
