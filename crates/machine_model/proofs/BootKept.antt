@@ -32,7 +32,7 @@ use Rattle.machine_model.proofs.TransferKept.{kept_with}
 
 module _ {A : Type 0} where
   -- each element of a list of one value is that, and so is the default past its end
-  at_fill : (n : ℕ) (x : A) (i : ℕ) → get_or (replicate n x) i x ≡ x
+  pub at_fill : (n : ℕ) (x : A) (i : ℕ) → get_or (replicate n x) i x ≡ x
   at_fill zero x i = refl
   at_fill (suc n) x zero = refl
   at_fill (suc n) x (suc i) = at_fill n x i

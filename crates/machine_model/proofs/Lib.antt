@@ -95,6 +95,7 @@ pub mod PoolsKept
 pub mod StepGoes
 pub mod EntitledKept
 pub mod MachineKept
+pub mod MachineBoot
 pub mod StepKept
 pub mod StepLaws
 pub mod TakeAsks

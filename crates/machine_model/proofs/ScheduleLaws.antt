@@ -244,7 +244,7 @@ both_no true b x y = absurd (let no : true ≡ false = x in cc)
 both_no false true x y = absurd (let no : true ≡ false = y in cc)
 
 -- the numbers from one on
-in_range : (from n j : ℕ) → has (range from n) j ≡ true → (from ≤ j) × (j < from + n)
+pub in_range : (from n j : ℕ) → has (range from n) j ≡ true → (from ≤ j) × (j < from + n)
 in_range from zero j h = absurd (let no : false ≡ true = h in cc)
 in_range from (suc n) j h = elim (eqb_tells from j) [
   | inl e ↦ (let same = e.1 in (omega (arith, same), omega (arith, same)))

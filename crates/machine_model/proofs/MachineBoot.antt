@@ -1,0 +1,78 @@
+-- The whole promise holds of the machine at first.
+use Rattle.std.proofs.Common.{◌≡◌, ◌≢◌, ◌⊎◌, ◌<◌, ◌≤◌, ℕ, ◌+◌, zero, suc, Bool, true, false, ◌||◌, cond, eqb, List, [], ◌∷◌, length, replicate}
+use Rattle.std.proofs.Common.{Option, Some, None, inl, inr, refl, sym, ap, subst, ◌∙◌, arith}
+use Rattle.std.proofs.lemmas.Bool.Decides.{eqb_tells}
+use Rattle.std.proofs.lemmas.List.{get_or-replicate}
+use Rattle.script.specs.Forms.{BeginsWithInitializer, IsPlan}
+use Rattle.script.specs.Plans.{Plan, ProcessPlan}
+use Rattle.custody_model.specs.Custody.{has, range, ready_at_first}
+use Rattle.machine_model.specs.Boot.{booted, first_run}
+use Rattle.machine_model.specs.Custodial.{AreDistinct}
+use Rattle.machine_model.specs.Entitled.{IsEntitledToAll}
+use Rattle.machine_model.specs.Keeps.{StoreSays}
+use Rattle.machine_model.specs.Promise.{IsMachine, KeepsAll}
+use Rattle.machine_model.specs.Reads.{cpu_at, no_processor, no_run, run_at}
+use Rattle.machine_model.specs.Scheduled.{AreScheduled, HasTurn, IsScheduled, MayRun}
+use Rattle.machine_model.specs.declared.Processor.{Processor}
+use Rattle.machine_model.specs.declared.Run.{Run}
+use Rattle.machine_model.proofs.BootKept.{at_fill, boot_keeps}
+use Rattle.machine_model.proofs.ComingLaws.{booted_come}
+use Rattle.machine_model.proofs.ScheduleLaws.{in_range, range_once}
+use Rattle.machine_model.proofs.TieLaws.{none_some}
+use Rattle.machine_model.proofs.WorkStep.{none_work}
+
+module _ (p : Plan) (words : List (List ℕ)) (disks : List (List (List ℕ))) (script : IsPlan p) where
+  -- no processor has a process
+  nobody : (d k : ℕ) → (cpu_at (replicate p.processors no_processor) d).process ≡ Some k → ⊥
+  nobody d k h = none_some (sym (ap (λ (x : Processor). x.cpu.process) (at_fill p.processors no_processor d)) ∙ h)
+
+  goes : (k : ℕ) → k < length p.processes → (run_at (replicate (length p.processes) first_run) k).ended ≡ false
+  goes k h = ap (λ (r : Run). r.ended) (get_or-replicate (length p.processes) k first_run no_run h)
+
+  some_process : (xs : List ProcessPlan) → BeginsWithInitializer xs → 0 < length xs
+  some_process [] h = absurd h
+  some_process (x ∷ xs) h = omega arith
+
+  -- what is ready at first is of the script, and its turn
+  ready_is : (b : Bool) → p.initializer ≡ b → (k : ℕ) → has (cond b (0 ∷ []) (range 0 (length p.processes))) k ≡ true
+      → (k < length p.processes) × HasTurn p (replicate (length p.processes) first_run) k
+  ready_is true e k h = by (eqb_tells 0 k)
+    where
+      by : ((eqb 0 k ≡ true) × (0 ≡ k)) ⊎ ((eqb 0 k ≡ false) × (0 ≢ k))
+          → (k < length p.processes) × HasTurn p (replicate (length p.processes) first_run) k
+      by (inl same) = (
+        subst (λ (j : ℕ). j < length p.processes) same.1 (some_process p.processes (script.first e)),
+        inr (inl (sym same.1)),
+      )
+      by (inr other) = absurd (let none : false ≡ true = sym (ap (λ (a : Bool). a || false) other.0) ∙ h in cc)
+  ready_is false e k h = (let at = (in_range 0 (length p.processes) k h).1 in omega (arith, at), inl e)
+
+  once : (b : Bool) → AreDistinct (cond b (0 ∷ []) (range 0 (length p.processes)))
+  once true = (refl, tt)
+  once false = range_once 0 (length p.processes)
+
+  first_scheduled : IsScheduled (booted p words disks)
+  first_scheduled = record {
+    running = λ d k h. absurd (nobody d k h);
+    online = λ d k h. absurd (nobody d k h);
+    alone = λ d e k h g. absurd (nobody d k h);
+    waiting = λ k h. (let at = ready_is p.initializer refl k h in
+        record { planned = at.0; going = goes k at.0; turn = at.1 });
+    once = once p.initializer;
+    apart = λ d k h. absurd (nobody d k h);
+    back = λ i e k h. goes k h;
+  }
+
+  -- The machine keeps all of it at first: what the store says of itself is all that it wants.
+  pub boot_keeps_all : StoreSays (booted p words disks) → KeepsAll (booted p words disks)
+  boot_keeps_all says = record {
+    machine = record {
+      keeps = boot_keeps p words disks says;
+      script = script;
+      come = booted_come p words disks script;
+      scheduled = first_scheduled;
+      pools = refl;
+    };
+    entitled = record { each = λ d k h. absurd (nobody d k h) };
+    working = none_work (booted p words disks) refl;
+  }
