@@ -1,0 +1,63 @@
+use crate::answers::answer_text;
+use crate::asking::Asked;
+use std::alloc::{AllocError, Global};
+use std::sync::Wait;
+use std::thread::Threads;
+
+/// The text up to the first line feed, and what comes after it.
+fn first_line(text: &str) -> (&str, &str) {
+    text.split_once('\n').unwrap_or((text, ""))
+}
+
+/// What an input gives, whatever the pieces are in which it is read.
+fn answers<R: Threads + Wait + Sync + AllocGlobal>(
+    rt: &R,
+    asked: &Asked,
+    input: &str,
+) -> Result<String, AllocError> {
+    let whole = answer_text(rt, asked, input.as_bytes(), 65536)?;
+    for piece in [1, 7] {
+        let other = answer_text(rt, asked, input.as_bytes(), piece)?;
+        if other != whole {
+            return format!(in rt.alloc(); "{whole}in pieces of {piece} bytes: {other}");
+        }
+    }
+    Ok(whole)
+}
+
+/// The lines that all cases of a group begin with, and those of one.
+fn joined(alloc: Global, front: &str, lines: &str) -> Result<String, AllocError> {
+    format!(in alloc; "{front}\n{lines}")
+}
+
+/// The name of each case of a group, and what it gives.
+fn group_text<R: Threads + Wait + Sync + AllocGlobal>(
+    rt: &R,
+    asked: &Asked,
+    front: &str,
+    parts: &str,
+) -> Result<String, AllocError> {
+    let mut text = String::new(rt.alloc());
+    for part in parts.split("\n-- ") {
+        let (name, lines) = first_line(part);
+        let input = joined(rt.alloc(), front, lines)?;
+        let given = answers(rt, asked, input.as_str())?;
+        write!(text, "-- {name}\n{given}")?;
+    }
+    Ok(text)
+}
+
+/// The name of a case, and what it gives.
+pub(crate) fn case_text<R: Threads + Wait + Sync + AllocGlobal>(
+    rt: &R,
+    case: &str,
+) -> Result<String, AllocError> {
+    let (name, rest) = first_line(case);
+    let (line, input) = first_line(rest);
+    let asked = Asked::by(line);
+    let given = match input.split_once("\n-- ") {
+        Some((front, parts)) => group_text(rt, &asked, front, parts)?,
+        None => answers(rt, &asked, input)?,
+    };
+    format!(in rt.alloc(); "== {name}\n{given}")
+}
