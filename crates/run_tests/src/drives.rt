@@ -1,5 +1,6 @@
-//! The drives that a script's lines make.
+//! The drives that a script's lines make, and the calls that a run makes of one.
 
+use crate::asking::{PLAIN, ask};
 use bulk_store::AnyDrive;
 use mword::Page;
 use runner::drive_of;
@@ -49,5 +50,29 @@ fn a_fail_line_names_calls_of_its_own_volume(rt: HostRuntime) -> Result<(), Fail
     assert!(rt; beta.write_page(0, &page).is_err());
     assert!(rt; beta.write_page(0, &page).is_err());
     assert_eq!(rt; beta.calls(), (1, 2));
+    Ok(())
+}
+
+/// Six pages in four frames, and the first of them once more.
+const SIX_PAGES: &[u8] = b"machine 1 4 12 1 1 1
+quota 9
+volume alpha 16 4
+process Smith
+mkseg >s 6 alpha
+initiate >s
+write 0 0 1
+write 0 1024 1
+write 0 2048 1
+write 0 3072 1
+write 0 4096 1
+write 0 5120 1
+read 0 0
+end
+";
+
+#[test]
+fn six_pages_in_four_frames_are_written_once_and_one_is_read(rt: HostRuntime) -> Result<(), Fail> {
+    let answer = ask(&rt, &["run"], SIX_PAGES, PLAIN)?;
+    assert_eq!(rt; answer.calls, Some((1, 6)));
     Ok(())
 }

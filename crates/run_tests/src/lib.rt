@@ -1,16 +1,16 @@
-//! Tests of runs, over the public calls of `runner` and `flat_store`: whole scripts with the texts that they must give,
-//! and books that the flat store follows or refuses.
+//! Tests of the program that a loop makes, over the public calls of `runner`: inputs cut at each byte or with each byte
+//! changed, reads and writes that fail in turn, and texts that are too long to stand here. `cases` has all others.
 #![tactic(auto)]
 
 #[cfg(test)]
-mod checking;
+mod asking;
+#[cfg(test)]
+mod changing;
 #[cfg(test)]
 mod drilling;
 #[cfg(test)]
 mod drives;
 #[cfg(test)]
+mod failing;
+#[cfg(test)]
 mod making;
-#[cfg(test)]
-mod replaying;
-#[cfg(test)]
-mod running;

@@ -1,15 +1,13 @@
 //! The mode `make`: the script of a day, by its length and its sum, and through the top call.
 
+use crate::asking::ask_unread;
 use make_work::make_script;
-use runner::{Status, Words, multics};
+use runner::Status;
 use script::{read_script, script_text};
 use sha2::{Digest, Sha256};
-use site_io::{MemorySink, MemorySource, NoGate};
 use std::alloc::{AllocError, Global};
 use std::process::Abort;
-use std::sync::Wait;
 use std::test::Fail;
-use std::thread::Threads;
 
 /// The lengths and the SHA-256 sums of three days.
 const DAYS: [(u32, usize, &str); 3] = [
@@ -68,49 +66,23 @@ fn a_day_is_read_as_a_script_with_that_text(rt: HostRuntime) -> Result<(), Fail>
     Ok(())
 }
 
-/// How the program ends that is asked for `make` with a number, and what it writes into so much room.
-fn make<R: Threads + Wait + Sync + AllocGlobal>(
-    rt: &R,
-    number: &str,
-    room: usize,
-) -> Result<(Status, Vec<u8>), Fail> {
-    let alloc = rt.alloc();
-    let mut texts = Vec::new(alloc);
-    texts.push(String::from_str(alloc, "make")?)?;
-    texts.push(String::from_str(alloc, number)?)?;
-    let mut source = MemorySource::new(Vec::new(alloc), 1, vec![in alloc; 1]?);
-    let mut sink = MemorySink::new(alloc, room, Vec::new(alloc))?;
-    let finished = multics(
-        rt,
-        alloc,
-        Words::new(texts),
-        &mut source,
-        &mut sink,
-        &NoGate,
-    );
-    Ok((finished.status, sink.bytes().to_vec(alloc)?))
-}
-
 #[test]
 fn the_program_prints_a_day_and_reads_nothing(rt: HostRuntime) -> Result<(), Fail> {
     let day = make_script(rt.alloc(), 7)?;
     for number in ["7", "0000000007"] {
-        let (status, written) = make(&rt, number, 1_000_000)?;
-        assert_eq!(rt; status, Status::Done);
-        assert!(rt; written.as_slice() == day.as_slice());
+        let answer = ask_unread(&rt, &["make", number], 1_000_000)?;
+        assert!(rt; answer.status == Status::Done);
+        assert!(rt; answer.text.as_slice() == day.as_slice());
     }
-    let (status, written) = make(&rt, "7", 1000)?;
-    assert_eq!(rt; status, Status::WriteFault);
-    assert_eq!(rt; written.len(), 1000);
-    assert!(rt; day.starts_with(written.as_slice()));
     Ok(())
 }
 
 #[test]
-fn other_numbers_are_no_form_of_the_program(rt: HostRuntime) -> Result<(), Fail> {
-    for number in ["", "x", "-1", "4294967296", "00000000007", "7 ", "1e3"] {
-        let (status, _) = make(&rt, number, 1_000_000)?;
-        assert_eq!(rt; status, Status::Usage, "{number}");
-    }
+fn a_day_that_has_no_room_is_written_in_front(rt: HostRuntime) -> Result<(), Fail> {
+    let day = make_script(rt.alloc(), 7)?;
+    let answer = ask_unread(&rt, &["make", "7"], 1000)?;
+    assert!(rt; answer.status == Status::WriteFault);
+    assert_eq!(rt; answer.text.len(), 1000);
+    assert!(rt; day.starts_with(answer.text.as_slice()));
     Ok(())
 }
