@@ -1,13 +1,14 @@
 -- What tests begin with.
 use Rattle.std.proofs.Common.{◌≡◌, ℕ, zero, suc, ◌<◌, length, arith, Bool, true, false, List, [], ◌∷◌, Option, None}
-use Rattle.std.proofs.Common.{Some, refl, sym, ap, ◌∙◌, get_or, replicate, subst, IsSome}
+use Rattle.std.proofs.Common.{Some, refl, sym, ap, ◌∙◌, get_or, set, replicate, subst, IsSome}
 use Rattle.core_map.specs.declared.Frame.{Frame}
 use Rattle.core_map.specs.declared.Frame.TheVariants.{Free}
 use Rattle.core_map.specs.CoreMap.{Core}
 use Rattle.record_map.specs.Bitmap.{in_use}
 use Rattle.vtoc.specs.FileMap.{no_records}
-use Rattle.vtoc.specs.Vtoc.{Entry, record_at, fresh_entry}
-use Rattle.page_control.specs.Plain.{Plain}
+use Rattle.vtoc.specs.Vtoc.{Entry, record_at, fresh_entry, least_free_entry}
+use Rattle.page_control.specs.Plain.{Plain, plain, vtoc_of}
+use Rattle.page_control.specs.Effects.{after_asked}
 use Rattle.page_control.specs.Tied.{vtoc_in, flags_in, map_at, uid_at, AreFiled}
 use Rattle.volumes.specs.CoreDrive.{DriveState}
 use Rattle.active_segs.specs.Active.{ActiveSegs, no_segments, uid_in, IsFull, uid_at as uid_at_place}
@@ -16,7 +17,7 @@ use Rattle.seg_control.specs.declared.Link.{Link}
 use Rattle.seg_control.specs.Control.{Control}
 use Rattle.seg_control.specs.Next.{link_at, words_in, FitsIn, MayActivate}
 use Rattle.segs_tests.specs.Begun.{HasBegun}
-use Rattle.seg_control.specs.Kept.{AreFree, AreAtRest}
+use Rattle.seg_control.specs.Kept.{AreFree, AreAtRest, HasHomeIfActive}
 
 alike : {X : Type 0} (n q : ℕ) (x : X) → get_or (replicate n x) q x ≡ x
 alike zero q x = refl
@@ -132,3 +133,37 @@ root_may_by s vtoc begun used empty =
 pub root_may : (s : Control DriveState) → HasBegun s (fresh_entry 1 ∷ None ∷ None ∷ [])
     → MayActivate s.ast s.pages.volumes.vtocs (length s.pages.volumes.drives) (root ∷ [])
 root_may s begun = root_may_by s (fresh_entry 1 ∷ None ∷ None ∷ []) begun refl (λ p. no_record p)
+
+-- ---- a segment gets a home
+
+abbrev plain_now : Control DriveState → Plain
+plain_now s = plain (λ (d : DriveState). d.pages) s.pages
+
+pub none_active : (s : Control DriveState) (vtoc : List (Option Entry)) (uid : ℕ) → HasBegun s vtoc
+    → HasHomeIfActive s.pages.volumes.vtocs s.ast.entries uid
+none_active s vtoc uid begun = record {
+  home = λ active. absurd (not_none (uid_at_place s.ast.entries active.0) uid
+      (ap (λ (a : ActiveSegs). uid_at_place a.entries active.0) begun.ast
+      ∙ ap uid_in (alike 2 active.0 None)) active.1);
+}
+
+pub homed_too : (old new : Control DriveState) (vtoc : List (Option Entry)) (e uid : ℕ) (r : Option ℕ)
+    → HasBegun old vtoc → r ≡ least_free_entry (vtoc_of (plain_now old) 0) → least_free_entry vtoc ≡ Some e
+    → plain_now new ≡ after_asked (plain_now old) 0 uid r
+    → new.pages.volumes.drives ≡ old.pages.volumes.drives → new.ast ≡ old.ast → new.links ≡ old.links
+    → HasBegun new (set vtoc e (fresh_entry uid))
+homed_too old new vtoc e uid r begun least free effect drives ast links = record {
+  frames = ap (λ (now : Plain). now.core.frames) after ∙ begun.frames;
+  drives = ap (λ (those : List DriveState). length those) drives ∙ begun.drives;
+  records = ap (λ (now : Plain). now.records) after ∙ begun.records;
+  vtocs = ap (λ (now : Plain). now.vtocs) after ∙ ap (λ (v : List (List (Option Entry))). set v 0
+      (set (vtoc_in v 0) e (fresh_entry uid))) begun.vtocs;
+  ast = ast ∙ begun.ast;
+  links = links ∙ begun.links;
+}
+  where
+    some : r ≡ Some e
+    some = least ∙ ap (λ (v : List (List (Option Entry))). least_free_entry (vtoc_in v 0)) begun.vtocs ∙ free
+
+    after : plain_now new ≡ after_asked (plain_now old) 0 uid (Some e)
+    after = effect ∙ ap (λ (o : Option ℕ). after_asked (plain_now old) 0 uid o) some

@@ -1,10 +1,11 @@
 //! Two segments below the root, and one place for them.
 
-ghost use Rattle.std.specs.Prelude.{None, Some, IfOk, OnOk};
+ghost use Rattle.std.specs.Prelude.{[], ◌∷◌, None, Some, IfOk, OnOk};
+ghost use Rattle.vtoc.specs.Vtoc.{fresh_entry};
 ghost use Rattle.segs_tests.specs.Begun.{HasBegun};
 ghost use Rattle.segs_tests.specs.Tree.{HasTree, IsBelow, three_homes};
 
-use super::{NoMemory, ROOT, Refused, nothing_active};
+use super::{NoMemory, ROOT, Refused, root_homed};
 use page_control::Home;
 use seg_control::{Link, Next, Segs};
 use std::alloc::Global;
@@ -31,13 +32,20 @@ const EIGHTH: Link = Link {
     },
 };
 
+/// The root and one of the segments have their homes, and none is active.
+fn two_homed(alloc: Global) -> Result<Segs<CoreDrive>, NoMemory>
+    ensures { IfOk result (λ s. HasBegun s (fresh_entry 1 ∷ fresh_entry 7 ∷ None ∷ [])) }
+{
+    let mut segs = root_homed(alloc, Vec::new(alloc))?;
+    segs.new_home(0, 7);
+    Ok(segs)
+}
+
 /// The root and both segments have their homes, and none is active.
 fn three_homed(alloc: Global) -> Result<Segs<CoreDrive>, NoMemory>
     ensures { IfOk result (λ s. HasBegun s three_homes) }
 {
-    let mut segs = nothing_active(alloc, Vec::new(alloc))?;
-    segs.new_home(0, 1);
-    segs.new_home(0, 7);
+    let mut segs = two_homed(alloc)?;
     segs.new_home(0, 8);
     Ok(segs)
 }
