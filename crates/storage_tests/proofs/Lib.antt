@@ -1,1 +1,4 @@
 pub mod Begun
+pub mod Looked
+pub mod Paths
+pub mod Quiet
