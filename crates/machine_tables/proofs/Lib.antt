@@ -9,3 +9,4 @@ pub mod ReadyLaws
 pub mod RightLaws
 pub mod SignalLaws
 pub mod TakeLaws
+pub mod TookLaws

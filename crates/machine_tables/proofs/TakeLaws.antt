@@ -1,14 +1,14 @@
 -- Pages of a segment that are taken one after the other.
-use Rattle.std.proofs.Common.{◌≡◌, ◌≢◌, ◌+◌, ◌<◌, ◌≤◌, ℕ, suc, Bool, true, false, List, [], ◌∷◌, ◌++◌, length}
+use Rattle.std.proofs.Common.{◌≡◌, ◌+◌, ◌<◌, ◌≤◌, ℕ, true, List, [], ◌∷◌, ◌++◌, length}
 use Rattle.std.proofs.Common.{drop, set}
-use Rattle.std.proofs.Common.{get_or, Option, Some, None, refl, sym, ap, ◌∙◌, arith, inl, inr, length-append, subst}
+use Rattle.std.proofs.Common.{Option, Some, refl, sym, ap, ◌∙◌, arith, inl, inr, length-append, subst}
 use Rattle.std.proofs.lemmas.Bool.{cases_lt}
 use Rattle.std.proofs.lemmas.List.{drop-set-lt, drop_more, get_or-set_same, get_or_past, length-set}
 use Rattle.std.proofs.Math.ListN.{drop_of_length-le}
 use Rattle.assoc_mem.specs.declared.What.{What}
 use Rattle.core_map.specs.declared.Frame.{Frame}
 use Rattle.core_map.specs.declared.Frame.TheVariants.{Free, Started, Bound}
-use Rattle.core_map.specs.CoreMap.{bound_page, frame_at, is_bound}
+use Rattle.core_map.specs.CoreMap.{bound_page, is_bound}
 use Rattle.page_table.specs.declared.Ptw.{Ptw}
 use Rattle.page_table.specs.declared.Ptw.TheVariants.{Null, Here, Leaving}
 use Rattle.active_segs.specs.declared.Entry.{Entry}
@@ -50,7 +50,7 @@ take_all-append : (s : State) (c : ℕ) (a : Aim) (w : What) (fs gs : List ℕ)
 take_all-append s c a w [] gs = refl
 take_all-append s c a w (f ∷ fs) gs = take_all-append (take_one s c a w f) c a w fs gs
 
-owner_still : (s : State) (c : ℕ) (a : Aim) (w : What) (fs : List ℕ) → HasOwner s.owner
+pub owner_still : (s : State) (c : ℕ) (a : Aim) (w : What) (fs : List ℕ) → HasOwner s.owner
     → HasOwner (take_all s c a w fs).owner
 owner_still s c a w [] has = has
 owner_still s c a w (f ∷ fs) has = owner_still (take_one s c a w f) c a w fs (λ none. none_some (sym none))
@@ -64,7 +64,7 @@ frames_more s c a w (f ∷ fs) =
     length-append (frames_of_owner s.owner) (f ∷ []) in
     omega (arith, rest, one)
 
-room_less : (s : State) (c : ℕ) (a : Aim) (w : What) (fs : List ℕ) → length fs ≤ s.spare
+pub room_less : (s : State) (c : ℕ) (a : Aim) (w : What) (fs : List ℕ) → length fs ≤ s.spare
     → (take_all s c a w fs).spare + length fs ≡ s.spare
 room_less s c a w [] le = omega arith
 room_less s c a w (f ∷ fs) le =
@@ -72,11 +72,11 @@ room_less s c a w (f ∷ fs) le =
 
 -- ---- a table whose pages are taken in order
 
-frames_here : (ast : ActiveSegs) (u p : ℕ) → p < length (table_of ast u)
+pub frames_here : (ast : ActiveSegs) (u p : ℕ) → p < length (table_of ast u)
     → frames_from ast u p ≡ here_in (word_of ast u p) ++ frames_from ast u (p + 1)
 frames_here ast u p lt = ap frames_in (drop_more (table_of ast u) p Null lt)
 
-frames_past : (ast : ActiveSegs) (u p : ℕ) → length (table_of ast u) ≤ p → frames_from ast u p ≡ []
+pub frames_past : (ast : ActiveSegs) (u p : ℕ) → length (table_of ast u) ≤ p → frames_from ast u p ≡ []
 frames_past ast u p le = ap frames_in (drop_of_length-le (table_of ast u) le)
 
 table_within : (tables : List (List Ptw)) (place p : ℕ) → p < length (table_at tables place) → place < length tables

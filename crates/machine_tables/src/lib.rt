@@ -8,6 +8,7 @@
 
 mod answering;
 mod connecting;
+mod emptying;
 mod ending;
 mod owner;
 mod paging;

@@ -1,4 +1,4 @@
-use Rattle.std.proofs.Common.{◌<◌, ◌≤◌, length, rules, arith}
+use Rattle.std.proofs.Common.{◌<◌, ◌≤◌, length, arith}
 use Rattle.seg_control.specs.Control.{table_of}
 use Rattle.machine_tables.proofs.PartLaws.{rest_end, rest_next, state_of}
 use Rattle.machine_tables.proofs.TakeLaws.{here_few, takes_end, takes_next}

@@ -1,0 +1,148 @@
+-- What stays while pages are taken, and what is taken of a segment.
+use Rattle.std.proofs.Common.{◌≡◌, ◌+◌, ◌<◌, ◌≤◌, ℕ, true, false, not, cond, List, [], ◌∷◌, ◌++◌, length}
+use Rattle.std.proofs.Common.{Option, Some, None, refl, sym, ap}
+use Rattle.std.proofs.Common.{subst, ◌∙◌, arith}
+use Rattle.std.specs.List.{list_any}
+use Rattle.assoc_mem.specs.declared.What.{What}
+use Rattle.assoc_mem.specs.declared.What.TheVariants.{Seg}
+use Rattle.core_map.specs.CoreMap.{bound_page}
+use Rattle.active_segs.specs.declared.Entry.{Entry}
+use Rattle.page_control.specs.Plain.{frame_in}
+use Rattle.trailers.specs.Trailer.{trailers_of}
+use Rattle.active_segs.specs.Active.{ActiveSegs, IsActive}
+use Rattle.seg_control.specs.Control.{Links, is_for, place_of, table_of, word_of}
+use Rattle.machine_model.specs.declared.Aim.{Aim}
+use Rattle.machine_model.specs.declared.Aim.TheVariants.{Deactivating}
+use Rattle.machine_model.specs.Jobs.{cut_all, emptied, leaving_if, segment_taken, take_all, take_one, took}
+use Rattle.machine_model.specs.Actions.{is_empty}
+use Rattle.machine_model.specs.Reads.{cut_of_owner, frames_from, here_in, trailers_in}
+use Rattle.machine_model.specs.State.{State, Storage}
+use Rattle.machine_tables.specs.Owned.{HasOwner}
+use Rattle.machine_tables.specs.Parts.{Parts, with_state}
+use Rattle.machine_tables.specs.Taken.{is_bare}
+use Rattle.machine_tables.proofs.TakeLaws.{frames_here, frames_past, owner_still, room_less}
+
+leaving_entries : (st : Storage) (f : ℕ) (o : Option (ℕ × ℕ)) → (leaving_if st f o).ast.entries ≡ st.ast.entries
+leaving_entries st f None = refl
+leaving_entries st f (Some page) = refl
+
+leaving_links : (st : Storage) (f : ℕ) (o : Option (ℕ × ℕ)) → (leaving_if st f o).links ≡ st.links
+leaving_links st f None = refl
+leaving_links st f (Some page) = refl
+
+entries_still : (s : State) (c : ℕ) (a : Aim) (w : What) (fs : List ℕ)
+    → (take_all s c a w fs).store.ast.entries ≡ s.store.ast.entries
+entries_still s c a w [] = refl
+entries_still s c a w (f ∷ fs) = entries_still (take_one s c a w f) c a w fs
+    ∙ leaving_entries s.store f (bound_page (frame_in s.store.pages f))
+
+links_still : (s : State) (c : ℕ) (a : Aim) (w : What) (fs : List ℕ)
+    → (take_all s c a w fs).store.links ≡ s.store.links
+links_still s c a w [] = refl
+links_still s c a w (f ∷ fs) = links_still (take_one s c a w f) c a w fs
+    ∙ leaving_links s.store f (bound_page (frame_in s.store.pages f))
+
+pub cut_still : (s : State) (c : ℕ) (a : Aim) (w : What) (fs : List ℕ)
+    → cut_of_owner (take_all s c a w fs).owner ≡ cut_of_owner s.owner
+cut_still s c a w [] = refl
+cut_still s c a w (f ∷ fs) = cut_still (take_one s c a w f) c a w fs
+
+abbrev trailers_by : List (Option Entry) → Links → ℕ → List (ℕ × ℕ)
+trailers_by entries links u =
+    cond (list_any (is_for u) entries) (trailers_of links.trailers (place_of entries u)) []
+
+pub trailers_still : (s : State) (c : ℕ) (a : Aim) (w : What) (fs : List ℕ) (u : ℕ)
+    → trailers_in (take_all s c a w fs).store u ≡ trailers_in s.store u
+trailers_still s c a w fs u =
+    ap (λ (es : List (Option Entry)). trailers_by es (take_all s c a w fs).store.links u) (entries_still s c a w fs)
+    ∙ ap (λ (ls : Links). trailers_by s.store.ast.entries ls u) (links_still s c a w fs)
+
+-- ---- what is taken of a segment
+
+pub segment_bare : (s : State) (c u : ℕ) (fs : List ℕ) (pairs : List (ℕ × ℕ)) → is_bare fs pairs ≡ true
+    → segment_taken s c u fs pairs ≡ emptied s c u
+segment_bare s c u [] [] h = refl
+segment_bare s c u [] (x ∷ xs) h = let no : false ≡ true = h in absurd cc
+segment_bare s c u (f ∷ fs) pairs h = let no : false ≡ true = h in absurd cc
+
+pub segment_used : (s : State) (c u : ℕ) (fs : List ℕ) (pairs : List (ℕ × ℕ)) → is_bare fs pairs ≡ false
+    → segment_taken s c u fs pairs ≡ took s c (Deactivating u) (Seg u) fs pairs
+segment_used s c u [] [] h = let no : true ≡ false = h in absurd cc
+segment_used s c u [] (x ∷ xs) h = refl
+segment_used s c u (f ∷ fs) pairs h = refl
+
+-- ---- whether there is something to take
+
+nonempty_append : (xs ys : List ℕ) → not (is_empty xs) ≡ true → not (is_empty (xs ++ ys)) ≡ true
+nonempty_append [] ys h = absurd (let no : false ≡ true = h in cc)
+nonempty_append (x ∷ xs) ys h = refl
+
+none_of : (xs : List ℕ) → not (is_empty xs) ≡ false → xs ≡ []
+none_of [] h = refl
+none_of (x ∷ xs) h = absurd (let no : true ≡ false = h in cc)
+
+pub some_here : (ast : ActiveSegs) (u p low : ℕ) → frames_from ast u p ≡ frames_from ast u low
+    → p < length (table_of ast u) → not (is_empty (here_in (word_of ast u p))) ≡ true
+    → not (is_empty (frames_from ast u low)) ≡ true
+some_here ast u p low same lt here =
+    ap (λ (xs : List ℕ). not (is_empty xs)) (sym same ∙ frames_here ast u p lt)
+    ∙ nonempty_append (here_in (word_of ast u p)) (frames_from ast u (p + 1)) here
+
+pub next_here : (ast : ActiveSegs) (u p low : ℕ) → frames_from ast u p ≡ frames_from ast u low
+    → p < length (table_of ast u) → not (is_empty (here_in (word_of ast u p))) ≡ false
+    → frames_from ast u (p + 1) ≡ frames_from ast u low
+next_here ast u p low same lt none =
+    sym (frames_here ast u p lt ∙ ap (λ (xs : List ℕ). xs ++ frames_from ast u (p + 1))
+    (none_of (here_in (word_of ast u p)) none)) ∙ same
+
+pub none_here : (ast : ActiveSegs) (u p low : ℕ) → frames_from ast u p ≡ frames_from ast u low
+    → length (table_of ast u) ≤ p → not (is_empty (frames_from ast u low)) ≡ false
+none_here ast u p low same past =
+    ap (λ (xs : List ℕ). not (is_empty xs)) (sym same ∙ frames_past ast u p past)
+
+pub bare_pages : (fs : List ℕ) (pairs : List (ℕ × ℕ)) → not (is_empty fs) ≡ true → is_bare fs pairs ≡ false
+bare_pages [] pairs h = absurd (let no : false ≡ true = h in cc)
+bare_pages (f ∷ fs) pairs h = refl
+
+pub bare_trailers : (fs : List ℕ) (pairs rest : List (ℕ × ℕ)) (pair : ℕ × ℕ) → pairs ≡ pair ∷ rest
+    → is_bare fs pairs ≡ false
+bare_trailers fs pairs rest pair is = ap (is_bare fs) is ∙ by fs
+  where
+    by : (xs : List ℕ) → is_bare xs (pair ∷ rest) ≡ false
+    by [] = refl
+    by (x ∷ xs) = refl
+
+pub bare_none : (fs : List ℕ) (pairs : List (ℕ × ℕ)) → not (is_empty fs) ≡ false → pairs ≡ []
+    → is_bare fs pairs ≡ true
+bare_none fs pairs none is = ap (λ (xs : List ℕ). is_bare xs pairs) (none_of fs none) ∙ ap (is_bare []) is
+
+-- ---- pages, and then descriptors
+
+-- what the cuts ask, once the pages are taken
+pub record CanCut (t : State) (u : ℕ) : Type 0 where
+  pub active : IsActive t.store.ast.entries u
+  pub owner : HasOwner t.owner
+  pub few : length (cut_of_owner t.owner) + length (trailers_in t.store u) ≤ 256
+  pub room : length (trailers_in t.store u) ≤ t.spare
+
+pub after_pages : (s t : State) (c : ℕ) (a : Aim) (w : What) (fs : List ℕ) (u : ℕ) → t ≡ take_all s c a w fs
+    → IsActive s.store.ast.entries u → HasOwner s.owner
+    → length (cut_of_owner s.owner) + length (trailers_in s.store u) ≤ 256
+    → length fs + length (trailers_in s.store u) ≤ s.spare → CanCut t u
+after_pages s t c a w fs u is active owner few room = subst (λ (x : State). CanCut x u) (sym is) (record {
+  active = subst (λ (e : List (Option Entry)). IsActive e u) (sym (entries_still s c a w fs)) active;
+  owner = owner_still s c a w fs owner;
+  few = let cut = ap length (cut_still s c a w fs) in let all = ap length (trailers_still s c a w fs u) in
+      omega (arith, cut, all, few);
+  room = let spent = room_less s c a w fs (omega (arith, room)) in
+      let all = ap length (trailers_still s c a w fs u) in omega (arith, spent, all, room);
+})
+
+pub took_is : {D : Type 0} (old mid new : Parts D) (c : ℕ) (a : Aim) (w : What) (fs : List ℕ) (u : ℕ)
+    → mid ≡ with_state old (take_all old.state c a w fs)
+    → new ≡ with_state mid (cut_all mid.state c a w (trailers_in mid.state.store u))
+    → new ≡ with_state old (took old.state c a w fs (trailers_in old.state.store u))
+took_is old mid new c a w fs u took cut =
+    cut ∙ ap (λ (x : Parts _). with_state x (cut_all x.state c a w (trailers_in x.state.store u))) took
+    ∙ ap (λ (xs : List (ℕ × ℕ)). with_state old (cut_all (take_all old.state c a w fs) c a w xs))
+    (trailers_still old.state c a w fs u)

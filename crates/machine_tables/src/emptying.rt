@@ -1,0 +1,153 @@
+ghost use Rattle.std.specs.Prelude.{◌≡◌, ◌<◌, ◌≤◌, ◌+◌, length, Some, not, true, [], ◌∷◌, if◌then◌else◌};
+ghost use Rattle.page_table.specs.declared.Ptw.TheVariants.{Here};
+ghost use Rattle.active_segs.specs.Active.{IsActive};
+ghost use Rattle.seg_control.specs.Control.{leads_at};
+ghost use Rattle.machine_model.specs.Actions.{descriptors_taken, first_taken, frames_taken, is_empty, what_taken};
+ghost use Rattle.assoc_mem.specs.declared.What.TheVariants.{Seg};
+ghost use Rattle.machine_model.specs.declared.Aim.TheVariants.{Committing, Deactivating};
+ghost use Rattle.machine_model.specs.Jobs.{cut_all, deactivation_begun, took};
+ghost use Rattle.machine_model.specs.Reads.{connected_of, cut_of_owner, descriptor_of, frames_from, frames_of_owner};
+ghost use Rattle.machine_model.specs.Reads.{here_in, is_connected, trailers_in};
+ghost use Rattle.machine_tables.specs.Owned.{HasOwner};
+ghost use Rattle.machine_tables.specs.Parts.{with_state};
+ghost use Rattle.machine_tables.specs.Taken.{IsEmptied, is_bare};
+
+use crate::tables::Tables;
+use assoc_mem::What;
+use descriptor_seg::Sdw;
+use machine_model::Aim;
+use page_table::Ptw;
+use script::Command;
+use volumes::Drive;
+
+/// The pages of its segment that a tree command must have out of use: those from a number on, if any.
+fn first_taken(command: &Command) -> Option<u32>
+    ensures { result ≡ first_taken command.now }
+{
+    match command {
+        Command::Delete { .. } => Some(0),
+        Command::Truncate { words, .. } => Some(*words / 1024),
+        _ => None,
+    }
+}
+
+/// What is signalled for a tree command of this segment.
+fn what_taken(uid: u32, command: &Command) -> What
+    ensures { result ≡ what_taken uid command.now }
+{
+    match command {
+        Command::End => What::All,
+        _ => What::Seg(uid),
+    }
+}
+
+/// Whether references go through a word to a frame.
+fn is_here(word: Ptw) -> bool
+    ensures { result ≡ not (is_empty (here_in word)) }
+{
+    matches!(word, Ptw::Here(_))
+}
+
+impl<D: Drive> Tables<D> {
+    /// Whether a page of an active segment is here, of those from a number on.
+    pub(crate) fn has_pages(&self, uid: u32, low: u32) -> bool
+        requires { IsActive self.now.state.store.ast.entries uid }
+        ensures { result ≡ not (is_empty (frames_from self.now.state.store.ast uid low)) }
+    {
+        for p in low..self.table_size(uid) {
+            let here = is_here(self.word_of(uid, p));
+            if here {
+                return true;
+            }
+        }
+        false
+    }
+
+    /// Whether an active segment has no page here, and no descriptor leads to it.
+    fn is_bare(&self, uid: u32) -> bool
+        requires { IsActive self.now.state.store.ast.entries uid }
+        ensures { result ≡ is_bare (frames_from self.now.state.store.ast uid 0)
+            (trailers_in self.now.state.store uid) }
+    {
+        let here = self.has_pages(uid, 0);
+        if here {
+            return false;
+        }
+        match self.first_trailer(uid) {
+            Some(_) => false,
+            None => true,
+        }
+    }
+
+    /// The owner takes the pages of an active segment that are here, and cuts the descriptors that lead to it.
+    fn take_segment(&mut self, c: u32, uid: u32)
+        requires active { IsActive self.old.state.store.ast.entries uid }
+        requires owner { HasOwner self.old.state.owner }
+        requires pages { length (frames_of_owner self.old.state.owner)
+            + length (frames_from self.old.state.store.ast uid 0) ≤ 256 }
+        requires descriptors { length (cut_of_owner self.old.state.owner)
+            + length (trailers_in self.old.state.store uid) ≤ 256 }
+        requires room { length (frames_from self.old.state.store.ast uid 0)
+            + length (trailers_in self.old.state.store uid) ≤ self.old.state.spare }
+        ensures { self.new ≡ with_state self.old (took self.old.state c (Deactivating uid) (Seg uid)
+            (frames_from self.old.state.store.ast uid 0) (trailers_in self.old.state.store uid)) }
+    {
+        let aim = Aim::Deactivating { uid };
+        self.take_pages(c, aim, What::Seg(uid), uid, 0);
+        self.cut_trailers(c, aim, What::Seg(uid), uid);
+    }
+
+    /// Processor `c` takes the pages of an active segment that are here, and cuts the descriptors that lead to it, so
+    /// that it becomes inactive; where there are none it is inactive at once. (Source: Bensoussan, Clingen and Daley
+    /// 1972; Organick 1972.)
+    pub fn empty(&mut self, c: u32, uid: u32)
+        requires active { IsActive self.old.state.store.ast.entries uid }
+        requires owner { HasOwner self.old.state.owner }
+        requires pages { length (frames_of_owner self.old.state.owner)
+            + length (frames_from self.old.state.store.ast uid 0) ≤ 256 }
+        requires descriptors { length (cut_of_owner self.old.state.owner)
+            + length (trailers_in self.old.state.store uid) ≤ 256 }
+        requires bare { is_bare (frames_from self.old.state.store.ast uid 0)
+            (trailers_in self.old.state.store uid) ≡ true → IsEmptied self.old.state.store uid }
+        requires room { length (frames_from self.old.state.store.ast uid 0)
+            + (length (trailers_in self.old.state.store uid) + (length (cut_of_owner self.old.state.owner) + 1))
+            ≤ self.old.state.spare }
+        ensures { self.new ≡ with_state self.old (deactivation_begun self.old.state c uid) }
+    {
+        if self.is_bare(uid) {
+            self.deactivate(c, uid);
+        } else {
+            self.take_segment(c, uid);
+        }
+    }
+}
+
+impl<D: Drive> Tables<D> {
+    /// Whether a number of a process leads to a segment.
+    pub(crate) fn is_connected(&self, process: u32, number: u32) -> bool
+        requires process { process < length self.now.state.store.links.known }
+        requires number { number < 256 }
+        ensures { result ≡ is_connected (descriptor_of self.now.state.store.links process number) }
+    {
+        matches!(
+            self.store.segs().descriptors(process).get(number),
+            Sdw::Present { .. }
+        )
+    }
+
+    /// The owner cuts a number of a process, if it leads to a segment.
+    fn cut_number(&mut self, c: u32, aim: Aim, what: What, process: u32, number: u32)
+        requires process { process < length self.old.state.store.links.known }
+        requires number { number < 256 }
+        requires owner { HasOwner self.old.state.owner }
+        requires few { length (cut_of_owner self.old.state.owner) < 256 }
+        requires room { 0 < self.old.state.spare }
+        ensures { self.new ≡ with_state self.old (cut_all self.old.state c aim what
+            (if is_connected (descriptor_of self.old.state.store.links process number)
+            then (process, number) ∷ [] else [])) }
+    {
+        if self.is_connected(process, number) {
+            self.cut_one(c, aim, what, process, number);
+        }
+    }
+}
