@@ -1,7 +1,9 @@
 pub mod BackLaws
 pub mod ChoiceLaws
 pub mod CutLaws
+pub mod FailedLaws
 pub mod JobLaws
+pub mod LeftLaws
 pub mod LinkLaws
 pub mod PageLaws
 pub mod PartLaws

@@ -32,6 +32,10 @@ with_drives t drives faults = record t { state = with_faults t.state faults; dri
 abbrev pub with_accounts : Storage → AccountMaps → Storage
 with_accounts st accounts = record st { accounts = accounts }
 
+-- a state with other accounts
+abbrev pub with_accounts_in : State → AccountMaps → State
+with_accounts_in s accounts = with_store s (with_accounts s.store accounts)
+
 -- all but the book, the store and the owner is as it was
 abbrev pub KeepsSeats : State → State → Type 0
 KeepsSeats old new =

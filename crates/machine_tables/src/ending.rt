@@ -13,7 +13,7 @@ use volumes::Drive;
 
 impl<D: Drive> Tables<D> {
     /// The first descriptor that the owner cut, which it hasn't cut any more then; `None` exactly where there is none.
-    fn next_cut(&mut self) -> Option<CutDescriptor>
+    pub(crate) fn next_cut(&mut self) -> Option<CutDescriptor>
         requires { HasOwner self.old.state.owner }
         ensures first { result ≡ slice_get (cut_of_owner self.old.state.owner) 0 }
         ensures rest { self.new ≡ with_state self.old

@@ -10,6 +10,7 @@ mod answering;
 mod connecting;
 mod emptying;
 mod ending;
+mod finishing;
 mod owner;
 mod paging;
 mod signals;

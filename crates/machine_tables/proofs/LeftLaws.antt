@@ -1,0 +1,87 @@
+-- How a page leaves its frame, and what comes back where it can't.
+use Rattle.std.proofs.Common.{◌≡◌, ◌↔◌, ◌-◌, ◌<◌, ℕ, suc, zero, length, get_or, Bool, true, false, ◌&&◌, cond, eqb}
+use Rattle.std.proofs.Common.{List, [], ◌∷◌}
+use Rattle.std.proofs.Common.{refl, sym, ap, subst, ◌∙◌, arith, append_assoc, inl, inr}
+use Rattle.std.specs.Prelude.{IfOk, Result, Ok, Err}
+use Rattle.std.proofs.lemmas.Bool.Decides.{eqb_tells}
+use Rattle.book.specs.declared.entries.Entry.{Entry}
+use Rattle.mword.specs.Words.{AreZero}
+use Rattle.page_control.specs.declared.Left.{Left}
+use Rattle.page_control.specs.declared.Left.TheVariants.{Kept, Released}
+use Rattle.machine_model.specs.Jobs.{are_zeros, left_of, page_back, pages_back}
+use Rattle.machine_model.specs.Reads.{cut_of_owner, frames_of_owner}
+use Rattle.machine_model.specs.State.{State, Storage}
+use Rattle.machine_model.specs.Steps.{booked}
+use Rattle.machine_tables.specs.Parts.{Parts, with_state}
+use Rattle.machine_tables.specs.Returned.{MayRelink, with_all_here}
+
+-- ---- pages of zeros
+
+both_parts : (a b : Bool) → (a && b) ≡ true → (a ≡ true) × (b ≡ true)
+both_parts true b h = (refl, h)
+both_parts false b h = absurd (let no : false ≡ true = h in cc)
+
+zero_word : (w : ℕ) → eqb w 0 ≡ true → w ≡ 0
+zero_word w h = elim (eqb_tells w 0) [
+  | inl e ↦ e.1
+  | inr n ↦ absurd (let no : true ≡ false = sym h ∙ n.0 in cc)
+]
+
+zeros_from : (ws : List ℕ) → are_zeros ws ≡ true → (k d : ℕ) → k < length ws → get_or ws k d ≡ 0
+zeros_from [] h k d lt = absurd (omega (arith, lt))
+zeros_from (w ∷ ws) h zero d lt = zero_word w (both_parts (eqb w 0) (are_zeros ws) h).0
+zeros_from (w ∷ ws) h (suc k) d lt =
+    zeros_from ws (both_parts (eqb w 0) (are_zeros ws) h).1 k d (omega (arith, lt))
+
+zeros_to : (ws : List ℕ) → AreZero ws → are_zeros ws ≡ true
+zeros_to [] h = refl
+zeros_to (w ∷ ws) h = elim (eqb_tells w 0) [
+  | inl e ↦ ap (λ (b : Bool). b && are_zeros ws) e.0 ∙ zeros_to ws (λ k d lt. h (suc k) d (omega (arith, lt)))
+  | inr n ↦ absurd (n.1 (h zero zero (omega arith)))
+]
+
+left_released : (ws : List ℕ) → are_zeros ws ≡ true → Released ≡ left_of ws
+left_released ws h = sym (ap (λ (b : Bool). cond b Released Kept) h)
+
+pub left_is : {E : Type 0} (r : Result Left E) (ws : List ℕ) → (r ≡ Ok Released) ↔ AreZero ws
+    → IfOk r (λ left. left ≡ left_of ws)
+left_is (Err e) ws zeros = tt
+left_is (Ok Released) ws zeros = left_released ws (zeros_to ws (zeros.0 refl))
+left_is (Ok Kept) ws zeros = by (are_zeros ws) refl
+  where
+    by : (b : Bool) → are_zeros ws ≡ b → Kept ≡ cond b Released Kept
+    by false e = refl
+    by true e = absurd (let no = zeros.1 (zeros_from ws e) in cc)
+
+-- ---- two entries
+
+pub booked_twice : (s : State) (a b : Entry) → booked (booked s (a ∷ [])) (b ∷ []) ≡ booked s (a ∷ b ∷ [])
+booked_twice s a b =
+    let entries = append_assoc s.entries (a ∷ []) (b ∷ []) in
+    let spare : s.spare - 1 - 1 ≡ s.spare - 2 = omega arith in
+    λ i. record s { entries = entries i; spare = spare i }
+
+-- ---- what comes back
+
+back_store : (s : State) (fs : List ℕ) → (pages_back s fs).store ≡ with_all_here s.store fs
+back_store s [] = refl
+back_store s (f ∷ fs) = back_store (page_back s f) fs
+
+pub relink_after : {D : Type 0} (old mid new : Parts D) (x : State) → mid ≡ with_state old x
+    → x.store ≡ old.state.store → x.owner ≡ old.state.owner
+    → new ≡ with_state mid (pages_back mid.state (frames_of_owner mid.state.owner))
+    → cut_of_owner new.state.owner ≡ cut_of_owner mid.state.owner
+    → MayRelink (with_all_here old.state.store (frames_of_owner old.state.owner)) (cut_of_owner old.state.owner)
+    → MayRelink new.state.store (cut_of_owner new.state.owner)
+relink_after old mid new x is store owner effect cut may =
+    let frames : frames_of_owner mid.state.owner ≡ frames_of_owner old.state.owner =
+    ap (λ (y : Parts _). frames_of_owner y.state.owner) is ∙ ap frames_of_owner owner in
+    let here : new.state.store ≡ with_all_here old.state.store (frames_of_owner old.state.owner) =
+    ap (λ (y : Parts _). y.state.store) effect ∙ back_store mid.state (frames_of_owner mid.state.owner)
+    ∙ ap (λ (st : Storage). with_all_here st (frames_of_owner mid.state.owner))
+    (ap (λ (y : Parts _). y.state.store) is ∙ store)
+    ∙ ap (with_all_here old.state.store) frames in
+    let cuts : cut_of_owner new.state.owner ≡ cut_of_owner old.state.owner =
+    cut ∙ ap (λ (y : Parts _). cut_of_owner y.state.owner) is ∙ ap cut_of_owner owner in
+    subst (λ (st : Storage). MayRelink st (cut_of_owner new.state.owner)) (sym here)
+    (subst (MayRelink (with_all_here old.state.store (frames_of_owner old.state.owner))) (sym cuts) may)

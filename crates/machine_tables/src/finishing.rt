@@ -1,0 +1,226 @@
+ghost use Rattle.std.specs.Prelude.{◌≡◌, ◌<◌, ◌≤◌, ◌+◌, ◌^◌, length, slice_get, Some, None, true, IfOk, OnErr};
+ghost use Rattle.core_map.specs.CoreMap.{bound_page, frame_at, is_bound};
+ghost use Rattle.page_table.specs.declared.Ptw.TheVariants.{Leaving};
+ghost use Rattle.custody_model.specs.Next.{released_by};
+ghost use Rattle.page_control.specs.Drives.{CallsDrive};
+ghost use Rattle.page_control.specs.Plain.{words_in};
+ghost use Rattle.page_control.specs.declared.Left.TheVariants.{Released};
+ghost use Rattle.seg_control.specs.Control.{word_of};
+ghost use Rattle.storage_ops.specs.Paged.{IsSettled};
+ghost use Rattle.machine_model.specs.After.{by_outcome};
+ghost use Rattle.machine_model.specs.Jobs.{eviction_done, left_of, page_done, page_in, pages_back, segs_back};
+ghost use Rattle.machine_model.specs.Jobs.{entries_left, with_here, with_left, with_relink};
+ghost use Rattle.machine_model.specs.Jobs.{without_first_frame, write_failed};
+ghost use Rattle.machine_model.specs.Reads.{cpu_at, cut_of_owner, frames_of_owner, home_in, next_command};
+ghost use Rattle.machine_model.specs.Reads.{processor_at, run_at};
+ghost use Rattle.machine_model.specs.Steps.{booked, with_faults, with_owner, with_store};
+ghost use Rattle.machine_tables.specs.Owned.{HasOwner};
+ghost use Rattle.machine_tables.specs.Parts.{KeepsSeats, outcome_of, with_accounts, with_accounts_in};
+ghost use Rattle.machine_tables.specs.Parts.{with_drives, with_state};
+ghost use Rattle.machine_tables.specs.Returned.{IsLeaving, IsRelinkable, MayComeBack, MayFail, MayRelink};
+
+use crate::tables::Tables;
+use book::{Entry, Reply};
+use machine_model::CutDescriptor;
+use page_control::Left;
+use site_io::Failed;
+use volumes::Drive;
+
+impl<D: Drive> Tables<D> {
+    /// The page in a frame, which was on its way out, is here again.
+    fn bring_back(&mut self, f: u32)
+        requires bound { is_bound (frame_at self.old.state.store.pages.core f) ≡ true }
+        requires leaving { word_of self.old.state.store.ast (page_in self.old.state.store f).0
+            (page_in self.old.state.store f).1 ≡ Leaving f }
+        ensures { self.new ≡ with_state self.old
+            (with_store self.old.state (with_here self.old.state.store f)) }
+    {
+        let (uid, _number) = self.page_in(f);
+        self.store.back(uid, f);
+    }
+
+    /// The first frame that the owner took, which it hasn't taken any more then; `None` exactly where there is none.
+    fn next_frame(&mut self) -> Option<u32>
+        requires { HasOwner self.old.state.owner }
+        ensures first { result ≡ slice_get (frames_of_owner self.old.state.owner) 0 }
+        ensures rest { self.new ≡ with_state self.old
+            (with_owner self.old.state (without_first_frame self.old.state.owner)) }
+    {
+        self.job.next_frame()
+    }
+
+    /// The owner hasn't taken its first frame any more.
+    fn pass_frame(&mut self)
+        requires { HasOwner self.old.state.owner }
+        ensures { self.new ≡ with_state self.old
+            (with_owner self.old.state (without_first_frame self.old.state.owner)) }
+    {
+        let _first = self.next_frame();
+    }
+
+    /// The pages that the owner took are here again, in the order in which it took them.
+    fn return_pages(&mut self)
+        requires owner { HasOwner self.old.state.owner }
+        requires back { MayComeBack self.old.state.store (frames_of_owner self.old.state.owner) }
+        requires room { length (frames_of_owner self.old.state.owner) ≤ self.old.state.spare }
+        ensures effect { self.new ≡ with_state self.old
+            (pages_back self.old.state (frames_of_owner self.old.state.owner)) }
+        ensures seats { KeepsSeats self.old.state self.new.state }
+        ensures owner { HasOwner self.new.state.owner }
+        ensures cut { cut_of_owner self.new.state.owner ≡ cut_of_owner self.old.state.owner }
+        ensures spent { self.new.state.spare + length (frames_of_owner self.old.state.owner)
+            ≡ self.old.state.spare }
+    {
+        while let Some(frame) = self.next_frame() {
+            self.bring_back(frame);
+            self.note(Entry::BackPage { frame });
+        }
+    }
+
+    /// A descriptor that was cut leads to its segment again.
+    fn relink(&mut self, cut: CutDescriptor)
+        requires { IsRelinkable self.old.state.store cut }
+        ensures { self.new ≡ with_state self.old
+            (with_store self.old.state (with_relink self.old.state.store cut)) }
+    {
+        self.store
+            .connect(cut.process, cut.number, cut.uid, cut.mode, cut.pages);
+    }
+
+    /// The descriptors that the owner cut lead to their segments again, in the order in which it cut them.
+    fn return_descriptors(&mut self)
+        requires owner { HasOwner self.old.state.owner }
+        requires back { MayRelink self.old.state.store (cut_of_owner self.old.state.owner) }
+        requires room { length (cut_of_owner self.old.state.owner) ≤ self.old.state.spare }
+        ensures effect { self.new ≡ with_state self.old
+            (segs_back self.old.state (cut_of_owner self.old.state.owner)) }
+        ensures seats { KeepsSeats self.old.state self.new.state }
+        ensures spent { self.new.state.spare + length (cut_of_owner self.old.state.owner)
+            ≡ self.old.state.spare }
+    {
+        while let Some(cut) = self.next_cut() {
+            self.relink(cut);
+            self.note(Entry::BackSeg {
+                process: cut.process,
+                number: cut.number,
+            });
+        }
+    }
+}
+
+impl<D: Drive> Tables<D> {
+    /// The page in a frame, which is on its way out, leaves it, unless the drive fails. What its accounts are then is
+    /// told by `settled`.
+    fn let_go(&mut self, f: u32) -> Result<Left, Failed>
+        requires { IsLeaving self.old.state.store f }
+        ensures how { IfOk result (λ left. left ≡ left_of (words_in self.old.state.store.pages f)) }
+        ensures ok { IfOk result (λ left. self.new ≡ with_drives (with_state self.old (with_store self.old.state
+            (with_accounts (with_left self.old.state.store f left (page_in self.old.state.store f))
+            self.new.state.store.accounts))) self.new.drives self.new.state.faults) }
+        ensures err { OnErr result (self.new ≡ with_drives self.old self.new.drives self.new.state.faults) }
+        ensures settled { IsSettled self.old.state.store.accounts self.new.state.store.accounts
+            (page_in self.old.state.store f).0 result }
+        ensures drives { CallsDrive D.plan D.places D.faults self.old.drives self.new.drives
+            (home_in self.old.state.store (page_in self.old.state.store f).0).volume result }
+    {
+        let (uid, _number) = self.page_in(f);
+        let home = self.home(uid);
+        self.store.evict(uid, home, f)
+    }
+
+    /// What was taken comes back, and the process is answered; the drives have counted the failure.
+    fn return_all(&mut self, c: u32, process: u32)
+        requires { MayFail self.old c process }
+        ensures { self.new ≡ with_state self.old (write_failed self.old.state c self.old.state.faults) }
+    {
+        self.tell_fault(Some(process));
+        self.return_pages();
+        self.return_descriptors();
+        self.tell(c, process, None, Reply::Device);
+        self.job.end();
+    }
+}
+
+impl<D: Drive> Tables<D> {
+    /// Books that a page has left its frame and is stored no more.
+    fn book_release(&mut self, f: u32, uid: u32, page: u32)
+        requires { 2 ≤ self.old.state.spare }
+        ensures { self.new ≡ with_state self.old (booked self.old.state (entries_left f Released (uid, page))) }
+    {
+        self.note(Entry::GonePage { frame: f });
+        self.note(Entry::Release { uid, page });
+    }
+
+    /// Books that a page has left its frame, and that it is stored no more, where it was released.
+    fn book_gone(&mut self, f: u32, uid: u32, page: u32, left: Left)
+        requires { 2 ≤ self.old.state.spare }
+        ensures { self.new ≡ with_state self.old (booked self.old.state (entries_left f left (uid, page))) }
+    {
+        match left {
+            Left::Kept => self.note(Entry::GonePage { frame: f }),
+            Left::Released => self.book_release(f, uid, page),
+        }
+    }
+}
+
+impl<D: Drive> Tables<D> {
+    /// The page in a frame, which the owner took first, leaves it; a job that makes a segment inactive goes on with the
+    /// next. Where the drive fails all that was taken comes back, and the process is answered. What the accounts are
+    /// then is told by `settled`. (Source: Bensoussan, Clingen and Daley 1972.)
+    ///
+    /// # Errors
+    /// `Failed` exactly where the drive failed.
+    pub fn finish_page(&mut self, c: u32, process: u32, f: u32) -> Result<Left, Failed>
+        requires leaving { IsLeaving self.old.state.store f }
+        requires failing { MayFail self.old c process }
+        ensures state { self.new.state ≡ by_outcome (outcome_of result self.new.state.faults)
+            (with_accounts_in (page_done (with_faults self.old.state self.new.state.faults) f)
+            self.new.state.store.accounts) (write_failed self.old.state c self.new.state.faults) }
+        ensures room { self.new.room ≡ self.old.room }
+        ensures settled { IsSettled self.old.state.store.accounts self.new.state.store.accounts
+            (page_in self.old.state.store f).0 result }
+        ensures drives { CallsDrive D.plan D.places D.faults self.old.drives self.new.drives
+            (home_in self.old.state.store (page_in self.old.state.store f).0).volume result }
+    {
+        let (uid, page) = self.page_in(f);
+        let gone = self.let_go(f);
+        match gone {
+            Ok(left) => {
+                self.pass_frame();
+                self.book_gone(f, uid, page, left);
+            }
+            Err(_) => self.return_all(c, process),
+        }
+        gone
+    }
+
+    /// The page in a frame, which the owner took to evict it, leaves it, and the owner looks again. Where the drive
+    /// fails the page comes back, and the process is answered. What the accounts are then is told by `settled`.
+    /// (Source: Bensoussan, Clingen and Daley 1972.)
+    ///
+    /// # Errors
+    /// `Failed` exactly where the drive failed.
+    pub fn finish_eviction(&mut self, c: u32, process: u32, f: u32) -> Result<Left, Failed>
+        requires leaving { IsLeaving self.old.state.store f }
+        requires failing { MayFail self.old c process }
+        ensures state { self.new.state ≡ by_outcome (outcome_of result self.new.state.faults)
+            (with_accounts_in (eviction_done (with_faults self.old.state self.new.state.faults) c f)
+            self.new.state.store.accounts) (write_failed self.old.state c self.new.state.faults) }
+        ensures room { self.new.room ≡ self.old.room }
+        ensures settled { IsSettled self.old.state.store.accounts self.new.state.store.accounts
+            (page_in self.old.state.store f).0 result }
+        ensures drives { CallsDrive D.plan D.places D.faults self.old.drives self.new.drives
+            (home_in self.old.state.store (page_in self.old.state.store f).0).volume result }
+    {
+        let (uid, page) = self.page_in(f);
+        let gone = self.let_go(f);
+        match gone {
+            Ok(left) => {
+                self.job.begin(c);
+                self.book_gone(f, uid, page, left);
+            }
+            Err(_) => self.return_all(c, process),
+        }
+        gone
+    }
+}
