@@ -1,12 +1,11 @@
 ghost use Rattle.std.specs.Prelude.{◌≡◌, ◌<◌, ◌≤◌, ◌+◌, length, Some, not, true, [], ◌∷◌, if◌then◌else◌};
 ghost use Rattle.page_table.specs.declared.Ptw.TheVariants.{Here};
 ghost use Rattle.active_segs.specs.Active.{IsActive};
-ghost use Rattle.seg_control.specs.Control.{leads_at};
-ghost use Rattle.machine_model.specs.Actions.{descriptors_taken, first_taken, frames_taken, is_empty, what_taken};
+ghost use Rattle.machine_model.specs.Actions.{first_taken, is_empty, what_taken};
 ghost use Rattle.assoc_mem.specs.declared.What.TheVariants.{Seg};
-ghost use Rattle.machine_model.specs.declared.Aim.TheVariants.{Committing, Deactivating};
+ghost use Rattle.machine_model.specs.declared.Aim.TheVariants.{Deactivating};
 ghost use Rattle.machine_model.specs.Jobs.{cut_all, deactivation_begun, took};
-ghost use Rattle.machine_model.specs.Reads.{connected_of, cut_of_owner, descriptor_of, frames_from, frames_of_owner};
+ghost use Rattle.machine_model.specs.Reads.{cut_of_owner, descriptor_of, frames_from, frames_of_owner};
 ghost use Rattle.machine_model.specs.Reads.{here_in, is_connected, trailers_in};
 ghost use Rattle.machine_tables.specs.Owned.{HasOwner};
 ghost use Rattle.machine_tables.specs.Parts.{with_state};

@@ -1,4 +1,4 @@
-ghost use Rattle.std.specs.Prelude.{◌≡◌, ◌<◌, ◌++◌, ◌∷◌, [], length, Some, None, IfOk, IsSome, slice_get};
+ghost use Rattle.std.specs.Prelude.{◌≡◌, ◌<◌, length, Some, None, IfOk, slice_get};
 ghost use Rattle.machine_model.specs.Jobs.{owner_signalled, without_first_cut, without_first_frame};
 ghost use Rattle.machine_model.specs.Reads.{cut_of_owner, frames_of_owner};
 ghost use Rattle.machine_model.specs.Steps.{looking};

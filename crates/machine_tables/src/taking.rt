@@ -1,4 +1,4 @@
-ghost use Rattle.std.specs.Prelude.{◌≡◌, ◌<◌, ◌≤◌, ◌+◌, ℕ, [], ◌∷◌, length, Some, None, true, IfSome, IfNone, IsSome};
+ghost use Rattle.std.specs.Prelude.{◌≡◌, ◌<◌, ◌≤◌, ◌+◌, ℕ, [], length, Some, None, true, IfSome, IfNone, IsSome};
 ghost use Rattle.std.specs.List.{list_any};
 ghost use Rattle.core_map.specs.CoreMap.{bound_page, frame_at, is_bound};
 ghost use Rattle.core_map.specs.Clock.{clock_choice};

@@ -1,4 +1,4 @@
-ghost use Rattle.std.specs.Prelude.{◌≡◌, ◌<◌, ◌≤◌, ◌+◌, ◌^◌, length, Some, None, true, OnOk, OnErr};
+ghost use Rattle.std.specs.Prelude.{◌≡◌, ◌<◌, ◌≤◌, ◌+◌, ◌^◌, length, Some, None, OnOk, OnErr};
 ghost use Rattle.core_map.specs.CoreMap.{frame_at};
 ghost use Rattle.core_map.specs.declared.Frame.TheVariants.{Free, Started};
 ghost use Rattle.active_segs.specs.Active.{IsActive};
