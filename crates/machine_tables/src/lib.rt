@@ -11,6 +11,7 @@ mod connecting;
 mod emptying;
 mod ending;
 mod finishing;
+mod looks;
 mod owner;
 mod paging;
 mod signals;
