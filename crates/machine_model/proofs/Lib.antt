@@ -96,6 +96,7 @@ pub mod StepGoes
 pub mod EntitledKept
 pub mod MachineKept
 pub mod MachineBoot
+pub mod CommitAsks
 pub mod StepKept
 pub mod StepLaws
 pub mod TakeAsks

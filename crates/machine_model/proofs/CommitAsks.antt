@@ -1,0 +1,309 @@
+-- What the step asks of a command that takes effect: what the store says after it, and that it may be answered.
+use Rattle.std.proofs.Common.{◌≡◌, ◌<◌, ◌-◌, ◌%◌, ◌/◌, ℕ, Bool, true, false, not, ◌&&◌, cond, eqb, length, map, List, [], ◌∷◌, ◌++◌}
+use Rattle.std.proofs.Common.{Option, Some, None, inl, inr, refl, sym, ap, subst, ◌∙◌}
+use Rattle.std.proofs.lemmas.List.{length-set}
+use Rattle.std.specs.List.{list_all}
+use Rattle.script.specs.Plans.{Plan}
+use Rattle.script.specs.References.{reference_of}
+use Rattle.script.specs.declared.commands.Command.{Command}
+use Rattle.script.specs.declared.commands.Command.TheVariants as command
+use Rattle.script.specs.declared.commands.Reference.{Reference}
+use Rattle.book.specs.declared.entries.Entry.{Entry}
+use Rattle.book.specs.declared.entries.Entry.TheVariants as entry
+use Rattle.book.specs.declared.replies.Reply.{Reply}
+use Rattle.tree_model.specs.Access.{Row}
+use Rattle.tree_model.specs.Trees.{IsTree}
+use Rattle.core_map.specs.CoreMap.{bound_page}
+use Rattle.core_map.specs.declared.Frame.TheVariants as frame
+use Rattle.page_table.specs.declared.Ptw.{Ptw}
+use Rattle.page_table.specs.declared.Ptw.TheVariants as ptw
+use Rattle.page_control.specs.Effects.{cut, erased, framed}
+use Rattle.page_control.specs.Plain.{Plain, frame_in, words_in}
+use Rattle.seg_control.specs.Control.{word_of}
+use Rattle.flat_model.specs.Branches.{parts_of}
+use Rattle.flat_model.specs.Commands.{effect_by, effect_of, effect_of_tree_command, reply_by, reply_to_command, reply_to_tree_command, takes_effect}
+use Rattle.flat_model.specs.Legal.{store_after}
+use Rattle.flat_model.specs.Store.{Store, progress_of}
+use Rattle.storage_ops.specs.Shown.{answered}
+use Rattle.custody_model.specs.Allowed.{MayAnswer as MayAnswerBy}
+use Rattle.custody_model.specs.Effects.{MayTakeEffect}
+use Rattle.machine_model.specs.declared.CutDescriptor.{CutDescriptor}
+use Rattle.machine_model.specs.Actions as act
+use Rattle.machine_model.specs.After.{Outcome, after}
+use Rattle.machine_model.specs.Commits.{committed, committed_at, cut_entry, frame_entry, frames_freed, gone_entries}
+use Rattle.machine_model.specs.Commits.{inactive_entries, left_after, pages_past, stays, with_cut, with_cut_in, with_deleted}
+use Rattle.machine_model.specs.Commits.{with_effect, with_made, with_truncated, without_page, without_pages}
+use Rattle.machine_model.specs.Custodial.{IsRun}
+use Rattle.machine_model.specs.Holding.{seen}
+use Rattle.machine_model.specs.Jobs.{are_zeros, here_if, with_here, with_inactive}
+use Rattle.machine_model.specs.Keeps.{Keeps, StoreSays}
+use Rattle.machine_model.specs.Reads.{cut_of_owner, flat_of, frames_of_owner, home_in, is_active, next_command, process_at}
+use Rattle.machine_model.specs.Reads.{run_at}
+use Rattle.machine_model.specs.Refusal.{reply_of, uid_of_command}
+use Rattle.machine_model.specs.Said.{Says, shown_after, with_command}
+use Rattle.machine_model.specs.Seen.{shown}
+use Rattle.machine_model.specs.State.{State, Storage}
+use Rattle.machine_model.specs.Steps.{booked, told, with_owner, with_pages, with_store}
+use Rattle.machine_model.proofs.CommitKept.{effected}
+use Rattle.machine_model.proofs.FlatAlike.{IsAlike, all_still, alike_by, done_alike, is_still, one_still, refused_alike}
+use Rattle.machine_model.proofs.QuotaTotals.{effect_total}
+use Rattle.machine_model.proofs.SaysLaws.{Rest, none_rest, quotas, says_is}
+use Rattle.machine_model.proofs.SpeakLaws.{Speaks, can_tell}
+use Rattle.machine_model.proofs.TellKept.{CanTell}
+use Rattle.machine_model.proofs.TieLaws.{none_some}
+
+-- ---- a command leaves as many frames
+
+abbrev count : Storage → ℕ
+count st = length st.pages.core.frames
+
+is_here : (st : Storage) (f : ℕ) → count (with_here st f) ≡ count st
+is_here st f = by (bound_page (frame_in st.pages f))
+  where
+    by : (x : Option (ℕ × ℕ)) → count (here_if st f x) ≡ count st
+    by None = refl
+    by (Some page) = refl
+
+made : (st : Storage) (directory : Bool) (pages volume : ℕ) (rows : List Row) (x : Option (List (List ℕ) × List ℕ))
+    → count (with_made st directory pages volume rows x) ≡ count st
+made st directory pages volume rows None = refl
+made st directory pages volume rows (Some parts) = refl
+
+page_cut : (st : Storage) (u p : ℕ) (w : Ptw) → count (without_page st u p w) ≡ count st
+page_cut st u p ptw.Null = refl
+page_cut st u p (ptw.Out n) = refl
+page_cut st u p (ptw.Here f) = refl
+page_cut st u p (ptw.Leaving f) = length-set st.pages.core.frames f frame.Free
+
+pages_cut : (st : Storage) (u : ℕ) (ps : List ℕ) → count (without_pages st u ps) ≡ count st
+pages_cut st u [] = refl
+pages_cut st u (p ∷ ps) = pages_cut (without_page st u p (word_of st.ast u p)) u ps
+    ∙ page_cut st u p (word_of st.ast u p)
+
+cut_in : (st : Storage) (u p at f : ℕ) → count (with_cut_in st u p at f) ≡ count st
+cut_in st u p at f = by (are_zeros (words_in (cut st.pages f at) f))
+  where
+    by : (b : Bool) → count (cond b (without_page (with_pages st (cut st.pages f at)) u p (ptw.Leaving f))
+        (with_here (with_pages st (cut st.pages f at)) f)) ≡ count st
+    by true = length-set (cut st.pages f at).core.frames f frame.Free ∙ length-set st.pages.core.frames f _
+    by false = is_here (with_pages st (cut st.pages f at)) f ∙ length-set st.pages.core.frames f _
+
+word_cut : (st : Storage) (u p at : ℕ) (w : Ptw) → count (with_cut st u p at w) ≡ count st
+word_cut st u p at (ptw.Leaving f) = cut_in st u p at f
+word_cut st u p at ptw.Null = refl
+word_cut st u p at (ptw.Out n) = refl
+word_cut st u p at (ptw.Here f) = refl
+
+truncated : (st : Storage) (u words : ℕ) → count (with_truncated st u words) ≡ count st
+truncated st u words = by (eqb (words % 1024) 0)
+  where
+    by : (b : Bool) → count (without_pages (cond b st (with_cut st u (words / 1024) (words % 1024)
+        (word_of st.ast u (words / 1024)))) u (pages_past st u words)) ≡ count st
+    by true = pages_cut st u (pages_past st u words)
+    by false = pages_cut _ u (pages_past st u words)
+        ∙ word_cut st u (words / 1024) (words % 1024) (word_of st.ast u (words / 1024))
+
+are_freed : (pages : Plain) (fs : List ℕ) → length (frames_freed pages fs).core.frames ≡ length pages.core.frames
+are_freed pages [] = refl
+are_freed pages (f ∷ fs) = are_freed (framed pages f frame.Free) fs ∙ length-set pages.core.frames f frame.Free
+
+deleted : (st : Storage) (u : ℕ) (frames : List ℕ) → count (with_deleted st u frames) ≡ count st
+deleted st u frames = by (is_active st.ast u)
+  where
+    by : (b : Bool) → count (cond b (with_inactive (with_pages st (erased (frames_freed st.pages frames) (home_in st u))) u)
+        (with_pages st (erased (frames_freed st.pages frames) (home_in st u)))) ≡ count st
+    by true = are_freed st.pages frames
+    by false = are_freed st.pages frames
+
+effect_frames : (st : Storage) (k u : ℕ) (frames : List ℕ) (c : Command)
+    → count (with_effect st k u frames c) ≡ count st
+effect_frames st k u frames (command.MkDir path volume) = made st true 0 volume [] (parts_of path)
+effect_frames st k u frames (command.MkSeg path pages volume) = made st false pages volume _ (parts_of path)
+effect_frames st k u frames (command.Truncate path words) = truncated st u words
+effect_frames st k u frames (command.Delete path) = deleted st u frames
+effect_frames st k u frames (command.Initiate path) = refl
+effect_frames st k u frames (command.Terminate n) = refl
+effect_frames st k u frames (command.Acl path row m) = refl
+effect_frames st k u frames (command.Length path pages) = refl
+effect_frames st k u frames (command.Move path amount) = refl
+effect_frames st k u frames command.End = refl
+effect_frames st k u frames (command.Status path) = refl
+effect_frames st k u frames (command.Read n w) = refl
+effect_frames st k u frames (command.Write n w x) = refl
+effect_frames st k u frames (command.Add n w x) = refl
+effect_frames st k u frames (command.Await n w x t) = refl
+
+-- ---- the book after it
+
+all_both : (xs ys : List Entry) → list_all is_still xs ≡ true → list_all is_still ys ≡ true
+    → list_all is_still (xs ++ ys) ≡ true
+all_both [] ys h g = g
+all_both (x ∷ xs) ys h g = by (is_still x) h (λ e. all_both xs ys e g)
+  where
+    by : (b : Bool) → (b && list_all is_still xs) ≡ true
+        → (list_all is_still xs ≡ true → list_all is_still (xs ++ ys) ≡ true)
+        → (b && list_all is_still (xs ++ ys)) ≡ true
+    by true e rest = rest e
+    by false e rest = absurd (let none : false ≡ true = e in cc)
+
+frame_still : (st : Storage) (c : Command) (f : ℕ) → is_still (frame_entry st c f) ≡ true
+frame_still st (command.Truncate path words) f = by (stays st words f)
+  where
+    by : (b : Bool) → is_still (cond b (entry.BackPage f) (entry.GonePage f)) ≡ true
+    by true = refl
+    by false = refl
+frame_still st _ f = refl
+
+frames_still : (st : Storage) (c : Command) (fs : List ℕ) → list_all is_still (map (frame_entry st c) fs) ≡ true
+frames_still st c [] = refl
+frames_still st c (f ∷ fs) = ap (λ (b : Bool). b && list_all is_still (map (frame_entry st c) fs)) (frame_still st c f)
+    ∙ frames_still st c fs
+
+cuts_still : (ds : List CutDescriptor) → list_all is_still (map cut_entry ds) ≡ true
+cuts_still [] = refl
+cuts_still (d ∷ ds) = cuts_still ds
+
+inactive_still : (st : Storage) (u : ℕ) (c : Command) → list_all is_still (inactive_entries st u c) ≡ true
+inactive_still st u (command.Delete path) = by (is_active st.ast u)
+  where
+    by : (b : Bool) → list_all is_still (cond b (entry.Deactivate u ∷ []) []) ≡ true
+    by true = refl
+    by false = refl
+inactive_still st u _ = refl
+
+-- what was taken goes, and the flat store stays
+gone_still : (s : State) (u : ℕ) (c : Command) → list_all is_still (gone_entries s u c) ≡ true
+gone_still s u c = all_both (map (frame_entry s.store c) (frames_of_owner s.owner)) _
+    (frames_still s.store c (frames_of_owner s.owner))
+    (all_both (map cut_entry (cut_of_owner s.owner)) (inactive_entries s.store u c) (cuts_still (cut_of_owner s.owner))
+    (inactive_still s.store u c))
+
+-- a process that leaves changes nothing of it either
+left_like : (A : Store) (x : State) (c : ℕ) (cmd : Command) → IsAlike A (flat_of x)
+    → IsAlike A (flat_of (with_owner (left_after x c cmd) None))
+left_like A x c command.End h = alike_by h (one_still x.plan x.entries (entry.Leave c) refl)
+left_like A x c (command.MkDir path volume) h = h
+left_like A x c (command.MkSeg path pages volume) h = h
+left_like A x c (command.Initiate path) h = h
+left_like A x c (command.Terminate n) h = h
+left_like A x c (command.Acl path row m) h = h
+left_like A x c (command.Length path pages) h = h
+left_like A x c (command.Truncate path words) h = h
+left_like A x c (command.Delete path) h = h
+left_like A x c (command.Move path amount) h = h
+left_like A x c (command.Status path) h = h
+left_like A x c (command.Read n w) h = h
+left_like A x c (command.Write n w v) h = h
+left_like A x c (command.Add n w v) h = h
+left_like A x c (command.Await n w v t) h = h
+
+record LeavesStore (x y : State) : Type 0 where
+  pub plan : y.plan ≡ x.plan
+  pub store : y.store ≡ x.store
+
+left_store : (x : State) (c : ℕ) (cmd : Command) → LeavesStore x (with_owner (left_after x c cmd) None)
+left_store x c command.End = record { plan = refl; store = refl }
+left_store x c (command.MkDir path volume) = record { plan = refl; store = refl }
+left_store x c (command.MkSeg path pages volume) = record { plan = refl; store = refl }
+left_store x c (command.Initiate path) = record { plan = refl; store = refl }
+left_store x c (command.Terminate n) = record { plan = refl; store = refl }
+left_store x c (command.Acl path row m) = record { plan = refl; store = refl }
+left_store x c (command.Length path pages) = record { plan = refl; store = refl }
+left_store x c (command.Truncate path words) = record { plan = refl; store = refl }
+left_store x c (command.Delete path) = record { plan = refl; store = refl }
+left_store x c (command.Move path amount) = record { plan = refl; store = refl }
+left_store x c (command.Status path) = record { plan = refl; store = refl }
+left_store x c (command.Read n w) = record { plan = refl; store = refl }
+left_store x c (command.Write n w v) = record { plan = refl; store = refl }
+left_store x c (command.Add n w v) = record { plan = refl; store = refl }
+left_store x c (command.Await n w v t) = record { plan = refl; store = refl }
+
+module _ (s : State) (c : ℕ) (o : Outcome) (keeps : Keeps s) (cmd : Command) (sp : Speaks s c (process_at s c) cmd)
+    (tree : reference_of cmd ≡ None) where
+  abbrev k : ℕ
+  k = process_at s c
+
+  abbrev gone : List Entry
+  gone = gone_entries s (uid_of_command s.store k cmd) cmd
+
+  still : store_after s.plan (s.entries ++ gone) ≡ flat_of s
+  still = all_still s.plan s.entries gone (gone_still s (uid_of_command s.store k cmd) cmd)
+
+  is_reply : reply_of s k cmd ≡ reply_to_command s.plan (flat_of s) k cmd
+  unfolding reply_of
+  is_reply = by (reference_of cmd) tree
+    where
+      by : (x : Option Reference) → x ≡ None
+          → reply_to_tree_command s.plan (flat_of s) k cmd ≡ reply_by s.plan (flat_of s) k cmd x
+      by None e = refl
+      by (Some r) e = absurd (none_some (sym e))
+
+  is_effect : effect_of s.plan (flat_of s) k cmd ≡ effect_of_tree_command s.plan (flat_of s) k cmd
+  is_effect = ap (effect_by s.plan (flat_of s) k cmd) tree
+
+  abbrev answer : Entry
+  answer = entry.Do k (run_at s.runs k).place c None (reply_of s k cmd)
+
+  told_like : IsAlike (answered (reply_of s k cmd) (flat_of s) (effect_of s.plan (flat_of s) k cmd))
+      (store_after s.plan ((s.entries ++ gone) ++ answer ∷ []))
+  told_like = by (takes_effect (reply_of s k cmd)) refl
+    where
+      by : (b : Bool) → takes_effect (reply_of s k cmd) ≡ b
+          → IsAlike (cond b (effect_of s.plan (flat_of s) k cmd) (flat_of s))
+          (store_after s.plan ((s.entries ++ gone) ++ answer ∷ []))
+      by true e = subst (λ (t : Store). IsAlike (effect_of s.plan t k cmd)
+          (store_after s.plan ((s.entries ++ gone) ++ answer ∷ []))) still
+          (done_alike s.plan (s.entries ++ gone) k (run_at s.runs k).place c None (reply_of s k cmd) cmd sp.next e)
+      by false e = subst (λ (t : Store). IsAlike t (store_after s.plan ((s.entries ++ gone) ++ answer ∷ []))) still
+          (refused_alike s.plan (s.entries ++ gone) k (run_at s.runs k).place c None (reply_of s k cmd) e)
+
+  total : quotas (answered (reply_of s k cmd) (flat_of s) (effect_of s.plan (flat_of s) k cmd)) ≡ s.plan.quota
+  unfolding reply_of
+  total = by (takes_effect (reply_of s k cmd)) refl
+    where
+      by : (b : Bool) → takes_effect (reply_of s k cmd) ≡ b
+          → quotas (cond b (effect_of s.plan (flat_of s) k cmd) (flat_of s)) ≡ s.plan.quota
+      by true e = ap quotas is_effect ∙ (effect_total s.plan (flat_of s) k cmd
+          (subst IsTree (sym keeps.faithful.tree.nodes) keeps.store.accounts.tree) e
+          ∙ keeps.conserved.total)
+      by false e = keeps.conserved.total
+
+  -- What the store says of a machine after a command took effect.
+  pub commit_says : Says s c o act.Commit → StoreSays (committed s c k cmd)
+  unfolding after
+  commit_says says = says_is s c o act.Commit (committed s c k cmd) keeps says
+      (ap (λ (x : Option Command). committed_at s c x) sp.next)
+      (subst (λ (x : Option Command). IsAlike (with_command s k x (flat_of s)) (flat_of (committed s c k cmd)))
+      (sym sp.next) (left_like _ (told (effected s k cmd) c None (reply_of s k cmd)) c cmd told_like))
+      (ap (λ (x : Option Command). quotas (with_command s k x (flat_of s))) sp.next ∙ total)
+      (none_rest s (committed s c k cmd) stays_same.plan
+      (ap count stays_same.store ∙ effect_frames s.store k (uid_of_command s.store k cmd) (frames_of_owner s.owner) cmd)
+      refl)
+    where
+      stays_same : LeavesStore (told (effected s k cmd) c None (reply_of s k cmd)) (committed s c k cmd)
+      stays_same = left_store (told (effected s k cmd) c None (reply_of s k cmd)) c cmd
+
+  -- the machine that is to be told
+  abbrev b : State
+  b = with_owner (effected s k cmd) None
+
+  speaks_still : Speaks b c k cmd
+  speaks_still = record {
+    there = sp.there;
+    known = sp.known;
+    its = sp.its;
+    next = sp.next;
+    going = sp.going;
+    turn = sp.turn;
+    runs = λ j. subst (λ (t : Store). IsRun (progress_of t j) (run_at s.runs j)) (sym still) (sp.runs j);
+  }
+
+  -- It may be answered, where what it takes away is out of use.
+  pub commit_tell : MayTakeEffect (flat_of s) (shown (seen b)) k cmd → CanTell b c k None (reply_of s k cmd)
+  commit_tell out = can_tell b c k cmd None (reply_of s k cmd) speaks_still
+      (inl (is_reply ∙ ap (λ (t : Store). reply_to_command s.plan t k cmd) (sym still)))
+      (subst (λ (x : Option Reference). MayAnswerBy s.plan (flat_of b) (shown (seen b)) c k None cmd (reply_of s k cmd) x)
+      (sym tree) (record {
+        without = refl;
+        out = λ e. subst (λ (t : Store). MayTakeEffect t (shown (seen b)) k cmd) (sym still) out;
+      }))
