@@ -71,7 +71,7 @@ use Rattle.flat_model.specs.Store.{Store}
 use Rattle.machine_model.specs.Jobs.{write_failed}
 use Rattle.machine_model.specs.Keeps.{StoreSays}
 use Rattle.machine_model.specs.Whole.{aimed_at, goes_in, going_for}
-use Rattle.machine_model.specs.Working.{FailsBy, FailsIn, IsLeaf, IsWorking, MayFailBy}
+use Rattle.machine_model.specs.Working.{FailsBy, FailsIn, IsLeaf, IsWorking, MayFailBy, TakesSome}
 use Rattle.machine_model.proofs.ActiveKept.{segs_are_gone}
 use Rattle.machine_model.proofs.ChainLaws.{GoesOn}
 use Rattle.machine_model.proofs.JobAsks.{write_asks}
@@ -91,7 +91,7 @@ use Rattle.processor.specs.declared.Move.{Move}
 use Rattle.machine_model.specs.Steps.{is_its_end}
 use Rattle.machine_model.proofs.FailLaws.{fails_more}
 use Rattle.machine_model.proofs.KeepLaws.{IsNoOwner}
-use Rattle.machine_model.proofs.LookFacts.{FindsActive, FindsFull, FindsVictim}
+use Rattle.machine_model.proofs.LookFacts.{FindsActive, FindsFull, FindsTaken, FindsVictim}
 use Rattle.machine_model.proofs.WorkStep.{Looks}
 
 -- a processor's process comes to a command that isn't its end
@@ -116,6 +116,7 @@ Knows s c (act.Evict f) = Looks s c (λ x. FindsFull s (process_at s c) x f)
 Knows s c (act.Empty u) = Looks s c (λ x. FindsActive s (process_at s c) x u)
 Knows s c (act.EmptyVictim pool chain u) = Looks s c (λ x. FindsVictim s (process_at s c) x pool chain u)
 Knows s c (act.TakeAway fs pairs w) = IsLooking s c × IsIdle s.owner × ((fs ≢ []) ⊎ (pairs ≢ []))
+    × TakesSome (next_command s (process_at s c))
 Knows s c (act.FinishEviction f) = AnswersOne s c
 Knows s c (act.FinishPage f) = IsMine s c × AnswersOne s c
 Knows s c act.Commit = (x : Command) × Speaks s c (process_at s c) x
@@ -128,6 +129,10 @@ pick s c false x y f g = g refl
 
 some_of : (x : Option ℕ) (n : ℕ) → x ≡ Some n → x ≡ Some (or_zero x)
 some_of x n h = h ∙ ap (λ (y : Option ℕ). Some (or_zero y)) (sym h)
+
+nothing : (fs : List ℕ) (pairs : List (ℕ × ℕ)) → fs ≡ [] → pairs ≡ [] → (fs ≢ []) ⊎ (pairs ≢ []) → ⊥
+nothing fs pairs a b (inl n) = n a
+nothing fs pairs a b (inr n) = n b
 
 -- a command with a reference isn't an end
 reference_more : (cmd : Command) (r : Reference) → reference_of cmd ≡ Some r → is_end cmd ≡ false
@@ -147,6 +152,25 @@ module _ (s : State) (c : ℕ) (o : Outcome) (m : IsMachine s) (there : c < leng
       → is_end cmd ≡ false
   refused_more command.End r e h = absurd (let none : false ≡ true = sym (ap is_refusal e) ∙ h in cc)
   refused_more cmd r e h = refl
+
+  -- a command that takes something is one of those that do
+  takes_some : (cmd : Command) (fs : List ℕ) (pairs : List (ℕ × ℕ)) → FindsTaken s k cmd fs pairs
+      → (fs ≢ []) ⊎ (pairs ≢ []) → TakesSome (Some cmd)
+  takes_some (command.Acl path row m) fs pairs h some = tt
+  takes_some (command.Terminate n) fs pairs h some = tt
+  takes_some (command.Truncate path words) fs pairs h some = tt
+  takes_some (command.Delete path) fs pairs h some = tt
+  takes_some command.End fs pairs h some = tt
+  takes_some (command.MkDir path volume) fs pairs h some = nothing fs pairs h.frames h.descriptors some
+  takes_some (command.MkSeg path pages volume) fs pairs h some = nothing fs pairs h.frames h.descriptors some
+  takes_some (command.Initiate path) fs pairs h some = nothing fs pairs h.frames h.descriptors some
+  takes_some (command.Length path pages) fs pairs h some = nothing fs pairs h.frames h.descriptors some
+  takes_some (command.Move path amount) fs pairs h some = nothing fs pairs h.frames h.descriptors some
+  takes_some (command.Status path) fs pairs h some = nothing fs pairs h.frames h.descriptors some
+  takes_some (command.Read n w) fs pairs h some = nothing fs pairs h.frames h.descriptors some
+  takes_some (command.Write n w x) fs pairs h some = nothing fs pairs h.frames h.descriptors some
+  takes_some (command.Add n w x) fs pairs h some = nothing fs pairs h.frames h.descriptors some
+  takes_some (command.Await n w x t) fs pairs h some = nothing fs pairs h.frames h.descriptors some
 
   -- the command of the process that is here
   its_command : p.cpu.process ≡ Some k → (x : Command) × Speaks s c k x
@@ -210,7 +234,7 @@ module _ (s : State) (c : ℕ) (o : Outcome) (m : IsMachine s) (there : c < leng
     look_knows (act.Evict f) h = looks h
     look_knows (act.Empty u) h = looks h
     look_knows (act.EmptyVictim pool chain u) h = looks h
-    look_knows (act.TakeAway fs pairs w) h = (l, idle, h.2)
+    look_knows (act.TakeAway fs pairs w) h = (l, idle, h.2, subst TakesSome (sym sp.next) (takes_some cmd fs pairs h.0 h.2))
     look_knows act.Commit h = (cmd, sp)
     look_knows (act.Through f r) h = absurd h
     look_knows (act.Plain r) h = absurd h

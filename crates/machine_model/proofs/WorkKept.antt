@@ -110,7 +110,7 @@ fails_by_less : (a : Aim) (old now : Storage) (k : ℕ) (x : Option Command) →
     → FailsBy a now k x
 fails_by_less aim.Evicting old now k x less h = fails_less old now k x less h
 fails_by_less (aim.Deactivating u) old now k x less h = fails_less old now k x less h
-fails_by_less aim.Committing old now k x less h = tt
+fails_by_less aim.Committing old now k x less h = h
 
 pub fails_in_less : (ph : Phase) (old now : Storage) (k : ℕ) (x : Option Command) → IsLess old now → FailsIn ph old k x
     → FailsIn ph now k x

@@ -74,7 +74,7 @@ use Rattle.machine_model.specs.State.{Owner, State, Storage}
 use Rattle.machine_model.specs.Steps.{fault_told, frame_lost, looking, pages_after, told, told_by, transfer_failed}
 use Rattle.machine_model.specs.Steps.{transferred, with_faults, with_pages, with_store}
 use Rattle.machine_model.specs.Whole.{IsWhole, TakenWhole, goes_in, going_for}
-use Rattle.machine_model.specs.Working.{FailsIn, IsLeaf, IsWorking, MayFailBy}
+use Rattle.machine_model.specs.Working.{FailsIn, IsLeaf, IsWorking, MayFailBy, TakesSome}
 use Rattle.machine_model.proofs.EmptyAsks.{segment_inferiors, unread_any}
 use Rattle.machine_model.proofs.FlatAlike.{append_assoc}
 use Rattle.machine_model.proofs.KeepLaws.{IsNoOwner}
@@ -366,6 +366,7 @@ MayWork s c o (act.Evict f) = Looks s c (λ x. FindsFull s (process_at s c) x f)
 MayWork s c o (act.Empty u) = Looks s c (λ x. FindsActive s (process_at s c) x u)
 MayWork s c o (act.EmptyVictim pool chain u) = Looks s c (λ x. FindsVictim s (process_at s c) x pool chain u)
 MayWork s c o (act.TakeAway fs pairs w) = IsLooking s c × IsIdle s.owner × ((fs ≢ []) ⊎ (pairs ≢ []))
+    × TakesSome (next_command s (process_at s c))
 MayWork s c o (act.Signal w) = IsMine s c
 MayWork s c o (act.FinishPage f) = IsMine s c
 MayWork s c o _ = Unit {0}
@@ -581,7 +582,12 @@ module _ (s : State) (c : ℕ) (o : Outcome) (m : IsMachine s) (w : IsWorking s)
     fails = λ q h. subst (λ (y : Owner). FailsIn y.phase (took s c aim.Committing v fs pairs).store
         (process_at (took s c aim.Committing v fs pairs) y.cpu)
         (next_command (took s c aim.Committing v fs pairs) (process_at (took s c aim.Committing v fs pairs) y.cpu)))
-        (some_same _ q (sym has.owner ∙ h)) tt;
+        (some_same _ q (sym has.owner ∙ h))
+        (subst (λ (j : ℕ). TakesSome (next_command (took s c aim.Committing v fs pairs) j))
+        (sym (ap (λ (ps : List Processor). or_zero (cpu_at ps c).process)
+        (took_like s c aim.Committing v fs pairs).processors))
+        (subst TakesSome (λ i. command_at (sym (took_like s c aim.Committing v fs pairs).plan i) (process_at s c)
+        (run_at (sym (took_like s c aim.Committing v fs pairs).runs i) (process_at s c)).place) may.3));
   }
   work_kept (act.Signal v) may kept = signal_work s c keeps w v kept
   work_kept (act.FinishEviction f) may kept = by_end o (eviction_done (with_faults s o.faults) c f)

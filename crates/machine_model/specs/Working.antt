@@ -1,5 +1,5 @@
--- What the owner's job rests on while it makes room: that a drive's failure may be told of its command, and that the
--- segment that it makes inactive is a leaf that it took whole.
+-- What the owner's job rests on: while it makes room, that a drive's failure may be told of its command, and that the
+-- segment that it makes inactive is a leaf that it took whole; otherwise, that its command is one that takes.
 use Rattle.std.specs.Prelude.{◌≡◌, ◌≢◌, ◌⊎◌, ◌<◌, ◌≤◌, ◌*◌, ℕ, Bool, true, false, List, Option, Some, None, Result, Ok}
 use Rattle.script.specs.References.{reference_of}
 use Rattle.script.specs.declared.commands.Command.{Command}
@@ -41,10 +41,19 @@ MayFailBy st k (Some c) =
     ((r : Reference) × (reference_of c ≡ Some r) × IsReached st.accounts.nodes st.links.known k r)
     ⊎ MayChange st.accounts.nodes (is_filed st.accounts st.pages.vtocs) c
 
+-- a command that takes pages or descriptors out of use before its effect
+abbrev pub TakesSome : Option Command → Type 0
+TakesSome (Some (command.Acl path row m)) = Unit {0}
+TakesSome (Some (command.Terminate n)) = Unit {0}
+TakesSome (Some (command.Truncate path words)) = Unit {0}
+TakesSome (Some (command.Delete path)) = Unit {0}
+TakesSome (Some command.End) = Unit {0}
+TakesSome _ = ⊥
+
 abbrev pub FailsBy : Aim → Storage → ℕ → Option Command → Type 0
 FailsBy aim.Evicting st k c = MayFailBy st k c
 FailsBy (aim.Deactivating u) st k c = MayFailBy st k c
-FailsBy aim.Committing st k c = Unit {0}
+FailsBy aim.Committing st k c = TakesSome c
 
 abbrev pub FailsIn : Phase → Storage → ℕ → Option Command → Type 0
 FailsIn phase.Looking st k c = Unit {0}
