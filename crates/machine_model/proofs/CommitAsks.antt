@@ -1,6 +1,6 @@
 -- What the step asks of a command that takes effect: what the store says after it, and that it may be answered.
 use Rattle.std.proofs.Common.{◌≡◌, ◌<◌, ◌-◌, ◌%◌, ◌/◌, ℕ, Bool, true, false, not, ◌&&◌, cond, eqb, length, map, List, [], ◌∷◌, ◌++◌}
-use Rattle.std.proofs.Common.{Option, Some, None, inl, inr, refl, sym, ap, subst, ◌∙◌}
+use Rattle.std.proofs.Common.{◌⊎◌, Option, Some, None, inl, inr, refl, sym, ap, subst, ◌∙◌}
 use Rattle.std.proofs.lemmas.List.{length-set}
 use Rattle.std.specs.List.{list_all}
 use Rattle.script.specs.Plans.{Plan}
@@ -49,6 +49,21 @@ use Rattle.machine_model.proofs.FlatAlike.{IsAlike, all_still, alike_by, done_al
 use Rattle.machine_model.proofs.QuotaTotals.{effect_total}
 use Rattle.machine_model.proofs.SaysLaws.{Rest, none_rest, quotas, says_is}
 use Rattle.machine_model.proofs.SpeakLaws.{Speaks, can_tell}
+use Rattle.custody_model.specs.Allowed.{MayDeactivate}
+use Rattle.custody_model.specs.Custody.{has}
+use Rattle.custody_model.specs.Effects.{OfNode}
+use Rattle.machine_model.specs.Refusal.{refusal_of}
+use Rattle.machine_model.specs.Seen.{flat}
+use Rattle.machine_model.specs.Working.{TakesSome}
+use Rattle.machine_model.proofs.CommandFacts.{LeadsToSegment, length_stands}
+use Rattle.machine_model.proofs.LookFacts.{FindsTaken}
+use Rattle.machine_model.proofs.RuleKept.{AsksCommit}
+use Rattle.machine_model.specs.Chains.{page_at}
+use Rattle.core_map.specs.CoreMap.{reads_of}
+use Rattle.page_control.specs.Plain.{binding_at, bindings}
+use Rattle.seg_control.specs.Kept.{read_at}
+use Rattle.machine_model.proofs.DeleteKept.{all_gone, node}
+use Rattle.machine_model.proofs.TruncateKept.{QuietWords, all_left, cut_store}
 use Rattle.machine_model.proofs.TellKept.{CanTell}
 use Rattle.machine_model.proofs.TieLaws.{none_some}
 
@@ -307,3 +322,180 @@ module _ (s : State) (c : ℕ) (o : Outcome) (keeps : Keeps s) (cmd : Command) (
         without = refl;
         out = λ e. subst (λ (t : Store). MayTakeEffect t (shown (seen b)) k cmd) (sym still) out;
       }))
+
+-- ---- what is left of a command's premises
+
+-- what was taken for it is out of use
+abbrev pub IsOut : State → ℕ → Command → Type 0
+IsOut s c cmd = MayTakeEffect (flat_of s) (shown (seen (with_owner (effected s (process_at s c) cmd) None))) (process_at s c)
+    cmd
+
+-- for these commands descriptors alone were taken
+pub record RestsDescriptors (s : State) (c : ℕ) (cmd : Command) : Type 0 where
+  pub none : frames_of_owner s.owner ≡ []
+  pub out : IsOut s c cmd
+
+pub record RestsTruncate (s : State) (c : ℕ) (path : List (List ℕ)) (size : ℕ) : Type 0 where
+  pub cut : cut_of_owner s.owner ≡ []
+  pub bound : (g : ℕ) → binding_at (bindings (cut_store s c (process_at s c) path size).pages.core) g
+      ≡ (all_left s c (process_at s c) path size).bound g
+  pub reads : (g : ℕ) → read_at (reads_of (cut_store s c (process_at s c) path size).pages.core) g ≡ (seen s).reads g
+  pub words : QuietWords (all_left s c (process_at s c) path size)
+      (λ w q. word_of (cut_store s c (process_at s c) path size).ast w q)
+  pub places : (cut_store s c (process_at s c) path size).ast.entries ≡ s.store.ast.entries
+  pub links : (cut_store s c (process_at s c) path size).links ≡ s.store.links
+  pub out : IsOut s c (command.Truncate path size)
+
+pub record RestsDelete (s : State) (c : ℕ) (path : List (List ℕ)) : Type 0 where
+  pub active : is_active s.store.ast (node s c (process_at s c) path) ≡ true
+  pub its : (f : ℕ) → has (frames_of_owner s.owner) f ≡ true → (page_at (seen s) f).0 ≡ node s c (process_at s c) path
+  pub may : MayDeactivate (flat (all_gone s c (process_at s c) path)) (shown (all_gone s c (process_at s c) path))
+      (node s c (process_at s c) path)
+  pub out : IsOut s c (command.Delete path)
+
+pub record RestsDeleteInactive (s : State) (c : ℕ) (path : List (List ℕ)) : Type 0 where
+  pub inactive : is_active s.store.ast (uid_of_command s.store (process_at s c) (command.Delete path)) ≡ false
+  pub frames : frames_of_owner s.owner ≡ []
+  pub cut : cut_of_owner s.owner ≡ []
+  pub out : IsOut s c (command.Delete path)
+
+abbrev pub RestsCommit : State → ℕ → Option Command → Type 0
+RestsCommit s c (Some (command.Acl path row m)) = RestsDescriptors s c (command.Acl path row m)
+RestsCommit s c (Some (command.Terminate n)) = RestsDescriptors s c (command.Terminate n)
+RestsCommit s c (Some command.End) = RestsDescriptors s c command.End
+RestsCommit s c (Some (command.Truncate path words)) = RestsTruncate s c path words
+RestsCommit s c (Some (command.Delete path)) = RestsDelete s c path ⊎ RestsDeleteInactive s c path
+RestsCommit s c _ = Unit {0}
+
+-- a command for which nothing is taken takes effect where the look finds it
+abbrev pub Plainly : State → ℕ → Command → Type 0
+Plainly s c (command.Acl path row m) = Unit {0}
+Plainly s c (command.Terminate n) = Unit {0}
+Plainly s c command.End = Unit {0}
+Plainly s c (command.Truncate path words) = Unit {0}
+Plainly s c (command.Delete path) = Unit {0}
+Plainly s c (command.MkDir path volume) = frames_of_owner s.owner ≡ []
+Plainly s c (command.MkSeg path pages volume) = frames_of_owner s.owner ≡ []
+Plainly s c (command.Initiate path) = frames_of_owner s.owner ≡ []
+Plainly s c (command.Length path pages) = RestsDescriptors s c (command.Length path pages)
+Plainly s c (command.Move path amount) = frames_of_owner s.owner ≡ []
+Plainly s c (command.Status path) = frames_of_owner s.owner ≡ []
+Plainly s c _ = ⊥
+
+-- What the step asks of it follows.
+pub commit_asks : (s : State) (c : ℕ) (o : Outcome) → Keeps s → (cmd : Command) → Speaks s c (process_at s c) cmd
+    → Plainly s c cmd → Says s c o act.Commit → RestsCommit s c (Some cmd) → AsksCommit s c (process_at s c) (Some cmd)
+commit_asks s c o keeps (command.Acl path row m) sp plain says rests = record {
+  none = rests.none;
+  tell = commit_tell s c o keeps (command.Acl path row m) sp refl rests.out;
+  says = commit_says s c o keeps (command.Acl path row m) sp refl says;
+}
+commit_asks s c o keeps (command.Terminate n) sp plain says rests = record {
+  none = rests.none;
+  tell = commit_tell s c o keeps (command.Terminate n) sp refl rests.out;
+  says = commit_says s c o keeps (command.Terminate n) sp refl says;
+}
+commit_asks s c o keeps command.End sp plain says rests = record {
+  none = rests.none;
+  tell = commit_tell s c o keeps command.End sp refl rests.out;
+  says = commit_says s c o keeps command.End sp refl says;
+}
+commit_asks s c o keeps (command.Truncate path words) sp plain says rests = record {
+  cut = rests.cut;
+  bound = rests.bound;
+  reads = rests.reads;
+  words = rests.words;
+  places = rests.places;
+  links = rests.links;
+  tell = commit_tell s c o keeps (command.Truncate path words) sp refl rests.out;
+  says = commit_says s c o keeps (command.Truncate path words) sp refl says;
+}
+commit_asks s c o keeps (command.Delete path) sp plain says (inl rests) = inl (record {
+  active = rests.active;
+  its = rests.its;
+  may = rests.may;
+  tell = commit_tell s c o keeps (command.Delete path) sp refl rests.out;
+  says = commit_says s c o keeps (command.Delete path) sp refl says;
+})
+commit_asks s c o keeps (command.Delete path) sp plain says (inr rests) = inr (record {
+  inactive = rests.inactive;
+  frames = rests.frames;
+  cut = rests.cut;
+  tell = commit_tell s c o keeps (command.Delete path) sp refl rests.out;
+  says = commit_says s c o keeps (command.Delete path) sp refl says;
+})
+commit_asks s c o keeps (command.MkDir path volume) sp plain says rests = record {
+  none = plain;
+  tell = commit_tell s c o keeps (command.MkDir path volume) sp refl tt;
+  says = commit_says s c o keeps (command.MkDir path volume) sp refl says;
+}
+commit_asks s c o keeps (command.MkSeg path pages volume) sp plain says rests = record {
+  none = plain;
+  tell = commit_tell s c o keeps (command.MkSeg path pages volume) sp refl tt;
+  says = commit_says s c o keeps (command.MkSeg path pages volume) sp refl says;
+}
+commit_asks s c o keeps (command.Initiate path) sp plain says rests = record {
+  none = plain;
+  tell = commit_tell s c o keeps (command.Initiate path) sp refl tt;
+  says = commit_says s c o keeps (command.Initiate path) sp refl says;
+}
+commit_asks s c o keeps (command.Length path pages) sp plain says rests = record {
+  none = plain.none;
+  tell = commit_tell s c o keeps (command.Length path pages) sp refl plain.out;
+  says = commit_says s c o keeps (command.Length path pages) sp refl says;
+}
+commit_asks s c o keeps (command.Move path amount) sp plain says rests = record {
+  none = plain;
+  tell = commit_tell s c o keeps (command.Move path amount) sp refl tt;
+  says = commit_says s c o keeps (command.Move path amount) sp refl says;
+}
+commit_asks s c o keeps (command.Status path) sp plain says rests = record {
+  none = plain;
+  tell = commit_tell s c o keeps (command.Status path) sp refl tt;
+  says = commit_says s c o keeps (command.Status path) sp refl says;
+}
+commit_asks s c o keeps (command.Read n w) sp plain says rests = absurd plain
+commit_asks s c o keeps (command.Write n w x) sp plain says rests = absurd plain
+commit_asks s c o keeps (command.Add n w x) sp plain says rests = absurd plain
+commit_asks s c o keeps (command.Await n w x t) sp plain says rests = absurd plain
+
+-- ---- a look that takes nothing
+
+-- a path that leads to a segment that isn't active
+length_out : (s : State) (c : ℕ) (path : List (List ℕ)) (pages : ℕ) → Keeps s
+    → refusal_of s (process_at s c) (command.Length path pages) ≡ None
+    → is_active s.store.ast (uid_of_command s.store (process_at s c) (command.Length path pages)) ≡ false
+    → IsOut s c (command.Length path pages)
+length_out s c path pages keeps stands off = subst (OfNode (λ n. is_active s.store.ast n.uid ≡ false)) (sym leads.found)
+    (ap (is_active s.store.ast) (sym leads.uid) ∙ off)
+  where
+    leads : LeadsToSegment s path
+    leads = length_stands s (process_at s c) keeps path pages stands
+
+pub look_plainly : (s : State) (c : ℕ) → Keeps s → frames_of_owner s.owner ≡ [] → (cmd : Command)
+    → FindsTaken s (process_at s c) cmd [] [] → Plainly s c cmd
+look_plainly s c keeps none (command.Acl path row m) h = tt
+look_plainly s c keeps none (command.Terminate n) h = tt
+look_plainly s c keeps none command.End h = tt
+look_plainly s c keeps none (command.Truncate path words) h = tt
+look_plainly s c keeps none (command.Delete path) h = tt
+look_plainly s c keeps none (command.MkDir path volume) h = none
+look_plainly s c keeps none (command.MkSeg path pages volume) h = none
+look_plainly s c keeps none (command.Initiate path) h = none
+look_plainly s c keeps none (command.Length path pages) h =
+    record { none = none; out = length_out s c path pages keeps h.stands (h.inactive path pages refl) }
+look_plainly s c keeps none (command.Move path amount) h = none
+look_plainly s c keeps none (command.Status path) h = none
+look_plainly s c keeps none (command.Read n w) h = absurd (none_some (sym h.tree))
+look_plainly s c keeps none (command.Write n w x) h = absurd (none_some (sym h.tree))
+look_plainly s c keeps none (command.Add n w x) h = absurd (none_some (sym h.tree))
+look_plainly s c keeps none (command.Await n w x t) h = absurd (none_some (sym h.tree))
+
+-- one for which something was taken is no such command
+pub taken_plainly : (s : State) (c : ℕ) (cmd : Command) → TakesSome (Some cmd) → Plainly s c cmd
+taken_plainly s c (command.Acl path row m) h = tt
+taken_plainly s c (command.Terminate n) h = tt
+taken_plainly s c command.End h = tt
+taken_plainly s c (command.Truncate path words) h = tt
+taken_plainly s c (command.Delete path) h = tt
+taken_plainly s c _ h = absurd h
