@@ -71,9 +71,10 @@ use Rattle.flat_model.specs.Store.{Store}
 use Rattle.machine_model.specs.Jobs.{write_failed}
 use Rattle.machine_model.specs.Keeps.{StoreSays}
 use Rattle.machine_model.specs.Whole.{aimed_at, goes_in, going_for}
-use Rattle.machine_model.specs.Working.{FailsBy, FailsIn, IsLeaf, IsWorking, MayFailBy}
+use Rattle.machine_model.specs.Working.{FailsBy, FailsIn, IsLeaf, IsWorking, MayFailBy, TakesSome}
 use Rattle.machine_model.proofs.ActiveKept.{segs_are_gone}
 use Rattle.machine_model.proofs.ChainLaws.{GoesOn}
+use Rattle.machine_model.proofs.CommitAsks.{RestsCommit, commit_asks, look_plainly, taken_plainly}
 use Rattle.machine_model.proofs.JobAsks.{write_asks}
 use Rattle.machine_model.proofs.RuleKept.{HasWaited, wait_goes, wait_shape}
 use Rattle.machine_model.proofs.SaysLaws.{gone_is}
@@ -86,10 +87,10 @@ use Rattle.machine_model.proofs.TransferKept.{active_at}
 
 -- ---- what is left
 
--- Where a page can't be read in, that the failure may be told; of a command that takes effect, what it asks.
+-- Where a page can't be read in, that the failure may be told; of a command that takes from use, that it is out of use.
 abbrev pub Rests : State → ℕ → Outcome → act.Action → Type 0
 Rests s c o (act.EndTransfer t) = o.failed ≡ true → CanLose s c t o.faults × IsAnswering s c
-Rests s c o act.Commit = AsksCommit s c (process_at s c) (next_command s (process_at s c))
+Rests s c o act.Commit = RestsCommit s c (next_command s (process_at s c))
 Rests s c o _ = Unit {0}
 
 abbrev Follows : State → ℕ → Outcome → act.Action → Type 0
@@ -262,7 +263,9 @@ module _ (s : State) (c : ℕ) (o : Outcome) (m : IsMachine s) (there : c < leng
         victim_asks s c o k pool chain u cmd m.keeps idle (look_still s c o m.keeps there l) h says
     look_follows (act.TakeAway fs pairs w) h says rests =
         take_asks s k m.keeps idle c o cmd w fs pairs h.0 h.1 says
-    look_follows act.Commit h says rests = rests
+    look_follows act.Commit h says rests = subst (AsksCommit s c k) (sym sp.next)
+        (commit_asks s c o m.keeps cmd sp (look_plainly s c m.keeps idle.frames cmd h) says
+        (subst (RestsCommit s c) sp.next rests))
     look_follows act.IsStopped h says rests = tt
     look_follows act.HasEnded h says rests = tt
     look_follows act.Online h says rests = tt
@@ -348,7 +351,10 @@ module _ (s : State) (c : ℕ) (o : Outcome) (m : IsMachine s) (there : c < leng
     ill = λ h. (write_follows (next_command s k) refl its (fails_by (aim.Deactivating u) w x) h (says.counted h)
         (page_failed_says s c o f m.keeps h says)).0;
   }
-  finish_follows aim.Committing w x its fs e says rests = rests
+  finish_follows aim.Committing w x its fs e says rests = let one = speaks s c k m there its in
+      subst (AsksCommit s c k) (sym one.1.next) (commit_asks s c o m.keeps one.0 one.1
+      (taken_plainly s c one.0 (subst TakesSome one.1.next (fails_by aim.Committing w x))) says
+      (subst (RestsCommit s c) one.1.next rests))
 
   phase_follows : (q : IsMine s c) → p.cpu.process ≡ Some k → (x : Phase) → q.owner.phase ≡ x
       → Follows s c o (go_on_with s k q.owner x)
