@@ -97,6 +97,7 @@ pub mod EntitledKept
 pub mod MachineKept
 pub mod MachineBoot
 pub mod CommitAsks
+pub mod ForeseeLaws
 pub mod StepKept
 pub mod StepLaws
 pub mod TakeAsks

@@ -21,7 +21,7 @@ use Rattle.machine_model.proofs.TransferKept.{reader_no_owner}
 use Rattle.machine_model.proofs.WorkStep.{MayWork}
 
 -- a processor that has a process may answer its next command
-may_answer : (s : State) (c k : ℕ) → IsMachine s → c < length s.processors → (cpu_at s.processors c).process ≡ Some k
+pub may_answer : (s : State) (c k : ℕ) → IsMachine s → c < length s.processors → (cpu_at s.processors c).process ≡ Some k
     → MayAnswer s c
 unfolding AllCome
 may_answer s c k m there its = record {

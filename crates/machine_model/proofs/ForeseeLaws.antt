@@ -1,0 +1,57 @@
+-- What a step must find of the machine, as far as it follows from the whole promise alone.
+use Rattle.std.proofs.Common.{◌≡◌, ◌≢◌, ◌<◌, ℕ, Bool, true, false, is_some, length, List, [], ◌∷◌, Option, Some, None, ◌⊎◌, refl, sym, ap}
+use Rattle.std.proofs.Common.{subst, ◌∙◌}
+use Rattle.script.specs.declared.commands.Command.{Command}
+use Rattle.assoc_mem.specs.declared.What.{What}
+use Rattle.core_map.specs.CoreMap.{started_page}
+use Rattle.core_map.specs.declared.Frame.{Frame}
+use Rattle.core_map.specs.declared.Frame.TheVariants as frame
+use Rattle.machine_model.specs.declared.Phase.TheVariants as phase
+use Rattle.machine_model.specs.Actions as act
+use Rattle.machine_model.specs.Custodial.{IsOwned}
+use Rattle.machine_model.specs.Foreseen.{IsReading, MayAnswer}
+use Rattle.machine_model.specs.Holding.{seen}
+use Rattle.machine_model.specs.Keeps.{Keeps}
+use Rattle.machine_model.specs.Promise.{IsMachine}
+use Rattle.machine_model.specs.Reads.{cpu_at, next_command, or_zero, process_at}
+use Rattle.machine_model.specs.Seen.{shown}
+use Rattle.machine_model.specs.State.{Owner, State}
+use Rattle.machine_model.proofs.LookFacts.{FindsTaken, LookFinds, look_finds}
+use Rattle.machine_model.proofs.OwnerLaws.{looking_idle}
+use Rattle.machine_model.proofs.SpeakLaws.{Speaks}
+use Rattle.machine_model.proofs.StepGoes.{may_answer}
+use Rattle.machine_model.proofs.TieLaws.{none_some}
+use Rattle.page_control.specs.Plain.{frame_in}
+
+-- what doesn't take part has nothing to drop
+pub off_quiet : (s : State) → Keeps s → (d : ℕ) → (cpu_at s.processors d).online ≡ false
+    → (cpu_at s.processors d).due ≡ None
+off_quiet s k d off = by (cpu_at s.processors d).due refl
+  where
+    by : (x : Option What) → (cpu_at s.processors d).due ≡ x → x ≡ None
+    by None e = refl
+    by (Some w) e = absurd (let none : true ≡ false = sym ((k.book.holding_right d).warned w e) ∙ off in cc)
+
+-- a process that is at a processor may be answered
+pub has_answer : (s : State) (c : ℕ) → IsMachine s → c < length s.processors
+    → is_some (cpu_at s.processors c).process ≡ true → MayAnswer s c
+has_answer s c m there h = may_answer s c (process_at s c) m there (by (cpu_at s.processors c).process h)
+  where
+    by : (x : Option ℕ) → is_some x ≡ true → x ≡ Some (or_zero x)
+    by None e = absurd (let none : false ≡ true = e in cc)
+    by (Some n) e = refl
+
+-- a look has taken nothing yet
+pub looks_empty : (s : State) → Keeps s → (o : Owner) → s.owner ≡ Some o → o.phase ≡ phase.Looking → o.frames ≡ []
+looks_empty s k o mine looks = (looking_idle (shown (seen s)) o
+    (subst (IsOwned (shown (seen s))) mine k.book.going_owned) looks).frames
+
+-- a transfer that a look waits for is under way
+pub waits_reading : (s : State) (k : ℕ) (cmd : Command) (f : ℕ) → LookFinds s k cmd (act.Waits (act.ForTransfer f))
+    → IsReading s f
+waits_reading s k cmd f h = by (frame_in s.store.pages f) refl h
+  where
+    by : (x : Frame) → frame_in s.store.pages f ≡ x → is_some (started_page x) ≡ true → IsReading s f
+    by frame.Free e i = absurd (let none : false ≡ true = i in cc)
+    by (frame.Started u p) e i = record { uid = u; page = p; started = e }
+    by (frame.Bound u p used modified) e i = absurd (let none : false ≡ true = i in cc)
