@@ -28,6 +28,13 @@ use Rattle.machine_model.specs.State.{State}
 use Rattle.machine_model.specs.Steps.{fault_told, with_owner}
 use Rattle.machine_model.specs.Working.{MayFailBy}
 use Rattle.machine_model.specs.declared.Processor.{Processor}
+use Rattle.std.proofs.lemmas.List.{length-set}
+use Rattle.processor.specs.declared.Cpu.{Cpu}
+use Rattle.processor.specs.declared.Transfer.{Transfer}
+use Rattle.machine_model.specs.Steps.{frame_lost, transfer_failed}
+use Rattle.machine_model.specs.Reads.{cpu_at, no_processor}
+use Rattle.machine_model.proofs.FlatAlike.{one_still}
+use Rattle.machine_model.proofs.StepKept.{CanLose}
 use Rattle.machine_model.specs.declared.Run.{Run}
 use Rattle.machine_model.proofs.BackKept.{all_back}
 use Rattle.machine_model.proofs.FailLaws.{fails_more, may_fail_is}
@@ -143,5 +150,62 @@ module _ (s : State) (c : ℕ) (o : Outcome) (cmd : Command) (keeps : Keeps s) (
       known = sp.known;
       more = ap (λ (x : Option Command). is_its_end x) sp.next
           ∙ fails_more s (process_at s c) (flat_of s) keeps.faithful cmd may;
+    },
+  )
+
+-- ---- a page can't be read in
+
+module _ (s : State) (c : ℕ) (o : Outcome) (t : Transfer) (cmd : Command) (keeps : Keeps s)
+    (sp : Speaks s c (process_at s c) cmd) (may : MayFailBy s.store (process_at s c) (Some cmd)) where
+  abbrev k : ℕ
+  k = process_at s c
+
+  abbrev lost : State
+  lost = fault_told (frame_lost s c t) (Some k) o.faults
+
+  lost_flat : flat_of lost ≡ after_fault (flat_of s) (Some k)
+  unfolding after_entry
+  lost_flat = store_after-push s.plan (s.entries ++ entry.Lose t.frame ∷ []) (entry.Fault (Some k))
+      ∙ ap (λ (x : Store). after_fault x (Some k)) (one_still s.plan s.entries (entry.Lose t.frame) refl)
+
+  lost_here : cpu_at lost.processors c ≡ record (cpu_at s.processors c) { transfer = None }
+  lost_here = ap (λ (p : Processor). p.cpu) (get_or-set_same s.processors c _ no_processor sp.there)
+
+  lost_speaks : Speaks lost c k cmd
+  lost_speaks = record {
+    there = subst (λ (n : ℕ). c < n) (sym (length-set s.processors c _)) sp.there;
+    known = sp.known;
+    its = ap (λ (x : Cpu). x.process) lost_here ∙ sp.its;
+    next = sp.next;
+    going = sp.going;
+    turn = sp.turn;
+    runs = λ j. subst (λ (x : Store). IsRun (progress_of x j) (run_at s.runs j)) (sym lost_flat)
+        (runs_failed (flat_of s) (Some k) (λ i. run_at s.runs i) sp.runs j);
+  }
+
+  lost_shown : IsFaithful s.plan (flat_of lost) s.store
+  lost_shown = alike_shown s.plan (flat_of s) (flat_of lost) s.store
+      (subst (IsAlike (flat_of s)) (fault_is s k ∙ sym lost_flat) (fault_alike s.plan s.entries (Some k))) keeps.faithful
+
+  pub read_asks : s.faults < o.faults → StoreSays (transfer_failed s c t o.faults)
+      → CanLose s c t o.faults × IsAnswering s c
+  read_asks rose says = (
+    record {
+      rose = rose;
+      may = ap (λ (x : Store). (progress_of x k).ended) (one_still s.plan s.entries (entry.Lose t.frame) refl)
+          ∙ ((sp.runs k).ended ∙ sp.going);
+      tell = subst (λ (j : ℕ). CanTell lost c j None reply.Device) (sym (ap (λ (x : Cpu). or_zero x.process) lost_here))
+          (device_tell lost c k cmd lost_speaks
+          (ap (λ (x : Store). (progress_of x k).faulted) lost_flat
+          ∙ faulted_now (flat_of s) k ((sp.runs k).ended ∙ sp.going))
+          (may_fail_is s k (flat_of lost) lost_shown cmd may));
+      says = says;
+    },
+    record {
+      process = k;
+      its = sp.its;
+      known = sp.known;
+      more = ap (λ (x : Option Command). is_its_end x) sp.next
+          ∙ fails_more s k (flat_of s) keeps.faithful cmd may;
     },
   )
