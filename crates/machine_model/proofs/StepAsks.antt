@@ -75,7 +75,10 @@ use Rattle.machine_model.specs.Working.{FailsBy, FailsIn, IsLeaf, IsWorking, May
 use Rattle.machine_model.proofs.ActiveKept.{segs_are_gone}
 use Rattle.machine_model.proofs.ChainLaws.{GoesOn}
 use Rattle.machine_model.proofs.CommitAsks.{RestsCommit, commit_asks, look_plainly, taken_plainly}
-use Rattle.machine_model.proofs.JobAsks.{write_asks}
+use Rattle.machine_model.proofs.JobAsks.{read_asks, write_asks}
+use Rattle.machine_model.specs.Steps.{is_its_end}
+use Rattle.machine_model.proofs.FailLaws.{fails_more}
+use Rattle.machine_model.proofs.SaysLaws.{failed_says}
 use Rattle.machine_model.proofs.RuleKept.{HasWaited, wait_goes, wait_shape}
 use Rattle.machine_model.proofs.SaysLaws.{gone_is}
 use Rattle.machine_model.proofs.WholeKept.{may_deactivate}
@@ -87,9 +90,23 @@ use Rattle.machine_model.proofs.TransferKept.{active_at}
 
 -- ---- what is left
 
+-- a processor that reads has a process, of whose command a drive's failure may be told
+pub record ReadsFor (s : State) (c : ℕ) : Type 0 where
+  pub its : (cpu_at s.processors c).process ≡ Some (process_at s c)
+  pub may : MayFailBy s.store (process_at s c) (next_command s (process_at s c))
+
+pub reads_answering : (s : State) (c : ℕ) → IsMachine s → c < length s.processors → ReadsFor s c → IsAnswering s c
+reads_answering s c m there r = let one = speaks s c (process_at s c) m there r.its in record {
+  process = process_at s c;
+  its = r.its;
+  known = one.1.known;
+  more = ap (λ (x : Option Command). is_its_end x) one.1.next ∙ fails_more s (process_at s c) (flat_of s) m.keeps.faithful
+      one.0 (subst (MayFailBy s.store (process_at s c)) one.1.next r.may);
+}
+
 -- Where a page can't be read in, that the failure may be told; of a command that takes from use, that it is out of use.
 abbrev pub Rests : State → ℕ → Outcome → act.Action → Type 0
-Rests s c o (act.EndTransfer t) = o.failed ≡ true → CanLose s c t o.faults × IsAnswering s c
+Rests s c o (act.EndTransfer t) = o.failed ≡ true → ReadsFor s c
 Rests s c o act.Commit = RestsCommit s c (next_command s (process_at s c))
 Rests s c o _ = Unit {0}
 
@@ -389,7 +406,9 @@ module _ (s : State) (c : ℕ) (o : Outcome) (m : IsMachine s) (there : c < leng
   transfer_follows : (x : Option Transfer) → p.cpu.transfer ≡ x → Follows s c o (transfer_or s c p x)
   transfer_follows (Some t) e = λ says rests. record {
     well = λ h. (says.never_less, read_says s c o t m.keeps says h);
-    ill = λ h. (rests h).0;
+    ill = λ h. (let r = rests h in let one = speaks s c k m there r.its in
+        (read_asks s c o t one.0 m.keeps one.1 (subst (MayFailBy s.store k) one.1.next r.may) (says.counted h)
+        (failed_says s c o t m.keeps says h)).0);
   }
   transfer_follows None e = owner_follows s.owner refl
 

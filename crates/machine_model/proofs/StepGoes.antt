@@ -14,7 +14,7 @@ use Rattle.machine_model.specs.State.{State}
 use Rattle.machine_model.specs.Steps.{is_its_end, transfer_failed, transferred, with_faults}
 use Rattle.machine_model.proofs.ComingKept.{all_come, come_same, tells}
 use Rattle.machine_model.proofs.ScheduleKept.{IsAnswering, MaySchedule}
-use Rattle.machine_model.proofs.StepAsks.{Rests}
+use Rattle.machine_model.proofs.StepAsks.{Rests, reads_answering}
 use Rattle.machine_model.proofs.StepKept.{CanDo, due_other, empty_other, online_other}
 use Rattle.machine_model.proofs.StepKnows.{AnswersOne, Knows}
 use Rattle.machine_model.proofs.TransferKept.{reader_no_owner}
@@ -54,7 +54,7 @@ module _ (s : State) (c : ℕ) (o : Outcome) (m : IsMachine s) (there : c < leng
   may_schedule (act.Waits why) can rests knows = tt
   may_schedule act.Online can rests knows = tt
   may_schedule (act.Clear w) can rests knows = tt
-  may_schedule (act.EndTransfer t) can rests knows = λ e. (rests e).1
+  may_schedule (act.EndTransfer t) can rests knows = λ e. reads_answering s c m there (rests e)
   may_schedule (act.Load n) can rests knows = can
   may_schedule act.Leave can rests knows = (can.process, can.its)
   may_schedule (act.FillSeg n) can rests knows = tt
@@ -87,7 +87,7 @@ module _ (s : State) (c : ℕ) (o : Outcome) (m : IsMachine s) (there : c < leng
   may_work (act.EndTransfer t) can rests knows = (
     reader_no_owner s c t m.keeps can.mine,
     can.mine,
-    λ e. (let its = (rests e).1.its in its ∙ ap (λ (x : ℕ). Some x) (sym (ap or_zero its))),
+    λ e. (let its = (rests e).its in its ∙ ap (λ (x : ℕ). Some x) (sym (ap or_zero its))),
   )
   may_work (act.Load n) can rests knows = empty_other s c m.keeps can.1
   may_work act.Leave can rests knows = can.other
@@ -127,7 +127,7 @@ module _ (s : State) (c : ℕ) (o : Outcome) (m : IsMachine s) (there : c < leng
 
   -- so each process still comes to a command
   pub comes : (a : act.Action) → Rests s c o a → Knows s c a → AllCome (after s c a o)
-  comes (act.EndTransfer t) rests knows = come_end t (λ e. (rests e).1)
+  comes (act.EndTransfer t) rests knows = come_end t (λ e. reads_answering s c m there (rests e))
   comes (act.Through f r) rests knows = all_come s c (act.Through f r) o m.script m.come
       (λ h. may_answer s c (process_at s c) m there knows.one.speaks.its)
   comes (act.Plain r) rests knows = all_come s c (act.Plain r) o m.script m.come
