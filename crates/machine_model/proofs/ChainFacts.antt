@@ -1,12 +1,12 @@
 -- The chain of directories down to a node: which of its links are active, and what is above the first that isn't.
-use Rattle.std.proofs.Common.{◌≡◌, ℕ, Bool, true, false, not, cond, eqb, is_some, List, [], ◌∷◌, ◌++◌, Option, Some, None}
+use Rattle.std.proofs.Common.{◌≡◌, ℕ, Bool, true, false, not, cond, eqb, is_some, List, [], ◌∷◌, ◌++◌, Option, Some}
+use Rattle.std.proofs.Common.{None}
 use Rattle.std.proofs.Common.{inl, inr, refl, sym, ap, subst, ◌∙◌, reverse}
 use Rattle.std.specs.Prelude.{IfSome}
 use Rattle.std.specs.List.{find}
 use Rattle.std.specs.Option.{option_and_then}
-use Rattle.std.proofs.lemmas.Bool.Decides.{eqb_tells}
 use Rattle.std.proofs.lemmas.Grind.{reverse_onto}
-use Rattle.tree_model.specs.Tree.{Node, above, has_directory, node_in, step_up}
+use Rattle.tree_model.specs.Tree.{Node, above, node_in, step_up}
 use Rattle.tree_model.specs.Trees.{AreDirectories, HasChains, IsChain, IsTree}
 use Rattle.tree_model.proofs.ChainLaws.{has_chains}
 use Rattle.tree_model.proofs.Finds.{IsMember, found_front, found_member, member_parts, past_front}
@@ -152,9 +152,9 @@ module _ (ns : List Node) (t : IsTree ns) (ast : ActiveSegs) where
       turn [] m = m
       turn (y ∷ ys) m = elim (member_parts v (reverse ys) (y ∷ [])
           (subst (IsMember v) (turned y ys) m)) [
-        | inl front ↦ inr (turn ys front)
-        | inr back ↦ elim back [ inl e ↦ inl e | inr none ↦ absurd none ]
-      ]
+            | inl front ↦ inr (turn ys front)
+            | inr back ↦ elim back [ inl e ↦ inl e | inr none ↦ absurd none ]
+          ]
 
   pub first_there : (u v : ℕ) → is_some (node_in ns u) ≡ true → first_inactive ast (chain_of ns u) ≡ Some v
       → is_some (node_in ns v) ≡ true

@@ -1,23 +1,19 @@
 -- What a tree command is about, where nothing refuses it.
-use Rattle.std.proofs.Common.{◌≡◌, ℕ, Bool, true, false, not, cond, eqb, is_some, List, [], ◌∷◌, Option, Some, None, inl, inr}
-use Rattle.std.proofs.Common.{refl, sym, ap, subst, ◌∙◌}
+use Rattle.std.proofs.Common.{◌≡◌, ℕ, Bool, true, false, cond, eqb, List, [], ◌∷◌, Option, Some, None, inl, inr}
+use Rattle.std.proofs.Common.{refl, sym, ap, ◌∙◌}
 use Rattle.std.specs.Prelude.{Result, Ok, Err}
 use Rattle.std.specs.List.{list_any}
 use Rattle.std.proofs.lemmas.Bool.Decides.{eqb_tells}
-use Rattle.script.specs.declared.commands.Command.{Command}
 use Rattle.script.specs.declared.commands.Command.TheVariants as command
 use Rattle.mnames.specs.declared.modes.Mode.{Mode}
 use Rattle.mnames.specs.declared.rows.Row.{Row as Named}
 use Rattle.book.specs.declared.replies.Reply.{Reply}
 use Rattle.book.specs.declared.replies.Reply.TheVariants as reply
-use Rattle.tree_model.specs.Access.{takes_row}
 use Rattle.tree_model.specs.Tree.{Node, Walk, LeadsTo, Missing, InSegment, is_inferior, node_in, walk_in}
 use Rattle.flat_model.specs.Branches.{branch_at, done_at, node_at, only_segment, segment_at, there_or, walked}
 use Rattle.flat_model.specs.Making.{delete_of, delete_reply}
-use Rattle.flat_model.specs.Pages.{is_stored_from}
 use Rattle.flat_model.specs.Rights.{acl_of, acl_reply}
 use Rattle.flat_model.specs.Sizes.{length_of, length_reply, truncate_reply}
-use Rattle.flat_model.specs.Store.{Store}
 use Rattle.storage_ops.specs.Shown.{is_refusal, refusal}
 use Rattle.machine_model.specs.Keeps.{Keeps}
 use Rattle.machine_model.specs.Reads.{flat_of}

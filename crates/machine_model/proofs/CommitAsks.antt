@@ -1,16 +1,14 @@
 -- What the step asks of a command that takes effect: what the store says after it, and that it may be answered.
-use Rattle.std.proofs.Common.{◌≡◌, ◌<◌, ◌-◌, ◌%◌, ◌/◌, ℕ, Bool, true, false, not, ◌&&◌, cond, eqb, length, map, List, [], ◌∷◌, ◌++◌}
+use Rattle.std.proofs.Common.{◌≡◌, ◌%◌, ◌/◌, ℕ, Bool, true, false, ◌&&◌, cond, eqb, length, map, List, [], ◌∷◌, ◌++◌}
 use Rattle.std.proofs.Common.{◌⊎◌, Option, Some, None, inl, inr, refl, sym, ap, subst, ◌∙◌}
 use Rattle.std.proofs.lemmas.List.{length-set}
 use Rattle.std.specs.List.{list_all}
-use Rattle.script.specs.Plans.{Plan}
 use Rattle.script.specs.References.{reference_of}
 use Rattle.script.specs.declared.commands.Command.{Command}
 use Rattle.script.specs.declared.commands.Command.TheVariants as command
 use Rattle.script.specs.declared.commands.Reference.{Reference}
 use Rattle.book.specs.declared.entries.Entry.{Entry}
 use Rattle.book.specs.declared.entries.Entry.TheVariants as entry
-use Rattle.book.specs.declared.replies.Reply.{Reply}
 use Rattle.tree_model.specs.Access.{Row}
 use Rattle.tree_model.specs.Trees.{IsTree}
 use Rattle.core_map.specs.CoreMap.{bound_page}
@@ -21,7 +19,8 @@ use Rattle.page_control.specs.Effects.{cut, erased, framed}
 use Rattle.page_control.specs.Plain.{Plain, frame_in, words_in}
 use Rattle.seg_control.specs.Control.{word_of}
 use Rattle.flat_model.specs.Branches.{parts_of}
-use Rattle.flat_model.specs.Commands.{effect_by, effect_of, effect_of_tree_command, reply_by, reply_to_command, reply_to_tree_command, takes_effect}
+use Rattle.flat_model.specs.Commands.{effect_by, effect_of, effect_of_tree_command, reply_by, reply_to_command}
+use Rattle.flat_model.specs.Commands.{reply_to_tree_command, takes_effect}
 use Rattle.flat_model.specs.Legal.{store_after}
 use Rattle.flat_model.specs.Store.{Store, progress_of}
 use Rattle.storage_ops.specs.Shown.{answered}
@@ -31,23 +30,24 @@ use Rattle.machine_model.specs.declared.CutDescriptor.{CutDescriptor}
 use Rattle.machine_model.specs.Actions as act
 use Rattle.machine_model.specs.After.{Outcome, after}
 use Rattle.machine_model.specs.Commits.{committed, committed_at, cut_entry, frame_entry, frames_freed, gone_entries}
-use Rattle.machine_model.specs.Commits.{inactive_entries, left_after, pages_past, stays, with_cut, with_cut_in, with_deleted}
+use Rattle.machine_model.specs.Commits.{inactive_entries, left_after, pages_past, stays, with_cut, with_cut_in}
+use Rattle.machine_model.specs.Commits.{with_deleted}
 use Rattle.machine_model.specs.Commits.{with_effect, with_made, with_truncated, without_page, without_pages}
 use Rattle.machine_model.specs.Custodial.{IsRun}
 use Rattle.machine_model.specs.Holding.{seen}
 use Rattle.machine_model.specs.Jobs.{are_zeros, here_if, with_here, with_inactive}
 use Rattle.machine_model.specs.Keeps.{Keeps, StoreSays}
-use Rattle.machine_model.specs.Reads.{cut_of_owner, flat_of, frames_of_owner, home_in, is_active, next_command, process_at}
+use Rattle.machine_model.specs.Reads.{cut_of_owner, flat_of, frames_of_owner, home_in, is_active, process_at}
 use Rattle.machine_model.specs.Reads.{run_at}
 use Rattle.machine_model.specs.Refusal.{reply_of, uid_of_command}
-use Rattle.machine_model.specs.Said.{Says, shown_after, with_command}
+use Rattle.machine_model.specs.Said.{Says, with_command}
 use Rattle.machine_model.specs.Seen.{shown}
 use Rattle.machine_model.specs.State.{State, Storage}
-use Rattle.machine_model.specs.Steps.{booked, told, with_owner, with_pages, with_store}
+use Rattle.machine_model.specs.Steps.{told, with_owner, with_pages}
 use Rattle.machine_model.proofs.CommitKept.{effected}
 use Rattle.machine_model.proofs.FlatAlike.{IsAlike, all_still, alike_by, done_alike, is_still, one_still, refused_alike}
 use Rattle.machine_model.proofs.QuotaTotals.{effect_total}
-use Rattle.machine_model.proofs.SaysLaws.{Rest, none_rest, quotas, says_is}
+use Rattle.machine_model.proofs.SaysLaws.{none_rest, quotas, says_is}
 use Rattle.machine_model.proofs.SpeakLaws.{Speaks, can_tell}
 use Rattle.custody_model.specs.Allowed.{MayDeactivate}
 use Rattle.custody_model.specs.Custody.{has}
@@ -125,7 +125,8 @@ are_freed pages (f ∷ fs) = are_freed (framed pages f frame.Free) fs ∙ length
 deleted : (st : Storage) (u : ℕ) (frames : List ℕ) → count (with_deleted st u frames) ≡ count st
 deleted st u frames = by (is_active st.ast u)
   where
-    by : (b : Bool) → count (cond b (with_inactive (with_pages st (erased (frames_freed st.pages frames) (home_in st u))) u)
+    by : (b : Bool) → count (cond b (with_inactive (with_pages st (erased (frames_freed st.pages frames)
+        (home_in st u))) u)
         (with_pages st (erased (frames_freed st.pages frames) (home_in st u)))) ≡ count st
     by true = are_freed st.pages frames
     by false = are_freed st.pages frames
@@ -317,7 +318,8 @@ module _ (s : State) (c : ℕ) (o : Outcome) (keeps : Keeps s) (cmd : Command) (
   pub commit_tell : MayTakeEffect (flat_of s) (shown (seen b)) k cmd → CanTell b c k None (reply_of s k cmd)
   commit_tell out = can_tell b c k cmd None (reply_of s k cmd) speaks_still
       (inl (is_reply ∙ ap (λ (t : Store). reply_to_command s.plan t k cmd) (sym still)))
-      (subst (λ (x : Option Reference). MayAnswerBy s.plan (flat_of b) (shown (seen b)) c k None cmd (reply_of s k cmd) x)
+      (subst (λ (x : Option Reference). MayAnswerBy s.plan (flat_of b) (shown (seen b)) c k None cmd
+      (reply_of s k cmd) x)
       (sym tree) (record {
         without = refl;
         out = λ e. subst (λ (t : Store). MayTakeEffect t (shown (seen b)) k cmd) (sym still) out;
@@ -327,7 +329,8 @@ module _ (s : State) (c : ℕ) (o : Outcome) (keeps : Keeps s) (cmd : Command) (
 
 -- what was taken for it is out of use
 abbrev pub IsOut : State → ℕ → Command → Type 0
-IsOut s c cmd = MayTakeEffect (flat_of s) (shown (seen (with_owner (effected s (process_at s c) cmd) None))) (process_at s c)
+IsOut s c cmd = MayTakeEffect (flat_of s) (shown (seen (with_owner (effected s (process_at s c) cmd) None)))
+    (process_at s c)
     cmd
 
 -- for these commands descriptors alone were taken

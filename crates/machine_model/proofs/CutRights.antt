@@ -112,7 +112,8 @@ module _ (st : Storage) (k n aste pages : ℕ) (m : Mode) (here : descriptor_of 
         was : (j i place p : ℕ) (mode : Mode) → descriptor_of links j i ≡ sdw.Present place mode p
             → descriptor_of st.links j i ≡ sdw.Present place mode p
         was j i place p mode at = by_places (λ (x : Sdw). x ≡ sdw.Present place mode p
-            → descriptor_of st.links j i ≡ sdw.Present place mode p) (λ a b. descriptor_of st.links a b) k n sdw.Fault j i
+            → descriptor_of st.links j i ≡ sdw.Present place mode p)
+            (λ a b. descriptor_of st.links a b) k n sdw.Fault j i
             (λ a b e. absurd (let no : sdw.Fault ≡ sdw.Present place mode p = e in cc)) (λ o e. e)
             (sym (descriptors_put st.links links.trailers k n sdw.Fault within.0 within.1 j i) ∙ at)
 
@@ -121,7 +122,8 @@ module _ (st : Storage) (k n aste pages : ℕ) (m : Mode) (here : descriptor_of 
     still_there (d ∷ ds) h = (
       (
         subst (λ (x : ℕ). d.process < x) (sym (length-set st.links.descriptors k _)) h.0.0,
-        subst (λ (x : ℕ). d.number < x) (sym (inner_length st.links.descriptors k n d.process sdw.Fault within.0)) h.0.1,
+        subst (λ (x : ℕ). d.number < x) (sym (inner_length st.links.descriptors k n d.process sdw.Fault within.0))
+            h.0.1,
         h.0.2,
       ),
       still_there ds h.1,

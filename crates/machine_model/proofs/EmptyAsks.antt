@@ -1,17 +1,14 @@
 -- What a look asks that makes a segment inactive, for its length or as the victim of a pool.
-use Rattle.std.proofs.Common.{◌≡◌, ◌≢◌, ◌<◌, ℕ, Bool, true, false, cond, eqb, is_some, List, [], ◌∷◌, length, sum, Option}
+use Rattle.std.proofs.Common.{◌≡◌, ◌≢◌, ℕ, Bool, true, false, cond, eqb, List, [], ◌∷◌, Option}
 use Rattle.std.proofs.Common.{Some, None, inl, inr, refl, sym, ap, subst, ◌∙◌}
-use Rattle.std.specs.Option.{option_and_then}
 use Rattle.std.proofs.lemmas.Bool.Decides.{eqb_tells}
 use Rattle.script.specs.declared.commands.Command.{Command}
-use Rattle.script.specs.declared.commands.Command.TheVariants as command
 use Rattle.assoc_mem.specs.declared.What.TheVariants as what
 use Rattle.tree_model.specs.Tree.{Node, has_directory, node_in}
-use Rattle.tree_model.specs.Trees.{IsTree}
-use Rattle.tree_model.proofs.TreeLaws.{IsUp, superior_in, superior_up}
+use Rattle.tree_model.proofs.TreeLaws.{IsUp, superior_up}
 use Rattle.core_map.specs.declared.Frame.TheVariants as frame
 use Rattle.core_map.specs.CoreMap.{Core, frame_at, reads_of, started_page}
-use Rattle.active_segs.specs.Active.{ActiveSegs, HasNoInferior, uid_at}
+use Rattle.active_segs.specs.Active.{HasNoInferior, uid_at}
 use Rattle.active_segs.specs.Victim.{first_off_chain, hand_past}
 use Rattle.seg_control.specs.Kept.{read_at}
 use Rattle.custody_model.specs.Allowed.{MayDeactivate, superior_in as node_superior}
@@ -21,13 +18,13 @@ use Rattle.machine_model.specs.Actions.{any_page}
 use Rattle.machine_model.specs.After.{Outcome, after}
 use Rattle.machine_model.specs.Custodial.{is_pending}
 use Rattle.machine_model.specs.Holding.{seen}
-use Rattle.machine_model.specs.Jobs.{deactivation_begun, emptied, segment_taken, segs_gone, victim_taken, with_hand_moved}
+use Rattle.machine_model.specs.Jobs.{deactivation_begun, emptied, segment_taken, segs_gone, with_hand_moved}
 use Rattle.machine_model.specs.Keeps.{AreThere, IsFaithful, Keeps, StoreKept, StoreSays}
-use Rattle.machine_model.specs.Reads.{cut_of_owner, flat_of, frame_reading, frames_from, frames_of_owner, is_active}
+use Rattle.machine_model.specs.Reads.{cut_of_owner, flat_of, frame_reading, frames_from, is_active}
 use Rattle.machine_model.specs.Reads.{is_page_of, or_zero, trailers_in}
 use Rattle.machine_model.specs.Said.{Says}
 use Rattle.machine_model.specs.Seen.{shown}
-use Rattle.machine_model.specs.State.{State, Storage}
+use Rattle.machine_model.specs.State.{State}
 use Rattle.machine_model.specs.Steps.{with_store}
 use Rattle.machine_model.specs.declared.CutDescriptor.{CutDescriptor}
 use Rattle.machine_model.proofs.ActiveKept.{IsOver}
@@ -41,7 +38,7 @@ use Rattle.machine_model.proofs.LeafLaws.{leaf_inferiors, victim_leaf}
 use Rattle.machine_model.proofs.ListLaws.{map_list}
 use Rattle.machine_model.proofs.LookFacts.{FindsActive, FindsVictim}
 use Rattle.machine_model.proofs.OwnedLaws.{IsIdle}
-use Rattle.machine_model.proofs.RuleKept.{AsksEmpty, AsksEmptied, AsksSegment, AsksVictim}
+use Rattle.machine_model.proofs.RuleKept.{AsksEmpty, AsksSegment, AsksVictim}
 use Rattle.machine_model.proofs.SaysLaws.{emptied_says}
 use Rattle.machine_model.proofs.StepKept.{hand_kept}
 use Rattle.machine_model.proofs.TakeLists.{trailers_taken}

@@ -1,5 +1,6 @@
 -- What processors hold stays what their processes may do, through every action that no command ends.
-use Rattle.std.proofs.Common.{◌≡◌, ◌≢◌, ◌<◌, ℕ, Bool, true, false, not, cond, eqb, List, [], ◌∷◌, ◌++◌, drop, filter, length, set}
+use Rattle.std.proofs.Common.{◌≡◌, ◌≢◌, ◌<◌, ℕ, Bool, true, false, not, cond, eqb, List, [], ◌∷◌, ◌++◌, drop, filter}
+use Rattle.std.proofs.Common.{length, set}
 use Rattle.std.proofs.Common.{◌+◌, Option, Some, None, ◌⊎◌, inl, inr, refl, sym, ap, subst, ◌∙◌}
 use Rattle.std.proofs.lemmas.Bool.Decides.{eqb_tells}
 use Rattle.std.proofs.lemmas.List.{get_or-set_other, get_or-set_same, length-set}
@@ -10,13 +11,12 @@ use Rattle.assoc_mem.specs.declared.What.{What}
 use Rattle.assoc_mem.specs.declared.What.TheVariants as what
 use Rattle.descriptor_seg.specs.declared.Sdw.{Sdw}
 use Rattle.descriptor_seg.specs.declared.Sdw.TheVariants as sdw
-use Rattle.known_segs.specs.Known.{uid_of}
 use Rattle.core_map.specs.CoreMap.{bound_page}
 use Rattle.page_control.specs.Plain.{frame_in, words_in}
 use Rattle.page_control.specs.declared.Left.{Left}
 use Rattle.page_control.specs.declared.Left.TheVariants as left
 use Rattle.active_segs.specs.Victim.{first_off_chain, hand_past}
-use Rattle.seg_control.specs.Control.{kst_at, leads}
+use Rattle.seg_control.specs.Control.{leads}
 use Rattle.tree_model.specs.Tree.{Node, node_in}
 use Rattle.machine_model.specs.declared.Aim.{Aim}
 use Rattle.machine_model.specs.declared.Aim.TheVariants as aim
@@ -25,16 +25,18 @@ use Rattle.machine_model.specs.declared.Processor.{Processor}
 use Rattle.machine_model.specs.Actions as act
 use Rattle.machine_model.specs.After.{Outcome, after}
 use Rattle.machine_model.specs.Entitled.{AreEntitled, HoldEntitled, IsEntitled, IsEntitledToAll}
-use Rattle.machine_model.specs.Holding.{led_to, seen}
-use Rattle.machine_model.specs.Jobs.{cut_all, cut_one, emptied, eviction_begun, eviction_done, here_if, leaving_if, left_of}
-use Rattle.machine_model.specs.Jobs.{page_back, page_done, page_in, pages_back, seg_back, seg_gone, segment_taken, segs_back}
-use Rattle.machine_model.specs.Jobs.{segs_gone, signalled, take_all, take_one, told_at, told_from, took, victim_taken}
+use Rattle.machine_model.specs.Holding.{led_to}
+use Rattle.machine_model.specs.Jobs.{emptied, eviction_begun, eviction_done, here_if, leaving_if, left_of}
+use Rattle.machine_model.specs.Jobs.{page_back, page_done, page_in, pages_back, seg_back, seg_gone, segment_taken}
+use Rattle.machine_model.specs.Jobs.{segs_back}
+use Rattle.machine_model.specs.Jobs.{segs_gone, take_one, told_at, told_from, took, victim_taken}
 use Rattle.machine_model.specs.Jobs.{with_choice, with_hand_moved, with_left, write_failed}
 use Rattle.machine_model.specs.Keeps.{Keeps}
 use Rattle.machine_model.specs.Reads.{cpu_at, cut_of_owner, descriptor_of, frames_from, frames_of_owner, no_processor}
 use Rattle.machine_model.specs.Reads.{or_zero, process_at, processor_at, trailers_in}
-use Rattle.machine_model.specs.State.{State, Storage}
-use Rattle.machine_model.specs.Steps.{fault_told, frame_lost, held_seg, transfer_failed, transferred, with_faults, with_store}
+use Rattle.machine_model.specs.State.{State}
+use Rattle.machine_model.specs.Steps.{fault_told, frame_lost, held_seg, transfer_failed, transferred, with_faults}
+use Rattle.machine_model.specs.Steps.{with_store}
 use Rattle.accounts.specs.Maps.{AccountMaps}
 use Rattle.machine_model.proofs.OutlineTake.{took_like}
 use Rattle.machine_model.proofs.LeaveSeen.{told_reads}
@@ -207,7 +209,10 @@ page_left s f = by (left_of (words_in s.store.pages f))
 evicted : (s : State) (c f : ℕ) → SameNames s (eviction_done s c f)
 evicted s c f = by (left_of (words_in s.store.pages f))
   where
-    by : (how : Left) → SameNames s (record (eviction_done s c f) { store = with_left s.store f how (page_in s.store f) })
+    by : (how : Left) → SameNames s (record (eviction_done s c f) {
+      store = with_left s.store f how
+          (page_in s.store f);
+    })
     by left.Released = record { nodes = refl; whos = refl; known = refl; processors = refl }
     by left.Kept = record { nodes = refl; whos = refl; known = refl; processors = refl }
 
@@ -247,12 +252,12 @@ module _ (s : State) (c : ℕ) (o : Outcome) (k : Keeps s) (there : c < length s
   to_hold_is n j sdw.Fault e number linked = absurd (none_some (sym (ap (led_to s.store.ast.entries) e) ∙ linked))
   to_hold_is n j (sdw.Present place mode pages) e number linked = let known = k.store.kept.linked.known j n place
       (ap leads e) in let same = ap or_zero known.active in record {
-    stands = known.known_as ∙ ap (λ (x : ℕ). Some x) (sym same);
-    mode = λ x at. k.store.counted.rights.modes j n place pages known.uid mode x e known.active
-        (ap (λ (v : ℕ). node_there v) (sym same) ∙ at);
-    pages = λ x at. k.store.counted.rights.lengths j n place pages known.uid mode x e known.active
-        (ap (λ (v : ℕ). node_there v) (sym same) ∙ at);
-  }
+        stands = known.known_as ∙ ap (λ (x : ℕ). Some x) (sym same);
+        mode = λ x at. k.store.counted.rights.modes j n place pages known.uid mode x e known.active
+            (ap (λ (v : ℕ). node_there v) (sym same) ∙ at);
+        pages = λ x at. k.store.counted.rights.lengths j n place pages known.uid mode x e known.active
+            (ap (λ (v : ℕ). node_there v) (sym same) ∙ at);
+      }
     where
       node_there : ℕ → Option Node
       node_there v = node_in nodes v

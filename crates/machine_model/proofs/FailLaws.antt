@@ -1,8 +1,8 @@
 -- A drive's failure may be told of a command that its page was looked for.
-use Rattle.std.proofs.Common.{◌≡◌, ◌<◌, ◌≤◌, ℕ, ◌*◌, Bool, true, false, not, ◌&&◌, ◌||◌, cond, eqb, is_some, List, [], ◌∷◌}
-use Rattle.std.proofs.Common.{Option, Some, None, ◌⊎◌, inl, inr, refl, sym, ap, subst, ◌∙◌, arith}
-use Rattle.std.specs.Prelude.{nat_le, Result, Ok, Err}
-use Rattle.std.proofs.lemmas.Bool.Decides.{eqb_tells, leb_tells}
+use Rattle.std.proofs.Common.{◌≡◌, ◌≤◌, ℕ, ◌*◌, Bool, true, false, not, ◌&&◌, cond, is_some, List}
+use Rattle.std.proofs.Common.{Option, Some, None, inl, inr, refl, sym, ap, ◌∙◌, arith}
+use Rattle.std.specs.Prelude.{nat_le, Result, Ok}
+use Rattle.std.proofs.lemmas.Bool.Decides.{leb_tells}
 use Rattle.script.specs.References.{reference_of}
 use Rattle.script.specs.Plans.{who_of}
 use Rattle.script.specs.declared.commands.Command.{Command}
@@ -19,9 +19,8 @@ use Rattle.seg_control.specs.Control.{kst_at}
 use Rattle.flat_model.specs.Branches.{done_at, segment_at}
 use Rattle.flat_model.specs.Commands.{is_end, reply_by, reply_to_command}
 use Rattle.flat_model.specs.Legal.{is_done, is_early, may_fail, moves_pages}
-use Rattle.flat_model.specs.Pages.{is_stored, is_stored_from}
 use Rattle.flat_model.specs.References.{is_used_up, is_volume_full, permits, reply_at, reply_of, reply_to_reference}
-use Rattle.flat_model.specs.References.{room_reply, stores_page, word_reply}
+use Rattle.flat_model.specs.References.{stores_page, word_reply}
 use Rattle.flat_model.specs.Sizes.{length_of, length_reply, truncate_reply}
 use Rattle.flat_model.specs.Store.{Store, known_uid}
 use Rattle.flat_model.proofs.PageLaws.{none_from}

@@ -1,5 +1,5 @@
 -- What a step must find of the machine, as far as it follows from the whole promise alone.
-use Rattle.std.proofs.Common.{◌≡◌, ◌≢◌, ◌<◌, ℕ, Bool, true, false, is_some, length, List, [], ◌∷◌, Option, Some, None, ◌⊎◌, refl, sym, ap}
+use Rattle.std.proofs.Common.{◌≡◌, ◌<◌, ℕ, true, false, is_some, length, [], Option, Some, None, refl, sym}
 use Rattle.std.proofs.Common.{subst, ◌∙◌}
 use Rattle.script.specs.declared.commands.Command.{Command}
 use Rattle.assoc_mem.specs.declared.What.{What}
@@ -13,14 +13,12 @@ use Rattle.machine_model.specs.Foreseen.{IsReading, MayAnswer}
 use Rattle.machine_model.specs.Holding.{seen}
 use Rattle.machine_model.specs.Keeps.{Keeps}
 use Rattle.machine_model.specs.Promise.{IsMachine}
-use Rattle.machine_model.specs.Reads.{cpu_at, next_command, or_zero, process_at}
+use Rattle.machine_model.specs.Reads.{cpu_at, or_zero, process_at}
 use Rattle.machine_model.specs.Seen.{shown}
 use Rattle.machine_model.specs.State.{Owner, State}
-use Rattle.machine_model.proofs.LookFacts.{FindsTaken, LookFinds, look_finds}
+use Rattle.machine_model.proofs.LookFacts.{LookFinds}
 use Rattle.machine_model.proofs.OwnerLaws.{looking_idle}
-use Rattle.machine_model.proofs.SpeakLaws.{Speaks}
 use Rattle.machine_model.proofs.StepGoes.{may_answer}
-use Rattle.machine_model.proofs.TieLaws.{none_some}
 use Rattle.page_control.specs.Plain.{frame_in}
 
 -- what doesn't take part has nothing to drop

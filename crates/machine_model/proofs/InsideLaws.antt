@@ -1,17 +1,16 @@
 -- What the flat store answers a reference that isn't refused before its page is looked at.
-use Rattle.std.proofs.Common.{◌≡◌, ◌<◌, ◌≤◌, ℕ, ◌*◌, Bool, true, false, not, ◌&&◌, cond, eqb, List, [], Option, Some, None}
+use Rattle.std.proofs.Common.{◌≡◌, ◌<◌, ℕ, ◌*◌, Bool, true, false, not, ◌&&◌, cond, eqb, List, Option, Some, None}
 use Rattle.std.proofs.Common.{inl, inr, refl, sym, ap, subst, ◌∙◌, arith}
 use Rattle.std.specs.Prelude.{◌/◌, nat_le}
-use Rattle.std.proofs.lemmas.Bool.Decides.{eqb_tells, leb_tells}
+use Rattle.std.proofs.lemmas.Bool.Decides.{leb_tells}
 use Rattle.script.specs.Plans.{who_of}
-use Rattle.script.specs.declared.commands.RefKind.{RefKind}
 use Rattle.script.specs.declared.commands.Reference.{Reference}
 use Rattle.book.specs.declared.replies.Reply.{Reply}
 use Rattle.book.specs.declared.replies.Reply.TheVariants as reply
 use Rattle.tree_model.specs.Access.{access_of}
 use Rattle.tree_model.specs.Tree.{Node, node_in}
 use Rattle.flat_model.specs.Pages.{is_stored}
-use Rattle.flat_model.specs.References.{alters, is_used_up, is_volume_full, new_word, permits, reply_at, reply_in, reply_of}
+use Rattle.flat_model.specs.References.{alters, is_used_up, is_volume_full, new_word, permits, reply_at, reply_of}
 use Rattle.flat_model.specs.References.{reply_to_reference, room_reply, stores_page, word_reply}
 use Rattle.flat_model.specs.Store.{Store, known_uid}
 use Rattle.known_segs.specs.Known.{uid_of}
@@ -29,7 +28,8 @@ module _ (s : State) (k : ℕ) (r : Reference) (keeps : Keeps s) where
 
   -- what a number stands for, by the tables
   known_is : (v : ℕ) → known_uid t k r.number ≡ Some v → uid_of_number s.store k r.number ≡ v
-  known_is v e = ap or_zero (sym (ap (λ (x : List (List (Option ℕ))). uid_of (kst_at x k) r.number) keeps.faithful.known)
+  known_is v e = ap or_zero (sym (ap (λ (x : List (List (Option ℕ))). uid_of
+      (kst_at x k) r.number) keeps.faithful.known)
       ∙ e)
 
   negated : (b : Bool) → not b ≡ false → b ≡ true
@@ -85,7 +85,8 @@ module _ (s : State) (k : ℕ) (r : Reference) (keeps : Keeps s) where
         ∙ (ap (reply_at s.plan t k r.offset r.kind) inside.there
         ∙ (ap (λ (b : Bool). cond (not b) reply.NoAccess (cond (nat_le (1024 * inside.node.pages) r.offset) reply.Length
         (cond (stores_page t inside.node.uid r.offset r.kind) (room_reply s.plan t inside.node
-        (word_reply (t.words inside.node.uid r.offset) r.kind)) (word_reply (t.words inside.node.uid r.offset) r.kind))))
+        (word_reply (t.words inside.node.uid r.offset) r.kind)) (word_reply
+        (t.words inside.node.uid r.offset) r.kind))))
         inside.permitted
         ∙ (ap (λ (b : Bool). cond b reply.Length (cond (stores_page t inside.node.uid r.offset r.kind)
         (room_reply s.plan t inside.node (word_reply (t.words inside.node.uid r.offset) r.kind))

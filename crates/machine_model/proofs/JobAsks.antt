@@ -1,6 +1,6 @@
 -- What the owner's job asks where a write fails, and where a segment becomes inactive, follows from what it rests on.
-use Rattle.std.proofs.Common.{◌≡◌, ◌≢◌, ◌<◌, ℕ, Bool, true, false, not, ◌&&◌, List, [], ◌∷◌, ◌++◌, length, set, Option, Some}
-use Rattle.std.proofs.Common.{None, inl, inr, refl, sym, ap, subst, ◌∙◌, arith}
+use Rattle.std.proofs.Common.{◌≡◌, ◌<◌, ℕ, Bool, true, false, ◌&&◌, List, [], ◌∷◌, ◌++◌, length, Option, Some}
+use Rattle.std.proofs.Common.{None, inl, inr, refl, sym, ap, subst, ◌∙◌}
 use Rattle.std.proofs.lemmas.Bool.Decides.{leb_tells}
 use Rattle.std.proofs.lemmas.List.{get_or-set_same, get_or_past}
 use Rattle.script.specs.Plans.{Plan}
@@ -13,15 +13,14 @@ use Rattle.flat_model.specs.Commands.{reply_to_command, takes_effect}
 use Rattle.flat_model.specs.Legal.{after_entry, after_fault, may_fail, store_after}
 use Rattle.flat_model.specs.Store.{Progress, Store, progress_of}
 use Rattle.flat_model.proofs.BookLaws.{store_after-push}
-use Rattle.custody_model.specs.Allowed.{MayAnswer as MayAnswerBy, MayDeactivate}
+use Rattle.custody_model.specs.Allowed.{MayAnswer as MayAnswerBy}
 use Rattle.machine_model.specs.After.{Outcome}
 use Rattle.machine_model.specs.Custodial.{IsRun}
-use Rattle.machine_model.specs.Foreseen.{AllCome}
 use Rattle.machine_model.specs.Holding.{seen}
-use Rattle.machine_model.specs.Jobs.{pages_back, segs_gone, write_failed}
+use Rattle.machine_model.specs.Jobs.{pages_back, write_failed}
 use Rattle.machine_model.specs.Keeps.{IsFaithful, Keeps, StoreSays}
-use Rattle.machine_model.specs.Promise.{IsMachine}
-use Rattle.machine_model.specs.Reads.{cpu_at, cut_of_owner, flat_of, frames_of_owner, next_command, process_at, processor_at}
+use Rattle.machine_model.specs.Reads.{cpu_at, cut_of_owner, flat_of, frames_of_owner, next_command, process_at}
+use Rattle.machine_model.specs.Reads.{processor_at}
 use Rattle.machine_model.specs.Reads.{or_zero, run_at}
 use Rattle.machine_model.specs.Seen.{shown}
 use Rattle.machine_model.specs.State.{State}
@@ -42,7 +41,7 @@ use Rattle.machine_model.proofs.FlatAlike.{IsAlike, alike_shown, fault_alike}
 use Rattle.machine_model.specs.Scheduled.{HasTurn}
 use Rattle.machine_model.specs.Steps.{is_its_end}
 use Rattle.machine_model.proofs.RunLaws.{runs_failed}
-use Rattle.machine_model.proofs.SaysLaws.{IsBack, back_on, pages_are_back, segs_are_back}
+use Rattle.machine_model.proofs.SaysLaws.{back_on, pages_are_back, segs_are_back}
 use Rattle.machine_model.proofs.ScheduleKept.{IsAnswering, Sits, all_pages_back, all_segs_back, sits_on, still}
 use Rattle.machine_model.proofs.SpeakLaws.{Speaks, can_tell}
 use Rattle.machine_model.proofs.StepKept.{CanFailWrite}
@@ -70,7 +69,8 @@ device_tell b c k cmd sp faulted may = can_tell b c k cmd None reply.Device sp
 -- a process that goes on is one of those that the flat store has
 going_within : (t : Store) (k : ℕ) → (progress_of t k).ended ≡ false → k < length t.processes
 going_within t k h = elim (leb_tells (length t.processes) k) [
-  | inl e ↦ absurd (let none : true ≡ false = sym (ap (λ (q : Progress). q.ended) (get_or_past t.processes k _ e.1)) ∙ h in cc)
+  | inl e ↦ absurd (let none : true ≡ false = sym (ap (λ (q : Progress). q.ended) (get_or_past t.processes k _ e.1))
+      ∙ h in cc)
   | inr n ↦ n.1
 ]
 
@@ -185,7 +185,8 @@ module _ (s : State) (c : ℕ) (o : Outcome) (t : Transfer) (cmd : Command) (kee
 
   lost_shown : IsFaithful s.plan (flat_of lost) s.store
   lost_shown = alike_shown s.plan (flat_of s) (flat_of lost) s.store
-      (subst (IsAlike (flat_of s)) (fault_is s k ∙ sym lost_flat) (fault_alike s.plan s.entries (Some k))) keeps.faithful
+      (subst (IsAlike (flat_of s)) (fault_is s k ∙ sym lost_flat) (fault_alike s.plan s.entries
+      (Some k))) keeps.faithful
 
   pub read_asks : s.faults < o.faults → StoreSays (transfer_failed s c t o.faults)
       → CanLose s c t o.faults × IsAnswering s c

@@ -1,22 +1,23 @@
 -- The victim of a pool has no active inferior: the ways down from a segment come to an end.
-use Rattle.std.proofs.Common.{◌≡◌, ◌≢◌, ◌<◌, ◌≤◌, ℕ, zero, suc, ◌+◌, Bool, true, false, not, cond, eqb, count_by, is_some, List}
-use Rattle.std.proofs.Common.{[], ◌∷◌, length, position, Option, Some, None, inl, inr, refl, sym, ap, subst, ◌∙◌, arith}
+use Rattle.std.proofs.Common.{◌≡◌, ◌≢◌, ◌<◌, ◌≤◌, ℕ, zero, suc, ◌+◌, Bool, true, false, count_by, List}
+use Rattle.std.proofs.Common.{length, Option, Some, None, inl, inr, refl, sym, ap, subst, ◌∙◌, arith}
 use Rattle.std.specs.Prelude.{nat_lt}
-use Rattle.std.specs.List.{find, list_any, range_with_len}
+use Rattle.std.specs.List.{range_with_len}
 use Rattle.std.proofs.lemmas.Bool.Decides.{eqb_tells, leb_tells}
 use Rattle.tree_model.specs.Tree.{Node, node_in}
 use Rattle.active_segs.specs.declared.Entry.{Entry}
-use Rattle.active_segs.specs.Active.{ActiveSegs, HasNoInferior, IsTree, entry_at, superior_at, superior_in, uid_at, uid_in}
-use Rattle.active_segs.specs.Victim.{first_off_chain, first_of_places, is_inferior_in, is_inferior_of, leaf_below}
-use Rattle.active_segs.specs.Victim.{leaf_of, least_inferior, least_inferior_of, off_chain, round_pool, stead_of, victim_of}
+use Rattle.active_segs.specs.Active.{ActiveSegs, HasNoInferior, IsTree, entry_at, superior_at, superior_in, uid_at}
+use Rattle.active_segs.specs.Active.{uid_in}
+use Rattle.active_segs.specs.Victim.{first_off_chain, is_inferior_in, is_inferior_of, leaf_below}
+use Rattle.active_segs.specs.Victim.{leaf_of, least_inferior, least_inferior_of, off_chain, round_pool, stead_of}
+use Rattle.active_segs.specs.Victim.{victim_of}
 use Rattle.seg_control.specs.Control.{place_of}
 use Rattle.custody_model.specs.Allowed.{superior_in as node_superior}
 use Rattle.machine_model.specs.Keeps.{Keeps}
-use Rattle.machine_model.specs.Reads.{flat_of, is_active, or_zero}
+use Rattle.machine_model.specs.Reads.{flat_of, is_active}
 use Rattle.machine_model.specs.State.{State}
 use Rattle.machine_model.proofs.ActiveSeen.{active_place}
 use Rattle.machine_model.proofs.FindLaws.{find_true, position_at, position_none}
-use Rattle.machine_model.proofs.ListLaws.{within_by}
 use Rattle.machine_model.proofs.PoolRoom.{count_all, count_new, range_has, range_length}
 use Rattle.machine_model.proofs.TieLaws.{none_some}
 
@@ -84,9 +85,13 @@ module _ (entries : List (Option Entry)) (tree : IsTree entries) where
   -- an inferior has a higher rank, so fewer segments are above it
   goes_up : (place u q : ℕ) → uid_at entries place ≡ Some u → least_inferior entries place ≡ Some q
       → (w : ℕ) × (uid_at entries q ≡ Some w) × (count_by (higher w) places + 1 ≤ count_by (higher u) places)
-  goes_up place u q at e = (w, its, count_new (higher w) (higher u) places q more
-      (range_has 0 (length entries) q (omega arith) (let lt = found.0 in omega (arith, lt)))
-      (ap (is_higher (rank w)) its ∙ not_less_self (rank w)) (ap (is_higher (rank u)) its ∙ tells_less _ _ up))
+  goes_up place u q at e = (
+    w,
+    its,
+    count_new (higher w) (higher u) places q more
+        (range_has 0 (length entries) q (omega arith) (let lt = found.0 in omega (arith, lt)))
+        (ap (is_higher (rank w)) its ∙ not_less_self (rank w)) (ap (is_higher (rank u)) its ∙ tells_less _ _ up),
+  )
     where
       found : (q < length entries) × (is_inferior_of u (entry_at entries q) ≡ true)
       found = position_at (is_inferior_of u) entries None q (sym (ap (least_inferior_of entries) at) ∙ e)
@@ -141,7 +146,8 @@ module _ (entries : List (Option Entry)) (tree : IsTree entries) where
           → IsLeaf (leaf_below entries steps (stead_of place x))
       by None e rest = subst IsLeaf (sym (stays steps place e))
           (record { uid = u; here = at; leaf = none_below place u at e })
-      by (Some q) e rest = let up = goes_up place u q at e in rest q up.0 up.1 (let more = up.2 in omega (arith, few, more))
+      by (Some q) e rest = let up = goes_up place u q at e in rest q up.0 up.1 (let more = up.2 in omega
+          (arith, few, more))
 
   leaf_is : (place u : ℕ) → uid_at entries place ≡ Some u → IsLeaf (leaf_below entries (length entries) place)
   leaf_is place u at = comes_down (length entries) place u at (let all = count_all (higher u) places in

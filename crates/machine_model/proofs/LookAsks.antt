@@ -1,13 +1,12 @@
 -- What the actions of a look ask follows from the promise, from what the look finds, and from what the calls of the
 -- store say.
-use Rattle.std.proofs.Common.{◌≡◌, ◌≢◌, ◌<◌, ◌≤◌, ℕ, zero, suc, ◌+◌, ◌*◌, ◌^◌, Bool, true, false, not, ◌&&◌, cond, eqb, List}
-use Rattle.std.proofs.Common.{count_by, is_some, is_none, map, sum, take, [], ◌∷◌, ◌++◌, length, get_or, Option, Some, None}
-use Rattle.std.proofs.Common.{◌⊎◌, inl, inr, refl, sym, ap, subst, ◌∙◌, arith}
-use Rattle.std.specs.Prelude.{◌/◌, ◌%◌, nat_le, slice_index, IsSomeAnd, IfSome}
-use Rattle.std.specs.List.{find, range_with_len}
+use Rattle.std.proofs.Common.{◌≡◌, ◌<◌, ◌≤◌, ℕ, zero, suc, ◌+◌, ◌^◌, Bool, true, false, not, ◌&&◌, cond, eqb, List}
+use Rattle.std.proofs.Common.{count_by, is_some, is_none, sum, take, [], ◌∷◌, length, get_or, Option, Some, None}
+use Rattle.std.proofs.Common.{inl, inr, refl, sym, ap, subst, ◌∙◌, arith}
+use Rattle.std.specs.Prelude.{◌/◌, nat_le, slice_index, IsSomeAnd, IfSome}
+use Rattle.std.specs.List.{range_with_len}
 use Rattle.std.proofs.lemmas.Bool.Decides.{eqb_tells, leb_tells}
 use Rattle.std.proofs.lemmas.List.Sums.{sum_by-cons}
-use Rattle.script.specs.Plans.{Plan}
 use Rattle.script.specs.References.{reference_of}
 use Rattle.script.specs.declared.commands.Command.{Command}
 use Rattle.script.specs.declared.commands.Reference.{Reference}
@@ -19,20 +18,17 @@ use Rattle.tree_model.proofs.Finds.{IsMember, found_member}
 use Rattle.dir_tree.specs.Nodes.{chain_of}
 use Rattle.known_segs.specs.Known.{uid_of}
 use Rattle.page_table.specs.declared.Ptw.TheVariants as ptw
-use Rattle.descriptor_seg.specs.declared.Sdw.TheVariants as sdw
 use Rattle.active_segs.specs.declared.Entry.{Entry}
-use Rattle.active_segs.specs.Active.{ActiveSegs, entry_at, uid_at}
-use Rattle.active_segs.specs.Pool.{IsInPool, first_of, size_of}
-use Rattle.seg_control.specs.Control.{kst_at, leads, place_of, sdws_at, table_of, word_of}
+use Rattle.active_segs.specs.Active.{entry_at}
+use Rattle.active_segs.specs.Pool.{IsInPool, first_of}
+use Rattle.seg_control.specs.Control.{kst_at, leads, place_of, table_of, word_of}
 use Rattle.seg_control.specs.Kept.{IsKnownAt}
 use Rattle.page_control.specs.Tied.{has_record}
 use Rattle.flat_model.specs.Commands.{reply_by, reply_to_command}
-use Rattle.flat_model.specs.Legal.{store_after}
-use Rattle.flat_model.specs.Pages.{is_stored}
-use Rattle.flat_model.specs.References.{new_word, word_reply}
+use Rattle.flat_model.specs.References.{word_reply}
 use Rattle.flat_model.specs.Store.{Store, known_uid, progress_of}
 use Rattle.custody_model.specs.Allowed.{MayActivate, MayAnswer as MayAnswerBy, MayJoin, stores}
-use Rattle.storage_ops.specs.Shown.{is_there, pages_of}
+use Rattle.storage_ops.specs.Shown.{pages_of}
 use Rattle.machine_model.specs.Actions as act
 use Rattle.machine_model.specs.Actions.{pool_of_node}
 use Rattle.machine_model.specs.After.{Outcome}
@@ -40,9 +36,9 @@ use Rattle.machine_model.specs.Custodial.{IsRun, has_cut}
 use Rattle.machine_model.specs.Holding.{led_to, seen}
 use Rattle.machine_model.specs.Keeps.{Keeps}
 use Rattle.machine_model.specs.Promise.{IsMachine}
-use Rattle.machine_model.specs.Reads.{cut_of_owner, descriptor_of, flat_of, free_place, is_active, next_command, or_zero}
-use Rattle.machine_model.specs.Reads.{first_inactive, places_in, process_at, processor_at, run_at}
-use Rattle.machine_model.specs.Refusal.{outside_refusal, refusal_of, uid_of_command, uid_of_number}
+use Rattle.machine_model.specs.Reads.{flat_of, free_place, is_active, or_zero}
+use Rattle.machine_model.specs.Reads.{first_inactive, places_in, process_at, run_at}
+use Rattle.machine_model.specs.Refusal.{refusal_of, uid_of_command, uid_of_number}
 use Rattle.machine_model.specs.Said.{Says}
 use Rattle.machine_model.specs.Seen.{shown}
 use Rattle.machine_model.specs.State.{State}
@@ -55,16 +51,15 @@ use Rattle.machine_model.proofs.FindLaws.{find_true}
 use Rattle.machine_model.proofs.FlatAlike.{one_still}
 use Rattle.machine_model.proofs.InsideLaws.{inside_is, room_due}
 use Rattle.machine_model.proofs.ListLaws.{within_by}
-use Rattle.machine_model.proofs.LookFacts.{FindsFull, FindsLink, FindsOut, FindsPage, FindsPlace, FindsRoom, IsAbout}
-use Rattle.machine_model.proofs.LookFacts.{IsFirstLink, IsInside, IsRefused}
+use Rattle.machine_model.proofs.LookFacts.{FindsLink, FindsPage, FindsPlace, FindsRoom, IsAbout}
+use Rattle.machine_model.proofs.LookFacts.{IsInside, IsRefused}
 use Rattle.machine_model.proofs.OwnedLaws.{IsIdle}
-use Rattle.machine_model.proofs.PageShown.{active_there, null_word, stored_is}
+use Rattle.machine_model.proofs.PageShown.{null_word, stored_is}
 use Rattle.machine_model.proofs.PoolRoom.{has_room, is_its}
 use Rattle.machine_model.proofs.RuleKept.{AsksCreate}
 use Rattle.machine_model.proofs.SaysLaws.{activated_says, connected_says, created_says, refused_says}
 use Rattle.machine_model.proofs.SpeakLaws.{Speaks, can_refuse, can_tell, refusal_quiet}
 use Rattle.machine_model.proofs.StepKept.{CanActivateAt, CanConnectTo, CanReply}
-use Rattle.machine_model.proofs.TellKept.{CanTell}
 use Rattle.machine_model.proofs.TieLaws.{none_some}
 use Rattle.machine_model.proofs.TransferKept.{active_at}
 

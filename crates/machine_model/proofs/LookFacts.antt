@@ -538,7 +538,8 @@ module _ (s : State) (k : ℕ) (cmd : Command) where
         cut_finds : LookFinds s k cmd (with_cut_page s.store about_uid words (look_to_take s.store k about_uid cmd))
         cut_finds = by (eqb (words % 1024) 0) refl
           where
-            by : (b : Bool) → eqb (words % 1024) 0 ≡ b → LookFinds s k cmd (cond b (look_to_take s.store k about_uid cmd)
+            by : (b : Bool) → eqb (words % 1024) 0 ≡ b → LookFinds s k cmd (cond b
+                (look_to_take s.store k about_uid cmd)
                 (bring_cut core about_uid (words / 1024) (word_of s.store.ast about_uid (words / 1024))
                 (look_to_take s.store k about_uid cmd)))
             by true h = take_finds (brought_is (λ i. absurd (let no : true ≡ false = sym h ∙ i in cc))) not_length
@@ -577,7 +578,8 @@ module _ (s : State) (k : ℕ) (cmd : Command) where
 -- ---- whatever the next command is
 
 abbrev NoLength : State → Command → ℕ → Type 0
-NoLength s cmd u = (path : List (List ℕ)) (pages : ℕ) → cmd ≡ command.Length path pages → is_active s.store.ast u ≡ false
+NoLength s cmd u = (path : List (List ℕ)) (pages : ℕ) → cmd ≡ command.Length path pages
+    → is_active s.store.ast u ≡ false
 
 module _ (s : State) (k : ℕ) where
   change_finds : (cmd : Command) → reference_of cmd ≡ None → refusal_of s k cmd ≡ None
@@ -606,7 +608,8 @@ module _ (s : State) (k : ℕ) where
       (λ q n e. (let no : command.Status path ≡ command.Length q n = e in absurd cc))
   change_finds command.End tree stands = take_finds s k command.End tree stands tt
       (λ q n e. (let no : command.End ≡ command.Length q n = e in absurd cc))
-  change_finds (command.Read n o) tree stands = absurd (let no : None ≡ reference_of (command.Read n o) = sym tree in cc)
+  change_finds (command.Read n o) tree stands = absurd (let no : None ≡ reference_of
+      (command.Read n o) = sym tree in cc)
   change_finds (command.Write n o w) tree stands =
       absurd (let no : None ≡ reference_of (command.Write n o w) = sym tree in cc)
   change_finds (command.Add n o w) tree stands =

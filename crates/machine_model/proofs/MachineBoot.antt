@@ -1,18 +1,18 @@
 -- The whole promise holds of the machine at first.
-use Rattle.std.proofs.Common.{◌≡◌, ◌≢◌, ◌⊎◌, ◌<◌, ◌≤◌, ℕ, ◌+◌, zero, suc, Bool, true, false, ◌||◌, cond, eqb, List, [], ◌∷◌, length, replicate}
-use Rattle.std.proofs.Common.{Option, Some, None, inl, inr, refl, sym, ap, subst, ◌∙◌, arith}
+use Rattle.std.proofs.Common.{◌≡◌, ◌≢◌, ◌⊎◌, ◌<◌, ℕ, Bool, true, false, ◌||◌, cond, eqb, List, [], ◌∷◌, length}
+use Rattle.std.proofs.Common.{replicate}
+use Rattle.std.proofs.Common.{Some, inl, inr, refl, sym, ap, subst, ◌∙◌, arith}
 use Rattle.std.proofs.lemmas.Bool.Decides.{eqb_tells}
 use Rattle.std.proofs.lemmas.List.{get_or-replicate}
 use Rattle.script.specs.Forms.{BeginsWithInitializer, IsPlan}
 use Rattle.script.specs.Plans.{Plan, ProcessPlan}
-use Rattle.custody_model.specs.Custody.{has, range, ready_at_first}
+use Rattle.custody_model.specs.Custody.{has, range}
 use Rattle.machine_model.specs.Boot.{booted, first_run}
 use Rattle.machine_model.specs.Custodial.{AreDistinct}
-use Rattle.machine_model.specs.Entitled.{IsEntitledToAll}
 use Rattle.machine_model.specs.Keeps.{StoreSays}
-use Rattle.machine_model.specs.Promise.{IsMachine, KeepsAll}
+use Rattle.machine_model.specs.Promise.{KeepsAll}
 use Rattle.machine_model.specs.Reads.{cpu_at, no_processor, no_run, run_at}
-use Rattle.machine_model.specs.Scheduled.{AreScheduled, HasTurn, IsScheduled, MayRun}
+use Rattle.machine_model.specs.Scheduled.{HasTurn, IsScheduled}
 use Rattle.machine_model.specs.declared.Processor.{Processor}
 use Rattle.machine_model.specs.declared.Run.{Run}
 use Rattle.machine_model.proofs.BootKept.{at_fill, boot_keeps}

@@ -1,5 +1,5 @@
 -- A machine that keeps its promise keeps it through each step, where the calls of its store do what they say.
-use Rattle.std.proofs.Common.{◌≡◌, ◌<◌, ℕ, Bool, length, List, refl, sym, ap, subst, ◌∙◌}
+use Rattle.std.proofs.Common.{◌<◌, ℕ, length, sym, ap, subst, ◌∙◌}
 use Rattle.script.specs.Forms.{IsPlan}
 use Rattle.script.specs.Plans.{Plan}
 use Rattle.machine_model.specs.Actions as act
@@ -11,7 +11,6 @@ use Rattle.machine_model.specs.Said.{Says}
 use Rattle.machine_model.specs.State.{State}
 use Rattle.machine_model.proofs.EntitledKept.{MayEntitle, entitled_kept}
 use Rattle.machine_model.proofs.PoolsKept.{SamePools, pools_kept}
-use Rattle.machine_model.proofs.RuleKept.{Asks}
 use Rattle.machine_model.proofs.RulesKept.{action_can}
 use Rattle.machine_model.proofs.ScheduleKept.{schedule_kept}
 use Rattle.machine_model.proofs.StepAsks.{Rests, step_asks}

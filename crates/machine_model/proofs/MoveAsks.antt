@@ -1,8 +1,9 @@
 -- What a reference that a processor makes by itself asks follows from the promise, and from what it holds.
-use Rattle.std.proofs.Common.{◌≡◌, ◌≢◌, ◌<◌, ◌≤◌, ℕ, ◌*◌, Bool, true, false, not, ◌&&◌, ◌||◌, cond, eqb, is_some, zero, suc, List, [], ◌∷◌, map}
-use Rattle.std.proofs.Common.{length, get_or, Option, Some, None, ◌⊎◌, inl, inr, refl, sym, ap, subst, ◌∙◌, arith}
-use Rattle.std.specs.Prelude.{◌/◌, ◌%◌, nat_le}
-use Rattle.std.specs.List.{find, list_any}
+use Rattle.std.proofs.Common.{◌≡◌, ◌<◌, ℕ, ◌*◌, Bool, true, false, not, ◌&&◌, ◌||◌, cond, eqb, is_some, zero, suc}
+use Rattle.std.proofs.Common.{List, [], ◌∷◌, map}
+use Rattle.std.proofs.Common.{get_or, Option, Some, None, inl, inr, refl, sym, ap, subst, ◌∙◌, arith}
+use Rattle.std.specs.Prelude.{◌/◌, nat_le}
+use Rattle.std.specs.List.{find}
 use Rattle.std.specs.Option.{option_map}
 use Rattle.std.proofs.lemmas.Bool.Decides.{eqb_tells, leb_tells}
 use Rattle.mnames.specs.declared.modes.Mode.{Mode}
@@ -17,7 +18,7 @@ use Rattle.book.specs.declared.replies.Reply.{Reply}
 use Rattle.book.specs.declared.replies.Reply.TheVariants as reply
 use Rattle.assoc_mem.specs.declared.HeldPage.{HeldPage}
 use Rattle.assoc_mem.specs.declared.HeldSeg.{HeldSeg}
-use Rattle.assoc_mem.specs.Held.{frame_of, is_number, is_page, page_of, seg_of}
+use Rattle.assoc_mem.specs.Held.{frame_of, is_number, is_page, seg_of}
 use Rattle.tree_model.specs.Access.{access_of}
 use Rattle.tree_model.specs.Tree.{Node, node_in}
 use Rattle.known_segs.specs.Known.{uid_of}
@@ -27,16 +28,15 @@ use Rattle.descriptor_seg.specs.declared.Sdw.{Sdw}
 use Rattle.descriptor_seg.specs.declared.Sdw.TheVariants as sdw
 use Rattle.active_segs.specs.Active.{uid_at}
 use Rattle.page_control.specs.Tied.{has_record}
-use Rattle.page_control.specs.Plain.{words_in}
 use Rattle.seg_control.specs.Control.{kst_at, word_of}
-use Rattle.storage_ops.specs.Shown.{is_there, who_at}
+use Rattle.storage_ops.specs.Shown.{who_at}
 use Rattle.flat_model.specs.Commands.{reply_by, reply_to_command}
 use Rattle.flat_model.specs.Pages.{is_stored}
-use Rattle.flat_model.specs.References.{after_reference, alters, new_word, permits, reply_at, reply_of, reply_to_reference}
+use Rattle.flat_model.specs.References.{after_reference, alters, new_word, permits, reply_at, reply_of}
+use Rattle.flat_model.specs.References.{reply_to_reference}
 use Rattle.flat_model.specs.References.{room_reply, stores_page, word_reply, written, written_by}
 use Rattle.flat_model.specs.Store.{Store, known_uid}
 use Rattle.custody_model.specs.declared.DescriptorUse.{DescriptorUse}
-use Rattle.custody_model.specs.declared.DescriptorUse.TheVariants as descriptor
 use Rattle.custody_model.specs.Allowed.{IsPageAt, MayAnswer as MayAnswerBy, MayDo, is_word_or_done, stores}
 use Rattle.custody_model.specs.Custody.{bound_page, has, leads_to}
 use Rattle.machine_model.specs.Actions as act
@@ -46,12 +46,11 @@ use Rattle.machine_model.specs.Entitled.{AreEntitled, IsEntitled, IsEntitledToAl
 use Rattle.machine_model.specs.Holding.{led_to, seen}
 use Rattle.machine_model.specs.Jobs.{page_in, page_or_zero}
 use Rattle.machine_model.specs.Keeps.{AreThere, Keeps}
-use Rattle.machine_model.specs.Reads.{cpu_at, cut_of_owner, descriptor_of, flat_of, is_active, next_command, process_at}
-use Rattle.machine_model.specs.Reads.{processor_at}
+use Rattle.machine_model.specs.Reads.{cpu_at, cut_of_owner, descriptor_of, flat_of, is_active, process_at}
 use Rattle.machine_model.specs.Said.{Says}
 use Rattle.machine_model.specs.Seen.{Seen, cut_uid, cut_use, descriptor_use, is_cut_at, shown}
 use Rattle.machine_model.specs.State.{State, Storage}
-use Rattle.machine_model.specs.Steps.{old_word, pages_after, went_through, with_pages, with_store}
+use Rattle.machine_model.specs.Steps.{old_word}
 use Rattle.machine_model.specs.declared.CutDescriptor.{CutDescriptor}
 use Rattle.machine_model.proofs.ActiveKept.{through_seen}
 use Rattle.machine_model.proofs.ChainLaws.{bound_shown}

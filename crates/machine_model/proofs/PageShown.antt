@@ -1,20 +1,19 @@
 -- What the flat store says of a page, by the word of the page: whether it is stored, and which words it has.
-use Rattle.std.proofs.Common.{◌≡◌, ◌<◌, ℕ, zero, suc, Bool, true, false, ◌&&◌, cond, eqb, is_some, List, [], ◌∷◌, length}
-use Rattle.std.proofs.Common.{get_or, position, replicate, Option, Some, None, inl, inr, refl, sym, ap, subst, ◌∙◌}
+use Rattle.std.proofs.Common.{◌≡◌, ℕ, zero, suc, Bool, true, false, ◌&&◌, cond, eqb, is_some, List, []}
+use Rattle.std.proofs.Common.{get_or, position, replicate, Option, Some, None, inl, inr, refl, sym, ap, ◌∙◌}
 use Rattle.std.specs.Prelude.{◌/◌, ◌%◌}
 use Rattle.std.proofs.lemmas.Bool.Decides.{eqb_tells}
-use Rattle.page_table.specs.declared.Ptw.{Ptw}
 use Rattle.page_table.specs.declared.Ptw.TheVariants as ptw
 use Rattle.active_segs.specs.Active.{uid_at}
 use Rattle.page_control.specs.Picture.{is_binding, is_filed_at, words_at, words_filed, words_held, words_of_page}
-use Rattle.page_control.specs.Plain.{binding_at, bindings, words_in}
+use Rattle.page_control.specs.Plain.{bindings, words_in}
 use Rattle.page_control.specs.Tied.{has_record, vtoc_in}
 use Rattle.page_control.specs.Ties.{IsTied}
 use Rattle.seg_control.specs.Control.{place_of, table_of, word_of}
 use Rattle.seg_control.specs.Kept.{IsHomeOf}
 use Rattle.vtoc.specs.Vtoc.{record_at}
 use Rattle.flat_model.specs.Pages.{is_stored}
-use Rattle.storage_ops.specs.Shown.{home_of, is_filed, is_there, picture}
+use Rattle.storage_ops.specs.Shown.{is_filed, is_there, picture}
 use Rattle.machine_model.specs.Custodial.{names}
 use Rattle.machine_model.specs.Holding.{seen}
 use Rattle.machine_model.specs.Keeps.{Keeps}

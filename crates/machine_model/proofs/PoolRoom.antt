@@ -1,17 +1,17 @@
 -- A pool with a free place has room: fewer segments of its nodes are active than it has places.
-use Rattle.std.proofs.Common.{◌≡◌, ◌≢◌, ◌<◌, ◌≤◌, ℕ, zero, suc, ◌+◌, ◌-◌, Bool, true, false, ◌&&◌, ◌||◌, cond, eqb, count_by}
-use Rattle.std.proofs.Common.{is_some, is_none, List, [], ◌∷◌, length, Option, Some, None, inl, inr, refl, sym, ap, subst}
+use Rattle.std.proofs.Common.{◌≡◌, ◌<◌, ◌≤◌, ℕ, zero, suc, ◌+◌, ◌-◌, Bool, true, false, ◌&&◌, ◌||◌, cond, eqb, count_by}
+use Rattle.std.proofs.Common.{is_some, is_none, List, [], ◌∷◌, length, Option, Some, None, inl, inr, refl, sym, ap}
+use Rattle.std.proofs.Common.{subst}
 use Rattle.std.proofs.Common.{◌∙◌, arith}
-use Rattle.std.specs.List.{find, list_any, range_with_len}
+use Rattle.std.specs.List.{list_any, range_with_len}
 use Rattle.std.proofs.lemmas.Bool.Decides.{eqb_tells}
 use Rattle.std.proofs.lemmas.List.Sums.{sum_by-cons}
-use Rattle.tree_model.specs.Tree.{Node, node_in, pool_of}
+use Rattle.tree_model.specs.Tree.{Node, pool_of}
 use Rattle.tree_model.specs.Trees.{AreBelow, IsTree, Joins}
 use Rattle.tree_model.proofs.Finds.{IsMember, found_member}
 use Rattle.active_segs.specs.declared.Entry.{Entry}
-use Rattle.active_segs.specs.Active.{ActiveSegs, entry_at, uid_at, uid_in}
+use Rattle.active_segs.specs.Active.{ActiveSegs, entry_at, uid_in}
 use Rattle.active_segs.specs.Pool.{IsInPool, first_of, size_of}
-use Rattle.active_segs.specs.Victim.{places_from}
 use Rattle.seg_control.specs.Control.{is_for, place_of}
 use Rattle.machine_model.specs.Reads.{free_place, is_active, places_in}
 use Rattle.machine_model.proofs.ActiveSeen.{active_place}

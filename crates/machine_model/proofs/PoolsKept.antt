@@ -1,6 +1,6 @@
 -- The pools of the active segment table stay those of the script through every action.
-use Rattle.std.proofs.Common.{◌≡◌, ◌-◌, ◌%◌, ◌/◌, ℕ, Bool, true, false, cond, eqb, List, [], ◌∷◌, Option, Some, None, refl, sym, ap, ◌∙◌}
-use Rattle.script.specs.Plans.{Plan}
+use Rattle.std.proofs.Common.{◌≡◌, ◌%◌, ◌/◌, ℕ, Bool, true, false, cond, eqb, List, [], ◌∷◌, Option, Some, None, refl}
+use Rattle.std.proofs.Common.{◌∙◌}
 use Rattle.script.specs.declared.commands.Command.{Command}
 use Rattle.script.specs.declared.commands.Command.TheVariants as command
 use Rattle.assoc_mem.specs.declared.What.{What}
@@ -20,14 +20,14 @@ use Rattle.machine_model.specs.declared.Aim.TheVariants as aim
 use Rattle.machine_model.specs.declared.CutDescriptor.{CutDescriptor}
 use Rattle.machine_model.specs.Actions as act
 use Rattle.machine_model.specs.After.{Outcome, after}
-use Rattle.machine_model.specs.Commits.{committed, committed_at, first_past, frames_freed, inactive_if, pages_past}
+use Rattle.machine_model.specs.Commits.{committed, committed_at, frames_freed, pages_past}
 use Rattle.machine_model.specs.Commits.{with_cut, with_cut_in, with_deleted, with_effect, with_made, with_truncated}
 use Rattle.machine_model.specs.Commits.{without_page, without_pages}
 use Rattle.machine_model.specs.Jobs.{are_zeros, cut_all, cut_one, emptied, eviction_begun, eviction_done, leaving_if}
 use Rattle.machine_model.specs.Jobs.{page_back, page_done, pages_back, seg_back, seg_gone, segment_taken, segs_back}
 use Rattle.machine_model.specs.Jobs.{segs_gone, take_all, take_one, took, victim_taken, with_choice, with_hand_moved}
 use Rattle.machine_model.specs.Refusal.{uid_of_command}
-use Rattle.machine_model.specs.Jobs.{with_inactive, with_here, with_left, write_failed}
+use Rattle.machine_model.specs.Jobs.{with_inactive, with_here, write_failed}
 use Rattle.machine_model.specs.Reads.{cut_of_owner, frames_from, frames_of_owner, home_in, is_active, next_command}
 use Rattle.machine_model.specs.Reads.{process_at, trailers_in}
 use Rattle.machine_model.specs.State.{State, Storage}
@@ -60,12 +60,14 @@ taken : (s : State) (c : ℕ) (a : Aim) (w : What) (fs : List ℕ) → SamePools
 taken s c a w [] = record { plan = refl; sizes = refl }
 taken s c a w (f ∷ fs) =
     on s (take_one s c a w f) (take_all (take_one s c a w f) c a w fs)
-    (record { plan = refl; sizes = is_leaving s.store f (bound_page (frame_in s.store.pages f)) }) (taken (take_one s c a w f) c a w fs)
+    (record { plan = refl; sizes = is_leaving s.store f (bound_page (frame_in s.store.pages f)) }) (taken
+    (take_one s c a w f) c a w fs)
 
 all_cut : (s : State) (c : ℕ) (a : Aim) (w : What) (pairs : List (ℕ × ℕ)) → SamePools s (cut_all s c a w pairs)
 all_cut s c a w [] = record { plan = refl; sizes = refl }
 all_cut s c a w (x ∷ xs) =
-    on s (cut_one s c a w x) (cut_all (cut_one s c a w x) c a w xs) (record { plan = refl; sizes = refl }) (all_cut (cut_one s c a w x) c a w xs)
+    on s (cut_one s c a w x) (cut_all (cut_one s c a w x) c a w xs) (record { plan = refl; sizes = refl }) (all_cut
+    (cut_one s c a w x) c a w xs)
 
 all_taken : (s : State) (c : ℕ) (a : Aim) (w : What) (fs : List ℕ) (pairs : List (ℕ × ℕ))
     → SamePools s (took s c a w fs pairs)
@@ -74,11 +76,13 @@ all_taken s c a w fs pairs =
 
 all_gone : (s : State) (ds : List CutDescriptor) → SamePools s (segs_gone s ds)
 all_gone s [] = record { plan = refl; sizes = refl }
-all_gone s (d ∷ ds) = on s (seg_gone s d) (segs_gone s (d ∷ ds)) (record { plan = refl; sizes = refl }) (all_gone (seg_gone s d) ds)
+all_gone s (d ∷ ds) = on s (seg_gone s d) (segs_gone s (d ∷ ds)) (record { plan = refl; sizes = refl }) (all_gone
+    (seg_gone s d) ds)
 
 is_emptied : (s : State) (c u : ℕ) → SamePools s (emptied s c u)
 is_emptied s c u =
-    on s (segs_gone s (cut_of_owner s.owner)) (emptied s c u) (all_gone s (cut_of_owner s.owner)) (record { plan = refl; sizes = refl })
+    on s (segs_gone s (cut_of_owner s.owner)) (emptied s c u) (all_gone s (cut_of_owner s.owner))
+    (record { plan = refl; sizes = refl })
 
 segment : (s : State) (c u : ℕ) (fs : List ℕ) (pairs : List (ℕ × ℕ)) → SamePools s (segment_taken s c u fs pairs)
 segment s c u [] [] = is_emptied s c u
@@ -88,11 +92,13 @@ segment s c u (f ∷ fs) pairs = all_taken s c (aim.Deactivating u) (what.Seg u)
 all_pages_back : (s : State) (fs : List ℕ) → SamePools s (pages_back s fs)
 all_pages_back s [] = record { plan = refl; sizes = refl }
 all_pages_back s (f ∷ fs) =
-    on s (page_back s f) (pages_back s (f ∷ fs)) (record { plan = refl; sizes = is_here s.store f }) (all_pages_back (page_back s f) fs)
+    on s (page_back s f) (pages_back s (f ∷ fs)) (record { plan = refl; sizes = is_here s.store f }) (all_pages_back
+    (page_back s f) fs)
 
 all_segs_back : (s : State) (ds : List CutDescriptor) → SamePools s (segs_back s ds)
 all_segs_back s [] = record { plan = refl; sizes = refl }
-all_segs_back s (d ∷ ds) = on s (seg_back s d) (segs_back s (d ∷ ds)) (record { plan = refl; sizes = refl }) (all_segs_back (seg_back s d) ds)
+all_segs_back s (d ∷ ds) = on s (seg_back s d) (segs_back s (d ∷ ds)) (record { plan = refl; sizes = refl })
+    (all_segs_back (seg_back s d) ds)
 
 failed : (s : State) (c faults : ℕ) → SamePools s (write_failed s c faults)
 failed s c faults = on s told (write_failed s c faults) (record { plan = refl; sizes = refl })
@@ -207,7 +213,9 @@ commits s c None = record { plan = refl; sizes = refl }
 commits s c (Some cmd) = committed_same s c (process_at s c) cmd
 
 evicting : (s : State) (c f : ℕ) → SamePools s (eviction_begun s c f)
-evicting s c f = on s (with_store s (with_choice s.store f)) (eviction_begun s c f) (record { plan = refl; sizes = refl }) (taken (with_store s (with_choice s.store f)) c aim.Evicting (what.Page f) (f ∷ []))
+evicting s c f = on s (with_store s (with_choice s.store f)) (eviction_begun s c f)
+    (record { plan = refl; sizes = refl }) (taken (with_store s (with_choice s.store f)) c aim.Evicting (what.Page f)
+    (f ∷ []))
 
 -- ---- each action
 

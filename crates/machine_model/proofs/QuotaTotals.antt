@@ -1,5 +1,6 @@
 -- The quotas of the tree sum to the same, whatever command takes effect.
-use Rattle.std.proofs.Common.{◌≡◌, ◌≢◌, ◌≤◌, ◌<◌, ℕ, suc, ◌+◌, ◌-◌, Bool, true, false, not, cond, eqb, is_some, List, []}
+use Rattle.std.proofs.Common.{◌≡◌, ◌≢◌, ◌≤◌, ◌<◌, ℕ, suc, ◌+◌, ◌-◌, Bool, true, false, not, cond, eqb, is_some, List}
+use Rattle.std.proofs.Common.{[]}
 use Rattle.std.proofs.Common.{◌∷◌, map, sum, length, Option, Some, None, inl, inr, refl, sym, ap, subst, ◌∙◌, arith}
 use Rattle.std.specs.Prelude.{Result, Ok, Err, ℤ, slice_index}
 use Rattle.std.specs.Int.{is_positive}
@@ -122,7 +123,8 @@ moved_total (n ∷ ns) giver getter pages t other enough = elim (eqb_tells n.uid
     gone u same = ap (λ (x : Option Node). cond (is_some x) pages 0)
         (ap (node_in ns) (sym same) ∙ fresh n ns n.superior t.0)
 
-    giving : (eqb n.uid giver ≡ true) × (n.uid ≡ giver) → Holds giver getter pages ns → Holds giver getter pages (n ∷ ns)
+    giving : (eqb n.uid giver ≡ true) × (n.uid ≡ giver) → Holds giver getter pages ns
+        → Holds giver getter pages (n ∷ ns)
     giving e rest =
         let off : eqb n.uid getter ≡ false = elim (eqb_tells n.uid getter) [
           | inl x ↦ absurd (other (sym e.1 ∙ x.1))
@@ -303,7 +305,8 @@ module _ (t : Store) where
     delete_total : (path : List (List ℕ)) (r : Result Node Reply) → branch_at t.nodes path ≡ r
         → takes_effect (delete_of t.nodes r) ≡ true → total (deleted t r).nodes ≡ total t.nodes
     delete_total path (Err r) at h = refl
-    delete_total path (Ok n) at h = left_total t.nodes n.uid (λ m member same. sym (quota_of_member t.nodes m tree member)
+    delete_total path (Ok n) at h = left_total t.nodes n.uid (λ m member same. sym
+        (quota_of_member t.nodes m tree member)
         ∙ (ap (quota_in t.nodes) same ∙ (quota_found t.nodes n.uid n found ∙ none)))
       where
         found : node_in t.nodes n.uid ≡ Some n

@@ -1,5 +1,6 @@
 -- What the store says after each action, by what its calls say of it.
-use Rattle.std.proofs.Common.{◌≡◌, ◌<◌, ℕ, ◌+◌, ◌*◌, Bool, true, false, cond, eqb, List, [], ◌∷◌, ◌++◌, map, length, set}
+use Rattle.std.proofs.Common.{◌≡◌, ◌<◌, ℕ, ◌+◌, ◌*◌, Bool, true, false, cond, eqb, List, [], ◌∷◌, ◌++◌, map, length}
+use Rattle.std.proofs.Common.{set}
 use Rattle.std.proofs.Common.{sum, Option, Some, None, refl, sym, ap, subst, ◌∙◌, arith}
 use Rattle.std.specs.Prelude.{◌/◌, ◌%◌}
 use Rattle.std.proofs.lemmas.List.{length-set}
@@ -301,7 +302,8 @@ created_says s c o f u v p r cmd k says next is known zero word =
 
 -- ---- looks that bring a segment or a page nearer
 
-still_alike : (s : State) (e : Entry) → is_still e ≡ true → IsAlike (flat_of s) (store_after s.plan (s.entries ++ e ∷ []))
+still_alike : (s : State) (e : Entry) → is_still e ≡ true → IsAlike (flat_of s) (store_after s.plan
+    (s.entries ++ e ∷ []))
 still_alike s e h = alike_by (alike (flat_of s)) (one_still s.plan s.entries e h)
 
 pub activated_says : (s : State) (c : ℕ) (o : Outcome) (u place : ℕ) → Keeps s → Says s c o (act.Activate u place)
@@ -429,7 +431,8 @@ module _ (s : State) (c : ℕ) (o : Outcome) (f : ℕ) (k : Keeps s) where
   abbrev how : Left
   how = left_of (words_in s.store.pages f)
 
-  left_alike : IsAlike (left_page s f (flat_of s)) (store_after s.plan (s.entries ++ entries_left f how (page_in s.store f)))
+  left_alike : IsAlike (left_page s f (flat_of s)) (store_after s.plan (s.entries ++ entries_left f how
+      (page_in s.store f)))
   left_alike = alike_by (alike (left_page s f (flat_of s))) (left_flat s.plan s.entries f how (page_in s.store f))
 
   left_total : quotas (left_page s f (flat_of s)) ≡ s.plan.quota
@@ -443,7 +446,8 @@ module _ (s : State) (c : ℕ) (o : Outcome) (f : ℕ) (k : Keeps s) where
       (ap (λ (b : Bool). cond b (write_failed s c o.faults) now) h)
       (subst (λ (b : Bool). IsAlike (cond b (flat_of s) (left_page s f (flat_of s))) (flat_of now)) (sym h) left_alike)
       (subst (λ (b : Bool). quotas (cond b (flat_of s) (left_page s f (flat_of s))) ≡ s.plan.quota) (sym h) left_total)
-      (none_rest s now refl (left_count s.store.pages (home_in s.store (page_in s.store f).0) (page_in s.store f).1 f how)
+      (none_rest s now refl (left_count s.store.pages (home_in s.store (page_in s.store f).0)
+      (page_in s.store f).1 f how)
       refl)
     where
       now : State

@@ -1,6 +1,7 @@
 -- After each action each process that goes on is at one processor, ready, or kept back by the initializer.
-use Rattle.std.proofs.Common.{◌≡◌, ◌<◌, ℕ, ◌+◌, ◌-◌, Bool, true, false, ◌&&◌, cond, eqb, List, [], ◌∷◌, ◌++◌, drop, length, map}
-use Rattle.std.proofs.Common.{set, Option, Some, None, inl, inr, refl, sym, ap, subst, ◌∙◌}
+use Rattle.std.proofs.Common.{◌≡◌, ◌<◌, ℕ, ◌+◌, ◌-◌, Bool, true, false, ◌&&◌, cond, eqb, List, [], ◌∷◌, ◌++◌, drop}
+use Rattle.std.proofs.Common.{length}
+use Rattle.std.proofs.Common.{set, Option, Some, None, refl, sym, ap, subst, ◌∙◌}
 use Rattle.std.proofs.lemmas.List.{length-set, get_or-set_same}
 use Rattle.assoc_mem.specs.Held.{cleared}
 use Rattle.script.specs.Plans.{Plan}
@@ -22,25 +23,24 @@ use Rattle.machine_model.specs.declared.Processor.{Processor}
 use Rattle.machine_model.specs.declared.Run.{Run}
 use Rattle.machine_model.specs.Actions as act
 use Rattle.machine_model.specs.After.{Outcome, after}
-use Rattle.machine_model.specs.Commits.{committed, committed_at, gone_entries, left_after, with_effect}
-use Rattle.machine_model.specs.Jobs.{cut_all, cut_one, emptied, eviction_done, page_back, page_done, pages_back}
-use Rattle.machine_model.specs.Jobs.{seg_back, seg_gone, segment_taken, segs_back, segs_gone, signalled, take_all}
-use Rattle.machine_model.specs.Jobs.{take_one, told_at, told_from, took, victim_taken, with_hand_moved, write_failed}
+use Rattle.machine_model.specs.Commits.{committed_at}
+use Rattle.machine_model.specs.Jobs.{cut_all, cut_one, emptied, page_back, pages_back}
+use Rattle.machine_model.specs.Jobs.{seg_back, seg_gone, segment_taken, segs_back, segs_gone, take_all}
+use Rattle.machine_model.specs.Jobs.{take_one, told_at, told_from, took, with_hand_moved, write_failed}
 use Rattle.machine_model.specs.Reads.{cpu_at, cut_of_owner, frames_from, frames_of_owner, next_command, no_processor}
 use Rattle.machine_model.specs.Reads.{or_zero, process_at, processor_at, run_at, trailers_in}
-use Rattle.machine_model.specs.Refusal.{reply_of, uid_of_command}
-use Rattle.machine_model.specs.Scheduled.{AreScheduled, IsScheduled, MayRun}
+use Rattle.machine_model.specs.Refusal.{reply_of}
+use Rattle.machine_model.specs.Scheduled.{AreScheduled, IsScheduled}
 use Rattle.machine_model.specs.State.{State}
-use Rattle.machine_model.specs.Steps.{booked, fault_told, frame_lost, goes_on, is_its_end, left_at, old_word, page_made}
-use Rattle.machine_model.specs.Steps.{queued, run_after, told, told_by, transfer_failed, transferred, with_faults}
-use Rattle.machine_model.specs.Steps.{with_owner, with_store}
+use Rattle.machine_model.specs.Steps.{fault_told, frame_lost, goes_on, is_its_end, left_at, old_word, page_made}
+use Rattle.machine_model.specs.Steps.{queued, run_after, told, told_by, transfer_failed}
+use Rattle.machine_model.specs.Steps.{with_store}
 use Rattle.machine_model.proofs.CommitKept.{effected}
 use Rattle.machine_model.specs.Steps.{pages_after, with_pages}
 use Rattle.machine_model.proofs.LeaveSeen.{told_reads}
 use Rattle.machine_model.specs.Reads.{no_run}
-use Rattle.machine_model.proofs.ScheduleLaws.{SameSeats, append_nil, end_kept, gone_kept, leave_kept, load_kept, one_run}
-use Rattle.machine_model.proofs.ScheduleLaws.{one_seat, runs_kept, same_seats, seats_kept}
-use Rattle.machine_model.proofs.TieLaws.{none_some}
+use Rattle.machine_model.proofs.ScheduleLaws.{SameSeats, append_nil, end_kept, leave_kept, load_kept, one_run}
+use Rattle.machine_model.proofs.ScheduleLaws.{one_seat, runs_kept, seats_kept}
 
 -- ---- nobody's process and run changes
 
@@ -50,7 +50,8 @@ pub record Sits (s t : State) : Type 0 where
   pub ready : t.ready ≡ s.ready
   pub processors : t.processors ≡ s.processors
 
-pub still : {s t : State} → t.plan ≡ s.plan → t.runs ≡ s.runs → t.ready ≡ s.ready → t.processors ≡ s.processors → Sits s t
+pub still : {s t : State} → t.plan ≡ s.plan → t.runs ≡ s.runs → t.ready ≡ s.ready → t.processors ≡ s.processors
+    → Sits s t
 still a b c d = record { plan = a; runs = b; ready = c; processors = d }
 
 pub sits_on : {s t u : State} → Sits s t → Sits t u → Sits s u
@@ -75,7 +76,8 @@ all_cut : (s : State) (c : ℕ) (a : Aim) (w : What) (pairs : List (ℕ × ℕ))
 all_cut s c a w [] = still refl refl refl refl
 all_cut s c a w (x ∷ xs) = sits_on (still refl refl refl refl) (all_cut (cut_one s c a w x) c a w xs)
 
-all_taken : (s : State) (c : ℕ) (a : Aim) (w : What) (fs : List ℕ) (pairs : List (ℕ × ℕ)) → Sits s (took s c a w fs pairs)
+all_taken : (s : State) (c : ℕ) (a : Aim) (w : What) (fs : List ℕ) (pairs : List (ℕ × ℕ))
+    → Sits s (took s c a w fs pairs)
 all_taken s c a w fs pairs = sits_on (taken s c a w fs) (all_cut (take_all s c a w fs) c a w pairs)
 
 all_gone : (s : State) (ds : List CutDescriptor) → Sits s (segs_gone s ds)
@@ -129,7 +131,8 @@ told_kept : (s : State) (c k : ℕ) (f : Option ℕ) (r : Reply) → IsScheduled
     → IsScheduled (told_by s c k f r)
 told_kept s c k f r h there its known more = subst (λ (q : List ℕ). AreScheduled s.plan
     (set s.runs k (run_after (run_at s.runs k) (next_command s k) r)) q (told_by s c k f r).processors)
-    (sym (append_nil s.ready) ∙ ap (λ (q : List ℕ). s.ready ++ q) (sym (nobody_released s.plan k (next_command s k) more)))
+    (sym (append_nil s.ready) ∙ ap (λ (q : List ℕ). s.ready ++ q) (sym (nobody_released s.plan k
+    (next_command s k) more)))
     (runs_kept s.plan s.runs (set s.runs k (run_after (run_at s.runs k) (next_command s k) r)) s.ready _
     (one_run s.runs k (run_after (run_at s.runs k) (next_command s k) r) known (h.running c k its).going
     (more_run (run_at s.runs k) (next_command s k) r (h.running c k its).going more))
@@ -149,8 +152,6 @@ told_after s b c f r same h there a = subst (λ (j : ℕ). IsScheduled (told_by 
 
     next : next_command b a.process ≡ next_command s a.process
     next = λ i. next_command (record s { plan = same.plan i; runs = same.runs i }) a.process
-
-
 
 -- ---- a process ends
 
@@ -267,7 +268,8 @@ module _ (s : State) (c : ℕ) (o : Outcome) (h : IsScheduled s) (there : c < le
   command_kept (Some command.End) k its known next = subst (λ (j : ℕ). IsScheduled (left_at (told_by
       (effected s j command.End) c j None (reply_of s j command.End)) c)) (sym (ap or_zero its))
       (ended_kept (effected s k command.End) c k (reply_of s k command.End) h there its known next)
-  command_kept (Some (command.MkDir path volume)) k its known next = plain (command.MkDir path volume) refl k its known next
+  command_kept (Some (command.MkDir path volume)) k its known next = plain
+      (command.MkDir path volume) refl k its known next
   command_kept (Some (command.MkSeg path pages volume)) k its known next =
       plain (command.MkSeg path pages volume) refl k its known next
   command_kept (Some (command.Initiate path)) k its known next = plain (command.Initiate path) refl k its known next
@@ -278,7 +280,8 @@ module _ (s : State) (c : ℕ) (o : Outcome) (h : IsScheduled s) (there : c < le
   command_kept (Some (command.Truncate path words)) k its known next =
       plain (command.Truncate path words) refl k its known next
   command_kept (Some (command.Delete path)) k its known next = plain (command.Delete path) refl k its known next
-  command_kept (Some (command.Move path amount)) k its known next = plain (command.Move path amount) refl k its known next
+  command_kept (Some (command.Move path amount)) k its known next = plain
+      (command.Move path amount) refl k its known next
   command_kept (Some (command.Status path)) k its known next = plain (command.Status path) refl k its known next
   command_kept (Some (command.Read n w)) k its known next = plain (command.Read n w) refl k its known next
   command_kept (Some (command.Write n w x)) k its known next = plain (command.Write n w x) refl k its known next
@@ -341,14 +344,17 @@ module _ (s : State) (c : ℕ) (o : Outcome) (h : IsScheduled s) (there : c < le
       (still refl refl refl refl) h there may
   schedule_kept (act.Start f u p) may = one_changed _ refl (λ e. e)
   schedule_kept (act.Evict f) may = h
-  schedule_kept (act.Empty u) may = sits_kept s _ (segment s c u (frames_from s.store.ast u 0) (trailers_in s.store u)) h
+  schedule_kept (act.Empty u) may = sits_kept s _ (segment s c u (frames_from s.store.ast u 0)
+      (trailers_in s.store u)) h
   schedule_kept (act.EmptyVictim pool chain u) may = sits_kept s _ (sits_on (still refl refl refl refl)
       (segment (with_store s (with_hand_moved s.store pool chain)) c u
-      (frames_from (with_hand_moved s.store pool chain).ast u 0) (trailers_in (with_hand_moved s.store pool chain) u))) h
+      (frames_from (with_hand_moved s.store pool chain).ast u 0) (trailers_in
+      (with_hand_moved s.store pool chain) u))) h
   schedule_kept (act.TakeAway fs pairs w) may = sits_kept s _ (all_taken s c aim.Committing w fs pairs) h
   schedule_kept (act.Signal w) may =
       seats_kept s.plan s.runs s.ready s.processors (told_from c w 0 s.processors) (told_seats s c w) h
-  schedule_kept (act.FinishEviction f) may = by_end o _ (write_failed s c o.faults) h (λ failed. failed_kept (may failed))
+  schedule_kept (act.FinishEviction f) may = by_end o _ (write_failed s c o.faults) h (λ failed. failed_kept
+      (may failed))
   schedule_kept (act.FinishPage f) may = by_end o _ (write_failed s c o.faults) h (λ failed. failed_kept (may failed))
   schedule_kept (act.Deactivate u) may = sits_kept s _ (is_emptied s c u) h
   schedule_kept act.Commit may = command_kept (next_command s (process_at s c)) may.0 may.1 may.2

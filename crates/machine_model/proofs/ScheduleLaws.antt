@@ -1,5 +1,6 @@
 -- Which processes run and which are ready, where a process is loaded, leaves its processor, is answered or ends.
-use Rattle.std.proofs.Common.{◌≡◌, ◌≢◌, ◌<◌, ◌≤◌, ℕ, zero, suc, ◌+◌, ◌-◌, Bool, true, false, ◌||◌, ◌&&◌, cond, eqb, List, []}
+use Rattle.std.proofs.Common.{◌≡◌, ◌≢◌, ◌<◌, ◌≤◌, ℕ, zero, suc, ◌+◌, ◌-◌, Bool, true, false, ◌||◌, ◌&&◌, cond, eqb}
+use Rattle.std.proofs.Common.{List, []}
 use Rattle.std.proofs.Common.{◌∷◌, ◌++◌, length, set, Some, None, ◌⊎◌, inl, inr, refl, sym, ap, subst, ◌∙◌}
 use Rattle.std.proofs.Common.{arith}
 use Rattle.std.proofs.lemmas.Bool.Decides.{eqb_tells}
@@ -387,9 +388,11 @@ module _ (p : Plan) (runs : List Run) (ready : List ℕ) (ps : List Processor) (
       first_is b e t = elim (eqb_tells k 0) [ inl x ↦ x.1 | inr m ↦ absurd (no_and (e ∙ t) m.0) ]
 
       by : (i z : Bool) → p.initializer ≡ i → (z ≡ true → k ≡ 0)
-          → AreScheduled p (set runs k run) (ready ++ cond (i && z) (range 1 (length p.processes - 1)) []) (set ps c now)
+          → AreScheduled p (set runs k run) (ready ++ cond (i && z) (range 1 (length p.processes - 1)) [])
+          (set ps c now)
       by true true e z = subst (λ (xs : List ℕ). AreScheduled p (set runs k run)
-          (xs ++ range 1 (length p.processes - 1)) (set ps c now)) (sym (none_ready e (z refl))) (initial_end e (z refl))
+          (xs ++ range 1 (length p.processes - 1)) (set ps c now)) (sym (none_ready e (z refl))) (initial_end e
+          (z refl))
       by true false e z = subst (λ (xs : List ℕ). AreScheduled p (set runs k run) xs (set ps c now))
           (sym (append_nil ready)) plain_end
       by false z e f = subst (λ (xs : List ℕ). AreScheduled p (set runs k run) xs (set ps c now))

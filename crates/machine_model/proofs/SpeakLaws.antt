@@ -1,9 +1,9 @@
 -- A processor speaks for its process: what the flat store and custody ask of the answer to its next command.
-use Rattle.std.proofs.Common.{◌≡◌, ◌<◌, ℕ, Bool, true, false, not, ◌||◌, ◌&&◌, eqb, length, List, Option, Some, None, ◌⊎◌}
+use Rattle.std.proofs.Common.{◌≡◌, ◌<◌, ℕ, Bool, true, false, not, ◌||◌, ◌&&◌, eqb, length, Option, Some, None}
 use Rattle.std.proofs.Common.{inl, inr, refl, sym, ap, subst, ◌∙◌}
 use Rattle.std.specs.Prelude.{IsSomeAnd}
 use Rattle.std.proofs.lemmas.Bool.Decides.{eqb_tells}
-use Rattle.script.specs.Plans.{Plan, command_at, commands_of}
+use Rattle.script.specs.Plans.{command_at, commands_of}
 use Rattle.script.specs.References.{reference_of}
 use Rattle.script.specs.declared.commands.Command.{Command}
 use Rattle.script.specs.declared.commands.Reference.{Reference}
@@ -11,9 +11,9 @@ use Rattle.book.specs.declared.replies.Reply.{Reply}
 use Rattle.book.specs.declared.replies.Reply.TheVariants as reply
 use Rattle.flat_model.specs.Commands.{reply_to_command, takes_effect}
 use Rattle.flat_model.specs.Legal.{IsAnswer}
-use Rattle.flat_model.specs.Store.{Store, is_turn, progress_of}
+use Rattle.flat_model.specs.Store.{is_turn, progress_of}
 use Rattle.storage_ops.specs.Shown.{is_refusal}
-use Rattle.custody_model.specs.Allowed.{MayAnswer as MayAnswerBy, is_effective, is_word_or_done}
+use Rattle.custody_model.specs.Allowed.{MayAnswer as MayAnswerBy, is_word_or_done}
 use Rattle.machine_model.specs.Custodial.{IsRun}
 use Rattle.machine_model.specs.Foreseen.{AllCome, Comes}
 use Rattle.machine_model.specs.Holding.{seen}
@@ -22,7 +22,6 @@ use Rattle.machine_model.specs.Reads.{flat_of, next_command, processor_at, run_a
 use Rattle.machine_model.specs.Scheduled.{HasTurn, MayRun}
 use Rattle.machine_model.specs.Seen.{shown}
 use Rattle.machine_model.specs.State.{State}
-use Rattle.machine_model.specs.declared.Run.{Run}
 use Rattle.machine_model.proofs.TellKept.{CanTell}
 
 -- A processor has a process that goes on, and this is its next command.
@@ -39,15 +38,18 @@ pub record Speaks (s : State) (c k : ℕ) (cmd : Command) : Type 0 where
 pub speaks : (s : State) (c k : ℕ) → IsMachine s → c < length s.processors
     → (processor_at s.processors c).cpu.process ≡ Some k → (cmd : Command) × Speaks s c k cmd
 unfolding AllCome
-speaks s c k m there its = (come.command, record {
-  there = there;
-  known = known;
-  its = its;
-  next = come.on.next;
-  going = may.going;
-  turn = may.turn;
-  runs = m.keeps.book.runs;
-})
+speaks s c k m there its = (
+  come.command,
+  record {
+    there = there;
+    known = known;
+    its = its;
+    next = come.on.next;
+    going = may.going;
+    turn = may.turn;
+    runs = m.keeps.book.runs;
+  },
+)
   where
     may : MayRun s.plan s.runs k
     may = m.scheduled.running c k its

@@ -1,10 +1,10 @@
 -- What a step asks, along the rules in their order, follows from the whole promise and from what the calls of the store
 -- say, but for a few facts that are left.
-use Rattle.std.proofs.Common.{◌≡◌, ◌≢◌, ◌<◌, ◌≤◌, ℕ, ◌+◌, ◌*◌, Bool, true, false, not, ◌&&◌, cond, eqb, is_some, List, [], ◌∷◌}
-use Rattle.std.proofs.Common.{get_or, length, position, Option, Some, None, inl, inr, refl, sym, ap, subst, ◌∙◌, arith, zero, suc}
+use Rattle.std.proofs.Common.{◌≡◌, ◌<◌, ℕ, ◌+◌, ◌*◌, Bool, true, false, not, ◌&&◌, cond, eqb, List, [], ◌∷◌}
+use Rattle.std.proofs.Common.{get_or, length, position, Option, Some, None, inl, inr, refl, sym, ap, subst, ◌∙◌}
+use Rattle.std.proofs.Common.{arith, zero, suc}
 use Rattle.std.specs.Prelude.{◌/◌, ◌%◌, nat_le}
-use Rattle.std.specs.List.{list_all}
-use Rattle.std.proofs.lemmas.Bool.Decides.{eqb_tells, leb_tells}
+use Rattle.std.proofs.lemmas.Bool.Decides.{eqb_tells}
 use Rattle.script.specs.References.{reference_of}
 use Rattle.script.specs.declared.commands.Command.{Command}
 use Rattle.script.specs.declared.commands.Reference.{Reference}
@@ -28,7 +28,6 @@ use Rattle.seg_control.specs.Control.{sdws_at, word_of}
 use Rattle.flat_model.specs.Legal.{MayRelease}
 use Rattle.flat_model.specs.References.{new_word, permits}
 use Rattle.flat_model.proofs.ZeroLaws.{words_zero}
-use Rattle.custody_model.specs.Allowed.{MayDeactivate}
 use Rattle.custody_model.specs.Custody.{has}
 use Rattle.machine_model.specs.declared.Aim.{Aim}
 use Rattle.machine_model.specs.declared.Aim.TheVariants as aim
@@ -39,30 +38,30 @@ use Rattle.machine_model.specs.Actions as act
 use Rattle.machine_model.specs.Actions.{action_of, by_move, clear_or, come_to, finish_of, go_on_with, has_had_its_turn}
 use Rattle.machine_model.specs.Actions.{is_empty, is_over, load_or_idle, look_of, move_of, once_cleared, own_or_run}
 use Rattle.machine_model.specs.Actions.{refer_or_take, run_process, take_or_wait, transfer_or}
-use Rattle.machine_model.specs.After.{Outcome, after}
-use Rattle.machine_model.specs.Chains.{page_at, page_or_zero}
+use Rattle.machine_model.specs.After.{Outcome}
+use Rattle.machine_model.specs.Chains.{page_at}
 use Rattle.machine_model.specs.Custodial.{names}
 use Rattle.machine_model.specs.Entitled.{IsEntitledToAll}
 use Rattle.machine_model.specs.Holding.{seen}
-use Rattle.machine_model.specs.Jobs.{are_zeros, left_of, segs_gone}
+use Rattle.machine_model.specs.Jobs.{are_zeros, left_of}
 use Rattle.machine_model.specs.Keeps.{Keeps}
 use Rattle.machine_model.specs.Promise.{IsMachine}
-use Rattle.machine_model.specs.Reads.{cpu_at, cut_of_owner, descriptor_of, flat_of, frames_of_owner, is_due, next_command}
+use Rattle.machine_model.specs.Reads.{cpu_at, cut_of_owner, descriptor_of, flat_of, frames_of_owner, is_due}
+use Rattle.machine_model.specs.Reads.{next_command}
 use Rattle.machine_model.specs.Reads.{or_zero, process_at, processor_at}
 use Rattle.machine_model.specs.Said.{Says}
-use Rattle.machine_model.specs.Seen.{shown}
 use Rattle.machine_model.specs.State.{Owner, State}
 use Rattle.machine_model.proofs.ChainLaws.{going_word, has_head}
-use Rattle.machine_model.proofs.CutRights.{take_away_says}
 use Rattle.machine_model.proofs.EmptyAsks.{length_asks, victim_asks}
 use Rattle.machine_model.proofs.LookAsks.{activate_asks, answer_asks, connect_asks, create_asks}
 use Rattle.machine_model.proofs.LookFacts.{LookFinds, look_finds}
 use Rattle.machine_model.proofs.MoveAsks.{length_asks as too_long_asks, no_access_asks, through_asks, zero_asks}
 use Rattle.machine_model.proofs.OwnedLaws.{IsIdle}
 use Rattle.machine_model.proofs.PageShown.{bound_word, stored_is}
-use Rattle.machine_model.proofs.RuleKept.{Asks, AsksCommit, AsksEnd, AsksFinish, IsLooking, look_idle, look_still}
+use Rattle.machine_model.proofs.RuleKept.{Asks, AsksCommit, IsLooking, look_idle, look_still}
 use Rattle.machine_model.proofs.RuleKept.{process_here}
-use Rattle.machine_model.proofs.SaysLaws.{deactivated_says, eviction_failed_says, evicted_says, evicting_says, page_failed_says}
+use Rattle.machine_model.proofs.SaysLaws.{deactivated_says, eviction_failed_says, evicted_says, evicting_says}
+use Rattle.machine_model.proofs.SaysLaws.{page_failed_says}
 use Rattle.machine_model.proofs.SaysLaws.{page_left_says, read_says, started_says}
 use Rattle.machine_model.proofs.ScheduleKept.{IsAnswering}
 use Rattle.tree_model.specs.Tree.{Node, node_in}
@@ -83,7 +82,7 @@ use Rattle.machine_model.proofs.RuleKept.{HasWaited, wait_goes, wait_shape}
 use Rattle.machine_model.proofs.SaysLaws.{gone_is}
 use Rattle.machine_model.proofs.WholeKept.{may_deactivate}
 use Rattle.machine_model.proofs.SpeakLaws.{Speaks, speaks}
-use Rattle.machine_model.proofs.StepKept.{CanFailWrite, CanLose, IsMine}
+use Rattle.machine_model.proofs.StepKept.{CanFailWrite, IsMine}
 use Rattle.machine_model.proofs.TakeAsks.{take_asks}
 use Rattle.machine_model.proofs.TieLaws.{none_some}
 use Rattle.machine_model.proofs.TransferKept.{active_at}
@@ -100,7 +99,8 @@ reads_answering s c m there r = let one = speaks s c (process_at s c) m there r.
   process = process_at s c;
   its = r.its;
   known = one.1.known;
-  more = ap (λ (x : Option Command). is_its_end x) one.1.next ∙ fails_more s (process_at s c) (flat_of s) m.keeps.faithful
+  more = ap (λ (x : Option Command). is_its_end x) one.1.next
+      ∙ fails_more s (process_at s c) (flat_of s) m.keeps.faithful
       one.0 (subst (MayFailBy s.store (process_at s c)) one.1.next r.may);
 }
 
@@ -241,7 +241,8 @@ module _ (s : State) (c : ℕ) (o : Outcome) (m : IsMachine s) (there : c < leng
     where
       sp : Speaks s c k cmd
       sp = let one = speaks s c k m there its in
-          subst (Speaks s c k) (let same : Some one.0 ≡ Some cmd = sym one.1.next ∙ e in let is : one.0 ≡ cmd = cc in is)
+          subst (Speaks s c k) (let same : Some one.0 ≡ Some cmd = sym one.1.next
+          ∙ e in let is : one.0 ≡ cmd = cc in is)
           one.1
 
       by : (y : Option Reference) → reference_of cmd ≡ y → Follows s c o (refer_or_take s p.cpu k y)
@@ -323,7 +324,8 @@ module _ (s : State) (c : ℕ) (o : Outcome) (m : IsMachine s) (there : c < leng
     where
       sp : Speaks s c k cmd
       sp = let one = speaks s c k m there its in
-          subst (Speaks s c k) (let same : Some one.0 ≡ Some cmd = sym one.1.next ∙ e in let is : one.0 ≡ cmd = cc in is)
+          subst (Speaks s c k) (let same : Some one.0 ≡ Some cmd = sym one.1.next
+          ∙ e in let is : one.0 ≡ cmd = cc in is)
           one.1
 
   -- what goes of the segment of a deactivation is all of it

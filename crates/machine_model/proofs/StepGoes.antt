@@ -1,14 +1,13 @@
 -- What the rules know of their action gives what the job, the processes and the script ask of it.
-use Rattle.std.proofs.Common.{◌≡◌, ◌<◌, ℕ, Bool, true, false, cond, length, List, [], ◌∷◌, Option, Some, None, refl, sym, ap}
+use Rattle.std.proofs.Common.{◌≡◌, ◌<◌, ℕ, Bool, true, false, cond, length, Some, refl, sym, ap}
 use Rattle.std.proofs.Common.{subst, ◌∙◌}
-use Rattle.script.specs.Plans.{Plan, commands_of}
-use Rattle.script.specs.declared.commands.Command.{Command}
+use Rattle.script.specs.Plans.{commands_of}
 use Rattle.processor.specs.declared.Transfer.{Transfer}
 use Rattle.machine_model.specs.Actions as act
 use Rattle.machine_model.specs.After.{Outcome, after}
-use Rattle.machine_model.specs.Foreseen.{AllCome, CanTell, Comes, MayAnswer}
+use Rattle.machine_model.specs.Foreseen.{AllCome, Comes, MayAnswer}
 use Rattle.machine_model.specs.Promise.{IsMachine}
-use Rattle.machine_model.specs.Reads.{cpu_at, next_command, or_zero, process_at, run_at}
+use Rattle.machine_model.specs.Reads.{cpu_at, or_zero, process_at, run_at}
 use Rattle.machine_model.specs.Scheduled.{MayRun}
 use Rattle.machine_model.specs.State.{State}
 use Rattle.machine_model.specs.Steps.{is_its_end, transfer_failed, transferred, with_faults}
@@ -21,7 +20,8 @@ use Rattle.machine_model.proofs.TransferKept.{reader_no_owner}
 use Rattle.machine_model.proofs.WorkStep.{MayWork}
 
 -- a processor that has a process may answer its next command
-pub may_answer : (s : State) (c k : ℕ) → IsMachine s → c < length s.processors → (cpu_at s.processors c).process ≡ Some k
+pub may_answer : (s : State) (c k : ℕ) → IsMachine s → c < length s.processors
+    → (cpu_at s.processors c).process ≡ Some k
     → MayAnswer s c
 unfolding AllCome
 may_answer s c k m there its = record {

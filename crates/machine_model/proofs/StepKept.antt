@@ -294,7 +294,8 @@ pub online_other : (s : State) (c : ℕ) → Keeps s → (processor_at s.process
 online_other s c k off o h same = let no : true ≡ false =
     sym (k.at_work o h).online ∙ (ap (λ (d : ℕ). (processor_at s.processors d).cpu.online) same ∙ off) in cc
 
-pub due_other : (s : State) (c : ℕ) (w : What) → Keeps s → (processor_at s.processors c).cpu.due ≡ Some w → IsNoOwner s c
+pub due_other : (s : State) (c : ℕ) (w : What) → Keeps s → (processor_at s.processors c).cpu.due ≡ Some w
+    → IsNoOwner s c
 due_other s c w k due o h same = none_some (sym (k.at_work o h).clear
     ∙ (ap (λ (d : ℕ). (processor_at s.processors d).cpu.due) same ∙ due))
 

@@ -1,35 +1,14 @@
 -- What the rules know where they choose an action: who owns the supervisor, and whose command it is.
-use Rattle.std.proofs.Common.{◌≡◌, ◌≢◌, ◌<◌, ◌≤◌, ℕ, ◌+◌, ◌*◌, Bool, true, false, not, ◌&&◌, cond, eqb, is_some, List, [], ◌∷◌}
-use Rattle.std.proofs.Common.{get_or, length, position, Option, Some, None, inl, inr, refl, sym, ap, subst, ◌∙◌, arith, zero, suc}
+use Rattle.std.proofs.Common.{◌≡◌, ◌≢◌, ◌<◌, ℕ, Bool, true, false, not, ◌&&◌, cond, eqb, List, [], ◌∷◌}
+use Rattle.std.proofs.Common.{length, position, Option, Some, None, inl, inr, refl, sym, ap, subst, ◌∙◌}
 use Rattle.std.proofs.Common.{◌⊎◌}
-use Rattle.std.specs.Prelude.{◌/◌, ◌%◌, nat_le}
-use Rattle.std.specs.List.{list_all}
-use Rattle.std.proofs.lemmas.Bool.Decides.{eqb_tells, leb_tells}
+use Rattle.std.proofs.lemmas.Bool.Decides.{eqb_tells}
 use Rattle.script.specs.References.{reference_of}
 use Rattle.script.specs.declared.commands.Command.{Command}
 use Rattle.script.specs.declared.commands.Reference.{Reference}
-use Rattle.assoc_mem.specs.declared.HeldSeg.{HeldSeg}
 use Rattle.assoc_mem.specs.declared.What.{What}
-use Rattle.assoc_mem.specs.Held.{frame_of, seg_of}
-use Rattle.page_table.specs.declared.Ptw.{Ptw}
-use Rattle.page_table.specs.declared.Ptw.TheVariants as ptw
-use Rattle.descriptor_seg.specs.declared.Sdw.{Sdw}
-use Rattle.descriptor_seg.specs.declared.Sdw.TheVariants as sdw
-use Rattle.page_control.specs.declared.Left.TheVariants as left
-use Rattle.page_control.specs.Plain.{words_in}
-use Rattle.page_control.specs.Tied.{has_record}
-use Rattle.processor.specs.Moves.{by_descriptor, by_held, by_page, by_seg, by_word}
 use Rattle.processor.specs.declared.Move.TheVariants as move
 use Rattle.processor.specs.declared.Transfer.{Transfer}
-use Rattle.book.specs.declared.replies.Reply.TheVariants as reply
-use Rattle.flat_model.specs.References.{word_reply}
-use Rattle.machine_model.specs.Reads.{is_active}
-use Rattle.seg_control.specs.Control.{sdws_at, word_of}
-use Rattle.flat_model.specs.Legal.{MayRelease}
-use Rattle.flat_model.specs.References.{new_word, permits}
-use Rattle.flat_model.proofs.ZeroLaws.{words_zero}
-use Rattle.custody_model.specs.Allowed.{MayDeactivate}
-use Rattle.custody_model.specs.Custody.{has}
 use Rattle.machine_model.specs.declared.Aim.{Aim}
 use Rattle.machine_model.specs.declared.Aim.TheVariants as aim
 use Rattle.machine_model.specs.declared.Phase.{Phase}
@@ -39,56 +18,24 @@ use Rattle.machine_model.specs.Actions as act
 use Rattle.machine_model.specs.Actions.{action_of, by_move, clear_or, come_to, finish_of, go_on_with, has_had_its_turn}
 use Rattle.machine_model.specs.Actions.{is_empty, is_over, load_or_idle, look_of, move_of, once_cleared, own_or_run}
 use Rattle.machine_model.specs.Actions.{refer_or_take, run_process, take_or_wait, transfer_or}
-use Rattle.machine_model.specs.After.{Outcome, after}
-use Rattle.machine_model.specs.Chains.{page_at, page_or_zero}
-use Rattle.machine_model.specs.Custodial.{names}
-use Rattle.machine_model.specs.Entitled.{IsEntitledToAll}
-use Rattle.machine_model.specs.Holding.{seen}
-use Rattle.machine_model.specs.Jobs.{are_zeros, left_of, segs_gone}
-use Rattle.machine_model.specs.Keeps.{Keeps}
+use Rattle.machine_model.specs.After.{Outcome}
 use Rattle.machine_model.specs.Promise.{IsMachine}
-use Rattle.machine_model.specs.Reads.{cpu_at, cut_of_owner, descriptor_of, flat_of, frames_of_owner, is_due, next_command}
+use Rattle.machine_model.specs.Reads.{flat_of, is_due, next_command}
 use Rattle.machine_model.specs.Reads.{or_zero, process_at, processor_at}
-use Rattle.machine_model.specs.Said.{Says}
-use Rattle.machine_model.specs.Seen.{shown}
 use Rattle.machine_model.specs.State.{Owner, State}
-use Rattle.machine_model.proofs.ChainLaws.{going_word, has_head}
-use Rattle.machine_model.proofs.CutRights.{take_away_says}
-use Rattle.machine_model.proofs.EmptyAsks.{length_asks, victim_asks}
-use Rattle.machine_model.proofs.LookAsks.{activate_asks, answer_asks, connect_asks, create_asks}
 use Rattle.machine_model.proofs.LookFacts.{LookFinds, look_finds}
-use Rattle.machine_model.proofs.MoveAsks.{length_asks as too_long_asks, no_access_asks, through_asks, zero_asks}
 use Rattle.machine_model.proofs.OwnedLaws.{IsIdle}
-use Rattle.machine_model.proofs.PageShown.{bound_word, stored_is}
-use Rattle.machine_model.proofs.RuleKept.{Asks, AsksCommit, AsksEnd, AsksFinish, IsLooking, look_idle, look_still}
+use Rattle.machine_model.proofs.RuleKept.{IsLooking, look_idle}
 use Rattle.machine_model.proofs.RuleKept.{process_here}
-use Rattle.machine_model.proofs.SaysLaws.{deactivated_says, eviction_failed_says, evicted_says, evicting_says, page_failed_says}
-use Rattle.machine_model.proofs.SaysLaws.{page_left_says, read_says, started_says}
-use Rattle.machine_model.proofs.ScheduleKept.{IsAnswering}
-use Rattle.tree_model.specs.Tree.{Node, node_in}
-use Rattle.custody_model.specs.Allowed.{superior_in}
-use Rattle.flat_model.specs.Store.{Store}
-use Rattle.machine_model.specs.Jobs.{write_failed}
-use Rattle.machine_model.specs.Keeps.{StoreSays}
-use Rattle.machine_model.specs.Whole.{aimed_at, goes_in, going_for}
-use Rattle.machine_model.specs.Working.{FailsBy, FailsIn, IsLeaf, IsWorking, MayFailBy, TakesSome}
-use Rattle.machine_model.proofs.ActiveKept.{segs_are_gone}
-use Rattle.machine_model.proofs.ChainLaws.{GoesOn}
-use Rattle.machine_model.proofs.JobAsks.{write_asks}
-use Rattle.machine_model.proofs.RuleKept.{HasWaited, wait_goes, wait_shape}
-use Rattle.machine_model.proofs.SaysLaws.{gone_is}
-use Rattle.machine_model.proofs.WholeKept.{may_deactivate}
+use Rattle.machine_model.specs.Working.{FailsIn, IsWorking, MayFailBy, TakesSome}
 use Rattle.machine_model.proofs.SpeakLaws.{Speaks, speaks}
-use Rattle.machine_model.proofs.StepKept.{CanFailWrite, CanLose, IsMine}
-use Rattle.machine_model.proofs.TakeAsks.{take_asks}
+use Rattle.machine_model.proofs.StepKept.{IsMine}
 use Rattle.machine_model.proofs.TieLaws.{none_some}
-use Rattle.machine_model.proofs.TransferKept.{active_at}
 use Rattle.script.specs.declared.commands.Command.TheVariants as command
 use Rattle.book.specs.declared.replies.Reply.{Reply}
 use Rattle.flat_model.specs.Commands.{is_end, reply_to_command}
 use Rattle.storage_ops.specs.Shown.{is_refusal}
 use Rattle.processor.specs.declared.Move.{Move}
-use Rattle.machine_model.specs.Steps.{is_its_end}
 use Rattle.machine_model.proofs.FailLaws.{fails_more}
 use Rattle.machine_model.proofs.KeepLaws.{IsNoOwner}
 use Rattle.machine_model.proofs.LookFacts.{FindsActive, FindsFull, FindsTaken, FindsVictim}
@@ -140,197 +87,207 @@ reference_more command.End r h = absurd (none_some h)
 reference_more cmd r h = refl
 
 module _ (s : State) (c : ℕ) (o : Outcome) (m : IsMachine s) (there : c < length s.processors) (working : IsWorking s)
-    where
-  abbrev p : Processor
-  p = processor_at s.processors c
+  where
+    abbrev p : Processor
+    p = processor_at s.processors c
 
-  abbrev k : ℕ
-  k = process_at s c
+    abbrev k : ℕ
+    k = process_at s c
 
-  -- an end isn't refused
-  refused_more : (cmd : Command) (r : Reply) → r ≡ reply_to_command s.plan (flat_of s) k cmd → is_refusal r ≡ true
-      → is_end cmd ≡ false
-  refused_more command.End r e h = absurd (let none : false ≡ true = sym (ap is_refusal e) ∙ h in cc)
-  refused_more cmd r e h = refl
+    -- an end isn't refused
+    refused_more : (cmd : Command) (r : Reply) → r ≡ reply_to_command s.plan (flat_of s) k cmd → is_refusal r ≡ true
+        → is_end cmd ≡ false
+    refused_more command.End r e h = absurd (let none : false ≡ true = sym (ap is_refusal e) ∙ h in cc)
+    refused_more cmd r e h = refl
 
-  -- a command that takes something is one of those that do
-  takes_some : (cmd : Command) (fs : List ℕ) (pairs : List (ℕ × ℕ)) → FindsTaken s k cmd fs pairs
-      → (fs ≢ []) ⊎ (pairs ≢ []) → TakesSome (Some cmd)
-  takes_some (command.Acl path row m) fs pairs h some = tt
-  takes_some (command.Terminate n) fs pairs h some = tt
-  takes_some (command.Truncate path words) fs pairs h some = tt
-  takes_some (command.Delete path) fs pairs h some = tt
-  takes_some command.End fs pairs h some = tt
-  takes_some (command.MkDir path volume) fs pairs h some = nothing fs pairs h.frames h.descriptors some
-  takes_some (command.MkSeg path pages volume) fs pairs h some = nothing fs pairs h.frames h.descriptors some
-  takes_some (command.Initiate path) fs pairs h some = nothing fs pairs h.frames h.descriptors some
-  takes_some (command.Length path pages) fs pairs h some = nothing fs pairs h.frames h.descriptors some
-  takes_some (command.Move path amount) fs pairs h some = nothing fs pairs h.frames h.descriptors some
-  takes_some (command.Status path) fs pairs h some = nothing fs pairs h.frames h.descriptors some
-  takes_some (command.Read n w) fs pairs h some = nothing fs pairs h.frames h.descriptors some
-  takes_some (command.Write n w x) fs pairs h some = nothing fs pairs h.frames h.descriptors some
-  takes_some (command.Add n w x) fs pairs h some = nothing fs pairs h.frames h.descriptors some
-  takes_some (command.Await n w x t) fs pairs h some = nothing fs pairs h.frames h.descriptors some
+    -- a command that takes something is one of those that do
+    takes_some : (cmd : Command) (fs : List ℕ) (pairs : List (ℕ × ℕ)) → FindsTaken s k cmd fs pairs
+        → (fs ≢ []) ⊎ (pairs ≢ []) → TakesSome (Some cmd)
+    takes_some (command.Acl path row m) fs pairs h some = tt
+    takes_some (command.Terminate n) fs pairs h some = tt
+    takes_some (command.Truncate path words) fs pairs h some = tt
+    takes_some (command.Delete path) fs pairs h some = tt
+    takes_some command.End fs pairs h some = tt
+    takes_some (command.MkDir path volume) fs pairs h some = nothing fs pairs h.frames h.descriptors some
+    takes_some (command.MkSeg path pages volume) fs pairs h some = nothing fs pairs h.frames h.descriptors some
+    takes_some (command.Initiate path) fs pairs h some = nothing fs pairs h.frames h.descriptors some
+    takes_some (command.Length path pages) fs pairs h some = nothing fs pairs h.frames h.descriptors some
+    takes_some (command.Move path amount) fs pairs h some = nothing fs pairs h.frames h.descriptors some
+    takes_some (command.Status path) fs pairs h some = nothing fs pairs h.frames h.descriptors some
+    takes_some (command.Read n w) fs pairs h some = nothing fs pairs h.frames h.descriptors some
+    takes_some (command.Write n w x) fs pairs h some = nothing fs pairs h.frames h.descriptors some
+    takes_some (command.Add n w x) fs pairs h some = nothing fs pairs h.frames h.descriptors some
+    takes_some (command.Await n w x t) fs pairs h some = nothing fs pairs h.frames h.descriptors some
 
-  -- the command of the process that is here
-  its_command : p.cpu.process ≡ Some k → (x : Command) × Speaks s c k x
-  its_command its = speaks s c k m there its
+    -- the command of the process that is here
+    its_command : p.cpu.process ≡ Some k → (x : Command) × Speaks s c k x
+    its_command its = speaks s c k m there its
 
-  take_knows : (x : Option Owner) → Knows s c (take_or_wait x)
-  take_knows None = tt
-  take_knows (Some q) = tt
+    take_knows : (x : Option Owner) → Knows s c (take_or_wait x)
+    take_knows None = tt
+    take_knows (Some q) = tt
 
-  move_knows : RunsAlone s c → (r : Reference) (x : Move) → Knows s c (by_move s.owner r x)
-  move_knows alone r (move.FillSeg) = tt
-  move_knows alone r (move.FillPage f) = tt
-  move_knows alone r (move.Through f) = alone
-  move_knows alone r (move.Plain answer) = alone
-  move_knows alone r (move.Fault) = take_knows s.owner
+    move_knows : RunsAlone s c → (r : Reference) (x : Move) → Knows s c (by_move s.owner r x)
+    move_knows alone r (move.FillSeg) = tt
+    move_knows alone r (move.FillPage f) = tt
+    move_knows alone r (move.Through f) = alone
+    move_knows alone r (move.Plain answer) = alone
+    move_knows alone r (move.Fault) = take_knows s.owner
 
-  come_knows : IsNoOwner s c → p.cpu.process ≡ Some k → (x : Option Command) → next_command s k ≡ x
-      → Knows s c (come_to s p.cpu k x)
-  come_knows other its None e = take_knows s.owner
-  come_knows other its (Some cmd) e = by (reference_of cmd) refl
-    where
-      sp : Speaks s c k cmd
-      sp = let one = speaks s c k m there its in
-          subst (Speaks s c k) (let same : Some one.0 ≡ Some cmd = sym one.1.next ∙ e in let is : one.0 ≡ cmd = cc in is)
-          one.1
+    come_knows : IsNoOwner s c → p.cpu.process ≡ Some k → (x : Option Command) → next_command s k ≡ x
+        → Knows s c (come_to s p.cpu k x)
+    come_knows other its None e = take_knows s.owner
+    come_knows other its (Some cmd) e = by (reference_of cmd) refl
+      where
+        sp : Speaks s c k cmd
+        sp = let one = speaks s c k m there its in
+            subst (Speaks s c k) (let same : Some one.0 ≡ Some cmd = sym one.1.next
+            ∙ e in let is : one.0 ≡ cmd = cc in is)
+            one.1
 
-      by : (y : Option Reference) → reference_of cmd ≡ y → Knows s c (refer_or_take s p.cpu k y)
-      by None i = take_knows s.owner
-      by (Some r) i = move_knows (record {
-        other = other;
-        one = record { command = cmd; speaks = sp; more = reference_more cmd r i };
-      }) r (move_of s p.cpu k r)
+        by : (y : Option Reference) → reference_of cmd ≡ y → Knows s c (refer_or_take s p.cpu k y)
+        by None i = take_knows s.owner
+        by (Some r) i = move_knows (record {
+          other = other;
+          one = record { command = cmd; speaks = sp; more = reference_more cmd r i };
+        }) r (move_of s p.cpu k r)
 
-  run_knows : IsNoOwner s c → (x : Option ℕ) → p.cpu.process ≡ x → Knows s c (run_process s p x)
-  run_knows other None e = by s.ready
-    where
-      by : (xs : List ℕ) → Knows s c (load_or_idle s xs)
-      by [] = tt
-      by (n ∷ ns) = tt
-  run_knows other (Some n) e = pick s c (has_had_its_turn p && not (is_empty s.ready)) act.Leave
-      (come_to s p.cpu n (next_command s n)) (λ h. tt)
-      (λ h. subst (λ (j : ℕ). Knows s c (come_to s p.cpu j (next_command s j))) (ap or_zero e)
-      (come_knows other (some_of p.cpu.process n e) (next_command s k) refl))
+    run_knows : IsNoOwner s c → (x : Option ℕ) → p.cpu.process ≡ x → Knows s c (run_process s p x)
+    run_knows other None e = by s.ready
+      where
+        by : (xs : List ℕ) → Knows s c (load_or_idle s xs)
+        by [] = tt
+        by (n ∷ ns) = tt
+    run_knows other (Some n) e = pick s c (has_had_its_turn p && not (is_empty s.ready)) act.Leave
+        (come_to s p.cpu n (next_command s n)) (λ h. tt)
+        (λ h. subst (λ (j : ℕ). Knows s c (come_to s p.cpu j (next_command s j))) (ap or_zero e)
+        (come_knows other (some_of p.cpu.process n e) (next_command s k) refl))
 
-  -- ---- the owner looks
+    -- ---- the owner looks
 
-  module _ (l : IsLooking s c) (cmd : Command) (sp : Speaks s c k cmd) where
-    idle : IsIdle s.owner
-    idle = look_idle s c o m.keeps there l
+    module _ (l : IsLooking s c) (cmd : Command) (sp : Speaks s c k cmd) where
+      idle : IsIdle s.owner
+      idle = look_idle s c o m.keeps there l
 
-    abbrev looks : {Finds : Command → Type 0} → Finds cmd → Looks s c Finds
-    looks h = record { looking = l; idle = idle; command = cmd; next = sp.next; finds = h }
+      abbrev looks : {Finds : Command → Type 0} → Finds cmd → Looks s c Finds
+      looks h = record { looking = l; idle = idle; command = cmd; next = sp.next; finds = h }
 
-    look_knows : (a : act.Action) → LookFinds s k cmd a → Knows s c a
-    look_knows (act.Answer r) h =
-        record { command = cmd; speaks = sp; more = refused_more cmd r h.reply h.refuses }
-    look_knows (act.Activate u place) h = l
-    look_knows (act.Connect n u) h = l
-    look_knows (act.Create f u q r) h =
-        record { command = cmd; speaks = sp; more = reference_more cmd r h.finds.is }
-    look_knows (act.Evict f) h = looks h
-    look_knows (act.Empty u) h = looks h
-    look_knows (act.EmptyVictim pool chain u) h = looks h
-    look_knows (act.TakeAway fs pairs w) h = (l, idle, h.2, subst TakesSome (sym sp.next) (takes_some cmd fs pairs h.0 h.2))
-    look_knows act.Commit h = (cmd, sp)
-    look_knows (act.Through f r) h = absurd h
-    look_knows (act.Plain r) h = absurd h
-    look_knows (act.FinishEviction f) h = absurd h
-    look_knows (act.FinishPage f) h = absurd h
-    look_knows (act.Waits why) h = tt
-    look_knows act.GiveUp h = tt
-    look_knows (act.Start f u q) h = tt
-    look_knows act.IsStopped h = tt
-    look_knows act.HasEnded h = tt
-    look_knows act.Online h = tt
-    look_knows (act.Clear w) h = tt
-    look_knows (act.EndTransfer t) h = tt
-    look_knows (act.Load n) h = tt
-    look_knows act.Leave h = tt
-    look_knows (act.FillSeg n) h = tt
-    look_knows (act.FillPage f r) h = tt
-    look_knows act.TakeSupervisor h = tt
-    look_knows (act.Signal w) h = tt
-    look_knows (act.Deactivate u) h = tt
+      look_knows : (a : act.Action) → LookFinds s k cmd a → Knows s c a
+      look_knows (act.Answer r) h =
+          record { command = cmd; speaks = sp; more = refused_more cmd r h.reply h.refuses }
+      look_knows (act.Activate u place) h = l
+      look_knows (act.Connect n u) h = l
+      look_knows (act.Create f u q r) h =
+          record { command = cmd; speaks = sp; more = reference_more cmd r h.finds.is }
+      look_knows (act.Evict f) h = looks h
+      look_knows (act.Empty u) h = looks h
+      look_knows (act.EmptyVictim pool chain u) h = looks h
+      look_knows (act.TakeAway fs pairs w) h = (
+        l,
+        idle,
+        h.2,
+        subst TakesSome (sym sp.next)
+            (takes_some cmd fs pairs h.0 h.2),
+      )
+      look_knows act.Commit h = (cmd, sp)
+      look_knows (act.Through f r) h = absurd h
+      look_knows (act.Plain r) h = absurd h
+      look_knows (act.FinishEviction f) h = absurd h
+      look_knows (act.FinishPage f) h = absurd h
+      look_knows (act.Waits why) h = tt
+      look_knows act.GiveUp h = tt
+      look_knows (act.Start f u q) h = tt
+      look_knows act.IsStopped h = tt
+      look_knows act.HasEnded h = tt
+      look_knows act.Online h = tt
+      look_knows (act.Clear w) h = tt
+      look_knows (act.EndTransfer t) h = tt
+      look_knows (act.Load n) h = tt
+      look_knows act.Leave h = tt
+      look_knows (act.FillSeg n) h = tt
+      look_knows (act.FillPage f r) h = tt
+      look_knows act.TakeSupervisor h = tt
+      look_knows (act.Signal w) h = tt
+      look_knows (act.Deactivate u) h = tt
 
-  -- ---- what was taken goes
+    -- ---- what was taken goes
 
-  -- a drive's failure may be told of the owner's command, which is no end
-  fails_knows : (q : IsMine s c) → p.cpu.process ≡ Some k
-      → MayFailBy s.store (process_at s q.owner.cpu) (next_command s (process_at s q.owner.cpu)) → AnswersOne s c
-  fails_knows q its may = let one = its_command its in record {
-    command = one.0;
-    speaks = one.1;
-    more = fails_more s k (flat_of s) m.keeps.faithful one.0
-        (subst (MayFailBy s.store k) one.1.next
-        (subst (λ (d : ℕ). MayFailBy s.store (process_at s d) (next_command s (process_at s d))) q.same may));
-  }
+    -- a drive's failure may be told of the owner's command, which is no end
+    fails_knows : (q : IsMine s c) → p.cpu.process ≡ Some k
+        → MayFailBy s.store (process_at s q.owner.cpu) (next_command s (process_at s q.owner.cpu)) → AnswersOne s c
+    fails_knows q its may = let one = its_command its in record {
+      command = one.0;
+      speaks = one.1;
+      more = fails_more s k (flat_of s) m.keeps.faithful one.0
+          (subst (MayFailBy s.store k) one.1.next
+          (subst (λ (d : ℕ). MayFailBy s.store (process_at s d) (next_command s (process_at s d))) q.same may));
+    }
 
-  finish_knows : (q : IsMine s c) → p.cpu.process ≡ Some k → (a : Aim) (w : What) → q.owner.phase ≡ phase.Waiting a w
-      → (fs : List ℕ) → Knows s c (finish_of a fs)
-  finish_knows q its aim.Evicting w e [] = tt
-  finish_knows q its aim.Evicting w e (f ∷ fs) = fails_knows q its
-      (subst (λ (y : Phase). FailsIn y s.store (process_at s q.owner.cpu)
-      (next_command s (process_at s q.owner.cpu))) e (working.fails q.owner q.mine))
-  finish_knows q its (aim.Deactivating u) w e [] = tt
-  finish_knows q its (aim.Deactivating u) w e (f ∷ fs) = (q, fails_knows q its
-      (subst (λ (y : Phase). FailsIn y s.store (process_at s q.owner.cpu)
-      (next_command s (process_at s q.owner.cpu))) e (working.fails q.owner q.mine)))
-  finish_knows q its aim.Committing w e fs = its_command its
+    finish_knows : (q : IsMine s c) → p.cpu.process ≡ Some k → (a : Aim) (w : What) → q.owner.phase ≡ phase.Waiting a w
+        → (fs : List ℕ) → Knows s c (finish_of a fs)
+    finish_knows q its aim.Evicting w e [] = tt
+    finish_knows q its aim.Evicting w e (f ∷ fs) = fails_knows q its
+        (subst (λ (y : Phase). FailsIn y s.store (process_at s q.owner.cpu)
+        (next_command s (process_at s q.owner.cpu))) e (working.fails q.owner q.mine))
+    finish_knows q its (aim.Deactivating u) w e [] = tt
+    finish_knows q its (aim.Deactivating u) w e (f ∷ fs) = (
+      q,
+      fails_knows q its
+          (subst (λ (y : Phase). FailsIn y s.store (process_at s q.owner.cpu)
+          (next_command s (process_at s q.owner.cpu))) e (working.fails q.owner q.mine)),
+    )
+    finish_knows q its aim.Committing w e fs = its_command its
 
-  phase_knows : (q : IsMine s c) → p.cpu.process ≡ Some k → (x : Phase) → q.owner.phase ≡ x
-      → Knows s c (go_on_with s k q.owner x)
-  phase_knows q its phase.Looking e = let one = its_command its in
-      subst (λ (y : Option Command). Knows s c (look_of s k y)) (sym one.1.next)
-      (look_knows (record { owner = q; looks = e }) one.0 one.1 (look_of s k (Some one.0)) (look_finds s k one.0))
-  phase_knows q its (phase.Taken a w) e = tt
-  phase_knows q its (phase.Waiting a w) e = by (position is_due s.processors)
-    where
-      by : (x : Option ℕ) → Knows s c (once_cleared x (finish_of a q.owner.frames))
-      by None = finish_knows q its a w e q.owner.frames
-      by (Some d) = tt
+    phase_knows : (q : IsMine s c) → p.cpu.process ≡ Some k → (x : Phase) → q.owner.phase ≡ x
+        → Knows s c (go_on_with s k q.owner x)
+    phase_knows q its phase.Looking e = let one = its_command its in
+        subst (λ (y : Option Command). Knows s c (look_of s k y)) (sym one.1.next)
+        (look_knows (record { owner = q; looks = e }) one.0 one.1 (look_of s k (Some one.0)) (look_finds s k one.0))
+    phase_knows q its (phase.Taken a w) e = tt
+    phase_knows q its (phase.Waiting a w) e = by (position is_due s.processors)
+      where
+        by : (x : Option ℕ) → Knows s c (once_cleared x (finish_of a q.owner.frames))
+        by None = finish_knows q its a w e q.owner.frames
+        by (Some d) = tt
 
-  -- ---- the rules in their order
+    -- ---- the rules in their order
 
-  owner_knows : (x : Option Owner) → s.owner ≡ x → Knows s c (own_or_run s c p x)
-  owner_knows None e = run_knows (λ q h. absurd (none_some (sym e ∙ h))) p.cpu.process refl
-  owner_knows (Some q) e = pick s c (eqb q.cpu c) (go_on_with s k q q.phase) (run_process s p p.cpu.process)
-      (λ h. mine (is h)) (λ h. run_knows (others h) p.cpu.process refl)
-    where
-      is : eqb q.cpu c ≡ true → q.cpu ≡ c
-      is h = elim (eqb_tells q.cpu c) [
-        | inl y ↦ y.1
-        | inr n ↦ absurd (let none : true ≡ false = sym h ∙ n.0 in cc)
-      ]
+    owner_knows : (x : Option Owner) → s.owner ≡ x → Knows s c (own_or_run s c p x)
+    owner_knows None e = run_knows (λ q h. absurd (none_some (sym e ∙ h))) p.cpu.process refl
+    owner_knows (Some q) e = pick s c (eqb q.cpu c) (go_on_with s k q q.phase) (run_process s p p.cpu.process)
+        (λ h. mine (is h)) (λ h. run_knows (others h) p.cpu.process refl)
+      where
+        is : eqb q.cpu c ≡ true → q.cpu ≡ c
+        is h = elim (eqb_tells q.cpu c) [
+          | inl y ↦ y.1
+          | inr n ↦ absurd (let none : true ≡ false = sym h ∙ n.0 in cc)
+        ]
 
-      owner_is : (x y : Owner) → Some x ≡ Some y → x ≡ y
-      owner_is x y h = cc
+        owner_is : (x y : Owner) → Some x ≡ Some y → x ≡ y
+        owner_is x y h = cc
 
-      others : eqb q.cpu c ≡ false → IsNoOwner s c
-      others h x g y = elim (eqb_tells q.cpu c) [
-        | inl a ↦ (let none : true ≡ false = sym a.0 ∙ h in cc)
-        | inr n ↦ n.1 (ap (λ (z : Owner). z.cpu) (owner_is q x (sym e ∙ g)) ∙ y)
-      ]
+        others : eqb q.cpu c ≡ false → IsNoOwner s c
+        others h x g y = elim (eqb_tells q.cpu c) [
+          | inl a ↦ (let none : true ≡ false = sym a.0 ∙ h in cc)
+          | inr n ↦ n.1 (ap (λ (z : Owner). z.cpu) (owner_is q x (sym e ∙ g)) ∙ y)
+        ]
 
-      mine : q.cpu ≡ c → Knows s c (go_on_with s k q q.phase)
-      mine same = phase_knows (record { owner = q; mine = e; same = same })
-          (process_here s c o m.keeps there (record { owner = q; mine = e; same = same })) q.phase refl
+        mine : q.cpu ≡ c → Knows s c (go_on_with s k q q.phase)
+        mine same = phase_knows (record { owner = q; mine = e; same = same })
+            (process_here s c o m.keeps there (record { owner = q; mine = e; same = same })) q.phase refl
 
-  transfer_knows : (x : Option Transfer) → Knows s c (transfer_or s c p x)
-  transfer_knows (Some t) = tt
-  transfer_knows None = owner_knows s.owner refl
+    transfer_knows : (x : Option Transfer) → Knows s c (transfer_or s c p x)
+    transfer_knows (Some t) = tt
+    transfer_knows None = owner_knows s.owner refl
 
-  clear_knows : (x : Option What) → Knows s c (clear_or s c p x)
-  clear_knows (Some w) = tt
-  clear_knows None = transfer_knows p.cpu.transfer
+    clear_knows : (x : Option What) → Knows s c (clear_or s c p x)
+    clear_knows (Some w) = tt
+    clear_knows None = transfer_knows p.cpu.transfer
 
-  -- What the rules know of the action of a step.
-  pub step_knows : Knows s c (action_of s c)
-  unfolding action_of
-  step_knows = pick s c s.stopped act.IsStopped _ (λ h. tt)
-      (λ h. pick s c (is_over s) act.HasEnded _ (λ e. tt)
-      (λ e. pick s c (not p.cpu.online) act.Online _ (λ off. tt)
-      (λ on. clear_knows p.cpu.due)))
+    -- What the rules know of the action of a step.
+    pub step_knows : Knows s c (action_of s c)
+    unfolding action_of
+    step_knows = pick s c s.stopped act.IsStopped _ (λ h. tt)
+        (λ h. pick s c (is_over s) act.HasEnded _ (λ e. tt)
+        (λ e. pick s c (not p.cpu.online) act.Online _ (λ off. tt)
+        (λ on. clear_knows p.cpu.due)))

@@ -1,40 +1,35 @@
 -- What a look that takes asks: what a tree command must have out of use, and what is taken of a segment.
-use Rattle.std.proofs.Common.{◌≡◌, ◌≢◌, ◌<◌, ◌≤◌, ℕ, zero, suc, ◌+◌, Bool, true, false, ◌||◌, ◌&&◌, cond, eqb, List, [], ◌∷◌}
-use Rattle.std.proofs.Common.{map, Option, Some, None, ◌⊎◌, inl, inr, refl, sym, ap, subst, ◌∙◌, arith}
+use Rattle.std.proofs.Common.{◌≡◌, ◌<◌, ℕ, zero, suc, ◌+◌, Bool, true, false, ◌||◌, ◌&&◌, cond, eqb, List, [], ◌∷◌}
+use Rattle.std.proofs.Common.{map, Some, inl, inr, refl, sym, ap, subst, ◌∙◌, arith}
 use Rattle.std.specs.Prelude.{◌/◌}
 use Rattle.std.specs.List.{filter, range_with_len}
 use Rattle.std.proofs.lemmas.Bool.Decides.{eqb_tells}
-use Rattle.script.specs.References.{reference_of}
 use Rattle.script.specs.declared.commands.Command.{Command}
 use Rattle.script.specs.declared.commands.Command.TheVariants as command
 use Rattle.assoc_mem.specs.declared.What.{What}
 use Rattle.assoc_mem.specs.declared.What.TheVariants as what
-use Rattle.known_segs.specs.Known.{uid_of}
 use Rattle.descriptor_seg.specs.declared.Sdw.{Sdw}
 use Rattle.descriptor_seg.specs.declared.Sdw.TheVariants as sdw
-use Rattle.seg_control.specs.Control.{leads, leads_at}
+use Rattle.seg_control.specs.Control.{leads}
 use Rattle.seg_control.specs.Kept.{IsKnownAt}
-use Rattle.custody_model.specs.Custody.{has}
-use Rattle.machine_model.specs.declared.Aim.{Aim}
 use Rattle.machine_model.specs.declared.Aim.TheVariants as aim
 use Rattle.machine_model.specs.Actions as act
 use Rattle.machine_model.specs.Actions.{descriptors_taken, first_taken, frames_taken, what_taken}
 use Rattle.machine_model.specs.After.{Outcome}
 use Rattle.machine_model.specs.Holding.{led_to, seen}
 use Rattle.machine_model.specs.Keeps.{Keeps}
-use Rattle.machine_model.specs.Reads.{connected_of, descriptor_of, frames_from, is_connected, or_zero, trailers_in}
+use Rattle.machine_model.specs.Reads.{descriptor_of, is_connected, or_zero}
 use Rattle.machine_model.specs.Refusal.{uid_of_command, uid_of_number}
 use Rattle.machine_model.specs.Said.{Says}
 use Rattle.machine_model.specs.Seen.{shown}
 use Rattle.machine_model.specs.State.{State}
-use Rattle.machine_model.proofs.ChainLaws.{CanTakeAll, names_uid}
+use Rattle.machine_model.proofs.ChainLaws.{CanTakeAll}
 use Rattle.machine_model.proofs.CutRights.{take_away_says}
 use Rattle.machine_model.proofs.LookFacts.{FindsTaken}
 use Rattle.machine_model.proofs.OwnedLaws.{IsIdle}
 use Rattle.machine_model.proofs.OwnerLaws.{idle_names}
 use Rattle.machine_model.proofs.RuleKept.{AsksTake}
 use Rattle.machine_model.proofs.TakeLists.{pages_bound, pages_taken, trailers_taken}
-use Rattle.machine_model.proofs.TieLaws.{none_some}
 use Rattle.machine_model.proofs.TookKept.{ArePairs, CanTook, has_pair, is_pair}
 
 own : (n : ℕ) → eqb n n ≡ true
@@ -87,7 +82,8 @@ module _ (s : State) (k : ℕ) (keeps : Keeps s) (idle : IsIdle s.owner) where
       (later_none (from + 1) n j (omega (arith, less)))
     where
       rest : List (ℕ × ℕ)
-      rest = map (λ i. (k, i)) (filter (λ i. is_connected (descriptor_of s.store.links k i)) (range_with_len (from + 1) n))
+      rest = map (λ i. (k, i)) (filter (λ i. is_connected (descriptor_of s.store.links k i)) (range_with_len
+          (from + 1) n))
 
       other : is_pair k j (k, from) ≡ false
       other = elim (eqb_tells from j) [
@@ -136,11 +132,12 @@ module _ (s : State) (k : ℕ) (keeps : Keeps s) (idle : IsIdle s.owner) where
     bound = pages_bound s u 0 keeps;
     pairs_are = trailers_taken s (what.Seg u) u keeps (own u);
   }
-  command_takes (command.Truncate path words) = let u = uid_of_command s.store k (command.Truncate path words) in record {
-    pages = pages_taken s aim.Committing (what.Seg u) u (words / 1024) keeps idle (own u) (λ gs ds. tt);
-    bound = pages_bound s u (words / 1024) keeps;
-    pairs_are = tt;
-  }
+  command_takes (command.Truncate path words) = let u = uid_of_command s.store k
+      (command.Truncate path words) in record {
+        pages = pages_taken s aim.Committing (what.Seg u) u (words / 1024) keeps idle (own u) (λ gs ds. tt);
+        bound = pages_bound s u (words / 1024) keeps;
+        pairs_are = tt;
+      }
   command_takes (command.Terminate n) = record {
     pages = no_pages (what.Seg (uid_of_number s.store k n));
     bound = λ f h. absurd (let none : false ≡ true = h in cc);

@@ -1,18 +1,14 @@
 -- What the owner's job rests on stays so through every action.
-use Rattle.std.proofs.Common.{◌≡◌, ◌≢◌, ◌<◌, ◌≤◌, ℕ, Bool, true, false, not, ◌&&◌, cond, eqb, is_some, List, [], ◌∷◌, ◌++◌}
-use Rattle.std.proofs.Common.{length, map, set, Option, Some, None, ◌⊎◌, inl, inr, refl, sym, ap, subst, ◌∙◌, arith}
-use Rattle.std.specs.Prelude.{nat_le, Result, Ok, Err}
-use Rattle.std.proofs.lemmas.Bool.Decides.{eqb_tells, leb_tells}
-use Rattle.std.proofs.lemmas.List.{get_or-set_other, length-set}
+use Rattle.std.proofs.Common.{◌≡◌, ◌≤◌, ℕ, Bool, true, false, cond, List, [], ◌∷◌, ◌++◌}
+use Rattle.std.proofs.Common.{Option, Some, None, ◌⊎◌, inl, inr, refl, sym, ap, subst, ◌∙◌, arith}
+use Rattle.std.specs.Prelude.{nat_le, Result, Ok}
+use Rattle.std.proofs.lemmas.Bool.Decides.{leb_tells}
 use Rattle.script.specs.Plans.{Plan}
 use Rattle.script.specs.References.{reference_of}
 use Rattle.script.specs.declared.commands.Command.{Command}
 use Rattle.script.specs.declared.commands.Command.TheVariants as command
 use Rattle.script.specs.declared.commands.Reference.{Reference}
-use Rattle.assoc_mem.specs.declared.What.{What}
-use Rattle.assoc_mem.specs.declared.What.TheVariants as what
 use Rattle.book.specs.declared.entries.Entry.{Entry}
-use Rattle.book.specs.declared.entries.Entry.TheVariants as entry
 use Rattle.book.specs.declared.replies.Reply.{Reply}
 use Rattle.book.specs.declared.replies.Reply.TheVariants as reply
 use Rattle.tree_model.specs.Tree.{Node, node_in}
@@ -20,10 +16,8 @@ use Rattle.flat_model.specs.Branches.{segment_at}
 use Rattle.flat_model.specs.Legal.{store_after}
 use Rattle.flat_model.specs.Pages.{is_stored, is_stored_from}
 use Rattle.flat_model.specs.Sizes.{length_of, length_reply}
-use Rattle.flat_model.specs.Store.{Store}
 use Rattle.flat_model.proofs.PageLaws.{stored_from}
 use Rattle.storage_ops.specs.Shown.{is_filed, refusal}
-use Rattle.custody_model.specs.Allowed.{superior_in}
 use Rattle.custody_model.specs.Clean.{custody_after}
 use Rattle.custody_model.specs.Custody.{Custody}
 use Rattle.custody_model.proofs.CleanLaws.{custody_after-push}
@@ -31,26 +25,20 @@ use Rattle.machine_model.specs.declared.Aim.{Aim}
 use Rattle.machine_model.specs.declared.Aim.TheVariants as aim
 use Rattle.machine_model.specs.declared.Phase.{Phase}
 use Rattle.machine_model.specs.declared.Phase.TheVariants as phase
-use Rattle.machine_model.specs.declared.Processor.{Processor}
-use Rattle.machine_model.specs.declared.Run.{Run}
 use Rattle.machine_model.specs.Holding.{holding}
 use Rattle.machine_model.specs.Keeps.{Keeps}
-use Rattle.machine_model.specs.Promise.{IsMachine}
-use Rattle.machine_model.specs.Reads.{cpu_at, flat_of, is_active, next_command, no_processor, no_run, or_zero}
-use Rattle.machine_model.specs.Reads.{process_at, processor_at, run_at}
+use Rattle.machine_model.specs.Reads.{flat_of}
 use Rattle.machine_model.specs.Refusal.{outside_refusal, refusal_of, uid_of_number}
 use Rattle.known_segs.specs.Known.{uid_of}
 use Rattle.seg_control.specs.Control.{kst_at}
-use Rattle.machine_model.specs.State.{Owner, State, Storage}
-use Rattle.machine_model.specs.Whole.{IsWhole, Spares, TakenWhole, going_for}
-use Rattle.machine_model.specs.Working.{FailsBy, FailsIn, IsLeaf, IsReached, IsWorking, MayChange, MayFailBy}
+use Rattle.machine_model.specs.State.{State, Storage}
+use Rattle.machine_model.specs.Whole.{IsWhole, Spares}
+use Rattle.machine_model.specs.Working.{FailsBy, FailsIn, MayChange, MayFailBy}
 use Rattle.machine_model.proofs.CommandFacts.{LeadsToSegment, length_stands, truncate_stands}
 use Rattle.machine_model.proofs.FlatAlike.{append_assoc, append_nil}
 use Rattle.machine_model.proofs.InsideLaws.{inside_is}
-use Rattle.machine_model.proofs.KeepLaws.{IsNoOwner}
-use Rattle.machine_model.proofs.LookFacts.{FindsActive, FindsCut, FindsFull, FindsPage, FindsVictim, IsAbout}
-use Rattle.machine_model.proofs.TieLaws.{none_some}
-use Rattle.machine_model.proofs.WholeLaws.{whole_idle, whole_next}
+use Rattle.machine_model.proofs.LookFacts.{FindsActive, FindsCut, FindsPage, IsAbout}
+use Rattle.machine_model.proofs.WholeLaws.{whole_next}
 
 no_and : {b : Bool} → b ≡ true → b ≡ false → ⊥
 no_and t f = let none : true ≡ false = sym t ∙ f in cc
@@ -85,15 +73,20 @@ pub record IsLess (old now : Storage) : Type 0 where
   pub filed : (u q : ℕ) → is_filed old.accounts old.pages.vtocs u q ≡ false
       → is_filed now.accounts now.pages.vtocs u q ≡ false
 
-pub fails_less : (old now : Storage) (k : ℕ) (x : Option Command) → IsLess old now → MayFailBy old k x → MayFailBy now k x
+pub fails_less : (old now : Storage) (k : ℕ) (x : Option Command) → IsLess old now → MayFailBy old k x
+    → MayFailBy now k x
 fails_less old now k None less h = absurd h
-fails_less old now k (Some c) less (inl h) = inl (h.0, h.1, record {
-  uid = h.2.uid;
-  stands = ap (λ (x : List (List (Option ℕ))). uid_of (kst_at x k) h.0.number) less.known ∙ h.2.stands;
-  node = h.2.node;
-  there = ap (λ (ns : List Node). node_in ns h.2.uid) less.nodes ∙ h.2.there;
-  within = h.2.within;
-})
+fails_less old now k (Some c) less (inl h) = inl (
+  h.0,
+  h.1,
+  record {
+    uid = h.2.uid;
+    stands = ap (λ (x : List (List (Option ℕ))). uid_of (kst_at x k) h.0.number) less.known ∙ h.2.stands;
+    node = h.2.node;
+    there = ap (λ (ns : List Node). node_in ns h.2.uid) less.nodes ∙ h.2.there;
+    within = h.2.within;
+  },
+)
 fails_less old now k (Some c) less (inr h) = inr (by c h)
   where
     by : (d : Command) → MayChange old.accounts.nodes (is_filed old.accounts old.pages.vtocs) d
@@ -135,14 +128,18 @@ none_from_is s k path pages n found stands = by (is_stored_from (flat_of s).stor
 module _ (s : State) (k : ℕ) (cmd : Command) (keeps : Keeps s) where
   reference_fails : (r : Reference) → reference_of cmd ≡ Some r → outside_refusal s k r ≡ None
       → MayFailBy s.store k (Some cmd)
-  reference_fails r is inside = let h = inside_is s k r keeps inside in inl (r, is, record {
-    uid = uid_of_number s.store k r.number;
-    stands = ap (λ (x : List (List (Option ℕ))). uid_of (kst_at x k) r.number) (sym keeps.faithful.known) ∙ h.known;
-    node = h.node;
-    there = ap (λ (ns : List Node). node_in ns (uid_of_number s.store k r.number)) (sym keeps.faithful.tree.nodes)
-        ∙ h.there;
-    within = h.within;
-  })
+  reference_fails r is inside = let h = inside_is s k r keeps inside in inl (
+    r,
+    is,
+    record {
+      uid = uid_of_number s.store k r.number;
+      stands = ap (λ (x : List (List (Option ℕ))). uid_of (kst_at x k) r.number) (sym keeps.faithful.known) ∙ h.known;
+      node = h.node;
+      there = ap (λ (ns : List Node). node_in ns (uid_of_number s.store k r.number)) (sym keeps.faithful.tree.nodes)
+          ∙ h.there;
+      within = h.within;
+    },
+  )
 
   same_path : (path : List (List ℕ)) (n : Node) → segment_at (flat_of s).nodes path ≡ Ok n
       → segment_at s.store.accounts.nodes path ≡ Ok n

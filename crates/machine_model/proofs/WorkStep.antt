@@ -1,7 +1,6 @@
 -- After each action the owner's job rests on what it rested on, or has another.
-use Rattle.std.proofs.Common.{◌≡◌, ◌≢◌, ◌<◌, ℕ, Bool, true, false, not, ◌&&◌, cond, eqb, is_some, List, [], ◌∷◌, ◌++◌}
-use Rattle.std.proofs.Common.{length, set, Option, Some, None, ◌⊎◌, inl, inr, refl, sym, ap, subst, ◌∙◌}
-use Rattle.std.proofs.lemmas.Bool.Decides.{eqb_tells}
+use Rattle.std.proofs.Common.{◌≡◌, ◌≢◌, ℕ, Bool, true, false, not, ◌&&◌, cond, eqb, is_some, List, [], ◌∷◌, ◌++◌}
+use Rattle.std.proofs.Common.{set, Option, Some, None, ◌⊎◌, inl, inr, refl, sym, ap, subst, ◌∙◌}
 use Rattle.std.proofs.lemmas.List.{get_or-set_other, get_or-set_same}
 use Rattle.std.specs.Prelude.{◌%◌}
 use Rattle.script.specs.declared.commands.Reference.{Reference}
@@ -21,7 +20,7 @@ use Rattle.machine_model.proofs.LookFacts.{FindsActive, FindsFull, FindsVictim}
 use Rattle.machine_model.proofs.StepKept.{hand_kept}
 use Rattle.machine_model.proofs.TransferKept.{active_at}
 use Rattle.machine_model.proofs.WorkKept.{about_fails, length_fails, page_fails}
-use Rattle.script.specs.Plans.{Plan, command_at}
+use Rattle.script.specs.Plans.{command_at}
 use Rattle.script.specs.declared.commands.Command.{Command}
 use Rattle.assoc_mem.specs.declared.What.{What}
 use Rattle.assoc_mem.specs.declared.What.TheVariants as what
@@ -40,16 +39,13 @@ use Rattle.page_control.specs.Plain.{Plain}
 use Rattle.seg_control.specs.Control.{is_for}
 use Rattle.std.specs.List.{list_any}
 use Rattle.active_segs.specs.Victim.{first_off_chain, hand_past}
-use Rattle.flat_model.specs.Legal.{store_after}
 use Rattle.flat_model.specs.Pages.{is_stored}
 use Rattle.flat_model.specs.References.{word_reply}
 use Rattle.flat_model.specs.Store.{Store}
 use Rattle.flat_model.proofs.PageLaws.{is_stored-without}
 use Rattle.storage_ops.specs.Shown.{is_filed}
 use Rattle.custody_model.specs.Allowed.{superior_in}
-use Rattle.custody_model.specs.declared.FrameUse.{FrameUse}
 use Rattle.custody_model.specs.declared.FrameUse.TheVariants as frame
-use Rattle.machine_model.specs.declared.Aim.{Aim}
 use Rattle.machine_model.specs.declared.Aim.TheVariants as aim
 use Rattle.machine_model.specs.declared.Phase.{Phase}
 use Rattle.machine_model.specs.declared.Phase.TheVariants as phase
@@ -60,20 +56,21 @@ use Rattle.machine_model.specs.Actions.{any_page}
 use Rattle.machine_model.specs.After.{Outcome, after}
 use Rattle.machine_model.specs.Commits.{committed_at}
 use Rattle.machine_model.specs.Holding.{holding, seen}
-use Rattle.machine_model.specs.Jobs.{deactivation_begun, emptied, entries_left, eviction_begun, left_of, owner_signalled}
-use Rattle.machine_model.specs.Jobs.{page_done, page_in, segment_taken, signalled, take_one, told_from, took}
+use Rattle.machine_model.specs.Jobs.{deactivation_begun, emptied, entries_left, eviction_begun, left_of}
+use Rattle.machine_model.specs.Jobs.{owner_signalled}
+use Rattle.machine_model.specs.Jobs.{page_done, page_in, segment_taken, signalled, took}
 use Rattle.machine_model.specs.Jobs.{victim_taken, with_hand_moved, without_first_frame, write_failed}
 use Rattle.machine_model.specs.Keeps.{Keeps}
 use Rattle.machine_model.specs.Promise.{IsMachine}
-use Rattle.machine_model.specs.Reads.{cpu_at, flat_of, frame_reading, frames_from, frames_of_owner, is_active}
-use Rattle.machine_model.specs.Reads.{next_command, no_processor, no_run, or_zero, process_at, processor_at, run_at}
+use Rattle.machine_model.specs.Reads.{cpu_at, flat_of, frame_reading, frames_from, is_active}
+use Rattle.machine_model.specs.Reads.{next_command, no_processor, no_run, or_zero, process_at, run_at}
 use Rattle.machine_model.specs.Reads.{trailers_in}
 use Rattle.machine_model.specs.Said.{without_left}
-use Rattle.machine_model.specs.Seen.{frame_use, shown}
+use Rattle.machine_model.specs.Seen.{frame_use}
 use Rattle.machine_model.specs.State.{Owner, State, Storage}
-use Rattle.machine_model.specs.Steps.{fault_told, frame_lost, looking, pages_after, told, told_by, transfer_failed}
+use Rattle.machine_model.specs.Steps.{fault_told, frame_lost, looking, pages_after, told, transfer_failed}
 use Rattle.machine_model.specs.Steps.{transferred, with_faults, with_pages, with_store}
-use Rattle.machine_model.specs.Whole.{IsWhole, TakenWhole, goes_in, going_for}
+use Rattle.machine_model.specs.Whole.{TakenWhole, goes_in, going_for}
 use Rattle.machine_model.specs.Working.{FailsIn, IsLeaf, IsWorking, MayFailBy, TakesSome}
 use Rattle.machine_model.proofs.EmptyAsks.{segment_inferiors, unread_any}
 use Rattle.machine_model.proofs.FlatAlike.{append_assoc}
@@ -414,10 +411,12 @@ module _ (s : State) (c : ℕ) (o : Outcome) (m : IsMachine s) (w : IsWorking s)
   pages_less f r = record {
     nodes = refl;
     known = refl;
-    filed = λ u q e. ap (λ (v : List (List (Option VtocEntry))). is_filed s.store.accounts v u q) (by (alters r.kind)) ∙ e;
+    filed = λ u q e. ap (λ (v : List (List (Option VtocEntry))). is_filed s.store.accounts v u q) (by
+        (alters r.kind)) ∙ e;
   }
     where
-      by : (b : Bool) → (cond b (word_put s.store.pages f (r.offset % 1024) (new_word (old_word s.store.pages f r) r.kind))
+      by : (b : Bool) → (cond b (word_put s.store.pages f (r.offset % 1024) (new_word
+          (old_word s.store.pages f r) r.kind))
           (referred s.store.pages f false)).vtocs ≡ s.store.pages.vtocs
       by true = refl
       by false = refl
@@ -467,7 +466,8 @@ module _ (s : State) (c : ℕ) (o : Outcome) (m : IsMachine s) (w : IsWorking s)
       (sym (ap (λ (x : Processor). x.cpu.process) e) ∙ its failed)))))
 
   leaving_filed : (st : Storage) (f : ℕ) (x : Option (ℕ × ℕ)) (u q : ℕ)
-      → is_filed (leaving_if st f x).accounts (leaving_if st f x).pages.vtocs u q ≡ is_filed st.accounts st.pages.vtocs u q
+      → is_filed (leaving_if st f x).accounts (leaving_if st f x).pages.vtocs u q ≡ is_filed st.accounts
+      st.pages.vtocs u q
   leaving_filed st f None u q = refl
   leaving_filed st f (Some page) u q = refl
 
@@ -518,8 +518,11 @@ module _ (s : State) (c : ℕ) (o : Outcome) (m : IsMachine s) (w : IsWorking s)
         active = λ u. refl;
         more = entry.Here t.frame t.uid t.page ∷ [];
         book = refl;
-        spares = λ u h. (started_spares (holding s) u t.frame t.uid t.page (w.whole.whole u h)
-            (was_started t may.1), tt);
+        spares = λ u h. (
+          started_spares (holding s) u t.frame t.uid t.page (w.whole.whole u h)
+              (was_started t may.1),
+          tt,
+        );
         process = λ q h. ap or_zero (set_process s c keeps w may.0 _ q h);
         next = λ q h. refl;
       }))
@@ -576,19 +579,20 @@ module _ (s : State) (c : ℕ) (o : Outcome) (m : IsMachine s) (w : IsWorking s)
       (subst (MayFailBy s.store (process_at s c)) (sym may.next)
       (length_fails s (process_at s c) may.command keeps u may.finds))
   work_kept (act.EmptyVictim pool chain u) may kept = victim_fails pool chain u may
-  work_kept (act.TakeAway fs pairs v) may kept = let has = took_owner s c aim.Committing v fs pairs may.1.frames may.2 in record {
-    whole = whole_idle (took s c aim.Committing v fs pairs) (ap going_for has.owner);
-    leaf = λ u h. absurd (none_some (sym (ap going_for has.owner) ∙ h));
-    fails = λ q h. subst (λ (y : Owner). FailsIn y.phase (took s c aim.Committing v fs pairs).store
-        (process_at (took s c aim.Committing v fs pairs) y.cpu)
-        (next_command (took s c aim.Committing v fs pairs) (process_at (took s c aim.Committing v fs pairs) y.cpu)))
-        (some_same _ q (sym has.owner ∙ h))
-        (subst (λ (j : ℕ). TakesSome (next_command (took s c aim.Committing v fs pairs) j))
-        (sym (ap (λ (ps : List Processor). or_zero (cpu_at ps c).process)
-        (took_like s c aim.Committing v fs pairs).processors))
-        (subst TakesSome (λ i. command_at (sym (took_like s c aim.Committing v fs pairs).plan i) (process_at s c)
-        (run_at (sym (took_like s c aim.Committing v fs pairs).runs i) (process_at s c)).place) may.3));
-  }
+  work_kept (act.TakeAway fs pairs v) may kept = let has = took_owner s c aim.Committing v fs pairs may.1.frames may.2
+      in record {
+        whole = whole_idle (took s c aim.Committing v fs pairs) (ap going_for has.owner);
+        leaf = λ u h. absurd (none_some (sym (ap going_for has.owner) ∙ h));
+        fails = λ q h. subst (λ (y : Owner). FailsIn y.phase (took s c aim.Committing v fs pairs).store
+            (process_at (took s c aim.Committing v fs pairs) y.cpu)
+            (next_command (took s c aim.Committing v fs pairs) (process_at (took s c aim.Committing v fs pairs) y.cpu)))
+            (some_same _ q (sym has.owner ∙ h))
+            (subst (λ (j : ℕ). TakesSome (next_command (took s c aim.Committing v fs pairs) j))
+            (sym (ap (λ (ps : List Processor). or_zero (cpu_at ps c).process)
+            (took_like s c aim.Committing v fs pairs).processors))
+            (subst TakesSome (λ i. command_at (sym (took_like s c aim.Committing v fs pairs).plan i) (process_at s c)
+            (run_at (sym (took_like s c aim.Committing v fs pairs).runs i) (process_at s c)).place) may.3));
+      }
   work_kept (act.Signal v) may kept = signal_work s c keeps w v kept
   work_kept (act.FinishEviction f) may kept = by_end o (eviction_done (with_faults s o.faults) c f)
       (write_failed s c o.faults) kept (λ h. looking_work _ (looking c) refl refl) (λ e h. none_work _ refl)
