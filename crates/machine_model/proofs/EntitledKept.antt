@@ -75,7 +75,7 @@ module _ (nodes : List Node) (whos : List Who) (known : List (List (Option ℕ))
       by false rest = rest
 
   -- one processor is another
-  set_entitled : (ps : List Processor) (c : ℕ) (p : Processor) → c < length ps → HoldEntitled nodes whos known ps
+  pub set_entitled : (ps : List Processor) (c : ℕ) (p : Processor) → c < length ps → HoldEntitled nodes whos known ps
       → ((k : ℕ) → p.cpu.process ≡ Some k → AreEntitled nodes whos known k p.cpu.assoc.segs)
       → HoldEntitled nodes whos known (set ps c p)
   set_entitled ps c p there h one = record { each = λ d k i. by d k i (eqb_tells c d) }

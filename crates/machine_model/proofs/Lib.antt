@@ -98,6 +98,7 @@ pub mod MachineKept
 pub mod MachineBoot
 pub mod CommitAsks
 pub mod ForeseeLaws
+pub mod CommitRights
 pub mod StepKept
 pub mod StepLaws
 pub mod TakeAsks

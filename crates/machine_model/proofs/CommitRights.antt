@@ -1,0 +1,319 @@
+-- What processors hold stays what their processes may do where a command leaves the access lists, the lengths and the
+-- numbers of what it doesn't take away.
+use Rattle.std.proofs.Common.{◌≡◌, ◌≢◌, ◌⊎◌, ◌<◌, ℕ, Bool, true, false, cond, eqb, length, set, List, [], ◌∷◌, Option, Some, None, refl, sym}
+use Rattle.std.proofs.Common.{inl, inr, ap, subst, ◌∙◌, arith}
+use Rattle.std.proofs.lemmas.Bool.Decides.{eqb_tells}
+use Rattle.std.proofs.lemmas.List.{get_or-set_same, length-set}
+use Rattle.mnames.specs.declared.principals.Who.{Who}
+use Rattle.assoc_mem.specs.declared.HeldSeg.{HeldSeg}
+use Rattle.known_segs.specs.Known.{uid_of}
+use Rattle.tree_model.specs.Tree.{Node, above, node_in, without_node}
+use Rattle.tree_model.specs.Quotas.{getter_of, giver_of, with_quota_of}
+use Rattle.flat_model.specs.Rights.{nodes_moved}
+use Rattle.std.proofs.Common.{◌+◌, ◌-◌, ℤ, map}
+use Rattle.std.specs.Int.{is_positive}
+use Rattle.std.specs.Int.RustNames.{unsigned_abs}
+use Rattle.seg_control.specs.Control.{kst_at}
+use Rattle.flat_model.proofs.RemoveLaws.{node_gone, node_left}
+use Rattle.tree_model.specs.Access.{access_of}
+use Rattle.storage_ops.specs.Shown.{who_at}
+use Rattle.machine_model.specs.Entitled.{AreEntitled, HoldEntitled, IsEntitled}
+use Rattle.machine_model.specs.Reads.{cpu_at}
+use Rattle.machine_model.specs.declared.Processor.{Processor}
+use Rattle.std.proofs.Common.{◌%◌, ◌/◌}
+use Rattle.script.specs.declared.commands.Command.{Command}
+use Rattle.script.specs.declared.commands.Command.TheVariants as command
+use Rattle.tree_model.specs.Access.{Row}
+use Rattle.core_map.specs.CoreMap.{bound_page}
+use Rattle.page_table.specs.declared.Ptw.{Ptw}
+use Rattle.page_table.specs.declared.Ptw.TheVariants as ptw
+use Rattle.page_control.specs.Effects.{cut, erased}
+use Rattle.page_control.specs.Plain.{frame_in, words_in}
+use Rattle.seg_control.specs.Control.{word_of}
+use Rattle.flat_model.specs.Branches.{parts_of}
+use Rattle.processor.specs.declared.Cpu.{Cpu}
+use Rattle.machine_model.specs.Commits.{committed, committed_at, pages_past, with_cut, with_cut_in, with_made, with_truncated}
+use Rattle.machine_model.specs.Commits.{frames_freed, inactive_if, with_deleted, without_page, without_pages}
+use Rattle.machine_model.specs.Entitled.{IsEntitledToAll}
+use Rattle.machine_model.specs.Jobs.{are_zeros, here_if, with_here, with_inactive}
+use Rattle.machine_model.specs.Keeps.{Keeps}
+use Rattle.machine_model.specs.Reads.{frames_of_owner, home_in, is_active, process_at}
+use Rattle.machine_model.specs.Refusal.{reply_of, uid_of_command}
+use Rattle.machine_model.specs.State.{State, Storage}
+use Rattle.machine_model.specs.Steps.{told, with_pages}
+use Rattle.machine_model.proofs.CommitKept.{effected}
+use Rattle.machine_model.proofs.EntitledKept.{set_entitled}
+use Rattle.machine_model.proofs.TieLaws.{none_some}
+
+-- each older node that is there now was there, with these rows and pages
+pub record HaveFrom (old now : List Node) (next : ℕ) : Type 0 where
+  pub each : (u : ℕ) (n : Node) → u < next → node_in now u ≡ Some n → (m : Node) × (node_in old u ≡ Some m)
+      × (n.rows ≡ m.rows) × (n.pages ≡ m.pages)
+
+pub from_same : (ns : List Node) (next : ℕ) → HaveFrom ns ns next
+from_same ns next = record { each = λ u n less h. (n, h, refl, refl) }
+
+-- a node more
+pub from_more : (ns : List Node) (b : Node) (next : ℕ) → b.uid ≡ next → HaveFrom ns (b ∷ ns) next
+from_more ns b next is = record { each = λ u n less h. by u n less h (eqb_tells b.uid u) }
+  where
+    by : (u : ℕ) (n : Node) → u < next → node_in (b ∷ ns) u ≡ Some n
+        → ((eqb b.uid u ≡ true) × (b.uid ≡ u)) ⊎ ((eqb b.uid u ≡ false) × (b.uid ≢ u))
+        → (m : Node) × (node_in ns u ≡ Some m) × (n.rows ≡ m.rows) × (n.pages ≡ m.pages)
+    by u n less h (inl same) = let e = same.1 in absurd (omega (arith, less, e, is))
+    by u n less h (inr other) =
+        (n, sym (ap (λ (x : Bool). cond x (Some b) (node_in ns u)) other.0) ∙ h, refl, refl)
+
+-- a node less
+pub from_less : (ns : List Node) (v next : ℕ) → HaveFrom ns (without_node ns v) next
+from_less ns v next = record { each = λ u n less h. by u n h (eqb_tells u v) }
+  where
+    by : (u : ℕ) (n : Node) → node_in (without_node ns v) u ≡ Some n
+        → ((eqb u v ≡ true) × (u ≡ v)) ⊎ ((eqb u v ≡ false) × (u ≢ v))
+        → (m : Node) × (node_in ns u ≡ Some m) × (n.rows ≡ m.rows) × (n.pages ≡ m.pages)
+    by u n h (inl same) = absurd (none_some (sym (node_gone ns v)
+        ∙ (ap (λ (x : ℕ). node_in (without_node ns v) x) (sym same.1) ∙ h)))
+    by u n h (inr other) = (n, sym (node_left ns v u other.1) ∙ h, refl, refl)
+
+module _ (old now : List Node) (whos : List Who) (known : List (List (Option ℕ))) (next : ℕ)
+    (from : HaveFrom old now next)
+    (older : (k number u : ℕ) → uid_of (kst_at known k) number ≡ Some u → u < next) where
+  one_from : (k : ℕ) (e : HeldSeg) → IsEntitled old whos known k e → IsEntitled now whos known k e
+  one_from k e h = record {
+    stands = h.stands;
+    mode = λ n at. (let m = from.each e.uid n (older k e.number e.uid h.stands) at in
+        h.mode m.0 m.1 ∙ ap (access_of (who_at whos k)) (sym m.2));
+    pages = λ n at. (let m = from.each e.uid n (older k e.number e.uid h.stands) at in h.pages m.0 m.1 ∙ sym m.3);
+  }
+
+  all_from : (k : ℕ) (es : List HeldSeg) → AreEntitled old whos known k es → AreEntitled now whos known k es
+  all_from k [] h = tt
+  all_from k (e ∷ es) h = (one_from k e h.0, all_from k es h.1)
+
+  pub hold_from : (ps : List Processor) → HoldEntitled old whos known ps → HoldEntitled now whos known ps
+  hold_from ps h = record { each = λ d k at. all_from k (cpu_at ps d).assoc.segs (h.each d k at) }
+
+some_is : (x y : Node) → Some x ≡ Some y → x ≡ y
+some_is x y h = cc
+
+first_from : (x y n : Node) (xs ys : List Node) (u : ℕ) → y.uid ≡ x.uid → y.rows ≡ x.rows → y.pages ≡ x.pages
+    → (node_in ys u ≡ Some n → (m : Node) × (node_in xs u ≡ Some m) × (n.rows ≡ m.rows) × (n.pages ≡ m.pages))
+    → node_in (y ∷ ys) u ≡ Some n
+    → (m : Node) × (node_in (x ∷ xs) u ≡ Some m) × (n.rows ≡ m.rows) × (n.pages ≡ m.pages)
+first_from x y n xs ys u same row page rest h = choose (eqb x.uid u) refl
+  where
+    now : cond (eqb x.uid u) (Some y) (node_in ys u) ≡ Some n
+    now = ap (λ (i : ℕ). cond (eqb i u) (Some y) (node_in ys u)) (sym same) ∙ h
+
+    choose : (b : Bool) → eqb x.uid u ≡ b
+        → (m : Node) × (cond (eqb x.uid u) (Some x) (node_in xs u) ≡ Some m) × (n.rows ≡ m.rows) × (n.pages ≡ m.pages)
+    choose true e = let is = some_is y n (sym (ap (λ (b : Bool). cond b (Some y) (node_in ys u)) e) ∙ now) in (
+      x,
+      ap (λ (b : Bool). cond b (Some x) (node_in xs u)) e,
+      ap (λ (z : Node). z.rows) (sym is) ∙ row,
+      ap (λ (z : Node). z.pages) (sym is) ∙ page,
+    )
+    choose false e = let m = rest (sym (ap (λ (b : Bool). cond b (Some y) (node_in ys u)) e) ∙ now) in
+        (m.0, ap (λ (b : Bool). cond b (Some x) (node_in xs u)) e ∙ m.1, m.2, m.3)
+
+map_from : (change : Node → Node) → ((n : Node) → (change n).uid ≡ n.uid) → ((n : Node) → (change n).rows ≡ n.rows)
+    → ((n : Node) → (change n).pages ≡ n.pages) → (ns : List Node) (u : ℕ) (n : Node)
+    → node_in (map change ns) u ≡ Some n
+    → (m : Node) × (node_in ns u ≡ Some m) × (n.rows ≡ m.rows) × (n.pages ≡ m.pages)
+map_from change uid rows pages [] u n h = absurd (none_some h)
+map_from change uid rows pages (x ∷ xs) u n h = first_from x (change x) n xs (map change xs) u (uid x) (rows x) (pages x)
+    (λ e. map_from change uid rows pages xs u n e) h
+
+-- quota that moves
+pub from_quota : (ns : List Node) (d next : ℕ) (amount : ℤ) → HaveFrom ns (nodes_moved ns d amount) next
+from_quota ns d next amount = record { each = λ u n less h. map_from change uid rows pages ns u n h }
+  where
+    giver : ℕ
+    giver = giver_of (above ns) d (is_positive amount)
+
+    getter : ℕ
+    getter = getter_of (above ns) d (is_positive amount)
+
+    change : Node → Node
+    change n = with_quota_of giver (λ q. q - unsigned_abs amount) (with_quota_of getter (λ q. q + unsigned_abs amount) n)
+
+    one : (v : ℕ) (f : ℕ → ℕ) (n : Node) → ((with_quota_of v f n).uid ≡ n.uid) × ((with_quota_of v f n).rows ≡ n.rows)
+        × ((with_quota_of v f n).pages ≡ n.pages)
+    one v f n = by (eqb n.uid v)
+      where
+        by : (b : Bool) → ((cond b (record n { quota = f n.quota }) n).uid ≡ n.uid)
+            × ((cond b (record n { quota = f n.quota }) n).rows ≡ n.rows)
+            × ((cond b (record n { quota = f n.quota }) n).pages ≡ n.pages)
+        by true = (refl, refl, refl)
+        by false = (refl, refl, refl)
+
+    uid : (n : Node) → (change n).uid ≡ n.uid
+    uid n = (one giver (λ q. q - unsigned_abs amount) (with_quota_of getter (λ q. q + unsigned_abs amount) n)).0
+        ∙ (one getter (λ q. q + unsigned_abs amount) n).0
+
+    rows : (n : Node) → (change n).rows ≡ n.rows
+    rows n = (one giver (λ q. q - unsigned_abs amount) (with_quota_of getter (λ q. q + unsigned_abs amount) n)).1
+        ∙ (one getter (λ q. q + unsigned_abs amount) n).1
+
+    pages : (n : Node) → (change n).pages ≡ n.pages
+    pages n = (one giver (λ q. q - unsigned_abs amount) (with_quota_of getter (λ q. q + unsigned_abs amount) n)).2
+        ∙ (one getter (λ q. q + unsigned_abs amount) n).2
+
+-- ---- the commands
+
+-- pages that are cut leave the tree, the principals and the numbers
+record LeavesNames (old now : Storage) : Type 0 where
+  pub nodes : now.accounts.nodes ≡ old.accounts.nodes
+  pub whos : now.whos ≡ old.whos
+  pub known : now.links.known ≡ old.links.known
+
+then_names : (a b c : Storage) → LeavesNames a b → LeavesNames b c → LeavesNames a c
+then_names a b c x y = record { nodes = y.nodes ∙ x.nodes; whos = y.whos ∙ x.whos; known = y.known ∙ x.known }
+
+page_names : (st : Storage) (u p : ℕ) (w : Ptw) → LeavesNames st (without_page st u p w)
+page_names st u p ptw.Null = record { nodes = refl; whos = refl; known = refl }
+page_names st u p (ptw.Out n) = record { nodes = refl; whos = refl; known = refl }
+page_names st u p (ptw.Here f) = record { nodes = refl; whos = refl; known = refl }
+page_names st u p (ptw.Leaving f) = record { nodes = refl; whos = refl; known = refl }
+
+pages_names : (st : Storage) (u : ℕ) (ps : List ℕ) → LeavesNames st (without_pages st u ps)
+pages_names st u [] = record { nodes = refl; whos = refl; known = refl }
+pages_names st u (p ∷ ps) = then_names st (without_page st u p (word_of st.ast u p)) (without_pages st u (p ∷ ps))
+    (page_names st u p (word_of st.ast u p)) (pages_names (without_page st u p (word_of st.ast u p)) u ps)
+
+here_names : (st : Storage) (f : ℕ) → LeavesNames st (with_here st f)
+here_names st f = by (bound_page (frame_in st.pages f))
+  where
+    by : (x : Option (ℕ × ℕ)) → LeavesNames st (here_if st f x)
+    by None = record { nodes = refl; whos = refl; known = refl }
+    by (Some page) = record { nodes = refl; whos = refl; known = refl }
+
+cut_in_names : (st : Storage) (u p at f : ℕ) → LeavesNames st (with_cut_in st u p at f)
+cut_in_names st u p at f = then_names st now (with_cut_in st u p at f) first (by (are_zeros (words_in now.pages f)))
+  where
+    now : Storage
+    now = with_pages st (cut st.pages f at)
+
+    first : LeavesNames st now
+    first = record { nodes = refl; whos = refl; known = refl }
+
+    by : (b : Bool) → LeavesNames now (cond b (without_page now u p (ptw.Leaving f)) (with_here now f))
+    by true = page_names now u p (ptw.Leaving f)
+    by false = here_names now f
+
+cut_names : (st : Storage) (u p at : ℕ) (w : Ptw) → LeavesNames st (with_cut st u p at w)
+cut_names st u p at (ptw.Leaving f) = cut_in_names st u p at f
+cut_names st u p at ptw.Null = record { nodes = refl; whos = refl; known = refl }
+cut_names st u p at (ptw.Out n) = record { nodes = refl; whos = refl; known = refl }
+cut_names st u p at (ptw.Here f) = record { nodes = refl; whos = refl; known = refl }
+
+truncated_names : (st : Storage) (u words : ℕ) → LeavesNames st (with_truncated st u words)
+truncated_names st u words = by (eqb (words % 1024) 0)
+  where
+    by : (b : Bool) → LeavesNames st (without_pages (cond b st (with_cut st u (words / 1024) (words % 1024)
+        (word_of st.ast u (words / 1024)))) u (pages_past st u words))
+    by true = pages_names st u (pages_past st u words)
+    by false = then_names st (with_cut st u (words / 1024) (words % 1024) (word_of st.ast u (words / 1024)))
+        (without_pages (with_cut st u (words / 1024) (words % 1024) (word_of st.ast u (words / 1024))) u
+        (pages_past st u words))
+        (cut_names st u (words / 1024) (words % 1024) (word_of st.ast u (words / 1024)))
+        (pages_names (with_cut st u (words / 1024) (words % 1024) (word_of st.ast u (words / 1024))) u
+        (pages_past st u words))
+
+inactive_names : (old st : Storage) (u : ℕ) → LeavesNames old st → LeavesNames old (inactive_if st u)
+inactive_names old st u h = by (is_active st.ast u)
+  where
+    by : (b : Bool) → LeavesNames old (cond b (with_inactive st u) st)
+    by true = record { nodes = h.nodes; whos = h.whos; known = h.known }
+    by false = h
+
+-- what is left of the premise: an access list or a length that changes, and numbers that come and go
+abbrev pub EntitlesAfter : State → ℕ → Option Command → Type 0
+EntitlesAfter s c (Some (command.Acl path row m)) = IsEntitledToAll (committed s c (process_at s c) (command.Acl path row m))
+EntitlesAfter s c (Some (command.Length path pages)) =
+    IsEntitledToAll (committed s c (process_at s c) (command.Length path pages))
+EntitlesAfter s c (Some (command.Initiate path)) =
+    IsEntitledToAll (committed s c (process_at s c) (command.Initiate path))
+EntitlesAfter s c (Some (command.Terminate n)) = IsEntitledToAll (committed s c (process_at s c) (command.Terminate n))
+EntitlesAfter s c _ = Unit {0}
+
+module _ (s : State) (c : ℕ) (k : Keeps s) (there : c < length s.processors) (h : IsEntitledToAll s) where
+  -- nodes that are as they were, with a processor that holds what it held
+  by_nodes : (now : List Node) (p : Processor) → HaveFrom s.store.accounts.nodes now s.store.accounts.next
+      → p.cpu ≡ cpu_at s.processors c → HoldEntitled now s.store.whos s.store.links.known (set s.processors c p)
+  by_nodes now p from same = set_entitled now s.store.whos s.store.links.known s.processors c p there all
+      (λ j e. subst (λ (x : Cpu). AreEntitled now s.store.whos s.store.links.known j x.assoc.segs) (sym same)
+      (all.each c j (ap (λ (x : Cpu). x.process) (sym same) ∙ e)))
+    where
+      all : HoldEntitled now s.store.whos s.store.links.known s.processors
+      all = hold_from s.store.accounts.nodes now s.store.whos s.store.links.known s.store.accounts.next from
+          k.store.counted.known.older s.processors h
+
+  abbrev j : ℕ
+  j = process_at s c
+
+  same_nodes : HaveFrom s.store.accounts.nodes s.store.accounts.nodes s.store.accounts.next
+  same_nodes = from_same s.store.accounts.nodes s.store.accounts.next
+
+  made : (directory : Bool) (pages volume : ℕ) (rows : List Row) (x : Option (List (List ℕ) × List ℕ)) (p : Processor)
+      → p.cpu ≡ cpu_at s.processors c
+      → HoldEntitled (with_made s.store directory pages volume rows x).accounts.nodes
+      (with_made s.store directory pages volume rows x).whos (with_made s.store directory pages volume rows x).links.known
+      (set s.processors c p)
+  made directory pages volume rows None p same = by_nodes s.store.accounts.nodes p same_nodes same
+  made directory pages volume rows (Some parts) p same = by_nodes _ p
+      (from_more s.store.accounts.nodes _ s.store.accounts.next refl) same
+
+  truncates : (u words : ℕ) (p : Processor) → p.cpu ≡ cpu_at s.processors c
+      → HoldEntitled (with_truncated s.store u words).accounts.nodes (with_truncated s.store u words).whos
+      (with_truncated s.store u words).links.known (set s.processors c p)
+  truncates u words p same = subst (λ (ns : List Node). HoldEntitled ns (with_truncated s.store u words).whos
+      (with_truncated s.store u words).links.known (set s.processors c p)) (sym names.nodes)
+      (subst (λ (ws : List Who). HoldEntitled s.store.accounts.nodes ws (with_truncated s.store u words).links.known
+      (set s.processors c p)) (sym names.whos)
+      (subst (λ (x : List (List (Option ℕ))). HoldEntitled s.store.accounts.nodes s.store.whos x (set s.processors c p))
+      (sym names.known) (by_nodes s.store.accounts.nodes p same_nodes same)))
+    where
+      names : LeavesNames s.store (with_truncated s.store u words)
+      names = truncated_names s.store u words
+
+  deletes : (u : ℕ) (frames : List ℕ) (p : Processor) → p.cpu ≡ cpu_at s.processors c
+      → HoldEntitled (with_deleted s.store u frames).accounts.nodes (with_deleted s.store u frames).whos
+      (with_deleted s.store u frames).links.known (set s.processors c p)
+  deletes u frames p same = subst (λ (ws : List Who). HoldEntitled (without_node s.store.accounts.nodes u) ws
+      (with_deleted s.store u frames).links.known (set s.processors c p)) (sym names.whos)
+      (subst (λ (x : List (List (Option ℕ))). HoldEntitled (without_node s.store.accounts.nodes u) s.store.whos x
+      (set s.processors c p)) (sym names.known)
+      (by_nodes (without_node s.store.accounts.nodes u) p
+      (from_less s.store.accounts.nodes u s.store.accounts.next) same))
+    where
+      names : LeavesNames s.store (inactive_if (with_pages s.store (erased (frames_freed s.store.pages frames)
+          (home_in s.store u))) u)
+      names = inactive_names s.store (with_pages s.store (erased (frames_freed s.store.pages frames)
+          (home_in s.store u))) u (record { nodes = refl; whos = refl; known = refl })
+
+  -- What processors hold stays so after a command.
+  pub commit_entitled : (x : Option Command) → EntitlesAfter s c x → IsEntitledToAll (committed_at s c x)
+  commit_entitled None rests = h
+  commit_entitled (Some (command.Acl path row m)) rests = rests
+  commit_entitled (Some (command.Length path pages)) rests = rests
+  commit_entitled (Some (command.Initiate path)) rests = rests
+  commit_entitled (Some (command.Terminate n)) rests = rests
+  commit_entitled (Some (command.MkDir path volume)) rests = made true 0 volume [] (parts_of path) _ refl
+  commit_entitled (Some (command.MkSeg path pages volume)) rests = made false pages volume _ (parts_of path) _ refl
+  commit_entitled (Some (command.Truncate path words)) rests =
+      truncates (uid_of_command s.store j (command.Truncate path words)) words _ refl
+  commit_entitled (Some (command.Delete path)) rests =
+      deletes (uid_of_command s.store j (command.Delete path)) (frames_of_owner s.owner) _ refl
+  commit_entitled (Some (command.Move path amount)) rests = by_nodes _ _
+      (from_quota s.store.accounts.nodes (uid_of_command s.store j (command.Move path amount)) s.store.accounts.next amount)
+      refl
+  commit_entitled (Some (command.Status path)) rests = by_nodes s.store.accounts.nodes _ same_nodes refl
+  commit_entitled (Some command.End) rests = set_entitled s.store.accounts.nodes s.store.whos s.store.links.known
+      (told (effected s j command.End) c None (reply_of s j command.End)).processors c _
+      (subst (λ (n : ℕ). c < n) (sym (length-set s.processors c _)) there)
+      (by_nodes s.store.accounts.nodes _ same_nodes refl) (λ i e. absurd (none_some e))
+  commit_entitled (Some (command.Read n w)) rests = by_nodes s.store.accounts.nodes _ same_nodes refl
+  commit_entitled (Some (command.Write n w x)) rests = by_nodes s.store.accounts.nodes _ same_nodes refl
+  commit_entitled (Some (command.Add n w x)) rests = by_nodes s.store.accounts.nodes _ same_nodes refl
+  commit_entitled (Some (command.Await n w x t)) rests = by_nodes s.store.accounts.nodes _ same_nodes refl
