@@ -43,6 +43,15 @@ use Rattle.machine_model.specs.State.{State, Storage}
 use Rattle.machine_model.specs.Steps.{told, with_pages}
 use Rattle.machine_model.proofs.CommitKept.{effected}
 use Rattle.machine_model.proofs.EntitledKept.{set_entitled}
+use Rattle.descriptor_seg.specs.declared.Sdw.{Sdw}
+use Rattle.descriptor_seg.specs.declared.Sdw.TheVariants as sdw
+use Rattle.seg_control.specs.Control.{leads}
+use Rattle.custody_model.specs.Custody.{leads_to}
+use Rattle.machine_model.specs.Custodial.{AreHeldSegs, AreOfProcess}
+use Rattle.machine_model.specs.Holding.{led_to, seen}
+use Rattle.machine_model.specs.Reads.{cut_of_owner, descriptor_of}
+use Rattle.machine_model.specs.Seen.{cut_uid, descriptor_use, shown}
+use Rattle.machine_model.specs.State.{Owner}
 use Rattle.machine_model.proofs.TieLaws.{none_some}
 
 -- each older node that is there now was there, with these rows and pages
@@ -227,14 +236,51 @@ inactive_names old st u h = by (is_active st.ast u)
     by true = record { nodes = h.nodes; whos = h.whos; known = h.known }
     by false = h
 
--- what is left of the premise: an access list or a length that changes, and numbers that come and go
+-- ---- numbers come and go
+
+-- without an owner that has cut something, what a processor holds is what the number of its descriptor stands for
+module _ (now : State) (k : Keeps now) (none : now.owner ≡ None) where
+  stands_now : (j n u : ℕ) → leads_to ((shown (seen now)).descriptor j n) ≡ Some u
+      → uid_of (kst_at now.store.links.known j) n ≡ Some u
+  stands_now j n u h = by (descriptor_of now.store.links j n) refl
+    where
+      current : (x : Option ℕ) → leads_to (descriptor_use x None) ≡ Some u → x ≡ Some u
+      current None e = absurd (none_some e)
+      current (Some v) e = e
+
+      linked : led_to now.store.ast.entries (descriptor_of now.store.links j n) ≡ Some u
+      linked = current (led_to now.store.ast.entries (descriptor_of now.store.links j n))
+          (subst (λ (q : Option Owner). leads_to (descriptor_use (led_to now.store.ast.entries
+          (descriptor_of now.store.links j n)) (cut_uid (cut_of_owner q) j n)) ≡ Some u) none h)
+
+      by : (y : Sdw) → descriptor_of now.store.links j n ≡ y → uid_of (kst_at now.store.links.known j) n ≡ Some u
+      by sdw.Fault e = absurd (none_some (sym (ap (led_to now.store.ast.entries) e) ∙ linked))
+      by (sdw.Present place mode pages) e = let known = k.store.kept.linked.known j n place (ap leads e) in
+          known.known_as ∙ (sym known.active ∙ (sym (ap (led_to now.store.ast.entries) e) ∙ linked))
+
+  segs_again : (known : List (List (Option ℕ))) (j : ℕ) (es : List HeldSeg)
+      → AreHeldSegs (shown (seen now)).descriptor j es
+      → AreEntitled now.store.accounts.nodes now.store.whos known j es
+      → AreEntitled now.store.accounts.nodes now.store.whos now.store.links.known j es
+  segs_again known j [] held h = tt
+  segs_again known j (e ∷ es) held h = (
+    record { stands = stands_now j e.number e.uid held.0; mode = h.0.mode; pages = h.0.pages },
+    segs_again known j es held.1 h.1,
+  )
+
+  pub held_again : (known : List (List (Option ℕ)))
+      → HoldEntitled now.store.accounts.nodes now.store.whos known now.processors → IsEntitledToAll now
+  held_again known h = record {
+    each = λ d j at. segs_again known j (cpu_at now.processors d).assoc.segs
+        (subst (λ (x : Option ℕ). AreOfProcess (shown (seen now)).descriptor x (cpu_at now.processors d).assoc.segs) at
+        (k.book.holding_right d).segs) (h.each d j at);
+  }
+
+-- what is left of the premise: an access list or a length that changes
 abbrev pub EntitlesAfter : State → ℕ → Option Command → Type 0
 EntitlesAfter s c (Some (command.Acl path row m)) = IsEntitledToAll (committed s c (process_at s c) (command.Acl path row m))
 EntitlesAfter s c (Some (command.Length path pages)) =
     IsEntitledToAll (committed s c (process_at s c) (command.Length path pages))
-EntitlesAfter s c (Some (command.Initiate path)) =
-    IsEntitledToAll (committed s c (process_at s c) (command.Initiate path))
-EntitlesAfter s c (Some (command.Terminate n)) = IsEntitledToAll (committed s c (process_at s c) (command.Terminate n))
 EntitlesAfter s c _ = Unit {0}
 
 module _ (s : State) (c : ℕ) (k : Keeps s) (there : c < length s.processors) (h : IsEntitledToAll s) where
@@ -293,27 +339,30 @@ module _ (s : State) (c : ℕ) (k : Keeps s) (there : c < length s.processors) (
           (home_in s.store u))) u (record { nodes = refl; whos = refl; known = refl })
 
   -- What processors hold stays so after a command.
-  pub commit_entitled : (x : Option Command) → EntitlesAfter s c x → IsEntitledToAll (committed_at s c x)
-  commit_entitled None rests = h
-  commit_entitled (Some (command.Acl path row m)) rests = rests
-  commit_entitled (Some (command.Length path pages)) rests = rests
-  commit_entitled (Some (command.Initiate path)) rests = rests
-  commit_entitled (Some (command.Terminate n)) rests = rests
-  commit_entitled (Some (command.MkDir path volume)) rests = made true 0 volume [] (parts_of path) _ refl
-  commit_entitled (Some (command.MkSeg path pages volume)) rests = made false pages volume _ (parts_of path) _ refl
-  commit_entitled (Some (command.Truncate path words)) rests =
+  pub commit_entitled : (x : Option Command) → Keeps (committed_at s c x) → EntitlesAfter s c x
+      → IsEntitledToAll (committed_at s c x)
+  commit_entitled None kept rests = h
+  commit_entitled (Some (command.Acl path row m)) kept rests = rests
+  commit_entitled (Some (command.Length path pages)) kept rests = rests
+  commit_entitled (Some (command.Initiate path)) kept rests = held_again (committed s c j (command.Initiate path)) kept
+      refl s.store.links.known (by_nodes s.store.accounts.nodes _ same_nodes refl)
+  commit_entitled (Some (command.Terminate n)) kept rests = held_again (committed s c j (command.Terminate n)) kept
+      refl s.store.links.known (by_nodes s.store.accounts.nodes _ same_nodes refl)
+  commit_entitled (Some (command.MkDir path volume)) kept rests = made true 0 volume [] (parts_of path) _ refl
+  commit_entitled (Some (command.MkSeg path pages volume)) kept rests = made false pages volume _ (parts_of path) _ refl
+  commit_entitled (Some (command.Truncate path words)) kept rests =
       truncates (uid_of_command s.store j (command.Truncate path words)) words _ refl
-  commit_entitled (Some (command.Delete path)) rests =
+  commit_entitled (Some (command.Delete path)) kept rests =
       deletes (uid_of_command s.store j (command.Delete path)) (frames_of_owner s.owner) _ refl
-  commit_entitled (Some (command.Move path amount)) rests = by_nodes _ _
+  commit_entitled (Some (command.Move path amount)) kept rests = by_nodes _ _
       (from_quota s.store.accounts.nodes (uid_of_command s.store j (command.Move path amount)) s.store.accounts.next amount)
       refl
-  commit_entitled (Some (command.Status path)) rests = by_nodes s.store.accounts.nodes _ same_nodes refl
-  commit_entitled (Some command.End) rests = set_entitled s.store.accounts.nodes s.store.whos s.store.links.known
+  commit_entitled (Some (command.Status path)) kept rests = by_nodes s.store.accounts.nodes _ same_nodes refl
+  commit_entitled (Some command.End) kept rests = set_entitled s.store.accounts.nodes s.store.whos s.store.links.known
       (told (effected s j command.End) c None (reply_of s j command.End)).processors c _
       (subst (λ (n : ℕ). c < n) (sym (length-set s.processors c _)) there)
       (by_nodes s.store.accounts.nodes _ same_nodes refl) (λ i e. absurd (none_some e))
-  commit_entitled (Some (command.Read n w)) rests = by_nodes s.store.accounts.nodes _ same_nodes refl
-  commit_entitled (Some (command.Write n w x)) rests = by_nodes s.store.accounts.nodes _ same_nodes refl
-  commit_entitled (Some (command.Add n w x)) rests = by_nodes s.store.accounts.nodes _ same_nodes refl
-  commit_entitled (Some (command.Await n w x t)) rests = by_nodes s.store.accounts.nodes _ same_nodes refl
+  commit_entitled (Some (command.Read n w)) kept rests = by_nodes s.store.accounts.nodes _ same_nodes refl
+  commit_entitled (Some (command.Write n w x)) kept rests = by_nodes s.store.accounts.nodes _ same_nodes refl
+  commit_entitled (Some (command.Add n w x)) kept rests = by_nodes s.store.accounts.nodes _ same_nodes refl
+  commit_entitled (Some (command.Await n w x t)) kept rests = by_nodes s.store.accounts.nodes _ same_nodes refl

@@ -30,10 +30,10 @@ module _ (s : State) (c : ℕ) (o : Outcome) (all : KeepsAll s) (there : c < len
   abbrev m : IsMachine s
   m = all.machine
 
-  entitles : (a : act.Action) → Entitles s c a → MayEntitle s c o a
+  entitles : (a : act.Action) → Keeps (after s c a o) → Entitles s c a → MayEntitle s c o a
   unfolding after
-  entitles act.Commit h = commit_entitled s c m.keeps there all.entitled (next_command s (process_at s c)) h
-  entitles _ h = tt
+  entitles act.Commit kept h = commit_entitled s c m.keeps there all.entitled (next_command s (process_at s c)) kept h
+  entitles _ kept h = tt
 
   -- an action that may be done, of which the rules know what they do
   done : (a : act.Action) → CanDo s c o a → Rests s c o a → Knows s c a → Entitles s c a
@@ -46,7 +46,7 @@ module _ (s : State) (c : ℕ) (o : Outcome) (all : KeepsAll s) (there : c < len
       scheduled = schedule_kept s c o m.scheduled there a (may_schedule s c o m there a can rests knows);
       pools = pools.sizes ∙ (m.pools ∙ ap (λ (p : Plan). p.pools) (sym pools.plan));
     };
-    entitled = entitled_kept s c o m.keeps there all.entitled a can (entitles a after_it);
+    entitled = entitled_kept s c o m.keeps there all.entitled a can (entitles a keeps after_it);
     working = work_kept s c o m all.working a (may_work s c o m there a can rests knows) keeps;
   }
     where
