@@ -52,6 +52,11 @@ use Rattle.machine_model.specs.Holding.{led_to, seen}
 use Rattle.machine_model.specs.Reads.{cut_of_owner, descriptor_of}
 use Rattle.machine_model.specs.Seen.{cut_uid, descriptor_use, shown}
 use Rattle.machine_model.specs.State.{Owner}
+use Rattle.std.specs.Prelude.{slice_index_or}
+use Rattle.tree_model.specs.Tree.{with_node}
+use Rattle.active_segs.specs.Active.{uid_at}
+use Rattle.active_segs.specs.declared.Entry.{Entry as Segment}
+use Rattle.descriptor_seg.specs.Descriptors.{sdw_at}
 use Rattle.machine_model.proofs.TieLaws.{none_some}
 
 -- each older node that is there now was there, with these rows and pages
@@ -240,23 +245,24 @@ inactive_names old st u h = by (is_active st.ast u)
 
 -- without an owner that has cut something, what a processor holds is what the number of its descriptor stands for
 module _ (now : State) (k : Keeps now) (none : now.owner ≡ None) where
-  stands_now : (j n u : ℕ) → leads_to ((shown (seen now)).descriptor j n) ≡ Some u
-      → uid_of (kst_at now.store.links.known j) n ≡ Some u
-  stands_now j n u h = by (descriptor_of now.store.links j n) refl
+  linked_now : (j n u : ℕ) → leads_to ((shown (seen now)).descriptor j n) ≡ Some u
+      → led_to now.store.ast.entries (descriptor_of now.store.links j n) ≡ Some u
+  linked_now j n u h = current (led_to now.store.ast.entries (descriptor_of now.store.links j n))
+      (subst (λ (q : Option Owner). leads_to (descriptor_use (led_to now.store.ast.entries
+      (descriptor_of now.store.links j n)) (cut_uid (cut_of_owner q) j n)) ≡ Some u) none h)
     where
       current : (x : Option ℕ) → leads_to (descriptor_use x None) ≡ Some u → x ≡ Some u
       current None e = absurd (none_some e)
       current (Some v) e = e
 
-      linked : led_to now.store.ast.entries (descriptor_of now.store.links j n) ≡ Some u
-      linked = current (led_to now.store.ast.entries (descriptor_of now.store.links j n))
-          (subst (λ (q : Option Owner). leads_to (descriptor_use (led_to now.store.ast.entries
-          (descriptor_of now.store.links j n)) (cut_uid (cut_of_owner q) j n)) ≡ Some u) none h)
-
+  stands_now : (j n u : ℕ) → leads_to ((shown (seen now)).descriptor j n) ≡ Some u
+      → uid_of (kst_at now.store.links.known j) n ≡ Some u
+  stands_now j n u h = by (descriptor_of now.store.links j n) refl
+    where
       by : (y : Sdw) → descriptor_of now.store.links j n ≡ y → uid_of (kst_at now.store.links.known j) n ≡ Some u
-      by sdw.Fault e = absurd (none_some (sym (ap (led_to now.store.ast.entries) e) ∙ linked))
+      by sdw.Fault e = absurd (none_some (sym (ap (led_to now.store.ast.entries) e) ∙ linked_now j n u h))
       by (sdw.Present place mode pages) e = let known = k.store.kept.linked.known j n place (ap leads e) in
-          known.known_as ∙ (sym known.active ∙ (sym (ap (led_to now.store.ast.entries) e) ∙ linked))
+          known.known_as ∙ (sym known.active ∙ (sym (ap (led_to now.store.ast.entries) e) ∙ linked_now j n u h))
 
   segs_again : (known : List (List (Option ℕ))) (j : ℕ) (es : List HeldSeg)
       → AreHeldSegs (shown (seen now)).descriptor j es
@@ -276,12 +282,79 @@ module _ (now : State) (k : Keeps now) (none : now.owner ≡ None) where
         (k.book.holding_right d).segs) (h.each d j at);
   }
 
--- what is left of the premise: an access list or a length that changes
-abbrev pub EntitlesAfter : State → ℕ → Option Command → Type 0
-EntitlesAfter s c (Some (command.Acl path row m)) = IsEntitledToAll (committed s c (process_at s c) (command.Acl path row m))
-EntitlesAfter s c (Some (command.Length path pages)) =
-    IsEntitledToAll (committed s c (process_at s c) (command.Length path pages))
-EntitlesAfter s c _ = Unit {0}
+-- ---- an access list or a length changes
+
+node_then : (change : Node → Node) → ((n : Node) → (change n).uid ≡ n.uid) → (ns : List Node) (u : ℕ) (n : Node)
+    → node_in (map change ns) u ≡ Some n → (m : Node) × (node_in ns u ≡ Some m)
+node_then change uid [] u n h = absurd (none_some h)
+node_then change uid (x ∷ xs) u n h = by (eqb x.uid u) refl (λ e. node_then change uid xs u n e)
+  where
+    now : cond (eqb x.uid u) (Some (change x)) (node_in (map change xs) u) ≡ Some n
+    now = ap (λ (i : ℕ). cond (eqb i u) (Some (change x)) (node_in (map change xs) u)) (sym (uid x)) ∙ h
+
+    by : (b : Bool) → eqb x.uid u ≡ b → (node_in (map change xs) u ≡ Some n → (m : Node) × (node_in xs u ≡ Some m))
+        → (m : Node) × (cond (eqb x.uid u) (Some x) (node_in xs u) ≡ Some m)
+    by true e rest = (x, ap (λ (b : Bool). cond b (Some x) (node_in xs u)) e)
+    by false e rest = let m = rest (sym (ap (λ (b : Bool). cond b (Some (change x)) (node_in (map change xs) u)) e) ∙ now)
+        in (m.0, ap (λ (b : Bool). cond b (Some x) (node_in xs u)) e ∙ m.1)
+
+with_node_then : (ns : List Node) (v : ℕ) (change : Node → Node) → ((n : Node) → (change n).uid ≡ n.uid) → (u : ℕ)
+    (n : Node) → node_in (with_node ns v change) u ≡ Some n → (m : Node) × (node_in ns u ≡ Some m)
+with_node_then ns v change uid u n h = node_then (λ x. cond (eqb x.uid v) (change x) x) (λ x. by x (eqb x.uid v)) ns u n h
+  where
+    by : (x : Node) (b : Bool) → (cond b (change x) x).uid ≡ x.uid
+    by x true = uid x
+    by x false = refl
+
+-- A connected descriptor has the mode and the length before and after, so that what is held of it has them too.
+module _ (s now : State) (old : Keeps s) (k : Keeps now) (none : now.owner ≡ None)
+    (descriptors : now.store.links.descriptors ≡ s.store.links.descriptors)
+    (entries : now.store.ast.entries ≡ s.store.ast.entries) (whos : now.store.whos ≡ s.store.whos)
+    (older : (u : ℕ) (n : Node) → node_in now.store.accounts.nodes u ≡ Some n
+    → (m : Node) × (node_in s.store.accounts.nodes u ≡ Some m)) where
+  one_right : (j : ℕ) (e : HeldSeg) → leads_to ((shown (seen now)).descriptor j e.number) ≡ Some e.uid
+      → IsEntitled s.store.accounts.nodes s.store.whos s.store.links.known j e
+      → IsEntitled now.store.accounts.nodes now.store.whos now.store.links.known j e
+  one_right j e held h = by (descriptor_of now.store.links j e.number) refl
+    where
+      linked : led_to now.store.ast.entries (descriptor_of now.store.links j e.number) ≡ Some e.uid
+      linked = linked_now now k none j e.number e.uid held
+
+      by : (y : Sdw) → descriptor_of now.store.links j e.number ≡ y
+          → IsEntitled now.store.accounts.nodes now.store.whos now.store.links.known j e
+      by sdw.Fault i = absurd (none_some (sym (ap (led_to now.store.ast.entries) i) ∙ linked))
+      by (sdw.Present place mode pages) i = record {
+        stands = stands_now now k none j e.number e.uid held;
+        mode = λ n at. (let m = older e.uid n at in h.mode m.0 m.1
+            ∙ (sym (old.store.counted.rights.modes j e.number place pages e.uid mode m.0 was active_was m.1)
+            ∙ k.store.counted.rights.modes j e.number place pages e.uid mode n i active at));
+        pages = λ n at. (let m = older e.uid n at in h.pages m.0 m.1
+            ∙ (sym (old.store.counted.rights.lengths j e.number place pages e.uid mode m.0 was active_was m.1)
+            ∙ k.store.counted.rights.lengths j e.number place pages e.uid mode n i active at));
+      }
+        where
+          active : uid_at now.store.ast.entries place ≡ Some e.uid
+          active = sym (ap (led_to now.store.ast.entries) i) ∙ linked
+
+          active_was : uid_at s.store.ast.entries place ≡ Some e.uid
+          active_was = ap (λ (es : List (Option Segment)). uid_at es place) (sym entries) ∙ active
+
+          was : descriptor_of s.store.links j e.number ≡ sdw.Present place mode pages
+          was = ap (λ (ds : List (List Sdw)). sdw_at (slice_index_or ds j []) e.number) (sym descriptors) ∙ i
+
+  all_right : (j : ℕ) (es : List HeldSeg) → AreHeldSegs (shown (seen now)).descriptor j es
+      → AreEntitled s.store.accounts.nodes s.store.whos s.store.links.known j es
+      → AreEntitled now.store.accounts.nodes now.store.whos now.store.links.known j es
+  all_right j [] held h = tt
+  all_right j (e ∷ es) held h = (one_right j e held.0 h.0, all_right j es held.1 h.1)
+
+  pub right_again : HoldEntitled s.store.accounts.nodes s.store.whos s.store.links.known now.processors
+      → IsEntitledToAll now
+  right_again h = record {
+    each = λ d j at. all_right j (cpu_at now.processors d).assoc.segs
+        (subst (λ (x : Option ℕ). AreOfProcess (shown (seen now)).descriptor x (cpu_at now.processors d).assoc.segs) at
+        (k.book.holding_right d).segs) (h.each d j at);
+  }
 
 module _ (s : State) (c : ℕ) (k : Keeps s) (there : c < length s.processors) (h : IsEntitledToAll s) where
   -- nodes that are as they were, with a processor that holds what it held
@@ -339,30 +412,33 @@ module _ (s : State) (c : ℕ) (k : Keeps s) (there : c < length s.processors) (
           (home_in s.store u))) u (record { nodes = refl; whos = refl; known = refl })
 
   -- What processors hold stays so after a command.
-  pub commit_entitled : (x : Option Command) → Keeps (committed_at s c x) → EntitlesAfter s c x
-      → IsEntitledToAll (committed_at s c x)
-  commit_entitled None kept rests = h
-  commit_entitled (Some (command.Acl path row m)) kept rests = rests
-  commit_entitled (Some (command.Length path pages)) kept rests = rests
-  commit_entitled (Some (command.Initiate path)) kept rests = held_again (committed s c j (command.Initiate path)) kept
+  pub commit_entitled : (x : Option Command) → Keeps (committed_at s c x) → IsEntitledToAll (committed_at s c x)
+  commit_entitled None kept = h
+  commit_entitled (Some (command.Acl path row m)) kept = right_again s (committed s c j (command.Acl path row m)) k kept
+      refl refl refl refl (with_node_then s.store.accounts.nodes _ _ (λ n. refl))
+      (by_nodes s.store.accounts.nodes _ same_nodes refl)
+  commit_entitled (Some (command.Length path pages)) kept = right_again s (committed s c j (command.Length path pages)) k
+      kept refl refl refl refl (with_node_then s.store.accounts.nodes _ _ (λ n. refl))
+      (by_nodes s.store.accounts.nodes _ same_nodes refl)
+  commit_entitled (Some (command.Initiate path)) kept = held_again (committed s c j (command.Initiate path)) kept
       refl s.store.links.known (by_nodes s.store.accounts.nodes _ same_nodes refl)
-  commit_entitled (Some (command.Terminate n)) kept rests = held_again (committed s c j (command.Terminate n)) kept
+  commit_entitled (Some (command.Terminate n)) kept = held_again (committed s c j (command.Terminate n)) kept
       refl s.store.links.known (by_nodes s.store.accounts.nodes _ same_nodes refl)
-  commit_entitled (Some (command.MkDir path volume)) kept rests = made true 0 volume [] (parts_of path) _ refl
-  commit_entitled (Some (command.MkSeg path pages volume)) kept rests = made false pages volume _ (parts_of path) _ refl
-  commit_entitled (Some (command.Truncate path words)) kept rests =
+  commit_entitled (Some (command.MkDir path volume)) kept = made true 0 volume [] (parts_of path) _ refl
+  commit_entitled (Some (command.MkSeg path pages volume)) kept = made false pages volume _ (parts_of path) _ refl
+  commit_entitled (Some (command.Truncate path words)) kept =
       truncates (uid_of_command s.store j (command.Truncate path words)) words _ refl
-  commit_entitled (Some (command.Delete path)) kept rests =
+  commit_entitled (Some (command.Delete path)) kept =
       deletes (uid_of_command s.store j (command.Delete path)) (frames_of_owner s.owner) _ refl
-  commit_entitled (Some (command.Move path amount)) kept rests = by_nodes _ _
+  commit_entitled (Some (command.Move path amount)) kept = by_nodes _ _
       (from_quota s.store.accounts.nodes (uid_of_command s.store j (command.Move path amount)) s.store.accounts.next amount)
       refl
-  commit_entitled (Some (command.Status path)) kept rests = by_nodes s.store.accounts.nodes _ same_nodes refl
-  commit_entitled (Some command.End) kept rests = set_entitled s.store.accounts.nodes s.store.whos s.store.links.known
+  commit_entitled (Some (command.Status path)) kept = by_nodes s.store.accounts.nodes _ same_nodes refl
+  commit_entitled (Some command.End) kept = set_entitled s.store.accounts.nodes s.store.whos s.store.links.known
       (told (effected s j command.End) c None (reply_of s j command.End)).processors c _
       (subst (λ (n : ℕ). c < n) (sym (length-set s.processors c _)) there)
       (by_nodes s.store.accounts.nodes _ same_nodes refl) (λ i e. absurd (none_some e))
-  commit_entitled (Some (command.Read n w)) kept rests = by_nodes s.store.accounts.nodes _ same_nodes refl
-  commit_entitled (Some (command.Write n w x)) kept rests = by_nodes s.store.accounts.nodes _ same_nodes refl
-  commit_entitled (Some (command.Add n w x)) kept rests = by_nodes s.store.accounts.nodes _ same_nodes refl
-  commit_entitled (Some (command.Await n w x t)) kept rests = by_nodes s.store.accounts.nodes _ same_nodes refl
+  commit_entitled (Some (command.Read n w)) kept = by_nodes s.store.accounts.nodes _ same_nodes refl
+  commit_entitled (Some (command.Write n w x)) kept = by_nodes s.store.accounts.nodes _ same_nodes refl
+  commit_entitled (Some (command.Add n w x)) kept = by_nodes s.store.accounts.nodes _ same_nodes refl
+  commit_entitled (Some (command.Await n w x t)) kept = by_nodes s.store.accounts.nodes _ same_nodes refl

@@ -10,7 +10,7 @@ use Rattle.machine_model.specs.Promise.{IsMachine, KeepsAll}
 use Rattle.machine_model.specs.Said.{Says}
 use Rattle.machine_model.specs.State.{State}
 use Rattle.machine_model.proofs.EntitledKept.{MayEntitle, entitled_kept}
-use Rattle.machine_model.proofs.CommitRights.{EntitlesAfter, commit_entitled}
+use Rattle.machine_model.proofs.CommitRights.{commit_entitled}
 use Rattle.machine_model.specs.Reads.{next_command, process_at}
 use Rattle.machine_model.proofs.PoolsKept.{SamePools, pools_kept}
 use Rattle.machine_model.proofs.RulesKept.{action_can}
@@ -21,24 +21,19 @@ use Rattle.machine_model.proofs.StepKept.{CanDo, after_keeps}
 use Rattle.machine_model.proofs.StepKnows.{Knows, step_knows}
 use Rattle.machine_model.proofs.WorkStep.{work_kept}
 
--- what is left of what processors hold after a commit
-abbrev pub Entitles : State → ℕ → act.Action → Type 0
-Entitles s c act.Commit = EntitlesAfter s c (next_command s (process_at s c))
-Entitles s c _ = Unit {0}
-
 module _ (s : State) (c : ℕ) (o : Outcome) (all : KeepsAll s) (there : c < length s.processors) where
   abbrev m : IsMachine s
   m = all.machine
 
-  entitles : (a : act.Action) → Keeps (after s c a o) → Entitles s c a → MayEntitle s c o a
+  entitles : (a : act.Action) → Keeps (after s c a o) → MayEntitle s c o a
   unfolding after
-  entitles act.Commit kept h = commit_entitled s c m.keeps there all.entitled (next_command s (process_at s c)) kept h
-  entitles _ kept h = tt
+  entitles act.Commit kept = commit_entitled s c m.keeps there all.entitled (next_command s (process_at s c)) kept
+  entitles _ kept = tt
 
   -- an action that may be done, of which the rules know what they do
-  done : (a : act.Action) → CanDo s c o a → Rests s c o a → Knows s c a → Entitles s c a
+  done : (a : act.Action) → CanDo s c o a → Rests s c o a → Knows s c a
       → KeepsAll (after s c a o)
-  done a can rests knows after_it = record {
+  done a can rests knows = record {
     machine = record {
       keeps = keeps;
       script = subst IsPlan (sym pools.plan) m.script;
@@ -46,7 +41,7 @@ module _ (s : State) (c : ℕ) (o : Outcome) (all : KeepsAll s) (there : c < len
       scheduled = schedule_kept s c o m.scheduled there a (may_schedule s c o m there a can rests knows);
       pools = pools.sizes ∙ (m.pools ∙ ap (λ (p : Plan). p.pools) (sym pools.plan));
     };
-    entitled = entitled_kept s c o m.keeps there all.entitled a can (entitles a keeps after_it);
+    entitled = entitled_kept s c o m.keeps there all.entitled a can (entitles a keeps);
     working = work_kept s c o m all.working a (may_work s c o m there a can rests knows) keeps;
   }
     where
@@ -58,8 +53,8 @@ module _ (s : State) (c : ℕ) (o : Outcome) (all : KeepsAll s) (there : c < len
 
   -- Each step keeps the whole promise, whichever processor makes it: where a page can't be read in and where a command
   -- takes effect what is left of the premises is given.
-  pub step_keeps_all : Says s c o (action_of s c) → Rests s c o (action_of s c) → Entitles s c (action_of s c)
+  pub step_keeps_all : Says s c o (action_of s c) → Rests s c o (action_of s c)
       → KeepsAll (after s c (action_of s c) o)
-  step_keeps_all says rests after_it = done (action_of s c)
+  step_keeps_all says rests = done (action_of s c)
       (action_can s c o m.keeps there (step_asks s c o m there all.entitled all.working says rests)) rests
-      (step_knows s c o m there all.working) after_it
+      (step_knows s c o m there all.working)
