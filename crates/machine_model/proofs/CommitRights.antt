@@ -1,9 +1,10 @@
 -- What processors hold stays what their processes may do where a command leaves the access lists, the lengths and the
 -- numbers of what it doesn't take away.
-use Rattle.std.proofs.Common.{◌≡◌, ◌≢◌, ◌⊎◌, ◌<◌, ℕ, Bool, true, false, cond, eqb, length, set, List, [], ◌∷◌, Option, Some, None, refl, sym}
+use Rattle.std.proofs.Common.{◌≡◌, ◌≢◌, ◌⊎◌, ◌<◌, ℕ, Bool, true, false, cond, eqb, length, set, List, [], ◌∷◌, Option}
+use Rattle.std.proofs.Common.{Some, None, refl, sym}
 use Rattle.std.proofs.Common.{inl, inr, ap, subst, ◌∙◌, arith}
 use Rattle.std.proofs.lemmas.Bool.Decides.{eqb_tells}
-use Rattle.std.proofs.lemmas.List.{get_or-set_same, length-set}
+use Rattle.std.proofs.lemmas.List.{length-set}
 use Rattle.mnames.specs.declared.principals.Who.{Who}
 use Rattle.assoc_mem.specs.declared.HeldSeg.{HeldSeg}
 use Rattle.known_segs.specs.Known.{uid_of}
@@ -32,7 +33,8 @@ use Rattle.page_control.specs.Plain.{frame_in, words_in}
 use Rattle.seg_control.specs.Control.{word_of}
 use Rattle.flat_model.specs.Branches.{parts_of}
 use Rattle.processor.specs.declared.Cpu.{Cpu}
-use Rattle.machine_model.specs.Commits.{committed, committed_at, pages_past, with_cut, with_cut_in, with_made, with_truncated}
+use Rattle.machine_model.specs.Commits.{committed, committed_at, pages_past, with_cut, with_cut_in, with_made}
+use Rattle.machine_model.specs.Commits.{with_truncated}
 use Rattle.machine_model.specs.Commits.{frames_freed, inactive_if, with_deleted, without_page, without_pages}
 use Rattle.machine_model.specs.Entitled.{IsEntitledToAll}
 use Rattle.machine_model.specs.Jobs.{are_zeros, here_if, with_here, with_inactive}
@@ -135,7 +137,8 @@ map_from : (change : Node → Node) → ((n : Node) → (change n).uid ≡ n.uid
     → node_in (map change ns) u ≡ Some n
     → (m : Node) × (node_in ns u ≡ Some m) × (n.rows ≡ m.rows) × (n.pages ≡ m.pages)
 map_from change uid rows pages [] u n h = absurd (none_some h)
-map_from change uid rows pages (x ∷ xs) u n h = first_from x (change x) n xs (map change xs) u (uid x) (rows x) (pages x)
+map_from change uid rows pages (x ∷ xs) u n h = first_from x (change x) n xs (map change xs) u (uid x) (rows x)
+    (pages x)
     (λ e. map_from change uid rows pages xs u n e) h
 
 -- quota that moves
@@ -149,7 +152,8 @@ from_quota ns d next amount = record { each = λ u n less h. map_from change uid
     getter = getter_of (above ns) d (is_positive amount)
 
     change : Node → Node
-    change n = with_quota_of giver (λ q. q - unsigned_abs amount) (with_quota_of getter (λ q. q + unsigned_abs amount) n)
+    change n = with_quota_of giver (λ q. q - unsigned_abs amount) (with_quota_of getter
+        (λ q. q + unsigned_abs amount) n)
 
     one : (v : ℕ) (f : ℕ → ℕ) (n : Node) → ((with_quota_of v f n).uid ≡ n.uid) × ((with_quota_of v f n).rows ≡ n.rows)
         × ((with_quota_of v f n).pages ≡ n.pages)
@@ -295,12 +299,14 @@ node_then change uid (x ∷ xs) u n h = by (eqb x.uid u) refl (λ e. node_then c
     by : (b : Bool) → eqb x.uid u ≡ b → (node_in (map change xs) u ≡ Some n → (m : Node) × (node_in xs u ≡ Some m))
         → (m : Node) × (cond (eqb x.uid u) (Some x) (node_in xs u) ≡ Some m)
     by true e rest = (x, ap (λ (b : Bool). cond b (Some x) (node_in xs u)) e)
-    by false e rest = let m = rest (sym (ap (λ (b : Bool). cond b (Some (change x)) (node_in (map change xs) u)) e) ∙ now)
+    by false e rest = let m = rest (sym (ap (λ (b : Bool). cond b (Some (change x)) (node_in (map change xs) u)) e)
+        ∙ now)
         in (m.0, ap (λ (b : Bool). cond b (Some x) (node_in xs u)) e ∙ m.1)
 
 with_node_then : (ns : List Node) (v : ℕ) (change : Node → Node) → ((n : Node) → (change n).uid ≡ n.uid) → (u : ℕ)
     (n : Node) → node_in (with_node ns v change) u ≡ Some n → (m : Node) × (node_in ns u ≡ Some m)
-with_node_then ns v change uid u n h = node_then (λ x. cond (eqb x.uid v) (change x) x) (λ x. by x (eqb x.uid v)) ns u n h
+with_node_then ns v change uid u n h = node_then (λ x. cond (eqb x.uid v) (change x) x) (λ x. by x
+    (eqb x.uid v)) ns u n h
   where
     by : (x : Node) (b : Bool) → (cond b (change x) x).uid ≡ x.uid
     by x true = uid x
@@ -377,7 +383,8 @@ module _ (s : State) (c : ℕ) (k : Keeps s) (there : c < length s.processors) (
   made : (directory : Bool) (pages volume : ℕ) (rows : List Row) (x : Option (List (List ℕ) × List ℕ)) (p : Processor)
       → p.cpu ≡ cpu_at s.processors c
       → HoldEntitled (with_made s.store directory pages volume rows x).accounts.nodes
-      (with_made s.store directory pages volume rows x).whos (with_made s.store directory pages volume rows x).links.known
+      (with_made s.store directory pages volume rows x).whos
+      (with_made s.store directory pages volume rows x).links.known
       (set s.processors c p)
   made directory pages volume rows None p same = by_nodes s.store.accounts.nodes p same_nodes same
   made directory pages volume rows (Some parts) p same = by_nodes _ p
@@ -417,7 +424,8 @@ module _ (s : State) (c : ℕ) (k : Keeps s) (there : c < length s.processors) (
   commit_entitled (Some (command.Acl path row m)) kept = right_again s (committed s c j (command.Acl path row m)) k kept
       refl refl refl refl (with_node_then s.store.accounts.nodes _ _ (λ n. refl))
       (by_nodes s.store.accounts.nodes _ same_nodes refl)
-  commit_entitled (Some (command.Length path pages)) kept = right_again s (committed s c j (command.Length path pages)) k
+  commit_entitled (Some (command.Length path pages)) kept = right_again s (committed s c j
+      (command.Length path pages)) k
       kept refl refl refl refl (with_node_then s.store.accounts.nodes _ _ (λ n. refl))
       (by_nodes s.store.accounts.nodes _ same_nodes refl)
   commit_entitled (Some (command.Initiate path)) kept = held_again (committed s c j (command.Initiate path)) kept
@@ -431,7 +439,8 @@ module _ (s : State) (c : ℕ) (k : Keeps s) (there : c < length s.processors) (
   commit_entitled (Some (command.Delete path)) kept =
       deletes (uid_of_command s.store j (command.Delete path)) (frames_of_owner s.owner) _ refl
   commit_entitled (Some (command.Move path amount)) kept = by_nodes _ _
-      (from_quota s.store.accounts.nodes (uid_of_command s.store j (command.Move path amount)) s.store.accounts.next amount)
+      (from_quota s.store.accounts.nodes (uid_of_command s.store j
+      (command.Move path amount)) s.store.accounts.next amount)
       refl
   commit_entitled (Some (command.Status path)) kept = by_nodes s.store.accounts.nodes _ same_nodes refl
   commit_entitled (Some command.End) kept = set_entitled s.store.accounts.nodes s.store.whos s.store.links.known
