@@ -1,2 +1,3 @@
+pub mod AloneLaws
 pub mod Quiet
 pub mod Steps

@@ -1,28 +1,26 @@
 -- A machine keeps its promise through an action of a step, where the calls of its store do what they say.
-use Rattle.std.proofs.Common.{◌≡◌, ◌<◌, ℕ, length, refl, sym, ap, subst, ◌∙◌}
+use Rattle.std.proofs.Common.{◌≡◌, ◌<◌, ℕ, length, sym, ap, subst, ◌∙◌}
 use Rattle.script.specs.Plans.{Plan}
 use Rattle.machine_model.specs.Actions.{Action, action_of}
 use Rattle.machine_model.specs.After.{Outcome, after}
 use Rattle.machine_model.specs.Promise.{KeepsAll}
 use Rattle.machine_model.specs.Said.{Says}
 use Rattle.machine_model.specs.State.{State}
-use Rattle.machine_model.proofs.EntitledKept.{MayEntitle}
 use Rattle.machine_model.proofs.MachineKept.{step_keeps_all}
 use Rattle.machine_model.proofs.PoolsKept.{pools_kept}
 use Rattle.machine_model.proofs.StepAsks.{Rests}
-use Rattle.machine_tables.specs.Parts.{Parts, with_state}
+use Rattle.machine_tables.specs.Parts.{Parts}
 use Rattle.machine.specs.Promise.{IsSound}
 
 -- the tables after an action, and the promise that they keep
 pub sound_after : {D : Type 0} (t u : Parts D) (c : ℕ) (o : Outcome) (a : Action) → IsSound t
     → c < length t.state.processors → action_of t.state c ≡ a → Says t.state c o a → Rests t.state c o a
-    → MayEntitle t.state c o a → u.state ≡ after t.state c a o → u.room ≡ t.room → IsSound u
-sound_after t u c o a sound there doing says rests entitles state room = record {
+    → u.state ≡ after t.state c a o → u.room ≡ t.room → IsSound u
+sound_after t u c o a sound there doing says rests state room = record {
   keeps = subst KeepsAll (sym state) (subst (λ (x : Action). KeepsAll (after t.state c x o)) doing
       (step_keeps_all t.state c o sound.keeps there
       (subst (λ (x : Action). Says t.state c o x) (sym doing) says)
-      (subst (λ (x : Action). Rests t.state c o x) (sym doing) rests)
-      (subst (λ (x : Action). MayEntitle t.state c o x) (sym doing) entitles)));
+      (subst (λ (x : Action). Rests t.state c o x) (sym doing) rests)));
   room = room ∙ (sound.room ∙ ap (λ (p : Plan). length p.processes)
       (sym (ap (λ (s : State). s.plan) state ∙ (pools_kept t.state c a o).plan)));
 }

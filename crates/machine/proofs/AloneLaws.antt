@@ -1,0 +1,209 @@
+-- What the tables ask of a processor that acts by itself follows from the promise and the rule.
+use Rattle.std.proofs.Common.{◌≡◌, ◌<◌, ◌≤◌, ◌/◌, ℕ, Bool, true, false, ◌||◌, ◌&&◌, cond, eqb, length, map}
+use Rattle.std.proofs.Common.{List, [], ◌∷◌, Option, Some, None, refl, sym, ap, subst, ◌∙◌, inl, inr, arith}
+use Rattle.std.specs.List.{find, list_any}
+use Rattle.std.specs.List.{AllByRecursion, IsDistinct}
+use Rattle.std.proofs.lemmas.Map.Steps.{length-le_from_distinct_below}
+use Rattle.std.proofs.lemmas.Bool.Decides.{eqb_tells}
+use Rattle.assoc_mem.specs.declared.HeldPage.{HeldPage}
+use Rattle.assoc_mem.specs.declared.HeldSeg.{HeldSeg}
+use Rattle.assoc_mem.specs.Held.{is_number, is_page, page_of, seg_of}
+use Rattle.custody_model.specs.Custody.{has}
+use Rattle.machine_model.specs.Actions as act
+use Rattle.machine_model.specs.Actions.{Action, action_of}
+use Rattle.machine_model.specs.After.{no_call}
+use Rattle.machine_model.specs.Custodial.{AreDistinct, AreHeldPages, names}
+use Rattle.machine_model.specs.Steps.{held_page}
+use Rattle.script.specs.declared.commands.Reference.{Reference}
+use Rattle.machine_model.specs.Reads.{cpu_at, descriptor_of}
+use Rattle.machine_model.specs.Holding.{led_to, seen}
+use Rattle.mnames.specs.declared.principals.Who.{Who}
+use Rattle.descriptor_seg.specs.declared.Sdw.TheVariants as sdw
+use Rattle.seg_control.specs.Control.{sdws_at}
+use Rattle.std.proofs.lemmas.Bool.Decides.{leb_tells}
+use Rattle.std.proofs.lemmas.List.{length-map, get_or_past}
+use Rattle.machine_model.proofs.TieLaws.{none_some}
+use Rattle.machine_model.specs.State.{State}
+use Rattle.machine_model.proofs.RuleKept.{Asks}
+use Rattle.machine_model.proofs.RulesKept.{action_can}
+use Rattle.machine_model.proofs.StepKept.{CanDo, CanFill, to_hold}
+use Rattle.machine_tables.specs.Parts.{Parts}
+use Rattle.machine.specs.Promise.{IsSound}
+
+-- ---- ready processes
+
+has_tail : (x q : ℕ) (xs : List ℕ) → has xs q ≡ true → has (x ∷ xs) q ≡ true
+has_tail x q xs h = by (eqb x q)
+  where
+    by : (b : Bool) → (b || has xs q) ≡ true
+    by true = refl
+    by false = h
+
+has_head : (x : ℕ) (xs : List ℕ) → has (x ∷ xs) x ≡ true
+has_head x xs = elim (eqb_tells x x) [ inl e ↦ rw e.0 refl | inr n ↦ absurd (n.1 refl) ]
+
+eqb_turned : (x y : ℕ) → eqb x y ≡ eqb y x
+eqb_turned x y = elim (eqb_tells x y) [
+  | inl e ↦ elim (eqb_tells y x) [ inl d ↦ e.0 ∙ sym d.0 | inr m ↦ absurd (m.1 (sym e.1)) ]
+  | inr n ↦ elim (eqb_tells y x) [ inl d ↦ absurd (n.1 (sym d.1)) | inr m ↦ n.0 ∙ sym m.0 ]
+]
+
+or_none : (a b : Bool) → (a || b) ≡ false → (a ≡ false) × (b ≡ false)
+or_none true b h = absurd (let no : true ≡ false = h in cc)
+or_none false b h = (refl, h)
+
+apart_all : (x : ℕ) (xs : List ℕ) → has xs x ≡ false → AllByRecursion (λ y. eqb x y ≡ false) xs
+apart_all x [] h = tt
+apart_all x (y ∷ ys) h = let both = or_none (eqb y x) (has ys x) h in
+    (eqb_turned x y ∙ both.0, apart_all x ys both.1)
+
+distinct : (xs : List ℕ) → AreDistinct xs → IsDistinct eqb xs
+unfolding IsDistinct
+distinct [] h = tt
+distinct (x ∷ xs) h = (apart_all x xs h.0, distinct xs h.1)
+
+turned : (xs : List ℕ) (q : ℕ) → list_any (eqb q) xs ≡ true → has xs q ≡ true
+turned [] q h = h
+turned (x ∷ xs) q h = by (eqb x q) refl (turned xs q)
+  where
+    by : (b : Bool) → eqb x q ≡ b → (list_any (eqb q) xs ≡ true → has xs q ≡ true) → (b || has xs q) ≡ true
+    by true e rest = refl
+    by false e rest = rest (subst (λ (b : Bool). (b || list_any (eqb q) xs) ≡ true) (eqb_turned q x ∙ e) h)
+
+-- a list of distinct numbers below a number is no longer than that
+short : (n : ℕ) (xs : List ℕ) → AreDistinct xs → ((q : ℕ) → has xs q ≡ true → q < n) → length xs ≤ n
+short n xs once below = length-le_from_distinct_below xs n (distinct xs once) (λ q h. below q (turned xs q h))
+
+module _ {D : Type 0} (t : Parts D) (c : ℕ) (sound : IsSound t) where
+  abbrev s : State
+  s = t.state
+
+  -- The ready list has room for the process of a processor.
+  pub ready_room : (k : ℕ) → (cpu_at s.processors c).process ≡ Some k → length s.ready < t.room
+  ready_room k its =
+      let scheduled = sound.keeps.machine.scheduled in
+      let planned = (scheduled.running c k its).planned in
+      let long : length (k ∷ s.ready) ≤ length s.plan.processes = short (length s.plan.processes) (k ∷ s.ready)
+      (scheduled.apart c k its, scheduled.once) (λ q h. both q planned h) in
+      let room = sound.room in
+      omega (arith, long, room)
+    where
+      both : (q : ℕ) → k < length s.plan.processes → has (k ∷ s.ready) q ≡ true → q < length s.plan.processes
+      both q planned h = elim (eqb_tells k q) [
+        | inl e ↦ subst (λ (j : ℕ). j < length s.plan.processes) e.1 planned
+        | inr n ↦ (sound.keeps.machine.scheduled.waiting q
+            (subst (λ (b : Bool). (b || has s.ready q) ≡ true) n.0 h)).planned
+      ]
+
+  -- The process of a processor is one of those that run.
+  pub run_there : (k : ℕ) → (cpu_at s.processors c).process ≡ Some k → k < length s.runs
+  run_there k its =
+      let planned = (sound.keeps.machine.scheduled.running c k its).planned in
+      let sizes = sound.keeps.machine.keeps.sizes.processes in
+      omega (arith, planned, sizes)
+
+-- ---- what is taken in
+
+-- what isn't held by its number isn't found
+seg_new : (es : List HeldSeg) (n : ℕ) → has (map (λ e. e.number) es) n ≡ false → find (is_number n) es ≡ None
+seg_new [] n h = refl
+seg_new (e ∷ es) n h = let both = or_none (eqb e.number n) (has (map (λ x. x.number) es) n) h in
+    by (eqb e.number n) both.0 (seg_new es n both.1)
+  where
+    by : (b : Bool) → b ≡ false → find (is_number n) es ≡ None → cond b (Some e) (find (is_number n) es) ≡ None
+    by true h rest = absurd (let no : true ≡ false = h in cc)
+    by false h rest = rest
+
+module _ {D : Type 0} (t : Parts D) (c : ℕ) (sound : IsSound t) (there : c < length t.state.processors) where
+  abbrev u : State
+  u = t.state
+
+  can_fill : (n : ℕ) → action_of u c ≡ act.FillSeg n → CanFill u c n
+  can_fill n doing = subst (λ (a : Action). CanDo u c (no_call u) a) doing
+      (action_can u c (no_call u) sound.keeps.machine.keeps there
+      (subst (λ (a : Action). Asks u c (no_call u) a) (sym doing) tt))
+
+  -- A descriptor that is taken in isn't held.
+  pub seg_not_held : (n : ℕ) → action_of u c ≡ act.FillSeg n → seg_of (cpu_at u.processors c).assoc n ≡ None
+  seg_not_held n doing = let can = can_fill n doing in
+      seg_new (cpu_at u.processors c).assoc.segs n
+      (subst (λ (m : ℕ). has (map (λ e. e.number) (cpu_at u.processors c).assoc.segs) m ≡ false) can.number can.can.new)
+
+  -- The process of a processor has numbers.
+  pub process_known : (k : ℕ) → (cpu_at u.processors c).process ≡ Some k → k < length u.store.links.known
+  process_known k its =
+      let planned = (sound.keeps.machine.scheduled.running c k its).planned in
+      let whos : length u.store.whos ≡ length u.plan.processes =
+      ap (λ (xs : List Who). length xs) sound.keeps.machine.keeps.faithful.script.whos
+      ∙ length-map u.plan.processes (λ x. x.who) in
+      let known = sound.keeps.machine.keeps.store.counted.known.processes in
+      omega (arith, planned, whos, known)
+
+  -- A descriptor that is taken in is one of a process's 256.
+  pub number_there : (k n : ℕ) → (cpu_at u.processors c).process ≡ Some k → action_of u c ≡ act.FillSeg n → n < 256
+  number_there k n its doing = elim (leb_tells 256 n) [
+    | inl past ↦
+        (let can = can_fill n doing in
+        let same : can.process ≡ k = some_is (sym can.can.process ∙ its) in
+        let long : length (sdws_at u.store.links.descriptors k) ≡ 256 =
+        sound.keeps.machine.keeps.store.kept.linked.lists.words k (process_known k its) in
+        let far : length (sdws_at u.store.links.descriptors k) ≤ n = omega (arith, long, past.1) in
+        let fault : descriptor_of u.store.links k n ≡ sdw.Fault =
+        get_or_past (sdws_at u.store.links.descriptors k) n sdw.Fault far in
+        let none : (seen u).linked k n ≡ None = ap (led_to u.store.ast.entries) fault in
+        let some : (seen u).linked k n ≡ Some (to_hold u c n).uid = subst (λ (j : ℕ). (seen u).linked j n
+        ≡ Some (to_hold u c n).uid) same (subst (λ (m : ℕ). (seen u).linked can.process m ≡ Some (to_hold u c n).uid)
+        can.number can.can.linked) in
+        absurd (none_some (sym none ∙ some)))
+    | inr less ↦ (let far = less.1 in omega (arith, far))
+  ]
+    where
+      some_is : {a b : ℕ} → Some a ≡ Some b → a ≡ b
+      some_is h = cc
+
+-- a page whose frame isn't held isn't found
+and_both : (a b c d : ℕ) → (eqb a c && eqb b d) ≡ true → (a ≡ c) × (b ≡ d)
+and_both a b c d h = elim (eqb_tells a c) [
+  | inl y ↦ elim (eqb_tells b d) [
+    | inl z ↦ (y.1, z.1)
+    | inr m ↦ absurd (let no : false ≡ true = sym (rw (y.0, m.0) refl) ∙ h in cc)
+  ]
+  | inr m ↦ absurd (let no : false ≡ true = sym (rw m.0 refl) ∙ h in cc)
+]
+
+page_new : (bound : ℕ → Option (ℕ × ℕ)) (es : List HeldPage) (u p f : ℕ) → AreHeldPages bound es
+    → ((g : ℕ) → bound g ≡ Some (u, p) → g ≡ f) → has (map (λ e. e.frame) es) f ≡ false → find (is_page u p) es ≡ None
+page_new bound [] u p f held once h = refl
+page_new bound (e ∷ es) u p f held once h =
+    let both = or_none (eqb e.frame f) (has (map (λ x. x.frame) es) f) h in
+    by (is_page u p e) refl both.0 (page_new bound es u p f held.1 once both.1)
+  where
+    by : (b : Bool) → is_page u p e ≡ b → eqb e.frame f ≡ false → find (is_page u p) es ≡ None
+        → cond b (Some e) (find (is_page u p) es) ≡ None
+    by true i off rest =
+        let its = and_both e.uid e.page u p i in
+        let there : bound e.frame ≡ Some (u, p) = held.0 ∙ λ j. Some (its.0 j, its.1 j) in
+        elim (eqb_tells e.frame f) [
+          | inl y ↦ absurd (let no : true ≡ false = sym y.0 ∙ off in cc)
+          | inr n ↦ absurd (n.1 (once e.frame there))
+        ]
+    by false i off rest = rest
+
+module _ {D : Type 0} (t : Parts D) (c : ℕ) (sound : IsSound t) (there : c < length t.state.processors) where
+  abbrev v : State
+  v = t.state
+
+  -- A page that is taken in isn't held.
+  pub page_not_held : (f : ℕ) (r : Reference) → action_of v c ≡ act.FillPage f r
+      → page_of (cpu_at v.processors c).assoc (held_page (cpu_at v.processors c) f r).uid (r.offset / 1024) ≡ None
+  page_not_held f r doing =
+      let e = held_page (cpu_at v.processors c) f r in
+      let can = subst (λ (a : Action). CanDo v c (no_call v) a) doing
+      (action_can v c (no_call v) sound.keeps.machine.keeps there
+      (subst (λ (a : Action). Asks v c (no_call v) a) (sym doing) tt)) in
+      let book = sound.keeps.machine.keeps.book in
+      page_new (seen v).bound (cpu_at v.processors c).assoc.pages e.uid (r.offset / 1024) f (book.holding_right c).pages
+      (λ g bound. frame_is (sym (book.tied.named g e.uid (r.offset / 1024) bound) ∙ ap names can.0.word)) can.0.new
+    where
+      frame_is : {a b : ℕ} → Some a ≡ Some b → a ≡ b
+      frame_is h = cc

@@ -1,0 +1,19 @@
+use Rattle.machine.proofs.AloneLaws.{number_there, process_known, seg_not_held}
+use Rattle.machine.proofs.Quiet.{fill_seg_sound}
+use Rattle.machine.proofs.machine.Machine.fill_seg.Goals as goal
+
+pub invariant_of-self : goal.invariant_of-self
+invariant_of-self g c = rw c.fill_seg.ensures (fill_seg_sound _ c.args.c c.self.invariant
+    (rw c.self.view_is c.requires.there) c.args.number (rw c.self.view_is c.requires.doing))
+
+pub fill_seg-requires-clause-known : goal.fill_seg-requires-clause-known
+fill_seg-requires-clause-known g c = process_known _ c.args.c c.self.invariant (rw c.self.view_is c.requires.there)
+    c.args.process (rw c.self.view_is c.requires.process)
+
+pub fill_seg-requires-clause-number : goal.fill_seg-requires-clause-number
+fill_seg-requires-clause-number g c = number_there _ c.args.c c.self.invariant (rw c.self.view_is c.requires.there)
+    c.args.process c.args.number (rw c.self.view_is c.requires.process) (rw c.self.view_is c.requires.doing)
+
+pub fill_seg-requires-clause-new : goal.fill_seg-requires-clause-new
+fill_seg-requires-clause-new g c = seg_not_held _ c.args.c c.self.invariant (rw c.self.view_is c.requires.there)
+    c.args.number (rw c.self.view_is c.requires.doing)
