@@ -1,5 +1,5 @@
 -- What the tables ask of a processor that acts by itself follows from the promise and the rule.
-use Rattle.std.proofs.Common.{◌≡◌, ◌<◌, ◌≤◌, ◌/◌, ℕ, Bool, true, false, ◌||◌, ◌&&◌, cond, eqb, length, map}
+use Rattle.std.proofs.Common.{◌≡◌, ◌<◌, ◌≤◌, ◌+◌, ◌-◌, ◌^◌, ◌/◌, ℕ, suc, zero, Bool, true, false, ◌||◌, ◌&&◌, cond, eqb, length, map}
 use Rattle.std.proofs.Common.{List, [], ◌∷◌, Option, Some, None, refl, sym, ap, subst, ◌∙◌, inl, inr, arith}
 use Rattle.std.specs.List.{find, list_any}
 use Rattle.std.specs.List.{AllByRecursion, IsDistinct}
@@ -8,14 +8,22 @@ use Rattle.std.proofs.lemmas.Bool.Decides.{eqb_tells}
 use Rattle.assoc_mem.specs.declared.HeldPage.{HeldPage}
 use Rattle.assoc_mem.specs.declared.HeldSeg.{HeldSeg}
 use Rattle.assoc_mem.specs.Held.{is_number, is_page, page_of, seg_of}
-use Rattle.custody_model.specs.Custody.{has}
+use Rattle.script.specs.declared.commands.Command.{Command}
+use Rattle.flat_model.specs.Commands.{is_end}
+use Rattle.flat_store.proofs.ReachLaws.{place_fits, place_within}
+use Rattle.custody_model.specs.Clean.{custody_after}
+use Rattle.custody_model.specs.Custody.{Custody, Seat, has, range}
+use Rattle.custody_model.specs.Next.{released_by}
 use Rattle.machine_model.specs.Actions as act
 use Rattle.machine_model.specs.Actions.{Action, action_of}
 use Rattle.machine_model.specs.After.{no_call}
 use Rattle.machine_model.specs.Custodial.{AreDistinct, AreHeldPages, names}
 use Rattle.machine_model.specs.Steps.{held_page}
 use Rattle.script.specs.declared.commands.Reference.{Reference}
-use Rattle.machine_model.specs.Reads.{cpu_at, descriptor_of}
+use Rattle.machine_model.specs.Reads.{cpu_at, descriptor_of, processor_at, run_at}
+use Rattle.machine_model.specs.Seen.{shown}
+use Rattle.machine_model.proofs.SpeakLaws.{speaks}
+use Rattle.machine.proofs.CountedLaws.{counted_after}
 use Rattle.machine_model.specs.Holding.{led_to, seen}
 use Rattle.mnames.specs.declared.principals.Who.{Who}
 use Rattle.descriptor_seg.specs.declared.Sdw.TheVariants as sdw
@@ -207,3 +215,83 @@ module _ {D : Type 0} (t : Parts D) (c : ℕ) (sound : IsSound t) (there : c < l
     where
       frame_is : {a b : ℕ} → Some a ≡ Some b → a ≡ b
       frame_is h = cc
+
+-- ---- answers
+
+list_none : (xs : List ℕ) → ((q : ℕ) → has xs q ≡ true → ⊥) → xs ≡ []
+list_none [] h = refl
+list_none (x ∷ xs) h = absurd (h x (has_head x xs))
+
+range_length : (from n : ℕ) → length (range from n) ≡ n
+range_length from zero = refl
+range_length from (suc n) = ap suc (range_length (from + 1) n)
+
+module _ {D : Type 0} (t : Parts D) (c : ℕ) (sound : IsSound t) (k : ℕ)
+    (its : (cpu_at t.state.processors c).process ≡ Some k) where
+  abbrev w : State
+  w = t.state
+
+  abbrev n : ℕ
+  n = length w.plan.processes
+
+  -- Where the initializer ends no other process is ready, so the ready list has room for all.
+  pub released_room : (cmd : Option Command) → length w.ready + length (released_by w.plan k cmd) ≤ t.room
+  released_room None = let less = ready_room t c sound k its in omega (arith, less)
+  released_room (Some cmd) = freed (is_end cmd && (w.plan.initializer && eqb k 0)) refl
+    where
+      small : length w.ready < t.room
+      small = ready_room t c sound k its
+
+      alone : w.plan.initializer ≡ true → k ≡ 0 → w.ready ≡ []
+      alone first zeroth = list_none w.ready (λ q h.
+          (let may = sound.keeps.machine.scheduled.waiting q h in
+          let mine = sound.keeps.machine.scheduled.running c k its in
+          elim may.turn [
+            | inl never ↦ (let wrong : true ≡ false = sym first ∙ never in cc)
+            | inr rest ↦ elim rest [
+              | inl same ↦
+                  (let apart = sound.keeps.machine.scheduled.apart c k its in
+                  let here : has w.ready k ≡ true = subst (λ (j : ℕ). has w.ready j ≡ true) (same ∙ sym zeroth) h in
+                  let wrong : true ≡ false = sym here ∙ apart in cc)
+              | inr ended ↦
+                  (let going : (run_at w.runs 0).ended ≡ false = subst (λ (j : ℕ). (run_at w.runs j).ended ≡ false) zeroth
+                  mine.going in
+                  let wrong : true ≡ false = sym ended ∙ going in cc)
+            ]
+          ]))
+
+      freed : (b : Bool) → (is_end cmd && (w.plan.initializer && eqb k 0)) ≡ b
+          → length w.ready + length (cond b (range 1 (n - 1)) []) ≤ t.room
+      freed true h =
+          let parts = both_true (is_end cmd) (w.plan.initializer && eqb k 0) h in
+          let more = both_true w.plan.initializer (eqb k 0) parts.1 in
+          let none : length w.ready ≡ 0 = ap (λ (xs : List ℕ). length xs) (alone more.0 (is_zeroth more.1)) in
+          let long = range_length 1 (n - 1) in
+          let room = sound.room in
+          omega (arith, none, long, room)
+        where
+          is_zeroth : eqb k 0 ≡ true → k ≡ 0
+          is_zeroth e = elim (eqb_tells k 0) [ inl x ↦ x.1 | inr m ↦ absurd (let no : true ≡ false = sym e ∙ m.0 in cc) ]
+
+          both_true : (a b : Bool) → (a && b) ≡ true → (a ≡ true) × (b ≡ true)
+          both_true true b e = (refl, e)
+          both_true false b e = absurd (let no : false ≡ true = e in cc)
+      freed false h = omega (arith, small)
+
+  -- A processor has answered fewer commands since it loaded its process than the book has entries.
+  pub count_room : (processor_at w.processors c).count < length w.entries
+  count_room =
+      let held = sound.keeps.machine.keeps.book.held in
+      let seat : Seat = (custody_after w.plan w.entries).seat c in
+      let same : (shown (seen w)).seat c ≡ seat = ap (λ (x : Custody). x.seat c) held in
+      let process : seat.process ≡ Some k = ap (λ (x : Seat). x.process) (sym same) ∙ its in
+      let less = counted_after w.plan w.entries c k process in
+      let count : (processor_at w.processors c).count ≡ seat.count = ap (λ (x : Seat). x.count) same in
+      omega (arith, less, count)
+
+  -- A process's next command is one of at most 100,000.
+  pub place_room : c < length w.processors → (run_at w.runs k).place + 1 < 2 ^ 32
+  place_room there =
+      let mine = speaks w c k sound.keeps.machine there its in
+      place_fits w.plan k (run_at w.runs k).place sound.keeps.machine.script
+      (place_within w.plan k (run_at w.runs k).place mine.0 mine.1.next)

@@ -1,3 +1,4 @@
 pub mod AloneLaws
+pub mod CountedLaws
 pub mod Quiet
 pub mod Steps

@@ -1,5 +1,5 @@
 -- Actions that leave the store as it is: it keeps its promise and shows the same, so the machine keeps its own.
-use Rattle.std.proofs.Common.{◌≡◌, ◌<◌, ℕ, length, true, false, refl, sym, subst, arith}
+use Rattle.std.proofs.Common.{◌≡◌, ◌<◌, ℕ, length, true, false, refl, sym, ap, subst, arith}
 use Rattle.assoc_mem.specs.declared.What.{What}
 use Rattle.script.specs.declared.commands.Reference.{Reference}
 use Rattle.machine_model.specs.Actions as act
@@ -10,7 +10,9 @@ use Rattle.machine_model.specs.Said.{shown_after}
 use Rattle.machine_model.specs.Jobs.{signalled}
 use Rattle.machine_model.specs.State.{State}
 use Rattle.machine_model.specs.Steps.{came_online, cleared_at, left_at, loaded, looking, page_filled, seg_filled}
-use Rattle.machine_model.specs.Steps.{with_owner}
+use Rattle.machine_model.specs.Steps.{told, told_by, with_owner}
+use Rattle.machine_model.specs.Reads.{cpu_at, or_zero}
+use Rattle.book.specs.declared.replies.Reply.{Reply}
 use Rattle.machine_model.proofs.StepAsks.{Rests}
 use Rattle.machine_tables.specs.Parts.{Parts, with_state}
 use Rattle.machine.specs.Promise.{IsSound}
@@ -68,3 +70,12 @@ module _ {D : Type 0} (t : Parts D) (c : ℕ) (sound : IsSound t) (there : c < l
   pub signal_sound : (w : What) → action_of s c ≡ act.Signal w → IsSound (with_state t (signalled s c w))
   unfolding after
   signal_sound w doing = quiet (act.Signal w) (signalled s c w) refl refl doing refl tt
+
+  plain_sound : (r : Reply) → action_of s c ≡ act.Plain r → IsSound (with_state t (told s c None r))
+  unfolding after
+  plain_sound r doing = quiet (act.Plain r) (told s c None r) refl refl doing refl tt
+
+  pub answer_sound : (k : ℕ) (r : Reply) → (cpu_at s.processors c).process ≡ Some k → action_of s c ≡ act.Plain r
+      → IsSound (with_state t (told_by s c k None r))
+  answer_sound k r its doing = subst (λ (j : ℕ). IsSound (with_state t (told_by s c j None r))) (ap or_zero its)
+      (plain_sound r doing)

@@ -1,13 +1,14 @@
 //! What a processor does without the supervisor.
 
-ghost use Rattle.std.specs.Prelude.{◌≡◌, ◌<◌, length, Some};
-ghost use Rattle.machine_model.specs.Actions.{Clear, FillPage, FillSeg, Leave, Load, Online, action_of};
-ghost use Rattle.machine_model.specs.Reads.{cpu_at};
-ghost use Rattle.machine_model.specs.Steps.{came_online, cleared_at, left_at, loaded, page_filled, seg_filled};
+ghost use Rattle.std.specs.Prelude.{◌≡◌, ◌<◌, ◌+◌, ◌^◌, length, None, Some};
+ghost use Rattle.machine_model.specs.Actions.{Clear, FillPage, FillSeg, Leave, Load, Online, Plain, action_of};
+ghost use Rattle.machine_model.specs.Reads.{cpu_at, processor_at};
+ghost use Rattle.machine_model.specs.Steps.{came_online, cleared_at, left_at, loaded, page_filled, seg_filled, told};
 ghost use Rattle.machine_tables.specs.Parts.{with_state};
 
 use crate::machine::Machine;
 use assoc_mem::What;
+use book::Reply;
 use script::Reference;
 use volumes::Drive;
 
@@ -73,5 +74,28 @@ impl<D: Drive> Machine<D> {
         ensures { self.new ≡ with_state self.old (page_filled self.old.state c frame reference) }
     {
         self.tables.fill_page(c, frame, reference);
+    }
+
+    /// How many entries the book has, which is more than the commands that processor `c` has answered since it loaded
+    /// its process.
+    fn entries(&self, c: u32, process: u32) -> usize
+        requires process { (cpu_at self.now.state.processors c).process ≡ Some process }
+        ensures entries { result ≡ length self.now.state.entries }
+        ensures count { (processor_at self.now.state.processors c).count < result }
+    {
+        self.tables.book().len()
+    }
+
+    /// Processor `c` answers the next command of its process by itself, through no frame: a reference that what it
+    /// holds refuses, or one to a page that stays all zeros. (Source: Bensoussan, Clingen and Daley 1972.)
+    pub(crate) fn answer(&mut self, c: u32, process: u32, reply: Reply)
+        requires doing { action_of self.old.state c ≡ Plain reply }
+        requires process { (cpu_at self.old.state.processors c).process ≡ Some process }
+        requires there { c < length self.old.state.processors }
+        requires room { 0 < self.old.state.spare }
+        ensures { self.new ≡ with_state self.old (told self.old.state c None reply) }
+    {
+        let _entries = self.entries(c, process);
+        self.tables.tell(c, process, None, reply);
     }
 }
