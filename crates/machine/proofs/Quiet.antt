@@ -10,7 +10,7 @@ use Rattle.machine_model.specs.Said.{shown_after}
 use Rattle.machine_model.specs.Jobs.{signalled}
 use Rattle.machine_model.specs.State.{State}
 use Rattle.machine_model.specs.Steps.{came_online, cleared_at, left_at, loaded, looking, page_filled, seg_filled}
-use Rattle.machine_model.specs.Steps.{told, told_by, with_owner}
+use Rattle.machine_model.specs.Steps.{answered, told, told_by, with_owner}
 use Rattle.machine_model.specs.Reads.{cpu_at, or_zero}
 use Rattle.book.specs.declared.replies.Reply.{Reply}
 use Rattle.machine_model.proofs.StepAsks.{Rests}
@@ -79,3 +79,12 @@ module _ {D : Type 0} (t : Parts D) (c : ℕ) (sound : IsSound t) (there : c < l
       → IsSound (with_state t (told_by s c k None r))
   answer_sound k r its doing = subst (λ (j : ℕ). IsSound (with_state t (told_by s c j None r))) (ap or_zero its)
       (plain_sound r doing)
+
+  answered_sound : (r : Reply) → action_of s c ≡ act.Answer r → IsSound (with_state t (answered s c r))
+  unfolding after
+  answered_sound r doing = quiet (act.Answer r) (answered s c r) refl refl doing refl tt
+
+  pub refuse_sound : (k : ℕ) (r : Reply) → (cpu_at s.processors c).process ≡ Some k → action_of s c ≡ act.Answer r
+      → IsSound (with_state t (with_owner (told_by s c k None r) None))
+  refuse_sound k r its doing = subst (λ (j : ℕ). IsSound (with_state t (with_owner (told_by s c j None r) None)))
+      (ap or_zero its) (answered_sound r doing)

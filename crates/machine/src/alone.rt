@@ -78,7 +78,7 @@ impl<D: Drive> Machine<D> {
 
     /// How many entries the book has, which is more than the commands that processor `c` has answered since it loaded
     /// its process.
-    fn entries(&self, c: u32, process: u32) -> usize
+    pub(crate) fn entries(&self, c: u32, process: u32) -> usize
         requires process { (cpu_at self.now.state.processors c).process ≡ Some process }
         ensures entries { result ≡ length self.now.state.entries }
         ensures count { (processor_at self.now.state.processors c).count < result }

@@ -3,6 +3,7 @@
 #![tactic(auto)]
 
 mod alone;
+mod looking;
 mod machine;
 
 pub use machine::Machine;
