@@ -1,7 +1,7 @@
 //! The traffic controller's ready list: the processes that want a processor, first come, first served.
 #![tactic(auto)]
 
-ghost use Rattle.std.specs.Prelude.{◌≡◌, ◌<◌, ◌↔◌, [], ◌∷◌, length, IsTrue, IsNone, IfOk, IfSome};
+ghost use Rattle.std.specs.Prelude.{◌≡◌, ◌<◌, ◌↔◌, [], ◌∷◌, drop, length, IsTrue, IsNone, IfOk, IfSome, IfNone};
 ghost use Rattle.traffic.specs.Queue.{empty_queue, with_last, without_front};
 
 use circular_buffer::HeapCircularBuffer;
@@ -40,6 +40,16 @@ impl Ready {
             Ok(queue) => Ok(Ready { queue }),
             Err(_) => Err(NoMemory),
         }
+    }
+
+    /// The process at the front of the list, which stays there; `None` exactly where nobody is ready.
+    ///
+    /// Costs the same however long the list is.
+    pub fn front(&self) -> Option<u32>
+        ensures front { IfSome result (λ k. self.now.waiting ≡ k ∷ drop 1 self.now.waiting) }
+        ensures empty { IfNone result (self.now.waiting ≡ []) }
+    {
+        self.queue.front().copied()
     }
 
     /// Takes the process at the front out of the list and gives its number; `None` where nobody is ready.
@@ -83,9 +93,11 @@ mod tests {
             return;
         };
         assert!(rt; ready.is_empty());
+        assert_eq!(rt; ready.front(), None);
         assert_eq!(rt; ready.next(), None);
         ready.enter(5);
         ready.enter(3);
+        assert_eq!(rt; ready.front(), Some(5));
         assert_eq!(rt; ready.next(), Some(5));
         ready.enter(5);
         assert_eq!(rt; ready.next(), Some(3));
