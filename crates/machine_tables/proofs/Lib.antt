@@ -1,10 +1,12 @@
 pub mod BackLaws
 pub mod ChoiceLaws
+pub mod CommandLaws
 pub mod CutLaws
 pub mod FailedLaws
 pub mod JobLaws
 pub mod LeftLaws
 pub mod LinkLaws
+pub mod MoveLaws
 pub mod PageLaws
 pub mod PartLaws
 pub mod ReadyLaws

@@ -1,4 +1,5 @@
 pub mod Held
+pub mod Meant
 pub mod Owned
 pub mod Parts
 pub mod Returned

@@ -27,7 +27,7 @@ struct Answered {
 }
 
 /// The command at a place of a process, if there is one.
-fn command_at(script: &Script, process: u32, place: u32) -> Option<&Command>
+pub(crate) fn command_at(script: &Script, process: u32, place: u32) -> Option<&Command>
     ensures some { IfSome result (λ c. command_at script.now process place ≡ Some c.now) }
     ensures none { IfNone result (command_at script.now process place ≡ None) }
 {

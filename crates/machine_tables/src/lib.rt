@@ -6,13 +6,17 @@
 //! Costs: a call changes a processor, the book and at most one table. None but `reserve` takes memory.
 #![tactic(auto)]
 
+mod action;
 mod answering;
+mod choosing;
+mod commands;
 mod connecting;
 mod emptying;
 mod ending;
 mod finishing;
 mod looks;
 mod owner;
+mod owning;
 mod paging;
 mod signals;
 mod starting;
@@ -21,5 +25,6 @@ mod taking;
 mod transfers;
 mod turns;
 
+pub use action::{Action, Why};
 pub use owner::{Holder, Job};
 pub use tables::{NoMemory, Tables};

@@ -1,8 +1,8 @@
-ghost use Rattle.std.specs.Prelude.{◌≡◌, ◌<◌, length, Some, None, IfOk, slice_get};
+ghost use Rattle.std.specs.Prelude.{◌≡◌, ◌<◌, ◌∷◌, [], drop, length, Some, None, IfOk, IfSome, IfNone, slice_get};
 ghost use Rattle.machine_model.specs.Jobs.{owner_signalled, without_first_cut, without_first_frame};
 ghost use Rattle.machine_model.specs.Reads.{cut_of_owner, frames_of_owner};
 ghost use Rattle.machine_model.specs.Steps.{looking};
-ghost use Rattle.machine_tables.specs.Owned.{HasOwner, took_cut, took_frame};
+ghost use Rattle.machine_tables.specs.Owned.{HasOwner, owner_of, took_cut, took_frame};
 
 use crate::tables::NoMemory;
 use assoc_mem::What;
@@ -60,6 +60,24 @@ impl Job {
             frames,
             cut,
         })
+    }
+
+    /// The processor that owns the supervisor, and how far its job has come.
+    pub(crate) fn holder(&self) -> Option<Holder>
+        ensures some { IfSome result (λ h. self.now
+            ≡ owner_of (Some h) (frames_of_owner self.now) (cut_of_owner self.now)) }
+        ensures none { IfNone result (self.now ≡ None) }
+    {
+        self.holder
+    }
+
+    /// The first frame that the owner took; `None` exactly where there is none.
+    pub(crate) fn first_frame(&self) -> Option<u32>
+        requires { HasOwner self.now }
+        ensures front { IfSome result (λ f. frames_of_owner self.now ≡ f ∷ drop 1 (frames_of_owner self.now)) }
+        ensures empty { IfNone result (frames_of_owner self.now ≡ []) }
+    {
+        self.frames.front().copied()
     }
 
     /// A processor owns the supervisor from now on, and looks.

@@ -1,0 +1,77 @@
+-- The command that a process comes to: its numbers are in their ranges.
+use Rattle.std.proofs.Common.{◌≡◌, ◌<◌, ℕ, zero, suc, Bool, true, List, [], ◌∷◌, length, Option, Some, None, arith}
+use Rattle.std.proofs.Common.{refl, ap, sym, subst, ◌∙◌, ◌≤◌, get_or, inl, inr}
+use Rattle.std.specs.Prelude.{IfSome, nat_le, slice_get}
+use Rattle.std.specs.List.{list_all}
+use Rattle.std.proofs.lemmas.Bool.{and_parts, cases_lt}
+use Rattle.std.proofs.lemmas.Bool.Decides.{nat_tests}
+use Rattle.std.proofs.lemmas.List.{get_or_past}
+use Rattle.script.specs.Forms.{IsPlan, is_command, is_place}
+use Rattle.script.specs.Plans.{Plan, ProcessPlan, command_at}
+use Rattle.script.specs.References.{reference_of}
+use Rattle.script.specs.declared.commands.Command.{Command}
+use Rattle.script.specs.declared.commands.Command.TheVariants as command
+use Rattle.script.specs.declared.commands.Reference.{Reference}
+use Rattle.machine_model.specs.Actions.{come_to, refer_or_take, take_or_wait}
+use Rattle.machine_model.specs.State.{State}
+use Rattle.machine_model.proofs.ComingLaws.{AreScripts, scripts_are}
+use Rattle.machine_model.proofs.LeftLaws.{no_process}
+use Rattle.machine_model.proofs.TieLaws.{none_some}
+use Rattle.machine_tables.specs.Meant.{refers}
+use Rattle.processor.specs.declared.Cpu.{Cpu}
+
+in_range : (volumes : ℕ) (cs : List Command) (place : ℕ) (c : Command)
+    → list_all (is_command volumes) cs ≡ true → slice_get cs place ≡ Some c → is_command volumes c ≡ true
+in_range volumes [] place c are at = absurd cc
+in_range volumes (d ∷ cs) zero c are at =
+    let same : d ≡ c = cc in let is : is_command volumes d ≡ true = (and_parts _ _ are).0 in cc
+in_range volumes (d ∷ cs) (suc place) c are at = in_range volumes cs place c (and_parts _ _ are).1 at
+
+no_command : (xs : List ProcessPlan) (k place : ℕ) → length xs ≤ k → slice_get (get_or xs k no_process).commands place
+    ≡ None
+no_command xs k place le = ap (λ (x : ProcessPlan). slice_get x.commands place) (get_or_past xs k no_process le)
+
+pub command_ranges : (p : Plan) (k place : ℕ) (c : Command) → IsPlan p → command_at p k place ≡ Some c
+    → is_command (length p.volumes) c ≡ true
+command_ranges p k place c plan at = elim (cases_lt k (length p.processes)) [
+  | inl lt ↦ in_range (length p.volumes) _ place c ((scripts_are p plan).ranges k lt) at
+  | inr le ↦ absurd (let none = no_command p.processes k place le in none_some (sym none ∙ at))
+]
+
+-- the number of a reference is one of 256
+small_in : (n offset : ℕ) (x r : Reference) → is_place n offset ≡ true → x.number ≡ n → Some x ≡ Some r → r.number < 256
+small_in n offset x r place is e =
+    let same : x ≡ r = cc in
+    let at : x.number ≡ r.number = ap (λ (y : Reference). y.number) same in
+    let le : nat_le n 255 ≡ true = (and_parts _ _ place).0 in
+    grind (arith, nat_tests)
+
+pub number_small : (volumes : ℕ) (c : Command) (r : Reference) → is_command volumes c ≡ true
+    → reference_of c ≡ Some r → r.number < 256
+unfolding is_command
+number_small volumes (command.Read n o) r h e = small_in n o _ r h refl e
+number_small volumes (command.Write n o w) r h e = small_in n o _ r (and_parts _ _ h).0 refl e
+number_small volumes (command.Add n o w) r h e = small_in n o _ r (and_parts _ _ h).0 refl e
+number_small volumes (command.Await n o w t) r h e = small_in n o _ r (and_parts _ _ h).0 refl e
+number_small volumes c r h e = cc
+
+by_command : (p : Plan) (k place : ℕ) (o : Option Command) → IsPlan p → command_at p k place ≡ o
+    → IfSome (refers o) (λ r. r.number < 256)
+by_command p k place None plan at = tt
+by_command p k place (Some c) plan at = by (reference_of c) refl
+  where
+    by : (x : Option Reference) → reference_of c ≡ x → IfSome x (λ r. r.number < 256)
+    by None e = tt
+    by (Some r) e = number_small (length p.volumes) c r (command_ranges p k place c plan at) e
+
+pub next_number : (p : Plan) (k place : ℕ) (x : Option Reference) → IsPlan p → x ≡ refers (command_at p k place)
+    → IfSome x (λ r. r.number < 256)
+next_number p k place x plan is =
+    subst (λ (y : Option Reference). IfSome y (λ r. r.number < 256)) (sym is)
+    (by_command p k place (command_at p k place) plan refl)
+
+-- what comes of the next command is what comes of its reference
+pub come_to_refers : (s : State) (cpu : Cpu) (k : ℕ) (o : Option Command)
+    → come_to s cpu k o ≡ refer_or_take s cpu k (refers o)
+come_to_refers s cpu k None = refl
+come_to_refers s cpu k (Some c) = refl

@@ -1,0 +1,38 @@
+-- What a processor does by itself with a reference, by the tables.
+use Rattle.std.proofs.Common.{◌≡◌, ℕ, List, ap, subst, sym, ◌∙◌}
+use Rattle.std.specs.Prelude.{IfSome}
+use Rattle.assoc_mem.specs.Held.{seg_of}
+use Rattle.active_segs.specs.Active.{ActiveSegs, IsTree, table_at}
+use Rattle.descriptor_seg.specs.declared.Sdw.{Sdw}
+use Rattle.page_table.specs.PageTable.{ptw_at}
+use Rattle.seg_control.specs.Control.{sdws_at, word_of}
+use Rattle.seg_control.proofs.Places.{place_is}
+use Rattle.processor.specs.declared.Cpu.{Cpu}
+use Rattle.processor.specs.declared.Move.{Move}
+use Rattle.processor.specs.Moves.{AreWords, IsLongEnough, next_move}
+use Rattle.script.specs.declared.commands.Reference.{Reference}
+use Rattle.page_table.specs.declared.Ptw.{Ptw}
+use Rattle.machine_model.specs.Actions.{move_of}
+use Rattle.machine_model.specs.State.{State}
+use Rattle.machine_tables.specs.Held.{AreLong}
+
+-- the words of the active segments are those of their places
+pub words_are : (ast : ActiveSegs) → IsTree ast.entries → AreWords ast (word_of ast)
+words_are ast tree place uid at page =
+    ap (λ (x : ℕ). ptw_at (table_at ast.tables x) page) (place_is ast.entries uid place tree at)
+
+pub long_for : (ast now : ActiveSegs) (cpu held : Cpu) (n : ℕ) → now ≡ ast → held ≡ cpu → AreLong ast cpu.assoc
+    → IfSome (seg_of held.assoc n) (IsLongEnough now)
+long_for ast now cpu held n a h long =
+    subst (λ (x : ActiveSegs). IfSome (seg_of held.assoc n) (IsLongEnough x)) (sym a)
+    (subst (λ (x : Cpu). IfSome (seg_of x.assoc n) (IsLongEnough ast)) (sym h) (long n))
+
+pub move_is : (s : State) (k : ℕ) (r : Reference) (ast : ActiveSegs) (cpu held : Cpu) (ds : List Sdw) (m : Move)
+    → ast ≡ s.store.ast → held ≡ cpu → ds ≡ sdws_at s.store.links.descriptors k → IsTree s.store.ast.entries
+    → ((words : ℕ → ℕ → Ptw) → AreWords ast words → m ≡ next_move held.assoc ds words r) → m ≡ move_of s cpu k r
+move_is s k r ast cpu held ds m a h d tree by =
+    let words : AreWords ast (word_of s.store.ast) =
+    subst (λ (x : ActiveSegs). AreWords x (word_of s.store.ast)) (sym a) (words_are s.store.ast tree) in
+    by (word_of s.store.ast) words
+    ∙ ap (λ (x : Cpu). next_move x.assoc ds (word_of s.store.ast) r) h
+    ∙ ap (λ (x : List Sdw). next_move cpu.assoc x (word_of s.store.ast) r) d

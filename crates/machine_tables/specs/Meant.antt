@@ -1,0 +1,64 @@
+-- The action of the machine's model that an action names.
+use Rattle.std.specs.Prelude.{ℕ, Option, Some, None}
+use Rattle.script.specs.References.{reference_of}
+use Rattle.script.specs.declared.commands.Command.{Command}
+use Rattle.script.specs.declared.commands.Reference.{Reference}
+use Rattle.core_map.specs.Clock.{clock_choice}
+use Rattle.dir_tree.specs.Nodes.{chain_of}
+use Rattle.machine_model.specs.Actions as act
+use Rattle.machine_model.specs.Actions.{descriptors_taken, first_taken, frames_taken, what_taken}
+use Rattle.machine_model.specs.Reads.{next_command, or_zero}
+use Rattle.machine_model.specs.Refusal.{uid_of_command}
+use Rattle.machine_model.specs.State.{State, Storage}
+use Rattle.machine_tables.specs.declared.action.Action.{Action}
+use Rattle.machine_tables.specs.declared.action.Action.TheVariants as action
+use Rattle.machine_tables.specs.declared.action.Why.{Why}
+use Rattle.machine_tables.specs.declared.action.Why.TheVariants as why
+
+abbrev pub why_of : Why → act.Why
+why_of (why.ForOwner cpu) = act.ForOwner cpu
+why_of (why.ForClear cpu) = act.ForClear cpu
+why_of (why.ForTransfer frame) = act.ForTransfer frame
+why_of (why.WhileIdle busy) = act.WhileIdle busy
+
+-- what a tree command of a process must have out of use
+abbrev pub taken_for : Storage → ℕ → Option Command → act.Action
+taken_for st k None = act.Commit
+taken_for st k (Some c) = act.TakeAway (frames_taken st (uid_of_command st k c) (first_taken c))
+    (descriptors_taken st k (uid_of_command st k c) c) (what_taken (uid_of_command st k c) c)
+
+-- the action of the model, at a processor of this process
+abbrev pub meant : State → ℕ → Action → act.Action
+meant s k action.IsStopped = act.IsStopped
+meant s k action.HasEnded = act.HasEnded
+meant s k (action.Waits reason) = act.Waits (why_of reason)
+meant s k action.Online = act.Online
+meant s k (action.Clear what) = act.Clear what
+meant s k (action.EndTransfer transfer) = act.EndTransfer transfer
+meant s k (action.Load process) = act.Load process
+meant s k action.Leave = act.Leave
+meant s k (action.FillSeg number) = act.FillSeg number
+meant s k (action.FillPage frame reference) = act.FillPage frame reference
+meant s k (action.Through frame reference) = act.Through frame reference
+meant s k (action.Plain reply) = act.Plain reply
+meant s k action.TakeSupervisor = act.TakeSupervisor
+meant s k (action.Answer reply) = act.Answer reply
+meant s k action.GiveUp = act.GiveUp
+meant s k (action.Activate of uid place) = act.Activate uid place
+meant s k (action.Connect number uid) = act.Connect number uid
+meant s k (action.Create frame uid page reference) = act.Create frame uid page reference
+meant s k (action.Start frame uid page) = act.Start frame uid page
+meant s k action.Evict = act.Evict (or_zero (clock_choice s.store.pages.core))
+meant s k (action.Empty uid) = act.Empty uid
+meant s k (action.EmptyVictim pool of uid) = act.EmptyVictim pool (chain_of s.store.accounts.nodes of) uid
+meant s k action.TakeAway = taken_for s.store k (next_command s k)
+meant s k (action.Signal what) = act.Signal what
+meant s k (action.FinishEviction frame) = act.FinishEviction frame
+meant s k (action.FinishPage frame) = act.FinishPage frame
+meant s k (action.Deactivate uid) = act.Deactivate uid
+meant s k action.Commit = act.Commit
+
+-- the reference that a process comes to, if its next command makes one
+abbrev pub refers : Option Command → Option Reference
+refers None = None
+refers (Some c) = reference_of c

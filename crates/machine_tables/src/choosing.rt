@@ -1,0 +1,169 @@
+//! What a processor does in its next step, by the rules in their order.
+
+ghost use Rattle.std.specs.Prelude.{◌≡◌, ◌<◌, ℕ, length, Some, count_by};
+ghost use Rattle.std.specs.List.{list_any};
+ghost use Rattle.machine_model.specs.Actions.{by_move, come_to, has_had_its_turn, has_process, is_over};
+ghost use Rattle.machine_model.specs.Actions.{load_or_idle, move_of, run_process, take_or_wait};
+ghost use Rattle.machine_model.specs.Reads.{cpu_at, next_command, processor_at};
+ghost use Rattle.machine_tables.specs.Held.{AreLong};
+ghost use Rattle.machine_tables.specs.Meant.{meant};
+
+use crate::action::{Action, Why};
+use crate::tables::Tables;
+use machine_model::Processor;
+use processor::{Cpu, Move, next_move};
+use script::Reference;
+use volumes::Drive;
+
+/// Whether a process has had its turn: 16 commands, or a try that didn't end its `await`.
+fn has_had_its_turn(processor: &Processor) -> bool
+    ensures { result ≡ has_had_its_turn processor.now }
+{
+    16 <= processor.count || processor.tried
+}
+
+/// Whether a processor has a process.
+fn has_process(processor: &Processor) -> bool
+    ensures { result ≡ has_process processor.now }
+{
+    processor.cpu.process.is_some()
+}
+
+/// How many processors have a process.
+fn count_busy(processors: &[Processor]) -> usize
+    ensures { result ≡ count_by has_process processors.now }
+{
+    processors
+        .iter()
+        .filter(|processor| has_process(processor))
+        .count()
+}
+
+/// Whether a processor has a process.
+fn some_busy(processors: &[Processor]) -> bool
+    ensures { result ≡ list_any has_process processors.now }
+{
+    processors.iter().any(|processor| has_process(processor))
+}
+
+impl<D: Drive> Tables<D> {
+    /// How many processors have a process.
+    fn busy(&self) -> u32
+        requires { length self.now.state.processors ≡ self.now.state.plan.processors }
+        ensures { result ≡ count_by has_process self.now.state.processors }
+    {
+        let _most = self.book.script().processors();
+        count_busy(&self.processors) as u32
+    }
+
+    /// Whether no process is ready or running.
+    fn is_over(&self) -> bool
+        ensures { result ≡ is_over self.now.state }
+    {
+        self.ready.front().is_none() && !some_busy(&self.processors)
+    }
+
+    /// The front of the ready list is loaded, or there is nothing to do.
+    fn load_or_idle(&self) -> Action
+        requires { length self.now.state.processors ≡ self.now.state.plan.processors }
+        ensures { (k : ℕ) → meant self.now.state k result ≡ load_or_idle self.now.state self.now.state.ready }
+    {
+        match self.ready.front() {
+            Some(process) => Action::Load(process),
+            None => Action::Waits(Why::WhileIdle(self.busy())),
+        }
+    }
+
+    /// The supervisor is taken where nobody owns it.
+    fn take_or_wait(&self) -> Action
+        ensures { (k : ℕ) → meant self.now.state k result ≡ take_or_wait self.now.state.owner }
+    {
+        match self.job.holder() {
+            Some(holder) => Action::Waits(Why::ForOwner(holder.cpu)),
+            None => Action::TakeSupervisor,
+        }
+    }
+
+    /// A processor.
+    pub(crate) fn processor(&self, c: u32) -> &Processor
+        requires { c < length self.now.state.processors }
+        ensures { result.now ≡ processor_at self.now.state.processors c }
+    {
+        &self.processors[c as usize]
+    }
+
+    /// What a processor holds, and what it has to do.
+    fn cpu(&self, c: u32) -> &Cpu
+        requires { c < length self.now.state.processors }
+        ensures { result.now ≡ cpu_at self.now.state.processors c }
+    {
+        &self.processor(c).cpu
+    }
+
+    /// What a processor does by itself with a reference of its process.
+    fn move_by(&self, c: u32, process: u32, reference: &Reference) -> Move
+        requires processor { c < length self.now.state.processors }
+        requires known { process < length self.now.state.store.links.known }
+        requires number { reference.now.number < 256 }
+        requires held { AreLong self.now.state.store.ast (cpu_at self.now.state.processors c).assoc }
+        ensures { result ≡ move_of self.now.state (cpu_at self.now.state.processors c) process reference.now }
+    {
+        let segs = self.segs();
+        let cpu = self.cpu(c);
+        next_move(cpu, segs.descriptors(process), segs.ast(), *reference)
+    }
+
+    /// What a processor does with a reference of its process: it may need no supervisor.
+    fn refer(&self, c: u32, process: u32, reference: Reference) -> Action
+        requires processor { c < length self.now.state.processors }
+        requires known { process < length self.now.state.store.links.known }
+        requires number { reference.number < 256 }
+        requires held { AreLong self.now.state.store.ast (cpu_at self.now.state.processors c).assoc }
+        ensures { (k : ℕ) → meant self.now.state k result ≡ by_move self.now.state.owner reference
+            (move_of self.now.state (cpu_at self.now.state.processors c) process reference) }
+    {
+        match self.move_by(c, process, &reference) {
+            Move::FillSeg => Action::FillSeg(reference.number),
+            Move::FillPage(frame) => Action::FillPage(frame, reference),
+            Move::Through(frame) => Action::Through(frame, reference),
+            Move::Plain(reply) => Action::Plain(reply),
+            Move::Fault => self.take_or_wait(),
+        }
+    }
+
+    /// What a processor does with the next command of its process.
+    fn come_to(&self, c: u32, process: u32) -> Action
+        requires processor { c < length self.now.state.processors }
+        requires run { process < length self.now.state.runs }
+        requires known { process < length self.now.state.store.links.known }
+        requires held { AreLong self.now.state.store.ast (cpu_at self.now.state.processors c).assoc }
+        ensures { (k : ℕ) → meant self.now.state k result ≡ come_to self.now.state
+            (cpu_at self.now.state.processors c) process (next_command self.now.state process) }
+    {
+        match self.next_reference(process) {
+            Some(reference) => self.refer(c, process, reference),
+            None => self.take_or_wait(),
+        }
+    }
+
+    /// What a processor does that doesn't own the supervisor.
+    pub(crate) fn run(&self, c: u32) -> Action
+        requires processor { c < length self.now.state.processors }
+        requires count { length self.now.state.processors ≡ self.now.state.plan.processors }
+        requires process { (k : ℕ) → (cpu_at self.now.state.processors c).process ≡ Some k
+            → (k < length self.now.state.runs) × (k < length self.now.state.store.links.known) }
+        requires held { AreLong self.now.state.store.ast (cpu_at self.now.state.processors c).assoc }
+        ensures { (k : ℕ) → meant self.now.state k result ≡ run_process self.now.state
+            (processor_at self.now.state.processors c) (cpu_at self.now.state.processors c).process }
+    {
+        let processor = self.processor(c);
+        let Some(process) = processor.cpu.process else {
+            return self.load_or_idle();
+        };
+        if has_had_its_turn(processor) && !self.ready.is_empty() {
+            Action::Leave
+        } else {
+            self.come_to(c, process)
+        }
+    }
+}

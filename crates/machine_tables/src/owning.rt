@@ -1,0 +1,66 @@
+//! What the owner of the supervisor does next, by the phase of its job.
+
+ghost use Rattle.std.specs.Prelude.{◌≡◌, ℕ, length, position};
+ghost use Rattle.machine_model.specs.Actions.{finish_of, once_cleared};
+ghost use Rattle.machine_model.specs.Reads.{frames_of_owner, is_due};
+ghost use Rattle.machine_tables.specs.Meant.{meant};
+ghost use Rattle.machine_tables.specs.Owned.{HasOwner};
+
+use crate::action::{Action, Why};
+use crate::tables::Tables;
+use machine_model::{Aim, Processor};
+use volumes::Drive;
+
+/// Whether a processor is to drop something.
+fn is_due(processor: &Processor) -> bool
+    ensures { result ≡ is_due processor.now }
+{
+    processor.cpu.online && processor.cpu.due.is_some()
+}
+
+/// The first processor that is to drop something.
+fn first_due(processors: &[Processor]) -> Option<usize>
+    ensures { result ≡ position is_due processors.now }
+{
+    processors.iter().position(|processor| is_due(processor))
+}
+
+impl<D: Drive> Tables<D> {
+    /// The first processor that is to drop something.
+    fn first_due(&self) -> Option<u32>
+        requires { length self.now.state.processors ≡ self.now.state.plan.processors }
+        ensures { result ≡ position is_due self.now.state.processors }
+    {
+        let _most = self.book.script().processors();
+        Some(first_due(&self.processors)? as u32)
+    }
+
+    /// What the owner does once every processor has cleared: the next page that it took leaves its frame, or what it is
+    /// after is done.
+    fn finish(&self, aim: Aim) -> Action
+        requires { HasOwner self.now.state.owner }
+        ensures { (k : ℕ) → meant self.now.state k result
+            ≡ finish_of aim (frames_of_owner self.now.state.owner) }
+    {
+        match (aim, self.job.first_frame()) {
+            (Aim::Evicting, None) => Action::GiveUp,
+            (Aim::Evicting, Some(frame)) => Action::FinishEviction(frame),
+            (Aim::Deactivating { uid }, None) => Action::Deactivate(uid),
+            (Aim::Deactivating { .. }, Some(frame)) => Action::FinishPage(frame),
+            (Aim::Committing, _) => Action::Commit,
+        }
+    }
+
+    /// What the owner does that has signalled: it waits until every processor has cleared.
+    pub(crate) fn await_clears(&self, aim: Aim) -> Action
+        requires count { length self.now.state.processors ≡ self.now.state.plan.processors }
+        requires owner { HasOwner self.now.state.owner }
+        ensures { (k : ℕ) → meant self.now.state k result ≡ once_cleared (position is_due self.now.state.processors)
+            (finish_of aim (frames_of_owner self.now.state.owner)) }
+    {
+        match self.first_due() {
+            Some(cpu) => Action::Waits(Why::ForClear(cpu)),
+            None => self.finish(aim),
+        }
+    }
+}
