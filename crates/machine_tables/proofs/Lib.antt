@@ -3,14 +3,17 @@ pub mod ChoiceLaws
 pub mod CommandLaws
 pub mod CutLaws
 pub mod FailedLaws
+pub mod FrameLaws
 pub mod JobLaws
 pub mod LeftLaws
 pub mod LinkLaws
 pub mod MoveLaws
 pub mod PageLaws
 pub mod PartLaws
+pub mod ReadingLaws
 pub mod ReadyLaws
 pub mod RightLaws
+pub mod RuleLaws
 pub mod SignalLaws
 pub mod TakeLaws
 pub mod TookLaws

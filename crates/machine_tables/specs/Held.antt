@@ -1,5 +1,5 @@
 -- What a processor takes in of a descriptor, by the active segments.
-use Rattle.std.specs.Prelude.{ℕ, List, Option, IfSome}
+use Rattle.std.specs.Prelude.{◌≡◌, ◌<◌, ℕ, length, List, Option, Some, IfSome}
 use Rattle.mnames.specs.declared.modes.Mode.TheVariants as mode
 use Rattle.assoc_mem.specs.Held.{Held, seg_of}
 use Rattle.assoc_mem.specs.declared.HeldSeg.{HeldSeg}
@@ -8,7 +8,8 @@ use Rattle.active_segs.specs.Active.{ActiveSegs, uid_at}
 use Rattle.descriptor_seg.specs.declared.Sdw.{Sdw}
 use Rattle.descriptor_seg.specs.declared.Sdw.TheVariants as sdw
 use Rattle.processor.specs.Moves.{IsLongEnough}
-use Rattle.machine_model.specs.Reads.{or_zero}
+use Rattle.machine_model.specs.Reads.{cpu_at, or_zero}
+use Rattle.machine_model.specs.State.{State}
 
 abbrev pub held_by : List (Option Entry) → ℕ → Sdw → HeldSeg
 held_by entries n sdw.Fault = record { number = n; uid = 0; mode = mode.Null; pages = 0 }
@@ -18,3 +19,12 @@ held_by entries n (sdw.Present aste m pages) =
 -- each segment whose descriptor is held is active, with a page table as long as the descriptor says
 abbrev pub AreLong : ActiveSegs → Held → Type 0
 AreLong ast held = (number : ℕ) → IfSome (seg_of held number) (IsLongEnough ast)
+
+-- What the choice for a processor asks: it is one of the script's, its process is one of the store's, and the segments
+-- whose descriptors it holds are active.
+pub record MayChoose (s : State) (c : ℕ) : Type 0 where
+  pub processor : c < length s.processors
+  pub count : length s.processors ≡ s.plan.processors
+  pub run : (k : ℕ) → (cpu_at s.processors c).process ≡ Some k → k < length s.runs
+  pub known : (k : ℕ) → (cpu_at s.processors c).process ≡ Some k → k < length s.store.links.known
+  pub held : AreLong s.store.ast (cpu_at s.processors c).assoc

@@ -1,14 +1,15 @@
 -- The action of the machine's model that an action names.
-use Rattle.std.specs.Prelude.{ℕ, Option, Some, None}
+use Rattle.std.specs.Prelude.{ℕ, not, if◌then◌else◌, Option, Some, None, Result, Ok, Err}
 use Rattle.script.specs.References.{reference_of}
 use Rattle.script.specs.declared.commands.Command.{Command}
 use Rattle.script.specs.declared.commands.Reference.{Reference}
 use Rattle.core_map.specs.Clock.{clock_choice}
 use Rattle.dir_tree.specs.Nodes.{chain_of}
 use Rattle.machine_model.specs.Actions as act
-use Rattle.machine_model.specs.Actions.{descriptors_taken, first_taken, frames_taken, what_taken}
+use Rattle.machine_model.specs.Actions.{clear_or, descriptors_taken, first_taken, frames_taken, look_of, what_taken}
 use Rattle.machine_model.specs.Reads.{next_command, or_zero}
 use Rattle.machine_model.specs.Refusal.{uid_of_command}
+use Rattle.machine_model.specs.declared.Processor.{Processor}
 use Rattle.machine_model.specs.State.{State, Storage}
 use Rattle.machine_tables.specs.declared.action.Action.{Action}
 use Rattle.machine_tables.specs.declared.action.Action.TheVariants as action
@@ -62,3 +63,22 @@ meant s k action.Commit = act.Commit
 abbrev pub refers : Option Command → Option Reference
 refers None = None
 refers (Some c) = reference_of c
+
+-- what follows from a frame for a page, or what is done first
+abbrev pub in_frame : State → ℕ → Result ℕ Action → (ℕ → act.Action) → act.Action
+in_frame s k (Ok frame) into = into frame
+in_frame s k (Err first) into = meant s k first
+
+-- an action, unless something is done first
+abbrev pub unless_first : State → ℕ → Option Action → act.Action → act.Action
+unless_first s k None otherwise = otherwise
+unless_first s k (Some first) otherwise = meant s k first
+
+-- an action of a processor of this process, or the look of the owner
+abbrev pub or_look : State → ℕ → Option Action → act.Action
+or_look s k None = look_of s k (next_command s k)
+or_look s k (Some action) = meant s k action
+
+-- what a processor does while there is work
+abbrev pub rule_of : State → ℕ → Processor → act.Action
+rule_of s c p = if not p.cpu.online then act.Online else clear_or s c p p.cpu.due

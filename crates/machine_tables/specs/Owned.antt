@@ -13,6 +13,10 @@ abbrev pub owner_of : Option Holder → List ℕ → List CutDescriptor → Opti
 owner_of None frames cut = None
 owner_of (Some h) frames cut = Some (record { cpu = h.cpu; phase = h.phase; frames = frames; cut = cut })
 
+-- an owner with what its job has taken
+abbrev pub owner_by : Holder → List ℕ → List CutDescriptor → Owner
+owner_by h frames cut = record { cpu = h.cpu; phase = h.phase; frames = frames; cut = cut }
+
 abbrev pub HasOwner : Option Owner → Type 0
 HasOwner o = o ≢ None
 

@@ -2,11 +2,11 @@
 
 ghost use Rattle.std.specs.Prelude.{◌≡◌, ◌<◌, ℕ, length, Some, count_by};
 ghost use Rattle.std.specs.List.{list_any};
-ghost use Rattle.machine_model.specs.Actions.{by_move, come_to, has_had_its_turn, has_process, is_over};
-ghost use Rattle.machine_model.specs.Actions.{load_or_idle, move_of, run_process, take_or_wait};
-ghost use Rattle.machine_model.specs.Reads.{cpu_at, next_command, processor_at};
-ghost use Rattle.machine_tables.specs.Held.{AreLong};
-ghost use Rattle.machine_tables.specs.Meant.{meant};
+ghost use Rattle.machine_model.specs.Actions.{action_of, by_move, come_to, has_had_its_turn, has_process, is_over};
+ghost use Rattle.machine_model.specs.Actions.{load_or_idle, move_of, own_or_run, run_process, take_or_wait};
+ghost use Rattle.machine_model.specs.Reads.{cpu_at, next_command, process_at, processor_at};
+ghost use Rattle.machine_tables.specs.Held.{AreLong, MayChoose};
+ghost use Rattle.machine_tables.specs.Meant.{meant, or_look, rule_of};
 
 use crate::action::{Action, Why};
 use crate::tables::Tables;
@@ -147,12 +147,8 @@ impl<D: Drive> Tables<D> {
     }
 
     /// What a processor does that doesn't own the supervisor.
-    pub(crate) fn run(&self, c: u32) -> Action
-        requires processor { c < length self.now.state.processors }
-        requires count { length self.now.state.processors ≡ self.now.state.plan.processors }
-        requires process { (k : ℕ) → (cpu_at self.now.state.processors c).process ≡ Some k
-            → (k < length self.now.state.runs) × (k < length self.now.state.store.links.known) }
-        requires held { AreLong self.now.state.store.ast (cpu_at self.now.state.processors c).assoc }
+    fn run(&self, c: u32) -> Action
+        requires may { MayChoose self.now.state c }
         ensures { (k : ℕ) → meant self.now.state k result ≡ run_process self.now.state
             (processor_at self.now.state.processors c) (cpu_at self.now.state.processors c).process }
     {
@@ -164,6 +160,53 @@ impl<D: Drive> Tables<D> {
             Action::Leave
         } else {
             self.come_to(c, process)
+        }
+    }
+
+    /// What a processor does that takes part and has nothing of its own to end; `None` exactly where it owns the
+    /// supervisor and is to look.
+    fn own_or_run(&self, c: u32) -> Option<Action>
+        requires may { MayChoose self.now.state c }
+        ensures { or_look self.now.state (process_at self.now.state c) result ≡ own_or_run self.now.state c
+            (processor_at self.now.state.processors c) self.now.state.owner }
+    {
+        match self.job.holder() {
+            Some(holder) if holder.cpu == c => self.go_on(holder),
+            _ => Some(self.run(c)),
+        }
+    }
+
+    /// What a processor does while there is work: it takes part, drops what it is to drop, ends its transfer, or goes on
+    /// with its process or its job.
+    fn work(&self, c: u32) -> Option<Action>
+        requires may { MayChoose self.now.state c }
+        ensures { or_look self.now.state (process_at self.now.state c) result ≡ rule_of self.now.state c
+            (processor_at self.now.state.processors c) }
+    {
+        let cpu = self.cpu(c);
+        if !cpu.online {
+            return Some(Action::Online);
+        }
+        match (cpu.due, cpu.transfer) {
+            (Some(what), _) => Some(Action::Clear(what)),
+            (None, Some(transfer)) => Some(Action::EndTransfer(transfer)),
+            (None, None) => self.own_or_run(c),
+        }
+    }
+
+    /// What processor `c` does in its next step, by the rules in their order; `None` exactly where it owns the supervisor
+    /// and is to look for what the next command of its process wants. It goes round the processors. (Source:
+    /// Bensoussan, Clingen and Daley 1972; Corbató 1968; the steps are own.)
+    pub fn by_rules(&self, c: u32) -> Option<Action>
+        requires may { MayChoose self.now.state c }
+        ensures { or_look self.now.state (process_at self.now.state c) result ≡ action_of self.now.state c }
+    {
+        if self.stopped {
+            Some(Action::IsStopped)
+        } else if self.is_over() {
+            Some(Action::HasEnded)
+        } else {
+            self.work(c)
         }
     }
 }

@@ -1,14 +1,15 @@
 //! What the owner of the supervisor does next, by the phase of its job.
 
 ghost use Rattle.std.specs.Prelude.{◌≡◌, ℕ, length, position};
-ghost use Rattle.machine_model.specs.Actions.{finish_of, once_cleared};
-ghost use Rattle.machine_model.specs.Reads.{frames_of_owner, is_due};
-ghost use Rattle.machine_tables.specs.Meant.{meant};
-ghost use Rattle.machine_tables.specs.Owned.{HasOwner};
+ghost use Rattle.machine_model.specs.Actions.{finish_of, go_on_with, once_cleared};
+ghost use Rattle.machine_model.specs.Reads.{cut_of_owner, frames_of_owner, is_due};
+ghost use Rattle.machine_tables.specs.Meant.{meant, or_look};
+ghost use Rattle.machine_tables.specs.Owned.{HasOwner, owner_by};
 
 use crate::action::{Action, Why};
+use crate::owner::Holder;
 use crate::tables::Tables;
-use machine_model::{Aim, Processor};
+use machine_model::{Aim, Phase, Processor};
 use volumes::Drive;
 
 /// Whether a processor is to drop something.
@@ -52,7 +53,7 @@ impl<D: Drive> Tables<D> {
     }
 
     /// What the owner does that has signalled: it waits until every processor has cleared.
-    pub(crate) fn await_clears(&self, aim: Aim) -> Action
+    fn await_clears(&self, aim: Aim) -> Action
         requires count { length self.now.state.processors ≡ self.now.state.plan.processors }
         requires owner { HasOwner self.now.state.owner }
         ensures { (k : ℕ) → meant self.now.state k result ≡ once_cleared (position is_due self.now.state.processors)
@@ -61,6 +62,20 @@ impl<D: Drive> Tables<D> {
         match self.first_due() {
             Some(cpu) => Action::Waits(Why::ForClear(cpu)),
             None => self.finish(aim),
+        }
+    }
+
+    /// What the owner does next by the phase of its job; `None` exactly where it is to look.
+    pub(crate) fn go_on(&self, holder: Holder) -> Option<Action>
+        requires count { length self.now.state.processors ≡ self.now.state.plan.processors }
+        requires owner { HasOwner self.now.state.owner }
+        ensures { (k : ℕ) → or_look self.now.state k result ≡ go_on_with self.now.state k
+            (owner_by holder (frames_of_owner self.now.state.owner) (cut_of_owner self.now.state.owner)) holder.phase }
+    {
+        match holder.phase {
+            Phase::Looking => None,
+            Phase::Taken { what, .. } => Some(Action::Signal(what)),
+            Phase::Waiting { aim, .. } => Some(self.await_clears(aim)),
         }
     }
 }

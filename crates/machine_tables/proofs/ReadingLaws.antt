@@ -1,0 +1,222 @@
+-- The least frame into which a page of a segment is being read, by the processors that read.
+use Rattle.std.proofs.Common.{◌≡◌, ◌≢◌, ◌+◌, ◌<◌, ◌≤◌, ℕ, zero, suc, Bool, true, false, not, ◌&&◌, cond, eqb, map}
+use Rattle.std.proofs.Common.{List, [], ◌∷◌, length, get_or, position, Option, Some, None, ◌⊎◌, inl, inr, refl, sym, ap, subst}
+use Rattle.std.proofs.Common.{◌∙◌, arith}
+use Rattle.std.specs.Prelude.{nat_le, nat_lt}
+use Rattle.std.specs.List.{position_or_len}
+use Rattle.std.proofs.lemmas.Bool.{cases_lt, lt-ltb}
+use Rattle.std.proofs.lemmas.Bool.Decides.{eqb_tells, leb_tells}
+use Rattle.std.proofs.lemmas.List.{get_or_past}
+use Rattle.std.proofs.Math.ListN.{get_or-map}
+use Rattle.core_map.specs.declared.Frame.{Frame}
+use Rattle.core_map.specs.declared.Frame.TheVariants.{Free}
+use Rattle.core_map.specs.CoreMap.{Core, frame_at, reads_of, started_page}
+use Rattle.seg_control.specs.Kept.{read_at}
+use Rattle.processor.specs.declared.Transfer.{Transfer}
+use Rattle.machine_model.specs.declared.Processor.{Processor}
+use Rattle.machine_model.specs.Custodial.{AreUnderWay}
+use Rattle.machine_model.specs.Reads.{frame_reading, is_page_of, no_processor, processor_at}
+use Rattle.machine_model.proofs.ListLaws.{map_list}
+use Rattle.machine_model.proofs.TieLaws.{none_some}
+use Rattle.machine_tables.specs.Reading.{AreRead, least_from, lesser, read_by}
+
+-- ---- where something is found first
+
+module _ {X : Type 0} (p : X → Bool) (d : X) where
+  place_first : (xs : List X) (i : ℕ) → i < length xs → p (get_or xs i d) ≡ true
+      → ((j : ℕ) → j < i → p (get_or xs j d) ≡ false) → position_or_len p xs ≡ i
+  place_first [] i lt here before = absurd (omega (arith, lt))
+  place_first (x ∷ xs) zero lt here before = ap (λ (b : Bool). cond (not b) (1 + position_or_len p xs) 0) here
+  place_first (x ∷ xs) (suc i) lt here before =
+      ap (λ (b : Bool). cond (not b) (1 + position_or_len p xs) 0) (before zero (omega arith))
+      ∙ (let rest = place_first xs i (omega (arith, lt)) here (λ j under. before (suc j) (omega (arith, under))) in
+      let one : 1 + position_or_len p xs ≡ suc i = omega (arith, rest) in one)
+
+  place_none : (xs : List X) → ((j : ℕ) → j < length xs → p (get_or xs j d) ≡ false) → position_or_len p xs ≡ length xs
+  place_none [] off = refl
+  place_none (x ∷ xs) off =
+      ap (λ (b : Bool). cond (not b) (1 + position_or_len p xs) 0) (off zero (omega arith))
+      ∙ (let rest = place_none xs (λ j lt. off (suc j) (omega (arith, lt))) in
+      let one : 1 + position_or_len p xs ≡ suc (length xs) = omega (arith, rest) in one)
+
+  pub position_first : (xs : List X) (i : ℕ) → i < length xs → p (get_or xs i d) ≡ true
+      → ((j : ℕ) → j < i → p (get_or xs j d) ≡ false) → position p xs ≡ Some i
+  position_first xs i lt here before =
+      ap (λ (n : ℕ). cond (nat_lt n (length xs)) (Some n) None) (place_first xs i lt here before)
+      ∙ ap (λ (b : Bool). cond b (Some i) None) (lt-ltb i (length xs) lt)
+
+  pub position_not : (xs : List X) → ((j : ℕ) → j < length xs → p (get_or xs j d) ≡ false) → position p xs ≡ None
+  position_not xs off = by (nat_lt (position_or_len p xs) (length xs)) refl
+    where
+      by : (b : Bool) → nat_lt (position_or_len p xs) (length xs) ≡ b
+          → cond b (Some (position_or_len p xs)) None ≡ None
+      by false e = refl
+      by true e = elim (leb_tells (suc (position_or_len p xs)) (length xs)) [
+        | inl y ↦ absurd (let all = place_none xs off in let lt = y.1 in omega (arith, all, lt))
+        | inr n ↦ absurd (let no : true ≡ false = sym e ∙ n.0 in cc)
+      ]
+
+-- ---- the least of what processors read
+
+some_same : {x y : ℕ} → Some x ≡ Some y → x ≡ y
+some_same h = cc
+
+lesser_from : (a b : Option ℕ) (f : ℕ) → lesser a b ≡ Some f → (a ≡ Some f) ⊎ (b ≡ Some f)
+lesser_from None b f h = inr h
+lesser_from (Some x) None f h = inl h
+lesser_from (Some x) (Some y) f h = by (nat_le x y) h
+  where
+    by : (t : Bool) → Some (cond t x y) ≡ Some f → (Some x ≡ Some f) ⊎ (Some y ≡ Some f)
+    by true e = inl e
+    by false e = inr e
+
+-- the frames of two is at most each
+abbrev pub AtMost : Option ℕ → ℕ → Type 0
+AtMost o g = (f : ℕ) × (o ≡ Some f) × (f ≤ g)
+
+lesser_left : (a b : Option ℕ) (g : ℕ) → AtMost a g → AtMost (lesser a b) g
+lesser_left None b g m = absurd (none_some m.1)
+lesser_left (Some x) None g m = m
+lesser_left (Some x) (Some y) g m = elim (leb_tells x y) [
+  | inl e ↦ (
+    x,
+    ap (λ (t : Bool). Some (cond t x y)) e.0,
+    let same = some_same m.1 in let le = m.2 in omega (arith, same, le),
+  )
+  | inr n ↦ (
+    y,
+    ap (λ (t : Bool). Some (cond t x y)) n.0,
+    let same = some_same m.1 in let le = m.2 in let lt = n.1 in omega (arith, same, le, lt),
+  )
+]
+
+lesser_right : (a b : Option ℕ) (g : ℕ) → AtMost b g → AtMost (lesser a b) g
+lesser_right None b g m = m
+lesser_right (Some x) None g m = absurd (none_some m.1)
+lesser_right (Some x) (Some y) g m = elim (leb_tells x y) [
+  | inl e ↦ (
+    x,
+    ap (λ (t : Bool). Some (cond t x y)) e.0,
+    let same = some_same m.1 in let le = m.2 in let lt = e.1 in omega (arith, same, le, lt),
+  )
+  | inr n ↦ (
+    y,
+    ap (λ (t : Bool). Some (cond t x y)) n.0,
+    let same = some_same m.1 in let le = m.2 in omega (arith, same, le),
+  )
+]
+
+module _ (uid : ℕ) (test : ℕ → Bool) (ps : List Processor) where
+  abbrev reads : ℕ → Option ℕ
+  reads d = read_by uid test (processor_at ps d).cpu.transfer
+
+  least_some : (n f : ℕ) → least_from uid test ps n ≡ Some f → (d : ℕ) × (reads d ≡ Some f)
+  unfolding least_from
+  least_some zero f h = absurd (none_some h)
+  least_some (suc n) f h = elim (lesser_from (least_from uid test ps n) (reads n) f h) [
+    | inl e ↦ least_some n f e
+    | inr e ↦ (n, e)
+  ]
+
+  least_most : (n d g : ℕ) → d < n → reads d ≡ Some g → AtMost (least_from uid test ps n) g
+  unfolding least_from
+  least_most zero d g lt h = absurd (omega (arith, lt))
+  least_most (suc n) d g lt h = elim (eqb_tells d n) [
+    | inl e ↦ lesser_right (least_from uid test ps n) (reads n) g
+        (g, ap (λ (x : ℕ). reads x) (sym e.1) ∙ h, omega arith)
+    | inr m ↦ lesser_left (least_from uid test ps n) (reads n) g
+        (least_most n d g (let ne = m.1 in omega (arith, lt, ne)) h)
+  ]
+
+-- ---- the frames that are being read into
+
+pub least_first : (uid : ℕ) (test : ℕ → Bool) (ps : List Processor) → None ≡ least_from uid test ps 0
+unfolding least_from
+least_first uid test ps = refl
+
+least_next : (uid : ℕ) (test : ℕ → Bool) (ps : List Processor) (n : ℕ)
+    → least_from uid test ps (n + 1) ≡ lesser (least_from uid test ps n) (read_by uid test (processor_at ps n).cpu.transfer)
+unfolding least_from
+least_next uid test ps n = ap (least_from uid test ps) (let e : n + 1 ≡ suc n = omega arith in e)
+
+pub least_step : (uid : ℕ) (test : ℕ → Bool) (ps : List Processor) (n : ℕ) (least read now : Option ℕ)
+    → least ≡ least_from uid test ps n → read ≡ read_by uid test (processor_at ps n).cpu.transfer
+    → now ≡ lesser least read → now ≡ least_from uid test ps (n + 1)
+least_step uid test ps n least read now l r e =
+    e ∙ ap (λ (x : Option ℕ). lesser x read) l ∙ ap (lesser (least_from uid test ps n)) r
+    ∙ sym (least_next uid test ps n)
+
+module _ (core : Core) (ps : List Processor) (uid : ℕ) (test : ℕ → Bool) (under : AreRead core ps) where
+  abbrev passes : Frame → Bool
+  passes x = is_page_of uid test (started_page x)
+
+  started_at : (f : ℕ) → read_at (reads_of core) f ≡ started_page (frame_at core f)
+  started_at f = map_list started_page core.frames f Free
+
+  -- what a processor reads is being read into its frame
+  read_from : (d f : ℕ) (o : Option Transfer) → (processor_at ps d).cpu.transfer ≡ o → read_by uid test o ≡ Some f
+      → passes (frame_at core f) ≡ true
+  read_from d f None e h = absurd (none_some h)
+  read_from d f (Some t) e h = by (eqb t.uid uid && test t.page) refl h
+    where
+      by : (b : Bool) → (eqb t.uid uid && test t.page) ≡ b → cond b (Some t.frame) None ≡ Some f
+          → passes (frame_at core f) ≡ true
+      by false i j = absurd (none_some j)
+      by true i j =
+          let same : t.frame ≡ f = some_same j in
+          let read : read_at (reads_of core) t.frame ≡ Some (t.uid, t.page) = under.reading d t e in
+          ap (is_page_of uid test) (sym (started_at f)
+          ∙ ap (λ (g : ℕ). read_at (reads_of core) g) (sym same) ∙ read) ∙ i
+
+  -- what is being read into a frame is read by some processor
+  reads_to : (f : ℕ) → passes (frame_at core f) ≡ true
+      → (d : ℕ) × (read_by uid test (processor_at ps d).cpu.transfer ≡ Some f)
+  reads_to f h = by (started_page (frame_at core f)) refl h
+    where
+      by : (o : Option (ℕ × ℕ)) → started_page (frame_at core f) ≡ o → is_page_of uid test o ≡ true
+          → (d : ℕ) × (read_by uid test (processor_at ps d).cpu.transfer ≡ Some f)
+      by None e i = absurd (let no : false ≡ true = i in cc)
+      by (Some page) e i =
+          let who = under.reader f page.0 page.1 (started_at f ∙ e) in (
+            who.0,
+            ap (read_by uid test) who.1 ∙ ap (λ (b : Bool). cond b (Some f) None) i,
+          )
+
+  -- a processor that reads is one of them
+  reader_within : (d f : ℕ) → read_by uid test (processor_at ps d).cpu.transfer ≡ Some f → d < length ps
+  reader_within d f h = elim (cases_lt d (length ps)) [
+    | inl lt ↦ lt
+    | inr past ↦ absurd (none_some (sym (ap (λ (p : Processor). read_by uid test p.cpu.transfer)
+        (get_or_past ps d no_processor past)) ∙ h))
+  ]
+
+  frame_within : (f : ℕ) → passes (frame_at core f) ≡ true → f < length core.frames
+  frame_within f h = elim (cases_lt f (length core.frames)) [
+    | inl lt ↦ lt
+    | inr past ↦ absurd (let no : false ≡ true =
+        sym (ap passes (get_or_past core.frames f Free past)) ∙ h in cc)
+  ]
+
+  not_before : (g : ℕ) (o : Option ℕ) → least_from uid test ps (length ps) ≡ o → ((f : ℕ) → o ≡ Some f → g < f)
+      → passes (frame_at core g) ≡ false
+  not_before g o e below = by (passes (frame_at core g)) refl
+    where
+      by : (b : Bool) → passes (frame_at core g) ≡ b → b ≡ false
+      by false i = refl
+      by true i =
+          let who = reads_to g i in
+          let most = least_most uid test ps (length ps) who.0 g (reader_within who.0 g who.1) who.1 in
+          absurd (let lt = below most.0 (sym e ∙ most.1) in let le = most.2 in omega (arith, lt, le))
+
+  -- the least frame is found either way
+  pub reading_is : frame_reading core uid test ≡ least_from uid test ps (length ps)
+  reading_is = by (least_from uid test ps (length ps)) refl
+    where
+      by : (o : Option ℕ) → least_from uid test ps (length ps) ≡ o → frame_reading core uid test ≡ o
+      by None e = position_not passes Free core.frames
+          (λ j lt. not_before j None e (λ f no. absurd (none_some no)))
+      by (Some f) e =
+          let who = least_some uid test ps (length ps) f e in
+          let here = read_from who.0 f (processor_at ps who.0).cpu.transfer refl who.1 in
+          position_first passes Free core.frames f (frame_within f here) here
+          (λ j lt. not_before j (Some f) e (λ g same. subst (λ (x : ℕ). j < x) (some_same same) lt))
