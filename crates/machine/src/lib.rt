@@ -5,5 +5,6 @@
 mod alone;
 mod looking;
 mod machine;
+mod owning;
 
 pub use machine::Machine;
