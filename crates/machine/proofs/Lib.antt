@@ -1,4 +1,10 @@
 pub mod AloneLaws
 pub mod CountedLaws
+pub mod EmptiedFacts
+pub mod Found
+pub mod OwnerCalls
 pub mod Quiet
+pub mod Sizes
+pub mod Stays
 pub mod Steps
+pub mod TakingStays

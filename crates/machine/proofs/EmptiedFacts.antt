@@ -1,0 +1,135 @@
+-- A segment that was taken whole is empty once its pages have left: no page of it is in a frame or being read, no
+-- descriptor leads to it, and it has no active inferior.
+use Rattle.std.proofs.Common.{◌≡◌, ◌≢◌, ◌<◌, ℕ, zero, suc, Bool, true, false, eqb, get_or, List, [], ◌∷◌, Option, Some}
+use Rattle.std.proofs.Common.{cond, is_some, length, arith, None, inl, inr, refl, sym, ap, ◌∙◌}
+use Rattle.std.specs.Prelude.{All}
+use Rattle.std.proofs.lemmas.Bool.Decides.{eqb_tells}
+use Rattle.assoc_mem.specs.declared.What.TheVariants as what
+use Rattle.tree_model.specs.Tree.{Node, node_in}
+use Rattle.page_table.specs.declared.Ptw.{Ptw}
+use Rattle.page_table.specs.declared.Ptw.TheVariants as ptw
+use Rattle.active_segs.specs.declared.Entry.{Entry}
+use Rattle.active_segs.specs.Active.{HasNoInferior, IsAway, entry_at, superior_in as superior_of, uid_at, uid_in}
+use Rattle.trailers.specs.Trailer.{trailers_of}
+use Rattle.seg_control.specs.Control.{place_of, table_of}
+use Rattle.storage_ops.specs.Shown.{is_there}
+use Rattle.custody_model.specs.Allowed.{superior_in}
+use Rattle.custody_model.specs.Custody.{is_going_descriptor, is_uid, leads_to, page_of, uid_of_page}
+use Rattle.machine_model.specs.Custodial.{names}
+use Rattle.machine_model.specs.Holding.{holding, seen}
+use Rattle.machine_model.specs.Keeps.{Keeps}
+use Rattle.machine_model.specs.Reads.{cut_of_owner, frames_of_owner, is_active, trailers_in}
+use Rattle.machine_model.specs.Seen.{bound_use, cut_uid, descriptor_use, frame_use, read_use}
+use Rattle.machine_model.specs.State.{State}
+use Rattle.machine_model.specs.Whole.{IsWhole}
+use Rattle.machine_model.proofs.ActiveSeen.{active_place}
+use Rattle.machine_model.proofs.TakeLists.{trailers_taken}
+use Rattle.machine_model.proofs.TieLaws.{none_some}
+use Rattle.machine_model.proofs.TookKept.{ArePairs}
+use Rattle.machine_model.proofs.TransferKept.{active_at}
+use Rattle.machine_model.proofs.WholeLaws.{no_page_left}
+use Rattle.machine_tables.specs.Taken.{IsEmptied}
+
+-- a word that names no frame is of a page that is away
+word_away : (w : Ptw) → ((f : ℕ) → names w ≢ Some f) → IsAway w
+word_away ptw.Null h = tt
+word_away (ptw.Out r) h = tt
+word_away (ptw.Here f) h = h f refl
+word_away (ptw.Leaving f) h = h f refl
+
+within_same : (ws : List Ptw) (p : ℕ) (d : Ptw) → p < length ws → get_or ws p ptw.Null ≡ get_or ws p d
+within_same [] p d lt = absurd (omega (arith, lt))
+within_same (w ∷ ws) zero d lt = refl
+within_same (w ∷ ws) (suc p) d lt = within_same ws p d (omega (arith, lt))
+
+words_away : (ws : List Ptw) → ((p f : ℕ) → names (get_or ws p ptw.Null) ≢ Some f) → All IsAway ws
+words_away ws h p d lt = word_away (get_or ws p d) (λ f e. h p f (ap names (within_same ws p d lt) ∙ e))
+
+-- what has a superior is there
+has_superior : (o : Option Entry) (u : ℕ) → superior_of o ≡ Some u → (v : ℕ) × (uid_in o ≡ Some v)
+has_superior None u h = absurd (none_some h)
+has_superior (Some e) u h = (e.uid, refl)
+
+module _ (s : State) (u : ℕ) (k : Keeps s) (whole : IsWhole (holding s) u) (frames : frames_of_owner s.owner ≡ [])
+    (active : is_active s.store.ast u ≡ true)
+    (inferiors : (v : ℕ) → is_active s.store.ast v ≡ true → superior_in (node_in s.store.accounts.nodes v) ≢ Some u)
+  where
+    abbrev place : ℕ
+    place = place_of s.store.ast.entries u
+
+    its_place : uid_at s.store.ast.entries place ≡ Some u
+    its_place = (active_place s.store.ast u active).1
+
+    -- no page of it is in a frame
+    unbound : (f p : ℕ) → (seen s).bound f ≢ Some (u, p)
+    unbound f p h = no_page_left (holding s) s.owner u k.book.going_owned whole frames f
+        (ap (λ (x : Option (ℕ × ℕ)). uid_of_page (page_of (frame_use (seen s).words x ((seen s).reads f)))) h
+        ∙ by ((seen s).words u p))
+      where
+        by : (w : Ptw) → uid_of_page (page_of (bound_use (u, p) w)) ≡ Some u
+        by ptw.Null = refl
+        by (ptw.Out r) = refl
+        by (ptw.Here g) = refl
+        by (ptw.Leaving g) = refl
+
+    -- none is being read into one
+    unread : (f p : ℕ) → (seen s).reads f ≢ Some (u, p)
+    unread f p h = no_page_left (holding s) s.owner u k.book.going_owned whole frames f
+        (ap (λ (x : Option (ℕ × ℕ)). uid_of_page (page_of (frame_use (seen s).words x ((seen s).reads f))))
+        (k.book.tied.unbound f u p h) ∙ ap (λ (x : Option (ℕ × ℕ)). uid_of_page (page_of (read_use x))) h)
+
+    -- no descriptor leads to it
+    unlinked : (j n : ℕ) → (seen s).linked j n ≢ Some u
+    unlinked j n e = let is = ap (λ (y : Option ℕ). descriptor_use y (cut_uid (cut_of_owner s.owner) j n)) e in
+        let going = whole.descriptors j n (ap leads_to is) in
+        let no : false ≡ true = sym (ap is_going_descriptor is) ∙ going in cc
+
+    own : eqb u u ≡ true
+    own = elim (eqb_tells u u) [ inl e ↦ e.0 | inr n ↦ absurd (n.1 refl) ]
+
+    no_trailers : (xs : List (ℕ × ℕ)) → ArePairs (seen s).linked (what.Seg u) xs → xs ≡ []
+    no_trailers [] h = refl
+    no_trailers (x ∷ xs) h = absurd (unlinked x.0 x.1 (h.0.1 ∙ ap (λ (v : ℕ). Some v) (same h.0.0 h.0.2)))
+      where
+        same : (v : ℕ) → is_uid u (Some v) ≡ true → v ≡ u
+        same v e = elim (eqb_tells v u) [
+          | inl y ↦ y.1
+          | inr n ↦ absurd (let no : true ≡ false = sym e ∙ n.0 in cc)
+        ]
+
+    trailers_none : trailers_of s.store.links.trailers place ≡ []
+    trailers_none = sym (ap (λ (b : Bool). cond b (trailers_of s.store.links.trailers place) [])
+        active) ∙ no_trailers (trailers_in s.store u) (trailers_taken s (what.Seg u) u k own)
+
+    leaf : HasNoInferior s.store.ast.entries place
+    leaf q v at h = by (node_in s.store.accounts.nodes w.0) refl
+      where
+        same : ◌≡◌ {A = Option ℕ} (Some v) (Some u)
+        same = sym at ∙ its_place
+
+        w : (x : ℕ) × (uid_at s.store.ast.entries q ≡ Some x)
+        w = has_superior (entry_at s.store.ast.entries q) v h
+
+        its_active : is_active s.store.ast w.0 ≡ true
+        its_active = active_at s.store.ast q w.0 w.1
+
+        there : is_there s.store.accounts.nodes w.0 ≡ true
+        there = k.store.counted.active.there q w.0 w.1
+
+        by : (x : Option Node) → node_in s.store.accounts.nodes w.0 ≡ x → ⊥
+        by None e = let no : false ≡ true = sym (ap is_some e) ∙ there in cc
+        by (Some n) e = inferiors w.0 its_active (ap superior_in e
+            ∙ (sym (k.store.counted.active.superiors q w.0 n w.1 e) ∙ (h ∙ same)))
+
+    pub emptied : IsEmptied s.store u
+    emptied = record {
+      active = (place, its_place);
+      leaf = leaf;
+      away = words_away (table_of s.store.ast u)
+          (λ p f h. unbound f p (k.book.tied.back f u p h));
+      idle = record { none = λ f v p at h. unread f p (h ∙ ap (λ (x : ℕ). Some (x, p)) (one v (sym at ∙ its_place))) };
+      cut = trailers_none;
+    }
+      where
+        one : (v : ℕ) → Some v ≡ Some u → v ≡ u
+        one v e = cc

@@ -1,0 +1,359 @@
+-- What the calls of the owner's looks ask, of a page that is read in and of a descriptor that is connected, and that the
+-- machine keeps its promise through them.
+use Rattle.std.proofs.Common.{◌≡◌, ◌<◌, ℕ, true, false, length, List, [], Option, Some, None, refl, sym, ap}
+use Rattle.std.proofs.Common.{arith, subst, ◌∙◌}
+use Rattle.core_map.specs.declared.Frame.{Frame}
+use Rattle.core_map.specs.declared.Frame.TheVariants as frame
+use Rattle.core_map.specs.CoreMap.{bound_page, frame_at, is_free, started_page}
+use Rattle.active_segs.specs.Active.{IsActive}
+use Rattle.known_segs.specs.Known.{uid_of}
+use Rattle.page_table.specs.declared.Ptw.{Ptw}
+use Rattle.page_table.specs.declared.Ptw.TheVariants as ptw
+use Rattle.page_control.specs.Tied.{IsNotStarted, is_out}
+use Rattle.seg_control.specs.Control.{kst_at, leads, leads_at, place_of, table_of, word_of}
+use Rattle.seg_control.specs.Kept.{IsKept}
+use Rattle.storage_ops.specs.Shown.{IsStore}
+use Rattle.machine_model.specs.Actions as act
+use Rattle.machine_model.specs.Actions.{Action, action_of}
+use Rattle.machine_model.specs.After.{after, no_call}
+use Rattle.machine_model.specs.Custodial.{is_out as is_away}
+use Rattle.machine_model.specs.Keeps.{Keeps}
+use Rattle.machine_model.specs.Reads.{cpu_at, flat_of, is_active, or_zero, process_at}
+use Rattle.machine_model.specs.Refusal.{uid_of_number}
+use Rattle.machine_model.specs.Said.{shown_after}
+use Rattle.machine_model.specs.State.{State, Storage}
+use Rattle.machine_model.specs.Steps.{connected_to, started}
+use Rattle.machine_model.proofs.ActiveSeen.{active_place, within_some}
+use Rattle.machine_model.proofs.ChainFacts.{chain_active}
+use Rattle.machine_model.proofs.FindLaws.{free_frame, position_at, unread_page}
+use Rattle.machine_model.proofs.InsideLaws.{inside_is}
+use Rattle.machine_model.proofs.ListLaws.{map_list, within_by}
+use Rattle.machine_model.proofs.LookFacts.{IsInside}
+use Rattle.machine_model.proofs.StepAsks.{Rests}
+use Rattle.machine_model.proofs.TieLaws.{none_some}
+use Rattle.machine_model.proofs.WordLaws.{word_within}
+use Rattle.seg_control.specs.Control.{is_for}
+use Rattle.flat_model.specs.Store.{known_uid}
+use Rattle.core_map.specs.CoreMap.{is_bound}
+use Rattle.std.specs.List.{list_any}
+use Rattle.std.specs.Prelude.{IsSomeAnd}
+use Rattle.core_map.specs.Clock.{clock_choice}
+use Rattle.page_control.specs.Plain.{binding_at, bindings}
+use Rattle.machine_model.specs.declared.Aim.TheVariants as aim
+use Rattle.machine_model.specs.Holding.{seen}
+use Rattle.machine_model.specs.Jobs.{emptied as segment_emptied, eviction_begun, with_choice, with_leaving}
+use Rattle.machine_model.specs.Reads.{frames_of_owner}
+use Rattle.machine_model.specs.Whole.{goes_in, going_for}
+use Rattle.machine_model.specs.Working.{IsLeaf}
+use Rattle.machine_model.proofs.ActiveSeen.{any_at}
+use Rattle.machine_model.proofs.FindLaws.{choice_bound}
+use Rattle.machine_model.proofs.OwnerLaws.{bound_here}
+use Rattle.machine_model.proofs.StepKept.{IsMine}
+use Rattle.machine_tables.specs.Owned.{HasOwner}
+use Rattle.machine_tables.specs.Taken.{AreHere, IsEmptied}
+use Rattle.machine_tables.specs.Taken.{is_bare}
+use Rattle.script.specs.declared.commands.Command.{Command}
+use Rattle.tree_model.specs.Tree.{Node, node_in}
+use Rattle.custody_model.specs.Allowed.{superior_in}
+use Rattle.machine_model.specs.Jobs.{deactivation_begun}
+use Rattle.machine_model.specs.Reads.{cut_of_owner, frames_from, trailers_in}
+use Rattle.machine_model.specs.Refusal.{refusal_of, uid_of_command}
+use Rattle.machine_model.proofs.CommandFacts.{LeadsToSegment, length_stands}
+use Rattle.machine_model.proofs.EmptyAsks.{segment_inferiors, unread_any}
+use Rattle.machine_model.proofs.TakeWhole.{nothing_whole}
+use Rattle.machine.proofs.Sizes.{descriptors_few, pages_few}
+use Rattle.machine.proofs.TakingStays.{begun_as}
+use Rattle.std.proofs.Common.{◌∷◌, ◌≤◌, ◌≢◌}
+use Rattle.machine_tables.specs.Parts.{Parts, with_state}
+use Rattle.machine.proofs.EmptiedFacts.{emptied}
+use Rattle.machine.proofs.TakingStays.{choice_as, emptied_as, leaving_as}
+use Rattle.machine.specs.Promise.{IsSound}
+use Rattle.machine.proofs.Found.{Looked, Waited, found_of}
+use Rattle.machine.proofs.Stays.{ShowsAs, stays_sound, then_as, unbound_put, words_stay}
+
+-- a page may be read into a frame
+pub record IsReadable (st : Storage) (f u p : ℕ) : Type 0 where
+  pub active : IsActive st.ast.entries u
+  pub page : p < length (table_of st.ast u)
+  pub out : is_out (word_of st.ast u p) ≡ true
+  pub within : f < length st.pages.core.frames
+  pub free : frame_at st.pages.core f ≡ frame.Free
+  pub first : IsNotStarted st.pages.core u p
+
+-- a number of a process may lead to a segment
+pub record IsConnectable (st : Storage) (k n u : ℕ) : Type 0 where
+  pub knows : k < length st.links.known
+  pub active : IsActive st.ast.entries u
+  pub known : uid_of (kst_at st.links.known k) n ≡ Some u
+  pub cut : leads_at st.links.descriptors k n ≡ None
+
+-- whether a page is on its record alone, said in both ways
+out_is : (w : Ptw) → is_away w ≡ true → is_out w ≡ true
+out_is ptw.Null h = absurd (let no : false ≡ true = h in cc)
+out_is (ptw.Out r) h = refl
+out_is (ptw.Here f) h = absurd (let no : false ≡ true = h in cc)
+out_is (ptw.Leaving f) h = absurd (let no : false ≡ true = h in cc)
+
+free_is : (x : Frame) → is_free x ≡ true → x ≡ frame.Free
+free_is frame.Free h = refl
+free_is (frame.Started u p) h = absurd (let no : false ≡ true = h in cc)
+free_is (frame.Bound u p used modified) h = absurd (let no : false ≡ true = h in cc)
+
+-- a segment that is found active is so in its place
+pub active_there : (st : Storage) (u : ℕ) → is_active st.ast u ≡ true → IsActive st.ast.entries u
+active_there st u h = (place_of st.ast.entries u, (active_place st.ast u h).1)
+
+module _ {D : Type 0} (t : Parts D) (c : ℕ) (sound : IsSound t) (there : c < length t.state.processors) where
+  abbrev s : State
+  s = t.state
+
+  abbrev keeps : Keeps s
+  keeps = sound.keeps.machine.keeps
+
+  -- the machine after an action that makes no call of a drive, and shows what it showed
+  pub kept_through : (a : Action) (v : State) → v ≡ after s c a (no_call s) → action_of s c ≡ a
+      → shown_after s c (no_call s) a ≡ (λ x. x) → Rests s c (no_call s) a
+      → ShowsAs s.store v.store → (now : Parts D) → now ≡ with_state t v
+      → IsKept now.state.store.pages now.state.store.ast now.state.store.links
+      → IsStore now.state.store.pages now.state.store.ast now.state.store.links now.state.store.accounts
+      now.state.store.whos → IsSound now
+  kept_through a v is doing same rests shows now now_is kept counted = stays_sound t now c a sound there doing
+      same rests (ap (λ (u : Parts D). u.state) now_is ∙ is) (ap (λ (u : Parts D). u.room) now_is)
+      kept counted (subst (λ (u : Parts D). ShowsAs s.store u.state.store) (sym now_is) shows)
+
+  -- ---- a page is read in
+
+  pub readable : (f u p : ℕ) → action_of s c ≡ act.Start f u p → IsReadable s.store f u p
+  unfolding place_of
+  readable f u p doing = record {
+    active = active_there s.store u active;
+    page = within.1;
+    out = out_is (word_of s.store.ast u p) l.finds.out;
+    within = (free_frame s.store.pages.core f l.finds.frame).0;
+    free = free;
+    first = record {
+      none = λ g e. unread_page s.store.pages.core u p l.finds.unread g
+          (map_list started_page s.store.pages.core.frames g frame.Free ∙ ap started_page e);
+    };
+  }
+    where
+      l : Looked s c (act.Start f u p)
+      l = found_of s c sound.keeps.machine there (act.Start f u p) doing
+
+      within : (place_of s.store.ast.entries u < length s.store.ast.tables) × (p < length (table_of s.store.ast u))
+      within = word_within s.store.ast u p (λ e. (let no : false ≡ true = sym (ap is_away e) ∙ l.finds.out in cc))
+
+      active : is_active s.store.ast u ≡ true
+      active = within_some (is_for u) s.store.ast.entries
+          (subst (λ (n : ℕ). place_of s.store.ast.entries u < n) keeps.store.kept.places within.0)
+
+      free : frame_at s.store.pages.core f ≡ frame.Free
+      free = free_is (frame_at s.store.pages.core f)
+          (position_at is_free s.store.pages.core.frames frame.Free f l.finds.frame).1
+
+  pub start_sound : (f u p : ℕ) → action_of s c ≡ act.Start f u p
+      → (now : Parts D) → now ≡ with_state t (started s c f u p)
+      → IsKept now.state.store.pages now.state.store.ast now.state.store.links
+      → IsStore now.state.store.pages now.state.store.ast now.state.store.links now.state.store.accounts
+      now.state.store.whos → IsSound now
+  unfolding after
+  start_sound f u p doing = kept_through (act.Start f u p) (started s c f u p) refl doing refl tt (record {
+    accounts = refl;
+    known = refl;
+    whos = refl;
+    records = refl;
+    vtocs = refl;
+    words = λ v q h. words_stay s.store.pages (started s c f u p).store.pages
+        (unbound_put s.store.pages.core f (frame.Started u p) (ap bound_page (readable f u p doing).free) refl)
+        refl refl refl v q s.store.accounts;
+    places = refl;
+    sizes = refl;
+  })
+
+  -- ---- a descriptor is connected
+
+  pub connectable : (k n u : ℕ) → (cpu_at s.processors c).process ≡ Some k → action_of s c ≡ act.Connect n u
+      → IsConnectable s.store k n u
+  connectable k n u its doing = subst (λ (j : ℕ). IsConnectable s.store j n u) (ap or_zero its) (record {
+    knows = within_by s.store.links.known j [] (λ e. none_some (sym (ap (λ (x : List (Option ℕ)). uid_of x n) e)
+        ∙ known));
+    active = active_there s.store u (chain_active s.store.accounts.nodes keeps.store.accounts.tree s.store.ast u
+        l.finds.chain);
+    known = known;
+    cut = ap leads l.finds.fault;
+  })
+    where
+      j : ℕ
+      j = process_at s c
+
+      l : Looked s c (act.Connect n u)
+      l = found_of s c sound.keeps.machine there (act.Connect n u) doing
+
+      inside : IsInside s j l.finds.reference (uid_of_number s.store j l.finds.reference.number)
+      inside = inside_is s j l.finds.reference keeps l.finds.inside
+
+      known : uid_of (kst_at s.store.links.known j) n ≡ Some u
+      known = ap (λ (x : List (List (Option ℕ))). uid_of (kst_at x j) n) (sym keeps.faithful.known)
+          ∙ (ap (known_uid (flat_of s) j) (sym l.finds.number) ∙ (inside.known
+          ∙ ap (λ (x : ℕ). Some x) (ap (uid_of_number s.store j) l.finds.number ∙ l.finds.uid)))
+
+  pub connect_sound : (n u : ℕ) → action_of s c ≡ act.Connect n u
+      → (now : Parts D) → now ≡ with_state t (connected_to s c n u)
+      → IsKept now.state.store.pages now.state.store.ast now.state.store.links
+      → IsStore now.state.store.pages now.state.store.ast now.state.store.links now.state.store.accounts
+      now.state.store.whos → IsSound now
+  unfolding after
+  connect_sound n u doing = kept_through (act.Connect n u) (connected_to s c n u) refl doing refl tt (record {
+    accounts = refl;
+    known = refl;
+    whos = refl;
+    records = refl;
+    vtocs = refl;
+    words = λ v q h. refl;
+    places = refl;
+    sizes = refl;
+  })
+
+  -- ---- a segment becomes inactive
+
+  -- the owner is there
+  pub owned : (m : IsMine s c) → HasOwner s.owner
+  owned m e = none_some (sym e ∙ m.mine)
+
+  pub inactive_owner : (u : ℕ) → action_of s c ≡ act.Deactivate u → HasOwner s.owner
+  inactive_owner u doing = owned (found_of s c sound.keeps.machine there (act.Deactivate u) doing).waited.owner
+
+  pub inactive_emptied : (u : ℕ) → action_of s c ≡ act.Deactivate u → IsEmptied s.store u
+  inactive_emptied u doing = emptied s u keeps (sound.keeps.working.whole.whole u goes)
+      (ap frames_of_owner l.waited.owner.mine ∙ l.left) leaf.active leaf.inferiors
+    where
+      l : Waited s c (aim.Deactivating u) (λ fs. fs ≡ [])
+      l = found_of s c sound.keeps.machine there (act.Deactivate u) doing
+
+      goes : going_for s.owner ≡ Some u
+      goes = ap going_for l.waited.owner.mine ∙ ap goes_in l.waited.waits
+
+      leaf : IsLeaf s.store u
+      leaf = sound.keeps.working.leaf u goes
+
+  pub deactivate_sound : (u : ℕ) → action_of s c ≡ act.Deactivate u
+      → (now : Parts D) → now ≡ with_state t (segment_emptied s c u)
+      → IsKept now.state.store.pages now.state.store.ast now.state.store.links
+      → IsStore now.state.store.pages now.state.store.ast now.state.store.links now.state.store.accounts
+      now.state.store.whos → IsSound now
+  unfolding after
+  deactivate_sound u doing = kept_through (act.Deactivate u) (segment_emptied s c u) refl doing refl tt
+      (emptied_as s c u)
+
+  -- ---- the clock's choice goes
+
+  -- the frame that the clock chooses, where the rules come to that
+  abbrev pub Evicts : Type 0
+  Evicts = IsSomeAnd (clock_choice s.store.pages.core) (λ f. action_of s c ≡ act.Evict f)
+
+  chosen : Evicts → (f : ℕ) × (clock_choice s.store.pages.core ≡ Some f) × (action_of s c ≡ act.Evict f)
+  chosen h = by (clock_choice s.store.pages.core) refl h
+    where
+      by : (x : Option ℕ) → clock_choice s.store.pages.core ≡ x → IsSomeAnd x (λ f. action_of s c ≡ act.Evict f)
+          → (f : ℕ) × (clock_choice s.store.pages.core ≡ Some f) × (action_of s c ≡ act.Evict f)
+      by None e i = absurd i
+      by (Some f) e i = (f, e, i)
+
+  evict_looked : (h : Evicts) → Looked s c (act.Evict (chosen h).0)
+  evict_looked h = found_of s c sound.keeps.machine there (act.Evict (chosen h).0) (chosen h).2
+
+  -- what an eviction asks: some frame is bound, no page is on its way out, and the owner has taken nothing
+  pub record IsEvictable : Type 0 where
+    pub bound : list_any is_bound s.store.pages.core.frames ≡ true
+    pub here : AreHere s.store
+    pub owner : HasOwner s.owner
+    pub few : length (frames_of_owner s.owner) < 256
+
+  pub evictable : Evicts → IsEvictable
+  evictable h = record {
+    bound = any_at is_bound s.store.pages.core.frames (chosen h).0 frame.Free
+        (bound_is (frame_at s.store.pages.core (chosen h).0) at.0
+        (sym (map_list bound_page s.store.pages.core.frames (chosen h).0 frame.Free) ∙ at.1)) refl;
+    here = record { here = λ g u p e. bound_here (seen s) g u p keeps.book (evict_looked h).idle.frames e };
+    owner = owned (evict_looked h).looking.owner;
+    few = let none = ap length (evict_looked h).idle.frames in omega (arith, none);
+  }
+    where
+      at : (page : ℕ × ℕ) × (binding_at (bindings s.store.pages.core) (chosen h).0 ≡ Some page)
+      at = choice_bound s.store.pages.core (chosen h).0 (chosen h).1
+
+      bound_is : (x : Frame) (page : ℕ × ℕ) → bound_page x ≡ Some page → is_bound x ≡ true
+      bound_is frame.Free page e = absurd (none_some e)
+      bound_is (frame.Started u p) page e = absurd (none_some e)
+      bound_is (frame.Bound u p used modified) page e = refl
+
+  pub evict_sound : Evicts → (f : ℕ) → clock_choice s.store.pages.core ≡ Some f
+      → (now : Parts D) → now ≡ with_state t (eviction_begun s c f)
+      → IsKept now.state.store.pages now.state.store.ast now.state.store.links
+      → IsStore now.state.store.pages now.state.store.ast now.state.store.links now.state.store.accounts
+      now.state.store.whos → IsSound now
+  unfolding after
+  evict_sound h f choice = kept_through (act.Evict f) (eviction_begun s c f) refl
+      (subst (λ (g : ℕ). action_of s c ≡ act.Evict g) (same (sym (chosen h).1 ∙ choice)) (chosen h).2) refl tt
+      (then_as s.store (with_choice s.store f) (with_leaving (with_choice s.store f) f) (choice_as s.store f)
+      (leaving_as (with_choice s.store f) f))
+    where
+      same : {a b : ℕ} → Some a ≡ Some b → a ≡ b
+      same e = cc
+
+  -- ---- a segment is emptied, for its length
+
+  empty_looked : (u : ℕ) → action_of s c ≡ act.Empty u → Looked s c (act.Empty u)
+  empty_looked u doing = found_of s c sound.keeps.machine there (act.Empty u) doing
+
+  -- What the emptying of a segment asks: it is active, and the owner has taken nothing; it takes 256 pages and 32
+  -- descriptors at the most, and where there is nothing to take the segment may be inactive at once.
+  pub record IsEmptiable (u : ℕ) : Type 0 where
+    pub active : IsActive s.store.ast.entries u
+    pub owner : HasOwner s.owner
+    pub frames : frames_of_owner s.owner ≡ []
+    pub cut : cut_of_owner s.owner ≡ []
+    pub pages : length (frames_from s.store.ast u 0) ≤ 256
+    pub descriptors : length (trailers_in s.store u) ≤ 32
+    pub bare : is_bare (frames_from s.store.ast u 0) (trailers_in s.store u) ≡ true → IsEmptied s.store u
+
+  pub emptiable : (u : ℕ) → action_of s c ≡ act.Empty u → IsEmptiable u
+  emptiable u doing = record {
+    active = active_there s.store u l.finds.active;
+    owner = owned l.looking.owner;
+    frames = l.idle.frames;
+    cut = l.idle.cut;
+    pages = pages_few s u keeps l.finds.active;
+    descriptors = descriptors_few s u keeps l.finds.active;
+    bare = λ h. by (frames_from s.store.ast u 0) (trailers_in s.store u) h refl refl;
+  }
+    where
+      l : Looked s c (act.Empty u)
+      l = empty_looked u doing
+
+      leads_there : LeadsToSegment s l.finds.path
+      leads_there = length_stands s (process_at s c) keeps l.finds.path l.finds.pages
+          (subst (λ (x : Command). refusal_of s (process_at s c) x ≡ None) l.finds.is l.finds.stands)
+
+      same : leads_there.node.uid ≡ u
+      same = sym leads_there.uid ∙ (sym (ap (uid_of_command s.store (process_at s c)) l.finds.is) ∙ l.finds.uid)
+
+      inferiors : (v : ℕ) → is_active s.store.ast v ≡ true → superior_in (node_in s.store.accounts.nodes v) ≢ Some u
+      inferiors v active h = segment_inferiors s u leads_there.node keeps
+          (ap (node_in s.store.accounts.nodes) (sym same) ∙ leads_there.there) leads_there.segment v
+          (ap (λ (ns : List Node). superior_in (node_in ns v)) keeps.faithful.tree.nodes ∙ h)
+
+      by : (fs : List ℕ) (xs : List (ℕ × ℕ)) → is_bare fs xs ≡ true → frames_from s.store.ast u 0 ≡ fs
+          → trailers_in s.store u ≡ xs → IsEmptied s.store u
+      by [] [] h none none_cut = emptied s u keeps (nothing_whole s c u keeps l.idle l.finds.active
+          (unread_any s.store.pages.core u l.finds.unread) none none_cut) l.idle.frames l.finds.active inferiors
+      by [] (x ∷ xs) h none none_cut = absurd (let no : false ≡ true = h in cc)
+      by (f ∷ fs) xs h none none_cut = absurd (let no : false ≡ true = h in cc)
+
+  pub empty_sound : (u : ℕ) → action_of s c ≡ act.Empty u
+      → (now : Parts D) → now ≡ with_state t (deactivation_begun s c u)
+      → IsKept now.state.store.pages now.state.store.ast now.state.store.links
+      → IsStore now.state.store.pages now.state.store.ast now.state.store.links now.state.store.accounts
+      now.state.store.whos → IsSound now
+  unfolding after
+  empty_sound u doing = kept_through (act.Empty u) (deactivation_begun s c u) refl doing refl tt (begun_as s c u)

@@ -1,0 +1,27 @@
+use Rattle.machine.proofs.OwnerCalls.{connect_sound, connectable}
+use Rattle.machine.proofs.machine.Machine.connect.Goals as goal
+
+pub connect-requires-clause-knows : goal.connect-requires-clause-knows
+connect-requires-clause-knows g c = (connectable _ c.args.c c.self.invariant (rw c.self.view_is c.requires.there)
+    c.args.process c.args.number c.args.uid (rw c.self.view_is c.requires.process)
+    (rw c.self.view_is c.requires.doing)).knows
+
+pub connect-requires-clause-active : goal.connect-requires-clause-active
+connect-requires-clause-active g c = (connectable _ c.args.c c.self.invariant (rw c.self.view_is c.requires.there)
+    c.args.process c.args.number c.args.uid (rw c.self.view_is c.requires.process)
+    (rw c.self.view_is c.requires.doing)).active
+
+pub connect-requires-clause-known : goal.connect-requires-clause-known
+connect-requires-clause-known g c = (connectable _ c.args.c c.self.invariant (rw c.self.view_is c.requires.there)
+    c.args.process c.args.number c.args.uid (rw c.self.view_is c.requires.process)
+    (rw c.self.view_is c.requires.doing)).known
+
+pub connect-requires-clause-cut : goal.connect-requires-clause-cut
+connect-requires-clause-cut g c = (connectable _ c.args.c c.self.invariant (rw c.self.view_is c.requires.there)
+    c.args.process c.args.number c.args.uid (rw c.self.view_is c.requires.process)
+    (rw c.self.view_is c.requires.doing)).cut
+
+pub invariant_of-self : goal.invariant_of-self
+invariant_of-self g c = connect_sound _ c.args.c c.self.invariant (rw c.self.view_is c.requires.there) c.args.number
+    c.args.uid (rw c.self.view_is c.requires.doing) _ c.connect.ensures c.look-tables.ensures.kept
+    c.look-tables.ensures.counted

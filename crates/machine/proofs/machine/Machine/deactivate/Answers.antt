@@ -1,0 +1,15 @@
+use Rattle.machine.proofs.OwnerCalls.{deactivate_sound, inactive_emptied, inactive_owner}
+use Rattle.machine.proofs.machine.Machine.deactivate.Goals as goal
+
+pub deactivate-requires-clause-owner : goal.deactivate-requires-clause-owner
+deactivate-requires-clause-owner g c = inactive_owner _ c.args.c c.self.invariant
+    (rw c.self.view_is c.requires.there) c.args.uid (rw c.self.view_is c.requires.doing)
+
+pub deactivate-requires-clause-empty : goal.deactivate-requires-clause-empty
+deactivate-requires-clause-empty g c = inactive_emptied _ c.args.c c.self.invariant
+    (rw c.self.view_is c.requires.there) c.args.uid (rw c.self.view_is c.requires.doing)
+
+pub invariant_of-self : goal.invariant_of-self
+invariant_of-self g c = deactivate_sound _ c.args.c c.self.invariant (rw c.self.view_is c.requires.there) c.args.uid
+    (rw c.self.view_is c.requires.doing) _ c.deactivate.ensures c.look-tables.ensures.kept
+    c.look-tables.ensures.counted
