@@ -4,6 +4,7 @@ pub mod EmptiedFacts
 pub mod Found
 pub mod OwnerCalls
 pub mod Quiet
+pub mod ReadStays
 pub mod Sizes
 pub mod Stays
 pub mod Steps
