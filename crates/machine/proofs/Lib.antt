@@ -9,3 +9,4 @@ pub mod Sizes
 pub mod Stays
 pub mod Steps
 pub mod TakingStays
+pub mod TransferCalls

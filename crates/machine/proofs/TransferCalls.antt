@@ -1,0 +1,84 @@
+-- What the end of a transfer asks, and that the machine keeps its promise through it, where the drives count their
+-- failures and a failure of it may be told.
+use Rattle.std.proofs.Common.{◌≡◌, ◌<◌, ◌≤◌, ℕ, Bool, true, false, cond, length, Some, subst}
+use Rattle.core_map.specs.declared.Frame.TheVariants as frame
+use Rattle.core_map.specs.CoreMap.{frame_at}
+use Rattle.active_segs.specs.Active.{IsActive}
+use Rattle.seg_control.specs.Control.{table_of}
+use Rattle.seg_control.specs.Kept.{IsKept}
+use Rattle.storage_ops.specs.Shown.{IsStore}
+use Rattle.processor.specs.declared.Transfer.{Transfer}
+use Rattle.machine_model.specs.Actions as act
+use Rattle.machine_model.specs.Actions.{action_of}
+use Rattle.machine_model.specs.After.{Outcome, after}
+use Rattle.machine_model.specs.Keeps.{Keeps}
+use Rattle.machine_model.specs.Reads.{processor_at}
+use Rattle.machine_model.specs.State.{State, Storage}
+use Rattle.machine_model.specs.Steps.{transfer_failed, transferred, with_faults}
+use Rattle.machine_model.proofs.StepAsks.{ReadsFor}
+use Rattle.machine_tables.specs.Parts.{Parts}
+use Rattle.machine.specs.Promise.{IsSound}
+use Rattle.machine.proofs.Found.{found_of}
+use Rattle.machine.proofs.ReadStays.{active_there, brought_as, lost_as, page_within, started}
+use Rattle.machine.proofs.Stays.{ShowsAs, faithful_as, kept_as}
+use Rattle.machine.proofs.Steps.{sound_after}
+
+-- what keeps its own promise
+abbrev pub IsKeptStore : Storage → Type 0
+IsKeptStore st = IsKept st.pages st.ast st.links × IsStore st.pages st.ast st.links st.accounts st.whos
+
+-- the page of a transfer may come into its frame
+pub record IsEnding (st : Storage) (t : Transfer) : Type 0 where
+  pub active : IsActive st.ast.entries t.uid
+  pub page : t.page < length (table_of st.ast t.uid)
+  pub started : frame_at st.pages.core t.frame ≡ frame.Started t.uid t.page
+
+module _ {D : Type 0} (t : Parts D) (c : ℕ) (sound : IsSound t) (there : c < length t.state.processors) (x : Transfer)
+    (doing : action_of t.state c ≡ act.EndTransfer x) where
+  abbrev s : State
+  s = t.state
+
+  abbrev keeps : Keeps s
+  keeps = sound.keeps.machine.keeps
+
+  mine : (processor_at s.processors c).cpu.transfer ≡ Some x
+  mine = found_of s c sound.keeps.machine there (act.EndTransfer x) doing
+
+  pub ending : IsEnding s.store x
+  ending = record {
+    active = active_there s c x keeps mine;
+    page = page_within s c x keeps mine;
+    started = started s c x keeps mine;
+  }
+
+  -- however the read ended, the store shows what it showed
+  ends_as : (o : Outcome) → IsKeptStore (after s c (act.EndTransfer x) o).store
+      → ShowsAs s.store (after s c (act.EndTransfer x) o).store
+  unfolding after
+  ends_as o kept = by o.failed kept
+    where
+      by : (b : Bool) → IsKeptStore (cond b (transfer_failed s c x o.faults)
+          (transferred (with_faults s o.faults) c x)).store
+          → ShowsAs s.store (cond b (transfer_failed s c x o.faults) (transferred (with_faults s o.faults) c x)).store
+      by true h = lost_as s c x keeps mine
+      by false h = brought_as s c x keeps mine h.0
+
+  pub end_sound : (o : Outcome) → s.faults ≤ o.faults → (o.failed ≡ true → s.faults < o.faults)
+      → (o.failed ≡ true → ReadsFor s c) → (now : Parts D) → now.state ≡ after s c (act.EndTransfer x) o
+      → now.room ≡ t.room → IsKeptStore now.state.store → IsSound now
+  end_sound o never_less counted reads now state room kept = sound_after t now c o (act.EndTransfer x) sound there doing
+      (record {
+        store = kept_as s.store after_it.store shows keeps.store now_kept.0 now_kept.1;
+        shown = λ f h. faithful_as s.store after_it.store shows s.plan f h;
+        never_less = never_less;
+        counted = counted;
+      }) reads state room
+    where
+      after_it : State
+      after_it = after s c (act.EndTransfer x) o
+
+      now_kept : IsKeptStore after_it.store
+      now_kept = subst (λ (v : State). IsKeptStore v.store) state kept
+
+      shows : ShowsAs s.store after_it.store
+      shows = ends_as o now_kept
