@@ -1,5 +1,6 @@
 -- What the tables ask of a processor that acts by itself follows from the promise and the rule.
-use Rattle.std.proofs.Common.{◌≡◌, ◌<◌, ◌≤◌, ◌+◌, ◌-◌, ◌^◌, ◌/◌, ℕ, suc, zero, Bool, true, false, ◌||◌, ◌&&◌, cond, eqb, length, map}
+use Rattle.std.proofs.Common.{◌≡◌, ◌<◌, ◌≤◌, ◌+◌, ◌-◌, ◌^◌, ◌/◌, ℕ, suc, zero, Bool, true, false, ◌||◌, ◌&&◌, cond}
+use Rattle.std.proofs.Common.{eqb, length, map}
 use Rattle.std.proofs.Common.{List, [], ◌∷◌, Option, Some, None, refl, sym, ap, subst, ◌∙◌, inl, inr, arith}
 use Rattle.std.specs.List.{find, list_any}
 use Rattle.std.specs.List.{AllByRecursion, IsDistinct}
@@ -254,7 +255,8 @@ module _ {D : Type 0} (t : Parts D) (c : ℕ) (sound : IsSound t) (k : ℕ)
                   let here : has w.ready k ≡ true = subst (λ (j : ℕ). has w.ready j ≡ true) (same ∙ sym zeroth) h in
                   let wrong : true ≡ false = sym here ∙ apart in cc)
               | inr ended ↦
-                  (let going : (run_at w.runs 0).ended ≡ false = subst (λ (j : ℕ). (run_at w.runs j).ended ≡ false) zeroth
+                  (let going : (run_at w.runs 0).ended ≡ false =
+                  subst (λ (j : ℕ). (run_at w.runs j).ended ≡ false) zeroth
                   mine.going in
                   let wrong : true ≡ false = sym ended ∙ going in cc)
             ]
@@ -271,7 +273,10 @@ module _ {D : Type 0} (t : Parts D) (c : ℕ) (sound : IsSound t) (k : ℕ)
           omega (arith, none, long, room)
         where
           is_zeroth : eqb k 0 ≡ true → k ≡ 0
-          is_zeroth e = elim (eqb_tells k 0) [ inl x ↦ x.1 | inr m ↦ absurd (let no : true ≡ false = sym e ∙ m.0 in cc) ]
+          is_zeroth e = elim (eqb_tells k 0) [
+            | inl x ↦ x.1
+            | inr m ↦ absurd (let no : true ≡ false = sym e ∙ m.0 in cc)
+          ]
 
           both_true : (a b : Bool) → (a && b) ≡ true → (a ≡ true) × (b ≡ true)
           both_true true b e = (refl, e)

@@ -1,5 +1,6 @@
 -- What the rules found where they choose an action of the supervisor's owner, or the end of a transfer.
-use Rattle.std.proofs.Common.{◌≡◌, ◌<◌, ℕ, length, Bool, true, false, not, ◌&&◌, cond, eqb, List, [], ◌∷◌, position, Option, Some}
+use Rattle.std.proofs.Common.{◌≡◌, ◌<◌, ℕ, length, Bool, true, false, not, ◌&&◌, cond, eqb, List, [], ◌∷◌, position}
+use Rattle.std.proofs.Common.{Option, Some}
 use Rattle.std.proofs.Common.{None, inl, inr, refl, sym, subst, ◌∙◌}
 use Rattle.std.proofs.lemmas.Bool.Decides.{eqb_tells}
 use Rattle.script.specs.References.{reference_of}

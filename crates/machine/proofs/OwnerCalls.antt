@@ -1,5 +1,5 @@
--- What the calls of the owner's looks ask, of a page that is read in and of a descriptor that is connected, and that the
--- machine keeps its promise through them.
+-- What the calls of the owner's looks ask, of a page that is read in and of a descriptor that is connected, and that
+-- the machine keeps its promise through them.
 use Rattle.std.proofs.Common.{◌≡◌, ◌<◌, ℕ, true, false, length, List, [], Option, Some, None, refl, sym, ap}
 use Rattle.std.proofs.Common.{arith, subst, ◌∙◌}
 use Rattle.core_map.specs.declared.Frame.{Frame}

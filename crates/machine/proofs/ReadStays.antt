@@ -134,7 +134,8 @@ module _ (s : State) (c : ℕ) (t : Transfer) (k : Keeps s)
     tie_now = kept.paged.ties out_at.place t.uid home out_at.active home_is
 
     alone : (g : ℕ) → binding_at (bindings now.core) g ≡ Some (t.uid, t.page) → g ≡ t.frame
-    alone g e = some_same g t.frame (sym (tie_now.table.named g t.page e) ∙ tie_now.table.named t.frame t.page bound_now)
+    alone g e = some_same g t.frame (sym (tie_now.table.named g t.page e)
+        ∙ tie_now.table.named t.frame t.page bound_now)
 
     its_words : words_at now t.uid home t.page ≡ words_at pages t.uid home t.page
     its_words = shown_in now t.uid t.page t.frame home bound_now alone

@@ -3,7 +3,8 @@
 
 ghost use Rattle.std.specs.Prelude.{◌≡◌, ◌<◌, ◌≤◌, ◌+◌, length, IsSomeAnd, Some, None};
 ghost use Rattle.core_map.specs.Clock.{clock_choice};
-ghost use Rattle.machine_model.specs.Actions.{Connect, Deactivate, Empty, Evict, GiveUp, Signal, Start, TakeSupervisor, action_of};
+ghost use Rattle.machine_model.specs.Actions.{Connect, Deactivate, Empty, Evict, GiveUp, Signal, Start};
+ghost use Rattle.machine_model.specs.Actions.{TakeSupervisor, action_of};
 ghost use Rattle.machine_model.specs.Jobs.{deactivation_begun, emptied, eviction_begun, signalled};
 ghost use Rattle.machine_model.specs.Reads.{cpu_at, cut_of_owner};
 ghost use Rattle.machine_model.specs.Steps.{connected_to, looking, started, with_owner};
@@ -57,8 +58,9 @@ impl<D: Drive> Machine<D> {
         let _tables = self.tables.look();
     }
 
-    /// A number of the process of processor `c`, which owns the supervisor, leads to an active segment, with the mode of
-    /// the process's access and the length of the segment. (Source: Bensoussan, Clingen and Daley 1972; Organick 1972.)
+    /// A number of the process of processor `c`, which owns the supervisor, leads to an active segment, with the mode
+    /// of the process's access and the length of the segment. (Source: Bensoussan, Clingen and Daley 1972; Organick
+    /// 1972.)
     pub(crate) fn connect(&mut self, c: u32, process: u32, number: u32, uid: u32)
         requires doing { action_of self.old.state c ≡ Connect number uid }
         requires there { c < length self.old.state.processors }
@@ -72,8 +74,8 @@ impl<D: Drive> Machine<D> {
 }
 
 impl<D: Drive> Machine<D> {
-    /// Processor `c`, which owns the supervisor, makes a segment inactive of which everything was taken, and looks again:
-    /// the descriptors that it cut are gone. (Source: Bensoussan, Clingen and Daley 1972; Organick 1972.)
+    /// Processor `c`, which owns the supervisor, makes a segment inactive of which everything was taken, and looks
+    /// again: the descriptors that it cut are gone. (Source: Bensoussan, Clingen and Daley 1972; Organick 1972.)
     pub(crate) fn deactivate(&mut self, c: u32, uid: u32)
         requires doing { action_of self.old.state c ≡ Deactivate uid }
         requires there { c < length self.old.state.processors }
@@ -101,9 +103,9 @@ impl<D: Drive> Machine<D> {
 }
 
 impl<D: Drive> Machine<D> {
-    /// Processor `c`, which owns the supervisor, takes the pages of an active segment that are here, 256 at the most, and
-    /// cuts the descriptors that lead to it, one of each of 32 processes at the most, so that it becomes inactive; where
-    /// there are none it is inactive at once. (Source: Bensoussan, Clingen and Daley 1972; Organick 1972.)
+    /// Processor `c`, which owns the supervisor, takes the pages of an active segment that are here, 256 at the most,
+    /// and cuts the descriptors that lead to it, one of each of 32 processes at the most, so that it becomes inactive;
+    /// where there are none it is inactive at once. (Source: Bensoussan, Clingen and Daley 1972; Organick 1972.)
     pub(crate) fn empty(&mut self, c: u32, uid: u32)
         requires doing { action_of self.old.state c ≡ Empty uid }
         requires there { c < length self.old.state.processors }
