@@ -1,3 +1,4 @@
+pub mod ActiveLaws
 pub mod BackLaws
 pub mod ChoiceLaws
 pub mod CommandLaws

@@ -1,6 +1,7 @@
 -- The least frame into which a page of a segment is being read, by the processors that read.
 use Rattle.std.proofs.Common.{◌≡◌, ◌≢◌, ◌+◌, ◌<◌, ◌≤◌, ℕ, zero, suc, Bool, true, false, not, ◌&&◌, cond, eqb, map}
-use Rattle.std.proofs.Common.{List, [], ◌∷◌, length, get_or, position, Option, Some, None, ◌⊎◌, inl, inr, refl, sym, ap, subst}
+use Rattle.std.proofs.Common.{List, [], ◌∷◌, length, get_or, position, Option, Some, None}
+use Rattle.std.proofs.Common.{◌⊎◌, inl, inr, refl, sym, ap, subst}
 use Rattle.std.proofs.Common.{◌∙◌, arith}
 use Rattle.std.specs.Prelude.{nat_le, nat_lt}
 use Rattle.std.specs.List.{position_or_len}
@@ -135,7 +136,8 @@ unfolding least_from
 least_first uid test ps = refl
 
 least_next : (uid : ℕ) (test : ℕ → Bool) (ps : List Processor) (n : ℕ)
-    → least_from uid test ps (n + 1) ≡ lesser (least_from uid test ps n) (read_by uid test (processor_at ps n).cpu.transfer)
+    → least_from uid test ps (n + 1)
+    ≡ lesser (least_from uid test ps n) (read_by uid test (processor_at ps n).cpu.transfer)
 unfolding least_from
 least_next uid test ps n = ap (least_from uid test ps) (let e : n + 1 ≡ suc n = omega arith in e)
 

@@ -176,8 +176,8 @@ impl<D: Drive> Tables<D> {
         }
     }
 
-    /// What a processor does while there is work: it takes part, drops what it is to drop, ends its transfer, or goes on
-    /// with its process or its job.
+    /// What a processor does while there is work: it takes part, drops what it is to drop, ends its transfer, or goes
+    /// on with its process or its job.
     fn work(&self, c: u32) -> Option<Action>
         requires may { MayChoose self.now.state c }
         ensures { or_look self.now.state (process_at self.now.state c) result ≡ rule_of self.now.state c
@@ -194,8 +194,8 @@ impl<D: Drive> Tables<D> {
         }
     }
 
-    /// What processor `c` does in its next step, by the rules in their order; `None` exactly where it owns the supervisor
-    /// and is to look for what the next command of its process wants. It goes round the processors. (Source:
+    /// What processor `c` does in its next step, by the rules in their order; `None` exactly where it owns the
+    /// supervisor and is to look for what the next command of its process wants. It goes round the processors. (Source:
     /// Bensoussan, Clingen and Daley 1972; Corbató 1968; the steps are own.)
     pub fn by_rules(&self, c: u32) -> Option<Action>
         requires may { MayChoose self.now.state c }

@@ -8,6 +8,7 @@
 
 mod action;
 mod answering;
+mod chains;
 mod choosing;
 mod commands;
 mod connecting;

@@ -1,0 +1,100 @@
+//! Which segments of a chain of superiors are active, and which segment has to go where a pool is full.
+
+ghost use Rattle.std.specs.Prelude.{◌≡◌, ◌<◌, ℕ, Some, true, length, if◌then◌else◌};
+ghost use Rattle.dir_tree.specs.Nodes.{chain_of};
+ghost use Rattle.active_segs.specs.Victim.{HasItsSuperiors, HasOneOffChain, victim_of};
+ghost use Rattle.active_segs.specs.Active.{uid_at};
+ghost use Rattle.storage_ops.specs.Shown.{is_there};
+ghost use Rattle.machine_model.specs.Actions.{Commit, Empty, empty_when_read};
+ghost use Rattle.machine_model.specs.Reads.{first_inactive, is_active, or_zero};
+ghost use Rattle.machine_tables.specs.Meant.{meant};
+ghost use Rattle.machine_tables.specs.Reading.{AreRead};
+
+use crate::action::Action;
+use crate::reading::Pages;
+use crate::tables::Tables;
+use active_segs::Ast;
+use volumes::Drive;
+
+/// Whether a segment is active. It is one search.
+fn is_active(ast: &Ast, uid: u32) -> bool
+    ensures { result ≡ is_active ast.now uid }
+{
+    ast.search(uid).is_some()
+}
+
+/// The first segment of a chain that isn't active.
+fn first_inactive(ast: &Ast, chain: &[u32]) -> Option<u32>
+    ensures { result ≡ first_inactive ast.now chain.now }
+{
+    chain.iter().copied().find(|uid| !is_active(ast, *uid))
+}
+
+impl<D: Drive> Tables<D> {
+    /// Whether a segment is active.
+    fn is_active(&self, uid: u32) -> bool
+        ensures { result ≡ is_active self.now.state.store.ast uid }
+    {
+        is_active(self.segs().ast(), uid)
+    }
+
+    /// The first segment that isn't active, of the chain of superiors of a node.
+    pub(crate) fn first_inactive(&self, of: u32) -> Option<u32>
+        requires { is_there self.now.state.store.accounts.nodes of ≡ true }
+        ensures { result ≡ first_inactive self.now.state.store.ast
+            (chain_of self.now.state.store.accounts.nodes of) }
+    {
+        let chain = self.store.accounts().chain(of);
+        first_inactive(self.segs().ast(), &chain)
+    }
+
+    /// The place of the segment that has to go where a pool is full, for the chain of a node.
+    fn victim(&self, of: u32, pool: u32) -> u32
+        requires there { is_there self.now.state.store.accounts.nodes of ≡ true }
+        requires pool { pool < 4 }
+        requires off { HasOneOffChain self.now.state.store.ast pool
+            (chain_of self.now.state.store.accounts.nodes of) }
+        requires superiors { HasItsSuperiors self.now.state.store.ast.entries
+            (chain_of self.now.state.store.accounts.nodes of) }
+        ensures victim { victim_of self.now.state.store.ast pool
+            (chain_of self.now.state.store.accounts.nodes of) ≡ Some result }
+        ensures within { result < length self.now.state.store.ast.entries }
+    {
+        let chain = self.store.accounts().chain(of);
+        self.segs().ast().next_victim(pool, &chain)
+    }
+
+    /// The segment of a place, and 0 where there is none.
+    fn uid_in(&self, place: u32) -> u32
+        requires { place < length self.now.state.store.ast.entries }
+        ensures { result ≡ or_zero (uid_at self.now.state.store.ast.entries place) }
+    {
+        self.segs().ast().uid_at(place).unwrap_or(0)
+    }
+
+    /// What is done for a segment that must not be active: it is emptied, or a page of it that is being read in is
+    /// waited for.
+    fn empty_read(&self, uid: u32) -> Action
+        requires { AreRead self.now.state.store.pages.core self.now.state.processors }
+        ensures { (k : ℕ) → meant self.now.state k result
+            ≡ empty_when_read self.now.state.store.pages.core uid (Empty uid) }
+    {
+        match self.first_read(uid, Pages::Any) {
+            Some(first) => first,
+            None => Action::Empty(uid),
+        }
+    }
+
+    /// What the owner does for a `length` of a segment: where it is active it is emptied first.
+    pub(crate) fn look_at_length(&self, uid: u32) -> Action
+        requires { AreRead self.now.state.store.pages.core self.now.state.processors }
+        ensures { (k : ℕ) → meant self.now.state k result ≡ (if is_active self.now.state.store.ast uid
+            then empty_when_read self.now.state.store.pages.core uid (Empty uid) else Commit) }
+    {
+        if self.is_active(uid) {
+            self.empty_read(uid)
+        } else {
+            Action::Commit
+        }
+    }
+}
