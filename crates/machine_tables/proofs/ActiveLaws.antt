@@ -1,9 +1,11 @@
 -- A segment is active where a search finds it.
-use Rattle.std.proofs.Common.{◌≡◌, ℕ, Bool, true, false, is_some, Option, Some, None, refl, sym, ◌∙◌}
+use Rattle.std.proofs.Common.{◌≡◌, ℕ, Bool, true, false, is_some, List, Option, Some, None, refl, sym, ap, ◌∙◌}
 use Rattle.std.specs.Prelude.{◌↔◌}
 use Rattle.active_segs.specs.Active.{ActiveSegs, uid_at}
 use Rattle.seg_control.specs.Control.{place_of}
-use Rattle.machine_model.specs.Reads.{is_active}
+use Rattle.machine_model.specs.Actions.{EmptyVictim, any_page, empty_victim, unless_read}
+use Rattle.machine_model.specs.Reads.{frame_reading, is_active, or_zero}
+use Rattle.machine_model.specs.State.{Storage}
 use Rattle.machine_model.proofs.ActiveSeen.{active_place}
 use Rattle.machine_model.proofs.TieLaws.{none_some}
 use Rattle.machine_model.proofs.TransferKept.{active_at}
@@ -16,3 +18,12 @@ search_tells ast u None only = by (is_active ast u) refl
     by : (b : Bool) → is_active ast u ≡ b → false ≡ b
     by false e = refl
     by true e = absurd (none_some ((only (place_of ast.entries u)).1 (active_place ast u e).1))
+
+-- a victim that is emptied once no page of it is being read in
+pub victim_read : (st : Storage) (pool : ℕ) (chain : List ℕ) (uid place : ℕ) (x : Option ℕ) → x ≡ Some place
+    → uid ≡ or_zero (uid_at st.ast.entries place)
+    → unless_read (frame_reading st.pages.core uid any_page) (EmptyVictim pool chain uid)
+    ≡ empty_victim st pool chain x
+victim_read st pool chain uid place x found is =
+    ap (λ (u : ℕ). unless_read (frame_reading st.pages.core u any_page) (EmptyVictim pool chain u)) is
+    ∙ ap (empty_victim st pool chain) (sym found)

@@ -13,6 +13,7 @@ pub mod PageLaws
 pub mod PartLaws
 pub mod ReadingLaws
 pub mod ReadyLaws
+pub mod RefusalLaws
 pub mod RightLaws
 pub mod RuleLaws
 pub mod SignalLaws

@@ -5,7 +5,7 @@ ghost use Rattle.dir_tree.specs.Nodes.{chain_of};
 ghost use Rattle.active_segs.specs.Victim.{HasItsSuperiors, HasOneOffChain, victim_of};
 ghost use Rattle.active_segs.specs.Active.{uid_at};
 ghost use Rattle.storage_ops.specs.Shown.{is_there};
-ghost use Rattle.machine_model.specs.Actions.{Commit, Empty, empty_when_read};
+ghost use Rattle.machine_model.specs.Actions.{Commit, Empty, empty_victim, empty_when_read};
 ghost use Rattle.machine_model.specs.Reads.{first_inactive, is_active, or_zero};
 ghost use Rattle.machine_tables.specs.Meant.{meant};
 ghost use Rattle.machine_tables.specs.Reading.{AreRead};
@@ -70,6 +70,26 @@ impl<D: Drive> Tables<D> {
         ensures { result ≡ or_zero (uid_at self.now.state.store.ast.entries place) }
     {
         self.segs().ast().uid_at(place).unwrap_or(0)
+    }
+
+    /// What is done where a pool is full: its victim is emptied, or a page of it that is being read in is waited for.
+    pub(crate) fn empty_victim(&self, of: u32, pool: u32) -> Action
+        requires there { is_there self.now.state.store.accounts.nodes of ≡ true }
+        requires pool { pool < 4 }
+        requires off { HasOneOffChain self.now.state.store.ast pool
+            (chain_of self.now.state.store.accounts.nodes of) }
+        requires superiors { HasItsSuperiors self.now.state.store.ast.entries
+            (chain_of self.now.state.store.accounts.nodes of) }
+        requires reads { AreRead self.now.state.store.pages.core self.now.state.processors }
+        ensures { (k : ℕ) → meant self.now.state k result
+            ≡ empty_victim self.now.state.store pool (chain_of self.now.state.store.accounts.nodes of)
+            (victim_of self.now.state.store.ast pool (chain_of self.now.state.store.accounts.nodes of)) }
+    {
+        let uid = self.uid_in(self.victim(of, pool));
+        match self.first_read(uid, Pages::Any) {
+            Some(first) => first,
+            None => Action::EmptyVictim { pool, of, uid },
+        }
     }
 
     /// What is done for a segment that must not be active: it is emptied, or a page of it that is being read in is

@@ -16,6 +16,7 @@ mod emptying;
 mod ending;
 mod finishing;
 mod frames;
+mod looking;
 mod looks;
 mod owner;
 mod owning;

@@ -1,0 +1,41 @@
+-- What the store refuses is what the model refuses by the flat store after the book.
+use Rattle.std.proofs.Common.{◌≡◌, ℕ, List, Option, refl, ◌∙◌}
+use Rattle.script.specs.Plans.{Plan}
+use Rattle.script.specs.declared.commands.Reference.{Reference}
+use Rattle.book.specs.declared.replies.Reply.{Reply}
+use Rattle.book.specs.declared.replies.Reply.TheVariants as reply
+use Rattle.flat_model.specs.References.{reply_to_reference}
+use Rattle.flat_model.specs.Store.{Store}
+use Rattle.storage_ops.specs.References as stored
+use Rattle.storage_ops.specs.Shown.{Shows, Storage as Stored}
+use Rattle.machine_model.specs.Keeps.{IsFaithful}
+use Rattle.machine_model.specs.Reads.{flat_of}
+use Rattle.machine_model.specs.Refusal as model
+use Rattle.machine_model.specs.State.{State}
+use Rattle.machine_tables.specs.Parts.{shown}
+
+pub shows_of : {D : Type 0} (drive : D → List (List ℕ)) (p : Plan) (t : Store) (st : Stored D)
+    → IsFaithful p t (shown drive st) → Shows drive p t st
+shows_of drive p t st h = record { tree = h.tree; known = h.known; pages = h.pages; script = h.script }
+
+same_outside : (x : Reply) → stored.only stored.is_outside x ≡ model.only model.is_outside x
+same_outside reply.Unknown = refl
+same_outside reply.Gone = refl
+same_outside reply.NoAccess = refl
+same_outside reply.Length = refl
+same_outside x = refl
+
+same_room : (x : Reply) → stored.only stored.is_of_room x ≡ model.only model.is_of_room x
+same_room reply.Quota = refl
+same_room reply.NoRecord = refl
+same_room x = refl
+
+pub outside_is : (s : State) (k : ℕ) (r : Reference)
+    → stored.outside_refusal s.plan (flat_of s) k r ≡ model.outside_refusal s k r
+unfolding stored.outside_refusal model.outside_refusal
+outside_is s k r = same_outside (reply_to_reference s.plan (flat_of s) k r)
+
+pub room_is : (s : State) (k : ℕ) (r : Reference)
+    → stored.room_refusal s.plan (flat_of s) k r ≡ model.room_refusal s k r
+unfolding stored.room_refusal model.room_refusal
+room_is s k r = same_room (reply_to_reference s.plan (flat_of s) k r)

@@ -1,0 +1,140 @@
+//! What the owner of the supervisor does for the page of a reference.
+
+ghost use Rattle.std.specs.Prelude.{◌≡◌, ◌<◌, ◌==◌, ℕ, length};
+ghost use Rattle.flat_model.specs.References.{new_word};
+ghost use Rattle.page_table.specs.declared.Ptw.TheVariants.{Null};
+ghost use Rattle.active_segs.specs.Active.{IsActive};
+ghost use Rattle.seg_control.specs.Control.{table_of};
+ghost use Rattle.machine_model.specs.Actions.{Create, Start, create_unless, look_at_page, look_at_word, room_for};
+ghost use Rattle.machine_model.specs.Keeps.{IsFaithful};
+ghost use Rattle.machine_model.specs.Reads.{flat_of};
+ghost use Rattle.machine_model.specs.Refusal.{outside_refusal, room_refusal};
+ghost use Rattle.machine_tables.specs.Meant.{meant};
+ghost use Rattle.machine_tables.specs.Reading.{AreRead};
+
+use crate::action::Action;
+use crate::tables::Tables;
+use book::Reply;
+use mword::Word;
+use page_table::Ptw;
+use script::{RefKind, Reference};
+use volumes::Drive;
+
+/// Whether a reference leaves a page of zeros one.
+fn leaves_zeros(kind: &RefKind) -> bool
+    ensures { result ≡ (new_word 0 kind.now == 0) }
+{
+    match kind {
+        RefKind::Read => true,
+        RefKind::Write(word) => word.value() == 0,
+        RefKind::Add(word) => Word::ZERO.plus(*word).value() == 0,
+    }
+}
+
+impl<D: Drive> Tables<D> {
+    /// What refuses a reference of a process before its page is looked at, by the flat store after the book.
+    pub(crate) fn outside_refusal(&self, process: u32, reference: &Reference) -> Option<Reply>
+        requires known { process < length self.now.state.store.links.known }
+        requires faithful { IsFaithful self.now.state.plan (flat_of self.now.state) self.now.state.store }
+        ensures { result ≡ outside_refusal self.now.state process reference.now }
+    {
+        self.store.outside_refusal(process, reference)
+    }
+
+    /// What refuses that a reference of a process stores a page more, by the flat store after the book.
+    fn room_refusal(&self, process: u32, reference: &Reference) -> Option<Reply>
+        requires known { process < length self.now.state.store.links.known }
+        requires faithful { IsFaithful self.now.state.plan (flat_of self.now.state) self.now.state.store }
+        ensures { result ≡ room_refusal self.now.state process reference.now }
+    {
+        self.store.room_refusal(process, reference)
+    }
+
+    /// A page is being read into a frame from now on, or what is done first.
+    pub(crate) fn begin_reading(&self, uid: u32, page: u32) -> Action
+        requires frames { length self.now.state.store.pages.core.frames ≡ self.now.state.plan.frames }
+        requires reads { AreRead self.now.state.store.pages.core self.now.state.processors }
+        ensures { (k : ℕ) → meant self.now.state k result
+            ≡ room_for self.now.state.store.pages.core uid page (λ f. Start f uid page) }
+    {
+        match self.room_for(uid, page) {
+            Ok(frame) => Action::Start { frame, uid, page },
+            Err(first) => first,
+        }
+    }
+
+    /// A page is made in a frame for a reference, or what is done first.
+    fn make_page(&self, reference: Reference, uid: u32, page: u32) -> Action
+        requires frames { length self.now.state.store.pages.core.frames ≡ self.now.state.plan.frames }
+        requires reads { AreRead self.now.state.store.pages.core self.now.state.processors }
+        ensures { (k : ℕ) → meant self.now.state k result
+            ≡ room_for self.now.state.store.pages.core uid page (λ f. Create f uid page reference) }
+    {
+        match self.room_for(uid, page) {
+            Ok(frame) => Action::Create {
+                frame,
+                uid,
+                page,
+                reference,
+            },
+            Err(first) => first,
+        }
+    }
+
+    /// A page is made for a reference, unless there is no room for it.
+    fn create_or_refuse(&self, process: u32, reference: Reference, uid: u32, page: u32) -> Action
+        requires known { process < length self.now.state.store.links.known }
+        requires faithful { IsFaithful self.now.state.plan (flat_of self.now.state) self.now.state.store }
+        requires frames { length self.now.state.store.pages.core.frames ≡ self.now.state.plan.frames }
+        requires reads { AreRead self.now.state.store.pages.core self.now.state.processors }
+        ensures { (k : ℕ) → meant self.now.state k result
+            ≡ create_unless (room_refusal self.now.state process reference)
+            (room_for self.now.state.store.pages.core uid page (λ f. Create f uid page reference)) }
+    {
+        match self.room_refusal(process, &reference) {
+            Some(refused) => Action::Answer(refused),
+            None => self.make_page(reference, uid, page),
+        }
+    }
+
+    /// What is done for a page of zeros that has no record: it is made, where the reference writes another word.
+    fn look_at_null(&self, process: u32, reference: Reference, uid: u32, page: u32) -> Action
+        requires known { process < length self.now.state.store.links.known }
+        requires faithful { IsFaithful self.now.state.plan (flat_of self.now.state) self.now.state.store }
+        requires frames { length self.now.state.store.pages.core.frames ≡ self.now.state.plan.frames }
+        requires reads { AreRead self.now.state.store.pages.core self.now.state.processors }
+        ensures { (k : ℕ) → meant self.now.state k result
+            ≡ look_at_word self.now.state process reference uid page Null }
+    {
+        let zeros = leaves_zeros(&reference.kind);
+        if zeros {
+            Action::GiveUp
+        } else {
+            self.create_or_refuse(process, reference, uid, page)
+        }
+    }
+
+    /// What the owner does for a page of an active segment that a reference of its process goes to.
+    pub(crate) fn look_at_page(
+        &self,
+        process: u32,
+        reference: Reference,
+        uid: u32,
+        page: u32,
+    ) -> Action
+        requires active { IsActive self.now.state.store.ast.entries uid }
+        requires page { page < length (table_of self.now.state.store.ast uid) }
+        requires known { process < length self.now.state.store.links.known }
+        requires faithful { IsFaithful self.now.state.plan (flat_of self.now.state) self.now.state.store }
+        requires frames { length self.now.state.store.pages.core.frames ≡ self.now.state.plan.frames }
+        requires reads { AreRead self.now.state.store.pages.core self.now.state.processors }
+        ensures { (k : ℕ) → meant self.now.state k result
+            ≡ look_at_page self.now.state process reference uid page }
+    {
+        match self.word_of(uid, page) {
+            Ptw::Null => self.look_at_null(process, reference, uid, page),
+            Ptw::Out(_) => self.begin_reading(uid, page),
+            Ptw::Here(_) | Ptw::Leaving(_) => Action::GiveUp,
+        }
+    }
+}
