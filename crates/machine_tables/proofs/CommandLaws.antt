@@ -1,5 +1,5 @@
 -- The command that a process comes to: its numbers are in their ranges.
-use Rattle.std.proofs.Common.{◌≡◌, ◌<◌, ℕ, zero, suc, Bool, true, List, [], ◌∷◌, length, Option, Some, None, arith}
+use Rattle.std.proofs.Common.{◌≡◌, ◌<◌, ℕ, zero, suc, true, List, [], ◌∷◌, length, Option, Some, None, arith}
 use Rattle.std.proofs.Common.{refl, ap, sym, subst, ◌∙◌, ◌≤◌, get_or, inl, inr}
 use Rattle.std.specs.Prelude.{IfSome, nat_le, slice_get}
 use Rattle.std.specs.List.{list_all}
@@ -12,9 +12,9 @@ use Rattle.script.specs.References.{reference_of}
 use Rattle.script.specs.declared.commands.Command.{Command}
 use Rattle.script.specs.declared.commands.Command.TheVariants as command
 use Rattle.script.specs.declared.commands.Reference.{Reference}
-use Rattle.machine_model.specs.Actions.{come_to, refer_or_take, take_or_wait}
+use Rattle.machine_model.specs.Actions.{come_to, refer_or_take}
 use Rattle.machine_model.specs.State.{State}
-use Rattle.machine_model.proofs.ComingLaws.{AreScripts, scripts_are}
+use Rattle.machine_model.proofs.ComingLaws.{scripts_are}
 use Rattle.machine_model.proofs.LeftLaws.{no_process}
 use Rattle.machine_model.proofs.TieLaws.{none_some}
 use Rattle.machine_tables.specs.Meant.{refers}

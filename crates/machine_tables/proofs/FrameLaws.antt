@@ -5,8 +5,6 @@ use Rattle.std.proofs.Common.{length, get_or, take, position, Option, Some, None
 use Rattle.std.proofs.Common.{refl, sym, ap, ◌∙◌, arith, inl, inr}
 use Rattle.std.specs.List.{All, find, list_any, position_or_len, range_with_len}
 use Rattle.std.proofs.lemmas.Bool.{cases_lt}
-use Rattle.std.proofs.lemmas.Bool.Decides.{leb_tells}
-use Rattle.std.proofs.lemmas.List.{get_or_past}
 use Rattle.std.proofs.lemmas.List.Elements.{All-get_or}
 use Rattle.std.proofs.lemmas.List.Folds.{list_any_at, list_any_more}
 use Rattle.std.proofs.lemmas.List.FromFn.{get_or-range_with_len, length-range_with_len}
@@ -14,7 +12,6 @@ use Rattle.core_map.specs.declared.Frame.{Frame}
 use Rattle.core_map.specs.declared.Frame.TheVariants.{Free, Started, Bound}
 use Rattle.core_map.specs.CoreMap.{Core, bound_page, frame_at, is_bound, is_free, is_started}
 use Rattle.core_map.specs.Clock.{clock_choice, is_idle, or_else, round_frames}
-use Rattle.page_control.specs.Plain.{binding_at, bindings}
 use Rattle.machine_model.specs.Actions as act
 use Rattle.machine_model.specs.Actions.{evict_or_wait, unless_read}
 use Rattle.machine_model.specs.Reads.{or_zero}

@@ -1,13 +1,16 @@
 -- What the store refuses is what the model refuses by the flat store after the book.
-use Rattle.std.proofs.Common.{◌≡◌, ℕ, List, Option, refl, ◌∙◌}
+use Rattle.std.proofs.Common.{◌≡◌, ℕ, List, Option, None, refl, ap}
 use Rattle.script.specs.Plans.{Plan}
+use Rattle.script.specs.References.{reference_of}
+use Rattle.script.specs.declared.commands.Command.{Command}
 use Rattle.script.specs.declared.commands.Reference.{Reference}
 use Rattle.book.specs.declared.replies.Reply.{Reply}
 use Rattle.book.specs.declared.replies.Reply.TheVariants as reply
+use Rattle.flat_model.specs.Commands.{reply_by, reply_to_command}
 use Rattle.flat_model.specs.References.{reply_to_reference}
 use Rattle.flat_model.specs.Store.{Store}
 use Rattle.storage_ops.specs.References as stored
-use Rattle.storage_ops.specs.Shown.{Shows, Storage as Stored}
+use Rattle.storage_ops.specs.Shown.{Shows, Storage as Stored, refusal}
 use Rattle.machine_model.specs.Keeps.{IsFaithful}
 use Rattle.machine_model.specs.Reads.{flat_of}
 use Rattle.machine_model.specs.Refusal as model
@@ -39,3 +42,8 @@ pub room_is : (s : State) (k : ℕ) (r : Reference)
     → stored.room_refusal s.plan (flat_of s) k r ≡ model.room_refusal s k r
 unfolding stored.room_refusal model.room_refusal
 room_is s k r = same_room (reply_to_reference s.plan (flat_of s) k r)
+
+pub command_is : (s : State) (k : ℕ) (c : Command) → reference_of c ≡ None
+    → refusal (reply_to_command s.plan (flat_of s) k c) ≡ model.refusal_of s k c
+unfolding model.refusal_of
+command_is s k c tree = ap (λ (o : Option Reference). refusal (reply_by s.plan (flat_of s) k c o)) tree

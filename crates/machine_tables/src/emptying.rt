@@ -20,7 +20,7 @@ use script::Command;
 use volumes::Drive;
 
 /// The pages of its segment that a tree command must have out of use: those from a number on, if any.
-fn first_taken(command: &Command) -> Option<u32>
+pub(crate) fn first_taken(command: &Command) -> Option<u32>
     ensures { result ≡ first_taken command.now }
 {
     match command {

@@ -27,6 +27,7 @@ mod starting;
 mod tables;
 mod taking;
 mod transfers;
+mod tree_looks;
 mod turns;
 
 pub use action::{Action, Why};

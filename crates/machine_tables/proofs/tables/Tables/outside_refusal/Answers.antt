@@ -1,7 +1,7 @@
 use Rattle.std.proofs.Common.{◌≡◌, ◌∙◌, ap, subst, sym}
 use Rattle.machine_model.specs.Keeps.{IsFaithful}
 use Rattle.machine_model.specs.Reads.{flat_of}
-use Rattle.machine_model.specs.State.{State, Storage}
+use Rattle.machine_model.specs.State.{State}
 use Rattle.machine_tables.specs.Parts.{Parts, shown}
 use Rattle.machine_tables.proofs.RefusalLaws.{outside_is, shows_of}
 use Rattle.machine_tables.proofs.tables.Tables.outside_refusal.Goals as goal
