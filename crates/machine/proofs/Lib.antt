@@ -5,6 +5,7 @@ pub mod Found
 pub mod OwnerCalls
 pub mod Quiet
 pub mod ReadStays
+pub mod ReturnCalls
 pub mod Sizes
 pub mod Stays
 pub mod Steps
