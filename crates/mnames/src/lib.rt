@@ -10,8 +10,6 @@ mod names;
 mod paths;
 mod principals;
 mod rows;
-#[cfg(test)]
-mod tests;
 mod texts;
 
 pub use labels::{Label, read_label};

@@ -9,8 +9,6 @@ mod hold_gate;
 mod memory;
 mod standard;
 mod stream;
-#[cfg(test)]
-mod tests;
 mod whole;
 
 pub use gate::{Gate, NoGate, Point};

@@ -1,0 +1,21 @@
+use mnames::{Path, path_text, read_path};
+use std::alloc::{AllocError, Global};
+
+/// Where a path leads: a name in the directory above, or the root.
+fn place_line(alloc: Global, path: &Path) -> Result<String, AllocError> {
+    match path.split_last() {
+        Some((above, name)) => format!(in alloc; "{name} in {above}"),
+        None => String::from_str(alloc, "the root"),
+    }
+}
+
+/// A path, or how many bytes of the text a path may begin with.
+pub(crate) fn path_line(alloc: Global, text: &str) -> Result<String, AllocError> {
+    let path = match read_path(text.as_bytes()) {
+        Ok(path) => path,
+        Err(fault) => return format!(in alloc; "none, good for {}", fault.place),
+    };
+    let written = path_text(alloc, &path).map_err(|_| AllocError)?;
+    let place = place_line(alloc, &path)?;
+    format!(in alloc; "{} names, {place}, written {written}", path.names().len())
+}

@@ -1,0 +1,52 @@
+//! Reads from sources over memory and writes to sinks over memory, and prints what each call gives. `stdin` has the
+//! cases, and `stdout` what each must give.
+//!
+//! A case is a line `== WAY NUMBERS TEXT`, and below it lines for its calls:
+//! - `source PIECE FAIL TEXT`: each line is the size of a buffer to read into;
+//! - `sink ROOM FAIL`: each line is a piece to write;
+//! - `whole ROOM FAIL`: each line is a piece to write whole;
+//! - `all LIMIT FAIL TEXT`: each line is the most bytes that a call gives, and the source is read to its end.
+//!
+//! The call with number `FAIL`, counted from 1, fails.
+#![tactic(auto)]
+
+mod reading;
+#[cfg(test)]
+mod tests;
+mod writing;
+
+use crate::reading::{all_text, source_text};
+use crate::writing::{sink_text, whole_text};
+use std::alloc::{AllocError, Global};
+use std::io;
+
+/// A number, and the text after it.
+fn number(text: &str) -> (u32, &str) {
+    let (first, rest) = text.split_once(' ').unwrap_or((text, ""));
+    (first.parse().unwrap_or(0), rest)
+}
+
+/// The first line of a case, and what its calls give.
+fn case_text(alloc: Global, case: &str) -> Result<String, AllocError> {
+    let (header, lines) = case.split_once('\n').unwrap_or((case, ""));
+    let (way, settings) = header.split_once(' ').unwrap_or((header, ""));
+    let (first, rest) = number(settings);
+    let (fail, text) = number(rest);
+    let given = match way {
+        "source" => source_text(alloc, first, fail, text, lines)?,
+        "sink" => sink_text(alloc, first, fail, lines)?,
+        "whole" => whole_text(alloc, first, fail, lines)?,
+        "all" => all_text(alloc, first, fail, text, lines)?,
+        _ => String::from_str(alloc, "no way\n")?,
+    };
+    format!(in alloc; "== {header}\n{given}")
+}
+
+fn main(rt: HostRuntime) -> io::Result<()> {
+    let text = io::read_to_string(rt.alloc(), rt.stdin())?;
+    for case in text.split("\n== ").skip(1) {
+        let printed = case_text(rt.alloc(), case)?;
+        print!(rt; "{printed}")?;
+    }
+    Ok(())
+}
