@@ -4,6 +4,7 @@ use Rattle.std.proofs.Common.{Result, Ok, Err, refl, sym, ap, subst}
 use Rattle.std.proofs.Common.{◌∙◌, arith, inl, inr, is_some, if◌then◌else◌, ◌<◌}
 use Rattle.std.specs.Prelude.{IfSome, IfNone, IfOk, OnOk, OnErr}
 use Rattle.std.proofs.lemmas.Bool.{cases_Bool, cases_eq, eq-eqb, ne_eqb}
+use Rattle.std.proofs.lemmas.List.{length-map}
 use Rattle.tree_model.specs.Access.{Row, with_row}
 use Rattle.tree_model.specs.Tree.{Node as Term, has_directory, node_in, quota_in as quota_at, with_node, without_node}
 use Rattle.tree_model.specs.Trees.{has_segment, HasChains, IsTree, Joins, AreBelow}
@@ -14,12 +15,12 @@ use Rattle.dir_tree.specs.Nodes.{removed, without, unless, with_length}
 use Rattle.dir_tree.specs.Nodes.{with_changed, with_acl, with_home, acl_of}
 use Rattle.dir_tree.specs.Shape.{shape, shapes}
 use Rattle.quota_cells.specs.Accounts.{look, has, is_an_account}
-use Rattle.quota_cells.specs.Cells.{CellMaps, quota_in, stored_in, used_in, AreWithin, Fits, Enters, Leaves}
+use Rattle.quota_cells.specs.Cells.{CellMaps, IsTable, quota_in, stored_in, used_in, AreWithin, Fits, Enters, Leaves}
 use Rattle.dir_tree.specs.Laws.{directory_shown as kind_of_directory, segment_shown as kind_of_segment, uid_shown}
 use Rattle.dir_tree.specs.Laws.{segment_in, not_in_directory}
 use Rattle.quota_cells.specs.Laws.{look_absent, on_directories, on_segments}
-use Rattle.accounts.specs.Maps.{AccountMaps, accounts_of, entry_of, branch_of, Recounts, Changes, Gains, Loses}
-use Rattle.accounts.specs.Maps.{Rehomes, rows_in}
+use Rattle.accounts.specs.Maps.{AccountMaps, HasColumns, accounts_of, entry_of, branch_of, Recounts, Changes, Gains}
+use Rattle.accounts.specs.Maps.{Loses, Rehomes, rows_in}
 use Rattle.accounts.specs.Maps.{with_row_in}
 
 -- ---- uids of the tree
@@ -64,6 +65,14 @@ module _ (t : Branches) (c : CellMaps) (a : AccountMaps) (shown : accounts_of t 
 
     pub segment_cell : (u : ℕ) → has_segment a.nodes u ≡ true → has c.segments u ≡ true
     segment_cell u h = on_segments t.nodes fits u ∙ segment_of u h
+
+    pub columns : IsTable c → HasColumns a
+    columns table = subst HasColumns shown (record {
+      rising = table.segments_rise;
+      counted = table.stored_count;
+      segments = λ u. on_segments t.nodes fits u ∙ sym (segment_any (quota_in c) t.nodes u);
+      homes = length-map t.nodes (λ n. n.entry) ∙ sym (length-map t.nodes (as_term (quota_in c)));
+    })
 
 no_segment : (ns : List Node) (u : ℕ) → node_of ns u ≡ None → is_segment ns u ≡ true → ⊥
 no_segment [] u none seg = cc

@@ -1,13 +1,14 @@
 -- What a contract sees of the directory tree with its accounts: the nodes with their quotas, the newest first, the VTOC
 -- entry of each, the next uid, and how many stored pages each segment has (Organick 1972).
 use Rattle.std.specs.Prelude.{◌≡◌, ◌≢◌, ℕ, ◌+◌, ◌==◌, if◌then◌else◌, codes, true, map, List, [], ◌∷◌, Some, None}
-use Rattle.std.specs.Prelude.{count_by}
+use Rattle.std.specs.Prelude.{count_by, length}
 use Rattle.tree_model.specs.Access.{Row, with_row}
 use Rattle.tree_model.specs.Tree.{Node, with_node, without_node}
+use Rattle.tree_model.specs.Trees.{has_segment}
 use Rattle.dir_tree.specs.declared.node.NewNode.{NewNode}
 use Rattle.dir_tree.specs.Nodes.{Branches, with_quotas}
-use Rattle.quota_cells.specs.Accounts.{look}
-use Rattle.quota_cells.specs.Cells.{CellMaps, quota_in}
+use Rattle.quota_cells.specs.Accounts.{has, look}
+use Rattle.quota_cells.specs.Cells.{CellMaps, IsRising, quota_in}
 
 pub record AccountMaps : Type 0 where
   pub nodes : List Node
@@ -37,6 +38,13 @@ count_of a s = look a.segments a.counts s
 -- Each segment has as many of these stored pages, pairs of a uid and a page, as the accounts count.
 abbrev pub Counts : AccountMaps → List (ℕ × ℕ) → Type 0
 Counts a stored = (s : ℕ) → count_of a s ≡ count_by (λ x. x.0 == s) stored
+
+-- The segments of the tree stand in the order of their uids, each once and with its count. Each node has a VTOC entry.
+pub record HasColumns (a : AccountMaps) : Type 0 where
+  pub rising : IsRising a.segments
+  pub counted : length a.counts ≡ length a.segments
+  pub segments : (u : ℕ) → has a.segments u ≡ has_segment a.nodes u
+  pub homes : length a.entries ≡ length a.nodes
 
 -- the root alone, with this quota
 abbrev pub root_alone : ℕ → ℕ → ℕ → AccountMaps

@@ -18,7 +18,7 @@ ghost use Rattle.tree_model.specs.Trees.{AreBelow, has_segment, IsTree};
 ghost use Rattle.tree_model.specs.Quotas.{tree_moved};
 ghost use Rattle.dir_tree.specs.Nodes.{add_fault_of, as_term, chain_of, has_inferior, path_answer, unless};
 ghost use Rattle.quota_cells.specs.Scratch.{charge_answer, scratch_answer};
-ghost use Rattle.accounts.specs.Maps.{Counts, count_of, entry_of, root_alone, branch_of};
+ghost use Rattle.accounts.specs.Maps.{Counts, HasColumns, count_of, entry_of, root_alone, branch_of};
 ghost use Rattle.accounts.specs.Maps.{Recounts, Changes, Gains, Loses, Rehomes, rows_in, with_row_in};
 
 use acl::AclFull;
@@ -94,10 +94,11 @@ impl Accounts {
     }
 
     /// The uid of the root, below which each other node lies. A caller that asks for it learns that the nodes are a
-    /// tree, and that each account is within its quota.
+    /// tree, that each account is within its quota, and that the counts are those of the tree's segments.
     pub fn root(&self) -> u32
         ensures uid { result ≡ 1 }
         ensures tree { IsTree self.now.nodes }
+        ensures columns { HasColumns self.now }
         ensures within { (stored : List (ℕ × ℕ)) → Counts self.now stored → (account : ℕ)
             → used_by self.now.nodes stored account ≤ quota_in self.now.nodes account }
     {

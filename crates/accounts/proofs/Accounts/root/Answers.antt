@@ -3,7 +3,7 @@ use Rattle.tree_model.specs.Tree.{used_by, quota_in as quota_at}
 use Rattle.quota_cells.specs.Cells.{quota_in}
 use Rattle.quota_cells.proofs.ScratchLaws.{used_same}
 use Rattle.accounts.specs.Maps.{AccountMaps, Counts, accounts_of}
-use Rattle.accounts.proofs.Laws.{used_within}
+use Rattle.accounts.proofs.Laws.{columns, used_within}
 use Rattle.accounts.proofs.TreeLaws.{tree_shown}
 use Rattle.accounts.proofs.Accounts.root.Goals as goal
 
@@ -11,6 +11,11 @@ pub returns-clause-tree : goal.returns-clause-tree
 returns-clause-tree c =
     tree_shown (quota_in c.self.inside.cells) c.self.inside.tree.nodes c.args.self.now.nodes
     (ap (λ (a : AccountMaps). a.nodes) c.self.view_is) c.node.ensures.tree
+
+pub returns-clause-columns : goal.returns-clause-columns
+returns-clause-columns c =
+    columns c.self.inside.tree c.self.inside.cells c.args.self.now c.self.view_is c.self.invariant
+    c.used-used.ensures.table
 
 pub returns-clause-within : goal.returns-clause-within
 returns-clause-within c =
