@@ -4,6 +4,7 @@ pub mod CutLaws
 pub mod DropLaws
 pub mod NodeLaws
 pub mod PageLaws
+pub mod PlaceLaws
 pub mod QuotaLaws
 pub mod RemoveLaws
 pub mod ScriptLaws

@@ -13,7 +13,8 @@ use Rattle.flat_model.specs.Legal.{after_entry, after_fault}
 use Rattle.flat_model.specs.Pages.{without_stored}
 use Rattle.flat_model.specs.Store.{Progress, Store, progress_of, with_progress}
 use Rattle.flat_store.specs.Shown.{Holds, IsReached, IsShown, Kept, Shows, answered, progress_at}
-use Rattle.flat_store.proofs.ReachLaws.{answered_advances, place_fits, place_within, reached_fault, reached_on}
+use Rattle.flat_model.proofs.PlaceLaws.{place_fits, place_within}
+use Rattle.flat_store.proofs.ReachLaws.{answered_advances, reached_fault, reached_on}
 
 -- an answer that took effect is the flat store's
 pub effect_due : (p : Plan) (s : Store) (k place : ℕ) (c : Command) (r : Reply) → command_at p k place ≡ Some c

@@ -6,7 +6,7 @@ use Rattle.std.specs.List.{list_all}
 use Rattle.std.proofs.lemmas.Bool.{and_parts}
 use Rattle.std.proofs.lemmas.Bool.Decides.{nat_tests}
 use Rattle.std.proofs.lemmas.List.Sums.{sum_by-cons, sum_by-set}
-use Rattle.script.specs.Forms.{IsPlan, is_command, is_process, weight, weight_of}
+use Rattle.script.specs.Forms.{IsPlan, is_process, weight_of}
 use Rattle.script.specs.Plans.{Plan, ProcessPlan, command_at, commands_of, nobody}
 use Rattle.script.specs.declared.commands.Command.{Command}
 use Rattle.script.specs.declared.commands.Command.TheVariants as command
@@ -15,41 +15,11 @@ use Rattle.book.specs.declared.replies.Reply.{Reply}
 use Rattle.flat_model.specs.Commands.{after_command, effect_of, gone_on, takes_effect, tries_on}
 use Rattle.flat_model.specs.References.{after_reference, written_by}
 use Rattle.flat_model.specs.Store.{Progress, Store, at_first, boot, known_uid, progress_of, with_progress}
+use Rattle.flat_model.proofs.PlaceLaws.{place_within, process_weighs}
 use Rattle.flat_store.specs.Shown.{ArePlaces, IsReached, answered}
 use Rattle.flat_store.proofs.OtherLaws.{Advances, effect_advances}
 
 -- ---- few uids
-
-heavy : (volumes : ℕ) (c : Command) → is_command volumes c ≡ true → 1 ≤ weight c
-unfolding is_command
-heavy volumes (command.MkDir path volume) is = omega arith
-heavy volumes (command.MkSeg path pages volume) is = omega arith
-heavy volumes (command.Initiate path) is = omega arith
-heavy volumes (command.Terminate number) is = omega arith
-heavy volumes (command.Read number offset) is = omega arith
-heavy volumes (command.Write number offset word) is = omega arith
-heavy volumes (command.Add number offset word) is = omega arith
-heavy volumes (command.Await number offset word tries) is = grind (arith, nat_tests)
-heavy volumes (command.Acl path row m) is = omega arith
-heavy volumes (command.Length path pages) is = omega arith
-heavy volumes (command.Truncate path words) is = omega arith
-heavy volumes (command.Delete path) is = omega arith
-heavy volumes (command.Move path amount) is = omega arith
-heavy volumes (command.Status path) is = omega arith
-heavy volumes command.End is = omega arith
-
-commands_weigh : (volumes : ℕ) (cs : List Command) → list_all (is_command volumes) cs ≡ true
-    → length cs ≤ sum_by weight cs
-commands_weigh volumes [] are = omega arith
-commands_weigh volumes (c ∷ cs) are =
-    let parts = and_parts (is_command volumes c) (list_all (is_command volumes) cs) are in
-    let one : 1 ≤ weight c = heavy volumes c parts.0 in
-    let rest : length cs ≤ sum_by weight cs = commands_weigh volumes cs parts.1 in
-    omega (arith, one, rest, sum_by-cons weight c cs)
-
-process_weighs : (volumes : ℕ) (x : ProcessPlan) → is_process volumes x ≡ true → length x.commands ≤ weight_of x
-unfolding is_process weight_of
-process_weighs volumes x is = commands_weigh volumes x.commands (and_parts _ _ (and_parts _ _ is).1).0
 
 places_weigh : (volumes : ℕ) (qs : List Progress) (xs : List ProcessPlan) → ArePlaces qs xs
     → list_all (is_process volumes) xs ≡ true
@@ -71,36 +41,6 @@ few_uids p s r =
     omega (arith, r.uids, less, most)
 
 -- ---- places
-
-command_there : (cs : List Command) (i : ℕ) (c : Command) → slice_get cs i ≡ Some c → i < length cs
-command_there [] i c e = cc
-command_there (d ∷ cs) zero c e = omega arith
-command_there (d ∷ cs) (suc i) c e = (let lt : i < length cs = command_there cs i c e in omega (arith, lt))
-
-pub place_within : (p : Plan) (k place : ℕ) (c : Command) → command_at p k place ≡ Some c
-    → place < length (commands_of p k)
-place_within p k place c at = command_there (commands_of p k) place c at
-
--- a place is small
-place_small : (volumes : ℕ) (xs : List ProcessPlan) (k : ℕ) → list_all (is_process volumes) xs ≡ true
-    → length (get_or xs k (record { who = nobody; commands = [] })).commands ≤ sum_by weight_of xs
-place_small volumes [] k are = omega arith
-place_small volumes (x ∷ xs) zero are =
-    let parts = and_parts (is_process volumes x) (list_all (is_process volumes) xs) are in
-    let one : length x.commands ≤ weight_of x = process_weighs volumes x parts.0 in
-    omega (arith, one, sum_by-cons weight_of x xs)
-place_small volumes (x ∷ xs) (suc k) are =
-    let parts = and_parts (is_process volumes x) (list_all (is_process volumes) xs) are in
-    let rest : length (get_or xs k (record { who = nobody; commands = [] })).commands ≤ sum_by weight_of xs =
-    place_small volumes xs k parts.1 in
-    omega (arith, rest, sum_by-cons weight_of x xs)
-
-pub place_fits : (p : Plan) (k place : ℕ) → IsPlan p → place < length (commands_of p k) → place + 1 < 2 ^ 32
-place_fits p k place plan lt =
-    let few : length (commands_of p k) ≤ sum_by weight_of p.processes =
-    place_small (length p.volumes) p.processes k plan.each in
-    let most : sum_by weight_of p.processes ≤ 100000 = plan.commands in
-    omega (arith, lt, few, most)
 
 places_set : (qs : List Progress) (xs : List ProcessPlan) (k : ℕ) (q : Progress) → ArePlaces qs xs
     → q.place ≤ length (get_or xs k (record { who = nobody; commands = [] })).commands → ArePlaces (set qs k q) xs

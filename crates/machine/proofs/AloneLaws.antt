@@ -11,7 +11,7 @@ use Rattle.assoc_mem.specs.declared.HeldSeg.{HeldSeg}
 use Rattle.assoc_mem.specs.Held.{is_number, is_page, page_of, seg_of}
 use Rattle.script.specs.declared.commands.Command.{Command}
 use Rattle.flat_model.specs.Commands.{is_end}
-use Rattle.flat_store.proofs.ReachLaws.{place_fits, place_within}
+use Rattle.flat_model.proofs.PlaceLaws.{place_fits, place_within}
 use Rattle.custody_model.specs.Clean.{custody_after}
 use Rattle.custody_model.specs.Custody.{Custody, Seat, has, range}
 use Rattle.custody_model.specs.Next.{released_by}
