@@ -19,7 +19,7 @@ use Rattle.mnames.specs.Names.{is_name}
 use Rattle.accounts.specs.Maps.{AccountMaps, Gains, count_of, root_alone}
 use Rattle.tree_model.specs.Tree.{entries_on, taken_on, volume_in}
 use Rattle.flat_model.specs.Store.{Store, at_first, boot, entries_in, records_in as sizes_in}
-use Rattle.vtoc.specs.Vtoc.{Entry as VtocEntry, entry_at, record_at, records_in, uid_of}
+use Rattle.vtoc.specs.Vtoc.{Entry as VtocEntry, entry_at, least_free_entry, record_at, records_in, uid_of}
 use Rattle.vtoc.specs.FileMap.{no_records}
 use Rattle.record_map.specs.Bitmap.{in_use}
 use Rattle.active_segs.specs.Active.{ActiveSegs, uid_at as uid_in_place, uid_in}
@@ -72,6 +72,15 @@ module _ (now : Plain) (free : (v e : ℕ) → entry_at (vtoc_in now.vtocs v) e 
     once = λ v e q g q' r is. absurd (none_recorded v e q r is);
     named = λ v r is. (let clash : false ≡ true = sym (unused v r) ∙ is in cc);
   }
+
+  pub entry_first : (e : ℕ) → Some e ≡ least_free_entry (vtoc_in now.vtocs 0) → e ≡ 0
+  entry_first e least = by_table (vtoc_in now.vtocs 0) (free 0) least
+    where
+      by_table : (table : List (Option VtocEntry)) → ((i : ℕ) → entry_at table i ≡ None)
+          → Some e ≡ least_free_entry table → e ≡ 0
+      by_table [] none is = cc
+      by_table (None ∷ xs) none is = cc
+      by_table (Some x ∷ xs) none is = (let clash : ◌≡◌ {A = Option VtocEntry} (Some x) None = none 0 in cc)
 
   pub rest_fresh : AreAtRest now
   rest_fresh uid home is = absurd (none_used home uid is.used)

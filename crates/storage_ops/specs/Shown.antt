@@ -25,8 +25,10 @@ use Rattle.vtoc.specs.Vtoc.{Entry as VtocEntry, entry_at}
 use Rattle.active_segs.specs.declared.Entry.{Entry}
 use Rattle.active_segs.specs.Active.{ActiveSegs, superior_at, uid_at as uid_in_place}
 use Rattle.active_segs.specs.Pool.{IsInPool}
+use Rattle.volumes.specs.Volumes.{Vols}
 use Rattle.page_control.specs.declared.Home.{Home}
-use Rattle.page_control.specs.Plain.{Plain, plain}
+use Rattle.core_map.specs.declared.Frame.TheVariants as frame
+use Rattle.page_control.specs.Plain.{Paging, Plain, plain}
 use Rattle.page_control.specs.Tied.{flags_in, map_at, uid_at, vtoc_in}
 use Rattle.record_map.specs.Bitmap.{in_use}
 use Rattle.page_control.specs.Counts.{taken, used, size, entries}
@@ -225,6 +227,14 @@ IsCutAt a segs path = (n : Node) → segment_at a.nodes path ≡ Ok n → IsCut 
 -- the segment that a path leads to isn't active
 abbrev pub IsInactiveAt : {D : Type 0} → AccountMaps → Control D → List (List ℕ) → Type 0
 IsInactiveAt a segs path = (n : Node) → segment_at a.nodes path ≡ Ok n → IsInactive segs.ast.entries n.uid
+
+-- so many free frames of zeros, over these volumes
+abbrev pub empty_frames : {D : Type 0} → ℕ → Vols D → Paging D
+empty_frames count volumes = record {
+  core = record { frames = replicate count frame.Free; hand = 0 };
+  frames = replicate count (replicate 1024 0);
+  volumes = volumes;
+}
 
 -- The volumes have the sizes that the script says, and no record of them and no VTOC entry is in use.
 pub record AreFresh (p : Plan) (flags : List (List Bool)) (vtocs : List (List (Option VtocEntry))) : Type 0 where

@@ -1,10 +1,14 @@
 //! The root alone.
 
-ghost use Rattle.std.specs.Prelude.{◌≡◌, IfOk, length, map};
+ghost use Rattle.std.specs.Prelude.{◌≡◌, IfOk, Some, length, map, sum};
+ghost use Rattle.accounts.specs.Maps.{root_alone};
+ghost use Rattle.page_control.specs.Effects.{after_asked};
+ghost use Rattle.page_control.specs.Plain.{plain};
+ghost use Rattle.seg_control.specs.Effects.{no_links};
 ghost use Rattle.active_segs.specs.Active.{no_segments};
 ghost use Rattle.seg_control.specs.Kept.{AreFree};
 ghost use Rattle.flat_model.specs.Store.{boot};
-ghost use Rattle.storage_ops.specs.Shown.{AreFresh, Shows};
+ghost use Rattle.storage_ops.specs.Shown.{AreFresh, Shows, empty_frames};
 
 use crate::NoMemory;
 use crate::store::Store;
@@ -38,6 +42,12 @@ impl<D: Drive> Store<D> {
         requires count { length volumes.drives ≡ length script.now.volumes }
         requires fresh { AreFresh script.now volumes.records volumes.vtocs }
         ensures shown { IfOk result (λ t. Shows D.pages script.now (boot script.now) t) }
+        ensures accounts { IfOk result (λ t. t.accounts ≡ root_alone 0 0 script.now.quota) }
+        ensures pages { IfOk result (λ t. plain D.pages t.segs.pages
+            ≡ after_asked (plain D.pages (empty_frames script.now.frames volumes)) 0 1 (Some 0)) }
+        ensures links { IfOk result (λ t. t.segs.links
+            ≡ no_links (sum script.now.pools) (length script.now.processes)) }
+        ensures whos { IfOk result (λ t. t.whos ≡ map (λ x. x.who) script.now.processes) }
         ensures free { IfOk result (λ t. AreFree t.segs.pages.core) }
         ensures inactive { IfOk result (λ t. t.segs.ast ≡ no_segments script.now.pools) }
         ensures drives { IfOk result (λ t. t.segs.pages.volumes.drives ≡ volumes.drives) }

@@ -1,13 +1,15 @@
-use Rattle.std.proofs.Common.{◌≡◌, ℕ, None, true, false, length, is_some, replicate}
+use Rattle.std.proofs.Common.{◌≡◌, ℕ, None, Some, true, false, length, is_some, replicate}
 use Rattle.std.proofs.Common.{refl, sym, ap, subst, ◌∙◌, arith, ◌<◌}
 use Rattle.std.proofs.lemmas.List.{length-replicate, length-map}
 use Rattle.script.specs.Plans.{Plan, ProcessPlan}
+use Rattle.accounts.specs.Maps.{root_alone}
 use Rattle.active_segs.specs.Active.{ActiveSegs, uid_at as uid_in_place}
 use Rattle.flat_model.specs.Store.{Store as Flat}
+use Rattle.page_control.specs.Effects.{after_asked}
 use Rattle.page_control.specs.Plain.{Paging, Plain, plain}
 use Rattle.seg_control.specs.Control.{Control, Links}
-use Rattle.storage_ops.specs.Shown.{AreFresh, IsStore, Shows, Storage}
-use Rattle.storage_ops.proofs.Fresh.{blank, boot_is, entries_some, filed_fresh, none_active, none_known, nothing}
+use Rattle.storage_ops.specs.Shown.{AreFresh, IsStore, Shows, Storage, empty_frames}
+use Rattle.storage_ops.proofs.Fresh.{blank, boot_is, entries_some, entry_first, filed_fresh, none_active, none_known, nothing}
 use Rattle.storage_ops.proofs.Fresh.{records_most, rest_fresh}
 use Rattle.storage_ops.proofs.Fresh.{root_gains, shown_nothing, store_nothing}
 use Rattle.storage_ops.proofs.Homes.{shown_new, store_new}
@@ -115,3 +117,30 @@ returns-clause-shown g c =
     (λ place e. none_active _ place 1 (ap (λ (x : Control g.row.D.Denot). uid_in_place x.ast.entries place)
     (sym c.in_ok-segs.ensures) ∙ e))
     (shown_nothing g.D.Drive.pages p t refl fresh known c.in_ok-whos.ensures))
+
+pub returns-clause-accounts : goal.returns-clause-accounts
+returns-clause-accounts g c =
+    let first = subst (λ (x : Paging g.row.D.Denot). AreFresh c.args.script.now x.volumes.records x.volumes.vtocs)
+    (sym c.in_ok-pages.ensures) c.requires.fresh in
+    let fresh = subst (λ (x : Control g.row.D.Denot). AreFresh c.args.script.now x.pages.volumes.records
+    x.pages.volumes.vtocs) (sym c.in_ok-segs.ensures) first in
+    let zero : c.in-Some.entry ≡ 0 =
+    entry_first (plain g.D.Drive.pages c.in_ok-segs.segs.pages) fresh.free fresh.unused c.in-Some.entry
+    c.in-Some.ensures.least in
+    c.in_ok-accounts.ensures ∙ ap (λ (e : ℕ). root_alone 0 e c.quota.result) zero
+    ∙ ap (λ (q : ℕ). root_alone 0 0 q) c.quota.ensures
+
+pub returns-clause-pages : goal.returns-clause-pages
+returns-clause-pages g c =
+    let first = subst (λ (x : Paging g.row.D.Denot). AreFresh c.args.script.now x.volumes.records x.volumes.vtocs)
+    (sym c.in_ok-pages.ensures) c.requires.fresh in
+    let fresh = subst (λ (x : Control g.row.D.Denot). AreFresh c.args.script.now x.pages.volumes.records
+    x.pages.volumes.vtocs) (sym c.in_ok-segs.ensures) first in
+    let zero : c.in-Some.entry ≡ 0 =
+    entry_first (plain g.D.Drive.pages c.in_ok-segs.segs.pages) fresh.free fresh.unused c.in-Some.entry
+    c.in-Some.ensures.least in
+    c.in-Some.ensures.effect
+    ∙ ap (λ (e : ℕ). after_asked (plain g.D.Drive.pages c.in_ok-segs.segs.pages) 0 1 (Some e)) zero
+    ∙ ap (λ (x : Control g.row.D.Denot). after_asked (plain g.D.Drive.pages x.pages) 0 1 (Some 0)) c.in_ok-segs.ensures
+    ∙ ap (λ (x : Paging g.row.D.Denot). after_asked (plain g.D.Drive.pages x) 0 1 (Some 0)) c.in_ok-pages.ensures
+    ∙ ap (λ (n : ℕ). after_asked (plain g.D.Drive.pages (empty_frames n c.args.volumes)) 0 1 (Some 0)) c.frames.ensures
