@@ -39,7 +39,7 @@ impl From<mword::NoMemory> for NoMemory {
 pub struct NoRecord;
 
 /// Where a segment is kept: its volume, and its entry in the VTOC of that volume (Organick 1972).
-#[derive(Clone, Copy, Debug, PartialEq, Eq)]
+#[derive(Clone, Copy, Debug, Default, PartialEq, Eq)]
 pub struct Home {
     /// The number of the volume.
     pub volume: u32,

@@ -51,7 +51,7 @@ impl From<std::alloc::AllocError> for NoMemory {
 }
 
 /// A segment or directory of a chain of superiors, which goes from the root down (Bensoussan, Clingen and Daley 1972).
-#[derive(Clone, Copy, Debug, PartialEq, Eq)]
+#[derive(Clone, Copy, Debug, Default, PartialEq, Eq)]
 pub struct Link {
     /// Its uid.
     pub uid: u32,
