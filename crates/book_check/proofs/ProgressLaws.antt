@@ -17,7 +17,8 @@ use Rattle.flat_model.specs.Commands.{after_command, effect_by, effect_of, effec
 use Rattle.flat_model.specs.Commands.{takes_effect}
 use Rattle.flat_model.specs.Making.{after_delete, after_make, deleted, made_at, made_of}
 use Rattle.flat_model.specs.Naming.{after_initiate, after_terminate, initiated}
-use Rattle.flat_model.specs.References.{after_reference, alters, new_word, written, written_by}
+use Rattle.script.specs.References.{alters, new_word}
+use Rattle.flat_model.specs.References.{after_reference, written, written_by}
 use Rattle.flat_model.specs.Rights.{after_acl, after_move, moved}
 use Rattle.flat_model.specs.Sizes.{after_length, after_truncate, truncated}
 use Rattle.flat_model.specs.Store.{Progress, Store, known_uid, progress_of, with_progress}

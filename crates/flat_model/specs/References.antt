@@ -2,9 +2,8 @@
 -- are those of Organick 1972).
 use Rattle.std.specs.Prelude.{ℕ, ◌+◌, ◌*◌, ◌/◌, ◌%◌, ◌^◌, Bool, true, false, not, ◌&&◌, ◌==◌, nat_le, if◌then◌else◌}
 use Rattle.std.specs.Prelude.{List, Option, Some, None}
-use Rattle.mnames.specs.declared.modes.Mode.{Mode}
-use Rattle.mnames.specs.declared.modes.Mode.TheVariants as mode
 use Rattle.script.specs.Plans.{Plan, who_of}
+use Rattle.script.specs.References.{alters, new_word, permits}
 use Rattle.script.specs.declared.commands.RefKind.{RefKind}
 use Rattle.script.specs.declared.commands.RefKind.TheVariants as kind
 use Rattle.script.specs.declared.commands.Reference.{Reference}
@@ -14,36 +13,6 @@ use Rattle.tree_model.specs.Access.{access_of}
 use Rattle.tree_model.specs.Tree.{Node, node_in, quota_in, account_of, used_by, taken_on}
 use Rattle.flat_model.specs.Pages.{is_stored, with_stored, with_word}
 use Rattle.flat_model.specs.Store.{Store, records_of, known_uid}
-
-abbrev pub may_read : Mode → Bool
-may_read mode.Null = false
-may_read mode.Read = true
-may_read mode.Write = false
-may_read mode.Both = true
-
-abbrev pub may_write : Mode → Bool
-may_write mode.Null = false
-may_write mode.Read = false
-may_write mode.Write = true
-may_write mode.Both = true
-
--- a read asks for the right to read, a write for that to write, an addition for both
-abbrev pub permits : Mode → RefKind → Bool
-permits m kind.Read = may_read m
-permits m (kind.Write w) = may_write m
-permits m (kind.Add w) = may_read m && may_write m
-
--- the word that stands there afterwards
-abbrev pub new_word : ℕ → RefKind → ℕ
-new_word old kind.Read = old
-new_word old (kind.Write w) = w
-new_word old (kind.Add w) = (old + w) % 2 ^ 36
-
--- whether the word is written
-abbrev pub alters : RefKind → Bool
-alters kind.Read = false
-alters (kind.Write w) = true
-alters (kind.Add w) = true
 
 -- a word other than 0 comes into a page that isn't stored
 abbrev pub stores_page : Store → ℕ → ℕ → RefKind → Bool

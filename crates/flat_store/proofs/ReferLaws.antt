@@ -10,7 +10,8 @@ use Rattle.tree_model.specs.Access.{access_of}
 use Rattle.tree_model.specs.Tree.{Node, node_in, volume_in}
 use Rattle.flat_model.specs.Commands.{takes_effect}
 use Rattle.flat_model.specs.Pages.{is_stored}
-use Rattle.flat_model.specs.References.{alters, is_used_up, is_volume_full, new_word, permits, reply_at, reply_in}
+use Rattle.script.specs.References.{alters, new_word, permits}
+use Rattle.flat_model.specs.References.{is_used_up, is_volume_full, reply_at, reply_in}
 use Rattle.flat_model.specs.References.{room_reply, stores_page, word_reply, written, written_by}
 use Rattle.flat_model.specs.Store.{Store}
 use Rattle.flat_store.specs.Shown.{Held, Holds, has_room, may_write}

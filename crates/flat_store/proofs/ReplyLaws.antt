@@ -11,7 +11,8 @@ use Rattle.tree_model.specs.Tree.{Node, node_in, quota_in}
 use Rattle.dir_tree.specs.Nodes.{as_term}
 use Rattle.dir_tree.specs.declared.node.Node.{Node as Branch}
 use Rattle.flat_model.specs.Pages.{is_stored}
-use Rattle.flat_model.specs.References.{alters, new_word, permits, reply_at, room_reply, stores_page, word_reply}
+use Rattle.script.specs.References.{alters, new_word, permits}
+use Rattle.flat_model.specs.References.{reply_at, room_reply, stores_page, word_reply}
 use Rattle.flat_model.specs.Store.{Store}
 use Rattle.flat_store.specs.Shown.{page_reply}
 

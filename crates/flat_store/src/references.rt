@@ -3,7 +3,7 @@ ghost use Rattle.script.specs.Plans.{Plan, who_of};
 ghost use Rattle.tree_model.specs.Tree.{Node, node_in};
 ghost use Rattle.tree_model.specs.Trees.{has_segment};
 ghost use Rattle.flat_model.specs.Pages.{is_stored};
-ghost use Rattle.flat_model.specs.References.{alters, new_word, permits, reply_at, room_reply};
+ghost use Rattle.flat_model.specs.References.{reply_at, room_reply};
 ghost use Rattle.flat_model.specs.References.{stores_page, word_reply, written, written_by};
 ghost use Rattle.flat_model.specs.Commands.{takes_effect};
 ghost use Rattle.flat_model.specs.Store.{Store};
@@ -13,42 +13,9 @@ use crate::NoMemory;
 use crate::gauges::{fill_at, is_full_at};
 use crate::holdings::{Holdings, pages_of, volume_of};
 use book::Reply;
-use mnames::{Mode, Who};
+use mnames::Who;
 use mword::{Page, Word};
 use script::RefKind;
-
-/// Whether a mode permits a reference: a read asks for the right to read, a write for that to write, an addition for
-/// both.
-fn permits(mode: Mode, kind: &RefKind) -> bool
-    ensures { result ≡ permits mode kind.now }
-{
-    match kind {
-        RefKind::Read => matches!(mode, Mode::Read | Mode::Both),
-        RefKind::Write(_) => matches!(mode, Mode::Write | Mode::Both),
-        RefKind::Add(_) => mode == Mode::Both,
-    }
-}
-
-/// Whether a reference writes the word.
-fn alters(kind: &RefKind) -> bool
-    ensures { result ≡ alters kind.now }
-{
-    match kind {
-        RefKind::Read => false,
-        RefKind::Write(_) | RefKind::Add(_) => true,
-    }
-}
-
-/// The word that stands there after a reference.
-fn new_word(old: Word, kind: &RefKind) -> Word
-    ensures { result ≡ new_word old kind.now }
-{
-    match kind {
-        RefKind::Read => old,
-        RefKind::Write(word) => *word,
-        RefKind::Add(word) => old.plus(*word),
-    }
-}
 
 /// What a reference is answered that isn't refused, where this word stood before.
 fn word_reply(old: Word, kind: &RefKind) -> Reply
@@ -57,7 +24,7 @@ fn word_reply(old: Word, kind: &RefKind) -> Reply
     match kind {
         RefKind::Read => Reply::Word(old),
         RefKind::Write(_) => Reply::Done,
-        RefKind::Add(_) => Reply::Word(new_word(old, kind)),
+        RefKind::Add(_) => Reply::Word(kind.new_word(old)),
     }
 }
 
@@ -83,10 +50,10 @@ impl Holdings {
     fn stores_page(&self, uid: u32, offset: u32, kind: &RefKind) -> bool
         ensures { (p : Plan) (s : Store) → Holds p self.now s → result ≡ stores_page s uid offset kind.now }
     {
-        if !alters(kind) {
+        if !kind.alters() {
             return false;
         }
-        let word = new_word(self.word(uid, offset), kind);
+        let word = kind.new_word(self.word(uid, offset));
         word.value() != 0 && !self.is_stored(uid, offset / Page::WORDS)
     }
 
@@ -114,7 +81,7 @@ impl Holdings {
         let Some(node) = self.accounts.node(uid) else {
             return Reply::Gone;
         };
-        if !permits(node.acl.access_of(who), kind) {
+        if !kind.permitted_by(node.acl.access_of(who)) {
             return Reply::NoAccess;
         }
         if offset / Page::WORDS >= node.length {
@@ -208,7 +175,7 @@ impl Holdings {
             → Holds p self.new (written_by s offset kind.now (Some uid))) }
         ensures err { OnErr result (self.new ≡ self.old) }
     {
-        if !alters(kind) {
+        if !kind.alters() {
             return Ok(());
         }
         let Some(node) = self.accounts.node(uid) else {
@@ -217,7 +184,7 @@ impl Holdings {
         if offset / Page::WORDS >= node.length {
             return Ok(());
         }
-        let word = new_word(self.word(uid, offset), kind);
+        let word = kind.new_word(self.word(uid, offset));
         self.write(uid, offset, word)
     }
 }

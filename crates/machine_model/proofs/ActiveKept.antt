@@ -14,7 +14,8 @@ use Rattle.core_map.specs.CoreMap.{after_reference, bound_page, started_page}
 use Rattle.active_segs.specs.Active.{IsOneToOne, entry_at, uid_at}
 use Rattle.seg_control.specs.Control.{leads_at, place_of, sdws_at, table_of}
 use Rattle.seg_control.specs.Kept.{read_at}
-use Rattle.flat_model.specs.References.{alters, new_word, word_reply}
+use Rattle.script.specs.References.{alters, new_word}
+use Rattle.flat_model.specs.References.{word_reply}
 use Rattle.custody_model.specs.Allowed.{MayActivate, MayDeactivate}
 use Rattle.custody_model.specs.Custody.{leads_to}
 use Rattle.custody_model.specs.Fine.{NoneDue}

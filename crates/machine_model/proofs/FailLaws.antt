@@ -19,7 +19,8 @@ use Rattle.seg_control.specs.Control.{kst_at}
 use Rattle.flat_model.specs.Branches.{done_at, segment_at}
 use Rattle.flat_model.specs.Commands.{is_end, reply_by, reply_to_command}
 use Rattle.flat_model.specs.Legal.{is_done, is_early, may_fail, moves_pages}
-use Rattle.flat_model.specs.References.{is_used_up, is_volume_full, permits, reply_at, reply_of, reply_to_reference}
+use Rattle.script.specs.References.{permits}
+use Rattle.flat_model.specs.References.{is_used_up, is_volume_full, reply_at, reply_of, reply_to_reference}
 use Rattle.flat_model.specs.References.{stores_page, word_reply}
 use Rattle.flat_model.specs.Sizes.{length_of, length_reply, truncate_reply}
 use Rattle.flat_model.specs.Store.{Store, known_uid}

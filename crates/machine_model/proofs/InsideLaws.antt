@@ -10,7 +10,8 @@ use Rattle.book.specs.declared.replies.Reply.TheVariants as reply
 use Rattle.tree_model.specs.Access.{access_of}
 use Rattle.tree_model.specs.Tree.{Node, node_in}
 use Rattle.flat_model.specs.Pages.{is_stored}
-use Rattle.flat_model.specs.References.{alters, is_used_up, is_volume_full, new_word, permits, reply_at, reply_of}
+use Rattle.script.specs.References.{alters, new_word, permits}
+use Rattle.flat_model.specs.References.{is_used_up, is_volume_full, reply_at, reply_of}
 use Rattle.flat_model.specs.References.{reply_to_reference, room_reply, stores_page, word_reply}
 use Rattle.flat_model.specs.Store.{Store, known_uid}
 use Rattle.known_segs.specs.Known.{uid_of}

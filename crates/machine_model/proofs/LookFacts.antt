@@ -26,7 +26,8 @@ use Rattle.active_segs.specs.Active.{uid_at}
 use Rattle.active_segs.specs.Victim.{victim_of}
 use Rattle.seg_control.specs.Control.{word_of}
 use Rattle.flat_model.specs.Commands.{reply_by, reply_to_command}
-use Rattle.flat_model.specs.References.{new_word, permits, reply_to_reference}
+use Rattle.script.specs.References.{new_word, permits}
+use Rattle.flat_model.specs.References.{reply_to_reference}
 use Rattle.flat_model.specs.Store.{known_uid}
 use Rattle.storage_ops.specs.Shown.{is_refusal}
 use Rattle.machine_model.specs.Actions as act

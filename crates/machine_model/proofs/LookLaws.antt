@@ -16,7 +16,7 @@ use Rattle.descriptor_seg.specs.declared.Sdw.{Sdw}
 use Rattle.descriptor_seg.specs.declared.Sdw.TheVariants as sdw
 use Rattle.active_segs.specs.Victim.{victim_of}
 use Rattle.dir_tree.specs.Nodes.{chain_of}
-use Rattle.flat_model.specs.References.{new_word}
+use Rattle.script.specs.References.{new_word}
 use Rattle.seg_control.specs.Control.{word_of}
 use Rattle.tree_model.specs.Tree.{node_in}
 use Rattle.machine_model.specs.Actions as act

@@ -32,7 +32,8 @@ use Rattle.seg_control.specs.Control.{kst_at, word_of}
 use Rattle.storage_ops.specs.Shown.{who_at}
 use Rattle.flat_model.specs.Commands.{reply_by, reply_to_command}
 use Rattle.flat_model.specs.Pages.{is_stored}
-use Rattle.flat_model.specs.References.{after_reference, alters, new_word, permits, reply_at, reply_of}
+use Rattle.script.specs.References.{alters, new_word, permits}
+use Rattle.flat_model.specs.References.{after_reference, reply_at, reply_of}
 use Rattle.flat_model.specs.References.{reply_to_reference}
 use Rattle.flat_model.specs.References.{room_reply, stores_page, word_reply, written, written_by}
 use Rattle.flat_model.specs.Store.{Store, known_uid}

@@ -16,7 +16,8 @@ use Rattle.descriptor_seg.specs.declared.Sdw.{Sdw}
 use Rattle.descriptor_seg.specs.declared.Sdw.TheVariants as sdw
 use Rattle.descriptor_seg.specs.Descriptors.{sdw_at}
 use Rattle.book.specs.declared.replies.Reply.TheVariants as reply
-use Rattle.flat_model.specs.References.{new_word, permits, word_reply}
+use Rattle.script.specs.References.{new_word, permits}
+use Rattle.flat_model.specs.References.{word_reply}
 use Rattle.processor.specs.declared.Transfer.{Transfer}
 use Rattle.processor.specs.declared.Move.{Move}
 use Rattle.processor.specs.declared.Move.TheVariants as move

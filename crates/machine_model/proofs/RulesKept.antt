@@ -22,7 +22,8 @@ use Rattle.processor.specs.declared.Move.{Move}
 use Rattle.processor.specs.declared.Move.TheVariants as move
 use Rattle.processor.specs.declared.Transfer.{Transfer}
 use Rattle.seg_control.specs.Control.{leads, sdws_at, word_of}
-use Rattle.flat_model.specs.References.{new_word, permits, word_reply}
+use Rattle.script.specs.References.{new_word, permits}
+use Rattle.flat_model.specs.References.{word_reply}
 use Rattle.custody_model.specs.Allowed.{HasHadItsTurn, IsFront, MayGo}
 use Rattle.machine_model.specs.declared.Phase.{Phase}
 use Rattle.machine_model.specs.declared.Phase.TheVariants as phase

@@ -18,7 +18,8 @@ use Rattle.flat_model.specs.Commands.{takes_effect}
 use Rattle.flat_model.specs.Legal.{after_fault}
 use Rattle.flat_model.specs.Making.{after_make, made_of, made_at, after_delete, deleted}
 use Rattle.flat_model.specs.Naming.{after_initiate, initiated, after_terminate}
-use Rattle.flat_model.specs.References.{after_reference, written, written_by, alters, new_word}
+use Rattle.script.specs.References.{alters, new_word}
+use Rattle.flat_model.specs.References.{after_reference, written, written_by}
 use Rattle.flat_model.specs.Rights.{after_acl, after_move, moved}
 use Rattle.flat_model.specs.Sizes.{after_length, after_truncate, truncated}
 use Rattle.flat_model.specs.Store.{Store, Progress, progress_of, with_progress, known_uid}

@@ -31,7 +31,8 @@ use Rattle.seg_control.specs.Control.{sdws_at}
 use Rattle.flat_model.specs.Commands.{effect_by, effect_of, takes_effect}
 use Rattle.flat_model.specs.Legal.{after_entry, store_after}
 use Rattle.flat_model.proofs.BookLaws.{store_after-push}
-use Rattle.flat_model.specs.References.{after_reference, alters, new_word, word_reply, written, written_by}
+use Rattle.script.specs.References.{alters, new_word}
+use Rattle.flat_model.specs.References.{after_reference, word_reply, written, written_by}
 use Rattle.flat_model.specs.Store.{Store, known_uid}
 use Rattle.machine_model.specs.Actions as act
 use Rattle.machine_model.specs.After.{Outcome, after}

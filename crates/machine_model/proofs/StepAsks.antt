@@ -26,7 +26,7 @@ use Rattle.flat_model.specs.References.{word_reply}
 use Rattle.machine_model.specs.Reads.{is_active}
 use Rattle.seg_control.specs.Control.{sdws_at, word_of}
 use Rattle.flat_model.specs.Legal.{MayRelease}
-use Rattle.flat_model.specs.References.{new_word, permits}
+use Rattle.script.specs.References.{new_word, permits}
 use Rattle.flat_model.proofs.ZeroLaws.{words_zero}
 use Rattle.custody_model.specs.Custody.{has}
 use Rattle.machine_model.specs.declared.Aim.{Aim}

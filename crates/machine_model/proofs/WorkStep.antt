@@ -7,7 +7,7 @@ use Rattle.script.specs.declared.commands.Reference.{Reference}
 use Rattle.vtoc.specs.Vtoc.{Entry as VtocEntry}
 use Rattle.page_control.specs.Effects.{referred, word_put}
 use Rattle.active_segs.specs.Active.{HasNoInferior, uid_at}
-use Rattle.flat_model.specs.References.{alters, new_word}
+use Rattle.script.specs.References.{alters, new_word}
 use Rattle.machine_model.specs.Jobs.{eviction_done, leaving_if, phase_signalled, with_choice, with_left}
 use Rattle.machine_model.specs.Refusal.{refusal_of, uid_of_command}
 use Rattle.machine_model.specs.Seen.{read_use}

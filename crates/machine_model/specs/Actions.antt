@@ -12,7 +12,7 @@ use Rattle.assoc_mem.specs.declared.What.{What}
 use Rattle.assoc_mem.specs.declared.What.TheVariants as what
 use Rattle.tree_model.specs.Tree.{Node, node_in, pool_of}
 use Rattle.dir_tree.specs.Nodes.{chain_of}
-use Rattle.flat_model.specs.References.{new_word}
+use Rattle.script.specs.References.{new_word}
 use Rattle.core_map.specs.CoreMap.{Core, is_started, least_free_frame}
 use Rattle.core_map.specs.Clock.{clock_choice}
 use Rattle.page_table.specs.declared.Ptw.{Ptw}

@@ -15,7 +15,7 @@ use Rattle.tree_model.specs.Tree.{Node, node_in}
 use Rattle.dir_tree.specs.Nodes.{chain_of}
 use Rattle.known_segs.specs.Known.{uid_of}
 use Rattle.flat_model.specs.Branches.{segment_at}
-use Rattle.flat_model.specs.References.{new_word, permits}
+use Rattle.script.specs.References.{new_word, permits}
 use Rattle.active_segs.specs.declared.Entry.{Entry}
 use Rattle.core_map.specs.declared.Frame.{Frame}
 use Rattle.core_map.specs.declared.Frame.TheVariants as frame

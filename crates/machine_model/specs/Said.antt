@@ -6,7 +6,8 @@ use Rattle.script.specs.declared.commands.RefKind.TheVariants as kind
 use Rattle.script.specs.declared.commands.Reference.{Reference}
 use Rattle.flat_model.specs.Commands.{effect_of}
 use Rattle.flat_model.specs.Pages.{without_stored}
-use Rattle.flat_model.specs.References.{after_reference, alters, new_word, written}
+use Rattle.script.specs.References.{alters, new_word}
+use Rattle.flat_model.specs.References.{after_reference, written}
 use Rattle.flat_model.specs.Store.{Store}
 use Rattle.page_control.specs.declared.Left.{Left}
 use Rattle.page_control.specs.declared.Left.TheVariants as left

@@ -17,7 +17,8 @@ use Rattle.tree_model.specs.Tree.{node_in}
 use Rattle.accounts.specs.Maps.{AccountMaps, count_of}
 use Rattle.quota_cells.specs.Accounts.{with_value}
 use Rattle.flat_model.specs.Commands.{is_end, tries_on}
-use Rattle.flat_model.specs.References.{alters, new_word, word_reply}
+use Rattle.script.specs.References.{alters, new_word}
+use Rattle.flat_model.specs.References.{word_reply}
 use Rattle.flat_model.specs.Store.{Progress}
 use Rattle.custody_model.specs.Next.{released_by}
 use Rattle.core_map.specs.declared.Frame.TheVariants as frame

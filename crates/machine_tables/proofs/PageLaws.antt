@@ -8,7 +8,7 @@ use Rattle.core_map.specs.CoreMap.{after_reference, is_bound}
 use Rattle.page_control.specs.Plain.{Plain, frame_in, words_in}
 use Rattle.page_control.specs.Effects.{framed, referred, word_put, worded}
 use Rattle.script.specs.declared.commands.Reference.{Reference}
-use Rattle.flat_model.specs.References.{alters, new_word}
+use Rattle.script.specs.References.{alters, new_word}
 use Rattle.machine_model.specs.Steps.{old_word, pages_after}
 use Rattle.machine_tables.specs.Parts.{Parts, with_pages_of}
 

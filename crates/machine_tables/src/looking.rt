@@ -1,7 +1,7 @@
 //! What the owner of the supervisor does for the page of a reference.
 
 ghost use Rattle.std.specs.Prelude.{◌≡◌, ◌<◌, ◌==◌, ℕ, length};
-ghost use Rattle.flat_model.specs.References.{new_word};
+ghost use Rattle.script.specs.References.{new_word};
 ghost use Rattle.page_table.specs.declared.Ptw.TheVariants.{Null};
 ghost use Rattle.active_segs.specs.Active.{IsActive};
 ghost use Rattle.seg_control.specs.Control.{table_of};

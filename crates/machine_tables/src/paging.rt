@@ -2,7 +2,7 @@ ghost use Rattle.std.specs.Prelude.{◌≡◌, ◌<◌, ◌≤◌, ℕ, length, 
 ghost use Rattle.core_map.specs.CoreMap.{frame_at, is_bound};
 ghost use Rattle.core_map.specs.declared.Frame.TheVariants.{Free};
 ghost use Rattle.active_segs.specs.Active.{IsActive};
-ghost use Rattle.flat_model.specs.References.{alters, new_word};
+ghost use Rattle.script.specs.References.{alters, new_word};
 ghost use Rattle.page_control.specs.Tied.{IsNotStarted, is_out};
 ghost use Rattle.seg_control.specs.Control.{table_of, word_of};
 ghost use Rattle.machine_model.specs.Reads.{cpu_at};

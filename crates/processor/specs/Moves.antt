@@ -8,7 +8,8 @@ use Rattle.assoc_mem.specs.declared.HeldSeg.{HeldSeg}
 use Rattle.descriptor_seg.specs.Descriptors.{sdw_at}
 use Rattle.descriptor_seg.specs.declared.Sdw.{Sdw}
 use Rattle.descriptor_seg.specs.declared.Sdw.TheVariants as sdw
-use Rattle.flat_model.specs.References.{new_word, permits, word_reply}
+use Rattle.script.specs.References.{new_word, permits}
+use Rattle.flat_model.specs.References.{word_reply}
 use Rattle.book.specs.declared.replies.Reply.TheVariants as reply
 use Rattle.page_table.specs.PageTable.{ptw_at}
 use Rattle.page_table.specs.declared.Ptw.{Ptw}

@@ -8,7 +8,7 @@
 ghost use Rattle.std.specs.Prelude.{◌≡◌, ◌<◌, ℕ, length, IfSome, Some};
 ghost use Rattle.active_segs.specs.Active.{IsActive, table_at, uid_at};
 ghost use Rattle.assoc_mem.specs.Held.{seg_of};
-ghost use Rattle.flat_model.specs.References.{new_word, permits, word_reply};
+ghost use Rattle.flat_model.specs.References.{word_reply};
 ghost use Rattle.page_table.specs.declared.Ptw.{Ptw as TableWord};
 ghost use Rattle.processor.specs.Moves.{AreWords, IsLongEnough, by_descriptor, by_held, by_word, next_move};
 ghost use Rattle.processor.specs.Moves.{offline};
@@ -20,7 +20,6 @@ use active_segs::Ast;
 use assoc_mem::{Assoc, HeldSeg, What};
 use book::Reply;
 use descriptor_seg::{DescSeg, Sdw};
-use mnames::Mode;
 use mword::{Page, Word};
 use page_table::Ptw;
 use script::{RefKind, Reference};
@@ -81,36 +80,13 @@ impl Cpu {
     }
 }
 
-/// Whether a mode permits a reference: a read asks for the right to read, a write for that to write, an addition for
-/// both.
-fn permits(mode: Mode, kind: &RefKind) -> bool
-    ensures { result ≡ permits mode kind.now }
-{
-    match kind {
-        RefKind::Read => matches!(mode, Mode::Read | Mode::Both),
-        RefKind::Write(_) => matches!(mode, Mode::Write | Mode::Both),
-        RefKind::Add(_) => mode == Mode::Both,
-    }
-}
-
-/// The word that stands in the place of a 0 after a reference.
-fn new_word(kind: &RefKind) -> Word
-    ensures { result ≡ new_word 0 kind.now }
-{
-    match kind {
-        RefKind::Read => Word::ZERO,
-        RefKind::Write(word) => *word,
-        RefKind::Add(word) => Word::ZERO.plus(*word),
-    }
-}
-
 /// What a reference to a word of a page of zeros is answered that leaves it one.
 fn zero_reply(kind: &RefKind) -> Reply
     ensures { result ≡ word_reply 0 kind.now }
 {
     match kind {
         RefKind::Write(_) => Reply::Done,
-        RefKind::Read | RefKind::Add(_) => Reply::Word(new_word(kind)),
+        RefKind::Read | RefKind::Add(_) => Reply::Word(kind.new_word(Word::ZERO)),
     }
 }
 
@@ -129,7 +105,7 @@ fn by_word(word: Ptw, kind: &RefKind) -> Move
     ensures { result ≡ by_word word kind.now }
 {
     match word {
-        Ptw::Null if new_word(kind) == Word::ZERO => Move::Plain(zero_reply(kind)),
+        Ptw::Null if kind.new_word(Word::ZERO) == Word::ZERO => Move::Plain(zero_reply(kind)),
         Ptw::Here(frame) => Move::FillPage(frame),
         Ptw::Null | Ptw::Out(_) | Ptw::Leaving(_) => Move::Fault,
     }
@@ -154,7 +130,7 @@ fn by_held(assoc: &Assoc, ast: &Ast, reference: &Reference, held: &HeldSeg) -> M
     ensures { (words : ℕ → ℕ → TableWord) → AreWords ast.now words
         → result ≡ by_held assoc.now words reference.now held.now }
 {
-    if !permits(held.mode, &reference.kind) {
+    if !reference.kind.permitted_by(held.mode) {
         return Move::Plain(Reply::NoAccess);
     }
     let page = reference.offset / Page::WORDS;

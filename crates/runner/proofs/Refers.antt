@@ -16,7 +16,8 @@ use Rattle.book.specs.declared.replies.Reply.TheVariants as reply
 use Rattle.tree_model.specs.Access.{Row, access_of}
 use Rattle.tree_model.specs.Tree.{Node, node_in}
 use Rattle.flat_model.specs.Store.{Store, numbers_of, known_uid}
-use Rattle.flat_model.specs.References.{permits, stores_page, room_reply, word_reply, reply_in, reply_at, reply_of}
+use Rattle.script.specs.References.{permits}
+use Rattle.flat_model.specs.References.{stores_page, room_reply, word_reply, reply_in, reply_at, reply_of}
 use Rattle.flat_model.specs.References.{reply_to_reference}
 use Rattle.flat_model.specs.Making.{owner_row}
 use Rattle.flat_model.specs.Legal.{store_after}

@@ -1,5 +1,5 @@
 ghost use Rattle.std.specs.Prelude.{◌≡◌};
-ghost use Rattle.script.specs.References.{reference_of};
+ghost use Rattle.script.specs.References.{alters, new_word, permits, reference_of};
 
 use mnames::{Mode, Path, Row, Who};
 use mword::Word;
@@ -107,6 +107,41 @@ pub struct Reference {
     pub number: u32,
     pub offset: u32,
     pub kind: RefKind,
+}
+
+impl RefKind {
+    /// Whether a mode of access permits a reference: a read asks for the right to read, a write for that to write, an
+    /// addition for both. (Source: Bensoussan, Clingen and Daley 1972.)
+    pub fn permitted_by(&self, mode: Mode) -> bool
+        ensures { result ≡ permits mode self.now }
+    {
+        match self {
+            RefKind::Read => matches!(mode, Mode::Read | Mode::Both),
+            RefKind::Write(_) => matches!(mode, Mode::Write | Mode::Both),
+            RefKind::Add(_) => mode == Mode::Both,
+        }
+    }
+
+    /// Whether a reference writes the word. (Source: Bensoussan, Clingen and Daley 1972.)
+    pub fn alters(&self) -> bool
+        ensures { result ≡ alters self.now }
+    {
+        match self {
+            RefKind::Read => false,
+            RefKind::Write(_) | RefKind::Add(_) => true,
+        }
+    }
+
+    /// The word that stands in the place of another after a reference. (Source: Bensoussan, Clingen and Daley 1972.)
+    pub fn new_word(&self, old: Word) -> Word
+        ensures { result ≡ new_word old self.now }
+    {
+        match self {
+            RefKind::Read => old,
+            RefKind::Write(word) => *word,
+            RefKind::Add(word) => old.plus(*word),
+        }
+    }
 }
 
 impl Command {

@@ -19,7 +19,8 @@ use Rattle.tree_model.specs.Trees.{has_segment}
 use Rattle.accounts.specs.Maps.{AccountMaps}
 use Rattle.vtoc.specs.Vtoc.{Entry}
 use Rattle.flat_model.specs.Pages.{is_stored}
-use Rattle.flat_model.specs.References.{is_used_up, is_volume_full, new_word, permits, reply_at, reply_of}
+use Rattle.script.specs.References.{new_word, permits}
+use Rattle.flat_model.specs.References.{is_used_up, is_volume_full, reply_at, reply_of}
 use Rattle.flat_model.specs.References.{reply_to_reference, stores_page, word_reply}
 use Rattle.flat_model.specs.Store.{Store}
 use Rattle.page_control.specs.Counts.{is_full}

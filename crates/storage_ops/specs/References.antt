@@ -11,7 +11,8 @@ use Rattle.book.specs.declared.replies.Reply.TheVariants as reply
 use Rattle.tree_model.specs.Access.{access_of}
 use Rattle.tree_model.specs.Tree.{Node, account_of, node_in, quota_in, used_by}
 use Rattle.known_segs.specs.Known.{uid_of}
-use Rattle.flat_model.specs.References.{alters, new_word, permits, reply_to_reference}
+use Rattle.script.specs.References.{alters, new_word, permits}
+use Rattle.flat_model.specs.References.{reply_to_reference}
 use Rattle.flat_model.specs.Store.{Store}
 use Rattle.page_control.specs.Counts.{is_full}
 use Rattle.seg_control.specs.Control.{kst_at}

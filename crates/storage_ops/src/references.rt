@@ -6,7 +6,7 @@ ghost use Rattle.tree_model.specs.Trees.{has_segment};
 ghost use Rattle.dir_tree.specs.Nodes.{as_term};
 ghost use Rattle.accounts.specs.Maps.{Counts};
 ghost use Rattle.script.specs.Plans.{Plan};
-ghost use Rattle.flat_model.specs.References.{new_word, permits, reply_to_reference};
+ghost use Rattle.flat_model.specs.References.{reply_to_reference};
 ghost use Rattle.flat_model.specs.Store.{Store as Flat};
 ghost use Rattle.storage_ops.specs.References.{brings_word, outside_by, outside_refusal, refusal_in, refused_by};
 ghost use Rattle.storage_ops.specs.References.{room_by, room_in, room_refusal, target, want_of_room};
@@ -15,39 +15,23 @@ ghost use Rattle.storage_ops.specs.Shown.{IsFound, IsThere, Shows, is_filed, is_
 use crate::store::Store;
 use book::Reply;
 use dir_tree::Node;
-use mnames::{Mode, Who};
+use mnames::Who;
 use mword::{Page, Word};
 use script::{RefKind, Reference};
 use volumes::Drive;
-
-/// Whether a mode permits a reference: a read asks for the right to read, a write for that to write, an addition for
-/// both.
-fn permits(mode: Mode, kind: &RefKind) -> bool
-    ensures { result ≡ permits mode kind.now }
-{
-    match kind {
-        RefKind::Read => matches!(mode, Mode::Read | Mode::Both),
-        RefKind::Write(_) => matches!(mode, Mode::Write | Mode::Both),
-        RefKind::Add(_) => mode == Mode::Both,
-    }
-}
 
 /// Whether a reference brings a word other than 0 into a page of zeros.
 fn brings_word(kind: &RefKind) -> bool
     ensures { result ≡ brings_word kind.now }
 {
-    match kind {
-        RefKind::Read => false,
-        RefKind::Write(word) => word.value() != 0,
-        RefKind::Add(word) => Word::ZERO.plus(*word).value() != 0,
-    }
+    kind.alters() && kind.new_word(Word::ZERO) != Word::ZERO
 }
 
 /// Why the access control list of a segment, or its length, refuses a reference.
 fn refusal_in(node: &Node, who: &Who, reference: &Reference) -> Option<Reply>
     ensures { (quota : ℕ → ℕ) → result ≡ refusal_in who.now reference.now (as_term quota node.now) }
 {
-    if !permits(node.acl.access_of(who), &reference.kind) {
+    if !reference.kind.permitted_by(node.acl.access_of(who)) {
         Some(Reply::NoAccess)
     } else if reference.offset / Page::WORDS >= node.length {
         Some(Reply::Length)

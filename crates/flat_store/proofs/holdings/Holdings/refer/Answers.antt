@@ -4,7 +4,8 @@ use Rattle.tree_model.specs.Tree.{Node, node_in, quota_in}
 use Rattle.tree_model.specs.Trees.{has_segment}
 use Rattle.dir_tree.specs.Nodes.{as_term}
 use Rattle.flat_model.specs.Commands.{takes_effect}
-use Rattle.flat_model.specs.References.{new_word, reply_at, written, written_by}
+use Rattle.script.specs.References.{new_word}
+use Rattle.flat_model.specs.References.{reply_at, written, written_by}
 use Rattle.flat_model.specs.Store.{Store}
 use Rattle.flat_store.specs.Shown.{AreFlat, Held, Holds, may_write, pages_in}
 use Rattle.flat_store.proofs.NodeLaws.{has_pages, pages_found}

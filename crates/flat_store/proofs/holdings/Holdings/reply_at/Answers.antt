@@ -8,7 +8,7 @@ use Rattle.tree_model.specs.Tree.{Node, quota_in}
 use Rattle.tree_model.specs.Trees.{has_segment}
 use Rattle.tree_model.specs.Access.{access_of}
 use Rattle.mnames.specs.declared.principals.Who.{Who}
-use Rattle.flat_model.specs.References.{permits}
+use Rattle.script.specs.References.{permits}
 use Rattle.dir_tree.specs.Nodes.{as_term}
 use Rattle.flat_store.specs.Shown.{Held, AreFlat}
 
@@ -29,6 +29,6 @@ returns c = λ p s k h who.
     (h.nodes ∙ ap (λ (x : Held). x.accounts.nodes) (sym c.self.view_is)) c.in-Some.ensures.some in
     within p s k c.args.uid c.args.offset c.args.kind.now n c.page_reply.result found
     (ap (λ (w : Who). permits (access_of w c.in-Some.node.now.acl) c.args.kind.now) (sym who)
-    ∙ ap (λ (m : Mode). permits m c.args.kind.now) (sym c.access_of.ensures) ∙ sym c.permits.ensures
-    ∙ c.if-not-permits.false)
+    ∙ ap (λ (m : Mode). permits m c.args.kind.now) (sym c.access_of.ensures) ∙ sym c.permitted_by.ensures
+    ∙ c.if-not-permitted_by.false)
     c.if-offset-node.false (c.page_reply.ensures p s n h (uid_found s.nodes c.args.uid n found) refl)
