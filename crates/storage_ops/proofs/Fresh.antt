@@ -2,13 +2,14 @@
 use Rattle.std.proofs.Common.{◌≡◌, ◌≢◌, ℕ, zero, suc, ◌+◌, ◌<◌, ◌≤◌, ◌/◌, ◌%◌, Bool, true, false, cond, eqb, ◌&&◌}
 use Rattle.std.proofs.Common.{List, [], ◌∷◌, length, map}
 use Rattle.std.proofs.Common.{Option, Some, None, get_or, is_some, replicate, sum, refl, sym, ap, ◌∙◌, arith}
-use Rattle.std.proofs.Common.{inl, inr}
+use Rattle.std.proofs.Common.{inl, inr, is_none}
 use Rattle.std.specs.Prelude.{count_by, codes, nat_le, nat_lt, slice_get}
 use Rattle.std.specs.List.{list_all}
 use Rattle.std.proofs.lemmas.Bool.{cases_lt}
 use Rattle.std.proofs.lemmas.Bool.Decides.{nat_tests}
 use Rattle.std.proofs.lemmas.Grind.{common_steps}
 use Rattle.std.proofs.lemmas.List.{get_or-replicate, get_or_past, length-replicate}
+use Rattle.std.proofs.lemmas.List.Quantifiers.{position-Some}
 use Rattle.std.proofs.lemmas.List.Sums.{sum_by-cons}
 use Rattle.mnames.specs.declared.principals.Who.{Who}
 use Rattle.script.specs.Plans.{Plan}
@@ -74,13 +75,11 @@ module _ (now : Plain) (free : (v e : ℕ) → entry_at (vtoc_in now.vtocs v) e 
   }
 
   pub entry_first : (e : ℕ) → Some e ≡ least_free_entry (vtoc_in now.vtocs 0) → e ≡ 0
-  entry_first e least = by_table (vtoc_in now.vtocs 0) (free 0) least
+  entry_first e least = by e (position-Some is_none (vtoc_in now.vtocs 0) e None (sym least)).2
     where
-      by_table : (table : List (Option VtocEntry)) → ((i : ℕ) → entry_at table i ≡ None)
-          → Some e ≡ least_free_entry table → e ≡ 0
-      by_table [] none is = cc
-      by_table (None ∷ xs) none is = cc
-      by_table (Some x ∷ xs) none is = (let clash : ◌≡◌ {A = Option VtocEntry} (Some x) None = none 0 in cc)
+      by : (e : ℕ) → ((k : ℕ) → k < e → is_none (get_or (vtoc_in now.vtocs 0) k None) ≡ false) → e ≡ 0
+      by zero before = refl
+      by (suc e) before = (let clash : true ≡ false = sym (ap is_none (free 0 0)) ∙ before 0 (omega arith) in cc)
 
   pub rest_fresh : AreAtRest now
   rest_fresh uid home is = absurd (none_used home uid is.used)

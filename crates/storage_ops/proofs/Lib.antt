@@ -1,6 +1,7 @@
 pub mod Alike
 pub mod ChainDown
 pub mod Changed
+pub mod CutExactly
 pub mod Dropped
 pub mod Entries
 pub mod Fresh

@@ -1,5 +1,6 @@
 pub mod Connecting
 pub mod Cut
+pub mod CutOff
 pub mod Paged
 pub mod References
 pub mod Shown

@@ -11,9 +11,11 @@ ghost use Rattle.script.specs.Plans.{Plan};
 ghost use Rattle.flat_model.specs.Cuts.{cleared, cut_once, has_cleared, without_pages};
 ghost use Rattle.flat_model.specs.Sizes.{after_truncate, cut_off, truncate_reply};
 ghost use Rattle.flat_model.specs.Store.{Store as Flat};
-ghost use Rattle.storage_ops.specs.Shown.{Shows, answered, home_of};
+ghost use Rattle.storage_ops.specs.Shown.{Shows, answered, home_of, pages_in};
 ghost use Rattle.storage_ops.specs.Cut.{CutsPages, IsTakenFrom, IsTakenPast, IsTakenPastAt, KeepsRest};
 ghost use Rattle.storage_ops.specs.Cut.{Unstores, is_here, leaves};
+ghost use Rattle.storage_ops.specs.CutOff.{CountsOthers, cut_at, cut_by, is_cleared, page_cleared, page_cut};
+ghost use Rattle.storage_ops.specs.CutOff.{paged, pages_cut, pages_from};
 
 use crate::paths::segment_at;
 use crate::sizes::pages_of;
@@ -71,6 +73,9 @@ impl<D: Drive> Store<D> {
         ensures rest { Unstores self.old self.new uid (λ q. q == page) }
         ensures shown { (p : Plan) (s : Flat) → Shows D.pages p s self.old
             → Shows D.pages p (without_pages s uid (λ q. q == page)) self.new }
+        ensures exact { paged D.pages self.new uid ≡ page_cut (paged D.pages self.old uid)
+            (home_of self.old.accounts uid) uid page (word_of self.old.segs.ast uid page) }
+        ensures others { CountsOthers self.old.accounts self.new.accounts uid }
     {
         let _kept = self.segs.pages();
         self.segs.drop_page(uid, page, home);
@@ -86,6 +91,9 @@ impl<D: Drive> Store<D> {
         ensures rest { Unstores self.old self.new uid (λ q. q == page) }
         ensures shown { (p : Plan) (s : Flat) → Shows D.pages p s self.old
             → Shows D.pages p (without_pages s uid (λ q. q == page)) self.new }
+        ensures exact { paged D.pages self.new uid ≡ page_cut (paged D.pages self.old uid)
+            (home_of self.old.accounts uid) uid page (word_of self.old.segs.ast uid page) }
+        ensures others { CountsOthers self.old.accounts self.new.accounts uid }
     {
         let _kept = self.segs.pages();
         if is_away(word_of(self.segs.ast(), uid, page)) {
@@ -100,6 +108,9 @@ impl<D: Drive> Store<D> {
         ensures rest { Unstores self.old self.new uid (λ q. nat_le from q) }
         ensures shown { (p : Plan) (s : Flat) → Shows D.pages p s self.old
             → Shows D.pages p (without_pages s uid (λ q. nat_le from q)) self.new }
+        ensures exact { paged D.pages self.new uid ≡ pages_cut (paged D.pages self.old uid)
+            (home_of self.old.accounts uid) uid (pages_from from (pages_in self.old.accounts.nodes uid)) }
+        ensures others { CountsOthers self.old.accounts self.new.accounts uid }
     {
         let _kept = self.segs.pages();
         let home = self.home(uid);
@@ -120,6 +131,10 @@ impl<D: Drive> Store<D> {
         ensures shown { (p : Plan) (s : Flat) → Shows D.pages p s self.old
             → Shows D.pages p (cleared s uid page at) self.new }
         ensures zero { (p : Plan) (s : Flat) → Shows D.pages p s self.old → result ≡ has_cleared s uid page at }
+        ensures exact { paged D.pages self.new uid
+            ≡ page_cleared (paged D.pages self.old uid) at (word_of self.old.segs.ast uid page) }
+        ensures told { result ≡ is_cleared (paged D.pages self.old uid) at (word_of self.old.segs.ast uid page) }
+        ensures others { CountsOthers self.old.accounts self.new.accounts uid }
     {
         let _kept = self.segs.pages();
         match leaves(word_of(self.segs.ast(), uid, page)) {
@@ -135,6 +150,10 @@ impl<D: Drive> Store<D> {
         ensures rest { Unstores self.old self.new uid (λ q. result && q == words / 1024) }
         ensures shown { (p : Plan) (s : Flat) → Shows D.pages p s self.old
             → Shows D.pages p (cut_once s uid words) self.new }
+        ensures exact { paged D.pages self.new uid ≡ cut_by (paged D.pages self.old uid)
+            (home_of self.old.accounts uid) uid (words / 1024) (words % 1024)
+            (word_of self.old.segs.ast uid (words / 1024)) }
+        ensures others { CountsOthers self.old.accounts self.new.accounts uid }
     {
         let _kept = self.segs.pages();
         let home = self.home(uid);
@@ -153,6 +172,9 @@ impl<D: Drive> Store<D> {
         ensures pages { CutsPages self.old self.new uid words }
         ensures shown { (p : Plan) (s : Flat) → Shows D.pages p s self.old
             → Shows D.pages p (cut_off s uid words) self.new }
+        ensures exact { paged D.pages self.new uid ≡ cut_at (paged D.pages self.old uid)
+            (home_of self.old.accounts uid) uid (pages_in self.old.accounts.nodes uid) words }
+        ensures others { CountsOthers self.old.accounts self.new.accounts uid }
     {
         let page = words / PAGE;
         if words % PAGE == 0 {
@@ -175,6 +197,11 @@ impl<D: Drive> Store<D> {
         ensures rest { KeepsRest self.old self.new }
         ensures pages { (n : Node) → segment_at self.old.accounts.nodes path.now ≡ Ok n
             → CutsPages self.old self.new n.uid words }
+        ensures exact { (n : Node) → segment_at self.old.accounts.nodes path.now ≡ Ok n
+            → paged D.pages self.new n.uid ≡ cut_at (paged D.pages self.old n.uid)
+            (home_of self.old.accounts n.uid) n.uid (pages_in self.old.accounts.nodes n.uid) words }
+        ensures others { (n : Node) → segment_at self.old.accounts.nodes path.now ≡ Ok n
+            → CountsOthers self.old.accounts self.new.accounts n.uid }
     {
         let uid = match segment_at(&self.accounts, path) {
             Ok(node) => node.uid,

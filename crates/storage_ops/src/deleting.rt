@@ -13,8 +13,12 @@ ghost use Rattle.flat_model.specs.Cuts.{without_branch};
 ghost use Rattle.flat_model.specs.Making.{after_delete, delete_reply};
 ghost use Rattle.flat_model.specs.Naming.{status_reply};
 ghost use Rattle.flat_model.specs.Store.{Store as Flat};
-ghost use Rattle.storage_ops.specs.Shown.{Shows, ShowsTree, answered, is_there, refusal};
+ghost use Rattle.active_segs.specs.Active.{IsActive};
+ghost use Rattle.page_control.specs.Effects.{erased};
+ghost use Rattle.page_control.specs.Plain.{plain};
+ghost use Rattle.storage_ops.specs.Shown.{Shows, ShowsTree, answered, home_of, is_there, pages_in, refusal};
 ghost use Rattle.storage_ops.specs.Cut.{IsRemovable, IsRemovableAt, KeepsRest, TakesOut};
+ghost use Rattle.storage_ops.specs.CutOff.{Erases, paged, put_out};
 
 use crate::paths::{branch_at, node_at};
 use crate::replies::refusal;
@@ -131,6 +135,12 @@ impl<D: Drive> Store<D> {
             × (without_branch t (Some uid) ≡ without_branch s (Some uid)) }
         ensures rest { KeepsRest self.old self.new }
         ensures out { TakesOut self.old self.new uid }
+        ensures active { IsActive self.old.segs.ast.entries uid
+            → paged D.pages self.new uid ≡ put_out (paged D.pages self.old uid) (home_of self.old.accounts uid) uid
+            (pages_in self.old.accounts.nodes uid) }
+        ensures still { IsInactive self.old.segs.ast.entries uid
+            → paged D.pages self.new uid ≡ paged D.pages self.old uid }
+        ensures home { home_of self.new.accounts uid ≡ home_of self.old.accounts uid }
     {
         let _kept = self.segs.pages();
         let Some(place) = self.segs.ast().search(uid) else {
@@ -151,6 +161,8 @@ impl<D: Drive> Store<D> {
             → Shows D.pages p (without_branch s (Some uid)) self.new }
         ensures rest { KeepsRest self.old self.new }
         ensures ast { self.new.segs.ast ≡ self.old.segs.ast }
+        ensures erased { plain D.pages self.new.segs.pages
+            ≡ erased (plain D.pages self.old.segs.pages) (home_of self.old.accounts uid) }
         ensures core { self.new.segs.pages.core ≡ self.old.segs.pages.core }
     {
         let _root = self.accounts.root();
@@ -172,6 +184,8 @@ impl<D: Drive> Store<D> {
         ensures rest { KeepsRest self.old self.new }
         ensures out { takes_effect result ≡ true → (n : Term) → branch_at self.old.accounts.nodes path.now ≡ Ok n
             → TakesOut self.old self.new n.uid }
+        ensures exact { takes_effect result ≡ true → (n : Term) → branch_at self.old.accounts.nodes path.now ≡ Ok n
+            → Erases D.pages self.old self.new n.uid }
     {
         let node = match branch_at(&self.accounts, path) {
             Ok(node) => node,

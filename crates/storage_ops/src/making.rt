@@ -5,6 +5,8 @@ ghost use Rattle.tree_model.specs.Tree.{Node as Term, has_directory, entries_on}
 ghost use Rattle.script.specs.Plans.{Plan, who_of};
 ghost use Rattle.flat_model.specs.Making.{after_make, made_in, make_in, make_reply, owner_row};
 ghost use Rattle.flat_model.specs.Store.{Store as Flat, entries_of};
+ghost use Rattle.flat_model.specs.Commands.{takes_effect};
+ghost use Rattle.storage_ops.specs.CutOff.{TakesHome};
 ghost use Rattle.storage_ops.specs.Shown.{Shows, ShowsTree, answered, refusal, with_vtocs};
 
 use crate::paths::node_at;
@@ -103,6 +105,7 @@ impl<D: Drive> Store<D> {
         ensures effect { (p : Plan) (s : Flat) (d : Term) → Shows D.pages p s self.old → d.uid ≡ superior
             → Shows D.pages p
             (answered result s (made_in s new.volume new.dir new.length new.acl new.name d)) self.new }
+        ensures home { takes_effect result ≡ true → TakesHome D.pages self.old self.new new.volume }
         ensures rest { self.new ≡ record self.old {
           accounts = self.new.accounts;
           segs = with_vtocs self.old.segs self.new.segs.pages.volumes.vtocs;
@@ -135,6 +138,7 @@ impl<D: Drive> Store<D> {
             → result ≡ make_reply p s path.now volume dir }
         ensures effect { (p : Plan) (s : Flat) → Shows D.pages p s self.old
             → Shows D.pages p (answered result s (after_make s path.now volume dir pages acl)) self.new }
+        ensures home { takes_effect result ≡ true → TakesHome D.pages self.old self.new volume }
         ensures rest { self.new ≡ record self.old {
           accounts = self.new.accounts;
           segs = with_vtocs self.old.segs self.new.segs.pages.volumes.vtocs;
@@ -172,6 +176,7 @@ impl<D: Drive> Store<D> {
             → result ≡ make_reply p s path.now volume true }
         ensures effect { (p : Plan) (s : Flat) → Shows D.pages p s self.old
             → Shows D.pages p (answered result s (after_make s path.now volume true 0 [])) self.new }
+        ensures home { takes_effect result ≡ true → TakesHome D.pages self.old self.new volume }
         ensures rest { self.new ≡ record self.old {
           accounts = self.new.accounts;
           segs = with_vtocs self.old.segs self.new.segs.pages.volumes.vtocs;
@@ -193,6 +198,7 @@ impl<D: Drive> Store<D> {
         ensures effect { (p : Plan) (s : Flat) → Shows D.pages p s self.old
             → Shows D.pages p (answered result s
             (after_make s path.now volume false pages (owner_row (who_of p process) ∷ []))) self.new }
+        ensures home { takes_effect result ≡ true → TakesHome D.pages self.old self.new volume }
         ensures rest { self.new ≡ record self.old {
           accounts = self.new.accounts;
           segs = with_vtocs self.old.segs self.new.segs.pages.volumes.vtocs;

@@ -1,4 +1,4 @@
-use Rattle.std.proofs.Common.{◌&&◌, Bool, false, refl, sym}
+use Rattle.std.proofs.Common.{◌≡◌, ◌&&◌, Bool, false, refl, sym}
 use Rattle.std.proofs.Common.{ap, subst, ◌∙◌}
 use Rattle.flat_model.specs.Cuts.{cleared}
 use Rattle.flat_model.specs.Pages.{is_stored, is_zero_page}
@@ -16,6 +16,9 @@ use Rattle.storage_ops.proofs.PagesLess.{picture_bound}
 use Rattle.storage_ops.proofs.PagesLess.{leaving_is, not_leaving, page_words, shown_cut, unstores_cut}
 use Rattle.storage_ops.proofs.Paged.{active_there, blank_shown, word_filed}
 use Rattle.storage_ops.proofs.Unstored.{unstores_none}
+use Rattle.storage_ops.specs.CutOff.{is_cleared, page_cleared, paged}
+use Rattle.accounts.specs.Maps.{count_of}
+use Rattle.storage_ops.proofs.CutExactly.{cleared_exactly, cleared_told, null_cleared}
 use Rattle.storage_ops.proofs.store.Store.clear_page.Goals as goal
 
 pub cut_from-requires-clause-bound : goal.cut_from-requires-clause-bound
@@ -157,3 +160,79 @@ returns-in-None-clause-zero g c = λ p s h.
     active c.args.page ∙ ap has_record null in
     sym (ap (λ (z : Bool). z && is_zero_page (cleared s c.args.uid c.args.page c.args.at).words c.args.uid c.args.page)
     off)
+
+pub returns-in-Some-clause-exact : goal.returns-in-Some-clause-exact
+returns-in-Some-clause-exact g c =
+    let t : Storage g.row.D.Denot = record {
+      accounts = c.self.inside.accounts;
+      segs = c.self.inside.segs;
+      whos = c.self.inside.whos.items;
+    } in
+    let word = leaving_is (word_of t.segs.ast c.args.uid c.args.page) c.in-Some.f
+    (ap (λ (x : ActiveSegs). leaves (word_of x c.args.uid c.args.page)) (sym c.ast.ensures.ast)
+    ∙ ap leaves (sym c.word_of.ensures) ∙ sym c.leaves.ensures ∙ c.in-Some.is) in
+    let n : Storage g.row.D.Denot = record {
+      accounts = c.self.inside.accounts;
+      segs = c.cut_from.new.self;
+      whos = c.self.inside.whos.items;
+    } in
+    subst (λ (x : Storage g.row.D.Denot). paged g.D.Drive.pages n c.args.uid ≡ page_cleared
+    (paged g.D.Drive.pages x c.args.uid) c.args.at (word_of x.segs.ast c.args.uid c.args.page)) c.self.view_is
+    ((λ i. record {
+      pages = c.cut_from.ensures.cut i;
+      ast = c.cut_from.ensures.ast i;
+      stored = count_of t.accounts c.args.uid;
+    })
+    ∙ cleared_exactly (paged g.D.Drive.pages t c.args.uid) c.args.at c.in-Some.f
+    (word_of t.segs.ast c.args.uid c.args.page) word)
+
+pub returns-in-Some-clause-told : goal.returns-in-Some-clause-told
+returns-in-Some-clause-told g c =
+    let t : Storage g.row.D.Denot = record {
+      accounts = c.self.inside.accounts;
+      segs = c.self.inside.segs;
+      whos = c.self.inside.whos.items;
+    } in
+    let word = leaving_is (word_of t.segs.ast c.args.uid c.args.page) c.in-Some.f
+    (ap (λ (x : ActiveSegs). leaves (word_of x c.args.uid c.args.page)) (sym c.ast.ensures.ast)
+    ∙ ap leaves (sym c.word_of.ensures) ∙ sym c.leaves.ensures ∙ c.in-Some.is) in
+    subst (λ (x : Storage g.row.D.Denot). c.cut_from.result ≡ is_cleared (paged g.D.Drive.pages x c.args.uid) c.args.at
+    (word_of x.segs.ast c.args.uid c.args.page)) c.self.view_is
+    (cleared_told (paged g.D.Drive.pages t c.args.uid) _ c.args.at c.in-Some.f
+    (word_of t.segs.ast c.args.uid c.args.page) c.cut_from.result word c.cut_from.ensures.cut c.cut_from.ensures.zero)
+
+pub returns-in-None-clause-exact : goal.returns-in-None-clause-exact
+returns-in-None-clause-exact g c =
+    let t : Storage g.row.D.Denot = record {
+      accounts = c.self.inside.accounts;
+      segs = c.self.inside.segs;
+      whos = c.self.inside.whos.items;
+    } in
+    let taken = ap (λ (x : Storage g.row.D.Denot). is_here (word_of x.segs.ast c.args.uid c.args.page)) c.self.view_is
+    ∙ c.requires.taken in
+    let out = ap (λ (x : Storage g.row.D.Denot). is_out (word_of x.segs.ast c.args.uid c.args.page)) c.self.view_is
+    ∙ c.requires.out in
+    let null = not_leaving (word_of t.segs.ast c.args.uid c.args.page) taken out
+    (ap (λ (x : ActiveSegs). leaves (word_of x c.args.uid c.args.page)) (sym c.ast.ensures.ast)
+    ∙ ap leaves (sym c.word_of.ensures) ∙ sym c.leaves.ensures ∙ c.in-None.is) in
+    subst (λ (x : Storage g.row.D.Denot). paged g.D.Drive.pages x c.args.uid ≡ page_cleared
+    (paged g.D.Drive.pages x c.args.uid) c.args.at (word_of x.segs.ast c.args.uid c.args.page)) c.self.view_is
+    (null_cleared (paged g.D.Drive.pages t c.args.uid) c.args.at (word_of t.segs.ast c.args.uid c.args.page) null).0
+
+pub returns-in-None-clause-told : goal.returns-in-None-clause-told
+returns-in-None-clause-told g c =
+    let t : Storage g.row.D.Denot = record {
+      accounts = c.self.inside.accounts;
+      segs = c.self.inside.segs;
+      whos = c.self.inside.whos.items;
+    } in
+    let taken = ap (λ (x : Storage g.row.D.Denot). is_here (word_of x.segs.ast c.args.uid c.args.page)) c.self.view_is
+    ∙ c.requires.taken in
+    let out = ap (λ (x : Storage g.row.D.Denot). is_out (word_of x.segs.ast c.args.uid c.args.page)) c.self.view_is
+    ∙ c.requires.out in
+    let null = not_leaving (word_of t.segs.ast c.args.uid c.args.page) taken out
+    (ap (λ (x : ActiveSegs). leaves (word_of x c.args.uid c.args.page)) (sym c.ast.ensures.ast)
+    ∙ ap leaves (sym c.word_of.ensures) ∙ sym c.leaves.ensures ∙ c.in-None.is) in
+    subst (λ (x : Storage g.row.D.Denot). false ≡ is_cleared (paged g.D.Drive.pages x c.args.uid) c.args.at
+    (word_of x.segs.ast c.args.uid c.args.page)) c.self.view_is
+    (null_cleared (paged g.D.Drive.pages t c.args.uid) c.args.at (word_of t.segs.ast c.args.uid c.args.page) null).1

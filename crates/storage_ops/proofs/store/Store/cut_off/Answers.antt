@@ -1,11 +1,15 @@
-use Rattle.std.proofs.Common.{◌+◌, ◌/◌, subst}
+use Rattle.std.proofs.Common.{◌≡◌, ◌+◌, ◌/◌, ◌%◌, subst}
 use Rattle.std.specs.Prelude.{nat_le}
 use Rattle.flat_model.specs.Cuts.{without_pages}
 use Rattle.flat_model.specs.Store.{Store as Flat}
 use Rattle.flat_model.proofs.CutLaws.{even_cut, whole_cut}
-use Rattle.storage_ops.specs.Shown.{Shows}
+use Rattle.storage_ops.specs.Shown.{Shows, home_of, pages_in}
 use Rattle.storage_ops.proofs.Rest.{cuts_even, cuts_odd}
-use Rattle.storage_ops.proofs.Unstored.{taken_past}
+use Rattle.storage_ops.proofs.Unstored.{home_still, taken_past}
+use Rattle.page_control.specs.declared.Home.{Home}
+use Rattle.seg_control.specs.Control.{word_of}
+use Rattle.storage_ops.specs.CutOff.{cut_by, paged}
+use Rattle.storage_ops.proofs.CutExactly.{cut_evenly, cut_oddly, others_both}
 use Rattle.storage_ops.proofs.store.Store.cut_off.Goals as goal
 
 pub cut_page-requires-clause-past : goal.cut_page-requires-clause-past
@@ -30,3 +34,26 @@ returns-else-words-eq0-clause-shown g c = λ p s h. subst (λ (x : Flat). Shows 
     (whole_cut s c.args.uid c.args.words)
     (c.cut_page.ensures.shown p (without_pages s c.args.uid (λ q. nat_le (c.args.words / 1024 + 1) q))
     (c.drop_from-else-words-eq0.ensures.shown p s h))
+
+pub returns-then-words-eq0-clause-exact : goal.returns-then-words-eq0-clause-exact
+returns-then-words-eq0-clause-exact g c =
+    cut_evenly (paged g.D.Drive.pages c.args.self.now c.args.uid) _ (home_of c.args.self.now.accounts c.args.uid)
+    c.args.uid (pages_in c.args.self.now.accounts.nodes c.args.uid) c.args.words c.if-words-eq0.true
+    c.drop_from.ensures.exact
+
+pub returns-else-words-eq0-clause-exact : goal.returns-else-words-eq0-clause-exact
+returns-else-words-eq0-clause-exact g c =
+    let mid = c.drop_from-else-words-eq0.new.self in
+    cut_oddly (paged g.D.Drive.pages c.args.self.now c.args.uid) (paged g.D.Drive.pages mid c.args.uid) _
+    (home_of c.args.self.now.accounts c.args.uid) c.args.uid (pages_in c.args.self.now.accounts.nodes c.args.uid)
+    c.args.words (λ is. c.if-words-eq0.false is) c.drop_from-else-words-eq0.ensures.exact
+    (subst (λ (h : Home). paged g.D.Drive.pages c.cut_page.new.self c.args.uid ≡ cut_by
+    (paged g.D.Drive.pages mid c.args.uid) h c.args.uid (c.args.words / 1024) (c.args.words % 1024)
+    (word_of mid.segs.ast c.args.uid (c.args.words / 1024)))
+    (home_still c.args.self.now mid c.args.uid _ c.args.uid c.drop_from-else-words-eq0.ensures.rest)
+    c.cut_page.ensures.exact)
+
+pub returns-else-words-eq0-clause-others : goal.returns-else-words-eq0-clause-others
+returns-else-words-eq0-clause-others g c =
+    others_both c.args.self.now.accounts c.drop_from-else-words-eq0.new.self.accounts c.cut_page.new.self.accounts
+    c.args.uid c.drop_from-else-words-eq0.ensures.others c.cut_page.ensures.others

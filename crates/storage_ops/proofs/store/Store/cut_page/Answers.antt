@@ -3,11 +3,15 @@ use Rattle.flat_model.specs.Cuts.{cleared, has_cleared, without_pages}
 use Rattle.active_segs.specs.Active.{IsActive}
 use Rattle.page_control.specs.Plain.{plain}
 use Rattle.page_control.specs.Tied.{is_away}
-use Rattle.storage_ops.specs.Shown.{Shows, Storage, is_there}
+use Rattle.storage_ops.specs.Shown.{Shows, Storage, home_of, is_there}
 use Rattle.storage_ops.proofs.Paged.{active_there}
 use Rattle.storage_ops.proofs.Unstored.{idle_still}
 use Rattle.storage_ops.proofs.Unstored.{unstores_both}
 use Rattle.storage_ops.proofs.Unstored.{active_still, home_still}
+use Rattle.page_control.specs.declared.Home.{Home}
+use Rattle.seg_control.specs.Control.{word_of}
+use Rattle.storage_ops.specs.CutOff.{page_cut, paged}
+use Rattle.storage_ops.proofs.CutExactly.{cut_dropped, cut_kept, others_both}
 use Rattle.storage_ops.proofs.store.Store.cut_page.Goals as goal
 
 pub home-home-requires : goal.home-home-requires
@@ -65,3 +69,31 @@ returns-else-clear_page-clause-shown g c = λ p s h.
     (cond z (without_pages (cleared s c.args.uid page (c.args.words % 1024)) c.args.uid (λ q. eqb q page))
     (cleared s c.args.uid page (c.args.words % 1024))) c.clear_page.new.self) (sym is)
     (c.clear_page.ensures.shown p s h)
+
+pub returns-then-clear_page-clause-exact : goal.returns-then-clear_page-clause-exact
+returns-then-clear_page-clause-exact g c =
+    let page : ℕ = c.args.words / 1024 in
+    let word = word_of c.args.self.now.segs.ast c.args.uid page in
+    cut_dropped (paged g.D.Drive.pages c.args.self.now c.args.uid)
+    (paged g.D.Drive.pages c.clear_page.new.self c.args.uid) (paged g.D.Drive.pages c.drop_page.new.self c.args.uid)
+    (home_of c.args.self.now.accounts c.args.uid) c.args.uid page (c.args.words % 1024) word
+    (word_of c.clear_page.new.self.segs.ast c.args.uid page) (sym c.clear_page.ensures.told ∙ c.if-clear_page.true)
+    c.clear_page.ensures.exact (c.clear_page.ensures.rest.kept page refl)
+    (subst (λ (h : Home). paged g.D.Drive.pages c.drop_page.new.self c.args.uid ≡ page_cut
+    (paged g.D.Drive.pages c.clear_page.new.self c.args.uid) h c.args.uid page
+    (word_of c.clear_page.new.self.segs.ast c.args.uid page))
+    (home_still c.args.self.now c.clear_page.new.self c.args.uid (λ q. false) c.args.uid c.clear_page.ensures.rest)
+    c.drop_page.ensures.exact)
+
+pub returns-else-clear_page-clause-exact : goal.returns-else-clear_page-clause-exact
+returns-else-clear_page-clause-exact g c =
+    let page : ℕ = c.args.words / 1024 in
+    cut_kept (paged g.D.Drive.pages c.args.self.now c.args.uid)
+    (paged g.D.Drive.pages c.clear_page.new.self c.args.uid) (home_of c.args.self.now.accounts c.args.uid) c.args.uid
+    page (c.args.words % 1024) (word_of c.args.self.now.segs.ast c.args.uid page)
+    (sym c.clear_page.ensures.told ∙ c.if-clear_page.false) c.clear_page.ensures.exact
+
+pub returns-then-clear_page-clause-others : goal.returns-then-clear_page-clause-others
+returns-then-clear_page-clause-others g c =
+    others_both c.args.self.now.accounts c.clear_page.new.self.accounts c.drop_page.new.self.accounts c.args.uid
+    c.clear_page.ensures.others c.drop_page.ensures.others

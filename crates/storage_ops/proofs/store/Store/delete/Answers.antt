@@ -1,8 +1,7 @@
-use Rattle.std.proofs.Common.{◌≡◌, ◌<◌, ℕ, is_some, Result, Ok, List, true, false, eqb, refl, sym, ap, subst, ◌∙◌}
+use Rattle.std.proofs.Common.{◌≡◌, ◌<◌, ℕ, is_some, List, true, false, eqb, refl, sym, ap, subst, ◌∙◌}
 use Rattle.std.proofs.Common.{arith}
 use Rattle.std.specs.Result.{is_err}
 use Rattle.std.proofs.lemmas.Bool.{ne_eqb}
-use Rattle.book.specs.declared.replies.Reply.{Reply}
 use Rattle.tree_model.specs.Tree.{Node, quota_in}
 use Rattle.dir_tree.specs.Nodes.{as_term, has_inferior}
 use Rattle.flat_model.specs.Branches.{branch_at}
@@ -13,6 +12,8 @@ use Rattle.storage_ops.specs.Cut.{IsRemovable, IsRemovableAt, TakesOut}
 use Rattle.storage_ops.specs.Shown.{Shows, ShowsTree, Storage, is_there}
 use Rattle.storage_ops.proofs.Changed.{branch_refuses}
 use Rattle.storage_ops.proofs.Rest.{out_still, rest_both, rest_none}
+use Rattle.storage_ops.specs.CutOff.{Erases}
+use Rattle.storage_ops.proofs.CutExactly.{erased_exactly, same_uid}
 use Rattle.storage_ops.proofs.store.Store.delete.Goals as goal
 
 pub returns-in-Err-clause-answer : goal.returns-in-Err-clause-answer
@@ -117,11 +118,23 @@ returns-clause-out g c = λ on n found.
     (same_uid (as_term (quota_in c.self.inside.accounts.nodes) c.in-Ok.node.now) n (sym here ∙ found))
     (out_still c.args.self.now c.make_inactive.new.self c.remove.new.self c.in-Ok.node.now.uid
     c.make_inactive.ensures.out c.remove.ensures.ast c.remove.ensures.core)
-  where
-    same_uid : (m n : Node) → ◌≡◌ {A = Result Node Reply} (Ok m) (Ok n) → m.uid ≡ n.uid
-    same_uid m n e = (let same : m ≡ n = cc in ap (λ (x : Node). x.uid) same)
 
 pub returns-in-Err-clause-out : goal.returns-in-Err-clause-out
 returns-in-Err-clause-out g c = λ on.
+    let clash : true ≡ false = sym on ∙ branch_refuses c.self.inside.accounts.nodes c.args.path.now c.in-Err.reply
+    c.in-Err.ensures.err in cc
+
+pub returns-clause-exact : goal.returns-clause-exact
+returns-clause-exact g c = λ on n found.
+    let here = ap (λ (x : Storage g.row.D.Denot). branch_at x.accounts.nodes c.args.path.now) (sym c.self.view_is)
+    ∙ c.in-Ok.ensures.ok in
+    subst (λ (u : ℕ). Erases g.D.Drive.pages c.args.self.now c.remove.new.self u)
+    (same_uid (as_term (quota_in c.self.inside.accounts.nodes) c.in-Ok.node.now) n (sym here ∙ found))
+    (erased_exactly g.D.Drive.pages c.args.self.now c.make_inactive.new.self c.remove.new.self c.in-Ok.node.now.uid
+    c.make_inactive.ensures.active c.make_inactive.ensures.still c.make_inactive.ensures.home c.remove.ensures.erased
+    c.remove.ensures.ast)
+
+pub returns-in-Err-clause-exact : goal.returns-in-Err-clause-exact
+returns-in-Err-clause-exact g c = λ on.
     let clash : true ≡ false = sym on ∙ branch_refuses c.self.inside.accounts.nodes c.args.path.now c.in-Err.reply
     c.in-Err.ensures.err in cc

@@ -1,4 +1,4 @@
-use Rattle.std.proofs.Common.{◌≡◌, ◌≤◌, ◌<◌, ◌≢◌, ◌+◌, ℕ, Some, false, eqb, sym, ap, subst, ◌∙◌, arith}
+use Rattle.std.proofs.Common.{◌≡◌, ◌≤◌, ◌<◌, ◌≢◌, ◌+◌, ◌-◌, ℕ, refl, Some, false, eqb, sym, ap, subst, ◌∙◌, arith}
 use Rattle.flat_model.specs.Cuts.{without_pages}
 use Rattle.flat_model.specs.Store.{Store as Flat}
 use Rattle.flat_model.proofs.DropLaws.{all_between, between, more_between, none_between}
@@ -6,12 +6,16 @@ use Rattle.active_segs.specs.Active.{IsActive}
 use Rattle.page_control.specs.Plain.{binding_at, bindings, plain}
 use Rattle.seg_control.specs.Control.{word_of}
 use Rattle.storage_ops.specs.Cut.{is_here}
-use Rattle.storage_ops.specs.Shown.{Shows, Storage, is_there, pages_in}
+use Rattle.storage_ops.specs.Shown.{Shows, Storage, home_of, is_there, pages_in}
 use Rattle.storage_ops.proofs.Lengths.{filed_there}
 use Rattle.storage_ops.proofs.Paged.{active_there, blank_shown, past_unfiled, unfiled_unframed, word_filed}
 use Rattle.storage_ops.proofs.Unstored.{idle_still}
 use Rattle.storage_ops.proofs.Unstored.{active_still, between_more, between_none, between_past, home_still}
 use Rattle.storage_ops.proofs.Unstored.{unrecorded, unstores_both, unstores_none, unstores_past, unstores_same}
+use Rattle.page_control.specs.declared.Home.{Home}
+use Rattle.std.specs.List.{range_with_len}
+use Rattle.storage_ops.specs.CutOff.{page_cut, paged, pages_cut}
+use Rattle.storage_ops.proofs.CutExactly.{cut_next, none_from, others_both}
 use Rattle.storage_ops.proofs.store.Store.drop_from.Goals as goal
 
 pub home-home-requires : goal.home-home-requires
@@ -36,6 +40,10 @@ loop-page-init g c =
           (blank_shown g.D.Drive.pages p s t c.pages-kept.ensures.kept c.self.invariant shown))) h,
       unstores_same c.args.self.now c.args.self.now c.args.uid (λ q. false) (between c.args.from c.args.from)
           (λ q. between_none c.args.from q) (unstores_none c.args.self.now c.args.uid),
+      omega arith,
+      ap (pages_cut (paged g.D.Drive.pages c.args.self.now c.args.uid) (home_of c.args.self.now.accounts c.args.uid)
+          c.args.uid) (sym (none_from c.args.from)),
+      λ s apart. refl,
       omega arith,
     )
 
@@ -70,6 +78,20 @@ loop-page-preserved g c = (
       (between c.args.from c.loop-page.page) (λ q. eqb q c.loop-page.page) c.loop-page.invariant.1
       c.unstore.ensures.rest),
   omega arith,
+  cut_next (paged g.D.Drive.pages c.args.self.now c.args.uid) (paged g.D.Drive.pages c.loop-page.self c.args.uid)
+      (paged g.D.Drive.pages c.unstore.new.self c.args.uid) (home_of c.args.self.now.accounts c.args.uid) c.args.uid
+      c.args.from c.loop-page.page c.loop-page.invariant.2 c.loop-page.invariant.3
+      (subst (λ (h : Home). paged g.D.Drive.pages c.unstore.new.self c.args.uid ≡ page_cut
+      (paged g.D.Drive.pages c.loop-page.self c.args.uid) h c.args.uid c.loop-page.page
+      (word_of c.loop-page.self.segs.ast c.args.uid c.loop-page.page))
+      (home_still c.args.self.now c.loop-page.self c.args.uid (between c.args.from c.loop-page.page) c.args.uid
+      c.loop-page.invariant.1) c.unstore.ensures.exact),
+  others_both c.args.self.now.accounts c.loop-page.self.accounts c.unstore.new.self.accounts c.args.uid
+      c.loop-page.invariant.4 c.unstore.ensures.others,
+  (let size : pages_in c.args.self.now.accounts.nodes c.args.uid ≡ c.pages_of-page-end.result =
+      ap (λ (x : Storage g.row.D.Denot). pages_in x.accounts.nodes c.args.uid) (sym c.self.view_is)
+      ∙ sym c.pages_of-page-end.ensures in
+      omega (arith, size, c.loop-page.invariant.2, c.loop-page.invariant.5, c.loop-page-test.true)),
 )
 
 pub returns-clause-shown : goal.returns-clause-shown
@@ -120,3 +142,14 @@ returns-clause-rest g c =
     ≢ Some (c.args.uid, q)) c.self.view_is
     (unfiled_unframed now t.segs.ast t.segs.links t.accounts t.whos c.pages-kept.ensures.kept c.self.invariant
     c.args.uid q (off q le)))
+
+pub returns-clause-exact : goal.returns-clause-exact
+returns-clause-exact g c =
+    let size : pages_in c.args.self.now.accounts.nodes c.args.uid ≡ c.pages_of-page-end.result =
+    ap (λ (x : Storage g.row.D.Denot). pages_in x.accounts.nodes c.args.uid) (sym c.self.view_is)
+    ∙ sym c.pages_of-page-end.ensures in
+    let all : c.loop-page.page - c.args.from ≡ pages_in c.args.self.now.accounts.nodes c.args.uid - c.args.from =
+    omega (arith, size, c.loop-page.invariant.2, c.loop-page.invariant.5, c.loop-page-test.false) in
+    c.loop-page.invariant.3
+    ∙ ap (λ (n : ℕ). pages_cut (paged g.D.Drive.pages c.args.self.now c.args.uid)
+    (home_of c.args.self.now.accounts c.args.uid) c.args.uid (range_with_len c.args.from n)) all

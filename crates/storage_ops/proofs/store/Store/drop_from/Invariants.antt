@@ -1,14 +1,19 @@
-use Rattle.std.proofs.Common.{◌≤◌}
+use Rattle.std.proofs.Common.{◌≡◌, ◌≤◌, ◌-◌}
 use Rattle.script.specs.Plans.{Plan}
 use Rattle.flat_model.specs.Cuts.{without_pages}
 use Rattle.flat_model.specs.Store.{Store as Flat}
 use Rattle.flat_model.proofs.DropLaws.{between}
 use Rattle.storage_ops.specs.Cut.{Unstores}
-use Rattle.storage_ops.specs.Shown.{Shows}
+use Rattle.storage_ops.specs.CutOff.{CountsOthers, paged, pages_cut, pages_from}
+use Rattle.storage_ops.specs.Shown.{Shows, home_of, pages_in}
 use Rattle.storage_ops.proofs.store.Store.drop_from.Given as goal
 
 -- the pages before the next one are stored no more
 abbrev pub invariant-loop-page : goal.invariant-loop-page
 invariant-loop-page g l = ((p : Plan) (s : Flat) → Shows g.D.Drive.pages p s l.fn.self
     → Shows g.D.Drive.pages p (without_pages s l.fn.uid (between l.fn.from l.page)) l.self) ×
-    (Unstores l.fn.self l.self l.fn.uid (between l.fn.from l.page)) × (l.fn.from ≤ l.page)
+    (Unstores l.fn.self l.self l.fn.uid (between l.fn.from l.page)) × (l.fn.from ≤ l.page) ×
+    (paged g.D.Drive.pages l.self l.fn.uid ≡ pages_cut (paged g.D.Drive.pages l.fn.self l.fn.uid)
+    (home_of l.fn.self.accounts l.fn.uid) l.fn.uid (pages_from l.fn.from l.page)) ×
+    (CountsOthers l.fn.self.accounts l.self.accounts l.fn.uid) ×
+    (l.page - l.fn.from ≤ pages_in l.fn.self.accounts.nodes l.fn.uid - l.fn.from)

@@ -1,4 +1,4 @@
-use Rattle.std.proofs.Common.{eqb, refl, sym, ap, subst, ◌∙◌, inl}
+use Rattle.std.proofs.Common.{◌≡◌, ◌-◌, eqb, refl, sym, ap, subst, ◌∙◌, inl}
 use Rattle.active_segs.specs.Active.{ActiveSegs, IsActive}
 use Rattle.page_control.specs.declared.Home.{Home}
 use Rattle.page_control.specs.Plain.{plain}
@@ -9,6 +9,9 @@ use Rattle.storage_ops.specs.Cut.{Unstores}
 use Rattle.storage_ops.specs.Shown.{IsStore, Shows, Storage, home_of}
 use Rattle.storage_ops.proofs.PagesLess.{drop_done, may_drop, shown_dropped, unstores_one}
 use Rattle.storage_ops.proofs.Dropped.{store_dropped}
+use Rattle.storage_ops.specs.CutOff.{CountsOthers, page_cut, paged}
+use Rattle.accounts.specs.Maps.{count_of}
+use Rattle.storage_ops.proofs.CutExactly.{dropped_exactly, other_counts}
 use Rattle.storage_ops.proofs.store.Store.drop_page.Goals as goal
 
 pub drop_page-requires-clause-page : goal.drop_page-requires-clause-page
@@ -127,3 +130,31 @@ returns-clause-shown g c = λ p s h.
     shown_dropped g.D.Drive.pages p s t n c.args.uid c.args.page done c.self.invariant.housed
     (ap (λ (l : Links). l.known) c.drop_page.ensures.links) refl
     (subst (λ (x : Storage g.row.D.Denot). Shows g.D.Drive.pages p s x) (sym c.self.view_is) h)
+
+pub returns-clause-exact : goal.returns-clause-exact
+returns-clause-exact g c =
+    let away = ap (λ (x : Storage g.row.D.Denot). is_away (word_of x.segs.ast c.args.uid c.args.page)) c.self.view_is
+    ∙ c.requires.away in
+    let home = c.requires.home ∙ ap (λ (x : Storage g.row.D.Denot). home_of x.accounts c.args.uid)
+    (sym c.self.view_is) in
+    let t : Storage g.row.D.Denot = record {
+      accounts = c.self.inside.accounts;
+      segs = c.self.inside.segs;
+      whos = c.self.inside.whos.items;
+    } in
+    let n : Storage g.row.D.Denot = record {
+      accounts = c.credit.new.self;
+      segs = c.drop_page.new.self;
+      whos = c.self.inside.whos.items;
+    } in
+    subst (λ (x : Storage g.row.D.Denot). paged g.D.Drive.pages n c.args.uid ≡ page_cut
+    (paged g.D.Drive.pages x c.args.uid) (home_of x.accounts c.args.uid) c.args.uid c.args.page
+    (word_of x.segs.ast c.args.uid c.args.page)) c.self.view_is
+    (dropped_exactly g.D.Drive.pages t n c.args.uid c.args.page c.args.home home away c.drop_page.ensures.effect
+    c.drop_page.ensures.word c.credit.ensures)
+
+pub returns-clause-others : goal.returns-clause-others
+returns-clause-others g c =
+    subst (λ (x : Storage g.row.D.Denot). CountsOthers x.accounts c.credit.new.self c.args.uid) c.self.view_is
+    (other_counts c.self.inside.accounts c.credit.new.self c.args.uid (count_of c.self.inside.accounts c.args.uid - 1)
+    c.credit.ensures)

@@ -1,4 +1,4 @@
-use Rattle.std.proofs.Common.{ℕ, List, refl, sym, ap, subst, ◌∙◌}
+use Rattle.std.proofs.Common.{◌≡◌, ℕ, true, false, List, refl, sym, ap, subst, ◌∙◌}
 use Rattle.tree_model.specs.Tree.{Node, quota_in}
 use Rattle.dir_tree.specs.Nodes.{as_term}
 use Rattle.flat_model.specs.Making.{made_in, make_in}
@@ -52,3 +52,8 @@ returns-clause-effect g c = λ p s h.
     c.args.dir shown.tree.nodes
     c.in-Some.ensures.parts c.args.pages c.args.acl n c.in-Ok.ensures.ok)
     (c.make_branch.ensures.effect p s n h refl)
+
+pub returns-in-Err-clause-home : goal.returns-in-Err-clause-home
+returns-in-Err-clause-home g c = λ on.
+    let clash : true ≡ false = sym on
+    ∙ node_refuses c.self.inside.accounts.nodes c.in-Some.above c.in-Err.reply c.in-Err.ensures.err in cc

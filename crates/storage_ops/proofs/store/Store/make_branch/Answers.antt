@@ -5,8 +5,10 @@ use Rattle.dir_tree.specs.declared.node.NewNode.{NewNode}
 use Rattle.flat_model.specs.Store.{Store as Flat}
 use Rattle.tree_model.specs.Tree.{Node, entries_on}
 use Rattle.active_segs.specs.Active.{ActiveSegs}
+use Rattle.page_control.specs.Effects.{allocated}
 use Rattle.page_control.specs.Plain.{Plain, plain}
 use Rattle.seg_control.specs.Control.{Links}
+use Rattle.storage_ops.specs.CutOff.{TakesHome}
 use Rattle.storage_ops.specs.Shown.{IsStore, Shows, Storage}
 use Rattle.storage_ops.proofs.Homes.{shown_new, store_new}
 use Rattle.storage_ops.proofs.Made.{added_uid, all_used, branch_same, length_inside, made_told, some_free}
@@ -102,3 +104,19 @@ returns-clause-effect g c = λ p s d h below.
     c.pages-kept.ensures.kept
     (λ place e. (let clash : true ≡ false = sym (c.self.invariant.active.there place c.self.inside.accounts.next e)
     ∙ ap is_some c.next_uid-uid.ensures.fresh in cc)) shown)
+
+pub returns-clause-home : goal.returns-clause-home
+returns-clause-home g c = λ on.
+    let u : Storage g.row.D.Denot = record {
+      accounts = c.add.new.self;
+      segs = c.new_home.new.self;
+      whos = c.self.inside.whos.items;
+    } in
+    subst (λ (x : Storage g.row.D.Denot). TakesHome g.D.Drive.pages x u c.args.new.volume) c.self.view_is (record {
+      entry = c.in-Some.entry;
+      least = sym c.in-Some.ensures.least;
+      filed = c.in-Some.ensures.effect
+          ∙ ap (λ (uid : ℕ). allocated (plain g.D.Drive.pages c.self.inside.segs.pages) c.args.new.volume
+          c.in-Some.entry uid) c.next_uid-uid.ensures.uid;
+      beside = c.in-Ok-add.ensures.ok.entries;
+    })

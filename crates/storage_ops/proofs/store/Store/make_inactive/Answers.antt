@@ -9,10 +9,13 @@ use Rattle.active_segs.specs.Active.{ActiveSegs, HasNoInferior, IsOneToOne, uid_
 use Rattle.seg_control.specs.Control.{Links}
 use Rattle.storage_ops.specs.Cut.{TakesOut}
 use Rattle.seg_control.specs.Kept.{IsInactive}
-use Rattle.storage_ops.specs.Shown.{IsCut, Storage}
+use Rattle.storage_ops.specs.Shown.{IsCut, Storage, home_of, pages_in}
 use Rattle.storage_ops.proofs.Removed.{branch_same, from_zero, leaf_place, place_away, place_cut, place_idle}
 use Rattle.storage_ops.proofs.Rest.{out_active, out_inactive, rest_both, rest_inactive, rest_none, rest_unstored}
-use Rattle.storage_ops.proofs.Unstored.{idle_still}
+use Rattle.storage_ops.proofs.Unstored.{home_still, idle_still}
+use Rattle.seg_control.specs.Control.{place_of}
+use Rattle.storage_ops.proofs.CutExactly.{put_out_exactly}
+use Rattle.storage_ops.proofs.Paged.{place_found}
 use Rattle.storage_ops.proofs.store.Store.make_inactive.Goals as goal
 
 pub deactivate-requires-clause-leaf : goal.deactivate-requires-clause-leaf
@@ -96,3 +99,40 @@ returns-in_default-clause-out g c =
     subst (λ (x : Storage g.row.D.Denot). TakesOut x x c.args.uid) c.self.view_is
     (out_inactive _ c.args.uid inactive (λ f q e.
     (let active = c.pages-kept.ensures.kept.paged.bound f c.args.uid q e in inactive.nowhere active.0 active.1)))
+
+pub returns-clause-active : goal.returns-clause-active
+returns-clause-active g c = λ active.
+    let entries : List (Option Entry) = c.args.self.now.segs.ast.entries in
+    let same = ap (λ (x : Storage g.row.D.Denot). x.segs.ast.entries) c.self.view_is in
+    let search = λ (place : ℕ). (let only = c.search.ensures.only place in only) in
+    let place : place_of entries c.args.uid ≡ c.in-Some.place =
+    place_found entries c.args.uid c.in-Some.place c.search.result active
+    (λ n. (
+      λ e. ap (λ (x : List (Option Entry)). uid_in_place x n)
+          (sym (ap (λ (x : ActiveSegs). x.entries) c.ast.ensures.ast ∙ same)) ∙ (search n).0 e,
+      λ e. (search n).1 (ap (λ (x : List (Option Entry)). uid_in_place x n)
+          (ap (λ (x : ActiveSegs). x.entries) c.ast.ensures.ast ∙ same) ∙ e),
+    )) c.in-Some.is in
+    put_out_exactly g.D.Drive.pages c.args.self.now c.drop_from.new.self c.deactivate.new.self c.args.uid
+    c.in-Some.place (home_of c.args.self.now.accounts c.args.uid) (pages_in c.args.self.now.accounts.nodes c.args.uid)
+    c.drop_from.ensures.exact c.drop_from.ensures.rest.places place c.deactivate.ensures.effect
+
+pub returns-in_default-clause-active : goal.returns-in_default-clause-active
+returns-in_default-clause-active g c = λ active.
+    let same = ap (λ (x : Storage g.row.D.Denot). x.segs.ast.entries) c.self.view_is in
+    let some = (c.search.ensures.only active.0).1 (ap (λ (x : List (Option Entry)). uid_in_place x active.0)
+    (ap (λ (x : ActiveSegs). x.entries) c.ast.ensures.ast ∙ same) ∙ active.1) in
+    let clash : ◌≡◌ {A = Option ℕ} None (Some active.0) = sym c.in_default.is ∙ some in cc
+
+pub returns-clause-still : goal.returns-clause-still
+returns-clause-still g c = λ inactive.
+    let same = ap (λ (x : Storage g.row.D.Denot). x.segs.ast.entries) c.self.view_is in
+    absurd (inactive.nowhere c.in-Some.place
+    (ap (λ (x : List (Option Entry)). uid_in_place x c.in-Some.place)
+    (sym (ap (λ (x : ActiveSegs). x.entries) c.ast.ensures.ast ∙ same))
+    ∙ (c.search.ensures.only c.in-Some.place).0 c.in-Some.is))
+
+pub returns-clause-home : goal.returns-clause-home
+returns-clause-home g c =
+    ap (λ (x : Storage g.row.D.Denot). home_of x.accounts c.args.uid) c.deactivate.ensures.effect
+    ∙ home_still c.args.self.now c.drop_from.new.self c.args.uid (λ q. nat_le 0 q) c.args.uid c.drop_from.ensures.rest

@@ -1,4 +1,4 @@
-use Rattle.std.proofs.Common.{◌≡◌, ℕ, None, Some, true, false, length, is_some, replicate}
+use Rattle.std.proofs.Common.{◌≡◌, ℕ, None, Some, true, false, length, is_some, replicate, sum, List}
 use Rattle.std.proofs.Common.{refl, sym, ap, subst, ◌∙◌, arith, ◌<◌}
 use Rattle.std.proofs.lemmas.List.{length-replicate, length-map}
 use Rattle.script.specs.Plans.{Plan, ProcessPlan}
@@ -8,6 +8,7 @@ use Rattle.flat_model.specs.Store.{Store as Flat}
 use Rattle.page_control.specs.Effects.{after_asked}
 use Rattle.page_control.specs.Plain.{Paging, Plain, plain}
 use Rattle.seg_control.specs.Control.{Control, Links}
+use Rattle.seg_control.specs.Effects.{no_links}
 use Rattle.storage_ops.specs.Shown.{AreFresh, IsStore, Shows, Storage, empty_frames}
 use Rattle.storage_ops.proofs.Fresh.{blank, boot_is, entries_some, entry_first, filed_fresh, none_active, none_known, nothing}
 use Rattle.storage_ops.proofs.Fresh.{records_most, rest_fresh}
@@ -144,3 +145,9 @@ returns-clause-pages g c =
     ∙ ap (λ (x : Control g.row.D.Denot). after_asked (plain g.D.Drive.pages x.pages) 0 1 (Some 0)) c.in_ok-segs.ensures
     ∙ ap (λ (x : Paging g.row.D.Denot). after_asked (plain g.D.Drive.pages x) 0 1 (Some 0)) c.in_ok-pages.ensures
     ∙ ap (λ (n : ℕ). after_asked (plain g.D.Drive.pages (empty_frames n c.args.volumes)) 0 1 (Some 0)) c.frames.ensures
+
+pub returns-clause-links : goal.returns-clause-links
+returns-clause-links g c =
+    c.new_home.ensures.links ∙ ap (λ (x : Control g.row.D.Denot). x.links) c.in_ok-segs.ensures
+    ∙ ap (λ (ps : List ℕ). no_links (sum ps) c.processes-processes.result) c.pools.ensures
+    ∙ ap (no_links (sum c.args.script.now.pools)) c.processes-processes.ensures.count

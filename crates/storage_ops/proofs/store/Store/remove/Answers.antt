@@ -1,4 +1,4 @@
-use Rattle.std.proofs.Common.{refl, sym, ap, subst, ◌∙◌}
+use Rattle.std.proofs.Common.{◌≡◌, refl, sym, ap, subst, ◌∙◌}
 use Rattle.active_segs.specs.Active.{ActiveSegs}
 use Rattle.page_control.specs.Plain.{Plain, plain}
 use Rattle.seg_control.specs.Control.{Links}
@@ -8,6 +8,8 @@ use Rattle.storage_ops.specs.Shown.{IsStore, Shows, Storage, home_of, is_there}
 use Rattle.storage_ops.proofs.NodeLaws.{found_there}
 use Rattle.storage_ops.proofs.Removed.{removed_done, shown_removed, store_removed}
 use Rattle.storage_ops.proofs.Rest.{rest_erased}
+use Rattle.page_control.specs.declared.Home.{Home}
+use Rattle.page_control.specs.Effects.{erased}
 use Rattle.storage_ops.proofs.store.Store.remove.Goals as goal
 
 pub invariant_of-self : goal.invariant_of-self
@@ -76,3 +78,11 @@ returns-clause-shown g c = λ p s h.
 pub returns-clause-core : goal.returns-clause-core
 returns-clause-core g c = ap (λ (x : Plain). x.core) c.erase.ensures.effect
     ∙ ap (λ (x : Storage g.row.D.Denot). x.segs.pages.core) c.self.view_is
+
+pub returns-clause-erased : goal.returns-clause-erased
+returns-clause-erased g c =
+    let home = c.home-home.ensures.home ∙ ap (λ (x : Storage g.row.D.Denot). home_of x.accounts c.args.uid)
+    (sym c.self.view_is) in
+    subst (λ (x : Storage g.row.D.Denot). plain g.D.Drive.pages c.erase.new.self.pages
+    ≡ erased (plain g.D.Drive.pages x.segs.pages) (home_of x.accounts c.args.uid)) c.self.view_is
+    (c.erase.ensures.effect ∙ ap (λ (h : Home). erased (plain g.D.Drive.pages c.self.inside.segs.pages) h) home)

@@ -1,6 +1,5 @@
-use Rattle.std.proofs.Common.{◌≡◌, ℕ, Result, Ok, Err}
+use Rattle.std.proofs.Common.{◌≡◌, ℕ}
 use Rattle.std.proofs.Common.{List, sym, ap, subst, ◌∙◌}
-use Rattle.book.specs.declared.replies.Reply.{Reply}
 use Rattle.tree_model.specs.Tree.{Node, quota_in}
 use Rattle.dir_tree.specs.Nodes.{as_term}
 use Rattle.flat_model.specs.Branches.{segment_at}
@@ -8,9 +7,11 @@ use Rattle.flat_model.specs.Store.{Store as Flat}
 use Rattle.flat_model.proofs.CutLaws.{truncate_done}
 use Rattle.flat_model.proofs.TreeReplies.{truncate_refused, truncate_told}
 use Rattle.storage_ops.specs.Cut.{CutsPages, IsTakenPast, IsTakenPastAt}
-use Rattle.storage_ops.specs.Shown.{Shows, ShowsTree, Storage}
+use Rattle.storage_ops.specs.Shown.{Shows, ShowsTree, Storage, home_of, pages_in}
 use Rattle.storage_ops.proofs.Changed.{segment_refuses}
 use Rattle.storage_ops.proofs.Rest.{rest_none, rest_unstored}
+use Rattle.storage_ops.specs.CutOff.{CountsOthers, cut_at, paged}
+use Rattle.storage_ops.proofs.CutExactly.{not_both_found, same_uid}
 use Rattle.storage_ops.proofs.store.Store.truncate.Goals as goal
 
 pub returns-in-Err-clause-answer : goal.returns-in-Err-clause-answer
@@ -54,10 +55,7 @@ returns-clause-rest g c = rest_unstored c.args.self.now c.cut_off.new.self c.in-
 pub returns-in-Err-clause-pages : goal.returns-in-Err-clause-pages
 returns-in-Err-clause-pages g c = λ n found.
     let none = ap (λ (x : Storage g.row.D.Denot). segment_at x.accounts.nodes c.args.path.now) c.self.view_is in
-    absurd (not_both (sym (sym none ∙ c.in-Err.ensures.err) ∙ found))
-  where
-    not_both : {r : Reply} {n : Node} → ◌≡◌ {A = Result Node Reply} (Err r) (Ok n) → ⊥
-    not_both e = cc
+    absurd (not_both_found (sym (sym none ∙ c.in-Err.ensures.err) ∙ found))
 
 pub returns-clause-pages : goal.returns-clause-pages
 returns-clause-pages g c = λ n found.
@@ -66,6 +64,25 @@ returns-clause-pages g c = λ n found.
     subst (λ (u : ℕ). CutsPages c.args.self.now c.cut_off.new.self u c.args.words)
     (same_uid (as_term (quota_in c.self.inside.accounts.nodes) c.in-Ok.node.now) n (sym here ∙ found))
     c.cut_off.ensures.pages
-  where
-    same_uid : (m n : Node) → ◌≡◌ {A = Result Node Reply} (Ok m) (Ok n) → m.uid ≡ n.uid
-    same_uid m n e = (let same : m ≡ n = cc in ap (λ (x : Node). x.uid) same)
+
+pub returns-clause-exact : goal.returns-clause-exact
+returns-clause-exact g c = λ n found.
+    let here = ap (λ (x : Storage g.row.D.Denot). segment_at x.accounts.nodes c.args.path.now) (sym c.self.view_is)
+    ∙ c.in-Ok.ensures.ok in
+    subst (λ (u : ℕ). paged g.D.Drive.pages c.cut_off.new.self u ≡ cut_at (paged g.D.Drive.pages c.args.self.now u)
+    (home_of c.args.self.now.accounts u) u (pages_in c.args.self.now.accounts.nodes u) c.args.words)
+    (same_uid (as_term (quota_in c.self.inside.accounts.nodes) c.in-Ok.node.now) n (sym here ∙ found))
+    c.cut_off.ensures.exact
+
+pub returns-clause-others : goal.returns-clause-others
+returns-clause-others g c = λ n found.
+    let here = ap (λ (x : Storage g.row.D.Denot). segment_at x.accounts.nodes c.args.path.now) (sym c.self.view_is)
+    ∙ c.in-Ok.ensures.ok in
+    subst (λ (u : ℕ). CountsOthers c.args.self.now.accounts c.cut_off.new.self.accounts u)
+    (same_uid (as_term (quota_in c.self.inside.accounts.nodes) c.in-Ok.node.now) n (sym here ∙ found))
+    c.cut_off.ensures.others
+
+pub returns-in-Err-clause-exact : goal.returns-in-Err-clause-exact
+returns-in-Err-clause-exact g c = λ n found.
+    let none = ap (λ (x : Storage g.row.D.Denot). segment_at x.accounts.nodes c.args.path.now) c.self.view_is in
+    absurd (not_both_found (sym (sym none ∙ c.in-Err.ensures.err) ∙ found))

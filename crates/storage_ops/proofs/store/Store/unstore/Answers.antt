@@ -1,4 +1,4 @@
-use Rattle.std.proofs.Common.{eqb, sym, ap, subst, ◌∙◌}
+use Rattle.std.proofs.Common.{◌≡◌, eqb, sym, ap, subst, ◌∙◌}
 use Rattle.flat_model.specs.Store.{Store as Flat}
 use Rattle.flat_model.proofs.DropLaws.{none_missing}
 use Rattle.active_segs.specs.Active.{ActiveSegs, IsActive}
@@ -6,9 +6,10 @@ use Rattle.page_control.specs.Plain.{plain}
 use Rattle.page_control.specs.Tied.{has_record, is_away}
 use Rattle.seg_control.specs.Control.{word_of}
 use Rattle.storage_ops.specs.Cut.{Unstores, is_here}
-use Rattle.storage_ops.specs.Shown.{Shows, Storage}
+use Rattle.storage_ops.specs.Shown.{Shows, Storage, home_of}
 use Rattle.storage_ops.proofs.PagesLess.{null_of, unstores_null}
 use Rattle.storage_ops.proofs.Paged.{active_tie, blank_shown, word_filed}
+use Rattle.storage_ops.specs.CutOff.{page_cut, paged}
 use Rattle.storage_ops.proofs.store.Store.unstore.Goals as goal
 
 pub drop_page-requires-clause-away : goal.drop_page-requires-clause-away
@@ -58,3 +59,20 @@ returns-else-is_away-clause-shown g c = λ p s h.
     subst (λ (x : Flat). Shows g.D.Drive.pages p x c.args.self.now)
     (sym (none_missing s c.args.uid c.args.page
     (blank_shown g.D.Drive.pages p s t c.pages-kept.ensures.kept c.self.invariant shown) off)) h
+
+pub returns-else-is_away-clause-exact : goal.returns-else-is_away-clause-exact
+returns-else-is_away-clause-exact g c =
+    let taken = ap (λ (x : Storage g.row.D.Denot). is_here (word_of x.segs.ast c.args.uid c.args.page)) c.self.view_is
+    ∙ c.requires.taken in
+    let word = ap (λ (x : ActiveSegs). is_away (word_of x c.args.uid c.args.page)) (sym c.ast.ensures.ast)
+    ∙ ap is_away (sym c.word_of.ensures) ∙ sym c.is_away.ensures ∙ c.if-is_away.false in
+    let t : Storage g.row.D.Denot = record {
+      accounts = c.self.inside.accounts;
+      segs = c.self.inside.segs;
+      whos = c.self.inside.whos.items;
+    } in
+    subst (λ (x : Storage g.row.D.Denot). paged g.D.Drive.pages x c.args.uid ≡ page_cut
+    (paged g.D.Drive.pages x c.args.uid) (home_of x.accounts c.args.uid) c.args.uid c.args.page
+    (word_of x.segs.ast c.args.uid c.args.page)) c.self.view_is
+    (ap (page_cut (paged g.D.Drive.pages t c.args.uid) (home_of t.accounts c.args.uid) c.args.uid c.args.page)
+    (sym (null_of (word_of t.segs.ast c.args.uid c.args.page) taken word)))

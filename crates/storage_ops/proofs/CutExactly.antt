@@ -1,0 +1,209 @@
+-- What pages that are cut off leave, exactly.
+use Rattle.std.proofs.Common.{◌≡◌, ◌≢◌, ◌<◌, ◌≤◌, ◌+◌, ◌-◌, ◌/◌, ◌%◌, ℕ, suc, zero, Bool, true, false, ◌&&◌, cond, eqb}
+use Rattle.std.proofs.Common.{List, [], ◌∷◌, ◌++◌, Option, length, get_or, refl, sym, ap, ◌∙◌, arith}
+use Rattle.std.proofs.Common.{inl, inr, ◌↔◌, IsTrue, Result, Ok, Err}
+use Rattle.std.specs.List.{list_all, range_with_len}
+use Rattle.std.proofs.lemmas.Bool.{ne_eqb}
+use Rattle.std.proofs.lemmas.Bool.Decides.{eqb_tells}
+use Rattle.mword.specs.Words.{AreZero}
+use Rattle.book.specs.declared.replies.Reply.{Reply}
+use Rattle.tree_model.specs.Tree.{Node}
+use Rattle.accounts.specs.Maps.{AccountMaps, Recounts, count_of}
+use Rattle.page_table.specs.declared.Ptw.{Ptw}
+use Rattle.page_table.specs.declared.Ptw.TheVariants.{Here, Leaving, Null, Out}
+use Rattle.active_segs.specs.declared.Entry.{Entry}
+use Rattle.active_segs.specs.Active.{IsActive, deactivated}
+use Rattle.page_control.specs.declared.Home.{Home}
+use Rattle.page_control.specs.Effects.{cut, dropped, erased}
+use Rattle.page_control.specs.Plain.{Plain, plain, words_in}
+use Rattle.page_control.specs.Tied.{is_away}
+use Rattle.seg_control.specs.Control.{place_of, word_of}
+use Rattle.seg_control.specs.Effects.{worded}
+use Rattle.seg_control.specs.Kept.{IsInactive}
+use Rattle.storage_ops.specs.CutOff.{CountsOthers, Paged, cut_by, is_cleared, page_cleared, page_cut, paged, pages_cut}
+use Rattle.storage_ops.specs.CutOff.{Erases, cut_at, cut_within, pages_from, put_out}
+use Rattle.storage_ops.specs.Shown.{Storage, home_of, pages_in}
+
+-- ---- one page
+
+cut_away : (x : Paged) (home : Home) (uid p : ℕ) (w : Ptw) → is_away w ≡ true
+    → record { pages = dropped x.pages home p w; ast = worded x.ast uid p Null; stored = x.stored - 1 }
+    ≡ page_cut x home uid p w
+cut_away x home uid p Null away = cc
+cut_away x home uid p (Out r) away = refl
+cut_away x home uid p (Here f) away = cc
+cut_away x home uid p (Leaving f) away = refl
+
+own_count : (a b : AccountMaps) (uid n : ℕ) → Recounts a b uid n → count_of b uid ≡ n
+own_count a b uid n re = re.counts uid ∙ ap (λ (z : Bool). cond z n (count_of a uid)) (same uid)
+  where
+    same : (k : ℕ) → eqb k k ≡ true
+    same k = elim (eqb_tells k k) [ inl is ↦ is.0 | inr isnt ↦ absurd (isnt.1 refl) ]
+
+pub other_counts : (a b : AccountMaps) (uid n : ℕ) → Recounts a b uid n → CountsOthers a b uid
+other_counts a b uid n re s apart =
+    re.counts s ∙ ap (λ (z : Bool). cond z n (count_of a s)) (ne_eqb uid s (λ is. apart (sym is)))
+
+-- a page on its way out, or on its record, is dropped
+pub dropped_exactly : {D : Type 0} (drive : D → List (List ℕ)) (t n : Storage D) (uid p : ℕ) (home : Home)
+    → home ≡ home_of t.accounts uid → is_away (word_of t.segs.ast uid p) ≡ true
+    → plain drive n.segs.pages ≡ dropped (plain drive t.segs.pages) home p (word_of t.segs.ast uid p)
+    → n.segs.ast ≡ worded t.segs.ast uid p Null → Recounts t.accounts n.accounts uid (count_of t.accounts uid - 1)
+    → paged drive n uid ≡ page_cut (paged drive t uid) (home_of t.accounts uid) uid p (word_of t.segs.ast uid p)
+dropped_exactly drive t n uid p home is away effect word re =
+    let pages = effect
+    ∙ ap (λ (h : Home). dropped (plain drive t.segs.pages) h p (word_of t.segs.ast uid p)) is in
+    let stored = own_count t.accounts n.accounts uid (count_of t.accounts uid - 1) re in
+    (λ i. record { pages = pages i; ast = word i; stored = stored i })
+    ∙ cut_away (paged drive t uid) (home_of t.accounts uid) uid p (word_of t.segs.ast uid p) away
+
+-- ---- several pages
+
+pub cut_one_more : (x : Paged) (home : Home) (uid p : ℕ) (ps : List ℕ)
+    → pages_cut x home uid (ps ++ p ∷ [])
+    ≡ page_cut (pages_cut x home uid ps) home uid p (word_of (pages_cut x home uid ps).ast uid p)
+cut_one_more x home uid p [] = refl
+cut_one_more x home uid p (q ∷ ps) = cut_one_more (page_cut x home uid q (word_of x.ast uid q)) home uid p ps
+
+range_more : (a n : ℕ) → range_with_len a (suc n) ≡ range_with_len a n ++ (a + n) ∷ []
+range_more a zero = ap (λ (k : ℕ). k ∷ []) (let same : a ≡ a + 0 = omega arith in same)
+range_more a (suc n) =
+    ap (λ (ks : List ℕ). a ∷ ks) (range_more (a + 1) n
+    ∙ ap (λ (k : ℕ). range_with_len (a + 1) n ++ k ∷ []) (let same : a + 1 + n ≡ a + suc n = omega arith in same))
+
+-- the pages from one up to the next to come
+pub cut_next : (x y z : Paged) (home : Home) (uid from next : ℕ) → from ≤ next
+    → y ≡ pages_cut x home uid (pages_from from next) → z ≡ page_cut y home uid next (word_of y.ast uid next)
+    → z ≡ pages_cut x home uid (pages_from from (next + 1))
+cut_next x y z home uid from next le done one =
+    let long : next + 1 - from ≡ suc (next - from) = omega (arith, le) in
+    let last : from + (next - from) ≡ next = omega (arith, le) in
+    let more : pages_from from (next + 1) ≡ pages_from from next ++ next ∷ [] =
+    ap (range_with_len from) long ∙ range_more from (next - from)
+    ∙ ap (λ (k : ℕ). pages_from from next ++ k ∷ []) last in
+    one ∙ ap (λ (v : Paged). page_cut v home uid next (word_of v.ast uid next)) done
+    ∙ sym (cut_one_more x home uid next (pages_from from next)) ∙ ap (pages_cut x home uid) (sym more)
+
+pub none_from : (from : ℕ) → pages_from from from ≡ []
+none_from from = ap (range_with_len from) (let n : from - from ≡ 0 = omega arith in n)
+
+pub others_both : (a b c : AccountMaps) (uid : ℕ) → CountsOthers a b uid → CountsOthers b c uid → CountsOthers a c uid
+others_both a b c uid x y s apart = y s apart ∙ x s apart
+
+-- ---- the page that is cut
+
+both_parts : (a b : Bool) → (a && b) ≡ true → (a ≡ true) × (b ≡ true)
+both_parts true b h = (refl, h)
+both_parts false b h = cc
+
+zero_word : (w : ℕ) → eqb w 0 ≡ true → w ≡ 0
+zero_word w h = elim (eqb_tells w 0) [
+  | inl e ↦ e.1
+  | inr n ↦ absurd (let no : true ≡ false = sym h ∙ n.0 in cc)
+]
+
+zeros_from : (ws : List ℕ) → list_all (λ w. eqb w 0) ws ≡ true → (k d : ℕ) → k < length ws → get_or ws k d ≡ 0
+zeros_from [] h k d lt = absurd (omega (arith, lt))
+zeros_from (w ∷ ws) h zero d lt = zero_word w (both_parts (eqb w 0) (list_all (λ v. eqb v 0) ws) h).0
+zeros_from (w ∷ ws) h (suc k) d lt =
+    zeros_from ws (both_parts (eqb w 0) (list_all (λ v. eqb v 0) ws) h).1 k d (omega (arith, lt))
+
+zeros_to : (ws : List ℕ) → AreZero ws → list_all (λ w. eqb w 0) ws ≡ true
+zeros_to [] h = refl
+zeros_to (w ∷ ws) h = elim (eqb_tells w 0) [
+  | inl e ↦ ap (λ (b : Bool). b && list_all (λ v. eqb v 0) ws) e.0
+      ∙ zeros_to ws (λ k d lt. h (suc k) d (omega (arith, lt)))
+  | inr n ↦ absurd (n.1 (h zero zero (omega arith)))
+]
+
+pub zeros_told : (r : Bool) (ws : List ℕ) → (IsTrue r ↔ AreZero ws) → r ≡ list_all (λ w. eqb w 0) ws
+zeros_told true ws told = sym (zeros_to ws (told.0 refl))
+zeros_told false ws told = by (list_all (λ w. eqb w 0) ws) refl
+  where
+    by : (b : Bool) → list_all (λ w. eqb w 0) ws ≡ b → false ≡ b
+    by false e = refl
+    by true e = absurd (let no : false ≡ true = told.1 (zeros_from ws e) in cc)
+
+pub cleared_exactly : (x : Paged) (at f : ℕ) (w : Ptw) → w ≡ Leaving f
+    → record x { pages = cut x.pages f at } ≡ page_cleared x at w
+cleared_exactly x at f w is = ap (page_cleared x at) (sym is)
+
+pub cleared_told : (x : Paged) (next : Plain) (at f : ℕ) (w : Ptw) (r : Bool) → w ≡ Leaving f → next ≡ cut x.pages f at
+    → (IsTrue r ↔ AreZero (words_in next f)) → r ≡ is_cleared x at w
+cleared_told x next at f w r is effect told =
+    zeros_told r (words_in next f) told ∙ ap (λ (y : Plain). list_all (λ v. eqb v 0) (words_in y f)) effect
+    ∙ ap (is_cleared x at) (sym is)
+
+pub null_cleared : (x : Paged) (at : ℕ) (w : Ptw) → w ≡ Null → (x ≡ page_cleared x at w) × (false ≡ is_cleared x at w)
+null_cleared x at w is = (ap (page_cleared x at) (sym is), ap (is_cleared x at) (sym is))
+
+-- it is dropped where all its words are zeros then
+pub cut_dropped : (x y z : Paged) (home : Home) (uid p at : ℕ) (w v : Ptw) → is_cleared x at w ≡ true
+    → y ≡ page_cleared x at w → v ≡ w → z ≡ page_cut y home uid p v → z ≡ cut_by x home uid p at w
+cut_dropped x y z home uid p at w v is done same one =
+    one ∙ ap (λ (u : Ptw). page_cut y home uid p u) same ∙ ap (λ (u : Paged). page_cut u home uid p w) done
+    ∙ sym (rw is refl)
+
+pub cut_kept : (x y : Paged) (home : Home) (uid p at : ℕ) (w : Ptw) → is_cleared x at w ≡ false
+    → y ≡ page_cleared x at w → y ≡ cut_by x home uid p at w
+cut_kept x y home uid p at w is done = done ∙ sym (rw is refl)
+
+-- ---- at an offset
+
+pub cut_evenly : (x z : Paged) (home : Home) (uid size offset : ℕ) → offset % 1024 ≡ 0
+    → z ≡ pages_cut x home uid (pages_from (offset / 1024) size) → z ≡ cut_at x home uid size offset
+cut_evenly x z home uid size offset even done =
+    done ∙ ap (λ (n : ℕ). cond (eqb n 0) (pages_cut x home uid (pages_from (offset / 1024) size))
+    (cut_within x home uid size offset)) (sym even)
+
+pub cut_oddly : (x y z : Paged) (home : Home) (uid size offset : ℕ) → offset % 1024 ≢ 0
+    → y ≡ pages_cut x home uid (pages_from (offset / 1024 + 1) size)
+    → z ≡ cut_by y home uid (offset / 1024) (offset % 1024) (word_of y.ast uid (offset / 1024))
+    → z ≡ cut_at x home uid size offset
+cut_oddly x y z home uid size offset odd past done =
+    done
+    ∙ ap (λ (v : Paged). cut_by v home uid (offset / 1024) (offset % 1024) (word_of v.ast uid (offset / 1024))) past
+    ∙ ap (λ (b : Bool). cond b (pages_cut x home uid (pages_from (offset / 1024) size))
+    (cut_within x home uid size offset)) (sym (ne_eqb (offset % 1024) 0 odd))
+
+-- ---- the node that a path leads to
+
+pub not_both_found : {r : Reply} {n : Node} → ◌≡◌ {A = Result Node Reply} (Err r) (Ok n) → ⊥
+not_both_found e = cc
+
+pub same_uid : (m n : Node) → ◌≡◌ {A = Result Node Reply} (Ok m) (Ok n) → m.uid ≡ n.uid
+same_uid m n e = (let same : m ≡ n = cc in ap (λ (x : Node). x.uid) same)
+
+-- ---- a node is deleted
+
+-- a segment whose pages were cut off is made inactive
+pub put_out_exactly : {D : Type 0} (drive : D → List (List ℕ)) (t m n : Storage D) (uid place : ℕ) (home : Home)
+    (size : ℕ) → paged drive m uid ≡ pages_cut (paged drive t uid) home uid (pages_from 0 size)
+    → m.segs.ast.entries ≡ t.segs.ast.entries → place_of t.segs.ast.entries uid ≡ place
+    → n ≡ record m { segs = record m.segs { ast = deactivated m.segs.ast place } }
+    → paged drive n uid ≡ put_out (paged drive t uid) home uid size
+put_out_exactly drive t m n uid place home size cut places at effect =
+    ap (λ (x : Storage _). paged drive x uid) effect
+    ∙ ap (λ (k : ℕ). record (paged drive m uid) { ast = deactivated m.segs.ast k })
+    (sym (ap (λ (e : List (Option Entry)). place_of e uid) places ∙ at))
+    ∙ ap (λ (x : Paged). record x { ast = deactivated x.ast (place_of x.ast.entries uid) }) cut
+
+pub erased_exactly : {D : Type 0} (drive : D → List (List ℕ)) (t m n : Storage D) (uid : ℕ)
+    → (IsActive t.segs.ast.entries uid → paged drive m uid
+    ≡ put_out (paged drive t uid) (home_of t.accounts uid) uid (pages_in t.accounts.nodes uid))
+    → (IsInactive t.segs.ast.entries uid → paged drive m uid ≡ paged drive t uid)
+    → home_of m.accounts uid ≡ home_of t.accounts uid
+    → plain drive n.segs.pages ≡ erased (plain drive m.segs.pages) (home_of m.accounts uid)
+    → n.segs.ast ≡ m.segs.ast → Erases drive t n uid
+erased_exactly drive t m n uid out still home gone ast =
+    let there = gone ∙ ap (λ (h : Home). erased (plain drive m.segs.pages) h) home in
+    record {
+      active = λ on. (
+        there ∙ ap (λ (x : Paged). erased x.pages (home_of t.accounts uid)) (out on),
+        ast ∙ ap (λ (x : Paged). x.ast) (out on),
+      );
+      inactive = λ off. (
+        there ∙ ap (λ (x : Paged). erased x.pages (home_of t.accounts uid)) (still off),
+        ast ∙ ap (λ (x : Paged). x.ast) (still off),
+      );
+    }
