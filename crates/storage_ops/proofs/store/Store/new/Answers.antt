@@ -10,7 +10,8 @@ use Rattle.page_control.specs.Plain.{Paging, Plain, plain}
 use Rattle.seg_control.specs.Control.{Control, Links}
 use Rattle.seg_control.specs.Effects.{no_links}
 use Rattle.storage_ops.specs.Shown.{AreFresh, IsStore, Shows, Storage, empty_frames}
-use Rattle.storage_ops.proofs.Fresh.{blank, boot_is, entries_some, entry_first, filed_fresh, none_active, none_known, nothing}
+use Rattle.storage_ops.proofs.Fresh.{blank, boot_is, entries_some, entry_first, filed_fresh, none_active, none_known}
+use Rattle.storage_ops.proofs.Fresh.{nothing}
 use Rattle.storage_ops.proofs.Fresh.{records_most, rest_fresh}
 use Rattle.storage_ops.proofs.Fresh.{root_gains, shown_nothing, store_nothing}
 use Rattle.storage_ops.proofs.Homes.{shown_new, store_new}
