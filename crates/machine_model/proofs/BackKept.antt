@@ -2,6 +2,8 @@
 use Rattle.std.proofs.Common.{◌≡◌, ◌<◌, ◌≤◌, ℕ, zero, suc, count_by, List, [], ◌∷◌, ◌++◌, length, set, get_or, Option}
 use Rattle.std.proofs.Common.{Some, None, refl, sym, ap, subst, ◌∙◌, arith}
 use Rattle.std.proofs.lemmas.List.{length-set}
+use Rattle.std.specs.Prelude.{◌^◌, min}
+use Rattle.site_io.specs.Faults.{Rose}
 use Rattle.script.specs.Plans.{Plan}
 use Rattle.book.specs.declared.entries.Entry.TheVariants as entry
 use Rattle.book.specs.declared.replies.Reply.TheVariants as reply
@@ -168,7 +170,7 @@ segs_are_back s (d ∷ ds) tables k on there = let rest = segs_are_back now ds t
 abbrev pub all_back : State → ℕ → ℕ → List ℕ → List CutDescriptor → State
 all_back s c faults fs ds = segs_back (pages_back (fault_told s (Some (process_at s c)) faults) fs) ds
 
-module _ (s : State) (c faults : ℕ) (fs : List ℕ) (ds : List CutDescriptor) (k : Keeps s) (rose : s.faults < faults)
+module _ (s : State) (c faults : ℕ) (fs : List ℕ) (ds : List CutDescriptor) (k : Keeps s) (rose : Rose s.faults faults)
     (may : MayFault (flat_of s) (Some (process_at s c))) where
   abbrev told_of : State
   told_of = fault_told s (Some (process_at s c)) faults
@@ -208,8 +210,8 @@ module _ (s : State) (c faults : ℕ) (fs : List ℕ) (ds : List CutDescriptor) 
       count : count_by is_fault now.entries ≡ count_by is_fault (s.entries ++ entry.Fault (Some (process_at s c)) ∷ [])
       count = ap (λ (x : State). count_by is_fault x.entries) is ∙ (segs_count pages ds ∙ pages_count told_of fs)
 
-      few : count_by is_fault (now.entries ++ entry.Do (process_at now c)
-          (run_at now.runs (process_at now c)).place c None reply.Device ∷ []) ≤ now.faults
+      few : min (count_by is_fault (now.entries ++ entry.Do (process_at now c)
+          (run_at now.runs (process_at now c)).place c None reply.Device ∷ [])) (2 ^ 63) ≤ now.faults
       few = let one = faults_push s.entries (entry.Fault (Some (process_at s c))) in
           let two = faults_push now.entries (entry.Do (process_at now c)
           (run_at now.runs (process_at now c)).place c None reply.Device) in

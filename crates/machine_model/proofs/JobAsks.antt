@@ -28,6 +28,7 @@ use Rattle.machine_model.specs.Steps.{fault_told, with_owner}
 use Rattle.machine_model.specs.Working.{MayFailBy}
 use Rattle.machine_model.specs.declared.Processor.{Processor}
 use Rattle.std.proofs.lemmas.List.{length-set}
+use Rattle.site_io.specs.Faults.{Rose}
 use Rattle.processor.specs.declared.Cpu.{Cpu}
 use Rattle.processor.specs.declared.Transfer.{Transfer}
 use Rattle.machine_model.specs.Steps.{frame_lost, transfer_failed}
@@ -133,7 +134,7 @@ module _ (s : State) (c : ℕ) (o : Outcome) (cmd : Command) (keeps : Keeps s) (
       (segs_are_back (pages_back fault_state (frames_of_owner s.owner)) (cut_of_owner s.owner))).flat
       ∙ fault_is s (process_at s c)
 
-  pub write_asks : s.faults < o.faults → StoreSays (write_failed s c o.faults)
+  pub write_asks : Rose s.faults o.faults → StoreSays (write_failed s c o.faults)
       → CanFailWrite s c o × IsAnswering s c
   write_asks rose says = (
     record {
@@ -188,7 +189,7 @@ module _ (s : State) (c : ℕ) (o : Outcome) (t : Transfer) (cmd : Command) (kee
       (subst (IsAlike (flat_of s)) (fault_is s k ∙ sym lost_flat) (fault_alike s.plan s.entries
       (Some k))) keeps.faithful
 
-  pub read_asks : s.faults < o.faults → StoreSays (transfer_failed s c t o.faults)
+  pub read_asks : Rose s.faults o.faults → StoreSays (transfer_failed s c t o.faults)
       → CanLose s c t o.faults × IsAnswering s c
   read_asks rose says = (
     record {

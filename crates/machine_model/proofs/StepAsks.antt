@@ -5,6 +5,7 @@ use Rattle.std.proofs.Common.{get_or, length, position, Option, Some, None, inl,
 use Rattle.std.proofs.Common.{arith, zero, suc}
 use Rattle.std.specs.Prelude.{◌/◌, ◌%◌, nat_le}
 use Rattle.std.proofs.lemmas.Bool.Decides.{eqb_tells}
+use Rattle.site_io.specs.Faults.{Rose}
 use Rattle.script.specs.References.{reference_of}
 use Rattle.script.specs.declared.commands.Command.{Command}
 use Rattle.script.specs.declared.commands.Reference.{Reference}
@@ -317,7 +318,7 @@ module _ (s : State) (c : ℕ) (o : Outcome) (m : IsMachine s) (there : c < leng
       (next_command s (process_at s x.owner.owner.cpu))) x.waits (working.fails x.owner.owner x.owner.mine))
 
   write_follows : (x : Option Command) → next_command s k ≡ x → p.cpu.process ≡ Some k → MayFailBy s.store k x
-      → o.failed ≡ true → s.faults < o.faults → StoreSays (write_failed s c o.faults)
+      → o.failed ≡ true → Rose s.faults o.faults → StoreSays (write_failed s c o.faults)
       → CanFailWrite s c o × IsAnswering s c
   write_follows None e its may h rose says = absurd may
   write_follows (Some cmd) e its may h rose says = write_asks s c o cmd m.keeps sp may rose says

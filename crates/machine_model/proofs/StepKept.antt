@@ -2,6 +2,7 @@
 use Rattle.std.proofs.Common.{◌≡◌, ◌<◌, ◌≤◌, ℕ, ◌-◌, Bool, true, false, cond, is_some, map, List, [], ◌∷◌, ◌++◌, length}
 use Rattle.std.proofs.Common.{◌⊎◌, inl, inr}
 use Rattle.std.proofs.Common.{Option, Some, None, refl, sym, ap, subst, ◌∙◌}
+use Rattle.site_io.specs.Faults.{Rose}
 use Rattle.assoc_mem.specs.declared.HeldSeg.{HeldSeg}
 use Rattle.assoc_mem.specs.declared.What.{What}
 use Rattle.assoc_mem.specs.declared.What.TheVariants as what
@@ -66,7 +67,7 @@ use Rattle.machine_model.proofs.TruncateKept.{CanTruncate, truncate_kept}
 
 -- a drive's failure is told of a transfer
 pub record CanLose (s : State) (c : ℕ) (t : Transfer) (faults : ℕ) : Type 0 where
-  pub rose : s.faults < faults
+  pub rose : Rose s.faults faults
   pub may : MayFault (flat_of (frame_lost s c t)) (Some (process_at s c))
   pub tell : CanTell (fault_told (frame_lost s c t) (Some (process_at s c)) faults) c
       (process_at (fault_told (frame_lost s c t) (Some (process_at s c)) faults) c) None reply.Device
@@ -189,7 +190,7 @@ pub record CanSignalNow (s : State) (c : ℕ) (w : What) : Type 0 where
 
 -- a drive's failure is told of the write of a page
 pub record CanFailWrite (s : State) (c : ℕ) (o : Outcome) : Type 0 where
-  pub rose : s.faults < o.faults
+  pub rose : Rose s.faults o.faults
   pub may : MayFault (flat_of s) (Some (process_at s c))
   pub tell : CanTell (with_owner (all_back s c o.faults (frames_of_owner s.owner) (cut_of_owner s.owner)) None) c
       (process_at (all_back s c o.faults (frames_of_owner s.owner) (cut_of_owner s.owner)) c) None reply.Device

@@ -3,6 +3,8 @@ use Rattle.std.proofs.Common.{◌≡◌, ◌<◌, ◌≤◌, ℕ, Bool, true, fa
 use Rattle.std.proofs.Common.{set, Option, Some, None, inl, inr, refl, sym, ap, subst, ◌∙◌, arith}
 use Rattle.std.proofs.lemmas.Bool.Decides.{eqb_tells}
 use Rattle.std.proofs.lemmas.List.{get_or-set_other, length-set}
+use Rattle.std.specs.Prelude.{◌^◌, min}
+use Rattle.site_io.specs.Faults.{Rose}
 use Rattle.book.specs.declared.entries.Entry.{Entry}
 use Rattle.book.specs.declared.entries.Entry.TheVariants as entry
 use Rattle.book.specs.declared.replies.Reply.TheVariants as reply
@@ -33,13 +35,14 @@ use Rattle.machine_model.proofs.TransferLaws.{CanStart, end_keeps, lose_keeps, s
 
 -- the book tells no failure more
 pub quiet_faults : (s : State) (e : Entry) (faults : ℕ) → Keeps s → is_fault e ≡ false → s.faults ≤ faults
-    → count_by is_fault (s.entries ++ e ∷ []) ≤ faults
+    → min (count_by is_fault (s.entries ++ e ∷ [])) (2 ^ 63) ≤ faults
 quiet_faults s e faults k quiet rose = let count = faults_push s.entries e in let none =
     ap {B = ℕ} (λ (b : Bool). cond b 1 0) quiet in
     let few = k.few_faults in omega (arith, count, none, few, rose)
 
 -- a machine that keeps what its book says, with what the store says of it, keeps the whole promise
-pub kept_with : (now : State) → KeepsBook (seen now) → StoreSays now → count_by is_fault now.entries ≤ now.faults
+pub kept_with : (now : State) → KeepsBook (seen now) → StoreSays now
+    → min (count_by is_fault now.entries) (2 ^ 63) ≤ now.faults
     → length now.processors ≡ now.plan.processors → length now.runs ≡ length now.plan.processes
     → ((o : Owner) → now.owner ≡ Some o → IsAtWork (processor_at now.processors o.cpu)) → Keeps now
 kept_with now book says few processors processes works = record {
@@ -105,7 +108,7 @@ module _ (s : State) (c : ℕ) (t : Transfer) (k : Keeps s)
   abbrev lost_state : ℕ → State
   lost_state faults = fault_told (frame_lost s c t) (Some (process_at s c)) faults
 
-  pub failed_kept : (faults : ℕ) → s.faults < faults → MayFault (flat_of (frame_lost s c t)) (Some (process_at s c))
+  pub failed_kept : (faults : ℕ) → Rose s.faults faults → MayFault (flat_of (frame_lost s c t)) (Some (process_at s c))
       → CanTell (lost_state faults) c (process_at (lost_state faults) c) None reply.Device
       → StoreSays (transfer_failed s c t faults) → Keeps (transfer_failed s c t faults)
   failed_kept faults rose may can says = kept_with (transfer_failed s c t faults)
@@ -121,9 +124,9 @@ module _ (s : State) (c : ℕ) (t : Transfer) (k : Keeps s)
       lost_ps : List Processor
       lost_ps = (frame_lost s c t).processors
 
-      few : count_by is_fault (((s.entries ++ entry.Lose t.frame ∷ []) ++ entry.Fault (Some (process_at s c)) ∷ [])
+      few : min (count_by is_fault (((s.entries ++ entry.Lose t.frame ∷ []) ++ entry.Fault (Some (process_at s c)) ∷ [])
           ++ entry.Do (process_at (lost_state faults) c)
-          (run_at s.runs (process_at (lost_state faults) c)).place c None reply.Device ∷ []) ≤ faults
+          (run_at s.runs (process_at (lost_state faults) c)).place c None reply.Device ∷ [])) (2 ^ 63) ≤ faults
       few = let one = faults_push s.entries (entry.Lose t.frame) in
           let two = faults_push (s.entries ++ entry.Lose t.frame ∷ []) (entry.Fault (Some (process_at s c))) in
           let three = faults_push ((s.entries ++ entry.Lose t.frame ∷ []) ++ entry.Fault (Some (process_at s c)) ∷ [])

@@ -2,6 +2,7 @@
 use Rattle.std.proofs.Common.{◌≡◌, ◌<◌, ◌≤◌, ℕ, ◌+◌, Bool, true, false, cond, eqb, count_by, List, [], ◌∷◌, ◌++◌}
 use Rattle.std.proofs.Common.{map, Option, Some, None, inl, inr, refl, sym, ap, subst, ◌∙◌, arith}
 use Rattle.std.proofs.lemmas.Bool.Decides.{eqb_tells}
+use Rattle.site_io.specs.Faults.{Rose}
 use Rattle.assoc_mem.specs.declared.What.TheVariants as what
 use Rattle.assoc_mem.specs.Held.{Held, nothing_held}
 use Rattle.book.specs.declared.entries.Entry.TheVariants as entry
@@ -173,7 +174,7 @@ module _ (s : State) (f u p : ℕ) (k : Keeps s) (none : s.owner ≡ None) (bare
       how = left_of (words_in after_take.store.pages f)
 
   -- the drive failed, and the page stays
-  visit_back : (faults n : ℕ) → s.faults < faults → MayFault (flat_of after_take) None
+  visit_back : (faults n : ℕ) → Rose s.faults faults → MayFault (flat_of after_take) None
       → StoreSays (record (page_back (fault_told after_take None faults) f) { visited = n })
       → Keeps (record (page_back (fault_told after_take None faults) f) { visited = n })
   visit_back faults n rose may says = kept_with
@@ -213,7 +214,7 @@ pub record AsksVisit (s : State) (o : Outcome) : Type 0 where
       → MayRelease (flat_of (page_taken s s.visited)) page.0 page.1)
       × StoreSays (record (page_gone (with_faults
       (page_taken s s.visited) o.faults) s.visited) { visited = s.visited + 1 })
-  pub ill : o.failed ≡ true → (s.faults < o.faults) × MayFault (flat_of (page_taken s s.visited)) None
+  pub ill : o.failed ≡ true → Rose s.faults o.faults × MayFault (flat_of (page_taken s s.visited)) None
       × StoreSays (record (page_back (fault_told
       (page_taken s s.visited) None o.faults) s.visited) { visited = s.visited + 1 })
 

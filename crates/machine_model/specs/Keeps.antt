@@ -1,6 +1,6 @@
 -- What the machine keeps over every schedule (Bensoussan, Clingen and Daley 1972; Organick 1972; own).
-use Rattle.std.specs.Prelude.{◌≡◌, ◌≤◌, ◌<◌, ℕ, Bool, true, false, count_by, length, map, sum, slice_get, is_some, List}
-use Rattle.std.specs.Prelude.{[], ◌∷◌, Some, None}
+use Rattle.std.specs.Prelude.{◌≡◌, ◌≤◌, ◌<◌, ◌^◌, ℕ, Bool, true, false, count_by, length, map, min, sum, slice_get}
+use Rattle.std.specs.Prelude.{is_some, List, [], ◌∷◌, Some, None}
 use Rattle.std.specs.List.{list_all}
 use Rattle.mnames.specs.declared.principals.Who.{Who}
 use Rattle.script.specs.Plans.{Plan}
@@ -92,7 +92,8 @@ pub record StoreSays (s : State) : Type 0 where
 
 -- The whole promise. The book is legal and clean, what the tables show is the custody after it, what processors hold is
 -- current or they are warned, and what goes is the owner's alone (`book`); the store keeps its own promise and shows
--- the flat store after the book; quotas are conserved; and the book tells at most as many failures as the drives count.
+-- the flat store after the book; quotas are conserved; and the book tells at most as many failures as the drives count,
+-- whose counts may stop at 2 ^ 63.
 pub record Keeps (s : State) : Type 0 where
   pub book : KeepsBook (seen s)
   pub store : StoreKept s.store
@@ -100,6 +101,6 @@ pub record Keeps (s : State) : Type 0 where
   pub rights : HadRights s.store.accounts.nodes s.store.whos (cut_of_owner s.owner)
   pub cut : AreThere s.store (cut_of_owner s.owner)
   pub conserved : IsConserved s.plan (flat_of s)
-  pub few_faults : count_by is_fault s.entries ≤ s.faults
+  pub few_faults : min (count_by is_fault s.entries) (2 ^ 63) ≤ s.faults
   pub sizes : HasSizes s
   pub at_work : (o : Owner) → s.owner ≡ Some o → IsAtWork (processor_at s.processors o.cpu)

@@ -1,6 +1,7 @@
 -- What the calls of the store say of a step: each shows afterwards what the flat store that it showed has become by the
 -- call, and the drives count their failures (Bensoussan, Clingen and Daley 1972; Organick 1972; own).
-use Rattle.std.specs.Prelude.{◌≡◌, ◌≤◌, ◌<◌, ℕ, ◌%◌, ◌*◌, ◌+◌, true, ◌==◌, if◌then◌else◌, Option, Some, None}
+use Rattle.std.specs.Prelude.{◌≡◌, ◌≤◌, ℕ, ◌%◌, ◌*◌, ◌+◌, true, ◌==◌, if◌then◌else◌, Option, Some, None}
+use Rattle.site_io.specs.Faults.{Rose}
 use Rattle.script.specs.declared.commands.Command.{Command}
 use Rattle.script.specs.declared.commands.RefKind.TheVariants as kind
 use Rattle.script.specs.declared.commands.Reference.{Reference}
@@ -61,11 +62,11 @@ shown_after s c o _ t = t
 
 -- ---- what the calls say
 
--- The store keeps its promise, and shows what the flat store has become. The counts of the drives never fall, and rise
--- where a call failed.
+-- The store keeps its promise, and shows what the flat store has become. The count of the drives' failures never falls,
+-- and rises where a call failed, unless it is at its end.
 pub record Says (s : State) (c : ℕ) (o : Outcome) (a : act.Action) : Type 0 where
   pub store : StoreKept (after s c a o).store
   pub shown : (t : Store) → IsFaithful s.plan t s.store
       → IsFaithful s.plan (shown_after s c o a t) (after s c a o).store
   pub never_less : s.faults ≤ o.faults
-  pub counted : o.failed ≡ true → s.faults < o.faults
+  pub counted : o.failed ≡ true → Rose s.faults o.faults
